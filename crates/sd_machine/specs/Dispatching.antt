@@ -44,10 +44,15 @@ counted w x = record x { count = x.count + 1; duty = duty_at w (x.count + 1) }
 abbrev pub ticked_body : Work → ℕ → ThreadBody → ThreadBody
 ticked_body w t b = record (ran (script_of w t) b) { class = class_tick w.ts w.fx w.rt b.class }
 
--- the priority of the best that is ready, where it is at least that of the thread whose quantum has expired
-abbrev pub rival : State → Option ℕ → Bool → ThreadBody → Option ℕ
-rival s None expired b = None
-rival s (Some r) expired b = if expired && nat_le (eff b) (eff (thread_of s r).body) then Some (eff (thread_of s r).body) else None
+-- the priority of the best that is ready
+abbrev pub best_priority : State → Option ℕ → Option ℕ
+best_priority s None = None
+best_priority s (Some r) = Some (eff (thread_of s r).body)
+
+-- that priority, where it is at least that of the thread whose quantum has expired
+abbrev pub rival : Option ℕ → Bool → ThreadBody → Option ℕ
+rival None expired b = None
+rival (Some m) expired b = if expired && nat_le (eff b) m then Some m else None
 
 -- a processor is marked for the sake of a thread of priority m: a mark of the kernel from 100 on
 abbrev pub marked_for : Option ℕ → CpuState → CpuState
@@ -61,7 +66,7 @@ sent_back (Some m) b = record b { back = true }
 
 abbrev pub tick_rival : Work → State → ℕ → ℕ → Option ℕ
 tick_rival w s c t =
-    rival s (best_ready c (cpu_of s c).set.0 s.threads) (class_expires (thread_of s t).body.class) (ticked_body w t (thread_of s t).body)
+    rival (best_priority s (best_ready c (cpu_of s c).set.0 s.threads)) (class_expires (thread_of s t).body.class) (ticked_body w t (thread_of s t).body)
 
 -- the running thread t of processor c has run for a tick
 unfoldable pub ticked : Work → State → ℕ → ℕ → State

@@ -3,5 +3,10 @@
 //! machine is measured against it.
 #![tactic(auto)]
 
+mod bodies;
+mod changes;
+mod choices;
 mod reads;
 mod scans;
+
+pub use choices::next_event;

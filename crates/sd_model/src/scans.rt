@@ -2,8 +2,9 @@
 
 ghost use Rattle.std.specs.Prelude.{◌≡◌, ◌<◌, ◌≤◌, length, IsTrue, IfSome, OnSome, nat_le};
 ghost use Rattle.std.specs.List.{list_all};
-ghost use Rattle.sd_machine.specs.States.{is_running, is_queued, is_real_time, is_ready, key_of, thread_of, cpu_of, FitsWork};
+ghost use Rattle.sd_machine.specs.States.{is_running, is_ready, key_of, no_thread};
 ghost use Rattle.sd_machine.specs.Best.{queue_rank, beats, best_ready, running};
+ghost use Rattle.sd_machine.proofs.BestLemmas.{goes_ahead_by};
 ghost use Rattle.sd_machine.specs.Machine.{may_tick, is_alone};
 
 use crate::reads::{cpu_at, effective};
@@ -77,6 +78,7 @@ pub(crate) fn running(c: CpuId, threads: &[ThreadState]) -> Option<usize>
 fn goes_ahead(c: CpuId, p: SetId, threads: &[ThreadState], best: Option<usize>, i: usize) -> bool
     requires here { i < length threads.now }
     requires best { IfSome best (λ b. b < length threads.now) }
+    ensures { result ≡ goes_ahead_by (λ x. is_ready c.0 p.0 x.place) beats no_thread threads.now best i }
 {
     is_ready(c, p, &threads[i].place)
         && match best {
