@@ -1,6 +1,6 @@
 -- The state in which a run begins: every processor idle, every lock free, each thread on a dispatch queue.
 -- Source: this project's own.
-use Rattle.std.specs.Prelude.{ℕ, ◌+◌, ◌%◌, Bool, true, false, not, ◌&&◌, List, [], ◌∷◌, length, map, take, replicate, ◌==◌, nat_lt, nat_le, count_by, pos, Option, Some, None, if◌then◌else◌, slice_index_or, slice_get}
+use Rattle.std.specs.Prelude.{ℕ, ◌+◌, ◌%◌, Bool, true, false, not, ◌&&◌, List, [], ◌∷◌, length, map, take, replicate, ◌==◌, count_by, pos, Option, Some, None, if◌then◌else◌, slice_index_or, slice_get}
 use Rattle.std.specs.List.{range_with_len}
 use Rattle.sd_types.specs.declared.numbers.CpuId.{CpuId}
 use Rattle.sd_types.specs.declared.numbers.SetId.{SetId}
@@ -18,7 +18,6 @@ use Rattle.sd_types.specs.declared.works.LockKind.{LockKind}
 use Rattle.sd_types.specs.declared.works.ThreadDecl.{ThreadDecl}
 use Rattle.sd_types.specs.declared.works.Work.{Work}
 use Rattle.sd_types.specs.TableRows.{ts_row_of}
-use Rattle.sd_types.specs.Priorities.{base_of}
 use Rattle.sd_types.specs.Partitions.{set_of_cpu, cpus_of_set, cpu_of_number}
 use Rattle.sd_rules.specs.ClassRules.{full_quantum}
 use Rattle.arrayvec.specs.ArrayVec.{ArrayVec}
@@ -44,16 +43,21 @@ first_class w (parms.Rt pri quantum) cpupri =
 abbrev pub class_of : Work → ThreadDecl → ClassState
 class_of w d = first_class w d.class d.cpupri
 
-abbrev pub is_urgent : Work → ThreadDecl → Bool
-is_urgent w d = nat_le 100 (base_of (class_of w d))
+-- a real-time thread: those are the ones of priority 100 or more
+abbrev pub is_real_time_class : ClassParms → Bool
+is_real_time_class (parms.Rt pri quantum) = true
+is_real_time_class _ = false
+
+abbrev pub is_urgent : ThreadDecl → Bool
+is_urgent d = is_real_time_class d.class
 
 -- the threads of a set that are not urgent are dealt out to its processors in turn
-abbrev pub is_dealt : Work → ℕ → ThreadDecl → Bool
-is_dealt w p d = (d.set.0 == p) && not (is_urgent w d)
+abbrev pub is_dealt : ℕ → ThreadDecl → Bool
+is_dealt p d = (d.set.0 == p) && not (is_urgent d)
 
 -- how many of the threads before t are dealt out in set p
 abbrev pub turn_of : Work → ℕ → ℕ → ℕ
-turn_of w p t = count_by (is_dealt w p) (take t w.threads)
+turn_of w p t = count_by (is_dealt p) (take t w.threads)
 
 -- the k-th of the processors of a set, taken round and round
 abbrev pub dealt_cpu : List CpuId → ℕ → CpuId
@@ -61,10 +65,10 @@ dealt_cpu cpus k = slice_index_or cpus (k % length cpus) (record { 0 = 0 })
 
 -- the processor on whose queue thread t stands; for an urgent one the least of its partition
 unfoldable pub first_cpu : Work → ℕ → ThreadDecl → CpuId
-first_cpu w t d = dealt_cpu (cpus_of_set w d.set.0) (if is_urgent w d then 0 else turn_of w d.set.0 t)
+first_cpu w t d = dealt_cpu (cpus_of_set w d.set.0) (if is_urgent d then 0 else turn_of w d.set.0 t)
 
 abbrev pub first_place : Work → ℕ → ThreadDecl → Place
-first_place w t d = if is_urgent w d then RealTime d.set (pos t) else Queued (first_cpu w t d) (pos t)
+first_place w t d = if is_urgent d then RealTime d.set (pos t) else Queued (first_cpu w t d) (pos t)
 
 abbrev pub first_body : Work → ℕ → ThreadDecl → ThreadBody
 first_body w t d = record {
@@ -80,9 +84,12 @@ abbrev pub first_threads : Work → ℕ → List ThreadDecl → List ThreadState
 first_threads w t [] = []
 first_threads w t (d ∷ ds) = first_thread w t d ∷ first_threads w (t + 1) ds
 
+abbrev pub count_of : ChanKind → ℕ
+count_of Chan = 0
+count_of (Sema count) = count
+
 abbrev pub first_count : Name × ChanKind → ℕ
-first_count (n, Chan) = 0
-first_count (n, Sema count) = count
+first_count k = count_of k.1
 
 unfoldable pub first_cpu_state : Work → ℕ → CpuState
 first_cpu_state w c = record {

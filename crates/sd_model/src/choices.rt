@@ -3,6 +3,7 @@
 ghost use Rattle.std.specs.Prelude.{◌≡◌, ◌<◌, ◌≤◌, length, IfSome};
 ghost use Rattle.sd_rules.specs.ClassRules.{end_of};
 ghost use Rattle.sd_machine.specs.States.{FitsWork};
+ghost use Rattle.sd_model.specs.Possible.{CanHappen};
 ghost use Rattle.sd_machine.specs.Machine.{is_ts, is_sys, must_leave, leave_event, op_event, run_event, queue_event, free_event, duty_event, wish, ticks, allowed, next};
 
 
@@ -145,9 +146,8 @@ fn allowed(work: &Work, s: &State, c: CpuId, event: Option<Event>) -> Option<Eve
     }
 }
 
-/// The one event that processor `c` may make, where it has read these hints.
 #[tactic(auto, unfolding(sd_machine::specs::Machine::next))]
-pub fn next_event(work: &Work, s: &State, c: CpuId, hints: &Option<Hints>) -> Option<Event>
+fn chosen(work: &Work, s: &State, c: CpuId, hints: &Option<Hints>) -> Option<Event>
     requires { FitsWork work.now s.now }
     ensures { result ≡ next work.now s.now c hints.now }
 {
@@ -156,4 +156,13 @@ pub fn next_event(work: &Work, s: &State, c: CpuId, hints: &Option<Hints>) -> Op
     } else {
         None
     }
+}
+
+/// The one event that processor `c` may make, where it has read these hints.
+pub fn next_event(work: &Work, s: &State, c: CpuId, hints: &Option<Hints>) -> Option<Event>
+    requires { FitsWork work.now s.now }
+    ensures value { result ≡ next work.now s.now c hints.now }
+    ensures can { IfSome result (CanHappen work.now s.now c.0) }
+{
+    chosen(work, s, c, hints)
 }

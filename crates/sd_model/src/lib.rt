@@ -8,5 +8,11 @@ mod changes;
 mod choices;
 mod reads;
 mod scans;
+mod replays;
+mod start;
+mod stepping;
 
 pub use choices::next_event;
+pub use replays::{ReplayFault, replay};
+pub use start::opening;
+pub use stepping::step;
