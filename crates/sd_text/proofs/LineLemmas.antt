@@ -1,10 +1,11 @@
 -- The first line of a text, and the rest.
-use Rattle.std.proofs.Common.{◌≡◌, ℕ, zero, suc, ◌+◌, ◌-◌, ◌<◌, ◌≤◌, Bool, true, false, not, cond, ltb, List, [], ◌∷◌, length, take, drop, get_or, Some, None, unwrap_or, refl, sym, ap, ◌∙◌, subst, arith, length-drop, drop-drop}
+use Rattle.std.proofs.Common.{◌≡◌, ℕ, zero, suc, ◌+◌, ◌-◌, ◌<◌, ◌≤◌, Bool, true, false, not, cond, ltb, ◌&&◌, ◌⊎◌, inl, inr, List, [], ◌∷◌, ◌++◌, length, append_assoc, take, drop, get_or, Some, None, unwrap_or, refl, sym, ap, ◌∙◌, subst, arith, length-drop, drop-drop}
 use Rattle.std.proofs.lemmas.List.{take_rest}
 use Rattle.std.proofs.lemmas.List.Sums.{prefix_len-le-length, passes_at_first}
 use Rattle.std.proofs.lemmas.Bool.Decides.{nat_tests}
-use Rattle.std.specs.List.{position, position_or_len, onto_first}
-use Rattle.sd_text.specs.Lines.{is_newline, lines_of}
+use Rattle.std.proofs.lemmas.Bool.{false≢true}
+use Rattle.std.specs.List.{position, position_or_len, onto_first, list_all, flat_map}
+use Rattle.sd_text.specs.Lines.{is_newline, lines_of, is_line, text_of_lines}
 
 chosen : (b : Bool) (n m : ℕ) → (b ≡ false → n ≡ m) → unwrap_or (cond b (Some n) None) m ≡ n
 chosen true n m h = refl
@@ -59,3 +60,67 @@ lines-from xs from len within is =
 pub newline_at : (xs : List ℕ) (n : ℕ) → n ≡ first xs → n < length xs → get_or xs n 0 ≡ 10
 newline_at xs n is within =
     let h : is_newline (get_or xs n 0) ≡ true = rw is (passes_at_first is_newline xs 0 (omega arith)) in grind (arith, nat_tests)
+
+-- ---- lines that are put together
+
+pub both : (a b : Bool) → (a && b) ≡ true → (a ≡ true) × (b ≡ true)
+both true b h = (refl, h)
+both false b h = absurd (false≢true h)
+
+pub not-true : (a : Bool) → not a ≡ true → a ≡ false
+not-true true h = absurd (false≢true h)
+not-true false h = refl
+
+-- a line with its newline, and then more
+pub lines_of-line : (line rest : List ℕ) → is_line line ≡ true → lines_of (line ++ 10 ∷ rest) ≡ line ∷ lines_of rest
+lines_of-line [] rest h = refl
+lines_of-line (x ∷ xs) rest h =
+    let p = both _ _ h in
+    ap (λ b. cond b ([] ∷ lines_of (xs ++ 10 ∷ rest)) (onto_first x (lines_of (xs ++ 10 ∷ rest)))) (not-true (is_newline x) p.0)
+    ∙ ap (onto_first x) (lines_of-line xs rest p.1)
+
+pub lines_of-text : (lines : List (List ℕ)) (rest : List ℕ) → list_all is_line lines ≡ true
+    → lines_of (text_of_lines lines ++ rest) ≡ lines ++ lines_of rest
+lines_of-text [] rest h = refl
+lines_of-text (line ∷ lines) rest h =
+    let p = both _ _ h in
+    let e : text_of_lines (line ∷ lines) ++ rest ≡ line ++ 10 ∷ (text_of_lines lines ++ rest) = simp append_assoc in
+    ap lines_of e ∙ lines_of-line line (text_of_lines lines ++ rest) p.0 ∙ ap (λ l. line ∷ l) (lines_of-text lines rest p.1)
+
+are_lines-onto : (x : ℕ) (lines : List (List ℕ)) → is_newline x ≡ false → list_all is_line lines ≡ true → list_all is_line (onto_first x lines) ≡ true
+are_lines-onto x [] e h = rw e refl
+are_lines-onto x (line ∷ lines) e h = rw e h
+
+are_lines-step : (b : Bool) (x : ℕ) (xs : List ℕ) → is_newline x ≡ b → list_all is_line (lines_of xs) ≡ true
+    → list_all is_line (cond b ([] ∷ lines_of xs) (onto_first x (lines_of xs))) ≡ true
+are_lines-step true x xs e h = h
+are_lines-step false x xs e h = are_lines-onto x (lines_of xs) e h
+
+-- no line has a newline
+pub are_lines : (text : List ℕ) → list_all is_line (lines_of text) ≡ true
+are_lines [] = refl
+are_lines (x ∷ xs) = are_lines-step (is_newline x) x xs refl (are_lines xs)
+
+nil≢push : (xs : List ℕ) → [] ≡ xs ++ 10 ∷ [] → ⊥
+nil≢push [] e = cc
+nil≢push (x ∷ xs) e = cc
+
+-- the text again, or the text with the newline that its last line lacked
+abbrev pub IsWhole : List ℕ → List ℕ → Type 0
+IsWhole again text = (again ≡ text) ⊎ (again ≡ text ++ 10 ∷ [])
+
+whole-onto : (x : ℕ) (xs : List ℕ) (lines : List (List ℕ)) → IsWhole (text_of_lines lines) xs → IsWhole (text_of_lines (onto_first x lines)) (x ∷ xs)
+whole-onto x xs [] (inl e) = inr (ap (λ l. x ∷ l ++ 10 ∷ []) e)
+whole-onto x xs [] (inr e) = inr (absurd (nil≢push xs e))
+whole-onto x xs (line ∷ lines) (inl e) = inl (ap (λ l. x ∷ l) e)
+whole-onto x xs (line ∷ lines) (inr e) = inr (ap (λ l. x ∷ l) e)
+
+whole-step : (b : Bool) (x : ℕ) (xs : List ℕ) → is_newline x ≡ b → IsWhole (text_of_lines (lines_of xs)) xs
+    → IsWhole (text_of_lines (cond b ([] ∷ lines_of xs) (onto_first x (lines_of xs)))) (x ∷ xs)
+whole-step true x xs e (inl h) = let f : x ≡ 10 = grind (arith, nat_tests) in inl (ap (λ l. 10 ∷ l) h ∙ ap (λ k. k ∷ xs) (sym f))
+whole-step true x xs e (inr h) = let f : x ≡ 10 = grind (arith, nat_tests) in inr (ap (λ l. 10 ∷ l) h ∙ ap (λ k. k ∷ xs ++ 10 ∷ []) (sym f))
+whole-step false x xs e h = whole-onto x xs (lines_of xs) h
+
+pub whole : (text : List ℕ) → IsWhole (text_of_lines (lines_of text)) text
+whole [] = inl refl
+whole (x ∷ xs) = whole-step (is_newline x) x xs refl (whole xs)

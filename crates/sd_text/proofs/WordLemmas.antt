@@ -1,13 +1,13 @@
 -- The first word of a line, and the rest.
-use Rattle.std.proofs.Common.{◌≡◌, ℕ, suc, ◌+◌, ◌-◌, ◌<◌, ◌≤◌, Bool, true, false, not, cond, ltb, ◌||◌, List, [], ◌∷◌, length, take, drop, refl, sym, ap, ◌∙◌, subst, arith, length-drop, drop-drop, filter}
-use Rattle.std.proofs.lemmas.List.{take_rest}
+use Rattle.std.proofs.Common.{◌≡◌, ℕ, suc, ◌+◌, ◌-◌, ◌<◌, ◌≤◌, Bool, true, false, not, cond, ltb, ◌||◌, ◌&&◌, List, [], ◌∷◌, ◌++◌, length, get_or, append_assoc, take, drop, refl, sym, ap, ◌∙◌, subst, arith, length-drop, drop-drop, filter}
+use Rattle.std.proofs.lemmas.List.{take_rest, take_at, drop_at}
 use Rattle.std.proofs.lemmas.List.Sums.{prefix_len-le-length}
 use Rattle.std.proofs.lemmas.List.Folds.{length-prefix_len}
 use Rattle.std.proofs.lemmas.Bool.{lt-ltb}
 use Rattle.std.proofs.lemmas.Bool.Decides.{nat_tests}
-use Rattle.std.specs.List.{position_or_len, slice_split, onto_first}
-use Rattle.sd_text.specs.Words.{is_blank, is_comment, is_other, ends_word, before_comment, runs_of, words_of}
-use Rattle.sd_text.proofs.LineLemmas.{take-one_more, drop-one_more}
+use Rattle.std.specs.List.{position_or_len, slice_split, onto_first, list_all, join_with_byte}
+use Rattle.sd_text.specs.Words.{is_blank, is_comment, is_other, ends_word, before_comment, runs_of, words_of, is_word}
+use Rattle.sd_text.proofs.LineLemmas.{take-one_more, drop-one_more, both, not-true}
 
 -- how many blanks the line begins with, and how many bytes of a word
 abbrev pub blanks : List ℕ → ℕ
@@ -116,3 +116,78 @@ words-from_none xs from s w blank word none =
     let n : plain zs ≡ 0 = sym (word ∙ ap plain (take_rest xs (from + s))) ∙ none in
     let here = behind-blanks xs from s blank in
     words-blanks (drop from xs) ∙ words-none (drop from xs) (ap plain here ∙ n)
+
+-- ---- words that are put together
+
+plain-here : (rest : List ℕ) → ends_word (get_or rest 0 32) ≡ true → plain rest ≡ 0
+plain-here [] h = refl
+plain-here (x ∷ xs) h = rw h refl
+
+plain-word : (word rest : List ℕ) → list_all (λ byte. not (ends_word byte)) word ≡ true → ends_word (get_or rest 0 32) ≡ true
+    → plain (word ++ rest) ≡ length word
+plain-word [] rest h e = plain-here rest e
+plain-word (x ∷ xs) rest h e =
+    let p = both _ _ h in
+    ap (λ b. cond b (1 + plain (xs ++ rest)) 0) p.0
+    ∙ ap (λ n. 1 + n) (plain-word xs rest p.1 e) ∙ omega arith
+
+-- a word, and then what ends it
+pub words_of-word : (word rest : List ℕ) → is_word word ≡ true → ends_word (get_or rest 0 32) ≡ true
+    → words_of (word ++ rest) ≡ word ∷ words_of rest
+words_of-word word rest h e =
+    let p = both _ _ h in
+    let n : plain (word ++ rest) ≡ length word = plain-word word rest p.1 e in
+    let some : 0 < length word = let long : ltb 0 (length word) ≡ true = p.0 in grind (arith, nat_tests) in
+    words-first (word ++ rest) (omega arith)
+    ∙ ap (λ k. take k (word ++ rest) ∷ words_of (drop k (word ++ rest))) n
+    ∙ ap (λ l. l ∷ words_of (drop (length word) (word ++ rest))) (take_at word rest (length word) refl)
+    ∙ ap (λ l. word ∷ words_of l) (drop_at word rest (length word) refl)
+
+pub words_of-joined : (words : List (List ℕ)) (rest : List ℕ) → list_all is_word words ≡ true → ends_word (get_or rest 0 32) ≡ true
+    → words_of (join_with_byte 32 words ++ rest) ≡ words ++ words_of rest
+words_of-joined [] rest h e = refl
+words_of-joined (word ∷ []) rest h e = words_of-word word rest (both _ _ h).0 e
+words_of-joined (word ∷ next ∷ words) rest h e =
+    let p = both _ _ h in
+    let more = join_with_byte 32 (next ∷ words) in
+    ap words_of (append_assoc word (32 ∷ more) rest)
+    ∙ words_of-word word (32 ∷ (more ++ rest)) p.0 refl
+    ∙ ap (λ l. word ∷ l) (words_of-blank 32 (more ++ rest) refl ∙ words_of-joined (next ∷ words) rest p.1 e)
+
+-- a run has no byte that ends a word
+abbrev is_run : List ℕ → Bool
+is_run run = list_all (λ byte. not (ends_word byte)) run
+
+runs-onto : (x : ℕ) (runs : List (List ℕ)) → ends_word x ≡ false → list_all is_run runs ≡ true → list_all is_run (onto_first x runs) ≡ true
+runs-onto x [] e h = rw e refl
+runs-onto x (run ∷ runs) e h = rw e h
+
+runs-step : (b c : Bool) (x : ℕ) (xs : List ℕ) → is_blank x ≡ b → is_comment x ≡ c → list_all is_run (runs_of xs) ≡ true
+    → list_all is_run (runs_of (x ∷ xs)) ≡ true
+runs-step true c x xs blank comment h =
+    let f = is_comment-at_blank x blank in
+    let e : runs_of (x ∷ xs) ≡ [] ∷ runs_of xs = rw (f, blank) refl in
+    ap (list_all is_run) e ∙ h
+runs-step false true x xs blank comment h =
+    let e : runs_of (x ∷ xs) ≡ [] ∷ [] = rw comment refl in ap (list_all is_run) e
+runs-step false false x xs blank comment h =
+    let e : runs_of (x ∷ xs) ≡ onto_first x (runs_of xs) = rw (comment, blank) refl in
+    ap (list_all is_run) e ∙ runs-onto x (runs_of xs) (rw (blank, comment) refl) h
+
+are_runs : (xs : List ℕ) → list_all is_run (runs_of xs) ≡ true
+are_runs [] = refl
+are_runs (x ∷ xs) = runs-step (is_blank x) (is_comment x) x xs refl refl (are_runs xs)
+
+filtered : (b : Bool) (run : List ℕ) (runs : List (List ℕ)) → ltb 0 (length run) ≡ b → is_run run ≡ true → list_all is_word runs ≡ true
+    → list_all is_word (cond b (run ∷ runs) runs) ≡ true
+filtered true run runs long h rest = rw (long, h, rest) refl
+filtered false run runs long h rest = rest
+
+words-kept : (runs : List (List ℕ)) → list_all is_run runs ≡ true → list_all is_word (filter (λ run. ltb 0 (length run)) runs) ≡ true
+words-kept [] h = refl
+words-kept (run ∷ runs) h =
+    let p = both _ _ h in filtered (ltb 0 (length run)) run _ refl p.0 (words-kept runs p.1)
+
+-- the words of a line are words
+pub are_words : (line : List ℕ) → list_all is_word (words_of line) ≡ true
+are_words line = words-kept (runs_of line) (are_runs line)

@@ -1,6 +1,6 @@
 -- The words of a line (this project's own): the runs of other bytes between blanks, before a comment.
-use Rattle.std.specs.Prelude.{ℕ, Bool, not, List, [], ◌∷◌, ◌==◌, ◌||◌, if◌then◌else◌, filter, length, nat_lt}
-use Rattle.std.specs.List.{slice_split}
+use Rattle.std.specs.Prelude.{ℕ, Bool, not, List, [], ◌∷◌, ◌==◌, ◌||◌, ◌&&◌, IsTrue, if◌then◌else◌, filter, length, nat_lt, slice_index_or}
+use Rattle.std.specs.List.{slice_split, list_all}
 
 -- space, tab or carriage return
 abbrev pub is_blank : ℕ → Bool
@@ -30,3 +30,11 @@ is_other byte = not (is_blank byte)
 -- a byte that stands behind the end of a word
 abbrev pub ends_word : ℕ → Bool
 ends_word byte = is_blank byte || is_comment byte
+
+-- what can be a word: not empty, and no byte ends it
+abbrev pub is_word : List ℕ → Bool
+is_word bytes = nat_lt 0 (length bytes) && list_all (λ byte. not (ends_word byte)) bytes
+
+-- a word that stands before these bytes ends there: they are none, or the first ends it
+abbrev pub EndsWord : List ℕ → Type 0
+EndsWord rest = IsTrue (ends_word (slice_index_or rest 0 32))

@@ -4,6 +4,7 @@
 
 mod adapters;
 mod ends;
+mod laws;
 mod lines;
 mod memory;
 mod numbers;
@@ -13,6 +14,7 @@ mod write;
 
 pub use adapters::{StdSink, StdSource};
 pub use ends::{Failed, Sink, Source};
+pub use laws::{lines_of_texts, numbers_of_words, risen_counts, words_of_lines};
 pub use lines::next_line;
 pub use memory::{MemorySink, MemorySource};
 pub use numbers::{number, put_number, signed};
