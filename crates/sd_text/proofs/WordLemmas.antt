@@ -68,10 +68,11 @@ splits-step true c x xs blank comment rest =
 splits-step false true x xs blank comment rest =
     let e : runs_of (x ∷ xs) ≡ [] ∷ [] = rw comment refl in ([], e, e)
 splits-step false false x xs blank comment rest =
-    let e : runs_of (x ∷ xs) ≡ onto_first x (runs_of xs) = rw (comment, blank) refl in
-    (rest.0,
-    e ∙ ap (onto_first x) rest.1 ∙ ap (λ l. l ∷ rest.0) (sym (take-one_more (plain xs) x xs)),
-    ap runs_of (drop-one_more (plain xs) x xs) ∙ rest.2)
+    let e : runs_of (x ∷ xs) ≡ onto_first x (runs_of xs) = rw (comment, blank) refl in (
+      rest.0,
+      e ∙ ap (onto_first x) rest.1 ∙ ap (λ l. l ∷ rest.0) (sym (take-one_more (plain xs) x xs)),
+      ap runs_of (drop-one_more (plain xs) x xs) ∙ rest.2,
+    )
 
 splits : (xs : List ℕ) → SplitsRun xs
 splits [] = ([], refl, refl)

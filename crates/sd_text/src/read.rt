@@ -72,7 +72,7 @@ pub fn read_up_to<S: Source>(
     let most = most as usize;
     let mut bytes = Vec::new(alloc);
     let mut buffer = [0u8; PIECE];
-    loop {
+    'reads: loop {
         // One byte more than `most` shows that the input is too large.
         let wanted = PIECE.min(most + 1 - bytes.len());
         let Ok(count) = source.read(&mut buffer[..wanted]) else {

@@ -16,7 +16,11 @@ pub fn next_word(line: &[u8], from: usize) -> Option<(usize, usize)>
     }
     let start = from + blank_len(&line[from..]);
     let end = start + word_len(&line[start..]);
-    if start < end { Some((start, end)) } else { None }
+    if start < end {
+        Some((start, end))
+    } else {
+        None
+    }
 }
 
 fn is_blank(byte: u8) -> bool
