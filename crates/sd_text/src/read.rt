@@ -1,10 +1,10 @@
 //! Reading a source to its end, up to a limit.
-ghost use Rattle.std.specs.Prelude.{◌≡◌, ◌+◌, ◌^◌, ◌<◌, ◌≤◌, length, IfSome, IfOk, OnOk, IsErrOf, vec_len};
+ghost use Rattle.std.specs.Prelude.{◌≡◌, ◌+◌, ◌^◌, ◌<◌, ◌≤◌, length, IfSome, IfOk, OnOk, IsErrOf};
 ghost use Rattle.std.specs.Io.KnownBytes.{IsAtEnd};
 ghost use Rattle.sd_text.specs.Faults.{HasRisen};
 ghost use Rattle.sd_text.specs.Reading.{TakesUpTo};
 
-use super::ends::{Failed, Source};
+use super::ends::Source;
 use std::alloc::Global;
 use thiserror::Error;
 
