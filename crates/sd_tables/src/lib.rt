@@ -1,0 +1,7 @@
+//! Dispatch tables: read from files in the manner of dispadmin(1M), written, and the default ones.
+#![tactic(auto)]
+
+mod defaults;
+mod ticks;
+
+pub use defaults::{default_fx, default_rt, default_ts};
