@@ -1,0 +1,47 @@
+-- What several reads or writes, one after the other, do to the bytes that are told.
+use Rattle.std.proofs.Common.{◌≡◌, ℕ, ◌+◌, ◌-◌, ◌<◌, ◌≤◌, Option, Result, Ok, Err, List, ◌++◌, length, vec_len, take, drop, subst, sym, refl, ap, ◌∙◌, arith, length-append, length-take-le}
+use Rattle.std.proofs.Math.Seq.{take-add}
+use Rattle.std.proofs.lemmas.List.{take_rest}
+use Rattle.std.proofs.KnownBytes.{Appends-trans, Consumes-trans}
+use Rattle.std.specs.Io.KnownBytes.{Appends, Consumes}
+use Rattle.std.specs.declared.vec.Vec.{Vec}
+use Rattle.std.specs.declared.alloc.Global.{Global}
+use Rattle.sd_text.specs.declared.read.ReadAllFault.{ReadAllFault}
+use Rattle.sd_text.specs.declared.read.ReadAllFault.TheVariants.{TooLarge, Memory}
+use Rattle.sd_text.specs.Reading.{TakesUpTo}
+
+-- the front of a piece and then the front of its rest are a longer front
+pub Appends-more : (a b c : Option (List ℕ)) (piece : List ℕ) (at n : ℕ)
+    → Appends a b (take at piece) → Appends b c (take n (take (length piece - at) (drop at piece)))
+    → Appends a c (take (at + n) piece)
+Appends-more a b c piece at n first second =
+    let rest = subst (λ p. Appends b c (take n p)) (take_rest piece at) second in
+    subst (Appends a c) (sym (take-add at n piece)) (Appends-trans a b c _ _ first rest)
+
+-- a front of a slice has the length that was asked for
+pub length-front : (xs buffer : List ℕ) (n : ℕ) → n ≤ length buffer → length (xs ++ take n buffer) ≡ length xs + n
+length-front xs buffer n within = length-append xs (take n buffer) ∙ ap (λ k. length xs + k) (length-take-le n buffer within)
+
+-- a read that went past the limit, by one byte
+pub TakesUpTo-too_large : (most : ℕ) (a b c : Option (List ℕ)) (xs buffer : List ℕ) (n : ℕ)
+    → Consumes a b xs → Consumes b c (take n buffer) → n ≤ length buffer → length xs + n ≡ most + 1
+    → TakesUpTo most a c (Err TooLarge)
+TakesUpTo-too_large most a b c xs buffer n first second within all = record {
+  bytes = xs ++ take n buffer;
+  front = Consumes-trans a b c _ _ first second;
+  bound = omega (arith, length-front xs buffer n within);
+  too_large = (λ _. length-front xs buffer n within ∙ all, λ _. refl);
+  all = tt;
+}
+
+-- a read within the limit, whose bytes found no memory
+pub TakesUpTo-memory : (most : ℕ) (a b c : Option (List ℕ)) (xs buffer : List ℕ) (n : ℕ)
+    → Consumes a b xs → Consumes b c (take n buffer) → n ≤ length buffer → length xs + n ≤ most
+    → TakesUpTo most a c (Err Memory)
+TakesUpTo-memory most a b c xs buffer n first second within all = record {
+  bytes = xs ++ take n buffer;
+  front = Consumes-trans a b c _ _ first second;
+  bound = omega (arith, length-front xs buffer n within);
+  too_large = (λ e. cc, λ e. absurd (omega (arith, length-front xs buffer n within)));
+  all = tt;
+}

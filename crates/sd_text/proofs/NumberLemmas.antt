@@ -1,0 +1,79 @@
+-- Reading a number digit by digit.
+use Rattle.std.proofs.Common.{◌≡◌, ℕ, ◌+◌, ◌-◌, ◌*◌, ◌^◌, ◌<◌, ◌≤◌, Bool, true, false, not, ◌&&◌, ltb, leb, eqb, Option, Some, pos, neg_ℤ, List, [], ◌∷◌, length, take, drop, get_or, refl, sym, ap, ◌∙◌, arith}
+use Rattle.std.proofs.lemmas.List.{at_drop_more}
+use Rattle.std.proofs.lemmas.Bool.Decides.{nat_tests}
+use Rattle.std.specs.Char.{is_ascii_digit, digit_value}
+use Rattle.std.specs.Str.{all_ascii_digits}
+use Rattle.std.specs.Str.Parse.{digits_value, digits_value_after}
+use Rattle.std.specs.Fmt.{decimal}
+use Rattle.std.specs.Option.{option_map}
+use Rattle.std.specs.List.{list_all}
+use Rattle.std.proofs.lemmas.Bool.{lt-ltb, le-leb}
+use Rattle.std.proofs.lemmas.Str.Parse.{IsNumeralModel, numerals_by_value, tells_all_ascii_digits}
+use Rattle.std.proofs.lemmas.Fmt.{decimal_nonempty, length-decimal-le, digits_decimal, digits_value-decimal}
+use Rattle.sd_text.specs.Lines.{is_newline, is_line}
+use Rattle.sd_text.specs.Words.{ends_word, is_word}
+use Rattle.sd_text.specs.Numbers.{number_of, signed_of}
+use Rattle.sd_text.proofs.LineLemmas.{both}
+
+-- the digits that are left, one further on
+pub digits-more : (xs : List ℕ) (i : ℕ) → i < length xs → is_ascii_digit (get_or xs i 0) ≡ true
+    → all_ascii_digits (drop i xs) ≡ all_ascii_digits (drop (i + 1) xs)
+digits-more xs i within digit = at_drop_more all_ascii_digits xs i 0 within ∙ ap (λ b. b && all_ascii_digits (drop (i + 1) xs)) digit
+
+-- a byte that is no digit
+pub digits-stop : (xs : List ℕ) (i : ℕ) → i < length xs → is_ascii_digit (get_or xs i 0) ≡ false → all_ascii_digits (drop i xs) ≡ false
+digits-stop xs i within other = at_drop_more all_ascii_digits xs i 0 within ∙ ap (λ b. b && all_ascii_digits (drop (i + 1) xs)) other
+
+digit_value-is : (d : ℕ) → is_ascii_digit d ≡ true → digit_value d ≡ d - 48
+digit_value-is d h = grind (arith, nat_tests)
+
+-- the value, one digit further on
+pub value-more : (v : ℕ) (xs : List ℕ) (i : ℕ) → i < length xs → is_ascii_digit (get_or xs i 0) ≡ true
+    → digits_value_after 10 v (drop i xs) ≡ digits_value_after 10 (v * 10 + (get_or xs i 0 - 48)) (drop (i + 1) xs)
+value-more v xs i within digit =
+    at_drop_more (digits_value_after 10 v) xs i 0 within
+    ∙ ap (λ d. digits_value_after 10 (v * 10 + d) (drop (i + 1) xs)) (digit_value-is (get_or xs i 0) digit)
+
+-- ---- numbers that were written
+
+own : IsNumeralModel (λ ds. all_ascii_digits ds ≡ true) (digits_value 10)
+own = numerals_by_value _ tells_all_ascii_digits
+
+pub number_of-decimal : (n : ℕ) → n < 10 ^ 10 → number_of (decimal n) ≡ Some n
+number_of-decimal n small =
+    let h : n < 2 ^ 64 = omega arith in
+    let some : ltb 0 (length (decimal n)) ≡ true = lt-ltb _ _ (decimal_nonempty n h) in
+    let short : leb (length (decimal n)) 10 ≡ true = le-leb _ _ (length-decimal-le 10 n (omega arith) small h) in
+    rw (some, short, digits_decimal own n h, digits_value-decimal own n h) refl
+
+first-digit : (ds : List ℕ) → all_ascii_digits ds ≡ true → 0 < length ds → eqb (get_or ds 0 0) 45 ≡ false
+first-digit [] h some = refl
+first-digit (d ∷ ds) h some = let p : is_ascii_digit d ≡ true = (both _ _ h).0 in grind (arith, nat_tests)
+
+pub signed_of-decimal : (n : ℕ) → n < 10 ^ 10 → signed_of (decimal n) ≡ Some (pos n)
+signed_of-decimal n small =
+    let h : n < 2 ^ 64 = omega arith in
+    rw (first-digit (decimal n) (digits_decimal own n h) (decimal_nonempty n h)) (ap (option_map pos) (number_of-decimal n small))
+
+pub signed_of-negative : (n : ℕ) → n < 10 ^ 10 → signed_of (45 ∷ decimal n) ≡ Some (neg_ℤ (pos n))
+signed_of-negative n small = ap (option_map (λ k. neg_ℤ (pos k))) (number_of-decimal n small)
+
+digit-plain : (d : ℕ) → is_ascii_digit d ≡ true → (ends_word d ≡ false) × (is_newline d ≡ false)
+digit-plain d h = (grind (arith, nat_tests), grind (arith, nat_tests))
+
+digits-plain : (ds : List ℕ) → all_ascii_digits ds ≡ true → list_all (λ byte. not (ends_word byte)) ds ≡ true
+digits-plain [] h = refl
+digits-plain (d ∷ ds) h = let p = both _ _ h in rw ((digit-plain d p.0).0) (digits-plain ds p.1)
+
+digits-line : (ds : List ℕ) → all_ascii_digits ds ≡ true → is_line ds ≡ true
+digits-line [] h = refl
+digits-line (d ∷ ds) h = let p = both _ _ h in rw ((digit-plain d p.0).1) (digits-line ds p.1)
+
+pub is_word-decimal : (n : ℕ) → n < 2 ^ 64 → is_word (decimal n) ≡ true
+is_word-decimal n h =
+    let some : ltb 0 (length (decimal n)) ≡ true = lt-ltb _ _ (decimal_nonempty n h) in
+    rw (some, digits-plain (decimal n) (digits_decimal own n h)) refl
+
+pub is_line-decimal : (n : ℕ) → n < 2 ^ 64 → is_line (decimal n) ≡ true
+is_line-decimal n h = digits-line (decimal n) (digits_decimal own n h)

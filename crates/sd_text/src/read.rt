@@ -1,0 +1,91 @@
+//! Reading a source to its end, up to a limit.
+ghost use Rattle.std.specs.Prelude.{◌≡◌, ◌+◌, ◌^◌, ◌<◌, ◌≤◌, length, IfSome, IfOk, OnOk, IsErrOf, vec_len};
+ghost use Rattle.std.specs.Io.KnownBytes.{IsAtEnd};
+ghost use Rattle.sd_text.specs.Faults.{HasRisen};
+ghost use Rattle.sd_text.specs.Reading.{TakesUpTo};
+
+use super::ends::{Failed, Source};
+use std::alloc::Global;
+use thiserror::Error;
+
+/// Why an input was not read to its end. The source has lost the bytes that were taken.
+#[derive(Clone, Copy, Debug, PartialEq, Eq, Error)]
+pub enum ReadAllFault {
+    /// A read failed.
+    #[error("read fault")]
+    ReadFault,
+    /// The input has more bytes than the limit.
+    #[error("input too large")]
+    TooLarge,
+    /// Out of memory.
+    #[error("out of memory")]
+    Memory,
+}
+
+/// The greatest input that `read_all` takes, in bytes.
+pub const GREATEST_INPUT: u64 = 1_048_576;
+
+// How many bytes one read asks for.
+const PIECE: usize = 4096;
+
+/// All bytes to the end of the source, of which there are at most `GREATEST_INPUT`.
+pub fn read_all<S: Source>(alloc: Global, source: &mut S) -> Result<Vec<u8>, ReadAllFault>
+    ensures never_falls { S.fault_count source.old ≤ S.fault_count source.new }
+
+    // An `Ok` has the whole input, where the source tells it, and nothing is left.
+    ensures whole { IfOk result (λ v. IfSome (S.remaining source.old) (λ xs. v.items ≡ xs)) }
+    ensures end { OnOk result (IsAtEnd (S.remaining source.new)) }
+    ensures bound { IfOk result (λ v. length v.items ≤ GREATEST_INPUT) }
+
+    // When each fault comes. That memory ran out is left open.
+    ensures read_fault { IsErrOf result ReadAllFault.ReadFault → HasRisen (S.fault_count source.old) (S.fault_count source.new) }
+    ensures too_large { IsErrOf result ReadAllFault.TooLarge → IfSome (S.remaining source.old) (λ xs. GREATEST_INPUT < length xs) }
+
+    // What was taken, whatever the answer.
+    ensures taken { TakesUpTo GREATEST_INPUT (S.remaining source.old) (S.remaining source.new) result }
+{
+    read_up_to(alloc, source, GREATEST_INPUT)
+}
+
+/// All bytes to the end of the source, of which there are at most `most`.
+pub fn read_up_to<S: Source>(
+    alloc: Global,
+    source: &mut S,
+    most: u64,
+) -> Result<Vec<u8>, ReadAllFault>
+    requires { most < 2 ^ 32 }
+
+    ensures never_falls { S.fault_count source.old ≤ S.fault_count source.new }
+
+    // An `Ok` has the whole input, where the source tells it, and nothing is left.
+    ensures whole { IfOk result (λ v. IfSome (S.remaining source.old) (λ xs. v.items ≡ xs)) }
+    ensures end { OnOk result (IsAtEnd (S.remaining source.new)) }
+    ensures bound { IfOk result (λ v. length v.items ≤ most) }
+
+    // When each fault comes. That memory ran out is left open.
+    ensures read_fault { IsErrOf result ReadAllFault.ReadFault → HasRisen (S.fault_count source.old) (S.fault_count source.new) }
+    ensures too_large { IsErrOf result ReadAllFault.TooLarge → IfSome (S.remaining source.old) (λ xs. most < length xs) }
+
+    // What was taken, whatever the answer.
+    ensures taken { TakesUpTo most (S.remaining source.old) (S.remaining source.new) result }
+{
+    let most = most as usize;
+    let mut bytes = Vec::new(alloc);
+    let mut buffer = [0u8; PIECE];
+    loop {
+        // One byte more than `most` shows that the input is too large.
+        let wanted = PIECE.min(most + 1 - bytes.len());
+        let Ok(count) = source.read(&mut buffer[..wanted]) else {
+            return Err(ReadAllFault::ReadFault);
+        };
+        if count == 0 {
+            return Ok(bytes);
+        }
+        if most < bytes.len() + count {
+            return Err(ReadAllFault::TooLarge);
+        }
+        let Ok(()) = bytes.extend_from_slice(&buffer[..count]) else {
+            return Err(ReadAllFault::Memory);
+        };
+    }
+}
