@@ -30,7 +30,7 @@ default_ts_row hz level = record {
   tqexp = level - 10;
   slpret = default_ts_lifted level;
   maxwait = default_ts_maxwait level;
-  lwait = default_ts_lifted level
+  lwait = default_ts_lifted level;
 }
 
 -- the rows of the first n levels
