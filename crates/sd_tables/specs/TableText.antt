@@ -2,7 +2,7 @@
 -- Each line is judged as a whole: by its words, and by what kinds of lines stand above it.
 -- Source: dispadmin(1M), ts_dptbl(4), rt_dptbl(4). This project's own: RES is 1000 where it is absent, the greatest
 -- numbers, and the faults.
-use Rattle.std.specs.Prelude.{◌≡◌, ℕ, ◌+◌, ◌<◌, Bool, true, false, not, ◌&&◌, ◌||◌, ◌==◌, nat_le, cond, List, [], ◌∷◌, length, take, map, filter, position, slice_index, slice_index_or, drop, Option, Some, None, is_some, is_none, option_map, option_and_then, unwrap_or, IsTrue}
+use Rattle.std.specs.Prelude.{◌≡◌, ℕ, ◌+◌, ◌<◌, ◌⊎◌, Bool, true, false, not, ◌&&◌, ◌||◌, ◌==◌, nat_le, cond, List, [], ◌∷◌, length, take, map, filter, position, slice_index, slice_index_or, drop, Option, Some, None, is_some, is_none, option_map, option_and_then, unwrap_or, IsTrue}
 use Rattle.std.specs.List.{list_all, list_any, zip}
 use Rattle.std.specs.Str.Parse.{digits_value}
 use Rattle.sd_types.specs.declared.tables.TsRow.{TsRow}
@@ -143,17 +143,23 @@ res_in lines = unwrap_or (slice_index_or (units_in lines) 0 None) 1000
 abbrev pub has_rows : Format → List Line → Bool
 has_rows format lines = nat_le format.least (length (rows_in lines)) && nat_le (length (rows_in lines)) format.most
 
--- The text has this fault: that of the first line at fault, or Rows where no line is and the number of rows is wrong.
--- Want of memory is no fault of the text.
-abbrev pub IsFaultOfLines : Format → List Line → TableFault → Type 0
-IsFaultOfLines format lines (Rows found) =
-    AreClean format.columns lines (length lines) × (found ≡ length (rows_in lines)) × (has_rows format lines ≡ false)
-IsFaultOfLines format lines Memory = ⊥
-IsFaultOfLines format lines fault =
-    (i : ℕ) × (i < length lines) × AreClean format.columns lines i × (fault_at format.columns lines i ≡ Some fault)
+-- the fault is that of the first line at fault
+abbrev pub IsLineFault : List Column → List Line → TableFault → Type 0
+IsLineFault columns lines fault =
+    (i : ℕ) × (i < length lines) × AreClean columns lines i × (fault_at columns lines i ≡ Some fault)
+
+-- no line is at fault, and the number of rows is wrong
+abbrev pub IsRowsFault : Format → List Line → TableFault → Type 0
+IsRowsFault format lines fault =
+    AreClean format.columns lines (length lines) × (has_rows format lines ≡ false) × (fault ≡ Rows (length (rows_in lines)))
 
 abbrev pub IsTableFault : Format → List ℕ → TableFault → Type 0
-IsTableFault format text fault = IsFaultOfLines format (word_lines text) fault
+IsTableFault format text fault = IsLineFault format.columns (word_lines text) fault ⊎ IsRowsFault format (word_lines text) fault
+
+-- a reader's refusal: the fault of the text, or want of memory, of which nothing is said
+abbrev pub IsRefusal : Format → List ℕ → TableFault → Type 0
+IsRefusal format text Memory = Unit {0}
+IsRefusal format text fault = IsTableFault format text fault
 
 -- no line is at fault, and the number of rows is right
 pub record IsTableText (format : Format) (text : List ℕ) : Type 0 where

@@ -5,6 +5,7 @@ mod columns;
 mod defaults;
 mod fault;
 mod resolution;
+mod sheet;
 mod ticks;
 
 pub use defaults::{default_fx, default_rt, default_ts};
