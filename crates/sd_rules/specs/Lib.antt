@@ -1,1 +1,2 @@
 pub mod ClassRules
+pub mod DefaultTables

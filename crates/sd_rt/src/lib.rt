@@ -1,0 +1,40 @@
+//! The real-time class: what a tick and a wakeup make of a thread's state. No call allocates, and none can fail.
+//!
+//! Source: Solaris Internals (the RT class), `rt_dptbl`(4), priocntl(2).
+#![tactic(auto)]
+
+ghost use Rattle.std.specs.Prelude.{◌≡◌, ◌+◌, ◌≤◌};
+ghost use Rattle.sd_rules.specs.ClassRules.{rt_tick, rt_wake, quantum_expires};
+
+use sd_fixed::{full_quantum, left_after_tick};
+use sd_types::{FixedTable, RtState};
+
+/// The base priority, 100 to 159: 100 and the thread's own.
+pub fn global(s: &RtState) -> u8
+    ensures value { result ≡ 100 + s.now.pri }
+    ensures level { result ≤ 159 }
+{
+    100 + s.pri
+}
+
+/// A tick of the running thread: `left` falls by one, unless the quantum has no end. Answers true exactly where the
+/// quantum has expired; `left` is then the full quantum again.
+#[tactic(auto, unfolding(sd_rules::specs::ClassRules::rt_tick))]
+pub fn tick(s: &mut RtState, t: &FixedTable) -> bool
+    ensures state { s.new ≡ rt_tick t.now s.old }
+    ensures expired { result ≡ quantum_expires s.old.quantum s.old.left }
+{
+    let full = full_quantum(t, s.pri, s.quantum);
+    let (left, expired) = left_after_tick(s.quantum, full, s.left);
+    *s = RtState { left, ..*s };
+    expired
+}
+
+/// A wakeup, however short the sleep was: `left` is the full quantum.
+#[tactic(auto, unfolding(sd_rules::specs::ClassRules::rt_wake))]
+pub fn wake(s: &mut RtState, t: &FixedTable)
+    ensures { s.new ≡ rt_wake t.now s.old }
+{
+    let left = full_quantum(t, s.pri, s.quantum);
+    *s = RtState { left, ..*s };
+}

@@ -1,0 +1,3 @@
+pub mod DefaultLemmas
+pub mod SheetLemmas
+pub mod TicksLemmas

@@ -1,0 +1,12 @@
+//! Dispatch tables: read from files in the manner of dispadmin(1M), written, and the default ones.
+#![tactic(auto)]
+
+mod columns;
+mod defaults;
+mod fault;
+mod resolution;
+mod sheet;
+mod ticks;
+
+pub use defaults::{default_fx, default_rt, default_ts};
+pub use fault::TableFault;
