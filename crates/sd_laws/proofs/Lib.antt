@@ -1,0 +1,5 @@
+pub mod Causes
+pub mod Changes
+pub mod Induction
+pub mod Openings
+pub mod RunningLemmas
