@@ -4,4 +4,4 @@
 
 mod laws;
 
-pub use laws::one_runs;
+pub use laws::{keys_differ, keys_within, one_next, one_runs, urgent_threads};
