@@ -4,6 +4,7 @@
 mod answers;
 mod forms;
 mod gates;
+mod running;
 mod writing;
 
 fn main() {}
