@@ -29,3 +29,7 @@ pub record Puts (before after : Option (List ℕ)) (faults faults' : ℕ) (text 
   pub ok : OnOk result (Appends before after text)
   pub risen : IsErrOf result Fault → HasRisen faults faults'
   pub part : OnErr result (AppendsPart before after text)
+
+-- an end before and after a call
+abbrev pub end_of : Option (List ℕ) → Option (List ℕ) → ℕ → ℕ → End
+end_of before after faults faults' = record { before = before; after = after; faults_before = faults; faults_after = faults' }
