@@ -1,0 +1,5 @@
+pub mod Accepted
+pub mod Lines
+pub mod Plain
+pub mod Spans
+pub mod Statements

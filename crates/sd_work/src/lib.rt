@@ -1,0 +1,9 @@
+//! Workload texts: read into valid works.
+#![tactic(auto)]
+
+mod fault;
+mod forms;
+mod lines;
+mod spans;
+
+pub use fault::WorkFault;
