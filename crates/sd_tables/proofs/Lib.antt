@@ -1,3 +1,5 @@
 pub mod DefaultLemmas
+pub mod RowLemmas
 pub mod SheetLemmas
+pub mod SpellLemmas
 pub mod TicksLemmas

@@ -4,9 +4,11 @@
 mod columns;
 mod defaults;
 mod fault;
+mod read;
 mod resolution;
 mod sheet;
 mod ticks;
 
 pub use defaults::{default_fx, default_rt, default_ts};
 pub use fault::TableFault;
+pub use read::{read_fx, read_rt, read_ts};
