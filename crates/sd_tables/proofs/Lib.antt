@@ -3,3 +3,4 @@ pub mod RowLemmas
 pub mod SheetLemmas
 pub mod SpellLemmas
 pub mod TicksLemmas
+pub mod WriteLemmas
