@@ -4,4 +4,5 @@ pub mod EffLemmas
 pub mod OpeningLemmas
 pub mod OrderLemmas
 pub mod RangeLemmas
+pub mod RoundLemmas
 pub mod RunLemmas

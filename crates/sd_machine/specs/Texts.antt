@@ -51,11 +51,14 @@ state_text w (Asleep ch k) = codes "asleep " ++ chan_name w ch.0
 state_text w (Napping c due) = codes "napping"
 state_text w Ended = codes "ended"
 
+-- a thread's counts over the entries
+unfoldable pub thread_counts : List Entry → ℕ → List ℕ
+thread_counts es t =
+    codes " ticks " ++ decimal (thread_ticks t es) ++ (codes " dispatches " ++ decimal (thread_dispatches t es))
+    ++ (codes " preempts " ++ decimal (thread_preempts t es)) ++ (codes " wakes " ++ decimal (thread_wakes t es))
+
 unfoldable pub thread_line : Work → List Entry → State → ℕ → List ℕ
-thread_line w es s t =
-    codes "thread " ++ thread_name w t ++ codes " ticks " ++ decimal (thread_ticks t es) ++ codes " dispatches " ++ decimal (thread_dispatches t es)
-    ++ codes " preempts " ++ decimal (thread_preempts t es) ++ codes " wakes " ++ decimal (thread_wakes t es) ++ codes " "
-    ++ state_text w (thread_of s t).place ++ codes "\n"
+thread_line w es s t = codes "thread " ++ thread_name w t ++ thread_counts es t ++ codes " " ++ state_text w (thread_of s t).place ++ codes "\n"
 
 unfoldable pub cpu_line : List Entry → ℕ → List ℕ
 cpu_line es c = codes "cpu " ++ decimal c ++ codes " ticks " ++ decimal (cpu_ticks c es) ++ codes " idle " ++ decimal (cpu_idle c es) ++ codes "\n"

@@ -15,4 +15,4 @@ mod stepping;
 pub use choices::next_event;
 pub use replays::{ReplayFault, replay};
 pub use start::opening;
-pub use stepping::step;
+pub use stepping::{make_entry, step};
