@@ -13,5 +13,5 @@ abbrev pub said : Form → Said
 said (form.Limit n) = SaysLimit n
 said (form.Thread d) = SaysThread (declaration_of d)
 said (form.Script name) = SaysScript name.text.items
-said (form.Run n) = SaysOp (Run n)
+said (form.Run ticks) = SaysOp (Run ticks.count)
 said form.End = SaysEnd

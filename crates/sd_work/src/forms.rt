@@ -1,14 +1,8 @@
 //! What a line of a workload text says.
 
-ghost use Rattle.std.specs.Prelude.{◌≡◌, ◌≤◌, ◌∷◌, ◌&&◌, [], IsTrue, IfSome, Some, None, option_map, nat_le, codes};
-ghost use Rattle.std.specs.Int.{int_le};
-ghost use Rattle.sd_types.specs.NameWords.{is_name};
-ghost use Rattle.sd_types.specs.Works.{same_bytes, upri_fits, span_fits};
-ghost use Rattle.sd_text.specs.Words.{words_of};
+ghost use Rattle.std.specs.Prelude.{◌≡◌, ◌≤◌, ◌∷◌, [], IsTrue, option_map, nat_le, int_le};
+ghost use Rattle.sd_types.specs.Works.{upri_fits, span_fits};
 
-
-use crate::spans::{Span, spans};
-use sd_text::{number, signed};
 use sd_types::Name;
 
 /// A declared time-sharing thread: `cpupri` 0 to 59, `limit` and `upri` -60 to 60 with `upri` at most `limit`.
@@ -24,6 +18,13 @@ pub struct Declared {
     ghost lowered: { IsTrue (int_le upri limit) },
 }
 
+/// A length of a run, in ticks from 1 to 100,000.
+#[derive(Clone, Copy)]
+pub struct Ticks {
+    pub count: u32,
+    ghost fits: { IsTrue (span_fits count) },
+}
+
 /// What a line says.
 #[derive(Drop)]
 pub enum Form {
@@ -32,8 +33,8 @@ pub enum Form {
     Thread(Declared),
     /// The script of this thread begins.
     Script(Name),
-    /// The operation `run`, in ticks from 1 to 100,000.
-    Run(u32),
+    /// The operation `run`.
+    Run(Ticks),
     /// The script ends.
     End,
 }

@@ -4,6 +4,9 @@
 mod fault;
 mod forms;
 mod lines;
+mod names;
+mod numerals;
+mod reading;
 mod spans;
 
 pub use fault::WorkFault;

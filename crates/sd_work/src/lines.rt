@@ -2,9 +2,15 @@
 
 ghost use Rattle.std.specs.Prelude.{◌≡◌, ◌+◌, ◌<◌, ◌≤◌, ◌^◌, [], ◌∷◌, length, drop, slice_range, IfSome, IfNone};
 ghost use Rattle.sd_text.specs.Words.{words_of};
-ghost use Rattle.sd_work.specs.Lines.{word_lines};
+ghost use Rattle.sd_work.specs.Lines.{has_words, word_lines};
 
 use sd_text::{next_line, next_word};
+
+fn has_words(line: &[u8]) -> bool
+    ensures { result ≡ has_words (words_of line.now) }
+{
+    next_word(line, 0).is_some()
+}
 
 /// Where the first line with words of what stands from `from` on begins and ends. The next line is sought from
 /// the end plus 1 on.
@@ -18,7 +24,7 @@ pub fn next_word_line(bytes: &[u8], from: usize) -> Option<(usize, usize)>
 {
     let mut from = from;
     while let Some((start, end)) = next_line(bytes, from) {
-        if next_word(&bytes[start..end], 0).is_some() {
+        if has_words(&bytes[start..end]) {
             return Some((start, end));
         }
         from = end + 1;
