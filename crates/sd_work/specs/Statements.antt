@@ -1,6 +1,6 @@
 -- The statements of a workload text, and when each of them may stand below those above it.
 -- Source: this project's own.
-use Rattle.std.specs.Prelude.{◌≡◌, ℕ, Bool, true, false, not, ◌&&◌, List, [], ◌∷◌, ◌++◌, length, take, map, nat_le, nat_lt, cond, Option, Some, None, is_none, option_map, slice_get}
+use Rattle.std.specs.Prelude.{◌≡◌, ℕ, Bool, true, false, not, ◌&&◌, List, [], ◌∷◌, ◌++◌, length, nat_le, nat_lt, cond, Option, Some, None, is_none, option_map}
 use Rattle.std.specs.List.{list_any}
 use Rattle.sd_types.specs.declared.scripts.Op.{Op}
 use Rattle.sd_types.specs.Works.{same_bytes}
@@ -93,6 +93,6 @@ may_stand above (Limits n) = is_none (limit_in above)
 may_stand above (Declares d) = not (list_any (declares d.name) above) && nat_lt (length (threads_in above)) 2048
 may_stand above (Scripts name ops) = list_any (declares name) above && not (list_any (scripts name) above) && nat_le (length ops) 256
 
--- each statement may stand below those above it
+-- wherever a statement stands, it may stand below those above it
 abbrev pub AreSound : List Statement → Type 0
-AreSound ss = (i : ℕ) (s : Statement) → slice_get ss i ≡ Some s → may_stand (take i ss) s ≡ true
+AreSound ss = (above : List Statement) (s : Statement) (below : List Statement) → ss ≡ above ++ s ∷ below → may_stand above s ≡ true

@@ -7,7 +7,7 @@ use sd_types::Name;
 
 /// A declared time-sharing thread: `cpupri` 0 to 59, `limit` and `upri` -60 to 60 with `upri` at most `limit`.
 #[derive(Drop)]
-pub struct Declared {
+pub struct ThreadLine {
     pub name: Name,
     pub cpupri: u8,
     pub limit: i8,
@@ -16,6 +16,14 @@ pub struct Declared {
     ghost limit_fits: { IsTrue (upri_fits limit) },
     ghost upri_fits: { IsTrue (upri_fits upri) },
     ghost lowered: { IsTrue (int_le upri limit) },
+}
+
+/// The ticks of each processor, 1 to 99.
+#[derive(Clone, Copy)]
+pub struct TickLimit {
+    pub ticks: u32,
+    ghost some: { 1 ≤ ticks },
+    ghost most: { ticks ≤ 99 },
 }
 
 /// A length of a run, in ticks from 1 to 100,000.
@@ -28,9 +36,8 @@ pub struct Ticks {
 /// What a line says.
 #[derive(Drop)]
 pub enum Form {
-    /// The ticks of each processor, 1 to 99.
-    Limit(u32),
-    Thread(Declared),
+    Limit(TickLimit),
+    Thread(ThreadLine),
     /// The script of this thread begins.
     Script(Name),
     /// The operation `run`.

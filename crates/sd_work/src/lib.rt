@@ -1,6 +1,7 @@
 //! Workload texts: read into valid works.
 #![tactic(auto)]
 
+mod blocks;
 mod fault;
 mod forms;
 mod lines;
@@ -8,5 +9,6 @@ mod names;
 mod numerals;
 mod reading;
 mod spans;
+mod statements;
 
 pub use fault::WorkFault;

@@ -9,7 +9,7 @@ ghost use Rattle.sd_text.specs.Words.{words_of};
 ghost use Rattle.sd_work.specs.Lines.{limit_said, script_said, run_said, thread_said, said_by};
 ghost use Rattle.sd_work.specs.Plain.{said};
 
-use crate::forms::{Declared, Form, Ticks};
+use crate::forms::{Form, ThreadLine, TickLimit, Ticks};
 use crate::names::name;
 use crate::numerals::{is_word, number_within, upri};
 use crate::spans::{Span, spans};
@@ -18,8 +18,8 @@ use crate::spans::{Span, spans};
 fn limit(number: &[u8]) -> Option<Form>
     ensures { option_map said result ≡ limit_said number.now }
 {
-    let n = number_within(1, 99, number)?;
-    Some(Form::Limit(n))
+    let ticks = number_within(1, 99, number)?;
+    Some(Form::Limit(TickLimit { ticks }))
 }
 
 // `script NAME`, behind `script`
@@ -60,7 +60,7 @@ fn thread(word: &[u8], class: &[u8], cpupri: &[u8], limit: &[u8], user: &[u8]) -
     let cpupri = number_within(0, 59, cpupri)?;
     let limit = upri(limit)?;
     let upri = upri(user)?;
-    Some(Form::Thread(Declared {
+    Some(Form::Thread(ThreadLine {
         name,
         cpupri: cpupri as u8,
         limit,
