@@ -9,6 +9,7 @@ mod names;
 mod numerals;
 mod reading;
 mod spans;
+mod standing;
 mod statements;
 
 pub use fault::WorkFault;
