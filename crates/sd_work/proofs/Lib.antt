@@ -1,3 +1,5 @@
-pub mod TextLemmas
 pub mod FormLemmas
+pub mod KeptLemmas
 pub mod ReadingLemmas
+pub mod SheetLemmas
+pub mod TextLemmas

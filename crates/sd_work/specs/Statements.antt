@@ -51,6 +51,10 @@ statements_of text = (reading (word_lines text)).outside
 abbrev pub block_of : List ℕ → Option (List Op × List Statement)
 block_of text = (reading (word_lines text)).inside
 
+-- the statements of a line outside blocks and the text below it
+abbrev pub statements_from : Line → List ℕ → Option (List Statement)
+statements_from line text = (with_line (said_by line) (reading (word_lines text))).outside
+
 -- ---- what statements declare
 
 abbrev pub declares : List ℕ → Statement → Bool

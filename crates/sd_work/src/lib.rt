@@ -8,6 +8,7 @@ mod lines;
 mod names;
 mod numerals;
 mod reading;
+mod sheet;
 mod spans;
 mod standing;
 mod statements;
