@@ -1,15 +1,13 @@
 -- What is kept of statements, one statement further on.
-use Rattle.std.proofs.Common.{◌≡◌, ℕ, ◌+◌, ◌<◌, ◌≤◌, Bool, true, false, not, ◌&&◌, ◌||◌, ltb, leb, ◌⊎◌, inl, inr, List, [], ◌∷◌, ◌++◌, length, map, append-nil, Option, Some, None, refl, sym, ap, ◌∙◌, subst, arith, length-append}
-use Rattle.std.specs.Option.{option_map}
-use Rattle.std.specs.List.{list_all, list_any}
+use Rattle.std.proofs.Common.{◌≡◌, ℕ, ◌<◌, ◌≤◌, Bool, true, false, not, ◌&&◌, ◌||◌, ltb, leb, ◌⊎◌, inl, inr, List, [], ◌∷◌, ◌++◌, length, map, append-nil, refl, sym, ap, ◌∙◌, subst, arith, length-append}
+use Rattle.std.specs.List.{list_any}
 use Rattle.std.proofs.lemmas.Bool.{false≢true}
 use Rattle.std.proofs.lemmas.Bool.Decides.{nat_tests}
 use Rattle.std.proofs.lemmas.List.{map-append}
 use Rattle.std.proofs.lemmas.List.Folds.{list_any-append}
-use Rattle.sd_types.specs.declared.scripts.Op.{Op}
 use Rattle.sd_types.specs.Works.{same_bytes, is_distinct}
-use Rattle.sd_work.specs.Lines.{Line, Declaration, word_lines}
-use Rattle.sd_work.specs.Statements.{Statement, Limits, Declares, Scripts, declares, scripts, threads_in, limit_in, may_stand, AreSound}
+use Rattle.sd_work.specs.Lines.{Declaration}
+use Rattle.sd_work.specs.Statements.{Statement, Limits, Declares, Scripts, declares, scripts, threads_in, may_stand, AreSound}
 use Rattle.sd_work.specs.Plain.{IsKept, is_short}
 use Rattle.sd_work.proofs.FormLemmas.{list_all-push}
 
@@ -106,8 +104,8 @@ kept-thread made d kept may =
     record {
       sound = sound-push made (Declares d) kept.sound may;
       names = ap (λ l. is_distinct same_bytes (names_of l)) more
-        ∙ ap (is_distinct same_bytes) (map-append (λ (e : Declaration). e.name) (threads_in made) (d ∷ []))
-        ∙ distinct-push same_bytes (names_of (threads_in made)) d.name kept.names new;
+          ∙ ap (is_distinct same_bytes) (map-append (λ (e : Declaration). e.name) (threads_in made) (d ∷ []))
+          ∙ distinct-push same_bytes (names_of (threads_in made)) d.name kept.names new;
       count = subst (λ (l : List Declaration). length l ≤ 2048) (sym more) (omega (arith, length-append (threads_in made) (d ∷ [])));
       short = list_all-push is_short made (made ++ Declares d ∷ []) (Declares d) kept.short refl refl;
     }

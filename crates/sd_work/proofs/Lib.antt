@@ -3,3 +3,5 @@ pub mod KeptLemmas
 pub mod ReadingLemmas
 pub mod SheetLemmas
 pub mod TextLemmas
+pub mod ScriptLemmas
+pub mod ThreadLemmas

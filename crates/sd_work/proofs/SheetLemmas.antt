@@ -3,7 +3,7 @@ use Rattle.std.proofs.Common.{◌≡◌, ℕ, false, List, [], ◌∷◌, ◌++�
 use Rattle.std.specs.Option.{option_map}
 use Rattle.std.proofs.lemmas.Bool.{both_ways}
 use Rattle.sd_work.specs.Lines.{Line, word_lines}
-use Rattle.sd_work.specs.Statements.{Statement, Reading, reading, statements_of, statements_from, may_stand, AreSound}
+use Rattle.sd_work.specs.Statements.{Statement, Reading, statements_of, statements_from, may_stand, AreSound}
 use Rattle.sd_work.proofs.ReadingLemmas.{reading-line, reading-none}
 
 -- statements behind others

@@ -1,8 +1,8 @@
 -- The first line with words of a text, and the rest.
-use Rattle.std.proofs.Common.{◌≡◌, ℕ, Bool, true, false, cond, List, [], ◌∷◌, map, filter, ap, ◌∙◌}
+use Rattle.std.proofs.Common.{◌≡◌, ℕ, true, false, cond, List, [], ◌∷◌, map, filter, ap, ◌∙◌}
 use Rattle.sd_text.specs.Lines.{lines_of}
 use Rattle.sd_text.specs.Words.{words_of}
-use Rattle.sd_work.specs.Lines.{Line, has_words, word_lines}
+use Rattle.sd_work.specs.Lines.{has_words, word_lines}
 
 word_lines-first : (text line rest : List ℕ) → lines_of text ≡ line ∷ lines_of rest
     → word_lines text ≡ cond (has_words (words_of line)) (words_of line ∷ word_lines rest) (word_lines rest)

@@ -1,14 +1,13 @@
 -- Which text is accepted as which workload. Source: this project's own.
-use Rattle.std.specs.Prelude.{◌≡◌, ℕ, ◌≤◌, Bool, false, List, [], length, map, sum_by, Option, Some}
+use Rattle.std.specs.Prelude.{◌≡◌, ℕ, ◌≤◌, Bool, false, List, [], length, map, sum_by, Some}
 use Rattle.sd_types.specs.declared.numbers.SetId.{SetId}
 use Rattle.sd_types.specs.declared.classes.ClassParms.{ClassParms}
-use Rattle.sd_types.specs.declared.classes.ClassParms.TheVariants.{Ts}
 use Rattle.sd_types.specs.declared.scripts.Op.{Op}
 use Rattle.sd_types.specs.declared.tables.TsTable.{TsTable}
 use Rattle.sd_types.specs.declared.tables.FixedTable.{FixedTable}
 use Rattle.sd_types.specs.declared.works.ThreadDecl.{ThreadDecl}
 use Rattle.sd_types.specs.declared.works.Work.{Work}
-use Rattle.sd_rules.specs.DefaultTables.{default_ts_rows, default_fx_rows, default_rt_rows, default_res}
+use Rattle.sd_rules.specs.DefaultTables.{default_ts_rows, default_fx_rows, default_rt_rows}
 use Rattle.sd_work.specs.Lines.{Declaration}
 use Rattle.sd_work.specs.Statements.{Statement, statements_of, threads_in, limit_in, ops_in, AreSound}
 
@@ -31,7 +30,7 @@ default_set = record { 0 = 0 }
 
 -- a declared thread with the script that the statements give it, or the empty one
 abbrev pub thread_of : List Statement → Declaration → Thread
-thread_of ss d = record { name = d.name; class = Ts d.limit d.upri; cpupri = d.cpupri; uid = 0; privileged = false; set = default_set; ops = ops_in d.name ss }
+thread_of ss d = record { name = d.name; class = d.class; cpupri = d.cpupri; uid = 0; privileged = false; set = default_set; ops = ops_in d.name ss }
 
 -- the threads, in the order of their declarations
 abbrev pub threads_of : List Statement → List Thread
@@ -50,8 +49,19 @@ pub record IsDefaultRt (hz : ℕ) (t : FixedTable) : Type 0 where
   pub res : t.res ≡ 1000
   pub rows : t.rows ≡ default_rt_rows hz
 
+-- what no statement gives: one processor with 100 ticks a second, no set, lock or channel, and the default tables
+pub record HasDefaults (w : Work) : Type 0 where
+  pub cpus : w.cpus ≡ 1
+  pub hz : w.hz ≡ 100
+  pub sets : w.sets ≡ []
+  pub locks : w.locks ≡ []
+  pub chans : w.chans ≡ []
+  pub ts : IsDefaultTs w.hz w.ts
+  pub fx : IsDefaultFx w.hz w.fx
+  pub rt : IsDefaultRt w.hz w.rt
+
 -- The text is a list of statements, each of which may stand where it stands, with a limit, and with at most 4,096
--- operations in all scripts. The workload has one processor with 100 ticks a second.
+-- operations in all scripts.
 pub record Accepted (text : List ℕ) (w : Work) : Type 0 where
   pub statements : List Statement
   pub written : statements_of text ≡ Some statements
@@ -59,11 +69,4 @@ pub record Accepted (text : List ℕ) (w : Work) : Type 0 where
   pub few_ops : sum_by (λ t. length t.ops) (threads_of statements) ≤ 4096
   pub limit : limit_in statements ≡ Some w.limit
   pub threads : map shown w.threads ≡ threads_of statements
-  pub cpus : w.cpus ≡ 1
-  pub hz : w.hz ≡ 100
-  pub sets : w.sets ≡ []
-  pub locks : w.locks ≡ []
-  pub chans : w.chans ≡ []
-  pub ts : IsDefaultTs 100 w.ts
-  pub fx : IsDefaultFx 100 w.fx
-  pub rt : IsDefaultRt 100 w.rt
+  pub defaults : HasDefaults w

@@ -3,6 +3,8 @@
 -- Source: this project's own; ts_cpupri, the limit and the user priority are those of priocntl(2) and ts_dptbl(4).
 use Rattle.std.specs.Prelude.{ℕ, ℤ, Bool, ◌&&◌, List, [], ◌∷◌, length, map, filter, nat_le, nat_lt, cond, codes, Option, Some, None, option_map, option_and_then}
 use Rattle.std.specs.Int.{int_min}
+use Rattle.sd_types.specs.declared.classes.ClassParms.{ClassParms}
+use Rattle.sd_types.specs.declared.classes.ClassParms.TheVariants.{Ts}
 use Rattle.sd_types.specs.declared.scripts.Op.{Op}
 use Rattle.sd_types.specs.declared.scripts.Op.TheVariants.{Run}
 use Rattle.sd_types.specs.NameWords.{is_name}
@@ -34,12 +36,11 @@ upri_of word = option_and_then (λ z. cond (upri_fits z) (Some z) None) (signed_
 
 -- ---- what a line says
 
--- a time-sharing thread with its first ts_cpupri, its limit and its user priority, which is at most the limit
+-- a thread with the parameters of its class, and the first ts_cpupri of a time-sharing thread
 pub record Declaration : Type 0 where
   pub name : List ℕ
+  pub class : ClassParms
   pub cpupri : ℕ
-  pub limit : ℤ
-  pub upri : ℤ
 
 pub data Said : Type 0 where
   -- the ticks of each processor
@@ -66,7 +67,7 @@ run_said number = option_map (λ n. SaysOp (Run n)) (number_within 1 100000 numb
 
 -- a user priority above the limit is lowered to it
 abbrev pub declaration : List ℕ → ℕ → ℤ → ℤ → Declaration
-declaration name cpupri limit upri = record { name = name; cpupri = cpupri; limit = limit; upri = int_min upri limit }
+declaration name cpupri limit upri = record { name = name; class = Ts limit (int_min upri limit); cpupri = cpupri }
 
 -- `thread NAME ts CPUPRI LIMIT UPRI`, behind `thread`
 abbrev pub thread_said : List ℕ → List ℕ → List ℕ → List ℕ → List ℕ → Option Said

@@ -1,9 +1,8 @@
 -- What the reader keeps, as plain data.
-use Rattle.std.specs.Prelude.{◌≡◌, ℕ, ◌≤◌, Bool, true, false, List, length, map, nat_le, Option, Some, None}
+use Rattle.std.specs.Prelude.{◌≡◌, ◌≤◌, Bool, true, List, length, map, nat_le, Some, None}
 use Rattle.std.specs.List.{list_all}
-use Rattle.sd_types.specs.declared.scripts.Op.{Op}
 use Rattle.sd_types.specs.declared.scripts.Op.TheVariants.{Run}
-use Rattle.sd_types.specs.Works.{span_fits, same_bytes, is_distinct}
+use Rattle.sd_types.specs.Works.{same_bytes, is_distinct}
 use Rattle.sd_work.specs.declared.forms.ThreadLine.{ThreadLine}
 use Rattle.sd_work.specs.declared.forms.Form.{Form}
 use Rattle.sd_work.specs.declared.forms.Form.TheVariants as form
@@ -16,7 +15,7 @@ use Rattle.sd_work.specs.Runs.{is_run}
 use Rattle.sd_work.specs.Statements.{Statement, Limits, Declares, Scripts, Reading, with_line, threads_in, AreSound}
 
 abbrev pub declaration_of : ThreadLine → Declaration
-declaration_of d = record { name = d.name.text.items; cpupri = d.cpupri; limit = d.limit; upri = d.upri }
+declaration_of d = record { name = d.name.text.items; class = d.class; cpupri = d.cpupri }
 
 abbrev pub said : Form → Said
 said (form.Limit limit) = SaysLimit limit.ticks

@@ -1,21 +1,17 @@
 //! What a line of a workload text says.
 
-ghost use Rattle.std.specs.Prelude.{◌≡◌, ◌≤◌, ◌∷◌, [], IsTrue, option_map, nat_le, int_le};
-ghost use Rattle.sd_types.specs.Works.{upri_fits, span_fits};
+ghost use Rattle.std.specs.Prelude.{◌≤◌, IsTrue};
+ghost use Rattle.sd_types.specs.Works.{class_fits, span_fits};
 
-use sd_types::Name;
+use sd_types::{ClassParms, Name};
 
-/// A declared time-sharing thread: `cpupri` 0 to 59, `limit` and `upri` -60 to 60 with `upri` at most `limit`.
+/// A declared thread. `cpupri` is that of a time-sharing thread, 0 to 59.
 #[derive(Drop)]
 pub struct ThreadLine {
     pub name: Name,
+    pub class: ClassParms,
     pub cpupri: u8,
-    pub limit: i8,
-    pub upri: i8,
-    ghost most_cpupri: { cpupri ≤ 59 },
-    ghost limit_fits: { IsTrue (upri_fits limit) },
-    ghost upri_fits: { IsTrue (upri_fits upri) },
-    ghost lowered: { IsTrue (int_le upri limit) },
+    ghost fits: { IsTrue (class_fits class cpupri) },
 }
 
 /// The ticks of each processor, 1 to 99.

@@ -7,10 +7,14 @@ mod forms;
 mod lines;
 mod names;
 mod numerals;
+mod read;
 mod reading;
+mod scripts;
 mod sheet;
 mod spans;
 mod standing;
 mod statements;
+mod threads;
 
 pub use fault::WorkFault;
+pub use read::read_work;

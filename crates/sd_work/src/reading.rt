@@ -1,9 +1,9 @@
 //! Lines, taken apart into what they say.
 
-ghost use Rattle.std.specs.Prelude.{◌≡◌, ◌≤◌, ◌<◌, ◌∷◌, [], IsTrue, length, map, slice_index_or, option_map, int_le};
+ghost use Rattle.std.specs.Prelude.{◌≡◌, ◌≤◌, ◌<◌, ◌∷◌, [], IsTrue, length, map, slice_index_or, option_map, ℕ, true};
 ghost use Rattle.std.specs.Int.{int_min};
 ghost use Rattle.std.specs.List.{list_all};
-ghost use Rattle.sd_types.specs.Works.{upri_fits};
+ghost use Rattle.sd_types.specs.Works.{upri_fits, class_fits};
 ghost use Rattle.sd_work.specs.Spans.{word_at, is_within};
 ghost use Rattle.sd_text.specs.Words.{words_of};
 ghost use Rattle.sd_work.specs.Lines.{limit_said, script_said, run_said, thread_said, said_by};
@@ -13,6 +13,7 @@ use crate::forms::{Form, ThreadLine, TickLimit, Ticks};
 use crate::names::name;
 use crate::numerals::{is_word, number_within, upri};
 use crate::spans::{Span, spans};
+use sd_types::ClassParms;
 
 // `limit N`, behind `limit`
 fn limit(number: &[u8]) -> Option<Form>
@@ -39,14 +40,17 @@ fn run(number: &[u8]) -> Option<Form>
 }
 
 // A user priority above the limit is lowered to it.
-fn lowered(upri: i8, limit: i8) -> i8
-    requires upri { IsTrue (upri_fits upri) }
+fn class_parms(limit: i8, upri: i8) -> ClassParms
     requires limit { IsTrue (upri_fits limit) }
-    ensures value { result ≡ int_min upri limit }
-    ensures fits { IsTrue (upri_fits result) }
-    ensures lowered { IsTrue (int_le result limit) }
+    requires upri { IsTrue (upri_fits upri) }
+    ensures value { result ≡ ClassParms.Ts limit (int_min upri limit) }
+    ensures fits { (cpupri : ℕ) → cpupri ≤ 59 → class_fits result cpupri ≡ true }
 {
-    if limit < upri { limit } else { upri }
+    if limit < upri {
+        ClassParms::Ts { limit, upri: limit }
+    } else {
+        ClassParms::Ts { limit, upri }
+    }
 }
 
 // `thread NAME ts CPUPRI LIMIT UPRI`, behind `thread`
@@ -62,9 +66,8 @@ fn thread(word: &[u8], class: &[u8], cpupri: &[u8], limit: &[u8], user: &[u8]) -
     let upri = upri(user)?;
     Some(Form::Thread(ThreadLine {
         name,
+        class: class_parms(limit, upri),
         cpupri: cpupri as u8,
-        limit,
-        upri: lowered(upri, limit),
     }))
 }
 

@@ -1,6 +1,6 @@
 //! When a statement may stand below those above it.
 
-ghost use Rattle.std.specs.Prelude.{◌≡◌, length};
+ghost use Rattle.std.specs.Prelude.{◌≡◌, ◌≤◌, length, IfSome};
 ghost use Rattle.std.specs.List.{list_any};
 ghost use Rattle.sd_work.specs.Statements.{declares, scripts, threads_in, limit_in, may_stand};
 ghost use Rattle.sd_work.specs.Plain.{statement_of, statements};
@@ -53,6 +53,8 @@ fn is_scripted(above: &[Statement], name: &[u8]) -> bool
 /// The limit that the first statement of its kind gives.
 pub fn limit(all: &[Statement]) -> Option<u32>
     ensures value { result ≡ limit_in (statements all.now) }
+    ensures some { IfSome result (λ n. 1 ≤ n) }
+    ensures most { IfSome result (λ n. n ≤ 99) }
 {
     for statement in all {
         if let Statement::Limit(limit) = statement {

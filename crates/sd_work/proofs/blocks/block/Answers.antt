@@ -1,4 +1,4 @@
-use Rattle.std.proofs.Common.{◌≡◌, ◌+◌, ◌≤◌, true, length, drop, sym, ◌∙◌, arith}
+use Rattle.std.proofs.Common.{arith}
 use Rattle.sd_work.specs.Runs.{is_run}
 use Rattle.sd_work.proofs.FormLemmas.{list_all-push}
 use Rattle.sd_work.proofs.ReadingLemmas.{block-more, block-end, block-other, block-none}

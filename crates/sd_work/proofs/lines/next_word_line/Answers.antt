@@ -1,4 +1,4 @@
-use Rattle.std.proofs.Common.{◌≡◌, ◌+◌, ◌≤◌, length, drop, sym, ◌∙◌, arith}
+use Rattle.std.proofs.Common.{sym, ◌∙◌, arith}
 use Rattle.sd_work.proofs.TextLemmas.{word_lines-line, word_lines-skipped, word_lines-none}
 use Rattle.sd_work.proofs.lines.next_word_line.Goals as goal
 
