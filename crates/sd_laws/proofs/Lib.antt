@@ -1,7 +1,9 @@
 pub mod Causes
 pub mod Changes
+pub mod Chosen
 pub mod ClassLemmas
 pub mod Induction
 pub mod KeyLemmas
+pub mod MarkLemmas
 pub mod Openings
 pub mod RunningLemmas

@@ -1,6 +1,6 @@
 -- What is said of the states of every run, and the laws.
 -- Source: Solaris Internals (the dispatcher); the ranges of keys are this project's own.
-use Rattle.std.specs.Prelude.{◌≡◌, ℕ, ◌+◌, ◌<◌, Bool, true, false, ◌&&◌, ◌||◌, ◌==◌, nat_le, List, length, ℤ, pos, neg_ℤ, ◌<ℤ◌, ◌≤ℤ◌}
+use Rattle.std.specs.Prelude.{◌≡◌, ℕ, ◌+◌, ◌<◌, Bool, true, false, ◌&&◌, ◌||◌, ◌==◌, nat_le, List, length, pos, neg_ℤ, ◌<ℤ◌, ◌≤ℤ◌}
 use Rattle.sd_types.specs.declared.numbers.Side.{Side}
 use Rattle.sd_types.specs.declared.numbers.Side.TheVariants.{Writer, Reader}
 use Rattle.sd_types.specs.declared.events.Entry.{Entry}
@@ -72,12 +72,11 @@ is_marked x = x.user || x.kernel
 
 -- Where a thread runs and one on the processor's own queue has a greater effective priority, the processor is marked;
 -- and a processor on which no thread runs is not.
-pub record MarksStand (w : Work) (s : State) : Type 0 where
-  pub wanted : (c r u : ℕ) → c < w.cpus → r < length s.threads → u < length s.threads
+pub record MarksStand (s : State) : Type 0 where
+  pub wanted : (c r u : ℕ) → r < length s.threads → u < length s.threads
       → is_running c (thread_of s r).place ≡ true → is_queued c (thread_of s u).place ≡ true
       → eff (thread_of s r).body < eff (thread_of s u).body → is_marked (cpu_of s c) ≡ true
-  pub unwanted : (c : ℕ) → c < w.cpus → ((t : ℕ) → t < length s.threads → is_running c (thread_of s t).place ≡ false)
-      → is_marked (cpu_of s c) ≡ false
+  pub unwanted : (c : ℕ) → ((t : ℕ) → t < length s.threads → is_running c (thread_of s t).place ≡ false) → is_marked (cpu_of s c) ≡ false
 
 -- given the state, the number, the processor and what it reads there is at most one event and one next state
 abbrev pub OneNext : Type 0

@@ -1,6 +1,6 @@
 //! The laws, each as the contract of a function without a body.
 
-ghost use Rattle.sd_laws.specs.Laws.{HoldsAfter, HoldsInRuns, KeysDiffer, KeysWithin, OneNext, OneRuns, UrgentThreads};
+ghost use Rattle.sd_laws.specs.Laws.{HoldsAfter, HoldsInRuns, KeysDiffer, KeysWithin, MarksStand, OneNext, OneRuns, UrgentThreads};
 
 /// At most one thread runs on each processor, in every state of every run.
 pub fn one_runs()
@@ -10,23 +10,25 @@ pub fn one_runs()
 /// Keys in one queue differ: two threads of one queue with equal keys are the same thread.
 pub fn keys_differ()
     ensures { HoldsInRuns (λ w s. KeysDiffer s) }
-{
-}
+{}
 
 /// After n entries each key of a thread is at least -n and less than 4096 + n.
 pub fn keys_within()
     ensures { HoldsAfter (λ w n s. KeysWithin n s) }
-{
-}
+{}
 
 /// Given a state, a number, a processor and what it reads there is at most one event and one next state.
 pub fn one_next()
     ensures { OneNext }
-{
-}
+{}
 
 /// The threads that the opening puts on real-time queues are those of priority 100 or more.
 pub fn urgent_threads()
     ensures { UrgentThreads }
-{
-}
+{}
+
+/// Where a thread runs and one on the processor's own queue has a greater effective priority, the processor has
+/// the user's or the kernel's mark; and a processor on which no thread runs has no mark.
+pub fn is_marked()
+    ensures { HoldsInRuns (λ w s. MarksStand s) }
+{}

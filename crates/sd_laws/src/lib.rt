@@ -4,4 +4,4 @@
 
 mod laws;
 
-pub use laws::{keys_differ, keys_within, one_next, one_runs, urgent_threads};
+pub use laws::{is_marked, keys_differ, keys_within, one_next, one_runs, urgent_threads};
