@@ -5,6 +5,7 @@ use Rattle.std.specs.Prelude.{is_some}
 use Rattle.std.proofs.lemmas.Bool.{cases_eq}
 use Rattle.std.proofs.lemmas.List.{get_or-set_same, get_or-set_other}
 use Rattle.sd_types.specs.declared.numbers.CpuId.{CpuId}
+use Rattle.sd_types.specs.declared.numbers.SetId.{SetId}
 use Rattle.sd_types.specs.declared.bodies.ThreadBody.{ThreadBody}
 use Rattle.sd_types.specs.declared.classes.ClassState.{ClassState}
 use Rattle.sd_types.specs.declared.classes.ClassState.TheVariants.{Ts, Fx, Sys, Rt}
@@ -148,3 +149,27 @@ mark_after w s n c (Dispatch t p) here cause = put_cpu_by is_marked s c.0 _ here
 mark_after w s n c (Preempt t end) here cause = put_cpu_by is_marked s c.0 _ here
 mark_after w s n c (Done t) here cause = put_cpu_by is_marked s c.0 _ here
 mark_after w s n c _ here cause = λ d. refl
+
+-- The sets of the processors.
+
+abbrev pub set_of : CpuState → SetId
+set_of x = x.set
+
+abbrev pub cpu_sets : State → ℕ → SetId
+cpu_sets s c = (cpu_of s c).set
+
+abbrev pub new_set : Event → Change SetId
+new_set _ = Keep
+
+marked_set : (o : Option ℕ) (x : CpuState) → (marked_for o x).set ≡ x.set
+marked_set None x = refl
+marked_set (Some m) x = elim (leb 100 m) as (λ v. (cond v (record x { kernel = true }) (record x { user = true })).set ≡ x.set) [ true ↦ refl | false ↦ refl ]
+
+pub set_after : (w : Work) (s : State) (n : ℕ) (c : CpuId) (e : Event) → c.0 < length s.cpus → IsCause s c.0 e → IsChanged (new_set e) (cpu_sets s) (cpu_sets (after w s n c e))
+unfolding after ticked idled dispatched preempted ended
+set_after w s n c (Tick t) here cause = same_cpu_by set_of s c.0 _ here (marked_set (tick_rival w s c.0 t.0) (counted w (cpu_of s c.0)))
+set_after w s n c Idle here cause = same_cpu_by set_of s c.0 _ here refl
+set_after w s n c (Dispatch t p) here cause = same_cpu_by set_of s c.0 _ here refl
+set_after w s n c (Preempt t end) here cause = same_cpu_by set_of s c.0 _ here refl
+set_after w s n c (Done t) here cause = same_cpu_by set_of s c.0 _ here refl
+set_after w s n c _ here cause = λ d. refl

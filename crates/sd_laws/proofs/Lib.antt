@@ -1,3 +1,4 @@
+pub mod BelongLemmas
 pub mod Causes
 pub mod Changes
 pub mod Chosen
@@ -7,3 +8,4 @@ pub mod KeyLemmas
 pub mod MarkLemmas
 pub mod Openings
 pub mod RunningLemmas
+pub mod SetLemmas

@@ -1,6 +1,6 @@
 -- What is said of the states of every run, and the laws.
 -- Source: Solaris Internals (the dispatcher); the ranges of keys are this project's own.
-use Rattle.std.specs.Prelude.{◌≡◌, ℕ, ◌+◌, ◌<◌, Bool, true, false, ◌&&◌, ◌||◌, ◌==◌, nat_le, List, length, pos, neg_ℤ, ◌<ℤ◌, ◌≤ℤ◌}
+use Rattle.std.specs.Prelude.{◌≡◌, ℕ, ◌+◌, ◌<◌, Bool, true, false, ◌&&◌, ◌||◌, ◌==◌, nat_le, List, length, pos, neg_ℤ, ◌<ℤ◌, ◌≤ℤ◌, ◌≤◌, ⊤}
 use Rattle.sd_types.specs.declared.numbers.Side.{Side}
 use Rattle.sd_types.specs.declared.numbers.Side.TheVariants.{Writer, Reader}
 use Rattle.sd_types.specs.declared.events.Entry.{Entry}
@@ -9,10 +9,11 @@ use Rattle.sd_types.specs.declared.works.Work.{Work}
 use Rattle.sd_types.specs.Priorities.{base_of, eff}
 use Rattle.sd_types.specs.Works.{class_fits}
 use Rattle.sd_machine.specs.declared.states.Place.{Place}
-use Rattle.sd_machine.specs.declared.states.Place.TheVariants.{Queued, RealTime, Waiting, Asleep}
+use Rattle.sd_machine.specs.declared.states.Place.TheVariants.{Running, Queued, RealTime, Waiting, Asleep, Napping, Ended}
 use Rattle.sd_machine.specs.declared.states.CpuState.{CpuState}
 use Rattle.sd_machine.specs.declared.states.State.{State}
 use Rattle.sd_machine.specs.States.{thread_of, cpu_of, key_of, is_running, is_queued}
+use Rattle.sd_machine.specs.Dispatching.{thread_set}
 use Rattle.sd_machine.specs.Machine.{after}
 use Rattle.sd_machine.specs.Opening.{opening, class_of, is_urgent}
 use Rattle.sd_machine.specs.Runs.{final, IsRun, IsStep}
@@ -77,6 +78,31 @@ pub record MarksStand (s : State) : Type 0 where
       → is_running c (thread_of s r).place ≡ true → is_queued c (thread_of s u).place ≡ true
       → eff (thread_of s r).body < eff (thread_of s u).body → is_marked (cpu_of s c) ≡ true
   pub unwanted : (c : ℕ) → ((t : ℕ) → t < length s.threads → is_running c (thread_of s t).place ≡ false) → is_marked (cpu_of s c) ≡ false
+
+-- a thread that runs, or is on a queue, does so in its own set
+abbrev pub IsInItsSet : Work → State → ℕ → Place → Type 0
+IsInItsSet w s t (Running c) = (cpu_of s c.0).set ≡ thread_set w t
+IsInItsSet w s t (Queued c k) = (cpu_of s c.0).set ≡ thread_set w t
+IsInItsSet w s t (RealTime p k) = p ≡ thread_set w t
+IsInItsSet w s t _ = ⊤
+
+abbrev pub EachInItsSet : Work → State → Type 0
+EachInItsSet w s = (t : ℕ) → t < length s.threads → IsInItsSet w s t (thread_of s t).place
+
+-- the place is one of a processor, a set, a lock or a channel of the workload
+abbrev pub IsThere : Work → Place → Type 0
+IsThere w (Running c) = c.0 < w.cpus
+IsThere w (Queued c k) = c.0 < w.cpus
+IsThere w (RealTime p k) = p.0 ≤ length w.sets
+IsThere w (Waiting l side k) = l.0 < length w.locks
+IsThere w (Asleep ch k) = ch.0 < length w.chans
+IsThere w (Napping c due) = c.0 < w.cpus
+IsThere w Ended = ⊤
+
+-- as many threads as the workload declares, each in one place that is there
+pub record PlacesAreThere (w : Work) (s : State) : Type 0 where
+  pub threads : length s.threads ≡ length w.threads
+  pub each : (t : ℕ) → t < length w.threads → IsThere w (thread_of s t).place
 
 -- given the state, the number, the processor and what it reads there is at most one event and one next state
 abbrev pub OneNext : Type 0

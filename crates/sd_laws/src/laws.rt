@@ -1,6 +1,6 @@
 //! The laws, each as the contract of a function without a body.
 
-ghost use Rattle.sd_laws.specs.Laws.{HoldsAfter, HoldsInRuns, KeysDiffer, KeysWithin, MarksStand, OneNext, OneRuns, UrgentThreads};
+ghost use Rattle.sd_laws.specs.Laws.{EachInItsSet, HoldsAfter, HoldsInRuns, KeysDiffer, KeysWithin, MarksStand, OneNext, OneRuns, PlacesAreThere, UrgentThreads};
 
 /// At most one thread runs on each processor, in every state of every run.
 pub fn one_runs()
@@ -31,4 +31,16 @@ pub fn urgent_threads()
 /// the user's or the kernel's mark; and a processor on which no thread runs has no mark.
 pub fn is_marked()
     ensures { HoldsInRuns (λ w s. MarksStand s) }
+{}
+
+/// A thread that runs on a processor or is on its queue is in that processor's set, and one on a real-time queue
+/// in that queue's set.
+pub fn each_in_its_set()
+    ensures { HoldsInRuns (λ w s. EachInItsSet w s) }
+{}
+
+/// There are as many threads as the workload declares, and each is in one place, which names a processor, a set,
+/// a lock or a channel that the workload has.
+pub fn places_are_there()
+    ensures { HoldsInRuns (λ w s. PlacesAreThere w s) }
 {}

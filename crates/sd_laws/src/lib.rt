@@ -4,4 +4,7 @@
 
 mod laws;
 
-pub use laws::{is_marked, keys_differ, keys_within, one_next, one_runs, urgent_threads};
+pub use laws::{
+    each_in_its_set, is_marked, keys_differ, keys_within, one_next, one_runs, places_are_there,
+    urgent_threads,
+};
