@@ -1,12 +1,9 @@
 -- Each thread is in its own set, in a place that the workload has.
-use Rattle.std.proofs.Common.{◌≡◌, ℕ, zero, suc, ◌+◌, ◌<◌, ◌≤◌, ◌%◌, Bool, true, false, cond, ◌&&◌, ◌==◌, leb, List, [], ◌∷◌, length, get_or, Option, Some, None, is_none, ℤ, pos, refl, sym, ap, ◌∙◌, subst, inl, inr, arith}
-use Rattle.std.specs.Prelude.{slice_get, option_map, unwrap_or, ⊤}
-use Rattle.std.proofs.lemmas.Bool.{false≢true, cases_eq, and_parts, or_cases, eqb-true, leb-true}
-use Rattle.std.proofs.lemmas.List.{get_or_past}
+use Rattle.std.proofs.Common.{◌≡◌, ℕ, ◌+◌, ◌<◌, ◌≤◌, ◌%◌, Bool, true, false, cond, ◌&&◌, ◌==◌, leb, length, Option, Some, None, is_none, ℤ, pos, refl, sym, ap, ◌∙◌, subst, inl, inr, arith}
+use Rattle.std.specs.Prelude.{slice_get, ⊤}
+use Rattle.std.proofs.lemmas.Bool.{false≢true, cases_eq, or_cases, eqb-true}
 use Rattle.std.proofs.lemmas.List.FromFn.{get_or-map-range_with_len}
-use Rattle.std.proofs.lemmas.List.Sums.{AllPass-from_list_all}
 use Rattle.std.proofs.Math.Nat.{mod-lt}
-use Rattle.std.proofs.lemmas.Option.{get_or_from_slice_get}
 use Rattle.sd_types.specs.declared.numbers.CpuId.{CpuId}
 use Rattle.sd_types.specs.declared.numbers.SetId.{SetId}
 use Rattle.sd_types.specs.declared.bodies.ThreadBody.{ThreadBody}
@@ -15,35 +12,25 @@ use Rattle.sd_types.specs.declared.events.Event.TheVariants.{Dispatch, Preempt, 
 use Rattle.sd_types.specs.declared.works.ThreadDecl.{ThreadDecl}
 use Rattle.sd_types.specs.declared.works.Work.{Work}
 use Rattle.sd_types.specs.Priorities.{eff}
-use Rattle.sd_types.specs.Works.{class_fits, thread_fits, declared_of}
 use Rattle.sd_types.specs.Partitions.{set_of_cpu, cpus_of_set}
 use Rattle.sd_machine.specs.declared.states.Place.{Place}
-use Rattle.sd_machine.specs.declared.states.Place.TheVariants.{Running, Queued, RealTime, Ended}
+use Rattle.sd_machine.specs.declared.states.Place.TheVariants.{Running, Queued, RealTime}
 use Rattle.sd_machine.specs.declared.states.ThreadState.{ThreadState}
 use Rattle.sd_machine.specs.declared.states.CpuState.{CpuState}
 use Rattle.sd_machine.specs.declared.states.State.{State}
-use Rattle.sd_machine.specs.States.{thread_of, cpu_of, no_thread, no_cpu, is_running, is_ready, FitsWork}
+use Rattle.sd_machine.specs.States.{thread_of, cpu_of, no_cpu, is_running, is_ready, FitsWork}
 use Rattle.sd_machine.specs.Dispatching.{queue_place, end_key, thread_set}
 use Rattle.sd_machine.specs.Machine.{after}
-use Rattle.sd_machine.specs.Opening.{opening, first_threads, first_thread, first_cpu, dealt_cpu, turn_of, is_urgent, first_cpu_state}
+use Rattle.sd_machine.specs.Opening.{opening, first_thread, first_cpu, dealt_cpu, turn_of, is_urgent, first_cpu_state}
 use Rattle.sd_machine.proofs.AfterFits.{after_fits}
-use Rattle.sd_machine.proofs.OpeningLemmas.{opening_fits, length-first_threads}
+use Rattle.sd_machine.proofs.OpeningLemmas.{opening_fits}
 use Rattle.sd_laws.specs.Laws.{HoldsInRuns, IsInItsSet, EachInItsSet, IsThere, PlacesAreThere}
 use Rattle.sd_laws.proofs.Causes.{IsCause, caused}
 use Rattle.sd_laws.proofs.Changes.{Change, Keep, Put, IsChanged, move, place_after, cpu_sets, set_after}
 use Rattle.sd_laws.proofs.Chosen.{places, runs_there, best_ready_is}
 use Rattle.sd_laws.proofs.Induction.{IsKept, in_runs}
 use Rattle.sd_laws.proofs.SetLemmas.{cpus_some, cpus_member}
-
-slice_get-inside : {X : Type 0} (xs : List X) (i : ℕ) (x : X) → slice_get xs i ≡ Some x → i < length xs
-slice_get-inside [] i x e = cc
-slice_get-inside (y ∷ ys) zero x e = omega arith
-slice_get-inside (y ∷ ys) (suc i) x e = omega (arith, slice_get-inside ys i x e)
-
-slice_get-past : {X : Type 0} (xs : List X) (i : ℕ) → slice_get xs i ≡ None → length xs ≤ i
-slice_get-past [] i e = omega arith
-slice_get-past (y ∷ ys) zero e = cc
-slice_get-past (y ∷ ys) (suc i) e = omega (arith, slice_get-past ys i e)
+use Rattle.sd_laws.proofs.Declared.{decl_set, decl_set_there, set_there, opening_at, opening_past}
 
 -- what is kept together
 pub record BelongsAt (w : Work) (s : State) : Type 0 where
@@ -75,32 +62,6 @@ ready_in_set w s t c (Queued d k) ready own = elim (or_cases (d.0 == c) false re
 ready_in_set w s t c (RealTime q k) ready own = ap (λ (n : ℕ). let r : SetId = record { 0 = n } in r) (sym (eqb-true q.0 (cpu_of s c).set.0 ready)) ∙ own
 ready_in_set w s t c _ ready own = absurd (false≢true ready)
 
-module _ (w : Work) (t : ℕ) where
-  -- the thread that is declared with this number
-  module _ (d : ThreadDecl) (is : slice_get w.threads t ≡ Some d) where
-    decl_inside : t < length w.threads
-    decl_inside = slice_get-inside w.threads t d is
-
-    decl_set : thread_set w t ≡ d.set
-    decl_set = ap (λ (o : Option ThreadDecl). unwrap_or (option_map (λ x. x.set) o) (record { 0 = 0 })) is
-
-    decl_fits : thread_fits (declared_of w.cpus w.sets w.locks w.chans w.threads) d ≡ true
-    decl_fits =
-        ap (thread_fits (declared_of w.cpus w.sets w.locks w.chans w.threads)) (sym (get_or_from_slice_get w.threads t d d is))
-        ∙ AllPass-from_list_all (thread_fits (declared_of w.cpus w.sets w.locks w.chans w.threads)) w.threads w.threads_fit t d decl_inside
-
-    decl_set_there : d.set.0 ≤ length w.sets
-    decl_set_there =
-        let front = and_parts (class_fits d.class d.cpupri && leb d.set.0 (length w.sets)) _ decl_fits in
-        leb-true d.set.0 (length w.sets) (and_parts (class_fits d.class d.cpupri) (leb d.set.0 (length w.sets)) front.0).1
-
-  set_there : (thread_set w t).0 ≤ length w.sets
-  set_there = by (slice_get w.threads t) refl
-    where
-      by : (o : Option ThreadDecl) → slice_get w.threads t ≡ o → (thread_set w t).0 ≤ length w.sets
-      by None e = let zero_set : (thread_set w t).0 ≡ 0 = ap (λ (o : Option ThreadDecl). (let r : SetId = unwrap_or (option_map (λ x. x.set) o) (record { 0 = 0 }) in r).0) e in omega arith
-      by (Some d) e = let set = ap (λ (p : SetId). p.0) (decl_set d e) in let there = decl_set_there d e in omega arith
-
 queue_well : (w : Work) (s : State) (t : ℕ) (c : CpuId) (key : ℤ) (b : ThreadBody) → (cpu_of s c.0).set ≡ thread_set w t → c.0 < w.cpus → (thread_set w t).0 ≤ length w.sets
     → IsInItsSet w s t (queue_place w t c key b) × IsThere w (queue_place w t c key b)
 queue_well w s t c key b own here set =
@@ -112,7 +73,7 @@ goes_well : (w : Work) (s : State) (n : ℕ) (c : CpuId) (e : Event) → c.0 < w
 goes_well w s n c (Dispatch t p) here cause at =
     (ready_in_set w s t.0 c.0 (places s t.0) (best_ready_is s c.0 (cpu_of s c.0).set.0 t.0 cause.1) (at.own t.0), here)
 goes_well w s n c (Preempt t end) here cause at =
-    queue_well w s t.0 c (end_key n end) (thread_of s t.0).body (runs_in_set w s t.0 c.0 (places s t.0) (runs_there s c.0 t.0 cause) (at.own t.0)) here (set_there w t.0)
+    queue_well w s t.0 c (end_key n end) (thread_of s t.0).body (runs_in_set w s t.0 c.0 (places s t.0) (runs_there s c.0 t.0 cause.0) (at.own t.0)) here (set_there w t.0)
 goes_well w s n c (Done t) here cause at = (tt, tt)
 goes_well w s n c _ here cause at = tt
 
@@ -132,23 +93,6 @@ module _ (w : Work) (s s' : State) (sets : (d : ℕ) → cpu_sets s' d ≡ cpu_s
   ]
 
 -- The opening.
-
-first_thread_at : (w : Work) (k : ℕ) (ds : List ThreadDecl) (t : ℕ) (d : ThreadDecl) → slice_get ds t ≡ Some d → get_or (first_threads w k ds) t no_thread ≡ first_thread w (k + t) d
-first_thread_at w k [] t d e = cc
-first_thread_at w k (x ∷ xs) zero d e = let same : x ≡ d = cc in ap (first_thread w k) same ∙ ap (λ m. first_thread w m d) (let q : k ≡ k + zero = omega arith in q)
-first_thread_at w k (x ∷ xs) (suc t) d e = first_thread_at w (k + 1) xs t d e ∙ ap (λ m. first_thread w m d) (let q : k + 1 + t ≡ k + suc t = omega arith in q)
-
-opening_at : (w : Work) (t : ℕ) (d : ThreadDecl) → slice_get w.threads t ≡ Some d → thread_of (opening w) t ≡ first_thread w (0 + t) d
-unfolding opening
-opening_at w t d e = first_thread_at w 0 w.threads t d e
-
--- a number that no thread has
-opening_past : (w : Work) (t : ℕ) → slice_get w.threads t ≡ None → places (opening w) t ≡ Ended
-unfolding opening
-opening_past w t e =
-    let len = length-first_threads w 0 w.threads in
-    let past = slice_get-past w.threads t e in
-    ap (λ (x : ThreadState). x.place) (get_or_past (first_threads w 0 w.threads) t no_thread (omega arith))
 
 -- a processor of the opening is in the set that the workload gives it
 opening_set : (w : Work) (c : ℕ) → c < w.cpus → (cpu_of (opening w) c).set.0 ≡ set_of_cpu w c

@@ -1,6 +1,6 @@
 -- What each event changes of the parts of a state that laws speak of. An event that is added to the machine adds its
 -- line to each table that it touches, and to the lemma below that table; the laws stand on the tables alone.
-use Rattle.std.proofs.Common.{◌≡◌, ◌≢◌, ℕ, ◌<◌, Bool, true, false, ◌||◌, cond, leb, length, get_or, set, Option, Some, None, refl, ap, ◌∙◌, sym, subst, inl, inr, arith}
+use Rattle.std.proofs.Common.{◌≡◌, ◌≢◌, ℕ, ◌-◌, List, ◌<◌, Bool, true, false, ◌||◌, cond, leb, length, get_or, set, Option, Some, None, refl, ap, ◌∙◌, sym, subst, inl, inr, arith}
 use Rattle.std.specs.Prelude.{is_some}
 use Rattle.std.proofs.lemmas.Bool.{cases_eq}
 use Rattle.std.proofs.lemmas.List.{get_or-set_same, get_or-set_other}
@@ -9,6 +9,7 @@ use Rattle.sd_types.specs.declared.numbers.SetId.{SetId}
 use Rattle.sd_types.specs.declared.bodies.ThreadBody.{ThreadBody}
 use Rattle.sd_types.specs.declared.classes.ClassState.{ClassState}
 use Rattle.sd_types.specs.declared.classes.ClassState.TheVariants.{Ts, Fx, Sys, Rt}
+use Rattle.sd_types.specs.declared.scripts.Op.{Op}
 use Rattle.sd_types.specs.declared.events.Event.{Event}
 use Rattle.sd_types.specs.declared.events.Event.TheVariants.{Tick, Idle, Dispatch, Preempt, Done}
 use Rattle.sd_types.specs.declared.works.Work.{Work}
@@ -21,6 +22,7 @@ use Rattle.sd_machine.specs.declared.states.CpuState.{CpuState}
 use Rattle.sd_machine.specs.declared.states.State.{State}
 use Rattle.sd_machine.specs.States.{thread_of, cpu_of, no_thread, no_cpu}
 use Rattle.sd_machine.specs.Dispatching.{ticked, idled, dispatched, preempted, ended, end_key, queue_place, ticked_body, sent_back, tick_rival, marked_for, counted}
+use Rattle.sd_machine.specs.Operations.{script_of, ran, op_over}
 use Rattle.sd_machine.specs.Machine.{after}
 use Rattle.sd_laws.specs.Laws.{is_marked}
 use Rattle.sd_laws.proofs.Causes.{IsCause}
@@ -90,7 +92,7 @@ pub place_after : (w : Work) (s : State) (n : ℕ) (c : CpuId) (e : Event) → I
 unfolding after ticked idled dispatched preempted ended
 place_after w s n c (Tick t) cause = same_by place_of s t.0 _ (runs_inside s c.0 t.0 cause) refl
 place_after w s n c (Dispatch t p) cause = put_by place_of s t.0 _ (best_inside s c.0 (cpu_of s c.0).set.0 t.0 cause.1)
-place_after w s n c (Preempt t end) cause = put_by place_of s t.0 _ (runs_inside s c.0 t.0 cause)
+place_after w s n c (Preempt t end) cause = put_by place_of s t.0 _ (runs_inside s c.0 t.0 cause.0)
 place_after w s n c (Done t) cause = put_by place_of s t.0 _ (runs_inside s c.0 t.0 cause)
 place_after w s n c _ cause = λ u. refl
 
@@ -121,7 +123,7 @@ priority_after w s n c (Tick t) cause =
     (put_by eff_of s t.0 _ (runs_inside s c.0 t.0 cause))
 priority_after w s n c (Dispatch t p) cause = same_by eff_of s t.0 _ (best_inside s c.0 (cpu_of s c.0).set.0 t.0 cause.1) refl
 priority_after w s n c (Preempt t end) cause =
-    same_by eff_of s t.0 _ (runs_inside s c.0 t.0 cause)
+    same_by eff_of s t.0 _ (runs_inside s c.0 t.0 cause.0)
     (ap (λ m. greatest_willed m (thread_of s t.0).body.willed.items) (requeue_base (thread_of s t.0).body.back (thread_of s t.0).body.class))
 priority_after w s n c (Done t) cause = same_by eff_of s t.0 _ (runs_inside s c.0 t.0 cause) refl
 priority_after w s n c _ cause = λ u. refl
@@ -173,3 +175,35 @@ set_after w s n c (Dispatch t p) here cause = same_cpu_by set_of s c.0 _ here re
 set_after w s n c (Preempt t end) here cause = same_cpu_by set_of s c.0 _ here refl
 set_after w s n c (Done t) here cause = same_cpu_by set_of s c.0 _ here refl
 set_after w s n c _ here cause = λ d. refl
+
+-- The processors to which the threads are bound.
+
+abbrev pub bound_of : ThreadState → Option CpuId
+bound_of x = x.body.bound
+
+abbrev pub bounds : State → ℕ → Option CpuId
+bounds s t = (thread_of s t).body.bound
+
+abbrev pub new_bound : Event → Change (Option CpuId)
+new_bound _ = Keep
+
+ran_bound : (ops : List Op) (b : ThreadBody) → (ran ops b).bound ≡ b.bound
+ran_bound ops b = by (leb b.run_left 1)
+  where
+    by : (v : Bool) → (cond v (op_over ops b) (record b { run_left = b.run_left - 1 })).bound ≡ b.bound
+    by true = refl
+    by false = refl
+
+sent_back_bound : (o : Option ℕ) (b : ThreadBody) → (sent_back o b).bound ≡ b.bound
+sent_back_bound None b = refl
+sent_back_bound (Some m) b = refl
+
+pub bound_after : (w : Work) (s : State) (n : ℕ) (c : CpuId) (e : Event) → IsCause s c.0 e → IsChanged (new_bound e) (bounds s) (bounds (after w s n c e))
+unfolding after ticked idled dispatched preempted ended
+bound_after w s n c (Tick t) cause =
+    same_by bound_of s t.0 _ (runs_inside s c.0 t.0 cause)
+    (sent_back_bound (tick_rival w s c.0 t.0) (ticked_body w t.0 (thread_of s t.0).body) ∙ ran_bound (script_of w t.0) (thread_of s t.0).body)
+bound_after w s n c (Dispatch t p) cause = same_by bound_of s t.0 _ (best_inside s c.0 (cpu_of s c.0).set.0 t.0 cause.1) refl
+bound_after w s n c (Preempt t end) cause = same_by bound_of s t.0 _ (runs_inside s c.0 t.0 cause.0) refl
+bound_after w s n c (Done t) cause = same_by bound_of s t.0 _ (runs_inside s c.0 t.0 cause) refl
+bound_after w s n c _ cause = λ u. refl

@@ -283,7 +283,7 @@ module _ (w : Work) (s : State) (n : ℕ) (c : CpuId) (fits : FitsWork w s) (her
   marked_after Idle cause = idle_marks cause
   marked_after (Dispatch t p) cause = by_processor (Dispatch t p) (dispatch_elsewhere t p cause) (dispatch_here t p cause)
   marked_after (Preempt t end) cause =
-      leaves (Preempt t end) t.0 _ cause cause (place_after w s n c (Preempt t end) cause) (queued_rests w t.0 c (end_key n end) (thread_of s t.0).body)
+      leaves (Preempt t end) t.0 _ cause cause.0 (place_after w s n c (Preempt t end) cause) (queued_rests w t.0 c (end_key n end) (thread_of s t.0).body)
       (queued_here w t.0 c (end_key n end) (thread_of s t.0).body) (priority_after w s n c (Preempt t end) cause) (mark_after w s n c (Preempt t end) inside cause)
   marked_after (Done t) cause =
       leaves (Done t) t.0 Ended cause cause (place_after w s n c (Done t) cause) (λ d. refl) (λ d other. refl) (priority_after w s n c (Done t) cause) (mark_after w s n c (Done t) inside cause)

@@ -1,12 +1,14 @@
 -- What is said of the states of every run, and the laws.
 -- Source: Solaris Internals (the dispatcher); the ranges of keys are this project's own.
-use Rattle.std.specs.Prelude.{◌≡◌, ℕ, ◌+◌, ◌<◌, Bool, true, false, ◌&&◌, ◌||◌, ◌==◌, nat_le, List, length, pos, neg_ℤ, ◌<ℤ◌, ◌≤ℤ◌, ◌≤◌, ⊤}
+use Rattle.std.specs.Prelude.{◌≡◌, ℕ, ◌+◌, ◌<◌, Bool, true, false, ◌&&◌, ◌||◌, ◌==◌, nat_le, List, length, take, pos, neg_ℤ, ◌<ℤ◌, ◌≤ℤ◌, ◌≤◌, ◌⊎◌, Option, Some, None, ⊤}
+use Rattle.sd_types.specs.declared.numbers.CpuId.{CpuId}
 use Rattle.sd_types.specs.declared.numbers.Side.{Side}
 use Rattle.sd_types.specs.declared.numbers.Side.TheVariants.{Writer, Reader}
 use Rattle.sd_types.specs.declared.events.Entry.{Entry}
 use Rattle.sd_types.specs.declared.works.ThreadDecl.{ThreadDecl}
 use Rattle.sd_types.specs.declared.works.Work.{Work}
 use Rattle.sd_types.specs.Priorities.{base_of, eff}
+use Rattle.sd_types.specs.Partitions.{cpus_of_set}
 use Rattle.sd_types.specs.Works.{class_fits}
 use Rattle.sd_machine.specs.declared.states.Place.{Place}
 use Rattle.sd_machine.specs.declared.states.Place.TheVariants.{Running, Queued, RealTime, Waiting, Asleep, Napping, Ended}
@@ -89,6 +91,16 @@ IsInItsSet w s t _ = ⊤
 abbrev pub EachInItsSet : Work → State → Type 0
 EachInItsSet w s = (t : ℕ) → t < length s.threads → IsInItsSet w s t (thread_of s t).place
 
+-- of priority p and bound to a processor or to none, a thread on a real-time queue has at least priority 100 and is not
+-- bound, and one on a processor's own queue has less, or is bound to that processor
+abbrev pub SuitsQueue : ℕ → Option CpuId → Place → Type 0
+SuitsQueue p bound (Queued c k) = (p < 100) ⊎ (bound ≡ Some c)
+SuitsQueue p bound (RealTime q k) = (100 ≤ p) × (bound ≡ None)
+SuitsQueue p bound _ = ⊤
+
+abbrev pub QueuesSuit : State → Type 0
+QueuesSuit s = (t : ℕ) → t < length s.threads → SuitsQueue (eff (thread_of s t).body) (thread_of s t).body.bound (thread_of s t).place
+
 -- the place is one of a processor, a set, a lock or a channel of the workload
 abbrev pub IsThere : Work → Place → Type 0
 IsThere w (Running c) = c.0 < w.cpus
@@ -113,3 +125,11 @@ OneNext =
 -- the threads that the opening puts on real-time queues are those of priority 100 or more
 abbrev pub UrgentThreads : Type 0
 UrgentThreads = (w : Work) (d : ThreadDecl) → class_fits d.class d.cpupri ≡ true → is_urgent d ≡ nat_le 100 (base_of (class_of w d))
+
+-- each partition of a workload has a processor
+abbrev pub PartitionsHaveCpus : Type 0
+PartitionsHaveCpus = (w : Work) (p : ℕ) → p ≤ length w.sets → 0 < length (cpus_of_set w p)
+
+-- the front of a run is a run, so that what holds after every run holds in each state of one
+abbrev pub FrontsAreRuns : Type 0
+FrontsAreRuns = (w : Work) (es : List Entry) (k : ℕ) → IsRun w es → IsRun w (take k es)

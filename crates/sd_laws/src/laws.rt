@@ -1,6 +1,6 @@
 //! The laws, each as the contract of a function without a body.
 
-ghost use Rattle.sd_laws.specs.Laws.{EachInItsSet, HoldsAfter, HoldsInRuns, KeysDiffer, KeysWithin, MarksStand, OneNext, OneRuns, PlacesAreThere, UrgentThreads};
+ghost use Rattle.sd_laws.specs.Laws.{EachInItsSet, FrontsAreRuns, HoldsAfter, HoldsInRuns, KeysDiffer, KeysWithin, MarksStand, OneNext, OneRuns, PartitionsHaveCpus, PlacesAreThere, QueuesSuit, UrgentThreads};
 
 /// At most one thread runs on each processor, in every state of every run.
 pub fn one_runs()
@@ -43,4 +43,20 @@ pub fn each_in_its_set()
 /// a lock or a channel that the workload has.
 pub fn places_are_there()
     ensures { HoldsInRuns (λ w s. PlacesAreThere w s) }
+{}
+
+/// A thread on a real-time queue has at least priority 100 and is not bound to a processor; one on a processor's
+/// own queue has less, or is bound to that processor.
+pub fn queues_suit()
+    ensures { HoldsInRuns (λ w s. QueuesSuit s) }
+{}
+
+/// Each partition of a workload, the default one too, has a processor.
+pub fn partitions_have_cpus()
+    ensures { PartitionsHaveCpus }
+{}
+
+/// The first entries of a run are a run. So what a law says of the state after every run it says of each state in one.
+pub fn fronts_are_runs()
+    ensures { FrontsAreRuns }
 {}

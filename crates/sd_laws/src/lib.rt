@@ -5,6 +5,6 @@
 mod laws;
 
 pub use laws::{
-    each_in_its_set, is_marked, keys_differ, keys_within, one_next, one_runs, places_are_there,
-    urgent_threads,
+    each_in_its_set, fronts_are_runs, is_marked, keys_differ, keys_within, one_next, one_runs,
+    partitions_have_cpus, places_are_there, queues_suit, urgent_threads,
 };
