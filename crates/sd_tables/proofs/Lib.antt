@@ -1,3 +1,6 @@
 pub mod DefaultLemmas
+pub mod RowLemmas
 pub mod SheetLemmas
+pub mod SpellLemmas
 pub mod TicksLemmas
+pub mod WriteLemmas

@@ -43,11 +43,15 @@ fixed_columns = quantum_column ∷ []
 abbrev pub ts_format : Format
 ts_format = record { columns = ts_columns; least = 60; most = 60 }
 
+-- the fixed-priority and the real-time class, by the greatest number of rows
+abbrev pub fixed_format : ℕ → Format
+fixed_format most = record { columns = fixed_columns; least = 60; most = most }
+
 abbrev pub fx_format : Format
-fx_format = record { columns = fixed_columns; least = 60; most = 61 }
+fx_format = fixed_format 61
 
 abbrev pub rt_format : Format
-rt_format = record { columns = fixed_columns; least = 60; most = 60 }
+rt_format = fixed_format 60
 
 -- ---- kinds of lines, a line being the list of its words
 

@@ -1,8 +1,8 @@
 //! The numbers of a table file, line after line.
 
-ghost use Rattle.std.specs.Prelude.{◌≡◌, ℕ, true, false, ◌+◌, ◌<◌, ◌≤◌, ◌^◌, ◌++◌, ◌∷◌, [], ◌||◌, List, Some, None, length, is_some, is_none, nat_lt, OnErr, OnOk, IfOk, IfErr};
+ghost use Rattle.std.specs.Prelude.{◌≡◌, ℕ, true, false, ◌+◌, ◌<◌, ◌≤◌, ◌^◌, ◌++◌, ◌∷◌, [], ◌||◌, List, Some, None, length, is_some, is_none, nat_lt, unwrap_or, OnErr, OnOk, IfSome, IfOk, IfErr};
 ghost use Rattle.sd_text.specs.Words.{words_of};
-ghost use Rattle.sd_tables.specs.TableText.{word_lines, AreClean};
+ghost use Rattle.sd_tables.specs.TableText.{word_lines, AreClean, is_unit};
 ghost use Rattle.sd_tables.specs.Sheets.{StandsFor, IsUnread};
 
 use crate::TableFault;
@@ -20,6 +20,14 @@ pub struct Sheet {
 
 impl Sheet {
     ghost use Rattle.sd_tables.specs.Sheets.{TakesLine};
+
+    /// The RES that a line gives, or 1000.
+    pub fn res(&self) -> u64
+        ensures value { result ≡ unwrap_or self.now.res 1000 }
+        ensures unit { IfSome self.now.res (λ n. is_unit n ≡ true) → is_unit result ≡ true }
+    {
+        self.res.unwrap_or(1000)
+    }
 
     // Takes in a line that begins with `RES=`, with the RES that it gives.
     fn take_res(&mut self, res: Option<u64>, number: u32) -> Result<(), TableFault>
