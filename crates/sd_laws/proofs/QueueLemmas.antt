@@ -11,7 +11,7 @@ use Rattle.sd_types.specs.declared.works.Work.{Work}
 use Rattle.sd_types.specs.Priorities.{eff, base_of}
 use Rattle.sd_types.specs.Works.{class_fits}
 use Rattle.sd_machine.specs.declared.states.Place.{Place}
-use Rattle.sd_machine.specs.declared.states.Place.TheVariants.{Running, Queued, RealTime}
+use Rattle.sd_machine.specs.declared.states.Place.TheVariants.{Ended, Running, Queued, RealTime}
 use Rattle.sd_machine.specs.declared.states.ThreadState.{ThreadState}
 use Rattle.sd_machine.specs.declared.states.State.{State}
 use Rattle.sd_machine.specs.States.{thread_of, is_running}
@@ -20,7 +20,7 @@ use Rattle.sd_machine.specs.Machine.{after}
 use Rattle.sd_machine.specs.Opening.{opening, first_thread, first_cpu, is_urgent, class_of}
 use Rattle.sd_laws.specs.Laws.{HoldsInRuns, SuitsQueue, QueuesSuit}
 use Rattle.sd_laws.proofs.Causes.{IsCause, caused}
-use Rattle.sd_laws.proofs.Changes.{Change, Keep, Put, IsChanged, move, new_priority, bounds, place_after, priority_after, bound_after}
+use Rattle.sd_laws.proofs.Changes.{Change, Keep, Put, IsPut, IsChanged, move, new_priority, bounds, place_after, priority_after, bound_after}
 use Rattle.sd_laws.proofs.Chosen.{places, priorities, runs_there}
 use Rattle.sd_laws.proofs.ClassLemmas.{urgent_law}
 use Rattle.sd_laws.proofs.Declared.{decl_class_fits, opening_at, opening_past}
@@ -54,25 +54,34 @@ place_suits w t c key b free = by (leb 100 (eff b)) refl
     by true e = subst (λ v. SuitsQueue (eff b) b.bound (cond v (RealTime (thread_set w t) key) (Queued c key))) (sym (ap (λ v. v && is_none b.bound) e ∙ free)) (leb-true 100 (eff b) e, free_is b.bound free)
     by false e = subst (λ v. SuitsQueue (eff b) b.bound (cond v (RealTime (thread_set w t) key) (Queued c key))) (sym (ap (λ v. v && is_none b.bound) e)) (inl (leb-false 100 (eff b) e))
 
+module _ (s s' : State) where
+  -- a thread that moves suits its queue where it suits the place to which it goes
+  put_suits : (u : ℕ) (p : Place) → IsPut u p (places s) (places s') → SuitsQueue (priorities s' u) (bounds s' u) p → (t : ℕ) → (eqb u t || false) ≡ true
+      → SuitsQueue (priorities s' t) (bounds s' t) (places s' t)
+  put_suits u p put suits t touched = elim (or_cases (eqb u t) false touched) [
+    | inl is ↦ subst (λ k. SuitsQueue (priorities s' k) (bounds s' k) (places s' k)) (eqb-true u t is) (subst (SuitsQueue (priorities s' u) (bounds s' u)) (sym put.at) suits)
+    | inr other ↦ absurd (false≢true other)
+  ]
+
+  -- and it does so where it kept its priority and its processor, and suited that place with them
+  same_suits : (u : ℕ) (p : Place) → priorities s' u ≡ priorities s u → bounds s' u ≡ bounds s u → SuitsQueue (priorities s u) (bounds s u) p → SuitsQueue (priorities s' u) (bounds s' u) p
+  same_suits u p priority bound suits = subst (λ k. SuitsQueue k (bounds s' u) p) (sym priority) (subst (λ o. SuitsQueue (priorities s u) o p) (sym bound) suits)
+
 -- a thread that an event concerns is afterwards where it suits
 touched_suits : (w : Work) (s : State) (n : ℕ) (c : CpuId) (e : Event) → IsCause s c.0 e → (t : ℕ) → (touches (move w s n c e) t || touches (new_priority w s e) t) ≡ true
     → SuitsQueue (priorities (after w s n c e) t) (bounds (after w s n c e) t) (places (after w s n c e) t)
 touched_suits w s n c (Tick u) cause t touched =
-    let is = eqb-true u.0 t touched in
-    running_suits c.0 _ _ (places (after w s n c (Tick u)) t) (ap (is_running c.0) (place_after w s n c (Tick u) cause t) ∙ ap (λ k. is_running c.0 (places s k)) (sym is) ∙ runs_there s c.0 u.0 cause)
-touched_suits w s n c (Dispatch u p) cause t touched =
-    let is : u.0 ≡ t = elim (or_cases (eqb u.0 t) false touched) [ inl same ↦ eqb-true u.0 t same | inr other ↦ absurd (false≢true other) ] in
-    subst (SuitsQueue (priorities (after w s n c (Dispatch u p)) t) (bounds (after w s n c (Dispatch u p)) t)) (sym (ap (places (after w s n c (Dispatch u p))) (sym is) ∙ (place_after w s n c (Dispatch u p) cause).at)) tt
+    let is : t ≡ u.0 = sym (eqb-true u.0 t touched) in
+    running_suits c.0 _ _ (places (after w s n c (Tick u)) t) (ap (is_running c.0) (place_after w s n c (Tick u) cause t ∙ ap (places s) is) ∙ runs_there s c.0 u.0 cause)
+touched_suits w s n c (Dispatch u p) cause t touched = put_suits s (after w s n c (Dispatch u p)) u.0 (Running c) (place_after w s n c (Dispatch u p) cause) tt t touched
 touched_suits w s n c (Preempt u end) cause t touched =
-    let is : u.0 ≡ t = elim (or_cases (eqb u.0 t) false touched) [ inl same ↦ eqb-true u.0 t same | inr other ↦ absurd (false≢true other) ] in
-    subst (λ k. SuitsQueue (priorities (after w s n c (Preempt u end)) k) (bounds (after w s n c (Preempt u end)) k) (places (after w s n c (Preempt u end)) k)) is
-    (subst (SuitsQueue (priorities (after w s n c (Preempt u end)) u.0) (bounds (after w s n c (Preempt u end)) u.0)) (sym (place_after w s n c (Preempt u end) cause).at)
-    (subst (λ p. SuitsQueue p (bounds (after w s n c (Preempt u end)) u.0) (queue_place w u.0 c (end_key n end) (thread_of s u.0).body)) (sym (priority_after w s n c (Preempt u end) cause u.0))
-    (subst (λ o. SuitsQueue (priorities s u.0) o (queue_place w u.0 c (end_key n end) (thread_of s u.0).body)) (sym (bound_after w s n c (Preempt u end) cause u.0))
-    (place_suits w u.0 c (end_key n end) (thread_of s u.0).body cause.1))))
-touched_suits w s n c (Done u) cause t touched =
-    let is : u.0 ≡ t = elim (or_cases (eqb u.0 t) false touched) [ inl same ↦ eqb-true u.0 t same | inr other ↦ absurd (false≢true other) ] in
-    subst (SuitsQueue (priorities (after w s n c (Done u)) t) (bounds (after w s n c (Done u)) t)) (sym (ap (places (after w s n c (Done u))) (sym is) ∙ (place_after w s n c (Done u) cause).at)) tt
+    let put = place_after w s n c (Preempt u end) cause in
+    let place = queue_place w u.0 c (end_key n end) (thread_of s u.0).body in
+    put_suits s (after w s n c (Preempt u end)) u.0 place put
+    (same_suits s (after w s n c (Preempt u end)) u.0 place (priority_after w s n c (Preempt u end) cause u.0) (bound_after w s n c (Preempt u end) cause u.0)
+    (place_suits w u.0 c (end_key n end) (thread_of s u.0).body cause.1))
+    t touched
+touched_suits w s n c (Done u) cause t touched = put_suits s (after w s n c (Done u)) u.0 Ended (place_after w s n c (Done u) cause) tt t touched
 touched_suits w s n c _ cause t touched = absurd (false≢true touched)
 
 suits_after : (w : Work) (s : State) (n : ℕ) (c : CpuId) (e : Event) → IsCause s c.0 e → SuitAt s → (t : ℕ) → SuitsQueue (priorities (after w s n c e) t) (bounds (after w s n c e) t) (places (after w s n c e) t)
