@@ -29,13 +29,17 @@ abbrev pub IsCause : State → ℕ → Event → Type 0
 IsCause s c (Tick t) = Runs s c t.0
 IsCause s c Idle = IsFree s c None
 IsCause s c (Dispatch t p) = IsFree s c (Some t.0)
-IsCause s c (Preempt t end) = Runs s c t.0
+IsCause s c (Preempt t end) = Runs s c t.0 × (is_none (thread_of s t.0).body.bound ≡ true)
 IsCause s c (Done t) = Runs s c t.0
 IsCause s c _ = ⊥
 
 module _ (w : Work) (s : State) where
   leave_cause : (c t : ℕ) → Runs s c t → IfSome (leave_event t (thread_of s t).body) (IsCause s c)
-  leave_cause c t r = elim (is_none (thread_of s t).body.bound) as (λ v. IfSome (cond v (Some (Preempt (thread_id t) (end_of (thread_of s t).body.back))) None) (IsCause s c)) [ true ↦ r | false ↦ tt ]
+  leave_cause c t r = by (is_none (thread_of s t).body.bound) refl
+    where
+      by : (v : Bool) → is_none (thread_of s t).body.bound ≡ v → IfSome (cond v (Some (Preempt (thread_id t) (end_of (thread_of s t).body.back))) None) (IsCause s c)
+      by true e = (r, e)
+      by false e = tt
 
   op_cause : (c t : ℕ) (o : Option Op) → Runs s c t → IfSome (op_event t (thread_of s t).body o) (IsCause s c)
   op_cause c t None r = r

@@ -1,5 +1,6 @@
 -- What holds at the opening and is kept by every step holds in the states of every run.
-use Rattle.std.proofs.Common.{◌≡◌, ℕ, ◌+◌, List, [], ◌∷◌, length, take, Option, Some, subst, sym, arith}
+use Rattle.std.proofs.lemmas.List.{length-take-le}
+use Rattle.std.proofs.Common.{◌≤◌, ◌≡◌, ℕ, ◌+◌, List, [], ◌∷◌, length, take, Option, Some, subst, sym, arith}
 use Rattle.sd_types.specs.declared.numbers.CpuId.{CpuId}
 use Rattle.sd_types.specs.declared.events.Event.{Event}
 use Rattle.sd_types.specs.declared.events.Hints.{Hints}
@@ -41,3 +42,7 @@ run_front w es k r = from-IsRun w (take k es) (IsRunFrom-take w (opening w) 0 k 
 -- a law holds in every state of a run
 pub in_states : (P : Work → State → Type 0) → HoldsInRuns P → (w : Work) (es : List Entry) → IsRun w es → (k : ℕ) → P w (state_at w es k)
 in_states P law w es r k = law w (take k es) (run_front w es k r)
+
+-- and one that speaks of the number of entries
+pub after_states : (P : Work → ℕ → State → Type 0) → HoldsAfter P → (w : Work) (es : List Entry) → IsRun w es → (k : ℕ) → k ≤ length es → P w k (state_at w es k)
+after_states P law w es r k h = subst (λ m. P w m (state_at w es k)) (length-take-le k es h) (law w (take k es) (run_front w es k r))

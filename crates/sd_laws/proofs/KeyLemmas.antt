@@ -1,5 +1,5 @@
 -- Keys in one queue differ, since the key of a thread that is put on one after n entries was not in use before.
-use Rattle.std.proofs.Common.{◌≡◌, ◌≢◌, ℕ, zero, suc, ◌+◌, ◌<◌, ◌≤◌, Bool, true, false, cond, ◌&&◌, ◌||◌, leb, List, [], ◌∷◌, length, get_or, is_none, ℤ, pos, negsuc, neg_ℤ, ◌<ℤ◌, ◌≤ℤ◌, ◌⊎◌, refl, sym, ap, ◌∙◌, subst, inl, inr, arith}
+use Rattle.std.proofs.Common.{◌≡◌, ◌≢◌, ℕ, ◌+◌, ◌<◌, Bool, true, false, cond, ◌&&◌, leb, length, is_none, ℤ, pos, negsuc, neg_ℤ, ◌<ℤ◌, ◌≤ℤ◌, ◌⊎◌, refl, sym, ap, ◌∙◌, subst, inl, inr, arith}
 use Rattle.std.proofs.lemmas.Bool.{false≢true, cases_eq}
 use Rattle.std.proofs.lemmas.Int.{ints}
 use Rattle.sd_types.specs.declared.numbers.CpuId.{CpuId}
@@ -9,7 +9,6 @@ use Rattle.sd_types.specs.declared.events.End.TheVariants.{Front, Back}
 use Rattle.sd_types.specs.declared.events.Event.{Event}
 use Rattle.sd_types.specs.declared.events.Event.TheVariants.{Preempt}
 use Rattle.sd_types.specs.declared.works.Work.{Work}
-use Rattle.sd_types.specs.declared.works.ThreadDecl.{ThreadDecl}
 use Rattle.sd_types.specs.Priorities.{eff}
 use Rattle.sd_machine.specs.declared.states.Place.{Place}
 use Rattle.sd_machine.specs.declared.states.Place.TheVariants.{Queued, RealTime, Waiting, Asleep}
@@ -19,8 +18,9 @@ use Rattle.sd_machine.specs.Dispatching.{queue_place, end_key, thread_set}
 use Rattle.sd_machine.specs.Machine.{after}
 use Rattle.sd_machine.specs.Opening.{opening}
 use Rattle.sd_laws.specs.Laws.{has_key, same_queue, KeysDiffer, KeysWithin, HoldsInRuns, HoldsAfter}
-use Rattle.sd_laws.proofs.Causes.{IsCause, caused}
-use Rattle.sd_laws.proofs.Changes.{Change, Keep, Put, IsPut, IsChanged, places, move, place_after}
+use Rattle.sd_laws.proofs.Causes.{caused}
+use Rattle.sd_laws.proofs.Changes.{Change, Keep, Put, IsPut, IsChanged, move, place_after}
+use Rattle.sd_laws.proofs.Chosen.{places}
 use Rattle.sd_laws.proofs.Openings.{opening_key}
 use Rattle.sd_laws.proofs.Induction.{IsKept, after_runs}
 
@@ -86,33 +86,36 @@ module _ (n : ℕ) (f g : ℕ → Place) (t : ℕ) (p : Place) (new : GivesNew n
 
   put_within : (v : ℕ) → has_key (g v) ≡ true → IsWithin (n + 1) (key_of (g v))
   put_within v has = elim (cases_eq t v) [
-      inl is ↦
+    | inl is ↦
         let here : g v ≡ p = ap g (sym is) ∙ put.at in
         new_within n (key_of (g v)) (subst (λ q. IsNew n (key_of q)) (sym here) (new (ap has_key (sym here) ∙ has)))
-    | inr other ↦ more_within n (key_of (g v)) (subst (λ q. IsWithin n (key_of q)) (sym (was v other)) (keys.within v (ap has_key (sym (was v other)) ∙ has))) ]
+    | inr other ↦ more_within n (key_of (g v)) (subst (λ q. IsWithin n (key_of q)) (sym (was v other)) (keys.within v (ap has_key (sym (was v other)) ∙ has)))
+  ]
 
   -- no other thread in the queue has the new key
   put_apart : (v u : ℕ) → t ≡ v → t ≢ u → has_key (g v) ≡ true → has_key (g u) ≡ true → key_of (g v) ≡ key_of (g u) → ⊥
   put_apart v u is other has too same =
       let here : g v ≡ p = ap g (sym is) ∙ put.at in
       new_differs n (key_of p) (key_of (f u)) (new (ap has_key (sym here) ∙ has)) (keys.within u (ap has_key (sym (was u other)) ∙ too))
-        (ap key_of (sym here) ∙ same ∙ ap key_of (was u other))
+      (ap key_of (sym here) ∙ same ∙ ap key_of (was u other))
 
   put_differ : (v u : ℕ) → same_queue (g v) (g u) ≡ true → key_of (g v) ≡ key_of (g u) → v ≡ u
   put_differ v u queue same =
       let has = first_has_key (g v) (g u) queue in
       let too = second_has_key (g v) (g u) queue in
       elim (cases_eq t v) [
-        inl is ↦ elim (cases_eq t u) [ inl at ↦ sym is ∙ at | inr other ↦ absurd (put_apart v u is other has too same) ]
-      | inr other ↦ elim (cases_eq t u) [
-          inl at ↦ absurd (put_apart u v at other too has (sym same))
-        | inr apart ↦ keys.differ v u (subst (λ q. same_queue q (f u) ≡ true) (was v other) (subst (λ q. same_queue (g v) q ≡ true) (was u apart) queue))
-            (ap key_of (sym (was v other)) ∙ same ∙ ap key_of (was u apart)) ] ]
+        | inl is ↦ elim (cases_eq t u) [ inl at ↦ sym is ∙ at | inr other ↦ absurd (put_apart v u is other has too same) ]
+        | inr other ↦ elim (cases_eq t u) [
+          | inl at ↦ absurd (put_apart u v at other too has (sym same))
+          | inr apart ↦ keys.differ v u (subst (λ q. same_queue q (f u) ≡ true) (was v other) (subst (λ q. same_queue (g v) q ≡ true) (was u apart) queue))
+              (ap key_of (sym (was v other)) ∙ same ∙ ap key_of (was u apart))
+        ]
+      ]
 
 keys_after : (n : ℕ) (f g : ℕ → Place) (m : Change Place) → GivesNew n m → KeysAt n f → IsChanged m f g → KeysAt (n + 1) g
 keys_after n f g Keep new keys same = record {
   within = λ t has. more_within n (key_of (g t)) (subst (λ q. IsWithin n (key_of q)) (sym (same t)) (keys.within t (ap has_key (sym (same t)) ∙ has)));
-  differ = λ t u queue e. keys.differ t u (subst (λ q. same_queue q (f u) ≡ true) (same t) (subst (λ q. same_queue (g t) q ≡ true) (same u) queue)) (ap key_of (sym (same t)) ∙ e ∙ ap key_of (same u))
+  differ = λ t u queue e. keys.differ t u (subst (λ q. same_queue q (f u) ≡ true) (same t) (subst (λ q. same_queue (g t) q ≡ true) (same u) queue)) (ap key_of (sym (same t)) ∙ e ∙ ap key_of (same u));
 }
 keys_after n f g (Put t p) new keys put = record { within = put_within n f g t p new keys put; differ = put_differ n f g t p new keys put }
 
@@ -135,18 +138,18 @@ first_keys : (w : Work) → KeysAt 0 (places (opening w))
 first_keys w = record {
   within = λ t has. let key = opening_key w t has in first_within w t _ key.0 key.1;
   differ = λ t u queue same.
-    let one = opening_key w t (first_has_key (places (opening w) t) (places (opening w) u) queue) in
-    let other = opening_key w u (second_has_key (places (opening w) t) (places (opening w) u) queue) in
-    let e : pos t ≡ pos u = sym one.1 ∙ same ∙ other.1 in
-    cc
+      let one = opening_key w t (first_has_key (places (opening w) t) (places (opening w) u) queue) in
+      let other = opening_key w u (second_has_key (places (opening w) t) (places (opening w) u) queue) in
+      let e : pos t ≡ pos u = sym one.1 ∙ same ∙ other.1 in
+      cc;
 }
 
 pub keys_kept : IsKept (λ w n s. KeysAt n (places s))
 keys_kept = record {
   start = first_keys;
   step = λ w s n c hints e step keys.
-    let cause = (caused w s c hints e step).1 in
-    keys_after n (places s) (places (after w s n c e)) (move w s n c e) (gives_new w s n c e) keys (place_after w s n c e cause)
+      let cause = (caused w s c hints e step).1 in
+      keys_after n (places s) (places (after w s n c e)) (move w s n c e) (gives_new w s n c e) keys (place_after w s n c e cause);
 }
 
 pub keys_at_runs : HoldsAfter (λ w n s. KeysAt n (places s))

@@ -1,12 +1,15 @@
 -- The opening, thread by thread and processor by processor.
-use Rattle.std.proofs.Common.{◌≡◌, ℕ, zero, suc, ◌+◌, ◌<◌, Bool, true, false, List, [], ◌∷◌, length, get_or, cond, ℤ, pos, refl, ap, ◌∙◌, arith}
-use Rattle.std.proofs.lemmas.Bool.{false≢true}
+use Rattle.std.proofs.Common.{◌≡◌, ℕ, zero, suc, ◌+◌, ◌<◌, true, false, List, [], ◌∷◌, length, get_or, cond, map, inl, inr, pos, refl, ap, ◌∙◌, arith}
+use Rattle.std.proofs.lemmas.Bool.{false≢true, cases_lt}
+use Rattle.std.specs.List.{range_with_len}
+use Rattle.std.proofs.lemmas.List.{get_or_past}
+use Rattle.std.proofs.lemmas.List.FromFn.{get_or-map-range_with_len, length-map-range_with_len}
 use Rattle.sd_types.specs.declared.works.ThreadDecl.{ThreadDecl}
 use Rattle.sd_types.specs.declared.works.Work.{Work}
 use Rattle.sd_machine.specs.declared.states.Place.TheVariants.{Queued, RealTime}
-use Rattle.sd_machine.specs.States.{no_thread, is_running, key_of, thread_of}
-use Rattle.sd_machine.specs.Opening.{first_thread, first_threads, first_cpu, is_urgent, opening}
-use Rattle.sd_laws.specs.Laws.{has_key}
+use Rattle.sd_machine.specs.States.{no_thread, no_cpu, cpu_of, is_running, key_of, thread_of}
+use Rattle.sd_machine.specs.Opening.{first_thread, first_threads, first_cpu, first_cpu_state, is_urgent, opening}
+use Rattle.sd_laws.specs.Laws.{has_key, is_marked}
 
 first_not_running : (w : Work) (k : ℕ) (d : ThreadDecl) (c : ℕ) → is_running c (first_thread w k d).place ≡ false
 unfolding first_thread
@@ -40,3 +43,15 @@ unfolding opening
 opening_key w t has =
     let key = number_key w 0 w.threads t has in
     (key.0, key.1 ∙ ap pos (let e : 0 + t ≡ t = omega arith in e))
+
+first_unmarked : (w : Work) (c : ℕ) → is_marked (first_cpu_state w c) ≡ false
+unfolding first_cpu_state
+first_unmarked w c = refl
+
+-- no processor is marked at the opening
+pub opening_unmarked : (w : Work) (c : ℕ) → is_marked (cpu_of (opening w) c) ≡ false
+unfolding opening
+opening_unmarked w c = elim (cases_lt c w.cpus) [
+  | inl here ↦ ap is_marked (get_or-map-range_with_len (first_cpu_state w) 0 w.cpus c c no_cpu here (omega arith)) ∙ first_unmarked w c
+  | inr past ↦ ap is_marked (get_or_past (map (first_cpu_state w) (range_with_len 0 w.cpus)) c no_cpu (let e = length-map-range_with_len (first_cpu_state w) 0 w.cpus in omega arith))
+]

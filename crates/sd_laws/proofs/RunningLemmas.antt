@@ -15,7 +15,8 @@ use Rattle.sd_types.specs.declared.bodies.ThreadBody.{ThreadBody}
 use Rattle.sd_types.specs.Priorities.{eff}
 use Rattle.sd_laws.specs.Laws.{OneRuns, HoldsInRuns}
 use Rattle.sd_laws.proofs.Causes.{IsCause, caused}
-use Rattle.sd_laws.proofs.Changes.{Change, Keep, Put, IsPut, IsChanged, places, move, place_after, runs_none}
+use Rattle.sd_laws.proofs.Changes.{Change, Keep, Put, IsPut, IsChanged, move, place_after}
+use Rattle.sd_laws.proofs.Chosen.{places, runs_none}
 use Rattle.sd_laws.proofs.Openings.{opening_runs_none}
 use Rattle.sd_laws.proofs.Induction.{IsKept, in_runs}
 
@@ -63,12 +64,15 @@ has_room w s n c (Dispatch t p) cause d here u = ap (λ k. is_running k (places 
 has_room w s n c (Preempt t end) cause d here u = absurd (false≢true (sym (queued_rests w t.0 c (end_key n end) (thread_of s t.0).body d) ∙ here))
 has_room w s n c _ cause d here u = absurd (false≢true here)
 
+-- a step keeps it
+pub one_runs_step : (w : Work) (s : State) (n : ℕ) (c : CpuId) (e : Event) → IsCause s c.0 e → OneRunsAt (places s) → OneRunsAt (places (after w s n c e))
+one_runs_step w s n c e cause one =
+    one_after (places s) (places (after w s n c e)) (move w s n c e) (has_room w s n c e cause) one (place_after w s n c e cause)
+
 one_runs_kept : IsKept (λ w n s. OneRunsAt (places s))
 one_runs_kept = record {
   start = λ w. record { same = λ t u c rt ru. absurd (false≢true (sym (opening_runs_none w t c) ∙ rt)) };
-  step = λ w s n c hints e step one.
-      let cause = (caused w s c hints e step).1 in
-      one_after (places s) (places (after w s n c e)) (move w s n c e) (has_room w s n c e cause) one (place_after w s n c e cause);
+  step = λ w s n c hints e step one. one_runs_step w s n c e (caused w s c hints e step).1 one;
 }
 
 -- the same of the numbers that no thread has, whose place is that of an ended one

@@ -4,4 +4,7 @@
 
 mod laws;
 
-pub use laws::{keys_differ, keys_within, one_next, one_runs, urgent_threads};
+pub use laws::{
+    each_in_its_set, fronts_are_runs, is_marked, keys_differ, keys_within, one_next, one_runs,
+    partitions_have_cpus, places_are_there, queues_suit, urgent_threads,
+};
