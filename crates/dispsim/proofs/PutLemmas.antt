@@ -29,8 +29,9 @@ module _ (a b c : Option (List ℕ)) where
   pub part_more : (xs ys : List ℕ) → AppendsPart a b xs → AppendsPart a b (xs ++ ys)
   part_more xs ys (n, p) =
       elim (cases_lt n (length xs)) [
-        inl less ↦ (n, subst (Appends a b) (sym (take-append-le n xs ys (let l : n ≤ length xs = omega arith in l))) p)
-      | inr more ↦ (length xs, subst (Appends a b) (take_all n xs more ∙ sym (append-nil xs) ∙ sym (take_past xs ys 0) ∙ ap (λ k. take k (xs ++ ys)) (let z : length xs + 0 ≡ length xs = omega arith in z)) p) ]
+        | inl less ↦ (n, subst (Appends a b) (sym (take-append-le n xs ys (let l : n ≤ length xs = omega arith in l))) p)
+        | inr more ↦ (length xs, subst (Appends a b) (take_all n xs more ∙ sym (append-nil xs) ∙ sym (take_past xs ys 0) ∙ ap (λ k. take k (xs ++ ys)) (let z : length xs + 0 ≡ length xs = omega arith in z)) p)
+      ]
 
 -- what rose later has risen
 risen_later : (f g h : ℕ) → f ≤ g → HasRisen g h → HasRisen f h
@@ -42,13 +43,13 @@ module _ (a b c : Option (List ℕ)) (f g h : ℕ) (xs ys : List ℕ) where
     never_falls = let m = p.never_falls in let n = q.never_falls in omega arith;
     ok = Appends-trans a b c xs ys p.ok q.ok;
     risen = λ e. cc;
-    part = tt
+    part = tt;
   }
   after_ok (Err e) p q = record {
     never_falls = let m = p.never_falls in let n = q.never_falls in omega arith;
     ok = tt;
     risen = λ is. risen_later f g h p.never_falls (q.risen is);
-    part = part_after a b c xs ys p.ok q.part
+    part = part_after a b c xs ys p.ok q.part;
   }
 
   -- a text written, and then another
@@ -85,10 +86,10 @@ module _ {X : Type 0} (line : X → List ℕ) where
         → Puts a c f h (flat_map line xs) (Err e)
     Puts-line_err e l p q =
         let whole : (flat_map line (take i xs) ++ line (get_or xs i d)) ++ flat_map line (drop (i + 1) xs) ≡ flat_map line xs =
-            ap (λ (ys : List ℕ). ys ++ flat_map line (drop (i + 1) xs)) (sym (lines_more xs i d l)) ∙ sym (lines_split xs (i + 1)) in
+        ap (λ (ys : List ℕ). ys ++ flat_map line (drop (i + 1) xs)) (sym (lines_more xs i d l)) ∙ sym (lines_split xs (i + 1)) in
         subst (λ t. Puts a c f h t (Err e)) whole
-          (Puts-err a c c f h h (flat_map line (take i xs) ++ line (get_or xs i d)) (flat_map line (drop (i + 1) xs)) e
-            (Puts-then a b c f g h (flat_map line (take i xs)) (line (get_or xs i d)) (Err e) p q))
+        (Puts-err a c c f h h (flat_map line (take i xs) ++ line (get_or xs i d)) (flat_map line (drop (i + 1) xs)) e
+        (Puts-then a b c f g h (flat_map line (take i xs)) (line (get_or xs i d)) (Err e) p q))
 
   -- the same of an element that was read
   module _ (a b c : Option (List ℕ)) (f g h : ℕ) (xs : List X) (i : ℕ) (x : X) (is : x ≡ get_or xs i x) where

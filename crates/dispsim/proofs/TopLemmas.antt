@@ -64,7 +64,7 @@ completes_of words input out TooLong c = λ run sound told bytes w is short acce
 pub told_whole : (err : End) (a : Answer) → Appends err.before err.after (line_of a) → Tells err a
 told_whole err a p = record {
   part = (length (line_of a), subst (Appends err.before err.after) (sym (take_all (length (line_of a)) (line_of a) (let e : length (line_of a) ≤ length (line_of a) = omega arith in e))) p);
-  whole = λ _. p
+  whole = λ _. p;
 }
 
 -- a line of which a front was written before a fault
@@ -86,7 +86,7 @@ pub told_of : (err : End) (a : Answer) (line : List ℕ) (r : Result (Unit {0}) 
     → OnErr r ((n : ℕ) × (n < length line) × Appends err.before err.after (take n line)) → Tells err a
 told_of err a line r is whole risen part =
     told_by err a r (subst (λ (bs : List ℕ). OnOk r (Appends err.before err.after bs)) is whole) risen
-      (subst (λ (bs : List ℕ). OnErr r (AppendsPart err.before err.after bs)) is (fewer err.before err.after line r part))
+    (subst (λ (bs : List ℕ). OnErr r (AppendsPart err.before err.after bs)) is (fewer err.before err.after line r part))
 
 -- the bytes of an input, judged
 pub reading_of : (input : End) (bytes : List ℕ) (r : Result Work Answer) → HasRead input bytes → IsJudged bytes r → IsReading input r

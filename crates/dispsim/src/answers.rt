@@ -47,7 +47,8 @@ impl Answer {
     {
         match self {
             Answer::Done => b"",
-            Answer::Usage => b"usage: dispsim run | run --seed N | run --threads | sum | gen N | tables | audit\n",
+            Answer::Usage =>
+                b"usage: dispsim run | run --seed N | run --threads | sum | gen N | tables | audit\n",
             Answer::TooLarge => b"refused: input larger than 1048576 bytes\n",
             Answer::NotBuilt => b"refused: not built\n",
             Answer::ReadFault => b"read fault\n",

@@ -1,8 +1,7 @@
 //! What is called once in each turn of a processor.
 
-use std::marker::Sync;
-
 use sd_types::CpuId;
+use std::marker::Sync;
 
 /// A gate is passed once in each turn of a processor, whose turns are counted from 0. It changes no state of the
 /// machine. The runs in rounds pass no gate yet.

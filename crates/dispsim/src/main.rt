@@ -5,11 +5,10 @@ mod answers;
 mod forms;
 mod gates;
 mod running;
-mod top;
-mod writing;
-
 #[cfg(test)]
 mod tests;
+mod top;
+mod writing;
 
 use gates::OpenGate;
 use sd_text::{StdSink, StdSource};
@@ -35,5 +34,13 @@ fn main(rt: HostRuntime) -> ExitCode {
     let mut input = StdSource::new(rt.stdin());
     let mut out = StdSink::new(rt.stdout());
     let mut err = StdSink::new(rt.stderr());
-    ExitCode::from(dispsim(&rt, rt.alloc(), &words, &mut input, &mut out, &mut err, &OpenGate))
+    ExitCode::from(dispsim(
+        &rt,
+        rt.alloc(),
+        &words,
+        &mut input,
+        &mut out,
+        &mut err,
+        &OpenGate,
+    ))
 }

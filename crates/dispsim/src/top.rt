@@ -70,7 +70,12 @@ fn run_input<S: Source, K: Sink>(alloc: Global, input: &mut S, out: &mut K) -> A
 }
 
 /// Does what the words ask for.
-fn carry_out<S: Source, K: Sink>(alloc: Global, words: &[String], input: &mut S, out: &mut K) -> Answer
+fn carry_out<S: Source, K: Sink>(
+    alloc: Global,
+    words: &[String],
+    input: &mut S,
+    out: &mut K,
+) -> Answer
     ensures { Caused (map string_bytes words.now)
         (end_of (S.remaining input.old) (S.remaining input.new) (S.fault_count input.old) (S.fault_count input.new))
         (end_of (K.contents out.old) (K.contents out.new) (K.fault_count out.old) (K.fault_count out.new))
@@ -90,7 +95,14 @@ fn carry_out<S: Source, K: Sink>(alloc: Global, words: &[String], input: &mut S,
 /// accounts of its entries. The other statuses are 1 (the words are none that the program knows), 2 (the input is
 /// too large, or no workload that is built), 3 (a read failed), 4 (a write failed), 5 (out of memory) and 8 (the run
 /// has 2^40 entries or more); each leaves one line on `err`.
-pub fn serial<S: Source, K: Sink, E: Sink, G: Gate>(alloc: Global, words: &[String], input: &mut S, out: &mut K, err: &mut E, _gate: &G) -> u8
+pub fn serial<S: Source, K: Sink, E: Sink, G: Gate>(
+    alloc: Global,
+    words: &[String],
+    input: &mut S,
+    out: &mut K,
+    err: &mut E,
+    _gate: &G,
+) -> u8
     ensures answered { IsAnswered (map string_bytes words.now)
         (end_of (S.remaining input.old) (S.remaining input.new) (S.fault_count input.old) (S.fault_count input.new))
         (end_of (K.contents out.old) (K.contents out.new) (K.fault_count out.old) (K.fault_count out.new))

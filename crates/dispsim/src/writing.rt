@@ -31,7 +31,12 @@ fn put_line<K: Sink>(out: &mut K, line: &[u8]) -> Result<(), Unwritten>
 }
 
 /// Writes the line of an entry.
-fn put_entry<K: Sink>(alloc: Global, work: &Work, entry: &Entry, out: &mut K) -> Result<(), Unwritten>
+fn put_entry<K: Sink>(
+    alloc: Global,
+    work: &Work,
+    entry: &Entry,
+    out: &mut K,
+) -> Result<(), Unwritten>
     ensures { Puts (K.contents out.old) (K.contents out.new) (K.fault_count out.old) (K.fault_count out.new)
         (entry_text work.now entry.now) result }
 {
@@ -43,7 +48,12 @@ fn put_entry<K: Sink>(alloc: Global, work: &Work, entry: &Entry, out: &mut K) ->
 }
 
 /// Writes the entries in order.
-fn put_entries<K: Sink>(alloc: Global, work: &Work, entries: &[Entry], out: &mut K) -> Result<(), Unwritten>
+fn put_entries<K: Sink>(
+    alloc: Global,
+    work: &Work,
+    entries: &[Entry],
+    out: &mut K,
+) -> Result<(), Unwritten>
     ensures { Puts (K.contents out.old) (K.contents out.new) (K.fault_count out.old) (K.fault_count out.new)
         (entries_text work.now entries.now) result }
 {
@@ -56,7 +66,14 @@ fn put_entries<K: Sink>(alloc: Global, work: &Work, entries: &[Entry], out: &mut
 }
 
 /// Writes the line of a thread's account.
-fn put_thread<K: Sink>(alloc: Global, work: &Work, entries: &[Entry], s: &State, t: usize, out: &mut K) -> Result<(), Unwritten>
+fn put_thread<K: Sink>(
+    alloc: Global,
+    work: &Work,
+    entries: &[Entry],
+    s: &State,
+    t: usize,
+    out: &mut K,
+) -> Result<(), Unwritten>
     requires { t < length s.now.threads }
     ensures { Puts (K.contents out.old) (K.contents out.new) (K.fault_count out.old) (K.fault_count out.new)
         (thread_line work.now entries.now s.now t) result }
@@ -69,7 +86,13 @@ fn put_thread<K: Sink>(alloc: Global, work: &Work, entries: &[Entry], s: &State,
 }
 
 /// Writes the accounts of the threads.
-fn put_threads<K: Sink>(alloc: Global, work: &Work, entries: &[Entry], s: &State, out: &mut K) -> Result<(), Unwritten>
+fn put_threads<K: Sink>(
+    alloc: Global,
+    work: &Work,
+    entries: &[Entry],
+    s: &State,
+    out: &mut K,
+) -> Result<(), Unwritten>
     requires { FitsWork work.now s.now }
     ensures { Puts (K.contents out.old) (K.contents out.new) (K.fault_count out.old) (K.fault_count out.new)
         (threads_text work.now entries.now s.now) result }
@@ -95,7 +118,12 @@ fn put_cpu<K: Sink>(alloc: Global, entries: &[Entry], c: u16, out: &mut K) -> Re
 }
 
 /// Writes the accounts of the processors.
-fn put_cpus<K: Sink>(alloc: Global, work: &Work, entries: &[Entry], out: &mut K) -> Result<(), Unwritten>
+fn put_cpus<K: Sink>(
+    alloc: Global,
+    work: &Work,
+    entries: &[Entry],
+    out: &mut K,
+) -> Result<(), Unwritten>
     ensures { Puts (K.contents out.old) (K.contents out.new) (K.fault_count out.old) (K.fault_count out.new)
         (cpus_text work.now entries.now) result }
 {
@@ -108,7 +136,13 @@ fn put_cpus<K: Sink>(alloc: Global, work: &Work, entries: &[Entry], out: &mut K)
 }
 
 /// Writes the accounts of a run.
-fn put_accounts<K: Sink>(alloc: Global, work: &Work, entries: &[Entry], s: &State, out: &mut K) -> Result<(), Unwritten>
+fn put_accounts<K: Sink>(
+    alloc: Global,
+    work: &Work,
+    entries: &[Entry],
+    s: &State,
+    out: &mut K,
+) -> Result<(), Unwritten>
     requires { FitsWork work.now s.now }
     ensures { Puts (K.contents out.old) (K.contents out.new) (K.fault_count out.old) (K.fault_count out.new)
         (accounts_text work.now entries.now s.now) result }
@@ -123,7 +157,13 @@ fn put_accounts<K: Sink>(alloc: Global, work: &Work, entries: &[Entry], s: &Stat
 }
 
 /// Writes a run: its entries in order, then its accounts.
-pub(crate) fn put_run<K: Sink>(alloc: Global, work: &Work, entries: &[Entry], s: &State, out: &mut K) -> Result<(), Unwritten>
+pub(crate) fn put_run<K: Sink>(
+    alloc: Global,
+    work: &Work,
+    entries: &[Entry],
+    s: &State,
+    out: &mut K,
+) -> Result<(), Unwritten>
     requires fits { FitsWork work.now s.now }
     requires state { s.now ≡ final work.now (opening work.now) entries.now }
     ensures { Puts (K.contents out.old) (K.contents out.new) (K.fault_count out.old) (K.fault_count out.new)

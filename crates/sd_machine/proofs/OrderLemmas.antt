@@ -21,5 +21,5 @@ pub beats_order : IsOrder beats
 beats_order = record {
   itself = λ x. before_itself (eff x.body) (queue_rank x.place) (key_of x.place);
   past = λ x y z h g. before_past (eff x.body) (queue_rank x.place) (eff y.body) (queue_rank y.place) (eff z.body) (queue_rank z.place) (key_of x.place) (key_of y.place) (key_of z.place) h g;
-  back = λ x y z h g. before_back (eff x.body) (queue_rank x.place) (eff y.body) (queue_rank y.place) (eff z.body) (queue_rank z.place) (key_of x.place) (key_of y.place) (key_of z.place) h g
+  back = λ x y z h g. before_back (eff x.body) (queue_rank x.place) (eff y.body) (queue_rank y.place) (eff z.body) (queue_rank z.place) (key_of x.place) (key_of y.place) (key_of z.place) h g;
 }

@@ -29,9 +29,12 @@ module _ (w : Work) where
   pub IsRunFrom-append : (s : State) (n : ℕ) (es fs : List Entry) → IsRunFrom w s n es → IsRunFrom w (final w s es) (n + length es) fs → IsRunFrom w s n (es ++ fs)
   unfolding final IsRunFrom
   IsRunFrom-append s n [] fs r q = subst (λ k. IsRunFrom w s k fs) (let e : n + 0 ≡ n = omega arith in e) q
-  IsRunFrom-append s n (e ∷ es) fs (a, b, r) q =
-      (a, b, IsRunFrom-append (after w s e.number e.cpu e.event) (n + 1) es fs r
-        (subst (λ k. IsRunFrom w (final w (after w s e.number e.cpu e.event) es) k fs) (let q : n + length (e ∷ es) ≡ n + 1 + length es = omega arith in q) q))
+  IsRunFrom-append s n (e ∷ es) fs (a, b, r) q = (
+    a,
+    b,
+    IsRunFrom-append (after w s e.number e.cpu e.event) (n + 1) es fs r
+        (subst (λ k. IsRunFrom w (final w (after w s e.number e.cpu e.event) es) k fs) (let q : n + length (e ∷ es) ≡ n + 1 + length es = omega arith in q) q),
+  )
 
   -- the front of a run is a run
   pub IsRunFrom-front : (s : State) (n : ℕ) (es fs : List Entry) → IsRunFrom w s n (es ++ fs) → IsRunFrom w s n es
@@ -45,7 +48,7 @@ module _ (w : Work) where
   IsRunFrom-rest s n [] fs r = subst (λ k. IsRunFrom w s k fs) (let e : n ≡ n + 0 = omega arith in e) r
   IsRunFrom-rest s n (e ∷ es) fs (a, b, r) =
       subst (λ k. IsRunFrom w (final w (after w s e.number e.cpu e.event) es) k fs) (let q : n + 1 + length es ≡ n + length (e ∷ es) = omega arith in q)
-        (IsRunFrom-rest (after w s e.number e.cpu e.event) (n + 1) es fs r)
+      (IsRunFrom-rest (after w s e.number e.cpu e.event) (n + 1) es fs r)
 
   pub IsRunFrom-one : (s : State) (n : ℕ) (e : Entry) → e.number ≡ n → IsStep w s e → IsRunFrom w s n (e ∷ [])
   unfolding IsRunFrom

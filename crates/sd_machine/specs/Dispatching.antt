@@ -72,8 +72,8 @@ tick_rival w s c t =
 unfoldable pub ticked : Work → State → ℕ → ℕ → State
 ticked w s c t =
     with_cpu
-        (with_thread s t (record (thread_of s t) { body = sent_back (tick_rival w s c t) (ticked_body w t (thread_of s t).body) }))
-        c (marked_for (tick_rival w s c t) (counted w (cpu_of s c)))
+    (with_thread s t (record (thread_of s t) { body = sent_back (tick_rival w s c t) (ticked_body w t (thread_of s t).body) }))
+    c (marked_for (tick_rival w s c t) (counted w (cpu_of s c)))
 
 -- processor c has idled for a tick
 unfoldable pub idled : Work → State → ℕ → State
@@ -104,11 +104,11 @@ requeued count b = record (left count b) { class = class_requeue b.back b.class 
 unfoldable pub preempted : Work → State → ℕ → ℕ → CpuId → End → State
 preempted w s n t c end =
     with_cpu
-        (with_thread s t (record {
-          body = requeued (cpu_of s c.0).count (thread_of s t).body;
-          place = queue_place w t c (end_key n end) (thread_of s t).body
-        }))
-        c.0 (unmarked (cpu_of s c.0))
+    (with_thread s t (record {
+      body = requeued (cpu_of s c.0).count (thread_of s t).body;
+      place = queue_place w t c (end_key n end) (thread_of s t).body;
+    }))
+    c.0 (unmarked (cpu_of s c.0))
 
 -- thread t has ended on processor c
 unfoldable pub ended : State → ℕ → CpuId → State

@@ -72,8 +72,16 @@ first_place w t d = if is_urgent d then RealTime d.set (pos t) else Queued (firs
 
 abbrev pub first_body : Work → ℕ → ThreadDecl → ThreadBody
 first_body w t d = record {
-  class = class_of w d; willed = record { items = [] }; held = record { items = [] }; op = 0;
-  run_left = ticks_at (slice_get d.script.ops 0); back = false; last = first_cpu w t d; left_at = None; looped = false; bound = None
+  class = class_of w d;
+  willed = record { items = [] };
+  held = record { items = [] };
+  op = 0;
+  run_left = ticks_at (slice_get d.script.ops 0);
+  back = false;
+  last = first_cpu w t d;
+  left_at = None;
+  looped = false;
+  bound = None;
 }
 
 unfoldable pub first_thread : Work → ℕ → ThreadDecl → ThreadState
@@ -93,7 +101,13 @@ first_count k = count_of k.1
 
 unfoldable pub first_cpu_state : Work → ℕ → CpuState
 first_cpu_state w c = record {
-  count = 0; user = false; kernel = false; duty = Nothing; set = record { 0 = set_of_cpu w c }; closing = None; bound = 0
+  count = 0;
+  user = false;
+  kernel = false;
+  duty = Nothing;
+  set = record { 0 = set_of_cpu w c };
+  closing = None;
+  bound = 0;
 }
 
 abbrev pub open_list : Work → ℕ → ArrayVec CpuId
@@ -105,5 +119,5 @@ opening w = record {
   locks = replicate (length w.locks) Free;
   cpus = map (first_cpu_state w) (range_with_len 0 w.cpus);
   counts = map first_count w.chans;
-  open_cpus = map (open_list w) (range_with_len 0 (length w.sets + 1))
+  open_cpus = map (open_list w) (range_with_len 0 (length w.sets + 1));
 }

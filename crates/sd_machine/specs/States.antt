@@ -15,8 +15,16 @@ use Rattle.sd_machine.specs.declared.states.State.{State}
 
 abbrev pub no_body : ThreadBody
 no_body = record {
-  class = Sys (record { pri = 60 }); willed = record { items = [] }; held = record { items = [] }; op = 0; run_left = 0;
-  back = false; last = record { 0 = 0 }; left_at = None; looped = false; bound = None
+  class = Sys (record { pri = 60 });
+  willed = record { items = [] };
+  held = record { items = [] };
+  op = 0;
+  run_left = 0;
+  back = false;
+  last = record { 0 = 0 };
+  left_at = None;
+  looped = false;
+  bound = None;
 }
 
 abbrev pub no_thread : ThreadState

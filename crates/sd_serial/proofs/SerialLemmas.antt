@@ -56,10 +56,11 @@ module _ (w : Work) (order : List CpuId) where
         count = suc h.count;
         entries = made ∙ ap (λ (xs : List Entry). xs ++ round_after w order xs) h.entries ∙ sym (rounds-more w (always order) h.count);
         goes_on = λ k l. elim (cases_lt k h.count) [
-          inl less ↦ h.goes_on k less
-        | inr more ↦
-            let same : k ≡ h.count = omega arith in
-            rw same (subst (λ (xs : List Entry). round_after w order xs ≢ []) h.entries some) ]
+          | inl less ↦ h.goes_on k less
+          | inr more ↦
+              let same : k ≡ h.count = omega arith in
+              rw same (subst (λ (xs : List Entry). round_after w order xs ≢ []) h.entries some)
+        ];
       }
 
   pub run_more : (s : State) (es es' : List Entry) → IsRun w es → s ≡ final w (opening w) es → es' ≡ es ++ round w s (length es) order → IsRun w es'
@@ -75,7 +76,7 @@ module _ (w : Work) (order : List CpuId) where
       → 2 ^ 40 ≤ length (es ++ round w s (length es) order) → IsLongSerial w (always order)
   long_serial s es h f long =
       let same : es ++ round w s (length es) order ≡ rounds w (always order) (suc h.count) =
-          ap (λ (xs : List Entry). es ++ xs) (here s es f) ∙ ap (λ (xs : List Entry). xs ++ round_after w order xs) h.entries ∙ sym (rounds-more w (always order) h.count) in
+      ap (λ (xs : List Entry). es ++ xs) (here s es f) ∙ ap (λ (xs : List Entry). xs ++ round_after w order xs) h.entries ∙ sym (rounds-more w (always order) h.count) in
       (suc h.count, subst (λ (xs : List Entry). 2 ^ 40 ≤ length xs) same long)
 
   -- a round that adds nothing ends the run
@@ -88,5 +89,5 @@ module _ (w : Work) (order : List CpuId) where
         count = h.count;
         entries = kept ∙ h.entries;
         goes_on = h.goes_on;
-        ends = ap (round_after w order) kept ∙ sym (here s es f) ∙ none
+        ends = ap (round_after w order) kept ∙ sym (here s es f) ∙ none;
       }

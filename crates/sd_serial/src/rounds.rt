@@ -58,7 +58,12 @@ fn run_turn(work: &Work, s: &mut State, entries: &mut Vec<Entry>, c: CpuId) -> R
 
 /// One round: each processor of the order has a turn. `Full` only where the entries with those of this round
 /// are 2^40 or more.
-fn run_round(work: &Work, s: &mut State, entries: &mut Vec<Entry>, order: &[CpuId]) -> Result<(), Stop>
+fn run_round(
+    work: &Work,
+    s: &mut State,
+    entries: &mut Vec<Entry>,
+    order: &[CpuId],
+) -> Result<(), Stop>
     requires fits { FitsWork work.now s.old }
     requires room { length entries.old.items ≤ MOST_ENTRIES }
     ensures entries { OnOk result (entries.new.items ≡ entries.old.items ++ round work.now s.old (length entries.old.items) order.now) }

@@ -18,6 +18,6 @@ returns g c =
       took = subst (λ (bs : List ℕ). Consumes (left old) (left new) bs) (sym same) e.taken.front;
       to_end = e.end;
       bound = omega (arith, ap length c.deref.ensures.value, e.bound);
-      no_fault = omega (arith, c.faults.ensures, c.faults-before.ensures, c.if-is_risen-2.false, e.never_falls)
+      no_fault = omega (arith, c.faults.ensures, c.faults-before.ensures, c.if-is_risen-2.false, e.never_falls);
     } in
     reading_of (end_of (left old) (left new) (faults old) (faults new)) bytes c.judge.result read c.judge.ensures

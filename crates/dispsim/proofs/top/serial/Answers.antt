@@ -16,7 +16,7 @@ returns-clause-answered g c =
       status = c.status.ensures;
       caused = c.carry_out-answer.ensures;
       told = told_of (end_of (told a) (told b) (faults a) (faults b)) c.carry_out-answer.result c.line.result.now c.write_piece.result c.line.ensures
-        c.write_piece.ensures.ok c.write_piece.ensures.risen c.write_piece.ensures.part
+          c.write_piece.ensures.ok c.write_piece.ensures.risen c.write_piece.ensures.part;
     }
 
 pub returns-clause-headline : goal.returns-clause-headline
@@ -30,7 +30,7 @@ returns-clause-headline g c = λ zero.
     let o = c.args.out.now in
     let p = c.carry_out-answer.new.out in
     headline_of (map string_bytes c.args.words.now) (end_of (left i) (left j) (read i) (read j)) (end_of (held o) (held p) (written o) (written p))
-      c.carry_out-answer.result c.carry_out-answer.ensures (sym c.status.ensures ∙ zero)
+    c.carry_out-answer.result c.carry_out-answer.ensures (sym c.status.ensures ∙ zero)
 
 pub returns-clause-completes : goal.returns-clause-completes
 returns-clause-completes g c =

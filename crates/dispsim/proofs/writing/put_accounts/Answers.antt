@@ -26,7 +26,7 @@ returns-in-Err-put_threads g c =
     let threads = threads_text w c.args.entries.now c.args.s.now in
     let cpus = cpus_text w c.args.entries.now in
     Puts-then (held o) (held p) (held q) (faults o) (faults p) (faults q) (codes "accounts\n") (threads ++ cpus) _ c.in_default.ensures
-      (Puts-err (held p) (held q) (held q) (faults p) (faults q) (faults q) threads cpus c.in-Err-put_threads.unwritten c.in-Err-put_threads.ensures)
+    (Puts-err (held p) (held q) (held q) (faults p) (faults q) (faults q) threads cpus c.in-Err-put_threads.unwritten c.in-Err-put_threads.ensures)
 
 pub returns : goal.returns
 unfolding accounts_text
@@ -41,4 +41,4 @@ returns g c =
     let threads = threads_text w c.args.entries.now c.args.s.now in
     let cpus = cpus_text w c.args.entries.now in
     Puts-then (held o) (held p) (held r) (faults o) (faults p) (faults r) (codes "accounts\n") (threads ++ cpus) c.put_cpus.result c.in_default.ensures
-      (Puts-then (held p) (held q) (held r) (faults p) (faults q) (faults r) threads cpus c.put_cpus.result c.in_default-put_threads.ensures c.put_cpus.ensures)
+    (Puts-then (held p) (held q) (held r) (faults p) (faults q) (faults r) threads cpus c.put_cpus.result c.in_default-put_threads.ensures c.put_cpus.ensures)

@@ -9,4 +9,4 @@ invariant-loop-c g l =
     let contents = g.K.Sink.contents in
     let faults = g.K.Sink.fault_count in
     Puts (contents l.initial.out) (contents l.out) (faults l.initial.out) (faults l.out)
-      (flat_map (cpu_line l.entries) (take l.c (range_with_len 0 l.work.cpus))) (Ok tt)
+    (flat_map (cpu_line l.entries) (take l.c (range_with_len 0 l.work.cpus))) (Ok tt)

@@ -28,4 +28,4 @@ returns g c =
     let w = c.args.work.now in
     let es = c.args.entries.now in
     Puts-then (held o) (held p) (held q) (faults o) (faults p) (faults q) (entries_text w es) (accounts_text w es (final w (opening w) es)) c.put_accounts.result c.in_default.ensures
-      (subst (λ s. Puts (held p) (held q) (faults p) (faults q) (accounts_text w es s) c.put_accounts.result) c.requires.state c.put_accounts.ensures)
+    (subst (λ s. Puts (held p) (held q) (faults p) (faults q) (accounts_text w es s) c.put_accounts.result) c.requires.state c.put_accounts.ensures)

@@ -9,4 +9,4 @@ invariant-loop-t g l =
     let contents = g.K.Sink.contents in
     let faults = g.K.Sink.fault_count in
     Puts (contents l.initial.out) (contents l.out) (faults l.initial.out) (faults l.out)
-      (flat_map (thread_line l.work l.entries l.s) (take l.t (range_with_len 0 (length l.work.threads)))) (Ok tt)
+    (flat_map (thread_line l.work l.entries l.s) (take l.t (range_with_len 0 (length l.work.threads)))) (Ok tt)

@@ -12,7 +12,7 @@ loop-c-preserved c =
       entries = round_on w order l.c-index (record { 0 = 0 }) l.s c.run_turn.new.s l.entries.items c.run_turn.new.entries.items c.loop-c-test.true e.entries e.state ∙ l.invariant.entries;
       state = final_on w order l.c-index (record { 0 = 0 }) l.s c.run_turn.new.s l.entries.items c.run_turn.new.entries.items c.loop-c-test.true e.entries e.state ∙ l.invariant.state;
       fits = e.fits;
-      room = e.room
+      room = e.room;
     }
 
 pub returns-clause-entries : goal.returns-clause-entries

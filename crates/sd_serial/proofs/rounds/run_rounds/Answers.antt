@@ -17,7 +17,7 @@ rounds-init c =
       run = subst (λ (xs : List Entry). IsRun w xs) (sym none) (IsRun-nil w);
       state = c.in-Ok.ensures.state ∙ sym (final-nil w (opening w)) ∙ ap (final w (opening w)) (sym none);
       fits = c.in-Ok.ensures.fits;
-      room = omega (arith, c.new-entries.ensures.len)
+      room = omega (arith, c.new-entries.ensures.len);
     }
 
 pub returns-in-Err-clause-full : goal.returns-in-Err-clause-full
@@ -39,7 +39,7 @@ rounds-preserved c =
       run = run_more w order r.state r.entries.items c.run_round.new.entries.items r.invariant.run r.invariant.state e.entries;
       state = state_more w order r.state c.run_round.new.s r.entries.items c.run_round.new.entries.items r.invariant.state e.entries e.state;
       fits = e.fits;
-      room = e.room
+      room = e.room;
     }
 
 pub returns-clause-state : goal.returns-clause-state
@@ -53,7 +53,7 @@ returns-clause-serial c =
     let r = c.rounds in
     let e = c.in_default-run_round.ensures in
     is_over c.args.work.now c.args.order.now r.state r.entries.items c.run_round.new.entries.items r.invariant.rounds r.invariant.state e.entries
-      (let same = c.if-len-before.true in omega arith)
+    (let same = c.if-len-before.true in omega arith)
 
 pub returns-clause-run : goal.returns-clause-run
 returns-clause-run c =
