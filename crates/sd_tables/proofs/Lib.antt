@@ -1,3 +1,4 @@
+pub mod AgainLemmas
 pub mod DefaultLemmas
 pub mod RowLemmas
 pub mod SheetLemmas
