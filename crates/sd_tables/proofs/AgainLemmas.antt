@@ -1,6 +1,6 @@
 -- The text that is written of a table spells it.
-use Rattle.std.proofs.Common.{◌≡◌, ℕ, zero, suc, ◌+◌, ◌<◌, ◌≤◌, ◌^◌, Bool, true, false, not, ◌&&◌, ◌||◌, cond, ltb, eqb, nat_eq, nat_le, nat_lt, List, [], ◌∷◌, ◌++◌, length, take, drop, map, filter, get_or, position, Option, Some, None, is_none, is_some, option_map, option_and_then, unwrap_or, refl, sym, ap, ◌∙◌, subst, arith, append_assoc, codes}
-use Rattle.std.specs.List.{list_all, list_any, zip, join_with_byte}
+use Rattle.std.proofs.Common.{◌≡◌, ℕ, zero, suc, ◌+◌, ◌<◌, ◌≤◌, ◌^◌, Bool, true, false, not, ◌&&◌, ◌||◌, cond, ltb, eqb, nat_eq, nat_le, nat_lt, List, [], ◌∷◌, length, take, map, filter, get_or, Option, Some, None, is_none, option_map, unwrap_or, refl, sym, ap, ◌∙◌, subst, arith}
+use Rattle.std.specs.List.{list_all, join_with_byte}
 use Rattle.std.specs.Fmt.{decimal}
 use Rattle.std.specs.Char.{is_ascii_digit}
 use Rattle.std.specs.Str.{all_ascii_digits}
@@ -10,17 +10,16 @@ use Rattle.std.proofs.lemmas.List.Folds.{list_all-append}
 use Rattle.std.proofs.lemmas.Bool.{lt-ltb}
 use Rattle.std.proofs.lemmas.Bool.Decides.{nat_tests}
 use Rattle.std.proofs.lemmas.Str.Parse.{IsNumeralModel, numerals_by_value, tells_all_ascii_digits}
-use Rattle.std.proofs.lemmas.Fmt.{decimal_nonempty, digits_decimal, digits_value-decimal}
+use Rattle.std.proofs.lemmas.Fmt.{digits_decimal, digits_value-decimal}
 use Rattle.sd_text.specs.Lines.{is_newline, is_line, lines_of, text_of_lines}
-use Rattle.sd_text.specs.Words.{ends_word, is_word, words_of}
-use Rattle.sd_text.specs.Numbers.{is_number, number_of}
+use Rattle.sd_text.specs.Words.{is_word, words_of}
+use Rattle.sd_text.specs.Numbers.{is_number}
 use Rattle.sd_text.proofs.LineLemmas.{both, lines_of-text}
 use Rattle.sd_text.proofs.WordLemmas.{words_of-word, words_of-joined}
 use Rattle.sd_text.proofs.NumberLemmas.{number_of-decimal, is_word-decimal, is_line-decimal}
 use Rattle.sd_tables.specs.declared.columns.Column.{Column}
-use Rattle.sd_tables.specs.declared.fault.TableFault.{TableFault}
 use Rattle.sd_tables.specs.declared.fault.TableFault.TheVariants.{Range, Resolution}
-use Rattle.sd_tables.specs.TableText.{Line, Format, word_lines, is_res_word, is_res_line, is_row_line, is_unit, res_of_word, res_of_line, res_fault, has_numbers, numbers_of, is_outside, column_outside, is_within, row_fault, line_fault, fault_at, AreClean, rows_in, units_in, res_in, has_rows, IsTableText}
+use Rattle.sd_tables.specs.TableText.{Line, Format, word_lines, is_res_word, is_res_line, is_row_line, is_unit, res_of_word, res_of_line, res_fault, numbers_of, column_outside, is_within, row_fault, line_fault, fault_at, AreClean, rows_in, res_in, IsTableText}
 use Rattle.sd_tables.specs.TableSpelling.{res_text, row_text, row_texts, table_text}
 
 -- numbers that are written with at most ten digits
@@ -84,7 +83,7 @@ lines_again res rows h smalls short =
     let ok : list_all is_line lines ≡ true = rw (is_line-decimal res h) (row_texts-lines rows 0 smalls (omega arith)) in
     let cut : lines_of (table_text res rows) ≡ lines = sym (ap lines_of (append-nil (text_of_lines lines))) ∙ lines_of-text lines [] ok ∙ append-nil lines in
     let first : words_of (res_text res) ≡ res_text res ∷ [] =
-        sym (ap words_of (append-nil (res_text res))) ∙ words_of-word (res_text res) [] (res_text-word res h) refl in
+    sym (ap words_of (append-nil (res_text res))) ∙ words_of-word (res_text res) [] (res_text-word res h) refl in
     ap (map words_of) cut ∙ ap (λ l. words_of (res_text res) ∷ l) (row_texts-words rows 0 smalls) ∙ ap (λ w. w ∷ map (map decimal) rows) first
 
 -- ---- kinds of lines
@@ -219,14 +218,15 @@ pub table_again : (format : Format) (res : ℕ) (rows : List (List ℕ)) → 0 <
 table_again format res rows some unit ok least most short =
     let below : res < 2 ^ 64 = grind (arith, nat_tests) in
     let lines : word_lines (table_text res rows) ≡ (res_text res ∷ []) ∷ map (map decimal) rows =
-        lines_again res rows below (smalls format.columns rows ok) (omega arith) in
+    lines_again res rows below (smalls format.columns rows ok) (omega arith) in
     let kept = rows-kept format.columns rows some ok in
     let again : rows_in (word_lines (table_text res rows)) ≡ rows =
-        ap rows_in lines ∙ rw (res_word (decimal res)) (ap (map numbers_of) kept.0 ∙ rows-again format.columns rows ok) in
-    (record {
-      clean = subst (λ (ls : List Line). AreClean format.columns ls (length ls)) (sym lines) (clean-again format.columns res rows some unit ok);
-      rows = ap (λ (l : List (List ℕ)). nat_le format.least (length l) && nat_le (length l) format.most) again ∙ grind (arith, nat_tests);
-    },
-    again,
-    ap res_in lines ∙ ap (λ (ls : List Line). unwrap_or (get_or (map res_of_line ls) 0 None) 1000) (first_kept res (map (map decimal) rows))
-    ∙ ap (λ o. unwrap_or o 1000) (res-again res unit))
+    ap rows_in lines ∙ rw (res_word (decimal res)) (ap (map numbers_of) kept.0 ∙ rows-again format.columns rows ok) in (
+      record {
+        clean = subst (λ (ls : List Line). AreClean format.columns ls (length ls)) (sym lines) (clean-again format.columns res rows some unit ok);
+        rows = ap (λ (l : List (List ℕ)). nat_le format.least (length l) && nat_le (length l) format.most) again ∙ grind (arith, nat_tests);
+      },
+      again,
+      ap res_in lines ∙ ap (λ (ls : List Line). unwrap_or (get_or (map res_of_line ls) 0 None) 1000) (first_kept res (map (map decimal) rows))
+          ∙ ap (λ o. unwrap_or o 1000) (res-again res unit),
+    )

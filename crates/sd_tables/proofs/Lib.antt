@@ -1,5 +1,6 @@
 pub mod AgainLemmas
 pub mod DefaultLemmas
+pub mod LawLemmas
 pub mod RowLemmas
 pub mod SheetLemmas
 pub mod SpellLemmas
