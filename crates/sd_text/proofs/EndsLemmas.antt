@@ -1,12 +1,9 @@
 -- What several reads or writes, one after the other, do to the bytes that are told.
-use Rattle.std.proofs.Common.{◌≡◌, ℕ, ◌+◌, ◌-◌, ◌<◌, ◌≤◌, Option, Result, Ok, Err, List, ◌++◌, length, vec_len, take, drop, subst, sym, refl, ap, ◌∙◌, arith, length-append, length-take-le}
+use Rattle.std.proofs.Common.{◌≡◌, ℕ, ◌+◌, ◌-◌, ◌≤◌, Option, Some, None, Err, List, ◌++◌, length, take, drop, subst, sym, refl, ap, ◌∙◌, arith, length-append, length-take-le}
 use Rattle.std.proofs.Math.Seq.{take-add}
 use Rattle.std.proofs.lemmas.List.{take_rest}
 use Rattle.std.proofs.KnownBytes.{Appends-trans, Consumes-trans}
 use Rattle.std.specs.Io.KnownBytes.{Appends, Consumes}
-use Rattle.std.specs.declared.vec.Vec.{Vec}
-use Rattle.std.specs.declared.alloc.Global.{Global}
-use Rattle.sd_text.specs.declared.read.ReadAllFault.{ReadAllFault}
 use Rattle.sd_text.specs.declared.read.ReadAllFault.TheVariants.{TooLarge, Memory}
 use Rattle.sd_text.specs.Reading.{TakesUpTo}
 
@@ -45,3 +42,16 @@ TakesUpTo-memory most a b c xs buffer n first second within all = record {
   too_large = (λ e. cc, λ e. absurd (omega (arith, length-front xs buffer n within)));
   all = tt;
 }
+
+-- ---- for a sink and a source that tell their bytes
+
+pub Appends-told : (old new : Option (List ℕ)) (held bytes : List ℕ) → Appends old new bytes → old ≡ Some held → new ≡ Some (held ++ bytes)
+Appends-told None new held bytes h e = absurd (cc)
+Appends-told (Some xs) None held bytes h e = absurd h
+Appends-told (Some xs) (Some ys) held bytes h e = let f : xs ≡ held = cc in ap Some (h ∙ ap (λ l. l ++ bytes) f)
+
+pub Consumes-told : (old new : Option (List ℕ)) (left bytes : List ℕ) → Consumes old new bytes → old ≡ Some left
+    → (rest : List ℕ) × (new ≡ Some rest) × (left ≡ bytes ++ rest)
+Consumes-told None new left bytes h e = absurd (cc)
+Consumes-told (Some xs) None left bytes h e = absurd h
+Consumes-told (Some xs) (Some ys) left bytes h e = let f : left ≡ xs = cc in (ys, refl, f ∙ h)

@@ -1,10 +1,10 @@
 -- The first line of a text, and the rest.
-use Rattle.std.proofs.Common.{◌≡◌, ℕ, zero, suc, ◌+◌, ◌-◌, ◌<◌, ◌≤◌, Bool, true, false, not, cond, ltb, ◌&&◌, ◌⊎◌, inl, inr, List, [], ◌∷◌, ◌++◌, length, append_assoc, take, drop, get_or, Some, None, unwrap_or, refl, sym, ap, ◌∙◌, subst, arith, length-drop, drop-drop}
+use Rattle.std.proofs.Common.{◌≡◌, ℕ, suc, ◌+◌, ◌-◌, ◌<◌, Bool, true, false, not, cond, ltb, ◌&&◌, ◌⊎◌, inl, inr, List, [], ◌∷◌, ◌++◌, length, append_assoc, take, drop, get_or, Some, None, unwrap_or, refl, sym, ap, ◌∙◌, arith, length-drop, drop-drop}
 use Rattle.std.proofs.lemmas.List.{take_rest}
 use Rattle.std.proofs.lemmas.List.Sums.{prefix_len-le-length, passes_at_first}
 use Rattle.std.proofs.lemmas.Bool.Decides.{nat_tests}
 use Rattle.std.proofs.lemmas.Bool.{false≢true}
-use Rattle.std.specs.List.{position, position_or_len, onto_first, list_all, flat_map}
+use Rattle.std.specs.List.{position, position_or_len, onto_first, list_all}
 use Rattle.sd_text.specs.Lines.{is_newline, lines_of, is_line, text_of_lines}
 
 chosen : (b : Bool) (n m : ℕ) → (b ≡ false → n ≡ m) → unwrap_or (cond b (Some n) None) m ≡ n
@@ -30,6 +30,7 @@ lines-step : (b : Bool) (x : ℕ) (xs : List ℕ)
     → (0 < length xs → lines_of xs ≡ take (first xs) xs ∷ lines_of (drop (first xs + 1) xs))
     → cond b ([] ∷ lines_of xs) (onto_first x (lines_of xs))
     ≡ take (cond (not b) (1 + first xs) 0) (x ∷ xs) ∷ lines_of (drop (cond (not b) (1 + first xs) 0 + 1) (x ∷ xs))
+unfolding lines_of
 lines-step true x xs rest = refl
 lines-step false x [] rest = refl
 lines-step false x (y ∷ ys) rest =
@@ -42,6 +43,7 @@ lines-step false x (y ∷ ys) rest =
 
 -- the first line stands before the first newline, and the other lines behind it
 pub lines-first : (xs : List ℕ) → 0 < length xs → lines_of xs ≡ take (first xs) xs ∷ lines_of (drop (first xs + 1) xs)
+unfolding lines_of
 lines-first [] h = absurd (omega arith)
 lines-first (x ∷ xs) h = lines-step (is_newline x) x xs (lines-first xs)
 
@@ -73,6 +75,7 @@ not-true false h = refl
 
 -- a line with its newline, and then more
 pub lines_of-line : (line rest : List ℕ) → is_line line ≡ true → lines_of (line ++ 10 ∷ rest) ≡ line ∷ lines_of rest
+unfolding lines_of
 lines_of-line [] rest h = refl
 lines_of-line (x ∷ xs) rest h =
     let p = both _ _ h in
@@ -93,11 +96,13 @@ are_lines-onto x (line ∷ lines) e h = rw e h
 
 are_lines-step : (b : Bool) (x : ℕ) (xs : List ℕ) → is_newline x ≡ b → list_all is_line (lines_of xs) ≡ true
     → list_all is_line (cond b ([] ∷ lines_of xs) (onto_first x (lines_of xs))) ≡ true
+unfolding lines_of
 are_lines-step true x xs e h = h
 are_lines-step false x xs e h = are_lines-onto x (lines_of xs) e h
 
 -- no line has a newline
 pub are_lines : (text : List ℕ) → list_all is_line (lines_of text) ≡ true
+unfolding lines_of
 are_lines [] = refl
 are_lines (x ∷ xs) = are_lines-step (is_newline x) x xs refl (are_lines xs)
 
@@ -122,5 +127,6 @@ whole-step true x xs e (inr h) = let f : x ≡ 10 = grind (arith, nat_tests) in 
 whole-step false x xs e h = whole-onto x xs (lines_of xs) h
 
 pub whole : (text : List ℕ) → IsWhole (text_of_lines (lines_of text)) text
+unfolding lines_of
 whole [] = inl refl
 whole (x ∷ xs) = whole-step (is_newline x) x xs refl (whole xs)

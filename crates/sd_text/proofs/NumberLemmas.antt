@@ -1,5 +1,5 @@
 -- Reading a number digit by digit.
-use Rattle.std.proofs.Common.{◌≡◌, ℕ, ◌+◌, ◌-◌, ◌*◌, ◌^◌, ◌<◌, ◌≤◌, Bool, true, false, not, ◌&&◌, ltb, leb, eqb, Option, Some, pos, neg_ℤ, List, [], ◌∷◌, length, take, drop, get_or, refl, sym, ap, ◌∙◌, arith}
+use Rattle.std.proofs.Common.{◌≡◌, ℕ, ◌+◌, ◌-◌, ◌*◌, ◌^◌, ◌<◌, true, false, not, ◌&&◌, ltb, leb, eqb, Some, pos, neg_ℤ, List, [], ◌∷◌, length, drop, get_or, refl, ap, ◌∙◌, arith}
 use Rattle.std.proofs.lemmas.List.{at_drop_more}
 use Rattle.std.proofs.lemmas.Bool.Decides.{nat_tests}
 use Rattle.std.specs.Char.{is_ascii_digit, digit_value}
@@ -41,6 +41,7 @@ own : IsNumeralModel (λ ds. all_ascii_digits ds ≡ true) (digits_value 10)
 own = numerals_by_value _ tells_all_ascii_digits
 
 pub number_of-decimal : (n : ℕ) → n < 10 ^ 10 → number_of (decimal n) ≡ Some n
+unfolding number_of
 number_of-decimal n small =
     let h : n < 2 ^ 64 = omega arith in
     let some : ltb 0 (length (decimal n)) ≡ true = lt-ltb _ _ (decimal_nonempty n h) in
@@ -52,11 +53,13 @@ first-digit [] h some = refl
 first-digit (d ∷ ds) h some = let p : is_ascii_digit d ≡ true = (both _ _ h).0 in grind (arith, nat_tests)
 
 pub signed_of-decimal : (n : ℕ) → n < 10 ^ 10 → signed_of (decimal n) ≡ Some (pos n)
+unfolding signed_of
 signed_of-decimal n small =
     let h : n < 2 ^ 64 = omega arith in
     rw (first-digit (decimal n) (digits_decimal own n h) (decimal_nonempty n h)) (ap (option_map pos) (number_of-decimal n small))
 
 pub signed_of-negative : (n : ℕ) → n < 10 ^ 10 → signed_of (45 ∷ decimal n) ≡ Some (neg_ℤ (pos n))
+unfolding signed_of
 signed_of-negative n small = ap (option_map (λ k. neg_ℤ (pos k))) (number_of-decimal n small)
 
 digit-plain : (d : ℕ) → is_ascii_digit d ≡ true → (ends_word d ≡ false) × (is_newline d ≡ false)

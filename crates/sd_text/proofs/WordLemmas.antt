@@ -1,13 +1,12 @@
 -- The first word of a line, and the rest.
-use Rattle.std.proofs.Common.{◌≡◌, ℕ, suc, ◌+◌, ◌-◌, ◌<◌, ◌≤◌, Bool, true, false, not, cond, ltb, ◌||◌, ◌&&◌, List, [], ◌∷◌, ◌++◌, length, get_or, append_assoc, take, drop, refl, sym, ap, ◌∙◌, subst, arith, length-drop, drop-drop, filter}
+use Rattle.std.proofs.Common.{◌≡◌, ℕ, ◌+◌, ◌-◌, ◌<◌, Bool, true, false, not, cond, ltb, ◌||◌, List, [], ◌∷◌, ◌++◌, length, get_or, append_assoc, take, drop, refl, sym, ap, ◌∙◌, subst, arith, drop-drop, filter}
 use Rattle.std.proofs.lemmas.List.{take_rest, take_at, drop_at}
-use Rattle.std.proofs.lemmas.List.Sums.{prefix_len-le-length}
 use Rattle.std.proofs.lemmas.List.Folds.{length-prefix_len}
 use Rattle.std.proofs.lemmas.Bool.{lt-ltb}
 use Rattle.std.proofs.lemmas.Bool.Decides.{nat_tests}
-use Rattle.std.specs.List.{position_or_len, slice_split, onto_first, list_all, join_with_byte}
-use Rattle.sd_text.specs.Words.{is_blank, is_comment, is_other, ends_word, before_comment, runs_of, words_of, is_word}
-use Rattle.sd_text.proofs.LineLemmas.{take-one_more, drop-one_more, both, not-true}
+use Rattle.std.specs.List.{position_or_len, onto_first, list_all, join_with_byte}
+use Rattle.sd_text.specs.Words.{is_blank, is_comment, is_other, ends_word, runs_of, words_of, is_word}
+use Rattle.sd_text.proofs.LineLemmas.{take-one_more, drop-one_more, both}
 
 -- how many blanks the line begins with, and how many bytes of a word
 abbrev pub blanks : List ℕ → ℕ
@@ -21,9 +20,11 @@ is_comment-at_blank x h = grind (arith, nat_tests)
 
 -- blanks before the first word are no part of it
 words_of-blank : (x : ℕ) (xs : List ℕ) → is_blank x ≡ true → words_of (x ∷ xs) ≡ words_of xs
+unfolding words_of
 words_of-blank x xs h = let f = is_comment-at_blank x h in rw (f, h) refl
 
 words_of-comment : (x : ℕ) (xs : List ℕ) → is_comment x ≡ true → words_of (x ∷ xs) ≡ []
+unfolding words_of
 words_of-comment x xs h = rw h refl
 
 words-blanks_step : (b : Bool) (x : ℕ) (xs : List ℕ) → is_blank x ≡ b → words_of xs ≡ words_of (drop (blanks xs) xs)
@@ -51,6 +52,7 @@ words-none_step false x xs h rest none =
     words-none_at (is_comment x) x xs refl (subst (λ b. cond (not (b || is_comment x)) (1 + plain xs) 0 ≡ 0) h none)
 
 pub words-none : (xs : List ℕ) → plain (drop (blanks xs) xs) ≡ 0 → words_of (drop (blanks xs) xs) ≡ []
+unfolding words_of
 words-none [] none = refl
 words-none (x ∷ xs) none = words-none_step (is_blank x) x xs refl (words-none xs) none
 
@@ -68,10 +70,11 @@ splits-step true c x xs blank comment rest =
 splits-step false true x xs blank comment rest =
     let e : runs_of (x ∷ xs) ≡ [] ∷ [] = rw comment refl in ([], e, e)
 splits-step false false x xs blank comment rest =
-    let e : runs_of (x ∷ xs) ≡ onto_first x (runs_of xs) = rw (comment, blank) refl in
-    (rest.0,
-    e ∙ ap (onto_first x) rest.1 ∙ ap (λ l. l ∷ rest.0) (sym (take-one_more (plain xs) x xs)),
-    ap runs_of (drop-one_more (plain xs) x xs) ∙ rest.2)
+    let e : runs_of (x ∷ xs) ≡ onto_first x (runs_of xs) = rw (comment, blank) refl in (
+      rest.0,
+      e ∙ ap (onto_first x) rest.1 ∙ ap (λ l. l ∷ rest.0) (sym (take-one_more (plain xs) x xs)),
+      ap runs_of (drop-one_more (plain xs) x xs) ∙ rest.2,
+    )
 
 splits : (xs : List ℕ) → SplitsRun xs
 splits [] = ([], refl, refl)
@@ -83,6 +86,7 @@ kept false run more h = cc
 
 -- a word, and the words behind it
 pub words-first : (xs : List ℕ) → 0 < plain xs → words_of xs ≡ take (plain xs) xs ∷ words_of (drop (plain xs) xs)
+unfolding words_of
 words-first xs some =
     let s = splits xs in
     let here = λ (run : List ℕ). ltb 0 (length run) in
@@ -190,4 +194,5 @@ words-kept (run ∷ runs) h =
 
 -- the words of a line are words
 pub are_words : (line : List ℕ) → list_all is_word (words_of line) ≡ true
+unfolding words_of
 are_words line = words-kept (runs_of line) (are_runs line)

@@ -1,4 +1,4 @@
--- The lines of a text (this project's own, after priocntl(1) and dispadmin(1M) files): each ends with a newline,
+-- The lines of a text (this project's own): each ends with a newline,
 -- which the last may lack. A newline at the end makes no further line.
 use Rattle.std.specs.Prelude.{ℕ, Bool, not, List, [], ◌∷◌, ◌++◌, ◌==◌, if◌then◌else◌}
 use Rattle.std.specs.List.{onto_first, list_all, flat_map}
@@ -8,7 +8,7 @@ abbrev pub is_newline : ℕ → Bool
 is_newline byte = byte == 10
 
 -- the lines, without their newlines
-abbrev pub lines_of : List ℕ → List (List ℕ)
+unfoldable pub lines_of : List ℕ → List (List ℕ)
 lines_of [] = []
 lines_of (byte ∷ bytes) = if is_newline byte then [] ∷ lines_of bytes else onto_first byte (lines_of bytes)
 

@@ -1,5 +1,5 @@
 -- Sources and sinks in memory (this project's own): what they hold, and what a call does to it.
-use Rattle.std.specs.Prelude.{◌≡◌, ℕ, ◌-◌, ◌<◌, ◌⊎◌, List, [], ◌++◌, length, take, drop, min, Bool, MatchResult, Result, Contains}
+use Rattle.std.specs.Prelude.{◌≡◌, ℕ, ◌-◌, ◌<◌, ◌⊎◌, List, ◌++◌, length, take, drop, min, MatchResult, Result, Contains}
 use Rattle.sd_text.specs.declared.ends.Failed.{Failed}
 use Rattle.sd_text.specs.Faults.{next_count}
 

@@ -9,9 +9,9 @@ abbrev pub is_number : List ℕ → Bool
 is_number word = nat_lt 0 (length word) && nat_le (length word) 10 && all_ascii_digits word
 
 -- the number that a word spells
-abbrev pub number_of : List ℕ → Option ℕ
+unfoldable pub number_of : List ℕ → Option ℕ
 number_of word = if is_number word then Some (digits_value 10 word) else None
 
 -- the same after an optional `-`, which is not counted among the ten
-abbrev pub signed_of : List ℕ → Option ℤ
+unfoldable pub signed_of : List ℕ → Option ℤ
 signed_of word = if slice_index word 0 == 45 then option_map (λ n. neg_ℤ (pos n)) (number_of (drop 1 word)) else option_map pos (number_of word)

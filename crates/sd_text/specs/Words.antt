@@ -20,7 +20,7 @@ abbrev pub runs_of : List ℕ → List (List ℕ)
 runs_of line = slice_split is_blank (before_comment line)
 
 -- the words, in order: the runs that are not empty
-abbrev pub words_of : List ℕ → List (List ℕ)
+unfoldable pub words_of : List ℕ → List (List ℕ)
 words_of line = filter (λ run. nat_lt 0 (length run)) (runs_of line)
 
 -- a byte that is no blank

@@ -10,8 +10,7 @@ ghost use Rattle.sd_text.specs.Numbers.{number_of, signed_of};
 /// A count of 64 bits has risen where it is greater than before, or stands at the greatest.
 pub fn risen_counts()
     ensures { (old new : ℕ) → old < 2 ^ 64 → new < 2 ^ 64 → HasRisen old new ↔ ((old < new) ⊎ (new ≡ greatest_count)) }
-{
-}
+{}
 
 /// The lines of a text are lines, and together with their newlines they are the text again, but for a newline that
 /// the last line lacked. Lines that were written with their newlines are read again.
@@ -20,8 +19,7 @@ pub fn lines_of_texts()
     ensures text { (text : List ℕ) → (text_of_lines (lines_of text) ≡ text) ⊎ (text_of_lines (lines_of text) ≡ text ++ 10 ∷ []) }
     ensures again { (lines : List (List ℕ)) (rest : List ℕ) → IsTrue (list_all is_line lines)
         → lines_of (text_of_lines lines ++ rest) ≡ lines ++ lines_of rest }
-{
-}
+{}
 
 /// The words of a line are words. Words that were written with single spaces between them are read again, also
 /// where a blank or a comment follows.
@@ -31,8 +29,7 @@ pub fn words_of_lines()
         → words_of (join_with_byte 32 words ++ rest) ≡ words ++ words_of rest }
     ensures blank { (rest : List ℕ) → words_of (32 ∷ rest) ≡ words_of rest }
     ensures comment { (rest : List ℕ) → words_of (35 ∷ rest) ≡ [] }
-{
-}
+{}
 
 /// A number of at most ten digits that was written is read again. What was written is a word and stands in one line.
 pub fn numbers_of_words()
@@ -41,5 +38,4 @@ pub fn numbers_of_words()
     ensures negative { (n : ℕ) → n < 10 ^ 10 → signed_of (45 ∷ decimal n) ≡ Some (neg_ℤ (pos n)) }
     ensures word { (n : ℕ) → n < 2 ^ 64 → IsTrue (is_word (decimal n)) }
     ensures line { (n : ℕ) → n < 2 ^ 64 → IsTrue (is_line (decimal n)) }
-{
-}
+{}

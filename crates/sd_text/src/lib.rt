@@ -21,3 +21,6 @@ pub use numbers::{number, put_number, signed};
 pub use read::{GREATEST_INPUT, ReadAllFault, read_all, read_up_to};
 pub use words::next_word;
 pub use write::{WriteFault, write_piece};
+
+#[cfg(test)]
+mod tests;

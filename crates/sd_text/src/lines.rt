@@ -5,6 +5,7 @@ ghost use Rattle.sd_text.specs.Lines.{lines_of, is_newline};
 
 /// Where the first line of what stands from `from` on begins and ends. Its newline is at its end, unless the text
 /// ends there. The next line is sought from the end plus 1 on.
+#[tactic(auto, unfolding(crate::specs::Lines::lines_of))]
 pub fn next_line(bytes: &[u8], from: usize) -> Option<(usize, usize)>
     ensures none { IfNone result (lines_of (drop from bytes.now) ≡ []) }
     ensures line { IfSome result (λ at.

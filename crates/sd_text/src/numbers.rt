@@ -6,6 +6,7 @@ use itoa::Buffer;
 use std::alloc::AllocError;
 
 /// The number that the word spells: one to ten decimal digits, of which the first may be zeros.
+#[tactic(auto, unfolding(crate::specs::Numbers::number_of))]
 pub fn number(word: &[u8]) -> Option<u64>
     ensures value { result ≡ number_of word.now }
     ensures bound { IfSome result (λ n. n < 10 ^ 10) }
@@ -24,6 +25,7 @@ pub fn number(word: &[u8]) -> Option<u64>
 }
 
 /// The same after an optional `-`.
+#[tactic(auto, unfolding(crate::specs::Numbers::signed_of))]
 pub fn signed(word: &[u8]) -> Option<i64>
     ensures { result ≡ signed_of word.now }
 {

@@ -1,10 +1,10 @@
 //! Reading a source to its end, up to a limit.
-ghost use Rattle.std.specs.Prelude.{◌≡◌, ◌+◌, ◌^◌, ◌<◌, ◌≤◌, length, IfSome, IfOk, OnOk, IsErrOf, vec_len};
+ghost use Rattle.std.specs.Prelude.{◌≡◌, ◌+◌, ◌^◌, ◌<◌, ◌≤◌, length, IfSome, IfOk, OnOk, IsErrOf};
 ghost use Rattle.std.specs.Io.KnownBytes.{IsAtEnd};
 ghost use Rattle.sd_text.specs.Faults.{HasRisen};
 ghost use Rattle.sd_text.specs.Reading.{TakesUpTo};
 
-use super::ends::{Failed, Source};
+use super::ends::Source;
 use std::alloc::Global;
 use thiserror::Error;
 
@@ -72,7 +72,7 @@ pub fn read_up_to<S: Source>(
     let most = most as usize;
     let mut bytes = Vec::new(alloc);
     let mut buffer = [0u8; PIECE];
-    loop {
+    'reads: loop {
         // One byte more than `most` shows that the input is too large.
         let wanted = PIECE.min(most + 1 - bytes.len());
         let Ok(count) = source.read(&mut buffer[..wanted]) else {

@@ -1,10 +1,11 @@
 //! The words of a line.
 ghost use Rattle.std.specs.Prelude.{◌≡◌, ◌≤◌, ◌<◌, [], ◌∷◌, length, drop, slice_range, position, IfSome, IfNone};
 ghost use Rattle.std.specs.List.{position_or_len};
-ghost use Rattle.sd_text.specs.Words.{words_of, is_blank, is_comment, is_other, ends_word};
+ghost use Rattle.sd_text.specs.Words.{words_of, is_blank, is_other, ends_word};
 
 /// Where the first word of what stands from `from` on begins and ends: `from` is the line's start, or the end of
 /// the word before. The next word is sought from the end on.
+#[tactic(auto, unfolding(crate::specs::Words::words_of))]
 pub fn next_word(line: &[u8], from: usize) -> Option<(usize, usize)>
     ensures none { IfNone result (words_of (drop from line.now) ≡ []) }
     ensures word { IfSome result (λ at.
@@ -16,7 +17,11 @@ pub fn next_word(line: &[u8], from: usize) -> Option<(usize, usize)>
     }
     let start = from + blank_len(&line[from..]);
     let end = start + word_len(&line[start..]);
-    if start < end { Some((start, end)) } else { None }
+    if start < end {
+        Some((start, end))
+    } else {
+        None
+    }
 }
 
 fn is_blank(byte: u8) -> bool

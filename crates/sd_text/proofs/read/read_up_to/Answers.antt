@@ -4,9 +4,9 @@ use Rattle.sd_text.proofs.read.read_up_to.Goals as goal
 
 pub returns-then-most-len-clause-taken : goal.returns-then-most-len-clause-taken
 returns-then-most-len-clause-taken g c =
-    TakesUpTo-too_large _ _ _ _ _ c.read.new.buf c.in-Ok.count c.loop-count.invariant.taken c.in-Ok.ensures.bytes.0 c.in-Ok.ensures.bound (omega (arith, c.loop-count.bytes.ok, c.in-Ok.ensures.bound, length-take c.min-wanted.result c.loop-count.buffer))
+    TakesUpTo-too_large _ _ _ _ _ c.read.new.buf c.in-Ok.count c.reads.invariant.taken c.in-Ok.ensures.bytes.0 c.in-Ok.ensures.bound (omega (arith, c.reads.bytes.ok, c.in-Ok.ensures.bound, length-take c.min-wanted.result c.reads.buffer))
 
 pub returns-in_default-extend_from_slice-clause-taken :
     goal.returns-in_default-extend_from_slice-clause-taken
 returns-in_default-extend_from_slice-clause-taken g c =
-    TakesUpTo-memory _ _ _ _ _ c.read.new.buf c.in-Ok.count c.loop-count.invariant.taken c.in-Ok.ensures.bytes.0 c.in-Ok.ensures.bound (omega (arith, c.loop-count.bytes.ok))
+    TakesUpTo-memory _ _ _ _ _ c.read.new.buf c.in-Ok.count c.reads.invariant.taken c.in-Ok.ensures.bytes.0 c.in-Ok.ensures.bound (omega (arith, c.reads.bytes.ok))

@@ -3,13 +3,13 @@ use Rattle.std.specs.Io.KnownBytes.{Consumes}
 use Rattle.sd_text.proofs.read.read_up_to.Given as goal
 
 -- what was read so far is what the source has lost
-abbrev pub invariant-loop-count : goal.invariant-loop-count
-invariant-loop-count g l = record {
+abbrev pub invariant-reads : goal.invariant-reads
+invariant-reads g l = record {
   small : vec_len l.bytes ≤ l.most;
   room : length l.buffer ≡ 4096;
   taken : Consumes (g.S.Source.remaining l.initial.source) (g.S.Source.remaining l.source) l.bytes.items;
   counted : g.S.Source.fault_count l.initial.source ≤ g.S.Source.fault_count l.source;
 }
 
-abbrev pub decreases-loop-count : goal.decreases-loop-count
-decreases-loop-count g l = l.most + 1 - vec_len l.bytes
+abbrev pub decreases-reads : goal.decreases-reads
+decreases-reads g l = l.most + 1 - vec_len l.bytes
