@@ -13,7 +13,7 @@ use Rattle.std.proofs.lemmas.Str.Parse.{IsNumeralModel, numerals_by_value, tells
 use Rattle.std.proofs.lemmas.Fmt.{digits_decimal, digits_value-decimal}
 use Rattle.sd_text.specs.Lines.{is_newline, is_line, lines_of, text_of_lines}
 use Rattle.sd_text.specs.Words.{is_word, words_of}
-use Rattle.sd_text.specs.Numbers.{is_number}
+use Rattle.sd_text.specs.Numbers.{is_number, number_of}
 use Rattle.sd_text.proofs.LineLemmas.{both, lines_of-text}
 use Rattle.sd_text.proofs.WordLemmas.{words_of-word, words_of-joined}
 use Rattle.sd_text.proofs.NumberLemmas.{number_of-decimal, is_word-decimal, is_line-decimal}
@@ -58,7 +58,7 @@ decimals-words [] h = refl
 decimals-words (n ∷ ns) h = let p = both (nat_lt n 10000000000) _ h in rw (is_word-decimal n (small n p.0).1) (decimals-words ns p.1)
 
 row_text-words : (numbers : List ℕ) (level : ℕ) → is_small numbers ≡ true → words_of (row_text numbers level) ≡ map decimal numbers
-unfolding row_text
+unfolding row_text words_of
 row_text-words numbers level h =
     words_of-joined (map decimal numbers) (32 ∷ 35 ∷ 32 ∷ decimal level) (decimals-words numbers h) refl
     ∙ append-nil (map decimal numbers)
@@ -78,6 +78,7 @@ res_text-word res h =
 -- the lines of a written table, as their words
 lines_again : (res : ℕ) (rows : List (List ℕ)) → res < 2 ^ 64 → list_all is_small rows ≡ true → length rows < 2 ^ 63
     → word_lines (table_text res rows) ≡ (res_text res ∷ []) ∷ map (map decimal) rows
+unfolding lines_of words_of
 lines_again res rows h smalls short =
     let lines = res_text res ∷ row_texts rows 0 in
     let ok : list_all is_line lines ≡ true = rw (is_line-decimal res h) (row_texts-lines rows 0 smalls (omega arith)) in
@@ -149,6 +150,7 @@ chosen-true true v n h = refl
 chosen-true false v n h = cc
 
 numbers-are : (row : List ℕ) → is_small row ≡ true → list_all is_number (map decimal row) ≡ true
+unfolding number_of
 numbers-are [] h = refl
 numbers-are (n ∷ ns) h =
     let p = both (nat_lt n 10000000000) _ h in

@@ -38,6 +38,7 @@ fn column_outside(columns: &[Column], numbers: &[u64]) -> Option<usize>
 }
 
 // The numbers of a line that is exactly as many numbers.
+#[tactic(auto, unfolding(sd_text::specs::Numbers::number_of))]
 fn numbers(line: &[u8], columns: &[Column]) -> Option<Numbers>
     requires { length columns.now ≤ 5 }
     ensures none { IfNone result (has_numbers columns.now (words_of line.now) ≡ false) }
