@@ -4,5 +4,6 @@ pub mod LawLemmas
 pub mod RowLemmas
 pub mod SheetLemmas
 pub mod SpellLemmas
+pub mod TextLemmas
 pub mod TicksLemmas
 pub mod WriteLemmas

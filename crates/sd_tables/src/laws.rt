@@ -20,6 +20,16 @@ pub fn texts_have_one_answer()
     ensures same { (format : Format) (text : List ℕ) (a b : TableFault) → IsTableFault format text a → IsTableFault format text b → a ≡ b }
 {}
 
+/// Each text spells a table of the class, at each hz, or has a fault.
+pub fn texts_spell_tables()
+    ensures ts { (text : List ℕ) (hz : ℕ) → 1 ≤ hz
+        → ((t : TsTable) × SpellsTs text hz t) ⊎ ((fault : TableFault) × IsTableFault ts_format text fault) }
+    ensures fx { (text : List ℕ) (hz : ℕ) → 1 ≤ hz
+        → ((t : FixedTable) × SpellsFixed fx_format text hz t) ⊎ ((fault : TableFault) × IsTableFault fx_format text fault) }
+    ensures rt { (text : List ℕ) (hz : ℕ) → 1 ≤ hz
+        → ((t : FixedTable) × SpellsFixed rt_format text hz t) ⊎ ((fault : TableFault) × IsTableFault rt_format text fault) }
+{}
+
 /// A table file spells one table.
 pub fn spellings_have_one_table()
     ensures ts { (text : List ℕ) (hz : ℕ) (a b : TsTable) → SpellsTs text hz a → SpellsTs text hz b → (a.res ≡ b.res) × (a.rows ≡ b.rows) }

@@ -14,7 +14,7 @@ mod write;
 pub use defaults::{default_fx, default_rt, default_ts};
 pub use fault::TableFault;
 pub use laws::{
-    spellings_have_one_table, texts_have_one_answer, ticks_are_the_ceiling,
+    spellings_have_one_table, texts_have_one_answer, texts_spell_tables, ticks_are_the_ceiling,
     written_tables_are_spelled,
 };
 pub use read::{read_fx, read_rt, read_ts};
