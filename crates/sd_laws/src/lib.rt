@@ -1,0 +1,7 @@
+//! Laws of the machine: what holds in every state of every run, whatever the workload and whatever program
+//! made the run. The functions do nothing: the law is what the contract of each says.
+#![tactic(auto)]
+
+mod laws;
+
+pub use laws::{keys_differ, keys_within, one_next, one_runs, urgent_threads};

@@ -1,0 +1,3 @@
+pub mod PartitionLemmas
+pub mod PossibleEvents
+pub mod ReplayLemmas

@@ -1,0 +1,69 @@
+-- Which text is accepted as which workload. Source: this project's own.
+use Rattle.std.specs.Prelude.{◌≡◌, ℕ, ◌≤◌, Bool, false, List, [], length, map, sum_by, Option, Some}
+use Rattle.sd_types.specs.declared.numbers.SetId.{SetId}
+use Rattle.sd_types.specs.declared.classes.ClassParms.{ClassParms}
+use Rattle.sd_types.specs.declared.classes.ClassParms.TheVariants.{Ts}
+use Rattle.sd_types.specs.declared.scripts.Op.{Op}
+use Rattle.sd_types.specs.declared.tables.TsTable.{TsTable}
+use Rattle.sd_types.specs.declared.tables.FixedTable.{FixedTable}
+use Rattle.sd_types.specs.declared.works.ThreadDecl.{ThreadDecl}
+use Rattle.sd_types.specs.declared.works.Work.{Work}
+use Rattle.sd_rules.specs.DefaultTables.{default_ts_rows, default_fx_rows, default_rt_rows, default_res}
+use Rattle.sd_work.specs.Lines.{Declaration}
+use Rattle.sd_work.specs.Statements.{Statement, statements_of, threads_in, limit_in, ops_in, AreSound}
+
+-- a thread of a workload as plain data
+pub record Thread : Type 0 where
+  pub name : List ℕ
+  pub class : ClassParms
+  pub cpupri : ℕ
+  pub uid : ℕ
+  pub privileged : Bool
+  pub set : SetId
+  pub ops : List Op
+
+abbrev pub shown : ThreadDecl → Thread
+shown t = record { name = t.name.text.items; class = t.class; cpupri = t.cpupri; uid = t.uid; privileged = t.privileged; set = t.set; ops = t.script.ops }
+
+-- the set that no set statement declares
+abbrev pub default_set : SetId
+default_set = record { 0 = 0 }
+
+-- a declared thread with the script that the statements give it, or the empty one
+abbrev pub thread_of : List Statement → Declaration → Thread
+thread_of ss d = record { name = d.name; class = Ts d.limit d.upri; cpupri = d.cpupri; uid = 0; privileged = false; set = default_set; ops = ops_in d.name ss }
+
+-- the threads, in the order of their declarations
+abbrev pub threads_of : List Statement → List Thread
+threads_of ss = map (thread_of ss) (threads_in ss)
+
+-- the table of a class that no statement gives
+pub record IsDefaultTs (hz : ℕ) (t : TsTable) : Type 0 where
+  pub res : t.res ≡ 1000
+  pub rows : t.rows ≡ default_ts_rows hz
+
+pub record IsDefaultFx (hz : ℕ) (t : FixedTable) : Type 0 where
+  pub res : t.res ≡ 1000
+  pub rows : t.rows ≡ default_fx_rows hz
+
+pub record IsDefaultRt (hz : ℕ) (t : FixedTable) : Type 0 where
+  pub res : t.res ≡ 1000
+  pub rows : t.rows ≡ default_rt_rows hz
+
+-- The text is a list of statements, each of which may stand where it stands, with a limit, and with at most 4,096
+-- operations in all scripts. The workload has one processor with 100 ticks a second.
+pub record Accepted (text : List ℕ) (w : Work) : Type 0 where
+  pub statements : List Statement
+  pub written : statements_of text ≡ Some statements
+  pub sound : AreSound statements
+  pub few_ops : sum_by (λ t. length t.ops) (threads_of statements) ≤ 4096
+  pub limit : limit_in statements ≡ Some w.limit
+  pub threads : map shown w.threads ≡ threads_of statements
+  pub cpus : w.cpus ≡ 1
+  pub hz : w.hz ≡ 100
+  pub sets : w.sets ≡ []
+  pub locks : w.locks ≡ []
+  pub chans : w.chans ≡ []
+  pub ts : IsDefaultTs 100 w.ts
+  pub fx : IsDefaultFx 100 w.fx
+  pub rt : IsDefaultRt 100 w.rt

@@ -1,0 +1,6 @@
+pub mod Accepted
+pub mod Lines
+pub mod Plain
+pub mod Runs
+pub mod Spans
+pub mod Statements
