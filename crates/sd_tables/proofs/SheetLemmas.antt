@@ -1,16 +1,16 @@
 -- What a line that gives RES adds to a sheet.
-use Rattle.std.proofs.Common.{◌≡◌, ℕ, Bool, true, false, not, ◌||◌, ◌&&◌, cond, nat_le, nat_lt, List, [], ◌∷◌, ◌++◌, length, map, filter, drop, take, get_or, slice_index_or, Option, Some, None, is_some, is_none, option_and_then, IfSome, Result, Err, refl, sym, ap, ◌∙◌, subst, ◌+◌, ◌<◌, ◌≤◌, suc, arith, add-zero, below_more, length-drop, drop-drop}
-use Rattle.std.specs.List.{list_all, list_any}
-use Rattle.std.proofs.lemmas.List.{map-append, get_or-drop, take_more}
+use Rattle.std.proofs.Common.{◌≡◌, ℕ, Bool, true, false, ◌||◌, cond, nat_lt, List, [], ◌∷◌, ◌++◌, length, filter, drop, take, get_or, slice_index_or, Option, Some, None, is_some, is_none, option_and_then, IfSome, Err, refl, sym, ap, ◌∙◌, subst, ◌+◌, ◌<◌, ◌≤◌, suc, arith, add-zero, below_more, length-drop, drop-drop}
+use Rattle.std.specs.List.{list_any}
+use Rattle.std.proofs.lemmas.List.{get_or-drop, take_more}
 use Rattle.std.proofs.lemmas.List.Elements.{filter-append}
-use Rattle.std.proofs.lemmas.List.Folds.{list_any-append, list_all-append}
+use Rattle.std.proofs.lemmas.List.Folds.{list_any-append}
 use Rattle.std.proofs.lemmas.Grind.{common_steps}
 use Rattle.sd_text.specs.Numbers.{number_of}
 use Rattle.sd_tables.specs.declared.columns.Column.{Column}
 use Rattle.sd_tables.specs.declared.fault.TableFault.{TableFault}
-use Rattle.sd_tables.specs.declared.fault.TableFault.TheVariants.{NotANumber, Range, Rows, Resolution, Memory}
+use Rattle.sd_tables.specs.declared.fault.TableFault.TheVariants.{Memory}
 use Rattle.sd_tables.specs.declared.sheet.Sheet.{Sheet}
-use Rattle.sd_tables.specs.TableText.{Line, is_res_word, is_res_line, is_row_line, is_unit, res_of_word, res_of_line, line_fault, fault_at, AreClean, units_in, rows_in}
+use Rattle.sd_tables.specs.TableText.{Line, is_res_word, is_res_line, is_row_line, is_unit, res_of_line, line_fault, fault_at, AreClean, units_in}
 use Rattle.sd_tables.specs.Sheets.{StandsFor, TakesLine, IsUnread}
 
 filter_none-step : {X : Type 0} (b : Bool) (x : X) (xs ys : List X) (rest : Bool) → (b || rest) ≡ false → (rest ≡ false → ys ≡ []) → cond b (x ∷ ys) ys ≡ []

@@ -1,5 +1,4 @@
-use Rattle.std.proofs.Common.{◌≡◌, ◌≤◌, ℕ, List, length, map, ap, sym, true, ◌∙◌, arith}
-use Rattle.sd_types.specs.declared.tables.FixedRow.{FixedRow}
+use Rattle.std.proofs.Common.{◌≡◌, map, ap, sym, ◌∙◌, arith}
 use Rattle.sd_tables.specs.TableText.{is_unit}
 use Rattle.sd_tables.specs.Sheets.{rows_of}
 use Rattle.sd_tables.specs.TableRows.{fixed_row_of}
