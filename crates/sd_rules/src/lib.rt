@@ -1,0 +1,3 @@
+//! The rules of the scheduling classes and of dispatch tables, as definitions and lemmas that contracts cite.
+//! There is no code here.
+#![tactic(auto)]

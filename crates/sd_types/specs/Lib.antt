@@ -1,0 +1,10 @@
+pub mod ClassNumbers
+pub mod Lends
+pub mod NameWords
+pub mod Partitions
+pub mod Priorities
+pub mod Rows
+pub mod Scripts
+pub mod TableRows
+pub mod Ticks
+pub mod Works

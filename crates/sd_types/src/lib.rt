@@ -1,0 +1,28 @@
+//! The plain types that all crates of dispsim share: numbers of things, class states, dispatch tables,
+//! scripts, works, events and entries. A type keeps the facts that make its values meaningful,
+//! so whoever holds a value has them.
+#![tactic(auto)]
+
+mod bodies;
+mod classes;
+mod events;
+mod lists;
+mod names;
+mod numbers;
+mod scripts;
+mod tables;
+mod works;
+
+pub use bodies::ThreadBody;
+pub use classes::{Class, ClassParms, ClassState, FxState, Quantum, RtState, SysState, TsState};
+pub use events::{
+    AssignAnswer, BindAnswer, Denied, Duty, End, Entry, Event, Hints, PrioAnswer, Put, Stop, Which,
+};
+pub use lists::List;
+pub use names::Name;
+pub use numbers::{
+    ChanId, CpuId, HomeId, LockId, SetId, Side, ThreadId, home_of_chan, home_of_lock,
+};
+pub use scripts::{Op, Request, Script};
+pub use tables::{FixedRow, FixedTable, TsRow, TsTable};
+pub use works::{ChanKind, LockKind, ThreadDecl, Work};
