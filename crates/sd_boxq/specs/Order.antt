@@ -1,7 +1,7 @@
 -- Lists of items that tell a rank, a key and an id, and the orders in which queues of threads stand.
 -- Every word takes the functions that it reads from an item, so that it serves items of every type.
 -- Source: Solaris Internals, dispatch queues, sleep queues and turnstiles. Keys are this project's own.
-use Rattle.std.specs.Prelude.{◌≡◌, ℕ, ℤ, Bool, false, ◌&&◌, ◌||◌, ◌==◌, nat_lt, int_lt, if◌then◌else◌, List, [], ◌∷◌, Option, Some, None}
+use Rattle.std.specs.Prelude.{◌≡◌, ℕ, ℤ, Bool, true, false, ◌&&◌, ◌||◌, ◌==◌, nat_lt, int_lt, if◌then◌else◌, List, [], ◌∷◌, Option, Some, None}
 use Rattle.std.specs.Ordering.{int_eq}
 
 -- x goes before the first item that passes the test p, and at the back where none does
@@ -25,15 +25,29 @@ insert_ranked rank key x ys = insert_before (precedes rank key x) x ys
 abbrev pub insert_keyed : {X : Type 0} → (X → ℤ) → (X → ℕ) → X → List X → List X
 insert_keyed key id x ys = insert_before (precedes_keyed key id x) x ys
 
--- the first item with the id n
-abbrev pub find_id : {X : Type 0} → (X → ℕ) → ℕ → List X → Option X
-find_id id n [] = None
-find_id id n (x ∷ xs) = if (id x == n) then Some x else find_id id n xs
+-- the first item that passes the test p
+abbrev pub find_first : {X : Type 0} → (X → Bool) → List X → Option X
+find_first p [] = None
+find_first p (x ∷ xs) = if p x then Some x else find_first p xs
 
 -- the list without that item
+abbrev pub drop_first : {X : Type 0} → (X → Bool) → List X → List X
+drop_first p [] = []
+drop_first p (x ∷ xs) = if p x then xs else (x ∷ drop_first p xs)
+
+-- the first item with the id n, and the list without it
+abbrev pub find_id : {X : Type 0} → (X → ℕ) → ℕ → List X → Option X
+find_id id n xs = find_first (λ x. id x == n) xs
+
 abbrev pub drop_id : {X : Type 0} → (X → ℕ) → ℕ → List X → List X
-drop_id id n [] = []
-drop_id id n (x ∷ xs) = if (id x == n) then xs else (x ∷ drop_id id n xs)
+drop_id id n xs = drop_first (λ x. id x == n) xs
+
+-- the first item with a key less than k, and the list without it
+abbrev pub find_below : {X : Type 0} → (X → ℤ) → ℤ → List X → Option X
+find_below key k xs = find_first (λ x. int_lt (key x) k) xs
+
+abbrev pub drop_below : {X : Type 0} → (X → ℤ) → ℤ → List X → List X
+drop_below key k xs = drop_first (λ x. int_lt (key x) k) xs
 
 -- each item fails the test
 abbrev pub IsNowhere : {X : Type 0} → (X → Bool) → List X → Type 0
@@ -48,3 +62,7 @@ IsInOrder before (x ∷ xs) = IsNowhere (λ y. before y x) xs × IsInOrder befor
 -- the order of dispatch queues, sleep queues and turnstiles
 abbrev pub IsRanked : {X : Type 0} → (X → ℕ) → (X → ℤ) → List X → Type 0
 IsRanked rank key xs = IsInOrder (precedes rank key) xs
+
+-- x passes the test, and no item that passes it precedes x
+abbrev pub IsBest : {X : Type 0} → (X → Bool) → (X → X → Bool) → X → List X → Type 0
+IsBest p before x xs = (p x ≡ true) × IsNowhere (λ y. p y && before y x) xs

@@ -2,7 +2,7 @@
 ghost use Rattle.std.specs.Prelude.{◌≡◌, ◌<◌, ◌^◌, ◌↔◌, IfOk, IsTrue, MatchOption, MatchResult, ◌+◌, [], ◌∷◌, ◌++◌, length, slice_get};
 ghost use Rattle.std.specs.Option.{option_copied};
 ghost use Rattle.std.specs.Borrow.{sem};
-ghost use Rattle.sd_boxq.specs.Order.{insert_ranked, insert_keyed, find_id, drop_id};
+ghost use Rattle.sd_boxq.specs.Order.{insert_ranked, insert_keyed, find_id, drop_id, find_below, drop_below};
 ghost use Rattle.sd_boxq.specs.Cells.{turned_onto};
 
 use crate::ranked::{Ranked, precedes, precedes_keyed};
@@ -266,6 +266,27 @@ impl<T: Ranked> BoxQueue<T> {
                 None => break None,
                 Some(n) => {
                     if n.item().id() == id {
+                        break Some(n);
+                    }
+                    passed.push_front(n);
+                }
+            }
+        };
+        self.restore(passed);
+        found
+    }
+
+    /// Takes the first item whose key is less than `below`.
+    pub fn take_below(&mut self, below: i64) -> Option<Node<T>>
+        ensures taken { result ≡ find_below T.key below self.old }
+        ensures rest { self.new ≡ drop_below T.key below self.old }
+    {
+        let mut passed = BoxQueue::new();
+        let found = loop {
+            match self.pop_front() {
+                None => break None,
+                Some(n) => {
+                    if n.item().key() < below {
                         break Some(n);
                     }
                     passed.push_front(n);
