@@ -1,5 +1,5 @@
 -- What keeps a list in order, and what its first item is.
-use Rattle.std.proofs.Common.{◌≡◌, ℕ, ℤ, Bool, true, false, not, ◌&&◌, nat_lt, ◌==◌, int_lt, List, [], ◌∷◌, ◌++◌, Option, Some, None, drop, refl, subst, arith}
+use Rattle.std.proofs.Common.{◌≡◌, ℕ, ℤ, Bool, true, false, not, ◌&&◌, nat_lt, ◌==◌, int_lt, List, [], ◌∷◌, ◌++◌, Option, Some, None, drop, IfSome, refl, sym, subst, arith}
 use Rattle.std.proofs.lemmas.Bool.Decides.{nat_tests}
 use Rattle.std.proofs.lemmas.Int.{ints}
 use Rattle.sd_boxq.specs.Order.{insert_before, precedes, insert_ranked, find_first, drop_first, IsNowhere, IsInOrder, IsRanked, IsBest}
@@ -71,3 +71,18 @@ module _ {X : Type 0} (before : X → X → Bool) (s : IsStrict before) where
         let best = r found in
         let none : (p y && before y x) ≡ false = rw h refl in
         (best.0, (none, best.1))
+
+-- ---- by rank and key
+module _ {X : Type 0} (rank : X → ℕ) (key : X → ℤ) where
+  pub IsRanked-insert : (x : X) (xs : List X) → IsRanked rank key xs → IsRanked rank key (insert_ranked rank key x xs)
+  IsRanked-insert x xs = in_order-insert (precedes rank key) (precedes-strict rank key) x xs
+
+  pub IsRanked-drop_first : (p : X → Bool) (xs : List X) → IsRanked rank key xs → IsRanked rank key (drop_first p xs)
+  IsRanked-drop_first p xs = in_order-drop_first (precedes rank key) (precedes-strict rank key) p xs
+
+  pub IsRanked-drop : (xs : List X) → IsRanked rank key xs → IsRanked rank key (drop 1 xs)
+  IsRanked-drop xs = in_order-drop (precedes rank key) (precedes-strict rank key) xs
+
+  pub best_first : (p : X → Bool) (xs : List X) (o : Option X) → IsRanked rank key xs → o ≡ find_first p xs → IfSome o (λ x. IsBest p (precedes rank key) x xs)
+  best_first p xs None r e = tt
+  best_first p xs (Some x) r e = find_first-best (precedes rank key) (precedes-strict rank key) p x xs r (sym e)

@@ -6,12 +6,6 @@ use Rattle.sd_boxq.proofs.InOrder.{precedes-strict, in_order-insert, in_order-dr
 use Rattle.sd_sleepq.specs.Among.{AreRanked, find_among, drop_among}
 
 module _ {X : Type 0} (rank : X → ℕ) (key : X → ℤ) where
-  pub IsRanked-insert : (x : X) (xs : List X) → IsRanked rank key xs → IsRanked rank key (insert_ranked rank key x xs)
-  IsRanked-insert x xs = in_order-insert (precedes rank key) (precedes-strict rank key) x xs
-
-  pub IsRanked-drop_first : (p : X → Bool) (xs : List X) → IsRanked rank key xs → IsRanked rank key (drop_first p xs)
-  IsRanked-drop_first p xs = in_order-drop_first (precedes rank key) (precedes-strict rank key) p xs
-
   pub AreRanked-set : (qs : List (List X)) (p : ℕ) (q : List X) → AreRanked rank key qs → IsRanked rank key q → AreRanked rank key (set qs p q)
   AreRanked-set [] p q a r = tt
   AreRanked-set (y ∷ qs) zero q a r = (r, a.1)
@@ -27,10 +21,6 @@ module _ {X : Type 0} (rank : X → ℕ) (key : X → ℤ) where
 
   pub IsRanked-read : (qs : List (List X)) (p : ℕ) (q : List X) → q ≡ get_or qs p q → p < length qs → AreRanked rank key qs → IsRanked rank key q
   IsRanked-read qs p q e h a = subst (IsRanked rank key) (sym (is_there qs p q e h)) (AreRanked-at qs p a)
-
-  pub best_first : (p : X → Bool) (xs : List X) (o : Option X) → IsRanked rank key xs → o ≡ find_first p xs → IfSome o (λ x. IsBest p (precedes rank key) x xs)
-  best_first p xs None r e = tt
-  best_first p xs (Some x) r e = find_first-best (precedes rank key) (precedes-strict rank key) p x xs r (sym e)
 
 pub drop_among-absent : {X : Type 0} (id : X → ℕ) (n : ℕ) (qs : List (List X)) → find_among id n qs ≡ None → drop_among id n qs ≡ qs
 drop_among-absent id n [] e = refl

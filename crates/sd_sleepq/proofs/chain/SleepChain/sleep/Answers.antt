@@ -1,6 +1,7 @@
 use Rattle.std.proofs.Common.{◌<◌, ◌/◌, length, length-set, ◌∙◌, sym, subst, arith}
 use Rattle.sd_boxq.specs.Order.{IsRanked}
-use Rattle.sd_sleepq.proofs.Ordered.{IsRanked-insert, IsRanked-read, AreRanked-set}
+use Rattle.sd_boxq.proofs.InOrder.{IsRanked-insert}
+use Rattle.sd_sleepq.proofs.Ordered.{IsRanked-read, AreRanked-set}
 use Rattle.sd_sleepq.proofs.chain.SleepChain.sleep.Goals as goal
 
 pub invariant_of-self : goal.invariant_of-self

@@ -1,6 +1,7 @@
 use Rattle.std.proofs.Common.{◌≡◌, List, None, ◌<◌, ◌==◌, length, length-set, ◌∙◌, sym, ap, subst, arith}
 use Rattle.sd_boxq.specs.Order.{IsRanked}
-use Rattle.sd_sleepq.proofs.Ordered.{IsRanked-drop_first, IsRanked-read, AreRanked-set, drop_among-absent}
+use Rattle.sd_boxq.proofs.InOrder.{IsRanked-drop_first}
+use Rattle.sd_sleepq.proofs.Ordered.{IsRanked-read, AreRanked-set, drop_among-absent}
 use Rattle.sd_sleepq.specs.Among.{find_among}
 use Rattle.sd_sleepq.proofs.chain.SleepChain.take.Goals as goal
 

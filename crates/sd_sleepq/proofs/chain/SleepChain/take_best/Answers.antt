@@ -4,7 +4,9 @@ use Rattle.std.proofs.Common.{ℤ, ◌≡◌, w64}
 use Rattle.std.proofs.lemmas.Int.{to_z-of_z}
 use Rattle.sd_boxq.specs.Order.{IsRanked, IsBest, precedes, find_below, drop_below}
 use Rattle.sd_sleepq.specs.Sleepers.{sleepers_of}
-use Rattle.sd_sleepq.proofs.Ordered.{IsRanked-drop_first, IsRanked-read, AreRanked-set, best_first, is_there}
+use Rattle.sd_boxq.proofs.InOrder.{IsRanked-drop_first}
+use Rattle.sd_boxq.proofs.InOrder.{best_first}
+use Rattle.sd_sleepq.proofs.Ordered.{IsRanked-read, AreRanked-set, is_there}
 use Rattle.sd_sleepq.proofs.chain.SleepChain.take_best.Goals as goal
 
 same_number : (z : ℤ) → SFits w64 z → to_z w64 (of_z w64 z) ≡ z
