@@ -1,0 +1,9 @@
+pub mod Accounts
+pub mod Best
+pub mod Dispatching
+pub mod Machine
+pub mod Opening
+pub mod Operations
+pub mod Runs
+pub mod States
+pub mod Texts

@@ -1,0 +1,81 @@
+//! Reading a state.
+
+ghost use Rattle.std.specs.Prelude.{◌≡◌, ◌<◌, length, ℕ};
+ghost use Rattle.sd_types.specs.Priorities.{base_of, eff};
+ghost use Rattle.sd_machine.specs.States.{thread_of, cpu_of};
+ghost use Rattle.sd_machine.specs.Operations.{script_of, op_of, ticks_at};
+ghost use Rattle.sd_machine.specs.Dispatching.{thread_set};
+
+use sd_machine::{CpuState, State, ThreadState};
+use sd_types::{ClassState, CpuId, Op, SetId, ThreadBody, ThreadId, Work};
+
+pub(crate) fn thread_at(s: &State, t: ThreadId) -> &ThreadState
+    requires { t.0 < length s.now.threads }
+    ensures { result.now ≡ thread_of s.now t.0 }
+{
+    &s.threads.items()[t.0 as usize]
+}
+
+pub(crate) fn cpu_at(s: &State, c: CpuId) -> CpuState
+    requires { c.0 < length s.now.cpus }
+    ensures { result ≡ cpu_of s.now c.0 }
+{
+    s.cpus.items()[c.0 as usize]
+}
+
+/// The operations of a thread.
+pub(crate) fn script_of(work: &Work, t: ThreadId) -> &[Op]
+    requires { t.0 < length work.now.threads }
+    ensures { result.now ≡ script_of work.now t.0 }
+{
+    work.threads.items()[t.0 as usize].script.ops()
+}
+
+/// The partition of a thread.
+pub(crate) fn thread_set(work: &Work, t: ThreadId) -> SetId
+    requires { t.0 < length work.now.threads }
+    ensures { result ≡ thread_set work.now t.0 }
+{
+    work.threads.items()[t.0 as usize].set
+}
+
+/// The operation at which a thread stands, None after the last.
+pub(crate) fn op_of(work: &Work, t: ThreadId, b: &ThreadBody) -> Option<Op>
+    requires { t.0 < length work.now.threads }
+    ensures { result ≡ op_of work.now t.0 b.now }
+{
+    script_of(work, t).get(b.op as usize).copied()
+}
+
+/// The ticks that an operation has when it begins.
+pub(crate) fn ticks_at(op: Option<Op>) -> u32
+    ensures { result ≡ ticks_at op }
+{
+    match op {
+        Some(Op::Run(n)) => n,
+        _ => 0,
+    }
+}
+
+/// The base priority, 0 to 159.
+pub(crate) fn base(class: &ClassState) -> u8
+    ensures { result ≡ base_of class.now }
+{
+    match class {
+        ClassState::Ts(s) => sd_ts::global(s),
+        ClassState::Fx(s) => s.pri,
+        ClassState::Sys(s) => s.pri,
+        ClassState::Rt(s) => 100 + s.pri,
+    }
+}
+
+/// The effective priority: the maximum of the base priority and all willed numbers.
+pub(crate) fn effective(b: &ThreadBody) -> u8
+    ensures { result ≡ eff b.now }
+{
+    let mut greatest = base(&b.class);
+    for willed in b.willed.as_slice() {
+        greatest = greatest.max(willed.1);
+    }
+    greatest
+}

@@ -1,0 +1,6 @@
+//! Chains of sleep queues: a chain has one ranked queue of sleepers for each of its channels.
+#![tactic(auto)]
+
+mod chain;
+
+pub use chain::SleepChain;
