@@ -363,3 +363,11 @@ lists-more w n xs ys cpus e same pushed =
     pushed ∙ ap (λ (zs : List (List CpuId)). zs ++ cpus ∷ []) e
     ∙ ap (λ (k : List CpuId). map (cpus_of_set w) (range_with_len 0 n) ++ k ∷ []) same
     ∙ sym (map-range_with_len_more (cpus_of_set w) 0 n n (zero-add n))
+
+-- ---- sizes
+
+pub length-sets : (w : Work) → length (sets_of w) ≡ w.cpus
+length-sets w = length-map-range_with_len (λ c. set_of_number (set_of_cpu w c)) 0 w.cpus
+
+pub length-lists : (w : Work) → length (lists_of w) ≡ length w.sets + 1
+length-lists w = length-map-range_with_len (cpus_of_set w) 0 (length w.sets + 1)

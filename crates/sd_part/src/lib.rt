@@ -3,6 +3,8 @@
 
 mod laws;
 mod partitions;
+#[cfg(test)]
+mod tests;
 
-pub use laws::{each_in_one, partitions_are_sets, partitions_stand};
+pub use laws::{each_in_one, partitions_are_sets, partitions_have_sizes, partitions_stand};
 pub use partitions::Partitions;

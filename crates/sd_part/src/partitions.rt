@@ -1,6 +1,6 @@
 //! The partitions, kept as the set of each processor and as the list of processors of each set.
 
-ghost use Rattle.std.specs.Prelude.{◌≡◌, ◌<◌, ◌≤◌, ◌↔◌, ◌==◌, length, Some, slice_get, IsTrue, IfOk};
+ghost use Rattle.std.specs.Prelude.{◌≡◌, ◌+◌, ◌<◌, ◌≤◌, ◌↔◌, ◌==◌, length, Some, slice_get, IsTrue, IfOk};
 ghost use Rattle.std.specs.List.{list_any};
 ghost use Rattle.sd_types.specs.declared.works.Work.{Work};
 ghost use Rattle.sd_types.specs.Partitions.{set_of_cpu, cpus_of_set};
@@ -38,7 +38,9 @@ impl Partitions {
 
     /// The partitions of the workload.
     pub fn new(alloc: Global, work: &Work) -> Result<Partitions, AllocError>
-        ensures { IfOk result (λ parts. parts ≡ partitions_of work.now) }
+        ensures partitions { IfOk result (λ parts. parts ≡ partitions_of work.now) }
+        ensures processors { IfOk result (λ parts. length parts.sets ≡ work.now.cpus) }
+        ensures sets { IfOk result (λ parts. length parts.cpus ≡ length work.now.sets + 1) }
     {
         let sets = sets_of_cpus(alloc, work)?;
         let cpus = lists_of_sets(alloc, work)?;
