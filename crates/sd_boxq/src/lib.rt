@@ -2,8 +2,10 @@
 //! takes memory.
 #![tactic(auto)]
 
+mod chain;
 mod queue;
 mod ranked;
 
-pub use queue::{BoxQueue, Node};
+pub use chain::Node;
+pub use queue::BoxQueue;
 pub use ranked::Ranked;

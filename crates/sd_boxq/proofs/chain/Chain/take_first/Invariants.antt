@@ -1,7 +1,7 @@
 use Rattle.std.proofs.Common.{◌≡◌, length}
 use Rattle.sd_boxq.specs.Order.{find_id, drop_id}
 use Rattle.sd_boxq.specs.Cells.{turned_onto}
-use Rattle.sd_boxq.proofs.queue.BoxQueue.take_first.Given as goal
+use Rattle.sd_boxq.proofs.chain.Chain.take_first.Given as goal
 
 abbrev pub invariant-loop-n : goal.invariant-loop-n
 invariant-loop-n g l =

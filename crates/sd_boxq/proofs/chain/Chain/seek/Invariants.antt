@@ -1,6 +1,6 @@
 use Rattle.std.proofs.Common.{◌≡◌, ◌+◌, slice_get, length}
 use Rattle.sd_boxq.specs.Cells.{items_of}
-use Rattle.sd_boxq.proofs.queue.BoxQueue.seek.Given as goal
+use Rattle.sd_boxq.proofs.chain.Chain.seek.Given as goal
 
 abbrev pub invariant-loop-link : goal.invariant-loop-link
 invariant-loop-link g l =
