@@ -24,7 +24,8 @@ struct Cell<T> {
     next: Link<T>,
 }
 
-/// One box of its own, with one item.
+/// One box of its own, with one item, which contracts see as the item. A box goes from queue to queue
+/// without a copy of its item, and takes no memory on the way.
 #[derive(Drop)]
 pub struct Node<T> {
     cell: Box<Cell<T>>,
@@ -56,6 +57,7 @@ impl<T> Model for Chain<T> {
 }
 
 impl<T> Node<T> {
+    /// A box for this item. For want of memory the item is dropped.
     pub fn node(alloc: Global, item: T) -> Result<Node<T>, AllocError>
     where
         T: Drop,
@@ -71,6 +73,7 @@ impl<T> Node<T> {
         Ok(Node { cell })
     }
 
+    /// The item.
     pub fn item(&self) -> &T
         ensures { result.now ≡ self.now }
     {
@@ -79,6 +82,7 @@ impl<T> Node<T> {
 
     ghost use Rattle.sd_boxq.specs.Lends.{lends_item};
 
+    /// The item, to be changed.
     pub fn item_mut(&mut self) -> &mut T
         ensures* writes_back { sem 𝓛 (lends_item T.row self.entry result) }
         ensures value { result.now ≡ self.old }
@@ -149,6 +153,7 @@ impl<T> Chain<T> {
         Chain { first: Link::End }
     }
 
+    /// Puts the box before all others.
     pub(crate) fn push(&mut self, n: Node<T>)
         ensures { self.new ≡ n ∷ self.old }
     {
@@ -157,6 +162,7 @@ impl<T> Chain<T> {
         fill(&mut self.first, Link::More(cell));
     }
 
+    /// Takes the first box.
     pub(crate) fn pop(&mut self) -> Option<Node<T>>
         ensures { MatchOption result ((self.old ≡ []) × (self.new ≡ [])) (λ n. self.old ≡ n ∷ self.new) }
     {
@@ -360,6 +366,7 @@ impl<T: Ranked> Chain<T> {
     }
 }
 
+// Box by box: the derived drop of a link would call itself once for each box.
 impl<T: Drop> Drop for Chain<T> {
     fn drop(mut self) {
         while let Some(n) = self.pop() {

@@ -5,6 +5,8 @@
 mod chain;
 mod queue;
 mod ranked;
+#[cfg(test)]
+mod tests;
 
 pub use chain::Node;
 pub use queue::BoxQueue;

@@ -58,6 +58,7 @@ impl<T> BoxQueue<T> {
         }
     }
 
+    /// Puts the box behind all others.
     pub fn push_back(&mut self, n: Node<T>)
         ensures { self.new ≡ self.old ++ n ∷ [] }
     {
@@ -68,6 +69,7 @@ impl<T> BoxQueue<T> {
         }
     }
 
+    /// Puts the box before all others.
     pub fn push_front(&mut self, n: Node<T>)
         ensures { self.new ≡ n ∷ self.old }
     {
@@ -112,12 +114,14 @@ impl<T> BoxQueue<T> {
         self.front.first()
     }
 
+    /// Whether there is no item.
     pub fn is_empty(&self) -> bool
         ensures { IsTrue result ↔ (self.now ≡ []) }
     {
         self.front.is_empty()
     }
 
+    /// The number of items.
     pub fn len(&self) -> usize
         requires { length self.now < 2 ^ 32 }
         ensures { result ≡ length self.now }

@@ -12,6 +12,7 @@ use std::marker::Model;
 pub(crate) const LEVELS: usize = 160;
 
 /// The levels in the order of their places. A place is counted from the greatest rank down.
+#[derive(Drop)]
 pub(crate) struct Levels<T> {
     queues: Vec<BoxQueue<T>>,
     busy: Bitmap,

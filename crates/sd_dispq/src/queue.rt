@@ -11,6 +11,7 @@ use std::alloc::{AllocError, Global};
 use std::marker::Model;
 
 /// A dispatch queue.
+#[derive(Drop)]
 pub struct DispQueue<T: Ranked> {
     levels: Levels<T>,
     greatest: Option<u8>,

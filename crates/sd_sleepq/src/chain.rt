@@ -11,6 +11,7 @@ use sd_types::ChanId;
 use std::marker::Model;
 
 /// The sleepers of the channels whose numbers modulo 64 are the chain's.
+#[derive(Drop)]
 pub struct SleepChain<T: Ranked> {
     chain: u8,
     queues: Four<BoxQueue<T>>,

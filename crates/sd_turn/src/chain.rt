@@ -14,6 +14,7 @@ use sd_types::{LockId, Side};
 use std::marker::Model;
 
 /// The waiters of the locks whose numbers modulo 64 are the chain's.
+#[derive(Drop)]
 pub struct TurnChain<T: Ranked> {
     chain: u8,
     locks: Four<Option<Turnstile<T>>>,
