@@ -61,97 +61,76 @@ fn best(taken: Option<(Node<Item>, Turnstile<Item>)>) -> u32 {
     }
 }
 
-fn left(taken: Option<(LockId, Side, Node<Item>, Turnstile<Item>)>) -> (u16, bool, u32) {
+// The lock for which the taken one waited, and whether as a writer.
+fn left(taken: Option<(LockId, Side, Node<Item>, Turnstile<Item>)>) -> (u16, bool) {
     match taken {
-        Some((lock, side, node, _turnstile)) => (lock.0, side == Side::Writer, node.item().id),
-        None => (0, false, 0),
+        Some((lock, side, _node, _turnstile)) => (lock.0, side == Side::Writer),
+        None => (0, false),
     }
 }
+
+fn side(writes: bool) -> Side {
+    if writes { Side::Writer } else { Side::Reader }
+}
+
+// The lock, whether as a writer, the rank, the key and the id.
+const WAITERS: [(u16, bool, u8, i64, u32); 8] = [
+    (5, true, 10, 1, 1),
+    (5, false, 30, 2, 2),
+    (69, false, 20, 3, 3),
+    (69, true, 20, 4, 4),
+    (133, true, 40, 6, 5),
+    (133, true, 40, 5, 6),
+    (197, false, 50, 7, 7),
+    (197, true, 60, 8, 8),
+];
 
 #[test]
 fn blocks_and_takes(rt: HostRuntime) -> Result<(), Fail> {
     let mut chain = TurnChain::new(5);
-    assert_eq!(rt; chain.greatest(LockId(5)), None);
-    assert_eq!(rt; best(chain.take_best(LockId(5), Side::Writer)), 0);
-    chain.block(
-        LockId(5),
-        Side::Writer,
-        node(&rt, 10, 1, 1)?,
-        turnstile(&rt)?,
-    );
-    chain.block(
-        LockId(5),
-        Side::Reader,
-        node(&rt, 30, 2, 2)?,
-        turnstile(&rt)?,
-    );
-    chain.block(
-        LockId(69),
-        Side::Reader,
-        node(&rt, 20, 3, 3)?,
-        turnstile(&rt)?,
-    );
-    chain.block(
-        LockId(69),
-        Side::Writer,
-        node(&rt, 20, 4, 4)?,
-        turnstile(&rt)?,
-    );
-    chain.block(
-        LockId(133),
-        Side::Writer,
-        node(&rt, 40, 6, 5)?,
-        turnstile(&rt)?,
-    );
-    chain.block(
-        LockId(133),
-        Side::Writer,
-        node(&rt, 40, 5, 6)?,
-        turnstile(&rt)?,
-    );
-    chain.block(
-        LockId(197),
-        Side::Reader,
-        node(&rt, 50, 7, 7)?,
-        turnstile(&rt)?,
-    );
-    chain.block(
-        LockId(197),
-        Side::Writer,
-        node(&rt, 60, 8, 8)?,
-        turnstile(&rt)?,
-    );
+    for (lock, writes, rank, key, id) in WAITERS {
+        if lock < 256 && lock % 64 == 5 {
+            let own = turnstile(&rt)?;
+            chain.block(LockId(lock), side(writes), node(&rt, rank, key, id)?, own);
+        }
+    }
     assert_eq!(rt; chain.greatest(LockId(5)), Some(30));
-    assert_eq!(rt; chain.best(LockId(133), Side::Writer).is_some(), true);
     assert_eq!(rt; id_of(chain.find(7)), 7);
-    assert_eq!(rt; id_of(chain.find(9)), 0);
-    assert_eq!(rt; best(chain.take_best(LockId(5), Side::Writer)), 1);
-    assert_eq!(rt; best(chain.take_best(LockId(5), Side::Writer)), 0);
-    assert_eq!(rt; best(chain.take_best(LockId(133), Side::Writer)), 6);
-    assert_eq!(rt; left(chain.take(3)), (69, false, 3));
-    assert_eq!(rt; left(chain.take(3)), (0, false, 0));
-    assert_eq!(rt; left(chain.take(8)), (197, true, 8));
-    assert_eq!(rt; left(chain.take(7)), (197, false, 7));
-    assert_eq!(rt; left(chain.take(4)), (69, true, 4));
-    assert_eq!(rt; best(chain.take_best(LockId(5), Side::Reader)), 2);
-    assert_eq!(rt; best(chain.take_best(LockId(133), Side::Writer)), 5);
+    assert_eq!(rt; id_of(chain.best(LockId(133), Side::Writer)), 6);
+    for (lock, writes, id) in [
+        (5, true, 1),
+        (5, true, 0),
+        (133, true, 6),
+        (5, false, 2),
+        (133, true, 5),
+        (133, true, 0),
+    ] {
+        if lock < 256 && lock % 64 == 5 {
+            assert_eq!(rt; best(chain.take_best(LockId(lock), side(writes))), id);
+        }
+    }
+    for (id, place) in [
+        (3, (69, false)),
+        (3, (0, false)),
+        (8, (197, true)),
+        (7, (197, false)),
+        (4, (69, true)),
+    ] {
+        assert_eq!(rt; left(chain.take(id)), place);
+    }
     Ok(())
 }
 
 #[test]
 fn counts(rt: HostRuntime) -> Result<(), Fail> {
     let mut chain = TurnChain::new(0);
-    chain.block(
-        LockId(64),
-        Side::Reader,
-        node(&rt, 10, 1, 1)?,
-        turnstile(&rt)?,
-    );
+    let own = turnstile(&rt)?;
+    chain.block(LockId(64), Side::Reader, node(&rt, 10, 1, 1)?, own);
     assert_eq!(rt; chain.waiters(LockId(64)), 1);
     let mut rack = Rack::new();
     rack.put(turnstile(&rt)?);
     assert_eq!(rt; rack.len(), 1);
-    assert_eq!(rt; rack.take().is_some(), true);
-    assert_eq!(rt; rack.take().is_some(), false);
+    assert!(rt; rack.take().is_some());
+    assert!(rt; rack.take().is_none());
     Ok(())
 }
