@@ -1,5 +1,5 @@
 -- What keeps a list in order, and what its first item is.
-use Rattle.std.proofs.Common.{◌≡◌, ℕ, ℤ, Bool, true, false, not, ◌&&◌, nat_lt, ◌==◌, int_lt, List, [], ◌∷◌, ◌++◌, Option, Some, None, drop, IfSome, refl, sym, subst, arith}
+use Rattle.std.proofs.Common.{◌≡◌, ℕ, ℤ, Bool, true, false, ◌&&◌, List, [], ◌∷◌, Option, Some, None, drop, IfSome, refl, sym, subst, arith}
 use Rattle.std.proofs.lemmas.Bool.Decides.{nat_tests}
 use Rattle.std.proofs.lemmas.Int.{ints}
 use Rattle.sd_boxq.specs.Order.{insert_before, precedes, insert_ranked, find_first, drop_first, IsNowhere, IsInOrder, IsRanked, IsBest}
@@ -31,9 +31,9 @@ module _ {X : Type 0} (before : X → X → Bool) (s : IsStrict before) where
   in_order-insert x [] o = (tt, tt)
   in_order-insert x (y ∷ ys) o = by (before x y) refl (in_order-insert x ys o.1)
     where
-    by : (b : Bool) → before x y ≡ b → IsInOrder before (insert_before (before x) x ys) → IsInOrder before (insert_before (before x) x (y ∷ ys))
-    by true e r = rw e ((s.back x y e, behind x y ys e o.0), o)
-    by false e r = rw e (nowhere-insert (before x) (λ z. before z y) x ys e o.0, r)
+      by : (b : Bool) → before x y ≡ b → IsInOrder before (insert_before (before x) x ys) → IsInOrder before (insert_before (before x) x (y ∷ ys))
+      by true e r = rw e ((s.back x y e, behind x y ys e o.0), o)
+      by false e r = rw e (nowhere-insert (before x) (λ z. before z y) x ys e o.0, r)
 
   nowhere-drop_first : (p q : X → Bool) (ys : List X) → IsNowhere q ys → IsNowhere q (drop_first p ys)
   nowhere-drop_first p q [] n = tt
@@ -43,9 +43,9 @@ module _ {X : Type 0} (before : X → X → Bool) (s : IsStrict before) where
   in_order-drop_first p [] o = tt
   in_order-drop_first p (y ∷ ys) o = by (p y) refl (in_order-drop_first p ys o.1)
     where
-    by : (b : Bool) → p y ≡ b → IsInOrder before (drop_first p ys) → IsInOrder before (drop_first p (y ∷ ys))
-    by true e r = rw e o.1
-    by false e r = rw e (nowhere-drop_first p (λ z. before z y) ys o.0, r)
+      by : (b : Bool) → p y ≡ b → IsInOrder before (drop_first p ys) → IsInOrder before (drop_first p (y ∷ ys))
+      by true e r = rw e o.1
+      by false e r = rw e (nowhere-drop_first p (λ z. before z y) ys o.0, r)
 
   pub in_order-drop : (ys : List X) → IsInOrder before ys → IsInOrder before (drop 1 ys)
   in_order-drop [] o = tt
@@ -60,17 +60,17 @@ module _ {X : Type 0} (before : X → X → Bool) (s : IsStrict before) where
   find_first-best p x [] o e = absurd cc
   find_first-best p x (y ∷ ys) o e = by (p y) refl (find_first-best p x ys o.1)
     where
-    by : (b : Bool) → p y ≡ b → (find_first p ys ≡ Some x → IsBest p before x ys) → IsBest p before x (y ∷ ys)
-    by true h r =
-        let found = rw h at e in
-        let same : y ≡ x = cc in
-        let alone : (p y && before y y) ≡ false = rw (h, s.itself y) refl in
-        subst (λ z. IsBest p before z (y ∷ ys)) same (h, (alone, and-nowhere p (λ z. before z y) ys o.0))
-    by false h r =
-        let found = rw h at e in
-        let best = r found in
-        let none : (p y && before y x) ≡ false = rw h refl in
-        (best.0, (none, best.1))
+      by : (b : Bool) → p y ≡ b → (find_first p ys ≡ Some x → IsBest p before x ys) → IsBest p before x (y ∷ ys)
+      by true h r =
+          let found = rw h at e in
+          let same : y ≡ x = cc in
+          let alone : (p y && before y y) ≡ false = rw (h, s.itself y) refl in
+          subst (λ z. IsBest p before z (y ∷ ys)) same (h, (alone, and-nowhere p (λ z. before z y) ys o.0))
+      by false h r =
+          let found = rw h at e in
+          let best = r found in
+          let none : (p y && before y x) ≡ false = rw h refl in
+          (best.0, (none, best.1))
 
 -- ---- by rank and key
 module _ {X : Type 0} (rank : X → ℕ) (key : X → ℤ) where

@@ -1,6 +1,6 @@
 -- What linked cells hold.
 use Rattle.std.specs.Prelude.{List, [], ◌∷◌}
-use Rattle.sd_boxq.specs.declared.queue.Link.{Link, End, More'}
+use Rattle.sd_boxq.specs.declared.chain.Link.{Link, End, More'}
 
 -- the items from a link on, in order
 abbrev pub items_of : {T : Type 0} → Link T → List T

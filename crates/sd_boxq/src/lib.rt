@@ -2,8 +2,12 @@
 //! takes memory.
 #![tactic(auto)]
 
+mod chain;
 mod queue;
 mod ranked;
+#[cfg(test)]
+mod tests;
 
-pub use queue::{BoxQueue, Node};
+pub use chain::Node;
+pub use queue::BoxQueue;
 pub use ranked::Ranked;

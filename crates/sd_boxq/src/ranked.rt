@@ -13,12 +13,15 @@ pub trait Ranked {
 
     ghost id: { Self → ℕ };
 
+    /// The rank: the greater comes first.
     fn rank(&self) -> u8
         ensures { result ≡ rank self.now };
 
+    /// The key: of equal ranks the less comes first.
     fn key(&self) -> i64
         ensures { result ≡ key self.now };
 
+    /// The id, by which an item is found.
     fn id(&self) -> u32
         ensures { result ≡ id self.now };
 }

@@ -9,12 +9,14 @@ pub(crate) struct Bitmap {
 }
 
 impl Bitmap {
+    /// No bit is set.
     pub(crate) fn new() -> Bitmap
         ensures { (p : ℕ) → bit_of result.words p ≡ 0 }
     {
         Bitmap { words: [0; 3] }
     }
 
+    /// Sets the bit at this place.
     pub(crate) fn set(&mut self, place: usize)
         requires { place < 192 }
         ensures { HasBit self.old.words place 1 self.new.words }
@@ -22,6 +24,7 @@ impl Bitmap {
         self.words[place / 64] |= 1 << (place % 64);
     }
 
+    /// Clears the bit at this place.
     pub(crate) fn clear(&mut self, place: usize)
         requires { place < 192 }
         ensures { HasBit self.old.words place 0 self.new.words }

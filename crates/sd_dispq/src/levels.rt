@@ -12,6 +12,7 @@ use std::marker::Model;
 pub(crate) const LEVELS: usize = 160;
 
 /// The levels in the order of their places. A place is counted from the greatest rank down.
+#[derive(Drop)]
 pub(crate) struct Levels<T> {
     queues: Vec<BoxQueue<T>>,
     busy: Bitmap,
@@ -33,6 +34,7 @@ impl<T> Model for Levels<T> {
 }
 
 impl<T> Levels<T> {
+    /// Empty levels.
     pub(crate) fn new(alloc: Global) -> Result<Levels<T>, AllocError>
     where
         T: Drop,
@@ -48,6 +50,7 @@ impl<T> Levels<T> {
         })
     }
 
+    /// Puts the box before all others of the level at this place.
     pub(crate) fn push_front(&mut self, place: usize, n: Node<T>)
         requires { place < 160 }
         ensures { self.new ≡ set self.old place (n ∷ level_at self.old place) }
@@ -57,6 +60,7 @@ impl<T> Levels<T> {
         self.busy.set(place);
     }
 
+    /// Puts the box behind all others of the level at this place.
     pub(crate) fn push_back(&mut self, place: usize, n: Node<T>)
         requires { place < 160 }
         ensures { self.new ≡ set self.old place (level_at self.old place ++ n ∷ []) }
@@ -66,6 +70,7 @@ impl<T> Levels<T> {
         self.busy.set(place);
     }
 
+    /// Takes the first box of the level at this place.
     pub(crate) fn pop_front(&mut self, place: usize) -> Option<Node<T>>
         requires { place < 160 }
         ensures taken { result ≡ slice_get (level_at self.old place) 0 }
@@ -79,6 +84,7 @@ impl<T> Levels<T> {
         taken
     }
 
+    /// The level at this place.
     pub(crate) fn level(&self, place: usize) -> &BoxQueue<T>
         requires { place < 160 }
         ensures { result.now ≡ level_at self.now place }
@@ -95,6 +101,7 @@ impl<T> Levels<T> {
 }
 
 impl<T: Ranked> Levels<T> {
+    /// Puts the box by rank and key into the level at this place.
     pub(crate) fn insert_ranked(&mut self, place: usize, n: Node<T>)
         requires { place < 160 }
         ensures { self.new ≡ set self.old place (insert_ranked T.rank T.key n (level_at self.old place)) }
@@ -104,6 +111,7 @@ impl<T: Ranked> Levels<T> {
         self.busy.set(place);
     }
 
+    /// Takes the box of the first item with this id of the level at this place.
     pub(crate) fn take_first(&mut self, place: usize, id: u32) -> Option<Node<T>>
         requires { place < 160 }
         ensures taken { result ≡ find_id T.id id (level_at self.old place) }

@@ -4,5 +4,7 @@
 mod bitmap;
 mod levels;
 mod queue;
+#[cfg(test)]
+mod tests;
 
 pub use queue::DispQueue;

@@ -1,4 +1,4 @@
-//! The dispatch queue.
+//! The dispatch queue: a list in order of rank and then place, kept in levels.
 ghost use Rattle.std.specs.Prelude.{◌≡◌, ◌+◌, ◌<◌, ◌^◌, ℕ, [], ◌∷◌, length, slice_get, IfOk, MatchOption};
 ghost use Rattle.std.specs.Option.{option_copied};
 ghost use Rattle.sd_boxq.specs.Order.{insert_ranked, find_id, drop_id};
@@ -10,7 +10,12 @@ use sd_boxq::{Node, Ranked};
 use std::alloc::{AllocError, Global};
 use std::marker::Model;
 
-/// A dispatch queue.
+/// A dispatch queue of 160 ranks, which contracts see as the list of its items: the greatest rank
+/// first, and of one rank by place (Solaris Internals, dispatch queues).
+///
+/// A bit is set exactly where a level is not empty, and the maximum is the rank of the first such level,
+/// so the best and the greatest rank are found without a scan of levels.
+#[derive(Drop)]
 pub struct DispQueue<T: Ranked> {
     levels: Levels<T>,
     greatest: Option<u8>,
@@ -75,6 +80,7 @@ fn holder_of<T: Ranked>(levels: &Levels<T>, id: u32) -> Option<usize>
 }
 
 impl<T: Ranked> DispQueue<T> {
+    /// An empty queue. No other call takes memory.
     pub fn new(alloc: Global) -> Result<DispQueue<T>, AllocError>
     where
         T: Drop,
@@ -86,6 +92,7 @@ impl<T: Ranked> DispQueue<T> {
         })
     }
 
+    /// Puts the box before all others of its rank.
     pub fn put_front(&mut self, n: Node<T>)
         requires { T.rank n < 160 }
         ensures { self.new ≡ put_front T.rank n self.old }
@@ -95,6 +102,7 @@ impl<T: Ranked> DispQueue<T> {
         self.greatest = raise(self.greatest, rank);
     }
 
+    /// Puts the box behind all others of its rank.
     pub fn put_back(&mut self, n: Node<T>)
         requires { T.rank n < 160 }
         ensures { self.new ≡ put_back T.rank n self.old }
@@ -104,6 +112,8 @@ impl<T: Ranked> DispQueue<T> {
         self.greatest = raise(self.greatest, rank);
     }
 
+    /// Puts the box before the first item whose rank is less, or whose rank is equal and whose key is
+    /// greater, and at the back where there is none.
     pub fn put_ranked(&mut self, n: Node<T>)
         requires { T.rank n < 160 }
         ensures { self.new ≡ insert_ranked T.rank T.key n self.old }
@@ -113,6 +123,7 @@ impl<T: Ranked> DispQueue<T> {
         self.greatest = raise(self.greatest, rank);
     }
 
+    /// The first item, which has the greatest rank. `None` exactly where the queue is empty.
     pub fn best(&self) -> Option<&T>
         ensures value { option_copied result ≡ slice_get self.now 0 }
         ensures order { IsByRank T.rank self.now }
@@ -123,12 +134,14 @@ impl<T: Ranked> DispQueue<T> {
         }
     }
 
+    /// The greatest rank, by the maximum that the bitmap gave. `None` exactly where the queue is empty.
     pub fn max(&self) -> Option<u8>
         ensures { result ≡ greatest_rank T.rank self.now }
     {
         self.greatest
     }
 
+    /// Takes the box of the first item. `None` exactly where the queue is empty.
     pub fn take_best(&mut self) -> Option<Node<T>>
         ensures { MatchOption result ((self.old ≡ []) × (self.new ≡ [])) (λ n. self.old ≡ n ∷ self.new) }
     {
@@ -142,6 +155,7 @@ impl<T: Ranked> DispQueue<T> {
         }
     }
 
+    /// Takes the box of the first item with this id. `None` exactly where there is none.
     pub fn take(&mut self, id: u32) -> Option<Node<T>>
         ensures taken { result ≡ find_id T.id id self.old }
         ensures rest { self.new ≡ drop_id T.id id self.old }
@@ -156,6 +170,7 @@ impl<T: Ranked> DispQueue<T> {
         }
     }
 
+    /// The first item with this id. `None` exactly where there is none.
     pub fn find(&self, id: u32) -> Option<&T>
         ensures { option_copied result ≡ find_id T.id id self.now }
     {
@@ -165,6 +180,7 @@ impl<T: Ranked> DispQueue<T> {
         }
     }
 
+    /// The item at this place of the list, counted from 0. `None` exactly where there is none.
     pub fn item(&self, place: usize) -> Option<&T>
         ensures { option_copied result ≡ slice_get self.now place }
     {
@@ -178,6 +194,7 @@ impl<T: Ranked> DispQueue<T> {
         None
     }
 
+    /// The number of items.
     pub fn len(&self) -> usize
         requires { length self.now < 2 ^ 32 }
         ensures { result ≡ length self.now }

@@ -1,4 +1,4 @@
-//! The chain.
+//! The chain: its number, and a ranked queue for each of its four channels.
 ghost use Rattle.std.specs.Prelude.{◌≡◌, ◌+◌, ◌*◌, ◌<◌, ℕ, [], ◌∷◌, length, int_lt, IfSome, MatchOption, None};
 ghost use Rattle.std.specs.Option.{option_copied, option_map};
 ghost use Rattle.sd_boxq.specs.Order.{precedes, insert_ranked, find_below, drop_below, IsBest};
@@ -10,7 +10,9 @@ use sd_four::Four;
 use sd_types::ChanId;
 use std::marker::Model;
 
-/// The sleepers of the channels whose numbers modulo 64 are the chain's.
+/// The sleepers of the channels below 256 whose numbers modulo 64 are the chain's, each channel's in order
+/// of rank and key (Solaris Internals, sleep queues). No call takes memory.
+#[derive(Drop)]
 pub struct SleepChain<T: Ranked> {
     chain: u8,
     queues: Four<BoxQueue<T>>,
@@ -42,6 +44,7 @@ fn holder_of<T: Ranked>(queues: &Four<BoxQueue<T>>, id: u32) -> Option<usize>
 }
 
 impl<T: Ranked> SleepChain<T> {
+    /// A chain of this number, without sleepers.
     pub fn new(chain: u8) -> SleepChain<T>
         requires { chain < 64 }
         ensures { result ≡ record { chain = chain; queues = [] ∷ [] ∷ [] ∷ [] ∷ [] } }
@@ -57,6 +60,7 @@ impl<T: Ranked> SleepChain<T> {
         }
     }
 
+    /// Puts the sleeper on the channel, by its rank and key.
     pub fn sleep(&mut self, k: ChanId, n: Node<T>)
         requires { IsOfChain self.old k.0 }
         ensures { self.new ≡ with_sleepers self.old k.0 (insert_ranked T.rank T.key n (sleepers_of self.old k.0)) }
@@ -65,6 +69,8 @@ impl<T: Ranked> SleepChain<T> {
         queue.insert_ranked(n);
     }
 
+    /// Takes the best of the channel whose key is less than `below`: of those the one with the greatest
+    /// rank, and of equal ranks the least key. `None` exactly where there is none.
     pub fn take_best(&mut self, k: ChanId, below: i64) -> Option<Node<T>>
         requires { IsOfChain self.old k.0 }
         ensures taken { result ≡ find_below T.key below (sleepers_of self.old k.0) }
@@ -75,6 +81,7 @@ impl<T: Ranked> SleepChain<T> {
         queue.take_below(below)
     }
 
+    /// The first sleeper with this id, by channel. `None` exactly where there is none.
     pub fn find(&self, id: u32) -> Option<&T>
         ensures value { option_copied result ≡ find_among T.id id self.now.queues }
         ensures order { AreRanked T.rank T.key self.now.queues }
@@ -85,6 +92,8 @@ impl<T: Ranked> SleepChain<T> {
         }
     }
 
+    /// Takes the first sleeper with this id, by channel, and tells its channel. `None` exactly where there
+    /// is none.
     pub fn take(&mut self, id: u32) -> Option<(ChanId, Node<T>)>
         ensures taken { option_map (λ r. r.1) result ≡ find_among T.id id self.old.queues }
         ensures channel { IfSome result (λ r. r.0.0 ≡ 64 * place_among T.id id self.old.queues + self.old.chain) }

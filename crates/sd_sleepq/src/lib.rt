@@ -2,5 +2,7 @@
 #![tactic(auto)]
 
 mod chain;
+#[cfg(test)]
+mod tests;
 
 pub use chain::SleepChain;

@@ -1,4 +1,4 @@
-//! The chain of turnstiles.
+//! The chain of turnstiles: its number, the turnstile that serves each lock, and the free ones.
 ghost use Rattle.std.specs.Prelude.{◌≡◌, ◌+◌, ◌*◌, ◌<◌, ◌^◌, ℕ, [], ◌∷◌, length, slice_get, drop, IfSome, MatchOption, None};
 ghost use Rattle.std.specs.Option.{option_copied, option_map};
 ghost use Rattle.sd_boxq.specs.Order.{insert_ranked, IsRanked};
@@ -13,7 +13,12 @@ use sd_four::Four;
 use sd_types::{LockId, Side};
 use std::marker::Model;
 
-/// The waiters of the locks whose numbers modulo 64 are the chain's.
+/// The waiters of the locks below 256 whose numbers modulo 64 are the chain's, each side's in order of
+/// rank and key (Solaris Internals, turnstiles). No call takes memory.
+///
+/// The chain has as many turnstiles as waiters: the first waiter's serves its lock, later ones are free,
+/// and each waiter that leaves takes one along (this project's own).
+#[derive(Drop)]
 pub struct TurnChain<T: Ranked> {
     chain: u8,
     locks: Four<Option<Turnstile<T>>>,
@@ -48,6 +53,7 @@ fn holder_of<T: Ranked>(locks: &Four<Option<Turnstile<T>>>, id: u32) -> Option<(
 }
 
 impl<T: Ranked> TurnChain<T> {
+    /// A chain of this number, without waiters.
     pub fn new(chain: u8) -> TurnChain<T>
         requires { chain < 64 }
         ensures { result ≡ record { chain = chain; locks = nobody ∷ nobody ∷ nobody ∷ nobody ∷ [] } }
@@ -59,6 +65,8 @@ impl<T: Ranked> TurnChain<T> {
         }
     }
 
+    /// Puts the waiter on its side of the lock, by its rank and key. Its turnstile serves the lock, or goes
+    /// to the free ones where one serves it already.
     pub fn block(&mut self, l: LockId, side: Side, n: Node<T>, own: Turnstile<T>)
         requires of_chain { IsOfChain self.old l.0 }
         requires idle { IsIdle own }
@@ -69,6 +77,7 @@ impl<T: Ranked> TurnChain<T> {
         fill(slot, Some(turnstile));
     }
 
+    /// The number of waiters of the lock, on both sides.
     pub fn waiters(&self, l: LockId) -> usize
         requires of_chain { IsOfChain self.now l.0 }
         requires count { waiter_count (of_lock self.now l.0) < 2 ^ 32 }
@@ -80,6 +89,7 @@ impl<T: Ranked> TurnChain<T> {
         }
     }
 
+    /// The greatest rank of the waiters of the lock. `None` exactly where there is no waiter.
     pub fn greatest(&self, l: LockId) -> Option<u8>
         requires { IsOfChain self.now l.0 }
         ensures { result ≡ highest_waiter T.rank (of_lock self.now l.0) }
@@ -90,6 +100,8 @@ impl<T: Ranked> TurnChain<T> {
         }
     }
 
+    /// The best waiter at a side of the lock: the greatest rank, and of equal ranks the least key. `None`
+    /// exactly where there is none.
     pub fn best(&self, l: LockId, side: Side) -> Option<&T>
         requires { IsOfChain self.now l.0 }
         ensures value { option_copied result ≡ slice_get (waiters_at self.now l.0 side) 0 }
@@ -101,6 +113,8 @@ impl<T: Ranked> TurnChain<T> {
         }
     }
 
+    /// Takes the best waiter at a side of the lock, with a turnstile whose queues are empty. `None` exactly
+    /// where there is none.
     pub fn take_best(&mut self, l: LockId, side: Side) -> Option<(Node<T>, Turnstile<T>)>
         requires { IsOfChain self.old l.0 }
         ensures taken { option_map (λ r. r.0) result ≡ slice_get (waiters_at self.old l.0 side) 0 }
@@ -124,6 +138,8 @@ impl<T: Ranked> TurnChain<T> {
         }
     }
 
+    /// The first waiter with this id, by lock, and of one lock the writers before the readers. `None` exactly
+    /// where there is none.
     pub fn find(&self, id: u32) -> Option<&T>
         ensures { option_copied result ≡ find_among T.id id self.now.locks }
     {
@@ -136,6 +152,8 @@ impl<T: Ranked> TurnChain<T> {
         }
     }
 
+    /// Takes the first waiter with this id, with its lock, its side, and a turnstile whose queues are empty.
+    /// `None` exactly where there is none.
     pub fn take(&mut self, id: u32) -> Option<(LockId, Side, Node<T>, Turnstile<T>)>
         ensures taken { MatchOption result ((find_among T.id id self.old.locks ≡ None) × (self.new ≡ self.old)) (λ r. Leaves T.id id self.old r.0.0 r.1 r.2 self.new) }
         ensures turnstile { IfSome result (λ r. IsIdle r.3) }

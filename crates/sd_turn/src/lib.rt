@@ -4,6 +4,8 @@
 mod chain;
 mod rack;
 mod serving;
+#[cfg(test)]
+mod tests;
 mod turnstile;
 
 pub use chain::TurnChain;

@@ -24,6 +24,7 @@ impl<T> Model for Rack<T> {
 }
 
 impl<T> Rack<T> {
+    /// An empty rack.
     pub fn new() -> Rack<T>
         ensures { result ≡ 0 }
     {
@@ -32,6 +33,7 @@ impl<T> Rack<T> {
         }
     }
 
+    /// Puts a turnstile by.
     pub fn put(&mut self, t: Turnstile<T>)
         requires { IsIdle t }
         ensures { self.new ≡ self.old + 1 }
@@ -39,6 +41,7 @@ impl<T> Rack<T> {
         self.spares.push_front(t.into_sides());
     }
 
+    /// Takes a turnstile. `None` exactly where the rack is empty.
     pub fn take(&mut self) -> Option<Turnstile<T>>
         ensures { MatchOption result ((self.old ≡ 0) × (self.new ≡ 0)) (λ t. (self.old ≡ self.new + 1) × (IsIdle t)) }
     {
@@ -48,6 +51,7 @@ impl<T> Rack<T> {
         }
     }
 
+    /// The number of turnstiles.
     pub fn len(&self) -> usize
         requires { self.now < 2 ^ 32 }
         ensures { result ≡ self.now }

@@ -9,6 +9,7 @@ use sd_types::Side;
 use std::alloc::{AllocError, Global};
 use std::marker::Model;
 
+/// The two queues of a turnstile.
 #[derive(Drop)]
 pub(crate) struct Sides<T> {
     writers: BoxQueue<T>,
@@ -102,6 +103,7 @@ impl<T: Ranked> Sides<T> {
 }
 
 impl<T> Turnstile<T> {
+    /// A turnstile without waiters. No other call takes memory.
     pub fn new(alloc: Global) -> Result<Turnstile<T>, AllocError>
     where
         T: Drop,
@@ -117,18 +119,21 @@ impl<T> Turnstile<T> {
         Ok(Turnstile { sides })
     }
 
+    /// Whether both queues are empty.
     pub(crate) fn is_idle(&self) -> bool
         ensures { IsTrue result ↔ IsIdle self.now }
     {
         self.sides.item().is_idle()
     }
 
+    /// The first waiter at a side.
     pub(crate) fn first(&self, side: Side) -> Option<&T>
         ensures { option_copied result ≡ slice_get (on_side self.now side) 0 }
     {
         self.sides.item().first(side)
     }
 
+    /// Takes the first waiter at a side.
     pub(crate) fn pop(&mut self, side: Side) -> Option<Node<T>>
         ensures taken { result ≡ slice_get (on_side self.old side) 0 }
         ensures rest { self.new ≡ with_side self.old side (drop 1 (on_side self.old side)) }
@@ -137,6 +142,7 @@ impl<T> Turnstile<T> {
         sides.pop(side)
     }
 
+    /// The number of waiters, on both sides.
     pub(crate) fn len(&self) -> usize
         requires { waiter_count self.now < 2 ^ 32 }
         ensures { result ≡ waiter_count self.now }
@@ -144,6 +150,7 @@ impl<T> Turnstile<T> {
         self.sides.item().len()
     }
 
+    /// The box of the two queues.
     pub(crate) fn into_sides(self) -> Node<Sides<T>>
         ensures { result ≡ self }
     {
@@ -151,6 +158,7 @@ impl<T> Turnstile<T> {
         sides
     }
 
+    /// A turnstile of this box.
     pub(crate) fn from_sides(sides: Node<Sides<T>>) -> Turnstile<T>
         ensures { result ≡ sides }
     {
@@ -159,6 +167,7 @@ impl<T> Turnstile<T> {
 }
 
 impl<T: Ranked> Turnstile<T> {
+    /// Puts the waiter at a side, by its rank and key.
     pub(crate) fn insert(&mut self, side: Side, n: Node<T>)
         ensures { self.new ≡ with_side self.old side (insert_ranked T.rank T.key n (on_side self.old side)) }
     {
@@ -166,6 +175,7 @@ impl<T: Ranked> Turnstile<T> {
         sides.insert(side, n);
     }
 
+    /// Takes the first waiter with this id at a side.
     pub(crate) fn take_first(&mut self, side: Side, id: u32) -> Option<Node<T>>
         ensures taken { result ≡ find_id T.id id (on_side self.old side) }
         ensures rest { self.new ≡ with_side self.old side (drop_id T.id id (on_side self.old side)) }
@@ -174,6 +184,7 @@ impl<T: Ranked> Turnstile<T> {
         sides.take_first(side, id)
     }
 
+    /// The first waiter with this id at a side.
     pub(crate) fn find(&self, side: Side, id: u32) -> Option<&T>
         ensures { option_copied result ≡ find_id T.id id (on_side self.now side) }
     {
