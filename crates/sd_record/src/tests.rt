@@ -4,10 +4,11 @@ ghost use Rattle.std.specs.Prelude.{◌≡◌, ◌≤◌, ◌∷◌, [], pos, ne
 
 use crate::Record;
 use arrayvec::ArrayVec;
-use sd_boxq::Ranked;
+use sd_boxq::{BoxQueue, Node, Ranked};
 use sd_types::{
     ClassState, CpuId, FxState, LockId, Quantum, RtState, SysState, ThreadBody, ThreadId, TsState,
 };
+use std::test::Fail;
 
 /// A record of a thread of this class that holds the locks 1, 2 and 3.
 fn holder(class: ClassState) -> Record
@@ -133,4 +134,16 @@ fn inheritance(rt: HostRuntime) {
     record.waive(LockId(2));
     assert_eq!(rt; record.effective(), 29);
     assert_eq!(rt; record.body.held.len(), 3);
+}
+
+#[test]
+fn a_queue_of_records(rt: HostRuntime) -> Result<(), Fail> {
+    let mut queue = BoxQueue::new();
+    queue.insert_ranked(Node::node(rt.alloc(), holder(fx(10)))?);
+    queue.insert_ranked(Node::node(rt.alloc(), holder(rt_class(0)))?);
+    queue.insert_ranked(Node::node(rt.alloc(), holder(fx(30)))?);
+    for (place, base) in [(0, 100), (1, 30), (2, 10)] {
+        assert_eq!(rt; queue.item(place).map(|record| record.base()), Some(base));
+    }
+    Ok(())
 }
