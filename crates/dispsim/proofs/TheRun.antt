@@ -10,8 +10,9 @@ use Rattle.sd_types.specs.declared.works.Work.{Work}
 use Rattle.sd_machine.specs.Opening.{opening}
 use Rattle.sd_machine.specs.Runs.{final, IsRun, IsSerial, rising, always_rising}
 use Rattle.sd_machine.proofs.RoundLemmas.{empty_complete, empty_anywhere}
-use Rattle.sd_laws.specs.Laws.{OneRuns}
+use Rattle.sd_laws.specs.Laws.{OneRuns, PlacesAreThere}
 use Rattle.sd_laws.proofs.Induction.{in_states}
+use Rattle.sd_laws.proofs.BelongLemmas.{there_law}
 use Rattle.sd_laws.proofs.RunningLemmas.{one_runs_law}
 use Rattle.dispsim.specs.RunAnswers.{IsTheRun}
 

@@ -8,18 +8,20 @@ use Rattle.sd_text.specs.Faults.{HasRisen}
 use Rattle.sd_machine.specs.Opening.{opening}
 use Rattle.sd_machine.specs.Runs.{final, state_at, IsRun, IsComplete, IsSerial, always_rising}
 use Rattle.sd_machine.specs.Texts.{journal}
-use Rattle.sd_laws.specs.Laws.{OneRuns}
+use Rattle.sd_laws.specs.Laws.{OneRuns, PlacesAreThere}
 use Rattle.sd_serial.specs.Rounds.{IsLongSerial}
 use Rattle.dispsim.specs.declared.answers.Answer.{Answer}
 use Rattle.dispsim.specs.declared.answers.Answer.TheVariants.{Done, WriteFault, OutOfMemory, TooLong}
 use Rattle.dispsim.specs.Ends.{End, IsUntouched, AppendsPart}
 
--- The entries are those of the run that goes in rounds of rising processors: a complete legal run, in each state of
--- which at most one thread runs on a processor. That each thread is in one place is the form of a state.
+-- The entries are those of the run that goes in rounds of rising processors: a complete legal run. In each of its
+-- states each thread that the workload declares stands in one place, which is one of the workload's processors or
+-- sets, or has ended, and at most one runs on a processor.
 pub record IsTheRun (w : Work) (es : List Entry) : Type 0 where
   pub serial : IsSerial w (always_rising w) es
   pub run : IsRun w es
   pub complete : IsComplete w (final w (opening w) es)
+  pub places : (k : ℕ) → PlacesAreThere w (state_at w es k)
   pub one_runs : (k : ℕ) → OneRuns (state_at w es k)
 
 -- a front of the journal of the run was written

@@ -38,7 +38,10 @@ fn call(
 ) -> Result<Called, AllocError>
     requires { 1 ≤ chunk }
 {
-    let words = vec![in alloc; String::from_str(alloc, word)?]?;
+    let mut texts = Vec::new(alloc);
+    for word in words {
+        texts.push(String::from_str(alloc, *word)?)?;
+    }
     let mut source = MemorySource::new(
         Vec::from_slice(alloc, input)?,
         chunk,
@@ -46,7 +49,7 @@ fn call(
     );
     let mut out = MemorySink::new(alloc, room, Vec::from_slice(alloc, writes)?)?;
     let mut err = MemorySink::new(alloc, 200, Vec::new(alloc))?;
-    let status = serial(alloc, &words, &mut source, &mut out, &mut err, &OpenGate);
+    let status = serial(alloc, &texts, &mut source, &mut out, &mut err, &OpenGate);
     Ok(Called { status, out, err })
 }
 
@@ -68,7 +71,7 @@ fn worked_runs(rt: HostRuntime) -> Result<(), Fail> {
         ),
     ];
     for (input, journal) in rows {
-        let called = call(rt.alloc(), "run", input.as_bytes(), 7, &[], 4096, &[])?;
+        let called = call(rt.alloc(), &["run"], input.as_bytes(), 7, &[], 4096, &[])?;
         assert_eq!(rt; called.status, 0, "{input}");
         assert_eq!(rt; called.out.bytes(), journal.as_bytes(), "{input}");
         assert_eq!(rt; called.err.bytes(), b"".as_slice(), "{input}");
@@ -79,10 +82,19 @@ fn worked_runs(rt: HostRuntime) -> Result<(), Fail> {
 #[test]
 fn refusals_and_failing_ends(rt: HostRuntime) -> Result<(), Fail> {
     let alloc = rt.alloc();
-    // the word, the input, the reads that fail, the room of the output, the writes that fail; the answer, and the output
-    let cases: [(&str, &str, &[u64], usize, &[u64], Answer, &str); 7] = [
-        ("fast", SMALLEST, &[], 4096, &[], Answer::Usage, ""),
-        ("run", "", &[], 4096, &[], Answer::NotBuilt, ""),
+    // the words, the input, the reads that fail, the room of the output, the writes that fail; the answer, and the output
+    let cases: [(&[&str], &str, &[u64], usize, &[u64], Answer, &str); 8] = [
+        (&[], SMALLEST, &[], 4096, &[], Answer::Usage, ""),
+        (
+            &["run", "fast"],
+            SMALLEST,
+            &[],
+            4096,
+            &[],
+            Answer::Usage,
+            "",
+        ),
+        (&["run"], "", &[], 4096, &[], Answer::NotBuilt, ""),
         (
             "run",
             "limit 100001\n",
@@ -101,7 +113,7 @@ fn refusals_and_failing_ends(rt: HostRuntime) -> Result<(), Fail> {
             Answer::NotBuilt,
             "",
         ),
-        ("run", SMALLEST, &[2], 4096, &[], Answer::ReadFault, ""),
+        (&["run"], SMALLEST, &[2], 4096, &[], Answer::ReadFault, ""),
         (
             "run",
             SMALLEST,
@@ -111,13 +123,13 @@ fn refusals_and_failing_ends(rt: HostRuntime) -> Result<(), Fail> {
             Answer::WriteFault,
             "0 c0 dispatch a 29\n",
         ),
-        ("run", SMALLEST, &[], 5, &[], Answer::WriteFault, "0 c0 "),
+        (&["run"], SMALLEST, &[], 5, &[], Answer::WriteFault, "0 c0 "),
     ];
-    for (word, input, reads, room, writes, answer, out) in cases {
-        let called = call(alloc, word, input.as_bytes(), 4, reads, room, writes)?;
-        assert_eq!(rt; called.status, answer.status(), "{word} {input}");
-        assert_eq!(rt; called.out.bytes(), out.as_bytes(), "{word} {input}");
-        assert_eq!(rt; called.err.bytes(), answer.line(), "{word} {input}");
+    for (words, input, reads, room, writes, answer, out) in cases {
+        let called = call(alloc, words, input.as_bytes(), 4, reads, room, writes)?;
+        assert_eq!(rt; called.status, answer.status(), "{input}");
+        assert_eq!(rt; called.out.bytes(), out.as_bytes(), "{input}");
+        assert_eq!(rt; called.err.bytes(), answer.line(), "{input}");
     }
     Ok(())
 }
@@ -125,7 +137,7 @@ fn refusals_and_failing_ends(rt: HostRuntime) -> Result<(), Fail> {
 #[test]
 fn an_input_too_large(rt: HostRuntime) -> Result<(), Fail> {
     let input = vec![in rt.alloc(); b'#'; 1_048_577]?;
-    let called = call(rt.alloc(), "run", &input, 65_536, &[], 16, &[])?;
+    let called = call(rt.alloc(), &["run"], &input, 65_536, &[], 16, &[])?;
     assert_eq!(rt; called.status, 2);
     assert_eq!(rt; called.err.bytes(), Answer::TooLarge.line());
     Ok(())

@@ -1,9 +1,8 @@
 -- Priority, queue and key order the threads.
-use Rattle.std.proofs.Common.{◌≡◌, ℕ, Bool, true, false, ℤ, arith}
+use Rattle.std.proofs.Common.{◌≡◌, ℕ, true, false, ℤ, arith}
 use Rattle.std.proofs.lemmas.Bool.Decides.{nat_tests}
 use Rattle.std.proofs.lemmas.Int.{ints}
 use Rattle.sd_types.specs.Priorities.{eff}
-use Rattle.sd_machine.specs.declared.states.ThreadState.{ThreadState}
 use Rattle.sd_machine.specs.States.{key_of}
 use Rattle.sd_machine.specs.Best.{goes_before, queue_rank, beats}
 use Rattle.sd_machine.proofs.BestLemmas.{IsOrder}

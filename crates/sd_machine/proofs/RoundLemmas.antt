@@ -1,8 +1,7 @@
 -- Rounds: that they are runs, that an empty one shows that the run is complete, and how a round is made.
-use Rattle.std.proofs.Common.{◌≡◌, ◌≢◌, ℕ, zero, suc, ◌+◌, ◌<◌, ◌≤◌, Bool, true, false, cond, ◌&&◌, ltb, List, [], ◌∷◌, ◌++◌, length, get_or, drop, map, Option, Some, None, is_none, refl, sym, ap, subst, ◌∙◌, arith, inl, inr}
-use Rattle.std.specs.List.{range_with_len}
+use Rattle.std.proofs.Common.{◌≡◌, ℕ, zero, suc, ◌+◌, ◌<◌, Bool, true, false, cond, ◌&&◌, ltb, List, [], ◌∷◌, ◌++◌, length, get_or, drop, Option, Some, None, is_none, refl, sym, ap, subst, ◌∙◌, arith}
 use Rattle.std.proofs.lemmas.Bool.Decides.{nat_tests}
-use Rattle.std.proofs.lemmas.List.{append_assoc, length-append, drop_more, append-nil}
+use Rattle.std.proofs.lemmas.List.{append_assoc, length-append, drop_more}
 use Rattle.std.proofs.lemmas.List.FromFn.{get_or-map-range_with_len, length-map-range_with_len}
 use Rattle.sd_types.specs.declared.numbers.CpuId.{CpuId}
 use Rattle.sd_types.specs.declared.events.Event.{Event}
@@ -13,7 +12,7 @@ use Rattle.sd_types.specs.Partitions.{cpu_of_number}
 use Rattle.sd_machine.specs.declared.states.State.{State}
 use Rattle.sd_machine.specs.Machine.{next, allowed, wish}
 use Rattle.sd_machine.specs.Opening.{opening}
-use Rattle.sd_machine.specs.Runs.{final, IsStep, IsRunFrom, IsRun, IsComplete, made, turn, round, round_after, rounds, rising}
+use Rattle.sd_machine.specs.Runs.{final, IsRunFrom, IsRun, IsComplete, made, turn, round, round_after, rounds, rising}
 use Rattle.sd_machine.proofs.RunLemmas.{IsRunFrom-append, IsRunFrom-one, IsRunFrom-nil, IsRun-append, final-nil, final-append}
 
 nil_left : {X : Type 0} (xs ys : List X) → xs ++ ys ≡ [] → xs ≡ []

@@ -1,10 +1,8 @@
 -- The state in which a run begins: every processor idle, every lock free, each thread on a dispatch queue.
 -- Source: this project's own.
-use Rattle.std.specs.Prelude.{ℕ, ◌+◌, ◌%◌, Bool, true, false, not, ◌&&◌, List, [], ◌∷◌, length, map, take, replicate, ◌==◌, count_by, pos, Option, Some, None, if◌then◌else◌, slice_index_or, slice_get}
+use Rattle.std.specs.Prelude.{ℕ, ◌+◌, ◌%◌, Bool, true, false, not, ◌&&◌, List, [], ◌∷◌, length, map, take, replicate, ◌==◌, count_by, pos, None, if◌then◌else◌, slice_index_or, slice_get}
 use Rattle.std.specs.List.{range_with_len}
 use Rattle.sd_types.specs.declared.numbers.CpuId.{CpuId}
-use Rattle.sd_types.specs.declared.numbers.SetId.{SetId}
-use Rattle.sd_types.specs.declared.numbers.LockId.{LockId}
 use Rattle.sd_types.specs.declared.names.Name.{Name}
 use Rattle.sd_types.specs.declared.classes.ClassParms.{ClassParms}
 use Rattle.sd_types.specs.declared.classes.ClassParms.TheVariants as parms
@@ -14,16 +12,14 @@ use Rattle.sd_types.specs.declared.events.Duty.TheVariants.{Nothing}
 use Rattle.sd_types.specs.declared.bodies.ThreadBody.{ThreadBody}
 use Rattle.sd_types.specs.declared.works.ChanKind.{ChanKind}
 use Rattle.sd_types.specs.declared.works.ChanKind.TheVariants.{Chan, Sema}
-use Rattle.sd_types.specs.declared.works.LockKind.{LockKind}
 use Rattle.sd_types.specs.declared.works.ThreadDecl.{ThreadDecl}
 use Rattle.sd_types.specs.declared.works.Work.{Work}
 use Rattle.sd_types.specs.TableRows.{ts_row_of}
-use Rattle.sd_types.specs.Partitions.{set_of_cpu, cpus_of_set, cpu_of_number}
+use Rattle.sd_types.specs.Partitions.{set_of_cpu, cpus_of_set}
 use Rattle.sd_rules.specs.ClassRules.{full_quantum}
 use Rattle.arrayvec.specs.ArrayVec.{ArrayVec}
 use Rattle.sd_machine.specs.declared.states.Place.{Place}
 use Rattle.sd_machine.specs.declared.states.Place.TheVariants.{Queued, RealTime}
-use Rattle.sd_machine.specs.declared.states.LockState.{LockState}
 use Rattle.sd_machine.specs.declared.states.LockState.TheVariants.{Free}
 use Rattle.sd_machine.specs.declared.states.ThreadState.{ThreadState}
 use Rattle.sd_machine.specs.declared.states.CpuState.{CpuState}
