@@ -21,6 +21,7 @@ is_the_run w es serial run = record {
   serial = serial;
   run = run;
   complete = empty_complete w (final w (opening w) es) (empty_anywhere w (final w (opening w) es) (length es) 0 (rising w) serial.ends);
+  places = in_states (λ w s. PlacesAreThere w s) there_law w es run;
   one_runs = in_states (λ w s. OneRuns s) one_runs_law w es run;
 }
 

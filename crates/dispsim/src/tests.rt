@@ -1,5 +1,7 @@
 //! Worked runs, and ends that fail. Each expected text was worked out by hand from the rules of the machine.
 
+ghost use Rattle.std.specs.Prelude.{◌≤◌};
+
 use crate::answers::Answer;
 use crate::gates::OpenGate;
 use crate::top::serial;
@@ -29,7 +31,7 @@ struct Called {
 /// A call over ends in memory: the reads named in `reads` and the writes named in `writes` fail, counted from 1.
 fn call(
     alloc: Global,
-    word: &str,
+    words: &str,
     input: &[u8],
     chunk: usize,
     reads: &[u64],
@@ -39,8 +41,8 @@ fn call(
     requires { 1 ≤ chunk }
 {
     let mut texts = Vec::new(alloc);
-    for word in words {
-        texts.push(String::from_str(alloc, *word)?)?;
+    for word in words.split_whitespace() {
+        texts.push(String::from_str(alloc, word)?)?;
     }
     let mut source = MemorySource::new(
         Vec::from_slice(alloc, input)?,
@@ -71,7 +73,7 @@ fn worked_runs(rt: HostRuntime) -> Result<(), Fail> {
         ),
     ];
     for (input, journal) in rows {
-        let called = call(rt.alloc(), &["run"], input.as_bytes(), 7, &[], 4096, &[])?;
+        let called = call(rt.alloc(), "run", input.as_bytes(), 7, &[], 4096, &[])?;
         assert_eq!(rt; called.status, 0, "{input}");
         assert_eq!(rt; called.out.bytes(), journal.as_bytes(), "{input}");
         assert_eq!(rt; called.err.bytes(), b"".as_slice(), "{input}");
@@ -83,18 +85,10 @@ fn worked_runs(rt: HostRuntime) -> Result<(), Fail> {
 fn refusals_and_failing_ends(rt: HostRuntime) -> Result<(), Fail> {
     let alloc = rt.alloc();
     // the words, the input, the reads that fail, the room of the output, the writes that fail; the answer, and the output
-    let cases: [(&[&str], &str, &[u64], usize, &[u64], Answer, &str); 8] = [
-        (&[], SMALLEST, &[], 4096, &[], Answer::Usage, ""),
-        (
-            &["run", "fast"],
-            SMALLEST,
-            &[],
-            4096,
-            &[],
-            Answer::Usage,
-            "",
-        ),
-        (&["run"], "", &[], 4096, &[], Answer::NotBuilt, ""),
+    let cases: [(&str, &str, &[u64], usize, &[u64], Answer, &str); 8] = [
+        ("", SMALLEST, &[], 4096, &[], Answer::Usage, ""),
+        ("run fast", SMALLEST, &[], 4096, &[], Answer::Usage, ""),
+        ("run", "", &[], 4096, &[], Answer::NotBuilt, ""),
         (
             "run",
             "limit 100001\n",
@@ -113,7 +107,7 @@ fn refusals_and_failing_ends(rt: HostRuntime) -> Result<(), Fail> {
             Answer::NotBuilt,
             "",
         ),
-        (&["run"], SMALLEST, &[2], 4096, &[], Answer::ReadFault, ""),
+        ("run", SMALLEST, &[2], 4096, &[], Answer::ReadFault, ""),
         (
             "run",
             SMALLEST,
@@ -123,7 +117,7 @@ fn refusals_and_failing_ends(rt: HostRuntime) -> Result<(), Fail> {
             Answer::WriteFault,
             "0 c0 dispatch a 29\n",
         ),
-        (&["run"], SMALLEST, &[], 5, &[], Answer::WriteFault, "0 c0 "),
+        ("run", SMALLEST, &[], 5, &[], Answer::WriteFault, "0 c0 "),
     ];
     for (words, input, reads, room, writes, answer, out) in cases {
         let called = call(alloc, words, input.as_bytes(), 4, reads, room, writes)?;
@@ -137,7 +131,7 @@ fn refusals_and_failing_ends(rt: HostRuntime) -> Result<(), Fail> {
 #[test]
 fn an_input_too_large(rt: HostRuntime) -> Result<(), Fail> {
     let input = vec![in rt.alloc(); b'#'; 1_048_577]?;
-    let called = call(rt.alloc(), &["run"], &input, 65_536, &[], 16, &[])?;
+    let called = call(rt.alloc(), "run", &input, 65_536, &[], 16, &[])?;
     assert_eq!(rt; called.status, 2);
     assert_eq!(rt; called.err.bytes(), Answer::TooLarge.line());
     Ok(())

@@ -1,5 +1,5 @@
 -- Rounds as the program makes them: from the entries and the state so far.
-use Rattle.std.proofs.Common.{◌≡◌, ◌≢◌, ℕ, suc, ◌+◌, ◌^◌, ◌<◌, ◌≤◌, List, [], ◌∷◌, ◌++◌, length, get_or, drop, refl, sym, ap, subst, ◌∙◌, arith, inl, inr}
+use Rattle.std.proofs.Common.{◌≡◌, ◌≢◌, ℕ, suc, ◌+◌, ◌^◌, ◌<◌, ◌≤◌, List, [], ◌++◌, length, get_or, drop, sym, ap, subst, ◌∙◌, arith, inl, inr}
 use Rattle.std.proofs.lemmas.Bool.{cases_lt}
 use Rattle.std.proofs.lemmas.List.{append-nil, drop_all, length-append, nil_from_length}
 use Rattle.sd_types.specs.declared.numbers.CpuId.{CpuId}
@@ -8,7 +8,7 @@ use Rattle.sd_types.specs.declared.works.Work.{Work}
 use Rattle.sd_machine.specs.declared.states.State.{State}
 use Rattle.sd_machine.specs.Opening.{opening}
 use Rattle.sd_machine.specs.Runs.{final, turn, round, round_after, rounds, IsRun, IsSerial}
-use Rattle.sd_machine.proofs.RunLemmas.{IsRun-nil, final-nil, final-append}
+use Rattle.sd_machine.proofs.RunLemmas.{final-nil, final-append}
 use Rattle.sd_machine.proofs.RoundLemmas.{round-nil, round_more, final_more, rounds-zero, rounds-more, run_round}
 use Rattle.sd_serial.specs.Rounds.{always, HasRounds, IsLongSerial}
 

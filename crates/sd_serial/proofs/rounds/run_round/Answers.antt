@@ -1,4 +1,4 @@
-use Rattle.std.proofs.Common.{◌∙◌, arith}
+use Rattle.std.proofs.Common.{◌∙◌}
 use Rattle.sd_serial.proofs.SerialLemmas.{round_on, final_on, entries_over, state_over}
 use Rattle.sd_serial.proofs.rounds.run_round.Goals as goal
 
