@@ -1,3 +1,4 @@
 pub mod Choices
 pub mod Marks
 pub mod Orders
+pub mod Functions

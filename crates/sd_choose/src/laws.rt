@@ -1,8 +1,9 @@
 //! That the properties of a choice determine it.
 
-ghost use Rattle.std.specs.Prelude.{◌≡◌, ℕ, List, Bool};
+ghost use Rattle.std.specs.Prelude.{◌≡◌, ◌<◌, ℕ, List, Bool, length, All, MatchOption};
 ghost use Rattle.sd_types.specs.declared.numbers.CpuId.{CpuId};
 ghost use Rattle.sd_choose.specs.Choices.{IsChosen, IsVictim};
+ghost use Rattle.sd_choose.specs.Functions.{chosen, victim_of};
 
 /// At most one processor is the choice.
 pub fn one_choice()
@@ -13,4 +14,12 @@ pub fn one_choice()
 /// At most one processor is the victim.
 pub fn one_victim()
     ensures { (cpus : List CpuId) (hints : List ℕ) (c d : CpuId) → IsVictim cpus hints c → IsVictim cpus hints d → c ≡ d }
+{}
+
+/// The functions give the choices. So whoever computes by them has what `choose` and `victim` answer.
+pub fn functions_choose()
+    ensures chosen { (cpus : List CpuId) (hints : List ℕ) (last : CpuId) (warm : Bool) → 0 < length cpus → length cpus ≡ length hints
+        → IsChosen cpus hints last warm (chosen cpus hints last warm) }
+    ensures victim { (cpus : List CpuId) (hints : List ℕ) → length cpus ≡ length hints
+        → MatchOption (victim_of cpus hints) (All (λ hint. hint ≡ 0) hints) (IsVictim cpus hints) }
 {}

@@ -9,5 +9,5 @@ mod marks;
 mod tests;
 
 pub use choices::{choose, victim};
-pub use laws::{one_choice, one_victim};
+pub use laws::{functions_choose, one_choice, one_victim};
 pub use marks::{MarkKind, mark};
