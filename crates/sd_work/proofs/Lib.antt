@@ -5,3 +5,4 @@ pub mod SheetLemmas
 pub mod TextLemmas
 pub mod ScriptLemmas
 pub mod ThreadLemmas
+pub mod OneLemmas
