@@ -1,5 +1,5 @@
 -- An event keeps the numbers of threads and of processors.
-use Rattle.std.proofs.Common.{◌≡◌, ℕ, length, ◌∙◌, refl}
+use Rattle.std.proofs.Common.{ℕ, ◌∙◌}
 use Rattle.std.proofs.lemmas.List.{length-set}
 use Rattle.sd_types.specs.declared.numbers.CpuId.{CpuId}
 use Rattle.sd_types.specs.declared.events.Event.{Event}

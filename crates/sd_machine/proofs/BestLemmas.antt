@@ -1,9 +1,9 @@
 -- The best of a list, as a scan from the front finds it: for any candidates and any order.
-use Rattle.std.proofs.Common.{◌≡◌, ◌≢◌, ℕ, zero, suc, ◌+◌, ◌<◌, ◌≤◌, Bool, true, false, not, ◌&&◌, cond, List, [], ◌∷◌, length, get_or, ◌⊎◌, Option, Some, None, sym, refl, ap, ◌∙◌, inl, inr, arith}
-use Rattle.std.specs.List.{list_all, position, prefix_len, position_or_len}
-use Rattle.std.proofs.lemmas.List.Sums.{prefix_len_is, AllPass-from_list_all}
+use Rattle.std.proofs.Common.{◌≡◌, ℕ, suc, ◌+◌, ◌<◌, Bool, true, false, not, ◌&&◌, List, [], ◌∷◌, length, get_or, ◌⊎◌, Option, Some, None, sym, refl, ap, ◌∙◌, inl, inr, arith}
+use Rattle.std.specs.List.{list_all, position, position_or_len}
+use Rattle.std.proofs.lemmas.List.Sums.{prefix_len_is}
 use Rattle.std.proofs.lemmas.List.Folds.{list_all_at}
-use Rattle.std.proofs.lemmas.Bool.{cases_Bool, cases_lt, cases_eq, false≢true}
+use Rattle.std.proofs.lemmas.Bool.{cases_Bool, cases_lt, false≢true}
 use Rattle.std.proofs.lemmas.Bool.Decides.{nat_tests}
 use Rattle.sd_machine.specs.Best.{leads_by, best_by}
 
@@ -47,9 +47,10 @@ best_taken on beats d order xs None i before ahead = record {
   inside = omega arith;
   candidate = ahead;
   unbeaten = λ k h c. elim (split_below k i h) [
-    inl l ↦ absurd (false≢true (sym (before k l) ∙ c))
-  | inr e ↦ rw e (order.itself (get_or xs i d)) ];
-  first = λ k l c. absurd (false≢true (sym (before k l) ∙ c))
+    | inl l ↦ absurd (false≢true (sym (before k l) ∙ c))
+    | inr e ↦ rw e (order.itself (get_or xs i d))
+  ];
+  first = λ k l c. absurd (false≢true (sym (before k l) ∙ c));
 }
 best_taken on beats d order xs (Some b) i before ahead =
     let wins : beats (get_or xs i d) (get_or xs b d) ≡ true = and_right (on (get_or xs i d)) _ ahead in
@@ -57,9 +58,10 @@ best_taken on beats d order xs (Some b) i before ahead =
       inside = omega arith;
       candidate = and_left _ (beats (get_or xs i d) (get_or xs b d)) ahead;
       unbeaten = λ k h c. elim (split_below k i h) [
-        inl l ↦ order.past (get_or xs k d) (get_or xs i d) (get_or xs b d) wins (before.unbeaten k l c)
-      | inr e ↦ rw e (order.itself (get_or xs i d)) ];
-      first = λ k l c. order.back (get_or xs k d) (get_or xs i d) (get_or xs b d) wins (before.unbeaten k l c)
+        | inl l ↦ order.past (get_or xs k d) (get_or xs i d) (get_or xs b d) wins (before.unbeaten k l c)
+        | inr e ↦ rw e (order.itself (get_or xs i d))
+      ];
+      first = λ k l c. order.back (get_or xs k d) (get_or xs i d) (get_or xs b d) wins (before.unbeaten k l c);
     }
 
 and_false : (a b : Bool) → a ≡ true → (a && b) ≡ false → b ≡ false
@@ -75,9 +77,10 @@ best_kept on beats d xs (Some b) i before behind =
       inside = omega arith;
       candidate = before.candidate;
       unbeaten = λ k h c. elim (split_below k i h) [
-        inl l ↦ before.unbeaten k l c
-      | inr e ↦ rw e (and_false (on (get_or xs i d)) _ (rw e at c) behind) ];
-      first = before.first
+        | inl l ↦ before.unbeaten k l c
+        | inr e ↦ rw e (and_false (on (get_or xs i d)) _ (rw e at c) behind)
+      ];
+      first = before.first;
     }
 
 -- the place of the first that passes
@@ -103,16 +106,17 @@ list_all_is p (x ∷ xs) d each =
 leads_true : {X : Type 0} (on : X → Bool) (beats : X → X → Bool) (d : X) (xs : List X) (b : ℕ) → IsBest on beats d xs (length xs) b → leads_by on beats xs (get_or xs b d) ≡ true
 leads_true on beats d xs b best =
     let fits : (k : ℕ) → k < length xs → not (on (get_or xs k d) && beats (get_or xs k d) (get_or xs b d)) ≡ true =
-        λ k l. elim (cases_Bool (on (get_or xs k d))) [ inl y ↦ rw (y, best.unbeaten k l y) | inr n ↦ rw n ] in
+    λ k l. elim (cases_Bool (on (get_or xs k d))) [ inl y ↦ rw (y, best.unbeaten k l y) | inr n ↦ rw n ] in
     rw (best.candidate, list_all_is (λ u. not (on u && beats u (get_or xs b d))) xs d fits)
 
 leads_false : {X : Type 0} (on : X → Bool) (beats : X → X → Bool) (d : X) (xs : List X) (b k : ℕ) → IsBest on beats d xs (length xs) b → k < b → leads_by on beats xs (get_or xs k d) ≡ false
 leads_false on beats d xs b k best l =
     elim (cases_Bool (on (get_or xs k d))) [
-      inl y ↦
-        let fails : not (on (get_or xs b d) && beats (get_or xs b d) (get_or xs k d)) ≡ false = rw (best.candidate, best.first k l y) in
-        rw (y, list_all_at (λ u. not (on u && beats u (get_or xs k d))) xs b d best.inside fails)
-    | inr n ↦ rw n ]
+      | inl y ↦
+          let fails : not (on (get_or xs b d) && beats (get_or xs b d) (get_or xs k d)) ≡ false = rw (best.candidate, best.first k l y) in
+          rw (y, list_all_at (λ u. not (on u && beats u (get_or xs k d))) xs b d best.inside fails)
+      | inr n ↦ rw n
+    ]
 
 -- at the end of the scan it is the best
 pub best_by_is : {X : Type 0} (on : X → Bool) (beats : X → X → Bool) (d : X) (xs : List X) (o : Option ℕ) → IsBestBelow on beats d xs (length xs) o → o ≡ best_by on beats xs

@@ -1,9 +1,8 @@
 -- Priority, queue and key order the threads.
-use Rattle.std.proofs.Common.{◌≡◌, ℕ, Bool, true, false, ℤ, arith}
+use Rattle.std.proofs.Common.{◌≡◌, ℕ, true, false, ℤ, arith}
 use Rattle.std.proofs.lemmas.Bool.Decides.{nat_tests}
 use Rattle.std.proofs.lemmas.Int.{ints}
 use Rattle.sd_types.specs.Priorities.{eff}
-use Rattle.sd_machine.specs.declared.states.ThreadState.{ThreadState}
 use Rattle.sd_machine.specs.States.{key_of}
 use Rattle.sd_machine.specs.Best.{goes_before, queue_rank, beats}
 use Rattle.sd_machine.proofs.BestLemmas.{IsOrder}
@@ -21,5 +20,5 @@ pub beats_order : IsOrder beats
 beats_order = record {
   itself = λ x. before_itself (eff x.body) (queue_rank x.place) (key_of x.place);
   past = λ x y z h g. before_past (eff x.body) (queue_rank x.place) (eff y.body) (queue_rank y.place) (eff z.body) (queue_rank z.place) (key_of x.place) (key_of y.place) (key_of z.place) h g;
-  back = λ x y z h g. before_back (eff x.body) (queue_rank x.place) (eff y.body) (queue_rank y.place) (eff z.body) (queue_rank z.place) (key_of x.place) (key_of y.place) (key_of z.place) h g
+  back = λ x y z h g. before_back (eff x.body) (queue_rank x.place) (eff y.body) (queue_rank y.place) (eff z.body) (queue_rank z.place) (key_of x.place) (key_of y.place) (key_of z.place) h g;
 }

@@ -1,8 +1,7 @@
 -- Rounds: that they are runs, that an empty one shows that the run is complete, and how a round is made.
-use Rattle.std.proofs.Common.{◌≡◌, ◌≢◌, ℕ, zero, suc, ◌+◌, ◌<◌, ◌≤◌, Bool, true, false, cond, ◌&&◌, ltb, List, [], ◌∷◌, ◌++◌, length, get_or, drop, map, Option, Some, None, is_none, refl, sym, ap, subst, ◌∙◌, arith, inl, inr}
-use Rattle.std.specs.List.{range_with_len}
+use Rattle.std.proofs.Common.{◌≡◌, ℕ, zero, suc, ◌+◌, ◌<◌, Bool, true, false, cond, ◌&&◌, ltb, List, [], ◌∷◌, ◌++◌, length, get_or, drop, Option, Some, None, is_none, refl, sym, ap, subst, ◌∙◌, arith}
 use Rattle.std.proofs.lemmas.Bool.Decides.{nat_tests}
-use Rattle.std.proofs.lemmas.List.{append_assoc, length-append, drop_more, append-nil}
+use Rattle.std.proofs.lemmas.List.{append_assoc, length-append, drop_more}
 use Rattle.std.proofs.lemmas.List.FromFn.{get_or-map-range_with_len, length-map-range_with_len}
 use Rattle.sd_types.specs.declared.numbers.CpuId.{CpuId}
 use Rattle.sd_types.specs.declared.events.Event.{Event}
@@ -13,7 +12,7 @@ use Rattle.sd_types.specs.Partitions.{cpu_of_number}
 use Rattle.sd_machine.specs.declared.states.State.{State}
 use Rattle.sd_machine.specs.Machine.{next, allowed, wish}
 use Rattle.sd_machine.specs.Opening.{opening}
-use Rattle.sd_machine.specs.Runs.{final, IsStep, IsRunFrom, IsRun, IsComplete, made, turn, round, round_after, rounds, rising}
+use Rattle.sd_machine.specs.Runs.{final, IsRunFrom, IsRun, IsComplete, made, turn, round, round_after, rounds, rising}
 use Rattle.sd_machine.proofs.RunLemmas.{IsRunFrom-append, IsRunFrom-one, IsRunFrom-nil, IsRun-append, final-nil, final-append}
 
 nil_left : {X : Type 0} (xs ys : List X) → xs ++ ys ≡ [] → xs ≡ []
@@ -47,7 +46,7 @@ module _ (w : Work) where
   round_run s n [] = IsRunFrom-nil w s n
   round_run s n (c ∷ cs) =
       IsRunFrom-append w s n (turn w s n c) (round w (final w s (turn w s n c)) (n + length (turn w s n c)) cs)
-        (turn_run s n c (next w s c None) refl) (round_run (final w s (turn w s n c)) (n + length (turn w s n c)) cs)
+      (turn_run s n c (next w s c None) refl) (round_run (final w s (turn w s n c)) (n + length (turn w s n c)) cs)
 
   pub run_round : (es : List Entry) (cs : List CpuId) → IsRun w es → IsRun w (es ++ round_after w cs es)
   run_round es cs r = IsRun-append w es (round_after w cs es) r (round_run (final w (opening w) es) (length es) cs)
@@ -65,10 +64,10 @@ module _ (w : Work) where
       let none = nil_left (turn w s n c) _ e in
       let rest = nil_right (turn w s n c) _ e in
       empty_round d s n cs
-        (subst (λ m. round w s m cs ≡ []) (let z : n + 0 ≡ n = omega arith in z)
-          (subst (λ x. round w x (n + 0) cs ≡ []) (final-nil w s)
-            (subst (λ (t : List Entry). round w (final w s t) (n + length t) cs ≡ []) none rest)))
-        k (omega arith)
+      (subst (λ m. round w s m cs ≡ []) (let z : n + 0 ≡ n = omega arith in z)
+      (subst (λ x. round w x (n + 0) cs ≡ []) (final-nil w s)
+      (subst (λ (t : List Entry). round w (final w s t) (n + length t) cs ≡ []) none rest)))
+      k (omega arith)
 
   next-none : (s : State) (c : CpuId) → next w s c None ≡ cond (ltb c.0 w.cpus && true) (allowed w s c.0 (wish w s c.0)) None
   unfolding next
@@ -101,17 +100,17 @@ module _ (w : Work) where
       let here : turn w s m c ≡ [] = ap (λ (o : Option Event). made m c None o) none in
       let there : turn w s n c ≡ [] = nil_left (turn w s n c) _ e in
       let rest : round w s n cs ≡ [] =
-          subst (λ k. round w s k cs ≡ []) (let z : n + 0 ≡ n = omega arith in z)
-            (subst (λ x. round w x (n + 0) cs ≡ []) (final-nil w s)
-              (subst (λ (t : List Entry). round w (final w s t) (n + length t) cs ≡ []) there (nil_right (turn w s n c) _ e))) in
+      subst (λ k. round w s k cs ≡ []) (let z : n + 0 ≡ n = omega arith in z)
+      (subst (λ x. round w x (n + 0) cs ≡ []) (final-nil w s)
+      (subst (λ (t : List Entry). round w (final w s t) (n + length t) cs ≡ []) there (nil_right (turn w s n c) _ e))) in
       let next_rest : round w s m cs ≡ [] = empty_anywhere s n m cs rest in
       subst (λ (t : List Entry). t ++ round w (final w s t) (m + length t) cs ≡ []) (sym here)
-        (subst (λ x. round w x (m + 0) cs ≡ []) (sym (final-nil w s)) (subst (λ k. round w s k cs ≡ []) (let z : m ≡ m + 0 = omega arith in z) next_rest))
+      (subst (λ x. round w x (m + 0) cs ≡ []) (sym (final-nil w s)) (subst (λ k. round w s k cs ≡ []) (let z : m ≡ m + 0 = omega arith in z) next_rest))
 
   -- what was made, and what is left of the round from here
   pub round_more : (order : List CpuId) (i : ℕ) (d : CpuId) (s : State) (es : List Entry) → i < length order
       → (es ++ turn w s (length es) (get_or order i d)) ++ round w (final w s (turn w s (length es) (get_or order i d))) (length (es ++ turn w s (length es) (get_or order i d))) (drop (i + 1) order)
-        ≡ es ++ round w s (length es) (drop i order)
+      ≡ es ++ round w s (length es) (drop i order)
   round_more order i d s es h =
       let t = turn w s (length es) (get_or order i d) in
       append_assoc es t (round w (final w s t) (length (es ++ t)) (drop (i + 1) order))
@@ -121,7 +120,7 @@ module _ (w : Work) where
 
   pub final_more : (order : List CpuId) (i : ℕ) (d : CpuId) (s : State) (es : List Entry) → i < length order
       → final w (final w s (turn w s (length es) (get_or order i d))) (round w (final w s (turn w s (length es) (get_or order i d))) (length (es ++ turn w s (length es) (get_or order i d))) (drop (i + 1) order))
-        ≡ final w s (round w s (length es) (drop i order))
+      ≡ final w s (round w s (length es) (drop i order))
   final_more order i d s es h =
       let t = turn w s (length es) (get_or order i d) in
       ap (λ k. final w (final w s t) (round w (final w s t) k (drop (i + 1) order))) (length-append es t)

@@ -1,13 +1,11 @@
 -- Runs, one entry or one list of entries at a time.
-use Rattle.std.proofs.Common.{◌≡◌, ℕ, zero, suc, ◌+◌, ◌<◌, ◌≤◌, List, [], ◌∷◌, ◌++◌, length, take, drop, get_or, refl, sym, ap, ◌∙◌, subst, arith}
+use Rattle.std.proofs.Common.{◌≡◌, ℕ, ◌+◌, List, [], ◌∷◌, ◌++◌, length, take, drop, refl, sym, ◌∙◌, subst, arith}
 use Rattle.std.proofs.lemmas.List.{take-append-drop}
-use Rattle.sd_types.specs.declared.numbers.CpuId.{CpuId}
-use Rattle.sd_types.specs.declared.events.Event.{Event}
 use Rattle.sd_types.specs.declared.events.Entry.{Entry}
 use Rattle.sd_types.specs.declared.works.Work.{Work}
 use Rattle.sd_machine.specs.declared.states.State.{State}
 use Rattle.sd_machine.specs.States.{FitsWork}
-use Rattle.sd_machine.specs.Machine.{next, after}
+use Rattle.sd_machine.specs.Machine.{after}
 use Rattle.sd_machine.specs.Opening.{opening}
 use Rattle.sd_machine.specs.Runs.{final, IsStep, IsRunFrom, IsRun}
 use Rattle.sd_machine.proofs.AfterFits.{after_fits}
@@ -29,9 +27,12 @@ module _ (w : Work) where
   pub IsRunFrom-append : (s : State) (n : ℕ) (es fs : List Entry) → IsRunFrom w s n es → IsRunFrom w (final w s es) (n + length es) fs → IsRunFrom w s n (es ++ fs)
   unfolding final IsRunFrom
   IsRunFrom-append s n [] fs r q = subst (λ k. IsRunFrom w s k fs) (let e : n + 0 ≡ n = omega arith in e) q
-  IsRunFrom-append s n (e ∷ es) fs (a, b, r) q =
-      (a, b, IsRunFrom-append (after w s e.number e.cpu e.event) (n + 1) es fs r
-        (subst (λ k. IsRunFrom w (final w (after w s e.number e.cpu e.event) es) k fs) (let q : n + length (e ∷ es) ≡ n + 1 + length es = omega arith in q) q))
+  IsRunFrom-append s n (e ∷ es) fs (a, b, r) q = (
+    a,
+    b,
+    IsRunFrom-append (after w s e.number e.cpu e.event) (n + 1) es fs r
+        (subst (λ k. IsRunFrom w (final w (after w s e.number e.cpu e.event) es) k fs) (let q : n + length (e ∷ es) ≡ n + 1 + length es = omega arith in q) q),
+  )
 
   -- the front of a run is a run
   pub IsRunFrom-front : (s : State) (n : ℕ) (es fs : List Entry) → IsRunFrom w s n (es ++ fs) → IsRunFrom w s n es
@@ -45,7 +46,7 @@ module _ (w : Work) where
   IsRunFrom-rest s n [] fs r = subst (λ k. IsRunFrom w s k fs) (let e : n ≡ n + 0 = omega arith in e) r
   IsRunFrom-rest s n (e ∷ es) fs (a, b, r) =
       subst (λ k. IsRunFrom w (final w (after w s e.number e.cpu e.event) es) k fs) (let q : n + 1 + length es ≡ n + length (e ∷ es) = omega arith in q)
-        (IsRunFrom-rest (after w s e.number e.cpu e.event) (n + 1) es fs r)
+      (IsRunFrom-rest (after w s e.number e.cpu e.event) (n + 1) es fs r)
 
   pub IsRunFrom-one : (s : State) (n : ℕ) (e : Entry) → e.number ≡ n → IsStep w s e → IsRunFrom w s n (e ∷ [])
   unfolding IsRunFrom

@@ -1,6 +1,6 @@
 -- The accounts of a run, as counts over its entries.
 -- Source: this project's own.
-use Rattle.std.specs.Prelude.{ℕ, Bool, true, false, ◌&&◌, List, count_by, ◌==◌, Some, None}
+use Rattle.std.specs.Prelude.{ℕ, Bool, true, false, ◌&&◌, List, count_by, ◌==◌, Some}
 use Rattle.sd_types.specs.declared.events.Event.{Event}
 use Rattle.sd_types.specs.declared.events.Event.TheVariants.{Tick, Spin, Idle, Dispatch, Steal, Preempt, Away, Napend, Wake, Rouse, Unblock, Grant, SemaVWake}
 use Rattle.sd_types.specs.declared.events.Entry.{Entry}

@@ -1,6 +1,6 @@
 -- The best of the threads that a dispatcher may choose from.
 -- Source: Solaris Internals (dispatch queues): the greatest priority, and of these the one that was queued first.
-use Rattle.std.specs.Prelude.{ℕ, Bool, true, false, not, ◌&&◌, ◌||◌, List, nat_lt, ◌==◌, ℤ, int_lt, Option, position}
+use Rattle.std.specs.Prelude.{ℕ, Bool, not, ◌&&◌, ◌||◌, List, nat_lt, ◌==◌, ℤ, int_lt, Option, position}
 use Rattle.std.specs.List.{list_all}
 use Rattle.sd_types.specs.Priorities.{eff}
 use Rattle.sd_machine.specs.declared.states.Place.{Place}

@@ -1,21 +1,18 @@
 -- What the dispatching events make of a state: tick, idle, dispatch, preempt and done.
 -- Source: Solaris Internals (the dispatcher), ts_dptbl(4); the count of ticks and the journal's numbers are this project's own.
-use Rattle.std.specs.Prelude.{ℕ, ◌+◌, ◌-◌, ◌%◌, Bool, true, false, not, ◌&&◌, ◌||◌, List, [], length, ◌==◌, nat_lt, nat_le, ℤ, pos, negsuc, Option, Some, None, is_none, if◌then◌else◌}
+use Rattle.std.specs.Prelude.{ℕ, ◌+◌, ◌%◌, Bool, true, false, ◌&&◌, ◌==◌, nat_le, ℤ, pos, negsuc, Option, Some, None, is_none, if◌then◌else◌}
 use Rattle.sd_types.specs.declared.numbers.CpuId.{CpuId}
 use Rattle.sd_types.specs.declared.numbers.SetId.{SetId}
-use Rattle.sd_types.specs.declared.numbers.ThreadId.{ThreadId}
 use Rattle.sd_types.specs.declared.bodies.ThreadBody.{ThreadBody}
 use Rattle.sd_types.specs.declared.events.Duty.{Duty}
 use Rattle.sd_types.specs.declared.events.Duty.TheVariants.{Nothing, Age}
 use Rattle.sd_types.specs.declared.events.End.{End}
 use Rattle.sd_types.specs.declared.events.End.TheVariants.{Front, Back}
 use Rattle.sd_types.specs.declared.works.Work.{Work}
-use Rattle.sd_types.specs.declared.works.ThreadDecl.{ThreadDecl}
 use Rattle.sd_types.specs.Priorities.{eff}
-use Rattle.sd_rules.specs.ClassRules.{class_tick, class_expires, class_requeue, end_of}
+use Rattle.sd_rules.specs.ClassRules.{class_tick, class_expires, class_requeue}
 use Rattle.sd_machine.specs.declared.states.Place.{Place}
 use Rattle.sd_machine.specs.declared.states.Place.TheVariants.{Running, Queued, RealTime, Ended}
-use Rattle.sd_machine.specs.declared.states.ThreadState.{ThreadState}
 use Rattle.sd_machine.specs.declared.states.CpuState.{CpuState}
 use Rattle.sd_machine.specs.declared.states.State.{State}
 use Rattle.sd_machine.specs.States.{thread_of, cpu_of, with_thread, with_cpu}
@@ -72,8 +69,8 @@ tick_rival w s c t =
 unfoldable pub ticked : Work → State → ℕ → ℕ → State
 ticked w s c t =
     with_cpu
-        (with_thread s t (record (thread_of s t) { body = sent_back (tick_rival w s c t) (ticked_body w t (thread_of s t).body) }))
-        c (marked_for (tick_rival w s c t) (counted w (cpu_of s c)))
+    (with_thread s t (record (thread_of s t) { body = sent_back (tick_rival w s c t) (ticked_body w t (thread_of s t).body) }))
+    c (marked_for (tick_rival w s c t) (counted w (cpu_of s c)))
 
 -- processor c has idled for a tick
 unfoldable pub idled : Work → State → ℕ → State
@@ -104,11 +101,11 @@ requeued count b = record (left count b) { class = class_requeue b.back b.class 
 unfoldable pub preempted : Work → State → ℕ → ℕ → CpuId → End → State
 preempted w s n t c end =
     with_cpu
-        (with_thread s t (record {
-          body = requeued (cpu_of s c.0).count (thread_of s t).body;
-          place = queue_place w t c (end_key n end) (thread_of s t).body
-        }))
-        c.0 (unmarked (cpu_of s c.0))
+    (with_thread s t (record {
+      body = requeued (cpu_of s c.0).count (thread_of s t).body;
+      place = queue_place w t c (end_key n end) (thread_of s t).body;
+    }))
+    c.0 (unmarked (cpu_of s c.0))
 
 -- thread t has ended on processor c
 unfoldable pub ended : State → ℕ → CpuId → State

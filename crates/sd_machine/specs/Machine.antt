@@ -2,7 +2,7 @@
 -- Source: Solaris Internals (swtch, the clock's tick, preemption); the order in which a processor takes its events
 -- is this project's own. Of the machine this has the events tick, idle, dispatch, preempt and done, of time-sharing
 -- threads on processors that are alone in their partition: what is not defined here is no event.
-use Rattle.std.specs.Prelude.{ℕ, ◌+◌, Bool, true, false, not, ◌&&◌, ◌||◌, List, [], length, ◌==◌, nat_lt, nat_le, Option, Some, None, is_none, is_some, option_map, unwrap_or, slice_get, if◌then◌else◌}
+use Rattle.std.specs.Prelude.{ℕ, Bool, true, false, not, ◌&&◌, ◌||◌, length, ◌==◌, nat_lt, nat_le, Option, Some, None, is_none, option_map, unwrap_or, slice_get, if◌then◌else◌}
 use Rattle.std.specs.List.{list_all}
 use Rattle.sd_types.specs.declared.numbers.CpuId.{CpuId}
 use Rattle.sd_types.specs.declared.numbers.ThreadId.{ThreadId}

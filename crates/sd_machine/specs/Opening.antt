@@ -1,10 +1,8 @@
 -- The state in which a run begins: every processor idle, every lock free, each thread on a dispatch queue.
 -- Source: this project's own.
-use Rattle.std.specs.Prelude.{ℕ, ◌+◌, ◌%◌, Bool, true, false, not, ◌&&◌, List, [], ◌∷◌, length, map, take, replicate, ◌==◌, count_by, pos, Option, Some, None, if◌then◌else◌, slice_index_or, slice_get}
+use Rattle.std.specs.Prelude.{ℕ, ◌+◌, ◌%◌, Bool, true, false, not, ◌&&◌, List, [], ◌∷◌, length, map, take, replicate, ◌==◌, count_by, pos, None, if◌then◌else◌, slice_index_or, slice_get}
 use Rattle.std.specs.List.{range_with_len}
 use Rattle.sd_types.specs.declared.numbers.CpuId.{CpuId}
-use Rattle.sd_types.specs.declared.numbers.SetId.{SetId}
-use Rattle.sd_types.specs.declared.numbers.LockId.{LockId}
 use Rattle.sd_types.specs.declared.names.Name.{Name}
 use Rattle.sd_types.specs.declared.classes.ClassParms.{ClassParms}
 use Rattle.sd_types.specs.declared.classes.ClassParms.TheVariants as parms
@@ -14,16 +12,14 @@ use Rattle.sd_types.specs.declared.events.Duty.TheVariants.{Nothing}
 use Rattle.sd_types.specs.declared.bodies.ThreadBody.{ThreadBody}
 use Rattle.sd_types.specs.declared.works.ChanKind.{ChanKind}
 use Rattle.sd_types.specs.declared.works.ChanKind.TheVariants.{Chan, Sema}
-use Rattle.sd_types.specs.declared.works.LockKind.{LockKind}
 use Rattle.sd_types.specs.declared.works.ThreadDecl.{ThreadDecl}
 use Rattle.sd_types.specs.declared.works.Work.{Work}
 use Rattle.sd_types.specs.TableRows.{ts_row_of}
-use Rattle.sd_types.specs.Partitions.{set_of_cpu, cpus_of_set, cpu_of_number}
+use Rattle.sd_types.specs.Partitions.{set_of_cpu, cpus_of_set}
 use Rattle.sd_rules.specs.ClassRules.{full_quantum}
 use Rattle.arrayvec.specs.ArrayVec.{ArrayVec}
 use Rattle.sd_machine.specs.declared.states.Place.{Place}
 use Rattle.sd_machine.specs.declared.states.Place.TheVariants.{Queued, RealTime}
-use Rattle.sd_machine.specs.declared.states.LockState.{LockState}
 use Rattle.sd_machine.specs.declared.states.LockState.TheVariants.{Free}
 use Rattle.sd_machine.specs.declared.states.ThreadState.{ThreadState}
 use Rattle.sd_machine.specs.declared.states.CpuState.{CpuState}
@@ -72,8 +68,16 @@ first_place w t d = if is_urgent d then RealTime d.set (pos t) else Queued (firs
 
 abbrev pub first_body : Work → ℕ → ThreadDecl → ThreadBody
 first_body w t d = record {
-  class = class_of w d; willed = record { items = [] }; held = record { items = [] }; op = 0;
-  run_left = ticks_at (slice_get d.script.ops 0); back = false; last = first_cpu w t d; left_at = None; looped = false; bound = None
+  class = class_of w d;
+  willed = record { items = [] };
+  held = record { items = [] };
+  op = 0;
+  run_left = ticks_at (slice_get d.script.ops 0);
+  back = false;
+  last = first_cpu w t d;
+  left_at = None;
+  looped = false;
+  bound = None;
 }
 
 unfoldable pub first_thread : Work → ℕ → ThreadDecl → ThreadState
@@ -93,7 +97,13 @@ first_count k = count_of k.1
 
 unfoldable pub first_cpu_state : Work → ℕ → CpuState
 first_cpu_state w c = record {
-  count = 0; user = false; kernel = false; duty = Nothing; set = record { 0 = set_of_cpu w c }; closing = None; bound = 0
+  count = 0;
+  user = false;
+  kernel = false;
+  duty = Nothing;
+  set = record { 0 = set_of_cpu w c };
+  closing = None;
+  bound = 0;
 }
 
 abbrev pub open_list : Work → ℕ → ArrayVec CpuId
@@ -105,5 +115,5 @@ opening w = record {
   locks = replicate (length w.locks) Free;
   cpus = map (first_cpu_state w) (range_with_len 0 w.cpus);
   counts = map first_count w.chans;
-  open_cpus = map (open_list w) (range_with_len 0 (length w.sets + 1))
+  open_cpus = map (open_list w) (range_with_len 0 (length w.sets + 1));
 }

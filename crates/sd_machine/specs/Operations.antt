@@ -1,11 +1,10 @@
 -- The operation at which a thread stands, and what remains of the thread when it is over.
 -- Source: this project's own (scripts).
-use Rattle.std.specs.Prelude.{ℕ, ◌+◌, ◌-◌, Bool, true, false, List, slice_get, nat_le, Option, Some, None, if◌then◌else◌, slice_index_or}
+use Rattle.std.specs.Prelude.{ℕ, ◌+◌, ◌-◌, List, slice_get, nat_le, Option, Some, if◌then◌else◌}
 use Rattle.sd_types.specs.declared.scripts.Op.{Op}
 use Rattle.sd_types.specs.declared.scripts.Op.TheVariants.{Run}
 use Rattle.sd_types.specs.declared.bodies.ThreadBody.{ThreadBody}
 use Rattle.sd_types.specs.declared.works.Work.{Work}
-use Rattle.sd_types.specs.declared.works.ThreadDecl.{ThreadDecl}
 use Rattle.std.specs.Prelude.{option_map, unwrap_or, []}
 
 -- the operations of a thread; a number that no thread has stands for none

@@ -1,8 +1,6 @@
 -- Reading and changing a state. A number that is out of range reads a thread that has ended and a processor that
 -- is idle, and changes nothing.
-use Rattle.std.specs.Prelude.{◌≡◌, ℕ, ◌+◌, ◌-◌, Bool, true, false, ◌||◌, List, [], length, ◌==◌, nat_le, cond, None, ℤ, pos, negsuc, slice_index_or, slice_set}
-use Rattle.sd_types.specs.declared.numbers.CpuId.{CpuId}
-use Rattle.sd_types.specs.declared.numbers.SetId.{SetId}
+use Rattle.std.specs.Prelude.{◌≡◌, ℕ, Bool, false, ◌||◌, [], length, ◌==◌, None, ℤ, pos, slice_index_or, slice_set}
 use Rattle.sd_types.specs.declared.bodies.ThreadBody.{ThreadBody}
 use Rattle.sd_types.specs.declared.classes.ClassState.TheVariants.{Sys}
 use Rattle.sd_types.specs.declared.events.Duty.TheVariants.{Nothing}
@@ -15,8 +13,16 @@ use Rattle.sd_machine.specs.declared.states.State.{State}
 
 abbrev pub no_body : ThreadBody
 no_body = record {
-  class = Sys (record { pri = 60 }); willed = record { items = [] }; held = record { items = [] }; op = 0; run_left = 0;
-  back = false; last = record { 0 = 0 }; left_at = None; looped = false; bound = None
+  class = Sys (record { pri = 60 });
+  willed = record { items = [] };
+  held = record { items = [] };
+  op = 0;
+  run_left = 0;
+  back = false;
+  last = record { 0 = 0 };
+  left_at = None;
+  looped = false;
+  bound = None;
 }
 
 abbrev pub no_thread : ThreadState

@@ -66,9 +66,14 @@ cpu_line es c = codes "cpu " ++ decimal c ++ codes " ticks " ++ decimal (cpu_tic
 unfoldable pub entries_text : Work → List Entry → List ℕ
 entries_text w es = flat_map (entry_text w) es
 
+unfoldable pub threads_text : Work → List Entry → State → List ℕ
+threads_text w es s = flat_map (thread_line w es s) (range_with_len 0 (length w.threads))
+
+unfoldable pub cpus_text : Work → List Entry → List ℕ
+cpus_text w es = flat_map (cpu_line es) (range_with_len 0 w.cpus)
+
 unfoldable pub accounts_text : Work → List Entry → State → List ℕ
-accounts_text w es s =
-    codes "accounts\n" ++ flat_map (thread_line w es s) (range_with_len 0 (length w.threads)) ++ flat_map (cpu_line es) (range_with_len 0 w.cpus)
+accounts_text w es s = codes "accounts\n" ++ (threads_text w es s ++ cpus_text w es)
 
 -- what a run writes: its entries in order, then its accounts
 unfoldable pub journal : Work → List Entry → List ℕ

@@ -44,7 +44,7 @@ module _ (w : Work) (s : State) where
   run_named : (t c : ℕ) → t < length s.threads → IfSome (run_event w t (cpu_of s c) (thread_of s t).body) (IsNamed w s)
   run_named t c h =
       elim (must_leave (cpu_of s c) (thread_of s t).body) as (λ v. IfSome (cond v (leave_event t (thread_of s t).body) (op_event t (thread_of s t).body (op_of w t (thread_of s t).body))) (IsNamed w s))
-          [ true ↦ leave_named t h | false ↦ op_named t (op_of w t (thread_of s t).body) h refl ]
+      [ true ↦ leave_named t h | false ↦ op_named t (op_of w t (thread_of s t).body) h refl ]
 
   queue_named : (c : ℕ) (o : Option ℕ) → best_ready c (cpu_of s c).set.0 s.threads ≡ o → IfSome (queue_event s c o) (IsNamed w s)
   unfolding best_ready

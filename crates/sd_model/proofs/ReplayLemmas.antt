@@ -20,7 +20,7 @@ module _ (w : Work) (s₀ s : State) (es : List Entry) (i : ℕ) (e : Entry) (he
   pub run_more : IsRunFrom w s₀ 0 (take i es) → s ≡ final w s₀ (take i es) → e.number ≡ i → IsStep w s e → IsRunFrom w s₀ 0 (take (i + 1) es)
   run_more run state number step =
       subst (λ xs. IsRunFrom w s₀ 0 xs) (sym one_more)
-        (IsRunFrom-push w s₀ 0 (take i es) e run (let n = so_far in omega arith) (subst (λ x. IsStep w x e) state step))
+      (IsRunFrom-push w s₀ 0 (take i es) e run (let n = so_far in omega arith) (subst (λ x. IsStep w x e) state step))
 
   pub state_more : (s' : State) → s ≡ final w s₀ (take i es) → s' ≡ after w s e.number e.cpu e.event → s' ≡ final w s₀ (take (i + 1) es)
   state_more s' state made =
@@ -31,10 +31,10 @@ module _ (w : Work) (s₀ s : State) (es : List Entry) (i : ℕ) (e : Entry) (he
     inside = here;
     before = run;
     illegal = λ r.
-      let q = subst (λ xs. IsRunFrom w s₀ 0 xs) one_more r in
-      let n = so_far in
-      let m = last_number w s₀ 0 (take i es) e q in
-      refused (omega arith) (subst (λ x. IsStep w x e) (sym state) (last_step w s₀ 0 (take i es) e q))
+        let q = subst (λ xs. IsRunFrom w s₀ 0 xs) one_more r in
+        let n = so_far in
+        let m = last_number w s₀ 0 (take i es) e q in
+        refused (omega arith) (subst (λ x. IsStep w x e) (sym state) (last_step w s₀ 0 (take i es) e q));
   }
 
 -- the whole list is then no run
@@ -43,5 +43,5 @@ from_illegal w s es k is f = record {
   inside = f.inside;
   before = from-IsRun w (take k es) (subst (λ x. IsRunFrom w x 0 (take k es)) is f.before);
   illegal = λ r. f.illegal (subst (λ x. IsRunFrom w x 0 (take (k + 1) es)) (sym is) (IsRun-from w (take (k + 1) es) r));
-  no_run = λ r. f.illegal (subst (λ x. IsRunFrom w x 0 (take (k + 1) es)) (sym is) (IsRunFrom-take w (opening w) 0 (k + 1) es (IsRun-from w es r)))
+  no_run = λ r. f.illegal (subst (λ x. IsRunFrom w x 0 (take (k + 1) es)) (sym is) (IsRunFrom-take w (opening w) 0 (k + 1) es (IsRun-from w es r)));
 }

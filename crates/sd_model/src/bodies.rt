@@ -94,7 +94,12 @@ fn rival(best: Option<u8>, expired: bool, b: &ThreadBody) -> Option<u8>
 
 /// The running thread has run for a tick, and the best that is ready has priority `best`. Answers that priority
 /// where the thread has to make room for it.
-pub(crate) fn tick_thread(work: &Work, t: ThreadId, best: Option<u8>, b: &mut ThreadBody) -> Option<u8>
+pub(crate) fn tick_thread(
+    work: &Work,
+    t: ThreadId,
+    best: Option<u8>,
+    b: &mut ThreadBody,
+) -> Option<u8>
     requires inside { t.0 < length work.now.threads }
     requires is_ts { is_ts b.old.class ≡ true }
     requires op { b.old.op < length (script_of work.now t.0) }

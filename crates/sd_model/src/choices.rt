@@ -6,7 +6,6 @@ ghost use Rattle.sd_machine.specs.States.{FitsWork};
 ghost use Rattle.sd_model.specs.Possible.{CanHappen};
 ghost use Rattle.sd_machine.specs.Machine.{is_ts, is_sys, must_leave, leave_event, op_event, run_event, queue_event, free_event, duty_event, wish, ticks, allowed, next};
 
-
 use crate::reads::{cpu_at, effective, op_of, thread_at};
 use crate::scans::{best_ready, is_alone, may_tick, running};
 use sd_machine::{CpuState, State};
@@ -41,7 +40,10 @@ fn leave_event(t: ThreadId, b: &ThreadBody) -> Option<Event>
     ensures { result ≡ leave_event t.0 b.now }
 {
     if b.bound.is_none() {
-        Some(Event::Preempt { t, end: end_of(b.back) })
+        Some(Event::Preempt {
+            t,
+            end: end_of(b.back),
+        })
     } else {
         None
     }
@@ -83,7 +85,10 @@ fn queue_event(s: &State, c: CpuId, best: Option<usize>) -> Option<Event>
     match best {
         Some(t) => {
             let t = ThreadId(t as u16);
-            Some(Event::Dispatch { t, p: effective(&thread_at(s, t).body) })
+            Some(Event::Dispatch {
+                t,
+                p: effective(&thread_at(s, t).body),
+            })
         }
         None => {
             if is_alone(s, c) {

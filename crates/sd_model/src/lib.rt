@@ -7,8 +7,8 @@ mod bodies;
 mod changes;
 mod choices;
 mod reads;
-mod scans;
 mod replays;
+mod scans;
 mod start;
 mod stepping;
 

@@ -60,9 +60,7 @@ fn beats(x: &ThreadState, y: &ThreadState) -> bool
     let q = effective(&y.body);
     let rank = queue_rank(&x.place);
     let other = queue_rank(&y.place);
-    q < p
-        || p == q
-            && (rank < other || rank == other && key_of(&x.place) < key_of(&y.place))
+    q < p || p == q && (rank < other || rank == other && key_of(&x.place) < key_of(&y.place))
 }
 
 /// The thread that runs on processor `c`.

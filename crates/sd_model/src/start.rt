@@ -9,15 +9,14 @@ ghost use Rattle.sd_rules.specs.ClassRules.{full_quantum};
 ghost use Rattle.sd_machine.specs.States.{FitsWork};
 ghost use Rattle.sd_machine.specs.Opening.{first_class, is_urgent, is_dealt, turn_of, dealt_cpu, first_cpu, first_place, first_body, first_thread, first_threads, count_of, first_count, first_cpu_state, open_list, opening};
 
+use crate::reads::ticks_at;
 use arrayvec::ArrayVec;
 use sd_machine::{CpuState, LockState, Place, State, ThreadState};
 use sd_types::{
-    ChanKind, ClassParms, ClassState, CpuId, Duty, FixedTable, FxState, List, Quantum, RtState, SetId,
-    SysState, ThreadBody, ThreadDecl, TsState, Work,
+    ChanKind, ClassParms, ClassState, CpuId, Duty, FixedTable, FxState, List, Quantum, RtState,
+    SetId, SysState, ThreadBody, ThreadDecl, TsState, Work,
 };
 use std::alloc::{AllocError, Global};
-
-use crate::reads::ticks_at;
 
 /// The ticks of a full quantum at a level, 0 where it has no end.
 fn full_quantum(table: &FixedTable, level: u8, quantum: Quantum) -> u64
@@ -48,7 +47,11 @@ fn first_class(work: &Work, class: ClassParms, cpupri: u8) -> ClassState
             left: work.ts.row(cpupri).ticks,
             wait: 0,
         }),
-        ClassParms::Fx { limit, pri, quantum } => ClassState::Fx(FxState {
+        ClassParms::Fx {
+            limit,
+            pri,
+            quantum,
+        } => ClassState::Fx(FxState {
             limit,
             pri,
             quantum,
@@ -80,7 +83,10 @@ fn turn_of(work: &Work, p: SetId, t: usize) -> usize
     requires { t ≤ length work.now.threads }
     ensures { result ≡ turn_of work.now p.0 t }
 {
-    work.threads.items()[..t].iter().filter(|d| is_dealt(p, d)).count()
+    work.threads.items()[..t]
+        .iter()
+        .filter(|d| is_dealt(p, d))
+        .count()
 }
 
 fn has_cpu(cpus: &[CpuId], c: u16) -> bool
@@ -132,7 +138,11 @@ fn first_cpu(work: &Work, t: usize, d: &ThreadDecl) -> CpuId
     ensures { result ≡ first_cpu work.now t d.now }
 {
     let cpus = cpus_of_set(work, d.set.0);
-    let turn = if is_urgent(d) { 0 } else { turn_of(work, d.set, t) };
+    let turn = if is_urgent(d) {
+        0
+    } else {
+        turn_of(work, d.set, t)
+    };
     dealt_cpu(cpus.as_slice(), turn)
 }
 
@@ -233,7 +243,11 @@ fn first_count(kind: &ChanKind) -> u32
 fn first_counts(alloc: Global, work: &Work) -> Result<Vec<u32>, AllocError>
     ensures { IfOk result (λ v. v.items ≡ map first_count work.now.chans) }
 {
-    work.chans.items().iter().map(|k| first_count(&k.1)).collect(alloc)
+    work.chans
+        .items()
+        .iter()
+        .map(|k| first_count(&k.1))
+        .collect(alloc)
 }
 
 fn open_lists(alloc: Global, work: &Work) -> Result<Vec<ArrayVec<CpuId, 64>>, AllocError>

@@ -47,8 +47,14 @@ fn is_wake_of(t: usize, event: &Event) -> bool
 {
     match event {
         Event::Napend { t: u, .. } => u.0 as usize == t,
-        Event::Wake { woken: Some((s, _)), .. } => s.0 as usize == t,
-        Event::Rouse { woken: Some((s, _)), .. } => s.0 as usize == t,
+        Event::Wake {
+            woken: Some((s, _)),
+            ..
+        } => s.0 as usize == t,
+        Event::Rouse {
+            woken: Some((s, _)),
+            ..
+        } => s.0 as usize == t,
         Event::Unblock { s, .. } => s.0 as usize == t,
         Event::Grant { s, .. } => s.0 as usize == t,
         Event::SemaVWake { s, .. } => s.0 as usize == t,
@@ -79,14 +85,20 @@ fn thread_ticks(t: usize, entries: &[Entry]) -> usize
 fn thread_dispatches(t: usize, entries: &[Entry]) -> usize
     ensures { result ≡ thread_dispatches t entries.now }
 {
-    entries.iter().filter(|e| is_dispatch_of(t, &e.event)).count()
+    entries
+        .iter()
+        .filter(|e| is_dispatch_of(t, &e.event))
+        .count()
 }
 
 #[tactic(auto, unfolding(sd_machine::specs::Accounts::thread_preempts))]
 fn thread_preempts(t: usize, entries: &[Entry]) -> usize
     ensures { result ≡ thread_preempts t entries.now }
 {
-    entries.iter().filter(|e| is_preempt_of(t, &e.event)).count()
+    entries
+        .iter()
+        .filter(|e| is_preempt_of(t, &e.event))
+        .count()
 }
 
 #[tactic(auto, unfolding(sd_machine::specs::Accounts::thread_wakes))]
@@ -100,14 +112,20 @@ fn thread_wakes(t: usize, entries: &[Entry]) -> usize
 fn cpu_ticks(c: u16, entries: &[Entry]) -> usize
     ensures { result ≡ cpu_ticks c entries.now }
 {
-    entries.iter().filter(|e| e.cpu.0 == c && ticks(&e.event)).count()
+    entries
+        .iter()
+        .filter(|e| e.cpu.0 == c && ticks(&e.event))
+        .count()
 }
 
 #[tactic(auto, unfolding(sd_machine::specs::Accounts::cpu_idle))]
 fn cpu_idle(c: u16, entries: &[Entry]) -> usize
     ensures { result ≡ cpu_idle c entries.now }
 {
-    entries.iter().filter(|e| e.cpu.0 == c && is_idle(&e.event)).count()
+    entries
+        .iter()
+        .filter(|e| e.cpu.0 == c && is_idle(&e.event))
+        .count()
 }
 
 fn put_lock(work: &Work, l: LockId, out: &mut Vec<u8>) -> Result<(), AllocError>
@@ -170,7 +188,13 @@ fn put_counts(entries: &[Entry], t: usize, out: &mut Vec<u8>) -> Result<(), Allo
 /// Appends the line of a thread's account, with its newline: its counts over the entries, and its place in the
 /// final state.
 #[tactic(auto, unfolding(sd_machine::specs::Texts::thread_line))]
-pub fn write_thread_line(work: &Work, entries: &[Entry], s: &State, t: usize, out: &mut Vec<u8>) -> Result<(), AllocError>
+pub fn write_thread_line(
+    work: &Work,
+    entries: &[Entry],
+    s: &State,
+    t: usize,
+    out: &mut Vec<u8>,
+) -> Result<(), AllocError>
     requires { t < length s.now.threads }
     ensures { OnOk result (out.new.items ≡ out.old.items ++ thread_line work.now entries.now s.now t) }
 {

@@ -1,6 +1,6 @@
 -- The dispatch tables of a workload that gives none, level by level. Quanta are in milliseconds, since RES is 1000.
 -- Source: this project's own, after the tables of ts_dptbl(4) and rt_dptbl(4).
-use Rattle.std.specs.Prelude.{ℕ, ◌+◌, ◌-◌, ◌/◌, ◌==◌, nat_lt, cond, List, map}
+use Rattle.std.specs.Prelude.{ℕ, ◌+◌, ◌-◌, ◌/◌, nat_lt, cond, List, map}
 use Rattle.std.specs.List.{range_with_len}
 use Rattle.sd_types.specs.declared.tables.TsRow.{TsRow}
 use Rattle.sd_types.specs.declared.tables.FixedRow.{FixedRow}

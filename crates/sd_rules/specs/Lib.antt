@@ -1,2 +1,4 @@
 pub mod ClassRules
+pub mod ClassStates
 pub mod DefaultTables
+pub mod Priocntl

@@ -4,4 +4,4 @@
 
 mod rounds;
 
-pub use rounds::{MOST_ENTRIES, rising, run_rounds};
+pub use rounds::{Finished, MOST_ENTRIES, rising, run_rounds};

@@ -1,9 +1,9 @@
 //! Rounds, until one makes no entry.
 
-ghost use Rattle.std.specs.Prelude.{◌≡◌, ◌++◌, ◌<◌, ◌≤◌, ◌^◌, length, OnOk, IfOk, IsErrOf};
+ghost use Rattle.std.specs.Prelude.{◌≡◌, ◌++◌, ◌≤◌, length, OnOk, IfOk, IsErrOf};
 ghost use Rattle.sd_machine.specs.States.{FitsWork};
 ghost use Rattle.sd_machine.specs.Opening.{opening};
-ghost use Rattle.sd_machine.specs.Runs.{final, turn, round, IsSerial, rising};
+ghost use Rattle.sd_machine.specs.Runs.{final, turn, round, IsRun, IsSerial, rising};
 ghost use Rattle.sd_serial.specs.Rounds.{IsLongSerial, always};
 
 use sd_machine::State;
@@ -12,24 +12,34 @@ use sd_types::{CpuId, Entry, Stop, Work};
 use std::alloc::{AllocError, Global};
 
 /// A log that holds as many entries takes no more: 2^40.
-pub const MOST_ENTRIES: usize = 1 << 40;
+pub const MOST_ENTRIES: usize = 1_099_511_627_776;
+
+/// A whole run: its entries, and the state after them.
+#[derive(Drop)]
+pub struct Finished {
+    pub state: State,
+    pub entries: Vec<Entry>,
+}
 
 /// The processors in rising order.
 pub fn rising(alloc: Global, work: &Work) -> Result<Vec<CpuId>, AllocError>
     ensures { IfOk result (λ v. v.items ≡ rising work.now) }
 {
-    (0..work.cpus).map(CpuId).collect(alloc)
+    let mut order = Vec::new(alloc);
+    for c in 0..work.cpus {
+        order.push(CpuId(c))?;
+    }
+    Ok(order)
 }
 
 /// The turn of processor `c`: its entry, where it has one. `Full` where the log holds 2^40 entries.
 fn run_turn(work: &Work, s: &mut State, entries: &mut Vec<Entry>, c: CpuId) -> Result<(), Stop>
     requires fits { FitsWork work.now s.old }
-    requires room { length entries.old.items ≤ MOST_ENTRIES }
     ensures entries { OnOk result (entries.new.items ≡ entries.old.items ++ turn work.now s.old (length entries.old.items) c) }
     ensures state { OnOk result (s.new ≡ final work.now s.old (turn work.now s.old (length entries.old.items) c)) }
     ensures fits { FitsWork work.now s.new }
     ensures room { OnOk result (length entries.new.items ≤ MOST_ENTRIES) }
-    ensures full { IsErrOf result Stop.Full → length entries.old.items ≡ MOST_ENTRIES }
+    ensures full { IsErrOf result Stop.Full → MOST_ENTRIES ≤ length entries.old.items }
 {
     let number = entries.len();
     if number >= MOST_ENTRIES {
@@ -44,4 +54,53 @@ fn run_turn(work: &Work, s: &mut State, entries: &mut Vec<Entry>, c: CpuId) -> R
         }
         None => Ok(()),
     }
+}
+
+/// One round: each processor of the order has a turn. `Full` only where the entries with those of this round
+/// are 2^40 or more.
+fn run_round(
+    work: &Work,
+    s: &mut State,
+    entries: &mut Vec<Entry>,
+    order: &[CpuId],
+) -> Result<(), Stop>
+    requires fits { FitsWork work.now s.old }
+    requires room { length entries.old.items ≤ MOST_ENTRIES }
+    ensures entries { OnOk result (entries.new.items ≡ entries.old.items ++ round work.now s.old (length entries.old.items) order.now) }
+    ensures state { OnOk result (s.new ≡ final work.now s.old (round work.now s.old (length entries.old.items) order.now)) }
+    ensures fits { FitsWork work.now s.new }
+    ensures room { OnOk result (length entries.new.items ≤ MOST_ENTRIES) }
+    ensures full { IsErrOf result Stop.Full
+        → MOST_ENTRIES ≤ length (entries.old.items ++ round work.now s.old (length entries.old.items) order.now) }
+{
+    for c in order {
+        if let Err(stop) = run_turn(work, s, entries, *c) {
+            return Err(stop);
+        }
+    }
+    Ok(())
+}
+
+/// The run of the workload that goes in rounds, each in this order. `Full` only where it has 2^40 entries or more.
+pub fn run_rounds(alloc: Global, work: &Work, order: &[CpuId]) -> Result<Finished, Stop>
+    ensures serial { IfOk result (λ r. IsSerial work.now (always order.now) r.entries.items) }
+    ensures run { IfOk result (λ r. IsRun work.now r.entries.items) }
+    ensures state { IfOk result (λ r. r.state ≡ final work.now (opening work.now) r.entries.items) }
+    ensures fits { IfOk result (λ r. FitsWork work.now r.state) }
+    ensures full { IsErrOf result Stop.Full → IsLongSerial work.now (always order.now) }
+{
+    let Ok(mut state) = opening(alloc, work) else {
+        return Err(Stop::Memory);
+    };
+    let mut entries = Vec::new(alloc);
+    'rounds: loop {
+        let before = entries.len();
+        if let Err(stop) = run_round(work, &mut state, &mut entries, order) {
+            return Err(stop);
+        }
+        if entries.len() == before {
+            break 'rounds;
+        }
+    }
+    Ok(Finished { state, entries })
 }

@@ -1,6 +1,9 @@
+pub mod AgainLemmas
 pub mod DefaultLemmas
+pub mod LawLemmas
 pub mod RowLemmas
 pub mod SheetLemmas
 pub mod SpellLemmas
+pub mod TextLemmas
 pub mod TicksLemmas
 pub mod WriteLemmas

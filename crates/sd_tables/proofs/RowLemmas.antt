@@ -1,10 +1,10 @@
 -- The numbers of a row that lie in the ranges of their columns.
-use Rattle.std.proofs.Common.{◌≡◌, ℕ, ◌+◌, ◌<◌, ◌≤◌, zero, suc, get_or, Bool, true, false, not, ◌&&◌, ◌||◌, cond, nat_eq, nat_le, nat_lt, List, [], ◌∷◌, length, map, slice_index, position, Option, Some, None, is_some, is_none, refl, sym, ap, ◌∙◌, subst, arith, eq-eqb}
-use Rattle.std.specs.List.{list_all, zip}
+use Rattle.std.proofs.Common.{◌≡◌, ℕ, ◌<◌, ◌≤◌, zero, suc, get_or, Bool, true, ◌&&◌, nat_eq, List, [], ◌∷◌, length, map, slice_index, refl, ap, ◌∙◌, arith, eq-eqb}
+use Rattle.std.specs.List.{list_all}
 use Rattle.std.proofs.lemmas.Bool.{false≢true}
 use Rattle.std.proofs.lemmas.Bool.Decides.{nat_tests}
 use Rattle.sd_text.proofs.LineLemmas.{both}
-use Rattle.sd_tables.specs.TableText.{is_within, is_outside, ts_columns, fixed_columns, ts_numbers, fixed_numbers, is_unit}
+use Rattle.sd_tables.specs.TableText.{is_within, ts_columns, fixed_columns, ts_numbers, fixed_numbers, is_unit}
 use Rattle.sd_tables.specs.TableRows.{ts_row_of, fixed_row_of}
 use Rattle.sd_tables.proofs.TicksLemmas.{some_ticks}
 use Rattle.sd_types.specs.Ticks.{ticks_of}

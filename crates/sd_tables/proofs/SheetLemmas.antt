@@ -1,16 +1,16 @@
 -- What a line that gives RES adds to a sheet.
-use Rattle.std.proofs.Common.{◌≡◌, ℕ, Bool, true, false, not, ◌||◌, ◌&&◌, cond, nat_le, nat_lt, List, [], ◌∷◌, ◌++◌, length, map, filter, drop, take, get_or, slice_index_or, Option, Some, None, is_some, is_none, option_and_then, IfSome, Result, Err, refl, sym, ap, ◌∙◌, subst, ◌+◌, ◌<◌, ◌≤◌, suc, arith, add-zero, below_more, length-drop, drop-drop}
-use Rattle.std.specs.List.{list_all, list_any}
-use Rattle.std.proofs.lemmas.List.{map-append, get_or-drop, take_more}
+use Rattle.std.proofs.Common.{◌≡◌, ℕ, Bool, true, false, ◌||◌, cond, nat_lt, List, [], ◌∷◌, ◌++◌, length, filter, drop, take, get_or, slice_index_or, Option, Some, None, is_some, is_none, option_and_then, IfSome, Err, refl, sym, ap, ◌∙◌, subst, ◌+◌, ◌<◌, ◌≤◌, suc, arith, add-zero, below_more, length-drop, drop-drop}
+use Rattle.std.specs.List.{list_any}
+use Rattle.std.proofs.lemmas.List.{get_or-drop, take_more}
 use Rattle.std.proofs.lemmas.List.Elements.{filter-append}
-use Rattle.std.proofs.lemmas.List.Folds.{list_any-append, list_all-append}
+use Rattle.std.proofs.lemmas.List.Folds.{list_any-append}
 use Rattle.std.proofs.lemmas.Grind.{common_steps}
 use Rattle.sd_text.specs.Numbers.{number_of}
 use Rattle.sd_tables.specs.declared.columns.Column.{Column}
 use Rattle.sd_tables.specs.declared.fault.TableFault.{TableFault}
-use Rattle.sd_tables.specs.declared.fault.TableFault.TheVariants.{NotANumber, Range, Rows, Resolution, Memory}
+use Rattle.sd_tables.specs.declared.fault.TableFault.TheVariants.{Memory}
 use Rattle.sd_tables.specs.declared.sheet.Sheet.{Sheet}
-use Rattle.sd_tables.specs.TableText.{Line, is_res_word, is_res_line, is_row_line, is_unit, res_of_word, res_of_line, line_fault, fault_at, AreClean, units_in, rows_in}
+use Rattle.sd_tables.specs.TableText.{Line, is_res_word, is_res_line, is_row_line, is_unit, res_of_line, line_fault, fault_at, AreClean, units_in}
 use Rattle.sd_tables.specs.Sheets.{StandsFor, TakesLine, IsUnread}
 
 filter_none-step : {X : Type 0} (b : Bool) (x : X) (xs ys : List X) (rest : Bool) → (b || rest) ≡ false → (rest ≡ false → ys ≡ []) → cond b (x ∷ ys) ys ≡ []
@@ -52,15 +52,17 @@ pub res_taken : (columns : List Column) (line : Line) (number : ℕ) (old new : 
     → (line_fault columns above line number ≡ None) × StandsFor columns (above ++ line ∷ []) new
 res_taken columns line number old new res here no_row gives ok new_res new_rows above h =
     let none : list_any is_res_line above ≡ false = grind (arith, h.has_res) in
-    let first = first_unit above line none here in
-    (grind (arith, common_steps, h.has_res, h.has_row), record {
-      res = new_res ∙ sym (ap (λ (l : List (Option ℕ)). slice_index_or l 0 None) first ∙ gives);
-      has_res = grind (arith, list_any-append);
-      rows = grind (arith, common_steps, h.rows);
-      has_row = grind (arith, list_any-append, h.has_row);
-      unit = subst (λ (o : Option ℕ). IfSome o (λ n. is_unit n ≡ true)) (gives ∙ sym new_res) (unit_of_line line);
-      within = grind (arith, common_steps, h.within);
-    })
+    let first = first_unit above line none here in (
+      grind (arith, common_steps, h.has_res, h.has_row),
+      record {
+        res = new_res ∙ sym (ap (λ (l : List (Option ℕ)). slice_index_or l 0 None) first ∙ gives);
+        has_res = grind (arith, list_any-append);
+        rows = grind (arith, common_steps, h.rows);
+        has_row = grind (arith, list_any-append, h.has_row);
+        unit = subst (λ (o : Option ℕ). IfSome o (λ n. is_unit n ≡ true)) (gives ∙ sym new_res) (unit_of_line line);
+        within = grind (arith, common_steps, h.within);
+      },
+    )
 
 -- ---- lines, one after the other
 
@@ -68,10 +70,11 @@ res_taken columns line number old new res here no_row gives ok new_res new_rows 
 pub goes_on : {X : Type 0} (xs : List X) (k : ℕ) (d x : X) (rest : List X) → drop k xs ≡ x ∷ rest
     → (k < length xs) × (get_or xs k d ≡ x) × (drop (k + 1) xs ≡ rest)
 goes_on xs k d x rest h =
-    let n : length (drop k xs) ≡ suc (length rest) = ap length h in
-    (omega (arith, n, length-drop k xs),
-    sym (get_or-drop k xs 0 d ∙ ap (λ i. get_or xs i d) (add-zero k)) ∙ ap (λ l. get_or l 0 d) h,
-    sym (drop-drop 1 k xs) ∙ ap (drop 1) h)
+    let n : length (drop k xs) ≡ suc (length rest) = ap length h in (
+      omega (arith, n, length-drop k xs),
+      sym (get_or-drop k xs 0 d ∙ ap (λ i. get_or xs i d) (add-zero k)) ∙ ap (λ l. get_or l 0 d) h,
+      sym (drop-drop 1 k xs) ∙ ap (drop 1) h,
+    )
 
 -- and where it ends
 pub ended : {X : Type 0} (xs : List X) (k : ℕ) → drop k xs ≡ [] → length xs ≤ k

@@ -1,5 +1,5 @@
 -- A sheet of the right number of rows makes the table that the text spells.
-use Rattle.std.proofs.Common.{◌≡◌, ℕ, ◌≤◌, Bool, true, nat_eq, nat_le, ◌&&◌, List, length, map, Option, unwrap_or, refl, sym, ap, ◌∙◌, arith}
+use Rattle.std.proofs.Common.{◌≡◌, ℕ, ◌≤◌, true, nat_eq, nat_le, ◌&&◌, List, length, map, Option, unwrap_or, sym, ap, ◌∙◌, arith}
 use Rattle.std.proofs.lemmas.List.{length-map}
 use Rattle.std.specs.List.{list_all}
 use Rattle.std.proofs.lemmas.Bool.Decides.{nat_tests}
@@ -10,7 +10,7 @@ use Rattle.sd_types.specs.declared.tables.FixedTable.{FixedTable}
 use Rattle.sd_types.specs.Rows.{ts_row_fits, fixed_row_fits}
 use Rattle.sd_types.specs.Ticks.{ticks_of}
 use Rattle.sd_tables.specs.declared.sheet.Sheet.{Sheet}
-use Rattle.sd_tables.specs.TableText.{Format, ts_columns, fixed_columns, ts_format, fixed_format, word_lines, rows_in, has_rows, AreClean, is_unit, ts_numbers, fixed_numbers, SpellsTs, SpellsFixed}
+use Rattle.sd_tables.specs.TableText.{Format, ts_columns, fixed_columns, ts_format, fixed_format, word_lines, rows_in, AreClean, is_unit, ts_numbers, fixed_numbers, SpellsTs, SpellsFixed}
 use Rattle.sd_tables.specs.Sheets.{StandsFor, rows_of}
 use Rattle.sd_tables.specs.TableRows.{ts_row_of, fixed_row_of}
 use Rattle.sd_tables.proofs.RowLemmas.{ts_rows-right, fixed_rows-right}

@@ -1,5 +1,5 @@
 -- What the reader takes a line for.
-use Rattle.std.specs.Prelude.{◌≡◌, ℕ, List, [], true, false}
+use Rattle.std.specs.Prelude.{◌≡◌, [], true, false}
 use Rattle.sd_tables.specs.declared.resolution.Kind.{Kind}
 use Rattle.sd_tables.specs.declared.resolution.Kind.TheVariants.{Blank, Resolution, Row}
 use Rattle.sd_tables.specs.TableText.{Line, is_res_line, is_row_line, res_of_line}

@@ -1,5 +1,5 @@
 -- What the reader keeps of the lines above.
-use Rattle.std.specs.Prelude.{◌≡◌, ℕ, ◌⊎◌, true, List, [], ◌∷◌, ◌++◌, length, map, slice_index_or, nat_lt, Option, Some, None, is_some, Result, Ok, Err, IfSome}
+use Rattle.std.specs.Prelude.{◌≡◌, ℕ, true, List, [], ◌∷◌, ◌++◌, length, map, slice_index_or, nat_lt, Some, None, is_some, Result, Ok, Err, IfSome}
 use Rattle.std.specs.List.{list_all, list_any}
 use Rattle.sd_tables.specs.declared.columns.Column.{Column}
 use Rattle.sd_tables.specs.declared.fault.TableFault.{TableFault}

@@ -2,7 +2,7 @@
 -- Each line is judged as a whole: by its words, and by what kinds of lines stand above it.
 -- Source: dispadmin(1M), ts_dptbl(4), rt_dptbl(4). This project's own: RES is 1000 where it is absent, the greatest
 -- numbers, and the faults.
-use Rattle.std.specs.Prelude.{◌≡◌, ℕ, ◌+◌, ◌<◌, ◌⊎◌, Bool, true, false, not, ◌&&◌, ◌||◌, ◌==◌, nat_le, cond, List, [], ◌∷◌, length, take, map, filter, position, slice_index, slice_index_or, drop, Option, Some, None, is_some, is_none, option_map, option_and_then, unwrap_or, IsTrue}
+use Rattle.std.specs.Prelude.{◌≡◌, ℕ, ◌+◌, ◌<◌, ◌⊎◌, Bool, true, false, not, ◌&&◌, ◌||◌, ◌==◌, nat_le, cond, List, [], ◌∷◌, length, take, map, filter, position, slice_index, slice_index_or, drop, Option, Some, None, is_none, option_map, option_and_then, unwrap_or, IsTrue}
 use Rattle.std.specs.List.{list_all, list_any, zip}
 use Rattle.std.specs.Str.Parse.{digits_value}
 use Rattle.sd_types.specs.declared.tables.TsRow.{TsRow}

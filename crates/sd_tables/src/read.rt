@@ -15,8 +15,6 @@ use std::alloc::{AllocError, Global};
 // The least number of rows, and the greatest but for the fixed-priority class.
 const ROWS: usize = 60;
 
-
-
 // The row of a level, from its numbers.
 #[tactic(auto, unfolding(crate::specs::TableRows::ts_row_of))]
 fn ts_row(numbers: &[u64], hz: u32, res: u64) -> TsRow
@@ -48,12 +46,7 @@ fn fixed_row(numbers: &[u64], hz: u32, res: u64) -> FixedRow
     }
 }
 
-fn ts_rows(
-    alloc: Global,
-    rows: &[Numbers],
-    hz: u32,
-    res: u64,
-) -> Result<Vec<TsRow>, AllocError>
+fn ts_rows(alloc: Global, rows: &[Numbers], hz: u32, res: u64) -> Result<Vec<TsRow>, AllocError>
     requires within { list_all (is_within ts_columns) (map (λ r. r.items) rows.now) ≡ true }
     requires hz { 1 ≤ hz }
     requires res { is_unit res ≡ true }
@@ -123,12 +116,7 @@ pub fn read_ts(alloc: Global, text: &[u8], hz: u32) -> Result<TsTable, TableFaul
     }
 }
 
-fn read_fixed(
-    alloc: Global,
-    text: &[u8],
-    hz: u32,
-    most: usize,
-) -> Result<FixedTable, TableFault>
+fn read_fixed(alloc: Global, text: &[u8], hz: u32, most: usize) -> Result<FixedTable, TableFault>
     requires text { length text.now < 2 ^ 31 }
     requires hz { 1 ≤ hz }
     requires most { most ≤ 61 }

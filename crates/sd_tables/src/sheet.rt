@@ -59,12 +59,7 @@ impl Sheet {
     }
 
     // Takes in a line.
-    fn take_line(
-        &mut self,
-        line: &[u8],
-        number: u32,
-        columns: &[Column],
-    ) -> Result<(), TableFault>
+    fn take_line(&mut self, line: &[u8], number: u32, columns: &[Column]) -> Result<(), TableFault>
         requires { length columns.now ≤ 5 }
         ensures taken { TakesLine columns.now (words_of line.now) number self.old self.new result }
         ensures count { length self.new.rows.items ≤ length self.old.rows.items + 1 }

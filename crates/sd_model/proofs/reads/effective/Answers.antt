@@ -9,5 +9,5 @@ loop-willed-preserved c =
     let none : LockId × ℕ = (record { 0 = 0 }, 0) in
     let here : c.loop-willed.willed-index < length c.args.b.now.willed.items = omega (arith, ap length same) in
     let greater : c.max-greatest.result ≡ max c.loop-willed.greatest (get_or {A = LockId × ℕ} c.args.b.now.willed.items c.loop-willed.willed-index none).1 =
-        c.max-greatest.ensures ∙ ap (λ (ws : List (LockId × ℕ)). max c.loop-willed.greatest (get_or {A = LockId × ℕ} ws c.loop-willed.willed-index none).1) same in
+    c.max-greatest.ensures ∙ ap (λ (ws : List (LockId × ℕ)). max c.loop-willed.greatest (get_or {A = LockId × ℕ} ws c.loop-willed.willed-index none).1) same in
     rw greater (greatest_willed-more c.loop-willed.greatest _ c.loop-willed.willed-index none here ∙ c.loop-willed.invariant)

@@ -12,9 +12,10 @@ pub returns-then-entry-i-clause-illegal : goal.returns-then-entry-i-clause-illeg
 returns-then-entry-i-clause-illegal c =
     let i = c.loop-i in
     is_illegal c.args.work.now c.args.s.now i.s c.args.entries.now i.i c.index-entries-i.result c.loop-i-test.true c.index-entries-i.is i.invariant.run i.invariant.state
-      (elim c.then-entry-i.branch [
-        then-entry-i-via-then-entry-i w ↦ λ number step. w.if-entry-i.true number
-      | then-entry-i-via-else-entry-i+then-not-step w ↦ λ number step. false≢true (sym w.if-not-step.true ∙ w.step.ensures.step.1 step) ])
+    (elim c.then-entry-i.branch [
+      | then-entry-i-via-then-entry-i w ↦ λ number step. w.if-entry-i.true number
+      | then-entry-i-via-else-entry-i+then-not-step w ↦ λ number step. false≢true (sym w.if-not-step.true ∙ w.step.ensures.step.1 step)
+    ])
 
 pub loop-i-preserved : goal.loop-i-preserved
 loop-i-preserved c =
@@ -23,5 +24,5 @@ loop-i-preserved c =
     record {
       run = run_more c.args.work.now c.args.s.now i.s c.args.entries.now i.i c.index-entries-i.result c.loop-i-test.true c.index-entries-i.is i.invariant.run i.invariant.state c.if-entry-i.false step;
       state = state_more c.args.work.now c.args.s.now i.s c.args.entries.now i.i c.index-entries-i.result c.loop-i-test.true c.index-entries-i.is c.step.new.s i.invariant.state c.if-not-step.ensures.made;
-      fits = c.step.ensures.fits
+      fits = c.step.ensures.fits;
     }

@@ -11,10 +11,11 @@ pub loop-i-preserved : goal.loop-i-preserved
 loop-i-preserved c =
     let on = λ (x : ThreadState). is_ready c.args.c.0 c.args.p.0 x.place in
     elim c.if-goes_ahead.branch [
-      then-goes_ahead w ↦
-        rw w.best-is (best_taken on beats no_thread beats_order c.args.threads.now c.loop-i.best c.loop-i.i c.loop-i.invariant (sym c.goes_ahead.ensures ∙ w.if-goes_ahead.true))
-    | else-goes_ahead w ↦
-        rw w.best-is (best_kept on beats no_thread c.args.threads.now c.loop-i.best c.loop-i.i c.loop-i.invariant (sym c.goes_ahead.ensures ∙ w.if-goes_ahead.false)) ]
+      | then-goes_ahead w ↦
+          rw w.best-is (best_taken on beats no_thread beats_order c.args.threads.now c.loop-i.best c.loop-i.i c.loop-i.invariant (sym c.goes_ahead.ensures ∙ w.if-goes_ahead.true))
+      | else-goes_ahead w ↦
+          rw w.best-is (best_kept on beats no_thread c.args.threads.now c.loop-i.best c.loop-i.i c.loop-i.invariant (sym c.goes_ahead.ensures ∙ w.if-goes_ahead.false))
+    ]
 
 pub returns-clause-place : goal.returns-clause-place
 unfolding best_ready
@@ -22,4 +23,4 @@ returns-clause-place c =
     let on = λ (x : ThreadState). is_ready c.args.c.0 c.args.p.0 x.place in
     let whole : c.loop-i.i ≡ length c.args.threads.now = omega arith in
     best_by_is on beats no_thread c.args.threads.now c.loop-i.best
-        (subst (λ n. IsBestBelow on beats no_thread c.args.threads.now n c.loop-i.best) whole c.loop-i.invariant)
+    (subst (λ n. IsBestBelow on beats no_thread c.args.threads.now n c.loop-i.best) whole c.loop-i.invariant)

@@ -9,5 +9,5 @@ returns-clause-fits c =
     let w = c.args.work.now in
     record {
       threads = ap length (c.from_vec.ensures ∙ c.in_ok-first_threads.ensures) ∙ length-first_threads w 0 w.threads;
-      cpus = ap length (c.from_vec-3.ensures ∙ c.in_ok-first_cpus.ensures) ∙ length-map-range_with_len (first_cpu_state w) 0 w.cpus
+      cpus = ap length (c.from_vec-3.ensures ∙ c.in_ok-first_cpus.ensures) ∙ length-map-range_with_len (first_cpu_state w) 0 w.cpus;
     }

@@ -1,5 +1,4 @@
-use Rattle.std.proofs.Common.{◌≡◌, ◌≤◌, ℕ, List, length, map, ap, sym, true, ◌∙◌, arith}
-use Rattle.sd_types.specs.declared.tables.FixedRow.{FixedRow}
+use Rattle.std.proofs.Common.{◌≡◌, map, ap, sym, ◌∙◌, arith}
 use Rattle.sd_tables.specs.TableText.{is_unit}
 use Rattle.sd_tables.specs.Sheets.{rows_of}
 use Rattle.sd_tables.specs.TableRows.{fixed_row_of}
@@ -17,8 +16,8 @@ returns-in-Ok-clause-ok c =
     let t = c.from_rows.result in
     let made : c.from_vec.result ≡ map (fixed_row_of c.args.hz c.res-res.result) (rows_of sheet) = cc (c.from_vec.ensures, c.in-Ok.ensures, c.deref.ensures.value) in
     let rows : t.rows ≡ map (fixed_row_of c.args.hz t.res) (rows_of sheet) =
-        c.from_rows.ensures.rows ∙ made ∙ ap (λ n. map (fixed_row_of c.args.hz n) (rows_of sheet)) (sym c.from_rows.ensures.res) in
+    c.from_rows.ensures.rows ∙ made ∙ ap (λ n. map (fixed_row_of c.args.hz n) (rows_of sheet)) (sym c.from_rows.ensures.res) in
     fixed_spelled c.args.most c.args.text.now c.args.hz sheet t c.in_ok-sheet.ensures.clean c.in_ok-sheet.ensures.value
-        (omega (arith, sheet.rows.ok.0)) (omega (arith, sheet.rows.ok.0)) c.requires.hz
-        (ap is_unit c.from_rows.ensures.res ∙ c.res-res.ensures.unit c.in_ok-sheet.ensures.value.unit)
-        (c.from_rows.ensures.res ∙ c.res-res.ensures.value) rows
+    (omega (arith, sheet.rows.ok.0)) (omega (arith, sheet.rows.ok.0)) c.requires.hz
+    (ap is_unit c.from_rows.ensures.res ∙ c.res-res.ensures.unit c.in_ok-sheet.ensures.value.unit)
+    (c.from_rows.ensures.res ∙ c.res-res.ensures.value) rows

@@ -1,4 +1,4 @@
-use Rattle.std.proofs.Common.{◌≡◌, ◌<◌, length, get_or, true, List, ℕ, ap, sym, subst, ◌∙◌, arith}
+use Rattle.std.proofs.Common.{◌≡◌, true, List, ℕ, ap, sym, subst, ◌∙◌, arith}
 use Rattle.sd_tables.specs.TableText.{is_within, ts_columns}
 use Rattle.sd_tables.proofs.RowLemmas.{all_at}
 use Rattle.sd_tables.proofs.read.ts_rows.Goals as goal

@@ -1,10 +1,9 @@
-use Rattle.std.proofs.Common.{◌≡◌, ◌+◌, ◌<◌, ◌≤◌, ◌∷◌, [], List, length, take, drop, map, IfErr, Result, arith, ap, sym, subst, refl, ◌∙◌, take_all}
+use Rattle.std.proofs.Common.{◌≡◌, ◌+◌, ◌≤◌, ◌∷◌, [], List, length, take, drop, map, IfErr, Result, arith, ap, sym, subst, ◌∙◌, take_all}
 use Rattle.std.proofs.lemmas.Result.{err_from_is_err_and}
-use Rattle.sd_text.specs.Lines.{lines_of}
 use Rattle.sd_text.specs.Words.{words_of}
 use Rattle.sd_tables.specs.declared.sheet.Sheet.{Sheet}
 use Rattle.sd_tables.specs.declared.fault.TableFault.{TableFault}
-use Rattle.sd_tables.specs.TableText.{Line, word_lines, AreClean}
+use Rattle.sd_tables.specs.TableText.{Line, word_lines}
 use Rattle.sd_tables.specs.Sheets.{StandsFor, IsUnread}
 use Rattle.sd_tables.proofs.SheetLemmas.{clean-next, take-next, fault-next, goes_on, ended}
 use Rattle.sd_tables.proofs.sheet.read_sheet.Goals as goal

@@ -1,4 +1,3 @@
-use Rattle.std.proofs.Common.{◌≡◌}
 use Rattle.sd_text.specs.Words.{words_of}
 use Rattle.sd_tables.proofs.SheetLemmas.{res_taken}
 use Rattle.sd_tables.proofs.sheet.Sheet.take_line.Goals as goal

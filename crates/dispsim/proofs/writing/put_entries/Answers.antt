@@ -1,0 +1,21 @@
+use Rattle.std.proofs.Common.{Ok}
+use Rattle.sd_machine.specs.Texts.{entry_text, entries_text}
+use Rattle.dispsim.specs.Ends.{Puts}
+use Rattle.dispsim.proofs.PutLemmas.{Puts-nil, Puts-item, Puts-item_err, Puts-all}
+use Rattle.dispsim.proofs.writing.put_entries.Goals as goal
+
+pub loop-entry-init : goal.loop-entry-init
+loop-entry-init g c = Puts-nil _ _
+
+pub loop-entry-preserved : goal.loop-entry-preserved
+loop-entry-preserved g c =
+    Puts-item (entry_text c.args.work.now) _ _ _ _ _ _ c.args.entries.now c.loop-entry.entry-index c.entry-item.result c.entry-item.is c.loop-entry-test.true c.loop-entry.invariant c.in_default.ensures
+
+pub returns-in-Err : goal.returns-in-Err
+unfolding entries_text
+returns-in-Err g c =
+    Puts-item_err (entry_text c.args.work.now) _ _ _ _ _ _ c.args.entries.now c.loop-entry.entry-index c.entry-item.result c.entry-item.is c.in-Err.unwritten c.loop-entry-test.true c.loop-entry.invariant c.in-Err.ensures
+
+pub returns : goal.returns
+unfolding entries_text
+returns g c = Puts-all (entry_text c.args.work.now) _ _ _ _ c.args.entries.now c.loop-entry.entry-index c.loop-entry-test.false c.loop-entry.invariant

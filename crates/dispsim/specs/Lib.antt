@@ -1,0 +1,6 @@
+pub mod Answers
+pub mod Ends
+pub mod Forms
+pub mod Headline
+pub mod Readings
+pub mod RunAnswers

@@ -1,0 +1,160 @@
+//! Worked runs, and ends that fail. Each expected text was worked out by hand from the rules of the machine.
+
+use crate::answers::Answer;
+use crate::gates::OpenGate;
+use crate::top::serial;
+use sd_model::replay;
+use sd_serial::{rising, run_rounds};
+use sd_text::{MemorySink, MemorySource};
+use sd_work::read_work;
+use std::alloc::{AllocError, Global};
+use std::test::Fail;
+
+const SMALLEST: &str = "limit 5\nthread a ts 29 0 0\nscript a\nrun 3\nend\n";
+
+const SMALLEST_JOURNAL: &str =
+    "0 c0 dispatch a 29\n1 c0 tick a\n2 c0 tick a\n3 c0 tick a\n4 c0 done a\n5 c0 idle\n6 c0 idle\naccounts\nthread a ticks 3 dispatches 1 preempts 0 wakes 0 ended\ncpu 0 ticks 5 idle 2\n";
+
+const EXPIRY: &str =
+    "limit 22\nthread a ts 0 0 0\nthread b ts 0 0 0\nscript a\nrun 20\nend\nscript b\nrun 1\nend\n";
+
+/// What a call answered, and what its ends received.
+#[derive(Drop)]
+struct Called {
+    status: u8,
+    out: MemorySink,
+    err: MemorySink,
+}
+
+/// A call over ends in memory: the reads named in `reads` and the writes named in `writes` fail, counted from 1.
+fn call(
+    alloc: Global,
+    word: &str,
+    input: &[u8],
+    chunk: usize,
+    reads: &[u64],
+    room: usize,
+    writes: &[u64],
+) -> Result<Called, AllocError>
+    requires { 1 ≤ chunk }
+{
+    let mut texts = Vec::new(alloc);
+    for word in words {
+        texts.push(String::from_str(alloc, *word)?)?;
+    }
+    let mut source = MemorySource::new(
+        Vec::from_slice(alloc, input)?,
+        chunk,
+        Vec::from_slice(alloc, reads)?,
+    );
+    let mut out = MemorySink::new(alloc, room, Vec::from_slice(alloc, writes)?)?;
+    let mut err = MemorySink::new(alloc, 200, Vec::new(alloc))?;
+    let status = serial(alloc, &texts, &mut source, &mut out, &mut err, &OpenGate);
+    Ok(Called { status, out, err })
+}
+
+#[test]
+fn worked_runs(rt: HostRuntime) -> Result<(), Fail> {
+    let rows = [
+        (SMALLEST, SMALLEST_JOURNAL),
+        (
+            "limit 2\n",
+            "0 c0 idle\n1 c0 idle\naccounts\ncpu 0 ticks 2 idle 2\n",
+        ),
+        (
+            EXPIRY,
+            "0 c0 dispatch a 0\n1 c0 tick a\n2 c0 tick a\n3 c0 tick a\n4 c0 tick a\n5 c0 tick a\n6 c0 tick a\n7 c0 tick a\n8 c0 tick a\n9 c0 tick a\n10 c0 tick a\n11 c0 tick a\n12 c0 tick a\n13 c0 tick a\n14 c0 tick a\n15 c0 tick a\n16 c0 tick a\n17 c0 tick a\n18 c0 tick a\n19 c0 tick a\n20 c0 tick a\n21 c0 preempt a back\n22 c0 dispatch b 0\n23 c0 tick b\n24 c0 done b\n25 c0 dispatch a 0\n26 c0 done a\n27 c0 idle\naccounts\nthread a ticks 20 dispatches 2 preempts 1 wakes 0 ended\nthread b ticks 1 dispatches 1 preempts 0 wakes 0 ended\ncpu 0 ticks 22 idle 1\n",
+        ),
+        (
+            "limit 1\nthread a ts 5 0 -60\nscript a\nrun 1\nend\n",
+            "0 c0 dispatch a 0\n1 c0 tick a\n2 c0 done a\naccounts\nthread a ticks 1 dispatches 1 preempts 0 wakes 0 ended\ncpu 0 ticks 1 idle 0\n",
+        ),
+    ];
+    for (input, journal) in rows {
+        let called = call(rt.alloc(), &["run"], input.as_bytes(), 7, &[], 4096, &[])?;
+        assert_eq!(rt; called.status, 0, "{input}");
+        assert_eq!(rt; called.out.bytes(), journal.as_bytes(), "{input}");
+        assert_eq!(rt; called.err.bytes(), b"".as_slice(), "{input}");
+    }
+    Ok(())
+}
+
+#[test]
+fn refusals_and_failing_ends(rt: HostRuntime) -> Result<(), Fail> {
+    let alloc = rt.alloc();
+    // the words, the input, the reads that fail, the room of the output, the writes that fail; the answer, and the output
+    let cases: [(&[&str], &str, &[u64], usize, &[u64], Answer, &str); 8] = [
+        (&[], SMALLEST, &[], 4096, &[], Answer::Usage, ""),
+        (
+            &["run", "fast"],
+            SMALLEST,
+            &[],
+            4096,
+            &[],
+            Answer::Usage,
+            "",
+        ),
+        (&["run"], "", &[], 4096, &[], Answer::NotBuilt, ""),
+        (
+            "run",
+            "limit 100001\n",
+            &[],
+            4096,
+            &[],
+            Answer::NotBuilt,
+            "",
+        ),
+        (
+            "run",
+            "limit 1\nthread a rt 5 def\n",
+            &[],
+            4096,
+            &[],
+            Answer::NotBuilt,
+            "",
+        ),
+        (&["run"], SMALLEST, &[2], 4096, &[], Answer::ReadFault, ""),
+        (
+            "run",
+            SMALLEST,
+            &[],
+            4096,
+            &[2],
+            Answer::WriteFault,
+            "0 c0 dispatch a 29\n",
+        ),
+        (&["run"], SMALLEST, &[], 5, &[], Answer::WriteFault, "0 c0 "),
+    ];
+    for (words, input, reads, room, writes, answer, out) in cases {
+        let called = call(alloc, words, input.as_bytes(), 4, reads, room, writes)?;
+        assert_eq!(rt; called.status, answer.status(), "{input}");
+        assert_eq!(rt; called.out.bytes(), out.as_bytes(), "{input}");
+        assert_eq!(rt; called.err.bytes(), answer.line(), "{input}");
+    }
+    Ok(())
+}
+
+#[test]
+fn an_input_too_large(rt: HostRuntime) -> Result<(), Fail> {
+    let input = vec![in rt.alloc(); b'#'; 1_048_577]?;
+    let called = call(rt.alloc(), &["run"], &input, 65_536, &[], 16, &[])?;
+    assert_eq!(rt; called.status, 2);
+    assert_eq!(rt; called.err.bytes(), Answer::TooLarge.line());
+    Ok(())
+}
+
+#[test]
+fn a_run_is_replayed(rt: HostRuntime) -> Result<(), Fail> {
+    let alloc = rt.alloc();
+    let Ok(work) = read_work(alloc, EXPIRY.as_bytes()) else {
+        return Ok(assert!(rt; false, "no work"));
+    };
+    let order = rising(alloc, &work)?;
+    let Ok(run) = run_rounds(alloc, &work, &order) else {
+        return Ok(assert!(rt; false, "no run"));
+    };
+    assert_eq!(rt; run.entries.len(), 28);
+    assert!(rt; replay(alloc, &work, &run.entries).is_ok());
+    assert!(rt; replay(alloc, &work, &run.entries[1..]).is_err());
+    Ok(())
+}

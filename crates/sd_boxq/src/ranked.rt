@@ -1,0 +1,41 @@
+//! What an item tells of itself, by which queues order and find it.
+ghost use Rattle.std.specs.Prelude.{◌≡◌, ℕ, ℤ};
+ghost use Rattle.sd_boxq.specs.Order.{precedes, precedes_keyed};
+
+/// An item with a rank, a key and an id.
+///
+/// The greater rank comes first, and of equal ranks the less key (Solaris Internals, dispatcher:
+/// a rank is an effective priority; keys are this project's own).
+pub trait Ranked {
+    ghost rank: { Self → ℕ };
+
+    ghost key: { Self → ℤ };
+
+    ghost id: { Self → ℕ };
+
+    /// The rank: the greater comes first.
+    fn rank(&self) -> u8
+        ensures { result ≡ rank self.now };
+
+    /// The key: of equal ranks the less comes first.
+    fn key(&self) -> i64
+        ensures { result ≡ key self.now };
+
+    /// The id, by which an item is found.
+    fn id(&self) -> u32
+        ensures { result ≡ id self.now };
+}
+
+/// The greater rank first, and of equal ranks the less key.
+pub(crate) fn precedes<T: Ranked>(x: &T, y: &T) -> bool
+    ensures { result ≡ precedes T.rank T.key x.now y.now }
+{
+    y.rank() < x.rank() || x.rank() == y.rank() && x.key() < y.key()
+}
+
+/// The less key first, and of equal keys the less id.
+pub(crate) fn precedes_keyed<T: Ranked>(x: &T, y: &T) -> bool
+    ensures { result ≡ precedes_keyed T.key T.id x.now y.now }
+{
+    x.key() < y.key() || x.key() == y.key() && x.id() < y.id()
+}

@@ -1,0 +1,131 @@
+//! Orders by hand, both ends, and a long queue.
+ghost use Rattle.std.specs.Prelude.{◌≡◌, ◌<◌, ◌^◌, ℕ, length};
+
+use crate::{BoxQueue, Node, Ranked};
+use std::alloc::AllocError;
+use std::test::Fail;
+
+#[derive(Drop)]
+struct Item {
+    rank: u8,
+    key: i64,
+    id: u32,
+}
+
+impl Ranked for Item {
+    ghost rank = { λ x. x.rank };
+
+    ghost key = { λ x. x.key };
+
+    ghost id = { λ x. x.id };
+
+    fn rank(&self) -> u8 {
+        self.rank
+    }
+
+    fn key(&self) -> i64 {
+        self.key
+    }
+
+    fn id(&self) -> u32 {
+        self.id
+    }
+}
+
+fn node(rt: &HostRuntime, rank: u8, key: i64, id: u32) -> Result<Node<Item>, AllocError> {
+    Node::node(rt.alloc(), Item { rank, key, id })
+}
+
+fn id_of(item: Option<&Item>) -> u32 {
+    match item {
+        Some(item) => item.id,
+        None => 0,
+    }
+}
+
+fn taken(node: Option<Node<Item>>) -> u32 {
+    match node {
+        Some(node) => node.item().id,
+        None => 0,
+    }
+}
+
+// The ids of the first five items, and 0 past the end.
+fn ids(queue: &BoxQueue<Item>) -> [u32; 5] {
+    [
+        id_of(queue.item(0)),
+        id_of(queue.item(1)),
+        id_of(queue.item(2)),
+        id_of(queue.item(3)),
+        id_of(queue.item(4)),
+    ]
+}
+
+#[test]
+fn orders(rt: HostRuntime) -> Result<(), Fail> {
+    let mut ranked = BoxQueue::new();
+    let mut keyed = BoxQueue::new();
+    // Ids 3 and 5 have equal ranks and keys, so 5 comes behind 3, but by key and id 1 is before 4.
+    for (rank, key, id) in [(5, 20, 3), (9, 30, 2), (9, -7, 4), (5, 20, 5), (0, -7, 1)] {
+        ranked.insert_ranked(node(&rt, rank, key, id)?);
+        keyed.insert_keyed(node(&rt, rank, key, id)?);
+    }
+    assert_eq!(rt; ids(&ranked), [4, 2, 3, 5, 1]);
+    assert_eq!(rt; ids(&keyed), [1, 4, 3, 5, 2]);
+    assert_eq!(rt; id_of(ranked.find(5)), 5);
+    assert_eq!(rt; taken(keyed.take_below(20)), 1);
+    assert_eq!(rt; taken(keyed.take_below(-7)), 0);
+    assert_eq!(rt; taken(keyed.take_first(3)), 3);
+    assert_eq!(rt; ids(&keyed), [4, 5, 2, 0, 0]);
+    Ok(())
+}
+
+#[test]
+fn ends(rt: HostRuntime) -> Result<(), Fail> {
+    let mut queue = BoxQueue::new();
+    assert!(rt; queue.is_empty());
+    assert_eq!(rt; taken(queue.take_first(1)), 0);
+    queue.push_back(node(&rt, 1, 0, 2)?);
+    queue.push_back(node(&rt, 2, 0, 3)?);
+    queue.push_front(node(&rt, 3, 0, 1)?);
+    queue.push_back(node(&rt, 4, 0, 2)?);
+    assert_eq!(rt; ids(&queue), [1, 2, 3, 2, 0]);
+    // The first of the two with id 2, which has rank 1.
+    let mut first = queue.take_first(2).ok_or("no item")?;
+    assert_eq!(rt; first.item().rank, 1);
+    first.item_mut().id = 7;
+    queue.push_back(first);
+    assert_eq!(rt; ids(&queue), [1, 3, 2, 7, 0]);
+    assert_eq!(rt; id_of(queue.first()), 1);
+    assert_eq!(rt; taken(queue.pop_front()), 1);
+    assert_eq!(rt; taken(queue.pop_front()), 3);
+    assert_eq!(rt; taken(queue.pop_front()), 2);
+    assert_eq!(rt; taken(queue.pop_front()), 7);
+    assert_eq!(rt; taken(queue.pop_front()), 0);
+    Ok(())
+}
+
+// A queue that walks to its end for each box does not end here.
+#[test]
+fn holds_400_000_boxes(rt: HostRuntime) -> Result<(), Fail> {
+    let mut queue = BoxQueue::new();
+    for id in 0..400_000 {
+        queue.push_back(node(&rt, 0, 0, id)?);
+    }
+    assert_eq!(rt; queue.len(), 400_000);
+    assert_eq!(rt; id_of(queue.item(399_999)), 399_999);
+    Ok(())
+}
+
+fn sent<T: Send>(value: T) -> T {
+    value
+}
+
+// What goes to another thread.
+#[test]
+fn is_send(rt: HostRuntime) -> Result<(), Fail> {
+    let mut queue = sent(BoxQueue::new());
+    queue.push_back(sent(node(&rt, 1, 0, 5)?));
+    assert_eq!(rt; taken(sent(queue).pop_front()), 5);
+    Ok(())
+}

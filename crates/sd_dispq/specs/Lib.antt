@@ -1,0 +1,3 @@
+pub mod Bitmap
+pub mod Levels
+pub mod Places

@@ -1,0 +1,208 @@
+//! The dispatch queue: a list in order of rank and then place, kept in levels.
+ghost use Rattle.std.specs.Prelude.{◌≡◌, ◌+◌, ◌<◌, ◌^◌, ℕ, [], ◌∷◌, length, slice_get, IfOk, MatchOption};
+ghost use Rattle.std.specs.Option.{option_copied};
+ghost use Rattle.sd_boxq.specs.Order.{insert_ranked, find_id, drop_id};
+ghost use Rattle.sd_dispq.specs.Levels.{all_of, level_at, IsLevelled, IsHolder};
+ghost use Rattle.sd_dispq.specs.Places.{put_front, put_back, IsByRank, greatest_rank, raised};
+
+use crate::levels::{LEVELS, Levels};
+use sd_boxq::{Node, Ranked};
+use std::alloc::{AllocError, Global};
+use std::marker::Model;
+
+/// A dispatch queue of 160 ranks, which contracts see as the list of its items: the greatest rank
+/// first, and of one rank by place (Solaris Internals, dispatch queues).
+///
+/// A bit is set exactly where a level is not empty, and the maximum is the rank of the first such level,
+/// so the best and the greatest rank are found without a scan of levels.
+#[derive(Drop)]
+pub struct DispQueue<T: Ranked> {
+    levels: Levels<T>,
+    greatest: Option<u8>,
+}
+
+impl<T: Ranked> Model for DispQueue<T> {
+    ghost use Rattle.std.specs.Prelude.{◌≡◌, List, length};
+    ghost use Rattle.std.specs.Coded.{coded_list};
+    ghost use Rattle.sd_dispq.specs.Levels.{all_of, IsLevelled};
+    ghost use Rattle.sd_dispq.specs.Places.{greatest_rank};
+
+    ghost Value = { List T };
+
+    ghost coded = { coded_list T.code };
+
+    ghost view = { λ q. all_of q.levels };
+
+    ghost invariant = { λ q. (length q.levels ≡ 160) × (IsLevelled T.rank q.levels) × (q.greatest ≡ greatest_rank T.rank (all_of q.levels)) };
+}
+
+// The place of the level of this rank.
+fn place_of(rank: u8) -> usize
+    requires { rank < 160 }
+    ensures { result + rank + 1 ≡ 160 }
+{
+    LEVELS - 1 - rank as usize
+}
+
+// The greatest rank when an item of this rank has come.
+fn raise(greatest: Option<u8>, rank: u8) -> Option<u8>
+    ensures { result ≡ raised greatest rank }
+{
+    match greatest {
+        None => Some(rank),
+        Some(other) => Some(other.max(rank)),
+    }
+}
+
+// The rank of the first level that is not empty, by the bitmap.
+fn greatest_of<T: Ranked>(levels: &Levels<T>) -> Option<u8>
+    requires count { length levels.now ≡ 160 }
+    requires levelled { IsLevelled T.rank levels.now }
+    ensures { result ≡ greatest_rank T.rank (all_of levels.now) }
+{
+    match levels.first_busy() {
+        None => None,
+        Some(place) => Some((LEVELS - 1 - place) as u8),
+    }
+}
+
+// The first level that has an item with this id.
+fn holder_of<T: Ranked>(levels: &Levels<T>, id: u32) -> Option<usize>
+    requires { length levels.now ≡ 160 }
+    ensures { MatchOption result (find_id T.id id (all_of levels.now) ≡ None) (λ place. IsHolder T.id id levels.now place) }
+{
+    for place in 0..LEVELS {
+        if levels.level(place).find(id).is_some() {
+            return Some(place);
+        }
+    }
+    None
+}
+
+impl<T: Ranked> DispQueue<T> {
+    /// An empty queue. No other call takes memory.
+    pub fn new(alloc: Global) -> Result<DispQueue<T>, AllocError>
+    where
+        T: Drop,
+        ensures { IfOk result (λ queue. queue ≡ []) }
+    {
+        Ok(DispQueue {
+            levels: Levels::new(alloc)?,
+            greatest: None,
+        })
+    }
+
+    /// Puts the box before all others of its rank.
+    pub fn put_front(&mut self, n: Node<T>)
+        requires { T.rank n < 160 }
+        ensures { self.new ≡ put_front T.rank n self.old }
+    {
+        let rank = n.item().rank();
+        self.levels.push_front(place_of(rank), n);
+        self.greatest = raise(self.greatest, rank);
+    }
+
+    /// Puts the box behind all others of its rank.
+    pub fn put_back(&mut self, n: Node<T>)
+        requires { T.rank n < 160 }
+        ensures { self.new ≡ put_back T.rank n self.old }
+    {
+        let rank = n.item().rank();
+        self.levels.push_back(place_of(rank), n);
+        self.greatest = raise(self.greatest, rank);
+    }
+
+    /// Puts the box before the first item whose rank is less, or whose rank is equal and whose key is
+    /// greater, and at the back where there is none.
+    pub fn put_ranked(&mut self, n: Node<T>)
+        requires { T.rank n < 160 }
+        ensures { self.new ≡ insert_ranked T.rank T.key n self.old }
+    {
+        let rank = n.item().rank();
+        self.levels.insert_ranked(place_of(rank), n);
+        self.greatest = raise(self.greatest, rank);
+    }
+
+    /// The first item, which has the greatest rank. `None` exactly where the queue is empty.
+    pub fn best(&self) -> Option<&T>
+        ensures value { option_copied result ≡ slice_get self.now 0 }
+        ensures order { IsByRank T.rank self.now }
+    {
+        match self.greatest {
+            None => None,
+            Some(rank) => self.levels.level(place_of(rank)).first(),
+        }
+    }
+
+    /// The greatest rank, by the maximum that the bitmap gave. `None` exactly where the queue is empty.
+    pub fn max(&self) -> Option<u8>
+        ensures { result ≡ greatest_rank T.rank self.now }
+    {
+        self.greatest
+    }
+
+    /// Takes the box of the first item. `None` exactly where the queue is empty.
+    pub fn take_best(&mut self) -> Option<Node<T>>
+        ensures { MatchOption result ((self.old ≡ []) × (self.new ≡ [])) (λ n. self.old ≡ n ∷ self.new) }
+    {
+        match self.greatest {
+            None => None,
+            Some(rank) => {
+                let taken = self.levels.pop_front(place_of(rank));
+                self.greatest = greatest_of(&self.levels);
+                taken
+            }
+        }
+    }
+
+    /// Takes the box of the first item with this id. `None` exactly where there is none.
+    pub fn take(&mut self, id: u32) -> Option<Node<T>>
+        ensures taken { result ≡ find_id T.id id self.old }
+        ensures rest { self.new ≡ drop_id T.id id self.old }
+    {
+        match holder_of(&self.levels, id) {
+            None => None,
+            Some(place) => {
+                let taken = self.levels.take_first(place, id);
+                self.greatest = greatest_of(&self.levels);
+                taken
+            }
+        }
+    }
+
+    /// The first item with this id. `None` exactly where there is none.
+    pub fn find(&self, id: u32) -> Option<&T>
+        ensures { option_copied result ≡ find_id T.id id self.now }
+    {
+        match holder_of(&self.levels, id) {
+            None => None,
+            Some(place) => self.levels.level(place).find(id),
+        }
+    }
+
+    /// The item at this place of the list, counted from 0. `None` exactly where there is none.
+    pub fn item(&self, place: usize) -> Option<&T>
+        ensures { option_copied result ≡ slice_get self.now place }
+    {
+        let mut left = place;
+        for level in 0..LEVELS {
+            match self.levels.level(level).seek(left) {
+                Ok(item) => return Some(item),
+                Err(rest) => left = rest,
+            }
+        }
+        None
+    }
+
+    /// The number of items.
+    pub fn len(&self) -> usize
+        requires { length self.now < 2 ^ 32 }
+        ensures { result ≡ length self.now }
+    {
+        let mut count = 0;
+        for level in 0..LEVELS {
+            count += self.levels.level(level).len();
+        }
+        count
+    }
+}

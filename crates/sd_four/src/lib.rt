@@ -1,0 +1,6 @@
+//! Four values of one type by number, for chains that have four channels or four locks.
+#![tactic(auto)]
+
+mod four;
+
+pub use four::Four;

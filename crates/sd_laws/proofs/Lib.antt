@@ -1,0 +1,13 @@
+pub mod BelongLemmas
+pub mod Causes
+pub mod Changes
+pub mod Chosen
+pub mod ClassLemmas
+pub mod Declared
+pub mod Induction
+pub mod KeyLemmas
+pub mod MarkLemmas
+pub mod Openings
+pub mod QueueLemmas
+pub mod RunningLemmas
+pub mod SetLemmas

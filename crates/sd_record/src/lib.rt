@@ -1,0 +1,11 @@
+//! The record of a thread, as it moves from queue to queue: its number, what its class and its locks keep of it,
+//! and the key of its place.
+#![tactic(auto)]
+
+mod laws;
+mod record;
+#[cfg(test)]
+mod tests;
+
+pub use laws::{effective_is_greatest, numbers_are_apart};
+pub use record::Record;

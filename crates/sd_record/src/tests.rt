@@ -1,0 +1,149 @@
+//! Priorities worked out by hand, on records that hold the locks 1, 2 and 3.
+
+ghost use Rattle.std.specs.Prelude.{◌≡◌, ◌≤◌, ◌∷◌, [], pos, negsuc, ◌≤ℤ◌};
+
+use crate::Record;
+use arrayvec::ArrayVec;
+use sd_boxq::{BoxQueue, Node, Ranked};
+use sd_types::{
+    ClassState, CpuId, FxState, LockId, Quantum, RtState, SysState, ThreadBody, ThreadId, TsState,
+};
+use std::test::Fail;
+
+/// A record of a thread of this class that holds the locks 1, 2 and 3.
+fn holder(class: ClassState) -> Record
+    ensures { result.body.held.items ≡ record { 0 = 1 } ∷ record { 0 = 2 } ∷ record { 0 = 3 } ∷ [] }
+{
+    let mut held = ArrayVec::new();
+    held.push(LockId(1));
+    held.push(LockId(2));
+    held.push(LockId(3));
+    Record {
+        id: ThreadId(7),
+        body: ThreadBody {
+            class,
+            willed: ArrayVec::new(),
+            held,
+            op: 0,
+            run_left: 0,
+            back: false,
+            last: CpuId(0),
+            left_at: None,
+            looped: false,
+            bound: None,
+        },
+        key: -5,
+    }
+}
+
+fn ts(cpupri: u8, upri: i8) -> ClassState
+    requires cpupri { cpupri ≤ 59 }
+    requires low { negsuc 59 ≤ℤ upri }
+    requires high { upri ≤ℤ pos 60 }
+{
+    ClassState::Ts(TsState {
+        cpupri,
+        limit: 60,
+        upri,
+        left: 1,
+        wait: 0,
+    })
+}
+
+fn fx(pri: u8) -> ClassState
+    requires { pri ≤ 60 }
+{
+    ClassState::Fx(FxState {
+        limit: 60,
+        pri,
+        quantum: Quantum::Inf,
+        left: 0,
+    })
+}
+
+fn sys(pri: u8) -> ClassState
+    requires low { 60 ≤ pri }
+    requires high { pri ≤ 99 }
+{
+    ClassState::Sys(SysState { pri })
+}
+
+fn rt_class(pri: u8) -> ClassState
+    requires { pri ≤ 59 }
+{
+    ClassState::Rt(RtState {
+        pri,
+        quantum: Quantum::Inf,
+        left: 0,
+    })
+}
+
+#[test]
+fn bases(rt: HostRuntime) {
+    let cases = [
+        (ts(0, 0), 0),
+        (ts(29, 0), 29),
+        (ts(59, 0), 59),
+        (ts(29, -60), 0),
+        (ts(29, -10), 19),
+        (ts(29, 30), 59),
+        (ts(30, 60), 59),
+        (ts(59, -60), 0),
+        (fx(0), 0),
+        (fx(60), 60),
+        (sys(60), 60),
+        (sys(99), 99),
+        (rt_class(0), 100),
+        (rt_class(59), 159),
+    ];
+    for (class, base) in cases {
+        let record = holder(class);
+        assert_eq!(rt; record.base(), base);
+        assert_eq!(rt; record.effective(), base);
+        assert_eq!(rt; record.rank(), base);
+        assert_eq!(rt; record.id(), 7);
+        assert_eq!(rt; record.key(), -5);
+    }
+}
+
+#[test]
+fn inheritance(rt: HostRuntime) {
+    let mut record = holder(ts(29, 0));
+    record.inherit(LockId(1), 20);
+    assert_eq!(rt; record.effective(), 29);
+    record.inherit(LockId(2), 40);
+    assert_eq!(rt; record.effective(), 40);
+    record.inherit(LockId(3), 35);
+    assert_eq!(rt; record.effective(), 40);
+    // in place of the number that there was, also a greater one
+    record.inherit(LockId(2), 30);
+    assert_eq!(rt; record.effective(), 35);
+    assert_eq!(rt; record.body.willed.len(), 3);
+    record.inherit(LockId(1), 159);
+    assert_eq!(rt; record.effective(), 159);
+    assert_eq!(rt; record.base(), 29);
+    record.waive(LockId(1));
+    assert_eq!(rt; record.effective(), 35);
+    // nothing is removed where there is no number
+    record.waive(LockId(1));
+    record.waive(LockId(9));
+    assert_eq!(rt; record.effective(), 35);
+    assert_eq!(rt; record.body.willed.len(), 2);
+    record.waive(LockId(3));
+    assert_eq!(rt; record.effective(), 30);
+    record.waive(LockId(2));
+    assert_eq!(rt; record.effective(), 29);
+    assert_eq!(rt; record.body.held.len(), 3);
+}
+
+#[test]
+fn a_queue_of_records(rt: HostRuntime) -> Result<(), Fail> {
+    let mut queue = BoxQueue::new();
+    queue.insert_ranked(Node::node(rt.alloc(), holder(fx(10)))?);
+    queue.insert_ranked(Node::node(rt.alloc(), holder(rt_class(0)))?);
+    queue.insert_ranked(Node::node(rt.alloc(), holder(fx(30)))?);
+    for (place, base) in [(0, 100), (1, 30), (2, 10)] {
+        assert_eq!(rt; queue.item(place).map(|record| record.base()), Some(base));
+    }
+    Ok(())
+}

@@ -1,0 +1,12 @@
+//! The judge of scripts: which lists of operations are well formed, and what is wrong with the others.
+#![tactic(auto)]
+
+mod checks;
+mod faults;
+mod laws;
+#[cfg(test)]
+mod tests;
+
+pub use checks::check;
+pub use faults::ScriptFault;
+pub use laws::{faults_stay, one_answer, one_fault};

@@ -1,0 +1,24 @@
+use Rattle.std.proofs.Common.{◌∙◌, arith}
+use Rattle.sd_serial.proofs.SerialLemmas.{round_on, final_on, entries_over, state_over}
+use Rattle.sd_serial.proofs.rounds.run_round.Goals as goal
+
+pub loop-c-preserved : goal.loop-c-preserved
+loop-c-preserved c =
+    let w = c.args.work.now in
+    let order = c.args.order.now in
+    let l = c.loop-c in
+    let e = c.in_default.ensures in
+    record {
+      entries = round_on w order l.c-index (record { 0 = 0 }) l.s c.run_turn.new.s l.entries.items c.run_turn.new.entries.items c.loop-c-test.true e.entries e.state ∙ l.invariant.entries;
+      state = final_on w order l.c-index (record { 0 = 0 }) l.s c.run_turn.new.s l.entries.items c.run_turn.new.entries.items c.loop-c-test.true e.entries e.state ∙ l.invariant.state;
+      fits = e.fits;
+      room = e.room;
+    }
+
+pub returns-clause-entries : goal.returns-clause-entries
+returns-clause-entries c =
+    entries_over c.args.work.now c.args.order.now c.loop-c.c-index c.loop-c.s c.loop-c.entries.items _ c.loop-c-test.false c.loop-c.invariant.entries
+
+pub returns-clause-state : goal.returns-clause-state
+returns-clause-state c =
+    state_over c.args.work.now c.args.order.now c.loop-c.c-index c.loop-c.s _ _ c.loop-c-test.false c.loop-c.invariant.state

@@ -1,0 +1,16 @@
+use Rattle.std.proofs.Common.{◌≡◌, ◌++◌, ◌≤◌, length, drop}
+use Rattle.sd_machine.specs.States.{FitsWork}
+use Rattle.sd_machine.specs.Runs.{final, round}
+use Rattle.sd_serial.specs.declared.rounds.TheConstants.{MOST_ENTRIES}
+use Rattle.sd_serial.proofs.rounds.run_round.Given as goal
+
+-- what was made, and what is left of the round from here, are what was there and the whole round
+abbrev pub invariant-loop-c : goal.invariant-loop-c
+invariant-loop-c l = record {
+  entries : l.entries.items ++ round l.work l.s (length l.entries.items) (drop l.c-index l.order)
+      ≡ l.initial.entries.items ++ round l.work l.initial.s (length l.initial.entries.items) l.order;
+  state : final l.work l.s (round l.work l.s (length l.entries.items) (drop l.c-index l.order))
+      ≡ final l.work l.initial.s (round l.work l.initial.s (length l.initial.entries.items) l.order);
+  fits : FitsWork l.work l.s;
+  room : length l.entries.items ≤ MOST_ENTRIES;
+}

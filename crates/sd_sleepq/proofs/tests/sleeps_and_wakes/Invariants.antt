@@ -1,0 +1,8 @@
+use Rattle.std.proofs.Common.{◌≡◌}
+use Rattle.sd_sleepq.proofs.tests.sleeps_and_wakes.Given as goal
+
+abbrev pub invariant-loop-channel : goal.invariant-loop-channel
+invariant-loop-channel g l = l.chain.chain ≡ 3
+
+abbrev pub invariant-loop-below : goal.invariant-loop-below
+invariant-loop-below g l = l.chain.chain ≡ 3

@@ -1,0 +1,8 @@
+//! Chains of sleep queues: a chain has one ranked queue of sleepers for each of its channels.
+#![tactic(auto)]
+
+mod chain;
+#[cfg(test)]
+mod tests;
+
+pub use chain::SleepChain;

@@ -1,0 +1,13 @@
+//! Turnstiles: the queues on which threads wait for locks, writers and readers apart.
+#![tactic(auto)]
+
+mod chain;
+mod rack;
+mod serving;
+#[cfg(test)]
+mod tests;
+mod turnstile;
+
+pub use chain::TurnChain;
+pub use rack::Rack;
+pub use turnstile::Turnstile;
