@@ -6,3 +6,4 @@ pub mod TextLemmas
 pub mod ScriptLemmas
 pub mod ThreadLemmas
 pub mod OneLemmas
+pub mod ByteLemmas

@@ -1,8 +1,8 @@
 -- A text is accepted as at most one workload.
-use Rattle.std.proofs.Common.{◌≡◌, ℕ, List, map, Option, Some, sym, ap, ◌∙◌}
+use Rattle.std.proofs.Common.{◌≡◌, ℕ, List, sym, ap, ◌∙◌}
 use Rattle.sd_types.specs.declared.works.Work.{Work}
 use Rattle.sd_rules.specs.DefaultTables.{default_ts_rows, default_fx_rows, default_rt_rows}
-use Rattle.sd_work.specs.Statements.{Statement, limit_in}
+use Rattle.sd_work.specs.Statements.{limit_in}
 use Rattle.sd_work.specs.Accepted.{Accepted, HaveSameParts, threads_of}
 
 pub same_parts : (text : List ℕ) (w v : Work) → Accepted text w → Accepted text v → HaveSameParts w v

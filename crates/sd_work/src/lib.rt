@@ -18,7 +18,7 @@ mod statements;
 mod threads;
 
 pub use fault::WorkFault;
-pub use laws::one_work;
+pub use laws::{one_work, plain_bytes};
 pub use read::read_work;
 
 #[cfg(test)]
