@@ -1,12 +1,11 @@
 -- The event that a processor may make can happen.
-use Rattle.std.proofs.Common.{◌≡◌, ℕ, zero, suc, ◌+◌, ◌<◌, Bool, true, false, cond, ◌&&◌, ◌||◌, not, List, [], ◌∷◌, length, get_or, nat_lt, ltb, Option, Some, None, IfSome, is_none, refl, sym, ◌∙◌, ap, subst, arith, inl, inr}
-use Rattle.std.specs.Prelude.{slice_get, position}
-use Rattle.std.proofs.lemmas.Bool.{cases_Bool}
+use Rattle.std.proofs.Common.{◌≡◌, ℕ, zero, suc, ◌<◌, Bool, true, false, cond, ◌&&◌, ◌||◌, not, List, [], ◌∷◌, length, ltb, Option, Some, None, IfSome, is_none, refl, arith}
+use Rattle.std.specs.Prelude.{slice_get}
 use Rattle.std.proofs.lemmas.Bool.Decides.{nat_tests}
 use Rattle.std.proofs.lemmas.List.Quantifiers.{position-Some}
 use Rattle.sd_types.specs.declared.numbers.CpuId.{CpuId}
 use Rattle.sd_types.specs.declared.events.Event.{Event}
-use Rattle.sd_types.specs.declared.events.Event.TheVariants.{Tick, Spin, Idle, Preempt}
+use Rattle.sd_types.specs.declared.events.Event.TheVariants.{Tick, Idle, Preempt}
 use Rattle.sd_types.specs.declared.events.Duty.{Duty}
 use Rattle.sd_types.specs.declared.events.Duty.TheVariants.{Nothing}
 use Rattle.sd_types.specs.declared.events.Hints.{Hints}
@@ -16,11 +15,11 @@ use Rattle.sd_types.specs.declared.works.Work.{Work}
 use Rattle.sd_machine.specs.declared.states.State.{State}
 use Rattle.sd_machine.specs.declared.states.ThreadState.{ThreadState}
 use Rattle.sd_machine.specs.States.{thread_of, cpu_of, is_running, is_ready, no_thread}
-use Rattle.sd_machine.specs.Best.{running, best_ready, best_by, leads_by, beats}
+use Rattle.sd_machine.specs.Best.{running, best_ready, leads_by, beats}
 use Rattle.sd_machine.specs.Operations.{script_of, op_of}
 use Rattle.sd_machine.specs.Machine.{thread_id, is_ts, must_leave, leave_event, op_event, run_event, is_alone, queue_event, free_event, duty_event, wish, ticks, may_tick, allowed, next}
 use Rattle.sd_rules.specs.ClassRules.{end_of}
-use Rattle.sd_model.specs.Possible.{CanRun, IsNamed, IsCounted, CanHappen}
+use Rattle.sd_model.specs.Possible.{IsNamed, IsCounted, CanHappen}
 
 -- what is read is inside
 pub slice_get-inside : {X : Type 0} (xs : List X) (i : ℕ) (x : X) → slice_get xs i ≡ Some x → i < length xs

@@ -1,12 +1,12 @@
 -- A list of entries, replayed one entry after another.
 use Rattle.std.proofs.Common.{◌≡◌, ℕ, ◌+◌, ◌<◌, List, [], ◌∷◌, ◌++◌, length, take, get_or, sym, ap, subst, ◌∙◌, arith}
-use Rattle.std.proofs.lemmas.List.{take_more, length-take-le, take_all}
+use Rattle.std.proofs.lemmas.List.{take_more, length-take-le}
 use Rattle.sd_types.specs.declared.events.Entry.{Entry}
 use Rattle.sd_types.specs.declared.works.Work.{Work}
 use Rattle.sd_machine.specs.declared.states.State.{State}
 use Rattle.sd_machine.specs.Machine.{after}
 use Rattle.sd_machine.specs.Opening.{opening}
-use Rattle.sd_machine.specs.Runs.{final, IsStep, IsRunFrom, IsRun}
+use Rattle.sd_machine.specs.Runs.{final, IsStep, IsRunFrom}
 use Rattle.sd_machine.proofs.RunLemmas.{IsRunFrom-push, final-push, last_number, last_step, IsRunFrom-take, from-IsRun, IsRun-from}
 use Rattle.sd_model.specs.Replays.{IsIllegalFrom, IsIllegal}
 

@@ -4,7 +4,6 @@ use Rattle.std.specs.Prelude.{ℕ, ◌+◌, ◌<◌, List, length, take, ⊤}
 use Rattle.sd_types.specs.declared.events.Entry.{Entry}
 use Rattle.sd_types.specs.declared.works.Work.{Work}
 use Rattle.sd_machine.specs.declared.states.State.{State}
-use Rattle.sd_machine.specs.Opening.{opening}
 use Rattle.sd_machine.specs.Runs.{IsRunFrom, IsRun}
 use Rattle.sd_model.specs.declared.replays.ReplayFault.{ReplayFault}
 use Rattle.sd_model.specs.declared.replays.ReplayFault.TheVariants.{Illegal, Memory}

@@ -1,4 +1,4 @@
-use Rattle.std.proofs.Common.{false, true, sym, ◌∙◌}
+use Rattle.std.proofs.Common.{sym, ◌∙◌}
 use Rattle.std.proofs.lemmas.Bool.{false≢true}
 use Rattle.sd_machine.proofs.RunLemmas.{IsRunFrom-nil, final-nil}
 use Rattle.sd_model.proofs.ReplayLemmas.{run_more, state_more, is_illegal}

@@ -1,4 +1,4 @@
-use Rattle.std.proofs.Common.{◌≡◌, ◌≤◌, length, sym, ap, ◌∙◌, rules, arith}
+use Rattle.std.proofs.Common.{length, sym, ap, ◌∙◌, arith}
 use Rattle.std.proofs.lemmas.List.{length_push}
 use Rattle.sd_model.proofs.PartitionLemmas.{cpu_kept, cpu_skipped}
 use Rattle.sd_model.proofs.start.cpus_of_set.Goals as goal
