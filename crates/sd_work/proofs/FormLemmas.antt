@@ -16,31 +16,6 @@ said_by-other (a ∷ b ∷ c ∷ d ∷ e ∷ []) one two six = refl
 said_by-other (a ∷ b ∷ c ∷ d ∷ e ∷ f ∷ []) one two six = absurd (six (omega arith))
 said_by-other (a ∷ b ∷ c ∷ d ∷ e ∷ f ∷ g ∷ more) one two six = refl
 
-abbrev word : Line → ℕ → List ℕ
-word line i = get_or line i []
-
-pub one_word : (line : Line) → length line ≡ 1 → line ≡ word line 0 ∷ []
-one_word [] n = absurd (omega arith)
-one_word (a ∷ []) n = refl
-one_word (a ∷ b ∷ more) n = absurd (omega arith)
-
-pub two_words : (line : Line) → length line ≡ 2 → line ≡ word line 0 ∷ word line 1 ∷ []
-two_words [] n = absurd (omega arith)
-two_words (a ∷ []) n = absurd (omega arith)
-two_words (a ∷ b ∷ []) n = refl
-two_words (a ∷ b ∷ c ∷ more) n = absurd (omega arith)
-
-pub six_words : (line : Line) → length line ≡ 6
-    → line ≡ word line 0 ∷ word line 1 ∷ word line 2 ∷ word line 3 ∷ word line 4 ∷ word line 5 ∷ []
-six_words [] n = absurd (omega arith)
-six_words (a ∷ []) n = absurd (omega arith)
-six_words (a ∷ b ∷ []) n = absurd (omega arith)
-six_words (a ∷ b ∷ c ∷ []) n = absurd (omega arith)
-six_words (a ∷ b ∷ c ∷ d ∷ []) n = absurd (omega arith)
-six_words (a ∷ b ∷ c ∷ d ∷ e ∷ []) n = absurd (omega arith)
-six_words (a ∷ b ∷ c ∷ d ∷ e ∷ f ∷ []) n = refl
-six_words (a ∷ b ∷ c ∷ d ∷ e ∷ f ∷ g ∷ more) n = absurd (omega arith)
-
 true_or_false : (b : Bool) → (b ≡ false → ⊥) → b ≡ true
 true_or_false true h = refl
 true_or_false false h = absurd (h refl)

@@ -120,11 +120,3 @@ kept-one made (Scripts name ops) kept may = kept-same made (Scripts name ops) ke
 
 pub kept-push : (made new : List Statement) (s : Statement) → IsKept made → may_stand made s ≡ true → new ≡ made ++ s ∷ [] → IsKept new
 kept-push made new s kept may push = subst IsKept (sym push) (kept-one made s kept may)
-
-pub kept-none : IsKept []
-kept-none = record {
-  sound = λ above s below e. absurd (no_cons above below s e);
-  names = refl;
-  count = omega arith;
-  short = refl;
-}

@@ -5,3 +5,5 @@ pub mod SheetLemmas
 pub mod TextLemmas
 pub mod ScriptLemmas
 pub mod ThreadLemmas
+pub mod OneLemmas
+pub mod ByteLemmas

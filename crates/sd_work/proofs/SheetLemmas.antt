@@ -14,10 +14,6 @@ below made o = option_map (λ ss. made ++ ss) o
 from-line : (text rest : List ℕ) (line : Line) → word_lines text ≡ line ∷ word_lines rest → statements_of text ≡ statements_from line rest
 from-line text rest line e = ap (λ (x : Reading). x.outside) (reading-line text rest line e)
 
-below-nothing : (o : Option (List Statement)) → below [] o ≡ o
-below-nothing None = refl
-below-nothing (Some ss) = refl
-
 below-more : (made : List Statement) (s : Statement) (o : Option (List Statement)) → below (made ++ s ∷ []) o ≡ below made (option_map (λ ss. s ∷ ss) o)
 below-more made s None = refl
 below-more made s (Some ss) = ap Some (append_assoc made (s ∷ []) ss)
@@ -52,6 +48,3 @@ sheet-stopped text rest line made whole e none h ss is =
 pub sheet-end : (text : List ℕ) (made : List Statement) (whole : Option (List Statement))
     → word_lines text ≡ [] → below made (statements_of text) ≡ whole → whole ≡ Some made
 sheet-end text made whole e h = sym h ∙ ap (below made) ((reading-none text e).0) ∙ ap Some (append-nil made)
-
-pub sheet-start : (o : Option (List Statement)) → below [] o ≡ o
-sheet-start o = below-nothing o

@@ -70,3 +70,19 @@ pub record Accepted (text : List ℕ) (w : Work) : Type 0 where
   pub limit : limit_in statements ≡ Some w.limit
   pub threads : map shown w.threads ≡ threads_of statements
   pub defaults : HasDefaults w
+
+-- two works with the same parts
+pub record HaveSameParts (w v : Work) : Type 0 where
+  pub cpus : w.cpus ≡ v.cpus
+  pub hz : w.hz ≡ v.hz
+  pub limit : w.limit ≡ v.limit
+  pub sets : w.sets ≡ v.sets
+  pub locks : w.locks ≡ v.locks
+  pub chans : w.chans ≡ v.chans
+  pub threads : map shown w.threads ≡ map shown v.threads
+  pub ts_res : w.ts.res ≡ v.ts.res
+  pub ts_rows : w.ts.rows ≡ v.ts.rows
+  pub fx_res : w.fx.res ≡ v.fx.res
+  pub fx_rows : w.fx.rows ≡ v.fx.rows
+  pub rt_res : w.rt.res ≡ v.rt.res
+  pub rt_rows : w.rt.rows ≡ v.rt.rows

@@ -1,4 +1,5 @@
 pub mod Accepted
+pub mod Bytes
 pub mod Lines
 pub mod Plain
 pub mod Runs

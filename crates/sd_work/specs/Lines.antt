@@ -1,5 +1,6 @@
 -- The lines of a workload text: what a line says, by its words. Lines without words are skipped, and comments and
--- blanks are no words, so each line that is left says one thing, or has no form.
+-- blanks are no words, so each line that is left says one thing, or has no form. A byte outside comments that is
+-- neither a blank nor printable ASCII is part of a word, and no word of a line with a form has one (specs/Bytes.antt).
 -- Source: this project's own; ts_cpupri, the limit and the user priority are those of priocntl(2) and ts_dptbl(4).
 use Rattle.std.specs.Prelude.{ℕ, ℤ, Bool, ◌&&◌, List, [], ◌∷◌, length, map, filter, nat_le, nat_lt, cond, codes, Option, Some, None, option_map, option_and_then}
 use Rattle.std.specs.Int.{int_min}

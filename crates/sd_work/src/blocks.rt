@@ -52,5 +52,6 @@ pub fn block(alloc: Global, bytes: &[u8], from: usize) -> Result<(Vec<Op>, usize
             BlockLine::Other => return Err(WorkFault::NotBuilt),
         }
     }
+    // The text ends inside the block.
     Err(WorkFault::NotBuilt)
 }

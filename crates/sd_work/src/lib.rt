@@ -4,6 +4,7 @@
 mod blocks;
 mod fault;
 mod forms;
+mod laws;
 mod lines;
 mod names;
 mod numerals;
@@ -17,4 +18,8 @@ mod statements;
 mod threads;
 
 pub use fault::WorkFault;
+pub use laws::{one_work, plain_bytes};
 pub use read::read_work;
+
+#[cfg(test)]
+mod tests;
