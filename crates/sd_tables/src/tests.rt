@@ -41,7 +41,7 @@ fn ts_fault(rt: &impl Abort, alloc: Global, text: &[u8]) -> Option<TableFault> {
 }
 
 #[test]
-fn faults_of_fixed_tables(rt: HostRuntime) {
+fn faults_of_rows(rt: HostRuntime) {
     let cases = [
         ("", rows(0)),
         ("\n\n", rows(0)),
@@ -62,6 +62,19 @@ fn faults_of_fixed_tables(rt: HostRuntime) {
         ("5x", not_a_number(1)),
         ("5 6", not_a_number(1)),
         ("end end", not_a_number(1)),
+        ("5\n6 7\n0\n", not_a_number(2)),
+    ];
+    for (text, fault) in cases {
+        assert!(rt;
+            rt_fault(&rt, rt.alloc(), text.as_bytes()) == Some(fault),
+            "at {text:?}"
+        );
+    }
+}
+
+#[test]
+fn faults_of_res_lines(rt: HostRuntime) {
+    let cases = [
         ("RES=5", rows(0)),
         ("RES=5 # five", rows(0)),
         ("RES=5#five", rows(0)),
@@ -80,7 +93,6 @@ fn faults_of_fixed_tables(rt: HostRuntime) {
         ("res=5", not_a_number(1)),
         ("RES =5", not_a_number(1)),
         ("0\nRES=0", range(1, 1)),
-        ("5\n6 7\n0\n", not_a_number(2)),
     ];
     for (text, fault) in cases {
         assert!(rt;
