@@ -2,37 +2,20 @@
 
 ghost use Rattle.std.specs.Prelude.{◌≡◌, ◌+◌, ◌≤◌, length, IsTrue, IfOk, map, replicate, ◌==◌};
 ghost use Rattle.std.specs.List.{range_with_len, list_any};
-ghost use Rattle.sd_types.specs.ClassNumbers.{IsLeft};
-ghost use Rattle.sd_types.specs.Works.{class_fits, quantum_fits};
+ghost use Rattle.sd_types.specs.Works.{class_fits};
 ghost use Rattle.sd_types.specs.Partitions.{set_of_cpu, cpus_of_set};
-ghost use Rattle.sd_rules.specs.ClassRules.{full_quantum};
 ghost use Rattle.sd_machine.specs.States.{FitsWork};
 ghost use Rattle.sd_machine.specs.Opening.{first_class, is_urgent, is_dealt, turn_of, dealt_cpu, first_cpu, first_place, first_body, first_thread, first_threads, count_of, first_count, first_cpu_state, open_list, opening};
 
 use crate::reads::ticks_at;
 use arrayvec::ArrayVec;
+use sd_fixed::full_quantum;
 use sd_machine::{CpuState, LockState, Place, State, ThreadState};
 use sd_types::{
-    ChanKind, ClassParms, ClassState, CpuId, Duty, FixedTable, FxState, List, Quantum, RtState,
-    SetId, SysState, ThreadBody, ThreadDecl, TsState, Work,
+    ChanKind, ClassParms, ClassState, CpuId, Duty, FxState, List, RtState, SetId, SysState,
+    ThreadBody, ThreadDecl, TsState, Work,
 };
 use std::alloc::{AllocError, Global};
-
-/// The ticks of a full quantum at a level, 0 where it has no end.
-fn full_quantum(table: &FixedTable, level: u8, quantum: Quantum) -> u64
-    requires { IsTrue (quantum_fits quantum) }
-    ensures value { result ≡ full_quantum table.now level quantum }
-    ensures left { IsLeft quantum result }
-{
-    match quantum {
-        Quantum::Def => {
-            let last = (table.rows() - 1) as u8;
-            table.row(level.min(last)).ticks
-        }
-        Quantum::Inf => 0,
-        Quantum::Ticks(n) => u64::from(n),
-    }
-}
 
 /// The class state of a declared thread, with a whole quantum.
 fn first_class(work: &Work, class: ClassParms, cpupri: u8) -> ClassState
