@@ -3,7 +3,7 @@ use Rattle.std.proofs.Common.{◌≡◌, ℕ, ◌+◌, ◌<◌, ◌≤◌, List,
 use Rattle.std.proofs.lemmas.List.{length-append, append-nil, take_all}
 use Rattle.std.specs.Io.KnownBytes.{Consumes, IsAtEnd, Appends}
 use Rattle.sd_types.specs.declared.works.Work.{Work}
-use Rattle.std.specs.Prelude.{OnOk, OnErr}
+use Rattle.std.specs.Prelude.{OnOk, OnErr, ◌⊎◌, ◌↔◌}
 use Rattle.sd_text.specs.Faults.{HasRisen}
 use Rattle.sd_text.specs.declared.write.WriteFault as piece
 use Rattle.sd_work.specs.Accepted.{Accepted}
@@ -14,7 +14,7 @@ use Rattle.dispsim.specs.Ends.{End, IsUntouched, AppendsPart}
 use Rattle.dispsim.specs.Forms.{AreRun}
 use Rattle.dispsim.specs.RunAnswers.{Ran}
 use Rattle.dispsim.specs.Readings.{IsJudged, IsReading}
-use Rattle.dispsim.specs.Headline.{most_bytes, HasRead, HasTooMany, IsWorkload, IsNoWorkload, RanInput, CausedByInput, Caused, Tells, Completes}
+use Rattle.dispsim.specs.Headline.{most_bytes, HasRead, HasTooMany, IsWorkload, IsNoWorkload, RanInput, CausedByInput, Caused, Tells, Completes, Refuses}
 
 -- status 0 is that of a run that was written whole
 pub headline_of : (words : List (List ℕ)) (input out : End) (a : Answer) → Caused words input out a → status_of a ≡ 0 → RanInput input out Done
@@ -59,6 +59,36 @@ completes_of words input out ReadFault c = λ run sound told bytes w is short ac
 completes_of words input out WriteFault c = λ run sound told bytes w is short accepted. absurd (told c.1.2.0)
 completes_of words input out OutOfMemory c = λ run sound told bytes w is short accepted. inr (inl refl)
 completes_of words input out TooLong c = λ run sound told bytes w is short accepted. inr (inr refl)
+
+-- an input that is too large, or no workload, is no accepted one
+no_workload : (input : End) (bytes : List ℕ) → input.before ≡ Some bytes → (most_bytes < length bytes) ⊎ ((w : Work) → Accepted bytes w → ⊥) → (w : Work) → IsWorkload input w → ⊥
+no_workload input bytes is (inl many) w found =
+    let all = taken_all input.before input.after found.bytes bytes found.read.took found.read.to_end is in
+    let bound = found.read.bound in
+    absurd (omega (arith, ap length all))
+no_workload input bytes is (inr none) w found =
+    none w (subst (λ bs. Accepted bs w) (taken_all input.before input.after found.bytes bytes found.read.took found.read.to_end is) found.accepted)
+
+pub refuses_of : (words : List (List ℕ)) (input out : End) (a : Answer) → Caused words input out a → Refuses words input (status_of a)
+refuses_of words input out Done c = λ run sound bytes is bad. absurd (no_workload input bytes is bad c.1.0 c.1.1)
+refuses_of words input out Usage c = λ run sound bytes is bad. absurd (c.0 run)
+refuses_of words input out TooLarge c = λ run sound bytes is bad. inl refl
+refuses_of words input out NotBuilt c = λ run sound bytes is bad. inl refl
+refuses_of words input out ReadFault c = λ run sound bytes is bad. absurd (sound c.1.0)
+refuses_of words input out WriteFault c = λ run sound bytes is bad. absurd (no_workload input bytes is bad c.1.0 c.1.1)
+refuses_of words input out OutOfMemory c = λ run sound bytes is bad. inr refl
+refuses_of words input out TooLong c = λ run sound bytes is bad. absurd (no_workload input bytes is bad c.1.0 c.1.1)
+
+-- status 1 comes exactly where the words are none that the program knows
+pub usage_of : (words : List (List ℕ)) (input out : End) (a : Answer) → Caused words input out a → (status_of a ≡ 1) ↔ (AreRun words → ⊥)
+usage_of words input out Done c = (λ e. absurd (omega arith), λ other. absurd (other c.0))
+usage_of words input out Usage c = (λ e. c.0, λ other. refl)
+usage_of words input out TooLarge c = (λ e. absurd (omega arith), λ other. absurd (other c.0))
+usage_of words input out NotBuilt c = (λ e. absurd (omega arith), λ other. absurd (other c.0))
+usage_of words input out ReadFault c = (λ e. absurd (omega arith), λ other. absurd (other c.0))
+usage_of words input out WriteFault c = (λ e. absurd (omega arith), λ other. absurd (other c.0))
+usage_of words input out OutOfMemory c = (λ e. absurd (omega arith), λ other. absurd (other c.0))
+usage_of words input out TooLong c = (λ e. absurd (omega arith), λ other. absurd (other c.0))
 
 -- a line that was written whole
 pub told_whole : (err : End) (a : Answer) → Appends err.before err.after (line_of a) → Tells err a

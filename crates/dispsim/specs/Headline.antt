@@ -1,6 +1,6 @@
 -- What the program promises of a call, for each of its answers.
 -- Source: this project's own.
-use Rattle.std.specs.Prelude.{◌≡◌, ℕ, ◌+◌, ◌≤◌, List, length, Some, ◌⊎◌}
+use Rattle.std.specs.Prelude.{◌≡◌, ℕ, ◌+◌, ◌<◌, ◌≤◌, List, length, Some, ◌⊎◌}
 use Rattle.std.specs.Io.KnownBytes.{Consumes, IsAtEnd, Appends}
 use Rattle.sd_types.specs.declared.works.Work.{Work}
 use Rattle.sd_text.specs.Faults.{HasRisen}
@@ -80,3 +80,10 @@ Completes words input out status =
     AreRun words → (HasRisen input.faults_before input.faults_after → ⊥) → (HasRisen out.faults_before out.faults_after → ⊥)
     → (bytes : List ℕ) (w : Work) → input.before ≡ Some bytes → length bytes ≤ most_bytes → Accepted bytes w
     → (status ≡ 0) ⊎ ((status ≡ 5) ⊎ (status ≡ 8))
+
+-- an input that is too large, or no workload that is accepted, is refused, unless memory runs out
+abbrev pub Refuses : List (List ℕ) → End → ℕ → Type 0
+Refuses words input status =
+    AreRun words → (HasRisen input.faults_before input.faults_after → ⊥)
+    → (bytes : List ℕ) → input.before ≡ Some bytes → (most_bytes < length bytes) ⊎ ((w : Work) → Accepted bytes w → ⊥)
+    → (status ≡ 2) ⊎ (status ≡ 5)

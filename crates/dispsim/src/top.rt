@@ -1,8 +1,9 @@
 //! The top call: from the words, the input and the ends of the program to its exit status.
 
-ghost use Rattle.std.specs.Prelude.{◌≡◌, ◌≤◌, length, map, string_bytes};
+ghost use Rattle.std.specs.Prelude.{◌≡◌, ◌≤◌, ◌↔◌, length, map, string_bytes};
 ghost use Rattle.dispsim.specs.Ends.{end_of};
-ghost use Rattle.dispsim.specs.Headline.{RanInput, CausedByInput, Caused, IsAnswered, Completes};
+ghost use Rattle.dispsim.specs.Forms.{AreRun};
+ghost use Rattle.dispsim.specs.Headline.{RanInput, CausedByInput, Caused, IsAnswered, Completes, Refuses};
 ghost use Rattle.dispsim.specs.Readings.{IsJudged, IsReading};
 
 use crate::answers::Answer;
@@ -118,6 +119,9 @@ pub fn serial<S: Source, K: Sink, E: Sink, G: Gate>(
         (end_of (S.remaining input.old) (S.remaining input.new) (S.fault_count input.old) (S.fault_count input.new))
         (end_of (K.contents out.old) (K.contents out.new) (K.fault_count out.old) (K.fault_count out.new))
         result }
+    ensures refuses { Refuses (map string_bytes words.now)
+        (end_of (S.remaining input.old) (S.remaining input.new) (S.fault_count input.old) (S.fault_count input.new)) result }
+    ensures usage { (result ≡ 1) ↔ (AreRun (map string_bytes words.now) → ⊥) }
 {
     let answer = carry_out(alloc, words, input, out);
     let _ = write_piece(err, answer.line());
@@ -147,6 +151,9 @@ pub fn dispsim<R: Threads + Wait + Sync, S: Source, K: Sink, E: Sink, G: Gate>(
         (end_of (S.remaining input.old) (S.remaining input.new) (S.fault_count input.old) (S.fault_count input.new))
         (end_of (K.contents out.old) (K.contents out.new) (K.fault_count out.old) (K.fault_count out.new))
         result }
+    ensures refuses { Refuses (map string_bytes words.now)
+        (end_of (S.remaining input.old) (S.remaining input.new) (S.fault_count input.old) (S.fault_count input.new)) result }
+    ensures usage { (result ≡ 1) ↔ (AreRun (map string_bytes words.now) → ⊥) }
 {
     serial(alloc, words, input, out, err, gate)
 }

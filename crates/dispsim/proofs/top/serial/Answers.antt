@@ -1,8 +1,9 @@
-use Rattle.std.proofs.Common.{sym, subst, map, ◌∙◌}
-use Rattle.std.specs.Prelude.{string_bytes}
+use Rattle.std.proofs.Common.{◌≡◌, sym, subst, map, ◌∙◌}
+use Rattle.std.specs.Prelude.{string_bytes, ◌↔◌}
 use Rattle.dispsim.specs.Ends.{end_of}
-use Rattle.dispsim.specs.Headline.{Completes}
-use Rattle.dispsim.proofs.TopLemmas.{headline_of, completes_of, told_of}
+use Rattle.dispsim.specs.Forms.{AreRun}
+use Rattle.dispsim.specs.Headline.{Completes, Refuses}
+use Rattle.dispsim.proofs.TopLemmas.{headline_of, completes_of, refuses_of, usage_of, told_of}
 use Rattle.dispsim.proofs.top.serial.Goals as goal
 
 pub returns-clause-answered : goal.returns-clause-answered
@@ -46,3 +47,32 @@ returns-clause-completes g c =
     let input = end_of (left i) (left j) (read i) (read j) in
     let out = end_of (held o) (held p) (written o) (written p) in
     subst (λ s. Completes words input out s) (sym c.status.ensures) (completes_of words input out c.carry_out-answer.result c.carry_out-answer.ensures)
+
+pub returns-clause-refuses : goal.returns-clause-refuses
+returns-clause-refuses g c =
+    let left = g.S.Source.remaining in
+    let read = g.S.Source.fault_count in
+    let held = g.K.Sink.contents in
+    let written = g.K.Sink.fault_count in
+    let i = c.args.input.now in
+    let j = c.carry_out-answer.new.input in
+    let o = c.args.out.now in
+    let p = c.carry_out-answer.new.out in
+    let words = map string_bytes c.args.words.now in
+    let input = end_of (left i) (left j) (read i) (read j) in
+    let out = end_of (held o) (held p) (written o) (written p) in
+    subst (λ s. Refuses words input s) (sym c.status.ensures) (refuses_of words input out c.carry_out-answer.result c.carry_out-answer.ensures)
+
+pub returns-clause-usage : goal.returns-clause-usage
+returns-clause-usage g c =
+    let left = g.S.Source.remaining in
+    let read = g.S.Source.fault_count in
+    let held = g.K.Sink.contents in
+    let written = g.K.Sink.fault_count in
+    let i = c.args.input.now in
+    let j = c.carry_out-answer.new.input in
+    let o = c.args.out.now in
+    let p = c.carry_out-answer.new.out in
+    let words = map string_bytes c.args.words.now in
+    subst (λ s. (s ≡ 1) ↔ (AreRun words → ⊥)) (sym c.status.ensures)
+    (usage_of words (end_of (left i) (left j) (read i) (read j)) (end_of (held o) (held p) (written o) (written p)) c.carry_out-answer.result c.carry_out-answer.ensures)
