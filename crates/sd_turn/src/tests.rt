@@ -74,13 +74,14 @@ fn side(writes: bool) -> Side {
 }
 
 // The lock, whether as a writer, the rank, the key and the id.
-const WAITERS: [(u16, bool, u8, i64, u32); 8] = [
+const WAITERS: [(u16, bool, u8, i64, u32); 9] = [
     (5, true, 10, 1, 1),
     (5, false, 30, 2, 2),
     (69, false, 20, 3, 3),
     (69, true, 20, 4, 4),
     (133, true, 40, 6, 5),
     (133, true, 40, 5, 6),
+    (133, false, 15, 9, 9),
     (197, false, 50, 7, 7),
     (197, true, 60, 8, 8),
 ];
@@ -104,6 +105,7 @@ fn blocks_and_takes(rt: HostRuntime) -> Result<(), Fail> {
         (5, false, 2),
         (133, true, 5),
         (133, true, 0),
+        (133, false, 9),
     ] {
         if lock < 256 && lock % 64 == 5 {
             assert_eq!(rt; best(chain.take_best(LockId(lock), side(writes))), id);
