@@ -1,16 +1,15 @@
 -- Texts written one after another.
-use Rattle.std.proofs.Common.{◌≡◌, ℕ, suc, ◌+◌, ◌<◌, ◌≤◌, min, List, [], ◌∷◌, ◌++◌, length, get_or, take, drop, Option, Some, None, Ok, Err, Result, refl, sym, ap, subst, ◌∙◌, arith, inl, inr}
+use Rattle.std.proofs.Common.{◌≡◌, ℕ, suc, ◌+◌, ◌<◌, ◌≤◌, List, [], ◌∷◌, ◌++◌, length, get_or, take, drop, Option, Ok, Err, Result, sym, ap, subst, ◌∙◌, arith, inl, inr}
 use Rattle.std.specs.List.{flat_map, range_with_len}
 use Rattle.std.proofs.lemmas.List.FromFn.{length-range_with_len, get_or-range_with_len}
 use Rattle.std.proofs.lemmas.Bool.{cases_lt}
-use Rattle.std.proofs.lemmas.List.{append_assoc, length-append, take-append-drop, drop_more, take-append-le, take_all, take_more, append-nil}
+use Rattle.std.proofs.lemmas.List.{take-append-drop, take-append-le, take_all, take_more, append-nil}
 use Rattle.std.proofs.lemmas.List.Concat.{flat_map-append}
-use Rattle.std.proofs.Math.Seq.{take-add}
 use Rattle.std.proofs.KnownBytes.{Appends-nil, Appends-trans}
 use Rattle.std.specs.Io.KnownBytes.{Appends}
 use Rattle.sd_text.specs.Faults.{HasRisen}
 use Rattle.dispsim.specs.declared.writing.Unwritten.{Unwritten}
-use Rattle.dispsim.specs.declared.writing.Unwritten.TheVariants.{Fault, Memory}
+use Rattle.dispsim.specs.declared.writing.Unwritten.TheVariants.{Memory}
 use Rattle.dispsim.specs.Ends.{AppendsPart, Puts}
 
 -- the front of a text whose front is xs

@@ -1,5 +1,5 @@
 -- What the answers' causes give.
-use Rattle.std.proofs.Common.{◌≡◌, ℕ, ◌+◌, ◌<◌, ◌≤◌, List, [], ◌∷◌, ◌++◌, length, take, Option, Some, None, Result, Ok, Err, refl, sym, ap, subst, ◌∙◌, inl, inr, arith}
+use Rattle.std.proofs.Common.{◌≡◌, ℕ, ◌<◌, ◌≤◌, List, [], ◌∷◌, length, take, Option, Some, None, Result, Ok, Err, refl, sym, ap, subst, ◌∙◌, inl, inr, arith}
 use Rattle.std.proofs.lemmas.List.{length-append, append-nil, take_all}
 use Rattle.std.specs.Io.KnownBytes.{Consumes, IsAtEnd, Appends}
 use Rattle.sd_types.specs.declared.works.Work.{Work}
@@ -10,11 +10,11 @@ use Rattle.sd_work.specs.Accepted.{Accepted}
 use Rattle.dispsim.specs.declared.answers.Answer.{Answer}
 use Rattle.dispsim.specs.declared.answers.Answer.TheVariants.{Done, Usage, TooLarge, NotBuilt, ReadFault, WriteFault, OutOfMemory, TooLong}
 use Rattle.dispsim.specs.Answers.{status_of, line_of}
-use Rattle.dispsim.specs.Ends.{End, IsUntouched, AppendsPart}
+use Rattle.dispsim.specs.Ends.{End, AppendsPart}
 use Rattle.dispsim.specs.Forms.{AreRun}
 use Rattle.dispsim.specs.RunAnswers.{Ran}
 use Rattle.dispsim.specs.Readings.{IsJudged, IsReading}
-use Rattle.dispsim.specs.Headline.{most_bytes, HasRead, HasTooMany, IsWorkload, IsNoWorkload, RanInput, CausedByInput, Caused, Tells, Completes, Refuses}
+use Rattle.dispsim.specs.Headline.{most_bytes, HasRead, IsWorkload, RanInput, CausedByInput, Caused, Tells, Completes, Refuses}
 
 -- status 0 is that of a run that was written whole
 pub headline_of : (words : List (List ℕ)) (input out : End) (a : Answer) → Caused words input out a → status_of a ≡ 0 → RanInput input out Done

@@ -1,4 +1,4 @@
-use Rattle.std.proofs.Common.{◌++◌, Ok}
+use Rattle.std.proofs.Common.{◌++◌}
 use Rattle.std.specs.Prelude.{codes}
 use Rattle.sd_machine.specs.Texts.{threads_text, cpus_text, accounts_text}
 use Rattle.dispsim.proofs.PutLemmas.{Puts-then, Puts-err}

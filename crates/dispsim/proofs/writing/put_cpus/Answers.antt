@@ -1,4 +1,4 @@
-use Rattle.std.proofs.Common.{◌<◌, ◌≤◌, arith}
+use Rattle.std.proofs.Common.{◌<◌}
 use Rattle.std.specs.List.{range_with_len}
 use Rattle.sd_machine.specs.Texts.{cpu_line, cpus_text}
 use Rattle.dispsim.proofs.PutLemmas.{Puts-nil, Puts-item, Puts-item_err, Puts-all, range_item, range_inside, range_past}

@@ -1,6 +1,4 @@
-use Rattle.std.proofs.Common.{Ok}
 use Rattle.sd_machine.specs.Texts.{entry_text, entries_text}
-use Rattle.dispsim.specs.Ends.{Puts}
 use Rattle.dispsim.proofs.PutLemmas.{Puts-nil, Puts-item, Puts-item_err, Puts-all}
 use Rattle.dispsim.proofs.writing.put_entries.Goals as goal
 
