@@ -1,2 +1,2 @@
 pub mod InOrder
-pub mod Turned
+pub mod Memory

@@ -1,7 +1,7 @@
 -- What a box lends.
 use Rattle.std.specs.Borrow.{Lends, MutBor, Fml}
 use denote.RattleType.{RattleType}
-use Rattle.sd_boxq.specs.contracts.chain.Node.{the_row}
+use Rattle.sd_boxq.specs.contracts.node.Node.{the_row}
 
 -- the box ends with the last item behind r
 abbrev pub lends_item : (T : RattleType) → MutBor T.Denot → MutBor T.Denot → Fml

@@ -1,3 +1,5 @@
 pub mod Order
-pub mod Cells
+pub mod Turned
 pub mod Lends
+pub mod Links
+pub mod Owned

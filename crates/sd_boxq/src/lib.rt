@@ -2,12 +2,13 @@
 //! takes memory.
 #![tactic(auto)]
 
-mod chain;
+mod node;
+mod nodes;
 mod queue;
 mod ranked;
 #[cfg(test)]
 mod tests;
 
-pub use chain::Node;
+pub use node::Node;
 pub use queue::BoxQueue;
 pub use ranked::Ranked;

@@ -1,50 +1,29 @@
-//! The queue: a chain that begins at the front, and one that begins at the back.
+//! The queue: one chain of boxes, reached at its front and at its back.
 ghost use Rattle.std.specs.Prelude.{◌≡◌, ◌<◌, ◌^◌, ◌↔◌, IsTrue, MatchOption, MatchResult, ◌+◌, [], ◌∷◌, ◌++◌, length, slice_get, Some};
 ghost use Rattle.std.specs.Option.{option_copied};
 ghost use Rattle.sd_boxq.specs.Order.{insert_ranked, insert_keyed, find_id, drop_id, find_below, drop_below};
-ghost use Rattle.sd_boxq.specs.Cells.{turned_onto};
+ghost use Rattle.sd_boxq.specs.Turned.{turned_onto};
 
-use crate::chain::{Chain, Node};
-use crate::ranked::Ranked;
+use crate::node::Node;
+use crate::nodes::Nodes;
+use crate::ranked::{Ranked, precedes, precedes_keyed};
+use std::alloc::Global;
 use std::marker::Model;
-use std::mem::swap;
 
 /// A queue of boxes, which contracts see as the list of its items. No call takes memory.
 ///
-/// The boxes at its front are linked from the first on, and those at its back from the last on: so a
-/// box is put at either end in a bounded number of steps. When the front is used up, the back is
-/// turned round: each box is turned once at most, so that a box is taken from the front in a number
-/// of steps that is bounded on the average.
-#[derive(Drop)]
+/// Each box points to the next one, and the queue to the first and the last one. So a box is put at
+/// either end, and taken from the front, in a bounded number of steps.
 pub struct BoxQueue<T> {
-    front: Chain<T>,
-    back: Chain<T>,
+    nodes: Nodes<T, Global>,
 }
 
 impl<T> Model for BoxQueue<T> {
-    ghost use Rattle.std.specs.Prelude.{◌≡◌, List, [], ◌++◌};
-    ghost use Rattle.sd_boxq.specs.Cells.{turned_onto};
+    ghost use Rattle.std.specs.Prelude.{List};
 
     ghost Value = { List T };
 
-    ghost view = { λ q. q.front ++ turned_onto q.back [] };
-
-    ghost invariant = { λ q. q.front ≡ [] → q.back ≡ [] };
-}
-
-// Moves all boxes to the front.
-fn gather<T>(front: &mut Chain<T>, back: &mut Chain<T>)
-    ensures all { front.new ≡ front.old ++ turned_onto back.old [] }
-    ensures empty { back.new ≡ [] }
-{
-    let mut rest = Chain::new();
-    rest.turn(back);
-    let mut passed = Chain::new();
-    passed.turn(front);
-    rest.turn(&mut passed);
-    passed.close();
-    swap(front, &mut rest);
-    rest.close();
+    ghost view = { λ q. q.nodes.items };
 }
 
 impl<T> BoxQueue<T> {
@@ -53,8 +32,7 @@ impl<T> BoxQueue<T> {
         ensures { result ≡ [] }
     {
         BoxQueue {
-            front: Chain::new(),
-            back: Chain::new(),
+            nodes: Nodes::new(),
         }
     }
 
@@ -62,10 +40,11 @@ impl<T> BoxQueue<T> {
     pub fn push_back(&mut self, n: Node<T>)
         ensures { self.new ≡ self.old ++ n ∷ [] }
     {
-        if self.front.is_empty() {
-            self.front.push(n);
+        let (item, block) = n.into_parts();
+        if self.nodes.is_any() {
+            self.nodes.link_back(block, item);
         } else {
-            self.back.push(n);
+            self.nodes.link_first(block, item);
         }
     }
 
@@ -73,18 +52,49 @@ impl<T> BoxQueue<T> {
     pub fn push_front(&mut self, n: Node<T>)
         ensures { self.new ≡ n ∷ self.old }
     {
-        self.front.push(n);
+        let (item, block) = n.into_parts();
+        if self.nodes.is_any() {
+            self.nodes.link_front(block, item);
+        } else {
+            self.nodes.link_first(block, item);
+        }
     }
 
     /// The first box, which leaves the queue. `None` exactly where the queue is empty.
     pub fn pop_front(&mut self) -> Option<Node<T>>
         ensures { MatchOption result ((self.old ≡ []) × (self.new ≡ [])) (λ n. self.old ≡ n ∷ self.new) }
     {
-        let taken = self.front.pop();
-        if self.front.is_empty() {
-            self.front.turn(&mut self.back);
+        if !self.nodes.is_any() {
+            return None;
         }
-        taken
+        let (item, block) = self.nodes.unlink_front();
+        Some(Node::of_parts(item, block))
+    }
+
+    // Lets an empty queue go.
+    fn close(self)
+        requires { self ≡ [] }
+    {
+        let BoxQueue { nodes } = self;
+        drop(nodes);
+    }
+
+    // Puts the passed boxes before those of this queue, the last one first.
+    fn turn(&mut self, passed: &mut BoxQueue<T>)
+        ensures turned { self.new ≡ turned_onto passed.old self.old }
+        ensures empty { passed.new ≡ [] }
+    {
+        while let Some(n) = passed.pop_front() {
+            self.push_front(n);
+        }
+    }
+
+    // Puts the passed boxes back.
+    fn restore(&mut self, mut passed: BoxQueue<T>)
+        ensures { self.new ≡ turned_onto passed self.old }
+    {
+        self.turn(&mut passed);
+        passed.close();
     }
 
     /// The item at this place, counted from 0. `None` exactly where there is none.
@@ -101,24 +111,33 @@ impl<T> BoxQueue<T> {
     pub fn seek(&self, place: usize) -> Result<&T, usize>
         ensures { MatchResult result (λ x. slice_get self.now place ≡ Some x.now) (λ left. place ≡ length self.now + left) }
     {
-        match self.front.seek(place) {
-            Ok(item) => Ok(item),
-            Err(left) => self.back.seek_last(left),
+        let mut items = self.nodes.items();
+        let mut left = place;
+        while let Some((item, behind)) = items.next() {
+            if left == 0 {
+                return Ok(item);
+            }
+            left -= 1;
+            items = behind;
         }
+        Err(left)
     }
 
     /// The first item. `None` exactly where the queue is empty.
     pub fn first(&self) -> Option<&T>
         ensures { option_copied result ≡ slice_get self.now 0 }
     {
-        self.front.first()
+        match self.nodes.items().next() {
+            Some((item, _)) => Some(item),
+            None => None,
+        }
     }
 
     /// Whether there is no item.
     pub fn is_empty(&self) -> bool
         ensures { IsTrue result ↔ (self.now ≡ []) }
     {
-        self.front.is_empty()
+        !self.nodes.is_any()
     }
 
     /// The number of items.
@@ -126,7 +145,13 @@ impl<T> BoxQueue<T> {
         requires { length self.now < 2 ^ 32 }
         ensures { result ≡ length self.now }
     {
-        self.front.len() + self.back.len()
+        let mut items = self.nodes.items();
+        let mut count = 0;
+        while let Some((_, behind)) = items.next() {
+            count += 1;
+            items = behind;
+        }
+        count
     }
 }
 
@@ -136,8 +161,16 @@ impl<T: Ranked> BoxQueue<T> {
     pub fn insert_ranked(&mut self, n: Node<T>)
         ensures { self.new ≡ insert_ranked T.rank T.key n self.old }
     {
-        gather(&mut self.front, &mut self.back);
-        self.front.insert_ranked(n);
+        let mut passed = BoxQueue::new();
+        while let Some(other) = self.pop_front() {
+            if precedes(n.item(), other.item()) {
+                self.push_front(other);
+                break;
+            }
+            passed.push_front(other);
+        }
+        self.push_front(n);
+        self.restore(passed);
     }
 
     /// Puts the box before the first item whose key is greater, or whose key is equal and whose id is
@@ -145,8 +178,16 @@ impl<T: Ranked> BoxQueue<T> {
     pub fn insert_keyed(&mut self, n: Node<T>)
         ensures { self.new ≡ insert_keyed T.key T.id n self.old }
     {
-        gather(&mut self.front, &mut self.back);
-        self.front.insert_keyed(n);
+        let mut passed = BoxQueue::new();
+        while let Some(other) = self.pop_front() {
+            if precedes_keyed(n.item(), other.item()) {
+                self.push_front(other);
+                break;
+            }
+            passed.push_front(other);
+        }
+        self.push_front(n);
+        self.restore(passed);
     }
 
     /// Takes the box of the first item with this id. `None` exactly where there is none.
@@ -154,8 +195,20 @@ impl<T: Ranked> BoxQueue<T> {
         ensures taken { result ≡ find_id T.id id self.old }
         ensures rest { self.new ≡ drop_id T.id id self.old }
     {
-        gather(&mut self.front, &mut self.back);
-        self.front.take_first(id)
+        let mut passed = BoxQueue::new();
+        let found = loop {
+            match self.pop_front() {
+                None => break None,
+                Some(n) => {
+                    if n.item().id() == id {
+                        break Some(n);
+                    }
+                    passed.push_front(n);
+                }
+            }
+        };
+        self.restore(passed);
+        found
     }
 
     /// Takes the box of the first item whose key is less than `below`. `None` exactly where there is
@@ -164,17 +217,43 @@ impl<T: Ranked> BoxQueue<T> {
         ensures taken { result ≡ find_below T.key below self.old }
         ensures rest { self.new ≡ drop_below T.key below self.old }
     {
-        gather(&mut self.front, &mut self.back);
-        self.front.take_below(below)
+        let mut passed = BoxQueue::new();
+        let found = loop {
+            match self.pop_front() {
+                None => break None,
+                Some(n) => {
+                    if n.item().key() < below {
+                        break Some(n);
+                    }
+                    passed.push_front(n);
+                }
+            }
+        };
+        self.restore(passed);
+        found
     }
 
     /// The first item with this id. `None` exactly where there is none.
     pub fn find(&self, id: u32) -> Option<&T>
         ensures { option_copied result ≡ find_id T.id id self.now }
     {
-        match self.front.find(id) {
-            Some(item) => Some(item),
-            None => self.back.find_last(id),
+        let mut items = self.nodes.items();
+        while let Some((item, behind)) = items.next() {
+            if item.id() == id {
+                return Some(item);
+            }
+            items = behind;
         }
+        None
+    }
+}
+
+// Box by box: the boxes free neither themselves nor one another.
+impl<T: Drop> Drop for BoxQueue<T> {
+    fn drop(mut self) {
+        while let Some(n) = self.pop_front() {
+            drop(n);
+        }
+        self.close();
     }
 }

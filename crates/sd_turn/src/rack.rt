@@ -10,17 +10,19 @@ use std::marker::Model;
 #[derive(Drop)]
 pub struct Rack<T> {
     spares: BoxQueue<Sides<T>>,
+    // How many there are, modulo 2^64, so that no count has to fit.
+    count: usize,
 }
 
 impl<T> Model for Rack<T> {
-    ghost use Rattle.std.specs.Prelude.{ℕ, length};
+    ghost use Rattle.std.specs.Prelude.{◌≡◌, ◌%◌, ◌^◌, ℕ, length};
     ghost use Rattle.sd_turn.specs.Serving.{AreIdle};
 
     ghost Value = { ℕ };
 
     ghost view = { λ r. length r.spares };
 
-    ghost invariant = { λ r. AreIdle r.spares };
+    ghost invariant = { λ r. (AreIdle r.spares) × (r.count ≡ length r.spares % 2 ^ 64) };
 }
 
 impl<T> Rack<T> {
@@ -30,6 +32,7 @@ impl<T> Rack<T> {
     {
         Rack {
             spares: BoxQueue::new(),
+            count: 0,
         }
     }
 
@@ -39,6 +42,7 @@ impl<T> Rack<T> {
         ensures { self.new ≡ self.old + 1 }
     {
         self.spares.push_front(t.into_sides());
+        self.count = self.count.wrapping_add(1);
     }
 
     /// Takes a turnstile. `None` exactly where the rack is empty.
@@ -47,7 +51,10 @@ impl<T> Rack<T> {
     {
         match self.spares.pop_front() {
             None => None,
-            Some(sides) => Some(Turnstile::from_sides(sides)),
+            Some(sides) => {
+                self.count = self.count.wrapping_sub(1);
+                Some(Turnstile::from_sides(sides))
+            }
         }
     }
 
@@ -56,6 +63,6 @@ impl<T> Rack<T> {
         requires { self.now < 2 ^ 32 }
         ensures { result ≡ self.now }
     {
-        self.spares.len()
+        self.count
     }
 }

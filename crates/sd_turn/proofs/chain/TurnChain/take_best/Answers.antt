@@ -58,3 +58,10 @@ returns-in-Some-pop-clause-rest g c =
     lock_set c.self.inside.chain c.self.inside.locks c.args.self.now c.args.l.0 c.at_mut-slot.result.now c.self.view_is c.at_mut-slot.ensures.value c.requires.0 c.self.invariant.1
     c.fill-in-Some-pop.new.slot c.args.side (drop 1)
     (ap served c.fill-in-Some-pop.ensures ∙ c.released-serving.ensures.waiters ∙ c.pop.ensures.rest ∙ ap (λ o. with_side (served o) c.args.side (drop 1 (on_side (served o) c.args.side))) (sym some))
+
+pub returns-in-None-pop-clause-rest : goal.returns-in-None-pop-clause-rest
+returns-in-None-pop-clause-rest g c =
+    let some = sym c.take.ensures.value ∙ c.in-Some.is in
+    lock_set c.self.inside.chain c.self.inside.locks c.args.self.now c.args.l.0 c.at_mut-slot.result.now c.self.view_is c.at_mut-slot.ensures.value c.requires.0 c.self.invariant.1
+    c.fill.new.slot c.args.side (drop 1)
+    (ap served c.fill.ensures ∙ c.pop.ensures.rest ∙ ap (λ o. with_side (served o) c.args.side (drop 1 (on_side (served o) c.args.side))) (sym some))

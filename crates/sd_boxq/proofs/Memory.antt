@@ -1,0 +1,7 @@
+-- What the walks of the functions that touch pointers share.
+pub mod Chained
+pub mod Crosses
+pub mod Cursors
+pub mod Seen
+pub mod Shared
+pub mod Steps
