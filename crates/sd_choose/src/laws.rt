@@ -2,8 +2,8 @@
 
 ghost use Rattle.std.specs.Prelude.{◌≡◌, ◌<◌, ℕ, List, Bool, length, All, MatchOption};
 ghost use Rattle.sd_types.specs.declared.numbers.CpuId.{CpuId};
-ghost use Rattle.sd_choose.specs.Choices.{IsChosen, IsVictim};
-ghost use Rattle.sd_choose.specs.Functions.{chosen, victim_of};
+ghost use Rattle.sd_rules.specs.Choices.{IsChosen, IsVictim};
+ghost use Rattle.sd_rules.specs.ChoiceFunctions.{chosen, victim_of};
 
 /// At most one processor is the choice.
 pub fn one_choice()

@@ -1,2 +1,1 @@
-pub mod Greatest
 pub mod WilledLemmas

@@ -1,5 +1,5 @@
--- What willed numbers keep when one is set or removed.
-use Rattle.std.proofs.Common.{◌≡◌, ℕ, zero, suc, ◌<◌, ◌≤◌, Bool, true, false, not, List, [], ◌∷◌, ◌++◌, length, filter, get_or, take, drop, Some, None, ◌⊎◌, inl, inr, refl, sym, ap, ◌∙◌, subst, arith, nat_lt, drop-cons}
+-- What the numbers of inherited priorities keep when one is set or removed, or a lock is taken or released.
+use Rattle.std.proofs.Common.{◌≡◌, ℕ, zero, suc, ◌<◌, ◌≤◌, Bool, true, false, not, List, [], ◌∷◌, ◌++◌, length, filter, get_or, take, drop, Some, None, ◌⊎◌, inl, inr, refl, sym, ap, ◌∙◌, subst, arith, max, nat_lt, drop-cons}
 use Rattle.std.specs.List.{list_any, list_all, refill}
 use Rattle.std.proofs.Math.ListN.{set, length-set}
 use Rattle.std.proofs.lemmas.List.{take-append-le, take_all}
@@ -10,7 +10,8 @@ use Rattle.sd_types.specs.declared.numbers.LockId.{LockId}
 use Rattle.sd_types.specs.declared.bodies.ThreadBody.{ThreadBody}
 use Rattle.sd_types.specs.Scripts.{is_lock, is_held, without_lock}
 use Rattle.sd_types.specs.Works.{is_distinct}
-use Rattle.sd_record.specs.Willed.{Numbers, number_for, with_number, without_number, same_lock, IsSound}
+use Rattle.sd_types.specs.Priorities.{base_of, greatest_willed}
+use Rattle.sd_types.specs.Willed.{Numbers, number_for, with_number, without_number, same_lock, eff_with, IsSound}
 
 bool_cases : (b : Bool) → (b ≡ true) ⊎ (b ≡ false)
 bool_cases true = inl refl
@@ -164,6 +165,123 @@ sound-without b l ws s e = record {
   held_once = s.held_once;
 }
 
+pub below-without : (b : ThreadBody) (l : LockId) (ws : Numbers) → IsSound b → ws ≡ without_number l b.willed.items → list_all (λ w. nat_lt w.1 160) ws ≡ true
+below-without b l ws s e = rw e (list_all-filter (λ w. nat_lt w.1 160) (λ w. not (is_lock l w.0)) b.willed.items s.below)
+
+-- ---- a lock that is taken
+
+held-more : (m l : LockId) (held : List LockId) → is_held m held ≡ true → is_held m (held ++ l ∷ []) ≡ true
+held-more m l [] h = absurd (false≢true h)
+held-more m l (x ∷ xs) h = elim (bool_cases (is_lock m x)) [
+  | inl here ↦ grind (arith, nat_tests)
+  | inr later ↦ let rest : is_held m xs ≡ true = grind (arith, nat_tests) in let r = held-more m l xs rest in grind (arith, nat_tests)
+]
+
+all-held-more : (l : LockId) (held : List LockId) (ws : Numbers) → list_all (λ w. is_held w.0 held) ws ≡ true → list_all (λ w. is_held w.0 (held ++ l ∷ [])) ws ≡ true
+all-held-more l held [] h = refl
+all-held-more l held (w ∷ ws) h =
+    let here : is_held w.0 held ≡ true = grind (arith, nat_tests) in
+    let rest : list_all (λ v. is_held v.0 held) ws ≡ true = grind (arith, nat_tests) in
+    let first = held-more w.0 l held here in
+    let others = all-held-more l held ws rest in
+    grind (arith, nat_tests)
+
+any-push : (m l : LockId) (held : List LockId) → is_lock m l ≡ false → is_held m held ≡ false → is_held m (held ++ l ∷ []) ≡ false
+any-push m l [] apart h = grind (arith, nat_tests)
+any-push m l (x ∷ xs) apart h =
+    let rest : is_held m xs ≡ false = grind (arith, nat_tests) in
+    let r = any-push m l xs apart rest in
+    grind (arith, nat_tests)
+
+distinct-push : (l : LockId) (held : List LockId) → is_held l held ≡ false → is_distinct is_lock held ≡ true → is_distinct is_lock (held ++ l ∷ []) ≡ true
+distinct-push l [] new h = refl
+distinct-push l (m ∷ ms) new h =
+    let apart : is_lock l m ≡ false = grind (arith, nat_tests) in
+    let other = not_same l m apart in
+    let new_here : is_held l ms ≡ false = grind (arith, nat_tests) in
+    let none : is_held m ms ≡ false = grind (arith, nat_tests) in
+    let rest : is_distinct is_lock ms ≡ true = grind (arith, nat_tests) in
+    let r = distinct-push l ms new_here rest in
+    let a = any-push m l ms other none in
+    grind (arith, nat_tests)
+
+pub sound-taken : (b : ThreadBody) (l : LockId) (ls : List LockId) → IsSound b → is_held l b.held.items ≡ false → ls ≡ b.held.items ++ l ∷ [] → IsSound (record b { held = record { items = ls } })
+sound-taken b l ls s new e = record {
+  below = s.below;
+  apart = s.apart;
+  owned = rw e (all-held-more l b.held.items b.willed.items s.owned);
+  held_once = rw e (distinct-push l b.held.items new s.held_once);
+}
+
+held-without : (l m : LockId) (held : List LockId) → is_lock l m ≡ false → is_held m held ≡ true → is_held m (without_lock l held) ≡ true
+held-without l m [] apart h = h
+held-without l m (x ∷ xs) apart h = elim (bool_cases (is_lock l x)) [
+  | inl here ↦ let rest : is_held m xs ≡ true = grind (arith, nat_tests) in let r = held-without l m xs apart rest in grind (arith, nat_tests)
+  | inr later ↦ elim (bool_cases (is_lock m x)) [
+    | inl same ↦ grind (arith, nat_tests)
+    | inr other ↦ let rest : is_held m xs ≡ true = grind (arith, nat_tests) in let r = held-without l m xs apart rest in grind (arith, nat_tests)
+  ]
+]
+
+-- ---- a lock that is released
+
+all-released : (l : LockId) (held : List LockId) (ws : Numbers) → list_all (λ w. is_held w.0 held) ws ≡ true → list_all (λ w. is_held w.0 (without_lock l held)) (without_number l ws) ≡ true
+all-released l held [] h = refl
+all-released l held (w ∷ ws) h =
+    let here : is_held w.0 held ≡ true = grind (arith, nat_tests) in
+    let rest : list_all (λ v. is_held v.0 held) ws ≡ true = grind (arith, nat_tests) in
+    let r = all-released l held ws rest in
+    elim (bool_cases (is_lock l w.0)) [
+      | inl gone ↦ rw (without-here l w ws gone) r
+      | inr stays ↦ let first = held-without l w.0 held stays here in rw (without-later l w ws stays) (grind (arith, nat_tests))
+    ]
+
+pub sound-released : (b : ThreadBody) (l : LockId) (ws : Numbers) (ls : List LockId) → IsSound b → ws ≡ without_number l b.willed.items → ls ≡ without_lock l b.held.items
+    → IsSound (record b { willed = record { items = ws }; held = record { items = ls } })
+sound-released b l ws ls s e f = record {
+  below = below-without b l ws s e;
+  apart = rw e (distinct-filter same_lock (λ w. not (is_lock l w.0)) b.willed.items s.apart);
+  owned = rw (e, f) (all-released l b.held.items b.willed.items s.owned);
+  held_once = rw f (distinct-filter is_lock (λ m. not (is_lock l m)) b.held.items s.held_once);
+}
+
+-- ---- the greatest with another number for a lock
+
+-- no other number is for the lock of the first
+without-none : (l : LockId) (w : LockId × ℕ) (ws : Numbers) → is_lock l w.0 ≡ true → list_any (same_lock w) ws ≡ false → without_number l ws ≡ ws
+without-none l w [] here none = refl
+without-none l w (v ∷ vs) here none =
+    let apart : is_lock l v.0 ≡ false = grind (arith, nat_tests) in
+    let rest : list_any (same_lock w) vs ≡ false = grind (arith, nat_tests) in
+    without-later l v vs apart ∙ ap (λ (xs : Numbers). v ∷ xs) (without-none l w vs here rest)
+
+pub greatest-with : (n p : ℕ) (l : LockId) (ws : Numbers) → is_distinct same_lock ws ≡ true → greatest_willed n (with_number l p ws) ≡ max (greatest_willed n (without_number l ws)) p
+greatest-with n p l [] h = omega arith
+greatest-with n p l (w ∷ ws) h =
+    let none : list_any (same_lock w) ws ≡ false = grind (arith, nat_tests) in
+    let rest : is_distinct same_lock ws ≡ true = grind (arith, nat_tests) in
+    elim (bool_cases (is_lock l w.0)) [
+      | inl here ↦
+          let same = ap (greatest_willed n) (with-here l p w ws here) in
+          let others = ap (greatest_willed n) (without-here l w ws here ∙ without-none l w ws here none) in
+          omega arith
+      | inr later ↦
+          let same = ap (greatest_willed n) (with-later l p w ws later) in
+          let others = ap (greatest_willed n) (without-later l w ws later) in
+          omega (arith, greatest-with n p l ws rest)
+    ]
+
+pub with-one : (b : ThreadBody) (l : LockId) (base g p : ℕ) (ws : Numbers) → IsSound b → base ≡ base_of b.class → ws ≡ without_number l b.willed.items
+    → g ≡ greatest_willed base ws → max g p ≡ eff_with l (Some p) b
+with-one b l base g p ws s first rest e =
+    let parts = greatest-with (base_of b.class) p l b.willed.items s.apart in
+    let greatest : g ≡ greatest_willed (base_of b.class) (without_number l b.willed.items) = cc in
+    ap (λ (n : ℕ). max n p) greatest ∙ sym parts
+
+pub with-none : (b : ThreadBody) (l : LockId) (base g : ℕ) (ws : Numbers) → base ≡ base_of b.class → ws ≡ without_number l b.willed.items
+    → g ≡ greatest_willed base ws → g ≡ eff_with l None b
+with-none b l base g ws first rest e = cc
+
 -- ---- room for a number
 
 length-without_le : (l : LockId) (held : List LockId) → length (without_lock l held) ≤ length held
@@ -175,16 +293,6 @@ length-without l [] h = absurd (false≢true h)
 length-without l (m ∷ ms) h = elim (bool_cases (is_lock l m)) [
   | inl here ↦ let r = length-without_le l ms in grind (arith, nat_tests)
   | inr later ↦ let rest : is_held l ms ≡ true = grind (arith, nat_tests) in let r = length-without l ms rest in grind (arith, nat_tests)
-]
-
-held-without : (l m : LockId) (held : List LockId) → is_lock l m ≡ false → is_held m held ≡ true → is_held m (without_lock l held) ≡ true
-held-without l m [] apart h = h
-held-without l m (x ∷ xs) apart h = elim (bool_cases (is_lock l x)) [
-  | inl here ↦ let rest : is_held m xs ≡ true = grind (arith, nat_tests) in let r = held-without l m xs apart rest in grind (arith, nat_tests)
-  | inr later ↦ elim (bool_cases (is_lock m x)) [
-    | inl same ↦ grind (arith, nat_tests)
-    | inr other ↦ let rest : is_held m xs ≡ true = grind (arith, nat_tests) in let r = held-without l m xs apart rest in grind (arith, nat_tests)
-  ]
 ]
 
 all-without : (w : LockId × ℕ) (ws : Numbers) (held : List LockId) → list_any (same_lock w) ws ≡ false → list_all (λ v. is_held v.0 held) ws ≡ true
@@ -229,7 +337,7 @@ room b l most s held short none =
     let all : list_all (λ v. is_held v.0 b.held.items) ((l, 0) ∷ b.willed.items) ≡ true = grind (arith, nat_tests) in
     omega (arith, at_most_held ((l, 0) ∷ b.willed.items) b.held.items both all)
 
--- ---- the place of a number
+-- ---- the index of a number
 
 pub with-at : (l : LockId) (n : ℕ) (ws : Numbers) (i : ℕ) (d : LockId × ℕ) → i < length ws → is_lock l (get_or ws i d).0 ≡ true
     → with_number l n (drop i ws) ≡ (l, n) ∷ drop (suc i) ws
@@ -245,7 +353,7 @@ refill-whole : (xs ws : Numbers) → length ws ≡ length xs → refill (length 
 refill-whole xs ws e =
     take-append-le (length xs) ws (drop (length ws) xs) (omega arith) ∙ take_all (length xs) ws (omega arith)
 
--- the number for the lock is written in its place
+-- the number for the lock is written where it stands
 pub written : (l : LockId) (n : ℕ) (ws ys zs : Numbers) (i : ℕ) (d : LockId × ℕ) → i < length ws → l.0 ≡ (get_or ys i d).0.0 → ys ≡ ws → zs ≡ ws
     → with_number l n ws ≡ take i ws ++ with_number l n (drop i ws) → refill (length ws) ws (set zs i (l, n)) ≡ with_number l n ws
 written l n ws ys zs i d h here same as_it_was e =

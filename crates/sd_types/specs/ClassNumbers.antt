@@ -44,7 +44,7 @@ IsQuantum Def = Unit {0}
 IsQuantum Inf = Unit {0}
 IsQuantum (Ticks n) = (1 ≤ n) × (n ≤ 1000000)
 
--- ticks are left of each quantum that ends, and none of one that does not
+-- ticks are left of a finite quantum, and none are counted of an infinite one
 abbrev pub IsLeft : Quantum → ℕ → Type 0
 IsLeft Def left = 1 ≤ left
 IsLeft Inf left = left ≡ 0

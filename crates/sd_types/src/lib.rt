@@ -9,6 +9,7 @@ mod events;
 mod lists;
 mod names;
 mod numbers;
+mod priorities;
 mod scripts;
 mod tables;
 mod works;
@@ -23,6 +24,7 @@ pub use names::Name;
 pub use numbers::{
     ChanId, CpuId, HomeId, LockId, SetId, Side, ThreadId, home_of_chan, home_of_lock,
 };
+pub use priorities::{REAL_TIME_PRIORITY, greatest_willed};
 pub use scripts::{Op, Request, Script};
 pub use tables::{FixedRow, FixedTable, TsRow, TsTable};
 pub use works::{ChanKind, LockKind, ThreadDecl, Work};

@@ -1,5 +1,5 @@
 use Rattle.std.proofs.Common.{◌≡◌, ◌≤◌, length, take}
-use Rattle.sd_record.specs.Willed.{without_number}
+use Rattle.sd_types.specs.Willed.{without_number}
 use Rattle.sd_record.proofs.record.without.Given as goal
 
 abbrev pub invariant-loop-number : goal.invariant-loop-number

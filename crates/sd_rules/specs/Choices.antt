@@ -1,5 +1,5 @@
--- The processor to which a thread goes, and the one from which a thread is stolen, said by what the answer is
--- among all processors. A list of processors stands beside the list of their hints.
+-- The processor to which a thread goes, and the one from which a thread is stolen, each said by what
+-- it is among all processors. A list of processors stands beside the list of their hints.
 -- Source: Solaris Internals (choosing a processor, stealing); hints and ties are this project's own.
 use Rattle.std.specs.Prelude.{◌≡◌, ◌≢◌, ℕ, ◌<◌, ◌≤◌, Bool, ◌&&◌, List, slice_get, Some, ◌==◌, MatchBool}
 use Rattle.std.specs.List.{list_any}
@@ -12,7 +12,7 @@ is_among c cpus = list_any (λ d. d.0 == c.0) cpus
 abbrev pub HasHint : List CpuId → List ℕ → CpuId → ℕ → Type 0
 HasHint cpus hints c hint = (i : ℕ) × (slice_get cpus i ≡ Some c) × (slice_get hints i ≡ Some hint)
 
--- it is one of the processors, and none has a less hint
+-- it is one of the processors, and none has a smaller hint
 pub record IsLeastBusy (cpus : List CpuId) (hints : List ℕ) (c : CpuId) : Type 0 where
   pub hint : ℕ
   pub has : HasHint cpus hints c hint

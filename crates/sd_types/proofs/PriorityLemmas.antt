@@ -1,11 +1,11 @@
--- The greatest of a number and willed numbers.
+-- The greatest of a number and the inherited priorities.
 use Rattle.std.proofs.Common.{◌≡◌, ℕ, zero, suc, ◌+◌, ◌<◌, ◌≤◌, true, max, [], ◌∷◌, length, get_or, drop, Contains, ◌⊎◌, inl, inr, refl, sym, ap, ◌∙◌, arith, nat_lt, add-one, drop-cons}
 use Rattle.std.specs.List.{list_all}
 use Rattle.std.proofs.lemmas.Bool.{cases_lt}
 use Rattle.std.proofs.lemmas.Bool.Decides.{nat_tests}
 use Rattle.sd_types.specs.declared.numbers.LockId.{LockId}
 use Rattle.sd_types.specs.Priorities.{greatest_willed}
-use Rattle.sd_record.specs.Willed.{Numbers}
+use Rattle.sd_types.specs.Willed.{Numbers}
 
 pub greatest-base : (n : ℕ) (ws : Numbers) → n ≤ greatest_willed n ws
 greatest-base n [] = omega arith

@@ -2,7 +2,7 @@
 -- Source: Solaris Internals (choosing a processor, stealing); hints and ties are this project's own.
 use Rattle.std.specs.Prelude.{ℕ, Bool, ◌&&◌, List, [], ◌∷◌, min, max, ◌==◌, Option, Some, None, if◌then◌else◌}
 use Rattle.sd_types.specs.declared.numbers.CpuId.{CpuId}
-use Rattle.sd_choose.specs.Choices.{is_among}
+use Rattle.sd_rules.specs.Choices.{is_among}
 
 -- the least and the greatest of the hints, 0 where there is none
 abbrev pub least_hint : List ℕ → ℕ
