@@ -1,13 +1,12 @@
 //! A thread's record. The type keeps that the priorities which the thread inherits are for locks that it holds.
 
-ghost use Rattle.std.specs.Prelude.{◌≡◌, ◌<◌, false, IsTrue, None, IfSome, length};
-ghost use Rattle.sd_types.specs.Priorities.{base_of, greatest_willed, eff_as, eff};
-ghost use Rattle.sd_types.specs.Scripts.{is_held, without_lock};
-ghost use Rattle.sd_types.specs.Willed.{number_for, with_number, without_number, eff_with};
+ghost use Rattle.std.specs.Prelude.{◌≡◌, ◌<◌, false, IsTrue, IfSome, length};
+ghost use Rattle.sd_types.specs.Priorities.{base_of, eff_as, eff};
+ghost use Rattle.sd_types.specs.Scripts.{is_held};
+ghost use Rattle.sd_types.specs.Willed.{eff_with};
 
-use arrayvec::ArrayVec;
 use sd_boxq::Ranked;
-use sd_types::{ClassState, LockId, ThreadBody, ThreadId, greatest_willed};
+use sd_types::{ClassState, LockId, ThreadBody, ThreadId};
 use std::marker::Model;
 
 /// One thread as it moves between homes. `key` is that of its place: for a napper the tick at which its nap ends,
@@ -66,12 +65,7 @@ impl Record {
         ensures value { result ≡ eff_with l pri self.now.body }
         ensures below { IfSome pri (λ n. n < 160) → result < 160 }
     {
-        let rest = without(l, &self.body.willed);
-        let greatest = greatest_willed(self.base(), rest.as_slice());
-        match pri {
-            Some(pri) => greatest.max(pri),
-            None => greatest,
-        }
+        self.body.effective_with(l, pri)
     }
 
     /// Makes `pri` the priority that the thread, which holds `l`, inherits from the waiters of `l`.
@@ -80,17 +74,14 @@ impl Record {
         requires below { pri < 160 }
         ensures { self.new ≡ inherited self.old l pri }
     {
-        let locks = self.body.held.len();
-        prove!(locks <= 8);
-        set_number(&mut self.body.willed, l, pri);
+        self.body.inherit(l, pri);
     }
 
     /// Removes the priority that is inherited from the waiters of `l`, if there is one.
     pub fn waive(&mut self, l: LockId)
         ensures { self.new ≡ waived self.old l }
     {
-        let rest = without(l, &self.body.willed);
-        self.body.willed = rest;
+        self.body.waive(l);
     }
 
     /// Puts `l`, which the thread does not hold, at the end of the locks that it holds.
@@ -99,7 +90,7 @@ impl Record {
         requires room { length self.old.body.held.items < 8 }
         ensures { self.new ≡ lock_taken self.old l }
     {
-        self.body.held.push(l);
+        self.body.take_lock(l);
     }
 
     /// Takes `l` out of the locks that the thread holds, with the priority that is inherited from its waiters.
@@ -107,10 +98,7 @@ impl Record {
     pub fn release_lock(&mut self, l: LockId)
         ensures { self.new ≡ lock_released self.old l }
     {
-        let numbers = without(l, &self.body.willed);
-        let locks = others(l, &self.body.held);
-        self.body.willed = numbers;
-        self.body.held = locks;
+        self.body.release_lock(l);
     }
 }
 
@@ -132,44 +120,4 @@ impl Ranked for Record {
     fn id(&self) -> u32 {
         u32::from(self.id.0)
     }
-}
-
-/// Makes `pri` the number for the lock.
-fn set_number(willed: &mut ArrayVec<(LockId, u8), 8>, l: LockId, pri: u8)
-    requires { number_for l willed.old.items ≡ None → length willed.old.items < 8 }
-    ensures { willed.new.items ≡ with_number l pri willed.old.items }
-{
-    for index in 0..willed.len() {
-        if l.0 == willed[index].0.0 {
-            willed[index] = (l, pri);
-            return;
-        }
-    }
-    willed.push((l, pri));
-}
-
-/// The numbers without that for the lock.
-fn without(l: LockId, willed: &ArrayVec<(LockId, u8), 8>) -> ArrayVec<(LockId, u8), 8>
-    ensures { result.items ≡ without_number l willed.now.items }
-{
-    let mut rest = ArrayVec::new();
-    for number in willed.as_slice() {
-        if l.0 != number.0.0 {
-            rest.push(*number);
-        }
-    }
-    rest
-}
-
-/// The locks without this one.
-fn others(l: LockId, held: &ArrayVec<LockId, 8>) -> ArrayVec<LockId, 8>
-    ensures { result.items ≡ without_lock l held.now.items }
-{
-    let mut rest = ArrayVec::new();
-    for lock in held.as_slice() {
-        if l.0 != lock.0 {
-            rest.push(*lock);
-        }
-    }
-    rest
 }

@@ -1,6 +1,6 @@
 -- The numbers of a class state, and when they are in their ranges.
 -- Source: Solaris Internals, ts_dptbl(4), rt_dptbl(4), priocntl(2); the ranges of user priorities are this project's own.
-use Rattle.std.specs.Prelude.{◌≡◌, ℕ, ◌<◌, ◌≤◌, ℤ, pos, negsuc, ◌≤ℤ◌}
+use Rattle.std.specs.Prelude.{◌≡◌, ℕ, ◌≤◌, ℤ, pos, negsuc, ◌≤ℤ◌}
 use Rattle.sd_types.specs.declared.classes.Quantum.{Quantum}
 use Rattle.sd_types.specs.declared.classes.Quantum.TheVariants.{Def, Inf, Ticks}
 

@@ -6,6 +6,7 @@
 mod bodies;
 mod classes;
 mod events;
+mod inheritance;
 mod lists;
 mod names;
 mod numbers;
@@ -25,6 +26,6 @@ pub use numbers::{
     ChanId, CpuId, HomeId, LockId, SetId, Side, ThreadId, home_of_chan, home_of_lock,
 };
 pub use priorities::{REAL_TIME_PRIORITY, greatest_willed};
-pub use scripts::{Op, Request, Script};
+pub use scripts::{Op, Request, Script, without_lock};
 pub use tables::{FixedRow, FixedTable, TsRow, TsTable};
 pub use works::{ChanKind, LockKind, ThreadDecl, Work};

@@ -1,4 +1,4 @@
-use Rattle.std.proofs.Common.{◌≡◌, ℕ, ◌+◌, drop, ap, ◌∙◌, subst, sym, ◌<◌}
+use Rattle.std.proofs.Common.{ℕ, ◌+◌, drop, ap, ◌∙◌, subst, sym, ◌<◌}
 use Rattle.std.proofs.lemmas.Grind.{common_steps}
 use Rattle.std.proofs.Common.{arith}
 use Rattle.sd_types.specs.Priorities.{greatest_willed}
