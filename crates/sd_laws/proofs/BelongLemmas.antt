@@ -29,7 +29,7 @@ use Rattle.sd_laws.proofs.Causes.{IsCause, caused}
 use Rattle.sd_laws.proofs.Changes.{Change, Keep, Put, IsChanged, move, place_after, cpu_sets, set_after}
 use Rattle.sd_laws.proofs.Chosen.{places, runs_there, best_ready_is}
 use Rattle.sd_laws.proofs.Induction.{IsKept, in_runs}
-use Rattle.sd_laws.proofs.SetLemmas.{cpus_some, cpus_member}
+use Rattle.sd_part.proofs.PartitionLemmas.{some_cpu, in_no_other}
 use Rattle.sd_laws.proofs.Declared.{decl_set, decl_set_there, set_there, opening_at, opening_past}
 
 -- what is kept together
@@ -106,8 +106,12 @@ module _ (w : Work) (t : ℕ) (d : ThreadDecl) (is : slice_get w.threads t ≡ S
   -- the processor on whose queue a thread stands at the opening
   first_cpu_well : (k : ℕ) → ((dealt_cpu (cpus_of_set w d.set.0) k).0 < w.cpus) × ((cpu_of (opening w) (dealt_cpu (cpus_of_set w d.set.0) k).0).set ≡ d.set)
   first_cpu_well k =
-      let some = cpus_some w d.set.0 (decl_set_there w t d is) in
-      let member = cpus_member w d.set.0 (k % length (cpus_of_set w d.set.0)) (record { 0 = 0 }) (mod-lt k some) in
+      let some = some_cpu w d.set.0 (decl_set_there w t d is) in
+      let cpus = cpus_of_set w d.set.0 in
+      let inside = mod-lt k some in
+      let none : CpuId = record { 0 = 0 } in
+      let one = get_or cpus (k % length cpus) none in
+      let member = in_no_other w one d.set.0 (k % length cpus, inside, get_or_default cpus (k % length cpus) one none inside) in
       (member.0, same_set _ d.set (opening_set w (dealt_cpu (cpus_of_set w d.set.0) k).0 member.0 ∙ member.1))
 
   first_well : (k : ℕ) → IsInItsSet w (opening w) t (first_thread w k d).place × IsThere w (first_thread w k d).place

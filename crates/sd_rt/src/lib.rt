@@ -11,6 +11,9 @@ ghost use Rattle.sd_rules.specs.ClassRules.{rt_tick, rt_wake, quantum_expires};
 use sd_fixed::{full_quantum, left_after_tick};
 use sd_types::{FixedTable, RtState};
 
+#[cfg(test)]
+mod tests;
+
 /// The base priority, 100 to 159: 100 and the thread's own.
 pub fn global(s: &RtState) -> u8
     ensures value { result ≡ base_of (Rt s.now) }

@@ -12,6 +12,9 @@ ghost use Rattle.sd_rules.specs.ClassRules.{ts_at_level, ts_tick, ts_expires, ts
 
 use sd_types::{End, TsState, TsTable};
 
+#[cfg(test)]
+mod tests;
+
 /// The base priority, 0 to 59: the sum of `cpupri` and the user priority, within the levels of the class.
 pub fn global(s: &TsState) -> u8
     ensures value { result ≡ umdpri s.now }
