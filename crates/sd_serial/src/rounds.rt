@@ -47,6 +47,7 @@ fn run_turn(work: &Work, s: &mut State, entries: &mut Vec<Entry>, c: CpuId) -> R
     ensures state { OnOk result (s.new ≡ final work.now s.old (turn work.now s.old (length entries.old.items) c)) }
     ensures fits { FitsWork work.now s.new }
     ensures room { OnOk result (length entries.new.items ≤ MOST_ENTRIES) }
+    ensures begins { OnOk result (length entries.old.items < MOST_ENTRIES) }
     ensures full { IsErrOf result Stop.Full ↔ (MOST_ENTRIES ≤ length entries.old.items) }
     ensures memory { IsErrOf result Stop.Memory → (length entries.old.items < MOST_ENTRIES) × (entries.new.items ≡ entries.old.items) }
 {
