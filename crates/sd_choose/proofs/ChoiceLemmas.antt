@@ -104,7 +104,7 @@ busiest_is_victim cpus hints best long within some at = record {
   first = λ d has. not_lower d (get_or cpus best no_cpu) (get_or hints best 0) (victim_at cpus hints best at d (get_or hints best 0) has);
 }
 
--- a processor that the test finds stands at a place of the list
+-- a processor that the test finds stands at an index of the list
 pub Contains-from_among : (c : CpuId) (cpus : List CpuId) → is_among c cpus ≡ true → Contains cpus c
 Contains-from_among c [] h = absurd (false≢true h)
 Contains-from_among c (d ∷ ds) h = elim (cases_eq d.0 c.0) [

@@ -124,7 +124,7 @@ among-some : (x : CpuId) (cpus : List CpuId) → is_among x cpus ≡ true → 0 
 among-some x [] h = absurd (false≢true h)
 among-some x (c ∷ cs) h = omega arith
 
--- some processor has the hint that stands at a place
+-- some processor has the hint that stands at an index
 at_hint : (cpus : List CpuId) (hints : List ℕ) (i hint : ℕ) → length cpus ≡ length hints → slice_get hints i ≡ Some hint → (x : CpuId) × HasHint cpus hints x hint
 at_hint cpus hints i hint long e =
     let within = slice_get_within hints i hint e in

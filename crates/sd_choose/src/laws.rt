@@ -16,7 +16,7 @@ pub fn one_victim()
     ensures { (cpus : List CpuId) (hints : List ℕ) (c d : CpuId) → IsVictim cpus hints c → IsVictim cpus hints d → c ≡ d }
 {}
 
-/// The functions give the choices. So whoever computes by them has what `choose` and `victim` answer.
+/// The functions give the choices. So whoever computes by them has what `choose` and `victim` return.
 pub fn functions_choose()
     ensures chosen { (cpus : List CpuId) (hints : List ℕ) (last : CpuId) (warm : Bool) → 0 < length cpus → length cpus ≡ length hints
         → IsChosen cpus hints last warm (chosen cpus hints last warm) }

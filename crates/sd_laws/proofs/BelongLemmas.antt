@@ -93,9 +93,9 @@ module _ (w : Work) (s s' : State) (sets : (d : ℕ) → cpu_sets s' d ≡ cpu_s
     | inr other ↦ subst (IsThere w) (sym (put.others t (λ e. other (sym e)))) (at.there t)
   ]
 
--- The opening.
+-- The initial state.
 
--- a processor of the opening is in the set that the workload gives it
+-- a processor of the initial state is in the set that the workload gives it
 opening_set : (w : Work) (c : ℕ) → c < w.cpus → (cpu_of (opening w) c).set.0 ≡ set_of_cpu w c
 unfolding opening first_cpu_state
 opening_set w c here = ap (λ (x : CpuState). x.set.0) (get_or-map-range_with_len (first_cpu_state w) 0 w.cpus c c no_cpu here (omega arith))
@@ -104,7 +104,7 @@ same_set : (p q : SetId) → p.0 ≡ q.0 → p ≡ q
 same_set p q e = ap (λ (n : ℕ). let r : SetId = record { 0 = n } in r) e
 
 module _ (w : Work) (t : ℕ) (d : ThreadDecl) (is : slice_get w.threads t ≡ Some d) where
-  -- the processor on whose queue a thread stands at the opening
+  -- the processor on whose queue a thread stands in the initial state
   first_cpu_well : (k : ℕ) → ((dealt_cpu (cpus_of_set w d.set.0) k).0 < w.cpus) × ((cpu_of (opening w) (dealt_cpu (cpus_of_set w d.set.0) k).0).set ≡ d.set)
   first_cpu_well k =
       let some = some_cpu w d.set.0 (decl_set_there w t d is) in

@@ -39,11 +39,11 @@ is_real_time_class _ = false
 abbrev pub is_urgent : ThreadDecl → Bool
 is_urgent d = is_real_time_class d.class
 
--- the threads of a set that are not urgent are dealt out to its processors in turn
+-- the threads of a set that are not urgent are assigned round-robin to its processors
 abbrev pub is_dealt : ℕ → ThreadDecl → Bool
 is_dealt p d = (d.set.0 == p) && not (is_urgent d)
 
--- how many of the threads before t are dealt out in set p
+-- how many of the threads before t are assigned round-robin in set p
 abbrev pub turn_of : Work → ℕ → ℕ → ℕ
 turn_of w p t = count_by (is_dealt p) (take t w.threads)
 

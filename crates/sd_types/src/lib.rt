@@ -1,6 +1,7 @@
 //! The plain types that all crates of dispsim share: numbers of things, class states, dispatch tables,
 //! scripts, works, events and entries. A type keeps the facts that make its values meaningful,
-//! so whoever holds a value has them.
+//! so whoever holds a value has them. With the types stand the rules that several crates call: base and effective
+//! priorities, what a thread inherits and which locks it holds, and whether an event takes a tick.
 #![tactic(auto)]
 
 mod bodies;
