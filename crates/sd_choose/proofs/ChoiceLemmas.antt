@@ -1,10 +1,11 @@
 -- What follows from the properties of a choice.
-use Rattle.std.proofs.Common.{◌≡◌, ◌≢◌, ℕ, ◌<◌, ◌≤◌, Bool, true, false, ◌&&◌, List, [], ◌∷◌, suc, Contains, length, get_or, MatchBool, inl, inr, refl, sym, ap, ◌∙◌, subst, arith}
+use Rattle.std.proofs.Common.{◌≡◌, ◌≢◌, ℕ, ◌<◌, ◌≤◌, Bool, true, false, ◌&&◌, List, [], ◌∷◌, suc, Contains, length, get_or, All, MatchBool, inl, inr, refl, sym, ap, ◌∙◌, subst, arith}
 use Rattle.std.proofs.lemmas.Bool.{cases_eq, false≢true}
 use Rattle.std.proofs.lemmas.Bool.Decides.{nat_tests}
+use Rattle.std.proofs.lemmas.List.{get_or_default}
 use Rattle.std.proofs.lemmas.Option.{slice_get-get_or, slice_get_within, get_or_from_slice_get}
 use Rattle.sd_types.specs.declared.numbers.CpuId.{CpuId}
-use Rattle.sd_choose.specs.Choices.{is_among, HasHint, IsLeastBusy, IsBestByHints, IsChosen, IsVictim}
+use Rattle.sd_rules.specs.Choices.{is_among, HasHint, IsLeastBusy, IsBestByHints, IsChosen, IsVictim}
 use Rattle.sd_choose.specs.Orders.{is_less_busy, is_busier, no_cpu, IsBestByHintsAt, IsBusiestAt}
 
 same_cpu : (c d : CpuId) → c.0 ≡ d.0 → c ≡ d
@@ -103,7 +104,7 @@ busiest_is_victim cpus hints best long within some at = record {
   first = λ d has. not_lower d (get_or cpus best no_cpu) (get_or hints best 0) (victim_at cpus hints best at d (get_or hints best 0) has);
 }
 
--- a processor that the test finds stands at a place of the list
+-- a processor that the test finds stands at an index of the list
 pub Contains-from_among : (c : CpuId) (cpus : List CpuId) → is_among c cpus ≡ true → Contains cpus c
 Contains-from_among c [] h = absurd (false≢true h)
 Contains-from_among c (d ∷ ds) h = elim (cases_eq d.0 c.0) [
@@ -126,3 +127,11 @@ pub chosen_by_hints : (stays : Bool) (cpus : List CpuId) (hints : List ℕ) (las
     → MatchBool stays (c ≡ last) (IsBestByHints cpus hints last c)
 chosen_by_hints true cpus hints last c h b = absurd (false≢true (sym h))
 chosen_by_hints false cpus hints last c h b = b
+
+-- where the greatest hint is 0, all are
+pub all_zero : (cpus : List CpuId) (hints : List ℕ) (best : ℕ) → length cpus ≡ length hints → get_or hints best 0 ≡ 0
+    → IsBusiestAt cpus hints (length cpus) best → All (λ hint. hint ≡ 0) hints
+all_zero cpus hints best long none at = λ k d here.
+    let most = not_busier (get_or cpus k no_cpu) (get_or cpus best no_cpu) (get_or hints k 0) (get_or hints best 0) (at k (omega arith)) in
+    let same = get_or_default hints k d 0 here in
+    omega arith

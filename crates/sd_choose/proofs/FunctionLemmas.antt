@@ -1,11 +1,12 @@
 -- The functions give the choices.
-use Rattle.std.proofs.Common.{◌≡◌, ℕ, zero, suc, ◌<◌, ◌≤◌, Bool, true, false, ◌&&◌, cond, List, [], ◌∷◌, length, get_or, Some, None, MatchBool, MatchOption, All, ◌⊎◌, inl, inr, refl, sym, ap, ◌∙◌, subst, arith, slice_get, ◌==◌}
+use Rattle.std.proofs.Common.{◌≡◌, ℕ, zero, suc, ◌<◌, ◌≤◌, Bool, true, false, ◌&&◌, cond, List, [], ◌∷◌, length, get_or, Option, Some, None, MatchBool, MatchOption, All, ◌⊎◌, inl, inr, refl, sym, ap, ◌∙◌, subst, arith, slice_get, ◌==◌}
 use Rattle.std.proofs.lemmas.Bool.{cases_eq, cases_lt, false≢true, eq-eqb, eqb-true}
 use Rattle.std.proofs.lemmas.Bool.Decides.{nat_tests}
-use Rattle.std.proofs.lemmas.Option.{same_Some, none-some, slice_get_within, slice_get-get_or}
+use Rattle.std.proofs.lemmas.Option.{same_Some, none-some, slice_get_within, slice_get-get_or, get_or_from_slice_get}
 use Rattle.sd_types.specs.declared.numbers.CpuId.{CpuId}
-use Rattle.sd_choose.specs.Choices.{is_among, HasHint, IsLeastBusy, IsBestByHints, IsChosen, IsVictim}
-use Rattle.sd_choose.specs.Functions.{least_hint, greatest_hint, with_hint, least_number, preferred, chosen, victim_of}
+use Rattle.sd_rules.specs.Choices.{is_among, HasHint, IsLeastBusy, IsBestByHints, IsChosen, IsVictim}
+use Rattle.sd_choose.proofs.ChoiceLemmas.{same_victim}
+use Rattle.sd_rules.specs.ChoiceFunctions.{least_hint, greatest_hint, with_hint, least_number, preferred, chosen, victim_of}
 
 bool_cases : (b : Bool) → (b ≡ true) ⊎ (b ≡ false)
 bool_cases true = inl refl
@@ -123,7 +124,7 @@ among-some : (x : CpuId) (cpus : List CpuId) → is_among x cpus ≡ true → 0 
 among-some x [] h = absurd (false≢true h)
 among-some x (c ∷ cs) h = omega arith
 
--- some processor has the hint that stands at a place
+-- some processor has the hint that stands at an index
 at_hint : (cpus : List CpuId) (hints : List ℕ) (i hint : ℕ) → length cpus ≡ length hints → slice_get hints i ≡ Some hint → (x : CpuId) × HasHint cpus hints x hint
 at_hint cpus hints i hint long e =
     let within = slice_get_within hints i hint e in
@@ -210,3 +211,26 @@ pub victim_is : (cpus : List CpuId) (hints : List ℕ) → length cpus ≡ lengt
 victim_is cpus hints long =
     victim-by (greatest_hint hints == 0) cpus hints (least_number (with_hint (greatest_hint hints) cpus hints))
     (λ e. none-from hints (eqb-true (greatest_hint hints) 0 e)) (λ e. victim-from cpus hints long (above_zero (greatest_hint hints) e))
+
+-- ---- a choice is what its function gives
+
+pub no_victim : (cpus : List CpuId) (hints : List ℕ) (c : CpuId) → All (λ hint. hint ≡ 0) hints → IsVictim cpus hints c → ⊥
+no_victim cpus hints c zeros v =
+    let here = get_or_from_slice_get hints v.has.0 v.hint 0 v.has.2 in
+    let zero = zeros v.has.0 0 (slice_get_within hints v.has.0 v.hint v.has.2) in
+    let some = v.some in
+    omega arith
+
+pub victim-none : (cpus : List CpuId) (hints : List ℕ) → length cpus ≡ length hints → All (λ hint. hint ≡ 0) hints → None ≡ victim_of cpus hints
+victim-none cpus hints long zeros = by (victim_of cpus hints) (victim_is cpus hints long)
+  where
+    by : (o : Option CpuId) → MatchOption o (All (λ hint. hint ≡ 0) hints) (IsVictim cpus hints) → None ≡ o
+    by None all = refl
+    by (Some d) v = absurd (no_victim cpus hints d zeros v)
+
+pub victim-some : (cpus : List CpuId) (hints : List ℕ) (c : CpuId) → length cpus ≡ length hints → IsVictim cpus hints c → Some c ≡ victim_of cpus hints
+victim-some cpus hints c long v = by (victim_of cpus hints) (victim_is cpus hints long)
+  where
+    by : (o : Option CpuId) → MatchOption o (All (λ hint. hint ≡ 0) hints) (IsVictim cpus hints) → Some c ≡ o
+    by None all = absurd (no_victim cpus hints c all v)
+    by (Some d) w = ap Some (same_victim cpus hints c d v w)

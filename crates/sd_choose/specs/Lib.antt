@@ -1,4 +1,1 @@
-pub mod Choices
-pub mod Marks
 pub mod Orders
-pub mod Functions

@@ -12,7 +12,7 @@ is_busier c hint d other = if hint == other then nat_lt c.0 d.0 else nat_lt othe
 abbrev pub no_cpu : CpuId
 no_cpu = record { 0 = 0 }
 
--- of the first n places none comes before this one
+-- of the first n processors none comes before this one
 abbrev pub IsBestByHintsAt : List CpuId → List ℕ → CpuId → ℕ → ℕ → Type 0
 IsBestByHintsAt cpus hints last n best = (k : ℕ) → k < n
     → is_less_busy last (slice_index_or cpus k no_cpu) (slice_index hints k) (slice_index_or cpus best no_cpu) (slice_index hints best) ≡ false

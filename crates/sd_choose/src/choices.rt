@@ -2,7 +2,8 @@
 
 ghost use Rattle.std.specs.Prelude.{◌≡◌, ◌<◌, ◌↔◌, length, All, Contains, IsNone, IfSome};
 ghost use Rattle.sd_types.specs.declared.numbers.CpuId.{CpuId};
-ghost use Rattle.sd_choose.specs.Choices.{is_among, IsChosen, IsVictim};
+ghost use Rattle.sd_rules.specs.Choices.{is_among, IsChosen, IsVictim};
+ghost use Rattle.sd_rules.specs.ChoiceFunctions.{chosen, victim_of};
 ghost use Rattle.sd_choose.specs.Orders.{is_less_busy, is_busier, IsBestByHintsAt, IsBusiestAt};
 
 use sd_types::CpuId;
@@ -13,6 +14,7 @@ use sd_types::CpuId;
 pub fn choose(cpus: &[CpuId], hints: &[u8], last: CpuId, warm: bool) -> CpuId
     requires some { 0 < length cpus.now }
     requires hints { length cpus.now ≡ length hints.now }
+    ensures value { result ≡ chosen cpus.now hints.now last warm }
     ensures chosen { IsChosen cpus.now hints.now last warm result }
     ensures only { (c : CpuId) → IsChosen cpus.now hints.now last warm c → result ≡ c }
     ensures among { Contains cpus.now result }
@@ -27,6 +29,7 @@ pub fn choose(cpus: &[CpuId], hints: &[u8], last: CpuId, warm: bool) -> CpuId
 /// `hints` are the greatest priorities of the threads that are queued there, plus 1, or 0.
 pub fn victim(cpus: &[CpuId], hints: &[u8]) -> Option<CpuId>
     requires { length cpus.now ≡ length hints.now }
+    ensures value { result ≡ victim_of cpus.now hints.now }
     ensures none { IsNone result ↔ All (λ hint. hint ≡ 0) hints.now }
     ensures victim { IfSome result (IsVictim cpus.now hints.now) }
     ensures only { (c : CpuId) → IsVictim cpus.now hints.now c → result ≡ Some c }
@@ -34,11 +37,11 @@ pub fn victim(cpus: &[CpuId], hints: &[u8]) -> Option<CpuId>
     if cpus.is_empty() {
         return None;
     }
-    let place = busiest(cpus, hints);
-    if hints[place] == 0 {
+    let index = busiest(cpus, hints);
+    if hints[index] == 0 {
         None
     } else {
-        Some(cpus[place])
+        Some(cpus[index])
     }
 }
 
@@ -48,7 +51,7 @@ fn is_among(cpu: CpuId, cpus: &[CpuId]) -> bool
     cpus.iter().any(|other| other.0 == cpu.0)
 }
 
-/// The place of the best by the hints.
+/// The index of the best by the hints.
 fn least_busy(cpus: &[CpuId], hints: &[u8], last: CpuId) -> usize
     requires some { 0 < length cpus.now }
     requires hints { length cpus.now ≡ length hints.now }
@@ -75,7 +78,7 @@ fn is_less_busy(last: CpuId, cpu: CpuId, hint: u8, other: CpuId, other_hint: u8)
     }
 }
 
-/// The place of the greatest hint, and of the least number where it stands several times.
+/// The index of the greatest hint, and of the least number where it stands several times.
 fn busiest(cpus: &[CpuId], hints: &[u8]) -> usize
     requires some { 0 < length cpus.now }
     requires hints { length cpus.now ≡ length hints.now }

@@ -10,4 +10,5 @@ mod tests;
 
 pub use choices::{choose, victim};
 pub use laws::{functions_choose, one_choice, one_victim};
-pub use marks::{MarkKind, mark};
+pub use marks::mark;
+pub use sd_rules::MarkKind;

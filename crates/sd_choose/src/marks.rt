@@ -1,19 +1,13 @@
 //! The mark that a processor gets when a thread comes to one of its queues.
 
 ghost use Rattle.std.specs.Prelude.{◌≡◌};
-ghost use Rattle.sd_choose.specs.Marks.{mark_of};
+ghost use Rattle.sd_rules.specs.Marks.{mark_of};
 
-/// What is marked: nothing, that the running thread is to be preempted in user mode, or at once
-/// (Solaris Internals: `cpu_runrun` and `cpu_kprunrun`).
-#[derive(Clone, Copy, Debug, PartialEq, Eq)]
-pub enum MarkKind {
-    Nothing,
-    User,
-    Kernel,
-}
+use sd_rules::MarkKind;
+use sd_types::REAL_TIME_PRIORITY;
 
 /// The least priority that preempts at once: that of the real-time class (Solaris Internals: `kpqpri`).
-const KERNEL_PRIORITY: u8 = 100;
+const KERNEL_PRIORITY: u8 = REAL_TIME_PRIORITY;
 
 /// The mark of a processor on which a thread of effective priority `running` runs, or none, where `queued` is the
 /// effective priority of a thread that is to run there.

@@ -1,6 +1,8 @@
 //! The fixed-priority class.
 
 ghost use Rattle.std.specs.Prelude.{◌≡◌, ◌≤◌};
+ghost use Rattle.sd_types.specs.declared.classes.ClassState.TheVariants.{Fx};
+ghost use Rattle.sd_types.specs.Priorities.{base_of};
 ghost use Rattle.sd_rules.specs.ClassRules.{fx_tick, fx_wake, quantum_expires};
 
 use crate::quanta::{full_quantum, left_after_tick};
@@ -8,13 +10,13 @@ use sd_types::{FixedTable, FxState};
 
 /// The base priority, 0 to 60: the thread's own.
 pub fn fx_global(s: &FxState) -> u8
-    ensures value { result ≡ s.now.pri }
+    ensures value { result ≡ base_of (Fx s.now) }
     ensures level { result ≤ 60 }
 {
-    s.pri
+    s.base()
 }
 
-/// A tick of the running thread: `left` falls by one, unless the quantum has no end. Answers true exactly where the
+/// A tick of the running thread: `left` falls by one, unless the quantum is infinite. Returns true exactly where the
 /// quantum has expired; `left` is then the full quantum again.
 #[tactic(auto, unfolding(sd_rules::specs::ClassRules::fx_tick))]
 pub fn fx_tick(s: &mut FxState, t: &FixedTable) -> bool

@@ -7,6 +7,8 @@
 mod fixed;
 mod quanta;
 mod system;
+#[cfg(test)]
+mod tests;
 
 pub use fixed::{fx_global, fx_tick, fx_wake};
 pub use quanta::{full_quantum, left_after_tick};

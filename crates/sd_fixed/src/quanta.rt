@@ -1,4 +1,4 @@
-//! Quanta that may have no end, as threads of the fixed-priority and the real-time class have them.
+//! Quanta that may be infinite, as threads of the fixed-priority and the real-time class have them.
 
 ghost use Rattle.std.specs.Prelude.{◌≡◌};
 ghost use Rattle.sd_types.specs.ClassNumbers.{IsQuantum, IsLeft};
@@ -6,7 +6,7 @@ ghost use Rattle.sd_rules.specs.ClassRules.{full_quantum, left_after_tick, quant
 
 use sd_types::{FixedTable, Quantum};
 
-/// The ticks of a full quantum at a level (at least 1), or 0 where it has no end. A level for which the table has
+/// The ticks of a full quantum at a level (at least 1), or 0 where it is infinite. A level for which the table has
 /// no row has the quantum of the last row.
 pub fn full_quantum(t: &FixedTable, level: u8, quantum: Quantum) -> u64
     ensures value { result ≡ full_quantum t.now level quantum }
@@ -22,8 +22,8 @@ pub fn full_quantum(t: &FixedTable, level: u8, quantum: Quantum) -> u64
     }
 }
 
-/// The ticks that are left of a quantum after a tick: `full` where it has expired. Answers also whether it has,
-/// which one without end never does.
+/// The ticks that are left of a quantum after a tick: `full` where it has expired. Returns also whether it has,
+/// which an infinite one never does.
 pub fn left_after_tick(quantum: Quantum, full: u64, left: u64) -> (u64, bool)
     ensures left { result.0 ≡ left_after_tick quantum full left }
     ensures expired { result.1 ≡ quantum_expires quantum left }

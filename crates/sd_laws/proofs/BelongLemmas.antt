@@ -1,7 +1,8 @@
 -- Each thread is in its own set, in a place that the workload has.
-use Rattle.std.proofs.Common.{◌≡◌, ℕ, ◌+◌, ◌<◌, ◌≤◌, ◌%◌, Bool, true, false, cond, ◌&&◌, ◌==◌, leb, length, Option, Some, None, is_none, ℤ, pos, refl, sym, ap, ◌∙◌, subst, inl, inr, arith}
+use Rattle.std.proofs.Common.{◌≡◌, ℕ, ◌+◌, ◌<◌, ◌≤◌, ◌%◌, Bool, true, false, cond, ◌&&◌, ◌==◌, leb, length, get_or, Option, Some, None, is_none, ℤ, pos, refl, sym, ap, ◌∙◌, subst, inl, inr, arith}
 use Rattle.std.specs.Prelude.{slice_get, ⊤}
 use Rattle.std.proofs.lemmas.Bool.{false≢true, cases_eq, or_cases, eqb-true}
+use Rattle.std.proofs.lemmas.List.{get_or_default}
 use Rattle.std.proofs.lemmas.List.FromFn.{get_or-map-range_with_len}
 use Rattle.std.proofs.Math.Nat.{mod-lt}
 use Rattle.sd_types.specs.declared.numbers.CpuId.{CpuId}
@@ -29,7 +30,7 @@ use Rattle.sd_laws.proofs.Causes.{IsCause, caused}
 use Rattle.sd_laws.proofs.Changes.{Change, Keep, Put, IsChanged, move, place_after, cpu_sets, set_after}
 use Rattle.sd_laws.proofs.Chosen.{places, runs_there, best_ready_is}
 use Rattle.sd_laws.proofs.Induction.{IsKept, in_runs}
-use Rattle.sd_laws.proofs.SetLemmas.{cpus_some, cpus_member}
+use Rattle.sd_part.proofs.PartitionLemmas.{some_cpu, in_no_other}
 use Rattle.sd_laws.proofs.Declared.{decl_set, decl_set_there, set_there, opening_at, opening_past}
 
 -- what is kept together
@@ -92,9 +93,9 @@ module _ (w : Work) (s s' : State) (sets : (d : ℕ) → cpu_sets s' d ≡ cpu_s
     | inr other ↦ subst (IsThere w) (sym (put.others t (λ e. other (sym e)))) (at.there t)
   ]
 
--- The opening.
+-- The initial state.
 
--- a processor of the opening is in the set that the workload gives it
+-- a processor of the initial state is in the set that the workload gives it
 opening_set : (w : Work) (c : ℕ) → c < w.cpus → (cpu_of (opening w) c).set.0 ≡ set_of_cpu w c
 unfolding opening first_cpu_state
 opening_set w c here = ap (λ (x : CpuState). x.set.0) (get_or-map-range_with_len (first_cpu_state w) 0 w.cpus c c no_cpu here (omega arith))
@@ -103,11 +104,15 @@ same_set : (p q : SetId) → p.0 ≡ q.0 → p ≡ q
 same_set p q e = ap (λ (n : ℕ). let r : SetId = record { 0 = n } in r) e
 
 module _ (w : Work) (t : ℕ) (d : ThreadDecl) (is : slice_get w.threads t ≡ Some d) where
-  -- the processor on whose queue a thread stands at the opening
+  -- the processor on whose queue a thread stands in the initial state
   first_cpu_well : (k : ℕ) → ((dealt_cpu (cpus_of_set w d.set.0) k).0 < w.cpus) × ((cpu_of (opening w) (dealt_cpu (cpus_of_set w d.set.0) k).0).set ≡ d.set)
   first_cpu_well k =
-      let some = cpus_some w d.set.0 (decl_set_there w t d is) in
-      let member = cpus_member w d.set.0 (k % length (cpus_of_set w d.set.0)) (record { 0 = 0 }) (mod-lt k some) in
+      let some = some_cpu w d.set.0 (decl_set_there w t d is) in
+      let cpus = cpus_of_set w d.set.0 in
+      let inside = mod-lt k some in
+      let none : CpuId = record { 0 = 0 } in
+      let one = get_or cpus (k % length cpus) none in
+      let member = in_no_other w one d.set.0 (k % length cpus, inside, get_or_default cpus (k % length cpus) one none inside) in
       (member.0, same_set _ d.set (opening_set w (dealt_cpu (cpus_of_set w d.set.0) k).0 member.0 ∙ member.1))
 
   first_well : (k : ℕ) → IsInItsSet w (opening w) t (first_thread w k d).place × IsThere w (first_thread w k d).place

@@ -1,4 +1,4 @@
--- What holds at the opening and is kept by every step holds in the states of every run.
+-- What holds in the initial state and is kept by every step holds in the states of every run.
 use Rattle.std.proofs.lemmas.List.{length-take-le}
 use Rattle.std.proofs.Common.{◌≤◌, ◌≡◌, ℕ, ◌+◌, List, [], ◌∷◌, length, take, Option, Some, subst, sym, arith}
 use Rattle.sd_types.specs.declared.numbers.CpuId.{CpuId}
@@ -35,7 +35,7 @@ module _ (P : Work → ℕ → State → Type 0) (k : IsKept P) where
 pub in_runs : (P : Work → State → Type 0) → IsKept (λ w n s. P w s) → HoldsInRuns P
 in_runs P k w es r = after_runs (λ w n s. P w s) k w es r
 
--- the front of a run is a run
+-- a prefix of a run is a run
 pub run_front : (w : Work) (es : List Entry) (k : ℕ) → IsRun w es → IsRun w (take k es)
 run_front w es k r = from-IsRun w (take k es) (IsRunFrom-take w (opening w) 0 k es (IsRun-from w es r))
 

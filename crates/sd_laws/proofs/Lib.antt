@@ -10,4 +10,4 @@ pub mod MarkLemmas
 pub mod Openings
 pub mod QueueLemmas
 pub mod RunningLemmas
-pub mod SetLemmas
+pub mod SerialLemmas

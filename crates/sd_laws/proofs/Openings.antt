@@ -1,4 +1,4 @@
--- The opening, thread by thread and processor by processor.
+-- The initial state, thread by thread and processor by processor.
 use Rattle.std.proofs.Common.{◌≡◌, ℕ, zero, suc, ◌+◌, ◌<◌, true, false, List, [], ◌∷◌, length, get_or, cond, map, inl, inr, pos, refl, ap, ◌∙◌, arith}
 use Rattle.std.proofs.lemmas.Bool.{false≢true, cases_lt}
 use Rattle.std.specs.List.{range_with_len}
@@ -20,7 +20,7 @@ none_running w k [] t c = refl
 none_running w k (d ∷ ds) zero c = first_not_running w k d c
 none_running w k (d ∷ ds) (suc t) c = none_running w (k + 1) ds t c
 
--- no thread runs at the opening
+-- no thread runs in the initial state
 pub opening_runs_none : (w : Work) (t c : ℕ) → is_running c (thread_of (opening w) t).place ≡ false
 unfolding opening
 opening_runs_none w t c = none_running w 0 w.threads t c
@@ -37,7 +37,7 @@ number_key w k (d ∷ ds) (suc t) has =
     let rest = number_key w (k + 1) ds t has in
     (let inside = rest.0 in omega arith, rest.1 ∙ ap pos (let e : k + 1 + t ≡ k + suc t = omega arith in e))
 
--- a thread that has a key at the opening has its number as key
+-- a thread that has a key in the initial state has its number as key
 pub opening_key : (w : Work) (t : ℕ) → has_key (thread_of (opening w) t).place ≡ true → (t < length w.threads) × (key_of (thread_of (opening w) t).place ≡ pos t)
 unfolding opening
 opening_key w t has =
@@ -48,7 +48,7 @@ first_unmarked : (w : Work) (c : ℕ) → is_marked (first_cpu_state w c) ≡ fa
 unfolding first_cpu_state
 first_unmarked w c = refl
 
--- no processor is marked at the opening
+-- no processor is marked in the initial state
 pub opening_unmarked : (w : Work) (c : ℕ) → is_marked (cpu_of (opening w) c) ≡ false
 unfolding opening
 opening_unmarked w c = elim (cases_lt c w.cpus) [

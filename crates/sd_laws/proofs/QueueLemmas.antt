@@ -96,7 +96,7 @@ suits_after w s n c e cause at t = elim (cases_Bool (touches (move w s n c e) t 
       (subst (λ o. SuitsQueue (priorities s t) o (places s t)) (sym (bound_after w s n c e cause t)) (at.each t)))
 ]
 
--- The opening.
+-- The initial state.
 
 first_suits : (w : Work) (t : ℕ) (d : ThreadDecl) → class_fits d.class d.cpupri ≡ true → SuitsQueue (eff (first_thread w t d).body) (first_thread w t d).body.bound (first_thread w t d).place
 unfolding first_thread

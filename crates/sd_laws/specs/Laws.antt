@@ -8,7 +8,6 @@ use Rattle.sd_types.specs.declared.events.Entry.{Entry}
 use Rattle.sd_types.specs.declared.works.ThreadDecl.{ThreadDecl}
 use Rattle.sd_types.specs.declared.works.Work.{Work}
 use Rattle.sd_types.specs.Priorities.{base_of, eff}
-use Rattle.sd_types.specs.Partitions.{cpus_of_set}
 use Rattle.sd_types.specs.Works.{class_fits}
 use Rattle.sd_machine.specs.declared.states.Place.{Place}
 use Rattle.sd_machine.specs.declared.states.Place.TheVariants.{Running, Queued, RealTime, Waiting, Asleep, Napping, Ended}
@@ -18,9 +17,9 @@ use Rattle.sd_machine.specs.States.{thread_of, cpu_of, key_of, is_running, is_qu
 use Rattle.sd_machine.specs.Dispatching.{thread_set}
 use Rattle.sd_machine.specs.Machine.{after}
 use Rattle.sd_machine.specs.Opening.{opening, class_of, is_urgent}
-use Rattle.sd_machine.specs.Runs.{final, IsRun, IsStep}
+use Rattle.sd_machine.specs.Runs.{final, IsRun, IsStep, IsSerial}
 
--- in the last state of every run, for the number of entries that led to it; and since the front of a run is a run,
+-- in the last state of every run, for the number of entries that led to it; and since a prefix of a run is a run,
 -- in each of its states
 abbrev pub HoldsAfter : (Work → ℕ → State → Type 0) → Type 0
 HoldsAfter P = (w : Work) (es : List Entry) → IsRun w es → P w (length es) (final w (opening w) es)
@@ -92,7 +91,7 @@ abbrev pub EachInItsSet : Work → State → Type 0
 EachInItsSet w s = (t : ℕ) → t < length s.threads → IsInItsSet w s t (thread_of s t).place
 
 -- of priority p and bound to a processor or to none, a thread on a real-time queue has at least priority 100 and is not
--- bound, and one on a processor's own queue has less, or is bound to that processor
+-- bound, and one on a processor's own queue has a smaller one, or is bound to that processor
 abbrev pub SuitsQueue : ℕ → Option CpuId → Place → Type 0
 SuitsQueue p bound (Queued c k) = (p < 100) ⊎ (bound ≡ Some c)
 SuitsQueue p bound (RealTime q k) = (100 ≤ p) × (bound ≡ None)
@@ -122,14 +121,14 @@ OneNext =
     (w : Work) (s : State) (d e : Entry) → d.number ≡ e.number → d.cpu ≡ e.cpu → d.hints ≡ e.hints → IsStep w s d → IsStep w s e
     → (d.event ≡ e.event) × (after w s d.number d.cpu d.event ≡ after w s e.number e.cpu e.event)
 
--- the threads that the opening puts on real-time queues are those of priority 100 or more
+-- the threads that stand on real-time queues in the initial state are those of priority 100 or more
 abbrev pub UrgentThreads : Type 0
 UrgentThreads = (w : Work) (d : ThreadDecl) → class_fits d.class d.cpupri ≡ true → is_urgent d ≡ nat_le 100 (base_of (class_of w d))
 
--- each partition of a workload has a processor
-abbrev pub PartitionsHaveCpus : Type 0
-PartitionsHaveCpus = (w : Work) (p : ℕ) → p ≤ length w.sets → 0 < length (cpus_of_set w p)
-
--- the front of a run is a run, so that what holds after every run holds in each state of one
+-- a prefix of a run is a run, so that what holds after every run holds in each state of one
 abbrev pub FrontsAreRuns : Type 0
 FrontsAreRuns = (w : Work) (es : List Entry) (k : ℕ) → IsRun w es → IsRun w (take k es)
+
+-- two runs of a workload that go in rounds of the same orders are equal
+abbrev pub OneSerial : Type 0
+OneSerial = (w : Work) (orders : ℕ → List CpuId) (es fs : List Entry) → IsSerial w orders es → IsSerial w orders fs → es ≡ fs

@@ -1,6 +1,6 @@
 //! The laws, each as the contract of a function without a body.
 
-ghost use Rattle.sd_laws.specs.Laws.{EachInItsSet, FrontsAreRuns, HoldsAfter, HoldsInRuns, KeysDiffer, KeysWithin, MarksStand, OneNext, OneRuns, PartitionsHaveCpus, PlacesAreThere, QueuesSuit, UrgentThreads};
+ghost use Rattle.sd_laws.specs.Laws.{EachInItsSet, FrontsAreRuns, HoldsAfter, HoldsInRuns, KeysDiffer, KeysWithin, MarksStand, OneNext, OneRuns, OneSerial, PlacesAreThere, QueuesSuit, UrgentThreads};
 
 /// At most one thread runs on each processor, in every state of every run.
 pub fn one_runs()
@@ -22,14 +22,14 @@ pub fn one_next()
     ensures { OneNext }
 {}
 
-/// The threads that the opening puts on real-time queues are those of priority 100 or more.
+/// The threads that stand on real-time queues in the initial state are those of priority 100 or more.
 pub fn urgent_threads()
     ensures { UrgentThreads }
 {}
 
 /// Where a thread runs and one on the processor's own queue has a greater effective priority, the processor has
 /// the user's or the kernel's mark; and a processor on which no thread runs has no mark.
-pub fn is_marked()
+pub fn marks_stand()
     ensures { HoldsInRuns (λ w s. MarksStand s) }
 {}
 
@@ -46,17 +46,17 @@ pub fn places_are_there()
 {}
 
 /// A thread on a real-time queue has at least priority 100 and is not bound to a processor; one on a processor's
-/// own queue has less, or is bound to that processor.
+/// own queue has a smaller one, or is bound to that processor.
 pub fn queues_suit()
     ensures { HoldsInRuns (λ w s. QueuesSuit s) }
 {}
 
-/// Each partition of a workload, the default one too, has a processor.
-pub fn partitions_have_cpus()
-    ensures { PartitionsHaveCpus }
-{}
-
-/// The first entries of a run are a run. So what a law says of the state after every run it says of each state in one.
+/// A prefix of a run is a run. So what a law says of the state after every run it says of each state in one.
 pub fn fronts_are_runs()
     ensures { FrontsAreRuns }
+{}
+
+/// A workload has at most one run that goes in rounds of these orders: two lists that are it are equal.
+pub fn one_serial()
+    ensures { OneSerial }
 {}

@@ -5,6 +5,6 @@
 mod laws;
 
 pub use laws::{
-    each_in_its_set, fronts_are_runs, is_marked, keys_differ, keys_within, one_next, one_runs,
-    partitions_have_cpus, places_are_there, queues_suit, urgent_threads,
+    each_in_its_set, fronts_are_runs, keys_differ, keys_within, marks_stand, one_next, one_runs,
+    one_serial, places_are_there, queues_suit, urgent_threads,
 };

@@ -83,7 +83,7 @@ best_kept on beats d xs (Some b) i before behind =
       first = before.first;
     }
 
--- the place of the first that passes
+-- the index of the first that passes
 pub position_is : {X : Type 0} (p : X → Bool) (xs : List X) (b : ℕ) (d : X) → b < length xs → p (get_or xs b d) ≡ true
     → ((k : ℕ) → k < b → p (get_or xs k d) ≡ false) → position p xs ≡ Some b
 position_is p xs b d h here none =

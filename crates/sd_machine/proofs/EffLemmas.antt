@@ -1,4 +1,4 @@
--- The greatest willed number as a running maximum.
+-- The greatest inherited priority as a running maximum.
 use Rattle.std.proofs.Common.{◌≡◌, ℕ, ◌+◌, ◌<◌, max, List, [], ◌∷◌, length, get_or, drop, arith}
 use Rattle.std.proofs.lemmas.List.{drop_more}
 use Rattle.sd_types.specs.declared.numbers.LockId.{LockId}

@@ -1,4 +1,4 @@
--- The opening has the threads and processors of its workload.
+-- The initial state has the threads and processors of its workload.
 use Rattle.std.proofs.Common.{◌≡◌, ℕ, suc, ◌+◌, List, [], ◌∷◌, length, refl, ap}
 use Rattle.std.proofs.lemmas.List.FromFn.{length-map-range_with_len}
 use Rattle.sd_types.specs.declared.works.ThreadDecl.{ThreadDecl}

@@ -12,7 +12,7 @@ use Rattle.sd_machine.specs.States.{key_of, is_ready, is_running}
 abbrev pub leads_by : {X : Type 0} → (X → Bool) → (X → X → Bool) → List X → X → Bool
 leads_by on beats xs x = on x && list_all (λ u. not (on u && beats u x)) xs
 
--- the place of the first that leads
+-- the index of the first that leads
 abbrev pub best_by : {X : Type 0} → (X → Bool) → (X → X → Bool) → List X → Option ℕ
 best_by on beats xs = position (leads_by on beats xs) xs
 
@@ -21,7 +21,7 @@ abbrev pub queue_rank : Place → ℕ
 queue_rank (RealTime p k) = 0
 queue_rank _ = 1
 
--- the greater priority goes first, then the real-time queue, then the less key
+-- the greater priority goes first, then the real-time queue, then the smaller key
 abbrev pub goes_before : ℕ → ℕ → ℤ → ℕ → ℕ → ℤ → Bool
 goes_before p rank key q rank' key' = nat_lt q p || ((p == q) && (nat_lt rank rank' || ((rank == rank') && int_lt key key')))
 

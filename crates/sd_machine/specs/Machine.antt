@@ -14,9 +14,10 @@ use Rattle.sd_types.specs.declared.events.Duty.{Duty}
 use Rattle.sd_types.specs.declared.events.Duty.TheVariants.{Nothing}
 use Rattle.sd_types.specs.declared.events.Hints.{Hints}
 use Rattle.sd_types.specs.declared.events.Event.{Event}
-use Rattle.sd_types.specs.declared.events.Event.TheVariants.{Tick, Spin, Idle, Dispatch, Preempt, Done}
+use Rattle.sd_types.specs.declared.events.Event.TheVariants.{Tick, Idle, Dispatch, Preempt, Done}
 use Rattle.sd_types.specs.declared.bodies.ThreadBody.{ThreadBody}
 use Rattle.sd_types.specs.declared.works.Work.{Work}
+pub use Rattle.sd_types.specs.Events.{ticks}
 use Rattle.sd_types.specs.Priorities.{eff}
 use Rattle.sd_rules.specs.ClassRules.{end_of}
 use Rattle.sd_machine.specs.declared.states.CpuState.{CpuState}
@@ -74,12 +75,6 @@ duty_event w s c _ = None
 -- the one event that the order of a processor's events gives to processor c, whether or not it may tick now
 unfoldable pub wish : Work → State → ℕ → Option Event
 wish w s c = duty_event w s c (cpu_of s c).duty
-
-abbrev pub ticks : Event → Bool
-ticks (Tick t) = true
-ticks (Spin t l) = true
-ticks Idle = true
-ticks _ = false
 
 -- the processor's count is below the limit, and no processor's is below it
 unfoldable pub may_tick : Work → State → ℕ → Bool

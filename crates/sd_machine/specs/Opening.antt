@@ -7,16 +7,14 @@ use Rattle.sd_types.specs.declared.names.Name.{Name}
 use Rattle.sd_types.specs.declared.classes.ClassParms.{ClassParms}
 use Rattle.sd_types.specs.declared.classes.ClassParms.TheVariants as parms
 use Rattle.sd_types.specs.declared.classes.ClassState.{ClassState}
-use Rattle.sd_types.specs.declared.classes.ClassState.TheVariants.{Ts, Fx, Sys, Rt}
 use Rattle.sd_types.specs.declared.events.Duty.TheVariants.{Nothing}
 use Rattle.sd_types.specs.declared.bodies.ThreadBody.{ThreadBody}
 use Rattle.sd_types.specs.declared.works.ChanKind.{ChanKind}
 use Rattle.sd_types.specs.declared.works.ChanKind.TheVariants.{Chan, Sema}
 use Rattle.sd_types.specs.declared.works.ThreadDecl.{ThreadDecl}
 use Rattle.sd_types.specs.declared.works.Work.{Work}
-use Rattle.sd_types.specs.TableRows.{ts_row_of}
 use Rattle.sd_types.specs.Partitions.{set_of_cpu, cpus_of_set}
-use Rattle.sd_rules.specs.ClassRules.{full_quantum}
+use Rattle.sd_rules.specs.FirstStates.{first_state}
 use Rattle.arrayvec.specs.ArrayVec.{ArrayVec}
 use Rattle.sd_machine.specs.declared.states.Place.{Place}
 use Rattle.sd_machine.specs.declared.states.Place.TheVariants.{Queued, RealTime}
@@ -28,13 +26,7 @@ use Rattle.sd_machine.specs.Operations.{ticks_at}
 
 -- the class state of a declared thread, with a whole quantum
 abbrev pub first_class : Work → ClassParms → ℕ → ClassState
-first_class w (parms.Ts limit upri) cpupri =
-    Ts (record { cpupri = cpupri; limit = limit; upri = upri; left = (ts_row_of w.ts cpupri).ticks; wait = 0 })
-first_class w (parms.Fx limit pri quantum) cpupri =
-    Fx (record { limit = limit; pri = pri; quantum = quantum; left = full_quantum w.fx pri quantum })
-first_class w (parms.Sys pri) cpupri = Sys (record { pri = pri })
-first_class w (parms.Rt pri quantum) cpupri =
-    Rt (record { pri = pri; quantum = quantum; left = full_quantum w.rt pri quantum })
+first_class w p cpupri = first_state w.ts w.fx w.rt p cpupri
 
 abbrev pub class_of : Work → ThreadDecl → ClassState
 class_of w d = first_class w d.class d.cpupri
@@ -47,11 +39,11 @@ is_real_time_class _ = false
 abbrev pub is_urgent : ThreadDecl → Bool
 is_urgent d = is_real_time_class d.class
 
--- the threads of a set that are not urgent are dealt out to its processors in turn
+-- the threads of a set that are not urgent are assigned round-robin to its processors
 abbrev pub is_dealt : ℕ → ThreadDecl → Bool
 is_dealt p d = (d.set.0 == p) && not (is_urgent d)
 
--- how many of the threads before t are dealt out in set p
+-- how many of the threads before t are assigned round-robin in set p
 abbrev pub turn_of : Work → ℕ → ℕ → ℕ
 turn_of w p t = count_by (is_dealt p) (take t w.threads)
 

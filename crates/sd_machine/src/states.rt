@@ -6,7 +6,7 @@ use arrayvec::ArrayVec;
 use sd_types::{ChanId, CpuId, Duty, List, LockId, SetId, Side, ThreadBody, ThreadId};
 
 /// Where a thread is. A number of type `i64` is its key: of two threads of the same effective priority in one
-/// queue the one with the less key is better. A napper is due when its processor has counted that many ticks.
+/// queue the one with the smaller key is better. A napper is due when its processor has counted that many ticks.
 #[derive(Clone, Copy)]
 pub enum Place {
     Running(CpuId),

@@ -8,13 +8,13 @@ use Rattle.sd_machine.specs.Runs.{IsRunFrom, IsRun}
 use Rattle.sd_model.specs.declared.replays.ReplayFault.{ReplayFault}
 use Rattle.sd_model.specs.declared.replays.ReplayFault.TheVariants.{Illegal, Memory}
 
--- the entries before place k make steps from the state, and those up to it do not
+-- the entries before index k make steps from the state, and those up to it do not
 pub record IsIllegalFrom (w : Work) (s : State) (es : List Entry) (k : ℕ) : Type 0 where
   pub inside : k < length es
   pub before : IsRunFrom w s 0 (take k es)
   pub illegal : ¬ (IsRunFrom w s 0 (take (k + 1) es))
 
--- the entry at place k is the first that is no step, or whose number is not its place
+-- the entry at index k is the first that is no step, or whose number is not its index
 pub record IsIllegal (w : Work) (es : List Entry) (k : ℕ) : Type 0 where
   pub inside : k < length es
   pub before : IsRun w (take k es)

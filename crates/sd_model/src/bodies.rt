@@ -6,7 +6,7 @@ ghost use Rattle.sd_machine.specs.Machine.{is_ts};
 ghost use Rattle.sd_machine.specs.Operations.{op_over, ran, script_of};
 ghost use Rattle.sd_machine.specs.Dispatching.{ticked_body, rival, sent_back, left, requeued};
 
-use crate::reads::{effective, script_of, ticks_at};
+use crate::reads::{script_of, ticks_at};
 use sd_types::{ClassState, Op, Quantum, ThreadBody, ThreadId, Work};
 
 /// The operation is over.
@@ -82,7 +82,7 @@ fn rival(best: Option<u8>, expired: bool, b: &ThreadBody) -> Option<u8>
 {
     match best {
         Some(m) => {
-            if expired && effective(b) <= m {
+            if expired && b.effective() <= m {
                 Some(m)
             } else {
                 None
@@ -92,7 +92,7 @@ fn rival(best: Option<u8>, expired: bool, b: &ThreadBody) -> Option<u8>
     }
 }
 
-/// The running thread has run for a tick, and the best that is ready has priority `best`. Answers that priority
+/// The running thread has run for a tick, and the best that is ready has priority `best`. Returns that priority
 /// where the thread has to make room for it.
 pub(crate) fn tick_thread(
     work: &Work,

@@ -8,10 +8,10 @@ ghost use Rattle.sd_machine.specs.Dispatching.{end_key, unmarked, duty_at, count
 ghost use Rattle.sd_model.specs.Possible.{CanHappen, CanRun};
 
 use crate::bodies::{leave, requeue, tick_thread};
-use crate::reads::{cpu_at, effective, thread_at, thread_set};
+use crate::reads::{cpu_at, thread_at, thread_set};
 use crate::scans::best_ready;
 use sd_machine::{CpuState, Place, State};
-use sd_types::{CpuId, Duty, End, Event, ThreadBody, ThreadId, Work};
+use sd_types::{CpuId, Duty, End, Event, REAL_TIME_PRIORITY, ThreadBody, ThreadId, Work};
 
 /// The key of a thread that entry `number` puts at an end of a queue.
 fn end_key(number: u64, end: End) -> i64
@@ -63,7 +63,7 @@ fn marked_for(m: Option<u8>, x: CpuState) -> CpuState
 {
     match m {
         None => x,
-        Some(m) if m >= 100 => CpuState { kernel: true, ..x },
+        Some(m) if m >= REAL_TIME_PRIORITY => CpuState { kernel: true, ..x },
         Some(_) => CpuState { user: true, ..x },
     }
 }
@@ -74,7 +74,7 @@ fn best_priority(s: &State, best: Option<usize>) -> Option<u8>
     ensures { result ≡ best_priority s.now best }
 {
     match best {
-        Some(r) => Some(effective(&thread_at(s, ThreadId(r as u16)).body)),
+        Some(r) => Some(thread_at(s, ThreadId(r as u16)).body.effective()),
         None => None,
     }
 }
@@ -118,7 +118,7 @@ fn queue_place(work: &Work, t: ThreadId, c: CpuId, key: i64, b: &ThreadBody) -> 
     requires { t.0 < length work.now.threads }
     ensures { result ≡ queue_place work.now t.0 c key b.now }
 {
-    if effective(b) >= 100 && b.bound.is_none() {
+    if b.effective() >= REAL_TIME_PRIORITY && b.bound.is_none() {
         Place::RealTime(thread_set(work, t), key)
     } else {
         Place::Queued(c, key)

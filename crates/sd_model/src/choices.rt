@@ -4,9 +4,9 @@ ghost use Rattle.std.specs.Prelude.{◌≡◌, ◌<◌, ◌≤◌, length, IfSom
 ghost use Rattle.sd_rules.specs.ClassRules.{end_of};
 ghost use Rattle.sd_machine.specs.States.{FitsWork};
 ghost use Rattle.sd_model.specs.Possible.{CanHappen};
-ghost use Rattle.sd_machine.specs.Machine.{is_ts, is_sys, must_leave, leave_event, op_event, run_event, queue_event, free_event, duty_event, wish, ticks, allowed, next};
+ghost use Rattle.sd_machine.specs.Machine.{is_ts, is_sys, must_leave, leave_event, op_event, run_event, queue_event, free_event, duty_event, wish, allowed, next};
 
-use crate::reads::{cpu_at, effective, op_of, thread_at};
+use crate::reads::{cpu_at, op_of, thread_at};
 use crate::scans::{best_ready, is_alone, may_tick, running};
 use sd_machine::{CpuState, State};
 use sd_types::{ClassState, CpuId, Duty, End, Event, Hints, Op, ThreadBody, ThreadId, Work};
@@ -87,7 +87,7 @@ fn queue_event(s: &State, c: CpuId, best: Option<usize>) -> Option<Event>
             let t = ThreadId(t as u16);
             Some(Event::Dispatch {
                 t,
-                p: effective(&thread_at(s, t).body),
+                p: thread_at(s, t).body.effective(),
             })
         }
         None => {
@@ -129,19 +129,13 @@ fn wish(work: &Work, s: &State, c: CpuId) -> Option<Event>
     }
 }
 
-fn ticks(event: &Event) -> bool
-    ensures { result ≡ ticks event.now }
-{
-    matches!(event, Event::Tick { .. } | Event::Spin { .. } | Event::Idle)
-}
-
 fn allowed(work: &Work, s: &State, c: CpuId, event: Option<Event>) -> Option<Event>
     requires cpu { c.0 < length s.now.cpus }
     ensures { result ≡ allowed work.now s.now c.0 event }
 {
     match event {
         Some(event) => {
-            if !ticks(&event) || may_tick(work, s, c) {
+            if !event.ticks() || may_tick(work, s, c) {
                 Some(event)
             } else {
                 None

@@ -13,6 +13,6 @@ mod start;
 mod stepping;
 
 pub use choices::next_event;
-pub use replays::{ReplayFault, replay};
+pub use replays::{Illegal, ReplayFault, replay, replay_from};
 pub use start::opening;
 pub use stepping::{make_entry, step};

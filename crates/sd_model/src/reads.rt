@@ -1,13 +1,12 @@
 //! Reading a state.
 
-ghost use Rattle.std.specs.Prelude.{◌≡◌, ◌<◌, length, ℕ};
-ghost use Rattle.sd_types.specs.Priorities.{base_of, eff};
+ghost use Rattle.std.specs.Prelude.{◌≡◌, ◌<◌, length};
 ghost use Rattle.sd_machine.specs.States.{thread_of, cpu_of};
 ghost use Rattle.sd_machine.specs.Operations.{script_of, op_of, ticks_at};
 ghost use Rattle.sd_machine.specs.Dispatching.{thread_set};
 
 use sd_machine::{CpuState, State, ThreadState};
-use sd_types::{ClassState, CpuId, Op, SetId, ThreadBody, ThreadId, Work};
+use sd_types::{CpuId, Op, SetId, ThreadBody, ThreadId, Work};
 
 pub(crate) fn thread_at(s: &State, t: ThreadId) -> &ThreadState
     requires { t.0 < length s.now.threads }
@@ -55,27 +54,4 @@ pub(crate) fn ticks_at(op: Option<Op>) -> u32
         Some(Op::Run(n)) => n,
         _ => 0,
     }
-}
-
-/// The base priority, 0 to 159.
-pub(crate) fn base(class: &ClassState) -> u8
-    ensures { result ≡ base_of class.now }
-{
-    match class {
-        ClassState::Ts(s) => sd_ts::global(s),
-        ClassState::Fx(s) => s.pri,
-        ClassState::Sys(s) => s.pri,
-        ClassState::Rt(s) => 100 + s.pri,
-    }
-}
-
-/// The effective priority: the maximum of the base priority and all willed numbers.
-pub(crate) fn effective(b: &ThreadBody) -> u8
-    ensures { result ≡ eff b.now }
-{
-    let mut greatest = base(&b.class);
-    for willed in b.willed.as_slice() {
-        greatest = greatest.max(willed.1);
-    }
-    greatest
 }

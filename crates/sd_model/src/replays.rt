@@ -1,6 +1,6 @@
 //! Whole lists of entries, judged.
 
-ghost use Rattle.std.specs.Prelude.{◌≡◌, IfOk, OnOk, IfErr, IfSome, IfNone};
+ghost use Rattle.std.specs.Prelude.{◌≡◌, take, IfOk, OnOk, IfErr};
 ghost use Rattle.sd_machine.specs.States.{FitsWork};
 ghost use Rattle.sd_machine.specs.Opening.{opening};
 ghost use Rattle.sd_machine.specs.Runs.{final, IsRunFrom, IsRun};
@@ -12,30 +12,40 @@ use sd_machine::State;
 use sd_types::{Entry, Work};
 use std::alloc::Global;
 
-/// Why entries are no run: the entry at place `number` is the first that is no step, or whose number is not its
-/// place. Or want of memory.
+/// The entry that makes a list of entries no run: the one at index `number` is the first that is no step, or whose
+/// number is not its index.
+#[derive(Clone, Copy, Debug, PartialEq, Eq)]
+pub struct Illegal {
+    pub number: u64,
+}
+
+/// Why no state comes of a list of entries: it is no run, as `Illegal` says, or memory ran out.
 #[derive(Clone, Copy, Debug, PartialEq, Eq)]
 pub enum ReplayFault {
     Illegal { number: u64 },
     Memory,
 }
 
-/// The state after the first entries of a list, up to the first that is no step.
-fn replay_from(work: &Work, s: &mut State, entries: &[Entry]) -> Option<u64>
+/// Makes the entries, numbered from 0 on, on the state: Ok exactly where each is a step. On a refusal the state is
+/// the one before the illegal entry. It takes no memory.
+pub fn replay_from(work: &Work, s: &mut State, entries: &[Entry]) -> Result<(), Illegal>
     requires { FitsWork work.now s.old }
-    ensures illegal { IfSome result (IsIllegalFrom work.now s.old entries.now) }
-    ensures run { IfNone result (IsRunFrom work.now s.old 0 entries.now) }
-    ensures state { IfNone result (s.new ≡ final work.now s.old entries.now) }
+    ensures run { OnOk result (IsRunFrom work.now s.old 0 entries.now) }
+    ensures state { OnOk result (s.new ≡ final work.now s.old entries.now) }
+    ensures illegal { IfErr result (λ fault. IsIllegalFrom work.now s.old entries.now fault.number) }
+    ensures before { IfErr result (λ fault. s.new ≡ final work.now s.old (take fault.number entries.now)) }
+    ensures fits { FitsWork work.now s.new }
 {
     for (i, entry) in entries.iter().enumerate() {
         if entry.number != i as u64 || !step(work, s, entry) {
-            return Some(i as u64);
+            return Err(Illegal { number: i as u64 });
         }
     }
-    None
+    Ok(())
 }
 
-/// The state after the entries, exactly where they are a run of the work, memory aside.
+/// The state after the entries, exactly where they are a run of the work. `Memory` comes only where the initial state
+/// finds no memory: `replay_from` judges the entries, and takes none.
 pub fn replay(alloc: Global, work: &Work, entries: &[Entry]) -> Result<State, ReplayFault>
     ensures run { OnOk result (IsRun work.now entries.now) }
     ensures state { IfOk result (λ s. s ≡ final work.now (opening work.now) entries.now) }
@@ -46,7 +56,9 @@ pub fn replay(alloc: Global, work: &Work, entries: &[Entry]) -> Result<State, Re
         return Err(ReplayFault::Memory);
     };
     match replay_from(work, &mut s, entries) {
-        Some(number) => Err(ReplayFault::Illegal { number }),
-        None => Ok(s),
+        Ok(()) => Ok(s),
+        Err(illegal) => Err(ReplayFault::Illegal {
+            number: illegal.number,
+        }),
     }
 }

@@ -7,7 +7,7 @@ ghost use Rattle.sd_machine.specs.Best.{queue_rank, beats, best_ready, running};
 ghost use Rattle.sd_machine.proofs.BestLemmas.{goes_ahead_by};
 ghost use Rattle.sd_machine.specs.Machine.{may_tick, is_alone};
 
-use crate::reads::{cpu_at, effective};
+use crate::reads::cpu_at;
 use sd_machine::{Place, State, ThreadState};
 use sd_types::{CpuId, SetId, Work};
 
@@ -52,12 +52,12 @@ fn queue_rank(place: &Place) -> u8
     }
 }
 
-/// `x` goes before `y`: by the greater priority, then the real-time queue, then the less key.
+/// `x` goes before `y`: by the greater priority, then the real-time queue, then the smaller key.
 fn beats(x: &ThreadState, y: &ThreadState) -> bool
     ensures { result ≡ beats x.now y.now }
 {
-    let p = effective(&x.body);
-    let q = effective(&y.body);
+    let p = x.body.effective();
+    let q = y.body.effective();
     let rank = queue_rank(&x.place);
     let other = queue_rank(&y.place);
     q < p || p == q && (rank < other || rank == other && key_of(&x.place) < key_of(&y.place))

@@ -1,53 +1,18 @@
 //! The state in which a run begins.
 
-ghost use Rattle.std.specs.Prelude.{◌≡◌, ◌+◌, ◌≤◌, length, IsTrue, IfOk, map, replicate, ◌==◌};
-ghost use Rattle.std.specs.List.{range_with_len, list_any};
+ghost use Rattle.std.specs.Prelude.{◌≡◌, ◌+◌, ◌≤◌, length, IsTrue, IfOk, map, replicate};
+ghost use Rattle.std.specs.List.{range_with_len};
 ghost use Rattle.sd_types.specs.Works.{class_fits};
-ghost use Rattle.sd_types.specs.Partitions.{set_of_cpu, cpus_of_set};
 ghost use Rattle.sd_machine.specs.States.{FitsWork};
-ghost use Rattle.sd_machine.specs.Opening.{first_class, is_urgent, is_dealt, turn_of, dealt_cpu, first_cpu, first_place, first_body, first_thread, first_threads, count_of, first_count, first_cpu_state, open_list, opening};
+ghost use Rattle.sd_machine.specs.Opening.{is_urgent, is_dealt, turn_of, dealt_cpu, first_cpu, first_place, first_body, first_thread, first_threads, count_of, first_count, first_cpu_state, open_list, opening};
 
 use crate::reads::ticks_at;
 use arrayvec::ArrayVec;
-use sd_fixed::full_quantum;
 use sd_machine::{CpuState, LockState, Place, State, ThreadState};
-use sd_types::{
-    ChanKind, ClassParms, ClassState, CpuId, Duty, FxState, List, RtState, SetId, SysState,
-    ThreadBody, ThreadDecl, TsState, Work,
-};
+use sd_part::{cpus_of_set, set_of_cpu};
+use sd_prio::first_state;
+use sd_types::{ChanKind, ClassParms, CpuId, Duty, List, SetId, ThreadBody, ThreadDecl, Work};
 use std::alloc::{AllocError, Global};
-
-/// The class state of a declared thread, with a whole quantum.
-fn first_class(work: &Work, class: ClassParms, cpupri: u8) -> ClassState
-    requires { IsTrue (class_fits class cpupri) }
-    ensures { result ≡ first_class work.now class cpupri }
-{
-    match class {
-        ClassParms::Ts { limit, upri } => ClassState::Ts(TsState {
-            cpupri,
-            limit,
-            upri,
-            left: work.ts.row(cpupri).ticks,
-            wait: 0,
-        }),
-        ClassParms::Fx {
-            limit,
-            pri,
-            quantum,
-        } => ClassState::Fx(FxState {
-            limit,
-            pri,
-            quantum,
-            left: full_quantum(&work.fx, pri, quantum),
-        }),
-        ClassParms::Sys { pri } => ClassState::Sys(SysState { pri }),
-        ClassParms::Rt { pri, quantum } => ClassState::Rt(RtState {
-            pri,
-            quantum,
-            left: full_quantum(&work.rt, pri, quantum),
-        }),
-    }
-}
 
 fn is_urgent(d: &ThreadDecl) -> bool
     ensures { result ≡ is_urgent d.now }
@@ -61,7 +26,7 @@ fn is_dealt(p: SetId, d: &ThreadDecl) -> bool
     d.set.0 == p.0 && !is_urgent(d)
 }
 
-/// How many of the threads before thread `t` are dealt out in set `p`.
+/// How many of the threads before thread `t` are assigned round-robin in set `p`.
 fn turn_of(work: &Work, p: SetId, t: usize) -> usize
     requires { t ≤ length work.now.threads }
     ensures { result ≡ turn_of work.now p.0 t }
@@ -70,38 +35,6 @@ fn turn_of(work: &Work, p: SetId, t: usize) -> usize
         .iter()
         .filter(|d| is_dealt(p, d))
         .count()
-}
-
-fn has_cpu(cpus: &[CpuId], c: u16) -> bool
-    ensures { result ≡ list_any (λ d. d.0 == c) cpus.now }
-{
-    cpus.iter().any(|d| d.0 == c)
-}
-
-/// The set of a processor.
-fn set_of_cpu(work: &Work, c: u16) -> SetId
-    ensures { result.0 ≡ set_of_cpu work.now c }
-{
-    let sets = work.sets.items();
-    for i in 0..sets.len() {
-        if has_cpu(sets[i].1.items(), c) {
-            return SetId((i + 1) as u8);
-        }
-    }
-    SetId(0)
-}
-
-/// The processors of a set, in rising order.
-fn cpus_of_set(work: &Work, p: u8) -> ArrayVec<CpuId, 64>
-    ensures { result.items ≡ cpus_of_set work.now p }
-{
-    let mut cpus = ArrayVec::new();
-    for c in 0..work.cpus {
-        if set_of_cpu(work, c).0 == p {
-            cpus.push(CpuId(c));
-        }
-    }
-    cpus
 }
 
 fn dealt_cpu(cpus: &[CpuId], k: usize) -> CpuId
@@ -120,7 +53,7 @@ fn first_cpu(work: &Work, t: usize, d: &ThreadDecl) -> CpuId
     requires { t ≤ length work.now.threads }
     ensures { result ≡ first_cpu work.now t d.now }
 {
-    let cpus = cpus_of_set(work, d.set.0);
+    let cpus = cpus_of_set(work, d.set);
     let turn = if is_urgent(d) {
         0
     } else {
@@ -147,7 +80,7 @@ fn first_body(work: &Work, t: usize, d: &ThreadDecl) -> ThreadBody
     ensures { result ≡ first_body work.now t d.now }
 {
     ThreadBody {
-        class: first_class(work, d.class, d.cpupri),
+        class: first_state(&d.class, d.cpupri, work),
         willed: ArrayVec::new(),
         held: ArrayVec::new(),
         op: 0,
@@ -198,7 +131,7 @@ fn first_cpu_state(work: &Work, c: u16) -> CpuState
         user: false,
         kernel: false,
         duty: Duty::Nothing,
-        set: set_of_cpu(work, c),
+        set: set_of_cpu(work, CpuId(c)),
         closing: None,
         bound: 0,
     }
@@ -239,12 +172,12 @@ fn open_lists(alloc: Global, work: &Work) -> Result<Vec<ArrayVec<CpuId, 64>>, Al
     let mut lists = Vec::new(alloc);
     let count = work.sets.items().len() + 1;
     for p in 0..count {
-        lists.push(cpus_of_set(work, p as u8))?;
+        lists.push(cpus_of_set(work, SetId(p as u8)))?;
     }
     Ok(lists)
 }
 
-/// The state in which a run begins. `Err` for want of memory alone.
+/// The state in which a run begins. `Err` only where memory runs out.
 #[tactic(auto, unfolding(sd_machine::specs::Opening::opening))]
 pub fn opening(alloc: Global, work: &Work) -> Result<State, AllocError>
     ensures state { IfOk result (λ s. s ≡ opening work.now) }

@@ -117,7 +117,7 @@ named-at c n (suc i) (t ∷ ts) s p e h = elim (bool_cases (names c t.1)) [
   | inr other ↦ let next = set_naming-other c n t ts other in named-at c (n + 1) i ts s (omega arith) e (omega arith)
 ]
 
--- ---- more numbers than places
+-- ---- more numbers than processors
 
 covers : ℕ → List CpuId → Type 0
 covers n xs = (c : ℕ) → c < n → names c xs ≡ true
@@ -226,7 +226,7 @@ passing-named (suc n) a c p h = elim (bool_cases (p a)) [
       (omega arith, omega arith, r.2)
 ]
 
--- ---- membership by place and by test
+-- ---- membership by index and by test
 
 same_number : (c d : CpuId) → c.0 ≡ d.0 → c ≡ d
 same_number c d e = ap cpu_of_number e
@@ -318,7 +318,7 @@ is_partition-some cpus h = grind (arith, nat_tests)
 pub is_partition-rising : (cpus : List CpuId) → is_partition cpus ≡ true → is_rising cpus ≡ true
 is_partition-rising cpus h = grind (arith, nat_tests)
 
--- what the lists of a workload have at a place
+-- what the lists of a workload have at an index
 pub sets-at : (w : Work) (c : ℕ) (d : SetId) → c < length (sets_of w) → (get_or (sets_of w) c d).0 ≡ set_of_cpu w c
 sets-at w c d h =
     let long = length-map-range_with_len (λ x. set_of_number (set_of_cpu w x)) 0 w.cpus in

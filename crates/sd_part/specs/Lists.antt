@@ -6,7 +6,7 @@ use Rattle.sd_types.specs.declared.numbers.SetId.{SetId}
 use Rattle.sd_types.specs.declared.works.Work.{Work}
 use Rattle.sd_types.specs.Partitions.{set_of_cpu, cpus_of_set}
 
--- each processor has a less number than all behind it
+-- each processor has a smaller number than all behind it
 abbrev pub is_rising : List CpuId → Bool
 is_rising [] = true
 is_rising (c ∷ cs) = list_all (λ d. nat_lt c.0 d.0) cs && is_rising cs

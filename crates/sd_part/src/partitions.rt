@@ -6,15 +6,13 @@ ghost use Rattle.sd_types.specs.declared.works.Work.{Work};
 ghost use Rattle.sd_types.specs.Partitions.{set_of_cpu, cpus_of_set};
 ghost use Rattle.sd_part.specs.Lists.{is_rising, sets_of, lists_of};
 
-use sd_types::{CpuId, List, SetId, Work};
+use arrayvec::ArrayVec;
+use sd_types::{CpuId, List, REAL_TIME_PRIORITY, SetId, Work};
 use std::alloc::{AllocError, Global};
 use std::marker::Model;
 
-/// The least priority of a real-time thread (Solaris Internals: the real-time class begins at 100).
-const REAL_TIME_PRIORITY: u8 = 100;
-
 /// The partitions of a workload: the default partition and one for each processor set (psrset(1M)).
-/// Each processor is in one of them. They are those of the opening and do not change.
+/// Each processor is in one of them. They are those of the initial state and do not change.
 #[derive(Drop)]
 pub struct Partitions {
     sets: List<SetId>,
@@ -80,13 +78,46 @@ impl Partitions {
     }
 }
 
+/// The set of a processor: that which names it, or the default partition.
+pub fn set_of_cpu(work: &Work, c: CpuId) -> SetId
+    ensures { result.0 ≡ set_of_cpu work.now c.0 }
+{
+    let sets = work.sets.items();
+    for index in 0..sets.len() {
+        let named = &sets[index].1;
+        if is_named(named, c) {
+            return SetId(index as u8 + 1);
+        }
+    }
+    SetId(0)
+}
+
+fn is_named(cpus: &List<CpuId>, c: CpuId) -> bool
+    ensures { result ≡ list_any (λ named. named.0 == c.0) cpus.now }
+{
+    cpus.items().iter().any(|named| named.0 == c.0)
+}
+
+/// The processors of a set, in rising order; none where the workload has no set of this number.
+pub fn cpus_of_set(work: &Work, p: SetId) -> ArrayVec<CpuId, 64>
+    ensures { result.items ≡ cpus_of_set work.now p.0 }
+{
+    let mut cpus = ArrayVec::new();
+    for cpu in 0..work.cpus {
+        if set_of_cpu(work, CpuId(cpu)).0 == p.0 {
+            cpus.push(CpuId(cpu));
+        }
+    }
+    cpus
+}
+
 /// The set of each processor.
 fn sets_of_cpus(alloc: Global, work: &Work) -> Result<Vec<SetId>, AllocError>
     ensures { IfOk result (λ sets. sets.items ≡ sets_of work.now) }
 {
     let mut sets = Vec::new(alloc);
     for cpu in 0..work.cpus {
-        sets.push(set_of_cpu(work, cpu))?;
+        sets.push(set_of_cpu(work, CpuId(cpu)))?;
     }
     Ok(sets)
 }
@@ -97,40 +128,15 @@ fn lists_of_sets(alloc: Global, work: &Work) -> Result<Vec<List<CpuId>>, AllocEr
 {
     let mut lists = Vec::new(alloc);
     for set in 0..work.sets.items().len() + 1 {
-        lists.push(List::from_vec(cpus_of_set(alloc, work, set)?))?;
+        let cpus = list_of_set(alloc, work, SetId(set as u8))?;
+        lists.push(cpus)?;
     }
     Ok(lists)
 }
 
-/// The processors of a set, in rising order.
-fn cpus_of_set(alloc: Global, work: &Work, set: usize) -> Result<Vec<CpuId>, AllocError>
-    ensures { IfOk result (λ cpus. cpus.items ≡ cpus_of_set work.now set) }
+fn list_of_set(alloc: Global, work: &Work, p: SetId) -> Result<List<CpuId>, AllocError>
+    ensures { IfOk result (λ cpus. cpus ≡ cpus_of_set work.now p.0) }
 {
-    let mut cpus = Vec::new(alloc);
-    for cpu in 0..work.cpus {
-        if usize::from(set_of_cpu(work, cpu).0) == set {
-            cpus.push(CpuId(cpu))?;
-        }
-    }
-    Ok(cpus)
-}
-
-/// The set of a processor: that which names it, or the default partition.
-fn set_of_cpu(work: &Work, cpu: u16) -> SetId
-    ensures { result.0 ≡ set_of_cpu work.now cpu }
-{
-    let sets = work.sets.items();
-    for place in 0..sets.len() {
-        let named = &sets[place].1;
-        if is_named(named, cpu) {
-            return SetId(place as u8 + 1);
-        }
-    }
-    SetId(0)
-}
-
-fn is_named(cpus: &List<CpuId>, cpu: u16) -> bool
-    ensures { result ≡ list_any (λ named. named.0 == cpu) cpus.now }
-{
-    cpus.items().iter().any(|named| named.0 == cpu)
+    let cpus = cpus_of_set(work, p);
+    Ok(List::from_vec(Vec::from_slice(alloc, cpus.as_slice())?))
 }

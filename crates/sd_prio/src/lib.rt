@@ -8,7 +8,7 @@ mod changes;
 mod laws;
 mod permissions;
 
-pub use changes::enter;
+pub use changes::{enter, first_state};
 pub use laws::{base_priorities_in_range, callers_without_privilege};
 pub use permissions::{Target, Who, judge};
 

@@ -31,7 +31,7 @@ fn class_of(parms: &ClassParms) -> Class
     }
 }
 
-// The limit of the user priority, 0 for the classes that have none.
+/// The limit of the user priority, 0 for the classes that have none.
 fn limit_of(parms: &ClassParms) -> i32
     ensures { result ≡ limit_of_parms parms.now }
 {
@@ -43,7 +43,7 @@ fn limit_of(parms: &ClassParms) -> i32
     }
 }
 
-// The limit and the priority are in the ranges of the class.
+/// The limit and the priority are in the ranges of the class.
 fn numbers_fit(class: Class, limit: i32, pri: i32) -> bool
     ensures { result ≡ numbers_fit class limit pri }
 {
@@ -66,7 +66,7 @@ fn is_invalid(target: &ClassParms, request: &Request) -> bool
         || !numbers_fit(request.class, request.limit, request.pri)
 }
 
-// The greatest limit that a caller without privilege may ask for.
+/// The greatest limit that a caller without privilege may ask for.
 fn greatest_limit(target: &ClassParms, class: Class) -> i32
     ensures { result ≡ greatest_limit target.now class }
 {
@@ -87,7 +87,7 @@ fn is_forbidden(uid: u16, target: &Target, request: &Request) -> bool
         || request.limit > greatest_limit(&target.parms, request.class)
 }
 
-// The parameters that a request asks for, a user priority above the limit lowered to it.
+/// The parameters that a request asks for, a user priority above the limit lowered to it.
 #[tactic(auto, unfolding(sd_rules::specs::Priocntl::new_parms))]
 fn new_parms(request: &Request) -> ClassParms
     requires numbers { numbers_fit request.now.class request.now.limit request.now.pri ≡ true }
@@ -115,7 +115,7 @@ fn new_parms(request: &Request) -> ClassParms
     }
 }
 
-/// The answer to a caller who asks for new class parameters of a thread, which is none where it has ended: the first
+/// What a caller is told who asks for new class parameters of a thread, which is none where it has ended: the first
 /// of ESRCH, EINVAL and EPERM that holds, or the parameters that are asked for, with a user priority above the new
 /// limit lowered to it. A quantum in ticks is 1 to 1,000,000.
 #[tactic(auto, unfolding(sd_rules::specs::Priocntl::judged))]

@@ -5,9 +5,9 @@ ghost use Rattle.sd_types.specs.declared.numbers.LockId.{LockId};
 ghost use Rattle.sd_types.specs.declared.bodies.ThreadBody.{ThreadBody};
 ghost use Rattle.sd_types.specs.Priorities.{base_of, eff};
 ghost use Rattle.sd_types.specs.Scripts.{is_lock};
-ghost use Rattle.sd_record.specs.Willed.{Numbers, number_for, with_number, without_number};
+ghost use Rattle.sd_types.specs.Willed.{Numbers, number_for, with_number, without_number};
 
-/// The effective priority is the maximum: none of the base and the willed numbers is greater, and it is one of them.
+/// The effective priority is the maximum: none of the base and the inherited priorities is greater, and it is one of them.
 pub fn effective_is_greatest()
     ensures base { (b : ThreadBody) → base_of b.class ≤ eff b }
     ensures willed { (b : ThreadBody) (number : LockId × ℕ) → Contains b.willed.items number → number.1 ≤ eff b }

@@ -115,7 +115,7 @@ fn inheritance(rt: HostRuntime) {
     assert_eq!(rt; record.effective(), 40);
     record.inherit(LockId(3), 35);
     assert_eq!(rt; record.effective(), 40);
-    // in place of the number that there was, also a greater one
+    // instead of the number that there was, also of a greater one
     record.inherit(LockId(2), 30);
     assert_eq!(rt; record.effective(), 35);
     assert_eq!(rt; record.body.willed.len(), 3);
@@ -136,14 +136,101 @@ fn inheritance(rt: HostRuntime) {
     assert_eq!(rt; record.body.held.len(), 3);
 }
 
+/// What crosses threads crosses here.
+fn sent<T: Send>(value: T) -> T {
+    value
+}
+
+#[test]
+fn another_thread_may_have_a_record(rt: HostRuntime) {
+    let record = sent(holder(ts(29, 0)));
+    assert_eq!(rt; record.id(), 7);
+}
+
+#[test]
+fn priorities_that_would_be(rt: HostRuntime) {
+    let mut record = holder(ts(29, 0));
+    record.inherit(LockId(1), 40);
+    record.inherit(LockId(2), 20);
+    // the class state, and the effective priority in it
+    let classes = [
+        (ts(10, 0), 40),
+        (ts(59, 0), 59),
+        (fx(41), 41),
+        (sys(60), 60),
+        (rt_class(3), 103),
+    ];
+    for (class, effective) in classes {
+        assert_eq!(rt; record.effective_as(&class), effective);
+    }
+    // the lock, its number, and the effective priority with it
+    let numbers = [
+        (1, Some(50), 50),
+        (1, Some(30), 30),
+        (1, Some(10), 29),
+        (1, None, 29),
+        (2, Some(159), 159),
+        (2, None, 40),
+        (3, Some(35), 40),
+        (3, Some(41), 41),
+        // also for a lock that is not held
+        (9, Some(120), 120),
+        (9, None, 40),
+    ];
+    for (lock, number, effective) in numbers {
+        assert_eq!(rt;
+            record.effective_with(LockId(lock), number),
+            effective,
+            "lock {lock}"
+        );
+    }
+    assert_eq!(rt; record.effective(), 40);
+}
+
+/// Whether the record holds exactly these locks, in this order.
+fn holds(record: &Record, locks: &[u16]) -> bool {
+    let held = record.body.held.as_slice();
+    held.len() == locks.len()
+        && held
+            .iter()
+            .zip(locks)
+            .all(|(lock, number)| lock.0 == *number)
+}
+
+#[test]
+fn locks(rt: HostRuntime) {
+    let mut record = holder(ts(29, 0));
+    record.inherit(LockId(1), 40);
+    record.inherit(LockId(3), 50);
+    record.take_lock(LockId(0));
+    assert!(rt; holds(&record, &[1, 2, 3, 0]));
+    record.inherit(LockId(0), 90);
+    assert_eq!(rt; record.effective(), 90);
+    // the number goes with the lock, and the others keep their order
+    record.release_lock(LockId(3));
+    assert!(rt; holds(&record, &[1, 2, 0]));
+    assert_eq!(rt; record.effective(), 90);
+    record.release_lock(LockId(0));
+    assert!(rt; holds(&record, &[1, 2]));
+    assert_eq!(rt; record.effective(), 40);
+    // one without a number, and one that is not held
+    record.release_lock(LockId(2));
+    record.release_lock(LockId(9));
+    assert!(rt; holds(&record, &[1]));
+    assert_eq!(rt; record.effective(), 40);
+    record.release_lock(LockId(1));
+    assert!(rt; holds(&record, &[]));
+    assert_eq!(rt; record.effective(), 29);
+}
+
 #[test]
 fn a_queue_of_records(rt: HostRuntime) -> Result<(), Fail> {
     let mut queue = BoxQueue::new();
     queue.insert_ranked(Node::node(rt.alloc(), holder(fx(10)))?);
     queue.insert_ranked(Node::node(rt.alloc(), holder(rt_class(0)))?);
     queue.insert_ranked(Node::node(rt.alloc(), holder(fx(30)))?);
-    for (place, base) in [(0, 100), (1, 30), (2, 10)] {
-        assert_eq!(rt; queue.item(place).map(|record| record.base()), Some(base));
+    for (index, base) in [(0, 100), (1, 30), (2, 10)] {
+        assert_eq!(rt; queue.item(index).map(|record| record.base()), Some(base));
     }
     Ok(())
 }

@@ -2,7 +2,6 @@
 
 ghost use Rattle.std.specs.Prelude.{◌≡◌, ◌<◌, ◌++◌, OnOk, length, decimal};
 ghost use Rattle.sd_machine.specs.States.{thread_of};
-ghost use Rattle.sd_machine.specs.Machine.{ticks};
 ghost use Rattle.sd_machine.specs.Accounts.{is_tick_of, is_dispatch_of, is_preempt_of, is_wake_of, is_idle, thread_ticks, thread_dispatches, thread_preempts, thread_wakes, cpu_ticks, cpu_idle};
 ghost use Rattle.sd_machine.specs.Texts.{state_text, thread_counts, thread_line, cpu_line, lock_name, chan_name};
 
@@ -68,12 +67,6 @@ fn is_idle(event: &Event) -> bool
     matches!(event, Event::Idle)
 }
 
-fn ticks(event: &Event) -> bool
-    ensures { result ≡ ticks event.now }
-{
-    matches!(event, Event::Tick { .. } | Event::Spin { .. } | Event::Idle)
-}
-
 #[tactic(auto, unfolding(sd_machine::specs::Accounts::thread_ticks))]
 fn thread_ticks(t: usize, entries: &[Entry]) -> usize
     ensures { result ≡ thread_ticks t entries.now }
@@ -114,7 +107,7 @@ fn cpu_ticks(c: u16, entries: &[Entry]) -> usize
 {
     entries
         .iter()
-        .filter(|e| e.cpu.0 == c && ticks(&e.event))
+        .filter(|e| e.cpu.0 == c && e.event.ticks())
         .count()
 }
 

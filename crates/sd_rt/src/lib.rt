@@ -3,21 +3,26 @@
 //! Source: Solaris Internals (the RT class), `rt_dptbl`(4), priocntl(2).
 #![tactic(auto)]
 
-ghost use Rattle.std.specs.Prelude.{◌≡◌, ◌+◌, ◌≤◌};
+ghost use Rattle.std.specs.Prelude.{◌≡◌, ◌≤◌};
+ghost use Rattle.sd_types.specs.declared.classes.ClassState.TheVariants.{Rt};
+ghost use Rattle.sd_types.specs.Priorities.{base_of};
 ghost use Rattle.sd_rules.specs.ClassRules.{rt_tick, rt_wake, quantum_expires};
 
 use sd_fixed::{full_quantum, left_after_tick};
 use sd_types::{FixedTable, RtState};
 
+#[cfg(test)]
+mod tests;
+
 /// The base priority, 100 to 159: 100 and the thread's own.
 pub fn global(s: &RtState) -> u8
-    ensures value { result ≡ 100 + s.now.pri }
+    ensures value { result ≡ base_of (Rt s.now) }
     ensures level { result ≤ 159 }
 {
-    100 + s.pri
+    s.base()
 }
 
-/// A tick of the running thread: `left` falls by one, unless the quantum has no end. Answers true exactly where the
+/// A tick of the running thread: `left` falls by one, unless the quantum is infinite. Returns true exactly where the
 /// quantum has expired; `left` is then the full quantum again.
 #[tactic(auto, unfolding(sd_rules::specs::ClassRules::rt_tick))]
 pub fn tick(s: &mut RtState, t: &FixedTable) -> bool

@@ -53,7 +53,7 @@ abbrev pub ts_requeue : Bool → TsNumbers → TsNumbers
 ts_requeue true s = record s { wait = 0 }
 ts_requeue false s = s
 
--- The fixed-priority and real-time classes: the ticks of a full quantum at a level, 0 where it has no end.
+-- The fixed-priority and real-time classes: the ticks of a full quantum at a level, 0 where it is infinite.
 -- Where a table has no row for the level, as a fixed-priority table of 60 rows has none for 60, it is that of the last row.
 
 abbrev pub row_level : FixedTable → ℕ → ℕ
@@ -64,17 +64,17 @@ full_quantum table level Def = (fixed_row_of table (row_level table level)).tick
 full_quantum table level Inf = 0
 full_quantum table level (Ticks n) = n
 
-abbrev pub ends : Quantum → Bool
-ends Def = true
-ends Inf = false
-ends (Ticks n) = true
+abbrev pub is_finite : Quantum → Bool
+is_finite Def = true
+is_finite Inf = false
+is_finite (Ticks n) = true
 
 -- what a tick leaves of a quantum, of which left ticks are left
 abbrev pub left_after_tick : Quantum → ℕ → ℕ → ℕ
-left_after_tick quantum full left = if ends quantum then (if nat_le left 1 then full else left - 1) else left
+left_after_tick quantum full left = if is_finite quantum then (if nat_le left 1 then full else left - 1) else left
 
 abbrev pub quantum_expires : Quantum → ℕ → Bool
-quantum_expires quantum left = if ends quantum then nat_le left 1 else false
+quantum_expires quantum left = if is_finite quantum then nat_le left 1 else false
 
 unfoldable pub fx_tick : FixedTable → FxNumbers → FxNumbers
 fx_tick table s = record s { left = left_after_tick s.quantum (full_quantum table s.pri s.quantum) s.left }

@@ -1,4 +1,8 @@
+pub mod ChoiceFunctions
+pub mod Choices
 pub mod ClassRules
 pub mod ClassStates
 pub mod DefaultTables
+pub mod FirstStates
+pub mod Marks
 pub mod Priocntl

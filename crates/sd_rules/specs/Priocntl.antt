@@ -14,10 +14,9 @@ use Rattle.sd_types.specs.declared.scripts.Request.{Request}
 use Rattle.sd_types.specs.declared.tables.TsTable.{TsTable}
 use Rattle.sd_types.specs.declared.tables.FixedTable.{FixedTable}
 use Rattle.sd_types.specs.ClassNumbers.{TsNumbers}
-use Rattle.sd_types.specs.TableRows.{ts_row_of}
 use Rattle.sd_types.specs.Priorities.{at_least_zero}
 use Rattle.sd_types.specs.Works.{upri_fits}
-use Rattle.sd_rules.specs.ClassRules.{full_quantum}
+use Rattle.sd_rules.specs.FirstStates.{first_ts, first_state}
 
 abbrev pub class_of_parms : ClassParms → Class
 class_of_parms (parms.Ts limit upri) = class.Ts
@@ -81,7 +80,7 @@ new_parms class.Fx r = parms.Fx (at_least_zero r.limit) (at_least_zero (lowered 
 new_parms class.Sys r = parms.Sys (at_least_zero r.pri)
 new_parms class.Rt r = parms.Rt (at_least_zero r.pri) r.quantum
 
--- the answer to a caller (its user, and whether it is privileged) who asks for a thread (its user and parameters;
+-- what a caller is told (its user, and whether it is privileged) who asks for a thread (its user and parameters;
 -- none where it has ended)
 unfoldable pub judged : ℕ → Bool → Option (ℕ × ClassParms) → Request → Result ClassParms Denied
 judged uid privileged None r = Err ESRCH
@@ -89,18 +88,17 @@ judged uid privileged (Some target) r =
     cond (is_invalid target.1 r) (Err EINVAL)
     (cond (not privileged && is_forbidden uid target.0 target.1 r) (Err EPERM) (Ok (new_parms r.class r)))
 
--- a thread that comes to the time-sharing class from another
-abbrev pub new_ts : TsTable → ℤ → ℤ → TsNumbers
-new_ts table limit upri = record { cpupri = 29; limit = limit; upri = upri; left = (ts_row_of table 29).ticks; wait = 0 }
+-- the level of a thread that comes to the time-sharing class from another
+abbrev pub entry_level : ℕ
+entry_level = 29
 
 -- one that was in that class keeps its level, its ticks and its seconds of waiting
 abbrev pub ts_after : TsTable → ℤ → ℤ → ClassState → TsNumbers
 ts_after table limit upri (state.Ts s) = record s { limit = limit; upri = upri }
-ts_after table limit upri _ = new_ts table limit upri
+ts_after table limit upri _ = first_ts table limit upri entry_level
 
--- the class state of a thread that was given these parameters, from the one before
+-- the class state of a thread that was given these parameters, from the one before: a fixed-priority or real-time
+-- thread begins a full quantum, also where it stays in its class
 unfoldable pub entered : TsTable → FixedTable → FixedTable → ClassParms → ClassState → ClassState
 entered ts fx rt (parms.Ts limit upri) old = state.Ts (ts_after ts limit upri old)
-entered ts fx rt (parms.Fx limit pri quantum) old = state.Fx (record { limit = limit; pri = pri; quantum = quantum; left = full_quantum fx pri quantum })
-entered ts fx rt (parms.Sys pri) old = state.Sys (record { pri = pri })
-entered ts fx rt (parms.Rt pri quantum) old = state.Rt (record { pri = pri; quantum = quantum; left = full_quantum rt pri quantum })
+entered ts fx rt p old = first_state ts fx rt p 0

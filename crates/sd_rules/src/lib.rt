@@ -1,3 +1,7 @@
-//! The rules of the scheduling classes and of dispatch tables, as definitions and lemmas that contracts cite.
-//! There is no code here.
+//! The rules of the scheduling classes, of dispatch tables and of the dispatcher's choices, as definitions and lemmas
+//! that contracts cite. There is no code here but the type of a mark.
 #![tactic(auto)]
+
+mod marks;
+
+pub use marks::MarkKind;

@@ -31,7 +31,7 @@ op_fault-from_fits i held (Exit l) after h = grind (arith, nat_tests)
 op_fault-from_fits i held (CvWait k l) after h = grind (arith, nat_tests)
 op_fault-from_fits i held _ after h = refl
 
--- the fault at a place of the list, by its operation
+-- the fault at an index of the list, by its operation
 fault_at-op : (ops : List Op) (i : ℕ) (op : Op) → slice_get ops i ≡ Some op → fault_at ops i ≡ op_fault i (held_by (take i ops)) op (slice_get ops (i + 1))
 fault_at-op ops i op e = ap (option_and_then (λ x. op_fault i (held_by (take i ops)) x (slice_get ops (i + 1)))) e
 

@@ -1,13 +1,13 @@
 //! The check of a list of operations, which goes through it once with the locks that are held.
 
 ghost use Rattle.std.specs.Prelude.{◌≡◌, ◌<◌, ◌↔◌, false, length, take, min, slice_get, Err, IsOk, IfOk, OnOk, IfErr};
-ghost use Rattle.sd_types.specs.Scripts.{is_held, without_lock, held_after, held_by, enters};
+ghost use Rattle.sd_types.specs.Scripts.{is_held, held_after, held_by, enters};
 ghost use Rattle.sd_script.specs.declared.faults.ScriptFault.{ScriptFault};
 ghost use Rattle.sd_script.specs.Faults.{IsFault, IsFreeBelow, IsWellFormed, op_fault, is_unbalanced, is_ninth, is_taken_again, is_unpaired};
 
 use crate::ScriptFault;
 use arrayvec::ArrayVec;
-use sd_types::{List, LockId, Op, Script};
+use sd_types::{List, LockId, Op, Script, without_lock};
 
 /// The most operations of a script (this project's own).
 const MOST_OPS: usize = 256;
@@ -147,17 +147,4 @@ fn take_or_release(held: &mut ArrayVec<LockId, 8>, op: Op)
         }
         _ => {}
     }
-}
-
-/// The locks but this one.
-fn without_lock(lock: LockId, held: &ArrayVec<LockId, 8>) -> ArrayVec<LockId, 8>
-    ensures { result.items ≡ without_lock lock held.now.items }
-{
-    let mut rest = ArrayVec::new();
-    for other in held.as_slice() {
-        if lock.0 != other.0 {
-            rest.push(*other);
-        }
-    }
-    rest
 }

@@ -1,5 +1,5 @@
 -- Rounds as the program makes them: from the entries and the state so far.
-use Rattle.std.proofs.Common.{◌≡◌, ◌≢◌, ℕ, suc, ◌+◌, ◌^◌, ◌<◌, ◌≤◌, List, [], ◌++◌, length, get_or, drop, sym, ap, subst, ◌∙◌, arith, inl, inr}
+use Rattle.std.proofs.Common.{◌≡◌, ◌≢◌, ℕ, zero, suc, ◌+◌, ◌^◌, ◌<◌, ◌≤◌, List, [], ◌++◌, length, get_or, drop, sym, ap, subst, ◌∙◌, arith, inl, inr}
 use Rattle.std.proofs.lemmas.Bool.{cases_lt}
 use Rattle.std.proofs.lemmas.List.{append-nil, drop_all, length-append, nil_from_length}
 use Rattle.sd_types.specs.declared.numbers.CpuId.{CpuId}
@@ -11,6 +11,9 @@ use Rattle.sd_machine.specs.Runs.{final, turn, round, round_after, rounds, IsRun
 use Rattle.sd_machine.proofs.RunLemmas.{final-nil, final-append}
 use Rattle.sd_machine.proofs.RoundLemmas.{round-nil, round_more, final_more, rounds-zero, rounds-more, run_round}
 use Rattle.sd_serial.specs.Rounds.{always, HasRounds, IsLongSerial}
+
+pub grows : (more es es' : List Entry) → es' ≡ es ++ more → length es ≤ length es'
+grows more es es' e = omega (arith, ap length e, length-append es more)
 
 module _ (w : Work) (order : List CpuId) where
   -- one turn of a round
@@ -91,3 +94,49 @@ module _ (w : Work) (order : List CpuId) where
         goes_on = h.goes_on;
         ends = ap (round_after w order) kept ∙ sym (here s es f) ∙ none;
       }
+
+  -- without processors nothing is made
+  no_order : (es : List Entry) → length order ≡ 0 → HasRounds w (always order) es → length es ≡ 0
+  no_order es none h = elim (cases_lt 0 h.count) [
+    | inl some ↦ absurd (h.goes_on 0 some (ap (λ (cs : List CpuId). round_after w cs (rounds w (always order) 0)) (nil_from_length order none) ∙ round-nil w _ _))
+    | inr none_made ↦
+        let first : h.count ≡ 0 = omega arith in
+        ap length (h.entries ∙ ap (rounds w (always order)) first ∙ rounds-zero w (always order))
+  ]
+
+  pub short : (es : List Entry) → HasRounds w (always order) es → (0 < length order → length es < 2 ^ 40) → length es < 2 ^ 40
+  short es h begins = elim (cases_lt 0 (length order)) [
+    | inl some ↦ begins some
+    | inr none ↦ let zero = no_order es (let e : length order ≡ 0 = omega arith in e) h in omega arith
+  ]
+
+  -- fewer rounds have no more entries
+  rounds_grow : (k m : ℕ) → k ≤ m → length (rounds w (always order) k) ≤ length (rounds w (always order) m)
+  rounds_grow k zero h = let same : k ≡ 0 = omega arith in let e = ap (λ (n : ℕ). length (rounds w (always order) n)) same in omega arith
+  rounds_grow k (suc m) h = elim (cases_lt k (suc m)) [
+    | inl before ↦
+        let rest = rounds_grow k m (omega arith) in
+        let more = grows (round_after w order (rounds w (always order) m)) (rounds w (always order) m) (rounds w (always order) (suc m)) (rounds-more w (always order) m) in
+        omega arith
+    | inr here ↦ let same : k ≡ suc m = omega arith in let e = ap (λ (n : ℕ). length (rounds w (always order) n)) same in omega arith
+  ]
+
+  -- after the last round nothing more is made
+  rounds_stay : (es : List Entry) (r : IsSerial w (always order) es) (m : ℕ) → r.count ≤ m → rounds w (always order) m ≡ es
+  rounds_stay es r zero h = let same : zero ≡ r.count = omega arith in ap (rounds w (always order)) same ∙ sym r.entries
+  rounds_stay es r (suc m) h = elim (cases_lt r.count (suc m)) [
+    | inl before ↦
+        let rest = rounds_stay es r m (omega arith) in
+        rounds-more w (always order) m ∙ ap (λ (xs : List Entry). xs ++ round_after w order xs) rest
+        ∙ ap (λ (xs : List Entry). es ++ xs) r.ends ∙ append-nil es
+    | inr here ↦ let same : suc m ≡ r.count = omega arith in ap (rounds w (always order)) same ∙ sym r.entries
+  ]
+
+  pub no_longer : (es : List Entry) → IsSerial w (always order) es → length es < 2 ^ 40 → IsLongSerial w (always order) → ⊥
+  no_longer es r few (k, long) = elim (cases_lt k r.count) [
+    | inl before ↦
+        let fewer = rounds_grow k r.count (omega arith) in
+        let all = ap length r.entries in
+        absurd (omega arith)
+    | inr past ↦ let all = ap length (rounds_stay es r k (omega arith)) in absurd (omega arith)
+  ]

@@ -3,5 +3,7 @@
 #![tactic(auto)]
 
 mod rounds;
+#[cfg(test)]
+mod tests;
 
 pub use rounds::{Finished, MOST_ENTRIES, rising, run_rounds};

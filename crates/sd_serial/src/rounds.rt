@@ -1,6 +1,6 @@
 //! Rounds, until one makes no entry.
 
-ghost use Rattle.std.specs.Prelude.{◌≡◌, ◌++◌, ◌≤◌, length, OnOk, IfOk, IsErrOf};
+ghost use Rattle.std.specs.Prelude.{◌≡◌, ◌++◌, ◌<◌, ◌≤◌, ◌↔◌, length, IsTrue, OnOk, IfOk, IsErrOf};
 ghost use Rattle.sd_machine.specs.States.{FitsWork};
 ghost use Rattle.sd_machine.specs.Opening.{opening};
 ghost use Rattle.sd_machine.specs.Runs.{final, turn, round, IsRun, IsSerial, rising};
@@ -32,20 +32,29 @@ pub fn rising(alloc: Global, work: &Work) -> Result<Vec<CpuId>, AllocError>
     Ok(order)
 }
 
-/// The turn of processor `c`: its entry, where it has one. `Full` where the log holds 2^40 entries.
+/// Whether the log takes no more entries.
+fn is_full(entries: &[Entry]) -> bool
+    ensures { IsTrue result ↔ (MOST_ENTRIES ≤ length entries.now) }
+{
+    entries.len() >= MOST_ENTRIES
+}
+
+/// The turn of processor `c`: its entry, where it has one. `Full` exactly where the log holds 2^40 entries or more;
+/// so memory runs out only where it holds fewer, and the log then stays as it was.
 fn run_turn(work: &Work, s: &mut State, entries: &mut Vec<Entry>, c: CpuId) -> Result<(), Stop>
     requires fits { FitsWork work.now s.old }
     ensures entries { OnOk result (entries.new.items ≡ entries.old.items ++ turn work.now s.old (length entries.old.items) c) }
     ensures state { OnOk result (s.new ≡ final work.now s.old (turn work.now s.old (length entries.old.items) c)) }
     ensures fits { FitsWork work.now s.new }
     ensures room { OnOk result (length entries.new.items ≤ MOST_ENTRIES) }
-    ensures full { IsErrOf result Stop.Full → MOST_ENTRIES ≤ length entries.old.items }
+    ensures begins { OnOk result (length entries.old.items < MOST_ENTRIES) }
+    ensures full { IsErrOf result Stop.Full ↔ (MOST_ENTRIES ≤ length entries.old.items) }
+    ensures memory { IsErrOf result Stop.Memory → (length entries.old.items < MOST_ENTRIES) × (entries.new.items ≡ entries.old.items) }
 {
-    let number = entries.len();
-    if number >= MOST_ENTRIES {
+    if is_full(entries) {
         return Err(Stop::Full);
     }
-    match make_entry(work, s, number as u64, c) {
+    match make_entry(work, s, entries.len() as u64, c) {
         Some(entry) => {
             if entries.push(entry).is_err() {
                 return Err(Stop::Memory);
@@ -57,7 +66,7 @@ fn run_turn(work: &Work, s: &mut State, entries: &mut Vec<Entry>, c: CpuId) -> R
 }
 
 /// One round: each processor of the order has a turn. `Full` only where the entries with those of this round
-/// are 2^40 or more.
+/// are 2^40 or more. Memory runs out only where the log holds fewer.
 fn run_round(
     work: &Work,
     s: &mut State,
@@ -70,8 +79,10 @@ fn run_round(
     ensures state { OnOk result (s.new ≡ final work.now s.old (round work.now s.old (length entries.old.items) order.now)) }
     ensures fits { FitsWork work.now s.new }
     ensures room { OnOk result (length entries.new.items ≤ MOST_ENTRIES) }
+    ensures begins { OnOk result (0 < length order.now → length entries.old.items < MOST_ENTRIES) }
     ensures full { IsErrOf result Stop.Full
         → MOST_ENTRIES ≤ length (entries.old.items ++ round work.now s.old (length entries.old.items) order.now) }
+    ensures memory { IsErrOf result Stop.Memory → length entries.new.items < MOST_ENTRIES }
 {
     for c in order {
         if let Err(stop) = run_turn(work, s, entries, *c) {
@@ -81,13 +92,17 @@ fn run_round(
     Ok(())
 }
 
-/// The run of the workload that goes in rounds, each in this order. `Full` only where it has 2^40 entries or more.
+/// The run of the workload that goes in rounds, each in this order. `Full` only where it has 2^40 entries or more,
+/// and then it is never returned whole: what `Memory` may stand for instead of a run or of `Full` is only that memory
+/// ran out.
 pub fn run_rounds(alloc: Global, work: &Work, order: &[CpuId]) -> Result<Finished, Stop>
     ensures serial { IfOk result (λ r. IsSerial work.now (always order.now) r.entries.items) }
     ensures run { IfOk result (λ r. IsRun work.now r.entries.items) }
     ensures state { IfOk result (λ r. r.state ≡ final work.now (opening work.now) r.entries.items) }
     ensures fits { IfOk result (λ r. FitsWork work.now r.state) }
+    ensures short { IfOk result (λ r. length r.entries.items < MOST_ENTRIES) }
     ensures full { IsErrOf result Stop.Full → IsLongSerial work.now (always order.now) }
+    ensures no_longer { OnOk result (IsLongSerial work.now (always order.now) → ⊥) }
 {
     let Ok(mut state) = opening(alloc, work) else {
         return Err(Stop::Memory);

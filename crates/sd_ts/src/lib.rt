@@ -12,13 +12,15 @@ ghost use Rattle.sd_rules.specs.ClassRules.{ts_at_level, ts_tick, ts_expires, ts
 
 use sd_types::{End, TsState, TsTable};
 
+#[cfg(test)]
+mod tests;
+
 /// The base priority, 0 to 59: the sum of `cpupri` and the user priority, within the levels of the class.
 pub fn global(s: &TsState) -> u8
     ensures value { result ≡ umdpri s.now }
     ensures level { result ≤ 59 }
 {
-    let sum = i16::from(s.cpupri) + i16::from(s.upri);
-    sum.clamp(0, 59) as u8
+    s.base()
 }
 
 /// The thread at this level, with the ticks of the level's row.
@@ -33,7 +35,7 @@ fn at_level(s: &TsState, t: &TsTable, level: u8) -> TsState
     }
 }
 
-/// A tick of the running thread: `left` falls by one. Answers true exactly where the quantum has expired;
+/// A tick of the running thread: `left` falls by one. Returns true exactly where the quantum has expired;
 /// the thread is then at the level `ts_tqexp` of its row, with the ticks of that level's row.
 #[tactic(auto, unfolding(sd_rules::specs::ClassRules::ts_tick))]
 pub fn tick(s: &mut TsState, t: &TsTable) -> bool
@@ -64,7 +66,7 @@ pub fn wake(s: &mut TsState, t: &TsTable)
     *s = TsState { wait: 0, ..woken };
 }
 
-/// One more second on a dispatch queue. Answers true exactly where the thread has now waited for more seconds than
+/// One more second on a dispatch queue. Returns true exactly where the thread has now waited for more seconds than
 /// `ts_maxwait` of the row of its base priority; it is then at the level `ts_lwait` of the row of `cpupri`,
 /// with the ticks that it had, and its seconds are counted anew.
 #[tactic(auto, unfolding(sd_rules::specs::ClassRules::ts_second))]

@@ -1,6 +1,6 @@
 -- The numbers of a class state, and when they are in their ranges.
 -- Source: Solaris Internals, ts_dptbl(4), rt_dptbl(4), priocntl(2); the ranges of user priorities are this project's own.
-use Rattle.std.specs.Prelude.{◌≡◌, ℕ, ◌<◌, ◌≤◌, ℤ, pos, negsuc, ◌≤ℤ◌}
+use Rattle.std.specs.Prelude.{◌≡◌, ℕ, ◌≤◌, ℤ, pos, negsuc, ◌≤ℤ◌}
 use Rattle.sd_types.specs.declared.classes.Quantum.{Quantum}
 use Rattle.sd_types.specs.declared.classes.Quantum.TheVariants.{Def, Inf, Ticks}
 
@@ -44,7 +44,7 @@ IsQuantum Def = Unit {0}
 IsQuantum Inf = Unit {0}
 IsQuantum (Ticks n) = (1 ≤ n) × (n ≤ 1000000)
 
--- ticks are left of each quantum that ends, and none of one that does not
+-- ticks are left of a finite quantum, and none are counted of an infinite one
 abbrev pub IsLeft : Quantum → ℕ → Type 0
 IsLeft Def left = 1 ≤ left
 IsLeft Inf left = left ≡ 0

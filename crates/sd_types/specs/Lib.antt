@@ -1,4 +1,5 @@
 pub mod ClassNumbers
+pub mod Events
 pub mod Lends
 pub mod NameWords
 pub mod Partitions
@@ -7,4 +8,5 @@ pub mod Rows
 pub mod Scripts
 pub mod TableRows
 pub mod Ticks
+pub mod Willed
 pub mod Works

@@ -1,6 +1,6 @@
 -- The partitions of a workload: set 0 has the processors that no set names, and set i the processors of the
 -- i-th declared set. Source: psrset(1M).
-use Rattle.std.specs.Prelude.{ℕ, ◌+◌, Bool, List, [], ◌∷◌, filter, map, ◌==◌, cond}
+use Rattle.std.specs.Prelude.{ℕ, ◌+◌, List, [], ◌∷◌, filter, map, ◌==◌, cond}
 use Rattle.std.specs.List.{list_any, range_with_len}
 use Rattle.sd_types.specs.declared.numbers.CpuId.{CpuId}
 use Rattle.sd_types.specs.declared.names.Name.{Name}

@@ -1,4 +1,4 @@
--- Global priorities: the base priority of a class state, and the effective priority with what is willed.
+-- Global priorities: the base priority of a class state, and the effective priority with what is inherited.
 -- A greater number runs first: TS and FX levels have 0 to 60, SYS threads 60 to 99, RT levels 100 to 159.
 -- Source: Solaris Internals (global priorities, priority inheritance).
 use Rattle.std.specs.Prelude.{ℕ, ◌+◌, min, max, List, [], ◌∷◌, ℤ, pos, negsuc, ◌+ℤ◌}
@@ -17,17 +17,22 @@ at_least_zero (negsuc n) = 0
 abbrev pub umdpri : TsNumbers → ℕ
 umdpri s = min (at_least_zero (pos s.cpupri +ℤ s.upri)) 59
 
+-- the base priority
 abbrev pub base_of : ClassState → ℕ
 base_of (Ts s) = umdpri s
 base_of (Fx s) = s.pri
 base_of (Sys s) = s.pri
 base_of (Rt s) = 100 + s.pri
 
--- the greatest of a number and those that are willed
+-- the greatest of a number and the inherited priorities
 abbrev pub greatest_willed : ℕ → List (LockId × ℕ) → ℕ
 greatest_willed n [] = n
 greatest_willed n (w ∷ ws) = max w.1 (greatest_willed n ws)
 
--- the effective priority: the maximum of the base priority and all willed numbers
+-- the effective priority that the thread would have in this class state
+abbrev pub eff_as : ClassState → ThreadBody → ℕ
+eff_as class b = greatest_willed (base_of class) b.willed.items
+
+-- the effective priority: the maximum of the base priority and all inherited ones
 abbrev pub eff : ThreadBody → ℕ
-eff b = greatest_willed (base_of b.class) b.willed.items
+eff b = eff_as b.class b

@@ -1,6 +1,6 @@
 -- Well-formed scripts. What is held before an operation is a function of the operations before it.
 -- Source: this project's own.
-use Rattle.std.specs.Prelude.{◌≡◌, ℕ, ◌+◌, ◌<◌, Bool, true, false, not, ◌&&◌, List, [], ◌∷◌, ◌++◌, length, take, fold, filter, slice_get, nat_lt, ◌==◌, Option, Some, None, MatchOption}
+use Rattle.std.specs.Prelude.{◌≡◌, ℕ, ◌+◌, Bool, true, false, not, ◌&&◌, List, [], ◌∷◌, ◌++◌, length, take, fold, filter, slice_get, nat_lt, ◌==◌, Option, Some}
 use Rattle.std.specs.List.{list_any}
 use Rattle.sd_types.specs.declared.numbers.LockId.{LockId}
 use Rattle.sd_types.specs.declared.scripts.Op.{Op}

@@ -1,11 +1,7 @@
 -- When a workload is valid. Source: priocntl(2), psrset(1M); the limits are this project's own.
-use Rattle.std.specs.Prelude.{ℕ, ◌+◌, Bool, true, false, not, ◌&&◌, List, [], ◌∷◌, length, map, flat_map, nat_le, nat_lt, ◌==◌, Option, Some, None, slice_get, ℤ, pos, negsuc, int_le}
+use Rattle.std.specs.Prelude.{ℕ, Bool, true, false, not, ◌&&◌, List, [], ◌∷◌, length, map, flat_map, nat_le, nat_lt, ◌==◌, Option, Some, None, slice_get, ℤ, pos, negsuc, int_le}
 use Rattle.std.specs.List.{list_all, list_any}
 use Rattle.sd_types.specs.declared.numbers.CpuId.{CpuId}
-use Rattle.sd_types.specs.declared.numbers.LockId.{LockId}
-use Rattle.sd_types.specs.declared.numbers.ChanId.{ChanId}
-use Rattle.sd_types.specs.declared.numbers.ThreadId.{ThreadId}
-use Rattle.sd_types.specs.declared.numbers.SetId.{SetId}
 use Rattle.sd_types.specs.declared.names.Name.{Name}
 use Rattle.sd_types.specs.declared.classes.Class.{Class}
 use Rattle.sd_types.specs.declared.classes.Class.TheVariants as class

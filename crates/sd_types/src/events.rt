@@ -2,6 +2,9 @@
 //!
 //! Source: Solaris Internals; the cut into events is this project's own.
 
+ghost use Rattle.std.specs.Prelude.{◌≡◌};
+ghost use Rattle.sd_types.specs.Events.{ticks};
+
 use crate::{ChanId, CpuId, LockId, SetId, ThreadId};
 use arrayvec::ArrayVec;
 
@@ -13,7 +16,7 @@ pub enum End {
 }
 
 /// The refusal of a call that needs room in a log: `Full` where the log holds 2^40 entries or more,
-/// `Memory` for want of memory.
+/// `Memory` where memory runs out.
 #[derive(Clone, Copy, Debug, PartialEq, Eq)]
 pub enum Stop {
     Full,
@@ -249,6 +252,15 @@ pub enum Event {
         t: ThreadId,
         cpu: CpuId,
     },
+}
+
+impl Event {
+    /// Whether the event takes a tick of its processor: a tick, a spin or an idle tick.
+    pub fn ticks(&self) -> bool
+        ensures { result ≡ ticks self.now }
+    {
+        matches!(self, Event::Tick { .. } | Event::Spin { .. } | Event::Idle)
+    }
 }
 
 /// An entry of the journal: the event that a processor made, its number from 0, and the numbers that it read,

@@ -1,14 +1,17 @@
 //! The plain types that all crates of dispsim share: numbers of things, class states, dispatch tables,
 //! scripts, works, events and entries. A type keeps the facts that make its values meaningful,
-//! so whoever holds a value has them.
+//! so whoever holds a value has them. With the types stand the rules that several crates call: base and effective
+//! priorities, what a thread inherits and which locks it holds, and whether an event takes a tick.
 #![tactic(auto)]
 
 mod bodies;
 mod classes;
 mod events;
+mod inheritance;
 mod lists;
 mod names;
 mod numbers;
+mod priorities;
 mod scripts;
 mod tables;
 mod works;
@@ -23,6 +26,7 @@ pub use names::Name;
 pub use numbers::{
     ChanId, CpuId, HomeId, LockId, SetId, Side, ThreadId, home_of_chan, home_of_lock,
 };
-pub use scripts::{Op, Request, Script};
+pub use priorities::{REAL_TIME_PRIORITY, greatest_willed};
+pub use scripts::{Op, Request, Script, without_lock};
 pub use tables::{FixedRow, FixedTable, TsRow, TsTable};
 pub use works::{ChanKind, LockKind, ThreadDecl, Work};

@@ -1,9 +1,10 @@
 //! Scripts: the operations that a thread performs, one after another.
 
 ghost use Rattle.std.specs.Prelude.{◌≡◌, ◌≤◌, length};
-ghost use Rattle.sd_types.specs.Scripts.{EachOpFits, held_by};
+ghost use Rattle.sd_types.specs.Scripts.{EachOpFits, held_by, without_lock};
 
 use crate::{ChanId, Class, CpuId, List, LockId, Quantum, SetId, ThreadId};
+use arrayvec::ArrayVec;
 
 /// A request of priocntl(2), before it is judged. `limit` is 0 for RT and SYS, `quantum` is `Def` for TS and SYS.
 #[derive(Clone, Copy)]
@@ -61,4 +62,17 @@ impl Script {
     {
         self.ops.items()
     }
+}
+
+/// The locks without this one, in their order.
+pub fn without_lock(l: LockId, held: &ArrayVec<LockId, 8>) -> ArrayVec<LockId, 8>
+    ensures { result.items ≡ without_lock l held.now.items }
+{
+    let mut rest = ArrayVec::new();
+    for lock in held.as_slice() {
+        if l.0 != lock.0 {
+            rest.push(*lock);
+        }
+    }
+    rest
 }

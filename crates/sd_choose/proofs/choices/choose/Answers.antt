@@ -1,6 +1,7 @@
 use Rattle.std.proofs.Common.{◌≡◌, ◌&&◌, false, sym, ◌∙◌}
-use Rattle.sd_choose.specs.Choices.{is_among}
+use Rattle.sd_rules.specs.Choices.{is_among}
 use Rattle.sd_choose.proofs.ChoiceLemmas.{same_choice, best_by_hints, chosen_by_hints, Contains-from_among, not_warm, not_among}
+use Rattle.sd_choose.proofs.FunctionLemmas.{chosen_is}
 use Rattle.sd_choose.proofs.choices.choose.Goals as goal
 use Rattle.sd_choose.proofs.choices.choose.Goals.{else-warm-via-then-warm+else-is_among, else-warm-via-else-warm}
 
@@ -19,3 +20,7 @@ returns-clause-chosen c =
 pub returns-clause-only : goal.returns-clause-only
 returns-clause-only c = λ d chosen.
     same_choice c.args.cpus.now c.args.hints.now c.args.last c.args.warm _ d (returns-clause-chosen c) chosen
+
+pub returns-clause-value : goal.returns-clause-value
+returns-clause-value c =
+    returns-clause-only c _ (chosen_is c.args.cpus.now c.args.hints.now c.args.last c.args.warm c.requires.some c.requires.hints)

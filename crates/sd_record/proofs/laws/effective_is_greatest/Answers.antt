@@ -1,5 +1,5 @@
 use Rattle.sd_types.specs.Priorities.{base_of}
-use Rattle.sd_record.proofs.Greatest.{greatest-base, greatest-each, greatest-one}
+use Rattle.sd_types.proofs.PriorityLemmas.{greatest-base, greatest-each, greatest-one}
 use Rattle.sd_record.proofs.laws.effective_is_greatest.Goals as goal
 
 pub returns-clause-base : goal.returns-clause-base

@@ -1,4 +1,4 @@
-use Rattle.sd_record.proofs.WilledLemmas.{number_for-with, number_for-without, number_for-with_other, number_for-without_other}
+use Rattle.sd_types.proofs.WilledLemmas.{number_for-with, number_for-without, number_for-with_other, number_for-without_other}
 use Rattle.sd_record.proofs.laws.numbers_are_apart.Goals as goal
 
 pub returns-clause-set : goal.returns-clause-set

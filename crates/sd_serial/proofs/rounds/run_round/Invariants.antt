@@ -1,4 +1,4 @@
-use Rattle.std.proofs.Common.{◌≡◌, ◌++◌, ◌≤◌, length, drop}
+use Rattle.std.proofs.Common.{◌≡◌, ◌++◌, ◌<◌, ◌≤◌, length, drop}
 use Rattle.sd_machine.specs.States.{FitsWork}
 use Rattle.sd_machine.specs.Runs.{final, round}
 use Rattle.sd_serial.specs.declared.rounds.TheConstants.{MOST_ENTRIES}
@@ -13,4 +13,6 @@ invariant-loop-c l = record {
       ≡ final l.work l.initial.s (round l.work l.initial.s (length l.initial.entries.items) l.order);
   fits : FitsWork l.work l.s;
   room : length l.entries.items ≤ MOST_ENTRIES;
+  grown : length l.initial.entries.items ≤ length l.entries.items;
+  begins : 0 < l.c-index → length l.initial.entries.items < MOST_ENTRIES;
 }

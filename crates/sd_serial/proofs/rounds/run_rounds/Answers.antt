@@ -5,7 +5,7 @@ use Rattle.sd_types.specs.declared.events.Stop.TheVariants.{Full}
 use Rattle.sd_machine.specs.Opening.{opening}
 use Rattle.sd_machine.specs.Runs.{final, IsRun}
 use Rattle.sd_machine.proofs.RunLemmas.{IsRun-nil, final-nil}
-use Rattle.sd_serial.proofs.SerialLemmas.{no_rounds, one_round_more, run_more, state_more, long_serial, is_over}
+use Rattle.sd_serial.proofs.SerialLemmas.{no_rounds, one_round_more, run_more, state_more, long_serial, is_over, short, no_longer}
 use Rattle.sd_serial.proofs.rounds.run_rounds.Goals as goal
 
 pub rounds-init : goal.rounds-init
@@ -60,3 +60,14 @@ returns-clause-run c =
     let r = c.rounds in
     let e = c.in_default-run_round.ensures in
     run_more c.args.work.now c.args.order.now r.state r.entries.items c.run_round.new.entries.items r.invariant.run r.invariant.state e.entries
+
+pub returns-clause-short : goal.returns-clause-short
+returns-clause-short c =
+    let r = c.rounds in
+    let few = short c.args.work.now c.args.order.now r.entries.items r.invariant.rounds c.in_default-run_round.ensures.begins in
+    let same = c.if-len-before.true in
+    omega arith
+
+pub returns-clause-no_longer : goal.returns-clause-no_longer
+returns-clause-no_longer c =
+    no_longer c.args.work.now c.args.order.now c.run_round.new.entries.items (returns-clause-serial c) (returns-clause-short c)

@@ -1,6 +1,0 @@
-use Rattle.std.proofs.Common.{◌≡◌, drop}
-use Rattle.sd_types.specs.Priorities.{greatest_willed}
-use Rattle.sd_record.proofs.record.greatest.Given as goal
-
-abbrev pub invariant-loop-number : goal.invariant-loop-number
-invariant-loop-number l = greatest_willed l.most (drop l.number-index l.willed) ≡ greatest_willed l.base l.willed

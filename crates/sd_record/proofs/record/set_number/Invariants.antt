@@ -1,8 +1,0 @@
-use Rattle.std.proofs.Common.{◌≡◌, ◌++◌, take, drop}
-use Rattle.sd_record.specs.Willed.{with_number, number_for}
-use Rattle.sd_record.proofs.record.set_number.Given as goal
-
-abbrev pub invariant-loop-place : goal.invariant-loop-place
-invariant-loop-place l =
-    (with_number l.l l.pri l.willed.items ≡ take l.place l.willed.items ++ with_number l.l l.pri (drop l.place l.willed.items))
-    × (number_for l.l l.willed.items ≡ number_for l.l (drop l.place l.willed.items)) × (l.willed.items ≡ l.initial.willed.items)

@@ -1,0 +1,2 @@
+pub mod PriorityLemmas
+pub mod WilledLemmas
