@@ -3,4 +3,5 @@ pub mod Turned
 pub mod Lends
 pub mod Links
 pub mod Owned
+pub mod Boxes
 pub mod Left
