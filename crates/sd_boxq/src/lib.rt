@@ -6,9 +6,11 @@ mod node;
 mod nodes;
 mod queue;
 mod ranked;
+mod search;
 #[cfg(test)]
 mod tests;
 
 pub use node::Node;
+pub use nodes::items::Items;
 pub use queue::BoxQueue;
 pub use ranked::Ranked;

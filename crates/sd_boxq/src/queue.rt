@@ -1,19 +1,23 @@
 //! The queue: one chain of boxes, reached at its front and at its back.
-ghost use Rattle.std.specs.Prelude.{◌≡◌, ◌<◌, ◌^◌, ◌↔◌, IsTrue, MatchOption, MatchResult, ◌+◌, [], ◌∷◌, ◌++◌, length, slice_get, Some};
+ghost use Rattle.std.specs.Prelude.{◌≡◌, ◌<◌, ◌^◌, ◌↔◌, IsTrue, MatchOption, MatchResult, ◌+◌, [], ◌∷◌, ◌++◌, length, slice_get, Some, IfSome};
 ghost use Rattle.std.specs.Option.{option_copied};
-ghost use Rattle.sd_boxq.specs.Order.{insert_ranked, insert_keyed, find_id, drop_id, find_below, drop_below};
-ghost use Rattle.sd_boxq.specs.Turned.{turned_onto};
+ghost use Rattle.sd_boxq.specs.Search.{is_wanted};
+ghost use Rattle.sd_boxq.specs.Order.{find_first, drop_first, insert_ranked, insert_keyed, find_id, drop_id, find_below, drop_below, replace_id, IsAlike};
 
 use crate::node::Node;
 use crate::nodes::Nodes;
-use crate::ranked::{Ranked, precedes, precedes_keyed};
+use crate::nodes::items::Items;
+use crate::ranked::Ranked;
+use crate::search::Wanted;
 use std::alloc::Global;
 use std::marker::Model;
 
-/// A queue of boxes, which contracts see as the list of its items. No call takes memory.
+/// A queue of boxes, which contracts see as the list of its items. No call takes memory. A queue that is
+/// dropped drops its items, and frees their boxes.
 ///
 /// Each box points to the next one, and the queue to the first and the last one. So a box is put at
-/// either end, and taken from the front, in a bounded number of steps.
+/// either end, and taken from the front, in a bounded number of steps; elsewhere a search goes from the
+/// first box to the index once, and the box is linked in or taken out there.
 pub struct BoxQueue<T> {
     nodes: Nodes<T, Global>,
 }
@@ -41,11 +45,7 @@ impl<T> BoxQueue<T> {
         ensures { self.new ≡ self.old ++ n ∷ [] }
     {
         let (item, block) = n.into_parts();
-        if self.nodes.is_any() {
-            self.nodes.link_back(block, item);
-        } else {
-            self.nodes.link_first(block, item);
-        }
+        self.nodes.put_back(block, item);
     }
 
     /// Puts the box before all others.
@@ -53,21 +53,14 @@ impl<T> BoxQueue<T> {
         ensures { self.new ≡ n ∷ self.old }
     {
         let (item, block) = n.into_parts();
-        if self.nodes.is_any() {
-            self.nodes.link_front(block, item);
-        } else {
-            self.nodes.link_first(block, item);
-        }
+        self.nodes.put_front(block, item);
     }
 
     /// The first box, which leaves the queue. `None` exactly where the queue is empty.
     pub fn pop_front(&mut self) -> Option<Node<T>>
         ensures { MatchOption result ((self.old ≡ []) × (self.new ≡ [])) (λ n. self.old ≡ n ∷ self.new) }
     {
-        if !self.nodes.is_any() {
-            return None;
-        }
-        let (item, block) = self.nodes.unlink_front();
+        let (item, block) = self.nodes.take_front()?;
         Some(Node::of_parts(item, block))
     }
 
@@ -79,46 +72,26 @@ impl<T> BoxQueue<T> {
         drop(nodes);
     }
 
-    // Puts the passed boxes before those of this queue, the last one first.
-    fn turn(&mut self, passed: &mut BoxQueue<T>)
-        ensures turned { self.new ≡ turned_onto passed.old self.old }
-        ensures empty { passed.new ≡ [] }
+    /// The item at this index, counted from 0. `None` exactly where there is none.
+    pub fn item(&self, index: usize) -> Option<&T>
+        ensures { option_copied result ≡ slice_get self.now index }
     {
-        while let Some(n) = passed.pop_front() {
-            self.push_front(n);
-        }
-    }
-
-    // Puts the passed boxes back.
-    fn restore(&mut self, mut passed: BoxQueue<T>)
-        ensures { self.new ≡ turned_onto passed self.old }
-    {
-        self.turn(&mut passed);
-        passed.close();
-    }
-
-    /// The item at this place, counted from 0. `None` exactly where there is none.
-    pub fn item(&self, place: usize) -> Option<&T>
-        ensures { option_copied result ≡ slice_get self.now place }
-    {
-        match self.seek(place) {
+        match self.seek(index) {
             Ok(item) => Some(item),
             Err(_) => None,
         }
     }
 
-    /// The item at this place, counted from 0, or how far the place lies behind the last item.
-    pub fn seek(&self, place: usize) -> Result<&T, usize>
-        ensures { MatchResult result (λ x. slice_get self.now place ≡ Some x.now) (λ left. place ≡ length self.now + left) }
+    /// The item at this index, counted from 0, or how far the index lies behind the last item.
+    pub fn seek(&self, index: usize) -> Result<&T, usize>
+        ensures { MatchResult result (λ x. slice_get self.now index ≡ Some x.now) (λ left. index ≡ length self.now + left) }
     {
-        let mut items = self.nodes.items();
-        let mut left = place;
-        while let Some((item, behind)) = items.next() {
+        let mut left = index;
+        for item in self.items() {
             if left == 0 {
                 return Ok(item);
             }
             left -= 1;
-            items = behind;
         }
         Err(left)
     }
@@ -127,10 +100,7 @@ impl<T> BoxQueue<T> {
     pub fn first(&self) -> Option<&T>
         ensures { option_copied result ≡ slice_get self.now 0 }
     {
-        match self.nodes.items().next() {
-            Some((item, _)) => Some(item),
-            None => None,
-        }
+        self.items().next()
     }
 
     /// Whether there is no item.
@@ -145,49 +115,53 @@ impl<T> BoxQueue<T> {
         requires { length self.now < 2 ^ 32 }
         ensures { result ≡ length self.now }
     {
-        let mut items = self.nodes.items();
         let mut count = 0;
-        while let Some((_, behind)) = items.next() {
+        for _ in self.items() {
             count += 1;
-            items = behind;
         }
         count
+    }
+
+    /// The items from the first one on.
+    pub fn items(&self) -> Items<'_, T>
+        ensures { result ≡ self.now }
+    {
+        self.nodes.items()
     }
 }
 
 impl<T: Ranked> BoxQueue<T> {
-    /// Puts the box before the first item whose rank is less, or whose rank is equal and whose key is
+    /// Puts the box before the first item whose rank is smaller, or whose rank is equal and whose key is
     /// greater, and at the back where there is none.
+    #[tactic(auto, using(crate::proofs::Counts::insert_counted))]
     pub fn insert_ranked(&mut self, n: Node<T>)
         ensures { self.new ≡ insert_ranked T.rank T.key n self.old }
     {
-        let mut passed = BoxQueue::new();
-        while let Some(other) = self.pop_front() {
-            if precedes(n.item(), other.item()) {
-                self.push_front(other);
-                break;
-            }
-            passed.push_front(other);
-        }
-        self.push_front(n);
-        self.restore(passed);
+        let gap = self.nodes.gap(&Wanted::BehindRanked(n.item()));
+        let (item, block) = n.into_parts();
+        self.nodes.put(gap, block, item);
     }
 
     /// Puts the box before the first item whose key is greater, or whose key is equal and whose id is
     /// greater, and at the back where there is none. The ranks are not looked at.
+    #[tactic(auto, using(crate::proofs::Counts::insert_counted))]
     pub fn insert_keyed(&mut self, n: Node<T>)
         ensures { self.new ≡ insert_keyed T.key T.id n self.old }
     {
-        let mut passed = BoxQueue::new();
-        while let Some(other) = self.pop_front() {
-            if precedes_keyed(n.item(), other.item()) {
-                self.push_front(other);
-                break;
-            }
-            passed.push_front(other);
-        }
-        self.push_front(n);
-        self.restore(passed);
+        let gap = self.nodes.gap(&Wanted::BehindKeyed(n.item()));
+        let (item, block) = n.into_parts();
+        self.nodes.put(gap, block, item);
+    }
+
+    // Takes the box of the first wanted item. `None` exactly where there is none.
+    #[tactic(auto, using(crate::proofs::Counts::find_counted, crate::proofs::Counts::drop_counted))]
+    fn take(&mut self, wanted: &Wanted<'_, T>) -> Option<Node<T>>
+        ensures taken { result ≡ find_first (is_wanted T.rank T.key T.id wanted.now) self.old }
+        ensures rest { self.new ≡ drop_first (is_wanted T.rank T.key T.id wanted.now) self.old }
+    {
+        let gap = self.nodes.gap(wanted);
+        let (item, block) = self.nodes.take(gap)?;
+        Some(Node::of_parts(item, block))
     }
 
     /// Takes the box of the first item with this id. `None` exactly where there is none.
@@ -195,56 +169,42 @@ impl<T: Ranked> BoxQueue<T> {
         ensures taken { result ≡ find_id T.id id self.old }
         ensures rest { self.new ≡ drop_id T.id id self.old }
     {
-        let mut passed = BoxQueue::new();
-        let found = loop {
-            match self.pop_front() {
-                None => break None,
-                Some(n) => {
-                    if n.item().id() == id {
-                        break Some(n);
-                    }
-                    passed.push_front(n);
-                }
-            }
-        };
-        self.restore(passed);
-        found
+        self.take(&Wanted::Id(id))
     }
 
-    /// Takes the box of the first item whose key is less than `below`. `None` exactly where there is
+    /// Takes the box of the first item whose key is smaller than `below`. `None` exactly where there is
     /// none.
     pub fn take_below(&mut self, below: i64) -> Option<Node<T>>
         ensures taken { result ≡ find_below T.key below self.old }
         ensures rest { self.new ≡ drop_below T.key below self.old }
     {
-        let mut passed = BoxQueue::new();
-        let found = loop {
-            match self.pop_front() {
-                None => break None,
-                Some(n) => {
-                    if n.item().key() < below {
-                        break Some(n);
-                    }
-                    passed.push_front(n);
-                }
-            }
-        };
-        self.restore(passed);
-        found
+        self.take(&Wanted::Below(below))
     }
 
     /// The first item with this id. `None` exactly where there is none.
     pub fn find(&self, id: u32) -> Option<&T>
         ensures { option_copied result ≡ find_id T.id id self.now }
     {
-        let mut items = self.nodes.items();
-        while let Some((item, behind)) = items.next() {
+        for item in self.items() {
             if item.id() == id {
                 return Some(item);
             }
-            items = behind;
         }
         None
+    }
+
+    /// Puts `item` at the index of the first item with this id, which is returned. `None` exactly where
+    /// there is none; then `item` is dropped.
+    #[tactic(auto, using(crate::proofs::Counts::find_counted, crate::proofs::Counts::replace_counted))]
+    pub fn replace(&mut self, id: u32, item: T) -> Option<T>
+    where
+        T: Drop,
+        requires alike { IfSome (find_id T.id id self.old) (λ x. IsAlike T.rank T.key T.id x item) }
+        ensures old { result ≡ find_id T.id id self.old }
+        ensures rest { self.new ≡ replace_id T.id id item self.old }
+    {
+        let gap = self.nodes.gap(&Wanted::Id(id));
+        self.nodes.exchange_found(gap, item)
     }
 }
 
