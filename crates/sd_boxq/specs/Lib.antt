@@ -3,3 +3,4 @@ pub mod Turned
 pub mod Lends
 pub mod Links
 pub mod Owned
+pub mod Left

@@ -35,12 +35,25 @@ abbrev pub drop_first : {X : Type 0} → (X → Bool) → List X → List X
 drop_first p [] = []
 drop_first p (x ∷ xs) = if p x then xs else (x ∷ drop_first p xs)
 
+-- the list with y at the index of that item
+abbrev pub replace_first : {X : Type 0} → (X → Bool) → X → List X → List X
+replace_first p y [] = []
+replace_first p y (x ∷ xs) = if p x then (y ∷ xs) else (x ∷ replace_first p y xs)
+
 -- the first item with the id n, and the list without it
 abbrev pub find_id : {X : Type 0} → (X → ℕ) → ℕ → List X → Option X
 find_id id n xs = find_first (λ x. id x == n) xs
 
 abbrev pub drop_id : {X : Type 0} → (X → ℕ) → ℕ → List X → List X
 drop_id id n xs = drop_first (λ x. id x == n) xs
+
+-- the list with y at the index of the first item with the id n
+abbrev pub replace_id : {X : Type 0} → (X → ℕ) → ℕ → X → List X → List X
+replace_id id n y xs = replace_first (λ x. id x == n) y xs
+
+-- two items of one rank, key and id
+abbrev pub IsAlike : {X : Type 0} → (X → ℕ) → (X → ℤ) → (X → ℕ) → X → X → Type 0
+IsAlike rank key id x y = (rank x ≡ rank y) × (key x ≡ key y) × (id x ≡ id y)
 
 -- the first item with a key less than k, and the list without it
 abbrev pub find_below : {X : Type 0} → (X → ℤ) → ℤ → List X → Option X

@@ -10,5 +10,6 @@ mod ranked;
 mod tests;
 
 pub use node::Node;
+pub use nodes::items::Items;
 pub use queue::BoxQueue;
 pub use ranked::Ranked;

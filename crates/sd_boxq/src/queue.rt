@@ -1,11 +1,12 @@
 //! The queue: one chain of boxes, reached at its front and at its back.
-ghost use Rattle.std.specs.Prelude.{◌≡◌, ◌<◌, ◌^◌, ◌↔◌, IsTrue, MatchOption, MatchResult, ◌+◌, [], ◌∷◌, ◌++◌, length, slice_get, Some};
+ghost use Rattle.std.specs.Prelude.{◌≡◌, ◌<◌, ◌^◌, ◌↔◌, IsTrue, MatchOption, MatchResult, ◌+◌, [], ◌∷◌, ◌++◌, length, slice_get, Some, IfSome};
 ghost use Rattle.std.specs.Option.{option_copied};
-ghost use Rattle.sd_boxq.specs.Order.{insert_ranked, insert_keyed, find_id, drop_id, find_below, drop_below};
+ghost use Rattle.sd_boxq.specs.Order.{insert_ranked, insert_keyed, find_id, drop_id, find_below, drop_below, replace_id, IsAlike};
 ghost use Rattle.sd_boxq.specs.Turned.{turned_onto};
 
 use crate::node::Node;
 use crate::nodes::Nodes;
+use crate::nodes::items::Items;
 use crate::ranked::{Ranked, precedes, precedes_keyed};
 use std::alloc::Global;
 use std::marker::Model;
@@ -111,14 +112,12 @@ impl<T> BoxQueue<T> {
     pub fn seek(&self, place: usize) -> Result<&T, usize>
         ensures { MatchResult result (λ x. slice_get self.now place ≡ Some x.now) (λ left. place ≡ length self.now + left) }
     {
-        let mut items = self.nodes.items();
         let mut left = place;
-        while let Some((item, behind)) = items.next() {
+        for item in self.nodes.items() {
             if left == 0 {
                 return Ok(item);
             }
             left -= 1;
-            items = behind;
         }
         Err(left)
     }
@@ -127,10 +126,7 @@ impl<T> BoxQueue<T> {
     pub fn first(&self) -> Option<&T>
         ensures { option_copied result ≡ slice_get self.now 0 }
     {
-        match self.nodes.items().next() {
-            Some((item, _)) => Some(item),
-            None => None,
-        }
+        self.nodes.items().next()
     }
 
     /// Whether there is no item.
@@ -145,13 +141,18 @@ impl<T> BoxQueue<T> {
         requires { length self.now < 2 ^ 32 }
         ensures { result ≡ length self.now }
     {
-        let mut items = self.nodes.items();
         let mut count = 0;
-        while let Some((_, behind)) = items.next() {
+        for _ in self.nodes.items() {
             count += 1;
-            items = behind;
         }
         count
+    }
+
+    /// The items from the first one on.
+    pub fn items(&self) -> Items<'_, T>
+        ensures { result ≡ self.now }
+    {
+        self.nodes.items()
     }
 }
 
@@ -237,14 +238,40 @@ impl<T: Ranked> BoxQueue<T> {
     pub fn find(&self, id: u32) -> Option<&T>
         ensures { option_copied result ≡ find_id T.id id self.now }
     {
-        let mut items = self.nodes.items();
-        while let Some((item, behind)) = items.next() {
+        for item in self.items() {
             if item.id() == id {
                 return Some(item);
             }
-            items = behind;
         }
         None
+    }
+
+    /// Puts `item` at the index of the first item with this id, which is returned. `None` exactly where
+    /// there is none; then `item` is dropped.
+    pub fn replace(&mut self, id: u32, item: T) -> Option<T>
+    where
+        T: Drop,
+        requires alike { IfSome (find_id T.id id self.old) (λ x. IsAlike T.rank T.key T.id x item) }
+        ensures old { result ≡ find_id T.id id self.old }
+        ensures rest { self.new ≡ replace_id T.id id item self.old }
+    {
+        let mut passed = BoxQueue::new();
+        let old = loop {
+            match self.pop_front() {
+                None => break None,
+                Some(n) => {
+                    if n.item().id() != id {
+                        passed.push_front(n);
+                        continue;
+                    }
+                    let (old, block) = n.into_parts();
+                    self.push_front(Node::of_parts(item, block));
+                    break Some(old);
+                }
+            }
+        };
+        self.restore(passed);
+        old
     }
 }
 

@@ -105,6 +105,41 @@ fn ends(rt: HostRuntime) -> Result<(), Fail> {
     Ok(())
 }
 
+#[test]
+fn reads_and_replaces(rt: HostRuntime) -> Result<(), Fail> {
+    let mut queue = BoxQueue::new();
+    for id in [4, 7, 7, 9] {
+        queue.push_back(node(&rt, 1, 0, id)?);
+    }
+    let mut items = queue.items();
+    assert_eq!(rt; id_of(items.next()), 4);
+    assert_eq!(rt; items.map(|item| item.id).sum::<u32>(), 23);
+    // The first of the two with id 7 makes room.
+    let old = queue.replace(
+        7,
+        Item {
+            rank: 1,
+            key: 0,
+            id: 7,
+        },
+    );
+    assert_eq!(rt; id_of(old.as_ref()), 7);
+    assert!(rt;
+        queue
+            .replace(
+                5,
+                Item {
+                    rank: 1,
+                    key: 0,
+                    id: 5
+                }
+            )
+            .is_none()
+    );
+    assert_eq!(rt; ids(&queue), [4, 7, 7, 9, 0]);
+    Ok(())
+}
+
 // A queue that walks to its end for each box does not end here.
 #[test]
 fn holds_400_000_boxes(rt: HostRuntime) -> Result<(), Fail> {
