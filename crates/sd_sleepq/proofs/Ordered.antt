@@ -1,10 +1,16 @@
 -- Queues that stay in order of rank and key, and the channels that they serve.
-use Rattle.std.proofs.Common.{◌≡◌, ◌≢◌, ℕ, ℤ, zero, suc, ◌<◌, ◌+◌, ◌*◌, ◌/◌, ◌%◌, Bool, true, is_some, Option, Some, None, List, [], ◌∷◌, length, get_or, slice_get, set, refl, sym, ap, ◌∙◌, subst, arith, length-set}
+use Rattle.std.proofs.Common.{◌≡◌, ℕ, ℤ, zero, suc, ◌<◌, ◌+◌, ◌*◌, ◌/◌, true, is_some, Option, Some, None, List, [], ◌∷◌, length, get_or, slice_get, set, refl, sym, ap, ◌∙◌, subst, arith, w64}
+use mir.Val.{to_z, of_z, SFits}
+use Rattle.std.proofs.lemmas.Int.{to_z-of_z}
 use Rattle.std.proofs.lemmas.List.{get_or-set_same, get_or-set_other, set-get_or}
 use Rattle.std.proofs.lemmas.Option.{get_or_from_slice_get}
 use Rattle.sd_boxq.specs.Order.{find_id, drop_id, IsRanked}
 use Rattle.sd_sleepq.specs.Among.{AreRanked, IsHolder, find_among}
 use Rattle.sd_sleepq.specs.Sleepers.{Sleepers, IsOfChain, sleepers_of, with_sleepers, Leaves, AreApart}
+
+-- a key that is passed on is the key
+pub same_number : (z : ℤ) → SFits w64 z → to_z w64 (of_z w64 z) ≡ z
+same_number z f = to_z-of_z w64 z f
 
 module _ {X : Type 0} (rank : X → ℕ) (key : X → ℤ) where
   pub AreRanked-set : (qs : List (List X)) (i : ℕ) (q : List X) → AreRanked rank key qs → IsRanked rank key q → AreRanked rank key (set qs i q)
@@ -54,6 +60,7 @@ module _ {X : Type 0} (c : Sleepers X) (four : length c.queues ≡ 4) where
     where
       number : (k m : ℕ) → IsOfChain c k → IsOfChain c m → m / 64 ≡ k / 64 → m ≡ k
       number k m h g e = let a = h.1 in let b = g.1 in omega arith
+
       set-set : (qs : List (List X)) (i : ℕ) (xs ys : List X) → set (set qs i xs) i ys ≡ set qs i ys
       set-set [] i xs ys = refl
       set-set (q ∷ qs) zero xs ys = refl

@@ -43,6 +43,18 @@ fn holder_of<T: Ranked>(queues: &Four<BoxQueue<T>>, id: u32) -> Option<usize>
     None
 }
 
+// The first item whose key is smaller than `below`.
+fn first_below<T: Ranked>(queue: &BoxQueue<T>, below: i64) -> Option<&T>
+    ensures { option_copied result ≡ find_below T.key below queue.now }
+{
+    for item in queue.items() {
+        if item.key() < below {
+            return Some(item);
+        }
+    }
+    None
+}
+
 impl<T: Ranked> SleepChain<T> {
     /// A chain of this number, without sleepers.
     pub fn new(chain: u8) -> SleepChain<T>
@@ -69,8 +81,18 @@ impl<T: Ranked> SleepChain<T> {
         queue.insert_ranked(n);
     }
 
-    /// Takes the best of the channel whose key is less than `below`: of those the one with the greatest
-    /// rank, and of equal ranks the smallest key. `None` exactly where there is none.
+    /// The best of the channel whose key is smaller than `below`: of those the one with the greatest rank,
+    /// and of equal ranks the smallest key. `None` exactly where there is none.
+    pub fn best(&self, k: ChanId, below: i64) -> Option<&T>
+        requires { IsOfChain self.now k.0 }
+        ensures value { option_copied result ≡ find_below T.key below (sleepers_of self.now k.0) }
+        ensures best { IfSome (option_copied result) (λ x. IsBest (λ y. int_lt (T.key y) below) (precedes T.rank T.key) x (sleepers_of self.now k.0)) }
+    {
+        first_below(self.queues.at(k.0 as usize / 64), below)
+    }
+
+    /// Takes the best of the channel whose key is smaller than `below`, as `best` names it. `None` exactly
+    /// where there is none.
     pub fn take_best(&mut self, k: ChanId, below: i64) -> Option<Node<T>>
         requires { IsOfChain self.old k.0 }
         ensures taken { result ≡ find_below T.key below (sleepers_of self.old k.0) }

@@ -62,7 +62,7 @@ module _ {X : Type 0} where
   nobody_less Writer f e = ap (λ (xs : List X). record { writers = xs; readers = [] }) (sym e)
   nobody_less Reader f e = ap (λ (xs : List X). record { writers = []; readers = xs }) (sym e)
 
-  -- what stands at a place stands there by each name
+  -- what stands at an index stands there by each name
   pub renamed : (ss : List (Option (Waiters X))) (p : ℕ) (s t : Option (Waiters X)) → s ≡ t → slice_get ss p ≡ Some s → slice_get ss p ≡ Some t
   renamed ss p s t e = subst (λ o. slice_get ss p ≡ Some o) e
 
@@ -101,22 +101,28 @@ module _ {X : Type 0} where
     where
       there : (l : ℕ) (side : Side) (xs : List X) → IsOfChain c l → of_lock (with_waiters c l side xs) l ≡ with_side (of_lock c l) side xs
       there l side xs h = let b = h.0 in get_or-set_same c.locks (l / 64) (with_side (of_lock c l) side xs) nobody (omega arith)
+
       number : (l m : ℕ) → IsOfChain c l → IsOfChain c m → m / 64 ≡ l / 64 → m ≡ l
       number l m h g e = let a = h.1 in let b = g.1 in omega arith
+
       on_with : (w : Waiters X) (side : Side) (xs : List X) → on_side (with_side w side xs) side ≡ xs
       on_with w Writer xs = refl
       on_with w Reader xs = refl
+
       on_other : (w : Waiters X) (side other : Side) (xs : List X) → other ≢ side → on_side (with_side w side xs) other ≡ on_side w other
       on_other w Writer Writer xs d = absurd (d refl)
       on_other w Writer Reader xs d = refl
       on_other w Reader Writer xs d = refl
       on_other w Reader Reader xs d = absurd (d refl)
+
       with_on : (w : Waiters X) (side : Side) → with_side w side (on_side w side) ≡ w
       with_on w Writer = refl
       with_on w Reader = refl
+
       with_with : (w : Waiters X) (side : Side) (xs ys : List X) → with_side (with_side w side xs) side ys ≡ with_side w side ys
       with_with w Writer xs ys = refl
       with_with w Reader xs ys = refl
+
       set-set : (ws : List (Waiters X)) (i : ℕ) (v w : Waiters X) → set (set ws i v) i w ≡ set ws i w
       set-set [] i v w = refl
       set-set (u ∷ ws) zero v w = refl

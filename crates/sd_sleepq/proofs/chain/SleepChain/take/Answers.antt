@@ -1,5 +1,5 @@
-use Rattle.std.proofs.Common.{◌==◌, ◌∙◌, ◌+◌, ◌*◌, List, length-set, set, sym, ap, subst}
-use Rattle.sd_boxq.specs.Order.{IsRanked, drop_id}
+use Rattle.std.proofs.Common.{◌==◌, ◌∙◌, ◌+◌, ◌*◌, length-set, set, sym, subst}
+use Rattle.sd_boxq.specs.Order.{IsRanked}
 use Rattle.sd_boxq.proofs.InOrder.{IsRanked-drop_first}
 use Rattle.sd_sleepq.specs.Sleepers.{Sleepers, Leaves}
 use Rattle.sd_sleepq.proofs.Ordered.{IsRanked-read, AreRanked-set, has_left}

@@ -1,15 +1,10 @@
-use Rattle.std.proofs.Common.{length-set, int_lt, IfSome, ◌∙◌, ap, sym, subst, [], ℤ, ◌≡◌, w64}
-use mir.Val.{to_z, of_z, SFits}
-use Rattle.std.proofs.lemmas.Int.{to_z-of_z}
+use Rattle.std.proofs.Common.{length-set, int_lt, IfSome, ◌∙◌, ap, sym, subst, []}
 use Rattle.std.proofs.lemmas.Option.{get_or_from_slice_get}
 use Rattle.sd_boxq.specs.Order.{IsRanked, IsBest, precedes, find_below, drop_below}
 use Rattle.sd_sleepq.specs.Sleepers.{sleepers_of}
 use Rattle.sd_boxq.proofs.InOrder.{IsRanked-drop_first, best_first}
-use Rattle.sd_sleepq.proofs.Ordered.{IsRanked-read, AreRanked-set}
+use Rattle.sd_sleepq.proofs.Ordered.{same_number, IsRanked-read, AreRanked-set}
 use Rattle.sd_sleepq.proofs.chain.SleepChain.take_best.Goals as goal
-
-same_number : (z : ℤ) → SFits w64 z → to_z w64 (of_z w64 z) ≡ z
-same_number z f = to_z-of_z w64 z f
 
 pub invariant_of-self : goal.invariant_of-self
 invariant_of-self g c =
