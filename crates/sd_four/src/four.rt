@@ -1,5 +1,5 @@
 //! Four values of one type, by number: a chain has four channels or locks.
-ghost use Rattle.std.specs.Prelude.{◌≡◌, ◌<◌, get_or, [], ◌∷◌};
+ghost use Rattle.std.specs.Prelude.{◌≡◌, ◌<◌, slice_get, Some, [], ◌∷◌};
 ghost use Rattle.std.specs.Borrow.{sem};
 
 use std::marker::Model;
@@ -25,7 +25,7 @@ impl<Q> Model for Four<Q> {
 }
 
 impl<Q> Four<Q> {
-    ghost use Rattle.sd_four.specs.Lends.{lends_place};
+    ghost use Rattle.sd_four.specs.Lends.{lends_at};
 
     /// The four values in order.
     pub fn new(first: Q, second: Q, third: Q, fourth: Q) -> Four<Q>
@@ -39,12 +39,12 @@ impl<Q> Four<Q> {
         }
     }
 
-    /// The value at this place.
-    pub fn at(&self, place: usize) -> &Q
-        requires { place < 4 }
-        ensures { result.now ≡ get_or self.now place result.now }
+    /// The value at this index, counted from 0.
+    pub fn at(&self, index: usize) -> &Q
+        requires { index < 4 }
+        ensures { slice_get self.now index ≡ Some result.now }
     {
-        match place {
+        match index {
             0 => &self.first,
             1 => &self.second,
             2 => &self.third,
@@ -52,13 +52,13 @@ impl<Q> Four<Q> {
         }
     }
 
-    /// The value at this place, to be changed.
-    pub fn at_mut(&mut self, place: usize) -> &mut Q
-        requires { place < 4 }
-        ensures* writes_back { sem 𝓛 (lends_place Q.row self.entry place result) }
-        ensures value { result.now ≡ get_or self.old place result.now }
+    /// The value at this index, counted from 0, to be changed.
+    pub fn at_mut(&mut self, index: usize) -> &mut Q
+        requires { index < 4 }
+        ensures* writes_back { sem 𝓛 (lends_at Q.row self.entry index result) }
+        ensures value { slice_get self.old index ≡ Some result.now }
     {
-        match place {
+        match index {
             0 => &mut self.first,
             1 => &mut self.second,
             2 => &mut self.third,

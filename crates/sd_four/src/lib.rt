@@ -2,5 +2,7 @@
 #![tactic(auto)]
 
 mod four;
+#[cfg(test)]
+mod tests;
 
 pub use four::Four;

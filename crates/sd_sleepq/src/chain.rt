@@ -1,9 +1,9 @@
 //! The chain: its number, and a ranked queue for each of its four channels.
-ghost use Rattle.std.specs.Prelude.{◌≡◌, ◌+◌, ◌*◌, ◌<◌, ℕ, [], ◌∷◌, length, int_lt, IfSome, MatchOption, None};
-ghost use Rattle.std.specs.Option.{option_copied, option_map};
+ghost use Rattle.std.specs.Prelude.{◌≡◌, ◌<◌, [], ◌∷◌, length, int_lt, IfSome, MatchOption, None};
+ghost use Rattle.std.specs.Option.{option_copied};
 ghost use Rattle.sd_boxq.specs.Order.{precedes, insert_ranked, find_below, drop_below, IsBest};
-ghost use Rattle.sd_sleepq.specs.Among.{find_among, place_among, drop_among, AreRanked, IsHolder};
-ghost use Rattle.sd_sleepq.specs.Sleepers.{IsOfChain, sleepers_of, with_sleepers};
+ghost use Rattle.sd_sleepq.specs.Among.{find_among, AreRanked, IsHolder};
+ghost use Rattle.sd_sleepq.specs.Sleepers.{IsOfChain, sleepers_of, with_sleepers, Leaves, AreApart};
 
 use sd_boxq::{BoxQueue, Node, Ranked};
 use sd_four::Four;
@@ -30,14 +30,26 @@ impl<T: Ranked> Model for SleepChain<T> {
     ghost invariant = { λ a. (a.chain < 64) × (length a.queues ≡ 4) × (AreRanked T.rank T.key a.queues) };
 }
 
-// The place of the first queue that has an item with this id.
+// The index of the first queue that has an item with this id.
 fn holder_of<T: Ranked>(queues: &Four<BoxQueue<T>>, id: u32) -> Option<usize>
     requires { length queues.now ≡ 4 }
     ensures { MatchOption result (find_among T.id id queues.now ≡ None) (IsHolder T.id id queues.now) }
 {
-    for place in 0..4 {
-        if queues.at(place).find(id).is_some() {
-            return Some(place);
+    for index in 0..4 {
+        if queues.at(index).find(id).is_some() {
+            return Some(index);
+        }
+    }
+    None
+}
+
+// The first item whose key is smaller than `below`.
+fn first_below<T: Ranked>(queue: &BoxQueue<T>, below: i64) -> Option<&T>
+    ensures { option_copied result ≡ find_below T.key below queue.now }
+{
+    for item in queue.items() {
+        if item.key() < below {
+            return Some(item);
         }
     }
     None
@@ -69,8 +81,18 @@ impl<T: Ranked> SleepChain<T> {
         queue.insert_ranked(n);
     }
 
-    /// Takes the best of the channel whose key is less than `below`: of those the one with the greatest
-    /// rank, and of equal ranks the least key. `None` exactly where there is none.
+    /// The best of the channel whose key is smaller than `below`: of those the one with the greatest rank,
+    /// and of equal ranks the smallest key. `None` exactly where there is none.
+    pub fn best(&self, k: ChanId, below: i64) -> Option<&T>
+        requires { IsOfChain self.now k.0 }
+        ensures value { option_copied result ≡ find_below T.key below (sleepers_of self.now k.0) }
+        ensures best { IfSome (option_copied result) (λ x. IsBest (λ y. int_lt (T.key y) below) (precedes T.rank T.key) x (sleepers_of self.now k.0)) }
+    {
+        first_below(self.queues.at(k.0 as usize / 64), below)
+    }
+
+    /// Takes the best of the channel whose key is smaller than `below`, as `best` names it. `None` exactly
+    /// where there is none.
     pub fn take_best(&mut self, k: ChanId, below: i64) -> Option<Node<T>>
         requires { IsOfChain self.old k.0 }
         ensures taken { result ≡ find_below T.key below (sleepers_of self.old k.0) }
@@ -88,26 +110,41 @@ impl<T: Ranked> SleepChain<T> {
     {
         match holder_of(&self.queues, id) {
             None => None,
-            Some(place) => self.queues.at(place).find(id),
+            Some(index) => self.queues.at(index).find(id),
         }
     }
 
     /// Takes the first sleeper with this id, by channel, and tells its channel. `None` exactly where there
     /// is none.
     pub fn take(&mut self, id: u32) -> Option<(ChanId, Node<T>)>
-        ensures taken { option_map (λ r. r.1) result ≡ find_among T.id id self.old.queues }
-        ensures channel { IfSome result (λ r. r.0.0 ≡ 64 * place_among T.id id self.old.queues + self.old.chain) }
-        ensures rest { self.new ≡ record self.old { queues = drop_among T.id id self.old.queues } }
+        ensures { MatchOption result ((find_among T.id id self.old.queues ≡ None) × (self.new ≡ self.old)) (λ r. Leaves T.id id self.old r.0.0 r.1 self.new) }
     {
         match holder_of(&self.queues, id) {
             None => None,
-            Some(place) => {
-                let queue = self.queues.at_mut(place);
+            Some(index) => {
+                let queue = self.queues.at_mut(index);
                 match queue.take_first(id) {
-                    None => None,
-                    Some(n) => Some((ChanId(64 * place as u16 + self.chain as u16), n)),
+                    None => unreachable!(),
+                    Some(n) => Some((ChanId(64 * index as u16 + self.chain as u16), n)),
                 }
             }
         }
+    }
+
+    /// A law, which does nothing: the number of a chain is below 64, and it has four channels, each in order
+    /// of rank and key.
+    pub fn has_four_channels(&self)
+        ensures number { self.now.chain < 64 }
+        ensures four { length self.now.queues ≡ 4 }
+        ensures order { AreRanked T.rank T.key self.now.queues }
+    {
+        let _ = &self.chain;
+    }
+
+    /// A law, which does nothing: what is put on one channel stands there, and on no other.
+    pub fn channels_are_apart(&self)
+        ensures { AreApart self.now }
+    {
+        let _ = &self.chain;
     }
 }

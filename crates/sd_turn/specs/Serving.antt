@@ -41,11 +41,11 @@ abbrev pub AreIdle : {T : Type 0} → List (Waiters T) → Type 0
 AreIdle [] = Unit {0}
 AreIdle (w ∷ ws) = IsIdle w × AreIdle ws
 
--- the turnstile that serves the lock at place p
+-- the turnstile that serves the lock at index i
 abbrev pub slot_at : {T : Type 0} → List (Option (Waiters T)) → ℕ → Option (Waiters T)
-slot_at ss p = get_or ss p None
+slot_at ss i = get_or ss i None
 
--- the first waiter with the id n waits at a side of the lock at place p
+-- the first waiter with the id n waits at a side of the lock at index i
 abbrev pub IsHolder : {T : Type 0} → (T → ℕ) → ℕ → List (Option (Waiters T)) → ℕ → Side → Type 0
-IsHolder id n ss p side =
-    (p < length ss) × (is_some (find_among id n (all_served ss)) ≡ true) × (find_id id n (on_side (served (slot_at ss p)) side) ≡ find_among id n (all_served ss))
+IsHolder id n ss i side =
+    (i < length ss) × (is_some (find_among id n (all_served ss)) ≡ true) × (find_id id n (on_side (served (slot_at ss i)) side) ≡ find_among id n (all_served ss))

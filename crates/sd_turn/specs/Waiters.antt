@@ -1,10 +1,10 @@
 -- The waiters of locks (Solaris Internals, turnstiles), as contracts see them.
 -- That chains have locks of one residue modulo 64 is this project's own.
-use Rattle.std.specs.Prelude.{◌≡◌, ℕ, ◌+◌, ◌<◌, ◌/◌, ◌%◌, max, List, [], ◌∷◌, ◌++◌, length, get_or, set, Option, None, Some}
+use Rattle.std.specs.Prelude.{◌≡◌, ◌≢◌, ℕ, ℤ, ◌+◌, ◌<◌, ◌/◌, ◌%◌, max, List, [], ◌∷◌, ◌++◌, length, get_or, set, Option, None, Some}
 use Rattle.std.specs.Option.{option_or}
 use Rattle.sd_types.specs.declared.numbers.Side.{Side}
 use Rattle.sd_types.specs.declared.numbers.Side.TheVariants.{Writer, Reader}
-use Rattle.sd_boxq.specs.Order.{find_id, drop_id}
+use Rattle.sd_boxq.specs.Order.{find_id, drop_id, IsRanked}
 
 -- the waiters of one lock, on its two sides
 pub record Waiters (T : Type 0) : Type 0 where
@@ -47,6 +47,19 @@ waiters_at c l side = on_side (of_lock c l) side
 -- the chain with these waiters for the lock l at a side
 abbrev pub with_waiters : {T : Type 0} → Blocked T → ℕ → Side → List T → Blocked T
 with_waiters c l side xs = record c { locks = set c.locks (l / 64) (with_side (of_lock c l) side xs) }
+
+-- each side of each lock stands in order of rank and key
+abbrev pub AreRanked : {T : Type 0} → (T → ℕ) → (T → ℤ) → Blocked T → Type 0
+AreRanked {T = T} rank key c = (l : ℕ) (side : Side) → IsRanked rank key (waiters_at c l side)
+
+-- who waits for the locks of a chain once a side of a lock has other waiters
+pub record AreApart {T : Type 0} (c : Blocked T) : Type 0 where
+  pub of_lock_here : (l : ℕ) (side : Side) (xs : List T) → IsOfChain c l → of_lock (with_waiters c l side xs) l ≡ with_side (of_lock c l) side xs
+  pub here : (l : ℕ) (side : Side) (xs : List T) → IsOfChain c l → waiters_at (with_waiters c l side xs) l side ≡ xs
+  pub other_side : (l : ℕ) (side other : Side) (xs : List T) → IsOfChain c l → other ≢ side → waiters_at (with_waiters c l side xs) l other ≡ waiters_at c l other
+  pub other_locks : (l m : ℕ) (side : Side) (xs : List T) → IsOfChain c l → IsOfChain c m → m ≢ l → of_lock (with_waiters c l side xs) m ≡ of_lock c m
+  pub same : (l : ℕ) (side : Side) → IsOfChain c l → with_waiters c l side (waiters_at c l side) ≡ c
+  pub again : (l : ℕ) (side : Side) (xs ys : List T) → IsOfChain c l → with_waiters (with_waiters c l side xs) l side ys ≡ with_waiters c l side ys
 
 -- the greater of two ranks, where there are any
 abbrev pub higher : Option ℕ → Option ℕ → Option ℕ

@@ -1,8 +1,8 @@
 //! The chain of turnstiles: its number, the turnstile that serves each lock, and the free ones.
-ghost use Rattle.std.specs.Prelude.{◌≡◌, ◌+◌, ◌*◌, ◌<◌, ◌^◌, ℕ, [], ◌∷◌, length, slice_get, drop, IfSome, MatchOption, None};
+ghost use Rattle.std.specs.Prelude.{◌≡◌, ◌<◌, ◌^◌, [], ◌∷◌, length, slice_get, drop, IfSome, MatchOption, None, true};
 ghost use Rattle.std.specs.Option.{option_copied, option_map};
-ghost use Rattle.sd_boxq.specs.Order.{insert_ranked, IsRanked};
-ghost use Rattle.sd_turn.specs.Waiters.{nobody, IsIdle, IsOfChain, of_lock, waiters_at, with_waiters, waiter_count, highest_waiter, find_among, Leaves};
+ghost use Rattle.sd_boxq.specs.Order.{precedes, insert_ranked, IsRanked, IsBest};
+ghost use Rattle.sd_turn.specs.Waiters.{nobody, IsIdle, IsOfChain, of_lock, waiters_at, with_waiters, waiter_count, highest_waiter, find_among, Leaves, AreRanked, AreApart};
 ghost use Rattle.sd_turn.specs.Serving.{all_served, IsHolder};
 
 use crate::rack::Rack;
@@ -42,10 +42,10 @@ fn holder_of<T: Ranked>(locks: &Four<Option<Turnstile<T>>>, id: u32) -> Option<(
     requires { length locks.now ≡ 4 }
     ensures { MatchOption result (find_among T.id id (all_served locks.now) ≡ None) (λ r. IsHolder T.id id locks.now r.0 r.1) }
 {
-    for place in 0..4 {
-        if let Some(turnstile) = locks.at(place) {
+    for index in 0..4 {
+        if let Some(turnstile) = locks.at(index) {
             if let Some(side) = turnstile.side_of(id) {
-                return Some((place, side));
+                return Some((index, side));
             }
         }
     }
@@ -100,12 +100,13 @@ impl<T: Ranked> TurnChain<T> {
         }
     }
 
-    /// The best waiter at a side of the lock: the greatest rank, and of equal ranks the least key. `None`
+    /// The best waiter at a side of the lock: the greatest rank, and of equal ranks the smallest key. `None`
     /// exactly where there is none.
     pub fn best(&self, l: LockId, side: Side) -> Option<&T>
         requires { IsOfChain self.now l.0 }
         ensures value { option_copied result ≡ slice_get (waiters_at self.now l.0 side) 0 }
         ensures order { IsRanked T.rank T.key (waiters_at self.now l.0 side) }
+        ensures best { IfSome (option_copied result) (λ x. IsBest (λ _. true) (precedes T.rank T.key) x (waiters_at self.now l.0 side)) }
     {
         match self.locks.at(l.0 as usize / 64) {
             None => None,
@@ -120,6 +121,7 @@ impl<T: Ranked> TurnChain<T> {
         ensures taken { option_map (λ r. r.0) result ≡ slice_get (waiters_at self.old l.0 side) 0 }
         ensures rest { self.new ≡ with_waiters self.old l.0 side (drop 1 (waiters_at self.old l.0 side)) }
         ensures turnstile { IfSome result (λ r. IsIdle r.1) }
+        ensures best { IfSome result (λ r. IsBest (λ _. true) (precedes T.rank T.key) r.0 (waiters_at self.old l.0 side)) }
     {
         let slot = self.locks.at_mut(l.0 as usize / 64);
         match slot.take() {
@@ -145,7 +147,7 @@ impl<T: Ranked> TurnChain<T> {
     {
         match holder_of(&self.locks, id) {
             None => None,
-            Some((place, side)) => match self.locks.at(place) {
+            Some((index, side)) => match self.locks.at(index) {
                 None => None,
                 Some(turnstile) => turnstile.find(side, id),
             },
@@ -160,8 +162,8 @@ impl<T: Ranked> TurnChain<T> {
     {
         match holder_of(&self.locks, id) {
             None => None,
-            Some((place, side)) => {
-                let slot = self.locks.at_mut(place);
+            Some((index, side)) => {
+                let slot = self.locks.at_mut(index);
                 match slot.take() {
                     None => unreachable!(),
                     Some(mut turnstile) => match turnstile.take_first(side, id) {
@@ -169,12 +171,29 @@ impl<T: Ranked> TurnChain<T> {
                         Some(n) => {
                             let (serving, own) = released(turnstile, &mut self.free);
                             fill(slot, serving);
-                            let lock = LockId(64 * place as u16 + self.chain as u16);
+                            let lock = LockId(64 * index as u16 + self.chain as u16);
                             Some((lock, side, n, own))
                         }
                     },
                 }
             }
         }
+    }
+
+    /// A law, which does nothing: the number of a chain is below 64, it has four locks, and each side of
+    /// each is in order of rank and key.
+    pub fn has_four_locks(&self)
+        ensures number { self.now.chain < 64 }
+        ensures four { length self.now.locks ≡ 4 }
+        ensures order { AreRanked T.rank T.key self.now }
+    {
+        let _ = &self.chain;
+    }
+
+    /// A law, which does nothing: who is put at a side of a lock waits there, and nowhere else.
+    pub fn locks_are_apart(&self)
+        ensures { AreApart self.now }
+    {
+        let _ = &self.chain;
     }
 }

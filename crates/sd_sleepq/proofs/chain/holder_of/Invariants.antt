@@ -1,8 +1,6 @@
-use Rattle.std.proofs.Common.{◌≡◌, ◌+◌, drop}
-use Rattle.sd_sleepq.specs.Among.{find_among, place_among}
+use Rattle.std.proofs.Common.{◌≡◌, ℕ, ◌<◌, None, get_or, []}
+use Rattle.sd_boxq.specs.Order.{find_id}
 use Rattle.sd_sleepq.proofs.chain.holder_of.Given as goal
 
-abbrev pub invariant-loop-place : goal.invariant-loop-place
-invariant-loop-place g l =
-    (find_among g.T.Ranked.id l.id (drop l.place l.queues) ≡ find_among g.T.Ranked.id l.id l.queues)
-    × (l.place + place_among g.T.Ranked.id l.id (drop l.place l.queues) ≡ place_among g.T.Ranked.id l.id l.queues)
+abbrev pub invariant-loop-index : goal.invariant-loop-index
+invariant-loop-index g l = (i : ℕ) → i < l.index → find_id g.T.Ranked.id l.id (get_or l.queues i []) ≡ None

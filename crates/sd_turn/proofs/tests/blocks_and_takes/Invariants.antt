@@ -4,5 +4,5 @@ use Rattle.sd_turn.proofs.tests.blocks_and_takes.Given as goal
 abbrev pub invariant-loop-lock : goal.invariant-loop-lock
 invariant-loop-lock g l = l.chain.chain ≡ 5
 
-abbrev pub invariant-loop-lock-2 : goal.invariant-loop-lock-2
-invariant-loop-lock-2 g l = l.chain.chain ≡ 5
+abbrev pub invariant-loop-lock-3 : goal.invariant-loop-lock-3
+invariant-loop-lock-3 g l = l.chain.chain ≡ 5

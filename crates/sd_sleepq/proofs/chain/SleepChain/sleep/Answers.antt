@@ -1,4 +1,4 @@
-use Rattle.std.proofs.Common.{◌<◌, ◌/◌, length, length-set, ◌∙◌, sym, subst, arith}
+use Rattle.std.proofs.Common.{length-set, ◌∙◌, sym, subst}
 use Rattle.sd_boxq.specs.Order.{IsRanked}
 use Rattle.sd_boxq.proofs.InOrder.{IsRanked-insert}
 use Rattle.sd_sleepq.proofs.Ordered.{IsRanked-read, AreRanked-set}
@@ -8,12 +8,9 @@ pub invariant_of-self : goal.invariant_of-self
 invariant_of-self g c =
     let rank = g.T.Ranked.rank in
     let key = g.T.Ranked.key in
-    let n = c.self.invariant.1 in
-    let m = c.requires.0 in
-    let h : c.args.k.0 / 64 < length c.self.inside.queues = omega arith in
     let q = c.at_mut-queue.result.now in
-    let old = IsRanked-read rank key c.self.inside.queues _ q c.at_mut-queue.ensures.value h c.self.invariant.2 in (
+    let old = IsRanked-read rank key c.self.inside.queues _ q c.at_mut-queue.ensures.value c.self.invariant.2 in (
       c.self.invariant.0,
-      length-set c.self.inside.queues _ _ ∙ n,
+      length-set c.self.inside.queues _ _ ∙ c.self.invariant.1,
       AreRanked-set rank key c.self.inside.queues _ _ c.self.invariant.2 (subst (IsRanked rank key) (sym c.insert_ranked.ensures) (IsRanked-insert rank key c.args.n q old)),
     )

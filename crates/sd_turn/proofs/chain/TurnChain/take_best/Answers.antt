@@ -1,8 +1,8 @@
-use Rattle.std.proofs.Common.{◌<◌, ◌/◌, drop, set, refl, slice_get, sym, ap, ◌∙◌, subst, arith}
+use Rattle.std.proofs.Common.{◌<◌, ◌/◌, drop, set, refl, slice_get, Some, sym, ap, ◌∙◌, subst, arith}
 use Rattle.sd_boxq.proofs.InOrder.{IsRanked-drop}
 use Rattle.sd_turn.specs.Waiters.{on_side, with_side}
 use Rattle.sd_turn.specs.Serving.{served}
-use Rattle.sd_turn.proofs.ChainLemmas.{Sound, Sound-leaves, spare_there, lock_is, lock_set, length-drop_front, nobody_there, nobody_less, ranked_at, ranked_side, renamed}
+use Rattle.sd_turn.proofs.ChainLemmas.{Sound, Sound-leaves, spare_there, lock_is, lock_set, length-drop_front, nobody_there, nobody_less, nobody_leaves, Sound-same, are_ranked, first_best, ranked_at, ranked_side, renamed}
 use Rattle.sd_turn.proofs.chain.TurnChain.take_best.Goals as goal
 
 pub released-serving-requires : goal.released-serving-requires
@@ -65,3 +65,22 @@ returns-in-None-pop-clause-rest g c =
     lock_set c.self.inside.chain c.self.inside.locks c.args.self.now c.args.l.0 c.at_mut-slot.result.now c.self.view_is c.at_mut-slot.ensures.value c.requires.0 c.self.invariant.1
     c.fill.new.slot c.args.side (drop 1)
     (ap served c.fill.ensures ∙ c.pop.ensures.rest ∙ ap (λ o. with_side (served o) c.args.side (drop 1 (on_side (served o) c.args.side))) (sym some))
+
+pub invariant_of-self : goal.invariant_of-self
+invariant_of-self g c =
+    let none = sym c.take.ensures.value ∙ c.in-None.is in
+    Sound-same g.T.Ranked.rank g.T.Ranked.key c.self.inside.chain c.self.inside.locks c.self.inside.free (c.args.l.0 / 64) _ c.take.new.self
+    c.self.invariant c.at_mut-slot.ensures.value (c.take.ensures.after ∙ sym none)
+
+pub invariant_of-self-in-None-pop : goal.invariant_of-self-in-None-pop
+invariant_of-self-in-None-pop g c =
+    let some = sym c.take.ensures.value ∙ c.in-Some.is in
+    let none = sym c.pop.ensures.taken ∙ c.in-None-pop.is in
+    Sound-same g.T.Ranked.rank g.T.Ranked.key c.self.inside.chain c.self.inside.locks c.self.inside.free (c.args.l.0 / 64) _ c.fill.new.slot
+    c.self.invariant c.at_mut-slot.ensures.value (c.fill.ensures ∙ ap Some (c.pop.ensures.rest ∙ nobody_leaves c.in-Some.turnstile c.args.side none) ∙ sym some)
+
+pub returns-in-Some-pop-clause-best : goal.returns-in-Some-pop-clause-best
+returns-in-Some-pop-clause-best g c =
+    let lock = lock_is c.self.inside.chain c.self.inside.locks c.args.self.now c.args.l.0 c.at_mut-slot.result.now c.self.view_is c.at_mut-slot.ensures.value c.requires.0 c.self.invariant.1 ∙ ap served (sym c.take.ensures.value ∙ c.in-Some.is) in
+    let order = are_ranked g.T.Ranked.rank g.T.Ranked.key c.self.inside.chain c.self.inside.locks c.args.self.now c.self.invariant.2 c.self.view_is c.args.l.0 c.args.side in
+    first_best g.T.Ranked.rank g.T.Ranked.key _ (Some c.in-Some-pop.n) order (sym c.in-Some-pop.is ∙ c.pop.ensures.taken ∙ ap (λ w. slice_get (on_side w c.args.side) 0) (sym lock))
