@@ -7,7 +7,7 @@ use Rattle.std.specs.Io.KnownBytes.{Appends, Consumes}
 use Rattle.sd_text.specs.declared.read.ReadAllFault.TheVariants.{TooLarge, Memory}
 use Rattle.sd_text.specs.Reading.{TakesUpTo}
 
--- the front of a piece and then the front of its rest are a longer front
+-- a prefix of a piece and then a prefix of its rest are a longer prefix
 pub Appends-more : (a b c : Option (List ℕ)) (piece : List ℕ) (at n : ℕ)
     → Appends a b (take at piece) → Appends b c (take n (take (length piece - at) (drop at piece)))
     → Appends a c (take (at + n) piece)
@@ -15,9 +15,9 @@ Appends-more a b c piece at n first second =
     let rest = subst (λ p. Appends b c (take n p)) (take_rest piece at) second in
     subst (Appends a c) (sym (take-add at n piece)) (Appends-trans a b c _ _ first rest)
 
--- a front of a slice has the length that was asked for
-pub length-front : (xs buffer : List ℕ) (n : ℕ) → n ≤ length buffer → length (xs ++ take n buffer) ≡ length xs + n
-length-front xs buffer n within = length-append xs (take n buffer) ∙ ap (λ k. length xs + k) (length-take-le n buffer within)
+-- a prefix of a slice has the length that was asked for
+pub length-prefix : (xs buffer : List ℕ) (n : ℕ) → n ≤ length buffer → length (xs ++ take n buffer) ≡ length xs + n
+length-prefix xs buffer n within = length-append xs (take n buffer) ∙ ap (λ k. length xs + k) (length-take-le n buffer within)
 
 -- a read that went past the limit, by one byte
 pub TakesUpTo-too_large : (most : ℕ) (a b c : Option (List ℕ)) (xs buffer : List ℕ) (n : ℕ)
@@ -26,8 +26,8 @@ pub TakesUpTo-too_large : (most : ℕ) (a b c : Option (List ℕ)) (xs buffer : 
 TakesUpTo-too_large most a b c xs buffer n first second within all = record {
   bytes = xs ++ take n buffer;
   front = Consumes-trans a b c _ _ first second;
-  bound = omega (arith, length-front xs buffer n within);
-  too_large = (λ _. length-front xs buffer n within ∙ all, λ _. refl);
+  bound = omega (arith, length-prefix xs buffer n within);
+  too_large = (λ _. length-prefix xs buffer n within ∙ all, λ _. refl);
   all = tt;
 }
 
@@ -38,8 +38,8 @@ pub TakesUpTo-memory : (most : ℕ) (a b c : Option (List ℕ)) (xs buffer : Lis
 TakesUpTo-memory most a b c xs buffer n first second within all = record {
   bytes = xs ++ take n buffer;
   front = Consumes-trans a b c _ _ first second;
-  bound = omega (arith, length-front xs buffer n within);
-  too_large = (λ e. cc, λ e. absurd (omega (arith, length-front xs buffer n within)));
+  bound = omega (arith, length-prefix xs buffer n within);
+  too_large = (λ e. cc, λ e. absurd (omega (arith, length-prefix xs buffer n within)));
   all = tt;
 }
 
