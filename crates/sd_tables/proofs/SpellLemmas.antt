@@ -1,5 +1,5 @@
 -- A sheet of the right number of rows makes the table that the text spells.
-use Rattle.std.proofs.Common.{◌≡◌, ℕ, ◌≤◌, true, nat_eq, List, length, map, Option, unwrap_or, sym, ap, ◌∙◌}
+use Rattle.std.proofs.Common.{◌≡◌, ℕ, ◌≤◌, true, nat_eq, List, map, Option, unwrap_or, sym, ap, ◌∙◌}
 use Rattle.std.specs.List.{list_all}
 use Rattle.sd_types.specs.declared.tables.TsRow.{TsRow}
 use Rattle.sd_types.specs.declared.tables.FixedRow.{FixedRow}
