@@ -2,7 +2,7 @@ use Rattle.std.proofs.Common.{◌≡◌, ◌+◌, ◌-◌, ◌≤◌, ◌++◌, 
 use Rattle.std.specs.Option.{option_map}
 use Rattle.sd_work.specs.Statements.{statements_of}
 use Rattle.sd_work.specs.Plain.{statements, IsKept}
-use Rattle.sd_work.proofs.sheet.read_statements.Given as goal
+use Rattle.sd_work.proofs.statement_reader.read_statements.Given as goal
 
 -- the statements so far and those of what is left are those of the text
 abbrev pub invariant-loop-start : goal.invariant-loop-start

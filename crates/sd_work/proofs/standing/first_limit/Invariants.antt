@@ -1,7 +1,7 @@
 use Rattle.std.proofs.Common.{◌≡◌, drop}
 use Rattle.sd_work.specs.Statements.{limit_in}
 use Rattle.sd_work.specs.Plain.{statements}
-use Rattle.sd_work.proofs.standing.limit.Given as goal
+use Rattle.sd_work.proofs.standing.first_limit.Given as goal
 
 -- those that were passed give none
 abbrev pub invariant-loop-statement : goal.invariant-loop-statement

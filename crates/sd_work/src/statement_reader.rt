@@ -2,17 +2,39 @@
 
 ghost use Rattle.std.specs.Prelude.{◌≡◌, List, ◌+◌, ◌<◌, ◌≤◌, ◌^◌, ◌∷◌, length, drop, IfOk, IsErrOf, Some, None, option_map};
 ghost use Rattle.sd_text.specs.Words.{words_of};
-ghost use Rattle.sd_work.specs.Plain.{statement_of, statements, IsKept};
+ghost use Rattle.sd_work.specs.Plain.{statement_of, statements, IsKept, IsOuterLine};
 ghost use Rattle.sd_work.specs.Statements.{Statement as Stated, statements_of, statements_from, AreSound};
 
 use crate::WorkFault;
 use crate::blocks::block;
-use crate::forms::Form;
+use crate::fault::Refusal;
+use crate::forms::{Form, ThreadLine, TickLimit};
 use crate::lines::next_word_line;
-use crate::reading::form;
-use crate::standing::may_stand;
+use crate::parse::parse_line;
+use crate::standing::check_standing;
 use crate::statements::{Block, Statement};
+use sd_types::Name;
 use std::alloc::Global;
+
+/// A line outside blocks.
+#[derive(Drop)]
+pub enum OuterLine {
+    Limit(TickLimit),
+    Thread(ThreadLine),
+    /// The script of this thread begins.
+    Script(Name),
+}
+
+fn outer_line(line: &[u8]) -> Result<OuterLine, Refusal>
+    ensures { IsOuterLine result (words_of line.now) }
+{
+    match parse_line(line) {
+        Some(Form::Limit(limit)) => Ok(OuterLine::Limit(limit)),
+        Some(Form::Thread(thread)) => Ok(OuterLine::Thread(thread)),
+        Some(Form::Script(name)) => Ok(OuterLine::Script(name)),
+        _ => Err(Refusal),
+    }
+}
 
 /// The statement that begins with a line, where the lines below it begin at `from`, and where the lines below the
 /// statement begin.
@@ -31,14 +53,13 @@ fn statement(
     ensures not_built { IsErrOf result WorkFault.NotBuilt
         → statements_from (words_of line.now) (drop from bytes.now) ≡ None }
 {
-    match form(line) {
-        Some(Form::Limit(limit)) => Ok((Statement::Limit(limit), from)),
-        Some(Form::Thread(thread)) => Ok((Statement::Thread(thread), from)),
-        Some(Form::Script(name)) => {
+    match outer_line(line)? {
+        OuterLine::Limit(limit) => Ok((Statement::Limit(limit), from)),
+        OuterLine::Thread(thread) => Ok((Statement::Thread(thread), from)),
+        OuterLine::Script(name) => {
             let (ops, to) = block(alloc, bytes, from)?;
             Ok((Statement::Script(Block { name, ops }), to))
         }
-        _ => Err(WorkFault::NotBuilt),
     }
 }
 
@@ -54,9 +75,7 @@ pub fn read_statements(alloc: Global, bytes: &[u8]) -> Result<Vec<Statement>, Wo
     let mut from = 0;
     while let Some((start, end)) = next_word_line(bytes, from) {
         let (statement, to) = statement(alloc, &bytes[start..end], bytes, end + 1)?;
-        if !may_stand(&found, &statement) {
-            return Err(WorkFault::NotBuilt);
-        }
+        check_standing(&found, &statement)?;
         found.push(statement)?;
         from = to;
     }

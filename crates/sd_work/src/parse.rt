@@ -7,7 +7,7 @@ ghost use Rattle.sd_types.specs.Works.{upri_fits, class_fits};
 ghost use Rattle.sd_work.specs.Spans.{word_at, is_within};
 ghost use Rattle.sd_text.specs.Words.{words_of};
 ghost use Rattle.sd_work.specs.Lines.{limit_said, script_said, run_said, thread_said, said_by};
-ghost use Rattle.sd_work.specs.Plain.{said};
+ghost use Rattle.sd_work.specs.Plain.{said_by_form};
 
 use crate::forms::{Form, ThreadLine, TickLimit, Ticks};
 use crate::names::name;
@@ -16,24 +16,24 @@ use crate::spans::{Span, spans};
 use sd_types::ClassParms;
 
 // `limit N`, behind `limit`
-fn limit(number: &[u8]) -> Option<Form>
-    ensures { option_map said result ≡ limit_said number.now }
+fn limit_form(number: &[u8]) -> Option<Form>
+    ensures { option_map said_by_form result ≡ limit_said number.now }
 {
     let ticks = number_within(1, 99, number)?;
     Some(Form::Limit(TickLimit { ticks }))
 }
 
 // `script NAME`, behind `script`
-fn script(word: &[u8]) -> Option<Form>
-    ensures { option_map said result ≡ script_said word.now }
+fn script_form(word: &[u8]) -> Option<Form>
+    ensures { option_map said_by_form result ≡ script_said word.now }
 {
     let name = name(word)?;
     Some(Form::Script(name))
 }
 
 // `run N`, behind `run`
-fn run(number: &[u8]) -> Option<Form>
-    ensures { option_map said result ≡ run_said number.now }
+fn run_form(number: &[u8]) -> Option<Form>
+    ensures { option_map said_by_form result ≡ run_said number.now }
 {
     let count = number_within(1, 100_000, number)?;
     Some(Form::Run(Ticks { count }))
@@ -54,8 +54,8 @@ fn class_parms(limit: i8, upri: i8) -> ClassParms
 }
 
 // `thread NAME ts CPUPRI LIMIT UPRI`, behind `thread`
-fn thread(word: &[u8], class: &[u8], cpupri: &[u8], limit: &[u8], user: &[u8]) -> Option<Form>
-    ensures { option_map said result ≡ thread_said word.now class.now cpupri.now limit.now user.now }
+fn thread_form(word: &[u8], class: &[u8], cpupri: &[u8], limit: &[u8], user: &[u8]) -> Option<Form>
+    ensures { option_map said_by_form result ≡ thread_said word.now class.now cpupri.now limit.now user.now }
 {
     let name = name(word)?;
     if !is_word(class, b"ts") {
@@ -73,8 +73,8 @@ fn thread(word: &[u8], class: &[u8], cpupri: &[u8], limit: &[u8], user: &[u8]) -
 
 // A line of one word.
 #[tactic(auto, unfolding(crate::specs::Lines::said_by))]
-fn alone(word: &[u8]) -> Option<Form>
-    ensures { option_map said result ≡ said_by (word.now ∷ []) }
+fn one_word_line(word: &[u8]) -> Option<Form>
+    ensures { option_map said_by_form result ≡ said_by (word.now ∷ []) }
 {
     if is_word(word, b"end") {
         Some(Form::End)
@@ -85,15 +85,15 @@ fn alone(word: &[u8]) -> Option<Form>
 
 // A line of two words.
 #[tactic(auto, unfolding(crate::specs::Lines::said_by))]
-fn with_value(word: &[u8], value: &[u8]) -> Option<Form>
-    ensures { option_map said result ≡ said_by (word.now ∷ value.now ∷ []) }
+fn two_word_line(word: &[u8], value: &[u8]) -> Option<Form>
+    ensures { option_map said_by_form result ≡ said_by (word.now ∷ value.now ∷ []) }
 {
     if is_word(word, b"limit") {
-        limit(value)
+        limit_form(value)
     } else if is_word(word, b"script") {
-        script(value)
+        script_form(value)
     } else if is_word(word, b"run") {
-        run(value)
+        run_form(value)
     } else {
         None
     }
@@ -101,7 +101,7 @@ fn with_value(word: &[u8], value: &[u8]) -> Option<Form>
 
 // A line of six words.
 #[tactic(auto, unfolding(crate::specs::Lines::said_by))]
-fn with_class(
+fn six_word_line(
     word: &[u8],
     name: &[u8],
     class: &[u8],
@@ -109,11 +109,11 @@ fn with_class(
     limit: &[u8],
     user: &[u8],
 ) -> Option<Form>
-    ensures { option_map said result
+    ensures { option_map said_by_form result
         ≡ said_by (word.now ∷ name.now ∷ class.now ∷ cpupri.now ∷ limit.now ∷ user.now ∷ []) }
 {
     if is_word(word, b"thread") {
-        thread(name, class, cpupri, limit, user)
+        thread_form(name, class, cpupri, limit, user)
     } else {
         None
     }
@@ -130,15 +130,15 @@ fn word<'a>(line: &'a [u8], spans: &[Span], i: usize) -> &'a [u8]
 }
 
 /// What a line says, if it has a form.
-pub fn form(line: &[u8]) -> Option<Form>
-    ensures { option_map said result ≡ said_by (words_of line.now) }
+pub fn parse_line(line: &[u8]) -> Option<Form>
+    ensures { option_map said_by_form result ≡ said_by (words_of line.now) }
 {
     let found = spans(line)?;
     let spans = found.as_slice();
     match spans.len() {
-        1 => alone(word(line, spans, 0)),
-        2 => with_value(word(line, spans, 0), word(line, spans, 1)),
-        6 => with_class(
+        1 => one_word_line(word(line, spans, 0)),
+        2 => two_word_line(word(line, spans, 0), word(line, spans, 1)),
+        6 => six_word_line(
             word(line, spans, 0),
             word(line, spans, 1),
             word(line, spans, 2),

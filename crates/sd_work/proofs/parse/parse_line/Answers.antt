@@ -3,7 +3,7 @@ use Rattle.std.proofs.lemmas.List.{length-map}
 use Rattle.sd_text.specs.Words.{words_of}
 use Rattle.sd_work.specs.Spans.{word_at}
 use Rattle.sd_work.proofs.FormLemmas.{said_by-other}
-use Rattle.sd_work.proofs.reading.form.Goals as goal
+use Rattle.sd_work.proofs.parse.parse_line.Goals as goal
 
 pub returns-in_err-found : goal.returns-in_err-found
 returns-in_err-found c =

@@ -18,10 +18,10 @@ below-more : (made : List Statement) (s : Statement) (o : Option (List Statement
 below-more made s None = refl
 below-more made s (Some ss) = ap Some (append_assoc made (s ∷ []) ss)
 
-pub sheet-more : (text rest to : List ℕ) (line : Line) (s : Statement) (made new : List Statement) (whole : Option (List Statement))
+pub statements-more : (text rest to : List ℕ) (line : Line) (s : Statement) (made new : List Statement) (whole : Option (List Statement))
     → word_lines text ≡ line ∷ word_lines rest → statements_from line rest ≡ option_map (λ ss. s ∷ ss) (statements_of to) → new ≡ made ++ s ∷ []
     → below made (statements_of text) ≡ whole → below new (statements_of to) ≡ whole
-sheet-more text rest to line s made new whole e first push h =
+statements-more text rest to line s made new whole e first push h =
     ap (λ l. below l (statements_of to)) push ∙ below-more made s (statements_of to) ∙ sym (ap (below made) (from-line text rest line e ∙ first)) ∙ h
 
 refused-at : (o : Option (List Statement)) (s : Statement) (made ss : List Statement)
@@ -31,20 +31,20 @@ refused-at (Some ts) s made ss e not sound =
     let f : ss ≡ made ++ s ∷ ts = cc in both_ways _ not (sound made s ts f)
 
 -- a statement may not stand where it stands
-pub sheet-refused : (text rest to : List ℕ) (line : Line) (s : Statement) (made : List Statement) (whole : Option (List Statement))
+pub statements-refused : (text rest to : List ℕ) (line : Line) (s : Statement) (made : List Statement) (whole : Option (List Statement))
     → word_lines text ≡ line ∷ word_lines rest → statements_from line rest ≡ option_map (λ ss. s ∷ ss) (statements_of to)
     → below made (statements_of text) ≡ whole → may_stand made s ≡ false
     → (ss : List Statement) → whole ≡ Some ss → AreSound ss → ⊥
-sheet-refused text rest to line s made whole e first h not ss is sound =
+statements-refused text rest to line s made whole e first h not ss is sound =
     refused-at (statements_of to) s made ss (sym (ap (below made) (from-line text rest line e ∙ first)) ∙ h ∙ is) not sound
 
 -- no statement begins with the line
-pub sheet-stopped : (text rest : List ℕ) (line : Line) (made : List Statement) (whole : Option (List Statement))
+pub statements-stopped : (text rest : List ℕ) (line : Line) (made : List Statement) (whole : Option (List Statement))
     → word_lines text ≡ line ∷ word_lines rest → statements_from line rest ≡ None
     → below made (statements_of text) ≡ whole → (ss : List Statement) → whole ≡ Some ss → ⊥
-sheet-stopped text rest line made whole e none h ss is =
+statements-stopped text rest line made whole e none h ss is =
     let f : None ≡ Some ss = sym (ap (below made) (from-line text rest line e ∙ none)) ∙ h ∙ is in cc
 
-pub sheet-end : (text : List ℕ) (made : List Statement) (whole : Option (List Statement))
+pub statements-end : (text : List ℕ) (made : List Statement) (whole : Option (List Statement))
     → word_lines text ≡ [] → below made (statements_of text) ≡ whole → whole ≡ Some made
-sheet-end text made whole e h = sym h ∙ ap (below made) ((reading-none text e).0) ∙ ap Some (append-nil made)
+statements-end text made whole e h = sym h ∙ ap (below made) ((reading-none text e).0) ∙ ap Some (append-nil made)
