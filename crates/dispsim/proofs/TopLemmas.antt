@@ -31,7 +31,7 @@ use Rattle.dispsim.specs.StreamChanges.{StreamChange, HasFault, HasNoFault, IsUn
 use Rattle.dispsim.specs.Forms.{AreRun}
 use Rattle.dispsim.specs.RunAnswers.{IsTheRun, Ran}
 use Rattle.dispsim.specs.Readings.{IsRefused, IsReading}
-use Rattle.dispsim.specs.Headline.{most_bytes, HasRead, IsWorkload, RanInput, CausedByInput, Caused, Tells, IsAnswered, Completes, Refuses, KeepsPromises}
+use Rattle.dispsim.specs.Headline.{most_bytes, HasRead, IsWorkload, RanInput, CausedByInput, Caused, Tells, Completes, Refuses, KeepsPromises}
 
 -- status 0 is that of a run that was written whole
 pub headline_of : (arguments : List (List ℕ)) (input out : StreamChange) (a : Answer) → Caused arguments input out a → status_of a ≡ 0 → RanInput input out Done
@@ -145,7 +145,7 @@ unread_of input (Ok v) taken fault none = tt
 unread_of input (Err read.ReadFault) taken fault none = fault refl
 unread_of input (Err read.TooLarge) taken fault none = record {
   bytes = taken.bytes;
-  took = taken.front;
+  took = taken.consumed;
   many = taken.too_large.0 refl;
   no_fault = none (λ e. cc);
 }

@@ -25,7 +25,7 @@ pub TakesUpTo-too_large : (most : ℕ) (a b c : Option (List ℕ)) (xs buffer : 
     → TakesUpTo most a c (Err TooLarge)
 TakesUpTo-too_large most a b c xs buffer n first second within all = record {
   bytes = xs ++ take n buffer;
-  front = Consumes-trans a b c _ _ first second;
+  consumed = Consumes-trans a b c _ _ first second;
   bound = omega (arith, length-prefix xs buffer n within);
   too_large = (λ _. length-prefix xs buffer n within ∙ all, λ _. refl);
   all = tt;
@@ -37,7 +37,7 @@ pub TakesUpTo-memory : (most : ℕ) (a b c : Option (List ℕ)) (xs buffer : Lis
     → TakesUpTo most a c (Err Memory)
 TakesUpTo-memory most a b c xs buffer n first second within all = record {
   bytes = xs ++ take n buffer;
-  front = Consumes-trans a b c _ _ first second;
+  consumed = Consumes-trans a b c _ _ first second;
   bound = omega (arith, length-prefix xs buffer n within);
   too_large = (λ e. cc, λ e. absurd (omega (arith, length-prefix xs buffer n within)));
   all = tt;

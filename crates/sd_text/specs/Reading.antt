@@ -10,7 +10,7 @@ use Rattle.sd_text.specs.declared.read.ReadAllFault.TheVariants.{TooLarge}
 -- exactly where it took that one more, and what it gave is all that it took.
 pub record TakesUpTo (most : ℕ) (old new : Option (List ℕ)) (result : Result (Vec ℕ Global) ReadAllFault) : Type 0 where
   pub bytes : List ℕ
-  pub front : Consumes old new bytes
+  pub consumed : Consumes old new bytes
   pub bound : length bytes ≤ most + 1
   pub too_large : (result ≡ Err TooLarge) ↔ (length bytes ≡ most + 1)
   pub all : IfOk result (λ v. v.items ≡ bytes)

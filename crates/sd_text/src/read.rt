@@ -42,7 +42,7 @@ pub fn read_all<S: Source>(alloc: Global, source: &mut S) -> Result<Vec<u8>, Rea
     ensures no_fault { ¬ IsErrOf result ReadAllFault.ReadFault → S.fault_count source.new ≡ S.fault_count source.old }
     ensures too_large { IsErrOf result ReadAllFault.TooLarge → IfSome (S.remaining source.old) (λ xs. 1048576 < length xs) }
 
-    // What was taken, whatever the answer.
+    // What was taken, whatever the result.
     ensures taken { TakesUpTo 1048576 (S.remaining source.old) (S.remaining source.new) result }
 {
     read_up_to(alloc, source, GREATEST_INPUT)
@@ -68,7 +68,7 @@ pub fn read_up_to<S: Source>(
     ensures no_fault { ¬ IsErrOf result ReadAllFault.ReadFault → S.fault_count source.new ≡ S.fault_count source.old }
     ensures too_large { IsErrOf result ReadAllFault.TooLarge → IfSome (S.remaining source.old) (λ xs. most < length xs) }
 
-    // What was taken, whatever the answer.
+    // What was taken, whatever the result.
     ensures taken { TakesUpTo most (S.remaining source.old) (S.remaining source.new) result }
 {
     let most = most as usize;

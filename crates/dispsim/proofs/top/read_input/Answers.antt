@@ -28,7 +28,7 @@ returns-in_err-read_work g c =
     let bytes = c.deref.result.now in
     let same : bytes ≡ e.taken.bytes = c.deref.ensures.value ∙ e.taken.all in
     let read : HasRead input bytes = record {
-      took = subst (λ (bs : List ℕ). Consumes (left old) (left new) bs) (sym same) e.taken.front;
+      took = subst (λ (bs : List ℕ). Consumes (left old) (left new) bs) (sym same) e.taken.consumed;
       to_end = e.end;
       bound = omega (arith, ap length c.deref.ensures.value, e.bound);
       no_fault = e.no_fault (λ is. cc);
@@ -48,7 +48,7 @@ returns g c =
     record {
       bytes = bytes;
       read = record {
-        took = subst (λ (bs : List ℕ). Consumes (left old) (left new) bs) (sym same) e.taken.front;
+        took = subst (λ (bs : List ℕ). Consumes (left old) (left new) bs) (sym same) e.taken.consumed;
         to_end = e.end;
         bound = omega (arith, ap length c.deref.ensures.value, e.bound);
         no_fault = e.no_fault (λ is. cc);
