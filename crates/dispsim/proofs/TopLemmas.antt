@@ -1,5 +1,5 @@
 -- What the answers' causes give.
-use Rattle.std.proofs.Common.{◌≡◌, ℕ, ◌<◌, ◌≤◌, List, [], ◌∷◌, length, take, Option, Some, None, Result, Ok, Err, refl, sym, ap, subst, ◌∙◌, inl, inr, arith}
+use Rattle.std.proofs.Common.{◌≡◌, ◌≢◌, ℕ, ◌+◌, ◌<◌, ◌≤◌, List, [], ◌∷◌, length, take, Option, Some, None, Result, Ok, Err, refl, sym, ap, subst, ◌∙◌, inl, inr, arith}
 use Rattle.std.proofs.lemmas.List.{length-append, append-nil, take_all}
 use Rattle.std.specs.Io.KnownBytes.{Consumes, IsAtEnd, Appends}
 use Rattle.sd_types.specs.declared.works.Work.{Work}
@@ -31,7 +31,7 @@ use Rattle.dispsim.specs.StreamChanges.{StreamChange, HasFault, HasNoFault, IsUn
 use Rattle.dispsim.specs.Forms.{AreRun}
 use Rattle.dispsim.specs.RunAnswers.{IsTheRun, Ran}
 use Rattle.dispsim.specs.Readings.{IsRefused, IsReading}
-use Rattle.dispsim.specs.Headline.{most_bytes, HasRead, IsWorkload, RanInput, CausedByInput, Caused, Tells, Completes, Refuses, KeepsPromises}
+use Rattle.dispsim.specs.Headline.{most_bytes, HasAtMost, HasRead, IsWorkload, RanInput, CausedByInput, Caused, Tells, Completes, Refuses, KeepsPromises}
 
 -- status 0 is that of a run that was written whole
 pub headline_of : (arguments : List (List ℕ)) (input out : StreamChange) (a : Answer) → Caused arguments input out a → status_of a ≡ 0 → RanInput input out Done
@@ -135,6 +135,10 @@ told_of err a line r is whole risen part =
     told_by err a r (subst (λ (bs : List ℕ). OnOk r (Appends err.before err.after bs)) is whole) risen
     (subst (λ (bs : List ℕ). OnErr r (AppendsPart err.before err.after bs)) is (fewer err.before err.after line r part))
 
+-- what was read to its end is no more than an input may have
+at_most_of : (input : StreamChange) (bytes : List ℕ) → HasRead input bytes → HasAtMost input
+at_most_of input bytes read = record { bytes = bytes; took = read.took; bound = read.bound; no_fault = read.no_fault }
+
 -- ---- why an input is no workload
 
 -- it was not read
@@ -149,14 +153,21 @@ unread_of input (Err read.TooLarge) taken fault none = record {
   many = taken.too_large.0 refl;
   no_fault = none (λ e. cc);
 }
-unread_of input (Err read.Memory) taken fault none = none (λ e. cc)
+unread_of input (Err read.Memory) taken fault none =
+    let few : length taken.bytes ≢ most_bytes + 1 = λ many. absurd (let e = taken.too_large.1 many in cc) in
+    record {
+      bytes = taken.bytes;
+      took = taken.consumed;
+      bound = omega (arith, taken.bound);
+      no_fault = none (λ e. cc);
+    }
 
 -- it was read, and spells no workload
 pub unspelled_of : (input : StreamChange) (bytes : List ℕ) (r : Result Work WorkFault) → HasRead input bytes
     → (IsErrOf r work.NotBuilt → (w : Work) → Accepted bytes w → ⊥) → IfErr r (λ fault. IsRefused input (work_answer fault))
 unspelled_of input bytes (Ok w) read none = tt
 unspelled_of input bytes (Err work.NotBuilt) read none = record { bytes = bytes; read = read; none = none refl }
-unspelled_of input bytes (Err work.Memory) read none = read.no_fault
+unspelled_of input bytes (Err work.Memory) read none = at_most_of input bytes read
 
 -- what the exit of a `?` returns
 pub reading_exit : (input : StreamChange) (r : Result Work Answer) (a : Answer) → IsErrAnd r (λ y. y ≡ a) → IsRefused input a → IsReading input r
@@ -185,7 +196,7 @@ caused_exit input out r a exit caused =
 pub run_of : (input out : StreamChange) (w : Work) (a : Answer) → IsWorkload input w → Ran w out a → CausedByInput input out a
 run_of input out w Done is r = (w, is, r)
 run_of input out w WriteFault is r = (w, is, r)
-run_of input out w OutOfMemory is r = (is.read.no_fault, r.0, inr (w, is, r))
+run_of input out w OutOfMemory is r = (at_most_of input is.bytes is.read, r.0, inr (w, is, r))
 run_of input out w TooLong is r = (w, is, r)
 run_of input out w Usage is r = absurd r
 run_of input out w TooLarge is r = absurd r

@@ -16,6 +16,13 @@ use Rattle.dispsim.specs.RunAnswers.{Ran}
 abbrev pub most_bytes : ℕ
 most_bytes = 1048576
 
+-- no more was read than an input may have, without a fault
+pub record HasAtMost (input : StreamChange) : Type 0 where
+  pub bytes : List ℕ
+  pub took : Consumes input.before input.after bytes
+  pub bound : length bytes ≤ most_bytes
+  pub no_fault : HasNoFault input
+
 -- the input was read to its end, without a fault, and these are its bytes
 pub record HasRead (input : StreamChange) (bytes : List ℕ) : Type 0 where
   pub took : Consumes input.before input.after bytes
@@ -54,7 +61,7 @@ CausedByInput input out TooLarge = HasTooMany input × IsUntouched out
 CausedByInput input out NotBuilt = IsNoWorkload input × IsUntouched out
 CausedByInput input out ReadFault = HasFault input × IsUntouched out
 CausedByInput input out WriteFault = RanInput input out WriteFault
-CausedByInput input out OutOfMemory = HasNoFault input × HasNoFault out × (IsUntouched out ⊎ RanInput input out OutOfMemory)
+CausedByInput input out OutOfMemory = HasAtMost input × HasNoFault out × (IsUntouched out ⊎ RanInput input out OutOfMemory)
 CausedByInput input out TooLong = RanInput input out TooLong
 
 -- an answer and its cause

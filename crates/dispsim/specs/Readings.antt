@@ -4,15 +4,15 @@ use Rattle.std.specs.Prelude.{Result, Ok, Err}
 use Rattle.sd_types.specs.declared.works.Work.{Work}
 use Rattle.dispsim.specs.declared.answers.Answer.{Answer}
 use Rattle.dispsim.specs.declared.answers.Answer.TheVariants.{TooLarge, NotBuilt, ReadFault, OutOfMemory}
-use Rattle.dispsim.specs.StreamChanges.{StreamChange, HasFault, HasNoFault}
-use Rattle.dispsim.specs.Headline.{HasTooMany, IsWorkload, IsNoWorkload}
+use Rattle.dispsim.specs.StreamChanges.{StreamChange, HasFault}
+use Rattle.dispsim.specs.Headline.{HasAtMost, HasTooMany, IsWorkload, IsNoWorkload}
 
 -- why an input is no workload
 abbrev pub IsRefused : StreamChange → Answer → Type 0
 IsRefused input TooLarge = HasTooMany input
 IsRefused input NotBuilt = IsNoWorkload input
 IsRefused input ReadFault = HasFault input
-IsRefused input OutOfMemory = HasNoFault input
+IsRefused input OutOfMemory = HasAtMost input
 IsRefused input _ = ⊥
 
 abbrev pub IsReading : StreamChange → Result Work Answer → Type 0
