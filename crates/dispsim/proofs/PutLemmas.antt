@@ -1,18 +1,20 @@
 -- Texts written one after another.
-use Rattle.std.proofs.Common.{◌≡◌, ℕ, suc, ◌+◌, ◌<◌, ◌≤◌, List, [], ◌∷◌, ◌++◌, length, get_or, take, drop, Option, Ok, Err, Result, sym, ap, subst, ◌∙◌, arith, inl, inr}
+use Rattle.std.proofs.Common.{◌≡◌, ℕ, suc, ◌+◌, ◌<◌, ◌≤◌, List, [], ◌∷◌, ◌++◌, length, get_or, take, drop, Option, Ok, Err, Result, refl, sym, ap, subst, ◌∙◌, arith, inl, inr}
 use Rattle.std.specs.List.{flat_map, range_with_len}
 use Rattle.std.proofs.lemmas.List.FromFn.{length-range_with_len, get_or-range_with_len}
 use Rattle.std.proofs.lemmas.Bool.{cases_lt}
 use Rattle.std.proofs.lemmas.List.{take-append-drop, take-append-le, take_all, take_more, append-nil}
 use Rattle.std.proofs.lemmas.List.Concat.{flat_map-append}
 use Rattle.std.proofs.KnownBytes.{Appends-nil, Appends-trans}
+use Rattle.std.proofs.lemmas.Result.{err_from_is_err_and}
+use Rattle.std.specs.Result.{IsErrAnd}
 use Rattle.std.specs.Io.KnownBytes.{Appends}
 use Rattle.sd_text.specs.Faults.{HasRisen}
 use Rattle.dispsim.specs.declared.writing.Unwritten.{Unwritten}
 use Rattle.dispsim.specs.declared.writing.Unwritten.TheVariants.{Memory}
-use Rattle.dispsim.specs.Ends.{AppendsPart, Puts}
+use Rattle.dispsim.specs.StreamChanges.{AppendsPart, Puts}
 
--- the front of a text whose front is xs
+-- the prefix of a text whose prefix is xs
 take_past : (xs ys : List ℕ) (n : ℕ) → take (length xs + n) (xs ++ ys) ≡ xs ++ take n ys
 take_past [] ys n = ap (λ k. take k ys) (let e : 0 + n ≡ n = omega arith in e)
 take_past (x ∷ xs) ys n =
@@ -41,13 +43,15 @@ module _ (a b c : Option (List ℕ)) (f g h : ℕ) (xs ys : List ℕ) where
   after_ok (Ok u) p q = record {
     never_falls = let m = p.never_falls in let n = q.never_falls in omega arith;
     ok = Appends-trans a b c xs ys p.ok q.ok;
-    risen = λ e. cc;
+    fault = λ e. cc;
+    no_fault = λ none. q.no_fault none ∙ p.no_fault (λ is. cc);
     part = tt;
   }
   after_ok (Err e) p q = record {
     never_falls = let m = p.never_falls in let n = q.never_falls in omega arith;
     ok = tt;
-    risen = λ is. risen_later f g h p.never_falls (q.risen is);
+    fault = λ is. risen_later f g h p.never_falls (q.fault is);
+    no_fault = λ none. q.no_fault none ∙ p.no_fault (λ is. cc);
     part = part_after a b c xs ys p.ok q.part;
   }
 
@@ -57,14 +61,21 @@ module _ (a b c : Option (List ℕ)) (f g h : ℕ) (xs ys : List ℕ) where
 
   -- a text that was not written whole
   pub Puts-err : (e : Unwritten) → Puts a b f g xs (Err e) → Puts a b f g (xs ++ ys) (Err e)
-  Puts-err e p = record { never_falls = p.never_falls; ok = tt; risen = p.risen; part = part_more a b b xs ys p.part }
+  Puts-err e p = record { never_falls = p.never_falls; ok = tt; fault = p.fault; no_fault = p.no_fault; part = part_more a b b xs ys p.part }
 
 -- nothing was written
 pub Puts-nil : (a : Option (List ℕ)) (f : ℕ) → Puts a a f f [] (Ok tt)
-Puts-nil a f = record { never_falls = omega arith; ok = Appends-nil a; risen = λ e. cc; part = tt }
+Puts-nil a f = record { never_falls = omega arith; ok = Appends-nil a; fault = λ e. cc; no_fault = λ none. refl; part = tt }
 
 pub Puts-memory : (a : Option (List ℕ)) (f : ℕ) (text : List ℕ) → Puts a a f f text (Err Memory)
-Puts-memory a f text = record { never_falls = omega arith; ok = tt; risen = λ e. cc; part = part_none a a a text }
+Puts-memory a f text = record { never_falls = omega arith; ok = tt; fault = λ e. cc; no_fault = λ none. refl; part = part_none a a a text }
+
+-- what the exit of a `?` returns
+pub Puts-exit : (a b : Option (List ℕ)) (f g : ℕ) (text : List ℕ) (r : Result (Unit {0}) Unwritten) (e : Unwritten)
+    → IsErrAnd r (λ y. y ≡ e) → Puts a b f g text (Err e) → Puts a b f g text r
+Puts-exit a b f g text r e exit p =
+    let x = err_from_is_err_and r exit in
+    subst (λ s. Puts a b f g text s) (sym (x.1 ∙ ap Err x.2)) p
 
 module _ {X : Type 0} (line : X → List ℕ) where
   -- one line more of a list of them

@@ -1,6 +1,7 @@
 pub mod Answers
-pub mod Ends
 pub mod Forms
 pub mod Headline
 pub mod Readings
 pub mod RunAnswers
+pub mod Starts
+pub mod StreamChanges

@@ -4,7 +4,6 @@ use Rattle.std.specs.Prelude.{ℕ, List, ◌⊎◌}
 use Rattle.std.specs.Io.KnownBytes.{Appends}
 use Rattle.sd_types.specs.declared.events.Entry.{Entry}
 use Rattle.sd_types.specs.declared.works.Work.{Work}
-use Rattle.sd_text.specs.Faults.{HasRisen}
 use Rattle.sd_machine.specs.Opening.{opening}
 use Rattle.sd_machine.specs.Runs.{final, state_at, IsRun, IsComplete, IsSerial, always_rising}
 use Rattle.sd_machine.specs.Texts.{journal}
@@ -12,7 +11,7 @@ use Rattle.sd_laws.specs.Laws.{OneRuns, PlacesAreThere}
 use Rattle.sd_serial.specs.Rounds.{IsLongSerial}
 use Rattle.dispsim.specs.declared.answers.Answer.{Answer}
 use Rattle.dispsim.specs.declared.answers.Answer.TheVariants.{Done, WriteFault, OutOfMemory, TooLong}
-use Rattle.dispsim.specs.Ends.{End, IsUntouched, AppendsPart}
+use Rattle.dispsim.specs.StreamChanges.{StreamChange, HasFault, HasNoFault, IsUntouched, AppendsPart}
 
 -- The entries are those of the run that goes in rounds of rising processors: a complete legal run. In each of its
 -- states each thread that the workload declares stands in one place, which is one of the workload's processors or
@@ -24,14 +23,14 @@ pub record IsTheRun (w : Work) (es : List Entry) : Type 0 where
   pub places : (k : ℕ) → PlacesAreThere w (state_at w es k)
   pub one_runs : (k : ℕ) → OneRuns (state_at w es k)
 
--- a front of the journal of the run was written
-abbrev pub WritesPart : Work → End → Type 0
+-- a prefix of the journal of the run was written
+abbrev pub WritesPart : Work → StreamChange → Type 0
 WritesPart w out = (es : List Entry) × IsTheRun w es × AppendsPart out.before out.after (journal w es)
 
 -- the answer for an accepted workload, and what it left of the output
-abbrev pub Ran : Work → End → Answer → Type 0
-Ran w out Done = (es : List Entry) × IsTheRun w es × Appends out.before out.after (journal w es)
-Ran w out WriteFault = HasRisen out.faults_before out.faults_after × WritesPart w out
-Ran w out OutOfMemory = IsUntouched out ⊎ WritesPart w out
+abbrev pub Ran : Work → StreamChange → Answer → Type 0
+Ran w out Done = (es : List Entry) × IsTheRun w es × Appends out.before out.after (journal w es) × HasNoFault out
+Ran w out WriteFault = HasFault out × WritesPart w out
+Ran w out OutOfMemory = HasNoFault out × (IsUntouched out ⊎ WritesPart w out)
 Ran w out TooLong = IsLongSerial w (always_rising w) × IsUntouched out
 Ran w out _ = ⊥

@@ -1,20 +1,20 @@
-//! The words of a call.
+//! The arguments of a call.
 
 ghost use Rattle.std.specs.Prelude.{◌≡◌, ◌↔◌, IsTrue, map, string_bytes, codes};
 ghost use Rattle.dispsim.specs.Forms.{AreRun};
 
-/// The words are `run` alone.
-pub(crate) fn is_run(words: &[String]) -> bool
-    ensures { IsTrue result ↔ AreRun (map string_bytes words.now) }
+/// The arguments are `run` alone.
+pub(crate) fn is_run(arguments: &[String]) -> bool
+    ensures { IsTrue result ↔ AreRun (map string_bytes arguments.now) }
 {
-    match words {
-        [word] => is_word(word.as_bytes()),
+    match arguments {
+        [argument] => is_run_text(argument.as_bytes()),
         _ => false,
     }
 }
 
-fn is_word(word: &[u8]) -> bool
-    ensures { IsTrue result ↔ (word.now ≡ codes "run") }
+fn is_run_text(text: &[u8]) -> bool
+    ensures { IsTrue result ↔ (text.now ≡ codes "run") }
 {
-    word == b"run".as_slice()
+    text == b"run".as_slice()
 }

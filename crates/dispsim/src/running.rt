@@ -5,10 +5,12 @@ ghost use Rattle.sd_machine.specs.States.{FitsWork};
 ghost use Rattle.sd_machine.specs.Opening.{opening};
 ghost use Rattle.sd_machine.specs.Runs.{final, always_rising};
 ghost use Rattle.sd_serial.specs.Rounds.{IsLongSerial};
+ghost use Rattle.dispsim.specs.Answers.{answer_of};
 ghost use Rattle.dispsim.specs.RunAnswers.{IsTheRun, Ran};
+ghost use Rattle.dispsim.specs.StreamChanges.{change_of};
 
 use crate::answers::Answer;
-use crate::writing::{Unwritten, put_run};
+use crate::writing::put_run;
 use sd_serial::{Finished, rising, run_rounds};
 use sd_text::Sink;
 use sd_types::{Stop, Work};
@@ -28,20 +30,13 @@ fn run_serially(alloc: Global, work: &Work) -> Result<Finished, Stop>
 }
 
 /// Runs the workload in rounds and writes the journal of the run. Writing begins when the run is complete.
-pub(crate) fn run_work<K: Sink>(alloc: Global, work: &Work, out: &mut K) -> Answer
+pub(crate) fn run_work<K: Sink>(alloc: Global, work: &Work, out: &mut K) -> Result<(), Answer>
     ensures ran { Ran work.now
-        (record { before = K.contents out.old; after = K.contents out.new; faults_before = K.fault_count out.old; faults_after = K.fault_count out.new })
-        result }
+        (change_of (K.contents out.old) (K.contents out.new) (K.fault_count out.old) (K.fault_count out.new))
+        (answer_of result) }
     ensures never_falls { K.fault_count out.old ≤ K.fault_count out.new }
 {
-    let run = match run_serially(alloc, work) {
-        Ok(run) => run,
-        Err(Stop::Full) => return Answer::TooLong,
-        Err(Stop::Memory) => return Answer::OutOfMemory,
-    };
-    match put_run(alloc, work, &run.entries, &run.state, out) {
-        Ok(()) => Answer::Done,
-        Err(Unwritten::Fault) => Answer::WriteFault,
-        Err(Unwritten::Memory) => Answer::OutOfMemory,
-    }
+    let run = run_serially(alloc, work)?;
+    put_run(alloc, work, &run.entries, &run.state, out)?;
+    Ok(())
 }

@@ -1,15 +1,16 @@
-//! Worked runs, and ends that fail. Each expected text was worked out by hand from the rules of the machine.
+//! Worked runs, and streams that fail. Each expected text was worked out by hand from the rules of the machine.
 
 ghost use Rattle.std.specs.Prelude.{◌≤◌};
 
-use crate::answers::Answer;
 use crate::gates::OpenGate;
-use crate::top::serial;
+use crate::top::{serial, start};
 use sd_model::replay;
 use sd_serial::{rising, run_rounds};
-use sd_text::{MemorySink, MemorySource};
+use sd_text::{MemorySink, MemorySource, read_all};
 use sd_work::read_work;
 use std::alloc::{AllocError, Global};
+use std::io;
+use std::io::ErrorKind;
 use std::test::Fail;
 
 const SMALLEST: &str = "limit 5\nthread a ts 29 0 0\nscript a\nrun 3\nend\n";
@@ -20,7 +21,7 @@ const SMALLEST_JOURNAL: &str =
 const EXPIRY: &str =
     "limit 22\nthread a ts 0 0 0\nthread b ts 0 0 0\nscript a\nrun 20\nend\nscript b\nrun 1\nend\n";
 
-/// What a call answered, and what its ends received.
+/// What a call returned, and what its streams received.
 #[derive(Drop)]
 struct Called {
     status: u8,
@@ -28,10 +29,10 @@ struct Called {
     err: MemorySink,
 }
 
-/// A call over ends in memory: the reads named in `reads` and the writes named in `writes` fail, counted from 1.
+/// A call over streams in memory: the reads named in `reads` and the writes named in `writes` fail, counted from 1.
 fn call(
     alloc: Global,
-    words: &str,
+    arguments: &str,
     input: &[u8],
     chunk: usize,
     reads: &[u64],
@@ -41,8 +42,8 @@ fn call(
     requires { 1 ≤ chunk }
 {
     let mut texts = Vec::new(alloc);
-    for word in words.split_whitespace() {
-        texts.push(String::from_str(alloc, word)?)?;
+    for argument in arguments.split_whitespace() {
+        texts.push(String::from_str(alloc, argument)?)?;
     }
     let mut source = MemorySource::new(
         Vec::from_slice(alloc, input)?,
@@ -81,49 +82,50 @@ fn worked_runs(rt: HostRuntime) -> Result<(), Fail> {
     Ok(())
 }
 
+const USAGE: &str =
+    "usage: dispsim run | run --seed N | run --threads | sum | gen N | tables | audit\n";
+
+const NOT_BUILT: &str = "refused: not built\n";
+
 #[test]
-fn refusals_and_failing_ends(rt: HostRuntime) -> Result<(), Fail> {
+fn refusals_and_failing_streams(rt: HostRuntime) -> Result<(), Fail> {
     let alloc = rt.alloc();
-    // the words, the input, the reads that fail, the room of the output, the writes that fail; the answer, and the output
-    let cases: [(&str, &str, &[u64], usize, &[u64], Answer, &str); 8] = [
-        ("", SMALLEST, &[], 4096, &[], Answer::Usage, ""),
-        ("run fast", SMALLEST, &[], 4096, &[], Answer::Usage, ""),
-        ("run", "", &[], 4096, &[], Answer::NotBuilt, ""),
-        (
-            "run",
-            "limit 100001\n",
-            &[],
-            4096,
-            &[],
-            Answer::NotBuilt,
-            "",
-        ),
+    // The arguments, the input, the reads that fail, the room of the output and the writes that fail; then the status,
+    // the output and the error output.
+    let cases: [(&str, &str, &[u64], usize, &[u64], u8, &str, &str); 9] = [
+        ("", SMALLEST, &[], 4096, &[], 1, "", USAGE),
+        ("run fast", SMALLEST, &[], 4096, &[], 1, "", USAGE),
+        ("fast", SMALLEST, &[1], 4096, &[1], 1, "", USAGE),
+        ("run", "", &[], 4096, &[], 2, "", NOT_BUILT),
+        ("run", "limit 100001\n", &[], 4096, &[], 2, "", NOT_BUILT),
         (
             "run",
             "limit 1\nthread a rt 5 def\n",
             &[],
             4096,
             &[],
-            Answer::NotBuilt,
+            2,
             "",
+            NOT_BUILT,
         ),
-        ("run", SMALLEST, &[2], 4096, &[], Answer::ReadFault, ""),
+        ("run", SMALLEST, &[2], 4096, &[], 3, "", "read fault\n"),
         (
             "run",
             SMALLEST,
             &[],
             4096,
             &[2],
-            Answer::WriteFault,
+            4,
             "0 c0 dispatch a 29\n",
+            "write fault\n",
         ),
-        ("run", SMALLEST, &[], 5, &[], Answer::WriteFault, "0 c0 "),
+        ("run", SMALLEST, &[], 5, &[], 4, "0 c0 ", "write fault\n"),
     ];
-    for (words, input, reads, room, writes, answer, out) in cases {
-        let called = call(alloc, words, input.as_bytes(), 4, reads, room, writes)?;
-        assert_eq!(rt; called.status, answer.status(), "{input}");
+    for (arguments, input, reads, room, writes, status, out, err) in cases {
+        let called = call(alloc, arguments, input.as_bytes(), 4, reads, room, writes)?;
+        assert_eq!(rt; called.status, status, "{input}");
         assert_eq!(rt; called.out.bytes(), out.as_bytes(), "{input}");
-        assert_eq!(rt; called.err.bytes(), answer.line(), "{input}");
+        assert_eq!(rt; called.err.bytes(), err.as_bytes(), "{input}");
     }
     Ok(())
 }
@@ -133,7 +135,65 @@ fn an_input_too_large(rt: HostRuntime) -> Result<(), Fail> {
     let input = vec![in rt.alloc(); b'#'; 1_048_577]?;
     let called = call(rt.alloc(), "run", &input, 65_536, &[], 16, &[])?;
     assert_eq!(rt; called.status, 2);
-    assert_eq!(rt; called.err.bytes(), Answer::TooLarge.line());
+    assert_eq!(rt; called.out.bytes(), b"".as_slice());
+    assert_eq!(rt;
+        called.err.bytes(),
+        b"refused: input larger than 1048576 bytes\n".as_slice()
+    );
+    Ok(())
+}
+
+#[test]
+fn arguments_that_were_not_read(rt: HostRuntime) -> Result<(), Fail> {
+    let alloc = rt.alloc();
+    for (kind, status, line) in [
+        (ErrorKind::OutOfMemory, 5, "out of memory\n"),
+        (ErrorKind::InvalidData, 1, USAGE),
+    ] {
+        let mut input = MemorySource::new(
+            Vec::from_slice(alloc, SMALLEST.as_bytes())?,
+            7,
+            Vec::new(alloc),
+        );
+        let mut out = MemorySink::new(alloc, 4096, Vec::new(alloc))?;
+        let mut err = MemorySink::new(alloc, 200, Vec::new(alloc))?;
+        let unread = Err(io::Error::from(kind));
+        let returned = start(
+            &rt, alloc, unread, &mut input, &mut out, &mut err, &OpenGate,
+        );
+        assert_eq!(rt; returned, status);
+        assert_eq!(rt; out.bytes(), b"".as_slice());
+        assert_eq!(rt; err.bytes(), line.as_bytes());
+        let left = read_all(alloc, &mut input)?;
+        assert_eq!(rt; left.as_slice(), SMALLEST.as_bytes());
+    }
+    Ok(())
+}
+
+#[test]
+fn arguments_that_were_read(rt: HostRuntime) -> Result<(), Fail> {
+    let alloc = rt.alloc();
+    let mut arguments = Vec::new(alloc);
+    arguments.push(String::from_str(alloc, "run")?)?;
+    let mut input = MemorySource::new(
+        Vec::from_slice(alloc, SMALLEST.as_bytes())?,
+        7,
+        Vec::new(alloc),
+    );
+    let mut out = MemorySink::new(alloc, 4096, Vec::new(alloc))?;
+    let mut err = MemorySink::new(alloc, 200, Vec::new(alloc))?;
+    let returned = start(
+        &rt,
+        alloc,
+        Ok(arguments),
+        &mut input,
+        &mut out,
+        &mut err,
+        &OpenGate,
+    );
+    assert_eq!(rt; returned, 0);
+    assert_eq!(rt; out.bytes(), SMALLEST_JOURNAL.as_bytes());
+    assert_eq!(rt; err.bytes(), b"".as_slice());
     Ok(())
 }
 

@@ -1,33 +1,49 @@
 //! Writing a run: each line with its newline as one piece.
 
 ghost use Rattle.std.specs.Prelude.{◌≡◌, ◌<◌, length};
+ghost use Rattle.dispsim.specs.declared.writing.Unwritten.TheVariants.{Fault, Memory};
 ghost use Rattle.sd_machine.specs.States.{FitsWork};
 ghost use Rattle.sd_machine.specs.Opening.{opening};
 ghost use Rattle.sd_machine.specs.Runs.{final};
 ghost use Rattle.sd_machine.specs.Texts.{entry_text, entries_text, thread_line, cpu_line, threads_text, cpus_text, accounts_text, journal};
-ghost use Rattle.dispsim.specs.Ends.{Puts};
+ghost use Rattle.dispsim.specs.StreamChanges.{Puts};
 
 use sd_machine::State;
 use sd_report::{write_cpu_line, write_entry, write_thread_line};
-use sd_text::{Sink, write_piece};
+use sd_text::{Sink, WriteFault, write_piece};
 use sd_types::{Entry, Work};
-use std::alloc::Global;
+use std::alloc::{AllocError, Global};
 
 /// Why a text was not written whole.
 #[derive(Clone, Copy, Debug, PartialEq, Eq)]
 pub enum Unwritten {
+    /// A write failed.
     Fault,
+    /// Memory ran out.
     Memory,
+}
+
+impl From<WriteFault> for Unwritten {
+    ghost from_gives = { λ _ e. e ≡ Fault };
+
+    fn from(_fault: WriteFault) -> Unwritten {
+        Unwritten::Fault
+    }
+}
+
+impl From<AllocError> for Unwritten {
+    ghost from_gives = { λ _ e. e ≡ Memory };
+
+    fn from(_error: AllocError) -> Unwritten {
+        Unwritten::Memory
+    }
 }
 
 /// Writes a line.
 fn put_line<K: Sink>(out: &mut K, line: &[u8]) -> Result<(), Unwritten>
     ensures { Puts (K.contents out.old) (K.contents out.new) (K.fault_count out.old) (K.fault_count out.new) line.now result }
 {
-    match write_piece(out, line) {
-        Ok(()) => Ok(()),
-        Err(_) => Err(Unwritten::Fault),
-    }
+    Ok(write_piece(out, line)?)
 }
 
 /// Writes the line of an entry.
@@ -41,9 +57,7 @@ fn put_entry<K: Sink>(
         (entry_text work.now entry.now) result }
 {
     let mut line = Vec::new(alloc);
-    if write_entry(work, entry, &mut line).is_err() {
-        return Err(Unwritten::Memory);
-    }
+    write_entry(work, entry, &mut line)?;
     put_line(out, &line)
 }
 
@@ -58,9 +72,7 @@ fn put_entries<K: Sink>(
         (entries_text work.now entries.now) result }
 {
     for entry in entries {
-        if let Err(unwritten) = put_entry(alloc, work, entry, out) {
-            return Err(unwritten);
-        }
+        put_entry(alloc, work, entry, out)?;
     }
     Ok(())
 }
@@ -79,9 +91,7 @@ fn put_thread<K: Sink>(
         (thread_line work.now entries.now s.now t) result }
 {
     let mut line = Vec::new(alloc);
-    if write_thread_line(work, entries, s, t, &mut line).is_err() {
-        return Err(Unwritten::Memory);
-    }
+    write_thread_line(work, entries, s, t, &mut line)?;
     put_line(out, &line)
 }
 
@@ -98,9 +108,7 @@ fn put_threads<K: Sink>(
         (threads_text work.now entries.now s.now) result }
 {
     for t in 0..work.threads.items().len() {
-        if let Err(unwritten) = put_thread(alloc, work, entries, s, t, out) {
-            return Err(unwritten);
-        }
+        put_thread(alloc, work, entries, s, t, out)?;
     }
     Ok(())
 }
@@ -111,9 +119,7 @@ fn put_cpu<K: Sink>(alloc: Global, entries: &[Entry], c: u16, out: &mut K) -> Re
         (cpu_line entries.now c) result }
 {
     let mut line = Vec::new(alloc);
-    if write_cpu_line(entries, c, &mut line).is_err() {
-        return Err(Unwritten::Memory);
-    }
+    write_cpu_line(entries, c, &mut line)?;
     put_line(out, &line)
 }
 
@@ -128,9 +134,7 @@ fn put_cpus<K: Sink>(
         (cpus_text work.now entries.now) result }
 {
     for c in 0..work.cpus {
-        if let Err(unwritten) = put_cpu(alloc, entries, c, out) {
-            return Err(unwritten);
-        }
+        put_cpu(alloc, entries, c, out)?;
     }
     Ok(())
 }
@@ -147,12 +151,8 @@ fn put_accounts<K: Sink>(
     ensures { Puts (K.contents out.old) (K.contents out.new) (K.fault_count out.old) (K.fault_count out.new)
         (accounts_text work.now entries.now s.now) result }
 {
-    if let Err(unwritten) = put_line(out, b"accounts\n") {
-        return Err(unwritten);
-    }
-    if let Err(unwritten) = put_threads(alloc, work, entries, s, out) {
-        return Err(unwritten);
-    }
+    put_line(out, b"accounts\n")?;
+    put_threads(alloc, work, entries, s, out)?;
     put_cpus(alloc, work, entries, out)
 }
 
@@ -169,8 +169,6 @@ pub(crate) fn put_run<K: Sink>(
     ensures { Puts (K.contents out.old) (K.contents out.new) (K.fault_count out.old) (K.fault_count out.new)
         (journal work.now entries.now) result }
 {
-    if let Err(unwritten) = put_entries(alloc, work, entries, out) {
-        return Err(unwritten);
-    }
+    put_entries(alloc, work, entries, out)?;
     put_accounts(alloc, work, entries, s, out)
 }

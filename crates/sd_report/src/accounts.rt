@@ -1,13 +1,13 @@
 //! The accounts of a run, counted over its entries.
 
-ghost use Rattle.std.specs.Prelude.{◌≡◌, ◌<◌, ◌++◌, OnOk, length, decimal};
+ghost use Rattle.std.specs.Prelude.{◌≡◌, ◌<◌, ◌++◌, OnOk, OnErr, length};
+ghost use Rattle.std.specs.Io.{StartsWith};
 ghost use Rattle.sd_machine.specs.States.{thread_of};
 ghost use Rattle.sd_machine.specs.Accounts.{is_tick_of, is_dispatch_of, is_preempt_of, is_wake_of, is_idle, thread_ticks, thread_dispatches, thread_preempts, thread_wakes, cpu_ticks, cpu_idle};
 ghost use Rattle.sd_machine.specs.Texts.{state_text, thread_counts, thread_line, cpu_line, lock_name, chan_name};
 
-use crate::entries::{put, put_thread};
+use crate::entries::{put, put_count, put_thread};
 use sd_machine::{Place, State};
-use sd_text::put_number;
 use sd_types::{ChanId, Entry, Event, LockId, Work};
 use std::alloc::AllocError;
 
@@ -122,7 +122,8 @@ fn cpu_idle(c: u16, entries: &[Entry]) -> usize
 }
 
 fn put_lock(work: &Work, l: LockId, out: &mut Vec<u8>) -> Result<(), AllocError>
-    ensures { OnOk result (out.new.items ≡ out.old.items ++ lock_name work.now l.0) }
+    ensures ok { OnOk result (out.new.items ≡ out.old.items ++ lock_name work.now l.0) }
+    ensures kept { OnErr result (StartsWith out.new.items out.old.items) }
 {
     match work.locks.items().get(l.0 as usize) {
         Some(lock) => put(out, lock.0.bytes()),
@@ -131,7 +132,8 @@ fn put_lock(work: &Work, l: LockId, out: &mut Vec<u8>) -> Result<(), AllocError>
 }
 
 fn put_chan(work: &Work, k: ChanId, out: &mut Vec<u8>) -> Result<(), AllocError>
-    ensures { OnOk result (out.new.items ≡ out.old.items ++ chan_name work.now k.0) }
+    ensures ok { OnOk result (out.new.items ≡ out.old.items ++ chan_name work.now k.0) }
+    ensures kept { OnErr result (StartsWith out.new.items out.old.items) }
 {
     match work.chans.items().get(k.0 as usize) {
         Some(chan) => put(out, chan.0.bytes()),
@@ -139,8 +141,10 @@ fn put_chan(work: &Work, k: ChanId, out: &mut Vec<u8>) -> Result<(), AllocError>
     }
 }
 
+#[tactic(auto, using(crate::proofs::KeptLemmas::kept_below))]
 fn put_state(work: &Work, place: &Place, out: &mut Vec<u8>) -> Result<(), AllocError>
-    ensures { OnOk result (out.new.items ≡ out.old.items ++ state_text work.now place.now) }
+    ensures ok { OnOk result (out.new.items ≡ out.old.items ++ state_text work.now place.now) }
+    ensures kept { OnErr result (StartsWith out.new.items out.old.items) }
 {
     match place {
         Place::Running(_) => put(out, b"running"),
@@ -159,18 +163,11 @@ fn put_state(work: &Work, place: &Place, out: &mut Vec<u8>) -> Result<(), AllocE
     }
 }
 
-/// Appends a word and a number.
-fn put_count(word: &[u8], n: usize, out: &mut Vec<u8>) -> Result<(), AllocError>
-    ensures { OnOk result (out.new.items ≡ out.old.items ++ (word.now ++ decimal n)) }
-{
-    put(out, word)?;
-    put_number(out, n as u64)
-}
-
 /// Appends a thread's counts over the entries.
-#[tactic(auto, unfolding(sd_machine::specs::Texts::thread_counts))]
+#[tactic(auto, using(crate::proofs::KeptLemmas::kept_below), unfolding(sd_machine::specs::Texts::thread_counts))]
 fn put_counts(entries: &[Entry], t: usize, out: &mut Vec<u8>) -> Result<(), AllocError>
-    ensures { OnOk result (out.new.items ≡ out.old.items ++ thread_counts entries.now t) }
+    ensures ok { OnOk result (out.new.items ≡ out.old.items ++ thread_counts entries.now t) }
+    ensures kept { OnErr result (StartsWith out.new.items out.old.items) }
 {
     put_count(b" ticks ", thread_ticks(t, entries), out)?;
     put_count(b" dispatches ", thread_dispatches(t, entries), out)?;
@@ -178,10 +175,8 @@ fn put_counts(entries: &[Entry], t: usize, out: &mut Vec<u8>) -> Result<(), Allo
     put_count(b" wakes ", thread_wakes(t, entries), out)
 }
 
-/// Appends the line of a thread's account, with its newline: its counts over the entries, and its place in the
-/// final state.
-#[tactic(auto, unfolding(sd_machine::specs::Texts::thread_line))]
-pub fn write_thread_line(
+#[tactic(auto, using(crate::proofs::KeptLemmas::kept_below), unfolding(sd_machine::specs::Texts::thread_line))]
+fn put_thread_line(
     work: &Work,
     entries: &[Entry],
     s: &State,
@@ -189,7 +184,8 @@ pub fn write_thread_line(
     out: &mut Vec<u8>,
 ) -> Result<(), AllocError>
     requires { t < length s.now.threads }
-    ensures { OnOk result (out.new.items ≡ out.old.items ++ thread_line work.now entries.now s.now t) }
+    ensures ok { OnOk result (out.new.items ≡ out.old.items ++ thread_line work.now entries.now s.now t) }
+    ensures kept { OnErr result (StartsWith out.new.items out.old.items) }
 {
     put(out, b"thread ")?;
     put_thread(work, t, out)?;
@@ -199,13 +195,51 @@ pub fn write_thread_line(
     put(out, b"\n")
 }
 
-/// Appends the line of a processor's account, with its newline.
-#[tactic(auto, unfolding(sd_machine::specs::Texts::cpu_line))]
-pub fn write_cpu_line(entries: &[Entry], c: u16, out: &mut Vec<u8>) -> Result<(), AllocError>
-    ensures { OnOk result (out.new.items ≡ out.old.items ++ cpu_line entries.now c) }
+/// Appends the line of a thread's account, with its newline: its counts over the entries, and its place in the
+/// final state. Where memory runs out, `out` is as it was.
+pub fn write_thread_line(
+    work: &Work,
+    entries: &[Entry],
+    s: &State,
+    t: usize,
+    out: &mut Vec<u8>,
+) -> Result<(), AllocError>
+    requires { t < length s.now.threads }
+    ensures ok { OnOk result (out.new.items ≡ out.old.items ++ thread_line work.now entries.now s.now t) }
+    ensures err { OnErr result (out.new.items ≡ out.old.items) }
+{
+    let before = out.len();
+    match put_thread_line(work, entries, s, t, out) {
+        Ok(()) => Ok(()),
+        Err(error) => {
+            out.truncate(before);
+            Err(error)
+        }
+    }
+}
+
+#[tactic(auto, using(crate::proofs::KeptLemmas::kept_below), unfolding(sd_machine::specs::Texts::cpu_line))]
+fn put_cpu_line(entries: &[Entry], c: u16, out: &mut Vec<u8>) -> Result<(), AllocError>
+    ensures ok { OnOk result (out.new.items ≡ out.old.items ++ cpu_line entries.now c) }
+    ensures kept { OnErr result (StartsWith out.new.items out.old.items) }
 {
     put_count(b"cpu ", c as usize, out)?;
     put_count(b" ticks ", cpu_ticks(c, entries), out)?;
     put_count(b" idle ", cpu_idle(c, entries), out)?;
     put(out, b"\n")
+}
+
+/// Appends the line of a processor's account, with its newline. Where memory runs out, `out` is as it was.
+pub fn write_cpu_line(entries: &[Entry], c: u16, out: &mut Vec<u8>) -> Result<(), AllocError>
+    ensures ok { OnOk result (out.new.items ≡ out.old.items ++ cpu_line entries.now c) }
+    ensures err { OnErr result (out.new.items ≡ out.old.items) }
+{
+    let before = out.len();
+    match put_cpu_line(entries, c, out) {
+        Ok(()) => Ok(()),
+        Err(error) => {
+            out.truncate(before);
+            Err(error)
+        }
+    }
 }

@@ -1,6 +1,7 @@
 //! The line of an entry.
 
-ghost use Rattle.std.specs.Prelude.{◌≡◌, ◌++◌, OnOk};
+ghost use Rattle.std.specs.Prelude.{◌≡◌, ◌++◌, OnOk, OnErr, codes, decimal};
+ghost use Rattle.std.specs.Io.{StartsWith};
 ghost use Rattle.sd_machine.specs.Texts.{thread_name, end_text, event_text, entry_text};
 
 use sd_text::put_number;
@@ -9,7 +10,8 @@ use std::alloc::AllocError;
 
 /// Appends the bytes.
 pub(crate) fn put(out: &mut Vec<u8>, bytes: &[u8]) -> Result<(), AllocError>
-    ensures { OnOk result (out.new.items ≡ out.old.items ++ bytes.now) }
+    ensures ok { OnOk result (out.new.items ≡ out.old.items ++ bytes.now) }
+    ensures kept { OnErr result (StartsWith out.new.items out.old.items) }
 {
     out.extend_from_slice(bytes)?;
     Ok(())
@@ -17,7 +19,8 @@ pub(crate) fn put(out: &mut Vec<u8>, bytes: &[u8]) -> Result<(), AllocError>
 
 /// Appends the name of a thread; a number that no thread has has none.
 pub(crate) fn put_thread(work: &Work, t: usize, out: &mut Vec<u8>) -> Result<(), AllocError>
-    ensures { OnOk result (out.new.items ≡ out.old.items ++ thread_name work.now t) }
+    ensures ok { OnOk result (out.new.items ≡ out.old.items ++ thread_name work.now t) }
+    ensures kept { OnErr result (StartsWith out.new.items out.old.items) }
 {
     match work.threads.items().get(t) {
         Some(decl) => put(out, decl.name.bytes()),
@@ -26,7 +29,8 @@ pub(crate) fn put_thread(work: &Work, t: usize, out: &mut Vec<u8>) -> Result<(),
 }
 
 fn put_end(end: End, out: &mut Vec<u8>) -> Result<(), AllocError>
-    ensures { OnOk result (out.new.items ≡ out.old.items ++ end_text end) }
+    ensures ok { OnOk result (out.new.items ≡ out.old.items ++ end_text end) }
+    ensures kept { OnErr result (StartsWith out.new.items out.old.items) }
 {
     match end {
         End::Front => put(out, b" front"),
@@ -35,15 +39,19 @@ fn put_end(end: End, out: &mut Vec<u8>) -> Result<(), AllocError>
 }
 
 /// Appends a word and the name of a thread.
+#[tactic(auto, using(crate::proofs::KeptLemmas::kept_below))]
 fn put_word(work: &Work, word: &[u8], t: ThreadId, out: &mut Vec<u8>) -> Result<(), AllocError>
-    ensures { OnOk result (out.new.items ≡ out.old.items ++ (word.now ++ thread_name work.now t.0)) }
+    ensures ok { OnOk result (out.new.items ≡ out.old.items ++ (word.now ++ thread_name work.now t.0)) }
+    ensures kept { OnErr result (StartsWith out.new.items out.old.items) }
 {
     put(out, word)?;
     put_thread(work, t.0 as usize, out)
 }
 
+#[tactic(auto, using(crate::proofs::KeptLemmas::kept_below))]
 fn put_event(work: &Work, event: &Event, out: &mut Vec<u8>) -> Result<(), AllocError>
-    ensures { OnOk result (out.new.items ≡ out.old.items ++ event_text work.now event.now) }
+    ensures ok { OnOk result (out.new.items ≡ out.old.items ++ event_text work.now event.now) }
+    ensures kept { OnErr result (StartsWith out.new.items out.old.items) }
 {
     match event {
         Event::Tick { t } => put_word(work, b"tick ", *t, out),
@@ -62,15 +70,48 @@ fn put_event(work: &Work, event: &Event, out: &mut Vec<u8>) -> Result<(), AllocE
     }
 }
 
-/// Appends the line of the entry, with its newline.
-#[tactic(auto, unfolding(sd_machine::specs::Texts::entry_text))]
-pub fn write_entry(work: &Work, entry: &Entry, out: &mut Vec<u8>) -> Result<(), AllocError>
-    ensures { OnOk result (out.new.items ≡ out.old.items ++ entry_text work.now entry.now) }
+/// Appends a word and a number.
+#[tactic(auto, using(crate::proofs::KeptLemmas::kept_below))]
+pub(crate) fn put_count(word: &[u8], n: usize, out: &mut Vec<u8>) -> Result<(), AllocError>
+    ensures ok { OnOk result (out.new.items ≡ out.old.items ++ (word.now ++ decimal n)) }
+    ensures kept { OnErr result (StartsWith out.new.items out.old.items) }
+{
+    put(out, word)?;
+    put_number(out, n as u64)
+}
+
+/// Appends the number of an entry and the processor that made it, each with a space behind it.
+#[tactic(auto, using(crate::proofs::KeptLemmas::kept_below))]
+fn put_number_and_cpu(entry: &Entry, out: &mut Vec<u8>) -> Result<(), AllocError>
+    ensures ok { OnOk result (out.new.items ≡ out.old.items ++ (decimal entry.now.number ++ codes " c" ++ decimal entry.now.cpu.0 ++ codes " ")) }
+    ensures kept { OnErr result (StartsWith out.new.items out.old.items) }
 {
     put_number(out, entry.number)?;
-    put(out, b" c")?;
-    put_number(out, u64::from(entry.cpu.0))?;
-    put(out, b" ")?;
+    put_count(b" c", entry.cpu.0 as usize, out)?;
+    put(out, b" ")
+}
+
+#[tactic(auto, using(crate::proofs::KeptLemmas::kept_below), unfolding(sd_machine::specs::Texts::entry_text))]
+fn put_entry(work: &Work, entry: &Entry, out: &mut Vec<u8>) -> Result<(), AllocError>
+    ensures ok { OnOk result (out.new.items ≡ out.old.items ++ entry_text work.now entry.now) }
+    ensures kept { OnErr result (StartsWith out.new.items out.old.items) }
+{
+    put_number_and_cpu(entry, out)?;
     put_event(work, &entry.event, out)?;
     put(out, b"\n")
+}
+
+/// Appends the line of the entry, with its newline. Where memory runs out, `out` is as it was.
+pub fn write_entry(work: &Work, entry: &Entry, out: &mut Vec<u8>) -> Result<(), AllocError>
+    ensures ok { OnOk result (out.new.items ≡ out.old.items ++ entry_text work.now entry.now) }
+    ensures err { OnErr result (out.new.items ≡ out.old.items) }
+{
+    let before = out.len();
+    match put_entry(work, entry, out) {
+        Ok(()) => Ok(()),
+        Err(error) => {
+            out.truncate(before);
+            Err(error)
+        }
+    }
 }

@@ -15,7 +15,7 @@ use Rattle.sd_types.specs.declared.tables.FixedRow.{FixedRow}
 too_long : (n m : ℕ) (b : Bool) → m < n → (nat_eq n m && b) ≡ true → ⊥
 too_long n m b more h = let e : n ≡ m = grind (arith, nat_tests) in omega arith
 
--- a test that holds of each element of a list holds at a place
+-- a test that holds of each element of a list holds at an index
 pub all_at : {X Y : Type 0} (p : Y → Bool) (f : X → Y) (xs : List X) (i : ℕ) (d : X) → list_all p (map f xs) ≡ true → i < length xs → p (f (get_or xs i d)) ≡ true
 all_at p f [] i d h within = absurd (omega arith)
 all_at p f (x ∷ xs) zero d h within = (both (p (f x)) _ h).0

@@ -1,17 +1,16 @@
 -- What a line that gives RES adds to a sheet.
 use Rattle.std.proofs.Common.{◌≡◌, ℕ, Bool, true, false, ◌||◌, cond, nat_lt, List, [], ◌∷◌, ◌++◌, length, filter, drop, take, get_or, slice_index_or, Option, Some, None, is_some, is_none, option_and_then, IfSome, Err, refl, sym, ap, ◌∙◌, subst, ◌+◌, ◌<◌, ◌≤◌, suc, arith, add-zero, below_more, length-drop, drop-drop}
 use Rattle.std.specs.List.{list_any}
-use Rattle.std.proofs.lemmas.List.{get_or-drop, take_more}
+use Rattle.std.proofs.lemmas.List.{get_or-drop, take_more, length-map}
 use Rattle.std.proofs.lemmas.List.Elements.{filter-append}
 use Rattle.std.proofs.lemmas.List.Folds.{list_any-append}
 use Rattle.std.proofs.lemmas.Grind.{common_steps}
 use Rattle.sd_text.specs.Numbers.{number_of}
 use Rattle.sd_tables.specs.declared.columns.Column.{Column}
 use Rattle.sd_tables.specs.declared.fault.TableFault.{TableFault}
-use Rattle.sd_tables.specs.declared.fault.TableFault.TheVariants.{Memory}
 use Rattle.sd_tables.specs.declared.sheet.Sheet.{Sheet}
-use Rattle.sd_tables.specs.TableText.{Line, is_res_word, is_res_line, is_row_line, is_unit, res_of_line, line_fault, fault_at, AreClean, units_in}
-use Rattle.sd_tables.specs.Sheets.{StandsFor, TakesLine, IsUnread}
+use Rattle.sd_tables.specs.TableText.{Line, is_res_word, is_res_line, is_row_line, is_unit, is_within, numbers_of, res_of_line, row_fault, line_fault, fault_at, AreClean, IsLineFault, units_in, rows_in}
+use Rattle.sd_tables.specs.Sheets.{StandsFor, TakesLine, rows_of}
 
 filter_none-step : {X : Type 0} (b : Bool) (x : X) (xs ys : List X) (rest : Bool) → (b || rest) ≡ false → (rest ≡ false → ys ≡ []) → cond b (x ∷ ys) ys ≡ []
 filter_none-step true x xs ys rest h more = cc
@@ -46,27 +45,52 @@ first_unit above line none here =
 
 pub res_taken : (columns : List Column) (line : Line) (number : ℕ) (old new : Sheet) (res : Option ℕ)
     → is_res_line line ≡ true → is_row_line line ≡ false → res_of_line line ≡ res
-    → (is_none res || is_some old.res || nat_lt 0 (length old.rows.items)) ≡ false
-    → new.res ≡ res → new.rows.items ≡ old.rows.items
+    → (is_none res || is_some old.res || nat_lt 0 old.count) ≡ false
+    → new.res ≡ res → new.count ≡ old.count → new.rows.items ≡ old.rows.items
     → (above : List Line) → StandsFor columns above old
     → (line_fault columns above line number ≡ None) × StandsFor columns (above ++ line ∷ []) new
-res_taken columns line number old new res here no_row gives ok new_res new_rows above h =
+res_taken columns line number old new res here no_row gives ok new_res new_count new_rows above h =
     let none : list_any is_res_line above ≡ false = grind (arith, h.has_res) in
     let first = first_unit above line none here in (
       grind (arith, common_steps, h.has_res, h.has_row),
       record {
         res = new_res ∙ sym (ap (λ (l : List (Option ℕ)). slice_index_or l 0 None) first ∙ gives);
         has_res = grind (arith, list_any-append);
-        rows = grind (arith, common_steps, h.rows);
+        count = grind (arith, common_steps, h.count);
+        rows = λ (few : new.count ≤ 61). let below : old.count ≤ 61 = omega arith in grind (arith, common_steps, h.rows below);
         has_row = grind (arith, list_any-append, h.has_row);
         unit = subst (λ (o : Option ℕ). IfSome o (λ n. is_unit n ≡ true)) (gives ∙ sym new_res) (unit_of_line line);
         within = grind (arith, common_steps, h.within);
       },
     )
 
+pub row_taken : (columns : List Column) (line : Line) (number : ℕ) (old new : Sheet) (found : List ℕ)
+    → is_res_line line ≡ false → is_row_line line ≡ true → row_fault columns line number ≡ None
+    → found ≡ numbers_of line → is_within columns found ≡ true
+    → new.res ≡ old.res → new.count ≡ old.count + 1
+    → (length old.rows.items < 61 → rows_of new ≡ rows_of old ++ found ∷ [])
+    → (above : List Line) → StandsFor columns above old
+    → (line_fault columns above line number ≡ None) × StandsFor columns (above ++ line ∷ []) new
+row_taken columns line number old new found no_res here no_fault is inside new_res new_count new_rows above h = (
+  grind (arith, common_steps),
+  record {
+    res = grind (arith, common_steps, h.res);
+    has_res = grind (arith, list_any-append, h.has_res);
+    count = grind (arith, common_steps, h.count);
+    rows = λ (few : new.count ≤ 61).
+        let below : old.count ≤ 61 = omega arith in
+        let same : rows_of old ≡ rows_in above = h.rows below in
+        let long : length old.rows.items < 61 = omega (arith, ap length same, length-map old.rows.items (λ r. r.items), h.count) in
+        grind (arith, common_steps, new_rows long);
+    has_row = grind (arith, list_any-append, h.has_row);
+    unit = grind (arith, h.unit);
+    within = grind (arith, common_steps, h.within);
+  },
+)
+
 -- ---- lines, one after the other
 
--- where a list goes on from a place with an element
+-- where a list goes on from an index with an element
 pub goes_on : {X : Type 0} (xs : List X) (k : ℕ) (d x : X) (rest : List X) → drop k xs ≡ x ∷ rest
     → (k < length xs) × (get_or xs k d ≡ x) × (drop (k + 1) xs ≡ rest)
 goes_on xs k d x rest h =
@@ -98,7 +122,6 @@ take-next lines k line rest h =
 -- or it is the first that is
 pub fault-next : (columns : List Column) (lines : List Line) (k : ℕ) (line : Line) (rest : List Line) (old new : Sheet) (fault : TableFault)
     → drop k lines ≡ line ∷ rest → AreClean columns lines k → StandsFor columns (take k lines) old
-    → TakesLine columns line (k + 1) old new (Err fault) → IsUnread columns lines fault
-fault-next columns lines k line rest old new Memory h clean stands taken = tt
+    → TakesLine columns line (k + 1) old new (Err fault) → IsLineFault columns lines fault
 fault-next columns lines k line rest old new fault h clean stands taken =
     (k, (goes_on lines k [] line rest h).0, clean, fault_at-next columns lines k line rest h ∙ taken (take k lines) stands)

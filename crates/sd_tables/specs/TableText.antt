@@ -14,7 +14,9 @@ use Rattle.sd_text.specs.Lines.{lines_of}
 use Rattle.sd_text.specs.Words.{words_of}
 use Rattle.sd_text.specs.Numbers.{is_number, number_of}
 use Rattle.sd_tables.specs.declared.fault.TableFault.{TableFault}
-use Rattle.sd_tables.specs.declared.fault.TableFault.TheVariants.{NotANumber, Range, Rows, Resolution, Memory}
+use Rattle.sd_tables.specs.declared.fault.TableFault.TheVariants.{NotANumber, Range, Rows, Resolution}
+use Rattle.sd_tables.specs.declared.fault.ReadTableFault.{ReadTableFault}
+use Rattle.sd_tables.specs.declared.fault.ReadTableFault.TheVariants.{Table, Memory}
 use Rattle.sd_tables.specs.declared.columns.Column.{Column}
 
 -- ---- what the files of a class have
@@ -124,11 +126,11 @@ abbrev pub line_fault : List Column → List Line → Line → ℕ → Option Ta
 line_fault columns above line number =
     cond (is_res_line line) (res_fault above line number) (cond (is_row_line line) (row_fault columns line number) None)
 
--- what is wrong with the line at a place, counted from 0
+-- what is wrong with the line at an index, counted from 0
 unfoldable pub fault_at : List Column → List Line → ℕ → Option TableFault
 fault_at columns lines i = line_fault columns (take i lines) (slice_index_or lines i []) (i + 1)
 
--- nothing is wrong with the lines before a place
+-- nothing is wrong with the lines before an index
 abbrev pub AreClean : List Column → List Line → ℕ → Type 0
 AreClean columns lines n = (i : ℕ) → i < n → fault_at columns lines i ≡ None
 
@@ -160,15 +162,15 @@ IsRowsFault format lines fault =
 abbrev pub IsTableFault : Format → List ℕ → TableFault → Type 0
 IsTableFault format text fault = IsLineFault format.columns (word_lines text) fault ⊎ IsRowsFault format (word_lines text) fault
 
--- a reader's refusal: the fault of the text, or want of memory, of which nothing is said
-abbrev pub IsRefusal : Format → List ℕ → TableFault → Type 0
-IsRefusal format text Memory = Unit {0}
-IsRefusal format text fault = IsTableFault format text fault
-
 -- no line is at fault, and the number of rows is right
 pub record IsTableText (format : Format) (text : List ℕ) : Type 0 where
   pub clean : AreClean format.columns (word_lines text) (length (word_lines text))
   pub rows : has_rows format (word_lines text) ≡ true
+
+-- a reader's refusal: the fault of the text, or out of memory, which hides no fault
+abbrev pub IsRefusal : Format → List ℕ → ReadTableFault → Type 0
+IsRefusal format text (Table fault) = IsTableFault format text fault
+IsRefusal format text Memory = IsTableText format text
 
 -- ---- spellings
 

@@ -1,5 +1,9 @@
-//! The faults of table files.
+//! The faults of table files, and why a table is not read.
 
+ghost use Rattle.std.specs.Prelude.{◌≡◌};
+ghost use Rattle.sd_tables.specs.declared.fault.ReadTableFault.TheVariants.{Table, Memory};
+
+use std::alloc::AllocError;
 use thiserror::Error;
 
 /// Why a text is no table file. Lines and columns are counted from 1.
@@ -18,7 +22,31 @@ pub enum TableFault {
     /// 1,000,000,000, or stands below a row or another such line.
     #[error("resolution")]
     Resolution { line: u32 },
-    /// Out of memory.
+}
+
+/// Why a table was not read.
+#[derive(Clone, Copy, Debug, PartialEq, Eq, Error)]
+pub enum ReadTableFault {
+    /// The text is no table file.
+    #[error("{0}")]
+    Table(TableFault),
+    /// The text is a table file, and there was no memory for its table.
     #[error("out of memory")]
     Memory,
+}
+
+impl From<TableFault> for ReadTableFault {
+    ghost from_gives = { λ fault e. e ≡ Table fault };
+
+    fn from(fault: TableFault) -> ReadTableFault {
+        ReadTableFault::Table(fault)
+    }
+}
+
+impl From<AllocError> for ReadTableFault {
+    ghost from_gives = { λ _ e. e ≡ Memory };
+
+    fn from(_error: AllocError) -> ReadTableFault {
+        ReadTableFault::Memory
+    }
 }

@@ -12,7 +12,7 @@ mod ticks;
 mod write;
 
 pub use defaults::{default_fx, default_rt, default_ts};
-pub use fault::TableFault;
+pub use fault::{ReadTableFault, TableFault};
 pub use laws::{
     spellings_have_one_table, texts_have_one_answer, texts_spell_tables, ticks_are_the_ceiling,
     written_tables_are_spelled,

@@ -1,19 +1,20 @@
 //! Table files in the manner of dispadmin(1M).
 
-ghost use Rattle.std.specs.Prelude.{◌≡◌, true, ◌+◌, ◌<◌, ◌≤◌, ◌^◌, length, map, IfOk, IfErr};
+ghost use Rattle.std.specs.Prelude.{◌≡◌, true, ◌<◌, ◌≤◌, ◌^◌, length, map, IfOk, OnOk, IfErr};
 ghost use Rattle.std.specs.List.{list_all};
-ghost use Rattle.sd_tables.specs.TableText.{is_unit, is_within, ts_columns, fixed_columns, ts_format, fixed_format, fx_format, rt_format, IsRefusal, SpellsTs, SpellsFixed};
+ghost use Rattle.sd_tables.specs.Sheets.{StandsFor, rows_of};
+ghost use Rattle.sd_tables.specs.TableText.{Format, word_lines, rows_in, is_unit, is_within, ts_columns, fixed_columns, ts_format, fixed_format, fx_format, rt_format, IsTableText, IsTableFault, IsRefusal, SpellsTs, SpellsFixed};
 ghost use Rattle.sd_tables.specs.TableRows.{ts_row_of, fixed_row_of};
 
-use crate::TableFault;
 use crate::columns::{Column, Numbers};
-use crate::sheet::read_sheet;
+use crate::sheet::{Sheet, read_sheet};
 use crate::ticks::ticks;
+use crate::{ReadTableFault, TableFault};
 use sd_types::{FixedRow, FixedTable, List, TsRow, TsTable};
 use std::alloc::{AllocError, Global};
 
 // The least number of rows, and the greatest but for the fixed-priority class.
-const ROWS: usize = 60;
+const ROWS: u32 = 60;
 
 // The row of a level, from its numbers.
 #[tactic(auto, unfolding(crate::specs::TableRows::ts_row_of))]
@@ -77,17 +78,26 @@ fn fixed_rows(
     Ok(made)
 }
 
-// How many rows were read: no more than the bytes of the text and 1.
-fn found(rows: usize) -> TableFault
-    requires { rows < 2 ^ 32 }
-    ensures { result ≡ TableFault.Rows rows }
+// The numbers of a table file with `least` to `most` rows, or its fault.
+fn read_text(text: &[u8], columns: &[Column], least: u32, most: u32) -> Result<Sheet, TableFault>
+    requires text { length text.now < 2 ^ 31 }
+    requires columns { length columns.now ≤ 5 }
+    requires most { most ≤ 61 }
+    ensures ok { let format : Format = record { columns = columns.now; least = least; most = most } in OnOk result (IsTableText format text.now) }
+    ensures err { let format : Format = record { columns = columns.now; least = least; most = most } in IfErr result (IsTableFault format text.now) }
+    ensures sheet { IfOk result (StandsFor columns.now (word_lines text.now)) }
+    ensures rows { IfOk result (λ s. rows_of s ≡ rows_in (word_lines text.now)) }
 {
-    TableFault::Rows { found: rows as u32 }
+    let sheet = read_sheet(text, columns)?;
+    if sheet.count < least || most < sheet.count {
+        return Err(TableFault::Rows { found: sheet.count });
+    }
+    Ok(sheet)
 }
 
 /// Reads a time-sharing table: rows of five numbers (`ts_quantum`, `ts_tqexp`, `ts_slpret`, `ts_maxwait`,
 /// `ts_lwait`) for 60 levels. Its quanta become ticks at `hz` ticks a second.
-pub fn read_ts(alloc: Global, text: &[u8], hz: u32) -> Result<TsTable, TableFault>
+pub fn read_ts(alloc: Global, text: &[u8], hz: u32) -> Result<TsTable, ReadTableFault>
     requires text { length text.now < 2 ^ 31 }
     requires hz { 1 ≤ hz }
     ensures ok { IfOk result (SpellsTs text.now hz) }
@@ -105,18 +115,13 @@ pub fn read_ts(alloc: Global, text: &[u8], hz: u32) -> Result<TsTable, TableFaul
         least: 0,
         greatest: 32_767,
     };
-    let sheet = read_sheet(alloc, text, &[quantum, level, level, maxwait, level])?;
-    if sheet.rows.len() != ROWS {
-        return Err(found(sheet.rows.len()));
-    }
+    let sheet = read_text(text, &[quantum, level, level, maxwait, level], ROWS, ROWS)?;
     let res = sheet.res();
-    match ts_rows(alloc, &sheet.rows, hz, res) {
-        Ok(rows) => Ok(TsTable::from_rows(res, List::from_vec(rows))),
-        Err(_) => Err(TableFault::Memory),
-    }
+    let rows = ts_rows(alloc, &sheet.rows, hz, res)?;
+    Ok(TsTable::from_rows(res, List::from_vec(rows)))
 }
 
-fn read_fixed(alloc: Global, text: &[u8], hz: u32, most: usize) -> Result<FixedTable, TableFault>
+fn read_fixed(alloc: Global, text: &[u8], hz: u32, most: u32) -> Result<FixedTable, ReadTableFault>
     requires text { length text.now < 2 ^ 31 }
     requires hz { 1 ≤ hz }
     requires most { most ≤ 61 }
@@ -127,19 +132,14 @@ fn read_fixed(alloc: Global, text: &[u8], hz: u32, most: usize) -> Result<FixedT
         least: 1,
         greatest: 1_000_000_000,
     };
-    let sheet = read_sheet(alloc, text, &[quantum])?;
-    if sheet.rows.len() < ROWS || most < sheet.rows.len() {
-        return Err(found(sheet.rows.len()));
-    }
+    let sheet = read_text(text, &[quantum], ROWS, most)?;
     let res = sheet.res();
-    match fixed_rows(alloc, &sheet.rows, hz, res) {
-        Ok(rows) => Ok(FixedTable::from_rows(res, List::from_vec(rows))),
-        Err(_) => Err(TableFault::Memory),
-    }
+    let rows = fixed_rows(alloc, &sheet.rows, hz, res)?;
+    Ok(FixedTable::from_rows(res, List::from_vec(rows)))
 }
 
 /// Reads a fixed-priority table: rows of one number, the quantum, for 60 or 61 levels.
-pub fn read_fx(alloc: Global, text: &[u8], hz: u32) -> Result<FixedTable, TableFault>
+pub fn read_fx(alloc: Global, text: &[u8], hz: u32) -> Result<FixedTable, ReadTableFault>
     requires text { length text.now < 2 ^ 31 }
     requires hz { 1 ≤ hz }
     ensures ok { IfOk result (SpellsFixed fx_format text.now hz) }
@@ -149,7 +149,7 @@ pub fn read_fx(alloc: Global, text: &[u8], hz: u32) -> Result<FixedTable, TableF
 }
 
 /// Reads a real-time table: rows of one number, the quantum, for 60 levels.
-pub fn read_rt(alloc: Global, text: &[u8], hz: u32) -> Result<FixedTable, TableFault>
+pub fn read_rt(alloc: Global, text: &[u8], hz: u32) -> Result<FixedTable, ReadTableFault>
     requires text { length text.now < 2 ^ 31 }
     requires hz { 1 ≤ hz }
     ensures ok { IfOk result (SpellsFixed rt_format text.now hz) }

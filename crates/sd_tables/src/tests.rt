@@ -1,11 +1,11 @@
-//! Worked tables and faults. Each expected answer was worked out by hand from the rules of the files.
+//! Worked tables and faults. Each expected result was worked out by hand from the rules of the files.
 
 ghost use Rattle.std.specs.Prelude.{◌≤◌};
 
 use crate::ticks::ticks;
 use crate::{
-    TableFault, default_fx, default_rt, default_ts, read_fx, read_rt, read_ts, write_fixed,
-    write_ts,
+    ReadTableFault, TableFault, default_fx, default_rt, default_ts, read_fx, read_rt, read_ts,
+    write_fixed, write_ts,
 };
 use sd_text::put_number;
 use std::alloc::{AllocError, Global};
@@ -30,14 +30,34 @@ fn resolution(line: u32) -> TableFault {
     TableFault::Resolution { line }
 }
 
-fn rt_fault(rt: &impl Abort, alloc: Global, text: &[u8]) -> Option<TableFault> {
+fn rt_fault(rt: &impl Abort, alloc: Global, text: &[u8]) -> Option<ReadTableFault> {
     assert!(rt; text.len() < 10_000);
     read_rt(alloc, text, HZ).err()
 }
 
-fn ts_fault(rt: &impl Abort, alloc: Global, text: &[u8]) -> Option<TableFault> {
+fn ts_fault(rt: &impl Abort, alloc: Global, text: &[u8]) -> Option<ReadTableFault> {
     assert!(rt; text.len() < 10_000);
     read_ts(alloc, text, HZ).err()
+}
+
+#[test]
+fn faults_have_their_texts(rt: HostRuntime) -> Result<(), Fail> {
+    for (fault, text) in [
+        (not_a_number(3), "not a number"),
+        (range(1, 4), "range in column 4"),
+        (rows(59), "rows: 59"),
+        (resolution(2), "resolution"),
+    ] {
+        assert_eq!(rt; format!(in rt.alloc(); "{fault}")?.as_str(), text);
+        let unread = ReadTableFault::Table(fault);
+        assert_eq!(rt; format!(in rt.alloc(); "{unread}")?.as_str(), text);
+    }
+    let memory = ReadTableFault::Memory;
+    assert_eq!(rt;
+        format!(in rt.alloc(); "{memory}")?.as_str(),
+        "out of memory"
+    );
+    Ok(())
 }
 
 #[test]
@@ -66,7 +86,7 @@ fn faults_of_rows(rt: HostRuntime) {
     ];
     for (text, fault) in cases {
         assert!(rt;
-            rt_fault(&rt, rt.alloc(), text.as_bytes()) == Some(fault),
+            rt_fault(&rt, rt.alloc(), text.as_bytes()) == Some(ReadTableFault::Table(fault)),
             "at {text:?}"
         );
     }
@@ -96,7 +116,7 @@ fn faults_of_res_lines(rt: HostRuntime) {
     ];
     for (text, fault) in cases {
         assert!(rt;
-            rt_fault(&rt, rt.alloc(), text.as_bytes()) == Some(fault),
+            rt_fault(&rt, rt.alloc(), text.as_bytes()) == Some(ReadTableFault::Table(fault)),
             "at {text:?}"
         );
     }
@@ -119,7 +139,7 @@ fn faults_of_time_sharing_tables(rt: HostRuntime) {
     ];
     for (text, fault) in cases {
         assert!(rt;
-            ts_fault(&rt, rt.alloc(), text.as_bytes()) == Some(fault),
+            ts_fault(&rt, rt.alloc(), text.as_bytes()) == Some(ReadTableFault::Table(fault)),
             "at {text:?}"
         );
     }
@@ -171,33 +191,81 @@ fn dispadmin_files(rt: HostRuntime) -> Result<(), Fail> {
     assert!(rt; out.as_slice() == written.as_slice());
 
     let short = dispadmin_file(rt.alloc(), 59)?;
-    assert!(rt; rt_fault(&rt, rt.alloc(), &short) == Some(rows(59)));
+    assert!(rt; rt_fault(&rt, rt.alloc(), &short) == Some(ReadTableFault::Table(rows(59))));
     Ok(())
 }
 
+// The default time-sharing table at the ends of its bands, after ts_dptbl(4): the level, then ts_quantum, the ticks
+// at 100 a second, ts_tqexp (ten levels down), ts_slpret, ts_maxwait and ts_lwait.
+const TIME_SHARING: [(u8, u64, u64, u8, u8, u32, u8); 13] = [
+    (0, 200, 20, 0, 50, 0, 50),
+    (9, 200, 20, 0, 50, 0, 50),
+    (10, 160, 16, 0, 51, 0, 51),
+    (19, 160, 16, 9, 51, 0, 51),
+    (20, 120, 12, 10, 52, 0, 52),
+    (29, 120, 12, 19, 52, 0, 52),
+    (30, 80, 8, 20, 53, 0, 53),
+    (39, 80, 8, 29, 53, 0, 53),
+    (40, 40, 4, 30, 54, 0, 54),
+    (49, 40, 4, 39, 54, 0, 54),
+    (50, 40, 4, 40, 55, 0, 55),
+    (58, 40, 4, 48, 55, 0, 55),
+    (59, 20, 2, 49, 55, 32_000, 55),
+];
+
 #[test]
-fn default_tables(rt: HostRuntime) -> Result<(), Fail> {
+fn the_default_time_sharing_table(rt: HostRuntime) -> Result<(), Fail> {
     let ts = default_ts(rt.alloc(), HZ)?;
-    assert!(rt; ts.rows() == 60);
-    let low = ts.row(0);
-    assert!(rt; low.quantum == 200 && low.ticks == 20 && low.tqexp == 0 && low.slpret == 50);
-    assert!(rt; low.maxwait == 0 && low.lwait == 50);
-    let high = ts.row(59);
-    assert!(rt; high.quantum == 20 && high.ticks == 2 && high.tqexp == 49 && high.slpret == 55);
-    assert!(rt; high.maxwait == 32_000 && high.lwait == 55);
     let mut text = Vec::new(rt.alloc());
     write_ts(rt.alloc(), &ts, &mut text)?;
     assert!(rt; text.len() < 10_000);
     let again = read_ts(rt.alloc(), &text, HZ)?;
-    assert!(rt; again.rows() == 60 && again.row(59).maxwait == 32_000);
+    for table in [&ts, &again] {
+        assert!(rt; table.rows() == 60);
+        for (level, quantum, ticks, tqexp, slpret, maxwait, lwait) in TIME_SHARING {
+            assert!(rt; usize::from(level) < table.rows());
+            let row = table.row(level);
+            assert_eq!(rt;
+                (row.quantum, row.ticks, row.tqexp),
+                (quantum, ticks, tqexp),
+                "{level}"
+            );
+            assert_eq!(rt;
+                (row.slpret, row.maxwait, row.lwait),
+                (slpret, maxwait, lwait),
+                "{level}"
+            );
+        }
+    }
+    Ok(())
+}
 
+#[test]
+fn the_default_fixed_priority_table(rt: HostRuntime) -> Result<(), Fail> {
     let fx = default_fx(rt.alloc(), HZ)?;
     let mut text = Vec::new(rt.alloc());
     write_fixed(rt.alloc(), &fx, &mut text)?;
     assert!(rt; text.len() < 10_000);
     let again = read_fx(rt.alloc(), &text, HZ)?;
-    assert!(rt; again.rows() == 61 && again.row(59).quantum == 40 && again.row(60).ticks == 2);
-    assert!(rt; rt_fault(&rt, rt.alloc(), &text) == Some(rows(61)));
+    for table in [&fx, &again] {
+        assert!(rt; table.rows() == 61);
+        // The level, the quantum, and the ticks at 100 a second.
+        for (level, quantum, ticks) in [
+            (0u8, 200, 20),
+            (9, 200, 20),
+            (10, 160, 16),
+            (20, 120, 12),
+            (30, 80, 8),
+            (40, 40, 4),
+            (59, 40, 4),
+            (60, 20, 2),
+        ] {
+            assert!(rt; usize::from(level) < table.rows());
+            let row = table.row(level);
+            assert_eq!(rt; (row.quantum, row.ticks), (quantum, ticks), "{level}");
+        }
+    }
+    assert!(rt; rt_fault(&rt, rt.alloc(), &text) == Some(ReadTableFault::Table(rows(61))));
 
     let mut out = Vec::new(rt.alloc());
     write_fixed(rt.alloc(), &default_rt(rt.alloc(), HZ)?, &mut out)?;

@@ -1,5 +1,5 @@
-pub mod EndsLemmas
 pub mod LineLemmas
 pub mod MemoryLemmas
 pub mod NumberLemmas
+pub mod StreamLemmas
 pub mod WordLemmas

@@ -11,9 +11,9 @@ chosen : (b : Bool) (n m : ℕ) → (b ≡ false → n ≡ m) → unwrap_or (con
 chosen true n m h = refl
 chosen false n m h = sym (h refl)
 
--- the place that was found, or else the length
-pub place_or_length : (p : ℕ → Bool) (xs : List ℕ) → unwrap_or (position p xs) (length xs) ≡ position_or_len p xs
-place_or_length p xs =
+-- the index that was found, or else the length
+pub index_or_length : (p : ℕ → Bool) (xs : List ℕ) → unwrap_or (position p xs) (length xs) ≡ position_or_len p xs
+index_or_length p xs =
     chosen (ltb (position_or_len p xs) (length xs)) _ _ (λ past. let le = prefix_len-le-length (λ x. not (p x)) xs in grind (arith, nat_tests))
 
 pub take-one_more : (n : ℕ) (x : ℕ) (xs : List ℕ) → take (1 + n) (x ∷ xs) ≡ x ∷ take n xs
@@ -47,7 +47,7 @@ unfolding lines_of
 lines-first [] h = absurd (omega arith)
 lines-first (x ∷ xs) h = lines-step (is_newline x) x xs (lines-first xs)
 
--- the same of what stands from a place on
+-- the same of what stands from an index on
 pub lines-from : (xs : List ℕ) (from len : ℕ) → from < length xs
     → len ≡ first (take (length xs - from) (drop from xs))
     → lines_of (drop from xs) ≡ take (from + len - from) (drop from xs) ∷ lines_of (drop (from + len + 1) xs)

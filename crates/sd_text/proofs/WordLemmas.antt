@@ -94,13 +94,13 @@ words-first xs some =
     ap (filter here) s.1 ∙ kept _ (take (plain xs) xs) (filter here s.0) (lt-ltb _ _ long)
     ∙ ap (λ l. take (plain xs) xs ∷ l) (sym (ap (filter here) s.2))
 
--- what stands behind the blanks from a place on
+-- what stands behind the blanks from an index on
 behind-blanks : (xs : List ℕ) (from s : ℕ) → s ≡ blanks (take (length xs - from) (drop from xs))
     → drop (blanks (drop from xs)) (drop from xs) ≡ drop (from + s) xs
 behind-blanks xs from s is =
     drop-drop (blanks (drop from xs)) from xs ∙ ap (λ k. drop (from + k) xs) (sym (is ∙ ap blanks (take_rest xs from)))
 
--- the first word of what stands from a place on
+-- the first word of what stands from an index on
 pub words-from : (xs : List ℕ) (from s w : ℕ) → s ≡ blanks (take (length xs - from) (drop from xs))
     → w ≡ plain (take (length xs - (from + s)) (drop (from + s) xs)) → 0 < w
     → words_of (drop from xs) ≡ take (from + s + w - (from + s)) (drop (from + s) xs) ∷ words_of (drop (from + s + w) xs)

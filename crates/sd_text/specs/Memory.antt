@@ -1,6 +1,6 @@
 -- Sources and sinks in memory (this project's own): what they hold, and what a call does to it.
 use Rattle.std.specs.Prelude.{◌≡◌, ℕ, ◌-◌, ◌<◌, ◌⊎◌, List, ◌++◌, length, take, drop, min, MatchResult, Result, Contains}
-use Rattle.sd_text.specs.declared.ends.Failed.{Failed}
+use Rattle.sd_text.specs.declared.streams.Failed.{Failed}
 use Rattle.sd_text.specs.Faults.{next_count}
 
 pub record SourceState : Type 0 where
@@ -23,7 +23,7 @@ abbrev pub chunk_len : SourceState → ℕ → ℕ
 chunk_len s room = min (min s.chunk room) (length s.left)
 
 -- The read, which is the one of the next number, fails where that number stands among the failing ones,
--- and gives nothing then. Else it puts the next bytes into the front of the buffer.
+-- and gives nothing then. Else it puts the next bytes at the beginning of the buffer.
 abbrev pub ReadsChunk : SourceState → SourceState → Result ℕ Failed → List ℕ → List ℕ → Type 0
 ReadsChunk old new result before after = MatchResult result
     (λ n. (¬ Contains old.failing (next_count old.reads)) × (n ≡ chunk_len old (length before))

@@ -4,7 +4,7 @@ ghost use Rattle.std.specs.Prelude.{◌≡◌, ◌<◌, ◌≤◌, IfOk, OnOk, O
 ghost use Rattle.std.specs.Io.KnownBytes.{ReadConsumes, WriteAppends};
 ghost use Rattle.sd_text.specs.Faults.{HasRisen, next_count};
 
-use super::ends::{Failed, Sink, Source};
+use super::streams::{Failed, Sink, Source};
 use std::io::{Read, Write};
 
 /// A source over a reader. Each `Err` of the reader is a fault.
@@ -38,12 +38,12 @@ impl<R: Read> Source for StdSource<R> {
 
     fn read(&mut self, buf: &mut [u8]) -> Result<usize, Failed>
         ensures never_falls { source_faults self.old ≤ source_faults self.new }
+        ensures no_fault { OnOk result (source_faults self.new ≡ source_faults self.old) }
         ensures failed_only_where_risen { OnErr result (HasRisen (source_faults self.old) (source_faults self.new)) }
         ensures bound { IfOk result (λ n. n ≤ length buf.new) }
         ensures bytes { ReadConsumes (R.remaining (source_reader self.old)) (R.remaining (source_reader self.new)) result buf.new }
 
-        // A read raises the count exactly where it failed.
-        ensures ok { OnOk result (source_faults self.new ≡ source_faults self.old) }
+        // A read that failed raises the count by one.
         ensures failed { OnErr result (source_faults self.new ≡ next_count (source_faults self.old)) }
     {
         match self.inner.read(buf) {
@@ -88,13 +88,13 @@ impl<W: Write> Sink for StdSink<W> {
 
     fn write(&mut self, bytes: &[u8]) -> Result<usize, Failed>
         ensures never_falls { sink_faults self.old ≤ sink_faults self.new }
+        ensures no_fault { OnOk result (sink_faults self.new ≡ sink_faults self.old) }
         ensures failed_only_where_risen { OnErr result (HasRisen (sink_faults self.old) (sink_faults self.new)) }
         ensures bound { IfOk result (λ n. n ≤ length bytes.now) }
         ensures progress { IfOk result (λ n. 0 < length bytes.now → 0 < n) }
         ensures bytes { WriteAppends (W.contents (sink_writer self.old)) (W.contents (sink_writer self.new)) result bytes.now }
 
-        // A write raises the count exactly where it failed.
-        ensures ok { OnOk result (sink_faults self.new ≡ sink_faults self.old) }
+        // A write that failed raises the count by one.
         ensures failed { OnErr result (sink_faults self.new ≡ next_count (sink_faults self.old)) }
     {
         match self.inner.write(bytes) {

@@ -3,22 +3,22 @@
 #![tactic(auto)]
 
 mod adapters;
-mod ends;
 mod laws;
 mod lines;
 mod memory;
 mod numbers;
 mod read;
+mod streams;
 mod words;
 mod write;
 
 pub use adapters::{StdSink, StdSource};
-pub use ends::{Failed, Sink, Source};
 pub use laws::{lines_of_texts, numbers_of_words, risen_counts, words_of_lines};
 pub use lines::next_line;
 pub use memory::{MemorySink, MemorySource};
 pub use numbers::{number, put_number, signed};
-pub use read::{GREATEST_INPUT, ReadAllFault, read_all, read_up_to};
+pub use read::{ReadAllFault, read_all, read_up_to};
+pub use streams::{Failed, Sink, Source};
 pub use words::next_word;
 pub use write::{WriteFault, write_piece};
 

@@ -25,16 +25,16 @@ pub fn next_line(bytes: &[u8], from: usize) -> Option<(usize, usize)>
 }
 
 // How many bytes stand before the first newline.
-#[tactic(auto, using(crate::proofs::LineLemmas::place_or_length, crate::proofs::LineLemmas::newline_at))]
+#[tactic(auto, using(crate::proofs::LineLemmas::index_or_length, crate::proofs::LineLemmas::newline_at))]
 fn line_len(bytes: &[u8]) -> usize
     ensures len { result ≡ position_or_len is_newline bytes.now }
     ensures bound { result ≤ length bytes.now }
     ensures newline { result < length bytes.now → slice_index bytes.now result ≡ 10 }
 {
-    newline_place(bytes).unwrap_or(bytes.len())
+    newline_index(bytes).unwrap_or(bytes.len())
 }
 
-fn newline_place(bytes: &[u8]) -> Option<usize>
+fn newline_index(bytes: &[u8]) -> Option<usize>
     ensures { result ≡ position is_newline bytes.now }
 {
     bytes.iter().position(|byte| *byte == b'\n')

@@ -1,10 +1,10 @@
 //! Reading a source to its end, up to a limit.
-ghost use Rattle.std.specs.Prelude.{◌≡◌, ◌+◌, ◌^◌, ◌<◌, ◌≤◌, length, IfSome, IfOk, OnOk, IsErrOf};
+ghost use Rattle.std.specs.Prelude.{◌≡◌, ◌^◌, ◌<◌, ◌≤◌, length, IfSome, IfOk, OnOk, IsErrOf};
 ghost use Rattle.std.specs.Io.KnownBytes.{IsAtEnd};
 ghost use Rattle.sd_text.specs.Faults.{HasRisen};
 ghost use Rattle.sd_text.specs.Reading.{TakesUpTo};
 
-use super::ends::Source;
+use super::streams::Source;
 use std::alloc::Global;
 use thiserror::Error;
 
@@ -22,27 +22,28 @@ pub enum ReadAllFault {
     Memory,
 }
 
-/// The greatest input that `read_all` takes, in bytes.
-pub const GREATEST_INPUT: u64 = 1_048_576;
+// The greatest input that `read_all` takes, in bytes.
+const GREATEST_INPUT: u64 = 1_048_576;
 
 // How many bytes one read asks for.
 const PIECE: usize = 4096;
 
-/// All bytes to the end of the source, of which there are at most `GREATEST_INPUT`.
+/// All bytes to the end of the source, of which there are at most 1,048,576.
 pub fn read_all<S: Source>(alloc: Global, source: &mut S) -> Result<Vec<u8>, ReadAllFault>
     ensures never_falls { S.fault_count source.old ≤ S.fault_count source.new }
 
     // An `Ok` has the whole input, where the source tells it, and nothing is left.
     ensures whole { IfOk result (λ v. IfSome (S.remaining source.old) (λ xs. v.items ≡ xs)) }
     ensures end { OnOk result (IsAtEnd (S.remaining source.new)) }
-    ensures bound { IfOk result (λ v. length v.items ≤ GREATEST_INPUT) }
+    ensures bound { IfOk result (λ v. length v.items ≤ 1048576) }
 
-    // When each fault comes. That memory ran out is left open.
+    // When each fault comes. Where memory ran out is left open, but no fault was counted then.
     ensures read_fault { IsErrOf result ReadAllFault.ReadFault → HasRisen (S.fault_count source.old) (S.fault_count source.new) }
-    ensures too_large { IsErrOf result ReadAllFault.TooLarge → IfSome (S.remaining source.old) (λ xs. GREATEST_INPUT < length xs) }
+    ensures no_fault { ¬ IsErrOf result ReadAllFault.ReadFault → S.fault_count source.new ≡ S.fault_count source.old }
+    ensures too_large { IsErrOf result ReadAllFault.TooLarge → IfSome (S.remaining source.old) (λ xs. 1048576 < length xs) }
 
-    // What was taken, whatever the answer.
-    ensures taken { TakesUpTo GREATEST_INPUT (S.remaining source.old) (S.remaining source.new) result }
+    // What was taken, whatever the result.
+    ensures taken { TakesUpTo 1048576 (S.remaining source.old) (S.remaining source.new) result }
 {
     read_up_to(alloc, source, GREATEST_INPUT)
 }
@@ -62,11 +63,12 @@ pub fn read_up_to<S: Source>(
     ensures end { OnOk result (IsAtEnd (S.remaining source.new)) }
     ensures bound { IfOk result (λ v. length v.items ≤ most) }
 
-    // When each fault comes. That memory ran out is left open.
+    // When each fault comes. Where memory ran out is left open, but no fault was counted then.
     ensures read_fault { IsErrOf result ReadAllFault.ReadFault → HasRisen (S.fault_count source.old) (S.fault_count source.new) }
+    ensures no_fault { ¬ IsErrOf result ReadAllFault.ReadFault → S.fault_count source.new ≡ S.fault_count source.old }
     ensures too_large { IsErrOf result ReadAllFault.TooLarge → IfSome (S.remaining source.old) (λ xs. most < length xs) }
 
-    // What was taken, whatever the answer.
+    // What was taken, whatever the result.
     ensures taken { TakesUpTo most (S.remaining source.old) (S.remaining source.new) result }
 {
     let most = most as usize;

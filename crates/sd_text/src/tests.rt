@@ -1,5 +1,5 @@
 //! What no clause says: that calls which take memory succeed, that the adapters count the faults of real readers
-//! and writers, and the cases of failing ends and of texts, whose answers were worked out by hand.
+//! and writers, and the cases of failing ends and of texts, whose results were worked out by hand.
 ghost use Rattle.std.specs.Prelude.{◌≤◌};
 
 use super::*;
@@ -56,6 +56,26 @@ fn an_input_has_at_most_the_limit(rt: HostRuntime) -> Result<(), Fail> {
         let mut source = MemorySource::new(bytes, 100_000, vec![in rt.alloc()]?);
         assert_eq!(rt; read_all(rt.alloc(), &mut source).err(), fault);
     }
+    Ok(())
+}
+
+#[test]
+fn faults_have_their_texts(rt: HostRuntime) -> Result<(), Fail> {
+    for (fault, text) in [
+        (ReadAllFault::ReadFault, "read fault"),
+        (ReadAllFault::TooLarge, "input too large"),
+        (ReadAllFault::Memory, "out of memory"),
+    ] {
+        assert_eq!(rt; format!(in rt.alloc(); "{fault}")?.as_str(), text);
+    }
+    assert_eq!(rt;
+        format!(in rt.alloc(); "{WriteFault}")?.as_str(),
+        "write fault"
+    );
+    assert_eq!(rt;
+        format!(in rt.alloc(); "{Failed}")?.as_str(),
+        "a read or a write failed"
+    );
     Ok(())
 }
 
@@ -142,7 +162,7 @@ fn adapters_count_faults(rt: HostRuntime) -> Result<(), Fail> {
 }
 
 #[test]
-fn lines_and_words_have_their_places(rt: HostRuntime) {
+fn lines_and_words_are_found(rt: HostRuntime) {
     for (text, from, line) in [
         (&b""[..], 0, None),
         (&b"a"[..], 0, Some((0, 1))),

@@ -37,22 +37,22 @@ fn ends_word(byte: u8) -> bool
 }
 
 // How many blanks the bytes begin with.
-#[tactic(auto, using(crate::proofs::LineLemmas::place_or_length))]
+#[tactic(auto, using(crate::proofs::LineLemmas::index_or_length))]
 fn blank_len(bytes: &[u8]) -> usize
     ensures len { result ≡ position_or_len is_other bytes.now }
     ensures bound { result ≤ length bytes.now }
 {
-    other_place(bytes).unwrap_or(bytes.len())
+    other_index(bytes).unwrap_or(bytes.len())
 }
 
-fn other_place(bytes: &[u8]) -> Option<usize>
+fn other_index(bytes: &[u8]) -> Option<usize>
     ensures { result ≡ position is_other bytes.now }
 {
     bytes.iter().position(|byte| !is_blank(*byte))
 }
 
 // How many bytes stand before a blank or a comment.
-#[tactic(auto, using(crate::proofs::LineLemmas::place_or_length))]
+#[tactic(auto, using(crate::proofs::LineLemmas::index_or_length))]
 fn word_len(bytes: &[u8]) -> usize
     ensures len { result ≡ position_or_len ends_word bytes.now }
     ensures bound { result ≤ length bytes.now }

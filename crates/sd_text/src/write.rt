@@ -1,9 +1,9 @@
 //! Writing a piece whole.
-ghost use Rattle.std.specs.Prelude.{ℕ, ◌<◌, ◌≤◌, length, take, OnOk, OnErr};
+ghost use Rattle.std.specs.Prelude.{◌≡◌, ℕ, ◌<◌, ◌≤◌, length, take, OnOk, OnErr};
 ghost use Rattle.std.specs.Io.KnownBytes.{Appends};
 ghost use Rattle.sd_text.specs.Faults.{HasRisen};
 
-use super::ends::Sink;
+use super::streams::Sink;
 use thiserror::Error;
 
 /// A piece was not written whole, since a write failed.
@@ -16,7 +16,9 @@ pub fn write_piece<K: Sink>(sink: &mut K, piece: &[u8]) -> Result<(), WriteFault
     ensures never_falls { K.fault_count sink.old ≤ K.fault_count sink.new }
     ensures ok { OnOk result (Appends (K.contents sink.old) (K.contents sink.new) piece.now) }
 
-    // A fault leaves a part of the piece, and not all of it.
+    ensures no_fault { OnOk result (K.fault_count sink.new ≡ K.fault_count sink.old) }
+
+    // A fault leaves a prefix of the piece, and not all of it.
     ensures risen { OnErr result (HasRisen (K.fault_count sink.old) (K.fault_count sink.new)) }
     ensures part { OnErr result ((n : ℕ) × (n < length piece.now) × Appends (K.contents sink.old) (K.contents sink.new) (take n piece.now)) }
 {

@@ -37,7 +37,7 @@ split-cons : (m : Statement) (made : List Statement) (s a : Statement) (above : 
 split-cons m made s a above t e (inl h) = inl (cc, h.1)
 split-cons m made s a above t e (inr h) = inr (h.0, cc)
 
--- a place in a list with one more element is the last, or one in the list before
+-- an index in a list with one more element is the last, or one in the list before
 push-split : (made : List Statement) (s : Statement) (above : List Statement) (t : Statement) (below : List Statement)
     → made ++ s ∷ [] ≡ above ++ t ∷ below → IsSplit made s above t
 push-split [] s [] t below e = inl (refl, cc)

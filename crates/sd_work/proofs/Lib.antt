@@ -1,7 +1,7 @@
 pub mod FormLemmas
 pub mod KeptLemmas
 pub mod ReadingLemmas
-pub mod SheetLemmas
+pub mod StatementLemmas
 pub mod TextLemmas
 pub mod ScriptLemmas
 pub mod ThreadLemmas

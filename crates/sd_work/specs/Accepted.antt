@@ -21,8 +21,8 @@ pub record Thread : Type 0 where
   pub set : SetId
   pub ops : List Op
 
-abbrev pub shown : ThreadDecl → Thread
-shown t = record { name = t.name.text.items; class = t.class; cpupri = t.cpupri; uid = t.uid; privileged = t.privileged; set = t.set; ops = t.script.ops }
+abbrev pub plain_thread : ThreadDecl → Thread
+plain_thread t = record { name = t.name.text.items; class = t.class; cpupri = t.cpupri; uid = t.uid; privileged = t.privileged; set = t.set; ops = t.script.ops }
 
 -- the set that no set statement declares
 abbrev pub default_set : SetId
@@ -68,7 +68,7 @@ pub record Accepted (text : List ℕ) (w : Work) : Type 0 where
   pub sound : AreSound statements
   pub few_ops : sum_by (λ t. length t.ops) (threads_of statements) ≤ 4096
   pub limit : limit_in statements ≡ Some w.limit
-  pub threads : map shown w.threads ≡ threads_of statements
+  pub threads : map plain_thread w.threads ≡ threads_of statements
   pub defaults : HasDefaults w
 
 -- two works with the same parts
@@ -79,7 +79,7 @@ pub record HaveSameParts (w v : Work) : Type 0 where
   pub sets : w.sets ≡ v.sets
   pub locks : w.locks ≡ v.locks
   pub chans : w.chans ≡ v.chans
-  pub threads : map shown w.threads ≡ map shown v.threads
+  pub threads : map plain_thread w.threads ≡ map plain_thread v.threads
   pub ts_res : w.ts.res ≡ v.ts.res
   pub ts_rows : w.ts.rows ≡ v.ts.rows
   pub fx_res : w.fx.res ≡ v.fx.res

@@ -22,8 +22,8 @@ pub record Reading : Type 0 where
   -- the operations up to the end of the block, and the statements behind it
   pub inside : Option (List Op × List Statement)
 
-abbrev pub nothing : Reading
-nothing = record { outside = None; inside = None }
+abbrev pub no_reading : Reading
+no_reading = record { outside = None; inside = None }
 
 -- a statement of one line stands outside blocks
 abbrev pub with_statement : Statement → Reading → Reading
@@ -31,7 +31,7 @@ with_statement s below = record { outside = option_map (λ ss. s ∷ ss) below.o
 
 -- a line above others
 abbrev pub with_line : Option Said → Reading → Reading
-with_line None below = nothing
+with_line None below = no_reading
 with_line (Some (SaysLimit n)) below = with_statement (Limits n) below
 with_line (Some (SaysThread d)) below = with_statement (Declares d) below
 with_line (Some (SaysScript name)) below = record { outside = option_map (λ p. Scripts name p.0 ∷ p.1) below.inside; inside = None }

@@ -8,12 +8,12 @@ mod laws;
 mod lines;
 mod names;
 mod numerals;
+mod parse;
 mod read;
-mod reading;
 mod scripts;
-mod sheet;
 mod spans;
 mod standing;
+mod statement_reader;
 mod statements;
 mod threads;
 

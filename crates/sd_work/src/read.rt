@@ -7,15 +7,12 @@ ghost use Rattle.sd_types.specs.Works.{Declared, is_distinct, same_bytes, thread
 ghost use Rattle.sd_types.specs.declared.works.Work.{Work as WorkValue};
 
 use crate::WorkFault;
-use crate::sheet::read_statements;
 use crate::standing::limit;
-use crate::threads::{op_count, threads};
+use crate::statement_reader::read_statements;
+use crate::threads::{check_op_count, threads};
 use sd_tables::{default_fx, default_rt, default_ts};
 use sd_types::{List, ThreadDecl, Work};
 use std::alloc::{AllocError, Global};
-
-/// The greatest number of operations in all scripts.
-const MOST_OPS: usize = 4096;
 
 /// Ticks of a second.
 const HZ: u32 = 100;
@@ -53,12 +50,8 @@ pub fn read_work(alloc: Global, bytes: &[u8]) -> Result<Work, WorkFault>
     ensures not_built { IsErrOf result WorkFault.NotBuilt → (w : WorkValue) → Accepted bytes.now w → ⊥ }
 {
     let statements = read_statements(alloc, bytes)?;
-    let Some(limit) = limit(&statements) else {
-        return Err(WorkFault::NotBuilt);
-    };
+    let limit = limit(&statements)?;
     let threads = threads(alloc, &statements)?;
-    if MOST_OPS < op_count(&threads) {
-        return Err(WorkFault::NotBuilt);
-    }
+    check_op_count(&threads)?;
     Ok(work(alloc, limit, threads)?)
 }

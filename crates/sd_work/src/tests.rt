@@ -3,8 +3,10 @@
 ghost use Rattle.std.specs.Prelude.{◌<◌, ◌^◌, length};
 
 use super::*;
+use crate::fault::Refusal;
+use sd_text::put_number;
 use sd_types::{ClassParms, Op, ThreadDecl, Work};
-use std::alloc::Global;
+use std::alloc::{AllocError, Global};
 use std::test::Fail;
 
 // A time-sharing thread of the default set with uid 0 and without privilege.
@@ -103,4 +105,61 @@ fn texts_are_refused(rt: HostRuntime) {
             assert_eq!(rt; fault, Some(WorkFault::NotBuilt), "at {text:?}");
         }
     }
+}
+
+// Appends the script of a thread, with this many runs of one tick.
+fn put_script(text: &mut Vec<u8>, thread: u64, ops: u64) -> Result<(), AllocError> {
+    text.extend_from_slice(b"script t")?;
+    put_number(text, thread)?;
+    for _ in 0..ops {
+        text.extend_from_slice(b"\nrun 1")?;
+    }
+    text.extend_from_slice(b"\nend\n")
+}
+
+// A text with this many threads. The first `full` of them have a script of 256 operations, and the next one has one
+// of `last`.
+fn text_of(alloc: Global, threads: u64, full: u64, last: u64) -> Result<Vec<u8>, AllocError> {
+    let mut text = Vec::from_slice(alloc, b"limit 1\n")?;
+    for thread in 0..threads {
+        text.extend_from_slice(b"thread t")?;
+        put_number(&mut text, thread)?;
+        text.extend_from_slice(b" ts 0 0 0\n")?;
+    }
+    for thread in 0..full {
+        put_script(&mut text, thread, 256)?;
+    }
+    put_script(&mut text, full, last)?;
+    Ok(text)
+}
+
+#[test]
+fn limits_have_two_sides(rt: HostRuntime) -> Result<(), Fail> {
+    // At most 256 operations of a script, 4,096 = 16 * 256 in all, and 2,048 threads.
+    for (threads, full, last, fault) in [
+        (1, 0, 256, None),
+        (1, 0, 257, Some(WorkFault::NotBuilt)),
+        (17, 16, 0, None),
+        (17, 16, 1, Some(WorkFault::NotBuilt)),
+        (2048, 0, 0, None),
+        (2049, 0, 0, Some(WorkFault::NotBuilt)),
+    ] {
+        let text = text_of(rt.alloc(), threads, full, last)?;
+        assert!(rt; text.len() < 100_000);
+        let found = read_work(rt.alloc(), &text).err();
+        assert_eq!(rt; found, fault, "{threads} {full} {last}");
+    }
+    Ok(())
+}
+
+#[test]
+fn faults_have_their_texts(rt: HostRuntime) -> Result<(), Fail> {
+    for (fault, text) in [
+        (WorkFault::NotBuilt, "not built"),
+        (WorkFault::Memory, "out of memory"),
+    ] {
+        assert_eq!(rt; format!(in rt.alloc(); "{fault}")?.as_str(), text);
+    }
+    assert_eq!(rt; format!(in rt.alloc(); "{Refusal}")?.as_str(), "not built");
+    Ok(())
 }

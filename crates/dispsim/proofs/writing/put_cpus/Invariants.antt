@@ -1,7 +1,7 @@
 use Rattle.std.proofs.Common.{take, Ok}
 use Rattle.std.specs.List.{flat_map, range_with_len}
 use Rattle.sd_machine.specs.Texts.{cpu_line}
-use Rattle.dispsim.specs.Ends.{Puts}
+use Rattle.dispsim.specs.StreamChanges.{Puts}
 use Rattle.dispsim.proofs.writing.put_cpus.Given as goal
 
 abbrev pub invariant-loop-c : goal.invariant-loop-c

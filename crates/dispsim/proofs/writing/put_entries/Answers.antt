@@ -1,5 +1,5 @@
 use Rattle.sd_machine.specs.Texts.{entry_text, entries_text}
-use Rattle.dispsim.proofs.PutLemmas.{Puts-nil, Puts-item, Puts-item_err, Puts-all}
+use Rattle.dispsim.proofs.PutLemmas.{Puts-nil, Puts-item, Puts-item_err, Puts-all, Puts-exit}
 use Rattle.dispsim.proofs.writing.put_entries.Goals as goal
 
 pub loop-entry-init : goal.loop-entry-init
@@ -7,12 +7,13 @@ loop-entry-init g c = Puts-nil _ _
 
 pub loop-entry-preserved : goal.loop-entry-preserved
 loop-entry-preserved g c =
-    Puts-item (entry_text c.args.work.now) _ _ _ _ _ _ c.args.entries.now c.loop-entry.entry-index c.entry-item.result c.entry-item.is c.loop-entry-test.true c.loop-entry.invariant c.in_default.ensures
+    Puts-item (entry_text c.args.work.now) _ _ _ _ _ _ c.args.entries.now c.loop-entry.entry-index c.entry-item.result c.entry-item.is c.loop-entry-test.true c.loop-entry.invariant c.in_ok-put_entry.ensures
 
-pub returns-in-Err : goal.returns-in-Err
+pub returns-in_err-put_entry : goal.returns-in_err-put_entry
 unfolding entries_text
-returns-in-Err g c =
-    Puts-item_err (entry_text c.args.work.now) _ _ _ _ _ _ c.args.entries.now c.loop-entry.entry-index c.entry-item.result c.entry-item.is c.in-Err.unwritten c.loop-entry-test.true c.loop-entry.invariant c.in-Err.ensures
+returns-in_err-put_entry g c =
+    Puts-exit _ _ _ _ _ _ _ c.from_residual.ensures.1
+    (Puts-item_err (entry_text c.args.work.now) _ _ _ _ _ _ c.args.entries.now c.loop-entry.entry-index c.entry-item.result c.entry-item.is _ c.loop-entry-test.true c.loop-entry.invariant c.in_err-put_entry.ensures)
 
 pub returns : goal.returns
 unfolding entries_text

@@ -1,7 +1,7 @@
 use Rattle.std.proofs.Common.{take, Ok}
 use Rattle.std.specs.List.{flat_map}
 use Rattle.sd_machine.specs.Texts.{entry_text}
-use Rattle.dispsim.specs.Ends.{Puts}
+use Rattle.dispsim.specs.StreamChanges.{Puts}
 use Rattle.dispsim.proofs.writing.put_entries.Given as goal
 
 abbrev pub invariant-loop-entry : goal.invariant-loop-entry

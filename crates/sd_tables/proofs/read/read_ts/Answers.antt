@@ -1,4 +1,4 @@
-use Rattle.std.proofs.Common.{◌≡◌, map, ap, sym, ◌∙◌, arith}
+use Rattle.std.proofs.Common.{◌≡◌, map, ap, sym, ◌∙◌}
 use Rattle.sd_tables.specs.TableText.{is_unit}
 use Rattle.sd_tables.specs.Sheets.{rows_of}
 use Rattle.sd_tables.specs.TableRows.{ts_row_of}
@@ -7,17 +7,16 @@ use Rattle.sd_tables.proofs.read.read_ts.Goals as goal
 
 pub from_rows-requires-clause-fits : goal.from_rows-requires-clause-fits
 from_rows-requires-clause-fits c =
-    let made : c.from_vec.result ≡ map (ts_row_of c.args.hz c.res-res.result) (rows_of c.in_ok-sheet.sheet) = cc (c.from_vec.ensures, c.in-Ok.ensures, c.deref.ensures.value) in
-    ts_fits c.args.text.now c.args.hz c.res-res.result c.in_ok-sheet.sheet c.from_vec.result c.in_ok-sheet.ensures.value c.requires.hz (c.res-res.ensures.unit c.in_ok-sheet.ensures.value.unit) made
+    let made : c.from_vec.result ≡ map (ts_row_of c.args.hz c.res-res.result) (rows_of c.in_ok-sheet.sheet) = cc (c.from_vec.ensures, c.in_ok-rows.ensures, c.deref.ensures.0) in
+    ts_fits c.args.text.now c.args.hz c.res-res.result c.in_ok-sheet.sheet c.from_vec.result c.in_ok-sheet.ensures.sheet c.in_ok-sheet.ensures.rows c.requires.hz (c.res-res.ensures.unit c.in_ok-sheet.ensures.sheet.unit) made
 
-pub returns-in-Ok-clause-ok : goal.returns-in-Ok-clause-ok
-returns-in-Ok-clause-ok c =
+pub returns-clause-ok : goal.returns-clause-ok
+returns-clause-ok c =
     let sheet = c.in_ok-sheet.sheet in
     let t = c.from_rows.result in
-    let made : c.from_vec.result ≡ map (ts_row_of c.args.hz c.res-res.result) (rows_of sheet) = cc (c.from_vec.ensures, c.in-Ok.ensures, c.deref.ensures.value) in
+    let made : c.from_vec.result ≡ map (ts_row_of c.args.hz c.res-res.result) (rows_of sheet) = cc (c.from_vec.ensures, c.in_ok-rows.ensures, c.deref.ensures.0) in
     let rows : t.rows ≡ map (ts_row_of c.args.hz t.res) (rows_of sheet) =
     c.from_rows.ensures.rows ∙ made ∙ ap (λ n. map (ts_row_of c.args.hz n) (rows_of sheet)) (sym c.from_rows.ensures.res) in
-    ts_spelled c.args.text.now c.args.hz sheet t c.in_ok-sheet.ensures.clean c.in_ok-sheet.ensures.value
-    (omega (arith, sheet.rows.ok.0)) (omega (arith, sheet.rows.ok.0)) c.requires.hz
-    (ap is_unit c.from_rows.ensures.res ∙ c.res-res.ensures.unit c.in_ok-sheet.ensures.value.unit)
+    ts_spelled c.args.text.now c.args.hz sheet t c.in_ok-sheet.ensures.ok c.in_ok-sheet.ensures.sheet c.in_ok-sheet.ensures.rows c.requires.hz
+    (ap is_unit c.from_rows.ensures.res ∙ c.res-res.ensures.unit c.in_ok-sheet.ensures.sheet.unit)
     (c.from_rows.ensures.res ∙ c.res-res.ensures.value) rows

@@ -3,8 +3,8 @@ use Rattle.std.proofs.lemmas.Result.{err_from_is_err_and}
 use Rattle.sd_text.specs.Words.{words_of}
 use Rattle.sd_tables.specs.declared.sheet.Sheet.{Sheet}
 use Rattle.sd_tables.specs.declared.fault.TableFault.{TableFault}
-use Rattle.sd_tables.specs.TableText.{Line, word_lines}
-use Rattle.sd_tables.specs.Sheets.{StandsFor, IsUnread}
+use Rattle.sd_tables.specs.TableText.{Line, word_lines, IsLineFault}
+use Rattle.sd_tables.specs.Sheets.{StandsFor}
 use Rattle.sd_tables.proofs.SheetLemmas.{clean-next, take-next, fault-next, goes_on, ended}
 use Rattle.sd_tables.proofs.sheet.read_sheet.Goals as goal
 
@@ -14,7 +14,7 @@ returns-in_err-take_line-clause-err c =
     let lines = word_lines c.args.text.now in
     let next : drop c.loop-start.lines lines ≡ _ ∷ _ = sym c.loop-start.invariant.rest ∙ ap (map words_of) c.in-Some.ensures.line in
     let unread = fault-next c.args.columns.now lines c.loop-start.lines _ _ c.loop-start.sheet c.take_line.new.self _ next c.loop-start.invariant.clean c.loop-start.invariant.stands c.in_err-take_line.ensures.taken in
-    let P : TableFault → Type 0 = IsUnread c.args.columns.now lines in
+    let P : TableFault → Type 0 = IsLineFault c.args.columns.now lines in
     subst (λ (r : Result Sheet TableFault). IfErr r P) (sym e.1) (subst P (sym e.2) unread)
 
 pub loop-start-preserved : goal.loop-start-preserved
@@ -24,7 +24,7 @@ loop-start-preserved c =
     let taken = c.in_ok-take_line.ensures.taken (take c.loop-start.lines lines) c.loop-start.invariant.stands in
     let after : c.loop-start.from ≤ c.in-Some.end = c.in-Some.ensures.within.0 in
     let inside : c.in-Some.end ≤ length c.args.text.now = c.in-Some.ensures.within.1 in
-    let one : length c.take_line.new.self.rows.items ≤ length c.loop-start.sheet.rows.items + 1 = c.in_ok-take_line.ensures.count in
+    let one : c.take_line.new.self.count ≤ c.loop-start.sheet.count + 1 = c.in_ok-take_line.ensures.count in
     record {
       within = omega arith;
       lines = omega arith;

@@ -8,7 +8,7 @@ abbrev pub invariant-loop-start : goal.invariant-loop-start
 invariant-loop-start l = record {
   within : l.from ≤ length l.text + 1;
   lines : l.lines ≤ l.from;
-  count : length l.sheet.rows.items ≤ l.from;
+  count : l.sheet.count ≤ l.from;
   rest : word_lines (drop l.from l.text) ≡ drop l.lines (word_lines l.text);
   clean : AreClean l.columns (word_lines l.text) l.lines;
   stands : StandsFor l.columns (take l.lines (word_lines l.text)) l.sheet;

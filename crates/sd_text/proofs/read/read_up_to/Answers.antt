@@ -1,5 +1,5 @@
 use Rattle.std.proofs.Common.{arith, length-take}
-use Rattle.sd_text.proofs.EndsLemmas.{TakesUpTo-too_large, TakesUpTo-memory}
+use Rattle.sd_text.proofs.StreamLemmas.{TakesUpTo-too_large, TakesUpTo-memory}
 use Rattle.sd_text.proofs.read.read_up_to.Goals as goal
 
 pub returns-then-most-len-clause-taken : goal.returns-then-most-len-clause-taken

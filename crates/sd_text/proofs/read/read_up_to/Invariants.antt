@@ -2,13 +2,13 @@ use Rattle.std.proofs.Common.{◌+◌, ◌≤◌, ◌≡◌, length, vec_len, �
 use Rattle.std.specs.Io.KnownBytes.{Consumes}
 use Rattle.sd_text.proofs.read.read_up_to.Given as goal
 
--- what was read so far is what the source has lost
+-- what was read so far is what the source has lost, and no fault was counted
 abbrev pub invariant-reads : goal.invariant-reads
 invariant-reads g l = record {
   small : vec_len l.bytes ≤ l.most;
   room : length l.buffer ≡ 4096;
   taken : Consumes (g.S.Source.remaining l.initial.source) (g.S.Source.remaining l.source) l.bytes.items;
-  counted : g.S.Source.fault_count l.initial.source ≤ g.S.Source.fault_count l.source;
+  no_fault : g.S.Source.fault_count l.source ≡ g.S.Source.fault_count l.initial.source;
 }
 
 abbrev pub decreases-reads : goal.decreases-reads

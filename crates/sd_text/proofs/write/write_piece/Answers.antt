@@ -1,10 +1,10 @@
-use Rattle.std.proofs.Common.{arith, length-drop, length-take}
-use Rattle.sd_text.proofs.EndsLemmas.{Appends-more}
+use Rattle.std.proofs.Common.{◌∙◌, arith, length-drop, length-take}
+use Rattle.sd_text.proofs.StreamLemmas.{Appends-more}
 use Rattle.sd_text.proofs.write.write_piece.Goals as goal
 
 pub loop-at-preserved : goal.loop-at-preserved
 loop-at-preserved g c = record {
   within = omega (arith, simp (length-take, length-drop) at c.in-Ok.ensures.bound);
   appended = Appends-more _ _ _ c.args.piece.now c.loop-at.at c.in-Ok.count c.loop-at.invariant.appended c.in-Ok.ensures.bytes;
-  counted = omega arith;
+  no_fault = c.in-Ok.ensures.no_fault ∙ c.loop-at.invariant.no_fault;
 }

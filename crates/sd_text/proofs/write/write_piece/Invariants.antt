@@ -1,13 +1,13 @@
-use Rattle.std.proofs.Common.{length, ◌-◌, ◌≤◌, take}
+use Rattle.std.proofs.Common.{◌≡◌, length, ◌-◌, ◌≤◌, take}
 use Rattle.std.specs.Io.KnownBytes.{Appends}
 use Rattle.sd_text.proofs.write.write_piece.Given as goal
 
--- the sink has the front of the piece, and its count did not fall
+-- the sink has a prefix of the piece, and no fault was counted
 abbrev pub invariant-loop-at : goal.invariant-loop-at
 invariant-loop-at g l = record {
   within : l.at ≤ length l.piece;
   appended : Appends (g.K.Sink.contents l.initial.sink) (g.K.Sink.contents l.sink) (take l.at l.piece);
-  counted : g.K.Sink.fault_count l.initial.sink ≤ g.K.Sink.fault_count l.sink;
+  no_fault : g.K.Sink.fault_count l.sink ≡ g.K.Sink.fault_count l.initial.sink;
 }
 
 abbrev pub decreases-loop-at : goal.decreases-loop-at

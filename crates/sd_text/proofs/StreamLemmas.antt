@@ -1,0 +1,57 @@
+-- What several reads or writes, one after the other, do to the bytes that are told.
+use Rattle.std.proofs.Common.{◌≡◌, ℕ, ◌+◌, ◌-◌, ◌≤◌, Option, Some, None, Err, List, ◌++◌, length, take, drop, subst, sym, refl, ap, ◌∙◌, arith, length-append, length-take-le}
+use Rattle.std.proofs.Math.Seq.{take-add}
+use Rattle.std.proofs.lemmas.List.{take_rest}
+use Rattle.std.proofs.KnownBytes.{Appends-trans, Consumes-trans}
+use Rattle.std.specs.Io.KnownBytes.{Appends, Consumes}
+use Rattle.sd_text.specs.declared.read.ReadAllFault.TheVariants.{TooLarge, Memory}
+use Rattle.sd_text.specs.Reading.{TakesUpTo}
+
+-- a prefix of a piece and then a prefix of its rest are a longer prefix
+pub Appends-more : (a b c : Option (List ℕ)) (piece : List ℕ) (at n : ℕ)
+    → Appends a b (take at piece) → Appends b c (take n (take (length piece - at) (drop at piece)))
+    → Appends a c (take (at + n) piece)
+Appends-more a b c piece at n first second =
+    let rest = subst (λ p. Appends b c (take n p)) (take_rest piece at) second in
+    subst (Appends a c) (sym (take-add at n piece)) (Appends-trans a b c _ _ first rest)
+
+-- a prefix of a slice has the length that was asked for
+pub length-prefix : (xs buffer : List ℕ) (n : ℕ) → n ≤ length buffer → length (xs ++ take n buffer) ≡ length xs + n
+length-prefix xs buffer n within = length-append xs (take n buffer) ∙ ap (λ k. length xs + k) (length-take-le n buffer within)
+
+-- a read that went past the limit, by one byte
+pub TakesUpTo-too_large : (most : ℕ) (a b c : Option (List ℕ)) (xs buffer : List ℕ) (n : ℕ)
+    → Consumes a b xs → Consumes b c (take n buffer) → n ≤ length buffer → length xs + n ≡ most + 1
+    → TakesUpTo most a c (Err TooLarge)
+TakesUpTo-too_large most a b c xs buffer n first second within all = record {
+  bytes = xs ++ take n buffer;
+  consumed = Consumes-trans a b c _ _ first second;
+  bound = omega (arith, length-prefix xs buffer n within);
+  too_large = (λ _. length-prefix xs buffer n within ∙ all, λ _. refl);
+  all = tt;
+}
+
+-- a read within the limit, whose bytes found no memory
+pub TakesUpTo-memory : (most : ℕ) (a b c : Option (List ℕ)) (xs buffer : List ℕ) (n : ℕ)
+    → Consumes a b xs → Consumes b c (take n buffer) → n ≤ length buffer → length xs + n ≤ most
+    → TakesUpTo most a c (Err Memory)
+TakesUpTo-memory most a b c xs buffer n first second within all = record {
+  bytes = xs ++ take n buffer;
+  consumed = Consumes-trans a b c _ _ first second;
+  bound = omega (arith, length-prefix xs buffer n within);
+  too_large = (λ e. cc, λ e. absurd (omega (arith, length-prefix xs buffer n within)));
+  all = tt;
+}
+
+-- ---- for a sink and a source that tell their bytes
+
+pub Appends-told : (old new : Option (List ℕ)) (held bytes : List ℕ) → Appends old new bytes → old ≡ Some held → new ≡ Some (held ++ bytes)
+Appends-told None new held bytes h e = absurd (cc)
+Appends-told (Some xs) None held bytes h e = absurd h
+Appends-told (Some xs) (Some ys) held bytes h e = let f : xs ≡ held = cc in ap Some (h ∙ ap (λ l. l ++ bytes) f)
+
+pub Consumes-told : (old new : Option (List ℕ)) (left bytes : List ℕ) → Consumes old new bytes → old ≡ Some left
+    → (rest : List ℕ) × (new ≡ Some rest) × (left ≡ bytes ++ rest)
+Consumes-told None new left bytes h e = absurd (cc)
+Consumes-told (Some xs) None left bytes h e = absurd h
+Consumes-told (Some xs) (Some ys) left bytes h e = let f : left ≡ xs = cc in (ys, refl, f ∙ h)
