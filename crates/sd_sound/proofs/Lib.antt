@@ -7,6 +7,7 @@ pub mod FieldWords
 pub mod Found
 pub mod HoldTable
 pub mod LockTable
+pub mod Movers
 pub mod OpTable
 pub mod Parts
 pub mod PassLemmas
@@ -14,5 +15,5 @@ pub mod PlaceTable
 pub mod ReleaseLemmas
 pub mod ScriptLemmas
 pub mod Searches
-pub mod Works
 pub mod Words
+pub mod Works

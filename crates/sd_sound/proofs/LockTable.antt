@@ -211,147 +211,190 @@ pub drop_passes : (s : State) (c : ℕ) (e : Event) → Passes s (drop_ageing s 
 unfolding drop_ageing
 drop_passes s c e = duty_passes s c _ (dropped_passes e (cpu_of s c).duty)
 
-after_tick_passes : (w : Work) (n : ℕ) (d : Duty) → pass_of d ≡ None → pass_of (duty_after w n d) ≡ None
-after_tick_passes w n d free = elim ((n % w.hz) == 0) as (λ b. pass_of (if b then duty.Age (record { 0 = 0 }) else d) ≡ None) [ true ↦ refl | false ↦ free ]
+-- What is passed on, with the duty: nothing where the duty passes no lock on.
 
-count_tick_passes : (w : Work) (s : State) (c : ℕ) → pass_of (cpu_of s c).duty ≡ None → Passes s (count_tick w s c)
+abbrev pub pass_duty : Duty → Duty
+pass_duty (duty.WakeMutex l) = duty.WakeMutex l
+pass_duty (duty.GrantWriter l) = duty.GrantWriter l
+pass_duty (duty.GrantReaders l) = duty.GrantReaders l
+pass_duty _ = duty.Nothing
+
+abbrev pub served_part : CpuState → Duty
+served_part x = pass_duty x.duty
+
+pub served_marks : C.Markless served_part
+served_marks = record { marks = λ x u k. refl }
+
+abbrev pub Served : State → State → Type 0
+Served s r = C.Kept served_part s r
+
+pub duty_served : (s : State) (c : ℕ) (d : Duty) → pass_duty d ≡ pass_duty (cpu_of s c).duty → Served s (set_duty s c d)
+unfolding set_duty
+duty_served s c d same = C.written served_part s c _ same
+
+pub free_served : (d : Duty) → IsFree d → pass_duty d ≡ duty.Nothing
+free_served duty.Nothing f = refl
+free_served (duty.Age u) f = refl
+free_served (duty.Walk l seek k) f = absurd f
+free_served (duty.WakeMutex l) f = absurd f
+free_served (duty.GrantWriter l) f = absurd f
+free_served (duty.GrantReaders l) f = absurd f
+free_served (duty.Rouse k below) f = absurd f
+
+dropped_served : (e : Event) (d : Duty) → pass_duty (dropped_duty e d) ≡ pass_duty d
+dropped_served e (duty.Age u) = elim (keeps_ageing e) as (λ b. pass_duty (if b then duty.Age u else duty.Nothing) ≡ duty.Nothing) [ true ↦ refl | false ↦ refl ]
+dropped_served e duty.Nothing = refl
+dropped_served e (duty.Walk l seek k) = refl
+dropped_served e (duty.WakeMutex l) = refl
+dropped_served e (duty.GrantWriter l) = refl
+dropped_served e (duty.GrantReaders l) = refl
+dropped_served e (duty.Rouse k below) = refl
+
+pub drop_served : (s : State) (c : ℕ) (e : Event) → Served s (drop_ageing s c e)
+unfolding drop_ageing
+drop_served s c e = duty_served s c _ (dropped_served e (cpu_of s c).duty)
+
+after_tick_served : (w : Work) (n : ℕ) (d : Duty) → pass_duty d ≡ duty.Nothing → pass_duty (duty_after w n d) ≡ duty.Nothing
+after_tick_served w n d free = elim ((n % w.hz) == 0) as (λ b. pass_duty (if b then duty.Age (record { 0 = 0 }) else d) ≡ duty.Nothing) [ true ↦ refl | false ↦ free ]
+
+count_tick_served : (w : Work) (s : State) (c : ℕ) → pass_duty (cpu_of s c).duty ≡ duty.Nothing → Served s (count_tick w s c)
 unfolding count_tick
-count_tick_passes w s c free = C.written pass_part s c _ (after_tick_passes w ((cpu_of s c).count + 1) (cpu_of s c).duty free ∙ sym free)
+count_tick_served w s c free = C.written served_part s c _ (after_tick_served w ((cpu_of s c).count + 1) (cpu_of s c).duty free ∙ sym free)
 
-class_counts_passes : (w : Work) (s : State) (c t : ℕ) → Passes s (class_counts w s c t)
-class_counts_passes w s c t = C.class_counts_kept pass_part pass_marks w s c t
+class_counts_served : (w : Work) (s : State) (c t : ℕ) → Served s (class_counts w s c t)
+class_counts_served w s c t = C.class_counts_kept served_part served_marks w s c t
 
-ticked_passes : (w : Work) (s : State) (c t : ℕ) → pass_of (cpu_of s c).duty ≡ None → Passes s (ticked w s c t)
+ticked_served : (w : Work) (s : State) (c t : ℕ) → pass_duty (cpu_of s c).duty ≡ duty.Nothing → Served s (ticked w s c t)
 unfolding ticked
-ticked_passes w s c t free = C.then_kept pass_part s (count_tick w s c) _ (count_tick_passes w s c free) (C.then_kept pass_part _ (run_tick w (count_tick w s c) t) _ (C.run_tick_kept pass_part pass_marks w _ t) (class_counts_passes w _ c t))
+ticked_served w s c t free = C.then_kept served_part s (count_tick w s c) _ (count_tick_served w s c free) (C.then_kept served_part _ (run_tick w (count_tick w s c) t) _ (C.run_tick_kept served_part served_marks w _ t) (class_counts_served w _ c t))
 
-spun_passes : (w : Work) (s : State) (c t : ℕ) → pass_of (cpu_of s c).duty ≡ None → Passes s (spun w s c t)
+spun_served : (w : Work) (s : State) (c t : ℕ) → pass_duty (cpu_of s c).duty ≡ duty.Nothing → Served s (spun w s c t)
 unfolding spun
-spun_passes w s c t free = C.then_kept pass_part s (count_tick w s c) _ (count_tick_passes w s c free) (class_counts_passes w _ c t)
+spun_served w s c t free = C.then_kept served_part s (count_tick w s c) _ (count_tick_served w s c free) (class_counts_served w _ c t)
 
-idled_passes : (w : Work) (s : State) (c : ℕ) → pass_of (cpu_of s c).duty ≡ None → Passes s (idled w s c)
+idled_served : (w : Work) (s : State) (c : ℕ) → pass_duty (cpu_of s c).duty ≡ duty.Nothing → Served s (idled w s c)
 unfolding idled
-idled_passes w s c free = count_tick_passes w s c free
+idled_served w s c free = count_tick_served w s c free
 
-woke_all_passes : (w : Work) (s : State) (n : ℕ) (c : CpuId) (t : ℕ) (k : ChanId) → pass_of (cpu_of s c.0).duty ≡ None → Passes s (woke_all w s n c t k)
+woke_all_served : (w : Work) (s : State) (n : ℕ) (c : CpuId) (t : ℕ) (k : ChanId) → pass_duty (cpu_of s c.0).duty ≡ duty.Nothing → Served s (woke_all w s n c t k)
 unfolding woke_all
-woke_all_passes w s n c t k free = C.then_kept pass_part s (if is_none (best_sleeper s k.0) then s else set_duty s c.0 (duty.Rouse k (back_key n))) _
-    (by (is_none (best_sleeper s k.0))) (C.finish_op_kept pass_part pass_marks w _ t)
+woke_all_served w s n c t k free = C.then_kept served_part s (if is_none (best_sleeper s k.0) then s else set_duty s c.0 (duty.Rouse k (back_key n))) _
+    (by (is_none (best_sleeper s k.0))) (C.finish_op_kept served_part served_marks w _ t)
   where
-    by : (b : Bool) → Passes s (if b then s else set_duty s c.0 (duty.Rouse k (back_key n)))
-    by true = C.same_kept pass_part s
-    by false = duty_passes s c.0 _ (sym free)
+    by : (b : Bool) → Served s (if b then s else set_duty s c.0 (duty.Rouse k (back_key n)))
+    by true = C.same_kept served_part s
+    by false = duty_served s c.0 _ (sym free)
 
-roused_passes : (w : Work) (s : State) (n : ℕ) (c : CpuId) (k : ChanId) (u : Option (ThreadId × Put)) (d : Duty) → pass_of (cpu_of s c.0).duty ≡ None → Passes s (roused w s n c k u d)
+roused_served : (w : Work) (s : State) (n : ℕ) (c : CpuId) (k : ChanId) (u : Option (ThreadId × Put)) (d : Duty) → pass_duty (cpu_of s c.0).duty ≡ duty.Nothing → Served s (roused w s n c k u d)
 unfolding roused
-roused_passes w s n c k None d free = duty_passes s c.0 duty.Nothing (sym free)
-roused_passes w s n c k (Some u) d free = C.then_kept pass_part s (woken w s n u.0.0 u.1) _ (C.woken_kept pass_part pass_marks w s n u.0.0 u.1) (by (best_sleeper_below (woken w s n u.0.0 u.1) k.0 (rouse_key d)))
+roused_served w s n c k None d free = duty_served s c.0 duty.Nothing (sym free)
+roused_served w s n c k (Some u) d free = C.then_kept served_part s (woken w s n u.0.0 u.1) _ (C.woken_kept served_part served_marks w s n u.0.0 u.1) (by (best_sleeper_below (woken w s n u.0.0 u.1) k.0 (rouse_key d)))
   where
-    by : (o : Option ℕ) → Passes (woken w s n u.0.0 u.1) (roused_on (woken w s n u.0.0 u.1) c o)
-    by None = duty_passes _ c.0 duty.Nothing (sym ((C.woken_kept pass_part pass_marks w s n u.0.0 u.1).each c.0 ∙ free))
-    by (Some v) = C.same_kept pass_part _
+    by : (o : Option ℕ) → Served (woken w s n u.0.0 u.1) (roused_on (woken w s n u.0.0 u.1) c o)
+    by None = duty_served _ c.0 duty.Nothing (sym ((C.woken_kept served_part served_marks w s n u.0.0 u.1).each c.0 ∙ free))
+    by (Some v) = C.same_kept served_part _
 
-next_walk_passes : (d : Duty) (o : ThreadId) (looped : Bool) (p : Place) → pass_of (next_walk d o looped p) ≡ None
-next_walk_passes (duty.Walk l seek key) o looped (Waiting m side k) =
-    elim (looped || ((seek.0 == o.0) && int_eq key k)) as (λ b. pass_of (if b then duty.Nothing else if int_lt key k then duty.Walk m o k else duty.Walk m seek key) ≡ None)
-    [ true ↦ refl | false ↦ elim (int_lt key k) as (λ b. pass_of (if b then duty.Walk m o k else duty.Walk m seek key) ≡ None) [ true ↦ refl | false ↦ refl ] ]
-next_walk_passes (duty.Walk l seek key) o looped (Running c) = refl
-next_walk_passes (duty.Walk l seek key) o looped (Queued c k) = refl
-next_walk_passes (duty.Walk l seek key) o looped (RealTime q k) = refl
-next_walk_passes (duty.Walk l seek key) o looped (Asleep j k) = refl
-next_walk_passes (duty.Walk l seek key) o looped (Napping c due) = refl
-next_walk_passes (duty.Walk l seek key) o looped Ended = refl
-next_walk_passes duty.Nothing o looped p = refl
-next_walk_passes (duty.WakeMutex l) o looped p = refl
-next_walk_passes (duty.GrantWriter l) o looped p = refl
-next_walk_passes (duty.GrantReaders l) o looped p = refl
-next_walk_passes (duty.Rouse k below) o looped p = refl
-next_walk_passes (duty.Age u) o looped p = refl
+next_walk_served : (d : Duty) (o : ThreadId) (looped : Bool) (p : Place) → pass_duty (next_walk d o looped p) ≡ duty.Nothing
+next_walk_served (duty.Walk l seek key) o looped (Waiting m side k) =
+    elim (looped || ((seek.0 == o.0) && int_eq key k)) as (λ b. pass_duty (if b then duty.Nothing else if int_lt key k then duty.Walk m o k else duty.Walk m seek key) ≡ duty.Nothing)
+    [ true ↦ refl | false ↦ elim (int_lt key k) as (λ b. pass_duty (if b then duty.Walk m o k else duty.Walk m seek key) ≡ duty.Nothing) [ true ↦ refl | false ↦ refl ] ]
+next_walk_served (duty.Walk l seek key) o looped (Running c) = refl
+next_walk_served (duty.Walk l seek key) o looped (Queued c k) = refl
+next_walk_served (duty.Walk l seek key) o looped (RealTime q k) = refl
+next_walk_served (duty.Walk l seek key) o looped (Asleep j k) = refl
+next_walk_served (duty.Walk l seek key) o looped (Napping c due) = refl
+next_walk_served (duty.Walk l seek key) o looped Ended = refl
+next_walk_served duty.Nothing o looped p = refl
+next_walk_served (duty.WakeMutex l) o looped p = refl
+next_walk_served (duty.GrantWriter l) o looped p = refl
+next_walk_served (duty.GrantReaders l) o looped p = refl
+next_walk_served (duty.Rouse k below) o looped p = refl
+next_walk_served (duty.Age u) o looped p = refl
 
-willed_passes : (w : Work) (s : State) (n : ℕ) (c : CpuId) (l : LockId) (o : ThreadId) (at : Option Put) → pass_of (cpu_of s c.0).duty ≡ None → Passes s (willed w s n c l o at)
+willed_served : (w : Work) (s : State) (n : ℕ) (c : CpuId) (l : LockId) (o : ThreadId) (at : Option Put) → pass_duty (cpu_of s c.0).duty ≡ duty.Nothing → Served s (willed w s n c l o at)
 unfolding willed
-willed_passes w s n c l o at free =
-    let a : Passes s (set_looped (set_number s o.0 l (greatest_waiting l.0 s.threads)) o.0 ((thread_of s o.0).body.looped || is_back (cpu_of s c.0).duty o (thread_of s o.0).place)) =
-        C.then_kept pass_part s _ _ (C.set_number_kept pass_part pass_marks s o.0 l _) (C.set_looped_kept pass_part pass_marks _ o.0 _) in
-    C.then_kept pass_part s (walked s c l o) _
-    (C.then_kept pass_part s _ _ a (duty_passes _ c.0 _ (next_walk_passes (cpu_of s c.0).duty o (thread_of s o.0).body.looped (thread_of s o.0).place ∙ sym (a.each c.0 ∙ free))))
-    (C.reordered_kept pass_part pass_marks w _ n o.0 _ at)
+willed_served w s n c l o at free =
+    let a : Served s (set_looped (set_number s o.0 l (greatest_waiting l.0 s.threads)) o.0 ((thread_of s o.0).body.looped || is_back (cpu_of s c.0).duty o (thread_of s o.0).place)) =
+        C.then_kept served_part s _ _ (C.set_number_kept served_part served_marks s o.0 l _) (C.set_looped_kept served_part served_marks _ o.0 _) in
+    C.then_kept served_part s (walked s c l o) _
+    (C.then_kept served_part s _ _ a (duty_served _ c.0 _ (next_walk_served (cpu_of s c.0).duty o (thread_of s o.0).body.looped (thread_of s o.0).place ∙ sym (a.each c.0 ∙ free))))
+    (C.reordered_kept served_part served_marks w _ n o.0 _ at)
 
-walk_ended_passes : (s : State) (c : CpuId) → pass_of (cpu_of s c.0).duty ≡ None → Passes s (walk_ended s c)
+walk_ended_served : (s : State) (c : CpuId) → pass_duty (cpu_of s c.0).duty ≡ duty.Nothing → Served s (walk_ended s c)
 unfolding walk_ended
-walk_ended_passes s c free = duty_passes s c.0 duty.Nothing (sym free)
+walk_ended_served s c free = duty_served s c.0 duty.Nothing (sym free)
 
-aged_passes : (w : Work) (s : State) (n : ℕ) (c : CpuId) (t : ℕ) → pass_of (cpu_of s c.0).duty ≡ None → Passes s (aged w s n c t)
+aged_served : (w : Work) (s : State) (n : ℕ) (c : CpuId) (t : ℕ) → pass_duty (cpu_of s c.0).duty ≡ duty.Nothing → Served s (aged w s n c t)
 unfolding aged
-aged_passes w s n c t free =
-    let a : Passes s (lifted w (set_class s t (aged_class w (thread_of s t).body.class)) n c t (eff_of s t)) =
-        C.then_kept pass_part s _ _ (C.set_class_kept pass_part pass_marks s t _) (C.lifted_kept pass_part pass_marks w _ n c t _) in
-    C.then_kept pass_part s _ _ a (duty_passes _ c.0 _ (sym (a.each c.0 ∙ free)))
+aged_served w s n c t free =
+    let a : Served s (lifted w (set_class s t (aged_class w (thread_of s t).body.class)) n c t (eff_of s t)) =
+        C.then_kept served_part s _ _ (C.set_class_kept served_part served_marks s t _) (C.lifted_kept served_part served_marks w _ n c t _) in
+    C.then_kept served_part s _ _ a (duty_served _ c.0 _ (sym (a.each c.0 ∙ free)))
 
-walk_from_passes : (s : State) (c : CpuId) (u : ThreadId) (p : Place) → pass_of (cpu_of s c.0).duty ≡ None → Passes s (walk_from s c u p)
-walk_from_passes s c u (Waiting l side k) free = duty_passes s c.0 _ (sym free)
-walk_from_passes s c u (Running d) free = C.same_kept pass_part s
-walk_from_passes s c u (Queued d k) free = C.same_kept pass_part s
-walk_from_passes s c u (RealTime q k) free = C.same_kept pass_part s
-walk_from_passes s c u (Asleep j k) free = C.same_kept pass_part s
-walk_from_passes s c u (Napping d k) free = C.same_kept pass_part s
-walk_from_passes s c u Ended free = C.same_kept pass_part s
+walk_from_served : (s : State) (c : CpuId) (u : ThreadId) (p : Place) → pass_duty (cpu_of s c.0).duty ≡ duty.Nothing → Served s (walk_from s c u p)
+walk_from_served s c u (Waiting l side k) free = duty_served s c.0 _ (sym free)
+walk_from_served s c u (Running d) free = C.same_kept served_part s
+walk_from_served s c u (Queued d k) free = C.same_kept served_part s
+walk_from_served s c u (RealTime q k) free = C.same_kept served_part s
+walk_from_served s c u (Asleep j k) free = C.same_kept served_part s
+walk_from_served s c u (Napping d k) free = C.same_kept served_part s
+walk_from_served s c u Ended free = C.same_kept served_part s
 
-changed_by_passes : (w : Work) (s : State) (n : ℕ) (c : CpuId) (u : ThreadId) (at : Option Put) (r : Result ClassParms Denied) → pass_of (cpu_of s c.0).duty ≡ None → Passes s (changed_by w s n c u at r)
-changed_by_passes w s n c u at (Err d) free = C.same_kept pass_part s
-changed_by_passes w s n c u at (Ok parms) free =
-    let a : Passes s (reordered w (set_class s u.0 (new_class w s u.0 parms)) n u.0 (eff_of s u.0) at) =
-        C.then_kept pass_part s _ _ (C.set_class_kept pass_part pass_marks s u.0 _) (C.reordered_kept pass_part pass_marks w _ n u.0 _ at) in
-    C.then_kept pass_part s _ _ a (walk_from_passes _ c u _ (a.each c.0 ∙ free))
+changed_by_served : (w : Work) (s : State) (n : ℕ) (c : CpuId) (u : ThreadId) (at : Option Put) (r : Result ClassParms Denied) → pass_duty (cpu_of s c.0).duty ≡ duty.Nothing → Served s (changed_by w s n c u at r)
+changed_by_served w s n c u at (Err d) free = C.same_kept served_part s
+changed_by_served w s n c u at (Ok parms) free =
+    let a : Served s (reordered w (set_class s u.0 (new_class w s u.0 parms)) n u.0 (eff_of s u.0) at) =
+        C.then_kept served_part s _ _ (C.set_class_kept served_part served_marks s u.0 _) (C.reordered_kept served_part served_marks w _ n u.0 _ at) in
+    C.then_kept served_part s _ _ a (walk_from_served _ c u _ (a.each c.0 ∙ free))
 
-changed_on_passes : (w : Work) (s : State) (n : ℕ) (c : CpuId) (t : ℕ) (u : ThreadId) (at : Option Put) (o : Option Op) → pass_of (cpu_of s c.0).duty ≡ None → Passes s (changed_on w s n c t u at o)
-changed_on_passes w s n c t u at (Some (op.Prio v r)) free = changed_by_passes w s n c u at (answer_to w s t u.0 r) free
-changed_on_passes w s n c t u at _ free = C.same_kept pass_part s
+changed_on_served : (w : Work) (s : State) (n : ℕ) (c : CpuId) (t : ℕ) (u : ThreadId) (at : Option Put) (o : Option Op) → pass_duty (cpu_of s c.0).duty ≡ duty.Nothing → Served s (changed_on w s n c t u at o)
+changed_on_served w s n c t u at (Some (op.Prio v r)) free = changed_by_served w s n c u at (answer_to w s t u.0 r) free
+changed_on_served w s n c t u at _ free = C.same_kept served_part s
 
-reprioritised_passes : (w : Work) (s : State) (n : ℕ) (c : CpuId) (t : ℕ) (u : ThreadId) (answer : PrioAnswer) → pass_of (cpu_of s c.0).duty ≡ None → Passes s (reprioritised w s n c t u answer)
+reprioritised_served : (w : Work) (s : State) (n : ℕ) (c : CpuId) (t : ℕ) (u : ThreadId) (answer : PrioAnswer) → pass_duty (cpu_of s c.0).duty ≡ duty.Nothing → Served s (reprioritised w s n c t u answer)
 unfolding reprioritised
-reprioritised_passes w s n c t u (Changed p at) free = C.then_kept pass_part s (changed_on w s n c t u at (op_of w t (thread_of s t).body)) _ (changed_on_passes w s n c t u at _ free) (C.finish_op_kept pass_part pass_marks w _ t)
-reprioritised_passes w s n c t u (Refused d) free = C.finish_op_kept pass_part pass_marks w s t
+reprioritised_served w s n c t u (Changed p at) free = C.then_kept served_part s (changed_on w s n c t u at (op_of w t (thread_of s t).body)) _ (changed_on_served w s n c t u at _ free) (C.finish_op_kept served_part served_marks w _ t)
+reprioritised_served w s n c t u (Refused d) free = C.finish_op_kept served_part served_marks w s t
 
-close_passes : (s : State) (d : CpuId) (to : SetId) → Passes s (close s d to)
+close_served : (s : State) (d : CpuId) (to : SetId) → Served s (close s d to)
 unfolding close
-close_passes s d to = C.then_kept pass_part s _ _ (C.open_kept pass_part s _ _) (C.written pass_part _ d.0 _ refl)
+close_served s d to = C.then_kept served_part s _ _ (C.open_kept served_part s _ _) (C.written served_part _ d.0 _ refl)
 
-join_passes : (s : State) (c : CpuId) (to : SetId) → Passes s (join s c to)
+join_served : (s : State) (c : CpuId) (to : SetId) → Served s (join s c to)
 unfolding join
-join_passes s c to = C.then_kept pass_part s _ _ (C.open_kept pass_part s _ _) (C.written pass_part _ c.0 _ refl)
+join_served s c to = C.then_kept served_part s _ _ (C.open_kept served_part s _ _) (C.written served_part _ c.0 _ refl)
 
-joined_passes : (s : State) (c : CpuId) (to : SetId) → Passes s (joined s c to)
+joined_served : (s : State) (c : CpuId) (to : SetId) → Served s (joined s c to)
 unfolding joined
-joined_passes s c to = join_passes s c to
+joined_served s c to = join_served s c to
 
-assigned_passes : (w : Work) (s : State) (t : ℕ) (d : CpuId) (to : SetId) (answer : AssignAnswer) → Passes s (assigned w s t d to answer)
+assigned_served : (w : Work) (s : State) (t : ℕ) (d : CpuId) (to : SetId) (answer : AssignAnswer) → Served s (assigned w s t d to answer)
 unfolding assigned
-assigned_passes w s t d to assign.Changed = C.then_kept pass_part s _ _ (close_passes s d to) (C.then_kept pass_part _ (cleared (close s d to) d (runner s d.0)) _ (C.cleared_kept pass_part pass_marks _ d _) (C.finish_op_kept pass_part pass_marks w _ t))
-assigned_passes w s t d to assign.EPERM = C.finish_op_kept pass_part pass_marks w s t
-assigned_passes w s t d to assign.EINVAL = C.finish_op_kept pass_part pass_marks w s t
-assigned_passes w s t d to assign.EBUSY = C.finish_op_kept pass_part pass_marks w s t
+assigned_served w s t d to assign.Changed = C.then_kept served_part s _ _ (close_served s d to) (C.then_kept served_part _ (cleared (close s d to) d (runner s d.0)) _ (C.cleared_kept served_part served_marks _ d _) (C.finish_op_kept served_part served_marks w _ t))
+assigned_served w s t d to assign.EPERM = C.finish_op_kept served_part served_marks w s t
+assigned_served w s t d to assign.EINVAL = C.finish_op_kept served_part served_marks w s t
+assigned_served w s t d to assign.EBUSY = C.finish_op_kept served_part served_marks w s t
 
-bind_passes : (s : State) (t : ℕ) (d : CpuId) → Passes s (bind s t d)
+bind_served : (s : State) (t : ℕ) (d : CpuId) → Served s (bind s t d)
 unfolding bind
-bind_passes s t d = C.then_kept pass_part s (with_body s t (record (thread_of s t).body { bound = Some d })) _ (C.thread_kept pass_part s t _) (C.written pass_part _ d.0 _ refl)
+bind_served s t d = C.then_kept served_part s (with_body s t (record (thread_of s t).body { bound = Some d })) _ (C.thread_kept served_part s t _) (C.written served_part _ d.0 _ refl)
 
-unbind_passes : (s : State) (t : ℕ) (b : CpuId) → Passes s (unbind s t b)
+unbind_served : (s : State) (t : ℕ) (b : CpuId) → Served s (unbind s t b)
 unfolding unbind
-unbind_passes s t b = C.then_kept pass_part s (with_body s t (record (thread_of s t).body { bound = None })) _ (C.thread_kept pass_part s t _) (C.written pass_part _ b.0 _ refl)
+unbind_served s t b = C.then_kept served_part s (with_body s t (record (thread_of s t).body { bound = None })) _ (C.thread_kept served_part s t _) (C.written served_part _ b.0 _ refl)
 
-rebound_passes : (s : State) (u : ℕ) (d b : Option CpuId) → Passes s (rebound s u d b)
-rebound_passes s u (Some d) b = C.then_kept pass_part s _ _ (bind_passes s u d) (C.called_back_kept pass_part pass_marks _ d _)
-rebound_passes s u None (Some b) = unbind_passes s u b
-rebound_passes s u None None = C.same_kept pass_part s
+rebound_served : (s : State) (u : ℕ) (d b : Option CpuId) → Served s (rebound s u d b)
+rebound_served s u (Some d) b = C.then_kept served_part s _ _ (bind_served s u d) (C.called_back_kept served_part served_marks _ d _)
+rebound_served s u None (Some b) = unbind_served s u b
+rebound_served s u None None = C.same_kept served_part s
 
-pbound_passes : (w : Work) (s : State) (n t u : ℕ) (d : Option CpuId) (answer : BindAnswer) → Passes s (pbound w s n t u d answer)
+pbound_served : (w : Work) (s : State) (n t u : ℕ) (d : Option CpuId) (answer : BindAnswer) → Served s (pbound w s n t u d answer)
 unfolding pbound
-pbound_passes w s n t u d (bind_answer.Changed at) = C.then_kept pass_part s (rebound s u d (thread_of s u).body.bound) _ (rebound_passes s u d _) (C.then_kept pass_part _ (put_where w (rebound s u d (thread_of s u).body.bound) n u at) _ (C.put_where_kept pass_part pass_marks w _ n u at) (C.finish_op_kept pass_part pass_marks w _ t))
-pbound_passes w s n t u d bind_answer.ESRCH = C.finish_op_kept pass_part pass_marks w s t
-pbound_passes w s n t u d bind_answer.EINVAL = C.finish_op_kept pass_part pass_marks w s t
-pbound_passes w s n t u d bind_answer.EPERM = C.finish_op_kept pass_part pass_marks w s t
-pbound_passes w s n t u d bind_answer.EBUSY = C.finish_op_kept pass_part pass_marks w s t
+pbound_served w s n t u d (bind_answer.Changed at) = C.then_kept served_part s (rebound s u d (thread_of s u).body.bound) _ (rebound_served s u d _) (C.then_kept served_part _ (put_where w (rebound s u d (thread_of s u).body.bound) n u at) _ (C.put_where_kept served_part served_marks w _ n u at) (C.finish_op_kept served_part served_marks w _ t))
+pbound_served w s n t u d bind_answer.ESRCH = C.finish_op_kept served_part served_marks w s t
+pbound_served w s n t u d bind_answer.EINVAL = C.finish_op_kept served_part served_marks w s t
+pbound_served w s n t u d bind_answer.EPERM = C.finish_op_kept served_part served_marks w s t
+pbound_served w s n t u d bind_answer.EBUSY = C.finish_op_kept served_part served_marks w s t
 
 -- the event passes no lock on, frees none and takes none, and nobody comes to wait or ceases to
 abbrev pub is_lockless : Event → Bool
@@ -366,50 +409,76 @@ is_lockless (Passed l) = false
 is_lockless (CvWait t k l) = false
 is_lockless _ = true
 
-effect_passes : (w : Work) (s : State) (n : ℕ) (c : CpuId) (e : Event) → is_lockless e ≡ true → pass_of (cpu_of s c.0).duty ≡ None → Passes s (effect w s n c e)
+effect_served : (w : Work) (s : State) (n : ℕ) (c : CpuId) (e : Event) → is_lockless e ≡ true → pass_duty (cpu_of s c.0).duty ≡ duty.Nothing → Served s (effect w s n c e)
 unfolding effect
-effect_passes w s n c (Tick t) quiet free = ticked_passes w s c.0 t.0 free
-effect_passes w s n c (Spin t l) quiet free = spun_passes w s c.0 t.0 free
-effect_passes w s n c Idle quiet free = idled_passes w s c.0 free
-effect_passes w s n c (Dispatch t p) quiet free = C.dispatched_kept pass_part pass_marks s c t.0
-effect_passes w s n c (Steal v t p) quiet free = C.stolen_kept pass_part pass_marks s c t.0
-effect_passes w s n c (Preempt t end) quiet free = C.preempted_kept pass_part pass_marks w s n c t.0 end
-effect_passes w s n c (Away t d) quiet free = C.sent_away_kept pass_part pass_marks s n c t.0 d
-effect_passes w s n c (Yield t) quiet free = C.yielded_kept pass_part pass_marks w s n c t.0
-effect_passes w s n c (Done t) quiet free = C.done_kept pass_part pass_marks s c t.0
-effect_passes w s n c (Nap t) quiet free = C.napped_kept pass_part pass_marks w s c t.0
-effect_passes w s n c (Napend t at) quiet free = C.woken_kept pass_part pass_marks w s n t.0 at
-effect_passes w s n c (Sleep t k) quiet free = C.fallen_asleep_kept pass_part pass_marks w s n c t.0 k
-effect_passes w s n c (Wake t k u) quiet free = C.woke_kept pass_part pass_marks w s n t.0 u
-effect_passes w s n c (Wakeall t k) quiet free = woke_all_passes w s n c t.0 k free
-effect_passes w s n c (Rouse k u) quiet free = roused_passes w s n c k u (cpu_of s c.0).duty free
-effect_passes w s n c (Enter t l) quiet free = cc
-effect_passes w s n c (Read t l) quiet free = cc
-effect_passes w s n c (Write t l) quiet free = cc
-effect_passes w s n c (Block t l) quiet free = cc
-effect_passes w s n c (Will l o p at) quiet free = willed_passes w s n c l o at free
-effect_passes w s n c (WalkEnd l) quiet free = walk_ended_passes s c free
-effect_passes w s n c (Exit t l) quiet free = cc
-effect_passes w s n c (Unblock l u at) quiet free = cc
-effect_passes w s n c (Grant l u at) quiet free = cc
-effect_passes w s n c (Passed l) quiet free = cc
-effect_passes w s n c (Age t p) quiet free = aged_passes w s n c t.0 free
-effect_passes w s n c (Prio t u answer) quiet free = reprioritised_passes w s n c t.0 u answer free
-effect_passes w s n c (CvWait t k l) quiet free = cc
-effect_passes w s n c (SemaP t k) quiet free = C.sema_taken_kept pass_part pass_marks w s t.0 k
-effect_passes w s n c (SemaWait t k) quiet free = C.fallen_asleep_kept pass_part pass_marks w s n c t.0 k
-effect_passes w s n c (SemaVWake t k u at) quiet free = C.sema_handed_kept pass_part pass_marks w s n t.0 u.0 at
-effect_passes w s n c (SemaVCount t k m) quiet free = C.sema_counted_kept pass_part pass_marks w s t.0 k
-effect_passes w s n c (Assign t d to answer) quiet free = assigned_passes w s t.0 d to answer
-effect_passes w s n c (Move t at) quiet free = C.moved_kept pass_part pass_marks w s n t.0 at
-effect_passes w s n c (Joined to) quiet free = joined_passes s c to
-effect_passes w s n c (Bind t u d answer) quiet free = pbound_passes w s n t.0 u.0 d answer
+effect_served w s n c (Tick t) quiet free = ticked_served w s c.0 t.0 free
+effect_served w s n c (Spin t l) quiet free = spun_served w s c.0 t.0 free
+effect_served w s n c Idle quiet free = idled_served w s c.0 free
+effect_served w s n c (Dispatch t p) quiet free = C.dispatched_kept served_part served_marks s c t.0
+effect_served w s n c (Steal v t p) quiet free = C.stolen_kept served_part served_marks s c t.0
+effect_served w s n c (Preempt t end) quiet free = C.preempted_kept served_part served_marks w s n c t.0 end
+effect_served w s n c (Away t d) quiet free = C.sent_away_kept served_part served_marks s n c t.0 d
+effect_served w s n c (Yield t) quiet free = C.yielded_kept served_part served_marks w s n c t.0
+effect_served w s n c (Done t) quiet free = C.done_kept served_part served_marks s c t.0
+effect_served w s n c (Nap t) quiet free = C.napped_kept served_part served_marks w s c t.0
+effect_served w s n c (Napend t at) quiet free = C.woken_kept served_part served_marks w s n t.0 at
+effect_served w s n c (Sleep t k) quiet free = C.fallen_asleep_kept served_part served_marks w s n c t.0 k
+effect_served w s n c (Wake t k u) quiet free = C.woke_kept served_part served_marks w s n t.0 u
+effect_served w s n c (Wakeall t k) quiet free = woke_all_served w s n c t.0 k free
+effect_served w s n c (Rouse k u) quiet free = roused_served w s n c k u (cpu_of s c.0).duty free
+effect_served w s n c (Enter t l) quiet free = cc
+effect_served w s n c (Read t l) quiet free = cc
+effect_served w s n c (Write t l) quiet free = cc
+effect_served w s n c (Block t l) quiet free = cc
+effect_served w s n c (Will l o p at) quiet free = willed_served w s n c l o at free
+effect_served w s n c (WalkEnd l) quiet free = walk_ended_served s c free
+effect_served w s n c (Exit t l) quiet free = cc
+effect_served w s n c (Unblock l u at) quiet free = cc
+effect_served w s n c (Grant l u at) quiet free = cc
+effect_served w s n c (Passed l) quiet free = cc
+effect_served w s n c (Age t p) quiet free = aged_served w s n c t.0 free
+effect_served w s n c (Prio t u answer) quiet free = reprioritised_served w s n c t.0 u answer free
+effect_served w s n c (CvWait t k l) quiet free = cc
+effect_served w s n c (SemaP t k) quiet free = C.sema_taken_kept served_part served_marks w s t.0 k
+effect_served w s n c (SemaWait t k) quiet free = C.fallen_asleep_kept served_part served_marks w s n c t.0 k
+effect_served w s n c (SemaVWake t k u at) quiet free = C.sema_handed_kept served_part served_marks w s n t.0 u.0 at
+effect_served w s n c (SemaVCount t k m) quiet free = C.sema_counted_kept served_part served_marks w s t.0 k
+effect_served w s n c (Assign t d to answer) quiet free = assigned_served w s t.0 d to answer
+effect_served w s n c (Move t at) quiet free = C.moved_kept served_part served_marks w s n t.0 at
+effect_served w s n c (Joined to) quiet free = joined_served s c to
+effect_served w s n c (Bind t u d answer) quiet free = pbound_served w s n t.0 u.0 d answer
+
+pub quiet_served : (w : Work) (s : State) (n : ℕ) (c : CpuId) (e : Event) → is_lockless e ≡ true → pass_duty (cpu_of s c.0).duty ≡ duty.Nothing → Served s (after w s n c e)
+unfolding after
+quiet_served w s n c e quiet free =
+    let a = drop_served s c.0 e in
+    C.then_kept served_part s (drop_ageing s c.0 e) _ a (effect_served w _ n c e quiet (a.each c.0 ∙ free))
+
+-- the lock that is passed on goes with the duty
+
+of_pass_duty : (d : Duty) → pass_of (pass_duty d) ≡ pass_of d
+of_pass_duty (duty.WakeMutex l) = refl
+of_pass_duty (duty.GrantWriter l) = refl
+of_pass_duty (duty.GrantReaders l) = refl
+of_pass_duty duty.Nothing = refl
+of_pass_duty (duty.Age u) = refl
+of_pass_duty (duty.Walk l seek k) = refl
+of_pass_duty (duty.Rouse k below) = refl
+
+pub unserved : (d : Duty) → pass_of d ≡ None → pass_duty d ≡ duty.Nothing
+unserved (duty.WakeMutex l) e = cc
+unserved (duty.GrantWriter l) e = cc
+unserved (duty.GrantReaders l) e = cc
+unserved duty.Nothing e = refl
+unserved (duty.Age u) e = refl
+unserved (duty.Walk l seek k) e = refl
+unserved (duty.Rouse k below) e = refl
+
+pub served_passes : (s r : State) → Served s r → Passes s r
+served_passes s r a = record { each = λ d. sym (of_pass_duty (cpu_of r d).duty) ∙ ap pass_of (a.each d) ∙ of_pass_duty (cpu_of s d).duty }
 
 pub quiet_passes : (w : Work) (s : State) (n : ℕ) (c : CpuId) (e : Event) → is_lockless e ≡ true → pass_of (cpu_of s c.0).duty ≡ None → Passes s (after w s n c e)
-unfolding after
-quiet_passes w s n c e quiet free =
-    let a = drop_passes s c.0 e in
-    C.then_kept pass_part s (drop_ageing s c.0 e) _ a (effect_passes w _ n c e quiet (a.each c.0 ∙ free))
+quiet_passes w s n c e quiet free = served_passes s (after w s n c e) (quiet_served w s n c e quiet (unserved (cpu_of s c.0).duty free))
 
 sema_taken_lockless : (w : Work) (s : State) (t : ℕ) (k : ChanId) → (sema_taken w s t k).locks ≡ s.locks
 unfolding sema_taken
