@@ -15,5 +15,7 @@ pub mod PlaceTable
 pub mod ReleaseLemmas
 pub mod ScriptLemmas
 pub mod Searches
+pub mod ServeLemmas
+pub mod Waiters
 pub mod Words
 pub mod Works
