@@ -139,7 +139,7 @@ lockless_held s r (Move t at) quiet held = held
 lockless_held s r (Joined to) quiet held = held
 lockless_held s r (Bind t u d answer) quiet held = held
 
-lockless_away : (e : Event) → is_lockless e ≡ true → is_blocking e ≡ false
+pub lockless_away : (e : Event) → is_lockless e ≡ true → is_blocking e ≡ false
 lockless_away (Tick t) quiet = refl
 lockless_away (Spin t l) quiet = refl
 lockless_away Idle quiet = refl
@@ -178,7 +178,7 @@ lockless_away (Joined to) quiet = refl
 lockless_away (Bind t u d answer) quiet = refl
 
 -- a lock that an operation names is there
-lock_named : (w : Work) (s : State) (c t : ℕ) (o : Op) → FitsFully w s → Acts w s c t (Some o) → (l : LockId) → ((d : Declared) → op_names d o ≡ true → (is_mutex (slice_get d.locks l.0) ≡ true) ⊎ (is_rwlock (slice_get d.locks l.0) ≡ true)) → l.0 < length s.locks
+pub lock_named : (w : Work) (s : State) (c t : ℕ) (o : Op) → FitsFully w s → Acts w s c t (Some o) → (l : LockId) → ((d : Declared) → op_names d o ≡ true → (is_mutex (slice_get d.locks l.0) ≡ true) ⊎ (is_rwlock (slice_get d.locks l.0) ≡ true)) → l.0 < length s.locks
 lock_named w s c t o fits acts l names =
     let named = names (declared w) (op_named w t (thread_of s t).body.op o acts.stands) in
     let inside : l.0 < length (declared w).locks = elim named [ inl a ↦ mutex_inside (declared w).locks l.0 a | inr b ↦ rwlock_inside (declared w).locks l.0 b ] in

@@ -148,7 +148,7 @@ cv_wait_inside : (w : Work) (s : State) (c t : ℕ) (k : ChanId) (l : LockId) �
 cv_wait_inside w s c t k l acts = mutex_there (declared w).locks l.0 (and_second _ (is_mutex (slice_get (declared w).locks l.0)) (op_named w t (thread_of s t).body.op (op.CvWait k l) acts.stands))
 
 -- an event that is about no lock ends no wait
-lockless_ends : (e : Event) → is_lockless e ≡ true → ends_wait e ≡ false
+pub lockless_ends : (e : Event) → is_lockless e ≡ true → ends_wait e ≡ false
 lockless_ends (Tick t) quiet = refl
 lockless_ends (Spin t l) quiet = refl
 lockless_ends Idle quiet = refl
@@ -215,7 +215,7 @@ block_served w s n c t l free =
     C.then_kept served_part s _ _ a (T.duty_served _ c.0 (duty.Walk l (thread_id t.0) (back_key n)) (sym (a.each c.0 ∙ free)))
 
 module _ (w : Work) (s : State) (n : ℕ) (c : CpuId) (ready : IsReady w s) (c_in : c.0 < length s.cpus) where
-  stays_all : (e : Event) → ends_wait e ≡ false → IsCause w s c.0 e → IsNext w s (after w s n c e) n c e → (l : ℕ) → Stays s (after w s n c e) l
+  pub stays_all : (e : Event) → ends_wait e ≡ false → IsCause w s c.0 e → IsNext w s (after w s n c e) n c e → (l : ℕ) → Stays s (after w s n c e) l
   stays_all e quiet cause next l = quiet_stays (step_of w s n c e) s (after w s n c e) next.steps (mover_of w s n c e quiet ready.fits ready.agreed cause) l
 
   lockless_serves : (e : Event) → is_lockless e ≡ true → IsCause w s c.0 e → IsNext w s (after w s n c e) n c e → DutiesServe w (after w s n c e)
@@ -257,7 +257,7 @@ module _ (w : Work) (s : State) (n : ℕ) (c : CpuId) (ready : IsReady w s) (c_i
       (drop_serves w s c.0 (CvWait t k l) ready.serves) (cv_wait_outcome w s n c t k l c_in)
 
   -- where a wait ends
-  wait_ends : (e : Event) (u : ThreadId) (at : Put) (l : LockId) (side : Side) → step_of w s n c e ≡ put_step w n u.0 at → best_waiter s l.0 side ≡ Some u.0 → IsNext w s (after w s n c e) n c e → (m : ℕ) → m ≢ l.0 → Stays s (after w s n c e) m
+  pub wait_ends : (e : Event) (u : ThreadId) (at : Put) (l : LockId) (side : Side) → step_of w s n c e ≡ put_step w n u.0 at → best_waiter s l.0 side ≡ Some u.0 → IsNext w s (after w s n c e) n c e → (m : ℕ) → m ≢ l.0 → Stays s (after w s n c e) m
   wait_ends e u at l side is best next m other =
       others_stay u.0 (place_put w n u.0 at) s (after w s n c e) l.0 (subst (λ step. Stepped step s (after w s n c e)) is next.steps)
       (let found = waiter_found s l.0 side u.0 best in side_waits l.0 side (thread_of s u.0).place found.stands) m other
