@@ -13,6 +13,7 @@ pub mod Parts
 pub mod PassLemmas
 pub mod PlaceTable
 pub mod ReadLemmas
+pub mod Ready
 pub mod ReleaseLemmas
 pub mod ScriptLemmas
 pub mod Searches
