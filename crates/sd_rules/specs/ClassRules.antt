@@ -115,3 +115,10 @@ class_requeue expired (Ts s) = Ts (ts_requeue expired s)
 class_requeue expired (Fx s) = Fx s
 class_requeue expired (Sys s) = Sys s
 class_requeue expired (Rt s) = Rt s
+
+-- a second on a dispatch queue, which the time-sharing class alone counts
+abbrev pub class_second : TsTable → ClassState → ClassState
+class_second ts (Ts s) = Ts (ts_second ts s)
+class_second ts (Fx s) = Fx s
+class_second ts (Sys s) = Sys s
+class_second ts (Rt s) = Rt s

@@ -1,0 +1,4 @@
+pub mod OpeningLemmas
+pub mod RoundLemmas
+pub mod RunLemmas
+pub mod ShapeLemmas

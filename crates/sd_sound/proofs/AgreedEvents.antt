@@ -1,0 +1,279 @@
+-- Locks agree with those who hold them, wait for them and pass them on, after every event.
+use Rattle.std.proofs.Common.{◌≡◌, ◌≢◌, ℕ, ◌<◌, Bool, true, false, List, length, get_or, Option, Some, None, refl, ◌∙◌, sym, ap, subst, arith, ◌⊎◌, inl, inr}
+use Rattle.std.specs.Prelude.{slice_get}
+use Rattle.std.proofs.lemmas.List.{length-map}
+use Rattle.sd_types.specs.declared.numbers.Side.{Side}
+use Rattle.sd_types.specs.declared.numbers.Side.TheVariants.{Reader}
+use Rattle.sd_types.specs.declared.works.LockKind.{LockKind}
+use Rattle.sd_types.specs.Scripts.{is_held, op_fits}
+use Rattle.sd_types.specs.Works.{Declared, op_names, is_mutex, is_rwlock}
+use Rattle.sd_sound.specs.Causes.{IsFree, Acts, IsCause}
+use Rattle.sd_sound.specs.Holding.{pass_of, table, Agreed}
+use Rattle.sd_sound.specs.Moves.{step_of}
+use Rattle.sd_sound.proofs.Words.{Same}
+use Rattle.sd_sound.proofs.Found.{runner_found, waiter_found}
+use Rattle.sd_sound.proofs.HoldTable.{held_part}
+use Rattle.sd_sound.proofs.ScriptLemmas.{HeldGo, is_blocking, step_away, waits_here}
+use Rattle.sd_sound.proofs.LockTable.{is_lockless, free_passes, drop_passes, quiet_passes, quiet_locks}
+use Rattle.sd_sound.proofs.AgreedLemmas.{agreed_quiet, waits_back}
+use Rattle.sd_sound.proofs.AgreedAfter.{IsReady, IsNext, drop_agreed, named_inside, not_free_owned, not_free_held, enter_locks, write_locks, read_locks, block_locks, enter_passes, write_passes, read_passes, block_passes, owned_taken, read_taken, blocked_agreed, waiter_not_held, holds_it, given_up, unblock_agreed, grant_agreed, pass_agreed}
+use Rattle.sd_sound.proofs.ReleaseLemmas.{exit_outcome, cv_wait_outcome}
+use Rattle.sd_sound.proofs.Works.{declared, op_named, first_of_two}
+use Rattle.sd_machine.specs.States.{thread_of, cpu_of}
+use Rattle.sd_full.specs.Shapes.{FitsFully}
+use Rattle.sd_full.specs.Threads.{lock_of, eff_of, best_waiter}
+use Rattle.sd_full.specs.Changes.{set_duty}
+use Rattle.sd_full.specs.Events.{after, drop_ageing}
+use Rattle.sd_types.specs.declared.numbers.ChanId.{ChanId}
+use Rattle.sd_types.specs.declared.numbers.CpuId.{CpuId}
+use Rattle.sd_types.specs.declared.numbers.LockId.{LockId}
+use Rattle.sd_types.specs.declared.numbers.SetId.{SetId}
+use Rattle.sd_types.specs.declared.numbers.Side.TheVariants.{Writer}
+use Rattle.sd_types.specs.declared.numbers.ThreadId.{ThreadId}
+use Rattle.sd_types.specs.declared.bodies.ThreadBody.{ThreadBody}
+use Rattle.sd_types.specs.declared.classes.ClassParms.{ClassParms}
+use Rattle.sd_types.specs.declared.classes.ClassState.{ClassState}
+use Rattle.sd_types.specs.declared.events.AssignAnswer.{AssignAnswer}
+use Rattle.sd_types.specs.declared.events.AssignAnswer.TheVariants as assign
+use Rattle.sd_types.specs.declared.events.BindAnswer.{BindAnswer}
+use Rattle.sd_types.specs.declared.events.BindAnswer.TheVariants as bind_answer
+use Rattle.sd_types.specs.declared.events.Denied.{Denied}
+use Rattle.sd_types.specs.declared.events.Duty.{Duty}
+use Rattle.sd_types.specs.declared.events.Duty.TheVariants as duty
+use Rattle.sd_types.specs.declared.events.End.{End}
+use Rattle.sd_types.specs.declared.events.Event.{Event}
+use Rattle.sd_types.specs.declared.events.Event.TheVariants.{Tick, Spin, Idle, Dispatch, Steal, Preempt, Yield, Done, Nap, Napend, Sleep, Wake, Wakeall, Rouse, Enter, Read, Write, Block, Will, End as WalkEnd, Exit, Unblock, Grant, Passed, Age, Prio, CvWait, SemaP, SemaWait, SemaVWake, SemaVCount, Assign, Move, Joined, Bind, Away}
+use Rattle.sd_types.specs.declared.events.PrioAnswer.{PrioAnswer}
+use Rattle.sd_types.specs.declared.events.PrioAnswer.TheVariants.{Changed, Refused}
+use Rattle.sd_types.specs.declared.events.Put.{Put}
+use Rattle.sd_types.specs.declared.scripts.Op.{Op}
+use Rattle.sd_types.specs.declared.scripts.Op.TheVariants as op
+use Rattle.sd_types.specs.declared.works.Work.{Work}
+use Rattle.std.specs.Prelude.{if◌then◌else◌, Result, Ok, Err, is_none, is_some, nat_lt, nat_le, ◌==◌, not, ◌&&◌}
+use Rattle.sd_machine.specs.declared.states.Place.{Place}
+use Rattle.sd_machine.specs.declared.states.Place.TheVariants.{Running, Queued, RealTime, Waiting, Asleep, Napping, Ended}
+use Rattle.sd_machine.specs.declared.states.LockState.{LockState}
+use Rattle.sd_machine.specs.declared.states.LockState.TheVariants.{Free, Owned, ReadHeld, Passing}
+use Rattle.sd_machine.specs.declared.states.CpuState.{CpuState}
+use Rattle.sd_machine.specs.declared.states.ThreadState.{ThreadState}
+use Rattle.sd_machine.specs.declared.states.State.{State}
+
+free_pass : (s : State) (c : ℕ) → IsFree (cpu_of s c).duty → pass_of (cpu_of s c).duty ≡ None
+free_pass s c free = free_passes (cpu_of s c).duty free
+
+-- an event that is none of locks comes where the processor passes none on
+pub cause_pass : (w : Work) (s : State) (c : ℕ) (e : Event) → is_lockless e ≡ true → IsCause w s c e → pass_of (cpu_of s c).duty ≡ None
+cause_pass w s c (Tick t) quiet cause = free_pass s c cause.0.1.free
+cause_pass w s c (Spin t l) quiet cause = free_pass s c cause.0.1.acts.free
+cause_pass w s c Idle quiet cause = free_pass s c cause.0.idle.free
+cause_pass w s c (Dispatch t p) quiet cause = free_pass s c cause.0.idle.free
+cause_pass w s c (Steal v t p) quiet cause = free_pass s c cause.0.idle.free
+cause_pass w s c (Preempt t end) quiet cause = free_pass s c cause.0.free
+cause_pass w s c (Away t d) quiet cause = free_pass s c cause.0.free
+cause_pass w s c (Yield t) quiet cause = free_pass s c cause.free
+cause_pass w s c (Done t) quiet cause = free_pass s c cause.free
+cause_pass w s c (Nap t) quiet cause = free_pass s c cause.1.free
+cause_pass w s c (Napend t at) quiet cause = free_pass s c cause.2
+cause_pass w s c (Sleep t k) quiet cause = free_pass s c cause.free
+cause_pass w s c (Wake t k u) quiet cause = free_pass s c cause.0.free
+cause_pass w s c (Wakeall t k) quiet cause = free_pass s c cause.free
+cause_pass w s c (Rouse k u) quiet cause = ap pass_of cause.1
+cause_pass w s c (Enter t l) quiet cause = cc
+cause_pass w s c (Read t l) quiet cause = cc
+cause_pass w s c (Write t l) quiet cause = cc
+cause_pass w s c (Block t l) quiet cause = cc
+cause_pass w s c (Will l o p at) quiet cause = ap pass_of cause.0.2
+cause_pass w s c (WalkEnd l) quiet cause = ap pass_of cause.0.2
+cause_pass w s c (Exit t l) quiet cause = cc
+cause_pass w s c (Unblock l u at) quiet cause = cc
+cause_pass w s c (Grant l u at) quiet cause = cc
+cause_pass w s c (Passed l) quiet cause = cc
+cause_pass w s c (Age t p) quiet cause = ap pass_of cause.1
+cause_pass w s c (Prio t u answer) quiet cause = free_pass s c cause.1.free
+cause_pass w s c (CvWait t k l) quiet cause = cc
+cause_pass w s c (SemaP t k) quiet cause = free_pass s c cause.0.free
+cause_pass w s c (SemaWait t k) quiet cause = free_pass s c cause.0.free
+cause_pass w s c (SemaVWake t k u at) quiet cause = free_pass s c cause.0.free
+cause_pass w s c (SemaVCount t k m) quiet cause = free_pass s c cause.0.free
+cause_pass w s c (Assign t d to answer) quiet cause = free_pass s c cause.0.free
+cause_pass w s c (Move t at) quiet cause = free_pass s c cause.0.free
+cause_pass w s c (Joined to) quiet cause = free_pass s c cause.0.free
+cause_pass w s c (Bind t u d answer) quiet cause = free_pass s c cause.0.free
+
+-- an event that is none of locks takes none and gives none up
+lockless_held : (s r : State) (e : Event) → is_lockless e ≡ true → HeldGo s r e → Same held_part s r
+lockless_held s r (Tick t) quiet held = held
+lockless_held s r (Spin t l) quiet held = held
+lockless_held s r Idle quiet held = held
+lockless_held s r (Dispatch t p) quiet held = held
+lockless_held s r (Steal v t p) quiet held = held
+lockless_held s r (Preempt t end) quiet held = held
+lockless_held s r (Away t d) quiet held = held
+lockless_held s r (Yield t) quiet held = held
+lockless_held s r (Done t) quiet held = held
+lockless_held s r (Nap t) quiet held = held
+lockless_held s r (Napend t at) quiet held = held
+lockless_held s r (Sleep t k) quiet held = held
+lockless_held s r (Wake t k u) quiet held = held
+lockless_held s r (Wakeall t k) quiet held = held
+lockless_held s r (Rouse k u) quiet held = held
+lockless_held s r (Enter t l) quiet held = cc
+lockless_held s r (Read t l) quiet held = cc
+lockless_held s r (Write t l) quiet held = cc
+lockless_held s r (Block t l) quiet held = cc
+lockless_held s r (Will l o p at) quiet held = held
+lockless_held s r (WalkEnd l) quiet held = held
+lockless_held s r (Exit t l) quiet held = cc
+lockless_held s r (Unblock l u at) quiet held = cc
+lockless_held s r (Grant l u at) quiet held = cc
+lockless_held s r (Passed l) quiet held = cc
+lockless_held s r (Age t p) quiet held = held
+lockless_held s r (Prio t u answer) quiet held = held
+lockless_held s r (CvWait t k l) quiet held = cc
+lockless_held s r (SemaP t k) quiet held = held
+lockless_held s r (SemaWait t k) quiet held = held
+lockless_held s r (SemaVWake t k u at) quiet held = held
+lockless_held s r (SemaVCount t k m) quiet held = held
+lockless_held s r (Assign t d to answer) quiet held = held
+lockless_held s r (Move t at) quiet held = held
+lockless_held s r (Joined to) quiet held = held
+lockless_held s r (Bind t u d answer) quiet held = held
+
+pub lockless_away : (e : Event) → is_lockless e ≡ true → is_blocking e ≡ false
+lockless_away (Tick t) quiet = refl
+lockless_away (Spin t l) quiet = refl
+lockless_away Idle quiet = refl
+lockless_away (Dispatch t p) quiet = refl
+lockless_away (Steal v t p) quiet = refl
+lockless_away (Preempt t end) quiet = refl
+lockless_away (Away t d) quiet = refl
+lockless_away (Yield t) quiet = refl
+lockless_away (Done t) quiet = refl
+lockless_away (Nap t) quiet = refl
+lockless_away (Napend t at) quiet = refl
+lockless_away (Sleep t k) quiet = refl
+lockless_away (Wake t k u) quiet = refl
+lockless_away (Wakeall t k) quiet = refl
+lockless_away (Rouse k u) quiet = refl
+lockless_away (Enter t l) quiet = cc
+lockless_away (Read t l) quiet = cc
+lockless_away (Write t l) quiet = cc
+lockless_away (Block t l) quiet = cc
+lockless_away (Will l o p at) quiet = refl
+lockless_away (WalkEnd l) quiet = refl
+lockless_away (Exit t l) quiet = cc
+lockless_away (Unblock l u at) quiet = cc
+lockless_away (Grant l u at) quiet = cc
+lockless_away (Passed l) quiet = cc
+lockless_away (Age t p) quiet = refl
+lockless_away (Prio t u answer) quiet = refl
+lockless_away (CvWait t k l) quiet = cc
+lockless_away (SemaP t k) quiet = refl
+lockless_away (SemaWait t k) quiet = refl
+lockless_away (SemaVWake t k u at) quiet = refl
+lockless_away (SemaVCount t k m) quiet = refl
+lockless_away (Assign t d to answer) quiet = refl
+lockless_away (Move t at) quiet = refl
+lockless_away (Joined to) quiet = refl
+lockless_away (Bind t u d answer) quiet = refl
+
+-- a lock that an operation names is there
+pub lock_named : (w : Work) (s : State) (c t : ℕ) (o : Op) → FitsFully w s → Acts w s c t (Some o) → (l : LockId) → ((d : Declared) → op_names d o ≡ true → (is_mutex (slice_get d.locks l.0) ≡ true) ⊎ (is_rwlock (slice_get d.locks l.0) ≡ true)) → l.0 < length s.locks
+lock_named w s c t o fits acts l names =
+    let named = names (declared w) (op_named w t (thread_of s t).body.op o acts.stands) in
+    let inside : l.0 < length (declared w).locks = elim named [ inl a ↦ mutex_inside (declared w).locks l.0 a | inr b ↦ rwlock_inside (declared w).locks l.0 b ] in
+    omega (arith, fits.locks, length-map w.locks (λ x. x.1))
+  where
+    mutex_inside : (xs : List LockKind) (i : ℕ) → is_mutex (slice_get xs i) ≡ true → i < length xs
+    mutex_inside xs i e = by (slice_get xs i) refl e
+      where
+        by : (o : Option LockKind) → slice_get xs i ≡ o → is_mutex o ≡ true → i < length xs
+        by None is e = cc
+        by (Some k) is e = named_inside xs i k is
+    rwlock_inside : (xs : List LockKind) (i : ℕ) → is_rwlock (slice_get xs i) ≡ true → i < length xs
+    rwlock_inside xs i e = by (slice_get xs i) refl e
+      where
+        by : (o : Option LockKind) → slice_get xs i ≡ o → is_rwlock o ≡ true → i < length xs
+        by None is e = cc
+        by (Some k) is e = named_inside xs i k is
+
+module _ (w : Work) (s : State) (n : ℕ) (c : CpuId) (ready : IsReady w s) (c_in : c.0 < length s.cpus) where
+  lockless_agreed : (e : Event) → is_lockless e ≡ true → IsCause w s c.0 e → IsNext w s (after w s n c e) n c e → Agreed (after w s n c e)
+  lockless_agreed e quiet cause next =
+      agreed_quiet s (after w s n c e) next.shape.threads (quiet_locks w s n c e quiet) (lockless_held s (after w s n c e) e quiet next.held) (quiet_passes w s n c e quiet (cause_pass w s c.0 e quiet cause))
+      (λ u m is. waits_back (step_of w s n c e) s (after w s n c e) next.steps (step_away w s n c e (lockless_away e quiet)) u m is) ready.agreed
+
+  -- a lock that was given up
+  gives_exit : (l : LockId) (after : Option Op) (held : List LockId) → op_fits held (op.Exit l) after ≡ true → is_held l held ≡ true
+  gives_exit l after held e = e
+
+  gives_wait : (k : ChanId) (l : LockId) (after : Option Op) (held : List LockId) → op_fits held (op.CvWait k l) after ≡ true → is_held l held ≡ true
+  gives_wait k l after held e = first_of_two (is_held l held) _ e
+
+  exit_agreed : (t : ThreadId) (l : LockId) → IsCause w s c.0 (Exit t l) → IsNext w s (after w s n c (Exit t l)) n c (Exit t l) → Agreed (after w s n c (Exit t l))
+  unfolding drop_ageing set_duty
+  exit_agreed t l acts next =
+      given_up w s n c ready (drop_ageing s c.0 (Exit t l)) (after w s n c (Exit t l)) (Exit t l) t l (lock_of s l.0) acts.free (runner_found s c.0 t.0 acts.runs).inside
+      (holds_it w s n c ready t.0 (op.Exit l) l acts (gives_exit l)) (drop_agreed s c.0 (Exit t l) ready.agreed) refl refl (λ u m. refl) (λ u m is. is) (drop_passes s c.0 (Exit t l)) refl
+      next (step_away w s n c (Exit t l) refl) (record { put = next.held.put }) next.shape.threads (exit_outcome w s n c t l c_in)
+
+  cv_wait_agreed : (t : ThreadId) (k : ChanId) (l : LockId) → IsCause w s c.0 (CvWait t k l) → IsNext w s (after w s n c (CvWait t k l)) n c (CvWait t k l) → Agreed (after w s n c (CvWait t k l))
+  unfolding drop_ageing set_duty
+  cv_wait_agreed t k l acts next =
+      given_up w s n c ready (drop_ageing s c.0 (CvWait t k l)) (after w s n c (CvWait t k l)) (CvWait t k l) t l (lock_of s l.0) acts.free (runner_found s c.0 t.0 acts.runs).inside
+      (holds_it w s n c ready t.0 (op.CvWait k l) l acts (gives_wait k l)) (drop_agreed s c.0 (CvWait t k l) ready.agreed) refl refl (λ u m. refl) (λ u m is. is) (drop_passes s c.0 (CvWait t k l)) refl
+      next (step_away w s n c (CvWait t k l) refl) (record { put = next.held.put }) next.shape.threads (cv_wait_outcome w s n c t k l c_in)
+
+  found_not_held : (l : LockId) (side : Side) (u : ℕ) → best_waiter s l.0 side ≡ Some u → (table s).holds u l.0 ≡ false
+  found_not_held l side u e =
+      let found = waiter_found s l.0 side u e in
+      let (k, is) = waits_here l side (thread_of s u).place found.stands in
+      waiter_not_held w s n c ready u l side k found.inside is
+
+  pass_readers : (l : LockId) → ((best_waiter s l.0 Reader ≡ None) ⊎ ((u v : ℕ) × (best_waiter s l.0 Reader ≡ Some u) × (best_waiter s l.0 Writer ≡ Some v) × (eff_of s u < eff_of s v))) → best_waiter s l.0 Writer ≡ None → best_waiter s l.0 Reader ≡ None
+  pass_readers l (inl none) writer = none
+  pass_readers l (inr (u, v, reader, some, less)) writer = let bad : Some v ≡ None = sym some ∙ writer in cc
+
+  -- Locks agree after each event.
+  pub after_agreed : (e : Event) → IsCause w s c.0 e → IsNext w s (after w s n c e) n c e → Agreed (after w s n c e)
+  after_agreed (Enter t l) cause next = owned_taken w s n c ready (after w s n c (Enter t l)) (Enter t l) t l (op.Enter l) cause.0 refl next (step_away w s n c (Enter t l) refl) next.held (enter_locks w s n c t l) (enter_passes w s n c t l)
+      (lock_named w s c.0 t.0 (op.Enter l) ready.fits cause.0 l (λ d e. inl e)) cause.1
+  after_agreed (Write t l) cause next = owned_taken w s n c ready (after w s n c (Write t l)) (Write t l) t l (op.Write l) cause.0 refl next (step_away w s n c (Write t l) refl) next.held (write_locks w s n c t l) (write_passes w s n c t l)
+      (lock_named w s c.0 t.0 (op.Write l) ready.fits cause.0 l (λ d e. inr e)) cause.1
+  after_agreed (Read t l) cause next = read_taken w s n c ready (after w s n c (Read t l)) (Read t l) t l cause.0 next (step_away w s n c (Read t l) refl) next.held (read_locks w s n c t l) (read_passes w s n c t l)
+      (lock_named w s c.0 t.0 (op.Read l) ready.fits cause.0 l (λ d e. inr e)) (lock_of s l.0) refl (elim cause.1 [ inl a ↦ inl a | inr b ↦ inr (b.0, b.1) ])
+  after_agreed (Block t l) cause next = blocked_agreed w s n c ready (after w s n c (Block t l)) t l next (block_locks w s n c t l) (block_passes w s n c t l (free_pass s c.0 cause.1.acts.free))
+      (elim cause.2 [ inl a ↦ not_free_owned (lock_of s l.0) a.0 a.1 | inr b ↦ not_free_held (lock_of s l.0) b.0 b.1 ])
+  after_agreed (Exit t l) cause next = exit_agreed t l cause next
+  after_agreed (CvWait t k l) cause next = cv_wait_agreed t k l cause next
+  after_agreed (Unblock l u at) cause next = unblock_agreed w s n c ready c_in l u at cause.0 (waiter_found s l.0 Writer u.0 cause.1).inside next
+  after_agreed (Grant l u at) (inl cause) next = grant_agreed w s n c ready c_in l u at (inl cause.0) (waiter_found s l.0 Writer u.0 cause.1).inside (found_not_held l Writer u.0 cause.1) next
+  after_agreed (Grant l u at) (inr cause) next = grant_agreed w s n c ready c_in l u at (inr cause.0) (waiter_found s l.0 Reader u.0 cause.1).inside (found_not_held l Reader u.0 cause.1) next
+  after_agreed (Passed l) cause next = pass_agreed w s n c ready c_in l cause.0 (pass_readers l cause.1) next
+  after_agreed (Tick t) cause next = lockless_agreed (Tick t) refl cause next
+  after_agreed (Spin t l) cause next = lockless_agreed (Spin t l) refl cause next
+  after_agreed Idle cause next = lockless_agreed Idle refl cause next
+  after_agreed (Dispatch t p) cause next = lockless_agreed (Dispatch t p) refl cause next
+  after_agreed (Steal v t p) cause next = lockless_agreed (Steal v t p) refl cause next
+  after_agreed (Preempt t end) cause next = lockless_agreed (Preempt t end) refl cause next
+  after_agreed (Away t d) cause next = lockless_agreed (Away t d) refl cause next
+  after_agreed (Yield t) cause next = lockless_agreed (Yield t) refl cause next
+  after_agreed (Done t) cause next = lockless_agreed (Done t) refl cause next
+  after_agreed (Nap t) cause next = lockless_agreed (Nap t) refl cause next
+  after_agreed (Napend t at) cause next = lockless_agreed (Napend t at) refl cause next
+  after_agreed (Sleep t k) cause next = lockless_agreed (Sleep t k) refl cause next
+  after_agreed (Wake t k u) cause next = lockless_agreed (Wake t k u) refl cause next
+  after_agreed (Wakeall t k) cause next = lockless_agreed (Wakeall t k) refl cause next
+  after_agreed (Rouse k u) cause next = lockless_agreed (Rouse k u) refl cause next
+  after_agreed (Will l o p at) cause next = lockless_agreed (Will l o p at) refl cause next
+  after_agreed (WalkEnd l) cause next = lockless_agreed (WalkEnd l) refl cause next
+  after_agreed (Age t p) cause next = lockless_agreed (Age t p) refl cause next
+  after_agreed (Prio t u answer) cause next = lockless_agreed (Prio t u answer) refl cause next
+  after_agreed (SemaP t k) cause next = lockless_agreed (SemaP t k) refl cause next
+  after_agreed (SemaWait t k) cause next = lockless_agreed (SemaWait t k) refl cause next
+  after_agreed (SemaVWake t k u at) cause next = lockless_agreed (SemaVWake t k u at) refl cause next
+  after_agreed (SemaVCount t k m) cause next = lockless_agreed (SemaVCount t k m) refl cause next
+  after_agreed (Assign t d to answer) cause next = lockless_agreed (Assign t d to answer) refl cause next
+  after_agreed (Move t at) cause next = lockless_agreed (Move t at) refl cause next
+  after_agreed (Joined to) cause next = lockless_agreed (Joined to) refl cause next
+  after_agreed (Bind t u d answer) cause next = lockless_agreed (Bind t u d answer) refl cause next

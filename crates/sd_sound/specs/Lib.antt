@@ -1,0 +1,5 @@
+pub mod Causes
+pub mod Holding
+pub mod Moves
+pub mod Possible
+pub mod Scripted
