@@ -12,6 +12,7 @@ pub mod OpTable
 pub mod Parts
 pub mod PassLemmas
 pub mod PlaceTable
+pub mod PlainWords
 pub mod ReadLemmas
 pub mod Ready
 pub mod ReleaseLemmas
