@@ -2,6 +2,7 @@ pub mod AgreedAfter
 pub mod AgreedEvents
 pub mod AgreedLemmas
 pub mod CauseLemmas
+pub mod CountLemmas
 pub mod CpuWords
 pub mod FieldWords
 pub mod Found
