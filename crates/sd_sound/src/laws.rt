@@ -1,7 +1,7 @@
 //! Laws of the whole machine, each as the contract of a function without a body.
 
 ghost use Rattle.sd_sound.specs.Holding.{Agreed, DutiesServe, ReadsWell};
-ghost use Rattle.sd_sound.specs.Laws.{EventsHaveCauses, HoldsWhenReached};
+ghost use Rattle.sd_sound.specs.Laws.{CountsWithin, EventsHaveCauses, HoldsWhenReached};
 ghost use Rattle.sd_sound.specs.Scripted.{Scripted};
 
 /// In every state of every run each thread stands at an operation of its script or behind the last; it holds exactly
@@ -33,4 +33,9 @@ pub fn readers_wait_for_writers()
 /// best of its queue, the operation asks for it, the lock is as the event takes it to be, and so on for each event.
 pub fn events_have_causes()
     ensures { EventsHaveCauses }
+{}
+
+/// No processor has counted more ticks than the workload's limit.
+pub fn counts_within()
+    ensures { HoldsWhenReached CountsWithin }
 {}

@@ -1,9 +1,10 @@
 //! What holds in every state of every run of the whole machine, whatever program made the run: scripts, locks and
-//! duties agree, and each event has its cause. The functions do nothing: the law is what the contract of each says.
+//! duties agree, each event has its cause, and no count goes beyond the limit. The functions do nothing: the law is what the contract of each says.
 #![tactic(auto)]
 
 mod laws;
 
 pub use laws::{
-    duties_serve, events_have_causes, locks_agree, readers_wait_for_writers, scripts_are_followed,
+    counts_within, duties_serve, events_have_causes, locks_agree, readers_wait_for_writers,
+    scripts_are_followed,
 };
