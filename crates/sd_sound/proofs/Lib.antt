@@ -17,9 +17,11 @@ pub mod PlainWords
 pub mod ReadLemmas
 pub mod Ready
 pub mod ReleaseLemmas
+pub mod RunningLemmas
 pub mod ScriptLemmas
 pub mod Searches
 pub mod ServeLemmas
 pub mod Waiters
+pub mod WokenLemmas
 pub mod Words
 pub mod Works

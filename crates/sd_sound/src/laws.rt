@@ -1,7 +1,8 @@
 //! Laws of the whole machine, each as the contract of a function without a body.
 
+ghost use Rattle.sd_laws.specs.Laws.{OneRuns};
 ghost use Rattle.sd_sound.specs.Holding.{Agreed, DutiesServe, ReadsWell};
-ghost use Rattle.sd_sound.specs.Laws.{CountsWithin, EventsHaveCauses, HoldsWhenReached};
+ghost use Rattle.sd_sound.specs.Laws.{CountsWithin, EventsHaveCauses, HoldsWhenReached, WokenAreRunnable};
 ghost use Rattle.sd_sound.specs.Scripted.{Scripted};
 
 /// In every state of every run each thread stands at an operation of its script or behind the last; it holds exactly
@@ -38,4 +39,14 @@ pub fn events_have_causes()
 /// No processor has counted more ticks than the workload's limit.
 pub fn counts_within()
     ensures { HoldsWhenReached CountsWithin }
+{}
+
+/// At most one thread runs on each processor, in every state of every run.
+pub fn one_runs()
+    ensures { HoldsWhenReached (λ w s. OneRuns s) }
+{}
+
+/// An event that wakes a thread after a nap, a sleep or a wait for a lock leaves it on a dispatch queue.
+pub fn woken_are_runnable()
+    ensures { WokenAreRunnable }
 {}
