@@ -7,6 +7,7 @@ pub mod CpuWords
 pub mod FieldWords
 pub mod Found
 pub mod HoldTable
+pub mod KeyLemmas
 pub mod LockTable
 pub mod Movers
 pub mod OpTable

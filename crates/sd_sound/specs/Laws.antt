@@ -17,6 +17,10 @@ use Rattle.sd_sound.specs.Causes.{IsCause}
 abbrev pub HoldsWhenReached : (Work → State → Type 0) → Type 0
 HoldsWhenReached P = (w : Work) (n : ℕ) (s : State) → IsReached w n s → P w s
 
+-- the same of what speaks of the number of entries
+abbrev pub HoldsAfterEntries : (Work → ℕ → State → Type 0) → Type 0
+HoldsAfterEntries P = (w : Work) (n : ℕ) (s : State) → IsReached w n s → P w n s
+
 -- what a processor may make in such a state has its cause there
 abbrev pub EventsHaveCauses : Type 0
 EventsHaveCauses = (w : Work) (n : ℕ) (s : State) (c : CpuId) (hints : Option Hints) (e : Event) → IsReached w n s → next w s c hints ≡ Some e → IsCause w s c.0 e

@@ -1,8 +1,8 @@
 //! Laws of the whole machine, each as the contract of a function without a body.
 
-ghost use Rattle.sd_laws.specs.Laws.{OneRuns};
+ghost use Rattle.sd_laws.specs.Laws.{KeysDiffer, KeysWithin, OneRuns};
 ghost use Rattle.sd_sound.specs.Holding.{Agreed, DutiesServe, ReadsWell};
-ghost use Rattle.sd_sound.specs.Laws.{CountsWithin, EventsHaveCauses, HoldsWhenReached, WokenAreRunnable};
+ghost use Rattle.sd_sound.specs.Laws.{CountsWithin, EventsHaveCauses, HoldsAfterEntries, HoldsWhenReached, WokenAreRunnable};
 ghost use Rattle.sd_sound.specs.Scripted.{Scripted};
 
 /// In every state of every run each thread stands at an operation of its script or behind the last; it holds exactly
@@ -49,4 +49,14 @@ pub fn one_runs()
 /// An event that wakes a thread after a nap, a sleep or a wait for a lock leaves it on a dispatch queue.
 pub fn woken_are_runnable()
     ensures { WokenAreRunnable }
+{}
+
+/// Keys in one queue differ: two threads of one queue with equal keys are the same thread.
+pub fn keys_differ()
+    ensures { HoldsWhenReached (λ w s. KeysDiffer s) }
+{}
+
+/// After n entries each key of a thread is at least -n and less than 4096 + n.
+pub fn keys_within()
+    ensures { HoldsAfterEntries (λ w n s. KeysWithin n s) }
 {}
