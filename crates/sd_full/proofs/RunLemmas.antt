@@ -34,7 +34,7 @@ module _ (w : Work) where
         (subst (λ k. IsRunFrom w (final w (after w s e.number e.cpu e.event) es) k fs) (let q : n + length (e ∷ es) ≡ n + 1 + length es = omega arith in q) q),
   )
 
-  -- the front of a run is a run
+  -- a prefix of a run is a run
   pub IsRunFrom-front : (s : State) (n : ℕ) (es fs : List Entry) → IsRunFrom w s n (es ++ fs) → IsRunFrom w s n es
   unfolding IsRunFrom
   IsRunFrom-front s n [] fs r = tt

@@ -104,16 +104,16 @@ set_mark s c m = with_cpu s c (marked m (cpu_of s c))
 unfoldable pub set_kernel_mark : State → ℕ → State
 set_kernel_mark s c = with_cpu s c (record (cpu_of s c) { kernel = true })
 
--- the running thread, if there is one, has less than this priority
+-- the running thread, if there is one, has a smaller priority than this
 abbrev pub runs_below : ℕ → Option ℕ → Bool
 runs_below m None = false
 runs_below m (Some r) = nat_lt r m
 
--- a thread of priority m has come to processor x: it is marked where a thread of less priority runs
+-- a thread of priority m has come to processor x: it is marked where a thread of a smaller priority runs
 unfoldable pub mark_over : State → ℕ → ℕ → State
 mark_over s x m = if runs_below m (priority_of s (runner s x)) then set_mark s x m else s
 
--- the greater of what is ready on processor x, where a thread with less priority runs
+-- the greater of what is ready on processor x, where a thread with a smaller priority runs
 abbrev pub rivals : Option ℕ → Option ℕ → Bool
 rivals None r = false
 rivals (Some m) r = runs_below m r

@@ -37,7 +37,7 @@ requeue_plan Stays event placement p = Make (event None)
 requeue_plan (Behind d) event placement p = Make (event (Some (Cpu d)))
 requeue_plan Anew event placement p = PlaceIt placement p
 
--- by entry n, where thread t had an effective priority and now has its own: a running one may have less than what is
+-- by entry n, where thread t had an effective priority and now has its own: a running one may have a smaller one than what is
 -- ready, and a queued one goes where the event says
 abbrev pub reordered_at : Work → State → ℕ → ℕ → ℕ → Option Put → Place → State
 reordered_at w s n t old at (Running x) = if nat_lt (eff_of s t) old then remark s x.0 else s

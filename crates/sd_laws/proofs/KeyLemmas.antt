@@ -112,7 +112,7 @@ module _ (n : ℕ) (f g : ℕ → Place) (t : ℕ) (p : Place) (new : GivesNew n
         ]
       ]
 
-keys_after : (n : ℕ) (f g : ℕ → Place) (m : Change Place) → GivesNew n m → KeysAt n f → IsChanged m f g → KeysAt (n + 1) g
+pub keys_after : (n : ℕ) (f g : ℕ → Place) (m : Change Place) → GivesNew n m → KeysAt n f → IsChanged m f g → KeysAt (n + 1) g
 keys_after n f g Keep new keys same = record {
   within = λ t has. more_within n (key_of (g t)) (subst (λ q. IsWithin n (key_of q)) (sym (same t)) (keys.within t (ap has_key (sym (same t)) ∙ has)));
   differ = λ t u queue e. keys.differ t u (subst (λ q. same_queue q (f u) ≡ true) (same t) (subst (λ q. same_queue (g t) q ≡ true) (same u) queue)) (ap key_of (sym (same t)) ∙ e ∙ ap key_of (same u));
@@ -134,7 +134,7 @@ gives_new w s n c _ has = absurd (false≢true has)
 first_within : (w : Work) (t : ℕ) (k : ℤ) → t < length w.threads → k ≡ pos t → IsWithin 0 k
 first_within w t k here e = let most = w.most_threads in record { least = omega (arith, ints); greatest = omega (arith, ints) }
 
-first_keys : (w : Work) → KeysAt 0 (places (opening w))
+pub first_keys : (w : Work) → KeysAt 0 (places (opening w))
 first_keys w = record {
   within = λ t has. let key = opening_key w t has in first_within w t _ key.0 key.1;
   differ = λ t u queue same.

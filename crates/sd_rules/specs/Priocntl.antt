@@ -1,7 +1,7 @@
 -- Who may give a thread new class parameters, and the class state that they make, as functions on numbers.
 -- Source: priocntl(2). This project's own: the order of the refusals, EINVAL for the system class, the whole list of
 -- EPERM, and the states after a change.
-use Rattle.std.specs.Prelude.{ℕ, ℤ, pos, negsuc, int_le, int_lt, Bool, true, false, not, ◌&&◌, ◌||◌, ◌==◌, cond, Option, Some, None, Result, Ok, Err}
+use Rattle.std.specs.Prelude.{ℕ, ℤ, pos, int_le, int_lt, Bool, true, false, not, ◌&&◌, ◌||◌, ◌==◌, cond, Option, Some, None, Result, Ok, Err}
 use Rattle.sd_types.specs.declared.classes.Class.{Class}
 use Rattle.sd_types.specs.declared.classes.Class.TheVariants as class
 use Rattle.sd_types.specs.declared.classes.ClassParms.{ClassParms}

@@ -47,6 +47,7 @@ use Rattle.sd_chains.specs.Graphs as G
 use Rattle.sd_chains.specs.Holders as H
 use Rattle.sd_sound.specs.Causes.{wants, IsCause}
 use Rattle.sd_sound.specs.Holding.{lock_state, pass_of, table, Agreed, DutyServes, DutiesServe, ReadsWell}
+use Rattle.sd_sound.specs.Laws.{HoldsWhenReached, HoldsAfterEntries}
 use Rattle.sd_sound.specs.Scripted.{IsScripted, Scripted}
 use Rattle.sd_sound.specs.Moves.{step_of}
 use Rattle.sd_sound.proofs.CauseLemmas.{Serves, cause_of}
@@ -272,3 +273,26 @@ ready_from w s n (e ∷ es) ready (number, step, run) = ready_from w (after w s 
 
 pub reached_ready : (w : Work) (n : ℕ) (s : State) → IsReached w n s → IsReady w s
 reached_ready w n s reached = subst (λ x. IsReady w x) reached.ends (ready_from w (opening w) 0 reached.entries (opening_ready w) (IsRun-from w reached.entries reached.run))
+
+-- What holds in the initial state and is kept by each event holds in every state of every run; it may speak of the number
+-- of entries that led there.
+pub record IsKept (P : Work → ℕ → State → Type 0) : Type 0 where
+  pub start : (w : Work) → P w 0 (opening w)
+  pub step : (w : Work) (s : State) (n : ℕ) (c : CpuId) (e : Event) → IsReady w s → IsCause w s c.0 e → P w n s → P w (n + 1) (after w s n c e)
+
+kept_from : (P : Work → ℕ → State → Type 0) → IsKept P → (w : Work) (s : State) (n : ℕ) (es : List Entry) → IsReady w s → P w n s → IsRunFrom w s n es → P w (n + length es) (final w s es)
+unfolding final IsRunFrom
+kept_from P k w s n [] ready holds run = subst (λ m. P w m s) (let e : n ≡ n + 0 = omega arith in e) holds
+kept_from P k w s n (e ∷ es) ready holds (number, step, run) =
+    let here : P w (n + 1) (after w s e.number e.cpu e.event) =
+    subst (λ m. P w (n + 1) (after w s m e.cpu e.event)) (sym number) (k.step w s n e.cpu e.event ready (ready_cause w s e.cpu e.hints e.event ready step) holds) in
+    subst (λ m. P w m (final w (after w s e.number e.cpu e.event) es)) (let q : n + 1 + length es ≡ n + length (e ∷ es) = omega arith in q)
+    (kept_from P k w (after w s e.number e.cpu e.event) (n + 1) es (next_ready w s e.number e.cpu e.hints e.event ready step) here run)
+
+pub kept_after : (P : Work → ℕ → State → Type 0) → IsKept P → HoldsAfterEntries P
+kept_after P k w n s reached =
+    subst (λ x. P w n x) reached.ends (subst (λ m. P w m (final w (opening w) reached.entries)) (let q : 0 + length reached.entries ≡ length reached.entries = omega arith in q ∙ reached.many)
+    (kept_from P k w (opening w) 0 reached.entries (opening_ready w) (k.start w) (IsRun-from w reached.entries reached.run)))
+
+pub kept_reached : (P : Work → State → Type 0) → IsKept (λ w n s. P w s) → HoldsWhenReached P
+kept_reached P k w n s reached = kept_after (λ w n s. P w s) k w n s reached

@@ -1,5 +1,6 @@
 pub mod Causes
 pub mod Holding
+pub mod Laws
 pub mod Moves
 pub mod Possible
 pub mod Scripted

@@ -1,3 +1,10 @@
-//! What holds of every state of every run, below the program: one record of invariants, kept by each event. It has
-//! definitions and lemmas alone.
+//! What holds in every state of every run of the whole machine, whatever program made the run: scripts, locks and
+//! duties agree, each event has its cause, and no count goes beyond the limit. The functions do nothing: the law is what the contract of each says.
 #![tactic(auto)]
+
+mod laws;
+
+pub use laws::{
+    counts_within, duties_serve, events_have_causes, keys_differ, keys_within, locks_agree,
+    one_runs, readers_wait_for_writers, scripts_are_followed, woken_are_runnable,
+};

@@ -1,4 +1,3 @@
-use Rattle.std.proofs.Common.{◌∙◌}
 use Rattle.sd_part.proofs.PartitionLemmas.{lists-more}
 use Rattle.sd_part.proofs.partitions.lists_of_sets.Goals as goal
 

@@ -1,0 +1,232 @@
+-- The counts of processors stay within the limit.
+use Rattle.std.proofs.Common.{◌≡◌, ◌≢◌, ℕ, ◌+◌, ◌-◌, ◌%◌, ◌<◌, Bool, true, false, ◌||◌, List, length, set, Option, Some, None, refl, ◌∙◌, sym, ap, subst, arith}
+use Rattle.std.specs.Prelude.{int_lt}
+use Rattle.std.specs.Ordering.{int_eq}
+use Rattle.sd_chains.specs.Holders as H
+use Rattle.sd_chains.proofs.Moves.{IsSame, IsPut}
+use Rattle.sd_full.proofs.ShapeLemmas.{IsShaped, then_shape, lock_shape, finish_op_shape, hold_shape, set_number_shape, leave_shape, woken_shape}
+use Rattle.sd_sound.specs.Causes.{IsFree}
+use Rattle.sd_sound.specs.Holding.{pass_of}
+use Rattle.sd_sound.proofs.Parts.{same_item, put_item, put_same, same_put}
+use Rattle.sd_sound.proofs.FieldWords as F
+use Rattle.sd_sound.proofs.CpuWords as C
+use Rattle.sd_types.specs.declared.numbers.ChanId.{ChanId}
+use Rattle.sd_types.specs.declared.numbers.CpuId.{CpuId}
+use Rattle.sd_types.specs.declared.numbers.LockId.{LockId}
+use Rattle.sd_types.specs.declared.numbers.SetId.{SetId}
+use Rattle.sd_types.specs.declared.numbers.Side.TheVariants.{Writer}
+use Rattle.sd_types.specs.declared.numbers.ThreadId.{ThreadId}
+use Rattle.sd_types.specs.declared.bodies.ThreadBody.{ThreadBody}
+use Rattle.sd_types.specs.declared.classes.ClassParms.{ClassParms}
+use Rattle.sd_types.specs.declared.classes.ClassState.{ClassState}
+use Rattle.sd_types.specs.declared.events.AssignAnswer.{AssignAnswer}
+use Rattle.sd_types.specs.declared.events.AssignAnswer.TheVariants as assign
+use Rattle.sd_types.specs.declared.events.BindAnswer.{BindAnswer}
+use Rattle.sd_types.specs.declared.events.BindAnswer.TheVariants as bind_answer
+use Rattle.sd_types.specs.declared.events.Denied.{Denied}
+use Rattle.sd_types.specs.declared.events.Duty.{Duty}
+use Rattle.sd_types.specs.declared.events.Duty.TheVariants as duty
+use Rattle.sd_types.specs.declared.events.End.{End}
+use Rattle.sd_types.specs.declared.events.Event.{Event}
+use Rattle.sd_types.specs.declared.events.Event.TheVariants.{Tick, Spin, Idle, Dispatch, Steal, Preempt, Yield, Done, Nap, Napend, Sleep, Wake, Wakeall, Rouse, Enter, Read, Write, Block, Will, End as WalkEnd, Exit, Unblock, Grant, Passed, Age, Prio, CvWait, SemaP, SemaWait, SemaVWake, SemaVCount, Assign, Move, Joined, Bind, Away}
+use Rattle.sd_types.specs.declared.events.PrioAnswer.{PrioAnswer}
+use Rattle.sd_types.specs.declared.events.PrioAnswer.TheVariants.{Changed, Refused}
+use Rattle.sd_types.specs.declared.events.Put.{Put}
+use Rattle.sd_types.specs.declared.scripts.Op.{Op}
+use Rattle.sd_types.specs.declared.scripts.Op.TheVariants as op
+use Rattle.sd_types.specs.declared.works.Work.{Work}
+use Rattle.std.specs.Prelude.{if◌then◌else◌, Result, Ok, Err, is_none, is_some, nat_lt, nat_le, ◌==◌, not, ◌&&◌}
+use Rattle.sd_machine.specs.declared.states.Place.{Place}
+use Rattle.sd_machine.specs.declared.states.Place.TheVariants.{Running, Queued, RealTime, Waiting, Asleep, Napping, Ended}
+use Rattle.sd_machine.specs.declared.states.LockState.{LockState}
+use Rattle.sd_machine.specs.declared.states.LockState.TheVariants.{Free, Owned, ReadHeld, Passing}
+use Rattle.sd_machine.specs.declared.states.CpuState.{CpuState}
+use Rattle.sd_machine.specs.declared.states.ThreadState.{ThreadState}
+use Rattle.sd_machine.specs.declared.states.State.{State}
+use Rattle.sd_machine.specs.States.{no_cpu, thread_of, cpu_of}
+use Rattle.sd_machine.specs.Operations.{op_of}
+use Rattle.sd_full.specs.Threads.{thread_id, has_waiters, best_waiter, lock_of, with_lock, count_of, with_count, runner, best_sleeper, best_sleeper_below, eff_of, greatest_waiting}
+use Rattle.sd_full.specs.Bodies.{aged_class}
+use Rattle.sd_full.specs.Changes.{back_key, with_body, finish_op, run_tick, set_class, hold, let_go, set_number, set_looped, set_duty, duty_after, count_tick, leave, put, put_where, close, join, bind, unbind}
+use Rattle.sd_full.specs.Dispatching.{class_counts, ticked, spun, idled}
+use Rattle.sd_full.specs.Sleeping.{woken, woke_all, roused_on, rouse_key, roused}
+use Rattle.sd_full.specs.Locking.{side_of, blocked, after_reader, after_owner, free_or_passed, release_from, released, exited, others_waiting, unblocked_on, unblocked, granted_to_writer, granted, passed_on, passed}
+use Rattle.sd_full.specs.Requeueing.{reordered}
+use Rattle.sd_full.specs.Walking.{is_back, next_walk, walked, willed, walk_ended}
+use Rattle.sd_full.specs.Prioritising.{answer_to, new_class, walk_from, changed_by, changed_on, reprioritised, lifted, aged}
+use Rattle.sd_full.specs.Conditions.{cv_waited, sema_taken, sema_counted}
+use Rattle.sd_full.specs.SetChanges.{cleared, assigned, joined, rebound, pbound}
+use Rattle.sd_full.specs.Events.{keeps_ageing, dropped_duty, drop_ageing, effect, after}
+
+
+use Rattle.sd_sound.specs.Causes.{IsCause}
+use Rattle.sd_sound.specs.Laws.{CountsWithin}
+use Rattle.sd_sound.proofs.PlainWords.{Plain, plain_keeps, is_plain, drop_keeps}
+use Rattle.sd_full.specs.Events.{next, may_tick, wish, reads, hints_fit, allowed}
+use Rattle.std.specs.List.{list_all, range_with_len}
+use Rattle.std.proofs.lemmas.Bool.Decides.{nat_tests}
+use Rattle.std.proofs.lemmas.Bool.{cases_eq, cases_lt}
+use Rattle.std.proofs.Common.{get_or, ◌≤◌, inl, inr, zero, suc, [], ◌∷◌}
+use Rattle.std.specs.Prelude.{map}
+use Rattle.sd_machine.specs.Opening.{first_cpu_state, opening}
+use Rattle.sd_sound.proofs.Parts.{set_past}
+use Rattle.sd_sound.proofs.Works.{first_of_two}
+
+abbrev count_part : CpuState → ℕ
+count_part x = x.count
+
+count_marks : C.Markless count_part
+count_marks = record { marks = λ x u k. refl }
+
+counts_plain : Plain count_part
+counts_plain = record { marks = count_marks; duty = λ x d. refl }
+
+abbrev SameCounts : State → State → Type 0
+SameCounts s r = C.Kept count_part s r
+
+-- each count is as it was, or at most one more than a count that was below the limit
+record Grows (limit : ℕ) (s r : State) : Type 0 where
+  each : (d : ℕ) → (cpu_of s d).count ≤ limit → (cpu_of r d).count ≤ limit
+
+same_grows : (limit : ℕ) (s r : State) → SameCounts s r → Grows limit s r
+same_grows limit s r a = record { each = λ d h. subst (λ m. m ≤ limit) (sym (a.each d)) h }
+
+grows_then : (limit : ℕ) (s r q : State) → Grows limit s r → SameCounts r q → Grows limit s q
+grows_then limit s r q a b = record { each = λ d h. subst (λ m. m ≤ limit) (sym (b.each d)) (a.each d h) }
+
+count_tick_grows : (w : Work) (limit : ℕ) (s : State) (c : ℕ) → (cpu_of s c).count < limit → Grows limit s (count_tick w s c)
+unfolding count_tick
+count_tick_grows w limit s c below = record { each = λ d h. elim (cases_lt c (length s.cpus)) [
+  | inl here ↦
+      let put = put_item count_part s.cpus no_cpu c (record (cpu_of s c) { count = (cpu_of s c).count + 1; duty = duty_after w ((cpu_of s c).count + 1) (cpu_of s c).duty }) here in
+      elim (cases_eq d c) [
+        | inl is ↦ let at : (cpu_of (count_tick w s c) d).count ≡ (cpu_of s c).count + 1 = ap (λ i. (cpu_of (count_tick w s c) i).count) is ∙ put.at in subst (λ m. m ≤ limit) (sym at) (omega (arith, below))
+        | inr other ↦ subst (λ m. m ≤ limit) (sym (put.others d other)) h
+      ]
+  | inr past ↦ subst (λ m. m ≤ limit) (sym (ap (λ xs. count_part (get_or xs d no_cpu)) (set_past s.cpus c (record (cpu_of s c) { count = (cpu_of s c).count + 1; duty = duty_after w ((cpu_of s c).count + 1) (cpu_of s c).duty }) past))) h
+] }
+
+class_counts_same : (w : Work) (s : State) (c t : ℕ) → SameCounts s (class_counts w s c t)
+class_counts_same w s c t = C.class_counts_kept count_part count_marks w s c t
+
+ticked_grows : (w : Work) (limit : ℕ) (s : State) (c t : ℕ) → (cpu_of s c).count < limit → Grows limit s (ticked w s c t)
+unfolding ticked
+ticked_grows w limit s c t below = grows_then limit s (count_tick w s c) _ (count_tick_grows w limit s c below) (C.then_kept count_part _ (run_tick w (count_tick w s c) t) _ (C.run_tick_kept count_part count_marks w _ t) (class_counts_same w _ c t))
+
+spun_grows : (w : Work) (limit : ℕ) (s : State) (c t : ℕ) → (cpu_of s c).count < limit → Grows limit s (spun w s c t)
+unfolding spun
+spun_grows w limit s c t below = grows_then limit s (count_tick w s c) _ (count_tick_grows w limit s c below) (class_counts_same w _ c t)
+
+idled_grows : (w : Work) (limit : ℕ) (s : State) (c : ℕ) → (cpu_of s c).count < limit → Grows limit s (idled w s c)
+unfolding idled
+idled_grows w limit s c below = count_tick_grows w limit s c below
+
+close_counts : (s : State) (d : CpuId) (to : SetId) → SameCounts s (close s d to)
+unfolding close
+close_counts s d to = C.then_kept count_part s _ _ (C.open_kept count_part s _ _) (C.written count_part _ d.0 _ refl)
+
+join_counts : (s : State) (c : CpuId) (to : SetId) → SameCounts s (join s c to)
+unfolding join
+join_counts s c to = C.then_kept count_part s _ _ (C.open_kept count_part s _ _) (C.written count_part _ c.0 _ refl)
+
+joined_counts : (s : State) (c : CpuId) (to : SetId) → SameCounts s (joined s c to)
+unfolding joined
+joined_counts s c to = join_counts s c to
+
+assigned_counts : (w : Work) (s : State) (t : ℕ) (d : CpuId) (to : SetId) (answer : AssignAnswer) → SameCounts s (assigned w s t d to answer)
+unfolding assigned
+assigned_counts w s t d to assign.Changed = C.then_kept count_part s _ _ (close_counts s d to) (C.then_kept count_part _ (cleared (close s d to) d (runner s d.0)) _ (C.cleared_kept count_part count_marks _ d _) (C.finish_op_kept count_part count_marks w _ t))
+assigned_counts w s t d to assign.EPERM = C.finish_op_kept count_part count_marks w s t
+assigned_counts w s t d to assign.EINVAL = C.finish_op_kept count_part count_marks w s t
+assigned_counts w s t d to assign.EBUSY = C.finish_op_kept count_part count_marks w s t
+
+bind_counts : (s : State) (t : ℕ) (d : CpuId) → SameCounts s (bind s t d)
+unfolding bind
+bind_counts s t d = C.then_kept count_part s (with_body s t (record (thread_of s t).body { bound = Some d })) _ (C.thread_kept count_part s t _) (C.written count_part _ d.0 _ refl)
+
+unbind_counts : (s : State) (t : ℕ) (b : CpuId) → SameCounts s (unbind s t b)
+unfolding unbind
+unbind_counts s t b = C.then_kept count_part s (with_body s t (record (thread_of s t).body { bound = None })) _ (C.thread_kept count_part s t _) (C.written count_part _ b.0 _ refl)
+
+rebound_counts : (s : State) (u : ℕ) (d b : Option CpuId) → SameCounts s (rebound s u d b)
+rebound_counts s u (Some d) b = C.then_kept count_part s _ _ (bind_counts s u d) (C.called_back_kept count_part count_marks _ d _)
+rebound_counts s u None (Some b) = unbind_counts s u b
+rebound_counts s u None None = C.same_kept count_part s
+
+pbound_counts : (w : Work) (s : State) (n t u : ℕ) (d : Option CpuId) (answer : BindAnswer) → SameCounts s (pbound w s n t u d answer)
+unfolding pbound
+pbound_counts w s n t u d (bind_answer.Changed at) = C.then_kept count_part s (rebound s u d (thread_of s u).body.bound) _ (rebound_counts s u d _) (C.then_kept count_part _ (put_where w (rebound s u d (thread_of s u).body.bound) n u at) _ (C.put_where_kept count_part count_marks w _ n u at) (C.finish_op_kept count_part count_marks w _ t))
+pbound_counts w s n t u d bind_answer.ESRCH = C.finish_op_kept count_part count_marks w s t
+pbound_counts w s n t u d bind_answer.EINVAL = C.finish_op_kept count_part count_marks w s t
+pbound_counts w s n t u d bind_answer.EPERM = C.finish_op_kept count_part count_marks w s t
+pbound_counts w s n t u d bind_answer.EBUSY = C.finish_op_kept count_part count_marks w s t
+
+
+-- a processor that may tick has a count below the limit
+pub ticks_below : (w : Work) (s : State) (c : ℕ) → may_tick w s c ≡ true → (cpu_of s c).count < w.limit
+unfolding may_tick
+ticks_below w s c may = let below : nat_lt (cpu_of s c).count w.limit ≡ true = first_of_two _ (list_all (λ (x : CpuState). nat_le (cpu_of s c).count x.count) s.cpus) may in grind (arith, nat_tests)
+
+dropped_count : (s : State) (c : ℕ) (e : Event) (limit : ℕ) → (cpu_of s c).count < limit → (cpu_of (drop_ageing s c e) c).count < limit
+dropped_count s c e limit below = subst (λ m. m < limit) (sym ((drop_keeps count_part counts_plain s c e).each c)) below
+
+then_grows : (limit : ℕ) (s r q : State) → SameCounts s r → Grows limit r q → Grows limit s q
+then_grows limit s r q a b = record { each = λ d h. b.each d (subst (λ m. m ≤ limit) (sym (a.each d)) h) }
+
+after_dropped : (w : Work) (s q : State) (c : CpuId) (e : Event) → Grows w.limit (drop_ageing s c.0 e) q → Grows w.limit s q
+after_dropped w s q c e g = then_grows w.limit s (drop_ageing s c.0 e) q (drop_keeps count_part counts_plain s c.0 e) g
+
+plain_grows : (w : Work) (s : State) (n : ℕ) (c : CpuId) (e : Event) → is_plain e ≡ true → Grows w.limit s (after w s n c e)
+plain_grows w s n c e quiet = same_grows w.limit s (after w s n c e) (plain_keeps count_part counts_plain w s n c e quiet)
+
+after_grows : (w : Work) (s : State) (n : ℕ) (c : CpuId) (e : Event) → IsCause w s c.0 e → Grows w.limit s (after w s n c e)
+unfolding after effect
+after_grows w s n c (Tick t) cause = after_dropped w s _ c (Tick t) (ticked_grows w w.limit (drop_ageing s c.0 (Tick t)) c.0 t.0 (dropped_count s c.0 (Tick t) w.limit (ticks_below w s c.0 cause.1)))
+after_grows w s n c (Spin t l) cause = after_dropped w s _ c (Spin t l) (spun_grows w w.limit (drop_ageing s c.0 (Spin t l)) c.0 t.0 (dropped_count s c.0 (Spin t l) w.limit (ticks_below w s c.0 cause.1)))
+after_grows w s n c Idle cause = after_dropped w s _ c Idle (idled_grows w w.limit (drop_ageing s c.0 Idle) c.0 (dropped_count s c.0 Idle w.limit (ticks_below w s c.0 cause.2)))
+after_grows w s n c (Assign t d to answer) cause = after_dropped w s _ c (Assign t d to answer) (same_grows w.limit _ _ (assigned_counts w (drop_ageing s c.0 (Assign t d to answer)) t.0 d to answer))
+after_grows w s n c (Joined to) cause = after_dropped w s _ c (Joined to) (same_grows w.limit _ _ (joined_counts (drop_ageing s c.0 (Joined to)) c to))
+after_grows w s n c (Bind t u d answer) cause = after_dropped w s _ c (Bind t u d answer) (same_grows w.limit _ _ (pbound_counts w (drop_ageing s c.0 (Bind t u d answer)) n t.0 u.0 d answer))
+after_grows w s n c (Dispatch t p) cause = plain_grows w s n c (Dispatch t p) refl
+after_grows w s n c (Steal v t p) cause = plain_grows w s n c (Steal v t p) refl
+after_grows w s n c (Preempt t end) cause = plain_grows w s n c (Preempt t end) refl
+after_grows w s n c (Away t d) cause = plain_grows w s n c (Away t d) refl
+after_grows w s n c (Yield t) cause = plain_grows w s n c (Yield t) refl
+after_grows w s n c (Done t) cause = plain_grows w s n c (Done t) refl
+after_grows w s n c (Nap t) cause = plain_grows w s n c (Nap t) refl
+after_grows w s n c (Napend t at) cause = plain_grows w s n c (Napend t at) refl
+after_grows w s n c (Sleep t k) cause = plain_grows w s n c (Sleep t k) refl
+after_grows w s n c (Wake t k u) cause = plain_grows w s n c (Wake t k u) refl
+after_grows w s n c (Wakeall t k) cause = plain_grows w s n c (Wakeall t k) refl
+after_grows w s n c (Rouse k u) cause = plain_grows w s n c (Rouse k u) refl
+after_grows w s n c (Enter t l) cause = plain_grows w s n c (Enter t l) refl
+after_grows w s n c (Read t l) cause = plain_grows w s n c (Read t l) refl
+after_grows w s n c (Write t l) cause = plain_grows w s n c (Write t l) refl
+after_grows w s n c (Block t l) cause = plain_grows w s n c (Block t l) refl
+after_grows w s n c (Will l o p at) cause = plain_grows w s n c (Will l o p at) refl
+after_grows w s n c (WalkEnd l) cause = plain_grows w s n c (WalkEnd l) refl
+after_grows w s n c (Exit t l) cause = plain_grows w s n c (Exit t l) refl
+after_grows w s n c (Unblock l u at) cause = plain_grows w s n c (Unblock l u at) refl
+after_grows w s n c (Grant l u at) cause = plain_grows w s n c (Grant l u at) refl
+after_grows w s n c (Passed l) cause = plain_grows w s n c (Passed l) refl
+after_grows w s n c (Age t p) cause = plain_grows w s n c (Age t p) refl
+after_grows w s n c (Prio t u answer) cause = plain_grows w s n c (Prio t u answer) refl
+after_grows w s n c (CvWait t k l) cause = plain_grows w s n c (CvWait t k l) refl
+after_grows w s n c (SemaP t k) cause = plain_grows w s n c (SemaP t k) refl
+after_grows w s n c (SemaWait t k) cause = plain_grows w s n c (SemaWait t k) refl
+after_grows w s n c (SemaVWake t k u at) cause = plain_grows w s n c (SemaVWake t k u at) refl
+after_grows w s n c (SemaVCount t k m) cause = plain_grows w s n c (SemaVCount t k m) refl
+after_grows w s n c (Move t at) cause = plain_grows w s n c (Move t at) refl
+
+pub after_counts : (w : Work) (s : State) (n : ℕ) (c : CpuId) (e : Event) → IsCause w s c.0 e → CountsWithin w s → CountsWithin w (after w s n c e)
+after_counts w s n c e cause within = λ d. (after_grows w s n c e cause).each d (within d)
+
+first_count : (w : Work) (ns : List ℕ) (c : ℕ) → (get_or (map (first_cpu_state w) ns) c no_cpu).count ≡ 0
+unfolding first_cpu_state
+first_count w [] c = refl
+first_count w (n ∷ ns) zero = refl
+first_count w (n ∷ ns) (suc c) = first_count w ns c
+
+pub opening_counts : (w : Work) → CountsWithin w (opening w)
+unfolding opening
+opening_counts w = λ c. subst (λ m. m ≤ w.limit) (sym (first_count w (range_with_len 0 w.cpus) c)) (omega arith)

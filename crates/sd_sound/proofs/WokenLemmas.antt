@@ -1,0 +1,107 @@
+-- Who is woken is on a dispatch queue.
+use Rattle.std.proofs.Common.{◌≡◌, ◌≢◌, ℕ, ◌<◌, Bool, true, false, not, ◌&&◌, ◌||◌, List, length, Option, Some, None, refl, sym, ap, ◌∙◌, subst, arith, ◌⊎◌, inl, inr}
+use Rattle.std.specs.Prelude.{⊤, nat_lt, nat_le, ◌==◌, if◌then◌else◌, is_none, ℤ}
+use Rattle.std.proofs.lemmas.Bool.Decides.{nat_tests}
+use Rattle.std.proofs.lemmas.Option.{same_Some}
+use Rattle.sd_types.specs.declared.numbers.ChanId.{ChanId}
+use Rattle.sd_types.specs.declared.numbers.CpuId.{CpuId}
+use Rattle.sd_types.specs.declared.numbers.LockId.{LockId}
+use Rattle.sd_types.specs.declared.numbers.ThreadId.{ThreadId}
+use Rattle.sd_types.specs.declared.numbers.Side.{Side}
+use Rattle.sd_types.specs.declared.numbers.Side.TheVariants.{Writer, Reader}
+use Rattle.sd_types.specs.declared.events.BindAnswer.{BindAnswer}
+use Rattle.sd_types.specs.declared.events.BindAnswer.TheVariants as bind_answer
+use Rattle.sd_types.specs.declared.events.Event.{Event}
+use Rattle.sd_types.specs.declared.events.Event.TheVariants.{Tick, Spin, Idle, Dispatch, Steal, Preempt, Yield, Done, Nap, Napend, Sleep, Wake, Wakeall, Rouse, Enter, Read, Write, Block, Will, End as WalkEnd, Exit, Unblock, Grant, Passed, Age, Prio, CvWait, SemaP, SemaWait, SemaVWake, SemaVCount, Assign, Move, Joined, Bind, Away}
+use Rattle.sd_types.specs.declared.events.PrioAnswer.{PrioAnswer}
+use Rattle.sd_types.specs.declared.events.PrioAnswer.TheVariants.{Changed, Refused}
+use Rattle.sd_types.specs.declared.events.Put.{Put}
+use Rattle.sd_types.specs.declared.events.Put.TheVariants.{Cpu, RealTime as OnRealTime}
+use Rattle.sd_types.specs.declared.scripts.Op.{Op}
+use Rattle.sd_types.specs.declared.scripts.Op.TheVariants as op
+use Rattle.sd_types.specs.declared.scripts.Request.{Request}
+use Rattle.sd_types.specs.declared.works.Work.{Work}
+use Rattle.sd_types.specs.Works.{op_names, request_fits, bound_fits}
+use Rattle.sd_types.specs.Priorities.{eff_as}
+use Rattle.sd_full.specs.declared.plans.Requeue.{Requeue}
+use Rattle.sd_full.specs.declared.plans.Requeue.TheVariants.{Stays, Behind, Anew}
+use Rattle.sd_machine.specs.declared.states.Place.{Place}
+use Rattle.sd_machine.specs.declared.states.Place.TheVariants.{Running, Queued, RealTime, Waiting, Asleep, Napping, Ended}
+use Rattle.sd_machine.specs.declared.states.LockState.TheVariants.{Owned}
+use Rattle.sd_machine.specs.declared.states.State.{State}
+use Rattle.sd_machine.specs.States.{thread_of, cpu_of, is_running, is_queued, is_real_time, is_ready}
+use Rattle.sd_machine.specs.Operations.{op_of}
+use Rattle.sd_full.specs.Shapes.{FitsFully}
+use Rattle.sd_full.specs.Changes.{back_key}
+use Rattle.sd_full.specs.Threads.{lock_of, eff_of, runner, next_to_age, is_ts, is_asleep, is_asleep_below, is_due, is_waiting_at, has_ended}
+use Rattle.sd_full.specs.Bodies.{aged_class}
+use Rattle.sd_full.specs.Prioritising.{is_privileged, uid_of}
+use Rattle.sd_full.specs.Requeueing.{requeue, requeue_at}
+use Rattle.sd_full.specs.SetChanges.{bound_put, unbound_put, bind_put, bind_to, is_misbound, is_closing}
+use Rattle.sd_sound.specs.Causes.{Acts, WakesBest, RousesBest, IsRequeuedAt, IsAnswered, IsCause}
+use Rattle.sd_sound.specs.Holding.{lock_state, Agreed}
+use Rattle.sd_sound.specs.Moves.{Step, put_step, put_step_if, woken_step, reordered_step, aged_step, prio_step, bind_step, step_of}
+use Rattle.sd_sound.specs.Moves.Step.{Stay, Go}
+use Rattle.sd_sound.proofs.Found.{runner_found, ready_found, queued_found, unbound_found, waiter_found, sleeper_found, sleeper_below_found, due_found, age_found}
+use Rattle.sd_sound.proofs.PlaceTable.{Stepped, IsMoverThere}
+use Rattle.sd_sound.proofs.ScriptLemmas.{is_waiter, runs_no_waiter}
+use Rattle.sd_sound.proofs.Works.{declared, op_named, first_of_two}
+use Rattle.sd_chains.proofs.Moves.{put_cases}
+
+use Rattle.sd_full.specs.Changes.{place_put}
+use Rattle.sd_full.specs.Events.{after}
+use Rattle.sd_sound.specs.Laws.{woken_by, is_runnable}
+use Rattle.sd_sound.proofs.PlaceTable.{after_steps, step_needs}
+use Rattle.sd_sound.proofs.Movers.{mover_there}
+use Rattle.sd_sound.proofs.AgreedAfter.{IsReady}
+
+put_runnable : (w : Work) (n t : ℕ) (at : Put) → is_runnable (place_put w n t at) ≡ true
+put_runnable w n t (Cpu d) = refl
+put_runnable w n t (OnRealTime d) = refl
+
+put_woken : (w : Work) (s r : State) (n t u : ℕ) (at : Put) → Stepped (put_step w n t at) s r → Some t ≡ Some u → is_runnable (thread_of r u).place ≡ true
+put_woken w s r n t u at a is = let same : t ≡ u = same_Some t u is in subst (λ v. is_runnable (thread_of r v).place ≡ true) same (ap is_runnable a.at ∙ put_runnable w n t at)
+
+woken_at : (w : Work) (s r : State) (n : ℕ) (c : CpuId) (e : Event) (u : ℕ) → Stepped (step_of w s n c e) s r → woken_by e ≡ Some u → is_runnable (thread_of r u).place ≡ true
+woken_at w s r n c (Napend t at) u a is = put_woken w s r n t.0 u at a is
+woken_at w s r n c (Unblock l v at) u a is = put_woken w s r n v.0 u at a is
+woken_at w s r n c (Grant l v at) u a is = put_woken w s r n v.0 u at a is
+woken_at w s r n c (SemaVWake t k v at) u a is = put_woken w s r n v.0 u at a is
+woken_at w s r n c (Wake t k (Some v)) u a is = put_woken w s r n v.0.0 u v.1 a is
+woken_at w s r n c (Rouse k (Some v)) u a is = put_woken w s r n v.0.0 u v.1 a is
+woken_at w s r n c (Wake t k None) u a is = cc
+woken_at w s r n c (Rouse k None) u a is = cc
+woken_at w s r n c (Tick t) u a is = cc
+woken_at w s r n c (Spin t l) u a is = cc
+woken_at w s r n c Idle u a is = cc
+woken_at w s r n c (Dispatch t p) u a is = cc
+woken_at w s r n c (Steal v t p) u a is = cc
+woken_at w s r n c (Preempt t end) u a is = cc
+woken_at w s r n c (Away t d) u a is = cc
+woken_at w s r n c (Yield t) u a is = cc
+woken_at w s r n c (Done t) u a is = cc
+woken_at w s r n c (Nap t) u a is = cc
+woken_at w s r n c (Sleep t k) u a is = cc
+woken_at w s r n c (Wakeall t k) u a is = cc
+woken_at w s r n c (Enter t l) u a is = cc
+woken_at w s r n c (Read t l) u a is = cc
+woken_at w s r n c (Write t l) u a is = cc
+woken_at w s r n c (Block t l) u a is = cc
+woken_at w s r n c (Will l o p at) u a is = cc
+woken_at w s r n c (WalkEnd l) u a is = cc
+woken_at w s r n c (Exit t l) u a is = cc
+woken_at w s r n c (Passed l) u a is = cc
+woken_at w s r n c (Age t p) u a is = cc
+woken_at w s r n c (Prio t v answer) u a is = cc
+woken_at w s r n c (CvWait t k l) u a is = cc
+woken_at w s r n c (SemaP t k) u a is = cc
+woken_at w s r n c (SemaWait t k) u a is = cc
+woken_at w s r n c (SemaVCount t k m) u a is = cc
+woken_at w s r n c (Assign t d to answer) u a is = cc
+woken_at w s r n c (Move t at) u a is = cc
+woken_at w s r n c (Joined to) u a is = cc
+woken_at w s r n c (Bind t v d answer) u a is = cc
+
+pub woken_after : (w : Work) (s : State) (n : ℕ) (c : CpuId) (e : Event) (u : ℕ) → IsReady w s → IsCause w s c.0 e → woken_by e ≡ Some u → is_runnable (thread_of (after w s n c e) u).place ≡ true
+woken_after w s n c e u ready cause is =
+    woken_at w s (after w s n c e) n c e u (after_steps w s n c e (step_needs w s c.0 e cause) (mover_there w s n c e ready.fits ready.agreed cause)) is

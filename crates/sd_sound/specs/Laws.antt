@@ -1,0 +1,52 @@
+-- What the laws of the whole machine say.
+use Rattle.std.specs.Prelude.{◌≡◌, ℕ, ◌≤◌, Bool, true, false, Option, Some, None}
+use Rattle.sd_types.specs.declared.numbers.CpuId.{CpuId}
+use Rattle.sd_types.specs.declared.events.Event.{Event}
+use Rattle.sd_types.specs.declared.events.Event.TheVariants.{Napend, Wake, Rouse, Unblock, Grant, SemaVWake}
+use Rattle.sd_types.specs.declared.events.Hints.{Hints}
+use Rattle.sd_types.specs.declared.works.Work.{Work}
+use Rattle.sd_machine.specs.declared.states.Place.{Place}
+use Rattle.sd_machine.specs.declared.states.Place.TheVariants.{Queued, RealTime}
+use Rattle.sd_machine.specs.declared.states.State.{State}
+use Rattle.sd_machine.specs.States.{thread_of, cpu_of}
+use Rattle.sd_full.specs.Events.{next, after}
+use Rattle.sd_full.specs.Runs.{IsReached}
+use Rattle.sd_sound.specs.Causes.{IsCause}
+
+-- in every state to which a run leads
+abbrev pub HoldsWhenReached : (Work → State → Type 0) → Type 0
+HoldsWhenReached P = (w : Work) (n : ℕ) (s : State) → IsReached w n s → P w s
+
+-- the same of what speaks of the number of entries
+abbrev pub HoldsAfterEntries : (Work → ℕ → State → Type 0) → Type 0
+HoldsAfterEntries P = (w : Work) (n : ℕ) (s : State) → IsReached w n s → P w n s
+
+-- what a processor may make in such a state has its cause there
+abbrev pub EventsHaveCauses : Type 0
+EventsHaveCauses = (w : Work) (n : ℕ) (s : State) (c : CpuId) (hints : Option Hints) (e : Event) → IsReached w n s → next w s c hints ≡ Some e → IsCause w s c.0 e
+
+-- no processor has counted more ticks than the limit
+abbrev pub CountsWithin : Work → State → Type 0
+CountsWithin w s = (c : ℕ) → (cpu_of s c).count ≤ w.limit
+
+-- the thread that an event wakes: after a nap, a sleep or a wait for a lock
+abbrev pub woken_by : Event → Option ℕ
+woken_by (Napend t at) = Some t.0
+woken_by (Wake t k (Some u)) = Some u.0.0
+woken_by (Rouse k (Some u)) = Some u.0.0
+woken_by (Unblock l u at) = Some u.0
+woken_by (Grant l u at) = Some u.0
+woken_by (SemaVWake t k u at) = Some u.0
+woken_by _ = None
+
+-- on a processor's queue, or on the real-time queue of a partition
+abbrev pub is_runnable : Place → Bool
+is_runnable (Queued c k) = true
+is_runnable (RealTime p k) = true
+is_runnable _ = false
+
+-- an event that wakes a thread leaves it on a dispatch queue
+abbrev pub WokenAreRunnable : Type 0
+WokenAreRunnable =
+    (w : Work) (n : ℕ) (s : State) (c : CpuId) (hints : Option Hints) (e : Event) (u : ℕ) → IsReached w n s → next w s c hints ≡ Some e → woken_by e ≡ Some u
+    → is_runnable (thread_of (after w s n c e) u).place ≡ true
