@@ -1,10 +1,10 @@
 -- Bits of words.
-use Rattle.std.proofs.Common.{◌≡◌, ◌≢◌, ℕ, ◌+◌, ◌-◌, ◌*◌, ◌/◌, ◌%◌, ◌^◌, ◌<◌, ◌≤◌, ◌⊎◌, List, length, get_or, set, bit_and, bit_or, sym, ap, ◌∙◌, arith, inl, inr, w64}
+use Rattle.std.proofs.Common.{◌≡◌, ◌≢◌, ℕ, ◌+◌, ◌-◌, ◌*◌, ◌/◌, ◌%◌, ◌^◌, ◌<◌, ◌≤◌, ◌⊎◌, List, length, get_or, set, bit_and, bit_or, min, sym, ap, ◌∙◌, subst, arith, inl, inr, w64}
 use Rattle.std.specs.Int.{bit_at, trailing_zeros}
 use Rattle.std.proofs.lemmas.List.{get_or-set_same, get_or-set_other, get_or_past}
-use Rattle.std.proofs.lemmas.Nat.Bits.{bit_at_set_same, bit_at_set_other, bit_at_clear_same, bit_at_clear_other, bit_at-trailing_zeros, bit_at-zero}
+use Rattle.std.proofs.lemmas.Nat.Bits.{bit_at_set_same, bit_at_set_other, bit_at_clear_same, bit_at_clear_other, bit_at-trailing_zeros, bit_at-zero, bit_at_and, bit_at-lt, bit_at_mask_inside, bit_at_mask_below, ones_shl}
 use Rattle.std.proofs.lemmas.Bool.{cases_eq}
-use Rattle.sd_dispq.specs.Bitmap.{bit_of, HasBit, IsFirstSet}
+use Rattle.sd_dispq.specs.Bitmap.{bit_of, HasBit, IsNextSet}
 
 others : (v : List ℕ) (p x i : ℕ) → p / 64 < length v
     → ((j : ℕ) → j < 64 → j ≢ p % 64 → bit_at x j ≡ bit_at (get_or v (p / 64) 0) j)
@@ -34,48 +34,77 @@ HasBit-clear v p h l =
     made v p _ 0 (omega arith) (bit_at_clear_same w64 (get_or v (p / 64) 0) (p % 64) (omega arith))
     (λ j b n. bit_at_clear_other w64 (get_or v (p / 64) 0) (p % 64) (omega arith) j b n)
 
--- the words before k are 0
-abbrev pub AreZero : List ℕ → ℕ → Type 0
-AreZero v k = (i : ℕ) → i < k → get_or v i 0 ≡ 0
-
-zero_at : (v : List ℕ) (k i : ℕ) → AreZero v k → i / 64 < k → bit_of v i ≡ 0
-zero_at v k i z h = ap (λ w. bit_at w (i % 64)) (z (i / 64) h) ∙ bit_at-zero (i % 64)
-
 past_or_in : (a b : ℕ) → (a < b) ⊎ (b ≤ a)
 past_or_in a b = grind arith
-
-none_at : (v : List ℕ) (p : ℕ) → length v ≡ 3 → AreZero v 3 → (p / 64 < 3) ⊎ (3 ≤ p / 64) → bit_of v p ≡ 0
-none_at v p l z (inl h) = zero_at v 3 p z h
-none_at v p l z (inr h) = ap (λ w. bit_at w (p % 64)) (get_or_past v (p / 64) 0 (omega arith)) ∙ bit_at-zero (p % 64)
-
-pub none_set : (v : List ℕ) → length v ≡ 3 → AreZero v 3 → (p : ℕ) → bit_of v p ≡ 0
-none_set v l z p = none_at v p l z (past_or_in (p / 64) 3)
 
 bit_in : (v : List ℕ) (k i : ℕ) → i / 64 ≡ k → bit_of v i ≡ bit_at (get_or v k 0) (i % 64)
 bit_in v k i e = ap (λ j. bit_at (get_or v j 0) (i % 64)) e
 
-before : (v : List ℕ) (k t i : ℕ) → t < 64 → AreZero v k → ((j : ℕ) → j < t → bit_at (get_or v k 0) j ≡ 0)
-    → i < 64 * k + t → (i / 64 < k) ⊎ (k ≤ i / 64) → bit_of v i ≡ 0
-before v k t i h z below b (inl less) = zero_at v k i z less
-before v k t i h z below b (inr more) = let e : i / 64 ≡ k = omega arith in bit_in v k i e ∙ below (i % 64) (omega arith)
+-- ---- a word without its low bits
+pub word_bit : (v : List ℕ) (k i : ℕ) → i < 64 → bit_at (get_or v k 0) i ≡ bit_of v (64 * k + i)
+word_bit v k i h =
+    let q : (64 * k + i) / 64 ≡ k = omega arith in
+    let r : (64 * k + i) % 64 ≡ i = omega arith in
+    sym (bit_in v k (64 * k + i) q ∙ ap (bit_at (get_or v k 0)) r)
 
-at_place : (v : List ℕ) (k t : ℕ) → t < 64 → bit_at (get_or v k 0) t ≡ 1 → bit_of v (64 * k + t) ≡ 1
-at_place v k t h e =
-    let q : (64 * k + t) / 64 ≡ k = omega arith in
-    let r : (64 * k + t) % 64 ≡ t = omega arith in
-    bit_in v k (64 * k + t) q ∙ ap (bit_at (get_or v k 0)) r ∙ e
+min_one : (a : ℕ) → a < 2 → min a 1 ≡ a
+min_one a h = omega arith
 
-pub first_set : (v : List ℕ) (k : ℕ) → k < 3 → AreZero v k → get_or v k 0 ≢ 0 → get_or v k 0 < 2 ^ 64
-    → IsFirstSet v (64 * k + trailing_zeros w64 (get_or v k 0))
-first_set v k h z n f =
-    let t = trailing_zeros w64 (get_or v k 0) in
-    let low = bit_at-trailing_zeros w64 (get_or v k 0) (omega arith) f in
+min_zero : (a : ℕ) → min a 0 ≡ 0
+min_zero a = omega arith
+
+pub masked_kept : (w k i : ℕ) → k < 64 → k ≤ i → i < 64 → bit_at (bit_and w ((2 ^ 64 - 1) * 2 ^ k % 2 ^ 64)) i ≡ bit_at w i
+masked_kept w k i h b f =
+    ap (λ m. bit_at (bit_and w m) i) (ones_shl 64 k (omega arith)) ∙ bit_at_and w (2 ^ 64 - 2 ^ k) i
+    ∙ ap (min (bit_at w i)) (bit_at_mask_inside k 64 i b f) ∙ min_one (bit_at w i) (bit_at-lt w i)
+
+pub masked_cleared : (w k i : ℕ) → k < 64 → i < k → bit_at (bit_and w ((2 ^ 64 - 1) * 2 ^ k % 2 ^ 64)) i ≡ 0
+masked_cleared w k i h b =
+    ap (λ m. bit_at (bit_and w m) i) (ones_shl 64 k (omega arith)) ∙ bit_at_and w (2 ^ 64 - 2 ^ k) i
+    ∙ ap (min (bit_at w i)) (bit_at_mask_below k 64 i b) ∙ min_zero (bit_at w i)
+
+-- ---- the next bit that is set
+-- no bit is set from m on in the words before k
+abbrev pub AreZero : List ℕ → ℕ → ℕ → Type 0
+AreZero v m k = (i : ℕ) → m ≤ i → i < 64 * k → bit_of v i ≡ 0
+
+pub AreZero-start : (v : List ℕ) (m : ℕ) → AreZero v m (m / 64)
+AreZero-start v m i h b = absurd (omega arith)
+
+-- w is word k without its bits before m
+pub record IsFrom (v : List ℕ) (m k w : ℕ) : Type 0 where
+  pub kept : (i : ℕ) → i < 64 → m ≤ 64 * k + i → bit_at w i ≡ bit_of v (64 * k + i)
+  pub cleared : (i : ℕ) → i < 64 → 64 * k + i < m → bit_at w i ≡ 0
+
+pub AreZero-more : (v : List ℕ) (m k w : ℕ) → IsFrom v m k w → w ≡ 0 → AreZero v m k → AreZero v m (k + 1)
+AreZero-more v m k w f e z i h b = by (past_or_in i (64 * k))
+  where
+    by : (i < 64 * k) ⊎ (64 * k ≤ i) → bit_of v i ≡ 0
+    by (inl less) = z i h less
+    by (inr more) =
+        let same : 64 * k + i % 64 ≡ i = omega arith in
+        ap (bit_of v) (sym same) ∙ sym (f.kept (i % 64) (omega arith) (omega arith)) ∙ ap (λ x. bit_at x (i % 64)) e ∙ bit_at-zero (i % 64)
+
+pub next_set : (v : List ℕ) (m k w : ℕ) → k < 3 → IsFrom v m k w → AreZero v m k → w ≢ 0 → w < 2 ^ 64 → IsNextSet v m (64 * k + trailing_zeros w64 w)
+next_set v m k w h f z n b =
+    let low = bit_at-trailing_zeros w64 w (omega arith) b in
+    let t = trailing_zeros w64 w in
     let small : t < 64 = low.0 in
-    (omega arith, at_place v k t small low.1, λ i b. before v k t i small z low.2 b (past_or_in (i / 64) k))
+    let reached : m ≤ 64 * k + t = reach t small low.1 (past_or_in (64 * k + t) m) in
+    (reached, omega arith, sym (f.kept t small reached) ∙ low.1, λ i g l. before t small low.2 i g l (past_or_in i (64 * k)))
+  where
+    reach : (t : ℕ) → t < 64 → bit_at w t ≡ 1 → (64 * k + t < m) ⊎ (m ≤ 64 * k + t) → m ≤ 64 * k + t
+    reach t s one (inl less) = let no : 0 ≡ 1 = sym (f.cleared t s less) ∙ one in absurd (omega arith)
+    reach t s one (inr more) = more
+    before : (t : ℕ) → t < 64 → ((j : ℕ) → j < t → bit_at w j ≡ 0) → (i : ℕ) → m ≤ i → i < 64 * k + t → (i < 64 * k) ⊎ (64 * k ≤ i) → bit_of v i ≡ 0
+    before t s below i g l (inl less) = z i g less
+    before t s below i g l (inr more) =
+        let same : 64 * k + i % 64 ≡ i = omega arith in
+        ap (bit_of v) (sym same) ∙ sym (f.kept (i % 64) (omega arith) (omega arith)) ∙ below (i % 64) (omega arith)
 
-at_or_below : (v : List ℕ) (k i : ℕ) → AreZero v k → get_or v k 0 ≡ 0 → (i < k) ⊎ (k ≤ i) → i < k + 1 → get_or v i 0 ≡ 0
-at_or_below v k i z e (inl b) h = z i b
-at_or_below v k i z e (inr b) h = let same : i ≡ k = omega arith in ap (λ j. get_or v j 0) same ∙ e
-
-pub AreZero-more : (v : List ℕ) (k : ℕ) → AreZero v k → get_or v k 0 ≡ 0 → AreZero v (k + 1)
-AreZero-more v k z e i h = at_or_below v k i z e (past_or_in i k) h
+pub none_set : (v : List ℕ) (m k : ℕ) → length v ≡ 3 → 3 ≤ k → AreZero v m k → (i : ℕ) → m ≤ i → bit_of v i ≡ 0
+none_set v m k l h z i g = by (past_or_in (i / 64) 3)
+  where
+    by : (i / 64 < 3) ⊎ (3 ≤ i / 64) → bit_of v i ≡ 0
+    by (inl b) = z i g (omega arith)
+    by (inr b) = ap (λ w. bit_at w (i % 64)) (get_or_past v (i / 64) 0 (omega arith)) ∙ bit_at-zero (i % 64)

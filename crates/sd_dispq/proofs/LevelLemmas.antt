@@ -1,9 +1,9 @@
 -- The levels against the one list that they are.
-use Rattle.std.proofs.Common.{◌≡◌, ℕ, zero, suc, ◌+◌, ◌-◌, ◌<◌, ◌≤◌, Bool, true, false, nat_lt, nat_le, List, [], ◌∷◌, ◌++◌, length, set, drop, max, Some, None, slice_get, refl, sym, ap, ◌∙◌, arith, subst, length-set, ℤ}
+use Rattle.std.proofs.Common.{◌≡◌, ℕ, zero, suc, ◌+◌, ◌-◌, ◌<◌, ◌≤◌, Bool, true, false, nat_lt, nat_le, List, [], ◌∷◌, ◌++◌, length, set, drop, max, Option, Some, None, IfSome, slice_get, drop-cons, refl, sym, ap, ◌∙◌, arith, subst, length-set, ℤ}
 use Rattle.std.proofs.lemmas.Bool.Decides.{nat_tests}
-use Rattle.sd_boxq.specs.Order.{insert_before, insert_ranked, precedes, find_id, drop_id, IsNowhere}
-use Rattle.sd_dispq.specs.Levels.{all_of, level_at, HaveRank, IsLevelled, IsFirstBusy}
-use Rattle.sd_dispq.specs.Places.{put_front, put_back, IsByRank, greatest_rank, raised}
+use Rattle.sd_boxq.specs.Order.{insert_before, insert_ranked, precedes, find_id, drop_id, replace_id, IsAlike, IsNowhere}
+use Rattle.sd_dispq.specs.Levels.{all_of, level_at, HaveRank, IsLevelled, IsNextBusy, AreIdleFrom}
+use Rattle.sd_dispq.specs.Ranks.{put_front, put_back, IsByRank, greatest_rank, raised}
 
 -- ---- a list in two parts
 pub insert-behind : {X : Type 0} (q : X → Bool) (x : X) (l m : List X) → IsNowhere q l → insert_before q x (l ++ m) ≡ l ++ insert_before q x m
@@ -62,7 +62,7 @@ module _ {X : Type 0} (rank : X → ℕ) where
   begins q ([] ∷ ls) s f = begins q ls s.1 (λ y h. f y (omega arith))
   begins q ((y ∷ l) ∷ ls) s f = f y (omega arith)
 
-  -- an item of rank r goes into its level, where a greater rank fails the test and a less rank passes it
+  -- an item of rank r goes into its level, where a greater rank fails the test and a smaller rank passes it
   pub all_of-insert : (q : X → Bool) (x : X) (ls : List (List X)) (p r : ℕ) → IsLevelled rank ls → p + suc r ≡ length ls
       → ((y : X) → r < rank y → q y ≡ false) → ((y : X) → rank y < r → q y ≡ true)
       → all_of (set ls p (insert_before q x (level_at ls p))) ≡ insert_before q x (all_of ls)
@@ -175,13 +175,13 @@ module _ {X : Type 0} (rank : X → ℕ) where
   all_of-empty [] f = refl
   all_of-empty (l ∷ ls) f = let e : l ≡ [] = f 0 in rw e (all_of-empty ls (λ i. f (suc i)))
 
-  pub greatest-busy : (ls : List (List X)) (p r : ℕ) → IsLevelled rank ls → IsFirstBusy ls p → p + suc r ≡ length ls → greatest_rank rank (all_of ls) ≡ Some r
+  pub greatest-busy : (ls : List (List X)) (p r : ℕ) → IsLevelled rank ls → IsNextBusy ls 0 p → p + suc r ≡ length ls → greatest_rank rank (all_of ls) ≡ Some r
   greatest-busy [] p r s f e = absurd (omega arith)
   greatest-busy ([] ∷ ls) zero r s f e = absurd cc
   greatest-busy ((z ∷ l) ∷ ls) zero r s f e = let t = s.0.0 in ap Some (omega arith)
   greatest-busy (l ∷ ls) (suc p) r s f e =
-      let empty : l ≡ [] = f.2 0 (omega arith) in
-      rw empty (greatest-busy ls p r s.1 (omega arith, f.1, λ i h. f.2 (suc i) (omega arith)) (omega arith))
+      let empty : l ≡ [] = f.3 0 (omega arith) (omega arith) in
+      rw empty (greatest-busy ls p r s.1 (omega arith, omega arith, f.2, λ i g h. f.3 (suc i) (omega arith) (omega arith)) (omega arith))
 
   -- ---- the order
   lower : (ls : List (List X)) (n : ℕ) → IsLevelled rank ls → length ls ≤ suc n → IsNowhere (λ y. nat_lt n (rank y)) (all_of ls)
@@ -211,3 +211,109 @@ module _ {X : Type 0} (id : X → ℕ) (n : ℕ) where
   found_nowhere [] f = refl
   found_nowhere (l ∷ ls) f =
       find-behind id n l (all_of ls) (f 0 (omega arith)) ∙ found_nowhere ls (λ i b. f (suc i) (omega arith))
+
+-- ---- from level to level
+module _ {X : Type 0} (ls : List (List X)) where
+  step : (m : ℕ) → m < length ls → all_of (drop m ls) ≡ level_at ls m ++ all_of (drop (suc m) ls)
+  step m h = ap all_of (drop-cons ls m [] h)
+
+  -- the levels up to the next one with an item have none
+  to_next_by : (m k : ℕ) → m + k < length ls → ((j : ℕ) → m ≤ j → j < m + k → level_at ls j ≡ [])
+      → all_of (drop m ls) ≡ level_at ls (m + k) ++ all_of (drop (suc (m + k)) ls)
+  to_next_by m zero h f = let e : m + zero ≡ m = omega arith in rw e (step m (omega arith))
+  to_next_by m (suc k) h f =
+      let e : m + suc k ≡ suc m + k = omega arith in
+      let here : level_at ls m ≡ [] = f m (omega arith) (omega arith) in
+      step m (omega arith) ∙ ap (λ l. l ++ all_of (drop (suc m) ls)) here
+      ∙ rw e (to_next_by (suc m) k (omega arith) (λ j a b. f j (omega arith) (omega arith)))
+
+  pub to_next : (m i : ℕ) → IsNextBusy ls m i → all_of (drop m ls) ≡ level_at ls i ++ all_of (drop (i + 1) ls)
+  to_next m i h =
+      let a = h.0 in
+      let b = h.1 in
+      let e : m + (i - m) ≡ i = omega arith in
+      let d : i + 1 ≡ suc i = omega arith in
+      let all = to_next_by m (i - m) (omega arith) (λ j g l. h.3 j g (omega arith)) in
+      rw d (rw e at all)
+
+pub to_end : {X : Type 0} (ls : List (List X)) (m : ℕ) → AreIdleFrom ls m → all_of (drop m ls) ≡ []
+to_end [] zero f = refl
+to_end [] (suc m) f = refl
+to_end (l ∷ ls) zero f = let here : l ≡ [] = f 0 (omega arith) in rw here (to_end ls zero (λ i h. f (suc i) (omega arith)))
+to_end (l ∷ ls) (suc m) f = to_end ls m (λ i h. f (suc i) (omega arith))
+
+-- ---- what makes room for one alike
+module _ {X : Type 0} (rank : X → ℕ) (key : X → ℤ) (id : X → ℕ) (n : ℕ) (y : X) where
+  replace-within : (x : X) (l m : List X) → find_id id n l ≡ Some x → replace_id id n y (l ++ m) ≡ replace_id id n y l ++ m
+  replace-within x [] m e = absurd cc
+  replace-within x (z ∷ l) m e = grind (arith, replace-within x l m e)
+
+  replace-behind : (l m : List X) → find_id id n l ≡ None → replace_id id n y (l ++ m) ≡ l ++ replace_id id n y m
+  replace-behind [] m e = refl
+  replace-behind (z ∷ l) m e = grind (arith, replace-behind l m)
+
+  replace-absent : (l : List X) → find_id id n l ≡ None → replace_id id n y l ≡ l
+  replace-absent [] e = refl
+  replace-absent (z ∷ l) e = grind (arith, replace-absent l)
+
+  of_level : (r : ℕ) (l : List X) (x : X) → HaveRank rank r l → find_id id n l ≡ Some x → rank x ≡ r
+  of_level r [] x h e = absurd cc
+  of_level r (z ∷ l) x h e = grind (arith, of_level r l x h.1)
+
+  -- an item has a rank below the number of levels
+  pub found_below : (ls : List (List X)) (x : X) → IsLevelled rank ls → find_id id n (all_of ls) ≡ Some x → rank x < length ls
+  found_below [] x s e = absurd cc
+  found_below (l ∷ ls) x s e = by (find_id id n l) refl
+    where
+      by : (o : Option X) → find_id id n l ≡ o → rank x < suc (length ls)
+      by None f = let rest = found_below ls x s.1 (sym (find-behind id n l (all_of ls) f) ∙ e) in omega arith
+      by (Some z) f =
+          let same : z ≡ x = let k : Some z ≡ Some x = sym (find-within id n z l (all_of ls) f) ∙ e in cc in
+          let r = of_level (length ls) l z s.0 f in let t = ap rank same in omega arith
+
+  HaveRank-replace : (r : ℕ) (l : List X) → rank y ≡ r → HaveRank rank r l → HaveRank rank r (replace_id id n y l)
+  HaveRank-replace r [] e h = tt
+  HaveRank-replace r (z ∷ l) e h = grind (arith, HaveRank-replace r l e h.1)
+
+  pub levelled-replace : (ls : List (List X)) (p : ℕ) → IsLevelled rank ls → p + suc (rank y) ≡ length ls
+      → IsLevelled rank (set ls p (replace_id id n y (level_at ls p)))
+  levelled-replace ls p s e = IsLevelled-set rank ls p (rank y) _ s e (HaveRank-replace (rank y) _ refl (HaveRank-at rank ls p (rank y) s e))
+
+  -- one alike stands in the level of its rank, if at all
+  pub alike_there : (ls : List (List X)) (p : ℕ) → IsLevelled rank ls → p + suc (rank y) ≡ length ls
+      → IfSome (find_id id n (all_of ls)) (λ x. rank x ≡ rank y)
+      → (find_id id n (level_at ls p) ≡ find_id id n (all_of ls)) × (all_of (set ls p (replace_id id n y (level_at ls p))) ≡ replace_id id n y (all_of ls))
+  alike_there [] p s e a = absurd (omega arith)
+  alike_there (l ∷ ls) zero s e a = by (find_id id n l) refl
+    where
+      gone : (o : Option X) → find_id id n (all_of ls) ≡ o → IfSome o (λ x. rank x ≡ rank y) → find_id id n (all_of ls) ≡ None
+      gone None f b = f
+      gone (Some x) f b = let low = found_below ls x s.1 f in absurd (omega arith)
+      by : (o : Option X) → find_id id n l ≡ o
+          → (find_id id n l ≡ find_id id n (l ++ all_of ls)) × (replace_id id n y l ++ all_of ls ≡ replace_id id n y (l ++ all_of ls))
+      by (Some x) f = (f ∙ sym (find-within id n x l (all_of ls) f), sym (replace-within x l (all_of ls) f))
+      by None f =
+          let behind = find-behind id n l (all_of ls) f in
+          let none = gone (find_id id n (all_of ls)) refl (subst (λ o. IfSome o (λ x. rank x ≡ rank y)) behind a) in
+          (f ∙ sym (behind ∙ none), ap (λ m. m ++ all_of ls) (replace-absent l f) ∙ sym (replace-behind l (all_of ls) f ∙ ap (λ m. l ++ m) (replace-absent (all_of ls) none)))
+  alike_there (l ∷ ls) (suc p) s e a = by (find_id id n l) refl
+    where
+      by : (o : Option X) → find_id id n l ≡ o
+          → (find_id id n (level_at ls p) ≡ find_id id n (l ++ all_of ls))
+          × (l ++ all_of (set ls p (replace_id id n y (level_at ls p))) ≡ replace_id id n y (l ++ all_of ls))
+      by (Some x) f =
+          let r = of_level (length ls) l x s.0 f in
+          let b : rank x ≡ rank y = subst (λ o. IfSome o (λ x. rank x ≡ rank y)) (find-within id n x l (all_of ls) f) a in
+          absurd (omega arith)
+      by None f =
+          let behind = find-behind id n l (all_of ls) f in
+          let rest = alike_there ls p s.1 (omega arith) (subst (λ o. IfSome o (λ x. rank x ≡ rank y)) behind a) in
+          (rest.0 ∙ sym behind, ap (λ m. l ++ m) rest.1 ∙ sym (replace-behind l (all_of ls) f))
+
+  pub greatest-replace : (xs : List X) → IfSome (find_id id n xs) (λ x. rank x ≡ rank y) → greatest_rank rank (replace_id id n y xs) ≡ greatest_rank rank xs
+  greatest-replace [] a = refl
+  greatest-replace (x ∷ xs) a = grind arith
+
+  pub alike_rank : (o : Option X) → IfSome o (λ x. IsAlike rank key id x y) → IfSome o (λ x. rank x ≡ rank y)
+  alike_rank None a = tt
+  alike_rank (Some x) a = a.0

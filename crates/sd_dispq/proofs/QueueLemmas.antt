@@ -1,9 +1,10 @@
 -- What each call makes of the levels and the greatest rank.
-use Rattle.std.proofs.Common.{◌≡◌, ℕ, zero, suc, ◌+◌, ◌<◌, List, [], ◌∷◌, ◌++◌, length, set, drop, Option, Some, None, slice_get, refl, sym, ap, ◌∙◌, arith, subst, length-set, ℤ, is_some, true, add-one, drop-cons}
-use Rattle.sd_boxq.specs.Order.{insert_ranked, find_id, drop_id}
-use Rattle.sd_dispq.specs.Levels.{all_of, level_at, IsLevelled, IsHolder}
-use Rattle.sd_dispq.specs.Places.{put_front, put_back, greatest_rank, raised}
-use Rattle.sd_dispq.proofs.LevelLemmas.{all_of-front, all_of-back, all_of-ranked, levelled-front, levelled-back, levelled-ranked, levelled-drop, levelled-drop_id, greatest-front, greatest-back, greatest-ranked, first_there, found_there}
+use Rattle.std.proofs.Common.{◌≡◌, ℕ, zero, suc, ◌+◌, ◌<◌, List, [], ◌∷◌, ◌++◌, length, set, drop, Option, Some, None, slice_get, refl, sym, ap, ◌∙◌, arith, subst, length-set, ℤ, is_some, true, ◌≤◌, ◌≢◌, ◌⊎◌, inl, inr, IfSome}
+use Rattle.sd_boxq.specs.Order.{insert_ranked, find_id, drop_id, replace_id, IsAlike}
+use Rattle.std.proofs.lemmas.Bool.{cases_eq}
+use Rattle.sd_dispq.specs.Levels.{all_of, level_at, IsLevelled, IsHolder, IsNextBusy, AreIdleFrom}
+use Rattle.sd_dispq.specs.Ranks.{put_front, put_back, greatest_rank, raised}
+use Rattle.sd_dispq.proofs.LevelLemmas.{all_of-front, all_of-back, all_of-ranked, levelled-front, levelled-back, levelled-ranked, levelled-drop, greatest-front, greatest-back, greatest-ranked, first_there, found_there, found_nowhere, find-within, find-behind, to_next, levelled-replace, alike_there, alike_rank, greatest-replace}
 
 module _ {X : Type 0} (rank : X → ℕ) where
   abbrev pub Sound : List (List X) → Option ℕ → Type 0
@@ -75,10 +76,24 @@ module _ {X : Type 0} (rank : X → ℕ) where
   levelled_without ls new p r n s h e =
       (ap length e ∙ length-set ls p _ ∙ n, subst (IsLevelled rank) (sym e) (levelled-drop rank ls p s (omega arith)))
 
-  pub levelled_without_id : (id : X → ℕ) (n : ℕ) (ls new : List (List X)) (p : ℕ) → length ls ≡ 160 → IsLevelled rank ls → p < length ls
-      → new ≡ set ls p (drop_id id n (level_at ls p)) → (length new ≡ 160) × (IsLevelled rank new)
-  levelled_without_id id n ls new p k s h e =
-      (ap length e ∙ length-set ls p _ ∙ k, subst (IsLevelled rank) (sym e) (levelled-drop_id rank id n ls p s h))
+  -- an item makes room for one alike
+  pub replaced : (key : X → ℤ) (id : X → ℕ) (n : ℕ) (y : X) (ls new : List (List X)) (o : Option ℕ) (p r : ℕ) → Sound ls o → r ≡ rank y → p + r + 1 ≡ 160
+      → IfSome (find_id id n (all_of ls)) (λ x. IsAlike rank key id x y) → new ≡ set ls p (replace_id id n y (level_at ls p))
+      → Sound new o × (find_id id n (level_at ls p) ≡ find_id id n (all_of ls)) × (all_of new ≡ replace_id id n y (all_of ls))
+  replaced key id n y ls new o p r s e h a t =
+      let at = there ls p r y s.0 e h in
+      let alike = alike_rank rank key id n y (find_id id n (all_of ls)) a in
+      let both = alike_there rank key id n y ls p s.1 at alike in
+      let all : all_of new ≡ replace_id id n y (all_of ls) = ap all_of t ∙ both.1 in
+      (
+        (
+          ap length t ∙ length-set ls p _ ∙ s.0,
+          subst (IsLevelled rank) (sym t) (levelled-replace rank key id n y ls p s.1 at),
+          s.2 ∙ sym (ap (greatest_rank rank) all ∙ greatest-replace rank key id n y (all_of ls) alike),
+        ),
+        both.0,
+        all,
+      )
 
 module _ {X : Type 0} (id : X → ℕ) (n : ℕ) (ls : List (List X)) (p : ℕ) where
   by_find : (o : Option X) → find_id id n (level_at ls p) ≡ o → IsHolder id n ls p
@@ -102,14 +117,42 @@ get-behind [] m i k e = ap (slice_get m) (omega arith)
 get-behind (y ∷ l) m zero k e = absurd (omega arith)
 get-behind (y ∷ l) m (suc i) k e = get-behind l m i k (omega arith)
 
-module _ {X : Type 0} (ls : List (List X)) (k : ℕ) (h : k < length ls) where
-  next : all_of (drop k ls) ≡ level_at ls k ++ all_of (drop (suc k) ls)
-  next = ap all_of (drop-cons ls k [] h)
+module _ {X : Type 0} (ls : List (List X)) (m i : ℕ) (h : IsNextBusy ls m i) where
+  pub seek_here : (left : ℕ) (x : X) → slice_get (level_at ls i) left ≡ Some x → slice_get (all_of (drop m ls)) left ≡ Some x
+  seek_here left x e = ap (λ xs. slice_get xs left) (to_next ls m i h) ∙ get-within (level_at ls i) (all_of (drop (i + 1) ls)) left x e
 
-  pub seek_here : (left : ℕ) (x : X) → slice_get (level_at ls k) left ≡ Some x → slice_get (all_of (drop k ls)) left ≡ Some x
-  seek_here left x e = ap (λ xs. slice_get xs left) next ∙ get-within (level_at ls k) (all_of (drop (suc k) ls)) left x e
-
-  pub seek_past : (left rest : ℕ) → left ≡ length (level_at ls k) + rest → slice_get (all_of (drop (k + 1) ls)) rest ≡ slice_get (all_of (drop k ls)) left
+  pub seek_past : (left rest : ℕ) → left ≡ length (level_at ls i) + rest → slice_get (all_of (drop (i + 1) ls)) rest ≡ slice_get (all_of (drop m ls)) left
   seek_past left rest e =
-      ap (λ j. slice_get (all_of (drop j ls)) rest) (add-one k)
-      ∙ sym (ap (λ xs. slice_get xs left) next ∙ get-behind (level_at ls k) (all_of (drop (suc k) ls)) left rest e)
+      sym (ap (λ xs. slice_get xs left) (to_next ls m i h) ∙ get-behind (level_at ls i) (all_of (drop (i + 1) ls)) left rest e)
+
+-- ---- by id, from level to level
+module _ {X : Type 0} (id : X → ℕ) (n : ℕ) (ls : List (List X)) where
+  pub found_here : (m i : ℕ) (x : X) → IsNextBusy ls m i → find_id id n (level_at ls i) ≡ Some x → find_id id n (all_of (drop m ls)) ≡ Some x
+  found_here m i x h e = ap (find_id id n) (to_next ls m i h) ∙ find-within id n x (level_at ls i) (all_of (drop (i + 1) ls)) e
+
+  pub found_past : (m i : ℕ) → IsNextBusy ls m i → find_id id n (level_at ls i) ≡ None → find_id id n (all_of (drop (i + 1) ls)) ≡ find_id id n (all_of (drop m ls))
+  found_past m i h e = sym (ap (find_id id n) (to_next ls m i h) ∙ find-behind id n (level_at ls i) (all_of (drop (i + 1) ls)) e)
+
+  -- no level before m has the id
+  abbrev pub AreWithout : ℕ → Type 0
+  AreWithout m = (j : ℕ) → j < m → find_id id n (level_at ls j) ≡ None
+
+  without_more : (m i j : ℕ) → AreWithout m → ((k : ℕ) → m ≤ k → k < i → level_at ls k ≡ []) → j < i → (j < m) ⊎ (m ≤ j) → find_id id n (level_at ls j) ≡ None
+  without_more m i j w e h (inl less) = w j less
+  without_more m i j w e h (inr more) = ap (find_id id n) (e j more h)
+
+  pub without_to : (m i : ℕ) → AreWithout m → IsNextBusy ls m i → AreWithout i
+  without_to m i w h j b = without_more m i j w h.3 b (grind arith)
+
+  pub without_past : (m i : ℕ) → AreWithout m → IsNextBusy ls m i → find_id id n (level_at ls i) ≡ None → AreWithout (i + 1)
+  without_past m i w h e j b = by (cases_eq j i)
+    where
+      by : (j ≡ i) ⊎ (j ≢ i) → find_id id n (level_at ls j) ≡ None
+      by (inl same) = ap (λ k. find_id id n (level_at ls k)) same ∙ e
+      by (inr other) = without_to m i w h j (omega arith)
+
+  pub without_all : (m : ℕ) → AreWithout m → AreIdleFrom ls m → find_id id n (all_of ls) ≡ None
+  without_all m w h = found_nowhere id n ls (λ i b. without_more m (length ls) i w (λ k g l. h k g) b (grind arith))
+
+  pub holder_here : (m i : ℕ) (x : X) → AreWithout m → IsNextBusy ls m i → find_id id n (level_at ls i) ≡ Some x → IsHolder id n ls i
+  holder_here m i x w h e = (h.1, ap is_some e, without_to m i w h)

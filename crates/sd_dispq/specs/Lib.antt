@@ -1,3 +1,4 @@
 pub mod Bitmap
 pub mod Levels
-pub mod Places
+pub mod Ranks
+pub mod Laws

@@ -1,6 +1,7 @@
-//! A bitmap of three words, whose first set bit is found without a scan of bits.
-ghost use Rattle.std.specs.Prelude.{◌≡◌, ◌<◌, ℕ, MatchOption};
-ghost use Rattle.sd_dispq.specs.Bitmap.{bit_of, HasBit, IsFirstSet};
+//! A bitmap of three words, whose next set bit is found without a scan of bits.
+ghost use Rattle.std.specs.Prelude.{◌≡◌, ◌<◌, ◌≤◌, ◌+◌, ◌*◌, ◌/◌, ℕ, MatchOption};
+ghost use Rattle.std.specs.Int.{bit_at};
+ghost use Rattle.sd_dispq.specs.Bitmap.{bit_of, HasBit, IsNextSet};
 
 /// 192 bits, 64 to a word.
 #[derive(Drop)]
@@ -16,30 +17,45 @@ impl Bitmap {
         Bitmap { words: [0; 3] }
     }
 
-    /// Sets the bit at this place.
-    pub(crate) fn set(&mut self, place: usize)
-        requires { place < 192 }
-        ensures { HasBit self.old.words place 1 self.new.words }
+    /// Sets the bit at this index.
+    pub(crate) fn set(&mut self, index: usize)
+        requires { index < 192 }
+        ensures { HasBit self.old.words index 1 self.new.words }
     {
-        self.words[place / 64] |= 1 << (place % 64);
+        self.words[index / 64] |= 1 << (index % 64);
     }
 
-    /// Clears the bit at this place.
-    pub(crate) fn clear(&mut self, place: usize)
-        requires { place < 192 }
-        ensures { HasBit self.old.words place 0 self.new.words }
+    /// Clears the bit at this index.
+    pub(crate) fn clear(&mut self, index: usize)
+        requires { index < 192 }
+        ensures { HasBit self.old.words index 0 self.new.words }
     {
-        self.words[place / 64] &= !(1 << (place % 64));
+        self.words[index / 64] &= !(1 << (index % 64));
     }
 
-    /// The place of the first bit that is set.
-    pub(crate) fn first_set(&self) -> Option<usize>
-        ensures { MatchOption result ((p : ℕ) → bit_of self.now.words p ≡ 0) (IsFirstSet self.now.words) }
+    // The word with this number, without its bits before `from`.
+    fn word_from(&self, number: usize, from: usize) -> u64
+        requires within { number < 3 }
+        requires reached { from / 64 ≤ number }
+        ensures kept { (i : ℕ) → i < 64 → from ≤ 64 * number + i → bit_at result i ≡ bit_of self.now.words (64 * number + i) }
+        ensures cleared { (i : ℕ) → i < 64 → 64 * number + i < from → bit_at result i ≡ 0 }
     {
-        for index in 0..3 {
-            let word = self.words[index];
+        let word = self.words[number];
+        if number == from / 64 {
+            word & (u64::MAX << (from % 64))
+        } else {
+            word
+        }
+    }
+
+    /// The index of the first bit that is set, of those from `from` on.
+    pub(crate) fn next_set(&self, from: usize) -> Option<usize>
+        ensures { MatchOption result ((i : ℕ) → from ≤ i → bit_of self.now.words i ≡ 0) (IsNextSet self.now.words from) }
+    {
+        for number in from / 64..3 {
+            let word = self.word_from(number, from);
             if word != 0 {
-                return Some(64 * index + word.trailing_zeros() as usize);
+                return Some(64 * number + word.trailing_zeros() as usize);
             }
         }
         None

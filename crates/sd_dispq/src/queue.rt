@@ -1,17 +1,18 @@
-//! The dispatch queue: a list in order of rank and then place, kept in levels.
-ghost use Rattle.std.specs.Prelude.{◌≡◌, ◌+◌, ◌<◌, ◌^◌, ℕ, [], ◌∷◌, length, slice_get, IfOk, MatchOption};
+//! The dispatch queue: a list in order of rank, kept in levels.
+ghost use Rattle.std.specs.Prelude.{◌≡◌, ◌+◌, ◌<◌, ◌^◌, [], ◌∷◌, length, slice_get, IfOk, IfSome, MatchOption, true};
 ghost use Rattle.std.specs.Option.{option_copied};
-ghost use Rattle.sd_boxq.specs.Order.{insert_ranked, find_id, drop_id};
-ghost use Rattle.sd_dispq.specs.Levels.{all_of, level_at, IsLevelled, IsHolder};
-ghost use Rattle.sd_dispq.specs.Places.{put_front, put_back, IsByRank, greatest_rank, raised};
+ghost use Rattle.sd_boxq.specs.Order.{precedes, insert_ranked, find_id, drop_id, replace_id, IsAlike, IsBest, IsRanked};
+ghost use Rattle.sd_dispq.specs.Levels.{all_of, IsLevelled};
+ghost use Rattle.sd_dispq.specs.Ranks.{put_front, put_back, IsByRank, greatest_rank, raised};
 
+use crate::items::Items;
 use crate::levels::{LEVELS, Levels};
 use sd_boxq::{Node, Ranked};
 use std::alloc::{AllocError, Global};
 use std::marker::Model;
 
 /// A dispatch queue of 160 ranks, which contracts see as the list of its items: the greatest rank
-/// first, and of one rank by place (Solaris Internals, dispatch queues).
+/// first, and of one rank as they were put (Solaris Internals, dispatch queues).
 ///
 /// A bit is set exactly where a level is not empty, and the maximum is the rank of the first such level,
 /// so the best and the greatest rank are found without a scan of levels.
@@ -25,7 +26,7 @@ impl<T: Ranked> Model for DispQueue<T> {
     ghost use Rattle.std.specs.Prelude.{◌≡◌, List, length};
     ghost use Rattle.std.specs.Coded.{coded_list};
     ghost use Rattle.sd_dispq.specs.Levels.{all_of, IsLevelled};
-    ghost use Rattle.sd_dispq.specs.Places.{greatest_rank};
+    ghost use Rattle.sd_dispq.specs.Ranks.{greatest_rank};
 
     ghost Value = { List T };
 
@@ -36,8 +37,8 @@ impl<T: Ranked> Model for DispQueue<T> {
     ghost invariant = { λ q. (length q.levels ≡ 160) × (IsLevelled T.rank q.levels) × (q.greatest ≡ greatest_rank T.rank (all_of q.levels)) };
 }
 
-// The place of the level of this rank.
-fn place_of(rank: u8) -> usize
+// The index of the level of this rank.
+fn level_of(rank: u8) -> usize
     requires { rank < 160 }
     ensures { result + rank + 1 ≡ 160 }
 {
@@ -60,23 +61,10 @@ fn greatest_of<T: Ranked>(levels: &Levels<T>) -> Option<u8>
     requires levelled { IsLevelled T.rank levels.now }
     ensures { result ≡ greatest_rank T.rank (all_of levels.now) }
 {
-    match levels.first_busy() {
+    match levels.next_busy(0) {
         None => None,
-        Some(place) => Some((LEVELS - 1 - place) as u8),
+        Some(level) => Some((LEVELS - 1 - level) as u8),
     }
-}
-
-// The first level that has an item with this id.
-fn holder_of<T: Ranked>(levels: &Levels<T>, id: u32) -> Option<usize>
-    requires { length levels.now ≡ 160 }
-    ensures { MatchOption result (find_id T.id id (all_of levels.now) ≡ None) (λ place. IsHolder T.id id levels.now place) }
-{
-    for place in 0..LEVELS {
-        if levels.level(place).find(id).is_some() {
-            return Some(place);
-        }
-    }
-    None
 }
 
 impl<T: Ranked> DispQueue<T> {
@@ -98,7 +86,7 @@ impl<T: Ranked> DispQueue<T> {
         ensures { self.new ≡ put_front T.rank n self.old }
     {
         let rank = n.item().rank();
-        self.levels.push_front(place_of(rank), n);
+        self.levels.push_front(level_of(rank), n);
         self.greatest = raise(self.greatest, rank);
     }
 
@@ -108,18 +96,18 @@ impl<T: Ranked> DispQueue<T> {
         ensures { self.new ≡ put_back T.rank n self.old }
     {
         let rank = n.item().rank();
-        self.levels.push_back(place_of(rank), n);
+        self.levels.push_back(level_of(rank), n);
         self.greatest = raise(self.greatest, rank);
     }
 
-    /// Puts the box before the first item whose rank is less, or whose rank is equal and whose key is
+    /// Puts the box before the first item whose rank is smaller, or whose rank is equal and whose key is
     /// greater, and at the back where there is none.
     pub fn put_ranked(&mut self, n: Node<T>)
         requires { T.rank n < 160 }
         ensures { self.new ≡ insert_ranked T.rank T.key n self.old }
     {
         let rank = n.item().rank();
-        self.levels.insert_ranked(place_of(rank), n);
+        self.levels.insert_ranked(level_of(rank), n);
         self.greatest = raise(self.greatest, rank);
     }
 
@@ -130,7 +118,7 @@ impl<T: Ranked> DispQueue<T> {
     {
         match self.greatest {
             None => None,
-            Some(rank) => self.levels.level(place_of(rank)).first(),
+            Some(rank) => self.levels.level(level_of(rank)).first(),
         }
     }
 
@@ -141,14 +129,17 @@ impl<T: Ranked> DispQueue<T> {
         self.greatest
     }
 
-    /// Takes the box of the first item. `None` exactly where the queue is empty.
+    /// Takes the box of the first item, which is the best where the items are in order of rank and key:
+    /// none has a greater rank, or an equal rank and a smaller key. `None` exactly where the queue is empty.
     pub fn take_best(&mut self) -> Option<Node<T>>
-        ensures { MatchOption result ((self.old ≡ []) × (self.new ≡ [])) (λ n. self.old ≡ n ∷ self.new) }
+        ensures taken { MatchOption result ((self.old ≡ []) × (self.new ≡ [])) (λ n. self.old ≡ n ∷ self.new) }
+        ensures order { IsByRank T.rank self.old }
+        ensures best { IsRanked T.rank T.key self.old → IfSome result (λ n. IsBest (λ _. true) (precedes T.rank T.key) n self.old) }
     {
         match self.greatest {
             None => None,
             Some(rank) => {
-                let taken = self.levels.pop_front(place_of(rank));
+                let taken = self.levels.pop_front(level_of(rank));
                 self.greatest = greatest_of(&self.levels);
                 taken
             }
@@ -160,36 +151,54 @@ impl<T: Ranked> DispQueue<T> {
         ensures taken { result ≡ find_id T.id id self.old }
         ensures rest { self.new ≡ drop_id T.id id self.old }
     {
-        match holder_of(&self.levels, id) {
-            None => None,
-            Some(place) => {
-                let taken = self.levels.take_first(place, id);
-                self.greatest = greatest_of(&self.levels);
-                taken
-            }
-        }
+        let taken = self.levels.take(id);
+        self.greatest = greatest_of(&self.levels);
+        taken
     }
 
     /// The first item with this id. `None` exactly where there is none.
     pub fn find(&self, id: u32) -> Option<&T>
         ensures { option_copied result ≡ find_id T.id id self.now }
     {
-        match holder_of(&self.levels, id) {
-            None => None,
-            Some(place) => self.levels.level(place).find(id),
-        }
+        self.levels.find(id)
     }
 
-    /// The item at this place of the list, counted from 0. `None` exactly where there is none.
-    pub fn item(&self, place: usize) -> Option<&T>
-        ensures { option_copied result ≡ slice_get self.now place }
+    /// Puts `item` at the index of the first item with this id, which is returned. `None` exactly where
+    /// there is none; then `item` is dropped.
+    pub fn replace(&mut self, id: u32, item: T) -> Option<T>
+    where
+        T: Drop,
+        requires alike { IfSome (find_id T.id id self.old) (λ x. IsAlike T.rank T.key T.id x item) }
+        ensures old { result ≡ find_id T.id id self.old }
+        ensures rest { self.new ≡ replace_id T.id id item self.old }
     {
-        let mut left = place;
-        for level in 0..LEVELS {
+        let rank = item.rank();
+        // No item here has such a rank.
+        if rank as usize >= LEVELS {
+            return None;
+        }
+        self.levels.replace(level_of(rank), id, item)
+    }
+
+    /// The items from the first one on.
+    pub fn items(&self) -> Items<'_, T>
+        ensures { result ≡ self.now }
+    {
+        self.levels.items()
+    }
+
+    /// The item at this index of the list, counted from 0. `None` exactly where there is none.
+    pub fn item(&self, index: usize) -> Option<&T>
+        ensures { option_copied result ≡ slice_get self.now index }
+    {
+        let mut left = index;
+        let mut from = 0;
+        while let Some(level) = self.levels.next_busy(from) {
             match self.levels.level(level).seek(left) {
                 Ok(item) => return Some(item),
                 Err(rest) => left = rest,
             }
+            from = level + 1;
         }
         None
     }
@@ -200,8 +209,8 @@ impl<T: Ranked> DispQueue<T> {
         ensures { result ≡ length self.now }
     {
         let mut count = 0;
-        for level in 0..LEVELS {
-            count += self.levels.level(level).len();
+        for _ in self.items() {
+            count += 1;
         }
         count
     }

@@ -1,5 +1,5 @@
 use Rattle.std.proofs.Common.{◌-◌, sym, ap, arith}
-use Rattle.sd_dispq.specs.Places.{greatest_rank}
+use Rattle.sd_dispq.specs.Ranks.{greatest_rank}
 use Rattle.sd_dispq.proofs.LevelLemmas.{all_of-empty, greatest-busy}
 use Rattle.sd_dispq.proofs.queue.greatest_of.Goals as goal
 

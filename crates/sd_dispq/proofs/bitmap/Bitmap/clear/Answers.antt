@@ -5,4 +5,4 @@ use Rattle.sd_dispq.proofs.bitmap.Bitmap.clear.Goals as goal
 pub returns : goal.returns
 returns c =
     let three : length c.args.self.now.words ≡ 3 = omega arith in
-    HasBit-clear c.args.self.now.words c.args.place c.requires three
+    HasBit-clear c.args.self.now.words c.args.index c.requires three

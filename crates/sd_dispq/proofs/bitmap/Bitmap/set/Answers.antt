@@ -5,4 +5,4 @@ use Rattle.sd_dispq.proofs.bitmap.Bitmap.set.Goals as goal
 pub returns : goal.returns
 returns c =
     let three : length c.args.self.now.words ≡ 3 = omega arith in
-    HasBit-set c.args.self.now.words c.args.place c.requires three
+    HasBit-set c.args.self.now.words c.args.index c.requires three

@@ -1,6 +1,6 @@
 use Rattle.std.proofs.Common.{◌≡◌, ℕ, suc, zero, [], replicate, length, refl, sym, ap, ◌∙◌, subst}
 use Rattle.sd_dispq.specs.Levels.{all_of, IsLevelled}
-use Rattle.sd_dispq.specs.Places.{greatest_rank}
+use Rattle.sd_dispq.specs.Ranks.{greatest_rank}
 use Rattle.sd_dispq.proofs.queue.DispQueue.new.Goals as goal
 
 levelled : {X : Type 0} (rank : X → ℕ) (n : ℕ) → IsLevelled rank (replicate n [])

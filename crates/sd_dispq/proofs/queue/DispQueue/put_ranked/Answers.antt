@@ -5,11 +5,11 @@ use Rattle.sd_dispq.proofs.queue.DispQueue.put_ranked.Goals as goal
 
 pub invariant_of-self : goal.invariant_of-self
 invariant_of-self g c =
-    (to_rank g.T.Ranked.rank c.self.inside.levels _ _ _ c.place_of.result c.rank-rank.result c.args.n c.self.invariant
-    (c.rank-rank.ensures ∙ ap g.T.Ranked.rank c.item.ensures) c.place_of.ensures c.raise-self-inside.ensures g.T.Ranked.key c.insert_ranked.ensures).0
+    (to_rank g.T.Ranked.rank c.self.inside.levels _ _ _ c.level_of.result c.rank-rank.result c.args.n c.self.invariant
+    (c.rank-rank.ensures ∙ ap g.T.Ranked.rank c.item.ensures) c.level_of.ensures c.raise-self-inside.ensures g.T.Ranked.key c.insert_ranked.ensures).0
 
 pub returns : goal.returns
 returns g c =
-    (to_rank g.T.Ranked.rank c.self.inside.levels _ _ _ c.place_of.result c.rank-rank.result c.args.n c.self.invariant
-    (c.rank-rank.ensures ∙ ap g.T.Ranked.rank c.item.ensures) c.place_of.ensures c.raise-self-inside.ensures g.T.Ranked.key c.insert_ranked.ensures).1
+    (to_rank g.T.Ranked.rank c.self.inside.levels _ _ _ c.level_of.result c.rank-rank.result c.args.n c.self.invariant
+    (c.rank-rank.ensures ∙ ap g.T.Ranked.rank c.item.ensures) c.level_of.ensures c.raise-self-inside.ensures g.T.Ranked.key c.insert_ranked.ensures).1
     ∙ ap (insert_ranked g.T.Ranked.rank g.T.Ranked.key c.args.n) c.self.view_is

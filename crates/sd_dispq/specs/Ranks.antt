@@ -12,7 +12,7 @@ put_front rank x xs = insert_before (λ y. nat_le (rank y) (rank x)) x xs
 abbrev pub put_back : {X : Type 0} → (X → ℕ) → X → List X → List X
 put_back rank x xs = insert_before (λ y. nat_lt (rank y) (rank x)) x xs
 
--- no item stands behind one of less rank
+-- no item stands behind one of a smaller rank
 abbrev pub IsByRank : {X : Type 0} → (X → ℕ) → List X → Type 0
 IsByRank rank xs = IsInOrder (λ x y. nat_lt (rank y) (rank x)) xs
 
