@@ -1,2 +1,4 @@
 pub mod InOrder
 pub mod Memory
+pub mod Gaps
+pub mod Counts

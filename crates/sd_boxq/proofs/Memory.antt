@@ -1,4 +1,5 @@
 -- What the walks of the functions that touch pointers share.
+pub mod Amid
 pub mod Chained
 pub mod Crosses
 pub mod Cursors

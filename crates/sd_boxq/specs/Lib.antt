@@ -1,6 +1,7 @@
 pub mod Order
-pub mod Turned
 pub mod Lends
 pub mod Links
 pub mod Owned
+pub mod Boxes
 pub mod Left
+pub mod Search

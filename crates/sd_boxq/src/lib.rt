@@ -6,6 +6,7 @@ mod node;
 mod nodes;
 mod queue;
 mod ranked;
+mod search;
 #[cfg(test)]
 mod tests;
 

@@ -7,8 +7,8 @@ use std::alloc::Allocator;
 use std::marker::{Model, Send, Sync};
 
 pub(crate) mod cursor;
-pub(crate) mod ends;
 pub(crate) mod items;
+pub(crate) mod links;
 
 /// One box. `next` of the last box means nothing, and `more` says whether another box follows.
 pub struct Cell<T, A> {

@@ -1,13 +1,14 @@
 //! The queue: one chain of boxes, reached at its front and at its back.
 ghost use Rattle.std.specs.Prelude.{◌≡◌, ◌<◌, ◌^◌, ◌↔◌, IsTrue, MatchOption, MatchResult, ◌+◌, [], ◌∷◌, ◌++◌, length, slice_get, Some, IfSome};
 ghost use Rattle.std.specs.Option.{option_copied};
-ghost use Rattle.sd_boxq.specs.Order.{insert_ranked, insert_keyed, find_id, drop_id, find_below, drop_below, replace_id, IsAlike};
-ghost use Rattle.sd_boxq.specs.Turned.{turned_onto};
+ghost use Rattle.sd_boxq.specs.Search.{is_wanted};
+ghost use Rattle.sd_boxq.specs.Order.{find_first, drop_first, insert_ranked, insert_keyed, find_id, drop_id, find_below, drop_below, replace_id, IsAlike};
 
 use crate::node::Node;
 use crate::nodes::Nodes;
 use crate::nodes::items::Items;
-use crate::ranked::{Ranked, precedes, precedes_keyed};
+use crate::ranked::Ranked;
+use crate::search::Wanted;
 use std::alloc::Global;
 use std::marker::Model;
 
@@ -42,11 +43,7 @@ impl<T> BoxQueue<T> {
         ensures { self.new ≡ self.old ++ n ∷ [] }
     {
         let (item, block) = n.into_parts();
-        if self.nodes.is_any() {
-            self.nodes.link_back(block, item);
-        } else {
-            self.nodes.link_first(block, item);
-        }
+        self.nodes.put_back(block, item);
     }
 
     /// Puts the box before all others.
@@ -54,21 +51,14 @@ impl<T> BoxQueue<T> {
         ensures { self.new ≡ n ∷ self.old }
     {
         let (item, block) = n.into_parts();
-        if self.nodes.is_any() {
-            self.nodes.link_front(block, item);
-        } else {
-            self.nodes.link_first(block, item);
-        }
+        self.nodes.put_front(block, item);
     }
 
     /// The first box, which leaves the queue. `None` exactly where the queue is empty.
     pub fn pop_front(&mut self) -> Option<Node<T>>
         ensures { MatchOption result ((self.old ≡ []) × (self.new ≡ [])) (λ n. self.old ≡ n ∷ self.new) }
     {
-        if !self.nodes.is_any() {
-            return None;
-        }
-        let (item, block) = self.nodes.unlink_front();
+        let (item, block) = self.nodes.take_front()?;
         Some(Node::of_parts(item, block))
     }
 
@@ -78,24 +68,6 @@ impl<T> BoxQueue<T> {
     {
         let BoxQueue { nodes } = self;
         drop(nodes);
-    }
-
-    // Puts the passed boxes before those of this queue, the last one first.
-    fn turn(&mut self, passed: &mut BoxQueue<T>)
-        ensures turned { self.new ≡ turned_onto passed.old self.old }
-        ensures empty { passed.new ≡ [] }
-    {
-        while let Some(n) = passed.pop_front() {
-            self.push_front(n);
-        }
-    }
-
-    // Puts the passed boxes back.
-    fn restore(&mut self, mut passed: BoxQueue<T>)
-        ensures { self.new ≡ turned_onto passed self.old }
-    {
-        self.turn(&mut passed);
-        passed.close();
     }
 
     /// The item at this place, counted from 0. `None` exactly where there is none.
@@ -157,38 +129,37 @@ impl<T> BoxQueue<T> {
 }
 
 impl<T: Ranked> BoxQueue<T> {
-    /// Puts the box before the first item whose rank is less, or whose rank is equal and whose key is
+    /// Puts the box before the first item whose rank is smaller, or whose rank is equal and whose key is
     /// greater, and at the back where there is none.
+    #[tactic(auto, using(crate::proofs::Counts::insert_counted))]
     pub fn insert_ranked(&mut self, n: Node<T>)
         ensures { self.new ≡ insert_ranked T.rank T.key n self.old }
     {
-        let mut passed = BoxQueue::new();
-        while let Some(other) = self.pop_front() {
-            if precedes(n.item(), other.item()) {
-                self.push_front(other);
-                break;
-            }
-            passed.push_front(other);
-        }
-        self.push_front(n);
-        self.restore(passed);
+        let gap = self.nodes.gap(&Wanted::BehindRanked(n.item()));
+        let (item, block) = n.into_parts();
+        self.nodes.put(gap, block, item);
     }
 
     /// Puts the box before the first item whose key is greater, or whose key is equal and whose id is
     /// greater, and at the back where there is none. The ranks are not looked at.
+    #[tactic(auto, using(crate::proofs::Counts::insert_counted))]
     pub fn insert_keyed(&mut self, n: Node<T>)
         ensures { self.new ≡ insert_keyed T.key T.id n self.old }
     {
-        let mut passed = BoxQueue::new();
-        while let Some(other) = self.pop_front() {
-            if precedes_keyed(n.item(), other.item()) {
-                self.push_front(other);
-                break;
-            }
-            passed.push_front(other);
-        }
-        self.push_front(n);
-        self.restore(passed);
+        let gap = self.nodes.gap(&Wanted::BehindKeyed(n.item()));
+        let (item, block) = n.into_parts();
+        self.nodes.put(gap, block, item);
+    }
+
+    // Takes the box of the first wanted item. `None` exactly where there is none.
+    #[tactic(auto, using(crate::proofs::Counts::find_counted, crate::proofs::Counts::drop_counted))]
+    fn take(&mut self, wanted: &Wanted<'_, T>) -> Option<Node<T>>
+        ensures taken { result ≡ find_first (is_wanted T.rank T.key T.id wanted.now) self.old }
+        ensures rest { self.new ≡ drop_first (is_wanted T.rank T.key T.id wanted.now) self.old }
+    {
+        let gap = self.nodes.gap(wanted);
+        let (item, block) = self.nodes.take(gap)?;
+        Some(Node::of_parts(item, block))
     }
 
     /// Takes the box of the first item with this id. `None` exactly where there is none.
@@ -196,42 +167,16 @@ impl<T: Ranked> BoxQueue<T> {
         ensures taken { result ≡ find_id T.id id self.old }
         ensures rest { self.new ≡ drop_id T.id id self.old }
     {
-        let mut passed = BoxQueue::new();
-        let found = loop {
-            match self.pop_front() {
-                None => break None,
-                Some(n) => {
-                    if n.item().id() == id {
-                        break Some(n);
-                    }
-                    passed.push_front(n);
-                }
-            }
-        };
-        self.restore(passed);
-        found
+        self.take(&Wanted::Id(id))
     }
 
-    /// Takes the box of the first item whose key is less than `below`. `None` exactly where there is
+    /// Takes the box of the first item whose key is smaller than `below`. `None` exactly where there is
     /// none.
     pub fn take_below(&mut self, below: i64) -> Option<Node<T>>
         ensures taken { result ≡ find_below T.key below self.old }
         ensures rest { self.new ≡ drop_below T.key below self.old }
     {
-        let mut passed = BoxQueue::new();
-        let found = loop {
-            match self.pop_front() {
-                None => break None,
-                Some(n) => {
-                    if n.item().key() < below {
-                        break Some(n);
-                    }
-                    passed.push_front(n);
-                }
-            }
-        };
-        self.restore(passed);
-        found
+        self.take(&Wanted::Below(below))
     }
 
     /// The first item with this id. `None` exactly where there is none.
@@ -248,6 +193,7 @@ impl<T: Ranked> BoxQueue<T> {
 
     /// Puts `item` at the index of the first item with this id, which is returned. `None` exactly where
     /// there is none; then `item` is dropped.
+    #[tactic(auto, using(crate::proofs::Counts::find_counted, crate::proofs::Counts::replace_counted))]
     pub fn replace(&mut self, id: u32, item: T) -> Option<T>
     where
         T: Drop,
@@ -255,23 +201,8 @@ impl<T: Ranked> BoxQueue<T> {
         ensures old { result ≡ find_id T.id id self.old }
         ensures rest { self.new ≡ replace_id T.id id item self.old }
     {
-        let mut passed = BoxQueue::new();
-        let old = loop {
-            match self.pop_front() {
-                None => break None,
-                Some(n) => {
-                    if n.item().id() != id {
-                        passed.push_front(n);
-                        continue;
-                    }
-                    let (old, block) = n.into_parts();
-                    self.push_front(Node::of_parts(item, block));
-                    break Some(old);
-                }
-            }
-        };
-        self.restore(passed);
-        old
+        let gap = self.nodes.gap(&Wanted::Id(id));
+        self.nodes.exchange_found(gap, item)
     }
 }
 

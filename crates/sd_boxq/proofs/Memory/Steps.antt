@@ -1,6 +1,7 @@
 -- What the nodes own is taken apart and made, at any element type. Assumes `Logic`.
 --     nodes_made, nodes_opens, nodes_closes      the three words by value, and behind a `&mut`
 --     cons_out, cons_in, snoc_out, snoc_in, append_in      one node at an end, beside the others;  two rows of nodes
+--     middle_out, middle_in      one node amid the others
 --     one_opens, one_closes      a node is [its element; `next`; `prev`; what frees it]
 --     node_made, node_unmade      a block that was written whole is a node;  a node's cells are read, and then room
 use mathlib.Core.Path.{◌≡◌, refl, ap, ◌∙◌}
@@ -128,6 +129,18 @@ module _ (E : Bx) {M : Type 1} {𝓤 : Ura M} (𝓛 : Logic 𝓤) where
       → ent 𝓤 (sep 𝓤 (sem 𝓛 (One E n x)) (sem 𝓛 (Held E ns xs))) (sem 𝓛 (Held E (ns ++ n ∷ []) (xs ++ x ∷ [])))
   snoc_in ns n xs x e = qed 𝓛 (‵ (One E n x) ∷ ‵ (Held E ns xs) ∷ []) ∵ nothing ! $ nothing ! $ fjoin ! $ move ! (1 ∷ 0 ∷ []) $
       use2 𝓛 (‵ (Held E (n ∷ []) (x ∷ []))) (cons_in n [] x []) $ move ! (1 ∷ []) $ by ! (append_in ns (n ∷ []) xs (x ∷ []) e)
+
+  -- one node amid the others
+  pub middle_out : (ns ms : List (Link × Hd E)) (n : Link × Hd E) (xs ys : List (X E)) (x : X E) → length ns ≡ length xs
+      → ent 𝓤 (sem 𝓛 (Held E (ns ++ n ∷ ms) (xs ++ x ∷ ys))) (sep 𝓤 (sem 𝓛 (One E n x)) (sep 𝓤 (sem 𝓛 (Held E ns xs)) (sem 𝓛 (Held E ms ys))))
+  middle_out ns ms n xs ys x e = qed 𝓛 (‵ (Held E (ns ++ n ∷ ms) (xs ++ x ∷ ys)) ∷ []) ∵
+      use1 𝓛 (‵ (Held E ns xs) ⊛ ‵ (Held E (n ∷ ms) (x ∷ ys))) (append_out ns (n ∷ ms) xs (x ∷ ys) e) $ split ! $ move ! (1 ∷ []) $
+      use1 𝓛 (‵ (One E n x) ⊛ ‵ (Held E ms ys)) (cons_out n ms x ys) $ split ! $ move ! (0 ∷ 2 ∷ 1 ∷ []) $ done !
+
+  pub middle_in : (ns ms : List (Link × Hd E)) (n : Link × Hd E) (xs ys : List (X E)) (x : X E) → length ns ≡ length xs
+      → ent 𝓤 (sep 𝓤 (sem 𝓛 (One E n x)) (sep 𝓤 (sem 𝓛 (Held E ns xs)) (sem 𝓛 (Held E ms ys)))) (sem 𝓛 (Held E (ns ++ n ∷ ms) (xs ++ x ∷ ys)))
+  middle_in ns ms n xs ys x e = qed 𝓛 (‵ (One E n x) ∷ ‵ (Held E ns xs) ∷ ‵ (Held E ms ys) ∷ []) ∵ move ! (0 ∷ 2 ∷ []) $
+      use2 𝓛 (‵ (Held E (n ∷ ms) (x ∷ ys))) (cons_in n ms x ys) $ move ! (1 ∷ []) $ by ! (append_in ns (n ∷ ms) xs (x ∷ ys) e)
 
 module _ {M : Type 1} {𝓤 : Ura M} {𝓛 : Logic 𝓤} {K : Type 0} {Γ : List (Item 𝓤)} {G : Goal 𝓤 𝓛.H} where
   pointer_out : K → (p : Ptr) (b o : ℕ) → Step K 𝓛 (‵ (pointer b o p) ∷ Γ) G (‵ (part_at RawPtr full_share p b o) ∷ Γ) G

@@ -40,7 +40,7 @@ use Rattle.sd_boxq.specs.declared.nodes.cursor.Cursor.{Cursor}
 use Rattle.std_alloc.proofs.RcSteps.{Ptr-Good}
 use Rattle.std_alloc.proofs.ResultValues.{and_tt}
 use types.Part.{agg}
-use lib.ListN.{length-map}
+use lib.ListN.{length, length-map}
 use denote.RawPtr.{ptr_val}
 use Rattle.sd_boxq.specs.contracts.nodes.Nodes.cursor.Key.{name as #self}
 use Rattle.sd_boxq.proofs.nodes.Nodes.cursor.Statement as stated
@@ -57,7 +57,7 @@ module _ (E : Bx) where
   stayed = (stay_dropped (RefOf (0 ∷ []) tt (plain (λ _. Nr E)) (λ _. tt)) yes, tt)
 
   abbrev spec : {M : Type 1} {𝓤 : Ura M} (𝓛 : Logic 𝓤) → Clauses 𝓤 ended
-  spec {𝓤 = 𝓤} 𝓛 κs a = record { ghost = Unit {0}; requires = λ _. emp 𝓤; ensures = λ _ r _. fact 𝓤 (r.rest ≡ a.0.now.items) }
+  spec {𝓤 = 𝓤} 𝓛 κs a = record { ghost = Unit {0}; requires = λ _. emp 𝓤; ensures = λ _ r _. fact 𝓤 ((r.index ≡ 0) × (r.rest ≡ a.0.now.items) × (r.links ≡ links_of a.0.now.blocks) × (length r.rest ≡ length r.links)) }
 
 module _ (E : Bx) {M : Type 1} {𝓤 : Ura M} (𝓛 : Logic 𝓤) (C : Calls 𝓤 𝓛.H) (Λ : Loops 𝓤 𝓛.H) (κ : Lft) (q : Share) (b o : ℕ) (d : D E) (ps : List Val) where
   open 𝓛 use {H}
@@ -77,13 +77,13 @@ module _ (E : Bx) {M : Type 1} {𝓤 : Ura M} (𝓛 : Logic 𝓤) (C : Calls �
   walk : ent 𝓤 (⋆ 𝓛 Had) (WpFn 𝓤 H C Λ (function E) (vptr b o ∷ []) Post)
   walk =
       let ls = links_of d.blocks in
-      let cur : Cursor (X E) = record { at = d.head; mark = record {}; rest = d.items; links = ls; ok = d.ok.1 ∙ sym (length-map d.blocks (λ n. n.0)); leads = ∣ leads_on d.head d.tail ls (IsChained-had _ _ _ d.chained) ∣₁ } in
+      let cur : Cursor (X E) = record { at = d.head; mark = record {}; index = 0; rest = d.items; links = ls; ok = d.ok.1 ∙ sym (length-map d.blocks (λ n. n.0)); leads = ∣ leads_on d.head d.tail ls (IsChained-had _ _ _ d.chained) ∣₁ } in
       qed 𝓛 Had ∵ enter ! C Λ (function E) (vptr b o ∷ []) _ $ alloc_all ! (λ l. pass_all ! refl ((tt, tt), tt) $ nodes_Seen ! E d b o $
       move ! (0 ∷ 4 ∷ []) $ pointer_in ! tt d.head b (o + 0) (λ s.
       sets ! (of_opd ! (load ! (through ! refl (fld ! refl (stop !))) (look ! 0 refl))) refl (Ptr-Good d.head) $ sets ! (of_opd ! (get ! refl)) refl (Ptr-Good d.head) $ sets ! (agg ! (no_more !)) refl (tt, tt) $
       sets ! (agg ! (and_then ! (get ! refl) (and_then ! (get ! refl) (no_more !)))) refl (and_tt (has_ty ty_ptr (ptr_val d.head)) (Ptr-Good d.head).0, ((Ptr-Good d.head).1, (tt, tt))) $ pointer_out ! tt d.head b (o + 0) $
       returns ! (look_at ! 0 refl) $ free_all ! refl $ keep ! (0 ∷ 3 ∷ []) $
-      suffices ! _ (ends_at 𝓛 (ended E) (stayed E) (spec E 𝓛) bound (cursor_val d.head) cur (tt, tt) (tt, tt)) $ says ! refl $
+      suffices ! _ (ends_at 𝓛 (ended E) (stayed E) (spec E 𝓛) bound (cursor_val d.head) cur (tt, tt) (tt, tt)) $ says ! (refl, refl, refl, cur.ok) $
       move ! (1 ∷ 0 ∷ []) $ cursor_made (named_lft 1 0 tt (κ, tt)) (R E) ! cur $ nothing ! $ nothing ! $ fjoin ! $ join ! $ nothing ! $ move ! (2 ∷ 0 ∷ []) $ join ! $ join ! $ done !))
 
   entry : ent 𝓤 (on_entry 𝓛 (ended E).signature (κ, tt) (q, tt) (self, tt) (ps, tt)) (WpFn 𝓤 H C Λ (function E) (ps ++ []) Post)

@@ -1,6 +1,6 @@
--- `step` shows the first item, and goes on with the boxes behind it. Assumes `Logic`.
+-- `step` shows the first box and its item, and goes on with the boxes behind it. Assumes `Logic`.
 use mathlib.Core.Path.{◌≡◌, refl, sym, ap, subst, ◌∙◌}
-use Prim.Native.Nat.{ℕ, ◌+◌}
+use Prim.Native.Nat.{ℕ, suc, ◌+◌}
 use native.Mathlib.Omega.{arith}
 use mathlib.Core.List.{List, [], ◌∷◌, ◌++◌}
 use lib.ListN.{length}
@@ -25,7 +25,7 @@ use denote.RattleType.{RattleType, Valss, owns}
 use denote.Memory.{shared_of}
 use denote.Opens.{hide}
 use denote.Param.{param, layouts}
-use denote.RawPtr.{RawPtr, in_a_block, null_ptr, ptr_val, ◌+ₚ◌}
+use denote.RawPtr.{RawPtr, block_ptr, in_a_block, null_ptr, ptr_val, ◌+ₚ◌}
 use denote.Builtin.{RefOf, bool}
 use denote.Signature.{plain, named_lft, type_at}
 use denote.Steps.{nothing}
@@ -44,10 +44,13 @@ use Rattle.std_alloc.proofs.RcSteps.{Ptr-Good}
 use Rattle.std_alloc.proofs.ResultValues.{and_tt}
 use Rattle.sd_boxq.specs.Links.{Link, has_some, LeadsOn}
 use Rattle.sd_boxq.specs.Owned.{item_offset, nodes_lent}
+use Rattle.sd_boxq.specs.Boxes.{boxes_from}
 use Rattle.sd_boxq.specs.declared.nodes.cursor.Cursor.{Cursor}
+use Rattle.sd_boxq.specs.declared.nodes.cursor.Spot.{Spot}
 use Rattle.sd_boxq.specs.contracts.nodes.cursor.Cursor as C-type
+use Rattle.sd_boxq.specs.contracts.nodes.cursor.Spot as S-type
 use Rattle.sd_boxq.proofs.Memory.Chained.{LeadsOn-had, some_alike, some_length}
-use Rattle.sd_boxq.proofs.Memory.Cursors.{cursor_val, cursor_made, cursor_had}
+use Rattle.sd_boxq.proofs.Memory.Cursors.{cursor_val, cursor_made, cursor_had, spot_val, spot_made}
 use Rattle.sd_boxq.proofs.Memory.Seen.{pointer_in, pointer_out, bool_in, bool_out}
 use Rattle.sd_boxq.proofs.Memory.Steps.{uncons}
 use Rattle.sd_boxq.specs.contracts.nodes.cursor.Cursor.step.Key.{name as #self}
@@ -70,7 +73,7 @@ module _ (Y : RattleType) where
       lifetimes = 1;
       outlives = [];
       params = plain (λ κs. C-type.the_row (named_lft 1 0 tt κs) R) ∷ [];
-      result = plain (λ κs. Tuple (type_at {n = 1} (RefOf (0 ∷ []) tt (plain (λ _. R)) (λ _. tt)) κs ∷ bool ∷ C-type.the_row (named_lft 1 0 tt κs) R ∷ []));
+      result = plain (λ κs. Tuple (S-type.the_row R ∷ type_at {n = 1} (RefOf (0 ∷ []) tt (plain (λ _. R)) (λ _. tt)) κs ∷ bool ∷ C-type.the_row (named_lft 1 0 tt κs) R ∷ []));
     };
     kept = (no, tt);
   }
@@ -82,13 +85,16 @@ module _ (Y : RattleType) where
   Asks c = has_some c.rest ≡ true
 
   abbrev spec : {M : Type 1} (𝓤 : Ura M) → Clauses 𝓤 ended
-  spec 𝓤 κs a = record { ghost = Unit {0}; requires = λ _. fact 𝓤 (Asks a.0); ensures = λ _ r _. fact 𝓤 ((a.0.rest ≡ r.0.now ∷ r.2.rest) × (r.1 ≡ has_some r.2.rest)) }
+  spec 𝓤 κs a = record { ghost = Unit {0}; requires = λ _. fact 𝓤 (Asks a.0); ensures = λ _ r _. fact 𝓤 ((boxes_from a.0.index a.0.links a.0.rest ≡ (r.0.at, r.0.index, r.1.now) ∷ boxes_from r.3.index r.3.links r.3.rest) × (a.0.rest ≡ r.1.now ∷ r.3.rest) × (r.2 ≡ has_some r.3.rest)) }
 
 module _ (Y : RattleType) {M : Type 1} {𝓤 : Ura M} (𝓛 : Logic 𝓤) (C : Calls 𝓤 𝓛.H) (Λ : Loops 𝓤 𝓛.H) (κ : Lft) (q : Share) (c : Cursor Y.Denot) (ps : List Val) where
   open 𝓛 use {H}
 
   abbrev Cr : RattleType
   Cr = C-type.the_row (named_lft 1 0 tt (κ, tt)) (R Y)
+
+  abbrev Sp : RattleType
+  Sp = S-type.the_row (R Y)
 
   abbrev It : RattleType
   It = type_at {n = 1} (RefOf (0 ∷ []) tt (plain (λ _. R Y)) (λ _. tt)) (κ, tt)
@@ -115,7 +121,7 @@ module _ (Y : RattleType) {M : Type 1} {𝓤 : Ura M} (𝓛 : Logic 𝓤) (C : C
       let many = ap length xs.2 in
       let alike : length xs.1 ≡ length ns.1 = omega arith in
       let lead : LeadsOn c.at (m ∷ ns.1) = subst (LeadsOn c.at) ns.2 (LeadsOn-had c.at c.links c.leads) in
-      let on : Cursor Y.Denot = record { at = m.1; mark = c.mark; rest = xs.1; links = ns.1; ok = alike; leads = ∣ lead.2 ∣₁ } in
+      let on : Cursor Y.Denot = record { at = m.1; mark = c.mark; index = suc c.index; rest = xs.1; links = ns.1; ok = alike; leads = ∣ lead.2 ∣₁ } in
       let pointed = Ptr-Good m.1 in
       qed 𝓛 Had ∵ enter ! C Λ (function Y) (cursor_val c.at ∷ []) _ $
       alloc_all ! (λ l. pass_all ! refl ((and_tt (has_ty ty_ptr (ptr_val c.at)) (Ptr-Good c.at).0, ((Ptr-Good c.at).1, (tt, tt))), tt) $
@@ -125,7 +131,9 @@ module _ (Y : RattleType) {M : Type 1} {𝓤 : Ura M} (𝓛 : Logic 𝓤) (C : C
       in_a_block ! m.0 (λ p. fsep (lent_at (R Y) (p +ₚ k) x κ) (fsep (lent_at RawPtr (p +ₚ 0) m.1 κ) (lent_at bool (p +ₚ 8) m.2 κ)))
       (via 𝓤 _ (fst∗ 𝓤 _ (sem 𝓛 (fsep (lent_at RawPtr (null_ptr +ₚ 0) m.1 κ) (lent_at bool (null_ptr +ₚ 8) m.2 κ)))) (fst∗ 𝓤 (never 𝓤) (sem 𝓛 (shared_of (R Y) x 0 0 κ)))) (λ b o e.
       let r : Val = vptr b (o + k) in
-      let out : Val = vstruct (vcons r (vcons (vbool m.2) (vcons (cursor_val m.1) vnil))) in
+      let here : Spot Y.Denot = record { at = block_ptr b o; index = c.index } in
+      let out : Val = vstruct (vcons (spot_val (block_ptr b o)) (vcons r (vcons (vbool m.2) (vcons (cursor_val m.1) vnil)))) in
+      let shown : boxes_from c.index c.links c.rest ≡ (block_ptr b o, c.index, x) ∷ boxes_from (suc c.index) ns.1 xs.1 = (λ i. boxes_from c.index (ns.2 i) (xs.2 i)) ∙ (λ i. (e i, c.index, x) ∷ boxes_from (suc c.index) ns.1 xs.1) in
       -- [the item; the links; the others; the token]
       fsplit ! $ fsplit ! $ drop ! $ hide ! $ move ! (1 ∷ []) $ fsplit ! $ fsplit ! $ drop ! $ hide ! $ move ! (1 ∷ []) $ fsplit ! $ drop ! $ hide ! $
       -- [`more`; `next`; the item; the others; the token]
@@ -134,17 +142,18 @@ module _ (Y : RattleType) {M : Type 1} {𝓤 : Ura M} (𝓛 : Logic 𝓤) (C : C
       sets ! (of_opd ! (get_in ! (fld ! refl (stop !)) (sub ! 1 refl (whole !)))) refl (tt, tt) $ first ! $ blocks ! $
       pointer_in ! tt m.1 b (o + 0) (λ s. sets ! (of_opd ! (load ! (through ! refl (fld ! refl (stop !))) (look ! 0 refl))) refl pointed $ pointer_out ! tt m.1 b (o + 0) $
       move ! (1 ∷ 0 ∷ []) $ bool_in ! tt m.2 b (o + 8) (λ s'. sets ! (of_opd ! (load ! (through ! refl (fld ! refl (stop !))) (look ! 0 refl))) refl (tt, tt) $ bool_out ! tt m.2 b (o + 8) $
+      sets ! (agg ! (and_then ! (get ! refl) (no_more !))) refl (tt, (tt, tt)) $
       sets ! (addr ! (through ! refl (fld ! refl (stop !)))) refl (tt, tt) $
       sets ! (agg ! (and_then ! (get ! refl) (and_then ! (get ! refl) (no_more !)))) refl (and_tt (has_ty ty_ptr (ptr_val m.1)) pointed.0, (pointed.1, (tt, tt))) $
-      sets_last ! (agg ! (and_then ! (get ! refl) (and_then ! (get ! refl) (and_then ! (get ! refl) (no_more !))))) refl (and_tt _ (and_tt (has_ty ty_ptr (ptr_val m.1)) pointed.0), (tt, (tt, ((pointed.1, (tt, tt)), tt)))) $
+      sets_last ! (agg ! (and_then ! (get ! refl) (and_then ! (get ! refl) (and_then ! (get ! refl) (and_then ! (get ! refl) (no_more !)))))) refl (and_tt _ (and_tt (has_ty ty_ptr (ptr_val m.1)) pointed.0), ((tt, tt), (tt, (tt, ((pointed.1, (tt, tt)), tt))))) $
       exec ! C Λ En (after 3 (function Y).body) (at_ret En Post) $
-      sets ! (of_opd ! (get ! refl)) refl (and_tt _ (and_tt (has_ty ty_ptr (ptr_val m.1)) pointed.0), (tt, (tt, ((pointed.1, (tt, tt)), tt)))) $
+      sets ! (of_opd ! (get ! refl)) refl (and_tt _ (and_tt (has_ty ty_ptr (ptr_val m.1)) pointed.0), ((tt, tt), (tt, (tt, ((pointed.1, (tt, tt)), tt))))) $
       returns ! (look_at ! 0 refl) $ free_all ! refl $ keep ! (0 ∷ 1 ∷ 2 ∷ []) $
-      suffices ! _ (ends_at 𝓛 (ended Y) (stayed Y) (spec Y 𝓤) bound out (record { ref_ptr = (b, o + k); now = x }, m.2, on) (tt, tt) (tt, tt)) $ says ! (xs.2, lead.1 ∙ sym (some_alike xs.1 ns.1 alike)) $
+      suffices ! _ (ends_at 𝓛 (ended Y) (stayed Y) (spec Y 𝓤) bound out (here, record { ref_ptr = (b, o + k); now = x }, m.2, on) (tt, tt) (tt, tt)) $ says ! (shown, xs.2, lead.1 ∙ sym (some_alike xs.1 ns.1 alike)) $
       move ! (1 ∷ []) $ feq_i ! (List Val) (r ∷ []) (r ∷ []) refl $ fjoin ! $ move ! (2 ∷ []) $ cursor_made (named_lft 1 0 tt (κ, tt)) (R Y) ! on $
-      feq_i ! (List Val) (vbool m.2 ∷ []) (vbool m.2 ∷ []) refl $ nothing ! $ move ! (2 ∷ 0 ∷ []) $ fjoin ! $ move ! (1 ∷ 0 ∷ []) $ fjoin ! $ move ! (1 ∷ 0 ∷ []) $ fjoin ! $
+      feq_i ! (List Val) (vbool m.2 ∷ []) (vbool m.2 ∷ []) refl $ nothing ! $ move ! (2 ∷ 0 ∷ []) $ fjoin ! $ move ! (1 ∷ 0 ∷ []) $ fjoin ! $ move ! (1 ∷ 0 ∷ []) $ fjoin ! $ spot_made (R Y) ! here $ fjoin ! $
       feq_i ! (List Val) (out ∷ []) (out ∷ []) refl $ fjoin ! $
-      fpack ! (Valss (It ∷ bool ∷ Cr ∷ [])) (within (shape (tuple_type (It ∷ bool ∷ Cr ∷ []))) (record { ref_ptr = (b, o + k); now = x }, (m.2, (on, tt))) (out ∷ [])) (r ∷ [], (vbool m.2 ∷ [], (cursor_val m.1 ∷ [], tt))) $
+      fpack ! (Valss (Sp ∷ It ∷ bool ∷ Cr ∷ [])) (within (shape (tuple_type (Sp ∷ It ∷ bool ∷ Cr ∷ []))) (here, (record { ref_ptr = (b, o + k); now = x }, (m.2, (on, tt)))) (out ∷ [])) (spot_val (block_ptr b o) ∷ [], (r ∷ [], (vbool m.2 ∷ [], (cursor_val m.1 ∷ [], tt)))) $
       nothing ! $ nothing ! $ fjoin ! $ join ! $ nothing ! $ move ! (2 ∷ 0 ∷ []) $ join ! $ join ! $ done !))))
 
   entry : Asks Y c → ent 𝓤 (on_entry 𝓛 (ended Y).signature (κ, tt) (q, tt) (c, tt) (ps, tt)) (WpFn 𝓤 H C Λ (function Y) (ps ++ []) Post)
