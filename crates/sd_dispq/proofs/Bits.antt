@@ -94,7 +94,7 @@ next_set v m k w h f z n b =
     (reached, omega arith, sym (f.kept t small reached) ∙ low.1, λ i g l. before t small low.2 i g l (past_or_in i (64 * k)))
   where
     reach : (t : ℕ) → t < 64 → bit_at w t ≡ 1 → (64 * k + t < m) ⊎ (m ≤ 64 * k + t) → m ≤ 64 * k + t
-    reach t s one (inl less) = let no : 0 ≡ 1 = sym (f.cleared t s less) ∙ one in absurd (omega arith)
+    reach t s one (inl less) = let no : 0 ≡ 1 = sym (f.cleared t s less) ∙ one in absurd (omega (arith, no))
     reach t s one (inr more) = more
     before : (t : ℕ) → t < 64 → ((j : ℕ) → j < t → bit_at w j ≡ 0) → (i : ℕ) → m ≤ i → i < 64 * k + t → (i < 64 * k) ⊎ (64 * k ≤ i) → bit_of v i ≡ 0
     before t s below i g l (inl less) = z i g less

@@ -246,13 +246,13 @@ to_end (l ∷ ls) (suc m) f = to_end ls m (λ i h. f (suc i) (omega arith))
 module _ {X : Type 0} (rank : X → ℕ) (key : X → ℤ) (id : X → ℕ) (n : ℕ) (y : X) where
   replace-within : (x : X) (l m : List X) → find_id id n l ≡ Some x → replace_id id n y (l ++ m) ≡ replace_id id n y l ++ m
   replace-within x [] m e = absurd cc
-  replace-within x (z ∷ l) m e = grind (arith, replace-within x l m e)
+  replace-within x (z ∷ l) m e = grind (arith, replace-within x l m)
 
   replace-behind : (l m : List X) → find_id id n l ≡ None → replace_id id n y (l ++ m) ≡ l ++ replace_id id n y m
   replace-behind [] m e = refl
   replace-behind (z ∷ l) m e = grind (arith, replace-behind l m)
 
-  replace-absent : (l : List X) → find_id id n l ≡ None → replace_id id n y l ≡ l
+  pub replace-absent : (l : List X) → find_id id n l ≡ None → replace_id id n y l ≡ l
   replace-absent [] e = refl
   replace-absent (z ∷ l) e = grind (arith, replace-absent l)
 
@@ -263,11 +263,11 @@ module _ {X : Type 0} (rank : X → ℕ) (key : X → ℤ) (id : X → ℕ) (n :
   -- an item has a rank below the number of levels
   pub found_below : (ls : List (List X)) (x : X) → IsLevelled rank ls → find_id id n (all_of ls) ≡ Some x → rank x < length ls
   found_below [] x s e = absurd cc
-  found_below (l ∷ ls) x s e = by (find_id id n l) refl
+  found_below (l ∷ ls) x s e = by (find_id id n l) refl (found_below ls x s.1)
     where
-      by : (o : Option X) → find_id id n l ≡ o → rank x < suc (length ls)
-      by None f = let rest = found_below ls x s.1 (sym (find-behind id n l (all_of ls) f) ∙ e) in omega arith
-      by (Some z) f =
+      by : (o : Option X) → find_id id n l ≡ o → (find_id id n (all_of ls) ≡ Some x → rank x < length ls) → rank x < suc (length ls)
+      by None f b = let rest = b (sym (find-behind id n l (all_of ls) f) ∙ e) in omega arith
+      by (Some z) f b =
           let same : z ≡ x = let k : Some z ≡ Some x = sym (find-within id n z l (all_of ls) f) ∙ e in cc in
           let r = of_level (length ls) l z s.0 f in let t = ap rank same in omega arith
 
@@ -296,18 +296,20 @@ module _ {X : Type 0} (rank : X → ℕ) (key : X → ℤ) (id : X → ℕ) (n :
           let behind = find-behind id n l (all_of ls) f in
           let none = gone (find_id id n (all_of ls)) refl (subst (λ o. IfSome o (λ x. rank x ≡ rank y)) behind a) in
           (f ∙ sym (behind ∙ none), ap (λ m. m ++ all_of ls) (replace-absent l f) ∙ sym (replace-behind l (all_of ls) f ∙ ap (λ m. l ++ m) (replace-absent (all_of ls) none)))
-  alike_there (l ∷ ls) (suc p) s e a = by (find_id id n l) refl
+  alike_there (l ∷ ls) (suc p) s e a = by (find_id id n l) refl (alike_there ls p s.1 (omega arith))
     where
       by : (o : Option X) → find_id id n l ≡ o
+          → (IfSome (find_id id n (all_of ls)) (λ x. rank x ≡ rank y)
+          → (find_id id n (level_at ls p) ≡ find_id id n (all_of ls)) × (all_of (set ls p (replace_id id n y (level_at ls p))) ≡ replace_id id n y (all_of ls)))
           → (find_id id n (level_at ls p) ≡ find_id id n (l ++ all_of ls))
           × (l ++ all_of (set ls p (replace_id id n y (level_at ls p))) ≡ replace_id id n y (l ++ all_of ls))
-      by (Some x) f =
+      by (Some x) f k =
           let r = of_level (length ls) l x s.0 f in
           let b : rank x ≡ rank y = subst (λ o. IfSome o (λ x. rank x ≡ rank y)) (find-within id n x l (all_of ls) f) a in
           absurd (omega arith)
-      by None f =
+      by None f k =
           let behind = find-behind id n l (all_of ls) f in
-          let rest = alike_there ls p s.1 (omega arith) (subst (λ o. IfSome o (λ x. rank x ≡ rank y)) behind a) in
+          let rest = k (subst (λ o. IfSome o (λ x. rank x ≡ rank y)) behind a) in
           (rest.0 ∙ sym behind, ap (λ m. l ++ m) rest.1 ∙ sym (replace-behind l (all_of ls) f))
 
   pub greatest-replace : (xs : List X) → IfSome (find_id id n xs) (λ x. rank x ≡ rank y) → greatest_rank rank (replace_id id n y xs) ≡ greatest_rank rank xs
@@ -317,3 +319,10 @@ module _ {X : Type 0} (rank : X → ℕ) (key : X → ℤ) (id : X → ℕ) (n :
   pub alike_rank : (o : Option X) → IfSome o (λ x. IsAlike rank key id x y) → IfSome o (λ x. rank x ≡ rank y)
   alike_rank None a = tt
   alike_rank (Some x) a = a.0
+
+  -- the item of the level is the one that is alike
+  pub alike_in_level : (ls : List (List X)) (p : ℕ) → IsLevelled rank ls → p + suc (rank y) ≡ length ls
+      → IfSome (find_id id n (all_of ls)) (λ x. IsAlike rank key id x y) → IfSome (find_id id n (level_at ls p)) (λ x. IsAlike rank key id x y)
+  alike_in_level ls p s e a =
+      let both = alike_there ls p s e (alike_rank (find_id id n (all_of ls)) a) in
+      subst (λ o. IfSome o (λ x. IsAlike rank key id x y)) (sym both.0) a

@@ -1,3 +1,4 @@
 pub mod Bits
 pub mod LevelLemmas
 pub mod QueueLemmas
+pub mod LawLemmas

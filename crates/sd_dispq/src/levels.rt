@@ -95,7 +95,8 @@ impl<T> Levels<T> {
 
     /// The index of the first level that is not empty, of those from `from` on, by the bitmap.
     pub(crate) fn next_busy(&self, from: usize) -> Option<usize>
-        ensures { MatchOption result (AreIdleFrom self.now from) (IsNextBusy self.now from) }
+        ensures within { IfSome result (λ i. i < 160) }
+        ensures next { MatchOption result (AreIdleFrom self.now from) (IsNextBusy self.now from) }
     {
         self.busy.next_set(from)
     }

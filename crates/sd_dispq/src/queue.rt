@@ -173,11 +173,12 @@ impl<T: Ranked> DispQueue<T> {
         ensures rest { self.new ≡ replace_id T.id id item self.old }
     {
         let rank = item.rank();
-        // No item here has such a rank.
+        let levels = &mut self.levels;
+        // No item has such a rank.
         if rank as usize >= LEVELS {
             return None;
         }
-        self.levels.replace(level_of(rank), id, item)
+        levels.replace(level_of(rank), id, item)
     }
 
     /// The items from the first one on.
