@@ -1,4 +1,4 @@
--- How a search goes through the boxes of a queue, and what is before and behind the place that it finds.
+-- How a search goes through the boxes of a queue, and what it has seen where it ends.
 use Rattle.std.proofs.Common.{◌≡◌, ℕ, ◌+◌, ◌<◌, ◌≤◌, Bool, true, false, List, [], ◌∷◌, ◌++◌, Option, Some, None, length, take, drop, slice_get, slice_set, refl, sym, subst, ap, ◌∙◌, arith}
 use Prim.Native.Nat.{zero, suc}
 use lib.ListN.{length-map}

@@ -1,4 +1,4 @@
--- What the walks of the functions that touch pointers share.
+-- What the manual proofs of the functions that touch pointers share.
 pub mod Amid
 pub mod Chained
 pub mod Crosses

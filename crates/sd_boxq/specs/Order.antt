@@ -2,6 +2,7 @@
 -- Every word takes the functions that it reads from an item, so that it serves items of every type.
 -- Source: Solaris Internals, dispatch queues, sleep queues and turnstiles. Keys are this project's own.
 use Rattle.std.specs.Prelude.{◌≡◌, ℕ, ℤ, Bool, true, false, ◌&&◌, ◌||◌, ◌==◌, nat_lt, int_lt, if◌then◌else◌, List, [], ◌∷◌, Option, Some, None}
+use Rattle.std.specs.List.{Contains}
 use Rattle.std.specs.Ordering.{int_eq}
 
 -- x goes before the first item that passes the test p, and at the back where none does
@@ -9,11 +10,11 @@ abbrev pub insert_before : {X : Type 0} → (X → Bool) → X → List X → Li
 insert_before p x [] = x ∷ []
 insert_before p x (y ∷ ys) = if p y then (x ∷ (y ∷ ys)) else (y ∷ insert_before p x ys)
 
--- by rank and key: the greater rank first, and of equal ranks the less key
+-- by rank and key: the greater rank first, and of equal ranks the smaller key
 abbrev pub precedes : {X : Type 0} → (X → ℕ) → (X → ℤ) → X → X → Bool
 precedes rank key x y = nat_lt (rank y) (rank x) || ((rank x == rank y) && int_lt (key x) (key y))
 
--- by key and id, whatever the ranks: the less key first, and of equal keys the less id
+-- by key and id, whatever the ranks: the smaller key first, and of equal keys the smaller id
 abbrev pub precedes_keyed : {X : Type 0} → (X → ℤ) → (X → ℕ) → X → X → Bool
 precedes_keyed key id x y = int_lt (key x) (key y) || (int_eq (key x) (key y) && nat_lt (id x) (id y))
 
@@ -55,7 +56,7 @@ replace_id id n y xs = replace_first (λ x. id x == n) y xs
 abbrev pub IsAlike : {X : Type 0} → (X → ℕ) → (X → ℤ) → (X → ℕ) → X → X → Type 0
 IsAlike rank key id x y = (rank x ≡ rank y) × (key x ≡ key y) × (id x ≡ id y)
 
--- the first item with a key less than k, and the list without it
+-- the first item with a key smaller than k, and the list without it
 abbrev pub find_below : {X : Type 0} → (X → ℤ) → ℤ → List X → Option X
 find_below key k xs = find_first (λ x. int_lt (key x) k) xs
 
@@ -72,10 +73,31 @@ abbrev pub IsInOrder : {X : Type 0} → (X → X → Bool) → List X → Type 0
 IsInOrder before [] = Unit {0}
 IsInOrder before (x ∷ xs) = IsNowhere (λ y. before y x) xs × IsInOrder before xs
 
+-- each item passes the test
+abbrev pub IsEverywhere : {X : Type 0} → (X → Bool) → List X → Type 0
+IsEverywhere p [] = Unit {0}
+IsEverywhere p (x ∷ xs) = (p x ≡ true) × IsEverywhere p xs
+
+-- each item precedes those behind it
+abbrev pub IsStrictlyInOrder : {X : Type 0} → (X → X → Bool) → List X → Type 0
+IsStrictlyInOrder before [] = Unit {0}
+IsStrictlyInOrder before (x ∷ xs) = IsEverywhere (λ y. before x y) xs × IsStrictlyInOrder before xs
+
 -- the order of dispatch queues, sleep queues and turnstiles
 abbrev pub IsRanked : {X : Type 0} → (X → ℕ) → (X → ℤ) → List X → Type 0
 IsRanked rank key xs = IsInOrder (precedes rank key) xs
 
--- x passes the test, and no item that passes it precedes x
+-- the order of nappers
+abbrev pub IsKeyed : {X : Type 0} → (X → ℤ) → (X → ℕ) → List X → Type 0
+IsKeyed key id xs = IsInOrder (precedes_keyed key id) xs
+
+-- the same orders, and no two items have one rank and key, or one key and id
+abbrev pub IsStrictlyRanked : {X : Type 0} → (X → ℕ) → (X → ℤ) → List X → Type 0
+IsStrictlyRanked rank key xs = IsStrictlyInOrder (precedes rank key) xs
+
+abbrev pub IsStrictlyKeyed : {X : Type 0} → (X → ℤ) → (X → ℕ) → List X → Type 0
+IsStrictlyKeyed key id xs = IsStrictlyInOrder (precedes_keyed key id) xs
+
+-- x is one of the items and passes the test, and no item that passes it precedes x
 abbrev pub IsBest : {X : Type 0} → (X → Bool) → (X → X → Bool) → X → List X → Type 0
-IsBest p before x xs = (p x ≡ true) × IsNowhere (λ y. p y && before y x) xs
+IsBest p before x xs = Contains xs x × (p x ≡ true) × IsNowhere (λ y. p y && before y x) xs

@@ -52,7 +52,7 @@ impl<T> Model for Node<T> {
 }
 
 impl<T> Node<T> {
-    /// A box for this item. For want of memory the item is dropped.
+    /// A box for this item. Where memory runs out, the item is dropped.
     pub fn node(alloc: Global, item: T) -> Result<Node<T>, AllocError>
     where
         T: Drop,

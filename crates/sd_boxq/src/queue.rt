@@ -15,7 +15,8 @@ use std::marker::Model;
 /// A queue of boxes, which contracts see as the list of its items. No call takes memory.
 ///
 /// Each box points to the next one, and the queue to the first and the last one. So a box is put at
-/// either end, and taken from the front, in a bounded number of steps.
+/// either end, and taken from the front, in a bounded number of steps; elsewhere a search goes from the
+/// first box to the index once, and the box is linked in or taken out there.
 pub struct BoxQueue<T> {
     nodes: Nodes<T, Global>,
 }
@@ -70,22 +71,22 @@ impl<T> BoxQueue<T> {
         drop(nodes);
     }
 
-    /// The item at this place, counted from 0. `None` exactly where there is none.
-    pub fn item(&self, place: usize) -> Option<&T>
-        ensures { option_copied result ≡ slice_get self.now place }
+    /// The item at this index, counted from 0. `None` exactly where there is none.
+    pub fn item(&self, index: usize) -> Option<&T>
+        ensures { option_copied result ≡ slice_get self.now index }
     {
-        match self.seek(place) {
+        match self.seek(index) {
             Ok(item) => Some(item),
             Err(_) => None,
         }
     }
 
-    /// The item at this place, counted from 0, or how far the place lies behind the last item.
-    pub fn seek(&self, place: usize) -> Result<&T, usize>
-        ensures { MatchResult result (λ x. slice_get self.now place ≡ Some x.now) (λ left. place ≡ length self.now + left) }
+    /// The item at this index, counted from 0, or how far the index lies behind the last item.
+    pub fn seek(&self, index: usize) -> Result<&T, usize>
+        ensures { MatchResult result (λ x. slice_get self.now index ≡ Some x.now) (λ left. index ≡ length self.now + left) }
     {
-        let mut left = place;
-        for item in self.nodes.items() {
+        let mut left = index;
+        for item in self.items() {
             if left == 0 {
                 return Ok(item);
             }
@@ -98,7 +99,7 @@ impl<T> BoxQueue<T> {
     pub fn first(&self) -> Option<&T>
         ensures { option_copied result ≡ slice_get self.now 0 }
     {
-        self.nodes.items().next()
+        self.items().next()
     }
 
     /// Whether there is no item.
@@ -114,7 +115,7 @@ impl<T> BoxQueue<T> {
         ensures { result ≡ length self.now }
     {
         let mut count = 0;
-        for _ in self.nodes.items() {
+        for _ in self.items() {
             count += 1;
         }
         count

@@ -4,7 +4,7 @@ ghost use Rattle.sd_boxq.specs.Order.{precedes, precedes_keyed};
 
 /// An item with a rank, a key and an id.
 ///
-/// The greater rank comes first, and of equal ranks the less key (Solaris Internals, dispatcher:
+/// The greater rank comes first, and of equal ranks the smaller key (Solaris Internals, dispatcher:
 /// a rank is an effective priority; keys are this project's own).
 pub trait Ranked {
     ghost rank: { Self → ℕ };
@@ -17,7 +17,7 @@ pub trait Ranked {
     fn rank(&self) -> u8
         ensures { result ≡ rank self.now };
 
-    /// The key: of equal ranks the less comes first.
+    /// The key: of equal ranks the smaller comes first.
     fn key(&self) -> i64
         ensures { result ≡ key self.now };
 
@@ -26,14 +26,14 @@ pub trait Ranked {
         ensures { result ≡ id self.now };
 }
 
-/// The greater rank first, and of equal ranks the less key.
+/// The greater rank first, and of equal ranks the smaller key.
 pub(crate) fn precedes<T: Ranked>(x: &T, y: &T) -> bool
     ensures { result ≡ precedes T.rank T.key x.now y.now }
 {
     y.rank() < x.rank() || x.rank() == y.rank() && x.key() < y.key()
 }
 
-/// The less key first, and of equal keys the less id.
+/// The smaller key first, and of equal keys the smaller id.
 pub(crate) fn precedes_keyed<T: Ranked>(x: &T, y: &T) -> bool
     ensures { result ≡ precedes_keyed T.key T.id x.now y.now }
 {

@@ -20,7 +20,7 @@ pub(crate) enum Wanted<'a, T> {
     BehindKeyed(&'a T),
     /// Those with this id.
     Id(u32),
-    /// Those with a key less than this.
+    /// Those with a key smaller than this.
     Below(i64),
 }
 

@@ -1,8 +1,9 @@
-//! Orders by hand, both ends, and a long queue.
-ghost use Rattle.std.specs.Prelude.{◌≡◌, ◌<◌, ◌^◌, ℕ, length};
+//! Orders by hand, both ends, freeing, and a long queue.
+ghost use Rattle.std.specs.Prelude.{◌≡◌, ◌<◌, ◌^◌, ℕ, IfOk, length, pos};
 
 use crate::{BoxQueue, Node, Ranked};
 use std::alloc::AllocError;
+use std::rc::Rc;
 use std::test::Fail;
 
 #[derive(Drop)]
@@ -105,42 +106,132 @@ fn ends(rt: HostRuntime) -> Result<(), Fail> {
     Ok(())
 }
 
-#[test]
-fn reads_and_replaces(rt: HostRuntime) -> Result<(), Fail> {
-    let mut queue = BoxQueue::new();
-    for id in [4, 7, 7, 9] {
-        queue.push_back(node(&rt, 1, 0, id)?);
+// An item that shares a counter, which counts the items that are not dropped yet.
+#[derive(Drop)]
+struct Shared {
+    owner: Rc<u8>,
+    id: u32,
+    mark: u8,
+}
+
+impl Ranked for Shared {
+    ghost rank = { λ _. 1 };
+
+    ghost key = { λ _. pos 2 };
+
+    ghost id = { λ x. x.id };
+
+    fn rank(&self) -> u8 {
+        1
     }
-    let mut items = queue.items();
-    assert_eq!(rt; id_of(items.next()), 4);
-    assert_eq!(rt; items.map(|item| item.id).sum::<u32>(), 23);
-    // The first of the two with id 7 makes room.
-    let old = queue.replace(
-        7,
-        Item {
-            rank: 1,
-            key: 0,
-            id: 7,
-        },
-    );
-    assert_eq!(rt; id_of(old.as_ref()), 7);
-    assert!(rt;
-        queue
-            .replace(
-                5,
-                Item {
-                    rank: 1,
-                    key: 0,
-                    id: 5
-                }
-            )
-            .is_none()
-    );
-    assert_eq!(rt; ids(&queue), [4, 7, 7, 9, 0]);
+
+    fn key(&self) -> i64 {
+        2
+    }
+
+    fn id(&self) -> u32 {
+        self.id
+    }
+}
+
+fn share(owner: &Rc<u8>, id: u32, mark: u8) -> Result<Shared, AllocError>
+    ensures { IfOk result (λ x. x.id ≡ id) }
+{
+    let owner = owner.clone()?;
+    Ok(Shared { owner, id, mark })
+}
+
+fn replace(
+    queue: &mut BoxQueue<Shared>,
+    owner: &Rc<u8>,
+    id: u32,
+    mark: u8,
+) -> Result<Option<Shared>, AllocError> {
+    let item = share(owner, id, mark)?;
+    Ok(queue.replace(id, item))
+}
+
+fn mark_of(item: Option<&Shared>) -> u8 {
+    match item {
+        Some(item) => item.mark,
+        None => 0,
+    }
+}
+
+// The counter has one owner of its own, beside the items.
+#[test]
+fn drops_each_item(rt: HostRuntime) -> Result<(), Fail> {
+    let owner = Rc::new(rt.alloc(), 0)?;
+    let mut queue = BoxQueue::new();
+    for id in 0..4 {
+        queue.push_back(Node::node(rt.alloc(), share(&owner, id, 1)?)?);
+    }
+    assert_eq!(rt; Rc::strong_count(&owner), 5);
+    // From the middle, from the back and from the front.
+    drop(queue.take_first(1));
+    drop(queue.take_first(3));
+    drop(queue.pop_front());
+    assert_eq!(rt; Rc::strong_count(&owner), 2);
+    // The item that was there is returned, and dropped here. Where none was there, the new one is dropped.
+    drop(replace(&mut queue, &owner, 2, 1)?);
+    assert_eq!(rt; Rc::strong_count(&owner), 2);
+    drop(replace(&mut queue, &owner, 9, 1)?);
+    assert_eq!(rt; Rc::strong_count(&owner), 2);
+    queue.push_front(Node::node(rt.alloc(), share(&owner, 5, 1)?)?);
+    assert_eq!(rt; Rc::strong_count(&owner), 3);
+    drop(queue);
+    assert_eq!(rt; Rc::strong_count(&owner), 1);
     Ok(())
 }
 
-// A queue that walks to its end for each box does not end here.
+#[test]
+fn reads_and_replaces(rt: HostRuntime) -> Result<(), Fail> {
+    let owner = Rc::new(rt.alloc(), 0)?;
+    let mut queue = BoxQueue::new();
+    for (id, mark) in [(4, 1), (7, 2), (7, 3), (9, 4)] {
+        queue.push_back(Node::node(rt.alloc(), share(&owner, id, mark)?)?);
+    }
+    let mut items = queue.items();
+    assert_eq!(rt; mark_of(items.next()), 1);
+    assert_eq!(rt; mark_of(items.next()), 2);
+    assert_eq!(rt; mark_of(items.last()), 4);
+    // The first of the two with id 7 makes room.
+    let old = replace(&mut queue, &owner, 7, 5)?;
+    assert_eq!(rt; mark_of(old.as_ref()), 2);
+    assert!(rt; replace(&mut queue, &owner, 5, 6)?.is_none());
+    let mut items = queue.items();
+    for mark in [1, 5, 3, 4, 0] {
+        assert_eq!(rt; mark_of(items.next()), mark);
+    }
+    Ok(())
+}
+
+// In the middle and at both ends, and the last one leaves last.
+#[test]
+fn leaves_from_anywhere(rt: HostRuntime) -> Result<(), Fail> {
+    let mut queue = BoxQueue::new();
+    for id in [1, 2, 3, 4] {
+        queue.push_back(node(&rt, 1, 0, id)?);
+    }
+    assert_eq!(rt; taken(queue.take_first(2)), 2);
+    assert_eq!(rt; taken(queue.take_first(4)), 4);
+    // The last box is found at the back again.
+    queue.push_back(node(&rt, 1, 0, 5)?);
+    assert_eq!(rt; ids(&queue), [1, 3, 5, 0, 0]);
+    assert_eq!(rt; taken(queue.take_first(1)), 1);
+    queue.insert_ranked(node(&rt, 2, 0, 6)?);
+    queue.insert_ranked(node(&rt, 1, -1, 7)?);
+    queue.insert_ranked(node(&rt, 0, 0, 8)?);
+    assert_eq!(rt; ids(&queue), [6, 7, 3, 5, 8]);
+    for id in [8, 5, 6, 3, 7] {
+        assert_eq!(rt; taken(queue.take_first(id)), id);
+    }
+    queue.push_back(node(&rt, 1, 0, 9)?);
+    assert_eq!(rt; ids(&queue), [9, 0, 0, 0, 0]);
+    Ok(())
+}
+
+// A queue that goes to its end for each box does not end here.
 #[test]
 fn holds_400_000_boxes(rt: HostRuntime) -> Result<(), Fail> {
     let mut queue = BoxQueue::new();
