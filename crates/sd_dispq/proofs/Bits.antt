@@ -1,5 +1,5 @@
 -- Bits of words.
-use Rattle.std.proofs.Common.{◌≡◌, ◌≢◌, ℕ, ◌+◌, ◌-◌, ◌*◌, ◌/◌, ◌%◌, ◌^◌, ◌<◌, ◌≤◌, ◌⊎◌, List, length, get_or, set, bit_and, bit_or, min, sym, ap, ◌∙◌, subst, arith, inl, inr, w64}
+use Rattle.std.proofs.Common.{◌≡◌, ◌≢◌, ℕ, ◌+◌, ◌-◌, ◌*◌, ◌/◌, ◌%◌, ◌^◌, ◌<◌, ◌≤◌, ◌⊎◌, List, length, get_or, set, bit_and, bit_or, min, sym, ap, ◌∙◌, arith, inl, inr, w64}
 use Rattle.std.specs.Int.{bit_at, trailing_zeros}
 use Rattle.std.proofs.lemmas.List.{get_or-set_same, get_or-set_other, get_or_past}
 use Rattle.std.proofs.lemmas.Nat.Bits.{bit_at_set_same, bit_at_set_other, bit_at_clear_same, bit_at_clear_other, bit_at-trailing_zeros, bit_at-zero, bit_at_and, bit_at-lt, bit_at_mask_inside, bit_at_mask_below, ones_shl}
@@ -96,6 +96,7 @@ next_set v m k w h f z n b =
     reach : (t : ℕ) → t < 64 → bit_at w t ≡ 1 → (64 * k + t < m) ⊎ (m ≤ 64 * k + t) → m ≤ 64 * k + t
     reach t s one (inl less) = let no : 0 ≡ 1 = sym (f.cleared t s less) ∙ one in absurd (omega (arith, no))
     reach t s one (inr more) = more
+
     before : (t : ℕ) → t < 64 → ((j : ℕ) → j < t → bit_at w j ≡ 0) → (i : ℕ) → m ≤ i → i < 64 * k + t → (i < 64 * k) ⊎ (64 * k ≤ i) → bit_of v i ≡ 0
     before t s below i g l (inl less) = z i g less
     before t s below i g l (inr more) =

@@ -289,6 +289,7 @@ module _ {X : Type 0} (rank : X → ℕ) (key : X → ℤ) (id : X → ℕ) (n :
       gone : (o : Option X) → find_id id n (all_of ls) ≡ o → IfSome o (λ x. rank x ≡ rank y) → find_id id n (all_of ls) ≡ None
       gone None f b = f
       gone (Some x) f b = let low = found_below ls x s.1 f in absurd (omega arith)
+
       by : (o : Option X) → find_id id n l ≡ o
           → (find_id id n l ≡ find_id id n (l ++ all_of ls)) × (replace_id id n y l ++ all_of ls ≡ replace_id id n y (l ++ all_of ls))
       by (Some x) f = (f ∙ sym (find-within id n x l (all_of ls) f), sym (replace-within x l (all_of ls) f))

@@ -84,8 +84,7 @@ module _ {X : Type 0} (rank : X → ℕ) where
       let at = there ls p r y s.0 e h in
       let alike = alike_rank rank key id n y (find_id id n (all_of ls)) a in
       let both = alike_there rank key id n y ls p s.1 at alike in
-      let all : all_of new ≡ replace_id id n y (all_of ls) = ap all_of t ∙ both.1 in
-      (
+      let all : all_of new ≡ replace_id id n y (all_of ls) = ap all_of t ∙ both.1 in (
         (
           ap length t ∙ length-set ls p _ ∙ s.0,
           subst (IsLevelled rank) (sym t) (levelled-replace rank key id n y ls p s.1 at),

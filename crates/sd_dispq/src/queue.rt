@@ -151,8 +151,9 @@ impl<T: Ranked> DispQueue<T> {
         ensures taken { result ≡ find_id T.id id self.old }
         ensures rest { self.new ≡ drop_id T.id id self.old }
     {
-        let taken = self.levels.take(id);
-        self.greatest = greatest_of(&self.levels);
+        let levels = &mut self.levels;
+        let taken = levels.take(id);
+        self.greatest = greatest_of(levels);
         taken
     }
 

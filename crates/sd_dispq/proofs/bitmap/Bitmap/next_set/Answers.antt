@@ -1,4 +1,4 @@
-use Rattle.std.proofs.Common.{◌<◌, ◌^◌, ◌≡◌, length, arith}
+use Rattle.std.proofs.Common.{◌<◌, ◌^◌, arith}
 use Rattle.sd_dispq.proofs.Bits.{IsFrom, next_set}
 use Rattle.sd_dispq.proofs.bitmap.Bitmap.next_set.Goals as goal
 

@@ -1,4 +1,4 @@
-use Rattle.std.proofs.Common.{◌%◌, ◌<◌, ◌≤◌, ◌*◌, ◌+◌, ◌/◌, ◌≡◌, ◌∙◌, get_or, arith}
+use Rattle.std.proofs.Common.{◌%◌, ◌∙◌, get_or, arith}
 use Rattle.sd_dispq.proofs.Bits.{masked_kept, masked_cleared, word_bit}
 use Rattle.sd_dispq.proofs.bitmap.Bitmap.word_from.Goals as goal
 

@@ -26,10 +26,11 @@ loop-index-preserved g c =
     let id = g.T.Ranked.id in
     let none = sym c.take_first.ensures.taken ∙ c.in_default-take_first.is in
     let same : c.take_first.new.self ≡ c.loop-index.self =
-    c.take_first.ensures.rest ∙ ap (set c.loop-index.self c.in-Some.index) (drop-absent id c.args.id (level_at c.loop-index.self c.in-Some.index) none) ∙ set-get_or c.loop-index.self c.in-Some.index [] in
-    (same ∙ c.loop-index.invariant.0,
+    c.take_first.ensures.rest ∙ ap (set c.loop-index.self c.in-Some.index) (drop-absent id c.args.id (level_at c.loop-index.self c.in-Some.index) none) ∙ set-get_or c.loop-index.self c.in-Some.index [] in (
+      same ∙ c.loop-index.invariant.0,
       subst (λ ls. AreWithout id c.args.id ls (c.in-Some.index + 1)) (sym same)
-      (without_past id c.args.id c.loop-index.self c.loop-index.from c.in-Some.index c.loop-index.invariant.1 c.in-Some.ensures.next none))
+          (without_past id c.args.id c.loop-index.self c.loop-index.from c.in-Some.index c.loop-index.invariant.1 c.in-Some.ensures.next none),
+    )
 
 pub returns-clause-taken : goal.returns-clause-taken
 returns-clause-taken g c =

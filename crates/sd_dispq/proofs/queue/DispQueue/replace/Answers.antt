@@ -1,4 +1,4 @@
-use Rattle.std.proofs.Common.{◌≡◌, ◌<◌, ◌≤◌, ℕ, ℤ, List, Option, Some, None, IfSome, length, refl, sym, ap, ◌∙◌, subst, arith}
+use Rattle.std.proofs.Common.{◌≡◌, ◌≤◌, ℕ, ℤ, List, Option, Some, None, IfSome, length, refl, sym, ap, ◌∙◌, subst, arith}
 use Rattle.sd_boxq.specs.Order.{find_id, replace_id, IsAlike}
 use Rattle.sd_dispq.specs.Levels.{all_of, IsLevelled}
 use Rattle.sd_dispq.proofs.LevelLemmas.{found_below, replace-absent, alike_in_level}
