@@ -105,7 +105,7 @@ module _ {X : Type 0} (id : X → ℕ) (n : ℕ) (ls : List (List X)) (p : ℕ) 
       → (find_id id n (all_of ls) ≡ find_id id n (level_at ls p)) × (all_of (set ls p (drop_id id n (level_at ls p))) ≡ drop_id id n (all_of ls))
   holder_is h = by_find (find_id id n (level_at ls p)) refl h
 
--- ---- by place
+-- ---- by index
 get-within : {X : Type 0} (l m : List X) (i : ℕ) (x : X) → slice_get l i ≡ Some x → slice_get (l ++ m) i ≡ Some x
 get-within [] m i x e = absurd cc
 get-within (y ∷ l) m zero x e = e

@@ -1,50 +1,72 @@
-//! Measures the queues: puts 100, 10,000 and 1,000,000 boxes into a queue and into a dispatch queue over
-//! all its levels, and takes them out again. It prints the counts, and where its words have `time` the
-//! nanoseconds that each box took.
+//! Measures the queues with small items and with big ones. It prints how many calls had their effect, and
+//! where its arguments have `time` the nanoseconds that each call took.
 #![tactic(auto)]
 
+mod items;
 mod measure;
 
-use measure::{Measured, measure_dispatch_queue, measure_queue};
+use items::{Big, Made, Small};
+use measure::{
+    Measured, STANDING, measure_ends, measure_levels, measure_middle, measure_sleepers,
+    measure_waiters,
+};
 use std::{env, io};
 
 const SIZES: [u32; 3] = [100, 10_000, 1_000_000];
 
-fn print(rt: &impl io::Print, name: &str, measured: &Measured, with_time: bool) -> io::Result<()> {
-    let Measured { put, taken, .. } = measured;
-    println!(rt; "{name}: {put} put, {taken} taken")?;
+fn print(rt: &impl io::Print, call: &str, measured: Measured, with_time: bool) -> io::Result<()> {
+    let Measured { done, time } = measured;
     if with_time {
-        let Measured {
-            put_time,
-            take_time,
-            ..
-        } = measured;
-        let (put_time, take_time) = (put_time.as_nanos(), take_time.as_nanos());
-        println!(rt; "  {put_time} ns to put, {take_time} ns to take")?;
+        let time = time.as_nanos();
+        println!(rt; "  {call}: {done} at {time} ns")?;
+    } else {
+        println!(rt; "  {call}: {done}")?;
     }
+    Ok(())
+}
+
+fn print_ends<T: Made + Drop>(rt: &HostRuntime, item: &str, with_time: bool) -> io::Result<()> {
+    for count in SIZES {
+        println!(rt;
+            "{count} {item} items at the ends of a queue, and over all levels of a dispatch queue"
+        )?;
+        let (put, taken) = measure_ends::<T>(rt, rt.alloc(), count)?;
+        print(rt, "push_back", put, with_time)?;
+        print(rt, "pop_front", taken, with_time)?;
+        let (put, taken) = measure_levels::<T>(rt, rt.alloc(), count)?;
+        print(rt, "put_back", put, with_time)?;
+        print(rt, "take_best", taken, with_time)?;
+    }
+    Ok(())
+}
+
+fn print_middle<T: Made + Drop>(rt: &HostRuntime, item: &str, with_time: bool) -> io::Result<()> {
+    println!(rt; "in the middle of {STANDING} {item} items")?;
+    let [put, found, replaced, taken] = measure_middle::<T>(rt, rt.alloc())?;
+    print(rt, "put_ranked", put, with_time)?;
+    print(rt, "find", found, with_time)?;
+    print(rt, "find and replace", replaced, with_time)?;
+    print(rt, "take", taken, with_time)?;
+    let [slept, taken] = measure_sleepers::<T>(rt, rt.alloc())?;
+    print(rt, "sleep", slept, with_time)?;
+    print(rt, "take a sleeper", taken, with_time)?;
+    let [blocked, taken] = measure_waiters::<T>(rt, rt.alloc())?;
+    print(rt, "block", blocked, with_time)?;
+    print(rt, "take a waiter", taken, with_time)?;
     Ok(())
 }
 
 fn main(rt: HostRuntime) -> io::Result<()> {
     let mut with_time = false;
-    for word in env::args(&rt)? {
-        if word.as_str() == "time" {
+    for argument in env::args(&rt)? {
+        if argument.as_str() == "time" {
             with_time = true;
         }
     }
-    for count in SIZES {
-        print(
-            &rt,
-            "queue",
-            &measure_queue(&rt, rt.alloc(), count)?,
-            with_time,
-        )?;
-        print(
-            &rt,
-            "dispatch queue",
-            &measure_dispatch_queue(&rt, rt.alloc(), count)?,
-            with_time,
-        )?;
-    }
+    print_middle::<Small>(&rt, "small", with_time)?;
+    print_middle::<Big>(&rt, "big", with_time)?;
+    // The big ones first: many small blocks that were freed are joined at the next bigger one.
+    print_ends::<Big>(&rt, "big", with_time)?;
+    print_ends::<Small>(&rt, "small", with_time)?;
     Ok(())
 }
