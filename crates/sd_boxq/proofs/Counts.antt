@@ -1,5 +1,5 @@
 -- What is done at the index of the first item that passes a test, and behind the last item.
-use Rattle.std.proofs.Common.{◌≡◌, ℕ, ◌+◌, Bool, true, false, List, [], ◌∷◌, ◌++◌, Option, Some, None, length, slice_get, slice_set, refl, ap, arith}
+use Rattle.std.proofs.Common.{◌≡◌, ℕ, Bool, true, false, List, [], ◌∷◌, ◌++◌, None, length, slice_get, slice_set, refl, ap, arith}
 use Prim.Native.Nat.{zero, suc}
 use Rattle.std.specs.List.{insert, remove}
 use Rattle.sd_boxq.specs.Boxes.{count_before}

@@ -1,11 +1,10 @@
 -- How a search goes through the boxes of a queue, and what it has seen where it ends.
-use Rattle.std.proofs.Common.{◌≡◌, ℕ, ◌+◌, ◌<◌, ◌≤◌, Bool, true, false, List, [], ◌∷◌, ◌++◌, Option, Some, None, length, take, drop, slice_get, slice_set, refl, sym, subst, ap, ◌∙◌, arith}
+use Rattle.std.proofs.Common.{◌≡◌, ℕ, ◌+◌, ◌<◌, ◌≤◌, Bool, true, false, List, [], ◌∷◌, Option, Some, None, length, drop, slice_get, refl, sym, subst, ap, ◌∙◌, arith}
 use Prim.Native.Nat.{zero, suc}
 use lib.ListN.{length-map}
-use Rattle.std.specs.Prelude.{map, not, IsTrue, ◌↔◌, MatchOption}
+use Rattle.std.specs.Prelude.{map, not, IsTrue, ◌↔◌}
 use Rattle.std.specs.Option.{is_some}
 use Rattle.std.specs.Iterator.{YieldsFirstBy}
-use denote.RawPtr.{Ptr}
 use Rattle.sd_boxq.specs.Links.{Link}
 use Rattle.sd_boxq.specs.Boxes.{BoxOf, boxes_from, items_in, LiesAt, count_before}
 

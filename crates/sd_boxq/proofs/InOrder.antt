@@ -2,7 +2,7 @@
 use Rattle.std.proofs.Common.{◌≡◌, ◌∙◌, ℕ, ℤ, Bool, true, false, ◌&&◌, List, [], ◌∷◌, Option, Some, None, drop, IfSome, refl, sym, subst, arith}
 use Rattle.std.proofs.lemmas.Bool.Decides.{nat_tests}
 use Rattle.std.proofs.lemmas.Int.{ints}
-use Prim.Native.Nat.{zero, suc, ◌<◌}
+use Prim.Native.Nat.{zero, suc}
 use Rattle.std.specs.Prelude.{int_lt, nat_lt, ◌==◌, ◌||◌}
 use Rattle.std.specs.List.{Contains}
 use Rattle.sd_boxq.specs.Order.{insert_before, precedes, precedes_keyed, insert_ranked, insert_keyed, find_first, drop_first, replace_first, find_id, replace_id, IsAlike, IsNowhere, IsEverywhere, IsInOrder, IsStrictlyInOrder, IsRanked, IsKeyed, IsStrictlyRanked, IsStrictlyKeyed, IsBest}

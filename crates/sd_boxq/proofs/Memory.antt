@@ -3,6 +3,7 @@ pub mod Amid
 pub mod Chained
 pub mod Crosses
 pub mod Cursors
+pub mod Seams
 pub mod Seen
 pub mod Shared
 pub mod Steps

@@ -12,7 +12,8 @@ use crate::search::Wanted;
 use std::alloc::Global;
 use std::marker::Model;
 
-/// A queue of boxes, which contracts see as the list of its items. No call takes memory.
+/// A queue of boxes, which contracts see as the list of its items. No call takes memory. A queue that is
+/// dropped drops its items, and frees their boxes.
 ///
 /// Each box points to the next one, and the queue to the first and the last one. So a box is put at
 /// either end, and taken from the front, in a bounded number of steps; elsewhere a search goes from the

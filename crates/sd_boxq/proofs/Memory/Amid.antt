@@ -1,14 +1,15 @@
 -- The node at a spot amid the others.
-use mathlib.Core.Path.{◌≡◌, refl, sym, ap, subst, ◌∙◌}
-use Prim.Native.Nat.{ℕ, ◌<◌}
+use mathlib.Core.Path.{◌≡◌, sym, ap, subst, ◌∙◌}
+use Prim.Native.Nat.{◌<◌}
 use native.Mathlib.Omega.{arith}
-use mathlib.Core.List.{List, [], ◌∷◌, ◌++◌, map-append}
+use mathlib.Core.List.{List, ◌∷◌, ◌++◌, map-append}
 use lib.ListN.{length, length-append, length-map}
 use Rattle.std_alloc.proofs.BoxSteps.Form.{Bx, X}
 use Rattle.sd_boxq.specs.declared.nodes.cursor.Spot.{Spot}
 use Rattle.sd_boxq.specs.Links.{Link, links_of, has_some, IsChained}
 use Rattle.sd_boxq.specs.Boxes.{LiesAt}
-use Rattle.sd_boxq.proofs.Memory.Chained.{IsChained-had, some_seam, parted, lies_there}
+use Rattle.sd_boxq.proofs.Memory.Chained.{IsChained-had}
+use Rattle.sd_boxq.proofs.Memory.Seams.{some_seam, parted, lies_there}
 use Rattle.sd_boxq.proofs.Memory.Steps.{Hd, D}
 
 -- the nodes before it and their items, itself and its item, and those behind it

@@ -1,16 +1,14 @@
 -- What stays linked where a box comes or goes.
-use mathlib.Core.Path.{◌≡◌, refl, sym, ap, subst, ◌∙◌}
+use mathlib.Core.Path.{◌≡◌, refl, sym, subst, ◌∙◌}
 use mathlib.Core.Logic.{∥∥₁_elim}
 use mathlib.Core.List.{List, [], ◌∷◌, ◌++◌}
-use Prim.Native.Nat.{ℕ, zero, suc, ◌+◌, ◌<◌}
-use lib.ListN.{length, length-map}
+use Prim.Native.Nat.{◌<◌}
+use lib.ListN.{length}
 use native.Mathlib.Omega.{arith}
-use Rattle.std.specs.Prelude.{Bool, true, false, map, Some, slice_get, slice_set}
-use Rattle.std.specs.List.{insert, remove}
+use Rattle.std.specs.Prelude.{Bool, true, false}
 use base.Stored.{Coded-set, coded_bool}
 use denote.RawPtr.{Ptr, coded_ptr}
 use Rattle.sd_boxq.specs.Links.{Link, links_of, has_some, IsChained, LeadsOn}
-use Rattle.sd_boxq.specs.Boxes.{LiesAt}
 
 IsChained-prop : (h t : Ptr) (ls : List Link) → IsProp (IsChained h t ls)
 IsChained-prop h t [] = λ p q. refl
@@ -69,6 +67,10 @@ pub some_snoc : {X : Type 0} (xs : List X) (x : X) → has_some (xs ++ x ∷ [])
 some_snoc [] x = refl
 some_snoc (y ∷ xs) x = refl
 
+pub some_more : {X : Type 0} (xs : List X) → 0 < length xs → has_some xs ≡ true
+some_more [] p = absurd (omega arith)
+some_more (x ∷ xs) p = refl
+
 -- a box in front of others
 pub IsChained-before : (h t p : Ptr) (ls : List Link) → has_some ls ≡ true → IsChained h t ls → IsChained p t ((p, h, true) ∷ ls)
 IsChained-before h t p [] e c = absurd cc
@@ -102,45 +104,6 @@ pub IsChained-swap : (h t u : Ptr) (front : List Link) (l m : Link) (ls ms : Lis
 IsChained-swap h t u [] l m ls ms e c d = head_moved h m.0 u (m ∷ ms) (IsChained-head h t l ls c ∙ sym e) d
 IsChained-swap h t u (k ∷ []) l m ls ms e c d = (c.0, c.1, IsChained-swap k.1 t u [] l m ls ms e c.2 d)
 IsChained-swap h t u (k ∷ j ∷ front) l m ls ms e c d = (c.0, c.1, IsChained-swap k.1 t u (j ∷ front) l m ls ms e c.2 d)
-
--- a list is cut at an index
-pub parted : {X : Type 0} (i : ℕ) (xs : List X) → i < length xs → (front : List X) × (x : X) × (ys : List X) × (xs ≡ front ++ x ∷ ys) × (length front ≡ i)
-parted i [] p = absurd (omega arith)
-parted zero (x ∷ xs) p = ([], x, xs, refl, refl)
-parted (suc i) (x ∷ xs) p = let on = parted i xs (omega arith) in (x ∷ on.0, on.1, on.2, ap (λ l. x ∷ l) on.3, ap (λ n. suc n) on.4)
-
-pub get_seam : {X Y : Type 0} (f : X → Y) (front : List X) (x : X) (ys : List X) (n : ℕ) → length front ≡ n → slice_get (map f (front ++ x ∷ ys)) n ≡ Some (f x)
-get_seam f [] x ys n e = subst (λ k. slice_get (map f (x ∷ ys)) k ≡ Some (f x)) e refl
-get_seam f (k ∷ front) x ys n e = subst (λ j. slice_get (map f (k ∷ front ++ x ∷ ys)) j ≡ Some (f x)) e (get_seam f front x ys (length front) refl)
-
--- the box of the index n
-pub lies_there : (front : List Link) (l : Link) (ls : List Link) (n : ℕ) (p : Ptr) → length front ≡ n → LiesAt (front ++ l ∷ ls) n p → p ≡ l.0
-lies_there front l ls n p e at = let here = get_seam (λ k. k.0) front l ls n e in cc
-
--- what stands there when a box came behind the last of the front, left, or gave its item away
-pub insert_seam : {X : Type 0} (front : List X) (x : X) (ys : List X) (n : ℕ) (y : X) → length front ≡ n → front ++ x ∷ y ∷ ys ≡ insert (front ++ x ∷ ys) (suc n) y
-insert_seam [] x ys n y e = subst (λ k. x ∷ y ∷ ys ≡ insert (x ∷ ys) (suc k) y) e refl
-insert_seam (z ∷ front) x ys n y e = subst (λ k. z ∷ front ++ x ∷ y ∷ ys ≡ insert (z ∷ front ++ x ∷ ys) (suc k) y) e (ap (λ l. z ∷ l) (insert_seam front x ys (length front) y refl))
-
-pub remove_seam : {X : Type 0} (front : List X) (x y : X) (ys : List X) (n : ℕ) → length front ≡ n → front ++ x ∷ ys ≡ remove (front ++ x ∷ y ∷ ys) (suc n)
-remove_seam [] x y ys n e = subst (λ k. x ∷ ys ≡ remove (x ∷ y ∷ ys) (suc k)) e refl
-remove_seam (z ∷ front) x y ys n e = subst (λ k. z ∷ front ++ x ∷ ys ≡ remove (z ∷ front ++ x ∷ y ∷ ys) (suc k)) e (ap (λ l. z ∷ l) (remove_seam front x y ys (length front) refl))
-
-pub second_seam : {X : Type 0} (front : List X) (x y : X) (ys : List X) (n : ℕ) → length front ≡ n → slice_get (front ++ x ∷ y ∷ ys) (suc n) ≡ Some y
-second_seam [] x y ys n e = subst (λ k. slice_get (x ∷ y ∷ ys) (suc k) ≡ Some y) e refl
-second_seam (z ∷ front) x y ys n e = subst (λ k. slice_get (z ∷ front ++ x ∷ y ∷ ys) (suc k) ≡ Some y) e (second_seam front x y ys (length front) refl)
-
-pub first_seam : {X : Type 0} (front : List X) (x : X) (ys : List X) (n : ℕ) → length front ≡ n → slice_get (front ++ x ∷ ys) n ≡ Some x
-first_seam [] x ys n e = subst (λ k. slice_get (x ∷ ys) k ≡ Some x) e refl
-first_seam (z ∷ front) x ys n e = subst (λ k. slice_get (z ∷ front ++ x ∷ ys) k ≡ Some x) e (first_seam front x ys (length front) refl)
-
-pub set_seam : {X : Type 0} (front : List X) (x y : X) (ys : List X) (n : ℕ) → length front ≡ n → front ++ y ∷ ys ≡ slice_set (front ++ x ∷ ys) n y
-set_seam [] x y ys n e = subst (λ k. y ∷ ys ≡ slice_set (x ∷ ys) k y) e refl
-set_seam (z ∷ front) x y ys n e = subst (λ k. z ∷ front ++ y ∷ ys ≡ slice_set (z ∷ front ++ x ∷ ys) k y) e (ap (λ l. z ∷ l) (set_seam front x y ys (length front) refl))
-
-pub some_seam : {X : Type 0} (xs : List X) (x : X) (ys : List X) → has_some (xs ++ x ∷ ys) ≡ true
-some_seam [] x ys = refl
-some_seam (y ∷ xs) x ys = refl
 
 -- a box that others follow, and those
 IsChained-on : (t : Ptr) (l : Link) (ls : List Link) → has_some ls ≡ true → IsChained l.0 t (l ∷ ls) → (l.2 ≡ true) × IsChained l.1 t ls
@@ -176,24 +139,3 @@ IsChained-next h t front l k ls c = IsChained-head l.1 t k ls (IsChained-at h t 
 -- no box comes or leaves
 pub IsChained-same : (h t a : Ptr) (front : List Link) (l : Link) (ls : List Link) → l.0 ≡ a → IsChained h t (front ++ l ∷ ls) → IsChained h t (front ++ (a, l.1, l.2) ∷ ls)
 IsChained-same h t a front l ls e c = subst (λ p. IsChained h t (front ++ (p, l.1, l.2) ∷ ls)) e c
-
-pub some_more : {X : Type 0} (xs : List X) → 0 < length xs → has_some xs ≡ true
-some_more [] p = absurd (omega arith)
-some_more (x ∷ xs) p = refl
-
-pub single : {X : Type 0} (xs : List X) → length xs ≡ 1 → (x : X) × (xs ≡ x ∷ [])
-single [] e = absurd (omega arith)
-single (x ∷ []) e = (x, refl)
-single (x ∷ y ∷ xs) e = absurd (omega arith)
-
-get_within : {X : Type 0} (xs : List X) (n : ℕ) (x : X) → slice_get xs n ≡ Some x → n < length xs
-get_within [] n x e = absurd cc
-get_within (y ∷ xs) zero x e = omega arith
-get_within (y ∷ xs) (suc n) x e = let on = get_within xs n x e in omega arith
-
-pub lies_within : {Z X : Type 0} (ns : List (Link × Z)) (xs : List X) (n : ℕ) (p : Ptr) → length xs ≡ length ns → LiesAt (links_of ns) n p → n < length xs
-lies_within ns xs n p e at =
-    let within = get_within (map (λ l. l.0) (links_of ns)) n p at in
-    let places = length-map (links_of ns) (λ l. l.0) in
-    let links = length-map ns (λ k. k.0) in
-    omega arith

@@ -5,7 +5,7 @@ use seplogic.Ra.Ura.{Ura}
 use mir.Val.{Val, vstruct, vcons, vnil, of_list}
 use base.Logic.{ent, emp}
 use types.Logic.{Logic, sem}
-use types.Kit.{Item, Goal, Seq, Step, step, ‵, ◌$◌, move, drop, use0, fsplit, fjoin, fpick, feq_l}
+use types.Kit.{Item, Goal, Seq, Step, step, ‵, ◌$◌, drop, use0, fsplit, fjoin, fpick, feq_l}
 use denote.RattleType.{RattleType}
 use denote.RawPtr.{Ptr, ptr_val}
 use denote.Ref.{NamedLft}

@@ -1,7 +1,6 @@
--- What a `&` to a chain shows. Assumes `Logic`.
---     chain_Seen                  [`head`; `tail`; `len`; the elements; the pointers]
---     pointer_in, pointer_out, number_in, number_out      a word is opened, and shut
---     elem_at, link_lent_at       what is lent of the i-th node
+-- What a `&` to the nodes shows. Assumes `Logic`.
+--     nodes_Seen                  [`head`; `tail`; `any`; what is lent of the nodes]
+--     pointer_in, pointer_out, bool_in, bool_out      a pointer or a flag is opened, and shut
 use mathlib.Core.Path.{refl}
 use Prim.Native.Nat.{ℕ, ◌+◌}
 use mathlib.Core.List.{List, [], ◌∷◌}

@@ -2,7 +2,7 @@
 --     nodes_made, nodes_opens, nodes_closes      the three words by value, and behind a `&mut`
 --     cons_out, cons_in, snoc_out, snoc_in, append_in      one node at an end, beside the others;  two rows of nodes
 --     middle_out, middle_in      one node amid the others
---     one_opens, one_closes      a node is [its element; `next`; `prev`; what frees it]
+--     one_opens, one_closes      a node is [its element; `next`; `more`; what frees it]
 --     node_made, node_unmade      a block that was written whole is a node;  a node's cells are read, and then room
 use mathlib.Core.Path.{◌≡◌, refl, ap, ◌∙◌}
 use Prim.Native.Nat.{ℕ, ◌+◌, ◌<◌}
@@ -188,7 +188,7 @@ module _ (E : Bx) {M : Type 1} {𝓤 : Ura M} {𝓛 : Logic 𝓤} {K : Type 0} {
       → Step K 𝓛 (‵ (One E ((block_ptr b o, n, p), h) x) ∷ Γ) G (‵ (part_at (R E) full_share x b (o + eo E)) ∷ ‵ (pointer b (o + 0) n) ∷ ‵ (flag b (o + 8) p) ∷ ‵ (Frees E (block_ptr b o) h) ∷ Γ) G
   one_closes t b o n p h x = step (λ s. move t (2 ∷ []) $ flag_in t p b (o + 8) $ move t (2 ∷ []) $ pointer_in t n b (o + 0) $ fjoin t $ move t (1 ∷ 0 ∷ []) $ fjoin3 t $ s)
 
-  -- [`next`; `prev`; the element's cell; the handle's cell; the way back to the block; the token; what the handle owns; what the element owns]
+  -- [`next`; `more`; the element's cell; the handle's cell; the way back to the block; the token; what the handle owns; what the element owns]
   pub node_unmade : K → (b o : ℕ) (n : Ptr) (p : Bool) (h : Hd E) (x : X E)
       → ((v hv : Val) → Good (τ E) v → Fits E.al hv → Seq K 𝓛 (‵ (pointer b (o + 0) n) ∷ ‵ (flag b (o + 8) p) ∷ ‵ (fat full_share (τ E) b (o + eo E) v) ∷ ‵ (fat full_share (α E.al) b (o + ho E) hv)
       ∷ ‵ (fields_rejoin (R E) (P E) (block_ptr b o)) ∷ ‵ (token E.al h (block_ty E) (block_ptr b o)) ∷ ‵ (E.al.row.own_val h (hv ∷ [])) ∷ ‵ (own E x (v ∷ [])) ∷ Γ) G)
@@ -249,7 +249,7 @@ module _ (E : Bx) {M : Type 1} {𝓤 : Ura M} (𝓛 : Logic 𝓤) (ν : Sym) (b 
       (via 𝓤 _ (𝓛.laws.at_fields_free ν fields b o vs) (mono_r 𝓤 (fields_at 𝓤 H full_share fields 0 b o vs)
       (conj_r 𝓤 (all 𝓤 (λ (ws : Vals). wand 𝓤 (fields_at 𝓤 H full_share fields 0 b o ws) (H.at full_share (ty_struct ν fields) b o (vstruct ws)))) Joins))) $
       split ! $ split3 ! $ move ! (2 ∷ []) $ split3 ! $
-      -- [the element's cell; the handle's; nothing; next; prev; the way back; the token; the handle; the element]
+      -- [the element's cell; the handle's; nothing; `next`; `more`; the way back; the token; the handle; the element]
       move ! (1 ∷ 7 ∷ []) $ use2 𝓛 (‵ (part_at (P E) full_share h b (o + ho E))) (part_in 𝓛 (P E) refl full_share h b (o + ho E) hv) $ move ! (5 ∷ []) $
       use1 𝓛 (‵ (fields_rejoin (R E) (P E) (block_ptr b o))) rejoins $ move ! (1 ∷ 6 ∷ 0 ∷ []) $ fjoin3 ! $ move ! (1 ∷ 5 ∷ []) $
       use2 𝓛 (‵ (part_at (R E) full_share x b (o + eo E))) (el_in E 𝓛 x b (o + eo E) v) $ keep ! (0 ∷ 3 ∷ 4 ∷ 1 ∷ []) $ one_closes E ! b o n p h x $ done !

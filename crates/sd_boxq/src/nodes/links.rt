@@ -114,7 +114,7 @@ impl<T, A: Allocator> Nodes<T, A> {
         }
     }
 
-    /// Takes the box behind this one out, which is not the last.
+    /// Takes out the box behind this one, where it is not the last.
     pub(crate) fn unlink_behind(&mut self, spot: Spot<T>) -> (T, Vacant<Cell<T, A>, A>)
         requires { (LiesAt (links_of self.old.blocks) spot.index spot.at) × (suc (suc spot.index) < length self.old.items) }
         ensures { (slice_get self.old.items (suc spot.index) ≡ Some result.0) × (self.new.items ≡ remove self.old.items (suc spot.index)) }
@@ -130,7 +130,7 @@ impl<T, A: Allocator> Nodes<T, A> {
         }
     }
 
-    /// Takes the last box out, which is behind this one.
+    /// Takes out the box behind this one, where it is the last.
     pub(crate) fn unlink_last(&mut self, spot: Spot<T>) -> (T, Vacant<Cell<T, A>, A>)
         requires { (LiesAt (links_of self.old.blocks) spot.index spot.at) × (suc (suc spot.index) ≡ length self.old.items) }
         ensures { (slice_get self.old.items (suc spot.index) ≡ Some result.0) × (self.new.items ≡ remove self.old.items (suc spot.index)) }
@@ -147,7 +147,7 @@ impl<T, A: Allocator> Nodes<T, A> {
         }
     }
 
-    /// Puts an item into a box, and takes the one that was there out.
+    /// Puts an item into a box, and returns the one that was there.
     pub(crate) fn exchange(&mut self, spot: Spot<T>, item: T) -> T
         requires { LiesAt (links_of self.old.blocks) spot.index spot.at }
         ensures { (slice_get self.old.items spot.index ≡ Some result) × (self.new.items ≡ slice_set self.old.items spot.index item) }

@@ -47,7 +47,8 @@ use Rattle.sd_boxq.specs.Links.{Link, links_of, IsChained}
 use Rattle.sd_boxq.specs.Boxes.{LiesAt}
 use Rattle.sd_boxq.proofs.Memory.Amid.{amid, any_still, links_amid}
 use Rattle.sd_boxq.proofs.Memory.Cursors.{spot_val, spot_had}
-use Rattle.sd_boxq.proofs.Memory.Chained.{IsChained-same, lies_within, first_seam, set_seam}
+use Rattle.sd_boxq.proofs.Memory.Chained.{IsChained-same}
+use Rattle.sd_boxq.proofs.Memory.Seams.{lies_within, first_seam, set_seam}
 use Rattle.sd_boxq.proofs.Memory.Steps.{eo, Hd, D, Nr, Held, One, middle_out, middle_in, nodes_opens, nodes_closes, one_opens, one_closes}
 use Rattle.sd_boxq.specs.contracts.nodes.Nodes.exchange.Key.{name as #self}
 use Rattle.sd_boxq.proofs.nodes.Nodes.exchange.Statement as stated

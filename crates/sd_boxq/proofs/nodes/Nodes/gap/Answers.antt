@@ -1,7 +1,7 @@
-use Rattle.std.proofs.Common.{◌≡◌, refl, sym, subst, ap, ◌∙◌, List, ◌∷◌, suc, length, IsTrue, ◌↔◌}
+use Rattle.std.proofs.Common.{◌≡◌, sym, subst, suc}
 use Rattle.sd_boxq.specs.Links.{links_of}
 use Rattle.sd_boxq.specs.Search.{is_wanted, index_behind}
-use Rattle.sd_boxq.specs.Boxes.{BoxOf, LiesAt, items_in}
+use Rattle.sd_boxq.specs.Boxes.{BoxOf, items_in}
 use Rattle.sd_boxq.proofs.Gaps.{Searched, search_starts, search_sees, search_passes, search_finds, search_ends, last_is}
 use Rattle.sd_boxq.proofs.nodes.Nodes.gap.Goals as goal
 

@@ -5,7 +5,7 @@ use native.Mathlib.Omega.{arith}
 use mathlib.Core.List.{List, [], ◌∷◌, ◌++◌}
 use lib.ListN.{length, length-append}
 use seplogic.Ra.Ura.{Ura}
-use Rattle.std.specs.Prelude.{Bool, true, false}
+use Rattle.std.specs.Prelude.{Bool, true}
 use mir.Syntax.{Fn, named, ty_ptr, ty_bool}
 use mir.MapTy.{inst_fn}
 use mir.Val.{Val, vptr, vbool, vunit, has_ty}
@@ -16,7 +16,7 @@ use types.Logic.{Logic}
 use contract.Monad.{fact}
 use contract.Running.{tables, tables_of}
 use sound.WpLaws.{WpFn-mono}
-use types.Kit.{Item, ⋆, ‵, ◌⊛◌, at_ret, ◌$◌, ◌∵◌, !, qed, by, move, keep, use1, use2, use3, split, split3, join, group, rewrite, fsplit, fsplit3, fjoin, fjoin3, feq_i, feq_l, suffices, frame, done}
+use types.Kit.{Item, ⋆, ‵, ◌⊛◌, at_ret, ◌$◌, ◌∵◌, !, qed, by, move, keep, use1, use2, use3, split, split3, join, group, rewrite, fsplit3, fjoin, fjoin3, feq_i, feq_l, suffices, frame, done}
 use types.Part.{whole, sub, agg}
 use types.Run.{store, init, look, stop, fld, load, true_lit, unit_lit, of_opd, and_then, no_more, assigns, assigns_last, first, blocks, exec, returns, enter}
 use types.ByLocal.{alloc_all, pass_all, free_all, look_at, get, get_in, through, sets, is, env}
@@ -52,7 +52,8 @@ use Rattle.sd_boxq.specs.Links.{Link, links_of, has_some, IsChained}
 use Rattle.sd_boxq.specs.Boxes.{LiesAt}
 use Rattle.sd_boxq.proofs.Memory.Cursors.{spot_val, spot_had}
 use Rattle.sd_boxq.proofs.Memory.Amid.{amid, any_still, links_amid}
-use Rattle.sd_boxq.proofs.Memory.Chained.{IsChained-link, some_links, some_more, insert_seam}
+use Rattle.sd_boxq.proofs.Memory.Chained.{IsChained-link, some_links, some_more}
+use Rattle.sd_boxq.proofs.Memory.Seams.{insert_seam}
 use Rattle.sd_boxq.proofs.Memory.Steps.{node_val, Hd, D, Nr, block_ty, Held, One, cons_in, middle_out, middle_in, nodes_opens, nodes_closes, one_opens, one_closes, node_made}
 use Rattle.sd_boxq.specs.contracts.nodes.Nodes.link_behind.Key.{name as #self}
 use Rattle.sd_boxq.proofs.nodes.Nodes.link_behind.Statement as stated

@@ -16,7 +16,7 @@ use types.Logic.{Logic, sem}
 use contract.Monad.{fact}
 use contract.Running.{tables, tables_of}
 use sound.WpLaws.{WpFn-mono}
-use types.Kit.{Item, ⋆, ‵, ◌⊛◌, at_ret, ◌$◌, ◌∵◌, !, qed, by, move, keep, use1, use2, use3, split, split3, join, rewrite, fsplit, fsplit3, fjoin, fjoin3, feq_i, feq_l, suffices, frame, done}
+use types.Kit.{Item, ⋆, ‵, ◌⊛◌, at_ret, ◌$◌, ◌∵◌, !, qed, by, move, keep, use1, use2, use3, split, split3, join, rewrite, fsplit3, fjoin, fjoin3, feq_i, feq_l, suffices, frame, done}
 use types.Part.{whole, sub, agg}
 use types.Run.{look, store, stop, fld, load, of_opd, addr, and_then, no_more, assigns, first, blocks, exec, returns, enter}
 use types.ByLocal.{alloc_all, pass_all, free_all, look_at, get, get_in, through, sets, sets_last, is, env}
@@ -50,7 +50,8 @@ use Rattle.sd_boxq.specs.Links.{Link, links_of, has_some, IsChained}
 use Rattle.sd_boxq.specs.Boxes.{LiesAt}
 use Rattle.sd_boxq.proofs.Memory.Amid.{amid, any_still, links_amid}
 use Rattle.sd_boxq.proofs.Memory.Cursors.{spot_val, spot_had}
-use Rattle.sd_boxq.proofs.Memory.Chained.{IsChained-unlink, IsChained-next, some_links, some_more, second_seam, remove_seam}
+use Rattle.sd_boxq.proofs.Memory.Chained.{IsChained-unlink, IsChained-next, some_links, some_more}
+use Rattle.sd_boxq.proofs.Memory.Seams.{second_seam, remove_seam}
 use Rattle.sd_boxq.proofs.Memory.Steps.{uncons, Hd, D, Nr, Held, One, cons_out, middle_out, middle_in, nodes_opens, nodes_closes, one_opens, one_closes, node_unmade, block_back}
 use Rattle.sd_boxq.specs.contracts.nodes.Nodes.unlink_behind.Key.{name as #self}
 use Rattle.sd_boxq.proofs.nodes.Nodes.unlink_behind.Statement as stated

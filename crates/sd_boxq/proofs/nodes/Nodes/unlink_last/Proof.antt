@@ -1,6 +1,6 @@
 -- `unlink_last` moves the element and the handle out of the last node, which is behind the spot. Assumes `Logic`.
 use mathlib.Core.Path.{◌≡◌, refl, sym, ap, subst, ◌∙◌}
-use Prim.Native.Nat.{ℕ, suc, ◌<◌}
+use Prim.Native.Nat.{ℕ, suc}
 use Rattle.std.specs.Prelude.{false, slice_get, Some}
 use native.Mathlib.Omega.{arith}
 use mathlib.Core.List.{List, [], ◌∷◌, ◌++◌}
@@ -16,7 +16,7 @@ use types.Logic.{Logic, sem}
 use contract.Monad.{fact}
 use contract.Running.{tables, tables_of}
 use sound.WpLaws.{WpFn-mono}
-use types.Kit.{Item, ⋆, ‵, ◌⊛◌, at_ret, ◌$◌, ◌∵◌, !, qed, by, move, keep, use1, use2, use3, split, split3, join, rewrite, fsplit, fsplit3, fjoin, fjoin3, feq_i, feq_l, suffices, frame, done}
+use types.Kit.{Item, ⋆, ‵, ◌⊛◌, at_ret, ◌$◌, ◌∵◌, !, qed, by, move, keep, use1, use2, use3, split, split3, join, rewrite, fsplit3, fjoin, fjoin3, feq_i, feq_l, suffices, frame, done}
 use types.Part.{whole, sub, agg, store_in}
 use types.Run.{look, store, stop, fld, load, false_lit, of_opd, addr, and_then, no_more, assigns, first, blocks, exec, returns, enter}
 use types.ByLocal.{alloc_all, pass_all, free_all, look_at, get, get_in, through, sets, sets_last, is, env}
@@ -50,7 +50,8 @@ use Rattle.sd_boxq.specs.Links.{Link, links_of, IsChained}
 use Rattle.sd_boxq.specs.Boxes.{LiesAt}
 use Rattle.sd_boxq.proofs.Memory.Amid.{amid, any_still, links_amid}
 use Rattle.sd_boxq.proofs.Memory.Cursors.{spot_val, spot_had}
-use Rattle.sd_boxq.proofs.Memory.Chained.{IsChained-cut, IsChained-next, single, second_seam, remove_seam}
+use Rattle.sd_boxq.proofs.Memory.Chained.{IsChained-cut, IsChained-next}
+use Rattle.sd_boxq.proofs.Memory.Seams.{single, second_seam, remove_seam}
 use Rattle.sd_boxq.proofs.Memory.Steps.{Hd, D, Nr, Held, One, cons_out, middle_out, middle_in, nodes_opens, nodes_closes, one_opens, one_closes, node_unmade, block_back}
 use Rattle.sd_boxq.specs.contracts.nodes.Nodes.unlink_last.Key.{name as #self}
 use Rattle.sd_boxq.proofs.nodes.Nodes.unlink_last.Statement as stated
