@@ -1,7 +1,10 @@
 pub mod AgreedAfter
 pub mod AgreedEvents
 pub mod AgreedLemmas
+pub mod BaseLemmas
 pub mod CauseLemmas
+pub mod ClassTable
+pub mod ClassWords
 pub mod CountLemmas
 pub mod CpuWords
 pub mod FieldWords
