@@ -8,11 +8,13 @@ pub mod ClassWords
 pub mod CountLemmas
 pub mod CpuWords
 pub mod FieldWords
+pub mod FineLemmas
 pub mod Found
 pub mod HoldTable
 pub mod KeyLemmas
 pub mod LockTable
 pub mod Movers
+pub mod NumberLemmas
 pub mod OpTable
 pub mod Parts
 pub mod PassLemmas

@@ -1,10 +1,12 @@
 -- What the laws of the whole machine say.
-use Rattle.std.specs.Prelude.{◌≡◌, ℕ, ◌≤◌, Bool, true, false, Option, Some, None}
+use Rattle.std.specs.Prelude.{◌≡◌, ℕ, ◌<◌, ◌≤◌, Bool, true, false, Option, Some, None}
 use Rattle.sd_types.specs.declared.numbers.CpuId.{CpuId}
 use Rattle.sd_types.specs.declared.events.Event.{Event}
 use Rattle.sd_types.specs.declared.events.Event.TheVariants.{Napend, Wake, Rouse, Unblock, Grant, SemaVWake}
 use Rattle.sd_types.specs.declared.events.Hints.{Hints}
 use Rattle.sd_types.specs.declared.works.Work.{Work}
+use Rattle.sd_types.specs.Priorities.{eff}
+use Rattle.sd_types.specs.Willed.{IsSound}
 use Rattle.sd_machine.specs.declared.states.Place.{Place}
 use Rattle.sd_machine.specs.declared.states.Place.TheVariants.{Queued, RealTime}
 use Rattle.sd_machine.specs.declared.states.State.{State}
@@ -50,3 +52,7 @@ abbrev pub WokenAreRunnable : Type 0
 WokenAreRunnable =
     (w : Work) (n : ℕ) (s : State) (c : CpuId) (hints : Option Hints) (e : Event) (u : ℕ) → IsReached w n s → next w s c hints ≡ Some e → woken_by e ≡ Some u
     → is_runnable (thread_of (after w s n c e) u).place ≡ true
+
+-- each thread inherits priorities below 160, one for each of some locks that it holds, and its own is below 160
+abbrev pub AreSound : State → Type 0
+AreSound s = (t : ℕ) → IsSound (thread_of s t).body × (eff (thread_of s t).body < 160)

@@ -2,7 +2,7 @@
 
 ghost use Rattle.sd_laws.specs.Laws.{KeysDiffer, KeysWithin, OneRuns};
 ghost use Rattle.sd_sound.specs.Holding.{Agreed, DutiesServe, ReadsWell};
-ghost use Rattle.sd_sound.specs.Laws.{CountsWithin, EventsHaveCauses, HoldsAfterEntries, HoldsWhenReached, WokenAreRunnable};
+ghost use Rattle.sd_sound.specs.Laws.{AreSound, CountsWithin, EventsHaveCauses, HoldsAfterEntries, HoldsWhenReached, WokenAreRunnable};
 ghost use Rattle.sd_sound.specs.Scripted.{Scripted};
 
 /// In every state of every run each thread stands at an operation of its script or behind the last; it holds exactly
@@ -59,4 +59,10 @@ pub fn keys_differ()
 /// After n entries each key of a thread is at least -n and less than 4096 + n.
 pub fn keys_within()
     ensures { HoldsAfterEntries (λ w n s. KeysWithin n s) }
+{}
+
+/// A thread inherits priorities only through locks that it holds, one number for each, and all of them and its effective
+/// priority are below 160.
+pub fn inheritance_is_sound()
+    ensures { HoldsWhenReached (λ w s. AreSound s) }
 {}

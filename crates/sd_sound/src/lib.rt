@@ -5,6 +5,6 @@
 mod laws;
 
 pub use laws::{
-    counts_within, duties_serve, events_have_causes, keys_differ, keys_within, locks_agree,
-    one_runs, readers_wait_for_writers, scripts_are_followed, woken_are_runnable,
+    counts_within, duties_serve, events_have_causes, inheritance_is_sound, keys_differ, keys_within,
+    locks_agree, one_runs, readers_wait_for_writers, scripts_are_followed, woken_are_runnable,
 };
