@@ -27,6 +27,7 @@ pub mod RunningLemmas
 pub mod ScriptLemmas
 pub mod Searches
 pub mod ServeLemmas
+pub mod SideFields
 pub mod Waiters
 pub mod WokenLemmas
 pub mod Words
