@@ -26,6 +26,7 @@ pub mod ReleaseLemmas
 pub mod RunningLemmas
 pub mod ScriptLemmas
 pub mod Searches
+pub mod SemaphoreLemmas
 pub mod ServeLemmas
 pub mod SideFields
 pub mod Waiters
