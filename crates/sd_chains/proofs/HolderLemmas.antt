@@ -12,7 +12,7 @@ count_same f g zero same = refl
 count_same f g (suc k) same = rw (same k (omega arith)) (rw (count_same f g k (λ t lt. same t (omega arith))) refl)
 
 -- one thread comes
-count_more : (f g : ℕ → Bool) (t k : ℕ) → t < k → f t ≡ false → IsPut t true f g → counted g k ≡ suc (counted f k)
+pub count_more : (f g : ℕ → Bool) (t k : ℕ) → t < k → f t ≡ false → IsPut t true f g → counted g k ≡ suc (counted f k)
 count_more f g t zero lt was put = absurd (omega arith)
 count_more f g t (suc k) lt was put = elim (cases_eq k t) [
   | inl is ↦

@@ -2,6 +2,7 @@ pub mod AgreedAfter
 pub mod AgreedEvents
 pub mod AgreedLemmas
 pub mod BaseLemmas
+pub mod BoundLemmas
 pub mod CauseLemmas
 pub mod ClassTable
 pub mod ClassWords
