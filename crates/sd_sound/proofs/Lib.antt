@@ -17,6 +17,7 @@ pub mod LockTable
 pub mod Movers
 pub mod NumberLemmas
 pub mod OpTable
+pub mod OpenLemmas
 pub mod Parts
 pub mod PassLemmas
 pub mod PlaceTable

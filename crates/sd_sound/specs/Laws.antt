@@ -1,5 +1,7 @@
 -- What the laws of the whole machine say.
-use Rattle.std.specs.Prelude.{◌≡◌, ℕ, ◌<◌, ◌≤◌, Bool, true, false, Option, Some, None}
+use Rattle.std.specs.Prelude.{◌≡◌, ℕ, ◌+◌, ◌<◌, ◌≤◌, Bool, true, false, List, [], ◌∷◌, ◌==◌, Option, Some, None, ⊤}
+use Rattle.std.specs.List.{list_any}
+use Rattle.sd_full.specs.Threads.{open_of}
 use Rattle.sd_types.specs.declared.numbers.CpuId.{CpuId}
 use Rattle.sd_types.specs.declared.events.Event.{Event}
 use Rattle.sd_types.specs.declared.events.Event.TheVariants.{Napend, Wake, Rouse, Unblock, Grant, SemaVWake}
@@ -56,3 +58,17 @@ WokenAreRunnable =
 -- each thread inherits priorities below 160, one for each of some locks that it holds, and its own is below 160
 abbrev pub AreSound : State → Type 0
 AreSound s = (t : ℕ) → IsSound (thread_of s t).body × (eff (thread_of s t).body < 160)
+
+-- the processor is in the list
+abbrev pub is_in : ℕ → List CpuId → Bool
+is_in c xs = list_any (λ d. d.0 == c) xs
+
+-- the numbers of the processors rise, from n on
+abbrev pub IsRising : ℕ → List CpuId → Type 0
+IsRising n [] = ⊤
+IsRising n (x ∷ xs) = (n ≤ x.0) × IsRising (x.0 + 1) xs
+
+-- the open processors of a set rise; each is one of the workload's, of that set, and not closing
+pub record OpenHold (w : Work) (s : State) : Type 0 where
+  pub member : (p c : ℕ) → is_in c (open_of s p) ≡ true → (c < w.cpus) × ((cpu_of s c).set.0 ≡ p) × ((cpu_of s c).closing ≡ None)
+  pub rising : (p : ℕ) → IsRising 0 (open_of s p)
