@@ -70,7 +70,8 @@ use Rattle.std.specs.Prelude.{map, filter}
 use Rattle.std.specs.List.{list_any, range_with_len}
 use Rattle.std.proofs.lemmas.Bool.{cases_eq, cases_lt, false≢true, eqb-true}
 use Rattle.std.proofs.lemmas.Bool.Decides.{nat_tests}
-use Rattle.std.proofs.lemmas.List.{get_or-set_same, get_or-set_other}
+use Rattle.std.proofs.lemmas.List.{get_or_past, get_or-set_same, get_or-set_other}
+use Rattle.std.proofs.lemmas.List.FromFn.{get_or-map-range_with_len, length-map-range_with_len}
 use Rattle.sd_types.specs.Partitions.{set_of_cpu, cpu_of_number, cpus_of_set}
 use Rattle.sd_machine.specs.Opening.{first_cpu_state, open_list, opening}
 use Rattle.sd_full.specs.Threads.{no_cpus, open_of, with_open}
@@ -541,3 +542,60 @@ open_kept w s n c (SemaVWake t j u at) ready cause holds = same_hold w s (after 
 open_kept w s n c (SemaVCount t j m) ready cause holds = same_hold w s (after w s n c (SemaVCount t j m)) (cpus_same w s n c (SemaVCount t j m) refl) (open_same w s n c (SemaVCount t j m) refl) holds
 open_kept w s n c (Move t at) ready cause holds = same_hold w s (after w s n c (Move t at)) (cpus_same w s n c (Move t at) refl) (open_same w s n c (Move t at) refl) holds
 open_kept w s n c (Bind t u d answer) ready cause holds = same_hold w s (after w s n c (Bind t u d answer)) (cpus_same w s n c (Bind t u d answer) refl) (open_same w s n c (Bind t u d answer) refl) holds
+
+-- The initial state.
+
+range_rises : (q : ℕ → Bool) (n k : ℕ) → IsRising n (map cpu_of_number (filter q (range_with_len n k)))
+range_rises q n zero = tt
+range_rises q n (suc k) = by (q n) (range_rises q (n + 1) k)
+  where
+    by : (b : Bool) → IsRising (n + 1) (map cpu_of_number (filter q (range_with_len (n + 1) k))) → IsRising n (map cpu_of_number (if b then (n ∷ filter q (range_with_len (n + 1) k)) else filter q (range_with_len (n + 1) k)))
+    by true rest = (omega arith, rest)
+    by false rest = rising_less n (n + 1) (map cpu_of_number (filter q (range_with_len (n + 1) k))) (omega arith) rest
+
+in_range : (q : ℕ → Bool) (c n k : ℕ) → is_in c (map cpu_of_number (filter q (range_with_len n k))) ≡ true → (c < n + k) × (q c ≡ true)
+in_range q c n zero e = cc
+in_range q c n (suc k) e = by (q n) refl (λ f. let (a, d) = in_range q c (n + 1) k f in ((omega (arith, a)), d)) e
+  where
+    by : (b : Bool) → q n ≡ b → (is_in c (map cpu_of_number (filter q (range_with_len (n + 1) k))) ≡ true → (c < n + suc k) × (q c ≡ true))
+        → is_in c (map cpu_of_number (if b then (n ∷ filter q (range_with_len (n + 1) k)) else filter q (range_with_len (n + 1) k))) ≡ true → (c < n + suc k) × (q c ≡ true)
+    by true is more e = elim (in_later c (cpu_of_number n) (map cpu_of_number (filter q (range_with_len (n + 1) k))) e) [
+      | inl here ↦ ((omega (arith, here)), ap q (sym here) ∙ is)
+      | inr rest ↦ more rest
+    ]
+    by false is more e = more e
+
+opening_list : (w : Work) (p : ℕ) → (open_of (opening w) p ≡ cpus_of_set w p) ⊎ (open_of (opening w) p ≡ [])
+unfolding opening
+opening_list w p = elim (cases_lt p (length w.sets + 1)) [
+  | inl here ↦ inl (ap (λ (x : ArrayVec CpuId). x.items) (get_or-map-range_with_len (open_list w) 0 (length w.sets + 1) p p no_cpus here (omega arith)))
+  | inr past ↦ inr (ap (λ (x : ArrayVec CpuId). x.items) (get_or_past (map (open_list w) (range_with_len 0 (length w.sets + 1))) p no_cpus (let many = length-map-range_with_len (open_list w) 0 (length w.sets + 1) in omega (arith, many, past))))
+]
+
+first_place : (w : Work) (c : ℕ) → c < w.cpus → ((cpu_of (opening w) c).set.0 ≡ set_of_cpu w c) × ((cpu_of (opening w) c).closing ≡ None)
+unfolding opening first_cpu_state
+first_place w c here =
+    let at : cpu_of (opening w) c ≡ first_cpu_state w c = get_or-map-range_with_len (first_cpu_state w) 0 w.cpus c c no_cpu here (omega arith) in
+    (ap (λ (x : CpuState). x.set.0) at, ap (λ (x : CpuState). x.closing) at)
+
+opening_open : (w : Work) → OpenHold w (opening w)
+opening_open w = record {
+  member = λ p c e. elim (opening_list w p) [
+    | inl is ↦ member p c (subst (λ xs. is_in c xs ≡ true) is e)
+    | inr none ↦ absurd (false≢true (subst (λ xs. is_in c xs ≡ true) none e))
+  ];
+  rising = λ p. elim (opening_list w p) [
+    | inl is ↦ subst (λ xs. IsRising 0 xs) (sym is) (range_rises (λ c. set_of_cpu w c == p) 0 w.cpus)
+    | inr none ↦ subst (λ xs. IsRising 0 xs) (sym none) tt
+  ];
+}
+  where
+    member : (p c : ℕ) → is_in c (cpus_of_set w p) ≡ true → (c < w.cpus) × ((cpu_of (opening w) c).set.0 ≡ p) × ((cpu_of (opening w) c).closing ≡ None)
+    member p c e =
+        let (below, test) = in_range (λ c. set_of_cpu w c == p) c 0 w.cpus e in
+        let inside : c < w.cpus = omega (arith, below) in
+        let (set_is, none) = first_place w c inside in
+        (inside, set_is ∙ eqb-true (set_of_cpu w c) p test, none)
+
+pub open_is_kept : IsKept (λ w n s. OpenHold w s)
+open_is_kept = record { start = opening_open; step = open_kept }
