@@ -32,6 +32,7 @@ pub mod SemaphoreLemmas
 pub mod ServeLemmas
 pub mod SideFields
 pub mod Waiters
+pub mod Whole
 pub mod WokenLemmas
 pub mod Words
 pub mod Works

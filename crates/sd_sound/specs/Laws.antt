@@ -1,7 +1,8 @@
 -- What the laws of the whole machine say.
 use Rattle.std.specs.Prelude.{◌≡◌, ℕ, ◌+◌, ◌<◌, ◌≤◌, Bool, true, false, List, [], ◌∷◌, ◌==◌, Option, Some, None, ⊤}
 use Rattle.std.specs.List.{list_any}
-use Rattle.sd_full.specs.Threads.{open_of}
+use Rattle.sd_full.specs.Threads.{open_of, count_of}
+use Rattle.sd_machine.specs.Opening.{opening}
 use Rattle.sd_types.specs.declared.numbers.CpuId.{CpuId}
 use Rattle.sd_types.specs.declared.events.Event.{Event}
 use Rattle.sd_types.specs.declared.events.Event.TheVariants.{Napend, Wake, Rouse, Unblock, Grant, SemaVWake}
@@ -72,3 +73,7 @@ IsRising n (x ∷ xs) = (n ≤ x.0) × IsRising (x.0 + 1) xs
 pub record OpenHold (w : Work) (s : State) : Type 0 where
   pub member : (p c : ℕ) → is_in c (open_of s p) ≡ true → (c < w.cpus) × ((cpu_of s c).set.0 ≡ p) × ((cpu_of s c).closing ≡ None)
   pub rising : (p : ℕ) → IsRising 0 (open_of s p)
+
+-- the first counts of semaphores are those of the type, 65,535 at most
+abbrev pub HasSmallCounts : Work → Type 0
+HasSmallCounts w = (k : ℕ) → count_of (opening w) k ≤ 65535
