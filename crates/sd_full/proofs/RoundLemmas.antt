@@ -1,14 +1,11 @@
 -- Rounds: that they are runs, that an empty one shows that the run is complete, and how a round is made.
-use Rattle.std.proofs.Common.{◌≡◌, ℕ, zero, suc, ◌+◌, ◌<◌, Bool, true, false, cond, ◌&&◌, ltb, List, [], ◌∷◌, ◌++◌, length, get_or, drop, Option, Some, None, is_none, refl, sym, ap, subst, ◌∙◌, arith}
-use Rattle.std.proofs.lemmas.Bool.Decides.{nat_tests}
+use Rattle.std.proofs.Common.{◌≡◌, ℕ, zero, suc, ◌+◌, ◌<◌, List, [], ◌∷◌, ◌++◌, length, get_or, drop, Option, Some, None, refl, sym, ap, subst, ◌∙◌, arith}
 use Rattle.std.proofs.lemmas.List.{append_assoc, length-append, drop_more}
-use Rattle.std.proofs.lemmas.List.FromFn.{get_or-map-range_with_len, length-map-range_with_len}
 use Rattle.sd_types.specs.declared.numbers.CpuId.{CpuId}
 use Rattle.sd_types.specs.declared.events.Event.{Event}
 use Rattle.sd_types.specs.declared.events.Entry.{Entry}
 use Rattle.sd_types.specs.declared.events.Hints.{Hints}
 use Rattle.sd_types.specs.declared.works.Work.{Work}
-use Rattle.sd_types.specs.Partitions.{cpu_of_number}
 use Rattle.sd_machine.specs.declared.states.State.{State}
 use Rattle.sd_full.specs.Events.{next}
 use Rattle.sd_machine.specs.Opening.{opening}

@@ -1,6 +1,6 @@
 -- What becomes of the body of a thread: its class state, and its coming to a processor and leaving it.
 -- Source: Solaris Internals (priority inheritance), ts_dptbl(4), priocntl(2); scripts are this project's own.
-use Rattle.std.specs.Prelude.{ℕ, ◌+◌, Bool, true, false, List, [], ◌∷◌, ◌++◌, Option, Some, None, if◌then◌else◌}
+use Rattle.std.specs.Prelude.{ℕ, false, Option, Some}
 use Rattle.sd_types.specs.declared.numbers.CpuId.{CpuId}
 use Rattle.sd_types.specs.declared.numbers.LockId.{LockId}
 use Rattle.sd_types.specs.declared.bodies.ThreadBody.{ThreadBody}
@@ -11,7 +11,7 @@ use Rattle.sd_types.specs.declared.classes.ClassState.TheVariants.{Ts, Fx, Sys, 
 use Rattle.sd_types.specs.declared.works.Work.{Work}
 use Rattle.sd_types.specs.Priorities.{eff_as}
 use Rattle.sd_types.specs.Willed.{changed_number, with_willed}
-use Rattle.sd_rules.specs.ClassRules.{class_tick, class_wake, class_second, class_requeue}
+use Rattle.sd_rules.specs.ClassRules.{class_tick, class_wake, class_second}
 
 abbrev pub with_class : ThreadBody → ClassState → ThreadBody
 with_class b class = record b { class = class }

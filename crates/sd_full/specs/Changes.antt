@@ -1,13 +1,13 @@
 -- The changes of a state of which the events are composed, each a word of its own. What a word does not name stays.
 -- Source: Solaris Internals (setfrontdq, setbackdq, cpu_surrender, turnstiles); keys are this project's own.
-use Rattle.std.specs.Prelude.{ℕ, ◌+◌, ◌-◌, ◌%◌, Bool, true, false, not, ◌&&◌, ◌||◌, List, [], ◌∷◌, filter, nat_lt, nat_le, ◌==◌, ℤ, pos, negsuc, Option, Some, None, is_none, if◌then◌else◌}
+use Rattle.std.specs.Prelude.{ℕ, ◌+◌, ◌-◌, ◌%◌, Bool, true, false, not, ◌&&◌, List, [], ◌∷◌, filter, nat_lt, nat_le, ◌==◌, ℤ, pos, negsuc, Option, Some, None, is_none, if◌then◌else◌}
 use Rattle.sd_types.specs.declared.numbers.CpuId.{CpuId}
 use Rattle.sd_types.specs.declared.numbers.LockId.{LockId}
 use Rattle.sd_types.specs.declared.numbers.SetId.{SetId}
 use Rattle.sd_types.specs.declared.bodies.ThreadBody.{ThreadBody}
 use Rattle.sd_types.specs.declared.classes.ClassState.{ClassState}
 use Rattle.sd_types.specs.declared.events.Duty.{Duty}
-use Rattle.sd_types.specs.declared.events.Duty.TheVariants.{Nothing, Age}
+use Rattle.sd_types.specs.declared.events.Duty.TheVariants.{Age}
 use Rattle.sd_types.specs.declared.events.End.{End}
 use Rattle.sd_types.specs.declared.events.End.TheVariants.{Front, Back}
 use Rattle.sd_types.specs.declared.events.Put.{Put}
@@ -20,7 +20,7 @@ use Rattle.sd_machine.specs.declared.states.CpuState.{CpuState}
 use Rattle.sd_machine.specs.declared.states.State.{State}
 use Rattle.sd_machine.specs.States.{thread_of, cpu_of, with_thread, with_cpu}
 use Rattle.sd_machine.specs.Operations.{script_of, op_over, ran}
-use Rattle.sd_full.specs.Threads.{with_lock, count_of, with_count, open_of, with_open, set_of, runner, best_ready, priority_of, eff_of}
+use Rattle.sd_full.specs.Threads.{open_of, with_open, set_of, runner, best_ready, priority_of, eff_of}
 use Rattle.sd_full.specs.Bodies.{with_class, departed, arrived}
 use Rattle.sd_types.specs.Willed.{changed_number, with_willed, with_lock as with_held, released as without_held}
 

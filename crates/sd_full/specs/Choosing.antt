@@ -1,9 +1,8 @@
 -- On which processor a thread is put that is made runnable, what is read for that, and from which processor a thread
 -- is stolen.
 -- Source: Solaris Internals (cpu_choose, disp_getwork); hints, and the three ticks of warmth, are this project's own.
-use Rattle.std.specs.Prelude.{ℕ, ◌+◌, Bool, true, false, not, ◌&&◌, ◌||◌, List, [], ◌∷◌, length, filter, replicate, nat_lt, nat_le, ◌==◌, Option, Some, None, is_none, if◌then◌else◌}
+use Rattle.std.specs.Prelude.{ℕ, ◌+◌, Bool, false, not, ◌&&◌, ◌||◌, List, [], ◌∷◌, length, filter, replicate, nat_le, ◌==◌, Option, Some, None, is_none, if◌then◌else◌}
 use Rattle.sd_types.specs.declared.numbers.CpuId.{CpuId}
-use Rattle.sd_types.specs.declared.bodies.ThreadBody.{ThreadBody}
 use Rattle.sd_types.specs.declared.events.Hints.{Hints}
 use Rattle.sd_types.specs.declared.events.Which.{Which}
 use Rattle.sd_types.specs.declared.events.Which.TheVariants.{Running as OfRunning, Queued as OfQueued}

@@ -1,25 +1,21 @@
 -- Threads that run on a processor and leave it: tick, spin, idle, dispatch, steal, preempt, yield, done.
 -- Source: Solaris Internals (clock_tick, disp, preempt, yield), ts_dptbl(4); that a thread which holds a lock is in the
 -- kernel is this project's own.
-use Rattle.std.specs.Prelude.{ℕ, Bool, true, false, not, ◌&&◌, ◌||◌, length, nat_le, ◌==◌, Option, Some, None, is_none, if◌then◌else◌}
+use Rattle.std.specs.Prelude.{ℕ, Bool, false, not, ◌&&◌, ◌||◌, length, nat_le, ◌==◌, Option, Some, None, if◌then◌else◌}
 use Rattle.sd_types.specs.declared.numbers.CpuId.{CpuId}
-use Rattle.sd_types.specs.declared.numbers.ThreadId.{ThreadId}
 use Rattle.sd_types.specs.declared.bodies.ThreadBody.{ThreadBody}
 use Rattle.sd_types.specs.declared.events.End.{End}
-use Rattle.sd_types.specs.declared.events.End.TheVariants.{Back}
 use Rattle.sd_types.specs.declared.events.Event.{Event}
 use Rattle.sd_types.specs.declared.events.Event.TheVariants as event
-use Rattle.sd_types.specs.declared.events.Hints.{Hints}
 use Rattle.sd_types.specs.declared.works.Work.{Work}
 use Rattle.sd_rules.specs.ClassRules.{class_expires, class_requeue, end_of}
 use Rattle.sd_full.specs.declared.plans.Plan.{Plan}
-use Rattle.sd_full.specs.declared.plans.Plan.TheVariants.{Make, Place as PlaceIt, Search}
-use Rattle.sd_full.specs.declared.plans.Placement.TheVariants as placement
+use Rattle.sd_full.specs.declared.plans.Plan.TheVariants.{Make, Search}
 use Rattle.sd_machine.specs.declared.states.Place.TheVariants.{Queued, Ended}
 use Rattle.sd_machine.specs.declared.states.CpuState.{CpuState}
 use Rattle.sd_machine.specs.declared.states.State.{State}
-use Rattle.sd_machine.specs.States.{thread_of, cpu_of}
-use Rattle.sd_full.specs.Threads.{thread_id, is_sys, runner, best_ready, best_queued, best_unbound, priority_of, eff_of}
+use Rattle.sd_machine.specs.States.{thread_of}
+use Rattle.sd_full.specs.Threads.{thread_id, is_sys, best_ready, best_unbound, priority_of, eff_of}
 use Rattle.sd_full.specs.Bodies.{ticked_class}
 use Rattle.sd_full.specs.Changes.{back_key, key_at, finish_op, run_tick, set_class, send_back, count_tick, clear_marks, set_mark, mark_over, priority_or_zero, run_on, leave, queue_place}
 

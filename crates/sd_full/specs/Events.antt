@@ -4,7 +4,7 @@ use Rattle.std.specs.Prelude.{ℕ, Bool, true, false, not, ◌&&◌, ◌||◌, L
 use Rattle.std.specs.List.{list_all}
 use Rattle.sd_types.specs.declared.numbers.CpuId.{CpuId}
 use Rattle.sd_types.specs.declared.events.Duty.{Duty}
-use Rattle.sd_types.specs.declared.events.Duty.TheVariants.{Nothing, Walk, WakeMutex, GrantWriter, GrantReaders, Rouse as ToRouse, Age as ToAge}
+use Rattle.sd_types.specs.declared.events.Duty.TheVariants.{Nothing, Age as ToAge}
 use Rattle.sd_types.specs.declared.events.Hints.{Hints}
 use Rattle.sd_types.specs.declared.events.Put.{Put}
 use Rattle.sd_types.specs.declared.events.Which.{Which}
@@ -19,8 +19,7 @@ use Rattle.sd_full.specs.declared.plans.Plan.TheVariants.{Make, Place, Search}
 use Rattle.sd_full.specs.declared.plans.Placement.{Placement}
 use Rattle.sd_full.specs.declared.plans.Placement.TheVariants as placement
 use Rattle.sd_machine.specs.declared.states.State.{State}
-use Rattle.sd_machine.specs.States.{thread_of, cpu_of}
-use Rattle.sd_full.specs.Threads.{lock_of}
+use Rattle.sd_machine.specs.States.{cpu_of}
 use Rattle.sd_full.specs.Changes.{set_duty}
 use Rattle.sd_full.specs.Choosing.{reads_for, put_chosen, neighbours, read_of, victim_for}
 use Rattle.sd_full.specs.Dispatching.{search_event, ticked, spun, idled, dispatched, stolen, preempted, sent_away, yielded, done}

@@ -1,7 +1,7 @@
 -- Mutexes and readers/writer locks: enter, read, write, block, exit, unblock, grant, passed.
 -- Source: Solaris Internals (adaptive mutexes, rwlocks, turnstiles); that a mutex is free for whoever comes while its waiters
 -- are woken, and that a rwlock is handed over, one waiter after another, are this project's own.
-use Rattle.std.specs.Prelude.{ℕ, ◌+◌, ◌-◌, Bool, true, false, not, ◌&&◌, ◌||◌, nat_lt, nat_le, Option, Some, None, is_none, is_some, option_map, slice_get, slice_set, if◌then◌else◌}
+use Rattle.std.specs.Prelude.{ℕ, ◌+◌, ◌-◌, Bool, true, false, nat_lt, nat_le, Option, Some, None, is_none, is_some, option_map, slice_get, slice_set, if◌then◌else◌}
 use Rattle.sd_types.specs.declared.numbers.CpuId.{CpuId}
 use Rattle.sd_types.specs.declared.numbers.LockId.{LockId}
 use Rattle.sd_types.specs.declared.numbers.ThreadId.{ThreadId}
@@ -23,9 +23,8 @@ use Rattle.sd_full.specs.declared.plans.Placement.TheVariants as placement
 use Rattle.sd_machine.specs.declared.states.Place.TheVariants.{Waiting, Ended}
 use Rattle.sd_machine.specs.declared.states.LockState.{LockState}
 use Rattle.sd_machine.specs.declared.states.LockState.TheVariants.{Free, Owned, ReadHeld, Passing}
-use Rattle.sd_machine.specs.declared.states.ThreadState.{ThreadState}
 use Rattle.sd_machine.specs.declared.states.State.{State}
-use Rattle.sd_machine.specs.States.{thread_of, cpu_of}
+use Rattle.sd_machine.specs.States.{thread_of}
 use Rattle.sd_machine.specs.Operations.{op_of}
 use Rattle.sd_full.specs.Threads.{thread_id, lock_of, with_lock, runs_somewhere, best_waiter, priority_of, greatest_waiting, has_waiters}
 use Rattle.sd_full.specs.Bodies.{woken_class, eff_as_with}

@@ -2,8 +2,7 @@
 -- 1. its duty; 2. a nap that is over; 3. the ageing of its queue; 4. a running thread that has to leave; 5. with no
 -- thread running: what a closing processor does, or a dispatch, or a search; 6. the running thread's operation.
 -- Source: Solaris Internals (swtch, the clock's tick, preemption); this order is this project's own.
-use Rattle.std.specs.Prelude.{ℕ, Bool, true, false, Option, Some, None, if◌then◌else◌}
-use Rattle.sd_types.specs.declared.numbers.CpuId.{CpuId}
+use Rattle.std.specs.Prelude.{ℕ, Option, Some, None}
 use Rattle.sd_types.specs.declared.numbers.SetId.{SetId}
 use Rattle.sd_types.specs.declared.numbers.Side.TheVariants.{Writer, Reader}
 use Rattle.sd_types.specs.declared.events.Duty.{Duty}
@@ -13,7 +12,7 @@ use Rattle.sd_types.specs.declared.scripts.Op.{Op}
 use Rattle.sd_types.specs.declared.scripts.Op.TheVariants as op
 use Rattle.sd_types.specs.declared.works.Work.{Work}
 use Rattle.sd_full.specs.declared.plans.Plan.{Plan}
-use Rattle.sd_full.specs.declared.plans.Plan.TheVariants.{Make, Place, Search}
+use Rattle.sd_full.specs.declared.plans.Plan.TheVariants.{Make}
 use Rattle.sd_machine.specs.declared.states.State.{State}
 use Rattle.sd_machine.specs.States.{thread_of, cpu_of}
 use Rattle.sd_machine.specs.Operations.{op_of}

@@ -1,7 +1,7 @@
 -- Naps, and channels on which threads sleep until others wake them: nap, napend, sleep, wake, wakeall, rouse.
 -- Source: Solaris Internals (sleep queues, cv_signal, cv_broadcast); that a broadcast wakes its sleepers one after another
 -- is this project's own.
-use Rattle.std.specs.Prelude.{ℕ, ◌+◌, ℤ, pos, Option, Some, None, is_none, option_map, if◌then◌else◌}
+use Rattle.std.specs.Prelude.{ℕ, ◌+◌, ℤ, pos, Option, Some, None, is_none, if◌then◌else◌}
 use Rattle.sd_types.specs.declared.numbers.ChanId.{ChanId}
 use Rattle.sd_types.specs.declared.numbers.CpuId.{CpuId}
 use Rattle.sd_types.specs.declared.numbers.ThreadId.{ThreadId}
@@ -19,7 +19,7 @@ use Rattle.sd_machine.specs.declared.states.Place.TheVariants.{Asleep, Napping}
 use Rattle.sd_machine.specs.declared.states.State.{State}
 use Rattle.sd_machine.specs.States.{thread_of, cpu_of}
 use Rattle.sd_machine.specs.Operations.{op_of}
-use Rattle.sd_full.specs.Threads.{thread_id, first_due, best_sleeper, best_sleeper_below}
+use Rattle.sd_full.specs.Threads.{thread_id, best_sleeper, best_sleeper_below}
 use Rattle.sd_full.specs.Bodies.{woken_class}
 use Rattle.sd_types.specs.Priorities.{eff_as}
 use Rattle.sd_full.specs.Changes.{back_key, finish_op, set_class, set_duty, leave, put}

@@ -2,26 +2,25 @@
 -- and which thread is the best of those that run, are queued, wait, sleep or nap somewhere.
 -- Source: Solaris Internals (dispatch queues, turnstiles, sleep queues): the greatest effective priority goes first, and
 -- of these the thread that has stood longest, as the keys say (this project's own).
-use Rattle.std.specs.Prelude.{ℕ, ◌+◌, Bool, true, false, not, ◌&&◌, ◌||◌, List, [], ◌∷◌, length, drop, filter, max, nat_lt, nat_le, ◌==◌, ℤ, int_lt, Option, Some, None, is_none, is_some, option_map, unwrap_or, position, slice_get, slice_index_or, slice_set, if◌then◌else◌}
+use Rattle.std.specs.Prelude.{ℕ, ◌+◌, Bool, true, false, ◌&&◌, List, [], ◌∷◌, drop, max, nat_lt, nat_le, ◌==◌, ℤ, int_lt, Option, Some, None, is_none, option_map, unwrap_or, position, slice_get, slice_index_or, slice_set, if◌then◌else◌}
 use Rattle.std.specs.List.{list_any}
 use Rattle.sd_types.specs.declared.numbers.CpuId.{CpuId}
 use Rattle.sd_types.specs.declared.numbers.SetId.{SetId}
 use Rattle.sd_types.specs.declared.numbers.Side.{Side}
 use Rattle.sd_types.specs.declared.numbers.Side.TheVariants.{Writer, Reader}
 use Rattle.sd_types.specs.declared.numbers.ThreadId.{ThreadId}
-use Rattle.sd_types.specs.declared.bodies.ThreadBody.{ThreadBody}
 use Rattle.sd_types.specs.declared.classes.ClassState.{ClassState}
 use Rattle.sd_types.specs.declared.classes.ClassState.TheVariants.{Ts, Sys}
 use Rattle.sd_types.specs.declared.works.Work.{Work}
 use Rattle.sd_types.specs.Priorities.{eff}
 use Rattle.arrayvec.specs.ArrayVec.{ArrayVec}
 use Rattle.sd_machine.specs.declared.states.Place.{Place}
-use Rattle.sd_machine.specs.declared.states.Place.TheVariants.{Running, Queued, RealTime, Waiting, Asleep, Napping, Ended}
+use Rattle.sd_machine.specs.declared.states.Place.TheVariants.{Running, Waiting, Asleep, Napping, Ended}
 use Rattle.sd_machine.specs.declared.states.LockState.{LockState}
 use Rattle.sd_machine.specs.declared.states.LockState.TheVariants.{Free}
 use Rattle.sd_machine.specs.declared.states.ThreadState.{ThreadState}
 use Rattle.sd_machine.specs.declared.states.State.{State}
-use Rattle.sd_machine.specs.States.{thread_of, cpu_of, is_running, is_queued, is_real_time, is_ready}
+use Rattle.sd_machine.specs.States.{thread_of, cpu_of, is_running, is_queued, is_ready}
 use Rattle.sd_machine.specs.Best.{best_by, beats}
 
 abbrev pub thread_id : ℕ → ThreadId

@@ -2,7 +2,7 @@
 -- owner that waits itself: will, end.
 -- Source: Solaris Internals (turnstiles: priority inheritance, turnstile_pi_inherit); that a walk takes one lock at a time,
 -- and how it finds that a chain is closed, are this project's own.
-use Rattle.std.specs.Prelude.{ℕ, Bool, false, ◌&&◌, ◌||◌, ◌==◌, ℤ, int_lt, Option, Some, None, if◌then◌else◌}
+use Rattle.std.specs.Prelude.{ℕ, Bool, false, ◌&&◌, ◌||◌, ◌==◌, int_lt, Option, if◌then◌else◌}
 use Rattle.std.specs.Ordering.{int_eq}
 use Rattle.sd_types.specs.declared.numbers.CpuId.{CpuId}
 use Rattle.sd_types.specs.declared.numbers.LockId.{LockId}

@@ -6,44 +6,15 @@ use sd_types::{ChanId, CpuId, Event, LockId, ThreadId};
 /// that `placed_thread` names; `p` is an effective priority after the event.
 #[derive(Clone, Copy)]
 pub enum Placement {
-    Napend {
-        t: ThreadId,
-    },
-    Wake {
-        t: ThreadId,
-        k: ChanId,
-        s: ThreadId,
-    },
-    Rouse {
-        k: ChanId,
-        s: ThreadId,
-    },
-    Will {
-        l: LockId,
-        o: ThreadId,
-        p: u8,
-    },
-    Unblock {
-        l: LockId,
-        s: ThreadId,
-    },
-    Grant {
-        l: LockId,
-        s: ThreadId,
-    },
-    Prio {
-        t: ThreadId,
-        s: ThreadId,
-        p: u8,
-    },
-    SemaVWake {
-        t: ThreadId,
-        k: ChanId,
-        s: ThreadId,
-    },
-    Move {
-        t: ThreadId,
-    },
+    Napend { t: ThreadId },
+    Wake { t: ThreadId, k: ChanId, s: ThreadId },
+    Rouse { k: ChanId, s: ThreadId },
+    Will { l: LockId, o: ThreadId, p: u8 },
+    Unblock { l: LockId, s: ThreadId },
+    Grant { l: LockId, s: ThreadId },
+    Prio { t: ThreadId, s: ThreadId, p: u8 },
+    SemaVWake { t: ThreadId, k: ChanId, s: ThreadId },
+    Move { t: ThreadId },
 }
 
 /// What the order of a processor's events gives to it, as far as its own state says: an event; a thread that is made

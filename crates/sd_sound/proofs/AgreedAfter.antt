@@ -1,9 +1,7 @@
 -- Locks agree with those who hold them, wait for them and pass them on, after each event.
-use Rattle.std.proofs.Common.{◌≡◌, ◌≢◌, ℕ, zero, suc, ◌+◌, ◌-◌, ◌<◌, ◌≤◌, Bool, true, false, not, ◌&&◌, List, [], ◌∷◌, ◌++◌, length, get_or, set, take, Option, Some, None, refl, sym, ap, ◌∙◌, inl, inr, ◌⊎◌, subst, arith}
-use Rattle.std.specs.Prelude.{⊤, ℤ, ◌==◌, nat_lt, nat_le, if◌then◌else◌, is_some, slice_get}
-use Rattle.std.proofs.lemmas.Bool.{cases_eq, cases_lt, false≢true, eqb-true}
-use Rattle.std.proofs.lemmas.Bool.Decides.{nat_tests}
-use Rattle.sd_types.specs.declared.numbers.ChanId.{ChanId}
+use Rattle.std.proofs.Common.{◌≡◌, ◌≢◌, ℕ, zero, suc, ◌+◌, ◌-◌, ◌<◌, ◌≤◌, true, false, not, List, [], ◌∷◌, ◌++◌, length, get_or, set, take, Option, Some, None, refl, sym, ap, ◌∙◌, inl, inr, ◌⊎◌, subst, arith}
+use Rattle.std.specs.Prelude.{ℤ, slice_get}
+use Rattle.std.proofs.lemmas.Bool.{cases_lt, false≢true}
 use Rattle.sd_types.specs.declared.numbers.CpuId.{CpuId}
 use Rattle.sd_types.specs.declared.numbers.LockId.{LockId}
 use Rattle.sd_types.specs.declared.numbers.Side.{Side}
@@ -18,40 +16,33 @@ use Rattle.sd_types.specs.declared.scripts.Op.{Op}
 use Rattle.sd_types.specs.declared.scripts.Op.TheVariants as op
 use Rattle.sd_types.specs.declared.works.Work.{Work}
 use Rattle.sd_types.specs.Scripts.{is_held, held_by, without_lock, op_fits}
-use Rattle.sd_types.specs.Works.{is_mutex}
-use Rattle.sd_chains.specs.Graphs as G
 use Rattle.sd_chains.specs.Holders as H
-use Rattle.sd_chains.proofs.Moves.{IsSame, IsPut, none_some, put_cases}
-use Rattle.sd_chains.proofs.HolderLemmas.{count_one, owner_alone, free_unheld}
+use Rattle.sd_chains.proofs.Moves.{none_some, put_cases}
+use Rattle.sd_chains.proofs.HolderLemmas.{count_one}
 use Rattle.sd_chains.proofs.Chains.{some_is}
-use Rattle.sd_sound.proofs.ReleaseLemmas.{Outcome, exit_outcome, cv_wait_outcome, nobody_waits}
+use Rattle.sd_sound.proofs.ReleaseLemmas.{Outcome, nobody_waits}
 use Rattle.sd_sound.proofs.PassLemmas.{drop_duties, Woken, unblock_outcome, Granted, grant_outcome, Passed, pass_outcome}
 use Rattle.sd_sound.proofs.PassLemmas.Woken.{more, last}
 use Rattle.sd_sound.proofs.PassLemmas.Granted.{to_writer, to_reader}
 use Rattle.sd_sound.proofs.PassLemmas.Passed.{to_readers, writer_next, to_nobody, otherwise}
 use Rattle.sd_sound.proofs.ReleaseLemmas.Outcome.{freed, passed_on as handed_on, fewer, left, nothing}
-use Rattle.sd_machine.specs.declared.states.Place.{Place}
-use Rattle.sd_machine.specs.declared.states.Place.TheVariants.{Waiting, Asleep}
+use Rattle.sd_machine.specs.declared.states.Place.TheVariants.{Waiting}
 use Rattle.sd_machine.specs.declared.states.LockState.{LockState}
 use Rattle.sd_machine.specs.declared.states.LockState.TheVariants.{Free, Owned, ReadHeld, Passing}
 use Rattle.sd_machine.specs.declared.states.State.{State}
-use Rattle.sd_machine.specs.States.{thread_of, cpu_of, no_cpu}
+use Rattle.sd_machine.specs.States.{thread_of, cpu_of}
 use Rattle.sd_full.specs.Shapes.{FitsFully}
 use Rattle.sd_machine.specs.Operations.{script_of, op_of}
-use Rattle.sd_full.specs.Threads.{thread_id, lock_of, with_lock, best_waiter, has_waiters, is_waiting}
-use Rattle.sd_full.specs.Changes.{back_key, place_put, set_duty}
-use Rattle.sd_full.specs.Locking.{kind_of, side_of, one_more, one_reader_more, after_owner, after_reader, after_writer, writer_first, free_or_passed, release_from, granted, granted_to_writer, granted_to_reader, unblocked, unblocked_on, passed, passed_on, blocked, owned, read}
-use Rattle.sd_full.specs.Sleeping.{woken}
+use Rattle.sd_full.specs.Threads.{thread_id, lock_of, best_waiter}
+use Rattle.sd_full.specs.Changes.{back_key, set_duty}
+use Rattle.sd_full.specs.Locking.{side_of, one_more, one_reader_more, blocked}
 use Rattle.sd_full.specs.Events.{effect, after, drop_ageing, dropped_duty}
-use Rattle.sd_full.proofs.ShapeLemmas.{IsShaped, after_shape}
-use Rattle.sd_sound.specs.Causes.{IsFree, Acts, wants, IsCause}
-use Rattle.sd_sound.specs.Holding.{lock_state, pass_of, table, Agreed, DutyServes, DutiesServe, ReadsWell}
-use Rattle.sd_sound.specs.Moves.{Step, step_of}
-use Rattle.sd_sound.specs.Moves.Step.{Stay, Go}
-use Rattle.sd_sound.specs.Scripted.{IsScripted, Scripted}
-use Rattle.sd_sound.proofs.Parts.{put_item, same_item}
-use Rattle.sd_sound.proofs.Words.{Same}
-use Rattle.sd_sound.proofs.Found.{runner_found, waiter_found}
+use Rattle.sd_full.proofs.ShapeLemmas.{IsShaped}
+use Rattle.sd_sound.specs.Causes.{IsFree, Acts, wants}
+use Rattle.sd_sound.specs.Holding.{lock_state, pass_of, table, Agreed, DutiesServe, ReadsWell}
+use Rattle.sd_sound.specs.Moves.{step_of}
+use Rattle.sd_sound.specs.Scripted.{Scripted}
+use Rattle.sd_sound.proofs.Found.{runner_found}
 use Rattle.sd_sound.proofs.HoldTable.{held_part, Goes}
 use Rattle.sd_sound.proofs.PlaceTable.{Stepped}
 use Rattle.sd_sound.proofs.ScriptLemmas.{HeldGo, StepAway, step_away}
@@ -60,8 +51,8 @@ use Rattle.sd_sound.proofs.LockTable.{locks_field, duty_part, pass_part, pass_ma
 use Rattle.sd_sound.proofs.FieldWords as F
 use Rattle.sd_sound.proofs.CpuWords as C
 use Rattle.sd_sound.proofs.AgreedLemmas as A
-use Rattle.sd_sound.proofs.Searches.{has_waiters_at, waits_has, waiter_none, waiter_some}
-use Rattle.sd_sound.proofs.Works.{op_balances, wanted_fits, first_of_two, second_of_two, not_true}
+use Rattle.sd_sound.proofs.Searches.{waits_has}
+use Rattle.sd_sound.proofs.Works.{op_balances, wanted_fits, first_of_two, not_true}
 
 -- What is known of the state before an event.
 pub record IsReady (w : Work) (s : State) : Type 0 where
@@ -198,12 +189,15 @@ module _ (w : Work) (s : State) (n : ℕ) (c : CpuId) (ready : IsReady w s) wher
       count : (x ≡ Free) ⊎ ((m : ℕ) × (x ≡ ReadHeld m)) → H.holders_of (lock_state (one_more x)) ≡ suc (H.holders_of (lock_state (lock_of s l.0)))
       count (inl free) = ap (λ y. H.holders_of (lock_state (one_more y))) free ∙ ap suc (sym (ap (λ y. H.holders_of (lock_state y)) (is ∙ free)))
       count (inr (m, held)) = ap (λ y. H.holders_of (lock_state (one_more y))) held ∙ (let e : m + 1 ≡ suc m = omega arith in e) ∙ ap suc (sym (ap (λ y. H.holders_of (lock_state y)) (is ∙ held)))
+
       own : (x ≡ Free) ⊎ ((m : ℕ) × (x ≡ ReadHeld m)) → (u : ℕ) → lock_state (one_more x) ≡ H.Lock.Owned u → u ≡ t.0
       own (inl free) u at = let bad : H.Lock.Held 1 ≡ H.Lock.Owned u = sym (ap (λ y. lock_state (one_more y)) free) ∙ at in cc
       own (inr (m, held)) u at = let bad : H.Lock.Held (m + 1) ≡ H.Lock.Owned u = sym (ap (λ y. lock_state (one_more y)) held) ∙ at in cc
+
       free_not : (x ≡ Free) ⊎ ((m : ℕ) × (x ≡ ReadHeld m)) → lock_state (one_more x) ≡ H.Lock.Free → ⊥
       free_not (inl free) at = let bad : H.Lock.Held 1 ≡ H.Lock.Free = sym (ap (λ y. lock_state (one_more y)) free) ∙ at in cc
       free_not (inr (m, held)) at = let bad : H.Lock.Held (m + 1) ≡ H.Lock.Free = sym (ap (λ y. lock_state (one_more y)) held) ∙ at in cc
+
       pass_not : (x ≡ Free) ⊎ ((m : ℕ) × (x ≡ ReadHeld m)) → (d k : ℕ) → lock_state (one_more x) ≡ H.Lock.Passing d k → ⊥
       pass_not (inl free) d k at = let bad : H.Lock.Held 1 ≡ H.Lock.Passing d k = sym (ap (λ y. lock_state (one_more y)) free) ∙ at in cc
       pass_not (inr (m, held)) d k at = let bad : H.Lock.Held (m + 1) ≡ H.Lock.Passing d k = sym (ap (λ y. lock_state (one_more y)) held) ∙ at in cc
@@ -220,6 +214,7 @@ module _ (w : Work) (s : State) (n : ℕ) (c : CpuId) (ready : IsReady w s) wher
           free_is (Owned o) e = cc
           free_is (ReadHeld m) e = cc
           free_is (Passing d k) e = cc
+
       back : (u m : ℕ) → m ≢ l.0 → (table r).waits u ≡ Some m → (table s).waits u ≡ Some m
       back u m other is = elim (put_cases t.0 _ _ _ next.steps u) [
         | inl me ↦ absurd (other (sym (A.waits_lock (thread_of r u).place l (side_of (op_of w t.0 (thread_of s t.0).body)) (back_key n) m me.1 is)))
@@ -249,34 +244,47 @@ module _ (w : Work) (s : State) (n : ℕ) (c : CpuId) (ready : IsReady w s) wher
     where
       at0 : t.0 < length s0.threads
       at0 = omega (arith, many)
+
       holds0 : (table s0).holds t.0 l.0 ≡ true
       holds0 = same_holds t.0 l.0 ∙ holds
+
       none : (table s0).passes c.0 ≡ None
       none = passes.each c.0 ∙ no_pass s c.0 free
+
       back : (u m : ℕ) → (table r).waits u ≡ Some m → (table s0).waits u ≡ Some m
       back u m e' = waits u m (A.waits_back (step_of w s n c e) s r next.steps away u m e')
+
       there : lock_of s0 l.0 ≢ Free → l.0 < length s0.locks
       there busy = lock_inside s0 l.0 busy
+
       at : (y : LockState) → lock_of s0 l.0 ≢ Free → r.locks ≡ set s0.locks l.0 y → A.AtLock s0 r l.0 y
       at y busy are = record { many = shape; locks = A.locks_put s0 r l.0 y (there busy) (record { are = are }); waits = λ u m other. back u m }
+
       total : H.holders_of ((table s0).lock l.0) ≡ H.holders_of (lock_state x)
       total = ap (λ y. H.holders_of (lock_state y)) is
+
       one : 1 ≤ H.holders_of ((table s0).lock l.0)
       one = let c1 = count_one (λ u. (table s0).holds u l.0) t.0 (length s0.threads) at0 holds0 in let c2 = agreed.holders l.0 in omega arith
+
       kind_busy : ((o : ThreadId) × (x ≡ Owned o)) ⊎ ((m : ℕ) × (x ≡ ReadHeld m) × (m ≤ 1)) → lock_of s0 l.0 ≢ Free
       kind_busy (inl (o, e')) = not_free_owned (lock_of s0 l.0) o (is ∙ e')
       kind_busy (inr (m, e', le)) = not_free_held (lock_of s0 l.0) m (is ∙ e')
+
       kind_count : ((o : ThreadId) × (x ≡ Owned o)) ⊎ ((m : ℕ) × (x ≡ ReadHeld m) × (m ≤ 1)) → 1 ≡ H.holders_of ((table s0).lock l.0)
       kind_count (inl (o, e')) = sym (total ∙ ap (λ y. H.holders_of (lock_state y)) e')
       kind_count (inr (m, e', le)) = let m_is : H.holders_of ((table s0).lock l.0) ≡ m = total ∙ ap (λ y. H.holders_of (lock_state y)) e' in omega (arith, one)
+
       unpassed : ((o : ThreadId) × (x ≡ Owned o)) ⊎ ((m : ℕ) × (x ≡ ReadHeld m)) → (d k : ℕ) → lock_state (lock_of s0 l.0) ≡ H.Lock.Passing d k → ⊥
       unpassed (inl (o, e')) d k bad = let b : H.Lock.Owned o.0 ≡ H.Lock.Passing d k = sym (ap lock_state (is ∙ e')) ∙ bad in cc
       unpassed (inr (m, e')) d k bad = let b : H.Lock.Held m ≡ H.Lock.Passing d k = sym (ap lock_state (is ∙ e')) ∙ bad in cc
+
       forget : ((o : ThreadId) × (x ≡ Owned o)) ⊎ ((m : ℕ) × (x ≡ ReadHeld m) × (m ≤ 1)) → ((o : ThreadId) × (x ≡ Owned o)) ⊎ ((m : ℕ) × (x ≡ ReadHeld m))
       forget (inl a) = inl a
       forget (inr (m, e', le)) = inr (m, e')
+
       kept_passes : C.Kept duty_part s0 r → (d : ℕ) → (table r).passes d ≡ (table s0).passes d
       kept_passes a d = ap pass_of (a.each d)
+
       by : Outcome w s0 r c.0 l x → Agreed r
       by (freed are duties nobody kind) =
           A.agreed_given s0 r l c.0 t.0 Free agreed at0 (at Free (kind_busy kind) are) held (λ d other. kept_passes duties d) none (unpassed (forget kind)) holds0 (kind_count kind)
@@ -317,12 +325,16 @@ module _ (w : Work) (s : State) (n : ℕ) (c : CpuId) (ready : IsReady w s) (c_i
     where
       agreed0 : Agreed (drop_ageing s c.0 (event.Unblock l u at))
       agreed0 = drop_agreed s c.0 (event.Unblock l u at) ready.agreed
+
       passing : (table (drop_ageing s c.0 (event.Unblock l u at))).passes c.0 ≡ Some (record { lock = l.0; alone = true })
       passing = ap pass_of (passes0 (event.Unblock l u at) (duty.WakeMutex l) wakes refl)
+
       was : (k : ℕ) × ((table (drop_ageing s c.0 (event.Unblock l u at))).lock l.0 ≡ H.Lock.Passing c.0 k) × (true ≡ true → k ≡ 0)
       was = agreed0.passed c.0 (record { lock = l.0; alone = true }) passing
+
       back : (v m : ℕ) → (table (after w s n c (event.Unblock l u at))).waits v ≡ Some m → (table (drop_ageing s c.0 (event.Unblock l u at))).waits v ≡ Some m
       back v m is = A.waits_back (step_of w s n c (event.Unblock l u at)) s (after w s n c (event.Unblock l u at)) next.steps (step_away w s n c (event.Unblock l u at) refl) v m is
+
       by : Woken (drop_ageing s c.0 (event.Unblock l u at)) (after w s n c (event.Unblock l u at)) c.0 l → Agreed (after w s n c (event.Unblock l u at))
       by (more locks duties some) = A.agreed_quiet (drop_ageing s c.0 (event.Unblock l u at)) (after w s n c (event.Unblock l u at)) next.shape.threads locks (record { each = next.held.each }) (duty_kept _ _ duties) back agreed0
       by (last locks duties none) =
@@ -339,19 +351,24 @@ module _ (w : Work) (s : State) (n : ℕ) (c : CpuId) (ready : IsReady w s) (c_i
     where
       agreed0 : Agreed (drop_ageing s c.0 (event.Grant l u at))
       agreed0 = drop_agreed s c.0 (event.Grant l u at) ready.agreed
+
       kind : ((cpu_of s c.0).duty ≡ duty.GrantWriter l) ⊎ ((cpu_of s c.0).duty ≡ duty.GrantReaders l)
           → ((cpu_of (drop_ageing s c.0 (event.Grant l u at)) c.0).duty ≡ duty.GrantWriter l) ⊎ ((cpu_of (drop_ageing s c.0 (event.Grant l u at)) c.0).duty ≡ duty.GrantReaders l)
       kind (inl is) = inl (passes0 (event.Grant l u at) (duty.GrantWriter l) is refl)
       kind (inr is) = inr (passes0 (event.Grant l u at) (duty.GrantReaders l) is refl)
+
       back : (v m : ℕ) → (table (after w s n c (event.Grant l u at))).waits v ≡ Some m → (table (drop_ageing s c.0 (event.Grant l u at))).waits v ≡ Some m
       back v m is = A.waits_back (step_of w s n c (event.Grant l u at)) s (after w s n c (event.Grant l u at)) next.steps (step_away w s n c (event.Grant l u at) refl) v m is
+
       at_lock : (y : LockState) (d k : ℕ) → lock_state (lock_of s l.0) ≡ H.Lock.Passing d k → (after w s n c (event.Grant l u at)).locks ≡ set s.locks l.0 y → A.AtLock (drop_ageing s c.0 (event.Grant l u at)) (after w s n c (event.Grant l u at)) l.0 y
       at_lock y d k was locks = record { many = next.shape.threads; locks = A.locks_put (drop_ageing s c.0 (event.Grant l u at)) (after w s n c (event.Grant l u at)) l.0 y (lock_inside s l.0 (not_free_passing (lock_of s l.0) d k was)) (record { are = locks }); waits = λ v m other. back v m }
+
       one_more_of : (x : LockState) (k : ℕ) → lock_state x ≡ H.Lock.Passing c.0 k → lock_state (one_reader_more x) ≡ H.Lock.Passing c.0 (k + 1)
       one_more_of Free k is = cc
       one_more_of (Owned o) k is = cc
       one_more_of (ReadHeld m) k is = cc
       one_more_of (Passing d j) k is = let a : d.0 ≡ c.0 = cc in let b : j ≡ k = cc in ap (λ x. H.Lock.Passing x (j + 1)) a ∙ ap (λ x. H.Lock.Passing c.0 (x + 1)) b
+
       by : Granted (drop_ageing s c.0 (event.Grant l u at)) (after w s n c (event.Grant l u at)) c.0 l u.0 (cpu_of (drop_ageing s c.0 (event.Grant l u at)) c.0).duty → Agreed (after w s n c (event.Grant l u at))
       by (to_writer is locks duties) =
           let passing : (table (drop_ageing s c.0 (event.Grant l u at))).passes c.0 ≡ Some (record { lock = l.0; alone = true }) = ap pass_of is in
@@ -373,19 +390,26 @@ module _ (w : Work) (s : State) (n : ℕ) (c : CpuId) (ready : IsReady w s) (c_i
     where
       agreed0 : Agreed (drop_ageing s c.0 (event.Passed l))
       agreed0 = drop_agreed s c.0 (event.Passed l) ready.agreed
+
       passing : (table (drop_ageing s c.0 (event.Passed l))).passes c.0 ≡ Some (record { lock = l.0; alone = false })
       passing = ap pass_of (passes0 (event.Passed l) (duty.GrantReaders l) passes refl)
+
       was : (k : ℕ) × ((table (drop_ageing s c.0 (event.Passed l))).lock l.0 ≡ H.Lock.Passing c.0 k) × (false ≡ true → k ≡ 0)
       was = agreed0.passed c.0 (record { lock = l.0; alone = false }) passing
+
       back : (v m : ℕ) → (table (after w s n c (event.Passed l))).waits v ≡ Some m → (table (drop_ageing s c.0 (event.Passed l))).waits v ≡ Some m
       back v m is = A.waits_back (step_of w s n c (event.Passed l)) s (after w s n c (event.Passed l)) next.steps (step_away w s n c (event.Passed l) refl) v m is
+
       inside_lock : l.0 < length s.locks
       inside_lock = lock_inside s l.0 (not_free_passing (lock_of s l.0) c.0 was.0 was.1)
+
       holder : (d : CpuId) (k : ℕ) → lock_of s l.0 ≡ Passing d k → (d.0 ≡ c.0) × (k ≡ was.0)
       holder d k is = let both : H.Lock.Passing d.0 k ≡ H.Lock.Passing c.0 was.0 = sym (ap lock_state is) ∙ was.1 in ((let a : d.0 ≡ c.0 = cc in a), (let b : k ≡ was.0 = cc in b))
+
       -- any thread will do for a step that moves none; with no thread there is nothing to agree
       at_lock : (y : LockState) → (after w s n c (event.Passed l)).locks ≡ set s.locks l.0 y → A.AtLock (drop_ageing s c.0 (event.Passed l)) (after w s n c (event.Passed l)) l.0 y
       at_lock y locks = record { many = next.shape.threads; locks = A.locks_put (drop_ageing s c.0 (event.Passed l)) (after w s n c (event.Passed l)) l.0 y inside_lock (record { are = locks }); waits = λ v m other. back v m }
+
       by : Passed (drop_ageing s c.0 (event.Passed l)) (after w s n c (event.Passed l)) c.0 l (lock_of s l.0) → Agreed (after w s n c (event.Passed l))
       by (to_readers d k is one locks duties) =
           let q = put_passes (drop_ageing s c.0 (event.Passed l)) (after w s n c (event.Passed l)) c.0 duty.Nothing duties in

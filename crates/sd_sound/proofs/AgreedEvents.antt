@@ -1,5 +1,5 @@
 -- Locks agree with those who hold them, wait for them and pass them on, after every event.
-use Rattle.std.proofs.Common.{◌≡◌, ◌≢◌, ℕ, ◌<◌, Bool, true, false, List, length, get_or, Option, Some, None, refl, ◌∙◌, sym, ap, subst, arith, ◌⊎◌, inl, inr}
+use Rattle.std.proofs.Common.{◌≡◌, ℕ, ◌<◌, true, false, List, length, Option, Some, None, refl, ◌∙◌, sym, ap, arith, ◌⊎◌, inl, inr}
 use Rattle.std.specs.Prelude.{slice_get}
 use Rattle.std.proofs.lemmas.List.{length-map}
 use Rattle.sd_types.specs.declared.numbers.Side.{Side}
@@ -27,35 +27,13 @@ use Rattle.sd_full.specs.Events.{after, drop_ageing}
 use Rattle.sd_types.specs.declared.numbers.ChanId.{ChanId}
 use Rattle.sd_types.specs.declared.numbers.CpuId.{CpuId}
 use Rattle.sd_types.specs.declared.numbers.LockId.{LockId}
-use Rattle.sd_types.specs.declared.numbers.SetId.{SetId}
 use Rattle.sd_types.specs.declared.numbers.Side.TheVariants.{Writer}
 use Rattle.sd_types.specs.declared.numbers.ThreadId.{ThreadId}
-use Rattle.sd_types.specs.declared.bodies.ThreadBody.{ThreadBody}
-use Rattle.sd_types.specs.declared.classes.ClassParms.{ClassParms}
-use Rattle.sd_types.specs.declared.classes.ClassState.{ClassState}
-use Rattle.sd_types.specs.declared.events.AssignAnswer.{AssignAnswer}
-use Rattle.sd_types.specs.declared.events.AssignAnswer.TheVariants as assign
-use Rattle.sd_types.specs.declared.events.BindAnswer.{BindAnswer}
-use Rattle.sd_types.specs.declared.events.BindAnswer.TheVariants as bind_answer
-use Rattle.sd_types.specs.declared.events.Denied.{Denied}
-use Rattle.sd_types.specs.declared.events.Duty.{Duty}
-use Rattle.sd_types.specs.declared.events.Duty.TheVariants as duty
-use Rattle.sd_types.specs.declared.events.End.{End}
 use Rattle.sd_types.specs.declared.events.Event.{Event}
 use Rattle.sd_types.specs.declared.events.Event.TheVariants.{Tick, Spin, Idle, Dispatch, Steal, Preempt, Yield, Done, Nap, Napend, Sleep, Wake, Wakeall, Rouse, Enter, Read, Write, Block, Will, End as WalkEnd, Exit, Unblock, Grant, Passed, Age, Prio, CvWait, SemaP, SemaWait, SemaVWake, SemaVCount, Assign, Move, Joined, Bind, Away}
-use Rattle.sd_types.specs.declared.events.PrioAnswer.{PrioAnswer}
-use Rattle.sd_types.specs.declared.events.PrioAnswer.TheVariants.{Changed, Refused}
-use Rattle.sd_types.specs.declared.events.Put.{Put}
 use Rattle.sd_types.specs.declared.scripts.Op.{Op}
 use Rattle.sd_types.specs.declared.scripts.Op.TheVariants as op
 use Rattle.sd_types.specs.declared.works.Work.{Work}
-use Rattle.std.specs.Prelude.{if◌then◌else◌, Result, Ok, Err, is_none, is_some, nat_lt, nat_le, ◌==◌, not, ◌&&◌}
-use Rattle.sd_machine.specs.declared.states.Place.{Place}
-use Rattle.sd_machine.specs.declared.states.Place.TheVariants.{Running, Queued, RealTime, Waiting, Asleep, Napping, Ended}
-use Rattle.sd_machine.specs.declared.states.LockState.{LockState}
-use Rattle.sd_machine.specs.declared.states.LockState.TheVariants.{Free, Owned, ReadHeld, Passing}
-use Rattle.sd_machine.specs.declared.states.CpuState.{CpuState}
-use Rattle.sd_machine.specs.declared.states.ThreadState.{ThreadState}
 use Rattle.sd_machine.specs.declared.states.State.{State}
 
 free_pass : (s : State) (c : ℕ) → IsFree (cpu_of s c).duty → pass_of (cpu_of s c).duty ≡ None
@@ -190,6 +168,7 @@ lock_named w s c t o fits acts l names =
         by : (o : Option LockKind) → slice_get xs i ≡ o → is_mutex o ≡ true → i < length xs
         by None is e = cc
         by (Some k) is e = named_inside xs i k is
+
     rwlock_inside : (xs : List LockKind) (i : ℕ) → is_rwlock (slice_get xs i) ≡ true → i < length xs
     rwlock_inside xs i e = by (slice_get xs i) refl e
       where

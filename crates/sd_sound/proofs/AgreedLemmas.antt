@@ -1,42 +1,35 @@
 -- Locks agree with those who hold them, wait for them and pass them on: kept by each kind of event.
-use Rattle.std.proofs.Common.{◌≡◌, ◌≢◌, ℕ, zero, suc, ◌+◌, ◌-◌, ◌<◌, ◌≤◌, Bool, true, false, not, ◌&&◌, ◌||◌, eqb, List, [], ◌∷◌, ◌++◌, length, get_or, set, take, Option, Some, None, option_map, refl, sym, ap, ◌∙◌, inl, inr, ◌⊎◌, subst, arith}
-use Rattle.std.specs.Prelude.{⊤, ℤ, ◌==◌}
-use Rattle.std.specs.List.{list_any}
+use Rattle.std.proofs.Common.{◌≡◌, ◌≢◌, ℕ, zero, suc, ◌+◌, ◌-◌, ◌<◌, ◌≤◌, true, false, ◌||◌, eqb, List, [], ◌∷◌, ◌++◌, length, get_or, set, Option, Some, None, option_map, refl, sym, ap, ◌∙◌, inl, inr, ◌⊎◌, subst, arith}
+use Rattle.std.specs.Prelude.{ℤ, ◌==◌}
 use Rattle.std.proofs.lemmas.Bool.{cases_eq, cases_lt, cases_Bool, false≢true, eqb-true}
 use Rattle.std.proofs.lemmas.Bool.Decides.{nat_tests}
-use Rattle.sd_types.specs.declared.numbers.CpuId.{CpuId}
 use Rattle.sd_types.specs.declared.numbers.LockId.{LockId}
 use Rattle.sd_types.specs.declared.numbers.Side.{Side}
-use Rattle.sd_types.specs.declared.numbers.ThreadId.{ThreadId}
-use Rattle.sd_types.specs.declared.events.Duty.{Duty}
-use Rattle.sd_types.specs.declared.events.Duty.TheVariants as duty
 use Rattle.sd_types.specs.Scripts.{is_lock, is_held, without_lock}
 use Rattle.sd_chains.specs.Graphs as G
 use Rattle.sd_chains.specs.Holders as H
-use Rattle.sd_chains.proofs.Moves.{IsSame, IsPut, none_some, put_cases}
+use Rattle.sd_chains.proofs.Moves.{IsPut, none_some}
 use Rattle.sd_chains.proofs.Chains.{some_is}
-use Rattle.sd_chains.proofs.HolderLemmas.{count_same, count_one, IsAt, agreed_at, owner_alone, free_unheld}
+use Rattle.sd_chains.proofs.HolderLemmas.{count_same, count_one, IsAt, agreed_at}
 use Rattle.sd_chains.proofs.HolderLemmas.IsHeldAfter.{stays, comes, goes}
 use Rattle.sd_machine.specs.declared.states.Place.{Place}
 use Rattle.sd_machine.specs.declared.states.Place.TheVariants.{Running, Queued, RealTime, Waiting, Asleep, Napping, Ended}
 use Rattle.sd_machine.specs.declared.states.LockState.{LockState}
-use Rattle.sd_machine.specs.declared.states.LockState.TheVariants.{Free, Owned, ReadHeld, Passing}
+use Rattle.sd_machine.specs.declared.states.LockState.TheVariants.{Free, Passing}
 use Rattle.sd_machine.specs.declared.states.ThreadState.{ThreadState}
 use Rattle.sd_machine.specs.declared.states.State.{State}
-use Rattle.sd_machine.specs.States.{thread_of, cpu_of, no_thread}
-use Rattle.sd_full.specs.Threads.{thread_id, lock_of, is_waiting, has_waiters}
+use Rattle.sd_machine.specs.States.{thread_of, no_thread}
+use Rattle.sd_full.specs.Threads.{lock_of, is_waiting}
 use Rattle.sd_full.specs.LockGraph.{wait_of}
-use Rattle.sd_sound.specs.Holding.{lock_state, pass_of, table, Agreed}
+use Rattle.sd_sound.specs.Holding.{lock_state, table, Agreed}
 use Rattle.sd_sound.specs.Moves.{Step}
-use Rattle.sd_sound.specs.Moves.Step.{Stay, Go}
 use Rattle.sd_sound.proofs.Parts.{put_item}
-use Rattle.sd_sound.proofs.Words.{Same, of_threads}
+use Rattle.sd_sound.proofs.Words.{Same}
 use Rattle.sd_sound.proofs.HoldTable.{held_part, Goes}
 use Rattle.sd_sound.proofs.PlaceTable.{Stepped}
-use Rattle.sd_sound.proofs.ScriptLemmas.{StepAway, is_waiter, waits_after}
+use Rattle.sd_sound.proofs.ScriptLemmas.{StepAway, waits_after}
 use Rattle.sd_sound.proofs.LockTable.{pass_part, LocksAre}
 use Rattle.sd_sound.proofs.CpuWords as C
-use Rattle.sd_sound.proofs.Searches.{has_waiters_at, waits_has}
 
 -- Held locks.
 
@@ -96,8 +89,10 @@ waits_inside s u m e = by (get_inside s.threads u)
     past [] v h = refl
     past (x ∷ xs) zero h = absurd (omega arith)
     past (x ∷ xs) (suc v) h = past xs v (omega arith)
+
     get_inside : (xs : List ThreadState) (v : ℕ) → (v < length xs) ⊎ (get_or xs v no_thread ≡ no_thread)
     get_inside xs v = elim (cases_lt v (length xs)) [ inl h ↦ inl h | inr h ↦ inr (past xs v h) ]
+
     by : (u < length s.threads) ⊎ (get_or s.threads u no_thread ≡ no_thread) → u < length s.threads
     by (inl h) = h
     by (inr gone) = absurd (none_some (option_map (λ (x : G.Wait). x.lock) (wait_of (thread_of s u).place)) m (ap (λ (x : ThreadState). option_map (λ (y : G.Wait). y.lock) (wait_of x.place)) gone) e)
@@ -122,6 +117,7 @@ agreed_quiet s r many locks held passes waits agreed = subst (λ n. H.IsAgreed n
   where
     lock : (l : ℕ) → (table r).lock l ≡ (table s).lock l
     lock l = ap (λ (xs : List LockState). lock_state (get_or xs l Free)) locks
+
     holds : (u l : ℕ) → (table r).holds u l ≡ (table s).holds u l
     holds u l = ap (λ (xs : List LockId). is_held (record { 0 = l }) xs) (held.each u)
 
@@ -359,6 +355,7 @@ agreed_waits s r l many locks held passes waits busy agreed = subst (λ n. H.IsA
   where
     lock : (m : ℕ) → (table r).lock m ≡ (table s).lock m
     lock m = ap (λ (xs : List LockState). lock_state (get_or xs m Free)) locks
+
     holds : (u m : ℕ) → (table r).holds u m ≡ (table s).holds u m
     holds u m = ap (λ (xs : List LockId). is_held (record { 0 = m }) xs) (held.each u)
 
@@ -406,10 +403,13 @@ module _ (s r : State) (l : LockId) (c : ℕ) (x : LockState) (agreed : Agreed s
     where
       here : (table r).lock l.0 ≡ lock_state x
       here = ap lock_state at.locks.at
+
       there : (m : ℕ) → m ≢ l.0 → (table r).lock m ≡ (table s).lock m
       there m other = ap lock_state (at.locks.others m other)
+
       holds : (u m : ℕ) → (table r).holds u m ≡ (table s).holds u m
       holds u m = ap (λ (ys : List LockId). is_held (record { 0 = m }) ys) (held.each u)
+
       same_count : (m : ℕ) → H.counted (λ u. (table r).holds u m) (length s.threads) ≡ H.counted (λ u. (table s).holds u m) (length s.threads)
       same_count m = count_same (λ u. (table s).holds u m) (λ u. (table r).holds u m) (length s.threads) (λ u lt. holds u m)
 

@@ -1,8 +1,7 @@
 -- Base priorities are below 160, whatever a class makes of a thread.
-use Rattle.std.proofs.Common.{◌≡◌, ◌≢◌, ℕ, ◌+◌, ◌<◌, ◌≤◌, Bool, true, false, not, ◌&&◌, ◌||◌, cond, ℤ, pos, negsuc, ◌≤ℤ◌, Option, Some, None, refl, sym, ap, ◌∙◌, subst, arith, min}
-use Rattle.std.specs.Prelude.{⊤, Result, Ok, Err, int_le, if◌then◌else◌, ◌+ℤ◌}
+use Rattle.std.proofs.Common.{◌≡◌, ℕ, ◌+◌, ◌<◌, ◌≤◌, Bool, true, false, not, ◌&&◌, ◌||◌, cond, ℤ, pos, negsuc, Option, Some, None, refl, subst, arith}
+use Rattle.std.specs.Prelude.{⊤, Ok, Err, int_le}
 use Rattle.std.proofs.lemmas.Int.{ints}
-use Rattle.std.proofs.lemmas.Bool.Decides.{nat_tests}
 use Rattle.sd_types.specs.declared.classes.Class.{Class}
 use Rattle.sd_types.specs.declared.classes.Class.TheVariants as class
 use Rattle.sd_types.specs.declared.classes.ClassParms.{ClassParms}
@@ -10,8 +9,7 @@ use Rattle.sd_types.specs.declared.classes.ClassParms.TheVariants as parms
 use Rattle.sd_types.specs.declared.classes.ClassState.{ClassState}
 use Rattle.sd_types.specs.declared.classes.ClassState.TheVariants.{Ts, Fx, Sys, Rt}
 use Rattle.sd_types.specs.ClassNumbers.{TsNumbers}
-use Rattle.sd_types.specs.declared.events.Denied.{Denied}
-use Rattle.sd_types.specs.declared.events.Denied.TheVariants.{ESRCH, EINVAL, EPERM}
+use Rattle.sd_types.specs.declared.events.Denied.TheVariants.{EINVAL, EPERM}
 use Rattle.sd_types.specs.declared.scripts.Request.{Request}
 use Rattle.sd_types.specs.declared.works.Work.{Work}
 use Rattle.sd_types.specs.Priorities.{umdpri, base_of, at_least_zero}

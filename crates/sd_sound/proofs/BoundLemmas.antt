@@ -1,82 +1,48 @@
 -- A processor counts no more threads that are bound to it than there are.
-use Rattle.std.proofs.Common.{◌≡◌, ◌≢◌, ℕ, ◌+◌, ◌-◌, ◌%◌, ◌<◌, Bool, true, false, ◌||◌, List, length, set, Option, Some, None, refl, ◌∙◌, sym, ap, subst, arith}
-use Rattle.std.specs.Prelude.{int_lt}
-use Rattle.std.specs.Ordering.{int_eq}
+use Rattle.std.proofs.Common.{◌≡◌, ◌≢◌, ℕ, ◌+◌, ◌-◌, ◌<◌, Bool, true, false, ◌||◌, List, length, Option, Some, None, refl, ◌∙◌, sym, ap, subst, arith}
 use Rattle.sd_chains.specs.Holders as H
-use Rattle.sd_chains.proofs.Moves.{IsSame, IsPut}
-use Rattle.sd_full.proofs.ShapeLemmas.{IsShaped, then_shape, lock_shape, finish_op_shape, hold_shape, set_number_shape, leave_shape, woken_shape}
-use Rattle.sd_sound.specs.Causes.{IsFree}
-use Rattle.sd_sound.specs.Holding.{pass_of}
-use Rattle.sd_sound.proofs.Parts.{same_item, put_item, put_same, same_put}
-use Rattle.sd_sound.proofs.FieldWords as F
+use Rattle.sd_sound.proofs.Parts.{same_item, put_item}
 use Rattle.sd_sound.proofs.CpuWords as C
-use Rattle.sd_types.specs.declared.numbers.ChanId.{ChanId}
 use Rattle.sd_types.specs.declared.numbers.CpuId.{CpuId}
 use Rattle.sd_types.specs.declared.numbers.LockId.{LockId}
 use Rattle.sd_types.specs.declared.numbers.SetId.{SetId}
-use Rattle.sd_types.specs.declared.numbers.Side.TheVariants.{Writer}
-use Rattle.sd_types.specs.declared.numbers.ThreadId.{ThreadId}
-use Rattle.sd_types.specs.declared.bodies.ThreadBody.{ThreadBody}
-use Rattle.sd_types.specs.declared.classes.ClassParms.{ClassParms}
-use Rattle.sd_types.specs.declared.classes.ClassState.{ClassState}
 use Rattle.sd_types.specs.declared.events.AssignAnswer.{AssignAnswer}
 use Rattle.sd_types.specs.declared.events.AssignAnswer.TheVariants as assign
 use Rattle.sd_types.specs.declared.events.BindAnswer.{BindAnswer}
 use Rattle.sd_types.specs.declared.events.BindAnswer.TheVariants as bind_answer
-use Rattle.sd_types.specs.declared.events.Denied.{Denied}
 use Rattle.sd_types.specs.declared.events.Duty.{Duty}
 use Rattle.sd_types.specs.declared.events.Duty.TheVariants as duty
-use Rattle.sd_types.specs.declared.events.End.{End}
 use Rattle.sd_types.specs.declared.events.Event.{Event}
 use Rattle.sd_types.specs.declared.events.Event.TheVariants.{Tick, Spin, Idle, Dispatch, Steal, Preempt, Yield, Done, Nap, Napend, Sleep, Wake, Wakeall, Rouse, Enter, Read, Write, Block, Will, End as WalkEnd, Exit, Unblock, Grant, Passed, Age, Prio, CvWait, SemaP, SemaWait, SemaVWake, SemaVCount, Assign, Move, Joined, Bind, Away}
-use Rattle.sd_types.specs.declared.events.PrioAnswer.{PrioAnswer}
-use Rattle.sd_types.specs.declared.events.PrioAnswer.TheVariants.{Changed, Refused}
 use Rattle.sd_types.specs.declared.events.Put.{Put}
-use Rattle.sd_types.specs.declared.scripts.Op.{Op}
-use Rattle.sd_types.specs.declared.scripts.Op.TheVariants as op
 use Rattle.sd_types.specs.declared.works.Work.{Work}
-use Rattle.std.specs.Prelude.{if◌then◌else◌, Result, Ok, Err, is_none, is_some, nat_lt, nat_le, ◌==◌, not, ◌&&◌}
-use Rattle.sd_machine.specs.declared.states.Place.{Place}
-use Rattle.sd_machine.specs.declared.states.Place.TheVariants.{Running, Queued, RealTime, Waiting, Asleep, Napping, Ended}
-use Rattle.sd_machine.specs.declared.states.LockState.{LockState}
-use Rattle.sd_machine.specs.declared.states.LockState.TheVariants.{Free, Owned, ReadHeld, Passing}
+use Rattle.std.specs.Prelude.{if◌then◌else◌, is_none, is_some, ◌==◌, not, ◌&&◌}
 use Rattle.sd_machine.specs.declared.states.CpuState.{CpuState}
-use Rattle.sd_machine.specs.declared.states.ThreadState.{ThreadState}
 use Rattle.sd_machine.specs.declared.states.State.{State}
 use Rattle.sd_machine.specs.States.{no_cpu, thread_of, cpu_of}
-use Rattle.sd_machine.specs.Operations.{op_of}
-use Rattle.sd_full.specs.Threads.{thread_id, has_waiters, best_waiter, lock_of, with_lock, count_of, with_count, runner, best_sleeper, best_sleeper_below, eff_of, greatest_waiting}
-use Rattle.sd_full.specs.Bodies.{aged_class}
-use Rattle.sd_full.specs.Changes.{back_key, with_body, finish_op, run_tick, set_class, hold, let_go, set_number, set_looped, set_duty, duty_after, count_tick, leave, put, put_where, close, join, bind, unbind}
+use Rattle.sd_full.specs.Threads.{runner}
+use Rattle.sd_full.specs.Changes.{with_body, finish_op, run_tick, set_duty, count_tick, put, put_where, close, join, bind, unbind}
 use Rattle.sd_full.specs.Dispatching.{class_counts, ticked, spun, idled}
-use Rattle.sd_full.specs.Sleeping.{woken, woke_all, roused_on, rouse_key, roused}
-use Rattle.sd_full.specs.Locking.{side_of, blocked, after_reader, after_owner, free_or_passed, release_from, released, exited, others_waiting, unblocked_on, unblocked, granted_to_writer, granted, passed_on, passed}
-use Rattle.sd_full.specs.Requeueing.{reordered}
-use Rattle.sd_full.specs.Walking.{is_back, next_walk, walked, willed, walk_ended}
-use Rattle.sd_full.specs.Prioritising.{answer_to, new_class, walk_from, changed_by, changed_on, reprioritised, lifted, aged}
-use Rattle.sd_full.specs.Conditions.{cv_waited, sema_taken, sema_counted}
+use Rattle.sd_full.specs.Locking.{granted}
 use Rattle.sd_full.specs.SetChanges.{cleared, assigned, joined, rebound, pbound}
-use Rattle.sd_full.specs.Events.{keeps_ageing, dropped_duty, drop_ageing, effect, after}
-
-
+use Rattle.sd_full.specs.Events.{dropped_duty, drop_ageing, effect, after}
 use Rattle.sd_sound.specs.Causes.{IsCause}
-use Rattle.sd_sound.proofs.PlainWords.{Plain, plain_keeps, is_plain, drop_keeps}
+use Rattle.sd_sound.proofs.PlainWords.{Plain, plain_keeps, drop_keeps}
 use Rattle.std.proofs.Common.{get_or, ◌≤◌, inl, inr, ◌⊎◌, zero, suc, [], ◌∷◌}
 use Rattle.std.specs.Prelude.{map}
 use Rattle.std.specs.List.{range_with_len}
 use Rattle.sd_machine.specs.States.{with_cpu}
-use Rattle.std.proofs.lemmas.Bool.{cases_eq, cases_lt, false≢true}
+use Rattle.std.proofs.lemmas.Bool.{cases_eq, cases_lt}
 use Rattle.std.proofs.lemmas.Bool.Decides.{nat_tests}
-use Rattle.sd_machine.specs.Opening.{first_thread, first_threads, first_cpu_state, opening}
+use Rattle.sd_machine.specs.Opening.{first_cpu_state, opening}
 use Rattle.sd_full.specs.Changes.{bind, unbind, put_where}
 use Rattle.sd_full.specs.Prioritising.{is_privileged, uid_of}
-use Rattle.sd_full.specs.SetChanges.{is_misbound, is_closing, bind_to, bind_put, called_back}
+use Rattle.sd_full.specs.SetChanges.{is_misbound, is_closing, bind_to, bind_put}
 use Rattle.sd_full.specs.Threads.{has_ended, set_of}
 use Rattle.sd_full.proofs.ShapeLemmas.{after_shape}
 use Rattle.sd_chains.proofs.HolderLemmas.{count_same, count_more}
 use Rattle.sd_sound.proofs.Parts.{set_past}
 use Rattle.sd_sound.proofs.Words.{Same, then_same, set_duty_same, plain_same}
-use Rattle.sd_sound.proofs.Words as Wo
 use Rattle.sd_sound.proofs.HoldTable.{bound_part, bound_moves, bound_ops, Goes, owned_bound, read_bound, exited_bound, cv_waited_bound, granted_to_writer_bound, granted_to_reader_bound, willed_bound, pbound_bound, refused_bound}
 use Rattle.sd_sound.proofs.Movers.{bind_thread}
 use Rattle.sd_sound.proofs.AgreedAfter.{IsReady}
@@ -136,7 +102,6 @@ assigned_numbers w s t d to assign.Changed = C.then_kept number_part s _ _ (clos
 assigned_numbers w s t d to assign.EPERM = C.finish_op_kept number_part number_marks w s t
 assigned_numbers w s t d to assign.EINVAL = C.finish_op_kept number_part number_marks w s t
 assigned_numbers w s t d to assign.EBUSY = C.finish_op_kept number_part number_marks w s t
-
 
 -- no binding
 abbrev is_unbinding : Event → Bool
@@ -282,13 +247,13 @@ past_end (x ∷ xs) (suc i) h = past_end xs i (omega arith)
 wrote_number : (s : State) (c : ℕ) (x : CpuState) (d : ℕ) → Wrote s (with_cpu s c x) c x.bound d
 wrote_number s c x d = elim (cases_lt c (length s.cpus)) [
   | inl inside ↦ elim (cases_eq d c) [
-      | inl is ↦ here is (ap (λ e. (cpu_of (with_cpu s c x) e).bound) is ∙ (put_item number_part s.cpus no_cpu c x inside).at)
-      | inr other ↦ apart other ((put_item number_part s.cpus no_cpu c x inside).others d other)
-    ]
+    | inl is ↦ here is (ap (λ e. (cpu_of (with_cpu s c x) e).bound) is ∙ (put_item number_part s.cpus no_cpu c x inside).at)
+    | inr other ↦ apart other ((put_item number_part s.cpus no_cpu c x inside).others d other)
+  ]
   | inr out ↦ elim (cases_eq d c) [
-      | inl is ↦ past (ap (λ xs. number_part (get_or xs d no_cpu)) (set_past s.cpus c x out) ∙ past_end s.cpus d (subst (λ i. length s.cpus ≤ i) (sym is) out))
-      | inr other ↦ apart other (ap (λ xs. number_part (get_or xs d no_cpu)) (set_past s.cpus c x out))
-    ]
+    | inl is ↦ past (ap (λ xs. number_part (get_or xs d no_cpu)) (set_past s.cpus c x out) ∙ past_end s.cpus d (subst (λ i. length s.cpus ≤ i) (sym is) out))
+    | inr other ↦ apart other (ap (λ xs. number_part (get_or xs d no_cpu)) (set_past s.cpus c x out))
+  ]
 ]
 
 wrote_then : (s r q : State) (c n d : ℕ) → Wrote s r c n d → SameNumbers r q → Wrote s q c n d
@@ -359,27 +324,38 @@ is_some_of (Some x) e = (x, refl)
 more_threads : (s r : State) (u : ℕ) (x : CpuId) → length r.threads ≡ length s.threads → u < length s.threads → Goes bound_part s r u (Some x) → bound_part (thread_of s u) ≡ None → (d : ℕ)
     → ((d ≡ x.0) × (bound_threads r d ≡ suc (bound_threads s d))) ⊎ ((d ≢ x.0) × (bound_threads r d ≡ bound_threads s d))
 more_threads s r u x many inside goes free d = elim (cases_eq d x.0) [
-  | inl is ↦ inl (is, ap (λ n. H.counted (λ t. is_bound_at d (bound_part (thread_of r t))) n) many
-      ∙ count_more (λ t. is_bound_at d (bound_part (thread_of s t))) (λ t. is_bound_at d (bound_part (thread_of r t))) u (length s.threads) inside (ap (is_bound_at d) free)
-        (record { at = ap (is_bound_at d) goes.put.at ∙ subst (λ e. (x.0 == e) ≡ true) (sym is) (same_id x.0); others = λ t other. ap (is_bound_at d) (goes.put.others t other) }))
-  | inr other ↦ inr (other, same_threads s r d many (λ t. elim (cases_eq t u) [
+  | inl is ↦ inl (
+    is,
+    ap (λ n. H.counted (λ t. is_bound_at d (bound_part (thread_of r t))) n) many
+        ∙ count_more (λ t. is_bound_at d (bound_part (thread_of s t))) (λ t. is_bound_at d (bound_part (thread_of r t))) u (length s.threads) inside (ap (is_bound_at d) free)
+        (record { at = ap (is_bound_at d) goes.put.at ∙ subst (λ e. (x.0 == e) ≡ true) (sym is) (same_id x.0); others = λ t other. ap (is_bound_at d) (goes.put.others t other) }),
+  )
+  | inr other ↦ inr (
+    other,
+    same_threads s r d many (λ t. elim (cases_eq t u) [
       | inl me ↦ subst (λ v. is_bound_at d (bound_part (thread_of r v)) ≡ is_bound_at d (bound_part (thread_of s v))) (sym me) (ap (is_bound_at d) goes.put.at ∙ other_id x d other ∙ sym (ap (is_bound_at d) free))
       | inr him ↦ ap (is_bound_at d) (goes.put.others t him)
-    ]))
+    ]),
+  )
 ]
 
 -- one thread fewer is bound to x
 fewer_threads : (s r : State) (u : ℕ) (x : CpuId) → length r.threads ≡ length s.threads → u < length s.threads → Goes bound_part s r u None → bound_part (thread_of s u) ≡ Some x → (d : ℕ)
     → ((d ≡ x.0) × (bound_threads s d ≡ suc (bound_threads r d))) ⊎ ((d ≢ x.0) × (bound_threads r d ≡ bound_threads s d))
 fewer_threads s r u x many inside goes was d = elim (cases_eq d x.0) [
-  | inl is ↦ inl (is,
-      count_more (λ t. is_bound_at d (bound_part (thread_of r t))) (λ t. is_bound_at d (bound_part (thread_of s t))) u (length s.threads) inside (ap (is_bound_at d) goes.put.at)
+  | inl is ↦ inl (
+    is,
+    count_more (λ t. is_bound_at d (bound_part (thread_of r t))) (λ t. is_bound_at d (bound_part (thread_of s t))) u (length s.threads) inside (ap (is_bound_at d) goes.put.at)
         (record { at = ap (is_bound_at d) was ∙ subst (λ e. (x.0 == e) ≡ true) (sym is) (same_id x.0); others = λ t other. sym (ap (is_bound_at d) (goes.put.others t other)) })
-      ∙ ap (λ n. suc (H.counted (λ t. is_bound_at d (bound_part (thread_of r t))) n)) (sym many))
-  | inr other ↦ inr (other, same_threads s r d many (λ t. elim (cases_eq t u) [
+        ∙ ap (λ n. suc (H.counted (λ t. is_bound_at d (bound_part (thread_of r t))) n)) (sym many),
+  )
+  | inr other ↦ inr (
+    other,
+    same_threads s r d many (λ t. elim (cases_eq t u) [
       | inl me ↦ subst (λ v. is_bound_at d (bound_part (thread_of r v)) ≡ is_bound_at d (bound_part (thread_of s v))) (sym me) (ap (is_bound_at d) goes.put.at ∙ sym (ap (is_bound_at d) was ∙ other_id x d other))
       | inr him ↦ ap (is_bound_at d) (goes.put.others t him)
-    ]))
+    ]),
+  )
 ]
 
 changed_numbers : (w : Work) (s : State) (n t u : ℕ) (d b : Option CpuId) (at : Option Put) → (thread_of s u).body.bound ≡ b → SameNumbers (rebound s u d b) (pbound w s n t u d (bind_answer.Changed at))
@@ -389,7 +365,7 @@ changed_numbers w s n t u d b at e = subst (λ o. SameNumbers (rebound s u d o) 
 to_cpu : (w : Work) (s : State) (n t u : ℕ) (x : CpuId) (at : Option Put) → length (pbound w s n t u (Some x) (bind_answer.Changed at)).threads ≡ length s.threads → u < length s.threads → (thread_of s u).body.bound ≡ None → BoundHold s → BoundHold (pbound w s n t u (Some x) (bind_answer.Changed at))
 to_cpu w s n t u x at many inside free holds d =
     by (wrote_then s (bind s u x) (pbound w s n t u (Some x) (bind_answer.Changed at)) x.0 ((cpu_of s x.0).bound + 1) d (bind_number s u x d)
-      (then_numbers (bind s u x) (rebound s u (Some x) (thread_of s u).body.bound) _ (C.called_back_kept number_part number_marks (bind s u x) x (thread_of s u).place) (changed_numbers w s n t u (Some x) (thread_of s u).body.bound at refl)))
+    (then_numbers (bind s u x) (rebound s u (Some x) (thread_of s u).body.bound) _ (C.called_back_kept number_part number_marks (bind s u x) x (thread_of s u).place) (changed_numbers w s n t u (Some x) (thread_of s u).body.bound at refl)))
     (more_threads s (pbound w s n t u (Some x) (bind_answer.Changed at)) u x many inside (pbound_bound w s n t u (Some x) at inside) free d)
   where
     by : Wrote s (pbound w s n t u (Some x) (bind_answer.Changed at)) x.0 ((cpu_of s x.0).bound + 1) d

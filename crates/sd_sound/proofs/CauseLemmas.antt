@@ -1,8 +1,8 @@
 -- The event that the order of a processor's events gives has its cause in the state.
-use Rattle.std.proofs.Common.{◌≡◌, ◌≢◌, ℕ, zero, suc, ◌+◌, ◌<◌, ◌≤◌, Bool, true, false, not, ◌&&◌, ◌||◌, cond, List, [], ◌∷◌, length, get_or, replicate, Option, Some, None, is_none, ◌⊎◌, inl, inr, refl, sym, ap, ◌∙◌, subst, arith, ltb, leb, ◌==◌}
-use Rattle.std.specs.Prelude.{⊤, ℤ, Result, Ok, Err, MatchBool, MatchOption, All, if◌then◌else◌, nat_lt, nat_le, slice_get}
-use Rattle.std.specs.List.{Contains, list_any}
-use Rattle.std.proofs.lemmas.Bool.{cases_eq, false≢true, eqb-true}
+use Rattle.std.proofs.Common.{◌≡◌, ◌≢◌, ℕ, suc, ◌<◌, Bool, true, false, not, ◌&&◌, ◌||◌, List, [], ◌∷◌, length, Option, Some, None, is_none, inl, inr, refl, sym, ap, ◌∙◌, subst, arith, ◌==◌}
+use Rattle.std.specs.Prelude.{⊤, ℤ, Result, Ok, Err, MatchBool, MatchOption, All, if◌then◌else◌, nat_lt, nat_le}
+use Rattle.std.specs.List.{Contains}
+use Rattle.std.proofs.lemmas.Bool.{false≢true, eqb-true}
 use Rattle.std.proofs.lemmas.Bool.Decides.{nat_tests}
 use Rattle.std.proofs.lemmas.List.{length-replicate}
 use Rattle.std.proofs.lemmas.List.Elements.{Contains-get_or}
@@ -11,7 +11,6 @@ use Rattle.sd_types.specs.declared.numbers.CpuId.{CpuId}
 use Rattle.sd_types.specs.declared.numbers.ChanId.{ChanId}
 use Rattle.sd_types.specs.declared.numbers.LockId.{LockId}
 use Rattle.sd_types.specs.declared.numbers.SetId.{SetId}
-use Rattle.sd_types.specs.declared.numbers.Side.{Side}
 use Rattle.sd_types.specs.declared.numbers.Side.TheVariants.{Writer, Reader}
 use Rattle.sd_types.specs.declared.numbers.ThreadId.{ThreadId}
 use Rattle.sd_types.specs.declared.classes.ClassParms.{ClassParms}
@@ -22,7 +21,6 @@ use Rattle.sd_types.specs.declared.events.Event.{Event}
 use Rattle.sd_types.specs.declared.events.Event.TheVariants as event
 use Rattle.sd_types.specs.declared.events.PrioAnswer.TheVariants.{Changed}
 use Rattle.sd_types.specs.declared.events.Hints.{Hints}
-use Rattle.sd_types.specs.declared.events.Put.{Put}
 use Rattle.sd_types.specs.declared.events.Put.TheVariants.{Cpu, RealTime as OnRealTime}
 use Rattle.sd_types.specs.declared.events.Which.{Which}
 use Rattle.sd_types.specs.declared.events.Which.TheVariants as which
@@ -30,13 +28,13 @@ use Rattle.sd_types.specs.declared.scripts.Op.{Op}
 use Rattle.sd_types.specs.declared.scripts.Op.TheVariants as op
 use Rattle.sd_types.specs.declared.scripts.Request.{Request}
 use Rattle.sd_types.specs.declared.works.Work.{Work}
-use Rattle.sd_rules.specs.Choices.{is_among, IsChosen, IsBestByHints, IsVictim}
+use Rattle.sd_rules.specs.Choices.{is_among, IsBestByHints, IsVictim}
 use Rattle.sd_rules.specs.ChoiceFunctions.{chosen, victim_of}
 use Rattle.sd_choose.proofs.FunctionLemmas.{chosen_is, victim_is}
 use Rattle.sd_types.specs.Events.{ticks}
 use Rattle.sd_rules.specs.ClassRules.{end_of}
 use Rattle.sd_full.specs.declared.plans.Plan.{Plan}
-use Rattle.sd_full.specs.declared.plans.Plan.TheVariants.{Make, Place as PlaceIt, Search}
+use Rattle.sd_full.specs.declared.plans.Plan.TheVariants.{Make, Place as PlaceIt}
 use Rattle.sd_full.specs.declared.plans.Placement.TheVariants as placement
 use Rattle.sd_full.specs.declared.plans.Requeue.{Requeue}
 use Rattle.sd_full.specs.declared.plans.Requeue.TheVariants.{Stays, Behind, Anew}
@@ -46,21 +44,20 @@ use Rattle.sd_machine.specs.declared.states.State.{State}
 use Rattle.sd_machine.specs.States.{thread_of, cpu_of}
 use Rattle.sd_machine.specs.Operations.{op_of}
 use Rattle.sd_full.specs.Threads.{thread_id, lock_of, count_of, runner, best_ready, best_queued, best_unbound, best_waiter, best_sleeper, best_sleeper_below, first_due, next_to_age, eff_of, priority_of}
-use Rattle.sd_full.specs.Bodies.{aged_class}
 use Rattle.sd_types.specs.Priorities.{eff_as}
 use Rattle.sd_full.specs.Changes.{cpu_put}
 use Rattle.sd_full.specs.Choosing.{numbers_read, cpus_for, is_warm, is_settled, read_for, reads_for, choice, put_on, put_chosen, neighbours, read_of, victim_for}
-use Rattle.sd_full.specs.Dispatching.{must_leave, leave_event, leave_plan, dispatch_plan, steal_event, search_event}
+use Rattle.sd_full.specs.Dispatching.{must_leave, leave_event, dispatch_plan, steal_event, search_event}
 use Rattle.sd_full.specs.Sleeping.{woken_priority, napend_plan, wake_plan, rouse_plan}
 use Rattle.sd_full.specs.Locking.{owner_runs, enter_event, read_event, write_event, unblock_plan, writer_priority, grant_writer_plan, is_eligible, grant_reader_plan}
 use Rattle.sd_full.specs.Requeueing.{requeue, requeue_plan}
 use Rattle.sd_full.specs.Walking.{inherited_priority, will_plan, walk_plan}
 use Rattle.sd_full.specs.Prioritising.{answer_to, new_class, change_plan, prio_plan, age_plan}
 use Rattle.sd_full.specs.Conditions.{sema_p_event, sema_v_plan}
-use Rattle.sd_full.specs.SetChanges.{assign_answer, closing_plan, bind_to}
+use Rattle.sd_full.specs.SetChanges.{closing_plan}
 use Rattle.sd_full.specs.Plans.{first_of, duty_plan_of, duty_plan, nap_plan, ageing_plan_of, ageing_plan, op_plan, run_plan_of, run_plan, free_plan_of, cpu_plan_of, cpu_plan, or_plan, plan}
-use Rattle.sd_full.specs.Events.{event_of, placed_thread, plan_reads, reads, same_which, hints_fit, plan_event, wish, may_tick, allowed, next}
-use Rattle.sd_sound.specs.Causes.{IsFree, Runs, IsIdle, IsOpenIdle, Acts, Leaves, IsPut, IsRequeuedAt, wants, Wants, IsWoken, WakesBest, RousesBest, IsGranted, IsAnswered, IsCause}
+use Rattle.sd_full.specs.Events.{plan_reads, reads, same_which, hints_fit, plan_event, wish, may_tick, allowed, next}
+use Rattle.sd_sound.specs.Causes.{IsFree, Runs, IsIdle, IsOpenIdle, Acts, Leaves, IsPut, IsCause}
 
 -- Choices.
 
@@ -79,6 +76,7 @@ chosen_among cpus numbers last warm some same = by (warm && is_among last cpus) 
     among : (a b : Bool) → (a && b) ≡ true → b ≡ true
     among true b e = e
     among false b e = cc
+
     by : (b : Bool) → (warm && is_among last cpus) ≡ b
         → MatchBool b (chosen cpus numbers last warm ≡ last) (IsBestByHints cpus numbers last (chosen cpus numbers last warm))
         → Contains cpus (chosen cpus numbers last warm)
@@ -379,6 +377,7 @@ module _ (w : Work) (s : State) (c : ℕ) (h : Option Hints) where
       later free None None a b = cpu_caused free (runner s c) refl
       later free None (Some q) a b = b
       later free (Some o) q a b = a
+
       by : (o : Option Plan) → duty_plan_of w s (cpu_of s c).duty ≡ o → CausedIf w s c h o
           → Caused w s c h (or_plan (first_of o (first_of (napend_plan w s (first_due s c)) (ageing_plan_of w s c (cpu_of s c).duty))) (cpu_plan_of w s c (runner s c)))
       by None e a =
@@ -394,13 +393,16 @@ cause_of w s c h e serves is = by (nat_lt c.0 w.cpus && hints_fit (plan_reads w 
     right : (a b : Bool) → (a && b) ≡ true → b ≡ true
     right true b e = e
     right false b e = cc
+
     ticked : (a b : Bool) → (not a || b) ≡ true → a ≡ true → b ≡ true
     ticked true b e is = e
     ticked false b e is = cc
+
     inner : hints_fit (plan_reads w s c.0 (plan w s c.0)) h ≡ true → (b : Bool) → (not (ticks (plan_event w s c.0 h (plan w s c.0))) || may_tick w s c.0) ≡ b
         → (if b then Some (plan_event w s c.0 h (plan w s c.0)) else None) ≡ Some e → IsCause w s c.0 e
     inner fit true ok at = subst (λ x. IsCause w s c.0 x) (same_Some (plan_event w s c.0 h (plan w s c.0)) e at) (plan_caused w s c.0 h serves (ticked (ticks (plan_event w s c.0 h (plan w s c.0))) (may_tick w s c.0) ok) fit)
     inner fit false ok at = cc
+
     by : (b : Bool) → (nat_lt c.0 w.cpus && hints_fit (plan_reads w s c.0 (plan w s c.0)) h) ≡ b
         → (if b then allowed w s c.0 (plan_event w s c.0 h (plan w s c.0)) else None) ≡ Some e → IsCause w s c.0 e
     by true ok at = inner (right (nat_lt c.0 w.cpus) _ ok) (not (ticks (plan_event w s c.0 h (plan w s c.0))) || may_tick w s c.0) refl at

@@ -1,6 +1,5 @@
 -- What is true of the class state of each thread, and kept by what the classes make of it, through each event.
-use Rattle.std.proofs.Common.{◌≡◌, ◌≢◌, ℕ, ◌-◌, Bool, true, false, List, Option, Some, None, refl, ◌∙◌, sym, ap}
-use Rattle.sd_chains.proofs.Moves.{IsSame}
+use Rattle.std.proofs.Common.{◌≡◌, ℕ, ◌-◌, Bool, true, false, List, Option, Some, None, refl, ◌∙◌, sym, ap}
 use Rattle.std.proofs.Common.{length, set, get_or, inl, inr, subst}
 use Rattle.std.proofs.lemmas.Bool.{cases_eq, cases_lt}
 use Rattle.sd_types.specs.declared.scripts.Request.{Request}
@@ -17,8 +16,6 @@ use Rattle.sd_types.specs.declared.classes.ClassParms.{ClassParms}
 use Rattle.sd_types.specs.declared.classes.ClassState.{ClassState}
 use Rattle.sd_types.specs.declared.events.AssignAnswer.{AssignAnswer}
 use Rattle.sd_types.specs.declared.events.AssignAnswer.TheVariants as assign
-use Rattle.sd_types.specs.declared.events.BindAnswer.{BindAnswer}
-use Rattle.sd_types.specs.declared.events.BindAnswer.TheVariants as bind_answer
 use Rattle.sd_types.specs.declared.events.Denied.{Denied}
 use Rattle.sd_types.specs.declared.events.Duty.{Duty}
 use Rattle.sd_types.specs.declared.events.Duty.TheVariants as duty
@@ -31,20 +28,19 @@ use Rattle.sd_types.specs.declared.events.Put.{Put}
 use Rattle.sd_types.specs.declared.scripts.Op.{Op}
 use Rattle.sd_types.specs.declared.scripts.Op.TheVariants as op
 use Rattle.sd_types.specs.declared.works.Work.{Work}
-use Rattle.std.specs.Prelude.{if◌then◌else◌, Result, Ok, Err, is_none, is_some, nat_lt, nat_le, ◌==◌, not, ◌&&◌}
+use Rattle.std.specs.Prelude.{if◌then◌else◌, Result, Ok, Err, is_none, is_some, nat_lt, nat_le, ◌==◌}
 use Rattle.sd_machine.specs.declared.states.Place.{Place}
-use Rattle.sd_machine.specs.declared.states.Place.TheVariants.{Running, Queued, RealTime, Waiting, Asleep, Napping, Ended}
+use Rattle.sd_machine.specs.declared.states.Place.TheVariants.{Running, Waiting, Ended}
 use Rattle.sd_machine.specs.declared.states.LockState.{LockState}
 use Rattle.sd_machine.specs.declared.states.LockState.TheVariants.{Free, Owned, ReadHeld, Passing}
-use Rattle.sd_machine.specs.declared.states.CpuState.{CpuState}
 use Rattle.sd_machine.specs.declared.states.ThreadState.{ThreadState}
 use Rattle.sd_machine.specs.declared.states.State.{State}
 use Rattle.sd_machine.specs.States.{no_thread, thread_of, cpu_of, with_thread}
 use Rattle.sd_machine.specs.Operations.{script_of, op_of, op_over, ran}
 use Rattle.sd_full.specs.Threads.{lock_of, with_lock, with_count, runner, best_waiter, best_sleeper, eff_of, has_waiters}
 use Rattle.sd_rules.specs.ClassRules.{class_requeue}
-use Rattle.sd_full.specs.Bodies.{ticked_class, woken_class, with_class, aged_class, departed, arrived}
-use Rattle.sd_full.specs.Changes.{with_body, back_key, with_place, finish_op, run_tick, set_class, send_back, set_duty, count_tick, clear_marks, set_mark, set_kernel_mark, mark_over, remark, run_on, leave, place_put, put, put_where, close, join, bind}
+use Rattle.sd_full.specs.Bodies.{ticked_class, woken_class, aged_class, departed}
+use Rattle.sd_full.specs.Changes.{with_body, back_key, with_place, finish_op, run_tick, set_class, send_back, set_duty, count_tick, clear_marks, set_mark, set_kernel_mark, mark_over, remark, run_on, leave, place_put, put, put_where, close, join}
 use Rattle.sd_full.specs.Dispatching.{charge, class_counts, ticked, spun, idled, dispatched, stolen, preempted, sent_away, yielded, done}
 use Rattle.sd_full.specs.Sleeping.{woken, napped, fallen_asleep, woke, woke_all, roused_on, roused}
 use Rattle.sd_full.specs.Locking.{blocked, free_or_passed, release_from, unblocked_on, unblocked, passed_on, passed}
@@ -176,21 +172,22 @@ module _ (P : ClassState → Type 0) where
   -- Words that move a thread.
 
   written : (s : State) (t : ℕ) (x : ThreadState) → (P (thread_of s t).body.class → P x.body.class) → Fit P s (with_thread s t x)
-  written s t x keeps = record { each = λ u h. elim (cases_lt t (length s.threads)) [
-    | inl here ↦
-        let put = put_item (λ (y : ThreadState). y.body.class) s.threads no_thread t x here in
-        elim (cases_eq u t) [
-          | inl is ↦ subst P (sym (ap (λ v. (get_or (set s.threads t x) v no_thread).body.class) is ∙ put.at)) (keeps (subst (λ v. P (thread_of s v).body.class) is h))
-          | inr other ↦ subst P (sym (put.others u other)) h
-        ]
-    | inr past ↦ subst P (sym (ap (λ (ys : List ThreadState). (get_or ys u no_thread).body.class) (set_past s.threads t x past))) h
-  ] }
+  written s t x keeps = record {
+    each = λ u h. elim (cases_lt t (length s.threads)) [
+      | inl here ↦
+          let put = put_item (λ (y : ThreadState). y.body.class) s.threads no_thread t x here in
+          elim (cases_eq u t) [
+            | inl is ↦ subst P (sym (ap (λ v. (get_or (set s.threads t x) v no_thread).body.class) is ∙ put.at)) (keeps (subst (λ v. P (thread_of s v).body.class) is h))
+            | inr other ↦ subst P (sym (put.others u other)) h
+          ]
+      | inr past ↦ subst P (sym (ap (λ (ys : List ThreadState). (get_or ys u no_thread).body.class) (set_past s.threads t x past))) h
+    ];
+  }
 
   pub body_fit : (s : State) (t : ℕ) (b : ThreadBody) → (P (thread_of s t).body.class → P b.class) → Fit P s (with_body s t b)
   body_fit s t b keeps = written s t (record (thread_of s t) { body = b }) keeps
 
   module _ (w : Work) (k : IsClosed P w) where
-
     pub set_class_fit : (s : State) (t : ℕ) (class : ClassState) → (P (thread_of s t).body.class → P class) → Fit P s (set_class s t class)
     unfolding set_class
     set_class_fit s t class keeps = written s t _ keeps

@@ -1,68 +1,29 @@
 -- The counts of processors stay within the limit.
-use Rattle.std.proofs.Common.{◌≡◌, ◌≢◌, ℕ, ◌+◌, ◌-◌, ◌%◌, ◌<◌, Bool, true, false, ◌||◌, List, length, set, Option, Some, None, refl, ◌∙◌, sym, ap, subst, arith}
-use Rattle.std.specs.Prelude.{int_lt}
-use Rattle.std.specs.Ordering.{int_eq}
-use Rattle.sd_chains.specs.Holders as H
-use Rattle.sd_chains.proofs.Moves.{IsSame, IsPut}
-use Rattle.sd_full.proofs.ShapeLemmas.{IsShaped, then_shape, lock_shape, finish_op_shape, hold_shape, set_number_shape, leave_shape, woken_shape}
-use Rattle.sd_sound.specs.Causes.{IsFree}
-use Rattle.sd_sound.specs.Holding.{pass_of}
-use Rattle.sd_sound.proofs.Parts.{same_item, put_item, put_same, same_put}
-use Rattle.sd_sound.proofs.FieldWords as F
+use Rattle.std.proofs.Common.{◌≡◌, ℕ, ◌+◌, ◌<◌, true, List, length, Option, Some, None, refl, ◌∙◌, sym, ap, subst, arith}
+use Rattle.sd_sound.proofs.Parts.{put_item}
 use Rattle.sd_sound.proofs.CpuWords as C
-use Rattle.sd_types.specs.declared.numbers.ChanId.{ChanId}
 use Rattle.sd_types.specs.declared.numbers.CpuId.{CpuId}
-use Rattle.sd_types.specs.declared.numbers.LockId.{LockId}
 use Rattle.sd_types.specs.declared.numbers.SetId.{SetId}
-use Rattle.sd_types.specs.declared.numbers.Side.TheVariants.{Writer}
-use Rattle.sd_types.specs.declared.numbers.ThreadId.{ThreadId}
-use Rattle.sd_types.specs.declared.bodies.ThreadBody.{ThreadBody}
-use Rattle.sd_types.specs.declared.classes.ClassParms.{ClassParms}
-use Rattle.sd_types.specs.declared.classes.ClassState.{ClassState}
 use Rattle.sd_types.specs.declared.events.AssignAnswer.{AssignAnswer}
 use Rattle.sd_types.specs.declared.events.AssignAnswer.TheVariants as assign
 use Rattle.sd_types.specs.declared.events.BindAnswer.{BindAnswer}
 use Rattle.sd_types.specs.declared.events.BindAnswer.TheVariants as bind_answer
-use Rattle.sd_types.specs.declared.events.Denied.{Denied}
-use Rattle.sd_types.specs.declared.events.Duty.{Duty}
-use Rattle.sd_types.specs.declared.events.Duty.TheVariants as duty
-use Rattle.sd_types.specs.declared.events.End.{End}
 use Rattle.sd_types.specs.declared.events.Event.{Event}
 use Rattle.sd_types.specs.declared.events.Event.TheVariants.{Tick, Spin, Idle, Dispatch, Steal, Preempt, Yield, Done, Nap, Napend, Sleep, Wake, Wakeall, Rouse, Enter, Read, Write, Block, Will, End as WalkEnd, Exit, Unblock, Grant, Passed, Age, Prio, CvWait, SemaP, SemaWait, SemaVWake, SemaVCount, Assign, Move, Joined, Bind, Away}
-use Rattle.sd_types.specs.declared.events.PrioAnswer.{PrioAnswer}
-use Rattle.sd_types.specs.declared.events.PrioAnswer.TheVariants.{Changed, Refused}
-use Rattle.sd_types.specs.declared.events.Put.{Put}
-use Rattle.sd_types.specs.declared.scripts.Op.{Op}
-use Rattle.sd_types.specs.declared.scripts.Op.TheVariants as op
 use Rattle.sd_types.specs.declared.works.Work.{Work}
-use Rattle.std.specs.Prelude.{if◌then◌else◌, Result, Ok, Err, is_none, is_some, nat_lt, nat_le, ◌==◌, not, ◌&&◌}
-use Rattle.sd_machine.specs.declared.states.Place.{Place}
-use Rattle.sd_machine.specs.declared.states.Place.TheVariants.{Running, Queued, RealTime, Waiting, Asleep, Napping, Ended}
-use Rattle.sd_machine.specs.declared.states.LockState.{LockState}
-use Rattle.sd_machine.specs.declared.states.LockState.TheVariants.{Free, Owned, ReadHeld, Passing}
+use Rattle.std.specs.Prelude.{nat_lt, nat_le}
 use Rattle.sd_machine.specs.declared.states.CpuState.{CpuState}
-use Rattle.sd_machine.specs.declared.states.ThreadState.{ThreadState}
 use Rattle.sd_machine.specs.declared.states.State.{State}
 use Rattle.sd_machine.specs.States.{no_cpu, thread_of, cpu_of}
-use Rattle.sd_machine.specs.Operations.{op_of}
-use Rattle.sd_full.specs.Threads.{thread_id, has_waiters, best_waiter, lock_of, with_lock, count_of, with_count, runner, best_sleeper, best_sleeper_below, eff_of, greatest_waiting}
-use Rattle.sd_full.specs.Bodies.{aged_class}
-use Rattle.sd_full.specs.Changes.{back_key, with_body, finish_op, run_tick, set_class, hold, let_go, set_number, set_looped, set_duty, duty_after, count_tick, leave, put, put_where, close, join, bind, unbind}
+use Rattle.sd_full.specs.Threads.{runner}
+use Rattle.sd_full.specs.Changes.{with_body, run_tick, duty_after, count_tick, put_where, close, join, bind, unbind}
 use Rattle.sd_full.specs.Dispatching.{class_counts, ticked, spun, idled}
-use Rattle.sd_full.specs.Sleeping.{woken, woke_all, roused_on, rouse_key, roused}
-use Rattle.sd_full.specs.Locking.{side_of, blocked, after_reader, after_owner, free_or_passed, release_from, released, exited, others_waiting, unblocked_on, unblocked, granted_to_writer, granted, passed_on, passed}
-use Rattle.sd_full.specs.Requeueing.{reordered}
-use Rattle.sd_full.specs.Walking.{is_back, next_walk, walked, willed, walk_ended}
-use Rattle.sd_full.specs.Prioritising.{answer_to, new_class, walk_from, changed_by, changed_on, reprioritised, lifted, aged}
-use Rattle.sd_full.specs.Conditions.{cv_waited, sema_taken, sema_counted}
 use Rattle.sd_full.specs.SetChanges.{cleared, assigned, joined, rebound, pbound}
-use Rattle.sd_full.specs.Events.{keeps_ageing, dropped_duty, drop_ageing, effect, after}
-
-
+use Rattle.sd_full.specs.Events.{drop_ageing, effect, after}
 use Rattle.sd_sound.specs.Causes.{IsCause}
 use Rattle.sd_sound.specs.Laws.{CountsWithin}
 use Rattle.sd_sound.proofs.PlainWords.{Plain, plain_keeps, is_plain, drop_keeps}
-use Rattle.sd_full.specs.Events.{next, may_tick, wish, reads, hints_fit, allowed}
+use Rattle.sd_full.specs.Events.{may_tick}
 use Rattle.std.specs.List.{list_all, range_with_len}
 use Rattle.std.proofs.lemmas.Bool.Decides.{nat_tests}
 use Rattle.std.proofs.lemmas.Bool.{cases_eq, cases_lt}
@@ -96,15 +57,17 @@ grows_then limit s r q a b = record { each = λ d h. subst (λ m. m ≤ limit) (
 
 count_tick_grows : (w : Work) (limit : ℕ) (s : State) (c : ℕ) → (cpu_of s c).count < limit → Grows limit s (count_tick w s c)
 unfolding count_tick
-count_tick_grows w limit s c below = record { each = λ d h. elim (cases_lt c (length s.cpus)) [
-  | inl here ↦
-      let put = put_item count_part s.cpus no_cpu c (record (cpu_of s c) { count = (cpu_of s c).count + 1; duty = duty_after w ((cpu_of s c).count + 1) (cpu_of s c).duty }) here in
-      elim (cases_eq d c) [
-        | inl is ↦ let at : (cpu_of (count_tick w s c) d).count ≡ (cpu_of s c).count + 1 = ap (λ i. (cpu_of (count_tick w s c) i).count) is ∙ put.at in subst (λ m. m ≤ limit) (sym at) (omega (arith, below))
-        | inr other ↦ subst (λ m. m ≤ limit) (sym (put.others d other)) h
-      ]
-  | inr past ↦ subst (λ m. m ≤ limit) (sym (ap (λ xs. count_part (get_or xs d no_cpu)) (set_past s.cpus c (record (cpu_of s c) { count = (cpu_of s c).count + 1; duty = duty_after w ((cpu_of s c).count + 1) (cpu_of s c).duty }) past))) h
-] }
+count_tick_grows w limit s c below = record {
+  each = λ d h. elim (cases_lt c (length s.cpus)) [
+    | inl here ↦
+        let put = put_item count_part s.cpus no_cpu c (record (cpu_of s c) { count = (cpu_of s c).count + 1; duty = duty_after w ((cpu_of s c).count + 1) (cpu_of s c).duty }) here in
+        elim (cases_eq d c) [
+          | inl is ↦ let at : (cpu_of (count_tick w s c) d).count ≡ (cpu_of s c).count + 1 = ap (λ i. (cpu_of (count_tick w s c) i).count) is ∙ put.at in subst (λ m. m ≤ limit) (sym at) (omega (arith, below))
+          | inr other ↦ subst (λ m. m ≤ limit) (sym (put.others d other)) h
+        ]
+    | inr past ↦ subst (λ m. m ≤ limit) (sym (ap (λ xs. count_part (get_or xs d no_cpu)) (set_past s.cpus c (record (cpu_of s c) { count = (cpu_of s c).count + 1; duty = duty_after w ((cpu_of s c).count + 1) (cpu_of s c).duty }) past))) h
+  ];
+}
 
 class_counts_same : (w : Work) (s : State) (c t : ℕ) → SameCounts s (class_counts w s c t)
 class_counts_same w s c t = C.class_counts_kept count_part count_marks w s c t
@@ -160,7 +123,6 @@ pbound_counts w s n t u d bind_answer.ESRCH = C.finish_op_kept count_part count_
 pbound_counts w s n t u d bind_answer.EINVAL = C.finish_op_kept count_part count_marks w s t
 pbound_counts w s n t u d bind_answer.EPERM = C.finish_op_kept count_part count_marks w s t
 pbound_counts w s n t u d bind_answer.EBUSY = C.finish_op_kept count_part count_marks w s t
-
 
 -- a processor that may tick has a count below the limit
 pub ticks_below : (w : Work) (s : State) (c : ℕ) → may_tick w s c ≡ true → (cpu_of s c).count < w.limit

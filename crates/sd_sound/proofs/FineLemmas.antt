@@ -1,26 +1,16 @@
 -- In every state of every run inherited priorities are sound and effective ones are below 160.
-use Rattle.std.proofs.Common.{◌≡◌, ℕ, zero, suc, ◌+◌, ◌<◌, ◌≤◌, Bool, true, false, ◌&&◌, List, [], ◌∷◌, get_or, refl, sym, ap, ◌∙◌, subst, arith}
-use Rattle.std.specs.Prelude.{⊤, nat_le, if◌then◌else◌, ◌==◌, pos}
+use Rattle.std.proofs.Common.{◌≡◌, ℕ, zero, suc, ◌+◌, true, ◌&&◌, List, [], ◌∷◌, get_or, refl, arith}
+use Rattle.std.specs.Prelude.{nat_le, ◌==◌}
 use Rattle.std.specs.List.{list_all}
 use Rattle.std.proofs.lemmas.Bool.Decides.{nat_tests}
-use Rattle.sd_types.specs.declared.numbers.CpuId.{CpuId}
 use Rattle.sd_types.specs.declared.classes.ClassParms.{ClassParms}
 use Rattle.sd_types.specs.declared.classes.ClassParms.TheVariants as parms
-use Rattle.sd_types.specs.declared.bodies.ThreadBody.{ThreadBody}
-use Rattle.sd_types.specs.declared.events.Event.{Event}
 use Rattle.sd_types.specs.declared.works.ThreadDecl.{ThreadDecl}
 use Rattle.sd_types.specs.declared.works.Work.{Work}
-use Rattle.sd_types.specs.Priorities.{eff}
-use Rattle.sd_types.specs.Willed.{IsSound}
 use Rattle.sd_types.specs.Works.{class_fits, quantum_fits, thread_fits}
-use Rattle.sd_machine.specs.declared.states.ThreadState.{ThreadState}
-use Rattle.sd_machine.specs.declared.states.State.{State}
 use Rattle.sd_machine.specs.States.{thread_of, no_thread}
 use Rattle.sd_machine.specs.Opening.{first_class, first_thread, first_threads, opening}
-use Rattle.sd_full.specs.Events.{after}
-use Rattle.sd_sound.specs.Causes.{IsCause}
 use Rattle.sd_sound.specs.Laws.{HoldsWhenReached, AreSound}
-use Rattle.sd_sound.proofs.AgreedAfter.{IsReady}
 use Rattle.sd_sound.proofs.BaseLemmas.{IsBelow, tick_below, wake_below, age_below, requeue_below, new_below}
 use Rattle.sd_sound.proofs.ClassWords.{IsClosed}
 use Rattle.sd_sound.proofs.ClassTable.{after_fit}

@@ -1,8 +1,6 @@
 -- The thread that a search finds is there, and stands where the search looks; where it finds none, none stands there.
-use Rattle.std.proofs.Common.{◌≡◌, ◌≢◌, ℕ, zero, suc, ◌+◌, ◌<◌, ◌≤◌, Bool, true, false, not, ◌&&◌, List, [], ◌∷◌, length, get_or, drop, Option, Some, None, is_none, refl, sym, ap, ◌∙◌, inl, inr, subst, arith}
+use Rattle.std.proofs.Common.{◌≡◌, ℕ, zero, suc, ◌+◌, ◌<◌, Bool, true, false, ◌&&◌, List, [], ◌∷◌, length, get_or, drop, Option, Some, None, is_none, refl, ap, ◌∙◌, subst, arith}
 use Rattle.std.specs.Prelude.{position, option_map, ℤ}
-use Rattle.std.specs.List.{list_any}
-use Rattle.std.proofs.lemmas.Bool.{cases_Bool, false≢true}
 use Rattle.std.proofs.lemmas.List.Quantifiers.{position-Some}
 use Rattle.sd_types.specs.declared.numbers.Side.{Side}
 use Rattle.sd_machine.specs.declared.states.ThreadState.{ThreadState}

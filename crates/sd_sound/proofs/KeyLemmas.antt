@@ -1,14 +1,9 @@
 -- Keys in one queue differ.
-use Rattle.std.proofs.Common.{◌≡◌, ◌≢◌, ℕ, ◌<◌, Bool, true, false, not, ◌&&◌, ◌||◌, List, length, Option, Some, None, refl, sym, ap, ◌∙◌, subst, arith, ◌⊎◌, inl, inr}
-use Rattle.std.specs.Prelude.{⊤, nat_lt, nat_le, ◌==◌, if◌then◌else◌, is_none, ℤ}
+use Rattle.std.proofs.Common.{◌≡◌, ℕ, Bool, true, false, ◌&&◌, Option, Some, None, refl, sym, ◌∙◌, subst, inl, inr}
+use Rattle.std.specs.Prelude.{nat_le, ◌==◌, if◌then◌else◌, is_none, ℤ}
 use Rattle.std.proofs.lemmas.Bool.{false≢true}
-use Rattle.std.proofs.lemmas.Option.{same_Some}
-use Rattle.sd_types.specs.declared.numbers.ChanId.{ChanId}
 use Rattle.sd_types.specs.declared.numbers.CpuId.{CpuId}
-use Rattle.sd_types.specs.declared.numbers.LockId.{LockId}
 use Rattle.sd_types.specs.declared.numbers.ThreadId.{ThreadId}
-use Rattle.sd_types.specs.declared.numbers.Side.{Side}
-use Rattle.sd_types.specs.declared.numbers.Side.TheVariants.{Writer, Reader}
 use Rattle.sd_types.specs.declared.events.BindAnswer.{BindAnswer}
 use Rattle.sd_types.specs.declared.events.BindAnswer.TheVariants as bind_answer
 use Rattle.sd_types.specs.declared.events.Event.{Event}
@@ -17,44 +12,24 @@ use Rattle.sd_types.specs.declared.events.PrioAnswer.{PrioAnswer}
 use Rattle.sd_types.specs.declared.events.PrioAnswer.TheVariants.{Changed, Refused}
 use Rattle.sd_types.specs.declared.events.Put.{Put}
 use Rattle.sd_types.specs.declared.events.Put.TheVariants.{Cpu, RealTime as OnRealTime}
-use Rattle.sd_types.specs.declared.scripts.Op.{Op}
-use Rattle.sd_types.specs.declared.scripts.Op.TheVariants as op
-use Rattle.sd_types.specs.declared.scripts.Request.{Request}
 use Rattle.sd_types.specs.declared.works.Work.{Work}
-use Rattle.sd_types.specs.Works.{op_names, request_fits, bound_fits}
 use Rattle.sd_types.specs.Priorities.{eff_as}
-use Rattle.sd_full.specs.declared.plans.Requeue.{Requeue}
-use Rattle.sd_full.specs.declared.plans.Requeue.TheVariants.{Stays, Behind, Anew}
 use Rattle.sd_machine.specs.declared.states.Place.{Place}
 use Rattle.sd_machine.specs.declared.states.Place.TheVariants.{Running, Queued, RealTime, Waiting, Asleep, Napping, Ended}
-use Rattle.sd_machine.specs.declared.states.LockState.TheVariants.{Owned}
 use Rattle.sd_machine.specs.declared.states.State.{State}
-use Rattle.sd_machine.specs.States.{thread_of, cpu_of, is_running, is_queued, is_real_time, is_ready}
-use Rattle.sd_machine.specs.Operations.{op_of}
-use Rattle.sd_full.specs.Shapes.{FitsFully}
+use Rattle.sd_machine.specs.States.{thread_of}
 use Rattle.sd_full.specs.Changes.{back_key}
-use Rattle.sd_full.specs.Threads.{lock_of, eff_of, runner, next_to_age, is_ts, is_asleep, is_asleep_below, is_due, is_waiting_at, has_ended}
+use Rattle.sd_full.specs.Threads.{eff_of}
 use Rattle.sd_full.specs.Bodies.{aged_class}
-use Rattle.sd_full.specs.Prioritising.{is_privileged, uid_of}
-use Rattle.sd_full.specs.Requeueing.{requeue, requeue_at}
-use Rattle.sd_full.specs.SetChanges.{bound_put, unbound_put, bind_put, bind_to, is_misbound, is_closing}
-use Rattle.sd_sound.specs.Causes.{Acts, WakesBest, RousesBest, IsRequeuedAt, IsAnswered, IsCause}
-use Rattle.sd_sound.specs.Holding.{lock_state, Agreed}
 use Rattle.sd_sound.specs.Moves.{Step, put_step, put_step_if, woken_step, reordered_step, aged_step, prio_step, bind_step, step_of}
 use Rattle.sd_sound.specs.Moves.Step.{Stay, Go}
-use Rattle.sd_sound.proofs.Found.{runner_found, ready_found, queued_found, unbound_found, waiter_found, sleeper_found, sleeper_below_found, due_found, age_found}
-use Rattle.sd_sound.proofs.PlaceTable.{Stepped, IsMoverThere}
-use Rattle.sd_sound.proofs.ScriptLemmas.{is_waiter, runs_no_waiter}
-use Rattle.sd_sound.proofs.Works.{declared, op_named, first_of_two}
-use Rattle.sd_chains.proofs.Moves.{put_cases}
-
+use Rattle.sd_sound.proofs.PlaceTable.{Stepped}
 use Rattle.sd_types.specs.declared.bodies.ThreadBody.{ThreadBody}
 use Rattle.sd_types.specs.Priorities.{eff}
 use Rattle.sd_full.specs.Threads.{set_of}
-use Rattle.sd_full.specs.Changes.{queue_place, place_put, key_at}
+use Rattle.sd_full.specs.Changes.{queue_place, key_at}
 use Rattle.sd_full.specs.Events.{after}
 use Rattle.sd_machine.specs.States.{key_of}
-use Rattle.sd_machine.specs.Opening.{opening}
 use Rattle.sd_types.specs.declared.events.End.{End}
 use Rattle.sd_types.specs.declared.events.End.TheVariants.{Front, Back}
 use Rattle.sd_laws.specs.Laws.{has_key, KeysDiffer, KeysWithin}
@@ -64,9 +39,7 @@ use Rattle.sd_laws.proofs.KeyLemmas.{IsNew, GivesNew, KeysAt, keys_after, first_
 use Rattle.sd_sound.specs.Laws.{HoldsWhenReached, HoldsAfterEntries}
 use Rattle.sd_sound.proofs.PlaceTable.{after_steps, step_needs}
 use Rattle.sd_sound.proofs.Movers.{mover_there}
-use Rattle.sd_sound.proofs.AgreedAfter.{IsReady}
 use Rattle.sd_sound.proofs.Ready.{IsKept, kept_after}
-use Rattle.std.proofs.Common.{◌+◌}
 
 abbrev change_of : Step → Ch.Change Place
 change_of Stay = Ch.Change.Keep

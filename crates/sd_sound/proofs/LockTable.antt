@@ -1,24 +1,21 @@
 -- The locks and the duties after each event.
-use Rattle.std.proofs.Common.{◌≡◌, ◌≢◌, ℕ, ◌+◌, ◌-◌, ◌%◌, ◌<◌, Bool, true, false, ◌||◌, List, length, set, Option, Some, None, refl, ◌∙◌, sym, ap, subst, arith}
+use Rattle.std.proofs.Common.{◌≡◌, ℕ, ◌+◌, ◌-◌, ◌%◌, ◌<◌, Bool, true, false, ◌||◌, List, length, set, Option, Some, None, refl, ◌∙◌, sym, ap, arith}
 use Rattle.std.specs.Prelude.{int_lt}
 use Rattle.std.specs.Ordering.{int_eq}
 use Rattle.sd_chains.specs.Holders as H
-use Rattle.sd_chains.proofs.Moves.{IsSame, IsPut}
+use Rattle.sd_chains.proofs.Moves.{IsPut}
 use Rattle.sd_full.proofs.ShapeLemmas.{IsShaped, then_shape, lock_shape, finish_op_shape, hold_shape, set_number_shape, leave_shape, woken_shape}
 use Rattle.sd_sound.specs.Causes.{IsFree}
 use Rattle.sd_sound.specs.Holding.{pass_of}
-use Rattle.sd_sound.proofs.Parts.{same_item, put_item, put_same, same_put}
+use Rattle.sd_sound.proofs.Parts.{put_item, put_same, same_put}
 use Rattle.sd_sound.proofs.FieldWords as F
 use Rattle.sd_sound.proofs.CpuWords as C
 use Rattle.sd_types.specs.declared.numbers.ChanId.{ChanId}
 use Rattle.sd_types.specs.declared.numbers.CpuId.{CpuId}
 use Rattle.sd_types.specs.declared.numbers.LockId.{LockId}
 use Rattle.sd_types.specs.declared.numbers.SetId.{SetId}
-use Rattle.sd_types.specs.declared.numbers.Side.TheVariants.{Writer}
 use Rattle.sd_types.specs.declared.numbers.ThreadId.{ThreadId}
-use Rattle.sd_types.specs.declared.bodies.ThreadBody.{ThreadBody}
 use Rattle.sd_types.specs.declared.classes.ClassParms.{ClassParms}
-use Rattle.sd_types.specs.declared.classes.ClassState.{ClassState}
 use Rattle.sd_types.specs.declared.events.AssignAnswer.{AssignAnswer}
 use Rattle.sd_types.specs.declared.events.AssignAnswer.TheVariants as assign
 use Rattle.sd_types.specs.declared.events.BindAnswer.{BindAnswer}
@@ -26,7 +23,6 @@ use Rattle.sd_types.specs.declared.events.BindAnswer.TheVariants as bind_answer
 use Rattle.sd_types.specs.declared.events.Denied.{Denied}
 use Rattle.sd_types.specs.declared.events.Duty.{Duty}
 use Rattle.sd_types.specs.declared.events.Duty.TheVariants as duty
-use Rattle.sd_types.specs.declared.events.End.{End}
 use Rattle.sd_types.specs.declared.events.Event.{Event}
 use Rattle.sd_types.specs.declared.events.Event.TheVariants.{Tick, Spin, Idle, Dispatch, Steal, Preempt, Yield, Done, Nap, Napend, Sleep, Wake, Wakeall, Rouse, Enter, Read, Write, Block, Will, End as WalkEnd, Exit, Unblock, Grant, Passed, Age, Prio, CvWait, SemaP, SemaWait, SemaVWake, SemaVCount, Assign, Move, Joined, Bind, Away}
 use Rattle.sd_types.specs.declared.events.PrioAnswer.{PrioAnswer}
@@ -35,22 +31,21 @@ use Rattle.sd_types.specs.declared.events.Put.{Put}
 use Rattle.sd_types.specs.declared.scripts.Op.{Op}
 use Rattle.sd_types.specs.declared.scripts.Op.TheVariants as op
 use Rattle.sd_types.specs.declared.works.Work.{Work}
-use Rattle.std.specs.Prelude.{if◌then◌else◌, Result, Ok, Err, is_none, is_some, nat_lt, nat_le, ◌==◌, not, ◌&&◌}
+use Rattle.std.specs.Prelude.{if◌then◌else◌, Result, Ok, Err, is_none, ◌==◌, ◌&&◌}
 use Rattle.sd_machine.specs.declared.states.Place.{Place}
 use Rattle.sd_machine.specs.declared.states.Place.TheVariants.{Running, Queued, RealTime, Waiting, Asleep, Napping, Ended}
 use Rattle.sd_machine.specs.declared.states.LockState.{LockState}
-use Rattle.sd_machine.specs.declared.states.LockState.TheVariants.{Free, Owned, ReadHeld, Passing}
+use Rattle.sd_machine.specs.declared.states.LockState.TheVariants.{Owned}
 use Rattle.sd_machine.specs.declared.states.CpuState.{CpuState}
-use Rattle.sd_machine.specs.declared.states.ThreadState.{ThreadState}
 use Rattle.sd_machine.specs.declared.states.State.{State}
 use Rattle.sd_machine.specs.States.{no_cpu, thread_of, cpu_of}
 use Rattle.sd_machine.specs.Operations.{op_of}
 use Rattle.sd_full.specs.Threads.{thread_id, lock_of, with_lock, count_of, with_count, runner, best_sleeper, best_sleeper_below, eff_of, greatest_waiting}
 use Rattle.sd_full.specs.Bodies.{aged_class}
-use Rattle.sd_full.specs.Changes.{back_key, with_body, finish_op, run_tick, set_class, hold, let_go, set_number, set_looped, set_duty, duty_after, count_tick, leave, put, put_where, close, join, bind, unbind}
+use Rattle.sd_full.specs.Changes.{back_key, with_body, finish_op, run_tick, set_class, hold, let_go, set_number, set_looped, set_duty, duty_after, count_tick, leave, put_where, close, join, bind, unbind}
 use Rattle.sd_full.specs.Dispatching.{class_counts, ticked, spun, idled}
 use Rattle.sd_full.specs.Sleeping.{woken, woke_all, roused_on, rouse_key, roused}
-use Rattle.sd_full.specs.Locking.{owned, one_more, read, side_of, blocked, release_from, released, exited, others_waiting, one_reader_more, granted_to_writer, granted_to_reader, passed}
+use Rattle.sd_full.specs.Locking.{owned, one_more, read, side_of, blocked, release_from, released, exited, others_waiting, one_reader_more, granted_to_writer, granted_to_reader}
 use Rattle.sd_full.specs.Requeueing.{reordered}
 use Rattle.sd_full.specs.Walking.{is_back, next_walk, walked, willed, walk_ended}
 use Rattle.sd_full.specs.Prioritising.{answer_to, new_class, walk_from, changed_by, changed_on, reprioritised, lifted, aged}
@@ -158,7 +153,7 @@ unfolding granted_to_writer
 granted_to_writer_duty w s n c l u at here =
     let x : State = set_number (finish_op w (hold (with_lock s l.0 (Owned (thread_id u))) u l) u) u l (others_waiting s l u) in
     let before : Duties s x = C.then_kept duty_part s _ _ (C.lock_kept duty_part s l.0 (Owned (thread_id u))) (C.then_kept duty_part _ _ _ (C.hold_kept duty_part duty_marks _ u l)
-        (C.then_kept duty_part _ _ _ (C.finish_op_kept duty_part duty_marks w _ u) (C.set_number_kept duty_part duty_marks _ u l (others_waiting s l u)))) in
+    (C.then_kept duty_part _ _ _ (C.finish_op_kept duty_part duty_marks w _ u) (C.set_number_kept duty_part duty_marks _ u l (others_waiting s l u)))) in
     let shape : IsShaped s x = then_shape s _ _ (lock_shape s l.0 (Owned (thread_id u))) (then_shape _ _ _ (hold_shape _ u l) (then_shape _ _ _ (finish_op_shape w _ u) (set_number_shape _ u l (others_waiting s l u)))) in
     duties_then s (woken w x n u at) _ c.0 duty.Nothing (C.then_kept duty_part s x _ before (woken_duties w x n u at))
     (set_duty_is _ c.0 duty.Nothing (cpu_there s _ c.0 (then_shape s _ _ shape (woken_shape w x n u at)) here))
@@ -315,7 +310,7 @@ willed_served : (w : Work) (s : State) (n : ℕ) (c : CpuId) (l : LockId) (o : T
 unfolding willed
 willed_served w s n c l o at free =
     let a : Served s (set_looped (set_number s o.0 l (greatest_waiting l.0 s.threads)) o.0 ((thread_of s o.0).body.looped || is_back (cpu_of s c.0).duty o (thread_of s o.0).place)) =
-        C.then_kept served_part s _ _ (C.set_number_kept served_part served_marks s o.0 l _) (C.set_looped_kept served_part served_marks _ o.0 _) in
+    C.then_kept served_part s _ _ (C.set_number_kept served_part served_marks s o.0 l _) (C.set_looped_kept served_part served_marks _ o.0 _) in
     C.then_kept served_part s (walked s c l o) _
     (C.then_kept served_part s _ _ a (duty_served _ c.0 _ (next_walk_served (cpu_of s c.0).duty o (thread_of s o.0).body.looped (thread_of s o.0).place ∙ sym (a.each c.0 ∙ free))))
     (C.reordered_kept served_part served_marks w _ n o.0 _ at)
@@ -328,7 +323,7 @@ aged_served : (w : Work) (s : State) (n : ℕ) (c : CpuId) (t : ℕ) → pass_du
 unfolding aged
 aged_served w s n c t free =
     let a : Served s (lifted w (set_class s t (aged_class w (thread_of s t).body.class)) n c t (eff_of s t)) =
-        C.then_kept served_part s _ _ (C.set_class_kept served_part served_marks s t _) (C.lifted_kept served_part served_marks w _ n c t _) in
+    C.then_kept served_part s _ _ (C.set_class_kept served_part served_marks s t _) (C.lifted_kept served_part served_marks w _ n c t _) in
     C.then_kept served_part s _ _ a (duty_served _ c.0 _ (sym (a.each c.0 ∙ free)))
 
 walk_from_served : (s : State) (c : CpuId) (u : ThreadId) (p : Place) → pass_duty (cpu_of s c.0).duty ≡ duty.Nothing → Served s (walk_from s c u p)
@@ -344,7 +339,7 @@ changed_by_served : (w : Work) (s : State) (n : ℕ) (c : CpuId) (u : ThreadId) 
 changed_by_served w s n c u at (Err d) free = C.same_kept served_part s
 changed_by_served w s n c u at (Ok parms) free =
     let a : Served s (reordered w (set_class s u.0 (new_class w s u.0 parms)) n u.0 (eff_of s u.0) at) =
-        C.then_kept served_part s _ _ (C.set_class_kept served_part served_marks s u.0 _) (C.reordered_kept served_part served_marks w _ n u.0 _ at) in
+    C.then_kept served_part s _ _ (C.set_class_kept served_part served_marks s u.0 _) (C.reordered_kept served_part served_marks w _ n u.0 _ at) in
     C.then_kept served_part s _ _ a (walk_from_served _ c u _ (a.each c.0 ∙ free))
 
 changed_on_served : (w : Work) (s : State) (n : ℕ) (c : CpuId) (t : ℕ) (u : ThreadId) (at : Option Put) (o : Option Op) → pass_duty (cpu_of s c.0).duty ≡ duty.Nothing → Served s (changed_on w s n c t u at o)

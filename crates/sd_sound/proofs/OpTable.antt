@@ -1,7 +1,7 @@
 -- Whose operation each event ends.
-use Rattle.std.proofs.Common.{◌≡◌, ◌≢◌, ℕ, ◌+◌, ◌-◌, ◌<◌, Bool, true, false, List, length, Option, Some, None, refl, ◌∙◌, sym, ap, subst, arith, ◌⊎◌, inl, inr}
+use Rattle.std.proofs.Common.{◌≡◌, ℕ, ◌+◌, ◌-◌, ◌<◌, Bool, true, false, length, Option, Some, None, refl, ap, arith, ◌⊎◌, inl, inr}
 use Rattle.std.specs.Prelude.{⊤}
-use Rattle.sd_chains.proofs.Moves.{IsSame, IsPut}
+use Rattle.sd_chains.proofs.Moves.{IsPut}
 use Rattle.sd_full.proofs.ShapeLemmas.{IsShaped, then_shape, lock_shape, count_shape, hold_shape, set_duty_shape, count_tick_shape, leave_shape, put_where_shape, close_shape, woken_shape, released_shape, changed_on_shape, cleared_shape, rebound_shape}
 use Rattle.sd_sound.proofs.Parts.{same_item, put_item, put_same, same_put, put_is}
 use Rattle.sd_sound.proofs.Words.{all_same, then_same, lock_same, count_same, set_duty_same, count_tick_same, close_same, idled_same, walk_ended_same, joined_same, remark_same, cleared_same, called_back_same, release_from_same, passed_same, leave_same, put_where_same, class_counts_same, spun_same, dispatched_same, stolen_same, preempted_same, sent_away_same, done_same, woken_same, roused_same, blocked_same, unblocked_same, reordered_same, changed_on_same, aged_same, moved_same, Same, Moves, of_threads}
@@ -9,32 +9,23 @@ use Rattle.sd_types.specs.declared.numbers.ChanId.{ChanId}
 use Rattle.sd_types.specs.declared.numbers.CpuId.{CpuId}
 use Rattle.sd_types.specs.declared.numbers.LockId.{LockId}
 use Rattle.sd_types.specs.declared.numbers.SetId.{SetId}
-use Rattle.sd_types.specs.declared.numbers.Side.TheVariants.{Writer}
 use Rattle.sd_types.specs.declared.numbers.ThreadId.{ThreadId}
 use Rattle.sd_types.specs.declared.bodies.ThreadBody.{ThreadBody}
-use Rattle.sd_types.specs.declared.classes.ClassParms.{ClassParms}
-use Rattle.sd_types.specs.declared.classes.ClassState.{ClassState}
 use Rattle.sd_types.specs.declared.events.AssignAnswer.{AssignAnswer}
 use Rattle.sd_types.specs.declared.events.AssignAnswer.TheVariants as assign
 use Rattle.sd_types.specs.declared.events.BindAnswer.{BindAnswer}
 use Rattle.sd_types.specs.declared.events.BindAnswer.TheVariants as bind_answer
-use Rattle.sd_types.specs.declared.events.Denied.{Denied}
 use Rattle.sd_types.specs.declared.events.Duty.{Duty}
 use Rattle.sd_types.specs.declared.events.Duty.TheVariants as duty
-use Rattle.sd_types.specs.declared.events.End.{End}
 use Rattle.sd_types.specs.declared.events.Event.{Event}
 use Rattle.sd_types.specs.declared.events.Event.TheVariants.{Tick, Spin, Idle, Dispatch, Steal, Preempt, Yield, Done, Nap, Napend, Sleep, Wake, Wakeall, Rouse, Enter, Read, Write, Block, Will, End as WalkEnd, Exit, Unblock, Grant, Passed, Age, Prio, CvWait, SemaP, SemaWait, SemaVWake, SemaVCount, Assign, Move, Joined, Bind, Away}
 use Rattle.sd_types.specs.declared.events.PrioAnswer.{PrioAnswer}
 use Rattle.sd_types.specs.declared.events.PrioAnswer.TheVariants.{Changed, Refused}
 use Rattle.sd_types.specs.declared.events.Put.{Put}
-use Rattle.sd_types.specs.declared.scripts.Op.{Op}
-use Rattle.sd_types.specs.declared.scripts.Op.TheVariants as op
 use Rattle.sd_types.specs.declared.works.Work.{Work}
-use Rattle.std.specs.Prelude.{if◌then◌else◌, Result, Ok, Err, is_none, is_some, nat_lt, nat_le, ◌==◌, not, ◌&&◌}
-use Rattle.sd_machine.specs.declared.states.Place.{Place}
-use Rattle.sd_machine.specs.declared.states.Place.TheVariants.{Running, Queued, RealTime, Waiting, Asleep, Napping, Ended}
-use Rattle.sd_machine.specs.declared.states.LockState.{LockState}
-use Rattle.sd_machine.specs.declared.states.LockState.TheVariants.{Free, Owned, ReadHeld, Passing}
+use Rattle.std.specs.Prelude.{if◌then◌else◌, is_none, nat_le}
+use Rattle.sd_machine.specs.declared.states.Place.TheVariants.{Asleep, Napping}
+use Rattle.sd_machine.specs.declared.states.LockState.TheVariants.{Owned}
 use Rattle.sd_machine.specs.declared.states.CpuState.{CpuState}
 use Rattle.sd_machine.specs.declared.states.ThreadState.{ThreadState}
 use Rattle.sd_machine.specs.declared.states.State.{State}
@@ -152,14 +143,14 @@ exited_ended w s c t l here = ended_same s (finish_op w (released w s c t l) t) 
 
 granted_to_writer_ended : (w : Work) (s : State) (n : ℕ) (c : CpuId) (l : LockId) (u : ℕ) (at : Put) → u < length s.threads → Finished s (granted_to_writer w s n c l u at) u
 unfolding granted_to_writer
-granted_to_writer_ended w s n c l u at here = 
+granted_to_writer_ended w s n c l u at here =
     ended_same s (finish_op w (hold (with_lock s l.0 (Owned (thread_id u))) u l) u) _ u
     (later w s (hold (with_lock s l.0 (Owned (thread_id u))) u l) u (then_same op_part s _ _ (lock_same op_part s l.0 _) (hold_same _ u l)) (then_shape s _ _ (lock_shape s l.0 _) (hold_shape _ u l)) here)
     (then_same op_part _ _ _ (set_number_same _ u l _) (then_same op_part _ _ _ (woken_same op_part op_moves w _ n u at) (set_duty_same op_part _ c.0 _)))
 
 granted_to_reader_ended : (w : Work) (s : State) (n : ℕ) (l : LockId) (u : ℕ) (at : Put) → u < length s.threads → Finished s (granted_to_reader w s n l u at) u
 unfolding granted_to_reader
-granted_to_reader_ended w s n l u at here = 
+granted_to_reader_ended w s n l u at here =
     ended_same s (finish_op w (hold (with_lock s l.0 (one_reader_more (lock_of s l.0))) u l) u) _ u
     (later w s (hold (with_lock s l.0 (one_reader_more (lock_of s l.0))) u l) u (then_same op_part s _ _ (lock_same op_part s l.0 _) (hold_same _ u l)) (then_shape s _ _ (lock_shape s l.0 _) (hold_shape _ u l)) here)
     (woken_same op_part op_moves w _ n u at)
@@ -388,6 +379,7 @@ go_after s r q (Assign t d to answer) a b = same_ended s r q t.0 a b
 go_after s r q (Move t at) a b = then_same op_part s r q a b
 go_after s r q (Joined to) a b = then_same op_part s r q a b
 go_after s r q (Bind t u d answer) a b = same_ended s r q t.0 a b
+
 -- whose operation each event ends
 pub after_ops : (w : Work) (s : State) (n : ℕ) (c : CpuId) (e : Event) → IsEnderThere s (ender e) → OpsGo s (after w s n c e) e
 unfolding after

@@ -1,73 +1,36 @@
 -- The open processors of a set rise, are of that set, and are not closing.
-use Rattle.std.proofs.Common.{◌≡◌, ◌≢◌, ℕ, ◌+◌, ◌-◌, ◌%◌, ◌<◌, Bool, true, false, ◌||◌, List, length, set, Option, Some, None, refl, ◌∙◌, sym, ap, subst, arith}
-use Rattle.std.specs.Prelude.{int_lt}
-use Rattle.std.specs.Ordering.{int_eq}
-use Rattle.sd_chains.specs.Holders as H
-use Rattle.sd_chains.proofs.Moves.{IsSame, IsPut}
-use Rattle.sd_full.proofs.ShapeLemmas.{IsShaped, then_shape, lock_shape, finish_op_shape, hold_shape, set_number_shape, leave_shape, woken_shape}
+use Rattle.std.proofs.Common.{◌≡◌, ◌≢◌, ℕ, ◌+◌, ◌-◌, ◌<◌, Bool, true, false, ◌||◌, List, length, set, Option, Some, None, refl, ◌∙◌, sym, ap, subst, arith}
 use Rattle.arrayvec.specs.ArrayVec.{ArrayVec}
-use Rattle.sd_sound.specs.Causes.{IsFree}
-use Rattle.sd_sound.specs.Holding.{pass_of}
-use Rattle.sd_sound.proofs.Parts.{same_item, put_item, put_same, same_put}
+use Rattle.sd_sound.proofs.Parts.{put_item}
 use Rattle.sd_sound.proofs.FieldWords as F
 use Rattle.sd_sound.proofs.CpuWords as C
 use Rattle.sd_types.specs.declared.numbers.ChanId.{ChanId}
 use Rattle.sd_types.specs.declared.numbers.CpuId.{CpuId}
-use Rattle.sd_types.specs.declared.numbers.LockId.{LockId}
 use Rattle.sd_types.specs.declared.numbers.SetId.{SetId}
-use Rattle.sd_types.specs.declared.numbers.Side.TheVariants.{Writer}
-use Rattle.sd_types.specs.declared.numbers.ThreadId.{ThreadId}
-use Rattle.sd_types.specs.declared.bodies.ThreadBody.{ThreadBody}
-use Rattle.sd_types.specs.declared.classes.ClassParms.{ClassParms}
-use Rattle.sd_types.specs.declared.classes.ClassState.{ClassState}
 use Rattle.sd_types.specs.declared.events.AssignAnswer.{AssignAnswer}
 use Rattle.sd_types.specs.declared.events.AssignAnswer.TheVariants as assign
 use Rattle.sd_types.specs.declared.events.BindAnswer.{BindAnswer}
 use Rattle.sd_types.specs.declared.events.BindAnswer.TheVariants as bind_answer
-use Rattle.sd_types.specs.declared.events.Denied.{Denied}
-use Rattle.sd_types.specs.declared.events.Duty.{Duty}
-use Rattle.sd_types.specs.declared.events.Duty.TheVariants as duty
-use Rattle.sd_types.specs.declared.events.End.{End}
 use Rattle.sd_types.specs.declared.events.Event.{Event}
 use Rattle.sd_types.specs.declared.events.Event.TheVariants.{Tick, Spin, Idle, Dispatch, Steal, Preempt, Yield, Done, Nap, Napend, Sleep, Wake, Wakeall, Rouse, Enter, Read, Write, Block, Will, End as WalkEnd, Exit, Unblock, Grant, Passed, Age, Prio, CvWait, SemaP, SemaWait, SemaVWake, SemaVCount, Assign, Move, Joined, Bind, Away}
-use Rattle.sd_types.specs.declared.events.PrioAnswer.{PrioAnswer}
-use Rattle.sd_types.specs.declared.events.PrioAnswer.TheVariants.{Changed, Refused}
-use Rattle.sd_types.specs.declared.events.Put.{Put}
-use Rattle.sd_types.specs.declared.scripts.Op.{Op}
-use Rattle.sd_types.specs.declared.scripts.Op.TheVariants as op
 use Rattle.sd_types.specs.declared.works.Work.{Work}
-use Rattle.std.specs.Prelude.{if◌then◌else◌, Result, Ok, Err, is_none, is_some, nat_lt, nat_le, ◌==◌, not, ◌&&◌}
-use Rattle.sd_machine.specs.declared.states.Place.{Place}
-use Rattle.sd_machine.specs.declared.states.Place.TheVariants.{Running, Queued, RealTime, Waiting, Asleep, Napping, Ended}
-use Rattle.sd_machine.specs.declared.states.LockState.{LockState}
-use Rattle.sd_machine.specs.declared.states.LockState.TheVariants.{Free, Owned, ReadHeld, Passing}
+use Rattle.std.specs.Prelude.{if◌then◌else◌, nat_lt, ◌==◌, not}
 use Rattle.sd_machine.specs.declared.states.CpuState.{CpuState}
-use Rattle.sd_machine.specs.declared.states.ThreadState.{ThreadState}
 use Rattle.sd_machine.specs.declared.states.State.{State}
 use Rattle.sd_machine.specs.States.{no_cpu, thread_of, cpu_of}
-use Rattle.sd_machine.specs.Operations.{op_of}
-use Rattle.sd_full.specs.Threads.{thread_id, has_waiters, best_waiter, lock_of, with_lock, count_of, with_count, runner, best_sleeper, best_sleeper_below, eff_of, greatest_waiting}
-use Rattle.sd_full.specs.Bodies.{aged_class}
-use Rattle.sd_full.specs.Changes.{back_key, with_body, finish_op, run_tick, set_class, hold, let_go, set_number, set_looped, set_duty, duty_after, count_tick, leave, put, put_where, close, join, bind, unbind}
+use Rattle.sd_full.specs.Threads.{count_of, with_count, runner}
+use Rattle.sd_full.specs.Changes.{with_body, finish_op, run_tick, set_duty, count_tick, put_where, close, join, bind, unbind}
 use Rattle.sd_full.specs.Dispatching.{class_counts, ticked, spun, idled}
-use Rattle.sd_full.specs.Sleeping.{woken, woke_all, roused_on, rouse_key, roused}
-use Rattle.sd_full.specs.Locking.{side_of, blocked, after_reader, after_owner, free_or_passed, release_from, released, exited, others_waiting, unblocked_on, unblocked, granted_to_writer, granted, passed_on, passed}
-use Rattle.sd_full.specs.Requeueing.{reordered}
-use Rattle.sd_full.specs.Walking.{is_back, next_walk, walked, willed, walk_ended}
-use Rattle.sd_full.specs.Prioritising.{answer_to, new_class, walk_from, changed_by, changed_on, reprioritised, lifted, aged}
-use Rattle.sd_full.specs.Conditions.{cv_waited, sema_taken, sema_counted}
+use Rattle.sd_full.specs.Conditions.{sema_taken, sema_counted}
 use Rattle.sd_full.specs.SetChanges.{cleared, assigned, joined, rebound, pbound}
-use Rattle.sd_full.specs.Events.{keeps_ageing, dropped_duty, drop_ageing, effect, after}
-
-
+use Rattle.sd_full.specs.Events.{drop_ageing, effect, after}
 use Rattle.sd_sound.specs.Causes.{IsCause}
 use Rattle.sd_sound.specs.Laws.{OpenHold, is_in, IsRising}
-use Rattle.sd_sound.proofs.PlainWords.{Plain, plain_keeps, is_plain, drop_keeps}
-use Rattle.sd_sound.proofs.SideFields.{is_side, after_keeps}
-use Rattle.sd_sound.proofs.Works.{first_of_two, second_of_two}
+use Rattle.sd_sound.proofs.PlainWords.{Plain, plain_keeps, drop_keeps}
+use Rattle.sd_sound.proofs.SideFields.{after_keeps}
 use Rattle.std.proofs.Common.{get_or, ◌≤◌, inl, inr, ◌⊎◌, zero, suc, [], ◌∷◌, ◌||◌}
 use Rattle.std.specs.Prelude.{map, filter}
-use Rattle.std.specs.List.{list_any, range_with_len}
+use Rattle.std.specs.List.{range_with_len}
 use Rattle.std.proofs.lemmas.Bool.{cases_eq, cases_lt, false≢true, eqb-true}
 use Rattle.std.proofs.lemmas.Bool.Decides.{nat_tests}
 use Rattle.std.proofs.lemmas.List.{get_or_past, get_or-set_same, get_or-set_other}
@@ -76,7 +39,6 @@ use Rattle.sd_types.specs.Partitions.{set_of_cpu, cpu_of_number, cpus_of_set}
 use Rattle.sd_machine.specs.Opening.{first_cpu_state, open_list, opening}
 use Rattle.sd_full.specs.Threads.{no_cpus, open_of, with_open}
 use Rattle.sd_full.specs.Changes.{with_cpu_in, without_cpu}
-use Rattle.sd_full.proofs.ShapeLemmas.{after_shape}
 use Rattle.sd_machine.specs.States.{with_cpu}
 use Rattle.sd_sound.proofs.Parts.{set_past}
 use Rattle.sd_sound.proofs.AgreedAfter.{IsReady}
@@ -119,6 +81,7 @@ rising_with n c (x ∷ xs) le (a, r) out = by (nat_lt c.0 x.0) refl (λ more. ri
   where
     other : x.0 ≢ c.0
     other = (not_here c.0 x xs out).0
+
     by : (b : Bool) → nat_lt c.0 x.0 ≡ b → (x.0 + 1 ≤ c.0 → IsRising (x.0 + 1) (with_cpu_in c xs)) → IsRising n (if b then (c ∷ (x ∷ xs)) else (x ∷ with_cpu_in c xs))
     by true is more = (le, ((let less : c.0 < x.0 = grind (arith, nat_tests) in omega (arith, less)), r))
     by false is more = (a, more (let up : x.0 ≤ c.0 = grind (arith, nat_tests) in past up))
@@ -133,8 +96,10 @@ in_without x c (y ∷ ys) e = by (y.0 == c.0) refl (λ f. in_without x c ys f) e
     or_true : (b : Bool) {d : Bool} → d ≡ true → (b || d) ≡ true
     or_true true e = refl
     or_true false e = e
+
     self : (a d : ℕ) → a ≡ d → (a == d) ≡ true
     self a d same = grind (arith, nat_tests)
+
     by : (b : Bool) → (y.0 == c.0) ≡ b → (is_in x (without_cpu c ys) ≡ true → (x ≢ c.0) × (is_in x ys ≡ true)) → is_in x (if not b then (y ∷ without_cpu c ys) else without_cpu c ys) ≡ true → (x ≢ c.0) × (is_in x (y ∷ ys) ≡ true)
     by true is more e = let (a, d) = more e in (a, or_true (y.0 == x) d)
     by false is more e = elim (in_later x y (without_cpu c ys) e) [
@@ -149,8 +114,10 @@ in_with x c (y ∷ ys) e = by (nat_lt c.0 y.0) (λ f. in_with x c ys f) e
     or_true : (b : Bool) {d : Bool} → d ≡ true → (b || d) ≡ true
     or_true true e = refl
     or_true false e = e
+
     self : (a d : ℕ) → a ≡ d → (a == d) ≡ true
     self a d same = grind (arith, nat_tests)
+
     by : (b : Bool) → (is_in x (with_cpu_in c ys) ≡ true → (x ≡ c.0) ⊎ (is_in x ys ≡ true)) → is_in x (if b then (c ∷ (y ∷ ys)) else (y ∷ with_cpu_in c ys)) ≡ true → (x ≡ c.0) ⊎ (is_in x (y ∷ ys) ≡ true)
     by true more e = elim (in_later x c (y ∷ ys) e) [ inl here ↦ inl (sym here) | inr rest ↦ inr rest ]
     by false more e = elim (in_later x y (with_cpu_in c ys) e) [
@@ -168,6 +135,7 @@ rising_many n m (x ∷ xs) le (a, r) below =
   where
     self : (d : ℕ) → (d == d) ≡ true
     self d = grind (arith, nat_tests)
+
     or_true : (b : Bool) {d : Bool} → d ≡ true → (b || d) ≡ true
     or_true true e = refl
     or_true false e = e
@@ -238,8 +206,6 @@ pbound_places w s n t u d bind_answer.ESRCH = C.finish_op_kept place_part place_
 pbound_places w s n t u d bind_answer.EINVAL = C.finish_op_kept place_part place_marks w s t
 pbound_places w s n t u d bind_answer.EPERM = C.finish_op_kept place_part place_marks w s t
 pbound_places w s n t u d bind_answer.EBUSY = C.finish_op_kept place_part place_marks w s t
-
-
 
 -- no change of the sets
 abbrev is_setless : Event → Bool
@@ -358,13 +324,13 @@ same_hold w s r places lists holds = record {
 wrote_list : (s : State) (p : ℕ) (cpus : List CpuId) (q : ℕ) → ((q ≡ p) × (open_of (with_open s p cpus) q ≡ cpus)) ⊎ ((q ≢ p) × (open_of (with_open s p cpus) q ≡ open_of s q)) ⊎ (open_of (with_open s p cpus) q ≡ [])
 wrote_list s p cpus q = elim (cases_lt p (length s.open_cpus)) [
   | inl here ↦ elim (cases_eq q p) [
-      | inl is ↦ inl (is, ap (λ i. (get_or (set s.open_cpus p (record { items = cpus })) i no_cpus).items) is ∙ ap (λ (x : ArrayVec CpuId). x.items) (get_or-set_same s.open_cpus p (record { items = cpus }) no_cpus here))
-      | inr other ↦ inr (inl (other, ap (λ (x : ArrayVec CpuId). x.items) (get_or-set_other s.open_cpus p q (record { items = cpus }) no_cpus other)))
-    ]
+    | inl is ↦ inl (is, ap (λ i. (get_or (set s.open_cpus p (record { items = cpus })) i no_cpus).items) is ∙ ap (λ (x : ArrayVec CpuId). x.items) (get_or-set_same s.open_cpus p (record { items = cpus }) no_cpus here))
+    | inr other ↦ inr (inl (other, ap (λ (x : ArrayVec CpuId). x.items) (get_or-set_other s.open_cpus p q (record { items = cpus }) no_cpus other)))
+  ]
   | inr past ↦ elim (cases_eq q p) [
-      | inl is ↦ inr (inr (ap (λ (xs : List (ArrayVec CpuId)). (get_or xs q no_cpus).items) (set_past s.open_cpus p (record { items = cpus }) past) ∙ empty s.open_cpus q (subst (λ i. length s.open_cpus ≤ i) (sym is) past)))
-      | inr other ↦ inr (inl (other, ap (λ (xs : List (ArrayVec CpuId)). (get_or xs q no_cpus).items) (set_past s.open_cpus p (record { items = cpus }) past)))
-    ]
+    | inl is ↦ inr (inr (ap (λ (xs : List (ArrayVec CpuId)). (get_or xs q no_cpus).items) (set_past s.open_cpus p (record { items = cpus }) past) ∙ empty s.open_cpus q (subst (λ i. length s.open_cpus ≤ i) (sym is) past)))
+    | inr other ↦ inr (inl (other, ap (λ (xs : List (ArrayVec CpuId)). (get_or xs q no_cpus).items) (set_past s.open_cpus p (record { items = cpus }) past)))
+  ]
 ]
   where
     empty : (xs : List (ArrayVec CpuId)) (i : ℕ) → length xs ≤ i → (get_or xs i no_cpus).items ≡ []
@@ -390,14 +356,19 @@ close_hold w s d to holds = record { member = member; rising = rising }
   where
     p0 : ℕ
     p0 = (cpu_of s d.0).set.0
+
     left : List CpuId
     left = without_cpu d (open_of s p0)
+
     wrote : State
     wrote = with_open s p0 left
+
     x : CpuState
     x = record (cpu_of s d.0) { closing = Some to }
+
     apart : (p c : ℕ) → is_in c (open_of s p) ≡ true → c ≢ d.0 → (c < w.cpus) × ((cpu_of (with_cpu wrote d.0 x) c).set.0 ≡ p) × ((cpu_of (with_cpu wrote d.0 x) c).closing ≡ None)
     apart p c e other = member_moved w s (with_cpu wrote d.0 x) p c holds e (other_place wrote d.0 x c other)
+
     member : (p c : ℕ) → is_in c (open_of (with_cpu wrote d.0 x) p) ≡ true → (c < w.cpus) × ((cpu_of (with_cpu wrote d.0 x) c).set.0 ≡ p) × ((cpu_of (with_cpu wrote d.0 x) c).closing ≡ None)
     member p c e = elim (wrote_list s p0 left p) [
       | inl here ↦ let (other, was) = in_without c d (open_of s p0) (subst (λ xs. is_in c xs ≡ true) here.1 e) in apart p c (subst (λ i. is_in c (open_of s i) ≡ true) (sym here.0) was) other
@@ -406,6 +377,7 @@ close_hold w s d to holds = record { member = member; rising = rising }
           apart p c was (λ same. there.0 (sym (holds.member p c was).1 ∙ ap (λ i. (cpu_of s i).set.0) same))
       | inr (inr none) ↦ absurd (false≢true (subst (λ xs. is_in c xs ≡ true) none e))
     ]
+
     rising : (p : ℕ) → IsRising 0 (open_of (with_cpu wrote d.0 x) p)
     rising p = elim (wrote_list s p0 left p) [
       | inl here ↦ subst (λ xs. IsRising 0 xs) (sym here.1) (rising_without 0 d (open_of s p0) (holds.rising p0))
@@ -424,6 +396,7 @@ closing_inside s c to e = elim (cases_lt c (length s.cpus)) [
     gone [] i h = refl
     gone (x ∷ xs) zero h = absurd (omega arith)
     gone (x ∷ xs) (suc i) h = gone xs i (omega arith)
+
     none_some : (q : SetId) → None ≡ Some q → ⊥
     none_some q e = cc
 
@@ -432,6 +405,7 @@ closing_out w s c to p holds e = by (is_in c (open_of s p)) refl
   where
     none_some : None ≡ Some to → ⊥
     none_some e = cc
+
     by : (b : Bool) → is_in c (open_of s p) ≡ b → b ≡ false
     by false is = refl
     by true is = absurd (none_some (sym (holds.member p c is).2 ∙ e))
@@ -442,28 +416,36 @@ join_hold w s c to c_in closes holds = record { member = member; rising = rising
   where
     more : List CpuId
     more = with_cpu_in c (open_of s to.0)
+
     wrote : State
     wrote = with_open s to.0 more
+
     x : CpuState
     x = record (cpu_of s c.0) { set = to; closing = None }
+
     here_now : place_part (cpu_of (with_cpu wrote c.0 x) c.0) ≡ (to, None)
     here_now = (put_item place_part s.cpus no_cpu c.0 x (closing_inside s c.0 to closes)).at
+
     not_c : (p d : ℕ) → is_in d (open_of s p) ≡ true → d ≢ c.0
     not_c p d e same = false≢true (sym (closing_out w s c.0 to p holds closes) ∙ subst (λ i. is_in i (open_of s p) ≡ true) same e)
+
     apart : (p d : ℕ) → is_in d (open_of s p) ≡ true → (d < w.cpus) × ((cpu_of (with_cpu wrote c.0 x) d).set.0 ≡ p) × ((cpu_of (with_cpu wrote c.0 x) d).closing ≡ None)
     apart p d e = member_moved w s (with_cpu wrote c.0 x) p d holds e (other_place wrote c.0 x d (not_c p d e))
+
     joins : (p d : ℕ) → p ≡ to.0 → d ≡ c.0 → (d < w.cpus) × ((cpu_of (with_cpu wrote c.0 x) d).set.0 ≡ p) × ((cpu_of (with_cpu wrote c.0 x) d).closing ≡ None)
     joins p d at is = subst (λ i. (i < w.cpus) × ((cpu_of (with_cpu wrote c.0 x) i).set.0 ≡ p) × ((cpu_of (with_cpu wrote c.0 x) i).closing ≡ None)) (sym is)
         (c_in, ap (λ (y : SetId × Option SetId). y.0.0) here_now ∙ sym at, ap (λ (y : SetId × Option SetId). y.1) here_now)
+
     member : (p d : ℕ) → is_in d (open_of (with_cpu wrote c.0 x) p) ≡ true → (d < w.cpus) × ((cpu_of (with_cpu wrote c.0 x) d).set.0 ≡ p) × ((cpu_of (with_cpu wrote c.0 x) d).closing ≡ None)
     member p d e = elim (wrote_list s to.0 more p) [
       | inl here ↦ elim (in_with d c (open_of s to.0) (subst (λ xs. is_in d xs ≡ true) here.1 e)) [
-          | inl is ↦ joins p d here.0 is
-          | inr was ↦ apart p d (subst (λ i. is_in d (open_of s i) ≡ true) (sym here.0) was)
-        ]
+        | inl is ↦ joins p d here.0 is
+        | inr was ↦ apart p d (subst (λ i. is_in d (open_of s i) ≡ true) (sym here.0) was)
+      ]
       | inr (inl there) ↦ apart p d (subst (λ xs. is_in d xs ≡ true) there.1 e)
       | inr (inr none) ↦ absurd (false≢true (subst (λ xs. is_in d xs ≡ true) none e))
     ]
+
     rising : (p : ℕ) → IsRising 0 (open_of (with_cpu wrote c.0 x) p)
     rising p = elim (wrote_list s to.0 more p) [
       | inl here ↦ subst (λ xs. IsRising 0 xs) (sym here.1) (rising_with 0 c (open_of s to.0) (omega arith) (holds.rising to.0) (closing_out w s c.0 to to.0 holds closes))
@@ -476,7 +458,7 @@ pub join_room : (w : Work) (s : State) (c : ℕ) (to : SetId) → c < w.cpus →
 join_room w s c to c_in closes holds =
     let x : CpuId = record { 0 = c } in
     let all = rising_many 0 w.cpus (with_cpu_in x (open_of s to.0)) (omega arith) (rising_with 0 x (open_of s to.0) (omega arith) (holds.rising to.0) (closing_out w s c to to.0 holds closes))
-        (λ d e. elim (in_with d x (open_of s to.0) e) [ inl is ↦ subst (λ i. i < w.cpus) (sym is) c_in | inr was ↦ (holds.member to.0 d was).0 ]) in
+    (λ d e. elim (in_with d x (open_of s to.0) e) [ inl is ↦ subst (λ i. i < w.cpus) (sym is) c_in | inr was ↦ (holds.member to.0 d was).0 ]) in
     let many = with_length x (open_of s to.0) in
     let most = w.most_cpus in
     omega (arith, all, many, most)

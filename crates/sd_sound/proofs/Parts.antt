@@ -1,5 +1,5 @@
 -- A part of each thread, lock or processor as a function of its number, and how an event changes it.
-use Rattle.std.proofs.Common.{◌≡◌, ◌≢◌, ℕ, ◌<◌, ◌≤◌, List, [], ◌∷◌, length, get_or, set, ap, ◌∙◌, sym, subst, refl, inl, inr, arith, zero, suc, ◌⊎◌}
+use Rattle.std.proofs.Common.{◌≡◌, ℕ, ◌<◌, ◌≤◌, List, [], ◌∷◌, length, get_or, set, ap, ◌∙◌, sym, subst, refl, inl, inr, arith, zero, suc}
 use Rattle.std.proofs.lemmas.Bool.{cases_eq, cases_lt}
 use Rattle.std.proofs.lemmas.List.{get_or-set_same, get_or-set_other}
 use Rattle.sd_chains.proofs.Moves.{IsPut, IsSame}
@@ -38,7 +38,6 @@ same_put t x same put = record { at = put.at; others = λ u other. put.others u 
 
 pub same_same : {X : Type 0} {f g h : ℕ → X} → IsSame f g → IsSame g h → IsSame f h
 same_same a b u = b u ∙ a u
-
 
 pub same_is_put : {X : Type 0} {f g : ℕ → X} (t : ℕ) (x : X) → IsSame f g → f t ≡ x → IsPut t x f g
 same_is_put t x same is = record { at = same t ∙ is; others = λ u other. same u }

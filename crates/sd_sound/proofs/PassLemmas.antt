@@ -1,10 +1,10 @@
 -- What becomes of a lock that a processor passes on: its waiters are woken, it is granted, or nobody is left.
-use Rattle.std.proofs.Common.{◌≡◌, ◌≢◌, ℕ, ◌+◌, ◌-◌, ◌<◌, ◌≤◌, Bool, true, false, List, length, set, get_or, Option, Some, None, refl, sym, ap, ◌∙◌, inl, inr, ◌⊎◌, subst, arith}
-use Rattle.std.specs.Prelude.{if◌then◌else◌, nat_le, nat_lt, is_none, is_some}
+use Rattle.std.proofs.Common.{◌≡◌, ◌≢◌, ℕ, ◌<◌, ◌≤◌, Bool, true, false, List, length, set, Option, Some, None, refl, sym, ap, ◌∙◌, inl, inr, ◌⊎◌, subst, arith}
+use Rattle.std.specs.Prelude.{if◌then◌else◌, nat_lt, is_some}
 use Rattle.std.proofs.lemmas.Bool.Decides.{nat_tests}
 use Rattle.sd_types.specs.declared.numbers.CpuId.{CpuId}
 use Rattle.sd_types.specs.declared.numbers.LockId.{LockId}
-use Rattle.sd_types.specs.declared.numbers.Side.TheVariants.{Writer, Reader}
+use Rattle.sd_types.specs.declared.numbers.Side.TheVariants.{Writer}
 use Rattle.sd_types.specs.declared.numbers.ThreadId.{ThreadId}
 use Rattle.sd_types.specs.declared.events.Duty.{Duty}
 use Rattle.sd_types.specs.declared.events.Duty.TheVariants as duty
@@ -15,13 +15,13 @@ use Rattle.sd_types.specs.declared.works.Work.{Work}
 use Rattle.sd_machine.specs.declared.states.LockState.{LockState}
 use Rattle.sd_machine.specs.declared.states.LockState.TheVariants.{Free, Owned, ReadHeld, Passing}
 use Rattle.sd_machine.specs.declared.states.State.{State}
-use Rattle.sd_machine.specs.States.{thread_of, cpu_of, no_cpu}
+use Rattle.sd_machine.specs.States.{cpu_of, no_cpu}
 use Rattle.sd_full.specs.Threads.{thread_id, lock_of, with_lock, best_waiter, has_waiters}
 use Rattle.sd_full.specs.Changes.{set_duty}
 use Rattle.sd_full.specs.Sleeping.{woken}
-use Rattle.sd_full.specs.Locking.{one_reader_more, unblocked, unblocked_on, granted, granted_to_writer, granted_to_reader, passed, passed_on}
+use Rattle.sd_full.specs.Locking.{one_reader_more, unblocked, unblocked_on, granted, passed, passed_on}
 use Rattle.sd_full.specs.Events.{effect, after, drop_ageing, dropped_duty}
-use Rattle.sd_full.proofs.ShapeLemmas.{IsShaped, woken_shape, lock_shape, then_shape}
+use Rattle.sd_full.proofs.ShapeLemmas.{woken_shape, lock_shape, then_shape}
 use Rattle.sd_sound.proofs.Parts.{same_item}
 use Rattle.sd_sound.proofs.LockTable as T
 use Rattle.sd_sound.proofs.LockTable.{duty_part, duty_marks}
@@ -101,6 +101,7 @@ passed_outcome s c l (Passing d k) here = by (nat_lt 0 k) refl
         some_none : (v : ℕ) → Some v ≡ None → ⊥
         some_none v e = cc
     waits None e none = to_nobody d (ap (λ i. Passing d i) none) (set_duty_locks (with_lock s l.0 Free) c.0 duty.Nothing) (set_lock_duty s c l Free duty.Nothing here) e
+
     by : (b : Bool) → nat_lt 0 k ≡ b → Passed s (if b then set_duty (with_lock s l.0 (ReadHeld k)) c.0 duty.Nothing else if is_some (best_waiter s l.0 Writer) then set_duty s c.0 (duty.GrantWriter l) else set_duty (with_lock s l.0 Free) c.0 duty.Nothing) c.0 l (Passing d k)
     by true e = to_readers d k refl (grind (arith, nat_tests)) (set_duty_locks (with_lock s l.0 (ReadHeld k)) c.0 duty.Nothing) (set_lock_duty s c l (ReadHeld k) duty.Nothing here)
     by false e = waits (best_waiter s l.0 Writer) refl (grind (arith, nat_tests))

@@ -1,5 +1,5 @@
 -- Where each event moves a thread.
-use Rattle.std.proofs.Common.{◌≡◌, ◌≢◌, ℕ, ◌+◌, ◌-◌, ◌<◌, Bool, true, false, List, length, Option, Some, None, refl, ◌∙◌, sym, ap, subst, arith}
+use Rattle.std.proofs.Common.{◌≡◌, ℕ, ◌+◌, ◌<◌, Bool, true, false, length, Option, Some, None, refl, ◌∙◌, sym, ap, subst, arith}
 use Rattle.std.specs.Prelude.{⊤}
 use Rattle.std.proofs.lemmas.List.{length-set}
 use Rattle.sd_types.specs.declared.scripts.Request.{Request}
@@ -25,7 +25,6 @@ use Rattle.sd_types.specs.declared.events.AssignAnswer.{AssignAnswer}
 use Rattle.sd_types.specs.declared.events.AssignAnswer.TheVariants as assign
 use Rattle.sd_types.specs.declared.events.BindAnswer.{BindAnswer}
 use Rattle.sd_types.specs.declared.events.BindAnswer.TheVariants as bind_answer
-use Rattle.sd_types.specs.declared.events.Denied.{Denied}
 use Rattle.sd_types.specs.declared.events.Duty.{Duty}
 use Rattle.sd_types.specs.declared.events.Duty.TheVariants as duty
 use Rattle.sd_types.specs.declared.events.End.{End}
@@ -34,12 +33,11 @@ use Rattle.sd_types.specs.declared.events.Event.TheVariants.{Tick, Spin, Idle, D
 use Rattle.sd_types.specs.declared.events.PrioAnswer.{PrioAnswer}
 use Rattle.sd_types.specs.declared.events.PrioAnswer.TheVariants.{Changed, Refused}
 use Rattle.sd_types.specs.declared.events.Put.{Put}
-use Rattle.sd_types.specs.declared.scripts.Op.{Op}
 use Rattle.sd_types.specs.declared.scripts.Op.TheVariants as op
 use Rattle.sd_types.specs.declared.works.Work.{Work}
-use Rattle.std.specs.Prelude.{if◌then◌else◌, Result, Ok, Err, is_none, is_some, nat_lt, nat_le, ◌==◌, not, ◌&&◌}
+use Rattle.std.specs.Prelude.{if◌then◌else◌, Ok, is_none, is_some, nat_lt, nat_le, ◌==◌}
 use Rattle.sd_machine.specs.declared.states.Place.{Place}
-use Rattle.sd_machine.specs.declared.states.Place.TheVariants.{Running, Queued, RealTime, Waiting, Asleep, Napping, Ended}
+use Rattle.sd_machine.specs.declared.states.Place.TheVariants.{Running, Queued, Waiting, Asleep, Napping, Ended}
 use Rattle.sd_machine.specs.declared.states.LockState.{LockState}
 use Rattle.sd_machine.specs.declared.states.LockState.TheVariants.{Free, Owned, ReadHeld, Passing}
 use Rattle.sd_machine.specs.declared.states.CpuState.{CpuState}
@@ -360,17 +358,17 @@ unblocked_moved w s n c l u at here = moved_still s (woken w s n u at) _ u _ (wo
 
 granted_to_writer_moved : (w : Work) (s : State) (n : ℕ) (c : CpuId) (l : LockId) (u : ℕ) (at : Put) → u < length s.threads → Moved s (granted_to_writer w s n c l u at) u (place_put w n u at)
 unfolding granted_to_writer
-granted_to_writer_moved w s n c l u at here = 
+granted_to_writer_moved w s n c l u at here =
     let before : Still s (set_number (finish_op w (hold (with_lock s l.0 (Owned (thread_id u))) u l) u) u l (others_waiting s l u)) =
-        then_still s _ _ (lock_still s l.0 (Owned (thread_id u))) (then_still _ _ _ (hold_still _ u l) (then_still _ _ _ (finish_op_still w _ u) (set_number_still _ u l (others_waiting s l u)))) in
+    then_still s _ _ (lock_still s l.0 (Owned (thread_id u))) (then_still _ _ _ (hold_still _ u l) (then_still _ _ _ (finish_op_still w _ u) (set_number_still _ u l (others_waiting s l u)))) in
     moved_still s (woken w (set_number (finish_op w (hold (with_lock s l.0 (Owned (thread_id u))) u l) u) u l (others_waiting s l u)) n u at) _ u _
     (still_moved s _ _ u _ before (woken_moved w _ n u at (after_still s _ u before here))) (set_duty_still _ c.0 _)
 
 granted_to_reader_moved : (w : Work) (s : State) (n : ℕ) (l : LockId) (u : ℕ) (at : Put) → u < length s.threads → Moved s (granted_to_reader w s n l u at) u (place_put w n u at)
 unfolding granted_to_reader
-granted_to_reader_moved w s n l u at here = 
+granted_to_reader_moved w s n l u at here =
     let before : Still s (finish_op w (hold (with_lock s l.0 (one_reader_more (lock_of s l.0))) u l) u) =
-        then_still s _ _ (lock_still s l.0 (one_reader_more (lock_of s l.0))) (then_still _ _ _ (hold_still _ u l) (finish_op_still w _ u)) in
+    then_still s _ _ (lock_still s l.0 (one_reader_more (lock_of s l.0))) (then_still _ _ _ (hold_still _ u l) (finish_op_still w _ u)) in
     still_moved s _ _ u _ before (woken_moved w _ n u at (after_still s _ u before here))
 
 cv_waited_moved : (w : Work) (s : State) (n : ℕ) (c : CpuId) (t : ℕ) (k : ChanId) (l : LockId) → t < length s.threads → Moved s (cv_waited w s n c t k l) t (Asleep k (back_key n))

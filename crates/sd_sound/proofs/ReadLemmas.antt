@@ -1,6 +1,6 @@
 -- A lock that readers hold has a writer among its waiters, if it has any, through each event.
-use Rattle.std.proofs.Common.{◌≡◌, ◌≢◌, ℕ, ◌+◌, ◌-◌, ◌<◌, ◌≤◌, Bool, true, false, List, length, set, get_or, Option, Some, None, refl, sym, ap, ◌∙◌, subst, arith, ◌⊎◌, inl, inr, ◌==◌}
-use Rattle.std.specs.Prelude.{slice_get, option_map, ℤ}
+use Rattle.std.proofs.Common.{◌≡◌, ◌≢◌, ℕ, ◌-◌, ◌<◌, Bool, true, false, List, length, set, get_or, Option, Some, None, refl, sym, ap, ◌∙◌, subst, arith, ◌⊎◌, inl, inr, ◌==◌}
+use Rattle.std.specs.Prelude.{option_map, ℤ}
 use Rattle.std.proofs.lemmas.Bool.{cases_eq, eqb-true}
 use Rattle.std.proofs.lemmas.Bool.Decides.{nat_tests}
 use Rattle.sd_types.specs.declared.numbers.ChanId.{ChanId}
@@ -14,7 +14,6 @@ use Rattle.sd_types.specs.declared.events.Duty.TheVariants as duty
 use Rattle.sd_types.specs.declared.events.Event.{Event}
 use Rattle.sd_types.specs.declared.events.Event.TheVariants.{Tick, Spin, Idle, Dispatch, Steal, Preempt, Yield, Done, Nap, Napend, Sleep, Wake, Wakeall, Rouse, Enter, Read, Write, Block, Will, End as WalkEnd, Exit, Unblock, Grant, Passed, Age, Prio, CvWait, SemaP, SemaWait, SemaVWake, SemaVCount, Assign, Move, Joined, Bind, Away}
 use Rattle.sd_types.specs.declared.events.Put.{Put}
-use Rattle.sd_types.specs.declared.scripts.Op.{Op}
 use Rattle.sd_types.specs.declared.scripts.Op.TheVariants as op
 use Rattle.sd_types.specs.declared.works.Work.{Work}
 use Rattle.sd_types.specs.Works.{is_rwlock}
@@ -32,9 +31,9 @@ use Rattle.sd_full.specs.LockGraph.{wait_of}
 use Rattle.sd_full.specs.Events.{after, drop_ageing, dropped_duty}
 use Rattle.sd_chains.specs.Graphs as G
 use Rattle.sd_chains.specs.Holders as H
-use Rattle.sd_chains.proofs.Moves.{IsPut, put_cases}
-use Rattle.sd_sound.specs.Causes.{IsCause, wants}
-use Rattle.sd_sound.specs.Holding.{lock_state, pass_of, table, DutyServes, IsReadWell, ReadsWell}
+use Rattle.sd_chains.proofs.Moves.{put_cases}
+use Rattle.sd_sound.specs.Causes.{IsCause}
+use Rattle.sd_sound.specs.Holding.{lock_state, pass_of, DutyServes, IsReadWell, ReadsWell}
 use Rattle.sd_sound.specs.Moves.{put_step, step_of}
 use Rattle.sd_sound.proofs.LockTable as T
 use Rattle.sd_sound.proofs.LockTable.{is_lockless}
@@ -43,9 +42,9 @@ use Rattle.sd_sound.proofs.Searches.{has_waiters_at, waiter_some}
 use Rattle.sd_sound.proofs.ScriptLemmas.{is_blocking, step_away, side_is}
 use Rattle.sd_sound.proofs.Movers.{ends_wait}
 use Rattle.sd_sound.proofs.Waiters.{Stays, Waited, away_waited, others_waited, stays_best, waited_has}
-use Rattle.sd_sound.proofs.Works.{declared, op_named}
+use Rattle.sd_sound.proofs.Works.{op_named}
 use Rattle.sd_sound.proofs.AgreedLemmas as A
-use Rattle.sd_sound.proofs.AgreedAfter.{IsReady, IsNext, lock_inside, not_free_held, not_free_passing, enter_locks, write_locks, read_locks, block_locks}
+use Rattle.sd_sound.proofs.AgreedAfter.{IsReady, IsNext, lock_inside, not_free_passing, enter_locks, write_locks, read_locks, block_locks}
 use Rattle.sd_sound.proofs.AgreedEvents.{lock_named, lockless_away}
 use Rattle.sd_sound.proofs.ServeLemmas.{kind_is, lockless_ends, stays_all, wait_ends, exit_busy, cv_wait_busy}
 use Rattle.sd_sound.proofs.ReleaseLemmas.{Outcome, exit_outcome, cv_wait_outcome, nobody_waits}
@@ -148,15 +147,17 @@ module _ (w : Work) (s : State) (n : ℕ) (c : CpuId) (ready : IsReady w s) (c_i
       elim (cases_eq m.0 l.0) [
         | inl same ↦ here m k held same
         | inr other ↦ on_reads w s (after w s n c (Block t l)) m next.shape.threads (record {
-            stays = stays m.0;
-            waited = others_waited t.0 l (side_of (op_of w t.0 (thread_of s t.0).body)) (back_key n) s (after w s n c (Block t l)) next.steps m.0 other;
-          }) (ready.reads m k held)
+          stays = stays m.0;
+          waited = others_waited t.0 l (side_of (op_of w t.0 (thread_of s t.0).body)) (back_key n) s (after w s n c (Block t l)) next.steps m.0 other;
+        }) (ready.reads m k held)
       ]
     where
       stays : (m : ℕ) → Stays s (after w s n c (Block t l)) m
       stays = stays_all w s n c ready c_in (Block t l) refl (side, wanted, busy) next
+
       at_side : side_of (op_of w t.0 (thread_of s t.0).body) ≡ side
       at_side = ap side_of wanted.acts.stands ∙ side_is wanted.by l side wanted.wanted
+
       writer_there : (x : Side) → side ≡ x → lock_of s l.0 ≡ lock_of s l.0 → ((x ≡ Reader → best_waiter s l.0 Writer ≢ None)) → best_waiter (after w s n c (Block t l)) l.0 Writer ≢ None
       writer_there Reader is held rule = stays_best s (after w s n c (Block t l)) next.shape.threads l.0 (stays l.0) Writer (rule refl)
       writer_there Writer is held rule =
@@ -164,10 +165,12 @@ module _ (w : Work) (s : State) (n : ℕ) (c : CpuId) (ready : IsReady w s) (c_i
           let many = next.shape.threads in
           waiter_some (after w s n c (Block t l)) l.0 Writer t.0 (omega (arith, inside, many))
           (ap (λ p. is_waiting_at l.0 Writer p) next.steps.at ∙ waiting_writer l (side_of (op_of w t.0 (thread_of s t.0).body)) (back_key n) (at_side ∙ is))
+
       by_lock : (k : ℕ) → lock_of s l.0 ≡ ReadHeld k → ((o : ThreadId) × (lock_of s l.0 ≡ Owned o)) ⊎ ((m : ℕ) × (lock_of s l.0 ≡ ReadHeld m) × (side ≡ Reader → best_waiter s l.0 Writer ≢ None))
           → best_waiter (after w s n c (Block t l)) l.0 Writer ≢ None
       by_lock k held (inl (o, owned)) = absurd (owned_unread o k (sym owned ∙ held))
       by_lock k held (inr (m, also, rule)) = writer_there side refl refl rule
+
       here : (m : LockId) (k : ℕ) → lock_of s m.0 ≡ ReadHeld k → m.0 ≡ l.0 → IsReadWell w (after w s n c (Block t l)) m
       here m k held same =
           let at : lock_of s l.0 ≡ ReadHeld k = sym (ap (λ i. lock_of s i) same) ∙ held in
@@ -224,10 +227,13 @@ module _ (w : Work) (s : State) (n : ℕ) (c : CpuId) (ready : IsReady w s) (c_i
     where
       was : (k : ℕ) × (lock_state (lock_of s l.0) ≡ H.Lock.Passing c.0 k)
       was = passing_at l true (ap pass_of cause.0)
+
       others : (m : ℕ) → m ≢ l.0 → Same s (after w s n c (Unblock l u at)) m
       others = same_others (Unblock l u at) u at l Writer refl refl cause.1 next
+
       free_unread : (m : ℕ) → Free ≡ ReadHeld m → ⊥
       free_unread m is = cc
+
       by : Woken (drop_ageing s c.0 (Unblock l u at)) (after w s n c (Unblock l u at)) c.0 l → ReadsWell w (after w s n c (Unblock l u at))
       by (more locks duties some) = reads_kept w s (after w s n c (Unblock l u at)) next.shape.threads locks (λ m j held. others m.0 (other_lock l m was.0 j was.1 held)) ready.reads
       by (last locks duties none) = reads_put w s (after w s n c (Unblock l u at)) l Free next.shape.threads (lock_inside s l.0 (not_free_passing (lock_of s l.0) c.0 was.0 was.1)) locks others (λ m is. absurd (free_unread m is)) ready.reads
@@ -239,16 +245,21 @@ module _ (w : Work) (s : State) (n : ℕ) (c : CpuId) (ready : IsReady w s) (c_i
     where
       was : (k : ℕ) × (lock_state (lock_of s l.0) ≡ H.Lock.Passing c.0 k)
       was = passing_at l alone passes
+
       inside : l.0 < length s.locks
       inside = lock_inside s l.0 (not_free_passing (lock_of s l.0) c.0 was.0 was.1)
+
       others : (m : ℕ) → m ≢ l.0 → Same s (after w s n c (Grant l u at)) m
       others = same_others (Grant l u at) u at l side refl refl best next
+
       now : (d : Duty) → (cpu_of s c.0).duty ≡ d → dropped_duty (Grant l u at) d ≡ d → (cpu_of (drop_ageing s c.0 (Grant l u at)) c.0).duty ≡ d
       now d is same = (drop_duties s c.0 (Grant l u at) (ap (λ x. dropped_duty (Grant l u at) x) is ∙ same ∙ sym is)).each c.0 ∙ is
+
       kind : ((cpu_of s c.0).duty ≡ duty.GrantWriter l) ⊎ ((cpu_of s c.0).duty ≡ duty.GrantReaders l)
           → ((cpu_of (drop_ageing s c.0 (Grant l u at)) c.0).duty ≡ duty.GrantWriter l) ⊎ ((cpu_of (drop_ageing s c.0 (Grant l u at)) c.0).duty ≡ duty.GrantReaders l)
       kind (inl is) = inl (now (duty.GrantWriter l) is refl)
       kind (inr is) = inr (now (duty.GrantReaders l) is refl)
+
       by : Granted (drop_ageing s c.0 (Grant l u at)) (after w s n c (Grant l u at)) c.0 l u.0 (cpu_of (drop_ageing s c.0 (Grant l u at)) c.0).duty → ReadsWell w (after w s n c (Grant l u at))
       by (to_writer e locks duties) = reads_put w s (after w s n c (Grant l u at)) l (Owned (thread_id u.0)) next.shape.threads inside locks others (λ m is. absurd (owned_unread (thread_id u.0) m is)) ready.reads
       by (to_reader e locks duties) = reads_put w s (after w s n c (Grant l u at)) l (one_reader_more (lock_of s l.0)) next.shape.threads inside locks others (λ m is. absurd (more_unread (lock_of s l.0) c.0 was.0 m was.1 is)) ready.reads
@@ -260,17 +271,23 @@ module _ (w : Work) (s : State) (n : ℕ) (c : CpuId) (ready : IsReady w s) (c_i
     where
       was : (k : ℕ) × (lock_state (lock_of s l.0) ≡ H.Lock.Passing c.0 k)
       was = passing_at l false (ap pass_of cause.0)
+
       inside : l.0 < length s.locks
       inside = lock_inside s l.0 (not_free_passing (lock_of s l.0) c.0 was.0 was.1)
+
       same : (m : ℕ) → Same s (after w s n c (Passed l)) m
       same = same_all (Passed l) refl refl cause next
+
       kind : is_rwlock (kind_of w l) ≡ true
       kind = subst (λ d. DutyServes w s d) cause.0 (ready.serves c.0)
+
       a_writer : ((best_waiter s l.0 Reader ≡ None) ⊎ ((u v : ℕ) × (best_waiter s l.0 Reader ≡ Some u) × (best_waiter s l.0 Writer ≡ Some v) × (eff_of s u < eff_of s v))) → has_waiters s l.0 ≡ true → best_waiter s l.0 Writer ≢ None
       a_writer (inl none) some = λ no_writer. nobody_waits s l.0 no_writer none some
       a_writer (inr (u, v, reader, writer, less)) some = some_is_some v (best_waiter s l.0 Writer) writer
+
       free_unread : (m : ℕ) → Free ≡ ReadHeld m → ⊥
       free_unread m is = cc
+
       by : Handed (drop_ageing s c.0 (Passed l)) (after w s n c (Passed l)) c.0 l (lock_of s l.0) → ReadsWell w (after w s n c (Passed l))
       by (to_readers d k is one locks duties) =
           reads_put w s (after w s n c (Passed l)) l (ReadHeld k) next.shape.threads inside locks (λ m other. same m)

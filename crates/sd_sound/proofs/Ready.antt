@@ -1,6 +1,6 @@
 -- In every state of every run of the whole machine threads stand where they stand in their scripts, and locks agree with
 -- those who hold them, wait for them and pass them on.
-use Rattle.std.proofs.Common.{◌≡◌, ◌≢◌, ℕ, zero, suc, ◌+◌, ◌<◌, ◌≤◌, Bool, true, false, ◌&&◌, cond, List, [], ◌∷◌, length, take, get_or, replicate, Option, Some, None, refl, sym, ap, ◌∙◌, subst, arith, ◌⊎◌, inl, inr}
+use Rattle.std.proofs.Common.{◌≡◌, ◌≢◌, ℕ, zero, suc, ◌+◌, ◌<◌, ◌≤◌, Bool, true, false, ◌&&◌, List, [], ◌∷◌, length, take, get_or, replicate, Option, Some, None, refl, sym, ap, ◌∙◌, subst, arith, inl, inr}
 use Rattle.std.specs.Prelude.{slice_get, map, nat_lt, option_map, if◌then◌else◌, ℤ, pos}
 use Rattle.std.specs.List.{range_with_len}
 use Rattle.std.proofs.lemmas.Option.{same_Some}
@@ -8,7 +8,6 @@ use Rattle.std.proofs.lemmas.Bool.{false≢true}
 use Rattle.std.proofs.lemmas.Bool.Decides.{nat_tests}
 use Rattle.sd_types.specs.declared.numbers.CpuId.{CpuId}
 use Rattle.sd_types.specs.declared.numbers.LockId.{LockId}
-use Rattle.sd_types.specs.declared.numbers.ThreadId.{ThreadId}
 use Rattle.sd_types.specs.declared.numbers.Side.{Side}
 use Rattle.sd_types.specs.declared.numbers.Side.TheVariants.{Writer, Reader}
 use Rattle.sd_types.specs.declared.events.Duty.{Duty}
@@ -24,31 +23,28 @@ use Rattle.sd_types.specs.declared.works.ThreadDecl.{ThreadDecl}
 use Rattle.sd_types.specs.declared.works.Work.{Work}
 use Rattle.sd_types.specs.Scripts.{is_held, held_by}
 use Rattle.sd_types.specs.Works.{is_mutex, is_rwlock}
-use Rattle.sd_machine.specs.declared.states.LockState.{LockState}
-use Rattle.sd_machine.specs.declared.states.LockState.TheVariants.{Free, Owned, ReadHeld, Passing}
+use Rattle.sd_machine.specs.declared.states.LockState.TheVariants.{Free, ReadHeld}
 use Rattle.sd_machine.specs.declared.states.Place.{Place}
 use Rattle.sd_machine.specs.declared.states.Place.TheVariants.{Running, Queued, RealTime, Waiting, Asleep, Napping, Ended}
-use Rattle.sd_machine.specs.declared.states.CpuState.{CpuState}
 use Rattle.sd_machine.specs.declared.states.ThreadState.{ThreadState}
 use Rattle.sd_machine.specs.declared.states.State.{State}
 use Rattle.sd_machine.specs.States.{thread_of, cpu_of, no_thread, no_cpu}
-use Rattle.sd_machine.specs.Operations.{script_of, op_of}
+use Rattle.sd_machine.specs.Operations.{script_of}
 use Rattle.sd_machine.specs.Opening.{first_cpu, is_urgent, first_thread, first_threads, first_cpu_state, opening}
-use Rattle.sd_full.specs.Shapes.{FitsFully}
-use Rattle.sd_full.specs.Threads.{lock_of, best_waiter, has_waiters, is_waiting_at}
+use Rattle.sd_full.specs.Threads.{lock_of, best_waiter, has_waiters}
 use Rattle.sd_full.specs.Locking.{kind_of}
 use Rattle.sd_full.specs.LockGraph.{wait_of}
 use Rattle.sd_full.specs.Events.{next, after, allowed, wish, reads, hints_fit}
-use Rattle.sd_full.specs.Runs.{final, IsRunFrom, IsRun, IsReached}
+use Rattle.sd_full.specs.Runs.{final, IsRunFrom, IsReached}
 use Rattle.sd_full.proofs.OpeningLemmas.{opening_fits}
 use Rattle.sd_full.proofs.RunLemmas.{IsRun-from}
 use Rattle.sd_full.proofs.ShapeLemmas.{IsShaped, after_shape, after_fits}
 use Rattle.sd_chains.specs.Graphs as G
 use Rattle.sd_chains.specs.Holders as H
 use Rattle.sd_sound.specs.Causes.{wants, IsCause}
-use Rattle.sd_sound.specs.Holding.{lock_state, pass_of, table, Agreed, DutyServes, DutiesServe, ReadsWell}
+use Rattle.sd_sound.specs.Holding.{lock_state, pass_of, table, Agreed, DutyServes}
 use Rattle.sd_sound.specs.Laws.{HoldsWhenReached, HoldsAfterEntries}
-use Rattle.sd_sound.specs.Scripted.{IsScripted, Scripted}
+use Rattle.sd_sound.specs.Scripted.{Scripted}
 use Rattle.sd_sound.specs.Moves.{step_of}
 use Rattle.sd_sound.proofs.CauseLemmas.{Serves, cause_of}
 use Rattle.sd_sound.proofs.Searches.{has_waiters_at, waiter_none}
@@ -57,7 +53,7 @@ use Rattle.sd_sound.proofs.OpTable.{ender, IsEnderThere, after_ops}
 use Rattle.sd_sound.proofs.PlaceTable.{Stepped, after_steps, step_needs}
 use Rattle.sd_sound.proofs.ScriptLemmas.{HeldGo, is_waiter, waits_here, ender_in, after_held, scripted_by}
 use Rattle.sd_sound.proofs.Movers.{mover_there}
-use Rattle.sd_sound.proofs.Works.{declared, op_named}
+use Rattle.sd_sound.proofs.Works.{op_named}
 use Rattle.sd_sound.proofs.AgreedAfter.{IsReady, IsNext}
 use Rattle.sd_sound.proofs.AgreedEvents.{after_agreed}
 use Rattle.sd_sound.proofs.ServeLemmas.{kind_is, after_serves}
@@ -142,16 +138,22 @@ next_ready w s n c h e ready makes = record {
   where
     cause : IsCause w s c.0 e
     cause = ready_cause w s c h e ready makes
+
     ends : IsEnderThere s (ender e)
     ends = ender_in w s c.0 e cause
+
     shape : IsShaped s (after w s n c e)
     shape = after_shape w s n c e
+
     held : HeldGo s (after w s n c e) e
     held = after_held w s n c e ends
+
     steps : Stepped (step_of w s n c e) s (after w s n c e)
     steps = after_steps w s n c e (step_needs w s c.0 e cause) (mover_there w s n c e ready.fits ready.agreed cause)
+
     is_next : IsNext w s (after w s n c e) n c e
     is_next = record { steps = steps; held = held; shape = shape }
+
     inside_cpus : c.0 < length s.cpus
     inside_cpus = let inside : c.0 < w.cpus = maker_inside w s c h e makes in let many : length s.cpus ≡ w.cpus = ready.fits.cpus in omega (arith, inside, many)
 
@@ -247,8 +249,10 @@ opening_agreed w = record {
   where
     free_owned : (t : ℕ) → H.Lock.Free ≡ H.Lock.Owned t → ⊥
     free_owned t e = cc
+
     free_passing : (c r : ℕ) → H.Lock.Free ≡ H.Lock.Passing c r → ⊥
     free_passing c r e = cc
+
     none_some : (p : H.Pass) → None ≡ Some p → ⊥
     none_some p e = cc
 

@@ -1,6 +1,6 @@
 -- What becomes of a lock whose hold is given up.
-use Rattle.std.proofs.Common.{◌≡◌, ◌≢◌, ℕ, ◌+◌, ◌-◌, ◌<◌, ◌≤◌, Bool, true, false, List, length, set, get_or, Option, Some, None, refl, sym, ap, ◌∙◌, inl, inr, ◌⊎◌, subst, arith}
-use Rattle.std.specs.Prelude.{if◌then◌else◌, nat_le, nat_lt, is_none, is_some}
+use Rattle.std.proofs.Common.{◌≡◌, ◌≢◌, ℕ, ◌-◌, ◌<◌, ◌≤◌, Bool, true, false, length, set, Option, Some, None, refl, sym, ◌∙◌, inl, inr, ◌⊎◌, subst, arith}
+use Rattle.std.specs.Prelude.{if◌then◌else◌, nat_le, is_some}
 use Rattle.std.proofs.lemmas.Bool.Decides.{nat_tests}
 use Rattle.sd_types.specs.declared.numbers.ChanId.{ChanId}
 use Rattle.sd_types.specs.declared.numbers.CpuId.{CpuId}
@@ -12,17 +12,16 @@ use Rattle.sd_types.specs.declared.events.Duty.TheVariants as duty
 use Rattle.sd_types.specs.declared.events.Event.{Event}
 use Rattle.sd_types.specs.declared.events.Event.TheVariants as event
 use Rattle.sd_types.specs.declared.works.Work.{Work}
-use Rattle.sd_types.specs.Works.{is_mutex, is_rwlock}
-use Rattle.sd_chains.specs.Holders as H
+use Rattle.sd_types.specs.Works.{is_mutex}
 use Rattle.sd_machine.specs.declared.states.LockState.{LockState}
 use Rattle.sd_machine.specs.declared.states.LockState.TheVariants.{Free, Owned, ReadHeld, Passing}
 use Rattle.sd_machine.specs.declared.states.State.{State}
-use Rattle.sd_machine.specs.States.{thread_of, cpu_of}
+use Rattle.sd_machine.specs.States.{thread_of}
 use Rattle.sd_full.specs.Threads.{lock_of, with_lock, best_waiter, has_waiters, priority_of}
 use Rattle.sd_full.specs.Changes.{set_duty}
 use Rattle.sd_full.specs.Locking.{kind_of, writer_first, after_writer, after_reader, after_owner, free_or_passed, release_from}
 use Rattle.sd_full.specs.Events.{effect, after, drop_ageing}
-use Rattle.sd_sound.specs.Holding.{pass_of, table}
+use Rattle.sd_sound.specs.Holding.{pass_of}
 use Rattle.sd_sound.proofs.LockTable as T
 use Rattle.sd_sound.proofs.LockTable.{pass_part, duty_part}
 use Rattle.sd_sound.proofs.CpuWords as C
@@ -93,6 +92,7 @@ suits_owner w s l x = by (is_mutex (kind_of w l)) refl
     neither : (duty.WakeMutex l ≡ duty.GrantWriter l) ⊎ (duty.WakeMutex l ≡ duty.GrantReaders l) → (is_mutex (kind_of w l) ≡ false) ⊎ ((n : ℕ) × (x ≡ ReadHeld n))
     neither (inl a) = cc
     neither (inr a) = cc
+
     by : (b : Bool) → is_mutex (kind_of w l) ≡ b → Suits w s l x (if b then duty.WakeMutex l else after_writer s l)
     by true e = record { alone = true; passes = refl; mutex = λ is. e; writer = λ some is. cc; rwlock = neither; one_of = inl refl }
     by false e = suits_writer w s l x e

@@ -1,14 +1,9 @@
 -- At most one thread runs on each processor.
-use Rattle.std.proofs.Common.{◌≡◌, ◌≢◌, ℕ, ◌<◌, Bool, true, false, not, ◌&&◌, ◌||◌, List, length, Option, Some, None, refl, sym, ap, ◌∙◌, subst, arith, ◌⊎◌, inl, inr}
+use Rattle.std.proofs.Common.{◌≡◌, ℕ, ◌<◌, Bool, true, false, ◌&&◌, List, length, Option, Some, None, refl, sym, ap, ◌∙◌, subst, arith, inl, inr}
 use Rattle.std.specs.Prelude.{⊤, nat_lt, nat_le, ◌==◌, if◌then◌else◌, is_none, ℤ}
 use Rattle.std.proofs.lemmas.Bool.Decides.{nat_tests}
-use Rattle.std.proofs.lemmas.Option.{same_Some}
-use Rattle.sd_types.specs.declared.numbers.ChanId.{ChanId}
 use Rattle.sd_types.specs.declared.numbers.CpuId.{CpuId}
-use Rattle.sd_types.specs.declared.numbers.LockId.{LockId}
 use Rattle.sd_types.specs.declared.numbers.ThreadId.{ThreadId}
-use Rattle.sd_types.specs.declared.numbers.Side.{Side}
-use Rattle.sd_types.specs.declared.numbers.Side.TheVariants.{Writer, Reader}
 use Rattle.sd_types.specs.declared.events.BindAnswer.{BindAnswer}
 use Rattle.sd_types.specs.declared.events.BindAnswer.TheVariants as bind_answer
 use Rattle.sd_types.specs.declared.events.Event.{Event}
@@ -17,39 +12,21 @@ use Rattle.sd_types.specs.declared.events.PrioAnswer.{PrioAnswer}
 use Rattle.sd_types.specs.declared.events.PrioAnswer.TheVariants.{Changed, Refused}
 use Rattle.sd_types.specs.declared.events.Put.{Put}
 use Rattle.sd_types.specs.declared.events.Put.TheVariants.{Cpu, RealTime as OnRealTime}
-use Rattle.sd_types.specs.declared.scripts.Op.{Op}
-use Rattle.sd_types.specs.declared.scripts.Op.TheVariants as op
-use Rattle.sd_types.specs.declared.scripts.Request.{Request}
 use Rattle.sd_types.specs.declared.works.Work.{Work}
-use Rattle.sd_types.specs.Works.{op_names, request_fits, bound_fits}
 use Rattle.sd_types.specs.Priorities.{eff_as}
-use Rattle.sd_full.specs.declared.plans.Requeue.{Requeue}
-use Rattle.sd_full.specs.declared.plans.Requeue.TheVariants.{Stays, Behind, Anew}
 use Rattle.sd_machine.specs.declared.states.Place.{Place}
 use Rattle.sd_machine.specs.declared.states.Place.TheVariants.{Running, Queued, RealTime, Waiting, Asleep, Napping, Ended}
-use Rattle.sd_machine.specs.declared.states.LockState.TheVariants.{Owned}
 use Rattle.sd_machine.specs.declared.states.State.{State}
-use Rattle.sd_machine.specs.States.{thread_of, cpu_of, is_running, is_queued, is_real_time, is_ready}
-use Rattle.sd_machine.specs.Operations.{op_of}
-use Rattle.sd_full.specs.Shapes.{FitsFully}
+use Rattle.sd_machine.specs.States.{thread_of, is_running}
 use Rattle.sd_full.specs.Changes.{back_key}
-use Rattle.sd_full.specs.Threads.{lock_of, eff_of, runner, next_to_age, is_ts, is_asleep, is_asleep_below, is_due, is_waiting_at, has_ended}
+use Rattle.sd_full.specs.Threads.{eff_of, runner}
 use Rattle.sd_full.specs.Bodies.{aged_class}
-use Rattle.sd_full.specs.Prioritising.{is_privileged, uid_of}
-use Rattle.sd_full.specs.Requeueing.{requeue, requeue_at}
-use Rattle.sd_full.specs.SetChanges.{bound_put, unbound_put, bind_put, bind_to, is_misbound, is_closing}
-use Rattle.sd_sound.specs.Causes.{Acts, WakesBest, RousesBest, IsRequeuedAt, IsAnswered, IsCause}
-use Rattle.sd_sound.specs.Holding.{lock_state, Agreed}
-use Rattle.sd_sound.specs.Moves.{Step, put_step, put_step_if, woken_step, reordered_step, aged_step, prio_step, bind_step, step_of}
+use Rattle.sd_sound.specs.Causes.{IsCause}
+use Rattle.sd_sound.specs.Moves.{Step, put_step_if, woken_step, reordered_step, aged_step, prio_step, bind_step, step_of}
 use Rattle.sd_sound.specs.Moves.Step.{Stay, Go}
-use Rattle.sd_sound.proofs.Found.{runner_found, ready_found, queued_found, unbound_found, waiter_found, sleeper_found, sleeper_below_found, due_found, age_found}
-use Rattle.sd_sound.proofs.PlaceTable.{Stepped, IsMoverThere}
-use Rattle.sd_sound.proofs.ScriptLemmas.{is_waiter, runs_no_waiter}
-use Rattle.sd_sound.proofs.Works.{declared, op_named, first_of_two}
+use Rattle.sd_sound.proofs.PlaceTable.{Stepped}
 use Rattle.sd_chains.proofs.Moves.{put_cases}
-
 use Rattle.std.specs.List.{position_or_len}
-use Rattle.std.specs.Prelude.{position}
 use Rattle.std.proofs.Common.{cond}
 use Rattle.std.proofs.lemmas.Bool.{eqb-true, false≢true}
 use Rattle.std.proofs.lemmas.List.Sums.{fails_before_first}
@@ -179,13 +156,13 @@ one_after (Go m place) s r many a well one = λ t u c t_in u_in t_on u_on.
     let u_was : u < length s.threads = omega (arith, many, u_in) in
     elim (put_cases m place _ _ a t) [
       | inl here ↦ elim (put_cases m place _ _ a u) [
-          | inl also ↦ here.0 ∙ sym also.0
-          | inr other ↦ absurd (false≢true (sym (nobody_runs s c (well c (ap (λ p. is_running c p) (sym here.1) ∙ t_on)) u u_was) ∙ ap (λ p. is_running c p) (sym other.1) ∙ u_on))
-        ]
+        | inl also ↦ here.0 ∙ sym also.0
+        | inr other ↦ absurd (false≢true (sym (nobody_runs s c (well c (ap (λ p. is_running c p) (sym here.1) ∙ t_on)) u u_was) ∙ ap (λ p. is_running c p) (sym other.1) ∙ u_on))
+      ]
       | inr there ↦ elim (put_cases m place _ _ a u) [
-          | inl also ↦ absurd (false≢true (sym (nobody_runs s c (well c (ap (λ p. is_running c p) (sym also.1) ∙ u_on)) t t_was) ∙ ap (λ p. is_running c p) (sym there.1) ∙ t_on))
-          | inr other ↦ one t u c t_was u_was (ap (λ p. is_running c p) (sym there.1) ∙ t_on) (ap (λ p. is_running c p) (sym other.1) ∙ u_on)
-        ]
+        | inl also ↦ absurd (false≢true (sym (nobody_runs s c (well c (ap (λ p. is_running c p) (sym also.1) ∙ u_on)) t t_was) ∙ ap (λ p. is_running c p) (sym there.1) ∙ t_on))
+        | inr other ↦ one t u c t_was u_was (ap (λ p. is_running c p) (sym there.1) ∙ t_on) (ap (λ p. is_running c p) (sym other.1) ∙ u_on)
+      ]
     ]
 
 pub one_kept : (w : Work) (s : State) (n : ℕ) (c : CpuId) (e : Event) → IsReady w s → IsCause w s c.0 e → OneRuns s → OneRuns (after w s n c e)

@@ -1,5 +1,5 @@
 -- A thread's place in its script through each event.
-use Rattle.std.proofs.Common.{◌≡◌, ◌≢◌, ℕ, zero, suc, ◌+◌, ◌-◌, ◌<◌, ◌≤◌, Bool, true, false, List, [], ◌∷◌, ◌++◌, length, take, Option, Some, None, refl, ◌∙◌, sym, ap, subst, arith, ◌⊎◌, inl, inr}
+use Rattle.std.proofs.Common.{◌≡◌, ◌≢◌, ℕ, zero, suc, ◌+◌, ◌<◌, ◌≤◌, Bool, true, false, List, [], ◌∷◌, ◌++◌, length, take, Option, Some, None, refl, ◌∙◌, sym, ap, subst, arith, inl, inr}
 use Rattle.std.specs.Prelude.{⊤, ℤ, fold, slice_get}
 use Rattle.std.proofs.lemmas.Option.{slice_get_within, same_Some}
 use Rattle.sd_types.specs.declared.numbers.Side.{Side}
@@ -10,30 +10,22 @@ use Rattle.sd_types.specs.Scripts.{without_lock, held_after, held_by}
 use Rattle.sd_sound.specs.Causes.{wants, Acts, IsCause}
 use Rattle.sd_sound.specs.Scripted.{IsScripted, Scripted}
 use Rattle.sd_sound.proofs.HoldTable.{held_part, held_moves, held_ops, Goes, same_then, put_to, owned_held, read_held, exited_held, cv_waited_held, granted_to_writer_held, granted_to_reader_held, willed_held, pbound_held}
-use Rattle.sd_sound.proofs.OpTable.{ender, IsEnderThere, ender_there, op_part, Finished, OpsGo, after_ops}
-use Rattle.sd_sound.proofs.PlaceTable.{Stepped, IsMoverThere, after_steps, step_needs}
+use Rattle.sd_sound.proofs.OpTable.{ender, IsEnderThere, ender_there, Finished, OpsGo}
+use Rattle.sd_sound.proofs.PlaceTable.{Stepped}
 use Rattle.sd_sound.proofs.Found.{runner_found, waiter_found}
 use Rattle.sd_sound.specs.Moves.{Step, put_step_if, woken_step, reordered_step, aged_step, prio_step, bind_step, step_of}
 use Rattle.sd_sound.specs.Moves.Step.{Stay, Go}
-use Rattle.sd_chains.proofs.Moves.{IsPut, put_cases}
+use Rattle.sd_chains.proofs.Moves.{put_cases}
 use Rattle.std.proofs.lemmas.Bool.{cases_eq, eqb-true}
-use Rattle.sd_types.specs.declared.numbers.ChanId.{ChanId}
 use Rattle.sd_types.specs.declared.numbers.CpuId.{CpuId}
 use Rattle.sd_types.specs.declared.numbers.LockId.{LockId}
-use Rattle.sd_types.specs.declared.numbers.SetId.{SetId}
 use Rattle.sd_types.specs.declared.numbers.Side.TheVariants.{Writer}
 use Rattle.sd_types.specs.declared.numbers.ThreadId.{ThreadId}
 use Rattle.sd_types.specs.declared.bodies.ThreadBody.{ThreadBody}
-use Rattle.sd_types.specs.declared.classes.ClassParms.{ClassParms}
-use Rattle.sd_types.specs.declared.classes.ClassState.{ClassState}
-use Rattle.sd_types.specs.declared.events.AssignAnswer.{AssignAnswer}
-use Rattle.sd_types.specs.declared.events.AssignAnswer.TheVariants as assign
 use Rattle.sd_types.specs.declared.events.BindAnswer.{BindAnswer}
 use Rattle.sd_types.specs.declared.events.BindAnswer.TheVariants as bind_answer
-use Rattle.sd_types.specs.declared.events.Denied.{Denied}
 use Rattle.sd_types.specs.declared.events.Duty.{Duty}
 use Rattle.sd_types.specs.declared.events.Duty.TheVariants as duty
-use Rattle.sd_types.specs.declared.events.End.{End}
 use Rattle.sd_types.specs.declared.events.Event.{Event}
 use Rattle.sd_types.specs.declared.events.Event.TheVariants.{Tick, Spin, Idle, Dispatch, Steal, Preempt, Yield, Done, Nap, Napend, Sleep, Wake, Wakeall, Rouse, Enter, Read, Write, Block, Will, End as WalkEnd, Exit, Unblock, Grant, Passed, Age, Prio, CvWait, SemaP, SemaWait, SemaVWake, SemaVCount, Assign, Move, Joined, Bind, Away}
 use Rattle.sd_types.specs.declared.events.PrioAnswer.{PrioAnswer}
@@ -42,19 +34,15 @@ use Rattle.sd_types.specs.declared.events.Put.{Put}
 use Rattle.sd_types.specs.declared.scripts.Op.{Op}
 use Rattle.sd_types.specs.declared.scripts.Op.TheVariants as op
 use Rattle.sd_types.specs.declared.works.Work.{Work}
-use Rattle.std.specs.Prelude.{if◌then◌else◌, Result, Ok, Err, is_none, is_some, nat_lt, nat_le, ◌==◌, not, ◌&&◌}
+use Rattle.std.specs.Prelude.{if◌then◌else◌, is_none, nat_le, ◌==◌, ◌&&◌}
 use Rattle.sd_machine.specs.declared.states.Place.{Place}
 use Rattle.sd_machine.specs.declared.states.Place.TheVariants.{Running, Queued, RealTime, Waiting, Asleep, Napping, Ended}
-use Rattle.sd_machine.specs.declared.states.LockState.{LockState}
-use Rattle.sd_machine.specs.declared.states.LockState.TheVariants.{Free, Owned, ReadHeld, Passing}
-use Rattle.sd_machine.specs.declared.states.CpuState.{CpuState}
-use Rattle.sd_machine.specs.declared.states.ThreadState.{ThreadState}
 use Rattle.sd_machine.specs.declared.states.State.{State}
 use Rattle.sd_machine.specs.States.{thread_of, cpu_of, is_running}
 use Rattle.sd_machine.specs.Operations.{script_of, op_of}
 use Rattle.sd_full.specs.Threads.{set_of, same_side, is_waiting_at, runner, eff_of}
 use Rattle.sd_full.specs.Bodies.{aged_class}
-use Rattle.sd_full.specs.Changes.{back_key, queue_place, place_put, put}
+use Rattle.sd_full.specs.Changes.{back_key, queue_place, place_put}
 use Rattle.sd_full.specs.Dispatching.{done}
 use Rattle.sd_full.specs.Locking.{side_of, granted}
 use Rattle.sd_full.specs.Events.{drop_ageing, effect, after}
@@ -381,14 +369,17 @@ waits_here l side (Waiting m other k) e = (k, same m other k (and_left (m.0 == l
     and_left : (a b : Bool) → (a && b) ≡ true → a ≡ true
     and_left true b e = refl
     and_left false b e = cc
+
     and_right : (a b : Bool) → (a && b) ≡ true → b ≡ true
     and_right true b e = e
     and_right false b e = cc
+
     side_is : (x y : Side) → same_side x y ≡ true → y ≡ x
     side_is Writer Writer e = refl
     side_is Reader Reader e = refl
     side_is Writer Reader e = cc
     side_is Reader Writer e = cc
+
     same : (m : LockId) (other : Side) (k : ℤ) → (m.0 == l.0) ≡ true → same_side side other ≡ true → Waiting m other k ≡ Waiting l side k
     same m other k e f = let lock : ℕ → LockId = λ i. record { 0 = i } in ap (λ i. Waiting (lock i) other k) (eqb-true m.0 l.0 e) ∙ ap (λ x. Waiting l x k) (side_is side other f)
 waits_here l side (Running c) e = cc

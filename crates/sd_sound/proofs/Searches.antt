@@ -1,15 +1,13 @@
 -- Where a search finds nobody, nobody stands there; and a lock has waiters exactly where somebody waits for it.
-use Rattle.std.proofs.Common.{◌≡◌, ◌≢◌, ℕ, zero, suc, ◌+◌, ◌<◌, ◌≤◌, Bool, true, false, not, ◌&&◌, ◌||◌, List, [], ◌∷◌, length, get_or, Option, Some, None, refl, sym, ap, ◌∙◌, inl, inr, subst, arith}
+use Rattle.std.proofs.Common.{◌≡◌, ◌≢◌, ℕ, zero, suc, ◌+◌, ◌<◌, Bool, true, false, ◌||◌, List, [], ◌∷◌, length, get_or, Option, Some, None, refl, sym, ◌∙◌, inl, inr, subst, arith}
 use Rattle.std.specs.List.{list_any}
 use Rattle.std.proofs.lemmas.Bool.{cases_Bool, false≢true}
-use Rattle.std.proofs.lemmas.Bool.Decides.{nat_tests}
-use Rattle.std.proofs.lemmas.List.Quantifiers.{position-Some}
 use Rattle.sd_types.specs.declared.numbers.Side.{Side}
 use Rattle.sd_machine.specs.declared.states.ThreadState.{ThreadState}
 use Rattle.sd_machine.specs.declared.states.State.{State}
 use Rattle.sd_machine.specs.States.{thread_of, no_thread}
 use Rattle.sd_machine.specs.Best.{best_by, beats}
-use Rattle.sd_full.specs.Threads.{is_waiting, is_waiting_at, is_asleep, is_asleep_below, best_waiter, best_sleeper, best_sleeper_below, has_waiters}
+use Rattle.sd_full.specs.Threads.{is_waiting, is_waiting_at, is_asleep, best_waiter, best_sleeper, has_waiters}
 use Rattle.sd_machine.proofs.BestLemmas.{IsOrder, IsBestBelow, goes_ahead_by, best_taken, best_kept, best_by_is}
 use Rattle.sd_machine.proofs.OrderLemmas.{beats_order}
 

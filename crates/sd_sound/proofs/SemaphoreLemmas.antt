@@ -1,63 +1,22 @@
 -- The count of a semaphore is at most its first count and the operations that are over.
-use Rattle.std.proofs.Common.{◌≡◌, ◌≢◌, ℕ, ◌<◌, Bool, true, false, not, ◌&&◌, ◌||◌, List, length, Option, Some, None, refl, sym, ap, ◌∙◌, subst, arith, ◌⊎◌, inl, inr}
-use Rattle.std.specs.Prelude.{⊤, nat_lt, nat_le, ◌==◌, if◌then◌else◌, is_none, ℤ}
-use Rattle.std.proofs.lemmas.Option.{same_Some}
+use Rattle.std.proofs.Common.{◌≡◌, ℕ, ◌<◌, false, List, length, refl, sym, ap, ◌∙◌, subst, arith, inl, inr}
 use Rattle.sd_types.specs.declared.numbers.ChanId.{ChanId}
 use Rattle.sd_types.specs.declared.numbers.CpuId.{CpuId}
-use Rattle.sd_types.specs.declared.numbers.LockId.{LockId}
 use Rattle.sd_types.specs.declared.numbers.ThreadId.{ThreadId}
-use Rattle.sd_types.specs.declared.numbers.Side.{Side}
-use Rattle.sd_types.specs.declared.numbers.Side.TheVariants.{Writer, Reader}
-use Rattle.sd_types.specs.declared.events.BindAnswer.{BindAnswer}
-use Rattle.sd_types.specs.declared.events.BindAnswer.TheVariants as bind_answer
 use Rattle.sd_types.specs.declared.events.Event.{Event}
 use Rattle.sd_types.specs.declared.events.Event.TheVariants.{Tick, Spin, Idle, Dispatch, Steal, Preempt, Yield, Done, Nap, Napend, Sleep, Wake, Wakeall, Rouse, Enter, Read, Write, Block, Will, End as WalkEnd, Exit, Unblock, Grant, Passed, Age, Prio, CvWait, SemaP, SemaWait, SemaVWake, SemaVCount, Assign, Move, Joined, Bind, Away}
-use Rattle.sd_types.specs.declared.events.PrioAnswer.{PrioAnswer}
-use Rattle.sd_types.specs.declared.events.PrioAnswer.TheVariants.{Changed, Refused}
-use Rattle.sd_types.specs.declared.events.Put.{Put}
-use Rattle.sd_types.specs.declared.events.Put.TheVariants.{Cpu, RealTime as OnRealTime}
-use Rattle.sd_types.specs.declared.scripts.Op.{Op}
-use Rattle.sd_types.specs.declared.scripts.Op.TheVariants as op
-use Rattle.sd_types.specs.declared.scripts.Request.{Request}
 use Rattle.sd_types.specs.declared.works.Work.{Work}
-use Rattle.sd_types.specs.Works.{op_names, request_fits, bound_fits}
-use Rattle.sd_types.specs.Priorities.{eff_as}
-use Rattle.sd_full.specs.declared.plans.Requeue.{Requeue}
-use Rattle.sd_full.specs.declared.plans.Requeue.TheVariants.{Stays, Behind, Anew}
-use Rattle.sd_machine.specs.declared.states.Place.{Place}
-use Rattle.sd_machine.specs.declared.states.Place.TheVariants.{Running, Queued, RealTime, Waiting, Asleep, Napping, Ended}
-use Rattle.sd_machine.specs.declared.states.LockState.TheVariants.{Owned}
 use Rattle.sd_machine.specs.declared.states.State.{State}
-use Rattle.sd_machine.specs.States.{thread_of, cpu_of, is_running, is_queued, is_real_time, is_ready}
-use Rattle.sd_machine.specs.Operations.{op_of}
-use Rattle.sd_full.specs.Shapes.{FitsFully}
-use Rattle.sd_full.specs.Changes.{back_key}
-use Rattle.sd_full.specs.Threads.{lock_of, eff_of, runner, next_to_age, is_ts, is_asleep, is_asleep_below, is_due, is_waiting_at, has_ended}
-use Rattle.sd_full.specs.Bodies.{aged_class}
-use Rattle.sd_full.specs.Prioritising.{is_privileged, uid_of}
-use Rattle.sd_full.specs.Requeueing.{requeue, requeue_at}
-use Rattle.sd_full.specs.SetChanges.{bound_put, unbound_put, bind_put, bind_to, is_misbound, is_closing}
-use Rattle.sd_sound.specs.Causes.{Acts, WakesBest, RousesBest, IsRequeuedAt, IsAnswered, IsCause}
-use Rattle.sd_sound.specs.Holding.{lock_state, Agreed}
-use Rattle.sd_sound.specs.Moves.{Step, put_step, put_step_if, woken_step, reordered_step, aged_step, prio_step, bind_step, step_of}
-use Rattle.sd_sound.specs.Moves.Step.{Stay, Go}
-use Rattle.sd_sound.proofs.Found.{runner_found, ready_found, queued_found, unbound_found, waiter_found, sleeper_found, sleeper_below_found, due_found, age_found}
-use Rattle.sd_sound.proofs.PlaceTable.{Stepped, IsMoverThere}
-use Rattle.sd_sound.proofs.ScriptLemmas.{is_waiter, runs_no_waiter}
-use Rattle.sd_sound.proofs.Works.{declared, op_named, first_of_two}
-use Rattle.sd_chains.proofs.Moves.{put_cases}
-
-use Rattle.std.proofs.Common.{get_or, set, zero, suc, ◌+◌, ◌-◌, ◌≤◌, ◌∷◌, []}
-use Rattle.std.specs.Prelude.{sum_by}
+use Rattle.sd_machine.specs.States.{thread_of}
+use Rattle.sd_full.specs.Threads.{runner}
+use Rattle.sd_sound.specs.Causes.{IsCause}
+use Rattle.std.proofs.Common.{get_or, set, zero, suc, ◌+◌, ◌-◌, ◌≤◌}
 use Rattle.std.proofs.lemmas.Bool.{cases_eq, cases_lt}
 use Rattle.std.proofs.lemmas.List.{get_or-set_same, get_or-set_other}
 use Rattle.sd_types.specs.declared.events.AssignAnswer.{AssignAnswer}
 use Rattle.sd_types.specs.declared.events.AssignAnswer.TheVariants as assign
 use Rattle.sd_types.specs.declared.numbers.SetId.{SetId}
-use Rattle.sd_types.specs.declared.works.ThreadDecl.{ThreadDecl}
-use Rattle.sd_machine.specs.Operations.{script_of}
-use Rattle.sd_machine.specs.States.{no_thread}
-use Rattle.sd_machine.specs.Opening.{first_thread, first_threads, opening}
+use Rattle.sd_machine.specs.Opening.{opening}
 use Rattle.sd_full.specs.Threads.{count_of, with_count}
 use Rattle.sd_full.specs.Changes.{finish_op, set_duty, close, join}
 use Rattle.sd_full.specs.Conditions.{sema_taken, sema_counted}
@@ -98,6 +57,7 @@ total_put f g t (suc k) here put = elim (cases_eq t k) [
   where
     less : (u : ℕ) → u < k → u ≡ k → ⊥
     less u lt same = omega (arith, lt, same)
+
     below : (m : ℕ) → ((u : ℕ) → u < m → g u ≡ f u) → total g m ≡ total f m
     below zero same = refl
     below (suc m) same = rw (same m (omega arith)) (rw (below m (λ u lt. same u (omega arith))) refl)
@@ -170,18 +130,18 @@ counts_field s = s.counts
 lower_count : (xs : List ℕ) (i j n : ℕ) → n ≤ get_or xs i 0 → get_or (set xs i n) j 0 ≤ get_or xs j 0
 lower_count xs i j n low = elim (cases_lt i (length xs)) [
   | inl here ↦ elim (cases_eq j i) [
-      | inl is ↦ let at : get_or (set xs i n) j 0 ≡ n = ap (λ v. get_or (set xs i n) v 0) is ∙ get_or-set_same xs i n 0 here in let old : get_or xs j 0 ≡ get_or xs i 0 = ap (λ v. get_or xs v 0) is in omega (arith, at, old, low)
-      | inr other ↦ let at : get_or (set xs i n) j 0 ≡ get_or xs j 0 = get_or-set_other xs i j n 0 other in omega (arith, at)
-    ]
+    | inl is ↦ let at : get_or (set xs i n) j 0 ≡ n = ap (λ v. get_or (set xs i n) v 0) is ∙ get_or-set_same xs i n 0 here in let old : get_or xs j 0 ≡ get_or xs i 0 = ap (λ v. get_or xs v 0) is in omega (arith, at, old, low)
+    | inr other ↦ let at : get_or (set xs i n) j 0 ≡ get_or xs j 0 = get_or-set_other xs i j n 0 other in omega (arith, at)
+  ]
   | inr past ↦ let at : get_or (set xs i n) j 0 ≡ get_or xs j 0 = ap (λ (ys : List ℕ). get_or ys j 0) (set_past xs i n past) in omega (arith, at)
 ]
 
 raise_count : (xs : List ℕ) (i j : ℕ) → get_or (set xs i (get_or xs i 0 + 1)) j 0 ≤ get_or xs j 0 + 1
 raise_count xs i j = elim (cases_lt i (length xs)) [
   | inl here ↦ elim (cases_eq j i) [
-      | inl is ↦ let at : get_or (set xs i (get_or xs i 0 + 1)) j 0 ≡ get_or xs i 0 + 1 = ap (λ v. get_or (set xs i (get_or xs i 0 + 1)) v 0) is ∙ get_or-set_same xs i (get_or xs i 0 + 1) 0 here in let old : get_or xs j 0 ≡ get_or xs i 0 = ap (λ v. get_or xs v 0) is in omega (arith, at, old)
-      | inr other ↦ let at : get_or (set xs i (get_or xs i 0 + 1)) j 0 ≡ get_or xs j 0 = get_or-set_other xs i j (get_or xs i 0 + 1) 0 other in omega (arith, at)
-    ]
+    | inl is ↦ let at : get_or (set xs i (get_or xs i 0 + 1)) j 0 ≡ get_or xs i 0 + 1 = ap (λ v. get_or (set xs i (get_or xs i 0 + 1)) v 0) is ∙ get_or-set_same xs i (get_or xs i 0 + 1) 0 here in let old : get_or xs j 0 ≡ get_or xs i 0 = ap (λ v. get_or xs v 0) is in omega (arith, at, old)
+    | inr other ↦ let at : get_or (set xs i (get_or xs i 0 + 1)) j 0 ≡ get_or xs j 0 = get_or-set_other xs i j (get_or xs i 0 + 1) 0 other in omega (arith, at)
+  ]
   | inr past ↦ let at : get_or (set xs i (get_or xs i 0 + 1)) j 0 ≡ get_or xs j 0 = ap (λ (ys : List ℕ). get_or ys j 0) (set_past xs i (get_or xs i 0 + 1) past) in omega (arith, at)
 ]
 

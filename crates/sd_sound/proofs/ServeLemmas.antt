@@ -1,7 +1,7 @@
 -- Each duty to pass on a lock goes on serving somebody, through each event.
-use Rattle.std.proofs.Common.{◌≡◌, ◌≢◌, ◌&&◌, ℕ, zero, suc, ◌+◌, ◌<◌, ◌≤◌, Bool, true, false, List, [], ◌∷◌, length, set, Option, Some, None, refl, sym, ap, ◌∙◌, subst, arith, ◌⊎◌, inl, inr}
+use Rattle.std.proofs.Common.{◌≡◌, ◌≢◌, ◌&&◌, ℕ, zero, suc, ◌<◌, Bool, true, false, List, [], ◌∷◌, length, Option, Some, refl, sym, ap, ◌∙◌, subst, arith, ◌⊎◌, inl, inr}
 use Rattle.std.specs.Prelude.{slice_get, option_map, map, nat_lt}
-use Rattle.std.proofs.lemmas.Bool.{cases_eq, false≢true}
+use Rattle.std.proofs.lemmas.Bool.{cases_eq}
 use Rattle.std.proofs.lemmas.Bool.Decides.{nat_tests}
 use Rattle.sd_types.specs.declared.numbers.ChanId.{ChanId}
 use Rattle.sd_types.specs.declared.numbers.CpuId.{CpuId}
@@ -19,21 +19,20 @@ use Rattle.sd_types.specs.declared.scripts.Op.TheVariants as op
 use Rattle.sd_types.specs.declared.works.LockKind.{LockKind}
 use Rattle.sd_types.specs.declared.works.LockKind.TheVariants.{Mutex, Rwlock}
 use Rattle.sd_types.specs.declared.works.Work.{Work}
-use Rattle.sd_types.specs.Works.{op_names, is_mutex, is_rwlock}
+use Rattle.sd_types.specs.Works.{is_mutex, is_rwlock}
 use Rattle.sd_machine.specs.declared.states.LockState.{LockState}
 use Rattle.sd_machine.specs.declared.states.LockState.TheVariants.{Free, Owned, ReadHeld, Passing}
 use Rattle.sd_machine.specs.declared.states.Place.TheVariants.{Waiting}
 use Rattle.sd_machine.specs.declared.states.State.{State}
 use Rattle.sd_machine.specs.States.{thread_of, cpu_of}
 use Rattle.sd_machine.specs.Operations.{op_of}
-use Rattle.sd_full.specs.Threads.{thread_id, lock_of, best_waiter, has_waiters, eff_of}
+use Rattle.sd_full.specs.Threads.{thread_id, lock_of, best_waiter, has_waiters}
 use Rattle.sd_full.specs.Changes.{back_key, set_duty, place_put}
 use Rattle.sd_full.specs.Locking.{kind_of, side_of, blocked}
 use Rattle.sd_full.specs.Events.{effect, after, drop_ageing, dropped_duty}
 use Rattle.sd_chains.specs.Holders as H
-use Rattle.sd_chains.proofs.Moves.{IsPut, IsSame, put_cases}
 use Rattle.sd_sound.specs.Causes.{Acts, IsCause}
-use Rattle.sd_sound.specs.Holding.{lock_state, pass_of, table, Agreed, DutyServes, DutiesServe, IsReadWell, ReadsWell}
+use Rattle.sd_sound.specs.Holding.{lock_state, pass_of, table, Agreed, DutyServes, DutiesServe}
 use Rattle.sd_sound.specs.Moves.{put_step, step_of}
 use Rattle.sd_sound.proofs.Parts.{same_is_put}
 use Rattle.sd_sound.proofs.CpuWords as C
@@ -275,12 +274,16 @@ module _ (w : Work) (s : State) (n : ℕ) (c : CpuId) (ready : IsReady w s) (c_i
     where
       stays : (m : ℕ) → m ≢ l.0 → Stays s (after w s n c (Unblock l u at)) m
       stays = wait_ends (Unblock l u at) u at l Writer refl cause.1 next
+
       same : C.Kept duty_part s (drop_ageing s c.0 (Unblock l u at))
       same = drop_same (Unblock l u at) (duty.WakeMutex l) cause.0 refl
+
       others : (e : ℕ) (p : H.Pass) → e ≢ c.0 → (table s).passes e ≡ Some p → Stays s (after w s n c (Unblock l u at)) p.lock
       others = other_passes l true (after w s n c (Unblock l u at)) (ap pass_of cause.0) stays
+
       kind : is_mutex (kind_of w l) ≡ true
       kind = (subst (λ d. DutyServes w s d) cause.0 (ready.serves c.0)).0
+
       by : Woken (drop_ageing s c.0 (Unblock l u at)) (after w s n c (Unblock l u at)) c.0 l → DutiesServe w (after w s n c (Unblock l u at))
       by (more locks duties some) =
           serves_put w s (after w s n c (Unblock l u at)) c.0 (duty.WakeMutex l) next.shape.threads (kept_is s _ c.0 (duty.WakeMutex l) (C.then_kept duty_part s (drop_ageing s c.0 (Unblock l u at)) _ same duties) cause.0) others ready.serves (kind, some)
@@ -293,10 +296,13 @@ module _ (w : Work) (s : State) (n : ℕ) (c : CpuId) (ready : IsReady w s) (c_i
     where
       same : C.Kept duty_part s (drop_ageing s c.0 (Grant l u at))
       same = drop_same (Grant l u at) (duty.GrantWriter l) is refl
+
       now : (cpu_of (drop_ageing s c.0 (Grant l u at)) c.0).duty ≡ duty.GrantWriter l
       now = same.each c.0 ∙ is
+
       others : (e : ℕ) (p : H.Pass) → e ≢ c.0 → (table s).passes e ≡ Some p → Stays s (after w s n c (Grant l u at)) p.lock
       others = other_passes l true (after w s n c (Grant l u at)) (ap pass_of is) (wait_ends (Grant l u at) u at l Writer refl best next)
+
       by : Granted (drop_ageing s c.0 (Grant l u at)) (after w s n c (Grant l u at)) c.0 l u.0 (cpu_of (drop_ageing s c.0 (Grant l u at)) c.0).duty → DutiesServe w (after w s n c (Grant l u at))
       by (to_writer e locks duties) =
           serves_put w s (after w s n c (Grant l u at)) c.0 duty.Nothing next.shape.threads (T.duties_then s (drop_ageing s c.0 (Grant l u at)) _ c.0 duty.Nothing same duties) others ready.serves tt
@@ -311,10 +317,13 @@ module _ (w : Work) (s : State) (n : ℕ) (c : CpuId) (ready : IsReady w s) (c_i
     where
       same : C.Kept duty_part s (drop_ageing s c.0 (Grant l u at))
       same = drop_same (Grant l u at) (duty.GrantReaders l) is refl
+
       now : (cpu_of (drop_ageing s c.0 (Grant l u at)) c.0).duty ≡ duty.GrantReaders l
       now = same.each c.0 ∙ is
+
       others : (e : ℕ) (p : H.Pass) → e ≢ c.0 → (table s).passes e ≡ Some p → Stays s (after w s n c (Grant l u at)) p.lock
       others = other_passes l false (after w s n c (Grant l u at)) (ap pass_of is) (wait_ends (Grant l u at) u at l Reader refl best next)
+
       by : Granted (drop_ageing s c.0 (Grant l u at)) (after w s n c (Grant l u at)) c.0 l u.0 (cpu_of (drop_ageing s c.0 (Grant l u at)) c.0).duty → DutiesServe w (after w s n c (Grant l u at))
       by (to_writer e locks duties) = absurd (unlike (sym now ∙ e))
         where
@@ -330,14 +339,19 @@ module _ (w : Work) (s : State) (n : ℕ) (c : CpuId) (ready : IsReady w s) (c_i
     where
       same : C.Kept duty_part s (drop_ageing s c.0 (Passed l))
       same = drop_same (Passed l) (duty.GrantReaders l) cause.0 refl
+
       stays : (m : ℕ) → Stays s (after w s n c (Passed l)) m
       stays = stays_all (Passed l) refl cause next
+
       kind : is_rwlock (kind_of w l) ≡ true
       kind = subst (λ d. DutyServes w s d) cause.0 (ready.serves c.0)
+
       settled : (d : Duty) → T.DutyIs (drop_ageing s c.0 (Passed l)) (after w s n c (Passed l)) c.0 d → DutyServes w (after w s n c (Passed l)) d → DutiesServe w (after w s n c (Passed l))
       settled d duties here = serves_put w s (after w s n c (Passed l)) c.0 d next.shape.threads (T.duties_then s (drop_ageing s c.0 (Passed l)) _ c.0 d same duties) (λ e p other is. stays p.lock) ready.serves here
+
       was : (k : ℕ) × ((table s).lock l.0 ≡ H.Lock.Passing c.0 k) × (false ≡ true → k ≡ 0)
       was = ready.agreed.passed c.0 (record { lock = l.0; alone = false }) (ap pass_of cause.0)
+
       by : Handed (drop_ageing s c.0 (Passed l)) (after w s n c (Passed l)) c.0 l (lock_of s l.0) → DutiesServe w (after w s n c (Passed l))
       by (to_readers d k is one locks duties) = settled duty.Nothing duties tt
       by (writer_next d is locks duties some) = settled (duty.GrantWriter l) duties (kind, stays_best s (after w s n c (Passed l)) next.shape.threads l.0 (stays l.0) Writer some)

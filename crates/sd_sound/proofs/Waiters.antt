@@ -1,5 +1,5 @@
 -- Who waits for a lock before and after an event.
-use Rattle.std.proofs.Common.{◌≡◌, ◌≢◌, ℕ, ◌<◌, Bool, true, false, List, length, Option, Some, None, refl, sym, ap, ◌∙◌, subst, arith, ◌⊎◌, inl, inr, ◌==◌}
+use Rattle.std.proofs.Common.{◌≡◌, ◌≢◌, ℕ, ◌<◌, true, false, length, Option, Some, None, refl, sym, ap, ◌∙◌, subst, arith, inl, inr, ◌==◌}
 use Rattle.std.specs.Prelude.{ℤ}
 use Rattle.std.proofs.lemmas.Bool.{eqb-true}
 use Rattle.sd_types.specs.declared.numbers.LockId.{LockId}
@@ -59,31 +59,39 @@ side_waits l side Ended on = cc
 
 pub quiet_stays : (step : Step) (s r : State) → Stepped step s r → MoverIs s step → (l : ℕ) → Stays s r l
 quiet_stays Stay s r a is l = record { each = λ u on. a u }
-quiet_stays (Go m p) s r a is l = record { each = λ u on. elim (put_cases m p _ _ a u) [
-  | inl me ↦ absurd (waits_away l (thread_of s m).place is.away (subst (λ v. is_waiting l (thread_of s v).place ≡ true) me.0 on))
-  | inr other ↦ other.1
-] }
+quiet_stays (Go m p) s r a is l = record {
+  each = λ u on. elim (put_cases m p _ _ a u) [
+    | inl me ↦ absurd (waits_away l (thread_of s m).place is.away (subst (λ v. is_waiting l (thread_of s v).place ≡ true) me.0 on))
+    | inr other ↦ other.1
+  ];
+}
 
 pub away_waited : (step : Step) (s r : State) → Stepped step s r → StepAway step → (l : ℕ) → Waited s r l
 away_waited Stay s r a away l = record { each = λ u on. a u }
-away_waited (Go m p) s r a away l = record { each = λ u on. elim (put_cases m p _ _ a u) [
-  | inl me ↦ absurd (waits_away l p away (subst (λ q. is_waiting l q ≡ true) me.1 on))
-  | inr other ↦ other.1
-] }
+away_waited (Go m p) s r a away l = record {
+  each = λ u on. elim (put_cases m p _ _ a u) [
+    | inl me ↦ absurd (waits_away l p away (subst (λ q. is_waiting l q ≡ true) me.1 on))
+    | inr other ↦ other.1
+  ];
+}
 
 -- where a wait for lock l ends, the waiters of the other locks stay
 pub others_stay : (m : ℕ) (p : Place) (s r : State) (l : ℕ) → Stepped (Go m p) s r → is_waiting l (thread_of s m).place ≡ true → (k : ℕ) → k ≢ l → Stays s r k
-others_stay m p s r l a waits k other = record { each = λ u on. elim (put_cases m p _ _ a u) [
-  | inl me ↦ absurd (other (one_lock l k (thread_of s m).place waits (subst (λ v. is_waiting k (thread_of s v).place ≡ true) me.0 on)))
-  | inr him ↦ him.1
-] }
+others_stay m p s r l a waits k other = record {
+  each = λ u on. elim (put_cases m p _ _ a u) [
+    | inl me ↦ absurd (other (one_lock l k (thread_of s m).place waits (subst (λ v. is_waiting k (thread_of s v).place ≡ true) me.0 on)))
+    | inr him ↦ him.1
+  ];
+}
 
 -- where a wait for lock l begins, the waiters of the other locks waited before
 pub others_waited : (m : ℕ) (l : LockId) (side : Side) (j : ℤ) (s r : State) → Stepped (Go m (Waiting l side j)) s r → (k : ℕ) → k ≢ l.0 → Waited s r k
-others_waited m l side j s r a k other = record { each = λ u on. elim (put_cases m (Waiting l side j) _ _ a u) [
-  | inl me ↦ absurd (other (sym (eqb-true l.0 k (subst (λ q. is_waiting k q ≡ true) me.1 on))))
-  | inr him ↦ him.1
-] }
+others_waited m l side j s r a k other = record {
+  each = λ u on. elim (put_cases m (Waiting l side j) _ _ a u) [
+    | inl me ↦ absurd (other (sym (eqb-true l.0 k (subst (λ q. is_waiting k q ≡ true) me.1 on))))
+    | inr him ↦ him.1
+  ];
+}
 
 -- What follows.
 

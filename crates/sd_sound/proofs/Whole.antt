@@ -1,6 +1,6 @@
 -- What the program's arithmetic needs of a state and of an event holds in every state of every run.
-use Rattle.std.proofs.Common.{◌≡◌, ◌≢◌, ℕ, zero, suc, ◌+◌, ◌*◌, ◌<◌, ◌≤◌, ◌^◌, Bool, true, false, not, ◌&&◌, List, [], ◌∷◌, ◌++◌, length, take, Option, Some, None, refl, sym, ap, ◌∙◌, subst, arith, ◌⊎◌, inl, inr}
-use Rattle.std.specs.Prelude.{⊤, slice_get, option_map, unwrap_or, nat_lt, nat_le, if◌then◌else◌, ℤ}
+use Rattle.std.proofs.Common.{◌≡◌, ℕ, zero, suc, ◌+◌, ◌*◌, ◌<◌, ◌≤◌, ◌^◌, Bool, true, false, not, List, [], ◌∷◌, ◌++◌, length, take, Option, Some, None, refl, sym, ap, subst, arith, inl, inr}
+use Rattle.std.specs.Prelude.{slice_get, option_map, unwrap_or, nat_lt, nat_le, if◌then◌else◌, ℤ}
 use Rattle.std.proofs.lemmas.Bool.Decides.{nat_tests}
 use Rattle.sd_types.specs.declared.numbers.CpuId.{CpuId}
 use Rattle.sd_types.specs.declared.numbers.LockId.{LockId}
@@ -19,16 +19,13 @@ use Rattle.sd_types.specs.declared.scripts.Op.TheVariants as op
 use Rattle.sd_types.specs.declared.works.ThreadDecl.{ThreadDecl}
 use Rattle.sd_types.specs.declared.works.Work.{Work}
 use Rattle.sd_types.specs.Scripts.{is_lock, is_held, held_by, held_after, without_lock, can_take}
-use Rattle.sd_types.specs.Willed.{number_for, IsSound}
 use Rattle.sd_types.specs.Works.{span_fits}
 use Rattle.sd_types.proofs.WilledLemmas.{sound-taken, room}
-use Rattle.sd_machine.specs.declared.states.LockState.{LockState}
-use Rattle.sd_machine.specs.declared.states.LockState.TheVariants.{Free, Owned, ReadHeld, Passing}
+use Rattle.sd_machine.specs.declared.states.LockState.TheVariants.{Owned, ReadHeld, Passing}
 use Rattle.sd_machine.specs.declared.states.State.{State}
 use Rattle.sd_machine.specs.States.{thread_of, cpu_of}
 use Rattle.sd_machine.specs.Operations.{script_of, op_of}
-use Rattle.sd_machine.specs.Opening.{opening}
-use Rattle.sd_full.specs.Threads.{lock_of, count_of, open_of, best_waiter}
+use Rattle.sd_full.specs.Threads.{lock_of, best_waiter}
 use Rattle.sd_full.specs.Sleeping.{nap_ticks}
 use Rattle.sd_full.specs.Events.{next}
 use Rattle.sd_full.specs.Runs.{IsReached}
@@ -41,12 +38,12 @@ use Rattle.sd_sound.specs.Scripted.{Scripted}
 use Rattle.sd_sound.proofs.Found.{runner_found, ready_found, queued_found, unbound_found, waiter_found, sleeper_found, sleeper_below_found, due_found, age_found}
 use Rattle.sd_sound.proofs.ScriptLemmas.{held_by_one, waits_here}
 use Rattle.sd_sound.proofs.Movers.{owner_thread, prio_thread, bind_thread}
-use Rattle.sd_sound.proofs.Works.{declared, op_named, wanted_fits, first_of_two, second_of_two, not_true}
-use Rattle.sd_sound.proofs.AgreedAfter.{IsReady, named_inside, not_held, waiter_not_held}
+use Rattle.sd_sound.proofs.Works.{op_named, wanted_fits, second_of_two}
+use Rattle.sd_sound.proofs.AgreedAfter.{IsReady, named_inside, waiter_not_held}
 use Rattle.sd_sound.proofs.NumberLemmas.{AreFine, held_last}
 use Rattle.sd_sound.proofs.SemaphoreLemmas.{total, ops_over, CountsHold, holds_kept}
 use Rattle.sd_sound.proofs.HoldTable.{bound_part}
-use Rattle.sd_sound.proofs.BoundLemmas.{is_bound_at, bound_threads, BoundHold, bound_is_kept}
+use Rattle.sd_sound.proofs.BoundLemmas.{is_bound_at, BoundHold, bound_is_kept}
 use Rattle.sd_sound.proofs.OpenLemmas.{join_room, open_is_kept}
 use Rattle.sd_sound.proofs.CountLemmas.{ticks_below, opening_counts, after_counts}
 use Rattle.sd_sound.proofs.FineLemmas.{fine_reached}
@@ -202,9 +199,10 @@ module _ (w : Work) (s : State) (whole : IsWhole w s) where
     waiter_fits l side u best =
         let found = waiter_found s l.0 side u best in
         let (k, is) = waits_here l side (thread_of s u).place found.stands in
-        let (o, stands, wanted) = (whole.ready.scripted u found.inside).waits l side k is in
-        (record { inside = found.inside; op = named_inside (script_of w u) (thread_of s u).body.op o stands },
-          short_held u l found.inside (wanted_fits w u (thread_of s u).body.op o l side stands wanted))
+        let (o, stands, wanted) = (whole.ready.scripted u found.inside).waits l side k is in (
+          record { inside = found.inside; op = named_inside (script_of w u) (thread_of s u).body.op o stands },
+          short_held u l found.inside (wanted_fits w u (thread_of s u).body.op o l side stands wanted),
+        )
 
     held_short : (t : ℕ) → IsThere s t → length (thread_of s t).body.held.items ≤ 8
     held_short t inside = held_most w s whole.ready.scripted t inside

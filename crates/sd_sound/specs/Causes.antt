@@ -1,15 +1,12 @@
 -- What the order of a processor's events says of the state in which an event comes.
-use Rattle.std.specs.Prelude.{◌≡◌, ◌≢◌, ℕ, ◌+◌, ◌<◌, Bool, true, false, List, length, Option, Some, None, ℤ, ⊤, ◌⊎◌}
+use Rattle.std.specs.Prelude.{◌≡◌, ◌≢◌, ℕ, ◌+◌, ◌<◌, true, false, length, Option, Some, None, ℤ, ⊤, ◌⊎◌}
 use Rattle.std.specs.List.{Contains}
-use Rattle.sd_types.specs.declared.numbers.ChanId.{ChanId}
 use Rattle.sd_types.specs.declared.numbers.CpuId.{CpuId}
 use Rattle.sd_types.specs.declared.numbers.LockId.{LockId}
 use Rattle.sd_types.specs.declared.numbers.Side.{Side}
 use Rattle.sd_types.specs.declared.numbers.Side.TheVariants.{Writer, Reader}
 use Rattle.sd_types.specs.declared.numbers.ThreadId.{ThreadId}
 use Rattle.sd_types.specs.declared.classes.ClassParms.{ClassParms}
-use Rattle.sd_types.specs.declared.events.AssignAnswer.{AssignAnswer}
-use Rattle.sd_types.specs.declared.events.BindAnswer.{BindAnswer}
 use Rattle.sd_types.specs.declared.events.Duty.{Duty}
 use Rattle.sd_types.specs.declared.events.Duty.TheVariants as duty
 use Rattle.sd_types.specs.declared.events.Event.{Event}
@@ -24,20 +21,17 @@ use Rattle.sd_types.specs.declared.scripts.Request.{Request}
 use Rattle.sd_types.specs.declared.works.Work.{Work}
 use Rattle.std.specs.Prelude.{Ok}
 use Rattle.sd_full.specs.declared.plans.Requeue.TheVariants.{Stays, Behind, Anew}
-use Rattle.sd_machine.specs.declared.states.Place.TheVariants.{Running}
-use Rattle.sd_machine.specs.declared.states.LockState.{LockState}
-use Rattle.sd_machine.specs.declared.states.LockState.TheVariants.{Free, Owned, ReadHeld, Passing}
+use Rattle.sd_machine.specs.declared.states.LockState.TheVariants.{Free, Owned, ReadHeld}
 use Rattle.sd_machine.specs.declared.states.State.{State}
 use Rattle.sd_machine.specs.States.{thread_of, cpu_of}
 use Rattle.sd_machine.specs.Operations.{op_of}
-use Rattle.sd_full.specs.Threads.{lock_of, count_of, runner, best_ready, best_queued, best_unbound, best_waiter, best_sleeper, best_sleeper_below, first_due, next_to_age, eff_of, greatest_waiting}
-use Rattle.sd_full.specs.Bodies.{woken_class, aged_class, eff_as_with}
+use Rattle.sd_full.specs.Threads.{lock_of, count_of, runner, best_ready, best_queued, best_unbound, best_waiter, best_sleeper, best_sleeper_below, first_due, next_to_age, eff_of}
 use Rattle.sd_types.specs.Priorities.{eff_as}
 use Rattle.sd_full.specs.Changes.{cpu_put}
 use Rattle.sd_full.specs.Choosing.{cpus_for, neighbours, put_on}
 use Rattle.sd_full.specs.Dispatching.{must_leave}
 use Rattle.sd_full.specs.Sleeping.{woken_priority}
-use Rattle.sd_full.specs.Locking.{owner_runs, others_waiting, writer_priority}
+use Rattle.sd_full.specs.Locking.{writer_priority}
 use Rattle.sd_full.specs.Requeueing.{requeue}
 use Rattle.sd_full.specs.Walking.{inherited_priority}
 use Rattle.sd_full.specs.Prioritising.{answer_to, new_class}

@@ -17,6 +17,7 @@ use Rattle.sd_machine.specs.States.{thread_of, cpu_of}
 use Rattle.sd_full.specs.Events.{next, after}
 use Rattle.sd_full.specs.Runs.{IsReached}
 use Rattle.sd_sound.specs.Causes.{IsCause}
+use Rattle.sd_sound.specs.Possible.{IsFit, CanHappen}
 
 -- in every state to which a run leads
 abbrev pub HoldsWhenReached : (Work → State → Type 0) → Type 0
@@ -77,3 +78,11 @@ pub record OpenHold (w : Work) (s : State) : Type 0 where
 -- the first counts of semaphores are those of the type, 65,535 at most
 abbrev pub HasSmallCounts : Work → Type 0
 HasSmallCounts w = (k : ℕ) → count_of (opening w) k ≤ 65535
+
+-- what a processor may make in a state of a run can happen: all that it names is there, and no number leaves its type
+abbrev pub EventsCanHappen : Type 0
+EventsCanHappen = (w : Work) (n : ℕ) (s : State) (c : CpuId) (hints : Option Hints) (e : Event) → IsReached w n s → next w s c hints ≡ Some e → CanHappen w s c.0 e
+
+-- and the state can be read and counted on
+abbrev pub StatesFit : Type 0
+StatesFit = (w : Work) (n : ℕ) (s : State) → HasSmallCounts w → IsReached w n s → IsFit w s

@@ -1,0 +1,5 @@
+use Rattle.sd_sound.proofs.Whole.{fit_reached}
+use Rattle.sd_sound.proofs.laws.states_fit.Goals as goal
+
+pub returns : goal.returns
+returns r = λ w n s small reached. fit_reached w n s small reached
