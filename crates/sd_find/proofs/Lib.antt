@@ -1,0 +1,2 @@
+pub mod NapOrder
+pub mod OthersLemmas
