@@ -10,8 +10,8 @@ ghost use Rattle.sd_machine.specs.States.{cpu_of, thread_of};
 
 use crate::reads::{priority_at, thread_at};
 use sd_change::{
-    back_key, clear_marks, count_tick, finish_op, key_at, leave, mark_over, queue_place, run_on, run_tick, send_back,
-    set_class, set_mark,
+    back_key, clear_marks, count_tick, finish_op, key_at, leave, mark_over, queue_place, run_on,
+    run_tick, send_back, set_class, set_mark,
 };
 use sd_class::{class_expires, class_requeue, ticked_class};
 use sd_find::best_ready;

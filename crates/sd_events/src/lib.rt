@@ -3,7 +3,9 @@
 
 mod dispatching;
 mod reads;
+mod sleeping;
 
 pub use dispatching::{
     dispatched, done, idled, preempted, sent_away, spun, stolen, ticked, yielded,
 };
+pub use sleeping::{fallen_asleep, napped, sema_counted, sema_taken, woke_all, woken};

@@ -2,10 +2,11 @@
 
 ghost use Rattle.std.specs.Prelude.{◌≡◌, ◌<◌, length};
 ghost use Rattle.sd_full.specs.Threads.{eff_of};
-ghost use Rattle.sd_machine.specs.States.{thread_of};
+ghost use Rattle.sd_machine.specs.Operations.{op_of};
+ghost use Rattle.sd_machine.specs.States.{cpu_of, thread_of};
 
-use sd_machine::{State, ThreadState};
-use sd_types::ThreadId;
+use sd_machine::{CpuState, State, ThreadState};
+use sd_types::{CpuId, Op, ThreadBody, ThreadId, Work};
 
 pub(crate) fn thread_at(s: &State, t: ThreadId) -> &ThreadState
     requires { t.0 < length s.now.threads }
@@ -20,4 +21,23 @@ pub(crate) fn priority_at(s: &State, t: usize) -> u8
     ensures { result ≡ eff_of s.now t }
 {
     s.threads.items()[t].body.effective()
+}
+
+pub(crate) fn cpu_at(s: &State, c: CpuId) -> CpuState
+    requires { c.0 < length s.now.cpus }
+    ensures { result ≡ cpu_of s.now c.0 }
+{
+    s.cpus.items()[c.0 as usize]
+}
+
+/// The operation at which a thread stands, None after the last.
+pub(crate) fn op_of(work: &Work, t: ThreadId, b: &ThreadBody) -> Option<Op>
+    requires { t.0 < length work.now.threads }
+    ensures { result ≡ op_of work.now t.0 b.now }
+{
+    work.threads.items()[t.0 as usize]
+        .script
+        .ops()
+        .get(b.op as usize)
+        .copied()
 }
