@@ -1,0 +1,12 @@
+use Rattle.sd_program.specs.StreamChanges.{change_of}
+use Rattle.sd_program.proofs.TopLemmas.{told_of}
+use Rattle.sd_program.proofs.top.tell.Goals as goal
+
+pub returns-clause-told : goal.returns-clause-told
+returns-clause-told g c =
+    let told = g.E.Sink.contents in
+    let faults = g.E.Sink.fault_count in
+    let a = c.args.err.now in
+    let b = c.write_piece.new.sink in
+    told_of (change_of (told a) (told b) (faults a) (faults b)) c.args.answer c.line.result.now c.write_piece.result c.line.ensures
+    c.write_piece.ensures.ok c.write_piece.ensures.risen c.write_piece.ensures.part

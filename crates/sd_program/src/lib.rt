@@ -1,0 +1,48 @@
+//! The thread dispatcher of the Solaris kernel, simulated: reads a workload and writes the journal of its run.
+#![tactic(auto)]
+
+mod answers;
+mod forms;
+mod gates;
+mod running;
+#[cfg(test)]
+mod tests;
+mod top;
+mod writing;
+
+use gates::OpenGate;
+use sd_text::{StdSink, StdSource};
+use std::marker::Sync;
+use std::process::ExitCode;
+use std::rt::Env;
+use std::sync::Wait;
+use std::thread::Threads;
+use std::{env, io};
+use top::start;
+
+/// The arguments after the program's name.
+fn arguments<R: Env + AllocGlobal>(rt: &R) -> io::Result<Vec<String>> {
+    let mut arguments = Vec::new(rt.alloc());
+    for argument in env::args(rt)?.skip(1) {
+        arguments.push(argument)?;
+    }
+    Ok(arguments)
+}
+
+/// The program on the host: gives the host's input, output and error output, and its arguments, to `start`, with a handle
+/// to its threads, and returns its status. It is trusted: no clause says what the host does.
+pub fn program<R: Threads + Wait + Sync>(host: &HostRuntime, rt: &R) -> ExitCode {
+    let mut input = StdSource::new(host.stdin());
+    let mut out = StdSink::new(host.stdout());
+    let mut err = StdSink::new(host.stderr());
+    let arguments = arguments(host);
+    ExitCode::from(start(
+        rt,
+        host.alloc(),
+        arguments,
+        &mut input,
+        &mut out,
+        &mut err,
+        &OpenGate,
+    ))
+}

@@ -1,0 +1,134 @@
+//! The top call: from the arguments and the streams of the program to its exit status.
+
+ghost use Rattle.std.specs.Prelude.{◌≡◌, map, string_bytes};
+ghost use Rattle.sd_program.specs.Answers.{status_of, answer_of};
+ghost use Rattle.sd_program.specs.Headline.{CausedByInput, Caused, Tells, KeepsPromises};
+ghost use Rattle.sd_program.specs.Readings.{IsReading};
+ghost use Rattle.sd_program.specs.Starts.{Starts};
+ghost use Rattle.sd_program.specs.StreamChanges.{change_of};
+
+use crate::answers::Answer;
+use crate::forms::is_run;
+use crate::gates::Gate;
+use crate::running::run_work;
+use sd_text::{Sink, Source, read_all, write_piece};
+use sd_types::Work;
+use sd_work::read_work;
+use std::alloc::Global;
+use std::io;
+use std::marker::Sync;
+use std::sync::Wait;
+use std::thread::Threads;
+
+/// The workload that the input spells, or why there is none.
+fn read_input<S: Source>(alloc: Global, input: &mut S) -> Result<Work, Answer>
+    ensures { IsReading (change_of (S.remaining input.old) (S.remaining input.new) (S.fault_count input.old) (S.fault_count input.new)) result }
+{
+    let bytes = read_all(alloc, input)?;
+    Ok(read_work(alloc, &bytes)?)
+}
+
+/// Reads the workload, runs it and writes its journal.
+fn run_input<S: Source, K: Sink>(alloc: Global, input: &mut S, out: &mut K) -> Result<(), Answer>
+    ensures { CausedByInput
+        (change_of (S.remaining input.old) (S.remaining input.new) (S.fault_count input.old) (S.fault_count input.new))
+        (change_of (K.contents out.old) (K.contents out.new) (K.fault_count out.old) (K.fault_count out.new))
+        (answer_of result) }
+{
+    let work = read_input(alloc, input)?;
+    run_work(alloc, &work, out)
+}
+
+/// Does what the arguments ask for.
+fn carry_out<S: Source, K: Sink>(
+    alloc: Global,
+    arguments: &[String],
+    input: &mut S,
+    out: &mut K,
+) -> Answer
+    ensures { Caused (map string_bytes arguments.now)
+        (change_of (S.remaining input.old) (S.remaining input.new) (S.fault_count input.old) (S.fault_count input.new))
+        (change_of (K.contents out.old) (K.contents out.new) (K.fault_count out.old) (K.fault_count out.new))
+        result }
+{
+    if is_run(arguments) {
+        Answer::of(run_input(alloc, input, out))
+    } else {
+        Answer::Usage
+    }
+}
+
+/// Writes the line of the answer, and returns its exit status. A fault of `err` changes no status.
+fn tell<E: Sink>(answer: Answer, err: &mut E) -> u8
+    ensures told { Tells (change_of (E.contents err.old) (E.contents err.new) (E.fault_count err.old) (E.fault_count err.new)) answer }
+    ensures status { result ≡ status_of answer }
+{
+    let _ = write_piece(err, answer.line());
+    answer.status()
+}
+
+/// The program, on the host's one thread: does what the arguments ask for, and returns the exit status.
+///
+/// With status 0 what `out` received is the journal of the run of the workload that `input` spells: a complete legal
+/// run in rounds of rising processors, in each state of which at most one thread runs on a processor, with the
+/// accounts of its entries. The other statuses are 1 (the arguments are none that the program knows), 2 (the input is
+/// too large, or no workload that is built), 3 (a read failed), 4 (a write failed), 5 (out of memory, and no fault of
+/// `input` or `out` was counted) and 8 (the run has 2^40 entries or more); each leaves one line on `err`.
+pub fn serial<S: Source, K: Sink, E: Sink, G: Gate>(
+    alloc: Global,
+    arguments: &[String],
+    input: &mut S,
+    out: &mut K,
+    err: &mut E,
+    _gate: &G,
+) -> u8
+    ensures { KeepsPromises (map string_bytes arguments.now)
+        (change_of (S.remaining input.old) (S.remaining input.new) (S.fault_count input.old) (S.fault_count input.new))
+        (change_of (K.contents out.old) (K.contents out.new) (K.fault_count out.old) (K.fault_count out.new))
+        (change_of (E.contents err.old) (E.contents err.new) (E.fault_count err.old) (E.fault_count err.new))
+        result }
+{
+    tell(carry_out(alloc, arguments, input, out), err)
+}
+
+/// The program: as `serial`. Runs on threads of the host are none of its arguments yet, so `rt` starts none.
+pub fn dispsim<R: Threads + Wait + Sync, S: Source, K: Sink, E: Sink, G: Gate>(
+    _rt: &R,
+    alloc: Global,
+    arguments: &[String],
+    input: &mut S,
+    out: &mut K,
+    err: &mut E,
+    gate: &G,
+) -> u8
+    ensures { KeepsPromises (map string_bytes arguments.now)
+        (change_of (S.remaining input.old) (S.remaining input.new) (S.fault_count input.old) (S.fault_count input.new))
+        (change_of (K.contents out.old) (K.contents out.new) (K.fault_count out.old) (K.fault_count out.new))
+        (change_of (E.contents err.old) (E.contents err.new) (E.fault_count err.old) (E.fault_count err.new))
+        result }
+{
+    serial(alloc, arguments, input, out, err, gate)
+}
+
+/// The program from its start: `dispsim` with the arguments that were read. Where one is no text they are none that
+/// the program knows, and where memory ran out the answer is out of memory; then nothing is read or run.
+pub fn start<R: Threads + Wait + Sync, S: Source, K: Sink, E: Sink, G: Gate>(
+    rt: &R,
+    alloc: Global,
+    arguments: io::Result<Vec<String>>,
+    input: &mut S,
+    out: &mut K,
+    err: &mut E,
+    gate: &G,
+) -> u8
+    ensures { Starts arguments
+        (change_of (S.remaining input.old) (S.remaining input.new) (S.fault_count input.old) (S.fault_count input.new))
+        (change_of (K.contents out.old) (K.contents out.new) (K.fault_count out.old) (K.fault_count out.new))
+        (change_of (E.contents err.old) (E.contents err.new) (E.fault_count err.old) (E.fault_count err.new))
+        result }
+{
+    match arguments {
+        Ok(arguments) => dispsim(rt, alloc, &arguments, input, out, err, gate),
+        Err(error) => tell(Answer::of_unread_arguments(&error), err),
+    }
+}
