@@ -79,7 +79,8 @@ pub record OpenHold (w : Work) (s : State) : Type 0 where
 abbrev pub HasSmallCounts : Work → Type 0
 HasSmallCounts w = (k : ℕ) → count_of (opening w) k ≤ 65535
 
--- what a processor may make in a state of a run can happen: all that it names is there, and no number leaves its type
+-- what a processor may make in a state of a run can happen: the threads that it names are there, with room for what they
+-- take, and the numbers that it raises stay in their types
 abbrev pub EventsCanHappen : Type 0
 EventsCanHappen = (w : Work) (n : ℕ) (s : State) (c : CpuId) (hints : Option Hints) (e : Event) → IsReached w n s → next w s c hints ≡ Some e → CanHappen w s c.0 e
 

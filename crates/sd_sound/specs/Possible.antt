@@ -1,5 +1,5 @@
--- What the program's arithmetic needs of a state to read it, and of an event to make it: that what is named is there, and
--- that numbers fit the types in which they are kept.
+-- Of a state, that it can be read; of an event, that the threads that it names are there, and that numbers fit the types in
+-- which they are kept. Of locks, channels and the processors to which threads are put it says nothing.
 use Rattle.std.specs.Prelude.{◌≡◌, ℕ, ◌+◌, ◌<◌, ◌^◌, true, length, Option, Some, None, nat_lt, ⊤}
 use Rattle.std.specs.List.{list_all}
 use Rattle.sd_types.specs.declared.numbers.CpuId.{CpuId}
