@@ -6,9 +6,12 @@ mod bodies;
 mod places;
 mod processors;
 mod reads;
+mod sets;
 
 pub use bodies::{finish_op, hold, let_go, run_tick, send_back, set_class, set_looped, set_number};
 pub use places::{back_key, key_at, leave, put, put_where, queue_place, run_on};
 pub use processors::{
     clear_marks, count_tick, mark_over, remark, set_duty, set_kernel_mark, set_mark,
 };
+pub use reads::ticks_at;
+pub use sets::{bind, close, join, unbind};

@@ -39,7 +39,7 @@ pub(crate) fn set_of(work: &Work, t: ThreadId) -> SetId
 }
 
 /// The ticks that an operation has when it begins.
-pub(crate) fn ticks_at(op: Option<Op>) -> u32
+pub fn ticks_at(op: Option<Op>) -> u32
     ensures { result ≡ ticks_at op }
 {
     match op {

@@ -6,23 +6,15 @@ ghost use Rattle.std.specs.Prelude.{◌≡◌, ◌+◌, ◌<◌, ◌^◌, ℕ, l
 ghost use Rattle.sd_full.specs.Changes.{hold, leave, set_duty};
 ghost use Rattle.sd_full.specs.Locking.{blocked, one_more, owned, passed, read, side_of};
 ghost use Rattle.sd_full.specs.Threads.{lock_of};
-ghost use Rattle.sd_full.specs.Walking.{walk_ended};
 ghost use Rattle.sd_machine.specs.Operations.{op_of, script_of};
 ghost use Rattle.sd_machine.specs.States.{thread_of};
 ghost use Rattle.sd_machine.specs.declared.states.LockState.TheVariants.{ReadHeld};
 
-use crate::reads::{op_of, thread_at};
+use crate::reads::{lock_at, op_of, thread_at};
 use sd_change::{back_key, finish_op, hold, leave, set_duty};
 use sd_find::best_waiter;
 use sd_machine::{LockState, Place, State};
 use sd_types::{CpuId, Duty, LockId, Op, Side, ThreadId, Work};
-
-fn lock_at(s: &State, l: LockId) -> LockState
-    requires { l.0 < length s.now.locks }
-    ensures { result ≡ lock_of s.now l.0 }
-{
-    s.locks.items()[l.0 as usize]
-}
 
 /// Thread `t` owns the free lock `l`.
 #[tactic(auto, unfolding(sd_full::specs::Locking::owned, sd_full::specs::Changes::hold))]
@@ -98,15 +90,6 @@ pub fn blocked(work: &Work, s: &mut State, number: u64, c: CpuId, t: ThreadId, l
             key,
         },
     );
-}
-
-/// The walk of processor `c` has come to a lock that nobody owns.
-#[tactic(auto, unfolding(sd_full::specs::Walking::walk_ended))]
-pub fn walk_ended(s: &mut State, c: CpuId)
-    requires { c.0 < length s.old.cpus }
-    ensures { s.new ≡ walk_ended s.old c }
-{
-    set_duty(s, c, Duty::Nothing);
 }
 
 /// No reader is left to whom processor `c` may give lock `l`: it is the readers' that have it, else the waiting

@@ -1,12 +1,12 @@
 //! Reading a state.
 
 ghost use Rattle.std.specs.Prelude.{◌≡◌, ◌<◌, length};
-ghost use Rattle.sd_full.specs.Threads.{eff_of};
+ghost use Rattle.sd_full.specs.Threads.{eff_of, lock_of};
 ghost use Rattle.sd_machine.specs.Operations.{op_of};
 ghost use Rattle.sd_machine.specs.States.{cpu_of, thread_of};
 
-use sd_machine::{CpuState, State, ThreadState};
-use sd_types::{CpuId, Op, ThreadBody, ThreadId, Work};
+use sd_machine::{CpuState, LockState, State, ThreadState};
+use sd_types::{CpuId, LockId, Op, ThreadBody, ThreadId, Work};
 
 pub(crate) fn thread_at(s: &State, t: ThreadId) -> &ThreadState
     requires { t.0 < length s.now.threads }
@@ -28,6 +28,13 @@ pub(crate) fn cpu_at(s: &State, c: CpuId) -> CpuState
     ensures { result ≡ cpu_of s.now c.0 }
 {
     s.cpus.items()[c.0 as usize]
+}
+
+pub(crate) fn lock_at(s: &State, l: LockId) -> LockState
+    requires { l.0 < length s.now.locks }
+    ensures { result ≡ lock_of s.now l.0 }
+{
+    s.locks.items()[l.0 as usize]
 }
 
 /// The operation at which a thread stands, None after the last.

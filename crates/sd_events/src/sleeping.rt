@@ -24,7 +24,10 @@ pub fn woken(work: &Work, s: &mut State, number: u64, t: ThreadId, at: Put)
     requires declared { t.0 < length work.now.threads }
     requires thread { t.0 < length s.old.threads }
     requires cpu { (cpu_put at).0 < length s.old.cpus }
-    ensures { s.new ≡ woken work.now s.old number t.0 at }
+    ensures value { s.new ≡ woken work.now s.old number t.0 at }
+    ensures threads { length s.new.threads ≡ length s.old.threads }
+    ensures locks { length s.new.locks ≡ length s.old.locks }
+    ensures cpus { length s.new.cpus ≡ length s.old.cpus }
 {
     let class = thread_at(s, t).body.class;
     set_class(s, t, woken_class(work, class));
@@ -84,6 +87,79 @@ pub fn woke_all(work: &Work, s: &mut State, number: u64, c: CpuId, t: ThreadId, 
         set_duty(s, c, Duty::Rouse(k, back_key(number)));
     }
     finish_op(work, s, t);
+}
+
+/// The number of a duty to wake sleepers.
+fn rouse_key(duty: Duty) -> i64
+    ensures { result ≡ rouse_key duty }
+{
+    match duty {
+        Duty::Rouse(_, below) => below,
+        _ => 0,
+    }
+}
+
+/// By entry `number` processor `c` wakes a thread that slept on channel `k`, or finds none. Its duty is over with the last
+/// sleeper that was there when the others were called.
+#[tactic(auto, unfolding(sd_full::specs::Sleeping::roused))]
+pub fn roused(
+    work: &Work,
+    s: &mut State,
+    number: u64,
+    c: CpuId,
+    k: ChanId,
+    u: Option<(ThreadId, Put)>,
+)
+    requires number { number < 2 ^ 62 }
+    requires cpu { c.0 < length s.old.cpus }
+    requires declared { IfSome u (λ v. v.0.0 < length work.now.threads) }
+    requires sleeper { IfSome u (λ v. v.0.0 < length s.old.threads) }
+    requires put { IfSome u (λ v. (cpu_put v.1).0 < length s.old.cpus) }
+    ensures { s.new ≡ roused work.now s.old number c k u (cpu_of s.old c.0).duty }
+{
+    let Some((u, at)) = u else {
+        set_duty(s, c, Duty::Nothing);
+        return;
+    };
+    let below = rouse_key(cpu_at(s, c).duty);
+    woken(work, s, number, u, at);
+    if best_sleeper_below(s, k, below).is_none() {
+        set_duty(s, c, Duty::Nothing);
+    }
+}
+
+/// By entry `number` thread `t` wakes thread `u`, to which the semaphore goes.
+#[tactic(auto, unfolding(sd_full::specs::Conditions::sema_handed))]
+pub fn sema_handed(work: &Work, s: &mut State, number: u64, t: ThreadId, u: ThreadId, at: Put)
+    requires number { number < 2 ^ 62 }
+    requires declared { t.0 < length work.now.threads }
+    requires thread { t.0 < length s.old.threads }
+    requires op { (thread_of s.old t.0).body.op < length (script_of work.now t.0) }
+    requires sleeper_declared { u.0 < length work.now.threads }
+    requires sleeper { u.0 < length s.old.threads }
+    requires put { (cpu_put at).0 < length s.old.cpus }
+    ensures { s.new ≡ sema_handed work.now s.old number t.0 u.0 at }
+{
+    woken(work, s, number, u, at);
+    finish_op(work, s, t);
+}
+
+/// By entry `number` thread `t` has woken the best sleeper of a channel, or nobody.
+#[tactic(auto, unfolding(sd_full::specs::Sleeping::woke, sd_full::specs::Conditions::sema_handed))]
+pub fn woke(work: &Work, s: &mut State, number: u64, t: ThreadId, u: Option<(ThreadId, Put)>)
+    requires number { number < 2 ^ 62 }
+    requires declared { t.0 < length work.now.threads }
+    requires thread { t.0 < length s.old.threads }
+    requires op { (thread_of s.old t.0).body.op < length (script_of work.now t.0) }
+    requires sleeper_declared { IfSome u (λ v. v.0.0 < length work.now.threads) }
+    requires sleeper { IfSome u (λ v. v.0.0 < length s.old.threads) }
+    requires put { IfSome u (λ v. (cpu_put v.1).0 < length s.old.cpus) }
+    ensures { s.new ≡ woke work.now s.old number t.0 u }
+{
+    match u {
+        None => finish_op(work, s, t),
+        Some((u, at)) => sema_handed(work, s, number, t, u, at),
+    }
 }
 
 /// Thread `t` takes one from semaphore `k`.

@@ -133,7 +133,7 @@ read_ended : (w : Work) (s : State) (t : ℕ) (l : LockId) → t < length s.thre
 unfolding read
 read_ended w s t l here = later w s (hold (with_lock s l.0 (one_more (lock_of s l.0))) t l) t (then_same op_part s _ _ (lock_same op_part s l.0 _) (hold_same _ t l)) (then_shape s _ _ (lock_shape s l.0 _) (hold_shape _ t l)) here
 
-released_op : (w : Work) (s : State) (c : CpuId) (t : ℕ) (l : LockId) → Same op_part s (released w s c t l)
+pub released_op : (w : Work) (s : State) (c : CpuId) (t : ℕ) (l : LockId) → Same op_part s (released w s c t l)
 unfolding released
 released_op w s c t l = then_same op_part s _ _ (release_from_same op_part w s c l (lock_of s l.0)) (let_go_same _ t l)
 
@@ -191,7 +191,7 @@ assigned_ended w s t d to assign.EPERM here = finish_ended w s t here
 assigned_ended w s t d to assign.EINVAL here = finish_ended w s t here
 assigned_ended w s t d to assign.EBUSY here = finish_ended w s t here
 
-rebound_same : (s : State) (u : ℕ) (d b : Option CpuId) → Same op_part s (rebound s u d b)
+pub rebound_same : (s : State) (u : ℕ) (d b : Option CpuId) → Same op_part s (rebound s u d b)
 rebound_same s u (Some d) b = then_same op_part s _ _ (bind_same s u d) (called_back_same op_part _ d _)
 rebound_same s u None (Some b) = unbind_same s u b
 rebound_same s u None None = all_same op_part s
