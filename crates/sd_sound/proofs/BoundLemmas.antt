@@ -1,4 +1,4 @@
--- A processor counts no more threads that are bound to it than there are.
+-- A processor counts the threads that are bound to it.
 use Rattle.std.proofs.Common.{◌≡◌, ◌≢◌, ℕ, ◌+◌, ◌-◌, ◌<◌, Bool, true, false, ◌||◌, List, length, Option, Some, None, refl, ◌∙◌, sym, ap, subst, arith}
 use Rattle.sd_chains.specs.Holders as H
 use Rattle.sd_sound.proofs.Parts.{same_item, put_item}
@@ -19,7 +19,7 @@ use Rattle.sd_types.specs.declared.works.Work.{Work}
 use Rattle.std.specs.Prelude.{if◌then◌else◌, is_none, is_some, ◌==◌, not, ◌&&◌}
 use Rattle.sd_machine.specs.declared.states.CpuState.{CpuState}
 use Rattle.sd_machine.specs.declared.states.State.{State}
-use Rattle.sd_machine.specs.States.{no_cpu, thread_of, cpu_of}
+use Rattle.sd_machine.specs.States.{no_thread, no_cpu, thread_of, cpu_of}
 use Rattle.sd_full.specs.Threads.{runner}
 use Rattle.sd_full.specs.Changes.{with_body, finish_op, run_tick, set_duty, count_tick, put, put_where, close, join, bind, unbind}
 use Rattle.sd_full.specs.Dispatching.{class_counts, ticked, spun, idled}
@@ -34,12 +34,13 @@ use Rattle.std.specs.List.{range_with_len}
 use Rattle.sd_machine.specs.States.{with_cpu}
 use Rattle.std.proofs.lemmas.Bool.{cases_eq, cases_lt}
 use Rattle.std.proofs.lemmas.Bool.Decides.{nat_tests}
-use Rattle.sd_machine.specs.Opening.{first_cpu_state, opening}
+use Rattle.sd_types.specs.declared.works.ThreadDecl.{ThreadDecl}
+use Rattle.sd_machine.specs.Opening.{first_cpu_state, first_thread, first_threads, opening}
 use Rattle.sd_full.specs.Changes.{bind, unbind, put_where}
 use Rattle.sd_full.specs.Prioritising.{is_privileged, uid_of}
 use Rattle.sd_full.specs.SetChanges.{is_misbound, is_closing, bind_to, bind_put}
 use Rattle.sd_full.specs.Threads.{has_ended, set_of}
-use Rattle.sd_full.proofs.ShapeLemmas.{after_shape}
+use Rattle.sd_full.proofs.ShapeLemmas.{IsShaped, set_duty_shape, pbound_shape, after_shape}
 use Rattle.sd_chains.proofs.HolderLemmas.{count_same, count_more}
 use Rattle.sd_sound.proofs.Parts.{set_past}
 use Rattle.sd_sound.proofs.Words.{Same, then_same, set_duty_same, plain_same}
@@ -104,7 +105,7 @@ assigned_numbers w s t d to assign.EINVAL = C.finish_op_kept number_part number_
 assigned_numbers w s t d to assign.EBUSY = C.finish_op_kept number_part number_marks w s t
 
 -- no binding
-abbrev is_unbinding : Event → Bool
+abbrev pub is_unbinding : Event → Bool
 is_unbinding (Bind t u d answer) = false
 is_unbinding _ = true
 
@@ -168,7 +169,7 @@ granted_bound w s n c l u at (duty.Rouse k below) = granted_to_reader_bound w s 
 granted_bound w s n c l u at (duty.Age v) = granted_to_reader_bound w s n l u at
 granted_bound w s n c l u at duty.Nothing = granted_to_reader_bound w s n l u at
 
-threads_same : (w : Work) (s : State) (n : ℕ) (c : CpuId) (e : Event) → is_unbinding e ≡ true → Same bound_part s (after w s n c e)
+pub threads_same : (w : Work) (s : State) (n : ℕ) (c : CpuId) (e : Event) → is_unbinding e ≡ true → Same bound_part s (after w s n c e)
 unfolding after effect
 threads_same w s n c (Enter t l) quiet = bound_dropped w s n c (Enter t l) (owned_bound w _ t.0 l)
 threads_same w s n c (Read t l) quiet = bound_dropped w s n c (Read t l) (read_bound w _ t.0 l)
@@ -217,7 +218,7 @@ abbrev pub bound_threads : State → ℕ → ℕ
 bound_threads s d = H.counted (λ t. is_bound_at d (bound_part (thread_of s t))) (length s.threads)
 
 abbrev pub BoundHold : State → Type 0
-BoundHold s = (d : ℕ) → (cpu_of s d).bound ≤ bound_threads s d
+BoundHold s = (d : ℕ) → d < length s.cpus → (cpu_of s d).bound ≡ bound_threads s d
 
 same_threads : (s r : State) (d : ℕ) → length r.threads ≡ length s.threads → ((t : ℕ) → is_bound_at d (bound_part (thread_of r t)) ≡ is_bound_at d (bound_part (thread_of s t))) → bound_threads r d ≡ bound_threads s d
 same_threads s r d many same =
@@ -225,10 +226,11 @@ same_threads s r d many same =
     ∙ count_same (λ t. is_bound_at d (bound_part (thread_of s t))) (λ t. is_bound_at d (bound_part (thread_of r t))) (length s.threads) (λ t lt. same t)
 
 quiet_hold : (w : Work) (s : State) (n : ℕ) (c : CpuId) (e : Event) → is_unbinding e ≡ true → BoundHold s → BoundHold (after w s n c e)
-quiet_hold w s n c e quiet holds d =
+quiet_hold w s n c e quiet holds d inside =
+    let many : length (after w s n c e).cpus ≡ length s.cpus = (after_shape w s n c e).cpus in
     let numbers : (cpu_of (after w s n c e) d).bound ≡ (cpu_of s d).bound = (cpus_same w s n c e quiet).each d in
     let threads = same_threads s (after w s n c e) d (after_shape w s n c e).threads (λ t. ap (is_bound_at d) ((threads_same w s n c e quiet).each t)) in
-    let old = holds d in
+    let old = holds d (omega (arith, inside, many)) in
     omega (arith, numbers, threads, old)
 
 -- A binding.
@@ -237,12 +239,7 @@ quiet_hold w s n c e quiet holds d =
 data Wrote (s r : State) (c n d : ℕ) : Type 0 where
   here : d ≡ c → (cpu_of r d).bound ≡ n → Wrote s r c n d
   apart : d ≢ c → (cpu_of r d).bound ≡ (cpu_of s d).bound → Wrote s r c n d
-  past : (cpu_of r d).bound ≡ 0 → Wrote s r c n d
-
-past_end : (xs : List CpuState) (i : ℕ) → length xs ≤ i → number_part (get_or xs i no_cpu) ≡ 0
-past_end [] i h = refl
-past_end (x ∷ xs) zero h = absurd (omega arith)
-past_end (x ∷ xs) (suc i) h = past_end xs i (omega arith)
+  past : length s.cpus ≤ d → Wrote s r c n d
 
 wrote_number : (s : State) (c : ℕ) (x : CpuState) (d : ℕ) → Wrote s (with_cpu s c x) c x.bound d
 wrote_number s c x d = elim (cases_lt c (length s.cpus)) [
@@ -251,7 +248,7 @@ wrote_number s c x d = elim (cases_lt c (length s.cpus)) [
     | inr other ↦ apart other ((put_item number_part s.cpus no_cpu c x inside).others d other)
   ]
   | inr out ↦ elim (cases_eq d c) [
-    | inl is ↦ past (ap (λ xs. number_part (get_or xs d no_cpu)) (set_past s.cpus c x out) ∙ past_end s.cpus d (subst (λ i. length s.cpus ≤ i) (sym is) out))
+    | inl is ↦ past (subst (λ i. length s.cpus ≤ i) (sym is) out)
     | inr other ↦ apart other (ap (λ xs. number_part (get_or xs d no_cpu)) (set_past s.cpus c x out))
   ]
 ]
@@ -259,7 +256,7 @@ wrote_number s c x d = elim (cases_lt c (length s.cpus)) [
 wrote_then : (s r q : State) (c n d : ℕ) → Wrote s r c n d → SameNumbers r q → Wrote s q c n d
 wrote_then s r q c n d (here is at) same = here is (same.each d ∙ at)
 wrote_then s r q c n d (apart other at) same = apart other (same.each d ∙ at)
-wrote_then s r q c n d (past at) same = past (same.each d ∙ at)
+wrote_then s r q c n d (past out) same = past out
 
 bind_number : (s : State) (t : ℕ) (x : CpuId) (d : ℕ) → Wrote s (bind s t x) x.0 ((cpu_of s x.0).bound + 1) d
 unfolding bind
@@ -269,7 +266,7 @@ bind_number s t x d = by (wrote_number (with_body s t (record (thread_of s t).bo
         → Wrote s (with_cpu (with_body s t (record (thread_of s t).body { bound = Some x })) x.0 (record (cpu_of s x.0) { bound = (cpu_of s x.0).bound + 1 })) x.0 ((cpu_of s x.0).bound + 1) d
     by (here is at) = here is at
     by (apart other at) = apart other at
-    by (past at) = past at
+    by (past out) = past out
 
 unbind_number : (s : State) (t : ℕ) (x : CpuId) (d : ℕ) → Wrote s (unbind s t x) x.0 ((cpu_of s x.0).bound - 1) d
 unfolding unbind
@@ -279,7 +276,7 @@ unbind_number s t x d = by (wrote_number (with_body s t (record (thread_of s t).
         → Wrote s (with_cpu (with_body s t (record (thread_of s t).body { bound = None })) x.0 (record (cpu_of s x.0) { bound = (cpu_of s x.0).bound - 1 })) x.0 ((cpu_of s x.0).bound - 1) d
     by (here is at) = here is at
     by (apart other at) = apart other at
-    by (past at) = past at
+    by (past out) = past out
 
 -- a binding that is granted was asked of a thread that is not bound, and the end of one of a thread that is
 answered : (a b c d : Bool) (put at : Option Put)
@@ -362,46 +359,53 @@ changed_numbers : (w : Work) (s : State) (n t u : ℕ) (d b : Option CpuId) (at 
 unfolding pbound
 changed_numbers w s n t u d b at e = subst (λ o. SameNumbers (rebound s u d o) (finish_op w (put_where w (rebound s u d (thread_of s u).body.bound) n u at) t)) e (rest_numbers w (rebound s u d (thread_of s u).body.bound) n t u at)
 
-to_cpu : (w : Work) (s : State) (n t u : ℕ) (x : CpuId) (at : Option Put) → length (pbound w s n t u (Some x) (bind_answer.Changed at)).threads ≡ length s.threads → u < length s.threads → (thread_of s u).body.bound ≡ None → BoundHold s → BoundHold (pbound w s n t u (Some x) (bind_answer.Changed at))
-to_cpu w s n t u x at many inside free holds d =
+to_cpu : (w : Work) (s : State) (n t u : ℕ) (x : CpuId) (at : Option Put) → IsShaped s (pbound w s n t u (Some x) (bind_answer.Changed at)) → u < length s.threads → (thread_of s u).body.bound ≡ None → BoundHold s → BoundHold (pbound w s n t u (Some x) (bind_answer.Changed at))
+to_cpu w s n t u x at shape inside free holds d here_then =
     by (wrote_then s (bind s u x) (pbound w s n t u (Some x) (bind_answer.Changed at)) x.0 ((cpu_of s x.0).bound + 1) d (bind_number s u x d)
     (then_numbers (bind s u x) (rebound s u (Some x) (thread_of s u).body.bound) _ (C.called_back_kept number_part number_marks (bind s u x) x (thread_of s u).place) (changed_numbers w s n t u (Some x) (thread_of s u).body.bound at refl)))
-    (more_threads s (pbound w s n t u (Some x) (bind_answer.Changed at)) u x many inside (pbound_bound w s n t u (Some x) at inside) free d)
+    (more_threads s (pbound w s n t u (Some x) (bind_answer.Changed at)) u x shape.threads inside (pbound_bound w s n t u (Some x) at inside) free d)
   where
+    before : d < length s.cpus
+    before = let many : length (pbound w s n t u (Some x) (bind_answer.Changed at)).cpus ≡ length s.cpus = shape.cpus in omega (arith, here_then, many)
+
     by : Wrote s (pbound w s n t u (Some x) (bind_answer.Changed at)) x.0 ((cpu_of s x.0).bound + 1) d
         → ((d ≡ x.0) × (bound_threads (pbound w s n t u (Some x) (bind_answer.Changed at)) d ≡ suc (bound_threads s d))) ⊎ ((d ≢ x.0) × (bound_threads (pbound w s n t u (Some x) (bind_answer.Changed at)) d ≡ bound_threads s d))
-        → (cpu_of (pbound w s n t u (Some x) (bind_answer.Changed at)) d).bound ≤ bound_threads (pbound w s n t u (Some x) (bind_answer.Changed at)) d
+        → (cpu_of (pbound w s n t u (Some x) (bind_answer.Changed at)) d).bound ≡ bound_threads (pbound w s n t u (Some x) (bind_answer.Changed at)) d
     by (here is wrote) (inl (also, more)) =
         let same : (cpu_of s x.0).bound ≡ (cpu_of s d).bound = ap (λ e. (cpu_of s e).bound) (sym is) in
-        let old = holds d in
+        let old = holds d before in
         omega (arith, wrote, more, same, old)
     by (here is wrote) (inr (other, more)) = absurd (other is)
     by (apart other wrote) (inl (is, more)) = absurd (other is)
-    by (apart other wrote) (inr (also, more)) = let old = holds d in omega (arith, wrote, more, old)
-    by (past wrote) more = omega (arith, wrote)
+    by (apart other wrote) (inr (also, more)) = let old = holds d before in omega (arith, wrote, more, old)
+    by (past out) more = absurd (omega (arith, out, before))
 
-to_none : (w : Work) (s : State) (n t u : ℕ) (x : CpuId) (at : Option Put) → length (pbound w s n t u None (bind_answer.Changed at)).threads ≡ length s.threads → u < length s.threads → (thread_of s u).body.bound ≡ Some x → BoundHold s → BoundHold (pbound w s n t u None (bind_answer.Changed at))
-to_none w s n t u x at many inside was holds d =
+to_none : (w : Work) (s : State) (n t u : ℕ) (x : CpuId) (at : Option Put) → IsShaped s (pbound w s n t u None (bind_answer.Changed at)) → u < length s.threads → (thread_of s u).body.bound ≡ Some x → BoundHold s → BoundHold (pbound w s n t u None (bind_answer.Changed at))
+to_none w s n t u x at shape inside was holds d here_then =
     by (wrote_then s (unbind s u x) (pbound w s n t u None (bind_answer.Changed at)) x.0 ((cpu_of s x.0).bound - 1) d (unbind_number s u x d) (changed_numbers w s n t u None (Some x) at was))
-    (fewer_threads s (pbound w s n t u None (bind_answer.Changed at)) u x many inside (pbound_bound w s n t u None at inside) was d)
+    (fewer_threads s (pbound w s n t u None (bind_answer.Changed at)) u x shape.threads inside (pbound_bound w s n t u None at inside) was d)
   where
+    before : d < length s.cpus
+    before = let many : length (pbound w s n t u None (bind_answer.Changed at)).cpus ≡ length s.cpus = shape.cpus in omega (arith, here_then, many)
+
     by : Wrote s (pbound w s n t u None (bind_answer.Changed at)) x.0 ((cpu_of s x.0).bound - 1) d
         → ((d ≡ x.0) × (bound_threads s d ≡ suc (bound_threads (pbound w s n t u None (bind_answer.Changed at)) d))) ⊎ ((d ≢ x.0) × (bound_threads (pbound w s n t u None (bind_answer.Changed at)) d ≡ bound_threads s d))
-        → (cpu_of (pbound w s n t u None (bind_answer.Changed at)) d).bound ≤ bound_threads (pbound w s n t u None (bind_answer.Changed at)) d
+        → (cpu_of (pbound w s n t u None (bind_answer.Changed at)) d).bound ≡ bound_threads (pbound w s n t u None (bind_answer.Changed at)) d
     by (here is wrote) (inl (also, less)) =
         let same : (cpu_of s x.0).bound ≡ (cpu_of s d).bound = ap (λ e. (cpu_of s e).bound) (sym is) in
-        let old = holds d in
+        let old = holds d before in
         omega (arith, wrote, less, same, old)
     by (here is wrote) (inr (other, less)) = absurd (other is)
     by (apart other wrote) (inl (is, less)) = absurd (other is)
-    by (apart other wrote) (inr (also, less)) = let old = holds d in omega (arith, wrote, less, old)
-    by (past wrote) less = omega (arith, wrote)
+    by (apart other wrote) (inr (also, less)) = let old = holds d before in omega (arith, wrote, less, old)
+    by (past out) less = absurd (omega (arith, out, before))
 
-refused_hold : (s r : State) → length r.threads ≡ length s.threads → SameNumbers s r → Same bound_part s r → BoundHold s → BoundHold r
-refused_hold s r many numbers threads holds d =
+refused_hold : (s r : State) → IsShaped s r → SameNumbers s r → Same bound_part s r → BoundHold s → BoundHold r
+refused_hold s r shape numbers threads holds d inside =
+    let many : length r.cpus ≡ length s.cpus = shape.cpus in
     let a : (cpu_of r d).bound ≡ (cpu_of s d).bound = numbers.each d in
-    let b = same_threads s r d many (λ t. ap (is_bound_at d) (threads.each t)) in
-    let old = holds d in
+    let b = same_threads s r d shape.threads (λ t. ap (is_bound_at d) (threads.each t)) in
+    let old = holds d (omega (arith, inside, many)) in
     omega (arith, a, b, old)
 
 abbrev is_refusal : BindAnswer → Bool
@@ -420,25 +424,25 @@ drop_set : (s : State) (c : ℕ) (e : Event) (x : ℕ) → (cpu_of (drop_ageing 
 unfolding drop_ageing set_duty
 drop_set s c e x = same_item (λ (y : CpuState). y.set) s.cpus no_cpu c (record (cpu_of s c) { duty = dropped_duty e (cpu_of s c).duty }) refl x
 
-bound_after : (w : Work) (s0 : State) (n t u : ℕ) (d : Option CpuId) (answer : BindAnswer) → length (pbound w s0 n t u d answer).threads ≡ length s0.threads → u < length s0.threads
+bound_after : (w : Work) (s0 : State) (n t u : ℕ) (d : Option CpuId) (answer : BindAnswer) → IsShaped s0 (pbound w s0 n t u d answer) → u < length s0.threads
     → ((at : Option Put) → answer ≡ bind_answer.Changed at → is_misbound w s0 u (thread_of s0 u).body.bound d ≡ false) → BoundHold s0 → BoundHold (pbound w s0 n t u d answer)
-bound_after w s0 n t u (Some x) (bind_answer.Changed at) many inside fits holds =
-    to_cpu w s0 n t u x at many inside (not_bound (thread_of s0 u).body.bound (not ((cpu_of s0 x.0).set.0 == (set_of w u).0)) (fits at refl)) holds
-bound_after w s0 n t u None (bind_answer.Changed at) many inside fits holds =
-    let (x, was) = is_some_of (thread_of s0 u).body.bound (fits at refl) in to_none w s0 n t u x at many inside was holds
-bound_after w s0 n t u d bind_answer.ESRCH many inside fits holds = refused_hold s0 _ many (refused_by w s0 n t u d bind_answer.ESRCH refl) (refused_bound w s0 n t u d bind_answer.ESRCH (λ at e. cc)) holds
-bound_after w s0 n t u d bind_answer.EINVAL many inside fits holds = refused_hold s0 _ many (refused_by w s0 n t u d bind_answer.EINVAL refl) (refused_bound w s0 n t u d bind_answer.EINVAL (λ at e. cc)) holds
-bound_after w s0 n t u d bind_answer.EPERM many inside fits holds = refused_hold s0 _ many (refused_by w s0 n t u d bind_answer.EPERM refl) (refused_bound w s0 n t u d bind_answer.EPERM (λ at e. cc)) holds
-bound_after w s0 n t u d bind_answer.EBUSY many inside fits holds = refused_hold s0 _ many (refused_by w s0 n t u d bind_answer.EBUSY refl) (refused_bound w s0 n t u d bind_answer.EBUSY (λ at e. cc)) holds
+bound_after w s0 n t u (Some x) (bind_answer.Changed at) shape inside fits holds =
+    to_cpu w s0 n t u x at shape inside (not_bound (thread_of s0 u).body.bound (not ((cpu_of s0 x.0).set.0 == (set_of w u).0)) (fits at refl)) holds
+bound_after w s0 n t u None (bind_answer.Changed at) shape inside fits holds =
+    let (x, was) = is_some_of (thread_of s0 u).body.bound (fits at refl) in to_none w s0 n t u x at shape inside was holds
+bound_after w s0 n t u d bind_answer.ESRCH shape inside fits holds = refused_hold s0 _ shape (refused_by w s0 n t u d bind_answer.ESRCH refl) (refused_bound w s0 n t u d bind_answer.ESRCH (λ at e. cc)) holds
+bound_after w s0 n t u d bind_answer.EINVAL shape inside fits holds = refused_hold s0 _ shape (refused_by w s0 n t u d bind_answer.EINVAL refl) (refused_bound w s0 n t u d bind_answer.EINVAL (λ at e. cc)) holds
+bound_after w s0 n t u d bind_answer.EPERM shape inside fits holds = refused_hold s0 _ shape (refused_by w s0 n t u d bind_answer.EPERM refl) (refused_bound w s0 n t u d bind_answer.EPERM (λ at e. cc)) holds
+bound_after w s0 n t u d bind_answer.EBUSY shape inside fits holds = refused_hold s0 _ shape (refused_by w s0 n t u d bind_answer.EBUSY refl) (refused_bound w s0 n t u d bind_answer.EBUSY (λ at e. cc)) holds
 
 drop_hold : (s : State) (c : ℕ) (e : Event) → BoundHold s → BoundHold (drop_ageing s c e)
 unfolding drop_ageing set_duty
-drop_hold s c e holds = refused_hold s (drop_ageing s c e) refl (drop_keeps number_part numbers_plain s c e) (record { each = λ u. refl }) holds
+drop_hold s c e holds = refused_hold s (drop_ageing s c e) (set_duty_shape s c (dropped_duty e (cpu_of s c).duty)) (drop_keeps number_part numbers_plain s c e) (record { each = λ u. refl }) holds
 
 pub bound_kept : (w : Work) (s : State) (n : ℕ) (c : CpuId) (e : Event) → IsReady w s → IsCause w s c.0 e → BoundHold s → BoundHold (after w s n c e)
 unfolding after effect drop_ageing set_duty
 bound_kept w s n c (Bind t u d answer) ready cause holds =
-    bound_after w (drop_ageing s c.0 (Bind t u d answer)) n t.0 u.0 d answer (after_shape w s n c (Bind t u d answer)).threads (bind_thread w s c.0 t.0 u d ready.fits cause.0)
+    bound_after w (drop_ageing s c.0 (Bind t u d answer)) n t.0 u.0 d answer (pbound_shape w (drop_ageing s c.0 (Bind t u d answer)) n t.0 u.0 d answer) (bind_thread w s c.0 t.0 u d ready.fits cause.0)
     (λ at e. dropped_misbound at (granted_binding w s t.0 u.0 d at (sym e ∙ cause.1))) (drop_hold s c.0 (Bind t u d answer) holds)
   where
     dropped_misbound : (at : Option Put) → is_misbound w s u.0 (thread_of s u.0).body.bound d ≡ false → is_misbound w (drop_ageing s c.0 (Bind t u d answer)) u.0 (thread_of s u.0).body.bound d ≡ false
@@ -490,9 +494,21 @@ first_number w [] c = refl
 first_number w (n ∷ ns) zero = refl
 first_number w (n ∷ ns) (suc c) = first_number w ns c
 
+pub first_free : (w : Work) (k : ℕ) (ds : List ThreadDecl) (t : ℕ) → bound_part (get_or (first_threads w k ds) t no_thread) ≡ None
+unfolding first_thread
+first_free w k [] t = refl
+first_free w k (d ∷ ds) zero = refl
+first_free w k (d ∷ ds) (suc t) = first_free w (k + 1) ds t
+
+none_counted : (f : ℕ → Bool) (k : ℕ) → ((t : ℕ) → f t ≡ false) → H.counted f k ≡ 0
+none_counted f zero none = refl
+none_counted f (suc k) none = rw (none k) (none_counted f k none)
+
 opening_bound : (w : Work) → BoundHold (opening w)
 unfolding opening
-opening_bound w d = let none = first_number w (range_with_len 0 w.cpus) d in omega arith
+opening_bound w d inside =
+    first_number w (range_with_len 0 w.cpus) d
+    ∙ sym (none_counted (λ t. is_bound_at d (bound_part (thread_of (opening w) t))) (length (opening w).threads) (λ t. ap (is_bound_at d) (first_free w 0 w.threads t)))
 
 pub bound_is_kept : IsKept (λ w n s. BoundHold s)
 bound_is_kept = record { start = opening_bound; step = bound_kept }

@@ -169,7 +169,7 @@ answered false false true d put at e = cc
 answered false false false true put at e = cc
 answered false false false false put at e = cc
 
-bind_put_is : (w : Work) (s : State) (t u : ℕ) (d : Option CpuId) (at : Option Put) → bind_to w s t u d ≡ bind_answer.Changed at → bind_put s u d ≡ at
+pub bind_put_is : (w : Work) (s : State) (t u : ℕ) (d : Option CpuId) (at : Option Put) → bind_to w s t u d ≡ bind_answer.Changed at → bind_put s u d ≡ at
 unfolding bind_to
 bind_put_is w s t u d at e =
     answered (has_ended (thread_of s u).place) (is_misbound w s u (thread_of s u).body.bound d) (not (is_privileged w t) && not (uid_of w t == uid_of w u)) (is_closing s d) (bind_put s u d) at e

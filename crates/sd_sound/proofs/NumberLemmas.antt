@@ -155,7 +155,7 @@ AreFine s = (t : ℕ) → IsFine (thread_of s t)
 pub fine_eff : (x : ThreadState) → IsFine x → eff x.body < 160
 fine_eff x fine = greatest-below (base_of x.body.class) 160 x.body.willed.items fine.base fine.sound.below
 
-waiting_below : (l : ℕ) (xs : List ThreadState) → ((k : ℕ) → eff (get_or xs k no_thread).body < 160) → (n : ℕ) → greatest_waiting l xs ≡ Some n → n < 160
+pub waiting_below : (l : ℕ) (xs : List ThreadState) → ((k : ℕ) → eff (get_or xs k no_thread).body < 160) → (n : ℕ) → greatest_waiting l xs ≡ Some n → n < 160
 unfolding greatest_waiting
 waiting_below l [] each n e = cc
 waiting_below l (x ∷ xs) each n e = by (λ m. waiting_below l xs (λ k. each (suc k)) m) (is_waiting l x.place) (greatest_waiting l xs) refl e
@@ -172,7 +172,7 @@ waiting_below l (x ∷ xs) each n e = by (λ m. waiting_below l xs (λ k. each (
         let same : max (eff x.body) m ≡ n = same_Some (max (eff x.body) m) n is in
         omega (arith, here, rest, same)
 
-others_below : (s : State) (l : LockId) (u n : ℕ) → AreFine s → others_waiting s l u ≡ Some n → n < 160
+pub others_below : (s : State) (l : LockId) (u n : ℕ) → AreFine s → others_waiting s l u ≡ Some n → n < 160
 others_below s l u n fine e =
     waiting_below l.0 (set s.threads u (record (thread_of s u) { place = Ended }))
     (λ k. subst (λ (b : ThreadBody). eff b < 160) (sym (same_item (λ (x : ThreadState). x.body) s.threads no_thread u (record (thread_of s u) { place = Ended }) refl k)) (fine_eff (thread_of s k) (fine k))) n e

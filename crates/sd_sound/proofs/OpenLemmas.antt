@@ -150,16 +150,16 @@ with_length c (x ∷ xs) = by (nat_lt c.0 x.0) (with_length c xs)
 
 -- Sets and closing.
 
-abbrev place_part : CpuState → SetId × Option SetId
+abbrev pub place_part : CpuState → SetId × Option SetId
 place_part x = (x.set, x.closing)
 
-place_marks : C.Markless place_part
+pub place_marks : C.Markless place_part
 place_marks = record { marks = λ x u k. refl }
 
-places_plain : Plain place_part
+pub places_plain : Plain place_part
 places_plain = record { marks = place_marks; duty = λ x d. refl }
 
-abbrev SamePlaces : State → State → Type 0
+abbrev pub SamePlaces : State → State → Type 0
 SamePlaces s r = C.Kept place_part s r
 
 then_places : (s r q : State) → SamePlaces s r → SamePlaces r q → SamePlaces s q
@@ -208,7 +208,7 @@ pbound_places w s n t u d bind_answer.EPERM = C.finish_op_kept place_part place_
 pbound_places w s n t u d bind_answer.EBUSY = C.finish_op_kept place_part place_marks w s t
 
 -- no change of the sets
-abbrev is_setless : Event → Bool
+abbrev pub is_setless : Event → Bool
 is_setless (Assign t d to answer) = false
 is_setless (Joined to) = false
 is_setless _ = true
@@ -216,7 +216,7 @@ is_setless _ = true
 from_dropped : (w : Work) (s : State) (n : ℕ) (c : CpuId) (e : Event) → SamePlaces (drop_ageing s c.0 e) (after w s n c e) → SamePlaces s (after w s n c e)
 from_dropped w s n c e a = then_places s (drop_ageing s c.0 e) _ (drop_keeps place_part places_plain s c.0 e) a
 
-cpus_same : (w : Work) (s : State) (n : ℕ) (c : CpuId) (e : Event) → is_setless e ≡ true → SamePlaces s (after w s n c e)
+pub cpus_same : (w : Work) (s : State) (n : ℕ) (c : CpuId) (e : Event) → is_setless e ≡ true → SamePlaces s (after w s n c e)
 unfolding after effect
 cpus_same w s n c (Tick t) quiet = from_dropped w s n c (Tick t) (ticked_places w _ c.0 t.0)
 cpus_same w s n c (Spin t l) quiet = from_dropped w s n c (Spin t l) (spun_places w _ c.0 t.0)
@@ -257,10 +257,10 @@ cpus_same w s n c (Move t at) quiet = plain_keeps place_part places_plain w s n 
 
 -- Open lists.
 
-abbrev open_field : State → List (ArrayVec CpuId)
+abbrev pub open_field : State → List (ArrayVec CpuId)
 open_field s = s.open_cpus
 
-finish_open : (w : Work) (s : State) (t : ℕ) → (finish_op w s t).open_cpus ≡ s.open_cpus
+pub finish_open : (w : Work) (s : State) (t : ℕ) → (finish_op w s t).open_cpus ≡ s.open_cpus
 unfolding finish_op
 finish_open w s t = refl
 
@@ -272,7 +272,7 @@ counted_open : (w : Work) (s : State) (t : ℕ) (k : ChanId) → (sema_counted w
 unfolding sema_counted
 counted_open w s t k = finish_open w (with_count s k.0 (count_of s k.0 + 1)) t
 
-open_same : (w : Work) (s : State) (n : ℕ) (c : CpuId) (e : Event) → is_setless e ≡ true → (after w s n c e).open_cpus ≡ s.open_cpus
+pub open_same : (w : Work) (s : State) (n : ℕ) (c : CpuId) (e : Event) → is_setless e ≡ true → (after w s n c e).open_cpus ≡ s.open_cpus
 unfolding after effect drop_ageing set_duty
 open_same w s n c (SemaP t k) quiet = taken_open w (drop_ageing s c.0 (SemaP t k)) t.0 k
 open_same w s n c (SemaVCount t k m) quiet = counted_open w (drop_ageing s c.0 (SemaVCount t k m)) t.0 k
@@ -339,7 +339,7 @@ wrote_list s p cpus q = elim (cases_lt p (length s.open_cpus)) [
     empty (x ∷ xs) (suc i) h = empty xs i (omega arith)
 
 -- another processor's part is as it was
-other_place : (s : State) (c : ℕ) (x : CpuState) (d : ℕ) → d ≢ c → place_part (cpu_of (with_cpu s c x) d) ≡ place_part (cpu_of s d)
+pub other_place : (s : State) (c : ℕ) (x : CpuState) (d : ℕ) → d ≢ c → place_part (cpu_of (with_cpu s c x) d) ≡ place_part (cpu_of s d)
 other_place s c x d other = elim (cases_lt c (length s.cpus)) [
   | inl here ↦ (put_item place_part s.cpus no_cpu c x here).others d other
   | inr past ↦ ap (λ (xs : List CpuState). place_part (get_or xs d no_cpu)) (set_past s.cpus c x past)
@@ -386,7 +386,7 @@ close_hold w s d to holds = record { member = member; rising = rising }
     ]
 
 -- a closing processor is there, and in no open list
-closing_inside : (s : State) (c : ℕ) (to : SetId) → (cpu_of s c).closing ≡ Some to → c < length s.cpus
+pub closing_inside : (s : State) (c : ℕ) (to : SetId) → (cpu_of s c).closing ≡ Some to → c < length s.cpus
 closing_inside s c to e = elim (cases_lt c (length s.cpus)) [
   | inl here ↦ here
   | inr past ↦ absurd (none_some to (sym (gone s.cpus c past) ∙ e))

@@ -1,7 +1,9 @@
 -- What `Possible` asks of a state and of an event holds in every state of every run.
 use Rattle.std.proofs.Common.{◌≡◌, ℕ, zero, suc, ◌+◌, ◌*◌, ◌<◌, ◌≤◌, ◌^◌, Bool, true, false, not, List, [], ◌∷◌, ◌++◌, length, take, Option, Some, None, refl, sym, ap, subst, arith, inl, inr}
 use Rattle.std.specs.Prelude.{slice_get, option_map, unwrap_or, nat_lt, nat_le, if◌then◌else◌, ℤ}
+use Rattle.std.proofs.lemmas.Bool.{cases_lt}
 use Rattle.std.proofs.lemmas.Bool.Decides.{nat_tests}
+use Rattle.std.proofs.lemmas.List.{get_or_past}
 use Rattle.sd_types.specs.declared.numbers.CpuId.{CpuId}
 use Rattle.sd_types.specs.declared.numbers.LockId.{LockId}
 use Rattle.sd_types.specs.declared.numbers.ThreadId.{ThreadId}
@@ -22,8 +24,9 @@ use Rattle.sd_types.specs.Scripts.{is_lock, is_held, held_by, held_after, withou
 use Rattle.sd_types.specs.Works.{span_fits}
 use Rattle.sd_types.proofs.WilledLemmas.{sound-taken, room}
 use Rattle.sd_machine.specs.declared.states.LockState.TheVariants.{Owned, ReadHeld, Passing}
+use Rattle.sd_machine.specs.declared.states.CpuState.{CpuState}
 use Rattle.sd_machine.specs.declared.states.State.{State}
-use Rattle.sd_machine.specs.States.{thread_of, cpu_of}
+use Rattle.sd_machine.specs.States.{thread_of, cpu_of, no_cpu}
 use Rattle.sd_machine.specs.Operations.{script_of, op_of}
 use Rattle.sd_full.specs.Threads.{lock_of, best_waiter}
 use Rattle.sd_full.specs.Sleeping.{nap_ticks}
@@ -248,11 +251,14 @@ module _ (w : Work) (s : State) (whole : IsWhole w s) where
 
     binds : (d : Option CpuId) (answer : BindAnswer) → CanBind s d answer
     binds None answer = tt
-    binds (Some d) (bind.Changed at) =
-        let a = whole.bound d.0 in
-        let b = counted_most (λ t. is_bound_at d.0 (bound_part (thread_of s t))) (length s.threads) in
-        let many = threads_most in
-        omega (arith, a, b, many)
+    binds (Some d) (bind.Changed at) = elim (cases_lt d.0 (length s.cpus)) [
+      | inl here ↦
+          let a = whole.bound d.0 here in
+          let b = counted_most (λ t. is_bound_at d.0 (bound_part (thread_of s t))) (length s.threads) in
+          let many = threads_most in
+          omega (arith, a, b, many)
+      | inr past ↦ let none : (cpu_of s d.0).bound ≡ 0 = ap (λ (x : CpuState). x.bound) (get_or_past s.cpus d.0 no_cpu past) in omega (arith, none)
+    ]
     binds (Some d) bind.ESRCH = tt
     binds (Some d) bind.EINVAL = tt
     binds (Some d) bind.EPERM = tt

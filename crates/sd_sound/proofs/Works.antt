@@ -31,7 +31,7 @@ pub not_true : (a : Bool) → not a ≡ true → a ≡ false
 not_true true e = cc
 not_true false e = refl
 
-all_at : {X : Type 0} (p : X → Bool) (xs : List X) (i : ℕ) (x : X) → list_all p xs ≡ true → slice_get xs i ≡ Some x → p x ≡ true
+pub all_at : {X : Type 0} (p : X → Bool) (xs : List X) (i : ℕ) (x : X) → list_all p xs ≡ true → slice_get xs i ≡ Some x → p x ≡ true
 all_at p [] i x all e = cc
 all_at p (y ∷ ys) zero x all e = let is : y ≡ x = cc in subst (λ z. p z ≡ true) is (left (p y) _ all)
   where

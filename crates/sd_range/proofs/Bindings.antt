@@ -1,0 +1,109 @@
+-- The processor to which a thread is bound is there, and counts the threads that are bound to it.
+use Rattle.std.proofs.Common.{◌≡◌, ℕ, ◌<◌, length, Option, Some, None, refl, sym, ◌∙◌, subst, inl, inr, arith}
+use Rattle.sd_types.specs.declared.numbers.CpuId.{CpuId}
+use Rattle.sd_types.specs.declared.events.BindAnswer.{BindAnswer}
+use Rattle.sd_types.specs.declared.events.BindAnswer.TheVariants as bind_answer
+use Rattle.sd_types.specs.declared.events.Event.{Event}
+use Rattle.sd_types.specs.declared.events.Event.TheVariants.{Tick, Spin, Idle, Dispatch, Steal, Preempt, Yield, Done, Nap, Napend, Sleep, Wake, Wakeall, Rouse, Enter, Read, Write, Block, Will, End as WalkEnd, Exit, Unblock, Grant, Passed, Age, Prio, CvWait, SemaP, SemaWait, SemaVWake, SemaVCount, Assign, Move, Joined, Bind, Away}
+use Rattle.sd_types.specs.declared.scripts.Op.TheVariants as op
+use Rattle.sd_types.specs.declared.works.Work.{Work}
+use Rattle.sd_chains.proofs.HolderLemmas.{count_same}
+use Rattle.sd_chains.proofs.Moves.{put_cases}
+use Rattle.sd_machine.specs.declared.states.State.{State}
+use Rattle.sd_machine.specs.States.{thread_of}
+use Rattle.sd_machine.specs.Opening.{opening}
+use Rattle.sd_full.specs.Shapes.{FitsFully}
+use Rattle.sd_full.specs.Changes.{set_duty}
+use Rattle.sd_full.specs.Requeueing.{is_bound_to}
+use Rattle.sd_full.specs.SetChanges.{pbound}
+use Rattle.sd_full.specs.Events.{drop_ageing, effect, after}
+use Rattle.sd_sound.specs.Causes.{IsCause}
+use Rattle.sd_sound.specs.Laws.{HoldsWhenReached}
+use Rattle.sd_sound.proofs.Words.{Same}
+use Rattle.sd_sound.proofs.HoldTable.{bound_part, Goes, pbound_bound, refused_bound}
+use Rattle.sd_sound.proofs.BoundLemmas.{threads_same, is_bound_at, first_free}
+use Rattle.sd_sound.proofs.Movers.{bind_thread}
+use Rattle.sd_sound.proofs.Whole.{reached_whole}
+use Rattle.sd_range.specs.There.{IsBoundThere, BoundAreCounted}
+use Rattle.sd_range.proofs.Induction.{held_reached}
+use Rattle.sd_range.proofs.Named.{acts_named, bind_cpu}
+
+abbrev pub BoundsAreThere : Work → State → Type 0
+BoundsAreThere w s = (t : ℕ) → IsBoundThere w (thread_of s t).body.bound
+
+same_bounds : (w : Work) (s r : State) → Same bound_part s r → BoundsAreThere w s → BoundsAreThere w r
+same_bounds w s r same there t = subst (λ b. IsBoundThere w b) (sym (same.each t)) (there t)
+
+put_bounds : (w : Work) (s r : State) (u : ℕ) (d : Option CpuId) → Goes bound_part s r u d → IsBoundThere w d → BoundsAreThere w s → BoundsAreThere w r
+put_bounds w s r u d goes is there t = elim (put_cases u d _ _ goes.put t) [
+  | inl me ↦ subst (λ b. IsBoundThere w b) (sym me.1) is
+  | inr other ↦ subst (λ b. IsBoundThere w b) (sym other.1) (there t)
+]
+
+pbound_bounds : (w : Work) (s : State) (n t u : ℕ) (d : Option CpuId) (answer : BindAnswer) → u < length s.threads → IsBoundThere w d → BoundsAreThere w s → BoundsAreThere w (pbound w s n t u d answer)
+pbound_bounds w s n t u d (bind_answer.Changed at) inside is there = put_bounds w s _ u d (pbound_bound w s n t u d at inside) is there
+pbound_bounds w s n t u d bind_answer.ESRCH inside is there = same_bounds w s _ (refused_bound w s n t u d bind_answer.ESRCH (λ at e. cc)) there
+pbound_bounds w s n t u d bind_answer.EINVAL inside is there = same_bounds w s _ (refused_bound w s n t u d bind_answer.EINVAL (λ at e. cc)) there
+pbound_bounds w s n t u d bind_answer.EPERM inside is there = same_bounds w s _ (refused_bound w s n t u d bind_answer.EPERM (λ at e. cc)) there
+pbound_bounds w s n t u d bind_answer.EBUSY inside is there = same_bounds w s _ (refused_bound w s n t u d bind_answer.EBUSY (λ at e. cc)) there
+
+bounds_kept : (w : Work) (s : State) (n : ℕ) (c : CpuId) (e : Event) → FitsFully w s → IsCause w s c.0 e → BoundsAreThere w s → BoundsAreThere w (after w s n c e)
+unfolding after effect drop_ageing set_duty
+bounds_kept w s n c (Bind t u d answer) fits cause there =
+    pbound_bounds w (drop_ageing s c.0 (Bind t u d answer)) n t.0 u.0 d answer (bind_thread w s c.0 t.0 u d fits cause.0) (bind_cpu w u d (acts_named w s c.0 t.0 (op.Pbind u d) cause.0)) there
+bounds_kept w s n c (Tick t) fits cause there = same_bounds w s (after w s n c (Tick t)) (threads_same w s n c (Tick t) refl) there
+bounds_kept w s n c (Spin t l) fits cause there = same_bounds w s (after w s n c (Spin t l)) (threads_same w s n c (Spin t l) refl) there
+bounds_kept w s n c Idle fits cause there = same_bounds w s (after w s n c Idle) (threads_same w s n c Idle refl) there
+bounds_kept w s n c (Dispatch t p) fits cause there = same_bounds w s (after w s n c (Dispatch t p)) (threads_same w s n c (Dispatch t p) refl) there
+bounds_kept w s n c (Steal v t p) fits cause there = same_bounds w s (after w s n c (Steal v t p)) (threads_same w s n c (Steal v t p) refl) there
+bounds_kept w s n c (Preempt t end) fits cause there = same_bounds w s (after w s n c (Preempt t end)) (threads_same w s n c (Preempt t end) refl) there
+bounds_kept w s n c (Away t d) fits cause there = same_bounds w s (after w s n c (Away t d)) (threads_same w s n c (Away t d) refl) there
+bounds_kept w s n c (Yield t) fits cause there = same_bounds w s (after w s n c (Yield t)) (threads_same w s n c (Yield t) refl) there
+bounds_kept w s n c (Done t) fits cause there = same_bounds w s (after w s n c (Done t)) (threads_same w s n c (Done t) refl) there
+bounds_kept w s n c (Nap t) fits cause there = same_bounds w s (after w s n c (Nap t)) (threads_same w s n c (Nap t) refl) there
+bounds_kept w s n c (Napend t at) fits cause there = same_bounds w s (after w s n c (Napend t at)) (threads_same w s n c (Napend t at) refl) there
+bounds_kept w s n c (Sleep t j) fits cause there = same_bounds w s (after w s n c (Sleep t j)) (threads_same w s n c (Sleep t j) refl) there
+bounds_kept w s n c (Wake t j u) fits cause there = same_bounds w s (after w s n c (Wake t j u)) (threads_same w s n c (Wake t j u) refl) there
+bounds_kept w s n c (Wakeall t j) fits cause there = same_bounds w s (after w s n c (Wakeall t j)) (threads_same w s n c (Wakeall t j) refl) there
+bounds_kept w s n c (Rouse j u) fits cause there = same_bounds w s (after w s n c (Rouse j u)) (threads_same w s n c (Rouse j u) refl) there
+bounds_kept w s n c (Enter t l) fits cause there = same_bounds w s (after w s n c (Enter t l)) (threads_same w s n c (Enter t l) refl) there
+bounds_kept w s n c (Read t l) fits cause there = same_bounds w s (after w s n c (Read t l)) (threads_same w s n c (Read t l) refl) there
+bounds_kept w s n c (Write t l) fits cause there = same_bounds w s (after w s n c (Write t l)) (threads_same w s n c (Write t l) refl) there
+bounds_kept w s n c (Block t l) fits cause there = same_bounds w s (after w s n c (Block t l)) (threads_same w s n c (Block t l) refl) there
+bounds_kept w s n c (Will l o p at) fits cause there = same_bounds w s (after w s n c (Will l o p at)) (threads_same w s n c (Will l o p at) refl) there
+bounds_kept w s n c (WalkEnd l) fits cause there = same_bounds w s (after w s n c (WalkEnd l)) (threads_same w s n c (WalkEnd l) refl) there
+bounds_kept w s n c (Exit t l) fits cause there = same_bounds w s (after w s n c (Exit t l)) (threads_same w s n c (Exit t l) refl) there
+bounds_kept w s n c (Unblock l u at) fits cause there = same_bounds w s (after w s n c (Unblock l u at)) (threads_same w s n c (Unblock l u at) refl) there
+bounds_kept w s n c (Grant l u at) fits cause there = same_bounds w s (after w s n c (Grant l u at)) (threads_same w s n c (Grant l u at) refl) there
+bounds_kept w s n c (Passed l) fits cause there = same_bounds w s (after w s n c (Passed l)) (threads_same w s n c (Passed l) refl) there
+bounds_kept w s n c (Age t p) fits cause there = same_bounds w s (after w s n c (Age t p)) (threads_same w s n c (Age t p) refl) there
+bounds_kept w s n c (Prio t u answer) fits cause there = same_bounds w s (after w s n c (Prio t u answer)) (threads_same w s n c (Prio t u answer) refl) there
+bounds_kept w s n c (CvWait t j l) fits cause there = same_bounds w s (after w s n c (CvWait t j l)) (threads_same w s n c (CvWait t j l) refl) there
+bounds_kept w s n c (SemaP t j) fits cause there = same_bounds w s (after w s n c (SemaP t j)) (threads_same w s n c (SemaP t j) refl) there
+bounds_kept w s n c (SemaWait t j) fits cause there = same_bounds w s (after w s n c (SemaWait t j)) (threads_same w s n c (SemaWait t j) refl) there
+bounds_kept w s n c (SemaVWake t j u at) fits cause there = same_bounds w s (after w s n c (SemaVWake t j u at)) (threads_same w s n c (SemaVWake t j u at) refl) there
+bounds_kept w s n c (SemaVCount t j m) fits cause there = same_bounds w s (after w s n c (SemaVCount t j m)) (threads_same w s n c (SemaVCount t j m) refl) there
+bounds_kept w s n c (Assign t d to answer) fits cause there = same_bounds w s (after w s n c (Assign t d to answer)) (threads_same w s n c (Assign t d to answer) refl) there
+bounds_kept w s n c (Move t at) fits cause there = same_bounds w s (after w s n c (Move t at)) (threads_same w s n c (Move t at) refl) there
+bounds_kept w s n c (Joined to) fits cause there = same_bounds w s (after w s n c (Joined to)) (threads_same w s n c (Joined to) refl) there
+
+opening_bounds : (w : Work) → BoundsAreThere w (opening w)
+unfolding opening
+opening_bounds w t = subst (λ b. IsBoundThere w b) (sym (first_free w 0 w.threads t)) tt
+
+pub bounds_are_there : HoldsWhenReached BoundsAreThere
+bounds_are_there = held_reached BoundsAreThere (record {
+  start = opening_bounds;
+  step = λ w s n c e reached here cause there. bounds_kept w s n c e (reached_whole w n s reached).ready.fits cause there;
+})
+
+same_test : (d : CpuId) (b : Option CpuId) → is_bound_to d b ≡ is_bound_at d.0 b
+same_test d None = refl
+same_test d (Some e) = refl
+
+pub bound_are_counted : HoldsWhenReached BoundAreCounted
+bound_are_counted w n s reached d inside =
+    let whole = reached_whole w n s reached in
+    let many : length s.cpus ≡ w.cpus = whole.ready.fits.cpus in
+    whole.bound d.0 (omega (arith, inside, many))
+    ∙ sym (count_same (λ t. is_bound_at d.0 (bound_part (thread_of s t))) (λ t. is_bound_to d (thread_of s t).body.bound) (length s.threads) (λ t lt. same_test d (thread_of s t).body.bound))

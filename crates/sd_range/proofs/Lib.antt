@@ -1,0 +1,10 @@
+pub mod All
+pub mod Bindings
+pub mod Complete
+pub mod Duties
+pub mod Induction
+pub mod Lasts
+pub mod Named
+pub mod Places
+pub mod Range
+pub mod Sets
