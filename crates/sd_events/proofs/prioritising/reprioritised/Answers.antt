@@ -20,7 +20,7 @@ pub finish_op-requires-clause-inside : goal.finish_op-requires-clause-inside
 finish_op-requires-clause-inside c = elim c.match-answer.branch [
   | in-Changed x ↦
       let same = ap (λ (r : State). length r.threads) (x.s-is ∙ x.changed_on.ensures)
-          ∙ (changed_on_shape c.args.work.now c.args.s.now c.args.number c.args.c c.args.t.0 c.args.u x.in-Changed.at x.op_of-op.result).threads in
+      ∙ (changed_on_shape c.args.work.now c.args.s.now c.args.number c.args.c c.args.t.0 c.args.u x.in-Changed.at x.op_of-op.result).threads in
       subst (λ m. c.args.t.0 < m) (sym same) c.requires.thread
   | in_default x ↦ subst (λ (r : State). c.args.t.0 < length r.threads) (sym x.s-is) c.requires.thread
 ]
@@ -29,7 +29,7 @@ pub finish_op-requires-clause-op : goal.finish_op-requires-clause-op
 finish_op-requires-clause-op c = elim c.match-answer.branch [
   | in-Changed x ↦
       let same = ap (λ (r : State). (thread_of r c.args.t.0).body.op) (x.s-is ∙ x.changed_on.ensures)
-          ∙ changed_op c.args.work.now c.args.s.now c.args.number c.args.t.0 c.args.c c.args.u x.in-Changed.at x.op_of-op.result in
+      ∙ changed_op c.args.work.now c.args.s.now c.args.number c.args.t.0 c.args.c c.args.u x.in-Changed.at x.op_of-op.result in
       subst (λ m. m < length (script_of c.args.work.now c.args.t.0)) (sym same) c.requires.op
   | in_default x ↦ subst (λ (r : State). (thread_of r c.args.t.0).body.op < length (script_of c.args.work.now c.args.t.0)) (sym x.s-is) c.requires.op
 ]

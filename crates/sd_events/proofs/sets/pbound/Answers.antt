@@ -30,7 +30,7 @@ finish_op-requires-clause-inside c = elim c.match-answer.branch [
       let bound = (thread_of s c.args.u.0).body.bound in
       let made = x.s-is ∙ x.put_where.ensures ∙ ap (λ (r : State). put_where w r c.args.number c.args.u.0 x.in-Changed.at) x.rebound.ensures in
       let same = ap (λ (r : State). length r.threads) made ∙ (put_where_shape w (rebound s c.args.u.0 c.args.d bound) c.args.number c.args.u.0 x.in-Changed.at).threads
-          ∙ (rebound_shape s c.args.u.0 c.args.d bound).threads in
+      ∙ (rebound_shape s c.args.u.0 c.args.d bound).threads in
       subst (λ m. c.args.t.0 < m) (sym same) c.requires.thread
   | in_default x ↦ subst (λ (r : State). c.args.t.0 < length r.threads) (sym x.s-is) c.requires.thread
 ]
