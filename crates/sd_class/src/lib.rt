@@ -3,13 +3,10 @@
 //! Source: Solaris Internals (the scheduling classes), ts_dptbl(4), rt_dptbl(4).
 #![tactic(auto)]
 
-mod requests;
-
 ghost use Rattle.std.specs.Prelude.{◌≡◌};
 ghost use Rattle.sd_full.specs.Bodies.{aged_class, ticked_class, woken_class};
 ghost use Rattle.sd_rules.specs.ClassRules.{class_expires, class_requeue, quantum_expires};
 
-pub use requests::{answer_to, new_class};
 use sd_types::{ClassState, Quantum, Work};
 
 /// The class state after a tick of the running thread.

@@ -20,8 +20,9 @@ ghost use Rattle.sd_types.specs.Works.{class_fits, quantum_fits};
 use crate::reads::{op_of, priority_at, thread_at};
 use crate::requeueing::reordered;
 use sd_change::{finish_op, put, set_class, set_duty};
-use sd_class::{aged_class, answer_to, new_class};
+use sd_class::aged_class;
 use sd_machine::{Place, State};
+use sd_plan::{answer_to, new_class};
 use sd_types::{ClassParms, ClassState, CpuId, Denied, Duty, Op, PrioAnswer, Put, ThreadId, Work};
 
 /// A thread that waits hands its new priority on: processor `c` begins a walk.

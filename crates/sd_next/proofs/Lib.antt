@@ -1,0 +1,2 @@
+pub mod EnteringLemmas
+pub mod NumberLemmas
