@@ -1,0 +1,3 @@
+pub mod CompleteLemmas
+pub mod OrderLemmas
+pub mod RoundLemmas

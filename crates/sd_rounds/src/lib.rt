@@ -1,0 +1,10 @@
+//! The run of a workload that goes in rounds: in each round every processor in turn makes one entry where it has
+//! one, and the first round that makes none ends the run. The processors take turns in rising order, or in orders that
+//! are drawn.
+#![tactic(auto)]
+
+mod orders;
+mod rounds;
+
+pub use orders::Turns;
+pub use rounds::{Finished, MOST_ENTRIES, run_rounds};

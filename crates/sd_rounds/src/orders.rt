@@ -1,0 +1,66 @@
+//! The order in which the processors have their turns in each round.
+
+ghost use Rattle.std.specs.Prelude.{◌≡◌, ◌-◌, length};
+ghost use Rattle.sd_full.specs.Runs.{rising};
+ghost use Rattle.sd_rounds.specs.Orders.{generator_at, next_order, shuffled};
+ghost use Rattle.sd_types.specs.declared.works.Work.{Work};
+
+use arrayvec::ArrayVec;
+use rand_core::utils::NextWord;
+use rand_pcg::Lcg64Xsh32;
+use sd_types::{CpuId, Work};
+
+/// How the processors take turns: in each round in rising order, or in an order that is drawn by a generator which
+/// begins with this seed.
+#[derive(Clone, Copy)]
+pub enum Turns {
+    Rising,
+    Drawn { seed: u32 },
+}
+
+/// The generator with which a run begins, where orders are drawn.
+#[tactic(auto, unfolding(crate::specs::Orders::generator))]
+pub(crate) fn first_generator(turns: Turns) -> Option<Lcg64Xsh32>
+    ensures { (work : Work) → result ≡ generator_at work turns 0 }
+{
+    match turns {
+        Turns::Rising => None,
+        Turns::Drawn { seed } => Some(Lcg64Xsh32::new(u64::from(seed), 1)),
+    }
+}
+
+/// The processors in rising order.
+fn rising(work: &Work) -> ArrayVec<CpuId, 64>
+    ensures { result.items ≡ rising work.now }
+{
+    let mut order = ArrayVec::new();
+    for c in 0..work.cpus {
+        order.push(CpuId(c));
+    }
+    order
+}
+
+/// Exchanges, from the last processor down to the second, each with one that is drawn among those up to it.
+fn shuffle(generator: &mut Lcg64Xsh32, order: &mut [CpuId])
+    ensures order { order.new ≡ (shuffled (length order.old - 1) generator.old order.old).0 }
+    ensures generator { generator.new ≡ (shuffled (length order.old - 1) generator.old order.old).1 }
+{
+    let mut left = order.len();
+    while left > 1 {
+        left -= 1;
+        let other = generator.next_word() as usize % (left + 1);
+        order.swap(left, other);
+    }
+}
+
+/// The order of the next round.
+pub(crate) fn next_order(work: &Work, generator: &mut Option<Lcg64Xsh32>) -> ArrayVec<CpuId, 64>
+    ensures order { result.items ≡ (next_order (rising work.now) generator.old).0 }
+    ensures generator { generator.new ≡ (next_order (rising work.now) generator.old).1 }
+{
+    let mut order = rising(work);
+    if let Some(generator) = generator {
+        shuffle(generator, order.as_mut_slice());
+    }
+    order
+}
