@@ -1,6 +1,6 @@
 -- What an event asks of a state holds too where the ageing of a queue is dropped before it; and what its later changes ask
 -- holds behind the earlier ones.
-use Rattle.std.proofs.Common.{◌≡◌, ℕ, ◌+◌, ◌<◌, ◌≤◌, ◌^◌, Bool, true, ◌||◌, [], ◌∷◌, ◌++◌, length, Option, Some, None, refl, sym, ap, ◌∙◌, subst, arith}
+use Rattle.std.proofs.Common.{◌≡◌, ℕ, ◌+◌, ◌<◌, ◌≤◌, ◌^◌, Bool, true, [], ◌∷◌, ◌++◌, length, Option, Some, None, refl, sym, ap, ◌∙◌, subst, arith}
 use Rattle.std.specs.Prelude.{IfSome}
 use Rattle.sd_types.specs.declared.numbers.CpuId.{CpuId}
 use Rattle.sd_types.specs.declared.numbers.LockId.{LockId}
@@ -21,7 +21,6 @@ use Rattle.sd_types.specs.Willed.{IsSound}
 use Rattle.sd_types.proofs.WilledLemmas.{sound-taken}
 use Rattle.sd_machine.specs.declared.states.LockState.{LockState}
 use Rattle.sd_machine.specs.declared.states.Place.{Place}
-use Rattle.sd_machine.specs.declared.states.Place.TheVariants.{Running}
 use Rattle.sd_machine.specs.declared.states.CpuState.{CpuState}
 use Rattle.sd_machine.specs.declared.states.ThreadState.{ThreadState}
 use Rattle.sd_machine.specs.declared.states.State.{State}
@@ -34,9 +33,9 @@ use Rattle.sd_full.specs.Sleeping.{woken, nap_ticks}
 use Rattle.sd_full.specs.Locking.{release_from, released}
 use Rattle.sd_full.specs.Prioritising.{changed_on}
 use Rattle.sd_full.specs.SetChanges.{cleared, rebound}
-use Rattle.sd_full.specs.Walking.{is_back, next_walk, walked}
+use Rattle.sd_full.specs.Walking.{walked}
 use Rattle.sd_full.specs.Events.{dropped_duty, drop_ageing}
-use Rattle.sd_full.proofs.ShapeLemmas.{IsShaped, set_duty_shape, shape_fits}
+use Rattle.sd_full.proofs.ShapeLemmas.{then_shape, set_number_shape, set_looped_shape, set_class_shape, rebound_shape, IsShaped, set_duty_shape, shape_fits}
 use Rattle.sd_sound.specs.Possible.{CanFinish, CanBind, IsNamed, CanHappen}
 use Rattle.sd_sound.proofs.HoldTable.{held_part, held_moves, held_ops, numbers_part, numbers_moves, numbers_ops, body_same, hold_put, hold_numbers}
 use Rattle.sd_sound.proofs.NumberLemmas.{sound_is, held_last}
@@ -310,12 +309,33 @@ class_places : (s : State) (t : ℕ) (k : ClassState) → Same place_part s (set
 unfolding set_class
 class_places s t k = body_same place_part s t _ refl
 
-pub walked_runs : (s : State) (c : CpuId) (l : LockId) (o : ThreadId) (t : ℕ) → RunsThere s t → (x : CpuId) → (thread_of (walked s c l o) t).place ≡ Running x → x.0 < length s.cpus
-walked_runs s c l o t runs x e =
-    let numbers = numbers_places s o.0 l (greatest_waiting l.0 s.threads) in
-    let looped = looped_places (set_number s o.0 l (greatest_waiting l.0 s.threads)) o.0 ((thread_of s o.0).body.looped || is_back (cpu_of s c.0).duty o (thread_of s o.0).place) in
-    let duty = set_duty_same place_part (set_looped (set_number s o.0 l (greatest_waiting l.0 s.threads)) o.0 ((thread_of s o.0).body.looped || is_back (cpu_of s c.0).duty o (thread_of s o.0).place)) c.0 (next_walk (cpu_of s c.0).duty o (thread_of s o.0).body.looped (thread_of s o.0).place) in
-    runs x (sym (duty.each t ∙ looped.each t ∙ numbers.each t) ∙ e)
+pub walked_shape : (s : State) (c : CpuId) (l : LockId) (o : ThreadId) → IsShaped s (walked s c l o)
+walked_shape s c l o = then_shape s _ _ (set_number_shape s o.0 l (greatest_waiting l.0 s.threads)) (then_shape _ _ _ (set_looped_shape _ o.0 _) (set_duty_shape _ c.0 _))
 
-pub class_runs : (s : State) (u : ℕ) (k : ClassState) (t : ℕ) → RunsThere s t → (x : CpuId) → (thread_of (set_class s u k) t).place ≡ Running x → x.0 < length s.cpus
-class_runs s u k t runs x e = runs x (sym ((class_places s u k).each t) ∙ e)
+walked_places : (s : State) (c : CpuId) (l : LockId) (o : ThreadId) → Same place_part s (walked s c l o)
+walked_places s c l o =
+    then_same place_part s (set_number s o.0 l (greatest_waiting l.0 s.threads)) _ (numbers_places s o.0 l (greatest_waiting l.0 s.threads)) (then_same place_part _ _ _ (looped_places _ o.0 _) (set_duty_same place_part _ c.0 _))
+
+runs_kept : (s r : State) (t : ℕ) → IsShaped s r → Same place_part s r → RunsThere s t → RunsThere r t
+runs_kept s r t shape same runs c e = let here = runs c (sym (same.each t) ∙ e) in let many = shape.cpus in omega (arith, here, many)
+
+puts_kept : (s r : State) (at : Option Put) → IsShaped s r → IsPutThereIf s at → IsPutThereIf r at
+puts_kept s r None shape is = tt
+puts_kept s r (Some at) shape is = let many = shape.cpus in omega (arith, is, many)
+
+pub walked_runs : (s : State) (c : CpuId) (l : LockId) (o : ThreadId) (t : ℕ) → RunsThere s t → RunsThere (walked s c l o) t
+walked_runs s c l o t runs = runs_kept s (walked s c l o) t (walked_shape s c l o) (walked_places s c l o) runs
+
+pub walked_puts : (s : State) (c : CpuId) (l : LockId) (o : ThreadId) (at : Option Put) → IsPutThereIf s at → IsPutThereIf (walked s c l o) at
+walked_puts s c l o at is = puts_kept s (walked s c l o) at (walked_shape s c l o) is
+
+-- and so does another class, and a binding.
+
+pub class_runs : (s : State) (u : ℕ) (k : ClassState) (t : ℕ) → RunsThere s t → RunsThere (set_class s u k) t
+class_runs s u k t runs = runs_kept s (set_class s u k) t (set_class_shape s u k) (class_places s u k) runs
+
+pub class_puts : (s : State) (u : ℕ) (k : ClassState) (at : Option Put) → IsPutThereIf s at → IsPutThereIf (set_class s u k) at
+class_puts s u k at is = puts_kept s (set_class s u k) at (set_class_shape s u k) is
+
+pub bound_puts : (s : State) (u : ℕ) (d b : Option CpuId) (at : Option Put) → IsPutThereIf s at → IsPutThereIf (rebound s u d b) at
+bound_puts s u d b at is = puts_kept s (rebound s u d b) at (rebound_shape s u d b) is
