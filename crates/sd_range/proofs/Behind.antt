@@ -1,6 +1,6 @@
 -- What an event asks of a state holds too where the ageing of a queue is dropped before it; and what its later changes ask
 -- holds behind the earlier ones.
-use Rattle.std.proofs.Common.{◌≡◌, ℕ, ◌+◌, ◌<◌, ◌≤◌, ◌^◌, Bool, true, [], ◌∷◌, ◌++◌, length, Option, Some, None, refl, sym, ap, ◌∙◌, subst, arith}
+use Rattle.std.proofs.Common.{◌≡◌, ℕ, ◌+◌, ◌<◌, ◌≤◌, ◌^◌, Bool, true, false, [], ◌∷◌, ◌++◌, length, Option, Some, None, refl, sym, ap, ◌∙◌, subst, arith}
 use Rattle.std.specs.Prelude.{IfSome}
 use Rattle.sd_types.specs.declared.numbers.CpuId.{CpuId}
 use Rattle.sd_types.specs.declared.numbers.LockId.{LockId}
@@ -17,31 +17,31 @@ use Rattle.sd_types.specs.declared.events.Put.{Put}
 use Rattle.sd_types.specs.declared.scripts.Op.{Op}
 use Rattle.sd_types.specs.declared.works.Work.{Work}
 use Rattle.sd_types.specs.Scripts.{is_held}
-use Rattle.sd_types.specs.Willed.{IsSound}
+use Rattle.sd_types.specs.Willed.{IsSound, with_lock as with_held}
 use Rattle.sd_types.proofs.WilledLemmas.{sound-taken}
-use Rattle.sd_machine.specs.declared.states.LockState.{LockState}
 use Rattle.sd_machine.specs.declared.states.Place.{Place}
 use Rattle.sd_machine.specs.declared.states.CpuState.{CpuState}
 use Rattle.sd_machine.specs.declared.states.ThreadState.{ThreadState}
 use Rattle.sd_machine.specs.declared.states.State.{State}
 use Rattle.sd_machine.specs.States.{no_cpu, thread_of, cpu_of}
-use Rattle.sd_machine.specs.Operations.{script_of, op_of}
+use Rattle.sd_machine.specs.Operations.{op_of}
 use Rattle.sd_full.specs.Shapes.{FitsFully}
-use Rattle.sd_full.specs.Threads.{lock_of, with_lock, greatest_waiting}
+use Rattle.sd_full.specs.Threads.{lock_of, greatest_waiting}
 use Rattle.sd_full.specs.Changes.{cpu_put, finish_op, set_class, hold, let_go, set_number, set_looped, set_duty, put_where, close, bind, unbind}
+use Rattle.sd_full.specs.Requeueing.{reordered}
 use Rattle.sd_full.specs.Sleeping.{woken, nap_ticks}
 use Rattle.sd_full.specs.Locking.{release_from, released}
 use Rattle.sd_full.specs.Prioritising.{changed_on}
 use Rattle.sd_full.specs.SetChanges.{cleared, rebound}
 use Rattle.sd_full.specs.Walking.{walked}
 use Rattle.sd_full.specs.Events.{dropped_duty, drop_ageing}
-use Rattle.sd_full.proofs.ShapeLemmas.{then_shape, set_number_shape, set_looped_shape, set_class_shape, rebound_shape, IsShaped, set_duty_shape, shape_fits}
+use Rattle.sd_full.proofs.ShapeLemmas.{IsShaped, bind_shape, changed_on_shape, cleared_shape, close_shape, finish_op_shape, hold_shape, put_where_shape, rebound_shape, released_shape, reordered_shape, set_class_shape, set_duty_shape, set_looped_shape, set_number_shape, shape_fits, then_shape, woken_shape}
 use Rattle.sd_sound.specs.Possible.{CanFinish, CanBind, IsNamed, CanHappen}
 use Rattle.sd_sound.proofs.HoldTable.{held_part, held_moves, held_ops, numbers_part, numbers_moves, numbers_ops, body_same, hold_put, hold_numbers}
 use Rattle.sd_sound.proofs.NumberLemmas.{sound_is, held_last}
 use Rattle.sd_sound.proofs.OpTable.{op_part, op_moves}
 use Rattle.sd_sound.proofs.Parts.{same_item}
-use Rattle.sd_sound.proofs.Words.{Same, all_same, then_same, lock_same, set_duty_same, close_same, cleared_same, called_back_same, release_from_same, put_where_same, woken_same, changed_on_same, finish_op_same}
+use Rattle.sd_sound.proofs.Words.{Same, all_same, then_same, set_duty_same, close_same, cleared_same, called_back_same, release_from_same, put_where_same, woken_same, changed_on_same, finish_op_same}
 use Rattle.sd_range.specs.InRange.{IsPutThereIf, IsPrioThere, IsBindThere, RunsThere, CanBeWilled, CanBeGranted, CanUnbind, IsInRange}
 
 -- A dropped ageing.
@@ -221,33 +221,35 @@ dropped_range w s c (Move t at) is = dropped_cpu s c (Move t at) (cpu_put at).0 
 dropped_range w s c (Joined to) is = is
 dropped_range w s c (Bind t u d answer) is = (dropped_cpus s c (Bind t u d answer) d is.0, dropped_answer s c (Bind t u d answer) answer is.1, dropped_runs s c (Bind t u d answer) u.0 is.2, dropped_unbind s c (Bind t u d answer) u.0 d answer is.3)
 
--- What changes ask behind others.
+-- What changes ask behind others, as equations: what a thread stands at, where it is, and how many processors and locks there
+-- are behind a change is what it was before.
 
--- thread t stands at one of its operations
-abbrev pub Stands : Work → State → ℕ → Type 0
-Stands w s t = (thread_of s t).body.op < length (script_of w t)
+pub woken_op : (w : Work) (s : State) (n u : ℕ) (at : Put) (t : ℕ) → (thread_of (woken w s n u at) t).body.op ≡ (thread_of s t).body.op
+woken_op w s n u at t = (woken_same op_part op_moves w s n u at).each t
 
-same_stands : (w : Work) (s r : State) (t : ℕ) → Same op_part s r → Stands w s t → Stands w r t
-same_stands w s r t same stands = subst (λ m. m < length (script_of w t)) (sym (same.each t)) stands
-
--- and still does where another was woken, a lock given up, a class changed, a processor closed or a thread bound
-pub woken_stands : (w : Work) (s : State) (n u : ℕ) (at : Put) (t : ℕ) → Stands w s t → Stands w (woken w s n u at) t
-woken_stands w s n u at t stands = same_stands w s (woken w s n u at) t (woken_same op_part op_moves w s n u at) stands
+pub hold_op : (s : State) (u : ℕ) (l : LockId) (t : ℕ) → (thread_of (hold s u l) t).body.op ≡ (thread_of s t).body.op
+unfolding hold
+hold_op s u l t = (body_same op_part s u (with_held l (thread_of s u).body) refl).each t
 
 let_go_ops : (s : State) (t : ℕ) (l : LockId) → Same op_part s (let_go s t l)
 unfolding let_go
 let_go_ops s t l = body_same op_part s t _ refl
 
-pub released_stands : (w : Work) (s : State) (c : CpuId) (u : ℕ) (l : LockId) (t : ℕ) → Stands w s t → Stands w (released w s c u l) t
+released_ops : (w : Work) (s : State) (c : CpuId) (u : ℕ) (l : LockId) → Same op_part s (released w s c u l)
 unfolding released
-released_stands w s c u l t stands =
-    same_stands w s (let_go (release_from w s c l (lock_of s l.0)) u l) t (then_same op_part s (release_from w s c l (lock_of s l.0)) _ (release_from_same op_part w s c l (lock_of s l.0)) (let_go_ops _ u l)) stands
+released_ops w s c u l = then_same op_part s (release_from w s c l (lock_of s l.0)) _ (release_from_same op_part w s c l (lock_of s l.0)) (let_go_ops _ u l)
 
-pub changed_stands : (w : Work) (s : State) (n : ℕ) (c : CpuId) (v : ℕ) (u : ThreadId) (at : Option Put) (o : Option Op) (t : ℕ) → Stands w s t → Stands w (changed_on w s n c v u at o) t
-changed_stands w s n c v u at o t stands = same_stands w s (changed_on w s n c v u at o) t (changed_on_same op_part op_moves w s n c v u at o) stands
+pub released_op : (w : Work) (s : State) (c : CpuId) (u : ℕ) (l : LockId) (t : ℕ) → (thread_of (released w s c u l) t).body.op ≡ (thread_of s t).body.op
+released_op w s c u l t = (released_ops w s c u l).each t
 
-pub closed_stands : (w : Work) (s : State) (d : CpuId) (to : SetId) (r : Option ℕ) (t : ℕ) → Stands w s t → Stands w (cleared (close s d to) d r) t
-closed_stands w s d to r t stands = same_stands w s (cleared (close s d to) d r) t (then_same op_part s (close s d to) _ (close_same op_part s d to) (cleared_same op_part (close s d to) d r)) stands
+pub changed_op : (w : Work) (s : State) (n : ℕ) (c : CpuId) (v : ℕ) (u : ThreadId) (at : Option Put) (o : Option Op) (t : ℕ) → (thread_of (changed_on w s n c v u at o) t).body.op ≡ (thread_of s t).body.op
+changed_op w s n c v u at o t = (changed_on_same op_part op_moves w s n c v u at o).each t
+
+pub closed_op : (s : State) (d : CpuId) (to : SetId) (t : ℕ) → (thread_of (close s d to) t).body.op ≡ (thread_of s t).body.op
+closed_op s d to t = (close_same op_part s d to).each t
+
+pub cleared_op : (s : State) (d : CpuId) (r : Option ℕ) (t : ℕ) → (thread_of (cleared s d r) t).body.op ≡ (thread_of s t).body.op
+cleared_op s d r t = (cleared_same op_part s d r).each t
 
 bind_ops : (s : State) (t : ℕ) (d : CpuId) → Same op_part s (bind s t d)
 unfolding bind
@@ -262,37 +264,29 @@ rebound_ops s u (Some d) b = then_same op_part s (bind s u d) _ (bind_ops s u d)
 rebound_ops s u None (Some b) = unbind_ops s u b
 rebound_ops s u None None = all_same op_part s
 
-pub bound_stands : (w : Work) (s : State) (n u : ℕ) (d b : Option CpuId) (at : Option Put) (t : ℕ) → Stands w s t → Stands w (put_where w (rebound s u d b) n u at) t
-bound_stands w s n u d b at t stands =
-    same_stands w s (put_where w (rebound s u d b) n u at) t (then_same op_part s (rebound s u d b) _ (rebound_ops s u d b) (put_where_same op_part op_moves w (rebound s u d b) n u at)) stands
+pub rebound_op : (s : State) (u : ℕ) (d b : Option CpuId) (t : ℕ) → (thread_of (rebound s u d b) t).body.op ≡ (thread_of s t).body.op
+rebound_op s u d b t = (rebound_ops s u d b).each t
 
-hold_ops : (s : State) (t : ℕ) (l : LockId) → Same op_part s (hold s t l)
-unfolding hold
-hold_ops s t l = body_same op_part s t _ refl
-
-pub held_stands : (w : Work) (s : State) (m : ℕ) (x : LockState) (u : ℕ) (l : LockId) (t : ℕ) → Stands w s t → Stands w (hold (with_lock s m x) u l) t
-held_stands w s m x u l t stands = same_stands w s (hold (with_lock s m x) u l) t (then_same op_part s (with_lock s m x) _ (lock_same op_part s m x) (hold_ops (with_lock s m x) u l)) stands
+pub put_where_op : (w : Work) (s : State) (n u : ℕ) (at : Option Put) (t : ℕ) → (thread_of (put_where w s n u at) t).body.op ≡ (thread_of s t).body.op
+put_where_op w s n u at t = (put_where_same op_part op_moves w s n u at).each t
 
 -- A waiter that was given the lock holds it, and inherits soundly.
 
-given_body : (w : Work) (s : State) (m : ℕ) (x : LockState) (u : ℕ) (l : LockId) → u < length s.threads
-    → ((thread_of (finish_op w (hold (with_lock s m x) u l) u) u).body.held.items ≡ (thread_of s u).body.held.items ++ l ∷ [])
-    × ((thread_of (finish_op w (hold (with_lock s m x) u l) u) u).body.willed.items ≡ (thread_of s u).body.willed.items)
-given_body w s m x u l inside = (
-  (finish_op_same held_part held_moves held_ops w (hold (with_lock s m x) u l) u).each u ∙ (hold_put (with_lock s m x) u l inside).put.at,
-  (finish_op_same numbers_part numbers_moves numbers_ops w (hold (with_lock s m x) u l) u).each u ∙ (hold_numbers (with_lock s m x) u l).each u,
-)
+given_held_items : (w : Work) (s : State) (u : ℕ) (l : LockId) → u < length s.threads → (thread_of (finish_op w (hold s u l) u) u).body.held.items ≡ (thread_of s u).body.held.items ++ l ∷ []
+given_held_items w s u l inside = (finish_op_same held_part held_moves held_ops w (hold s u l) u).each u ∙ (hold_put s u l inside).put.at
 
-pub given_sound : (w : Work) (s : State) (m : ℕ) (x : LockState) (u : ℕ) (l : LockId) → u < length s.threads → CanBeGranted s u l → IsSound (thread_of (finish_op w (hold (with_lock s m x) u l) u) u).body
-given_sound w s m x u l inside can =
-    let body = given_body w s m x u l inside in
-    sound_is (record (thread_of s u).body { held = record { items = (thread_of s u).body.held.items ++ l ∷ [] } }) (thread_of (finish_op w (hold (with_lock s m x) u l) u) u).body body.1 body.0
-    (sound-taken (thread_of s u).body l ((thread_of s u).body.held.items ++ l ∷ []) can.sound can.apart refl)
+given_numbers : (w : Work) (s : State) (u : ℕ) (l : LockId) → (thread_of (finish_op w (hold s u l) u) u).body.willed.items ≡ (thread_of s u).body.willed.items
+given_numbers w s u l = (finish_op_same numbers_part numbers_moves numbers_ops w (hold s u l) u).each u ∙ (hold_numbers s u l).each u
 
-pub given_held : (w : Work) (s : State) (m : ℕ) (x : LockState) (u : ℕ) (l : LockId) → u < length s.threads → is_held l (thread_of (finish_op w (hold (with_lock s m x) u l) u) u).body.held.items ≡ true
-given_held w s m x u l inside = ap (is_held l) (given_body w s m x u l inside).0 ∙ held_last l (thread_of s u).body.held.items
+pub given_sound : (w : Work) (s : State) (u : ℕ) (l : LockId) → u < length s.threads → IsSound (thread_of s u).body → is_held l (thread_of s u).body.held.items ≡ false → IsSound (thread_of (finish_op w (hold s u l) u) u).body
+given_sound w s u l inside sound apart =
+    sound_is (record (thread_of s u).body { held = record { items = (thread_of s u).body.held.items ++ l ∷ [] } }) (thread_of (finish_op w (hold s u l) u) u).body (given_numbers w s u l) (given_held_items w s u l inside)
+    (sound-taken (thread_of s u).body l ((thread_of s u).body.held.items ++ l ∷ []) sound apart refl)
 
--- A walk leaves its owner where it is.
+pub given_held : (w : Work) (s : State) (u : ℕ) (l : LockId) → u < length s.threads → is_held l (thread_of (finish_op w (hold s u l) u) u).body.held.items ≡ true
+given_held w s u l inside = ap (is_held l) (given_held_items w s u l inside) ∙ held_last l (thread_of s u).body.held.items
+
+-- Where threads are.
 
 abbrev place_part : ThreadState → Place
 place_part x = x.place
@@ -309,33 +303,98 @@ class_places : (s : State) (t : ℕ) (k : ClassState) → Same place_part s (set
 unfolding set_class
 class_places s t k = body_same place_part s t _ refl
 
-pub walked_shape : (s : State) (c : CpuId) (l : LockId) (o : ThreadId) → IsShaped s (walked s c l o)
-walked_shape s c l o = then_shape s _ _ (set_number_shape s o.0 l (greatest_waiting l.0 s.threads)) (then_shape _ _ _ (set_looped_shape _ o.0 _) (set_duty_shape _ c.0 _))
-
 walked_places : (s : State) (c : CpuId) (l : LockId) (o : ThreadId) → Same place_part s (walked s c l o)
 walked_places s c l o =
     then_same place_part s (set_number s o.0 l (greatest_waiting l.0 s.threads)) _ (numbers_places s o.0 l (greatest_waiting l.0 s.threads)) (then_same place_part _ _ _ (looped_places _ o.0 _) (set_duty_same place_part _ c.0 _))
 
-runs_kept : (s r : State) (t : ℕ) → IsShaped s r → Same place_part s r → RunsThere s t → RunsThere r t
-runs_kept s r t shape same runs c e = let here = runs c (sym (same.each t) ∙ e) in let many = shape.cpus in omega (arith, here, many)
+pub walked_place : (s : State) (c : CpuId) (l : LockId) (o : ThreadId) (t : ℕ) → (thread_of (walked s c l o) t).place ≡ (thread_of s t).place
+walked_place s c l o t = (walked_places s c l o).each t
 
-puts_kept : (s r : State) (at : Option Put) → IsShaped s r → IsPutThereIf s at → IsPutThereIf r at
-puts_kept s r None shape is = tt
-puts_kept s r (Some at) shape is = let many = shape.cpus in omega (arith, is, many)
+pub class_place : (s : State) (u : ℕ) (k : ClassState) (t : ℕ) → (thread_of (set_class s u k) t).place ≡ (thread_of s t).place
+class_place s u k t = (class_places s u k).each t
 
-pub walked_runs : (s : State) (c : CpuId) (l : LockId) (o : ThreadId) (t : ℕ) → RunsThere s t → RunsThere (walked s c l o) t
-walked_runs s c l o t runs = runs_kept s (walked s c l o) t (walked_shape s c l o) (walked_places s c l o) runs
+-- How many there are.
 
-pub walked_puts : (s : State) (c : CpuId) (l : LockId) (o : ThreadId) (at : Option Put) → IsPutThereIf s at → IsPutThereIf (walked s c l o) at
-walked_puts s c l o at is = puts_kept s (walked s c l o) at (walked_shape s c l o) is
+walked_shape : (s : State) (c : CpuId) (l : LockId) (o : ThreadId) → IsShaped s (walked s c l o)
+walked_shape s c l o = then_shape s _ _ (set_number_shape s o.0 l (greatest_waiting l.0 s.threads)) (then_shape _ _ _ (set_looped_shape _ o.0 _) (set_duty_shape _ c.0 _))
 
--- and so does another class, and a binding.
+pub woken_threads : (w : Work) (s : State) (n u : ℕ) (at : Put) → length (woken w s n u at).threads ≡ length s.threads
+woken_threads w s n u at = (woken_shape w s n u at).threads
 
-pub class_runs : (s : State) (u : ℕ) (k : ClassState) (t : ℕ) → RunsThere s t → RunsThere (set_class s u k) t
-class_runs s u k t runs = runs_kept s (set_class s u k) t (set_class_shape s u k) (class_places s u k) runs
+pub woken_cpus : (w : Work) (s : State) (n u : ℕ) (at : Put) → length (woken w s n u at).cpus ≡ length s.cpus
+woken_cpus w s n u at = (woken_shape w s n u at).cpus
 
-pub class_puts : (s : State) (u : ℕ) (k : ClassState) (at : Option Put) → IsPutThereIf s at → IsPutThereIf (set_class s u k) at
-class_puts s u k at is = puts_kept s (set_class s u k) at (set_class_shape s u k) is
+pub woken_locks : (w : Work) (s : State) (n u : ℕ) (at : Put) → length (woken w s n u at).locks ≡ length s.locks
+woken_locks w s n u at = (woken_shape w s n u at).locks
 
-pub bound_puts : (s : State) (u : ℕ) (d b : Option CpuId) (at : Option Put) → IsPutThereIf s at → IsPutThereIf (rebound s u d b) at
-bound_puts s u d b at is = puts_kept s (rebound s u d b) at (rebound_shape s u d b) is
+pub released_threads : (w : Work) (s : State) (c : CpuId) (t : ℕ) (l : LockId) → length (released w s c t l).threads ≡ length s.threads
+released_threads w s c t l = (released_shape w s c t l).threads
+
+pub released_cpus : (w : Work) (s : State) (c : CpuId) (t : ℕ) (l : LockId) → length (released w s c t l).cpus ≡ length s.cpus
+released_cpus w s c t l = (released_shape w s c t l).cpus
+
+pub finish_op_threads : (w : Work) (s : State) (t : ℕ) → length (finish_op w s t).threads ≡ length s.threads
+finish_op_threads w s t = (finish_op_shape w s t).threads
+
+pub finish_op_cpus : (w : Work) (s : State) (t : ℕ) → length (finish_op w s t).cpus ≡ length s.cpus
+finish_op_cpus w s t = (finish_op_shape w s t).cpus
+
+pub hold_threads : (s : State) (t : ℕ) (l : LockId) → length (hold s t l).threads ≡ length s.threads
+hold_threads s t l = (hold_shape s t l).threads
+
+pub hold_cpus : (s : State) (t : ℕ) (l : LockId) → length (hold s t l).cpus ≡ length s.cpus
+hold_cpus s t l = (hold_shape s t l).cpus
+
+pub set_number_threads : (s : State) (t : ℕ) (l : LockId) (o : Option ℕ) → length (set_number s t l o).threads ≡ length s.threads
+set_number_threads s t l o = (set_number_shape s t l o).threads
+
+pub set_number_cpus : (s : State) (t : ℕ) (l : LockId) (o : Option ℕ) → length (set_number s t l o).cpus ≡ length s.cpus
+set_number_cpus s t l o = (set_number_shape s t l o).cpus
+
+pub walked_threads : (s : State) (c : CpuId) (l : LockId) (o : ThreadId) → length (walked s c l o).threads ≡ length s.threads
+walked_threads s c l o = (walked_shape s c l o).threads
+
+pub walked_cpus : (s : State) (c : CpuId) (l : LockId) (o : ThreadId) → length (walked s c l o).cpus ≡ length s.cpus
+walked_cpus s c l o = (walked_shape s c l o).cpus
+
+pub set_class_threads : (s : State) (t : ℕ) (k : ClassState) → length (set_class s t k).threads ≡ length s.threads
+set_class_threads s t k = (set_class_shape s t k).threads
+
+pub set_class_cpus : (s : State) (t : ℕ) (k : ClassState) → length (set_class s t k).cpus ≡ length s.cpus
+set_class_cpus s t k = (set_class_shape s t k).cpus
+
+pub reordered_threads : (w : Work) (s : State) (n t old : ℕ) (at : Option Put) → length (reordered w s n t old at).threads ≡ length s.threads
+reordered_threads w s n t old at = (reordered_shape w s n t old at).threads
+
+pub reordered_cpus : (w : Work) (s : State) (n t old : ℕ) (at : Option Put) → length (reordered w s n t old at).cpus ≡ length s.cpus
+reordered_cpus w s n t old at = (reordered_shape w s n t old at).cpus
+
+pub changed_on_threads : (w : Work) (s : State) (n : ℕ) (c : CpuId) (v : ℕ) (u : ThreadId) (at : Option Put) (o : Option Op) → length (changed_on w s n c v u at o).threads ≡ length s.threads
+changed_on_threads w s n c v u at o = (changed_on_shape w s n c v u at o).threads
+
+pub close_threads : (s : State) (d : CpuId) (to : SetId) → length (close s d to).threads ≡ length s.threads
+close_threads s d to = (close_shape s d to).threads
+
+pub close_cpus : (s : State) (d : CpuId) (to : SetId) → length (close s d to).cpus ≡ length s.cpus
+close_cpus s d to = (close_shape s d to).cpus
+
+pub cleared_threads : (s : State) (d : CpuId) (r : Option ℕ) → length (cleared s d r).threads ≡ length s.threads
+cleared_threads s d r = (cleared_shape s d r).threads
+
+pub rebound_threads : (s : State) (u : ℕ) (d b : Option CpuId) → length (rebound s u d b).threads ≡ length s.threads
+rebound_threads s u d b = (rebound_shape s u d b).threads
+
+pub rebound_cpus : (s : State) (u : ℕ) (d b : Option CpuId) → length (rebound s u d b).cpus ≡ length s.cpus
+rebound_cpus s u d b = (rebound_shape s u d b).cpus
+
+pub bind_threads : (s : State) (t : ℕ) (d : CpuId) → length (bind s t d).threads ≡ length s.threads
+bind_threads s t d = (bind_shape s t d).threads
+
+pub bind_cpus : (s : State) (t : ℕ) (d : CpuId) → length (bind s t d).cpus ≡ length s.cpus
+bind_cpus s t d = (bind_shape s t d).cpus
+
+pub put_where_threads : (w : Work) (s : State) (n t : ℕ) (at : Option Put) → length (put_where w s n t at).threads ≡ length s.threads
+put_where_threads w s n t at = (put_where_shape w s n t at).threads
+
+pub put_where_cpus : (w : Work) (s : State) (n t : ℕ) (at : Option Put) → length (put_where w s n t at).cpus ≡ length s.cpus
+put_where_cpus w s n t at = (put_where_shape w s n t at).cpus
