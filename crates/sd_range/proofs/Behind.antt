@@ -53,6 +53,21 @@ drop_shape s c e = set_duty_shape s c (dropped_duty e (cpu_of s c).duty)
 pub dropped_fits : (w : Work) (s : State) (c : ℕ) (e : Event) → FitsFully w s → FitsFully w (drop_ageing s c e)
 dropped_fits w s c e fits = shape_fits w s (drop_ageing s c e) (drop_shape s c e) fits
 
+pub drop_ageing_threads : (s : State) (c : ℕ) (e : Event) → length (drop_ageing s c e).threads ≡ length s.threads
+drop_ageing_threads s c e = (drop_shape s c e).threads
+
+pub drop_ageing_locks : (s : State) (c : ℕ) (e : Event) → length (drop_ageing s c e).locks ≡ length s.locks
+drop_ageing_locks s c e = (drop_shape s c e).locks
+
+pub drop_ageing_cpus : (s : State) (c : ℕ) (e : Event) → length (drop_ageing s c e).cpus ≡ length s.cpus
+drop_ageing_cpus s c e = (drop_shape s c e).cpus
+
+pub drop_ageing_counts : (s : State) (c : ℕ) (e : Event) → length (drop_ageing s c e).counts ≡ length s.counts
+drop_ageing_counts s c e = (drop_shape s c e).chans
+
+pub drop_ageing_open_cpus : (s : State) (c : ℕ) (e : Event) → length (drop_ageing s c e).open_cpus ≡ length s.open_cpus
+drop_ageing_open_cpus s c e = (drop_shape s c e).sets
+
 -- a part of each processor that is not its duty
 dropped_part : {X : Type 0} (part : CpuState → X) (s : State) (c : ℕ) (e : Event) → part (record (cpu_of s c) { duty = dropped_duty e (cpu_of s c).duty }) ≡ part (cpu_of s c) → (d : ℕ) → part (cpu_of (drop_ageing s c e) d) ≡ part (cpu_of s d)
 unfolding drop_ageing set_duty
