@@ -1,4 +1,5 @@
 pub mod All
+pub mod Behind
 pub mod Bindings
 pub mod Complete
 pub mod Duties

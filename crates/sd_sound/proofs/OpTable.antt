@@ -45,7 +45,7 @@ use Rattle.sd_full.specs.Events.{drop_ageing, effect, after}
 abbrev pub op_part : ThreadState → ℕ
 op_part x = x.body.op
 
-op_moves : Moves op_part
+pub op_moves : Moves op_part
 op_moves = record { class = λ x k. refl; back = λ x. refl; gone = λ x n place. refl; come = λ x c place. refl; place = λ x place. refl }
 
 -- the operation of thread t is over, and no other's
