@@ -1,3 +1,4 @@
 pub mod Cycles
 pub mod Graphs
 pub mod Holders
+pub mod Listing

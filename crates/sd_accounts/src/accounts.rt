@@ -1,0 +1,54 @@
+//! The accounts: counters that take in one entry at a time.
+
+ghost use Rattle.std.specs.Prelude.{◌≡◌, ◌<◌, ◌^◌, ◌∷◌, [], ◌++◌, length, List as Items, IfOk, replicate};
+ghost use Rattle.sd_types.specs.declared.events.Entry.{Entry as EntryValue};
+ghost use Rattle.sd_types.specs.declared.works.Work.{Work as WorkValue};
+ghost use Rattle.sd_accounts.specs.Counters.{HasTaken, cpus_after, no_cpu_counts, no_thread_counts, threads_after, totals_after};
+
+use crate::counters::{CpuCounts, ThreadCounts, Totals, count_cpu, count_thread, totals_after};
+use sd_types::{Entry, List, Work};
+use std::alloc::{AllocError, Global};
+
+/// The counters of a run so far: of each thread, of each processor and of all entries. Which entries they have taken in
+/// is said by `HasTaken`.
+#[derive(Drop)]
+pub struct Accounts {
+    pub(crate) threads: List<ThreadCounts>,
+    pub(crate) cpus: List<CpuCounts>,
+    pub(crate) totals: Totals,
+}
+
+impl Accounts {
+    /// The accounts of a workload's run before its first entry.
+    pub fn new(alloc: Global, work: &Work) -> Result<Accounts, AllocError>
+        ensures { IfOk result (λ a. HasTaken work.now [] a) }
+    {
+        Ok(Accounts {
+            threads: List::from_vec(no_threads(alloc, work.threads.items().len())?),
+            cpus: List::from_vec(no_cpus(alloc, work.cpus)?),
+            totals: Totals::NONE,
+        })
+    }
+
+    /// Takes in the next entry, in the same time however many there were.
+    pub fn add(&mut self, entry: &Entry)
+        ensures { (w : WorkValue) (es : Items EntryValue) → length es < 2 ^ 48
+            → HasTaken w es self.old → HasTaken w (es ++ entry.now ∷ []) self.new }
+    {
+        count_thread(&entry.event, &mut self.threads);
+        count_cpu(entry.cpu, &entry.event, &mut self.cpus);
+        self.totals = totals_after(&entry.event, self.totals);
+    }
+}
+
+fn no_threads(alloc: Global, count: usize) -> Result<Vec<ThreadCounts>, AllocError>
+    ensures { IfOk result (λ v. v.items ≡ replicate count no_thread_counts) }
+{
+    vec![in alloc; ThreadCounts::NONE; count]
+}
+
+fn no_cpus(alloc: Global, count: u16) -> Result<Vec<CpuCounts>, AllocError>
+    ensures { IfOk result (λ v. v.items ≡ replicate count no_cpu_counts) }
+{
+    vec![in alloc; CpuCounts::NONE; count as usize]
+}

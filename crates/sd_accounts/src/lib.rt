@@ -1,0 +1,15 @@
+//! The accounts of a run: running counters that take in one entry at a time, and the texts that are written of them
+//! behind the entries of a journal, with the blocking cycles of the final state, and as a summary.
+#![tactic(auto)]
+
+mod accounts;
+mod counters;
+mod cycle_lines;
+mod events;
+mod lines;
+mod summary;
+#[cfg(test)]
+mod tests;
+
+pub use accounts::Accounts;
+pub use cycle_lines::write_cycles;

@@ -1,0 +1,2 @@
+pub mod LapSteps
+pub mod StateGraphs

@@ -1,0 +1,95 @@
+//! Cycles of states that were drawn by hand.
+
+use crate::cycles;
+use arrayvec::ArrayVec;
+use sd_machine::{LockState, Place, State, ThreadState};
+use sd_types::{ClassState, CpuId, List, LockId, Side, SysState, ThreadBody, ThreadId};
+use std::alloc::{AllocError, Global};
+use std::test::Fail;
+
+fn thread(place: Place) -> ThreadState {
+    ThreadState {
+        body: ThreadBody {
+            class: ClassState::Sys(SysState { pri: 60 }),
+            willed: ArrayVec::new(),
+            held: ArrayVec::new(),
+            op: 0,
+            run_left: 0,
+            back: false,
+            last: CpuId(0),
+            left_at: None,
+            looped: false,
+            bound: None,
+        },
+        place,
+    }
+}
+
+/// A state whose threads wait for these locks or have ended, and whose locks have these owners or are held by a reader.
+fn state(
+    alloc: Global,
+    waits: &[Option<u16>],
+    owners: &[Option<u16>],
+) -> Result<State, AllocError> {
+    let mut threads = Vec::new(alloc);
+    for wait in waits {
+        threads.push(match wait {
+            Some(l) => thread(Place::Waiting(LockId(*l), Side::Writer, 0)),
+            None => thread(Place::Ended),
+        })?;
+    }
+    let mut locks = Vec::new(alloc);
+    for owner in owners {
+        locks.push(match owner {
+            Some(t) => LockState::Owned(ThreadId(*t)),
+            None => LockState::ReadHeld(1),
+        })?;
+    }
+    Ok(State {
+        threads: List::from_vec(threads),
+        locks: List::from_vec(locks),
+        cpus: List::from_vec(Vec::new(alloc)),
+        counts: List::from_vec(Vec::new(alloc)),
+        open_cpus: List::from_vec(Vec::new(alloc)),
+    })
+}
+
+#[test]
+fn cycles_and_chains(rt: HostRuntime) -> Result<(), Fail> {
+    let cases: [(&[Option<u16>], &[Option<u16>], &[&[usize]]); 6] = [
+        (&[], &[], &[]),
+        // a chain that ends at a thread that does not wait, and one that ends at readers
+        (
+            &[Some(0), Some(1), None, Some(2)],
+            &[Some(1), Some(2), None],
+            &[],
+        ),
+        (&[Some(0), Some(1)], &[Some(1), Some(0)], &[&[0, 1]]),
+        // not in the order of the numbers
+        (
+            &[Some(0), Some(2), Some(1)],
+            &[Some(2), Some(1), Some(0)],
+            &[&[0, 2, 1]],
+        ),
+        // two cycles, and a thread behind the first
+        (
+            &[None, Some(1), Some(0), Some(2), Some(1), Some(3)],
+            &[Some(1), Some(2), Some(5), Some(3)],
+            &[&[1, 2], &[3, 5]],
+        ),
+        // a thread before all others of the chain that it waits on
+        (
+            &[Some(0), Some(1), Some(2)],
+            &[Some(1), Some(2), Some(1)],
+            &[&[1, 2]],
+        ),
+    ];
+    for (index, (waits, owners, want)) in cases.iter().enumerate() {
+        let found = cycles(rt.alloc(), &state(rt.alloc(), waits, owners)?)?;
+        assert_eq!(rt; found.len(), want.len(), "case {index}");
+        for (cycle, threads) in found.iter().zip(want.iter()) {
+            assert_eq!(rt; cycle.as_slice(), *threads, "case {index}");
+        }
+    }
+    Ok(())
+}

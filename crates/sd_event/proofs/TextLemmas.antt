@@ -1,0 +1,23 @@
+-- The forms in which the program writes the names of sets and lists of numbers.
+use Rattle.std.proofs.Common.{◌≡◌, ℕ, zero, suc, ◌-◌, ◌<◌, ◌≤◌, List, [], ◌∷◌, ◌++◌, length, get_or, drop, sym, ap, ◌∙◌, append_assoc, arith}
+use Rattle.std.specs.Prelude.{codes, option_map, unwrap_or, slice_get}
+use Rattle.std.proofs.lemmas.List.{append-nil}
+use Rattle.std.specs.Fmt.{decimal}
+use Rattle.std.specs.List.{flat_map}
+use Rattle.sd_types.specs.declared.works.Work.{Work}
+use Rattle.sd_full.specs.Texts.{set_name, numbers_text}
+
+pub set_name_past : (w : Work) (p : ℕ) → 0 < p → set_name w p ≡ unwrap_or (option_map (λ d. d.0.text.items) (slice_get w.sets (p - 1))) []
+set_name_past w zero some = absurd (omega arith)
+set_name_past w (suc p) some =
+    let same : p ≡ suc p - 1 = omega arith in
+    ap (λ k. unwrap_or (option_map (λ d. d.0.text.items) (slice_get w.sets k)) []) same
+
+numbers_by_commas : (n : ℕ) (ns : List ℕ) → numbers_text (n ∷ ns) ≡ decimal n ++ flat_map (λ m. 44 ∷ decimal m) ns
+numbers_by_commas n [] = sym (append-nil (decimal n))
+numbers_by_commas n (m ∷ ms) = append_assoc (decimal n) (codes ",") (numbers_text (m ∷ ms)) ∙ ap (λ (text : List ℕ). decimal n ++ (codes "," ++ text)) (numbers_by_commas m ms)
+
+-- numbers joined by commas are the first, and the others with a comma before each
+pub numbers_from_first : (ns : List ℕ) → 1 ≤ length ns → numbers_text ns ≡ decimal (get_or ns 0 0) ++ flat_map (λ m. 44 ∷ decimal m) (drop 1 ns)
+numbers_from_first [] some = absurd (omega arith)
+numbers_from_first (n ∷ ns) some = numbers_by_commas n ns

@@ -1,0 +1,13 @@
+//! The line of an entry of the journal: its number, its processor, its event and the numbers that it read.
+#![tactic(auto)]
+
+mod answers;
+mod entries;
+mod events;
+mod names;
+#[cfg(test)]
+mod tests;
+mod words;
+
+pub use entries::write_entry;
+pub use names::{put_chan_name, put_lock_name, put_set_name, put_thread_name};
