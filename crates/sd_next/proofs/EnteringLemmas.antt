@@ -79,7 +79,7 @@ and_true true b e f = f
 and_true false b e f = cc
 
 -- fit what is read
-shown_fit : (s : State) (r : Option (Which × List CpuId)) → hints_fit r (shown s r) ≡ true
+pub shown_fit : (s : State) (r : Option (Which × List CpuId)) → hints_fit r (shown s r) ≡ true
 shown_fit s None = refl
 shown_fit s (Some r) =
     and_true (same_which r.0 r.0) (length (map (hint_shown s r.0) r.1) == length r.1) (same_kind r.0)
@@ -246,3 +246,16 @@ enters_none w s c hints e = by (nat_lt c.0 w.cpus) (hints_fit (plan_reads w s c.
     by true true fit may = plan_none w s c.0 hints (plan w s c.0) fit may
     by true false fit may = refl
     by false f fit may = refl
+
+both : {X : Type 0} (a b : Bool) (x y : X) → a ≡ true → b ≡ true → cond (a && b) x y ≡ x
+both true true x y h k = refl
+both true false x y h k = cc
+both false b x y h k = cc
+
+-- in a run that goes in rounds the numbers always fit
+pub serial_event : (w : Work) (s : State) (c : CpuId) → c.0 < w.cpus
+    → next w s c (serial_hints w s c) ≡ allowed w s c.0 (plan_event w s c.0 (shown s (plan_reads w s c.0 (plan w s c.0))) (plan w s c.0))
+unfolding next serial_hints reads wish
+serial_event w s c there =
+    let inside : nat_lt c.0 w.cpus ≡ true = grind (arith, nat_tests) in
+    both (nat_lt c.0 w.cpus) (hints_fit (plan_reads w s c.0 (plan w s c.0)) (shown s (plan_reads w s c.0 (plan w s c.0)))) _ None inside (shown_fit s (plan_reads w s c.0 (plan w s c.0)))

@@ -115,7 +115,13 @@ fn searched(s: &State, c: CpuId, hints: &Option<Hints>) -> Event
 }
 
 /// The event of a plan, with the numbers that were read for it.
-fn plan_event(work: &Work, s: &State, c: CpuId, hints: &Option<Hints>, plan: Plan) -> Event
+pub(crate) fn plan_event(
+    work: &Work,
+    s: &State,
+    c: CpuId,
+    hints: &Option<Hints>,
+    plan: Plan,
+) -> Event
     requires threads { length s.now.threads ≤ 2048 }
     requires willed { (t : ℕ) → list_all (λ n. nat_lt n.1 160) (thread_of s.now t).body.willed.items ≡ true }
     requires fit { hints_fit (plan_reads work.now s.now c.0 plan) hints.now ≡ true }
@@ -157,7 +163,7 @@ pub fn may_tick(work: &Work, s: &State, c: CpuId) -> bool
     count < work.limit && is_least(s, count)
 }
 
-fn allowed(work: &Work, s: &State, c: CpuId, event: Event) -> Option<Event>
+pub(crate) fn allowed(work: &Work, s: &State, c: CpuId, event: Event) -> Option<Event>
     ensures { result ≡ allowed work.now s.now c.0 event }
 {
     if !event.ticks() || may_tick(work, s, c) {

@@ -15,7 +15,7 @@ use sd_machine::State;
 use sd_types::{CpuId, Hints, Which, Work};
 
 /// The numbers that the state shows of what is read.
-fn shown(s: &State, reading: &Option<Reading>) -> Option<Hints>
+pub(crate) fn shown(s: &State, reading: &Option<Reading>) -> Option<Hints>
     requires { (t : ℕ) → list_all (λ n. nat_lt n.1 160) (thread_of s.now t).body.willed.items ≡ true }
     ensures { result ≡ shown s.now (option_map parts reading.now) }
 {

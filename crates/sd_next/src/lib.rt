@@ -7,8 +7,10 @@ mod events;
 mod hints;
 mod lookups;
 mod reading;
+mod serial;
 
 pub use choosing::{put_chosen, victim_for};
 pub use events::{can_enter, may_tick, next, wish};
 pub use hints::{hints_fit, serial_hints};
 pub use reading::{Reading, reads};
+pub use serial::serial_next;
