@@ -9,12 +9,19 @@ use Rattle.sd_types.specs.declared.numbers.LockId.{LockId}
 use Rattle.sd_types.specs.declared.numbers.ChanId.{ChanId}
 use Rattle.sd_types.specs.declared.scripts.Op.{Op}
 use Rattle.sd_types.specs.declared.scripts.Op.TheVariants.{Run, Yield, Nap, Sleep, Wake, WakeAll, Enter, Read, Write, Exit, Prio, CvWait, SemaP, SemaV, Assign, Pbind}
-use Rattle.sd_types.specs.Scripts.{held_by, op_fits, EachOpFits}
+use Rattle.std.specs.Prelude.{nat_lt}
+use Rattle.sd_types.specs.Scripts.{is_held, held_by, op_fits, EachOpFits}
 use Rattle.sd_script.specs.declared.faults.ScriptFault.{ScriptFault}
 use Rattle.sd_script.specs.declared.faults.ScriptFault.TheVariants.{TooLong}
 use Rattle.sd_script.specs.Faults.{op_fault}
 use Rattle.sd_script.proofs.FaultLemmas.{op_fits-from_none}
-use Rattle.sd_declare.specs.Operations.{ops_of_op}
+use Rattle.std.specs.Option.{option_map}
+use Rattle.sd_lines.specs.Words.{Line}
+use Rattle.sd_lines.specs.Operations.{Operation, operation_of}
+use Rattle.sd_declare.specs.declared.causes.WorkCause.TheVariants.{Syntax, Script}
+use Rattle.sd_declare.specs.Declarations.{Declarations}
+use Rattle.sd_declare.specs.Operations.{op_of, ops_of_op}
+use Rattle.sd_workload.specs.Texts.{unless_done, operation_cause, ops_of}
 use Rattle.sd_workload.specs.Scripts.{first_of, more_fault, ops_fault}
 
 -- an operation that fits at the end of a script is no wait, and fits before any other
@@ -132,3 +139,19 @@ line-fits ops (SemaP k) fits h = one-fits ops (SemaP k) fits h
 line-fits ops (SemaV k) fits h = one-fits ops (SemaV k) fits h
 line-fits ops (Assign c s) fits h = one-fits ops (Assign c s) fits h
 line-fits ops (Pbind t c) fits h = one-fits ops (Pbind t c) fits h
+
+none-mapped : {X Y : Type 0} (f : X → Y) (o : Option X) → option_map f o ≡ None → o ≡ None
+none-mapped f None h = refl
+none-mapped f (Some x) h = absurd (none-some (f x) (sym h))
+
+op-more : (d : Declarations) (ops : List Op) (o : Option Operation) → operation_cause d ops o ≡ None → EachOpFits ops → EachOpFits (ops ++ ops_of d o) × (length (ops ++ ops_of d o) ≤ 256)
+op-more d ops None none fits = absurd (none-some Syntax (sym none))
+op-more d ops (Some o) none fits = line-fits ops (op_of d o) fits (none-mapped Script (ops_fault ops (ops_of_op (op_of d o))) (parts _ _ none).1)
+
+-- the operations of a line of a script, which may have no words
+pub line-more : (d : Declarations) (ops : List Op) (line : Line) → unless_done line (operation_cause d ops (operation_of line)) ≡ None → EachOpFits ops → length ops ≤ 256
+    → EachOpFits (ops ++ ops_of d (operation_of line)) × (length (ops ++ ops_of d (operation_of line)) ≤ 256)
+unfolding operation_of
+line-more d ops [] none fits short =
+    (subst EachOpFits (sym (append-nil ops)) fits, subst (λ (l : List Op). length l ≤ 256) (sym (append-nil ops)) short)
+line-more d ops (word ∷ words) none fits short = op-more d ops (operation_of (word ∷ words)) none fits

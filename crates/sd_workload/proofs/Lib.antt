@@ -1,3 +1,4 @@
+pub mod BlockLemmas
 pub mod ClearLemmas
 pub mod JudgedLemmas
 pub mod FirstLemmas
@@ -7,6 +8,8 @@ pub mod NameLemmas
 pub mod NamedLemmas
 pub mod OneLemmas
 pub mod OperationLemmas
+pub mod ScriptLemmas
 pub mod SoundLemmas
 pub mod StatementLemmas
 pub mod TableLemmas
+pub mod WorkLemmas

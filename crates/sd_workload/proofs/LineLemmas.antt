@@ -2,6 +2,7 @@
 use Rattle.std.proofs.Common.{◌≡◌, ℕ, ◌+◌, Bool, true, false, List, [], ◌∷◌, ◌++◌, length, map, refl, sym, ap, ◌∙◌, append_assoc}
 use Rattle.std.specs.List.{list_all}
 use Rattle.std.proofs.lemmas.List.{map-append}
+use Rattle.std.proofs.lemmas.List.Folds.{list_all-append}
 use Rattle.sd_text.specs.Lines.{lines_of, is_line}
 use Rattle.sd_text.specs.Words.{words_of}
 use Rattle.sd_text.proofs.LineLemmas.{lines_of-line, are_lines, both}
@@ -34,3 +35,10 @@ closed-push text line new closed h e = λ rest.
 
 pub word_lines-push : (text line new : List ℕ) → IsClosed text → is_line line ≡ true → new ≡ text ++ (line ++ 10 ∷ []) → word_lines new ≡ word_lines text ++ words_of line ∷ []
 word_lines-push text line new closed h e = ap (map words_of) (lines-push text line new closed h e) ∙ map-append words_of (lines_of text) (line ∷ [])
+
+pub no-lines : (text : List ℕ) → text ≡ [] → word_lines text ≡ []
+unfolding lines_of
+no-lines text e = ap word_lines e
+
+pub all-push : {X : Type 0} (p : X → Bool) (xs : List X) (x : X) → list_all p xs ≡ true → p x ≡ true → list_all p (xs ++ x ∷ []) ≡ true
+all-push p xs x all here = list_all-append p xs (x ∷ []) ∙ rw (all, here) refl

@@ -37,11 +37,11 @@ fixed-along format text other hz t e s = record {
 fixed-same : (format : Format) (lines : List Line) (hz : ℕ) (a b : FixedTable) → SpellsFixedLines format lines hz a → SpellsFixedLines format lines hz b
     → (a.res ≡ b.res) × (a.rows ≡ b.rows)
 fixed-same format lines hz a b s t =
-    one_fixed format t.text hz a b (fixed-along format s.text t.text hz a (s.lines ∙ sym t.lines) s.spells) t.spells
+    one_fixed format t.text hz a b (fixed-along format s.text t.text hz a (s.text_lines ∙ sym t.text_lines) s.spells) t.spells
 
 ts-same : (o : Option (List Line)) (hz : ℕ) (a b : TsTable) → IsTs o hz a → IsTs o hz b → (a.res ≡ b.res) × (a.rows ≡ b.rows)
 ts-same None hz a b s t = (s.res ∙ sym t.res, s.rows ∙ sym t.rows)
-ts-same (Some lines) hz a b s t = one_ts t.text hz a b (ts-along s.text t.text hz a (s.lines ∙ sym t.lines) s.spells) t.spells
+ts-same (Some lines) hz a b s t = one_ts t.text hz a b (ts-along s.text t.text hz a (s.text_lines ∙ sym t.text_lines) s.spells) t.spells
 
 fx-same : (o : Option (List Line)) (hz : ℕ) (a b : FixedTable) → IsFx o hz a → IsFx o hz b → (a.res ≡ b.res) × (a.rows ≡ b.rows)
 fx-same None hz a b s t = (s.res ∙ sym t.res, s.rows ∙ sym t.rows)

@@ -1,8 +1,9 @@
 -- The operations of a line without causes name what is declared.
-use Rattle.std.proofs.Common.{◌≡◌, ℕ, ◌+◌, ◌≤◌, Bool, true, false, not, ◌&&◌, ltb, leb, List, [], ◌∷◌, ◌++◌, Option, Some, None, refl, sym, ap, ◌∙◌, arith, length, length-map}
+use Rattle.std.proofs.Common.{◌≡◌, ℕ, ◌+◌, ◌≤◌, Bool, true, false, not, ◌&&◌, ltb, leb, List, [], ◌∷◌, ◌++◌, Option, Some, None, refl, sym, ap, ◌∙◌, arith, length}
 use Rattle.std.specs.Option.{option_map}
-use Rattle.std.specs.List.{list_all}
+use Rattle.std.specs.List.{list_all, slice_get}
 use Rattle.std.proofs.lemmas.Bool.Decides.{nat_tests}
+use Rattle.std.proofs.lemmas.List.{length-map}
 use Rattle.std.proofs.lemmas.List.Folds.{list_all-append}
 use Rattle.sd_types.specs.declared.scripts.Op.{Op}
 use Rattle.sd_types.specs.declared.scripts.Op.TheVariants as op
@@ -30,7 +31,7 @@ quantum-fits Inf h = refl
 quantum-fits (Ticks n) h = h
 
 request-fits : (r : RequestLine) → is_request r ≡ true → request_fits (request_of r) ≡ true
-request-fits (Ts limit pri) h = let p = both _ _ h in rw (p.0, p.1) refl
+request-fits (Ts limit pri) h = let p = both (short_fits limit) (short_fits pri) h in rw (p.0, p.1) refl
 request-fits (Fx limit pri q) h =
     let p = both (short_fits limit && short_fits pri) (is_quantum q) h in
     let r = both (short_fits limit) (short_fits pri) p.0 in
@@ -77,8 +78,8 @@ op-named d (Pbind t cpu) none =
 -- the operations of an operation that names what is declared
 both-named : (d : Declarations) (o : Op) → op_names (named d) o ≡ true → list_all (op_names (named d)) (ops_of_op o) ≡ true
 both-named d (op.CvWait k l) h =
-    let p = both _ _ h in
-    rw (h, p.1) refl
+    let p = both (is_chan (slice_get (named d).chans k.0)) (is_mutex (slice_get (named d).locks l.0)) h in
+    rw (p.0, p.1) refl
 both-named d (op.Run n) h = rw h refl
 both-named d op.Yield h = refl
 both-named d (op.Nap n) h = rw h refl

@@ -173,7 +173,7 @@ scripted-sound d t ops line false e none h named_ops = record { declared = h; bl
 in-script-sound : (d : Declarations) (t : ThreadId) (ops : List Op) (line : Line) → unless_done line (script_cause d ops line) ≡ None
     → IsSound d → list_all (op_names (named d)) ops ≡ true
     → IsBelow (cond (is_end line) (with_script d t ops) d) (cond (is_end line) Outside (InScript t (ops ++ ops_of d (operation_of line))))
-unfolding operation_of, only_word
+unfolding operation_of only_word
 in-script-sound d t ops [] none h named_ops = record { declared = h; block = ap (list_all (op_names (named d))) (append-nil ops) ∙ named_ops }
 in-script-sound d t ops (word ∷ words) none h named_ops =
     scripted-sound d t ops (word ∷ words) (is_end (word ∷ words)) refl none h named_ops
@@ -182,7 +182,7 @@ in-script-sound d t ops (word ∷ words) none h named_ops =
 
 line-sound : (d : Declarations) (b : Block) (line : Line) → cause_of d b line ≡ None → IsSound d → IsSoundBlock d b
     → IsBelow (declared_after d b line) (block_after d b line)
-unfolding cause_of, declared_after, block_after
+unfolding cause_of declared_after block_after
 line-sound d Outside line none h k = outside-sound d line none h
 line-sound d (InTable class above) line none h k = inside-sound d class above line (is_end line) refl none h k
 line-sound d (InScript t ops) line none h k = in-script-sound d t ops line none h k
@@ -194,26 +194,28 @@ declared-by (Refuses n c) e = e
 accepts-same : (d e : Declarations) → Accepts d ≡ Accepts e → d ≡ e
 accepts-same d e h = cc
 
+apart-from : (n : ℕ) (c : WorkCause) (e : Declarations) → Refuses n c ≡ Accepts e → ⊥
+apart-from n c e h = cc
+
 end-sound : (o : Option WorkCause) (n : ℕ) (d e : Declarations) → unless_refused n o (Accepts d) ≡ Accepts e → IsSound d → IsSound e
 end-sound None n d e h s = subst IsSound (accepts-same d e h) s
-end-sound (Some c) n d e h s = absurd (refused n c e h)
-  where
-    refused : (n : ℕ) (c : WorkCause) (e : Declarations) → Refuses n c ≡ Accepts e → ⊥
-    refused n c e h = cc
+end-sound (Some c) n d e h s = absurd (apart-from n c e h)
 
 -- what lines without a fault declare, below sound declarations
 lines-sound : (lines : List Line) (n : ℕ) (d e : Declarations) (b : Block) → judged n d b lines ≡ Accepts e → IsSound d → IsSoundBlock d b → IsSound e
 unfolding judged
 lines-sound [] n d e b h s k = end-sound (end_cause d b) n d e h s
-lines-sound (line ∷ lines) n d e b h s k = by (cause_of d b line) refl
+lines-sound (line ∷ lines) n d e b h s k =
+    by (cause_of d b line) refl (λ (below : IsBelow (declared_after d b line) (block_after d b line)) g.
+        lines-sound lines (n + 1) (declared_after d b line) e (block_after d b line) g below.declared below.block)
   where
-    by : (o : Option WorkCause) → cause_of d b line ≡ o → IsSound e
-    by None is =
-        let below = line-sound d b line is s k in
-        lines-sound lines (n + 1) (declared_after d b line) e (block_after d b line)
-            (sym (ap (λ x. unless_refused n x (judged (n + 1) (declared_after d b line) (block_after d b line) lines)) is) ∙ h) below.declared below.block
-    by (Some c) is =
-        let f : Refuses n c ≡ Accepts e = sym (ap (λ x. unless_refused n x (judged (n + 1) (declared_after d b line) (block_after d b line) lines)) is) ∙ h in absurd cc
+    by : (o : Option WorkCause) → cause_of d b line ≡ o
+        → (IsBelow (declared_after d b line) (block_after d b line) → judged (n + 1) (declared_after d b line) (block_after d b line) lines ≡ Accepts e → IsSound e) → IsSound e
+    by None is more =
+        more (line-sound d b line is s k)
+            (sym (ap (λ x. unless_refused n x (judged (n + 1) (declared_after d b line) (block_after d b line) lines)) is) ∙ h)
+    by (Some c) is more =
+        let f : Refuses n c ≡ Accepts e = sym (ap (λ x. unless_refused n x (judged (n + 1) (declared_after d b line) (block_after d b line) lines)) is) ∙ h in absurd (apart-from n c e f)
 
 nothing-sound : IsSound nothing
 nothing-sound = record {

@@ -1,14 +1,16 @@
 -- A statement without causes keeps what holds of the declarations.
-use Rattle.std.proofs.Common.{◌≡◌, ℕ, ◌+◌, ◌<◌, ◌≤◌, Bool, true, false, not, ◌&&◌, ◌||◌, ltb, leb, min, List, [], ◌∷◌, ◌++◌, length, map, Option, Some, None, refl, sym, ap, ◌∙◌, subst, arith, length-append, append-nil}
+use Rattle.std.proofs.Common.{◌≡◌, ℕ, ℤ, ◌+◌, ◌<◌, ◌≤◌, Bool, true, false, not, ◌&&◌, ◌||◌, ltb, leb, min, List, [], ◌∷◌, ◌++◌, length, map, Option, Some, None, refl, sym, ap, ◌∙◌, subst, arith, length-append, append-nil}
 use Rattle.std.specs.Prelude.{unwrap_or, is_some, flat_map, nat_eq}
 use Rattle.std.specs.Int.{int_min}
 use Rattle.std.specs.List.{list_any, list_all, sum_by, slice_get}
 use Rattle.std.proofs.lemmas.Bool.{false≢true}
 use Rattle.std.proofs.lemmas.Bool.Decides.{nat_tests}
+use Rattle.std.proofs.lemmas.Int.{ints}
 use Rattle.std.proofs.lemmas.List.{map-append, nil_from_length, length-map}
 use Rattle.std.proofs.lemmas.List.Concat.{flat_map-append, length-flat_map}
 use Rattle.std.proofs.lemmas.List.Folds.{list_all-append, list_any-append}
 use Rattle.sd_types.specs.declared.numbers.CpuId.{CpuId}
+use Rattle.sd_types.specs.declared.classes.ClassParms.TheVariants as parms
 use Rattle.sd_types.specs.declared.works.LockKind.{LockKind}
 use Rattle.sd_types.specs.declared.works.ChanKind.{ChanKind}
 use Rattle.sd_types.specs.Partitions.{cpu_of_number}
@@ -124,7 +126,7 @@ some-cpus : (cs : List ℕ) → nat_eq (length cs) 0 ≡ false → ltb 0 (length
 some-cpus cs h = let e = length-map cs cpu_of_number in grind (arith, nat_tests)
 
 set-sound : (d : Declarations) (name : Word) (cs : List ℕ) → least (set_causes d name cs) ≡ None → IsSound d → IsSound (with_set d name cs)
-unfolding set_place, is_taken
+unfolding set_place is_taken
 set-sound d name cs none s =
     let c = clear (set_causes d name cs) none in
     let in_range = c.range in
@@ -199,8 +201,14 @@ quantum-fits Def h = refl
 quantum-fits Inf h = refl
 quantum-fits (Ticks n) h = h
 
+ts-fits : (cpupri : ℕ) (limit upri : ℤ) → leb cpupri 59 ≡ true → upri_fits limit ≡ true → upri_fits upri ≡ true → class_fits (parms.Ts limit (int_min upri limit)) cpupri ≡ true
+ts-fits cpupri limit upri p l u = grind (arith, nat_tests, ints)
+
 class-fits : (c : ThreadClass) → is_class c ≡ true → class_fits (parms_of c) (cpupri_of c) ≡ true
-class-fits (Ts cpupri limit upri) h = ?
+class-fits (Ts cpupri limit upri) h =
+    let p = both (leb cpupri 59 && upri_fits limit) (upri_fits upri) h in
+    let q = both (leb cpupri 59) (upri_fits limit) p.0 in
+    ts-fits cpupri limit upri q.0 q.1 p.1
 class-fits (Fx limit pri q) h =
     let p = both (leb limit 60 && leb pri 60) (is_quantum q) h in
     let r = both (leb limit 60) (leb pri 60) p.0 in

@@ -20,7 +20,7 @@ hz_of d = unwrap_or d.hz 100
 
 pub record SpellsTsLines (lines : List Line) (hz : ℕ) (t : TsTable) : Type 0 where
   pub text : List ℕ
-  pub lines : word_lines text ≡ lines
+  pub text_lines : word_lines text ≡ lines
   pub spells : SpellsTs text hz t
 
 pub record IsDefaultTs (hz : ℕ) (t : TsTable) : Type 0 where
@@ -33,7 +33,7 @@ IsTs (Some lines) hz t = SpellsTsLines lines hz t
 
 pub record SpellsFixedLines (format : Format) (lines : List Line) (hz : ℕ) (t : FixedTable) : Type 0 where
   pub text : List ℕ
-  pub lines : word_lines text ≡ lines
+  pub text_lines : word_lines text ≡ lines
   pub spells : SpellsFixed format text hz t
 
 pub record IsDefaultFx (hz : ℕ) (t : FixedTable) : Type 0 where

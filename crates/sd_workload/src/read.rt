@@ -50,8 +50,14 @@ fn take_lines(
 {
     match take_line(alloc, d, line, number)? {
         Opened::Nothing => Ok(below),
-        Opened::Table(class) => take_table(alloc, d, class, bytes, below),
-        Opened::Script(thread) => take_script(alloc, d, thread, bytes, below),
+        Opened::Table(class) => {
+            let to = take_table(alloc, d, class, bytes, below)?;
+            Ok(to)
+        }
+        Opened::Script(thread) => {
+            let to = take_script(alloc, d, thread, bytes, below)?;
+            Ok(to)
+        }
     }
 }
 
@@ -105,6 +111,7 @@ fn declared(alloc: Global, bytes: &[u8]) -> Result<(Declared, u32), WorkFault>
     requires { length bytes.now < 2 ^ 31 }
     ensures ok { IfOk result (λ found. verdict_of bytes.now ≡ Accepts (declarations found.0)) }
     ensures err { IfErr result (IsFault (verdict_of bytes.now)) }
+    ensures end { IfOk result (λ found. end_cause (declarations found.0) Outside ≡ None) }
     ensures limit { IfOk result (λ found. found.0.limit ≡ Some found.1) }
 {
     let mut d = Declared::new(alloc);

@@ -33,52 +33,52 @@ struct OpenScript {
 
 // Takes one more operation, which `after` follows.
 #[tactic(auto, unfolding(crate::specs::Scripts::more_fault))]
-fn take_op(open: &mut OpenScript, op: Op, after: Option<Op>) -> Result<(), Refusal>
-    requires { open.old.held.items ≡ held_by open.old.ops.items }
-    ensures ok { OnOk result (more_fault open.old.ops.items op after ≡ None) }
-    ensures err { IfErr result (IsRefusal (option_map Scripted (more_fault open.old.ops.items op after))) }
-    ensures ops { OnOk result (open.new.ops.items ≡ open.old.ops.items ++ op ∷ []) }
-    ensures held { OnOk result (open.new.held.items ≡ held_by open.new.ops.items) }
+fn take_op(script: &mut OpenScript, op: Op, after: Option<Op>) -> Result<(), Refusal>
+    requires { script.old.held.items ≡ held_by script.old.ops.items }
+    ensures ok { OnOk result (more_fault script.old.ops.items op after ≡ None) }
+    ensures err { IfErr result (IsRefusal (option_map Scripted (more_fault script.old.ops.items op after))) }
+    ensures ops { OnOk result (script.new.ops.items ≡ script.old.ops.items ++ op ∷ []) }
+    ensures held { OnOk result (script.new.held.items ≡ held_by script.new.ops.items) }
 {
-    if MOST_OPS <= open.ops.len() {
+    if MOST_OPS <= script.ops.len() {
         return Err(Refusal::Cause(WorkCause::Script(ScriptFault::TooLong)));
     }
-    if let Some(fault) = fault_of(open.ops.len() as u16, &open.held, op, after) {
+    if let Some(fault) = fault_of(script.ops.len() as u16, &script.held, op, after) {
         return Err(Refusal::Cause(WorkCause::Script(fault)));
     }
-    open.ops.push(op)?;
-    take_or_release(&mut open.held, op);
+    script.ops.push(op)?;
+    take_or_release(&mut script.held, op);
     Ok(())
 }
 
 // Takes the operations of a line, of which this is the first.
-fn take_ops(open: &mut OpenScript, op: Op) -> Result<(), Refusal>
-    requires { open.old.held.items ≡ held_by open.old.ops.items }
-    ensures ok { OnOk result (ops_fault open.old.ops.items (ops_of_op op) ≡ None) }
-    ensures err { IfErr result (IsRefusal (option_map Scripted (ops_fault open.old.ops.items (ops_of_op op)))) }
-    ensures ops { OnOk result (open.new.ops.items ≡ open.old.ops.items ++ ops_of_op op) }
-    ensures held { OnOk result (open.new.held.items ≡ held_by open.new.ops.items) }
+fn take_ops(script: &mut OpenScript, op: Op) -> Result<(), Refusal>
+    requires { script.old.held.items ≡ held_by script.old.ops.items }
+    ensures ok { OnOk result (ops_fault script.old.ops.items (ops_of_op op) ≡ None) }
+    ensures err { IfErr result (IsRefusal (option_map Scripted (ops_fault script.old.ops.items (ops_of_op op)))) }
+    ensures ops { OnOk result (script.new.ops.items ≡ script.old.ops.items ++ ops_of_op op) }
+    ensures held { OnOk result (script.new.held.items ≡ held_by script.new.ops.items) }
 {
     if let Op::CvWait(_, mutex) = op {
-        take_op(open, op, Some(Op::Enter(mutex)))?;
-        take_op(open, Op::Enter(mutex), None)
+        take_op(script, op, Some(Op::Enter(mutex)))?;
+        take_op(script, Op::Enter(mutex), None)
     } else {
-        take_op(open, op, None)
+        take_op(script, op, None)
     }
 }
 
 // Takes a line inside the block, which does not close it.
 fn take_operation(
     d: &Declared,
-    open: &mut OpenScript,
+    script: &mut OpenScript,
     line: &[u8],
     number: u32,
 ) -> Result<(), WorkFault>
-    requires { open.old.held.items ≡ held_by open.old.ops.items }
-    ensures ok { OnOk result (unless_done (words_of line.now) (operation_cause (declarations d.now) open.old.ops.items (operation_of (words_of line.now))) ≡ None) }
-    ensures err { IfErr result (IsFaultAt number (unless_done (words_of line.now) (operation_cause (declarations d.now) open.old.ops.items (operation_of (words_of line.now))))) }
-    ensures ops { OnOk result (open.new.ops.items ≡ open.old.ops.items ++ ops_of (declarations d.now) (operation_of (words_of line.now))) }
-    ensures held { OnOk result (open.new.held.items ≡ held_by open.new.ops.items) }
+    requires { script.old.held.items ≡ held_by script.old.ops.items }
+    ensures ok { OnOk result (unless_done (words_of line.now) (operation_cause (declarations d.now) script.old.ops.items (operation_of (words_of line.now))) ≡ None) }
+    ensures err { IfErr result (IsFaultAt number (unless_done (words_of line.now) (operation_cause (declarations d.now) script.old.ops.items (operation_of (words_of line.now))))) }
+    ensures ops { OnOk result (script.new.ops.items ≡ script.old.ops.items ++ ops_of (declarations d.now) (operation_of (words_of line.now))) }
+    ensures held { OnOk result (script.new.held.items ≡ held_by script.new.ops.items) }
 {
     if !has_words(line) {
         return Ok(());
@@ -90,7 +90,7 @@ fn take_operation(
         });
     };
     match op_of(d, &operation) {
-        Ok(op) => match take_ops(open, op) {
+        Ok(op) => match take_ops(script, op) {
             Ok(()) => Ok(()),
             Err(refusal) => Err(fault_at(number, refusal)),
         },
@@ -102,21 +102,21 @@ fn take_operation(
 }
 
 // The script of operations that are closed by a line with this number.
-fn closed(open: OpenScript, number: u32) -> Result<Script, WorkFault>
-    requires held { open.held.items ≡ held_by open.ops.items }
-    requires fits { EachOpFits open.ops.items }
-    requires short { length open.ops.items ≤ 256 }
-    ensures ok { OnOk result (end_fault open.ops.items ≡ None) }
-    ensures err { IfErr result (IsFaultAt number (option_map Scripted (end_fault open.ops.items))) }
-    ensures ops { IfOk result (λ script. script.ops ≡ open.ops.items) }
+fn closed(script: OpenScript, number: u32) -> Result<Script, WorkFault>
+    requires held { script.held.items ≡ held_by script.ops.items }
+    requires fits { EachOpFits script.ops.items }
+    requires short { length script.ops.items ≤ 256 }
+    ensures ok { OnOk result (end_fault script.ops.items ≡ None) }
+    ensures err { IfErr result (IsFaultAt number (option_map Scripted (end_fault script.ops.items))) }
+    ensures ops { IfOk result (λ s. s.ops ≡ script.ops.items) }
 {
-    if !open.held.is_empty() {
+    if !script.held.is_empty() {
         return Err(WorkFault::At {
             line: number,
             cause: WorkCause::Script(ScriptFault::HeldAtExit),
         });
     }
-    Ok(Script::from_ops(List::from_vec(open.ops)))
+    Ok(Script::from_ops(List::from_vec(script.ops)))
 }
 
 // The script of a thread whose lines begin at a place, and the place below its end.
@@ -134,17 +134,17 @@ fn script_at(
     ensures err { IfErr result (IsFault (judged_from bytes.now at (declarations d.now) (InScript thread []))) }
     ensures below { IfOk result (λ found. IsBelow bytes.now at found.1) }
 {
-    let mut open = OpenScript {
+    let mut so_far = OpenScript {
         ops: Vec::new(alloc),
         held: ArrayVec::new(),
     };
     let mut here = at;
     'lines: while let Some((line, below)) = line_at(bytes, here) {
         if is_end(line) {
-            let script = closed(open, here.number)?;
+            let script = closed(so_far, here.number)?;
             return Ok((script, below));
         }
-        take_operation(d, &mut open, line, here.number)?;
+        take_operation(d, &mut so_far, line, here.number)?;
         here = below;
     }
     Err(WorkFault::At {

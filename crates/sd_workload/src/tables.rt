@@ -1,6 +1,6 @@
 //! The blocks of dispatch tables.
 
-ghost use Rattle.std.specs.Prelude.{◌≡◌, [], ◌++◌, ◌∷◌, ◌+◌, ◌-◌, ◌<◌, ◌≤◌, ◌^◌, length, OnOk, IfOk, IfErr, IfSome, IfNone, IsSome, IsNone};
+ghost use Rattle.std.specs.Prelude.{◌≡◌, [], ◌++◌, ◌∷◌, ◌+◌, ◌-◌, ◌<◌, ◌≤◌, ◌^◌, length, OnOk, IfOk, IfErr, IfSome, IfNone, true, false};
 ghost use Rattle.sd_tables.specs.TableText.{word_lines, IsTableText, IsTableFault, ts_format, fx_format, rt_format};
 ghost use Rattle.sd_declare.specs.Kept.{declarations};
 ghost use Rattle.sd_workload.specs.Places.{judged_from, IsFault};
@@ -37,6 +37,7 @@ fn block_at(alloc: Global, bytes: &[u8], at: Place) -> Result<TableBlock, AllocE
     requires text { length bytes.now < 2 ^ 31 }
     requires number { at.number ≤ at.from + 1 }
     requires inside { 1 ≤ at.from }
+    requires within { at.from ≤ length bytes.now + 1 }
     ensures block { IfOk result (IsBlock bytes.now at) }
     ensures short { IfOk result (λ block. length block.text.items < 2 ^ 31) }
 {
@@ -144,12 +145,12 @@ fn set_table(d: &mut Declared, class: TableClass, text: Vec<u8>)
     }
 }
 
-// The fault of a text in whose table block, with the first line `number`, this fault stands.
-fn block_fault(block: &TableBlock, number: u32, fault: TableFault) -> WorkFault
-    requires { IfSome (line_of fault) (λ line. (1 ≤ line) × (number + line ≤ block.now.end + 1)) }
+// The fault of a text where a table's block has this fault, from its first line `number` to the line `end`.
+fn block_fault(number: u32, end: u32, is_closed: bool, fault: TableFault) -> WorkFault
+    requires { IfSome (line_of fault) (λ line. (1 ≤ line) × (number + line ≤ end + 1)) }
     ensures line { IfSome (line_of fault) (λ line. result ≡ WorkFault.At (number + line - 1) (WorkCause.Table fault)) }
-    ensures rows { IfNone (line_of fault) (IsSome block.now.below → result ≡ WorkFault.At block.now.end (WorkCause.Table fault)) }
-    ensures open { IfNone (line_of fault) (IsNone block.now.below → result ≡ WorkFault.At block.now.end WorkCause.Syntax) }
+    ensures rows { IfNone (line_of fault) (is_closed ≡ true → result ≡ WorkFault.At end (WorkCause.Table fault)) }
+    ensures unclosed { IfNone (line_of fault) (is_closed ≡ false → result ≡ WorkFault.At end WorkCause.Syntax) }
 {
     if let Some(line) = line_of(fault) {
         return WorkFault::At {
@@ -157,14 +158,16 @@ fn block_fault(block: &TableBlock, number: u32, fault: TableFault) -> WorkFault
             cause: WorkCause::Table(fault),
         };
     }
-    let cause = if block.below.is_some() {
-        WorkCause::Table(fault)
+    if is_closed {
+        WorkFault::At {
+            line: end,
+            cause: WorkCause::Table(fault),
+        }
     } else {
-        WorkCause::Syntax
-    };
-    WorkFault::At {
-        line: block.end,
-        cause,
+        WorkFault::At {
+            line: end,
+            cause: WorkCause::Syntax,
+        }
     }
 }
 
@@ -179,6 +182,7 @@ pub fn take_table(
     requires text { length bytes.now < 2 ^ 31 }
     requires number { at.number ≤ at.from + 1 }
     requires inside { 1 ≤ at.from }
+    requires within { at.from ≤ length bytes.now + 1 }
     ensures ok { IfOk result (λ to. judged_from bytes.now at (declarations d.old) (InTable class [])
         ≡ judged_from bytes.now to (declarations d.new) Outside) }
     ensures err { IfErr result (IsFault (judged_from bytes.now at (declarations d.old) (InTable class []))) }
@@ -186,7 +190,8 @@ pub fn take_table(
 {
     let block = block_at(alloc, bytes, at)?;
     if let Some(fault) = table_fault(alloc, class, &block.text)? {
-        return Err(block_fault(&block, at.number, fault));
+        let is_closed = block.below.is_some();
+        return Err(block_fault(at.number, block.end, is_closed, fault));
     }
     let Some(below) = block.below else {
         return Err(WorkFault::At {

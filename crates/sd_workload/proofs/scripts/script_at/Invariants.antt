@@ -8,12 +8,12 @@ use Rattle.sd_workload.proofs.scripts.script_at.Given as goal
 -- no line so far is at fault
 abbrev pub invariant-lines : goal.invariant-lines
 invariant-lines l = record {
-  held : l.open.held.items ≡ held_by l.open.ops.items;
-  fits : EachOpFits l.open.ops.items;
-  short : length l.open.ops.items ≤ 256;
+  held : l.so_far.held.items ≡ held_by l.so_far.ops.items;
+  fits : EachOpFits l.so_far.ops.items;
+  short : length l.so_far.ops.items ≤ 256;
   after : l.fn.at.from ≤ l.here.from;
   numbered : l.here.number ≤ l.here.from + 1;
-  rest : judged_from l.bytes l.fn.at (declarations l.d) (InScript l.fn.thread []) ≡ judged_from l.bytes l.here (declarations l.d) (InScript l.fn.thread l.open.ops.items);
+  rest : judged_from l.bytes l.fn.at (declarations l.d) (InScript l.fn.thread []) ≡ judged_from l.bytes l.here (declarations l.d) (InScript l.fn.thread l.so_far.ops.items);
 }
 
 abbrev pub decreases-lines : goal.decreases-lines
