@@ -66,7 +66,7 @@ fn op_at(ops: &[Op], number: usize) -> Option<Op>
 }
 
 /// The fault of operation number `number`, before which these locks are held.
-fn fault_of(number: u16, held: &[LockId], op: Op, after: Option<Op>) -> Option<ScriptFault>
+pub fn fault_of(number: u16, held: &[LockId], op: Op, after: Option<Op>) -> Option<ScriptFault>
     ensures { result ≡ op_fault number held.now op after }
 {
     if is_unbalanced(held, op) {
@@ -135,7 +135,7 @@ fn is_held(lock: LockId, held: &[LockId]) -> bool
 }
 
 /// Makes the locks those that are held after the operation.
-fn take_or_release(held: &mut ArrayVec<LockId, 8>, op: Op)
+pub fn take_or_release(held: &mut ArrayVec<LockId, 8>, op: Op)
     requires { is_ninth held.old.items op ≡ false }
     ensures { held.new.items ≡ held_after held.old.items op }
 {

@@ -7,6 +7,6 @@ mod laws;
 #[cfg(test)]
 mod tests;
 
-pub use checks::check;
+pub use checks::{check, fault_of, take_or_release};
 pub use faults::ScriptFault;
 pub use laws::{faults_stay, one_answer, one_fault};

@@ -1,0 +1,5 @@
+pub mod Operations
+pub mod Said
+pub mod Statements
+pub mod Threads
+pub mod Words

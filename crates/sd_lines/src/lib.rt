@@ -1,0 +1,19 @@
+//! The lines of a workload text, each by itself: what a line outside blocks says, and what a line of a script says.
+//! Whether names are declared and numbers are in their ranges is judged by the crates above.
+#![tactic(auto)]
+
+mod names;
+mod operations;
+mod requests;
+mod statements;
+mod threads;
+mod words;
+
+pub use names::is_word;
+pub use operations::{Operation, RequestLine, operation_of};
+pub use statements::{Statement, TableClass, statement_of};
+pub use threads::{ThreadClass, ThreadLine, ThreadOptions};
+pub use words::{QuantumWord, has_words, is_end};
+
+#[cfg(test)]
+mod tests;

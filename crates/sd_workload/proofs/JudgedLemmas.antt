@@ -1,0 +1,71 @@
+-- The verdict on lines, one line further on.
+use Rattle.std.proofs.Common.{◌≡◌, ℕ, ◌+◌, not, false, append-nil, ◌++◌, List, [], ◌∷◌, Option, Some, None, refl, sym, ap, ◌∙◌, subst}
+use Rattle.std.proofs.lemmas.Bool.{false≢true}
+use Rattle.sd_types.specs.declared.scripts.Op.{Op}
+use Rattle.sd_lines.specs.Words.{Line, is_done}
+use Rattle.sd_lines.specs.Statements.{statement_of}
+use Rattle.sd_lines.specs.Operations.{operation_of}
+use Rattle.sd_declare.specs.declared.causes.WorkCause.{WorkCause}
+use Rattle.sd_declare.specs.Declarations.{Declarations}
+use Rattle.sd_workload.specs.declared.fault.WorkFault.{WorkFault}
+use Rattle.sd_workload.specs.declared.fault.WorkFault.TheVariants.{At, Memory}
+use Rattle.sd_workload.specs.Places.{IsFault, IsFaultAt}
+use Rattle.sd_workload.specs.Texts.{Block, Outside, ops_of, cause_of, declared_after, block_after, end_cause, Verdict, Accepts, Refuses, unless_refused, judged}
+
+pub judged-end : (n : ℕ) (d : Declarations) (b : Block) (lines : List Line) → lines ≡ []
+    → judged n d b lines ≡ unless_refused n (end_cause d b) (Accepts d)
+unfolding judged
+judged-end n d b lines e = ap (judged n d b) e
+
+pub judged-line : (n : ℕ) (d : Declarations) (b : Block) (lines below : List Line) (line : Line) → lines ≡ line ∷ below
+    → judged n d b lines ≡ unless_refused n (cause_of d b line) (judged (n + 1) (declared_after d b line) (block_after d b line) below)
+unfolding judged
+judged-line n d b lines below line e = ap (judged n d b) e
+
+-- a line that is not at fault
+pub judged-on : (n m : ℕ) (d e : Declarations) (b c : Block) (lines below : List Line) (line : Line) → lines ≡ line ∷ below
+    → cause_of d b line ≡ None → m ≡ n + 1 → e ≡ declared_after d b line → c ≡ block_after d b line → judged n d b lines ≡ judged m e c below
+judged-on n m d e b c lines below line is none next declared block =
+    judged-line n d b lines below line is
+    ∙ ap (λ o. unless_refused n o (judged (n + 1) (declared_after d b line) (block_after d b line) below)) none
+    ∙ sym (ap (λ k. judged k e c below) next ∙ ap (λ x. judged (n + 1) x c below) declared ∙ ap (λ x. judged (n + 1) (declared_after d b line) x below) block)
+
+-- a line at fault
+pub judged-stop : (n : ℕ) (d : Declarations) (b : Block) (lines below : List Line) (line : Line) (cause : WorkCause) → lines ≡ line ∷ below
+    → cause_of d b line ≡ Some cause → judged n d b lines ≡ Refuses n cause
+judged-stop n d b lines below line cause is some =
+    judged-line n d b lines below line is
+    ∙ ap (λ o. unless_refused n o (judged (n + 1) (declared_after d b line) (block_after d b line) below)) some
+
+-- a fault on a line is the refusal of the lines from there on
+pub fault-at : (n : ℕ) (d : Declarations) (b : Block) (lines below : List Line) (line : Line) (f : WorkFault) → lines ≡ line ∷ below
+    → IsFaultAt n (cause_of d b line) f → IsFault (judged n d b lines) f
+fault-at n d b lines below line (At l c) is h = judged-stop n d b lines below line c is h.1 ∙ ap (λ k. Refuses k c) (sym h.0)
+fault-at n d b lines below line Memory is h = tt
+
+-- and so is one at the end
+pub fault-end : (n : ℕ) (d : Declarations) (b : Block) (lines : List Line) (f : WorkFault) → lines ≡ [] → IsFaultAt n (end_cause d b) f → IsFault (judged n d b lines) f
+fault-end n d b lines (At l c) is h =
+    judged-end n d b lines is ∙ ap (λ o. unless_refused n o (Accepts d)) h.1 ∙ ap (λ k. Refuses k c) (sym h.0)
+fault-end n d b lines Memory is h = tt
+
+pub fault-along : (v w : Verdict) (f : WorkFault) → v ≡ w → IsFault w f → IsFault v f
+fault-along v w f e h = subst (λ (x : Verdict). IsFault x f) (sym e) h
+
+-- ---- lines without words
+
+no-word : (line : Line) → not (is_done line) ≡ false → line ≡ []
+no-word [] h = refl
+no-word (word ∷ words) h = absurd (false≢true (sym h))
+
+pub blank-declared : (d : Declarations) (line : Line) → not (is_done line) ≡ false → d ≡ declared_after d Outside line
+unfolding declared_after statement_of
+blank-declared d line h = sym (ap (declared_after d Outside) (no-word line h))
+
+pub blank-opened : (d : Declarations) (line : Line) → not (is_done line) ≡ false → Outside ≡ block_after d Outside line
+unfolding block_after statement_of
+blank-opened d line h = sym (ap (block_after d Outside) (no-word line h))
+
+pub blank-ops : (d : Declarations) (ops : List Op) (line : Line) → not (is_done line) ≡ false → ops ≡ ops ++ ops_of d (operation_of line)
+unfolding operation_of
+blank-ops d ops line h = sym (ap (λ l. ops ++ ops_of d (operation_of l)) (no-word line h) ∙ append-nil ops)

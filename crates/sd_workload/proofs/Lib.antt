@@ -1,0 +1,15 @@
+pub mod BlockLemmas
+pub mod ClearLemmas
+pub mod JudgedLemmas
+pub mod FirstLemmas
+pub mod FitsLemmas
+pub mod LineLemmas
+pub mod NameLemmas
+pub mod NamedLemmas
+pub mod OneLemmas
+pub mod OperationLemmas
+pub mod ScriptLemmas
+pub mod SoundLemmas
+pub mod StatementLemmas
+pub mod TableLemmas
+pub mod WorkLemmas

@@ -1,0 +1,7 @@
+pub mod Accepted
+pub mod First
+pub mod Places
+pub mod Scripts
+pub mod Sound
+pub mod Tables
+pub mod Texts

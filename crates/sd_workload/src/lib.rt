@@ -1,0 +1,19 @@
+//! Workload texts: read into valid works, or refused at the first line at fault, with the least of its causes.
+#![tactic(auto)]
+
+mod fault;
+mod laws;
+mod lines;
+mod places;
+mod read;
+mod scripts;
+mod tables;
+mod works;
+
+pub use fault::WorkFault;
+pub use laws::{causes_are_first, texts_have_one_answer, texts_have_one_work};
+pub use read::read_work;
+pub use sd_declare::WorkCause;
+
+#[cfg(test)]
+mod tests;

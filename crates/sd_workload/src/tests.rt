@@ -1,0 +1,386 @@
+//! What no clause says: that reading succeeds where memory is left, and that the definitions accept and refuse the
+//! texts that they should. The cases were worked out by hand.
+ghost use Rattle.std.specs.Prelude.{◌<◌, ◌^◌, length};
+
+use super::*;
+use sd_script::ScriptFault;
+use sd_tables::TableFault;
+use sd_text::put_number;
+use sd_types::{ChanKind, ClassParms, LockKind, Op, Quantum, Work};
+use std::alloc::{AllocError, Global};
+use std::test::Fail;
+
+// The fault of a text, or none.
+fn fault_of(alloc: Global, text: &[u8]) -> Option<WorkFault>
+    requires { length text.now < 2 ^ 31 }
+{
+    read_work(alloc, text).err()
+}
+
+// Texts between bars that are accepted: blanks and comments of any bytes, no newline at the end, keywords as names,
+// minus zero, a script of no operation, a limit of ticks for all processors.
+const ACCEPTED: &[u8] =
+    b"limit 5#x|\t limit\t5 #\r\n \t \n|# \x00\x80\xff\nlimit 0000000005|limit 1\nthread a ts 1 -0 -0|limit 1\nthread a fx 60 10 inf\nscript a\nend\n|limit 1\nthread end sys 60\nmutex end\nchan end\nscript end\nenter end\nexit end\nend\n|cpus 2\nlimit 100000\n|limit 1\nthread a sys 60\nscript a\nrun 1\n\t end # x\n";
+
+#[test]
+fn texts_are_accepted(rt: HostRuntime) {
+    for text in ACCEPTED.split(|byte| *byte == b'|') {
+        assert!(rt; text.len() < 1000);
+        assert_eq!(rt; fault_of(rt.alloc(), text), None, "at {text:?}");
+    }
+}
+
+// Texts between bars, of which the last line with words is at fault.
+const SYNTAX: &[u8] =
+    b"limit|limit -5|limit 0x5|limit 00000000005|limit 5 \x80|limit 5\x0b|limit 1\nmutex mmmmmmmmmmmmmmmmm|limit 1\nmutex a.b|limit 1\nrun 1|limit 1\nend|limit 1\nthread a sys 60 in -|limit 1\nthread a sys 60 uid 1 uid 2|limit 1\nthread a ts -1 0 0|limit 1\ntable sys|limit 1\ntable TS|cpus 2\nlimit 1\nset s c1|cpus 2\nlimit 1\nset s|cpus 2\nset s 1\ncpus 99|limit 1\nthread a sys 60\nscript a\nscript a|limit 1\nthread a sys 60\nscript a\nend a|limit 1\n\x00";
+
+const UNKNOWN: &[u8] =
+    b"limit 1\nscript a|limit 1\nthread a ts 61 0 0 uid 70000 in s|limit 1\nthread a sys 60\nscript a\nenter m|limit 1\nthread a sys 60\nscript a\npriocntl b ts 40000 0";
+
+const TWICE: &[u8] =
+    b"cpus 1\ncpus 1|limit 5\nlimit 0|hz 100\nhz 7|limit 1\nmutex m\nrwlock m|chan k\nsema k 70000|thread a sys 60\nthread a sys 7|cpus 3\nset s 1\nset s 1|thread a sys 60\nscript a\nend\nscript a";
+
+const RANGE: &[u8] =
+    b"cpus 0|cpus 65|hz 1001|limit 0|limit 100001|cpus 2\nset s 2|cpus 2\nset s 2 2|sema s 65536|thread a rt 0 1000001|thread a fx 61 0 def|thread a sys 100|thread a ts 0 -61 0|thread a sys 60 uid 65536|thread a sys 60\nscript a\nrun 0|thread a sys 60\nscript a\nnap 100001|thread a sys 60\nscript a\nassign 1 -|thread a sys 60\nscript a\npbind a 1|thread a sys 60\nscript a\npriocntl a rt 5 0|thread a sys 60\nscript a\npriocntl a ts 0 32768";
+
+const SETS: &[u8] = b"set s 0|cpus 3\nset s 1\nset r 0 2|cpus 3\nset s 1 1|cpus 3\nset s 1\nset r 1";
+
+// The number of a text's lines, of which the last has no newline.
+fn line_count(text: &[u8]) -> u32
+    requires { length text.now < 1000 }
+{
+    let mut count = 1;
+    for byte in text {
+        if *byte == b'\n' {
+            count += 1;
+        }
+    }
+    count
+}
+
+#[test]
+fn the_last_line_is_refused(rt: HostRuntime) {
+    for (texts, cause) in [
+        (SYNTAX, WorkCause::Syntax),
+        (UNKNOWN, WorkCause::Unknown),
+        (TWICE, WorkCause::Twice),
+        (RANGE, WorkCause::Range),
+        (SETS, WorkCause::Sets),
+    ] {
+        for text in texts.split(|byte| *byte == b'|') {
+            assert!(rt; text.len() < 1000);
+            let line = line_count(text);
+            let want = Some(WorkFault::At { line, cause });
+            assert_eq!(rt; fault_of(rt.alloc(), text), want, "at {text:?}");
+        }
+    }
+}
+
+// Texts between bars that are refused on the line after the last, by an open block or without a limit.
+const OPEN: &[u8] =
+    b"|\n|# limit 5|cpus 2\nhz 100|table fx\n|limit 1\ntable rt\n10|limit 1\nthread a sys 60\nscript a\nrun 1\n|cpus 4\nlimit 100000\nthread a sys 60\nscript a\n";
+
+// The number of a text's lines. A newline at the end makes no further line.
+fn whole_line_count(text: &[u8]) -> u32
+    requires { length text.now < 1000 }
+{
+    match text {
+        [] => 0,
+        [front @ .., b'\n'] => line_count(front),
+        _ => line_count(text),
+    }
+}
+
+#[test]
+fn the_end_is_refused(rt: HostRuntime) {
+    for text in OPEN.split(|byte| *byte == b'|') {
+        assert!(rt; text.len() < 1000);
+        let line = whole_line_count(text) + 1;
+        let want = Some(WorkFault::At {
+            line,
+            cause: WorkCause::Syntax,
+        });
+        assert_eq!(rt; fault_of(rt.alloc(), text), want, "at {text:?}");
+    }
+    for text in [b"cpus 4\nlimit 100000".as_slice(), b"cpus 64\nlimit 3126\n"] {
+        let want = Some(WorkFault::At {
+            line: 3,
+            cause: WorkCause::Limits,
+        });
+        assert_eq!(rt; fault_of(rt.alloc(), text), want);
+    }
+}
+
+// What stands above the operations of a script: 8 lines.
+const ABOVE: &[u8] =
+    b"limit 1\nthread a fx 60 10 inf\nthread b fx 60 10 inf\nmutex m\nrwlock w\nchan k\nsema s 1\nscript a\n";
+
+// Operations between bars that name what is not declared, or is of another kind.
+const UNKNOWN_OPERATIONS: &[u8] =
+    b"enter w|enter k|enter s|read m|write m|exit z|sleep s|wake m|wakeall z|semap k|semav k|cvwait k w|cvwait s m|pbind z 0|assign 0 z|assign 7 zz|priocntl zz ts 40000 0";
+
+const UNBALANCED_OPERATIONS: &[u8] = b"exit m|exit w|cvwait k m";
+
+#[test]
+fn operations_are_refused(rt: HostRuntime) -> Result<(), Fail> {
+    for (operations, cause) in [
+        (UNKNOWN_OPERATIONS, WorkCause::Unknown),
+        (
+            UNBALANCED_OPERATIONS,
+            WorkCause::Script(ScriptFault::Unbalanced { op: 0 }),
+        ),
+    ] {
+        for operation in operations.split(|byte| *byte == b'|') {
+            let mut text = Vec::from_slice(rt.alloc(), ABOVE)?;
+            text.extend_from_slice(operation)?;
+            text.extend_from_slice(b"\nend\n")?;
+            assert!(rt; text.len() < 1000);
+            let want = Some(WorkFault::At { line: 9, cause });
+            assert_eq!(rt; fault_of(rt.alloc(), &text), want, "at {operation:?}");
+        }
+    }
+    Ok(())
+}
+
+// Appends a line this many times.
+fn put_lines(text: &mut Vec<u8>, line: &[u8], count: u64) -> Result<(), AllocError> {
+    for _ in 0..count {
+        text.extend_from_slice(line)?;
+        text.push(b'\n')?;
+    }
+    Ok(())
+}
+
+// A script of this many lines `run 1`, and then this line and `end`.
+fn script_text(alloc: Global, runs: u64, last: &[u8]) -> Result<Vec<u8>, AllocError> {
+    let mut text = Vec::from_slice(alloc, ABOVE)?;
+    text.extend_from_slice(b"enter m\n")?;
+    put_lines(&mut text, b"run 1", runs)?;
+    text.extend_from_slice(last)?;
+    text.extend_from_slice(b"\nend\n")?;
+    Ok(text)
+}
+
+#[test]
+fn scripts_are_refused(rt: HostRuntime) -> Result<(), Fail> {
+    let too_long = WorkCause::Script(ScriptFault::TooLong);
+    for (runs, last, fault) in [
+        (0, b"exit m".as_slice(), None),
+        (0, b"yield".as_slice(), Some((11, WorkCause::Script(ScriptFault::HeldAtExit)))),
+        (0, b"enter m".as_slice(), Some((10, WorkCause::Script(ScriptFault::AlreadyHeld { op: 1 })))),
+        (254, b"exit m".as_slice(), None),
+        (255, b"exit m".as_slice(), Some((265, too_long))),
+        (255, b"exit w".as_slice(), Some((265, too_long))),
+        (255, b"exit z".as_slice(), Some((265, WorkCause::Unknown))),
+        (255, b"run 0".as_slice(), Some((265, WorkCause::Range))),
+        (254, b"cvwait k m".as_slice(), Some((264, too_long))),
+    ] {
+        let text = script_text(rt.alloc(), runs, last)?;
+        assert!(rt; text.len() < 100_000);
+        let want = fault.map(|(line, cause)| WorkFault::At { line, cause });
+        assert_eq!(rt; fault_of(rt.alloc(), &text), want, "{runs} {last:?}");
+    }
+    Ok(())
+}
+
+// A table of this class with this many rows, and then this line.
+fn table_text(alloc: Global, class: &[u8], rows: u64, last: &[u8]) -> Result<Vec<u8>, AllocError> {
+    let mut text = Vec::from_slice(alloc, b"limit 1\ntable ")?;
+    text.extend_from_slice(class)?;
+    text.push(b'\n')?;
+    put_lines(&mut text, b"10", rows)?;
+    text.extend_from_slice(last)?;
+    Ok(text)
+}
+
+#[test]
+fn tables_are_refused(rt: HostRuntime) -> Result<(), Fail> {
+    for (class, rows, last, fault) in [
+        (b"fx".as_slice(), 60, b"end".as_slice(), None),
+        (b"fx".as_slice(), 61, b" end # y\n".as_slice(), None),
+        (b"rt".as_slice(), 61, b"# x\n  end # y\n".as_slice(), Some((65, TableFault::Rows { found: 61 }))),
+        (b"rt".as_slice(), 0, b"end\n".as_slice(), Some((3, TableFault::Rows { found: 0 }))),
+        (b"rt".as_slice(), 60, b"end end\n".as_slice(), Some((63, TableFault::NotANumber { line: 61 }))),
+        (b"rt".as_slice(), 0, b"\xff\n".as_slice(), Some((3, TableFault::NotANumber { line: 1 }))),
+        (b"rt".as_slice(), 1, b"0\n".as_slice(), Some((4, TableFault::Range { line: 2, column: 1 }))),
+        (b"fx".as_slice(), 1, b"RES=1000\n".as_slice(), Some((4, TableFault::Resolution { line: 2 }))),
+        (b"ts".as_slice(), 0, b"1 59 60 99999 60\n".as_slice(), Some((3, TableFault::Range { line: 1, column: 3 }))),
+    ] {
+        let text = table_text(rt.alloc(), class, rows, last)?;
+        assert!(rt; text.len() < 1000);
+        let want = fault.map(|(line, fault)| WorkFault::At {
+            line,
+            cause: WorkCause::Table(fault),
+        });
+        assert_eq!(rt; fault_of(rt.alloc(), &text), want, "{rows} {last:?}");
+    }
+    Ok(())
+}
+
+// Appends this many lines of two words, of which the second is a letter and the number.
+fn put_numbered(
+    text: &mut Vec<u8>,
+    before: &[u8],
+    count: u64,
+    after: &[u8],
+) -> Result<(), AllocError> {
+    for number in 0..count {
+        text.extend_from_slice(before)?;
+        put_number(text, number)?;
+        text.extend_from_slice(after)?;
+    }
+    Ok(())
+}
+
+#[test]
+fn limits_have_two_sides(rt: HostRuntime) -> Result<(), Fail> {
+    // 256 locks and no more, of which one more name that is declared is there twice; 32 threads with 2,048 locks.
+    for (threads, locks, last, fault) in [
+        (256, 256, b"".as_slice(), None),
+        (256, 256, b"mutex n".as_slice(), Some((514, WorkCause::Limits))),
+        (256, 256, b"mutex m0".as_slice(), Some((514, WorkCause::Twice))),
+        (257, 256, b"".as_slice(), Some((515, WorkCause::Limits))),
+        (2048, 32, b"".as_slice(), None),
+        (2048, 32, b"thread n sys 60".as_slice(), Some((2082, WorkCause::Limits))),
+    ] {
+        let mut text = Vec::from_slice(rt.alloc(), b"limit 1\n")?;
+        put_numbered(&mut text, b"thread t", threads, b" sys 60\n")?;
+        put_numbered(&mut text, b"mutex m", locks, b"\n")?;
+        text.extend_from_slice(last)?;
+        assert!(rt; text.len() < 1_000_000);
+        let want = fault.map(|(line, cause)| WorkFault::At { line, cause });
+        assert_eq!(rt; fault_of(rt.alloc(), &text), want, "{threads} {locks} {last:?}");
+    }
+    Ok(())
+}
+
+// Each line form.
+const WHOLE: &[u8] =
+    b"cpus 4\nhz 1000\nlimit 50\nset s 2 1\nmutex m\nrwlock w\nchan k\nsema p 3\nthread a ts 29 -5 20 uid 7 priv in s\nthread b fx 10 60 9\nthread c sys 60\nthread d rt 5 def\nscript b\nrun 2\nyield\nnap 3\nsleep k\nwake k\nwakeall k\nenter m\ncvwait k m\nexit m\nread w\nexit w\nwrite w\nexit w\npriocntl a ts -1 2\nsemap p\nsemav p\nassign 1 s\nassign 0 -\npbind a 2\npbind a -\nend\n";
+
+fn has_settings(work: &Work) -> bool {
+    (work.cpus, work.hz, work.limit) == (4, 1000, 50)
+}
+
+fn has_set(work: &Work) -> bool {
+    match work.sets.items() {
+        [(name, cpus)] => match cpus.items() {
+            [first, second] => name.bytes() == b"s" && first.0 == 2 && second.0 == 1,
+            _ => false,
+        },
+        _ => false,
+    }
+}
+
+fn has_objects(work: &Work) -> bool {
+    let has_locks = match work.locks.items() {
+        [(m, LockKind::Mutex), (w, LockKind::Rwlock)] => m.bytes() == b"m" && w.bytes() == b"w",
+        _ => false,
+    };
+    let has_chans = match work.chans.items() {
+        [(k, ChanKind::Chan), (p, ChanKind::Sema { count: 3 })] => {
+            k.bytes() == b"k" && p.bytes() == b"p"
+        }
+        _ => false,
+    };
+    has_locks && has_chans
+}
+
+fn has_threads(work: &Work) -> bool {
+    match work.threads.items() {
+        [a, b, c, d] => {
+            matches!(a.class, ClassParms::Ts { limit: -5, upri: -5 })
+                && (a.cpupri, a.uid, a.privileged, a.set.0) == (29, 7, true, 1)
+                && matches!(b.class, ClassParms::Fx { limit: 10, pri: 10, quantum: Quantum::Ticks(9) })
+                && (b.cpupri, b.uid, b.privileged, b.set.0) == (0, 0, false, 0)
+                && matches!(c.class, ClassParms::Sys { pri: 60 })
+                && matches!(d.class, ClassParms::Rt { pri: 5, quantum: Quantum::Def })
+        }
+        _ => false,
+    }
+}
+
+fn has_script(work: &Work) -> bool {
+    match work.threads.items() {
+        [_, b, ..] => match b.script.ops() {
+            [
+                Op::Run(2),
+                Op::Yield,
+                Op::Nap(3),
+                Op::Sleep(_),
+                Op::Wake(_),
+                Op::WakeAll(k),
+                Op::Enter(_),
+                Op::CvWait(_, m),
+                Op::Enter(again),
+                Op::Exit(_),
+                Op::Read(w),
+                Op::Exit(_),
+                Op::Write(_),
+                Op::Exit(_),
+                Op::Prio(a, request),
+                Op::SemaP(p),
+                Op::SemaV(_),
+                Op::Assign(one, set),
+                Op::Assign(_, default_set),
+                Op::Pbind(_, Some(two)),
+                Op::Pbind(_, None),
+            ] => {
+                (k.0, m.0, again.0, w.0, a.0, p.0) == (0, 0, 0, 1, 0, 1)
+                    && (request.limit, request.pri) == (-1, 2)
+                    && (one.0, set.0, default_set.0, two.0) == (1, 1, 0, 2)
+            }
+            _ => false,
+        },
+        _ => false,
+    }
+}
+
+#[test]
+fn a_workload_is_read(rt: HostRuntime) -> Result<(), Fail> {
+    let work = read_work(rt.alloc(), WHOLE)?;
+    assert!(rt; has_settings(&work));
+    assert!(rt; has_set(&work));
+    assert!(rt; has_objects(&work));
+    assert!(rt; has_threads(&work));
+    assert!(rt; has_script(&work));
+    Ok(())
+}
+
+#[test]
+fn a_table_is_read(rt: HostRuntime) -> Result<(), Fail> {
+    // 10 milliseconds are 10 ticks of a thousand a second, wherever the line of the ticks stands.
+    let text = table_text(rt.alloc(), b"rt", 60, b"end\nhz 1000")?;
+    assert!(rt; text.len() < 1000);
+    let work = read_work(rt.alloc(), &text)?;
+    match (work.rt.rows.items(), work.fx.rows.items()) {
+        ([row, ..], [first, ..]) => {
+            assert_eq!(rt; (row.quantum, row.ticks), (10, 10));
+            assert_eq!(rt; (first.quantum, first.ticks), (200, 200));
+        }
+        _ => assert!(rt; false, "no rows"),
+    }
+    Ok(())
+}
+
+#[test]
+fn faults_have_their_texts(rt: HostRuntime) -> Result<(), Fail> {
+    let rows = WorkCause::Table(TableFault::Rows { found: 61 });
+    let column = WorkCause::Table(TableFault::Range { line: 1, column: 3 });
+    let held = WorkCause::Script(ScriptFault::HeldAtExit);
+    for (cause, text) in [
+        (WorkCause::Syntax, "line 7: syntax"),
+        (WorkCause::Unknown, "line 7: unknown"),
+        (WorkCause::Twice, "line 7: twice"),
+        (WorkCause::Range, "line 7: range"),
+        (rows, "line 7: table: rows: 61"),
+        (column, "line 7: table: range in column 3"),
+        (held, "line 7: script: held at exit"),
+        (WorkCause::Sets, "line 7: sets"),
+        (WorkCause::Limits, "line 7: limits"),
+    ] {
+        let fault = WorkFault::At { line: 7, cause };
+        assert_eq!(rt; format!(in rt.alloc(); "{fault}")?.as_str(), text);
+    }
+    Ok(())
+}
