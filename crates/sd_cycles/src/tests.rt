@@ -54,9 +54,20 @@ fn state(
     })
 }
 
+/// The cycles one after the other, each behind its length.
+fn told(alloc: Global, found: &[Vec<usize>]) -> Result<Vec<usize>, AllocError> {
+    let mut told = Vec::new(alloc);
+    for cycle in found {
+        told.push(cycle.len())?;
+        told.extend_from_slice(cycle)?;
+    }
+    Ok(told)
+}
+
 #[test]
 fn cycles_and_chains(rt: HostRuntime) -> Result<(), Fail> {
-    let cases: [(&[Option<u16>], &[Option<u16>], &[&[usize]]); 6] = [
+    // The lock for which each thread waits, the owner of each lock, and the cycles, each behind its length.
+    let cases: [(&[Option<u16>], &[Option<u16>], &[usize]); 6] = [
         (&[], &[], &[]),
         // a chain that ends at a thread that does not wait, and one that ends at readers
         (
@@ -64,32 +75,30 @@ fn cycles_and_chains(rt: HostRuntime) -> Result<(), Fail> {
             &[Some(1), Some(2), None],
             &[],
         ),
-        (&[Some(0), Some(1)], &[Some(1), Some(0)], &[&[0, 1]]),
+        (&[Some(0), Some(1)], &[Some(1), Some(0)], &[2, 0, 1]),
         // not in the order of the numbers
         (
             &[Some(0), Some(2), Some(1)],
             &[Some(2), Some(1), Some(0)],
-            &[&[0, 2, 1]],
+            &[3, 0, 2, 1],
         ),
         // two cycles, and a thread behind the first
         (
             &[None, Some(1), Some(0), Some(2), Some(1), Some(3)],
             &[Some(1), Some(2), Some(5), Some(3)],
-            &[&[1, 2], &[3, 5]],
+            &[2, 1, 2, 2, 3, 5],
         ),
-        // a thread before all others of the chain that it waits on
+        // a thread before all others of the chain on which it waits
         (
             &[Some(0), Some(1), Some(2)],
             &[Some(1), Some(2), Some(1)],
-            &[&[1, 2]],
+            &[2, 1, 2],
         ),
     ];
     for (index, (waits, owners, want)) in cases.iter().enumerate() {
         let found = cycles(rt.alloc(), &state(rt.alloc(), waits, owners)?)?;
-        assert_eq!(rt; found.len(), want.len(), "case {index}");
-        for (cycle, threads) in found.iter().zip(want.iter()) {
-            assert_eq!(rt; cycle.as_slice(), *threads, "case {index}");
-        }
+        let told = told(rt.alloc(), &found)?;
+        assert_eq!(rt; told.as_slice(), *want, "case {index}");
     }
     Ok(())
 }

@@ -1,0 +1,166 @@
+//! The entry that a line tells.
+
+ghost use Rattle.std.specs.Prelude.{◌≡◌, ◌+◌, ◌≤◌, ◌++◌, ◌∷◌, [], ◌↔◌, IfNone, IfOk, IfSome, IsTrue, length, position};
+ghost use Rattle.sd_types.specs.declared.events.Entry.{Entry as EntryValue};
+ghost use Rattle.sd_text.specs.Words.{words_of};
+ghost use Rattle.sd_full.specs.Texts.{entry_text};
+ghost use Rattle.sd_spelling.specs.Fitting.{IsSpelled, entry_fits};
+ghost use Rattle.sd_spelling.specs.Reading.{bind_len, entry_of, event_len, hints_by, is_comma, numbers_in, prio_len, put_len, woken_len};
+
+use crate::events::event_of;
+use crate::fitting::{entry_fits, may_read};
+use crate::words::{byte_in, cpu_in, is_word, number_in, word_at};
+use arrayvec::ArrayVec;
+use sd_event::write_entry;
+use sd_types::{BindAnswer, Entry, Event, Hints, PrioAnswer, Put, ThreadId, Which, Work};
+use std::alloc::{AllocError, Global};
+
+fn put_len(place: Option<Put>) -> usize
+    ensures len { result ≡ put_len place }
+    ensures few { result ≤ 2 }
+{
+    match place {
+        None => 0,
+        Some(_) => 2,
+    }
+}
+
+fn woken_len(woken: Option<(ThreadId, Put)>) -> usize
+    ensures len { result ≡ woken_len woken }
+    ensures few { result ≤ 3 }
+{
+    match woken {
+        None => 1,
+        Some(_) => 3,
+    }
+}
+
+fn prio_len(answer: PrioAnswer) -> usize
+    ensures len { result ≡ prio_len answer }
+    ensures few { result ≤ 4 }
+{
+    match answer {
+        PrioAnswer::Changed { at, .. } => 2 + put_len(at),
+        PrioAnswer::Refused(_) => 1,
+    }
+}
+
+fn bind_len(answer: BindAnswer) -> usize
+    ensures len { result ≡ bind_len answer }
+    ensures few { result ≤ 3 }
+{
+    match answer {
+        BindAnswer::Changed { at } => 1 + put_len(at),
+        _ => 1,
+    }
+}
+
+// How many words the event has, where it may have read numbers.
+fn event_len(event: &Event) -> usize
+    ensures len { result ≡ event_len event.now }
+    ensures few { result ≤ 7 }
+{
+    match *event {
+        Event::Idle => 1,
+        Event::Steal { .. } => 4,
+        Event::Napend { .. } => 4,
+        Event::Wake { woken, .. } => 3 + woken_len(woken),
+        Event::Rouse { woken, .. } => 2 + woken_len(woken),
+        Event::Will { at, .. } => 4 + put_len(at),
+        Event::Unblock { .. } => 5,
+        Event::Grant { .. } => 5,
+        Event::Prio { answer, .. } => 3 + prio_len(answer),
+        Event::SemaVWake { .. } => 6,
+        Event::Move { .. } => 4,
+        Event::Bind { answer, .. } => 4 + bind_len(answer),
+        _ => 1,
+    }
+}
+
+fn comma_index(bytes: &[u8]) -> Option<usize>
+    ensures { result ≡ position is_comma bytes.now }
+{
+    bytes.iter().position(|byte| *byte == b',')
+}
+
+// The numbers that commas join, of 8 bits; at most the first 64.
+#[tactic(auto, unfolding(sd_spelling::specs::Reading::numbers_in))]
+fn numbers_in(word: &[u8]) -> ArrayVec<u8, 64>
+    ensures { result.items ≡ numbers_in word.now }
+{
+    let mut numbers = ArrayVec::new();
+    let mut from = 0;
+    while numbers.len() < 64 {
+        match comma_index(&word[from..]) {
+            Some(len) => {
+                numbers.push(byte_in(&word[from..from + len]));
+                from += len + 1;
+            }
+            None => {
+                numbers.push(byte_in(&word[from..]));
+                return numbers;
+            }
+        }
+    }
+    numbers
+}
+
+fn hints_by(may: Option<Which>, h: &[u8], numbers: &[u8]) -> Option<Hints>
+    ensures { result ≡ hints_by may h.now numbers.now }
+{
+    let which = may?;
+    if is_word(h, b"h") {
+        Some(Hints {
+            which,
+            numbers: numbers_in(numbers),
+        })
+    } else {
+        None
+    }
+}
+
+// The entry of the line, where it is one's.
+#[tactic(auto, unfolding(sd_spelling::specs::Reading::entry_of))]
+fn entry_of(work: &Work, line: &[u8]) -> Entry
+    ensures { result ≡ entry_of work.now (words_of line.now) }
+{
+    let event = event_of(work, line);
+    let i = 2 + event_len(&event);
+    Entry {
+        number: number_in(word_at(line, 0)),
+        cpu: cpu_in(word_at(line, 1)),
+        event,
+        hints: hints_by(may_read(&event), word_at(line, i), word_at(line, i + 1)),
+    }
+}
+
+// Whether the line is that of the entry, without its newline.
+fn is_line_of(alloc: Global, work: &Work, entry: &Entry, line: &[u8]) -> Result<bool, AllocError>
+    ensures { IfOk result (λ is. IsTrue is ↔ (entry_text work.now entry.now ≡ line.now ++ 10 ∷ [])) }
+{
+    let mut text = Vec::new(alloc);
+    write_entry(alloc, work, entry, &mut text)?;
+    let mut whole = Vec::from_slice(alloc, line)?;
+    whole.push(b'\n')?;
+    Ok(is_same(&text, &whole))
+}
+
+fn is_same(text: &[u8], other: &[u8]) -> bool
+    ensures { IsTrue result ↔ (text.now ≡ other.now) }
+{
+    text == other
+}
+
+/// The entry that a line without its newline tells: some where the line is that of an entry whose numbers name what the
+/// workload has, and which has read numbers only where its event reads; and none exactly where it is that of no such entry.
+pub fn read_entry(alloc: Global, work: &Work, line: &[u8]) -> Result<Option<Entry>, AllocError>
+    ensures some { IfOk result (λ found. IfSome found (λ e. IsTrue (entry_fits work.now e) × (entry_text work.now e ≡ line.now ++ 10 ∷ []))) }
+    ensures none { IfOk result (λ found. IfNone found ((e : EntryValue) → IsSpelled work.now e → entry_text work.now e ≡ line.now ++ 10 ∷ [] → ⊥)) }
+{
+    let entry = entry_of(work, line);
+    if entry_fits(work, &entry) && is_line_of(alloc, work, &entry, line)? {
+        Ok(Some(entry))
+    } else {
+        Ok(None)
+    }
+}

@@ -1,0 +1,3 @@
+pub mod EntryWords
+pub mod Fitting
+pub mod Reading

@@ -1,0 +1,6 @@
+//! Entries and their lines: each entry that has a line is told by it.
+#![tactic(auto)]
+
+mod laws;
+
+pub use laws::{lines_are_words, lines_tell_entries};
