@@ -1,0 +1,55 @@
+-- Texts that are drawn one after another: what was appended, and what is left from here, are the whole.
+use Rattle.std.proofs.Common.{◌≡◌, ℕ, zero, suc, ◌+◌, ◌-◌, ◌<◌, ◌≤◌, List, [], ◌∷◌, ◌++◌, refl, sym, ap, ◌∙◌, subst, arith}
+use Rattle.std.proofs.lemmas.List.{append_assoc, append-nil}
+use Rattle.std.proofs.lemmas.List.Concat.{flat_map-append}
+use Rattle.std.specs.Prelude.{flat_map}
+use Rattle.std.specs.List.{range_with_len}
+use Rattle.rand_pcg.specs.Lcg.{Lcg}
+use Rattle.sd_gen.specs.Generated.{Drawn, drawn_from}
+
+left_one : (i : ℕ) → i < 200 → 200 - i ≡ suc (200 - (i + 1))
+left_one i h = omega arith
+
+none_left : (i : ℕ) → 200 ≤ i → 200 - i ≡ 0
+none_left i h = omega arith
+
+module _ (line : ℕ → Lcg → Drawn) where
+  next_one : (i : ℕ) (g : Lcg) → i < 200
+      → drawn_from line (200 - i) i g ≡ ((line i g).0 ++ (drawn_from line (200 - (i + 1)) (i + 1) (line i g).1).0, (drawn_from line (200 - (i + 1)) (i + 1) (line i g).1).1)
+  unfolding drawn_from
+  next_one i g h = ap (λ k. drawn_from line k i g) (left_one i h)
+
+  all_over : (i : ℕ) (g : Lcg) → 200 ≤ i → drawn_from line (200 - i) i g ≡ ([], g)
+  unfolding drawn_from
+  all_over i g h = ap (λ k. drawn_from line k i g) (none_left i h)
+
+  pub text_on : (i : ℕ) (g g' : Lcg) (out out' : List ℕ) → i < 200 → out' ≡ out ++ (line i g).0 → g' ≡ (line i g).1
+      → out' ++ (drawn_from line (200 - (i + 1)) (i + 1) g').0 ≡ out ++ (drawn_from line (200 - i) i g).0
+  text_on i g g' out out' h text next =
+      ap (λ (xs : List ℕ). xs ++ (drawn_from line (200 - (i + 1)) (i + 1) g').0) text
+      ∙ ap (λ x. (out ++ (line i g).0) ++ (drawn_from line (200 - (i + 1)) (i + 1) x).0) next
+      ∙ append_assoc out (line i g).0 (drawn_from line (200 - (i + 1)) (i + 1) (line i g).1).0
+      ∙ ap (λ (d : Drawn). out ++ d.0) (sym (next_one i g h))
+
+  pub generator_on : (i : ℕ) (g g' : Lcg) → i < 200 → g' ≡ (line i g).1 → (drawn_from line (200 - (i + 1)) (i + 1) g').1 ≡ (drawn_from line (200 - i) i g).1
+  generator_on i g g' h next = ap (λ x. (drawn_from line (200 - (i + 1)) (i + 1) x).1) next ∙ ap (λ (d : Drawn). d.1) (sym (next_one i g h))
+
+  pub text_over : (i : ℕ) (g : Lcg) (out whole : List ℕ) → 200 ≤ i → out ++ (drawn_from line (200 - i) i g).0 ≡ whole → out ≡ whole
+  text_over i g out whole h e = sym (append-nil out) ∙ ap (λ (d : Drawn). out ++ d.0) (sym (all_over i g h)) ∙ e
+
+  pub generator_over : (i : ℕ) (g last : Lcg) → 200 ≤ i → (drawn_from line (200 - i) i g).1 ≡ last → g ≡ last
+  generator_over i g last h e = ap (λ (d : Drawn). d.1) (sym (all_over i g h)) ∙ e
+
+range_from : (a n : ℕ) → range_with_len a (suc n) ≡ range_with_len a n ++ (a + n) ∷ []
+range_from a zero = ap (λ k. k ∷ []) (let e : a ≡ a + 0 = omega arith in e)
+range_from a (suc n) =
+    ap (λ (xs : List ℕ). a ∷ xs) (range_from (a + 1) n)
+    ∙ ap (λ k. a ∷ (range_with_len (a + 1) n ++ k ∷ [])) (let e : a + 1 + n ≡ a + suc n = omega arith in e)
+
+range_more : (i : ℕ) → range_with_len 0 (i + 1) ≡ range_with_len 0 i ++ i ∷ []
+range_more i = ap (range_with_len 0) (let e : i + 1 ≡ suc i = omega arith in e) ∙ range_from 0 i
+
+-- one line more of as many as there are numbers
+pub lines_more : (line : ℕ → List ℕ) (i : ℕ) → flat_map line (range_with_len 0 (i + 1)) ≡ flat_map line (range_with_len 0 i) ++ line i
+lines_more line i =
+    ap (flat_map line) (range_more i) ∙ flat_map-append line (range_with_len 0 i) (i ∷ []) ∙ ap (λ (xs : List ℕ). flat_map line (range_with_len 0 i) ++ xs) (append-nil (line i))

@@ -1,0 +1,30 @@
+//! The generated workload of 7, by its size and some of its lines.
+
+use crate::generate;
+use std::test::Fail;
+
+#[test]
+fn the_workload_of_7(rt: HostRuntime) -> Result<(), Fail> {
+    let mut text = Vec::new(rt.alloc());
+    generate(rt.alloc(), 7, &mut text)?;
+    assert_eq!(rt; text.len(), 26121);
+    let lines: [(usize, &str); 12] = [
+        (0, "cpus 8"),
+        (1, "limit 10000"),
+        (2, "set s 6 7"),
+        (18, "mutex m15"),
+        (22, "rwlock w3"),
+        (23, "thread t0 ts 43 0 0"),
+        (25, "thread t2 fx 60 17 def"),
+        (32, "thread t9 sys 94"),
+        (41, "thread t18 rt 7 def in s"),
+        (223, "script t0"),
+        (3029, "nap 2"),
+        (3030, "end"),
+    ];
+    for (index, want) in lines {
+        let line = text.as_slice().split(|byte| *byte == b'\n').nth(index);
+        assert!(rt; line == Some(want.as_bytes()), "line {index}");
+    }
+    Ok(())
+}
