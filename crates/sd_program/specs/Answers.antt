@@ -7,31 +7,34 @@ use Rattle.sd_types.specs.declared.events.Stop.{Stop}
 use Rattle.sd_types.specs.declared.events.Stop.TheVariants as stop
 use Rattle.sd_text.specs.declared.read.ReadAllFault.{ReadAllFault}
 use Rattle.sd_text.specs.declared.read.ReadAllFault.TheVariants as read
-use Rattle.sd_work.specs.declared.fault.WorkFault.{WorkFault}
-use Rattle.sd_work.specs.declared.fault.WorkFault.TheVariants as work
+use Rattle.sd_workload.specs.declared.fault.WorkFault.{WorkFault}
+use Rattle.sd_workload.specs.declared.fault.WorkFault.TheVariants as work
+use Rattle.sd_program.specs.Refusals.{refusal_line}
 use Rattle.sd_program.specs.declared.writing.Unwritten.{Unwritten}
 use Rattle.sd_program.specs.declared.writing.Unwritten.TheVariants as unwritten
 use Rattle.sd_program.specs.declared.answers.Answer.{Answer}
-use Rattle.sd_program.specs.declared.answers.Answer.TheVariants.{Done, Usage, TooLarge, NotBuilt, ReadFault, WriteFault, OutOfMemory, TooLong}
+use Rattle.sd_program.specs.declared.answers.Answer.TheVariants.{Done, Usage, TooLarge, Refused, ReadFault, WriteFault, OutOfMemory, Blocked, TooLong}
 
 abbrev pub status_of : Answer → ℕ
 status_of Done = 0
 status_of Usage = 1
 status_of TooLarge = 2
-status_of NotBuilt = 2
+status_of (Refused line cause) = 2
 status_of ReadFault = 3
 status_of WriteFault = 4
 status_of OutOfMemory = 5
+status_of Blocked = 6
 status_of TooLong = 8
 
 abbrev pub line_of : Answer → List ℕ
 line_of Done = []
 line_of Usage = codes "usage: dispsim run | run --seed N | run --threads | sum | gen N | tables | audit\n"
 line_of TooLarge = codes "refused: input larger than 1048576 bytes\n"
-line_of NotBuilt = codes "refused: not built\n"
+line_of (Refused line cause) = refusal_line line cause
 line_of ReadFault = codes "read fault\n"
 line_of WriteFault = codes "write fault\n"
 line_of OutOfMemory = codes "out of memory\n"
+line_of Blocked = codes "blocking cycle\n"
 line_of TooLong = codes "run too long\n"
 
 -- ---- the answer where a call was refused
@@ -49,7 +52,7 @@ read_answer read.Memory = OutOfMemory
 
 -- the input is no workload
 abbrev pub work_answer : WorkFault → Answer
-work_answer work.NotBuilt = NotBuilt
+work_answer (work.At line cause) = Refused line cause
 work_answer work.Memory = OutOfMemory
 
 -- the run was not made

@@ -4,6 +4,7 @@
 mod answers;
 mod forms;
 mod gates;
+mod refusals;
 mod running;
 #[cfg(test)]
 mod tests;

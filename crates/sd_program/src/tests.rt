@@ -4,8 +4,8 @@ ghost use Rattle.std.specs.Prelude.{◌≤◌};
 
 use crate::gates::OpenGate;
 use crate::top::{serial, start};
-use sd_model::replay;
-use sd_serial::{rising, run_rounds};
+use sd_rounds::{Turns, run_rounds};
+use sd_steps::replay;
 use sd_text::{MemorySink, MemorySource, read_all};
 use sd_work::read_work;
 use std::alloc::{AllocError, Global};
@@ -203,8 +203,7 @@ fn a_run_is_replayed(rt: HostRuntime) -> Result<(), Fail> {
     let Ok(work) = read_work(alloc, EXPIRY.as_bytes()) else {
         return Ok(assert!(rt; false, "no work"));
     };
-    let order = rising(alloc, &work)?;
-    let Ok(run) = run_rounds(alloc, &work, &order) else {
+    let Ok(run) = run_rounds(alloc, &work, Turns::Rising) else {
         return Ok(assert!(rt; false, "no run"));
     };
     assert_eq!(rt; run.entries.len(), 28);

@@ -8,12 +8,12 @@ ghost use Rattle.sd_program.specs.Starts.{Starts};
 ghost use Rattle.sd_program.specs.StreamChanges.{change_of};
 
 use crate::answers::Answer;
-use crate::forms::is_run;
+use crate::forms::{Form, form_of};
 use crate::gates::Gate;
 use crate::running::run_work;
-use sd_text::{Sink, Source, read_all, write_piece};
+use sd_text::{Sink, Source, read_all};
 use sd_types::Work;
-use sd_work::read_work;
+use sd_workload::read_work;
 use std::alloc::Global;
 use std::io;
 use std::marker::Sync;
@@ -28,15 +28,20 @@ fn read_input<S: Source>(alloc: Global, input: &mut S) -> Result<Work, Answer>
     Ok(read_work(alloc, &bytes)?)
 }
 
-/// Reads the workload, runs it and writes its journal.
-fn run_input<S: Source, K: Sink>(alloc: Global, input: &mut S, out: &mut K) -> Result<(), Answer>
-    ensures { CausedByInput
+/// Reads the workload, runs it and writes what the form prints of the run.
+fn run_input<S: Source, K: Sink>(
+    alloc: Global,
+    form: Form,
+    input: &mut S,
+    out: &mut K,
+) -> Result<(), Answer>
+    ensures { CausedByInput form
         (change_of (S.remaining input.old) (S.remaining input.new) (S.fault_count input.old) (S.fault_count input.new))
         (change_of (K.contents out.old) (K.contents out.new) (K.fault_count out.old) (K.fault_count out.new))
         (answer_of result) }
 {
     let work = read_input(alloc, input)?;
-    run_work(alloc, &work, out)
+    run_work(alloc, &work, form, out)
 }
 
 /// Does what the arguments ask for.
@@ -51,10 +56,9 @@ fn carry_out<S: Source, K: Sink>(
         (change_of (K.contents out.old) (K.contents out.new) (K.fault_count out.old) (K.fault_count out.new))
         result }
 {
-    if is_run(arguments) {
-        Answer::of(run_input(alloc, input, out))
-    } else {
-        Answer::Usage
+    match form_of(arguments) {
+        Some(form) => Answer::of(run_input(alloc, form, input, out)),
+        None => Answer::Usage,
     }
 }
 
@@ -63,17 +67,18 @@ fn tell<E: Sink>(answer: Answer, err: &mut E) -> u8
     ensures told { Tells (change_of (E.contents err.old) (E.contents err.new) (E.fault_count err.old) (E.fault_count err.new)) answer }
     ensures status { result ≡ status_of answer }
 {
-    let _ = write_piece(err, answer.line());
+    let _ = answer.put_line(err);
     answer.status()
 }
 
 /// The program, on the host's one thread: does what the arguments ask for, and returns the exit status.
 ///
-/// With status 0 what `out` received is the journal of the run of the workload that `input` spells: a complete legal
-/// run in rounds of rising processors, in each state of which at most one thread runs on a processor, with the
-/// accounts of its entries. The other statuses are 1 (the arguments are none that the program knows), 2 (the input is
-/// too large, or no workload that is built), 3 (a read failed), 4 (a write failed), 5 (out of memory, and no fault of
-/// `input` or `out` was counted) and 8 (the run has 2^40 entries or more); each leaves one line on `err`.
+/// With status 0 what `out` received is the journal, or the summary, of the run of the workload that `input` spells: a
+/// complete legal run in rounds, in each state of which each thread stands in one place and at most one runs on a
+/// processor, with the accounts of its entries, and no threads block each other at its end. With status 6 it is the same
+/// of a run at whose end some do. The other statuses are 1 (the arguments are of none of the forms), 2 (the input is
+/// too large, or no accepted workload), 3 (a read failed), 4 (a write failed), 5 (out of memory, and no fault of
+/// `input` or `out` was counted) and 8 (the run has 2^40 entries or more); each but 0 leaves one line on `err`.
 pub fn serial<S: Source, K: Sink, E: Sink, G: Gate>(
     alloc: Global,
     arguments: &[String],

@@ -1,15 +1,19 @@
-//! Writing a run: each line with its newline as one piece.
+//! Writing what is printed of a run: each line with its newline as one piece.
 
-ghost use Rattle.std.specs.Prelude.{◌≡◌, ◌<◌, length};
+ghost use Rattle.std.specs.Prelude.{◌≡◌, ◌++◌, ◌<◌, ◌≤◌, ◌^◌, flat_map, length, IfOk, IsErrOf};
 ghost use Rattle.sd_program.specs.declared.writing.Unwritten.TheVariants.{Fault, Memory};
-ghost use Rattle.sd_machine.specs.States.{FitsWork};
+ghost use Rattle.sd_accounts.specs.Counters.{HasTaken};
+ghost use Rattle.sd_full.specs.Runs.{final};
+ghost use Rattle.sd_full.specs.Texts.{cycles_text, entries_text, entry_text, journal, summary};
 ghost use Rattle.sd_machine.specs.Opening.{opening};
-ghost use Rattle.sd_machine.specs.Runs.{final};
-ghost use Rattle.sd_machine.specs.Texts.{entry_text, entries_text, thread_line, cpu_line, threads_text, cpus_text, accounts_text, journal};
+ghost use Rattle.sd_machine.specs.Texts.{accounts_text};
+ghost use Rattle.sd_program.specs.Forms.{text_of};
 ghost use Rattle.sd_program.specs.StreamChanges.{Puts};
 
+use crate::forms::Form;
+use sd_accounts::Accounts;
+use sd_event::write_entry;
 use sd_machine::State;
-use sd_report::{write_cpu_line, write_entry, write_thread_line};
 use sd_text::{Sink, WriteFault, write_piece};
 use sd_types::{Entry, Work};
 use std::alloc::{AllocError, Global};
@@ -40,10 +44,23 @@ impl From<AllocError> for Unwritten {
 }
 
 /// Writes a line.
-fn put_line<K: Sink>(out: &mut K, line: &[u8]) -> Result<(), Unwritten>
-    ensures { Puts (K.contents out.old) (K.contents out.new) (K.fault_count out.old) (K.fault_count out.new) line.now result }
+pub(crate) fn put_line<K: Sink>(out: &mut K, line: &[u8]) -> Result<(), Unwritten>
+    ensures puts { Puts (K.contents out.old) (K.contents out.new) (K.fault_count out.old) (K.fault_count out.new) line.now result }
+    ensures no_memory { IsErrOf result Memory → ⊥ }
 {
     Ok(write_piece(out, line)?)
+}
+
+/// Writes a line that comes in pieces.
+pub(crate) fn put_pieces<K: Sink>(out: &mut K, pieces: &[&[u8]]) -> Result<(), Unwritten>
+    ensures puts { Puts (K.contents out.old) (K.contents out.new) (K.fault_count out.old) (K.fault_count out.new)
+        (flat_map (λ p. p.now) pieces.now) result }
+    ensures no_memory { IsErrOf result Memory → ⊥ }
+{
+    for piece in pieces {
+        put_line(out, piece)?;
+    }
+    Ok(())
 }
 
 /// Writes the line of an entry.
@@ -57,7 +74,7 @@ fn put_entry<K: Sink>(
         (entry_text work.now entry.now) result }
 {
     let mut line = Vec::new(alloc);
-    write_entry(work, entry, &mut line)?;
+    write_entry(alloc, work, entry, &mut line)?;
     put_line(out, &line)
 }
 
@@ -77,69 +94,44 @@ fn put_entries<K: Sink>(
     Ok(())
 }
 
-/// Writes the line of a thread's account.
-fn put_thread<K: Sink>(
-    alloc: Global,
-    work: &Work,
-    entries: &[Entry],
-    s: &State,
-    t: usize,
-    out: &mut K,
-) -> Result<(), Unwritten>
-    requires { t < length s.now.threads }
-    ensures { Puts (K.contents out.old) (K.contents out.new) (K.fault_count out.old) (K.fault_count out.new)
-        (thread_line work.now entries.now s.now t) result }
+/// Where the line ends that begins at `from`: behind its newline, or at the end of the text.
+fn line_end(text: &[u8], from: usize) -> usize
+    requires { from < length text.now }
+    ensures after { from < result }
+    ensures within { result ≤ length text.now }
 {
-    let mut line = Vec::new(alloc);
-    write_thread_line(work, entries, s, t, &mut line)?;
-    put_line(out, &line)
+    match text[from..].iter().position(|byte| *byte == b'\n') {
+        Some(newline) => from + newline + 1,
+        None => text.len(),
+    }
 }
 
-/// Writes the accounts of the threads.
-fn put_threads<K: Sink>(
-    alloc: Global,
-    work: &Work,
-    entries: &[Entry],
-    s: &State,
-    out: &mut K,
-) -> Result<(), Unwritten>
-    requires { FitsWork work.now s.now }
-    ensures { Puts (K.contents out.old) (K.contents out.new) (K.fault_count out.old) (K.fault_count out.new)
-        (threads_text work.now entries.now s.now) result }
+/// Writes a text, line by line.
+fn put_text<K: Sink>(out: &mut K, text: &[u8]) -> Result<(), Unwritten>
+    ensures { Puts (K.contents out.old) (K.contents out.new) (K.fault_count out.old) (K.fault_count out.new) text.now result }
 {
-    for t in 0..work.threads.items().len() {
-        put_thread(alloc, work, entries, s, t, out)?;
+    let mut from = 0;
+    while from < text.len() {
+        let to = line_end(text, from);
+        put_line(out, &text[from..to])?;
+        from = to;
     }
     Ok(())
 }
 
-/// Writes the line of a processor's account.
-fn put_cpu<K: Sink>(alloc: Global, entries: &[Entry], c: u16, out: &mut K) -> Result<(), Unwritten>
-    ensures { Puts (K.contents out.old) (K.contents out.new) (K.fault_count out.old) (K.fault_count out.new)
-        (cpu_line entries.now c) result }
+/// The accounts of the entries.
+fn counted(alloc: Global, work: &Work, entries: &[Entry]) -> Result<Accounts, AllocError>
+    requires { length entries.now < 2 ^ 48 }
+    ensures { IfOk result (λ a. HasTaken work.now entries.now a) }
 {
-    let mut line = Vec::new(alloc);
-    write_cpu_line(entries, c, &mut line)?;
-    put_line(out, &line)
-}
-
-/// Writes the accounts of the processors.
-fn put_cpus<K: Sink>(
-    alloc: Global,
-    work: &Work,
-    entries: &[Entry],
-    out: &mut K,
-) -> Result<(), Unwritten>
-    ensures { Puts (K.contents out.old) (K.contents out.new) (K.fault_count out.old) (K.fault_count out.new)
-        (cpus_text work.now entries.now) result }
-{
-    for c in 0..work.cpus {
-        put_cpu(alloc, entries, c, out)?;
+    let mut accounts = Accounts::new(alloc, work)?;
+    for entry in entries {
+        accounts.add(entry);
     }
-    Ok(())
+    Ok(accounts)
 }
 
-/// Writes the accounts of a run.
+/// Writes the accounts of a run, and the blocking cycles of its final state.
 fn put_accounts<K: Sink>(
     alloc: Global,
     work: &Work,
@@ -147,28 +139,70 @@ fn put_accounts<K: Sink>(
     s: &State,
     out: &mut K,
 ) -> Result<(), Unwritten>
-    requires { FitsWork work.now s.now }
+    requires { length entries.now < 2 ^ 48 }
     ensures { Puts (K.contents out.old) (K.contents out.new) (K.fault_count out.old) (K.fault_count out.new)
-        (accounts_text work.now entries.now s.now) result }
+        (accounts_text work.now entries.now s.now ++ cycles_text work.now s.now) result }
 {
-    put_line(out, b"accounts\n")?;
-    put_threads(alloc, work, entries, s, out)?;
-    put_cpus(alloc, work, entries, out)
+    let accounts = counted(alloc, work, entries)?;
+    let mut text = Vec::new(alloc);
+    accounts.write_accounts(alloc, work, s, &mut text)?;
+    put_text(out, &text)
 }
 
-/// Writes a run: its entries in order, then its accounts.
-pub(crate) fn put_run<K: Sink>(
+/// Writes the journal of a run: its entries in order, then its accounts and the blocking cycles of its final state.
+#[tactic(auto, unfolding(sd_full::specs::Texts::journal))]
+fn put_journal<K: Sink>(
     alloc: Global,
     work: &Work,
     entries: &[Entry],
     s: &State,
     out: &mut K,
 ) -> Result<(), Unwritten>
-    requires fits { FitsWork work.now s.now }
+    requires few { length entries.now < 2 ^ 48 }
     requires state { s.now ≡ final work.now (opening work.now) entries.now }
     ensures { Puts (K.contents out.old) (K.contents out.new) (K.fault_count out.old) (K.fault_count out.new)
         (journal work.now entries.now) result }
 {
     put_entries(alloc, work, entries, out)?;
     put_accounts(alloc, work, entries, s, out)
+}
+
+/// Writes the summary of a run.
+#[tactic(auto, unfolding(sd_full::specs::Texts::summary))]
+fn put_summary<K: Sink>(
+    alloc: Global,
+    work: &Work,
+    entries: &[Entry],
+    s: &State,
+    out: &mut K,
+) -> Result<(), Unwritten>
+    requires few { length entries.now < 2 ^ 48 }
+    requires state { s.now ≡ final work.now (opening work.now) entries.now }
+    ensures { Puts (K.contents out.old) (K.contents out.new) (K.fault_count out.old) (K.fault_count out.new)
+        (summary work.now entries.now) result }
+{
+    let accounts = counted(alloc, work, entries)?;
+    let mut text = Vec::new(alloc);
+    accounts.write_summary(alloc, s, &mut text)?;
+    put_text(out, &text)
+}
+
+/// Writes what the form prints of a run.
+pub(crate) fn put_run<K: Sink>(
+    alloc: Global,
+    work: &Work,
+    form: Form,
+    entries: &[Entry],
+    s: &State,
+    out: &mut K,
+) -> Result<(), Unwritten>
+    requires few { length entries.now < 2 ^ 48 }
+    requires state { s.now ≡ final work.now (opening work.now) entries.now }
+    ensures { Puts (K.contents out.old) (K.contents out.new) (K.fault_count out.old) (K.fault_count out.new)
+        (text_of form work.now entries.now) result }
+{
+    match form {
+        Form::Run(_) => put_journal(alloc, work, entries, s, out),
+        Form::Sum => put_summary(alloc, work, entries, s, out),
+    }
 }

@@ -35,7 +35,7 @@ returns-in_err-read_work g c =
     } in
     let fault = c.in_err-read_work.field-0.0 in
     reading_exit input c.from_residual-in_err-read_work.result (work_answer fault) c.from_residual-in_err-read_work.ensures.1
-    (unspelled_of input bytes (Err fault) read c.in_err-read_work.ensures.not_built)
+    (unspelled_of input bytes (Err fault) read c.in_err-read_work.ensures.err)
 
 pub returns : goal.returns
 returns g c =

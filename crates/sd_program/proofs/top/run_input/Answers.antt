@@ -15,7 +15,7 @@ returns-in_err-work g c =
     let written = g.K.Sink.fault_count c.args.out.now in
     let out = change_of held held written written in
     let answer = c.in_err-work.field-0.0 in
-    caused_exit input out c.from_residual.result answer c.from_residual.ensures.1 (refused_of input out answer c.in_err-work.ensures (record { bytes = refl; no_fault = refl }))
+    caused_exit c.args.form input out c.from_residual.result answer c.from_residual.ensures.1 (refused_of c.args.form input out answer c.in_err-work.ensures (record { bytes = refl; no_fault = refl }))
 
 pub returns : goal.returns
 returns g c =
@@ -27,5 +27,5 @@ returns g c =
     let j = c.read_input.new.input in
     let o = c.args.out.now in
     let p = c.run_work.new.out in
-    run_of (change_of (left i) (left j) (read i) (read j)) (change_of (held o) (held p) (written o) (written p)) c.in_ok-work.work (answer_of c.run_work.result)
+    run_of c.args.form (change_of (left i) (left j) (read i) (read j)) (change_of (held o) (held p) (written o) (written p)) c.in_ok-work.work (answer_of c.run_work.result)
     c.in_ok-work.ensures c.run_work.ensures.ran

@@ -7,6 +7,5 @@ returns-clause-told g c =
     let told = g.E.Sink.contents in
     let faults = g.E.Sink.fault_count in
     let a = c.args.err.now in
-    let b = c.write_piece.new.sink in
-    told_of (change_of (told a) (told b) (faults a) (faults b)) c.args.answer c.line.result.now c.write_piece.result c.line.ensures
-    c.write_piece.ensures.ok c.write_piece.ensures.risen c.write_piece.ensures.part
+    let b = c.put_line.new.err in
+    told_of (change_of (told a) (told b) (faults a) (faults b)) c.args.answer c.put_line.result c.put_line.ensures.puts c.put_line.ensures.no_memory
