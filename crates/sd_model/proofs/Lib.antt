@@ -1,2 +1,0 @@
-pub mod PossibleEvents
-pub mod ReplayLemmas

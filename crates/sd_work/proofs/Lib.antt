@@ -1,9 +1,0 @@
-pub mod FormLemmas
-pub mod KeptLemmas
-pub mod ReadingLemmas
-pub mod StatementLemmas
-pub mod TextLemmas
-pub mod ScriptLemmas
-pub mod ThreadLemmas
-pub mod OneLemmas
-pub mod ByteLemmas

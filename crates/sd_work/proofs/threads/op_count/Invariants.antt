@@ -1,8 +1,0 @@
-use Rattle.std.proofs.Common.{◌≡◌, ◌*◌, ◌≤◌, length, take, sum_by}
-use Rattle.sd_work.proofs.threads.op_count.Given as goal
-
-abbrev pub invariant-loop-thread : goal.invariant-loop-thread
-invariant-loop-thread l = record {
-  count : l.count ≡ sum_by (λ t. length t.script.ops) (take l.thread-index l.threads);
-  bound : l.count ≤ 256 * l.thread-index;
-}
