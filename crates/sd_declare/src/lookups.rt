@@ -8,7 +8,9 @@ ghost use Rattle.sd_declare.specs.Kept.{declarations};
 
 use crate::{Declared, WorkCause};
 use sd_lines::is_word;
-use sd_types::{ChanId, ChanKind, CpuId, List, LockId, LockKind, Name, SetId, ThreadDecl, ThreadId};
+use sd_types::{
+    ChanId, ChanKind, CpuId, List, LockId, LockKind, Name, SetId, ThreadDecl, ThreadId,
+};
 
 /// The number of processors.
 pub fn cpu_count(d: &Declared) -> u16
@@ -24,7 +26,9 @@ fn lock_at(locks: &[(Name, LockKind)], name: &Name) -> Option<usize>
     ensures value { result ≡ position (λ x. same_bytes x.0.text.items (word_of name.now)) locks.now }
     ensures bound { IfSome result (λ n. n < length locks.now) }
 {
-    locks.iter().position(|lock| is_word(lock.0.bytes(), name.bytes()))
+    locks
+        .iter()
+        .position(|lock| is_word(lock.0.bytes(), name.bytes()))
 }
 
 /// The number of the first lock with the name, or of the locks where none has it.
@@ -41,7 +45,9 @@ fn chan_at(chans: &[(Name, ChanKind)], name: &Name) -> Option<usize>
     ensures value { result ≡ position (λ x. same_bytes x.0.text.items (word_of name.now)) chans.now }
     ensures bound { IfSome result (λ n. n < length chans.now) }
 {
-    chans.iter().position(|chan| is_word(chan.0.bytes(), name.bytes()))
+    chans
+        .iter()
+        .position(|chan| is_word(chan.0.bytes(), name.bytes()))
 }
 
 /// The number of the first channel with the name, or of the channels where none has it.
@@ -58,7 +64,8 @@ fn set_at(sets: &[(Name, List<CpuId>)], name: &Name) -> Option<usize>
     ensures value { result ≡ position (λ x. same_bytes x.0.text.items (word_of name.now)) sets.now }
     ensures bound { IfSome result (λ n. n < length sets.now) }
 {
-    sets.iter().position(|set| is_word(set.0.bytes(), name.bytes()))
+    sets.iter()
+        .position(|set| is_word(set.0.bytes(), name.bytes()))
 }
 
 /// The place of the first set with the name, or the number of sets where none has it.
@@ -75,7 +82,9 @@ fn thread_at(threads: &[ThreadDecl], name: &Name) -> Option<usize>
     ensures value { result ≡ position (λ x. same_bytes x.name.text.items (word_of name.now)) threads.now }
     ensures bound { IfSome result (λ n. n < length threads.now) }
 {
-    threads.iter().position(|thread| is_word(thread.name.bytes(), name.bytes()))
+    threads
+        .iter()
+        .position(|thread| is_word(thread.name.bytes(), name.bytes()))
 }
 
 /// The number of the first thread with the name, or of the threads where none has it.

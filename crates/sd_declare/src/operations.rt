@@ -10,7 +10,9 @@ ghost use Rattle.sd_declare.specs.Operations.{is_request, is_cpu, request_of, sp
 ghost use Rattle.sd_declare.specs.Kept.{declarations};
 
 use crate::classes::{is_quantum, quantum_of};
-use crate::lookups::{chan_of, cpu_count, lock_of, mutex_of, rwlock_of, sema_of, set_of, thread_of};
+use crate::lookups::{
+    chan_of, cpu_count, lock_of, mutex_of, rwlock_of, sema_of, set_of, thread_of,
+};
 use crate::{Declared, WorkCause};
 use sd_lines::{Operation, RequestLine};
 use sd_types::{Class, CpuId, Name, Op, Quantum, Request};

@@ -102,9 +102,7 @@ fn is_taken(d: &Declared, cpus: &[u64]) -> bool
     ensures value { result ≡ is_taken (declarations d.now) cpus.now }
     ensures few { result ≡ false → sum_by (λ s. length s.1) d.now.sets.items + length cpus.now ≤ 64 }
 {
-    leaves_none(d, cpus.len())
-        || is_any_named(d, cpus)
-        || !are_distinct(cpus)
+    leaves_none(d, cpus.len()) || is_any_named(d, cpus) || !are_distinct(cpus)
 }
 
 // The processors of these numbers.

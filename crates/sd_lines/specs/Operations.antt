@@ -47,7 +47,7 @@ ts_request words = option_and_then (λ limit. option_map (λ pri. Ts limit.0 pri
 unfoldable pub fx_request : Line → Option RequestLine
 fx_request words =
     option_and_then (λ limit. option_and_then (λ pri. option_map (λ quantum. Fx limit.0 pri.0 quantum)
-        (only quantum_of pri.1)) (first signed_of limit.1)) (first signed_of words)
+    (only quantum_of pri.1)) (first signed_of limit.1)) (first signed_of words)
 
 -- `PRI`
 unfoldable pub sys_request : Line → Option RequestLine

@@ -14,13 +14,13 @@ use Rattle.sd_lines.specs.Words.{Word, Line, name_of, quantum_of, first, only, b
 unfoldable pub ts_words : Line → Option (ThreadClass × Line)
 ts_words words =
     option_and_then (λ cpupri. option_and_then (λ limit. option_map (λ upri. (Ts cpupri.0 limit.0 upri.0, upri.1))
-        (first signed_of limit.1)) (first signed_of cpupri.1)) (first number_of words)
+    (first signed_of limit.1)) (first signed_of cpupri.1)) (first number_of words)
 
 -- `LIMIT PRI Q`
 unfoldable pub fx_words : Line → Option (ThreadClass × Line)
 fx_words words =
     option_and_then (λ limit. option_and_then (λ pri. option_map (λ quantum. (Fx limit.0 pri.0 quantum.0, quantum.1))
-        (first quantum_of pri.1)) (first number_of limit.1)) (first number_of words)
+    (first quantum_of pri.1)) (first number_of limit.1)) (first number_of words)
 
 -- `PRI`
 unfoldable pub sys_words : Line → Option (ThreadClass × Line)
@@ -74,7 +74,7 @@ set_option words = set_words words (behind (codes "in") words)
 unfoldable pub options : Line → Option Options
 options words =
     option_and_then (λ uid. option_map (λ set. record { uid = uid.0; privileged = (priv_option uid.1).0; set = set })
-        (set_option (priv_option uid.1).1)) (uid_option words)
+    (set_option (priv_option uid.1).1)) (uid_option words)
 
 -- ---- the line
 
@@ -92,4 +92,4 @@ thread name class o = record { name = name; class = class; uid = o.uid; privileg
 unfoldable pub thread_line : Line → Option Thread
 thread_line words =
     option_and_then (λ name. option_and_then (λ class. option_map (λ o. thread name.0 class.0 o)
-        (options class.1)) (class_words name.1)) (first name_of words)
+    (options class.1)) (class_words name.1)) (first name_of words)

@@ -10,7 +10,9 @@ ghost use Rattle.sd_lines.specs.Said.{word_of, operation_said};
 
 use crate::names::{is_word, name_of};
 use crate::requests::request_of;
-use crate::words::{QuantumWord, first_name, first_number, first_word, is_done, only_name, only_number, only_word};
+use crate::words::{
+    QuantumWord, first_name, first_number, first_word, is_done, only_name, only_number, only_word,
+};
 use sd_text::number;
 use sd_types::Name;
 
@@ -190,7 +192,11 @@ pub fn operation_of(line: &[u8]) -> Option<Operation>
     if is_word(word, b"run") {
         only_number(rest).map(Operation::Run)
     } else if is_word(word, b"yield") {
-        if is_done(rest) { Some(Operation::Yield) } else { None }
+        if is_done(rest) {
+            Some(Operation::Yield)
+        } else {
+            None
+        }
     } else if is_word(word, b"nap") {
         only_number(rest).map(Operation::Nap)
     } else {

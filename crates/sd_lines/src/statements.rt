@@ -9,7 +9,7 @@ ghost use Rattle.sd_lines.specs.Said.{statement_said};
 
 use crate::names::is_word;
 use crate::threads::{ThreadLine, thread_line};
-use crate::words::{first_name, first_word, only_name, only_number, only_word, all_numbers};
+use crate::words::{all_numbers, first_name, first_word, only_name, only_number, only_word};
 use sd_types::{LockKind, Name};
 use std::alloc::{AllocError, Global};
 

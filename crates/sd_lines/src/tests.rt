@@ -39,22 +39,35 @@ fn operations_are_read(rt: HostRuntime) {
     }
 }
 
-fn thread_in(statement: Statement) -> Option<ThreadLine> {
-    match statement {
-        Statement::Declare(thread) => Some(thread),
-        _ => None,
-    }
+// `a`, of TS with these numbers and options.
+fn is_expected(thread: &ThreadLine) -> bool {
+    let has_class = match thread.class {
+        ThreadClass::Ts {
+            cpupri,
+            limit,
+            upri,
+        } => cpupri == 5 && limit == -10 && upri == 60,
+        _ => false,
+    };
+    let has_set = match &thread.options.set {
+        Some(set) => is_word(set.bytes(), b"s"),
+        None => false,
+    };
+    has_class
+        && has_set
+        && is_word(thread.name.bytes(), b"a")
+        && thread.options.uid == 7
+        && thread.options.privileged
 }
 
 #[test]
 fn a_thread_is_read(rt: HostRuntime) -> Result<(), Fail> {
     let line = b"thread a ts 5 -10 60 uid 7 priv in s";
     let found = statement_of(rt.alloc(), line)?.ok_or("no form")?;
-    let thread = thread_in(found).ok_or("no thread")?;
-    assert!(rt; matches!(thread.class, ThreadClass::Ts { cpupri: 5, limit: -10, upri: 60 }));
-    assert!(rt; thread.name.bytes() == b"a");
-    assert_eq!(rt; (thread.options.uid, thread.options.privileged), (7, true));
-    let set = thread.options.set.ok_or("no set")?;
-    assert!(rt; set.bytes() == b"s");
+    let is_right = match &found {
+        Statement::Declare(thread) => is_expected(thread),
+        _ => false,
+    };
+    assert!(rt; is_right);
     Ok(())
 }

@@ -10,8 +10,8 @@ ghost use Rattle.sd_lines.specs.Said.{word_of, options_said, thread_said};
 
 use crate::names::is_word;
 use crate::words::{
-    QuantumWord, behind, first_name, first_number, first_quantum, first_signed, first_word, is_done,
-    only_name,
+    QuantumWord, behind, first_name, first_number, first_quantum, first_signed, first_word,
+    is_done, only_name,
 };
 use sd_types::Name;
 

@@ -37,14 +37,14 @@ unfolding fault_at
 fault-line columns lines i fault e =
     let line : Line = get_or lines i [] in
     by-tests (i + 1) (is_res_line line) (is_none (res_of_line line) || list_any is_res_line (take i lines) || list_any is_row_line (take i lines))
-        (is_row_line line) (has_numbers columns line) (column_outside columns (numbers_of line)) fault e
+    (is_row_line line) (has_numbers columns line) (column_outside columns (numbers_of line)) fault e
 
 -- the line of a fault is one of the block
 pub fault-bound : (class : TableClass) (text : List ℕ) (fault : TableFault) (n e : ℕ) → IsTableFault (format_of class) text fault → e ≡ n + length (word_lines text)
     → IfSome (line_of fault) (λ line. (1 ≤ line) × (n + line ≤ e + 1))
 fault-bound class text fault n e (inl f) end =
     subst (λ (o : Option ℕ). IfSome o (λ line. (1 ≤ line) × (n + line ≤ e + 1))) (sym (fault-line (format_of class).columns (word_lines text) f.0 fault f.3))
-        (omega arith, omega (arith, f.1, end))
+    (omega arith, omega (arith, f.1, end))
 fault-bound class text fault n e (inr f) end =
     subst (λ (o : Option ℕ). IfSome o (λ line. (1 ≤ line) × (n + line ≤ e + 1))) (sym (ap line_of f.2)) tt
 
@@ -87,8 +87,8 @@ rows-closed text at block d class (Some to) b r below closed tells f some none =
     let g = subst (λ (o : Option Place). Follows text o b.rest) below b.follows in
     let is : f ≡ At block.end (Table (Rows (length (rows_in (word_lines block.text.items))))) = some (tells ∙ ap is_some below) in
     subst (IsFault (judged_from text at d (InTable class []))) (sym is)
-        (clean text at block d class b r.0
-        ∙ table-rows block.end d class (word_lines block.text.items) b.rest (lines_from text to) g.0 g.1 g.2 r.1)
+    (clean text at block d class b r.0
+    ∙ table-rows block.end d class (word_lines block.text.items) b.rest (lines_from text to) g.0 g.1 g.2 r.1)
 rows-closed text at block d class None b r below closed tells f some none =
     let is : f ≡ At block.end Syntax = none (tells ∙ ap is_some below) in
     subst (IsFault (judged_from text at d (InTable class []))) (sym is) (block-open text at block d class b r.0 below)
@@ -105,7 +105,7 @@ block-refused text at block d class fault b (inl r) closed tells f line rows unc
     let is : f ≡ At (at.number + (r.0 + 1) - 1) (Table fault) = subst (λ (o : Option ℕ). IfSome o (λ n. f ≡ At (at.number + n - 1) (Table fault))) named line in
     let sum : at.number + (r.0 + 1) - 1 ≡ at.number + r.0 = omega arith in
     subst (IsFault (judged_from text at d (InTable class []))) (sym (is ∙ ap (λ n. At n (Table fault)) sum))
-        (start text at block d class b ∙ table-fault at.number d class (word_lines block.text.items) b.rest r.0 fault b.closes r.1 r.2 r.3)
+    (start text at block d class b ∙ table-fault at.number d class (word_lines block.text.items) b.rest r.0 fault b.closes r.1 r.2 r.3)
 block-refused text at block d class fault b (inr r) closed tells f line rows unclosed =
     let named : line_of fault ≡ None = ap line_of r.2 in
     let some = subst (λ (o : Option ℕ). IfNone o (closed ≡ true → f ≡ At block.end (Table fault))) named rows in

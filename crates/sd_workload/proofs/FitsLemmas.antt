@@ -58,7 +58,7 @@ front-fits ops new fits i op h e = elim (cases_lt (i + 1) (length ops)) [
   | inr last ↦
       ap (λ l. op_fits (held_by l) op (slice_get (ops ++ new) (i + 1))) (take-append-le i ops new (omega arith))
       ∙ at-none (held_by (take i ops)) op (slice_get (ops ++ new) (i + 1))
-          (sym (ap (op_fits (held_by (take i ops)) op) (slice_get_past ops (i + 1) last)) ∙ fits i op e)
+      (sym (ap (op_fits (held_by (take i ops)) op) (slice_get_past ops (i + 1) last)) ∙ fits i op e)
 ]
 
 pub fits-append : (ops new : List Op) → EachOpFits ops
@@ -87,6 +87,7 @@ more-none ops op after h = elim (cases_lt (length ops) 256) [
     chosen : (b : Bool) → b ≡ true → (o : Option ScriptFault) → cond b o (Some TooLong) ≡ o
     chosen true e o = refl
     chosen false e o = absurd (false≢true e)
+
     other : (b : Bool) → b ≡ false → (o : Option ScriptFault) → cond b o (Some TooLong) ≡ Some TooLong
     other true e o = absurd (false≢true (sym e))
     other false e o = refl
@@ -121,9 +122,10 @@ pub line-fits : (ops : List Op) (op : Op) → EachOpFits ops → ops_fault ops (
 line-fits ops (CvWait k l) fits h =
     let q = parts _ _ h in
     let p = more-none ops (CvWait k l) (Some (Enter l)) q.0 in
-    let r = more-none (ops ++ CvWait k l ∷ []) (Enter l) None (parts _ _ q.1).0 in
-    (fits-append ops (CvWait k l ∷ Enter l ∷ []) fits (each-two ops (CvWait k l) (Enter l) p.1 r.1),
-     omega (arith, r.0, length-append ops (CvWait k l ∷ []), length-append ops (CvWait k l ∷ Enter l ∷ [])))
+    let r = more-none (ops ++ CvWait k l ∷ []) (Enter l) None (parts _ _ q.1).0 in (
+      fits-append ops (CvWait k l ∷ Enter l ∷ []) fits (each-two ops (CvWait k l) (Enter l) p.1 r.1),
+      omega (arith, r.0, length-append ops (CvWait k l ∷ []), length-append ops (CvWait k l ∷ Enter l ∷ [])),
+    )
 line-fits ops (Run n) fits h = one-fits ops (Run n) fits h
 line-fits ops Yield fits h = one-fits ops Yield fits h
 line-fits ops (Nap n) fits h = one-fits ops (Nap n) fits h

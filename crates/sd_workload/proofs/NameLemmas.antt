@@ -63,7 +63,7 @@ pub named-push : {X : Type 0} (xs : List (Word × X)) (name : Word) (x : X) → 
 named-push {X} xs name x h new =
     ap (is_distinct same_bytes) (map-append (λ (y : Word × X). y.0) xs ((name, x) ∷ []))
     ∙ distinct-push same_bytes (map (λ (y : Word × X). y.0) xs) name h
-        (sym (any_kept (λ (y : Word × X). y.0) (λ n. same_bytes n name) xs) ∙ none-placed (λ (y : Word × X). same_bytes y.0 name) xs new)
+    (sym (any_kept (λ (y : Word × X). y.0) (λ n. same_bytes n name) xs) ∙ none-placed (λ (y : Word × X). same_bytes y.0 name) xs new)
 
 -- ---- processors
 
@@ -84,7 +84,7 @@ distinct-more xs (c ∷ cs) h d cross =
     let q = neither _ _ cross in
     ap (is_distinct same_cpu) (sym (append_assoc xs (cpu_of_number c ∷ []) (map cpu_of_number cs)))
     ∙ distinct-more (xs ++ cpu_of_number c ∷ []) cs (distinct-push same_cpu xs (cpu_of_number c) h q.0) p.1
-        (cross-push xs c cs q.1 (not-true _ p.0))
+    (cross-push xs c cs q.1 (not-true _ p.0))
 
 -- ---- elements
 

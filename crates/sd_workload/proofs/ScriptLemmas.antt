@@ -47,7 +47,7 @@ pub script-close : (n m : ℕ) (d : Declarations) (t : ThreadId) (ops new : List
 unfolding declared_after block_after
 script-close n m d t ops new lines below line is close none next same =
     judged-on n m d (with_script d t new) (InScript t ops) Outside lines below line is
-        (close-cause d t ops line close ∙ ap (option_map Script) none) next (rw (close, same) refl) (rw close refl)
+    (close-cause d t ops line close ∙ ap (option_map Script) none) next (rw (close, same) refl) (rw close refl)
 
 pub script-held : (n : ℕ) (d : Declarations) (t : ThreadId) (ops : List Op) (lines below : List Line) (line : Line) (f : WorkFault) → lines ≡ line ∷ below → is_end line ≡ true
     → IsFaultAt n (option_map Script (end_fault ops)) f → IsFault (judged n d (InScript t ops) lines) f

@@ -90,15 +90,30 @@ rows-right format above false e none =
 
 table-sound : (d : Declarations) (class : TableClass) (lines : List Line) → IsTableLines (format_of class) lines → IsSound d → IsSound (with_table d class lines)
 table-sound d table.Ts lines given h = record {
-  settings = h.settings; sets = h.sets; set_names = h.set_names; lock_names = h.lock_names; chan_names = h.chan_names; threads = h.threads;
+  settings = h.settings;
+  sets = h.sets;
+  set_names = h.set_names;
+  lock_names = h.lock_names;
+  chan_names = h.chan_names;
+  threads = h.threads;
   tables = record { ts_lines = given; fx_lines = h.tables.fx_lines; rt_lines = h.tables.rt_lines };
 }
 table-sound d table.Fx lines given h = record {
-  settings = h.settings; sets = h.sets; set_names = h.set_names; lock_names = h.lock_names; chan_names = h.chan_names; threads = h.threads;
+  settings = h.settings;
+  sets = h.sets;
+  set_names = h.set_names;
+  lock_names = h.lock_names;
+  chan_names = h.chan_names;
+  threads = h.threads;
   tables = record { ts_lines = h.tables.ts_lines; fx_lines = given; rt_lines = h.tables.rt_lines };
 }
 table-sound d table.Rt lines given h = record {
-  settings = h.settings; sets = h.sets; set_names = h.set_names; lock_names = h.lock_names; chan_names = h.chan_names; threads = h.threads;
+  settings = h.settings;
+  sets = h.sets;
+  set_names = h.set_names;
+  lock_names = h.lock_names;
+  chan_names = h.chan_names;
+  threads = h.threads;
   tables = record { ts_lines = h.tables.ts_lines; fx_lines = h.tables.fx_lines; rt_lines = given };
 }
 
@@ -207,13 +222,13 @@ unfolding judged
 lines-sound [] n d e b h s k = end-sound (end_cause d b) n d e h s
 lines-sound (line ∷ lines) n d e b h s k =
     by (cause_of d b line) refl (λ (below : IsBelow (declared_after d b line) (block_after d b line)) g.
-        lines-sound lines (n + 1) (declared_after d b line) e (block_after d b line) g below.declared below.block)
+    lines-sound lines (n + 1) (declared_after d b line) e (block_after d b line) g below.declared below.block)
   where
     by : (o : Option WorkCause) → cause_of d b line ≡ o
         → (IsBelow (declared_after d b line) (block_after d b line) → judged (n + 1) (declared_after d b line) (block_after d b line) lines ≡ Accepts e → IsSound e) → IsSound e
     by None is more =
         more (line-sound d b line is s k)
-            (sym (ap (λ x. unless_refused n x (judged (n + 1) (declared_after d b line) (block_after d b line) lines)) is) ∙ h)
+        (sym (ap (λ x. unless_refused n x (judged (n + 1) (declared_after d b line) (block_after d b line) lines)) is) ∙ h)
     by (Some c) is more =
         let f : Refuses n c ≡ Accepts e = sym (ap (λ x. unless_refused n x (judged (n + 1) (declared_after d b line) (block_after d b line) lines)) is) ∙ h in absurd (apart-from n c e f)
 

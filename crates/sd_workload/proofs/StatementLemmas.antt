@@ -227,7 +227,7 @@ thread-sound d t none s =
     let in_range = both (is_class t.class) (leb t.uid 65535) (not-false _ c.range) in
     let known : leb (set_number d t.set) (length d.sets) ≡ true = under (set_number d t.set) (length d.sets) (not-false _ c.unknown) in
     let more = threads-more (named d) (named (with_thread d t)) d.threads
-        (record { cpus = omega arith; sets = omega arith; threads = omega (arith, length-append d.threads (thread_of d t ∷ [])); lock_count = omega arith; locks = λ i x e. e; chans = λ i x e. e }) s.threads in
+    (record { cpus = omega arith; sets = omega arith; threads = omega (arith, length-append d.threads (thread_of d t ∷ [])); lock_count = omega arith; locks = λ i x e. e; chans = λ i x e. e }) s.threads in
     record {
       settings = s.settings;
       sets = s.sets;
@@ -237,7 +237,7 @@ thread-sound d t none s =
       threads = record {
         names = ap (is_distinct same_bytes) (map-append (λ (x : Thread). x.name) d.threads (thread_of d t ∷ []))
             ∙ distinct-push same_bytes (map (λ (x : Thread). x.name) d.threads) t.name more.names
-                (sym (any_kept (λ (x : Thread). x.name) (λ n. same_bytes n t.name) d.threads) ∙ new);
+            (sym (any_kept (λ (x : Thread). x.name) (λ n. same_bytes n t.name) d.threads) ∙ new);
         fit = all-push (thread_is_sound (named (with_thread d t))) d.threads (thread_of d t) more.fit (two _ _ (two _ _ (class-fits t.class in_range.0) known) refl);
       };
       tables = s.tables;

@@ -50,7 +50,7 @@ from-line n d class lines rest k o free h fault =
     let sum : n + k + 1 ≡ n + (k + 1) = omega arith in
     ap (λ l. judged (n + k) d (InTable class (take k lines)) (l ++ rest)) (drop_more lines k [] h)
     ∙ line-inside (n + k) d class (take k lines) (drop (k + 1) lines ++ rest) line o (no_end-at lines k h free)
-        (ap (λ m. line_fault (format_of class).columns (take k lines) line (m + 1)) len ∙ fault)
+    (ap (λ m. line_fault (format_of class).columns (take k lines) line (m + 1)) len ∙ fault)
     ∙ ap (λ m. unless_refused (n + k) (option_map Table o) (judged m d (InTable class (take k lines ++ line ∷ [])) (drop (k + 1) lines ++ rest))) sum
     ∙ ap (λ l. unless_refused (n + k) (option_map Table o) (judged (n + (k + 1)) d (InTable class l) (drop (k + 1) lines ++ rest))) (sym (take_more lines k [] h))
 

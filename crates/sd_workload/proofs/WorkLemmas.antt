@@ -56,7 +56,7 @@ pub most-pairs : (k : Kept) (threads : List ThreadDecl) (locks : List (Name × L
     → length threads * length locks ≤ 65536
 most-pairs k threads locks h t l =
     rw (t, l) (subst (λ (n : ℕ). n * length k.locks.items ≤ 65536) (length-map k.threads.items thread_kept)
-        (subst (λ (n : ℕ). length (map thread_kept k.threads.items) * n ≤ 65536) (length-map k.locks.items lock_kept) h.pairs))
+    (subst (λ (n : ℕ). length (map thread_kept k.threads.items) * n ≤ 65536) (length-map k.locks.items lock_kept) h.pairs))
 
 pub most-ops : (k : Kept) (threads : List ThreadDecl) → IsFew (declarations k) → threads ≡ k.threads.items → sum_by (λ t. length t.script.ops) threads ≤ 4096
 most-ops k threads h t =
@@ -96,7 +96,7 @@ named-same k =
     ap (λ (n : ℕ). record (named (declarations k)) { sets = n }) (length-map k.sets.items set_kept)
     ∙ ap (λ (ls : List LockKind). record (named (declarations k)) { sets = length k.sets.items; locks = ls }) (map-map lock_kept (λ (x : Word × LockKind). x.1) k.locks.items)
     ∙ ap (λ (cs : List ChanKind). record (named (declarations k)) { sets = length k.sets.items; locks = map (λ (x : Name × LockKind). x.1) k.locks.items; chans = cs })
-        (map-map chan_kept (λ (x : Word × ChanKind). x.1) k.chans.items)
+    (map-map chan_kept (λ (x : Word × ChanKind). x.1) k.chans.items)
     ∙ ap (λ (n : ℕ). record (declared_of cpus k.sets.items k.locks.items k.chans.items k.threads.items) { threads = n }) (length-map k.threads.items thread_kept)
 
 pub threads-fit : (k : Kept) (cpus : ℕ) (sets : List (Name × List CpuId)) (locks : List (Name × LockKind)) (chans : List (Name × ChanKind)) (threads : List ThreadDecl)

@@ -1,8 +1,9 @@
 //! What no clause says: that reading succeeds where memory is left, and that the definitions accept and refuse the
 //! texts that they should. The cases were worked out by hand.
-ghost use Rattle.std.specs.Prelude.{◌<◌, ◌^◌, length};
+ghost use Rattle.std.specs.Prelude.{◌<◌, ◌≤◌, ◌^◌, length};
 
 use super::*;
+use sd_lines::is_word;
 use sd_script::ScriptFault;
 use sd_tables::TableFault;
 use sd_text::put_number;
@@ -43,19 +44,15 @@ const TWICE: &[u8] =
 const RANGE: &[u8] =
     b"cpus 0|cpus 65|hz 1001|limit 0|limit 100001|cpus 2\nset s 2|cpus 2\nset s 2 2|sema s 65536|thread a rt 0 1000001|thread a fx 61 0 def|thread a sys 100|thread a ts 0 -61 0|thread a sys 60 uid 65536|thread a sys 60\nscript a\nrun 0|thread a sys 60\nscript a\nnap 100001|thread a sys 60\nscript a\nassign 1 -|thread a sys 60\nscript a\npbind a 1|thread a sys 60\nscript a\npriocntl a rt 5 0|thread a sys 60\nscript a\npriocntl a ts 0 32768";
 
-const SETS: &[u8] = b"set s 0|cpus 3\nset s 1\nset r 0 2|cpus 3\nset s 1 1|cpus 3\nset s 1\nset r 1";
+const SETS: &[u8] =
+    b"set s 0|cpus 3\nset s 1\nset r 0 2|cpus 3\nset s 1 1|cpus 3\nset s 1\nset r 1";
 
 // The number of a text's lines, of which the last has no newline.
 fn line_count(text: &[u8]) -> u32
     requires { length text.now < 1000 }
+    ensures { result ≤ 1000 }
 {
-    let mut count = 1;
-    for byte in text {
-        if *byte == b'\n' {
-            count += 1;
-        }
-    }
-    count
+    text.iter().filter(|byte| **byte == b'\n').count() as u32 + 1
 }
 
 #[test]
@@ -83,6 +80,7 @@ const OPEN: &[u8] =
 // The number of a text's lines. A newline at the end makes no further line.
 fn whole_line_count(text: &[u8]) -> u32
     requires { length text.now < 1000 }
+    ensures { result ≤ 1000 }
 {
     match text {
         [] => 0,
@@ -166,8 +164,16 @@ fn scripts_are_refused(rt: HostRuntime) -> Result<(), Fail> {
     let too_long = WorkCause::Script(ScriptFault::TooLong);
     for (runs, last, fault) in [
         (0, b"exit m".as_slice(), None),
-        (0, b"yield".as_slice(), Some((11, WorkCause::Script(ScriptFault::HeldAtExit)))),
-        (0, b"enter m".as_slice(), Some((10, WorkCause::Script(ScriptFault::AlreadyHeld { op: 1 })))),
+        (
+            0,
+            b"yield".as_slice(),
+            Some((11, WorkCause::Script(ScriptFault::HeldAtExit))),
+        ),
+        (
+            0,
+            b"enter m".as_slice(),
+            Some((10, WorkCause::Script(ScriptFault::AlreadyHeld { op: 1 }))),
+        ),
         (254, b"exit m".as_slice(), None),
         (255, b"exit m".as_slice(), Some((265, too_long))),
         (255, b"exit w".as_slice(), Some((265, too_long))),
@@ -198,13 +204,48 @@ fn tables_are_refused(rt: HostRuntime) -> Result<(), Fail> {
     for (class, rows, last, fault) in [
         (b"fx".as_slice(), 60, b"end".as_slice(), None),
         (b"fx".as_slice(), 61, b" end # y\n".as_slice(), None),
-        (b"rt".as_slice(), 61, b"# x\n  end # y\n".as_slice(), Some((65, TableFault::Rows { found: 61 }))),
-        (b"rt".as_slice(), 0, b"end\n".as_slice(), Some((3, TableFault::Rows { found: 0 }))),
-        (b"rt".as_slice(), 60, b"end end\n".as_slice(), Some((63, TableFault::NotANumber { line: 61 }))),
-        (b"rt".as_slice(), 0, b"\xff\n".as_slice(), Some((3, TableFault::NotANumber { line: 1 }))),
-        (b"rt".as_slice(), 1, b"0\n".as_slice(), Some((4, TableFault::Range { line: 2, column: 1 }))),
-        (b"fx".as_slice(), 1, b"RES=1000\n".as_slice(), Some((4, TableFault::Resolution { line: 2 }))),
-        (b"ts".as_slice(), 0, b"1 59 60 99999 60\n".as_slice(), Some((3, TableFault::Range { line: 1, column: 3 }))),
+        (
+            b"rt".as_slice(),
+            61,
+            b"# x\n  end # y\n".as_slice(),
+            Some((65, TableFault::Rows { found: 61 })),
+        ),
+        (
+            b"rt".as_slice(),
+            0,
+            b"end\n".as_slice(),
+            Some((3, TableFault::Rows { found: 0 })),
+        ),
+        (
+            b"rt".as_slice(),
+            60,
+            b"end end\n".as_slice(),
+            Some((63, TableFault::NotANumber { line: 61 })),
+        ),
+        (
+            b"rt".as_slice(),
+            0,
+            b"\xff\n".as_slice(),
+            Some((3, TableFault::NotANumber { line: 1 })),
+        ),
+        (
+            b"rt".as_slice(),
+            1,
+            b"0\n".as_slice(),
+            Some((4, TableFault::Range { line: 2, column: 1 })),
+        ),
+        (
+            b"fx".as_slice(),
+            1,
+            b"RES=1000\n".as_slice(),
+            Some((4, TableFault::Resolution { line: 2 })),
+        ),
+        (
+            b"ts".as_slice(),
+            0,
+            b"1 59 60 99999 60\n".as_slice(),
+            Some((3, TableFault::Range { line: 1, column: 3 })),
+        ),
     ] {
         let text = table_text(rt.alloc(), class, rows, last)?;
         assert!(rt; text.len() < 1000);
@@ -237,11 +278,26 @@ fn limits_have_two_sides(rt: HostRuntime) -> Result<(), Fail> {
     // 256 locks and no more, of which one more name that is declared is there twice; 32 threads with 2,048 locks.
     for (threads, locks, last, fault) in [
         (256, 256, b"".as_slice(), None),
-        (256, 256, b"mutex n".as_slice(), Some((514, WorkCause::Limits))),
-        (256, 256, b"mutex m0".as_slice(), Some((514, WorkCause::Twice))),
+        (
+            256,
+            256,
+            b"mutex n".as_slice(),
+            Some((514, WorkCause::Limits)),
+        ),
+        (
+            256,
+            256,
+            b"mutex m0".as_slice(),
+            Some((514, WorkCause::Twice)),
+        ),
         (257, 256, b"".as_slice(), Some((515, WorkCause::Limits))),
         (2048, 32, b"".as_slice(), None),
-        (2048, 32, b"thread n sys 60".as_slice(), Some((2082, WorkCause::Limits))),
+        (
+            2048,
+            32,
+            b"thread n sys 60".as_slice(),
+            Some((2082, WorkCause::Limits)),
+        ),
     ] {
         let mut text = Vec::from_slice(rt.alloc(), b"limit 1\n")?;
         put_numbered(&mut text, b"thread t", threads, b" sys 60\n")?;
@@ -249,7 +305,11 @@ fn limits_have_two_sides(rt: HostRuntime) -> Result<(), Fail> {
         text.extend_from_slice(last)?;
         assert!(rt; text.len() < 1_000_000);
         let want = fault.map(|(line, cause)| WorkFault::At { line, cause });
-        assert_eq!(rt; fault_of(rt.alloc(), &text), want, "{threads} {locks} {last:?}");
+        assert_eq!(rt;
+            fault_of(rt.alloc(), &text),
+            want,
+            "{threads} {locks} {last:?}"
+        );
     }
     Ok(())
 }
@@ -265,7 +325,7 @@ fn has_settings(work: &Work) -> bool {
 fn has_set(work: &Work) -> bool {
     match work.sets.items() {
         [(name, cpus)] => match cpus.items() {
-            [first, second] => name.bytes() == b"s" && first.0 == 2 && second.0 == 1,
+            [first, second] => is_word(name.bytes(), b"s") && first.0 == 2 && second.0 == 1,
             _ => false,
         },
         _ => false,
@@ -274,12 +334,13 @@ fn has_set(work: &Work) -> bool {
 
 fn has_objects(work: &Work) -> bool {
     let has_locks = match work.locks.items() {
-        [(m, LockKind::Mutex), (w, LockKind::Rwlock)] => m.bytes() == b"m" && w.bytes() == b"w",
+        [(m, LockKind::Mutex), (w, LockKind::Rwlock)] => is_word(m.bytes(), b"m")
+            && is_word(w.bytes(), b"w"),
         _ => false,
     };
     let has_chans = match work.chans.items() {
         [(k, ChanKind::Chan), (p, ChanKind::Sema { count: 3 })] => {
-            k.bytes() == b"k" && p.bytes() == b"p"
+            is_word(k.bytes(), b"k") && is_word(p.bytes(), b"p")
         }
         _ => false,
     };
@@ -289,49 +350,93 @@ fn has_objects(work: &Work) -> bool {
 fn has_threads(work: &Work) -> bool {
     match work.threads.items() {
         [a, b, c, d] => {
-            matches!(a.class, ClassParms::Ts { limit: -5, upri: -5 })
-                && (a.cpupri, a.uid, a.privileged, a.set.0) == (29, 7, true, 1)
-                && matches!(b.class, ClassParms::Fx { limit: 10, pri: 10, quantum: Quantum::Ticks(9) })
+            matches!(
+                a.class,
+                ClassParms::Ts {
+                    limit: -5,
+                    upri: -5
+                }
+            ) && (a.cpupri, a.uid, a.privileged, a.set.0) == (29, 7, true, 1)
+                && matches!(
+                    b.class,
+                    ClassParms::Fx {
+                        limit: 10,
+                        pri: 10,
+                        quantum: Quantum::Ticks(9)
+                    }
+                )
                 && (b.cpupri, b.uid, b.privileged, b.set.0) == (0, 0, false, 0)
                 && matches!(c.class, ClassParms::Sys { pri: 60 })
-                && matches!(d.class, ClassParms::Rt { pri: 5, quantum: Quantum::Def })
+                && matches!(
+                    d.class,
+                    ClassParms::Rt {
+                        pri: 5,
+                        quantum: Quantum::Def
+                    }
+                )
         }
         _ => false,
     }
 }
 
+// The kind of an operation, and what it names: a lock, a channel, a thread or ticks.
+fn shown(op: Op) -> (u8, u32) {
+    match op {
+        Op::Run(n) => (0, n),
+        Op::Yield => (1, 0),
+        Op::Nap(n) => (2, n),
+        Op::Sleep(k) => (3, u32::from(k.0)),
+        Op::Wake(k) => (4, u32::from(k.0)),
+        Op::WakeAll(k) => (5, u32::from(k.0)),
+        Op::Enter(l) => (6, u32::from(l.0)),
+        Op::Read(l) => (7, u32::from(l.0)),
+        Op::Write(l) => (8, u32::from(l.0)),
+        Op::Exit(l) => (9, u32::from(l.0)),
+        Op::Prio(t, _) => (10, u32::from(t.0)),
+        Op::CvWait(k, _) => (11, u32::from(k.0)),
+        Op::SemaP(k) => (12, u32::from(k.0)),
+        Op::SemaV(k) => (13, u32::from(k.0)),
+        Op::Assign(_, set) => (14, u32::from(set.0)),
+        Op::Pbind(_, None) => (15, 0),
+        Op::Pbind(_, Some(cpu)) => (16, u32::from(cpu.0)),
+    }
+}
+
+// The operations of the script of `b`: mutex m is lock 0 and rwlock w lock 1, chan k is channel 0 and sema p channel 1.
+const SCRIPT: [(u8, u32); 21] = [
+    (0, 2),
+    (1, 0),
+    (2, 3),
+    (3, 0),
+    (4, 0),
+    (5, 0),
+    (6, 0),
+    (11, 0),
+    (6, 0),
+    (9, 0),
+    (7, 1),
+    (9, 1),
+    (8, 1),
+    (9, 1),
+    (10, 0),
+    (12, 1),
+    (13, 1),
+    (14, 1),
+    (14, 0),
+    (16, 2),
+    (15, 0),
+];
+
 fn has_script(work: &Work) -> bool {
     match work.threads.items() {
-        [_, b, ..] => match b.script.ops() {
-            [
-                Op::Run(2),
-                Op::Yield,
-                Op::Nap(3),
-                Op::Sleep(_),
-                Op::Wake(_),
-                Op::WakeAll(k),
-                Op::Enter(_),
-                Op::CvWait(_, m),
-                Op::Enter(again),
-                Op::Exit(_),
-                Op::Read(w),
-                Op::Exit(_),
-                Op::Write(_),
-                Op::Exit(_),
-                Op::Prio(a, request),
-                Op::SemaP(p),
-                Op::SemaV(_),
-                Op::Assign(one, set),
-                Op::Assign(_, default_set),
-                Op::Pbind(_, Some(two)),
-                Op::Pbind(_, None),
-            ] => {
-                (k.0, m.0, again.0, w.0, a.0, p.0) == (0, 0, 0, 1, 0, 1)
-                    && (request.limit, request.pri) == (-1, 2)
-                    && (one.0, set.0, default_set.0, two.0) == (1, 1, 0, 2)
-            }
-            _ => false,
-        },
+        [_, b, ..] => {
+            let ops = b.script.ops();
+            ops.len() == SCRIPT.len()
+                && ops
+                    .iter()
+                    .zip(&SCRIPT)
+                    .all(|(op, want)| shown(*op) == *want)
+        }
         _ => false,
     }
 }

@@ -6,4 +6,3 @@ use Rattle.sd_workload.proofs.read.read_work.Goals as goal
 
 pub work-requires-clause-sound : goal.work-requires-clause-sound
 work-requires-clause-sound c = text-sound (word_lines c.args.bytes.now) _ c.in_ok-d.ensures.ok
-

@@ -15,19 +15,19 @@ returns-in_err-take_line-clause-err c =
 pub returns-in-Nothing-clause-ok : goal.returns-in-Nothing-clause-ok
 returns-in-Nothing-clause-ok c =
     judged-on c.args.number c.args.below.number (declarations c.args.d.now) (declarations c.take_line.new.d) Outside Outside _ (lines_from c.args.bytes.now c.args.below) (words_of c.args.line.now)
-        refl c.in_ok-take_line.ensures.ok c.requires.below c.in_ok-take_line.ensures.new (sym (ap block_of c.in-Nothing.is) ∙ c.in_ok-take_line.ensures.opened)
+    refl c.in_ok-take_line.ensures.ok c.requires.below c.in_ok-take_line.ensures.new (sym (ap block_of c.in-Nothing.is) ∙ c.in_ok-take_line.ensures.opened)
 
 table : (c : In-Table) → judged c.args.number (declarations c.args.d.now) Outside (words_of c.args.line.now ∷ lines_from c.args.bytes.now c.args.below)
     ≡ judged_from c.args.bytes.now c.args.below (declarations c.take_line.new.d) (InTable c.in-Table.class [])
 table c =
     judged-on c.args.number c.args.below.number (declarations c.args.d.now) (declarations c.take_line.new.d) Outside (InTable c.in-Table.class []) _ (lines_from c.args.bytes.now c.args.below) (words_of c.args.line.now)
-        refl c.in_ok-take_line.ensures.ok c.requires.below c.in_ok-take_line.ensures.new (sym (ap block_of c.in-Table.is) ∙ c.in_ok-take_line.ensures.opened)
+    refl c.in_ok-take_line.ensures.ok c.requires.below c.in_ok-take_line.ensures.new (sym (ap block_of c.in-Table.is) ∙ c.in_ok-take_line.ensures.opened)
 
 script : (c : In-Script) → judged c.args.number (declarations c.args.d.now) Outside (words_of c.args.line.now ∷ lines_from c.args.bytes.now c.args.below)
     ≡ judged_from c.args.bytes.now c.args.below (declarations c.take_line.new.d) (InScript c.in-Script.thread [])
 script c =
     judged-on c.args.number c.args.below.number (declarations c.args.d.now) (declarations c.take_line.new.d) Outside (InScript c.in-Script.thread []) _ (lines_from c.args.bytes.now c.args.below) (words_of c.args.line.now)
-        refl c.in_ok-take_line.ensures.ok c.requires.below c.in_ok-take_line.ensures.new (sym (ap block_of c.in-Script.is) ∙ c.in_ok-take_line.ensures.opened)
+    refl c.in_ok-take_line.ensures.ok c.requires.below c.in_ok-take_line.ensures.new (sym (ap block_of c.in-Script.is) ∙ c.in_ok-take_line.ensures.opened)
 
 pub returns-in_ok-to-in-Table-clause-ok : goal.returns-in_ok-to-in-Table-clause-ok
 returns-in_ok-to-in-Table-clause-ok c = table ((goal.at.returns-in_ok-to-in-Table-clause-ok c).In-Table) ∙ c.in_ok-to-in-Table.ensures.ok

@@ -24,7 +24,7 @@ lines-preserved c =
 pub returns-in_err-script-clause-err : goal.returns-in_err-script-clause-err
 returns-in_err-script-clause-err c =
     let fault = fault-along _ _ _ c.lines.invariant.rest
-        (script-held _ _ _ _ _ _ _ _ c.in-Some.ensures.line (sym c.is_end.ensures ∙ c.if-is_end.true) c.in_err-script.ensures.err) in
+    (script-held _ _ _ _ _ _ _ _ c.in-Some.ensures.line (sym c.is_end.ensures ∙ c.if-is_end.true) c.in_err-script.ensures.err) in
     search rules
 
 pub returns-then-is_end-clause-ok : goal.returns-then-is_end-clause-ok
@@ -35,7 +35,7 @@ returns-then-is_end-clause-ok c =
 pub returns-in_err-take_operation-clause-err : goal.returns-in_err-take_operation-clause-err
 returns-in_err-take_operation-clause-err c =
     let fault = fault-along _ _ _ c.lines.invariant.rest
-        (script-stop _ _ _ _ _ _ _ _ c.in-Some.ensures.line (sym c.is_end.ensures ∙ c.if-is_end.false) c.in_err-take_operation.ensures.err) in
+    (script-stop _ _ _ _ _ _ _ _ c.in-Some.ensures.line (sym c.is_end.ensures ∙ c.if-is_end.false) c.in_err-take_operation.ensures.err) in
     search rules
 
 pub returns-clause-err : goal.returns-clause-err

@@ -12,6 +12,6 @@ returns c =
     let old : List Thread = map thread_kept items in
     let given : ℕ → List Thread = λ n. set old n (record (get_or old n no_thread) { ops = c.args.script.ops }) in
     let kept = script-kept items c.from.result c.index_mut.result.now (record c.index_mut.result.now { script = c.args.script }) c.args.script.ops
-        (omega (arith, c.from.ensures, c.requires)) c.index_mut.ensures.value refl in
+    (omega (arith, c.from.ensures, c.requires)) c.index_mut.ensures.value refl in
     ap (λ (ts : List Thread). record (declarations c.args.d.now) { threads = ts; scripted = c.push.new.self.items }) (kept ∙ ap given c.from.ensures)
     ∙ ap (λ (ss : List ThreadId). record (declarations c.args.d.now) { threads = given c.args.thread.0; scripted = ss }) c.in_ok-push.ensures.items

@@ -13,12 +13,12 @@ use Rattle.sd_workload.proofs.tables.take_table.Goals as goal
 faulty : (c : In-Some) → IsTableFault (format_of c.args.class) c.in_ok-block.block.text.items c.in-Some.fault
 faulty c =
     subst (λ (text : List ℕ). IsTableFault (format_of c.args.class) text c.in-Some.fault) c.deref.ensures.value
-        (subst (λ (o : Option TableFault). IfSome o (IsTableFault (format_of c.args.class) c.deref.result.now)) c.in-Some.is c.in_ok-fault.ensures.some)
+    (subst (λ (o : Option TableFault). IfSome o (IsTableFault (format_of c.args.class) c.deref.result.now)) c.in-Some.is c.in_ok-fault.ensures.some)
 
 given : (c : In_default) → IsTableText (format_of c.args.class) c.in_ok-block.block.text.items
 given c =
     subst (IsTableText (format_of c.args.class)) c.deref.ensures.value
-        (subst (λ (o : Option TableFault). IfNone o (IsTableText (format_of c.args.class) c.deref.result.now)) c.in_default.is c.in_ok-fault.ensures.none)
+    (subst (λ (o : Option TableFault). IfNone o (IsTableText (format_of c.args.class) c.deref.result.now)) c.in_default.is c.in_ok-fault.ensures.none)
 
 pub block_fault-requires : goal.block_fault-requires
 block_fault-requires c =
@@ -27,16 +27,16 @@ block_fault-requires c =
 pub returns-in-Some-clause-err : goal.returns-in-Some-clause-err
 returns-in-Some-clause-err c =
     block-refused c.args.bytes.now c.args.at c.in_ok-block.block (declarations c.args.d.now) c.args.class c.in-Some.fault c.in_ok-block.ensures.block
-        (faulty ((goal.at.returns-in-Some-clause-err c).In-Some)) c.is_some-is_closed.result c.is_some-is_closed.ensures
-        c.block_fault.result c.block_fault.ensures.line c.block_fault.ensures.rows c.block_fault.ensures.unclosed
+    (faulty ((goal.at.returns-in-Some-clause-err c).In-Some)) c.is_some-is_closed.result c.is_some-is_closed.ensures
+    c.block_fault.result c.block_fault.ensures.line c.block_fault.ensures.rows c.block_fault.ensures.unclosed
 
 pub returns-in_default-below-clause-err : goal.returns-in_default-below-clause-err
 returns-in_default-below-clause-err c =
     block-open c.args.bytes.now c.args.at c.in_ok-block.block (declarations c.args.d.now) c.args.class c.in_ok-block.ensures.block
-        (given ((goal.at.returns-in_default-below-clause-err c).In_default)).clean c.in_default-below.is
+    (given ((goal.at.returns-in_default-below-clause-err c).In_default)).clean c.in_default-below.is
 
 pub returns-clause-ok : goal.returns-clause-ok
 returns-clause-ok c =
     block-done c.args.bytes.now c.args.at c.in-Some-below.below c.in_ok-block.block (declarations c.args.d.now) c.args.class c.in_ok-block.ensures.block
-        (given ((goal.at.returns-clause-ok c).In_default)) c.in-Some-below.is
+    (given ((goal.at.returns-clause-ok c).In_default)) c.in-Some-below.is
     ∙ ap (λ (d : Declarations). judged_from c.args.bytes.now c.in-Some-below.below d Outside) (sym c.set_table.ensures)
