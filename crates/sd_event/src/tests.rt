@@ -1,9 +1,10 @@
 //! A line of each event, written by hand.
 
-ghost use Rattle.std.specs.Prelude.{◌≡◌, [], length, IsTrue, IfOk};
+ghost use Rattle.std.specs.Prelude.{◌≡◌, ◌<◌, ◌≤◌, [], length, map, sum_by, IsTrue, IfOk};
+ghost use Rattle.std.specs.List.{list_all};
 ghost use Rattle.sd_types.specs.NameWords.{is_name};
 ghost use Rattle.sd_types.specs.Ticks.{ts_ticks_fit, fixed_ticks_fit};
-ghost use Rattle.sd_types.specs.Works.{Declared, thread_fits};
+ghost use Rattle.sd_types.specs.Works.{Declared, is_distinct, same_bytes, thread_fits, same_cpu, set_cpus, set_fits};
 
 use crate::write_entry;
 use arrayvec::ArrayVec;
@@ -79,6 +80,42 @@ fn set(alloc: Global, name: &[u8], cpus: &[CpuId]) -> Result<(Name, List<CpuId>)
     Ok((Name::from_word(name), List::from_vec(cpus)))
 }
 
+/// A workload of these locks, channels and threads and of these sets.
+fn work(
+    alloc: Global,
+    sets: List<(Name, List<CpuId>)>,
+    locks: List<(Name, LockKind)>,
+    chans: List<(Name, ChanKind)>,
+    threads: List<ThreadDecl>,
+) -> Result<Work, AllocError>
+    requires most_sets { length sets ≤ 8 }
+    requires sets_fit { IsTrue (list_all (set_fits 12) sets) }
+    requires cpus_differ { IsTrue (is_distinct same_cpu (set_cpus sets)) }
+    requires cpu_left { length (set_cpus sets) < 12 }
+    requires set_names { IsTrue (is_distinct same_bytes (map (λ s. s.0.text.items) sets)) }
+    requires most_locks { length locks ≤ 4 }
+    requires most_chans { length chans ≤ 4 }
+    requires most_threads { length threads ≤ 4 }
+    requires lock_names { IsTrue (is_distinct same_bytes (map (λ l. l.0.text.items) locks)) }
+    requires chan_names { IsTrue (is_distinct same_bytes (map (λ k. k.0.text.items) chans)) }
+    requires thread_names { IsTrue (is_distinct same_bytes (map (λ t. t.name.text.items) threads)) }
+    requires most_ops { sum_by (λ t. length t.script.ops) threads ≤ 4 }
+    requires threads_fit { (d : Declared) → IsTrue (list_all (thread_fits d) threads) }
+{
+    Ok(Work {
+        cpus: 12,
+        hz: 100,
+        limit: 2,
+        sets,
+        ts: ts_table(alloc)?,
+        fx: fixed_table(alloc)?,
+        rt: fixed_table(alloc)?,
+        locks,
+        chans,
+        threads,
+    })
+}
+
 /// Two threads a and b, a mutex m, a rwlock w, a channel k, a semaphore q and a set s.
 fn named(alloc: Global) -> Result<Work, AllocError> {
     let first = thread(alloc, b"a")?;
@@ -88,18 +125,13 @@ fn named(alloc: Global) -> Result<Work, AllocError> {
     let chan_k = chan(b"k", ChanKind::Chan);
     let sema = chan(b"q", ChanKind::Sema { count: 0 });
     let set = set(alloc, b"s", &[CpuId(1)])?;
-    Ok(Work {
-        cpus: 12,
-        hz: 100,
-        limit: 2,
-        sets: List::from_vec(Vec::from_array(alloc, [set])?),
-        ts: ts_table(alloc)?,
-        fx: fixed_table(alloc)?,
-        rt: fixed_table(alloc)?,
-        locks: List::from_vec(Vec::from_array(alloc, [mutex, rwlock])?),
-        chans: List::from_vec(Vec::from_array(alloc, [chan_k, sema])?),
-        threads: List::from_vec(Vec::from_array(alloc, [first, second])?),
-    })
+    work(
+        alloc,
+        List::from_vec(Vec::from_array(alloc, [set])?),
+        List::from_vec(Vec::from_array(alloc, [mutex, rwlock])?),
+        List::from_vec(Vec::from_array(alloc, [chan_k, sema])?),
+        List::from_vec(Vec::from_array(alloc, [first, second])?),
+    )
 }
 
 const A: ThreadId = ThreadId(0);
@@ -141,42 +173,40 @@ fn hints(which: Which, list: &[u8]) -> Hints {
     Hints { which, numbers }
 }
 
-#[test]
-fn events_without_hints(rt: HostRuntime) -> Result<(), Fail> {
-    let alloc = rt.alloc();
-    let work = named(alloc)?;
-    let rows = [
-        (Event::Tick { t: A }, "tick a"),
-        (Event::Spin { t: B, l: M }, "spin b m"),
-        (Event::Idle, "idle"),
-        (Event::Dispatch { t: A, p: 159 }, "dispatch a 159"),
-        (
+/// An event that answers no call and names no set, and its text.
+fn plain_event(i: u8) -> (Event, &'static str) {
+    match i {
+        0 => (Event::Tick { t: A }, "tick a"),
+        1 => (Event::Spin { t: B, l: M }, "spin b m"),
+        2 => (Event::Idle, "idle"),
+        3 => (Event::Dispatch { t: A, p: 159 }, "dispatch a 159"),
+        4 => (
             Event::Preempt {
                 t: A,
                 end: End::Front,
             },
             "preempt a front",
         ),
-        (
+        5 => (
             Event::Preempt {
                 t: B,
                 end: End::Back,
             },
             "preempt b back",
         ),
-        (
+        6 => (
             Event::Away {
                 t: A,
                 cpu: CpuId(11),
             },
             "preempt a away c11",
         ),
-        (Event::Yield { t: A }, "yield a"),
-        (Event::Done { t: B }, "done b"),
-        (Event::Nap { t: A }, "nap a"),
-        (Event::Napend { t: A, at: TO }, "napend a to c10"),
-        (Event::Sleep { t: A, k: K }, "sleep a k"),
-        (
+        7 => (Event::Yield { t: A }, "yield a"),
+        8 => (Event::Done { t: B }, "done b"),
+        9 => (Event::Nap { t: A }, "nap a"),
+        10 => (Event::Napend { t: A, at: TO }, "napend a to c10"),
+        11 => (Event::Sleep { t: A, k: K }, "sleep a k"),
+        12 => (
             Event::Wake {
                 t: B,
                 k: K,
@@ -184,7 +214,7 @@ fn events_without_hints(rt: HostRuntime) -> Result<(), Fail> {
             },
             "wake b k a rt c0",
         ),
-        (
+        13 => (
             Event::Wake {
                 t: B,
                 k: K,
@@ -192,20 +222,20 @@ fn events_without_hints(rt: HostRuntime) -> Result<(), Fail> {
             },
             "wake b k none",
         ),
-        (Event::Wakeall { t: A, k: K }, "wakeall a k"),
-        (
+        14 => (Event::Wakeall { t: A, k: K }, "wakeall a k"),
+        15 => (
             Event::Rouse {
                 k: K,
                 woken: Some((B, TO)),
             },
             "rouse k b to c10",
         ),
-        (Event::Rouse { k: K, woken: None }, "rouse k none"),
-        (Event::Enter { t: A, l: M }, "enter a m"),
-        (Event::Read { t: A, l: W }, "read a w"),
-        (Event::Write { t: A, l: W }, "write a w"),
-        (Event::Block { t: B, l: M }, "block b m"),
-        (
+        16 => (Event::Rouse { k: K, woken: None }, "rouse k none"),
+        17 => (Event::Enter { t: A, l: M }, "enter a m"),
+        18 => (Event::Read { t: A, l: W }, "read a w"),
+        19 => (Event::Write { t: A, l: W }, "write a w"),
+        20 => (Event::Block { t: B, l: M }, "block b m"),
+        21 => (
             Event::Will {
                 l: M,
                 o: A,
@@ -214,7 +244,7 @@ fn events_without_hints(rt: HostRuntime) -> Result<(), Fail> {
             },
             "will m a 7",
         ),
-        (
+        22 => (
             Event::Will {
                 l: M,
                 o: A,
@@ -223,14 +253,21 @@ fn events_without_hints(rt: HostRuntime) -> Result<(), Fail> {
             },
             "will m a 110 rt c0",
         ),
-        (Event::End { l: W }, "end w"),
-        (Event::Exit { t: A, l: M }, "exit a m"),
-        (Event::Unblock { l: M, s: B, at: TO }, "unblock m b to c10"),
-        (Event::Grant { l: W, s: B, at: RT }, "grant w b rt c0"),
-        (Event::Passed { l: W }, "passed w"),
-        (Event::Age { t: A, p: 51 }, "age a 51"),
-    ];
-    for (event, text) in rows {
+        23 => (Event::End { l: W }, "end w"),
+        24 => (Event::Exit { t: A, l: M }, "exit a m"),
+        25 => (Event::Unblock { l: M, s: B, at: TO }, "unblock m b to c10"),
+        26 => (Event::Grant { l: W, s: B, at: RT }, "grant w b rt c0"),
+        27 => (Event::Passed { l: W }, "passed w"),
+        _ => (Event::Age { t: A, p: 51 }, "age a 51"),
+    }
+}
+
+#[test]
+fn events_without_hints(rt: HostRuntime) -> Result<(), Fail> {
+    let alloc = rt.alloc();
+    let work = named(alloc)?;
+    for i in 0..29 {
+        let (event, text) = plain_event(i);
         let mut line = Vec::from_slice(alloc, b"3 c10 ")?;
         line.extend_from_slice(text.as_bytes())?;
         line.push(b'\n')?;
@@ -241,42 +278,56 @@ fn events_without_hints(rt: HostRuntime) -> Result<(), Fail> {
     Ok(())
 }
 
-#[test]
-fn answers_and_sets(rt: HostRuntime) -> Result<(), Fail> {
-    let alloc = rt.alloc();
-    let work = named(alloc)?;
-    let prio = |answer| Event::Prio { t: A, s: B, answer };
-    let assign = |set, answer| Event::Assign {
-        t: A,
-        cpu: CpuId(1),
-        set,
-        answer,
-    };
-    let bind = |cpu, answer| Event::Bind {
-        t: A,
-        s: B,
-        cpu,
-        answer,
-    };
-    let rows = [
-        (
-            prio(PrioAnswer::Changed { p: 3, at: None }),
+/// An event that answers a call, or names a semaphore or a set, and its text.
+fn answer(i: u8) -> (Event, &'static str) {
+    match i {
+        0 => (
+            Event::Prio {
+                t: A,
+                s: B,
+                answer: PrioAnswer::Changed { p: 3, at: None },
+            },
             "prio a b ok 3",
         ),
-        (
-            prio(PrioAnswer::Changed {
-                p: 24,
-                at: Some(TO),
-            }),
+        1 => (
+            Event::Prio {
+                t: A,
+                s: B,
+                answer: PrioAnswer::Changed {
+                    p: 24,
+                    at: Some(TO),
+                },
+            },
             "prio a b ok 24 to c10",
         ),
-        (prio(PrioAnswer::Refused(Denied::ESRCH)), "prio a b ESRCH"),
-        (prio(PrioAnswer::Refused(Denied::EINVAL)), "prio a b EINVAL"),
-        (prio(PrioAnswer::Refused(Denied::EPERM)), "prio a b EPERM"),
-        (Event::CvWait { t: A, k: K, l: M }, "cvwait a k m"),
-        (Event::SemaP { t: A, k: Q }, "semap a q"),
-        (Event::SemaWait { t: B, k: Q }, "semawait b q"),
-        (
+        2 => (
+            Event::Prio {
+                t: A,
+                s: B,
+                answer: PrioAnswer::Refused(Denied::ESRCH),
+            },
+            "prio a b ESRCH",
+        ),
+        3 => (
+            Event::Prio {
+                t: A,
+                s: B,
+                answer: PrioAnswer::Refused(Denied::EINVAL),
+            },
+            "prio a b EINVAL",
+        ),
+        4 => (
+            Event::Prio {
+                t: A,
+                s: B,
+                answer: PrioAnswer::Refused(Denied::EPERM),
+            },
+            "prio a b EPERM",
+        ),
+        5 => (Event::CvWait { t: A, k: K, l: M }, "cvwait a k m"),
+        6 => (Event::SemaP { t: A, k: Q }, "semap a q"),
+        7 => (Event::SemaWait { t: B, k: Q }, "semawait b q"),
+        8 => (
             Event::SemaVWake {
                 t: A,
                 k: Q,
@@ -285,7 +336,7 @@ fn answers_and_sets(rt: HostRuntime) -> Result<(), Fail> {
             },
             "semav a q b to c10",
         ),
-        (
+        9 => (
             Event::SemaVCount {
                 t: A,
                 k: Q,
@@ -293,36 +344,108 @@ fn answers_and_sets(rt: HostRuntime) -> Result<(), Fail> {
             },
             "semav a q 65535",
         ),
-        (assign(SetId(1), AssignAnswer::Changed), "assign a c1 s ok"),
-        (assign(SetId(0), AssignAnswer::EPERM), "assign a c1 - EPERM"),
-        (
-            assign(SetId(0), AssignAnswer::EINVAL),
+        10 => (
+            Event::Assign {
+                t: A,
+                cpu: CpuId(1),
+                set: SetId(1),
+                answer: AssignAnswer::Changed,
+            },
+            "assign a c1 s ok",
+        ),
+        11 => (
+            Event::Assign {
+                t: A,
+                cpu: CpuId(1),
+                set: SetId(0),
+                answer: AssignAnswer::EPERM,
+            },
+            "assign a c1 - EPERM",
+        ),
+        12 => (
+            Event::Assign {
+                t: A,
+                cpu: CpuId(1),
+                set: SetId(0),
+                answer: AssignAnswer::EINVAL,
+            },
             "assign a c1 - EINVAL",
         ),
-        (assign(SetId(0), AssignAnswer::EBUSY), "assign a c1 - EBUSY"),
-        (Event::Move { t: A, at: RT }, "move a rt c0"),
-        (Event::Joined { set: SetId(1) }, "joined s"),
-        (Event::Joined { set: SetId(0) }, "joined -"),
-        (
-            bind(Some(CpuId(1)), BindAnswer::Changed { at: None }),
+        13 => (
+            Event::Assign {
+                t: A,
+                cpu: CpuId(1),
+                set: SetId(0),
+                answer: AssignAnswer::EBUSY,
+            },
+            "assign a c1 - EBUSY",
+        ),
+        14 => (Event::Move { t: A, at: RT }, "move a rt c0"),
+        15 => (Event::Joined { set: SetId(1) }, "joined s"),
+        16 => (Event::Joined { set: SetId(0) }, "joined -"),
+        17 => (
+            Event::Bind {
+                t: A,
+                s: B,
+                cpu: Some(CpuId(1)),
+                answer: BindAnswer::Changed { at: None },
+            },
             "pbind a b c1 ok",
         ),
-        (
-            bind(None, BindAnswer::Changed { at: Some(RT) }),
+        18 => (
+            Event::Bind {
+                t: A,
+                s: B,
+                cpu: None,
+                answer: BindAnswer::Changed { at: Some(RT) },
+            },
             "pbind a b - ok rt c0",
         ),
-        (bind(None, BindAnswer::ESRCH), "pbind a b - ESRCH"),
-        (bind(None, BindAnswer::EINVAL), "pbind a b - EINVAL"),
-        (
-            bind(Some(CpuId(10)), BindAnswer::EPERM),
+        19 => (
+            Event::Bind {
+                t: A,
+                s: B,
+                cpu: None,
+                answer: BindAnswer::ESRCH,
+            },
+            "pbind a b - ESRCH",
+        ),
+        20 => (
+            Event::Bind {
+                t: A,
+                s: B,
+                cpu: None,
+                answer: BindAnswer::EINVAL,
+            },
+            "pbind a b - EINVAL",
+        ),
+        21 => (
+            Event::Bind {
+                t: A,
+                s: B,
+                cpu: Some(CpuId(10)),
+                answer: BindAnswer::EPERM,
+            },
             "pbind a b c10 EPERM",
         ),
-        (
-            bind(Some(CpuId(1)), BindAnswer::EBUSY),
+        _ => (
+            Event::Bind {
+                t: A,
+                s: B,
+                cpu: Some(CpuId(1)),
+                answer: BindAnswer::EBUSY,
+            },
             "pbind a b c1 EBUSY",
         ),
-    ];
-    for (event, text) in rows {
+    }
+}
+
+#[test]
+fn answers_and_sets(rt: HostRuntime) -> Result<(), Fail> {
+    let alloc = rt.alloc();
+    let work = named(alloc)?;
+    for i in 0..23 {
+        let (event, text) = answer(i);
         let mut line = Vec::from_slice(alloc, b"18446744073709551615 c0 ")?;
         line.extend_from_slice(text.as_bytes())?;
         line.push(b'\n')?;
