@@ -105,7 +105,7 @@ write_part g = (locked_text (codes "write ") (codes "w") (drawn 4 g).0, (drawn 4
 abbrev pub nap_part : Lcg → Drawn
 nap_part g = (number_line (codes "nap ") ((drawn 50 g).0 + 1), (drawn 50 g).1)
 
-abbrev pub part : ℕ → Lcg → Drawn
+unfoldable pub part : ℕ → Lcg → Drawn
 part kind g =
     if kind == 0 then mutex_part g else if kind == 1 then nested_part g else if kind == 2 then read_part g
     else if kind == 3 then write_part g else nap_part g

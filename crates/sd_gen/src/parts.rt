@@ -79,6 +79,7 @@ fn put_nap_part(generator: &mut Lcg64Xsh32, out: &mut Vec<u8>) -> Result<(), All
     put_number_line(b"nap ", ticks, out)
 }
 
+#[tactic(auto, unfolding(crate::specs::Generated::part))]
 fn put_part(kind: u32, generator: &mut Lcg64Xsh32, out: &mut Vec<u8>) -> Result<(), AllocError>
     ensures text { OnOk result (out.new.items ≡ out.old.items ++ (part kind generator.old).0) }
     ensures generator { OnOk result (generator.new ≡ (part kind generator.old).1) }
