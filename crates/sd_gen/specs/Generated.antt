@@ -1,7 +1,7 @@
 -- The generated workload of a number: 200 threads of all classes on 8 processors, which run, take locks and nap, drawn by a
 -- generator that begins with the number. A text that is drawn comes with the generator after it.
 -- Source: this project's own; O'Neill, "PCG" (the generator).
-use Rattle.std.specs.Prelude.{ℕ, zero, suc, ◌+◌, ◌-◌, ◌%◌, Bool, List, [], ◌++◌, flat_map, codes, decimal, nat_lt, ◌==◌, if◌then◌else◌}
+use Rattle.std.specs.Prelude.{ℕ, zero, suc, ◌+◌, ◌-◌, ◌%◌, List, [], ◌++◌, flat_map, codes, decimal, nat_lt, ◌==◌, if◌then◌else◌}
 use Rattle.std.specs.List.{range_with_len}
 use Rattle.rand_pcg.specs.Lcg.{Lcg, started, increment_of}
 use Rattle.rand_pcg.specs.Pcg.{multiplier_64, pcg32}
