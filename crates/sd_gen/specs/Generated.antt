@@ -1,7 +1,7 @@
 -- The generated workload of a number: 200 threads of all classes on 8 processors, which run, take locks and nap, drawn by a
 -- generator that begins with the number. A text that is drawn comes with the generator after it.
 -- Source: this project's own; O'Neill, "PCG" (the generator).
-use Rattle.std.specs.Prelude.{ℕ, zero, suc, ◌+◌, ◌-◌, ◌%◌, Bool, List, [], ◌++◌, flat_map, codes, decimal, nat_lt, ◌==◌, if◌then◌else◌}
+use Rattle.std.specs.Prelude.{ℕ, zero, suc, ◌+◌, ◌-◌, ◌%◌, List, [], ◌++◌, flat_map, codes, decimal, nat_lt, ◌==◌, if◌then◌else◌}
 use Rattle.std.specs.List.{range_with_len}
 use Rattle.rand_pcg.specs.Lcg.{Lcg, started, increment_of}
 use Rattle.rand_pcg.specs.Pcg.{multiplier_64, pcg32}
@@ -105,7 +105,7 @@ write_part g = (locked_text (codes "write ") (codes "w") (drawn 4 g).0, (drawn 4
 abbrev pub nap_part : Lcg → Drawn
 nap_part g = (number_line (codes "nap ") ((drawn 50 g).0 + 1), (drawn 50 g).1)
 
-abbrev pub part : ℕ → Lcg → Drawn
+unfoldable pub part : ℕ → Lcg → Drawn
 part kind g =
     if kind == 0 then mutex_part g else if kind == 1 then nested_part g else if kind == 2 then read_part g
     else if kind == 3 then write_part g else nap_part g

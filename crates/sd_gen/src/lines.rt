@@ -1,12 +1,12 @@
 //! Pieces of the text, and numbers that are drawn.
 
-ghost use Rattle.std.specs.Prelude.{◌≡◌, ◌<◌, ◌++◌, ◌^◌, OnOk};
+ghost use Rattle.std.specs.Prelude.{◌≡◌, ◌<◌, ◌++◌, OnOk};
 ghost use Rattle.sd_gen.specs.Generated.{drawn, number_line};
 
 use rand_core::utils::NextWord;
 use rand_pcg::Lcg64Xsh32;
 use sd_text::put_number;
-use std::alloc::{AllocError, Global};
+use std::alloc::AllocError;
 
 /// A number below `k`.
 pub(crate) fn drawn(k: u32, generator: &mut Lcg64Xsh32) -> u32

@@ -1,12 +1,12 @@
 //! The operations of a script.
 
-ghost use Rattle.std.specs.Prelude.{◌≡◌, ◌<◌, ◌≤◌, ◌++◌, OnOk};
+ghost use Rattle.std.specs.Prelude.{◌≡◌, ◌++◌, OnOk};
 ghost use Rattle.sd_gen.specs.Generated.{lock_line, locked_text, mutex_part, nap_part, nested_part, nested_text, part, part_drawn, read_part, round_text, script_text, write_part};
 
 use crate::lines::{drawn, put, put_number_line};
 use rand_pcg::Lcg64Xsh32;
 use sd_text::put_number;
-use std::alloc::{AllocError, Global};
+use std::alloc::AllocError;
 
 /// A line of a word and the name of a lock.
 fn put_lock_line(word: &[u8], lock: &[u8], a: u32, out: &mut Vec<u8>) -> Result<(), AllocError>
@@ -79,6 +79,7 @@ fn put_nap_part(generator: &mut Lcg64Xsh32, out: &mut Vec<u8>) -> Result<(), All
     put_number_line(b"nap ", ticks, out)
 }
 
+#[tactic(auto, unfolding(crate::specs::Generated::part))]
 fn put_part(kind: u32, generator: &mut Lcg64Xsh32, out: &mut Vec<u8>) -> Result<(), AllocError>
     ensures text { OnOk result (out.new.items ≡ out.old.items ++ (part kind generator.old).0) }
     ensures generator { OnOk result (generator.new ≡ (part kind generator.old).1) }

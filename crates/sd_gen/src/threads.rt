@@ -2,7 +2,7 @@
 
 ghost use Rattle.std.specs.Prelude.{◌≡◌, ◌<◌, ◌++◌, OnErr, OnOk, flat_map};
 ghost use Rattle.std.specs.List.{range_with_len};
-ghost use Rattle.sd_gen.specs.Generated.{class_text, drawn_from, drawn_text, first_generator, generated, head_text, locks_text, number_line, priorities, script_text, set_text, thread_line, thread_text};
+ghost use Rattle.sd_gen.specs.Generated.{class_text, drawn_from, drawn_text, generated, locks_text, number_line, priorities, script_text, set_text, thread_line, thread_text};
 
 use crate::lines::{drawn, put, put_number_line};
 use crate::parts::put_script;

@@ -1,4 +1,4 @@
-use Rattle.std.proofs.Common.{◌≡◌, ◌++◌, ◌-◌, ◌≤◌}
+use Rattle.std.proofs.Common.{◌≡◌, ◌++◌, ◌-◌}
 use Rattle.sd_gen.specs.Generated.{drawn_from, script_text}
 use Rattle.sd_gen.proofs.threads.put_scripts.Given as goal
 
