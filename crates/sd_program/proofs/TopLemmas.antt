@@ -25,45 +25,72 @@ use Rattle.sd_workload.specs.declared.fault.WorkFault.TheVariants as work
 use Rattle.sd_rounds.specs.declared.rounds.Finished.{Finished}
 use Rattle.sd_rounds.specs.Orders.{orders_of}
 use Rattle.sd_rounds.specs.Rounds.{IsLongSerial}
+use Rattle.sd_gen.specs.Generated.{generated}
 use Rattle.sd_program.specs.declared.forms.Form.{Form}
+use Rattle.sd_program.specs.declared.forms.Command.{Command}
+use Rattle.sd_program.specs.declared.forms.Command.TheVariants.{Run, Tables, Generate}
+use Rattle.sd_program.specs.TableTexts.{tables_text}
 use Rattle.sd_program.specs.declared.writing.Unwritten.{Unwritten}
 use Rattle.sd_program.specs.declared.writing.Unwritten.TheVariants as unwritten
 use Rattle.sd_program.specs.declared.answers.Answer.{Answer}
 use Rattle.sd_program.specs.declared.answers.Answer.TheVariants.{Done, Usage, TooLarge, Refused, ReadFault, WriteFault, OutOfMemory, Blocked, TooLong}
 use Rattle.sd_program.specs.Answers.{status_of, line_of, answer_of, read_answer, work_answer, stop_answer, unwritten_answer}
 use Rattle.sd_program.specs.StreamChanges.{StreamChange, HasFault, HasNoFault, IsUntouched, AppendsPart, Puts}
-use Rattle.sd_program.specs.Forms.{form_of, turns_of, text_of}
+use Rattle.sd_program.specs.Forms.{command_of, turns_of, text_of}
 use Rattle.sd_program.specs.RunAnswers.{IsTheRun, IsOpen, HasCycle, Writes, Ran, final_state}
 use Rattle.sd_program.specs.Readings.{IsRefused, IsReading}
-use Rattle.sd_program.specs.Headline.{most_bytes, HasAtMost, HasRead, IsWorkload, RanInput, CausedByInput, Caused, Tells, Completes, Refuses, KeepsPromises}
+use Rattle.sd_program.specs.Headline.{most_bytes, HasAtMost, HasRead, HasTooMany, IsWorkload, IsNoWorkload, RanInput, CausedByInput, PrintsTables, CausedByTables, CausedByNumber, CausedBy, Caused, Tells, Completes, CompletesTables, Refuses, KeepsPromises}
 
--- the form of the arguments is one
-same_form : (arguments : List (List ℕ)) (f g : Form) → form_of arguments ≡ Some f → form_of arguments ≡ Some g → f ≡ g
-same_form arguments f g a b = same_Some f g (sym a ∙ b)
+-- what the arguments ask for is one thing
+same_command : (arguments : List (List ℕ)) (j k : Command) → command_of arguments ≡ Some j → command_of arguments ≡ Some k → j ≡ k
+same_command arguments j k a b = same_Some j k (sym a ∙ b)
 
 -- status 0 is that of a run that was written whole and ends without a cycle
-pub headline_of : (arguments : List (List ℕ)) (form : Form) (input out : StreamChange) (a : Answer) → form_of arguments ≡ Some form → Caused arguments input out a → status_of a ≡ 0 → RanInput form input out Done
-headline_of arguments form input out Done is c s = subst (λ f. RanInput f input out Done) (same_form arguments c.0 form c.1 is) c.2
-headline_of arguments form input out Usage is c s = absurd (omega arith)
-headline_of arguments form input out Blocked is c s = absurd (omega arith)
-headline_of arguments form input out TooLarge is c s = absurd (omega arith)
-headline_of arguments form input out (Refused line cause) is c s = absurd (omega arith)
-headline_of arguments form input out ReadFault is c s = absurd (omega arith)
-headline_of arguments form input out WriteFault is c s = absurd (omega arith)
-headline_of arguments form input out OutOfMemory is c s = absurd (omega arith)
-headline_of arguments form input out TooLong is c s = absurd (omega arith)
+pub headline_of : (arguments : List (List ℕ)) (form : Form) (input out : StreamChange) (a : Answer) → command_of arguments ≡ Some (Run form) → Caused arguments input out a → status_of a ≡ 0 → RanInput form input out Done
+headline_of arguments form input out Usage known c s = absurd (omega arith)
+headline_of arguments form input out Done known c s = subst (λ k. CausedBy k input out Done) (same_command arguments c.0 (Run form) c.1 known) c.2
+headline_of arguments form input out TooLarge known c s = absurd (omega arith)
+headline_of arguments form input out (Refused line cause) known c s = absurd (omega arith)
+headline_of arguments form input out ReadFault known c s = absurd (omega arith)
+headline_of arguments form input out WriteFault known c s = absurd (omega arith)
+headline_of arguments form input out OutOfMemory known c s = absurd (omega arith)
+headline_of arguments form input out Blocked known c s = absurd (omega arith)
+headline_of arguments form input out TooLong known c s = absurd (omega arith)
 
 -- and status 6 with one
-pub blocked_of : (arguments : List (List ℕ)) (form : Form) (input out : StreamChange) (a : Answer) → form_of arguments ≡ Some form → Caused arguments input out a → status_of a ≡ 6 → RanInput form input out Blocked
-blocked_of arguments form input out Blocked is c s = subst (λ f. RanInput f input out Blocked) (same_form arguments c.0 form c.1 is) c.2
-blocked_of arguments form input out Usage is c s = absurd (omega arith)
-blocked_of arguments form input out Done is c s = absurd (omega arith)
-blocked_of arguments form input out TooLarge is c s = absurd (omega arith)
-blocked_of arguments form input out (Refused line cause) is c s = absurd (omega arith)
-blocked_of arguments form input out ReadFault is c s = absurd (omega arith)
-blocked_of arguments form input out WriteFault is c s = absurd (omega arith)
-blocked_of arguments form input out OutOfMemory is c s = absurd (omega arith)
-blocked_of arguments form input out TooLong is c s = absurd (omega arith)
+pub blocked_of : (arguments : List (List ℕ)) (form : Form) (input out : StreamChange) (a : Answer) → command_of arguments ≡ Some (Run form) → Caused arguments input out a → status_of a ≡ 6 → RanInput form input out Blocked
+blocked_of arguments form input out Usage known c s = absurd (omega arith)
+blocked_of arguments form input out Done known c s = absurd (omega arith)
+blocked_of arguments form input out TooLarge known c s = absurd (omega arith)
+blocked_of arguments form input out (Refused line cause) known c s = absurd (omega arith)
+blocked_of arguments form input out ReadFault known c s = absurd (omega arith)
+blocked_of arguments form input out WriteFault known c s = absurd (omega arith)
+blocked_of arguments form input out OutOfMemory known c s = absurd (omega arith)
+blocked_of arguments form input out Blocked known c s = subst (λ k. CausedBy k input out Blocked) (same_command arguments c.0 (Run form) c.1 known) c.2
+blocked_of arguments form input out TooLong known c s = absurd (omega arith)
+
+-- status 0 of the other commands
+pub tables_of : (arguments : List (List ℕ)) (input out : StreamChange) (a : Answer) → command_of arguments ≡ Some Tables → Caused arguments input out a → status_of a ≡ 0 → PrintsTables input out
+tables_of arguments input out Usage known c s = absurd (omega arith)
+tables_of arguments input out Done known c s = subst (λ k. CausedBy k input out Done) (same_command arguments c.0 Tables c.1 known) c.2
+tables_of arguments input out TooLarge known c s = absurd (omega arith)
+tables_of arguments input out (Refused line cause) known c s = absurd (omega arith)
+tables_of arguments input out ReadFault known c s = absurd (omega arith)
+tables_of arguments input out WriteFault known c s = absurd (omega arith)
+tables_of arguments input out OutOfMemory known c s = absurd (omega arith)
+tables_of arguments input out Blocked known c s = absurd (omega arith)
+tables_of arguments input out TooLong known c s = absurd (omega arith)
+
+pub generates_of : (arguments : List (List ℕ)) (n : ℕ) (input out : StreamChange) (a : Answer) → command_of arguments ≡ Some (Generate n) → Caused arguments input out a → status_of a ≡ 0 → IsUntouched input × CausedByNumber n out Done
+generates_of arguments n input out Usage known c s = absurd (omega arith)
+generates_of arguments n input out Done known c s = subst (λ k. CausedBy k input out Done) (same_command arguments c.0 (Generate n) c.1 known) c.2
+generates_of arguments n input out TooLarge known c s = absurd (omega arith)
+generates_of arguments n input out (Refused line cause) known c s = absurd (omega arith)
+generates_of arguments n input out ReadFault known c s = absurd (omega arith)
+generates_of arguments n input out WriteFault known c s = absurd (omega arith)
+generates_of arguments n input out OutOfMemory known c s = absurd (omega arith)
+generates_of arguments n input out Blocked known c s = absurd (omega arith)
+generates_of arguments n input out TooLong known c s = absurd (omega arith)
 
 -- what was taken is no more than there was
 taken_within : (a b : Option (List ℕ)) (bs xs : List ℕ) → Consumes a b bs → a ≡ Some xs → length bs ≤ length xs
@@ -86,26 +113,53 @@ taken_all (Some ys) (Some (z ∷ zs)) bs xs c end e = cc
 not_both : (bytes : List ℕ) (w : Work) (line : ℕ) (cause : WorkCause) → Accepted bytes w → FirstCause bytes line cause → ⊥
 not_both bytes w line cause accepted first = cc (accepted.accepted)
 
-some_form : (arguments : List (List ℕ)) (form : Form) → form_of arguments ≡ Some form → form_of arguments ≡ None → ⊥
-some_form arguments form some none = cc
+some_command : (arguments : List (List ℕ)) (k : Command) → command_of arguments ≡ Some k → command_of arguments ≡ None → ⊥
+some_command arguments k some none = cc
 
-pub completes_of : (arguments : List (List ℕ)) (form : Form) (input out : StreamChange) (a : Answer) → form_of arguments ≡ Some form → Caused arguments input out a → Completes form input out (status_of a)
-completes_of arguments form input out Done known c = λ sound told bytes w is short accepted. inl refl
-completes_of arguments form input out Usage known c = λ sound told bytes w is short accepted. absurd (some_form arguments form known c.0)
-completes_of arguments form input out TooLarge known c = λ sound told bytes w is short accepted.
-    let many = c.2.0 in
+-- an input with too many bytes, and one that is no workload, are no accepted one
+not_too_many : (input : StreamChange) (bytes : List ℕ) → HasTooMany input → input.before ≡ Some bytes → length bytes ≤ most_bytes → ⊥
+not_too_many input bytes many is short =
     let within = taken_within input.before input.after many.bytes bytes many.took is in
     let count = many.many in
     absurd (omega arith)
-completes_of arguments form input out (Refused line cause) known c = λ sound told bytes w is short accepted.
-    let none = c.2.0 in
-    absurd (not_both bytes w line cause accepted
-    (subst (λ bs. FirstCause bs line cause) (taken_all input.before input.after none.bytes bytes none.read.took none.read.to_end is) none.first))
-completes_of arguments form input out ReadFault known c = λ sound told bytes w is short accepted. absurd (sound c.2.0)
-completes_of arguments form input out WriteFault known c = λ sound told bytes w is short accepted. absurd (told c.2.2.0)
+
+not_refused : (input : StreamChange) (bytes : List ℕ) (w : Work) (line : ℕ) (cause : WorkCause) → IsNoWorkload input line cause → input.before ≡ Some bytes → Accepted bytes w → ⊥
+not_refused input bytes w line cause none is accepted =
+    not_both bytes w line cause accepted
+    (subst (λ bs. FirstCause bs line cause) (taken_all input.before input.after none.bytes bytes none.read.took none.read.to_end is) none.first)
+
+pub completes_of : (arguments : List (List ℕ)) (form : Form) (input out : StreamChange) (a : Answer) → command_of arguments ≡ Some (Run form) → Caused arguments input out a → Completes form input out (status_of a)
+completes_of arguments form input out Done known c = λ sound told bytes w is short accepted. inl refl
+completes_of arguments form input out Usage known c = λ sound told bytes w is short accepted. absurd (some_command arguments (Run form) known c.0)
+completes_of arguments form input out TooLarge known c = λ sound told bytes w is short accepted. absurd (not_too_many input bytes (subst (λ k. CausedBy k input out TooLarge) (same_command arguments c.0 (Run form) c.1 known) c.2).0 is short)
+completes_of arguments form input out (Refused line cause) known c = λ sound told bytes w is short accepted. absurd (not_refused input bytes w line cause (subst (λ k. CausedBy k input out (Refused line cause)) (same_command arguments c.0 (Run form) c.1 known) c.2).0 is accepted)
+completes_of arguments form input out ReadFault known c = λ sound told bytes w is short accepted. absurd (sound (subst (λ k. CausedBy k input out ReadFault) (same_command arguments c.0 (Run form) c.1 known) c.2).0)
+completes_of arguments form input out WriteFault known c = λ sound told bytes w is short accepted. absurd (told (subst (λ k. CausedBy k input out WriteFault) (same_command arguments c.0 (Run form) c.1 known) c.2).2.0)
 completes_of arguments form input out OutOfMemory known c = λ sound told bytes w is short accepted. inr (inr (inl refl))
 completes_of arguments form input out Blocked known c = λ sound told bytes w is short accepted. inr (inl refl)
 completes_of arguments form input out TooLong known c = λ sound told bytes w is short accepted. inr (inr (inr refl))
+
+pub completes_tables_of : (arguments : List (List ℕ)) (input out : StreamChange) (a : Answer) → command_of arguments ≡ Some Tables → Caused arguments input out a → CompletesTables input out (status_of a)
+completes_tables_of arguments input out Done known c = λ sound told bytes w is short accepted. inl refl
+completes_tables_of arguments input out Usage known c = λ sound told bytes w is short accepted. absurd (some_command arguments Tables known c.0)
+completes_tables_of arguments input out TooLarge known c = λ sound told bytes w is short accepted. absurd (not_too_many input bytes (subst (λ k. CausedBy k input out TooLarge) (same_command arguments c.0 Tables c.1 known) c.2).0 is short)
+completes_tables_of arguments input out (Refused line cause) known c = λ sound told bytes w is short accepted. absurd (not_refused input bytes w line cause (subst (λ k. CausedBy k input out (Refused line cause)) (same_command arguments c.0 Tables c.1 known) c.2).0 is accepted)
+completes_tables_of arguments input out ReadFault known c = λ sound told bytes w is short accepted. absurd (sound (subst (λ k. CausedBy k input out ReadFault) (same_command arguments c.0 Tables c.1 known) c.2).0)
+completes_tables_of arguments input out WriteFault known c = λ sound told bytes w is short accepted. absurd (told (subst (λ k. CausedBy k input out WriteFault) (same_command arguments c.0 Tables c.1 known) c.2).2)
+completes_tables_of arguments input out OutOfMemory known c = λ sound told bytes w is short accepted. inr refl
+completes_tables_of arguments input out Blocked known c = λ sound told bytes w is short accepted. absurd (subst (λ k. CausedBy k input out Blocked) (same_command arguments c.0 Tables c.1 known) c.2)
+completes_tables_of arguments input out TooLong known c = λ sound told bytes w is short accepted. absurd (subst (λ k. CausedBy k input out TooLong) (same_command arguments c.0 Tables c.1 known) c.2)
+
+pub completes_generated_of : (arguments : List (List ℕ)) (n : ℕ) (input out : StreamChange) (a : Answer) → command_of arguments ≡ Some (Generate n) → Caused arguments input out a → (HasFault out → ⊥) → (status_of a ≡ 0) ⊎ (status_of a ≡ 5)
+completes_generated_of arguments n input out Done known c = λ told. inl refl
+completes_generated_of arguments n input out Usage known c = λ told. absurd (some_command arguments (Generate n) known c.0)
+completes_generated_of arguments n input out TooLarge known c = λ told. absurd (subst (λ k. CausedBy k input out TooLarge) (same_command arguments c.0 (Generate n) c.1 known) c.2).1
+completes_generated_of arguments n input out (Refused line cause) known c = λ told. absurd (subst (λ k. CausedBy k input out (Refused line cause)) (same_command arguments c.0 (Generate n) c.1 known) c.2).1
+completes_generated_of arguments n input out ReadFault known c = λ told. absurd (subst (λ k. CausedBy k input out ReadFault) (same_command arguments c.0 (Generate n) c.1 known) c.2).1
+completes_generated_of arguments n input out WriteFault known c = λ told. absurd (told (subst (λ k. CausedBy k input out WriteFault) (same_command arguments c.0 (Generate n) c.1 known) c.2).1.0)
+completes_generated_of arguments n input out OutOfMemory known c = λ told. inr refl
+completes_generated_of arguments n input out Blocked known c = λ told. absurd (subst (λ k. CausedBy k input out Blocked) (same_command arguments c.0 (Generate n) c.1 known) c.2).1
+completes_generated_of arguments n input out TooLong known c = λ told. absurd (subst (λ k. CausedBy k input out TooLong) (same_command arguments c.0 (Generate n) c.1 known) c.2).1
 
 -- an input that is too large, or no workload, is no accepted one
 no_workload : (input : StreamChange) (bytes : List ℕ) → input.before ≡ Some bytes → (most_bytes < length bytes) ⊎ ((w : Work) → Accepted bytes w → ⊥) → (w : Work) → IsWorkload input w → ⊥
@@ -116,28 +170,39 @@ no_workload input bytes is (inl many) w found =
 no_workload input bytes is (inr none) w found =
     none w (subst (λ bs. Accepted bs w) (taken_all input.before input.after found.bytes bytes found.read.took found.read.to_end is) found.accepted)
 
-pub refuses_of : (arguments : List (List ℕ)) (form : Form) (input out : StreamChange) (a : Answer) → form_of arguments ≡ Some form → Caused arguments input out a → Refuses input (status_of a)
-refuses_of arguments form input out Done known c = λ sound bytes is bad. absurd (no_workload input bytes is bad c.2.0 c.2.1)
-refuses_of arguments form input out Usage known c = λ sound bytes is bad. absurd (some_form arguments form known c.0)
+pub refuses_of : (arguments : List (List ℕ)) (form : Form) (input out : StreamChange) (a : Answer) → command_of arguments ≡ Some (Run form) → Caused arguments input out a → Refuses input (status_of a)
+refuses_of arguments form input out Done known c = λ sound bytes is bad. let d = subst (λ k. CausedBy k input out Done) (same_command arguments c.0 (Run form) c.1 known) c.2 in absurd (no_workload input bytes is bad d.0 d.1)
+refuses_of arguments form input out Usage known c = λ sound bytes is bad. absurd (some_command arguments (Run form) known c.0)
 refuses_of arguments form input out TooLarge known c = λ sound bytes is bad. inl refl
 refuses_of arguments form input out (Refused line cause) known c = λ sound bytes is bad. inl refl
-refuses_of arguments form input out ReadFault known c = λ sound bytes is bad. absurd (sound c.2.0)
-refuses_of arguments form input out WriteFault known c = λ sound bytes is bad. absurd (no_workload input bytes is bad c.2.0 c.2.1)
+refuses_of arguments form input out ReadFault known c = λ sound bytes is bad. absurd (sound (subst (λ k. CausedBy k input out ReadFault) (same_command arguments c.0 (Run form) c.1 known) c.2).0)
+refuses_of arguments form input out WriteFault known c = λ sound bytes is bad. let d = subst (λ k. CausedBy k input out WriteFault) (same_command arguments c.0 (Run form) c.1 known) c.2 in absurd (no_workload input bytes is bad d.0 d.1)
 refuses_of arguments form input out OutOfMemory known c = λ sound bytes is bad. inr refl
-refuses_of arguments form input out Blocked known c = λ sound bytes is bad. absurd (no_workload input bytes is bad c.2.0 c.2.1)
-refuses_of arguments form input out TooLong known c = λ sound bytes is bad. absurd (no_workload input bytes is bad c.2.0 c.2.1)
+refuses_of arguments form input out Blocked known c = λ sound bytes is bad. let d = subst (λ k. CausedBy k input out Blocked) (same_command arguments c.0 (Run form) c.1 known) c.2 in absurd (no_workload input bytes is bad d.0 d.1)
+refuses_of arguments form input out TooLong known c = λ sound bytes is bad. let d = subst (λ k. CausedBy k input out TooLong) (same_command arguments c.0 (Run form) c.1 known) c.2 in absurd (no_workload input bytes is bad d.0 d.1)
+
+pub refuses_tables_of : (arguments : List (List ℕ)) (input out : StreamChange) (a : Answer) → command_of arguments ≡ Some Tables → Caused arguments input out a → Refuses input (status_of a)
+refuses_tables_of arguments input out Done known c = λ sound bytes is bad. let d = subst (λ k. CausedBy k input out Done) (same_command arguments c.0 Tables c.1 known) c.2 in absurd (no_workload input bytes is bad d.0 d.1)
+refuses_tables_of arguments input out Usage known c = λ sound bytes is bad. absurd (some_command arguments Tables known c.0)
+refuses_tables_of arguments input out TooLarge known c = λ sound bytes is bad. inl refl
+refuses_tables_of arguments input out (Refused line cause) known c = λ sound bytes is bad. inl refl
+refuses_tables_of arguments input out ReadFault known c = λ sound bytes is bad. absurd (sound (subst (λ k. CausedBy k input out ReadFault) (same_command arguments c.0 Tables c.1 known) c.2).0)
+refuses_tables_of arguments input out WriteFault known c = λ sound bytes is bad. let d = subst (λ k. CausedBy k input out WriteFault) (same_command arguments c.0 Tables c.1 known) c.2 in absurd (no_workload input bytes is bad d.0 d.1)
+refuses_tables_of arguments input out OutOfMemory known c = λ sound bytes is bad. inr refl
+refuses_tables_of arguments input out Blocked known c = λ sound bytes is bad. absurd (subst (λ k. CausedBy k input out Blocked) (same_command arguments c.0 Tables c.1 known) c.2)
+refuses_tables_of arguments input out TooLong known c = λ sound bytes is bad. absurd (subst (λ k. CausedBy k input out TooLong) (same_command arguments c.0 Tables c.1 known) c.2)
 
 -- status 1 comes exactly where the arguments are of none of the forms
-pub usage_of : (arguments : List (List ℕ)) (input out : StreamChange) (a : Answer) → Caused arguments input out a → (status_of a ≡ 1) ↔ (form_of arguments ≡ None)
+pub usage_of : (arguments : List (List ℕ)) (input out : StreamChange) (a : Answer) → Caused arguments input out a → (status_of a ≡ 1) ↔ (command_of arguments ≡ None)
 usage_of arguments input out Usage c = (λ e. c.0, λ other. refl)
-usage_of arguments input out Done c = (λ e. absurd (omega arith), λ other. absurd (some_form arguments c.0 c.1 other))
-usage_of arguments input out TooLarge c = (λ e. absurd (omega arith), λ other. absurd (some_form arguments c.0 c.1 other))
-usage_of arguments input out (Refused line cause) c = (λ e. absurd (omega arith), λ other. absurd (some_form arguments c.0 c.1 other))
-usage_of arguments input out ReadFault c = (λ e. absurd (omega arith), λ other. absurd (some_form arguments c.0 c.1 other))
-usage_of arguments input out WriteFault c = (λ e. absurd (omega arith), λ other. absurd (some_form arguments c.0 c.1 other))
-usage_of arguments input out OutOfMemory c = (λ e. absurd (omega arith), λ other. absurd (some_form arguments c.0 c.1 other))
-usage_of arguments input out Blocked c = (λ e. absurd (omega arith), λ other. absurd (some_form arguments c.0 c.1 other))
-usage_of arguments input out TooLong c = (λ e. absurd (omega arith), λ other. absurd (some_form arguments c.0 c.1 other))
+usage_of arguments input out Done c = (λ e. absurd (omega arith), λ other. absurd (some_command arguments c.0 c.1 other))
+usage_of arguments input out TooLarge c = (λ e. absurd (omega arith), λ other. absurd (some_command arguments c.0 c.1 other))
+usage_of arguments input out (Refused line cause) c = (λ e. absurd (omega arith), λ other. absurd (some_command arguments c.0 c.1 other))
+usage_of arguments input out ReadFault c = (λ e. absurd (omega arith), λ other. absurd (some_command arguments c.0 c.1 other))
+usage_of arguments input out WriteFault c = (λ e. absurd (omega arith), λ other. absurd (some_command arguments c.0 c.1 other))
+usage_of arguments input out OutOfMemory c = (λ e. absurd (omega arith), λ other. absurd (some_command arguments c.0 c.1 other))
+usage_of arguments input out Blocked c = (λ e. absurd (omega arith), λ other. absurd (some_command arguments c.0 c.1 other))
+usage_of arguments input out TooLong c = (λ e. absurd (omega arith), λ other. absurd (some_command arguments c.0 c.1 other))
 
 -- what writing the answer's line did
 pub told_of : (err : StreamChange) (a : Answer) (r : Result (Unit {0}) Unwritten) → Puts err.before err.after err.faults_before err.faults_after (line_of a) r
@@ -202,6 +267,37 @@ refused_of form input out WriteFault refused kept = absurd refused
 refused_of form input out Blocked refused kept = absurd refused
 refused_of form input out TooLong refused kept = absurd refused
 
+pub refused_tables : (input out : StreamChange) (a : Answer) → IsRefused input a → IsUntouched out → CausedByTables input out a
+refused_tables input out TooLarge refused kept = (refused, kept)
+refused_tables input out (Refused line cause) refused kept = (refused, kept)
+refused_tables input out ReadFault refused kept = (refused, kept)
+refused_tables input out OutOfMemory refused kept = (refused, kept.no_fault, inl kept)
+refused_tables input out Done refused kept = absurd refused
+refused_tables input out Usage refused kept = absurd refused
+refused_tables input out WriteFault refused kept = absurd refused
+refused_tables input out Blocked refused kept = absurd refused
+refused_tables input out TooLong refused kept = absurd refused
+
+-- the tables were not written whole
+pub tables_unwritten : (input out : StreamChange) (w : Work) (e : Unwritten) → IsWorkload input w → Puts out.before out.after out.faults_before out.faults_after (tables_text w) (Err e) → CausedByTables input out (unwritten_answer e)
+tables_unwritten input out w unwritten.Fault is p = (w, is, p.fault refl, p.part)
+tables_unwritten input out w unwritten.Memory is p = (at_most_of input is.bytes is.read, p.no_fault (λ e. cc), inr (w, is, p.part))
+
+-- nor the generated workload
+pub generated_unwritten : (out : StreamChange) (n : ℕ) (e : Unwritten) → Puts out.before out.after out.faults_before out.faults_after (generated n) (Err e) → CausedByNumber n out (unwritten_answer e)
+generated_unwritten out n unwritten.Fault p = (p.fault refl, p.part)
+generated_unwritten out n unwritten.Memory p = (p.no_fault (λ e. cc), p.part)
+
+pub tables_exit : (input out : StreamChange) (r : Result (Unit {0}) Answer) (a : Answer) → IsErrAnd r (λ y. y ≡ a) → CausedByTables input out a → CausedByTables input out (answer_of r)
+tables_exit input out r a exit caused =
+    let x = err_from_is_err_and r exit in
+    subst (λ s. CausedByTables input out (answer_of s)) (sym (x.1 ∙ ap Err x.2)) caused
+
+pub generated_exit : (out : StreamChange) (n : ℕ) (r : Result (Unit {0}) Answer) (a : Answer) → IsErrAnd r (λ y. y ≡ a) → CausedByNumber n out a → CausedByNumber n out (answer_of r)
+generated_exit out n r a exit caused =
+    let x = err_from_is_err_and r exit in
+    subst (λ s. CausedByNumber n out (answer_of s)) (sym (x.1 ∙ ap Err x.2)) caused
+
 pub caused_exit : (form : Form) (input out : StreamChange) (r : Result (Unit {0}) Answer) (a : Answer) → IsErrAnd r (λ y. y ≡ a) → CausedByInput form input out a
     → CausedByInput form input out (answer_of r)
 caused_exit form input out r a exit caused =
@@ -253,7 +349,12 @@ promises_of arguments input out err a status is caused told = record {
   answered = record { answer = a; status = is; caused = caused; told = told };
   headline = λ form known zero. headline_of arguments form input out a known caused (sym is ∙ zero);
   blocked = λ form known six. blocked_of arguments form input out a known caused (sym is ∙ six);
+  tables = λ known zero. tables_of arguments input out a known caused (sym is ∙ zero);
+  generates = λ n known zero. generates_of arguments n input out a known caused (sym is ∙ zero);
   completes = λ form known. subst (λ s. Completes form input out s) (sym is) (completes_of arguments form input out a known caused);
+  completes_tables = λ known. subst (λ s. CompletesTables input out s) (sym is) (completes_tables_of arguments input out a known caused);
+  completes_generated = λ n known sound. subst (λ s. (s ≡ 0) ⊎ (s ≡ 5)) (sym is) (completes_generated_of arguments n input out a known caused sound);
   refuses = λ form known. subst (λ s. Refuses input s) (sym is) (refuses_of arguments form input out a known caused);
-  usage = subst (λ s. (s ≡ 1) ↔ (form_of arguments ≡ None)) (sym is) (usage_of arguments input out a caused);
+  refuses_tables = λ known. subst (λ s. Refuses input s) (sym is) (refuses_tables_of arguments input out a known caused);
+  usage = subst (λ s. (s ≡ 1) ↔ (command_of arguments ≡ None)) (sym is) (usage_of arguments input out a caused);
 }

@@ -9,38 +9,50 @@ use Rattle.sd_rounds.specs.declared.orders.Turns.{Turns}
 use Rattle.sd_rounds.specs.declared.orders.Turns.TheVariants.{Rising, Drawn}
 use Rattle.sd_full.specs.Texts.{journal, summary}
 use Rattle.sd_program.specs.declared.forms.Form.{Form}
-use Rattle.sd_program.specs.declared.forms.Form.TheVariants.{Run, Sum}
+use Rattle.sd_program.specs.declared.forms.Form.TheVariants.{Journal, Summary}
+use Rattle.sd_program.specs.declared.forms.Command.{Command}
+use Rattle.sd_program.specs.declared.forms.Command.TheVariants.{Run, Tables, Generate}
 
--- `run` or `sum`
-abbrev pub verb_form : List ℕ → Option Form
-verb_form verb = cond (same_bytes verb (codes "run")) (Some (Run Rising)) (cond (same_bytes verb (codes "sum")) (Some Sum) None)
+abbrev pub run_rising : Option Command
+run_rising = Some (Run (Journal Rising))
 
--- `run --threads`, which goes in rounds of rising processors
-abbrev pub threads_form : List ℕ → List ℕ → Option Form
-threads_form verb option = cond (same_bytes verb (codes "run") && same_bytes option (codes "--threads")) (Some (Run Rising)) None
+-- `run`, `sum` or `tables`
+abbrev pub verb_command : List ℕ → Option Command
+verb_command verb =
+    cond (same_bytes verb (codes "run")) run_rising
+    (cond (same_bytes verb (codes "sum")) (Some (Run Summary)) (cond (same_bytes verb (codes "tables")) (Some Tables) None))
 
--- a seed has one to ten digits, and is below 2^32
-abbrev pub seed_form : ℕ → Option Form
-seed_form n = cond (nat_le n 4294967295) (Some (Run (Drawn n))) None
+-- a number of one to ten digits below 2^32
+abbrev pub generate_command : ℕ → Option Command
+generate_command n = cond (nat_le n 4294967295) (Some (Generate n)) None
+
+abbrev pub drawn_command : ℕ → Option Command
+drawn_command n = cond (nat_le n 4294967295) (Some (Run (Journal (Drawn n)))) None
+
+-- `run --threads`, which goes in rounds of rising processors, or `gen N`
+abbrev pub pair_command : List ℕ → List ℕ → Option Command
+pair_command verb second =
+    cond (same_bytes verb (codes "run") && same_bytes second (codes "--threads")) run_rising
+    (cond (same_bytes verb (codes "gen")) (option_and_then generate_command (number_of second)) None)
 
 -- `run --seed N`
-abbrev pub seeded_form : List ℕ → List ℕ → List ℕ → Option Form
-seeded_form verb option seed =
-    cond (same_bytes verb (codes "run") && same_bytes option (codes "--seed")) (option_and_then seed_form (number_of seed)) None
+abbrev pub seed_command : List ℕ → List ℕ → List ℕ → Option Command
+seed_command verb second seed =
+    cond (same_bytes verb (codes "run") && same_bytes second (codes "--seed")) (option_and_then drawn_command (number_of seed)) None
 
--- the form of the arguments, None where they are of none
-unfoldable pub form_of : List (List ℕ) → Option Form
-form_of (verb ∷ []) = verb_form verb
-form_of (verb ∷ option ∷ []) = threads_form verb option
-form_of (verb ∷ option ∷ seed ∷ []) = seeded_form verb option seed
-form_of _ = None
+-- what the arguments ask for, None where they are of none of the forms
+unfoldable pub command_of : List (List ℕ) → Option Command
+command_of (verb ∷ []) = verb_command verb
+command_of (verb ∷ second ∷ []) = pair_command verb second
+command_of (verb ∷ second ∷ seed ∷ []) = seed_command verb second seed
+command_of _ = None
 
 -- how the processors take turns
 abbrev pub turns_of : Form → Turns
-turns_of (Run turns) = turns
-turns_of Sum = Rising
+turns_of (Journal turns) = turns
+turns_of Summary = Rising
 
 -- what is written of a run
 abbrev pub text_of : Form → Work → List Entry → List ℕ
-text_of (Run turns) w es = journal w es
-text_of Sum w es = summary w es
+text_of (Journal turns) w es = journal w es
+text_of Summary w es = summary w es

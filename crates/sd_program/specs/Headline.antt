@@ -10,8 +10,12 @@ use Rattle.sd_program.specs.declared.answers.Answer.{Answer}
 use Rattle.sd_program.specs.declared.answers.Answer.TheVariants.{Done, Usage, TooLarge, Refused, ReadFault, WriteFault, OutOfMemory, Blocked, TooLong}
 use Rattle.sd_program.specs.Answers.{status_of, line_of}
 use Rattle.sd_program.specs.StreamChanges.{StreamChange, HasFault, HasNoFault, IsUntouched, AppendsPart}
+use Rattle.sd_gen.specs.Generated.{generated}
 use Rattle.sd_program.specs.declared.forms.Form.{Form}
-use Rattle.sd_program.specs.Forms.{form_of}
+use Rattle.sd_program.specs.declared.forms.Command.{Command}
+use Rattle.sd_program.specs.declared.forms.Command.TheVariants.{Run, Tables, Generate}
+use Rattle.sd_program.specs.Forms.{command_of}
+use Rattle.sd_program.specs.TableTexts.{tables_text}
 use Rattle.sd_program.specs.RunAnswers.{Ran}
 
 -- the most bytes that an input may have
@@ -67,10 +71,37 @@ CausedByInput form input out OutOfMemory = HasAtMost input × HasNoFault out × 
 CausedByInput form input out Blocked = RanInput form input out Blocked
 CausedByInput form input out TooLong = RanInput form input out TooLong
 
+-- the tables of the input's workload were written
+abbrev pub PrintsTables : StreamChange → StreamChange → Type 0
+PrintsTables input out = (w : Work) × IsWorkload input w × Appends out.before out.after (tables_text w) × HasNoFault out
+
+-- the answer to the argument `tables`
+abbrev pub CausedByTables : StreamChange → StreamChange → Answer → Type 0
+CausedByTables input out Done = PrintsTables input out
+CausedByTables input out TooLarge = HasTooMany input × IsUntouched out
+CausedByTables input out (Refused line cause) = IsNoWorkload input line cause × IsUntouched out
+CausedByTables input out ReadFault = HasFault input × IsUntouched out
+CausedByTables input out WriteFault = (w : Work) × IsWorkload input w × HasFault out × AppendsPart out.before out.after (tables_text w)
+CausedByTables input out OutOfMemory =
+    HasAtMost input × HasNoFault out × (IsUntouched out ⊎ ((w : Work) × IsWorkload input w × AppendsPart out.before out.after (tables_text w)))
+CausedByTables input out _ = ⊥
+
+-- the answer to the arguments `gen N`
+abbrev pub CausedByNumber : ℕ → StreamChange → Answer → Type 0
+CausedByNumber n out Done = Appends out.before out.after (generated n) × HasNoFault out
+CausedByNumber n out WriteFault = HasFault out × AppendsPart out.before out.after (generated n)
+CausedByNumber n out OutOfMemory = HasNoFault out × AppendsPart out.before out.after (generated n)
+CausedByNumber n out _ = ⊥
+
+abbrev pub CausedBy : Command → StreamChange → StreamChange → Answer → Type 0
+CausedBy (Run form) input out a = CausedByInput form input out a
+CausedBy Tables input out a = CausedByTables input out a
+CausedBy (Generate n) input out a = IsUntouched input × CausedByNumber n out a
+
 -- an answer and its cause
 abbrev pub Caused : List (List ℕ) → StreamChange → StreamChange → Answer → Type 0
-Caused arguments input out Usage = (form_of arguments ≡ None) × IsUntouched input × IsUntouched out
-Caused arguments input out a = (form : Form) × (form_of arguments ≡ Some form) × CausedByInput form input out a
+Caused arguments input out Usage = (command_of arguments ≡ None) × IsUntouched input × IsUntouched out
+Caused arguments input out a = (command : Command) × (command_of arguments ≡ Some command) × CausedBy command input out a
 
 -- the answer's line was written to the error output, whole where no fault was counted, and else a prefix of it
 pub record Tells (err : StreamChange) (a : Answer) : Type 0 where
@@ -92,6 +123,12 @@ Completes form input out status =
     → (bytes : List ℕ) (w : Work) → input.before ≡ Some bytes → length bytes ≤ most_bytes → Accepted bytes w
     → (status ≡ 0) ⊎ ((status ≡ 6) ⊎ ((status ≡ 5) ⊎ (status ≡ 8)))
 
+-- the tables of an accepted workload are written, unless memory runs out
+abbrev pub CompletesTables : StreamChange → StreamChange → ℕ → Type 0
+CompletesTables input out status =
+    (HasFault input → ⊥) → (HasFault out → ⊥)
+    → (bytes : List ℕ) (w : Work) → input.before ≡ Some bytes → length bytes ≤ most_bytes → Accepted bytes w → (status ≡ 0) ⊎ (status ≡ 5)
+
 -- an input that is too large, or no workload that is accepted, is refused, unless memory runs out
 abbrev pub Refuses : StreamChange → ℕ → Type 0
 Refuses input status =
@@ -100,12 +137,18 @@ Refuses input status =
     → (status ≡ 2) ⊎ (status ≡ 5)
 
 -- All that the program promises of a call, from what it did to its streams: there is an answer with its cause, its
--- status and its line; status 0 says that the run was printed and that no threads block each other at its end, status 6
--- that it was printed and that some do; and the two sides of the other statuses.
+-- status and its line; where a workload is run, status 0 says that the run was printed and that no threads block each
+-- other at its end, status 6 that it was printed and that some do; where tables or a generated workload are asked for,
+-- status 0 says that they were printed; and the two sides of the other statuses.
 pub record KeepsPromises (arguments : List (List ℕ)) (input out err : StreamChange) (status : ℕ) : Type 0 where
   pub answered : IsAnswered arguments input out err status
-  pub headline : (form : Form) → form_of arguments ≡ Some form → status ≡ 0 → RanInput form input out Done
-  pub blocked : (form : Form) → form_of arguments ≡ Some form → status ≡ 6 → RanInput form input out Blocked
-  pub completes : (form : Form) → form_of arguments ≡ Some form → Completes form input out status
-  pub refuses : (form : Form) → form_of arguments ≡ Some form → Refuses input status
-  pub usage : (status ≡ 1) ↔ (form_of arguments ≡ None)
+  pub headline : (form : Form) → command_of arguments ≡ Some (Run form) → status ≡ 0 → RanInput form input out Done
+  pub blocked : (form : Form) → command_of arguments ≡ Some (Run form) → status ≡ 6 → RanInput form input out Blocked
+  pub tables : command_of arguments ≡ Some Tables → status ≡ 0 → PrintsTables input out
+  pub generates : (n : ℕ) → command_of arguments ≡ Some (Generate n) → status ≡ 0 → IsUntouched input × CausedByNumber n out Done
+  pub completes : (form : Form) → command_of arguments ≡ Some (Run form) → Completes form input out status
+  pub completes_tables : command_of arguments ≡ Some Tables → CompletesTables input out status
+  pub completes_generated : (n : ℕ) → command_of arguments ≡ Some (Generate n) → (HasFault out → ⊥) → (status ≡ 0) ⊎ (status ≡ 5)
+  pub refuses : (form : Form) → command_of arguments ≡ Some (Run form) → Refuses input status
+  pub refuses_tables : command_of arguments ≡ Some Tables → Refuses input status
+  pub usage : (status ≡ 1) ↔ (command_of arguments ≡ None)

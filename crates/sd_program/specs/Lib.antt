@@ -6,3 +6,4 @@ pub mod Refusals
 pub mod RunAnswers
 pub mod Starts
 pub mod StreamChanges
+pub mod TableTexts

@@ -1,19 +1,30 @@
 //! The forms of the arguments.
 
 ghost use Rattle.std.specs.Prelude.{◌≡◌, map, string_bytes};
-ghost use Rattle.sd_program.specs.Forms.{form_of, seed_form, seeded_form, threads_form, turns_of, verb_form};
+ghost use Rattle.sd_program.specs.Forms.{command_of, drawn_command, generate_command, pair_command, seed_command, turns_of, verb_command};
 ghost use Rattle.sd_types.specs.Works.{same_bytes};
 
 use sd_rounds::Turns;
 use sd_text::number;
 
-/// What the arguments ask for.
+/// What is printed of a run.
 #[derive(Clone, Copy)]
 pub enum Form {
-    /// To run the workload and write the journal.
-    Run(Turns),
-    /// To run it in rounds of rising processors and write the summary.
-    Sum,
+    /// The journal of the run in which the processors take these turns.
+    Journal(Turns),
+    /// The summary of the run in rounds of rising processors.
+    Summary,
+}
+
+/// What the arguments ask for.
+#[derive(Clone, Copy)]
+pub enum Command {
+    /// To run a workload.
+    Run(Form),
+    /// To write the dispatch tables of a workload.
+    Tables,
+    /// To write the generated workload of a number.
+    Generate { number: u32 },
 }
 
 impl Form {
@@ -22,11 +33,13 @@ impl Form {
         ensures { result ≡ turns_of self }
     {
         match self {
-            Form::Run(turns) => turns,
-            Form::Sum => Turns::Rising,
+            Form::Journal(turns) => turns,
+            Form::Summary => Turns::Rising,
         }
     }
 }
+
+const RUN_RISING: Command = Command::Run(Form::Journal(Turns::Rising));
 
 fn is_word(text: &[u8], word: &[u8]) -> bool
     ensures { result ≡ same_bytes text.now word.now }
@@ -34,44 +47,63 @@ fn is_word(text: &[u8], word: &[u8]) -> bool
     text == word
 }
 
-fn verb_form(verb: &[u8]) -> Option<Form>
-    ensures { result ≡ verb_form verb.now }
+fn verb_command(verb: &[u8]) -> Option<Command>
+    ensures { result ≡ verb_command verb.now }
 {
     if is_word(verb, b"run") {
-        Some(Form::Run(Turns::Rising))
+        Some(RUN_RISING)
     } else if is_word(verb, b"sum") {
-        Some(Form::Sum)
+        Some(Command::Run(Form::Summary))
+    } else if is_word(verb, b"tables") {
+        Some(Command::Tables)
     } else {
         None
     }
 }
 
-fn threads_form(verb: &[u8], option: &[u8]) -> Option<Form>
-    ensures { result ≡ threads_form verb.now option.now }
+fn generate_command(number: u64) -> Option<Command>
+    ensures { result ≡ generate_command number }
 {
-    if is_word(verb, b"run") && is_word(option, b"--threads") {
-        Some(Form::Run(Turns::Rising))
+    if number <= 4_294_967_295 {
+        Some(Command::Generate {
+            number: number as u32,
+        })
     } else {
         None
     }
 }
 
-fn seed_form(seed: u64) -> Option<Form>
-    ensures { result ≡ seed_form seed }
+fn drawn_command(seed: u64) -> Option<Command>
+    ensures { result ≡ drawn_command seed }
 {
     if seed <= 4_294_967_295 {
-        Some(Form::Run(Turns::Drawn { seed: seed as u32 }))
+        Some(Command::Run(Form::Journal(Turns::Drawn { seed: seed as u32 })))
     } else {
         None
     }
 }
 
-fn seeded_form(verb: &[u8], option: &[u8], seed: &[u8]) -> Option<Form>
-    ensures { result ≡ seeded_form verb.now option.now seed.now }
+fn pair_command(verb: &[u8], second: &[u8]) -> Option<Command>
+    ensures { result ≡ pair_command verb.now second.now }
 {
-    if is_word(verb, b"run") && is_word(option, b"--seed") {
+    if is_word(verb, b"run") && is_word(second, b"--threads") {
+        Some(RUN_RISING)
+    } else if is_word(verb, b"gen") {
+        match number(second) {
+            Some(number) => generate_command(number),
+            None => None,
+        }
+    } else {
+        None
+    }
+}
+
+fn seed_command(verb: &[u8], second: &[u8], seed: &[u8]) -> Option<Command>
+    ensures { result ≡ seed_command verb.now second.now seed.now }
+{
+    if is_word(verb, b"run") && is_word(second, b"--seed") {
         match number(seed) {
-            Some(seed) => seed_form(seed),
+            Some(seed) => drawn_command(seed),
             None => None,
         }
     } else {
@@ -80,14 +112,14 @@ fn seeded_form(verb: &[u8], option: &[u8], seed: &[u8]) -> Option<Form>
 }
 
 /// What the arguments ask for, None where they are of none of the forms.
-#[tactic(auto, unfolding(crate::specs::Forms::form_of))]
-pub(crate) fn form_of(arguments: &[String]) -> Option<Form>
-    ensures { result ≡ form_of (map string_bytes arguments.now) }
+#[tactic(auto, unfolding(crate::specs::Forms::command_of))]
+pub(crate) fn command_of(arguments: &[String]) -> Option<Command>
+    ensures { result ≡ command_of (map string_bytes arguments.now) }
 {
     match arguments {
-        [verb] => verb_form(verb.as_bytes()),
-        [verb, option] => threads_form(verb.as_bytes(), option.as_bytes()),
-        [verb, option, seed] => { seeded_form(verb.as_bytes(), option.as_bytes(), seed.as_bytes()) }
+        [verb] => verb_command(verb.as_bytes()),
+        [verb, second] => pair_command(verb.as_bytes(), second.as_bytes()),
+        [verb, second, seed] => seed_command(verb.as_bytes(), second.as_bytes(), seed.as_bytes()),
         _ => None,
     }
 }

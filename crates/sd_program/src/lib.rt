@@ -6,6 +6,7 @@ mod forms;
 mod gates;
 mod refusals;
 mod running;
+mod tables;
 #[cfg(test)]
 mod tests;
 mod top;

@@ -2,15 +2,16 @@
 
 ghost use Rattle.std.specs.Prelude.{◌≡◌, map, string_bytes};
 ghost use Rattle.sd_program.specs.Answers.{status_of, answer_of};
-ghost use Rattle.sd_program.specs.Headline.{CausedByInput, Caused, Tells, KeepsPromises};
+ghost use Rattle.sd_program.specs.Headline.{CausedByInput, CausedByNumber, CausedByTables, Caused, Tells, KeepsPromises};
 ghost use Rattle.sd_program.specs.Readings.{IsReading};
 ghost use Rattle.sd_program.specs.Starts.{Starts};
 ghost use Rattle.sd_program.specs.StreamChanges.{change_of};
 
 use crate::answers::Answer;
-use crate::forms::{Form, form_of};
+use crate::forms::{Command, Form, command_of};
 use crate::gates::Gate;
 use crate::running::run_work;
+use crate::tables::{put_generated, put_tables};
 use sd_text::{Sink, Source, read_all};
 use sd_types::Work;
 use sd_workload::read_work;
@@ -44,6 +45,28 @@ fn run_input<S: Source, K: Sink>(
     run_work(alloc, &work, form, out)
 }
 
+/// Reads the workload, and writes its dispatch tables.
+fn print_tables<S: Source, K: Sink>(alloc: Global, input: &mut S, out: &mut K) -> Result<(), Answer>
+    ensures { CausedByTables
+        (change_of (S.remaining input.old) (S.remaining input.new) (S.fault_count input.old) (S.fault_count input.new))
+        (change_of (K.contents out.old) (K.contents out.new) (K.fault_count out.old) (K.fault_count out.new))
+        (answer_of result) }
+{
+    let work = read_input(alloc, input)?;
+    put_tables(alloc, &work, out)?;
+    Ok(())
+}
+
+/// Writes the generated workload of a number.
+fn print_generated<K: Sink>(alloc: Global, number: u32, out: &mut K) -> Result<(), Answer>
+    ensures { CausedByNumber number
+        (change_of (K.contents out.old) (K.contents out.new) (K.fault_count out.old) (K.fault_count out.new))
+        (answer_of result) }
+{
+    put_generated(alloc, number, out)?;
+    Ok(())
+}
+
 /// Does what the arguments ask for.
 fn carry_out<S: Source, K: Sink>(
     alloc: Global,
@@ -56,8 +79,10 @@ fn carry_out<S: Source, K: Sink>(
         (change_of (K.contents out.old) (K.contents out.new) (K.fault_count out.old) (K.fault_count out.new))
         result }
 {
-    match form_of(arguments) {
-        Some(form) => Answer::of(run_input(alloc, form, input, out)),
+    match command_of(arguments) {
+        Some(Command::Run(form)) => Answer::of(run_input(alloc, form, input, out)),
+        Some(Command::Tables) => Answer::of(print_tables(alloc, input, out)),
+        Some(Command::Generate { number }) => Answer::of(print_generated(alloc, number, out)),
         None => Answer::Usage,
     }
 }
@@ -76,7 +101,8 @@ fn tell<E: Sink>(answer: Answer, err: &mut E) -> u8
 /// With status 0 what `out` received is the journal, or the summary, of the run of the workload that `input` spells: a
 /// complete legal run in rounds, in each state of which each thread stands in one place and at most one runs on a
 /// processor, with the accounts of its entries, and no threads block each other at its end. With status 6 it is the same
-/// of a run at whose end some do. The other statuses are 1 (the arguments are of none of the forms), 2 (the input is
+/// of a run at whose end some do. Where the arguments ask for tables or a generated workload, `out` received these. The other
+/// statuses are 1 (the arguments are of none of the forms), 2 (the input is
 /// too large, or no accepted workload), 3 (a read failed), 4 (a write failed), 5 (out of memory, and no fault of
 /// `input` or `out` was counted) and 8 (the run has 2^40 entries or more); each but 0 leaves one line on `err`.
 pub fn serial<S: Source, K: Sink, E: Sink, G: Gate>(

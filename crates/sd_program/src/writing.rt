@@ -107,7 +107,7 @@ fn line_end(text: &[u8], from: usize) -> usize
 }
 
 /// Writes a text, line by line.
-fn put_text<K: Sink>(out: &mut K, text: &[u8]) -> Result<(), Unwritten>
+pub(crate) fn put_text<K: Sink>(out: &mut K, text: &[u8]) -> Result<(), Unwritten>
     ensures { Puts (K.contents out.old) (K.contents out.new) (K.fault_count out.old) (K.fault_count out.new) text.now result }
 {
     let mut from = 0;
@@ -202,7 +202,7 @@ pub(crate) fn put_run<K: Sink>(
         (text_of form work.now entries.now) result }
 {
     match form {
-        Form::Run(_) => put_journal(alloc, work, entries, s, out),
-        Form::Sum => put_summary(alloc, work, entries, s, out),
+        Form::Journal(_) => put_journal(alloc, work, entries, s, out),
+        Form::Summary => put_summary(alloc, work, entries, s, out),
     }
 }

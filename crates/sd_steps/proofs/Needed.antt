@@ -1,6 +1,6 @@
 -- What an event needs is there: in a state of a run, of each event that a processor may make, also once the ageing that is
 -- over has been dropped.
-use Rattle.std.proofs.Common.{◌≡◌, ℕ, ◌+◌, ◌<◌, ◌≤◌, ◌^◌, true, false, length, Option, Some, None, refl, sym, ap, subst, arith}
+use Rattle.std.proofs.Common.{◌≡◌, ℕ, ◌+◌, ◌<◌, ◌≤◌, ◌^◌, false, length, Option, Some, None, refl, sym, subst, arith}
 use Rattle.std.specs.Prelude.{IfSome, nat_lt}
 use Rattle.std.proofs.lemmas.Bool.Decides.{nat_tests}
 use Rattle.sd_sound.proofs.PlainWords.{Plain, drop_keeps}
@@ -12,7 +12,7 @@ use Rattle.sd_range.proofs.All.{threads_law}
 use Rattle.sd_range.proofs.Range.{events_in_range}
 use Rattle.sd_range.specs.InRange as R
 use Rattle.sd_range.specs.There.{ThreadsAreThere, IsBoundThere}
-use Rattle.sd_after.specs.Required.{Required, CanFinish, CanTake, CanRead, CanBeRead, IsWoken, CanInherit, CanReceive, CanBind, CanChange, RunsThere}
+use Rattle.sd_after.specs.Required.{Required, CanFinish, CanTake, CanBeRead, IsWoken, CanInherit, CanReceive, CanBind, CanChange, RunsThere}
 use Rattle.sd_types.specs.declared.numbers.CpuId.{CpuId}
 use Rattle.sd_types.specs.declared.numbers.LockId.{LockId}
 use Rattle.sd_types.specs.declared.numbers.ThreadId.{ThreadId}
@@ -22,17 +22,14 @@ use Rattle.sd_types.specs.declared.events.Event.{Event}
 use Rattle.sd_types.specs.declared.events.Event.TheVariants.{Tick, Spin, Idle, Dispatch, Steal, Preempt, Yield, Done, Nap, Napend, Sleep, Wake, Wakeall, Rouse, Enter, Read, Write, Block, Will, End as WalkEnd, Exit, Unblock, Grant, Passed, Age, Prio, CvWait, SemaP, SemaWait, SemaVWake, SemaVCount, Assign, Move, Joined, Bind, Away}
 use Rattle.sd_types.specs.declared.events.Hints.{Hints}
 use Rattle.sd_types.specs.declared.events.PrioAnswer.{PrioAnswer}
-use Rattle.sd_types.specs.declared.events.PrioAnswer.TheVariants.{Changed}
 use Rattle.sd_types.specs.declared.events.Put.{Put}
 use Rattle.sd_types.specs.declared.works.Work.{Work}
 use Rattle.sd_machine.specs.declared.states.CpuState.{CpuState}
-use Rattle.sd_machine.specs.declared.states.Place.TheVariants.{Running}
 use Rattle.sd_machine.specs.declared.states.State.{State}
 use Rattle.sd_machine.specs.States.{thread_of, cpu_of}
 use Rattle.sd_machine.specs.Operations.{op_of}
 use Rattle.sd_full.specs.Changes.{cpu_put, set_duty}
 use Rattle.sd_full.specs.Sleeping.{nap_ticks}
-use Rattle.sd_full.specs.Shapes.{FitsFully}
 use Rattle.sd_full.specs.Events.{drop_ageing, next}
 use Rattle.sd_full.specs.Runs.{IsReached}
 

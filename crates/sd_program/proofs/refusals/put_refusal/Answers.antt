@@ -13,7 +13,7 @@ returns-clause-puts g c =
     let line = c.as_bytes.ensures.value ∙ c.format.ensures.text in
     let digits = c.digits_if.ensures ∙ ap (λ (n : Option ℕ). digits_if n) c.cause_number.ensures in
     let same =
-        ap (λ (x : List ℕ). codes "refused: line " ++ (x ++ (codes ": " ++ (c.cause_words.result.now ++ (c.digits_if.result.now ++ codes "\n"))))) line
-        ∙ ap (λ (x : List ℕ). codes "refused: line " ++ (decimal c.args.line ++ (codes ": " ++ (x ++ (c.digits_if.result.now ++ codes "\n"))))) c.cause_words.ensures
-        ∙ ap (λ (x : List ℕ). codes "refused: line " ++ (decimal c.args.line ++ (codes ": " ++ (cause_words c.args.cause ++ (x ++ codes "\n"))))) digits in
+    ap (λ (x : List ℕ). codes "refused: line " ++ (x ++ (codes ": " ++ (c.cause_words.result.now ++ (c.digits_if.result.now ++ codes "\n"))))) line
+    ∙ ap (λ (x : List ℕ). codes "refused: line " ++ (decimal c.args.line ++ (codes ": " ++ (x ++ (c.digits_if.result.now ++ codes "\n"))))) c.cause_words.ensures
+    ∙ ap (λ (x : List ℕ). codes "refused: line " ++ (decimal c.args.line ++ (codes ": " ++ (cause_words c.args.cause ++ (x ++ codes "\n"))))) digits in
     subst (λ (xs : List ℕ). Puts (held o) (held p) (faults o) (faults p) xs c.put_pieces.result) same c.put_pieces.ensures.puts

@@ -1,4 +1,4 @@
-use Rattle.std.proofs.Common.{◌≡◌, ℕ, suc, ◌^◌, ◌<◌, ◌≤◌, List, ◌++◌, Option, Err, length, ap, sym, subst, ◌∙◌, arith}
+use Rattle.std.proofs.Common.{◌≡◌, suc, ◌^◌, ◌<◌, ◌≤◌, List, ◌++◌, Option, Err, length, ap, sym, subst, ◌∙◌, arith}
 use Rattle.std.specs.Prelude.{IsErrOf}
 use Rattle.rand_pcg.specs.Lcg.{Lcg}
 use Rattle.sd_types.specs.declared.numbers.CpuId.{CpuId}
@@ -6,9 +6,9 @@ use Rattle.sd_types.specs.declared.events.Entry.{Entry}
 use Rattle.sd_types.specs.declared.events.Stop.TheVariants.{Full}
 use Rattle.sd_machine.specs.declared.states.State.{State}
 use Rattle.sd_machine.specs.Opening.{opening}
-use Rattle.sd_full.specs.Runs.{final, rising, round, IsRun, IsReached, IsComplete}
+use Rattle.sd_full.specs.Runs.{final, rising, round, IsRun, IsComplete}
 use Rattle.sd_full.proofs.RunLemmas.{IsRun-nil, final-nil}
-use Rattle.sd_rounds.specs.Orders.{orders_of, generator_at, next_order}
+use Rattle.sd_rounds.specs.Orders.{orders_of, next_order}
 use Rattle.sd_rounds.proofs.CompleteLemmas.{complete_of}
 use Rattle.sd_rounds.proofs.OrderLemmas.{order_next, generator_next, order_length}
 use Rattle.sd_rounds.proofs.RoundLemmas.{no_rounds, one_round_more, run_more, state_more, long_serial, is_over, no_longer}
@@ -33,7 +33,7 @@ returns-in-Err-clause-full c = λ x.
     let r = c.rounds in
     let order = orders_of w c.args.turns r.invariant.count in
     let is : c.as_slice.result.now ≡ order = c.as_slice.ensures.value ∙ c.next_order-order.ensures.order
-        ∙ ap (λ (g : Option Lcg). (next_order (rising w) g).0) r.invariant.generator ∙ order_next w c.args.turns r.invariant.count in
+    ∙ ap (λ (g : Option Lcg). (next_order (rising w) g).0) r.invariant.generator ∙ order_next w c.args.turns r.invariant.count in
     let is_full : c.in-Err.stop ≡ Full = cc in
     let at_round : IsErrOf {T = Unit {0}} (Err c.in-Err.stop) Full = ap Err is_full in
     let many = c.in-Err.ensures.full at_round in
@@ -46,7 +46,7 @@ rounds-preserved c =
     let r = c.rounds in
     let order = orders_of w c.args.turns r.invariant.count in
     let is : c.as_slice.result.now ≡ order = c.as_slice.ensures.value ∙ c.next_order-order.ensures.order
-        ∙ ap (λ (g : Option Lcg). (next_order (rising w) g).0) r.invariant.generator ∙ order_next w c.args.turns r.invariant.count in
+    ∙ ap (λ (g : Option Lcg). (next_order (rising w) g).0) r.invariant.generator ∙ order_next w c.args.turns r.invariant.count in
     let e = c.in_default-run_round.ensures in
     let made = e.entries ∙ ap (λ (o : List CpuId). r.entries.items ++ round w r.state (length r.entries.items) o) is in
     let stated = e.state ∙ ap (λ (o : List CpuId). final w r.state (round w r.state (length r.entries.items) o)) is in
@@ -66,7 +66,7 @@ returns-clause-serial c =
     let r = c.rounds in
     let order = orders_of w c.args.turns r.invariant.count in
     let is : c.as_slice.result.now ≡ order = c.as_slice.ensures.value ∙ c.next_order-order.ensures.order
-        ∙ ap (λ (g : Option Lcg). (next_order (rising w) g).0) r.invariant.generator ∙ order_next w c.args.turns r.invariant.count in
+    ∙ ap (λ (g : Option Lcg). (next_order (rising w) g).0) r.invariant.generator ∙ order_next w c.args.turns r.invariant.count in
     let e = c.in_default-run_round.ensures in
     let made = e.entries ∙ ap (λ (o : List CpuId). r.entries.items ++ round w r.state (length r.entries.items) o) is in
     is_over w (orders_of w c.args.turns) r.invariant.count r.state r.entries.items c.run_round.new.entries.items r.invariant.rounds r.invariant.state made
@@ -78,7 +78,7 @@ returns-clause-run c =
     let r = c.rounds in
     let order = orders_of w c.args.turns r.invariant.count in
     let is : c.as_slice.result.now ≡ order = c.as_slice.ensures.value ∙ c.next_order-order.ensures.order
-        ∙ ap (λ (g : Option Lcg). (next_order (rising w) g).0) r.invariant.generator ∙ order_next w c.args.turns r.invariant.count in
+    ∙ ap (λ (g : Option Lcg). (next_order (rising w) g).0) r.invariant.generator ∙ order_next w c.args.turns r.invariant.count in
     let e = c.in_default-run_round.ensures in
     let made = e.entries ∙ ap (λ (o : List CpuId). r.entries.items ++ round w r.state (length r.entries.items) o) is in
     run_more w order r.state r.entries.items c.run_round.new.entries.items r.invariant.run r.invariant.state made
@@ -89,7 +89,7 @@ returns-clause-state c =
     let r = c.rounds in
     let order = orders_of w c.args.turns r.invariant.count in
     let is : c.as_slice.result.now ≡ order = c.as_slice.ensures.value ∙ c.next_order-order.ensures.order
-        ∙ ap (λ (g : Option Lcg). (next_order (rising w) g).0) r.invariant.generator ∙ order_next w c.args.turns r.invariant.count in
+    ∙ ap (λ (g : Option Lcg). (next_order (rising w) g).0) r.invariant.generator ∙ order_next w c.args.turns r.invariant.count in
     let e = c.in_default-run_round.ensures in
     let made = e.entries ∙ ap (λ (o : List CpuId). r.entries.items ++ round w r.state (length r.entries.items) o) is in
     let stated = e.state ∙ ap (λ (o : List CpuId). final w r.state (round w r.state (length r.entries.items) o)) is in
@@ -106,7 +106,7 @@ returns-clause-short c =
     let r = c.rounds in
     let order = orders_of w c.args.turns r.invariant.count in
     let is : c.as_slice.result.now ≡ order = c.as_slice.ensures.value ∙ c.next_order-order.ensures.order
-        ∙ ap (λ (g : Option Lcg). (next_order (rising w) g).0) r.invariant.generator ∙ order_next w c.args.turns r.invariant.count in
+    ∙ ap (λ (g : Option Lcg). (next_order (rising w) g).0) r.invariant.generator ∙ order_next w c.args.turns r.invariant.count in
     let e = c.in_default-run_round.ensures in
     let some = w.some_cpu in
     let many : length c.as_slice.result.now ≡ w.cpus = ap length is ∙ order_length w c.args.turns r.invariant.count in

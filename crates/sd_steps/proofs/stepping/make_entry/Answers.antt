@@ -1,5 +1,4 @@
-use Rattle.std.proofs.Common.{◌<◌, List, Option, None, length, ap, sym, subst, ◌∙◌, arith}
-use Rattle.sd_types.specs.declared.events.Entry.{Entry}
+use Rattle.std.proofs.Common.{Option, ap, sym, ◌∙◌, arith}
 use Rattle.sd_types.specs.declared.events.Event.{Event}
 use Rattle.sd_types.specs.declared.events.Hints.{Hints}
 use Rattle.sd_full.specs.Events.{next}

@@ -1,6 +1,6 @@
 use Rattle.std.proofs.Common.{sym}
 use Rattle.sd_sound.proofs.Whole.{fit_reached}
-use Rattle.sd_steps.proofs.Needed.{is_fit, maker_there, all_needed}
+use Rattle.sd_steps.proofs.Needed.{maker_there, all_needed}
 use Rattle.sd_steps.proofs.stepping.step.Goals as goal
 
 pub next-requires-clause-fits : goal.next-requires-clause-fits
