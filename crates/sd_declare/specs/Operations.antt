@@ -1,7 +1,6 @@
 -- The causes of a line of a script, against what the lines above declare, and the operations that it gives.
 -- Source: priocntl(2), psrset(1M); the ranges are this project's own.
-use Rattle.std.specs.Prelude.{ℕ, pos, Bool, not, ◌&&◌, true, List, [], ◌∷◌, length, nat_lt, Option, Some, None, option_map}
-use Rattle.sd_types.specs.declared.numbers.CpuId.{CpuId}
+use Rattle.std.specs.Prelude.{ℕ, pos, Bool, not, ◌&&◌, true, List, [], ◌∷◌, nat_lt, Option, Some, None, option_map}
 use Rattle.sd_types.specs.declared.classes.Class.TheVariants as class
 use Rattle.sd_types.specs.declared.classes.Quantum.TheVariants.{Def}
 use Rattle.sd_types.specs.declared.scripts.Request.{Request}

@@ -1,9 +1,8 @@
 -- The causes of a line outside blocks, against what the lines above declare, and what it declares.
 -- Source: priocntl(2), psrset(1M); the ranges and limits are this project's own.
-use Rattle.std.specs.Prelude.{ℕ, ◌+◌, Bool, true, false, not, ◌&&◌, ◌||◌, ◌==◌, List, [], ◌∷◌, ◌++◌, length, map, min, nat_le, nat_lt, Option, Some, None, is_some}
+use Rattle.std.specs.Prelude.{ℕ, ◌+◌, Bool, true, not, ◌&&◌, ◌||◌, ◌==◌, List, [], ◌∷◌, ◌++◌, length, map, min, nat_le, nat_lt, Some, is_some}
 use Rattle.std.specs.Int.{int_min}
 use Rattle.std.specs.List.{list_any}
-use Rattle.sd_types.specs.declared.numbers.CpuId.{CpuId}
 use Rattle.sd_types.specs.declared.classes.ClassParms.{ClassParms}
 use Rattle.sd_types.specs.declared.classes.ClassParms.TheVariants as parms
 use Rattle.sd_types.specs.declared.classes.Quantum.{Quantum}
@@ -19,7 +18,7 @@ use Rattle.sd_lines.specs.declared.threads.ThreadClass.{ThreadClass}
 use Rattle.sd_lines.specs.declared.threads.ThreadClass.TheVariants.{Ts, Fx, Sys, Rt}
 use Rattle.sd_lines.specs.declared.words.QuantumWord.{QuantumWord}
 use Rattle.sd_lines.specs.declared.words.QuantumWord.TheVariants.{Def, Inf, Ticks}
-use Rattle.sd_lines.specs.Words.{Word, Line}
+use Rattle.sd_lines.specs.Words.{Word}
 use Rattle.sd_lines.specs.Threads.{Thread as ThreadLine}
 use Rattle.sd_lines.specs.Statements.{Statement, Cpus, Hz, Limit, Set, Table, Lock, Chan, Sema, Declare, Script}
 use Rattle.sd_declare.specs.Causes.{Causes, no_causes}

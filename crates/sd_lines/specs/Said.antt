@@ -1,5 +1,5 @@
 -- What the reader keeps of a line, as plain data.
-use Rattle.std.specs.Prelude.{List, Option, option_map}
+use Rattle.std.specs.Prelude.{option_map}
 use Rattle.sd_types.specs.declared.names.Name.{Name}
 use Rattle.sd_lines.specs.declared.operations.Operation.{Operation as Kept}
 use Rattle.sd_lines.specs.declared.operations.Operation.TheVariants as kept

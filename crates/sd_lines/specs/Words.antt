@@ -5,7 +5,7 @@
 use Rattle.std.specs.Prelude.{ℕ, Bool, true, false, List, [], ◌∷◌, cond, codes, Option, Some, None, option_map, option_and_then}
 use Rattle.sd_types.specs.NameWords.{is_name}
 use Rattle.sd_types.specs.Works.{same_bytes}
-use Rattle.sd_text.specs.Numbers.{number_of, signed_of}
+use Rattle.sd_text.specs.Numbers.{number_of}
 use Rattle.sd_lines.specs.declared.words.QuantumWord.{QuantumWord}
 use Rattle.sd_lines.specs.declared.words.QuantumWord.TheVariants.{Def, Inf, Ticks}
 

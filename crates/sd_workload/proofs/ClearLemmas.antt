@@ -1,7 +1,6 @@
 -- A line without causes: what each test says.
-use Rattle.std.proofs.Common.{◌≡◌, Bool, true, false, cond, Option, Some, None, refl, sym}
+use Rattle.std.proofs.Common.{◌≡◌, Bool, true, false, cond, Some, None, refl, sym}
 use Rattle.std.proofs.lemmas.Option.{none-some}
-use Rattle.sd_declare.specs.declared.causes.WorkCause.{WorkCause}
 use Rattle.sd_declare.specs.declared.causes.WorkCause.TheVariants.{Syntax, Unknown, Twice, Range, Sets, Limits}
 use Rattle.sd_declare.specs.Causes.{Causes, least}
 

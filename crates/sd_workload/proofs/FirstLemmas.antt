@@ -1,15 +1,12 @@
 -- The verdict on a text, by indices.
-use Rattle.std.proofs.Common.{◌≡◌, ℕ, zero, suc, ◌+◌, ◌-◌, ◌<◌, ◌≤◌, ◌⊎◌, inl, inr, List, [], ◌∷◌, length, take, drop, get_or, Option, Some, None, refl, sym, ap, ◌∙◌, subst, arith, below_more}
-use Rattle.std.specs.List.{fold}
-use Rattle.std.proofs.lemmas.Bool.{cases_lt}
+use Rattle.std.proofs.Common.{◌≡◌, ℕ, zero, suc, ◌+◌, ◌<◌, ◌≤◌, ◌⊎◌, inl, inr, List, [], length, drop, get_or, Option, Some, None, refl, sym, ap, ◌∙◌, subst, arith, below_more}
 use Rattle.std.proofs.lemmas.List.{drop_more, drop_all}
 use Rattle.std.proofs.lemmas.List.Sums.{fold_more}
-use Rattle.std.proofs.lemmas.Option.{same_Some, none-some}
 use Rattle.sd_lines.specs.Words.{Line}
 use Rattle.sd_declare.specs.declared.causes.WorkCause.{WorkCause}
-use Rattle.sd_declare.specs.Declarations.{Declarations, nothing}
+use Rattle.sd_declare.specs.Declarations.{Declarations}
 use Rattle.sd_workload.specs.First.{Above, start, after, above, cause_at, cause_at_end, AreTaken, IsFirst, AllTaken}
-use Rattle.sd_workload.specs.Texts.{Outside, cause_of, declared_after, block_after, end_cause, Verdict, Accepts, Refuses, unless_refused, judged}
+use Rattle.sd_workload.specs.Texts.{Verdict, Accepts, Refuses, unless_refused, judged}
 use Rattle.sd_workload.proofs.JudgedLemmas.{judged-end, judged-line}
 
 -- the rest of the lines from an index on

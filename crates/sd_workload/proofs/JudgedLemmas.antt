@@ -1,5 +1,5 @@
 -- The verdict on lines, one line further on.
-use Rattle.std.proofs.Common.{◌≡◌, ℕ, ◌+◌, not, false, append-nil, ◌++◌, List, [], ◌∷◌, Option, Some, None, refl, sym, ap, ◌∙◌, subst}
+use Rattle.std.proofs.Common.{◌≡◌, ℕ, ◌+◌, not, false, append-nil, ◌++◌, List, [], ◌∷◌, Some, None, refl, sym, ap, ◌∙◌, subst}
 use Rattle.std.proofs.lemmas.Bool.{false≢true}
 use Rattle.sd_types.specs.declared.scripts.Op.{Op}
 use Rattle.sd_lines.specs.Words.{Line, is_done}

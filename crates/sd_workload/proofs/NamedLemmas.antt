@@ -1,5 +1,5 @@
 -- What scripts name stays named when more is declared.
-use Rattle.std.proofs.Common.{◌≡◌, ℕ, zero, suc, ◌+◌, ◌<◌, ◌≤◌, Bool, true, false, ◌&&◌, ltb, leb, List, [], ◌∷◌, ◌++◌, length, Option, Some, None, refl, sym, ap, ◌∙◌, arith}
+use Rattle.std.proofs.Common.{◌≡◌, ℕ, zero, suc, ◌≤◌, Bool, true, ◌&&◌, leb, List, [], ◌∷◌, ◌++◌, length, Option, Some, None, refl}
 use Rattle.std.specs.List.{list_all, slice_get}
 use Rattle.std.proofs.lemmas.Option.{none-some}
 use Rattle.sd_types.specs.declared.numbers.CpuId.{CpuId}
@@ -7,7 +7,7 @@ use Rattle.sd_types.specs.declared.scripts.Op.{Op}
 use Rattle.sd_types.specs.declared.scripts.Op.TheVariants.{Run, Yield, Nap, Sleep, Wake, WakeAll, Enter, Read, Write, Exit, Prio, CvWait, SemaP, SemaV, Assign, Pbind}
 use Rattle.sd_types.specs.declared.works.LockKind.{LockKind}
 use Rattle.sd_types.specs.declared.works.ChanKind.{ChanKind}
-use Rattle.sd_types.specs.Works.{Declared, is_mutex, is_rwlock, is_chan, is_sema, bound_fits, request_fits, op_names, class_fits}
+use Rattle.sd_types.specs.Works.{Declared, is_mutex, is_rwlock, is_chan, is_sema, bound_fits, op_names, class_fits}
 use Rattle.sd_declare.specs.Declarations.{Thread}
 use Rattle.sd_workload.specs.Sound.{thread_is_sound, AreThreads}
 use Rattle.sd_workload.proofs.NameLemmas.{both, lt-more, le-more, all-more, get-more}

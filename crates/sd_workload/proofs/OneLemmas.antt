@@ -4,12 +4,11 @@ use Rattle.std.proofs.lemmas.Option.{same_Some}
 use Rattle.sd_types.specs.declared.tables.TsTable.{TsTable}
 use Rattle.sd_types.specs.declared.tables.FixedTable.{FixedTable}
 use Rattle.sd_types.specs.declared.works.Work.{Work}
-use Rattle.sd_rules.specs.DefaultTables.{default_ts_rows, default_fx_rows, default_rt_rows}
 use Rattle.sd_tables.specs.TableText.{Format, word_lines, ts_format, fx_format, rt_format, AreClean, has_rows, rows_in, res_in, SpellsTs, SpellsFixed}
 use Rattle.sd_tables.proofs.LawLemmas.{one_ts, one_fixed}
 use Rattle.sd_lines.specs.Words.{Line}
-use Rattle.sd_declare.specs.Declarations.{Declarations, cpu_count}
-use Rattle.sd_workload.specs.Accepted.{hz_of, SpellsTsLines, SpellsFixedLines, IsTs, IsFx, IsRt, IsWork, Accepted, HaveSameParts}
+use Rattle.sd_declare.specs.Declarations.{Declarations}
+use Rattle.sd_workload.specs.Accepted.{SpellsFixedLines, IsTs, IsFx, IsRt, IsWork, Accepted, HaveSameParts}
 use Rattle.sd_workload.proofs.FirstLemmas.{same-accepted}
 
 ts-along : (text other : List ℕ) (hz : ℕ) (t : TsTable) → word_lines text ≡ word_lines other → SpellsTs text hz t → SpellsTs other hz t

@@ -1,5 +1,5 @@
 -- The operations of a line without causes name what is declared.
-use Rattle.std.proofs.Common.{◌≡◌, ℕ, ◌+◌, ◌≤◌, Bool, true, false, not, ◌&&◌, ltb, leb, List, [], ◌∷◌, ◌++◌, Option, Some, None, refl, sym, ap, ◌∙◌, arith, length}
+use Rattle.std.proofs.Common.{◌≡◌, ℕ, ◌+◌, Bool, true, ◌&&◌, ltb, leb, List, ◌++◌, Option, Some, None, refl, ◌∙◌, arith, length}
 use Rattle.std.specs.Option.{option_map}
 use Rattle.std.specs.List.{list_all, slice_get}
 use Rattle.std.proofs.lemmas.Bool.Decides.{nat_tests}
@@ -15,11 +15,11 @@ use Rattle.sd_lines.specs.declared.words.QuantumWord.{QuantumWord}
 use Rattle.sd_lines.specs.declared.words.QuantumWord.TheVariants.{Def, Inf, Ticks}
 use Rattle.sd_lines.specs.Operations.{Operation, Run, Yield, Nap, Sleep, Wake, WakeAll, Enter, Read, Write, Exit, Prio, CvWait, SemaP, SemaV, Assign, Pbind}
 use Rattle.sd_declare.specs.Causes.{least}
-use Rattle.sd_declare.specs.Declarations.{Declarations, cpu_count, lock_kind, chan_kind, set_number, thread_number}
+use Rattle.sd_declare.specs.Declarations.{Declarations, cpu_count, set_number}
 use Rattle.sd_declare.specs.Statements.{is_quantum, quantum_of}
-use Rattle.sd_declare.specs.Operations.{is_request, is_cpu, is_cpu_or_none, request_of, operation_causes, op_of, ops_of_op}
+use Rattle.sd_declare.specs.Operations.{is_request, is_cpu_or_none, request_of, operation_causes, op_of, ops_of_op}
 use Rattle.sd_workload.specs.Sound.{named}
-use Rattle.sd_workload.proofs.ClearLemmas.{IsClear, clear}
+use Rattle.sd_workload.proofs.ClearLemmas.{clear}
 use Rattle.sd_workload.proofs.NameLemmas.{both, not-false}
 
 two : (a b : Bool) → a ≡ true → b ≡ true → (a && b) ≡ true

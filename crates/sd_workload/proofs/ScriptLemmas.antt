@@ -1,12 +1,12 @@
 -- The verdict on the lines of a script's block.
-use Rattle.std.proofs.Common.{◌≡◌, ℕ, ◌+◌, ◌<◌, Bool, true, false, cond, List, [], ◌∷◌, ◌++◌, length, map, set, get_or, Option, Some, None, refl, sym, ap, ◌∙◌, subst}
+use Rattle.std.proofs.Common.{◌≡◌, ℕ, ◌+◌, ◌<◌, true, false, List, [], ◌∷◌, ◌++◌, length, map, set, get_or, Option, None, refl, sym, ap, ◌∙◌, subst}
 use Rattle.std.specs.Option.{option_map}
 use Rattle.std.proofs.lemmas.Bool.{false≢true}
 use Rattle.std.proofs.lemmas.List.{map-set, get_or-map}
 use Rattle.sd_types.specs.declared.numbers.ThreadId.{ThreadId}
 use Rattle.sd_types.specs.declared.scripts.Op.{Op}
 use Rattle.sd_types.specs.declared.works.ThreadDecl.{ThreadDecl}
-use Rattle.sd_lines.specs.Words.{Line, is_done, is_end, only_word}
+use Rattle.sd_lines.specs.Words.{Line, is_end, only_word}
 use Rattle.sd_lines.specs.Operations.{operation_of}
 use Rattle.sd_declare.specs.declared.causes.WorkCause.{WorkCause}
 use Rattle.sd_declare.specs.declared.causes.WorkCause.TheVariants.{Syntax, Script}
@@ -15,7 +15,7 @@ use Rattle.sd_declare.specs.Kept.{thread_kept}
 use Rattle.sd_workload.specs.declared.fault.WorkFault.{WorkFault}
 use Rattle.sd_workload.specs.Places.{IsFault, IsFaultAt}
 use Rattle.sd_workload.specs.Scripts.{end_fault}
-use Rattle.sd_workload.specs.Texts.{Block, Outside, InScript, unless_done, operation_cause, ops_of, with_script, no_thread, cause_of, declared_after, block_after, end_cause, Verdict, Accepts, Refuses, judged}
+use Rattle.sd_workload.specs.Texts.{Outside, InScript, unless_done, operation_cause, ops_of, with_script, no_thread, cause_of, declared_after, block_after, end_cause, Refuses, judged}
 use Rattle.sd_workload.proofs.JudgedLemmas.{judged-end, judged-on, fault-at}
 
 op-cause : (d : Declarations) (t : ThreadId) (ops : List Op) (line : Line) → is_end line ≡ false

@@ -1,31 +1,28 @@
 -- What a text without a fault declares makes a workload.
-use Rattle.std.proofs.Common.{◌≡◌, ℕ, zero, suc, ◌+◌, ◌<◌, ◌≤◌, Bool, true, false, ◌&&◌, ltb, leb, cond, List, [], ◌∷◌, ◌++◌, length, map, take, set, get_or, Option, Some, None, inl, inr, refl, sym, ap, ◌∙◌, subst, arith, append-nil, length-append}
+use Rattle.std.proofs.Common.{◌≡◌, ℕ, zero, suc, ◌+◌, Bool, true, false, ◌&&◌, leb, cond, List, [], ◌∷◌, ◌++◌, length, map, take, set, get_or, Option, Some, None, inl, inr, refl, sym, ap, ◌∙◌, subst, arith, append-nil, length-append}
 use Rattle.std.specs.Option.{option_map}
 use Rattle.std.specs.List.{list_all}
-use Rattle.std.proofs.lemmas.Bool.{false≢true, cases_lt}
-use Rattle.std.proofs.lemmas.List.{take-append-le, take_at, get_or_append_left, get_or_at, map-set, set-get_or, set_past, length-set, length-map, get_or-map}
+use Rattle.std.proofs.lemmas.Bool.{cases_lt}
+use Rattle.std.proofs.lemmas.List.{take-append-le, take_at, get_or_append_left, get_or_at, map-set, set-get_or, set_past, length-set, get_or-map}
 use Rattle.std.proofs.lemmas.Option.{none-some}
 use Rattle.sd_types.specs.declared.numbers.ThreadId.{ThreadId}
 use Rattle.sd_types.specs.declared.scripts.Op.{Op}
 use Rattle.sd_types.specs.Works.{class_fits, op_names, is_distinct, same_bytes}
-use Rattle.sd_tables.specs.declared.fault.TableFault.{TableFault}
 use Rattle.sd_tables.specs.declared.fault.TableFault.TheVariants.{Rows}
 use Rattle.sd_tables.specs.TableText.{Format, line_fault, fault_at, AreClean, has_rows, rows_in}
 use Rattle.sd_lines.specs.declared.statements.TableClass.{TableClass}
 use Rattle.sd_lines.specs.declared.statements.TableClass.TheVariants as table
-use Rattle.sd_lines.specs.Words.{Word, Line, is_done, is_end, only_word}
+use Rattle.sd_lines.specs.Words.{Line, is_end, only_word}
 use Rattle.sd_lines.specs.Statements.{Statement, Cpus, Hz, Limit, Set, Table, Lock, Chan, Sema, Declare, Script, statement_of}
 use Rattle.sd_lines.specs.Operations.{Operation, operation_of}
 use Rattle.sd_declare.specs.declared.causes.WorkCause.{WorkCause}
 use Rattle.sd_declare.specs.declared.causes.WorkCause.TheVariants as cause
-use Rattle.sd_declare.specs.Causes.{least}
 use Rattle.sd_declare.specs.Declarations.{Thread, Declarations, nothing}
-use Rattle.sd_declare.specs.Statements.{statement_causes, with_statement}
+use Rattle.sd_declare.specs.Statements.{with_statement}
 use Rattle.sd_declare.specs.Opened.{opened_by}
-use Rattle.sd_declare.specs.Operations.{operation_causes, op_of, ops_of_op}
-use Rattle.sd_workload.specs.Scripts.{first_of, ops_fault, end_fault}
+use Rattle.sd_workload.specs.Scripts.{first_of, end_fault}
 use Rattle.sd_workload.specs.Sound.{named, thread_is_sound, IsTableLines, AreThreads, IsSound, IsSoundBlock}
-use Rattle.sd_workload.specs.Texts.{Block, Outside, InTable, InScript, stated_cause, stated, block_of, opened, format_of, rows_cause, row_cause, table_cause, with_table, operation_cause, script_cause, ops_of, with_script, no_thread, unless_done, cause_of, declared_after, block_after, end_cause, Verdict, Accepts, Refuses, unless_refused, judged}
+use Rattle.sd_workload.specs.Texts.{Block, Outside, InTable, InScript, stated_cause, stated, block_of, opened, format_of, rows_cause, row_cause, with_table, operation_cause, script_cause, ops_of, with_script, no_thread, unless_done, cause_of, declared_after, block_after, end_cause, Verdict, Accepts, Refuses, unless_refused, judged}
 use Rattle.sd_workload.proofs.NameLemmas.{both}
 use Rattle.sd_workload.proofs.StatementLemmas.{statement-sound}
 use Rattle.sd_workload.proofs.OperationLemmas.{line-named}

@@ -1,8 +1,8 @@
 -- A statement without causes keeps what holds of the declarations.
 use Rattle.std.proofs.Common.{◌≡◌, ℕ, ℤ, ◌+◌, ◌<◌, ◌≤◌, Bool, true, false, not, ◌&&◌, ◌||◌, ltb, leb, min, List, [], ◌∷◌, ◌++◌, length, map, Option, Some, None, refl, sym, ap, ◌∙◌, subst, arith, length-append, append-nil}
-use Rattle.std.specs.Prelude.{unwrap_or, is_some, flat_map, nat_eq}
+use Rattle.std.specs.Prelude.{unwrap_or, is_some, nat_eq}
 use Rattle.std.specs.Int.{int_min}
-use Rattle.std.specs.List.{list_any, list_all, sum_by, slice_get}
+use Rattle.std.specs.List.{list_any, list_all, slice_get}
 use Rattle.std.proofs.lemmas.Bool.{false≢true}
 use Rattle.std.proofs.lemmas.Bool.Decides.{nat_tests}
 use Rattle.std.proofs.lemmas.Int.{ints}
@@ -14,23 +14,23 @@ use Rattle.sd_types.specs.declared.classes.ClassParms.TheVariants as parms
 use Rattle.sd_types.specs.declared.works.LockKind.{LockKind}
 use Rattle.sd_types.specs.declared.works.ChanKind.{ChanKind}
 use Rattle.sd_types.specs.Partitions.{cpu_of_number}
-use Rattle.sd_types.specs.Works.{same_bytes, same_cpu, is_distinct, class_fits, upri_fits, quantum_fits, op_names}
+use Rattle.sd_types.specs.Works.{same_bytes, same_cpu, is_distinct, class_fits, upri_fits, quantum_fits}
 use Rattle.sd_lines.specs.declared.threads.ThreadClass.{ThreadClass}
 use Rattle.sd_lines.specs.declared.threads.ThreadClass.TheVariants.{Ts, Fx, Sys, Rt}
 use Rattle.sd_lines.specs.declared.words.QuantumWord.{QuantumWord}
 use Rattle.sd_lines.specs.declared.words.QuantumWord.TheVariants.{Def, Inf, Ticks}
-use Rattle.sd_lines.specs.Words.{Word, Line}
+use Rattle.sd_lines.specs.Words.{Word}
 use Rattle.sd_lines.specs.Threads.{Thread as ThreadLine}
 use Rattle.sd_lines.specs.Statements.{Statement, Cpus, Hz, Limit, Set, Table, Lock, Chan, Sema, Declare, Script}
 use Rattle.sd_types.specs.declared.works.ChanKind.TheVariants as chan
 use Rattle.sd_declare.specs.Causes.{least}
-use Rattle.sd_declare.specs.Declarations.{Thread, Declarations, cpu_count, lock_number, chan_number, set_place, thread_number, named_count, set_number, is_set}
+use Rattle.sd_declare.specs.Declarations.{Thread, Declarations, cpu_count, lock_number, chan_number, set_place, thread_number, named_count, set_number}
 use Rattle.sd_declare.specs.Statements.{is_quantum, is_class, is_beyond, is_named, is_taken, cpus_causes, hz_causes, limit_causes, set_causes, lock_causes, chan_causes, sema_causes, thread_causes, statement_causes, quantum_of, parms_of, cpupri_of, thread_of, with_set, with_lock, with_chan, with_thread, with_statement}
 use Rattle.sd_declare.proofs.PlaceLemmas.{any_kept}
-use Rattle.sd_workload.specs.Sound.{named, named_cpus, set_is_sound, thread_is_sound, AreSettings, AreSets, AreNamed, AreThreads, IsSound}
-use Rattle.sd_workload.proofs.ClearLemmas.{IsClear, clear}
-use Rattle.sd_workload.proofs.NameLemmas.{both, neither, not-true, not-false, all-more, distinct-push, distinct-more, none-placed, named-push}
-use Rattle.sd_workload.proofs.NamedLemmas.{Extends, get-push, threads-more}
+use Rattle.sd_workload.specs.Sound.{named, named_cpus, set_is_sound, thread_is_sound, AreSets, IsSound}
+use Rattle.sd_workload.proofs.ClearLemmas.{clear}
+use Rattle.sd_workload.proofs.NameLemmas.{both, neither, not-false, distinct-push, distinct-more, none-placed, named-push}
+use Rattle.sd_workload.proofs.NamedLemmas.{get-push, threads-more}
 
 two : (a b : Bool) → a ≡ true → b ≡ true → (a && b) ≡ true
 two a b p q = rw (p, q) refl

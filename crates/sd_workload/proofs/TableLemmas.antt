@@ -1,20 +1,18 @@
 -- The verdict on the lines of a table's block.
-use Rattle.std.proofs.Common.{◌≡◌, ℕ, zero, suc, ◌+◌, ◌-◌, ◌<◌, ◌≤◌, Bool, true, false, not, cond, List, [], ◌∷◌, ◌++◌, length, take, drop, get_or, Option, Some, None, inl, inr, refl, sym, ap, ◌∙◌, subst, arith}
+use Rattle.std.proofs.Common.{◌≡◌, ℕ, zero, suc, ◌+◌, ◌<◌, ◌≤◌, Bool, true, false, not, List, [], ◌∷◌, ◌++◌, length, take, drop, get_or, Option, Some, None, refl, sym, ap, ◌∙◌, arith}
 use Rattle.std.specs.List.{list_all}
 use Rattle.std.specs.Option.{option_map}
-use Rattle.std.proofs.lemmas.Bool.{false≢true, both_ways}
+use Rattle.std.proofs.lemmas.Bool.{both_ways}
 use Rattle.std.proofs.lemmas.List.{drop_more, take_more, take_all, drop_all, length-take-le}
 use Rattle.std.proofs.lemmas.List.Folds.{list_all_at}
 use Rattle.sd_tables.specs.declared.fault.TableFault.{TableFault}
-use Rattle.sd_tables.specs.declared.columns.Column.{Column}
 use Rattle.sd_tables.specs.TableText.{line_fault, fault_at, AreClean, has_rows, rows_in}
 use Rattle.sd_tables.specs.declared.fault.TableFault.TheVariants.{Rows}
 use Rattle.sd_lines.specs.declared.statements.TableClass.{TableClass}
 use Rattle.sd_lines.specs.Words.{Line, is_end}
-use Rattle.sd_declare.specs.declared.causes.WorkCause.{WorkCause}
 use Rattle.sd_declare.specs.declared.causes.WorkCause.TheVariants.{Table, Syntax}
 use Rattle.sd_declare.specs.Declarations.{Declarations}
-use Rattle.sd_workload.specs.Texts.{Block, Outside, InTable, format_of, cause_of, declared_after, block_after, end_cause, with_table, table_cause, Verdict, Accepts, Refuses, unless_refused, judged}
+use Rattle.sd_workload.specs.Texts.{Outside, InTable, format_of, cause_of, declared_after, block_after, end_cause, with_table, Verdict, Refuses, unless_refused, judged}
 use Rattle.sd_workload.proofs.JudgedLemmas.{judged-end, judged-line}
 
 abbrev NoEnd : List Line → Type 0

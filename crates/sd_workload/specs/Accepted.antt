@@ -1,6 +1,6 @@
 -- Which text is accepted as which workload, and the first cause of a text that is refused.
 -- Source: this project's own.
-use Rattle.std.specs.Prelude.{◌≡◌, ℕ, List, map, Option, Some, None, unwrap_or, IsTrue}
+use Rattle.std.specs.Prelude.{◌≡◌, ℕ, List, map, Option, Some, None, unwrap_or}
 use Rattle.sd_types.specs.declared.tables.TsTable.{TsTable}
 use Rattle.sd_types.specs.declared.tables.FixedTable.{FixedTable}
 use Rattle.sd_types.specs.declared.works.Work.{Work}

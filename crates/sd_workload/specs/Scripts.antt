@@ -1,6 +1,6 @@
 -- The fault of the operations that a line of a script gives, behind the operations of the lines above it.
 -- Source: this project's own.
-use Rattle.std.specs.Prelude.{ℕ, List, [], ◌∷◌, ◌++◌, length, nat_lt, cond, Option, Some, None}
+use Rattle.std.specs.Prelude.{List, [], ◌∷◌, ◌++◌, length, nat_lt, cond, Option, Some, None}
 use Rattle.sd_types.specs.declared.scripts.Op.{Op}
 use Rattle.sd_types.specs.Scripts.{held_by}
 use Rattle.sd_script.specs.declared.faults.ScriptFault.{ScriptFault}

@@ -1,9 +1,8 @@
 -- What holds of the declarations of every text of which no line is at fault, so that they make a workload.
 -- Source: this project's own.
-use Rattle.std.specs.Prelude.{◌≡◌, ℕ, ◌<◌, ◌≤◌, Bool, true, ◌&&◌, ◌||◌, ◌==◌, List, length, map, flat_map, nat_le, nat_lt, Option, Some, None, IfSome}
+use Rattle.std.specs.Prelude.{◌≡◌, ℕ, ◌<◌, ◌≤◌, Bool, true, ◌&&◌, ◌||◌, ◌==◌, List, length, map, flat_map, nat_le, nat_lt, Option, IfSome}
 use Rattle.std.specs.List.{list_all}
 use Rattle.sd_types.specs.declared.numbers.CpuId.{CpuId}
-use Rattle.sd_types.specs.declared.scripts.Op.{Op}
 use Rattle.sd_types.specs.Works.{Declared, same_bytes, same_cpu, is_distinct, class_fits, op_names}
 use Rattle.sd_tables.specs.TableText.{Format, AreClean, has_rows, ts_format, fx_format, rt_format}
 use Rattle.sd_lines.specs.Words.{Word, Line}

@@ -1,13 +1,10 @@
 -- Workload texts: each line is judged by the block that is open there and by what the lines above it declare. The first
 -- line at fault is that of the refusal; where no line is at fault, the end of the input is judged, on the line after
 -- the last. Source: this project's own.
-use Rattle.std.specs.Prelude.{ℕ, ◌+◌, ◌*◌, Bool, true, false, ◌||◌, List, [], ◌∷◌, ◌++◌, length, map, sum_by, slice_set, slice_index_or, nat_lt, cond, Option, Some, None, is_none, option_map, unwrap_or}
+use Rattle.std.specs.Prelude.{ℕ, ◌+◌, ◌*◌, Bool, false, ◌||◌, List, [], ◌∷◌, ◌++◌, length, sum_by, slice_set, slice_index_or, nat_lt, cond, Option, Some, None, is_none, option_map, unwrap_or}
 use Rattle.sd_types.specs.declared.numbers.ThreadId.{ThreadId}
-use Rattle.sd_types.specs.declared.numbers.SetId.{SetId}
 use Rattle.sd_types.specs.declared.classes.ClassParms.TheVariants as parms
 use Rattle.sd_types.specs.declared.scripts.Op.{Op}
-use Rattle.sd_script.specs.declared.faults.ScriptFault.{ScriptFault}
-use Rattle.sd_tables.specs.declared.fault.TableFault.{TableFault}
 use Rattle.sd_tables.specs.declared.fault.TableFault.TheVariants.{Rows}
 use Rattle.sd_tables.specs.TableText.{Format, word_lines, ts_format, fx_format, rt_format, line_fault, has_rows, rows_in}
 use Rattle.sd_lines.specs.declared.statements.TableClass.{TableClass}

@@ -1,11 +1,9 @@
-use Rattle.std.proofs.Common.{List, ◌∙◌, arith}
-use Rattle.sd_types.specs.declared.numbers.CpuId.{CpuId}
+use Rattle.std.proofs.Common.{arith}
 use Rattle.sd_types.specs.declared.works.LockKind.{LockKind}
-use Rattle.sd_types.specs.declared.works.ChanKind.{ChanKind}
 use Rattle.sd_types.specs.Works.{same_bytes}
 use Rattle.sd_lines.specs.Words.{Word}
 use Rattle.sd_lines.specs.Said.{word_of}
-use Rattle.sd_declare.specs.Declarations.{Thread, lock_number}
+use Rattle.sd_declare.specs.Declarations.{lock_number}
 use Rattle.sd_declare.specs.Kept.{lock_kept}
 use Rattle.sd_declare.proofs.PlaceLemmas.{place_kept}
 use Rattle.sd_declare.proofs.lookups.lock_number.Goals as goal

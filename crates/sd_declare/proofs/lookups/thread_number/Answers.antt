@@ -1,9 +1,5 @@
-use Rattle.std.proofs.Common.{List, ◌∙◌, arith}
-use Rattle.sd_types.specs.declared.numbers.CpuId.{CpuId}
-use Rattle.sd_types.specs.declared.works.LockKind.{LockKind}
-use Rattle.sd_types.specs.declared.works.ChanKind.{ChanKind}
+use Rattle.std.proofs.Common.{arith}
 use Rattle.sd_types.specs.Works.{same_bytes}
-use Rattle.sd_lines.specs.Words.{Word}
 use Rattle.sd_lines.specs.Said.{word_of}
 use Rattle.sd_declare.specs.Declarations.{Thread, thread_number}
 use Rattle.sd_declare.specs.Kept.{thread_kept}

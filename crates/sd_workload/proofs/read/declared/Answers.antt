@@ -1,4 +1,4 @@
-use Rattle.std.proofs.Common.{refl, sym, ap, ◌∙◌, rules}
+use Rattle.std.proofs.Common.{ap, ◌∙◌, rules}
 use Rattle.sd_workload.specs.Texts.{unless_refused, Accepts}
 use Rattle.sd_workload.proofs.JudgedLemmas.{judged-end, fault-end, fault-along}
 use Rattle.sd_declare.specs.Kept.{declarations}

@@ -1,5 +1,3 @@
-use Rattle.std.proofs.Common.{refl, sym, ap, ◌∙◌}
-use Rattle.sd_declare.specs.Kept.{declarations}
 use Rattle.sd_tables.specs.TableText.{word_lines}
 use Rattle.sd_workload.proofs.SoundLemmas.{text-sound}
 use Rattle.sd_workload.proofs.read.read_work.Goals as goal

@@ -1,4 +1,4 @@
-use Rattle.std.proofs.Common.{◌≡◌, List, ℕ, length, map, set, get_or, refl, sym, ap, ◌∙◌, arith}
+use Rattle.std.proofs.Common.{List, ℕ, map, set, get_or, refl, ap, ◌∙◌, arith}
 use Rattle.sd_types.specs.declared.numbers.ThreadId.{ThreadId}
 use Rattle.sd_declare.specs.Declarations.{Thread}
 use Rattle.sd_declare.specs.Kept.{declarations, thread_kept}

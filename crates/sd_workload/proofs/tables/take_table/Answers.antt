@@ -1,4 +1,4 @@
-use Rattle.std.proofs.Common.{◌≡◌, List, ℕ, Option, Some, None, refl, sym, ap, ◌∙◌, subst}
+use Rattle.std.proofs.Common.{List, ℕ, Option, sym, ap, ◌∙◌, subst}
 use Rattle.std.specs.Prelude.{IfSome, IfNone}
 use Rattle.sd_tables.specs.declared.fault.TableFault.{TableFault}
 use Rattle.sd_tables.specs.TableText.{IsTableText, IsTableFault}

@@ -1,4 +1,3 @@
-use Rattle.std.proofs.Common.{arith}
 use Rattle.sd_declare.specs.Kept.{declarations}
 use Rattle.sd_workload.proofs.WorkLemmas.{few, most-ticks, most-pairs, most-ops, sets-fit, cpus-differ, cpu-left, set-names, lock-names, chan-names, thread-names, threads-fit}
 use Rattle.sd_workload.proofs.works.work.Goals as goal
