@@ -1,9 +1,10 @@
 //! Accounts of entries that were written down by hand, and their texts.
 
-ghost use Rattle.std.specs.Prelude.{◌≡◌, [], length, IsTrue, IfOk};
+ghost use Rattle.std.specs.Prelude.{◌≡◌, ◌<◌, ◌≤◌, [], length, map, sum_by, IsTrue, IfOk};
+ghost use Rattle.std.specs.List.{list_all};
 ghost use Rattle.sd_types.specs.NameWords.{is_name};
 ghost use Rattle.sd_types.specs.Ticks.{ts_ticks_fit, fixed_ticks_fit};
-ghost use Rattle.sd_types.specs.Works.{Declared, thread_fits};
+ghost use Rattle.sd_types.specs.Works.{Declared, is_distinct, same_bytes, thread_fits};
 
 use crate::Accounts;
 use arrayvec::ArrayVec;
@@ -72,13 +73,22 @@ fn chan(name: &[u8], kind: ChanKind) -> (Name, ChanKind)
     (Name::from_word(name), kind)
 }
 
-/// Two processors, two threads a and b, a mutex m, a rwlock w and a channel k.
-fn named(alloc: Global) -> Result<Work, AllocError> {
-    let first = thread(alloc, b"a")?;
-    let second = thread(alloc, b"b")?;
-    let mutex = lock(b"m", LockKind::Mutex);
-    let rwlock = lock(b"w", LockKind::Rwlock);
-    let chan_k = chan(b"k", ChanKind::Chan);
+/// A workload of these locks, channels and threads.
+fn work(
+    alloc: Global,
+    locks: List<(Name, LockKind)>,
+    chans: List<(Name, ChanKind)>,
+    threads: List<ThreadDecl>,
+) -> Result<Work, AllocError>
+    requires most_locks { length locks ≤ 4 }
+    requires most_chans { length chans ≤ 4 }
+    requires most_threads { length threads ≤ 4 }
+    requires lock_names { IsTrue (is_distinct same_bytes (map (λ l. l.0.text.items) locks)) }
+    requires chan_names { IsTrue (is_distinct same_bytes (map (λ k. k.0.text.items) chans)) }
+    requires thread_names { IsTrue (is_distinct same_bytes (map (λ t. t.name.text.items) threads)) }
+    requires most_ops { sum_by (λ t. length t.script.ops) threads ≤ 4 }
+    requires threads_fit { (d : Declared) → IsTrue (list_all (thread_fits d) threads) }
+{
     Ok(Work {
         cpus: 2,
         hz: 100,
@@ -87,10 +97,25 @@ fn named(alloc: Global) -> Result<Work, AllocError> {
         ts: ts_table(alloc)?,
         fx: fixed_table(alloc)?,
         rt: fixed_table(alloc)?,
-        locks: List::from_vec(Vec::from_array(alloc, [mutex, rwlock])?),
-        chans: List::from_vec(Vec::from_array(alloc, [chan_k])?),
-        threads: List::from_vec(Vec::from_array(alloc, [first, second])?),
+        locks,
+        chans,
+        threads,
     })
+}
+
+/// Two processors, two threads a and b, a mutex m, a rwlock w and a channel k.
+fn named(alloc: Global) -> Result<Work, AllocError> {
+    let first = thread(alloc, b"a")?;
+    let second = thread(alloc, b"b")?;
+    let mutex = lock(b"m", LockKind::Mutex);
+    let rwlock = lock(b"w", LockKind::Rwlock);
+    let chan_k = chan(b"k", ChanKind::Chan);
+    work(
+        alloc,
+        List::from_vec(Vec::from_array(alloc, [mutex, rwlock])?),
+        List::from_vec(Vec::from_array(alloc, [chan_k])?),
+        List::from_vec(Vec::from_array(alloc, [first, second])?),
+    )
 }
 
 const A: ThreadId = ThreadId(0);
@@ -136,84 +161,86 @@ fn state(alloc: Global, first: Place, second: Place) -> Result<State, AllocError
     })
 }
 
-/// Entries of each kind that counts, by processor 0 and 1.
-const EVENTS: [(u16, Event); 20] = [
-    (0, Event::Dispatch { t: A, p: 60 }),
-    (0, Event::Tick { t: A }),
-    (1, Event::Idle),
-    (
-        1,
-        Event::Steal {
-            victim: CpuId(0),
-            t: B,
-            p: 60,
-        },
-    ),
-    (1, Event::Spin { t: B, l: M }),
-    (1, Event::Sleep { t: B, k: K }),
-    (
-        0,
-        Event::Wake {
-            t: A,
-            k: K,
-            woken: Some((B, TO)),
-        },
-    ),
-    (
-        0,
-        Event::Wake {
-            t: A,
-            k: K,
-            woken: None,
-        },
-    ),
-    (
-        0,
-        Event::Rouse {
-            k: K,
-            woken: Some((B, TO)),
-        },
-    ),
-    (0, Event::Rouse { k: K, woken: None }),
-    (1, Event::Napend { t: B, at: TO }),
-    (1, Event::Unblock { l: M, s: A, at: TO }),
-    (1, Event::Grant { l: W, s: B, at: TO }),
-    (
-        1,
-        Event::SemaVWake {
-            t: A,
-            k: K,
-            s: B,
-            at: TO,
-        },
-    ),
-    (
-        0,
-        Event::Preempt {
-            t: A,
-            end: End::Back,
-        },
-    ),
-    (
-        0,
-        Event::Away {
-            t: A,
-            cpu: CpuId(1),
-        },
-    ),
-    (0, Event::Block { t: A, l: M }),
-    (
-        0,
-        Event::Will {
-            l: M,
-            o: B,
-            p: 60,
-            at: None,
-        },
-    ),
-    (1, Event::Idle),
-    (1, Event::Tick { t: B }),
-];
+/// Events of each kind that counts, and the processors that make them.
+fn made(i: u8) -> (u16, Event) {
+    match i {
+        0 => (0, Event::Dispatch { t: A, p: 60 }),
+        1 => (0, Event::Tick { t: A }),
+        2 => (1, Event::Idle),
+        3 => (
+            1,
+            Event::Steal {
+                victim: CpuId(0),
+                t: B,
+                p: 60,
+            },
+        ),
+        4 => (1, Event::Spin { t: B, l: M }),
+        5 => (1, Event::Sleep { t: B, k: K }),
+        6 => (
+            0,
+            Event::Wake {
+                t: A,
+                k: K,
+                woken: Some((B, TO)),
+            },
+        ),
+        7 => (
+            0,
+            Event::Wake {
+                t: A,
+                k: K,
+                woken: None,
+            },
+        ),
+        8 => (
+            0,
+            Event::Rouse {
+                k: K,
+                woken: Some((B, TO)),
+            },
+        ),
+        9 => (0, Event::Rouse { k: K, woken: None }),
+        10 => (1, Event::Napend { t: B, at: TO }),
+        11 => (1, Event::Unblock { l: M, s: A, at: TO }),
+        12 => (1, Event::Grant { l: W, s: B, at: TO }),
+        13 => (
+            1,
+            Event::SemaVWake {
+                t: A,
+                k: K,
+                s: B,
+                at: TO,
+            },
+        ),
+        14 => (
+            0,
+            Event::Preempt {
+                t: A,
+                end: End::Back,
+            },
+        ),
+        15 => (
+            0,
+            Event::Away {
+                t: A,
+                cpu: CpuId(1),
+            },
+        ),
+        16 => (0, Event::Block { t: A, l: M }),
+        17 => (
+            0,
+            Event::Will {
+                l: M,
+                o: B,
+                p: 60,
+                at: None,
+            },
+        ),
+        18 => (1, Event::Idle),
+        _ => (1, Event::Tick { t: B }),
+    }
+}
 
 const TEXT: &[u8] =
     b"accounts\nthread a ticks 1 dispatches 1 preempts 2 wakes 1 waiting m\nthread b ticks 2 dispatches 1 preempts 0 wakes 5 waiting w\ncpu 0 ticks 1 idle 0\ncpu 1 ticks 4 idle 2\ncycle a m b w\n";
@@ -226,11 +253,12 @@ fn a_run_with_a_cycle(rt: HostRuntime) -> Result<(), Fail> {
     let alloc = rt.alloc();
     let work = named(alloc)?;
     let mut accounts = Accounts::new(alloc, &work)?;
-    for (number, (cpu, event)) in EVENTS.iter().enumerate() {
+    for number in 0..20 {
+        let (cpu, event) = made(number);
         accounts.add(&Entry {
-            number: number as u64,
-            cpu: CpuId(*cpu),
-            event: *event,
+            number: u64::from(number),
+            cpu: CpuId(cpu),
+            event,
             hints: None,
         });
     }
