@@ -85,28 +85,75 @@ fn worked_runs(rt: HostRuntime) -> Result<(), Fail> {
 const USAGE: &str =
     "usage: dispsim run | run --seed N | run --threads | sum | gen N | tables | audit\n";
 
-const NOT_BUILT: &str = "refused: not built\n";
+const SUMMARY: &str =
+    "entries 7\nticks 5\nidle 2\ndispatches 1\nsteals 0\npreempts 0\nwakes 0\nblocks 0\nwills 0\nended 1\n";
+
+/// Two threads of which each waits for the mutex that the other owns.
+const CLOSED_CHAIN: &str =
+    "limit 3\nmutex p\nmutex q\nthread a fx 60 10 inf\nthread b fx 60 10 inf\nthread d fx 60 5 inf\nscript a\nenter p\nnap 1\nenter q\nexit q\nexit p\nend\nscript b\nenter q\nnap 1\nenter p\nexit p\nexit q\nend\nscript d\nnap 2\nenter p\nexit p\nend\n";
+
+const CLOSED_CHAIN_JOURNAL: &str =
+    "0 c0 dispatch a 10\n1 c0 enter a p\n2 c0 nap a\n3 c0 dispatch b 10\n4 c0 enter b q\n5 c0 nap b\n6 c0 dispatch d 5\n7 c0 nap d\n8 c0 idle\n9 c0 napend a to c0\n10 c0 napend b to c0\n11 c0 dispatch a 10\n12 c0 block a q\n13 c0 will q b 10\n14 c0 dispatch b 10\n15 c0 block b p\n16 c0 will p a 10\n17 c0 will q b 10\n18 c0 idle\n19 c0 napend d to c0\n20 c0 dispatch d 5\n21 c0 block d p\n22 c0 will p a 10\n23 c0 will q b 10\n24 c0 idle\naccounts\nthread a ticks 0 dispatches 2 preempts 0 wakes 1 waiting q\nthread b ticks 0 dispatches 2 preempts 0 wakes 1 waiting p\nthread d ticks 0 dispatches 2 preempts 0 wakes 1 waiting p\ncpu 0 ticks 3 idle 3\ncycle a q b p\n";
 
 #[test]
 fn refusals_and_failing_streams(rt: HostRuntime) -> Result<(), Fail> {
     let alloc = rt.alloc();
     // The arguments, the input, the reads that fail, the room of the output and the writes that fail; then the status,
     // the output and the error output.
-    let cases: [(&str, &str, &[u64], usize, &[u64], u8, &str, &str); 9] = [
+    let cases: [(&str, &str, &[u64], usize, &[u64], u8, &str, &str); 12] = [
         ("", SMALLEST, &[], 4096, &[], 1, "", USAGE),
         ("run fast", SMALLEST, &[], 4096, &[], 1, "", USAGE),
         ("fast", SMALLEST, &[1], 4096, &[1], 1, "", USAGE),
-        ("run", "", &[], 4096, &[], 2, "", NOT_BUILT),
-        ("run", "limit 100001\n", &[], 4096, &[], 2, "", NOT_BUILT),
         (
             "run",
-            "limit 1\nthread a rt 5 def\n",
+            "",
             &[],
             4096,
             &[],
             2,
             "",
-            NOT_BUILT,
+            "refused: line 1: syntax\n",
+        ),
+        (
+            "run",
+            "limit 100001\n",
+            &[],
+            4096,
+            &[],
+            2,
+            "",
+            "refused: line 1: range\n",
+        ),
+        (
+            "tables",
+            "limit 1\nthread a rt 60 def\n",
+            &[],
+            4096,
+            &[],
+            2,
+            "",
+            "refused: line 2: range\n",
+        ),
+        (
+            "run --seed 7",
+            SMALLEST,
+            &[],
+            4096,
+            &[],
+            0,
+            SMALLEST_JOURNAL,
+            "",
+        ),
+        ("sum", SMALLEST, &[], 4096, &[], 0, SUMMARY, ""),
+        (
+            "run",
+            CLOSED_CHAIN,
+            &[],
+            4096,
+            &[],
+            6,
+            CLOSED_CHAIN_JOURNAL,
+            "blocking cycle\n",
         ),
         ("run", SMALLEST, &[2], 4096, &[], 3, "", "read fault\n"),
         (
