@@ -1,0 +1,3 @@
+mod DifferenceLemmas
+mod EnterLemmas
+mod ReadLemmas
