@@ -10,3 +10,6 @@ mod lines;
 mod ranges;
 
 pub use audits::{AuditFault, audit};
+
+#[cfg(test)]
+mod tests;

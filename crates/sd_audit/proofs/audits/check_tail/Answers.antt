@@ -13,8 +13,8 @@ returns-clause-journal c =
     let r = c.requires.read in
     let written = c.in_ok-write_accounts.ensures.ok r.entries r.taken in
     let tail : drop c.args.at.from text ≡ tail_text w r.entries c.args.s.now =
-        sym (take_rest text c.args.at.from) ∙ c.in-None.ensures.none ∙ c.deref.ensures.value ∙ written
-        ∙ ap (λ (l : List ℕ). l ++ tail_text w r.entries c.args.s.now) c.new-tail.ensures.items in
+    sym (take_rest text c.args.at.from) ∙ c.in-None.ensures.none ∙ c.deref.ensures.value ∙ written
+    ∙ ap (λ (l : List ℕ). l ++ tail_text w r.entries c.args.s.now) c.new-tail.ensures.items in
     record {
       entries = r.entries;
       run = r.told.run;

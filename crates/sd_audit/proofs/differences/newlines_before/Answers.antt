@@ -13,13 +13,13 @@ loop-i-preserved c =
     let bound = inv.bound in
     elim c.if-text-i-eq10.branch [
       | then-text-i-eq10 w ↦
-        let is = w.newlines-is in
-        let more = at_newline xs ys l.i c.loop-i-test.true c.if-i-other.true c.if-text-i.true w.if-text-i-eq10.true in
-        record { within = omega (arith, c.loop-i-test.true); other_within = omega (arith, c.if-i-other.true); all = omega (arith, is, more, all); bound = omega (arith, is, bound) }
+          let is = w.newlines-is in
+          let more = at_newline xs ys l.i c.loop-i-test.true c.if-i-other.true c.if-text-i.true w.if-text-i-eq10.true in
+          record { within = omega (arith, c.loop-i-test.true); other_within = omega (arith, c.if-i-other.true); all = omega (arith, is, more, all); bound = omega (arith, is, bound) }
       | else-text-i-eq10 w ↦
-        let is = w.newlines-is in
-        let more = at_byte xs ys l.i c.loop-i-test.true c.if-i-other.true c.if-text-i.true w.if-text-i-eq10.false in
-        record { within = omega (arith, c.loop-i-test.true); other_within = omega (arith, c.if-i-other.true); all = omega (arith, is, more, all); bound = omega (arith, is, bound) }
+          let is = w.newlines-is in
+          let more = at_byte xs ys l.i c.loop-i-test.true c.if-i-other.true c.if-text-i.true w.if-text-i-eq10.false in
+          record { within = omega (arith, c.loop-i-test.true); other_within = omega (arith, c.if-i-other.true); all = omega (arith, is, more, all); bound = omega (arith, is, bound) }
     ]
 
 pub returns-else-text-i-clause-value : goal.returns-else-text-i-clause-value

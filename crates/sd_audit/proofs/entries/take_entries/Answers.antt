@@ -14,7 +14,7 @@ pub returns-in_err-entry-clause-fault : goal.returns-in_err-entry-clause-fault
 returns-in_err-entry-clause-fault c =
     let l = c.lines in
     let fault = fault_next c.args.work.now c.args.text.now l.s l.accounts l.at.number l.at.from _ _ l.invariant.read c.in-Some.ensures.line
-        (λ same. false≢true (sym c.if-is_accounts.false ∙ c.is_accounts.ensures.1 same)) _ c.in_err-entry.ensures.fault in
+    (λ same. false≢true (sym c.if-is_accounts.false ∙ c.is_accounts.ensures.1 same)) _ c.in_err-entry.ensures.fault in
     search rules
 
 pub lines-preserved : goal.lines-preserved
