@@ -5,21 +5,21 @@ use Rattle.std.proofs.lemmas.List.{drop_more}
 use Rattle.std.proofs.Math.ListN.{drop_of_length-le}
 use Rattle.std.proofs.lemmas.Bool.Decides.{nat_tests}
 use Rattle.sd_text.specs.Lines.{is_newline}
-use Rattle.sd_audit.specs.Audits.{newlines_before}
+use Rattle.sd_audit.specs.Differences.{newlines_before}
 
-same_first : (x y : ℕ) (xs ys : List ℕ) → (x == y) ≡ true → newlines_before (x ∷ xs) (y ∷ ys) ≡ cond (is_newline x) (1 + newlines_before xs ys) (newlines_before xs ys)
+pub same_first : (x y : ℕ) (xs ys : List ℕ) → (x == y) ≡ true → newlines_before (x ∷ xs) (y ∷ ys) ≡ cond (is_newline x) (1 + newlines_before xs ys) (newlines_before xs ys)
 unfolding newlines_before
 same_first x y xs ys e = rw e refl
 
-other_first : (x y : ℕ) (xs ys : List ℕ) → (x == y) ≡ false → newlines_before (x ∷ xs) (y ∷ ys) ≡ 0
+pub other_first : (x y : ℕ) (xs ys : List ℕ) → (x == y) ≡ false → newlines_before (x ∷ xs) (y ∷ ys) ≡ 0
 unfolding newlines_before
 other_first x y xs ys e = rw e refl
 
-none_left : (ys : List ℕ) → newlines_before [] ys ≡ 0
+pub none_left : (ys : List ℕ) → newlines_before [] ys ≡ 0
 unfolding newlines_before
 none_left ys = refl
 
-no_other : (xs : List ℕ) → newlines_before xs [] ≡ 0
+pub no_other : (xs : List ℕ) → newlines_before xs [] ≡ 0
 unfolding newlines_before
 no_other [] = refl
 no_other (x ∷ xs) = refl

@@ -1,8 +1,9 @@
 -- What the audit of a journal says: that the text is the journal of a complete run, or which line, entry or processor is
 -- the first at fault.
 -- Source: this project's own.
-use Rattle.std.specs.Prelude.{◌≡◌, ◌≢◌, ℕ, ◌+◌, ◌-◌, ◌<◌, ◌==◌, List, [], ◌∷◌, ◌++◌, length, map, take, codes, Option, None, IsSome, if◌then◌else◌, ⊤}
-use Rattle.std.specs.List.{All}
+use Rattle.std.specs.Prelude.{◌≡◌, ◌≢◌, ℕ, ◌+◌, ◌-◌, ◌<◌, List, [], ◌∷◌, ◌++◌, length, map, take, codes, Option, None, IsSome, if◌then◌else◌, ⊤}
+use Rattle.std.specs.List.{All, onto_first}
+use Rattle.sd_types.specs.Works.{same_bytes}
 use Rattle.sd_types.specs.declared.numbers.CpuId.{CpuId}
 use Rattle.sd_types.specs.declared.events.Hints.{Hints}
 use Rattle.sd_types.specs.declared.events.Entry.{Entry}
@@ -68,18 +69,23 @@ pub record IsIncomplete (w : Work) (text : List ℕ) (c : CpuId) : Type 0 where
   pub has : IsSome (next w (final w (opening w) entries) c hints)
   pub least : (d : CpuId) → d.0 < c.0 → (h : Option Hints) → next w (final w (opening w) entries) d h ≡ None
 
--- how many newlines stand before the first byte in which two texts differ, or before the end of the shorter
-unfoldable pub newlines_before : List ℕ → List ℕ → ℕ
-newlines_before [] ys = 0
-newlines_before (x ∷ xs) [] = 0
-newlines_before (x ∷ xs) (y ∷ ys) = if x == y then (if is_newline x then 1 + newlines_before xs ys else newlines_before xs ys) else 0
+-- the lines of a text with their newlines; the last may lack its own
+unfoldable pub whole_lines : List ℕ → List (List ℕ)
+whole_lines [] = []
+whole_lines (byte ∷ bytes) = if is_newline byte then (byte ∷ []) ∷ whole_lines bytes else onto_first byte (whole_lines bytes)
+
+-- how many lines two texts have in common before the first in which they differ, or which one of them lacks
+unfoldable pub common_lines : List (List ℕ) → List (List ℕ) → ℕ
+common_lines [] ys = 0
+common_lines (x ∷ xs) [] = 0
+common_lines (x ∷ xs) (y ∷ ys) = if same_bytes x y then 1 + common_lines xs ys else 0
 
 -- what a journal has behind its entries
 abbrev pub tail_text : Work → List Entry → State → List ℕ
 tail_text w es s = accounts_text w es s ++ cycles_text w s
 
--- all lines before `accounts` tell a complete run, and what stands from there on is not what its journal has: they differ first in
--- the line of this number
+-- all lines before `accounts` tell a complete run, and what stands from there on is not what its journal has: the line of this
+-- number is the first that differs, is missing, is too much or lacks its newline
 pub record IsOtherTail (w : Work) (text : List ℕ) (number : ℕ) : Type 0 where
   pub entries : List Entry
   pub rest : List (List ℕ)
@@ -88,7 +94,7 @@ pub record IsOtherTail (w : Work) (text : List ℕ) (number : ℕ) : Type 0 wher
   pub complete : IsComplete w (final w (opening w) entries)
   pub parts : text ≡ entries_text w entries ++ tail
   pub differs : tail ≢ tail_text w entries (final w (opening w) entries)
-  pub counted : number ≡ length entries + newlines_before tail (tail_text w entries (final w (opening w) entries)) + 1
+  pub counted : number ≡ length entries + common_lines (whole_lines tail) (whole_lines (tail_text w entries (final w (opening w) entries))) + 1
 
 abbrev pub IsFault : Work → List ℕ → AuditFault → Type 0
 IsFault w text (NotAnEntry number) = IsNotAnEntry w text number

@@ -6,10 +6,12 @@ mod audits;
 mod complete;
 mod differences;
 mod entries;
+mod laws;
 mod lines;
 mod ranges;
 
 pub use audits::{AuditFault, audit};
+pub use laws::{journals_have_no_fault, texts_have_one_fault};
 
 #[cfg(test)]
 mod tests;

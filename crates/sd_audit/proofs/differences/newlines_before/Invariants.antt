@@ -1,5 +1,5 @@
 use Rattle.std.proofs.Common.{◌≡◌, ◌+◌, ◌-◌, ◌≤◌, length, drop}
-use Rattle.sd_audit.specs.Audits.{newlines_before}
+use Rattle.sd_audit.specs.Differences.{newlines_before}
 use Rattle.sd_audit.proofs.differences.newlines_before.Given as goal
 
 -- those so far and those from here on are all
