@@ -1,6 +1,6 @@
 -- A text has one verdict: what it tells up to its first fault is one list of entries.
 use Rattle.std.proofs.Common.{◌≡◌, Bool, true, false, ℕ, ◌+◌, ◌<◌, ◌⊎◌, inl, inr, List, [], ◌∷◌, ◌++◌, length, map, append_assoc, None, Option, refl, sym, ap, subst, ◌∙◌, arith}
-use Rattle.std.specs.Prelude.{codes, IsSome, nat_lt}
+use Rattle.std.specs.Prelude.{Result, Ok, Err, IfErr, codes, IsSome, nat_lt}
 use Rattle.std.proofs.lemmas.Bool.Decides.{nat_tests}
 use Rattle.std.specs.List.{All}
 use Rattle.std.proofs.lemmas.List.{append_cancel_left}
@@ -245,3 +245,8 @@ module _ (w : Work) where
       absurd (not_complete text b q p.entries (one_told text q.entries p.entries _ _ (told_incomplete text b q) (told_tail text a p)).0 p.complete)
   one_fault text (Tail a) (Tail b) p q mf mg =
       ap Tail (one_tail text a b p q (one_told text p.entries q.entries _ _ (told_tail text a p) (told_tail text b q)).0)
+
+  pub refused_rightly : {T : Type 0} (text : List ℕ) (r : Result T AuditFault) → IfErr r (IsFault w text)
+      → IfErr r (λ fault. (s : State) (n : ℕ) → IsJournal w text s n → fault ≡ Memory)
+  refused_rightly text (Ok x) h = tt
+  refused_rightly text (Err fault) h = λ s n j. no_fault text s n fault j h

@@ -1,7 +1,8 @@
 //! The judgement of a whole text.
 
-ghost use Rattle.std.specs.Prelude.{◌≡◌, ◌+◌, ◌<◌, ◌≤◌, ◌^◌, IfOk, IfErr, OnOk, length, drop};
+ghost use Rattle.std.specs.Prelude.{◌≡◌, ℕ, ◌+◌, ◌<◌, ◌≤◌, ◌^◌, IfOk, IfErr, OnOk, length, drop};
 ghost use Rattle.sd_full.specs.Runs.{IsComplete};
+ghost use Rattle.sd_machine.specs.declared.states.State.{State as StateValue};
 ghost use Rattle.sd_sound.specs.Laws.{HasSmallCounts};
 ghost use Rattle.sd_audit.specs.declared.audits.AuditFault.TheVariants.{Memory};
 ghost use Rattle.sd_audit.specs.Audits.{IsFault, IsJournal};
@@ -91,8 +92,8 @@ fn check_rest(
     }
 }
 
-/// The final state and the number of entries of the complete run whose journal the text is, or what is first at fault.
-pub fn audit(alloc: Global, work: &Work, text: &[u8]) -> Result<(State, u64), AuditFault>
+// Reads the text once, from the initial state on.
+fn judge(alloc: Global, work: &Work, text: &[u8]) -> Result<(State, u64), AuditFault>
     requires { length text.now < 2 ^ 31 }
     ensures journal { IfOk result (λ found. IsJournal work.now text.now found.0 found.1) }
     ensures fault { IfErr result (IsFault work.now text.now) }
@@ -102,4 +103,15 @@ pub fn audit(alloc: Global, work: &Work, text: &[u8]) -> Result<(State, u64), Au
     let at = take_entries(alloc, work, &mut s, &mut accounts, text)?;
     check_rest(alloc, work, &s, &accounts, text, at)?;
     Ok((s, at.number))
+}
+
+/// The final state and the number of entries of the complete run whose journal the text is, or what is first at fault. A
+/// text that is such a journal is refused only where memory runs out.
+pub fn audit(alloc: Global, work: &Work, text: &[u8]) -> Result<(State, u64), AuditFault>
+    requires { length text.now < 2 ^ 31 }
+    ensures journal { IfOk result (λ found. IsJournal work.now text.now found.0 found.1) }
+    ensures fault { IfErr result (IsFault work.now text.now) }
+    ensures exact { IfErr result (λ fault. (s : StateValue) (n : ℕ) → IsJournal work.now text.now s n → fault ≡ Memory) }
+{
+    judge(alloc, work, text)
 }
