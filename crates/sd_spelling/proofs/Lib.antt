@@ -1,5 +1,6 @@
 pub mod LineLemmas
 pub mod NameLemmas
+pub mod PlainLemmas
 pub mod ReadLemmas
 pub mod SpellLemmas
 pub mod WordLemmas

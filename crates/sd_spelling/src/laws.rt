@@ -1,9 +1,10 @@
 //! What the line of an entry tells.
 
-ghost use Rattle.std.specs.Prelude.{◌≡◌, ◌++◌, ◌∷◌, []};
+ghost use Rattle.std.specs.Prelude.{◌≡◌, ◌++◌, ◌∷◌, [], IsTrue};
 ghost use Rattle.std.specs.List.{join_with_byte};
 ghost use Rattle.sd_types.specs.declared.events.Entry.{Entry};
 ghost use Rattle.sd_types.specs.declared.works.Work.{Work};
+ghost use Rattle.sd_text.specs.Lines.{is_line};
 ghost use Rattle.sd_full.specs.Texts.{entry_text};
 ghost use Rattle.sd_spelling.specs.EntryWords.{entry_words};
 ghost use Rattle.sd_spelling.specs.Fitting.{IsSpelled};
@@ -17,4 +18,9 @@ pub fn lines_tell_entries()
 /// A line is the entry's words with single spaces between them, and a newline.
 pub fn lines_are_words()
     ensures { (w : Work) (e : Entry) → entry_text w e ≡ join_with_byte 32 (entry_words w e) ++ 10 ∷ [] }
+{}
+
+/// The words of an entry with single spaces between them stand in one line: no byte of them is a newline.
+pub fn words_stand_in_lines()
+    ensures { (w : Work) (e : Entry) → IsSpelled w e → IsTrue (is_line (join_with_byte 32 (entry_words w e))) }
 {}

@@ -3,4 +3,4 @@
 
 mod laws;
 
-pub use laws::{lines_are_words, lines_tell_entries};
+pub use laws::{lines_are_words, lines_tell_entries, words_stand_in_lines};

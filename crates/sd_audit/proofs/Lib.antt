@@ -1,0 +1,6 @@
+mod CommonLemmas
+mod DifferenceLemmas
+mod EnterLemmas
+mod ExactLemmas
+mod LineLemmas
+mod ReadLemmas

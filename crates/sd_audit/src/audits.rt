@@ -1,0 +1,117 @@
+//! The judgement of a whole text.
+
+ghost use Rattle.std.specs.Prelude.{◌≡◌, ℕ, ◌+◌, ◌<◌, ◌≤◌, ◌^◌, IfOk, IfErr, OnOk, length, drop};
+ghost use Rattle.sd_full.specs.Runs.{IsComplete};
+ghost use Rattle.sd_machine.specs.declared.states.State.{State as StateValue};
+ghost use Rattle.sd_sound.specs.Laws.{HasSmallCounts};
+ghost use Rattle.sd_audit.specs.declared.audits.AuditFault.TheVariants.{Memory};
+ghost use Rattle.sd_audit.specs.Audits.{IsFault, IsJournal};
+ghost use Rattle.sd_audit.specs.Reading.{HasRead, IsAtAccounts};
+
+use crate::complete::first_to_enter;
+use crate::differences::first_difference;
+use crate::entries::{Place, take_entries};
+use sd_accounts::Accounts;
+use sd_machine::State;
+use sd_opening::opening;
+use sd_types::{CpuId, Work};
+use std::alloc::{AllocError, Global};
+
+/// Why a text is not the journal of a complete run. Lines are counted from 1, entries from 0.
+#[derive(Clone, Copy, PartialEq, Eq)]
+pub enum AuditFault {
+    /// The first line at fault before the line `accounts` is no entry's; where no line is `accounts` and none is at fault,
+    /// it is the line after the last.
+    NotAnEntry { line: u32 },
+    /// The first line at fault before the line `accounts` is that of an entry that is no step there, or whose number is not
+    /// its place; `number` is its place.
+    Illegal { number: u64 },
+    /// The entries are a run, but not a complete one: this is the least processor that has an entry.
+    Incomplete { cpu: CpuId },
+    /// The run is complete, and in this line what stands from `accounts` on differs first from what its journal has there.
+    Tail { line: u32 },
+    /// Out of memory.
+    Memory,
+}
+
+impl From<AllocError> for AuditFault {
+    ghost from_gives = { λ _ e. e ≡ Memory };
+
+    fn from(_error: AllocError) -> AuditFault {
+        AuditFault::Memory
+    }
+}
+
+/// Judges what stands from the line `accounts` on.
+fn check_tail(
+    alloc: Global,
+    work: &Work,
+    s: &State,
+    accounts: &Accounts,
+    text: &[u8],
+    at: Place,
+) -> Result<(), AuditFault>
+    requires text { length text.now < 2 ^ 31 }
+    requires read { HasRead work.now text.now s.now accounts.now at.number at.from }
+    requires accounts { IsAtAccounts text.now at.from }
+    requires complete { IsComplete work.now s.now }
+    requires bound { at.number ≤ at.from }
+    ensures journal { OnOk result (IsJournal work.now text.now s.now at.number) }
+    ensures fault { IfErr result (IsFault work.now text.now) }
+{
+    let mut tail = Vec::new(alloc);
+    accounts.write_accounts(alloc, work, s, &mut tail)?;
+    match first_difference(&text[at.from..], &tail) {
+        Some(newlines) => Err(AuditFault::Tail {
+            line: at.number as u32 + newlines as u32 + 1,
+        }),
+        None => Ok(()),
+    }
+}
+
+/// Judges what stands behind the entries of a run.
+fn check_rest(
+    alloc: Global,
+    work: &Work,
+    s: &State,
+    accounts: &Accounts,
+    text: &[u8],
+    at: Place,
+) -> Result<(), AuditFault>
+    requires small { HasSmallCounts work.now }
+    requires text { length text.now < 2 ^ 31 }
+    requires read { HasRead work.now text.now s.now accounts.now at.number at.from }
+    requires accounts { IsAtAccounts text.now at.from }
+    requires bound { at.number ≤ at.from }
+    ensures journal { OnOk result (IsJournal work.now text.now s.now at.number) }
+    ensures fault { IfErr result (IsFault work.now text.now) }
+{
+    match first_to_enter(work, s, at.number) {
+        Some(cpu) => Err(AuditFault::Incomplete { cpu }),
+        None => check_tail(alloc, work, s, accounts, text, at),
+    }
+}
+
+// Reads the text once, from the initial state on.
+fn judge(alloc: Global, work: &Work, text: &[u8]) -> Result<(State, u64), AuditFault>
+    requires { length text.now < 2 ^ 31 }
+    ensures journal { IfOk result (λ found. IsJournal work.now text.now found.0 found.1) }
+    ensures fault { IfErr result (IsFault work.now text.now) }
+{
+    let mut s = opening(alloc, work)?;
+    let mut accounts = Accounts::new(alloc, work)?;
+    let at = take_entries(alloc, work, &mut s, &mut accounts, text)?;
+    check_rest(alloc, work, &s, &accounts, text, at)?;
+    Ok((s, at.number))
+}
+
+/// The final state and the number of entries of the complete run whose journal the text is, or what is first at fault. A
+/// text that is such a journal is refused only where memory runs out.
+pub fn audit(alloc: Global, work: &Work, text: &[u8]) -> Result<(State, u64), AuditFault>
+    requires { length text.now < 2 ^ 31 }
+    ensures journal { IfOk result (λ found. IsJournal work.now text.now found.0 found.1) }
+    ensures fault { IfErr result (IsFault work.now text.now) }
+    ensures exact { IfErr result (λ fault. (s : StateValue) (n : ℕ) → IsJournal work.now text.now s n → fault ≡ Memory) }
+{
+    judge(alloc, work, text)
+}

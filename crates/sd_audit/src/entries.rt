@@ -1,0 +1,58 @@
+//! The lines before the accounts.
+
+ghost use Rattle.std.specs.Prelude.{◌≡◌, [], ◌+◌, ◌<◌, ◌≤◌, ◌^◌, IfOk, IfErr, length, drop};
+ghost use Rattle.sd_machine.specs.Opening.{opening};
+ghost use Rattle.sd_sound.specs.Laws.{HasSmallCounts};
+ghost use Rattle.sd_accounts.specs.Counters.{HasTaken};
+ghost use Rattle.sd_audit.specs.Audits.{IsFault};
+ghost use Rattle.sd_audit.specs.Reading.{HasRead, IsAtAccounts};
+
+use crate::audits::AuditFault;
+use crate::lines::{is_accounts, take_line};
+use sd_accounts::Accounts;
+use sd_machine::State;
+use sd_text::next_line;
+use sd_types::Work;
+use std::alloc::Global;
+
+/// How many entries were read, and where the line `accounts` begins.
+#[derive(Clone, Copy)]
+pub struct Place {
+    pub number: u64,
+    pub from: usize,
+}
+
+/// Reads the lines before `accounts`, and makes their entries on the initial state.
+pub fn take_entries(
+    alloc: Global,
+    work: &Work,
+    s: &mut State,
+    accounts: &mut Accounts,
+    text: &[u8],
+) -> Result<Place, AuditFault>
+    requires text { length text.now < 2 ^ 31 }
+    requires small { HasSmallCounts work.now }
+    requires start { s.old ≡ opening work.now }
+    requires none { HasTaken work.now [] accounts.old }
+    ensures read { IfOk result (λ at. HasRead work.now text.now s.new accounts.new at.number at.from) }
+    ensures accounts { IfOk result (λ at. IsAtAccounts text.now at.from) }
+    ensures bound { IfOk result (λ at. at.number ≤ at.from) }
+    ensures fault { IfErr result (IsFault work.now text.now) }
+{
+    let mut at = Place { number: 0, from: 0 };
+    'lines: while let Some((start, end)) = next_line(text, at.from) {
+        let line = &text[start..end];
+        if is_accounts(line) {
+            return Ok(at);
+        }
+        let entry = take_line(alloc, work, s, line, at.number)?;
+        accounts.add(&entry);
+        at = Place {
+            number: at.number + 1,
+            from: end + 1,
+        };
+    }
+    Err(AuditFault::NotAnEntry {
+        line: at.number as u32 + 1,
+    })
+}
