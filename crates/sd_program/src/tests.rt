@@ -7,7 +7,7 @@ use crate::top::{serial, start};
 use sd_rounds::{Turns, run_rounds};
 use sd_steps::replay;
 use sd_text::{MemorySink, MemorySource, read_all};
-use sd_work::read_work;
+use sd_workload::read_work;
 use std::alloc::{AllocError, Global};
 use std::io;
 use std::io::ErrorKind;
