@@ -1,3 +1,4 @@
 pub mod CompleteLemmas
 pub mod OrderLemmas
 pub mod RoundLemmas
+pub mod SerialLemmas

@@ -3,8 +3,10 @@
 //! are drawn.
 #![tactic(auto)]
 
+mod laws;
 mod orders;
 mod rounds;
 
+pub use laws::one_serial;
 pub use orders::Turns;
 pub use rounds::{Finished, MOST_ENTRIES, run_rounds};
