@@ -122,7 +122,7 @@ pub fn serial<S: Source, K: Sink, E: Sink, G: Gate>(
     tell(carry_out(alloc, arguments, input, out), err)
 }
 
-/// The program: as `serial`. Runs on threads of the host are none of its arguments yet, so `rt` starts none.
+/// The program: as `serial`. `run --threads` goes in rounds as `run` does, so `rt` starts no thread.
 pub fn dispsim<R: Threads + Wait + Sync, S: Source, K: Sink, E: Sink, G: Gate>(
     _rt: &R,
     alloc: Global,
