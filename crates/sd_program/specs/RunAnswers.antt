@@ -14,11 +14,11 @@ use Rattle.sd_range.specs.There.{ThreadsAreThere}
 use Rattle.sd_rounds.specs.Orders.{orders_of}
 use Rattle.sd_rounds.specs.Rounds.{IsLongSerial}
 use Rattle.sd_rounds.specs.declared.orders.Turns.{Turns}
-use Rattle.sd_program.specs.declared.answers.Answer.{Answer}
-use Rattle.sd_program.specs.declared.answers.Answer.TheVariants.{Done, WriteFault, OutOfMemory, Blocked, TooLong}
+use Rattle.sd_answers.specs.declared.answers.Answer.{Answer}
+use Rattle.sd_answers.specs.declared.answers.Answer.TheVariants.{Done, WriteFault, OutOfMemory, Blocked, TooLong}
 use Rattle.sd_program.specs.declared.forms.Form.{Form}
 use Rattle.sd_program.specs.Forms.{turns_of, text_of}
-use Rattle.sd_program.specs.StreamChanges.{StreamChange, HasFault, HasNoFault, IsUntouched, AppendsPart}
+use Rattle.sd_answers.specs.StreamChanges.{StreamChange, HasFault, HasNoFault, IsUntouched, AppendsPart}
 
 -- the state after the last entry
 abbrev pub final_state : Work → List Entry → State

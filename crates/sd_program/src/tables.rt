@@ -2,11 +2,11 @@
 
 ghost use Rattle.std.specs.Prelude.{◌≡◌, ◌++◌, OnOk, codes};
 ghost use Rattle.sd_gen.specs.Generated.{generated};
-ghost use Rattle.sd_program.specs.StreamChanges.{Puts};
+ghost use Rattle.sd_answers.specs.StreamChanges.{Puts};
 ghost use Rattle.sd_program.specs.TableTexts.{block_text, tables_text};
 ghost use Rattle.sd_tables.specs.TableSpelling.{fixed_text, ts_text};
 
-use crate::writing::{Unwritten, put_text};
+use sd_answers::{Unwritten, put_text};
 use sd_gen::generate;
 use sd_tables::{write_fixed, write_ts};
 use sd_text::Sink;

@@ -11,10 +11,10 @@ use Rattle.sd_rounds.specs.Orders.{orders_of}
 use Rattle.sd_rounds.specs.Rounds.{IsLongSerial}
 use Rattle.sd_rounds.specs.declared.orders.Turns.{Turns}
 use Rattle.sd_rounds.specs.declared.rounds.Finished.{Finished}
-use Rattle.sd_program.specs.Answers.{stop_answer, unwritten_answer}
+use Rattle.sd_answers.specs.Answers.{stop_answer, unwritten_answer}
 use Rattle.sd_program.specs.Forms.{turns_of}
 use Rattle.sd_program.specs.RunAnswers.{IsTheRun}
-use Rattle.sd_program.specs.StreamChanges.{change_of}
+use Rattle.sd_answers.specs.StreamChanges.{change_of}
 use Rattle.sd_program.proofs.TopLemmas.{stopped_of, unwritten_of, ran_exit}
 use Rattle.sd_program.proofs.running.run_work.Goals as goal
 
