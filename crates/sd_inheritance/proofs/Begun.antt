@@ -1,6 +1,6 @@
 -- The walks that an event begins, takes on or ends.
 use Rattle.std.proofs.Common.{◌≡◌, ℕ, ◌<◌, Bool, ◌||◌, List, length, get_or, Option, Some, None, refl, sym, ap, ◌∙◌, subst, inl, inr}
-use Rattle.std.specs.Prelude.{Result, Ok, Err, ℤ}
+use Rattle.std.specs.Prelude.{Ok, ℤ}
 use Rattle.sd_types.specs.declared.numbers.CpuId.{CpuId}
 use Rattle.sd_types.specs.declared.numbers.LockId.{LockId}
 use Rattle.sd_types.specs.declared.numbers.ThreadId.{ThreadId}
@@ -9,7 +9,7 @@ use Rattle.sd_types.specs.declared.events.Denied.{Denied}
 use Rattle.sd_types.specs.declared.events.Duty.{Duty}
 use Rattle.sd_types.specs.declared.events.Duty.TheVariants as duty
 use Rattle.sd_types.specs.declared.events.Event.{Event}
-use Rattle.sd_types.specs.declared.events.Event.TheVariants.{Block, Will, End as WalkEnd, Prio, Grant}
+use Rattle.sd_types.specs.declared.events.Event.TheVariants.{Block, Will, End as WalkEnd, Prio}
 use Rattle.sd_types.specs.declared.events.PrioAnswer.TheVariants.{Changed, Refused}
 use Rattle.sd_types.specs.declared.events.Put.{Put}
 use Rattle.sd_types.specs.declared.scripts.Op.TheVariants as op
@@ -23,8 +23,8 @@ use Rattle.sd_machine.specs.declared.states.ThreadState.{ThreadState}
 use Rattle.sd_machine.specs.declared.states.State.{State}
 use Rattle.sd_machine.specs.States.{no_thread, thread_of, cpu_of}
 use Rattle.sd_machine.specs.Operations.{op_of}
-use Rattle.sd_full.specs.Threads.{thread_id, eff_of, greatest_waiting}
-use Rattle.sd_full.specs.Changes.{back_key, finish_op, set_class, set_number, set_looped, set_duty}
+use Rattle.sd_full.specs.Threads.{eff_of, greatest_waiting}
+use Rattle.sd_full.specs.Changes.{back_key, set_class, set_number, set_looped, set_duty}
 use Rattle.sd_full.specs.Requeueing.{reordered}
 use Rattle.sd_full.specs.Walking.{is_back, next_walk, walked, willed, walk_ended}
 use Rattle.sd_full.specs.Prioritising.{answer_to, new_class, walk_from, changed_by, changed_on, reprioritised}
@@ -54,10 +54,12 @@ then_walks : (s r q : State) (c : ℕ) (v : Option G.Walk) → WalkIs s r c v �
 then_walks s r q c v a b = record { put = put_same c v a.put b.each }
 
 pub none_walks : (s r : State) (c : ℕ) → WalkIs s r c None → walk_of (cpu_of s c).duty ≡ None → Walks s r
-none_walks s r c a free = record { each = λ d. elim (put_cases c None _ _ a.put d) [
-  | inl me ↦ me.1 ∙ sym (ap (λ e. walk_of (cpu_of s e).duty) me.0 ∙ free)
-  | inr other ↦ other.1
-] }
+none_walks s r c a free = record {
+  each = λ d. elim (put_cases c None _ _ a.put d) [
+    | inl me ↦ me.1 ∙ sym (ap (λ e. walk_of (cpu_of s e).duty) me.0 ∙ free)
+    | inr other ↦ other.1
+  ];
+}
 
 -- A thread blocks: a walk begins at the lock.
 

@@ -31,11 +31,11 @@ use Rattle.sd_machine.specs.declared.states.Place.TheVariants.{Running, Ended}
 use Rattle.sd_machine.specs.declared.states.ThreadState.{ThreadState}
 use Rattle.sd_machine.specs.declared.states.State.{State}
 use Rattle.sd_machine.specs.States.{no_thread, thread_of, cpu_of, with_thread}
-use Rattle.sd_machine.specs.Operations.{script_of, op_of, op_over, ran}
-use Rattle.sd_full.specs.Threads.{thread_id, lock_of, with_lock, with_count, runner, best_sleeper, eff_of, greatest_waiting}
+use Rattle.sd_machine.specs.Operations.{script_of, op_of, op_over}
+use Rattle.sd_full.specs.Threads.{thread_id, lock_of, with_lock, runner, best_sleeper, eff_of, greatest_waiting}
 use Rattle.sd_full.specs.Bodies.{aged_class, departed}
 use Rattle.sd_full.specs.Changes.{back_key, with_place, finish_op, run_tick, set_class, send_back, hold, let_go, set_number, set_looped, set_duty, count_tick, clear_marks, run_on, leave, place_put, put, put_where, close, bind, unbind}
-use Rattle.sd_full.specs.Dispatching.{charge, class_counts, ticked, spun, idled, dispatched, stolen, preempted, sent_away, yielded, done}
+use Rattle.sd_full.specs.Dispatching.{charge, class_counts, ticked, spun, dispatched, stolen, preempted, sent_away, yielded, done}
 use Rattle.sd_full.specs.Sleeping.{woken, napped, fallen_asleep, woke, woke_all, roused}
 use Rattle.sd_full.specs.Locking.{owned, one_more, read, blocked, release_from, released, exited, others_waiting, one_reader_more, unblocked, granted_to_writer, granted_to_reader, granted}
 use Rattle.sd_full.specs.Requeueing.{reordered_at, reordered}
@@ -241,9 +241,6 @@ pub record But (o : Option ℕ) (s r : State) : Type 0 where
 
 but_same : (o : Option ℕ) (s r : State) → Classes s r → But o s r
 but_same o s r a = record { each = λ u other. a.each u }
-
-then_but : (o : Option ℕ) (s r q : State) → But o s r → But o r q → But o s q
-then_but o s r q a b = record { each = λ u other. b.each u other ∙ a.each u other }
 
 same_but : (o : Option ℕ) (s r q : State) → Classes s r → But o r q → But o s q
 same_but o s r q a b = record { each = λ u other. b.each u other ∙ a.each u }

@@ -11,10 +11,6 @@ pub same_threads : (s : State) (c : ℕ) (e : Event) → (drop_ageing s c e).thr
 unfolding drop_ageing set_duty
 same_threads s c e = refl
 
-pub same_locks : (s : State) (c : ℕ) (e : Event) → (drop_ageing s c e).locks ≡ s.locks
-unfolding drop_ageing set_duty
-same_locks s c e = refl
-
 pub dropped_same : {X : Type 0} (part : ThreadState → X) (s : State) (c : ℕ) (e : Event) → Same part s (drop_ageing s c e)
 unfolding drop_ageing
 dropped_same part s c e = set_duty_same part s c _

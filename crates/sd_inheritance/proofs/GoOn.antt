@@ -1,5 +1,5 @@
 -- Where a walk goes, and where it ends.
-use Rattle.std.proofs.Common.{◌≡◌, ◌≢◌, ℕ, ◌<◌, Bool, true, false, ◌&&◌, ◌||◌, length, Option, Some, None, ℤ, refl, sym, ap, ◌∙◌, subst, inl, inr, ◌⊎◌, ◌==◌, arith}
+use Rattle.std.proofs.Common.{◌≡◌, ◌≢◌, ℕ, ◌<◌, Bool, true, false, ◌&&◌, length, Option, ℤ, refl, sym, ap, ◌∙◌, inl, inr, ◌⊎◌, ◌==◌, arith}
 use Rattle.std.specs.Prelude.{int_lt, if◌then◌else◌}
 use Rattle.std.specs.Ordering.{int_eq}
 use Rattle.std.proofs.lemmas.Bool.{cases_Bool}
@@ -9,10 +9,8 @@ use Rattle.sd_types.specs.declared.numbers.CpuId.{CpuId}
 use Rattle.sd_types.specs.declared.numbers.LockId.{LockId}
 use Rattle.sd_types.specs.declared.numbers.Side.{Side}
 use Rattle.sd_types.specs.declared.numbers.ThreadId.{ThreadId}
-use Rattle.sd_types.specs.declared.events.Duty.{Duty}
 use Rattle.sd_types.specs.declared.events.Duty.TheVariants.{Nothing, Walk}
 use Rattle.sd_types.specs.declared.events.Event.TheVariants as event
-use Rattle.sd_types.specs.declared.events.Hints.{Hints}
 use Rattle.sd_types.specs.declared.events.Put.{Put}
 use Rattle.sd_types.specs.declared.works.Work.{Work}
 use Rattle.sd_chains.specs.Graphs.{InCycle}
@@ -25,11 +23,10 @@ use Rattle.sd_machine.specs.States.{thread_of, cpu_of}
 use Rattle.sd_full.specs.Changes.{back_key}
 use Rattle.sd_full.specs.Walking.{next_walk}
 use Rattle.sd_full.specs.LockGraph.{wait_of, owner_of, walk_of, graph}
-use Rattle.sd_full.specs.Events.{next, after}
-use Rattle.sd_full.specs.Runs.{IsReached}
+use Rattle.sd_full.specs.Events.{after}
 use Rattle.sd_sound.specs.Causes.{IsCause}
 use Rattle.sd_sound.proofs.Ready.{ready_cause, maker_inside}
-use Rattle.sd_inheritance.specs.Laws.{Closes, WaitsNowhere, WalkGoesOn, WalksGoOn, WalksEndAtUnowned}
+use Rattle.sd_inheritance.specs.Laws.{Closes, WalkGoesOn, WalksGoOn, WalksEndAtUnowned}
 use Rattle.sd_inheritance.proofs.Begun.{will_duty, end_duty}
 use Rattle.sd_inheritance.proofs.Runs.{Steps, IsChained, reached_chained, step_after}
 use Rattle.sd_inheritance.proofs.WalkMoves.{walk}
@@ -77,9 +74,9 @@ module _ (l : LockId) (seek : ThreadId) (key : ℤ) (o : ThreadId) where
   ends_next true (Waiting m side k) none = inr (inl refl)
   ends_next false (Waiting m side k) none = elim (cases_Bool ((seek.0 == o.0) && int_eq key k)) [
     | inl back ↦ (
-      let a : seek.0 ≡ o.0 = grind (arith, nat_tests) in
-      let b : key ≡ k = grind (arith, ints) in
-      inr (inr (m, side, ap (λ j. Waiting m side j) (sym b), a)))
+        let a : seek.0 ≡ o.0 = grind (arith, nat_tests) in
+        let b : key ≡ k = grind (arith, ints) in
+        inr (inr (m, side, ap (λ j. Waiting m side j) (sym b), a)))
     | inr on ↦ absurd (goes_on (int_lt key k) m k (sym (goes_next false m side k (λ e. cc) (λ a b. by a b on)) ∙ none))
   ]
     where
@@ -96,9 +93,6 @@ module _ (l : LockId) (seek : ThreadId) (key : ℤ) (o : ThreadId) where
 
 module _ (w : Work) (n : ℕ) (s : State) (c : CpuId) (l : LockId) (o : ThreadId) (p : ℕ) (at : Option Put) (seek : ThreadId) (key : ℤ)
     (chained : IsChained w n s) (here : c.0 < length s.cpus) (stands : (cpu_of s c.0).duty ≡ Walk l seek key) (cause : IsCause w s c.0 (event.Will l o p at)) where
-  abbrev r : State
-  r = after w s n c (event.Will l o p at)
-
   step : Steps n s (after w s n c (event.Will l o p at))
   step = step_after w s n c chained.ready here chained.sound (event.Will l o p at) cause
 

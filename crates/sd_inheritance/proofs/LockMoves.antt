@@ -1,5 +1,5 @@
 -- Events that block a thread, take a lock, give one up or pass one on, as moves of the lock graph.
-use Rattle.std.proofs.Common.{◌≡◌, ◌≢◌, ℕ, ◌+◌, ◌-◌, ◌<◌, Bool, true, false, length, set, Option, Some, None, ℤ, refl, sym, ap, ◌∙◌, subst, inl, inr, ◌⊎◌}
+use Rattle.std.proofs.Common.{◌≡◌, ◌≢◌, ℕ, ◌-◌, ◌<◌, true, false, length, set, Option, Some, None, refl, sym, ap, ◌∙◌, subst, inl, inr}
 use Rattle.std.specs.Prelude.{option_map, List}
 use Rattle.std.proofs.lemmas.Bool.{cases_eq}
 use Rattle.sd_types.specs.declared.numbers.ChanId.{ChanId}
@@ -8,9 +8,7 @@ use Rattle.sd_types.specs.declared.numbers.LockId.{LockId}
 use Rattle.sd_types.specs.declared.numbers.Side.{Side}
 use Rattle.sd_types.specs.declared.numbers.Side.TheVariants.{Writer, Reader}
 use Rattle.sd_types.specs.declared.numbers.ThreadId.{ThreadId}
-use Rattle.sd_types.specs.declared.events.Duty.{Duty}
 use Rattle.sd_types.specs.declared.events.Duty.TheVariants as duty
-use Rattle.sd_types.specs.declared.events.Event.{Event}
 use Rattle.sd_types.specs.declared.events.Event.TheVariants.{Enter, Write, Block, Exit, Unblock, Grant, CvWait}
 use Rattle.sd_types.specs.declared.events.Put.{Put}
 use Rattle.sd_types.specs.declared.scripts.Op.{Op}
@@ -18,44 +16,41 @@ use Rattle.sd_types.specs.declared.scripts.Op.TheVariants as op
 use Rattle.sd_types.specs.declared.works.Work.{Work}
 use Rattle.sd_types.specs.Priorities.{eff}
 use Rattle.sd_types.specs.Scripts.{is_held, op_fits}
-use Rattle.sd_types.specs.Willed.{Numbers, without_number, changed_number}
+use Rattle.sd_types.specs.Willed.{without_number, changed_number}
 use Rattle.sd_chains.specs.Graphs as G
-use Rattle.sd_chains.specs.Holders as H
 use Rattle.sd_chains.proofs.HolderLemmas.{owner_alone, free_unheld}
-use Rattle.sd_chains.proofs.Moves.{IsSame, IsPut, SameEff, SameWilled, IsQuiet, IsBlock, IsRelease, IsAcquire, IsLeave, put_cases, none_some, unowned}
+use Rattle.sd_chains.proofs.Moves.{IsSame, IsPut, SameEff, IsQuiet, IsBlock, IsRelease, IsAcquire, IsLeave, none_some, unowned}
 use Rattle.sd_chains.proofs.Steps.{exact_stays}
 use Rattle.sd_chains.proofs.Chains.{some_is}
 use Rattle.sd_machine.specs.declared.states.LockState.{LockState}
 use Rattle.sd_machine.specs.declared.states.LockState.TheVariants.{Free, Owned, ReadHeld, Passing}
-use Rattle.sd_machine.specs.declared.states.Place.{Place}
-use Rattle.sd_machine.specs.declared.states.Place.TheVariants.{Waiting, Ended}
+use Rattle.sd_machine.specs.declared.states.Place.TheVariants.{Ended}
 use Rattle.sd_machine.specs.declared.states.ThreadState.{ThreadState}
 use Rattle.sd_machine.specs.declared.states.State.{State}
 use Rattle.sd_machine.specs.States.{no_thread, thread_of, cpu_of, with_thread}
 use Rattle.sd_machine.specs.Operations.{op_of}
-use Rattle.sd_full.specs.Threads.{thread_id, lock_of, greatest_waiting, best_waiter}
+use Rattle.sd_full.specs.Threads.{thread_id, lock_of, best_waiter}
 use Rattle.sd_full.specs.Changes.{back_key, place_put, set_duty}
 use Rattle.sd_full.specs.Locking.{side_of, others_waiting, granted, granted_to_writer, granted_to_reader, one_reader_more}
 use Rattle.sd_full.specs.LockGraph.{wait_of, owner_of, walk_of, graph}
 use Rattle.sd_full.specs.Events.{dropped_duty, drop_ageing, effect, after}
-use Rattle.sd_sound.specs.Causes.{Acts, IsCause}
+use Rattle.sd_sound.specs.Causes.{IsCause}
 use Rattle.sd_sound.specs.Holding.{lock_state, pass_of, table}
 use Rattle.sd_sound.specs.Moves.{step_of}
-use Rattle.sd_sound.specs.Moves.Step.{Stay, Go}
-use Rattle.sd_sound.proofs.AgreedAfter.{IsReady, lock_inside, not_free_owned, not_free_passing, enter_locks, write_locks, block_locks, holds_it}
+use Rattle.sd_sound.specs.Moves.Step.{Go}
+use Rattle.sd_sound.proofs.AgreedAfter.{IsReady, lock_inside, not_free_passing, enter_locks, write_locks, block_locks, holds_it}
 use Rattle.sd_sound.proofs.AgreedEvents.{lock_named}
 use Rattle.sd_sound.proofs.CpuWords as C
-use Rattle.sd_sound.proofs.Found.{IsFound, runner_found, waiter_found}
-use Rattle.sd_sound.proofs.HoldTable.{numbers_part, numbers_moves, numbers_ops, looped_part, looped_moves, looped_ops, Goes, same_then, owned_numbers, owned_looped, exited_numbers, exited_looped, cv_waited_numbers, cv_waited_looped, granted_to_writer_numbers, granted_to_writer_looped, granted_to_reader_numbers, granted_to_reader_looped}
+use Rattle.sd_sound.proofs.Found.{runner_found, waiter_found}
+use Rattle.sd_sound.proofs.HoldTable.{numbers_part, numbers_moves, numbers_ops, looped_part, looped_moves, looped_ops, Goes, owned_numbers, owned_looped, exited_numbers, exited_looped, cv_waited_numbers, cv_waited_looped, granted_to_writer_numbers, granted_to_writer_looped, granted_to_reader_numbers, granted_to_reader_looped}
 use Rattle.sd_sound.proofs.LockTable as T
 use Rattle.sd_sound.proofs.Parts.{put_item, same_item, same_is_put}
-use Rattle.sd_sound.proofs.PassLemmas.{drop_duties, Woken, unblock_outcome, Granted, grant_outcome}
-use Rattle.sd_sound.proofs.PassLemmas.Granted.{to_writer, to_reader}
+use Rattle.sd_sound.proofs.PassLemmas.{drop_duties, Woken, unblock_outcome}
 use Rattle.sd_sound.proofs.PassLemmas.Woken.{more, last}
 use Rattle.sd_sound.proofs.PlaceTable.{Stepped}
 use Rattle.sd_sound.proofs.ReleaseLemmas.{Outcome, drop_shape, exit_outcome, cv_wait_outcome}
 use Rattle.sd_sound.proofs.ReleaseLemmas.Outcome.{freed, passed_on, fewer, left, nothing}
-use Rattle.sd_sound.proofs.ScriptLemmas.{is_waiter, waits_here, put_no_waiter, step_away, away_after}
+use Rattle.sd_sound.proofs.ScriptLemmas.{is_waiter, waits_here, put_no_waiter, away_after}
 use Rattle.sd_sound.proofs.Movers.{mover_of}
 use Rattle.sd_sound.proofs.Words.{Same, then_same, plain_same}
 use Rattle.sd_sound.proofs.Works.{first_of_two}
@@ -63,8 +58,8 @@ use Rattle.sd_inheritance.proofs.Begun.{duty_walk, walks_then, none_walks, block
 use Rattle.sd_inheritance.proofs.ClassThreads.{after_but}
 use Rattle.sd_inheritance.proofs.Exact.{exact_waiting}
 use Rattle.sd_inheritance.proofs.Fields.{dropped_same}
-use Rattle.sd_inheritance.proofs.QuietMoves.{AwayAt, seen_eff, seen_eff_but, runs_away, steps, class_away_after, passed_unowned}
-use Rattle.sd_inheritance.proofs.Views.{no_wait, away_waits, quiet_waits, leaves_waits, comes_waits, same_owners, put_owners, kept_owners, same_willed, its_willed, other_willed}
+use Rattle.sd_inheritance.proofs.QuietMoves.{seen_eff, seen_eff_but, runs_away, steps, passed_unowned}
+use Rattle.sd_inheritance.proofs.Views.{no_wait, quiet_waits, leaves_waits, comes_waits, same_owners, put_owners, kept_owners, same_willed, its_willed, other_willed}
 use Rattle.sd_inheritance.proofs.WalkTable.{walk_part, walk_marks, Walks, drop_walks, after_walks, cause_walks}
 
 module _ (w : Work) (s : State) (n : ℕ) (c : CpuId) (ready : IsReady w s) where
@@ -167,7 +162,7 @@ module _ (w : Work) (s : State) (n : ℕ) (c : CpuId) (ready : IsReady w s) wher
   given_up r t l local holds rests waits numbers looped walks eff inside (owned_before o y is locks free) = by_owner (record {
     own = owner;
     rests = rests;
-    owner = record { at = ap (λ x. x) put.at ∙ free; others = put.others };
+    owner = record { at = put.at ∙ free; others = put.others };
     gone = its_willed s r t l None numbers;
     willed = other_willed s r t l None numbers;
     waits = waits;

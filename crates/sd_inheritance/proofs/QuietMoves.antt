@@ -1,5 +1,5 @@
 -- Events that the chains do not see.
-use Rattle.std.proofs.Common.{◌≡◌, ◌≢◌, ℕ, ◌<◌, Bool, true, false, ◌&&◌, length, set, Option, Some, None, refl, sym, ap, ◌∙◌, subst, inl, inr}
+use Rattle.std.proofs.Common.{◌≡◌, ◌≢◌, ℕ, ◌<◌, Bool, true, false, length, Option, Some, None, refl, sym, ap, ◌∙◌, inl, inr}
 use Rattle.std.specs.Prelude.{⊤}
 use Rattle.std.proofs.lemmas.Option.{none-some, same_Some}
 use Rattle.sd_types.specs.declared.numbers.CpuId.{CpuId}
@@ -8,8 +8,7 @@ use Rattle.sd_types.specs.declared.numbers.ThreadId.{ThreadId}
 use Rattle.sd_types.specs.declared.events.BindAnswer.{BindAnswer}
 use Rattle.sd_types.specs.declared.events.Duty.TheVariants as duty
 use Rattle.sd_types.specs.declared.events.Event.{Event}
-use Rattle.sd_types.specs.declared.events.Event.TheVariants.{Tick, Spin, Idle, Dispatch, Steal, Preempt, Yield, Done, Nap, Napend, Sleep, Wake, Wakeall, Rouse, Enter, Read, Write, Block, Will, End as WalkEnd, Exit, Unblock, Grant, Passed, Age, Prio, CvWait, SemaP, SemaWait, SemaVWake, SemaVCount, Assign, Move, Joined, Bind, Away}
-use Rattle.sd_types.specs.declared.events.Put.{Put}
+use Rattle.sd_types.specs.declared.events.Event.TheVariants.{Tick, Spin, Preempt, Napend, Wake, Rouse, Read, Unblock, Grant, Passed, Age, Prio, SemaVWake, Bind}
 use Rattle.sd_types.specs.declared.works.Work.{Work}
 use Rattle.sd_types.specs.Willed.{Numbers}
 use Rattle.sd_chains.specs.Graphs as G
@@ -19,18 +18,16 @@ use Rattle.sd_machine.specs.declared.states.LockState.{LockState}
 use Rattle.sd_machine.specs.declared.states.LockState.TheVariants.{Free, Owned, ReadHeld, Passing}
 use Rattle.sd_machine.specs.declared.states.Place.{Place}
 use Rattle.sd_machine.specs.declared.states.Place.TheVariants.{Running, Queued, RealTime, Waiting, Asleep, Napping, Ended}
-use Rattle.sd_machine.specs.declared.states.ThreadState.{ThreadState}
 use Rattle.sd_machine.specs.declared.states.State.{State}
 use Rattle.sd_machine.specs.States.{thread_of, cpu_of, is_queued}
 use Rattle.sd_full.specs.Threads.{lock_of, is_ts, runner}
 use Rattle.sd_full.specs.Changes.{set_duty}
 use Rattle.sd_full.specs.Locking.{one_more}
-use Rattle.sd_full.specs.LockGraph.{wait_of, owner_of, walk_of, graph}
+use Rattle.sd_full.specs.LockGraph.{wait_of, owner_of, graph}
 use Rattle.sd_full.specs.Events.{drop_ageing, effect, after}
 use Rattle.sd_sound.specs.Causes.{IsCause}
-use Rattle.sd_sound.specs.Holding.{lock_state, pass_of, table}
+use Rattle.sd_sound.specs.Holding.{lock_state, pass_of}
 use Rattle.sd_sound.specs.Moves.{Step, step_of}
-use Rattle.sd_sound.specs.Moves.Step.{Stay, Go}
 use Rattle.sd_sound.proofs.AgreedAfter.{IsReady, read_locks}
 use Rattle.sd_sound.proofs.Found.{runner_found, age_found}
 use Rattle.sd_sound.proofs.HoldTable.{numbers_part, numbers_moves, numbers_ops, looped_part, looped_moves, looped_ops, Goes, read_numbers, read_looped, pbound_numbers, pbound_looped}
@@ -43,7 +40,7 @@ use Rattle.sd_sound.proofs.ScriptLemmas.{is_waiter, runs_no_waiter, is_blocking,
 use Rattle.sd_sound.proofs.Words.{Same, then_same, is_plain, plain_same}
 use Rattle.sd_sound.proofs.Works.{first_of_two}
 use Rattle.sd_inheritance.proofs.ClassThreads.{But, class_thread, after_but}
-use Rattle.sd_inheritance.proofs.Fields.{same_threads, same_locks, dropped_same}
+use Rattle.sd_inheritance.proofs.Fields.{dropped_same}
 use Rattle.sd_inheritance.proofs.Views.{away_waits, quiet_waits, same_owners, kept_owners, same_willed, same_eff}
 use Rattle.sd_inheritance.proofs.WalkTable.{Walks, keeps_walks, after_walks, is_walking, cause_walks}
 

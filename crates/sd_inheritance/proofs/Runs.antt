@@ -1,9 +1,9 @@
 -- Each event is a move of the lock graph, so what holds of lock graphs holds in every state of every run, and blocking cycles
 -- stay.
-use Rattle.std.proofs.Common.{◌≡◌, ℕ, zero, suc, ◌+◌, ◌<◌, Bool, true, false, List, [], ◌∷◌, ◌++◌, length, get_or, replicate, Option, Some, None, refl, sym, ap, ◌∙◌, subst, inl, inr, arith}
+use Rattle.std.proofs.Common.{◌≡◌, ℕ, zero, suc, ◌+◌, ◌<◌, true, false, List, [], ◌∷◌, ◌++◌, length, get_or, replicate, Option, Some, None, refl, sym, ap, ◌∙◌, subst, inl, inr, arith}
 use Rattle.std.specs.Prelude.{◌<ℤ◌, ℤ, pos, map, if◌then◌else◌}
-use Rattle.std.specs.List.{range_with_len}
-use Rattle.std.proofs.lemmas.Bool.{cases_lt, false≢true}
+use Rattle.std.specs.List.{range_with_len, Contains}
+use Rattle.std.proofs.lemmas.Bool.{cases_lt}
 use Rattle.std.proofs.lemmas.Int.{ints}
 use Rattle.std.proofs.lemmas.List.{get_or_past, length-append}
 use Rattle.sd_types.specs.declared.numbers.CpuId.{CpuId}
@@ -13,14 +13,14 @@ use Rattle.sd_types.specs.declared.events.Duty.{Duty}
 use Rattle.sd_types.specs.declared.events.Duty.TheVariants as duty
 use Rattle.sd_types.specs.declared.events.Entry.{Entry}
 use Rattle.sd_types.specs.declared.events.Event.{Event}
-use Rattle.sd_types.specs.declared.events.Event.TheVariants.{Tick, Spin, Idle, Dispatch, Steal, Preempt, Yield, Done, Nap, Napend, Sleep, Wake, Wakeall, Rouse, Enter, Read, Write, Block, Will, End as WalkEnd, Exit, Unblock, Grant, Passed, Age, Prio, CvWait, SemaP, SemaWait, SemaVWake, SemaVCount, Assign, Move, Joined, Bind, Away}
+use Rattle.sd_types.specs.declared.events.Event.TheVariants.{Enter, Read, Write, Block, Will, End as WalkEnd, Exit, Unblock, Grant, Passed, Prio, CvWait, Bind}
 use Rattle.sd_types.specs.declared.events.Hints.{Hints}
 use Rattle.sd_types.specs.declared.works.ThreadDecl.{ThreadDecl}
 use Rattle.sd_types.specs.declared.works.Work.{Work}
 use Rattle.sd_types.specs.Willed.{Numbers}
 use Rattle.sd_chains.specs.Graphs as G
 use Rattle.sd_chains.specs.Cycles.{IsCycle}
-use Rattle.sd_chains.proofs.CycleLemmas.{cycle_list_stays}
+use Rattle.sd_chains.proofs.CycleLemmas.{lists_cycles, cycle_list_stays}
 use Rattle.sd_chains.proofs.Greatest.{is_chain_max}
 use Rattle.sd_chains.proofs.Moves.{none_some, quiet_step, block_step, release_step, acquire_step, leave_step, end_step, rebase_step}
 use Rattle.sd_chains.proofs.Steps.{IsStep as IsGraphStep, step_sound, cycle_stays, empty_sound}
@@ -33,15 +33,15 @@ use Rattle.sd_machine.specs.States.{no_thread, no_cpu, thread_of, cpu_of}
 use Rattle.sd_machine.specs.Opening.{first_cpu, is_urgent, first_thread, first_threads, first_cpu_state, opening}
 use Rattle.sd_full.specs.Threads.{lock_of}
 use Rattle.sd_full.specs.Changes.{back_key}
-use Rattle.sd_full.specs.LockGraph.{wait_of, owner_of, walk_of, number_at, graph}
+use Rattle.sd_full.specs.LockGraph.{wait_of, owner_of, walk_of, number_at, graph, cycles_of}
 use Rattle.sd_full.specs.Events.{next, after}
 use Rattle.sd_full.specs.Runs.{final, IsRun, IsRunFrom, IsReached}
-use Rattle.sd_full.proofs.RunLemmas.{final-append, IsRun-from, IsRunFrom-front, IsRunFrom-rest}
+use Rattle.sd_full.proofs.RunLemmas.{final-append, IsRun-from, from-IsRun, IsRunFrom-front, IsRunFrom-rest}
 use Rattle.sd_sound.specs.Causes.{IsCause}
 use Rattle.sd_sound.proofs.AgreedAfter.{IsReady}
 use Rattle.sd_sound.proofs.FineLemmas.{fine_reached}
 use Rattle.sd_sound.proofs.Ready.{ready_cause, maker_inside, next_ready, opening_ready}
-use Rattle.sd_inheritance.specs.Laws.{InheritanceIsLocal, WalksLeadOn, OwnersHaveChainMaximum, NobodyWalks, PrioritiesAreMaxima, CyclesStay, CyclicStay}
+use Rattle.sd_inheritance.specs.Laws.{InheritanceIsLocal, WalksLeadOn, OwnersHaveChainMaximum, PrioritiesAreMaxima, CyclesStay, CyclicThreadsStay, MaximaWithoutCycles}
 use Rattle.sd_inheritance.proofs.Exact.{is_eff}
 use Rattle.sd_inheritance.proofs.LockMoves.{IsGivenUp, IsGiven, block_move, enter_move, write_move, exit_move, cv_wait_move, unblock_move, grant_move}
 use Rattle.sd_inheritance.proofs.LockMoves.IsGivenUp.{by_owner, by_reader}
@@ -235,5 +235,21 @@ more_run w es more run =
 pub cycles_law : CyclesStay
 cycles_law = λ w es more ts run is. (more_run w es more run).cycles ts is
 
-pub cyclic_law : CyclicStay
+pub cyclic_law : CyclicThreadsStay
 cyclic_law = λ w es more o run is. (more_run w es more run).cyclic o is
+
+-- a thread in a blocking cycle is in one of those that are listed
+unlisted : (s : State) → cycles_of s ≡ [] → (o : ℕ) → G.InCycle (graph s) o → ⊥
+unfolding cycles_of
+unlisted s none o cycle =
+    let line = ((lists_cycles (graph s) (length s.threads) (waits_inside s)).every o).0 cycle in
+    not_there line.0 (subst (λ (xs : List (List ℕ)). Contains xs line.0) none line.1)
+  where
+    not_there : (ts : List ℕ) → Contains [] ts → ⊥
+    not_there ts there = let none_in : there.0 < 0 = there.1 in omega (arith, none_in)
+
+pub without_law : MaximaWithoutCycles
+without_law = λ w es more run none nobody o.
+    let front = IsRunFrom-front w (opening w) 0 es more (IsRun-from w (es ++ more) run) in
+    let reached : IsReached w (length es) (final w (opening w) es) = record { entries = es; run = from-IsRun w es front; many = refl; ends = refl } in
+    maxima_law w (length es) (final w (opening w) es) reached nobody o (λ cycle. unlisted (final w (opening w) (es ++ more)) none o ((more_run w es more run).cyclic o cycle))

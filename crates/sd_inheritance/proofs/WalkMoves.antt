@@ -1,27 +1,23 @@
 -- Events that take a walk on, end it, or begin one for another priority, as moves of the lock graph.
 use Rattle.std.proofs.Common.{◌≡◌, ◌≢◌, ℕ, ◌<◌, Bool, true, false, ◌&&◌, ◌||◌, length, Option, Some, None, ℤ, refl, sym, ap, ◌∙◌, subst, inl, inr, ◌⊎◌, ◌==◌, arith}
-use Rattle.std.specs.Prelude.{int_lt, Ok, if◌then◌else◌}
+use Rattle.std.specs.Prelude.{int_lt}
 use Rattle.std.specs.Ordering.{int_eq}
-use Rattle.std.proofs.lemmas.Bool.{cases_Bool, cases_eq, false≢true, eqb-true}
+use Rattle.std.proofs.lemmas.Bool.{cases_Bool, false≢true}
 use Rattle.std.proofs.lemmas.Bool.Decides.{nat_tests}
 use Rattle.std.proofs.lemmas.Int.{ints}
 use Rattle.sd_types.specs.declared.numbers.CpuId.{CpuId}
 use Rattle.sd_types.specs.declared.numbers.LockId.{LockId}
-use Rattle.sd_types.specs.declared.numbers.Side.{Side}
 use Rattle.sd_types.specs.declared.numbers.ThreadId.{ThreadId}
-use Rattle.sd_types.specs.declared.classes.ClassParms.{ClassParms}
 use Rattle.sd_types.specs.declared.events.Denied.{Denied}
-use Rattle.sd_types.specs.declared.events.Duty.{Duty}
 use Rattle.sd_types.specs.declared.events.Duty.TheVariants as duty
-use Rattle.sd_types.specs.declared.events.Event.{Event}
 use Rattle.sd_types.specs.declared.events.Event.TheVariants.{Will, End as WalkEnd, Prio}
 use Rattle.sd_types.specs.declared.events.PrioAnswer.{PrioAnswer}
 use Rattle.sd_types.specs.declared.events.PrioAnswer.TheVariants.{Changed, Refused}
 use Rattle.sd_types.specs.declared.events.Put.{Put}
 use Rattle.sd_types.specs.declared.works.Work.{Work}
-use Rattle.sd_types.specs.Willed.{Numbers, changed_number}
+use Rattle.sd_types.specs.Willed.{changed_number}
 use Rattle.sd_chains.specs.Graphs as G
-use Rattle.sd_chains.proofs.Moves.{IsSame, IsPut, SameEff, IsQuiet, IsEnd, IsRebase, none_some, put_cases}
+use Rattle.sd_chains.proofs.Moves.{IsSame, IsPut, IsQuiet, IsEnd, IsRebase, none_some, put_cases}
 use Rattle.sd_chains.proofs.Chains.{some_is}
 use Rattle.sd_chains.proofs.WillMove.{IsNext, IsClosed, IsWill}
 use Rattle.sd_chains.proofs.WillMove.IsNext.{ends_free, ends_looped, ends_back, goes_anew, goes_same}
@@ -36,20 +32,20 @@ use Rattle.sd_full.specs.Changes.{set_duty}
 use Rattle.sd_full.specs.Walking.{is_back, next_walk}
 use Rattle.sd_full.specs.LockGraph.{wait_of, owner_of, walk_of, graph}
 use Rattle.sd_full.specs.Events.{dropped_duty, drop_ageing, effect, after}
-use Rattle.sd_sound.specs.Causes.{IsCause, IsAnswered}
-use Rattle.sd_sound.specs.Moves.{step_of, prio_step}
+use Rattle.sd_sound.specs.Causes.{IsCause}
+use Rattle.sd_sound.specs.Moves.{step_of}
 use Rattle.sd_sound.proofs.AgreedAfter.{IsReady}
 use Rattle.sd_sound.proofs.HoldTable.{numbers_part, numbers_moves, numbers_ops, looped_part, looped_moves, looped_ops, Goes, willed_numbers, willed_looped}
 use Rattle.sd_sound.proofs.LockTable.{quiet_locks}
 use Rattle.sd_sound.proofs.Movers.{mover_of, owner_thread}
 use Rattle.sd_sound.proofs.PassLemmas.{drop_duties}
-use Rattle.sd_sound.proofs.ScriptLemmas.{is_waiter, step_away, away_after}
+use Rattle.sd_sound.proofs.ScriptLemmas.{step_away}
 use Rattle.sd_sound.proofs.Words.{Same, plain_same}
 use Rattle.sd_inheritance.proofs.Begun.{WalkIs, duty_walk, none_walks, begun, prio_walk, refused_prio_walks, will_duty, end_duty}
-use Rattle.sd_inheritance.proofs.ClassThreads.{class_part, But, after_but}
+use Rattle.sd_inheritance.proofs.ClassThreads.{after_but}
 use Rattle.sd_inheritance.proofs.Exact.{exact_waiting}
 use Rattle.sd_inheritance.proofs.QuietMoves.{seen_eff, steps}
-use Rattle.sd_inheritance.proofs.Views.{no_wait, quiet_waits, same_owners, same_willed, its_willed, other_willed, same_eff}
+use Rattle.sd_inheritance.proofs.Views.{quiet_waits, same_owners, same_willed, its_willed, other_willed, same_eff}
 use Rattle.sd_inheritance.proofs.WalkTable.{cause_walks}
 
 abbrev pub walk : LockId → ThreadId → ℤ → G.Walk
@@ -102,8 +98,10 @@ module _ (w : Work) (s : State) (n : ℕ) (c : CpuId) (ready : IsReady w s) wher
   unfolding after effect drop_ageing set_duty
   will_looped l o p at seek key is here =
       let same : (cpu_of (drop_ageing s c.0 (Will l o p at)) c.0).duty ≡ duty.Walk l seek key = (drop_duties s c.0 (Will l o p at) (ap (λ d. dropped_duty (Will l o p at) d) is ∙ sym is)).each c.0 ∙ is in
-      record { put = subst (λ d. IsPut o.0 ((thread_of s o.0).body.looped || is_back d o (thread_of s o.0).place) (λ u. looped_part (thread_of s u)) (λ u. looped_part (thread_of (after w s n c (Will l o p at)) u))) same
-          (willed_looped w (drop_ageing s c.0 (Will l o p at)) n c l o at here).put }
+      record {
+        put = subst (λ d. IsPut o.0 ((thread_of s o.0).body.looped || is_back d o (thread_of s o.0).place) (λ u. looped_part (thread_of s u)) (λ u. looped_part (thread_of (after w s n c (Will l o p at)) u))) same
+            (willed_looped w (drop_ageing s c.0 (Will l o p at)) n c l o at here).put;
+      }
 
   pub will_move : (l : LockId) (o : ThreadId) (p : ℕ) (at : Option Put) (seek : ThreadId) (key : ℤ) → c.0 < length s.cpus → (cpu_of s c.0).duty ≡ duty.Walk l seek key → IsCause w s c.0 (Will l o p at)
       → IsWill (graph s) (graph (after w s n c (Will l o p at))) c.0 (walk l seek key) o.0

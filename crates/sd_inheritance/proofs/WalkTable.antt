@@ -1,13 +1,12 @@
 -- The walks of processors: every event but those that begin, take on or end one leaves them.
-use Rattle.std.proofs.Common.{◌≡◌, ℕ, ◌+◌, ◌-◌, ◌%◌, ◌<◌, Bool, true, false, ◌||◌, length, Option, Some, None, refl, sym, ap, ◌∙◌, inl, inr}
-use Rattle.std.specs.Prelude.{if◌then◌else◌, Result, Ok, Err, is_none, is_some, nat_lt, nat_le, ◌==◌, ℤ}
+use Rattle.std.proofs.Common.{◌≡◌, ℕ, ◌+◌, ◌-◌, ◌%◌, Bool, true, false, Option, Some, None, refl, sym, ap, ◌∙◌, inl, inr}
+use Rattle.std.specs.Prelude.{if◌then◌else◌, is_none, is_some, nat_lt, nat_le, ◌==◌}
 use Rattle.sd_types.specs.declared.numbers.ChanId.{ChanId}
 use Rattle.sd_types.specs.declared.numbers.CpuId.{CpuId}
 use Rattle.sd_types.specs.declared.numbers.LockId.{LockId}
 use Rattle.sd_types.specs.declared.numbers.SetId.{SetId}
 use Rattle.sd_types.specs.declared.numbers.Side.TheVariants.{Writer, Reader}
 use Rattle.sd_types.specs.declared.numbers.ThreadId.{ThreadId}
-use Rattle.sd_types.specs.declared.classes.ClassParms.{ClassParms}
 use Rattle.sd_types.specs.declared.events.AssignAnswer.{AssignAnswer}
 use Rattle.sd_types.specs.declared.events.AssignAnswer.TheVariants as assign
 use Rattle.sd_types.specs.declared.events.BindAnswer.{BindAnswer}
@@ -16,35 +15,26 @@ use Rattle.sd_types.specs.declared.events.Duty.{Duty}
 use Rattle.sd_types.specs.declared.events.Duty.TheVariants as duty
 use Rattle.sd_types.specs.declared.events.Event.{Event}
 use Rattle.sd_types.specs.declared.events.Event.TheVariants.{Tick, Spin, Idle, Dispatch, Steal, Preempt, Yield, Done, Nap, Napend, Sleep, Wake, Wakeall, Rouse, Enter, Read, Write, Block, Will, End as WalkEnd, Exit, Unblock, Grant, Passed, Age, Prio, CvWait, SemaP, SemaWait, SemaVWake, SemaVCount, Assign, Move, Joined, Bind, Away}
-use Rattle.sd_types.specs.declared.events.PrioAnswer.TheVariants.{Changed, Refused}
 use Rattle.sd_types.specs.declared.events.Put.{Put}
-use Rattle.sd_types.specs.declared.scripts.Op.TheVariants as op
-use Rattle.sd_types.specs.declared.scripts.Request.{Request}
 use Rattle.sd_types.specs.declared.works.Work.{Work}
 use Rattle.sd_types.specs.Works.{is_mutex}
 use Rattle.sd_chains.specs.Graphs as G
-use Rattle.sd_chains.proofs.Moves.{IsSame, IsPut}
 use Rattle.sd_machine.specs.declared.states.LockState.{LockState}
 use Rattle.sd_machine.specs.declared.states.LockState.TheVariants.{Free, Owned, ReadHeld, Passing}
-use Rattle.sd_machine.specs.declared.states.Place.{Place}
-use Rattle.sd_machine.specs.declared.states.Place.TheVariants.{Running, Queued, RealTime, Waiting, Asleep, Napping, Ended}
 use Rattle.sd_machine.specs.declared.states.CpuState.{CpuState}
 use Rattle.sd_machine.specs.declared.states.State.{State}
 use Rattle.sd_machine.specs.States.{thread_of, cpu_of}
-use Rattle.sd_machine.specs.Operations.{op_of}
-use Rattle.sd_full.specs.Threads.{thread_id, lock_of, with_lock, runner, best_waiter, best_sleeper, best_sleeper_below, priority_of, has_waiters, eff_of}
+use Rattle.sd_full.specs.Threads.{lock_of, with_lock, runner, best_waiter, best_sleeper, best_sleeper_below, priority_of, has_waiters, eff_of}
 use Rattle.sd_full.specs.Bodies.{aged_class}
-use Rattle.sd_full.specs.Changes.{back_key, with_body, finish_op, run_tick, set_class, set_duty, duty_after, count_tick, put_where, close, join, bind, unbind}
-use Rattle.sd_full.specs.Dispatching.{class_counts, ticked, spun, idled}
+use Rattle.sd_full.specs.Changes.{back_key, with_body, run_tick, set_class, set_duty, duty_after, count_tick, put_where, close, join, bind, unbind}
+use Rattle.sd_full.specs.Dispatching.{ticked, spun, idled}
 use Rattle.sd_full.specs.Sleeping.{woken, woke_all, roused_on, rouse_key, roused}
-use Rattle.sd_full.specs.Locking.{kind_of, writer_first, after_reader, after_owner, free_or_passed, release_from, exited, unblocked_on, unblocked, granted, passed_on, passed}
-use Rattle.sd_full.specs.Requeueing.{reordered}
-use Rattle.sd_full.specs.Prioritising.{answer_to, new_class, walk_from, changed_by, changed_on, reprioritised, lifted, aged}
+use Rattle.sd_full.specs.Locking.{kind_of, writer_first, after_reader, after_owner, free_or_passed, release_from, exited, unblocked_on, unblocked, passed_on, passed}
+use Rattle.sd_full.specs.Prioritising.{lifted, aged}
 use Rattle.sd_full.specs.Conditions.{cv_waited}
 use Rattle.sd_full.specs.SetChanges.{cleared, assigned, joined, rebound, pbound}
-use Rattle.sd_full.specs.LockGraph.{wait_of, walk_of}
+use Rattle.sd_full.specs.LockGraph.{walk_of}
 use Rattle.sd_full.specs.Events.{keeps_ageing, dropped_duty, drop_ageing, effect, after}
-use Rattle.sd_full.proofs.ShapeLemmas.{IsShaped, then_shape}
 use Rattle.sd_sound.specs.Causes.{IsFree, IsCause}
 use Rattle.sd_sound.proofs.CpuWords as C
 use Rattle.sd_sound.proofs.LockTable as T

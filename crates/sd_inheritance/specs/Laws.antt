@@ -1,12 +1,11 @@
 -- What is said of priority inheritance through chains of locks, in every state of every run of the machine.
 -- Source: Solaris Internals (turnstiles, priority inheritance); that a walk takes one lock at a time, and how it finds that
 -- a chain is closed, are this project's own.
-use Rattle.std.specs.Prelude.{◌≡◌, ◌≢◌, ℕ, true, false, List, ◌++◌, Option, Some, None, ℤ, int_lt, ◌⊎◌, if◌then◌else◌}
+use Rattle.std.specs.Prelude.{◌≡◌, ◌≢◌, ℕ, true, List, [], ◌++◌, Option, Some, ℤ, int_lt, ◌⊎◌, if◌then◌else◌}
 use Rattle.sd_types.specs.declared.numbers.CpuId.{CpuId}
 use Rattle.sd_types.specs.declared.numbers.LockId.{LockId}
 use Rattle.sd_types.specs.declared.numbers.Side.{Side}
 use Rattle.sd_types.specs.declared.numbers.ThreadId.{ThreadId}
-use Rattle.sd_types.specs.declared.events.Duty.{Duty}
 use Rattle.sd_types.specs.declared.events.Duty.TheVariants.{Nothing, Walk}
 use Rattle.sd_types.specs.declared.events.Entry.{Entry}
 use Rattle.sd_types.specs.declared.events.Event.TheVariants as event
@@ -23,7 +22,7 @@ use Rattle.sd_machine.specs.Opening.{opening}
 use Rattle.sd_full.specs.Threads.{lock_of, eff_of}
 use Rattle.sd_full.specs.Changes.{back_key}
 use Rattle.sd_full.specs.Events.{next, after}
-use Rattle.sd_full.specs.LockGraph.{graph}
+use Rattle.sd_full.specs.LockGraph.{graph, cycles_of}
 use Rattle.sd_full.specs.Runs.{final, IsRun, IsReached}
 
 -- a thread keeps numbers for locks that it owns alone; where it is in no blocking cycle and no walk stands at a lock that it
@@ -102,7 +101,14 @@ CyclesStay =
     → IsCycle (graph (final w (opening w) es)) ts → IsCycle (graph (final w (opening w) (es ++ more))) ts
 
 -- a thread that is in a blocking cycle stays in one
-abbrev pub CyclicStay : Type 0
-CyclicStay =
+abbrev pub CyclicThreadsStay : Type 0
+CyclicThreadsStay =
     (w : Work) (es more : List Entry) (o : ℕ) → IsRun w (es ++ more)
     → InCycle (graph (final w (opening w) es)) o → InCycle (graph (final w (opening w) (es ++ more))) o
+
+-- where no blocking cycle is listed at the end of a run, in each of its states in which nobody walks the effective priority of
+-- every thread is the maximum of the base priorities of itself and of all threads blocked behind it
+abbrev pub MaximaWithoutCycles : Type 0
+MaximaWithoutCycles =
+    (w : Work) (es more : List Entry) → IsRun w (es ++ more) → cycles_of (final w (opening w) (es ++ more)) ≡ []
+    → NobodyWalks (final w (opening w) es) → (o : ℕ) → IsChainMax (graph (final w (opening w) es)) o (eff_of (final w (opening w) es) o)

@@ -1,6 +1,6 @@
 //! Laws of priority inheritance, each as the contract of a function without a body.
 
-ghost use Rattle.sd_inheritance.specs.Laws.{CyclesStay, CyclicStay, InheritanceIsLocal, OwnersHaveChainMaximum, PrioritiesAreMaxima, WalksEndAtUnowned, WalksGoOn, WalksLeadOn};
+ghost use Rattle.sd_inheritance.specs.Laws.{CyclesStay, CyclicThreadsStay, InheritanceIsLocal, MaximaWithoutCycles, OwnersHaveChainMaximum, PrioritiesAreMaxima, WalksEndAtUnowned, WalksGoOn, WalksLeadOn};
 ghost use Rattle.sd_sound.specs.Laws.{HoldsAfterEntries, HoldsWhenReached};
 
 /// A thread inherits through locks that it owns alone. For each lock whose owner is in no blocking cycle and at which no
@@ -48,5 +48,11 @@ pub fn cycles_stay()
 
 /// A thread that is in a blocking cycle is in one in each later state of the run.
 pub fn cyclic_threads_stay()
-    ensures { CyclicStay }
+    ensures { CyclicThreadsStay }
+{}
+
+/// Where no blocking cycle is listed at the end of a run, in each of its states in which no processor walks along a chain the
+/// effective priority of every thread is the maximum of the base priorities of itself and of all threads blocked behind it.
+pub fn priorities_are_maxima_without_cycles()
+    ensures { MaximaWithoutCycles }
 {}

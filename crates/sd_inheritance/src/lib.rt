@@ -6,5 +6,6 @@ mod laws;
 
 pub use laws::{
     cycles_stay, cyclic_threads_stay, inheritance_is_local, owners_have_chain_maximum,
-    priorities_are_maxima, walks_end_at_unowned, walks_go_on, walks_lead_on,
+    priorities_are_maxima, priorities_are_maxima_without_cycles, walks_end_at_unowned, walks_go_on,
+    walks_lead_on,
 };
