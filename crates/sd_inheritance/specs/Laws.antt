@@ -25,7 +25,7 @@ use Rattle.sd_full.specs.Events.{next, after}
 use Rattle.sd_full.specs.LockGraph.{graph, cycles_of}
 use Rattle.sd_full.specs.Runs.{final, IsRun, IsReached}
 
--- a thread keeps numbers for locks that it owns alone; where it is in no blocking cycle and no walk stands at a lock that it
+-- a thread keeps numbers only for locks that it owns; where it is in no blocking cycle and no walk stands at a lock that it
 -- owns, the number for the lock is the greatest effective priority of the lock's waiters, and there is none where nobody waits
 abbrev pub InheritanceIsLocal : State → Type 0
 InheritanceIsLocal s = IsLocal (graph s)

@@ -3,7 +3,7 @@
 ghost use Rattle.sd_inheritance.specs.Laws.{CyclesStay, CyclicThreadsStay, InheritanceIsLocal, MaximaWithoutCycles, OwnersHaveChainMaximum, PrioritiesAreMaxima, WalksEndAtUnowned, WalksGoOn, WalksLeadOn};
 ghost use Rattle.sd_sound.specs.Laws.{HoldsAfterEntries, HoldsWhenReached};
 
-/// A thread inherits through locks that it owns alone. For each lock whose owner is in no blocking cycle and at which no
+/// A thread inherits only through locks that it owns. For each lock whose owner is in no blocking cycle and at which no
 /// walk stands, the owner inherits exactly the greatest effective priority of the lock's waiters, and nothing where
 /// nobody waits.
 pub fn inheritance_is_local()
