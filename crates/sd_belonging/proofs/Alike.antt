@@ -71,12 +71,13 @@ pub record IsBusy (s : State) (d : ℕ) : Type 0 where
 -- threads stand where they stood, bound as they were, and processors are of the sets of which they were
 pub record Keeps (s r : State) : Type 0 where
   pub many : length r.threads ≡ length s.threads
+  pub cpus : length r.cpus ≡ length s.cpus
   pub places : IsSame (of_threads place_part s) (of_threads place_part r)
   pub bounds : IsSame (of_threads bound_part s) (of_threads bound_part r)
   pub sets : IsSame (of_cpus set_part s) (of_cpus set_part r)
 
 pub then_keeps : (s r q : State) → Keeps s r → Keeps r q → Keeps s q
-then_keeps s r q a b = record { many = b.many ∙ a.many; places = λ u. b.places u ∙ a.places u; bounds = λ u. b.bounds u ∙ a.bounds u; sets = λ u. b.sets u ∙ a.sets u }
+then_keeps s r q a b = record { many = b.many ∙ a.many; cpus = b.cpus ∙ a.cpus; places = λ u. b.places u ∙ a.places u; bounds = λ u. b.bounds u ∙ a.bounds u; sets = λ u. b.sets u ∙ a.sets u }
 
 -- who runs in one runs in the other
 pub busy_back : (s r : State) (d : ℕ) → Keeps s r → IsBusy r d → IsBusy s d
@@ -130,7 +131,7 @@ pub record Weighed (s r : State) (t : ℕ) (x : Weight) : Type 0 where
   pub weights : IsPut t x (of_threads weight_part s) (of_threads weight_part r)
 
 pub all_calm : (s : State) → Calm s s
-all_calm s = record { keeps = record { many = refl; places = λ u. refl; bounds = λ u. refl; sets = λ u. refl }; marks = λ u. refl; weights = λ u. refl }
+all_calm s = record { keeps = record { many = refl; cpus = refl; places = λ u. refl; bounds = λ u. refl; sets = λ u. refl }; marks = λ u. refl; weights = λ u. refl }
 
 pub then_calm : (s r q : State) → Calm s r → Calm r q → Calm s q
 then_calm s r q a b = record { keeps = then_keeps s r q a.keeps b.keeps; marks = λ u. b.marks u ∙ a.marks u; weights = λ u. b.weights u ∙ a.weights u }
@@ -169,6 +170,7 @@ pub thread_calm : (s : State) (t : ℕ) (x : ThreadState) → x.place ≡ (threa
 thread_calm s t x place bound weight = record {
   keeps = record {
     many = length-set s.threads t x;
+    cpus = refl;
     places = same_item place_part s.threads no_thread t x place;
     bounds = same_item bound_part s.threads no_thread t x bound;
     sets = λ u. refl;
@@ -181,6 +183,7 @@ pub body_weighs : (s : State) (t : ℕ) (b : ThreadBody) → t < length s.thread
 body_weighs s t b inside bound = record {
   keeps = record {
     many = length-set s.threads t (record (thread_of s t) { body = b });
+    cpus = refl;
     places = same_item place_part s.threads no_thread t (record (thread_of s t) { body = b }) refl;
     bounds = same_item bound_part s.threads no_thread t (record (thread_of s t) { body = b }) bound;
     sets = λ u. refl;
@@ -191,7 +194,7 @@ body_weighs s t b inside bound = record {
 
 pub cpu_calm : (s : State) (c : ℕ) (y : CpuState) → set_part y ≡ set_part (cpu_of s c) → marks_part y ≡ marks_part (cpu_of s c) → Calm s (with_cpu s c y)
 cpu_calm s c y its_set its_marks = record {
-  keeps = record { many = refl; places = λ u. refl; bounds = λ u. refl; sets = same_item set_part s.cpus no_cpu c y its_set };
+  keeps = record { many = refl; cpus = length-set s.cpus c y; places = λ u. refl; bounds = λ u. refl; sets = same_item set_part s.cpus no_cpu c y its_set };
   marks = same_item marks_part s.cpus no_cpu c y its_marks;
   weights = λ u. refl;
 }
@@ -225,7 +228,7 @@ mark_more s c y kernel marks busy = record {
 
 pub marked_alike : (s : State) (c : ℕ) (y : CpuState) → set_part y ≡ set_part (cpu_of s c) → ((cpu_of s c).kernel ≡ true → y.kernel ≡ true) → (is_marked (cpu_of s c) ≡ true → is_marked y ≡ true) → IsBusy s c → Alike s (with_cpu s c y)
 marked_alike s c y its_set kernel marks busy = record {
-  keeps = record { many = refl; places = λ u. refl; bounds = λ u. refl; sets = same_item set_part s.cpus no_cpu c y its_set };
+  keeps = record { many = refl; cpus = length-set s.cpus c y; places = λ u. refl; bounds = λ u. refl; sets = same_item set_part s.cpus no_cpu c y its_set };
   marks = mark_more s c y kernel marks busy;
   weights = λ u. refl;
 }
@@ -233,10 +236,10 @@ marked_alike s c y its_set kernel marks busy = record {
 -- Words.
 
 pub lock_calm : (s : State) (l : ℕ) (x : LockState) → Calm s (with_lock s l x)
-lock_calm s l x = record { keeps = record { many = refl; places = λ u. refl; bounds = λ u. refl; sets = λ u. refl }; marks = λ u. refl; weights = λ u. refl }
+lock_calm s l x = record { keeps = record { many = refl; cpus = refl; places = λ u. refl; bounds = λ u. refl; sets = λ u. refl }; marks = λ u. refl; weights = λ u. refl }
 
 pub count_calm : (s : State) (k n : ℕ) → Calm s (with_count s k n)
-count_calm s k n = record { keeps = record { many = refl; places = λ u. refl; bounds = λ u. refl; sets = λ u. refl }; marks = λ u. refl; weights = λ u. refl }
+count_calm s k n = record { keeps = record { many = refl; cpus = refl; places = λ u. refl; bounds = λ u. refl; sets = λ u. refl }; marks = λ u. refl; weights = λ u. refl }
 
 pub set_duty_calm : (s : State) (c : ℕ) (d : Duty) → Calm s (set_duty s c d)
 unfolding set_duty

@@ -63,6 +63,9 @@ pub record Puts (P : ℕ → Type 0) (s r : State) (t : ℕ) (place : Place) (x 
   pub goes : Goes P s r t place x
   pub called : Single s → (d v : ℕ) → d < length s.cpus → is_queued d place ≡ true → is_running d (thread_of r v).place ≡ true → eff_of r v < heft x → is_marked (cpu_of r d) ≡ true
 
+pub single_back : (s r : State) → Keeps s r → Single s → Single r
+single_back s r k one d a b ra rb = one d a b (ap (is_running d) (sym (k.places a)) ∙ ra) (ap (is_running d) (sym (k.places b)) ∙ rb)
+
 module _ (P : ℕ → Type 0) where
   after_same : (s r q : State) (t : ℕ) (place : Place) (x : Weight) → Keeps s r → IsSame (of_cpus marks_part s) (of_cpus marks_part r) → IsPut t x (of_threads weight_part s) (of_threads weight_part q) → Goes P r q t place x → Goes P s q t place x
   after_same s r q t place x k same weights b = record {
@@ -103,19 +106,16 @@ module _ (P : ℕ → Type 0) where
   pub goes_to : (s r : State) (t : ℕ) (place : Place) (x y : Weight) → Goes P s r t place x → x ≡ y → Goes P s r t place y
   goes_to s r t place x y a is = subst (λ z. Goes P s r t place z) is a
 
-  single_back : (s r : State) → Keeps s r → Single s → Single r
-  single_back s r k one d a b ra rb = one d a b (ap (is_running d) (sym (k.places a)) ∙ ra) (ap (is_running d) (sym (k.places b)) ∙ rb)
-
-  pub calm_puts : (s r q : State) (t : ℕ) (place : Place) (x : Weight) → length r.cpus ≡ length s.cpus → Calm s r → Puts P r q t place x → Puts P s q t place x
-  calm_puts s r q t place x many a b = record {
+  pub calm_puts : (s r q : State) (t : ℕ) (place : Place) (x : Weight) → Calm s r → Puts P r q t place x → Puts P s q t place x
+  calm_puts s r q t place x a b = record {
     goes = calm_goes s r q t place x a b.goes;
-    called = λ one d v inside queued runs less. b.called (single_back s r a.keeps one) d v (omega (arith, many, inside)) queued runs less;
+    called = λ one d v inside queued runs less. let many = a.keeps.cpus in b.called (single_back s r a.keeps one) d v (omega (arith, many, inside)) queued runs less;
   }
 
-  pub weighs_puts : (s r q : State) (t : ℕ) (place : Place) (y x : Weight) → length r.cpus ≡ length s.cpus → Weighs s r t y → Puts P r q t place x → Puts P s q t place x
-  weighs_puts s r q t place y x many a b = record {
+  pub weighs_puts : (s r q : State) (t : ℕ) (place : Place) (y x : Weight) → Weighs s r t y → Puts P r q t place x → Puts P s q t place x
+  weighs_puts s r q t place y x a b = record {
     goes = weighs_goes s r q t place y x a b.goes;
-    called = λ one d v inside queued runs less. b.called (single_back s r a.keeps one) d v (omega (arith, many, inside)) queued runs less;
+    called = λ one d v inside queued runs less. let many = a.keeps.cpus in b.called (single_back s r a.keeps one) d v (omega (arith, many, inside)) queued runs less;
   }
 
   pub puts_alike : (s r q : State) (t : ℕ) (place : Place) (x : Weight) → Puts P s r t place x → Alike r q → Puts P s q t place x
@@ -210,7 +210,7 @@ woken_puts w s n t at inside =
     let before : Weighs s (set_class s t class) t (class, (thread_of s t).body.willed.items) = set_class_weighs s t class inside in
     let many = before.keeps.many in
     puts_to All s _ t _ _ _
-    (weighs_puts All s (set_class s t class) _ t _ _ _ refl before (put_puts w (set_class s t class) n t at (omega (arith, many, inside))))
+    (weighs_puts All s (set_class s t class) _ t _ _ _ before (put_puts w (set_class s t class) n t at (omega (arith, many, inside))))
     before.weights.at
 
 leave_cpus : (s : State) (c t : ℕ) (place : Place) → length (leave s c t place).cpus ≡ length s.cpus

@@ -1,6 +1,9 @@
 pub mod All
 pub mod Alike
+pub mod Calls
 pub mod Goes
 pub mod Joins
 pub mod OnePlace
 pub mod OpenLists
+pub mod Outcomes
+pub mod Words
