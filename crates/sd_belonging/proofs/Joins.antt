@@ -40,7 +40,7 @@ nobody_queued s c none t inside = none_stands (λ (x : ThreadState). is_queued c
 
 -- Sets of processors.
 
-abbrev SameSets : State → State → Type 0
+abbrev pub SameSets : State → State → Type 0
 SameSets s r = (d : ℕ) → (cpu_of r d).set ≡ (cpu_of s d).set
 
 sets_of : (s r : State) → SamePlaces s r → SameSets s r
@@ -50,7 +50,7 @@ close_sets : (s : State) (d : CpuId) (to : SetId) → SameSets s (close s d to)
 unfolding close
 close_sets s d to u = same_item (λ (x : CpuState). x.set) s.cpus no_cpu d.0 (record (cpu_of s d.0) { closing = Some to }) refl u
 
-assigned_sets : (w : Work) (s : State) (t : ℕ) (d : CpuId) (to : SetId) (answer : AssignAnswer) → SameSets s (assigned w s t d to answer)
+pub assigned_sets : (w : Work) (s : State) (t : ℕ) (d : CpuId) (to : SetId) (answer : AssignAnswer) → SameSets s (assigned w s t d to answer)
 unfolding assigned
 assigned_sets w s t d to assign.Changed u =
     sets_of (close s d to) _ (C.then_kept place_part (close s d to) (cleared (close s d to) d (runner s d.0)) _ (C.cleared_kept place_part place_marks (close s d to) d (runner s d.0)) (C.finish_op_kept place_part place_marks w _ t)) u
@@ -59,12 +59,12 @@ assigned_sets w s t d to assign.EPERM u = sets_of s _ (C.finish_op_kept place_pa
 assigned_sets w s t d to assign.EINVAL u = sets_of s _ (C.finish_op_kept place_part place_marks w s t) u
 assigned_sets w s t d to assign.EBUSY u = sets_of s _ (C.finish_op_kept place_part place_marks w s t) u
 
-joined_others : (s : State) (c : CpuId) (to : SetId) (d : ℕ) → d ≢ c.0 → (cpu_of (joined s c to) d).set ≡ (cpu_of s d).set
+pub joined_others : (s : State) (c : CpuId) (to : SetId) (d : ℕ) → d ≢ c.0 → (cpu_of (joined s c to) d).set ≡ (cpu_of s d).set
 unfolding joined join
 joined_others s c to d other =
     ap (λ (x : SetId × Option SetId). x.0) (other_place (with_open s to.0 (with_cpu_in c (open_of s to.0))) c.0 (record (cpu_of s c.0) { set = to; closing = None }) d other)
 
-drop_sets : (s : State) (c : ℕ) (e : Event) → SameSets s (drop_ageing s c e)
+pub drop_sets : (s : State) (c : ℕ) (e : Event) → SameSets s (drop_ageing s c e)
 drop_sets s c e = sets_of s (drop_ageing s c e) (drop_keeps place_part places_plain s c e)
 
 sets_by : (w : Work) (s : State) (n : ℕ) (c : CpuId) (e : Event) → IsCause w s c.0 e → (d : ℕ) → ((cpu_of (after w s n c e) d).set ≡ (cpu_of s d).set) ⊎ IsJoining s c e d

@@ -1,9 +1,13 @@
 pub mod All
 pub mod Alike
 pub mod Calls
+pub mod Events
 pub mod Goes
+pub mod Homes
 pub mod Joins
 pub mod OnePlace
 pub mod OpenLists
 pub mod Outcomes
+pub mod Settle
+pub mod Special
 pub mod Words
