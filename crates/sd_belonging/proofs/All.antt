@@ -43,7 +43,7 @@ use Rattle.sd_belonging.proofs.Settle.{assigned_belongs, joined_belongs, bound_b
 
 -- What is known of a state of a run, if its threads belong to their places.
 
-runs_inside : (s : State) (d t : ℕ) → is_running d (thread_of s t).place ≡ true → t < length s.threads
+pub runs_inside : (s : State) (d t : ℕ) → is_running d (thread_of s t).place ≡ true → t < length s.threads
 runs_inside s d t runs = elim (cases_lt t (length s.threads)) [
   | inl inside ↦ inside
   | inr past ↦ absurd (false≢true (sym (ap (λ (x : ThreadState). is_running d x.place) (get_or_past s.threads t no_thread past)) ∙ runs))

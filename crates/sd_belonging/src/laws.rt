@@ -2,6 +2,7 @@
 
 ghost use Rattle.sd_belonging.specs.Belonging.{EachInOnePlace, OpenListsAreExact, ThreadsBelong};
 ghost use Rattle.sd_belonging.specs.Changes.{BoundAreDispatchedAtHome, SetsChangeByJoining, StolenAreUnbound};
+ghost use Rattle.sd_laws.specs.Laws.{MarksStand};
 ghost use Rattle.sd_sound.specs.Laws.{HoldsAfterEntries, HoldsWhenReached};
 
 /// In every state of every run each thread stands where its processor set, its binding and its priority ask. A thread
@@ -16,6 +17,12 @@ pub fn threads_belong()
 /// The open list of each set rises, has exactly the processors of the set that are not closing, and is never empty.
 pub fn open_lists_are_exact()
     ensures { HoldsWhenReached OpenListsAreExact }
+{}
+
+/// Where a thread runs and one on the processor's own queue has a greater effective priority, the user's mark or the kernel's
+/// is set; a processor on which no thread runs has no mark.
+pub fn marks_stand()
+    ensures { HoldsWhenReached (λ w s. MarksStand s) }
 {}
 
 /// The set of a processor changes only by its own event of joining, with no thread on it and none on its queue.

@@ -5,6 +5,6 @@
 mod laws;
 
 pub use laws::{
-    bound_threads_are_dispatched_at_home, one_place, open_lists_are_exact, sets_change_by_joining,
-    threads_belong,
+    bound_threads_are_dispatched_at_home, marks_stand, one_place, open_lists_are_exact,
+    sets_change_by_joining, threads_belong,
 };
