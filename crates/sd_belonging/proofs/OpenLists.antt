@@ -1,8 +1,8 @@
 -- The open list of a set is exact: each processor of the set that is not closing is in it.
-use Rattle.std.proofs.Common.{◌≡◌, ◌≢◌, ℕ, ◌+◌, ◌<◌, ◌≤◌, Bool, true, false, not, ◌&&◌, ◌||◌, List, [], ◌∷◌, length, get_or, set, Option, Some, None, refl, sym, ap, ◌∙◌, subst, inl, inr, ◌⊎◌, arith}
-use Rattle.std.specs.Prelude.{if◌then◌else◌, is_some, nat_lt, ◌==◌, IfSome}
+use Rattle.std.proofs.Common.{◌≡◌, ◌≢◌, ℕ, zero, suc, ◌+◌, ◌<◌, ◌≤◌, Bool, true, false, not, ◌&&◌, ◌||◌, List, [], ◌∷◌, length, get_or, set, Option, Some, None, refl, sym, ap, ◌∙◌, subst, inl, inr, ◌⊎◌, arith}
+use Rattle.std.specs.Prelude.{if◌then◌else◌, is_none, map, filter, nat_lt, ◌==◌, IfSome}
 use Rattle.std.specs.List.{range_with_len}
-use Rattle.std.proofs.lemmas.Bool.{cases_eq, eq-eqb}
+use Rattle.std.proofs.lemmas.Bool.{cases_eq, eq-eqb, eqb-true, false≢true}
 use Rattle.std.proofs.lemmas.Bool.Decides.{nat_tests}
 use Rattle.std.proofs.lemmas.List.{get_or-set_same, get_or-set_other, length-set}
 use Rattle.std.proofs.lemmas.List.FromFn.{get_or-map-range_with_len}
@@ -26,20 +26,21 @@ use Rattle.sd_full.specs.SetChanges.{cleared, assigned, joined}
 use Rattle.sd_full.specs.Shapes.{FitsFully}
 use Rattle.sd_full.specs.Changes.{set_duty}
 use Rattle.sd_full.specs.Events.{dropped_duty, drop_ageing, effect, after}
-use Rattle.sd_part.proofs.PartitionLemmas.{names-passing, set-at_most}
+use Rattle.sd_part.proofs.PartitionLemmas.{names-passing, passing-named, set-at_most}
 use Rattle.sd_sound.specs.Causes.{IsCause}
-use Rattle.sd_sound.specs.Laws.{HoldsWhenReached, is_in}
+use Rattle.sd_sound.specs.Laws.{HoldsWhenReached, OpenHold, is_in, IsRising}
 use Rattle.sd_sound.proofs.Parts.{put_item}
 use Rattle.sd_sound.proofs.CpuWords as C
 use Rattle.sd_sound.proofs.FieldWords as F
 use Rattle.sd_sound.proofs.PlainWords.{drop_keeps}
 use Rattle.sd_sound.proofs.OpenLemmas.{place_part, place_marks, places_plain, SamePlaces, is_setless, cpus_same, open_field, finish_open, open_same, other_place}
 use Rattle.sd_sound.proofs.Whole.{reached_whole}
+use Rattle.sd_sound.proofs.Works.{first_of_two, second_of_two}
 use Rattle.sd_range.specs.There.{IsSetThere}
 use Rattle.sd_range.proofs.Induction.{held_reached}
 use Rattle.sd_range.proofs.Named.{acts_named, assign_cpu}
 use Rattle.sd_range.proofs.Sets.{SetsAreThere, sets_are_there, sets_are_open}
-use Rattle.sd_belonging.specs.Belonging.{IsOpenList, OpenListsAreExact}
+use Rattle.sd_belonging.specs.Belonging.{open_cpus, OpenListsAreExact}
 
 -- Lists of processors.
 
@@ -79,6 +80,17 @@ with_others d c (x ∷ xs) e = by (nat_lt c.0 x.0) (x.0 == d) refl (λ f. with_o
     by true h is more f = or_right (c.0 == d) _ (rw is f)
     by false true is more f = rw is refl
     by false false is more f = or_right (x.0 == d) (is_in d (with_cpu_in c xs)) (more f)
+
+both : (a b : Bool) → a ≡ true → b ≡ true → (a && b) ≡ true
+both true b h e = e
+both false b h e = h
+
+none_of : (b : Option SetId) → is_none b ≡ true → b ≡ None
+none_of None e = refl
+none_of (Some p) e = cc
+
+same_cpu : (c d : CpuId) → c.0 ≡ d.0 → c ≡ d
+same_cpu c d e = ap (λ (n : ℕ). let r : CpuId = record { 0 = n } in r) e
 
 -- Each processor that is not closing is in the open list of its set.
 
@@ -239,12 +251,85 @@ are_listed = held_reached AreListed (record {
   step = λ w s n c e reached here cause listed. listed_kept w s n c e (reached_whole w n s reached).ready.fits (sets_are_there w n s reached) here cause listed;
 })
 
+-- Rising lists with the same members are equal.
+
+in_later : (c : ℕ) (d : CpuId) (ds : List CpuId) → is_in c (d ∷ ds) ≡ true → (d.0 ≡ c) ⊎ (is_in c ds ≡ true)
+in_later c d ds e = by (d.0 == c) refl e
+  where
+    by : (b : Bool) → (d.0 == c) ≡ b → (b || is_in c ds) ≡ true → (d.0 ≡ c) ⊎ (is_in c ds ≡ true)
+    by true is e = inl (grind (arith, nat_tests))
+    by false is e = inr e
+
+in_first : (d : CpuId) (ds : List CpuId) → is_in d.0 (d ∷ ds) ≡ true
+in_first d ds = rw (self d.0) refl
+
+rising_least : (n c : ℕ) (xs : List CpuId) → IsRising n xs → is_in c xs ≡ true → n ≤ c
+rising_least n c [] rises e = cc
+rising_least n c (x ∷ xs) (least, rises) e = elim (in_later c x xs e) [
+  | inl is ↦ omega (arith, is, least)
+  | inr later ↦ let more = rising_least (x.0 + 1) c xs rises later in omega (arith, more, least)
+]
+
+rising_equal : (n : ℕ) (xs ys : List CpuId) → IsRising n xs → IsRising n ys → ((c : ℕ) → is_in c xs ≡ true → is_in c ys ≡ true) → ((c : ℕ) → is_in c ys ≡ true → is_in c xs ≡ true) → xs ≡ ys
+rising_equal n [] [] a b to from = refl
+rising_equal n [] (y ∷ ys) a b to from = absurd (false≢true (from y.0 (in_first y ys)))
+rising_equal n (x ∷ xs) [] a b to from = absurd (false≢true (to x.0 (in_first x xs)))
+rising_equal n (x ∷ xs) (y ∷ ys) (least, a) (least', b) to from =
+    ap (λ z. z ∷ xs) (same_cpu x y same) ∙ ap (λ zs. y ∷ zs) (rising_equal (x.0 + 1) xs ys a (subst (λ i. IsRising (i + 1) ys) (sym same) b) tail_to tail_from)
+  where
+    same : x.0 ≡ y.0
+    same = elim (in_later x.0 y ys (to x.0 (in_first x xs))) [
+      | inl is ↦ sym is
+      | inr later ↦ elim (in_later y.0 x xs (from y.0 (in_first y ys))) [
+        | inl is ↦ is
+        | inr also ↦ let up = rising_least (y.0 + 1) x.0 ys b later in let down = rising_least (x.0 + 1) y.0 xs a also in absurd (omega (arith, up, down))
+      ]
+    ]
+
+    tail_to : (c : ℕ) → is_in c xs ≡ true → is_in c ys ≡ true
+    tail_to c e = elim (in_later c y ys (to c (or_right (x.0 == c) (is_in c xs) e))) [
+      | inl is ↦ let more = rising_least (x.0 + 1) c xs a e in absurd (omega (arith, is, same, more))
+      | inr later ↦ later
+    ]
+
+    tail_from : (c : ℕ) → is_in c ys ≡ true → is_in c xs ≡ true
+    tail_from c e = elim (in_later c x xs (from c (or_right (y.0 == c) (is_in c ys) e))) [
+      | inl is ↦ let more = rising_least (y.0 + 1) c ys b e in absurd (omega (arith, is, same, more))
+      | inr later ↦ later
+    ]
+
+rising_more : (n m : ℕ) (xs : List CpuId) → n ≤ m → IsRising m xs → IsRising n xs
+rising_more n m [] le rises = tt
+rising_more n m (x ∷ xs) le (least, rises) = (omega (arith, le, least), rises)
+
+passing_rise : (q : ℕ → Bool) (n m : ℕ) → IsRising n (map cpu_of_number (filter q (range_with_len n m)))
+passing_rise q n zero = tt
+passing_rise q n (suc m) = by (q n) (passing_rise q (n + 1) m)
+  where
+    by : (b : Bool) → IsRising (n + 1) (map cpu_of_number (filter q (range_with_len (n + 1) m))) → IsRising n (map cpu_of_number (if b then (n ∷ filter q (range_with_len (n + 1) m)) else filter q (range_with_len (n + 1) m)))
+    by true rest = (omega arith, rest)
+    by false rest = rising_more n (n + 1) (map cpu_of_number (filter q (range_with_len (n + 1) m))) (omega arith) rest
+
 pub open_lists_are_exact : HoldsWhenReached OpenListsAreExact
-open_lists_are_exact w n s reached p there =
-    let holds = (reached_whole w n s reached).opened in
-    record {
-      rising = holds.rising p;
-      members = λ c e. holds.member p c e;
-      all = λ c inside its_set opened. subst (λ i. is_in c (open_of s i) ≡ true) its_set (are_listed w n s reached c inside opened);
-      some = sets_are_open w n s reached p there;
-    }
+open_lists_are_exact w n s reached p there = record {
+  exact = rising_equal 0 (open_of s p) (open_cpus w s p) (holds.rising p) (passing_rise passes 0 w.cpus) to from;
+  some = sets_are_open w n s reached p there;
+}
+  where
+    holds : OpenHold w s
+    holds = (reached_whole w n s reached).opened
+
+    passes : ℕ → Bool
+    passes c = ((cpu_of s c).set.0 == p) && is_none (cpu_of s c).closing
+
+    to : (c : ℕ) → is_in c (open_of s p) ≡ true → is_in c (open_cpus w s p) ≡ true
+    to c e =
+        let (inside, its_set, opened) = holds.member p c e in
+        names-passing w.cpus 0 c passes (omega arith) (omega (arith, inside)) (both ((cpu_of s c).set.0 == p) (is_none (cpu_of s c).closing) (eq-eqb (cpu_of s c).set.0 p its_set) (ap is_none opened))
+
+    from : (c : ℕ) → is_in c (open_cpus w s p) ≡ true → is_in c (open_of s p) ≡ true
+    from c e =
+        let (least, below, test) = passing-named w.cpus 0 c passes e in
+        let its_set : (cpu_of s c).set.0 ≡ p = eqb-true (cpu_of s c).set.0 p (first_of_two ((cpu_of s c).set.0 == p) (is_none (cpu_of s c).closing) test) in
+        subst (λ i. is_in c (open_of s i) ≡ true) its_set
+        (are_listed w n s reached c (omega (arith, below)) (none_of (cpu_of s c).closing (second_of_two ((cpu_of s c).set.0 == p) (is_none (cpu_of s c).closing) test)))

@@ -1,16 +1,17 @@
 -- Where threads stand: on which queues and processors each may be by its processor set, its binding and its effective
 -- priority, and which processors each set has open.
 -- Source: psrset(1M), pbind(1M), Solaris Internals (dispatch queues).
-use Rattle.std.specs.Prelude.{◌≡◌, ◌≢◌, ℕ, ◌<◌, ◌≤◌, true, length, Option, Some, None, ⊤, ◌⊎◌}
+use Rattle.std.specs.Prelude.{◌≡◌, ◌≢◌, ℕ, ◌<◌, ◌≤◌, true, ◌&&◌, List, length, map, filter, ◌==◌, Option, Some, None, is_none, ⊤, ◌⊎◌}
+use Rattle.std.specs.List.{range_with_len}
 use Rattle.sd_types.specs.declared.numbers.CpuId.{CpuId}
 use Rattle.sd_types.specs.declared.numbers.SetId.{SetId}
 use Rattle.sd_types.specs.declared.works.Work.{Work}
+use Rattle.sd_types.specs.Partitions.{cpu_of_number}
 use Rattle.sd_machine.specs.declared.states.Place.{Place}
 use Rattle.sd_machine.specs.declared.states.Place.TheVariants.{Running, Queued, RealTime}
 use Rattle.sd_machine.specs.declared.states.State.{State}
 use Rattle.sd_machine.specs.States.{thread_of, cpu_of}
 use Rattle.sd_full.specs.Threads.{open_of, set_of, eff_of}
-use Rattle.sd_sound.specs.Laws.{is_in, IsRising}
 use Rattle.sd_laws.specs.Laws.{PlacesAreThere, OneRuns, KeysDiffer, KeysWithin}
 
 -- A thread of effective priority p, bound to a processor or to none, may stand on the queue of processor c: it is bound to c, or
@@ -42,11 +43,13 @@ pub record Belongs (w : Work) (s : State) (t : ℕ) : Type 0 where
 abbrev pub ThreadsBelong : Work → State → Type 0
 ThreadsBelong w s = (t : ℕ) → Belongs w s t
 
--- The open list of a set: it rises, it has exactly the processors of the set that are not closing, and it has one.
+-- the processors of a set that are not closing, in rising order
+abbrev pub open_cpus : Work → State → ℕ → List CpuId
+open_cpus w s p = map cpu_of_number (filter (λ c. ((cpu_of s c).set.0 == p) && is_none (cpu_of s c).closing) (range_with_len 0 w.cpus))
+
+-- the open list of each set is these processors, and it has one
 pub record IsOpenList (w : Work) (s : State) (p : ℕ) : Type 0 where
-  pub rising : IsRising 0 (open_of s p)
-  pub members : (c : ℕ) → is_in c (open_of s p) ≡ true → (c < w.cpus) × ((cpu_of s c).set.0 ≡ p) × ((cpu_of s c).closing ≡ None)
-  pub all : (c : ℕ) → c < w.cpus → (cpu_of s c).set.0 ≡ p → (cpu_of s c).closing ≡ None → is_in c (open_of s p) ≡ true
+  pub exact : open_of s p ≡ open_cpus w s p
   pub some : 0 < length (open_of s p)
 
 abbrev pub OpenListsAreExact : Work → State → Type 0
