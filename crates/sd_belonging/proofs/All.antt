@@ -34,6 +34,7 @@ use Rattle.sd_range.proofs.Named.{acts_named, assign_cpu}
 use Rattle.sd_range.proofs.Places.{threads_have_cpus}
 use Rattle.sd_range.proofs.All.{threads_law}
 use Rattle.sd_belonging.specs.Belonging.{BelongsAt, Belongs, ThreadsBelong}
+use Rattle.sd_belonging.proofs.Basics.{none_some}
 use Rattle.sd_belonging.proofs.Events.{is_settled, event_out}
 use Rattle.sd_belonging.proofs.Goes.{Single}
 use Rattle.sd_belonging.proofs.Homes.{outcome_belongs}
@@ -104,9 +105,6 @@ first_in_set w = subst (λ x. EachInItsSet w x) (first_state w) (own_law w [] (n
 
 first_suits : (w : Work) → QueuesSuit (opening w)
 first_suits w = subst (λ x. QueuesSuit x) (first_state w) (suits_law w [] (nothing_run w))
-
-none_some : (d : CpuId) → None ≡ Some d → ⊥
-none_some d e = cc
 
 opening_belongs : (w : Work) → ThreadsBelong w (opening w)
 opening_belongs w t = record {

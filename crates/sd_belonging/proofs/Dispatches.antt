@@ -8,17 +8,14 @@ use Rattle.sd_sound.proofs.Ready.{ready_cause, reached_ready}
 use Rattle.sd_sound.proofs.Works.{second_of_two}
 use Rattle.sd_belonging.specs.Changes.{BoundAreDispatchedAtHome, StolenAreUnbound}
 use Rattle.sd_belonging.proofs.All.{known, threads_belong}
-use Rattle.sd_belonging.proofs.Outcomes.{same_cpu, ready_at}
+use Rattle.sd_belonging.proofs.Basics.{none_of, same_cpu}
+use Rattle.sd_belonging.proofs.Outcomes.{ready_at}
 
 pub dispatched_at_home : BoundAreDispatchedAtHome
 dispatched_at_home w n s c hints t p d reached makes bound =
     let cause = ready_cause w s c hints (Dispatch t p) (reached_ready w n s reached) makes in
     let at = ready_at w s (known w n s reached (threads_belong w n s reached)) t.0 c (ready_found s c.0 t.0 cause.1).stands in
     same_cpu d c (at.1 d bound)
-
-none_of : (b : Option CpuId) → is_none b ≡ true → b ≡ None
-none_of None e = refl
-none_of (Some d) e = cc
 
 pub stolen_unbound : StolenAreUnbound
 stolen_unbound w n s c hints v t p reached makes =

@@ -63,9 +63,10 @@ use Rattle.sd_sound.proofs.PassLemmas.{drop_duties}
 use Rattle.sd_sound.proofs.Works.{first_of_two, second_of_two}
 use Rattle.sd_belonging.proofs.Alike.{Weight, weight_part, heft, Keeps, Calm, Alike, Weighs, Weighed, all_calm, then_calm, calm_alike, then_alike, calm_weighs, weighs_calm, weighs_alike, weighed_alike, either_calm, lock_calm, count_calm, set_duty_calm, count_tick_calm, drop_calm, finish_op_calm, run_tick_calm, hold_calm, set_class_weighs, walk_from_calm, passed_on_calm, remark_alike, charge_alike}
 use Rattle.sd_belonging.proofs.Goes.{All, Others, Goes, Single, Puts, single_back, calm_goes, goes_alike, calm_puts, weighs_puts, puts_alike, puts_to, put_puts, woken_puts, dispatched_goes, stolen_goes, sent_away_puts}
+use Rattle.sd_belonging.proofs.Basics.{self, none_of, none_some, neither, runs_one, running_rests}
 use Rattle.sd_belonging.proofs.Calls.{some_ready, most_ready, charge_called, remark_called, tick_base, requeue_base, other_base}
 use Rattle.sd_belonging.proofs.Joins.{nobody_runs}
-use Rattle.sd_belonging.proofs.Outcomes.{Known, Home, IsOff, Rests, Remarks, Calls, Outcome, same_cpu, stays_rests, put_off, queue_off, queue_here, put_home, requeued_home, runs_at, queued_at, ready_at, queue_home, neighbour_set}
+use Rattle.sd_belonging.proofs.Outcomes.{Known, Home, IsOff, Rests, Remarks, Calls, Outcome, stays_rests, put_off, queue_off, queue_here, put_home, requeued_home, runs_at, queued_at, ready_at, queue_home, neighbour_set}
 use Rattle.sd_belonging.proofs.Outcomes.Outcome.{alike, weighed, puts, leaves, comes}
 use Rattle.sd_belonging.proofs.Words.{weighs_to, preempted_goes, yielded_goes, done_goes, napped_goes, asleep_goes, blocked_goes, released_weighs, cv_waited_goes, woken_weight, handed_puts, unblocked_puts, reader_puts, writer_puts, roused_puts, woke_puts_one, walked_weighs}
 
@@ -80,24 +81,6 @@ off_by on none (Waiting l side k) e x = refl
 off_by on none (Asleep j k) e x = refl
 off_by on none (Napping d due) e x = refl
 off_by on none Ended e x = refl
-
-running_rests : (c : ℕ) (p : Place) → is_running c p ≡ true → is_runnable p ≡ false
-running_rests c (Running d) e = refl
-running_rests c (Queued d k) e = cc
-running_rests c (RealTime q k) e = cc
-running_rests c (Waiting l side k) e = cc
-running_rests c (Asleep j k) e = cc
-running_rests c (Napping d due) e = cc
-running_rests c Ended e = cc
-
-runs_one : (p : Place) (c d : ℕ) → is_running c p ≡ true → is_running d p ≡ true → d ≡ c
-runs_one (Running k) c d a b = sym (eqb-true k.0 d b) ∙ eqb-true k.0 c a
-runs_one (Queued k key) c d a b = cc
-runs_one (RealTime q k) c d a b = cc
-runs_one (Waiting l side k) c d a b = cc
-runs_one (Asleep j k) c d a b = cc
-runs_one (Napping k due) c d a b = cc
-runs_one Ended c d a b = cc
 
 off_remarks : (s r : State) (t : ℕ) (x : Weight) → IsOff (thread_of s t).place → Remarks s r t x
 off_remarks s r t x off d u inside runs queued less = absurd (false≢true (sym (off d) ∙ runs))
@@ -272,9 +255,6 @@ module _ (w : Work) (s : State) (k : Known w s) (n : ℕ) (c : CpuId) (c_in : c.
       here : (y : CpuId) → (thread_of s t).place ≡ Running y → Outcome w s (if nat_lt (eff_of q t) (eff_of s t) then remark q y.0 else q) c.0
       here y is = fell (nat_lt (eff_of q t) (eff_of s t)) refl
         where
-          self : (m : ℕ) → (m == m) ≡ true
-          self m = grind (arith, nat_tests)
-
           runs : is_running y.0 (thread_of s t).place ≡ true
           runs = ap (is_running y.0) is ∙ self y.0
 
@@ -368,9 +348,6 @@ module _ (w : Work) (s : State) (k : Known w s) (n : ℕ) (c : CpuId) (c_in : c.
   leave_out e t place x runs a home off apart =
       leaves t place x (calm_goes (Others c.0) s (drop_ageing s c.0 e) _ t place x (drop_calm s c.0 e) a) (runner_found s c.0 t runs).stands home off (λ d v inside other queued rv less. absurd (apart d other queued))
 
-  none_some : (d : CpuId) → None ≡ Some d → ⊥
-  none_some d e = cc
-
   -- who is preempted is bound here or nowhere
   preempt_bound : (b : Option CpuId) → (b ≡ None) ⊎ ((d : CpuId) × (b ≡ Some d) × (d.0 ≡ c.0)) → (d : CpuId) → b ≡ Some d → d.0 ≡ c.0
   preempt_bound b (inl none) d is = absurd (none_some d (sym none ∙ is))
@@ -380,12 +357,8 @@ module _ (w : Work) (s : State) (k : Known w s) (n : ℕ) (c : CpuId) (c_in : c.
   yield_bound : (t : ℕ) → Runs s c.0 t → must_leave (cpu_of s c.0) (thread_of s t).body ≡ false → (d : CpuId) → (thread_of s t).body.bound ≡ Some d → d.0 ≡ c.0
   yield_bound t runs stays d is = elim (cases_eq d.0 c.0) [
     | inl same ↦ same
-    | inr other ↦ absurd (false≢true (sym (left (cpu_of s c.0).kernel _ stays) ∙ (runs_at w s k t c (runner_found s c.0 t runs).stands).1 d is other))
+    | inr other ↦ absurd (false≢true (sym (neither (cpu_of s c.0).kernel _ stays).0 ∙ (runs_at w s k t c (runner_found s c.0 t runs).stands).1 d is other))
   ]
-    where
-      left : (a b : Bool) → (a || b) ≡ false → a ≡ false
-      left true b e = cc
-      left false b e = refl
 
   aged_base : (kind : ClassState) → is_ts kind ≡ true → base_of (aged_class w kind) < 100
   aged_base (Ts m) e = omega arith
@@ -480,17 +453,13 @@ module _ (w : Work) (s : State) (k : Known w s) (n : ℕ) (c : CpuId) (c_in : c.
       (nobody cause.0.idle.nobody) at.0 at.1 (λ u queued. most_ready s c.0 t.0 u cause.1 queued)
       (off_by (is_ready c.0 (cpu_of s c.0).set.0) (λ d. refl) (thread_of s t.0).place found.stands)
 
-  is_none_none : (b : Option CpuId) → is_none b ≡ true → b ≡ None
-  is_none_none None e = refl
-  is_none_none (Some d) e = cc
-
   steal_out : (v : CpuId) (t : ThreadId) (p : ℕ) → IsCause w s c.0 (Steal v t p) → Outcome w s (after w s n c (Steal v t p)) c.0
   unfolding after effect drop_ageing set_duty
   steal_out v t p cause =
       let e : Event = Steal v t p in
       let found = unbound_found s v.0 t.0 cause.3 in
       let queued = first_of_two (is_queued v.0 (thread_of s t.0).place) (is_none (thread_of s t.0).body.bound) found.stands in
-      let unbound = is_none_none (thread_of s t.0).body.bound (second_of_two (is_queued v.0 (thread_of s t.0).place) (is_none (thread_of s t.0).body.bound) found.stands) in
+      let unbound = none_of (thread_of s t.0).body.bound (second_of_two (is_queued v.0 (thread_of s t.0).place) (is_none (thread_of s t.0).body.bound) found.stands) in
       comes t.0 c (weight_part (thread_of s t.0)) refl
       (calm_goes (Others c.0) s (drop_ageing s c.0 e) _ t.0 (Running c) _ (drop_calm s c.0 e) (stolen_goes (drop_ageing s c.0 e) c t.0 (in_drop e t.0 found.inside)))
       (nobody cause.0.idle.nobody) (sym (neighbour_set w s k c.0 v cause.2) ∙ (queued_at w s k t.0 v queued).0) (λ d is. absurd (none_some d (sym unbound ∙ is)))

@@ -34,6 +34,7 @@ use Rattle.sd_sound.proofs.HoldTable.{bound_part}
 use Rattle.sd_sound.proofs.OpenLemmas.{place_part as set_part}
 use Rattle.sd_sound.proofs.Found.{runner_found}
 use Rattle.sd_belonging.proofs.Alike.{Weight, weight_part, heft, marks_part, IsBusy, Keeps, busy_on, Calm, Alike, Weighs, marked_is, mark_over_alike, set_class_weighs}
+use Rattle.sd_belonging.proofs.Basics.{self}
 use Rattle.sd_belonging.proofs.Joins.{nobody_runs}
 
 -- the processors whose marks stay: all, or all but one
@@ -255,9 +256,6 @@ dispatched_goes s c t inside here = record {
   where
     item : ThreadState
     item = record { body = arrived c (thread_of s t).body; place = Running c }
-
-self : (n : ℕ) → (n == n) ≡ true
-self n = grind (arith, nat_tests)
 
 pub stolen_goes : (s : State) (c : CpuId) (t : ℕ) → t < length s.threads → Goes (Others c.0) s (stolen s c t) t (Running c) (weight_part (thread_of s t))
 unfolding stolen run_on

@@ -17,6 +17,7 @@ use Rattle.sd_sound.proofs.CpuWords.{of_cpus}
 use Rattle.sd_sound.proofs.OpenLemmas.{place_part as set_part}
 use Rattle.sd_belonging.specs.Belonging.{MayQueue, BelongsAt, IsBoundInSet, Belongs, ThreadsBelong}
 use Rattle.sd_belonging.proofs.Alike.{Weight, heft}
+use Rattle.sd_belonging.proofs.Basics.{self}
 use Rattle.sd_belonging.proofs.Goes.{All, Others, Single}
 use Rattle.sd_belonging.proofs.Outcomes.{IsOff, Outcome}
 use Rattle.sd_belonging.proofs.Outcomes.Outcome.{alike, weighed, puts, leaves, comes}
@@ -29,9 +30,6 @@ pub record Frame (s r : State) (t : ℕ) : Type 0 where
   pub runs : (d : ℕ) → is_running d (thread_of s t).place ≡ true → ((cpu_of r d).set ≡ (cpu_of s d).set) × ((cpu_of s d).kernel ≡ true → (cpu_of r d).kernel ≡ true)
   pub queued : (d : ℕ) → is_queued d (thread_of s t).place ≡ true → (cpu_of r d).set ≡ (cpu_of s d).set
   pub bounds : (d : CpuId) → (thread_of s t).body.bound ≡ Some d → ((cpu_of r d.0).set ≡ (cpu_of s d.0).set) × ((cpu_of r d.0).closing ≡ (cpu_of s d.0).closing)
-
-self : (n : ℕ) → (n == n) ≡ true
-self n = grind (arith, nat_tests)
 
 pub frame_belongs : (w : Work) (s r : State) (t : ℕ) → Frame s r t → Belongs w s t → Belongs w r t
 frame_belongs w s r t f home = record {

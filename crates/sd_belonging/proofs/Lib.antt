@@ -1,5 +1,6 @@
 pub mod All
 pub mod Alike
+pub mod Basics
 pub mod Calls
 pub mod Dispatches
 pub mod Events

@@ -33,12 +33,13 @@ use Rattle.sd_sound.proofs.Whole.{reached_whole}
 use Rattle.sd_range.proofs.Induction.{held_reached}
 use Rattle.sd_belonging.proofs.Alike.{Weight, weight_part, heft, IsBusy, calm_alike, drop_calm}
 use Rattle.sd_belonging.proofs.All.{runs_inside, single, known, runs_there, threads_belong}
+use Rattle.sd_belonging.proofs.Basics.{none_some, runs_one, queued_runnable}
 use Rattle.sd_belonging.proofs.Events.{is_settled, event_out}
 use Rattle.sd_belonging.proofs.Goes.{All, Others, Single, Puts}
 use Rattle.sd_belonging.proofs.OnePlace.{one_runs}
-use Rattle.sd_belonging.proofs.Outcomes.{IsOff, Outcome, put_off, same_cpu}
+use Rattle.sd_belonging.proofs.Outcomes.{IsOff, Outcome, put_off}
 use Rattle.sd_belonging.proofs.Outcomes.Outcome.{alike, weighed, puts, leaves, comes}
-use Rattle.sd_belonging.proofs.Settle.{bind_is}
+use Rattle.sd_belonging.proofs.Settle.{drop_stands, bind_is}
 use Rattle.sd_belonging.proofs.Special.{Stands, BindIs, alike_stands, then_stands, joined_stands, assigned_stands}
 
 -- what is kept of the marks
@@ -49,24 +50,6 @@ pub record Marked (s : State) : Type 0 where
 -- the processor on which a thread runs is there
 abbrev pub RunnersThere : State → Type 0
 RunnersThere s = (d v : ℕ) → is_running d (thread_of s v).place ≡ true → d < length s.cpus
-
-queued_runnable : (d : ℕ) (p : Place) → is_queued d p ≡ true → is_runnable p ≡ true
-queued_runnable d (Queued c k) e = refl
-queued_runnable d (Running c) e = cc
-queued_runnable d (RealTime q k) e = cc
-queued_runnable d (Waiting l side k) e = cc
-queued_runnable d (Asleep j k) e = cc
-queued_runnable d (Napping c due) e = cc
-queued_runnable d Ended e = cc
-
-runs_once : (p : Place) (c d : ℕ) → is_running c p ≡ true → is_running d p ≡ true → d ≡ c
-runs_once (Running k) c d a b = sym (eqb-true k.0 d b) ∙ eqb-true k.0 c a
-runs_once (Queued k key) c d a b = cc
-runs_once (RealTime q k) c d a b = cc
-runs_once (Waiting l side k) c d a b = cc
-runs_once (Asleep j k) c d a b = cc
-runs_once (Napping k due) c d a b = cc
-runs_once Ended c d a b = cc
 
 module _ (s r : State) (one : Single s) (there : RunnersThere s) (marked : Marked s) where
   pub stands_marked : Stands s r → Marked r
@@ -176,7 +159,7 @@ module _ (s r : State) (one : Single s) (there : RunnersThere s) (marked : Marke
           ]
 
       on : (d : ℕ) → d ≢ c → IsBusy s d → IsBusy r d
-      on d away b = record { who = b.who; runs = ap (is_running d) (a.places.others b.who (λ e. away (runs_once (thread_of s t).place c d runs_t (subst (λ i. is_running d (thread_of s i).place ≡ true) e b.runs)))) ∙ b.runs }
+      on d away b = record { who = b.who; runs = ap (is_running d) (a.places.others b.who (λ e. away (runs_one (thread_of s t).place c d runs_t (subst (λ i. is_running d (thread_of s i).place ≡ true) e b.runs)))) ∙ b.runs }
 
       busy : (d : ℕ) → is_marked (cpu_of r d) ≡ true → IsBusy r d
       busy d m = elim (a.fresh d m) [ inl old ↦ on d old.0 (marked.busy d old.1) | inr now ↦ now ]
@@ -208,11 +191,8 @@ module _ (s r : State) (one : Single s) (there : RunnersThere s) (marked : Marke
 
 -- A binding that puts a thread puts one that does not run.
 
-none_put : (a : Put) → None ≡ Some a → ⊥
-none_put a e = cc
-
 bound_off : (d : CpuId) (p : Place) (a : Put) → bound_put d p ≡ Some a → IsOff p
-bound_off d (Running c) a e x = absurd (none_put a e)
+bound_off d (Running c) a e x = absurd (none_some a e)
 bound_off d (Queued c k) a e x = refl
 bound_off d (RealTime q k) a e x = refl
 bound_off d (Waiting l side k) a e x = refl
@@ -221,8 +201,8 @@ bound_off d (Napping c due) a e x = refl
 bound_off d Ended a e x = refl
 
 unbound_off : (m : ℕ) (b : Option CpuId) (p : Place) (a : Put) → unbound_put m b p ≡ Some a → IsOff p
-unbound_off m (Some b) (Running c) a e x = absurd (none_put a e)
-unbound_off m None (Running c) a e x = absurd (none_put a e)
+unbound_off m (Some b) (Running c) a e x = absurd (none_some a e)
+unbound_off m None (Running c) a e x = absurd (none_some a e)
 unbound_off m b (Queued c k) a e x = refl
 unbound_off m b (RealTime q k) a e x = refl
 unbound_off m b (Waiting l side k) a e x = refl
@@ -244,9 +224,6 @@ bind_marked w s r n u d (Some a) one there marked put (q, stands, puts_it) =
     (λ x. ap (is_running x) (stands.places u) ∙ bind_off s u d a put x)
 
 -- Every run.
-
-drop_stands : (s : State) (c : ℕ) (e : Event) → Stands s (drop_ageing s c e)
-drop_stands s c e = alike_stands s _ (calm_alike s _ (drop_calm s c e))
 
 assign_stands : (w : Work) (s : State) (n : ℕ) (c : CpuId) (t : ThreadId) (d : CpuId) (to : SetId) → Stands s (after w s n c (Assign t d to assign.Changed))
 unfolding after effect

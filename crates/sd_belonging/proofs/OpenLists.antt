@@ -41,18 +41,9 @@ use Rattle.sd_range.proofs.Induction.{held_reached}
 use Rattle.sd_range.proofs.Named.{acts_named, assign_cpu}
 use Rattle.sd_range.proofs.Sets.{SetsAreThere, sets_are_there, sets_are_open}
 use Rattle.sd_belonging.specs.Belonging.{open_cpus, OpenListsAreExact}
+use Rattle.sd_belonging.proofs.Basics.{self, or_right, both, none_of, none_some, same_cpu}
 
 -- Lists of processors.
-
-self : (n : ℕ) → (n == n) ≡ true
-self n = grind (arith, nat_tests)
-
-or_right : (a b : Bool) → b ≡ true → (a || b) ≡ true
-or_right true b e = refl
-or_right false b e = e
-
-not_same : (c d : ℕ) → c ≢ d → (c == d) ≡ false
-not_same c d other = grind (arith, nat_tests)
 
 still_in : (c : ℕ) (d : CpuId) (xs : List CpuId) → c ≢ d.0 → is_in c xs ≡ true → is_in c (without_cpu d xs) ≡ true
 still_in c d [] other e = cc
@@ -80,17 +71,6 @@ with_others d c (x ∷ xs) e = by (nat_lt c.0 x.0) (x.0 == d) refl (λ f. with_o
     by true h is more f = or_right (c.0 == d) _ (rw is f)
     by false true is more f = rw is refl
     by false false is more f = or_right (x.0 == d) (is_in d (with_cpu_in c xs)) (more f)
-
-both : (a b : Bool) → a ≡ true → b ≡ true → (a && b) ≡ true
-both true b h e = e
-both false b h e = h
-
-none_of : (b : Option SetId) → is_none b ≡ true → b ≡ None
-none_of None e = refl
-none_of (Some p) e = cc
-
-same_cpu : (c d : CpuId) → c.0 ≡ d.0 → c ≡ d
-same_cpu c d e = ap (λ (n : ℕ). let r : CpuId = record { 0 = n } in r) e
 
 -- Each processor that is not closing is in the open list of its set.
 
@@ -133,13 +113,10 @@ close_listed w s d to inside lists listed c here opened = by (list_written s p0 
     wrote : State
     wrote = with_open s p0 left
 
-    none_some : None ≡ Some to → ⊥
-    none_some e = cc
-
     other : c ≢ d.0
     other e =
         let now : place_part (cpu_of (with_cpu wrote d.0 x) d.0) ≡ (x.set, Some to) = (put_item place_part s.cpus no_cpu d.0 x inside).at in
-        none_some (sym opened ∙ ap (λ i. (cpu_of (with_cpu wrote d.0 x) i).closing) e ∙ ap (λ (y : SetId × Option SetId). y.1) now)
+        none_some to (sym opened ∙ ap (λ i. (cpu_of (with_cpu wrote d.0 x) i).closing) e ∙ ap (λ (y : SetId × Option SetId). y.1) now)
 
     same : place_part (cpu_of (with_cpu wrote d.0 x) c) ≡ place_part (cpu_of s c)
     same = other_place wrote d.0 x c other

@@ -4,6 +4,7 @@ use Rattle.std.specs.Prelude.{if◌then◌else◌, filter, nat_lt, nat_le, ◌==
 use Rattle.std.specs.List.{Contains}
 use Rattle.std.proofs.lemmas.Bool.{eqb-true, false≢true}
 use Rattle.std.proofs.lemmas.Bool.Decides.{nat_tests}
+use Rattle.std.proofs.lemmas.Option.{same_Some}
 use Rattle.sd_types.specs.declared.numbers.CpuId.{CpuId}
 use Rattle.sd_types.specs.declared.numbers.SetId.{SetId}
 use Rattle.sd_types.specs.declared.bodies.ThreadBody.{ThreadBody}
@@ -27,6 +28,7 @@ use Rattle.sd_sound.specs.Laws.{is_in, is_runnable}
 use Rattle.sd_sound.proofs.Whole.{IsWhole}
 use Rattle.sd_belonging.specs.Belonging.{MayQueue, MayRun, BelongsAt, ThreadsBelong}
 use Rattle.sd_belonging.proofs.Alike.{Weight, heft, Alike, Weighed}
+use Rattle.sd_belonging.proofs.Basics.{or_right, none_some, same_set, same_cpu}
 use Rattle.sd_belonging.proofs.Goes.{All, Others, Goes, Single, Puts}
 
 -- what is known of a state of a run
@@ -70,21 +72,9 @@ pub data Outcome (w : Work) (s r : State) (c : ℕ) : Type 0 where
       → (cpu_of s c).set ≡ set_of w t → ((d : CpuId) → (thread_of s t).body.bound ≡ Some d → d.0 ≡ c)
       → ((u : ℕ) → is_queued c (thread_of s u).place ≡ true → eff_of s u ≤ heft x) → IsOff (thread_of s t).place → Outcome w s r c
 
--- Numbers that are equal are of equal sets and processors.
-
-pub same_set : (p q : SetId) → p.0 ≡ q.0 → p ≡ q
-same_set p q e = ap (λ (n : ℕ). let r : SetId = record { 0 = n } in r) e
-
-pub same_cpu : (c d : CpuId) → c.0 ≡ d.0 → c ≡ d
-same_cpu c d e = ap (λ (n : ℕ). let r : CpuId = record { 0 = n } in r) e
-
 only_item : (d x : CpuId) → Contains (d ∷ []) x → d ≡ x
 only_item d x (zero, inside, is) = is
 only_item d x (suc k, inside, is) = absurd (omega (arith, inside))
-
-or_true : (a b : Bool) → b ≡ true → (a || b) ≡ true
-or_true true b e = refl
-or_true false b e = e
 
 in_filter : (p : CpuId → Bool) (c : ℕ) (xs : List CpuId) → is_in c (filter p xs) ≡ true → is_in c xs ≡ true
 in_filter p c [] e = cc
@@ -96,7 +86,7 @@ in_filter p c (x ∷ xs) e = by (p x) (λ f. in_filter p c xs f) e
         rest : (h : Bool) → (is_in c (filter p xs) ≡ true → is_in c xs ≡ true) → (h || is_in c (filter p xs)) ≡ true → (h || is_in c xs) ≡ true
         rest true more g = refl
         rest false more g = more g
-    by false more f = or_true (x.0 == c) (is_in c xs) (more f)
+    by false more f = or_right (x.0 == c) (is_in c xs) (more f)
 
 -- The queue that suits a thread.
 
@@ -241,11 +231,8 @@ module _ (w : Work) (s : State) (k : Known w s) where
       by Ended home is = cc
 
   bound_here : (b : Option CpuId) (p : ℕ) (c : CpuId) → MayQueue p b c → (d : CpuId) → b ≡ Some d → d.0 ≡ c.0
-  bound_here b p c (inl low) d is = absurd (none_some (sym low.0 ∙ is))
-    where
-      none_some : None ≡ Some d → ⊥
-      none_some e = cc
-  bound_here b p c (inr here) d is = let same : d ≡ c = cc in ap (λ (y : CpuId). y.0) same
+  bound_here b p c (inl low) d is = absurd (none_some d (sym low.0 ∙ is))
+  bound_here b p c (inr here) d is = ap (λ (y : CpuId). y.0) (same_Some d c (sym is ∙ here))
 
   -- of one that is ready for a processor
   pub ready_at : (t : ℕ) (c : CpuId) → is_ready c.0 (cpu_of s c.0).set.0 (thread_of s t).place ≡ true → ((cpu_of s c.0).set ≡ set_of w t) × ((d : CpuId) → (thread_of s t).body.bound ≡ Some d → d.0 ≡ c.0)
@@ -257,9 +244,6 @@ module _ (w : Work) (s : State) (k : Known w s) where
       left : (a : Bool) → (a || false) ≡ true → a ≡ true
       left true e = refl
       left false e = e
-
-      none_some : (d : CpuId) → None ≡ Some d → ⊥
-      none_some d e = cc
 
       by : (place : Place) → BelongsAt s (set_of w t) (eff_of s t) bound place → is_ready c.0 (cpu_of s c.0).set.0 place ≡ true → ((cpu_of s c.0).set ≡ set_of w t) × ((d : CpuId) → bound ≡ Some d → d.0 ≡ c.0)
       by (Queued e key) home is =

@@ -4,6 +4,7 @@ use Rattle.std.specs.Prelude.{if◌then◌else◌, nat_lt, nat_le, ◌==◌}
 use Rattle.std.proofs.lemmas.Bool.{cases_eq, cases_lt, eqb-true, false≢true}
 use Rattle.std.proofs.lemmas.Bool.Decides.{nat_tests}
 use Rattle.std.proofs.lemmas.List.{get_or_past}
+use Rattle.std.proofs.lemmas.Option.{same_Some}
 use Rattle.sd_types.specs.declared.numbers.CpuId.{CpuId}
 use Rattle.sd_types.specs.declared.numbers.SetId.{SetId}
 use Rattle.sd_types.specs.declared.numbers.ThreadId.{ThreadId}
@@ -36,22 +37,19 @@ use Rattle.sd_sound.proofs.BoundLemmas.{threads_same, bound_threads}
 use Rattle.sd_sound.proofs.Movers.{bind_thread, bind_put_is}
 use Rattle.sd_belonging.specs.Belonging.{MayQueue, BelongsAt, Belongs, ThreadsBelong}
 use Rattle.sd_belonging.proofs.Alike.{Weight, heft, calm_alike, drop_calm}
+use Rattle.sd_belonging.proofs.Basics.{self, none_some, same_cpu}
 use Rattle.sd_belonging.proofs.Homes.{Frame, frame_belongs}
 use Rattle.sd_belonging.proofs.Joins.{assigned_sets, joined_others, drop_sets, nobody_runs, nobody_queued}
-use Rattle.sd_belonging.proofs.Outcomes.{Known, same_cpu, queued_at, runs_at}
+use Rattle.sd_belonging.proofs.Outcomes.{Known, queued_at, runs_at}
 use Rattle.sd_belonging.proofs.Special.{Stands, alike_stands, then_stands, joined_stands, assigned_stands, none_bound, IsBindable, bindable, unbindable, BindIs, pbound_is, place_bound, bind_place, bind_others, bind_eff, bind_kernel, pbound_kernel}
 
 -- a thread that is bound is there
 bound_inside : (s : State) (u : ℕ) (f : CpuId) → (thread_of s u).body.bound ≡ Some f → u < length s.threads
 bound_inside s u f is = elim (cases_lt u (length s.threads)) [
   | inl inside ↦ inside
-  | inr past ↦ absurd (none_some (sym (ap (λ (x : ThreadState). x.body.bound) (get_or_past s.threads u no_thread past)) ∙ is))
+  | inr past ↦ absurd (none_some f (sym (ap (λ (x : ThreadState). x.body.bound) (get_or_past s.threads u no_thread past)) ∙ is))
 ]
-  where
-    none_some : None ≡ Some f → ⊥
-    none_some e = cc
-
-drop_stands : (s : State) (c : ℕ) (e : Event) → Stands s (drop_ageing s c e)
+pub drop_stands : (s : State) (c : ℕ) (e : Event) → Stands s (drop_ageing s c e)
 drop_stands s c e = alike_stands s _ (calm_alike s _ (drop_calm s c e))
 
 close_others : (s : State) (d : CpuId) (to : SetId) (x : ℕ) → x ≢ d.0 → set_part (cpu_of (close s d to) x) ≡ set_part (cpu_of s x)
@@ -109,11 +107,8 @@ module _ (w : Work) (s : State) (k : Known w s) (n : ℕ) (c : CpuId) where
       stands_frame r u (then_stands s q r (drop_stands s c.0 e) (joined_stands q c to)) (bounds_same u)
       (λ x on. ap (λ (y : SetId × Option SetId). y.0) (others x (λ same. false≢true (sym (nobody_runs s c.0 cause.0.nobody u) ∙ subst (λ i. is_running i (thread_of s u).place ≡ true) same on))))
       (λ x on. ap (λ (y : SetId × Option SetId). y.0) (others x (λ same. false≢true (sym (nobody_queued s c.0 cause.2 u (queued_inside x on)) ∙ subst (λ i. is_queued i (thread_of s u).place ≡ true) same on))))
-      (λ f is. others f.0 (λ same. none_some (sym ((k.homes u).bound f is).1 ∙ ap (λ i. (cpu_of s i).closing) same ∙ cause.1)))
+      (λ f is. others f.0 (λ same. none_some to (sym ((k.homes u).bound f is).1 ∙ ap (λ i. (cpu_of s i).closing) same ∙ cause.1)))
     where
-      none_some : None ≡ Some to → ⊥
-      none_some e = cc
-
       queued_inside : (x : ℕ) → is_queued x (thread_of s u).place ≡ true → u < length s.threads
       queued_inside x on = elim (cases_lt u (length s.threads)) [
         | inl inside ↦ inside
@@ -182,20 +177,14 @@ module _ (w : Work) (s : State) (k : Known w s) (n : ℕ) (c : CpuId) where
         (subst (λ o. (cpu_of (pbound w q n t.0 u.0 (Some f) (bind_answer.Changed o)) x.0).kernel ≡ true) (sym to)
         (pbound_kernel w q n t.0 u.0 f x (omega (arith, many, here)) (before.places u.0 ∙ stands) other))
 
-    self : (m : ℕ) → (m == m) ≡ true
-    self m = grind (arith, nat_tests)
-
     -- bound to a processor
     bound_home : (f : CpuId) → d ≡ Some f → ((x : CpuId) → (thread_of s u.0).place ≡ Running x → x.0 < length s.cpus) → Belongs w After u.0
     bound_home f is there = record {
       place = by (thread_of s u.0).place refl (sym put_is ∙ ap (bind_put s u.0) is);
-      bound = λ x bound. let same : x ≡ f = cc_same x (sym bound ∙ bounds_put.at ∙ is) in
+      bound = λ x bound. let same : x ≡ f = same_Some x f (sym bound ∙ bounds_put.at ∙ is) in
           (subst (λ (y : CpuId). (cpu_of After y.0).set ≡ set_of w u.0) (sym same) set_now, subst (λ (y : CpuId). (cpu_of After y.0).closing ≡ None) (sym same) (closes f.0 ∙ asks.stays_open));
     }
       where
-        cc_same : (x : CpuId) → Some x ≡ Some f → x ≡ f
-        cc_same x h = cc
-
         asks : IsBindable w s u.0 f
         asks = bindable w s t.0 u.0 f at (subst (λ y. bind_answer.Changed at ≡ bind_to w s t.0 u.0 y) is cause.1)
 
@@ -214,10 +203,7 @@ module _ (w : Work) (s : State) (k : Known w s) (n : ℕ) (c : CpuId) where
         by : (p : Place) → (thread_of s u.0).place ≡ p → at ≡ bound_put f (thread_of s u.0).place → BelongsAt After (set_of w u.0) (eff_of After u.0) (thread_of After u.0).body.bound (thread_of After u.0).place
         by (Running x) stands to =
             let none : at ≡ None = to ∙ ap (bound_put f) stands in
-            stays (Running x) stands none (own x.0 ∙ (runs_at w s k u.0 x (ap (is_running x.0) stands ∙ self x.0)).0, λ y bound other. kernel x stands none (subst (λ (z : CpuId). z.0 ≢ x.0) (cc_back y bound) other))
-          where
-            cc_back : (y : CpuId) → Some f ≡ Some y → y ≡ f
-            cc_back y h = cc
+            stays (Running x) stands none (own x.0 ∙ (runs_at w s k u.0 x (ap (is_running x.0) stands ∙ self x.0)).0, λ y bound other. kernel x stands none (subst (λ (z : CpuId). z.0 ≢ x.0) (same_Some y f (sym bound)) other))
         by (Queued x key) stands to = queue (x.0 == f.0) refl (to ∙ ap (bound_put f) stands)
           where
             queue : (b : Bool) → (x.0 == f.0) ≡ b → at ≡ (if b then None else Some (Cpu f)) → BelongsAt After (set_of w u.0) (eff_of After u.0) (thread_of After u.0).body.bound (thread_of After u.0).place
@@ -236,9 +222,6 @@ module _ (w : Work) (s : State) (k : Known w s) (n : ℕ) (c : CpuId) where
       bound = λ x bound. absurd (none_some x (sym (bounds_put.at ∙ is) ∙ bound));
     }
       where
-        none_some : (x : CpuId) → None ≡ Some x → ⊥
-        none_some x h = cc
-
         stays : (p : Place) → (thread_of s u.0).place ≡ p → at ≡ None → BelongsAt After (set_of w u.0) (eff_of s u.0) None p → BelongsAt After (set_of w u.0) (eff_of After u.0) (thread_of After u.0).body.bound (thread_of After u.0).place
         stays p stands to belongs = its_place None None is to (subst (λ q. BelongsAt After (set_of w u.0) (eff_of s u.0) None q) (sym stands) belongs)
 

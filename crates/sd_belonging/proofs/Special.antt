@@ -34,6 +34,7 @@ use Rattle.sd_sound.proofs.HoldTable.{bound_part}
 use Rattle.sd_sound.proofs.OpenLemmas.{place_part as set_part}
 use Rattle.sd_sound.proofs.BoundLemmas.{is_bound_at, bound_threads}
 use Rattle.sd_belonging.proofs.Alike.{Weight, weight_part, heft, marks_part, IsBusy, Keeps, MoreMarks, more_same, then_more, Calm, Alike, calm_alike, cpu_cases, busy_by, set_kernel_mark_alike, finish_op_calm, drop_calm}
+use Rattle.sd_belonging.proofs.Basics.{self, neither, same_set}
 use Rattle.sd_belonging.proofs.Goes.{All, Goes, Single, Puts, put_puts, puts_alike}
 
 -- Threads stand where they stood with their priorities, and marks may be set where a thread runs.
@@ -136,10 +137,6 @@ none_bound w s t d to answer counts u inside f is same =
     let none : (cpu_of s d.0).bound ≤ 0 = grind (arith, nat_tests) in
     let one = count_one (λ v. is_bound_at d.0 (bound_part (thread_of s v))) u (length s.threads) inside (ap (is_bound_at d.0) is ∙ ap (λ i. i == d.0) same ∙ self d.0) in
     omega (arith, none, counts, one)
-  where
-    self : (n : ℕ) → (n == n) ≡ true
-    self n = grind (arith, nat_tests)
-
 -- Bindings.
 
 bind_stands : (s : State) (t : ℕ) (d : CpuId) → Stands s (bind s t d)
@@ -153,9 +150,6 @@ unbind_stands s t b = then_stands s (with_body s t (record (thread_of s t).body 
 called_stands : (s : State) (d : CpuId) (u : ℕ) (place : Place) → (thread_of s u).place ≡ place → Stands s (called_back s d place)
 called_stands s d u (Running c) is = by (c.0 == d.0)
   where
-    self : (n : ℕ) → (n == n) ≡ true
-    self n = grind (arith, nat_tests)
-
     still : Stands s s
     still = record { many = refl; cpus = refl; places = λ v. refl; weights = λ v. refl; marks = more_same s s (λ v. refl) }
 
@@ -208,14 +202,11 @@ pub bindable : (w : Work) (s : State) (t u : ℕ) (d : CpuId) (at : Option Put) 
 bindable w s t u d at e =
     let tests = granted_binding w s t u (Some d) at e in
     record {
-      free = unbound (thread_of s u).body.bound (left (is_some (thread_of s u).body.bound) _ tests.0);
-      own = same_set (cpu_of s d.0).set (set_of w u) (eqb-true (cpu_of s d.0).set.0 (set_of w u).0 (unnot ((cpu_of s d.0).set.0 == (set_of w u).0) (right (is_some (thread_of s u).body.bound) _ tests.0)));
+      free = unbound (thread_of s u).body.bound (neither (is_some (thread_of s u).body.bound) _ tests.0).0;
+      own = same_set (cpu_of s d.0).set (set_of w u) (eqb-true (cpu_of s d.0).set.0 (set_of w u).0 (unnot ((cpu_of s d.0).set.0 == (set_of w u).0) (neither (is_some (thread_of s u).body.bound) _ tests.0).1));
       stays_open = opened (cpu_of s d.0).closing tests.1;
     }
   where
-    same_set : (p q : SetId) → p.0 ≡ q.0 → p ≡ q
-    same_set p q e = ap (λ (n : ℕ). let r : SetId = record { 0 = n } in r) e
-
     unbound : (b : Option CpuId) → is_some b ≡ false → b ≡ None
     unbound None e = refl
     unbound (Some x) e = cc
@@ -223,14 +214,6 @@ bindable w s t u d at e =
     opened : (b : Option SetId) → is_some b ≡ false → b ≡ None
     opened None e = refl
     opened (Some x) e = cc
-
-    left : (a b : Bool) → (a || b) ≡ false → a ≡ false
-    left true b e = cc
-    left false b e = refl
-
-    right : (a b : Bool) → (a || b) ≡ false → b ≡ false
-    right true b e = cc
-    right false b e = e
 
     unnot : (a : Bool) → not a ≡ false → a ≡ true
     unnot true e = refl
