@@ -1,20 +1,19 @@
 -- In every state of every run each thread stands where its set, its binding and its priority ask.
-use Rattle.std.proofs.Common.{◌≡◌, ℕ, ◌<◌, ◌≤◌, Bool, true, false, [], length, Option, Some, None, refl, sym, ap, ◌∙◌, subst, inl, inr, arith}
-use Rattle.std.specs.Prelude.{IfSome}
+use Rattle.std.proofs.Common.{◌≡◌, ℕ, ◌<◌, true, [], length, None, refl, sym, ap, ◌∙◌, subst, inl, inr, arith}
 use Rattle.std.proofs.lemmas.Bool.{cases_lt, false≢true}
 use Rattle.std.proofs.lemmas.List.{get_or_past}
 use Rattle.sd_types.specs.declared.numbers.CpuId.{CpuId}
 use Rattle.sd_types.specs.declared.events.AssignAnswer.TheVariants as assign
 use Rattle.sd_types.specs.declared.events.BindAnswer.TheVariants as bind_answer
 use Rattle.sd_types.specs.declared.events.Event.{Event}
-use Rattle.sd_types.specs.declared.events.Event.TheVariants.{Tick, Spin, Idle, Dispatch, Steal, Preempt, Yield, Done, Nap, Napend, Sleep, Wake, Wakeall, Rouse, Enter, Read, Write, Block, Will, End as WalkEnd, Exit, Unblock, Grant, Passed, Age, Prio, CvWait, SemaP, SemaWait, SemaVWake, SemaVCount, Assign, Move, Joined, Bind, Away}
+use Rattle.sd_types.specs.declared.events.Event.TheVariants.{Assign, Joined, Bind}
 use Rattle.sd_types.specs.declared.scripts.Op.TheVariants as op
 use Rattle.sd_types.specs.declared.works.Work.{Work}
 use Rattle.sd_machine.specs.declared.states.Place.{Place}
 use Rattle.sd_machine.specs.declared.states.Place.TheVariants.{Running, Queued, RealTime, Waiting, Asleep, Napping, Ended}
 use Rattle.sd_machine.specs.declared.states.ThreadState.{ThreadState}
 use Rattle.sd_machine.specs.declared.states.State.{State}
-use Rattle.sd_machine.specs.States.{no_thread, thread_of, cpu_of, is_running}
+use Rattle.sd_machine.specs.States.{no_thread, thread_of, is_running}
 use Rattle.sd_machine.specs.Opening.{opening}
 use Rattle.sd_machine.specs.Runs as M
 use Rattle.sd_machine.specs.Runs.{IsRun, IsRunFrom}
@@ -33,7 +32,7 @@ use Rattle.sd_range.proofs.Induction.{held_reached}
 use Rattle.sd_range.proofs.Named.{acts_named, assign_cpu}
 use Rattle.sd_range.proofs.Places.{threads_have_cpus}
 use Rattle.sd_range.proofs.All.{threads_law}
-use Rattle.sd_belonging.specs.Belonging.{BelongsAt, Belongs, ThreadsBelong}
+use Rattle.sd_belonging.specs.Belonging.{BelongsAt, ThreadsBelong}
 use Rattle.sd_belonging.proofs.Basics.{none_some}
 use Rattle.sd_belonging.proofs.Events.{is_settled, event_out}
 use Rattle.sd_belonging.proofs.Goes.{Single}

@@ -1,6 +1,6 @@
 -- A processor is marked on which a thread runs with a smaller priority than one that is ready: behind a tick with which the quantum
 -- expires, and where the priority of the running thread may have fallen.
-use Rattle.std.proofs.Common.{◌≡◌, ◌≢◌, ℕ, ◌<◌, ◌≤◌, Bool, true, false, ◌||◌, [], ◌∷◌, length, Option, Some, None, refl, sym, ap, ◌∙◌, subst, arith}
+use Rattle.std.proofs.Common.{◌≡◌, ℕ, ◌<◌, ◌≤◌, Bool, true, false, [], ◌∷◌, length, Option, Some, None, refl, sym, ap, ◌∙◌, arith}
 use Rattle.std.specs.Prelude.{if◌then◌else◌, nat_lt, nat_le}
 use Rattle.std.proofs.lemmas.Bool.{false≢true, or_left}
 use Rattle.std.proofs.lemmas.Bool.Decides.{nat_tests}
@@ -16,7 +16,7 @@ use Rattle.sd_machine.specs.States.{no_cpu, thread_of, cpu_of, is_running, is_qu
 use Rattle.sd_machine.specs.Best.{best_ready as best_of}
 use Rattle.sd_full.specs.Threads.{runner, best_ready, priority_of, eff_of}
 use Rattle.sd_full.specs.Bodies.{ticked_class}
-use Rattle.sd_full.specs.Changes.{send_back, marked, set_mark, runs_below, rivals, priority_or_zero, remark}
+use Rattle.sd_full.specs.Changes.{send_back, marked, set_mark, rivals, priority_or_zero, remark}
 use Rattle.sd_full.specs.Dispatching.{is_rivalled, charge}
 use Rattle.sd_laws.specs.Laws.{is_marked}
 use Rattle.sd_laws.proofs.Chosen.{none_ready, best_greatest}

@@ -1,8 +1,7 @@
 -- Who is bound to a processor is dispatched by it, and who is stolen is bound to none.
-use Rattle.std.proofs.Common.{◌≡◌, Bool, true, false, Option, Some, None, is_none, refl}
-use Rattle.sd_types.specs.declared.numbers.CpuId.{CpuId}
+use Rattle.std.proofs.Common.{is_none}
 use Rattle.sd_types.specs.declared.events.Event.TheVariants.{Dispatch, Steal}
-use Rattle.sd_machine.specs.States.{thread_of, cpu_of, is_queued}
+use Rattle.sd_machine.specs.States.{thread_of, is_queued}
 use Rattle.sd_sound.proofs.Found.{ready_found, unbound_found}
 use Rattle.sd_sound.proofs.Ready.{ready_cause, reached_ready}
 use Rattle.sd_sound.proofs.Works.{second_of_two}

@@ -1,15 +1,13 @@
 -- What each event comes to, but for those that change a set or a binding.
-use Rattle.std.proofs.Common.{◌≡◌, ◌≢◌, ℕ, ◌+◌, ◌-◌, ◌<◌, ◌≤◌, Bool, true, false, not, ◌&&◌, ◌||◌, List, length, Option, Some, None, is_none, refl, sym, ap, ◌∙◌, subst, inl, inr, ◌⊎◌, arith, ℤ}
-use Rattle.std.specs.Prelude.{if◌then◌else◌, Result, Ok, nat_lt, nat_le, ◌==◌}
-use Rattle.std.specs.List.{Contains}
-use Rattle.std.proofs.lemmas.Bool.{cases_eq, eqb-true, eqb-false, false≢true}
+use Rattle.std.proofs.Common.{◌≡◌, ◌≢◌, ℕ, ◌+◌, ◌-◌, ◌<◌, ◌≤◌, Bool, true, false, ◌&&◌, length, Option, Some, None, is_none, refl, sym, ap, ◌∙◌, subst, inl, inr, ◌⊎◌, arith, ℤ}
+use Rattle.std.specs.Prelude.{if◌then◌else◌, nat_lt, ◌==◌}
+use Rattle.std.proofs.lemmas.Bool.{cases_eq, eqb-true, false≢true}
 use Rattle.std.proofs.lemmas.Bool.Decides.{nat_tests}
 use Rattle.sd_types.specs.declared.numbers.ChanId.{ChanId}
 use Rattle.sd_types.specs.declared.numbers.CpuId.{CpuId}
 use Rattle.sd_types.specs.declared.numbers.LockId.{LockId}
 use Rattle.sd_types.specs.declared.numbers.Side.TheVariants.{Writer, Reader}
 use Rattle.sd_types.specs.declared.numbers.ThreadId.{ThreadId}
-use Rattle.sd_types.specs.declared.classes.ClassParms.{ClassParms}
 use Rattle.sd_types.specs.declared.classes.ClassState.{ClassState}
 use Rattle.sd_types.specs.declared.classes.ClassState.TheVariants.{Ts, Fx, Sys, Rt}
 use Rattle.sd_types.specs.declared.numbers.SetId.{SetId}
@@ -25,13 +23,11 @@ use Rattle.sd_types.specs.declared.events.Event.TheVariants.{Tick, Spin, Idle, D
 use Rattle.sd_types.specs.declared.events.PrioAnswer.{PrioAnswer}
 use Rattle.sd_types.specs.declared.events.PrioAnswer.TheVariants.{Changed, Refused}
 use Rattle.sd_types.specs.declared.events.Put.{Put}
-use Rattle.sd_types.specs.declared.events.Put.TheVariants.{Cpu, RealTime as OnRealTime}
-use Rattle.sd_types.specs.declared.scripts.Op.{Op}
-use Rattle.sd_types.specs.declared.scripts.Op.TheVariants as op
+use Rattle.sd_types.specs.declared.events.Put.TheVariants.{Cpu}
 use Rattle.sd_types.specs.declared.scripts.Request.{Request}
 use Rattle.sd_types.specs.declared.works.Work.{Work}
 use Rattle.sd_types.specs.Priorities.{base_of, eff_as, greatest_willed}
-use Rattle.sd_types.specs.Willed.{Numbers, without_number, changed_number}
+use Rattle.sd_types.specs.Willed.{without_number, changed_number}
 use Rattle.sd_rules.specs.ClassRules.{class_expires, class_requeue}
 use Rattle.sd_machine.specs.declared.states.Place.{Place}
 use Rattle.sd_machine.specs.declared.states.Place.TheVariants.{Running, Queued, RealTime, Waiting, Asleep, Napping, Ended}
@@ -39,34 +35,31 @@ use Rattle.sd_machine.specs.declared.states.LockState.TheVariants.{Owned}
 use Rattle.sd_machine.specs.declared.states.State.{State}
 use Rattle.sd_machine.specs.States.{thread_of, cpu_of, is_running, is_queued, is_ready}
 use Rattle.sd_machine.specs.Operations.{op_of}
-use Rattle.sd_full.specs.declared.plans.Requeue.TheVariants.{Stays}
-use Rattle.sd_full.specs.Threads.{thread_id, runner, greatest_waiting, lock_of, with_lock, with_count, count_of, best_ready, best_sleeper, eff_of, is_ts, is_waiting_at, is_asleep, is_asleep_below, is_due}
+use Rattle.sd_full.specs.Threads.{thread_id, runner, greatest_waiting, lock_of, with_lock, with_count, count_of, best_sleeper, eff_of, is_ts, is_waiting_at, is_asleep, is_asleep_below, is_due}
 use Rattle.sd_full.specs.Bodies.{ticked_class, aged_class}
-use Rattle.sd_full.specs.Changes.{back_key, key_at, queue_place, place_put, finish_op, run_tick, set_class, hold, set_duty, count_tick, remark, put, put_where}
-use Rattle.sd_full.specs.Dispatching.{must_leave, charge, class_counts, ticked, spun, idled, dispatched, stolen}
-use Rattle.sd_full.specs.Sleeping.{woken_priority, woke, woke_all, roused}
+use Rattle.sd_full.specs.Changes.{back_key, key_at, queue_place, place_put, finish_op, run_tick, set_class, set_duty, count_tick, remark, put, put_where}
+use Rattle.sd_full.specs.Dispatching.{must_leave, charge, class_counts, ticked, spun, idled}
+use Rattle.sd_full.specs.Sleeping.{woke, woke_all, roused}
 use Rattle.sd_full.specs.Locking.{owned, read, one_more, released, exited, others_waiting, writer_priority, granted, passed}
-use Rattle.sd_full.specs.Requeueing.{requeue, reordered_at, reordered}
+use Rattle.sd_full.specs.Requeueing.{reordered_at, reordered}
 use Rattle.sd_full.specs.Walking.{walked, willed, walk_ended}
-use Rattle.sd_full.specs.Prioritising.{answer_to, new_class, walk_from, changed_by, changed_on, reprioritised, lifted, aged}
+use Rattle.sd_full.specs.Prioritising.{new_class, walk_from, changed_by, changed_on, reprioritised, lifted, aged}
 use Rattle.sd_full.specs.Conditions.{sema_taken, sema_counted}
 use Rattle.sd_full.specs.SetChanges.{assigned, moved, pbound}
 use Rattle.sd_full.specs.Events.{dropped_duty, drop_ageing, effect, after}
 use Rattle.sd_laws.specs.Laws.{is_marked}
 use Rattle.sd_laws.proofs.MarkLemmas.{running_not_queued}
-use Rattle.sd_chains.proofs.Moves.{IsSame, IsPut}
 use Rattle.sd_sound.specs.Causes.{Runs, IsPut as IsPutAt, IsRequeuedAt, WakesBest, RousesBest, IsAnswered, IsCause}
-use Rattle.sd_sound.specs.Laws.{is_runnable}
 use Rattle.sd_sound.proofs.Found.{runner_found, ready_found, queued_found, unbound_found, waiter_found, sleeper_found, sleeper_below_found, due_found, age_found}
 use Rattle.sd_sound.proofs.Movers.{owner_thread, prio_thread}
 use Rattle.sd_sound.proofs.PassLemmas.{drop_duties}
 use Rattle.sd_sound.proofs.Works.{first_of_two, second_of_two}
-use Rattle.sd_belonging.proofs.Alike.{Weight, weight_part, heft, Keeps, Calm, Alike, Weighs, Weighed, all_calm, then_calm, calm_alike, then_alike, calm_weighs, weighs_calm, weighs_alike, weighed_alike, either_calm, lock_calm, count_calm, set_duty_calm, count_tick_calm, drop_calm, finish_op_calm, run_tick_calm, hold_calm, set_class_weighs, walk_from_calm, passed_on_calm, remark_alike, charge_alike}
-use Rattle.sd_belonging.proofs.Goes.{All, Others, Goes, Single, Puts, single_back, calm_goes, goes_alike, calm_puts, weighs_puts, puts_alike, puts_to, put_puts, woken_puts, dispatched_goes, stolen_goes, sent_away_puts}
+use Rattle.sd_belonging.proofs.Alike.{Weight, weight_part, heft, Calm, Alike, Weighs, Weighed, all_calm, then_calm, calm_alike, then_alike, calm_weighs, weighs_calm, weighs_alike, weighed_alike, either_calm, lock_calm, count_calm, set_duty_calm, count_tick_calm, drop_calm, finish_op_calm, run_tick_calm, hold_calm, set_class_weighs, walk_from_calm, passed_on_calm, remark_alike, charge_alike}
+use Rattle.sd_belonging.proofs.Goes.{All, Others, Goes, Puts, single_back, calm_goes, goes_alike, calm_puts, weighs_puts, puts_alike, puts_to, put_puts, woken_puts, dispatched_goes, stolen_goes, sent_away_puts}
 use Rattle.sd_belonging.proofs.Basics.{self, none_of, none_some, neither, runs_one, running_rests}
 use Rattle.sd_belonging.proofs.Calls.{some_ready, most_ready, charge_called, remark_called, tick_base, requeue_base, other_base}
 use Rattle.sd_belonging.proofs.Joins.{nobody_runs}
-use Rattle.sd_belonging.proofs.Outcomes.{Known, Home, IsOff, Rests, Remarks, Calls, Outcome, stays_rests, put_off, queue_off, queue_here, put_home, requeued_home, runs_at, queued_at, ready_at, queue_home, neighbour_set}
+use Rattle.sd_belonging.proofs.Outcomes.{Known, Home, IsOff, Rests, Remarks, Outcome, stays_rests, put_off, queue_off, queue_here, put_home, requeued_home, runs_at, queued_at, ready_at, queue_home, neighbour_set}
 use Rattle.sd_belonging.proofs.Outcomes.Outcome.{alike, weighed, puts, leaves, comes}
 use Rattle.sd_belonging.proofs.Words.{weighs_to, preempted_goes, yielded_goes, done_goes, napped_goes, asleep_goes, blocked_goes, released_weighs, cv_waited_goes, woken_weight, handed_puts, unblocked_puts, reader_puts, writer_puts, roused_puts, woke_puts_one, walked_weighs}
 
@@ -96,8 +89,8 @@ outcome_alike w s r q c (weighed t x a rests remarks) b = weighed t x (weighed_a
 outcome_alike w s r q c (puts t place x a home off was) b = puts t place x (puts_alike All s r q t place x a b) home off was
 outcome_alike w s r q c (leaves t place x a runs home off calls) b = leaves t place x (goes_alike (Others c) s r q t place x a b) runs home off
     (λ d v inside other queued rv less.
-      let same : eff_of q v ≡ eff_of r v = ap heft (b.weights v) in
-      b.marks.marks d (calls d v inside other queued (ap (is_running d) (sym (b.keeps.places v)) ∙ rv) (omega (arith, same, less))))
+    let same : eff_of q v ≡ eff_of r v = ap heft (b.weights v) in
+    b.marks.marks d (calls d v inside other queued (ap (is_running d) (sym (b.keeps.places v)) ∙ rv) (omega (arith, same, less))))
 outcome_alike w s r q c (comes t k x is a nobody own bound top off) b = comes t k x is (goes_alike (Others c) s r q t (Running k) x a b) nobody own bound top off
 
 -- Changes that leave all of this.
@@ -265,9 +258,9 @@ module _ (w : Work) (s : State) (k : Known w s) (n : ℕ) (c : CpuId) (c_in : c.
           fell true less = weighed t x (weighs_alike s q (remark q y.0) t x weighs (remark_alike q y.0)) rests (remark_remarks q t y.0 x weighs runs)
           fell false most = weighed t x (weighs_weighed s q t x weighs) rests
               (λ d u inside runs_d queued less.
-                let mine : eff_of q t ≡ heft x = ap heft weighs.weights.at in
-                let up : eff_of s t ≤ eff_of q t = grind (arith, nat_tests) in
-                inr (omega (arith, mine, up, less)))
+              let mine : eff_of q t ≡ heft x = ap heft weighs.weights.at in
+              let up : eff_of s t ≤ eff_of q t = grind (arith, nat_tests) in
+              inr (omega (arith, mine, up, less)))
 
       by : (p : Place) → (thread_of s t).place ≡ p → Outcome w s (reordered_at w q n t (eff_of s t) at p) c.0
       by (Running y) is = here y is

@@ -1,20 +1,16 @@
 -- Threads that go to a place: by being made runnable, by leaving their processor, and by coming to one.
-use Rattle.std.proofs.Common.{◌≡◌, ◌≢◌, ℕ, ◌+◌, ◌<◌, Bool, true, false, ◌&&◌, ◌||◌, length, get_or, set, Option, Some, None, is_none, refl, sym, ap, ◌∙◌, subst, inl, inr, ◌⊎◌, arith, ℤ}
-use Rattle.std.specs.Prelude.{⊤, if◌then◌else◌, nat_lt, nat_le, ◌==◌}
+use Rattle.std.proofs.Common.{◌≡◌, ◌≢◌, ℕ, ◌<◌, Bool, true, false, ◌||◌, length, get_or, set, Option, Some, None, refl, sym, ap, ◌∙◌, subst, inl, inr, ◌⊎◌, arith}
+use Rattle.std.specs.Prelude.{⊤, if◌then◌else◌, nat_lt, ◌==◌}
 use Rattle.std.proofs.lemmas.Bool.{cases_eq, eqb-true, false≢true}
 use Rattle.std.proofs.lemmas.Bool.Decides.{nat_tests}
 use Rattle.std.proofs.lemmas.List.{length-set, get_or-set_same, get_or-set_other}
-use Rattle.sd_types.specs.declared.numbers.ChanId.{ChanId}
 use Rattle.sd_types.specs.declared.numbers.CpuId.{CpuId}
-use Rattle.sd_types.specs.declared.numbers.LockId.{LockId}
-use Rattle.sd_types.specs.declared.numbers.ThreadId.{ThreadId}
-use Rattle.sd_types.specs.declared.bodies.ThreadBody.{ThreadBody}
 use Rattle.sd_types.specs.declared.classes.ClassState.{ClassState}
 use Rattle.sd_types.specs.declared.events.Put.{Put}
 use Rattle.sd_types.specs.declared.events.Put.TheVariants.{Cpu, RealTime as OnRealTime}
 use Rattle.sd_types.specs.declared.works.Work.{Work}
 use Rattle.sd_machine.specs.declared.states.Place.{Place}
-use Rattle.sd_machine.specs.declared.states.Place.TheVariants.{Running, Queued, RealTime}
+use Rattle.sd_machine.specs.declared.states.Place.TheVariants.{Running, Queued}
 use Rattle.sd_machine.specs.declared.states.CpuState.{CpuState}
 use Rattle.sd_machine.specs.declared.states.ThreadState.{ThreadState}
 use Rattle.sd_machine.specs.declared.states.State.{State}
@@ -26,7 +22,7 @@ use Rattle.sd_full.specs.Dispatching.{dispatched, stolen, sent_away}
 use Rattle.sd_full.specs.Sleeping.{woken}
 use Rattle.sd_laws.specs.Laws.{is_marked}
 use Rattle.sd_chains.proofs.Moves.{IsSame, IsPut, put_cases}
-use Rattle.sd_sound.proofs.Parts.{put_item, same_item, put_same, same_put, put_put, put_is, same_is_put}
+use Rattle.sd_sound.proofs.Parts.{put_item, same_item, put_same, same_put, put_put}
 use Rattle.sd_sound.proofs.Words.{of_threads}
 use Rattle.sd_sound.proofs.CpuWords.{of_cpus}
 use Rattle.sd_sound.proofs.PlaceTable.{place_part}

@@ -1,8 +1,6 @@
 -- Threads belong to their places behind each event that changes no set and no binding.
-use Rattle.std.proofs.Common.{◌≡◌, ◌≢◌, ℕ, ◌<◌, ◌≤◌, Bool, true, false, length, Option, Some, None, refl, sym, ap, ◌∙◌, subst, inl, inr, ◌⊎◌, arith}
-use Rattle.std.specs.Prelude.{◌==◌}
-use Rattle.std.proofs.lemmas.Bool.{cases_eq, eqb-true, false≢true}
-use Rattle.std.proofs.lemmas.Bool.Decides.{nat_tests}
+use Rattle.std.proofs.Common.{◌≡◌, ℕ, true, false, Option, Some, sym, ap, ◌∙◌, subst, inl, inr, ◌⊎◌, arith}
+use Rattle.std.proofs.lemmas.Bool.{false≢true}
 use Rattle.sd_types.specs.declared.numbers.CpuId.{CpuId}
 use Rattle.sd_types.specs.declared.numbers.SetId.{SetId}
 use Rattle.sd_types.specs.declared.works.Work.{Work}
@@ -12,13 +10,13 @@ use Rattle.sd_machine.specs.declared.states.State.{State}
 use Rattle.sd_machine.specs.States.{thread_of, cpu_of, is_running, is_queued}
 use Rattle.sd_full.specs.Threads.{set_of, eff_of}
 use Rattle.sd_sound.specs.Laws.{is_runnable}
-use Rattle.sd_chains.proofs.Moves.{IsSame, IsPut, put_cases}
+use Rattle.sd_chains.proofs.Moves.{IsSame, put_cases}
 use Rattle.sd_sound.proofs.CpuWords.{of_cpus}
 use Rattle.sd_sound.proofs.OpenLemmas.{place_part as set_part}
 use Rattle.sd_belonging.specs.Belonging.{MayQueue, BelongsAt, IsBoundInSet, Belongs, ThreadsBelong}
 use Rattle.sd_belonging.proofs.Alike.{Weight, heft}
 use Rattle.sd_belonging.proofs.Basics.{self}
-use Rattle.sd_belonging.proofs.Goes.{All, Others, Single}
+use Rattle.sd_belonging.proofs.Goes.{Single}
 use Rattle.sd_belonging.proofs.Outcomes.{IsOff, Outcome}
 use Rattle.sd_belonging.proofs.Outcomes.Outcome.{alike, weighed, puts, leaves, comes}
 
@@ -105,12 +103,12 @@ module _ (w : Work) (s r : State) (c : ℕ) (one : Single s) (homes : ThreadsBel
   pub outcome_belongs : Outcome w s r c → ThreadsBelong w r
   outcome_belongs (alike a) u = keeps_home a.keeps.sets a.keeps.bounds u (a.keeps.places u) (inl (ap heft (a.weights u))) (λ d runs e. a.marks.kernel d e)
   outcome_belongs (weighed t x a rests remarks) u = keeps_home a.keeps.sets a.keeps.bounds u (a.keeps.places u) (elim (put_cases t x _ _ a.weights u) [
-      | inl me ↦ elim rests [
-        | inl same ↦ inl (ap heft me.1 ∙ same ∙ ap (eff_of s) (sym me.0))
-        | inr off ↦ inr (ap (λ v. is_runnable (thread_of s v).place) me.0 ∙ off)
-      ]
-      | inr other ↦ inl (ap heft other.1)
-    ]) (λ d runs e. a.marks.kernel d e)
+    | inl me ↦ elim rests [
+      | inl same ↦ inl (ap heft me.1 ∙ same ∙ ap (eff_of s) (sym me.0))
+      | inr off ↦ inr (ap (λ v. is_runnable (thread_of s v).place) me.0 ∙ off)
+    ]
+    | inr other ↦ inl (ap heft other.1)
+  ]) (λ d runs e. a.marks.kernel d e)
   outcome_belongs (puts t place x a home off was) u = elim (put_cases t place _ _ a.goes.places u) [
     | inl me ↦ subst (Belongs w r) (sym me.0)
         (goes_home a.goes.sets a.goes.bounds t place x a.goes.places.at (ap heft a.goes.weights.at) (moved_belongs s r (set_of w t) (heft x) (thread_of s t).body.bound place (own a.goes.sets a.goes.bounds) off home))

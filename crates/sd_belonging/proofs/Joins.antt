@@ -1,5 +1,5 @@
 -- The set of a processor changes only where it joins another, with no thread on it and none on its queue.
-use Rattle.std.proofs.Common.{◌≡◌, ◌≢◌, ℕ, ◌<◌, true, false, length, Option, Some, None, refl, sym, ap, ◌∙◌, subst, inl, inr, ◌⊎◌, arith}
+use Rattle.std.proofs.Common.{◌≡◌, ◌≢◌, ℕ, ◌<◌, false, length, Option, Some, None, refl, sym, ap, ◌∙◌, subst, inl, inr, ◌⊎◌}
 use Rattle.std.proofs.lemmas.Bool.{cases_eq}
 use Rattle.sd_types.specs.declared.numbers.CpuId.{CpuId}
 use Rattle.sd_types.specs.declared.numbers.SetId.{SetId}
@@ -11,11 +11,11 @@ use Rattle.sd_types.specs.declared.works.Work.{Work}
 use Rattle.sd_machine.specs.declared.states.CpuState.{CpuState}
 use Rattle.sd_machine.specs.declared.states.ThreadState.{ThreadState}
 use Rattle.sd_machine.specs.declared.states.State.{State}
-use Rattle.sd_machine.specs.States.{no_thread, no_cpu, thread_of, cpu_of, with_cpu, is_running, is_queued}
+use Rattle.sd_machine.specs.States.{no_thread, no_cpu, thread_of, cpu_of, is_running, is_queued}
 use Rattle.sd_machine.specs.Best.{running, beats}
 use Rattle.sd_machine.proofs.OrderLemmas.{beats_order}
 use Rattle.sd_full.specs.Threads.{open_of, with_open, runner, best_queued}
-use Rattle.sd_full.specs.Changes.{with_cpu_in, without_cpu, close, join}
+use Rattle.sd_full.specs.Changes.{with_cpu_in, close, join}
 use Rattle.sd_full.specs.SetChanges.{cleared, assigned, joined}
 use Rattle.sd_full.specs.Events.{drop_ageing, effect, after}
 use Rattle.sd_laws.proofs.Chosen.{runs_none}
@@ -72,12 +72,12 @@ unfolding after effect
 sets_by w s n c (Assign t x to answer) cause d = inl (assigned_sets w (drop_ageing s c.0 (Assign t x to answer)) t.0 x to answer d ∙ drop_sets s c.0 (Assign t x to answer) d)
 sets_by w s n c (Joined to) cause d = elim (cases_eq d c.0) [
   | inl is ↦ inr (record {
-      to = to;
-      itself = is;
-      event = refl;
-      closing = subst (λ i. (cpu_of s i).closing ≡ Some to) (sym is) cause.1;
-      empty = subst (λ i. IsEmpty s i) (sym is) (λ t inside. (nobody_runs s c.0 cause.0.nobody t, nobody_queued s c.0 cause.2 t inside));
-    })
+    to = to;
+    itself = is;
+    event = refl;
+    closing = subst (λ i. (cpu_of s i).closing ≡ Some to) (sym is) cause.1;
+    empty = subst (λ i. IsEmpty s i) (sym is) (λ t inside. (nobody_runs s c.0 cause.0.nobody t, nobody_queued s c.0 cause.2 t inside));
+  })
   | inr other ↦ inl (joined_others (drop_ageing s c.0 (Joined to)) c to d other ∙ drop_sets s c.0 (Joined to) d)
 ]
 sets_by w s n c e cause d = inl (sets_of s (after w s n c e) (cpus_same w s n c e refl) d)

@@ -1,6 +1,5 @@
 -- Marks stand where a thread of a greater priority waits on the queue of the same processor, and nowhere without a running thread.
-use Rattle.std.proofs.Common.{◌≡◌, ◌≢◌, ℕ, ◌<◌, ◌≤◌, Bool, true, false, length, Option, Some, None, refl, sym, ap, ◌∙◌, subst, inl, inr, ◌⊎◌, arith}
-use Rattle.std.specs.Prelude.{if◌then◌else◌, nat_le, ◌==◌}
+use Rattle.std.proofs.Common.{◌≡◌, ◌≢◌, ℕ, ◌<◌, true, length, Option, Some, None, refl, sym, ap, ◌∙◌, subst, inl, inr, ◌⊎◌, arith}
 use Rattle.std.proofs.lemmas.Bool.{cases_eq, cases_Bool, eqb-true, false≢true}
 use Rattle.sd_types.specs.declared.numbers.CpuId.{CpuId}
 use Rattle.sd_types.specs.declared.numbers.SetId.{SetId}
@@ -10,7 +9,6 @@ use Rattle.sd_types.specs.declared.events.BindAnswer.TheVariants as bind_answer
 use Rattle.sd_types.specs.declared.events.Event.{Event}
 use Rattle.sd_types.specs.declared.events.Event.TheVariants.{Assign, Joined, Bind}
 use Rattle.sd_types.specs.declared.events.Put.{Put}
-use Rattle.sd_types.specs.declared.events.Put.TheVariants.{Cpu, RealTime as OnRealTime}
 use Rattle.sd_types.specs.declared.works.Work.{Work}
 use Rattle.sd_machine.specs.declared.states.Place.{Place}
 use Rattle.sd_machine.specs.declared.states.Place.TheVariants.{Running, Queued, RealTime, Waiting, Asleep, Napping, Ended}
@@ -19,23 +17,23 @@ use Rattle.sd_machine.specs.States.{thread_of, cpu_of, is_running, is_queued}
 use Rattle.sd_machine.specs.Opening.{opening}
 use Rattle.sd_full.specs.Threads.{eff_of}
 use Rattle.sd_full.specs.Changes.{place_put}
-use Rattle.sd_full.specs.SetChanges.{bound_put, unbound_put, bind_put, assigned, joined}
-use Rattle.sd_full.specs.Events.{drop_ageing, effect, after}
+use Rattle.sd_full.specs.SetChanges.{bound_put, unbound_put, bind_put}
+use Rattle.sd_full.specs.Events.{effect, after}
 use Rattle.sd_full.specs.Runs.{IsReached}
 use Rattle.sd_laws.specs.Laws.{is_marked, MarksStand}
 use Rattle.sd_laws.proofs.MarkLemmas.{running_not_queued}
 use Rattle.sd_laws.proofs.Openings.{opening_runs_none, opening_unmarked}
-use Rattle.sd_chains.proofs.Moves.{IsPut, put_cases}
+use Rattle.sd_chains.proofs.Moves.{IsPut}
 use Rattle.sd_sound.specs.Causes.{IsCause}
 use Rattle.sd_sound.specs.Laws.{HoldsWhenReached, is_runnable}
 use Rattle.sd_sound.proofs.Movers.{bind_thread, bind_put_is}
 use Rattle.sd_sound.proofs.Whole.{reached_whole}
 use Rattle.sd_range.proofs.Induction.{held_reached}
-use Rattle.sd_belonging.proofs.Alike.{Weight, weight_part, heft, IsBusy, calm_alike, drop_calm}
+use Rattle.sd_belonging.proofs.Alike.{Weight, weight_part, heft, IsBusy}
 use Rattle.sd_belonging.proofs.All.{runs_inside, single, known, runs_there, threads_belong}
 use Rattle.sd_belonging.proofs.Basics.{none_some, runs_one, queued_runnable}
 use Rattle.sd_belonging.proofs.Events.{is_settled, event_out}
-use Rattle.sd_belonging.proofs.Goes.{All, Others, Single, Puts}
+use Rattle.sd_belonging.proofs.Goes.{All, Single, Puts}
 use Rattle.sd_belonging.proofs.OnePlace.{one_runs}
 use Rattle.sd_belonging.proofs.Outcomes.{IsOff, Outcome, put_off}
 use Rattle.sd_belonging.proofs.Outcomes.Outcome.{alike, weighed, puts, leaves, comes}

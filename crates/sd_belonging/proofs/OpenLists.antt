@@ -21,7 +21,7 @@ use Rattle.sd_machine.specs.declared.states.State.{State}
 use Rattle.sd_machine.specs.States.{no_cpu, cpu_of, with_cpu}
 use Rattle.sd_machine.specs.Opening.{first_cpu_state, open_list, opening}
 use Rattle.sd_full.specs.Threads.{no_cpus, open_of, with_open, runner}
-use Rattle.sd_full.specs.Changes.{with_cpu_in, without_cpu, finish_op, close, join}
+use Rattle.sd_full.specs.Changes.{with_cpu_in, without_cpu, close, join}
 use Rattle.sd_full.specs.SetChanges.{cleared, assigned, joined}
 use Rattle.sd_full.specs.Shapes.{FitsFully}
 use Rattle.sd_full.specs.Changes.{set_duty}
@@ -33,7 +33,7 @@ use Rattle.sd_sound.proofs.Parts.{put_item}
 use Rattle.sd_sound.proofs.CpuWords as C
 use Rattle.sd_sound.proofs.FieldWords as F
 use Rattle.sd_sound.proofs.PlainWords.{drop_keeps}
-use Rattle.sd_sound.proofs.OpenLemmas.{place_part, place_marks, places_plain, SamePlaces, is_setless, cpus_same, open_field, finish_open, open_same, other_place}
+use Rattle.sd_sound.proofs.OpenLemmas.{place_part, place_marks, places_plain, SamePlaces, cpus_same, open_field, finish_open, open_same, other_place}
 use Rattle.sd_sound.proofs.Whole.{reached_whole}
 use Rattle.sd_sound.proofs.Works.{first_of_two, second_of_two}
 use Rattle.sd_range.specs.There.{IsSetThere}

@@ -1,12 +1,11 @@
 -- What an event comes to, of where threads stand, of priorities and of marks; and that a thread which goes to a place belongs there.
-use Rattle.std.proofs.Common.{◌≡◌, ◌≢◌, ℕ, zero, suc, ◌+◌, ◌<◌, ◌≤◌, Bool, true, false, not, ◌&&◌, ◌||◌, List, [], ◌∷◌, length, Option, Some, None, is_none, refl, sym, ap, ◌∙◌, subst, inl, inr, ◌⊎◌, arith, ℤ}
+use Rattle.std.proofs.Common.{◌≡◌, ◌≢◌, ℕ, zero, suc, ◌<◌, ◌≤◌, Bool, true, false, not, ◌&&◌, ◌||◌, List, [], ◌∷◌, length, Option, Some, None, is_none, refl, sym, ap, ◌∙◌, subst, inl, inr, ◌⊎◌, arith, ℤ}
 use Rattle.std.specs.Prelude.{if◌then◌else◌, filter, nat_lt, nat_le, ◌==◌}
 use Rattle.std.specs.List.{Contains}
-use Rattle.std.proofs.lemmas.Bool.{eqb-true, false≢true}
+use Rattle.std.proofs.lemmas.Bool.{eqb-true}
 use Rattle.std.proofs.lemmas.Bool.Decides.{nat_tests}
 use Rattle.std.proofs.lemmas.Option.{same_Some}
 use Rattle.sd_types.specs.declared.numbers.CpuId.{CpuId}
-use Rattle.sd_types.specs.declared.numbers.SetId.{SetId}
 use Rattle.sd_types.specs.declared.bodies.ThreadBody.{ThreadBody}
 use Rattle.sd_types.specs.declared.events.Put.{Put}
 use Rattle.sd_types.specs.declared.events.Put.TheVariants.{Cpu, RealTime as OnRealTime}
@@ -19,7 +18,7 @@ use Rattle.sd_machine.specs.declared.states.State.{State}
 use Rattle.sd_machine.specs.States.{thread_of, cpu_of, is_running, is_queued, is_ready}
 use Rattle.sd_full.specs.declared.plans.Requeue.TheVariants.{Stays, Behind, Anew}
 use Rattle.sd_full.specs.Threads.{open_of, set_of, eff_of}
-use Rattle.sd_full.specs.Changes.{back_key, queue_place, place_put, cpu_put}
+use Rattle.sd_full.specs.Changes.{back_key, queue_place, place_put}
 use Rattle.sd_full.specs.Choosing.{cpus_or_bound, cpus_for, put_on, neighbours}
 use Rattle.sd_full.specs.Requeueing.{is_bound_to, requeue}
 use Rattle.sd_laws.specs.Laws.{is_marked}

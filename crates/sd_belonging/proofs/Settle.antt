@@ -1,6 +1,6 @@
 -- Threads belong to their places behind an event that changes a set or a binding.
-use Rattle.std.proofs.Common.{◌≡◌, ◌≢◌, ℕ, ◌<◌, ◌≤◌, Bool, true, false, length, Option, Some, None, refl, sym, ap, ◌∙◌, subst, inl, inr, ◌⊎◌, arith}
-use Rattle.std.specs.Prelude.{if◌then◌else◌, nat_lt, nat_le, ◌==◌}
+use Rattle.std.proofs.Common.{◌≡◌, ◌≢◌, ℕ, ◌<◌, Bool, true, false, length, Option, Some, None, refl, sym, ap, ◌∙◌, subst, inl, inr, arith}
+use Rattle.std.specs.Prelude.{if◌then◌else◌, nat_le, ◌==◌}
 use Rattle.std.proofs.lemmas.Bool.{cases_eq, cases_lt, eqb-true, false≢true}
 use Rattle.std.proofs.lemmas.Bool.Decides.{nat_tests}
 use Rattle.std.proofs.lemmas.List.{get_or_past}
@@ -14,7 +14,6 @@ use Rattle.sd_types.specs.declared.events.Event.{Event}
 use Rattle.sd_types.specs.declared.events.Event.TheVariants.{Assign, Joined, Bind}
 use Rattle.sd_types.specs.declared.events.Put.{Put}
 use Rattle.sd_types.specs.declared.events.Put.TheVariants.{Cpu, RealTime as OnRealTime}
-use Rattle.sd_types.specs.declared.scripts.Op.TheVariants as op
 use Rattle.sd_types.specs.declared.works.Work.{Work}
 use Rattle.sd_machine.specs.declared.states.Place.{Place}
 use Rattle.sd_machine.specs.declared.states.Place.TheVariants.{Running, Queued, RealTime, Waiting, Asleep, Napping, Ended}
@@ -25,7 +24,7 @@ use Rattle.sd_full.specs.Threads.{open_of, with_open, runner, set_of, eff_of}
 use Rattle.sd_full.specs.Changes.{with_cpu_in, without_cpu, set_duty, close, join}
 use Rattle.sd_full.specs.SetChanges.{bound_put, unbound_put, bind_put, bind_to, cleared, assigned, joined, pbound}
 use Rattle.sd_full.specs.Events.{drop_ageing, effect, after}
-use Rattle.sd_chains.proofs.Moves.{IsSame, IsPut, put_cases}
+use Rattle.sd_chains.proofs.Moves.{IsPut}
 use Rattle.sd_sound.specs.Causes.{IsCause}
 use Rattle.sd_sound.proofs.CpuWords as C
 use Rattle.sd_sound.proofs.CpuWords.{of_cpus}
@@ -33,13 +32,13 @@ use Rattle.sd_sound.proofs.Words.{of_threads}
 use Rattle.sd_sound.proofs.HoldTable.{bound_part, pbound_bound}
 use Rattle.sd_sound.proofs.OpenLemmas.{place_part as set_part, place_marks, places_plain, cpus_same, other_place}
 use Rattle.sd_sound.proofs.PlainWords.{drop_keeps}
-use Rattle.sd_sound.proofs.BoundLemmas.{threads_same, bound_threads}
-use Rattle.sd_sound.proofs.Movers.{bind_thread, bind_put_is}
-use Rattle.sd_belonging.specs.Belonging.{MayQueue, BelongsAt, Belongs, ThreadsBelong}
-use Rattle.sd_belonging.proofs.Alike.{Weight, heft, calm_alike, drop_calm}
+use Rattle.sd_sound.proofs.BoundLemmas.{threads_same}
+use Rattle.sd_sound.proofs.Movers.{bind_put_is}
+use Rattle.sd_belonging.specs.Belonging.{BelongsAt, Belongs, ThreadsBelong}
+use Rattle.sd_belonging.proofs.Alike.{heft, calm_alike, drop_calm}
 use Rattle.sd_belonging.proofs.Basics.{self, none_some, same_cpu}
-use Rattle.sd_belonging.proofs.Homes.{Frame, frame_belongs}
-use Rattle.sd_belonging.proofs.Joins.{assigned_sets, joined_others, drop_sets, nobody_runs, nobody_queued}
+use Rattle.sd_belonging.proofs.Homes.{frame_belongs}
+use Rattle.sd_belonging.proofs.Joins.{assigned_sets, drop_sets, nobody_runs, nobody_queued}
 use Rattle.sd_belonging.proofs.Outcomes.{Known, queued_at, runs_at}
 use Rattle.sd_belonging.proofs.Special.{Stands, alike_stands, then_stands, joined_stands, assigned_stands, none_bound, IsBindable, bindable, unbindable, BindIs, pbound_is, place_bound, bind_place, bind_others, bind_eff, bind_kernel, pbound_kernel}
 
@@ -49,6 +48,7 @@ bound_inside s u f is = elim (cases_lt u (length s.threads)) [
   | inl inside ↦ inside
   | inr past ↦ absurd (none_some f (sym (ap (λ (x : ThreadState). x.body.bound) (get_or_past s.threads u no_thread past)) ∙ is))
 ]
+
 pub drop_stands : (s : State) (c : ℕ) (e : Event) → Stands s (drop_ageing s c e)
 drop_stands s c e = alike_stands s _ (calm_alike s _ (drop_calm s c e))
 

@@ -1,14 +1,12 @@
 -- The events that change a set or a binding: what they leave of places, priorities and marks.
-use Rattle.std.proofs.Common.{◌≡◌, ◌≢◌, ℕ, ◌+◌, ◌-◌, ◌<◌, ◌≤◌, Bool, true, false, not, ◌&&◌, ◌||◌, List, length, get_or, set, Option, Some, None, is_none, refl, sym, ap, ◌∙◌, subst, inl, inr, ◌⊎◌, arith}
+use Rattle.std.proofs.Common.{◌≡◌, ◌≢◌, ℕ, ◌<◌, ◌≤◌, Bool, true, false, not, ◌&&◌, ◌||◌, List, length, set, Option, Some, None, is_none, refl, sym, ap, ◌∙◌, subst, inl, inr, arith}
 use Rattle.std.specs.Prelude.{if◌then◌else◌, is_some, nat_lt, ◌==◌}
-use Rattle.std.proofs.lemmas.Bool.{cases_eq, eqb-true, eqb-false, false≢true}
+use Rattle.std.proofs.lemmas.Bool.{cases_eq, eqb-true}
 use Rattle.std.proofs.lemmas.Bool.Decides.{nat_tests}
-use Rattle.std.proofs.lemmas.List.{length-set, get_or-set_same, get_or-set_other}
+use Rattle.std.proofs.lemmas.List.{length-set, get_or-set_same}
 use Rattle.sd_types.specs.declared.numbers.CpuId.{CpuId}
 use Rattle.sd_types.specs.declared.numbers.SetId.{SetId}
-use Rattle.sd_types.specs.declared.events.AssignAnswer.{AssignAnswer}
 use Rattle.sd_types.specs.declared.events.AssignAnswer.TheVariants as assign
-use Rattle.sd_types.specs.declared.events.BindAnswer.{BindAnswer}
 use Rattle.sd_types.specs.declared.events.BindAnswer.TheVariants as bind_answer
 use Rattle.sd_types.specs.declared.events.Put.{Put}
 use Rattle.sd_types.specs.declared.works.Work.{Work}
@@ -17,25 +15,21 @@ use Rattle.sd_machine.specs.declared.states.Place.TheVariants.{Running, Queued, 
 use Rattle.sd_machine.specs.declared.states.CpuState.{CpuState}
 use Rattle.sd_machine.specs.declared.states.ThreadState.{ThreadState}
 use Rattle.sd_machine.specs.declared.states.State.{State}
-use Rattle.sd_machine.specs.States.{no_thread, no_cpu, thread_of, cpu_of, with_cpu, is_running, is_queued}
+use Rattle.sd_machine.specs.States.{no_thread, no_cpu, thread_of, cpu_of, with_cpu, is_running}
 use Rattle.sd_full.specs.Threads.{open_of, with_open, runner, set_of, eff_of, has_ended}
-use Rattle.sd_full.specs.Changes.{with_cpu_in, without_cpu, with_body, place_put, set_kernel_mark, put, put_where, close, join, bind, unbind, finish_op}
+use Rattle.sd_full.specs.Changes.{with_cpu_in, without_cpu, with_body, place_put, set_kernel_mark, put, put_where, close, join, bind, unbind}
 use Rattle.sd_full.specs.Prioritising.{is_privileged, uid_of}
-use Rattle.sd_full.specs.SetChanges.{assign_answer, cleared, assigned, joined, is_misbound, is_closing, bound_put, unbound_put, bind_put, bind_to, called_back, rebound, pbound}
-use Rattle.sd_laws.specs.Laws.{is_marked}
-use Rattle.sd_chains.specs.Holders as H
+use Rattle.sd_full.specs.SetChanges.{assign_answer, cleared, assigned, joined, is_misbound, is_closing, bind_put, bind_to, called_back, rebound, pbound}
 use Rattle.sd_chains.proofs.HolderLemmas.{count_one}
-use Rattle.sd_chains.proofs.Moves.{IsSame, IsPut}
-use Rattle.sd_sound.proofs.Parts.{put_item, same_item, put_same, same_put, put_put, same_is_put}
+use Rattle.sd_chains.proofs.Moves.{IsSame}
+use Rattle.sd_sound.proofs.Parts.{same_item}
 use Rattle.sd_sound.proofs.Words.{of_threads}
-use Rattle.sd_sound.proofs.CpuWords.{of_cpus}
 use Rattle.sd_sound.proofs.PlaceTable.{place_part}
 use Rattle.sd_sound.proofs.HoldTable.{bound_part}
-use Rattle.sd_sound.proofs.OpenLemmas.{place_part as set_part}
 use Rattle.sd_sound.proofs.BoundLemmas.{is_bound_at, bound_threads}
-use Rattle.sd_belonging.proofs.Alike.{Weight, weight_part, heft, marks_part, IsBusy, Keeps, MoreMarks, more_same, then_more, Calm, Alike, calm_alike, cpu_cases, busy_by, set_kernel_mark_alike, finish_op_calm, drop_calm}
+use Rattle.sd_belonging.proofs.Alike.{weight_part, heft, marks_part, IsBusy, MoreMarks, more_same, Alike, calm_alike, busy_by, set_kernel_mark_alike, finish_op_calm}
 use Rattle.sd_belonging.proofs.Basics.{self, neither, same_set}
-use Rattle.sd_belonging.proofs.Goes.{All, Goes, Single, Puts, put_puts, puts_alike}
+use Rattle.sd_belonging.proofs.Goes.{All, Puts, put_puts, puts_alike}
 
 -- Threads stand where they stood with their priorities, and marks may be set where a thread runs.
 pub record Stands (s r : State) : Type 0 where
@@ -137,6 +131,7 @@ none_bound w s t d to answer counts u inside f is same =
     let none : (cpu_of s d.0).bound ≤ 0 = grind (arith, nat_tests) in
     let one = count_one (λ v. is_bound_at d.0 (bound_part (thread_of s v))) u (length s.threads) inside (ap (is_bound_at d.0) is ∙ ap (λ i. i == d.0) same ∙ self d.0) in
     omega (arith, none, counts, one)
+
 -- Bindings.
 
 bind_stands : (s : State) (t : ℕ) (d : CpuId) → Stands s (bind s t d)
