@@ -90,11 +90,11 @@ module _ (w : Work) (s : State) (k : Known w s) (n : ℕ) (c : CpuId) where
       let q : State = drop_ageing s c.0 e in
       let r : State = assigned w q t.0 d to assign.Changed in
       let sets : (x : ℕ) → (cpu_of r x).set ≡ (cpu_of s x).set = λ x. assigned_sets w q t.0 d to assign.Changed x ∙ drop_sets s c.0 e x in
-      stands_frame r u (then_stands s q r (drop_stands s c.0 e) (assigned_stands w q t.0 d to)) (bounds_same e refl u) (λ x on. sets x) (λ x on. sets x)
+      stands_frame r u (then_stands s q r (drop_stands s c.0 e) (assigned_stands w q t.0 d to)) (bounds_same u) (λ x on. sets x) (λ x on. sets x)
       (λ f is. assigned_others w q t.0 d to f.0 (none_bound w s t.0 d to cause.1 (k.whole.bound d.0 inside) u (bound_inside s u f is) f is) ∙ drop_places e f.0)
     where
-      bounds_same : (e : Event) → e ≡ Assign t d to assign.Changed → (v : ℕ) → (thread_of (after w s n c (Assign t d to assign.Changed)) v).body.bound ≡ (thread_of s v).body.bound
-      bounds_same e is v = (threads_same w s n c (Assign t d to assign.Changed) refl).each v
+      bounds_same : (v : ℕ) → (thread_of (after w s n c (Assign t d to assign.Changed)) v).body.bound ≡ (thread_of s v).body.bound
+      bounds_same v = (threads_same w s n c (Assign t d to assign.Changed) refl).each v
 
   -- A processor joins a set: nobody runs on it, none is on its queue, and none is bound to it.
   pub joined_belongs : (to : SetId) → IsCause w s c.0 (Joined to) → ThreadsBelong w (after w s n c (Joined to))

@@ -27,7 +27,7 @@ use Rattle.sd_sound.proofs.Words.{of_threads}
 use Rattle.sd_sound.proofs.PlaceTable.{place_part}
 use Rattle.sd_sound.proofs.HoldTable.{bound_part}
 use Rattle.sd_sound.proofs.BoundLemmas.{is_bound_at, bound_threads}
-use Rattle.sd_belonging.proofs.Alike.{weight_part, heft, marks_part, IsBusy, MoreMarks, more_same, Alike, calm_alike, busy_by, set_kernel_mark_alike, finish_op_calm}
+use Rattle.sd_belonging.proofs.Alike.{weight_part, heft, marks_part, IsBusy, MoreMarks, more_same, Alike, all_calm, calm_alike, busy_by, set_kernel_mark_alike, finish_op_calm}
 use Rattle.sd_belonging.proofs.Basics.{self, neither, same_set}
 use Rattle.sd_belonging.proofs.Goes.{All, Puts, put_puts, puts_alike}
 
@@ -41,6 +41,9 @@ pub record Stands (s r : State) : Type 0 where
 
 pub alike_stands : (s r : State) → Alike s r → Stands s r
 alike_stands s r a = record { many = a.keeps.many; cpus = a.keeps.cpus; places = a.keeps.places; weights = a.weights; marks = a.marks }
+
+same_stands : (s : State) → Stands s s
+same_stands s = record { many = refl; cpus = refl; places = λ v. refl; weights = λ v. refl; marks = more_same s s (λ v. refl) }
 
 busy_back : (s r : State) (d : ℕ) → Stands s r → IsBusy r d → IsBusy s d
 busy_back s r d a b = record { who = b.who; runs = ap (is_running d) (sym (a.places b.who)) ∙ b.runs }
@@ -98,7 +101,7 @@ cleared_alike : (s : State) (d : CpuId) → Alike s (cleared s d (runner s d.0))
 cleared_alike s d = by (runner s d.0) refl
   where
     by : (o : Option ℕ) → runner s d.0 ≡ o → Alike s (cleared s d o)
-    by None e = calm_alike s s (record { keeps = record { many = refl; cpus = refl; places = λ u. refl; bounds = λ u. refl; sets = λ u. refl }; marks = λ u. refl; weights = λ u. refl })
+    by None e = calm_alike s s (all_calm s)
     by (Some r) e = set_kernel_mark_alike s d.0 (busy_by s d.0 r e)
 
 runner_closed : (s : State) (d : CpuId) (to : SetId) → runner (close s d to) d.0 ≡ runner s d.0
@@ -145,23 +148,20 @@ unbind_stands s t b = then_stands s (with_body s t (record (thread_of s t).body 
 called_stands : (s : State) (d : CpuId) (u : ℕ) (place : Place) → (thread_of s u).place ≡ place → Stands s (called_back s d place)
 called_stands s d u (Running c) is = by (c.0 == d.0)
   where
-    still : Stands s s
-    still = record { many = refl; cpus = refl; places = λ v. refl; weights = λ v. refl; marks = more_same s s (λ v. refl) }
-
     by : (b : Bool) → Stands s (if b then s else set_kernel_mark s c.0)
-    by true = still
+    by true = same_stands s
     by false = alike_stands s _ (set_kernel_mark_alike s c.0 (record { who = u; runs = ap (is_running c.0) is ∙ self c.0 }))
-called_stands s d u (Queued c k) is = record { many = refl; cpus = refl; places = λ v. refl; weights = λ v. refl; marks = more_same s s (λ v. refl) }
-called_stands s d u (RealTime q k) is = record { many = refl; cpus = refl; places = λ v. refl; weights = λ v. refl; marks = more_same s s (λ v. refl) }
-called_stands s d u (Waiting l side k) is = record { many = refl; cpus = refl; places = λ v. refl; weights = λ v. refl; marks = more_same s s (λ v. refl) }
-called_stands s d u (Asleep j k) is = record { many = refl; cpus = refl; places = λ v. refl; weights = λ v. refl; marks = more_same s s (λ v. refl) }
-called_stands s d u (Napping c due) is = record { many = refl; cpus = refl; places = λ v. refl; weights = λ v. refl; marks = more_same s s (λ v. refl) }
-called_stands s d u Ended is = record { many = refl; cpus = refl; places = λ v. refl; weights = λ v. refl; marks = more_same s s (λ v. refl) }
+called_stands s d u (Queued c k) is = same_stands s
+called_stands s d u (RealTime q k) is = same_stands s
+called_stands s d u (Waiting l side k) is = same_stands s
+called_stands s d u (Asleep j k) is = same_stands s
+called_stands s d u (Napping c due) is = same_stands s
+called_stands s d u Ended is = same_stands s
 
 pub rebound_stands : (s : State) (u : ℕ) (d b : Option CpuId) → Stands s (rebound s u d b)
 rebound_stands s u (Some d) b = then_stands s (bind s u d) _ (bind_stands s u d) (called_stands (bind s u d) d u (thread_of s u).place ((bind_stands s u d).places u))
 rebound_stands s u None (Some b) = unbind_stands s u b
-rebound_stands s u None None = record { many = refl; cpus = refl; places = λ v. refl; weights = λ v. refl; marks = more_same s s (λ v. refl) }
+rebound_stands s u None None = same_stands s
 
 -- a thread that runs elsewhere is called back
 pub called_kernel : (s : State) (u : ℕ) (d : CpuId) (b : Option CpuId) (c : CpuId) → c.0 < length s.cpus → (thread_of s u).place ≡ Running c → d.0 ≢ c.0 → (cpu_of (rebound s u (Some d) b) c.0).kernel ≡ true
