@@ -59,9 +59,14 @@ use Rattle.sd_full.specs.Events.{after, placed_thread, plan_reads, reads}
 use Rattle.sd_full.specs.Runs.{final, IsRun, IsRunFrom, shown, serial_hints, made, turn, round, rounds, IsSerial}
 use Rattle.std.proofs.lemmas.List.{length-append}
 use Rattle.std.proofs.lemmas.List.Elements.{All-nil, All-cons}
-use Rattle.sd_full.proofs.RunLemmas.{final-nil, final-push, IsRun-nil, IsRun-append, IsRun-from, IsRunFrom-one}
+use Rattle.sd_full.proofs.RunLemmas.{final-nil, final-push, IsRun-nil, IsRun-append, IsRun-from, IsRunFrom-nil, IsRunFrom-one, IsRunFrom-append}
 use Rattle.sd_sound.specs.Laws.{OpenHold, IsRising, is_in}
 use Rattle.sd_sound.proofs.Whole.{reached_whole}
+use Rattle.sd_full.specs.Texts.{journal}
+use Rattle.sd_rounds.specs.declared.orders.Turns.{Turns}
+use Rattle.sd_rounds.specs.Orders.{orders_of}
+use Rattle.sd_rounds.proofs.CompleteLemmas.{complete_of}
+use Rattle.sd_audit.specs.Audits.{IsJournal}
 
 -- ---- the numbers that processors show
 
@@ -212,7 +217,43 @@ opened : (w : Work) → IsReached w 0 (opening w)
 opened w = record { entries = []; run = IsRun-nil w; many = refl; ends = final-nil w (opening w) }
 
 -- all entries of a run in rounds
-pub serial_spelled : (w : Work) (orders : ℕ → List CpuId) (es : List Entry) → HasSmallCounts w → IsSerial w orders es → IsRun w es → length es < 2 ^ 64 → All (IsSpelled w) es
+serial_spelled : (w : Work) (orders : ℕ → List CpuId) (es : List Entry) → HasSmallCounts w → IsSerial w orders es → IsRun w es → length es < 2 ^ 64 → All (IsSpelled w) es
 serial_spelled w orders es small serial run few =
     all_spelled w 0 (opening w) es small (opened w) (IsRun-from w es run)
     (subst (λ (xs : List Entry). AreShown w (opening w) xs) (sym serial.entries) (rounds_shown w orders serial.count)) (omega (arith, few))
+
+-- ---- a run in rounds is a run
+
+made_run : (w : Work) (s : State) (n : ℕ) (c : CpuId) (h : Option Hints) (o : Option Event) → next w s c h ≡ o → IsRunFrom w s n (made n c h o)
+made_run w s n c h None is = IsRunFrom-nil w s n
+made_run w s n c h (Some e) is = IsRunFrom-one w s n (record { number = n; cpu = c; event = e; hints = h }) refl is
+
+round_run : (w : Work) (s : State) (n : ℕ) (cs : List CpuId) → IsRunFrom w s n (round w s n cs)
+unfolding round
+round_run w s n [] = IsRunFrom-nil w s n
+round_run w s n (c ∷ cs) =
+    IsRunFrom-append w s n (turn w s n c) (round w (final w s (turn w s n c)) (n + length (turn w s n c)) cs)
+    (made_run w s n c (serial_hints w s c) (next w s c (serial_hints w s c)) refl) (round_run w (final w s (turn w s n c)) (n + length (turn w s n c)) cs)
+
+rounds_run : (w : Work) (orders : ℕ → List CpuId) (k : ℕ) → IsRun w (rounds w orders k)
+unfolding rounds
+rounds_run w orders zero = IsRun-nil w
+rounds_run w orders (suc k) =
+    let es = rounds w orders k in
+    IsRun-append w es (round w (final w (opening w) es) (length es) (orders k)) (rounds_run w orders k) (round_run w (final w (opening w) es) (length es) (orders k))
+
+serial_run : (w : Work) (orders : ℕ → List CpuId) (es : List Entry) → IsSerial w orders es → IsRun w es
+serial_run w orders es serial = subst (λ (xs : List Entry). IsRun w xs) (sym serial.entries) (rounds_run w orders serial.count)
+
+-- its journal is one that the audit finds legal
+pub serial_journal : (w : Work) (turns : Turns) (es : List Entry) → HasSmallCounts w → IsSerial w (orders_of w turns) es → length es < 2 ^ 40
+    → IsJournal w (journal w es) (final w (opening w) es) (length es)
+serial_journal w turns es small serial few = record {
+  entries = es;
+  run = serial_run w (orders_of w turns) es serial;
+  spelled = serial_spelled w (orders_of w turns) es small serial (serial_run w (orders_of w turns) es serial) (omega (arith, few));
+  complete = complete_of w turns es serial;
+  whole = refl;
+  many = refl;
+  ends = refl;
+}

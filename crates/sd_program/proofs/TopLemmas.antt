@@ -37,7 +37,8 @@ use Rattle.sd_answers.specs.declared.answers.Answer.TheVariants.{Done, Usage, To
 use Rattle.sd_answers.specs.Answers.{status_of, line_of, answer_of, read_answer, work_answer, stop_answer, unwritten_answer}
 use Rattle.sd_answers.specs.StreamChanges.{StreamChange, HasFault, HasNoFault, IsUntouched, AppendsPart, Puts}
 use Rattle.sd_program.specs.Forms.{command_of, turns_of, text_of}
-use Rattle.sd_program.specs.RunAnswers.{IsTheRun, IsOpen, HasCycle, Writes, Ran, final_state}
+use Rattle.sd_program.specs.RunAnswers.{Writes, Ran}
+use Rattle.sd_program.specs.TheRun.{IsTheRun}
 use Rattle.sd_answers.specs.Inputs.{most_bytes, HasAtMost, HasRead, HasTooMany, IsWorkload, IsNoWorkload, IsRefused}
 use Rattle.sd_answers.proofs.InputLemmas.{taken_within, taken_all, at_most_of}
 use Rattle.sd_program.specs.Headline.{RanInput, CausedByInput, PrintsTables, CausedByTables, CausedByNumber, CausedBy, Caused, Tells, Completes, CompletesTables, Refuses, KeepsPromises}
@@ -316,7 +317,7 @@ unwritten_of w form out es (Err unwritten.Memory) is p = (p.no_fault (λ e. cc),
 
 -- it was written whole
 pub written_of : (w : Work) (form : Form) (out : StreamChange) (es : List Entry) → IsTheRun w (turns_of form) es
-    → Puts out.before out.after out.faults_before out.faults_after (text_of form w es) (Ok tt) → (P : State → Type 0) → P (final_state w es) → Writes w form out P
+    → Puts out.before out.after out.faults_before out.faults_after (text_of form w es) (Ok tt) → (P : List Entry → Type 0) → P es → Writes w form out P
 written_of w form out es is p P ends = (es, is, p.ok, p.no_fault (λ e. cc), ends)
 
 pub ran_exit : (w : Work) (form : Form) (out : StreamChange) (r : Result (Unit {0}) Answer) (a : Answer) → IsErrAnd r (λ y. y ≡ a) → Ran w form out a → Ran w form out (answer_of r)

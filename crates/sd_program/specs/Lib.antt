@@ -4,3 +4,4 @@ pub mod Headline
 pub mod RunAnswers
 pub mod Starts
 pub mod TableTexts
+pub mod TheRun
