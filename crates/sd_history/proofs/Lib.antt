@@ -1,2 +1,3 @@
 pub mod Carried
 pub mod Runnable
+pub mod Sleepers

@@ -1,6 +1,6 @@
 //! Laws of the entries of a run so far, each as the contract of a function without a body.
 
-ghost use Rattle.sd_history.specs.Laws.{WakesAreCounted, WokenStayRunnable};
+ghost use Rattle.sd_history.specs.Laws.{SleepersSleepUntilWoken, WaitersSleepUntilWoken, WakesAreCounted, WokenStayRunnable};
 
 /// The accounts count an entry as a wake of a thread exactly where its event wakes that thread: after a nap, a sleep or a
 /// wait for a lock.
@@ -13,4 +13,18 @@ pub fn wakes_are_counted()
 /// `examples/broadcast.workload` has such entries: `rouse` and the end of a nap.
 pub fn woken_stay_runnable()
     ensures { WokenStayRunnable }
+{}
+
+/// From an entry that puts a thread to sleep on a channel, by `sleep`, `cvwait` or `semawait`, and as long as no later entry
+/// wakes that thread, it is asleep on that channel with the key of that entry; and no `wake` of the channel wakes nobody,
+/// nor is a semaphore on which it sleeps counted up.
+pub fn sleepers_sleep_until_woken()
+    ensures { SleepersSleepUntilWoken }
+{}
+
+/// From a `cvwait` entry of a thread, and as long as no later entry wakes it, the thread is asleep on the condition
+/// variable, and no `wake` of that wakes nobody. So no wakeup is lost between the release of the mutex and the sleep.
+/// `examples/broadcast.workload` has three such threads.
+pub fn waiters_sleep_until_woken()
+    ensures { WaitersSleepUntilWoken }
 {}

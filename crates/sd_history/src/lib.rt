@@ -5,4 +5,6 @@
 
 mod laws;
 
-pub use laws::{wakes_are_counted, woken_stay_runnable};
+pub use laws::{
+    sleepers_sleep_until_woken, waiters_sleep_until_woken, wakes_are_counted, woken_stay_runnable,
+};
