@@ -1,3 +1,4 @@
 pub mod Carried
+pub mod Counts
 pub mod Runnable
 pub mod Sleepers

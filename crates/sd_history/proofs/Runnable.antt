@@ -46,7 +46,7 @@ pub steps_after : (w : Work) (s : State) (n : ℕ) (c : CpuId) (e : Event) → I
 steps_after w s n c e ready cause = after_steps w s n c e (step_needs w s c.0 e cause) (mover_there w s n c e ready.fits ready.agreed cause)
 
 -- a step that moves thread u, if it does, to a place where it is runnable or runs
-abbrev IsLiveStep : ℕ → Step → Type 0
+abbrev pub IsLiveStep : ℕ → Step → Type 0
 IsLiveStep u Stay = ⊤
 IsLiveStep u (Go t place) = t ≡ u → is_live place ≡ true
 
@@ -96,7 +96,7 @@ live_aged : (u : ℕ) (w : Work) (s : State) (n : ℕ) (c : CpuId) (t : ℕ) →
 live_aged u w s n c t = elim (eff_as (aged_class w (thread_of s t).body.class) (thread_of s t).body == eff_of s t) as (λ b. IsLiveStep u (if b then Stay else Go t (Queued c (back_key n)))) [ true ↦ tt | false ↦ λ same. refl ]
 
 -- the thread that an event stops is not u
-live_step : (u : ℕ) (w : Work) (s : State) (n : ℕ) (c : CpuId) (e : Event) → stopped_by e ≢ Some u → IsLiveStep u (step_of w s n c e)
+pub live_step : (u : ℕ) (w : Work) (s : State) (n : ℕ) (c : CpuId) (e : Event) → stopped_by e ≢ Some u → IsLiveStep u (step_of w s n c e)
 live_step u w s n c (Tick t) goes_on = tt
 live_step u w s n c (Spin t l) goes_on = tt
 live_step u w s n c Idle goes_on = tt

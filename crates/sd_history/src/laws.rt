@@ -1,6 +1,7 @@
 //! Laws of the entries of a run so far, each as the contract of a function without a body.
 
-ghost use Rattle.sd_history.specs.Laws.{SleepersSleepUntilWoken, WaitersSleepUntilWoken, WakesAreCounted, WokenStayRunnable};
+ghost use Rattle.sd_history.specs.Laws.{SemaphoresAreCounted, SleepersSleepUntilWoken, SleepersWaitAtZero, WaitersSleepUntilWoken, WakesAreCounted, WokenStayRunnable};
+ghost use Rattle.sd_sound.specs.Laws.{HoldsWhenReached};
 
 /// The accounts count an entry as a wake of a thread exactly where its event wakes that thread: after a nap, a sleep or a
 /// wait for a lock.
@@ -27,4 +28,16 @@ pub fn sleepers_sleep_until_woken()
 /// `examples/broadcast.workload` has three such threads.
 pub fn waiters_sleep_until_woken()
     ensures { WaitersSleepUntilWoken }
+{}
+
+/// The count of each semaphore is its first count, plus its `semav` entries so far that woke nobody, minus its `semap`
+/// entries so far.
+pub fn semaphores_are_counted()
+    ensures { SemaphoresAreCounted }
+{}
+
+/// Where a thread sleeps on a semaphore, the count is 0: nobody sleeps on one whose count is above 0. A channel that is no
+/// semaphore always has a count of 0.
+pub fn semaphore_sleepers_wait_at_zero()
+    ensures { HoldsWhenReached SleepersWaitAtZero }
 {}

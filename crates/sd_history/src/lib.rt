@@ -6,5 +6,6 @@
 mod laws;
 
 pub use laws::{
-    sleepers_sleep_until_woken, waiters_sleep_until_woken, wakes_are_counted, woken_stay_runnable,
+    semaphore_sleepers_wait_at_zero, semaphores_are_counted, sleepers_sleep_until_woken,
+    waiters_sleep_until_woken, wakes_are_counted, woken_stay_runnable,
 };
