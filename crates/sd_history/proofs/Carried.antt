@@ -51,6 +51,7 @@ module _ (w : Work) (P : State → Type 0) (Q : Event → Type 0) (carried : IsC
 
 -- A run with an entry in it: the state before that entry, its cause there, and the run that follows.
 pub record IsSplit (w : Work) (es more : List Entry) (e : Entry) : Type 0 where
+  pub run : IsRun w es
   pub ready : IsReady w (final w (opening w) es)
   pub cause : IsCause w (final w (opening w) es) e.cpu.0 e.event
   pub there : IsReady w (after w (final w (opening w) es) e.number e.cpu e.event)
@@ -69,6 +70,7 @@ split w es more e run =
     let ready = reached_ready w (length es) (final w (opening w) es) (reached_at w es (from-IsRun w es front)) in
     let (number, step, rest) = IsRunFrom-rest w (opening w) 0 es (e ∷ more) whole in
     record {
+      run = from-IsRun w es front;
       ready = ready;
       cause = ready_cause w (final w (opening w) es) e.cpu e.hints e.event ready step;
       there = next_ready w (final w (opening w) es) e.number e.cpu e.hints e.event ready step;

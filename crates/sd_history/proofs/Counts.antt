@@ -104,7 +104,7 @@ positive_inside xs i some = elim (cases_lt i (length xs)) [
   | inr past ↦ absurd (let none : get_or xs i 0 ≡ 0 = get_or_past xs i 0 past in omega (arith, none, some))
 ]
 
-same_test : (i : ℕ) → (i == i) ≡ true
+pub same_test : (i : ℕ) → (i == i) ≡ true
 same_test i = grind (arith, nat_tests)
 
 other_test : (i k : ℕ) → k ≢ i → (i == k) ≡ false
@@ -193,7 +193,7 @@ counted_from w k s n (x ∷ xs) ready (number, step, run) =
     let b = entries_cons (is_counted_up k) x xs in
     omega (arith, one, rest, a, b)
 
-opening_count : (w : Work) (k : ℕ) → count_of (opening w) k ≡ declared_count w k
+pub opening_count : (w : Work) (k : ℕ) → count_of (opening w) k ≡ declared_count w k
 unfolding opening
 opening_count w k = refl
 
@@ -216,7 +216,7 @@ unmoved u s r (Go t place) is a k key asleep = elim (put_cases t place _ _ a u) 
 ]
 
 -- an event that puts a thread to sleep on channel k
-abbrev PutsOn : Event → ChanId → Type 0
+abbrev pub PutsOn : Event → ChanId → Type 0
 PutsOn e k = (t : ThreadId) × (put_to_sleep e ≡ Some (t, k))
 
 asleep_chan : (j k : ChanId) (x y : ℤ) → Asleep j x ≡ Asleep k y → j ≡ k
@@ -240,7 +240,7 @@ went s r u t place k key awake a asleep = elim (put_cases t place _ _ a u) [
   | inr other ↦ sym other.1 ∙ asleep
 ]
 
-fell_asleep : (w : Work) (s : State) (n : ℕ) (c : CpuId) (e : Event) (u : ℕ) (k : ChanId) (key : ℤ) → IsReady w s → IsCause w s c.0 e → (thread_of (after w s n c e) u).place ≡ Asleep k key
+pub fell_asleep : (w : Work) (s : State) (n : ℕ) (c : CpuId) (e : Event) (u : ℕ) (k : ChanId) (key : ℤ) → IsReady w s → IsCause w s c.0 e → (thread_of (after w s n c e) u).place ≡ Asleep k key
     → ((thread_of s u).place ≡ Asleep k key) ⊎ PutsOn e k
 fell_asleep w s n c (Sleep t j) u k key ready cause asleep = fell_on s (after w s n c (Sleep t j)) n u (Sleep t j) t j k key refl (steps_after w s n c (Sleep t j) ready cause) asleep
 fell_asleep w s n c (CvWait t j l) u k key ready cause asleep = fell_on s (after w s n c (CvWait t j l)) n u (CvWait t j l) t j k key refl (steps_after w s n c (CvWait t j l) ready cause) asleep
@@ -269,7 +269,7 @@ stays_zero w s n c e k ready cause zero_ down =
     let none : ones (is_counted_up k e) ≡ 0 = elim (cases_Bool (is_counted_up k e)) [ inl up ↦ absurd (down up) | inr not ↦ ap ones not ] in
     omega (arith, go, none, zero_)
 
-chan_no_sema : (o : Option ChanKind) → is_chan o ≡ true → is_sema o ≡ false
+pub chan_no_sema : (o : Option ChanKind) → is_chan o ≡ true → is_sema o ≡ false
 chan_no_sema (Some Chan) is = refl
 chan_no_sema (Some (Sema n)) is = cc
 chan_no_sema None is = cc

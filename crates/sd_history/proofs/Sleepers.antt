@@ -57,7 +57,7 @@ sleeps _ = false
 
 -- Places where no thread sleeps.
 
-running_awake : (c : ℕ) (p : Place) → is_running c p ≡ true → sleeps p ≡ false
+pub running_awake : (c : ℕ) (p : Place) → is_running c p ≡ true → sleeps p ≡ false
 running_awake c (Running d) e = refl
 running_awake c (Queued d k) e = refl
 running_awake c (RealTime q k) e = refl
@@ -244,7 +244,7 @@ someone_asleep s t k key asleep =
     let same : (k.0 == k.0) ≡ true = grind (arith, nat_tests) in
     sleeper_some s k.0 t (asleep_inside s t (ap sleeps asleep)) (ap (is_asleep k.0) asleep ∙ same)
 
-found : (w : Work) (u : ℕ) (k : ChanId) (key : ℤ) → IsMet w (λ s. (thread_of s u).place ≡ Asleep k key) (λ e. in_vain e ≢ Some k)
+pub found : (w : Work) (u : ℕ) (k : ChanId) (key : ℤ) → IsMet w (λ s. (thread_of s u).place ≡ Asleep k key) (λ e. in_vain e ≢ Some k)
 found w u k key s c (Wake t j None) ready cause asleep = λ is. someone_asleep s u k key asleep (subst (λ (x : ChanId). best_sleeper s x.0 ≡ None) (same_Some j k is) cause.1)
 found w u k key s c (SemaVCount t j m) ready cause asleep = λ is. someone_asleep s u k key asleep (subst (λ (x : ChanId). best_sleeper s x.0 ≡ None) (same_Some j k is) cause.1)
 found w u k key s c _ ready cause asleep = λ is. cc
@@ -254,7 +254,7 @@ found w u k key s c _ ready cause asleep = λ is. cc
 fell : (s r : State) (n : ℕ) (x y : ThreadId × ChanId) → Stepped (Go x.0.0 (Asleep x.1 (back_key n))) s r → Some x ≡ Some y → (thread_of r y.0.0).place ≡ Asleep y.1 (back_key n)
 fell s r n x y a is = subst (λ (z : ThreadId × ChanId). (thread_of r z.0.0).place ≡ Asleep z.1 (back_key n)) (same_Some x y is) a.at
 
-falls : (w : Work) (s : State) (n : ℕ) (c : CpuId) (e : Event) (t : ThreadId) (k : ChanId) → IsReady w s → IsCause w s c.0 e → put_to_sleep e ≡ Some (t, k) → (thread_of (after w s n c e) t.0).place ≡ Asleep k (back_key n)
+pub falls : (w : Work) (s : State) (n : ℕ) (c : CpuId) (e : Event) (t : ThreadId) (k : ChanId) → IsReady w s → IsCause w s c.0 e → put_to_sleep e ≡ Some (t, k) → (thread_of (after w s n c e) t.0).place ≡ Asleep k (back_key n)
 falls w s n c (Sleep u j) t k ready cause is = fell s (after w s n c (Sleep u j)) n (u, j) (t, k) (steps_after w s n c (Sleep u j) ready cause) is
 falls w s n c (CvWait u j l) t k ready cause is = fell s (after w s n c (CvWait u j l)) n (u, j) (t, k) (steps_after w s n c (CvWait u j l) ready cause) is
 falls w s n c (SemaWait u j) t k ready cause is = fell s (after w s n c (SemaWait u j)) n (u, j) (t, k) (steps_after w s n c (SemaWait u j) ready cause) is

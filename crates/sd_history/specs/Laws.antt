@@ -1,14 +1,17 @@
 -- What is said of the entries of a run so far: of woken threads, of threads that sleep, and of the counts of semaphores.
 -- Source: Solaris Internals (sleep queues, cv_wait, cv_signal, sema_p, sema_v); that a semaphore is handed to its best
 -- sleeper directly is this project's own.
-use Rattle.std.specs.Prelude.{◌≡◌, ◌≢◌, ℕ, ◌+◌, Bool, true, false, List, ◌∷◌, ◌++◌, map, ◌==◌, slice_get, slice_index_or, ℤ, Option, Some, None, is_some}
-use Rattle.std.specs.List.{All}
+use Rattle.std.specs.Prelude.{◌≡◌, ◌≢◌, ℕ, ◌+◌, Bool, true, false, List, ◌∷◌, ◌++◌, length, map, take, count_by, ◌==◌, slice_get, slice_index_or, ℤ, Option, Some, None, is_some}
+use Rattle.std.specs.List.{All, range_with_len, sum_by}
 use Rattle.sd_types.specs.declared.numbers.ChanId.{ChanId}
 use Rattle.sd_types.specs.declared.numbers.LockId.{LockId}
 use Rattle.sd_types.specs.declared.numbers.ThreadId.{ThreadId}
 use Rattle.sd_types.specs.declared.events.Entry.{Entry}
 use Rattle.sd_types.specs.declared.events.Event.{Event}
-use Rattle.sd_types.specs.declared.events.Event.TheVariants.{Done, Nap, Sleep, Wake, Block, CvWait, SemaP, SemaWait, SemaVCount}
+use Rattle.sd_types.specs.declared.events.Event.TheVariants.{Done, Nap, Sleep, Wake, Block, CvWait, SemaP, SemaWait, SemaVWake, SemaVCount}
+use Rattle.sd_types.specs.declared.events.Put.{Put}
+use Rattle.sd_types.specs.declared.scripts.Op.{Op}
+use Rattle.sd_types.specs.declared.scripts.Op.TheVariants.{SemaP as SemaPOp, SemaV as SemaVOp}
 use Rattle.sd_types.specs.declared.works.ChanKind.{ChanKind}
 use Rattle.sd_types.specs.declared.works.Work.{Work}
 use Rattle.sd_types.specs.Works.{is_sema}
@@ -17,11 +20,12 @@ use Rattle.sd_machine.specs.declared.states.Place.TheVariants.{Running, Asleep}
 use Rattle.sd_machine.specs.declared.states.State.{State}
 use Rattle.sd_machine.specs.States.{thread_of}
 use Rattle.sd_machine.specs.Accounts.{is_wake_of}
+use Rattle.sd_machine.specs.Operations.{script_of}
 use Rattle.sd_machine.specs.Opening.{first_count, opening}
 use Rattle.sd_full.specs.Accounts.{is_wake, entries_of}
 use Rattle.sd_full.specs.Changes.{back_key}
 use Rattle.sd_full.specs.Runs.{final, IsRun}
-use Rattle.sd_full.specs.Threads.{count_of}
+use Rattle.sd_full.specs.Threads.{count_of, is_asleep}
 use Rattle.sd_sound.specs.Laws.{woken_by, is_runnable}
 
 -- Woken threads.
@@ -129,3 +133,41 @@ chan_kind w k = slice_get (map (λ x. x.1) w.chans) k
 pub record SleepersWaitAtZero (w : Work) (s : State) : Type 0 where
   pub asleep : (t : ℕ) (k : ChanId) (key : ℤ) → (thread_of s t).place ≡ Asleep k key → count_of s k.0 ≡ 0
   pub uncounted : (k : ℕ) → is_sema (chan_kind w k) ≡ false → count_of s k ≡ 0
+
+-- the operations that ask for semaphore k, and those that give it
+abbrev pub is_sema_p : ℕ → Op → Bool
+is_sema_p k (SemaPOp j) = j.0 == k
+is_sema_p k _ = false
+
+abbrev pub is_sema_v : ℕ → Op → Bool
+is_sema_v k (SemaVOp j) = j.0 == k
+is_sema_v k _ = false
+
+abbrev pub thread_numbers : Work → List ℕ
+thread_numbers w = range_with_len 0 (length w.threads)
+
+-- how many operations that pass a test are over, of all scripts
+abbrev pub ops_done : (Op → Bool) → Work → State → ℕ
+ops_done test w s = sum_by (λ t. count_by test (take (thread_of s t).body.op (script_of w t))) (thread_numbers w)
+
+-- how many threads sleep on channel k
+abbrev pub sleepers_on : Work → State → ℕ → ℕ
+sleepers_on w s k = count_by (λ t. is_asleep k (thread_of s t).place) (thread_numbers w)
+
+-- the count of a semaphore and the operations that asked for it are its first count, the operations that gave it and the
+-- threads that sleep on it; an operation that asks is over where its thread sleeps
+abbrev pub SemaphoresBalance : Work → State → Type 0
+SemaphoresBalance w s =
+    (k : ℕ) → is_sema (chan_kind w k) ≡ true
+    → count_of s k + ops_done (is_sema_p k) w s ≡ declared_count w k + ops_done (is_sema_v k) w s + sleepers_on w s k
+
+-- no entry of the list hands semaphore k to thread t
+abbrev pub NoneHands : ChanId → ThreadId → List Entry → Type 0
+NoneHands k t es = All (λ e. (u : ThreadId) (at : Put) → e.event ≢ SemaVWake u k t at) es
+
+-- from an entry that puts thread t to sleep on semaphore k, as long as no `semav` hands k to it, t is asleep on k, and no
+-- `semav` of k counts it up
+abbrev pub SemaphoreWaitersSleepUntilHanded : Type 0
+SemaphoreWaitersSleepUntilHanded =
+    (w : Work) (es more : List Entry) (e : Entry) (t : ThreadId) (k : ChanId) → IsRun w (es ++ e ∷ more) → e.event ≡ SemaWait t k → NoneHands k t more
+    → ((thread_of (final w (opening w) (es ++ e ∷ more)) t.0).place ≡ Asleep k (back_key e.number)) × NoneInVain k more

@@ -1,6 +1,6 @@
 //! Laws of the entries of a run so far, each as the contract of a function without a body.
 
-ghost use Rattle.sd_history.specs.Laws.{SemaphoresAreCounted, SleepersSleepUntilWoken, SleepersWaitAtZero, WaitersSleepUntilWoken, WakesAreCounted, WokenStayRunnable};
+ghost use Rattle.sd_history.specs.Laws.{SemaphoresAreCounted, SemaphoresBalance, SemaphoreWaitersSleepUntilHanded, SleepersSleepUntilWoken, SleepersWaitAtZero, WaitersSleepUntilWoken, WakesAreCounted, WokenStayRunnable};
 ghost use Rattle.sd_sound.specs.Laws.{HoldsWhenReached};
 
 /// The accounts count an entry as a wake of a thread exactly where its event wakes that thread: after a nap, a sleep or a
@@ -40,4 +40,17 @@ pub fn semaphores_are_counted()
 /// semaphore always has a count of 0.
 pub fn semaphore_sleepers_wait_at_zero()
     ensures { HoldsWhenReached SleepersWaitAtZero }
+{}
+
+/// The count of a semaphore and the operations of all scripts that asked for it and are over come to its first count, the
+/// operations that gave it and are over, and the threads that sleep on it. An operation that asks is over where its thread
+/// goes to sleep.
+pub fn semaphores_balance()
+    ensures { HoldsWhenReached SemaphoresBalance }
+{}
+
+/// From a `semawait` entry of a thread, and as long as no later `semav` entry hands the semaphore to it, the thread is asleep on
+/// the semaphore, and no `semav` of that counts it up: nothing else wakes it.
+pub fn semaphore_waiters_sleep_until_handed()
+    ensures { SemaphoreWaitersSleepUntilHanded }
 {}

@@ -6,6 +6,6 @@
 mod laws;
 
 pub use laws::{
-    semaphore_sleepers_wait_at_zero, semaphores_are_counted, sleepers_sleep_until_woken,
+    semaphore_sleepers_wait_at_zero, semaphore_waiters_sleep_until_handed, semaphores_are_counted, semaphores_balance, sleepers_sleep_until_woken,
     waiters_sleep_until_woken, wakes_are_counted, woken_stay_runnable,
 };
