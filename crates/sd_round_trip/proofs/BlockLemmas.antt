@@ -67,7 +67,7 @@ word-lines-of-text lines rest = ap (map words_of) (lines-of-text lines rest) ∙
 
 -- ---- no line of a table without faults closes its block
 
-same-word : (a b : Word) → same_bytes a b ≡ true → a ≡ b
+pub same-word : (a b : Word) → same_bytes a b ≡ true → a ≡ b
 same-word [] [] h = refl
 same-word [] (y ∷ ys) h = absurd (false≢true h)
 same-word (x ∷ xs) [] h = absurd (false≢true h)

@@ -12,3 +12,8 @@ pub mod ScriptLemmas
 pub mod ScriptsLemmas
 pub mod WorkLemmas
 pub mod RangeLemmas
+pub mod DrawnLemmas
+pub mod DrawnThreadLemmas
+pub mod DrawnOpLemmas
+pub mod DrawnScriptLemmas
+pub mod DrawnWholeLemmas

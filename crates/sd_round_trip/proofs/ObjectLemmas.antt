@@ -4,6 +4,7 @@ use Rattle.std.specs.Prelude.{codes}
 use Rattle.std.specs.Fmt.{decimal}
 use Rattle.std.specs.List.{list_all, flat_map}
 use Rattle.std.proofs.lemmas.Bool.Decides.{nat_tests}
+use Rattle.std.proofs.lemmas.List.Folds.{flat_map-map}
 use Rattle.sd_types.specs.declared.names.Name.{Name}
 use Rattle.sd_types.specs.declared.works.LockKind.{LockKind}
 use Rattle.sd_types.specs.declared.works.LockKind.TheVariants.{Mutex, Rwlock}
@@ -87,16 +88,30 @@ word-plain Rwlock = refl
 lock-plain : (kind : LockKind) (name : Word) → is_name name ≡ true → are_plain (lock_word kind ∷ name ∷ []) ≡ true
 lock-plain kind name h = rw (word-plain kind, name-plain name h) refl
 
+-- the line of a lock
+abbrev pub kind_text : Word × LockKind → List ℕ
+kind_text l = line_text (lock_word l.1 ∷ l.0 ∷ [])
+
+pub takes-lock_lines : (locks : List (Word × LockKind)) (d : Declarations) (all : List (Word × LockKind)) → list_all (λ l. is_name l.0) locks ≡ true → d.locks ++ locks ≡ all → IsNamed all
+    → Takes (flat_map kind_text locks) d Outside (record d { locks = all }) Outside
+takes-lock_lines [] d all named e s =
+    subst (λ (x : List (Word × LockKind)). Takes [] d Outside (record d { locks = x }) Outside) (sym (append-nil d.locks) ∙ e) (takes-nothing d Outside)
+takes-lock_lines (x ∷ xs) d all named e s =
+    let h = both (is_name x.0) (list_all (λ (l : Word × LockKind). is_name l.0) xs) named in
+    let next : Declarations = with_lock d x.1 x.0 in
+    takes-both (kind_text x) (flat_map kind_text xs) d next (record d { locks = all }) Outside Outside Outside
+    (takes-line (lock_word x.1) (x.0 ∷ []) (Lock x.1 x.0) d (lock-plain x.1 x.0 h.0) (lock-form x.1 x.0 h.0) (lock-clear d x.1 x.0 xs (subst IsNamed (sym e) s)))
+    (takes-lock_lines xs next all h.1 (append_assoc d.locks (x ∷ []) xs ∙ e) s)
+
+are-names : (locks : List (Name × LockKind)) → list_all (λ l. is_name l.0) (map lock_kept locks) ≡ true
+are-names [] = refl
+are-names (x ∷ xs) = rw (x.0.is_name) (are-names xs)
+
 pub takes-locks : (locks : List (Name × LockKind)) (d : Declarations) (all : List (Word × LockKind)) → d.locks ++ map lock_kept locks ≡ all → IsNamed all
     → Takes (flat_map lock_text locks) d Outside (record d { locks = all }) Outside
-takes-locks [] d all e s =
-    subst (λ (x : List (Word × LockKind)). Takes [] d Outside (record d { locks = x }) Outside) (sym (append-nil d.locks) ∙ e) (takes-nothing d Outside)
-takes-locks (x ∷ xs) d all e s =
-    let next : Declarations = with_lock d x.1 x.0.text.items in
-    takes-both (lock_text x) (flat_map lock_text xs) d next (record d { locks = all }) Outside Outside Outside
-    (takes-line (lock_word x.1) (x.0.text.items ∷ []) (Lock x.1 x.0.text.items) d (lock-plain x.1 x.0.text.items x.0.is_name) (lock-form x.1 x.0.text.items x.0.is_name)
-    (lock-clear d x.1 x.0.text.items (map lock_kept xs) (subst IsNamed (sym e) s)))
-    (takes-locks xs next all (append_assoc d.locks (lock_kept x ∷ []) (map lock_kept xs) ∙ e) s)
+takes-locks locks d all e s =
+    subst (λ (text : List ℕ). Takes text d Outside (record d { locks = all }) Outside) (flat_map-map kind_text lock_kept locks)
+    (takes-lock_lines (map lock_kept locks) d all (are-names locks) e s)
 
 -- ---- channels
 

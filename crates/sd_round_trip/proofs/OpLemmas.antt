@@ -141,18 +141,22 @@ said w (op.SemaV k) = SemaV (chan_name w k.0)
 said w (op.Assign c s) = Assign c.0 (set_said w s)
 said w (op.Pbind t c) = Pbind (thread_name w t.0) (cpu_said c)
 
--- what the reader makes of the line of an operation
-pub record IsRead (w : Work) (d : Declarations) (o : Op) : Type 0 where
-  pub plain : are_plain (operation_line w o) ≡ true
-  pub inside : is_end (operation_line w o) ≡ false
-  pub form : operation_of (operation_line w o) ≡ Some (said w o)
-  pub same : op_of d (said w o) ≡ o
-  pub clear : IsClear (operation_causes d (said w o))
+-- what the reader makes of a line of a script
+pub record Reads (d : Declarations) (line : Line) (s : Operation) (o : Op) : Type 0 where
+  pub plain : are_plain line ≡ true
+  pub inside : is_end line ≡ false
+  pub form : operation_of line ≡ Some s
+  pub same : op_of d s ≡ o
+  pub clear : IsClear (operation_causes d s)
 
-no-causes : IsClear no_causes
+-- and of the line of an operation
+abbrev pub IsRead : Work → Declarations → Op → Type 0
+IsRead w d o = Reads d (operation_line w o) (said w o) o
+
+pub no-causes : IsClear no_causes
 no-causes = record { syntax = refl; unknown = refl; twice = refl; range = refl; sets = refl; limits = refl }
 
-span-small : (n : ℕ) → span_fits n ≡ true → n ≤ 100000
+pub span-small : (n : ℕ) → span_fits n ≡ true → n ≤ 100000
 span-small n h = grind (arith, nat_tests)
 
 -- an operation on a channel
@@ -192,7 +196,7 @@ module _ (w : Work) (d : Declarations) (n : Names w d) where
   cpu-known : (c : ℕ) → c < w.cpus → is_cpu d c ≡ true
   cpu-known c inside = let count = n.cpus in lt-ltb _ _ (omega arith)
 
-unless-clear : (known : Bool) → not known ≡ false → IsClear (unless known)
+pub unless-clear : (known : Bool) → not known ≡ false → IsClear (unless known)
 unless-clear known h = record { syntax = refl; unknown = h; twice = refl; range = refl; sets = refl; limits = refl }
 
 -- ---- requests

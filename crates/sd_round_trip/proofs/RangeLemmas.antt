@@ -78,7 +78,7 @@ table-kept d table.Ts lines r = record { uids = r.uids; counts = r.counts }
 table-kept d table.Fx lines r = record { uids = r.uids; counts = r.counts }
 table-kept d table.Rt lines r = record { uids = r.uids; counts = r.counts }
 
-all-set : {X : Type 0} (p : X → Bool) (xs : List X) (i : ℕ) (y : X) → list_all p xs ≡ true → p y ≡ true → list_all p (set xs i y) ≡ true
+pub all-set : {X : Type 0} (p : X → Bool) (xs : List X) (i : ℕ) (y : X) → list_all p xs ≡ true → p y ≡ true → list_all p (set xs i y) ≡ true
 all-set p [] i y h here = refl
 all-set p (x ∷ xs) zero y h here = rw (here, (both (p x) (list_all p xs) h).1) refl
 all-set p (x ∷ xs) (suc i) y h here = let q = both (p x) (list_all p xs) h in rw (q.0, all-set p xs i y q.1 here) refl

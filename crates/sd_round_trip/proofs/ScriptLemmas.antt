@@ -31,7 +31,7 @@ use Rattle.sd_canonical.specs.Lines.{operation_line, operation_lines}
 use Rattle.sd_canonical.specs.Canonical.{line_text, lines_text}
 use Rattle.sd_round_trip.proofs.TextLemmas.{line-again}
 use Rattle.sd_round_trip.proofs.TakesLemmas.{Takes, takes-nothing, takes-both, none-clear}
-use Rattle.sd_round_trip.proofs.OpLemmas.{declared_by, Names, said, IsRead, reads-op}
+use Rattle.sd_round_trip.proofs.OpLemmas.{declared_by, Names, said, Reads, reads-op}
 
 -- ---- where an operation stands
 
@@ -60,7 +60,7 @@ any-after : (held : List LockId) (o : Op) (a b : Option Op) → is_wait o ≡ fa
 any-after held (CvWait k l) a b single h = absurd (false≢true (sym single))
 any-after held _ a b single h = h
 
-one-alone : (o : Op) → is_wait o ≡ false → ops_of_op o ≡ o ∷ []
+pub one-alone : (o : Op) → is_wait o ≡ false → ops_of_op o ≡ o ∷ []
 one-alone (CvWait k l) single = absurd (false≢true (sym single))
 one-alone _ single = refl
 
@@ -81,7 +81,7 @@ entered l (_ ∷ more) h = absurd (false≢true h)
 
 -- ---- faults
 
-more-free : (ops : List Op) (o : Op) (after : Option Op) → length ops < 256 → op_fits (held_by ops) o after ≡ true → more_fault ops o after ≡ None
+pub more-free : (ops : List Op) (o : Op) (after : Option Op) → length ops < 256 → op_fits (held_by ops) o after ≡ true → more_fault ops o after ≡ None
 unfolding more_fault
 more-free ops o after room fits =
     let waits : nat_lt (length ops) 256 ≡ true = grind (arith, nat_tests) in
@@ -110,14 +110,13 @@ unless-none : (line : Line) (cause : Option WorkCause) → cause ≡ None → un
 unless-none [] cause h = refl
 unless-none (word ∷ words) cause h = h
 
-takes-op : (w : Work) (d : Declarations) (t : ThreadId) (front : List Op) (o : Op) → IsRead w d o → ops_fault front (ops_of_op o) ≡ None
-    → Takes (line_text (operation_line w o)) d (InScript t front) d (InScript t (front ++ ops_of_op o))
-takes-op w d t front o r free = record {
+pub takes-op : (d : Declarations) (t : ThreadId) (front : List Op) (line : Line) (s : Operation) (o : Op) → Reads d line s o → ops_fault front (ops_of_op o) ≡ None
+    → Takes (line_text line) d (InScript t front) d (InScript t (front ++ ops_of_op o))
+takes-op d t front line s o r free = record {
   on = λ n rest.
-      let line = operation_line w o in
       let none : operation_cause d front (operation_of line) ≡ None =
       ap (operation_cause d front) r.form
-      ∙ ap (λ c. first_of c (option_map Script (ops_fault front (ops_of_op (op_of d (said w o)))))) (none-clear (operation_causes d (said w o)) r.clear)
+      ∙ ap (λ c. first_of c (option_map Script (ops_fault front (ops_of_op (op_of d s))))) (none-clear (operation_causes d s) r.clear)
       ∙ ap (λ x. option_map Script (ops_fault front (ops_of_op x))) r.same ∙ ap (option_map Script) free in
       let new : front ++ ops_of_op o ≡ front ++ ops_of d (operation_of line) = ap (λ l. front ++ l) (sym (ap (ops_of d) r.form ∙ ap ops_of_op r.same)) in (
         n + 1,
@@ -125,6 +124,19 @@ takes-op w d t front o r free = record {
         (unless-none line (operation_cause d front (operation_of line)) none) refl new,
       );
 }
+
+-- the line that closes the block
+pub takes-close : (d : Declarations) (t : ThreadId) (ops : List Op) → length (held_by ops) ≡ 0 → Takes (line_text (codes "end" ∷ [])) d (InScript t ops) (with_script d t ops) Outside
+unfolding only_word
+takes-close d t ops released =
+    let none : nat_lt 0 (length (held_by ops)) ≡ false = grind (arith, nat_tests) in
+    let free : end_fault ops ≡ None = rw none refl in
+    record {
+      on = λ n rest. (
+        n + 1,
+        script-close n (n + 1) d t ops ops (word_lines (line_text (codes "end" ∷ []) ++ rest)) (word_lines rest) (codes "end" ∷ []) (line-again (codes "end" ∷ []) rest refl) refl free refl refl,
+      );
+    }
 
 -- the operations that the block has, where the first of those that are left may be the entry behind a wait
 abbrev ahead : Bool → List Op → List Op → List Op
@@ -146,7 +158,7 @@ module _ (w : Work) (d : Declarations) (n : Names w d) (t : ThreadId) where
       let e : next ++ back ≡ front ++ o ∷ back = append_assoc front (o ∷ []) back in
       let here : Takes (line_text (operation_line w o)) d (InScript t front) d (InScript t next) =
       subst (λ (l : List Op). Takes (line_text (operation_line w o)) d (InScript t front) d (InScript t (front ++ l))) (one-alone o single)
-      (takes-op w d t front o (reads-op w d n o name) (one-free front back o single fits short)) in
+      (takes-op d t front (operation_line w o) (said w o) o (reads-op w d n o name) (one-free front back o single fits short)) in
       let there : Takes (lines_text (operation_lines w false back)) d (InScript t next) d (InScript t (front ++ o ∷ back)) =
       subst (λ (l : List Op). Takes (lines_text (operation_lines w false back)) d (InScript t next) d (InScript t l)) e
       (rest false next names (subst EachOpFits (sym e) fits) (subst (λ (l : List Op). length l ≤ 256) (sym e) short)) in
@@ -161,7 +173,7 @@ module _ (w : Work) (d : Declarations) (n : Names w d) (t : ThreadId) where
       let block = front ++ o ∷ Enter l ∷ [] in
       let e : next ++ back ≡ front ++ o ∷ back = append_assoc front (o ∷ []) back in
       let free = two-free front more k l (subst (λ (b : List Op). EachOpFits (front ++ o ∷ b)) is fits) (subst (λ (b : List Op). length (front ++ o ∷ b) ≤ 256) is short) in
-      let here : Takes (line_text (operation_line w o)) d (InScript t front) d (InScript t block) = takes-op w d t front o (reads-op w d n o name) free in
+      let here : Takes (line_text (operation_line w o)) d (InScript t front) d (InScript t block) = takes-op d t front (operation_line w o) (said w o) o (reads-op w d n o name) free in
       let a : ahead true next back ≡ block = ap (ahead true next) is ∙ append_assoc front (o ∷ []) (Enter l ∷ []) in
       let there : Takes (lines_text (operation_lines w true back)) d (InScript t block) d (InScript t (front ++ o ∷ back)) =
       subst (λ (b : List Op). Takes (lines_text (operation_lines w true back)) d (InScript t b) d (InScript t (front ++ o ∷ back))) a
@@ -199,14 +211,6 @@ module _ (w : Work) (d : Declarations) (n : Names w d) (t : ThreadId) where
   -- the operations and the line that closes the block
   pub takes-body : (ops : List Op) → list_all (op_names (declared_by w)) ops ≡ true → EachOpFits ops → length ops ≤ 256 → length (held_by ops) ≡ 0
       → Takes (lines_text (operation_lines w false ops) ++ line_text (codes "end" ∷ [])) d (InScript t []) (with_script d t ops) Outside
-  unfolding only_word
   takes-body ops names fits short released =
-      let free : end_fault ops ≡ None = (let single : nat_lt 0 (length (held_by ops)) ≡ false = grind (arith, nat_tests) in rw single refl) in
       takes-both _ _ d d (with_script d t ops) (InScript t []) (InScript t ops) Outside
-      (takes-ops ops false [] names fits short)
-      (record {
-        on = λ m rest. (
-          m + 1,
-          script-close m (m + 1) d t ops ops (word_lines (line_text (codes "end" ∷ []) ++ rest)) (word_lines rest) (codes "end" ∷ []) (line-again (codes "end" ∷ []) rest refl) refl free refl refl,
-        );
-      })
+      (takes-ops ops false [] names fits short) (takes-close d t ops released)

@@ -72,14 +72,14 @@ next-number w front back x d p =
     ap (position_or_len (λ (t : Thread). same_bytes t.name name)) p.threads
     ∙ place-seam (λ (t : Thread). same_bytes t.name name) (map thread_kept front) (map bare_kept back) (bare_kept x) new (same-itself name)
 
-none-given : (n : ℕ) (ids : List ThreadId) → are_before n ids ≡ true → list_any (λ t. eqb t.0 n) ids ≡ false
+pub none-given : (n : ℕ) (ids : List ThreadId) → are_before n ids ≡ true → list_any (λ t. eqb t.0 n) ids ≡ false
 none-given n [] h = refl
 none-given n (t ∷ ts) h =
     let p = both (ltb t.0 n) (are_before n ts) h in
     let other : eqb t.0 n ≡ false = grind (arith, nat_tests, p.0) in
     rw other (none-given n ts p.1)
 
-before-more : (n m : ℕ) (ids : List ThreadId) → n ≤ m → are_before n ids ≡ true → are_before m ids ≡ true
+pub before-more : (n m : ℕ) (ids : List ThreadId) → n ≤ m → are_before n ids ≡ true → are_before m ids ≡ true
 before-more n m [] le h = refl
 before-more n m (t ∷ ts) le h =
     let p = both (ltb t.0 n) (are_before n ts) h in

@@ -114,7 +114,7 @@ cpupri-back (parms.Fx limit pri q) cpupri h = is-zero cpupri (both (leb limit 60
 cpupri-back (parms.Sys pri) cpupri h = is-zero cpupri (both (leb 60 pri && leb pri 99) (nat_eq cpupri 0) h).1
 cpupri-back (parms.Rt pri q) cpupri h = is-zero cpupri (both (leb pri 59 && quantum_fits q) (nat_eq cpupri 0) h).1
 
-is-class : (class : ClassParms) (cpupri : ℕ) → class_fits class cpupri ≡ true → is_class (class_said class cpupri) ≡ true
+pub is-class : (class : ClassParms) (cpupri : ℕ) → class_fits class cpupri ≡ true → is_class (class_said class cpupri) ≡ true
 is-class (parms.Ts limit upri) cpupri h =
     let p = both (upri_fits limit && upri_fits upri && int_le upri limit) (leb cpupri 59) h in
     let q = both (upri_fits limit && upri_fits upri) (int_le upri limit) p.0 in
@@ -132,7 +132,7 @@ is-class (parms.Rt pri q) cpupri h =
     let r = both (leb pri 59) (quantum_fits q) p.0 in
     rw (r.0, is-quantum q r.1) refl
 
-class-plain : (class : ClassParms) (cpupri : ℕ) → class_fits class cpupri ≡ true → are_plain (class_words class cpupri) ≡ true
+pub class-plain : (class : ClassParms) (cpupri : ℕ) → class_fits class cpupri ≡ true → are_plain (class_words class cpupri) ≡ true
 class-plain (parms.Ts limit upri) cpupri h =
     let p = both (upri_fits limit && upri_fits upri && int_le upri limit) (leb cpupri 59) h in
     let q = both (upri_fits limit && upri_fits upri) (int_le upri limit) p.0 in
