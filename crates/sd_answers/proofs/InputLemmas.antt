@@ -1,5 +1,5 @@
 -- What was read of an input.
-use Rattle.std.proofs.Common.{◌≡◌, ◌≢◌, ℕ, ◌+◌, ◌<◌, ◌≤◌, List, [], ◌∷◌, length, Option, Some, None, Result, Ok, Err, refl, sym, ap, subst, ◌∙◌, arith}
+use Rattle.std.proofs.Common.{◌≡◌, ◌≢◌, ℕ, ◌+◌, ◌≤◌, List, [], ◌∷◌, length, Option, Some, None, Result, Ok, Err, refl, sym, ap, subst, ◌∙◌, arith}
 use Rattle.std.proofs.lemmas.List.{length-append, append-nil}
 use Rattle.std.specs.Io.KnownBytes.{Consumes, IsAtEnd}
 use Rattle.std.specs.Prelude.{IfErr}
@@ -76,4 +76,3 @@ pub reading_exit : (input : StreamChange) (r : Result Work Answer) (a : Answer) 
 reading_exit input r a exit refused =
     let x = err_from_is_err_and r exit in
     subst (IsReading input) (sym (x.1 ∙ ap Err x.2)) refused
-

@@ -1,6 +1,6 @@
-use Rattle.std.proofs.Common.{◌≡◌, List, ℕ, ◌++◌, Option, ap, subst, ◌∙◌}
+use Rattle.std.proofs.Common.{List, ℕ, ◌++◌, Option, ap, subst, ◌∙◌}
 use Rattle.std.specs.Prelude.{codes, decimal}
-use Rattle.sd_answers.specs.Refusals.{cause_words, cause_number, digits_if, refusal_line}
+use Rattle.sd_answers.specs.Refusals.{cause_words, digits_if}
 use Rattle.sd_answers.specs.StreamChanges.{Puts}
 use Rattle.sd_answers.proofs.refusals.put_refusal.Goals as goal
 
