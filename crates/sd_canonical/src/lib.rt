@@ -10,4 +10,5 @@ mod threads;
 mod words;
 mod works;
 
+pub use tables::write_tables;
 pub use works::write_work;

@@ -1,6 +1,6 @@
 //! The dispatch tables of a workload, each as a block.
 
-ghost use Rattle.std.specs.Prelude.{◌≡◌, ◌++◌, OnOk, codes};
+ghost use Rattle.std.specs.Prelude.{◌≡◌, ◌++◌, OnErr, OnOk, codes};
 ghost use Rattle.sd_tables.specs.TableSpelling.{fixed_text, ts_text};
 ghost use Rattle.sd_canonical.specs.Blocks.{block_text, tables_text};
 
@@ -40,4 +40,15 @@ pub(crate) fn put_tables(alloc: Global, work: &Work, out: &mut Vec<u8>) -> Resul
     put_ts_block(alloc, &work.ts, out)?;
     put_fixed_block(alloc, b"fx", &work.fx, out)?;
     put_fixed_block(alloc, b"rt", &work.rt, out)
+}
+
+/// Appends the three dispatch tables of a workload, each as a block that a workload text may have. Where memory runs out,
+/// `out` is as it was.
+pub fn write_tables(alloc: Global, work: &Work, out: &mut Vec<u8>) -> Result<(), AllocError>
+    ensures ok { OnOk result (out.new.items ≡ out.old.items ++ tables_text work.now) }
+    ensures err { OnErr result (out.new.items ≡ out.old.items) }
+{
+    let mut text = Vec::new(alloc);
+    put_tables(alloc, work, &mut text)?;
+    out.extend_from_slice(&text)
 }

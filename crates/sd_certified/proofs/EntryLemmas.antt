@@ -1,9 +1,7 @@
 -- An entry that a processor makes in a state of a run has a line of its own.
-use Rattle.std.proofs.Common.{◌≡◌, ℕ, zero, suc, ◌+◌, ◌<◌, ◌≤◌, ◌^◌, Bool, true, false, not, ◌&&◌, List, [], ◌∷◌, ◌++◌, length, map, filter, take, Option, Some, None, inl, inr, refl, sym, ap, ◌∙◌, subst, arith}
-use Rattle.std.specs.Prelude.{⊤, Result, Ok, IfSome, if◌then◌else◌, nat_lt, nat_le, ◌==◌, IsTrue, All}
-use Rattle.std.specs.List.{list_all}
+use Rattle.std.proofs.Common.{◌≡◌, ℕ, ◌+◌, ◌<◌, ◌^◌, true, length, Option, Some, None, refl, sym, subst, arith}
+use Rattle.std.specs.Prelude.{IfSome, nat_lt, IsTrue}
 use Rattle.std.proofs.lemmas.Bool.Decides.{nat_tests}
-use Rattle.std.proofs.lemmas.Option.{same_Some}
 use Rattle.sd_types.specs.declared.numbers.CpuId.{CpuId}
 use Rattle.sd_types.specs.declared.numbers.ChanId.{ChanId}
 use Rattle.sd_types.specs.declared.numbers.LockId.{LockId}
@@ -15,40 +13,35 @@ use Rattle.sd_types.specs.declared.events.BindAnswer.TheVariants as bind
 use Rattle.sd_types.specs.declared.events.Event.{Event}
 use Rattle.sd_types.specs.declared.events.Event.TheVariants.{Tick, Spin, Idle, Dispatch, Steal, Preempt, Yield, Done, Nap, Napend, Sleep, Wake, Wakeall, Rouse, Enter, Read, Write, Block, Will, End as WalkEnd, Exit, Unblock, Grant, Passed, Age, Prio, CvWait, SemaP, SemaWait, SemaVWake, SemaVCount, Assign, Move, Joined, Bind, Away}
 use Rattle.sd_types.specs.declared.events.Entry.{Entry}
-use Rattle.sd_types.specs.declared.events.Hints.{Hints}
 use Rattle.sd_types.specs.declared.events.PrioAnswer.{PrioAnswer}
 use Rattle.sd_types.specs.declared.events.PrioAnswer.TheVariants.{Changed, Refused}
 use Rattle.sd_types.specs.declared.events.Put.{Put}
 use Rattle.sd_types.specs.declared.events.Put.TheVariants.{Cpu, RealTime as OnRealTime}
-use Rattle.sd_types.specs.declared.events.Which.{Which}
-use Rattle.sd_types.specs.declared.events.Which.TheVariants as which
 use Rattle.sd_types.specs.declared.works.Work.{Work}
 use Rattle.sd_types.specs.Priorities.{base_of, eff_as}
-use Rattle.sd_types.specs.Willed.{IsSound, changed_number, with_number, without_number, with_willed}
-use Rattle.sd_types.specs.Scripts.{is_held}
+use Rattle.sd_types.specs.Willed.{changed_number, with_number, without_number, with_willed}
 use Rattle.sd_types.proofs.PriorityLemmas.{greatest-below}
 use Rattle.sd_types.proofs.WilledLemmas.{sound-with, sound-without}
 use Rattle.sd_machine.specs.declared.states.State.{State}
-use Rattle.sd_machine.specs.States.{thread_of, cpu_of}
+use Rattle.sd_machine.specs.States.{thread_of}
 use Rattle.sd_full.specs.Bodies.{aged_class}
 use Rattle.sd_full.specs.Prioritising.{new_class}
 use Rattle.sd_full.specs.Shapes.{FitsFully}
 use Rattle.sd_full.specs.Threads.{eff_of, count_of, greatest_waiting}
 use Rattle.sd_full.specs.Walking.{inherited_priority}
-use Rattle.sd_full.specs.Events.{next}
 use Rattle.sd_full.specs.Runs.{IsReached, IsStep}
 use Rattle.sd_sound.specs.Causes.{IsCause}
-use Rattle.sd_sound.specs.Possible.{IsFit, IsNamed, IsWokenThere}
+use Rattle.sd_sound.specs.Possible.{IsNamed, IsWokenThere}
 use Rattle.sd_sound.specs.Laws.{HasSmallCounts}
-use Rattle.sd_sound.proofs.BaseLemmas.{IsBelow, age_below, new_below}
+use Rattle.sd_sound.proofs.BaseLemmas.{age_below, new_below}
 use Rattle.sd_sound.proofs.NumberLemmas.{AreFine, fine_eff}
 use Rattle.sd_sound.proofs.FineLemmas.{fine_reached}
-use Rattle.sd_sound.proofs.Ready.{ready_cause, reached_ready, maker_inside}
+use Rattle.sd_sound.proofs.Ready.{ready_cause, reached_ready}
 use Rattle.sd_sound.proofs.Whole.{can_happen, fit_reached}
 use Rattle.sd_range.specs.InRange.{IsInRange, IsPutThere, IsPutThereIf, IsPrioThere, IsBindThere, CanBeWilled}
 use Rattle.sd_range.proofs.Places.{threads_have_cpus}
 use Rattle.sd_range.proofs.Range.{events_in_range}
-use Rattle.sd_spelling.specs.Fitting.{has_cpu, has_thread, has_lock, has_chan, has_set, put_fits, put_fits_if, woken_fits, cpu_fits_if, prio_fits, bind_fits, event_fits, may_read, hints_fit, entry_fits, is_byte, prio_in_range, event_in_range, hints_in_range, in_range, IsSpelled}
+use Rattle.sd_spelling.specs.Fitting.{has_cpu, has_thread, has_lock, has_chan, has_set, put_fits, put_fits_if, woken_fits, cpu_fits_if, prio_fits, bind_fits, event_fits, entry_fits, is_byte, prio_in_range, event_in_range, hints_in_range, in_range, IsSpelled}
 use Rattle.sd_certified.proofs.PlanLemmas.{IsTold, tells, reads_rightly}
 
 -- All that an event names is the workload's.
@@ -94,6 +87,7 @@ module _ (w : Work) (s : State) (fits : FitsFully w s) where
   bind_ok bind.EPERM inside = refl
   bind_ok bind.ESRCH inside = refl
   bind_ok bind.EINVAL inside = refl
+  bind_ok bind.EBUSY inside = refl
 
   pub event_ok : (c : ℕ) (e : Event) → IsNamed w s c e → IsInRange w s e → event_fits w e ≡ true
   unfolding event_fits
@@ -211,7 +205,10 @@ spelled w n s e small reached step number hints =
     let cpu : has_cpu w e.cpu ≡ true = let here = happens.cpu in grind (arith, nat_tests) in
     let low : nat_lt e.number (2 ^ 64) ≡ true = grind (arith, nat_tests) in
     record {
-      fits = rw (cpu, event_ok w s fit.fits e.cpu.0 e.event happens.named inside,
-          reads_rightly w s e.cpu e.hints e.event (λ t. (threads_have_cpus w n s reached t).some) step) refl;
+      fits = rw (
+        cpu,
+        event_ok w s fit.fits e.cpu.0 e.event happens.named inside,
+        reads_rightly w s e.cpu e.hints e.event (λ t. (threads_have_cpus w n s reached t).some) step,
+      ) refl;
       range = rw (low, numbers_ok w s e.cpu.0 (fine_reached w n s reached) e.event cause (tells w s e.cpu e.hints e.event step) inside fit.counts, hints) refl;
     }

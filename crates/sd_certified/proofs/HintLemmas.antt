@@ -1,54 +1,26 @@
 -- What the processors show in a run in rounds are numbers of 8 bits, at most 64, so that each entry of the run has a line of its own.
-use Rattle.std.proofs.Common.{◌≡◌, ℕ, zero, suc, ◌+◌, ◌<◌, ◌≤◌, ◌^◌, Bool, true, false, not, ◌&&◌, List, [], ◌∷◌, ◌++◌, length, map, filter, take, Option, Some, None, inl, inr, refl, sym, ap, ◌∙◌, subst, arith}
-use Rattle.std.specs.Prelude.{⊤, if◌then◌else◌, nat_lt, nat_le, ◌==◌}
+use Rattle.std.proofs.Common.{◌≡◌, ℕ, zero, suc, ◌+◌, ◌<◌, ◌≤◌, ◌^◌, Bool, true, false, not, ◌||◌, List, [], ◌∷◌, ◌++◌, length, map, filter, Option, Some, None, refl, sym, ap, ◌∙◌, subst, arith}
+use Rattle.std.specs.Prelude.{⊤, if◌then◌else◌, nat_le, ◌==◌}
 use Rattle.std.specs.List.{All}
 use Rattle.std.specs.List.{list_all}
 use Rattle.std.proofs.lemmas.Bool.Decides.{nat_tests}
 use Rattle.std.proofs.lemmas.Option.{same_Some}
 use Rattle.sd_types.specs.declared.numbers.CpuId.{CpuId}
-use Rattle.sd_types.specs.declared.numbers.LockId.{LockId}
-use Rattle.sd_types.specs.declared.numbers.SetId.{SetId}
-use Rattle.sd_types.specs.declared.numbers.ThreadId.{ThreadId}
-use Rattle.sd_types.specs.declared.bodies.ThreadBody.{ThreadBody}
-use Rattle.sd_types.specs.declared.events.BindAnswer.{BindAnswer}
-use Rattle.sd_types.specs.declared.events.BindAnswer.TheVariants as bind
 use Rattle.sd_types.specs.declared.events.Event.{Event}
-use Rattle.sd_types.specs.declared.events.Event.TheVariants.{Tick, Spin, Idle, Dispatch, Steal, Preempt, Yield, Done, Nap, Napend, Sleep, Wake, Wakeall, Rouse, Enter, Read, Write, Block, Will, End as WalkEnd, Exit, Unblock, Grant, Passed, Age, Prio, CvWait, SemaP, SemaWait, SemaVWake, SemaVCount, Assign, Move, Joined, Bind, Away}
 use Rattle.sd_types.specs.declared.events.Entry.{Entry}
 use Rattle.sd_types.specs.declared.events.Hints.{Hints}
-use Rattle.sd_types.specs.declared.events.PrioAnswer.{PrioAnswer}
-use Rattle.sd_types.specs.declared.events.PrioAnswer.TheVariants.{Changed, Refused}
-use Rattle.sd_types.specs.declared.events.Put.{Put}
-use Rattle.sd_types.specs.declared.events.Put.TheVariants.{Cpu, RealTime as OnRealTime}
 use Rattle.sd_types.specs.declared.events.Which.{Which}
 use Rattle.sd_types.specs.declared.events.Which.TheVariants as which
 use Rattle.sd_types.specs.declared.works.Work.{Work}
-use Rattle.sd_types.specs.Priorities.{base_of, eff_as}
-use Rattle.sd_types.specs.Willed.{IsSound}
-use Rattle.sd_types.specs.Scripts.{is_held}
-use Rattle.sd_types.proofs.PriorityLemmas.{greatest-below}
-use Rattle.sd_types.proofs.WilledLemmas.{sound-with, sound-without}
 use Rattle.sd_machine.specs.declared.states.State.{State}
 use Rattle.sd_machine.specs.States.{thread_of, cpu_of}
-use Rattle.sd_full.specs.Shapes.{FitsFully}
-use Rattle.sd_full.specs.Threads.{eff_of, count_of, greatest_waiting}
-use Rattle.sd_full.specs.Walking.{inherited_priority}
 use Rattle.sd_full.specs.Events.{next}
 use Rattle.sd_full.specs.Runs.{IsReached, IsStep}
-use Rattle.sd_sound.specs.Causes.{IsCause}
-use Rattle.sd_sound.specs.Possible.{IsFit, IsNamed, IsWokenThere}
 use Rattle.sd_sound.specs.Laws.{HasSmallCounts}
-use Rattle.sd_sound.proofs.BaseLemmas.{IsBelow, age_below, new_below}
 use Rattle.sd_sound.proofs.NumberLemmas.{AreFine, fine_eff}
 use Rattle.sd_sound.proofs.FineLemmas.{fine_reached}
-use Rattle.sd_sound.proofs.Ready.{ready_cause, reached_ready, maker_inside}
-use Rattle.sd_sound.proofs.Whole.{can_happen, fit_reached}
-use Rattle.sd_range.specs.InRange.{IsInRange, IsPutThere, IsPutThereIf, IsPrioThere, IsBindThere, CanBeWilled}
-use Rattle.sd_range.proofs.Places.{threads_have_cpus}
-use Rattle.sd_range.proofs.Range.{events_in_range}
-use Rattle.sd_spelling.specs.Fitting.{has_cpu, has_thread, has_lock, has_chan, has_set, put_fits, put_fits_if, woken_fits, cpu_fits_if, prio_fits, bind_fits, event_fits, may_read, hints_fit, entry_fits, is_byte, prio_in_range, event_in_range, hints_in_range, in_range, IsSpelled}
+use Rattle.sd_spelling.specs.Fitting.{is_byte, hints_in_range, IsSpelled}
 use Rattle.sd_certified.proofs.EntryLemmas.{spelled}
-
 use Rattle.sd_machine.specs.Opening.{opening}
 use Rattle.sd_full.specs.declared.plans.Plan.{Plan}
 use Rattle.sd_full.specs.declared.plans.Plan.TheVariants.{Make, Place as PlaceIt, Search}
@@ -91,7 +63,7 @@ some_is_in d ds = let same : (d.0 == d.0) ≡ true = grind (arith, nat_tests) in
 more_in : (c : ℕ) (d : CpuId) (ds : List CpuId) → is_in c ds ≡ true → is_in c (d ∷ ds) ≡ true
 more_in c d ds e = by (d.0 == c)
   where
-    by : (b : Bool) → (if b then true else is_in c ds) ≡ true
+    by : (b : Bool) → (b || is_in c ds) ≡ true
     by true = refl
     by false = e
 
@@ -112,11 +84,11 @@ open_few w s p holds =
 
 kept_few : (f : CpuId → Bool) (xs : List CpuId) → length (filter f xs) ≤ length xs
 kept_few f [] = omega arith
-kept_few f (x ∷ xs) = by (f x)
+kept_few f (x ∷ xs) = by (f x) (kept_few f xs)
   where
-    by : (b : Bool) → length (if b then x ∷ filter f xs else filter f xs) ≤ length (x ∷ xs)
-    by true = let rest = kept_few f xs in omega (arith, rest)
-    by false = let rest = kept_few f xs in omega (arith, rest)
+    by : (b : Bool) → length (filter f xs) ≤ length xs → length (if b then x ∷ filter f xs else filter f xs) ≤ length (x ∷ xs)
+    by true rest = omega (arith, rest)
+    by false rest = omega (arith, rest)
 
 module _ (w : Work) (s : State) (c : ℕ) (holds : OpenHold w s) where
   for_few : (t : ℕ) → length (cpus_for w s t) ≤ 64

@@ -1,7 +1,8 @@
 -- What an event that a processor may make tells of priorities, and that it has read only what such an event reads.
-use Rattle.std.proofs.Common.{◌≡◌, ℕ, ◌<◌, Bool, true, false, not, ◌&&◌, ◌||◌, List, [], ◌∷◌, length, Option, Some, None, is_none, refl, sym, ap, ◌∙◌, subst, arith}
+use Rattle.std.proofs.Common.{◌≡◌, ℕ, ◌<◌, Bool, true, false, not, ◌&&◌, ◌||◌, List, [], ◌∷◌, length, Option, Some, None, is_none, refl, sym, subst, arith}
 use Rattle.std.specs.Prelude.{⊤, Result, Ok, Err, if◌then◌else◌, nat_lt, nat_le, ◌==◌}
 use Rattle.std.proofs.lemmas.Bool.{eqb-true}
+use Rattle.std.proofs.lemmas.Bool.Decides.{nat_tests}
 use Rattle.std.proofs.lemmas.Option.{same_Some}
 use Rattle.sd_types.specs.declared.numbers.CpuId.{CpuId}
 use Rattle.sd_types.specs.declared.numbers.ChanId.{ChanId}
@@ -18,7 +19,7 @@ use Rattle.sd_types.specs.declared.events.Event.{Event}
 use Rattle.sd_types.specs.declared.events.Event.TheVariants as event
 use Rattle.sd_types.specs.declared.events.Hints.{Hints}
 use Rattle.sd_types.specs.declared.events.Put.{Put}
-use Rattle.sd_types.specs.declared.events.PrioAnswer.TheVariants.{Changed, Refused}
+use Rattle.sd_types.specs.declared.events.PrioAnswer.TheVariants.{Changed}
 use Rattle.sd_types.specs.declared.events.Which.{Which}
 use Rattle.sd_types.specs.declared.events.Which.TheVariants as which
 use Rattle.sd_types.specs.declared.scripts.Op.{Op}
@@ -39,14 +40,14 @@ use Rattle.sd_machine.specs.States.{thread_of, cpu_of}
 use Rattle.sd_machine.specs.Operations.{op_of}
 use Rattle.sd_full.specs.Bodies.{aged_class}
 use Rattle.sd_full.specs.Threads.{thread_id, lock_of, count_of, runner, best_ready, best_queued, best_unbound, best_waiter, best_sleeper, best_sleeper_below, first_due, next_to_age, eff_of, priority_of}
-use Rattle.sd_full.specs.Choosing.{cpus_for, is_warm, is_settled, read_for, reads_for, put_chosen, neighbours, read_of, victim_for}
-use Rattle.sd_full.specs.Dispatching.{must_leave, leave_event, leave_plan, dispatch_plan, steal_event, search_event}
-use Rattle.sd_full.specs.Sleeping.{napend_plan, wake_plan, rouse_plan}
+use Rattle.sd_full.specs.Choosing.{cpus_for, is_warm, is_settled, reads_for, put_chosen, neighbours, read_of, victim_for}
+use Rattle.sd_full.specs.Dispatching.{must_leave, leave_event, dispatch_plan, steal_event, search_event}
+use Rattle.sd_full.specs.Sleeping.{woken_priority, napend_plan, wake_plan, rouse_plan}
 use Rattle.sd_full.specs.Locking.{owner_runs, enter_event, read_event, write_event, unblock_plan, grant_writer_plan, is_eligible, grant_reader_plan}
-use Rattle.sd_full.specs.Requeueing.{requeue, requeue_plan}
-use Rattle.sd_full.specs.Walking.{inherited_priority, will_plan, walk_plan}
-use Rattle.sd_full.specs.Prioritising.{answer_to, new_class, change_plan, prio_plan, age_plan}
-use Rattle.sd_full.specs.Conditions.{sema_p_event, sema_v_plan}
+use Rattle.sd_full.specs.Requeueing.{requeue_plan}
+use Rattle.sd_full.specs.Walking.{inherited_priority, walk_plan}
+use Rattle.sd_full.specs.Prioritising.{answer_to, new_class, prio_plan, age_plan}
+use Rattle.sd_full.specs.Conditions.{sema_v_plan}
 use Rattle.sd_full.specs.SetChanges.{closing_plan}
 use Rattle.sd_full.specs.Plans.{first_of, duty_plan_of, duty_plan, nap_plan, ageing_plan_of, ageing_plan, op_plan, run_plan_of, run_plan, free_plan_of, cpu_plan_of, cpu_plan, or_plan, plan}
 use Rattle.sd_full.specs.Events.{event_of, placed_thread, plan_reads, reads, hints_fit, plan_event, wish, may_tick, allowed, next}
@@ -95,7 +96,7 @@ module _ (w : Work) (s : State) (c : ℕ) where
   grant_reader_told l None = tt
   grant_reader_told l (Some u) = by (is_eligible (priority_of s (Some u)) (priority_of s (best_waiter s l.0 Writer)))
     where
-      by : (b : Bool) → IsToldBy w s (if b then PlaceIt (placement.Grant l (thread_id u)) _ else Make (event.Passed l))
+      by : (b : Bool) → IsToldBy w s (if b then PlaceIt (placement.Grant l (thread_id u)) (woken_priority w s u) else Make (event.Passed l))
       by true = tt
       by false = tt
 

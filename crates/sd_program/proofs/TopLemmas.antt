@@ -29,7 +29,7 @@ use Rattle.sd_gen.specs.Generated.{generated}
 use Rattle.sd_program.specs.declared.forms.Form.{Form}
 use Rattle.sd_program.specs.declared.forms.Command.{Command}
 use Rattle.sd_program.specs.declared.forms.Command.TheVariants.{Run, Tables, Generate, Audit}
-use Rattle.sd_program.specs.TableTexts.{tables_text}
+use Rattle.sd_canonical.specs.Blocks.{tables_text}
 use Rattle.sd_answers.specs.declared.writing.Unwritten.{Unwritten}
 use Rattle.sd_answers.specs.declared.writing.Unwritten.TheVariants as unwritten
 use Rattle.sd_answers.specs.declared.answers.Answer.{Answer}

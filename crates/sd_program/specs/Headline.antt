@@ -15,7 +15,7 @@ use Rattle.sd_program.specs.declared.forms.Form.{Form}
 use Rattle.sd_program.specs.declared.forms.Command.{Command}
 use Rattle.sd_program.specs.declared.forms.Command.TheVariants.{Run, Tables, Generate, Audit}
 use Rattle.sd_program.specs.Forms.{command_of}
-use Rattle.sd_program.specs.TableTexts.{tables_text}
+use Rattle.sd_canonical.specs.Blocks.{tables_text}
 use Rattle.sd_program.specs.RunAnswers.{Ran}
 use Rattle.sd_program.specs.AuditAnswers.{CausedByAudit, CertifiesInput, RefusesJournal, CompletesAudit, RefusesCertificate, RefusesFaulty}
 

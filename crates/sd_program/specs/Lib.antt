@@ -3,5 +3,4 @@ pub mod Forms
 pub mod Headline
 pub mod RunAnswers
 pub mod Starts
-pub mod TableTexts
 pub mod TheRun

@@ -171,16 +171,7 @@ fn refusals_and_failing_streams(rt: HostRuntime) -> Result<(), Fail> {
             "write fault\n",
         ),
         ("run", SMALLEST, &[], 5, &[], 4, "0 c0 ", "write fault\n"),
-        (
-            "audit",
-            CERTIFICATE,
-            &[],
-            4096,
-            &[],
-            0,
-            "legal 7\n",
-            "",
-        ),
+        ("audit", CERTIFICATE, &[], 4096, &[], 0, "legal 7\n", ""),
         (
             "audit",
             SMALLEST,
