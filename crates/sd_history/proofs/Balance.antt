@@ -122,12 +122,13 @@ wants_no_sema (op.SemaV k) l side is = cc
 wants_no_sema (op.Assign d to) l side is = cc
 wants_no_sema (op.Pbind u d) l side is = cc
 
-module _ (test : Op → Bool) (blind : (o : Op) → is_sema_op o ≡ false → test o ≡ false) (w : Work) (s : State) (n : ℕ) (c : CpuId) (ready : IsReady w s) where
-  declared_thread : (t : ℕ) → t < length s.threads → t < length w.threads
-  declared_thread t inside = let many : length s.threads ≡ length w.threads = ready.fits.threads in omega (arith, inside, many)
+-- a thread of a state is one of the workload's
+pub in_work : (w : Work) (s : State) → IsReady w s → (t : ℕ) → t < length s.threads → t < length w.threads
+in_work w s ready t inside = let many : length s.threads ≡ length w.threads = ready.fits.threads in omega (arith, inside, many)
 
+module _ (test : Op → Bool) (blind : (o : Op) → is_sema_op o ≡ false → test o ≡ false) (w : Work) (s : State) (n : ℕ) (c : CpuId) (ready : IsReady w s) where
   runs_inside : (t : ℕ) → runner s c.0 ≡ Some t → t < length w.threads
-  runs_inside t runs = declared_thread t (runner_found s c.0 t runs).inside
+  runs_inside t runs = in_work w s ready t (runner_found s c.0 t runs).inside
 
   -- an operation on no semaphore is over
   other_over : (r : State) (t : ℕ) (o : Op) → t < length w.threads → Finished s r t → slice_get (script_of w t) (thread_of s t).body.op ≡ Some o → is_sema_op o ≡ false → Grows test w s r false
@@ -138,7 +139,7 @@ module _ (test : Op → Bool) (blind : (o : Op) → is_sema_op o ≡ false → t
       let found = waiter_found s l.0 side u best in
       let (k, is) = waits_here l side (thread_of s u).place found.stands in
       let (o, stands, wanted) = (ready.scripted u found.inside).waits l side k is in
-      other_over r u o (declared_thread u found.inside) a stands (wants_no_sema o l side wanted)
+      other_over r u o (in_work w s ready u found.inside) a stands (wants_no_sema o l side wanted)
 
   pub grows : (e : Event) → IsCause w s c.0 e → Grows test w s (after w s n c e) (ends_one test e)
   grows (Tick t) cause = elim (after_ops w s n c (Tick t) (ender_in w s c.0 (Tick t) cause)) [

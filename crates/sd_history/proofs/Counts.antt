@@ -80,10 +80,6 @@ assigned_counts w s t d to assign.EPERM = finish_counts w s t
 assigned_counts w s t d to assign.EINVAL = finish_counts w s t
 assigned_counts w s t d to assign.EBUSY = finish_counts w s t
 
-drop_counts : (s : State) (c : ℕ) (e : Event) → (drop_ageing s c e).counts ≡ s.counts
-unfolding drop_ageing set_duty
-drop_counts s c e = refl
-
 counts_after : (w : Work) (s : State) (n : ℕ) (c : CpuId) (e : Event) → CountsGo s (after w s n c e) e
 unfolding after effect drop_ageing set_duty sema_taken sema_counted finish_op
 counts_after w s n c (SemaP t k) = refl

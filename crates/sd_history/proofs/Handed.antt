@@ -39,7 +39,7 @@ use Rattle.sd_sound.proofs.PlaceTable.{Stepped}
 use Rattle.sd_sound.proofs.Ready.{kept_reached}
 use Rattle.sd_sound.proofs.Works.{op_named, first_of_two}
 use Rattle.sd_history.specs.Laws.{put_to_sleep, finds_nobody, chan_kind, declared_count, is_taken, is_counted_up, is_sema_p, is_sema_v, thread_numbers, ops_done, sleepers_on, SemaphoresBalance, SemaphoreWaitersSleepUntilHanded, SleepersWaitAtZero}
-use Rattle.sd_history.proofs.Balance.{ends_one, grows, p_blind, v_blind, sums_above, sums_put}
+use Rattle.sd_history.proofs.Balance.{ends_one, grows, in_work, p_blind, v_blind, sums_above, sums_put}
 use Rattle.sd_history.proofs.Carried.{IsCarried, carried_from, met_from, reached_at, split}
 use Rattle.sd_history.proofs.Counts.{ones, zeros_law, count_goes, opening_count, opening_awake, fell_asleep, chan_no_sema, same_test}
 use Rattle.sd_history.proofs.Rousing.{RousingChans, rouses_chan, rousing_after, rousing_reached, opening_rousing}
@@ -206,12 +206,9 @@ module _ (w : Work) (s : State) (n : ℕ) (c : CpuId) (ready : IsReady w s) (rou
       let one : ones (is_asleep k.0 (thread_of r t.0).place) ≡ ones (is_asleep k.0 (thread_of s t.0).place) + 1 = omega (arith, before, now) in
       let more : sleepers_on w r k.0 ≡ sleepers_on w s k.0 + 1 =
       sums_put (λ u. ones (is_asleep k.0 (thread_of s u).place)) (λ u. ones (is_asleep k.0 (thread_of r u).place)) t.0 1
-      (record { at = one; others = λ u other. ap (λ p. ones (is_asleep k.0 p)) (a.others u other) }) 0 (length w.threads) (omega arith) (let inside : t.0 < length w.threads = in_work t.0 (runner_found s c.0 t.0 cause.0.runs).inside in omega (arith, inside)) in
+      (record { at = one; others = λ u other. ap (λ p. ones (is_asleep k.0 p)) (a.others u other) }) 0 (length w.threads) (omega arith) (let inside : t.0 < length w.threads = in_work w s ready t.0 (runner_found s c.0 t.0 cause.0.runs).inside in omega (arith, inside)) in
       let waits : ones (j.0 == k.0) ≡ 1 = ap ones test in
       omega (arith, more, waits)
-    where
-      in_work : (t : ℕ) → t < length s.threads → t < length w.threads
-      in_work t inside = let many : length s.threads ≡ length w.threads = ready.fits.threads in omega (arith, inside, many)
 
   put_awake : (m t : ℕ) (at : Put) → is_asleep k.0 (place_put w m t at) ≡ false
   put_awake m t (Cpu d) = refl
@@ -229,12 +226,9 @@ module _ (w : Work) (s : State) (n : ℕ) (c : CpuId) (ready : IsReady w s) (rou
       let one : ones (is_asleep k.0 (thread_of s v.0).place) ≡ ones (is_asleep k.0 (thread_of r v.0).place) + 1 = omega (arith, before, now) in
       let fewer : sleepers_on w s k.0 ≡ sleepers_on w r k.0 + 1 =
       sums_put (λ u. ones (is_asleep k.0 (thread_of r u).place)) (λ u. ones (is_asleep k.0 (thread_of s u).place)) v.0 1
-      (record { at = one; others = λ u other. ap (λ p. ones (is_asleep k.0 p)) (sym (a.others u other)) }) 0 (length w.threads) (omega arith) (let inside : v.0 < length w.threads = in_work v.0 slept.inside in omega (arith, inside)) in
+      (record { at = one; others = λ u other. ap (λ p. ones (is_asleep k.0 p)) (sym (a.others u other)) }) 0 (length w.threads) (omega arith) (let inside : v.0 < length w.threads = in_work w s ready v.0 slept.inside in omega (arith, inside)) in
       let hands : ones (j.0 == k.0) ≡ 1 = ap ones test in
       omega (arith, fewer, hands)
-    where
-      in_work : (t : ℕ) → t < length s.threads → t < length w.threads
-      in_work t inside = let many : length s.threads ≡ length w.threads = ready.fits.threads in omega (arith, inside, many)
 
   sleepers_go : (e : Event) → IsCause w s c.0 e → SleepersGo e
   sleepers_go (SemaWait t j) cause = elim (cases_Bool (j.0 == k.0)) [

@@ -92,7 +92,7 @@ live_woken u w n (Some v) = λ same. live_put w n v.0.0 v.1
 live_aged : (u : ℕ) (w : Work) (s : State) (n : ℕ) (c : CpuId) (t : ℕ) → IsLiveStep u (aged_step w s n c t)
 live_aged u w s n c t = elim (eff_as (aged_class w (thread_of s t).body.class) (thread_of s t).body == eff_of s t) as (λ b. IsLiveStep u (if b then Stay else Go t (Queued c (back_key n)))) [ true ↦ tt | false ↦ λ same. refl ]
 
--- the thread that an event stops is not u
+-- each event but one that stops u
 pub live_step : (u : ℕ) (w : Work) (s : State) (n : ℕ) (c : CpuId) (e : Event) → stopped_by e ≢ Some u → IsLiveStep u (step_of w s n c e)
 live_step u w s n c (Tick t) goes_on = tt
 live_step u w s n c (Spin t l) goes_on = tt
