@@ -1,54 +1,33 @@
 -- The count of a semaphore, the operations on it that are over, and the threads that sleep on it.
-use Rattle.std.proofs.Common.{◌≡◌, ◌≢◌, ℕ, zero, suc, ◌+◌, ◌<◌, ◌≤◌, ◌&&◌, Bool, true, false, List, [], ◌∷◌, ◌++◌, length, take, get_or, cond, Option, Some, None, refl, sym, ap, ◌∙◌, subst, ◌⊎◌, inl, inr, arith}
-use Rattle.std.specs.Prelude.{⊤, ◌==◌, count_by, slice_get, ℤ}
-use Rattle.std.specs.List.{All, range_with_len, sum_by}
-use Rattle.std.proofs.lemmas.Bool.{false≢true, cases_Bool, cases_eq, cases_lt}
-use Rattle.std.proofs.lemmas.Bool.Decides.{nat_tests}
+use Rattle.std.proofs.Common.{◌≡◌, ◌≢◌, ℕ, zero, suc, ◌+◌, ◌<◌, ◌≤◌, Bool, true, false, List, [], ◌∷◌, length, take, get_or, Some, refl, sym, ap, ◌∙◌, subst, inl, inr, arith}
+use Rattle.std.specs.Prelude.{count_by, slice_get}
+use Rattle.std.specs.List.{range_with_len, sum_by}
+use Rattle.std.proofs.lemmas.Bool.{cases_eq}
 use Rattle.std.proofs.lemmas.List.Sums.{sum_by-cons, sum_by_more}
 use Rattle.std.proofs.lemmas.Option.{same_Some}
-use Rattle.sd_types.specs.declared.numbers.ChanId.{ChanId}
 use Rattle.sd_types.specs.declared.numbers.CpuId.{CpuId}
 use Rattle.sd_types.specs.declared.numbers.LockId.{LockId}
 use Rattle.sd_types.specs.declared.numbers.Side.{Side}
 use Rattle.sd_types.specs.declared.numbers.Side.TheVariants.{Writer, Reader}
-use Rattle.sd_types.specs.declared.numbers.ThreadId.{ThreadId}
-use Rattle.sd_types.specs.declared.events.Duty.{Duty}
-use Rattle.sd_types.specs.declared.events.Duty.TheVariants as duty
-use Rattle.sd_types.specs.declared.events.Entry.{Entry}
 use Rattle.sd_types.specs.declared.events.Event.{Event}
-use Rattle.sd_types.specs.declared.events.Event.TheVariants.{Tick, Spin, Idle, Dispatch, Steal, Preempt, Yield, Done, Nap, Napend, Sleep, Wake, Wakeall, Rouse, Enter, Read, Write, Block, Will, End as WalkEnd, Exit, Unblock, Grant, Passed, Age, Prio, CvWait, SemaP, SemaWait, SemaVWake, SemaVCount, Assign, Move, Joined, Bind, Away}
-use Rattle.sd_types.specs.declared.events.Put.{Put}
+use Rattle.sd_types.specs.declared.events.Event.TheVariants.{Tick, Yield, Nap, Sleep, Wake, Wakeall, Enter, Read, Write, Exit, Grant, Prio, CvWait, SemaP, SemaWait, SemaVWake, SemaVCount, Assign, Bind}
 use Rattle.sd_types.specs.declared.scripts.Op.{Op}
 use Rattle.sd_types.specs.declared.scripts.Op.TheVariants as op
-use Rattle.sd_types.specs.declared.works.ChanKind.{ChanKind}
-use Rattle.sd_types.specs.declared.works.ChanKind.TheVariants.{Chan, Sema}
 use Rattle.sd_types.specs.declared.works.Work.{Work}
-use Rattle.sd_types.specs.Works.{is_chan, is_mutex, is_sema}
 use Rattle.sd_chains.proofs.Moves.{IsPut}
-use Rattle.sd_machine.specs.declared.states.Place.{Place}
-use Rattle.sd_machine.specs.declared.states.Place.TheVariants.{Running, Queued, RealTime, Waiting, Asleep, Napping, Ended}
 use Rattle.sd_machine.specs.declared.states.State.{State}
 use Rattle.sd_machine.specs.Operations.{script_of}
-use Rattle.sd_machine.specs.Opening.{opening}
-use Rattle.sd_machine.specs.States.{thread_of, cpu_of}
-use Rattle.sd_full.specs.Changes.{back_key}
+use Rattle.sd_machine.specs.States.{thread_of}
 use Rattle.sd_full.specs.Events.{after}
-use Rattle.sd_full.specs.Runs.{final, IsReached}
-use Rattle.sd_full.specs.Threads.{count_of, runner, best_waiter, is_asleep, is_asleep_below, is_waiting_at, is_due}
+use Rattle.sd_full.specs.Threads.{runner, best_waiter}
 use Rattle.sd_sound.specs.Causes.{wants, IsCause}
-use Rattle.sd_sound.specs.Laws.{woken_by, HoldsWhenReached}
-use Rattle.sd_sound.proofs.AgreedAfter.{IsReady, named_inside}
-use Rattle.sd_sound.proofs.Found.{runner_found, waiter_found, sleeper_found, sleeper_below_found, due_found}
+use Rattle.sd_sound.proofs.AgreedAfter.{IsReady}
+use Rattle.sd_sound.proofs.Found.{runner_found, waiter_found}
 use Rattle.sd_sound.proofs.OpTable.{op_part, Finished, after_ops}
-use Rattle.sd_sound.proofs.Ready.{IsKept, kept_reached}
 use Rattle.sd_sound.proofs.ScriptLemmas.{waits_here, ender_in}
 use Rattle.sd_sound.proofs.Words.{Same}
-use Rattle.sd_sound.proofs.Works.{op_named, first_of_two}
-use Rattle.sd_history.specs.Laws.{put_to_sleep, chan_kind, declared_count, is_taken, is_counted_up, is_sema_p, is_sema_v, thread_numbers, ops_done, sleepers_on, SemaphoresBalance}
-use Rattle.sd_history.proofs.Counts.{ones, count_goes, opening_count, fell_asleep, chan_no_sema}
-use Rattle.sd_history.proofs.Rousing.{RousingChans, rousing_after, rousing_reached}
-use Rattle.sd_history.proofs.Runnable.{steps_after}
-use Rattle.sd_history.proofs.Sleepers.{sleeps, running_awake, sleeper_kept}
+use Rattle.sd_history.specs.Laws.{is_sema_p, is_sema_v, ops_done}
+use Rattle.sd_history.proofs.Counts.{ones}
 
 -- Sums over threads.
 
@@ -143,12 +122,13 @@ wants_no_sema (op.SemaV k) l side is = cc
 wants_no_sema (op.Assign d to) l side is = cc
 wants_no_sema (op.Pbind u d) l side is = cc
 
-module _ (test : Op → Bool) (blind : (o : Op) → is_sema_op o ≡ false → test o ≡ false) (w : Work) (s : State) (n : ℕ) (c : CpuId) (ready : IsReady w s) where
-  declared_thread : (t : ℕ) → t < length s.threads → t < length w.threads
-  declared_thread t inside = let many : length s.threads ≡ length w.threads = ready.fits.threads in omega (arith, inside, many)
+-- a thread of a state is one of the workload's
+pub in_work : (w : Work) (s : State) → IsReady w s → (t : ℕ) → t < length s.threads → t < length w.threads
+in_work w s ready t inside = let many : length s.threads ≡ length w.threads = ready.fits.threads in omega (arith, inside, many)
 
+module _ (test : Op → Bool) (blind : (o : Op) → is_sema_op o ≡ false → test o ≡ false) (w : Work) (s : State) (n : ℕ) (c : CpuId) (ready : IsReady w s) where
   runs_inside : (t : ℕ) → runner s c.0 ≡ Some t → t < length w.threads
-  runs_inside t runs = declared_thread t (runner_found s c.0 t runs).inside
+  runs_inside t runs = in_work w s ready t (runner_found s c.0 t runs).inside
 
   -- an operation on no semaphore is over
   other_over : (r : State) (t : ℕ) (o : Op) → t < length w.threads → Finished s r t → slice_get (script_of w t) (thread_of s t).body.op ≡ Some o → is_sema_op o ≡ false → Grows test w s r false
@@ -159,7 +139,7 @@ module _ (test : Op → Bool) (blind : (o : Op) → is_sema_op o ≡ false → t
       let found = waiter_found s l.0 side u best in
       let (k, is) = waits_here l side (thread_of s u).place found.stands in
       let (o, stands, wanted) = (ready.scripted u found.inside).waits l side k is in
-      other_over r u o (declared_thread u found.inside) a stands (wants_no_sema o l side wanted)
+      other_over r u o (in_work w s ready u found.inside) a stands (wants_no_sema o l side wanted)
 
   pub grows : (e : Event) → IsCause w s c.0 e → Grows test w s (after w s n c e) (ends_one test e)
   grows (Tick t) cause = elim (after_ops w s n c (Tick t) (ender_in w s c.0 (Tick t) cause)) [

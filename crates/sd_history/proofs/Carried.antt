@@ -1,5 +1,5 @@
 -- What an entry of a run leaves true is true after the entries that follow it, as long as each of them keeps it.
-use Rattle.std.proofs.Common.{◌≡◌, ℕ, zero, suc, ◌+◌, ◌<◌, List, [], ◌∷◌, ◌++◌, length, get_or, refl, sym, subst, arith}
+use Rattle.std.proofs.Common.{◌≡◌, ℕ, zero, suc, ◌+◌, List, [], ◌∷◌, ◌++◌, length, refl, subst, arith}
 use Rattle.std.specs.List.{All}
 use Rattle.sd_types.specs.declared.numbers.CpuId.{CpuId}
 use Rattle.sd_types.specs.declared.events.Entry.{Entry}
@@ -9,7 +9,7 @@ use Rattle.sd_machine.specs.declared.states.State.{State}
 use Rattle.sd_machine.specs.Opening.{opening}
 use Rattle.sd_full.specs.Events.{after}
 use Rattle.sd_full.specs.Runs.{final, IsRun, IsRunFrom, IsReached}
-use Rattle.sd_full.proofs.RunLemmas.{final-append, final-cons, IsRun-from, from-IsRun, IsRunFrom-front, IsRunFrom-rest}
+use Rattle.sd_full.proofs.RunLemmas.{final-append, IsRun-from, from-IsRun, IsRunFrom-front, IsRunFrom-rest}
 use Rattle.sd_sound.specs.Causes.{IsCause}
 use Rattle.sd_sound.proofs.AgreedAfter.{IsReady}
 use Rattle.sd_sound.proofs.Ready.{ready_cause, next_ready, reached_ready}

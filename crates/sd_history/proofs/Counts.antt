@@ -16,7 +16,6 @@ use Rattle.sd_types.specs.declared.events.AssignAnswer.TheVariants as assign
 use Rattle.sd_types.specs.declared.events.Entry.{Entry}
 use Rattle.sd_types.specs.declared.events.Event.{Event}
 use Rattle.sd_types.specs.declared.events.Event.TheVariants.{Done, Nap, Sleep, Block, CvWait, SemaP, SemaWait, SemaVCount, Assign, Joined}
-use Rattle.sd_types.specs.declared.scripts.Op.{Op}
 use Rattle.sd_types.specs.declared.scripts.Op.TheVariants as op
 use Rattle.sd_types.specs.declared.works.ChanKind.{ChanKind}
 use Rattle.sd_types.specs.declared.works.ChanKind.TheVariants.{Chan, Sema}
@@ -25,7 +24,7 @@ use Rattle.sd_types.specs.declared.works.Work.{Work}
 use Rattle.sd_types.specs.Works.{is_chan, is_mutex, is_sema}
 use Rattle.sd_chains.proofs.Moves.{put_cases}
 use Rattle.sd_machine.specs.declared.states.Place.{Place}
-use Rattle.sd_machine.specs.declared.states.Place.TheVariants.{Running, Queued, RealTime, Waiting, Asleep, Napping, Ended}
+use Rattle.sd_machine.specs.declared.states.Place.TheVariants.{Queued, RealTime, Asleep, Ended}
 use Rattle.sd_machine.specs.declared.states.State.{State}
 use Rattle.sd_machine.specs.Opening.{count_of as count_in, first_count, first_cpu, is_urgent, first_thread, first_threads, opening}
 use Rattle.sd_machine.specs.States.{no_thread, thread_of}
@@ -44,10 +43,10 @@ use Rattle.sd_sound.specs.Moves.Step.{Stay, Go}
 use Rattle.sd_sound.proofs.AgreedAfter.{IsReady, named_inside}
 use Rattle.sd_sound.proofs.FieldWords as F
 use Rattle.sd_sound.proofs.PlaceTable.{Stepped}
-use Rattle.sd_sound.proofs.Ready.{IsKept, kept_reached, next_ready, opening_ready, ready_cause}
-use Rattle.sd_sound.proofs.SideFields.{is_side, after_keeps}
+use Rattle.sd_sound.proofs.Ready.{kept_reached, next_ready, opening_ready, ready_cause}
+use Rattle.sd_sound.proofs.SideFields.{after_keeps}
 use Rattle.sd_sound.proofs.Works.{op_named, first_of_two}
-use Rattle.sd_history.specs.Laws.{put_to_sleep, is_live, is_taken, is_counted_up, declared_count, chan_kind, SemaphoresAreCounted, SleepersWaitAtZero}
+use Rattle.sd_history.specs.Laws.{put_to_sleep, runs_or_is_runnable, is_taken, is_counted_up, declared_count, chan_kind, SemaphoresAreCounted, SleepersWaitAtZero}
 use Rattle.sd_history.proofs.Runnable.{IsLiveStep, live_step, steps_after}
 use Rattle.sd_history.proofs.Sleepers.{sleeps, someone_asleep}
 
@@ -80,10 +79,6 @@ assigned_counts w s t d to assign.Changed =
 assigned_counts w s t d to assign.EPERM = finish_counts w s t
 assigned_counts w s t d to assign.EINVAL = finish_counts w s t
 assigned_counts w s t d to assign.EBUSY = finish_counts w s t
-
-drop_counts : (s : State) (c : ℕ) (e : Event) → (drop_ageing s c e).counts ≡ s.counts
-unfolding drop_ageing set_duty
-drop_counts s c e = refl
 
 counts_after : (w : Work) (s : State) (n : ℕ) (c : CpuId) (e : Event) → CountsGo s (after w s n c e) e
 unfolding after effect drop_ageing set_duty sema_taken sema_counted finish_op
@@ -205,8 +200,8 @@ counts_law = λ w es k run.
 
 -- Who sleeps after an event slept there before, or the event put it to sleep.
 
-live_asleep : (p : Place) (k : ChanId) (key : ℤ) → is_live p ≡ true → p ≡ Asleep k key → ⊥
-live_asleep p k key live is = let bad : false ≡ true = sym (ap is_live is) ∙ live in cc
+live_asleep : (p : Place) (k : ChanId) (key : ℤ) → runs_or_is_runnable p ≡ true → p ≡ Asleep k key → ⊥
+live_asleep p k key live is = let bad : false ≡ true = sym (ap runs_or_is_runnable is) ∙ live in cc
 
 unmoved : (u : ℕ) (s r : State) (step : Step) → IsLiveStep u step → Stepped step s r → (k : ChanId) (key : ℤ) → (thread_of r u).place ≡ Asleep k key → (thread_of s u).place ≡ Asleep k key
 unmoved u s r Stay is a k key asleep = sym (a u) ∙ asleep

@@ -1,19 +1,16 @@
 -- A thread that sleeps on a semaphore is woken only by a `semav` that hands it over; so the count of a semaphore, the operations
 -- on it that are over, and the threads that sleep on it balance.
-use Rattle.std.proofs.Common.{◌≡◌, ◌≢◌, ℕ, zero, suc, ◌+◌, ◌<◌, ◌≤◌, ◌&&◌, Bool, true, false, List, [], ◌∷◌, ◌++◌, length, take, get_or, Option, Some, None, refl, sym, ap, ◌∙◌, subst, inl, inr, arith}
+use Rattle.std.proofs.Common.{◌≡◌, ◌≢◌, ℕ, zero, suc, ◌+◌, ◌<◌, ◌≤◌, Bool, true, false, List, [], ◌∷◌, length, take, get_or, Some, refl, sym, ap, ◌∙◌, subst, inl, inr, arith}
 use Rattle.std.specs.Prelude.{◌==◌, count_by, int_lt, ℤ}
-use Rattle.std.specs.List.{range_with_len, sum_by}
-use Rattle.std.proofs.lemmas.Bool.{false≢true, cases_Bool}
+use Rattle.std.specs.List.{sum_by}
+use Rattle.std.proofs.lemmas.Bool.{false≢true, cases_Bool, cases_lt}
 use Rattle.std.proofs.lemmas.Bool.Decides.{nat_tests}
 use Rattle.std.proofs.lemmas.List.Sums.{sum_by-cons}
 use Rattle.std.proofs.lemmas.Option.{same_Some}
 use Rattle.sd_types.specs.declared.numbers.ChanId.{ChanId}
 use Rattle.sd_types.specs.declared.numbers.CpuId.{CpuId}
-use Rattle.sd_types.specs.declared.numbers.Side.{Side}
 use Rattle.sd_types.specs.declared.numbers.Side.TheVariants.{Writer, Reader}
 use Rattle.sd_types.specs.declared.numbers.ThreadId.{ThreadId}
-use Rattle.sd_types.specs.declared.events.Duty.TheVariants as duty
-use Rattle.sd_types.specs.declared.events.Entry.{Entry}
 use Rattle.sd_types.specs.declared.events.Event.{Event}
 use Rattle.sd_types.specs.declared.events.Event.TheVariants.{Napend, Sleep, Wake, Rouse, Unblock, Grant, CvWait, SemaP, SemaWait, SemaVWake, SemaVCount}
 use Rattle.sd_types.specs.declared.events.Put.{Put}
@@ -23,7 +20,6 @@ use Rattle.sd_types.specs.declared.scripts.Op.TheVariants as op
 use Rattle.sd_types.specs.declared.works.ThreadDecl.{ThreadDecl}
 use Rattle.sd_types.specs.declared.works.Work.{Work}
 use Rattle.sd_types.specs.Works.{is_chan, is_mutex, is_sema}
-use Rattle.sd_chains.proofs.Moves.{IsPut}
 use Rattle.sd_machine.specs.declared.states.Place.{Place}
 use Rattle.sd_machine.specs.declared.states.Place.TheVariants.{Running, Queued, RealTime, Waiting, Asleep, Napping, Ended}
 use Rattle.sd_machine.specs.declared.states.State.{State}
@@ -32,20 +28,20 @@ use Rattle.sd_machine.specs.Opening.{first_thread, first_threads, opening}
 use Rattle.sd_machine.specs.States.{no_thread, thread_of, cpu_of}
 use Rattle.sd_full.specs.Changes.{back_key, place_put}
 use Rattle.sd_full.specs.Events.{after}
-use Rattle.sd_full.specs.Runs.{final}
-use Rattle.sd_full.specs.Threads.{thread_id, best_sleeper, is_asleep, is_asleep_below, is_waiting_at, is_due}
+use Rattle.sd_full.specs.Runs.{final, IsReached}
+use Rattle.sd_full.specs.Threads.{thread_id, count_of, best_sleeper, is_asleep, is_asleep_below, is_waiting_at, is_due}
 use Rattle.sd_sound.specs.Causes.{IsCause}
 use Rattle.sd_sound.specs.Laws.{woken_by, HoldsWhenReached}
 use Rattle.sd_sound.specs.Moves.Step.{Go}
 use Rattle.sd_sound.proofs.AgreedAfter.{IsReady}
 use Rattle.sd_sound.proofs.Found.{runner_found, waiter_found, sleeper_found, sleeper_below_found, due_found}
 use Rattle.sd_sound.proofs.PlaceTable.{Stepped}
-use Rattle.sd_sound.proofs.Ready.{IsKept, kept_reached}
+use Rattle.sd_sound.proofs.Ready.{kept_reached}
 use Rattle.sd_sound.proofs.Works.{op_named, first_of_two}
-use Rattle.sd_history.specs.Laws.{put_to_sleep, in_vain, chan_kind, declared_count, is_taken, is_counted_up, is_sema_p, is_sema_v, thread_numbers, ops_done, sleepers_on, SemaphoresBalance, SemaphoreWaitersSleepUntilHanded}
-use Rattle.sd_history.proofs.Balance.{ends_one, grows, p_blind, v_blind, sums_above, sums_put}
-use Rattle.sd_history.proofs.Carried.{IsCarried, IsMet, carried_from, met_from, reached_at, split}
-use Rattle.sd_history.proofs.Counts.{ones, count_goes, opening_count, opening_awake, fell_asleep, chan_no_sema, same_test}
+use Rattle.sd_history.specs.Laws.{put_to_sleep, finds_nobody, chan_kind, declared_count, is_taken, is_counted_up, is_sema_p, is_sema_v, thread_numbers, ops_done, sleepers_on, SemaphoresBalance, SemaphoreWaitersSleepUntilHanded, SleepersWaitAtZero}
+use Rattle.sd_history.proofs.Balance.{ends_one, grows, in_work, p_blind, v_blind, sums_above, sums_put}
+use Rattle.sd_history.proofs.Carried.{IsCarried, carried_from, met_from, reached_at, split}
+use Rattle.sd_history.proofs.Counts.{ones, zeros_law, count_goes, opening_count, opening_awake, fell_asleep, chan_no_sema, same_test}
 use Rattle.sd_history.proofs.Rousing.{RousingChans, rouses_chan, rousing_after, rousing_reached, opening_rousing}
 use Rattle.sd_history.proofs.Runnable.{steps_after}
 use Rattle.sd_history.proofs.Sleepers.{sleeps, found, falls, running_awake, sleeper_kept}
@@ -120,10 +116,9 @@ handed_law = λ w es more e t k run waits unhanded.
     let rousing : RousingChans w r = rousing_after w s e.number e.cpu e.event at.cause (rousing_reached w (length es) s (reached_at w es at.run)) in
     let stays = handed_carried w t k key sema in
     let holds : State → Type 0 = λ x. ((thread_of x t.0).place ≡ Asleep k key) × RousingChans w x in
-    let unserved : Event → Type 0 = λ x. (u : ThreadId) (put : Put) → x ≢ SemaVWake u k t put in
-    (
+    let unserved : Event → Type 0 = λ x. (u : ThreadId) (put : Put) → x ≢ SemaVWake u k t put in (
       subst (λ x. (thread_of x t.0).place ≡ Asleep k key) (sym at.ends) (carried_from w holds unserved stays r _ more at.there (asleep, rousing) at.rest unhanded).0,
-      met_from w holds unserved stays (λ x. in_vain x ≢ Some k) (λ x c y ready cause at. found w t.0 k key x c y ready cause at.0) r _ more at.there (asleep, rousing) at.rest unhanded,
+      met_from w holds unserved stays (λ x. finds_nobody x ≢ Some k) (λ x c y ready cause at. found w t.0 k key x c y ready cause at.0) r _ more at.there (asleep, rousing) at.rest unhanded,
     )
 
 -- The threads that sleep on a semaphore.
@@ -211,12 +206,9 @@ module _ (w : Work) (s : State) (n : ℕ) (c : CpuId) (ready : IsReady w s) (rou
       let one : ones (is_asleep k.0 (thread_of r t.0).place) ≡ ones (is_asleep k.0 (thread_of s t.0).place) + 1 = omega (arith, before, now) in
       let more : sleepers_on w r k.0 ≡ sleepers_on w s k.0 + 1 =
       sums_put (λ u. ones (is_asleep k.0 (thread_of s u).place)) (λ u. ones (is_asleep k.0 (thread_of r u).place)) t.0 1
-      (record { at = one; others = λ u other. ap (λ p. ones (is_asleep k.0 p)) (a.others u other) }) 0 (length w.threads) (omega arith) (let inside : t.0 < length w.threads = in_work t.0 (runner_found s c.0 t.0 cause.0.runs).inside in omega (arith, inside)) in
+      (record { at = one; others = λ u other. ap (λ p. ones (is_asleep k.0 p)) (a.others u other) }) 0 (length w.threads) (omega arith) (let inside : t.0 < length w.threads = in_work w s ready t.0 (runner_found s c.0 t.0 cause.0.runs).inside in omega (arith, inside)) in
       let waits : ones (j.0 == k.0) ≡ 1 = ap ones test in
       omega (arith, more, waits)
-    where
-      in_work : (t : ℕ) → t < length s.threads → t < length w.threads
-      in_work t inside = let many : length s.threads ≡ length w.threads = ready.fits.threads in omega (arith, inside, many)
 
   put_awake : (m t : ℕ) (at : Put) → is_asleep k.0 (place_put w m t at) ≡ false
   put_awake m t (Cpu d) = refl
@@ -234,12 +226,9 @@ module _ (w : Work) (s : State) (n : ℕ) (c : CpuId) (ready : IsReady w s) (rou
       let one : ones (is_asleep k.0 (thread_of s v.0).place) ≡ ones (is_asleep k.0 (thread_of r v.0).place) + 1 = omega (arith, before, now) in
       let fewer : sleepers_on w s k.0 ≡ sleepers_on w r k.0 + 1 =
       sums_put (λ u. ones (is_asleep k.0 (thread_of r u).place)) (λ u. ones (is_asleep k.0 (thread_of s u).place)) v.0 1
-      (record { at = one; others = λ u other. ap (λ p. ones (is_asleep k.0 p)) (sym (a.others u other)) }) 0 (length w.threads) (omega arith) (let inside : v.0 < length w.threads = in_work v.0 slept.inside in omega (arith, inside)) in
+      (record { at = one; others = λ u other. ap (λ p. ones (is_asleep k.0 p)) (sym (a.others u other)) }) 0 (length w.threads) (omega arith) (let inside : v.0 < length w.threads = in_work w s ready v.0 slept.inside in omega (arith, inside)) in
       let hands : ones (j.0 == k.0) ≡ 1 = ap ones test in
       omega (arith, fewer, hands)
-    where
-      in_work : (t : ℕ) → t < length s.threads → t < length w.threads
-      in_work t inside = let many : length s.threads ≡ length w.threads = ready.fits.threads in omega (arith, inside, many)
 
   sleepers_go : (e : Event) → IsCause w s c.0 e → SleepersGo e
   sleepers_go (SemaWait t j) cause = elim (cases_Bool (j.0 == k.0)) [
@@ -330,3 +319,27 @@ balanced = kept_reached IsBalanced (record {
 
 pub balance_law : HoldsWhenReached SemaphoresBalance
 balance_law = λ w n s reached. (balanced w n s reached).balance
+
+-- nobody sleeps on a semaphore whose count is above 0
+pub bounded_law : (w : Work) (n : ℕ) (s : State) → IsReached w n s → (k : ℕ) → count_of s k ≤ declared_count w k + ops_done (is_sema_v k) w s
+bounded_law w n s reached k =
+    let waits = zeros_law w n s reached in
+    elim (cases_Bool (is_sema (chan_kind w k))) [
+      | inl sema ↦ elim (cases_lt 0 (count_of s k)) [
+        | inl some ↦
+            let nobody : sleepers_on w s k ≡ 0 = zeros (λ u. ones (is_asleep k (thread_of s u).place)) (thread_numbers w) (λ u. ap ones (awake waits some u)) in
+            let balance = balance_law w n s reached k sema in
+            omega (arith, nobody, balance)
+        | inr none ↦ omega (arith, none)
+      ]
+      | inr plain ↦ let none = waits.uncounted k plain in omega (arith, none)
+    ]
+  where
+    chan : ℕ → ChanId
+    chan i = record { 0 = i }
+
+    awake : SleepersWaitAtZero w s → 0 < count_of s k → (u : ℕ) → is_asleep k (thread_of s u).place ≡ false
+    awake waits some u = elim (cases_Bool (is_asleep k (thread_of s u).place)) [
+      | inl asleep ↦ let (key, is) = asleep_is (chan k) (thread_of s u).place asleep in let none : count_of s k ≡ 0 = waits.asleep u (chan k) key is in absurd (omega (arith, none, some))
+      | inr not ↦ not
+    ]

@@ -1,6 +1,6 @@
 -- What holds of every duty that wakes nobody, and of each duty to wake sleepers where it begins, holds of every duty; so only
 -- sleepers on channels that are no semaphores are woken by such a duty.
-use Rattle.std.proofs.Common.{◌≡◌, ℕ, zero, suc, ◌+◌, ◌-◌, ◌%◌, ◌<◌, Bool, true, false, ◌||◌, ◌&&◌, List, [], ◌∷◌, length, get_or, Option, Some, None, refl, sym, ap, ◌∙◌, subst, inl, inr, arith}
+use Rattle.std.proofs.Common.{◌≡◌, ℕ, zero, suc, ◌+◌, ◌-◌, ◌%◌, Bool, true, false, ◌||◌, ◌&&◌, List, [], ◌∷◌, length, get_or, Option, Some, None, refl, sym, subst, inl, inr}
 use Rattle.std.specs.Prelude.{⊤, ℤ, if◌then◌else◌, is_none, is_some, int_lt, nat_lt, nat_le, ◌==◌, map, Result, Ok, Err}
 use Rattle.std.specs.Ordering.{int_eq}
 use Rattle.std.specs.List.{range_with_len}
@@ -20,7 +20,7 @@ use Rattle.sd_types.specs.declared.events.Denied.{Denied}
 use Rattle.sd_types.specs.declared.events.Duty.{Duty}
 use Rattle.sd_types.specs.declared.events.Duty.TheVariants as duty
 use Rattle.sd_types.specs.declared.events.Event.{Event}
-use Rattle.sd_types.specs.declared.events.Event.TheVariants.{Tick, Spin, Idle, Dispatch, Steal, Preempt, Yield, Done, Nap, Napend, Sleep, Wake, Wakeall, Rouse, Enter, Read, Write, Block, Will, End as WalkEnd, Exit, Unblock, Grant, Passed, Age, Prio, CvWait, SemaP, SemaWait, SemaVWake, SemaVCount, Assign, Move, Joined, Bind, Away}
+use Rattle.sd_types.specs.declared.events.Event.TheVariants.{Tick, Spin, Idle, Wakeall, Rouse, Block, Will, End as WalkEnd, Exit, Unblock, Grant, Passed, Age, Prio, CvWait, Assign, Joined, Bind}
 use Rattle.sd_types.specs.declared.events.PrioAnswer.{PrioAnswer}
 use Rattle.sd_types.specs.declared.events.PrioAnswer.TheVariants.{Changed, Refused}
 use Rattle.sd_types.specs.declared.events.Put.{Put}
@@ -28,7 +28,7 @@ use Rattle.sd_types.specs.declared.scripts.Op.{Op}
 use Rattle.sd_types.specs.declared.scripts.Op.TheVariants as op
 use Rattle.sd_types.specs.declared.works.Work.{Work}
 use Rattle.sd_types.specs.Works.{is_chan, is_mutex}
-use Rattle.sd_chains.proofs.Moves.{IsPut, put_cases}
+use Rattle.sd_chains.proofs.Moves.{put_cases}
 use Rattle.sd_machine.specs.declared.states.Place.{Place}
 use Rattle.sd_machine.specs.declared.states.Place.TheVariants.{Running, Queued, RealTime, Waiting, Asleep, Napping, Ended}
 use Rattle.sd_machine.specs.declared.states.LockState.{LockState}
@@ -56,7 +56,7 @@ use Rattle.sd_sound.proofs.CpuWords as C
 use Rattle.sd_sound.proofs.LockTable as T
 use Rattle.sd_sound.proofs.LockTable.{duty_part, duty_marks}
 use Rattle.sd_sound.proofs.Parts.{put_item, set_past}
-use Rattle.sd_sound.proofs.Ready.{IsKept, kept_reached}
+use Rattle.sd_sound.proofs.Ready.{kept_reached}
 use Rattle.sd_sound.proofs.Works.{op_named}
 use Rattle.sd_history.specs.Laws.{chan_kind}
 

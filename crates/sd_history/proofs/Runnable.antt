@@ -1,6 +1,6 @@
 -- A thread on a dispatch queue, or that runs, is so after each event that does not stop it.
-use Rattle.std.proofs.Common.{◌≡◌, ◌≢◌, ℕ, ◌&&◌, Bool, true, false, List, ◌∷◌, ◌++◌, Option, Some, None, refl, sym, ap, ◌∙◌, subst, inl, inr, arith}
-use Rattle.std.specs.Prelude.{⊤, if◌then◌else◌, ◌==◌, is_none, is_some, nat_le, ℤ}
+use Rattle.std.proofs.Common.{◌≡◌, ◌≢◌, ℕ, ◌&&◌, true, false, Option, Some, None, refl, sym, ap, ◌∙◌, subst, inl, inr, arith}
+use Rattle.std.specs.Prelude.{⊤, if◌then◌else◌, ◌==◌, is_none, nat_le, ℤ}
 use Rattle.std.proofs.lemmas.Bool.Decides.{nat_tests}
 use Rattle.std.proofs.lemmas.Option.{same_Some}
 use Rattle.sd_types.specs.declared.numbers.CpuId.{CpuId}
@@ -8,7 +8,6 @@ use Rattle.sd_types.specs.declared.numbers.ThreadId.{ThreadId}
 use Rattle.sd_types.specs.declared.bodies.ThreadBody.{ThreadBody}
 use Rattle.sd_types.specs.declared.events.BindAnswer.{BindAnswer}
 use Rattle.sd_types.specs.declared.events.BindAnswer.TheVariants as bind_answer
-use Rattle.sd_types.specs.declared.events.Entry.{Entry}
 use Rattle.sd_types.specs.declared.events.Event.{Event}
 use Rattle.sd_types.specs.declared.events.Event.TheVariants.{Tick, Spin, Idle, Dispatch, Steal, Preempt, Yield, Done, Nap, Napend, Sleep, Wake, Wakeall, Rouse, Enter, Read, Write, Block, Will, End as WalkEnd, Exit, Unblock, Grant, Passed, Age, Prio, CvWait, SemaP, SemaWait, SemaVWake, SemaVCount, Assign, Move, Joined, Bind, Away}
 use Rattle.sd_types.specs.declared.events.PrioAnswer.{PrioAnswer}
@@ -21,10 +20,8 @@ use Rattle.sd_chains.proofs.Moves.{put_cases}
 use Rattle.sd_machine.specs.declared.states.Place.{Place}
 use Rattle.sd_machine.specs.declared.states.Place.TheVariants.{Running, Queued, RealTime, Waiting, Asleep, Napping, Ended}
 use Rattle.sd_machine.specs.declared.states.State.{State}
-use Rattle.sd_machine.specs.Accounts.{is_wake_of}
 use Rattle.sd_machine.specs.Opening.{opening}
 use Rattle.sd_machine.specs.States.{thread_of}
-use Rattle.sd_full.specs.Accounts.{is_wake}
 use Rattle.sd_full.specs.Bodies.{aged_class}
 use Rattle.sd_full.specs.Changes.{back_key, queue_place, place_put}
 use Rattle.sd_full.specs.Events.{after}
@@ -38,7 +35,7 @@ use Rattle.sd_sound.proofs.AgreedAfter.{IsReady}
 use Rattle.sd_sound.proofs.Movers.{mover_there}
 use Rattle.sd_sound.proofs.PlaceTable.{Stepped, after_steps, step_needs}
 use Rattle.sd_sound.proofs.WokenLemmas.{woken_after}
-use Rattle.sd_history.specs.Laws.{stopped_by, is_live, WakesAreCounted, WokenStayRunnable}
+use Rattle.sd_history.specs.Laws.{stopped_by, runs_or_is_runnable, WakesAreCounted, WokenStayRunnable}
 use Rattle.sd_history.proofs.Carried.{IsCarried, carried_from, split}
 
 -- where each event of a state of a run moves a thread
@@ -48,21 +45,21 @@ steps_after w s n c e ready cause = after_steps w s n c e (step_needs w s c.0 e 
 -- a step that moves thread u, if it does, to a place where it is runnable or runs
 abbrev pub IsLiveStep : ℕ → Step → Type 0
 IsLiveStep u Stay = ⊤
-IsLiveStep u (Go t place) = t ≡ u → is_live place ≡ true
+IsLiveStep u (Go t place) = t ≡ u → runs_or_is_runnable place ≡ true
 
-live_kept : (u : ℕ) (s r : State) (step : Step) → IsLiveStep u step → Stepped step s r → is_live (thread_of s u).place ≡ true → is_live (thread_of r u).place ≡ true
-live_kept u s r Stay is a before = ap is_live (a u) ∙ before
+live_kept : (u : ℕ) (s r : State) (step : Step) → IsLiveStep u step → Stepped step s r → runs_or_is_runnable (thread_of s u).place ≡ true → runs_or_is_runnable (thread_of r u).place ≡ true
+live_kept u s r Stay is a before = ap runs_or_is_runnable (a u) ∙ before
 live_kept u s r (Go t place) is a before = elim (put_cases t place _ _ a u) [
-  | inl me ↦ ap is_live me.1 ∙ is (sym me.0)
-  | inr other ↦ ap is_live other.1 ∙ before
+  | inl me ↦ ap runs_or_is_runnable me.1 ∙ is (sym me.0)
+  | inr other ↦ ap runs_or_is_runnable other.1 ∙ before
 ]
 
-live_put : (w : Work) (n t : ℕ) (at : Put) → is_live (place_put w n t at) ≡ true
+live_put : (w : Work) (n t : ℕ) (at : Put) → runs_or_is_runnable (place_put w n t at) ≡ true
 live_put w n t (Cpu d) = refl
 live_put w n t (OnRealTime d) = refl
 
-live_queue : (w : Work) (t : ℕ) (c : CpuId) (key : ℤ) (b : ThreadBody) → is_live (queue_place w t c key b) ≡ true
-live_queue w t c key b = elim (nat_le 100 (eff b) && is_none b.bound) as (λ q. is_live (if q then RealTime (set_of w t) key else Queued c key) ≡ true) [ true ↦ refl | false ↦ refl ]
+live_queue : (w : Work) (t : ℕ) (c : CpuId) (key : ℤ) (b : ThreadBody) → runs_or_is_runnable (queue_place w t c key b) ≡ true
+live_queue w t c key b = elim (nat_le 100 (eff b) && is_none b.bound) as (λ q. runs_or_is_runnable (if q then RealTime (set_of w t) key else Queued c key) ≡ true) [ true ↦ refl | false ↦ refl ]
 
 live_put_if : (u : ℕ) (w : Work) (n t : ℕ) (at : Option Put) → IsLiveStep u (put_step_if w n t at)
 live_put_if u w n t None = tt
@@ -95,7 +92,7 @@ live_woken u w n (Some v) = λ same. live_put w n v.0.0 v.1
 live_aged : (u : ℕ) (w : Work) (s : State) (n : ℕ) (c : CpuId) (t : ℕ) → IsLiveStep u (aged_step w s n c t)
 live_aged u w s n c t = elim (eff_as (aged_class w (thread_of s t).body.class) (thread_of s t).body == eff_of s t) as (λ b. IsLiveStep u (if b then Stay else Go t (Queued c (back_key n)))) [ true ↦ tt | false ↦ λ same. refl ]
 
--- the thread that an event stops is not u
+-- each event but one that stops u
 pub live_step : (u : ℕ) (w : Work) (s : State) (n : ℕ) (c : CpuId) (e : Event) → stopped_by e ≢ Some u → IsLiveStep u (step_of w s n c e)
 live_step u w s n c (Tick t) goes_on = tt
 live_step u w s n c (Spin t l) goes_on = tt
@@ -134,10 +131,10 @@ live_step u w s n c (Move t at) goes_on = λ same. live_put w n t.0 at
 live_step u w s n c (Joined to) goes_on = tt
 live_step u w s n c (Bind t v d answer) goes_on = live_bind u w n v.0 answer
 
-live_carried : (w : Work) (u : ℕ) → IsCarried w (λ s. is_live (thread_of s u).place ≡ true) (λ e. stopped_by e ≢ Some u)
+live_carried : (w : Work) (u : ℕ) → IsCarried w (λ s. runs_or_is_runnable (thread_of s u).place ≡ true) (λ e. stopped_by e ≢ Some u)
 live_carried w u = record { step = λ s n c e ready cause goes_on before. live_kept u s (after w s n c e) (step_of w s n c e) (live_step u w s n c e goes_on) (steps_after w s n c e ready cause) before }
 
-runnable_live : (p : Place) → is_runnable p ≡ true → is_live p ≡ true
+runnable_live : (p : Place) → is_runnable p ≡ true → runs_or_is_runnable p ≡ true
 runnable_live (Queued c k) is = refl
 runnable_live (RealTime c k) is = refl
 runnable_live (Running c) is = refl
@@ -169,7 +166,7 @@ pub runnable_law : WokenStayRunnable
 runnable_law = λ w es more e t run wakes goes_on.
     let at = split w es more e run in
     let woken : woken_by e.event ≡ Some t = ((counted_law e.event).0 t).0 wakes in
-    let live : is_live (thread_of (after w (final w (opening w) es) e.number e.cpu e.event) t).place ≡ true =
+    let live : runs_or_is_runnable (thread_of (after w (final w (opening w) es) e.number e.cpu e.event) t).place ≡ true =
     runnable_live _ (woken_after w (final w (opening w) es) e.number e.cpu e.event t at.ready at.cause woken) in
-    subst (λ x. is_live (thread_of x t).place ≡ true) (sym at.ends)
-    (carried_from w (λ s. is_live (thread_of s t).place ≡ true) (λ x. stopped_by x ≢ Some t) (live_carried w t) _ _ more at.there live at.rest goes_on)
+    subst (λ x. runs_or_is_runnable (thread_of x t).place ≡ true) (sym at.ends)
+    (carried_from w (λ s. runs_or_is_runnable (thread_of s t).place ≡ true) (λ x. stopped_by x ≢ Some t) (live_carried w t) _ _ more at.there live at.rest goes_on)

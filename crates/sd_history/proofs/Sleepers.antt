@@ -1,18 +1,15 @@
 -- A thread that is asleep stays so, at its place, after each event that does not wake it.
-use Rattle.std.proofs.Common.{◌≡◌, ◌≢◌, ℕ, ◌<◌, ◌&&◌, Bool, true, false, not, List, ◌∷◌, ◌++◌, length, Option, Some, None, refl, sym, ap, ◌∙◌, subst, ◌⊎◌, inl, inr, arith}
+use Rattle.std.proofs.Common.{◌≡◌, ◌≢◌, ℕ, ◌<◌, Bool, true, false, length, Option, Some, None, refl, sym, ap, ◌∙◌, subst, ◌⊎◌, inl, inr, arith}
 use Rattle.std.specs.Prelude.{⊤, if◌then◌else◌, ◌==◌, is_none, ℤ}
-use Rattle.std.specs.List.{All}
 use Rattle.std.proofs.lemmas.Bool.{false≢true, cases_lt}
 use Rattle.std.proofs.lemmas.Bool.Decides.{nat_tests}
 use Rattle.std.proofs.lemmas.List.{get_or_past}
 use Rattle.std.proofs.lemmas.Option.{same_Some}
 use Rattle.sd_types.specs.declared.numbers.ChanId.{ChanId}
 use Rattle.sd_types.specs.declared.numbers.CpuId.{CpuId}
-use Rattle.sd_types.specs.declared.numbers.LockId.{LockId}
 use Rattle.sd_types.specs.declared.numbers.ThreadId.{ThreadId}
 use Rattle.sd_types.specs.declared.events.BindAnswer.{BindAnswer}
 use Rattle.sd_types.specs.declared.events.BindAnswer.TheVariants as bind_answer
-use Rattle.sd_types.specs.declared.events.Entry.{Entry}
 use Rattle.sd_types.specs.declared.events.Event.{Event}
 use Rattle.sd_types.specs.declared.events.Event.TheVariants.{Tick, Spin, Idle, Dispatch, Steal, Preempt, Yield, Done, Nap, Napend, Sleep, Wake, Wakeall, Rouse, Enter, Read, Write, Block, Will, End as WalkEnd, Exit, Unblock, Grant, Passed, Age, Prio, CvWait, SemaP, SemaWait, SemaVWake, SemaVCount, Assign, Move, Joined, Bind, Away}
 use Rattle.sd_types.specs.declared.events.PrioAnswer.{PrioAnswer}
@@ -36,19 +33,19 @@ use Rattle.sd_full.specs.Events.{after}
 use Rattle.sd_full.specs.Requeueing.{requeue}
 use Rattle.sd_full.specs.Runs.{final}
 use Rattle.sd_full.specs.SetChanges.{bound_put, unbound_put, bind_put, bind_to}
-use Rattle.sd_full.specs.Threads.{best_sleeper, is_asleep, is_due, is_ts, next_to_age, runner, eff_of}
+use Rattle.sd_full.specs.Threads.{best_sleeper, is_asleep, is_ts, next_to_age, runner, eff_of}
 use Rattle.sd_sound.specs.Causes.{IsRequeuedAt, IsAnswered, IsCause}
 use Rattle.sd_sound.specs.Laws.{woken_by}
-use Rattle.sd_sound.specs.Moves.{Step, put_step_if, woken_step, reordered_step, aged_step, prio_step, bind_step, step_of}
+use Rattle.sd_sound.specs.Moves.{Step, put_step_if, reordered_step, aged_step, prio_step, bind_step, step_of}
 use Rattle.sd_sound.specs.Moves.Step.{Stay, Go}
 use Rattle.sd_sound.proofs.AgreedAfter.{IsReady}
-use Rattle.sd_sound.proofs.Found.{runner_found, ready_found, queued_found, unbound_found, due_found, age_found}
+use Rattle.sd_sound.proofs.Found.{runner_found, ready_found, queued_found, unbound_found, age_found}
 use Rattle.sd_sound.proofs.Movers.{bind_put_is}
 use Rattle.sd_sound.proofs.PlaceTable.{Stepped}
 use Rattle.sd_sound.proofs.Searches.{sleeper_some}
 use Rattle.sd_sound.proofs.Works.{first_of_two}
-use Rattle.sd_history.specs.Laws.{put_to_sleep, in_vain, NoneInVain, NoWakeOfNone, SleepersSleepUntilWoken, WaitersSleepUntilWoken}
-use Rattle.sd_history.proofs.Carried.{IsCarried, IsMet, carried_from, met_from, IsSplit, split}
+use Rattle.sd_history.specs.Laws.{put_to_sleep, finds_nobody, SleepersSleepUntilWoken, WaitersSleepUntilWoken}
+use Rattle.sd_history.proofs.Carried.{IsCarried, IsMet, carried_from, met_from, split}
 use Rattle.sd_history.proofs.Runnable.{steps_after}
 
 abbrev pub sleeps : Place → Bool
@@ -244,7 +241,7 @@ someone_asleep s t k key asleep =
     let same : (k.0 == k.0) ≡ true = grind (arith, nat_tests) in
     sleeper_some s k.0 t (asleep_inside s t (ap sleeps asleep)) (ap (is_asleep k.0) asleep ∙ same)
 
-pub found : (w : Work) (u : ℕ) (k : ChanId) (key : ℤ) → IsMet w (λ s. (thread_of s u).place ≡ Asleep k key) (λ e. in_vain e ≢ Some k)
+pub found : (w : Work) (u : ℕ) (k : ChanId) (key : ℤ) → IsMet w (λ s. (thread_of s u).place ≡ Asleep k key) (λ e. finds_nobody e ≢ Some k)
 found w u k key s c (Wake t j None) ready cause asleep = λ is. someone_asleep s u k key asleep (subst (λ (x : ChanId). best_sleeper s x.0 ≡ None) (same_Some j k is) cause.1)
 found w u k key s c (SemaVCount t j m) ready cause asleep = λ is. someone_asleep s u k key asleep (subst (λ (x : ChanId). best_sleeper s x.0 ≡ None) (same_Some j k is) cause.1)
 found w u k key s c _ ready cause asleep = λ is. cc
@@ -265,14 +262,13 @@ sleepers_law = λ w es more e t k run puts unwoken.
     let at = split w es more e run in
     let r : State = after w (final w (opening w) es) e.number e.cpu e.event in
     let asleep : (thread_of r t.0).place ≡ Asleep k (back_key e.number) = falls w (final w (opening w) es) e.number e.cpu e.event t k at.ready at.cause puts in
-    let stays = sleeper_carried w t.0 k (back_key e.number) in
-    (
+    let stays = sleeper_carried w t.0 k (back_key e.number) in (
       subst (λ x. (thread_of x t.0).place ≡ Asleep k (back_key e.number)) (sym at.ends)
           (carried_from w (λ s. (thread_of s t.0).place ≡ Asleep k (back_key e.number)) (λ x. woken_by x ≢ Some t.0) stays r _ more at.there asleep at.rest unwoken),
-      met_from w (λ s. (thread_of s t.0).place ≡ Asleep k (back_key e.number)) (λ x. woken_by x ≢ Some t.0) stays (λ x. in_vain x ≢ Some k) (found w t.0 k (back_key e.number)) r _ more at.there asleep at.rest unwoken,
+      met_from w (λ s. (thread_of s t.0).place ≡ Asleep k (back_key e.number)) (λ x. woken_by x ≢ Some t.0) stays (λ x. finds_nobody x ≢ Some k) (found w t.0 k (back_key e.number)) r _ more at.there asleep at.rest unwoken,
     )
 
 pub waiters_law : WaitersSleepUntilWoken
 waiters_law = λ w es more e t k m run waits unwoken.
     let (asleep, met) = sleepers_law w es more e t k run (ap put_to_sleep waits) unwoken in
-    (asleep, λ i d inside u is. met i d inside (ap in_vain is))
+    (asleep, λ i d inside u is. met i d inside (ap finds_nobody is))

@@ -1,7 +1,7 @@
 -- What is said of the entries of a run so far: of woken threads, of threads that sleep, and of the counts of semaphores.
 -- Source: Solaris Internals (sleep queues, cv_wait, cv_signal, sema_p, sema_v); that a semaphore is handed to its best
 -- sleeper directly is this project's own.
-use Rattle.std.specs.Prelude.{◌≡◌, ◌≢◌, ℕ, ◌+◌, Bool, true, false, List, ◌∷◌, ◌++◌, length, map, take, count_by, ◌==◌, slice_get, slice_index_or, ℤ, Option, Some, None, is_some}
+use Rattle.std.specs.Prelude.{◌≡◌, ◌≢◌, ℕ, ◌+◌, ◌≤◌, Bool, true, false, List, ◌∷◌, ◌++◌, length, map, take, count_by, ◌==◌, slice_get, slice_index_or, ℤ, Option, Some, None, is_some}
 use Rattle.std.specs.List.{All, range_with_len, sum_by}
 use Rattle.sd_types.specs.declared.numbers.ChanId.{ChanId}
 use Rattle.sd_types.specs.declared.numbers.LockId.{LockId}
@@ -45,9 +45,9 @@ abbrev pub NoneStops : ℕ → List Entry → Type 0
 NoneStops t es = All (λ e. stopped_by e.event ≢ Some t) es
 
 -- on a dispatch queue, or running
-abbrev pub is_live : Place → Bool
-is_live (Running c) = true
-is_live place = is_runnable place
+abbrev pub runs_or_is_runnable : Place → Bool
+runs_or_is_runnable (Running c) = true
+runs_or_is_runnable place = is_runnable place
 
 -- the accounts count an event as a wake of a thread exactly where it wakes that thread, and the summary counts it as a wake
 -- exactly where it wakes a thread
@@ -60,7 +60,7 @@ WakesAreCounted =
 abbrev pub WokenStayRunnable : Type 0
 WokenStayRunnable =
     (w : Work) (es more : List Entry) (e : Entry) (t : ℕ) → IsRun w (es ++ e ∷ more) → is_wake_of t e.event ≡ true → NoneStops t more
-    → is_live (thread_of (final w (opening w) (es ++ e ∷ more)) t).place ≡ true
+    → runs_or_is_runnable (thread_of (final w (opening w) (es ++ e ∷ more)) t).place ≡ true
 
 -- Threads that sleep.
 
@@ -75,22 +75,22 @@ put_to_sleep _ = None
 abbrev pub NoneWakes : ℕ → List Entry → Type 0
 NoneWakes t es = All (λ e. woken_by e.event ≢ Some t) es
 
--- a wakeup of a channel that finds nobody asleep on it: a wake of nobody, or a semaphore that is counted up
-abbrev pub in_vain : Event → Option ChanId
-in_vain (Wake t k None) = Some k
-in_vain (SemaVCount t k m) = Some k
-in_vain _ = None
+-- the channel of a wakeup that finds nobody asleep on it: a wake of nobody, or a semaphore that is counted up
+abbrev pub finds_nobody : Event → Option ChanId
+finds_nobody (Wake t k None) = Some k
+finds_nobody (SemaVCount t k m) = Some k
+finds_nobody _ = None
 
 -- no entry of the list is a wakeup of channel k that finds nobody
-abbrev pub NoneInVain : ChanId → List Entry → Type 0
-NoneInVain k es = All (λ e. in_vain e.event ≢ Some k) es
+abbrev pub NoneFindsNobody : ChanId → List Entry → Type 0
+NoneFindsNobody k es = All (λ e. finds_nobody e.event ≢ Some k) es
 
 -- from an entry that puts thread t to sleep on channel k, as long as no entry wakes it, t is asleep on k, with the key of
 -- that entry; and no wakeup of k finds nobody
 abbrev pub SleepersSleepUntilWoken : Type 0
 SleepersSleepUntilWoken =
     (w : Work) (es more : List Entry) (e : Entry) (t : ThreadId) (k : ChanId) → IsRun w (es ++ e ∷ more) → put_to_sleep e.event ≡ Some (t, k) → NoneWakes t.0 more
-    → ((thread_of (final w (opening w) (es ++ e ∷ more)) t.0).place ≡ Asleep k (back_key e.number)) × NoneInVain k more
+    → ((thread_of (final w (opening w) (es ++ e ∷ more)) t.0).place ≡ Asleep k (back_key e.number)) × NoneFindsNobody k more
 
 -- no entry of the list is a wake of channel k that wakes nobody
 abbrev pub NoWakeOfNone : ChanId → List Entry → Type 0
@@ -161,13 +161,17 @@ SemaphoresBalance w s =
     (k : ℕ) → is_sema (chan_kind w k) ≡ true
     → count_of s k + ops_done (is_sema_p k) w s ≡ declared_count w k + ops_done (is_sema_v k) w s + sleepers_on w s k
 
+-- so the count of a semaphore is at most its first count and the operations that gave it
+abbrev pub SemaphoresAreBounded : Work → State → Type 0
+SemaphoresAreBounded w s = (k : ℕ) → count_of s k ≤ declared_count w k + ops_done (is_sema_v k) w s
+
 -- no entry of the list hands semaphore k to thread t
 abbrev pub NoneHands : ChanId → ThreadId → List Entry → Type 0
 NoneHands k t es = All (λ e. (u : ThreadId) (at : Put) → e.event ≢ SemaVWake u k t at) es
 
--- from an entry that puts thread t to sleep on semaphore k, as long as no `semav` hands k to it, t is asleep on k, and no
+-- from an entry where thread t goes to sleep on semaphore k, as long as no `semav` hands k to it, t is asleep on k, and no
 -- `semav` of k counts it up
 abbrev pub SemaphoreWaitersSleepUntilHanded : Type 0
 SemaphoreWaitersSleepUntilHanded =
     (w : Work) (es more : List Entry) (e : Entry) (t : ThreadId) (k : ChanId) → IsRun w (es ++ e ∷ more) → e.event ≡ SemaWait t k → NoneHands k t more
-    → ((thread_of (final w (opening w) (es ++ e ∷ more)) t.0).place ≡ Asleep k (back_key e.number)) × NoneInVain k more
+    → ((thread_of (final w (opening w) (es ++ e ∷ more)) t.0).place ≡ Asleep k (back_key e.number)) × NoneFindsNobody k more

@@ -6,6 +6,7 @@
 mod laws;
 
 pub use laws::{
-    semaphore_sleepers_wait_at_zero, semaphore_waiters_sleep_until_handed, semaphores_are_counted, semaphores_balance, sleepers_sleep_until_woken,
+    semaphore_sleepers_wait_at_zero, semaphore_waiters_sleep_until_handed, semaphores_are_bounded,
+    semaphores_are_counted, semaphores_balance, sleepers_sleep_until_woken,
     waiters_sleep_until_woken, wakes_are_counted, woken_stay_runnable,
 };

@@ -26,7 +26,7 @@ use Rattle.sd_cycles.proofs.StateGraphs.{waits_inside}
 use Rattle.sd_rounds.specs.declared.orders.Turns.{Turns}
 use Rattle.sd_rounds.specs.Orders.{orders_of}
 use Rattle.sd_rounds.proofs.CompleteLemmas.{complete_of}
-use Rattle.sd_program.specs.TheRun.{final_state, WokenAreLive, IsTheRun, IsOpen}
+use Rattle.sd_program.specs.TheRun.{final_state, WokenAreRunnable, IsTheRun, IsOpen}
 
 -- a run leads to its final state
 reached_end : (w : Work) (es : List Entry) → IsRun w es → IsReached w (length es) (final_state w es)
@@ -43,7 +43,7 @@ reached_at : (w : Work) (es : List Entry) (k : ℕ) → IsRun w es → IsReached
 reached_at w es k run = reached_end w (take k es) (run_front w (take k es) (drop k es) (run_split w es k run))
 
 -- woken threads, on the way
-woken_on : (w : Work) (es : List Entry) → IsRun w es → WokenAreLive w es
+woken_on : (w : Work) (es : List Entry) → IsRun w es → WokenAreRunnable w es
 woken_on w es run before more rest e t is wakes none =
     let parts : before ++ e ∷ (more ++ rest) ≡ (before ++ e ∷ more) ++ rest = sym (append_assoc before (e ∷ more) rest) in
     runnable_law w before more e t (run_front w (before ++ e ∷ more) rest (subst (λ (xs : List Entry). IsRun w xs) (is ∙ parts) run)) wakes none

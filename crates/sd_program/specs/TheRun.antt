@@ -15,7 +15,7 @@ use Rattle.sd_full.specs.Threads.{eff_of}
 use Rattle.sd_laws.specs.Laws.{MarksStand}
 use Rattle.sd_belonging.specs.Belonging.{EachInOnePlace, ThreadsBelong}
 use Rattle.sd_inheritance.specs.Laws.{NobodyWalks, PrioritiesAreMaxima}
-use Rattle.sd_history.specs.Laws.{NoneStops, is_live}
+use Rattle.sd_history.specs.Laws.{NoneStops, runs_or_is_runnable}
 use Rattle.sd_audit.specs.Audits.{IsJournal}
 use Rattle.sd_rounds.specs.Orders.{orders_of}
 use Rattle.sd_rounds.specs.declared.orders.Turns.{Turns}
@@ -26,10 +26,10 @@ final_state w es = final w (opening w) es
 
 -- from an entry that the accounts count as a wake of a thread, as long as no entry stops it, the thread is on a dispatch
 -- queue or runs
-abbrev pub WokenAreLive : Work → List Entry → Type 0
-WokenAreLive w es =
+abbrev pub WokenAreRunnable : Work → List Entry → Type 0
+WokenAreRunnable w es =
     (before more rest : List Entry) (e : Entry) (t : ℕ) → es ≡ before ++ e ∷ (more ++ rest) → is_wake_of t e.event ≡ true → NoneStops t more
-    → is_live (thread_of (final_state w (before ++ e ∷ more)) t).place ≡ true
+    → runs_or_is_runnable (thread_of (final_state w (before ++ e ∷ more)) t).place ≡ true
 
 -- The entries are those of the run that goes in rounds in which the processors take these turns: a complete legal run,
 -- at whose end each processor has counted the ticks of the limit.
@@ -44,7 +44,7 @@ pub record IsTheRun (w : Work) (turns : Turns) (es : List Entry) : Type 0 where
   pub belong : (k : ℕ) → ThreadsBelong w (state_at w es k)
   pub marks : (k : ℕ) → MarksStand (state_at w es k)
   -- a woken thread is on a dispatch queue or runs, until it stops again;
-  pub woken : WokenAreLive w es
+  pub woken : WokenAreRunnable w es
   -- where no processor walks along a chain of owners, the effective priority of each thread that is in no blocking cycle is
   -- the maximum of the base priorities of itself and of all threads blocked behind it;
   pub priorities : (k : ℕ) → PrioritiesAreMaxima (state_at w es k)
