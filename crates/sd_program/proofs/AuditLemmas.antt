@@ -1,9 +1,8 @@
 -- What the answers to `audit` give.
-use Rattle.std.proofs.Common.{◌≡◌, ℕ, ◌+◌, ◌<◌, ◌≤◌, List, length, Some, None, Result, Ok, Err, refl, sym, ap, subst, ◌∙◌, ◌⊎◌, inl, inr, arith}
+use Rattle.std.proofs.Common.{◌≡◌, ℕ, ◌≤◌, List, length, Some, Result, Err, refl, sym, ap, subst, ◌∙◌, inl, inr, arith}
 use Rattle.std.specs.Result.{IsErrAnd}
 use Rattle.std.proofs.lemmas.Result.{err_from_is_err_and}
 use Rattle.sd_types.specs.declared.works.Work.{Work}
-use Rattle.sd_machine.specs.declared.states.State.{State}
 use Rattle.sd_declare.specs.declared.causes.WorkCause.{WorkCause}
 use Rattle.sd_workload.specs.Accepted.{Accepted, FirstCause}
 use Rattle.sd_cut.specs.Cuts.{HasNoJournal, IsCut}
@@ -19,10 +18,9 @@ use Rattle.sd_answers.specs.declared.answers.Answer.TheVariants.{Done, Usage, To
 use Rattle.sd_answers.specs.declared.writing.Unwritten.{Unwritten}
 use Rattle.sd_answers.specs.declared.writing.Unwritten.TheVariants as unwritten
 use Rattle.sd_answers.specs.Answers.{status_of, answer_of, audit_answer, audit_fault, unwritten_answer}
-use Rattle.sd_answers.specs.Inputs.{most_bytes, most_certificate, HasRead, HasParts, IsCertificate, IsNoCertificate}
-use Rattle.sd_answers.specs.StreamChanges.{StreamChange, HasFault, HasNoFault, IsUntouched, Puts}
+use Rattle.sd_answers.specs.Inputs.{most_certificate, HasRead, HasParts, IsCertificate, IsNoCertificate}
+use Rattle.sd_answers.specs.StreamChanges.{StreamChange, IsUntouched, Puts}
 use Rattle.sd_answers.proofs.InputLemmas.{taken_within, taken_all, at_most_of}
-use Rattle.sd_program.specs.declared.forms.Command.{Command}
 use Rattle.sd_program.specs.declared.forms.Command.TheVariants.{Audit}
 use Rattle.sd_program.specs.Forms.{command_of}
 use Rattle.sd_program.specs.Headline.{CausedBy, Caused}
@@ -61,7 +59,7 @@ certifies_of input out (NotAJournal fault) c s = absurd (omega arith)
 certifies_of input out TooLong c s = absurd (omega arith)
 
 pub faulty_of : (input out : StreamChange) (a : Answer) → CausedByAudit input out a → status_of a ≡ 7 → RefusesJournal input out
-faulty_of input out (NotAJournal fault) c s = (fault, c)
+faulty_of input out (NotAJournal fault) c s = (fault, c.0, c.1)
 faulty_of input out Done c s = absurd (omega arith)
 faulty_of input out Usage c s = absurd (omega arith)
 faulty_of input out TooLarge c s = absurd (omega arith)
@@ -124,7 +122,7 @@ sound_text : (input : StreamChange) (bytes text : List ℕ) (fault : JournalFaul
 sound_text input bytes text fault is cert f =
     let j = its_property input bytes text (IsJournalOf text) is cert f.work f.text f.certificate in
     not_memory fault
-    (no_fault f.work text j.0 j.1.0 (audit_fault fault) j.1.1
+    (no_fault f.work text j.0 j.1 (audit_fault fault) j.2
     (subst (λ t. IsFault f.work t (audit_fault fault)) (its_text input bytes text (IsJournalOf text) is cert f.work f.text f.certificate) f.is))
 
 pub completes_audit_of : (input out : StreamChange) (a : Answer) → CausedByAudit input out a → CompletesAudit input out (status_of a)
@@ -145,7 +143,7 @@ completes_audit_of input out (NotAJournal fault) c = λ sound told bytes text is
 faulty_text : (input : StreamChange) (bytes text : List ℕ) (n : ℕ) → input.before ≡ Some bytes → Certifies bytes text (λ w. IsJournalOf text w → ⊥) → IsLegal input n → ⊥
 faulty_text input bytes text n is cert l =
     its_property input bytes text (λ w. IsJournalOf text w → ⊥) is cert l.work l.text l.certificate
-    (l.final, (n, subst (λ t. IsJournal l.work t l.final n) (its_text input bytes text (λ w. IsJournalOf text w → ⊥) is cert l.work l.text l.certificate) l.journal))
+    (l.final, n, subst (λ t. IsJournal l.work t l.final n) (its_text input bytes text (λ w. IsJournalOf text w → ⊥) is cert l.work l.text l.certificate) l.journal)
 
 pub refuses_faulty_of : (input out : StreamChange) (a : Answer) → CausedByAudit input out a → RefusesFaulty input (status_of a)
 refuses_faulty_of input out Done c = λ sound bytes text is cert. absurd (faulty_text input bytes text c.0 is cert c.1)

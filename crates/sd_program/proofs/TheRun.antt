@@ -1,24 +1,22 @@
 -- The run that goes in rounds is complete and legal, and what holds of it.
-use Rattle.std.proofs.Common.{◌≡◌, ℕ, ◌+◌, ◌<◌, ◌^◌, List, [], ◌∷◌, ◌++◌, length, take, drop, append_assoc, refl, sym, ap, subst, ◌∙◌, arith}
+use Rattle.std.proofs.Common.{◌≡◌, ℕ, ◌<◌, ◌^◌, List, [], ◌∷◌, ◌++◌, length, take, drop, append_assoc, refl, sym, ap, subst, ◌∙◌, arith}
 use Rattle.std.specs.List.{Contains}
 use Rattle.std.proofs.lemmas.List.{take-append-drop}
 use Rattle.sd_types.specs.declared.events.Entry.{Entry}
 use Rattle.sd_types.specs.declared.works.Work.{Work}
 use Rattle.sd_chains.specs.Cycles.{IsCycle}
 use Rattle.sd_chains.specs.Listing.{ListsCycles}
-use Rattle.sd_machine.specs.Accounts.{is_wake_of}
 use Rattle.sd_machine.specs.Opening.{opening}
 use Rattle.sd_machine.specs.declared.states.State.{State}
 use Rattle.sd_full.specs.LockGraph.{graph, cycles_of}
-use Rattle.sd_full.specs.Runs.{final, state_at, IsRun, IsSerial, IsReached}
-use Rattle.sd_full.proofs.RunLemmas.{IsRun-from, from-IsRun, IsRunFrom-front, IsRunFrom-take}
+use Rattle.sd_full.specs.Runs.{state_at, IsRun, IsSerial, IsReached}
+use Rattle.sd_full.proofs.RunLemmas.{IsRun-from, from-IsRun, IsRunFrom-front}
 use Rattle.sd_sound.specs.Laws.{HasSmallCounts}
 use Rattle.sd_range.proofs.Complete.{complete_at_limit}
 use Rattle.sd_belonging.proofs.All.{threads_belong}
 use Rattle.sd_belonging.proofs.Marks.{marks_stand}
 use Rattle.sd_belonging.proofs.OnePlace.{one_place}
 use Rattle.sd_inheritance.proofs.Runs.{cycles_law, maxima_law, without_law}
-use Rattle.sd_history.specs.Laws.{NoneStops}
 use Rattle.sd_history.proofs.Runnable.{runnable_law}
 use Rattle.sd_certified.proofs.HintLemmas.{serial_journal}
 use Rattle.sd_chains.proofs.CycleLemmas.{lists_cycles}

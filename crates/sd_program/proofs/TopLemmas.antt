@@ -1,47 +1,37 @@
 -- What the answers' causes give.
-use Rattle.std.proofs.Common.{◌≡◌, ◌≢◌, ℕ, ◌+◌, ◌<◌, ◌≤◌, List, [], ◌∷◌, length, take, Option, Some, None, Result, Ok, Err, refl, sym, ap, subst, ◌∙◌, inl, inr, arith}
-use Rattle.std.proofs.lemmas.List.{length-append, append-nil, take_all}
-use Rattle.std.specs.Io.KnownBytes.{Consumes, IsAtEnd, Appends}
+use Rattle.std.proofs.Common.{◌≡◌, ℕ, ◌<◌, ◌≤◌, List, length, Some, None, Result, Ok, Err, refl, sym, ap, subst, ◌∙◌, inl, inr, arith}
+use Rattle.std.proofs.lemmas.List.{take_all}
+use Rattle.std.specs.Io.KnownBytes.{Appends}
 use Rattle.sd_types.specs.declared.works.Work.{Work}
-use Rattle.std.specs.Prelude.{OnOk, OnErr, IfErr, ◌⊎◌, ◌↔◌}
+use Rattle.std.specs.Prelude.{IfErr, ◌⊎◌, ◌↔◌}
 use Rattle.std.specs.Result.{IsErrOf, IsErrAnd}
 use Rattle.std.proofs.lemmas.Result.{err_from_is_err_and}
 use Rattle.std.proofs.lemmas.Option.{same_Some}
-use Rattle.sd_machine.specs.declared.states.State.{State}
-use Rattle.std.specs.declared.vec.Vec.{Vec}
-use Rattle.std.specs.declared.alloc.Global.{Global}
 use Rattle.sd_types.specs.declared.events.Entry.{Entry}
 use Rattle.sd_types.specs.declared.events.Stop.{Stop}
 use Rattle.sd_types.specs.declared.events.Stop.TheVariants as stop
-use Rattle.sd_text.specs.Reading.{TakesUpTo}
-use Rattle.sd_text.specs.declared.read.ReadAllFault.{ReadAllFault}
-use Rattle.sd_text.specs.declared.read.ReadAllFault.TheVariants as read
 use Rattle.sd_declare.specs.declared.causes.WorkCause.{WorkCause}
 use Rattle.sd_workload.specs.Accepted.{Accepted, FirstCause}
-use Rattle.sd_workload.specs.Places.{IsFault}
-use Rattle.sd_workload.specs.Texts.{verdict_of}
-use Rattle.sd_workload.specs.declared.fault.WorkFault.{WorkFault}
-use Rattle.sd_workload.specs.declared.fault.WorkFault.TheVariants as work
 use Rattle.sd_rounds.specs.declared.rounds.Finished.{Finished}
 use Rattle.sd_rounds.specs.Orders.{orders_of}
 use Rattle.sd_rounds.specs.Rounds.{IsLongSerial}
 use Rattle.sd_gen.specs.Generated.{generated}
 use Rattle.sd_program.specs.declared.forms.Form.{Form}
 use Rattle.sd_program.specs.declared.forms.Command.{Command}
-use Rattle.sd_program.specs.declared.forms.Command.TheVariants.{Run, Tables, Generate, Audit}
+use Rattle.sd_program.specs.declared.forms.Command.TheVariants.{Run, Tables, Generate}
 use Rattle.sd_canonical.specs.Blocks.{tables_text}
 use Rattle.sd_answers.specs.declared.writing.Unwritten.{Unwritten}
 use Rattle.sd_answers.specs.declared.writing.Unwritten.TheVariants as unwritten
 use Rattle.sd_answers.specs.declared.answers.Answer.{Answer}
 use Rattle.sd_answers.specs.declared.answers.Answer.TheVariants.{Done, Usage, TooLarge, TooLargeToAudit, NoJournal, Refused, ReadFault, WriteFault, OutOfMemory, Blocked, NotAJournal, TooLong}
-use Rattle.sd_answers.specs.Answers.{status_of, line_of, answer_of, read_answer, work_answer, stop_answer, unwritten_answer}
-use Rattle.sd_answers.specs.StreamChanges.{StreamChange, HasFault, HasNoFault, IsUntouched, AppendsPart, Puts}
+use Rattle.sd_answers.specs.Answers.{status_of, line_of, answer_of, stop_answer, unwritten_answer}
+use Rattle.sd_answers.specs.StreamChanges.{StreamChange, HasFault, IsUntouched, Puts}
 use Rattle.sd_program.specs.Forms.{command_of, turns_of, text_of}
 use Rattle.sd_program.specs.RunAnswers.{Writes, Ran}
 use Rattle.sd_program.specs.TheRun.{IsTheRun}
-use Rattle.sd_answers.specs.Inputs.{most_bytes, HasAtMost, HasRead, HasTooMany, IsWorkload, IsNoWorkload, IsRefused}
+use Rattle.sd_answers.specs.Inputs.{most_bytes, HasTooMany, IsWorkload, IsNoWorkload, IsRefused}
 use Rattle.sd_answers.proofs.InputLemmas.{taken_within, taken_all, at_most_of}
-use Rattle.sd_program.specs.Headline.{RanInput, CausedByInput, PrintsTables, CausedByTables, CausedByNumber, CausedBy, Caused, Tells, Completes, CompletesTables, Refuses, KeepsPromises}
+use Rattle.sd_program.specs.Headline.{RanInput, CausedByInput, PrintsTables, CausedByTables, CausedByNumber, CausedBy, Caused, Tells, Completes, CompletesTables, Refuses}
 
 -- what the arguments ask for is one thing
 pub same_command : (arguments : List (List ℕ)) (j k : Command) → command_of arguments ≡ Some j → command_of arguments ≡ Some k → j ≡ k

@@ -74,7 +74,7 @@ pub record Certifies (bytes text : List ℕ) (P : Work → Type 0) : Type 0 wher
 
 -- the text is the journal of a complete run of the workload
 abbrev pub IsJournalOf : List ℕ → Work → Type 0
-IsJournalOf text w = (s : State) × ((n : ℕ) × IsJournal w text s n)
+IsJournalOf text w = (s : State) × (n : ℕ) × IsJournal w text s n
 
 -- a text that is the journal of a complete run is found to be, unless memory runs out
 abbrev pub CompletesAudit : StreamChange → StreamChange → ℕ → Type 0
@@ -92,7 +92,7 @@ RefusesFaulty input status =
 abbrev pub IsNone : List ℕ → Type 0
 IsNone bytes =
     (most_certificate < length bytes)
-    ⊎ (HasNoJournal bytes ⊎ ((before : List ℕ) × ((text : List ℕ) × (IsCut bytes before text × ((most_bytes < length before) ⊎ ((w : Work) → Accepted before w → ⊥))))))
+    ⊎ (HasNoJournal bytes ⊎ ((before : List ℕ) × (text : List ℕ) × IsCut bytes before text × ((most_bytes < length before) ⊎ ((w : Work) → Accepted before w → ⊥))))
 
 abbrev pub RefusesCertificate : StreamChange → ℕ → Type 0
 RefusesCertificate input status = (HasFault input → ⊥) → (bytes : List ℕ) → input.before ≡ Some bytes → IsNone bytes → (status ≡ 2) ⊎ (status ≡ 5)

@@ -1,7 +1,5 @@
-use Rattle.std.proofs.Common.{◌≡◌, ◌≢◌, Bool, true, false, List, ℕ, [], ◌∷◌, Ok, Err, refl, sym, ap, subst, ◌∙◌}
+use Rattle.std.proofs.Common.{◌≡◌, ◌≢◌, List, ℕ, [], ◌∷◌, Err, refl, sym, ap, subst, ◌∙◌}
 use Rattle.std.proofs.lemmas.Bool.{false≢true}
-use Rattle.std.specs.Prelude.{IsErrOf}
-use Rattle.sd_types.specs.declared.events.Stop.TheVariants.{Full}
 use Rattle.sd_types.specs.declared.events.Entry.{Entry}
 use Rattle.sd_machine.specs.declared.states.State.{State}
 use Rattle.sd_machine.specs.Opening.{opening}
@@ -10,9 +8,7 @@ use Rattle.sd_full.specs.Runs.{final}
 use Rattle.sd_rounds.specs.Orders.{orders_of}
 use Rattle.sd_rounds.specs.Rounds.{IsLongSerial}
 use Rattle.sd_rounds.specs.declared.orders.Turns.{Turns}
-use Rattle.sd_rounds.specs.declared.rounds.Finished.{Finished}
 use Rattle.sd_answers.specs.Answers.{stop_answer, unwritten_answer}
-use Rattle.sd_program.specs.Forms.{turns_of}
 use Rattle.sd_program.specs.TheRun.{IsTheRun}
 use Rattle.sd_answers.specs.StreamChanges.{change_of}
 use Rattle.sd_program.proofs.TopLemmas.{stopped_of, unwritten_of, ran_exit}

@@ -1,4 +1,4 @@
-use Rattle.std.proofs.Common.{◌≡◌, List, ℕ, [], ◌++◌, ap, subst, sym, ◌∙◌}
+use Rattle.std.proofs.Common.{◌≡◌, List, ℕ, ◌++◌, ap, subst, ◌∙◌}
 use Rattle.sd_machine.specs.Opening.{opening}
 use Rattle.sd_full.specs.Runs.{final}
 use Rattle.sd_full.specs.Texts.{summary, summary_of}
