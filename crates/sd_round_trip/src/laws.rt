@@ -1,12 +1,8 @@
 //! What the canonical spelling of a workload is accepted as: laws, with nothing to run.
 
 ghost use Rattle.std.specs.Prelude.{ℕ, List};
-ghost use Rattle.std.specs.Prelude.{◌≡◌};
 ghost use Rattle.sd_types.specs.declared.works.Work.{Work};
-ghost use Rattle.sd_declare.specs.Declarations.{Declarations};
 ghost use Rattle.sd_workload.specs.Accepted.{Accepted};
-ghost use Rattle.sd_workload.specs.Texts.{Accepts, verdict_of};
-ghost use Rattle.sd_gen.specs.Generated.{generated};
 ghost use Rattle.sd_canonical.specs.Canonical.{canonical};
 ghost use Rattle.sd_round_trip.specs.Valid.{IsValid};
 
@@ -18,9 +14,4 @@ pub fn canonical_texts_are_accepted()
 /// A workload as which a text is accepted is valid.
 pub fn accepted_works_are_valid()
     ensures { (text : List ℕ) (w : Work) → Accepted text w → IsValid w }
-{}
-
-/// No line of a generated workload is at fault: each declares a workload.
-pub fn generated_texts_are_accepted()
-    ensures { (n : ℕ) → (d : Declarations) × (verdict_of (generated n) ≡ Accepts d) }
 {}

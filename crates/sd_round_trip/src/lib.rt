@@ -3,6 +3,4 @@
 
 mod laws;
 
-pub use laws::{
-    accepted_works_are_valid, canonical_texts_are_accepted, generated_texts_are_accepted,
-};
+pub use laws::{accepted_works_are_valid, canonical_texts_are_accepted};

@@ -1,0 +1,6 @@
+//! Which texts are accepted as workloads: each that has no first cause, and each generated one.
+#![tactic(auto)]
+
+mod laws;
+
+pub use laws::{generated_texts_are_accepted, texts_are_accepted_or_refused};
