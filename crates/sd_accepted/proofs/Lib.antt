@@ -5,3 +5,5 @@ pub mod DrawnScriptLemmas
 pub mod DrawnWholeLemmas
 pub mod MadeLemmas
 pub mod AnswerLemmas
+pub mod PlainLemmas
+pub mod PlainLineLemmas

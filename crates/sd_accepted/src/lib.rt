@@ -3,4 +3,6 @@
 
 mod laws;
 
-pub use laws::{generated_texts_are_accepted, texts_are_accepted_or_refused};
+pub use laws::{
+    accepted_texts_are_plain, generated_texts_are_accepted, texts_are_accepted_or_refused,
+};
