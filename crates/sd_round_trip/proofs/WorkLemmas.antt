@@ -21,11 +21,12 @@ use Rattle.sd_lines.specs.Words.{Word}
 use Rattle.sd_declare.specs.Declarations.{Thread, Declarations, nothing}
 use Rattle.sd_declare.specs.Kept.{set_kept, lock_kept, chan_kept, thread_kept}
 use Rattle.sd_declare.proofs.PlaceLemmas.{sum_kept}
-use Rattle.sd_workload.specs.Accepted.{Accepted, IsWork}
+use Rattle.sd_workload.specs.Accepted.{Accepted, HaveSameParts, IsWork}
 use Rattle.sd_workload.specs.Sound.{named_cpus}
 use Rattle.sd_workload.specs.Texts.{Outside, is_too_many, end_causes, end_cause, unless_refused, Accepts, judged}
 use Rattle.sd_workload.proofs.JudgedLemmas.{judged-end}
 use Rattle.sd_workload.proofs.NameLemmas.{both, all-more}
+use Rattle.sd_workload.proofs.OneLemmas.{one-work}
 use Rattle.sd_canonical.specs.Blocks.{tables_text}
 use Rattle.sd_canonical.specs.Canonical.{script_text, canonical}
 use Rattle.sd_round_trip.specs.Valid.{IsValid}
@@ -192,3 +193,7 @@ canonical-accepted w v =
           ∙ judged-end p.0 (at-end w) Outside [] refl ∙ ap (λ c. unless_refused p.0 c (Accepts (at-end w))) (end-free w);
       work = work-is w;
     }
+
+pub one-spelling : (w v : Work) → IsValid w → IsValid v → canonical w ≡ canonical v → HaveSameParts w v
+one-spelling w v p q e =
+    one-work (canonical w) w v (canonical-accepted w p) (subst (λ (text : List ℕ). Accepted text v) (sym e) (canonical-accepted v q))

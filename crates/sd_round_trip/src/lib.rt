@@ -3,4 +3,6 @@
 
 mod laws;
 
-pub use laws::{accepted_works_are_valid, canonical_texts_are_accepted};
+pub use laws::{
+    accepted_works_are_valid, canonical_texts_are_accepted, canonical_texts_tell_works,
+};
