@@ -1,7 +1,6 @@
 -- The blocks of tables are taken in.
-use Rattle.std.proofs.Common.{◌≡◌, ℕ, zero, suc, ◌+◌, ◌<◌, ◌≤◌, Bool, true, false, not, ◌&&◌, cond, nat_eq, List, [], ◌∷◌, ◌++◌, length, map, take, get_or, Option, Some, None, refl, sym, ap, ◌∙◌, subst, arith, append-nil, append_assoc, if◌then◌else◌}
+use Rattle.std.proofs.Common.{◌≡◌, ℕ, suc, ◌+◌, ◌<◌, Bool, true, false, not, ◌&&◌, nat_eq, List, [], ◌∷◌, ◌++◌, length, map, take, get_or, Some, None, refl, sym, ap, ◌∙◌, arith, append_assoc, if◌then◌else◌}
 use Rattle.std.specs.Prelude.{codes}
-use Rattle.std.specs.Option.{option_map}
 use Rattle.std.specs.List.{list_all, onto_first}
 use Rattle.std.proofs.lemmas.Bool.{false≢true}
 use Rattle.std.proofs.lemmas.Bool.Decides.{nat_tests}
@@ -12,7 +11,7 @@ use Rattle.sd_text.specs.Lines.{is_newline, lines_of, text_of_lines}
 use Rattle.sd_text.specs.Words.{words_of}
 use Rattle.sd_tables.specs.declared.columns.Column.{Column}
 use Rattle.sd_tables.specs.declared.fault.TableFault.TheVariants.{NotANumber}
-use Rattle.sd_tables.specs.TableText.{Format, IsTableText, word_lines, is_res_word, line_fault, fault_at, AreClean, has_rows}
+use Rattle.sd_tables.specs.TableText.{IsTableText, word_lines, is_res_word, line_fault, fault_at, AreClean, has_rows}
 use Rattle.sd_lines.specs.declared.statements.TableClass.{TableClass}
 use Rattle.sd_lines.specs.Words.{Word, Line, is_end, only_word}
 use Rattle.sd_lines.specs.Statements.{Table, statement_of}
@@ -20,7 +19,6 @@ use Rattle.sd_declare.specs.Declarations.{Declarations}
 use Rattle.sd_declare.specs.Statements.{is_table_given}
 use Rattle.sd_workload.specs.Texts.{Outside, InTable, format_of, with_table, judged}
 use Rattle.sd_workload.proofs.TableLemmas.{table-clean, table-closed}
-use Rattle.sd_workload.proofs.ClearLemmas.{IsClear}
 use Rattle.sd_workload.proofs.NameLemmas.{both}
 use Rattle.sd_canonical.specs.Canonical.{line_text}
 use Rattle.sd_round_trip.proofs.TextLemmas.{is_plain, are_plain, line-again}

@@ -1,13 +1,12 @@
 -- What the lines outside blocks say: each form is read as its statement.
-use Rattle.std.proofs.Common.{◌≡◌, ℕ, ℤ, ◌<◌, ◌≤◌, ◌^◌, Bool, true, false, ◌&&◌, cond, eqb, ltb, leb, List, [], ◌∷◌, ◌++◌, map, Option, Some, None, refl, sym, ap, ◌∙◌, arith}
+use Rattle.std.proofs.Common.{◌≡◌, ℕ, ◌<◌, ◌≤◌, ◌^◌, Bool, true, false, ◌&&◌, eqb, ltb, leb, List, [], ◌∷◌, ◌++◌, map, Option, Some, None, refl, ap, arith}
 use Rattle.std.specs.Prelude.{codes, nat_eq, int_le}
-use Rattle.std.specs.Option.{option_map, option_and_then}
+use Rattle.std.specs.Option.{option_map}
 use Rattle.std.specs.Char.{is_ascii_digit}
 use Rattle.std.specs.Str.{all_ascii_digits}
 use Rattle.std.specs.Str.Parse.{digits_value}
-use Rattle.std.specs.Fmt.{decimal, signed_decimal}
+use Rattle.std.specs.Fmt.{decimal}
 use Rattle.std.specs.List.{list_all}
-use Rattle.std.proofs.lemmas.Bool.{false≢true}
 use Rattle.std.proofs.lemmas.Bool.Decides.{nat_tests}
 use Rattle.std.proofs.lemmas.Str.Parse.{IsNumeralModel, numerals_by_value, tells_all_ascii_digits}
 use Rattle.std.proofs.lemmas.Fmt.{digits_decimal}
@@ -18,22 +17,20 @@ use Rattle.sd_types.specs.declared.classes.ClassParms.{ClassParms}
 use Rattle.sd_types.specs.declared.classes.ClassParms.TheVariants as parms
 use Rattle.sd_types.specs.declared.works.LockKind.{LockKind}
 use Rattle.sd_types.specs.declared.works.LockKind.TheVariants.{Mutex, Rwlock}
-use Rattle.sd_types.specs.NameWords.{is_letter, is_name}
-use Rattle.sd_types.specs.Works.{same_bytes, quantum_fits, class_fits, upri_fits, short_fits}
-use Rattle.sd_text.specs.Numbers.{number_of, signed_of}
+use Rattle.sd_types.specs.NameWords.{is_name}
+use Rattle.sd_types.specs.Works.{same_bytes, quantum_fits, class_fits, upri_fits}
 use Rattle.sd_text.proofs.LineLemmas.{both}
 use Rattle.sd_text.proofs.NumberLemmas.{number_of-decimal}
-use Rattle.sd_lines.specs.declared.statements.TableClass.{TableClass}
 use Rattle.sd_lines.specs.declared.statements.TableClass.TheVariants as table
 use Rattle.sd_lines.specs.declared.threads.ThreadClass.{ThreadClass}
 use Rattle.sd_lines.specs.declared.threads.ThreadClass.TheVariants.{Ts, Fx, Sys, Rt}
 use Rattle.sd_lines.specs.declared.words.QuantumWord.{QuantumWord}
 use Rattle.sd_lines.specs.declared.words.QuantumWord.TheVariants.{Def, Inf, Ticks}
-use Rattle.sd_lines.specs.Words.{Word, Line, name_of, quantum_of, first, only_word, only, behind, is_done, all_numbers}
-use Rattle.sd_lines.specs.Threads.{Thread, Options, thread, ts_words, fx_words, sys_words, rt_words, class_words as class_read, uid_option, priv_option, set_option, options, thread_line}
-use Rattle.sd_lines.specs.Statements.{Statement, Cpus, Hz, Limit, Set, Table, Lock, Chan, Sema, Declare, Script, table_class, set_line, sema_line, thread_statement, object_statement, setting_statement, statement_of}
+use Rattle.sd_lines.specs.Words.{Word, Line, quantum_of, first, only_word, behind, all_numbers}
+use Rattle.sd_lines.specs.Threads.{Options, thread, ts_words, fx_words, sys_words, rt_words, class_words as class_read, uid_option, priv_option, set_option, options, thread_line}
+use Rattle.sd_lines.specs.Statements.{Cpus, Hz, Limit, Set, Table, Lock, Chan, Sema, Declare, Script, table_class, set_line, sema_line, thread_statement, object_statement, setting_statement, statement_of}
 use Rattle.sd_canonical.specs.Lines.{setting_line, cpu_words, lock_word, quantum_word, class_words, priv_words}
-use Rattle.sd_round_trip.proofs.TextLemmas.{name-again, signed-again, upri-short}
+use Rattle.sd_round_trip.proofs.TextLemmas.{signed-again, upri-short}
 
 -- ---- settings
 

@@ -12,8 +12,3 @@ pub mod ScriptLemmas
 pub mod ScriptsLemmas
 pub mod WorkLemmas
 pub mod RangeLemmas
-pub mod DrawnLemmas
-pub mod DrawnThreadLemmas
-pub mod DrawnOpLemmas
-pub mod DrawnScriptLemmas
-pub mod DrawnWholeLemmas

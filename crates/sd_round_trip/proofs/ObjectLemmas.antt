@@ -1,5 +1,5 @@
 -- The lines of settings, locks and channels are taken in.
-use Rattle.std.proofs.Common.{◌≡◌, ℕ, ◌+◌, ◌<◌, ◌≤◌, ◌^◌, Bool, true, false, not, ◌&&◌, ◌||◌, eqb, leb, List, [], ◌∷◌, ◌++◌, length, map, Some, None, refl, sym, ap, ◌∙◌, subst, arith, append-nil, append_assoc, length-append}
+use Rattle.std.proofs.Common.{◌≡◌, ℕ, ◌<◌, ◌≤◌, ◌^◌, true, false, not, ◌&&◌, ◌||◌, eqb, leb, List, [], ◌∷◌, ◌++◌, length, map, Some, refl, sym, ap, ◌∙◌, subst, arith, append-nil, append_assoc, length-append}
 use Rattle.std.specs.Prelude.{codes}
 use Rattle.std.specs.Fmt.{decimal}
 use Rattle.std.specs.List.{list_all, flat_map}
@@ -12,22 +12,22 @@ use Rattle.sd_types.specs.declared.works.ChanKind.{ChanKind}
 use Rattle.sd_types.specs.declared.works.ChanKind.TheVariants as kind
 use Rattle.sd_types.specs.NameWords.{is_name}
 use Rattle.sd_types.specs.Works.{same_bytes}
-use Rattle.sd_lines.specs.Words.{Word, Line}
-use Rattle.sd_lines.specs.Statements.{Statement, Cpus, Hz, Limit, Lock, Chan, Sema}
+use Rattle.sd_lines.specs.Words.{Word}
+use Rattle.sd_lines.specs.Statements.{Cpus, Hz, Limit, Lock, Chan, Sema}
 use Rattle.sd_declare.specs.Declarations.{Declarations, nothing, lock_number, chan_number}
 use Rattle.sd_declare.specs.Kept.{lock_kept, chan_kept}
-use Rattle.sd_declare.specs.Statements.{statement_causes, lock_causes, chan_causes, with_chan, with_lock, with_statement}
+use Rattle.sd_declare.specs.Statements.{statement_causes, chan_causes, with_chan, with_lock}
 use Rattle.sd_workload.specs.Sound.{AreNamed}
 use Rattle.sd_workload.specs.Texts.{Outside}
 use Rattle.sd_workload.proofs.ClearLemmas.{IsClear}
 use Rattle.sd_workload.proofs.NameLemmas.{both}
-use Rattle.sd_canonical.specs.Lines.{setting_line, lock_word, lock_line, chan_words}
-use Rattle.sd_canonical.specs.Canonical.{line_text, settings_text, lock_text, chan_text}
+use Rattle.sd_canonical.specs.Lines.{setting_line, lock_word, chan_words}
+use Rattle.sd_canonical.specs.Canonical.{line_text, lock_text, chan_text}
 use Rattle.sd_round_trip.specs.Valid.{count_fits}
 use Rattle.sd_round_trip.proofs.TextLemmas.{is_plain, are_plain, name-plain, number-plain}
 use Rattle.sd_round_trip.proofs.TakesLemmas.{Takes, takes-nothing, takes-both, takes-line}
 use Rattle.sd_round_trip.proofs.FormLemmas.{cpus-form, hz-form, limit-form, lock-form, chan-form, sema-form}
-use Rattle.sd_round_trip.proofs.ListLemmas.{all-at, under, not-under, named-fresh, none-before}
+use Rattle.sd_round_trip.proofs.ListLemmas.{under, not-under, named-fresh, none-before}
 
 -- ---- settings
 

@@ -1,7 +1,7 @@
 -- What the lines of scripts say: each form is read as its operation.
-use Rattle.std.proofs.Common.{◌≡◌, ℕ, ℤ, ◌+◌, ◌<◌, ◌≤◌, ◌^◌, Bool, true, false, ◌&&◌, cond, eqb, ltb, leb, List, [], ◌∷◌, ◌++◌, length, Option, Some, None, refl, sym, ap, ◌∙◌, arith}
+use Rattle.std.proofs.Common.{◌≡◌, ℕ, ◌<◌, ◌^◌, Bool, true, false, ◌&&◌, eqb, ltb, leb, [], ◌∷◌, length, Option, Some, None, refl, arith}
 use Rattle.std.specs.Prelude.{codes}
-use Rattle.std.specs.Fmt.{decimal, signed_decimal}
+use Rattle.std.specs.Fmt.{decimal}
 use Rattle.std.specs.List.{list_all}
 use Rattle.std.specs.Char.{is_ascii_digit}
 use Rattle.std.specs.Str.{all_ascii_digits}
@@ -11,18 +11,17 @@ use Rattle.sd_types.specs.declared.classes.Class.{Class}
 use Rattle.sd_types.specs.declared.classes.Class.TheVariants as class
 use Rattle.sd_types.specs.declared.scripts.Request.{Request}
 use Rattle.sd_types.specs.NameWords.{is_letter, is_name_byte, is_name}
-use Rattle.sd_types.specs.Works.{same_bytes, quantum_fits, short_fits, unused_fit}
-use Rattle.sd_text.specs.Numbers.{number_of, signed_of}
+use Rattle.sd_types.specs.Works.{same_bytes, quantum_fits, short_fits}
 use Rattle.sd_text.proofs.NumberLemmas.{number_of-decimal}
 use Rattle.std.proofs.lemmas.Bool.{false≢true}
 use Rattle.std.proofs.lemmas.Bool.Decides.{nat_tests}
 use Rattle.sd_lines.specs.declared.operations.RequestLine.{RequestLine}
 use Rattle.sd_lines.specs.declared.operations.RequestLine.TheVariants.{Ts, Fx, Sys, Rt}
-use Rattle.sd_lines.specs.Words.{Word, Line, name_of, quantum_of, unless_dash, first, only_word, only, is_done, is_end}
-use Rattle.sd_lines.specs.Operations.{Operation, Run, Yield, Nap, Sleep, Wake, WakeAll, Enter, Read, Write, Exit, Prio, CvWait, SemaP, SemaV, Assign, Pbind, ts_request, fx_request, sys_request, rt_request, request_of, priocntl_line, cvwait_line, assign_line, pbind_line, thread_operation, chan_operation, lock_operation, operation_of}
+use Rattle.sd_lines.specs.Words.{Word, first, only_word}
+use Rattle.sd_lines.specs.Operations.{Run, Yield, Nap, Sleep, Wake, WakeAll, Enter, Read, Write, Exit, Prio, CvWait, SemaP, SemaV, Assign, Pbind, ts_request, fx_request, sys_request, rt_request, request_of, priocntl_line, cvwait_line, assign_line, pbind_line, thread_operation, chan_operation, lock_operation, operation_of}
 use Rattle.sd_workload.proofs.NameLemmas.{both}
-use Rattle.sd_canonical.specs.Lines.{quantum_word, asked_words, bound_word}
-use Rattle.sd_round_trip.proofs.TextLemmas.{is_plain, are_plain, name-plain, number-plain, name-again, signed-again, signed-plain}
+use Rattle.sd_canonical.specs.Lines.{asked_words, bound_word}
+use Rattle.sd_round_trip.proofs.TextLemmas.{are_plain, signed-again, signed-plain}
 use Rattle.sd_round_trip.proofs.FormLemmas.{own, quantum_said, quantum-again, is_name_if}
 use Rattle.sd_round_trip.proofs.ThreadLemmas.{quantum-plain}
 

@@ -1,9 +1,9 @@
 -- The operations of a script are read back as they are.
-use Rattle.std.proofs.Common.{◌≡◌, ℕ, ℤ, pos, zero, suc, ◌+◌, ◌<◌, ◌≤◌, Bool, true, false, not, ◌&&◌, cond, eqb, ltb, leb, List, [], ◌∷◌, ◌++◌, length, map, Option, Some, None, refl, sym, ap, ◌∙◌, subst, arith, if◌then◌else◌}
-use Rattle.std.specs.Prelude.{codes, slice_get, int_le, nat_eq}
+use Rattle.std.proofs.Common.{◌≡◌, ℕ, ℤ, pos, zero, suc, ◌<◌, ◌≤◌, Bool, true, false, not, ◌&&◌, eqb, ltb, leb, List, [], ◌∷◌, length, map, Option, Some, None, refl, sym, ap, ◌∙◌, subst, arith}
+use Rattle.std.specs.Prelude.{codes, slice_get, int_le}
 use Rattle.std.specs.Option.{option_map}
 use Rattle.std.specs.Fmt.{decimal}
-use Rattle.std.specs.List.{list_all, position_or_len}
+use Rattle.std.specs.List.{position_or_len}
 use Rattle.std.proofs.lemmas.Bool.{false≢true, lt-ltb, ltb-true, leb-true}
 use Rattle.std.proofs.lemmas.Bool.Decides.{nat_tests}
 use Rattle.std.proofs.lemmas.Int.{ints}
@@ -27,21 +27,19 @@ use Rattle.sd_types.specs.declared.works.Work.{Work}
 use Rattle.sd_types.specs.Partitions.{cpu_of_number}
 use Rattle.sd_types.specs.NameWords.{is_name}
 use Rattle.sd_types.specs.Works.{Declared, declared_of, same_bytes, is_mutex, is_rwlock, is_chan, is_sema, span_fits, short_fits, quantum_fits, is_def, unused_fit, request_fits, bound_fits, op_names}
-use Rattle.sd_script.specs.Faults.{is_wait}
-use Rattle.sd_lines.specs.declared.operations.RequestLine.{RequestLine}
 use Rattle.sd_lines.specs.Words.{Word, Line, is_end, only_word}
 use Rattle.sd_lines.specs.Operations.{Operation, Run, Yield, Nap, Sleep, Wake, WakeAll, Enter, Read, Write, Exit, Prio, CvWait, SemaP, SemaV, Assign, Pbind, operation_of}
 use Rattle.sd_machine.specs.Texts.{thread_name, lock_name, chan_name}
 use Rattle.sd_full.specs.Texts.{set_name}
-use Rattle.sd_declare.specs.Declarations.{Thread, Declarations, cpu_count, lock_number, chan_number, thread_number, place, set_number, set_id, lock_id, chan_id, thread_id, lock_kind, chan_kind, is_set, is_thread_name, is_lock_name}
+use Rattle.sd_declare.specs.Declarations.{Thread, Declarations, cpu_count, lock_number, chan_number, thread_number, place, set_id, lock_id, chan_id, thread_id, lock_kind, chan_kind, is_set, is_thread_name, is_lock_name}
 use Rattle.sd_declare.specs.Causes.{no_causes}
 use Rattle.sd_declare.specs.Kept.{set_kept, lock_kept, chan_kept}
-use Rattle.sd_declare.specs.Operations.{is_request, is_cpu, is_cpu_or_none, unless, operation_causes, request_of, op_of, ops_of_op}
+use Rattle.sd_declare.specs.Operations.{is_request, is_cpu, is_cpu_or_none, unless, operation_causes, request_of, op_of}
 use Rattle.sd_workload.proofs.ClearLemmas.{IsClear}
 use Rattle.sd_workload.proofs.NameLemmas.{both}
-use Rattle.sd_canonical.specs.Lines.{asked_words, bound_word, operation_line}
+use Rattle.sd_canonical.specs.Lines.{bound_word, operation_line}
 use Rattle.sd_round_trip.proofs.TextLemmas.{is_plain, are_plain, name-plain, number-plain}
-use Rattle.sd_round_trip.proofs.FormLemmas.{quantum_said, is_name_if}
+use Rattle.sd_round_trip.proofs.FormLemmas.{is_name_if}
 use Rattle.sd_round_trip.proofs.ThreadLemmas.{said_at, set_said, set-number, set-name, quantum-back, is-quantum}
 use Rattle.sd_round_trip.proofs.OpFormLemmas.{asked_said, IsAsked, request-plain, cpu_said, bound_small, set_word, run-form, nap-form, yield-form, enter-form, read-form, write-form, exit-form, cvwait-form, sleep-form, wake-form, wakeall-form, semap-form, semav-form, priocntl-form, assign-form, pbind-form}
 use Rattle.sd_round_trip.proofs.ListLemmas.{place-map, place_of_name, name_at-name, map-map}

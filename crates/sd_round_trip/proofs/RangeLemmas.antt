@@ -1,7 +1,6 @@
 -- What is declared by lines of which none is at fault has numbers of users and counts of 16 bits.
-use Rattle.std.proofs.Common.{◌≡◌, ℕ, zero, suc, ◌+◌, ◌≤◌, Bool, true, false, not, ◌&&◌, cond, leb, set, get_or, List, [], ◌∷◌, ◌++◌, length, map, Option, Some, None, refl, sym, ap, ◌∙◌, subst, arith}
+use Rattle.std.proofs.Common.{◌≡◌, ℕ, zero, suc, ◌+◌, Bool, true, false, cond, leb, set, get_or, List, [], ◌∷◌, ◌++◌, Option, Some, None, refl, sym, ap, ◌∙◌, subst}
 use Rattle.std.specs.List.{list_all}
-use Rattle.std.proofs.lemmas.Bool.{false≢true}
 use Rattle.std.proofs.lemmas.Option.{none-some}
 use Rattle.std.proofs.lemmas.List.Folds.{list_all-append}
 use Rattle.sd_types.specs.declared.numbers.ThreadId.{ThreadId}
@@ -22,7 +21,7 @@ use Rattle.sd_declare.specs.Declarations.{Thread, Declarations, nothing}
 use Rattle.sd_declare.specs.Kept.{chan_kept, thread_kept}
 use Rattle.sd_declare.specs.Statements.{is_class, statement_causes, thread_causes, sema_causes, thread_of, with_statement}
 use Rattle.sd_workload.specs.Accepted.{Accepted}
-use Rattle.sd_workload.specs.Texts.{Block, Outside, InTable, InScript, stated_cause, stated, unless_done, with_table, with_script, no_thread, cause_of, declared_after, block_after, end_cause, Verdict, Accepts, Refuses, unless_refused, judged}
+use Rattle.sd_workload.specs.Texts.{Block, Outside, InTable, InScript, stated_cause, stated, unless_done, with_table, with_script, no_thread, cause_of, declared_after, block_after, end_cause, Verdict, Accepts, unless_refused, judged}
 use Rattle.sd_workload.proofs.ClearLemmas.{clear}
 use Rattle.sd_workload.proofs.FirstLemmas.{apart, same-accepted}
 use Rattle.sd_workload.proofs.NameLemmas.{both, not-false}

@@ -1,30 +1,29 @@
 -- The operations of a script are taken in, line after line.
-use Rattle.std.proofs.Common.{◌≡◌, ℕ, zero, suc, ◌+◌, ◌<◌, ◌≤◌, Bool, true, false, not, ◌&&◌, cond, eqb, ltb, List, [], ◌∷◌, ◌++◌, length, map, take, Option, Some, None, refl, sym, ap, ◌∙◌, subst, arith, append-nil, append_assoc, length-append}
+use Rattle.std.proofs.Common.{◌≡◌, ℕ, suc, ◌+◌, ◌<◌, ◌≤◌, Bool, true, false, eqb, List, [], ◌∷◌, ◌++◌, length, take, Option, Some, None, refl, sym, ap, ◌∙◌, subst, arith, append-nil, append_assoc, length-append}
 use Rattle.std.specs.Prelude.{codes, slice_get, nat_lt}
 use Rattle.std.specs.Option.{option_map}
-use Rattle.std.specs.List.{list_all, flat_map}
+use Rattle.std.specs.List.{list_all}
 use Rattle.std.proofs.lemmas.Bool.{false≢true}
 use Rattle.std.proofs.lemmas.Bool.Decides.{nat_tests}
 use Rattle.sd_types.specs.declared.numbers.LockId.{LockId}
 use Rattle.sd_types.specs.declared.numbers.ChanId.{ChanId}
 use Rattle.sd_types.specs.declared.numbers.ThreadId.{ThreadId}
 use Rattle.sd_types.specs.declared.scripts.Op.{Op}
-use Rattle.sd_types.specs.declared.scripts.Op.TheVariants.{Enter, Read, Write, Exit, CvWait}
+use Rattle.sd_types.specs.declared.scripts.Op.TheVariants.{Enter, CvWait}
 use Rattle.sd_types.specs.declared.works.Work.{Work}
 use Rattle.sd_types.specs.Scripts.{is_held, held_by, enters, op_fits, EachOpFits}
 use Rattle.sd_types.specs.Works.{op_names}
 use Rattle.sd_script.specs.Faults.{is_wait}
 use Rattle.sd_script.proofs.FaultLemmas.{op_fault-from_fits}
 use Rattle.sd_tables.specs.TableText.{word_lines}
-use Rattle.sd_lines.specs.Words.{Word, Line, is_end, only_word}
+use Rattle.sd_lines.specs.Words.{Line, only_word}
 use Rattle.sd_lines.specs.Operations.{Operation, operation_of}
 use Rattle.sd_declare.specs.declared.causes.WorkCause.{WorkCause}
 use Rattle.sd_declare.specs.declared.causes.WorkCause.TheVariants.{Script}
-use Rattle.sd_declare.specs.Causes.{least}
 use Rattle.sd_declare.specs.Declarations.{Declarations}
 use Rattle.sd_declare.specs.Operations.{operation_causes, op_of, ops_of_op}
 use Rattle.sd_workload.specs.Scripts.{first_of, more_fault, ops_fault, end_fault}
-use Rattle.sd_workload.specs.Texts.{Outside, InScript, unless_done, operation_cause, ops_of, with_script, judged}
+use Rattle.sd_workload.specs.Texts.{Outside, InScript, unless_done, operation_cause, ops_of, with_script}
 use Rattle.sd_workload.proofs.ScriptLemmas.{script-on, script-close}
 use Rattle.sd_workload.proofs.NameLemmas.{both}
 use Rattle.sd_canonical.specs.Lines.{operation_line, operation_lines}
@@ -121,7 +120,7 @@ takes-op d t front line s o r free = record {
       let new : front ++ ops_of_op o ≡ front ++ ops_of d (operation_of line) = ap (λ l. front ++ l) (sym (ap (ops_of d) r.form ∙ ap ops_of_op r.same)) in (
         n + 1,
         script-on n (n + 1) d t front (front ++ ops_of_op o) (word_lines (line_text line ++ rest)) (word_lines rest) line (line-again line rest r.plain) r.inside
-        (unless-none line (operation_cause d front (operation_of line)) none) refl new,
+            (unless-none line (operation_cause d front (operation_of line)) none) refl new,
       );
 }
 

@@ -1,6 +1,6 @@
 -- The lines of sets are taken in.
-use Rattle.std.proofs.Common.{◌≡◌, ℕ, suc, ◌+◌, ◌<◌, ◌≤◌, Bool, true, false, not, ◌&&◌, ◌||◌, eqb, ltb, leb, List, [], ◌∷◌, ◌++◌, length, map, refl, sym, ap, ◌∙◌, subst, arith, append-nil, append_assoc, length-append}
-use Rattle.std.specs.Prelude.{codes, nat_eq, unwrap_or}
+use Rattle.std.proofs.Common.{◌≡◌, ℕ, ◌+◌, ◌<◌, ◌≤◌, Bool, true, false, not, ◌&&◌, ◌||◌, ltb, leb, List, [], ◌∷◌, ◌++◌, length, map, refl, sym, ap, ◌∙◌, subst, arith, append-nil, append_assoc, length-append}
+use Rattle.std.specs.Prelude.{codes, nat_eq}
 use Rattle.std.specs.List.{list_any, list_all, flat_map}
 use Rattle.std.proofs.lemmas.Bool.{false≢true}
 use Rattle.std.proofs.lemmas.Bool.Decides.{nat_tests}
@@ -12,18 +12,18 @@ use Rattle.sd_types.specs.declared.names.Name.{Name}
 use Rattle.sd_types.specs.NameWords.{is_name}
 use Rattle.sd_types.specs.Partitions.{cpu_of_number}
 use Rattle.sd_types.specs.Works.{same_bytes, same_cpu, is_distinct}
-use Rattle.sd_lines.specs.Words.{Word, Line}
+use Rattle.sd_lines.specs.Words.{Word}
 use Rattle.sd_lines.specs.Statements.{Set}
 use Rattle.sd_declare.specs.Declarations.{Declarations, cpu_count, set_place, named_count}
 use Rattle.sd_declare.specs.Kept.{set_kept}
-use Rattle.sd_declare.specs.Statements.{is_beyond, is_named, is_taken, statement_causes, with_set}
+use Rattle.sd_declare.specs.Statements.{is_named, is_taken, statement_causes}
 use Rattle.sd_workload.specs.Sound.{named_cpus, set_is_sound, AreSets, AreNamed}
 use Rattle.sd_workload.specs.Texts.{Outside}
 use Rattle.sd_workload.proofs.ClearLemmas.{IsClear}
 use Rattle.sd_workload.proofs.NameLemmas.{both, neither, not-true}
-use Rattle.sd_canonical.specs.Lines.{cpu_words, set_line}
+use Rattle.sd_canonical.specs.Lines.{cpu_words}
 use Rattle.sd_canonical.specs.Canonical.{line_text, set_text}
-use Rattle.sd_round_trip.proofs.TextLemmas.{is_plain, are_plain, name-plain, number-plain}
+use Rattle.sd_round_trip.proofs.TextLemmas.{are_plain, name-plain, number-plain}
 use Rattle.sd_round_trip.proofs.TakesLemmas.{Takes, takes-nothing, takes-both, takes-line}
 use Rattle.sd_round_trip.proofs.FormLemmas.{are_cpus, set-form}
 use Rattle.sd_round_trip.proofs.ListLemmas.{all-at, under, not-under, fresh, named-fresh, distinct-tail, distinct-front, none-before, any-map}

@@ -1,5 +1,5 @@
--- Texts that no line of which is at fault: what is declared above them, and below.
-use Rattle.std.proofs.Common.{◌≡◌, ℕ, ◌+◌, true, false, List, [], ◌∷◌, ◌++◌, Option, Some, None, refl, sym, ap, ◌∙◌, append_assoc}
+-- Texts of which no line is at fault: what is declared above them, and below.
+use Rattle.std.proofs.Common.{◌≡◌, ℕ, ◌+◌, true, List, [], ◌∷◌, ◌++◌, Some, None, refl, sym, ap, ◌∙◌, append_assoc}
 use Rattle.sd_tables.specs.TableText.{word_lines}
 use Rattle.sd_lines.specs.Words.{Word, Line}
 use Rattle.sd_lines.specs.Statements.{Statement, statement_of}
@@ -39,8 +39,8 @@ takes-line word words s d plain form clear = record {
   on = λ n rest. (
     n + 1,
     judged-on n (n + 1) d (with_statement d s) Outside (block_of (opened_by d s)) (word_lines (line_text (word ∷ words) ++ rest)) (word_lines rest) (word ∷ words)
-    (line-again (word ∷ words) rest plain)
-    (ap (stated_cause d) form ∙ none-clear (statement_causes d s) clear)
-    refl (sym (ap (stated d) form)) (sym (ap (opened d) form)),
+        (line-again (word ∷ words) rest plain)
+        (ap (stated_cause d) form ∙ none-clear (statement_causes d s) clear)
+        refl (sym (ap (stated d) form)) (sym (ap (opened d) form)),
   );
 }

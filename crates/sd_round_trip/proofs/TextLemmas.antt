@@ -1,6 +1,5 @@
 -- Lines of words as they are read again: which words stand in a line, and what numbers and names are as words.
-use Rattle.std.proofs.Common.{◌≡◌, ℕ, ℤ, pos, negsuc, zero, suc, ◌+◌, ◌<◌, ◌≤◌, ◌^◌, Bool, true, false, not, ◌&&◌, ltb, leb, eqb, List, [], ◌∷◌, ◌++◌, length, map, Option, Some, None, refl, sym, ap, ◌∙◌, arith, append-nil, append_assoc}
-use Rattle.std.specs.Prelude.{codes}
+use Rattle.std.proofs.Common.{◌≡◌, ℕ, ℤ, pos, negsuc, suc, ◌<◌, ◌≤◌, ◌^◌, Bool, true, not, ◌&&◌, ltb, leb, List, [], ◌∷◌, ◌++◌, length, map, Some, refl, sym, ap, ◌∙◌, arith, append-nil, append_assoc}
 use Rattle.std.specs.Fmt.{decimal, signed_decimal}
 use Rattle.std.specs.List.{list_all, join_with_byte}
 use Rattle.std.proofs.lemmas.Bool.{false≢true, lt-ltb}
@@ -9,12 +8,12 @@ use Rattle.std.proofs.lemmas.Int.{ints}
 use Rattle.std.proofs.lemmas.List.Folds.{list_all-append}
 use Rattle.sd_types.specs.NameWords.{is_letter, is_name_byte, is_name}
 use Rattle.sd_types.specs.Works.{short_fits, upri_fits}
-use Rattle.sd_text.specs.Lines.{is_newline, is_line, lines_of}
+use Rattle.sd_text.specs.Lines.{is_newline, is_line}
 use Rattle.sd_text.specs.Words.{ends_word, is_word, words_of}
 use Rattle.sd_text.specs.Numbers.{signed_of}
 use Rattle.sd_text.proofs.LineLemmas.{both, lines_of-line}
 use Rattle.sd_text.proofs.WordLemmas.{words_of-joined}
-use Rattle.sd_text.proofs.NumberLemmas.{number_of-decimal, signed_of-decimal, signed_of-negative, is_word-decimal, is_line-decimal}
+use Rattle.sd_text.proofs.NumberLemmas.{signed_of-decimal, signed_of-negative, is_word-decimal, is_line-decimal}
 use Rattle.sd_tables.specs.TableText.{word_lines}
 use Rattle.sd_lines.specs.Words.{Word, Line, name_of}
 use Rattle.sd_canonical.specs.Canonical.{spaced, words_text, line_text}

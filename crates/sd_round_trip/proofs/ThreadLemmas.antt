@@ -1,16 +1,15 @@
 -- The lines of threads are taken in.
-use Rattle.std.proofs.Common.{◌≡◌, ℕ, ℤ, zero, suc, ◌+◌, ◌<◌, ◌≤◌, Bool, true, false, not, ◌&&◌, ◌||◌, min, eqb, ltb, leb, List, [], ◌∷◌, ◌++◌, length, map, Option, Some, None, refl, sym, ap, ◌∙◌, subst, arith, append-nil, append_assoc, length-append, if◌then◌else◌}
+use Rattle.std.proofs.Common.{◌≡◌, ℕ, ℤ, zero, suc, ◌+◌, ◌≤◌, Bool, true, false, not, ◌&&◌, min, eqb, ltb, leb, List, [], ◌∷◌, ◌++◌, length, map, Option, Some, None, refl, sym, ap, ◌∙◌, subst, arith, append-nil, append_assoc, length-append, if◌then◌else◌}
 use Rattle.std.specs.Prelude.{codes, nat_eq, int_le}
 use Rattle.std.specs.Int.{int_min}
 use Rattle.std.specs.Fmt.{decimal}
 use Rattle.std.specs.List.{list_all, flat_map}
-use Rattle.std.proofs.lemmas.Bool.{false≢true, lt-ltb, le-leb, leb-true}
+use Rattle.std.proofs.lemmas.Bool.{lt-ltb, le-leb, leb-true}
 use Rattle.std.proofs.lemmas.Bool.Decides.{nat_tests}
 use Rattle.std.proofs.lemmas.Int.{ints}
 use Rattle.std.proofs.lemmas.List.{length-map}
 use Rattle.std.proofs.lemmas.List.Folds.{list_all-append}
 use Rattle.sd_types.specs.declared.numbers.SetId.{SetId}
-use Rattle.sd_types.specs.declared.names.Name.{Name}
 use Rattle.sd_types.specs.declared.classes.Quantum.{Quantum}
 use Rattle.sd_types.specs.declared.classes.Quantum.TheVariants as quantum
 use Rattle.sd_types.specs.declared.classes.ClassParms.{ClassParms}
@@ -18,18 +17,18 @@ use Rattle.sd_types.specs.declared.classes.ClassParms.TheVariants as parms
 use Rattle.sd_types.specs.declared.works.ThreadDecl.{ThreadDecl}
 use Rattle.sd_types.specs.declared.works.Work.{Work}
 use Rattle.sd_types.specs.NameWords.{is_name}
-use Rattle.sd_types.specs.Works.{Declared, declared_of, same_bytes, is_distinct, quantum_fits, class_fits, upri_fits, op_names, thread_fits}
+use Rattle.sd_types.specs.Works.{same_bytes, is_distinct, quantum_fits, class_fits, upri_fits}
 use Rattle.sd_lines.specs.Words.{Word, Line}
 use Rattle.sd_lines.specs.Threads.{Thread as ThreadLine, thread}
 use Rattle.sd_lines.specs.Statements.{Declare}
 use Rattle.sd_full.specs.Texts.{set_name}
-use Rattle.sd_declare.specs.Declarations.{Thread, Declarations, place, set_place, set_number, set_id, is_set, thread_number}
+use Rattle.sd_declare.specs.Declarations.{Thread, Declarations, place, set_place, set_number, is_set, thread_number}
 use Rattle.sd_declare.specs.Kept.{set_kept, thread_kept}
 use Rattle.sd_declare.specs.Statements.{is_quantum, is_class, quantum_of, parms_of, cpupri_of, thread_of, statement_causes, with_thread}
 use Rattle.sd_workload.specs.Texts.{Outside}
 use Rattle.sd_workload.proofs.ClearLemmas.{IsClear}
 use Rattle.sd_workload.proofs.NameLemmas.{both}
-use Rattle.sd_canonical.specs.Lines.{class_words, quantum_word, priv_words, in_words, option_words, thread_line}
+use Rattle.sd_canonical.specs.Lines.{class_words, quantum_word, priv_words, in_words, option_words}
 use Rattle.sd_canonical.specs.Canonical.{line_text, thread_text}
 use Rattle.sd_round_trip.proofs.TextLemmas.{is_plain, are_plain, name-plain, number-plain, signed-plain, upri-short}
 use Rattle.sd_round_trip.proofs.TakesLemmas.{Takes, takes-nothing, takes-both, takes-line}

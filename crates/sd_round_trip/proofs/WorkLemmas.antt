@@ -1,5 +1,5 @@
 -- The whole canonical spelling is accepted as the workload.
-use Rattle.std.proofs.Common.{◌≡◌, ℕ, suc, ◌+◌, ◌*◌, ◌<◌, ◌≤◌, Bool, true, false, not, ◌&&◌, ◌||◌, ltb, leb, List, [], ◌∷◌, ◌++◌, length, map, Option, Some, None, refl, sym, ap, ◌∙◌, subst, arith, append-nil}
+use Rattle.std.proofs.Common.{◌≡◌, ℕ, ◌*◌, ◌<◌, ◌≤◌, Bool, true, false, ◌&&◌, leb, List, [], ◌∷◌, length, map, Some, None, refl, sym, ap, ◌∙◌, subst, arith, append-nil}
 use Rattle.std.specs.Prelude.{codes, nat_lt}
 use Rattle.std.specs.List.{list_all, flat_map, sum_by}
 use Rattle.std.proofs.lemmas.Bool.Decides.{nat_tests}
@@ -13,7 +13,7 @@ use Rattle.sd_types.specs.declared.works.ThreadDecl.{ThreadDecl}
 use Rattle.sd_types.specs.declared.works.Work.{Work}
 use Rattle.sd_types.specs.Works.{same_bytes, same_cpu, is_distinct, class_fits, op_names, thread_fits}
 use Rattle.sd_text.specs.Lines.{lines_of}
-use Rattle.sd_tables.specs.TableText.{word_lines, ts_numbers, fixed_numbers, SpellsTs, SpellsFixed, ts_format, fx_format, rt_format}
+use Rattle.sd_tables.specs.TableText.{word_lines, ts_numbers, fixed_numbers, SpellsTs, SpellsFixed, fx_format, rt_format}
 use Rattle.sd_tables.specs.TableSpelling.{res_text, row_texts, ts_text, fixed_text}
 use Rattle.sd_tables.proofs.LawLemmas.{ts_again, fixed_again}
 use Rattle.sd_lines.specs.declared.statements.TableClass.TheVariants as table
@@ -21,14 +21,15 @@ use Rattle.sd_lines.specs.Words.{Word}
 use Rattle.sd_declare.specs.Declarations.{Thread, Declarations, nothing}
 use Rattle.sd_declare.specs.Kept.{set_kept, lock_kept, chan_kept, thread_kept}
 use Rattle.sd_declare.proofs.PlaceLemmas.{sum_kept}
-use Rattle.sd_workload.specs.Accepted.{Accepted, IsWork}
-use Rattle.sd_workload.specs.Sound.{named_cpus, AreSets, AreNamed}
-use Rattle.sd_workload.specs.Texts.{Outside, with_table, is_too_many, end_causes, end_cause, unless_refused, Accepts, judged}
+use Rattle.sd_workload.specs.Accepted.{Accepted, HaveSameParts, IsWork}
+use Rattle.sd_workload.specs.Sound.{named_cpus}
+use Rattle.sd_workload.specs.Texts.{Outside, is_too_many, end_causes, end_cause, unless_refused, Accepts, judged}
 use Rattle.sd_workload.proofs.JudgedLemmas.{judged-end}
 use Rattle.sd_workload.proofs.NameLemmas.{both, all-more}
-use Rattle.sd_canonical.specs.Blocks.{block_text, tables_text}
-use Rattle.sd_canonical.specs.Canonical.{settings_text, set_text, lock_text, chan_text, thread_text, script_text, canonical}
-use Rattle.sd_round_trip.specs.Valid.{count_fits, IsValid}
+use Rattle.sd_workload.proofs.OneLemmas.{one-work}
+use Rattle.sd_canonical.specs.Blocks.{tables_text}
+use Rattle.sd_canonical.specs.Canonical.{script_text, canonical}
+use Rattle.sd_round_trip.specs.Valid.{IsValid}
 use Rattle.sd_round_trip.proofs.TakesLemmas.{Takes, takes-both, none-clear}
 use Rattle.sd_round_trip.proofs.FormLemmas.{table_ts-form, table_fx-form, table_rt-form}
 use Rattle.sd_round_trip.proofs.ListLemmas.{all-map, map-map}
@@ -37,7 +38,7 @@ use Rattle.sd_round_trip.proofs.ObjectLemmas.{settled, takes-settings, IsNamed, 
 use Rattle.sd_round_trip.proofs.BlockLemmas.{takes-block}
 use Rattle.sd_round_trip.proofs.ThreadLemmas.{bare_kept, IsThreads, takes-threads}
 use Rattle.sd_round_trip.proofs.OpLemmas.{declared_by}
-use Rattle.sd_round_trip.proofs.ScriptsLemmas.{IsPart, AllGiven, takes-scripts}
+use Rattle.sd_round_trip.proofs.ScriptsLemmas.{AllGiven, takes-scripts}
 
 -- ---- what a workload keeps, of what is kept of it
 
@@ -192,3 +193,7 @@ canonical-accepted w v =
           ∙ judged-end p.0 (at-end w) Outside [] refl ∙ ap (λ c. unless_refused p.0 c (Accepts (at-end w))) (end-free w);
       work = work-is w;
     }
+
+pub one-spelling : (w v : Work) → IsValid w → IsValid v → canonical w ≡ canonical v → HaveSameParts w v
+one-spelling w v p q e =
+    one-work (canonical w) w v (canonical-accepted w p) (subst (λ (text : List ℕ). Accepted text v) (sym e) (canonical-accepted v q))

@@ -1,6 +1,6 @@
 -- What a workload is beyond what its type keeps: the numbers of users and the first counts of semaphores are those of 16
 -- bits. All else that makes a workload valid is a part of the type. Source: this project's own.
-use Rattle.std.specs.Prelude.{ℕ, Bool, true, nat_le, IsTrue}
+use Rattle.std.specs.Prelude.{Bool, true, nat_le, IsTrue}
 use Rattle.std.specs.List.{list_all}
 use Rattle.sd_types.specs.declared.works.ChanKind.{ChanKind}
 use Rattle.sd_types.specs.declared.works.ChanKind.TheVariants.{Chan, Sema}

@@ -1,12 +1,8 @@
 //! What the canonical spelling of a workload is accepted as: laws, with nothing to run.
 
-ghost use Rattle.std.specs.Prelude.{ℕ, List};
-ghost use Rattle.std.specs.Prelude.{◌≡◌};
+ghost use Rattle.std.specs.Prelude.{◌≡◌, ℕ, List};
 ghost use Rattle.sd_types.specs.declared.works.Work.{Work};
-ghost use Rattle.sd_declare.specs.Declarations.{Declarations};
-ghost use Rattle.sd_workload.specs.Accepted.{Accepted};
-ghost use Rattle.sd_workload.specs.Texts.{Accepts, verdict_of};
-ghost use Rattle.sd_gen.specs.Generated.{generated};
+ghost use Rattle.sd_workload.specs.Accepted.{Accepted, HaveSameParts};
 ghost use Rattle.sd_canonical.specs.Canonical.{canonical};
 ghost use Rattle.sd_round_trip.specs.Valid.{IsValid};
 
@@ -20,7 +16,7 @@ pub fn accepted_works_are_valid()
     ensures { (text : List ℕ) (w : Work) → Accepted text w → IsValid w }
 {}
 
-/// No line of a generated workload is at fault: each declares a workload.
-pub fn generated_texts_are_accepted()
-    ensures { (n : ℕ) → (d : Declarations) × (verdict_of (generated n) ≡ Accepts d) }
+/// The canonical spelling tells the workload: two valid workloads with one spelling have the same parts.
+pub fn canonical_texts_tell_works()
+    ensures { (w v : Work) → IsValid w → IsValid v → canonical w ≡ canonical v → HaveSameParts w v }
 {}

@@ -4,5 +4,5 @@
 mod laws;
 
 pub use laws::{
-    accepted_works_are_valid, canonical_texts_are_accepted, generated_texts_are_accepted,
+    accepted_works_are_valid, canonical_texts_are_accepted, canonical_texts_tell_works,
 };

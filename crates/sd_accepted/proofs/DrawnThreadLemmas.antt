@@ -1,11 +1,10 @@
 -- The threads of generated workloads are taken in.
-use Rattle.std.proofs.Common.{◌≡◌, ℕ, pos, zero, suc, ◌+◌, ◌%◌, ◌<◌, ◌≤◌, ◌^◌, Bool, true, false, not, ◌&&◌, ◌||◌, cond, eqb, ltb, leb, List, [], ◌∷◌, ◌++◌, length, map, Option, Some, None, refl, sym, ap, ◌∙◌, subst, arith, append-nil, append_assoc, length-append, if◌then◌else◌}
-use Rattle.std.specs.Prelude.{codes, nat_lt, nat_eq}
+use Rattle.std.proofs.Common.{◌≡◌, ℕ, pos, zero, suc, ◌+◌, ◌%◌, ◌<◌, ◌≤◌, Bool, true, false, not, eqb, leb, List, [], ◌∷◌, ◌++◌, length, map, Option, Some, None, refl, sym, ap, ◌∙◌, subst, arith, append-nil, append_assoc, if◌then◌else◌}
+use Rattle.std.specs.Prelude.{codes, nat_lt}
 use Rattle.std.specs.Fmt.{digits}
 use Rattle.std.specs.Fmt.{decimal}
 use Rattle.std.specs.List.{list_all, list_any, position_or_len, range_with_len}
-use Rattle.std.proofs.lemmas.Bool.{false≢true, lt-ltb, le-leb}
-use Rattle.std.proofs.lemmas.Bool.Decides.{nat_tests}
+use Rattle.std.proofs.lemmas.Bool.{false≢true, le-leb}
 use Rattle.std.proofs.lemmas.List.{length-map, map-append}
 use Rattle.std.proofs.lemmas.List.FromFn.{length-range_with_len}
 use Rattle.std.proofs.lemmas.List.Folds.{list_all-append}
@@ -17,22 +16,22 @@ use Rattle.sd_types.specs.declared.classes.ClassParms.TheVariants as parms
 use Rattle.sd_types.specs.declared.classes.Quantum.TheVariants.{Def}
 use Rattle.sd_types.specs.NameWords.{is_name}
 use Rattle.sd_types.specs.Works.{same_bytes, class_fits}
-use Rattle.sd_lines.specs.Words.{Word, Line, first, only_word, behind}
+use Rattle.sd_lines.specs.Words.{Word, first, only_word, behind}
 use Rattle.sd_lines.specs.Threads.{Thread as ThreadLine, thread, uid_option, priv_option, set_option, options, thread_line as thread_read}
 use Rattle.sd_lines.specs.Statements.{Declare, statement_of, setting_statement, object_statement, thread_statement}
 use Rattle.sd_declare.specs.Declarations.{Thread, Declarations, place, set_place, is_set, thread_number}
-use Rattle.sd_declare.specs.Statements.{statement_causes, thread_of, with_thread}
+use Rattle.sd_declare.specs.Statements.{statement_causes, thread_of}
 use Rattle.sd_workload.specs.Texts.{Outside}
 use Rattle.sd_workload.proofs.ClearLemmas.{IsClear}
 use Rattle.sd_gen.specs.Generated.{drawn, drawn_from, priorities, class_text, set_text, thread_text, thread_line}
 use Rattle.sd_canonical.specs.Lines.{class_words}
 use Rattle.sd_canonical.specs.Canonical.{spaced, line_text}
-use Rattle.sd_round_trip.proofs.TextLemmas.{is_plain, are_plain, name-plain, number-plain}
+use Rattle.sd_round_trip.proofs.TextLemmas.{is_plain, are_plain, name-plain}
 use Rattle.sd_round_trip.proofs.TakesLemmas.{Takes, takes-nothing, takes-both, takes-line}
 use Rattle.sd_round_trip.proofs.FormLemmas.{class_said, class-form, set_words, is_name_if, options_said}
 use Rattle.sd_round_trip.proofs.ThreadLemmas.{is-class, class-plain}
 use Rattle.sd_round_trip.proofs.ListLemmas.{same-itself, under, not-under, none-before, any-map, place-map}
-use Rattle.sd_round_trip.proofs.DrawnLemmas.{numbered, numbered-name, other-number, the-sets}
+use Rattle.sd_accepted.proofs.DrawnLemmas.{numbered, numbered-name, other-number, the-sets}
 
 -- ---- the names of the first threads
 

@@ -1,31 +1,29 @@
 -- The names of generated workloads, and the lines at their head.
-use Rattle.std.proofs.Common.{◌≡◌, ℕ, zero, suc, ◌+◌, ◌<◌, ◌≤◌, ◌^◌, Bool, true, false, not, ◌&&◌, ◌||◌, eqb, ltb, leb, get_or, List, [], ◌∷◌, ◌++◌, length, map, Option, Some, None, refl, sym, ap, ◌∙◌, subst, arith, append-nil, append_assoc}
-use Rattle.std.specs.Prelude.{codes, slice_get, nat_eq}
+use Rattle.std.proofs.Common.{◌≡◌, ℕ, ◌<◌, ◌≤◌, Bool, true, false, leb, List, [], ◌∷◌, ◌++◌, length, map, Some, refl, sym, ap, ◌∙◌, subst, arith}
+use Rattle.std.specs.Prelude.{codes}
 use Rattle.std.specs.Fmt.{digits}
 use Rattle.std.specs.Fmt.{decimal}
-use Rattle.std.specs.List.{list_all, list_any, position_or_len, range_with_len, flat_map}
-use Rattle.std.proofs.lemmas.Bool.{false≢true, lt-ltb, le-leb, ltb-true}
+use Rattle.std.specs.List.{list_all, range_with_len, flat_map}
+use Rattle.std.proofs.lemmas.Bool.{le-leb}
 use Rattle.std.proofs.lemmas.Bool.Decides.{nat_tests}
 use Rattle.std.proofs.lemmas.Option.{same_Some}
 use Rattle.std.proofs.lemmas.Fmt.{length-decimal-le, digits_decimal}
-use Rattle.std.proofs.lemmas.List.FromFn.{length-range_with_len}
 use Rattle.std.specs.Char.{is_ascii_digit}
 use Rattle.std.specs.Str.{all_ascii_digits}
 use Rattle.sd_types.specs.declared.numbers.CpuId.{CpuId}
 use Rattle.sd_types.specs.declared.works.LockKind.{LockKind}
 use Rattle.sd_types.specs.declared.works.LockKind.TheVariants.{Mutex, Rwlock}
 use Rattle.sd_types.specs.NameWords.{is_letter, is_name_byte, is_name}
-use Rattle.sd_types.specs.Works.{same_bytes, is_distinct}
+use Rattle.sd_types.specs.Works.{same_bytes}
 use Rattle.sd_text.specs.Numbers.{number_of}
 use Rattle.sd_text.proofs.NumberLemmas.{number_of-decimal}
-use Rattle.sd_lines.specs.Words.{Word, Line, first, only_word, all_numbers}
+use Rattle.sd_lines.specs.Words.{Word, first, only_word, all_numbers}
 use Rattle.sd_lines.specs.Statements.{Cpus, Limit, Set, set_line, setting_statement, statement_of}
 use Rattle.sd_declare.specs.Declarations.{Declarations, nothing, set_place}
 use Rattle.sd_declare.specs.Statements.{is_taken}
 use Rattle.sd_workload.specs.Texts.{Outside}
-use Rattle.sd_workload.proofs.ClearLemmas.{IsClear}
 use Rattle.sd_workload.proofs.NameLemmas.{both}
-use Rattle.sd_gen.specs.Generated.{head_text, locks_text, number_line}
+use Rattle.sd_gen.specs.Generated.{head_text, locks_text}
 use Rattle.sd_canonical.specs.Canonical.{line_text}
 use Rattle.sd_round_trip.proofs.TakesLemmas.{Takes, takes-both, takes-line}
 use Rattle.sd_round_trip.proofs.FormLemmas.{own}

@@ -1,7 +1,6 @@
 -- Each generated workload is accepted.
-use Rattle.std.proofs.Common.{◌≡◌, ℕ, zero, suc, ◌+◌, ◌*◌, ◌<◌, ◌≤◌, Bool, true, false, not, ◌&&◌, ◌||◌, ltb, leb, set, get_or, List, [], ◌∷◌, ◌++◌, length, map, Option, Some, None, refl, sym, ap, ◌∙◌, subst, arith, append-nil}
+use Rattle.std.proofs.Common.{◌≡◌, ℕ, zero, suc, ◌+◌, ◌*◌, ◌<◌, ◌≤◌, true, false, not, ltb, leb, set, get_or, List, [], ◌∷◌, length, map, Option, Some, None, refl, sym, ap, ◌∙◌, subst, arith, append-nil}
 use Rattle.std.specs.Prelude.{codes, nat_lt, unwrap_or, is_none}
-use Rattle.std.specs.Fmt.{decimal}
 use Rattle.std.specs.List.{list_all, position_or_len, sum_by}
 use Rattle.std.proofs.lemmas.Bool.{lt-ltb, leb-true, le-leb}
 use Rattle.std.proofs.lemmas.Bool.Decides.{nat_tests}
@@ -21,8 +20,7 @@ use Rattle.sd_workload.specs.Texts.{Outside, InScript, with_script, no_thread, i
 use Rattle.sd_workload.proofs.ClearLemmas.{IsClear}
 use Rattle.sd_workload.proofs.JudgedLemmas.{judged-end}
 use Rattle.sd_workload.proofs.NameLemmas.{both}
-use Rattle.sd_gen.specs.Generated.{head_text, locks_text, number_line, round_text, script_text, thread_line, drawn_from, drawn_text, first_generator, generated}
-use Rattle.sd_canonical.specs.Canonical.{line_text}
+use Rattle.sd_gen.specs.Generated.{number_line, round_text, script_text, thread_line, drawn_from, first_generator, generated}
 use Rattle.sd_round_trip.proofs.TextLemmas.{are_plain, name-plain}
 use Rattle.sd_round_trip.proofs.TakesLemmas.{Takes, takes-nothing, takes-both, takes-line, none-clear}
 use Rattle.sd_round_trip.proofs.FormLemmas.{script-form}
@@ -30,10 +28,10 @@ use Rattle.sd_round_trip.proofs.ScriptLemmas.{takes-close}
 use Rattle.sd_round_trip.proofs.ScriptsLemmas.{are_before, none-given, before-more}
 use Rattle.sd_round_trip.proofs.RangeLemmas.{all-set}
 use Rattle.sd_round_trip.proofs.ListLemmas.{place-map}
-use Rattle.sd_round_trip.proofs.DrawnLemmas.{numbered, numbered-name, below-head, the-locks, locks-count, takes-head, takes-the-locks}
-use Rattle.sd_round_trip.proofs.DrawnThreadLemmas.{names-to, Threads, threads-count, name-place, Declared, takes-drawn_threads}
-use Rattle.sd_round_trip.proofs.DrawnOpLemmas.{two-words}
-use Rattle.sd_round_trip.proofs.DrawnScriptLemmas.{goes-round}
+use Rattle.sd_accepted.proofs.DrawnLemmas.{numbered, numbered-name, below-head, the-locks, locks-count, takes-head, takes-the-locks}
+use Rattle.sd_accepted.proofs.DrawnThreadLemmas.{names-to, Threads, threads-count, name-place, takes-drawn_threads}
+use Rattle.sd_accepted.proofs.DrawnOpLemmas.{two-words}
+use Rattle.sd_accepted.proofs.DrawnScriptLemmas.{goes-round}
 
 -- ---- scripts
 

@@ -1,6 +1,6 @@
 -- The scripts of generated workloads are taken in.
-use Rattle.std.proofs.Common.{◌≡◌, ℕ, zero, suc, ◌+◌, ◌-◌, ◌%◌, ◌<◌, ◌≤◌, Bool, true, false, not, ◌&&◌, ◌||◌, cond, eqb, ltb, List, [], ◌∷◌, ◌++◌, length, map, Option, Some, None, refl, sym, ap, ◌∙◌, subst, arith, append-nil, append_assoc, length-append, if◌then◌else◌}
-use Rattle.std.specs.Prelude.{codes, nat_lt}
+use Rattle.std.proofs.Common.{◌≡◌, ℕ, ◌+◌, ◌-◌, ◌<◌, ◌≤◌, Bool, true, false, eqb, List, [], ◌∷◌, ◌++◌, length, None, refl, subst, arith, if◌then◌else◌}
+use Rattle.std.specs.Prelude.{codes}
 use Rattle.std.specs.Fmt.{decimal, digits}
 use Rattle.std.proofs.lemmas.Bool.{eq-eqb}
 use Rattle.std.proofs.lemmas.Bool.Decides.{nat_tests}
@@ -11,15 +11,13 @@ use Rattle.sd_types.specs.declared.scripts.Op.{Op}
 use Rattle.sd_types.specs.declared.scripts.Op.TheVariants as op
 use Rattle.sd_types.specs.declared.works.LockKind.{LockKind}
 use Rattle.sd_types.specs.declared.works.LockKind.TheVariants.{Mutex, Rwlock}
-use Rattle.sd_types.specs.Scripts.{is_lock, is_held, without_lock, held_after, held_by, op_fits}
+use Rattle.sd_types.specs.Scripts.{held_after, held_by, op_fits}
 use Rattle.sd_lines.specs.Words.{Word}
 use Rattle.sd_lines.specs.Operations.{Run, Nap, Enter, Read, Write, Exit}
 use Rattle.sd_declare.specs.Declarations.{Declarations}
-use Rattle.sd_workload.specs.Texts.{InScript}
-use Rattle.sd_gen.specs.Generated.{drawn, lock_line, locked_text, nested_text, number_line, mutex_part, nested_part, read_part, write_part, nap_part, part, part_drawn, round_text}
-use Rattle.sd_round_trip.proofs.TakesLemmas.{Takes, takes-both}
-use Rattle.sd_round_trip.proofs.DrawnLemmas.{numbered, the-locks}
-use Rattle.sd_round_trip.proofs.DrawnOpLemmas.{IsLockAt, mutex-lock, rwlock-lock, Goes, goes-line, goes-both, reads-run, reads-nap, reads-enter, reads-read, reads-write, reads-exit}
+use Rattle.sd_gen.specs.Generated.{drawn, locked_text, nested_text, number_line, mutex_part, nested_part, read_part, write_part, nap_part, part, part_drawn, round_text}
+use Rattle.sd_accepted.proofs.DrawnLemmas.{numbered, the-locks}
+use Rattle.sd_accepted.proofs.DrawnOpLemmas.{IsLockAt, mutex-lock, rwlock-lock, Goes, goes-line, goes-both, reads-run, reads-nap, reads-enter, reads-read, reads-write, reads-exit}
 
 abbrev lock : ℕ → LockId
 lock l = record { 0 = l }

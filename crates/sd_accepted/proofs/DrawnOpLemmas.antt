@@ -1,9 +1,9 @@
 -- The operations of generated workloads are taken in, line after line.
-use Rattle.std.proofs.Common.{◌≡◌, ℕ, zero, suc, ◌+◌, ◌-◌, ◌%◌, ◌<◌, ◌≤◌, ◌^◌, Bool, true, false, not, ◌&&◌, ◌||◌, cond, eqb, ltb, List, [], ◌∷◌, ◌++◌, length, map, Option, Some, None, refl, sym, ap, ◌∙◌, subst, arith, append-nil, append_assoc, length-append, if◌then◌else◌}
-use Rattle.std.specs.Prelude.{codes, slice_get, nat_lt, fold, unwrap_or, option_map}
-use Rattle.std.specs.Fmt.{decimal, digits}
-use Rattle.std.specs.List.{list_any, position_or_len, range_with_len}
-use Rattle.std.proofs.lemmas.Bool.{false≢true, eq-eqb, lt-ltb}
+use Rattle.std.proofs.Common.{◌≡◌, ℕ, zero, suc, ◌+◌, ◌<◌, ◌≤◌, true, false, not, List, [], ◌∷◌, ◌++◌, length, map, Option, Some, None, refl, sym, ap, ◌∙◌, subst, arith, append-nil, append_assoc, length-append}
+use Rattle.std.specs.Prelude.{codes, slice_get, fold, unwrap_or, option_map}
+use Rattle.std.specs.Fmt.{decimal}
+use Rattle.std.specs.List.{range_with_len}
+use Rattle.std.proofs.lemmas.Bool.{lt-ltb}
 use Rattle.std.proofs.lemmas.Bool.Decides.{nat_tests}
 use Rattle.sd_types.specs.declared.numbers.LockId.{LockId}
 use Rattle.sd_types.specs.declared.numbers.ThreadId.{ThreadId}
@@ -12,25 +12,23 @@ use Rattle.sd_types.specs.declared.scripts.Op.TheVariants as op
 use Rattle.sd_types.specs.declared.works.LockKind.{LockKind}
 use Rattle.sd_types.specs.declared.works.LockKind.TheVariants.{Mutex, Rwlock}
 use Rattle.sd_types.specs.NameWords.{is_name}
-use Rattle.sd_types.specs.Works.{same_bytes, is_mutex, is_rwlock, span_fits}
-use Rattle.sd_types.specs.Scripts.{is_lock, is_held, without_lock, held_after, held_by, op_fits}
+use Rattle.sd_types.specs.Works.{is_mutex, is_rwlock, span_fits}
+use Rattle.sd_types.specs.Scripts.{held_after, held_by, op_fits}
 use Rattle.sd_script.specs.Faults.{is_wait}
-use Rattle.sd_lines.specs.Words.{Word, Line, only_word}
+use Rattle.sd_lines.specs.Words.{Word, only_word}
 use Rattle.sd_lines.specs.Operations.{Operation, Run, Nap, Enter, Read, Write, Exit}
 use Rattle.sd_declare.specs.Declarations.{Declarations, lock_number, lock_id, lock_kind, is_lock_name, place}
 use Rattle.sd_declare.specs.Operations.{ops_of_op}
 use Rattle.sd_workload.specs.Scripts.{ops_fault}
-use Rattle.sd_workload.specs.Sound.{AreNamed}
-use Rattle.sd_workload.specs.Texts.{Block, InScript}
+use Rattle.sd_workload.specs.Texts.{InScript}
 use Rattle.sd_canonical.specs.Canonical.{line_text}
 use Rattle.sd_round_trip.proofs.TextLemmas.{is_plain, are_plain, name-plain, number-plain}
 use Rattle.sd_round_trip.proofs.TakesLemmas.{Takes, takes-both}
 use Rattle.sd_round_trip.proofs.OpFormLemmas.{run-form, nap-form, enter-form, read-form, write-form, exit-form}
 use Rattle.sd_round_trip.proofs.OpLemmas.{Reads, unless-clear}
 use Rattle.sd_round_trip.proofs.ScriptLemmas.{takes-op, one-alone, more-free}
-use Rattle.sd_round_trip.proofs.ObjectLemmas.{IsNamed}
 use Rattle.sd_round_trip.proofs.ListLemmas.{place_of_name, name_at}
-use Rattle.sd_round_trip.proofs.DrawnLemmas.{numbered, numbered-name, mutex-at, rwlock-at, the-locks, locks-named, locks-count}
+use Rattle.sd_accepted.proofs.DrawnLemmas.{numbered, numbered-name, mutex-at, rwlock-at, the-locks, locks-named, locks-count}
 
 -- ---- locks by number
 
