@@ -25,6 +25,48 @@ const CERTIFICATE: &str =
 const EXPIRY: &str =
     "limit 22\nthread a ts 0 0 0\nthread b ts 0 0 0\nscript a\nrun 20\nend\nscript b\nrun 1\nend\n";
 
+/// Three mutexes in a chain of owners: the greatest priority passes along all of it.
+const CHAIN_OF_THREE: &str =
+    "limit 5\nmutex m0\nmutex m1\nmutex m2\nthread a fx 60 10 inf\nthread b fx 60 20 inf\nthread d fx 60 30 inf\nthread r rt 10 inf\nscript a\nenter m2\nnap 3\nrun 2\nexit m2\nend\nscript b\nnap 1\nenter m1\nenter m2\nexit m2\nexit m1\nend\nscript d\nnap 2\nenter m0\nenter m1\nexit m1\nexit m0\nend\nscript r\nnap 4\nenter m0\nexit m0\nend\n";
+
+const CHAIN_OF_THREE_JOURNAL: &str =
+    "0 c0 dispatch r 110\n1 c0 nap r\n2 c0 dispatch d 30\n3 c0 nap d\n4 c0 dispatch b 20\n5 c0 nap b\n6 c0 dispatch a 10\n7 c0 enter a m2\n8 c0 nap a\n9 c0 idle\n10 c0 napend b to c0\n11 c0 dispatch b 20\n12 c0 enter b m1\n13 c0 block b m2\n14 c0 will m2 a 20\n15 c0 idle\n16 c0 napend d to c0\n17 c0 dispatch d 30\n18 c0 enter d m0\n19 c0 block d m1\n20 c0 will m1 b 30\n21 c0 will m2 a 30\n22 c0 idle\n23 c0 napend a to c0\n24 c0 dispatch a 30\n25 c0 tick a\n26 c0 napend r rt c0\n27 c0 preempt a front\n28 c0 dispatch r 110\n29 c0 block r m0\n30 c0 will m0 d 110\n31 c0 will m1 b 110\n32 c0 will m2 a 110 rt c0\n33 c0 dispatch a 110\n34 c0 tick a\n35 c0 exit a m2\n36 c0 unblock m2 b rt c0\n37 c0 preempt a front\n38 c0 dispatch b 110\n39 c0 enter b m2\n40 c0 exit b m2\n41 c0 exit b m1\n42 c0 unblock m1 d rt c0\n43 c0 preempt b front\n44 c0 dispatch d 110\n45 c0 enter d m1\n46 c0 exit d m1\n47 c0 exit d m0\n48 c0 unblock m0 r rt c0\n49 c0 preempt d front\n50 c0 dispatch r 110\n51 c0 enter r m0\n52 c0 exit r m0\n53 c0 done r\n54 c0 dispatch d 30\n55 c0 done d\n56 c0 dispatch b 20\n57 c0 done b\n58 c0 dispatch a 10\n59 c0 done a\naccounts\nthread a ticks 2 dispatches 4 preempts 2 wakes 1 ended\nthread b ticks 0 dispatches 4 preempts 1 wakes 2 ended\nthread d ticks 0 dispatches 4 preempts 1 wakes 2 ended\nthread r ticks 0 dispatches 3 preempts 0 wakes 2 ended\ncpu 0 ticks 5 idle 3\n";
+
+/// A waiter whose own priority falls: what the owner had inherited from it falls too.
+const WALK_DOWNWARDS: &str =
+    "limit 2\nmutex m\nthread a fx 60 10 inf\nthread b fx 60 30 inf\nthread x fx 60 5 inf priv\nscript a\nenter m\nnap 2\nexit m\nend\nscript b\nnap 1\nenter m\nexit m\nend\nscript x\nnap 1\npriocntl b fx 60 3 inf\nend\n";
+
+const WALK_DOWNWARDS_JOURNAL: &str =
+    "0 c0 dispatch b 30\n1 c0 nap b\n2 c0 dispatch a 10\n3 c0 enter a m\n4 c0 nap a\n5 c0 dispatch x 5\n6 c0 nap x\n7 c0 idle\n8 c0 napend b to c0\n9 c0 napend x to c0\n10 c0 dispatch b 30\n11 c0 block b m\n12 c0 will m a 30\n13 c0 dispatch x 5\n14 c0 prio x b ok 3\n15 c0 will m a 10\n16 c0 done x\n17 c0 idle\n18 c0 napend a to c0\n19 c0 dispatch a 10\n20 c0 exit a m\n21 c0 unblock m b to c0\n22 c0 done a\n23 c0 dispatch b 3\n24 c0 enter b m\n25 c0 exit b m\n26 c0 done b\naccounts\nthread a ticks 0 dispatches 2 preempts 0 wakes 1 ended\nthread b ticks 0 dispatches 3 preempts 0 wakes 2 ended\nthread x ticks 0 dispatches 2 preempts 0 wakes 1 ended\ncpu 0 ticks 2 idle 2\n";
+
+/// A reader that waits behind a writer, though other readers hold the lock.
+const READER_BEHIND_WRITER: &str =
+    "limit 3\nrwlock w\nthread a fx 60 10 inf\nthread v fx 60 30 inf\nthread q fx 60 20 inf\nscript a\nread w\nnap 2\nexit w\nend\nscript v\nnap 1\nwrite w\nexit w\nend\nscript q\nnap 1\nread w\nexit w\nend\n";
+
+const READER_BEHIND_WRITER_JOURNAL: &str =
+    "0 c0 dispatch v 30\n1 c0 nap v\n2 c0 dispatch q 20\n3 c0 nap q\n4 c0 dispatch a 10\n5 c0 read a w\n6 c0 nap a\n7 c0 idle\n8 c0 napend v to c0\n9 c0 napend q to c0\n10 c0 dispatch v 30\n11 c0 block v w\n12 c0 end w\n13 c0 dispatch q 20\n14 c0 block q w\n15 c0 end w\n16 c0 idle\n17 c0 napend a to c0\n18 c0 dispatch a 10\n19 c0 exit a w\n20 c0 grant w v to c0\n21 c0 preempt a front\n22 c0 dispatch v 30\n23 c0 exit v w\n24 c0 grant w q to c0\n25 c0 passed w\n26 c0 done v\n27 c0 dispatch q 20\n28 c0 exit q w\n29 c0 done q\n30 c0 dispatch a 10\n31 c0 done a\n32 c0 idle\naccounts\nthread a ticks 0 dispatches 3 preempts 1 wakes 1 ended\nthread v ticks 0 dispatches 3 preempts 0 wakes 2 ended\nthread q ticks 0 dispatches 3 preempts 0 wakes 2 ended\ncpu 0 ticks 3 idle 3\n";
+
+/// A broadcast that wakes the sleepers one after another.
+const BROADCAST: &str =
+    "limit 1\nchan k\nthread a fx 60 20 inf\nthread b fx 60 20 inf\nthread d fx 60 10 inf\nscript a\nsleep k\nend\nscript b\nsleep k\nend\nscript d\nwakeall k\nend\n";
+
+const BROADCAST_JOURNAL: &str =
+    "0 c0 dispatch a 20\n1 c0 sleep a k\n2 c0 dispatch b 20\n3 c0 sleep b k\n4 c0 dispatch d 10\n5 c0 wakeall d k\n6 c0 rouse k a to c0\n7 c0 rouse k b to c0\n8 c0 preempt d front\n9 c0 dispatch a 20\n10 c0 done a\n11 c0 dispatch b 20\n12 c0 done b\n13 c0 dispatch d 10\n14 c0 done d\n15 c0 idle\naccounts\nthread a ticks 0 dispatches 2 preempts 0 wakes 1 ended\nthread b ticks 0 dispatches 2 preempts 0 wakes 1 ended\nthread d ticks 0 dispatches 2 preempts 1 wakes 0 ended\ncpu 0 ticks 1 idle 1\n";
+
+/// A thread that is bound to a processor, and goes there.
+const BOUND: &str =
+    "cpus 2\nlimit 1\nthread x fx 60 30 inf priv\nthread a fx 60 20 inf\nscript x\npbind a 0\nend\nscript a\nrun 1\nend\n";
+
+const BOUND_JOURNAL: &str =
+    "0 c0 dispatch x 30\n1 c1 dispatch a 20\n2 c0 pbind x a c0 ok\n3 c1 preempt a away c0\n4 c0 done x\n5 c1 idle h 0\n6 c0 dispatch a 20\n7 c0 tick a\n8 c0 done a\naccounts\nthread x ticks 0 dispatches 1 preempts 0 wakes 0 ended\nthread a ticks 1 dispatches 2 preempts 1 wakes 0 ended\ncpu 0 ticks 1 idle 0\ncpu 1 ticks 1 idle 1\n";
+
+/// A wakeup of a channel on which nobody sleeps.
+const NOBODY_ASLEEP: &str =
+    "limit 1\nchan k\nthread a fx 60 20 inf\nthread b fx 60 10 inf\nscript a\nwake k\nend\nscript b\nsleep k\nend\n";
+
+const NOBODY_ASLEEP_JOURNAL: &str =
+    "0 c0 dispatch a 20\n1 c0 wake a k none\n2 c0 done a\n3 c0 dispatch b 10\n4 c0 sleep b k\n5 c0 idle\naccounts\nthread a ticks 0 dispatches 1 preempts 0 wakes 0 ended\nthread b ticks 0 dispatches 1 preempts 0 wakes 0 asleep k\ncpu 0 ticks 1 idle 1\n";
+
 /// What a call returned, and what its streams received.
 #[derive(Drop)]
 struct Called {
@@ -76,6 +118,12 @@ fn worked_runs(rt: HostRuntime) -> Result<(), Fail> {
             "limit 1\nthread a ts 5 0 -60\nscript a\nrun 1\nend\n",
             "0 c0 dispatch a 0\n1 c0 tick a\n2 c0 done a\naccounts\nthread a ticks 1 dispatches 1 preempts 0 wakes 0 ended\ncpu 0 ticks 1 idle 0\n",
         ),
+        (CHAIN_OF_THREE, CHAIN_OF_THREE_JOURNAL),
+        (WALK_DOWNWARDS, WALK_DOWNWARDS_JOURNAL),
+        (READER_BEHIND_WRITER, READER_BEHIND_WRITER_JOURNAL),
+        (BROADCAST, BROADCAST_JOURNAL),
+        (BOUND, BOUND_JOURNAL),
+        (NOBODY_ASLEEP, NOBODY_ASLEEP_JOURNAL),
     ];
     for (input, journal) in rows {
         let called = call(rt.alloc(), "run", input.as_bytes(), 7, &[], 4096, &[])?;
