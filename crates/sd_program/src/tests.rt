@@ -75,7 +75,8 @@ struct Called {
     err: MemorySink,
 }
 
-/// A call over streams in memory: the reads named in `reads` and the writes named in `writes` fail, counted from 1.
+/// A call over streams in memory: the reads named in `reads` and the writes named in `writes` fail, counted from 1. The error
+/// output has room for `err_room` bytes.
 fn call(
     alloc: Global,
     arguments: &str,
@@ -84,6 +85,7 @@ fn call(
     reads: &[u64],
     room: usize,
     writes: &[u64],
+    err_room: usize,
 ) -> Result<Called, AllocError>
     requires { 1 ≤ chunk }
 {
@@ -97,7 +99,7 @@ fn call(
         Vec::from_slice(alloc, reads)?,
     );
     let mut out = MemorySink::new(alloc, room, Vec::from_slice(alloc, writes)?)?;
-    let mut err = MemorySink::new(alloc, 200, Vec::new(alloc))?;
+    let mut err = MemorySink::new(alloc, err_room, Vec::new(alloc))?;
     let status = serial(alloc, &texts, &mut source, &mut out, &mut err, &OpenGate);
     Ok(Called { status, out, err })
 }
@@ -126,7 +128,7 @@ fn worked_runs(rt: HostRuntime) -> Result<(), Fail> {
         (NOBODY_ASLEEP, NOBODY_ASLEEP_JOURNAL),
     ];
     for (input, journal) in rows {
-        let called = call(rt.alloc(), "run", input.as_bytes(), 7, &[], 4096, &[])?;
+        let called = call(rt.alloc(), "run", input.as_bytes(), 7, &[], 4096, &[], 200)?;
         assert_eq!(rt; called.status, 0, "{input}");
         assert_eq!(rt; called.out.bytes(), journal.as_bytes(), "{input}");
         assert_eq!(rt; called.err.bytes(), b"".as_slice(), "{input}");
@@ -152,7 +154,7 @@ fn refusals_and_failing_streams(rt: HostRuntime) -> Result<(), Fail> {
     let alloc = rt.alloc();
     // The arguments, the input, the reads that fail, the room of the output and the writes that fail; then the status,
     // the output and the error output.
-    let cases: [(&str, &str, &[u64], usize, &[u64], u8, &str, &str); 20] = [
+    let cases: [(&str, &str, &[u64], usize, &[u64], u8, &str, &str); 22] = [
         ("", SMALLEST, &[], 4096, &[], 1, "", USAGE),
         ("run fast", SMALLEST, &[], 4096, &[], 1, "", USAGE),
         ("fast", SMALLEST, &[1], 4096, &[1], 1, "", USAGE),
@@ -208,6 +210,9 @@ fn refusals_and_failing_streams(rt: HostRuntime) -> Result<(), Fail> {
             "blocking cycle\n",
         ),
         ("run", SMALLEST, &[2], 4096, &[], 3, "", "read fault\n"),
+        // The read that fails is the one behind the last byte.
+        ("run", SMALLEST, &[13], 4096, &[], 3, "", "read fault\n"),
+        ("audit", CERTIFICATE, &[1], 4096, &[], 3, "", "read fault\n"),
         (
             "run",
             SMALLEST,
@@ -292,7 +297,16 @@ fn refusals_and_failing_streams(rt: HostRuntime) -> Result<(), Fail> {
         ),
     ];
     for (arguments, input, reads, room, writes, status, out, err) in cases {
-        let called = call(alloc, arguments, input.as_bytes(), 4, reads, room, writes)?;
+        let called = call(
+            alloc,
+            arguments,
+            input.as_bytes(),
+            4,
+            reads,
+            room,
+            writes,
+            200,
+        )?;
         assert_eq!(rt; called.status, status, "{input}");
         assert_eq!(rt; called.out.bytes(), out.as_bytes(), "{input}");
         assert_eq!(rt; called.err.bytes(), err.as_bytes(), "{input}");
@@ -303,13 +317,11 @@ fn refusals_and_failing_streams(rt: HostRuntime) -> Result<(), Fail> {
 #[test]
 fn an_input_too_large(rt: HostRuntime) -> Result<(), Fail> {
     let input = vec![in rt.alloc(); b'#'; 1_048_577]?;
-    let called = call(rt.alloc(), "run", &input, 65_536, &[], 16, &[])?;
+    let called = call(rt.alloc(), "run", &input, 65_536, &[], 16, &[], 8)?;
     assert_eq!(rt; called.status, 2);
     assert_eq!(rt; called.out.bytes(), b"".as_slice());
-    assert_eq!(rt;
-        called.err.bytes(),
-        b"refused: input larger than 1048576 bytes\n".as_slice()
-    );
+    // The error output has room for a prefix of its line, which changes no status.
+    assert_eq!(rt; called.err.bytes(), b"refused:".as_slice());
     Ok(())
 }
 
