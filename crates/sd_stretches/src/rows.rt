@@ -1,0 +1,95 @@
+//! The stretches of one thread.
+
+ghost use Rattle.std.specs.Prelude.{◌≡◌, ◌+◌, ◌++◌, ◌==◌, ◌∷◌, [], IfOk, OnOk, filter, slice_get};
+ghost use Rattle.sd_stretches.specs.Rows.{own_turns, stretch_to, stretches};
+
+use crate::changes::Turn;
+use crate::sights::Doing;
+use sd_types::Class;
+use std::alloc::{AllocError, Global};
+
+/// A stretch of a run over which a thread does one thing: from the state that `first` entries made up to the one that `last`
+/// entries made, both with it. So entry `first` - 1 began it (none where `first` is 0) and entry `last` ended it, or, where
+/// there are no more than `last` entries, the end of the run. `from` and `to` are the counts of ticks of the processors that
+/// made these entries. Class and effective priority are those at its begin.
+#[derive(Clone, Copy)]
+pub struct Stretch {
+    pub thread: usize,
+    pub first: u64,
+    pub last: u64,
+    pub from: u32,
+    pub to: u32,
+    pub doing: Doing,
+    pub class: Class,
+    pub priority: u8,
+}
+
+// The turn, where it is of the thread.
+fn push_own(x: Turn, t: usize, own: &mut Vec<Turn>) -> Result<(), AllocError>
+    ensures { OnOk result (own.new.items ≡ own.old.items ++ own_turns t (x ∷ [])) }
+{
+    if x.thread == t {
+        own.push(x)?;
+    }
+    Ok(())
+}
+
+// Those of one thread.
+fn own_turns(alloc: Global, turns: &[Turn], t: usize) -> Result<Vec<Turn>, AllocError>
+    ensures { IfOk result (λ v. v.items ≡ own_turns t turns.now) }
+{
+    let mut own = Vec::new(alloc);
+    for x in turns {
+        push_own(*x, t, &mut own)?;
+    }
+    Ok(own)
+}
+
+fn turn_at(turns: &[Turn], i: usize) -> Option<Turn>
+    ensures { result ≡ slice_get turns.now i }
+{
+    match turns.get(i) {
+        Some(x) => Some(*x),
+        None => None,
+    }
+}
+
+fn stretch_to(entries: u64, end: u32, x: Turn, next: Option<Turn>) -> Stretch
+    ensures { result ≡ stretch_to entries end x next }
+{
+    let (last, to) = match next {
+        Some(y) => (y.first.saturating_sub(1), y.tick),
+        None => (entries, end),
+    };
+    Stretch {
+        thread: x.thread,
+        first: x.first,
+        last,
+        from: x.tick,
+        to,
+        doing: x.doing,
+        class: x.class,
+        priority: x.priority,
+    }
+}
+
+/// The stretches of a thread in order, from the turns of a run of so many entries, which ended at this tick.
+#[tactic(auto, unfolding(crate::specs::Rows::stretches))]
+pub fn stretches(
+    alloc: Global,
+    turns: &[Turn],
+    t: usize,
+    entries: u64,
+    end: u32,
+) -> Result<Vec<Stretch>, AllocError>
+    ensures { IfOk result (λ v. v.items ≡ stretches t turns.now entries end) }
+{
+    let own = own_turns(alloc, turns, t)?;
+    let mut found = Vec::new(alloc);
+    let mut i = 0;
+    while let Some(x) = turn_at(&own, i) {
+        i += 1;
+        found.push(stretch_to(entries, end, x, turn_at(&own, i)))?;
+    }
+    Ok(found)
+}
