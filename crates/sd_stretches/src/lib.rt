@@ -12,5 +12,5 @@ mod sights;
 pub use changes::{HandOver, Load, Rank, Turn, Wakeup};
 pub use histories::History;
 pub use laws::stretches_are_exact;
-pub use rows::{Stretch, stretches};
+pub use rows::{Level, Stretch, levels, stretches};
 pub use sights::{Doing, Sight};

@@ -1,9 +1,9 @@
-//! The stretches of one thread.
+//! The stretches of one thread, and the levels of its priority.
 
 ghost use Rattle.std.specs.Prelude.{◌≡◌, ◌+◌, ◌++◌, ◌==◌, ◌∷◌, [], IfOk, OnOk, filter, slice_get};
-ghost use Rattle.sd_stretches.specs.Rows.{own_turns, stretch_to, stretches};
+ghost use Rattle.sd_stretches.specs.Rows.{level_to, levels, own_ranks, own_turns, stretch_to, stretches};
 
-use crate::changes::Turn;
+use crate::changes::{Rank, Turn};
 use crate::sights::Doing;
 use sd_types::Class;
 use std::alloc::{AllocError, Global};
@@ -90,6 +90,76 @@ pub fn stretches(
     while let Some(x) = turn_at(&own, i) {
         i += 1;
         found.push(stretch_to(entries, end, x, turn_at(&own, i)))?;
+    }
+    Ok(found)
+}
+
+/// Over which ticks a thread has this effective priority, inherited or its own: from the state that `first` entries made on.
+#[derive(Clone, Copy)]
+pub struct Level {
+    pub first: u64,
+    pub from: u32,
+    pub to: u32,
+    pub priority: u8,
+    pub inherited: bool,
+}
+
+// The rank, where it is of the thread.
+fn push_own_rank(x: Rank, t: usize, own: &mut Vec<Rank>) -> Result<(), AllocError>
+    ensures { OnOk result (own.new.items ≡ own.old.items ++ own_ranks t (x ∷ [])) }
+{
+    if x.thread == t {
+        own.push(x)?;
+    }
+    Ok(())
+}
+
+// Those of one thread.
+fn own_ranks(alloc: Global, ranks: &[Rank], t: usize) -> Result<Vec<Rank>, AllocError>
+    ensures { IfOk result (λ v. v.items ≡ own_ranks t ranks.now) }
+{
+    let mut own = Vec::new(alloc);
+    for x in ranks {
+        push_own_rank(*x, t, &mut own)?;
+    }
+    Ok(own)
+}
+
+fn rank_at(ranks: &[Rank], i: usize) -> Option<Rank>
+    ensures { result ≡ slice_get ranks.now i }
+{
+    match ranks.get(i) {
+        Some(x) => Some(*x),
+        None => None,
+    }
+}
+
+fn level_to(end: u32, x: Rank, next: Option<Rank>) -> Level
+    ensures { result ≡ level_to end x next }
+{
+    Level {
+        first: x.first,
+        from: x.tick,
+        to: match next {
+            Some(y) => y.tick,
+            None => end,
+        },
+        priority: x.priority,
+        inherited: x.inherited,
+    }
+}
+
+/// The levels of a thread's priority in order, from the ranks of a run that ended at this tick.
+#[tactic(auto, unfolding(crate::specs::Rows::levels))]
+pub fn levels(alloc: Global, ranks: &[Rank], t: usize, end: u32) -> Result<Vec<Level>, AllocError>
+    ensures { IfOk result (λ v. v.items ≡ levels t ranks.now end) }
+{
+    let own = own_ranks(alloc, ranks, t)?;
+    let mut found = Vec::new(alloc);
+    let mut i = 0;
+    while let Some(x) = rank_at(&own, i) {
+        i += 1;
+        found.push(level_to(end, x, rank_at(&own, i)))?;
     }
     Ok(found)
 }
