@@ -17,21 +17,26 @@ use Rattle.sd_full.proofs.RunLemmas.{final-nil, final-push, IsRun-from, from-IsR
 use Rattle.sd_spelling.specs.Fitting.{IsSpelled}
 use Rattle.sd_spelling.proofs.LineLemmas.{one_line}
 use Rattle.sd_audit.specs.Audits.{entry_line, IsJournal}
-use Rattle.sd_audit.proofs.LineLemmas.{text_of, not_accounts, journal_lines}
+use Rattle.sd_gather.proofs.LineLemmas.{text_of, not_accounts, journal_lines}
 use Rattle.sd_stretches.specs.declared.histories.History.{History}
 use Rattle.sd_stretches.specs.Histories.{IsHistory}
 use Rattle.sd_gather.specs.Journals.{HasJournal, IsJournalOf, IsLineOf, TellsEntry, IsAtEntry, IsUnderWay, IsHistoryOf}
 
 -- the entries of a journal
 pub entries_of : (w : Work) (text : List ℕ) → HasJournal w text → (es : List Entry) × IsJournalOf w text es
-entries_of w text h = (h.1.1.entries, record { run = h.1.1.run; spelled = h.1.1.spelled; whole = h.1.1.whole })
+entries_of w text h = (h.2.entries, record { run = h.2.run; spelled = h.2.spelled; whole = h.2.whole })
+
+-- the lines of a journal, with some behind the line `accounts`
+lines_and_rest : (w : Work) (es : List Entry) → All (IsSpelled w) es → (rest : List (List ℕ)) × (lines_of (journal w es) ≡ map (entry_line w) es ++ codes "accounts" ∷ rest)
+lines_and_rest w es spelled = (_, journal_lines w es spelled)
 
 pub under_way_start : (w : Work) (text : List ℕ) (s : State) (h : History) → s ≡ opening w → IsHistory w [] h → IsUnderWay w text s h 0
 under_way_start w text s h start history es j =
     let none : h.entries ≡ 0 = history.entries in
+    let told = lines_and_rest w es j.spelled in
     record {
-      rest = _;
-      lines = ap lines_of j.whole ∙ journal_lines w es j.spelled ∙ ap (λ (n : ℕ). map (entry_line w) (drop n es) ++ codes "accounts" ∷ _) (sym none);
+      rest = told.0;
+      lines = ap lines_of j.whole ∙ told.1 ∙ ap (λ (n : ℕ). map (entry_line w) (drop n es) ++ codes "accounts" ∷ told.0) (sym none);
       within = omega (arith, none);
       state = start ∙ sym (final-nil w (opening w)) ∙ ap (λ (n : ℕ). state_at w es n) (sym none);
       history = subst (λ (n : ℕ). IsHistory w (take n es) h) (sym none) history;
@@ -134,24 +139,31 @@ module _ (w : Work) (text : List ℕ) (es : List Entry) (s : State) (h : History
   }
 
   -- one entry more is read
-  pub at_more : (e : Entry) (left : List (List ℕ)) (s' : State) (h' : History) (from' : ℕ) → IsNext w es s h.entries e left at.rest
-      → s' ≡ after w s e.number e.cpu e.event
-      → ((u : Work) (fs : List Entry) → s' ≡ final u (opening u) (fs ++ e ∷ []) → IsHistory u fs h → IsHistory u (fs ++ e ∷ []) h')
-      → lines_of (drop from' text) ≡ left → IsAtEntry w text es s' h' from'
-  at_more e left s' h' from' n made added lines =
-      let state : s' ≡ final w (opening w) (take h.entries es ++ e ∷ [])
-        = made ∙ ap (λ (x : State). after w x e.number e.cpu e.event) at.state ∙ sym (final-push w (opening w) (take h.entries es) e) in
-      let one = one_more e n.inside n.is in
-      let history = added w (take h.entries es) state at.history in
-      let entries = history.entries in
-      let pushed = length-append (take h.entries es) (e ∷ []) in
-      let many = so_many n.inside in
-      let more : h'.entries ≡ h.entries + 1 = omega (arith, entries, pushed, many) in
-      let inside = n.inside in
-      record {
-        rest = at.rest;
-        lines = lines ∙ n.lines ∙ ap (λ (k : ℕ). map (entry_line w) (drop k es) ++ codes "accounts" ∷ at.rest) (sym more);
-        within = omega (arith, more, inside);
-        state = state ∙ ap (final w (opening w)) (sym one) ∙ ap (λ (k : ℕ). state_at w es k) (sym more);
-        history = subst (λ (k : ℕ). IsHistory w (take k es) h') (sym more) (subst (λ (xs : List Entry). IsHistory w xs h') (sym one) history);
-      }
+  module _ (e : Entry) (left : List (List ℕ)) (s' : State) (h' : History) (n : IsNext w es s h.entries e left at.rest)
+      (made : s' ≡ after w s e.number e.cpu e.event)
+      (added : (u : Work) (fs : List Entry) → s' ≡ final u (opening u) (fs ++ e ∷ []) → IsHistory u fs h → IsHistory u (fs ++ e ∷ []) h') where
+    state_more : s' ≡ final w (opening w) (take h.entries es ++ e ∷ [])
+    state_more = made ∙ ap (λ (x : State). after w x e.number e.cpu e.event) at.state ∙ sym (final-push w (opening w) (take h.entries es) e)
+
+    history_more : IsHistory w (take h.entries es ++ e ∷ []) h'
+    history_more = added w (take h.entries es) state_more at.history
+
+    pub entries_more : h'.entries ≡ h.entries + 1
+    entries_more =
+        let entries = history_more.entries in
+        let pushed = length-append (take h.entries es) (e ∷ []) in
+        let many = so_many n.inside in
+        omega (arith, entries, pushed, many)
+
+    pub at_more : (from' : ℕ) → lines_of (drop from' text) ≡ left → IsAtEntry w text es s' h' from'
+    at_more from' lines =
+        let one = one_more e n.inside n.is in
+        let more = entries_more in
+        let inside = n.inside in
+        record {
+          rest = at.rest;
+          lines = lines ∙ n.lines ∙ ap (λ (k : ℕ). map (entry_line w) (drop k es) ++ codes "accounts" ∷ at.rest) (sym more);
+          within = omega (arith, more, inside);
+          state = state_more ∙ ap (final w (opening w)) (sym one) ∙ ap (λ (k : ℕ). state_at w es k) (sym more);
+          history = subst (λ (k : ℕ). IsHistory w (take k es) h') (sym more) (subst (λ (xs : List Entry). IsHistory w xs h') (sym one) history_more);
+        }

@@ -7,14 +7,26 @@ use Rattle.sd_stretches.specs.declared.changes.Load.{Load}
 use Rattle.sd_stretches.specs.declared.changes.Wakeup.{Wakeup}
 use Rattle.sd_trace.specs.Words.{micros, place_at}
 
+-- a word as the name of an event
+unfoldable pub named : List ℕ → List ℕ
+named word = codes ",\n{\"name\":\"" ++ word
+
+unfoldable pub start_kind : ℕ → List ℕ
+start_kind entry = codes "\",\"cat\":\"flow\",\"ph\":\"s\",\"id\":" ++ decimal entry
+
+unfoldable pub end_kind : ℕ → List ℕ
+end_kind entry = codes "\",\"cat\":\"flow\",\"ph\":\"f\",\"bp\":\"e\",\"id\":" ++ decimal entry
+
+unfoldable pub entry_argument : ℕ → List ℕ
+entry_argument entry = (codes ",\"args\":{\"entry\":" ++ decimal entry) ++ codes "}}"
+
 unfoldable pub arrow_start : Work → List ℕ → ℕ → ℕ → ℕ → List ℕ
 arrow_start w word entry tick track =
-    codes ",\n{\"name\":\"" ++ word ++ (codes "\",\"cat\":\"flow\",\"ph\":\"s\",\"id\":" ++ decimal entry) ++ place_at w tick 2 track
-    ++ (codes ",\"args\":{\"entry\":" ++ decimal entry) ++ codes "}}"
+    named word ++ start_kind entry ++ place_at w tick 2 track
+    ++ entry_argument entry
 
 unfoldable pub arrow_end : Work → List ℕ → ℕ → ℕ → ℕ → List ℕ
-arrow_end w word entry tick track =
-    codes ",\n{\"name\":\"" ++ word ++ (codes "\",\"cat\":\"flow\",\"ph\":\"f\",\"bp\":\"e\",\"id\":" ++ decimal entry) ++ place_at w tick 2 track ++ codes "}"
+arrow_end w word entry tick track = named word ++ end_kind entry ++ place_at w tick 2 track ++ codes "}"
 
 -- an arrow from the track of one thread to that of another, at a tick; its number is that of the entry
 abbrev pub arrow : Work → List ℕ → ℕ → ℕ → ℕ × ℕ → List ℕ
@@ -44,7 +56,12 @@ hand_from w x (Some waiter) = arrow_from w (codes "hands priority on") x.entry x
 abbrev pub hand_flow : Work → HandOver → List ℕ
 hand_flow w x = hand_from w x x.waiter
 
+unfoldable pub load_start : ℕ → List ℕ
+load_start time = codes ",\n{\"name\":\"runnable\",\"ph\":\"C\",\"pid\":1,\"ts\":" ++ decimal time
+
+unfoldable pub load_argument : ℕ → List ℕ
+load_argument runnable = (codes ",\"args\":{\"threads\":" ++ decimal runnable) ++ codes "}}"
+
+-- from a tick on so many threads stand on dispatch queues
 unfoldable pub load_event : Work → Load → List ℕ
-load_event w x =
-    (codes ",\n{\"name\":\"runnable\",\"ph\":\"C\",\"pid\":1,\"ts\":" ++ decimal (micros w x.tick)) ++ (codes ",\"args\":{\"threads\":" ++ decimal x.runnable)
-    ++ codes "}}"
+load_event w x = load_start (micros w x.tick) ++ load_argument x.runnable

@@ -1,7 +1,7 @@
 //! The flows from who wakes to who is woken and from who waits to who inherits, and the counter of runnable threads.
 
 ghost use Rattle.std.specs.Prelude.{◌≡◌, ◌++◌, ◌+◌, OnOk, codes, decimal, flat_map};
-ghost use Rattle.sd_trace.specs.Flows.{arrow, arrow_end, arrow_start, hand_flow, load_event, track_at, wake_flow};
+ghost use Rattle.sd_trace.specs.Flows.{arrow, arrow_end, arrow_start, end_kind, entry_argument, hand_flow, load_argument, load_event, load_start, named, start_kind, track_at, wake_flow};
 
 use crate::words::{micros, put_counted, put_place};
 use sd_stretches::{HandOver, Load, Wakeup};
@@ -15,6 +15,37 @@ fn track_of(t: u16) -> u64
     u64::from(t) + 1
 }
 
+// A word as the name of an event.
+#[tactic(auto, unfolding(crate::specs::Flows::named))]
+fn put_named(word: &[u8], out: &mut Vec<u8>) -> Result<(), AllocError>
+    ensures { OnOk result (out.new.items ≡ out.old.items ++ named word.now) }
+{
+    out.extend_from_slice(b",\n{\"name\":\"")?;
+    out.extend_from_slice(word)
+}
+
+#[tactic(auto, unfolding(crate::specs::Flows::start_kind))]
+fn put_start_kind(entry: u64, out: &mut Vec<u8>) -> Result<(), AllocError>
+    ensures { OnOk result (out.new.items ≡ out.old.items ++ start_kind entry) }
+{
+    put_counted(b"\",\"cat\":\"flow\",\"ph\":\"s\",\"id\":", entry, out)
+}
+
+#[tactic(auto, unfolding(crate::specs::Flows::end_kind))]
+fn put_end_kind(entry: u64, out: &mut Vec<u8>) -> Result<(), AllocError>
+    ensures { OnOk result (out.new.items ≡ out.old.items ++ end_kind entry) }
+{
+    put_counted(b"\",\"cat\":\"flow\",\"ph\":\"f\",\"bp\":\"e\",\"id\":", entry, out)
+}
+
+#[tactic(auto, unfolding(crate::specs::Flows::entry_argument))]
+fn put_entry_argument(entry: u64, out: &mut Vec<u8>) -> Result<(), AllocError>
+    ensures { OnOk result (out.new.items ≡ out.old.items ++ entry_argument entry) }
+{
+    put_counted(b",\"args\":{\"entry\":", entry, out)?;
+    out.extend_from_slice(b"}}")
+}
+
 #[tactic(auto, unfolding(crate::specs::Flows::arrow_start))]
 fn put_arrow_start(
     work: &Work,
@@ -26,12 +57,10 @@ fn put_arrow_start(
 ) -> Result<(), AllocError>
     ensures { OnOk result (out.new.items ≡ out.old.items ++ arrow_start work.now word.now entry tick track) }
 {
-    out.extend_from_slice(b",\n{\"name\":\"")?;
-    out.extend_from_slice(word)?;
-    put_counted(b"\",\"cat\":\"flow\",\"ph\":\"s\",\"id\":", entry, out)?;
+    put_named(word, out)?;
+    put_start_kind(entry, out)?;
     put_place(work, tick, 2, track, out)?;
-    put_counted(b",\"args\":{\"entry\":", entry, out)?;
-    out.extend_from_slice(b"}}")
+    put_entry_argument(entry, out)
 }
 
 #[tactic(auto, unfolding(crate::specs::Flows::arrow_end))]
@@ -45,9 +74,8 @@ fn put_arrow_end(
 ) -> Result<(), AllocError>
     ensures { OnOk result (out.new.items ≡ out.old.items ++ arrow_end work.now word.now entry tick track) }
 {
-    out.extend_from_slice(b",\n{\"name\":\"")?;
-    out.extend_from_slice(word)?;
-    put_counted(b"\",\"cat\":\"flow\",\"ph\":\"f\",\"bp\":\"e\",\"id\":", entry, out)?;
+    put_named(word, out)?;
+    put_end_kind(entry, out)?;
     put_place(work, tick, 2, track, out)?;
     out.extend_from_slice(b"}")
 }
@@ -144,17 +172,31 @@ pub(crate) fn put_hand_overs(
     Ok(())
 }
 
+#[tactic(auto, unfolding(crate::specs::Flows::load_start))]
+fn put_load_start(time: u64, out: &mut Vec<u8>) -> Result<(), AllocError>
+    ensures { OnOk result (out.new.items ≡ out.old.items ++ load_start time) }
+{
+    put_counted(
+        b",\n{\"name\":\"runnable\",\"ph\":\"C\",\"pid\":1,\"ts\":",
+        time,
+        out,
+    )
+}
+
+#[tactic(auto, unfolding(crate::specs::Flows::load_argument))]
+fn put_load_argument(runnable: u64, out: &mut Vec<u8>) -> Result<(), AllocError>
+    ensures { OnOk result (out.new.items ≡ out.old.items ++ load_argument runnable) }
+{
+    put_counted(b",\"args\":{\"threads\":", runnable, out)?;
+    out.extend_from_slice(b"}}")
+}
+
 #[tactic(auto, unfolding(crate::specs::Flows::load_event))]
 fn put_load(work: &Work, x: &Load, out: &mut Vec<u8>) -> Result<(), AllocError>
     ensures { OnOk result (out.new.items ≡ out.old.items ++ load_event work.now x.now) }
 {
-    put_counted(
-        b",\n{\"name\":\"runnable\",\"ph\":\"C\",\"pid\":1,\"ts\":",
-        micros(work, x.tick),
-        out,
-    )?;
-    put_counted(b",\"args\":{\"threads\":", x.runnable as u64, out)?;
-    out.extend_from_slice(b"}}")
+    put_load_start(micros(work, x.tick), out)?;
+    put_load_argument(x.runnable as u64, out)
 }
 
 /// The counter of runnable threads.

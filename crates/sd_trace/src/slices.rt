@@ -3,7 +3,7 @@
 ghost use Rattle.std.specs.Prelude.{◌≡◌, ◌++◌, ◌+◌, OnOk, codes, decimal, flat_map, length, slice_get};
 ghost use Rattle.std.specs.List.{range_with_len};
 ghost use Rattle.sd_machine.specs.Texts.{thread_name};
-ghost use Rattle.sd_trace.specs.Slices.{about, length_of, end_of, run_slice, run_slice_by, state_if, state_slice, whole_run};
+ghost use Rattle.sd_trace.specs.Slices.{about, class_argument, class_start, entry_arguments, length_of, end_of, priority_argument, run_slice, slice_kind, state_if, state_slice, whole_run};
 
 use crate::words::{class_word, micros, put_counted, put_doing, put_place};
 use sd_event::put_thread_name;
@@ -11,17 +11,45 @@ use sd_stretches::{Doing, Stretch};
 use sd_types::{CpuId, Work};
 use std::alloc::AllocError;
 
+#[tactic(auto, unfolding(crate::specs::Slices::class_start))]
+fn put_class_start(out: &mut Vec<u8>) -> Result<(), AllocError>
+    ensures { OnOk result (out.new.items ≡ out.old.items ++ class_start) }
+{
+    out.extend_from_slice(b",\"args\":{\"class\":\"")
+}
+
+#[tactic(auto, unfolding(crate::specs::Slices::class_argument))]
+fn put_class(word: &[u8], out: &mut Vec<u8>) -> Result<(), AllocError>
+    ensures { OnOk result (out.new.items ≡ out.old.items ++ class_argument word.now) }
+{
+    put_class_start(out)?;
+    out.extend_from_slice(word)
+}
+
+#[tactic(auto, unfolding(crate::specs::Slices::priority_argument))]
+fn put_priority(priority: u64, out: &mut Vec<u8>) -> Result<(), AllocError>
+    ensures { OnOk result (out.new.items ≡ out.old.items ++ priority_argument priority) }
+{
+    put_counted(b"\",\"priority\":", priority, out)
+}
+
+#[tactic(auto, unfolding(crate::specs::Slices::entry_arguments))]
+fn put_entries(first: u64, last: u64, out: &mut Vec<u8>) -> Result<(), AllocError>
+    ensures { OnOk result (out.new.items ≡ out.old.items ++ entry_arguments first last) }
+{
+    put_counted(b",\"first entry\":", first, out)?;
+    put_counted(b",\"last entry\":", last, out)?;
+    out.extend_from_slice(b"}}")
+}
+
 // Class, priority and entries of a stretch.
 #[tactic(auto, unfolding(crate::specs::Slices::about))]
 fn put_about(x: &Stretch, out: &mut Vec<u8>) -> Result<(), AllocError>
     ensures { OnOk result (out.new.items ≡ out.old.items ++ about x.now) }
 {
-    out.extend_from_slice(b",\"args\":{\"class\":\"")?;
-    out.extend_from_slice(class_word(x.class))?;
-    put_counted(b"\",\"priority\":", u64::from(x.priority), out)?;
-    put_counted(b",\"first entry\":", x.first, out)?;
-    put_counted(b",\"last entry\":", x.last, out)?;
-    out.extend_from_slice(b"}}")
+    put_class(class_word(x.class), out)?;
+    put_priority(u64::from(x.priority), out)?;
+    put_entries(x.first, x.last, out)
 }
 
 // How long a slice is.
@@ -32,6 +60,16 @@ fn put_length(work: &Work, from: u32, to: u32, out: &mut Vec<u8>) -> Result<(), 
     put_counted(b",\"dur\":", micros(work, to.saturating_sub(from)), out)
 }
 
+// The kind of a slice.
+#[tactic(auto, unfolding(crate::specs::Slices::slice_kind))]
+fn put_slice_kind(category: &[u8], out: &mut Vec<u8>) -> Result<(), AllocError>
+    ensures { OnOk result (out.new.items ≡ out.old.items ++ slice_kind category.now) }
+{
+    out.extend_from_slice(b"\",\"cat\":\"")?;
+    out.extend_from_slice(category)?;
+    out.extend_from_slice(b"\",\"ph\":\"X\"")
+}
+
 // A slice on the track of a processor.
 #[tactic(auto, unfolding(crate::specs::Slices::whole_run))]
 fn put_whole_run(work: &Work, x: &Stretch, c: CpuId, out: &mut Vec<u8>) -> Result<(), AllocError>
@@ -39,7 +77,7 @@ fn put_whole_run(work: &Work, x: &Stretch, c: CpuId, out: &mut Vec<u8>) -> Resul
 {
     out.extend_from_slice(b",\n{\"name\":\"")?;
     put_thread_name(work, x.thread, out)?;
-    out.extend_from_slice(b"\",\"cat\":\"run\",\"ph\":\"X\"")?;
+    put_slice_kind(b"run", out)?;
     put_place(work, x.from, 1, u64::from(c.0) + 1, out)?;
     put_length(work, x.from, x.to, out)?;
     put_about(x, out)
@@ -101,7 +139,7 @@ fn put_state(
 {
     out.extend_from_slice(b",\n{\"name\":\"")?;
     put_doing(work, x.doing, out)?;
-    out.extend_from_slice(b"\",\"cat\":\"state\",\"ph\":\"X\"")?;
+    put_slice_kind(b"state", out)?;
     put_place(work, x.from, 2, track, out)?;
     put_length(work, x.from, end_of(x, next), out)?;
     put_about(x, out)

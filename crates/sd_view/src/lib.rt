@@ -1,0 +1,8 @@
+//! What `dispview` draws: the timeline or the trace of the run whose journal a text is, and nothing where it is none.
+#![tactic(auto)]
+
+mod drawings;
+mod frames;
+
+pub use drawings::{Drawing, draw};
+pub use frames::{frame_of, is_part};
