@@ -98,10 +98,13 @@ module _ (w : Work) (text : List ℕ) (es : List Entry) (s : State) (h : History
   -- another line is that of an entry
   pub tells_entry : (line : List ℕ) (rest : List (List ℕ)) → lines_of (drop from text) ≡ line ∷ rest → ¬ (line ≡ codes "accounts") → TellsEntry w line
   tells_entry line rest lines other = elim (slice_get_cases es h.entries).1 [
-    | inl (d, more, held, is) ↦ (d, record {
+    | inl (d, more, held, is) ↦ (
+      d,
+      record {
         spelled = spelled_at d more is;
         text = text_of w d ∙ ap (λ (l : List ℕ). l ++ 10 ∷ []) (sym (head_same line (entry_line w d) rest _ (sym lines ∙ next d more is)).0);
-      })
+      },
+    )
     | inr (all, held) ↦ absurd (other (head_same line (codes "accounts") rest at.rest (sym lines ∙ past all)).0)
   ]
 

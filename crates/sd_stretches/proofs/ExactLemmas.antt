@@ -116,15 +116,15 @@ module _ (g : ℕ → Sight) (t : ℕ) (ticks : ℕ → ℕ) where
         let P : List Turn → Type 0 = λ ys. AreExact (λ j. (g j).doing) n k (stretches_of n end (x ∷ ys)) in
         let rest : ℕ → List Turn = λ b. flat_map turn_at (range_with_len b m) in
         let none : flat_map turn_at (range_with_len (suc a) (suc m)) ≡ rest (suc (suc a))
-          = ap (λ b. (if b then [] else (turn_from t (suc a) (ticks (suc a)) (g (suc a)) ∷ [])) ++ rest (suc a + 1)) stays ∙ ap rest (add-one (suc a)) in
+        = ap (λ b. (if b then [] else (turn_from t (suc a) (ticks (suc a)) (g (suc a)) ∷ [])) ++ rest (suc a + 1)) stays ∙ ap rest (add-one (suc a)) in
         subst P (sym none) (exact_on n end m (suc a) k x (omega (arith, many)) (omega (arith, within)) first
-          (all_on a k x within same (sym (same_is (g a).doing (g (suc a)).doing stays))))
+        (all_on a k x within same (sym (same_is (g a).doing (g (suc a)).doing stays))))
     | inr other ↦
         let P : List Turn → Type 0 = λ ys. AreExact (λ j. (g j).doing) n k (stretches_of n end (x ∷ ys)) in
         let rest : ℕ → List Turn = λ b. flat_map turn_at (range_with_len b m) in
         let y : Turn = turn_from t (suc a) (ticks (suc a)) (g (suc a)) in
         let one : flat_map turn_at (range_with_len (suc a) (suc m)) ≡ y ∷ rest (suc (suc a))
-          = ap (λ b. (if b then [] else (turn_from t (suc a) (ticks (suc a)) (g (suc a)) ∷ [])) ++ rest (suc a + 1)) other ∙ ap (λ b. y ∷ rest b) (add-one (suc a)) in
+        = ap (λ b. (if b then [] else (turn_from t (suc a) (ticks (suc a)) (g (suc a)) ∷ [])) ++ rest (suc a + 1)) other ∙ ap (λ b. y ∷ rest b) (add-one (suc a)) in
         let last : suc a - 1 ≡ a = omega arith in
         let from : suc a - 1 + 1 ≡ suc a = omega arith in
         let Q : ℕ → Type 0 = λ b. AreExact (λ j. (g j).doing) n b (stretches_of n end (y ∷ rest (suc (suc a)))) in
@@ -197,7 +197,7 @@ unfolding turns_between
 own_between t first tick old new inside =
     filter_flat (λ (x : Turn). x.thread == t) (λ u. turn_if u first tick (slice_get old u) (slice_get new u)) (range_with_len 0 (length new))
     ∙ one_of (λ u. own_turns t (turn_if u first tick (slice_get old u) (slice_get new u))) t 0 (length new)
-      (λ u other. own_if t u first tick (slice_get old u) (slice_get new u) (grind (arith, nat_tests, other))) (omega arith) (omega (arith, inside))
+    (λ u other. own_if t u first tick (slice_get old u) (slice_get new u) (grind (arith, nat_tests, other))) (omega arith) (omega (arith, inside))
     ∙ own_if_own t first tick (slice_get old t) (slice_get new t) (grind (arith, nat_tests))
 
 module _ (w : Work) (es : List Entry) (t : ℕ) (here : t < length w.threads) where

@@ -48,13 +48,13 @@ module _ (w : Work) (es : List Entry) (e : Entry) where
   moment_last =
       ap (moment w (es ++ e ∷ [])) (add-one (length es))
       ∙ (let before : sights_of (state_at w (es ++ e ∷ []) (length es)) ≡ sights_of (final w (opening w) es)
-           = ap sights_of (state_stays (length es) (omega arith) ∙ ap (final w (opening w)) (take_all (length es) es (omega arith))) in
-         let now : state_at w (es ++ e ∷ []) (suc (length es)) ≡ final w (opening w) (es ++ e ∷ [])
-           = ap (final w (opening w)) (take_all (suc (length es)) (es ++ e ∷ []) (let n = one_more in omega (arith, n))) in
-         let entry : slice_get (es ++ e ∷ []) (length es) ≡ Some e
-           = slice_get-get_or (es ++ e ∷ []) (length es) e (let n = one_more in omega (arith, n)) ∙ ap Some (get_or-append_seam es e [] e) in
-         let many : suc (length es) ≡ length es + 1 = sym (add-one (length es)) in
-         rw (before, now, entry, many) refl)
+      = ap sights_of (state_stays (length es) (omega arith) ∙ ap (final w (opening w)) (take_all (length es) es (omega arith))) in
+      let now : state_at w (es ++ e ∷ []) (suc (length es)) ≡ final w (opening w) (es ++ e ∷ [])
+      = ap (final w (opening w)) (take_all (suc (length es)) (es ++ e ∷ []) (let n = one_more in omega (arith, n))) in
+      let entry : slice_get (es ++ e ∷ []) (length es) ≡ Some e
+      = slice_get-get_or (es ++ e ∷ []) (length es) e (let n = one_more in omega (arith, n)) ∙ ap Some (get_or-append_seam es e [] e) in
+      let many : suc (length es) ≡ length es + 1 = sym (add-one (length es)) in
+      rw (before, now, entry, many) refl)
 
   -- what the states of a run show, and that of one entry more
   pub over_more : {A : Type 0} (f : Moment → List A) → over f w (es ++ e ∷ []) ≡ over f w es ++ f last_moment
@@ -63,7 +63,7 @@ module _ (w : Work) (es : List Entry) (e : Entry) where
       ap (λ n. flat_map (λ k. f (moment w (es ++ e ∷ []) k)) (range_with_len 0 (n + 1))) one_more
       ∙ flat_range_more (λ k. f (moment w (es ++ e ∷ []) k)) (length es + 1)
       ∙ ap (λ (xs : List A). xs ++ f (moment w (es ++ e ∷ []) (length es + 1)))
-        (flat_range_same (λ k. f (moment w (es ++ e ∷ []) k)) (λ k. f (moment w es k)) 0 (length es + 1) (λ k inside. ap f (moment_stays k (omega arith))))
+      (flat_range_same (λ k. f (moment w (es ++ e ∷ []) k)) (λ k. f (moment w es k)) 0 (length es + 1) (λ k inside. ap f (moment_stays k (omega arith))))
       ∙ ap (λ (m : Moment). flat_map (λ k. f (moment w es k)) (range_with_len 0 (length es + 1)) ++ f m) moment_last
 
 final_none : (w : Work) → final w (opening w) [] ≡ opening w

@@ -12,7 +12,14 @@ own_turns t xs = filter (λ x. x.thread == t) xs
 
 abbrev pub stretch_from : Turn → ℕ → ℕ → Stretch
 stretch_from x last to = record {
-  thread = x.thread; first = x.first; last = last; from = x.tick; to = to; doing = x.doing; class = x.class; priority = x.priority;
+  thread = x.thread;
+  first = x.first;
+  last = last;
+  from = x.tick;
+  to = to;
+  doing = x.doing;
+  class = x.class;
+  priority = x.priority;
 }
 
 -- from a turn to the next one, or to the end of the run

@@ -297,11 +297,7 @@ fn wakeup_of(s: &State, entry: &Entry) -> Option<Wakeup>
 }
 
 /// Appends whom the entry, which made this state, wakes.
-pub(crate) fn push_wakeup(
-    s: &State,
-    entry: &Entry,
-    out: &mut Vec<Wakeup>,
-) -> Result<(), AllocError>
+pub(crate) fn push_wakeup(s: &State, entry: &Entry, out: &mut Vec<Wakeup>) -> Result<(), AllocError>
     ensures { OnOk result (out.new.items ≡ out.old.items ++ wakeups_of s.now (Some entry.now)) }
 {
     if let Some(wakeup) = wakeup_of(s, entry) {

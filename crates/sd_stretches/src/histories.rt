@@ -10,8 +10,8 @@ ghost use Rattle.sd_stretches.specs.Histories.{IsHistory};
 ghost use Rattle.sd_stretches.specs.Sights.{sights_of};
 
 use crate::changes::{
-    HandOver, Load, Rank, Turn, Wakeup, count_of, push_hand_over, push_load, push_ranks, push_turns,
-    push_wakeup,
+    HandOver, Load, Rank, Turn, Wakeup, count_of, push_hand_over, push_load, push_ranks,
+    push_turns, push_wakeup,
 };
 use crate::sights::{Sight, sights_of};
 use sd_machine::State;
@@ -55,13 +55,7 @@ impl History {
     }
 
     // Takes in what is seen in the next state.
-    fn see(
-        &mut self,
-        alloc: Global,
-        s: &State,
-        first: u64,
-        tick: u32,
-    ) -> Result<(), AllocError>
+    fn see(&mut self, alloc: Global, s: &State, first: u64, tick: u32) -> Result<(), AllocError>
         ensures turns { OnOk result (self.new.turns.items ≡ self.old.turns.items ++ turns_between self.old.sights.items (sights_of s.now) first tick) }
         ensures ranks { OnOk result (self.new.ranks.items ≡ self.old.ranks.items ++ ranks_between self.old.sights.items (sights_of s.now) first tick) }
         ensures loads { OnOk result (self.new.loads.items ≡ self.old.loads.items ++ load_if self.old.sights.items (sights_of s.now) first tick) }

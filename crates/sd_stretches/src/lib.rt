@@ -8,6 +8,8 @@ mod histories;
 mod laws;
 mod rows;
 mod sights;
+#[cfg(test)]
+mod tests;
 
 pub use changes::{HandOver, Load, Rank, Turn, Wakeup};
 pub use histories::History;

@@ -5,9 +5,7 @@ ghost use Rattle.sd_machine.specs.Texts.{chan_name, lock_name, thread_name};
 ghost use Rattle.sd_timeline.specs.Bars.{bar_text, between, cpu_word, doing_class, doing_text, fits, on_bar, place_text, run_bar, stretch_bar, stretch_title, times_text, word_text};
 
 use crate::frames::{Frame, Row};
-use crate::pieces::{
-    put_bar_end, put_bar_start, put_counted, put_number_label, put_word_label,
-};
+use crate::pieces::{put_bar_end, put_bar_start, put_counted, put_number_label, put_word_label};
 use sd_event::{put_chan_name, put_lock_name, put_thread_name};
 use sd_stretches::{Doing, Stretch};
 use sd_types::{ChanId, CpuId, LockId, Work};
@@ -171,10 +169,22 @@ fn put_on_bar(
     match (row, x.doing) {
         (Row::Cpu(_), _) => put_word(b"on", column, y, width, thread_bytes(work, x.thread), out),
         (Row::Thread(_), Doing::Running(c)) => put_cpu(column, y, width, c, out),
-        (Row::Thread(_), Doing::Waiting(l)) =>
-            put_word(b"on", column, y, width, lock_bytes(work, l), out),
-        (Row::Thread(_), Doing::Asleep(k)) =>
-            put_word(b"in", column, y, width, chan_bytes(work, k), out),
+        (Row::Thread(_), Doing::Waiting(l)) => put_word(
+            b"on",
+            column,
+            y,
+            width,
+            lock_bytes(work, l),
+            out,
+        ),
+        (Row::Thread(_), Doing::Asleep(k)) => put_word(
+            b"in",
+            column,
+            y,
+            width,
+            chan_bytes(work, k),
+            out,
+        ),
         _ => Ok(()),
     }
 }
@@ -222,12 +232,7 @@ fn put_bar(
 }
 
 // The bar of a stretch in the row of the processor on which the thread runs.
-fn put_run_bar(
-    work: &Work,
-    frame: Frame,
-    x: &Stretch,
-    out: &mut Vec<u8>,
-) -> Result<(), AllocError>
+fn put_run_bar(work: &Work, frame: Frame, x: &Stretch, out: &mut Vec<u8>) -> Result<(), AllocError>
     ensures { OnOk result (out.new.items ≡ out.old.items ++ run_bar work.now frame x.now) }
 {
     match x.doing {

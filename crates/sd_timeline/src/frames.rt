@@ -3,7 +3,6 @@
 ghost use Rattle.std.specs.Prelude.{◌≡◌, ◌<◌, ◌^◌};
 ghost use Rattle.sd_timeline.specs.Frames.{above, after, base, beside, bottom, column, floor, inside, offset, row_of, scaled, shown, step, top, total_width, width};
 
-
 /// What is drawn of a run: the ticks from `from` to `to`, and the first `threads` threads of a workload with so many
 /// processors.
 #[derive(Clone, Copy)]

@@ -44,14 +44,18 @@ fn put_size(frame: Frame, out: &mut Vec<u8>) -> Result<(), AllocError>
 fn put_dark_colours(out: &mut Vec<u8>) -> Result<(), AllocError>
     ensures { OnOk result (out.new.items ≡ out.old.items ++ dark_colours) }
 {
-    out.extend_from_slice(b".run{fill:#173f5f;stroke:#fff}\n.wait{fill:#c8372d}\n.sleep{fill:#6fa8a0}\n")
+    out.extend_from_slice(
+        b".run{fill:#173f5f;stroke:#fff}\n.wait{fill:#c8372d}\n.sleep{fill:#6fa8a0}\n",
+    )
 }
 
 #[tactic(auto, unfolding(crate::specs::Head::light_colours))]
 fn put_light_colours(out: &mut Vec<u8>) -> Result<(), AllocError>
     ensures { OnOk result (out.new.items ≡ out.old.items ++ light_colours) }
 {
-    out.extend_from_slice(b".ready{fill:#f6b73c}\n.nap{fill:#dfdfee}\n.end{fill:#fff}\n.page{fill:#fff;stroke:none}\n")
+    out.extend_from_slice(
+        b".ready{fill:#f6b73c}\n.nap{fill:#dfdfee}\n.end{fill:#fff}\n.page{fill:#fff;stroke:none}\n",
+    )
 }
 
 // The letters and lines.
@@ -59,21 +63,27 @@ fn put_light_colours(out: &mut Vec<u8>) -> Result<(), AllocError>
 fn put_letters(out: &mut Vec<u8>) -> Result<(), AllocError>
     ensures { OnOk result (out.new.items ≡ out.old.items ++ letters) }
 {
-    out.extend_from_slice(b"text{font:11px sans-serif;fill:#000}\n.head{font-weight:bold}\n.name{text-anchor:end}\n.tick{text-anchor:middle}\n")
+    out.extend_from_slice(
+        b"text{font:11px sans-serif;fill:#000}\n.head{font-weight:bold}\n.name{text-anchor:end}\n.tick{text-anchor:middle}\n",
+    )
 }
 
 #[tactic(auto, unfolding(crate::specs::Head::small_letters))]
 fn put_small_letters(out: &mut Vec<u8>) -> Result<(), AllocError>
     ensures { OnOk result (out.new.items ≡ out.old.items ++ small_letters) }
 {
-    out.extend_from_slice(b".on,.in,.own,.inherited{font-size:10px}\n.on{fill:#fff}\n.inherited,.dead{font-weight:bold;fill:#a3160c}\n")
+    out.extend_from_slice(
+        b".on,.in,.own,.inherited{font-size:10px}\n.on{fill:#fff}\n.inherited,.dead{font-weight:bold;fill:#a3160c}\n",
+    )
 }
 
 #[tactic(auto, unfolding(crate::specs::Head::lines))]
 fn put_lines(out: &mut Vec<u8>) -> Result<(), AllocError>
     ensures { OnOk result (out.new.items ≡ out.old.items ++ lines) }
 {
-    out.extend_from_slice(b"rect{stroke:#333;stroke-width:.5}\n.grid{stroke:#ccc}\n.base{stroke:#888}\n.will{fill:none;stroke:#000;stroke-width:1.5;marker-end:url(#tip)}\n")
+    out.extend_from_slice(
+        b"rect{stroke:#333;stroke-width:.5}\n.grid{stroke:#ccc}\n.base{stroke:#888}\n.will{fill:none;stroke:#000;stroke-width:1.5;marker-end:url(#tip)}\n",
+    )
 }
 
 #[tactic(auto, unfolding(crate::specs::Head::style))]
@@ -94,7 +104,9 @@ fn put_style(out: &mut Vec<u8>) -> Result<(), AllocError>
 fn put_page(out: &mut Vec<u8>) -> Result<(), AllocError>
     ensures { OnOk result (out.new.items ≡ out.old.items ++ page) }
 {
-    out.extend_from_slice(b"<defs><marker id=\"tip\" markerWidth=\"5\" markerHeight=\"5\" refX=\"5\" refY=\"2.5\" orient=\"auto\"><path d=\"M0 0L5 2.5L0 5z\"/></marker></defs>\n<rect class=\"page\" width=\"100%\" height=\"100%\"/>\n")
+    out.extend_from_slice(
+        b"<defs><marker id=\"tip\" markerWidth=\"5\" markerHeight=\"5\" refX=\"5\" refY=\"2.5\" orient=\"auto\"><path d=\"M0 0L5 2.5L0 5z\"/></marker></defs>\n<rect class=\"page\" width=\"100%\" height=\"100%\"/>\n",
+    )
 }
 
 #[tactic(auto, unfolding(crate::specs::Head::opened))]
@@ -138,13 +150,7 @@ fn put_heading(work: &Work, frame: Frame, out: &mut Vec<u8>) -> Result<(), Alloc
 
 // A box and its meaning.
 #[tactic(auto, unfolding(crate::specs::Head::key))]
-fn put_key(
-    class: &[u8],
-    x: u64,
-    y: u64,
-    word: &[u8],
-    out: &mut Vec<u8>,
-) -> Result<(), AllocError>
+fn put_key(class: &[u8], x: u64, y: u64, word: &[u8], out: &mut Vec<u8>) -> Result<(), AllocError>
     requires x { x < 2 ^ 32 }
     requires y { y < 2 ^ 32 }
     ensures key { OnOk result (out.new.items ≡ out.old.items ++ key class.now x y word.now) }
@@ -219,7 +225,14 @@ fn put_mark(frame: Frame, n: u32, out: &mut Vec<u8>) -> Result<(), AllocError>
 {
     let x = frame.after(n);
     put_line(b"grid", (x, 96), (x, frame.bottom()), out)?;
-    put_number_label(b"tick", x, 90, b"", u64::from(frame.from) + u64::from(n), out)
+    put_number_label(
+        b"tick",
+        x,
+        90,
+        b"",
+        u64::from(frame.from) + u64::from(n),
+        out,
+    )
 }
 
 fn put_mark_if(frame: Frame, n: u32, out: &mut Vec<u8>) -> Result<(), AllocError>
@@ -232,11 +245,7 @@ fn put_mark_if(frame: Frame, n: u32, out: &mut Vec<u8>) -> Result<(), AllocError
     }
 }
 
-fn put_ticks_before(
-    frame: Frame,
-    count: u32,
-    out: &mut Vec<u8>,
-) -> Result<(), AllocError>
+fn put_ticks_before(frame: Frame, count: u32, out: &mut Vec<u8>) -> Result<(), AllocError>
     ensures { OnOk result (out.new.items ≡ out.old.items ++ flat_map (mark_if frame) (range_with_len 0 count)) }
 {
     for n in 0..count {
@@ -260,7 +269,14 @@ fn put_cpu_head(frame: Frame, c: u16, out: &mut Vec<u8>) -> Result<(), AllocErro
     ensures { OnOk result (out.new.items ≡ out.old.items ++ cpu_head frame c) }
 {
     let row = Row::Cpu(c);
-    put_number_label(b"name", 142, frame.base(row), b"processor ", u64::from(c), out)?;
+    put_number_label(
+        b"name",
+        142,
+        frame.base(row),
+        b"processor ",
+        u64::from(c),
+        out,
+    )?;
     put_line(
         b"base",
         (150, frame.floor(row)),

@@ -12,12 +12,7 @@ use sd_types::Work;
 use std::alloc::AllocError;
 
 // A priority where it changes, if it stays so long that there is room for it; a triangle tells that it is inherited.
-fn put_level(
-    frame: Frame,
-    t: u16,
-    x: &Level,
-    out: &mut Vec<u8>,
-) -> Result<(), AllocError>
+fn put_level(frame: Frame, t: u16, x: &Level, out: &mut Vec<u8>) -> Result<(), AllocError>
     ensures { OnOk result (out.new.items ≡ out.old.items ++ level_text frame t x.now) }
 {
     let width = frame.width(x.from, x.to);
@@ -30,7 +25,14 @@ fn put_level(
     } else if width < 30 {
         put_word_label(b"inherited", column, y, b"&#9650;", out)
     } else {
-        put_number_label(b"inherited", column, y, b"&#9650;", u64::from(x.priority), out)
+        put_number_label(
+            b"inherited",
+            column,
+            y,
+            b"&#9650;",
+            u64::from(x.priority),
+            out,
+        )
     }
 }
 
@@ -51,12 +53,7 @@ pub(crate) fn put_levels(
 
 // Who waits for what.
 #[tactic(auto, unfolding(crate::specs::Labels::waiter_text))]
-fn put_waiter(
-    work: &Work,
-    x: &HandOver,
-    waiter: usize,
-    out: &mut Vec<u8>,
-) -> Result<(), AllocError>
+fn put_waiter(work: &Work, x: &HandOver, waiter: usize, out: &mut Vec<u8>) -> Result<(), AllocError>
     ensures { OnOk result (out.new.items ≡ out.old.items ++ waiter_text work.now x.now waiter) }
 {
     put_counted(b"entry ", x.entry, out)?;
@@ -200,7 +197,11 @@ fn put_mark(frame: Frame, t: usize, out: &mut Vec<u8>) -> Result<(), AllocError>
 }
 
 /// The marks of threads that block each other at the end.
-pub(crate) fn put_marks(frame: Frame, threads: &[usize], out: &mut Vec<u8>) -> Result<(), AllocError>
+pub(crate) fn put_marks(
+    frame: Frame,
+    threads: &[usize],
+    out: &mut Vec<u8>,
+) -> Result<(), AllocError>
     ensures { OnOk result (out.new.items ≡ out.old.items ++ flat_map (mark_text frame) threads.now) }
 {
     for t in threads {

@@ -8,8 +8,8 @@ mod bars;
 mod frames;
 mod head;
 mod labels;
-mod pieces;
 mod picture;
+mod pieces;
 
 pub use frames::Frame;
 pub use picture::write_timeline;

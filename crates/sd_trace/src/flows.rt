@@ -35,7 +35,11 @@ fn put_start_kind(entry: u64, out: &mut Vec<u8>) -> Result<(), AllocError>
 fn put_end_kind(entry: u64, out: &mut Vec<u8>) -> Result<(), AllocError>
     ensures { OnOk result (out.new.items ≡ out.old.items ++ end_kind entry) }
 {
-    put_counted(b"\",\"cat\":\"flow\",\"ph\":\"f\",\"bp\":\"e\",\"id\":", entry, out)
+    put_counted(
+        b"\",\"cat\":\"flow\",\"ph\":\"f\",\"bp\":\"e\",\"id\":",
+        entry,
+        out,
+    )
 }
 
 #[tactic(auto, unfolding(crate::specs::Flows::entry_argument))]

@@ -17,7 +17,11 @@ use std::alloc::{AllocError, Global};
 fn put_track_start(process: u64, track: u64, out: &mut Vec<u8>) -> Result<(), AllocError>
     ensures { OnOk result (out.new.items ≡ out.old.items ++ track_start process track) }
 {
-    put_counted(b",\n{\"name\":\"thread_name\",\"ph\":\"M\",\"pid\":", process, out)?;
+    put_counted(
+        b",\n{\"name\":\"thread_name\",\"ph\":\"M\",\"pid\":",
+        process,
+        out,
+    )?;
     put_counted(b",\"tid\":", track, out)
 }
 
@@ -112,14 +116,18 @@ fn put_threads(
 fn put_trace_start(out: &mut Vec<u8>) -> Result<(), AllocError>
     ensures { OnOk result (out.new.items ≡ out.old.items ++ trace_start) }
 {
-    out.extend_from_slice(b"{\"displayTimeUnit\":\"ms\",\"traceEvents\":[\n{\"name\":\"process_name\",\"ph\":\"M\",\"pid\":1,\"args\":{\"name\":\"processors\"}}")
+    out.extend_from_slice(
+        b"{\"displayTimeUnit\":\"ms\",\"traceEvents\":[\n{\"name\":\"process_name\",\"ph\":\"M\",\"pid\":1,\"args\":{\"name\":\"processors\"}}",
+    )
 }
 
 #[tactic(auto, unfolding(crate::specs::Tracks::threads_start))]
 fn put_threads_start(out: &mut Vec<u8>) -> Result<(), AllocError>
     ensures { OnOk result (out.new.items ≡ out.old.items ++ threads_start) }
 {
-    out.extend_from_slice(b",\n{\"name\":\"process_name\",\"ph\":\"M\",\"pid\":2,\"args\":{\"name\":\"threads\"}}")
+    out.extend_from_slice(
+        b",\n{\"name\":\"process_name\",\"ph\":\"M\",\"pid\":2,\"args\":{\"name\":\"threads\"}}",
+    )
 }
 
 // The tracks with their slices.

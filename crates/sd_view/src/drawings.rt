@@ -34,8 +34,14 @@ fn write_drawing(
     ensures { OnOk result (out.new.items ≡ out.old.items ++ drawn_text drawing work.now history.now s.now) }
 {
     match drawing {
-        Drawing::Timeline { from, to } =>
-            write_timeline(alloc, work, frame_of(work, from, to), history, s, out),
+        Drawing::Timeline { from, to } => write_timeline(
+            alloc,
+            work,
+            frame_of(work, from, to),
+            history,
+            s,
+            out,
+        ),
         Drawing::Trace => write_trace(alloc, work, history, out),
     }
 }

@@ -8,6 +8,7 @@ use sd_types::Work;
 
 // The most ticks and threads that one picture shows.
 const MOST_TICKS: u32 = 2000;
+
 const MOST_THREADS: usize = 100;
 
 fn first_tick(work: &Work, from: u32) -> u32

@@ -2,7 +2,11 @@
 #![tactic(auto)]
 
 mod drawings;
+mod forms;
 mod frames;
+#[cfg(test)]
+mod tests;
 
 pub use drawings::{Drawing, draw};
+pub use forms::drawing_of;
 pub use frames::{frame_of, is_part};

@@ -52,7 +52,7 @@ lines-preserved c =
     let of = entries_of c.args.work.now c.args.text.now c.requires.journal in
     let more = entries_more c.args.work.now c.args.text.now of.0 l.s l.history l.from of.1 (l.invariant.under_way of.0 of.1) c.in_ok-entry.entry _ c.make.new.s c.add.new.self
     (is_next c.args.work.now c.args.text.now of.0 l.s l.history l.from of.1 (l.invariant.under_way of.0 of.1) _ _ c.in_ok-entry.entry c.in-Some.ensures.line
-      (λ same. false≢true (sym c.if-is_accounts.false ∙ c.is_accounts.ensures.1 same)) c.in_ok-entry.ensures)
+    (λ same. false≢true (sym c.if-is_accounts.false ∙ c.is_accounts.ensures.1 same)) c.in_ok-entry.ensures)
     c.make.ensures c.in_ok-add.ensures in
     let bound = l.invariant.bound in
     let within = c.in-Some.ensures.within in
@@ -60,7 +60,7 @@ lines-preserved c =
       under_way = λ es j.
           at_more c.args.work.now c.args.text.now es l.s l.history l.from j (l.invariant.under_way es j) c.in_ok-entry.entry _ c.make.new.s c.add.new.self
           (is_next c.args.work.now c.args.text.now es l.s l.history l.from j (l.invariant.under_way es j) _ _ c.in_ok-entry.entry c.in-Some.ensures.line
-            (λ same. false≢true (sym c.if-is_accounts.false ∙ c.is_accounts.ensures.1 same)) c.in_ok-entry.ensures)
+          (λ same. false≢true (sym c.if-is_accounts.false ∙ c.is_accounts.ensures.1 same)) c.in_ok-entry.ensures)
           c.make.ensures c.in_ok-add.ensures (c.in-Some.end + 1) refl;
       within = omega (arith, within.1);
       bound = omega (arith, more, bound, within.0);
