@@ -1,6 +1,6 @@
 mod CommonLemmas
 mod DifferenceLemmas
 mod EnterLemmas
-mod ExactLemmas
+pub mod ExactLemmas
 mod LineLemmas
 mod ReadLemmas

@@ -1,4 +1,4 @@
-//! The processor that has an entry yet.
+//! The processor that still has an entry.
 
 ghost use Rattle.std.specs.Prelude.{◌≡◌, true, false, ◌<◌, ℕ, Option, None, IfSome, IfNone, IsSome};
 ghost use Rattle.sd_types.specs.declared.events.Hints.{Hints};

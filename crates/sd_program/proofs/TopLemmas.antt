@@ -1,27 +1,17 @@
 -- What the answers' causes give.
-use Rattle.std.proofs.Common.{◌≡◌, ◌≢◌, ℕ, ◌+◌, ◌<◌, ◌≤◌, List, [], ◌∷◌, length, take, Option, Some, None, Result, Ok, Err, refl, sym, ap, subst, ◌∙◌, inl, inr, arith}
-use Rattle.std.proofs.lemmas.List.{length-append, append-nil, take_all}
-use Rattle.std.specs.Io.KnownBytes.{Consumes, IsAtEnd, Appends}
+use Rattle.std.proofs.Common.{◌≡◌, ℕ, ◌<◌, ◌≤◌, List, length, Some, None, Result, Ok, Err, refl, sym, ap, subst, ◌∙◌, inl, inr, arith}
+use Rattle.std.proofs.lemmas.List.{take_all}
+use Rattle.std.specs.Io.KnownBytes.{Appends}
 use Rattle.sd_types.specs.declared.works.Work.{Work}
-use Rattle.std.specs.Prelude.{OnOk, OnErr, IfErr, ◌⊎◌, ◌↔◌}
+use Rattle.std.specs.Prelude.{IfErr, ◌⊎◌, ◌↔◌}
 use Rattle.std.specs.Result.{IsErrOf, IsErrAnd}
 use Rattle.std.proofs.lemmas.Result.{err_from_is_err_and}
 use Rattle.std.proofs.lemmas.Option.{same_Some}
-use Rattle.sd_machine.specs.declared.states.State.{State}
-use Rattle.std.specs.declared.vec.Vec.{Vec}
-use Rattle.std.specs.declared.alloc.Global.{Global}
 use Rattle.sd_types.specs.declared.events.Entry.{Entry}
 use Rattle.sd_types.specs.declared.events.Stop.{Stop}
 use Rattle.sd_types.specs.declared.events.Stop.TheVariants as stop
-use Rattle.sd_text.specs.Reading.{TakesUpTo}
-use Rattle.sd_text.specs.declared.read.ReadAllFault.{ReadAllFault}
-use Rattle.sd_text.specs.declared.read.ReadAllFault.TheVariants as read
 use Rattle.sd_declare.specs.declared.causes.WorkCause.{WorkCause}
 use Rattle.sd_workload.specs.Accepted.{Accepted, FirstCause}
-use Rattle.sd_workload.specs.Places.{IsFault}
-use Rattle.sd_workload.specs.Texts.{verdict_of}
-use Rattle.sd_workload.specs.declared.fault.WorkFault.{WorkFault}
-use Rattle.sd_workload.specs.declared.fault.WorkFault.TheVariants as work
 use Rattle.sd_rounds.specs.declared.rounds.Finished.{Finished}
 use Rattle.sd_rounds.specs.Orders.{orders_of}
 use Rattle.sd_rounds.specs.Rounds.{IsLongSerial}
@@ -29,20 +19,22 @@ use Rattle.sd_gen.specs.Generated.{generated}
 use Rattle.sd_program.specs.declared.forms.Form.{Form}
 use Rattle.sd_program.specs.declared.forms.Command.{Command}
 use Rattle.sd_program.specs.declared.forms.Command.TheVariants.{Run, Tables, Generate}
-use Rattle.sd_program.specs.TableTexts.{tables_text}
-use Rattle.sd_program.specs.declared.writing.Unwritten.{Unwritten}
-use Rattle.sd_program.specs.declared.writing.Unwritten.TheVariants as unwritten
-use Rattle.sd_program.specs.declared.answers.Answer.{Answer}
-use Rattle.sd_program.specs.declared.answers.Answer.TheVariants.{Done, Usage, TooLarge, Refused, ReadFault, WriteFault, OutOfMemory, Blocked, TooLong}
-use Rattle.sd_program.specs.Answers.{status_of, line_of, answer_of, read_answer, work_answer, stop_answer, unwritten_answer}
-use Rattle.sd_program.specs.StreamChanges.{StreamChange, HasFault, HasNoFault, IsUntouched, AppendsPart, Puts}
+use Rattle.sd_canonical.specs.Blocks.{tables_text}
+use Rattle.sd_answers.specs.declared.writing.Unwritten.{Unwritten}
+use Rattle.sd_answers.specs.declared.writing.Unwritten.TheVariants as unwritten
+use Rattle.sd_answers.specs.declared.answers.Answer.{Answer}
+use Rattle.sd_answers.specs.declared.answers.Answer.TheVariants.{Done, Usage, TooLarge, TooLargeToAudit, NoJournal, Refused, ReadFault, WriteFault, OutOfMemory, Blocked, NotAJournal, TooLong}
+use Rattle.sd_answers.specs.Answers.{status_of, line_of, answer_of, stop_answer, unwritten_answer}
+use Rattle.sd_answers.specs.StreamChanges.{StreamChange, HasFault, IsUntouched, Puts}
 use Rattle.sd_program.specs.Forms.{command_of, turns_of, text_of}
-use Rattle.sd_program.specs.RunAnswers.{IsTheRun, IsOpen, HasCycle, Writes, Ran, final_state}
-use Rattle.sd_program.specs.Readings.{IsRefused, IsReading}
-use Rattle.sd_program.specs.Headline.{most_bytes, HasAtMost, HasRead, HasTooMany, IsWorkload, IsNoWorkload, RanInput, CausedByInput, PrintsTables, CausedByTables, CausedByNumber, CausedBy, Caused, Tells, Completes, CompletesTables, Refuses, KeepsPromises}
+use Rattle.sd_program.specs.RunAnswers.{Writes, Ran}
+use Rattle.sd_program.specs.TheRun.{IsTheRun}
+use Rattle.sd_answers.specs.Inputs.{most_bytes, HasTooMany, IsWorkload, IsNoWorkload, IsRefused}
+use Rattle.sd_answers.proofs.InputLemmas.{taken_within, taken_all, at_most_of}
+use Rattle.sd_program.specs.Headline.{RanInput, CausedByInput, PrintsTables, CausedByTables, CausedByNumber, CausedBy, Caused, Tells, Completes, CompletesTables, Refuses}
 
 -- what the arguments ask for is one thing
-same_command : (arguments : List (List ℕ)) (j k : Command) → command_of arguments ≡ Some j → command_of arguments ≡ Some k → j ≡ k
+pub same_command : (arguments : List (List ℕ)) (j k : Command) → command_of arguments ≡ Some j → command_of arguments ≡ Some k → j ≡ k
 same_command arguments j k a b = same_Some j k (sym a ∙ b)
 
 -- status 0 is that of a run that was written whole and ends without a cycle
@@ -50,6 +42,9 @@ pub headline_of : (arguments : List (List ℕ)) (form : Form) (input out : Strea
 headline_of arguments form input out Usage known c s = absurd (omega arith)
 headline_of arguments form input out Done known c s = subst (λ k. CausedBy k input out Done) (same_command arguments c.0 (Run form) c.1 known) c.2
 headline_of arguments form input out TooLarge known c s = absurd (omega arith)
+headline_of arguments form input out TooLargeToAudit known c s = absurd (omega arith)
+headline_of arguments form input out NoJournal known c s = absurd (omega arith)
+headline_of arguments form input out (NotAJournal fault) known c s = absurd (omega arith)
 headline_of arguments form input out (Refused line cause) known c s = absurd (omega arith)
 headline_of arguments form input out ReadFault known c s = absurd (omega arith)
 headline_of arguments form input out WriteFault known c s = absurd (omega arith)
@@ -62,6 +57,9 @@ pub blocked_of : (arguments : List (List ℕ)) (form : Form) (input out : Stream
 blocked_of arguments form input out Usage known c s = absurd (omega arith)
 blocked_of arguments form input out Done known c s = absurd (omega arith)
 blocked_of arguments form input out TooLarge known c s = absurd (omega arith)
+blocked_of arguments form input out TooLargeToAudit known c s = absurd (omega arith)
+blocked_of arguments form input out NoJournal known c s = absurd (omega arith)
+blocked_of arguments form input out (NotAJournal fault) known c s = absurd (omega arith)
 blocked_of arguments form input out (Refused line cause) known c s = absurd (omega arith)
 blocked_of arguments form input out ReadFault known c s = absurd (omega arith)
 blocked_of arguments form input out WriteFault known c s = absurd (omega arith)
@@ -74,6 +72,9 @@ pub tables_of : (arguments : List (List ℕ)) (input out : StreamChange) (a : An
 tables_of arguments input out Usage known c s = absurd (omega arith)
 tables_of arguments input out Done known c s = subst (λ k. CausedBy k input out Done) (same_command arguments c.0 Tables c.1 known) c.2
 tables_of arguments input out TooLarge known c s = absurd (omega arith)
+tables_of arguments input out TooLargeToAudit known c s = absurd (omega arith)
+tables_of arguments input out NoJournal known c s = absurd (omega arith)
+tables_of arguments input out (NotAJournal fault) known c s = absurd (omega arith)
 tables_of arguments input out (Refused line cause) known c s = absurd (omega arith)
 tables_of arguments input out ReadFault known c s = absurd (omega arith)
 tables_of arguments input out WriteFault known c s = absurd (omega arith)
@@ -85,6 +86,9 @@ pub generates_of : (arguments : List (List ℕ)) (n : ℕ) (input out : StreamCh
 generates_of arguments n input out Usage known c s = absurd (omega arith)
 generates_of arguments n input out Done known c s = subst (λ k. CausedBy k input out Done) (same_command arguments c.0 (Generate n) c.1 known) c.2
 generates_of arguments n input out TooLarge known c s = absurd (omega arith)
+generates_of arguments n input out TooLargeToAudit known c s = absurd (omega arith)
+generates_of arguments n input out NoJournal known c s = absurd (omega arith)
+generates_of arguments n input out (NotAJournal fault) known c s = absurd (omega arith)
 generates_of arguments n input out (Refused line cause) known c s = absurd (omega arith)
 generates_of arguments n input out ReadFault known c s = absurd (omega arith)
 generates_of arguments n input out WriteFault known c s = absurd (omega arith)
@@ -92,32 +96,15 @@ generates_of arguments n input out OutOfMemory known c s = absurd (omega arith)
 generates_of arguments n input out Blocked known c s = absurd (omega arith)
 generates_of arguments n input out TooLong known c s = absurd (omega arith)
 
--- what was taken is no more than there was
-taken_within : (a b : Option (List ℕ)) (bs xs : List ℕ) → Consumes a b bs → a ≡ Some xs → length bs ≤ length xs
-taken_within None b bs xs c e = cc
-taken_within (Some ys) None bs xs c e = absurd c
-taken_within (Some ys) (Some zs) bs xs c e =
-    let same : ys ≡ xs = cc in
-    omega (arith, ap length same, ap length c, length-append bs zs)
-
--- what was taken to the end is all that there was
-taken_all : (a b : Option (List ℕ)) (bs xs : List ℕ) → Consumes a b bs → IsAtEnd b → a ≡ Some xs → bs ≡ xs
-taken_all None b bs xs c end e = cc
-taken_all (Some ys) None bs xs c end e = absurd c
-taken_all (Some ys) (Some []) bs xs c end e =
-    let same : ys ≡ xs = cc in
-    sym (c ∙ append-nil bs) ∙ same
-taken_all (Some ys) (Some (z ∷ zs)) bs xs c end e = cc
-
 -- a text is not both accepted and refused
-not_both : (bytes : List ℕ) (w : Work) (line : ℕ) (cause : WorkCause) → Accepted bytes w → FirstCause bytes line cause → ⊥
+pub not_both : (bytes : List ℕ) (w : Work) (line : ℕ) (cause : WorkCause) → Accepted bytes w → FirstCause bytes line cause → ⊥
 not_both bytes w line cause accepted first = cc (accepted.accepted)
 
-some_command : (arguments : List (List ℕ)) (k : Command) → command_of arguments ≡ Some k → command_of arguments ≡ None → ⊥
+pub some_command : (arguments : List (List ℕ)) (k : Command) → command_of arguments ≡ Some k → command_of arguments ≡ None → ⊥
 some_command arguments k some none = cc
 
 -- an input with too many bytes, and one that is no workload, are no accepted one
-not_too_many : (input : StreamChange) (bytes : List ℕ) → HasTooMany input → input.before ≡ Some bytes → length bytes ≤ most_bytes → ⊥
+not_too_many : (input : StreamChange) (bytes : List ℕ) → HasTooMany most_bytes input → input.before ≡ Some bytes → length bytes ≤ most_bytes → ⊥
 not_too_many input bytes many is short =
     let within = taken_within input.before input.after many.bytes bytes many.took is in
     let count = many.many in
@@ -132,6 +119,9 @@ pub completes_of : (arguments : List (List ℕ)) (form : Form) (input out : Stre
 completes_of arguments form input out Done known c = λ sound told bytes w is short accepted. inl refl
 completes_of arguments form input out Usage known c = λ sound told bytes w is short accepted. absurd (some_command arguments (Run form) known c.0)
 completes_of arguments form input out TooLarge known c = λ sound told bytes w is short accepted. absurd (not_too_many input bytes (subst (λ k. CausedBy k input out TooLarge) (same_command arguments c.0 (Run form) c.1 known) c.2).0 is short)
+completes_of arguments form input out TooLargeToAudit known c = λ sound told bytes w is short accepted. absurd (subst (λ k. CausedBy k input out TooLargeToAudit) (same_command arguments c.0 (Run form) c.1 known) c.2)
+completes_of arguments form input out NoJournal known c = λ sound told bytes w is short accepted. absurd (subst (λ k. CausedBy k input out NoJournal) (same_command arguments c.0 (Run form) c.1 known) c.2)
+completes_of arguments form input out (NotAJournal fault) known c = λ sound told bytes w is short accepted. absurd (subst (λ k. CausedBy k input out (NotAJournal fault)) (same_command arguments c.0 (Run form) c.1 known) c.2)
 completes_of arguments form input out (Refused line cause) known c = λ sound told bytes w is short accepted. absurd (not_refused input bytes w line cause (subst (λ k. CausedBy k input out (Refused line cause)) (same_command arguments c.0 (Run form) c.1 known) c.2).0 is accepted)
 completes_of arguments form input out ReadFault known c = λ sound told bytes w is short accepted. absurd (sound (subst (λ k. CausedBy k input out ReadFault) (same_command arguments c.0 (Run form) c.1 known) c.2).0)
 completes_of arguments form input out WriteFault known c = λ sound told bytes w is short accepted. absurd (told (subst (λ k. CausedBy k input out WriteFault) (same_command arguments c.0 (Run form) c.1 known) c.2).2.0)
@@ -143,6 +133,9 @@ pub completes_tables_of : (arguments : List (List ℕ)) (input out : StreamChang
 completes_tables_of arguments input out Done known c = λ sound told bytes w is short accepted. inl refl
 completes_tables_of arguments input out Usage known c = λ sound told bytes w is short accepted. absurd (some_command arguments Tables known c.0)
 completes_tables_of arguments input out TooLarge known c = λ sound told bytes w is short accepted. absurd (not_too_many input bytes (subst (λ k. CausedBy k input out TooLarge) (same_command arguments c.0 Tables c.1 known) c.2).0 is short)
+completes_tables_of arguments input out TooLargeToAudit known c = λ sound told bytes w is short accepted. absurd (subst (λ k. CausedBy k input out TooLargeToAudit) (same_command arguments c.0 Tables c.1 known) c.2)
+completes_tables_of arguments input out NoJournal known c = λ sound told bytes w is short accepted. absurd (subst (λ k. CausedBy k input out NoJournal) (same_command arguments c.0 Tables c.1 known) c.2)
+completes_tables_of arguments input out (NotAJournal fault) known c = λ sound told bytes w is short accepted. absurd (subst (λ k. CausedBy k input out (NotAJournal fault)) (same_command arguments c.0 Tables c.1 known) c.2)
 completes_tables_of arguments input out (Refused line cause) known c = λ sound told bytes w is short accepted. absurd (not_refused input bytes w line cause (subst (λ k. CausedBy k input out (Refused line cause)) (same_command arguments c.0 Tables c.1 known) c.2).0 is accepted)
 completes_tables_of arguments input out ReadFault known c = λ sound told bytes w is short accepted. absurd (sound (subst (λ k. CausedBy k input out ReadFault) (same_command arguments c.0 Tables c.1 known) c.2).0)
 completes_tables_of arguments input out WriteFault known c = λ sound told bytes w is short accepted. absurd (told (subst (λ k. CausedBy k input out WriteFault) (same_command arguments c.0 Tables c.1 known) c.2).2)
@@ -154,6 +147,9 @@ pub completes_generated_of : (arguments : List (List ℕ)) (n : ℕ) (input out 
 completes_generated_of arguments n input out Done known c = λ told. inl refl
 completes_generated_of arguments n input out Usage known c = λ told. absurd (some_command arguments (Generate n) known c.0)
 completes_generated_of arguments n input out TooLarge known c = λ told. absurd (subst (λ k. CausedBy k input out TooLarge) (same_command arguments c.0 (Generate n) c.1 known) c.2).1
+completes_generated_of arguments n input out TooLargeToAudit known c = λ told. absurd (subst (λ k. CausedBy k input out TooLargeToAudit) (same_command arguments c.0 (Generate n) c.1 known) c.2).1
+completes_generated_of arguments n input out NoJournal known c = λ told. absurd (subst (λ k. CausedBy k input out NoJournal) (same_command arguments c.0 (Generate n) c.1 known) c.2).1
+completes_generated_of arguments n input out (NotAJournal fault) known c = λ told. absurd (subst (λ k. CausedBy k input out (NotAJournal fault)) (same_command arguments c.0 (Generate n) c.1 known) c.2).1
 completes_generated_of arguments n input out (Refused line cause) known c = λ told. absurd (subst (λ k. CausedBy k input out (Refused line cause)) (same_command arguments c.0 (Generate n) c.1 known) c.2).1
 completes_generated_of arguments n input out ReadFault known c = λ told. absurd (subst (λ k. CausedBy k input out ReadFault) (same_command arguments c.0 (Generate n) c.1 known) c.2).1
 completes_generated_of arguments n input out WriteFault known c = λ told. absurd (told (subst (λ k. CausedBy k input out WriteFault) (same_command arguments c.0 (Generate n) c.1 known) c.2).1.0)
@@ -174,6 +170,9 @@ pub refuses_of : (arguments : List (List ℕ)) (form : Form) (input out : Stream
 refuses_of arguments form input out Done known c = λ sound bytes is bad. let d = subst (λ k. CausedBy k input out Done) (same_command arguments c.0 (Run form) c.1 known) c.2 in absurd (no_workload input bytes is bad d.0 d.1)
 refuses_of arguments form input out Usage known c = λ sound bytes is bad. absurd (some_command arguments (Run form) known c.0)
 refuses_of arguments form input out TooLarge known c = λ sound bytes is bad. inl refl
+refuses_of arguments form input out TooLargeToAudit known c = λ sound bytes is bad. absurd (subst (λ k. CausedBy k input out TooLargeToAudit) (same_command arguments c.0 (Run form) c.1 known) c.2)
+refuses_of arguments form input out NoJournal known c = λ sound bytes is bad. absurd (subst (λ k. CausedBy k input out NoJournal) (same_command arguments c.0 (Run form) c.1 known) c.2)
+refuses_of arguments form input out (NotAJournal fault) known c = λ sound bytes is bad. absurd (subst (λ k. CausedBy k input out (NotAJournal fault)) (same_command arguments c.0 (Run form) c.1 known) c.2)
 refuses_of arguments form input out (Refused line cause) known c = λ sound bytes is bad. inl refl
 refuses_of arguments form input out ReadFault known c = λ sound bytes is bad. absurd (sound (subst (λ k. CausedBy k input out ReadFault) (same_command arguments c.0 (Run form) c.1 known) c.2).0)
 refuses_of arguments form input out WriteFault known c = λ sound bytes is bad. let d = subst (λ k. CausedBy k input out WriteFault) (same_command arguments c.0 (Run form) c.1 known) c.2 in absurd (no_workload input bytes is bad d.0 d.1)
@@ -185,6 +184,9 @@ pub refuses_tables_of : (arguments : List (List ℕ)) (input out : StreamChange)
 refuses_tables_of arguments input out Done known c = λ sound bytes is bad. let d = subst (λ k. CausedBy k input out Done) (same_command arguments c.0 Tables c.1 known) c.2 in absurd (no_workload input bytes is bad d.0 d.1)
 refuses_tables_of arguments input out Usage known c = λ sound bytes is bad. absurd (some_command arguments Tables known c.0)
 refuses_tables_of arguments input out TooLarge known c = λ sound bytes is bad. inl refl
+refuses_tables_of arguments input out TooLargeToAudit known c = λ sound bytes is bad. absurd (subst (λ k. CausedBy k input out TooLargeToAudit) (same_command arguments c.0 Tables c.1 known) c.2)
+refuses_tables_of arguments input out NoJournal known c = λ sound bytes is bad. absurd (subst (λ k. CausedBy k input out NoJournal) (same_command arguments c.0 Tables c.1 known) c.2)
+refuses_tables_of arguments input out (NotAJournal fault) known c = λ sound bytes is bad. absurd (subst (λ k. CausedBy k input out (NotAJournal fault)) (same_command arguments c.0 Tables c.1 known) c.2)
 refuses_tables_of arguments input out (Refused line cause) known c = λ sound bytes is bad. inl refl
 refuses_tables_of arguments input out ReadFault known c = λ sound bytes is bad. absurd (sound (subst (λ k. CausedBy k input out ReadFault) (same_command arguments c.0 Tables c.1 known) c.2).0)
 refuses_tables_of arguments input out WriteFault known c = λ sound bytes is bad. let d = subst (λ k. CausedBy k input out WriteFault) (same_command arguments c.0 Tables c.1 known) c.2 in absurd (no_workload input bytes is bad d.0 d.1)
@@ -197,6 +199,9 @@ pub usage_of : (arguments : List (List ℕ)) (input out : StreamChange) (a : Ans
 usage_of arguments input out Usage c = (λ e. c.0, λ other. refl)
 usage_of arguments input out Done c = (λ e. absurd (omega arith), λ other. absurd (some_command arguments c.0 c.1 other))
 usage_of arguments input out TooLarge c = (λ e. absurd (omega arith), λ other. absurd (some_command arguments c.0 c.1 other))
+usage_of arguments input out TooLargeToAudit c = (λ e. absurd (omega arith), λ other. absurd (some_command arguments c.0 c.1 other))
+usage_of arguments input out NoJournal c = (λ e. absurd (omega arith), λ other. absurd (some_command arguments c.0 c.1 other))
+usage_of arguments input out (NotAJournal fault) c = (λ e. absurd (omega arith), λ other. absurd (some_command arguments c.0 c.1 other))
 usage_of arguments input out (Refused line cause) c = (λ e. absurd (omega arith), λ other. absurd (some_command arguments c.0 c.1 other))
 usage_of arguments input out ReadFault c = (λ e. absurd (omega arith), λ other. absurd (some_command arguments c.0 c.1 other))
 usage_of arguments input out WriteFault c = (λ e. absurd (omega arith), λ other. absurd (some_command arguments c.0 c.1 other))
@@ -214,50 +219,13 @@ told_of err a (Ok u) p none = record {
 told_of err a (Err unwritten.Fault) p none = record { part = p.part; whole = λ sound. absurd (sound (p.fault refl)) }
 told_of err a (Err unwritten.Memory) p none = absurd (none refl)
 
--- what was read to its end is no more than an input may have
-at_most_of : (input : StreamChange) (bytes : List ℕ) → HasRead input bytes → HasAtMost input
-at_most_of input bytes read = record { bytes = bytes; took = read.took; bound = read.bound; no_fault = read.no_fault }
-
--- ---- why an input is no workload
-
--- it was not read
-pub unread_of : (input : StreamChange) (r : Result (Vec ℕ Global) ReadAllFault) → TakesUpTo most_bytes input.before input.after r
-    → (IsErrOf r read.ReadFault → HasFault input) → (¬ IsErrOf r read.ReadFault → HasNoFault input)
-    → IfErr r (λ fault. IsRefused input (read_answer fault))
-unread_of input (Ok v) taken fault none = tt
-unread_of input (Err read.ReadFault) taken fault none = fault refl
-unread_of input (Err read.TooLarge) taken fault none = record {
-  bytes = taken.bytes;
-  took = taken.consumed;
-  many = taken.too_large.0 refl;
-  no_fault = none (λ e. cc);
-}
-unread_of input (Err read.Memory) taken fault none =
-    let few : length taken.bytes ≢ most_bytes + 1 = λ many. absurd (let e = taken.too_large.1 many in cc) in
-    record {
-      bytes = taken.bytes;
-      took = taken.consumed;
-      bound = omega (arith, taken.bound);
-      no_fault = none (λ e. cc);
-    }
-
--- it was read, and spells no workload
-pub unspelled_of : (input : StreamChange) (bytes : List ℕ) (r : Result Work WorkFault) → HasRead input bytes
-    → IfErr r (IsFault (verdict_of bytes)) → IfErr r (λ fault. IsRefused input (work_answer fault))
-unspelled_of input bytes (Ok w) read first = tt
-unspelled_of input bytes (Err (work.At line cause)) read first = record { bytes = bytes; read = read; first = first }
-unspelled_of input bytes (Err work.Memory) read first = at_most_of input bytes read
-
--- what the exit of a `?` returns
-pub reading_exit : (input : StreamChange) (r : Result Work Answer) (a : Answer) → IsErrAnd r (λ y. y ≡ a) → IsRefused input a → IsReading input r
-reading_exit input r a exit refused =
-    let x = err_from_is_err_and r exit in
-    subst (IsReading input) (sym (x.1 ∙ ap Err x.2)) refused
-
 -- ---- the answer of the run of an input
 
 pub refused_of : (form : Form) (input out : StreamChange) (a : Answer) → IsRefused input a → IsUntouched out → CausedByInput form input out a
 refused_of form input out TooLarge refused kept = (refused, kept)
+refused_of form input out TooLargeToAudit refused kept = absurd refused
+refused_of form input out NoJournal refused kept = absurd refused
+refused_of form input out (NotAJournal fault) refused kept = absurd refused
 refused_of form input out (Refused line cause) refused kept = (refused, kept)
 refused_of form input out ReadFault refused kept = (refused, kept)
 refused_of form input out OutOfMemory refused kept = (refused, kept.no_fault, inl kept)
@@ -269,6 +237,9 @@ refused_of form input out TooLong refused kept = absurd refused
 
 pub refused_tables : (input out : StreamChange) (a : Answer) → IsRefused input a → IsUntouched out → CausedByTables input out a
 refused_tables input out TooLarge refused kept = (refused, kept)
+refused_tables input out TooLargeToAudit refused kept = absurd refused
+refused_tables input out NoJournal refused kept = absurd refused
+refused_tables input out (NotAJournal fault) refused kept = absurd refused
 refused_tables input out (Refused line cause) refused kept = (refused, kept)
 refused_tables input out ReadFault refused kept = (refused, kept)
 refused_tables input out OutOfMemory refused kept = (refused, kept.no_fault, inl kept)
@@ -281,7 +252,7 @@ refused_tables input out TooLong refused kept = absurd refused
 -- the tables were not written whole
 pub tables_unwritten : (input out : StreamChange) (w : Work) (e : Unwritten) → IsWorkload input w → Puts out.before out.after out.faults_before out.faults_after (tables_text w) (Err e) → CausedByTables input out (unwritten_answer e)
 tables_unwritten input out w unwritten.Fault is p = (w, is, p.fault refl, p.part)
-tables_unwritten input out w unwritten.Memory is p = (at_most_of input is.bytes is.read, p.no_fault (λ e. cc), inr (w, is, p.part))
+tables_unwritten input out w unwritten.Memory is p = (at_most_of most_bytes input is.bytes is.read, p.no_fault (λ e. cc), inr (w, is, p.part))
 
 -- nor the generated workload
 pub generated_unwritten : (out : StreamChange) (n : ℕ) (e : Unwritten) → Puts out.before out.after out.faults_before out.faults_after (generated n) (Err e) → CausedByNumber n out (unwritten_answer e)
@@ -308,10 +279,13 @@ pub run_of : (form : Form) (input out : StreamChange) (w : Work) (a : Answer) �
 run_of form input out w Done is r = (w, is, r)
 run_of form input out w Blocked is r = (w, is, r)
 run_of form input out w WriteFault is r = (w, is, r)
-run_of form input out w OutOfMemory is r = (at_most_of input is.bytes is.read, r.0, inr (w, is, r))
+run_of form input out w OutOfMemory is r = (at_most_of most_bytes input is.bytes is.read, r.0, inr (w, is, r))
 run_of form input out w TooLong is r = (w, is, r)
 run_of form input out w Usage is r = absurd r
 run_of form input out w TooLarge is r = absurd r
+run_of form input out w TooLargeToAudit is r = absurd r
+run_of form input out w NoJournal is r = absurd r
+run_of form input out w (NotAJournal fault) is r = absurd r
 run_of form input out w (Refused line cause) is r = absurd r
 run_of form input out w ReadFault is r = absurd r
 
@@ -333,28 +307,10 @@ unwritten_of w form out es (Err unwritten.Memory) is p = (p.no_fault (λ e. cc),
 
 -- it was written whole
 pub written_of : (w : Work) (form : Form) (out : StreamChange) (es : List Entry) → IsTheRun w (turns_of form) es
-    → Puts out.before out.after out.faults_before out.faults_after (text_of form w es) (Ok tt) → (P : State → Type 0) → P (final_state w es) → Writes w form out P
+    → Puts out.before out.after out.faults_before out.faults_after (text_of form w es) (Ok tt) → (P : List Entry → Type 0) → P es → Writes w form out P
 written_of w form out es is p P ends = (es, is, p.ok, p.no_fault (λ e. cc), ends)
 
 pub ran_exit : (w : Work) (form : Form) (out : StreamChange) (r : Result (Unit {0}) Answer) (a : Answer) → IsErrAnd r (λ y. y ≡ a) → Ran w form out a → Ran w form out (answer_of r)
 ran_exit w form out r a exit ran =
     let x = err_from_is_err_and r exit in
     subst (λ s. Ran w form out (answer_of s)) (sym (x.1 ∙ ap Err x.2)) ran
-
--- ---- all that is promised
-
-pub promises_of : (arguments : List (List ℕ)) (input out err : StreamChange) (a : Answer) (status : ℕ) → status ≡ status_of a
-    → Caused arguments input out a → Tells err a → KeepsPromises arguments input out err status
-promises_of arguments input out err a status is caused told = record {
-  answered = record { answer = a; status = is; caused = caused; told = told };
-  headline = λ form known zero. headline_of arguments form input out a known caused (sym is ∙ zero);
-  blocked = λ form known six. blocked_of arguments form input out a known caused (sym is ∙ six);
-  tables = λ known zero. tables_of arguments input out a known caused (sym is ∙ zero);
-  generates = λ n known zero. generates_of arguments n input out a known caused (sym is ∙ zero);
-  completes = λ form known. subst (λ s. Completes form input out s) (sym is) (completes_of arguments form input out a known caused);
-  completes_tables = λ known. subst (λ s. CompletesTables input out s) (sym is) (completes_tables_of arguments input out a known caused);
-  completes_generated = λ n known sound. subst (λ s. (s ≡ 0) ⊎ (s ≡ 5)) (sym is) (completes_generated_of arguments n input out a known caused sound);
-  refuses = λ form known. subst (λ s. Refuses input s) (sym is) (refuses_of arguments form input out a known caused);
-  refuses_tables = λ known. subst (λ s. Refuses input s) (sym is) (refuses_tables_of arguments input out a known caused);
-  usage = subst (λ s. (s ≡ 1) ↔ (command_of arguments ≡ None)) (sym is) (usage_of arguments input out a caused);
-}

@@ -1,6 +1,6 @@
 -- The forms of the arguments, and the text that each writes.
 -- Source: this project's own.
-use Rattle.std.specs.Prelude.{ℕ, Bool, ◌&&◌, nat_le, List, [], ◌∷◌, codes, cond, Option, Some, None, option_and_then}
+use Rattle.std.specs.Prelude.{ℕ, ◌&&◌, nat_le, List, [], ◌∷◌, codes, cond, Option, Some, None, option_and_then}
 use Rattle.sd_types.specs.declared.events.Entry.{Entry}
 use Rattle.sd_types.specs.declared.works.Work.{Work}
 use Rattle.sd_types.specs.Works.{same_bytes}
@@ -11,16 +11,17 @@ use Rattle.sd_full.specs.Texts.{journal, summary}
 use Rattle.sd_program.specs.declared.forms.Form.{Form}
 use Rattle.sd_program.specs.declared.forms.Form.TheVariants.{Journal, Summary}
 use Rattle.sd_program.specs.declared.forms.Command.{Command}
-use Rattle.sd_program.specs.declared.forms.Command.TheVariants.{Run, Tables, Generate}
+use Rattle.sd_program.specs.declared.forms.Command.TheVariants.{Run, Tables, Generate, Audit}
 
 abbrev pub run_rising : Option Command
 run_rising = Some (Run (Journal Rising))
 
--- `run`, `sum` or `tables`
+-- `run`, `sum`, `tables` or `audit`
 abbrev pub verb_command : List ℕ → Option Command
 verb_command verb =
     cond (same_bytes verb (codes "run")) run_rising
-    (cond (same_bytes verb (codes "sum")) (Some (Run Summary)) (cond (same_bytes verb (codes "tables")) (Some Tables) None))
+    (cond (same_bytes verb (codes "sum")) (Some (Run Summary))
+    (cond (same_bytes verb (codes "tables")) (Some Tables) (cond (same_bytes verb (codes "audit")) (Some Audit) None)))
 
 -- a number of one to ten digits below 2^32
 abbrev pub generate_command : ℕ → Option Command

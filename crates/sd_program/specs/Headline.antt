@@ -1,59 +1,23 @@
 -- What the program promises of a call, for each of its answers. What is said of bytes is said of streams that tell
 -- them (`before` and `after` are Some); the counts of faults are always told.
 -- Source: this project's own.
-use Rattle.std.specs.Prelude.{◌≡◌, ℕ, ◌+◌, ◌<◌, ◌≤◌, List, length, Some, None, ◌⊎◌, ◌↔◌}
-use Rattle.std.specs.Io.KnownBytes.{Consumes, IsAtEnd, Appends}
+use Rattle.std.specs.Prelude.{◌≡◌, ℕ, ◌<◌, ◌≤◌, List, length, Some, None, ◌⊎◌, ◌↔◌}
+use Rattle.std.specs.Io.KnownBytes.{Appends}
 use Rattle.sd_types.specs.declared.works.Work.{Work}
-use Rattle.sd_declare.specs.declared.causes.WorkCause.{WorkCause}
-use Rattle.sd_workload.specs.Accepted.{Accepted, FirstCause}
-use Rattle.sd_program.specs.declared.answers.Answer.{Answer}
-use Rattle.sd_program.specs.declared.answers.Answer.TheVariants.{Done, Usage, TooLarge, Refused, ReadFault, WriteFault, OutOfMemory, Blocked, TooLong}
-use Rattle.sd_program.specs.Answers.{status_of, line_of}
-use Rattle.sd_program.specs.StreamChanges.{StreamChange, HasFault, HasNoFault, IsUntouched, AppendsPart}
+use Rattle.sd_workload.specs.Accepted.{Accepted}
+use Rattle.sd_answers.specs.declared.answers.Answer.{Answer}
+use Rattle.sd_answers.specs.declared.answers.Answer.TheVariants.{Done, Usage, TooLarge, Refused, ReadFault, WriteFault, OutOfMemory, Blocked, TooLong}
+use Rattle.sd_answers.specs.Answers.{status_of, line_of}
+use Rattle.sd_answers.specs.Inputs.{most_bytes, HasAtMost, HasTooMany, IsWorkload, IsNoWorkload}
+use Rattle.sd_answers.specs.StreamChanges.{StreamChange, HasFault, HasNoFault, IsUntouched, AppendsPart}
 use Rattle.sd_gen.specs.Generated.{generated}
 use Rattle.sd_program.specs.declared.forms.Form.{Form}
 use Rattle.sd_program.specs.declared.forms.Command.{Command}
-use Rattle.sd_program.specs.declared.forms.Command.TheVariants.{Run, Tables, Generate}
+use Rattle.sd_program.specs.declared.forms.Command.TheVariants.{Run, Tables, Generate, Audit}
 use Rattle.sd_program.specs.Forms.{command_of}
-use Rattle.sd_program.specs.TableTexts.{tables_text}
+use Rattle.sd_canonical.specs.Blocks.{tables_text}
 use Rattle.sd_program.specs.RunAnswers.{Ran}
-
--- the most bytes that an input may have
-abbrev pub most_bytes : ℕ
-most_bytes = 1048576
-
--- no more was read than an input may have, without a fault
-pub record HasAtMost (input : StreamChange) : Type 0 where
-  pub bytes : List ℕ
-  pub took : Consumes input.before input.after bytes
-  pub bound : length bytes ≤ most_bytes
-  pub no_fault : HasNoFault input
-
--- the input was read to its end, without a fault, and these are its bytes
-pub record HasRead (input : StreamChange) (bytes : List ℕ) : Type 0 where
-  pub took : Consumes input.before input.after bytes
-  pub to_end : IsAtEnd input.after
-  pub bound : length bytes ≤ most_bytes
-  pub no_fault : HasNoFault input
-
--- one byte more than an input may have was read, without a fault
-pub record HasTooMany (input : StreamChange) : Type 0 where
-  pub bytes : List ℕ
-  pub took : Consumes input.before input.after bytes
-  pub many : length bytes ≡ most_bytes + 1
-  pub no_fault : HasNoFault input
-
--- the input is an accepted workload
-pub record IsWorkload (input : StreamChange) (w : Work) : Type 0 where
-  pub bytes : List ℕ
-  pub read : HasRead input bytes
-  pub accepted : Accepted bytes w
-
--- the input is no accepted workload: this is the first line at fault, from 1, and the least of its causes
-pub record IsNoWorkload (input : StreamChange) (line : ℕ) (cause : WorkCause) : Type 0 where
-  pub bytes : List ℕ
-  pub read : HasRead input bytes
-  pub first : FirstCause bytes line cause
+use Rattle.sd_program.specs.AuditAnswers.{CausedByAudit, CertifiesInput, RefusesJournal, CompletesAudit, RefusesCertificate, RefusesFaulty}
 
 -- the input is an accepted workload, whose run ended so
 abbrev pub RanInput : Form → StreamChange → StreamChange → Answer → Type 0
@@ -62,14 +26,14 @@ RanInput form input out a = (w : Work) × IsWorkload input w × Ran w form out a
 -- the answer to the arguments of a form
 abbrev pub CausedByInput : Form → StreamChange → StreamChange → Answer → Type 0
 CausedByInput form input out Done = RanInput form input out Done
-CausedByInput form input out Usage = ⊥
-CausedByInput form input out TooLarge = HasTooMany input × IsUntouched out
+CausedByInput form input out TooLarge = HasTooMany most_bytes input × IsUntouched out
 CausedByInput form input out (Refused line cause) = IsNoWorkload input line cause × IsUntouched out
 CausedByInput form input out ReadFault = HasFault input × IsUntouched out
 CausedByInput form input out WriteFault = RanInput form input out WriteFault
-CausedByInput form input out OutOfMemory = HasAtMost input × HasNoFault out × (IsUntouched out ⊎ RanInput form input out OutOfMemory)
+CausedByInput form input out OutOfMemory = HasAtMost most_bytes input × HasNoFault out × (IsUntouched out ⊎ RanInput form input out OutOfMemory)
 CausedByInput form input out Blocked = RanInput form input out Blocked
 CausedByInput form input out TooLong = RanInput form input out TooLong
+CausedByInput form input out _ = ⊥
 
 -- the tables of the input's workload were written
 abbrev pub PrintsTables : StreamChange → StreamChange → Type 0
@@ -78,12 +42,12 @@ PrintsTables input out = (w : Work) × IsWorkload input w × Appends out.before 
 -- the answer to the argument `tables`
 abbrev pub CausedByTables : StreamChange → StreamChange → Answer → Type 0
 CausedByTables input out Done = PrintsTables input out
-CausedByTables input out TooLarge = HasTooMany input × IsUntouched out
+CausedByTables input out TooLarge = HasTooMany most_bytes input × IsUntouched out
 CausedByTables input out (Refused line cause) = IsNoWorkload input line cause × IsUntouched out
 CausedByTables input out ReadFault = HasFault input × IsUntouched out
 CausedByTables input out WriteFault = (w : Work) × IsWorkload input w × HasFault out × AppendsPart out.before out.after (tables_text w)
 CausedByTables input out OutOfMemory =
-    HasAtMost input × HasNoFault out × (IsUntouched out ⊎ ((w : Work) × IsWorkload input w × AppendsPart out.before out.after (tables_text w)))
+    HasAtMost most_bytes input × HasNoFault out × (IsUntouched out ⊎ ((w : Work) × IsWorkload input w × AppendsPart out.before out.after (tables_text w)))
 CausedByTables input out _ = ⊥
 
 -- the answer to the arguments `gen N`
@@ -97,6 +61,7 @@ abbrev pub CausedBy : Command → StreamChange → StreamChange → Answer → T
 CausedBy (Run form) input out a = CausedByInput form input out a
 CausedBy Tables input out a = CausedByTables input out a
 CausedBy (Generate n) input out a = IsUntouched input × CausedByNumber n out a
+CausedBy Audit input out a = CausedByAudit input out a
 
 -- an answer and its cause
 abbrev pub Caused : List (List ℕ) → StreamChange → StreamChange → Answer → Type 0
@@ -139,16 +104,22 @@ Refuses input status =
 -- All that the program promises of a call, from what it did to its streams: there is an answer with its cause, its
 -- status and its line; where a workload is run, status 0 says that the run was printed and that no threads block each
 -- other at its end, status 6 that it was printed and that some do; where tables or a generated workload are asked for,
--- status 0 says that they were printed; and the two sides of the other statuses.
+-- status 0 says that they were printed; where a journal is audited, status 0 says that it is that of a complete run, and
+-- status 7 what is first at fault in it; and the two sides of the other statuses.
 pub record KeepsPromises (arguments : List (List ℕ)) (input out err : StreamChange) (status : ℕ) : Type 0 where
   pub answered : IsAnswered arguments input out err status
   pub headline : (form : Form) → command_of arguments ≡ Some (Run form) → status ≡ 0 → RanInput form input out Done
   pub blocked : (form : Form) → command_of arguments ≡ Some (Run form) → status ≡ 6 → RanInput form input out Blocked
   pub tables : command_of arguments ≡ Some Tables → status ≡ 0 → PrintsTables input out
   pub generates : (n : ℕ) → command_of arguments ≡ Some (Generate n) → status ≡ 0 → IsUntouched input × CausedByNumber n out Done
+  pub audits : command_of arguments ≡ Some Audit → status ≡ 0 → CertifiesInput input out
+  pub faults : command_of arguments ≡ Some Audit → status ≡ 7 → RefusesJournal input out
   pub completes : (form : Form) → command_of arguments ≡ Some (Run form) → Completes form input out status
   pub completes_tables : command_of arguments ≡ Some Tables → CompletesTables input out status
   pub completes_generated : (n : ℕ) → command_of arguments ≡ Some (Generate n) → (HasFault out → ⊥) → (status ≡ 0) ⊎ (status ≡ 5)
+  pub completes_audit : command_of arguments ≡ Some Audit → CompletesAudit input out status
   pub refuses : (form : Form) → command_of arguments ≡ Some (Run form) → Refuses input status
   pub refuses_tables : command_of arguments ≡ Some Tables → Refuses input status
+  pub refuses_audit : command_of arguments ≡ Some Audit → RefusesCertificate input status
+  pub refuses_faulty : command_of arguments ≡ Some Audit → RefusesFaulty input status
   pub usage : (status ≡ 1) ↔ (command_of arguments ≡ None)

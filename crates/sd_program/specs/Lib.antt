@@ -1,9 +1,6 @@
-pub mod Answers
+pub mod AuditAnswers
 pub mod Forms
 pub mod Headline
-pub mod Readings
-pub mod Refusals
 pub mod RunAnswers
 pub mod Starts
-pub mod StreamChanges
-pub mod TableTexts
+pub mod TheRun

@@ -6,9 +6,9 @@ use Rattle.std.specs.declared.io.Error.{Error}
 use Rattle.std.specs.declared.string.String.{String}
 use Rattle.std.specs.declared.vec.Vec.{Vec}
 use Rattle.std.specs.declared.alloc.Global.{Global}
-use Rattle.sd_program.specs.declared.answers.Answer.{Answer}
-use Rattle.sd_program.specs.Answers.{status_of, arguments_answer}
-use Rattle.sd_program.specs.StreamChanges.{StreamChange, IsUntouched}
+use Rattle.sd_answers.specs.declared.answers.Answer.{Answer}
+use Rattle.sd_answers.specs.Answers.{status_of, arguments_answer}
+use Rattle.sd_answers.specs.StreamChanges.{StreamChange, IsUntouched}
 use Rattle.sd_program.specs.Headline.{Tells, KeepsPromises}
 
 -- nothing was read and nothing was written but the answer's line

@@ -25,6 +25,8 @@ pub enum Command {
     Tables,
     /// To write the generated workload of a number.
     Generate { number: u32 },
+    /// To judge whether a journal is that of a complete run of its workload.
+    Audit,
 }
 
 impl Form {
@@ -56,6 +58,8 @@ fn verb_command(verb: &[u8]) -> Option<Command>
         Some(Command::Run(Form::Summary))
     } else if is_word(verb, b"tables") {
         Some(Command::Tables)
+    } else if is_word(verb, b"audit") {
+        Some(Command::Audit)
     } else {
         None
     }

@@ -1,10 +1,10 @@
-//! The thread dispatcher of the Solaris kernel, simulated: reads a workload and writes the journal of its run.
+//! The thread dispatcher of the Solaris kernel, simulated: reads a workload and
+//! writes the journal of its run, or judges a journal.
 #![tactic(auto)]
 
-mod answers;
+mod audits;
 mod forms;
 mod gates;
-mod refusals;
 mod running;
 mod tables;
 #[cfg(test)]

@@ -4,16 +4,17 @@ ghost use Rattle.std.specs.Prelude.{◌≡◌, ◌≢◌, ◌<◌, ◌≤◌, �
 ghost use Rattle.sd_full.specs.LockGraph.{cycles_of};
 ghost use Rattle.sd_full.specs.Runs.{final};
 ghost use Rattle.sd_machine.specs.Opening.{opening};
-ghost use Rattle.sd_program.specs.Answers.{answer_of};
+ghost use Rattle.sd_answers.specs.Answers.{answer_of};
 ghost use Rattle.sd_program.specs.Forms.{turns_of};
-ghost use Rattle.sd_program.specs.RunAnswers.{IsTheRun, Ran};
-ghost use Rattle.sd_program.specs.StreamChanges.{change_of};
+ghost use Rattle.sd_program.specs.RunAnswers.{Ran};
+ghost use Rattle.sd_program.specs.TheRun.{IsTheRun};
+ghost use Rattle.sd_answers.specs.StreamChanges.{change_of};
 ghost use Rattle.sd_rounds.specs.Orders.{orders_of};
 ghost use Rattle.sd_rounds.specs.Rounds.{IsLongSerial};
 
-use crate::answers::Answer;
 use crate::forms::Form;
 use crate::writing::put_run;
+use sd_answers::Answer;
 use sd_cycles::cycles;
 use sd_machine::State;
 use sd_rounds::{Finished, Turns, run_rounds};

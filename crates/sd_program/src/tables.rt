@@ -1,52 +1,15 @@
 //! The dispatch tables of a workload, and generated workloads, written.
 
-ghost use Rattle.std.specs.Prelude.{◌≡◌, ◌++◌, OnOk, codes};
+ghost use Rattle.sd_answers.specs.StreamChanges.{Puts};
+ghost use Rattle.sd_canonical.specs.Blocks.{tables_text};
 ghost use Rattle.sd_gen.specs.Generated.{generated};
-ghost use Rattle.sd_program.specs.StreamChanges.{Puts};
-ghost use Rattle.sd_program.specs.TableTexts.{block_text, tables_text};
-ghost use Rattle.sd_tables.specs.TableSpelling.{fixed_text, ts_text};
 
-use crate::writing::{Unwritten, put_text};
+use sd_answers::{Unwritten, put_text};
+use sd_canonical::write_tables;
 use sd_gen::generate;
-use sd_tables::{write_fixed, write_ts};
 use sd_text::Sink;
-use sd_types::{FixedTable, TsTable, Work};
-use std::alloc::{AllocError, Global};
-
-/// Appends a table of the time-sharing class as a block.
-fn write_ts_block(alloc: Global, t: &TsTable, out: &mut Vec<u8>) -> Result<(), AllocError>
-    ensures { OnOk result (out.new.items ≡ out.old.items ++ block_text (codes "ts") (ts_text t.now)) }
-{
-    out.extend_from_slice(b"table ts\n")?;
-    write_ts(alloc, t, out)?;
-    out.extend_from_slice(b"end\n")
-}
-
-/// Appends a table of another class as a block, which has this name.
-fn write_fixed_block(
-    alloc: Global,
-    name: &[u8],
-    t: &FixedTable,
-    out: &mut Vec<u8>,
-) -> Result<(), AllocError>
-    ensures { OnOk result (out.new.items ≡ out.old.items ++ block_text name.now (fixed_text t.now)) }
-{
-    out.extend_from_slice(b"table ")?;
-    out.extend_from_slice(name)?;
-    out.extend_from_slice(b"\n")?;
-    write_fixed(alloc, t, out)?;
-    out.extend_from_slice(b"end\n")
-}
-
-/// Appends the three tables.
-#[tactic(auto, unfolding(crate::specs::TableTexts::tables_text))]
-fn write_tables(alloc: Global, work: &Work, out: &mut Vec<u8>) -> Result<(), AllocError>
-    ensures { OnOk result (out.new.items ≡ out.old.items ++ tables_text work.now) }
-{
-    write_ts_block(alloc, &work.ts, out)?;
-    write_fixed_block(alloc, b"fx", &work.fx, out)?;
-    write_fixed_block(alloc, b"rt", &work.rt, out)
-}
+use sd_types::Work;
+use std::alloc::Global;
 
 /// Writes the tables of a workload.
 pub(crate) fn put_tables<K: Sink>(alloc: Global, work: &Work, out: &mut K) -> Result<(), Unwritten>

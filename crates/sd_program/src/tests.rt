@@ -18,6 +18,10 @@ const SMALLEST: &str = "limit 5\nthread a ts 29 0 0\nscript a\nrun 3\nend\n";
 const SMALLEST_JOURNAL: &str =
     "0 c0 dispatch a 29\n1 c0 tick a\n2 c0 tick a\n3 c0 tick a\n4 c0 done a\n5 c0 idle\n6 c0 idle\naccounts\nthread a ticks 3 dispatches 1 preempts 0 wakes 0 ended\ncpu 0 ticks 5 idle 2\n";
 
+/// The smallest workload and its journal, as `audit` reads them.
+const CERTIFICATE: &str =
+    "limit 5\nthread a ts 29 0 0\nscript a\nrun 3\nend\njournal\n0 c0 dispatch a 29\n1 c0 tick a\n2 c0 tick a\n3 c0 tick a\n4 c0 done a\n5 c0 idle\n6 c0 idle\naccounts\nthread a ticks 3 dispatches 1 preempts 0 wakes 0 ended\ncpu 0 ticks 5 idle 2\n";
+
 const EXPIRY: &str =
     "limit 22\nthread a ts 0 0 0\nthread b ts 0 0 0\nscript a\nrun 20\nend\nscript b\nrun 1\nend\n";
 
@@ -100,7 +104,7 @@ fn refusals_and_failing_streams(rt: HostRuntime) -> Result<(), Fail> {
     let alloc = rt.alloc();
     // The arguments, the input, the reads that fail, the room of the output and the writes that fail; then the status,
     // the output and the error output.
-    let cases: [(&str, &str, &[u64], usize, &[u64], u8, &str, &str); 12] = [
+    let cases: [(&str, &str, &[u64], usize, &[u64], u8, &str, &str); 20] = [
         ("", SMALLEST, &[], 4096, &[], 1, "", USAGE),
         ("run fast", SMALLEST, &[], 4096, &[], 1, "", USAGE),
         ("fast", SMALLEST, &[1], 4096, &[1], 1, "", USAGE),
@@ -167,6 +171,77 @@ fn refusals_and_failing_streams(rt: HostRuntime) -> Result<(), Fail> {
             "write fault\n",
         ),
         ("run", SMALLEST, &[], 5, &[], 4, "0 c0 ", "write fault\n"),
+        ("audit", CERTIFICATE, &[], 4096, &[], 0, "legal 7\n", ""),
+        (
+            "audit",
+            SMALLEST,
+            &[],
+            4096,
+            &[],
+            2,
+            "",
+            "refused: no journal\n",
+        ),
+        (
+            "audit",
+            "limit 100001\njournal\n",
+            &[],
+            4096,
+            &[],
+            2,
+            "",
+            "refused: line 1: range\n",
+        ),
+        (
+            "audit",
+            "limit 1\njournal\n",
+            &[],
+            4096,
+            &[],
+            7,
+            "",
+            "journal: line 1: not an entry\n",
+        ),
+        (
+            "audit",
+            "limit 1\njournal\n1 c0 idle\n",
+            &[],
+            4096,
+            &[],
+            7,
+            "",
+            "journal: entry 0: illegal\n",
+        ),
+        (
+            "audit",
+            "limit 1\njournal\naccounts\n",
+            &[],
+            4096,
+            &[],
+            7,
+            "",
+            "journal: incomplete: c0\n",
+        ),
+        (
+            "audit",
+            "limit 1\njournal\n0 c0 idle\naccounts\ncpu 0 ticks 1 idle 0\n",
+            &[],
+            4096,
+            &[],
+            7,
+            "",
+            "journal: line 3: accounts\n",
+        ),
+        (
+            "audit",
+            CERTIFICATE,
+            &[],
+            5,
+            &[],
+            4,
+            "legal",
+            "write fault\n",
+        ),
     ];
     for (arguments, input, reads, room, writes, status, out, err) in cases {
         let called = call(alloc, arguments, input.as_bytes(), 4, reads, room, writes)?;

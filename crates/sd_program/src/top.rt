@@ -1,33 +1,23 @@
 //! The top call: from the arguments and the streams of the program to its exit status.
 
 ghost use Rattle.std.specs.Prelude.{◌≡◌, map, string_bytes};
-ghost use Rattle.sd_program.specs.Answers.{status_of, answer_of};
+ghost use Rattle.sd_answers.specs.Answers.{status_of, answer_of};
 ghost use Rattle.sd_program.specs.Headline.{CausedByInput, CausedByNumber, CausedByTables, Caused, Tells, KeepsPromises};
-ghost use Rattle.sd_program.specs.Readings.{IsReading};
 ghost use Rattle.sd_program.specs.Starts.{Starts};
-ghost use Rattle.sd_program.specs.StreamChanges.{change_of};
+ghost use Rattle.sd_answers.specs.StreamChanges.{change_of};
 
-use crate::answers::Answer;
+use crate::audits::audit_input;
 use crate::forms::{Command, Form, command_of};
 use crate::gates::Gate;
 use crate::running::run_work;
 use crate::tables::{put_generated, put_tables};
-use sd_text::{Sink, Source, read_all};
-use sd_types::Work;
-use sd_workload::read_work;
+use sd_answers::{Answer, read_input};
+use sd_text::{Sink, Source};
 use std::alloc::Global;
 use std::io;
 use std::marker::Sync;
 use std::sync::Wait;
 use std::thread::Threads;
-
-/// The workload that the input spells, or why there is none.
-fn read_input<S: Source>(alloc: Global, input: &mut S) -> Result<Work, Answer>
-    ensures { IsReading (change_of (S.remaining input.old) (S.remaining input.new) (S.fault_count input.old) (S.fault_count input.new)) result }
-{
-    let bytes = read_all(alloc, input)?;
-    Ok(read_work(alloc, &bytes)?)
-}
 
 /// Reads the workload, runs it and writes what the form prints of the run.
 fn run_input<S: Source, K: Sink>(
@@ -83,6 +73,7 @@ fn carry_out<S: Source, K: Sink>(
         Some(Command::Run(form)) => Answer::of(run_input(alloc, form, input, out)),
         Some(Command::Tables) => Answer::of(print_tables(alloc, input, out)),
         Some(Command::Generate { number }) => Answer::of(print_generated(alloc, number, out)),
+        Some(Command::Audit) => Answer::of(audit_input(alloc, input, out)),
         None => Answer::Usage,
     }
 }
@@ -101,10 +92,12 @@ fn tell<E: Sink>(answer: Answer, err: &mut E) -> u8
 /// With status 0 what `out` received is the journal, or the summary, of the run of the workload that `input` spells: a
 /// complete legal run in rounds, in each state of which each thread stands in one place and at most one runs on a
 /// processor, with the accounts of its entries, and no threads block each other at its end. With status 6 it is the same
-/// of a run at whose end some do. Where the arguments ask for tables or a generated workload, `out` received these. The other
-/// statuses are 1 (the arguments are of none of the forms), 2 (the input is
-/// too large, or no accepted workload), 3 (a read failed), 4 (a write failed), 5 (out of memory, and no fault of
-/// `input` or `out` was counted) and 8 (the run has 2^40 entries or more); each but 0 leaves one line on `err`.
+/// of a run at whose end some do. Where the arguments ask for tables or a generated workload, `out` received these. Where
+/// they ask for an audit, status 0 says that the input is a workload and the journal of a complete run of it, and status 7
+/// that the text behind the workload is no such journal. The other statuses are 1 (the arguments are of none of the forms),
+/// 2 (the input is too large, no accepted workload, or has no journal), 3 (a read failed), 4 (a write failed), 5 (out of
+/// memory, and no fault of `input` or `out` was counted) and 8 (the run has 2^40 entries or more); each but 0 leaves one
+/// line on `err`.
 pub fn serial<S: Source, K: Sink, E: Sink, G: Gate>(
     alloc: Global,
     arguments: &[String],

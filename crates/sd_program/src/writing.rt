@@ -1,67 +1,22 @@
 //! Writing what is printed of a run: each line with its newline as one piece.
 
-ghost use Rattle.std.specs.Prelude.{◌≡◌, ◌++◌, ◌<◌, ◌≤◌, ◌^◌, flat_map, length, IfOk, IsErrOf};
-ghost use Rattle.sd_program.specs.declared.writing.Unwritten.TheVariants.{Fault, Memory};
+ghost use Rattle.std.specs.Prelude.{◌≡◌, ◌++◌, ◌<◌, ◌^◌, length, IfOk};
 ghost use Rattle.sd_accounts.specs.Counters.{HasTaken};
 ghost use Rattle.sd_full.specs.Runs.{final};
 ghost use Rattle.sd_full.specs.Texts.{cycles_text, entries_text, entry_text, journal, summary};
 ghost use Rattle.sd_machine.specs.Opening.{opening};
 ghost use Rattle.sd_machine.specs.Texts.{accounts_text};
 ghost use Rattle.sd_program.specs.Forms.{text_of};
-ghost use Rattle.sd_program.specs.StreamChanges.{Puts};
+ghost use Rattle.sd_answers.specs.StreamChanges.{Puts};
 
 use crate::forms::Form;
 use sd_accounts::Accounts;
+use sd_answers::{Unwritten, put_line, put_text};
 use sd_event::write_entry;
 use sd_machine::State;
-use sd_text::{Sink, WriteFault, write_piece};
+use sd_text::Sink;
 use sd_types::{Entry, Work};
 use std::alloc::{AllocError, Global};
-
-/// Why a text was not written whole.
-#[derive(Clone, Copy, Debug, PartialEq, Eq)]
-pub enum Unwritten {
-    /// A write failed.
-    Fault,
-    /// Memory ran out.
-    Memory,
-}
-
-impl From<WriteFault> for Unwritten {
-    ghost from_gives = { λ _ e. e ≡ Fault };
-
-    fn from(_fault: WriteFault) -> Unwritten {
-        Unwritten::Fault
-    }
-}
-
-impl From<AllocError> for Unwritten {
-    ghost from_gives = { λ _ e. e ≡ Memory };
-
-    fn from(_error: AllocError) -> Unwritten {
-        Unwritten::Memory
-    }
-}
-
-/// Writes a line.
-pub(crate) fn put_line<K: Sink>(out: &mut K, line: &[u8]) -> Result<(), Unwritten>
-    ensures puts { Puts (K.contents out.old) (K.contents out.new) (K.fault_count out.old) (K.fault_count out.new) line.now result }
-    ensures no_memory { IsErrOf result Memory → ⊥ }
-{
-    Ok(write_piece(out, line)?)
-}
-
-/// Writes a line that comes in pieces.
-pub(crate) fn put_pieces<K: Sink>(out: &mut K, pieces: &[&[u8]]) -> Result<(), Unwritten>
-    ensures puts { Puts (K.contents out.old) (K.contents out.new) (K.fault_count out.old) (K.fault_count out.new)
-        (flat_map (λ p. p.now) pieces.now) result }
-    ensures no_memory { IsErrOf result Memory → ⊥ }
-{
-    for piece in pieces {
-        put_line(out, piece)?;
-    }
-    Ok(())
-}
 
 /// Writes the line of an entry.
 fn put_entry<K: Sink>(
@@ -90,31 +45,6 @@ fn put_entries<K: Sink>(
 {
     for entry in entries {
         put_entry(alloc, work, entry, out)?;
-    }
-    Ok(())
-}
-
-/// Where the line ends that begins at `from`: behind its newline, or at the end of the text.
-fn line_end(text: &[u8], from: usize) -> usize
-    requires { from < length text.now }
-    ensures after { from < result }
-    ensures within { result ≤ length text.now }
-{
-    match text[from..].iter().position(|byte| *byte == b'\n') {
-        Some(newline) => from + newline + 1,
-        None => text.len(),
-    }
-}
-
-/// Writes a text, line by line.
-pub(crate) fn put_text<K: Sink>(out: &mut K, text: &[u8]) -> Result<(), Unwritten>
-    ensures { Puts (K.contents out.old) (K.contents out.new) (K.fault_count out.old) (K.fault_count out.new) text.now result }
-{
-    let mut from = 0;
-    while from < text.len() {
-        let to = line_end(text, from);
-        put_line(out, &text[from..to])?;
-        from = to;
     }
     Ok(())
 }

@@ -87,13 +87,14 @@ fn run_round(
 
 /// The run of the workload that goes in rounds, in which the processors take turns so. `Full` only where it has 2^40
 /// entries or more, and then it is never returned whole: what `Memory` may stand for instead of a run or of `Full` is
-/// only that memory ran out.
+/// only that memory ran out. With a run it is said too that no semaphore of the workload begins with more than 65,535.
 pub fn run_rounds(alloc: Global, work: &Work, turns: Turns) -> Result<Finished, Stop>
     ensures serial { IfOk result (λ r. IsSerial work.now (orders_of work.now turns) r.entries.items) }
     ensures run { IfOk result (λ r. IsRun work.now r.entries.items) }
     ensures complete { IfOk result (λ r. IsComplete work.now r.state) }
     ensures state { IfOk result (λ r. r.state ≡ final work.now (opening work.now) r.entries.items) }
     ensures short { IfOk result (λ r. length r.entries.items < MOST_ENTRIES) }
+    ensures small { OnOk result (HasSmallCounts work.now) }
     ensures full { IsErrOf result Stop.Full → IsLongSerial work.now (orders_of work.now turns) }
     ensures no_longer { OnOk result (IsLongSerial work.now (orders_of work.now turns) → ⊥) }
 {

@@ -1,7 +1,5 @@
-use Rattle.std.proofs.Common.{◌≡◌, ◌≢◌, Bool, true, false, List, ℕ, [], ◌∷◌, Ok, Err, refl, sym, ap, subst, ◌∙◌}
+use Rattle.std.proofs.Common.{◌≡◌, ◌≢◌, List, ℕ, [], ◌∷◌, Err, refl, sym, ap, subst, ◌∙◌}
 use Rattle.std.proofs.lemmas.Bool.{false≢true}
-use Rattle.std.specs.Prelude.{IsErrOf}
-use Rattle.sd_types.specs.declared.events.Stop.TheVariants.{Full}
 use Rattle.sd_types.specs.declared.events.Entry.{Entry}
 use Rattle.sd_machine.specs.declared.states.State.{State}
 use Rattle.sd_machine.specs.Opening.{opening}
@@ -10,12 +8,11 @@ use Rattle.sd_full.specs.Runs.{final}
 use Rattle.sd_rounds.specs.Orders.{orders_of}
 use Rattle.sd_rounds.specs.Rounds.{IsLongSerial}
 use Rattle.sd_rounds.specs.declared.orders.Turns.{Turns}
-use Rattle.sd_rounds.specs.declared.rounds.Finished.{Finished}
-use Rattle.sd_program.specs.Answers.{stop_answer, unwritten_answer}
-use Rattle.sd_program.specs.Forms.{turns_of}
-use Rattle.sd_program.specs.RunAnswers.{IsTheRun}
-use Rattle.sd_program.specs.StreamChanges.{change_of}
+use Rattle.sd_answers.specs.Answers.{stop_answer, unwritten_answer}
+use Rattle.sd_program.specs.TheRun.{IsTheRun}
+use Rattle.sd_answers.specs.StreamChanges.{change_of}
 use Rattle.sd_program.proofs.TopLemmas.{stopped_of, unwritten_of, ran_exit}
+use Rattle.sd_program.proofs.TheRun.{is_open}
 use Rattle.sd_program.proofs.running.run_work.Goals as goal
 
 pub returns-in_err-run-clause-ran : goal.returns-in_err-run-clause-ran
@@ -55,4 +52,4 @@ returns-clause-ran g c =
     let p = c.in_ok-put_run.ensures in
     let ends = c.in_ok-run.ensures.state ∙ ap (final w (opening w)) (sym c.deref.ensures.value) in
     let none = nothing_in (cycles_of c.in_ok-run.run'.state) (λ some. false≢true (sym c.if-blocked.false ∙ c.in_ok-blocked.ensures.1 some)) in
-    (c.deref.result.now, is, p.ok, p.no_fault (λ e. cc), subst (λ (s : State). cycles_of s ≡ []) ends none)
+    (c.deref.result.now, is, p.ok, p.no_fault (λ e. cc), is_open w c.deref.result.now is.run (subst (λ (s : State). cycles_of s ≡ []) ends none))

@@ -1,6 +1,5 @@
-use Rattle.std.proofs.Common.{Err, refl}
-use Rattle.sd_program.specs.Answers.{unwritten_answer}
-use Rattle.sd_program.specs.StreamChanges.{change_of}
+use Rattle.sd_answers.specs.Answers.{unwritten_answer}
+use Rattle.sd_answers.specs.StreamChanges.{change_of}
 use Rattle.sd_program.proofs.TopLemmas.{tables_unwritten, tables_exit}
 use Rattle.sd_program.proofs.top.print_tables.Goals as goal
 

@@ -1,6 +1,6 @@
 use Rattle.std.proofs.Common.{refl}
-use Rattle.sd_program.specs.Answers.{answer_of}
-use Rattle.sd_program.specs.StreamChanges.{change_of}
+use Rattle.sd_answers.specs.Answers.{answer_of}
+use Rattle.sd_answers.specs.StreamChanges.{change_of}
 use Rattle.sd_program.proofs.TopLemmas.{run_of, refused_of, caused_exit}
 use Rattle.sd_program.proofs.top.run_input.Goals as goal
 

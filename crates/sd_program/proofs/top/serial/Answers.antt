@@ -1,7 +1,7 @@
 use Rattle.std.proofs.Common.{map}
 use Rattle.std.specs.Prelude.{string_bytes}
-use Rattle.sd_program.specs.StreamChanges.{change_of}
-use Rattle.sd_program.proofs.TopLemmas.{promises_of}
+use Rattle.sd_answers.specs.StreamChanges.{change_of}
+use Rattle.sd_program.proofs.Promises.{promises_of}
 use Rattle.sd_program.proofs.top.serial.Goals as goal
 
 pub returns : goal.returns

@@ -1,4 +1,4 @@
-use Rattle.sd_program.specs.StreamChanges.{change_of}
+use Rattle.sd_answers.specs.StreamChanges.{change_of}
 use Rattle.sd_program.proofs.TopLemmas.{told_of}
 use Rattle.sd_program.proofs.top.tell.Goals as goal
 

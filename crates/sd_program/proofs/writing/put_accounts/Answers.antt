@@ -1,4 +1,4 @@
-use Rattle.sd_program.proofs.PutLemmas.{Puts-memory, Puts-exit}
+use Rattle.sd_answers.proofs.PutLemmas.{Puts-memory, Puts-exit}
 use Rattle.sd_program.proofs.writing.put_accounts.Goals as goal
 
 pub returns-in_err-accounts : goal.returns-in_err-accounts

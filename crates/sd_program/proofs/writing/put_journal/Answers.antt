@@ -3,8 +3,8 @@ use Rattle.sd_machine.specs.Opening.{opening}
 use Rattle.sd_machine.specs.Texts.{accounts_text}
 use Rattle.sd_full.specs.Runs.{final}
 use Rattle.sd_full.specs.Texts.{entries_text, cycles_text, journal}
-use Rattle.sd_program.specs.StreamChanges.{Puts}
-use Rattle.sd_program.proofs.PutLemmas.{Puts-then, Puts-err, Puts-exit}
+use Rattle.sd_answers.specs.StreamChanges.{Puts}
+use Rattle.sd_answers.proofs.PutLemmas.{Puts-then, Puts-err, Puts-exit}
 use Rattle.sd_program.proofs.writing.put_journal.Goals as goal
 
 pub returns-in_err-put_entries : goal.returns-in_err-put_entries

@@ -1,9 +1,9 @@
-use Rattle.std.proofs.Common.{◌≡◌, List, ℕ, [], ◌++◌, ap, subst, sym, ◌∙◌}
+use Rattle.std.proofs.Common.{◌≡◌, List, ℕ, ◌++◌, ap, subst, ◌∙◌}
 use Rattle.sd_machine.specs.Opening.{opening}
 use Rattle.sd_full.specs.Runs.{final}
 use Rattle.sd_full.specs.Texts.{summary, summary_of}
-use Rattle.sd_program.specs.StreamChanges.{Puts}
-use Rattle.sd_program.proofs.PutLemmas.{Puts-memory, Puts-exit}
+use Rattle.sd_answers.specs.StreamChanges.{Puts}
+use Rattle.sd_answers.proofs.PutLemmas.{Puts-memory, Puts-exit}
 use Rattle.sd_program.proofs.writing.put_summary.Goals as goal
 
 pub returns-in_err-accounts : goal.returns-in_err-accounts

@@ -1,0 +1,4 @@
+pub mod Answers
+pub mod Inputs
+pub mod Refusals
+pub mod StreamChanges

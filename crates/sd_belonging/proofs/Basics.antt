@@ -1,0 +1,71 @@
+-- Small facts on numbers, tests, options and places.
+use Rattle.std.proofs.Common.{◌≡◌, ℕ, Bool, true, false, ◌&&◌, ◌||◌, Option, Some, None, is_none, refl, sym, ap, ◌∙◌, arith}
+use Rattle.std.specs.Prelude.{◌==◌}
+use Rattle.std.proofs.lemmas.Bool.{eqb-true}
+use Rattle.std.proofs.lemmas.Bool.Decides.{nat_tests}
+use Rattle.sd_types.specs.declared.numbers.CpuId.{CpuId}
+use Rattle.sd_types.specs.declared.numbers.SetId.{SetId}
+use Rattle.sd_machine.specs.declared.states.Place.{Place}
+use Rattle.sd_machine.specs.declared.states.Place.TheVariants.{Running, Queued, RealTime, Waiting, Asleep, Napping, Ended}
+use Rattle.sd_machine.specs.States.{is_running, is_queued}
+use Rattle.sd_sound.specs.Laws.{is_runnable}
+
+pub self : (n : ℕ) → (n == n) ≡ true
+self n = grind (arith, nat_tests)
+
+pub or_right : (a b : Bool) → b ≡ true → (a || b) ≡ true
+or_right true b e = refl
+or_right false b e = e
+
+pub neither : (a b : Bool) → (a || b) ≡ false → (a ≡ false) × (b ≡ false)
+neither true b e = cc
+neither false b e = (refl, e)
+
+pub both : (a b : Bool) → a ≡ true → b ≡ true → (a && b) ≡ true
+both true b h e = e
+both false b h e = h
+
+pub none_of : {X : Type 0} (o : Option X) → is_none o ≡ true → o ≡ None
+none_of None e = refl
+none_of (Some x) e = cc
+
+pub none_some : {X : Type 0} (x : X) → None ≡ Some x → ⊥
+none_some x e = cc
+
+-- Numbers that are equal are of equal sets and processors.
+
+pub same_set : (p q : SetId) → p.0 ≡ q.0 → p ≡ q
+same_set p q e = ap (λ (n : ℕ). let r : SetId = record { 0 = n } in r) e
+
+pub same_cpu : (c d : CpuId) → c.0 ≡ d.0 → c ≡ d
+same_cpu c d e = ap (λ (n : ℕ). let r : CpuId = record { 0 = n } in r) e
+
+-- Places.
+
+-- a thread runs on one processor
+pub runs_one : (p : Place) (c d : ℕ) → is_running c p ≡ true → is_running d p ≡ true → d ≡ c
+runs_one (Running k) c d a b = sym (eqb-true k.0 d b) ∙ eqb-true k.0 c a
+runs_one (Queued k key) c d a b = cc
+runs_one (RealTime q k) c d a b = cc
+runs_one (Waiting l side k) c d a b = cc
+runs_one (Asleep j k) c d a b = cc
+runs_one (Napping k due) c d a b = cc
+runs_one Ended c d a b = cc
+
+pub running_rests : (c : ℕ) (p : Place) → is_running c p ≡ true → is_runnable p ≡ false
+running_rests c (Running d) e = refl
+running_rests c (Queued d k) e = cc
+running_rests c (RealTime q k) e = cc
+running_rests c (Waiting l side k) e = cc
+running_rests c (Asleep j k) e = cc
+running_rests c (Napping d due) e = cc
+running_rests c Ended e = cc
+
+pub queued_runnable : (d : ℕ) (p : Place) → is_queued d p ≡ true → is_runnable p ≡ true
+queued_runnable d (Queued c k) e = refl
+queued_runnable d (Running c) e = cc
+queued_runnable d (RealTime q k) e = cc
+queued_runnable d (Waiting l side k) e = cc
+queued_runnable d (Asleep j k) e = cc
+queued_runnable d (Napping c due) e = cc
+queued_runnable d Ended e = cc

@@ -1,0 +1,16 @@
+pub mod All
+pub mod Alike
+pub mod Basics
+pub mod Calls
+pub mod Dispatches
+pub mod Events
+pub mod Goes
+pub mod Homes
+pub mod Joins
+pub mod Marks
+pub mod OnePlace
+pub mod OpenLists
+pub mod Outcomes
+pub mod Settle
+pub mod Special
+pub mod Words

@@ -1,0 +1,14 @@
+//! The canonical spelling of a workload: one text for each workload, which is read back as that workload.
+#![tactic(auto)]
+
+mod lines;
+mod scripts;
+mod tables;
+#[cfg(test)]
+mod tests;
+mod threads;
+mod words;
+mod works;
+
+pub use tables::write_tables;
+pub use works::write_work;

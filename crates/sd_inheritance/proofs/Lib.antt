@@ -1,0 +1,11 @@
+pub mod Begun
+pub mod ClassThreads
+pub mod Exact
+pub mod Fields
+pub mod GoOn
+pub mod LockMoves
+pub mod QuietMoves
+pub mod Runs
+pub mod Views
+pub mod WalkMoves
+pub mod WalkTable

@@ -1,0 +1,58 @@
+-- The run that is printed, and what holds of it.
+-- Source: Solaris Internals (dispatching, turnstiles), psrset(1M); that runs go in rounds is this project's own.
+use Rattle.std.specs.Prelude.{◌≡◌, ℕ, ◌<◌, true, List, [], ◌∷◌, ◌++◌, length, take}
+use Rattle.sd_types.specs.declared.events.Entry.{Entry}
+use Rattle.sd_types.specs.declared.works.Work.{Work}
+use Rattle.sd_chains.specs.Graphs.{IsChainMax}
+use Rattle.sd_machine.specs.Accounts.{is_wake_of}
+use Rattle.sd_machine.specs.Opening.{opening}
+use Rattle.sd_machine.specs.declared.states.State.{State}
+use Rattle.sd_machine.specs.States.{thread_of, cpu_of}
+use Rattle.sd_full.specs.LockGraph.{graph, cycles_of}
+use Rattle.sd_full.specs.Runs.{final, state_at, IsRun, IsComplete, IsSerial}
+use Rattle.sd_full.specs.Texts.{journal}
+use Rattle.sd_full.specs.Threads.{eff_of}
+use Rattle.sd_laws.specs.Laws.{MarksStand}
+use Rattle.sd_belonging.specs.Belonging.{EachInOnePlace, ThreadsBelong}
+use Rattle.sd_inheritance.specs.Laws.{NobodyWalks, PrioritiesAreMaxima}
+use Rattle.sd_history.specs.Laws.{NoneStops, runs_or_is_runnable}
+use Rattle.sd_audit.specs.Audits.{IsJournal}
+use Rattle.sd_rounds.specs.Orders.{orders_of}
+use Rattle.sd_rounds.specs.declared.orders.Turns.{Turns}
+
+-- the state after the last entry
+abbrev pub final_state : Work → List Entry → State
+final_state w es = final w (opening w) es
+
+-- from an entry that the accounts count as a wake of a thread, as long as no entry stops it, the thread is on a dispatch
+-- queue or runs
+abbrev pub WokenAreRunnable : Work → List Entry → Type 0
+WokenAreRunnable w es =
+    (before more rest : List Entry) (e : Entry) (t : ℕ) → es ≡ before ++ e ∷ (more ++ rest) → is_wake_of t e.event ≡ true → NoneStops t more
+    → runs_or_is_runnable (thread_of (final_state w (before ++ e ∷ more)) t).place ≡ true
+
+-- The entries are those of the run that goes in rounds in which the processors take these turns: a complete legal run,
+-- at whose end each processor has counted the ticks of the limit.
+pub record IsTheRun (w : Work) (turns : Turns) (es : List Entry) : Type 0 where
+  pub serial : IsSerial w (orders_of w turns) es
+  pub run : IsRun w es
+  pub complete : IsComplete w (final_state w es)
+  pub limit : (c : ℕ) → c < w.cpus → (cpu_of (final_state w es) c).count ≡ w.limit
+  -- in each of its states each thread stands in exactly one place, which is there, and at most one runs on a processor;
+  pub places : (k : ℕ) → EachInOnePlace w (length (take k es)) (state_at w es k)
+  -- the place suits the thread's set, binding and priority, and processors are marked that have to look at their queues;
+  pub belong : (k : ℕ) → ThreadsBelong w (state_at w es k)
+  pub marks : (k : ℕ) → MarksStand (state_at w es k)
+  -- a woken thread is on a dispatch queue or runs, until it stops again;
+  pub woken : WokenAreRunnable w es
+  -- where no processor walks along a chain of owners, the effective priority of each thread that is in no blocking cycle is
+  -- the maximum of the base priorities of itself and of all threads blocked behind it;
+  pub priorities : (k : ℕ) → PrioritiesAreMaxima (state_at w es k)
+  -- and the journal of the run is one that the audit finds legal
+  pub certified : IsJournal w (journal w es) (final_state w es) (length es)
+
+-- No state of the run has a blocking cycle. So where no processor walks along a chain of owners, the effective priority of
+-- every thread is the maximum of the base priorities of itself and of all threads blocked behind it.
+pub record IsOpen (w : Work) (es : List Entry) : Type 0 where
+  pub cycles : (k : ℕ) → cycles_of (state_at w es k) ≡ []
+  pub maxima : (k : ℕ) → NobodyWalks (state_at w es k) → (o : ℕ) → IsChainMax (graph (state_at w es k)) o (eff_of (state_at w es k) o)

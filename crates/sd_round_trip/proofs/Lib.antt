@@ -1,0 +1,14 @@
+pub mod TextLemmas
+pub mod TakesLemmas
+pub mod FormLemmas
+pub mod ListLemmas
+pub mod SetLemmas
+pub mod ObjectLemmas
+pub mod BlockLemmas
+pub mod ThreadLemmas
+pub mod OpFormLemmas
+pub mod OpLemmas
+pub mod ScriptLemmas
+pub mod ScriptsLemmas
+pub mod WorkLemmas
+pub mod RangeLemmas
