@@ -1,0 +1,13 @@
+use Rattle.std.proofs.Common.{◌+◌, ◌-◌, ◌≤◌, length}
+use Rattle.sd_gather.specs.Journals.{IsUnderWay}
+use Rattle.sd_gather.proofs.gathering.gather.Given as goal
+
+abbrev pub invariant-lines : goal.invariant-lines
+invariant-lines l = record {
+  under_way : IsUnderWay l.work l.text l.s l.history l.from;
+  within : l.from ≤ length l.text + 1;
+  bound : l.history.entries ≤ l.from;
+}
+
+abbrev pub decreases-lines : goal.decreases-lines
+decreases-lines l = length l.text + 2 - l.from

@@ -1,0 +1,118 @@
+-- One entry more.
+use Rattle.std.proofs.Common.{◌≡◌, ℕ, zero, suc, ◌+◌, ◌<◌, ◌≤◌, List, [], ◌∷◌, ◌++◌, length, take, Option, Some, None, get_or, refl, sym, ap, ◌∙◌, arith, add-one}
+use Rattle.std.specs.Prelude.{slice_get}
+use Rattle.std.specs.List.{flat_map, range_with_len}
+use Rattle.std.proofs.lemmas.List.{take-append-le, take_all, length-append, append-nil, get_or_append_left}
+use Rattle.std.proofs.lemmas.Option.{slice_get-get_or}
+use Rattle.std.proofs.Math.Seq.{get_or-append_seam}
+use Rattle.sd_types.specs.declared.events.Entry.{Entry}
+use Rattle.sd_types.specs.declared.works.Work.{Work}
+use Rattle.sd_machine.specs.declared.states.State.{State}
+use Rattle.sd_machine.specs.Opening.{opening}
+use Rattle.sd_full.specs.Runs.{final, state_at}
+use Rattle.sd_machine.specs.States.{cpu_of}
+use Rattle.sd_stretches.specs.declared.histories.History.{History}
+use Rattle.sd_stretches.specs.Sights.{sights_of}
+use Rattle.sd_stretches.specs.Changes.{turns_between, ranks_between, load_if, hand_overs_of, wakeups_of}
+use Rattle.sd_stretches.specs.Histories.{Moment, moment, sights_before, entry_before, over, turns_in, ranks_in, loads_in, hand_overs_in, wakeups_in, IsHistory}
+use Rattle.sd_stretches.proofs.RangeLemmas.{flat_range_more, flat_range_same}
+
+module _ (w : Work) (es : List Entry) (e : Entry) where
+  pub state_stays : (k : ℕ) → k ≤ length es → state_at w (es ++ e ∷ []) k ≡ state_at w es k
+  state_stays k inside = ap (final w (opening w)) (take-append-le k es (e ∷ []) inside)
+
+  one_more : length (es ++ e ∷ []) ≡ length es + 1
+  one_more = length-append es (e ∷ [])
+
+  entry_stays : (k : ℕ) → k < length es → slice_get (es ++ e ∷ []) k ≡ slice_get es k
+  entry_stays k inside =
+      slice_get-get_or (es ++ e ∷ []) k e (let n = one_more in omega (arith, n, inside))
+      ∙ ap Some (get_or_append_left es (e ∷ []) e k inside)
+      ∙ sym (slice_get-get_or es k e inside)
+
+  moment_stays : (k : ℕ) → k ≤ length es → moment w (es ++ e ∷ []) k ≡ moment w es k
+  unfolding moment
+  moment_stays zero inside = ap (λ (s : State). record { first = 0; earlier = []; state = s; entry = None }) (state_stays 0 inside)
+  moment_stays (suc k) inside =
+      let before = state_stays k (omega arith) in
+      let now = state_stays (suc k) inside in
+      let entry = entry_stays k (omega arith) in
+      rw (before, now, entry) refl
+
+  -- the state that the last entry made
+  pub last_moment : Moment
+  last_moment = record { first = length es + 1; earlier = sights_of (final w (opening w) es); state = final w (opening w) (es ++ e ∷ []); entry = Some e }
+
+  moment_last : moment w (es ++ e ∷ []) (length es + 1) ≡ last_moment
+  unfolding moment last_moment
+  moment_last =
+      ap (moment w (es ++ e ∷ [])) (add-one (length es))
+      ∙ (let before : sights_of (state_at w (es ++ e ∷ []) (length es)) ≡ sights_of (final w (opening w) es)
+      = ap sights_of (state_stays (length es) (omega arith) ∙ ap (final w (opening w)) (take_all (length es) es (omega arith))) in
+      let now : state_at w (es ++ e ∷ []) (suc (length es)) ≡ final w (opening w) (es ++ e ∷ [])
+      = ap (final w (opening w)) (take_all (suc (length es)) (es ++ e ∷ []) (let n = one_more in omega (arith, n))) in
+      let entry : slice_get (es ++ e ∷ []) (length es) ≡ Some e
+      = slice_get-get_or (es ++ e ∷ []) (length es) e (let n = one_more in omega (arith, n)) ∙ ap Some (get_or-append_seam es e [] e) in
+      let many : suc (length es) ≡ length es + 1 = sym (add-one (length es)) in
+      rw (before, now, entry, many) refl)
+
+  -- what the states of a run show, and that of one entry more
+  pub over_more : {A : Type 0} (f : Moment → List A) → over f w (es ++ e ∷ []) ≡ over f w es ++ f last_moment
+  unfolding over
+  over_more {A} f =
+      ap (λ n. flat_map (λ k. f (moment w (es ++ e ∷ []) k)) (range_with_len 0 (n + 1))) one_more
+      ∙ flat_range_more (λ k. f (moment w (es ++ e ∷ []) k)) (length es + 1)
+      ∙ ap (λ (xs : List A). xs ++ f (moment w (es ++ e ∷ []) (length es + 1)))
+      (flat_range_same (λ k. f (moment w (es ++ e ∷ []) k)) (λ k. f (moment w es k)) 0 (length es + 1) (λ k inside. ap f (moment_stays k (omega arith))))
+      ∙ ap (λ (m : Moment). flat_map (λ k. f (moment w es k)) (range_with_len 0 (length es + 1)) ++ f m) moment_last
+
+final_none : (w : Work) → final w (opening w) [] ≡ opening w
+unfolding final
+final_none w = refl
+
+-- what the initial state shows
+pub over_none : {A : Type 0} (f : Moment → List A) (w : Work) → over f w [] ≡ f (record { first = 0; earlier = []; state = opening w; entry = None })
+unfolding over moment
+over_none f w = append-nil (f (record { first = 0; earlier = []; state = final w (opening w) []; entry = None }))
+    ∙ ap f (ap (λ (s : State). record { first = 0; earlier = []; state = s; entry = None }) (final_none w))
+
+-- the history of no entry, and of one entry more
+pub history_none : (w : Work) (s : State) (h : History) → s ≡ opening w → h.turns.items ≡ turns_between [] (sights_of s) 0 0 → h.ranks.items ≡ ranks_between [] (sights_of s) 0 0
+    → h.loads.items ≡ load_if [] (sights_of s) 0 0 → h.hand_overs.items ≡ [] → h.wakeups.items ≡ [] → h.sights.items ≡ sights_of s → h.entries ≡ 0
+    → IsHistory w [] h
+history_none w s h start turns ranks loads hand_overs wakeups sights entries = record {
+  turns = turns ∙ rw start (sym (over_none turns_in w));
+  ranks = ranks ∙ rw start (sym (over_none ranks_in w));
+  loads = loads ∙ rw start (sym (over_none loads_in w));
+  hand_overs = hand_overs ∙ sym (over_none hand_overs_in w);
+  wakeups = wakeups ∙ sym (over_none wakeups_in w);
+  sights = sights ∙ ap sights_of (start ∙ sym (final_none w));
+  entries = entries;
+}
+
+pub history_more : (w : Work) (es : List Entry) (e : Entry) (s : State) (old new : History) → s ≡ final w (opening w) (es ++ e ∷ []) → IsHistory w es old
+    → new.turns.items ≡ old.turns.items ++ turns_between old.sights.items (sights_of s) (old.entries + 1) (cpu_of s e.cpu.0).count
+    → new.ranks.items ≡ old.ranks.items ++ ranks_between old.sights.items (sights_of s) (old.entries + 1) (cpu_of s e.cpu.0).count
+    → new.loads.items ≡ old.loads.items ++ load_if old.sights.items (sights_of s) (old.entries + 1) (cpu_of s e.cpu.0).count
+    → new.hand_overs.items ≡ old.hand_overs.items ++ hand_overs_of s (Some e)
+    → new.wakeups.items ≡ old.wakeups.items ++ wakeups_of s (Some e)
+    → new.sights.items ≡ sights_of s → new.entries ≡ old.entries + 1
+    → IsHistory w (es ++ e ∷ []) new
+unfolding last_moment
+history_more w es e s old new state h turns ranks loads hand_overs wakeups sights entries =
+    let o = h.sights in
+    let n = h.entries in
+    let t = h.turns in
+    let r = h.ranks in
+    let l = h.loads in
+    let g = h.hand_overs in
+    let k = h.wakeups in
+    record {
+      turns = turns ∙ rw (t, o, n, state) (sym (over_more w es e turns_in));
+      ranks = ranks ∙ rw (r, o, n, state) (sym (over_more w es e ranks_in));
+      loads = loads ∙ rw (l, o, n, state) (sym (over_more w es e loads_in));
+      hand_overs = hand_overs ∙ rw (g, state) (sym (over_more w es e hand_overs_in));
+      wakeups = wakeups ∙ rw (k, state) (sym (over_more w es e wakeups_in));
+      sights = sights ∙ ap sights_of state;
+      entries = entries ∙ ap (λ m. m + 1) n ∙ sym (length-append es (e ∷ []));
+    }

@@ -1,0 +1,4 @@
+pub mod RangeLemmas
+pub mod HistoryLemmas
+pub mod RowLemmas
+pub mod ExactLemmas

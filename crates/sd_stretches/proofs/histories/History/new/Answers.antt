@@ -1,0 +1,14 @@
+use Rattle.std.proofs.Common.{List, ◌++◌, ap, ◌∙◌}
+use Rattle.sd_stretches.specs.declared.changes.Turn.{Turn}
+use Rattle.sd_stretches.specs.declared.changes.Rank.{Rank}
+use Rattle.sd_stretches.specs.declared.changes.Load.{Load}
+use Rattle.sd_stretches.proofs.HistoryLemmas.{history_none}
+use Rattle.sd_stretches.proofs.histories.History.new.Goals as goal
+
+pub returns : goal.returns
+returns c w start =
+    let e = c.empty-history.ensures in
+    let h = c.in_ok-see.ensures in
+    history_none w c.args.s.now c.see.new.self start
+    (rw (e.turns, e.sights) at h.turns) (rw (e.ranks, e.sights) at h.ranks) (rw (e.loads, e.sights) at h.loads)
+    (rw h.hand_overs e.hand_overs) (rw h.wakeups e.wakeups) h.sights h.entries

@@ -1,0 +1,24 @@
+use Rattle.std.proofs.Common.{List, ◌+◌, [], ◌∷◌, ◌++◌, refl, ap, sym, ◌∙◌, arith, rules}
+use Rattle.std.specs.Prelude.{slice_get}
+use Rattle.std.proofs.lemmas.Option.{slice_get_within}
+use Rattle.sd_stretches.specs.declared.rows.Stretch.{Stretch}
+use Rattle.sd_stretches.specs.Rows.{stretch_to, stretches, stretches_of}
+use Rattle.sd_stretches.proofs.RowLemmas.{found_more, found_all}
+use Rattle.sd_stretches.proofs.rows.stretches.Goals as goal
+
+pub loop-x-preserved : goal.loop-x-preserved
+loop-x-preserved c =
+    let own = c.in_ok-own.own.items in
+    let held = rw c.deref.ensures.value at (sym c.turn_at.ensures ∙ c.in-Some.is) in
+    record {
+      found = found_more c.args.entries c.args.end own c.loop-x.i c.in-Some.x c.loop-x.found.items _ _ held c.loop-x.invariant.found
+          (c.in_ok-push.ensures.items ∙ ap (λ (x : Stretch). c.loop-x.found.items ++ x ∷ []) (c.stretch_to.ensures ∙ rw (c.turn_at-in-Some.ensures, c.deref-in-Some.ensures.value) refl));
+      within = let inside = slice_get_within own c.loop-x.i c.in-Some.x held in omega (arith, inside);
+    }
+
+pub returns : goal.returns
+unfolding stretches
+returns c =
+    let own = c.in_ok-own.own.items in
+    found_all c.args.entries c.args.end own c.loop-x.i c.loop-x.found.items _ (rw c.deref.ensures.value at (sym c.turn_at.ensures ∙ c.in_default.is)) c.loop-x.invariant.found
+    ∙ ap (stretches_of c.args.entries c.args.end) c.in_ok-own.ensures

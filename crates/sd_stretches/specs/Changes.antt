@@ -1,0 +1,102 @@
+-- What changes from one state to the next, and the entries that hand priority on or wake.
+-- Source: Solaris Internals (turnstiles: priority inheritance; sleep queues); the lists are this project's own.
+use Rattle.std.specs.Prelude.{ℕ, Bool, true, false, ◌&&◌, ◌==◌, List, [], ◌∷◌, length, Option, Some, None, option_map, option_to_list, position, slice_get, if◌then◌else◌}
+use Rattle.std.specs.List.{flat_map, range_with_len}
+use Rattle.sd_types.specs.declared.numbers.CpuId.{CpuId}
+use Rattle.sd_types.specs.declared.numbers.ThreadId.{ThreadId}
+use Rattle.sd_types.specs.declared.events.Event.{Event}
+use Rattle.sd_types.specs.declared.events.Event.TheVariants.{Napend, Wake, Rouse, Unblock, Grant, SemaVWake, Will}
+use Rattle.sd_types.specs.declared.events.Entry.{Entry}
+use Rattle.sd_types.specs.Priorities.{eff}
+use Rattle.sd_machine.specs.declared.states.ThreadState.{ThreadState}
+use Rattle.sd_machine.specs.declared.states.State.{State}
+use Rattle.sd_machine.specs.States.{cpu_of}
+use Rattle.sd_full.specs.Threads.{greatest_waiting, is_waiting, runner}
+use Rattle.sd_stretches.specs.declared.sights.Sight.{Sight}
+use Rattle.sd_stretches.specs.declared.changes.Turn.{Turn}
+use Rattle.sd_stretches.specs.declared.changes.Rank.{Rank}
+use Rattle.sd_stretches.specs.declared.changes.Load.{Load}
+use Rattle.sd_stretches.specs.declared.changes.HandOver.{HandOver}
+use Rattle.sd_stretches.specs.declared.changes.Wakeup.{Wakeup}
+use Rattle.sd_stretches.specs.Sights.{same_doing, same_rank, runnable}
+
+abbrev pub turn_from : ℕ → ℕ → ℕ → Sight → Turn
+turn_from t first tick x = record { thread = t; first = first; tick = tick; doing = x.doing; class = x.class; priority = x.priority }
+
+-- what thread t does from a state on, where it is another thing than in the state before; at the start it is always
+abbrev pub turn_if : ℕ → ℕ → ℕ → Option Sight → Option Sight → List Turn
+turn_if t first tick old None = []
+turn_if t first tick None (Some x) = turn_from t first tick x ∷ []
+turn_if t first tick (Some y) (Some x) = if same_doing y.doing x.doing then [] else turn_from t first tick x ∷ []
+
+-- of each thread, from the sights of a state and of the one before it
+unfoldable pub turns_between : List Sight → List Sight → ℕ → ℕ → List Turn
+turns_between old new first tick = flat_map (λ t. turn_if t first tick (slice_get old t) (slice_get new t)) (range_with_len 0 (length new))
+
+abbrev pub rank_from : ℕ → ℕ → ℕ → Sight → Rank
+rank_from t first tick x = record { thread = t; first = first; tick = tick; priority = x.priority; inherited = x.inherited }
+
+abbrev pub rank_if : ℕ → ℕ → ℕ → Option Sight → Option Sight → List Rank
+rank_if t first tick old None = []
+rank_if t first tick None (Some x) = rank_from t first tick x ∷ []
+rank_if t first tick (Some y) (Some x) = if same_rank y x then [] else rank_from t first tick x ∷ []
+
+unfoldable pub ranks_between : List Sight → List Sight → ℕ → ℕ → List Rank
+ranks_between old new first tick = flat_map (λ t. rank_if t first tick (slice_get old t) (slice_get new t)) (range_with_len 0 (length new))
+
+-- how many stand on dispatch queues, where it is another number than before
+abbrev pub load_if : List Sight → List Sight → ℕ → ℕ → List Load
+load_if old new first tick = if runnable old == runnable new then [] else record { first = first; tick = tick; runnable = runnable new } ∷ []
+
+-- The entries that hand priority on.
+
+-- waits for lock l with this priority
+abbrev pub is_giver : ℕ → ℕ → ThreadState → Bool
+is_giver l greatest x = is_waiting l x.place && (eff x.body == greatest)
+
+abbrev pub giver_of : State → ℕ → Option ℕ → Option ℕ
+giver_of s l None = None
+giver_of s l (Some greatest) = position (λ x. is_giver l greatest x) s.threads
+
+-- the first that waits for the lock with the greatest priority of those who do
+abbrev pub giver : State → ℕ → Option ℕ
+giver s l = giver_of s l (greatest_waiting l s.threads)
+
+-- what an entry hands on, from the state that it made
+abbrev pub hand_over_by : State → Entry → Event → Option HandOver
+hand_over_by s e (Will l o p at) = Some (record { entry = e.number; tick = (cpu_of s e.cpu.0).count; lock = l; waiter = giver s l.0; owner = o; priority = p })
+hand_over_by s e _ = None
+
+abbrev pub hand_over_of : State → Entry → Option HandOver
+hand_over_of s e = hand_over_by s e e.event
+
+abbrev pub hand_overs_of : State → Option Entry → List HandOver
+hand_overs_of s None = []
+hand_overs_of s (Some e) = option_to_list (hand_over_of s e)
+
+-- The entries that wake.
+
+abbrev pub woken_by : Event → Option ThreadId
+woken_by (Napend t at) = Some t
+woken_by (Wake t k (Some (s, at))) = Some s
+woken_by (Rouse k (Some (s, at))) = Some s
+woken_by (Unblock l s at) = Some s
+woken_by (Grant l s at) = Some s
+woken_by (SemaVWake t k s at) = Some s
+woken_by _ = None
+
+-- the end of a nap is the clock's
+abbrev pub waker_of : State → CpuId → Event → Option ℕ
+waker_of s c (Napend t at) = None
+waker_of s c _ = runner s c.0
+
+abbrev pub wakeup_by : State → Entry → Option ThreadId → Option Wakeup
+wakeup_by s e None = None
+wakeup_by s e (Some u) = Some (record { entry = e.number; tick = (cpu_of s e.cpu.0).count; waker = waker_of s e.cpu e.event; woken = u })
+
+abbrev pub wakeup_of : State → Entry → Option Wakeup
+wakeup_of s e = wakeup_by s e (woken_by e.event)
+
+abbrev pub wakeups_of : State → Option Entry → List Wakeup
+wakeups_of s None = []
+wakeups_of s (Some e) = option_to_list (wakeup_of s e)

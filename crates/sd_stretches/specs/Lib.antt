@@ -1,0 +1,5 @@
+pub mod Sights
+pub mod Changes
+pub mod Histories
+pub mod Rows
+pub mod Exact

@@ -1,0 +1,62 @@
+-- The stretches of one thread, from its turns, and the levels of its priority, from its ranks.
+-- Source: this project's own.
+use Rattle.std.specs.Prelude.{ℕ, ◌+◌, ◌-◌, ◌==◌, List, [], ◌∷◌, filter, Option, Some, None}
+use Rattle.sd_stretches.specs.declared.changes.Turn.{Turn}
+use Rattle.sd_stretches.specs.declared.changes.Rank.{Rank}
+use Rattle.sd_stretches.specs.declared.rows.Stretch.{Stretch}
+use Rattle.sd_stretches.specs.declared.rows.Level.{Level}
+
+-- those of one thread
+abbrev pub own_turns : ℕ → List Turn → List Turn
+own_turns t xs = filter (λ x. x.thread == t) xs
+
+abbrev pub stretch_from : Turn → ℕ → ℕ → Stretch
+stretch_from x last to = record {
+  thread = x.thread;
+  first = x.first;
+  last = last;
+  from = x.tick;
+  to = to;
+  doing = x.doing;
+  class = x.class;
+  priority = x.priority;
+}
+
+-- from a turn to the next one, or to the end of the run
+abbrev pub stretch_to : ℕ → ℕ → Turn → Option Turn → Stretch
+stretch_to entries end x None = stretch_from x entries end
+stretch_to entries end x (Some y) = stretch_from x (y.first - 1) y.tick
+
+abbrev pub next_of : List Turn → Option Turn
+next_of [] = None
+next_of (y ∷ ys) = Some y
+
+unfoldable pub stretches_of : ℕ → ℕ → List Turn → List Stretch
+stretches_of entries end [] = []
+stretches_of entries end (x ∷ xs) = stretch_to entries end x (next_of xs) ∷ stretches_of entries end xs
+
+-- the stretches of thread t, from the turns of a run of so many entries, which ended at this tick
+unfoldable pub stretches : ℕ → List Turn → ℕ → ℕ → List Stretch
+stretches t xs entries end = stretches_of entries end (own_turns t xs)
+
+abbrev pub own_ranks : ℕ → List Rank → List Rank
+own_ranks t xs = filter (λ x. x.thread == t) xs
+
+abbrev pub level_from : Rank → ℕ → Level
+level_from x to = record { first = x.first; from = x.tick; to = to; priority = x.priority; inherited = x.inherited }
+
+abbrev pub level_to : ℕ → Rank → Option Rank → Level
+level_to end x None = level_from x end
+level_to end x (Some y) = level_from x y.tick
+
+abbrev pub next_rank : List Rank → Option Rank
+next_rank [] = None
+next_rank (y ∷ ys) = Some y
+
+unfoldable pub levels_of : ℕ → List Rank → List Level
+levels_of end [] = []
+levels_of end (x ∷ xs) = level_to end x (next_rank xs) ∷ levels_of end xs
+
+-- the levels of thread t's priority, from the ranks of a run that ended at this tick
+unfoldable pub levels : ℕ → List Rank → ℕ → List Level
+levels t xs end = levels_of end (own_ranks t xs)

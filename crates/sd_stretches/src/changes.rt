@@ -1,0 +1,307 @@
+//! What an entry changes of what is seen, and the entries that hand priority on or wake.
+//!
+//! Source: Solaris Internals (turnstiles, sleep queues); the lists are this project's own.
+
+ghost use Rattle.std.specs.Prelude.{◌≡◌, ◌++◌, OnOk, slice_get, None, Some};
+ghost use Rattle.sd_machine.specs.States.{cpu_of};
+ghost use Rattle.sd_stretches.specs.Changes.{giver, giver_of, hand_over_of, hand_overs_of, is_giver, load_if, rank_if, ranks_between, turn_if, turns_between, wakeup_of, wakeups_of, woken_by, waker_of};
+
+use crate::sights::{Doing, Sight, runnable, same_doing, same_rank};
+use sd_find::{greatest_waiting, runner};
+use sd_machine::{Place, State, ThreadState};
+use sd_types::{Class, CpuId, Entry, Event, LockId, ThreadId};
+use std::alloc::AllocError;
+
+/// From a state on a thread does this: from the one that `first` entries made, so entry `first` - 1 is the cause, or, for 0,
+/// from the start. `tick` is then the count of the processor that made the entry. Class and effective priority are those of
+/// that state.
+#[derive(Clone, Copy)]
+pub struct Turn {
+    pub thread: usize,
+    pub first: u64,
+    pub tick: u32,
+    pub doing: Doing,
+    pub class: Class,
+    pub priority: u8,
+}
+
+/// From the state that `first` entries made on, a thread has this effective priority, inherited or its own.
+#[derive(Clone, Copy)]
+pub struct Rank {
+    pub thread: usize,
+    pub first: u64,
+    pub tick: u32,
+    pub priority: u8,
+    pub inherited: bool,
+}
+
+/// From the state that `first` entries made on, so many threads stand on dispatch queues.
+#[derive(Clone, Copy)]
+pub struct Load {
+    pub first: u64,
+    pub tick: u32,
+    pub runnable: usize,
+}
+
+/// The entry of this number gave the owner of the lock the greatest priority of those who wait for it: `waiter` is the first
+/// of them that has it, `priority` the owner's effective priority then.
+#[derive(Clone, Copy)]
+pub struct HandOver {
+    pub entry: u64,
+    pub tick: u32,
+    pub lock: LockId,
+    pub waiter: Option<usize>,
+    pub owner: ThreadId,
+    pub priority: u8,
+}
+
+/// The entry of this number made a thread runnable that slept, napped or waited for a lock; `waker` is the thread that ran on
+/// the processor then, none at the end of a nap.
+#[derive(Clone, Copy)]
+pub struct Wakeup {
+    pub entry: u64,
+    pub tick: u32,
+    pub waker: Option<usize>,
+    pub woken: ThreadId,
+}
+
+fn sight_at(sights: &[Sight], t: usize) -> Option<Sight>
+    ensures { result ≡ slice_get sights.now t }
+{
+    match sights.get(t) {
+        Some(x) => Some(*x),
+        None => None,
+    }
+}
+
+fn push_turn(
+    t: usize,
+    first: u64,
+    tick: u32,
+    old: Option<Sight>,
+    new: Option<Sight>,
+    out: &mut Vec<Turn>,
+) -> Result<(), AllocError>
+    ensures { OnOk result (out.new.items ≡ out.old.items ++ turn_if t first tick old new) }
+{
+    let Some(x) = new else {
+        return Ok(());
+    };
+    if let Some(y) = old {
+        if same_doing(y.doing, x.doing) {
+            return Ok(());
+        }
+    }
+    out.push(Turn {
+        thread: t,
+        first,
+        tick,
+        doing: x.doing,
+        class: x.class,
+        priority: x.priority,
+    })?;
+    Ok(())
+}
+
+/// Appends what each thread does from a state on, where it did not do it in the state before.
+#[tactic(auto, unfolding(crate::specs::Changes::turns_between))]
+pub(crate) fn push_turns(
+    old: &[Sight],
+    new: &[Sight],
+    first: u64,
+    tick: u32,
+    out: &mut Vec<Turn>,
+) -> Result<(), AllocError>
+    ensures { OnOk result (out.new.items ≡ out.old.items ++ turns_between old.now new.now first tick) }
+{
+    for t in 0..new.len() {
+        push_turn(t, first, tick, sight_at(old, t), sight_at(new, t), out)?;
+    }
+    Ok(())
+}
+
+fn push_rank(
+    t: usize,
+    first: u64,
+    tick: u32,
+    old: Option<Sight>,
+    new: Option<Sight>,
+    out: &mut Vec<Rank>,
+) -> Result<(), AllocError>
+    ensures { OnOk result (out.new.items ≡ out.old.items ++ rank_if t first tick old new) }
+{
+    let Some(x) = new else {
+        return Ok(());
+    };
+    if let Some(y) = old {
+        if same_rank(&y, &x) {
+            return Ok(());
+        }
+    }
+    out.push(Rank {
+        thread: t,
+        first,
+        tick,
+        priority: x.priority,
+        inherited: x.inherited,
+    })?;
+    Ok(())
+}
+
+/// Appends the priority that each thread has from a state on, where it did not have it in the state before.
+#[tactic(auto, unfolding(crate::specs::Changes::ranks_between))]
+pub(crate) fn push_ranks(
+    old: &[Sight],
+    new: &[Sight],
+    first: u64,
+    tick: u32,
+    out: &mut Vec<Rank>,
+) -> Result<(), AllocError>
+    ensures { OnOk result (out.new.items ≡ out.old.items ++ ranks_between old.now new.now first tick) }
+{
+    for t in 0..new.len() {
+        push_rank(t, first, tick, sight_at(old, t), sight_at(new, t), out)?;
+    }
+    Ok(())
+}
+
+/// Appends how many threads stand on dispatch queues from a state on, where it were not so many in the state before.
+pub(crate) fn push_load(
+    old: &[Sight],
+    new: &[Sight],
+    first: u64,
+    tick: u32,
+    out: &mut Vec<Load>,
+) -> Result<(), AllocError>
+    ensures { OnOk result (out.new.items ≡ out.old.items ++ load_if old.now new.now first tick) }
+{
+    let runnable_now = runnable(new);
+    if runnable(old) != runnable_now {
+        out.push(Load {
+            first,
+            tick,
+            runnable: runnable_now,
+        })?;
+    }
+    Ok(())
+}
+
+// Waits for the lock with this priority.
+fn is_giver(l: LockId, greatest: u8, x: &ThreadState) -> bool
+    ensures { result ≡ is_giver l.0 greatest x.now }
+{
+    match x.place {
+        Place::Waiting(m, _, _) => m.0 == l.0 && x.body.effective() == greatest,
+        _ => false,
+    }
+}
+
+fn first_giver(s: &State, l: LockId, greatest: u8) -> Option<usize>
+    ensures { result ≡ giver_of s.now l.0 (Some greatest) }
+{
+    s.threads
+        .items()
+        .iter()
+        .position(|x| is_giver(l, greatest, x))
+}
+
+// The first thread that waits for the lock and has the greatest priority of those who do.
+fn giver(s: &State, l: LockId) -> Option<usize>
+    ensures { result ≡ giver s.now l.0 }
+{
+    match greatest_waiting(s, l) {
+        Some(greatest) => first_giver(s, l, greatest),
+        None => None,
+    }
+}
+
+/// The tick of an entry: its processor's count after it.
+pub(crate) fn count_of(s: &State, c: CpuId) -> u32
+    ensures { result ≡ (cpu_of s.now c.0).count }
+{
+    match s.cpus.items().get(c.0 as usize) {
+        Some(cpu) => cpu.count,
+        None => 0,
+    }
+}
+
+fn hand_over_of(s: &State, entry: &Entry) -> Option<HandOver>
+    ensures { result ≡ hand_over_of s.now entry.now }
+{
+    match entry.event {
+        Event::Will { l, o, p, .. } => Some(HandOver {
+            entry: entry.number,
+            tick: count_of(s, entry.cpu),
+            lock: l,
+            waiter: giver(s, l),
+            owner: o,
+            priority: p,
+        }),
+        _ => None,
+    }
+}
+
+/// Appends what the entry, which made this state, hands on.
+pub(crate) fn push_hand_over(
+    s: &State,
+    entry: &Entry,
+    out: &mut Vec<HandOver>,
+) -> Result<(), AllocError>
+    ensures { OnOk result (out.new.items ≡ out.old.items ++ hand_overs_of s.now (Some entry.now)) }
+{
+    if let Some(given) = hand_over_of(s, entry) {
+        out.push(given)?;
+    }
+    Ok(())
+}
+
+fn woken_by(event: &Event) -> Option<ThreadId>
+    ensures { result ≡ woken_by event.now }
+{
+    match *event {
+        Event::Napend { t, .. } => Some(t),
+        Event::Wake {
+            woken: Some((s, _)),
+            ..
+        } => Some(s),
+        Event::Rouse {
+            woken: Some((s, _)),
+            ..
+        } => Some(s),
+        Event::Unblock { s, .. } => Some(s),
+        Event::Grant { s, .. } => Some(s),
+        Event::SemaVWake { s, .. } => Some(s),
+        _ => None,
+    }
+}
+
+fn waker_of(s: &State, c: CpuId, event: &Event) -> Option<usize>
+    ensures { result ≡ waker_of s.now c event.now }
+{
+    match event {
+        Event::Napend { .. } => None,
+        _ => runner(s, c),
+    }
+}
+
+fn wakeup_of(s: &State, entry: &Entry) -> Option<Wakeup>
+    ensures { result ≡ wakeup_of s.now entry.now }
+{
+    let woken = woken_by(&entry.event)?;
+    Some(Wakeup {
+        entry: entry.number,
+        tick: count_of(s, entry.cpu),
+        waker: waker_of(s, entry.cpu, &entry.event),
+        woken,
+    })
+}
+
+/// Appends whom the entry, which made this state, wakes.
+pub(crate) fn push_wakeup(s: &State, entry: &Entry, out: &mut Vec<Wakeup>) -> Result<(), AllocError>
+    ensures { OnOk result (out.new.items ≡ out.old.items ++ wakeups_of s.now (Some entry.now)) }
+{
+    if let Some(wakeup) = wakeup_of(s, entry) {
+        out.push(wakeup)?;
+    }
+    Ok(())
+}

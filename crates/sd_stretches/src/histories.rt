@@ -1,0 +1,97 @@
+//! The collector.
+
+ghost use Rattle.std.specs.Prelude.{◌≡◌, ◌+◌, ◌<◌, ◌^◌, ◌∷◌, [], ◌++◌, length, List as Items, IfOk, OnOk, Some, None};
+ghost use Rattle.sd_types.specs.declared.events.Entry.{Entry as EntryValue};
+ghost use Rattle.sd_types.specs.declared.works.Work.{Work as WorkValue};
+ghost use Rattle.sd_machine.specs.Opening.{opening};
+ghost use Rattle.sd_full.specs.Runs.{final};
+ghost use Rattle.sd_stretches.specs.Changes.{load_if, ranks_between, turns_between};
+ghost use Rattle.sd_stretches.specs.Histories.{IsHistory};
+ghost use Rattle.sd_stretches.specs.Sights.{sights_of};
+
+use crate::changes::{
+    HandOver, Load, Rank, Turn, Wakeup, count_of, push_hand_over, push_load, push_ranks,
+    push_turns, push_wakeup,
+};
+use crate::sights::{Sight, sights_of};
+use sd_machine::State;
+use sd_types::{Entry, Work};
+use std::alloc::{AllocError, Global};
+
+/// What the states and entries of a run show, in order of the entries, as far as it was taken in: what each thread does, its
+/// priorities, how many threads stand on dispatch queues, who hands priority on and who wakes whom. Of which entries it is the
+/// history is said by `IsHistory`.
+#[derive(Drop)]
+pub struct History {
+    pub turns: Vec<Turn>,
+    pub ranks: Vec<Rank>,
+    pub loads: Vec<Load>,
+    pub hand_overs: Vec<HandOver>,
+    pub wakeups: Vec<Wakeup>,
+    pub(crate) sights: Vec<Sight>,
+    pub entries: u64,
+}
+
+impl History {
+    // Nothing is taken in yet, not even the initial state.
+    fn empty(alloc: Global) -> History
+        ensures turns { result.turns.items ≡ [] }
+        ensures ranks { result.ranks.items ≡ [] }
+        ensures loads { result.loads.items ≡ [] }
+        ensures hand_overs { result.hand_overs.items ≡ [] }
+        ensures wakeups { result.wakeups.items ≡ [] }
+        ensures sights { result.sights.items ≡ [] }
+        ensures entries { result.entries ≡ 0 }
+    {
+        History {
+            turns: Vec::new(alloc),
+            ranks: Vec::new(alloc),
+            loads: Vec::new(alloc),
+            hand_overs: Vec::new(alloc),
+            wakeups: Vec::new(alloc),
+            sights: Vec::new(alloc),
+            entries: 0,
+        }
+    }
+
+    // Takes in what is seen in the next state.
+    fn see(&mut self, alloc: Global, s: &State, first: u64, tick: u32) -> Result<(), AllocError>
+        ensures turns { OnOk result (self.new.turns.items ≡ self.old.turns.items ++ turns_between self.old.sights.items (sights_of s.now) first tick) }
+        ensures ranks { OnOk result (self.new.ranks.items ≡ self.old.ranks.items ++ ranks_between self.old.sights.items (sights_of s.now) first tick) }
+        ensures loads { OnOk result (self.new.loads.items ≡ self.old.loads.items ++ load_if self.old.sights.items (sights_of s.now) first tick) }
+        ensures sights { OnOk result (self.new.sights.items ≡ sights_of s.now) }
+        ensures entries { OnOk result (self.new.entries ≡ first) }
+        ensures hand_overs { self.new.hand_overs ≡ self.old.hand_overs }
+        ensures wakeups { self.new.wakeups ≡ self.old.wakeups }
+    {
+        let sights = sights_of(alloc, s)?;
+        push_turns(&self.sights, &sights, first, tick, &mut self.turns)?;
+        push_ranks(&self.sights, &sights, first, tick, &mut self.ranks)?;
+        push_load(&self.sights, &sights, first, tick, &mut self.loads)?;
+        self.sights = sights;
+        self.entries = first;
+        Ok(())
+    }
+
+    /// The history of a workload's run before its first entry, from its initial state.
+    pub fn new(alloc: Global, s: &State) -> Result<History, AllocError>
+        ensures { IfOk result (λ h. (w : WorkValue) → s.now ≡ opening w → IsHistory w [] h) }
+    {
+        let mut history = History::empty(alloc);
+        history.see(alloc, s, 0, 0)?;
+        Ok(history)
+    }
+
+    /// Takes in the next entry, which made this state.
+    pub fn add(&mut self, alloc: Global, s: &State, entry: &Entry) -> Result<(), AllocError>
+        requires { self.old.entries < 2 ^ 62 }
+        ensures { OnOk result ((w : WorkValue) (es : Items EntryValue)
+            → s.now ≡ final w (opening w) (es ++ entry.now ∷ []) → IsHistory w es self.old → IsHistory w (es ++ entry.now ∷ []) self.new) }
+    {
+        let first = self.entries + 1;
+        self.see(alloc, s, first, count_of(s, entry.cpu))?;
+        push_hand_over(s, entry, &mut self.hand_overs)?;
+        push_wakeup(s, entry, &mut self.wakeups)?;
+        Ok(())
+    }
+}

@@ -1,0 +1,10 @@
+//! What the stretches say of the states of a run: a law, with nothing to run.
+
+ghost use Rattle.sd_stretches.specs.Exact.{StretchesAreExact};
+
+/// The stretches of each thread of a workload, over any entries, are exactly those of its place: they follow one another from
+/// the initial state to the last one, the place of the thread in each state of a stretch is that of the stretch, and
+/// neighbours differ.
+pub fn stretches_are_exact()
+    ensures { StretchesAreExact }
+{}

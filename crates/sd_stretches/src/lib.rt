@@ -1,0 +1,18 @@
+//! The stretches of a run: from which entry on each thread runs, is runnable, waits, sleeps, naps or has ended, with which
+//! priority, who hands priority on to whom, and who wakes whom. Definitions over the entries of a run, and a collector that
+//! takes in one entry at a time.
+#![tactic(auto)]
+
+mod changes;
+mod histories;
+mod laws;
+mod rows;
+mod sights;
+#[cfg(test)]
+mod tests;
+
+pub use changes::{HandOver, Load, Rank, Turn, Wakeup};
+pub use histories::History;
+pub use laws::stretches_are_exact;
+pub use rows::{Level, Stretch, levels, stretches};
+pub use sights::{Doing, Sight};

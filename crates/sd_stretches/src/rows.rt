@@ -1,0 +1,165 @@
+//! The stretches of one thread, and the levels of its priority.
+
+ghost use Rattle.std.specs.Prelude.{◌≡◌, ◌+◌, ◌++◌, ◌==◌, ◌∷◌, [], IfOk, OnOk, filter, slice_get};
+ghost use Rattle.sd_stretches.specs.Rows.{level_to, levels, own_ranks, own_turns, stretch_to, stretches};
+
+use crate::changes::{Rank, Turn};
+use crate::sights::Doing;
+use sd_types::Class;
+use std::alloc::{AllocError, Global};
+
+/// A stretch of a run over which a thread does one thing: from the state that `first` entries made up to the one that `last`
+/// entries made, both with it. So entry `first` - 1 began it (none where `first` is 0) and entry `last` ended it, or, where
+/// there are no more than `last` entries, the end of the run. `from` and `to` are the counts of ticks of the processors that
+/// made these entries. Class and effective priority are those at its begin.
+#[derive(Clone, Copy)]
+pub struct Stretch {
+    pub thread: usize,
+    pub first: u64,
+    pub last: u64,
+    pub from: u32,
+    pub to: u32,
+    pub doing: Doing,
+    pub class: Class,
+    pub priority: u8,
+}
+
+// The turn, where it is of the thread.
+fn push_own(x: Turn, t: usize, own: &mut Vec<Turn>) -> Result<(), AllocError>
+    ensures { OnOk result (own.new.items ≡ own.old.items ++ own_turns t (x ∷ [])) }
+{
+    if x.thread == t {
+        own.push(x)?;
+    }
+    Ok(())
+}
+
+// Those of one thread.
+fn own_turns(alloc: Global, turns: &[Turn], t: usize) -> Result<Vec<Turn>, AllocError>
+    ensures { IfOk result (λ v. v.items ≡ own_turns t turns.now) }
+{
+    let mut own = Vec::new(alloc);
+    for x in turns {
+        push_own(*x, t, &mut own)?;
+    }
+    Ok(own)
+}
+
+fn turn_at(turns: &[Turn], i: usize) -> Option<Turn>
+    ensures { result ≡ slice_get turns.now i }
+{
+    match turns.get(i) {
+        Some(x) => Some(*x),
+        None => None,
+    }
+}
+
+fn stretch_to(entries: u64, end: u32, x: Turn, next: Option<Turn>) -> Stretch
+    ensures { result ≡ stretch_to entries end x next }
+{
+    let (last, to) = match next {
+        Some(y) => (y.first.saturating_sub(1), y.tick),
+        None => (entries, end),
+    };
+    Stretch {
+        thread: x.thread,
+        first: x.first,
+        last,
+        from: x.tick,
+        to,
+        doing: x.doing,
+        class: x.class,
+        priority: x.priority,
+    }
+}
+
+/// The stretches of a thread in order, from the turns of a run of so many entries, which ended at this tick.
+#[tactic(auto, unfolding(crate::specs::Rows::stretches))]
+pub fn stretches(
+    alloc: Global,
+    turns: &[Turn],
+    t: usize,
+    entries: u64,
+    end: u32,
+) -> Result<Vec<Stretch>, AllocError>
+    ensures { IfOk result (λ v. v.items ≡ stretches t turns.now entries end) }
+{
+    let own = own_turns(alloc, turns, t)?;
+    let mut found = Vec::new(alloc);
+    let mut i = 0;
+    while let Some(x) = turn_at(&own, i) {
+        i += 1;
+        found.push(stretch_to(entries, end, x, turn_at(&own, i)))?;
+    }
+    Ok(found)
+}
+
+/// Over which ticks a thread has this effective priority, inherited or its own: from the state that `first` entries made on.
+#[derive(Clone, Copy)]
+pub struct Level {
+    pub first: u64,
+    pub from: u32,
+    pub to: u32,
+    pub priority: u8,
+    pub inherited: bool,
+}
+
+// The rank, where it is of the thread.
+fn push_own_rank(x: Rank, t: usize, own: &mut Vec<Rank>) -> Result<(), AllocError>
+    ensures { OnOk result (own.new.items ≡ own.old.items ++ own_ranks t (x ∷ [])) }
+{
+    if x.thread == t {
+        own.push(x)?;
+    }
+    Ok(())
+}
+
+// Those of one thread.
+fn own_ranks(alloc: Global, ranks: &[Rank], t: usize) -> Result<Vec<Rank>, AllocError>
+    ensures { IfOk result (λ v. v.items ≡ own_ranks t ranks.now) }
+{
+    let mut own = Vec::new(alloc);
+    for x in ranks {
+        push_own_rank(*x, t, &mut own)?;
+    }
+    Ok(own)
+}
+
+fn rank_at(ranks: &[Rank], i: usize) -> Option<Rank>
+    ensures { result ≡ slice_get ranks.now i }
+{
+    match ranks.get(i) {
+        Some(x) => Some(*x),
+        None => None,
+    }
+}
+
+fn level_to(end: u32, x: Rank, next: Option<Rank>) -> Level
+    ensures { result ≡ level_to end x next }
+{
+    Level {
+        first: x.first,
+        from: x.tick,
+        to: match next {
+            Some(y) => y.tick,
+            None => end,
+        },
+        priority: x.priority,
+        inherited: x.inherited,
+    }
+}
+
+/// The levels of a thread's priority in order, from the ranks of a run that ended at this tick.
+#[tactic(auto, unfolding(crate::specs::Rows::levels))]
+pub fn levels(alloc: Global, ranks: &[Rank], t: usize, end: u32) -> Result<Vec<Level>, AllocError>
+    ensures { IfOk result (λ v. v.items ≡ levels t ranks.now end) }
+{
+    let own = own_ranks(alloc, ranks, t)?;
+    let mut found = Vec::new(alloc);
+    let mut i = 0;
+    while let Some(x) = rank_at(&own, i) {
+        i += 1;
+        found.push(level_to(end, x, rank_at(&own, i)))?;
+    }
+    Ok(found)
+}

@@ -1,0 +1,99 @@
+//! The history of a run of three entries that was drawn by hand.
+
+use crate::{History, levels, stretches};
+use arrayvec::ArrayVec;
+use sd_machine::{CpuState, Place, State, ThreadState};
+use sd_types::{
+    ClassState, CpuId, Duty, Entry, Event, List, SetId, SysState, ThreadBody, ThreadId,
+};
+use std::alloc::{AllocError, Global};
+use std::test::Fail;
+
+fn thread(place: Place) -> ThreadState {
+    ThreadState {
+        body: ThreadBody {
+            class: ClassState::Sys(SysState { pri: 60 }),
+            willed: ArrayVec::new(),
+            held: ArrayVec::new(),
+            op: 0,
+            run_left: 0,
+            back: false,
+            last: CpuId(0),
+            left_at: None,
+            looped: false,
+            bound: None,
+        },
+        place,
+    }
+}
+
+/// A state of one processor and one thread.
+fn state(alloc: Global, place: Place, count: u32) -> Result<State, AllocError> {
+    let mut threads = Vec::new(alloc);
+    threads.push(thread(place))?;
+    let mut cpus = Vec::new(alloc);
+    cpus.push(CpuState {
+        count,
+        user: false,
+        kernel: false,
+        duty: Duty::Nothing,
+        set: SetId(0),
+        closing: None,
+        bound: 0,
+    })?;
+    Ok(State {
+        threads: List::from_vec(threads),
+        locks: List::from_vec(Vec::new(alloc)),
+        cpus: List::from_vec(cpus),
+        counts: List::from_vec(Vec::new(alloc)),
+        open_cpus: List::from_vec(Vec::new(alloc)),
+    })
+}
+
+fn entry(number: u64, event: Event) -> Entry {
+    Entry {
+        number,
+        cpu: CpuId(0),
+        event,
+        hints: None,
+    }
+}
+
+/// A thread is dispatched, ticks once and ends: it is runnable, runs for a tick, and has ended.
+#[test]
+fn a_thread_runs_for_a_tick(rt: HostRuntime) -> Result<(), Fail> {
+    let alloc = rt.alloc();
+    let t = ThreadId(0);
+    let mut history = History::new(alloc, &state(alloc, Place::Queued(CpuId(0), 0), 0)?)?;
+    let running = Place::Running(CpuId(0));
+    if history.entries < 9 {
+        history.add(
+            alloc,
+            &state(alloc, running, 0)?,
+            &entry(0, Event::Dispatch { t, p: 60 }),
+        )?;
+    }
+    if history.entries < 9 {
+        history.add(
+            alloc,
+            &state(alloc, running, 1)?,
+            &entry(1, Event::Tick { t }),
+        )?;
+    }
+    if history.entries < 9 {
+        history.add(
+            alloc,
+            &state(alloc, Place::Ended, 1)?,
+            &entry(2, Event::Done { t }),
+        )?;
+    }
+    let own = stretches(alloc, &history.turns, 0, history.entries, 5)?;
+    let rows: [(u64, u64, u32, u32); 3] = [(0, 0, 0, 0), (1, 2, 0, 1), (3, 3, 1, 5)];
+    assert!(rt; own.len() == 3);
+    for (x, row) in own.iter().zip(&rows) {
+        assert!(rt; x.first == row.0 && x.last == row.1 && x.from == row.2 && x.to == row.3);
+    }
+    let own_levels = levels(alloc, &history.ranks, 0, 5)?;
+    assert!(rt; own_levels.len() == 1);
+    Ok(())
+}

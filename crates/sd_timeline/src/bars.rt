@@ -1,0 +1,273 @@
+//! The bars of the stretches of threads.
+
+ghost use Rattle.std.specs.Prelude.{◌≡◌, ◌++◌, OnOk, codes, decimal, flat_map};
+ghost use Rattle.sd_machine.specs.Texts.{chan_name, lock_name, thread_name};
+ghost use Rattle.sd_timeline.specs.Bars.{bar_text, between, cpu_word, doing_class, doing_text, fits, on_bar, place_text, run_bar, stretch_bar, stretch_title, times_text, word_text};
+
+use crate::frames::{Frame, Row};
+use crate::pieces::{put_bar_end, put_bar_start, put_counted, put_number_label, put_word_label};
+use sd_event::{put_chan_name, put_lock_name, put_thread_name};
+use sd_stretches::{Doing, Stretch};
+use sd_types::{ChanId, CpuId, LockId, Work};
+use std::alloc::AllocError;
+
+fn doing_class(doing: Doing) -> &'static [u8]
+    ensures { result.now ≡ doing_class doing }
+{
+    match doing {
+        Doing::Running(_) => b"run",
+        Doing::Runnable => b"ready",
+        Doing::Waiting(_) => b"wait",
+        Doing::Asleep(_) => b"sleep",
+        Doing::Napping => b"nap",
+        Doing::Ended => b"end",
+    }
+}
+
+fn put_lock(work: &Work, l: LockId, out: &mut Vec<u8>) -> Result<(), AllocError>
+    ensures { OnOk result (out.new.items ≡ out.old.items ++ (codes "waits for " ++ lock_name work.now l.0)) }
+{
+    out.extend_from_slice(b"waits for ")?;
+    put_lock_name(work, l, out)
+}
+
+fn put_chan(work: &Work, k: ChanId, out: &mut Vec<u8>) -> Result<(), AllocError>
+    ensures { OnOk result (out.new.items ≡ out.old.items ++ (codes "asleep on " ++ chan_name work.now k.0)) }
+{
+    out.extend_from_slice(b"asleep on ")?;
+    put_chan_name(work, k, out)
+}
+
+/// What a thread does, in words.
+pub(crate) fn put_doing(work: &Work, doing: Doing, out: &mut Vec<u8>) -> Result<(), AllocError>
+    ensures { OnOk result (out.new.items ≡ out.old.items ++ doing_text work.now doing) }
+{
+    match doing {
+        Doing::Running(c) => put_counted(b"runs on processor ", u64::from(c.0), out),
+        Doing::Runnable => out.extend_from_slice(b"runnable"),
+        Doing::Waiting(l) => put_lock(work, l, out),
+        Doing::Asleep(k) => put_chan(work, k, out),
+        Doing::Napping => out.extend_from_slice(b"naps"),
+        Doing::Ended => out.extend_from_slice(b"has ended"),
+    }
+}
+
+// From one number to another.
+#[tactic(auto, unfolding(crate::specs::Bars::between))]
+fn put_between(word: &[u8], from: u64, to: u64, out: &mut Vec<u8>) -> Result<(), AllocError>
+    ensures { OnOk result (out.new.items ≡ out.old.items ++ between word.now from to) }
+{
+    put_counted(word, from, out)?;
+    put_counted(b" to ", to, out)
+}
+
+// Its ticks.
+#[tactic(auto, unfolding(crate::specs::Bars::times_text))]
+fn put_times(x: &Stretch, out: &mut Vec<u8>) -> Result<(), AllocError>
+    ensures { OnOk result (out.new.items ≡ out.old.items ++ times_text x.now) }
+{
+    put_between(b", ticks ", u64::from(x.from), u64::from(x.to), out)
+}
+
+// Its ticks, priority and entries.
+#[tactic(auto, unfolding(crate::specs::Bars::place_text))]
+fn put_place(x: &Stretch, out: &mut Vec<u8>) -> Result<(), AllocError>
+    ensures { OnOk result (out.new.items ≡ out.old.items ++ place_text x.now) }
+{
+    put_times(x, out)?;
+    put_counted(b", priority ", u64::from(x.priority), out)?;
+    put_between(b", entries ", x.first, x.last, out)
+}
+
+// What is shown on a bar.
+#[tactic(auto, unfolding(crate::specs::Bars::stretch_title))]
+fn put_title(work: &Work, x: &Stretch, out: &mut Vec<u8>) -> Result<(), AllocError>
+    ensures { OnOk result (out.new.items ≡ out.old.items ++ stretch_title work.now x.now) }
+{
+    put_thread_name(work, x.thread, out)?;
+    out.extend_from_slice(b": ")?;
+    put_doing(work, x.doing, out)?;
+    put_place(x, out)
+}
+
+// A word of so many letters fits into this width.
+fn fits(len: usize, width: u64) -> bool
+    ensures { result ≡ fits len width }
+{
+    0 < len && len as u64 <= width / 7
+}
+
+// A word on a bar, where it fits.
+fn put_word(
+    class: &[u8],
+    x: u64,
+    y: u64,
+    width: u64,
+    word: &[u8],
+    out: &mut Vec<u8>,
+) -> Result<(), AllocError>
+    ensures { OnOk result (out.new.items ≡ out.old.items ++ word_text class.now x y width word.now) }
+{
+    if fits(word.len(), width) {
+        put_word_label(class, x, y, word, out)
+    } else {
+        Ok(())
+    }
+}
+
+// The number of a processor on a bar, where it fits.
+fn put_cpu(x: u64, y: u64, width: u64, c: CpuId, out: &mut Vec<u8>) -> Result<(), AllocError>
+    ensures { OnOk result (out.new.items ≡ out.old.items ++ cpu_word x y width c) }
+{
+    if fits(2, width) {
+        put_number_label(b"on", x, y, b"", u64::from(c.0), out)
+    } else {
+        Ok(())
+    }
+}
+
+fn thread_bytes(work: &Work, t: usize) -> &[u8]
+    ensures { result.now ≡ thread_name work.now t }
+{
+    match work.threads.items().get(t) {
+        Some(thread) => thread.name.bytes(),
+        None => b"",
+    }
+}
+
+fn lock_bytes(work: &Work, l: LockId) -> &[u8]
+    ensures { result.now ≡ lock_name work.now l.0 }
+{
+    match work.locks.items().get(l.0 as usize) {
+        Some(lock) => lock.0.bytes(),
+        None => b"",
+    }
+}
+
+fn chan_bytes(work: &Work, k: ChanId) -> &[u8]
+    ensures { result.now ≡ chan_name work.now k.0 }
+{
+    match work.chans.items().get(k.0 as usize) {
+        Some(chan) => chan.0.bytes(),
+        None => b"",
+    }
+}
+
+// What stands on a bar: in the row of a processor the thread, in the row of a thread the processor, lock or channel.
+fn put_on_bar(
+    work: &Work,
+    frame: Frame,
+    row: Row,
+    x: &Stretch,
+    out: &mut Vec<u8>,
+) -> Result<(), AllocError>
+    ensures { OnOk result (out.new.items ≡ out.old.items ++ on_bar work.now frame row x.now) }
+{
+    let column = frame.inside(x.from);
+    let y = frame.base(row);
+    let width = frame.width(x.from, x.to);
+    match (row, x.doing) {
+        (Row::Cpu(_), _) => put_word(b"on", column, y, width, thread_bytes(work, x.thread), out),
+        (Row::Thread(_), Doing::Running(c)) => put_cpu(column, y, width, c, out),
+        (Row::Thread(_), Doing::Waiting(l)) => put_word(
+            b"on",
+            column,
+            y,
+            width,
+            lock_bytes(work, l),
+            out,
+        ),
+        (Row::Thread(_), Doing::Asleep(k)) => put_word(
+            b"in",
+            column,
+            y,
+            width,
+            chan_bytes(work, k),
+            out,
+        ),
+        _ => Ok(()),
+    }
+}
+
+// The rectangle of a stretch in a row.
+#[tactic(auto, unfolding(crate::specs::Bars::bar_text))]
+fn put_whole_bar(
+    work: &Work,
+    frame: Frame,
+    row: Row,
+    x: &Stretch,
+    out: &mut Vec<u8>,
+) -> Result<(), AllocError>
+    ensures { OnOk result (out.new.items ≡ out.old.items ++ bar_text work.now frame row x.now) }
+{
+    let width = frame.width(x.from, x.to);
+    put_bar_start(
+        doing_class(x.doing),
+        frame.column(x.from),
+        frame.top(row),
+        width,
+        14,
+        out,
+    )?;
+    put_title(work, x, out)?;
+    put_bar_end(out)?;
+    put_on_bar(work, frame, row, x, out)
+}
+
+// The bar of a stretch in a row, where any tick of it is drawn.
+fn put_bar(
+    work: &Work,
+    frame: Frame,
+    row: Row,
+    x: &Stretch,
+    out: &mut Vec<u8>,
+) -> Result<(), AllocError>
+    ensures { OnOk result (out.new.items ≡ out.old.items ++ stretch_bar work.now frame row x.now) }
+{
+    if frame.width(x.from, x.to) == 0 {
+        Ok(())
+    } else {
+        put_whole_bar(work, frame, row, x, out)
+    }
+}
+
+// The bar of a stretch in the row of the processor on which the thread runs.
+fn put_run_bar(work: &Work, frame: Frame, x: &Stretch, out: &mut Vec<u8>) -> Result<(), AllocError>
+    ensures { OnOk result (out.new.items ≡ out.old.items ++ run_bar work.now frame x.now) }
+{
+    match x.doing {
+        Doing::Running(c) => put_bar(work, frame, Row::Cpu(c.0), x, out),
+        _ => Ok(()),
+    }
+}
+
+/// The bars of a thread in the rows of processors.
+pub(crate) fn put_run_bars(
+    work: &Work,
+    frame: Frame,
+    own: &[Stretch],
+    out: &mut Vec<u8>,
+) -> Result<(), AllocError>
+    ensures { OnOk result (out.new.items ≡ out.old.items ++ flat_map (run_bar work.now frame) own.now) }
+{
+    for x in own {
+        put_run_bar(work, frame, x, out)?;
+    }
+    Ok(())
+}
+
+/// The bars of a thread in its own row.
+pub(crate) fn put_bars(
+    work: &Work,
+    frame: Frame,
+    t: u16,
+    own: &[Stretch],
+    out: &mut Vec<u8>,
+) -> Result<(), AllocError>
+    ensures { OnOk result (out.new.items ≡ out.old.items ++ flat_map (stretch_bar work.now frame (Row.Thread t)) own.now) }
+{
+    for x in own {
+        put_bar(work, frame, Row::Thread(t), x, out)?;
+    }
+    Ok(())
+}

@@ -1,0 +1,131 @@
+//! The whole picture.
+
+ghost use Rattle.std.specs.Prelude.{◌≡◌, ◌++◌, OnOk, codes, flat_map, map, length};
+ghost use Rattle.std.specs.List.{range_with_len};
+ghost use Rattle.sd_full.specs.LockGraph.{cycles_of};
+ghost use Rattle.sd_timeline.specs.Labels.{mark_text};
+ghost use Rattle.sd_timeline.specs.Picture.{marks_text, own_row, row_text, thread_text, timeline_text};
+
+use crate::bars::{put_bars, put_run_bars};
+use crate::frames::Frame;
+use crate::head::{put_head, put_thread_head};
+use crate::labels::{put_hand_overs, put_levels, put_marks};
+use sd_cycles::cycles;
+use sd_machine::State;
+use sd_stretches::{History, Stretch, levels, stretches};
+use sd_types::Work;
+use std::alloc::{AllocError, Global};
+
+// The row of a thread.
+#[tactic(auto, unfolding(crate::specs::Picture::own_row))]
+fn put_own_row(
+    alloc: Global,
+    work: &Work,
+    frame: Frame,
+    history: &History,
+    t: u16,
+    own: &[Stretch],
+    out: &mut Vec<u8>,
+) -> Result<(), AllocError>
+    ensures { OnOk result (out.new.items ≡ out.old.items ++ own_row work.now frame history.now t own.now) }
+{
+    put_thread_head(work, frame, t, out)?;
+    put_bars(work, frame, t, own, out)?;
+    let own_levels = levels(alloc, &history.ranks, usize::from(t), work.limit)?;
+    put_levels(frame, t, &own_levels, out)
+}
+
+fn put_row_if(
+    alloc: Global,
+    work: &Work,
+    frame: Frame,
+    history: &History,
+    row: Option<u16>,
+    own: &[Stretch],
+    out: &mut Vec<u8>,
+) -> Result<(), AllocError>
+    ensures { OnOk result (out.new.items ≡ out.old.items ++ row_text work.now frame history.now own.now row) }
+{
+    match row {
+        Some(t) => put_own_row(alloc, work, frame, history, t, own, out),
+        None => Ok(()),
+    }
+}
+
+// The bars of a thread in the rows of processors, and its own row, if it has one.
+#[tactic(auto, unfolding(crate::specs::Picture::thread_text))]
+fn put_thread(
+    alloc: Global,
+    work: &Work,
+    frame: Frame,
+    history: &History,
+    t: usize,
+    out: &mut Vec<u8>,
+) -> Result<(), AllocError>
+    ensures { OnOk result (out.new.items ≡ out.old.items ++ thread_text work.now frame history.now t) }
+{
+    let own = stretches(alloc, &history.turns, t, history.entries, work.limit)?;
+    put_run_bars(work, frame, &own, out)?;
+    put_row_if(alloc, work, frame, history, frame.row_of(t), &own, out)
+}
+
+fn put_threads(
+    alloc: Global,
+    work: &Work,
+    frame: Frame,
+    history: &History,
+    out: &mut Vec<u8>,
+) -> Result<(), AllocError>
+    ensures { OnOk result (out.new.items ≡ out.old.items ++ flat_map (thread_text work.now frame history.now) (range_with_len 0 (length work.now.threads))) }
+{
+    for t in 0..work.threads.items().len() {
+        put_thread(alloc, work, frame, history, t, out)?;
+    }
+    Ok(())
+}
+
+// The marks of the cycles.
+fn put_cycles(frame: Frame, found: &[Vec<usize>], out: &mut Vec<u8>) -> Result<(), AllocError>
+    ensures { OnOk result (out.new.items ≡ out.old.items ++ flat_map (flat_map (mark_text frame)) (map (λ v. v.items) found.now)) }
+{
+    for threads in found {
+        put_marks(frame, threads, out)?;
+    }
+    Ok(())
+}
+
+// The marks of threads that block each other in the last state, where the end of the run is drawn.
+fn put_deadlocks(
+    alloc: Global,
+    work: &Work,
+    frame: Frame,
+    s: &State,
+    out: &mut Vec<u8>,
+) -> Result<(), AllocError>
+    ensures { OnOk result (out.new.items ≡ out.old.items ++ marks_text work.now frame s.now) }
+{
+    if frame.to < work.limit {
+        return Ok(());
+    }
+    let found = cycles(alloc, s)?;
+    put_cycles(frame, &found, out)
+}
+
+/// Appends the picture of a run of the workload, of which this is the history and the last state, as far as the frame goes.
+#[tactic(auto, unfolding(crate::specs::Picture::timeline_text))]
+pub fn write_timeline(
+    alloc: Global,
+    work: &Work,
+    frame: Frame,
+    history: &History,
+    s: &State,
+    out: &mut Vec<u8>,
+) -> Result<(), AllocError>
+    ensures { OnOk result (out.new.items ≡ out.old.items ++ timeline_text work.now frame history.now s.now) }
+{
+    put_head(work, frame, out)?;
+    put_threads(alloc, work, frame, history, out)?;
+    put_hand_overs(work, frame, &history.hand_overs, out)?;
+    put_deadlocks(alloc, work, frame, s, out)?;
+    out.extend_from_slice(b"</svg>\n")
+}

@@ -1,0 +1,8 @@
+use Rattle.std.proofs.Common.{◌+◌, arith}
+use Rattle.std.specs.Prelude.{slice_get}
+use Rattle.sd_stretches.proofs.RangeLemmas.{range_pushed}
+use Rattle.sd_trace.specs.Tracks.{thread_part}
+use Rattle.sd_trace.proofs.tracks.put_threads.Goals as goal
+
+pub loop-t-preserved : goal.loop-t-preserved
+loop-t-preserved c = range_pushed (thread_part c.args.work.now c.args.history.now) c.loop-t.t _ _ _ c.loop-t.invariant c.in_ok-put_thread.ensures

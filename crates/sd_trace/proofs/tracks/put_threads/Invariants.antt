@@ -1,0 +1,8 @@
+use Rattle.std.proofs.Common.{◌≡◌, ◌+◌, ◌++◌, take}
+use Rattle.std.specs.Prelude.{slice_get}
+use Rattle.std.specs.List.{flat_map, range_with_len}
+use Rattle.sd_trace.specs.Tracks.{thread_part}
+use Rattle.sd_trace.proofs.tracks.put_threads.Given as goal
+
+abbrev pub invariant-loop-t : goal.invariant-loop-t
+invariant-loop-t l = l.out.items ≡ l.initial.out.items ++ flat_map (thread_part l.work l.history) (range_with_len 0 l.t)

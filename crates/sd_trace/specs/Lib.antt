@@ -1,0 +1,4 @@
+pub mod Words
+pub mod Slices
+pub mod Flows
+pub mod Tracks

@@ -1,0 +1,58 @@
+-- The tracks, and the whole trace, from the history of a run.
+-- Source: Trace Event Format (JSON object format, metadata events).
+use Rattle.std.specs.Prelude.{ℕ, ◌+◌, List, ◌++◌, length, codes, decimal, slice_get}
+use Rattle.std.specs.List.{flat_map, range_with_len}
+use Rattle.sd_types.specs.declared.works.Work.{Work}
+use Rattle.sd_machine.specs.Texts.{thread_name}
+use Rattle.sd_stretches.specs.declared.histories.History.{History}
+use Rattle.sd_stretches.specs.declared.rows.Stretch.{Stretch}
+use Rattle.sd_stretches.specs.Rows.{stretches}
+use Rattle.sd_trace.specs.Slices.{run_slice, state_if}
+use Rattle.sd_trace.specs.Flows.{hand_flow, load_event, wake_flow}
+
+-- the start of the name of a track of a process
+unfoldable pub track_start : ℕ → ℕ → List ℕ
+track_start process track = (codes ",\n{\"name\":\"thread_name\",\"ph\":\"M\",\"pid\":" ++ decimal process) ++ (codes ",\"tid\":" ++ decimal track)
+
+unfoldable pub name_start : List ℕ
+name_start = codes ",\"args\":{\"name\":\""
+
+unfoldable pub name_end : List ℕ
+name_end = codes "\"}}"
+
+unfoldable pub cpu_name : ℕ → List ℕ
+cpu_name c = name_start ++ (codes "processor " ++ decimal c)
+
+unfoldable pub cpu_track : ℕ → List ℕ
+cpu_track c =
+    track_start 1 (c + 1) ++ cpu_name c ++ name_end
+
+unfoldable pub thread_track : Work → ℕ → List ℕ
+thread_track w t =
+    track_start 2 (t + 1) ++ name_start ++ thread_name w t ++ name_end
+
+-- a slice for each stretch of a thread on its track, and on that of the processor for each that it ran
+abbrev pub own_part : Work → ℕ → List Stretch → List ℕ
+own_part w t own =
+    thread_track w t ++ flat_map (run_slice w) own
+    ++ flat_map (λ i. state_if w (t + 1) (slice_get own i) (slice_get own (i + 1))) (range_with_len 0 (length own))
+
+unfoldable pub thread_part : Work → History → ℕ → List ℕ
+thread_part w h t = own_part w t (stretches t h.turns.items h.entries w.limit)
+
+unfoldable pub trace_start : List ℕ
+trace_start = codes "{\"displayTimeUnit\":\"ms\",\"traceEvents\":[\n{\"name\":\"process_name\",\"ph\":\"M\",\"pid\":1,\"args\":{\"name\":\"processors\"}}"
+
+unfoldable pub threads_start : List ℕ
+threads_start = codes ",\n{\"name\":\"process_name\",\"ph\":\"M\",\"pid\":2,\"args\":{\"name\":\"threads\"}}"
+
+-- the tracks with their slices
+unfoldable pub all_tracks : Work → History → List ℕ
+all_tracks w h =
+    trace_start ++ threads_start ++ flat_map cpu_track (range_with_len 0 w.cpus) ++ flat_map (thread_part w h) (range_with_len 0 (length w.threads))
+
+-- the trace
+unfoldable pub trace_text : Work → History → List ℕ
+trace_text w h =
+    all_tracks w h ++ flat_map (wake_flow w) h.wakeups.items ++ flat_map (hand_flow w) h.hand_overs.items ++ flat_map (load_event w) h.loads.items
+    ++ codes "\n]}\n"

@@ -1,0 +1,31 @@
+-- The words of which events are made.
+-- Source: Trace Event Format (ts in microseconds, pid, tid); which process has which tracks is this project's own.
+use Rattle.std.specs.Prelude.{ℕ, ◌*◌, ◌==◌, List, ◌++◌, codes, decimal, if◌then◌else◌}
+use Rattle.sd_types.specs.declared.classes.Class.{Class}
+use Rattle.sd_types.specs.declared.classes.Class.TheVariants.{Ts, Fx, Sys, Rt}
+use Rattle.sd_types.specs.declared.works.Work.{Work}
+use Rattle.sd_machine.specs.Texts.{chan_name, lock_name}
+use Rattle.sd_stretches.specs.declared.sights.Doing.{Doing}
+use Rattle.sd_stretches.specs.declared.sights.Doing.TheVariants.{Running, Runnable, Waiting, Asleep, Napping, Ended}
+
+-- a tick in microseconds: there are 100 or 1000 of them in a second
+abbrev pub micros : Work → ℕ → ℕ
+micros w ticks = if w.hz == 1000 then ticks * 1000 else ticks * 10000
+
+-- the time, the process (1 has the processors, 2 the threads) and the track, from 1
+unfoldable pub place_at : Work → ℕ → ℕ → ℕ → List ℕ
+place_at w tick process track = (codes ",\"ts\":" ++ decimal (micros w tick)) ++ (codes ",\"pid\":" ++ decimal process) ++ (codes ",\"tid\":" ++ decimal track)
+
+abbrev pub class_word : Class → List ℕ
+class_word Ts = codes "ts"
+class_word Fx = codes "fx"
+class_word Sys = codes "sys"
+class_word Rt = codes "rt"
+
+abbrev pub doing_text : Work → Doing → List ℕ
+doing_text w (Running c) = codes "runs on processor " ++ decimal c.0
+doing_text w Runnable = codes "runnable"
+doing_text w (Waiting l) = codes "waits for " ++ lock_name w l.0
+doing_text w (Asleep k) = codes "asleep on " ++ chan_name w k.0
+doing_text w Napping = codes "naps"
+doing_text w Ended = codes "has ended"

@@ -1,0 +1,164 @@
+//! The tracks, and the whole trace.
+
+ghost use Rattle.std.specs.Prelude.{◌≡◌, ◌++◌, OnOk, codes, decimal, flat_map, length};
+ghost use Rattle.std.specs.List.{range_with_len};
+ghost use Rattle.sd_trace.specs.Tracks.{all_tracks, cpu_name, cpu_track, name_end, name_start, thread_part, thread_track, trace_start, track_start, trace_text, threads_start};
+
+use crate::flows::{put_hand_overs, put_loads, put_wakeups};
+use crate::slices::{put_run_slices, put_states};
+use crate::words::put_counted;
+use sd_event::put_thread_name;
+use sd_stretches::{History, stretches};
+use sd_types::Work;
+use std::alloc::{AllocError, Global};
+
+// The start of the name of a track of a process.
+#[tactic(auto, unfolding(crate::specs::Tracks::track_start))]
+fn put_track_start(process: u64, track: u64, out: &mut Vec<u8>) -> Result<(), AllocError>
+    ensures { OnOk result (out.new.items ≡ out.old.items ++ track_start process track) }
+{
+    put_counted(
+        b",\n{\"name\":\"thread_name\",\"ph\":\"M\",\"pid\":",
+        process,
+        out,
+    )?;
+    put_counted(b",\"tid\":", track, out)
+}
+
+#[tactic(auto, unfolding(crate::specs::Tracks::name_start))]
+fn put_name_start(out: &mut Vec<u8>) -> Result<(), AllocError>
+    ensures { OnOk result (out.new.items ≡ out.old.items ++ name_start) }
+{
+    out.extend_from_slice(b",\"args\":{\"name\":\"")
+}
+
+#[tactic(auto, unfolding(crate::specs::Tracks::name_end))]
+fn put_name_end(out: &mut Vec<u8>) -> Result<(), AllocError>
+    ensures { OnOk result (out.new.items ≡ out.old.items ++ name_end) }
+{
+    out.extend_from_slice(b"\"}}")
+}
+
+#[tactic(auto, unfolding(crate::specs::Tracks::cpu_name))]
+fn put_cpu_name(c: u64, out: &mut Vec<u8>) -> Result<(), AllocError>
+    ensures { OnOk result (out.new.items ≡ out.old.items ++ cpu_name c) }
+{
+    put_name_start(out)?;
+    put_counted(b"processor ", c, out)
+}
+
+#[tactic(auto, unfolding(crate::specs::Tracks::cpu_track))]
+fn put_cpu_track(c: u16, out: &mut Vec<u8>) -> Result<(), AllocError>
+    ensures { OnOk result (out.new.items ≡ out.old.items ++ cpu_track c) }
+{
+    put_track_start(1, u64::from(c) + 1, out)?;
+    put_cpu_name(u64::from(c), out)?;
+    put_name_end(out)
+}
+
+fn put_cpu_tracks(cpus: u16, out: &mut Vec<u8>) -> Result<(), AllocError>
+    ensures { OnOk result (out.new.items ≡ out.old.items ++ flat_map cpu_track (range_with_len 0 cpus)) }
+{
+    for c in 0..cpus {
+        put_cpu_track(c, out)?;
+    }
+    Ok(())
+}
+
+#[tactic(auto, unfolding(crate::specs::Tracks::thread_track))]
+fn put_thread_track(work: &Work, t: u16, out: &mut Vec<u8>) -> Result<(), AllocError>
+    ensures { OnOk result (out.new.items ≡ out.old.items ++ thread_track work.now t) }
+{
+    put_track_start(2, u64::from(t) + 1, out)?;
+    put_name_start(out)?;
+    put_thread_name(work, usize::from(t), out)?;
+    put_name_end(out)
+}
+
+// The track of a thread with its slices, and its slices on the tracks of processors.
+#[tactic(auto, unfolding(crate::specs::Tracks::thread_part))]
+fn put_thread(
+    alloc: Global,
+    work: &Work,
+    history: &History,
+    t: u16,
+    out: &mut Vec<u8>,
+) -> Result<(), AllocError>
+    ensures { OnOk result (out.new.items ≡ out.old.items ++ thread_part work.now history.now t) }
+{
+    let own = stretches(
+        alloc,
+        &history.turns,
+        usize::from(t),
+        history.entries,
+        work.limit,
+    )?;
+    put_thread_track(work, t, out)?;
+    put_run_slices(work, &own, out)?;
+    put_states(work, &own, u64::from(t) + 1, out)
+}
+
+fn put_threads(
+    alloc: Global,
+    work: &Work,
+    history: &History,
+    out: &mut Vec<u8>,
+) -> Result<(), AllocError>
+    ensures { OnOk result (out.new.items ≡ out.old.items ++ flat_map (thread_part work.now history.now) (range_with_len 0 (length work.now.threads))) }
+{
+    for t in 0..work.threads.items().len() {
+        put_thread(alloc, work, history, t as u16, out)?;
+    }
+    Ok(())
+}
+
+#[tactic(auto, unfolding(crate::specs::Tracks::trace_start))]
+fn put_trace_start(out: &mut Vec<u8>) -> Result<(), AllocError>
+    ensures { OnOk result (out.new.items ≡ out.old.items ++ trace_start) }
+{
+    out.extend_from_slice(
+        b"{\"displayTimeUnit\":\"ms\",\"traceEvents\":[\n{\"name\":\"process_name\",\"ph\":\"M\",\"pid\":1,\"args\":{\"name\":\"processors\"}}",
+    )
+}
+
+#[tactic(auto, unfolding(crate::specs::Tracks::threads_start))]
+fn put_threads_start(out: &mut Vec<u8>) -> Result<(), AllocError>
+    ensures { OnOk result (out.new.items ≡ out.old.items ++ threads_start) }
+{
+    out.extend_from_slice(
+        b",\n{\"name\":\"process_name\",\"ph\":\"M\",\"pid\":2,\"args\":{\"name\":\"threads\"}}",
+    )
+}
+
+// The tracks with their slices.
+#[tactic(auto, unfolding(crate::specs::Tracks::all_tracks))]
+fn put_all_tracks(
+    alloc: Global,
+    work: &Work,
+    history: &History,
+    out: &mut Vec<u8>,
+) -> Result<(), AllocError>
+    ensures { OnOk result (out.new.items ≡ out.old.items ++ all_tracks work.now history.now) }
+{
+    put_trace_start(out)?;
+    put_threads_start(out)?;
+    put_cpu_tracks(work.cpus, out)?;
+    put_threads(alloc, work, history, out)
+}
+
+/// Appends the trace of a run of the workload, of which this is the history.
+#[tactic(auto, unfolding(crate::specs::Tracks::trace_text))]
+pub fn write_trace(
+    alloc: Global,
+    work: &Work,
+    history: &History,
+    out: &mut Vec<u8>,
+) -> Result<(), AllocError>
+    ensures { OnOk result (out.new.items ≡ out.old.items ++ trace_text work.now history.now) }
+{
+    put_all_tracks(alloc, work, history, out)?;
+    put_wakeups(work, &history.wakeups, out)?;
+    put_hand_overs(work, &history.hand_overs, out)?;
+    put_loads(work, &history.loads, out)?;
+    out.extend_from_slice(b"\n]}\n")
+}

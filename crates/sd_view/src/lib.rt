@@ -1,0 +1,12 @@
+//! What `dispview` draws: the timeline or the trace of the run whose journal a text is, and nothing where it is none.
+#![tactic(auto)]
+
+mod drawings;
+mod forms;
+mod frames;
+#[cfg(test)]
+mod tests;
+
+pub use drawings::{Drawing, draw};
+pub use forms::drawing_of;
+pub use frames::{frame_of, is_part};

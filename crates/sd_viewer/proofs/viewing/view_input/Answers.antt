@@ -1,0 +1,46 @@
+use Rattle.std.proofs.Common.{refl, subst, List, ℕ, Ok, Err}
+use Rattle.sd_answers.specs.StreamChanges.{change_of, Puts}
+use Rattle.sd_answers.specs.Answers.{unwritten_answer}
+use Rattle.sd_viewer.proofs.ViewLemmas.{undrawn, unwritten_view, view_exit}
+use Rattle.sd_viewer.proofs.viewing.view_input.Goals as goal
+
+pub returns-in_err-drawn : goal.returns-in_err-drawn
+returns-in_err-drawn g c =
+    let left = g.S.Source.remaining in
+    let read = g.S.Source.fault_count in
+    let i = c.args.input.now in
+    let j = c.draw_input.new.input in
+    let input = change_of (left i) (left j) (read i) (read j) in
+    let held = g.K.Sink.contents c.args.out.now in
+    let written = g.K.Sink.fault_count c.args.out.now in
+    let out = change_of held held written written in
+    let answer = c.in_err-drawn.field-0.0 in
+    view_exit c.args.drawing input out c.from_residual.result answer c.from_residual.ensures.1
+    (undrawn c.args.drawing input out answer c.in_err-drawn.ensures (record { bytes = refl; no_fault = refl }))
+
+pub returns-in_err-put_text : goal.returns-in_err-put_text
+returns-in_err-put_text g c =
+    let left = g.S.Source.remaining in
+    let read = g.S.Source.fault_count in
+    let held = g.K.Sink.contents in
+    let written = g.K.Sink.fault_count in
+    let i = c.args.input.now in
+    let j = c.draw_input.new.input in
+    let o = c.args.out.now in
+    let p = c.put_text.new.out in
+    let input = change_of (left i) (left j) (read i) (read j) in
+    let out = change_of (held o) (held p) (written o) (written p) in
+    let text = c.in_ok-drawn.drawn.text.items in
+    let e = c.in_err-put_text.field-0.0 in
+    view_exit c.args.drawing input out c.from_residual-in_err-put_text.result (unwritten_answer e) c.from_residual-in_err-put_text.ensures.1
+    (unwritten_view c.args.drawing input out text e c.in_ok-drawn.ensures
+    (subst (λ (t : List ℕ). Puts (held o) (held p) (written o) (written p) t (Err e)) c.deref.ensures.value c.in_err-put_text.ensures))
+
+pub returns : goal.returns
+returns g c =
+    let held = g.K.Sink.contents in
+    let written = g.K.Sink.fault_count in
+    let o = c.args.out.now in
+    let p = c.put_text.new.out in
+    let puts = subst (λ (t : List ℕ). Puts (held o) (held p) (written o) (written p) t (Ok tt)) c.deref.ensures.value c.in_ok-put_text.ensures in
+    (c.in_ok-drawn.drawn.text.items, c.in_ok-drawn.ensures, puts.ok, puts.no_fault (λ is. cc))

@@ -1,0 +1,60 @@
+//! The top call: from the arguments and the streams to the exit status.
+
+ghost use Rattle.std.specs.Prelude.{◌≡◌, map, string_bytes};
+ghost use Rattle.sd_answers.specs.Answers.{status_of};
+ghost use Rattle.sd_answers.specs.StreamChanges.{change_of};
+ghost use Rattle.sd_viewer.specs.Viewing.{IsViewed, viewed_answer};
+
+use crate::viewing::view_input;
+use sd_answers::{Answer, put_line};
+use sd_text::{Sink, Source};
+use sd_view::drawing_of;
+use std::alloc::Global;
+
+pub(crate) const USAGE: &[u8] = b"usage: dispview timeline | timeline FROM TO | trace\n";
+
+const PART: &[u8] = b"timeline: not all ticks and threads are drawn\n";
+
+/// Writes the line of the answer, or that something was left out, and returns the exit status. A fault of `err` changes none.
+fn tell<E: Sink>(viewed: Result<bool, Answer>, err: &mut E) -> u8
+    ensures { result ≡ status_of (viewed_answer viewed) }
+{
+    match viewed {
+        Ok(part) => {
+            if part {
+                let _ = put_line(err, PART);
+            }
+            0
+        }
+        Err(answer) => {
+            let _ = answer.put_line(err);
+            answer.status()
+        }
+    }
+}
+
+/// Draws what the arguments ask for, and returns the exit status: 0 (the drawing of the complete legal run whose journal the
+/// input holds behind its workload was written), 1 (the arguments are of none of the forms), 2 (the input is too large, holds no
+/// journal or no accepted workload), 3 (a read failed), 4 (a write failed), 5 (out of memory) or 7 (the journal is not that of
+/// a complete run). Nothing is written to `out` before the journal was judged. Each status but 0 leaves a line on `err`, and 0
+/// does where ticks or threads are left out.
+pub fn view<S: Source, K: Sink, E: Sink>(
+    alloc: Global,
+    arguments: &[String],
+    input: &mut S,
+    out: &mut K,
+    err: &mut E,
+) -> u8
+    ensures { IsViewed (map string_bytes arguments.now)
+        (change_of (S.remaining input.old) (S.remaining input.new) (S.fault_count input.old) (S.fault_count input.new))
+        (change_of (K.contents out.old) (K.contents out.new) (K.fault_count out.old) (K.fault_count out.new))
+        result }
+{
+    match drawing_of(arguments) {
+        Some(drawing) => tell(view_input(alloc, drawing, input, out), err),
+        None => {
+            let _ = put_line(err, USAGE);
+            1
+        }
+    }
+}
