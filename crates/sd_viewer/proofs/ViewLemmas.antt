@@ -1,5 +1,9 @@
 -- The answers of `dispview` have their causes.
-use Rattle.std.proofs.Common.{◌≡◌, ℕ, List, Bool, Result, Ok, Err, Option, Some, None, refl, sym, ap, subst, ◌∙◌, inl, inr}
+use Rattle.std.proofs.Common.{◌≡◌, ℕ, ◌≤◌, List, [], length, Bool, true, false, Result, Ok, Err, Option, refl, sym, ap, subst, ◌∙◌, inl, inr, arith}
+use Rattle.std.specs.Io.KnownBytes.{Appends}
+use Rattle.std.specs.Result.{IsErrOf}
+use Rattle.std.proofs.KnownBytes.{Appends-nil}
+use Rattle.std.proofs.lemmas.List.{take_all}
 use Rattle.std.specs.Result.{IsErrAnd}
 use Rattle.std.proofs.lemmas.Result.{err_from_is_err_and}
 use Rattle.sd_types.specs.declared.works.Work.{Work}
@@ -10,13 +14,13 @@ use Rattle.sd_answers.specs.declared.answers.Answer.{Answer}
 use Rattle.sd_answers.specs.declared.answers.Answer.TheVariants.{Done, Usage, TooLarge, TooLargeToAudit, NoJournal, Refused, ReadFault, WriteFault, OutOfMemory, Blocked, NotAJournal, TooLong}
 use Rattle.sd_answers.specs.declared.writing.Unwritten.{Unwritten}
 use Rattle.sd_answers.specs.declared.writing.Unwritten.TheVariants as unwritten
-use Rattle.sd_answers.specs.Answers.{audit_answer, unwritten_answer}
+use Rattle.sd_answers.specs.Answers.{audit_answer, line_of, unwritten_answer}
 use Rattle.sd_answers.specs.Inputs.{most_certificate, IsCertificate, IsNoCertificate}
-use Rattle.sd_answers.specs.StreamChanges.{StreamChange, IsUntouched, Puts}
+use Rattle.sd_answers.specs.StreamChanges.{StreamChange, IsUntouched, Puts, change_of}
 use Rattle.sd_answers.proofs.InputLemmas.{at_most_of}
 use Rattle.sd_view.specs.declared.drawings.Drawing.{Drawing}
 use Rattle.sd_viewer.specs.declared.viewing.Drawn.{Drawn}
-use Rattle.sd_viewer.specs.Viewing.{IsDrawnInput, IsDrawing, CausedByView, viewed_answer}
+use Rattle.sd_viewer.specs.Viewing.{IsDrawnInput, IsDrawing, CausedByView, IsLineOf, TellsLine, viewed_answer, viewed_line}
 
 -- nothing is drawn of a journal that is at fault
 pub unjudged : (d : Drawing) (input : StreamChange) (w : Work) (text : List ℕ) (fault : AuditFault) → IsCertificate input w text → IsFault w text fault → IsDrawing d input (Err (audit_answer fault))
@@ -72,3 +76,38 @@ pub view_exit : (d : Drawing) (input out : StreamChange) (r : Result Bool Answer
 view_exit d input out r a exit caused =
     let x = err_from_is_err_and r exit in
     subst (λ y. CausedByView d input out (viewed_answer y)) (sym (x.1 ∙ ap Err x.2)) caused
+
+-- ---- the line on the error output
+
+-- what writing a line did
+pub tells_of : (err : StreamChange) (line : List ℕ) (r : Result (Unit {0}) Unwritten) → Puts err.before err.after err.faults_before err.faults_after line r
+    → (IsErrOf r unwritten.Memory → ⊥) → TellsLine err line
+tells_of err line (Ok u) p none = record {
+  part = (length line, subst (Appends err.before err.after) (sym (take_all (length line) line (let e : length line ≤ length line = omega arith in e))) p.ok);
+  whole = λ sound. p.ok;
+}
+tells_of err line (Err unwritten.Fault) p none = record { part = p.part; whole = λ sound. absurd (sound (p.fault refl)) }
+tells_of err line (Err unwritten.Memory) p none = absurd (none refl)
+
+-- nothing was written
+pub tells_none : (held : Option (List ℕ)) (faults : ℕ) → TellsLine (change_of held held faults faults) []
+tells_none held faults = record { part = (0, Appends-nil held); whole = λ sound. Appends-nil held }
+
+line_is : (d : Drawing) (input out : StreamChange) (a : Answer) → CausedByView d input out a → IsLineOf a (line_of a)
+line_is d input out Done c = inl refl
+line_is d input out Usage c = absurd c
+line_is d input out TooLarge c = refl
+line_is d input out TooLargeToAudit c = refl
+line_is d input out NoJournal c = refl
+line_is d input out (Refused line cause) c = refl
+line_is d input out ReadFault c = refl
+line_is d input out WriteFault c = refl
+line_is d input out OutOfMemory c = refl
+line_is d input out Blocked c = absurd c
+line_is d input out (NotAJournal fault) c = refl
+line_is d input out TooLong c = absurd c
+
+pub viewed_line_is : (d : Drawing) (input out : StreamChange) (r : Result Bool Answer) → CausedByView d input out (viewed_answer r) → IsLineOf (viewed_answer r) (viewed_line r)
+viewed_line_is d input out (Ok true) c = inr refl
+viewed_line_is d input out (Ok false) c = inl refl
+viewed_line_is d input out (Err a) c = line_is d input out a c

@@ -1,13 +1,13 @@
 -- What stands behind an answer of `dispview`.
 -- Source: this project's own.
-use Rattle.std.specs.Prelude.{◌≡◌, ℕ, Bool, List, Option, Some, None, Result, Ok, Err, ◌⊎◌}
+use Rattle.std.specs.Prelude.{◌≡◌, ℕ, Bool, true, false, List, [], codes, Option, Some, None, Result, Ok, Err, ◌⊎◌}
 use Rattle.std.specs.Io.KnownBytes.{Appends}
 use Rattle.sd_types.specs.declared.works.Work.{Work}
 use Rattle.sd_audit.specs.Audits.{IsFault}
 use Rattle.sd_answers.specs.declared.answers.JournalFault.{JournalFault}
 use Rattle.sd_answers.specs.declared.answers.Answer.{Answer}
 use Rattle.sd_answers.specs.declared.answers.Answer.TheVariants.{Done, Usage, TooLarge, TooLargeToAudit, NoJournal, Refused, ReadFault, WriteFault, OutOfMemory, NotAJournal}
-use Rattle.sd_answers.specs.Answers.{audit_fault, status_of}
+use Rattle.sd_answers.specs.Answers.{audit_fault, line_of, status_of}
 use Rattle.sd_answers.specs.Inputs.{most_certificate, HasAtMost, IsCertificate, IsNoCertificate}
 use Rattle.sd_answers.specs.StreamChanges.{StreamChange, HasFault, HasNoFault, IsUntouched, AppendsPart}
 use Rattle.sd_view.specs.declared.drawings.Drawing.{Drawing}
@@ -58,8 +58,38 @@ abbrev pub CausedBy : Option Drawing → StreamChange → StreamChange → Answe
 CausedBy None input out a = (a ≡ Usage) × IsUntouched input × IsUntouched out
 CausedBy (Some drawing) input out a = CausedByView drawing input out a
 
--- there is an answer to the arguments with this status, with its cause
-pub record IsViewed (arguments : List (List ℕ)) (input out : StreamChange) (status : ℕ) : Type 0 where
+-- ---- the line on the error output
+
+abbrev pub usage_line : List ℕ
+usage_line = codes "usage: dispview timeline | timeline FROM TO | trace\n"
+
+-- says that ticks that were asked for, or threads, are left out of a picture
+abbrev pub part_line : List ℕ
+part_line = codes "timeline: not all ticks and threads are drawn\n"
+
+-- the line of an answer is that of the audit, but for the usage; where the drawing was written, there is none, or it says that
+-- something is left out
+abbrev pub IsLineOf : Answer → List ℕ → Type 0
+IsLineOf Done line = (line ≡ []) ⊎ (line ≡ part_line)
+IsLineOf Usage line = line ≡ usage_line
+IsLineOf a line = line ≡ line_of a
+
+-- the line was written whole where no fault was counted, and else a prefix of it
+pub record TellsLine (err : StreamChange) (line : List ℕ) : Type 0 where
+  pub part : AppendsPart err.before err.after line
+  pub whole : (HasFault err → ⊥) → Appends err.before err.after line
+
+-- what is written of a drawing that was made, or of an answer that is none
+abbrev pub viewed_line : Result Bool Answer → List ℕ
+viewed_line (Ok true) = part_line
+viewed_line (Ok false) = []
+viewed_line (Err a) = line_of a
+
+-- there is an answer to the arguments with this status, with its cause and its line
+pub record IsViewed (arguments : List (List ℕ)) (input out err : StreamChange) (status : ℕ) : Type 0 where
   pub answer : Answer
   pub exit : status ≡ status_of answer
   pub caused : CausedBy (drawing_of arguments) input out answer
+  pub line : List ℕ
+  pub is_line : IsLineOf answer line
+  pub told : TellsLine err line

@@ -4,11 +4,11 @@
 mod top;
 mod viewing;
 
-use sd_answers::put_line;
 use sd_text::{StdSink, StdSource};
 use std::process::ExitCode;
 use std::rt::Env;
 use std::{env, io};
+use top::refuse_arguments;
 pub use top::view;
 
 /// The arguments after the program's name.
@@ -26,9 +26,8 @@ pub fn program(host: &HostRuntime) -> ExitCode {
     let mut input = StdSource::new(host.stdin());
     let mut out = StdSink::new(host.stdout());
     let mut err = StdSink::new(host.stderr());
-    let Ok(arguments) = arguments(host) else {
-        let _ = put_line(&mut err, top::USAGE);
-        return ExitCode::from(1);
-    };
-    ExitCode::from(view(host.alloc(), &arguments, &mut input, &mut out, &mut err))
+    ExitCode::from(match arguments(host) {
+        Ok(arguments) => view(host.alloc(), &arguments, &mut input, &mut out, &mut err),
+        Err(error) => refuse_arguments(&error, &mut err),
+    })
 }

@@ -3,29 +3,30 @@
 ghost use Rattle.std.specs.Prelude.{◌≡◌, map, string_bytes};
 ghost use Rattle.sd_answers.specs.Answers.{status_of};
 ghost use Rattle.sd_answers.specs.StreamChanges.{change_of};
-ghost use Rattle.sd_viewer.specs.Viewing.{IsViewed, viewed_answer};
+ghost use Rattle.sd_viewer.specs.Viewing.{IsViewed, TellsLine, viewed_answer, viewed_line};
 
 use crate::viewing::view_input;
 use sd_answers::{Answer, put_line};
 use sd_text::{Sink, Source};
 use sd_view::drawing_of;
 use std::alloc::Global;
+use std::io;
 
-pub(crate) const USAGE: &[u8] = b"usage: dispview timeline | timeline FROM TO | trace\n";
+const USAGE: &[u8] = b"usage: dispview timeline | timeline FROM TO | trace\n";
 
 const PART: &[u8] = b"timeline: not all ticks and threads are drawn\n";
 
 /// Writes the line of the answer, or that something was left out, and returns the exit status. A fault of `err` changes none.
 fn tell<E: Sink>(viewed: Result<bool, Answer>, err: &mut E) -> u8
-    ensures { result ≡ status_of (viewed_answer viewed) }
+    ensures status { result ≡ status_of (viewed_answer viewed) }
+    ensures told { TellsLine (change_of (E.contents err.old) (E.contents err.new) (E.fault_count err.old) (E.fault_count err.new)) (viewed_line viewed) }
 {
     match viewed {
-        Ok(part) => {
-            if part {
-                let _ = put_line(err, PART);
-            }
+        Ok(true) => {
+            let _ = put_line(err, PART);
             0
         }
+        Ok(false) => 0,
         Err(answer) => {
             let _ = answer.put_line(err);
             answer.status()
@@ -48,6 +49,7 @@ pub fn view<S: Source, K: Sink, E: Sink>(
     ensures { IsViewed (map string_bytes arguments.now)
         (change_of (S.remaining input.old) (S.remaining input.new) (S.fault_count input.old) (S.fault_count input.new))
         (change_of (K.contents out.old) (K.contents out.new) (K.fault_count out.old) (K.fault_count out.new))
+        (change_of (E.contents err.old) (E.contents err.new) (E.fault_count err.old) (E.fault_count err.new))
         result }
 {
     match drawing_of(arguments) {
@@ -57,4 +59,14 @@ pub fn view<S: Source, K: Sink, E: Sink>(
             1
         }
     }
+}
+
+/// Writes why the arguments were not read, and returns the exit status: one that is no text is none that the program knows.
+pub(crate) fn refuse_arguments<E: Sink>(error: &io::Error, err: &mut E) -> u8 {
+    let answer = Answer::of_unread_arguments(error);
+    let _ = match answer {
+        Answer::Usage => put_line(err, USAGE),
+        other => other.put_line(err),
+    };
+    answer.status()
 }
