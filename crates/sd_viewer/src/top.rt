@@ -1,7 +1,8 @@
 //! The top call: from the arguments and the streams to the exit status.
 
 ghost use Rattle.std.specs.Prelude.{◌≡◌, map, string_bytes};
-ghost use Rattle.sd_answers.specs.Answers.{status_of};
+ghost use Rattle.std.specs.IoError.{error_kind};
+ghost use Rattle.sd_answers.specs.Answers.{arguments_answer, status_of};
 ghost use Rattle.sd_answers.specs.StreamChanges.{change_of};
 ghost use Rattle.sd_viewer.specs.Viewing.{IsViewed, TellsLine, viewed_answer, viewed_line};
 
@@ -62,7 +63,9 @@ pub fn view<S: Source, K: Sink, E: Sink>(
 }
 
 /// Writes why the arguments were not read, and returns the exit status: one that is no text is none that the program knows.
-pub(crate) fn refuse_arguments<E: Sink>(error: &io::Error, err: &mut E) -> u8 {
+pub(crate) fn refuse_arguments<E: Sink>(error: &io::Error, err: &mut E) -> u8
+    ensures { result ≡ status_of (arguments_answer (error_kind error.now)) }
+{
     let answer = Answer::of_unread_arguments(error);
     let _ = match answer {
         Answer::Usage => put_line(err, USAGE),
