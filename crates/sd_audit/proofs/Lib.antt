@@ -2,5 +2,5 @@ mod CommonLemmas
 mod DifferenceLemmas
 mod EnterLemmas
 pub mod ExactLemmas
-mod LineLemmas
+pub mod LineLemmas
 mod ReadLemmas

@@ -11,6 +11,7 @@ mod lines;
 mod ranges;
 
 pub use audits::{AuditFault, audit};
+pub use lines::{is_accounts, take_line};
 pub use laws::{journals_have_no_fault, texts_have_one_fault};
 
 #[cfg(test)]

@@ -16,11 +16,11 @@ use Rattle.sd_full.specs.Texts.{entry_text, journal}
 use Rattle.sd_full.proofs.RunLemmas.{final-nil, final-push, IsRun-from, from-IsRun, IsRunFrom-take, last_number, last_step}
 use Rattle.sd_spelling.specs.Fitting.{IsSpelled}
 use Rattle.sd_spelling.proofs.LineLemmas.{one_line}
-use Rattle.sd_audit.specs.Audits.{entry_line, IsJournal}
-use Rattle.sd_gather.proofs.LineLemmas.{text_of, not_accounts, journal_lines}
+use Rattle.sd_audit.specs.Audits.{entry_line, IsJournal, IsTaken}
+use Rattle.sd_audit.proofs.LineLemmas.{text_of, not_accounts, journal_lines}
 use Rattle.sd_stretches.specs.declared.histories.History.{History}
 use Rattle.sd_stretches.specs.Histories.{IsHistory}
-use Rattle.sd_gather.specs.Journals.{HasJournal, IsJournalOf, IsLineOf, TellsEntry, IsAtEntry, IsUnderWay, IsHistoryOf}
+use Rattle.sd_gather.specs.Journals.{HasJournal, IsJournalOf, TellsNext, IsAtEntry, IsUnderWay, IsHistoryOf}
 
 -- the entries of a journal
 pub entries_of : (w : Work) (text : List ℕ) → HasJournal w text → (es : List Entry) × IsJournalOf w text es
@@ -46,11 +46,9 @@ head_same : (x y : List ℕ) (xs ys : List (List ℕ)) → x ∷ xs ≡ y ∷ ys
 head_same x y xs ys e = (cc, cc)
 
 -- the entry that was read is the one that stands next
-pub record IsNext (w : Work) (es : List Entry) (s : State) (n : ℕ) (e : Entry) (left rest : List (List ℕ)) : Type 0 where
+pub record IsNext (w : Work) (es : List Entry) (n : ℕ) (e : Entry) (left rest : List (List ℕ)) : Type 0 where
   pub inside : n < length es
   pub is : get_or es n e ≡ e
-  pub number : e.number ≡ n
-  pub step : IsStep w s e
   pub lines : left ≡ map (entry_line w) (drop (n + 1) es) ++ codes "accounts" ∷ rest
 
 -- What stands next.
@@ -95,54 +93,53 @@ module _ (w : Work) (text : List ℕ) (es : List Entry) (s : State) (h : History
     | inr (all, held) ↦ subst (λ (xs : List Entry). IsHistory w xs h) (take_all h.entries es all) at.history
   ]
 
-  -- another line is that of an entry
-  pub tells_entry : (line : List ℕ) (rest : List (List ℕ)) → lines_of (drop from text) ≡ line ∷ rest → ¬ (line ≡ codes "accounts") → TellsEntry w line
-  tells_entry line rest lines other = elim (slice_get_cases es h.entries).1 [
-    | inl (d, more, held, is) ↦ (
-      d,
-      record {
-        spelled = spelled_at d more is;
-        text = text_of w d ∙ ap (λ (l : List ℕ). l ++ 10 ∷ []) (sym (head_same line (entry_line w d) rest _ (sym lines ∙ next d more is)).0);
-      },
-    )
-    | inr (all, held) ↦ absurd (other (head_same line (codes "accounts") rest at.rest (sym lines ∙ past all)).0)
-  ]
-
-  next_of : (line : List ℕ) (left : List (List ℕ)) (e d : Entry) → lines_of (drop from text) ≡ line ∷ left → IsLineOf w line e
-      → h.entries < length es → get_or es h.entries d ≡ d → IsNext w es s h.entries e left at.rest
-  next_of line left e d lines read more is =
-      let both = head_same line (entry_line w d) left _ (sym lines ∙ next d more is) in
-      let same : d ≡ e = one_line w d e (spelled_at d more is) read.spelled (text_of w d ∙ ap (λ (l : List ℕ). l ++ 10 ∷ []) (sym both.0) ∙ sym read.text) in
-      let P : Entry → Type 0 = λ x. IsNext w es s h.entries x left at.rest in
+  -- the line of the entry that stands next tells it
+  taken_of : (d : Entry) (line : List ℕ) (rest : List (List ℕ)) → lines_of (drop from text) ≡ line ∷ rest
+      → h.entries < length es → get_or es h.entries d ≡ d → IsTaken w s h.entries line d
+  taken_of d line rest lines more is =
       let run = run_so_far d more is in
       let number = last_number w (opening w) 0 (take h.entries es) d run in
       let many = so_many more in
-      subst P same (record {
-        inside = more;
-        is = is;
-        number = omega (arith, number, many);
+      record {
+        spelled = spelled_at d more is;
+        text = text_of w d ∙ ap (λ (l : List ℕ). l ++ 10 ∷ []) (sym (head_same line (entry_line w d) rest _ (sym lines ∙ next d more is)).0);
+        counted = omega (arith, number, many);
         step = subst (λ (x : State). IsStep w x d) (sym at.state) (last_step w (opening w) 0 (take h.entries es) d run);
-        lines = both.1;
-      })
+      }
+
+  -- another line than `accounts` tells an entry
+  pub tells_next : (line : List ℕ) (rest : List (List ℕ)) → lines_of (drop from text) ≡ line ∷ rest → ¬ (line ≡ codes "accounts") → TellsNext w s h.entries line
+  tells_next line rest lines other = elim (slice_get_cases es h.entries).1 [
+    | inl (d, more, held, is) ↦ (d, taken_of d line rest lines more is)
+    | inr (all, held) ↦ absurd (other (head_same line (codes "accounts") rest at.rest (sym lines ∙ past all)).0)
+  ]
+
+  next_of : (line : List ℕ) (left : List (List ℕ)) (e d : Entry) → lines_of (drop from text) ≡ line ∷ left → IsTaken w s h.entries line e
+      → h.entries < length es → get_or es h.entries d ≡ d → IsNext w es h.entries e left at.rest
+  next_of line left e d lines read more is =
+      let both = head_same line (entry_line w d) left _ (sym lines ∙ next d more is) in
+      let same : d ≡ e = one_line w d e (spelled_at d more is) read.spelled (text_of w d ∙ ap (λ (l : List ℕ). l ++ 10 ∷ []) (sym both.0) ∙ sym read.text) in
+      let P : Entry → Type 0 = λ x. IsNext w es h.entries x left at.rest in
+      subst P same (record { inside = more; is = is; lines = both.1 })
 
   -- what was read of it is the entry that stands next
-  pub is_next : (line : List ℕ) (left : List (List ℕ)) (e : Entry) → lines_of (drop from text) ≡ line ∷ left → ¬ (line ≡ codes "accounts") → IsLineOf w line e
-      → IsNext w es s h.entries e left at.rest
+  pub is_next : (line : List ℕ) (left : List (List ℕ)) (e : Entry) → lines_of (drop from text) ≡ line ∷ left → ¬ (line ≡ codes "accounts")
+      → IsTaken w s h.entries line e → IsNext w es h.entries e left at.rest
   is_next line left e lines other read = elim (slice_get_cases es h.entries).1 [
     | inl (d, more, held, is) ↦ next_of line left e d lines read more is
     | inr (all, held) ↦ absurd (other (head_same line (codes "accounts") left at.rest (sym lines ∙ past all)).0)
   ]
 
-  pub is_reached : (n : ℕ) → n ≡ h.entries → IsReached w n s
-  is_reached n is = record {
+  pub is_reached : IsReached w h.entries s
+  is_reached = record {
     entries = take h.entries es;
     run = from-IsRun w (take h.entries es) (IsRunFrom-take w (opening w) 0 h.entries es (IsRun-from w es j.run));
-    many = length-take-le h.entries es at.within ∙ sym is;
+    many = length-take-le h.entries es at.within;
     ends = sym at.state;
   }
 
   -- one entry more is read
-  module _ (e : Entry) (left : List (List ℕ)) (s' : State) (h' : History) (n : IsNext w es s h.entries e left at.rest)
+  module _ (e : Entry) (left : List (List ℕ)) (s' : State) (h' : History) (n : IsNext w es h.entries e left at.rest)
       (made : s' ≡ after w s e.number e.cpu e.event)
       (added : (u : Work) (fs : List Entry) → s' ≡ final u (opening u) (fs ++ e ∷ []) → IsHistory u fs h → IsHistory u (fs ++ e ∷ []) h') where
     state_more : s' ≡ final w (opening w) (take h.entries es ++ e ∷ [])

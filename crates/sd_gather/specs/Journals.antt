@@ -7,9 +7,9 @@ use Rattle.sd_types.specs.declared.works.Work.{Work}
 use Rattle.sd_machine.specs.declared.states.State.{State}
 use Rattle.sd_text.specs.Lines.{lines_of}
 use Rattle.sd_full.specs.Runs.{IsRun, state_at}
-use Rattle.sd_full.specs.Texts.{entry_text, journal}
+use Rattle.sd_full.specs.Texts.{journal}
 use Rattle.sd_spelling.specs.Fitting.{IsSpelled}
-use Rattle.sd_audit.specs.Audits.{IsJournal, entry_line}
+use Rattle.sd_audit.specs.Audits.{IsJournal, IsTaken, entry_line}
 use Rattle.sd_stretches.specs.declared.histories.History.{History}
 use Rattle.sd_stretches.specs.Histories.{IsHistory}
 
@@ -23,13 +23,9 @@ pub record IsJournalOf (w : Work) (text : List ℕ) (es : List Entry) : Type 0 w
   pub spelled : All (IsSpelled w) es
   pub whole : text ≡ journal w es
 
--- the line is that of this entry, or of some
-pub record IsLineOf (w : Work) (line : List ℕ) (e : Entry) : Type 0 where
-  pub spelled : IsSpelled w e
-  pub text : entry_text w e ≡ line ++ 10 ∷ []
-
-abbrev pub TellsEntry : Work → List ℕ → Type 0
-TellsEntry w line = (e : Entry) × IsLineOf w line e
+-- the line tells an entry that is a step behind so many entries
+abbrev pub TellsNext : Work → State → ℕ → List ℕ → Type 0
+TellsNext w s number line = (e : Entry) × IsTaken w s number line e
 
 -- what is read next, from this byte of the journal of these entries on, is the entry behind those of which the history is
 pub record IsAtEntry (w : Work) (text : List ℕ) (es : List Entry) (s : State) (h : History) (from : ℕ) : Type 0 where

@@ -1,14 +1,41 @@
 //! The history of a whole journal.
 
-ghost use Rattle.std.specs.Prelude.{◌<◌, ◌^◌, IfOk, length};
-ghost use Rattle.sd_gather.specs.Journals.{HasJournal, IsHistoryOf};
+ghost use Rattle.std.specs.Prelude.{◌≡◌, ◌<◌, ◌^◌, IfOk, length};
+ghost use Rattle.sd_full.specs.Events.{after};
+ghost use Rattle.sd_full.specs.Runs.{IsReached};
+ghost use Rattle.sd_sound.specs.Laws.{HasSmallCounts};
+ghost use Rattle.sd_audit.specs.Audits.{IsTaken};
+ghost use Rattle.sd_gather.specs.Journals.{HasJournal, IsHistoryOf, TellsNext};
 
-use crate::lines::{is_accounts, make, read_line};
+use sd_audit::{AuditFault, is_accounts, take_line};
+use sd_machine::State;
 use sd_opening::opening;
 use sd_stretches::History;
 use sd_text::next_line;
-use sd_types::Work;
+use sd_types::{Entry, Work};
 use std::alloc::{AllocError, Global};
+
+/// Makes the entry that a line of the journal tells behind `number` entries.
+fn make(
+    alloc: Global,
+    work: &Work,
+    s: &mut State,
+    line: &[u8],
+    number: u64,
+) -> Result<Entry, AllocError>
+    requires reached { IsReached work.now number s.old }
+    requires small { HasSmallCounts work.now }
+    requires number { number < 2 ^ 31 }
+    requires told { TellsNext work.now s.old number line.now }
+    ensures taken { IfOk result (IsTaken work.now s.old number line.now) }
+    ensures state { IfOk result (λ e. s.new ≡ after work.now s.old e.number e.cpu e.event) }
+{
+    match take_line(alloc, work, s, line, number) {
+        Ok(entry) => Ok(entry),
+        Err(AuditFault::Memory) => Err(AllocError),
+        Err(_) => unreachable!(),
+    }
+}
 
 /// The history of the run whose journal the text is. The text is read once.
 pub fn gather(alloc: Global, work: &Work, text: &[u8]) -> Result<History, AllocError>
@@ -24,8 +51,7 @@ pub fn gather(alloc: Global, work: &Work, text: &[u8]) -> Result<History, AllocE
         if is_accounts(line) {
             return Ok(history);
         }
-        let entry = read_line(alloc, work, line)?;
-        make(work, &mut s, &entry);
+        let entry = make(alloc, work, &mut s, line, history.entries)?;
         history.add(alloc, &s, &entry)?;
         from = end + 1;
     }

@@ -3,7 +3,5 @@
 #![tactic(auto)]
 
 mod gathering;
-mod lines;
-mod ranges;
 
 pub use gathering::gather;

@@ -1,7 +1,7 @@
 use Rattle.std.proofs.Common.{ℕ, ◌+◌, List, ◌∷◌, drop, refl, sym, ap, ◌∙◌, arith}
 use Rattle.std.proofs.lemmas.Bool.{false≢true}
 use Rattle.sd_text.specs.Lines.{lines_of}
-use Rattle.sd_gather.proofs.JournalLemmas.{entries_of, under_way_start, some_line, all_read, tells_entry, is_next, is_reached, entries_more, at_more}
+use Rattle.sd_gather.proofs.JournalLemmas.{entries_of, under_way_start, some_line, all_read, tells_next, is_next, is_reached, entries_more, at_more}
 use Rattle.sd_gather.proofs.gathering.gather.Goals as goal
 
 pub lines-init : goal.lines-init
@@ -21,47 +21,39 @@ returns-then-is_accounts c es j =
     all_read c.args.work.now c.args.text.now es l.s l.history l.from j (l.invariant.under_way es j) _
     (c.in-Some.ensures.line ∙ ap (λ (x : List ℕ). x ∷ lines_of (drop (c.in-Some.end + 1) c.args.text.now)) (c.is_accounts.ensures.0 c.if-is_accounts.true))
 
-pub read_line-requires : goal.read_line-requires
-read_line-requires c =
-    let l = c.lines in
-    let of = entries_of c.args.work.now c.args.text.now c.requires.journal in
-    tells_entry c.args.work.now c.args.text.now of.0 l.s l.history l.from of.1 (l.invariant.under_way of.0 of.1) _ _
-    c.in-Some.ensures.line (λ same. false≢true (sym c.if-is_accounts.false ∙ c.is_accounts.ensures.1 same))
-
 pub make-requires : goal.make-requires
 make-requires c =
     let l = c.lines in
     let of = entries_of c.args.work.now c.args.text.now c.requires.journal in
     let at = l.invariant.under_way of.0 of.1 in
-    let n = is_next c.args.work.now c.args.text.now of.0 l.s l.history l.from of.1 at _ _ c.in_ok-entry.entry
-    c.in-Some.ensures.line (λ same. false≢true (sym c.if-is_accounts.false ∙ c.is_accounts.ensures.1 same)) c.in_ok-entry.ensures in
-    let number = n.number in
     let bound = l.invariant.bound in
     let within = l.invariant.within in
     let text = c.requires.text in
     record {
-      reached = is_reached c.args.work.now c.args.text.now of.0 l.s l.history l.from of.1 at _ number;
+      reached = is_reached c.args.work.now c.args.text.now of.0 l.s l.history l.from of.1 at;
       small = c.in_ok-s.ensures.small;
-      number = omega (arith, number, bound, within, text);
-      step = n.step;
+      number = omega (arith, bound, within, text);
+      told = tells_next c.args.work.now c.args.text.now of.0 l.s l.history l.from of.1 at _ _
+          c.in-Some.ensures.line (λ same. false≢true (sym c.if-is_accounts.false ∙ c.is_accounts.ensures.1 same));
     }
 
 pub lines-preserved : goal.lines-preserved
 lines-preserved c =
     let l = c.lines in
     let of = entries_of c.args.work.now c.args.text.now c.requires.journal in
+    let made = c.in_ok-entry.ensures in
     let more = entries_more c.args.work.now c.args.text.now of.0 l.s l.history l.from of.1 (l.invariant.under_way of.0 of.1) c.in_ok-entry.entry _ c.make.new.s c.add.new.self
     (is_next c.args.work.now c.args.text.now of.0 l.s l.history l.from of.1 (l.invariant.under_way of.0 of.1) _ _ c.in_ok-entry.entry c.in-Some.ensures.line
-    (λ same. false≢true (sym c.if-is_accounts.false ∙ c.is_accounts.ensures.1 same)) c.in_ok-entry.ensures)
-    c.make.ensures c.in_ok-add.ensures in
+    (λ same. false≢true (sym c.if-is_accounts.false ∙ c.is_accounts.ensures.1 same)) made.taken)
+    made.state c.in_ok-add.ensures in
     let bound = l.invariant.bound in
     let within = c.in-Some.ensures.within in
     record {
       under_way = λ es j.
           at_more c.args.work.now c.args.text.now es l.s l.history l.from j (l.invariant.under_way es j) c.in_ok-entry.entry _ c.make.new.s c.add.new.self
           (is_next c.args.work.now c.args.text.now es l.s l.history l.from j (l.invariant.under_way es j) _ _ c.in_ok-entry.entry c.in-Some.ensures.line
-          (λ same. false≢true (sym c.if-is_accounts.false ∙ c.is_accounts.ensures.1 same)) c.in_ok-entry.ensures)
-          c.make.ensures c.in_ok-add.ensures (c.in-Some.end + 1) refl;
+          (λ same. false≢true (sym c.if-is_accounts.false ∙ c.is_accounts.ensures.1 same)) made.taken)
+          made.state c.in_ok-add.ensures (c.in-Some.end + 1) refl;
       within = omega (arith, within.1);
       bound = omega (arith, more, bound, within.0);
     }

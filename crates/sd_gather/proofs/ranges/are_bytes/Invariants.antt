@@ -1,7 +1,0 @@
-use Rattle.std.proofs.Common.{◌≡◌, true, take}
-use Rattle.std.specs.List.{list_all}
-use Rattle.sd_spelling.specs.Fitting.{is_byte}
-use Rattle.sd_gather.proofs.ranges.are_bytes.Given as goal
-
-abbrev pub invariant-loop-number : goal.invariant-loop-number
-invariant-loop-number l = list_all is_byte (take l.number-index l.numbers) ≡ true
