@@ -8,8 +8,6 @@ mod cycle_lines;
 mod events;
 mod lines;
 mod summary;
-#[cfg(test)]
-mod tests;
 
 pub use accounts::Accounts;
 pub use cycle_lines::write_cycles;

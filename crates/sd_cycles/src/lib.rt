@@ -4,8 +4,6 @@
 
 mod laps;
 mod laws;
-#[cfg(test)]
-mod tests;
 
 pub use laps::cycles;
 pub use laws::blocking_cycles_are_listed;

@@ -6,8 +6,6 @@ mod fitting;
 mod names;
 mod places;
 mod read;
-#[cfg(test)]
-mod tests;
 mod words;
 
 pub use read::read_entry;

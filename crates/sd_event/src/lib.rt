@@ -5,8 +5,6 @@ mod answers;
 mod entries;
 mod events;
 mod names;
-#[cfg(test)]
-mod tests;
 mod words;
 
 pub use entries::write_entry;

@@ -2,3 +2,4 @@ pub mod RangeLemmas
 pub mod HistoryLemmas
 pub mod RowLemmas
 pub mod ExactLemmas
+pub mod SliceLemmas

@@ -1,12 +1,15 @@
 -- What the stretches of a thread say of the states of a run: they follow one another from the first state to the last, the
 -- thread does in each state of a stretch what the stretch says, and neighbours differ, so none can be longer.
 -- Source: this project's own.
-use Rattle.std.specs.Prelude.{◌≡◌, ◌≢◌, ℕ, ◌+◌, ◌<◌, ◌≤◌, Bool, List, [], ◌∷◌, length, Option, Some, slice_get}
+use Rattle.std.specs.Prelude.{◌≡◌, ◌≢◌, ◌↔◌, ◌⊎◌, ℕ, ◌+◌, ◌<◌, ◌≤◌, Bool, List, [], ◌∷◌, length, Option, Some, slice_get}
+use Rattle.sd_types.specs.declared.numbers.CpuId.{CpuId}
 use Rattle.sd_types.specs.declared.events.Entry.{Entry}
 use Rattle.sd_types.specs.declared.works.Work.{Work}
+use Rattle.sd_machine.specs.declared.states.Place.TheVariants as place
 use Rattle.sd_machine.specs.States.{thread_of}
 use Rattle.sd_full.specs.Runs.{state_at}
 use Rattle.sd_stretches.specs.declared.sights.Doing.{Doing}
+use Rattle.sd_stretches.specs.declared.sights.Doing.TheVariants.{Running}
 use Rattle.sd_stretches.specs.declared.rows.Stretch.{Stretch}
 use Rattle.sd_stretches.specs.Sights.{doing_of}
 use Rattle.sd_stretches.specs.Histories.{over, turns_in}
@@ -27,3 +30,15 @@ abbrev pub StretchesAreExact : Type 0
 StretchesAreExact =
     (w : Work) (es : List Entry) (t end : ℕ) → t < length w.threads
     → AreExact (doing_at w es t) (length es) 0 (stretches t (over turns_in w es) (length es) end)
+
+-- one of the stretches says that this is done in state j
+abbrev pub Says : List Stretch → ℕ → Doing → Type 0
+Says [] j d = ⊥
+Says (x ∷ xs) j d = ((x.first ≤ j) × (j ≤ x.last) × (x.doing ≡ d)) ⊎ Says xs j d
+
+-- The slices of processor c are the stretches that say `Running c`: in each state of the run those of thread t cover it exactly
+-- where the thread runs on c.
+abbrev pub SlicesAreExact : Type 0
+SlicesAreExact =
+    (w : Work) (es : List Entry) (t end j : ℕ) (c : CpuId) → t < length w.threads → j ≤ length es
+    → Says (stretches t (over turns_in w es) (length es) end) j (Running c) ↔ ((thread_of (state_at w es j) t).place ≡ place.Running c)

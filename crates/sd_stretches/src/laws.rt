@@ -1,10 +1,16 @@
-//! What the stretches say of the states of a run: a law, with nothing to run.
+//! What the stretches say of the states of a run: laws, with nothing to run.
 
-ghost use Rattle.sd_stretches.specs.Exact.{StretchesAreExact};
+ghost use Rattle.sd_stretches.specs.Exact.{SlicesAreExact, StretchesAreExact};
 
 /// The stretches of each thread of a workload, over any entries, are exactly those of its place: they follow one another from
 /// the initial state to the last one, the place of the thread in each state of a stretch is that of the stretch, and
 /// neighbours differ.
 pub fn stretches_are_exact()
     ensures { StretchesAreExact }
+{}
+
+/// The slices of each processor are exactly its running threads: in each state of a run a thread has a stretch that says it runs
+/// on a processor exactly where it does.
+pub fn slices_are_exact()
+    ensures { SlicesAreExact }
 {}

@@ -8,11 +8,9 @@ mod histories;
 mod laws;
 mod rows;
 mod sights;
-#[cfg(test)]
-mod tests;
 
 pub use changes::{HandOver, Load, Rank, Turn, Wakeup};
 pub use histories::History;
-pub use laws::stretches_are_exact;
+pub use laws::{slices_are_exact, stretches_are_exact};
 pub use rows::{Level, Stretch, levels, stretches};
 pub use sights::{Doing, Sight};

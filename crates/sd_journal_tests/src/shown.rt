@@ -1,36 +1,16 @@
 //! The history of a run of three entries that was drawn by hand.
 
-use crate::{History, levels, stretches};
-use arrayvec::ArrayVec;
-use sd_machine::{CpuState, Place, State, ThreadState};
-use sd_types::{
-    ClassState, CpuId, Duty, Entry, Event, List, SetId, SysState, ThreadBody, ThreadId,
-};
+use crate::given::{in_place, state};
+use sd_machine::{CpuState, Place, State};
+use sd_stretches::{History, levels, stretches};
+use sd_types::{CpuId, Duty, Entry, Event, SetId, ThreadId};
 use std::alloc::{AllocError, Global};
 use std::test::Fail;
 
-fn thread(place: Place) -> ThreadState {
-    ThreadState {
-        body: ThreadBody {
-            class: ClassState::Sys(SysState { pri: 60 }),
-            willed: ArrayVec::new(),
-            held: ArrayVec::new(),
-            op: 0,
-            run_left: 0,
-            back: false,
-            last: CpuId(0),
-            left_at: None,
-            looped: false,
-            bound: None,
-        },
-        place,
-    }
-}
-
 /// A state of one processor and one thread.
-fn state(alloc: Global, place: Place, count: u32) -> Result<State, AllocError> {
+fn at_tick(alloc: Global, place: Place, count: u32) -> Result<State, AllocError> {
     let mut threads = Vec::new(alloc);
-    threads.push(thread(place))?;
+    threads.push(in_place(place))?;
     let mut cpus = Vec::new(alloc);
     cpus.push(CpuState {
         count,
@@ -41,13 +21,7 @@ fn state(alloc: Global, place: Place, count: u32) -> Result<State, AllocError> {
         closing: None,
         bound: 0,
     })?;
-    Ok(State {
-        threads: List::from_vec(threads),
-        locks: List::from_vec(Vec::new(alloc)),
-        cpus: List::from_vec(cpus),
-        counts: List::from_vec(Vec::new(alloc)),
-        open_cpus: List::from_vec(Vec::new(alloc)),
-    })
+    Ok(state(alloc, threads, Vec::new(alloc), cpus))
 }
 
 fn entry(number: u64, event: Event) -> Entry {
@@ -64,26 +38,26 @@ fn entry(number: u64, event: Event) -> Entry {
 fn a_thread_runs_for_a_tick(rt: HostRuntime) -> Result<(), Fail> {
     let alloc = rt.alloc();
     let t = ThreadId(0);
-    let mut history = History::new(alloc, &state(alloc, Place::Queued(CpuId(0), 0), 0)?)?;
+    let mut history = History::new(alloc, &at_tick(alloc, Place::Queued(CpuId(0), 0), 0)?)?;
     let running = Place::Running(CpuId(0));
     if history.entries < 9 {
         history.add(
             alloc,
-            &state(alloc, running, 0)?,
+            &at_tick(alloc, running, 0)?,
             &entry(0, Event::Dispatch { t, p: 60 }),
         )?;
     }
     if history.entries < 9 {
         history.add(
             alloc,
-            &state(alloc, running, 1)?,
+            &at_tick(alloc, running, 1)?,
             &entry(1, Event::Tick { t }),
         )?;
     }
     if history.entries < 9 {
         history.add(
             alloc,
-            &state(alloc, Place::Ended, 1)?,
+            &at_tick(alloc, Place::Ended, 1)?,
             &entry(2, Event::Done { t }),
         )?;
     }

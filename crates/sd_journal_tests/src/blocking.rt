@@ -1,32 +1,14 @@
 //! Cycles of states that were drawn by hand.
 
-use crate::cycles;
-use arrayvec::ArrayVec;
-use sd_machine::{LockState, Place, State, ThreadState};
-use sd_types::{ClassState, CpuId, List, LockId, Side, SysState, ThreadBody, ThreadId};
+use crate::given::{in_place, state};
+use sd_cycles::cycles;
+use sd_machine::{LockState, Place, State};
+use sd_types::{LockId, Side, ThreadId};
 use std::alloc::{AllocError, Global};
 use std::test::Fail;
 
-fn thread(place: Place) -> ThreadState {
-    ThreadState {
-        body: ThreadBody {
-            class: ClassState::Sys(SysState { pri: 60 }),
-            willed: ArrayVec::new(),
-            held: ArrayVec::new(),
-            op: 0,
-            run_left: 0,
-            back: false,
-            last: CpuId(0),
-            left_at: None,
-            looped: false,
-            bound: None,
-        },
-        place,
-    }
-}
-
 /// A state whose threads wait for these locks or have ended, and whose locks have these owners or are held by a reader.
-fn state(
+fn blocked(
     alloc: Global,
     waits: &[Option<u16>],
     owners: &[Option<u16>],
@@ -34,8 +16,8 @@ fn state(
     let mut threads = Vec::new(alloc);
     for wait in waits {
         threads.push(match wait {
-            Some(l) => thread(Place::Waiting(LockId(*l), Side::Writer, 0)),
-            None => thread(Place::Ended),
+            Some(l) => in_place(Place::Waiting(LockId(*l), Side::Writer, 0)),
+            None => in_place(Place::Ended),
         })?;
     }
     let mut locks = Vec::new(alloc);
@@ -45,13 +27,7 @@ fn state(
             None => LockState::ReadHeld(1),
         })?;
     }
-    Ok(State {
-        threads: List::from_vec(threads),
-        locks: List::from_vec(locks),
-        cpus: List::from_vec(Vec::new(alloc)),
-        counts: List::from_vec(Vec::new(alloc)),
-        open_cpus: List::from_vec(Vec::new(alloc)),
-    })
+    Ok(state(alloc, threads, locks, Vec::new(alloc)))
 }
 
 /// The cycles one after the other, each behind its length.
@@ -96,7 +72,7 @@ fn cycles_and_chains(rt: HostRuntime) -> Result<(), Fail> {
         ),
     ];
     for (index, (waits, owners, want)) in cases.iter().enumerate() {
-        let found = cycles(rt.alloc(), &state(rt.alloc(), waits, owners)?)?;
+        let found = cycles(rt.alloc(), &blocked(rt.alloc(), waits, owners)?)?;
         let told = told(rt.alloc(), &found)?;
         assert_eq!(rt; told.as_slice(), *want, "case {index}");
     }

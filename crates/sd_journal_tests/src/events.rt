@@ -1,138 +1,14 @@
 //! A line of each event, written by hand.
 
-ghost use Rattle.std.specs.Prelude.{◌≡◌, ◌<◌, ◌≤◌, [], length, map, sum_by, IsTrue, IfOk};
-ghost use Rattle.std.specs.List.{list_all};
-ghost use Rattle.sd_types.specs.NameWords.{is_name};
-ghost use Rattle.sd_types.specs.Ticks.{ts_ticks_fit, fixed_ticks_fit};
-ghost use Rattle.sd_types.specs.Works.{Declared, is_distinct, same_bytes, thread_fits, same_cpu, set_cpus, set_fits};
-
-use crate::write_entry;
+use crate::given::named;
 use arrayvec::ArrayVec;
+use sd_event::write_entry;
 use sd_types::{
-    AssignAnswer, BindAnswer, ChanId, ChanKind, ClassParms, CpuId, Denied, End, Entry, Event,
-    FixedRow, FixedTable, Hints, List, LockId, LockKind, Name, PrioAnswer, Put, Script, SetId,
-    ThreadDecl, ThreadId, TsRow, TsTable, Which, Work,
+    AssignAnswer, BindAnswer, ChanId, CpuId, Denied, End, Entry, Event, Hints, LockId, PrioAnswer,
+    Put, SetId, ThreadId, Which, Work,
 };
 use std::alloc::{AllocError, Global};
 use std::test::Fail;
-
-fn ts_table(alloc: Global) -> Result<TsTable, AllocError>
-    ensures { IfOk result (λ table. IsTrue (ts_ticks_fit 100 table)) }
-{
-    let row = TsRow {
-        quantum: 100,
-        ticks: 10,
-        tqexp: 0,
-        slpret: 59,
-        maxwait: 0,
-        lwait: 59,
-    };
-    Ok(TsTable::from_rows(1000, List::from_vec(Vec::from_array(alloc, [row; 60])?)))
-}
-
-fn fixed_table(alloc: Global) -> Result<FixedTable, AllocError>
-    ensures ticks { IfOk result (λ table. IsTrue (fixed_ticks_fit 100 table)) }
-    ensures rows { IfOk result (λ table. length table.rows ≡ 60) }
-{
-    let row = FixedRow {
-        quantum: 100,
-        ticks: 10,
-    };
-    Ok(FixedTable::from_rows(1000, List::from_vec(Vec::from_array(alloc, [row; 60])?)))
-}
-
-fn thread(alloc: Global, name: &[u8]) -> Result<ThreadDecl, AllocError>
-    requires { IsTrue (is_name name.now) }
-    ensures name { IfOk result (λ t. t.name.text.items ≡ name.now) }
-    ensures ops { IfOk result (λ t. t.script.ops ≡ []) }
-    ensures fits { IfOk result (λ t. (d : Declared) → IsTrue (thread_fits d t)) }
-{
-    Ok(ThreadDecl {
-        name: Name::from_word(name),
-        class: ClassParms::Sys { pri: 60 },
-        cpupri: 0,
-        uid: 0,
-        privileged: false,
-        set: SetId(0),
-        script: Script::from_ops(List::from_vec(Vec::new(alloc))),
-    })
-}
-
-fn lock(name: &[u8], kind: LockKind) -> (Name, LockKind)
-    requires { IsTrue (is_name name.now) }
-    ensures { result.0.text.items ≡ name.now }
-{
-    (Name::from_word(name), kind)
-}
-
-fn chan(name: &[u8], kind: ChanKind) -> (Name, ChanKind)
-    requires { IsTrue (is_name name.now) }
-    ensures { result.0.text.items ≡ name.now }
-{
-    (Name::from_word(name), kind)
-}
-
-fn set(alloc: Global, name: &[u8], cpus: &[CpuId]) -> Result<(Name, List<CpuId>), AllocError>
-    requires { IsTrue (is_name name.now) }
-    ensures { IfOk result (λ set. (set.0.text.items ≡ name.now) × (set.1 ≡ cpus.now)) }
-{
-    let cpus = Vec::from_slice(alloc, cpus)?;
-    Ok((Name::from_word(name), List::from_vec(cpus)))
-}
-
-/// A workload of these locks, channels and threads and of these sets.
-fn work(
-    alloc: Global,
-    sets: List<(Name, List<CpuId>)>,
-    locks: List<(Name, LockKind)>,
-    chans: List<(Name, ChanKind)>,
-    threads: List<ThreadDecl>,
-) -> Result<Work, AllocError>
-    requires most_sets { length sets ≤ 8 }
-    requires sets_fit { IsTrue (list_all (set_fits 12) sets) }
-    requires cpus_differ { IsTrue (is_distinct same_cpu (set_cpus sets)) }
-    requires cpu_left { length (set_cpus sets) < 12 }
-    requires set_names { IsTrue (is_distinct same_bytes (map (λ s. s.0.text.items) sets)) }
-    requires most_locks { length locks ≤ 4 }
-    requires most_chans { length chans ≤ 4 }
-    requires most_threads { length threads ≤ 4 }
-    requires lock_names { IsTrue (is_distinct same_bytes (map (λ l. l.0.text.items) locks)) }
-    requires chan_names { IsTrue (is_distinct same_bytes (map (λ k. k.0.text.items) chans)) }
-    requires thread_names { IsTrue (is_distinct same_bytes (map (λ t. t.name.text.items) threads)) }
-    requires most_ops { sum_by (λ t. length t.script.ops) threads ≤ 4 }
-    requires threads_fit { (d : Declared) → IsTrue (list_all (thread_fits d) threads) }
-{
-    Ok(Work {
-        cpus: 12,
-        hz: 100,
-        limit: 2,
-        sets,
-        ts: ts_table(alloc)?,
-        fx: fixed_table(alloc)?,
-        rt: fixed_table(alloc)?,
-        locks,
-        chans,
-        threads,
-    })
-}
-
-/// Two threads a and b, a mutex m, a rwlock w, a channel k, a semaphore q and a set s.
-fn named(alloc: Global) -> Result<Work, AllocError> {
-    let first = thread(alloc, b"a")?;
-    let second = thread(alloc, b"b")?;
-    let mutex = lock(b"m", LockKind::Mutex);
-    let rwlock = lock(b"w", LockKind::Rwlock);
-    let chan_k = chan(b"k", ChanKind::Chan);
-    let sema = chan(b"q", ChanKind::Sema { count: 0 });
-    let set = set(alloc, b"s", &[CpuId(1)])?;
-    work(
-        alloc,
-        List::from_vec(Vec::from_array(alloc, [set])?),
-        List::from_vec(Vec::from_array(alloc, [mutex, rwlock])?),
-        List::from_vec(Vec::from_array(alloc, [chan_k, sema])?),
-        List::from_vec(Vec::from_array(alloc, [first, second])?),
-    )
-}
 
 const A: ThreadId = ThreadId(0);
 
@@ -265,7 +141,9 @@ fn plain_event(i: u8) -> (Event, &'static str) {
 #[test]
 fn events_without_hints(rt: HostRuntime) -> Result<(), Fail> {
     let alloc = rt.alloc();
-    let work = named(alloc)?;
+    let Some(work) = named(alloc) else {
+        return Ok(assert!(rt; false, "no work"));
+    };
     for i in 0..29 {
         let (event, text) = plain_event(i);
         let mut line = Vec::from_slice(alloc, b"3 c10 ")?;
@@ -443,7 +321,9 @@ fn answer(i: u8) -> (Event, &'static str) {
 #[test]
 fn answers_and_sets(rt: HostRuntime) -> Result<(), Fail> {
     let alloc = rt.alloc();
-    let work = named(alloc)?;
+    let Some(work) = named(alloc) else {
+        return Ok(assert!(rt; false, "no work"));
+    };
     for i in 0..23 {
         let (event, text) = answer(i);
         let mut line = Vec::from_slice(alloc, b"18446744073709551615 c0 ")?;
@@ -459,7 +339,9 @@ fn answers_and_sets(rt: HostRuntime) -> Result<(), Fail> {
 #[test]
 fn numbers_that_were_read(rt: HostRuntime) -> Result<(), Fail> {
     let alloc = rt.alloc();
-    let work = named(alloc)?;
+    let Some(work) = named(alloc) else {
+        return Ok(assert!(rt; false, "no work"));
+    };
     let mut out = Vec::from_slice(alloc, b"5 c0 done a\n")?;
     let steal = Event::Steal {
         victim: CpuId(0),

@@ -1,0 +1,92 @@
+//! Lines that are of entries, and lines that are of none.
+
+use crate::given::named;
+use sd_entry_reader::read_entry;
+use sd_event::write_entry;
+use std::test::Fail;
+
+fn line_of_an_entry(i: u8) -> &'static str {
+    match i {
+        0 => "0 c0 tick a",
+        1 => "18446744073709551615 c11 spin b m",
+        2 => "3 c0 idle",
+        3 => "4 c1 idle h 0,160,7",
+        4 => "6 c2 steal c0 a 29 h 30",
+        5 => "7 c0 preempt a back",
+        6 => "8 c0 preempt a away c11",
+        7 => "9 c0 napend a to c10 h 1",
+        8 => "10 c0 wake b k a rt c0",
+        9 => "11 c0 rouse k none",
+        10 => "12 c0 will m a 110 rt c0",
+        11 => "13 c0 grant w b rt c0",
+        12 => "14 c0 prio a b ok 24 to c10",
+        13 => "15 c0 prio a b ESRCH",
+        14 => "16 c0 semav a q b to c10",
+        15 => "17 c0 semav a q 65535",
+        16 => "18 c0 assign a c1 - EBUSY",
+        17 => "19 c0 joined s",
+        18 => "20 c0 pbind a b - ok rt c0",
+        19 => "21 c0 pbind a b c1 EPERM",
+        _ => "22 c0 end w",
+    }
+}
+
+fn line_of_none(i: u8) -> &'static str {
+    match i {
+        0 => "",
+        1 => "accounts",
+        2 => "0 c0",
+        // zeros before a number, two spaces, a blank behind the last word
+        3 => "00 c0 tick a",
+        4 => "0 c0  tick a",
+        5 => "0 c0 tick a ",
+        // a processor, a thread and a set that are not there
+        6 => "0 c12 tick a",
+        7 => "0 c0 tick c",
+        8 => "0 c0 joined t",
+        // numbers that the event does not read, or that are none
+        9 => "0 c0 tick a h 1",
+        10 => "0 c0 idle h",
+        11 => "0 c0 idle h 256",
+        12 => "18446744073709551616 c0 idle",
+        13 => "0 c0 tock a",
+        14 => "0 c0 preempt a side",
+        _ => "0 c0 wake b k a",
+    }
+}
+
+#[test]
+fn lines_of_entries(rt: HostRuntime) -> Result<(), Fail> {
+    let alloc = rt.alloc();
+    let Some(work) = named(alloc) else {
+        return Ok(assert!(rt; false, "no work"));
+    };
+    for i in 0..21 {
+        let line = line_of_an_entry(i);
+        let Some(entry) = read_entry(alloc, &work, line.as_bytes())? else {
+            return Ok(assert!(rt; false, "{line}"));
+        };
+        let mut out = Vec::new(alloc);
+        write_entry(alloc, &work, &entry, &mut out)?;
+        let mut whole = Vec::from_slice(alloc, line.as_bytes())?;
+        whole.push(b'\n')?;
+        assert_eq!(rt; out.as_slice(), whole.as_slice(), "{line}");
+    }
+    Ok(())
+}
+
+#[test]
+fn lines_of_no_entry(rt: HostRuntime) -> Result<(), Fail> {
+    let alloc = rt.alloc();
+    let Some(work) = named(alloc) else {
+        return Ok(assert!(rt; false, "no work"));
+    };
+    for i in 0..16 {
+        let line = line_of_none(i);
+        assert!(rt;
+            read_entry(alloc, &work, line.as_bytes())?.is_none(),
+            "{line}"
+        );
+    }
+    Ok(())
+}
