@@ -11,8 +11,8 @@ mod lines;
 mod ranges;
 
 pub use audits::{AuditFault, audit};
-pub use lines::{is_accounts, take_line};
 pub use laws::{journals_have_no_fault, texts_have_one_fault};
+pub use lines::{is_accounts, take_line};
 
 #[cfg(test)]
 mod tests;

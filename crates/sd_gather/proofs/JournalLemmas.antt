@@ -1,5 +1,5 @@
 -- A journal, one entry at a time.
-use Rattle.std.proofs.Common.{◌≡◌, ℕ, zero, suc, ◌+◌, ◌-◌, ◌<◌, ◌≤◌, ◌⊎◌, inl, inr, List, [], ◌∷◌, ◌++◌, length, map, take, drop, get_or, append_assoc, refl, sym, ap, subst, ◌∙◌, arith}
+use Rattle.std.proofs.Common.{◌≡◌, ℕ, ◌+◌, ◌<◌, ◌≤◌, inl, inr, List, [], ◌∷◌, ◌++◌, length, map, take, drop, get_or, sym, ap, subst, ◌∙◌, arith}
 use Rattle.std.specs.Prelude.{codes}
 use Rattle.std.specs.List.{All}
 use Rattle.std.proofs.lemmas.Option.{slice_get_cases}
@@ -11,16 +11,16 @@ use Rattle.sd_machine.specs.declared.states.State.{State}
 use Rattle.sd_machine.specs.Opening.{opening}
 use Rattle.sd_text.specs.Lines.{lines_of}
 use Rattle.sd_full.specs.Events.{after}
-use Rattle.sd_full.specs.Runs.{final, IsRun, IsRunFrom, IsStep, IsReached, state_at}
-use Rattle.sd_full.specs.Texts.{entry_text, journal}
+use Rattle.sd_full.specs.Runs.{final, IsRunFrom, IsStep, IsReached, state_at}
+use Rattle.sd_full.specs.Texts.{journal}
 use Rattle.sd_full.proofs.RunLemmas.{final-nil, final-push, IsRun-from, from-IsRun, IsRunFrom-take, last_number, last_step}
 use Rattle.sd_spelling.specs.Fitting.{IsSpelled}
 use Rattle.sd_spelling.proofs.LineLemmas.{one_line}
-use Rattle.sd_audit.specs.Audits.{entry_line, IsJournal, IsTaken}
+use Rattle.sd_audit.specs.Audits.{entry_line, IsTaken}
 use Rattle.sd_audit.proofs.LineLemmas.{text_of, not_accounts, journal_lines}
 use Rattle.sd_stretches.specs.declared.histories.History.{History}
 use Rattle.sd_stretches.specs.Histories.{IsHistory}
-use Rattle.sd_gather.specs.Journals.{HasJournal, IsJournalOf, TellsNext, IsAtEntry, IsUnderWay, IsHistoryOf}
+use Rattle.sd_gather.specs.Journals.{HasJournal, IsJournalOf, TellsNext, IsAtEntry, IsUnderWay}
 
 -- the entries of a journal
 pub entries_of : (w : Work) (text : List ℕ) → HasJournal w text → (es : List Entry) × IsJournalOf w text es

@@ -1,6 +1,6 @@
 -- The stretches of a thread are exact.
-use Rattle.std.proofs.Common.{◌≡◌, ℕ, zero, suc, ◌+◌, ◌-◌, ◌<◌, ◌≤◌, Bool, true, false, ◌⊎◌, inl, inr, List, [], ◌∷◌, ◌++◌, length, get_or, take, Option, Some, None, refl, sym, ap, subst, ◌∙◌, arith, add-one}
-use Rattle.std.specs.Prelude.{◌≢◌, ◌==◌, nat_lt, if◌then◌else◌, filter, slice_get, map, option_map}
+use Rattle.std.proofs.Common.{◌≡◌, ℕ, zero, suc, ◌+◌, ◌-◌, ◌<◌, ◌≤◌, Bool, true, false, inl, inr, List, [], ◌∷◌, ◌++◌, length, take, Option, Some, None, refl, sym, ap, subst, ◌∙◌, arith, add-one}
+use Rattle.std.specs.Prelude.{◌≢◌, ◌==◌, nat_lt, if◌then◌else◌, filter, slice_get, option_map}
 use Rattle.std.specs.List.{flat_map, range_with_len}
 use Rattle.std.proofs.lemmas.Bool.{false≢true, cases_Bool}
 use Rattle.std.proofs.lemmas.Bool.Decides.{nat_tests}
@@ -9,22 +9,19 @@ use Rattle.std.proofs.lemmas.List.Elements.{filter-append}
 use Rattle.std.proofs.lemmas.Option.{slice_get-map, slice_get-get_or}
 use Rattle.sd_types.specs.declared.events.Entry.{Entry}
 use Rattle.sd_types.specs.declared.works.Work.{Work}
-use Rattle.sd_machine.specs.declared.states.State.{State}
 use Rattle.sd_machine.specs.Opening.{opening}
 use Rattle.sd_machine.specs.States.{thread_of, no_thread}
-use Rattle.sd_full.specs.Shapes.{FitsFully}
-use Rattle.sd_full.specs.Runs.{final, state_at}
+use Rattle.sd_full.specs.Runs.{state_at}
 use Rattle.sd_full.proofs.OpeningLemmas.{opening_fits}
 use Rattle.sd_full.proofs.RunLemmas.{final_fits}
 use Rattle.sd_stretches.specs.declared.sights.Doing.{Doing}
 use Rattle.sd_stretches.specs.declared.sights.Doing.TheVariants.{Running, Runnable, Waiting, Asleep, Napping, Ended}
 use Rattle.sd_stretches.specs.declared.sights.Sight.{Sight}
 use Rattle.sd_stretches.specs.declared.changes.Turn.{Turn}
-use Rattle.sd_stretches.specs.declared.rows.Stretch.{Stretch}
 use Rattle.sd_stretches.specs.Sights.{same_doing, sight_of, sights_of}
 use Rattle.sd_stretches.specs.Changes.{turn_from, turn_if, turns_between}
-use Rattle.sd_stretches.specs.Histories.{Moment, moment, sights_before, entry_before, tick_by, over, turns_in}
-use Rattle.sd_stretches.specs.Rows.{own_turns, stretch_from, stretch_to, next_of, stretches_of, stretches}
+use Rattle.sd_stretches.specs.Histories.{moment, sights_before, entry_before, tick_by, over, turns_in}
+use Rattle.sd_stretches.specs.Rows.{own_turns, stretch_to, next_of, stretches_of, stretches}
 use Rattle.sd_stretches.specs.Exact.{doing_at, AreExact, StretchesAreExact}
 use Rattle.sd_stretches.proofs.RangeLemmas.{flat_range_same}
 

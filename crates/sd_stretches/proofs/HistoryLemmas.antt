@@ -1,5 +1,5 @@
 -- One entry more.
-use Rattle.std.proofs.Common.{◌≡◌, ℕ, zero, suc, ◌+◌, ◌<◌, ◌≤◌, List, [], ◌∷◌, ◌++◌, length, take, Option, Some, None, get_or, refl, sym, ap, ◌∙◌, arith, add-one}
+use Rattle.std.proofs.Common.{◌≡◌, ℕ, zero, suc, ◌+◌, ◌<◌, ◌≤◌, List, [], ◌∷◌, ◌++◌, length, Some, None, refl, sym, ap, ◌∙◌, arith, add-one}
 use Rattle.std.specs.Prelude.{slice_get}
 use Rattle.std.specs.List.{flat_map, range_with_len}
 use Rattle.std.proofs.lemmas.List.{take-append-le, take_all, length-append, append-nil, get_or_append_left}
@@ -14,7 +14,7 @@ use Rattle.sd_machine.specs.States.{cpu_of}
 use Rattle.sd_stretches.specs.declared.histories.History.{History}
 use Rattle.sd_stretches.specs.Sights.{sights_of}
 use Rattle.sd_stretches.specs.Changes.{turns_between, ranks_between, load_if, hand_overs_of, wakeups_of}
-use Rattle.sd_stretches.specs.Histories.{Moment, moment, sights_before, entry_before, over, turns_in, ranks_in, loads_in, hand_overs_in, wakeups_in, IsHistory}
+use Rattle.sd_stretches.specs.Histories.{Moment, moment, over, turns_in, ranks_in, loads_in, hand_overs_in, wakeups_in, IsHistory}
 use Rattle.sd_stretches.proofs.RangeLemmas.{flat_range_more, flat_range_same}
 
 module _ (w : Work) (es : List Entry) (e : Entry) where

@@ -1,6 +1,6 @@
 -- The slices of a processor are exactly its running threads.
-use Rattle.std.proofs.Common.{◌≡◌, ℕ, ◌+◌, ◌<◌, ◌≤◌, ◌⊎◌, inl, inr, List, [], ◌∷◌, length, refl, sym, ap, ◌∙◌, arith}
-use Rattle.std.specs.Prelude.{◌↔◌, nat_le}
+use Rattle.std.proofs.Common.{◌≡◌, ℕ, ◌+◌, ◌≤◌, inl, inr, List, [], ◌∷◌, length, sym, ap, ◌∙◌, arith}
+use Rattle.std.specs.Prelude.{nat_le}
 use Rattle.std.proofs.lemmas.Bool.{cases_Bool}
 use Rattle.std.proofs.lemmas.Bool.Decides.{nat_tests}
 use Rattle.sd_types.specs.declared.numbers.CpuId.{CpuId}
@@ -20,6 +20,7 @@ use Rattle.sd_stretches.proofs.ExactLemmas.{are_exact}
 module _ (f : ℕ → Doing) (n : ℕ) where
   -- what a stretch says of a state is done in it
   said : (xs : List Stretch) (k j : ℕ) (d : Doing) → AreExact f n k xs → Says xs j d → f j ≡ d
+  said [] k j d e _ = absurd e
   said (x ∷ []) k j d (first, last, some, all) (inl (from, to, is)) = all j (omega (arith, first, from)) (omega (arith, last, to)) ∙ is
   said (x ∷ []) k j d e (inr none) = absurd none
   said (x ∷ y ∷ ys) k j d (first, some, all, other, rest) (inl (from, to, is)) = all j (omega (arith, first, from)) to ∙ is
@@ -27,6 +28,7 @@ module _ (f : ℕ → Doing) (n : ℕ) where
 
   -- what is done in a state, one of the stretches says
   says : (xs : List Stretch) (k j : ℕ) (d : Doing) → AreExact f n k xs → k ≤ j → j ≤ n → f j ≡ d → Says xs j d
+  says [] k j d e from to is = absurd e
   says (x ∷ []) k j d (first, last, some, all) from to is = inl (omega (arith, first, from), omega (arith, last, to), sym (all j from to) ∙ is)
   says (x ∷ y ∷ ys) k j d (first, some, all, other, rest) from to is = elim (cases_Bool (nat_le j x.last)) [
     | inl within ↦

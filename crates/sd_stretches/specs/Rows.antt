@@ -1,6 +1,6 @@
 -- The stretches of one thread, from its turns, and the levels of its priority, from its ranks.
 -- Source: this project's own.
-use Rattle.std.specs.Prelude.{ℕ, ◌+◌, ◌-◌, ◌==◌, List, [], ◌∷◌, filter, Option, Some, None}
+use Rattle.std.specs.Prelude.{ℕ, ◌-◌, ◌==◌, List, [], ◌∷◌, filter, Option, Some, None}
 use Rattle.sd_stretches.specs.declared.changes.Turn.{Turn}
 use Rattle.sd_stretches.specs.declared.changes.Rank.{Rank}
 use Rattle.sd_stretches.specs.declared.rows.Stretch.{Stretch}

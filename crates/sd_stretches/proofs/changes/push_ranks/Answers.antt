@@ -1,7 +1,5 @@
-use Rattle.std.proofs.Common.{ℕ, List, ◌++◌, append_assoc, sym, ap, ◌∙◌, arith}
+use Rattle.std.proofs.Common.{arith}
 use Rattle.std.specs.Prelude.{slice_get}
-use Rattle.std.specs.List.{flat_map, range_with_len}
-use Rattle.sd_stretches.specs.declared.changes.Rank.{Rank}
 use Rattle.sd_stretches.specs.Changes.{rank_if}
 use Rattle.sd_stretches.proofs.RangeLemmas.{range_pushed}
 use Rattle.sd_stretches.proofs.changes.push_ranks.Goals as goal

@@ -1,8 +1,7 @@
-use Rattle.std.proofs.Common.{List, ◌+◌, [], ◌∷◌, ◌++◌, refl, ap, sym, ◌∙◌, arith, rules}
-use Rattle.std.specs.Prelude.{slice_get}
+use Rattle.std.proofs.Common.{[], ◌∷◌, ◌++◌, refl, ap, sym, ◌∙◌, arith}
 use Rattle.std.proofs.lemmas.Option.{slice_get_within}
 use Rattle.sd_stretches.specs.declared.rows.Level.{Level}
-use Rattle.sd_stretches.specs.Rows.{level_to, levels, levels_of}
+use Rattle.sd_stretches.specs.Rows.{levels, levels_of}
 use Rattle.sd_stretches.proofs.RowLemmas.{levels_more, levels_all}
 use Rattle.sd_stretches.proofs.rows.levels.Goals as goal
 

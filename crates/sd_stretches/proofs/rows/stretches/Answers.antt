@@ -1,8 +1,7 @@
-use Rattle.std.proofs.Common.{List, ◌+◌, [], ◌∷◌, ◌++◌, refl, ap, sym, ◌∙◌, arith, rules}
-use Rattle.std.specs.Prelude.{slice_get}
+use Rattle.std.proofs.Common.{[], ◌∷◌, ◌++◌, refl, ap, sym, ◌∙◌, arith}
 use Rattle.std.proofs.lemmas.Option.{slice_get_within}
 use Rattle.sd_stretches.specs.declared.rows.Stretch.{Stretch}
-use Rattle.sd_stretches.specs.Rows.{stretch_to, stretches, stretches_of}
+use Rattle.sd_stretches.specs.Rows.{stretches, stretches_of}
 use Rattle.sd_stretches.proofs.RowLemmas.{found_more, found_all}
 use Rattle.sd_stretches.proofs.rows.stretches.Goals as goal
 

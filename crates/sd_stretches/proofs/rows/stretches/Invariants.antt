@@ -1,4 +1,4 @@
-use Rattle.std.proofs.Common.{◌≡◌, ◌+◌, ◌-◌, ◌≤◌, ◌++◌, length, drop}
+use Rattle.std.proofs.Common.{◌≡◌, ◌-◌, ◌≤◌, ◌++◌, length, drop}
 use Rattle.sd_stretches.specs.Rows.{stretches_of}
 use Rattle.sd_stretches.proofs.rows.stretches.Given as goal
 

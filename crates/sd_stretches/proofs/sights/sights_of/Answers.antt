@@ -1,5 +1,4 @@
-use Rattle.std.proofs.Common.{ℕ, List, [], ◌∷◌, ◌++◌, take, map, sym, ap, ◌∙◌}
-use Rattle.sd_machine.specs.declared.states.ThreadState.{ThreadState}
+use Rattle.std.proofs.Common.{List, [], ◌∷◌, ◌++◌, take, map, sym, ap, ◌∙◌}
 use Rattle.sd_stretches.specs.declared.sights.Sight.{Sight}
 use Rattle.sd_stretches.specs.Sights.{sight_of}
 use Rattle.sd_stretches.proofs.RangeLemmas.{map_take_more}

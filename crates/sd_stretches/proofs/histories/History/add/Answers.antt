@@ -1,4 +1,3 @@
-use Rattle.std.proofs.Common.{◌+◌, ap, ◌∙◌}
 use Rattle.sd_stretches.proofs.HistoryLemmas.{history_more}
 use Rattle.sd_stretches.proofs.histories.History.add.Goals as goal
 

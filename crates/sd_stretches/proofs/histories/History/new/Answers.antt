@@ -1,7 +1,3 @@
-use Rattle.std.proofs.Common.{List, ◌++◌, ap, ◌∙◌}
-use Rattle.sd_stretches.specs.declared.changes.Turn.{Turn}
-use Rattle.sd_stretches.specs.declared.changes.Rank.{Rank}
-use Rattle.sd_stretches.specs.declared.changes.Load.{Load}
 use Rattle.sd_stretches.proofs.HistoryLemmas.{history_none}
 use Rattle.sd_stretches.proofs.histories.History.new.Goals as goal
 
