@@ -2,9 +2,11 @@
 -- Source: this project's own.
 use Rattle.std.specs.Prelude.{ℕ, Bool, true, false, not, ◌||◌, nat_lt, List, [], ◌++◌, codes, decimal, Option, Some, None, if◌then◌else◌}
 use Rattle.sd_types.specs.declared.works.Work.{Work}
-use Rattle.sd_machine.specs.Texts.{lock_name, thread_name}
+use Rattle.sd_machine.specs.Texts.{thread_name}
+use Rattle.sd_stretches.specs.declared.sights.Doing.TheVariants.{Waiting}
 use Rattle.sd_stretches.specs.declared.changes.HandOver.{HandOver}
 use Rattle.sd_stretches.specs.declared.rows.Level.{Level}
+use Rattle.sd_labels.specs.Doings.{doing_text}
 use Rattle.sd_timeline.specs.declared.frames.Frame.{Frame}
 use Rattle.sd_timeline.specs.declared.frames.Row.TheVariants.{Thread}
 use Rattle.sd_timeline.specs.Frames.{above, base, beside, column, floor, inside, row_of, top, width}
@@ -20,7 +22,7 @@ level_text f t x =
 
 -- who waits for what
 unfoldable pub waiter_text : Work → HandOver → ℕ → List ℕ
-waiter_text w x waiter = (codes "entry " ++ decimal x.entry) ++ codes ": " ++ thread_name w waiter ++ codes " waits for " ++ lock_name w x.lock.0
+waiter_text w x waiter = (codes "entry " ++ decimal x.entry) ++ codes ": " ++ thread_name w waiter ++ codes " " ++ doing_text w (Waiting x.lock)
 
 unfoldable pub hand_title : Work → HandOver → ℕ → List ℕ
 hand_title w x waiter = waiter_text w x waiter ++ codes ", so " ++ thread_name w x.owner.0 ++ (codes " has " ++ decimal x.priority)

@@ -2,15 +2,14 @@
 
 ghost use Rattle.std.specs.Prelude.{◌≡◌, ◌+◌, ◌++◌, ◌<◌, ◌^◌, OnOk, codes, decimal, flat_map};
 ghost use Rattle.std.specs.List.{range_with_len};
-ghost use Rattle.sd_machine.specs.Texts.{thread_name};
 ghost use Rattle.sd_timeline.specs.Head.{arrow, arrow_key, axis, cpu_head, dark_colours, head, heading, inherited_key, key, keys, letters, light_colours, lines, mark, mark_if, measures, more_keys, opened, own_key, page, priority_keys, size, small_letters, start, style, thread_head, ticks_text, view_box};
 
 use crate::frames::{Frame, Row};
 use crate::pieces::{
-    put_attribute, put_bar_end, put_bar_start, put_counted, put_label_end, put_label_start,
-    put_line, put_number_label, put_word_label,
+    put_attribute, put_bar_end, put_bar_start, put_label_end, put_label_start, put_line,
+    put_number_label, put_word_label,
 };
-use sd_event::put_thread_name;
+use sd_labels::{put_counted, thread_name};
 use sd_types::Work;
 use std::alloc::AllocError;
 
@@ -306,7 +305,7 @@ pub(crate) fn put_thread_head(
     ensures { OnOk result (out.new.items ≡ out.old.items ++ thread_head work.now frame t) }
 {
     put_label_start(b"name", 142, frame.base(Row::Thread(t)), out)?;
-    put_thread_name(work, usize::from(t), out)?;
+    out.extend_from_slice(thread_name(work, usize::from(t)))?;
     put_label_end(out)
 }
 

@@ -1,13 +1,12 @@
 //! The priorities above the bars, the lines along which priority is handed on, and the marks of deadlocks.
 
-ghost use Rattle.std.specs.Prelude.{◌≡◌, ◌++◌, OnOk, codes, decimal, flat_map};
-ghost use Rattle.sd_machine.specs.Texts.{lock_name, thread_name};
+ghost use Rattle.std.specs.Prelude.{◌≡◌, ◌++◌, OnOk, flat_map};
 ghost use Rattle.sd_timeline.specs.Labels.{hand_path, hand_start, hand_text, heights, hand_title, level_text, mark_text, path_end, path_start, waiter_text};
 
 use crate::frames::{Frame, Row};
-use crate::pieces::{put_counted, put_number_label, put_word_label};
-use sd_event::{put_lock_name, put_thread_name};
-use sd_stretches::{HandOver, Level};
+use crate::pieces::{put_number_label, put_word_label};
+use sd_labels::{put_counted, put_doing, thread_name};
+use sd_stretches::{Doing, HandOver, Level};
 use sd_types::Work;
 use std::alloc::AllocError;
 
@@ -58,9 +57,9 @@ fn put_waiter(work: &Work, x: &HandOver, waiter: usize, out: &mut Vec<u8>) -> Re
 {
     put_counted(b"entry ", x.entry, out)?;
     out.extend_from_slice(b": ")?;
-    put_thread_name(work, waiter, out)?;
-    out.extend_from_slice(b" waits for ")?;
-    put_lock_name(work, x.lock, out)
+    out.extend_from_slice(thread_name(work, waiter))?;
+    out.extend_from_slice(b" ")?;
+    put_doing(work, Doing::Waiting(x.lock), out)
 }
 
 // What is shown on a line.
@@ -75,7 +74,7 @@ fn put_hand_title(
 {
     put_waiter(work, x, waiter, out)?;
     out.extend_from_slice(b", so ")?;
-    put_thread_name(work, x.owner.0 as usize, out)?;
+    out.extend_from_slice(thread_name(work, x.owner.0 as usize))?;
     put_counted(b" has ", u64::from(x.priority), out)
 }
 
