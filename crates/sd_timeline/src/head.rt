@@ -44,7 +44,7 @@ fn put_dark_colours(out: &mut Vec<u8>) -> Result<(), AllocError>
     ensures { OnOk result (out.new.items ≡ out.old.items ++ dark_colours) }
 {
     out.extend_from_slice(
-        b".run{fill:#173f5f;stroke:#fff}\n.wait{fill:#c8372d}\n.sleep{fill:#6fa8a0}\n",
+        b".run{fill:#0f2c47;stroke:#fff}\n.wait{fill:#cd463c}\n.sleep{fill:#649c94}\n",
     )
 }
 
@@ -53,7 +53,7 @@ fn put_light_colours(out: &mut Vec<u8>) -> Result<(), AllocError>
     ensures { OnOk result (out.new.items ≡ out.old.items ++ light_colours) }
 {
     out.extend_from_slice(
-        b".ready{fill:#f6b73c}\n.nap{fill:#dfdfee}\n.end{fill:#fff}\n.page{fill:#fff;stroke:none}\n",
+        b".ready{fill:#f6b73c}\n.nap{fill:#dfdfee}\n.end{fill:#fff;stroke:#aaa}\n.page{fill:#fff;stroke:none}\n",
     )
 }
 
@@ -67,12 +67,13 @@ fn put_letters(out: &mut Vec<u8>) -> Result<(), AllocError>
     )
 }
 
+// The priorities stand on a white edge, so that they can be read where an arrow passes behind them.
 #[tactic(auto, unfolding(crate::specs::Head::small_letters))]
 fn put_small_letters(out: &mut Vec<u8>) -> Result<(), AllocError>
     ensures { OnOk result (out.new.items ≡ out.old.items ++ small_letters) }
 {
     out.extend_from_slice(
-        b".on,.in,.own,.inherited{font-size:10px}\n.on{fill:#fff}\n.inherited,.dead{font-weight:bold;fill:#a3160c}\n",
+        b".on,.in,.own,.inherited{font-size:10px}\n.on{fill:#fff}\n.own,.inherited{paint-order:stroke;stroke:#fff;stroke-width:3px}\n.inherited,.dead{font-weight:bold;fill:#a3160c}\n",
     )
 }
 
