@@ -1,4 +1,4 @@
--- Which bytes mean only themselves in a JSON string, and in a text and an attribute of XML.
+-- Which bytes mean only themselves in a JSON string, and in a text and an attribute of XML, and which whole texts are made of.
 -- Source: RFC 8259, section 7 (strings); XML 1.0, section 2.4 (character data and markup).
 use Rattle.std.specs.Prelude.{ℕ, Bool, not, ◌&&◌, ◌||◌, ◌==◌, nat_le, List, IsTrue}
 use Rattle.std.specs.List.{list_all}
@@ -17,6 +17,13 @@ is_plain_byte b = nat_le 32 b && nat_le b 126 && not (is_mark b)
 
 abbrev pub IsPlain : List ℕ → Type 0
 IsPlain text = IsTrue (list_all is_plain_byte text)
+
+-- a newline, or printable ASCII but the backslash
+abbrev pub is_text_byte : ℕ → Bool
+is_text_byte b = b == 10 || (nat_le 32 b && nat_le b 126 && not (b == 92))
+
+abbrev pub IsText : List ℕ → Type 0
+IsText text = IsTrue (list_all is_text_byte text)
 
 -- all that pictures and traces take from a workload
 pub record HasPlainNames (w : Work) : Type 0 where
