@@ -15,7 +15,7 @@ use Rattle.sd_labels.proofs.PlainLemmas.{thread-plain, lock-plain, chan-plain, d
 plain-byte : (b : ℕ) → is_plain_byte b ≡ true → is_text_byte b ≡ true
 plain-byte b h = grind (arith, nat_tests)
 
-plain-text : (bs : List ℕ) → IsPlain bs → IsText bs
+pub plain-text : (bs : List ℕ) → IsPlain bs → IsText bs
 plain-text [] h = refl
 plain-text (b ∷ bs) h =
     let p = both (is_plain_byte b) (list_all is_plain_byte bs) h in

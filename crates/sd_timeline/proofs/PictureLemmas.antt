@@ -15,8 +15,9 @@ use Rattle.sd_stretches.specs.declared.histories.History.{History}
 use Rattle.sd_stretches.specs.declared.rows.Level.{Level}
 use Rattle.sd_stretches.specs.declared.rows.Stretch.{Stretch}
 use Rattle.sd_stretches.specs.Rows.{stretches, levels}
-use Rattle.sd_labels.specs.Plain.{is_text_byte, IsText}
-use Rattle.sd_labels.proofs.TextLemmas.{flat-text, either-text, decimal-text, thread-text, lock-text, chan-text, doing-text}
+use Rattle.sd_labels.specs.Plain.{is_plain_byte, is_text_byte, IsPlain, IsText}
+use Rattle.sd_labels.proofs.PlainLemmas.{thread-plain, lock-plain, doing-plain, decimal-plain}
+use Rattle.sd_labels.proofs.TextLemmas.{plain-text, flat-text, either-text, decimal-text, thread-text, lock-text, chan-text}
 use Rattle.sd_timeline.specs.declared.frames.Frame.{Frame}
 use Rattle.sd_timeline.specs.declared.frames.Row.{Row}
 use Rattle.sd_timeline.specs.declared.frames.Row.TheVariants.{Cpu, Thread}
@@ -26,6 +27,7 @@ use Rattle.sd_timeline.specs.Bars.{bar_text, between, cpu_word, doing_class, fit
 use Rattle.sd_timeline.specs.Labels.{hand_from, hand_path, hand_rows, hand_start, hand_text, hand_title, inherited_level, level_text, mark_at, mark_text, own_level, path_end, path_start, waiter_text}
 use Rattle.sd_timeline.specs.Head.{arrow, arrow_key, axis, cpu_head, dark_colours, head, heading, inherited_key, key, keys, letters, light_colours, lines, mark, mark_if, measures, more_keys, opened, own_key, page, priority_keys, size, small_letters, start, style, thread_head, ticks_text, view_box}
 use Rattle.sd_timeline.specs.Picture.{marks_text, own_row, row_text, thread_text, timeline_text}
+use Rattle.sd_timeline.specs.Plain.{HasPlainTitles}
 
 -- ---- pieces
 
@@ -64,9 +66,12 @@ class-text (Asleep k) = refl
 class-text Napping = refl
 class-text Ended = refl
 
-title-text : (w : Work) (x : Stretch) → IsText (stretch_title w x)
+bar-title : (w : Work) (x : Stretch) → IsPlain (stretch_title w x)
 unfolding stretch_title place_text times_text between
-title-text w x = simp (list_all-append is_text_byte, thread-text w x.thread, doing-text w x.doing, decimal-text)
+bar-title w x = simp (list_all-append is_plain_byte, thread-plain w x.thread, doing-plain w x.doing, decimal-plain)
+
+title-text : (w : Work) (x : Stretch) → IsText (stretch_title w x)
+title-text w x = plain-text (stretch_title w x) (bar-title w x)
 
 word-text : (class : List ℕ) (x y width : ℕ) (word : List ℕ) → IsText class → IsText word → IsText (word_text class x y width word)
 word-text class x y width word p q = either-text (fits (length word) width) (word_label class x y word) [] (word-label-text class x y word p q) refl
@@ -125,10 +130,16 @@ level-text f t x =
     either-text (ltb (width f x.from x.to) 20) [] (if x.inherited then inherited_level f t x else own_level f t x) refl
     (either-text x.inherited (inherited_level f t x) (own_level f t x) (inherited-level-text f t x) (own-level-text f t x))
 
-hand-title-text : (w : Work) (x : HandOver) (waiter : ℕ) → IsText (hand_title w x waiter)
+arrow-title : (w : Work) (x : HandOver) (waiter : ℕ) → IsPlain (hand_title w x waiter)
 unfolding hand_title waiter_text
-hand-title-text w x waiter =
-    simp (list_all-append is_text_byte, thread-text w waiter, lock-text w x.lock.0, thread-text w x.owner.0, decimal-text)
+arrow-title w x waiter =
+    simp (list_all-append is_plain_byte, thread-plain w waiter, lock-plain w x.lock.0, thread-plain w x.owner.0, decimal-plain)
+
+pub plain_titles : (w : Work) → HasPlainTitles w
+plain_titles w = record { bars = bar-title w; arrows = arrow-title w }
+
+hand-title-text : (w : Work) (x : HandOver) (waiter : ℕ) → IsText (hand_title w x waiter)
+hand-title-text w x waiter = plain-text (hand_title w x waiter) (arrow-title w x waiter)
 
 hand-start-text : (f : Frame) (tick waiter owner : ℕ) → IsText (hand_start f tick waiter owner)
 unfolding hand_start path_start

@@ -13,5 +13,5 @@ mod picture;
 mod pieces;
 
 pub use frames::Frame;
-pub use laws::timelines_are_plain;
+pub use laws::{timelines_are_plain, titles_need_no_escaping};
 pub use picture::write_timeline;
