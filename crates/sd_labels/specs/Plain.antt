@@ -7,20 +7,24 @@ use Rattle.sd_machine.specs.Texts.{chan_name, lock_name, thread_name}
 use Rattle.sd_stretches.specs.declared.sights.Doing.{Doing}
 use Rattle.sd_labels.specs.Doings.{doing_text}
 
+-- printable ASCII
+abbrev pub is_printable : ℕ → Bool
+is_printable b = nat_le 32 b && nat_le b 126
+
 -- " & ' < > and the backslash
 abbrev pub is_mark : ℕ → Bool
 is_mark b = b == 34 || b == 38 || b == 39 || b == 60 || b == 62 || b == 92
 
--- printable ASCII without these
+-- printable, and none of these
 abbrev pub is_plain_byte : ℕ → Bool
-is_plain_byte b = nat_le 32 b && nat_le b 126 && not (is_mark b)
+is_plain_byte b = is_printable b && not (is_mark b)
 
 abbrev pub IsPlain : List ℕ → Type 0
 IsPlain text = IsTrue (list_all is_plain_byte text)
 
--- a newline, or printable ASCII but the backslash
+-- a newline, or printable, but no backslash
 abbrev pub is_text_byte : ℕ → Bool
-is_text_byte b = b == 10 || (nat_le 32 b && nat_le b 126 && not (b == 92))
+is_text_byte b = b == 10 || (is_printable b && not (b == 92))
 
 abbrev pub IsText : List ℕ → Type 0
 IsText text = IsTrue (list_all is_text_byte text)
