@@ -8,6 +8,7 @@ use Rattle.sd_machine.specs.Texts.{chan_name, lock_name, thread_name}
 use Rattle.sd_stretches.specs.declared.sights.Doing.{Doing}
 use Rattle.sd_stretches.specs.declared.sights.Doing.TheVariants.{Running, Runnable, Waiting, Asleep, Napping, Ended}
 use Rattle.sd_stretches.specs.declared.rows.Stretch.{Stretch}
+use Rattle.sd_labels.specs.Doings.{doing_text}
 use Rattle.sd_timeline.specs.declared.frames.Frame.{Frame}
 use Rattle.sd_timeline.specs.declared.frames.Row.{Row}
 use Rattle.sd_timeline.specs.declared.frames.Row.TheVariants.{Cpu, Thread}
@@ -21,14 +22,6 @@ doing_class (Waiting l) = codes "wait"
 doing_class (Asleep k) = codes "sleep"
 doing_class Napping = codes "nap"
 doing_class Ended = codes "end"
-
-abbrev pub doing_text : Work → Doing → List ℕ
-doing_text w (Running c) = codes "runs on processor " ++ decimal c.0
-doing_text w Runnable = codes "runnable"
-doing_text w (Waiting l) = codes "waits for " ++ lock_name w l.0
-doing_text w (Asleep k) = codes "asleep on " ++ chan_name w k.0
-doing_text w Napping = codes "naps"
-doing_text w Ended = codes "has ended"
 
 -- from one number to another
 unfoldable pub between : List ℕ → ℕ → ℕ → List ℕ

@@ -41,16 +41,16 @@ beside f tick = 155 + scaled f (offset f tick)
 -- the top of the bars of a row, and the base line of the texts on them
 abbrev pub top : Frame → Row → ℕ
 top f (Cpu c) = 106 + 24 * c
-top f (Thread t) = 134 + 24 * f.cpus + 36 * t
+top f (Thread t) = 134 + 24 * f.cpus + 40 * t
 
 abbrev pub base : Frame → Row → ℕ
 base f (Cpu c) = 117 + 24 * c
-base f (Thread t) = 145 + 24 * f.cpus + 36 * t
+base f (Thread t) = 145 + 24 * f.cpus + 40 * t
 
 -- the lower edge of the bars of a row
 abbrev pub floor : Frame → Row → ℕ
 floor f (Cpu c) = 120 + 24 * c
-floor f (Thread t) = 148 + 24 * f.cpus + 36 * t
+floor f (Thread t) = 148 + 24 * f.cpus + 40 * t
 
 -- where the tick lies that is so many behind the first one
 abbrev pub after : Frame → ℕ → ℕ
@@ -58,11 +58,11 @@ after f ticks = 150 + scaled f ticks
 
 -- the base line of the priorities of a thread, above its bars
 abbrev pub above : Frame → ℕ → ℕ
-above f t = 130 + 24 * f.cpus + 36 * t
+above f t = 130 + 24 * f.cpus + 40 * t
 
 -- the lower edge of the last row, and the width of the picture
 abbrev pub bottom : Frame → ℕ
-bottom f = 124 + 24 * f.cpus + 36 * f.threads
+bottom f = 124 + 24 * f.cpus + 40 * f.threads
 
 abbrev pub total_width : Frame → ℕ
 total_width f = max (240 + scaled f (shown f)) 860

@@ -23,17 +23,18 @@ opened = codes "<svg xmlns=\"http://www.w3.org/2000/svg\""
 
 -- the colours of what threads do, which differ in grey too
 unfoldable pub dark_colours : List ℕ
-dark_colours = codes ".run{fill:#173f5f;stroke:#fff}\n.wait{fill:#c8372d}\n.sleep{fill:#6fa8a0}\n"
+dark_colours = codes ".run{fill:#0f2c47;stroke:#fff}\n.wait{fill:#cd463c}\n.sleep{fill:#649c94}\n"
 
 unfoldable pub light_colours : List ℕ
-light_colours = codes ".ready{fill:#f6b73c}\n.nap{fill:#dfdfee}\n.end{fill:#fff}\n.page{fill:#fff;stroke:none}\n"
+light_colours = codes ".ready{fill:#f6b73c}\n.nap{fill:#dfdfee}\n.end{fill:#fff;stroke:#aaa}\n.page{fill:#fff;stroke:none}\n"
 
 -- the letters and lines
 unfoldable pub letters : List ℕ
 letters = codes "text{font:11px sans-serif;fill:#000}\n.head{font-weight:bold}\n.name{text-anchor:end}\n.tick{text-anchor:middle}\n"
 
+-- the priorities stand on a white edge, so that they can be read where an arrow passes behind them
 unfoldable pub small_letters : List ℕ
-small_letters = codes ".on,.in,.own,.inherited{font-size:10px}\n.on{fill:#fff}\n.inherited,.dead{font-weight:bold;fill:#a3160c}\n"
+small_letters = codes ".on,.in,.own,.inherited{font-size:10px}\n.on{fill:#fff}\n.own,.inherited{paint-order:stroke;stroke:#fff;stroke-width:3px}\n.inherited,.dead{font-weight:bold;fill:#a3160c}\n"
 
 unfoldable pub lines : List ℕ
 lines =

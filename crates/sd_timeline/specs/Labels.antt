@@ -1,26 +1,34 @@
 -- The priorities above the bars, the lines along which priority is handed on, and the marks of deadlocks.
 -- Source: this project's own.
-use Rattle.std.specs.Prelude.{ℕ, Bool, true, false, not, ◌||◌, nat_lt, List, [], ◌++◌, codes, decimal, Option, Some, None, if◌then◌else◌}
+use Rattle.std.specs.Prelude.{ℕ, ◌||◌, nat_lt, List, [], ◌++◌, codes, decimal, Option, Some, None, if◌then◌else◌}
 use Rattle.sd_types.specs.declared.works.Work.{Work}
-use Rattle.sd_machine.specs.Texts.{lock_name, thread_name}
+use Rattle.sd_machine.specs.Texts.{thread_name}
+use Rattle.sd_stretches.specs.declared.sights.Doing.TheVariants.{Waiting}
 use Rattle.sd_stretches.specs.declared.changes.HandOver.{HandOver}
 use Rattle.sd_stretches.specs.declared.rows.Level.{Level}
+use Rattle.sd_labels.specs.Doings.{doing_text}
 use Rattle.sd_timeline.specs.declared.frames.Frame.{Frame}
 use Rattle.sd_timeline.specs.declared.frames.Row.TheVariants.{Thread}
 use Rattle.sd_timeline.specs.Frames.{above, base, beside, column, floor, inside, row_of, top, width}
 use Rattle.sd_timeline.specs.Pieces.{word_label, number_label}
 
--- a priority where it changes, if it stays so long that there is room for it; a triangle tells that it is inherited
+abbrev pub own_level : Frame → ℕ → Level → List ℕ
+own_level f t x = number_label (codes "own") (beside f x.from) (above f t) [] x.priority
+
+-- a triangle tells that it is inherited
+abbrev pub inherited_level : Frame → ℕ → Level → List ℕ
+inherited_level f t x =
+    if nat_lt (width f x.from x.to) 30 then word_label (codes "inherited") (beside f x.from) (above f t) (codes "&#9650;")
+    else number_label (codes "inherited") (beside f x.from) (above f t) (codes "&#9650;") x.priority
+
+-- a priority where it changes, if it stays so long that there is room for it
 abbrev pub level_text : Frame → ℕ → Level → List ℕ
 level_text f t x =
-    if nat_lt (width f x.from x.to) 20 then []
-    else if not x.inherited then number_label (codes "own") (beside f x.from) (above f t) [] x.priority
-    else if nat_lt (width f x.from x.to) 30 then word_label (codes "inherited") (beside f x.from) (above f t) (codes "&#9650;")
-    else number_label (codes "inherited") (beside f x.from) (above f t) (codes "&#9650;") x.priority
+    if nat_lt (width f x.from x.to) 20 then [] else if x.inherited then inherited_level f t x else own_level f t x
 
 -- who waits for what
 unfoldable pub waiter_text : Work → HandOver → ℕ → List ℕ
-waiter_text w x waiter = (codes "entry " ++ decimal x.entry) ++ codes ": " ++ thread_name w waiter ++ codes " waits for " ++ lock_name w x.lock.0
+waiter_text w x waiter = (codes "entry " ++ decimal x.entry) ++ codes ": " ++ thread_name w waiter ++ codes " " ++ doing_text w (Waiting x.lock)
 
 unfoldable pub hand_title : Work → HandOver → ℕ → List ℕ
 hand_title w x waiter = waiter_text w x waiter ++ codes ", so " ++ thread_name w x.owner.0 ++ (codes " has " ++ decimal x.priority)

@@ -4,3 +4,4 @@ pub mod Bars
 pub mod Labels
 pub mod Head
 pub mod Picture
+pub mod Plain

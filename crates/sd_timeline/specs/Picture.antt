@@ -1,6 +1,6 @@
 -- The whole picture, from the history and the last state of a run.
 -- Source: this project's own.
-use Rattle.std.specs.Prelude.{ℕ, nat_lt, List, [], ◌++◌, length, map, codes, Option, Some, None, if◌then◌else◌}
+use Rattle.std.specs.Prelude.{ℕ, nat_lt, List, [], ◌++◌, length, codes, Option, Some, None, if◌then◌else◌}
 use Rattle.std.specs.List.{flat_map, range_with_len}
 use Rattle.sd_types.specs.declared.works.Work.{Work}
 use Rattle.sd_machine.specs.declared.states.State.{State}
@@ -34,8 +34,8 @@ thread_text w f h t =
 abbrev pub marks_text : Work → Frame → State → List ℕ
 marks_text w f s = if nat_lt f.to w.limit then [] else flat_map (flat_map (mark_text f)) (cycles_of s)
 
--- the picture
+-- the picture: arrows lie under the bars and the priorities
 unfoldable pub timeline_text : Work → Frame → History → State → List ℕ
 timeline_text w f h s =
-    head w f ++ flat_map (thread_text w f h) (range_with_len 0 (length w.threads)) ++ flat_map (hand_text w f) h.hand_overs.items
+    head w f ++ flat_map (hand_text w f) h.hand_overs.items ++ flat_map (thread_text w f h) (range_with_len 0 (length w.threads))
     ++ marks_text w f s ++ codes "</svg>\n"

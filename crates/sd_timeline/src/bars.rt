@@ -1,14 +1,13 @@
 //! The bars of the stretches of threads.
 
-ghost use Rattle.std.specs.Prelude.{◌≡◌, ◌++◌, OnOk, codes, decimal, flat_map};
-ghost use Rattle.sd_machine.specs.Texts.{chan_name, lock_name, thread_name};
-ghost use Rattle.sd_timeline.specs.Bars.{bar_text, between, cpu_word, doing_class, doing_text, fits, on_bar, place_text, run_bar, stretch_bar, stretch_title, times_text, word_text};
+ghost use Rattle.std.specs.Prelude.{◌≡◌, ◌++◌, OnOk, flat_map};
+ghost use Rattle.sd_timeline.specs.Bars.{bar_text, between, cpu_word, doing_class, fits, on_bar, place_text, run_bar, stretch_bar, stretch_title, times_text, word_text};
 
 use crate::frames::{Frame, Row};
-use crate::pieces::{put_bar_end, put_bar_start, put_counted, put_number_label, put_word_label};
-use sd_event::{put_chan_name, put_lock_name, put_thread_name};
+use crate::pieces::{put_bar_end, put_bar_start, put_number_label, put_word_label};
+use sd_labels::{chan_name, lock_name, put_counted, put_doing, thread_name};
 use sd_stretches::{Doing, Stretch};
-use sd_types::{ChanId, CpuId, LockId, Work};
+use sd_types::{CpuId, Work};
 use std::alloc::AllocError;
 
 fn doing_class(doing: Doing) -> &'static [u8]
@@ -21,34 +20,6 @@ fn doing_class(doing: Doing) -> &'static [u8]
         Doing::Asleep(_) => b"sleep",
         Doing::Napping => b"nap",
         Doing::Ended => b"end",
-    }
-}
-
-fn put_lock(work: &Work, l: LockId, out: &mut Vec<u8>) -> Result<(), AllocError>
-    ensures { OnOk result (out.new.items ≡ out.old.items ++ (codes "waits for " ++ lock_name work.now l.0)) }
-{
-    out.extend_from_slice(b"waits for ")?;
-    put_lock_name(work, l, out)
-}
-
-fn put_chan(work: &Work, k: ChanId, out: &mut Vec<u8>) -> Result<(), AllocError>
-    ensures { OnOk result (out.new.items ≡ out.old.items ++ (codes "asleep on " ++ chan_name work.now k.0)) }
-{
-    out.extend_from_slice(b"asleep on ")?;
-    put_chan_name(work, k, out)
-}
-
-/// What a thread does, in words.
-pub(crate) fn put_doing(work: &Work, doing: Doing, out: &mut Vec<u8>) -> Result<(), AllocError>
-    ensures { OnOk result (out.new.items ≡ out.old.items ++ doing_text work.now doing) }
-{
-    match doing {
-        Doing::Running(c) => put_counted(b"runs on processor ", u64::from(c.0), out),
-        Doing::Runnable => out.extend_from_slice(b"runnable"),
-        Doing::Waiting(l) => put_lock(work, l, out),
-        Doing::Asleep(k) => put_chan(work, k, out),
-        Doing::Napping => out.extend_from_slice(b"naps"),
-        Doing::Ended => out.extend_from_slice(b"has ended"),
     }
 }
 
@@ -84,7 +55,7 @@ fn put_place(x: &Stretch, out: &mut Vec<u8>) -> Result<(), AllocError>
 fn put_title(work: &Work, x: &Stretch, out: &mut Vec<u8>) -> Result<(), AllocError>
     ensures { OnOk result (out.new.items ≡ out.old.items ++ stretch_title work.now x.now) }
 {
-    put_thread_name(work, x.thread, out)?;
+    out.extend_from_slice(thread_name(work, x.thread))?;
     out.extend_from_slice(b": ")?;
     put_doing(work, x.doing, out)?;
     put_place(x, out)
@@ -126,33 +97,6 @@ fn put_cpu(x: u64, y: u64, width: u64, c: CpuId, out: &mut Vec<u8>) -> Result<()
     }
 }
 
-fn thread_bytes(work: &Work, t: usize) -> &[u8]
-    ensures { result.now ≡ thread_name work.now t }
-{
-    match work.threads.items().get(t) {
-        Some(thread) => thread.name.bytes(),
-        None => b"",
-    }
-}
-
-fn lock_bytes(work: &Work, l: LockId) -> &[u8]
-    ensures { result.now ≡ lock_name work.now l.0 }
-{
-    match work.locks.items().get(l.0 as usize) {
-        Some(lock) => lock.0.bytes(),
-        None => b"",
-    }
-}
-
-fn chan_bytes(work: &Work, k: ChanId) -> &[u8]
-    ensures { result.now ≡ chan_name work.now k.0 }
-{
-    match work.chans.items().get(k.0 as usize) {
-        Some(chan) => chan.0.bytes(),
-        None => b"",
-    }
-}
-
 // What stands on a bar: in the row of a processor the thread, in the row of a thread the processor, lock or channel.
 fn put_on_bar(
     work: &Work,
@@ -167,14 +111,14 @@ fn put_on_bar(
     let y = frame.base(row);
     let width = frame.width(x.from, x.to);
     match (row, x.doing) {
-        (Row::Cpu(_), _) => put_word(b"on", column, y, width, thread_bytes(work, x.thread), out),
+        (Row::Cpu(_), _) => put_word(b"on", column, y, width, thread_name(work, x.thread), out),
         (Row::Thread(_), Doing::Running(c)) => put_cpu(column, y, width, c, out),
         (Row::Thread(_), Doing::Waiting(l)) => put_word(
             b"on",
             column,
             y,
             width,
-            lock_bytes(work, l),
+            lock_name(work, l),
             out,
         ),
         (Row::Thread(_), Doing::Asleep(k)) => put_word(
@@ -182,7 +126,7 @@ fn put_on_bar(
             column,
             y,
             width,
-            chan_bytes(work, k),
+            chan_name(work, k),
             out,
         ),
         _ => Ok(()),

@@ -102,7 +102,7 @@ impl Frame {
     {
         match row {
             Row::Cpu(c) => 106 + 24 * u64::from(c),
-            Row::Thread(t) => 134 + 24 * u64::from(self.cpus) + 36 * u64::from(t),
+            Row::Thread(t) => 134 + 24 * u64::from(self.cpus) + 40 * u64::from(t),
         }
     }
 
@@ -112,7 +112,7 @@ impl Frame {
     {
         match row {
             Row::Cpu(c) => 117 + 24 * u64::from(c),
-            Row::Thread(t) => 145 + 24 * u64::from(self.cpus) + 36 * u64::from(t),
+            Row::Thread(t) => 145 + 24 * u64::from(self.cpus) + 40 * u64::from(t),
         }
     }
 
@@ -122,7 +122,7 @@ impl Frame {
     {
         match row {
             Row::Cpu(c) => 120 + 24 * u64::from(c),
-            Row::Thread(t) => 148 + 24 * u64::from(self.cpus) + 36 * u64::from(t),
+            Row::Thread(t) => 148 + 24 * u64::from(self.cpus) + 40 * u64::from(t),
         }
     }
 
@@ -137,7 +137,7 @@ impl Frame {
     pub(crate) fn above(self, t: u16) -> u64
         ensures { result ≡ above self t }
     {
-        130 + 24 * u64::from(self.cpus) + 36 * u64::from(t)
+        130 + 24 * u64::from(self.cpus) + 40 * u64::from(t)
     }
 
     /// The lower edge of the last row.
@@ -145,7 +145,7 @@ impl Frame {
         ensures value { result ≡ bottom self }
         ensures bound { result < 2 ^ 32 }
     {
-        124 + 24 * u64::from(self.cpus) + 36 * u64::from(self.threads)
+        124 + 24 * u64::from(self.cpus) + 40 * u64::from(self.threads)
     }
 
     /// The width of the picture.

@@ -2,15 +2,14 @@
 
 ghost use Rattle.std.specs.Prelude.{◌≡◌, ◌+◌, ◌++◌, ◌<◌, ◌^◌, OnOk, codes, decimal, flat_map};
 ghost use Rattle.std.specs.List.{range_with_len};
-ghost use Rattle.sd_machine.specs.Texts.{thread_name};
 ghost use Rattle.sd_timeline.specs.Head.{arrow, arrow_key, axis, cpu_head, dark_colours, head, heading, inherited_key, key, keys, letters, light_colours, lines, mark, mark_if, measures, more_keys, opened, own_key, page, priority_keys, size, small_letters, start, style, thread_head, ticks_text, view_box};
 
 use crate::frames::{Frame, Row};
 use crate::pieces::{
-    put_attribute, put_bar_end, put_bar_start, put_counted, put_label_end, put_label_start,
-    put_line, put_number_label, put_word_label,
+    put_attribute, put_bar_end, put_bar_start, put_label_end, put_label_start, put_line,
+    put_number_label, put_word_label,
 };
-use sd_event::put_thread_name;
+use sd_labels::{put_counted, thread_name};
 use sd_types::Work;
 use std::alloc::AllocError;
 
@@ -45,7 +44,7 @@ fn put_dark_colours(out: &mut Vec<u8>) -> Result<(), AllocError>
     ensures { OnOk result (out.new.items ≡ out.old.items ++ dark_colours) }
 {
     out.extend_from_slice(
-        b".run{fill:#173f5f;stroke:#fff}\n.wait{fill:#c8372d}\n.sleep{fill:#6fa8a0}\n",
+        b".run{fill:#0f2c47;stroke:#fff}\n.wait{fill:#cd463c}\n.sleep{fill:#649c94}\n",
     )
 }
 
@@ -54,7 +53,7 @@ fn put_light_colours(out: &mut Vec<u8>) -> Result<(), AllocError>
     ensures { OnOk result (out.new.items ≡ out.old.items ++ light_colours) }
 {
     out.extend_from_slice(
-        b".ready{fill:#f6b73c}\n.nap{fill:#dfdfee}\n.end{fill:#fff}\n.page{fill:#fff;stroke:none}\n",
+        b".ready{fill:#f6b73c}\n.nap{fill:#dfdfee}\n.end{fill:#fff;stroke:#aaa}\n.page{fill:#fff;stroke:none}\n",
     )
 }
 
@@ -68,12 +67,13 @@ fn put_letters(out: &mut Vec<u8>) -> Result<(), AllocError>
     )
 }
 
+// The priorities stand on a white edge, so that they can be read where an arrow passes behind them.
 #[tactic(auto, unfolding(crate::specs::Head::small_letters))]
 fn put_small_letters(out: &mut Vec<u8>) -> Result<(), AllocError>
     ensures { OnOk result (out.new.items ≡ out.old.items ++ small_letters) }
 {
     out.extend_from_slice(
-        b".on,.in,.own,.inherited{font-size:10px}\n.on{fill:#fff}\n.inherited,.dead{font-weight:bold;fill:#a3160c}\n",
+        b".on,.in,.own,.inherited{font-size:10px}\n.on{fill:#fff}\n.own,.inherited{paint-order:stroke;stroke:#fff;stroke-width:3px}\n.inherited,.dead{font-weight:bold;fill:#a3160c}\n",
     )
 }
 
@@ -306,7 +306,7 @@ pub(crate) fn put_thread_head(
     ensures { OnOk result (out.new.items ≡ out.old.items ++ thread_head work.now frame t) }
 {
     put_label_start(b"name", 142, frame.base(Row::Thread(t)), out)?;
-    put_thread_name(work, usize::from(t), out)?;
+    out.extend_from_slice(thread_name(work, usize::from(t)))?;
     put_label_end(out)
 }
 

@@ -1,28 +1,37 @@
 //! The priorities above the bars, the lines along which priority is handed on, and the marks of deadlocks.
 
-ghost use Rattle.std.specs.Prelude.{◌≡◌, ◌++◌, OnOk, codes, decimal, flat_map};
-ghost use Rattle.sd_machine.specs.Texts.{lock_name, thread_name};
-ghost use Rattle.sd_timeline.specs.Labels.{hand_path, hand_start, hand_text, heights, hand_title, level_text, mark_text, path_end, path_start, waiter_text};
+ghost use Rattle.std.specs.Prelude.{◌≡◌, ◌++◌, OnOk, flat_map};
+ghost use Rattle.sd_timeline.specs.Labels.{hand_path, hand_start, hand_text, heights, hand_title, inherited_level, level_text, mark_text, own_level, path_end, path_start, waiter_text};
 
 use crate::frames::{Frame, Row};
-use crate::pieces::{put_counted, put_number_label, put_word_label};
-use sd_event::{put_lock_name, put_thread_name};
-use sd_stretches::{HandOver, Level};
+use crate::pieces::{put_number_label, put_word_label};
+use sd_labels::{put_counted, put_doing, thread_name};
+use sd_stretches::{Doing, HandOver, Level};
 use sd_types::Work;
 use std::alloc::AllocError;
 
-// A priority where it changes, if it stays so long that there is room for it; a triangle tells that it is inherited.
-fn put_level(frame: Frame, t: u16, x: &Level, out: &mut Vec<u8>) -> Result<(), AllocError>
-    ensures { OnOk result (out.new.items ≡ out.old.items ++ level_text frame t x.now) }
+// A priority that is the thread's own.
+fn put_own_level(frame: Frame, t: u16, x: &Level, out: &mut Vec<u8>) -> Result<(), AllocError>
+    ensures { OnOk result (out.new.items ≡ out.old.items ++ own_level frame t x.now) }
 {
-    let width = frame.width(x.from, x.to);
+    let column = frame.beside(x.from);
+    put_number_label(
+        b"own",
+        column,
+        frame.above(t),
+        b"",
+        u64::from(x.priority),
+        out,
+    )
+}
+
+// A triangle tells that it is inherited.
+fn put_inherited_level(frame: Frame, t: u16, x: &Level, out: &mut Vec<u8>) -> Result<(), AllocError>
+    ensures { OnOk result (out.new.items ≡ out.old.items ++ inherited_level frame t x.now) }
+{
     let column = frame.beside(x.from);
     let y = frame.above(t);
-    if width < 20 {
-        Ok(())
-    } else if !x.inherited {
-        put_number_label(b"own", column, y, b"", u64::from(x.priority), out)
-    } else if width < 30 {
+    if frame.width(x.from, x.to) < 30 {
         put_word_label(b"inherited", column, y, b"&#9650;", out)
     } else {
         put_number_label(
@@ -33,6 +42,19 @@ fn put_level(frame: Frame, t: u16, x: &Level, out: &mut Vec<u8>) -> Result<(), A
             u64::from(x.priority),
             out,
         )
+    }
+}
+
+// A priority where it changes, if it stays so long that there is room for it.
+fn put_level(frame: Frame, t: u16, x: &Level, out: &mut Vec<u8>) -> Result<(), AllocError>
+    ensures { OnOk result (out.new.items ≡ out.old.items ++ level_text frame t x.now) }
+{
+    if frame.width(x.from, x.to) < 20 {
+        Ok(())
+    } else if x.inherited {
+        put_inherited_level(frame, t, x, out)
+    } else {
+        put_own_level(frame, t, x, out)
     }
 }
 
@@ -58,9 +80,9 @@ fn put_waiter(work: &Work, x: &HandOver, waiter: usize, out: &mut Vec<u8>) -> Re
 {
     put_counted(b"entry ", x.entry, out)?;
     out.extend_from_slice(b": ")?;
-    put_thread_name(work, waiter, out)?;
-    out.extend_from_slice(b" waits for ")?;
-    put_lock_name(work, x.lock, out)
+    out.extend_from_slice(thread_name(work, waiter))?;
+    out.extend_from_slice(b" ")?;
+    put_doing(work, Doing::Waiting(x.lock), out)
 }
 
 // What is shown on a line.
@@ -75,7 +97,7 @@ fn put_hand_title(
 {
     put_waiter(work, x, waiter, out)?;
     out.extend_from_slice(b", so ")?;
-    put_thread_name(work, x.owner.0 as usize, out)?;
+    out.extend_from_slice(thread_name(work, x.owner.0 as usize))?;
     put_counted(b" has ", u64::from(x.priority), out)
 }
 

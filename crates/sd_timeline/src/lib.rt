@@ -1,15 +1,17 @@
 //! The timeline of a run: an SVG picture with a row for each processor and each thread. It is one file that needs no other,
 //! made of rectangles, lines and texts whose places are given by ticks and by numbers of rows.
 //!
-//! Names stand in it as they are: they have only letters, digits, `_` and `-`, none of which means anything in XML.
+//! Names stand in it as they are, since none means anything in XML (`names_need_no_escaping` of `sd_labels`).
 #![tactic(auto)]
 
 mod bars;
 mod frames;
 mod head;
 mod labels;
+mod laws;
 mod picture;
 mod pieces;
 
 pub use frames::Frame;
+pub use laws::{timelines_are_plain, titles_need_no_escaping};
 pub use picture::write_timeline;

@@ -124,8 +124,8 @@ pub fn write_timeline(
     ensures { OnOk result (out.new.items ≡ out.old.items ++ timeline_text work.now frame history.now s.now) }
 {
     put_head(work, frame, out)?;
-    put_threads(alloc, work, frame, history, out)?;
     put_hand_overs(work, frame, &history.hand_overs, out)?;
+    put_threads(alloc, work, frame, history, out)?;
     put_deadlocks(alloc, work, frame, s, out)?;
     out.extend_from_slice(b"</svg>\n")
 }

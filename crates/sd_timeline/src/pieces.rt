@@ -1,19 +1,12 @@
 //! The pieces of which the picture is made. Each function appends a text. Where memory runs out it may have appended a part
 //! of it.
 
-ghost use Rattle.std.specs.Prelude.{◌≡◌, ◌++◌, OnOk, codes, decimal};
+ghost use Rattle.std.specs.Prelude.{◌≡◌, ◌++◌, OnOk};
 ghost use Rattle.sd_timeline.specs.Pieces.{attribute, bar_end, bar_start, box_text, ends_text, grid_line, label_end, label_start, number_label, word_label};
 
+use sd_labels::put_counted;
 use sd_text::put_number;
 use std::alloc::AllocError;
-
-/// `word7`
-pub(crate) fn put_counted(word: &[u8], n: u64, out: &mut Vec<u8>) -> Result<(), AllocError>
-    ensures { OnOk result (out.new.items ≡ out.old.items ++ (word.now ++ decimal n)) }
-{
-    out.extend_from_slice(word)?;
-    put_number(out, n)
-}
 
 /// ` x="7"`
 #[tactic(auto, unfolding(crate::specs::Pieces::attribute))]

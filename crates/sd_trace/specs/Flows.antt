@@ -40,21 +40,18 @@ abbrev pub arrow_from : Work → List ℕ → ℕ → ℕ → Option ℕ → ℕ
 arrow_from w word entry tick None to = []
 arrow_from w word entry tick (Some track) to = arrow w word entry tick (track, to)
 
-abbrev pub wake_from : Work → Wakeup → Option ℕ → List ℕ
-wake_from w x None = []
-wake_from w x (Some waker) = arrow_from w (codes "wakes") x.entry x.tick (track_at w waker) (x.woken.0 + 1)
+-- an arrow from a thread, where there is one, to another
+abbrev pub flow : Work → List ℕ → ℕ → ℕ → Option ℕ → ℕ → List ℕ
+flow w word entry tick None to = []
+flow w word entry tick (Some from) to = arrow_from w word entry tick (track_at w from) (to + 1)
 
 -- a wakeup, from the thread that ran on the processor; a nap that ends has none
 abbrev pub wake_flow : Work → Wakeup → List ℕ
-wake_flow w x = wake_from w x x.waker
-
-abbrev pub hand_from : Work → HandOver → Option ℕ → List ℕ
-hand_from w x None = []
-hand_from w x (Some waiter) = arrow_from w (codes "hands priority on") x.entry x.tick (track_at w waiter) (x.owner.0 + 1)
+wake_flow w x = flow w (codes "wakes") x.entry x.tick x.waker x.woken.0
 
 -- inherited priority, from the waiter to the owner of its lock
 abbrev pub hand_flow : Work → HandOver → List ℕ
-hand_flow w x = hand_from w x x.waiter
+hand_flow w x = flow w (codes "hands priority on") x.entry x.tick x.waiter x.owner.0
 
 unfoldable pub load_start : ℕ → List ℕ
 load_start time = codes ",\n{\"name\":\"runnable\",\"ph\":\"C\",\"pid\":1,\"ts\":" ++ decimal time

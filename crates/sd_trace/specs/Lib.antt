@@ -2,3 +2,4 @@ pub mod Words
 pub mod Slices
 pub mod Flows
 pub mod Tracks
+pub mod Plain

@@ -7,7 +7,8 @@ use Rattle.sd_machine.specs.Texts.{thread_name}
 use Rattle.sd_stretches.specs.declared.sights.Doing.{Doing}
 use Rattle.sd_stretches.specs.declared.sights.Doing.TheVariants.{Running}
 use Rattle.sd_stretches.specs.declared.rows.Stretch.{Stretch}
-use Rattle.sd_trace.specs.Words.{class_word, doing_text, micros, place_at}
+use Rattle.sd_labels.specs.Doings.{doing_text}
+use Rattle.sd_trace.specs.Words.{class_word, micros, place_at}
 
 unfoldable pub class_start : List ℕ
 class_start = codes ",\"args\":{\"class\":\""

@@ -4,9 +4,6 @@ use Rattle.std.specs.Prelude.{ℕ, ◌*◌, ◌==◌, List, ◌++◌, codes, dec
 use Rattle.sd_types.specs.declared.classes.Class.{Class}
 use Rattle.sd_types.specs.declared.classes.Class.TheVariants.{Ts, Fx, Sys, Rt}
 use Rattle.sd_types.specs.declared.works.Work.{Work}
-use Rattle.sd_machine.specs.Texts.{chan_name, lock_name}
-use Rattle.sd_stretches.specs.declared.sights.Doing.{Doing}
-use Rattle.sd_stretches.specs.declared.sights.Doing.TheVariants.{Running, Runnable, Waiting, Asleep, Napping, Ended}
 
 -- a tick in microseconds: there are 100 or 1000 of them in a second
 abbrev pub micros : Work → ℕ → ℕ
@@ -21,11 +18,3 @@ class_word Ts = codes "ts"
 class_word Fx = codes "fx"
 class_word Sys = codes "sys"
 class_word Rt = codes "rt"
-
-abbrev pub doing_text : Work → Doing → List ℕ
-doing_text w (Running c) = codes "runs on processor " ++ decimal c.0
-doing_text w Runnable = codes "runnable"
-doing_text w (Waiting l) = codes "waits for " ++ lock_name w l.0
-doing_text w (Asleep k) = codes "asleep on " ++ chan_name w k.0
-doing_text w Napping = codes "naps"
-doing_text w Ended = codes "has ended"

@@ -1,9 +1,10 @@
 //! The flows from who wakes to who is woken and from who waits to who inherits, and the counter of runnable threads.
 
 ghost use Rattle.std.specs.Prelude.{◌≡◌, ◌++◌, ◌+◌, OnOk, codes, decimal, flat_map};
-ghost use Rattle.sd_trace.specs.Flows.{arrow, arrow_end, arrow_start, end_kind, entry_argument, hand_flow, load_argument, load_event, load_start, named, start_kind, track_at, wake_flow};
+ghost use Rattle.sd_trace.specs.Flows.{arrow, arrow_end, arrow_start, end_kind, entry_argument, flow, hand_flow, load_argument, load_event, load_start, named, start_kind, track_at, wake_flow};
 
-use crate::words::{micros, put_counted, put_place};
+use crate::words::{micros, put_place};
+use sd_labels::put_counted;
 use sd_stretches::{HandOver, Load, Wakeup};
 use sd_types::Work;
 use std::alloc::AllocError;
@@ -110,23 +111,31 @@ fn track_at(work: &Work, t: usize) -> Option<u64>
     }
 }
 
+// An arrow from the track of a thread, where there is one, to that of another.
+fn put_flow(
+    work: &Work,
+    word: &[u8],
+    entry: u64,
+    tick: u32,
+    from: Option<usize>,
+    to: u16,
+    out: &mut Vec<u8>,
+) -> Result<(), AllocError>
+    ensures { OnOk result (out.new.items ≡ out.old.items ++ flow work.now word.now entry tick from to) }
+{
+    let Some(from) = from else {
+        return Ok(());
+    };
+    match track_at(work, from) {
+        Some(track) => put_arrow(work, word, entry, tick, (track, track_of(to)), out),
+        None => Ok(()),
+    }
+}
+
 fn put_wakeup(work: &Work, x: &Wakeup, out: &mut Vec<u8>) -> Result<(), AllocError>
     ensures { OnOk result (out.new.items ≡ out.old.items ++ wake_flow work.now x.now) }
 {
-    let Some(waker) = x.waker else {
-        return Ok(());
-    };
-    match track_at(work, waker) {
-        Some(track) => put_arrow(
-            work,
-            b"wakes",
-            x.entry,
-            x.tick,
-            (track, track_of(x.woken.0)),
-            out,
-        ),
-        None => Ok(()),
-    }
+    put_flow(work, b"wakes", x.entry, x.tick, x.waker, x.woken.0, out)
 }
 
 /// The flows of wakeups, each from the thread that ran on the processor; a nap that ends has none.
@@ -146,20 +155,15 @@ pub(crate) fn put_wakeups(
 fn put_hand_over(work: &Work, x: &HandOver, out: &mut Vec<u8>) -> Result<(), AllocError>
     ensures { OnOk result (out.new.items ≡ out.old.items ++ hand_flow work.now x.now) }
 {
-    let Some(waiter) = x.waiter else {
-        return Ok(());
-    };
-    match track_at(work, waiter) {
-        Some(track) => put_arrow(
-            work,
-            b"hands priority on",
-            x.entry,
-            x.tick,
-            (track, track_of(x.owner.0)),
-            out,
-        ),
-        None => Ok(()),
-    }
+    put_flow(
+        work,
+        b"hands priority on",
+        x.entry,
+        x.tick,
+        x.waiter,
+        x.owner.0,
+        out,
+    )
 }
 
 /// The flows of inherited priority, each from a waiter to the owner of its lock.

@@ -5,8 +5,8 @@ ghost use Rattle.std.specs.List.{range_with_len};
 ghost use Rattle.sd_machine.specs.Texts.{thread_name};
 ghost use Rattle.sd_trace.specs.Slices.{about, class_argument, class_start, entry_arguments, length_of, end_of, priority_argument, run_slice, slice_kind, state_if, state_slice, whole_run};
 
-use crate::words::{class_word, micros, put_counted, put_doing, put_place};
-use sd_event::put_thread_name;
+use crate::words::{class_word, micros, put_place};
+use sd_labels::{put_counted, put_doing, thread_name};
 use sd_stretches::{Doing, Stretch};
 use sd_types::{CpuId, Work};
 use std::alloc::AllocError;
@@ -76,7 +76,7 @@ fn put_whole_run(work: &Work, x: &Stretch, c: CpuId, out: &mut Vec<u8>) -> Resul
     ensures { OnOk result (out.new.items ≡ out.old.items ++ whole_run work.now x.now c) }
 {
     out.extend_from_slice(b",\n{\"name\":\"")?;
-    put_thread_name(work, x.thread, out)?;
+    out.extend_from_slice(thread_name(work, x.thread))?;
     put_slice_kind(b"run", out)?;
     put_place(work, x.from, 1, u64::from(c.0) + 1, out)?;
     put_length(work, x.from, x.to, out)?;

@@ -6,8 +6,7 @@ ghost use Rattle.sd_trace.specs.Tracks.{all_tracks, cpu_name, cpu_track, name_en
 
 use crate::flows::{put_hand_overs, put_loads, put_wakeups};
 use crate::slices::{put_run_slices, put_states};
-use crate::words::put_counted;
-use sd_event::put_thread_name;
+use sd_labels::{put_counted, thread_name};
 use sd_stretches::{History, stretches};
 use sd_types::Work;
 use std::alloc::{AllocError, Global};
@@ -71,7 +70,7 @@ fn put_thread_track(work: &Work, t: u16, out: &mut Vec<u8>) -> Result<(), AllocE
 {
     put_track_start(2, u64::from(t) + 1, out)?;
     put_name_start(out)?;
-    put_thread_name(work, usize::from(t), out)?;
+    out.extend_from_slice(thread_name(work, usize::from(t)))?;
     put_name_end(out)
 }
 

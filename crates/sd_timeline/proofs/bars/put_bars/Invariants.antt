@@ -1,5 +1,5 @@
 use Rattle.std.proofs.Common.{◌≡◌, ◌++◌, take}
-use Rattle.std.specs.List.{flat_map, range_with_len}
+use Rattle.std.specs.List.{flat_map}
 use Rattle.sd_timeline.specs.declared.frames.Row.TheVariants.{Thread}
 use Rattle.sd_timeline.specs.Bars.{stretch_bar}
 use Rattle.sd_timeline.proofs.bars.put_bars.Given as goal

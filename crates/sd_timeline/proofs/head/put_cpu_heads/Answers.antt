@@ -1,4 +1,3 @@
-use Rattle.std.proofs.Common.{arith}
 use Rattle.sd_stretches.proofs.RangeLemmas.{range_pushed}
 use Rattle.sd_timeline.specs.Head.{cpu_head}
 use Rattle.sd_timeline.proofs.head.put_cpu_heads.Goals as goal

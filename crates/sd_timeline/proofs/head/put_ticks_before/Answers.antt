@@ -1,4 +1,3 @@
-use Rattle.std.proofs.Common.{arith}
 use Rattle.sd_stretches.proofs.RangeLemmas.{range_pushed}
 use Rattle.sd_timeline.specs.Head.{mark_if}
 use Rattle.sd_timeline.proofs.head.put_ticks_before.Goals as goal

@@ -1,4 +1,4 @@
-use Rattle.std.proofs.Common.{◌≡◌, ◌++◌, take}
+use Rattle.std.proofs.Common.{◌≡◌, ◌++◌}
 use Rattle.std.specs.List.{flat_map, range_with_len}
 use Rattle.sd_timeline.specs.Head.{mark_if}
 use Rattle.sd_timeline.proofs.head.put_ticks_before.Given as goal

@@ -1,5 +1,5 @@
 use Rattle.std.proofs.Common.{◌≡◌, ◌++◌, take}
-use Rattle.std.specs.List.{flat_map, range_with_len}
+use Rattle.std.specs.List.{flat_map}
 use Rattle.sd_timeline.specs.Labels.{hand_text}
 use Rattle.sd_timeline.proofs.labels.put_hand_overs.Given as goal
 

@@ -1,5 +1,5 @@
 use Rattle.std.proofs.Common.{◌≡◌, ◌++◌, take}
-use Rattle.std.specs.List.{flat_map, range_with_len}
+use Rattle.std.specs.List.{flat_map}
 use Rattle.sd_timeline.specs.Labels.{level_text}
 use Rattle.sd_timeline.proofs.labels.put_levels.Given as goal
 

@@ -1,4 +1,4 @@
-use Rattle.std.proofs.Common.{◌≡◌, ◌++◌, Global, List, Vec, ℕ, map, take}
+use Rattle.std.proofs.Common.{◌≡◌, ◌++◌, map, take}
 use Rattle.std.specs.List.{flat_map}
 use Rattle.sd_timeline.specs.Labels.{mark_text}
 use Rattle.sd_timeline.proofs.picture.put_cycles.Given as goal

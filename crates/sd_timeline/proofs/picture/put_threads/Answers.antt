@@ -1,4 +1,3 @@
-use Rattle.std.proofs.Common.{arith}
 use Rattle.sd_stretches.proofs.RangeLemmas.{range_pushed}
 use Rattle.sd_timeline.specs.Picture.{thread_text}
 use Rattle.sd_timeline.proofs.picture.put_threads.Goals as goal

@@ -1,4 +1,4 @@
-use Rattle.std.proofs.Common.{◌≡◌, ◌++◌, take}
+use Rattle.std.proofs.Common.{◌≡◌, ◌++◌}
 use Rattle.std.specs.List.{flat_map, range_with_len}
 use Rattle.sd_timeline.specs.Picture.{thread_text}
 use Rattle.sd_timeline.proofs.picture.put_threads.Given as goal

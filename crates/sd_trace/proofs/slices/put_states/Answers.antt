@@ -1,4 +1,4 @@
-use Rattle.std.proofs.Common.{◌+◌, arith}
+use Rattle.std.proofs.Common.{◌+◌}
 use Rattle.std.specs.Prelude.{slice_get}
 use Rattle.sd_stretches.proofs.RangeLemmas.{range_pushed}
 use Rattle.sd_trace.specs.Slices.{state_if}

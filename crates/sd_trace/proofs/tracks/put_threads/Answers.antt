@@ -1,5 +1,3 @@
-use Rattle.std.proofs.Common.{◌+◌, arith}
-use Rattle.std.specs.Prelude.{slice_get}
 use Rattle.sd_stretches.proofs.RangeLemmas.{range_pushed}
 use Rattle.sd_trace.specs.Tracks.{thread_part}
 use Rattle.sd_trace.proofs.tracks.put_threads.Goals as goal

@@ -1,0 +1,40 @@
+//! What a thread does, in words. Each function appends a text. Where memory runs out it may have appended a part of it.
+
+ghost use Rattle.std.specs.Prelude.{◌≡◌, ◌++◌, OnOk, decimal};
+ghost use Rattle.sd_labels.specs.Doings.{doing_text};
+
+use crate::names::{chan_name, lock_name};
+use sd_stretches::Doing;
+use sd_text::put_number;
+use sd_types::Work;
+use std::alloc::AllocError;
+
+/// `word7`
+pub fn put_counted(word: &[u8], n: u64, out: &mut Vec<u8>) -> Result<(), AllocError>
+    ensures { OnOk result (out.new.items ≡ out.old.items ++ (word.now ++ decimal n)) }
+{
+    out.extend_from_slice(word)?;
+    put_number(out, n)
+}
+
+// A word and a name behind it.
+fn put_named(word: &[u8], name: &[u8], out: &mut Vec<u8>) -> Result<(), AllocError>
+    ensures { OnOk result (out.new.items ≡ out.old.items ++ (word.now ++ name.now)) }
+{
+    out.extend_from_slice(word)?;
+    out.extend_from_slice(name)
+}
+
+/// What a thread does.
+pub fn put_doing(work: &Work, doing: Doing, out: &mut Vec<u8>) -> Result<(), AllocError>
+    ensures { OnOk result (out.new.items ≡ out.old.items ++ doing_text work.now doing) }
+{
+    match doing {
+        Doing::Running(c) => put_counted(b"runs on processor ", u64::from(c.0), out),
+        Doing::Runnable => out.extend_from_slice(b"runnable"),
+        Doing::Waiting(l) => put_named(b"waits for ", lock_name(work, l), out),
+        Doing::Asleep(k) => put_named(b"asleep on ", chan_name(work, k), out),
+        Doing::Napping => out.extend_from_slice(b"naps"),
+        Doing::Ended => out.extend_from_slice(b"has ended"),
+    }
+}

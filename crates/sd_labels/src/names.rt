@@ -1,0 +1,36 @@
+//! The names that a workload declares, by their numbers. A number that names nothing has no name.
+
+ghost use Rattle.std.specs.Prelude.{◌≡◌};
+ghost use Rattle.sd_machine.specs.Texts.{chan_name, lock_name, thread_name};
+
+use sd_types::{ChanId, LockId, Work};
+
+/// The name of thread `t`.
+pub fn thread_name(work: &Work, t: usize) -> &[u8]
+    ensures { result.now ≡ thread_name work.now t }
+{
+    match work.threads.items().get(t) {
+        Some(thread) => thread.name.bytes(),
+        None => b"",
+    }
+}
+
+/// The name of a lock.
+pub fn lock_name(work: &Work, l: LockId) -> &[u8]
+    ensures { result.now ≡ lock_name work.now l.0 }
+{
+    match work.locks.items().get(l.0 as usize) {
+        Some(lock) => lock.0.bytes(),
+        None => b"",
+    }
+}
+
+/// The name of a channel.
+pub fn chan_name(work: &Work, k: ChanId) -> &[u8]
+    ensures { result.now ≡ chan_name work.now k.0 }
+{
+    match work.chans.items().get(k.0 as usize) {
+        Some(chan) => chan.0.bytes(),
+        None => b"",
+    }
+}

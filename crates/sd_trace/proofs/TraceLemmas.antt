@@ -1,0 +1,141 @@
+-- Which bytes traces are made of.
+use Rattle.std.proofs.Common.{ℕ, ◌+◌, List, length, Option, Some, None, refl}
+use Rattle.std.specs.Prelude.{codes, slice_get}
+use Rattle.std.specs.List.{range_with_len}
+use Rattle.std.proofs.lemmas.List.Folds.{list_all-append}
+use Rattle.sd_types.specs.declared.classes.Class.{Class}
+use Rattle.sd_types.specs.declared.classes.Class.TheVariants.{Ts, Fx, Sys, Rt}
+use Rattle.sd_types.specs.declared.numbers.CpuId.{CpuId}
+use Rattle.sd_types.specs.declared.works.Work.{Work}
+use Rattle.sd_stretches.specs.declared.sights.Doing.{Doing}
+use Rattle.sd_stretches.specs.declared.sights.Doing.TheVariants.{Running, Runnable, Waiting, Asleep, Napping, Ended}
+use Rattle.sd_stretches.specs.declared.changes.HandOver.{HandOver}
+use Rattle.sd_stretches.specs.declared.changes.Load.{Load}
+use Rattle.sd_stretches.specs.declared.changes.Wakeup.{Wakeup}
+use Rattle.sd_stretches.specs.declared.histories.History.{History}
+use Rattle.sd_stretches.specs.declared.rows.Stretch.{Stretch}
+use Rattle.sd_stretches.specs.Rows.{stretches}
+use Rattle.sd_labels.specs.Plain.{is_text_byte, IsText}
+use Rattle.sd_labels.proofs.TextLemmas.{flat-text, decimal-text, thread-text, doing-text}
+use Rattle.sd_trace.specs.Words.{class_word, place_at}
+use Rattle.sd_trace.specs.Slices.{about, class_argument, class_start, entry_arguments, length_of, priority_argument, run_slice, run_slice_by, slice_kind, state_if, state_slice, whole_run}
+use Rattle.sd_trace.specs.Flows.{arrow_end, arrow_from, arrow_start, end_kind, entry_argument, flow, hand_flow, load_argument, load_event, load_start, named, start_kind, track_at, wake_flow}
+use Rattle.sd_trace.specs.Tracks.{all_tracks, cpu_name, cpu_track, name_end, name_start, own_part, thread_part, thread_track, threads_start, trace_start, track_start, trace_text}
+
+-- ---- slices
+
+place-text : (w : Work) (tick process track : ℕ) → IsText (place_at w tick process track)
+unfolding place_at
+place-text w tick process track = simp (list_all-append is_text_byte, decimal-text)
+
+class-text : (class : Class) → IsText (class_word class)
+class-text Ts = refl
+class-text Fx = refl
+class-text Sys = refl
+class-text Rt = refl
+
+about-text : (x : Stretch) → IsText (about x)
+unfolding about class_argument class_start priority_argument entry_arguments
+about-text x = simp (list_all-append is_text_byte, decimal-text, class-text)
+
+length-text : (w : Work) (from to : ℕ) → IsText (length_of w from to)
+unfolding length_of
+length-text w from to = simp decimal-text
+
+whole-text : (w : Work) (x : Stretch) (c : CpuId) → IsText (whole_run w x c)
+unfolding whole_run slice_kind
+whole-text w x c = simp (list_all-append is_text_byte, thread-text w x.thread, place-text, length-text, about-text)
+
+run-text-by : (w : Work) (x : Stretch) (d : Doing) → IsText (run_slice_by w x d)
+run-text-by w x (Running c) = whole-text w x c
+run-text-by w x Runnable = refl
+run-text-by w x (Waiting l) = refl
+run-text-by w x (Asleep k) = refl
+run-text-by w x Napping = refl
+run-text-by w x Ended = refl
+
+run-text : (w : Work) (x : Stretch) → IsText (run_slice w x)
+run-text w x = run-text-by w x x.doing
+
+state-text : (w : Work) (track : ℕ) (x : Stretch) (next : Option Stretch) → IsText (state_slice w track x next)
+unfolding state_slice slice_kind
+state-text w track x next = simp (list_all-append is_text_byte, doing-text w x.doing, place-text, length-text, about-text)
+
+state-text-if : (w : Work) (track : ℕ) (o next : Option Stretch) → IsText (state_if w track o next)
+state-text-if w track None next = refl
+state-text-if w track (Some x) next = state-text w track x next
+
+-- ---- flows
+
+arrow-start-text : (w : Work) (word : List ℕ) (entry tick track : ℕ) → IsText word → IsText (arrow_start w word entry tick track)
+unfolding arrow_start named start_kind entry_argument
+arrow-start-text w word entry tick track h = simp (list_all-append is_text_byte, h, decimal-text, place-text)
+
+arrow-end-text : (w : Work) (word : List ℕ) (entry tick track : ℕ) → IsText word → IsText (arrow_end w word entry tick track)
+unfolding arrow_end named end_kind
+arrow-end-text w word entry tick track h = simp (list_all-append is_text_byte, h, decimal-text, place-text)
+
+arrow-text-from : (w : Work) (word : List ℕ) (entry tick : ℕ) (from : Option ℕ) (to : ℕ) → IsText word → IsText (arrow_from w word entry tick from to)
+arrow-text-from w word entry tick None to h = refl
+arrow-text-from w word entry tick (Some track) to h =
+    simp (list_all-append is_text_byte, arrow-start-text w word entry tick track h, arrow-end-text w word entry tick to h)
+
+flow-text : (w : Work) (word : List ℕ) (entry tick : ℕ) (from : Option ℕ) (to : ℕ) → IsText word → IsText (flow w word entry tick from to)
+flow-text w word entry tick None to h = refl
+flow-text w word entry tick (Some from) to h = arrow-text-from w word entry tick (track_at w from) (to + 1) h
+
+load-text : (w : Work) (x : Load) → IsText (load_event w x)
+unfolding load_event load_start load_argument
+load-text w x = simp (list_all-append is_text_byte, decimal-text)
+
+-- ---- tracks
+
+cpu-text : (c : ℕ) → IsText (cpu_track c)
+unfolding cpu_track track_start cpu_name name_start name_end
+cpu-text c = simp (list_all-append is_text_byte, decimal-text)
+
+track-text : (w : Work) (t : ℕ) → IsText (thread_track w t)
+unfolding thread_track track_start name_start name_end
+track-text w t = simp (list_all-append is_text_byte, decimal-text, thread-text w t)
+
+state-text-at : (w : Work) (track : ℕ) (own : List Stretch) (i : ℕ) → IsText (state_if w track (slice_get own i) (slice_get own (i + 1)))
+state-text-at w track own i = state-text-if w track (slice_get own i) (slice_get own (i + 1))
+
+own-text : (w : Work) (t : ℕ) (own : List Stretch) → IsText (own_part w t own)
+own-text w t own =
+    simp (
+      list_all-append is_text_byte,
+      track-text w t,
+      flat-text (run_slice w) (run-text w) own,
+      flat-text (λ i. state_if w (t + 1) (slice_get own i) (slice_get own (i + 1))) (state-text-at w (t + 1) own) (range_with_len 0 (length own)),
+    )
+
+part-text : (w : Work) (h : History) (t : ℕ) → IsText (thread_part w h t)
+unfolding thread_part
+part-text w h t = own-text w t (stretches t h.turns.items h.entries w.limit)
+
+tracks-text : (w : Work) (h : History) → IsText (all_tracks w h)
+unfolding all_tracks trace_start threads_start
+tracks-text w h =
+    simp (
+      list_all-append is_text_byte,
+      flat-text cpu_track cpu-text (range_with_len 0 w.cpus),
+      flat-text (thread_part w h) (part-text w h) (range_with_len 0 (length w.threads)),
+    )
+
+wake-text : (w : Work) (x : Wakeup) → IsText (wake_flow w x)
+wake-text w x = flow-text w (codes "wakes") x.entry x.tick x.waker x.woken.0 refl
+
+hand-text : (w : Work) (x : HandOver) → IsText (hand_flow w x)
+hand-text w x = flow-text w (codes "hands priority on") x.entry x.tick x.waiter x.owner.0 refl
+
+pub trace-text : (w : Work) (h : History) → IsText (trace_text w h)
+unfolding trace_text
+trace-text w h =
+    simp (
+      list_all-append is_text_byte,
+      tracks-text w h,
+      flat-text (wake_flow w) (wake-text w) h.wakeups.items,
+      flat-text (hand_flow w) (hand-text w) h.hand_overs.items,
+      flat-text (load_event w) (load-text w) h.loads.items,
+    )
