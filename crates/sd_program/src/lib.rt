@@ -12,7 +12,7 @@ mod tests;
 mod top;
 mod writing;
 
-use gates::OpenGate;
+pub use gates::{Gate, OpenGate};
 use sd_text::{StdSink, StdSource};
 use std::marker::Sync;
 use std::process::ExitCode;
@@ -20,6 +20,7 @@ use std::rt::Env;
 use std::sync::Wait;
 use std::thread::Threads;
 use std::{env, io};
+pub use top::serial;
 use top::start;
 
 /// The arguments after the program's name.

@@ -1,0 +1,35 @@
+-- Calls of the two programs on texts in memory.
+-- Source: this project's own.
+use Rattle.std.specs.Prelude.{◌≡◌, ℕ, List, [], ◌∷◌, ◌++◌, codes, Some, ◌⊎◌}
+use Rattle.sd_answers.specs.StreamChanges.{StreamChange}
+use Rattle.sd_program.specs.Headline.{KeepsPromises}
+use Rattle.sd_viewer.specs.Viewing.{IsViewed}
+
+-- A call read these bytes, wrote this text on an output that was empty, and returned this status, and this holds of what it
+-- did to its input, its output and its error output. No fault was counted before it.
+pub record Writes (P : StreamChange → StreamChange → StreamChange → ℕ → Type 0) (bytes text : List ℕ) (status : ℕ) : Type 0 where
+  pub input : StreamChange
+  pub out : StreamChange
+  pub err : StreamChange
+  pub reads : input.before ≡ Some bytes
+  pub empty : out.before ≡ Some []
+  pub written : out.after ≡ Some text
+  pub no_read_fault : input.faults_before ≡ 0
+  pub no_write_fault : out.faults_before ≡ 0
+  pub promised : P input out err status
+
+-- `dispsim run`, on this workload, wrote this text and returned this status
+abbrev pub Runs : List ℕ → List ℕ → ℕ → Type 0
+Runs workload text status = Writes (KeepsPromises (codes "run" ∷ [])) workload text status
+
+-- `dispview`, with this argument and on this certificate, wrote this text and returned this status
+abbrev pub Views : List ℕ → List ℕ → List ℕ → ℕ → Type 0
+Views word certificate text status = Writes (IsViewed (word ∷ [])) certificate text status
+
+-- the text is the journal of the run of this workload: status 6 says that threads block each other at its end
+abbrev pub IsJournalOf : List ℕ → List ℕ → Type 0
+IsJournalOf workload text = Runs workload text 0 ⊎ Runs workload text 6
+
+-- a workload and a journal as one text
+abbrev pub certificate_of : List ℕ → List ℕ → List ℕ
+certificate_of workload journal = workload ++ (codes "journal\n" ++ journal)

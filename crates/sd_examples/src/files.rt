@@ -1,0 +1,60 @@
+//! The files of the examples: NAME.workload, its picture NAME.svg, and NAME.json where the trace is stored too.
+
+use crate::verdicts::{Verdict, judge};
+use anyhow::{Context, Result};
+use std::rt::{Env, Files};
+use std::{env, fs, io};
+
+/// Where the examples lie: in the folder that the argument names, else in `data`, else where the program was started.
+pub fn folder_of<R: Files + Env + AllocGlobal>(rt: &R) -> io::Result<String> {
+    let alloc = rt.alloc();
+    if let Some(folder) = env::args(rt)?.nth(1) {
+        return Ok(folder);
+    }
+    let folder = if fs::exists(rt, "data")? { "data" } else { "." };
+    Ok(String::from_str(alloc, folder)?)
+}
+
+/// The names of the examples, each once and in order: those of all files of the folder, without their endings.
+pub fn names_of<R: Files + AllocGlobal + Clone + Drop>(
+    rt: &R,
+    folder: &str,
+) -> io::Result<Vec<String>> {
+    let mut names = Vec::new(rt.alloc());
+    for entry in fs::read_dir(rt, folder)? {
+        let entry = entry?;
+        let file = entry.file_name();
+        let name = file.rsplit_once('.').map_or(file, |(name, _)| name);
+        names.push(String::from_str(rt.alloc(), name)?)?;
+    }
+    names.sort()?;
+    names.dedup();
+    Ok(names)
+}
+
+fn read_file<R: Files + AllocGlobal>(rt: &R, path: &str) -> Result<Vec<u8>> {
+    fs::read(rt, path).context(path)
+}
+
+/// The bytes of a file, None where there is none.
+fn read_if_there<R: Files + AllocGlobal>(rt: &R, path: &str) -> Result<Option<Vec<u8>>> {
+    if fs::exists(rt, path)? {
+        Ok(Some(read_file(rt, path)?))
+    } else {
+        Ok(None)
+    }
+}
+
+/// Reads the files of an example and judges them.
+pub fn judge_example<R: Files + AllocGlobal>(rt: &R, folder: &str, name: &str) -> Result<Verdict> {
+    let alloc = rt.alloc();
+    let workload = read_file(rt, format!(in alloc; "{folder}/{name}.workload")?.as_str())?;
+    let picture = read_file(rt, format!(in alloc; "{folder}/{name}.svg")?.as_str())?;
+    let trace = read_if_there(rt, format!(in alloc; "{folder}/{name}.json")?.as_str())?;
+    Ok(judge(
+        alloc,
+        &workload,
+        &picture,
+        trace.as_ref().map(Vec::as_slice),
+    )?)
+}

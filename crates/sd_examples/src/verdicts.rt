@@ -1,0 +1,107 @@
+//! What is said of an example.
+
+ghost use Rattle.std.specs.Prelude.{IfOk};
+ghost use Rattle.std.specs.Option.{option_copied};
+ghost use Rattle.sd_examples.specs.Verdicts.{Says, SaysOfCertificate, SaysOfTrace};
+
+use crate::calls::{call_view, certificate, run};
+use crate::traces::count_events;
+use std::alloc::{AllocError, Global};
+use std::fmt;
+
+/// What is said of a workload, its stored picture and, where one is stored, its trace. What is told is the first that differs.
+#[derive(Clone, Copy, Debug, PartialEq, Eq)]
+pub enum Verdict {
+    /// The picture and the trace are as stored, and the trace is JSON with an array of so many events.
+    Same { events: usize },
+    /// `dispsim run` returned this status, neither 0 nor 6.
+    NotRun { status: u8 },
+    /// `dispview timeline` returned this status.
+    NotDrawn { status: u8 },
+    /// The picture is not the one stored.
+    OtherPicture,
+    /// `dispview trace` returned this status.
+    NotTraced { status: u8 },
+    /// The trace is no JSON with an array of events.
+    NotJson,
+    /// The trace is not the one stored.
+    OtherTrace,
+}
+
+impl fmt::Display for Verdict {
+    fn fmt<W: fmt::Write>(&self, f: &mut fmt::Formatter<W>) -> fmt::Result {
+        match self {
+            Verdict::Same { events } => write!(f, "picture as stored, trace of {events} events"),
+            Verdict::NotRun { status } => write!(f, "dispsim run ends with status {status}"),
+            Verdict::NotDrawn { status } => {
+                write!(f, "dispview timeline ends with status {status}")
+            }
+            Verdict::OtherPicture => write!(f, "the picture is not the one stored"),
+            Verdict::NotTraced { status } => {
+                write!(f, "dispview trace ends with status {status}")
+            }
+            Verdict::NotJson => write!(f, "the trace is no JSON with an array traceEvents"),
+            Verdict::OtherTrace => write!(f, "the trace is not the one stored"),
+        }
+    }
+}
+
+fn judge_trace(
+    alloc: Global,
+    certificate: &[u8],
+    stored: Option<&[u8]>,
+) -> Result<Verdict, AllocError>
+    ensures { IfOk result (SaysOfTrace certificate.now (option_copied stored.entry)) }
+{
+    let trace = call_view(alloc, "trace", certificate)?;
+    let text = trace.out.bytes();
+    if trace.status != 0 {
+        return Ok(Verdict::NotTraced {
+            status: trace.status,
+        });
+    }
+    let Some(events) = count_events(alloc, text)? else {
+        return Ok(Verdict::NotJson);
+    };
+    match stored {
+        Some(stored) if text != stored => Ok(Verdict::OtherTrace),
+        _ => Ok(Verdict::Same { events }),
+    }
+}
+
+fn judge_certificate(
+    alloc: Global,
+    certificate: &[u8],
+    picture: &[u8],
+    trace: Option<&[u8]>,
+) -> Result<Verdict, AllocError>
+    ensures { IfOk result (SaysOfCertificate certificate.now picture.now (option_copied trace.entry)) }
+{
+    let drawn = call_view(alloc, "timeline", certificate)?;
+    if drawn.status != 0 {
+        Ok(Verdict::NotDrawn {
+            status: drawn.status,
+        })
+    } else if drawn.out.bytes() != picture {
+        Ok(Verdict::OtherPicture)
+    } else {
+        judge_trace(alloc, certificate, trace)
+    }
+}
+
+/// Runs the workload, draws its run, and compares.
+pub fn judge(
+    alloc: Global,
+    workload: &[u8],
+    picture: &[u8],
+    trace: Option<&[u8]>,
+) -> Result<Verdict, AllocError>
+    ensures { IfOk result (Says workload.now picture.now (option_copied trace.entry)) }
+{
+    let ran = run(alloc, workload)?;
+    if ran.status != 0 && ran.status != 6 {
+        return Ok(Verdict::NotRun { status: ran.status });
+    }
+    let certificate = certificate(alloc, workload, ran.out.bytes())?;
+    judge_certificate(alloc, &certificate, picture, trace)
+}
