@@ -17,7 +17,7 @@ use Rattle.sd_stretches.specs.declared.rows.Stretch.{Stretch}
 use Rattle.sd_stretches.specs.Rows.{stretches}
 use Rattle.sd_labels.specs.Plain.{is_text_byte, IsText}
 use Rattle.sd_labels.proofs.TextLemmas.{flat-text, decimal-text, thread-text, doing-text}
-use Rattle.sd_trace.specs.Words.{class_word, place_at}
+use Rattle.sd_trace.specs.Words.{class_word, place_at, thread_number}
 use Rattle.sd_trace.specs.Slices.{about, class_argument, class_start, entry_arguments, length_of, priority_argument, run_slice, run_slice_by, slice_kind, state_if, state_slice, whole_run}
 use Rattle.sd_trace.specs.Flows.{arrow_end, arrow_from, arrow_start, end_kind, entry_argument, flow, hand_flow, load_argument, load_event, load_start, named, start_kind, track_at, wake_flow}
 use Rattle.sd_trace.specs.Tracks.{all_tracks, cpu_name, cpu_track, name_end, name_start, own_part, thread_part, thread_track, threads_start, trace_start, track_start, trace_text}
@@ -82,7 +82,7 @@ arrow-text-from w word entry tick (Some track) to h =
 
 flow-text : (w : Work) (word : List ℕ) (entry tick : ℕ) (from : Option ℕ) (to : ℕ) → IsText word → IsText (flow w word entry tick from to)
 flow-text w word entry tick None to h = refl
-flow-text w word entry tick (Some from) to h = arrow-text-from w word entry tick (track_at w from) (to + 1) h
+flow-text w word entry tick (Some from) to h = arrow-text-from w word entry tick (track_at w from) (thread_number to) h
 
 load-text : (w : Work) (x : Load) → IsText (load_event w x)
 unfolding load_event load_start load_argument
@@ -107,7 +107,7 @@ own-text w t own =
       list_all-append is_text_byte,
       track-text w t,
       flat-text (run_slice w) (run-text w) own,
-      flat-text (λ i. state_if w (t + 1) (slice_get own i) (slice_get own (i + 1))) (state-text-at w (t + 1) own) (range_with_len 0 (length own)),
+      flat-text (λ i. state_if w (thread_number t) (slice_get own i) (slice_get own (i + 1))) (state-text-at w (thread_number t) own) (range_with_len 0 (length own)),
     )
 
 part-text : (w : Work) (h : History) (t : ℕ) → IsText (thread_part w h t)

@@ -1,11 +1,11 @@
 -- The flows and the counter.
 -- Source: Trace Event Format (flow events, counter events).
-use Rattle.std.specs.Prelude.{ℕ, ◌+◌, nat_lt, List, [], ◌++◌, length, codes, decimal, Option, Some, None, if◌then◌else◌}
+use Rattle.std.specs.Prelude.{ℕ, nat_lt, List, [], ◌++◌, length, codes, decimal, Option, Some, None, if◌then◌else◌}
 use Rattle.sd_types.specs.declared.works.Work.{Work}
 use Rattle.sd_stretches.specs.declared.changes.HandOver.{HandOver}
 use Rattle.sd_stretches.specs.declared.changes.Load.{Load}
 use Rattle.sd_stretches.specs.declared.changes.Wakeup.{Wakeup}
-use Rattle.sd_trace.specs.Words.{micros, place_at}
+use Rattle.sd_trace.specs.Words.{micros, place_at, thread_number}
 
 -- a word as the name of an event
 unfoldable pub named : List ℕ → List ℕ
@@ -34,7 +34,7 @@ arrow w word entry tick tracks = arrow_start w word entry tick tracks.0 ++ arrow
 
 -- the track of a thread, where it has one
 abbrev pub track_at : Work → ℕ → Option ℕ
-track_at w t = if nat_lt t (length w.threads) then Some (t + 1) else None
+track_at w t = if nat_lt t (length w.threads) then Some (thread_number t) else None
 
 abbrev pub arrow_from : Work → List ℕ → ℕ → ℕ → Option ℕ → ℕ → List ℕ
 arrow_from w word entry tick None to = []
@@ -43,7 +43,7 @@ arrow_from w word entry tick (Some track) to = arrow w word entry tick (track, t
 -- an arrow from a thread, where there is one, to another
 abbrev pub flow : Work → List ℕ → ℕ → ℕ → Option ℕ → ℕ → List ℕ
 flow w word entry tick None to = []
-flow w word entry tick (Some from) to = arrow_from w word entry tick (track_at w from) (to + 1)
+flow w word entry tick (Some from) to = arrow_from w word entry tick (track_at w from) (thread_number to)
 
 -- a wakeup, from the thread that ran on the processor; a nap that ends has none
 abbrev pub wake_flow : Work → Wakeup → List ℕ

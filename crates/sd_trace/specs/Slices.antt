@@ -1,6 +1,6 @@
 -- The slices of the stretches of threads: each stretch is one complete event, with its numbers of entries as arguments.
 -- Source: Trace Event Format (complete events).
-use Rattle.std.specs.Prelude.{ℕ, ◌+◌, ◌-◌, min, List, [], ◌++◌, codes, decimal, Option, Some, None}
+use Rattle.std.specs.Prelude.{ℕ, ◌-◌, min, List, [], ◌++◌, codes, decimal, Option, Some, None}
 use Rattle.sd_types.specs.declared.numbers.CpuId.{CpuId}
 use Rattle.sd_types.specs.declared.works.Work.{Work}
 use Rattle.sd_machine.specs.Texts.{thread_name}
@@ -8,7 +8,7 @@ use Rattle.sd_stretches.specs.declared.sights.Doing.{Doing}
 use Rattle.sd_stretches.specs.declared.sights.Doing.TheVariants.{Running}
 use Rattle.sd_stretches.specs.declared.rows.Stretch.{Stretch}
 use Rattle.sd_labels.specs.Doings.{doing_text}
-use Rattle.sd_trace.specs.Words.{class_word, micros, place_at}
+use Rattle.sd_trace.specs.Words.{class_word, cpu_number, micros, place_at}
 
 unfoldable pub class_start : List ℕ
 class_start = codes ",\"args\":{\"class\":\""
@@ -37,7 +37,7 @@ slice_kind category = codes "\",\"cat\":\"" ++ category ++ codes "\",\"ph\":\"X\
 -- a slice on the track of a processor
 unfoldable pub whole_run : Work → Stretch → CpuId → List ℕ
 whole_run w x c =
-    codes ",\n{\"name\":\"" ++ thread_name w x.thread ++ slice_kind (codes "run") ++ place_at w x.from 1 (c.0 + 1)
+    codes ",\n{\"name\":\"" ++ thread_name w x.thread ++ slice_kind (codes "run") ++ place_at w x.from 1 (cpu_number c.0)
     ++ length_of w x.from x.to ++ about x
 
 abbrev pub run_slice_by : Work → Stretch → Doing → List ℕ

@@ -7,6 +7,7 @@ use Rattle.sd_machine.specs.Texts.{thread_name}
 use Rattle.sd_stretches.specs.declared.histories.History.{History}
 use Rattle.sd_stretches.specs.declared.rows.Stretch.{Stretch}
 use Rattle.sd_stretches.specs.Rows.{stretches}
+use Rattle.sd_trace.specs.Words.{cpu_number, thread_number}
 use Rattle.sd_trace.specs.Slices.{run_slice, state_if}
 use Rattle.sd_trace.specs.Flows.{hand_flow, load_event, wake_flow}
 
@@ -25,17 +26,17 @@ cpu_name c = name_start ++ (codes "processor " ++ decimal c)
 
 unfoldable pub cpu_track : ℕ → List ℕ
 cpu_track c =
-    track_start 1 (c + 1) ++ cpu_name c ++ name_end
+    track_start 1 (cpu_number c) ++ cpu_name c ++ name_end
 
 unfoldable pub thread_track : Work → ℕ → List ℕ
 thread_track w t =
-    track_start 2 (t + 1) ++ name_start ++ thread_name w t ++ name_end
+    track_start 2 (thread_number t) ++ name_start ++ thread_name w t ++ name_end
 
 -- a slice for each stretch of a thread on its track, and on that of the processor for each that it ran
 abbrev pub own_part : Work → ℕ → List Stretch → List ℕ
 own_part w t own =
     thread_track w t ++ flat_map (run_slice w) own
-    ++ flat_map (λ i. state_if w (t + 1) (slice_get own i) (slice_get own (i + 1))) (range_with_len 0 (length own))
+    ++ flat_map (λ i. state_if w (thread_number t) (slice_get own i) (slice_get own (i + 1))) (range_with_len 0 (length own))
 
 unfoldable pub thread_part : Work → History → ℕ → List ℕ
 thread_part w h t = own_part w t (stretches t h.turns.items h.entries w.limit)

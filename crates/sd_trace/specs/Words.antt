@@ -1,6 +1,6 @@
 -- The words of which events are made.
 -- Source: Trace Event Format (ts in microseconds, pid, tid); which process has which tracks is this project's own.
-use Rattle.std.specs.Prelude.{ℕ, ◌*◌, ◌==◌, List, ◌++◌, codes, decimal, if◌then◌else◌}
+use Rattle.std.specs.Prelude.{ℕ, ◌+◌, ◌*◌, ◌==◌, List, ◌++◌, codes, decimal, if◌then◌else◌}
 use Rattle.sd_types.specs.declared.classes.Class.{Class}
 use Rattle.sd_types.specs.declared.classes.Class.TheVariants.{Ts, Fx, Sys, Rt}
 use Rattle.sd_types.specs.declared.works.Work.{Work}
@@ -9,7 +9,15 @@ use Rattle.sd_types.specs.declared.works.Work.{Work}
 abbrev pub micros : Work → ℕ → ℕ
 micros w ticks = if w.hz == 1000 then ticks * 1000 else ticks * 10000
 
--- the time, the process (1 has the processors, 2 the threads) and the track, from 1
+-- The numbers of the tracks of processors and of threads. Some viewers know a track by its number alone, so no two have the
+-- same: there are at most 64 processors.
+abbrev pub cpu_number : ℕ → ℕ
+cpu_number c = c + 1
+
+abbrev pub thread_number : ℕ → ℕ
+thread_number t = t + 101
+
+-- the time, the process (1 has the processors, 2 the threads) and the track
 unfoldable pub place_at : Work → ℕ → ℕ → ℕ → List ℕ
 place_at w tick process track = (codes ",\"ts\":" ++ decimal (micros w tick)) ++ (codes ",\"pid\":" ++ decimal process) ++ (codes ",\"tid\":" ++ decimal track)
 

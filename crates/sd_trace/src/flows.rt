@@ -1,20 +1,13 @@
 //! The flows from who wakes to who is woken and from who waits to who inherits, and the counter of runnable threads.
 
-ghost use Rattle.std.specs.Prelude.{◌≡◌, ◌++◌, ◌+◌, OnOk, codes, decimal, flat_map};
+ghost use Rattle.std.specs.Prelude.{◌≡◌, ◌++◌, OnOk, codes, decimal, flat_map};
 ghost use Rattle.sd_trace.specs.Flows.{arrow, arrow_end, arrow_start, end_kind, entry_argument, flow, hand_flow, load_argument, load_event, load_start, named, start_kind, track_at, wake_flow};
 
-use crate::words::{micros, put_place};
+use crate::words::{micros, put_place, thread_number};
 use sd_labels::put_counted;
 use sd_stretches::{HandOver, Load, Wakeup};
 use sd_types::Work;
 use std::alloc::AllocError;
-
-// The number of a thread's track.
-fn track_of(t: u16) -> u64
-    ensures { result ≡ t + 1 }
-{
-    u64::from(t) + 1
-}
 
 // A word as the name of an event.
 #[tactic(auto, unfolding(crate::specs::Flows::named))]
@@ -105,7 +98,7 @@ fn track_at(work: &Work, t: usize) -> Option<u64>
     ensures { result ≡ track_at work.now t }
 {
     if t < work.threads.items().len() {
-        Some(t as u64 + 1)
+        Some(t as u64 + 101)
     } else {
         None
     }
@@ -127,7 +120,7 @@ fn put_flow(
         return Ok(());
     };
     match track_at(work, from) {
-        Some(track) => put_arrow(work, word, entry, tick, (track, track_of(to)), out),
+        Some(track) => put_arrow(work, word, entry, tick, (track, thread_number(to)), out),
         None => Ok(()),
     }
 }

@@ -5,7 +5,7 @@ ghost use Rattle.std.specs.List.{range_with_len};
 ghost use Rattle.sd_machine.specs.Texts.{thread_name};
 ghost use Rattle.sd_trace.specs.Slices.{about, class_argument, class_start, entry_arguments, length_of, end_of, priority_argument, run_slice, slice_kind, state_if, state_slice, whole_run};
 
-use crate::words::{class_word, micros, put_place};
+use crate::words::{class_word, cpu_number, micros, put_place};
 use sd_labels::{put_counted, put_doing, thread_name};
 use sd_stretches::{Doing, Stretch};
 use sd_types::{CpuId, Work};
@@ -78,7 +78,7 @@ fn put_whole_run(work: &Work, x: &Stretch, c: CpuId, out: &mut Vec<u8>) -> Resul
     out.extend_from_slice(b",\n{\"name\":\"")?;
     out.extend_from_slice(thread_name(work, x.thread))?;
     put_slice_kind(b"run", out)?;
-    put_place(work, x.from, 1, u64::from(c.0) + 1, out)?;
+    put_place(work, x.from, 1, cpu_number(c.0), out)?;
     put_length(work, x.from, x.to, out)?;
     put_about(x, out)
 }

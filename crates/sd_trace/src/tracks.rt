@@ -6,6 +6,7 @@ ghost use Rattle.sd_trace.specs.Tracks.{all_tracks, cpu_name, cpu_track, name_en
 
 use crate::flows::{put_hand_overs, put_loads, put_wakeups};
 use crate::slices::{put_run_slices, put_states};
+use crate::words::{cpu_number, thread_number};
 use sd_labels::{put_counted, thread_name};
 use sd_stretches::{History, stretches};
 use sd_types::Work;
@@ -50,7 +51,7 @@ fn put_cpu_name(c: u64, out: &mut Vec<u8>) -> Result<(), AllocError>
 fn put_cpu_track(c: u16, out: &mut Vec<u8>) -> Result<(), AllocError>
     ensures { OnOk result (out.new.items ≡ out.old.items ++ cpu_track c) }
 {
-    put_track_start(1, u64::from(c) + 1, out)?;
+    put_track_start(1, cpu_number(c), out)?;
     put_cpu_name(u64::from(c), out)?;
     put_name_end(out)
 }
@@ -68,7 +69,7 @@ fn put_cpu_tracks(cpus: u16, out: &mut Vec<u8>) -> Result<(), AllocError>
 fn put_thread_track(work: &Work, t: u16, out: &mut Vec<u8>) -> Result<(), AllocError>
     ensures { OnOk result (out.new.items ≡ out.old.items ++ thread_track work.now t) }
 {
-    put_track_start(2, u64::from(t) + 1, out)?;
+    put_track_start(2, thread_number(t), out)?;
     put_name_start(out)?;
     out.extend_from_slice(thread_name(work, usize::from(t)))?;
     put_name_end(out)
@@ -94,7 +95,7 @@ fn put_thread(
     )?;
     put_thread_track(work, t, out)?;
     put_run_slices(work, &own, out)?;
-    put_states(work, &own, u64::from(t) + 1, out)
+    put_states(work, &own, thread_number(t), out)
 }
 
 fn put_threads(

@@ -1,7 +1,7 @@
 //! The words of which events are made. Each function appends a text. Where memory runs out it may have appended a part of it.
 
 ghost use Rattle.std.specs.Prelude.{◌≡◌, ◌++◌, OnOk};
-ghost use Rattle.sd_trace.specs.Words.{class_word, micros, place_at};
+ghost use Rattle.sd_trace.specs.Words.{class_word, cpu_number, micros, place_at, thread_number};
 
 use sd_labels::put_counted;
 use sd_types::{Class, Work};
@@ -18,7 +18,21 @@ pub(crate) fn micros(work: &Work, ticks: u32) -> u64
     }
 }
 
-/// The time, the process (1 has the processors, 2 the threads) and the track, from 1.
+/// The number of the track of a processor.
+pub(crate) fn cpu_number(c: u16) -> u64
+    ensures { result ≡ cpu_number c }
+{
+    u64::from(c) + 1
+}
+
+/// The number of the track of a thread, which none of the at most 64 processors has.
+pub(crate) fn thread_number(t: u16) -> u64
+    ensures { result ≡ thread_number t }
+{
+    u64::from(t) + 101
+}
+
+/// The time, the process (1 has the processors, 2 the threads) and the track.
 #[tactic(auto, unfolding(crate::specs::Words::place_at))]
 pub(crate) fn put_place(
     work: &Work,
