@@ -8,9 +8,11 @@ use Rattle.std.proofs.lemmas.Result.{err_from_is_err_and}
 use Rattle.std.specs.declared.vec.Vec.{Vec}
 use Rattle.std.specs.declared.alloc.Global.{Global}
 use Rattle.sd_types.specs.declared.works.Work.{Work}
+use Rattle.sd_declare.specs.declared.causes.WorkCause.{WorkCause}
 use Rattle.sd_text.specs.Reading.{TakesUpTo}
 use Rattle.sd_text.specs.declared.read.ReadAllFault.{ReadAllFault}
 use Rattle.sd_text.specs.declared.read.ReadAllFault.TheVariants as read
+use Rattle.sd_workload.specs.Accepted.{Accepted, FirstCause}
 use Rattle.sd_workload.specs.Places.{IsFault}
 use Rattle.sd_workload.specs.Texts.{verdict_of}
 use Rattle.sd_workload.specs.declared.fault.WorkFault.{WorkFault}
@@ -40,6 +42,10 @@ taken_all (Some ys) (Some (z ∷ zs)) bs xs c end e = cc
 -- what was read to its end is no more than an input may have
 pub at_most_of : (most : ℕ) (input : StreamChange) (bytes : List ℕ) → HasRead most input bytes → HasAtMost most input
 at_most_of most input bytes read = record { bytes = bytes; took = read.took; bound = read.bound; no_fault = read.no_fault }
+
+-- a text is not both accepted and refused
+pub not_both : (bytes : List ℕ) (w : Work) (line : ℕ) (cause : WorkCause) → Accepted bytes w → FirstCause bytes line cause → ⊥
+not_both bytes w line cause accepted first = cc (accepted.accepted)
 
 -- ---- why an input is no workload
 

@@ -7,12 +7,12 @@ use Rattle.std.proofs.lemmas.List.{take-append-drop, take-append-le, take_all, t
 use Rattle.std.proofs.lemmas.List.Concat.{flat_map-append}
 use Rattle.std.proofs.KnownBytes.{Appends-nil, Appends-trans}
 use Rattle.std.proofs.lemmas.Result.{err_from_is_err_and}
-use Rattle.std.specs.Result.{IsErrAnd}
+use Rattle.std.specs.Result.{IsErrAnd, IsErrOf}
 use Rattle.std.specs.Io.KnownBytes.{Appends}
 use Rattle.sd_text.specs.Faults.{HasRisen}
 use Rattle.sd_answers.specs.declared.writing.Unwritten.{Unwritten}
-use Rattle.sd_answers.specs.declared.writing.Unwritten.TheVariants.{Memory}
-use Rattle.sd_answers.specs.StreamChanges.{AppendsPart, Puts}
+use Rattle.sd_answers.specs.declared.writing.Unwritten.TheVariants.{Fault, Memory}
+use Rattle.sd_answers.specs.StreamChanges.{StreamChange, AppendsPart, Puts, TellsLine}
 
 -- the prefix of a text whose prefix is xs
 take_past : (xs ys : List ℕ) (n : ℕ) → take (length xs + n) (xs ++ ys) ≡ xs ++ take n ys
@@ -123,3 +123,15 @@ range_inside n i l = omega (arith, length-range_with_len 0 n)
 
 pub range_past : (n i : ℕ) → n ≤ i → length (range_with_len 0 n) ≤ i
 range_past n i l = omega (arith, length-range_with_len 0 n)
+
+-- ---- the line on the error output
+
+-- a line that wants no memory was told
+pub tells_of : (err : StreamChange) (line : List ℕ) (r : Result (Unit {0}) Unwritten) → Puts err.before err.after err.faults_before err.faults_after line r
+    → (IsErrOf r Memory → ⊥) → TellsLine err line
+tells_of err line (Ok u) p none = record {
+  part = (length line, subst (Appends err.before err.after) (sym (take_all (length line) line (let e : length line ≤ length line = omega arith in e))) p.ok);
+  whole = λ sound. p.ok;
+}
+tells_of err line (Err Fault) p none = record { part = p.part; whole = λ sound. absurd (sound (p.fault refl)) }
+tells_of err line (Err Memory) p none = absurd (none refl)

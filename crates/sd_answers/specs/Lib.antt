@@ -1,4 +1,5 @@
 pub mod Answers
+pub mod Certificates
 pub mod Inputs
 pub mod Refusals
 pub mod StreamChanges

@@ -41,3 +41,9 @@ pub record Puts (before after : Option (List ℕ)) (faults faults' : ℕ) (text 
   pub fault : IsErrOf result Fault → HasRisen faults faults'
   pub no_fault : (IsErrOf result Fault → ⊥) → faults' ≡ faults
   pub part : OnErr result (AppendsPart before after text)
+
+-- What a call that writes a line to the error output did: the line was written whole where no fault was counted, and else
+-- a prefix of it.
+pub record TellsLine (err : StreamChange) (line : List ℕ) : Type 0 where
+  pub part : AppendsPart err.before err.after line
+  pub whole : (HasFault err → ⊥) → Appends err.before err.after line

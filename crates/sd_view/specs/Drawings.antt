@@ -1,6 +1,6 @@
 -- What is drawn of a journal.
 -- Source: this project's own.
-use Rattle.std.specs.Prelude.{◌≡◌, ℕ, ◌+◌, min, Bool, ◌||◌, nat_lt, List, length}
+use Rattle.std.specs.Prelude.{◌≡◌, ℕ, ◌+◌, min, Bool, false, ◌||◌, nat_lt, List, length}
 use Rattle.sd_types.specs.declared.events.Entry.{Entry}
 use Rattle.sd_types.specs.declared.works.Work.{Work}
 use Rattle.sd_machine.specs.declared.states.State.{State}
@@ -31,6 +31,11 @@ frame_of w from to = record { from = first_tick w from; to = last_tick w from to
 -- ticks that were asked for, or threads, are left out
 abbrev pub is_part : Work → ℕ → ℕ → Bool
 is_part w from to = nat_lt (last_tick w from to) (min to w.limit) || nat_lt 100 (length w.threads)
+
+-- a drawing leaves something out; a trace has all of a run
+abbrev pub is_part_of : Drawing → Work → Bool
+is_part_of (Timeline from to) w = is_part w from to
+is_part_of Trace w = false
 
 -- the text of a drawing
 abbrev pub drawn_text : Drawing → Work → History → State → List ℕ

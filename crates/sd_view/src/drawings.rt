@@ -4,9 +4,9 @@ ghost use Rattle.std.specs.Prelude.{◌≡◌, ◌++◌, ◌<◌, ◌^◌, ℕ, 
 ghost use Rattle.sd_machine.specs.declared.states.State.{State as StateValue};
 ghost use Rattle.sd_audit.specs.declared.audits.AuditFault.TheVariants.{Memory};
 ghost use Rattle.sd_audit.specs.Audits.{IsFault, IsJournal};
-ghost use Rattle.sd_view.specs.Drawings.{IsDrawn, drawn_text};
+ghost use Rattle.sd_view.specs.Drawings.{IsDrawn, drawn_text, is_part_of};
 
-use crate::frames::frame_of;
+use crate::frames::{frame_of, is_part};
 use sd_audit::{AuditFault, audit};
 use sd_gather::gather;
 use sd_machine::State;
@@ -43,6 +43,16 @@ fn write_drawing(
             out,
         ),
         Drawing::Trace => write_trace(alloc, work, history, out),
+    }
+}
+
+/// Whether a drawing of a run of the workload leaves something out: ticks that were asked for, or threads.
+pub fn is_part_of(work: &Work, drawing: Drawing) -> bool
+    ensures { result ≡ is_part_of drawing work.now }
+{
+    match drawing {
+        Drawing::Timeline { from, to } => is_part(work, from, to),
+        Drawing::Trace => false,
     }
 }
 

@@ -31,7 +31,7 @@ fn rows(work: &Work) -> u16
 }
 
 /// The frame of the ticks from `from` to `to`: as far as the run goes, and of these the first 2,000, and the first 100 threads.
-pub fn frame_of(work: &Work, from: u32, to: u32) -> Frame
+pub(crate) fn frame_of(work: &Work, from: u32, to: u32) -> Frame
     ensures { result ≡ frame_of work.now from to }
 {
     Frame {
@@ -43,7 +43,7 @@ pub fn frame_of(work: &Work, from: u32, to: u32) -> Frame
 }
 
 /// Whether ticks that were asked for, or threads, are left out.
-pub fn is_part(work: &Work, from: u32, to: u32) -> bool
+pub(crate) fn is_part(work: &Work, from: u32, to: u32) -> bool
     ensures { result ≡ is_part work.now from to }
 {
     last_tick(work, from, to) < to.min(work.limit) || MOST_THREADS < work.threads.items().len()

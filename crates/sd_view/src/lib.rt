@@ -7,6 +7,5 @@ mod frames;
 #[cfg(test)]
 mod tests;
 
-pub use drawings::{Drawing, draw};
+pub use drawings::{Drawing, draw, is_part_of};
 pub use forms::drawing_of;
-pub use frames::{frame_of, is_part};

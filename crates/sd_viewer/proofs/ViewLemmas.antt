@@ -1,113 +1,131 @@
--- The answers of `dispview` have their causes.
-use Rattle.std.proofs.Common.{◌≡◌, ℕ, ◌≤◌, List, [], length, Bool, true, false, Result, Ok, Err, Option, refl, sym, ap, subst, ◌∙◌, inl, inr, arith}
-use Rattle.std.specs.Io.KnownBytes.{Appends}
-use Rattle.std.specs.Result.{IsErrOf}
-use Rattle.std.proofs.KnownBytes.{Appends-nil}
-use Rattle.std.proofs.lemmas.List.{take_all}
+-- The answers of `dispview` have their causes, and what is promised of a call follows from them.
+use Rattle.std.proofs.Common.{◌≡◌, ℕ, List, length, Bool, Result, Err, Option, Some, None, refl, sym, ap, subst, ◌∙◌, inl, inr, arith}
+use Rattle.std.specs.Prelude.{◌↔◌}
 use Rattle.std.specs.Result.{IsErrAnd}
 use Rattle.std.proofs.lemmas.Result.{err_from_is_err_and}
-use Rattle.sd_types.specs.declared.works.Work.{Work}
-use Rattle.sd_audit.specs.declared.audits.AuditFault.{AuditFault}
-use Rattle.sd_audit.specs.declared.audits.AuditFault.TheVariants as audit
-use Rattle.sd_audit.specs.Audits.{IsFault}
+use Rattle.sd_machine.specs.Opening.{opening}
+use Rattle.sd_full.specs.Runs.{final}
 use Rattle.sd_answers.specs.declared.answers.Answer.{Answer}
 use Rattle.sd_answers.specs.declared.answers.Answer.TheVariants.{Done, Usage, TooLarge, TooLargeToAudit, NoJournal, Refused, ReadFault, WriteFault, OutOfMemory, Blocked, NotAJournal, TooLong}
 use Rattle.sd_answers.specs.declared.writing.Unwritten.{Unwritten}
 use Rattle.sd_answers.specs.declared.writing.Unwritten.TheVariants as unwritten
-use Rattle.sd_answers.specs.Answers.{audit_answer, line_of, unwritten_answer}
-use Rattle.sd_answers.specs.Inputs.{most_certificate, IsCertificate, IsNoCertificate}
-use Rattle.sd_answers.specs.StreamChanges.{StreamChange, IsUntouched, Puts, change_of}
+use Rattle.sd_answers.specs.Answers.{status_of, unwritten_answer}
+use Rattle.sd_answers.specs.Certificates.{HoldsJournal, CausedByCertificate, CompletesCertificate, RefusesCertificate, RefusesFaulty, RefusesJournal}
+use Rattle.sd_answers.specs.Inputs.{most_certificate}
+use Rattle.sd_answers.specs.StreamChanges.{StreamChange, IsUntouched, Puts, TellsLine}
 use Rattle.sd_answers.proofs.InputLemmas.{at_most_of}
+use Rattle.sd_answers.proofs.CertificateLemmas.{completes_of, faulty_of, not_usage, refuses_certificate_of, refuses_faulty_of}
 use Rattle.sd_view.specs.declared.drawings.Drawing.{Drawing}
-use Rattle.sd_viewer.specs.declared.viewing.Drawn.{Drawn}
-use Rattle.sd_viewer.specs.Viewing.{IsDrawnInput, IsDrawing, CausedByView, IsLineOf, TellsLine, viewed_answer, viewed_line}
+use Rattle.sd_view.specs.Forms.{drawing_of}
+use Rattle.sd_viewer.specs.Promises.{KeepsPromises}
+use Rattle.sd_viewer.specs.Viewing.{IsDrawnInput, IsDrawing, Draws, CausedByView, CausedBy, answer_line, viewed_answer, viewed_line}
 
--- nothing is drawn of a journal that is at fault
-pub unjudged : (d : Drawing) (input : StreamChange) (w : Work) (text : List ℕ) (fault : AuditFault) → IsCertificate input w text → IsFault w text fault → IsDrawing d input (Err (audit_answer fault))
-unjudged d input w text (audit.NotAnEntry line) found is = record { work = w; text = text; certificate = found; is = is }
-unjudged d input w text (audit.Illegal number) found is = record { work = w; text = text; certificate = found; is = is }
-unjudged d input w text (audit.Incomplete cpu) found is = record { work = w; text = text; certificate = found; is = is }
-unjudged d input w text (audit.Tail line) found is = record { work = w; text = text; certificate = found; is = is }
-unjudged d input w text audit.Memory found is = at_most_of most_certificate input found.parts.bytes found.parts.read
-
--- nor of an input that is no certificate
-pub unread : (d : Drawing) (input : StreamChange) (a : Answer) → IsNoCertificate input a → IsDrawing d input (Err a)
-unread d input Done n = n
-unread d input Usage n = n
-unread d input TooLarge n = n
-unread d input TooLargeToAudit n = n
-unread d input NoJournal n = n
-unread d input (Refused line cause) n = n
-unread d input ReadFault n = n
-unread d input WriteFault n = n
-unread d input OutOfMemory n = n
-unread d input Blocked n = n
-unread d input (NotAJournal fault) n = absurd n
-unread d input TooLong n = n
-
-pub drawing_exit : (d : Drawing) (input : StreamChange) (r : Result Drawn Answer) (a : Answer) → IsErrAnd r (λ y. y ≡ a) → IsDrawing d input (Err a) → IsDrawing d input r
-drawing_exit d input r a exit refused =
-    let x = err_from_is_err_and r exit in
-    subst (IsDrawing d input) (sym (x.1 ∙ ap Err x.2)) refused
+-- ---- the answer to a drawing
 
 -- where nothing is drawn, nothing is written
-pub undrawn : (d : Drawing) (input out : StreamChange) (a : Answer) → IsDrawing d input (Err a) → IsUntouched out → CausedByView d input out a
+pub undrawn : (d : Drawing) (input out : StreamChange) (a : Answer) → IsDrawing d input (Err a) → IsUntouched out → CausedByView d input out a (answer_line a)
 undrawn d input out Done n kept = absurd n
-undrawn d input out Usage n kept = n
-undrawn d input out TooLarge n kept = (n, kept)
-undrawn d input out TooLargeToAudit n kept = (n, kept)
-undrawn d input out NoJournal n kept = (n, kept)
-undrawn d input out (Refused line cause) n kept = (n, kept)
-undrawn d input out ReadFault n kept = (n, kept)
+undrawn d input out Usage n kept = absurd n
+undrawn d input out TooLarge n kept = ((n, kept), refl)
+undrawn d input out TooLargeToAudit n kept = ((n, kept), refl)
+undrawn d input out NoJournal n kept = ((n, kept), refl)
+undrawn d input out (Refused line cause) n kept = ((n, kept), refl)
+undrawn d input out ReadFault n kept = ((n, kept), refl)
 undrawn d input out WriteFault n kept = absurd n
-undrawn d input out OutOfMemory n kept = (n, kept.no_fault, inl kept)
-undrawn d input out Blocked n kept = n
-undrawn d input out (NotAJournal fault) n kept = (n, kept)
-undrawn d input out TooLong n kept = n
+undrawn d input out OutOfMemory n kept = ((n, kept.no_fault, inl kept), refl)
+undrawn d input out Blocked n kept = absurd n
+undrawn d input out (NotAJournal fault) n kept = ((n, kept), refl)
+undrawn d input out TooLong n kept = absurd n
 
 -- the drawing was not written whole
 pub unwritten_view : (d : Drawing) (input out : StreamChange) (text : List ℕ) (e : Unwritten) → IsDrawnInput d input text → Puts out.before out.after out.faults_before out.faults_after text (Err e)
-    → CausedByView d input out (unwritten_answer e)
-unwritten_view d input out text unwritten.Fault drawn p = (text, drawn, p.fault refl, p.part)
+    → CausedByView d input out (unwritten_answer e) (answer_line (unwritten_answer e))
+unwritten_view d input out text unwritten.Fault drawn p = ((text, drawn, p.fault refl, p.part), refl)
 unwritten_view d input out text unwritten.Memory drawn p =
-    (at_most_of most_certificate input drawn.certificate.parts.bytes drawn.certificate.parts.read, p.no_fault (λ e. cc), inr (text, drawn, p.part))
+    ((at_most_of most_certificate input drawn.certificate.parts.bytes drawn.certificate.parts.read, p.no_fault (λ e. cc), inr (text, drawn, p.part)), refl)
 
-pub view_exit : (d : Drawing) (input out : StreamChange) (r : Result Bool Answer) (a : Answer) → IsErrAnd r (λ y. y ≡ a) → CausedByView d input out a → CausedByView d input out (viewed_answer r)
+-- what the exit of a `?` returns
+pub view_exit : (d : Drawing) (input out : StreamChange) (r : Result Bool Answer) (a : Answer) → IsErrAnd r (λ y. y ≡ a) → CausedByView d input out a (answer_line a)
+    → CausedByView d input out (viewed_answer r) (viewed_line r)
 view_exit d input out r a exit caused =
     let x = err_from_is_err_and r exit in
-    subst (λ y. CausedByView d input out (viewed_answer y)) (sym (x.1 ∙ ap Err x.2)) caused
+    subst (λ y. CausedByView d input out (viewed_answer y) (viewed_line y)) (sym (x.1 ∙ ap Err x.2)) caused
 
--- ---- the line on the error output
+-- ---- what is promised
 
--- what writing a line did
-pub tells_of : (err : StreamChange) (line : List ℕ) (r : Result (Unit {0}) Unwritten) → Puts err.before err.after err.faults_before err.faults_after line r
-    → (IsErrOf r unwritten.Memory → ⊥) → TellsLine err line
-tells_of err line (Ok u) p none = record {
-  part = (length line, subst (Appends err.before err.after) (sym (take_all (length line) line (let e : length line ≤ length line = omega arith in e))) p.ok);
-  whole = λ sound. p.ok;
-}
-tells_of err line (Err unwritten.Fault) p none = record { part = p.part; whole = λ sound. absurd (sound (p.fault refl)) }
-tells_of err line (Err unwritten.Memory) p none = absurd (none refl)
+module _ (d : Drawing) (input out : StreamChange) (line : List ℕ) where
+  -- the cause without the line
+  cause_of : (a : Answer) → CausedByView d input out a line → CausedByCertificate (IsDrawnInput d input) (λ text. text) input out a
+  cause_of Done c = (c.0, c.1, c.2, c.3)
+  cause_of Usage c = c.0
+  cause_of TooLarge c = c.0
+  cause_of TooLargeToAudit c = c.0
+  cause_of NoJournal c = c.0
+  cause_of (Refused number cause) c = c.0
+  cause_of ReadFault c = c.0
+  cause_of WriteFault c = c.0
+  cause_of OutOfMemory c = c.0
+  cause_of Blocked c = c.0
+  cause_of (NotAJournal fault) c = c.0
+  cause_of TooLong c = c.0
 
--- nothing was written
-pub tells_none : (held : Option (List ℕ)) (faults : ℕ) → TellsLine (change_of held held faults faults) []
-tells_none held faults = record { part = (0, Appends-nil held); whole = λ sound. Appends-nil held }
+  draws_of : (a : Answer) → CausedByView d input out a line → status_of a ≡ 0 → Draws d input out line
+  draws_of Done c s = c
+  draws_of Usage c s = absurd (omega arith)
+  draws_of TooLarge c s = absurd (omega arith)
+  draws_of TooLargeToAudit c s = absurd (omega arith)
+  draws_of NoJournal c s = absurd (omega arith)
+  draws_of (Refused number cause) c s = absurd (omega arith)
+  draws_of ReadFault c s = absurd (omega arith)
+  draws_of WriteFault c s = absurd (omega arith)
+  draws_of OutOfMemory c s = absurd (omega arith)
+  draws_of Blocked c s = absurd (omega arith)
+  draws_of (NotAJournal fault) c s = absurd (omega arith)
+  draws_of TooLong c s = absurd (omega arith)
 
-line_is : (d : Drawing) (input out : StreamChange) (a : Answer) → CausedByView d input out a → IsLineOf a (line_of a)
-line_is d input out Done c = inl refl
-line_is d input out Usage c = absurd c
-line_is d input out TooLarge c = refl
-line_is d input out TooLargeToAudit c = refl
-line_is d input out NoJournal c = refl
-line_is d input out (Refused line cause) c = refl
-line_is d input out ReadFault c = refl
-line_is d input out WriteFault c = refl
-line_is d input out OutOfMemory c = refl
-line_is d input out Blocked c = absurd c
-line_is d input out (NotAJournal fault) c = refl
-line_is d input out TooLong c = absurd c
+  -- what is drawn is the run whose journal the input holds
+  held : (text : List ℕ) → IsDrawnInput d input text → HoldsJournal input
+  held text is =
+      let j = is.drawn.journal_of in
+      let es = is.drawn.entries in
+      record {
+        work = is.work;
+        text = is.journal;
+        certificate = is.certificate;
+        journal = (
+          final is.work (opening is.work) es,
+          length es,
+          record { entries = es; run = j.run; spelled = j.spelled; complete = is.drawn.complete; whole = j.whole; many = refl; ends = refl },
+        );
+      }
 
-pub viewed_line_is : (d : Drawing) (input out : StreamChange) (r : Result Bool Answer) → CausedByView d input out (viewed_answer r) → IsLineOf (viewed_answer r) (viewed_line r)
-viewed_line_is d input out (Ok true) c = inr refl
-viewed_line_is d input out (Ok false) c = inl refl
-viewed_line_is d input out (Err a) c = line_is d input out a c
+  completes_view : (a : Answer) → CausedByView d input out a line → CompletesCertificate input out (status_of a)
+  completes_view a c = completes_of (IsDrawnInput d input) (λ text. text) input out a (cause_of a c)
+
+  refuses_view : (a : Answer) → CausedByView d input out a line → RefusesCertificate input (status_of a)
+  refuses_view a c = refuses_certificate_of (IsDrawnInput d input) (λ text. text) input out held a (cause_of a c)
+
+  refuses_faulty_view : (a : Answer) → CausedByView d input out a line → RefusesFaulty input (status_of a)
+  refuses_faulty_view a c = refuses_faulty_of (IsDrawnInput d input) (λ text. text) input out held a (cause_of a c)
+
+faults_of : (k : Option Drawing) (input out : StreamChange) (a : Answer) (line : List ℕ) → CausedBy k input out a line → status_of a ≡ 7 → RefusesJournal input out
+faults_of None input out a line c s = absurd (omega (arith, ap status_of c.0))
+faults_of (Some d) input out a line c s = faulty_of (IsDrawnInput d input) (λ text. text) input out a (cause_of d input out line a c) s
+
+usage_of : (k : Option Drawing) (input out : StreamChange) (a : Answer) (line : List ℕ) → CausedBy k input out a line → (status_of a ≡ 1) ↔ (k ≡ None)
+usage_of None input out a line c = (λ one. refl, λ none. ap status_of c.0)
+usage_of (Some d) input out a line c = (λ one. absurd (not_usage (IsDrawnInput d input) (λ text. text) input out a (cause_of d input out line a c) one), λ none. cc)
+
+pub promises_of : (arguments : List (List ℕ)) (input out err : StreamChange) (a : Answer) (line : List ℕ) (status : ℕ) → status ≡ status_of a
+    → CausedBy (drawing_of arguments) input out a line → TellsLine err line → KeepsPromises arguments input out err status
+promises_of arguments input out err a line status is caused told =
+    let asked = λ (d : Drawing) (known : drawing_of arguments ≡ Some d). subst (λ k. CausedBy k input out a line) known caused in
+    record {
+      answered = record { answer = a; line = line; exit = is; caused = caused; told = told };
+      draws = λ d known zero. (line, draws_of d input out line a (asked d known) (sym is ∙ zero), told);
+      faults = λ seven. faults_of (drawing_of arguments) input out a line caused (sym is ∙ seven);
+      completes = λ d known. subst (CompletesCertificate input out) (sym is) (completes_view d input out line a (asked d known));
+      refuses = λ d known. subst (RefusesCertificate input) (sym is) (refuses_view d input out line a (asked d known));
+      refuses_faulty = λ d known. subst (RefusesFaulty input) (sym is) (refuses_faulty_view d input out line a (asked d known));
+      usage = subst (λ s. (s ≡ 1) ↔ (drawing_of arguments ≡ None)) (sym is) (usage_of (drawing_of arguments) input out a line caused);
+    }

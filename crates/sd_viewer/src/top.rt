@@ -1,13 +1,15 @@
 //! The top call: from the arguments and the streams to the exit status.
 
-ghost use Rattle.std.specs.Prelude.{◌≡◌, map, string_bytes};
+ghost use Rattle.std.specs.Prelude.{◌≡◌, map, string_bytes, IsErrOf, Err};
 ghost use Rattle.std.specs.IoError.{error_kind};
 ghost use Rattle.sd_answers.specs.Answers.{arguments_answer, status_of};
-ghost use Rattle.sd_answers.specs.StreamChanges.{change_of};
-ghost use Rattle.sd_viewer.specs.Viewing.{IsViewed, TellsLine, viewed_answer, viewed_line};
+ghost use Rattle.sd_answers.specs.StreamChanges.{Puts, TellsLine, change_of};
+ghost use Rattle.sd_answers.specs.declared.writing.Unwritten.TheVariants.{Memory};
+ghost use Rattle.sd_viewer.specs.Promises.{KeepsPromises};
+ghost use Rattle.sd_viewer.specs.Viewing.{answer_line, viewed_answer, viewed_line};
 
 use crate::viewing::view_input;
-use sd_answers::{Answer, put_line};
+use sd_answers::{Answer, Unwritten, put_line};
 use sd_text::{Sink, Source};
 use sd_view::drawing_of;
 use std::alloc::Global;
@@ -16,6 +18,17 @@ use std::io;
 const USAGE: &[u8] = b"usage: dispview timeline | timeline FROM TO | trace\n";
 
 const PART: &[u8] = b"timeline: not all ticks and threads are drawn\n";
+
+/// Writes the line of an answer where no drawing was written.
+fn put_answer<E: Sink>(answer: Answer, err: &mut E) -> Result<(), Unwritten>
+    ensures puts { Puts (E.contents err.old) (E.contents err.new) (E.fault_count err.old) (E.fault_count err.new) (answer_line answer) result }
+    ensures no_memory { IsErrOf result Memory → ⊥ }
+{
+    match answer {
+        Answer::Usage => put_line(err, USAGE),
+        other => other.put_line(err),
+    }
+}
 
 /// Writes the line of the answer, or that something was left out, and returns the exit status. A fault of `err` changes none.
 fn tell<E: Sink>(viewed: Result<bool, Answer>, err: &mut E) -> u8
@@ -29,7 +42,7 @@ fn tell<E: Sink>(viewed: Result<bool, Answer>, err: &mut E) -> u8
         }
         Ok(false) => 0,
         Err(answer) => {
-            let _ = answer.put_line(err);
+            let _ = put_answer(answer, err);
             answer.status()
         }
     }
@@ -39,7 +52,7 @@ fn tell<E: Sink>(viewed: Result<bool, Answer>, err: &mut E) -> u8
 /// input holds behind its workload was written), 1 (the arguments are of none of the forms), 2 (the input is too large, holds no
 /// journal or no accepted workload), 3 (a read failed), 4 (a write failed), 5 (out of memory) or 7 (the journal is not that of
 /// a complete run). Nothing is written to `out` before the journal was judged. Each status but 0 leaves a line on `err`, and 0
-/// does where ticks or threads are left out.
+/// does exactly where ticks that were asked for or threads of the workload are left out.
 pub fn view<S: Source, K: Sink, E: Sink>(
     alloc: Global,
     arguments: &[String],
@@ -47,7 +60,7 @@ pub fn view<S: Source, K: Sink, E: Sink>(
     out: &mut K,
     err: &mut E,
 ) -> u8
-    ensures { IsViewed (map string_bytes arguments.now)
+    ensures { KeepsPromises (map string_bytes arguments.now)
         (change_of (S.remaining input.old) (S.remaining input.new) (S.fault_count input.old) (S.fault_count input.new))
         (change_of (K.contents out.old) (K.contents out.new) (K.fault_count out.old) (K.fault_count out.new))
         (change_of (E.contents err.old) (E.contents err.new) (E.fault_count err.old) (E.fault_count err.new))
@@ -55,21 +68,15 @@ pub fn view<S: Source, K: Sink, E: Sink>(
 {
     match drawing_of(arguments) {
         Some(drawing) => tell(view_input(alloc, drawing, input, out), err),
-        None => {
-            let _ = put_line(err, USAGE);
-            1
-        }
+        None => tell(Err(Answer::Usage), err),
     }
 }
 
 /// Writes why the arguments were not read, and returns the exit status: one that is no text is none that the program knows.
 pub(crate) fn refuse_arguments<E: Sink>(error: &io::Error, err: &mut E) -> u8
-    ensures { result ≡ status_of (arguments_answer (error_kind error.now)) }
+    ensures status { result ≡ status_of (arguments_answer (error_kind error.now)) }
+    ensures told { TellsLine (change_of (E.contents err.old) (E.contents err.new) (E.fault_count err.old) (E.fault_count err.new))
+        (answer_line (arguments_answer (error_kind error.now))) }
 {
-    let answer = Answer::of_unread_arguments(error);
-    let _ = match answer {
-        Answer::Usage => put_line(err, USAGE),
-        other => other.put_line(err),
-    };
-    answer.status()
+    tell(Err(Answer::of_unread_arguments(error)), err)
 }

@@ -1,12 +1,11 @@
 //! The drawing of an input that holds a workload and a journal.
 
 ghost use Rattle.sd_answers.specs.StreamChanges.{change_of};
-ghost use Rattle.sd_viewer.specs.Viewing.{CausedByView, IsDrawing, viewed_answer};
+ghost use Rattle.sd_viewer.specs.Viewing.{CausedByView, IsDrawing, viewed_answer, viewed_line};
 
 use sd_answers::{Answer, put_text, read_certificate};
 use sd_text::{Sink, Source};
-use sd_types::Work;
-use sd_view::{Drawing, draw, is_part};
+use sd_view::{Drawing, draw, is_part_of};
 use std::alloc::Global;
 
 /// The text of a drawing, and whether something is left out of it.
@@ -14,13 +13,6 @@ use std::alloc::Global;
 pub struct Drawn {
     pub text: Vec<u8>,
     pub part: bool,
-}
-
-fn is_part_of(work: &Work, drawing: Drawing) -> bool {
-    match drawing {
-        Drawing::Timeline { from, to } => is_part(work, from, to),
-        Drawing::Trace => false,
-    }
 }
 
 /// The drawing of the run whose journal the input holds behind its workload, or why there is none.
@@ -46,7 +38,7 @@ pub(crate) fn view_input<S: Source, K: Sink>(
     ensures { CausedByView drawing
         (change_of (S.remaining input.old) (S.remaining input.new) (S.fault_count input.old) (S.fault_count input.new))
         (change_of (K.contents out.old) (K.contents out.new) (K.fault_count out.old) (K.fault_count out.new))
-        (viewed_answer result) }
+        (viewed_answer result) (viewed_line result) }
 {
     let drawn = draw_input(alloc, drawing, input)?;
     put_text(out, &drawn.text)?;

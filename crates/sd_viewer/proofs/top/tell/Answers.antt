@@ -1,8 +1,7 @@
 use Rattle.std.proofs.Common.{Ok, Bool, sym, ap, subst, ◌∙◌}
-use Rattle.sd_answers.specs.Answers.{line_of}
-use Rattle.sd_answers.specs.StreamChanges.{change_of}
-use Rattle.sd_viewer.specs.Viewing.{TellsLine, part_line, viewed_line}
-use Rattle.sd_viewer.proofs.ViewLemmas.{tells_of}
+use Rattle.sd_answers.specs.StreamChanges.{TellsLine, change_of}
+use Rattle.sd_answers.proofs.PutLemmas.{tells_of}
+use Rattle.sd_viewer.specs.Viewing.{answer_line, part_line, viewed_line}
 use Rattle.sd_viewer.proofs.top.tell.Goals as goal
 
 pub returns-in-Ok-true-clause-told : goal.returns-in-Ok-true-clause-told
@@ -20,6 +19,6 @@ returns-in-Err-clause-told g c =
     let held = g.E.Sink.contents in
     let faults = g.E.Sink.fault_count in
     let a = c.args.err.now in
-    let b = c.put_line-in-Err.new.err in
+    let b = c.put_answer.new.err in
     let err = change_of (held a) (held b) (faults a) (faults b) in
-    subst (TellsLine err) (sym (ap viewed_line c.in-Err.is)) (tells_of err (line_of c.in-Err.answer) c.put_line-in-Err.result c.put_line-in-Err.ensures.puts c.put_line-in-Err.ensures.no_memory)
+    subst (TellsLine err) (sym (ap viewed_line c.in-Err.is)) (tells_of err (answer_line c.in-Err.answer) c.put_answer.result c.put_answer.ensures.puts c.put_answer.ensures.no_memory)

@@ -1,9 +1,31 @@
-use Rattle.std.proofs.Common.{refl, sym, subst, ◌∙◌}
+use Rattle.std.proofs.Common.{map, refl, sym, subst, ◌∙◌}
+use Rattle.std.specs.Prelude.{string_bytes}
 use Rattle.sd_answers.specs.declared.answers.Answer.TheVariants.{Usage}
 use Rattle.sd_answers.specs.StreamChanges.{change_of}
-use Rattle.sd_viewer.specs.Viewing.{CausedBy, usage_line}
-use Rattle.sd_viewer.proofs.ViewLemmas.{tells_of}
+use Rattle.sd_viewer.specs.Viewing.{CausedBy, answer_line, viewed_answer, viewed_line}
+use Rattle.sd_viewer.proofs.ViewLemmas.{promises_of}
 use Rattle.sd_viewer.proofs.top.view.Goals as goal
+
+pub returns-in-Some : goal.returns-in-Some
+returns-in-Some g c =
+    let left = g.S.Source.remaining in
+    let read = g.S.Source.fault_count in
+    let held = g.K.Sink.contents in
+    let written = g.K.Sink.fault_count in
+    let shown = g.E.Sink.contents in
+    let failed = g.E.Sink.fault_count in
+    let i = c.args.input.now in
+    let j = c.view_input.new.input in
+    let o = c.args.out.now in
+    let p = c.view_input.new.out in
+    let e = c.args.err.now in
+    let f = c.tell.new.err in
+    let input = change_of (left i) (left j) (read i) (read j) in
+    let out = change_of (held o) (held p) (written o) (written p) in
+    let answer = viewed_answer c.view_input.result in
+    let line = viewed_line c.view_input.result in
+    promises_of (map string_bytes c.args.arguments.now) input out (change_of (shown e) (shown f) (failed e) (failed f)) answer line c.tell.result c.tell.ensures.status
+    (subst (λ k. CausedBy k input out answer line) (sym (sym c.drawing_of.ensures ∙ c.in-Some.is)) c.view_input.ensures) c.tell.ensures.told
 
 pub returns-in-None : goal.returns-in-None
 returns-in-None g c =
@@ -14,15 +36,9 @@ returns-in-None g c =
     let shown = g.E.Sink.contents in
     let failed = g.E.Sink.fault_count in
     let e = c.args.err.now in
-    let f = c.put_line.new.out in
+    let f = c.tell-in-None.new.err in
     let input = change_of left left read read in
     let out = change_of held held written written in
-    record {
-      answer = Usage;
-      exit = refl;
-      caused = subst (λ o. CausedBy o input out Usage) (sym (sym c.drawing_of.ensures ∙ c.in-None.is))
-          (refl, record { bytes = refl; no_fault = refl }, record { bytes = refl; no_fault = refl });
-      line = usage_line;
-      is_line = refl;
-      told = tells_of (change_of (shown e) (shown f) (failed e) (failed f)) usage_line c.put_line.result c.put_line.ensures.puts c.put_line.ensures.no_memory;
-    }
+    promises_of (map string_bytes c.args.arguments.now) input out (change_of (shown e) (shown f) (failed e) (failed f)) Usage (answer_line Usage) c.tell-in-None.result c.tell-in-None.ensures.status
+    (subst (λ k. CausedBy k input out Usage (answer_line Usage)) (sym (sym c.drawing_of.ensures ∙ c.in-None.is))
+    (refl, refl, record { bytes = refl; no_fault = refl }, record { bytes = refl; no_fault = refl })) c.tell-in-None.ensures.told

@@ -1,9 +1,11 @@
-use Rattle.std.proofs.Common.{subst}
+use Rattle.std.proofs.Common.{◌≡◌, subst}
 use Rattle.sd_audit.specs.Audits.{IsFault}
 use Rattle.sd_answers.specs.Answers.{audit_answer}
 use Rattle.sd_answers.specs.StreamChanges.{change_of}
-use Rattle.sd_view.specs.Drawings.{IsDrawn}
-use Rattle.sd_viewer.proofs.ViewLemmas.{unjudged, drawing_exit}
+use Rattle.sd_answers.proofs.CertificateLemmas.{unjudged, judged_exit}
+use Rattle.sd_view.specs.Drawings.{IsDrawn, is_part_of}
+use Rattle.sd_viewer.specs.declared.viewing.Drawn.{Drawn}
+use Rattle.sd_viewer.specs.Viewing.{IsDrawnInput}
 use Rattle.sd_viewer.proofs.viewing.draw_input.Goals as goal
 
 pub returns-in_err-text : goal.returns-in_err-text
@@ -15,16 +17,20 @@ returns-in_err-text g c =
     let input = change_of (left i) (left j) (faults i) (faults j) in
     let found = c.in_ok-certificate.certificate in
     let fault = c.in_err-text.field-0.0 in
-    drawing_exit c.args.drawing input c.from_residual-in_err-text.result (audit_answer fault) c.from_residual-in_err-text.ensures.1
-    (unjudged c.args.drawing input found.work found.journal.items fault c.in_ok-certificate.ensures
+    let drawing = c.args.drawing in
+    let Made = λ (d : Drawn). (of : IsDrawnInput drawing input d.text.items) × (d.part ≡ is_part_of drawing of.work) in
+    judged_exit Made input c.from_residual-in_err-text.result (audit_answer fault) c.from_residual-in_err-text.ensures.1
+    (unjudged Made input found.work found.journal.items fault c.in_ok-certificate.ensures
     (subst (λ text. IsFault found.work text fault) c.deref.ensures.value c.in_err-text.ensures.fault))
 
 pub returns : goal.returns
 returns g c =
-    let found = c.in_ok-certificate.certificate in
-    record {
-      work = found.work;
-      journal = found.journal.items;
-      certificate = c.in_ok-certificate.ensures;
-      drawn = subst (λ text. IsDrawn c.args.drawing found.work text c.in_ok-text.text.items) c.deref.ensures.value c.in_ok-text.ensures.drawn;
-    }
+    let found = c.in_ok-certificate.certificate in (
+      record {
+        work = found.work;
+        journal = found.journal.items;
+        certificate = c.in_ok-certificate.ensures;
+        drawn = subst (λ text. IsDrawn c.args.drawing found.work text c.in_ok-text.text.items) c.deref.ensures.value c.in_ok-text.ensures.drawn;
+      },
+      c.is_part_of.ensures,
+    )

@@ -1,6 +1,7 @@
-use Rattle.std.proofs.Common.{refl, subst, List, ℕ, Ok, Err}
+use Rattle.std.proofs.Common.{refl, ap, subst, List, ℕ, Ok, Err}
 use Rattle.sd_answers.specs.StreamChanges.{change_of, Puts}
 use Rattle.sd_answers.specs.Answers.{unwritten_answer}
+use Rattle.sd_viewer.specs.Viewing.{drawn_line}
 use Rattle.sd_viewer.proofs.ViewLemmas.{undrawn, unwritten_view, view_exit}
 use Rattle.sd_viewer.proofs.viewing.view_input.Goals as goal
 
@@ -33,7 +34,7 @@ returns-in_err-put_text g c =
     let text = c.in_ok-drawn.drawn.text.items in
     let e = c.in_err-put_text.field-0.0 in
     view_exit c.args.drawing input out c.from_residual-in_err-put_text.result (unwritten_answer e) c.from_residual-in_err-put_text.ensures.1
-    (unwritten_view c.args.drawing input out text e c.in_ok-drawn.ensures
+    (unwritten_view c.args.drawing input out text e c.in_ok-drawn.ensures.0
     (subst (λ (t : List ℕ). Puts (held o) (held p) (written o) (written p) t (Err e)) c.deref.ensures.value c.in_err-put_text.ensures))
 
 pub returns : goal.returns
@@ -43,4 +44,5 @@ returns g c =
     let o = c.args.out.now in
     let p = c.put_text.new.out in
     let puts = subst (λ (t : List ℕ). Puts (held o) (held p) (written o) (written p) t (Ok tt)) c.deref.ensures.value c.in_ok-put_text.ensures in
-    (c.in_ok-drawn.drawn.text.items, c.in_ok-drawn.ensures, puts.ok, puts.no_fault (λ is. cc))
+    let drawn = c.in_ok-drawn.drawn in
+    (drawn.text.items, c.in_ok-drawn.ensures.0, puts.ok, puts.no_fault (λ is. cc), ap drawn_line c.in_ok-drawn.ensures.1)

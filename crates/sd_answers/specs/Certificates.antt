@@ -1,0 +1,97 @@
+-- What a program that judges a certificate (a workload, the line `journal` and the journal of a run) answers.
+-- Source: this project's own.
+use Rattle.std.specs.Prelude.{◌≡◌, ℕ, ◌<◌, ◌≤◌, List, length, Some, Result, Ok, Err, ◌⊎◌}
+use Rattle.std.specs.Io.KnownBytes.{Appends}
+use Rattle.sd_types.specs.declared.works.Work.{Work}
+use Rattle.sd_machine.specs.declared.states.State.{State}
+use Rattle.sd_workload.specs.Accepted.{Accepted}
+use Rattle.sd_cut.specs.Cuts.{HasNoJournal, IsCut}
+use Rattle.sd_audit.specs.Audits.{IsFault, IsJournal}
+use Rattle.sd_answers.specs.declared.answers.JournalFault.{JournalFault}
+use Rattle.sd_answers.specs.declared.answers.Answer.{Answer}
+use Rattle.sd_answers.specs.declared.answers.Answer.TheVariants.{Done, TooLarge, TooLargeToAudit, NoJournal, Refused, ReadFault, WriteFault, OutOfMemory, NotAJournal}
+use Rattle.sd_answers.specs.Answers.{audit_fault}
+use Rattle.sd_answers.specs.Inputs.{most_bytes, most_certificate, HasAtMost, IsCertificate, IsNoCertificate}
+use Rattle.sd_answers.specs.StreamChanges.{StreamChange, HasFault, HasNoFault, IsUntouched, AppendsPart}
+
+-- the text is the journal of a complete run of the workload
+abbrev pub IsJournalOf : List ℕ → Work → Type 0
+IsJournalOf text w = (s : State) × (n : ℕ) × IsJournal w text s n
+
+-- the input is a workload and the journal of a complete run of it
+pub record HoldsJournal (input : StreamChange) : Type 0 where
+  pub work : Work
+  pub text : List ℕ
+  pub certificate : IsCertificate input work text
+  pub journal : IsJournalOf text work
+
+-- the input is a workload and a text that is not the journal of a complete run of it: this is first at fault
+pub record IsFaulty (input : StreamChange) (fault : JournalFault) : Type 0 where
+  pub work : Work
+  pub text : List ℕ
+  pub certificate : IsCertificate input work text
+  pub is : IsFault work text (audit_fault fault)
+
+-- and nothing is written of it
+abbrev pub RefusesJournal : StreamChange → StreamChange → Type 0
+RefusesJournal input out = (fault : JournalFault) × IsFaulty input fault × IsUntouched out
+
+-- ---- the answer, where `Made` says of what is made of the run that it is, and `written` which text of it is written
+
+-- what is made of the run whose journal the input holds, or why it holds none
+abbrev pub IsJudged : {X : Type 0} → (X → Type 0) → StreamChange → Result X Answer → Type 0
+IsJudged Made input (Ok made) = Made made
+IsJudged Made input (Err (NotAJournal fault)) = IsFaulty input fault
+IsJudged Made input (Err a) = IsNoCertificate input a
+
+-- the text was written whole
+abbrev pub Writes : {X : Type 0} → (X → Type 0) → (X → List ℕ) → StreamChange → Type 0
+Writes {X} Made written out = (made : X) × Made made × Appends out.before out.after (written made) × HasNoFault out
+
+-- the answer and its cause
+abbrev pub CausedByCertificate : {X : Type 0} → (X → Type 0) → (X → List ℕ) → StreamChange → StreamChange → Answer → Type 0
+CausedByCertificate Made written input out Done = Writes Made written out
+CausedByCertificate Made written input out TooLarge = IsNoCertificate input TooLarge × IsUntouched out
+CausedByCertificate Made written input out TooLargeToAudit = IsNoCertificate input TooLargeToAudit × IsUntouched out
+CausedByCertificate Made written input out NoJournal = IsNoCertificate input NoJournal × IsUntouched out
+CausedByCertificate Made written input out (Refused line cause) = IsNoCertificate input (Refused line cause) × IsUntouched out
+CausedByCertificate Made written input out ReadFault = IsNoCertificate input ReadFault × IsUntouched out
+CausedByCertificate Made written input out (NotAJournal fault) = IsFaulty input fault × IsUntouched out
+CausedByCertificate {X} Made written input out WriteFault = (made : X) × Made made × HasFault out × AppendsPart out.before out.after (written made)
+CausedByCertificate {X} Made written input out OutOfMemory =
+    HasAtMost most_certificate input × HasNoFault out
+    × (IsUntouched out ⊎ ((made : X) × Made made × AppendsPart out.before out.after (written made)))
+CausedByCertificate Made written input out _ = ⊥
+
+-- ---- the other sides, of an input that tells its bytes
+
+-- These are the bytes of the input: an accepted workload of no more than it may have, the line `journal` and the text, of
+-- which this holds, with each workload that the part before this line is accepted as. (All of them have the same parts.)
+pub record Certifies (bytes text : List ℕ) (P : Work → Type 0) : Type 0 where
+  pub before : List ℕ
+  pub many : length bytes ≤ most_certificate
+  pub cut : IsCut bytes before text
+  pub bound : length before ≤ most_bytes
+  pub some : (w : Work) × Accepted before w
+  pub each : (w : Work) → Accepted before w → P w
+
+-- a text that is the journal of a complete run is found to be, unless memory runs out
+abbrev pub CompletesCertificate : StreamChange → StreamChange → ℕ → Type 0
+CompletesCertificate input out status =
+    (HasFault input → ⊥) → (HasFault out → ⊥)
+    → (bytes text : List ℕ) → input.before ≡ Some bytes → Certifies bytes text (IsJournalOf text) → (status ≡ 0) ⊎ (status ≡ 5)
+
+-- and one that is not is found not to be
+abbrev pub RefusesFaulty : StreamChange → ℕ → Type 0
+RefusesFaulty input status =
+    (HasFault input → ⊥)
+    → (bytes text : List ℕ) → input.before ≡ Some bytes → Certifies bytes text (λ w. IsJournalOf text w → ⊥) → (status ≡ 7) ⊎ (status ≡ 5)
+
+-- what is no certificate: it is too large, has no line `journal`, or what stands before this line is too large or no workload
+abbrev pub IsNone : List ℕ → Type 0
+IsNone bytes =
+    (most_certificate < length bytes)
+    ⊎ (HasNoJournal bytes ⊎ ((before : List ℕ) × (text : List ℕ) × IsCut bytes before text × ((most_bytes < length before) ⊎ ((w : Work) → Accepted before w → ⊥))))
+
+abbrev pub RefusesCertificate : StreamChange → ℕ → Type 0
+RefusesCertificate input status = (HasFault input → ⊥) → (bytes : List ℕ) → input.before ≡ Some bytes → IsNone bytes → (status ≡ 2) ⊎ (status ≡ 5)
