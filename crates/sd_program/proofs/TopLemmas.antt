@@ -1,7 +1,5 @@
 -- What the answers' causes give.
 use Rattle.std.proofs.Common.{◌≡◌, ℕ, ◌<◌, ◌≤◌, List, length, Some, None, Result, Ok, Err, refl, sym, ap, subst, ◌∙◌, inl, inr, arith}
-use Rattle.std.proofs.lemmas.List.{take_all}
-use Rattle.std.specs.Io.KnownBytes.{Appends}
 use Rattle.sd_types.specs.declared.works.Work.{Work}
 use Rattle.std.specs.Prelude.{IfErr, ◌⊎◌, ◌↔◌}
 use Rattle.std.specs.Result.{IsErrOf, IsErrAnd}
@@ -24,14 +22,14 @@ use Rattle.sd_answers.specs.declared.writing.Unwritten.{Unwritten}
 use Rattle.sd_answers.specs.declared.writing.Unwritten.TheVariants as unwritten
 use Rattle.sd_answers.specs.declared.answers.Answer.{Answer}
 use Rattle.sd_answers.specs.declared.answers.Answer.TheVariants.{Done, Usage, TooLarge, TooLargeToAudit, NoJournal, Refused, ReadFault, WriteFault, OutOfMemory, Blocked, NotAJournal, TooLong}
-use Rattle.sd_answers.specs.Answers.{status_of, line_of, answer_of, stop_answer, unwritten_answer}
+use Rattle.sd_answers.specs.Answers.{status_of, answer_of, stop_answer, unwritten_answer}
 use Rattle.sd_answers.specs.StreamChanges.{StreamChange, HasFault, IsUntouched, Puts}
 use Rattle.sd_program.specs.Forms.{command_of, turns_of, text_of}
 use Rattle.sd_program.specs.RunAnswers.{Writes, Ran}
 use Rattle.sd_program.specs.TheRun.{IsTheRun}
 use Rattle.sd_answers.specs.Inputs.{most_bytes, HasTooMany, IsWorkload, IsNoWorkload, IsRefused}
-use Rattle.sd_answers.proofs.InputLemmas.{taken_within, taken_all, at_most_of}
-use Rattle.sd_program.specs.Headline.{RanInput, CausedByInput, PrintsTables, CausedByTables, CausedByNumber, CausedBy, Caused, Tells, Completes, CompletesTables, Refuses}
+use Rattle.sd_answers.proofs.InputLemmas.{taken_within, taken_all, at_most_of, not_both}
+use Rattle.sd_program.specs.Headline.{RanInput, CausedByInput, PrintsTables, CausedByTables, CausedByNumber, CausedBy, Caused, Completes, CompletesTables, Refuses}
 
 -- what the arguments ask for is one thing
 pub same_command : (arguments : List (List ℕ)) (j k : Command) → command_of arguments ≡ Some j → command_of arguments ≡ Some k → j ≡ k
@@ -95,10 +93,6 @@ generates_of arguments n input out WriteFault known c s = absurd (omega arith)
 generates_of arguments n input out OutOfMemory known c s = absurd (omega arith)
 generates_of arguments n input out Blocked known c s = absurd (omega arith)
 generates_of arguments n input out TooLong known c s = absurd (omega arith)
-
--- a text is not both accepted and refused
-pub not_both : (bytes : List ℕ) (w : Work) (line : ℕ) (cause : WorkCause) → Accepted bytes w → FirstCause bytes line cause → ⊥
-not_both bytes w line cause accepted first = cc (accepted.accepted)
 
 pub some_command : (arguments : List (List ℕ)) (k : Command) → command_of arguments ≡ Some k → command_of arguments ≡ None → ⊥
 some_command arguments k some none = cc
@@ -208,16 +202,6 @@ usage_of arguments input out WriteFault c = (λ e. absurd (omega arith), λ othe
 usage_of arguments input out OutOfMemory c = (λ e. absurd (omega arith), λ other. absurd (some_command arguments c.0 c.1 other))
 usage_of arguments input out Blocked c = (λ e. absurd (omega arith), λ other. absurd (some_command arguments c.0 c.1 other))
 usage_of arguments input out TooLong c = (λ e. absurd (omega arith), λ other. absurd (some_command arguments c.0 c.1 other))
-
--- what writing the answer's line did
-pub told_of : (err : StreamChange) (a : Answer) (r : Result (Unit {0}) Unwritten) → Puts err.before err.after err.faults_before err.faults_after (line_of a) r
-    → (IsErrOf r unwritten.Memory → ⊥) → Tells err a
-told_of err a (Ok u) p none = record {
-  part = (length (line_of a), subst (Appends err.before err.after) (sym (take_all (length (line_of a)) (line_of a) (let e : length (line_of a) ≤ length (line_of a) = omega arith in e))) p.ok);
-  whole = λ sound. p.ok;
-}
-told_of err a (Err unwritten.Fault) p none = record { part = p.part; whole = λ sound. absurd (sound (p.fault refl)) }
-told_of err a (Err unwritten.Memory) p none = absurd (none refl)
 
 -- ---- the answer of the run of an input
 

@@ -1,18 +1,13 @@
 -- What stands behind an answer of the program to the argument `audit`.
 -- Source: this project's own.
-use Rattle.std.specs.Prelude.{◌≡◌, ℕ, ◌<◌, ◌≤◌, List, ◌++◌, length, codes, decimal, Some, Result, Ok, Err, ◌⊎◌}
-use Rattle.std.specs.Io.KnownBytes.{Appends}
+use Rattle.std.specs.Prelude.{ℕ, List, ◌++◌, codes, decimal, Result}
 use Rattle.sd_types.specs.declared.works.Work.{Work}
 use Rattle.sd_machine.specs.declared.states.State.{State}
-use Rattle.sd_workload.specs.Accepted.{Accepted}
-use Rattle.sd_cut.specs.Cuts.{HasNoJournal, IsCut}
-use Rattle.sd_audit.specs.Audits.{IsFault, IsJournal}
-use Rattle.sd_answers.specs.declared.answers.JournalFault.{JournalFault}
+use Rattle.sd_audit.specs.Audits.{IsJournal}
 use Rattle.sd_answers.specs.declared.answers.Answer.{Answer}
-use Rattle.sd_answers.specs.declared.answers.Answer.TheVariants.{Done, TooLarge, TooLargeToAudit, NoJournal, Refused, ReadFault, WriteFault, OutOfMemory, NotAJournal}
-use Rattle.sd_answers.specs.Answers.{audit_fault}
-use Rattle.sd_answers.specs.Inputs.{most_bytes, most_certificate, HasAtMost, IsCertificate, IsNoCertificate}
-use Rattle.sd_answers.specs.StreamChanges.{StreamChange, HasFault, HasNoFault, IsUntouched, AppendsPart}
+use Rattle.sd_answers.specs.Certificates.{CausedByCertificate, IsJudged, Writes}
+use Rattle.sd_answers.specs.Inputs.{IsCertificate}
+use Rattle.sd_answers.specs.StreamChanges.{StreamChange}
 
 -- the line that says that a journal is that of a complete run of so many entries
 abbrev pub legal_text : ℕ → List ℕ
@@ -28,71 +23,12 @@ pub record IsLegal (input : StreamChange) (n : ℕ) : Type 0 where
 
 -- and the line that says so was written
 abbrev pub CertifiesInput : StreamChange → StreamChange → Type 0
-CertifiesInput input out = (n : ℕ) × IsLegal input n × Appends out.before out.after (legal_text n) × HasNoFault out
-
--- the input is a workload and a text that is not the journal of a complete run of it: this is first at fault
-pub record IsFaulty (input : StreamChange) (fault : JournalFault) : Type 0 where
-  pub work : Work
-  pub text : List ℕ
-  pub certificate : IsCertificate input work text
-  pub is : IsFault work text (audit_fault fault)
-
-abbrev pub RefusesJournal : StreamChange → StreamChange → Type 0
-RefusesJournal input out = (fault : JournalFault) × IsFaulty input fault × IsUntouched out
+CertifiesInput input out = Writes (IsLegal input) legal_text out
 
 -- how many entries the run has whose journal the input holds, or why it holds none
 abbrev pub IsLegalReading : StreamChange → Result ℕ Answer → Type 0
-IsLegalReading input (Ok n) = IsLegal input n
-IsLegalReading input (Err (NotAJournal fault)) = IsFaulty input fault
-IsLegalReading input (Err a) = IsNoCertificate input a
+IsLegalReading input entries = IsJudged (IsLegal input) input entries
 
 -- the answer to the argument `audit`
 abbrev pub CausedByAudit : StreamChange → StreamChange → Answer → Type 0
-CausedByAudit input out Done = CertifiesInput input out
-CausedByAudit input out TooLarge = IsNoCertificate input TooLarge × IsUntouched out
-CausedByAudit input out TooLargeToAudit = IsNoCertificate input TooLargeToAudit × IsUntouched out
-CausedByAudit input out NoJournal = IsNoCertificate input NoJournal × IsUntouched out
-CausedByAudit input out (Refused line cause) = IsNoCertificate input (Refused line cause) × IsUntouched out
-CausedByAudit input out ReadFault = IsNoCertificate input ReadFault × IsUntouched out
-CausedByAudit input out (NotAJournal fault) = IsFaulty input fault × IsUntouched out
-CausedByAudit input out WriteFault = (n : ℕ) × IsLegal input n × HasFault out × AppendsPart out.before out.after (legal_text n)
-CausedByAudit input out OutOfMemory =
-    HasAtMost most_certificate input × HasNoFault out × (IsUntouched out ⊎ ((n : ℕ) × IsLegal input n × AppendsPart out.before out.after (legal_text n)))
-CausedByAudit input out _ = ⊥
-
--- ---- the other sides, of an input that tells its bytes
-
--- These are the bytes of the input: an accepted workload of no more than it may have, the line `journal` and the text, of
--- which this holds, with each workload that the part before this line is accepted as. (All of them have the same parts.)
-pub record Certifies (bytes text : List ℕ) (P : Work → Type 0) : Type 0 where
-  pub before : List ℕ
-  pub many : length bytes ≤ most_certificate
-  pub cut : IsCut bytes before text
-  pub bound : length before ≤ most_bytes
-  pub some : (w : Work) × Accepted before w
-  pub each : (w : Work) → Accepted before w → P w
-
--- the text is the journal of a complete run of the workload
-abbrev pub IsJournalOf : List ℕ → Work → Type 0
-IsJournalOf text w = (s : State) × (n : ℕ) × IsJournal w text s n
-
--- a text that is the journal of a complete run is found to be, unless memory runs out
-abbrev pub CompletesAudit : StreamChange → StreamChange → ℕ → Type 0
-CompletesAudit input out status =
-    (HasFault input → ⊥) → (HasFault out → ⊥)
-    → (bytes text : List ℕ) → input.before ≡ Some bytes → Certifies bytes text (IsJournalOf text) → (status ≡ 0) ⊎ (status ≡ 5)
-
--- and one that is not is found not to be
-abbrev pub RefusesFaulty : StreamChange → ℕ → Type 0
-RefusesFaulty input status =
-    (HasFault input → ⊥)
-    → (bytes text : List ℕ) → input.before ≡ Some bytes → Certifies bytes text (λ w. IsJournalOf text w → ⊥) → (status ≡ 7) ⊎ (status ≡ 5)
-
--- what is no certificate: it is too large, has no line `journal`, or what stands before this line is too large or no workload
-abbrev pub IsNone : List ℕ → Type 0
-IsNone bytes =
-    (most_certificate < length bytes)
-    ⊎ (HasNoJournal bytes ⊎ ((before : List ℕ) × (text : List ℕ) × IsCut bytes before text × ((most_bytes < length before) ⊎ ((w : Work) → Accepted before w → ⊥))))
-
-abbrev pub RefusesCertificate : StreamChange → ℕ → Type 0
-RefusesCertificate input status = (HasFault input → ⊥) → (bytes : List ℕ) → input.before ≡ Some bytes → IsNone bytes → (status ≡ 2) ⊎ (status ≡ 5)
+CausedByAudit input out a = CausedByCertificate (IsLegal input) legal_text input out a

@@ -8,8 +8,9 @@ use Rattle.sd_workload.specs.Accepted.{Accepted}
 use Rattle.sd_answers.specs.declared.answers.Answer.{Answer}
 use Rattle.sd_answers.specs.declared.answers.Answer.TheVariants.{Done, Usage, TooLarge, Refused, ReadFault, WriteFault, OutOfMemory, Blocked, TooLong}
 use Rattle.sd_answers.specs.Answers.{status_of, line_of}
+use Rattle.sd_answers.specs.Certificates.{CompletesCertificate, RefusesCertificate, RefusesFaulty, RefusesJournal}
 use Rattle.sd_answers.specs.Inputs.{most_bytes, HasAtMost, HasTooMany, IsWorkload, IsNoWorkload}
-use Rattle.sd_answers.specs.StreamChanges.{StreamChange, HasFault, HasNoFault, IsUntouched, AppendsPart}
+use Rattle.sd_answers.specs.StreamChanges.{StreamChange, HasFault, HasNoFault, IsUntouched, AppendsPart, TellsLine}
 use Rattle.sd_gen.specs.Generated.{generated}
 use Rattle.sd_program.specs.declared.forms.Form.{Form}
 use Rattle.sd_program.specs.declared.forms.Command.{Command}
@@ -17,7 +18,7 @@ use Rattle.sd_program.specs.declared.forms.Command.TheVariants.{Run, Tables, Gen
 use Rattle.sd_program.specs.Forms.{command_of}
 use Rattle.sd_canonical.specs.Blocks.{tables_text}
 use Rattle.sd_program.specs.RunAnswers.{Ran}
-use Rattle.sd_program.specs.AuditAnswers.{CausedByAudit, CertifiesInput, RefusesJournal, CompletesAudit, RefusesCertificate, RefusesFaulty}
+use Rattle.sd_program.specs.AuditAnswers.{CausedByAudit, CertifiesInput}
 
 -- the input is an accepted workload, whose run ended so
 abbrev pub RanInput : Form → StreamChange → StreamChange → Answer → Type 0
@@ -69,9 +70,8 @@ Caused arguments input out Usage = (command_of arguments ≡ None) × IsUntouche
 Caused arguments input out a = (command : Command) × (command_of arguments ≡ Some command) × CausedBy command input out a
 
 -- the answer's line was written to the error output, whole where no fault was counted, and else a prefix of it
-pub record Tells (err : StreamChange) (a : Answer) : Type 0 where
-  pub part : AppendsPart err.before err.after (line_of a)
-  pub whole : (HasFault err → ⊥) → Appends err.before err.after (line_of a)
+abbrev pub Tells : StreamChange → Answer → Type 0
+Tells err a = TellsLine err (line_of a)
 
 -- there is an answer with this status, with its cause and its line
 pub record IsAnswered (arguments : List (List ℕ)) (input out err : StreamChange) (exit : ℕ) : Type 0 where
@@ -117,7 +117,7 @@ pub record KeepsPromises (arguments : List (List ℕ)) (input out err : StreamCh
   pub completes : (form : Form) → command_of arguments ≡ Some (Run form) → Completes form input out status
   pub completes_tables : command_of arguments ≡ Some Tables → CompletesTables input out status
   pub completes_generated : (n : ℕ) → command_of arguments ≡ Some (Generate n) → (HasFault out → ⊥) → (status ≡ 0) ⊎ (status ≡ 5)
-  pub completes_audit : command_of arguments ≡ Some Audit → CompletesAudit input out status
+  pub completes_audit : command_of arguments ≡ Some Audit → CompletesCertificate input out status
   pub refuses : (form : Form) → command_of arguments ≡ Some (Run form) → Refuses input status
   pub refuses_tables : command_of arguments ≡ Some Tables → Refuses input status
   pub refuses_audit : command_of arguments ≡ Some Audit → RefusesCertificate input status
