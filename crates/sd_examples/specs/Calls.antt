@@ -1,6 +1,6 @@
 -- Calls of the two programs on texts in memory.
 -- Source: this project's own.
-use Rattle.std.specs.Prelude.{◌≡◌, ℕ, List, [], ◌∷◌, ◌++◌, codes, Some, ◌⊎◌}
+use Rattle.std.specs.Prelude.{◌≡◌, ℕ, List, [], ◌∷◌, ◌++◌, codes, Some}
 use Rattle.sd_answers.specs.StreamChanges.{StreamChange}
 use Rattle.sd_program.specs.Headline.{KeepsPromises}
 use Rattle.sd_viewer.specs.Viewing.{IsViewed}
@@ -25,10 +25,6 @@ Runs workload text status = Writes (KeepsPromises (codes "run" ∷ [])) workload
 -- `dispview`, with this argument and on this certificate, wrote this text and returned this status
 abbrev pub Views : List ℕ → List ℕ → List ℕ → ℕ → Type 0
 Views word certificate text status = Writes (IsViewed (word ∷ [])) certificate text status
-
--- the text is the journal of the run of this workload: status 6 says that threads block each other at its end
-abbrev pub IsJournalOf : List ℕ → List ℕ → Type 0
-IsJournalOf workload text = Runs workload text 0 ⊎ Runs workload text 6
 
 -- a workload and a journal as one text
 abbrev pub certificate_of : List ℕ → List ℕ → List ℕ

@@ -3,16 +3,9 @@
 use Rattle.std.specs.Prelude.{◌≡◌, ◌≢◌, ℕ, List, codes, Option, Some, None, IfSome}
 use Rattle.sd_examples.specs.declared.verdicts.Verdict.{Verdict}
 use Rattle.sd_examples.specs.declared.verdicts.Verdict.TheVariants.{Same, NotRun, NotDrawn, OtherPicture, NotTraced, NotJson, OtherTrace}
-use Rattle.sd_examples.specs.Calls.{certificate_of, IsJournalOf, Runs, Views}
+use Rattle.sd_examples.specs.Calls.{certificate_of}
+use Rattle.sd_examples.specs.Outcomes.{Draws, HasNoJournal, IsJournalOf, Refuses}
 use Rattle.sd_examples.specs.Traces.{Counts}
-
--- `dispview` drew this of the certificate
-abbrev pub Draws : List ℕ → List ℕ → List ℕ → Type 0
-Draws word certificate text = Views word certificate text 0
-
--- it drew nothing, and returned this status
-abbrev pub Refuses : List ℕ → List ℕ → ℕ → Type 0
-Refuses word certificate status = ((text : List ℕ) × Views word certificate text status) × (status ≢ 0)
 
 -- what is said of the trace of a certificate, and of the one stored if there is one
 abbrev pub SaysOfTrace : List ℕ → Option (List ℕ) → Verdict → Type 0
@@ -33,6 +26,6 @@ SaysOfCertificate certificate picture trace v = Draws (codes "timeline") certifi
 -- What is said of a workload, its stored picture and its stored trace: the certificate is the workload with the journal of
 -- its run.
 abbrev pub Says : List ℕ → List ℕ → Option (List ℕ) → Verdict → Type 0
-Says workload picture trace (NotRun status) = (text : List ℕ) × Runs workload text status × (status ≢ 0) × (status ≢ 6)
+Says workload picture trace (NotRun status) = HasNoJournal workload status
 Says workload picture trace v =
     (journal : List ℕ) × IsJournalOf workload journal × SaysOfCertificate (certificate_of workload journal) picture trace v

@@ -1,7 +1,8 @@
 //! Calls of the two programs over inputs and outputs in memory.
 
-ghost use Rattle.std.specs.Prelude.{◌≡◌, ◌≤◌, [], ◌∷◌, IfOk, codes, length, map, string_bytes};
+ghost use Rattle.std.specs.Prelude.{◌≡◌, [], ◌∷◌, IfOk, map, string_bytes};
 ghost use Rattle.sd_examples.specs.Calls.{certificate_of, Runs, Views};
+ghost use Rattle.sd_examples.specs.Outcomes.{IsDrawing, IsRun};
 
 use sd_program::{OpenGate, serial};
 use sd_text::{MemorySink, MemorySource};
@@ -13,9 +14,16 @@ const ROOM: usize = 1_048_576;
 
 /// A status, and what was written on the output.
 #[derive(Drop)]
-pub struct Called {
+pub struct Finished {
     pub status: u8,
     pub out: MemorySink,
+}
+
+/// What a call gave: what it wrote, or the status that says why it did not do what was asked.
+#[derive(Drop)]
+pub enum Outcome {
+    Wrote(MemorySink),
+    Refused { status: u8 },
 }
 
 fn one_argument(alloc: Global, word: &str) -> Result<Vec<String>, AllocError>
@@ -39,27 +47,53 @@ fn output(alloc: Global) -> Result<MemorySink, AllocError>
 }
 
 /// Calls `dispsim run` on the workload.
-pub fn run(alloc: Global, workload: &[u8]) -> Result<Called, AllocError>
-    ensures { IfOk result (λ called. Runs workload.now called.out.held called.status) }
+fn call_run(alloc: Global, workload: &[u8]) -> Result<Finished, AllocError>
+    ensures { IfOk result (λ call. Runs workload.now call.out.held call.status) }
 {
     let arguments = one_argument(alloc, "run")?;
     let mut input = input_of(alloc, workload)?;
     let mut out = output(alloc)?;
     let mut err = output(alloc)?;
     let status = serial(alloc, &arguments, &mut input, &mut out, &mut err, &OpenGate);
-    Ok(Called { status, out })
+    Ok(Finished { status, out })
 }
 
 /// Calls `dispview` on the certificate, with the word as its argument.
-pub fn call_view(alloc: Global, word: &str, certificate: &[u8]) -> Result<Called, AllocError>
-    ensures { IfOk result (λ called. Views word.now certificate.now called.out.held called.status) }
+fn call_view(alloc: Global, word: &str, certificate: &[u8]) -> Result<Finished, AllocError>
+    ensures { IfOk result (λ call. Views word.now certificate.now call.out.held call.status) }
 {
     let arguments = one_argument(alloc, word)?;
     let mut input = input_of(alloc, certificate)?;
     let mut out = output(alloc)?;
     let mut err = output(alloc)?;
     let status = view(alloc, &arguments, &mut input, &mut out, &mut err);
-    Ok(Called { status, out })
+    Ok(Finished { status, out })
+}
+
+/// The journal that `dispsim run` writes of the workload.
+pub fn run(alloc: Global, workload: &[u8]) -> Result<Outcome, AllocError>
+    ensures { IfOk result (IsRun workload.now) }
+{
+    let call = call_run(alloc, workload)?;
+    if call.status != 0 && call.status != 6 {
+        return Ok(Outcome::Refused {
+            status: call.status,
+        });
+    }
+    Ok(Outcome::Wrote(call.out))
+}
+
+/// What `dispview` draws of the certificate, with the word as its argument.
+pub fn draw(alloc: Global, word: &str, certificate: &[u8]) -> Result<Outcome, AllocError>
+    ensures { IfOk result (IsDrawing word.now certificate.now) }
+{
+    let call = call_view(alloc, word, certificate)?;
+    if call.status != 0 {
+        return Ok(Outcome::Refused {
+            status: call.status,
+        });
+    }
+    Ok(Outcome::Wrote(call.out))
 }
 
 /// The workload, the line `journal` and the journal.

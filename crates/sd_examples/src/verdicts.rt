@@ -4,7 +4,7 @@ ghost use Rattle.std.specs.Prelude.{IfOk};
 ghost use Rattle.std.specs.Option.{option_copied};
 ghost use Rattle.sd_examples.specs.Verdicts.{Says, SaysOfCertificate, SaysOfTrace};
 
-use crate::calls::{call_view, certificate, run};
+use crate::calls::{Outcome, certificate, draw, run};
 use crate::traces::count_events;
 use std::alloc::{AllocError, Global};
 use std::fmt;
@@ -14,7 +14,7 @@ use std::fmt;
 pub enum Verdict {
     /// The picture and the trace are as stored, and the trace is JSON with an array of so many events.
     Same { events: usize },
-    /// `dispsim run` returned this status, neither 0 nor 6.
+    /// `dispsim run` returned this status, and there is no journal.
     NotRun { status: u8 },
     /// `dispview timeline` returned this status.
     NotDrawn { status: u8 },
@@ -53,13 +53,11 @@ fn judge_trace(
 ) -> Result<Verdict, AllocError>
     ensures { IfOk result (SaysOfTrace certificate.now (option_copied stored.entry)) }
 {
-    let trace = call_view(alloc, "trace", certificate)?;
-    let text = trace.out.bytes();
-    if trace.status != 0 {
-        return Ok(Verdict::NotTraced {
-            status: trace.status,
-        });
-    }
+    let trace = match draw(alloc, "trace", certificate)? {
+        Outcome::Wrote(trace) => trace,
+        Outcome::Refused { status } => return Ok(Verdict::NotTraced { status }),
+    };
+    let text = trace.bytes();
     let Some(events) = count_events(alloc, text)? else {
         return Ok(Verdict::NotJson);
     };
@@ -77,16 +75,14 @@ fn judge_certificate(
 ) -> Result<Verdict, AllocError>
     ensures { IfOk result (SaysOfCertificate certificate.now picture.now (option_copied trace.entry)) }
 {
-    let drawn = call_view(alloc, "timeline", certificate)?;
-    if drawn.status != 0 {
-        Ok(Verdict::NotDrawn {
-            status: drawn.status,
-        })
-    } else if drawn.out.bytes() != picture {
-        Ok(Verdict::OtherPicture)
-    } else {
-        judge_trace(alloc, certificate, trace)
+    let drawn = match draw(alloc, "timeline", certificate)? {
+        Outcome::Wrote(drawn) => drawn,
+        Outcome::Refused { status } => return Ok(Verdict::NotDrawn { status }),
+    };
+    if drawn.bytes() != picture {
+        return Ok(Verdict::OtherPicture);
     }
+    judge_trace(alloc, certificate, trace)
 }
 
 /// Runs the workload, draws its run, and compares.
@@ -98,10 +94,10 @@ pub fn judge(
 ) -> Result<Verdict, AllocError>
     ensures { IfOk result (Says workload.now picture.now (option_copied trace.entry)) }
 {
-    let ran = run(alloc, workload)?;
-    if ran.status != 0 && ran.status != 6 {
-        return Ok(Verdict::NotRun { status: ran.status });
-    }
-    let certificate = certificate(alloc, workload, ran.out.bytes())?;
+    let journal = match run(alloc, workload)? {
+        Outcome::Wrote(journal) => journal,
+        Outcome::Refused { status } => return Ok(Verdict::NotRun { status }),
+    };
+    let certificate = certificate(alloc, workload, journal.bytes())?;
     judge_certificate(alloc, &certificate, picture, trace)
 }

@@ -1,12 +1,19 @@
-use Rattle.std.proofs.Common.{[], ◌∷◌, codes, map, ap, ◌∙◌}
-use Rattle.std.specs.Prelude.{string_bytes}
-use Rattle.sd_program.specs.Headline.{KeepsPromises}
-use Rattle.sd_examples.proofs.CallLemmas.{writes-of}
+use Rattle.std.proofs.Common.{ℕ, subst, inl, inr}
+use Rattle.sd_examples.specs.Calls.{Runs}
+use Rattle.sd_examples.specs.Outcomes.{HasNoJournal, IsJournalOf}
 use Rattle.sd_examples.proofs.calls.run.Goals as goal
+use Rattle.sd_examples.proofs.calls.run.Goals.{else-call-ne0-via-then-call-ne0+else-call-ne6, else-call-ne0-via-else-call-ne0}
+
+pub returns-then-call-ne6 : goal.returns-then-call-ne6
+unfolding HasNoJournal
+returns-then-call-ne6 c = ((c.in_ok-call.call.out.held, c.in_ok-call.ensures), c.if-call-ne0.true, c.if-call-ne6.true)
 
 pub returns : goal.returns
+unfolding IsJournalOf
 returns c =
-    let called = c.serial-status in
-    writes-of KeepsPromises (map string_bytes c.deref.result.now) (codes "run" ∷ []) c.args.workload.now
-    c.in_ok-input.input called.new.input c.in_ok-out.out called.new.out c.in_ok-err.err called.new.err called.result
-    (ap (map string_bytes) c.deref.ensures.value ∙ c.in_ok-arguments.ensures) c.in_ok-input.ensures c.in_ok-out.ensures called.ensures
+    let call = c.in_ok-call.call in
+    let runs = λ (status : ℕ). Runs c.args.workload.now call.out.held status in
+    elim c.else-call-ne0.branch [
+      | else-call-ne0-via-then-call-ne0+else-call-ne6 w ↦ inr (subst runs w.if-call-ne6.false c.in_ok-call.ensures)
+      | else-call-ne0-via-else-call-ne0 w ↦ inl (subst runs w.if-call-ne0.false c.in_ok-call.ensures)
+    ]

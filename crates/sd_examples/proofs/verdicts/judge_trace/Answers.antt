@@ -1,9 +1,8 @@
-use Rattle.std.proofs.Common.{ℕ, codes, subst, rules}
-use Rattle.sd_examples.specs.Calls.{Views}
+use Rattle.std.proofs.Common.{codes, subst, rules}
+use Rattle.sd_examples.specs.Outcomes.{IsDrawing}
 use Rattle.sd_examples.proofs.verdicts.judge_trace.Goals as goal
 
 pub returns-in-Some-stored : goal.returns-in-Some-stored
 returns-in-Some-stored c =
-    let text = c.in_ok-trace.trace.out.held in
-    let drawn = subst (λ (status : ℕ). Views (codes "trace") c.args.certificate.now text status) c.if-trace-ne0.false c.in_ok-trace.ensures in
-    (text, c.in-Some-stored.stored.now, drawn, search rules, search rules)
+    let drawn = subst (IsDrawing (codes "trace") c.args.certificate.now) c.in-Wrote.is c.in_ok-trace.ensures in
+    (c.in-Wrote.trace.held, c.in-Some-stored.stored.now, drawn, search rules, search rules)
