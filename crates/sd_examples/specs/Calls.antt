@@ -3,7 +3,7 @@
 use Rattle.std.specs.Prelude.{◌≡◌, ℕ, List, [], ◌∷◌, ◌++◌, codes, Some}
 use Rattle.sd_answers.specs.StreamChanges.{StreamChange}
 use Rattle.sd_program.specs.Headline.{KeepsPromises}
-use Rattle.sd_viewer.specs.Viewing.{IsViewed}
+use Rattle.sd_viewer.specs.Promises as viewer
 
 -- A call read these bytes, wrote this text on an output that was empty, and returned this status, and this holds of what it
 -- did to its input, its output and its error output. No fault was counted before it.
@@ -24,7 +24,7 @@ Runs workload text status = Writes (KeepsPromises (codes "run" ∷ [])) workload
 
 -- `dispview`, with this argument and on this certificate, wrote this text and returned this status
 abbrev pub Views : List ℕ → List ℕ → List ℕ → ℕ → Type 0
-Views word certificate text status = Writes (IsViewed (word ∷ [])) certificate text status
+Views word certificate text status = Writes (viewer.KeepsPromises (word ∷ [])) certificate text status
 
 -- a workload and a journal as one text
 abbrev pub certificate_of : List ℕ → List ℕ → List ℕ
