@@ -1,19 +1,9 @@
-//! What the tests are given: a workload, and states of threads.
+//! What the tests are given: states of threads.
 
 use arrayvec::ArrayVec;
 use sd_machine::{CpuState, LockState, Place, State, ThreadState};
-use sd_types::{ClassState, CpuId, List, SetId, SysState, ThreadBody, Work};
-use sd_workload::read_work;
-use std::alloc::{AllocError, Global};
-
-/// Two threads a and b, a mutex m, a rwlock w, a channel k, a semaphore q and a set s of 12 processors.
-const NAMED: &[u8] =
-    b"cpus 12\nlimit 2\nset s 1\nmutex m\nrwlock w\nchan k\nsema q 0\nthread a sys 60\nthread b sys 60\n";
-
-/// The workload of these names.
-pub fn named(alloc: Global) -> Option<Work> {
-    read_work(alloc, NAMED).ok()
-}
+use sd_types::{ClassState, CpuId, List, SysState, ThreadBody};
+use std::alloc::Global;
 
 /// A thread of the system class in this place.
 pub fn in_place(place: Place) -> ThreadState {

@@ -1,5 +1,5 @@
-//! Tests of the crates that write, read and show a journal, over workloads that are read from texts and over threads that
-//! stand in given places. All expected values were written by hand.
+//! Tests of the accounts, the blocking cycles and the history of a run, over threads that stand in given places. All expected
+//! values were written by hand.
 #![tactic(auto)]
 
 #[cfg(test)]
@@ -7,10 +7,6 @@ mod accounts;
 #[cfg(test)]
 mod blocking;
 #[cfg(test)]
-mod events;
-#[cfg(test)]
 mod given;
-#[cfg(test)]
-mod lines;
 #[cfg(test)]
 mod shown;
