@@ -3,7 +3,7 @@
 use crate::given::{in_place, state};
 use sd_accounts::Accounts;
 use sd_machine::{LockState, Place, State};
-use sd_types::{ChanId, CpuId, End, Entry, Event, LockId, Put, SetId, Side, ThreadId};
+use sd_types::{ChanId, CpuId, End, Entry, Event, LockId, Put, SetId, Side, ThreadId, Work};
 use sd_workload::read_work;
 use std::alloc::{AllocError, Global};
 use std::test::Fail;
@@ -149,37 +149,47 @@ fn a_run_with_a_cycle(rt: HostRuntime) -> Result<(), Fail> {
     Ok(())
 }
 
+/// The accounts of no entry, where thread a stands in this place.
+fn text_of(alloc: Global, work: &Work, place: Place) -> Result<Vec<u8>, AllocError> {
+    let accounts = Accounts::new(alloc, work)?;
+    let s = in_places(alloc, place, Place::Ended)?;
+    let mut out = Vec::new(alloc);
+    accounts.write_accounts(alloc, work, &s, &mut out)?;
+    Ok(out)
+}
+
+/// The same, worked out by hand but for the word of the place.
+fn wanted(alloc: Global, word: &str) -> Result<Vec<u8>, AllocError> {
+    let mut text = Vec::new(alloc);
+    text.extend_from_slice(b"accounts\nthread a ticks 0 dispatches 0 preempts 0 wakes 0 ")?;
+    text.extend_from_slice(word.as_bytes())?;
+    text.extend_from_slice(b"\nthread b ticks 0 dispatches 0 preempts 0 wakes 0 ended\n")?;
+    text.extend_from_slice(b"cpu 0 ticks 0 idle 0\ncpu 1 ticks 0 idle 0\n")?;
+    Ok(text)
+}
+
+fn place_and_word(i: u8) -> (Place, &'static str) {
+    match i {
+        0 => (Place::Running(CpuId(1)), "running"),
+        1 => (Place::Queued(CpuId(0), 4), "queued"),
+        2 => (Place::RealTime(SetId(0), 4), "queued"),
+        3 => (Place::Asleep(K, 4), "asleep k"),
+        4 => (Place::Napping(CpuId(1), 9), "napping"),
+        _ => (Place::Ended, "ended"),
+    }
+}
+
 #[test]
 fn places_of_threads(rt: HostRuntime) -> Result<(), Fail> {
     let alloc = rt.alloc();
     let Ok(work) = read_work(alloc, SMALL) else {
         return Ok(assert!(rt; false, "no work"));
     };
-    let accounts = Accounts::new(alloc, &work)?;
-    let rows = [
-        (Place::Running(CpuId(1)), "running"),
-        (Place::Queued(CpuId(0), 4), "queued"),
-        (Place::RealTime(SetId(0), 4), "queued"),
-        (Place::Asleep(K, 4), "asleep k"),
-        (Place::Napping(CpuId(1), 9), "napping"),
-        (Place::Ended, "ended"),
-    ];
-    for (place, text) in rows {
-        let mut out = Vec::new(alloc);
-        accounts.write_accounts(
-            alloc,
-            &work,
-            &in_places(alloc, place, Place::Ended)?,
-            &mut out,
-        )?;
-        let mut want = Vec::from_slice(
-            alloc,
-            b"accounts\nthread a ticks 0 dispatches 0 preempts 0 wakes 0 ",
-        )?;
-        want.extend_from_slice(text.as_bytes())?;
-        want.extend_from_slice(b"\nthread b ticks 0 dispatches 0 preempts 0 wakes 0 ended\n")?;
-        want.extend_from_slice(b"cpu 0 ticks 0 idle 0\ncpu 1 ticks 0 idle 0\n")?;
-        assert_eq!(rt; out.as_slice(), want.as_slice(), "{text}");
+    for i in 0..6 {
+        let (place, word) = place_and_word(i);
+        let text = text_of(alloc, &work, place)?;
+        let want = wanted(alloc, word)?;
+        assert_eq!(rt; text.as_slice(), want.as_slice(), "{word}");
     }
     Ok(())
 }
