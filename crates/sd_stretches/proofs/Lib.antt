@@ -3,3 +3,4 @@ pub mod HistoryLemmas
 pub mod RowLemmas
 pub mod ExactLemmas
 pub mod SliceLemmas
+pub mod OrderLemmas

@@ -3,3 +3,4 @@ pub mod Changes
 pub mod Histories
 pub mod Rows
 pub mod Exact
+pub mod Order

@@ -1,4 +1,4 @@
--- The stretches of one thread, from its turns, and the levels of its priority, from its ranks.
+-- The stretches of one thread and of all, from their turns, and the levels of a thread's priority, from its ranks.
 -- Source: this project's own.
 use Rattle.std.specs.Prelude.{ℕ, ◌-◌, ◌==◌, List, [], ◌∷◌, filter, Option, Some, None}
 use Rattle.sd_stretches.specs.declared.changes.Turn.{Turn}
@@ -27,7 +27,7 @@ abbrev pub stretch_to : ℕ → ℕ → Turn → Option Turn → Stretch
 stretch_to entries end x None = stretch_from x entries end
 stretch_to entries end x (Some y) = stretch_from x (y.first - 1) y.tick
 
-abbrev pub next_of : List Turn → Option Turn
+abbrev pub next_of : {A : Type 0} → List A → Option A
 next_of [] = None
 next_of (y ∷ ys) = Some y
 
@@ -39,6 +39,11 @@ stretches_of entries end (x ∷ xs) = stretch_to entries end x (next_of xs) ∷ 
 unfoldable pub stretches : ℕ → List Turn → ℕ → ℕ → List Stretch
 stretches t xs entries end = stretches_of entries end (own_turns t xs)
 
+-- the stretches of all threads, in the order in which they begin: each lasts to the next turn of its thread
+unfoldable pub all_stretches : List Turn → ℕ → ℕ → List Stretch
+all_stretches [] entries end = []
+all_stretches (x ∷ xs) entries end = stretch_to entries end x (next_of (own_turns x.thread xs)) ∷ all_stretches xs entries end
+
 abbrev pub own_ranks : ℕ → List Rank → List Rank
 own_ranks t xs = filter (λ x. x.thread == t) xs
 
@@ -49,13 +54,9 @@ abbrev pub level_to : ℕ → Rank → Option Rank → Level
 level_to end x None = level_from x end
 level_to end x (Some y) = level_from x y.tick
 
-abbrev pub next_rank : List Rank → Option Rank
-next_rank [] = None
-next_rank (y ∷ ys) = Some y
-
 unfoldable pub levels_of : ℕ → List Rank → List Level
 levels_of end [] = []
-levels_of end (x ∷ xs) = level_to end x (next_rank xs) ∷ levels_of end xs
+levels_of end (x ∷ xs) = level_to end x (next_of xs) ∷ levels_of end xs
 
 -- the levels of thread t's priority, from the ranks of a run that ended at this tick
 unfoldable pub levels : ℕ → List Rank → ℕ → List Level

@@ -1,6 +1,7 @@
 //! What the stretches say of the states of a run: laws, with nothing to run.
 
 ghost use Rattle.sd_stretches.specs.Exact.{SlicesAreExact, StretchesAreExact};
+ghost use Rattle.sd_stretches.specs.Order.{StretchesStandInOrder};
 
 /// The stretches of each thread of a workload, over any entries, are exactly those of its place: they follow one another from
 /// the initial state to the last one, the place of the thread in each state of a stretch is that of the stretch, and
@@ -13,4 +14,9 @@ pub fn stretches_are_exact()
 /// on a processor exactly where it does.
 pub fn slices_are_exact()
     ensures { SlicesAreExact }
+{}
+
+/// The stretches of all threads are those of each thread, in the order of the entries that began them.
+pub fn stretches_stand_in_order()
+    ensures { StretchesStandInOrder }
 {}

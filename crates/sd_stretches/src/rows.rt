@@ -1,7 +1,7 @@
-//! The stretches of one thread, and the levels of its priority.
+//! The stretches of one thread and of all, and the levels of a thread's priority.
 
-ghost use Rattle.std.specs.Prelude.{◌≡◌, ◌+◌, ◌++◌, ◌==◌, ◌∷◌, [], IfOk, OnOk, filter, slice_get};
-ghost use Rattle.sd_stretches.specs.Rows.{level_to, levels, own_ranks, own_turns, stretch_to, stretches};
+ghost use Rattle.std.specs.Prelude.{◌≡◌, ◌++◌, ◌==◌, ◌∷◌, [], IfOk, OnOk, filter};
+ghost use Rattle.sd_stretches.specs.Rows.{all_stretches, level_to, levels, next_of, own_ranks, own_turns, stretch_to, stretches};
 
 use crate::changes::{Rank, Turn};
 use crate::sights::Doing;
@@ -45,13 +45,10 @@ fn own_turns(alloc: Global, turns: &[Turn], t: usize) -> Result<Vec<Turn>, Alloc
     Ok(own)
 }
 
-fn turn_at(turns: &[Turn], i: usize) -> Option<Turn>
-    ensures { result ≡ slice_get turns.now i }
+fn first_turn(turns: &[Turn]) -> Option<Turn>
+    ensures { result ≡ next_of turns.now }
 {
-    match turns.get(i) {
-        Some(x) => Some(*x),
-        None => None,
-    }
+    turns.first().copied()
 }
 
 fn stretch_to(entries: u64, end: u32, x: Turn, next: Option<Turn>) -> Stretch
@@ -86,10 +83,42 @@ pub fn stretches(
 {
     let own = own_turns(alloc, turns, t)?;
     let mut found = Vec::new(alloc);
-    let mut i = 0;
-    while let Some(x) = turn_at(&own, i) {
-        i += 1;
-        found.push(stretch_to(entries, end, x, turn_at(&own, i)))?;
+    let mut left: &[Turn] = &own;
+    while let Some((x, rest)) = left.split_first() {
+        found.push(stretch_to(entries, end, *x, first_turn(rest)))?;
+        left = rest;
+    }
+    Ok(found)
+}
+
+// The first turn of the thread.
+fn next_turn(turns: &[Turn], t: usize) -> Option<Turn>
+    ensures { result ≡ next_of (own_turns t turns.now) }
+{
+    for x in turns {
+        if x.thread == t {
+            return Some(*x);
+        }
+    }
+    None
+}
+
+/// The stretches of all threads in the order in which they begin, from the turns of a run of so many entries, which ended at
+/// this tick.
+#[tactic(auto, unfolding(crate::specs::Rows::all_stretches))]
+pub fn all_stretches(
+    alloc: Global,
+    turns: &[Turn],
+    entries: u64,
+    end: u32,
+) -> Result<Vec<Stretch>, AllocError>
+    ensures { IfOk result (λ v. v.items ≡ all_stretches turns.now entries end) }
+{
+    let mut found = Vec::new(alloc);
+    let mut left = turns;
+    while let Some((x, rest)) = left.split_first() {
+        found.push(stretch_to(entries, end, *x, next_turn(rest, x.thread)))?;
+        left = rest;
     }
     Ok(found)
 }
@@ -125,13 +154,10 @@ fn own_ranks(alloc: Global, ranks: &[Rank], t: usize) -> Result<Vec<Rank>, Alloc
     Ok(own)
 }
 
-fn rank_at(ranks: &[Rank], i: usize) -> Option<Rank>
-    ensures { result ≡ slice_get ranks.now i }
+fn first_rank(ranks: &[Rank]) -> Option<Rank>
+    ensures { result ≡ next_of ranks.now }
 {
-    match ranks.get(i) {
-        Some(x) => Some(*x),
-        None => None,
-    }
+    ranks.first().copied()
 }
 
 fn level_to(end: u32, x: Rank, next: Option<Rank>) -> Level
@@ -156,10 +182,10 @@ pub fn levels(alloc: Global, ranks: &[Rank], t: usize, end: u32) -> Result<Vec<L
 {
     let own = own_ranks(alloc, ranks, t)?;
     let mut found = Vec::new(alloc);
-    let mut i = 0;
-    while let Some(x) = rank_at(&own, i) {
-        i += 1;
-        found.push(level_to(end, x, rank_at(&own, i)))?;
+    let mut left: &[Rank] = &own;
+    while let Some((x, rest)) = left.split_first() {
+        found.push(level_to(end, *x, first_rank(rest)))?;
+        left = rest;
     }
     Ok(found)
 }

@@ -1,26 +1,23 @@
 -- Which bytes traces are made of.
-use Rattle.std.proofs.Common.{ℕ, ◌+◌, List, length, Option, Some, None, refl}
-use Rattle.std.specs.Prelude.{codes, slice_get}
+use Rattle.std.proofs.Common.{ℕ, ◌+◌, Bool, true, false, List, [], length, Option, Some, None, refl}
+use Rattle.std.specs.Prelude.{codes, slice_get, if◌then◌else◌}
 use Rattle.std.specs.List.{range_with_len}
 use Rattle.std.proofs.lemmas.List.Folds.{list_all-append}
 use Rattle.sd_types.specs.declared.classes.Class.{Class}
 use Rattle.sd_types.specs.declared.classes.Class.TheVariants.{Ts, Fx, Sys, Rt}
-use Rattle.sd_types.specs.declared.numbers.CpuId.{CpuId}
 use Rattle.sd_types.specs.declared.works.Work.{Work}
-use Rattle.sd_stretches.specs.declared.sights.Doing.{Doing}
-use Rattle.sd_stretches.specs.declared.sights.Doing.TheVariants.{Running, Runnable, Waiting, Asleep, Napping, Ended}
 use Rattle.sd_stretches.specs.declared.changes.HandOver.{HandOver}
 use Rattle.sd_stretches.specs.declared.changes.Load.{Load}
 use Rattle.sd_stretches.specs.declared.changes.Wakeup.{Wakeup}
 use Rattle.sd_stretches.specs.declared.histories.History.{History}
 use Rattle.sd_stretches.specs.declared.rows.Stretch.{Stretch}
-use Rattle.sd_stretches.specs.Rows.{stretches}
+use Rattle.sd_stretches.specs.Rows.{all_stretches, stretches}
 use Rattle.sd_labels.specs.Plain.{is_text_byte, IsText}
 use Rattle.sd_labels.proofs.TextLemmas.{flat-text, decimal-text, thread-text, doing-text}
 use Rattle.sd_trace.specs.Words.{class_word, place_at, thread_number}
-use Rattle.sd_trace.specs.Slices.{about, class_argument, class_start, entry_arguments, length_of, priority_argument, run_slice, run_slice_by, slice_kind, state_if, state_slice, whole_run}
+use Rattle.sd_trace.specs.Slices.{about, class_argument, class_start, entry_arguments, length_of, priority_argument, run_slice, runs_on, slice_kind, state_if, state_slice, whole_run}
 use Rattle.sd_trace.specs.Flows.{arrow_end, arrow_from, arrow_start, end_kind, entry_argument, flow, hand_flow, load_argument, load_event, load_start, named, start_kind, track_at, wake_flow}
-use Rattle.sd_trace.specs.Tracks.{all_tracks, cpu_name, cpu_track, name_end, name_start, own_part, thread_part, thread_track, threads_start, trace_start, track_start, trace_text}
+use Rattle.sd_trace.specs.Tracks.{all_tracks, cpu_name, cpu_part, cpu_parts, cpu_track, name_end, name_start, own_part, thread_part, thread_track, threads_start, trace_start, track_start, trace_text}
 
 -- ---- slices
 
@@ -42,20 +39,16 @@ length-text : (w : Work) (from to : ℕ) → IsText (length_of w from to)
 unfolding length_of
 length-text w from to = simp decimal-text
 
-whole-text : (w : Work) (x : Stretch) (c : CpuId) → IsText (whole_run w x c)
+whole-text : (w : Work) (c : ℕ) (x : Stretch) → IsText (whole_run w c x)
 unfolding whole_run slice_kind
-whole-text w x c = simp (list_all-append is_text_byte, thread-text w x.thread, place-text, length-text, about-text)
+whole-text w c x = simp (list_all-append is_text_byte, thread-text w x.thread, place-text, length-text, about-text)
 
-run-text-by : (w : Work) (x : Stretch) (d : Doing) → IsText (run_slice_by w x d)
-run-text-by w x (Running c) = whole-text w x c
-run-text-by w x Runnable = refl
-run-text-by w x (Waiting l) = refl
-run-text-by w x (Asleep k) = refl
-run-text-by w x Napping = refl
-run-text-by w x Ended = refl
+text-if : (b : Bool) (text : List ℕ) → IsText text → IsText (if b then text else [])
+text-if true text h = h
+text-if false text h = refl
 
-run-text : (w : Work) (x : Stretch) → IsText (run_slice w x)
-run-text w x = run-text-by w x x.doing
+run-text : (w : Work) (c : ℕ) (x : Stretch) → IsText (run_slice w c x)
+run-text w c x = text-if (runs_on c x.doing) (whole_run w c x) (whole-text w c x)
 
 state-text : (w : Work) (track : ℕ) (x : Stretch) (next : Option Stretch) → IsText (state_slice w track x next)
 unfolding state_slice slice_kind
@@ -106,9 +99,17 @@ own-text w t own =
     simp (
       list_all-append is_text_byte,
       track-text w t,
-      flat-text (run_slice w) (run-text w) own,
       flat-text (λ i. state_if w (thread_number t) (slice_get own i) (slice_get own (i + 1))) (state-text-at w (thread_number t) own) (range_with_len 0 (length own)),
     )
+
+cpu-part-text : (w : Work) (all : List Stretch) (c : ℕ) → IsText (cpu_part w all c)
+cpu-part-text w all c = simp (list_all-append is_text_byte, cpu-text c, flat-text (run_slice w c) (run-text w c) all)
+
+cpus-text : (w : Work) (h : History) → IsText (cpu_parts w h)
+unfolding cpu_parts
+cpus-text w h =
+    let all = all_stretches h.turns.items h.entries w.limit in
+    flat-text (cpu_part w all) (cpu-part-text w all) (range_with_len 0 w.cpus)
 
 part-text : (w : Work) (h : History) (t : ℕ) → IsText (thread_part w h t)
 unfolding thread_part
@@ -119,7 +120,7 @@ unfolding all_tracks trace_start threads_start
 tracks-text w h =
     simp (
       list_all-append is_text_byte,
-      flat-text cpu_track cpu-text (range_with_len 0 w.cpus),
+      cpus-text w h,
       flat-text (thread_part w h) (part-text w h) (range_with_len 0 (length w.threads)),
     )
 

@@ -1,7 +1,6 @@
 -- The slices of the stretches of threads: each stretch is one complete event, with its numbers of entries as arguments.
 -- Source: Trace Event Format (complete events).
-use Rattle.std.specs.Prelude.{ℕ, ◌-◌, min, List, [], ◌++◌, codes, decimal, Option, Some, None}
-use Rattle.sd_types.specs.declared.numbers.CpuId.{CpuId}
+use Rattle.std.specs.Prelude.{ℕ, ◌-◌, min, Bool, false, ◌==◌, List, [], ◌++◌, codes, decimal, Option, Some, None, if◌then◌else◌}
 use Rattle.sd_types.specs.declared.works.Work.{Work}
 use Rattle.sd_machine.specs.Texts.{thread_name}
 use Rattle.sd_stretches.specs.declared.sights.Doing.{Doing}
@@ -34,19 +33,19 @@ length_of w from to = codes ",\"dur\":" ++ decimal (micros w (to - from))
 unfoldable pub slice_kind : List ℕ → List ℕ
 slice_kind category = codes "\",\"cat\":\"" ++ category ++ codes "\",\"ph\":\"X\""
 
--- a slice on the track of a processor
-unfoldable pub whole_run : Work → Stretch → CpuId → List ℕ
-whole_run w x c =
-    codes ",\n{\"name\":\"" ++ thread_name w x.thread ++ slice_kind (codes "run") ++ place_at w x.from 1 (cpu_number c.0)
+-- a slice on the track of processor c
+unfoldable pub whole_run : Work → ℕ → Stretch → List ℕ
+whole_run w c x =
+    codes ",\n{\"name\":\"" ++ thread_name w x.thread ++ slice_kind (codes "run") ++ place_at w x.from 1 (cpu_number c)
     ++ length_of w x.from x.to ++ about x
 
-abbrev pub run_slice_by : Work → Stretch → Doing → List ℕ
-run_slice_by w x (Running c) = whole_run w x c
-run_slice_by w x _ = []
+abbrev pub runs_on : ℕ → Doing → Bool
+runs_on c (Running d) = d.0 == c
+runs_on c _ = false
 
--- where it is one that the thread ran
-abbrev pub run_slice : Work → Stretch → List ℕ
-run_slice w x = run_slice_by w x x.doing
+-- where it is one that the thread ran on that processor
+abbrev pub run_slice : Work → ℕ → Stretch → List ℕ
+run_slice w c x = if runs_on c x.doing then whole_run w c x else []
 
 -- the end of a slice on the track of a thread: not behind that of the next, for slices of one track must not overlap
 abbrev pub end_of : Stretch → Option Stretch → ℕ

@@ -6,7 +6,7 @@ use Rattle.sd_types.specs.declared.works.Work.{Work}
 use Rattle.sd_machine.specs.Texts.{thread_name}
 use Rattle.sd_stretches.specs.declared.histories.History.{History}
 use Rattle.sd_stretches.specs.declared.rows.Stretch.{Stretch}
-use Rattle.sd_stretches.specs.Rows.{stretches}
+use Rattle.sd_stretches.specs.Rows.{all_stretches, stretches}
 use Rattle.sd_trace.specs.Words.{cpu_number, thread_number}
 use Rattle.sd_trace.specs.Slices.{run_slice, state_if}
 use Rattle.sd_trace.specs.Flows.{hand_flow, load_event, wake_flow}
@@ -32,10 +32,17 @@ unfoldable pub thread_track : Work → ℕ → List ℕ
 thread_track w t =
     track_start 2 (thread_number t) ++ name_start ++ thread_name w t ++ name_end
 
--- a slice for each stretch of a thread on its track, and on that of the processor for each that it ran
+-- the track of a processor, with a slice for each stretch that a thread ran on it, in the order in which they began
+abbrev pub cpu_part : Work → List Stretch → ℕ → List ℕ
+cpu_part w all c = cpu_track c ++ flat_map (run_slice w c) all
+
+unfoldable pub cpu_parts : Work → History → List ℕ
+cpu_parts w h = flat_map (cpu_part w (all_stretches h.turns.items h.entries w.limit)) (range_with_len 0 w.cpus)
+
+-- the track of a thread, with a slice for each of its stretches
 abbrev pub own_part : Work → ℕ → List Stretch → List ℕ
 own_part w t own =
-    thread_track w t ++ flat_map (run_slice w) own
+    thread_track w t
     ++ flat_map (λ i. state_if w (thread_number t) (slice_get own i) (slice_get own (i + 1))) (range_with_len 0 (length own))
 
 unfoldable pub thread_part : Work → History → ℕ → List ℕ
@@ -50,7 +57,7 @@ threads_start = codes ",\n{\"name\":\"process_name\",\"ph\":\"M\",\"pid\":2,\"ar
 -- the tracks with their slices
 unfoldable pub all_tracks : Work → History → List ℕ
 all_tracks w h =
-    trace_start ++ threads_start ++ flat_map cpu_track (range_with_len 0 w.cpus) ++ flat_map (thread_part w h) (range_with_len 0 (length w.threads))
+    trace_start ++ threads_start ++ cpu_parts w h ++ flat_map (thread_part w h) (range_with_len 0 (length w.threads))
 
 -- the trace
 unfoldable pub trace_text : Work → History → List ℕ

@@ -2,13 +2,13 @@
 
 ghost use Rattle.std.specs.Prelude.{◌≡◌, ◌++◌, OnOk, codes, decimal, flat_map, length};
 ghost use Rattle.std.specs.List.{range_with_len};
-ghost use Rattle.sd_trace.specs.Tracks.{all_tracks, cpu_name, cpu_track, name_end, name_start, thread_part, thread_track, trace_start, track_start, trace_text, threads_start};
+ghost use Rattle.sd_trace.specs.Tracks.{all_tracks, cpu_name, cpu_part, cpu_parts, cpu_track, name_end, name_start, thread_part, thread_track, trace_start, track_start, trace_text, threads_start};
 
 use crate::flows::{put_hand_overs, put_loads, put_wakeups};
 use crate::slices::{put_run_slices, put_states};
 use crate::words::{cpu_number, thread_number};
 use sd_labels::{put_counted, thread_name};
-use sd_stretches::{History, stretches};
+use sd_stretches::{History, Stretch, all_stretches, stretches};
 use sd_types::Work;
 use std::alloc::{AllocError, Global};
 
@@ -56,11 +56,26 @@ fn put_cpu_track(c: u16, out: &mut Vec<u8>) -> Result<(), AllocError>
     put_name_end(out)
 }
 
-fn put_cpu_tracks(cpus: u16, out: &mut Vec<u8>) -> Result<(), AllocError>
-    ensures { OnOk result (out.new.items ≡ out.old.items ++ flat_map cpu_track (range_with_len 0 cpus)) }
+// The track of a processor with its slices.
+fn put_cpu(work: &Work, all: &[Stretch], c: u16, out: &mut Vec<u8>) -> Result<(), AllocError>
+    ensures { OnOk result (out.new.items ≡ out.old.items ++ cpu_part work.now all.now c) }
 {
-    for c in 0..cpus {
-        put_cpu_track(c, out)?;
+    put_cpu_track(c, out)?;
+    put_run_slices(work, c, all, out)
+}
+
+#[tactic(auto, unfolding(crate::specs::Tracks::cpu_parts))]
+fn put_cpus(
+    alloc: Global,
+    work: &Work,
+    history: &History,
+    out: &mut Vec<u8>,
+) -> Result<(), AllocError>
+    ensures { OnOk result (out.new.items ≡ out.old.items ++ cpu_parts work.now history.now) }
+{
+    let all = all_stretches(alloc, &history.turns, history.entries, work.limit)?;
+    for c in 0..work.cpus {
+        put_cpu(work, &all, c, out)?;
     }
     Ok(())
 }
@@ -75,7 +90,7 @@ fn put_thread_track(work: &Work, t: u16, out: &mut Vec<u8>) -> Result<(), AllocE
     put_name_end(out)
 }
 
-// The track of a thread with its slices, and its slices on the tracks of processors.
+// The track of a thread with its slices.
 #[tactic(auto, unfolding(crate::specs::Tracks::thread_part))]
 fn put_thread(
     alloc: Global,
@@ -94,7 +109,6 @@ fn put_thread(
         work.limit,
     )?;
     put_thread_track(work, t, out)?;
-    put_run_slices(work, &own, out)?;
     put_states(work, &own, thread_number(t), out)
 }
 
@@ -142,7 +156,7 @@ fn put_all_tracks(
 {
     put_trace_start(out)?;
     put_threads_start(out)?;
-    put_cpu_tracks(work.cpus, out)?;
+    put_cpus(alloc, work, history, out)?;
     put_threads(alloc, work, history, out)
 }
 

@@ -1,23 +1,21 @@
-use Rattle.std.proofs.Common.{[], ◌∷◌, ◌++◌, refl, ap, sym, ◌∙◌, arith}
-use Rattle.std.proofs.lemmas.Option.{slice_get_within}
-use Rattle.sd_stretches.specs.declared.rows.Stretch.{Stretch}
-use Rattle.sd_stretches.specs.Rows.{stretches, stretches_of}
-use Rattle.sd_stretches.proofs.RowLemmas.{found_more, found_all}
+use Rattle.std.proofs.Common.{◌≡◌, ◌∷◌, refl, ap, sym, ◌∙◌}
+use Rattle.sd_stretches.specs.Rows.{next_of, stretch_to, stretches, stretches_of}
+use Rattle.sd_stretches.proofs.RowLemmas.{found_all, found_more}
 use Rattle.sd_stretches.proofs.rows.stretches.Goals as goal
 
+pub loop-x-init : goal.loop-x-init
+loop-x-init c = rw c.new-found.ensures.items refl
+
 pub loop-x-preserved : goal.loop-x-preserved
+unfolding stretches_of
 loop-x-preserved c =
-    let own = c.in_ok-own.own.items in
-    let held = rw c.deref.ensures.value at (sym c.turn_at.ensures ∙ c.in-Some.is) in
-    record {
-      found = found_more c.args.entries c.args.end own c.loop-x.i c.in-Some.x c.loop-x.found.items _ _ held c.loop-x.invariant.found
-          (c.in_ok-push.ensures.items ∙ ap (λ (x : Stretch). c.loop-x.found.items ++ x ∷ []) (c.stretch_to.ensures ∙ rw (c.turn_at-in-Some.ensures, c.deref-in-Some.ensures.value) refl));
-      within = let inside = slice_get_within own c.loop-x.i c.in-Some.x held in omega (arith, inside);
-    }
+    let now : c.loop-x.left.now ≡ c.in-Some.x.now ∷ c.in-Some.rest.now = (rw c.in-Some.is at c.split_first.ensures.cases).0 in
+    let made : c.stretch_to.result ≡ stretch_to c.args.entries c.args.end c.in-Some.x.now (next_of c.in-Some.rest.now) = c.stretch_to.ensures ∙ ap (stretch_to c.args.entries c.args.end c.in-Some.x.now) c.first_turn.ensures in
+    found_more (stretches_of c.args.entries c.args.end) c.loop-x.left.now c.in-Some.rest.now c.in-Some.x.now c.stretch_to.result c.loop-x.found.items _ _
+    (ap (λ y. y ∷ stretches_of c.args.entries c.args.end c.in-Some.rest.now) (sym made)) now c.loop-x.invariant c.in_ok-push.ensures.items
 
 pub returns : goal.returns
-unfolding stretches
+unfolding stretches stretches_of
 returns c =
-    let own = c.in_ok-own.own.items in
-    found_all c.args.entries c.args.end own c.loop-x.i c.loop-x.found.items _ (rw c.deref.ensures.value at (sym c.turn_at.ensures ∙ c.in_default.is)) c.loop-x.invariant.found
-    ∙ ap (stretches_of c.args.entries c.args.end) c.in_ok-own.ensures
+    found_all (stretches_of c.args.entries c.args.end) c.loop-x.left.now c.loop-x.found.items _ refl c.in_default.ensures.cases c.loop-x.invariant
+    ∙ ap (stretches_of c.args.entries c.args.end) (c.deref-left.ensures.value ∙ c.in_ok-own.ensures)

@@ -1,6 +1,0 @@
-use Rattle.sd_stretches.proofs.RangeLemmas.{range_pushed}
-use Rattle.sd_trace.specs.Tracks.{cpu_track}
-use Rattle.sd_trace.proofs.tracks.put_cpu_tracks.Goals as goal
-
-pub loop-c-preserved : goal.loop-c-preserved
-loop-c-preserved c = range_pushed cpu_track c.loop-c.c _ _ _ c.loop-c.invariant c.in_ok-put_cpu_track.ensures
