@@ -2,5 +2,5 @@ pub mod RangeLemmas
 pub mod HistoryLemmas
 pub mod RowLemmas
 pub mod ExactLemmas
-pub mod SliceLemmas
 pub mod OrderLemmas
+pub mod SliceLemmas

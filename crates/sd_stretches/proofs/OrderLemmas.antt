@@ -13,8 +13,8 @@ use Rattle.sd_stretches.specs.declared.rows.Stretch.{Stretch}
 use Rattle.sd_stretches.specs.Sights.{same_doing, sights_of}
 use Rattle.sd_stretches.specs.Changes.{turn_if, turns_between}
 use Rattle.sd_stretches.specs.Histories.{moment, tick_of, over, turns_in}
-use Rattle.sd_stretches.specs.Rows.{all_stretches, next_of, own_turns, stretch_to, stretches, stretches_of}
-use Rattle.sd_stretches.specs.Order.{own_stretches, StretchesStandInOrder}
+use Rattle.sd_stretches.specs.Rows.{all_stretches, next_of, own_stretches, own_turns, stretch_to, stretches, stretches_of}
+use Rattle.sd_stretches.specs.Order.{StretchesStandInOrder}
 
 -- Those of each thread are its own.
 
@@ -26,7 +26,7 @@ to_first : (n end : ℕ) (x : Turn) (next : Option Turn) → (stretch_to n end x
 to_first n end x None = refl
 to_first n end x (Some y) = refl
 
-owned : (t n end : ℕ) (xs : List Turn) → own_stretches t (all_stretches xs n end) ≡ stretches_of n end (own_turns t xs)
+pub owned : (t n end : ℕ) (xs : List Turn) → own_stretches t (all_stretches xs n end) ≡ stretches_of n end (own_turns t xs)
 unfolding all_stretches stretches_of
 owned t n end [] = refl
 owned t n end (x ∷ xs) = elim (cases_Bool (x.thread == t)) [

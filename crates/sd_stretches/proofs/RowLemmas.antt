@@ -10,11 +10,11 @@ pub next_is : {A : Type 0} (xs : List A) → next_of xs ≡ slice_get xs 0
 next_is [] = refl
 next_is (y ∷ ys) = refl
 
--- one more is found: f makes a list from each element with what follows it
-pub found_more : {A B : Type 0} (f : List A → List B) (left rest : List A) (x : A) (y : B) (found more all : List B) → f (x ∷ rest) ≡ y ∷ f rest → left ≡ x ∷ rest
-    → found ++ f left ≡ all → more ≡ found ++ y ∷ [] → more ++ f rest ≡ all
-found_more f left rest x y found more all makes is so_far pushed =
-    ap (λ ys. ys ++ f rest) pushed ∙ append_assoc found (y ∷ []) (f rest) ∙ ap (λ ys. found ++ ys) (sym makes ∙ ap f (sym is)) ∙ so_far
+-- more is found: f makes a list from each element with what follows it
+pub found_more : {A B : Type 0} (f : List A → List B) (left rest : List A) (x : A) (ys found more all : List B) → f (x ∷ rest) ≡ ys ++ f rest → left ≡ x ∷ rest
+    → found ++ f left ≡ all → more ≡ found ++ ys → more ++ f rest ≡ all
+found_more f left rest x ys found more all makes is so_far pushed =
+    ap (λ zs. zs ++ f rest) pushed ∙ append_assoc found ys (f rest) ∙ ap (λ zs. found ++ zs) (sym makes ∙ ap f (sym is)) ∙ so_far
 
 -- no more is found
 pub found_all : {A B : Type 0} (f : List A → List B) (left : List A) (found all : List B) → f [] ≡ [] → length left ≡ 0 → found ++ f left ≡ all → found ≡ all

@@ -9,11 +9,10 @@ use Rattle.sd_machine.specs.declared.states.Place.TheVariants as place
 use Rattle.sd_machine.specs.States.{thread_of}
 use Rattle.sd_full.specs.Runs.{state_at}
 use Rattle.sd_stretches.specs.declared.sights.Doing.{Doing}
-use Rattle.sd_stretches.specs.declared.sights.Doing.TheVariants.{Running}
 use Rattle.sd_stretches.specs.declared.rows.Stretch.{Stretch}
 use Rattle.sd_stretches.specs.Sights.{doing_of}
 use Rattle.sd_stretches.specs.Histories.{over, turns_in}
-use Rattle.sd_stretches.specs.Rows.{stretches}
+use Rattle.sd_stretches.specs.Rows.{own_stretches, slices, stretches}
 
 -- what thread t does in the state that k entries made
 abbrev pub doing_at : Work → List Entry → ℕ → ℕ → Doing
@@ -31,14 +30,13 @@ StretchesAreExact =
     (w : Work) (es : List Entry) (t end : ℕ) → t < length w.threads
     → AreExact (doing_at w es t) (length es) 0 (stretches t (over turns_in w es) (length es) end)
 
--- one of the stretches says that this is done in state j
-abbrev pub Says : List Stretch → ℕ → Doing → Type 0
-Says [] j d = ⊥
-Says (x ∷ xs) j d = ((x.first ≤ j) × (j ≤ x.last) × (x.doing ≡ d)) ⊎ Says xs j d
+-- one of the stretches covers state j
+abbrev pub Covers : List Stretch → ℕ → Type 0
+Covers [] j = ⊥
+Covers (x ∷ xs) j = ((x.first ≤ j) × (j ≤ x.last)) ⊎ Covers xs j
 
--- The slices of processor c are the stretches that say `Running c`: in each state of the run those of thread t cover it exactly
--- where the thread runs on c.
+-- in each state of the run the slices of processor c that are thread t's cover it exactly where t runs on c
 abbrev pub SlicesAreExact : Type 0
 SlicesAreExact =
     (w : Work) (es : List Entry) (t end j : ℕ) (c : CpuId) → t < length w.threads → j ≤ length es
-    → Says (stretches t (over turns_in w es) (length es) end) j (Running c) ↔ ((thread_of (state_at w es j) t).place ≡ place.Running c)
+    → Covers (own_stretches t (slices c.0 (over turns_in w es) (length es) end)) j ↔ ((thread_of (state_at w es j) t).place ≡ place.Running c)

@@ -1,17 +1,12 @@
 -- In which order the stretches of all threads stand.
 -- Source: this project's own.
-use Rattle.std.specs.Prelude.{◌≡◌, ℕ, ◌==◌, List, length, filter}
+use Rattle.std.specs.Prelude.{◌≡◌, ℕ, List, length}
 use Rattle.std.specs.List.Sorted.{IsNonDecreasingBy}
 use Rattle.sd_types.specs.declared.events.Entry.{Entry}
 use Rattle.sd_types.specs.declared.works.Work.{Work}
 use Rattle.sd_stretches.specs.declared.changes.Turn.{Turn}
-use Rattle.sd_stretches.specs.declared.rows.Stretch.{Stretch}
 use Rattle.sd_stretches.specs.Histories.{over, turns_in}
-use Rattle.sd_stretches.specs.Rows.{all_stretches, stretches}
-
--- those of one thread
-abbrev pub own_stretches : ℕ → List Stretch → List Stretch
-own_stretches t xs = filter (λ x. x.thread == t) xs
+use Rattle.sd_stretches.specs.Rows.{all_stretches, own_stretches, stretches}
 
 -- among all stretches those of each thread are its own, and all stand in the order of the entries that began them
 pub record StretchesStandInOrder : Type 0 where

@@ -1,6 +1,8 @@
--- The stretches of one thread and of all, from their turns, and the levels of a thread's priority, from its ranks.
+-- The stretches of a thread and the slices of a processor, from the turns of all threads, and the levels of a thread's
+-- priority, from its ranks.
 -- Source: this project's own.
 use Rattle.std.specs.Prelude.{ℕ, ◌-◌, ◌==◌, List, [], ◌∷◌, filter, Option, Some, None}
+use Rattle.sd_stretches.specs.Sights.{runs_on}
 use Rattle.sd_stretches.specs.declared.changes.Turn.{Turn}
 use Rattle.sd_stretches.specs.declared.changes.Rank.{Rank}
 use Rattle.sd_stretches.specs.declared.rows.Stretch.{Stretch}
@@ -43,6 +45,14 @@ stretches t xs entries end = stretches_of entries end (own_turns t xs)
 unfoldable pub all_stretches : List Turn → ℕ → ℕ → List Stretch
 all_stretches [] entries end = []
 all_stretches (x ∷ xs) entries end = stretch_to entries end x (next_of (own_turns x.thread xs)) ∷ all_stretches xs entries end
+
+-- those of one thread
+abbrev pub own_stretches : ℕ → List Stretch → List Stretch
+own_stretches t xs = filter (λ x. x.thread == t) xs
+
+-- the slices of processor c: the stretches over which a thread runs on it, in the order in which they begin
+unfoldable pub slices : ℕ → List Turn → ℕ → ℕ → List Stretch
+slices c xs entries end = filter (λ x. runs_on c x.doing) (all_stretches xs entries end)
 
 abbrev pub own_ranks : ℕ → List Rank → List Rank
 own_ranks t xs = filter (λ x. x.thread == t) xs

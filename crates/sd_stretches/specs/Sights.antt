@@ -24,6 +24,11 @@ doing_of (place.Asleep k key) = Asleep k
 doing_of (place.Napping c due) = Napping
 doing_of place.Ended = Ended
 
+-- it runs on processor c
+abbrev pub runs_on : ℕ → Doing → Bool
+runs_on c (Running d) = d.0 == c
+runs_on c _ = false
+
 abbrev pub same_doing : Doing → Doing → Bool
 same_doing (Running c) (Running d) = c.0 == d.0
 same_doing Runnable Runnable = true

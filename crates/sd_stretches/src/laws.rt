@@ -10,8 +10,8 @@ pub fn stretches_are_exact()
     ensures { StretchesAreExact }
 {}
 
-/// The slices of each processor are exactly its running threads: in each state of a run a thread has a stretch that says it runs
-/// on a processor exactly where it does.
+/// The slices of each processor are exactly its running threads: in each state of a run a slice of a processor that is a
+/// thread's covers it exactly where the thread runs on the processor.
 pub fn slices_are_exact()
     ensures { SlicesAreExact }
 {}

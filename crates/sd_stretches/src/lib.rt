@@ -12,5 +12,5 @@ mod sights;
 pub use changes::{HandOver, Load, Rank, Turn, Wakeup};
 pub use histories::History;
 pub use laws::{slices_are_exact, stretches_are_exact, stretches_stand_in_order};
-pub use rows::{Level, Stretch, all_stretches, levels, stretches};
+pub use rows::{Level, Stretch, levels, slices, stretches};
 pub use sights::{Doing, Sight};

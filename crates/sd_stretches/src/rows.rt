@@ -1,10 +1,11 @@
-//! The stretches of one thread and of all, and the levels of a thread's priority.
+//! The stretches of a thread, the slices of a processor, and the levels of a thread's priority.
 
-ghost use Rattle.std.specs.Prelude.{◌≡◌, ◌++◌, ◌==◌, ◌∷◌, [], IfOk, OnOk, filter};
-ghost use Rattle.sd_stretches.specs.Rows.{all_stretches, level_to, levels, next_of, own_ranks, own_turns, stretch_to, stretches};
+ghost use Rattle.std.specs.Prelude.{◌≡◌, ◌++◌, ◌==◌, ◌∷◌, [], IfOk, OnOk, filter, if◌then◌else◌};
+ghost use Rattle.sd_stretches.specs.Sights.{runs_on};
+ghost use Rattle.sd_stretches.specs.Rows.{level_to, levels, next_of, own_ranks, own_turns, slices, stretch_to, stretches};
 
 use crate::changes::{Rank, Turn};
-use crate::sights::Doing;
+use crate::sights::{Doing, runs_on};
 use sd_types::Class;
 use std::alloc::{AllocError, Global};
 
@@ -103,21 +104,41 @@ fn next_turn(turns: &[Turn], t: usize) -> Option<Turn>
     None
 }
 
-/// The stretches of all threads in the order in which they begin, from the turns of a run of so many entries, which ended at
-/// this tick.
-#[tactic(auto, unfolding(crate::specs::Rows::all_stretches))]
-pub fn all_stretches(
+// The stretch that begins with the turn, where it is one over which the thread runs on the processor; the rest are the turns
+// that follow.
+fn push_slice(
+    x: Turn,
+    rest: &[Turn],
+    c: u16,
+    entries: u64,
+    end: u32,
+    found: &mut Vec<Stretch>,
+) -> Result<(), AllocError>
+    ensures { OnOk result (found.new.items ≡ found.old.items
+        ++ (if runs_on c x.doing then stretch_to entries end x (next_of (own_turns x.thread rest.now)) ∷ [] else [])) }
+{
+    if runs_on(c, x.doing) {
+        found.push(stretch_to(entries, end, x, next_turn(rest, x.thread)))?;
+    }
+    Ok(())
+}
+
+/// The slices of a processor, the stretches over which a thread runs on it, in the order in which they begin: from the turns of
+/// a run of so many entries, which ended at this tick.
+#[tactic(auto, unfolding(crate::specs::Rows::slices))]
+pub fn slices(
     alloc: Global,
     turns: &[Turn],
+    c: u16,
     entries: u64,
     end: u32,
 ) -> Result<Vec<Stretch>, AllocError>
-    ensures { IfOk result (λ v. v.items ≡ all_stretches turns.now entries end) }
+    ensures { IfOk result (λ v. v.items ≡ slices c turns.now entries end) }
 {
     let mut found = Vec::new(alloc);
     let mut left = turns;
     while let Some((x, rest)) = left.split_first() {
-        found.push(stretch_to(entries, end, *x, next_turn(rest, x.thread)))?;
+        push_slice(*x, rest, c, entries, end, &mut found)?;
         left = rest;
     }
     Ok(found)

@@ -4,7 +4,7 @@
 
 ghost use Rattle.std.specs.Prelude.{◌≡◌, ◌==◌, map, IfOk};
 ghost use Rattle.sd_types.specs.Priorities.{base_of, eff};
-ghost use Rattle.sd_stretches.specs.Sights.{class_of, doing_of, same_doing, same_rank, sight_of, sights_of, runnable, is_runnable};
+ghost use Rattle.sd_stretches.specs.Sights.{class_of, doing_of, runs_on, same_doing, same_rank, sight_of, sights_of, runnable, is_runnable};
 
 use sd_machine::{Place, State, ThreadState};
 use sd_types::{ChanId, Class, ClassState, CpuId, LockId};
@@ -80,6 +80,15 @@ pub(crate) fn sights_of(alloc: Global, s: &State) -> Result<Vec<Sight>, AllocErr
         sights.push(sight_of(x))?;
     }
     Ok(sights)
+}
+
+pub(crate) fn runs_on(c: u16, doing: Doing) -> bool
+    ensures { result ≡ runs_on c doing }
+{
+    match doing {
+        Doing::Running(d) => d.0 == c,
+        _ => false,
+    }
 }
 
 pub(crate) fn same_doing(x: Doing, y: Doing) -> bool

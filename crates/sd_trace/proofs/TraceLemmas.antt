@@ -1,6 +1,6 @@
 -- Which bytes traces are made of.
-use Rattle.std.proofs.Common.{ℕ, ◌+◌, Bool, true, false, List, [], length, Option, Some, None, refl}
-use Rattle.std.specs.Prelude.{codes, slice_get, if◌then◌else◌}
+use Rattle.std.proofs.Common.{ℕ, ◌+◌, List, length, Option, Some, None, refl}
+use Rattle.std.specs.Prelude.{codes, slice_get}
 use Rattle.std.specs.List.{range_with_len}
 use Rattle.std.proofs.lemmas.List.Folds.{list_all-append}
 use Rattle.sd_types.specs.declared.classes.Class.{Class}
@@ -11,13 +11,13 @@ use Rattle.sd_stretches.specs.declared.changes.Load.{Load}
 use Rattle.sd_stretches.specs.declared.changes.Wakeup.{Wakeup}
 use Rattle.sd_stretches.specs.declared.histories.History.{History}
 use Rattle.sd_stretches.specs.declared.rows.Stretch.{Stretch}
-use Rattle.sd_stretches.specs.Rows.{all_stretches, stretches}
+use Rattle.sd_stretches.specs.Rows.{slices, stretches}
 use Rattle.sd_labels.specs.Plain.{is_text_byte, IsText}
 use Rattle.sd_labels.proofs.TextLemmas.{flat-text, decimal-text, thread-text, doing-text}
 use Rattle.sd_trace.specs.Words.{class_word, place_at, thread_number}
-use Rattle.sd_trace.specs.Slices.{about, class_argument, class_start, entry_arguments, length_of, priority_argument, run_slice, runs_on, slice_kind, state_if, state_slice, whole_run}
+use Rattle.sd_trace.specs.Slices.{about, class_argument, class_start, entry_arguments, length_of, priority_argument, run_slice, slice_kind, state_if, state_slice}
 use Rattle.sd_trace.specs.Flows.{arrow_end, arrow_from, arrow_start, end_kind, entry_argument, flow, hand_flow, load_argument, load_event, load_start, named, start_kind, track_at, wake_flow}
-use Rattle.sd_trace.specs.Tracks.{all_tracks, cpu_name, cpu_part, cpu_parts, cpu_track, name_end, name_start, own_part, thread_part, thread_track, threads_start, trace_start, track_start, trace_text}
+use Rattle.sd_trace.specs.Tracks.{all_tracks, cpu_name, cpu_part, cpu_track, name_end, name_start, own_part, thread_part, thread_track, threads_start, trace_start, track_start, trace_text}
 
 -- ---- slices
 
@@ -39,16 +39,9 @@ length-text : (w : Work) (from to : ℕ) → IsText (length_of w from to)
 unfolding length_of
 length-text w from to = simp decimal-text
 
-whole-text : (w : Work) (c : ℕ) (x : Stretch) → IsText (whole_run w c x)
-unfolding whole_run slice_kind
-whole-text w c x = simp (list_all-append is_text_byte, thread-text w x.thread, place-text, length-text, about-text)
-
-text-if : (b : Bool) (text : List ℕ) → IsText text → IsText (if b then text else [])
-text-if true text h = h
-text-if false text h = refl
-
 run-text : (w : Work) (c : ℕ) (x : Stretch) → IsText (run_slice w c x)
-run-text w c x = text-if (runs_on c x.doing) (whole_run w c x) (whole-text w c x)
+unfolding run_slice slice_kind
+run-text w c x = simp (list_all-append is_text_byte, thread-text w x.thread, place-text, length-text, about-text)
 
 state-text : (w : Work) (track : ℕ) (x : Stretch) (next : Option Stretch) → IsText (state_slice w track x next)
 unfolding state_slice slice_kind
@@ -102,14 +95,8 @@ own-text w t own =
       flat-text (λ i. state_if w (thread_number t) (slice_get own i) (slice_get own (i + 1))) (state-text-at w (thread_number t) own) (range_with_len 0 (length own)),
     )
 
-cpu-part-text : (w : Work) (all : List Stretch) (c : ℕ) → IsText (cpu_part w all c)
-cpu-part-text w all c = simp (list_all-append is_text_byte, cpu-text c, flat-text (run_slice w c) (run-text w c) all)
-
-cpus-text : (w : Work) (h : History) → IsText (cpu_parts w h)
-unfolding cpu_parts
-cpus-text w h =
-    let all = all_stretches h.turns.items h.entries w.limit in
-    flat-text (cpu_part w all) (cpu-part-text w all) (range_with_len 0 w.cpus)
+cpu-part-text : (w : Work) (h : History) (c : ℕ) → IsText (cpu_part w h c)
+cpu-part-text w h c = simp (list_all-append is_text_byte, cpu-text c, flat-text (run_slice w c) (run-text w c) (slices c h.turns.items h.entries w.limit))
 
 part-text : (w : Work) (h : History) (t : ℕ) → IsText (thread_part w h t)
 unfolding thread_part
@@ -120,7 +107,7 @@ unfolding all_tracks trace_start threads_start
 tracks-text w h =
     simp (
       list_all-append is_text_byte,
-      cpus-text w h,
+      flat-text (cpu_part w h) (cpu-part-text w h) (range_with_len 0 w.cpus),
       flat-text (thread_part w h) (part-text w h) (range_with_len 0 (length w.threads)),
     )
 

@@ -3,3 +3,4 @@ pub mod Slices
 pub mod Flows
 pub mod Tracks
 pub mod Plain
+pub mod Apart

@@ -1,10 +1,8 @@
 -- The slices of the stretches of threads: each stretch is one complete event, with its numbers of entries as arguments.
 -- Source: Trace Event Format (complete events).
-use Rattle.std.specs.Prelude.{ℕ, ◌-◌, min, Bool, false, ◌==◌, List, [], ◌++◌, codes, decimal, Option, Some, None, if◌then◌else◌}
+use Rattle.std.specs.Prelude.{ℕ, ◌-◌, min, List, [], ◌++◌, codes, decimal, Option, Some, None}
 use Rattle.sd_types.specs.declared.works.Work.{Work}
 use Rattle.sd_machine.specs.Texts.{thread_name}
-use Rattle.sd_stretches.specs.declared.sights.Doing.{Doing}
-use Rattle.sd_stretches.specs.declared.sights.Doing.TheVariants.{Running}
 use Rattle.sd_stretches.specs.declared.rows.Stretch.{Stretch}
 use Rattle.sd_labels.specs.Doings.{doing_text}
 use Rattle.sd_trace.specs.Words.{class_word, cpu_number, micros, place_at}
@@ -34,18 +32,10 @@ unfoldable pub slice_kind : List ℕ → List ℕ
 slice_kind category = codes "\",\"cat\":\"" ++ category ++ codes "\",\"ph\":\"X\""
 
 -- a slice on the track of processor c
-unfoldable pub whole_run : Work → ℕ → Stretch → List ℕ
-whole_run w c x =
+unfoldable pub run_slice : Work → ℕ → Stretch → List ℕ
+run_slice w c x =
     codes ",\n{\"name\":\"" ++ thread_name w x.thread ++ slice_kind (codes "run") ++ place_at w x.from 1 (cpu_number c)
     ++ length_of w x.from x.to ++ about x
-
-abbrev pub runs_on : ℕ → Doing → Bool
-runs_on c (Running d) = d.0 == c
-runs_on c _ = false
-
--- where it is one that the thread ran on that processor
-abbrev pub run_slice : Work → ℕ → Stretch → List ℕ
-run_slice w c x = if runs_on c x.doing then whole_run w c x else []
 
 -- the end of a slice on the track of a thread: not behind that of the next, for slices of one track must not overlap
 abbrev pub end_of : Stretch → Option Stretch → ℕ

@@ -6,7 +6,7 @@ use Rattle.sd_types.specs.declared.works.Work.{Work}
 use Rattle.sd_machine.specs.Texts.{thread_name}
 use Rattle.sd_stretches.specs.declared.histories.History.{History}
 use Rattle.sd_stretches.specs.declared.rows.Stretch.{Stretch}
-use Rattle.sd_stretches.specs.Rows.{all_stretches, stretches}
+use Rattle.sd_stretches.specs.Rows.{slices, stretches}
 use Rattle.sd_trace.specs.Words.{cpu_number, thread_number}
 use Rattle.sd_trace.specs.Slices.{run_slice, state_if}
 use Rattle.sd_trace.specs.Flows.{hand_flow, load_event, wake_flow}
@@ -32,12 +32,9 @@ unfoldable pub thread_track : Work → ℕ → List ℕ
 thread_track w t =
     track_start 2 (thread_number t) ++ name_start ++ thread_name w t ++ name_end
 
--- the track of a processor, with a slice for each stretch that a thread ran on it, in the order in which they began
-abbrev pub cpu_part : Work → List Stretch → ℕ → List ℕ
-cpu_part w all c = cpu_track c ++ flat_map (run_slice w c) all
-
-unfoldable pub cpu_parts : Work → History → List ℕ
-cpu_parts w h = flat_map (cpu_part w (all_stretches h.turns.items h.entries w.limit)) (range_with_len 0 w.cpus)
+-- the track of a processor with its slices
+abbrev pub cpu_part : Work → History → ℕ → List ℕ
+cpu_part w h c = cpu_track c ++ flat_map (run_slice w c) (slices c h.turns.items h.entries w.limit)
 
 -- the track of a thread, with a slice for each of its stretches
 abbrev pub own_part : Work → ℕ → List Stretch → List ℕ
@@ -57,7 +54,7 @@ threads_start = codes ",\n{\"name\":\"process_name\",\"ph\":\"M\",\"pid\":2,\"ar
 -- the tracks with their slices
 unfoldable pub all_tracks : Work → History → List ℕ
 all_tracks w h =
-    trace_start ++ threads_start ++ cpu_parts w h ++ flat_map (thread_part w h) (range_with_len 0 (length w.threads))
+    trace_start ++ threads_start ++ flat_map (cpu_part w h) (range_with_len 0 w.cpus) ++ flat_map (thread_part w h) (range_with_len 0 (length w.threads))
 
 -- the trace
 unfoldable pub trace_text : Work → History → List ℕ

@@ -9,10 +9,11 @@ use Rattle.sd_types.specs.declared.works.Work.{Work}
 abbrev pub micros : Work → ℕ → ℕ
 micros w ticks = if w.hz == 1000 then ticks * 1000 else ticks * 10000
 
--- The numbers of the tracks of processors and of threads. Some viewers know a track by its number alone, so no two have the
--- same: there are at most 64 processors.
+-- The numbers of the tracks of processors and of threads. Some viewers know a track by its number alone, and put a counter on
+-- the track with the number of its process, so no two tracks have the same number, and none has that of a process: there are
+-- at most 64 processors.
 abbrev pub cpu_number : ℕ → ℕ
-cpu_number c = c + 1
+cpu_number c = c + 11
 
 abbrev pub thread_number : ℕ → ℕ
 thread_number t = t + 101

@@ -10,5 +10,5 @@ mod slices;
 mod tracks;
 mod words;
 
-pub use laws::traces_are_plain;
+pub use laws::{traces_are_plain, tracks_stand_apart};
 pub use tracks::write_trace;

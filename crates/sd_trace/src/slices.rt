@@ -3,11 +3,11 @@
 ghost use Rattle.std.specs.Prelude.{◌≡◌, ◌++◌, ◌+◌, OnOk, codes, decimal, flat_map, length, slice_get};
 ghost use Rattle.std.specs.List.{range_with_len};
 ghost use Rattle.sd_machine.specs.Texts.{thread_name};
-ghost use Rattle.sd_trace.specs.Slices.{about, class_argument, class_start, entry_arguments, length_of, end_of, priority_argument, run_slice, runs_on, slice_kind, state_if, state_slice, whole_run};
+ghost use Rattle.sd_trace.specs.Slices.{about, class_argument, class_start, entry_arguments, length_of, end_of, priority_argument, run_slice, slice_kind, state_if, state_slice};
 
 use crate::words::{class_word, cpu_number, micros, put_place};
 use sd_labels::{put_counted, put_doing, thread_name};
-use sd_stretches::{Doing, Stretch};
+use sd_stretches::Stretch;
 use sd_types::Work;
 use std::alloc::AllocError;
 
@@ -71,9 +71,9 @@ fn put_slice_kind(category: &[u8], out: &mut Vec<u8>) -> Result<(), AllocError>
 }
 
 // A slice on the track of a processor.
-#[tactic(auto, unfolding(crate::specs::Slices::whole_run))]
-fn put_whole_run(work: &Work, c: u16, x: &Stretch, out: &mut Vec<u8>) -> Result<(), AllocError>
-    ensures { OnOk result (out.new.items ≡ out.old.items ++ whole_run work.now c x.now) }
+#[tactic(auto, unfolding(crate::specs::Slices::run_slice))]
+fn put_run_slice(work: &Work, c: u16, x: &Stretch, out: &mut Vec<u8>) -> Result<(), AllocError>
+    ensures { OnOk result (out.new.items ≡ out.old.items ++ run_slice work.now c x.now) }
 {
     out.extend_from_slice(b",\n{\"name\":\"")?;
     out.extend_from_slice(thread_name(work, x.thread))?;
@@ -83,34 +83,16 @@ fn put_whole_run(work: &Work, c: u16, x: &Stretch, out: &mut Vec<u8>) -> Result<
     put_about(x, out)
 }
 
-fn runs_on(c: u16, doing: Doing) -> bool
-    ensures { result ≡ runs_on c doing }
-{
-    match doing {
-        Doing::Running(d) => d.0 == c,
-        _ => false,
-    }
-}
-
-fn put_run_slice(work: &Work, c: u16, x: &Stretch, out: &mut Vec<u8>) -> Result<(), AllocError>
-    ensures { OnOk result (out.new.items ≡ out.old.items ++ run_slice work.now c x.now) }
-{
-    if runs_on(c, x.doing) {
-        put_whole_run(work, c, x, out)?;
-    }
-    Ok(())
-}
-
-/// The slices of a processor on its track, one for each of these stretches that a thread ran on it.
+/// The slices of a processor on its track.
 pub(crate) fn put_run_slices(
     work: &Work,
     c: u16,
-    all: &[Stretch],
+    slices: &[Stretch],
     out: &mut Vec<u8>,
 ) -> Result<(), AllocError>
-    ensures { OnOk result (out.new.items ≡ out.old.items ++ flat_map (run_slice work.now c) all.now) }
+    ensures { OnOk result (out.new.items ≡ out.old.items ++ flat_map (run_slice work.now c) slices.now) }
 {
-    for x in all {
+    for x in slices {
         put_run_slice(work, c, x, out)?;
     }
     Ok(())

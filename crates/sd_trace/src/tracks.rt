@@ -2,13 +2,13 @@
 
 ghost use Rattle.std.specs.Prelude.{◌≡◌, ◌++◌, OnOk, codes, decimal, flat_map, length};
 ghost use Rattle.std.specs.List.{range_with_len};
-ghost use Rattle.sd_trace.specs.Tracks.{all_tracks, cpu_name, cpu_part, cpu_parts, cpu_track, name_end, name_start, thread_part, thread_track, trace_start, track_start, trace_text, threads_start};
+ghost use Rattle.sd_trace.specs.Tracks.{all_tracks, cpu_name, cpu_part, cpu_track, name_end, name_start, thread_part, thread_track, trace_start, track_start, trace_text, threads_start};
 
 use crate::flows::{put_hand_overs, put_loads, put_wakeups};
 use crate::slices::{put_run_slices, put_states};
 use crate::words::{cpu_number, thread_number};
 use sd_labels::{put_counted, thread_name};
-use sd_stretches::{History, Stretch, all_stretches, stretches};
+use sd_stretches::{History, slices, stretches};
 use sd_types::Work;
 use std::alloc::{AllocError, Global};
 
@@ -57,25 +57,30 @@ fn put_cpu_track(c: u16, out: &mut Vec<u8>) -> Result<(), AllocError>
 }
 
 // The track of a processor with its slices.
-fn put_cpu(work: &Work, all: &[Stretch], c: u16, out: &mut Vec<u8>) -> Result<(), AllocError>
-    ensures { OnOk result (out.new.items ≡ out.old.items ++ cpu_part work.now all.now c) }
+fn put_cpu(
+    alloc: Global,
+    work: &Work,
+    history: &History,
+    c: u16,
+    out: &mut Vec<u8>,
+) -> Result<(), AllocError>
+    ensures { OnOk result (out.new.items ≡ out.old.items ++ cpu_part work.now history.now c) }
 {
+    let slices = slices(alloc, &history.turns, c, history.entries, work.limit)?;
     put_cpu_track(c, out)?;
-    put_run_slices(work, c, all, out)
+    put_run_slices(work, c, &slices, out)
 }
 
-#[tactic(auto, unfolding(crate::specs::Tracks::cpu_parts))]
 fn put_cpus(
     alloc: Global,
     work: &Work,
     history: &History,
     out: &mut Vec<u8>,
 ) -> Result<(), AllocError>
-    ensures { OnOk result (out.new.items ≡ out.old.items ++ cpu_parts work.now history.now) }
+    ensures { OnOk result (out.new.items ≡ out.old.items ++ flat_map (cpu_part work.now history.now) (range_with_len 0 work.now.cpus)) }
 {
-    let all = all_stretches(alloc, &history.turns, history.entries, work.limit)?;
     for c in 0..work.cpus {
-        put_cpu(work, &all, c, out)?;
+        put_cpu(alloc, work, history, c, out)?;
     }
     Ok(())
 }

@@ -18,11 +18,11 @@ pub(crate) fn micros(work: &Work, ticks: u32) -> u64
     }
 }
 
-/// The number of the track of a processor.
+/// The number of the track of a processor, which no process has.
 pub(crate) fn cpu_number(c: u16) -> u64
     ensures { result ≡ cpu_number c }
 {
-    u64::from(c) + 1
+    u64::from(c) + 11
 }
 
 /// The number of the track of a thread, which none of the at most 64 processors has.

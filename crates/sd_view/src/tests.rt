@@ -12,9 +12,9 @@ const JOURNAL: &[u8] =
 const TRACE: &[u8] = b"{\"displayTimeUnit\":\"ms\",\"traceEvents\":[
 {\"name\":\"process_name\",\"ph\":\"M\",\"pid\":1,\"args\":{\"name\":\"processors\"}},
 {\"name\":\"process_name\",\"ph\":\"M\",\"pid\":2,\"args\":{\"name\":\"threads\"}},
-{\"name\":\"thread_name\",\"ph\":\"M\",\"pid\":1,\"tid\":1,\"args\":{\"name\":\"processor 0\"}},
+{\"name\":\"thread_name\",\"ph\":\"M\",\"pid\":1,\"tid\":11,\"args\":{\"name\":\"processor 0\"}},
+{\"name\":\"a\",\"cat\":\"run\",\"ph\":\"X\",\"ts\":0,\"pid\":1,\"tid\":11,\"dur\":0,\"args\":{\"class\":\"ts\",\"priority\":29,\"first entry\":1,\"last entry\":1}},
 {\"name\":\"thread_name\",\"ph\":\"M\",\"pid\":2,\"tid\":101,\"args\":{\"name\":\"a\"}},
-{\"name\":\"a\",\"cat\":\"run\",\"ph\":\"X\",\"ts\":0,\"pid\":1,\"tid\":1,\"dur\":0,\"args\":{\"class\":\"ts\",\"priority\":29,\"first entry\":1,\"last entry\":1}},
 {\"name\":\"runnable\",\"cat\":\"state\",\"ph\":\"X\",\"ts\":0,\"pid\":2,\"tid\":101,\"dur\":0,\"args\":{\"class\":\"ts\",\"priority\":29,\"first entry\":0,\"last entry\":0}},
 {\"name\":\"runs on processor 0\",\"cat\":\"state\",\"ph\":\"X\",\"ts\":0,\"pid\":2,\"tid\":101,\"dur\":0,\"args\":{\"class\":\"ts\",\"priority\":29,\"first entry\":1,\"last entry\":1}},
 {\"name\":\"has ended\",\"cat\":\"state\",\"ph\":\"X\",\"ts\":0,\"pid\":2,\"tid\":101,\"dur\":10000,\"args\":{\"class\":\"ts\",\"priority\":29,\"first entry\":2,\"last entry\":3}},
