@@ -17,7 +17,7 @@ use Rattle.sd_labels.proofs.TextLemmas.{flat-text, decimal-text, thread-text, do
 use Rattle.sd_trace.specs.Words.{class_word, place_at, thread_number}
 use Rattle.sd_trace.specs.Slices.{about, class_argument, class_start, entry_arguments, length_of, priority_argument, run_slice, slice_kind, state_if, state_slice}
 use Rattle.sd_trace.specs.Flows.{arrow_end, arrow_from, arrow_start, end_kind, entry_argument, flow, hand_flow, load_argument, load_event, load_start, named, start_kind, track_at, wake_flow}
-use Rattle.sd_trace.specs.Tracks.{all_tracks, cpu_name, cpu_part, cpu_track, name_end, name_start, own_part, thread_part, thread_track, threads_start, trace_start, track_start, trace_text}
+use Rattle.sd_trace.specs.Tracks.{all_tracks, cpu_name, cpu_part, cpu_track, name_end, name_start, own_part, thread_part, thread_track, threads_start, trace_start, track_order, track_start, trace_text}
 
 -- ---- slices
 
@@ -77,11 +77,11 @@ load-text w x = simp (list_all-append is_text_byte, decimal-text)
 -- ---- tracks
 
 cpu-text : (c : ℕ) → IsText (cpu_track c)
-unfolding cpu_track track_start cpu_name name_start name_end
+unfolding cpu_track track_start track_order cpu_name name_start name_end
 cpu-text c = simp (list_all-append is_text_byte, decimal-text)
 
 track-text : (w : Work) (t : ℕ) → IsText (thread_track w t)
-unfolding thread_track track_start name_start name_end
+unfolding thread_track track_start track_order name_start name_end
 track-text w t = simp (list_all-append is_text_byte, decimal-text, thread-text w t)
 
 state-text-at : (w : Work) (track : ℕ) (own : List Stretch) (i : ℕ) → IsText (state_if w track (slice_get own i) (slice_get own (i + 1)))

@@ -24,13 +24,19 @@ name_end = codes "\"}}"
 unfoldable pub cpu_name : ℕ → List ℕ
 cpu_name c = name_start ++ (codes "processor " ++ decimal c)
 
+-- tracks stand in the order of their numbers; without it viewers go by their names, where 10 is before 2
+unfoldable pub track_order : ℕ → ℕ → List ℕ
+track_order process track =
+    (codes ",\n{\"name\":\"thread_sort_index\",\"ph\":\"M\",\"pid\":" ++ decimal process) ++ (codes ",\"tid\":" ++ decimal track)
+    ++ (codes ",\"args\":{\"sort_index\":" ++ decimal track) ++ codes "}}"
+
 unfoldable pub cpu_track : ℕ → List ℕ
 cpu_track c =
-    track_start 1 (cpu_number c) ++ cpu_name c ++ name_end
+    track_start 1 (cpu_number c) ++ cpu_name c ++ name_end ++ track_order 1 (cpu_number c)
 
 unfoldable pub thread_track : Work → ℕ → List ℕ
 thread_track w t =
-    track_start 2 (thread_number t) ++ name_start ++ thread_name w t ++ name_end
+    track_start 2 (thread_number t) ++ name_start ++ thread_name w t ++ name_end ++ track_order 2 (thread_number t)
 
 -- the track of a processor with its slices
 abbrev pub cpu_part : Work → History → ℕ → List ℕ

@@ -2,7 +2,7 @@
 
 ghost use Rattle.std.specs.Prelude.{◌≡◌, ◌++◌, OnOk, codes, decimal, flat_map, length};
 ghost use Rattle.std.specs.List.{range_with_len};
-ghost use Rattle.sd_trace.specs.Tracks.{all_tracks, cpu_name, cpu_part, cpu_track, name_end, name_start, thread_part, thread_track, trace_start, track_start, trace_text, threads_start};
+ghost use Rattle.sd_trace.specs.Tracks.{all_tracks, cpu_name, cpu_part, cpu_track, name_end, name_start, thread_part, thread_track, trace_start, track_order, track_start, trace_text, threads_start};
 
 use crate::flows::{put_hand_overs, put_loads, put_wakeups};
 use crate::slices::{put_run_slices, put_states};
@@ -47,13 +47,29 @@ fn put_cpu_name(c: u64, out: &mut Vec<u8>) -> Result<(), AllocError>
     put_counted(b"processor ", c, out)
 }
 
+// The place of a track among those of its process.
+#[tactic(auto, unfolding(crate::specs::Tracks::track_order))]
+fn put_track_order(process: u64, track: u64, out: &mut Vec<u8>) -> Result<(), AllocError>
+    ensures { OnOk result (out.new.items ≡ out.old.items ++ track_order process track) }
+{
+    put_counted(
+        b",\n{\"name\":\"thread_sort_index\",\"ph\":\"M\",\"pid\":",
+        process,
+        out,
+    )?;
+    put_counted(b",\"tid\":", track, out)?;
+    put_counted(b",\"args\":{\"sort_index\":", track, out)?;
+    out.extend_from_slice(b"}}")
+}
+
 #[tactic(auto, unfolding(crate::specs::Tracks::cpu_track))]
 fn put_cpu_track(c: u16, out: &mut Vec<u8>) -> Result<(), AllocError>
     ensures { OnOk result (out.new.items ≡ out.old.items ++ cpu_track c) }
 {
     put_track_start(1, cpu_number(c), out)?;
     put_cpu_name(u64::from(c), out)?;
-    put_name_end(out)
+    put_name_end(out)?;
+    put_track_order(1, cpu_number(c), out)
 }
 
 // The track of a processor with its slices.
@@ -92,7 +108,8 @@ fn put_thread_track(work: &Work, t: u16, out: &mut Vec<u8>) -> Result<(), AllocE
     put_track_start(2, thread_number(t), out)?;
     put_name_start(out)?;
     out.extend_from_slice(thread_name(work, usize::from(t)))?;
-    put_name_end(out)
+    put_name_end(out)?;
+    put_track_order(2, thread_number(t), out)
 }
 
 // The track of a thread with its slices.
