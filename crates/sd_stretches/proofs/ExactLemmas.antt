@@ -25,7 +25,7 @@ use Rattle.sd_stretches.specs.Rows.{own_turns, stretch_to, next_of, stretches_of
 use Rattle.sd_stretches.specs.Exact.{doing_at, AreExact, StretchesAreExact}
 use Rattle.sd_stretches.proofs.RangeLemmas.{flat_range_same}
 
-same_is : (x y : Doing) → same_doing x y ≡ true → x ≡ y
+pub same_is : (x y : Doing) → same_doing x y ≡ true → x ≡ y
 same_is (Running c) (Running d) h = let e : c.0 ≡ d.0 = grind (arith, nat_tests) in ap (λ n. Running (record { 0 = n })) e
 same_is (Running c) Runnable h = cc
 same_is (Running c) (Waiting l) h = cc
@@ -63,7 +63,7 @@ same_is Ended (Asleep k) h = cc
 same_is Ended Napping h = cc
 same_is Ended Ended h = refl
 
-same_self : (x : Doing) → same_doing x x ≡ true
+pub same_self : (x : Doing) → same_doing x x ≡ true
 same_self (Running c) = grind (arith, nat_tests)
 same_self Runnable = refl
 same_self (Waiting l) = grind (arith, nat_tests)
@@ -144,7 +144,7 @@ module _ (g : ℕ → Sight) (t : ℕ) (ticks : ℕ → ℕ) where
 
 -- The turns of one thread among those of all.
 
-filter_flat : {A B : Type 0} (p : B → Bool) (f : A → List B) (xs : List A) → filter p (flat_map f xs) ≡ flat_map (λ x. filter p (f x)) xs
+pub filter_flat : {A B : Type 0} (p : B → Bool) (f : A → List B) (xs : List A) → filter p (flat_map f xs) ≡ flat_map (λ x. filter p (f x)) xs
 filter_flat p f [] = refl
 filter_flat p f (x ∷ xs) = filter-append p (f x) (flat_map f xs) ∙ ap (λ ys. filter p (f x) ++ ys) (filter_flat p f xs)
 
@@ -155,7 +155,7 @@ none_but f t a (suc n) none past =
     let other : a ≢ t = λ is. (omega (arith, is, past)) in
     ap (λ ys. ys ++ flat_map f (range_with_len (a + 1) n)) (none a other) ∙ none_but f t (a + 1) n none (omega arith)
 
-one_of : {A : Type 0} (f : ℕ → List A) (t a n : ℕ) → ((u : ℕ) → u ≢ t → f u ≡ []) → a ≤ t → t < a + n → flat_map f (range_with_len a n) ≡ f t
+pub one_of : {A : Type 0} (f : ℕ → List A) (t a n : ℕ) → ((u : ℕ) → u ≢ t → f u ≡ []) → a ≤ t → t < a + n → flat_map f (range_with_len a n) ≡ f t
 one_of f t a zero none from to = absurd (omega (arith, from, to))
 one_of {A} f t a (suc n) none from to = elim (cases_Bool (a == t)) [
   | inl is ↦
@@ -172,7 +172,7 @@ own_none t x other = rw other refl
 own_one : (t : ℕ) (x : Turn) → x.thread == t ≡ true → own_turns t (x ∷ []) ≡ x ∷ []
 own_one t x own = rw own refl
 
-own_if : (t u first tick : ℕ) (old new : Option Sight) → u == t ≡ false → own_turns t (turn_if u first tick old new) ≡ []
+pub own_if : (t u first tick : ℕ) (old new : Option Sight) → u == t ≡ false → own_turns t (turn_if u first tick old new) ≡ []
 own_if t u first tick old None other = refl
 own_if t u first tick None (Some x) other = own_none t (turn_from u first tick x) other
 own_if t u first tick (Some y) (Some x) other = elim (cases_Bool (same_doing y.doing x.doing)) [
@@ -180,7 +180,7 @@ own_if t u first tick (Some y) (Some x) other = elim (cases_Bool (same_doing y.d
   | inr differs ↦ rw differs (own_none t (turn_from u first tick x) other)
 ]
 
-own_if_own : (t first tick : ℕ) (old new : Option Sight) → t == t ≡ true → own_turns t (turn_if t first tick old new) ≡ turn_if t first tick old new
+pub own_if_own : (t first tick : ℕ) (old new : Option Sight) → t == t ≡ true → own_turns t (turn_if t first tick old new) ≡ turn_if t first tick old new
 own_if_own t first tick old None own = refl
 own_if_own t first tick None (Some x) own = own_one t (turn_from t first tick x) own
 own_if_own t first tick (Some y) (Some x) own = elim (cases_Bool (same_doing y.doing x.doing)) [
@@ -198,16 +198,16 @@ own_between t first tick old new inside =
     ∙ own_if_own t first tick (slice_get old t) (slice_get new t) (grind (arith, nat_tests))
 
 module _ (w : Work) (es : List Entry) (t : ℕ) (here : t < length w.threads) where
-  sight_at : ℕ → Sight
+  pub sight_at : ℕ → Sight
   sight_at k = sight_of (thread_of (state_at w es k) t)
 
-  tick_at : ℕ → ℕ
+  pub tick_at : ℕ → ℕ
   tick_at k = tick_by (state_at w es k) (entry_before es k)
 
-  there : (k : ℕ) → t < length (state_at w es k).threads
+  pub there : (k : ℕ) → t < length (state_at w es k).threads
   there k = let fits = final_fits w (opening w) (take k es) (opening_fits w) in let many = fits.threads in omega (arith, many, here)
 
-  seen : (k : ℕ) → slice_get (sights_of (state_at w es k)) t ≡ Some (sight_at k)
+  pub seen : (k : ℕ) → slice_get (sights_of (state_at w es k)) t ≡ Some (sight_at k)
   unfolding sights_of sight_at
   seen k = slice_get-map sight_of (state_at w es k).threads t ∙ ap (option_map sight_of) (slice_get-get_or (state_at w es k).threads t no_thread (there k))
 

@@ -22,7 +22,7 @@ to_thread : (n end : ℕ) (x : Turn) (next : Option Turn) → (stretch_to n end 
 to_thread n end x None = refl
 to_thread n end x (Some y) = refl
 
-to_first : (n end : ℕ) (x : Turn) (next : Option Turn) → (stretch_to n end x next).first ≡ x.first
+pub to_first : (n end : ℕ) (x : Turn) (next : Option Turn) → (stretch_to n end x next).first ≡ x.first
 to_first n end x None = refl
 to_first n end x (Some y) = refl
 
@@ -118,9 +118,9 @@ unfolding over turns_between moment
 turns_rise w es =
     range_rises turn_first (λ k. turns_in (moment w es k)) 0 (length es + 1)
     (λ k.
-      let m = moment w es k in
-      are_flat turn_first (λ t. turn_if t k (tick_of m) (slice_get m.earlier t) (slice_get (sights_of m.state) t)) k 0 (length (sights_of m.state))
-      (λ t. if_first t k (tick_of m) (slice_get m.earlier t) (slice_get (sights_of m.state) t)))
+    let m = moment w es k in
+    are_flat turn_first (λ t. turn_if t k (tick_of m) (slice_get m.earlier t) (slice_get (sights_of m.state) t)) k 0 (length (sights_of m.state))
+    (λ t. if_first t k (tick_of m) (slice_get m.earlier t) (slice_get (sights_of m.state) t)))
 
 stretches_rise : (n end k : ℕ) (xs : List Turn) → RisesFrom turn_first k xs → RisesFrom stretch_first k (all_stretches xs n end)
 unfolding RisesFrom all_stretches turn_first stretch_first

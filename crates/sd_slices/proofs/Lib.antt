@@ -1,0 +1,3 @@
+pub mod Local
+pub mod Turns
+pub mod Follow

@@ -1,0 +1,7 @@
+//! Laws of the slices of processors: only a processor's own entries change which thread runs on it, so its slices follow one
+//! another in time. The functions do nothing: the law is what the contract of each says.
+#![tactic(auto)]
+
+mod laws;
+
+pub use laws::{others_keep_running, slices_follow_in_time};
