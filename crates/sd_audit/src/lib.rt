@@ -13,6 +13,3 @@ mod ranges;
 pub use audits::{AuditFault, audit};
 pub use laws::{journals_have_no_fault, texts_have_one_fault};
 pub use lines::{is_accounts, take_line};
-
-#[cfg(test)]
-mod tests;

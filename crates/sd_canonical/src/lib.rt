@@ -4,8 +4,6 @@
 mod lines;
 mod scripts;
 mod tables;
-#[cfg(test)]
-mod tests;
 mod threads;
 mod words;
 mod works;

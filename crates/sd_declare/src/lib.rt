@@ -16,6 +16,3 @@ pub use causes::{Refusal, WorkCause};
 pub use declared::Declared;
 pub use operations::op_of;
 pub use statements::{Opened, take_statement};
-
-#[cfg(test)]
-mod tests;

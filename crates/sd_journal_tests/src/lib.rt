@@ -1,11 +1,15 @@
-//! Tests of the accounts, the blocking cycles and the history of a run, over threads that stand in given places. All expected
-//! values were written by hand.
+//! Tests of journals: the audit and the drawings of one, and the accounts, the blocking cycles and the history of a run over
+//! threads that stand in given places. All expected values were written by hand.
 #![tactic(auto)]
 
 #[cfg(test)]
 mod accounts;
 #[cfg(test)]
+mod audits;
+#[cfg(test)]
 mod blocking;
+#[cfg(test)]
+mod drawings;
 #[cfg(test)]
 mod given;
 #[cfg(test)]

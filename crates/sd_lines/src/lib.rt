@@ -14,6 +14,3 @@ pub use operations::{Operation, RequestLine, operation_of};
 pub use statements::{Statement, TableClass, statement_of};
 pub use threads::{ThreadClass, ThreadLine, ThreadOptions};
 pub use words::{QuantumWord, has_words, is_end};
-
-#[cfg(test)]
-mod tests;

@@ -7,8 +7,6 @@ mod forms;
 mod gates;
 mod running;
 mod tables;
-#[cfg(test)]
-mod tests;
 mod top;
 mod writing;
 
@@ -20,8 +18,7 @@ use std::rt::Env;
 use std::sync::Wait;
 use std::thread::Threads;
 use std::{env, io};
-pub use top::serial;
-use top::start;
+pub use top::{serial, start};
 
 /// The arguments after the program's name.
 fn arguments<R: Env + AllocGlobal>(rt: &R) -> io::Result<Vec<String>> {

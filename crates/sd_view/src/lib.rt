@@ -4,8 +4,6 @@
 mod drawings;
 mod forms;
 mod frames;
-#[cfg(test)]
-mod tests;
 
 pub use drawings::{Drawing, draw, is_part_of};
 pub use forms::drawing_of;

@@ -14,6 +14,3 @@ pub use fault::WorkFault;
 pub use laws::{causes_are_first, texts_have_one_answer, texts_have_one_work};
 pub use read::read_work;
 pub use sd_declare::WorkCause;
-
-#[cfg(test)]
-mod tests;

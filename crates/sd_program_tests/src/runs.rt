@@ -2,8 +2,7 @@
 
 ghost use Rattle.std.specs.Prelude.{◌≤◌};
 
-use crate::gates::OpenGate;
-use crate::top::{serial, start};
+use sd_program::{OpenGate, serial, start};
 use sd_rounds::{Turns, run_rounds};
 use sd_steps::replay;
 use sd_text::{MemorySink, MemorySource, read_all};

@@ -1,7 +1,7 @@
 //! Journals of the smallest run, whole and with a line changed, worked out by hand.
 ghost use Rattle.std.specs.Prelude.{◌<◌, ◌^◌, length};
 
-use crate::{AuditFault, audit};
+use sd_audit::{AuditFault, audit};
 use sd_types::{CpuId, Work};
 use sd_workload::read_work;
 use std::alloc::Global;

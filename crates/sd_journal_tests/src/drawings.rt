@@ -1,6 +1,6 @@
 //! The drawings of a run of three entries, worked out by hand.
 
-use crate::{Drawing, draw};
+use sd_view::{Drawing, draw};
 use sd_workload::read_work;
 use std::test::Fail;
 

@@ -1,6 +1,6 @@
 //! What no clause says: that a line is taken where memory is left.
 
-use super::*;
+use sd_declare::{Declared, Opened, Refusal, WorkCause, take_statement};
 use sd_lines::statement_of;
 use std::alloc::Global;
 

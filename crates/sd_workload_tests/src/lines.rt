@@ -1,7 +1,7 @@
 //! What no clause says: that the definitions take and refuse the lines that they should, and that reading succeeds
 //! where memory is left. The lines were judged by hand.
 
-use super::*;
+use sd_lines::{Statement, ThreadClass, ThreadLine, is_word, operation_of, statement_of};
 use std::test::Fail;
 
 // Lines between bars: each form, blanks around and between words, comments, names that are keywords, ten digits.

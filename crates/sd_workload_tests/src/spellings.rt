@@ -2,7 +2,7 @@
 //! those from the last row of the last table on.
 ghost use Rattle.std.specs.Prelude.{◌<◌, ◌^◌, length};
 
-use crate::write_work;
+use sd_canonical::write_work;
 use sd_workload::read_work;
 use std::alloc::Global;
 use std::test::Fail;

@@ -1,0 +1,12 @@
+//! Tests of the texts of workloads: their lines, what is declared, whole workloads and their canonical spellings. All cases were
+//! worked out by hand.
+#![tactic(auto)]
+
+#[cfg(test)]
+mod declared;
+#[cfg(test)]
+mod lines;
+#[cfg(test)]
+mod spellings;
+#[cfg(test)]
+mod workloads;
