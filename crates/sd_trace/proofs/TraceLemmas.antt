@@ -1,6 +1,6 @@
 -- Which bytes traces are made of.
-use Rattle.std.proofs.Common.{ℕ, ◌+◌, List, length, Option, Some, None, refl}
-use Rattle.std.specs.Prelude.{codes, slice_get}
+use Rattle.std.proofs.Common.{ℕ, ◌∷◌, [], List, length, Option, Some, None, refl}
+use Rattle.std.specs.Prelude.{codes, max}
 use Rattle.std.specs.List.{range_with_len}
 use Rattle.std.proofs.lemmas.List.Folds.{list_all-append}
 use Rattle.sd_types.specs.declared.classes.Class.{Class}
@@ -15,7 +15,7 @@ use Rattle.sd_stretches.specs.Rows.{slices, stretches}
 use Rattle.sd_labels.specs.Plain.{is_text_byte, IsText}
 use Rattle.sd_labels.proofs.TextLemmas.{flat-text, decimal-text, thread-text, doing-text}
 use Rattle.sd_trace.specs.Words.{class_word, place_at, thread_number}
-use Rattle.sd_trace.specs.Slices.{about, class_argument, class_start, entry_arguments, length_of, priority_argument, run_slice, slice_kind, state_if, state_slice}
+use Rattle.sd_trace.specs.Slices.{about, class_argument, class_start, entry_arguments, length_of, priority_argument, run_slice, slice_kind, state_slice, state_slices}
 use Rattle.sd_trace.specs.Flows.{arrow_end, arrow_from, arrow_start, end_kind, entry_argument, flow, hand_flow, load_argument, load_event, load_start, named, start_kind, track_at, wake_flow}
 use Rattle.sd_trace.specs.Tracks.{all_tracks, cpu_name, cpu_part, cpu_track, name_end, name_start, own_part, thread_part, thread_track, threads_start, trace_start, track_order, track_start, trace_text}
 
@@ -43,13 +43,14 @@ run-text : (w : Work) (c : ℕ) (x : Stretch) → IsText (run_slice w c x)
 unfolding run_slice slice_kind
 run-text w c x = simp (list_all-append is_text_byte, thread-text w x.thread, place-text, length-text, about-text)
 
-state-text : (w : Work) (track : ℕ) (x : Stretch) (next : Option Stretch) → IsText (state_slice w track x next)
+state-text : (w : Work) (track from to : ℕ) (x : Stretch) → IsText (state_slice w track from to x)
 unfolding state_slice slice_kind
-state-text w track x next = simp (list_all-append is_text_byte, doing-text w x.doing, place-text, length-text, about-text)
+state-text w track from to x = simp (list_all-append is_text_byte, doing-text w x.doing, place-text, length-text, about-text)
 
-state-text-if : (w : Work) (track : ℕ) (o next : Option Stretch) → IsText (state_if w track o next)
-state-text-if w track None next = refl
-state-text-if w track (Some x) next = state-text w track x next
+states-text : (w : Work) (track from : ℕ) (own : List Stretch) → IsText (state_slices w track from own)
+unfolding state_slices
+states-text w track from [] = refl
+states-text w track from (x ∷ xs) = simp (list_all-append is_text_byte, state-text w track from (max from x.to) x, states-text w track (max from x.to) xs)
 
 -- ---- flows
 
@@ -84,16 +85,8 @@ track-text : (w : Work) (t : ℕ) → IsText (thread_track w t)
 unfolding thread_track track_start track_order name_start name_end
 track-text w t = simp (list_all-append is_text_byte, decimal-text, thread-text w t)
 
-state-text-at : (w : Work) (track : ℕ) (own : List Stretch) (i : ℕ) → IsText (state_if w track (slice_get own i) (slice_get own (i + 1)))
-state-text-at w track own i = state-text-if w track (slice_get own i) (slice_get own (i + 1))
-
 own-text : (w : Work) (t : ℕ) (own : List Stretch) → IsText (own_part w t own)
-own-text w t own =
-    simp (
-      list_all-append is_text_byte,
-      track-text w t,
-      flat-text (λ i. state_if w (thread_number t) (slice_get own i) (slice_get own (i + 1))) (state-text-at w (thread_number t) own) (range_with_len 0 (length own)),
-    )
+own-text w t own = simp (list_all-append is_text_byte, track-text w t, states-text w (thread_number t) 0 own)
 
 cpu-part-text : (w : Work) (h : History) (c : ℕ) → IsText (cpu_part w h c)
 cpu-part-text w h c = simp (list_all-append is_text_byte, cpu-text c, flat-text (run_slice w c) (run-text w c) (slices c h.turns.items h.entries w.limit))

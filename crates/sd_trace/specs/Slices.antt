@@ -1,6 +1,6 @@
 -- The slices of the stretches of threads: each stretch is one complete event, with its numbers of entries as arguments.
 -- Source: Trace Event Format (complete events).
-use Rattle.std.specs.Prelude.{ℕ, ◌-◌, min, List, [], ◌++◌, codes, decimal, Option, Some, None}
+use Rattle.std.specs.Prelude.{ℕ, ◌-◌, max, List, [], ◌∷◌, ◌++◌, codes, decimal}
 use Rattle.sd_types.specs.declared.works.Work.{Work}
 use Rattle.sd_machine.specs.Texts.{thread_name}
 use Rattle.sd_stretches.specs.declared.rows.Stretch.{Stretch}
@@ -37,17 +37,15 @@ run_slice w c x =
     codes ",\n{\"name\":\"" ++ thread_name w x.thread ++ slice_kind (codes "run") ++ place_at w x.from 1 (cpu_number c)
     ++ length_of w x.from x.to ++ about x
 
--- the end of a slice on the track of a thread: not behind that of the next, for slices of one track must not overlap
-abbrev pub end_of : Stretch → Option Stretch → ℕ
-end_of x None = x.to
-end_of x (Some y) = min x.to y.to
-
 -- a slice on the track of a thread
-unfoldable pub state_slice : Work → ℕ → Stretch → Option Stretch → List ℕ
-state_slice w track x next =
-    codes ",\n{\"name\":\"" ++ doing_text w x.doing ++ slice_kind (codes "state") ++ place_at w x.from 2 track
-    ++ length_of w x.from (end_of x next) ++ about x
+unfoldable pub state_slice : Work → ℕ → ℕ → ℕ → Stretch → List ℕ
+state_slice w track from to x =
+    codes ",\n{\"name\":\"" ++ doing_text w x.doing ++ slice_kind (codes "state") ++ place_at w from 2 track
+    ++ length_of w from to ++ about x
 
-abbrev pub state_if : Work → ℕ → Option Stretch → Option Stretch → List ℕ
-state_if w track None next = []
-state_if w track (Some x) next = state_slice w track x next
+-- The slices of a thread's stretches, on its track from a tick on: each begins where the one in front of it ends. That is where its
+-- stretch begins, or a tick later: of two processors that change what a thread does one may be a tick ahead, and slices of
+-- one track must not overlap.
+unfoldable pub state_slices : Work → ℕ → ℕ → List Stretch → List ℕ
+state_slices w track from [] = []
+state_slices w track from (x ∷ xs) = state_slice w track from (max from x.to) x ++ state_slices w track (max from x.to) xs

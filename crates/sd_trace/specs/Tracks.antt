@@ -1,6 +1,6 @@
 -- The tracks, and the whole trace, from the history of a run.
 -- Source: Trace Event Format (JSON object format, metadata events).
-use Rattle.std.specs.Prelude.{ℕ, ◌+◌, List, ◌++◌, length, codes, decimal, slice_get}
+use Rattle.std.specs.Prelude.{ℕ, List, ◌++◌, length, codes, decimal}
 use Rattle.std.specs.List.{flat_map, range_with_len}
 use Rattle.sd_types.specs.declared.works.Work.{Work}
 use Rattle.sd_machine.specs.Texts.{thread_name}
@@ -8,7 +8,7 @@ use Rattle.sd_stretches.specs.declared.histories.History.{History}
 use Rattle.sd_stretches.specs.declared.rows.Stretch.{Stretch}
 use Rattle.sd_stretches.specs.Rows.{slices, stretches}
 use Rattle.sd_trace.specs.Words.{cpu_number, thread_number}
-use Rattle.sd_trace.specs.Slices.{run_slice, state_if}
+use Rattle.sd_trace.specs.Slices.{run_slice, state_slices}
 use Rattle.sd_trace.specs.Flows.{hand_flow, load_event, wake_flow}
 
 -- the start of the name of a track of a process
@@ -45,8 +45,7 @@ cpu_part w h c = cpu_track c ++ flat_map (run_slice w c) (slices c h.turns.items
 -- the track of a thread, with a slice for each of its stretches
 abbrev pub own_part : Work → ℕ → List Stretch → List ℕ
 own_part w t own =
-    thread_track w t
-    ++ flat_map (λ i. state_if w (thread_number t) (slice_get own i) (slice_get own (i + 1))) (range_with_len 0 (length own))
+    thread_track w t ++ state_slices w (thread_number t) 0 own
 
 unfoldable pub thread_part : Work → History → ℕ → List ℕ
 thread_part w h t = own_part w t (stretches t h.turns.items h.entries w.limit)

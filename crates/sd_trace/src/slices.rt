@@ -1,9 +1,8 @@
 //! The slices of the stretches of threads.
 
-ghost use Rattle.std.specs.Prelude.{◌≡◌, ◌++◌, ◌+◌, OnOk, codes, decimal, flat_map, length, slice_get};
-ghost use Rattle.std.specs.List.{range_with_len};
+ghost use Rattle.std.specs.Prelude.{◌≡◌, ◌++◌, OnOk, codes, decimal, flat_map, max};
 ghost use Rattle.sd_machine.specs.Texts.{thread_name};
-ghost use Rattle.sd_trace.specs.Slices.{about, class_argument, class_start, entry_arguments, length_of, end_of, priority_argument, run_slice, slice_kind, state_if, state_slice};
+ghost use Rattle.sd_trace.specs.Slices.{about, class_argument, class_start, entry_arguments, length_of, priority_argument, run_slice, slice_kind, state_slice, state_slices};
 
 use crate::words::{class_word, cpu_number, micros, put_place};
 use sd_labels::{put_counted, put_doing, thread_name};
@@ -98,72 +97,48 @@ pub(crate) fn put_run_slices(
     Ok(())
 }
 
-fn stretch_at(own: &[Stretch], i: usize) -> Option<Stretch>
-    ensures { result ≡ slice_get own.now i }
+fn later(x: u32, y: u32) -> u32
+    ensures { result ≡ max x y }
 {
-    match own.get(i) {
-        Some(x) => Some(*x),
-        None => None,
-    }
-}
-
-// The end of a slice: where the next stretch ends before it begins, as of two processors one may be a tick ahead, the
-// slice ends with the next one, for slices of one track must not overlap.
-fn end_of(x: &Stretch, next: Option<Stretch>) -> u32
-    ensures { result ≡ end_of x.now next }
-{
-    match next {
-        Some(y) => x.to.min(y.to),
-        None => x.to,
-    }
+    x.max(y)
 }
 
 // A slice on the track of a thread.
 #[tactic(auto, unfolding(crate::specs::Slices::state_slice))]
 fn put_state(
     work: &Work,
-    x: &Stretch,
-    next: Option<Stretch>,
     track: u64,
+    from: u32,
+    to: u32,
+    x: &Stretch,
     out: &mut Vec<u8>,
 ) -> Result<(), AllocError>
-    ensures { OnOk result (out.new.items ≡ out.old.items ++ state_slice work.now track x.now next) }
+    ensures { OnOk result (out.new.items ≡ out.old.items ++ state_slice work.now track from to x.now) }
 {
     out.extend_from_slice(b",\n{\"name\":\"")?;
     put_doing(work, x.doing, out)?;
     put_slice_kind(b"state", out)?;
-    put_place(work, x.from, 2, track, out)?;
-    put_length(work, x.from, end_of(x, next), out)?;
+    put_place(work, from, 2, track, out)?;
+    put_length(work, from, to, out)?;
     put_about(x, out)
 }
 
-fn put_state_if(
-    work: &Work,
-    turn: Option<Stretch>,
-    next: Option<Stretch>,
-    track: u64,
-    out: &mut Vec<u8>,
-) -> Result<(), AllocError>
-    ensures { OnOk result (out.new.items ≡ out.old.items ++ state_if work.now track turn next) }
-{
-    match turn {
-        Some(x) => put_state(work, &x, next, track, out),
-        None => Ok(()),
-    }
-}
-
-/// The slices of a thread on its own track, one for each stretch.
+/// The slices of a thread on its own track, one for each stretch, without an overlap.
 pub(crate) fn put_states(
     work: &Work,
-    own: &[Stretch],
     track: u64,
+    own: &[Stretch],
     out: &mut Vec<u8>,
 ) -> Result<(), AllocError>
-    ensures { OnOk result (out.new.items ≡ out.old.items
-        ++ flat_map (λ i. state_if work.now track (slice_get own.now i) (slice_get own.now (i + 1))) (range_with_len 0 (length own.now))) }
+    ensures { OnOk result (out.new.items ≡ out.old.items ++ state_slices work.now track 0 own.now) }
 {
-    for i in 0..own.len() {
-        put_state_if(work, stretch_at(own, i), stretch_at(own, i + 1), track, out)?;
+    let mut from = 0;
+    let mut left = own;
+    while let Some((x, rest)) = left.split_first() {
+        let to = later(from, x.to);
+        put_state(work, track, from, to, x, out)?;
+        from = to;
+        left = rest;
     }
     Ok(())
 }

@@ -131,7 +131,7 @@ fn put_thread(
         work.limit,
     )?;
     put_thread_track(work, t, out)?;
-    put_states(work, &own, thread_number(t), out)
+    put_states(work, thread_number(t), &own, out)
 }
 
 fn put_threads(

@@ -1,8 +1,9 @@
-use Rattle.std.proofs.Common.{◌≡◌, ◌+◌, ◌++◌}
-use Rattle.std.specs.Prelude.{slice_get}
-use Rattle.std.specs.List.{flat_map, range_with_len}
-use Rattle.sd_trace.specs.Slices.{state_if}
+use Rattle.std.proofs.Common.{◌≡◌, ◌++◌, length}
+use Rattle.sd_trace.specs.Slices.{state_slices}
 use Rattle.sd_trace.proofs.slices.put_states.Given as goal
 
-abbrev pub invariant-loop-i : goal.invariant-loop-i
-invariant-loop-i l = l.out.items ≡ l.initial.out.items ++ flat_map (λ i. state_if l.work l.track (slice_get l.own i) (slice_get l.own (i + 1))) (range_with_len 0 l.i)
+abbrev pub invariant-loop-x : goal.invariant-loop-x
+invariant-loop-x l = l.out.items ++ state_slices l.work l.track l.from l.left ≡ l.initial.out.items ++ state_slices l.work l.track 0 l.initial.left
+
+abbrev pub decreases-loop-x : goal.decreases-loop-x
+decreases-loop-x l = length l.left
