@@ -7,6 +7,7 @@ pub mod Dispatching
 pub mod Events
 pub mod LockGraph
 pub mod Locking
+pub mod Needs
 pub mod Plans
 pub mod Prioritising
 pub mod Requeueing

@@ -1,0 +1,132 @@
+//! Reading the body of a thread, and what the workload says of it. A number that is out of range reads what the
+//! definitions say of it.
+
+ghost use Rattle.std.specs.Prelude.{◌≡◌, [], ◌∷◌, option_copied, option_map, unwrap_or};
+ghost use Rattle.sd_full.specs.Prioritising.{is_privileged, uid_of};
+ghost use Rattle.sd_full.specs.Threads.{eff_of, priority_of, set_of};
+ghost use Rattle.sd_machine.specs.Operations.{op_of};
+ghost use Rattle.sd_machine.specs.States.{no_body, thread_of};
+ghost use Rattle.sd_store.specs.Parts.{found_parts, number, thread_part};
+ghost use Rattle.sd_store.specs.Words.{Lacks, Tells};
+ghost use Rattle.sd_types.specs.Priorities.{eff, eff_as};
+
+use sd_store::Look;
+use sd_types::{
+    ClassState, CpuId, LockId, Op, SetId, SysState, ThreadBody, ThreadId, Work, greatest_willed,
+};
+
+/// The class state of thread `t`.
+pub fn class_of<L: Look>(x: &L, t: ThreadId) -> Result<ClassState, L::Lack>
+    ensures value { Tells (L.shows x.now) result (λ s. (thread_of s t.0).body.class) }
+    ensures lack { Lacks L.part (L.shows x.now) (L.has x.now) result (λ s. thread_part t ∷ []) }
+{
+    match x.body(t)? {
+        Some(body) => Ok(body.class),
+        None => Ok(ClassState::Sys(SysState { pri: 60 })),
+    }
+}
+
+/// The processor to which thread `t` is bound.
+pub fn bound_of<L: Look>(x: &L, t: ThreadId) -> Result<Option<CpuId>, L::Lack>
+    ensures value { Tells (L.shows x.now) result (λ s. (thread_of s t.0).body.bound) }
+    ensures lack { Lacks L.part (L.shows x.now) (L.has x.now) result (λ s. thread_part t ∷ []) }
+{
+    match x.body(t)? {
+        Some(body) => Ok(body.bound),
+        None => Ok(None),
+    }
+}
+
+fn willed(body: Option<&ThreadBody>) -> &[(LockId, u8)]
+    ensures { result.now ≡ (unwrap_or (option_copied body.entry) no_body).willed.items }
+{
+    match body {
+        Some(body) => body.willed.as_slice(),
+        None => &[],
+    }
+}
+
+/// The effective priority that thread `t` would have in a class state.
+pub fn eff_as<L: Look>(class: &ClassState, x: &L, t: ThreadId) -> Result<u8, L::Lack>
+    ensures value { Tells (L.shows x.now) result (λ s. eff_as class.now (thread_of s t.0).body) }
+    ensures lack { Lacks L.part (L.shows x.now) (L.has x.now) result (λ s. thread_part t ∷ []) }
+{
+    let body = x.body(t)?;
+    Ok(greatest_willed(class.base(), willed(body)))
+}
+
+/// The effective priority of thread `t`.
+#[inline(always)]
+pub fn eff_of<L: Look>(x: &L, t: ThreadId) -> Result<u8, L::Lack>
+    ensures value { Tells (L.shows x.now) result (λ s. eff_of s t.0) }
+    ensures lack { Lacks L.part (L.shows x.now) (L.has x.now) result (λ s. thread_part t ∷ []) }
+{
+    match x.body(t)? {
+        Some(body) => Ok(body.effective()),
+        None => Ok(60),
+    }
+}
+
+/// The effective priority of the thread that a look-up found.
+pub fn priority_of<L: Look>(x: &L, t: Option<ThreadId>) -> Result<Option<u8>, L::Lack>
+    ensures value { Tells (L.shows x.now) result (λ s. priority_of s (option_map number t)) }
+    ensures lack { Lacks L.part (L.shows x.now) (L.has x.now) result (λ s. found_parts t) }
+{
+    match t {
+        None => Ok(None),
+        Some(t) => Ok(Some(eff_of(x, t)?)),
+    }
+}
+
+/// The partition of a thread, which its declaration names.
+pub fn set_of(work: &Work, t: ThreadId) -> SetId
+    ensures { result ≡ set_of work.now t.0 }
+{
+    match work.threads.items().get(t.0 as usize) {
+        Some(decl) => decl.set,
+        None => SetId(0),
+    }
+}
+
+/// The user of a thread.
+pub fn uid_of(work: &Work, t: ThreadId) -> u16
+    ensures { result ≡ uid_of work.now t.0 }
+{
+    match work.threads.items().get(t.0 as usize) {
+        Some(decl) => decl.uid,
+        None => 0,
+    }
+}
+
+/// A thread may change what others may not.
+pub fn is_privileged(work: &Work, t: ThreadId) -> bool
+    ensures { result ≡ is_privileged work.now t.0 }
+{
+    match work.threads.items().get(t.0 as usize) {
+        Some(decl) => decl.privileged,
+        None => false,
+    }
+}
+
+/// The operation of thread `t` with a number, None after the last.
+fn op_at(work: &Work, t: ThreadId, body: Option<&ThreadBody>) -> Option<Op>
+    ensures { result ≡ op_of work.now t.0 (unwrap_or (option_copied body.entry) no_body) }
+{
+    let op = match body {
+        Some(body) => body.op,
+        None => 0,
+    };
+    match work.threads.items().get(t.0 as usize) {
+        Some(decl) => decl.script.ops().get(op as usize).copied(),
+        None => None,
+    }
+}
+
+/// The operation at which thread `t` stands, None after the last.
+pub fn op_of<L: Look>(work: &Work, x: &L, t: ThreadId) -> Result<Option<Op>, L::Lack>
+    ensures value { Tells (L.shows x.now) result (λ s. op_of work.now t.0 (thread_of s t.0).body) }
+    ensures lack { Lacks L.part (L.shows x.now) (L.has x.now) result (λ s. thread_part t ∷ []) }
+{
+    let body = x.body(t)?;
+    Ok(op_at(work, t, body))
+}

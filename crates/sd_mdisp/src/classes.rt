@@ -1,0 +1,97 @@
+//! What happens to a thread of any class: a tick, a wakeup, a second on a dispatch queue, and a place on one.
+//!
+//! Source: Solaris Internals (the scheduling classes), ts_dptbl(4), rt_dptbl(4).
+ghost use Rattle.std.specs.Prelude.{◌≡◌};
+ghost use Rattle.sd_full.specs.Bodies.{aged_class, ticked_class, woken_class};
+ghost use Rattle.sd_rules.specs.ClassRules.{class_expires, class_requeue, quantum_expires};
+
+use sd_types::{ClassState, Quantum, Work};
+
+/// The class state after a tick of the running thread.
+pub fn ticked_class(work: &Work, class: ClassState) -> ClassState
+    ensures { result ≡ ticked_class work.now class }
+{
+    match class {
+        ClassState::Ts(mut s) => {
+            sd_ts::tick(&mut s, &work.ts);
+            ClassState::Ts(s)
+        }
+        ClassState::Fx(mut s) => {
+            sd_fixed::fx_tick(&mut s, &work.fx);
+            ClassState::Fx(s)
+        }
+        ClassState::Sys(s) => ClassState::Sys(s),
+        ClassState::Rt(mut s) => {
+            sd_rt::tick(&mut s, &work.rt);
+            ClassState::Rt(s)
+        }
+    }
+}
+
+/// The class state after a wakeup, from a nap, a sleep queue or a turnstile.
+pub fn woken_class(work: &Work, class: ClassState) -> ClassState
+    ensures { result ≡ woken_class work.now class }
+{
+    match class {
+        ClassState::Ts(mut s) => {
+            sd_ts::wake(&mut s, &work.ts);
+            ClassState::Ts(s)
+        }
+        ClassState::Fx(mut s) => {
+            sd_fixed::fx_wake(&mut s, &work.fx);
+            ClassState::Fx(s)
+        }
+        ClassState::Sys(s) => ClassState::Sys(s),
+        ClassState::Rt(mut s) => {
+            sd_rt::wake(&mut s, &work.rt);
+            ClassState::Rt(s)
+        }
+    }
+}
+
+/// The class state after a second on a dispatch queue, which the time-sharing class alone counts.
+pub fn aged_class(work: &Work, class: ClassState) -> ClassState
+    ensures { result ≡ aged_class work.now class }
+{
+    match class {
+        ClassState::Ts(mut s) => {
+            sd_ts::second(&mut s, &work.ts);
+            ClassState::Ts(s)
+        }
+        other => other,
+    }
+}
+
+/// The class state of a thread that is queued again, at the back where its quantum has `expired`.
+pub fn class_requeue(expired: bool, class: ClassState) -> ClassState
+    ensures { result ≡ class_requeue expired class }
+{
+    match class {
+        ClassState::Ts(mut s) => {
+            sd_ts::requeue(&mut s, expired);
+            ClassState::Ts(s)
+        }
+        other => other,
+    }
+}
+
+fn quantum_expires(quantum: Quantum, left: u64) -> bool
+    ensures { result ≡ quantum_expires quantum left }
+{
+    match quantum {
+        Quantum::Inf => false,
+        _ => left <= 1,
+    }
+}
+
+/// The next tick ends the quantum.
+pub fn class_expires(class: &ClassState) -> bool
+    ensures { result ≡ class_expires class.now }
+{
+    match class {
+        ClassState::Ts(s) => s.left <= 1,
+        ClassState::Fx(s) => quantum_expires(s.quantum, s.left),
+        ClassState::Sys(_) => false,
+        ClassState::Rt(s) => quantum_expires(s.quantum, s.left),
+    }
+}

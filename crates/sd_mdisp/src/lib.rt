@@ -1,0 +1,21 @@
+//! The dispatcher: threads that run on a processor and leave it, dispatch queues and marks, and where a thread is put that
+//! is made runnable. What a processor may do and what the event makes of a store stand side by side.
+//!
+//! Source: Solaris Internals (disp, setbackdq, setfrontdq, cpu_surrender, clock_tick).
+#![tactic(auto)]
+
+mod bodies;
+mod classes;
+mod marks;
+mod placing;
+mod requeueing;
+mod waking;
+
+pub use bodies::{
+    bound_of, class_of, eff_as, eff_of, is_privileged, op_of, priority_of, set_of, uid_of,
+};
+pub use classes::{aged_class, class_expires, class_requeue, ticked_class, woken_class};
+pub use marks::{mark_over, remark};
+pub use placing::{put, put_where};
+pub use requeueing::{reordered, requeue};
+pub use waking::{woken, woken_priority};

@@ -1,0 +1,41 @@
+//! Threads that wake up.
+//!
+//! Source: Solaris Internals (setrun, the wakeup of each scheduling class).
+
+ghost use Rattle.std.specs.Prelude.{◌≡◌, ◌<◌, ◌^◌, [], ◌∷◌, ⊤};
+ghost use Rattle.sd_full.specs.Sleeping.{woken, woken_priority};
+ghost use Rattle.sd_store.specs.Parts.{put_parts, thread_part};
+ghost use Rattle.sd_store.specs.Words.{DoesBy, Lacks, LacksBy, Tells};
+
+use crate::bodies::{class_of, eff_as};
+use crate::classes::woken_class;
+use crate::placing::put;
+use sd_store::{Look, Store, set_class};
+use sd_types::{Put, ThreadId, Work};
+
+/// The effective priority of a thread after its wakeup.
+pub fn woken_priority<L: Look>(work: &Work, x: &L, t: ThreadId) -> Result<u8, L::Lack>
+    ensures value { Tells (L.shows x.now) result (λ s. woken_priority work.now s t.0) }
+    ensures lack { Lacks L.part (L.shows x.now) (L.has x.now) result (λ s. thread_part t ∷ []) }
+{
+    eff_as(&woken_class(work, class_of(x, t)?), x, t)
+}
+
+/// By entry `number` thread `t` wakes up and is made runnable.
+#[tactic(auto, unfolding(sd_full::specs::Sleeping::woken))]
+pub fn woken<S: Store>(
+    work: &Work,
+    x: &mut S,
+    number: u64,
+    t: ThreadId,
+    at: Put,
+) -> Result<(), S::Lack>
+    requires { number < 2 ^ 62 }
+    ensures value { DoesBy number (S.shows x.old) (S.shows x.new) result (λ s. ⊤) (λ s. woken work.now s number t.0 at) }
+    ensures lack { LacksBy number S.part (S.shows x.old) (S.has x.old) result (λ s. ⊤) (λ s. put_parts work.now t at) }
+    ensures has { S.has x.new ≡ S.has x.old }
+{
+    let class = class_of(x, t)?;
+    set_class(x, work, t, woken_class(work, class))?;
+    put(work, x, number, t, at)
+}

@@ -1,0 +1,5 @@
+pub mod Bodies
+pub mod Keyless
+pub mod Parts
+pub mod Walks
+pub mod Words

@@ -1,0 +1,21 @@
+//! What the events of the machine need of the thing that holds its state: look-ups, and the changes of which they are
+//! composed, each small enough that a part of the state can answer it alone.
+#![tactic(auto)]
+
+mod changes;
+mod clock;
+mod look;
+mod parts;
+mod sets;
+mod spots;
+mod store;
+
+pub use changes::BodyChange;
+pub use clock::Clock;
+pub use look::Look;
+pub use parts::{CpuView, Part};
+pub use sets::Sets;
+pub use spots::{Destination, Spot, Task};
+pub use store::{
+    Store, finish_op, hold, inherit, let_go, run_tick, send_back, set_class, set_looped,
+};
