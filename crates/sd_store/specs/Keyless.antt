@@ -9,6 +9,8 @@ use Rattle.sd_machine.specs.declared.states.Place.TheVariants as place
 use Rattle.sd_machine.specs.declared.states.State.{State}
 use Rattle.sd_full.specs.Changes.{back_key, key_at}
 use Rattle.sd_full.specs.Needs.{IsChan, IsLock}
+use Rattle.sd_store.specs.declared.spots.Chore.{Chore}
+use Rattle.sd_store.specs.declared.spots.Chore.TheVariants as chore
 use Rattle.sd_store.specs.declared.spots.Destination.{Destination}
 use Rattle.sd_store.specs.declared.spots.Destination.TheVariants as to
 use Rattle.sd_store.specs.declared.spots.Spot.{Spot}
@@ -34,16 +36,13 @@ task_of (duty.GrantReaders l) = task.GrantReaders l
 task_of (duty.Rouse k below) = task.Rouse k
 task_of (duty.Age u) = task.Age u
 
--- a duty that begins with entry n: a walk that seeks the thread which this entry put on its turnstile, the sleepers that
--- were there before it
-abbrev pub duty_by : ℕ → Task → Duty
-duty_by n task.Nothing = duty.Nothing
-duty_by n (task.Walk l seek) = duty.Walk l seek (back_key n)
-duty_by n (task.WakeMutex l) = duty.WakeMutex l
-duty_by n (task.GrantWriter l) = duty.GrantWriter l
-duty_by n (task.GrantReaders l) = duty.GrantReaders l
-duty_by n (task.Rouse k) = duty.Rouse k (back_key n)
-duty_by n (task.Age u) = duty.Age u
+-- the duty that has no key
+abbrev pub duty_of : Chore → Duty
+duty_of chore.Nothing = duty.Nothing
+duty_of (chore.WakeMutex l) = duty.WakeMutex l
+duty_of (chore.GrantWriter l) = duty.GrantWriter l
+duty_of (chore.GrantReaders l) = duty.GrantReaders l
+duty_of (chore.Age u) = duty.Age u
 
 -- the place to which a thread goes by entry n when it leaves processor c
 abbrev pub place_by : ℕ → CpuId → Destination → Place

@@ -42,3 +42,14 @@ pub enum Task {
     Rouse(ChanId),
     Age(ThreadId),
 }
+
+/// A duty that has no key: nothing, to wake the waiters of a mutex, to hand a rwlock over to a writer or to readers, or to
+/// age the time-sharing threads from a number on.
+#[derive(Clone, Copy)]
+pub enum Chore {
+    Nothing,
+    WakeMutex(LockId),
+    GrantWriter(LockId),
+    GrantReaders(LockId),
+    Age(ThreadId),
+}

@@ -6,29 +6,36 @@ ghost use Rattle.sd_full.specs.Needs.{CanFinish, CanHold, CanInherit};
 ghost use Rattle.sd_store.specs.Parts.{thread_part};
 ghost use Rattle.sd_store.specs.Words.{Does, Lacks};
 
-use crate::{BodyChange, Destination, Look, Task};
+use crate::{BodyChange, Chore, Destination, Look};
 use sd_machine::LockState;
-use sd_types::{ClassState, CpuId, LockId, Put, ThreadId, Work};
+use sd_types::{ChanId, ClassState, CpuId, LockId, Put, ThreadId, Work};
 
 /// A store of which the state changes. A change that is made is made in every state that is shown, and what it asks of a
 /// state is asked of the states alone: no change has a condition on the store. A change that lacks a part has changed
 /// nothing. What the store has stays.
 pub trait Store: Look {
     ghost use Rattle.std.specs.Prelude.{◌≡◌, ◌<◌, ◌^◌, [], ◌∷◌, ⊤};
+    ghost use Rattle.sd_types.specs.declared.events.Duty.TheVariants.{Rouse};
     ghost use Rattle.sd_machine.specs.States.{thread_of};
-    ghost use Rattle.sd_full.specs.Changes.{clear_marks, count_tick, leave, place_put, run_on, set_duty, set_mark, with_body, with_place};
+    ghost use Rattle.sd_full.specs.Changes.{back_key, clear_marks, count_tick, leave, place_put, run_on, set_duty, set_mark, with_body, with_place};
     ghost use Rattle.sd_full.specs.Needs.{CanTick, IsFree, IsLock, RunsOn};
     ghost use Rattle.sd_full.specs.Threads.{with_lock};
     ghost use Rattle.sd_store.specs.Bodies.{CanChange, changed};
-    ghost use Rattle.sd_store.specs.Keyless.{IsDestination, duty_by, place_by};
+    ghost use Rattle.sd_store.specs.Keyless.{IsDestination, duty_of, place_by};
     ghost use Rattle.sd_store.specs.Parts.{actor_part, chain_part, cpu_part, destination_parts, put_parts, thread_part};
     ghost use Rattle.sd_store.specs.Walks.{walk_begun, walk_gone_on};
     ghost use Rattle.sd_store.specs.Words.{Does, DoesBy, Lacks};
 
-    /// By entry `number` processor `c` has a duty. A walk seeks a thread that this entry has put on its turnstile.
-    fn set_duty(&mut self, number: u64, c: CpuId, task: Task) -> Result<(), Self::Lack>
+    /// Processor `c` has a duty without a key.
+    fn set_duty(&mut self, c: CpuId, chore: Chore) -> Result<(), Self::Lack>
+        ensures value { Does (Self.shows self.old) (Self.shows self.new) result (λ s. ⊤) (λ s. set_duty s c.0 (duty_of chore)) }
+        ensures lack { Lacks Self.part (Self.shows self.old) (Self.has self.old) result (λ s. actor_part c ∷ []) }
+        ensures has { Self.has self.new ≡ Self.has self.old };
+
+    /// By entry `number` processor `c` has the duty to wake all that sleep on channel `k` now.
+    fn begin_rouse(&mut self, number: u64, c: CpuId, k: ChanId) -> Result<(), Self::Lack>
         requires { number < 2 ^ 62 }
-        ensures value { DoesBy number (Self.shows self.old) (Self.shows self.new) result (λ s. ⊤) (λ s. set_duty s c.0 (duty_by number task)) }
+        ensures value { DoesBy number (Self.shows self.old) (Self.shows self.new) result (λ s. ⊤) (λ s. set_duty s c.0 (Rouse k (back_key number))) }
         ensures lack { Lacks Self.part (Self.shows self.old) (Self.has self.old) result (λ s. actor_part c ∷ []) }
         ensures has { Self.has self.new ≡ Self.has self.old };
 
