@@ -1,15 +1,16 @@
 -- The parts that the events of the dispatcher touch.
 -- Source: this project's own.
-use Rattle.std.specs.Prelude.{ℕ, List, [], ◌∷◌, ◌++◌, Option, Some, None}
+use Rattle.std.specs.Prelude.{ℕ, List, [], ◌∷◌, ◌&&◌, ℤ, nat_le, Option, Some, None, is_none, if◌then◌else◌}
 use Rattle.sd_types.specs.declared.numbers.CpuId.{CpuId}
 use Rattle.sd_types.specs.declared.numbers.ThreadId.{ThreadId}
 use Rattle.sd_types.specs.declared.events.Put.{Put}
 use Rattle.sd_types.specs.declared.works.Work.{Work}
 use Rattle.sd_machine.specs.declared.states.Place.{Place}
-use Rattle.sd_machine.specs.declared.states.Place.TheVariants.{Running}
+use Rattle.sd_machine.specs.declared.states.Place.TheVariants.{Running, Queued, RealTime}
 use Rattle.sd_machine.specs.declared.states.State.{State}
+use Rattle.sd_full.specs.Threads.{set_of}
 use Rattle.sd_store.specs.declared.parts.Part.{Part}
-use Rattle.sd_store.specs.Parts.{put_parts, ready_parts, thread_part}
+use Rattle.sd_store.specs.Parts.{cpu_part, put_parts, ready_parts, real_time_part, thread_part}
 
 abbrev pub put_parts_if : Work → ThreadId → Option Put → List Part
 put_parts_if w t None = []
@@ -19,3 +20,11 @@ put_parts_if w t (Some at) = put_parts w t at
 abbrev pub reordered_parts : Work → State → ThreadId → Option Put → Place → List Part
 reordered_parts w s t at (Running d) = thread_part t ∷ ready_parts s d
 reordered_parts w s t at _ = thread_part t ∷ put_parts_if w t at
+
+-- a thread that leaves its processor for a queue
+abbrev pub leaving_parts : Work → ThreadId → CpuId → List Part
+leaving_parts w t c = thread_part t ∷ cpu_part c ∷ real_time_part (set_of w t.0) ∷ []
+
+-- the queue of a thread of priority p that has been on processor c: `queue_place` by priority and binding
+abbrev pub queue_for : Work → ℕ → CpuId → ℤ → ℕ → Option CpuId → Place
+queue_for w t c key p bound = if nat_le 100 p && is_none bound then RealTime (set_of w t) key else Queued c key

@@ -9,6 +9,7 @@ mod classes;
 mod marks;
 mod placing;
 mod requeueing;
+mod running;
 mod waking;
 
 pub use bodies::{
@@ -18,4 +19,7 @@ pub use classes::{aged_class, class_expires, class_requeue, ticked_class, woken_
 pub use marks::{mark_over, remark};
 pub use placing::{put, put_where};
 pub use requeueing::{reordered, requeue};
+pub use running::{
+    dispatched, done, idled, preempted, sent_away, spun, stolen, ticked, yielded,
+};
 pub use waking::{woken, woken_priority};
