@@ -28,3 +28,8 @@ leaving_parts w t c = thread_part t ∷ cpu_part c ∷ real_time_part (set_of w 
 -- the queue of a thread of priority p that has been on processor c: `queue_place` by priority and binding
 abbrev pub queue_for : Work → ℕ → CpuId → ℤ → ℕ → Option CpuId → Place
 queue_for w t c key p bound = if nat_le 100 p && is_none bound then RealTime (set_of w t) key else Queued c key
+
+-- the processor from which a thread is stolen
+abbrev pub victim_parts : Option CpuId → List Part
+victim_parts None = []
+victim_parts (Some v) = cpu_part v ∷ []

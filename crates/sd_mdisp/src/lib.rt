@@ -5,9 +5,12 @@
 #![tactic(auto)]
 
 mod bodies;
+mod choosing;
 mod classes;
+mod dispatching;
 mod marks;
 mod placing;
+mod reading;
 mod requeueing;
 mod running;
 mod waking;
@@ -15,9 +18,12 @@ mod waking;
 pub use bodies::{
     bound_of, class_of, eff_as, eff_of, is_privileged, op_of, priority_of, set_of, uid_of,
 };
+pub use choosing::{put_chosen, victim_for};
 pub use classes::{aged_class, class_expires, class_requeue, ticked_class, woken_class};
+pub use dispatching::{dispatch_plan, leave_plan, search_event};
 pub use marks::{mark_over, remark};
 pub use placing::{put, put_where};
+pub use reading::{Reading, hints_fit, reads_for, reads_to_steal};
 pub use requeueing::{reordered, requeue};
 pub use running::{
     dispatched, done, idled, preempted, sent_away, spun, stolen, ticked, yielded,

@@ -1,0 +1,248 @@
+//! On which processor a thread is put that is made runnable, and from which processor a thread is stolen.
+//!
+//! Source: Solaris Internals (cpu_choose, disp_getwork); hints, and the three ticks of warmth, are this project's own.
+
+ghost use Rattle.std.specs.Prelude.{◌≡◌, ◌≤◌, ◌==◌, ◌∷◌, [], IfOk, filter, length, not, replicate, ℕ};
+ghost use Rattle.sd_rules.specs.Choices.{is_among};
+ghost use Rattle.sd_rules.specs.ChoiceFunctions.{chosen};
+ghost use Rattle.sd_full.specs.Choosing.{choice, cpus_for, cpus_or_bound, is_recent, is_settled, is_warm, neighbours, numbers_read, put_chosen, put_on, victim_for};
+ghost use Rattle.sd_full.specs.Threads.{set_of};
+ghost use Rattle.sd_machine.specs.declared.states.State.{State};
+ghost use Rattle.sd_machine.specs.States.{cpu_of, thread_of};
+ghost use Rattle.sd_store.specs.Parts.{actor_part, cpu_part, ready_parts, real_time_part, thread_part};
+ghost use Rattle.sd_store.specs.Words.{Lacks, Tells, TellsIf};
+
+use crate::bodies::{bound_of, set_of};
+use arrayvec::ArrayVec;
+use sd_choose::{choose, victim};
+use sd_store::Look;
+use sd_types::{CpuId, Hints, Put, REAL_TIME_PRIORITY, ThreadId, Work};
+
+fn copied(cpus: &[CpuId]) -> ArrayVec<CpuId, 64>
+    requires { length cpus.now ≤ 64 }
+    ensures { result.items ≡ cpus.now }
+{
+    let mut copy = ArrayVec::new();
+    for c in cpus {
+        copy.push(*c);
+    }
+    copy
+}
+
+fn one(d: CpuId) -> ArrayVec<CpuId, 64>
+    ensures { result.items ≡ d ∷ [] }
+{
+    let mut cpus = ArrayVec::new();
+    cpus.push(d);
+    cpus
+}
+
+/// These processors, or the one to which a thread is bound.
+fn cpus_or_bound(cpus: &[CpuId], bound: Option<CpuId>) -> ArrayVec<CpuId, 64>
+    requires { length cpus.now ≤ 64 }
+    ensures { result.items ≡ cpus_or_bound cpus.now bound }
+{
+    match bound {
+        None => copied(cpus),
+        Some(d) => one(d),
+    }
+}
+
+/// The processors on which thread `t` may run.
+#[tactic(auto, unfolding(sd_full::specs::Choosing::cpus_for))]
+pub(crate) fn cpus_for<L: Look>(
+    work: &Work,
+    x: &L,
+    t: ThreadId,
+) -> Result<ArrayVec<CpuId, 64>, L::Lack>
+    ensures value { IfOk result (λ r. (n : ℕ) (s : State) → L.shows x.now n s → r.items ≡ cpus_for work.now s t.0) }
+    ensures lack { Lacks L.part (L.shows x.now) (L.has x.now) result (λ s. thread_part t ∷ real_time_part (set_of work.now t.0) ∷ []) }
+{
+    let bound = bound_of(x, t)?;
+    Ok(cpus_or_bound(x.open_cpus(set_of(work, t))?, bound))
+}
+
+/// The processor on which thread `t` ran last.
+pub(crate) fn last_of<L: Look>(x: &L, t: ThreadId) -> Result<CpuId, L::Lack>
+    ensures value { Tells (L.shows x.now) result (λ s. (thread_of s t.0).body.last) }
+    ensures lack { Lacks L.part (L.shows x.now) (L.has x.now) result (λ s. thread_part t ∷ []) }
+{
+    match x.body(t)? {
+        Some(body) => Ok(body.last),
+        None => Ok(CpuId(0)),
+    }
+}
+
+/// The count of ticks that the last processor of thread `t` had when the thread left it.
+fn left_at<L: Look>(x: &L, t: ThreadId) -> Result<Option<u32>, L::Lack>
+    ensures value { Tells (L.shows x.now) result (λ s. (thread_of s t.0).body.left_at) }
+    ensures lack { Lacks L.part (L.shows x.now) (L.has x.now) result (λ s. thread_part t ∷ []) }
+{
+    match x.body(t)? {
+        Some(body) => Ok(body.left_at),
+        None => Ok(None),
+    }
+}
+
+/// A thread that left its last processor at a count of ticks did so at most three ticks ago.
+fn is_recent(count: u32, left_at: Option<u32>) -> bool
+    ensures { result ≡ is_recent count left_at }
+{
+    match left_at {
+        None => false,
+        Some(left_at) => count.saturating_sub(3) <= left_at,
+    }
+}
+
+/// Thread `t` left its last processor a short time ago, as processor `c` counts.
+pub(crate) fn is_warm<L: Look>(x: &L, c: CpuId, t: ThreadId) -> Result<bool, L::Lack>
+    ensures value { Tells (L.shows x.now) result (λ s. is_warm s c.0 t.0) }
+    ensures lack { Lacks L.part (L.shows x.now) (L.has x.now) result (λ s. actor_part c ∷ thread_part t ∷ []) }
+{
+    let left_at = left_at(x, t)?;
+    Ok(is_recent(x.ticks(c)?, left_at))
+}
+
+fn is_among(cpu: CpuId, cpus: &[CpuId]) -> bool
+    ensures { result ≡ is_among cpu cpus.now }
+{
+    cpus.iter().any(|other| other.0 == cpu.0)
+}
+
+/// The choice is settled before anything is read.
+pub(crate) fn is_settled(cpus: &[CpuId], last: CpuId, warm: bool) -> bool
+    ensures { result ≡ is_settled cpus.now last warm }
+{
+    cpus.len() == 1 || warm && is_among(last, cpus)
+}
+
+/// As many zeros as there are processors.
+fn zeros<'a>(cpus: &[CpuId], zeros: &'a [u8]) -> &'a [u8]
+    requires fits { length cpus.now ≤ 64 }
+    requires zeros { zeros.now ≡ replicate 64 0 }
+    ensures { result.now ≡ replicate (length cpus.now) 0 }
+{
+    &zeros[..cpus.len()]
+}
+
+/// The numbers that were read of so many processors, 0 where nothing was read.
+fn numbers_read<'a>(cpus: &[CpuId], hints: &'a Option<Hints>, nothing: &'a [u8]) -> &'a [u8]
+    requires fits { length cpus.now ≤ 64 }
+    requires nothing { nothing.now ≡ replicate 64 0 }
+    ensures { result.now ≡ numbers_read cpus.now hints.now }
+{
+    match hints {
+        None => zeros(cpus, nothing),
+        Some(hints) => hints.numbers.as_slice(),
+    }
+}
+
+/// The processor of `cpus` to which a thread goes, with a number for each that was read.
+fn chosen(cpus: &[CpuId], hints: &Option<Hints>, last: CpuId, warm: bool) -> CpuId
+    requires { length cpus.now ≤ 64 }
+    ensures { length (numbers_read cpus.now hints.now) ≡ length cpus.now → result ≡ chosen cpus.now (numbers_read cpus.now hints.now) last warm }
+{
+    if cpus.is_empty() {
+        return CpuId(0);
+    }
+    let nothing = [0; 64];
+    let numbers = numbers_read(cpus, hints, &nothing);
+    if numbers.len() == cpus.len() {
+        choose(cpus, numbers, last, warm)
+    } else {
+        CpuId(0)
+    }
+}
+
+/// The processor that processor `c` chooses for thread `t`: its last one while it is warm, else one with the least
+/// number; ties go to the last processor, then to the least number.
+#[tactic(auto, unfolding(sd_full::specs::Choosing::choice))]
+fn choice<L: Look>(
+    work: &Work,
+    x: &L,
+    c: CpuId,
+    t: ThreadId,
+    hints: &Option<Hints>,
+) -> Result<CpuId, L::Lack>
+    ensures value { TellsIf (L.shows x.now) result (λ s. length (numbers_read (cpus_for work.now s t.0) hints.now) ≡ length (cpus_for work.now s t.0)) (λ s. choice work.now s c.0 t.0 hints.now) }
+    ensures lack { Lacks L.part (L.shows x.now) (L.has x.now) result (λ s. actor_part c ∷ thread_part t ∷ real_time_part (set_of work.now t.0) ∷ []) }
+{
+    let cpus = cpus_for(work, x, t)?;
+    let last = last_of(x, t)?;
+    let warm = is_warm(x, c, t)?;
+    Ok(chosen(cpus.as_slice(), hints, last, warm))
+}
+
+/// The queue of a thread of priority `p` for which processor `x` was chosen.
+fn put_on(p: u8, bound: Option<CpuId>, x: CpuId) -> Put
+    ensures { result ≡ put_on p bound x }
+{
+    if p >= REAL_TIME_PRIORITY && bound.is_none() {
+        Put::RealTime(x)
+    } else {
+        Put::Cpu(x)
+    }
+}
+
+/// Where processor `c` puts thread `t`, which has the effective priority `p` then, where a number was read for each
+/// processor on which the thread may run, or none was.
+#[tactic(auto, unfolding(sd_full::specs::Choosing::put_chosen))]
+pub fn put_chosen<L: Look>(
+    work: &Work,
+    x: &L,
+    c: CpuId,
+    t: ThreadId,
+    p: u8,
+    hints: &Option<Hints>,
+) -> Result<Put, L::Lack>
+    ensures value { TellsIf (L.shows x.now) result (λ s. length (numbers_read (cpus_for work.now s t.0) hints.now) ≡ length (cpus_for work.now s t.0)) (λ s. put_chosen work.now s c.0 t.0 p hints.now) }
+    ensures lack { Lacks L.part (L.shows x.now) (L.has x.now) result (λ s. actor_part c ∷ thread_part t ∷ real_time_part (set_of work.now t.0) ∷ []) }
+{
+    let bound = bound_of(x, t)?;
+    Ok(put_on(p, bound, choice(work, x, c, t, hints)?))
+}
+
+/// The processors of a list without processor `c`.
+fn others(c: CpuId, cpus: &[CpuId]) -> ArrayVec<CpuId, 64>
+    requires { length cpus.now ≤ 64 }
+    ensures { result.items ≡ filter (λ d. not (d.0 == c.0)) cpus.now }
+{
+    let mut others = ArrayVec::new();
+    for d in cpus {
+        if d.0 != c.0 {
+            others.push(*d);
+        }
+    }
+    others
+}
+
+/// The other open processors of the partition of processor `c`.
+#[tactic(auto, unfolding(sd_full::specs::Choosing::neighbours))]
+pub(crate) fn neighbours<L: Look>(x: &L, c: CpuId) -> Result<ArrayVec<CpuId, 64>, L::Lack>
+    ensures value { IfOk result (λ r. (n : ℕ) (s : State) → L.shows x.now n s → r.items ≡ neighbours s c.0) }
+    ensures lack { Lacks L.part (L.shows x.now) (L.has x.now) result (λ s. ready_parts s c) }
+{
+    let set = x.cpu(c)?.set;
+    Ok(others(c, x.open_cpus(set)?))
+}
+
+/// The processor from which processor `c` would steal a thread: that with the greatest number, the least of several,
+/// none where all are 0; where a number was read for each neighbour, or none was.
+#[tactic(auto, unfolding(sd_full::specs::Choosing::victim_for))]
+pub fn victim_for<L: Look>(
+    x: &L,
+    c: CpuId,
+    hints: &Option<Hints>,
+) -> Result<Option<CpuId>, L::Lack>
+    ensures value { TellsIf (L.shows x.now) result (λ s. length (numbers_read (neighbours s c.0) hints.now) ≡ length (neighbours s c.0)) (λ s. victim_for s c.0 hints.now) }
+    ensures lack { Lacks L.part (L.shows x.now) (L.has x.now) result (λ s. ready_parts s c) }
+{
+    let cpus = neighbours(x, c)?;
+    let nothing = [0; 64];
+    let numbers = numbers_read(cpus.as_slice(), hints, &nothing);
+    if numbers.len() == cpus.len() {
+        Ok(victim(cpus.as_slice(), numbers))
+    } else {
+        Ok(None)
+    }
+}
