@@ -1,4 +1,5 @@
 pub mod Bodies
+pub mod Flat
 pub mod Keyless
 pub mod Parts
 pub mod Walks

@@ -4,6 +4,7 @@
 
 mod changes;
 mod clock;
+mod flat;
 mod look;
 mod parts;
 mod sets;
@@ -12,6 +13,7 @@ mod store;
 
 pub use changes::BodyChange;
 pub use clock::Clock;
+pub use flat::Never;
 pub use look::Look;
 pub use parts::{CpuView, Part};
 pub use sets::Sets;

@@ -1,0 +1,4 @@
+pub mod NapOrder
+pub mod OthersLemmas
+pub mod PassLemmas
+pub mod Past

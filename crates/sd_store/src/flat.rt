@@ -1,0 +1,8 @@
+//! The state as one value, as a store: it stands for itself alone, and lacks nothing.
+
+mod clock;
+mod look;
+mod sets;
+mod store;
+
+pub use look::Never;
