@@ -1,0 +1,94 @@
+-- What a duty without its key says of the plan.
+use Rattle.std.proofs.Common.{◌≡◌, ℕ, Bool, false, List, [], ◌∷◌, ◌++◌, length, Option, Some, None, refl, sym, ap, ◌∙◌, inl, inr, arith}
+use Rattle.std.specs.Prelude.{◌≤◌, Result, Ok, Err, IfErr}
+use Rattle.sd_types.specs.declared.events.Duty.{Duty}
+use Rattle.sd_types.specs.declared.events.Duty.TheVariants as duty
+use Rattle.sd_types.specs.declared.numbers.CpuId.{CpuId}
+use Rattle.sd_types.specs.declared.works.Work.{Work}
+use Rattle.sd_machine.specs.declared.states.State.{State}
+use Rattle.sd_machine.specs.States.{cpu_of}
+use Rattle.sd_full.specs.declared.plans.Plan.{Plan}
+use Rattle.sd_full.specs.Plans.{ageing_plan, ageing_plan_of, duty_plan, duty_plan_of, first_of, nap_plan}
+use Rattle.sd_full.specs.Sleeping.{rouse_key, rouse_plan}
+use Rattle.sd_full.specs.Threads.{best_sleeper_below}
+use Rattle.sd_store.specs.declared.parts.Part.{Part}
+use Rattle.sd_store.specs.declared.spots.Task.{Task}
+use Rattle.sd_store.specs.declared.spots.Task.TheVariants as task
+use Rattle.sd_store.specs.Keyless.{task_of}
+use Rattle.sd_store.specs.Parts.{IsAmong, actor_part}
+use Rattle.sd_store.specs.Walks.{next_to_rouse}
+use Rattle.sd_step.specs.Needed.{cpu_parts, plan_parts}
+use Rattle.sd_step.specs.Tasks.{task_ageing, task_parts, task_plan}
+
+by_task : (w : Work) (s : State) (c : CpuId) (d : Duty) → (cpu_of s c.0).duty ≡ d → duty_plan_of w s d ≡ task_plan w s c (task_of d)
+unfolding next_to_rouse
+by_task w s c duty.Nothing e = refl
+by_task w s c (duty.Walk l seek key) e = refl
+by_task w s c (duty.WakeMutex l) e = refl
+by_task w s c (duty.GrantWriter l) e = refl
+by_task w s c (duty.GrantReaders l) e = refl
+by_task w s c (duty.Rouse k below) e = sym (ap (λ (d : Duty). Some (rouse_plan w s k (best_sleeper_below s k.0 (rouse_key d)))) e)
+by_task w s c (duty.Age u) e = refl
+
+pub duty_by_task : (w : Work) (s : State) (c : CpuId) → duty_plan w s c.0 ≡ task_plan w s c (task_of (cpu_of s c.0).duty)
+unfolding duty_plan
+duty_by_task w s c = by_task w s c (cpu_of s c.0).duty refl
+
+ageing_by : (w : Work) (s : State) (c : CpuId) (d : Duty) → ageing_plan_of w s c.0 d ≡ task_ageing w s c (task_of d)
+ageing_by w s c duty.Nothing = refl
+ageing_by w s c (duty.Walk l seek key) = refl
+ageing_by w s c (duty.WakeMutex l) = refl
+ageing_by w s c (duty.GrantWriter l) = refl
+ageing_by w s c (duty.GrantReaders l) = refl
+ageing_by w s c (duty.Rouse k below) = refl
+ageing_by w s c (duty.Age u) = refl
+
+pub ageing_by_task : (w : Work) (s : State) (c : CpuId) → ageing_plan w s c.0 ≡ task_ageing w s c (task_of (cpu_of s c.0).duty)
+unfolding ageing_plan
+ageing_by_task w s c = ageing_by w s c (cpu_of s c.0).duty
+
+-- where a duty gives no plan, what comes after is needed
+after_task : (w : Work) (s : State) (c : CpuId) (t : Task) (rest : List Part) (p : Part) → task_plan w s c t ≡ None → IsAmong p rest → IsAmong p (task_parts s t rest)
+after_task w s c task.Nothing rest p none among = among
+after_task w s c (task.Walk l seek) rest p none among = absurd cc
+after_task w s c (task.WakeMutex l) rest p none among = inr among
+after_task w s c (task.GrantWriter l) rest p none among = inr among
+after_task w s c (task.GrantReaders l) rest p none among = absurd cc
+after_task w s c (task.Rouse k) rest p none among = absurd cc
+after_task w s c (task.Age u) rest p none among = among
+
+first_none : (a b : Option Plan) → first_of a b ≡ None → a ≡ None
+first_none None b e = refl
+first_none (Some x) b e = cc
+
+pub after_first : (w : Work) (s : State) (c : CpuId) (p : Part) → IsAmong p (actor_part c ∷ cpu_parts w s c)
+    → first_of (duty_plan w s c.0) (first_of (nap_plan w s c.0) (ageing_plan w s c.0)) ≡ None
+    → IsAmong p (plan_parts w s c)
+after_first w s c p among none = elim among [
+  | inl e ↦ inl e
+  | inr later ↦ inr (after_task w s c (task_of (cpu_of s c.0).duty) _ p (sym (duty_by_task w s c) ∙ first_none _ _ none) later)
+]
+
+pub after_duty : (w : Work) (s : State) (c : CpuId) (p : Part) → IsAmong p (actor_part c ∷ cpu_parts w s c) → duty_plan w s c.0 ≡ None → IsAmong p (plan_parts w s c)
+after_duty w s c p among none = elim among [
+  | inl e ↦ inl e
+  | inr later ↦ inr (after_task w s c (task_of (cpu_of s c.0).duty) _ p (sym (duty_by_task w s c) ∙ none) later)
+]
+
+-- what the duty itself needs
+within_task : (s : State) (t : Task) (rest : List Part) (p : Part) → IsAmong p (task_parts s t []) → IsAmong p (task_parts s t rest)
+within_task s task.Nothing rest p among = absurd among
+within_task s (task.Walk l seek) rest p among = among
+within_task s (task.WakeMutex l) rest p (inl e) = inl e
+within_task s (task.WakeMutex l) rest p (inr never) = absurd never
+within_task s (task.GrantWriter l) rest p (inl e) = inl e
+within_task s (task.GrantWriter l) rest p (inr never) = absurd never
+within_task s (task.GrantReaders l) rest p among = among
+within_task s (task.Rouse k) rest p among = among
+within_task s (task.Age u) rest p among = absurd among
+
+pub within_duty : (w : Work) (s : State) (c : CpuId) (p : Part) → IsAmong p (actor_part c ∷ task_parts s (task_of (cpu_of s c.0).duty) []) → IsAmong p (plan_parts w s c)
+within_duty w s c p among = elim among [
+  | inl e ↦ inl e
+  | inr later ↦ inr (within_task s (task_of (cpu_of s c.0).duty) _ p later)
+]
