@@ -42,7 +42,7 @@ pub mark_threads : (s : State) (c m : ℕ) → (set_mark s c m).threads ≡ s.th
 unfolding set_mark
 mark_threads s c m = refl
 
-over_threads : (s : State) (c m : ℕ) → (mark_over s c m).threads ≡ s.threads
+pub over_threads : (s : State) (c m : ℕ) → (mark_over s c m).threads ≡ s.threads
 unfolding mark_over
 over_threads s c m = by (runs_below m (priority_of s (runner s c))) refl
   where
