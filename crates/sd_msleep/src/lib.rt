@@ -1,0 +1,11 @@
+//! Sleeping and waking: naps that end with the count of a processor, and channels on which threads sleep until others wake
+//! them. What a processor may do and what the event makes of a store stand side by side.
+//!
+//! Source: Solaris Internals (sleep queues, cv_signal, cv_broadcast).
+#![tactic(auto)]
+
+mod channels;
+mod naps;
+
+pub use channels::{fallen_asleep, rouse_plan, roused, wake_plan, woke, woke_all};
+pub use naps::{napend_plan, napped};
