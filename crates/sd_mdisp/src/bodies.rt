@@ -1,13 +1,14 @@
 //! Reading the body of a thread, and what the workload says of it. A number that is out of range reads what the
 //! definitions say of it.
 
-ghost use Rattle.std.specs.Prelude.{◌≡◌, [], ◌∷◌, option_copied, option_map, unwrap_or};
+ghost use Rattle.std.specs.Prelude.{◌≡◌, [], ◌∷◌, IfOk, option_copied, option_map, unwrap_or};
 ghost use Rattle.sd_full.specs.Prioritising.{is_privileged, uid_of};
 ghost use Rattle.sd_full.specs.Threads.{eff_of, priority_of, set_of};
 ghost use Rattle.sd_machine.specs.Operations.{op_of};
 ghost use Rattle.sd_machine.specs.States.{no_body, thread_of};
 ghost use Rattle.sd_store.specs.Parts.{found_parts, number, thread_part};
 ghost use Rattle.sd_store.specs.Words.{Lacks, Tells};
+ghost use Rattle.sd_types.specs.declared.bodies.ThreadBody.{ThreadBody as ThreadBodyOf};
 ghost use Rattle.sd_types.specs.Priorities.{eff, eff_as};
 
 use sd_store::Look;
@@ -122,10 +123,11 @@ fn op_at(work: &Work, t: ThreadId, body: Option<&ThreadBody>) -> Option<Op>
     }
 }
 
-/// The operation at which thread `t` stands, None after the last.
+/// The operation at which thread `t` stands, None after the last. It is one of its script, whatever the store shows.
 pub fn op_of<L: Look>(work: &Work, x: &L, t: ThreadId) -> Result<Option<Op>, L::Lack>
     ensures value { Tells (L.shows x.now) result (λ s. op_of work.now t.0 (thread_of s t.0).body) }
     ensures lack { Lacks L.part (L.shows x.now) (L.has x.now) result (λ s. thread_part t ∷ []) }
+    ensures own { IfOk result (λ op. (b : ThreadBodyOf) × (op ≡ op_of work.now t.0 b)) }
 {
     let body = x.body(t)?;
     Ok(op_at(work, t, body))

@@ -1,3 +1,4 @@
+pub mod Among
 pub mod Duties
 pub mod NumberLemmas
 pub mod WorkLemmas

@@ -4,4 +4,8 @@
 //! Source: Solaris Internals (swtch, the clock's tick, preemption); this order is this project's own.
 #![tactic(auto)]
 
+mod events;
 mod plans;
+
+pub use events::{allowed, next, plan_reads, reads, wish};
+pub use plans::plan;

@@ -107,6 +107,7 @@ fn ageing_plan<L: Look>(work: &Work, x: &L, c: CpuId) -> Result<Option<Plan>, L:
 }
 
 /// The operation at which thread `t` stands, None after the last. A request names a quantum that is in its range.
+#[tactic(auto, using(crate::proofs::WorkLemmas::wanted_quantum))]
 fn wanted_op<L: Look>(work: &Work, x: &L, t: ThreadId) -> Result<Option<Op>, L::Lack>
     ensures value { Tells (L.shows x.now) result (λ s. op_of work.now t.0 (thread_of s t.0).body) }
     ensures lack { Lacks L.part (L.shows x.now) (L.has x.now) result (λ s. thread_part t ∷ []) }

@@ -1,0 +1,213 @@
+//! The one event that a processor may make, and what it reads of others before it.
+
+ghost use Rattle.std.specs.Prelude.{◌≡◌, ℕ, ◌++◌, IfOk, None, true, option_map, if◌then◌else◌};
+ghost use Rattle.sd_types.specs.declared.numbers.ChanId.{ChanId as ChanIdOf};
+ghost use Rattle.sd_full.specs.declared.plans.Plan.TheVariants.{Place};
+ghost use Rattle.sd_full.specs.Choosing.{neighbours, put_chosen, read_of, reads_for, victim_for};
+ghost use Rattle.sd_full.specs.Dispatching.{search_event};
+ghost use Rattle.sd_full.specs.Events.{allowed, event_of, hints_fit, next, placed_thread, plan_event, plan_reads, reads, wish};
+ghost use Rattle.sd_full.specs.Needs.{CanCount};
+ghost use Rattle.sd_machine.specs.declared.states.State.{State};
+ghost use Rattle.sd_mdisp.specs.Reading.{parts};
+ghost use Rattle.sd_mdisp.specs.Touched.{victim_parts};
+ghost use Rattle.sd_step.specs.Needed.{choice_parts, needed, read_parts, reads_parts};
+ghost use Rattle.sd_store.specs.Parts.{ready_parts};
+ghost use Rattle.sd_store.specs.Words.{Lacks, LacksIf, Tells, TellsIf};
+
+use crate::plans::plan;
+use sd_full::{Placement, Plan};
+use sd_mdisp::{Reading, hints_fit, put_chosen, reads_for, reads_to_steal, search_event, victim_for};
+use sd_store::{Clock, Look};
+use sd_types::{CpuId, Event, Hints, PrioAnswer, Put, ThreadId, Work};
+
+/// A placement with the put that was chosen.
+fn event_of(placement: Placement, at: Put) -> Event
+    ensures { result ≡ event_of placement at }
+{
+    match placement {
+        Placement::Napend { t } => Event::Napend { t, at },
+        Placement::Wake { t, k, s } => Event::Wake {
+            t,
+            k,
+            woken: Some((s, at)),
+        },
+        Placement::Rouse { k, s } => Event::Rouse {
+            k,
+            woken: Some((s, at)),
+        },
+        Placement::Will { l, o, p } => Event::Will {
+            l,
+            o,
+            p,
+            at: Some(at),
+        },
+        Placement::Unblock { l, s } => Event::Unblock { l, s, at },
+        Placement::Grant { l, s } => Event::Grant { l, s, at },
+        Placement::Prio { t, s, p } => Event::Prio {
+            t,
+            s,
+            answer: PrioAnswer::Changed { p, at: Some(at) },
+        },
+        Placement::SemaVWake { t, k, s } => Event::SemaVWake { t, k, s, at },
+        Placement::Move { t } => Event::Move { t, at },
+    }
+}
+
+/// The thread that is placed.
+fn placed_thread(placement: Placement) -> ThreadId
+    ensures { result.0 ≡ placed_thread placement }
+{
+    match placement {
+        Placement::Napend { t } => t,
+        Placement::Wake { s, .. } => s,
+        Placement::Rouse { s, .. } => s,
+        Placement::Will { o, .. } => o,
+        Placement::Unblock { s, .. } => s,
+        Placement::Grant { s, .. } => s,
+        Placement::Prio { s, .. } => s,
+        Placement::SemaVWake { s, .. } => s,
+        Placement::Move { t } => t,
+    }
+}
+
+/// What processor `c` reads where it is about to do this.
+pub fn plan_reads<L: Look>(
+    work: &Work,
+    x: &L,
+    c: CpuId,
+    plan: Plan,
+) -> Result<Option<Reading>, L::Lack>
+    ensures value { IfOk result (λ r. (n : ℕ) (s : State) → L.shows x.now n s → option_map parts r ≡ plan_reads work.now s c.0 plan) }
+    ensures lack { Lacks L.part (L.shows x.now) (L.has x.now) result (λ s. read_parts work.now s c plan) }
+{
+    match plan {
+        Plan::Make(_) => Ok(None),
+        Plan::Place(placement, _) => reads_for(work, x, c, placed_thread(placement)),
+        Plan::Search => reads_to_steal(x, c),
+    }
+}
+
+/// What processor `c` reads before its event, None where it reads nothing.
+#[tactic(auto, using(crate::proofs::Among::among_left, crate::proofs::Among::among_right), unfolding(sd_full::specs::Events::reads))]
+pub fn reads<L: Look>(work: &Work, x: &L, c: CpuId) -> Result<Option<Reading>, L::Lack>
+    ensures value { IfOk result (λ r. (n : ℕ) (s : State) → L.shows x.now n s → ((k : ChanIdOf) → CanCount s k) → option_map parts r ≡ reads work.now s c.0) }
+    ensures lack { LacksIf L.part (L.shows x.now) (L.has x.now) result (λ s. (k : ChanIdOf) → CanCount s k) (λ s. reads_parts work.now s c) }
+{
+    let plan = plan(work, x, c)?;
+    plan_reads(work, x, c, plan)
+}
+
+/// A placement with the put that processor `c` chooses by the numbers that it read.
+#[tactic(auto, using(crate::proofs::NumberLemmas::placed_numbers))]
+fn place_event<L: Look>(
+    work: &Work,
+    x: &L,
+    c: CpuId,
+    hints: &Option<Hints>,
+    placement: Placement,
+    p: u8,
+) -> Result<Event, L::Lack>
+    ensures value { TellsIf (L.shows x.now) result (λ s. hints_fit (reads_for work.now s c.0 (placed_thread placement)) hints.now ≡ true) (λ s. event_of placement (put_chosen work.now s c.0 (placed_thread placement) p hints.now)) }
+    ensures lack { Lacks L.part (L.shows x.now) (L.has x.now) result (λ s. read_parts work.now s c (Place placement p)) }
+{
+    let t = placed_thread(placement);
+    Ok(event_of(placement, put_chosen(work, x, c, t, p, hints)?))
+}
+
+/// What processor `c` comes to in a search by the numbers that it read.
+#[tactic(auto, using(crate::proofs::NumberLemmas::search_numbers, crate::proofs::Among::among_left, crate::proofs::Among::among_right))]
+fn searched<L: Look>(x: &L, c: CpuId, hints: &Option<Hints>) -> Result<Event, L::Lack>
+    ensures value { TellsIf (L.shows x.now) result (λ s. hints_fit (read_of (neighbours s c.0)) hints.now ≡ true) (λ s. search_event s (victim_for s c.0 hints.now)) }
+    ensures lack { LacksIf L.part (L.shows x.now) (L.has x.now) result (λ s. hints_fit (read_of (neighbours s c.0)) hints.now ≡ true) (λ s. ready_parts s c ++ victim_parts (victim_for s c.0 hints.now)) }
+{
+    let victim = victim_for(x, c, hints)?;
+    search_event(x, victim)
+}
+
+/// The event of a plan, with the numbers that were read for it.
+fn plan_event<L: Look>(
+    work: &Work,
+    x: &L,
+    c: CpuId,
+    hints: &Option<Hints>,
+    plan: Plan,
+) -> Result<Event, L::Lack>
+    ensures value { TellsIf (L.shows x.now) result (λ s. hints_fit (plan_reads work.now s c.0 plan) hints.now ≡ true) (λ s. plan_event work.now s c.0 hints.now plan) }
+    ensures lack { LacksIf L.part (L.shows x.now) (L.has x.now) result (λ s. hints_fit (plan_reads work.now s c.0 plan) hints.now ≡ true) (λ s. choice_parts work.now s c hints.now plan) }
+{
+    match plan {
+        Plan::Make(event) => Ok(event),
+        Plan::Place(placement, p) => place_event(work, x, c, hints, placement, p),
+        Plan::Search => searched(x, c, hints),
+    }
+}
+
+/// The one event that the order of its events gives to processor `c`, whether or not it may tick now, where it has read
+/// these numbers: exactly those that it reads in this state.
+#[tactic(auto, using(crate::proofs::Among::among_left, crate::proofs::Among::among_right), unfolding(sd_full::specs::Events::wish, sd_full::specs::Events::reads))]
+pub fn wish<L: Look>(
+    work: &Work,
+    x: &L,
+    c: CpuId,
+    hints: &Option<Hints>,
+) -> Result<Event, L::Lack>
+    ensures value { TellsIf (L.shows x.now) result (λ s. ((k : ChanIdOf) → CanCount s k) × (hints_fit (reads work.now s c.0) hints.now ≡ true)) (λ s. wish work.now s c.0 hints.now) }
+    ensures lack { LacksIf L.part (L.shows x.now) (L.has x.now) result (λ s. ((k : ChanIdOf) → CanCount s k) × (hints_fit (reads work.now s c.0) hints.now ≡ true)) (λ s. needed work.now s c hints.now) }
+{
+    let plan = plan(work, x, c)?;
+    plan_event(work, x, c, hints, plan)
+}
+
+/// An event that processor `c` may make now: it may tick, where the event ticks.
+pub fn allowed<L: Clock>(
+    work: &Work,
+    x: &L,
+    c: CpuId,
+    event: Event,
+) -> Result<Option<Event>, L::Lack>
+    ensures { Tells (L.shows x.now) result (λ s. allowed work.now s c.0 event) }
+{
+    if !event.ticks() || x.may_tick(work, c)? {
+        Ok(Some(event))
+    } else {
+        Ok(None)
+    }
+}
+
+/// The event of a plan where processor `c` may make it, and the numbers that it read are those of the plan.
+fn planned<L: Clock>(
+    work: &Work,
+    x: &L,
+    c: CpuId,
+    hints: &Option<Hints>,
+    plan: Plan,
+) -> Result<Option<Event>, L::Lack>
+    ensures { Tells (L.shows x.now) result (λ s. if hints_fit (plan_reads work.now s c.0 plan) hints.now then allowed work.now s c.0 (plan_event work.now s c.0 hints.now plan) else None) }
+{
+    let reading = plan_reads(work, x, c, plan)?;
+    if hints_fit(&reading, hints) {
+        let event = plan_event(work, x, c, hints, plan)?;
+        allowed(work, x, c, event)
+    } else {
+        Ok(None)
+    }
+}
+
+/// The one event that processor `c` may make, where it has read these numbers; None where it may make none, where there is
+/// no such processor, and where the numbers are not what it reads in this state.
+#[tactic(auto, unfolding(sd_full::specs::Events::next, sd_full::specs::Events::reads, sd_full::specs::Events::wish))]
+pub fn next<L: Clock>(
+    work: &Work,
+    x: &L,
+    c: CpuId,
+    hints: &Option<Hints>,
+) -> Result<Option<Event>, L::Lack>
+    ensures { TellsIf (L.shows x.now) result (λ s. (k : ChanIdOf) → CanCount s k) (λ s. next work.now s c hints.now) }
+{
+    if c.0 < work.cpus {
+        let plan = plan(work, x, c)?;
+        planned(work, x, c, hints, plan)
+    } else {
+        Ok(None)
+    }
+}
