@@ -6,10 +6,10 @@ ghost use Rattle.sd_types.specs.declared.numbers.CpuId.{CpuId as CpuValue};
 ghost use Rattle.sd_full.specs.Events.{next};
 ghost use Rattle.sd_full.specs.Runs.{IsComplete, IsReached, serial_hints};
 ghost use Rattle.sd_sound.specs.Laws.{HasSmallCounts};
-ghost use Rattle.sd_next.specs.Entering.{can_enter};
+ghost use Rattle.sd_steps.specs.Entering.{can_enter};
 
 use sd_machine::State;
-use sd_next::can_enter;
+use sd_steps::can_enter;
 use sd_types::{CpuId, Work};
 
 fn enters(work: &Work, s: &State, number: u64, c: CpuId) -> bool

@@ -218,7 +218,7 @@ fn others(c: CpuId, cpus: &[CpuId]) -> ArrayVec<CpuId, 64>
 
 /// The other open processors of the partition of processor `c`.
 #[tactic(auto, unfolding(sd_full::specs::Choosing::neighbours))]
-pub(crate) fn neighbours<L: Look>(x: &L, c: CpuId) -> Result<ArrayVec<CpuId, 64>, L::Lack>
+pub fn neighbours<L: Look>(x: &L, c: CpuId) -> Result<ArrayVec<CpuId, 64>, L::Lack>
     ensures value { IfOk result (λ r. (n : ℕ) (s : State) → L.shows x.now n s → r.items ≡ neighbours s c.0) }
     ensures lack { Lacks L.part (L.shows x.now) (L.has x.now) result (λ s. ready_parts s c) }
 {

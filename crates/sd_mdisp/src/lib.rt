@@ -18,7 +18,7 @@ mod waking;
 pub use bodies::{
     bound_of, class_of, eff_as, eff_of, is_privileged, op_of, priority_of, set_of, uid_of,
 };
-pub use choosing::{put_chosen, victim_for};
+pub use choosing::{neighbours, put_chosen, victim_for};
 pub use classes::{aged_class, class_expires, class_requeue, ticked_class, woken_class};
 pub use dispatching::{dispatch_plan, leave_plan, search_event};
 pub use marks::{mark_over, remark};

@@ -10,7 +10,7 @@ ghost use Rattle.sd_sound.specs.Laws.{HasSmallCounts};
 ghost use Rattle.sd_machine.specs.Opening.{is_urgent, is_dealt, turn_of, dealt_cpu, first_cpu, first_place, first_body, first_thread, first_threads, count_of, first_count, first_cpu_state, open_list, opening};
 
 use arrayvec::ArrayVec;
-use sd_change::ticks_at;
+use sd_flat::ticks_at;
 use sd_machine::{CpuState, LockState, Place, State, ThreadState};
 use sd_part::{cpus_of_set, set_of_cpu};
 use sd_prio::first_state;

@@ -12,8 +12,8 @@ use Rattle.sd_full.specs.Events.{next}
 use Rattle.sd_full.specs.Plans.{plan}
 use Rattle.sd_full.specs.Runs.{final, serial_hints, IsComplete, IsSerial}
 use Rattle.sd_full.proofs.RoundLemmas.{empty_round}
-use Rattle.sd_next.specs.Entering.{can_enter, plan_enters}
-use Rattle.sd_next.proofs.EnteringLemmas.{enters_some, enters_none}
+use Rattle.sd_steps.specs.Entering.{can_enter, plan_enters}
+use Rattle.sd_steps.proofs.EnteringLemmas.{enters_some, enters_none}
 use Rattle.sd_sound.proofs.Works.{first_of_two}
 use Rattle.sd_rounds.specs.declared.orders.Turns.{Turns}
 use Rattle.sd_rounds.specs.Orders.{orders_of}

@@ -1,11 +1,15 @@
--- The plan of a duty, and the parts that it looks at, by the duty without its key.
+-- The plan of a duty, the parts that it looks at, and its end, by the duty without its key.
 -- Source: this project's own.
-use Rattle.std.specs.Prelude.{ℕ, List, [], ◌∷◌, Option, Some, None}
+use Rattle.std.specs.Prelude.{List, [], ◌∷◌, Option, Some, None, if◌then◌else◌}
 use Rattle.sd_types.specs.declared.numbers.CpuId.{CpuId}
 use Rattle.sd_types.specs.declared.numbers.Side.TheVariants.{Writer, Reader}
+use Rattle.sd_types.specs.declared.events.Duty.TheVariants as duty
+use Rattle.sd_types.specs.declared.events.Event.{Event}
 use Rattle.sd_types.specs.declared.works.Work.{Work}
 use Rattle.sd_machine.specs.declared.states.State.{State}
 use Rattle.sd_full.specs.declared.plans.Plan.{Plan}
+use Rattle.sd_full.specs.Changes.{set_duty}
+use Rattle.sd_full.specs.Events.{keeps_ageing}
 use Rattle.sd_full.specs.Locking.{grant_reader_plan, grant_writer_plan, unblock_plan}
 use Rattle.sd_full.specs.Prioritising.{age_plan}
 use Rattle.sd_full.specs.Sleeping.{rouse_plan}
@@ -38,3 +42,8 @@ task_parts s (task.GrantWriter l) rest = chain_part l ∷ rest
 task_parts s (task.GrantReaders l) rest = chain_part l ∷ []
 task_parts s (task.Rouse k) rest = sleepers_part k ∷ []
 task_parts s (task.Age u) rest = rest
+
+-- the state in which the ageing is dropped that ends with an event
+abbrev pub task_dropped : State → CpuId → Event → Task → State
+task_dropped s c e (task.Age u) = if keeps_ageing e then s else set_duty s c.0 duty.Nothing
+task_dropped s c e _ = s

@@ -159,7 +159,7 @@ pub fn wish<L: Look>(
 }
 
 /// An event that processor `c` may make now: it may tick, where the event ticks.
-pub fn allowed<L: Clock>(
+fn allowed<L: Clock>(
     work: &Work,
     x: &L,
     c: CpuId,
@@ -174,7 +174,21 @@ pub fn allowed<L: Clock>(
     }
 }
 
-/// The event of a plan where processor `c` may make it, and the numbers that it read are those of the plan.
+/// The event of a plan where processor `c` may make it.
+pub fn plan_next<L: Clock>(
+    work: &Work,
+    x: &L,
+    c: CpuId,
+    hints: &Option<Hints>,
+    plan: Plan,
+) -> Result<Option<Event>, L::Lack>
+    ensures { TellsIf (L.shows x.now) result (λ s. hints_fit (plan_reads work.now s c.0 plan) hints.now ≡ true) (λ s. allowed work.now s c.0 (plan_event work.now s c.0 hints.now plan)) }
+{
+    let event = plan_event(work, x, c, hints, plan)?;
+    allowed(work, x, c, event)
+}
+
+/// The same where the numbers that it read are those of the plan.
 fn planned<L: Clock>(
     work: &Work,
     x: &L,
@@ -186,8 +200,7 @@ fn planned<L: Clock>(
 {
     let reading = plan_reads(work, x, c, plan)?;
     if hints_fit(&reading, hints) {
-        let event = plan_event(work, x, c, hints, plan)?;
-        allowed(work, x, c, event)
+        plan_next(work, x, c, hints, plan)
     } else {
         Ok(None)
     }

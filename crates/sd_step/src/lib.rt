@@ -4,8 +4,10 @@
 //! Source: Solaris Internals (swtch, the clock's tick, preemption); this order is this project's own.
 #![tactic(auto)]
 
+mod effects;
 mod events;
 mod plans;
 
-pub use events::{allowed, next, plan_reads, reads, wish};
+pub use effects::after;
+pub use events::{next, plan_next, plan_reads, reads, wish};
 pub use plans::plan;

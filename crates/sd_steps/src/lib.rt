@@ -1,9 +1,13 @@
-//! The whole machine as a plain program over its state: it makes one step, and judges whole lists of entries. Every
-//! faster body of the machine is measured against it.
+//! The whole machine as a plain program over its state: it makes one step, says whether a processor has any, and judges
+//! whole lists of entries. Every faster body of the machine is measured against it.
 #![tactic(auto)]
 
+mod entering;
+mod equality;
 mod replays;
+mod serial;
 mod stepping;
 
+pub use entering::can_enter;
 pub use replays::{ReplayFault, replay};
 pub use stepping::{make_entry, step};

@@ -3,14 +3,40 @@
 ghost use Rattle.std.specs.Prelude.{◌≡◌, ◌↔◌, ◌+◌, ◌<◌, ◌^◌, length, IsTrue, option_to_list};
 ghost use Rattle.std.specs.Bool.{OnTrue, OnFalse};
 ghost use Rattle.sd_full.specs.Events.{after, next};
+ghost use Rattle.sd_full.specs.Needs.{Needs};
 ghost use Rattle.sd_full.specs.Runs.{IsReached, IsStep, final, turn};
 ghost use Rattle.sd_sound.specs.Laws.{HasSmallCounts};
+ghost use Rattle.sd_sound.specs.Possible.{IsFit};
 
-use sd_after::after;
+use crate::equality::same_event;
+use crate::serial::serial_next;
 use sd_machine::State;
-use sd_next::{next, serial_hints};
-use sd_same::same_event;
-use sd_types::{CpuId, Entry, Work};
+use sd_step::{after, next};
+use sd_types::{CpuId, Entry, Event, Hints, Work};
+
+/// The one event that processor `c` may make in a state, where it has read these numbers.
+fn next_of(work: &Work, s: &State, c: CpuId, hints: &Option<Hints>) -> Option<Event>
+    requires fit { IsFit work.now s.now }
+    ensures { result ≡ next work.now s.now c hints.now }
+{
+    match next(work, s, c, hints) {
+        Ok(event) => event,
+        Err(never) => match never {},
+    }
+}
+
+/// Makes the state that which follows after entry `number` of processor `c`, with this event.
+fn apply(work: &Work, s: &mut State, number: u64, c: CpuId, event: Event)
+    requires fit { IsFit work.now s.old }
+    requires number { number < 2 ^ 62 }
+    requires needs { Needs work.now s.old c event }
+    ensures { s.new ≡ after work.now s.old number c event }
+{
+    match after(work, s, number, c, event) {
+        Ok(()) => {}
+        Err(never) => match never {},
+    }
+}
 
 /// True exactly where the entry, with its own number, is a step from the state of a run with as many entries, which is
 /// then the next state. With false the state is as before. It takes no memory.
@@ -22,9 +48,9 @@ pub fn step(work: &Work, s: &mut State, entry: &Entry) -> bool
     ensures made { OnTrue result (s.new ≡ after work.now s.old entry.now.number entry.now.cpu entry.now.event) }
     ensures kept { OnFalse result (s.new ≡ s.old) }
 {
-    match next(work, s, entry.cpu, &entry.hints) {
+    match next_of(work, s, entry.cpu, &entry.hints) {
         Some(event) if same_event(&event, &entry.event) => {
-            after(work, s, entry.number, entry.cpu, event);
+            apply(work, s, entry.number, entry.cpu, event);
             true
         }
         _ => false,
@@ -43,10 +69,10 @@ pub fn make_entry(work: &Work, s: &mut State, number: u64, c: CpuId) -> Option<E
     if c.0 >= work.cpus {
         return None;
     }
-    let hints = serial_hints(work, s, c);
-    match next(work, s, c, &hints) {
+    let (hints, event) = serial_next(work, s, c);
+    match event {
         Some(event) => {
-            after(work, s, number, c, event);
+            apply(work, s, number, c, event);
             Some(Entry {
                 number,
                 cpu: c,

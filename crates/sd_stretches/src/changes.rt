@@ -7,7 +7,7 @@ ghost use Rattle.sd_machine.specs.States.{cpu_of};
 ghost use Rattle.sd_stretches.specs.Changes.{giver, giver_of, hand_over_of, hand_overs_of, is_giver, load_if, rank_if, ranks_between, turn_if, turns_between, wakeup_of, wakeups_of, woken_by, waker_of};
 
 use crate::sights::{Doing, Sight, runnable, same_doing, same_rank};
-use sd_find::{greatest_waiting, runner};
+use sd_flat::{greatest_waiting, runner};
 use sd_machine::{Place, State, ThreadState};
 use sd_types::{Class, CpuId, Entry, Event, LockId, ThreadId};
 use std::alloc::AllocError;

@@ -1,2 +1,0 @@
-pub mod NapOrder
-pub mod OthersLemmas

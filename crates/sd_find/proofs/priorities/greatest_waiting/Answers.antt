@@ -1,8 +1,0 @@
-use Rattle.std.proofs.Common.{List, None, ap, ◌∙◌}
-use Rattle.sd_machine.specs.declared.states.ThreadState.{ThreadState}
-use Rattle.sd_find.specs.Standings.{greatest_but}
-use Rattle.sd_find.proofs.OthersLemmas.{all_of}
-use Rattle.sd_find.proofs.priorities.greatest_waiting.Goals as goal
-
-pub returns : goal.returns
-returns c = c.greatest_but.ensures ∙ ap (λ (xs : List ThreadState). greatest_but c.args.l.0 None 0 xs) c.items.ensures ∙ all_of c.args.l.0 0 c.args.s.now.threads

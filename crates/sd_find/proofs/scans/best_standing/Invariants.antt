@@ -1,8 +1,0 @@
-use Rattle.sd_machine.specs.States.{no_thread}
-use Rattle.sd_find.specs.Standings.{stands}
-use Rattle.sd_machine.specs.Best.{beats}
-use Rattle.sd_machine.proofs.BestLemmas.{IsBestBelow}
-use Rattle.sd_find.proofs.scans.best_standing.Given as goal
-
-abbrev pub invariant-loop-i : goal.invariant-loop-i
-invariant-loop-i l = IsBestBelow (λ x. stands l.standing x) beats no_thread l.threads l.i l.best

@@ -1,7 +1,0 @@
-use Rattle.sd_machine.specs.States.{no_thread}
-use Rattle.sd_full.specs.Threads.{is_due, naps_less}
-use Rattle.sd_machine.proofs.BestLemmas.{IsBestBelow}
-use Rattle.sd_find.proofs.scans.first_over.Given as goal
-
-abbrev pub invariant-loop-i : goal.invariant-loop-i
-invariant-loop-i l = IsBestBelow (λ x. is_due l.c.0 l.count x.place) naps_less no_thread l.threads l.i l.first

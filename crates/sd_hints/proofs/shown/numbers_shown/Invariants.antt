@@ -1,6 +1,0 @@
-use Rattle.std.proofs.Common.{◌≡◌, ◌≤◌, length, map, take}
-use Rattle.sd_full.specs.Choosing.{hint_shown}
-use Rattle.sd_hints.proofs.shown.numbers_shown.Given as goal
-
-abbrev pub invariant-loop-d : goal.invariant-loop-d
-invariant-loop-d l = (l.numbers.items ≡ map (hint_shown l.s l.which) (take l.d-index l.cpus)) × (length l.numbers.items ≤ l.d-index)

@@ -1,2 +1,0 @@
-pub mod EnteringLemmas
-pub mod NumberLemmas

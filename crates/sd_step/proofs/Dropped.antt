@@ -1,0 +1,275 @@
+-- The duty of a processor is no part of what an event needs or touches: so both are the same once the ageing that is over has
+-- been dropped.
+use Rattle.std.proofs.Common.{◌≡◌, ℕ, ◌+◌, ◌<◌, ◌≤◌, ◌^◌, Bool, true, false, length, List, [], ◌∷◌, ◌++◌, Option, Some, None, refl, sym, ap, ◌∙◌, subst, arith}
+use Rattle.std.proofs.lemmas.Grind.{common_steps}
+use Rattle.std.proofs.lemmas.List.{set-get_or}
+use Rattle.std.specs.Prelude.{IfSome, slice_set, if◌then◌else◌}
+use Rattle.sd_types.specs.declared.numbers.CpuId.{CpuId}
+use Rattle.sd_types.specs.declared.numbers.SetId.{SetId}
+use Rattle.sd_types.specs.declared.numbers.ThreadId.{ThreadId}
+use Rattle.sd_types.specs.declared.events.BindAnswer.{BindAnswer}
+use Rattle.sd_types.specs.declared.events.BindAnswer.TheVariants as bind
+use Rattle.sd_types.specs.declared.events.Duty.{Duty}
+use Rattle.sd_types.specs.declared.events.Duty.TheVariants as duty
+use Rattle.sd_types.specs.declared.events.Event.{Event}
+use Rattle.sd_types.specs.declared.events.Event.TheVariants.{Tick, Spin, Idle, Dispatch, Steal, Preempt, Away, Yield, Done, Nap, Napend, Sleep, Wake, Wakeall, Rouse, Enter, Read, Write, Block, Will, End, Exit, Unblock, Grant, Passed, Age, Prio, CvWait, SemaP, SemaWait, SemaVWake, SemaVCount, Assign, Move, Joined, Bind}
+use Rattle.sd_types.specs.declared.events.PrioAnswer.{PrioAnswer}
+use Rattle.sd_types.specs.declared.events.PrioAnswer.TheVariants.{Changed, Refused}
+use Rattle.sd_types.specs.declared.events.Put.{Put}
+use Rattle.sd_types.specs.declared.works.Work.{Work}
+use Rattle.sd_machine.specs.declared.states.CpuState.{CpuState}
+use Rattle.sd_machine.specs.declared.states.Place.{Place}
+use Rattle.sd_machine.specs.declared.states.Place.TheVariants as place
+use Rattle.sd_machine.specs.declared.states.State.{State}
+use Rattle.sd_machine.specs.States.{thread_of, cpu_of, no_cpu, with_cpu}
+use Rattle.sd_machine.specs.Operations.{op_of}
+use Rattle.sd_full.specs.Changes.{cpu_put, set_duty}
+use Rattle.sd_full.specs.Events.{drop_ageing, dropped_duty, keeps_ageing}
+use Rattle.sd_full.specs.Needs.{CanAct, CanBeBound, CanBeChanged, CanBind, CanUnbind, IsBindPut, IsPrioPut, IsPutIf, IsWoken, Needs, RunsThere}
+use Rattle.sd_full.specs.Sleeping.{nap_ticks}
+use Rattle.sd_full.specs.Threads.{runner}
+use Rattle.sd_mdisp.specs.Touched.{reordered_parts}
+use Rattle.sd_mdisp.proofs.Kept.{kept_set, same_ready}
+use Rattle.sd_step.specs.Tasks.{task_dropped}
+use Rattle.sd_step.specs.Touched.{touched}
+use Rattle.sd_store.specs.declared.parts.Part.{Part}
+use Rattle.sd_store.specs.Keyless.{task_of}
+use Rattle.sd_store.specs.Parts.{IsAmong, actor_part, chain_part, ready_parts, thread_part}
+
+-- a field of a processor that is kept with its duty changed
+kept_count : (s : State) (c d : ℕ) (duty : Duty) → (cpu_of (with_cpu s c (record (cpu_of s c) { duty = duty })) d).count ≡ (cpu_of s d).count
+kept_count s c d duty = grind (arith, common_steps)
+
+kept_bound : (s : State) (c d : ℕ) (duty : Duty) → (cpu_of (with_cpu s c (record (cpu_of s c) { duty = duty })) d).bound ≡ (cpu_of s d).bound
+kept_bound s c d duty = grind (arith, common_steps)
+
+kept_cpus : (s : State) (c : ℕ) (duty : Duty) → length (with_cpu s c (record (cpu_of s c) { duty = duty })).cpus ≡ length s.cpus
+kept_cpus s c duty = grind (arith, common_steps)
+
+module _ (w : Work) (s : State) (c : CpuId) (d : Duty) where
+  count_left : (P : ℕ → Type 0) → P (cpu_of s c.0).count → P (cpu_of (set_duty s c.0 d) c.0).count
+  unfolding set_duty
+  count_left P p = subst P (sym (kept_count s c.0 c.0 d)) p
+
+  bound_left : (P : ℕ → Type 0) (e : ℕ) → P (cpu_of s e).bound → P (cpu_of (set_duty s c.0 d) e).bound
+  unfolding set_duty
+  bound_left P e p = subst P (sym (kept_bound s c.0 e d)) p
+
+  set_left : (P : ℕ → Type 0) (e : ℕ) → P (cpu_of s e).set.0 → P (cpu_of (set_duty s c.0 d) e).set.0
+  unfolding set_duty
+  set_left P e p = subst P (sym (kept_set s c.0 e (record (cpu_of s c.0) { duty = d }) refl)) p
+
+  cpus_left : (P : ℕ → Type 0) → P (length s.cpus) → P (length (set_duty s c.0 d).cpus)
+  unfolding set_duty
+  cpus_left P p = subst P (sym (kept_cpus s c.0 d)) p
+
+  cpu_left : (e : CpuId) → e.0 < length s.cpus → e.0 < length (set_duty s c.0 d).cpus
+  cpu_left e p = cpus_left (λ n. e.0 < n) p
+
+  put_left_if : (at : Option Put) → IsPutIf s at → IsPutIf (set_duty s c.0 d) at
+  put_left_if at p = cpus_left (λ n. IfSome at (λ q. (cpu_put q).0 < n)) p
+
+  woken_left : (u : Option (ThreadId × Put)) → IsWoken s u → IsWoken (set_duty s c.0 d) u
+  unfolding set_duty
+  woken_left u n = record { thread = n.thread; put = cpus_left (λ m. IfSome u (λ v. (cpu_put v.1).0 < m)) n.put }
+
+  runs_left : (t : ThreadId) → RunsThere s t → RunsThere (set_duty s c.0 d) t
+  unfolding set_duty
+  runs_left t n = λ e is. cpu_left e (n e is)
+
+  prio_left : (answer : PrioAnswer) → IsPrioPut s answer → IsPrioPut (set_duty s c.0 d) answer
+  prio_left (Changed p at) n = put_left_if at n
+  prio_left (Refused denied) n = tt
+
+  bind_left : (answer : BindAnswer) → IsBindPut s answer → IsBindPut (set_duty s c.0 d) answer
+  bind_left (bind.Changed at) n = put_left_if at n
+  bind_left bind.ESRCH n = tt
+  bind_left bind.EINVAL n = tt
+  bind_left bind.EPERM n = tt
+  bind_left bind.EBUSY n = tt
+
+  one_left : (e : Option CpuId) (answer : BindAnswer) → CanBind s e answer → CanBind (set_duty s c.0 d) e answer
+  one_left None answer n = tt
+  one_left (Some e) (bind.Changed at) n = bound_left (λ m. m + 1 < 2 ^ 16) e.0 n
+  one_left (Some e) bind.ESRCH n = tt
+  one_left (Some e) bind.EINVAL n = tt
+  one_left (Some e) bind.EPERM n = tt
+  one_left (Some e) bind.EBUSY n = tt
+
+  each_left : (o : Option CpuId) → IfSome o (λ b. (b.0 < length s.cpus) × (1 ≤ (cpu_of s b.0).bound)) → IfSome o (λ b. (b.0 < length (set_duty s c.0 d).cpus) × (1 ≤ (cpu_of (set_duty s c.0 d) b.0).bound))
+  each_left None n = tt
+  each_left (Some b) n = (cpu_left b n.0, bound_left (λ m. 1 ≤ m) b.0 n.1)
+
+  un_left : (u : ThreadId) (e : Option CpuId) (answer : BindAnswer) → CanUnbind s u e answer → CanUnbind (set_duty s c.0 d) u e answer
+  unfolding set_duty
+  un_left u None (bind.Changed at) n = each_left (thread_of s u.0).body.bound n
+  un_left u None bind.ESRCH n = tt
+  un_left u None bind.EINVAL n = tt
+  un_left u None bind.EPERM n = tt
+  un_left u None bind.EBUSY n = tt
+  un_left u (Some e) answer n = tt
+
+  changed_left : (t u : ThreadId) (answer : PrioAnswer) → CanBeChanged w s t u answer → CanBeChanged w (set_duty s c.0 d) t u answer
+  unfolding set_duty
+  changed_left t u answer n = record { request = n.request; thread = n.thread; put = prio_left answer n.put; unmoved = n.unmoved; running = runs_left u n.running }
+
+  bound_kept : (u : ThreadId) (e : Option CpuId) (answer : BindAnswer) → CanBeBound s u e answer → CanBeBound (set_duty s c.0 d) u e answer
+  unfolding set_duty
+  bound_kept u e answer n = record {
+    thread = n.thread;
+    cpu = cpus_left (λ m. IfSome e (λ x. x.0 < m)) n.cpu;
+    put = bind_left answer n.put;
+    bound = one_left e answer n.bound;
+    unbound = un_left u e answer n.unbound;
+    before = cpus_left (λ m. IfSome (thread_of s u.0).body.bound (λ b. b.0 < m)) n.before;
+    running = runs_left u n.running;
+  }
+
+  acts_left : (t : ThreadId) → CanAct w s t c → CanAct w (set_duty s c.0 d) t c
+  unfolding set_duty
+  acts_left t n = record { thread = n.thread; place = n.place; op = n.op }
+
+  tick_left : (cpu_of s c.0).count < w.limit → (cpu_of (set_duty s c.0 d) c.0).count < w.limit
+  tick_left n = count_left (λ m. m < w.limit) n
+
+  nap_left : (t : ThreadId) → (cpu_of s c.0).count + nap_ticks (op_of w t.0 (thread_of s t.0).body) < 2 ^ 32 → (cpu_of (set_duty s c.0 d) c.0).count + nap_ticks (op_of w t.0 (thread_of (set_duty s c.0 d) t.0).body) < 2 ^ 32
+  unfolding set_duty
+  nap_left t n = count_left (λ m. m + nap_ticks (op_of w t.0 (thread_of s t.0).body) < 2 ^ 32) n
+
+  pub needs_left : (e : Event) → Needs w s c e → Needs w (set_duty s c.0 d) c e
+  unfolding set_duty runner
+  needs_left (Tick t) n = (acts_left t n.0, tick_left n.1)
+  needs_left (Spin t l) n = (record { thread = n.0.thread; place = n.0.place }, n.1, tick_left n.2)
+  needs_left Idle n = tick_left n
+  needs_left (Dispatch t p) n = n
+  needs_left (Steal v t p) n = (n.0, n.1, cpu_left v n.2)
+  needs_left (Preempt t end) n = record { thread = n.thread; place = n.place }
+  needs_left (Away t f) n = (record { thread = n.0.thread; place = n.0.place }, cpu_left f n.1)
+  needs_left (Yield t) n = acts_left t n
+  needs_left (Done t) n = record { thread = n.thread; place = n.place }
+  needs_left (Nap t) n = (acts_left t n.0, nap_left t n.1)
+  needs_left (Napend t at) n = (n.0, cpu_left (cpu_put at) n.1)
+  needs_left (Sleep t k) n = (acts_left t n.0, n.1)
+  needs_left (Wake t k u) n = (acts_left t n.0, n.1, woken_left u n.2)
+  needs_left (Wakeall t k) n = (acts_left t n.0, n.1)
+  needs_left (Rouse k u) n = (n.0, woken_left u n.1)
+  needs_left (Enter t l) n = (acts_left t n.0, n.1, record { room = n.2.room; apart = n.2.apart })
+  needs_left (Read t l) n = (acts_left t n.0, n.1, record { room = n.2.room; apart = n.2.apart }, n.3)
+  needs_left (Write t l) n = (acts_left t n.0, n.1, record { room = n.2.room; apart = n.2.apart })
+  needs_left (Block t l) n = (record { thread = n.0.thread; place = n.0.place }, n.1)
+  needs_left (Will l o p at) n = (n.0, n.1, record { sound = n.2.sound; held = n.2.held; below = n.2.below }, put_left_if at n.3, runs_left o n.4)
+  needs_left (End l) n = n
+  needs_left (Exit t l) n = (acts_left t n.0, n.1)
+  needs_left (Unblock l u at) n = (n.0, n.1, cpu_left (cpu_put at) n.2)
+  needs_left (Grant l u at) n = (n.0, cpu_left (cpu_put at) n.1, record { thread = n.2.thread; op = n.2.op; room = n.2.room; apart = n.2.apart; sound = n.2.sound; below = n.2.below; more = n.2.more })
+  needs_left (Passed l) n = n
+  needs_left (Age t p) n = n
+  needs_left (Prio t u answer) n = (acts_left t n.0, changed_left t u answer n.1)
+  needs_left (CvWait t k l) n = (acts_left t n.0, n.1, n.2)
+  needs_left (SemaP t k) n = (acts_left t n.0, n.1)
+  needs_left (SemaWait t k) n = (acts_left t n.0, n.1)
+  needs_left (SemaVWake t k u at) n = (acts_left t n.0, n.1, n.2, cpu_left (cpu_put at) n.3)
+  needs_left (SemaVCount t k m) n = (acts_left t n.0, n.1, n.2)
+  needs_left (Assign t f to answer) n = (acts_left t n.0, cpu_left f n.1, n.2, set_left (λ m. m < length s.open_cpus) f.0 n.3)
+  needs_left (Move t at) n = (n.0, cpu_left (cpu_put at) n.1)
+  needs_left (Joined to) n = n
+  needs_left (Bind t u f answer) n = (acts_left t n.0, bound_kept u f answer n.1)
+
+  ready_left : (e : CpuId) → ready_parts (set_duty s c.0 d) e ≡ ready_parts s e
+  unfolding set_duty
+  ready_left e = same_ready s (with_cpu s c.0 (record (cpu_of s c.0) { duty = d })) e (same_number _ _ (kept_set s c.0 e.0 (record (cpu_of s c.0) { duty = d }) refl))
+    where
+      same_number : (p q : SetId) → p.0 ≡ q.0 → p ≡ q
+      same_number p q e = grind arith
+
+  reordered_left : (t : ThreadId) (at : Option Put) (p : Place) → reordered_parts w (set_duty s c.0 d) t at p ≡ reordered_parts w s t at p
+  reordered_left t at (place.Running e) = ap (λ (ps : List Part). thread_part t ∷ ps) (ready_left e)
+  reordered_left t at (place.Queued e k) = refl
+  reordered_left t at (place.RealTime p k) = refl
+  reordered_left t at (place.Waiting l side k) = refl
+  reordered_left t at (place.Asleep j k) = refl
+  reordered_left t at (place.Napping e due) = refl
+  reordered_left t at place.Ended = refl
+
+  pub touched_left : (e : Event) → touched w (set_duty s c.0 d) c e ≡ touched w s c e
+  unfolding set_duty
+  touched_left (Tick t) = ap (λ (ps : List Part). actor_part c ∷ (thread_part t ∷ ps)) (ready_left c)
+  touched_left (Spin t l) = ap (λ (ps : List Part). actor_part c ∷ (thread_part t ∷ ps)) (ready_left c)
+  touched_left Idle = refl
+  touched_left (Dispatch t p) = refl
+  touched_left (Steal v t p) = refl
+  touched_left (Preempt t end) = refl
+  touched_left (Away t f) = refl
+  touched_left (Yield t) = refl
+  touched_left (Done t) = refl
+  touched_left (Nap t) = refl
+  touched_left (Napend t at) = refl
+  touched_left (Sleep t k) = refl
+  touched_left (Wake t k u) = refl
+  touched_left (Wakeall t k) = refl
+  touched_left (Rouse k u) = refl
+  touched_left (Enter t l) = refl
+  touched_left (Read t l) = refl
+  touched_left (Write t l) = refl
+  touched_left (Block t l) = refl
+  touched_left (Will l o p at) = ap (λ (ps : List Part). actor_part c ∷ (chain_part l ∷ ps)) (reordered_left o at (thread_of s o.0).place)
+  touched_left (End l) = refl
+  touched_left (Exit t l) = ap (λ (ps : List Part). actor_part c ∷ (chain_part l ∷ (thread_part t ∷ ps))) (ready_left c)
+  touched_left (Unblock l u at) = refl
+  touched_left (Grant l u at) = refl
+  touched_left (Passed l) = refl
+  touched_left (Age t p) = refl
+  touched_left (Prio t u (Changed p at)) = ap (λ (ps : List Part). thread_part t ∷ (actor_part c ∷ (thread_part u ∷ ps))) (reordered_left u at (thread_of s u.0).place)
+  touched_left (Prio t u (Refused denied)) = refl
+  touched_left (CvWait t k l) = refl
+  touched_left (SemaP t k) = refl
+  touched_left (SemaWait t k) = refl
+  touched_left (SemaVWake t k u at) = refl
+  touched_left (SemaVCount t k m) = refl
+  touched_left (Assign t f to answer) = ap (λ (ps : List Part). thread_part t ∷ ps) (ready_left f)
+  touched_left (Move t at) = refl
+  touched_left (Joined to) = refl
+  touched_left (Bind t u None (bind.Changed at)) = refl
+  touched_left (Bind t u (Some f) (bind.Changed at)) = refl
+  touched_left (Bind t u f bind.ESRCH) = refl
+  touched_left (Bind t u f bind.EINVAL) = refl
+  touched_left (Bind t u f bind.EPERM) = refl
+  touched_left (Bind t u f bind.EBUSY) = refl
+
+-- with the ageing dropped that is over
+pub needs_dropped : (w : Work) (s : State) (c : CpuId) (e : Event) → Needs w s c e → Needs w (drop_ageing s c.0 e) c e
+unfolding drop_ageing
+needs_dropped w s c e n = needs_left w s c (dropped_duty e (cpu_of s c.0).duty) e n
+
+pub touched_dropped : (w : Work) (s : State) (c : CpuId) (e : Event) (p : Part) → IsAmong p (touched w (drop_ageing s c.0 e) c e) → IsAmong p (touched w s c e)
+unfolding drop_ageing
+touched_dropped w s c e p among = subst (λ ps. IsAmong p ps) (touched_left w s c (dropped_duty e (cpu_of s c.0).duty) e) among
+
+-- a duty that is not dropped is the same
+same_duty : (s : State) (c : ℕ) → set_duty s c (cpu_of s c).duty ≡ s
+unfolding set_duty
+same_duty s c = ap (λ (xs : List CpuState). record s { cpus = xs }) (set-get_or s.cpus c no_cpu)
+
+kept_by : (s : State) (c : CpuId) (e : Event) (f : Duty) → (cpu_of s c.0).duty ≡ f → dropped_duty e f ≡ f → drop_ageing s c.0 e ≡ s
+unfolding drop_ageing
+kept_by s c e f is kept = ap (λ (x : Duty). set_duty s c.0 (dropped_duty e x)) is ∙ (ap (λ (x : Duty). set_duty s c.0 x) (kept ∙ sym is) ∙ same_duty s c.0)
+
+age_dropped : (s : State) (c : CpuId) (e : Event) (u : ThreadId) → (cpu_of s c.0).duty ≡ duty.Age u → drop_ageing s c.0 e ≡ (if keeps_ageing e then s else set_duty s c.0 duty.Nothing)
+unfolding drop_ageing
+age_dropped s c e u is = ap (λ (x : Duty). set_duty s c.0 (dropped_duty e x)) is ∙ by (keeps_ageing e)
+  where
+    by : (b : Bool) → set_duty s c.0 (if b then duty.Age u else duty.Nothing) ≡ (if b then s else set_duty s c.0 duty.Nothing)
+    by true = ap (λ (x : Duty). set_duty s c.0 x) (sym is) ∙ same_duty s c.0
+    by false = refl
+
+dropped_at : (s : State) (c : CpuId) (e : Event) (d : Duty) → (cpu_of s c.0).duty ≡ d → drop_ageing s c.0 e ≡ task_dropped s c e (task_of d)
+dropped_at s c e duty.Nothing is = kept_by s c e duty.Nothing is refl
+dropped_at s c e (duty.Walk l seek key) is = kept_by s c e (duty.Walk l seek key) is refl
+dropped_at s c e (duty.WakeMutex l) is = kept_by s c e (duty.WakeMutex l) is refl
+dropped_at s c e (duty.GrantWriter l) is = kept_by s c e (duty.GrantWriter l) is refl
+dropped_at s c e (duty.GrantReaders l) is = kept_by s c e (duty.GrantReaders l) is refl
+dropped_at s c e (duty.Rouse k below) is = kept_by s c e (duty.Rouse k below) is refl
+dropped_at s c e (duty.Age u) is = age_dropped s c e u is
+
+pub dropped_by_task : (s : State) (c : CpuId) (e : Event) → drop_ageing s c.0 e ≡ task_dropped s c e (task_of (cpu_of s c.0).duty)
+dropped_by_task s c e = dropped_at s c e (cpu_of s c.0).duty refl

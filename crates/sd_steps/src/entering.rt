@@ -1,0 +1,61 @@
+//! Whether a processor has an event at all, for some numbers that it may read.
+
+ghost use Rattle.std.specs.Prelude.{◌≡◌, Option, None, false, true, IsSome};
+ghost use Rattle.sd_types.specs.declared.events.Hints.{Hints};
+ghost use Rattle.sd_full.specs.Choosing.{neighbours};
+ghost use Rattle.sd_full.specs.Events.{next};
+ghost use Rattle.sd_full.specs.Runs.{serial_hints};
+ghost use Rattle.sd_sound.specs.Possible.{IsFit};
+ghost use Rattle.sd_steps.specs.Entering.{can_enter, can_steal, plan_enters};
+
+use crate::serial::plan_of;
+use sd_flat::{may_tick, numbers_shown};
+use sd_full::Plan;
+use sd_machine::State;
+use sd_mdisp::neighbours;
+use sd_types::{CpuId, Which, Work};
+
+/// A neighbour of processor `c` shows a thread on its queue that is bound to no processor.
+#[tactic(auto, unfolding(crate::specs::Entering::can_steal))]
+fn can_steal(work: &Work, s: &State, c: CpuId) -> bool
+    requires fit { IsFit work.now s.now }
+    ensures { result ≡ can_steal s.now c.0 }
+{
+    match neighbours(s, c) {
+        Ok(cpus) => {
+            let numbers = numbers_shown(s, Which::Queued, cpus.as_slice());
+            numbers.as_slice().iter().any(|n| *n > 0)
+        }
+        Err(never) => match never {},
+    }
+}
+
+fn plan_enters(work: &Work, s: &State, c: CpuId, plan: Plan) -> bool
+    requires fit { IsFit work.now s.now }
+    ensures { result ≡ plan_enters work.now s.now c.0 plan }
+{
+    match plan {
+        Plan::Make(event) => !event.ticks() || may_tick(work, s, c),
+        Plan::Place(_, _) => true,
+        Plan::Search => may_tick(work, s, c) || can_steal(work, s, c),
+    }
+}
+
+#[tactic(auto, unfolding(crate::specs::Entering::can_enter))]
+fn enters(work: &Work, s: &State, c: CpuId) -> bool
+    requires fit { IsFit work.now s.now }
+    ensures { result ≡ can_enter work.now s.now c }
+{
+    c.0 < work.cpus && plan_enters(work, s, c, plan_of(work, s, c))
+}
+
+/// Processor `c` has an event for some numbers that it may read. Where it has one for any, it has one for the numbers of
+/// the state itself.
+pub fn can_enter(work: &Work, s: &State, c: CpuId) -> bool
+    requires fit { IsFit work.now s.now }
+    ensures value { result ≡ can_enter work.now s.now c }
+    ensures some { result ≡ true → IsSome (next work.now s.now c (serial_hints work.now s.now c)) }
+    ensures none { result ≡ false → (hints : Option Hints) → next work.now s.now c hints ≡ None }
+{
+    enters(work, s, c)
+}
