@@ -1,9 +1,9 @@
 //! Locks that are wanted: when a thread takes a lock, when it spins and when it blocks, and what then happens.
 //!
-//! A thread spins where it may hope for the lock within ticks: at a mutex while the owner runs on some processor, and at any
-//! lock while a processor passes it on. It keeps its operation and its processor, where each tick of spinning counts as one
-//! of running, and at the next tick it looks again. Else it blocks: it leaves its processor for the turnstile of the lock,
-//! and the processor walks along the chain of owners, so that they inherit its priority.
+//! A thread spins where it may hope for the lock soon: at a mutex while the owner runs on some processor, and at any lock
+//! while a processor passes it on. It keeps its operation and its processor, uses its quantum up as if it ran, and after
+//! each tick asks again. Else it blocks: it leaves its processor for the turnstile of the lock, and the processor walks along
+//! the chain of owners, so that they inherit its priority.
 //!
 //! Source: Solaris Internals (mutex_enter, mutex_vector_enter, rw_enter, turnstile_block).
 
