@@ -241,9 +241,9 @@ pub needs_dropped : (w : Work) (s : State) (c : CpuId) (e : Event) → Needs w s
 unfolding drop_ageing
 needs_dropped w s c e n = needs_left w s c (dropped_duty e (cpu_of s c.0).duty) e n
 
-pub touched_dropped : (w : Work) (s : State) (c : CpuId) (e : Event) (p : Part) → IsAmong p (touched w (drop_ageing s c.0 e) c e) → IsAmong p (touched w s c e)
+pub touched_dropped : (w : Work) (s : State) (c : CpuId) (e : Event) → touched w (drop_ageing s c.0 e) c e ≡ touched w s c e
 unfolding drop_ageing
-touched_dropped w s c e p among = subst (λ ps. IsAmong p ps) (touched_left w s c (dropped_duty e (cpu_of s c.0).duty) e) among
+touched_dropped w s c e = touched_left w s c (dropped_duty e (cpu_of s c.0).duty) e
 
 -- a duty that is not dropped is the same
 same_duty : (s : State) (c : ℕ) → set_duty s c (cpu_of s c).duty ≡ s
