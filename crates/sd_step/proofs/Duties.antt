@@ -15,7 +15,8 @@ use Rattle.sd_store.specs.declared.parts.Part.{Part}
 use Rattle.sd_store.specs.declared.spots.Task.{Task}
 use Rattle.sd_store.specs.declared.spots.Task.TheVariants as task
 use Rattle.sd_store.specs.Keyless.{task_of}
-use Rattle.sd_store.specs.Parts.{IsAmong, actor_part}
+use Rattle.sd_store.specs.Parts.{IsAmong, actor_part, cpu_part}
+use Rattle.sd_store.specs.Words.{Lacks}
 use Rattle.sd_store.specs.Walks.{next_to_rouse}
 use Rattle.sd_step.specs.Needed.{cpu_parts, plan_parts}
 use Rattle.sd_step.specs.Tasks.{task_ageing, task_parts, task_plan}
@@ -61,19 +62,24 @@ first_none : (a b : Option Plan) → first_of a b ≡ None → a ≡ None
 first_none None b e = refl
 first_none (Some x) b e = cc
 
-pub after_first : (w : Work) (s : State) (c : CpuId) (p : Part) → IsAmong p (actor_part c ∷ cpu_parts w s c)
-    → first_of (duty_plan w s c.0) (first_of (nap_plan w s c.0) (ageing_plan w s c.0)) ≡ None
-    → IsAmong p (plan_parts w s c)
-after_first w s c p among none = elim among [
+pub after_first : (w : Work) (s : State) (c : CpuId) → first_of (duty_plan w s c.0) (first_of (nap_plan w s c.0) (ageing_plan w s c.0)) ≡ None
+    → (p : Part) → IsAmong p (actor_part c ∷ cpu_parts w s c) → IsAmong p (plan_parts w s c)
+after_first w s c none p among = elim among [
   | inl e ↦ inl e
   | inr later ↦ inr (after_task w s c (task_of (cpu_of s c.0).duty) _ p (sym (duty_by_task w s c) ∙ first_none _ _ none) later)
 ]
 
-pub after_duty : (w : Work) (s : State) (c : CpuId) (p : Part) → IsAmong p (actor_part c ∷ cpu_parts w s c) → duty_plan w s c.0 ≡ None → IsAmong p (plan_parts w s c)
-after_duty w s c p among none = elim among [
-  | inl e ↦ inl e
-  | inr later ↦ inr (after_task w s c (task_of (cpu_of s c.0).duty) _ p (sym (duty_by_task w s c) ∙ none) later)
-]
+pub after_duty : (w : Work) (s : State) (c : CpuId) → duty_plan w s c.0 ≡ None → (p : Part) → IsAmong p (actor_part c ∷ (cpu_part c ∷ [])) → IsAmong p (plan_parts w s c)
+after_duty w s c none p (inl e) = inl e
+after_duty w s c none p (inr (inl e)) = inr (after_task w s c (task_of (cpu_of s c.0).duty) _ p (sym (duty_by_task w s c) ∙ none) (inl e))
+after_duty w s c none p (inr (inr never)) = absurd never
+
+-- what is lacking behind a try that gave nothing is needed
+pub lacks_after : {A L : Type 0} (part : L → Part) (Shows : ℕ → State → Type 0) (has : Part → Bool) (r : Result A L) (few more : State → List Part) (Nothing : State → Type 0)
+    → ((s : State) → Nothing s → (p : Part) → IsAmong p (few s) → IsAmong p (more s)) → Lacks part Shows has r few → ((n : ℕ) (s : State) → Shows n s → Nothing s)
+    → Lacks part Shows has r more
+lacks_after part Shows has (Ok a) few more Nothing f lacks none = tt
+lacks_after part Shows has (Err q) few more Nothing f lacks none = (λ n s h. f s (none n s h) (part q) (lacks.0 n s h), lacks.1)
 
 -- what the duty itself needs
 within_task : (s : State) (t : Task) (rest : List Part) (p : Part) → IsAmong p (task_parts s t []) → IsAmong p (task_parts s t rest)

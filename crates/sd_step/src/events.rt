@@ -16,7 +16,9 @@ ghost use Rattle.sd_store.specs.Words.{Lacks, LacksIf, Tells, TellsIf};
 
 use crate::plans::plan;
 use sd_full::{Placement, Plan};
-use sd_mdisp::{Reading, hints_fit, put_chosen, reads_for, reads_to_steal, search_event, victim_for};
+use sd_mdisp::{
+    Reading, hints_fit, put_chosen, reads_for, reads_to_steal, search_event, victim_for,
+};
 use sd_store::{Clock, Look};
 use sd_types::{CpuId, Event, Hints, PrioAnswer, Put, ThreadId, Work};
 
@@ -145,12 +147,7 @@ fn plan_event<L: Look>(
 /// The one event that the order of its events gives to processor `c`, whether or not it may tick now, where it has read
 /// these numbers: exactly those that it reads in this state.
 #[tactic(auto, using(crate::proofs::Among::among_left, crate::proofs::Among::among_right), unfolding(sd_full::specs::Events::wish, sd_full::specs::Events::reads))]
-pub fn wish<L: Look>(
-    work: &Work,
-    x: &L,
-    c: CpuId,
-    hints: &Option<Hints>,
-) -> Result<Event, L::Lack>
+pub fn wish<L: Look>(work: &Work, x: &L, c: CpuId, hints: &Option<Hints>) -> Result<Event, L::Lack>
     ensures value { TellsIf (L.shows x.now) result (λ s. ((k : ChanIdOf) → CanCount s k) × (hints_fit (reads work.now s c.0) hints.now ≡ true)) (λ s. wish work.now s c.0 hints.now) }
     ensures lack { LacksIf L.part (L.shows x.now) (L.has x.now) result (λ s. ((k : ChanIdOf) → CanCount s k) × (hints_fit (reads work.now s c.0) hints.now ≡ true)) (λ s. needed work.now s c hints.now) }
 {
@@ -159,12 +156,7 @@ pub fn wish<L: Look>(
 }
 
 /// An event that processor `c` may make now: it may tick, where the event ticks.
-fn allowed<L: Clock>(
-    work: &Work,
-    x: &L,
-    c: CpuId,
-    event: Event,
-) -> Result<Option<Event>, L::Lack>
+fn allowed<L: Clock>(work: &Work, x: &L, c: CpuId, event: Event) -> Result<Option<Event>, L::Lack>
     ensures { Tells (L.shows x.now) result (λ s. allowed work.now s c.0 event) }
 {
     if !event.ticks() || x.may_tick(work, c)? {

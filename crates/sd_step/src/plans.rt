@@ -107,7 +107,6 @@ fn ageing_plan<L: Look>(work: &Work, x: &L, c: CpuId) -> Result<Option<Plan>, L:
 }
 
 /// The operation at which thread `t` stands, None after the last. A request names a quantum that is in its range.
-#[tactic(auto, using(crate::proofs::WorkLemmas::wanted_quantum))]
 fn wanted_op<L: Look>(work: &Work, x: &L, t: ThreadId) -> Result<Option<Op>, L::Lack>
     ensures value { Tells (L.shows x.now) result (λ s. op_of work.now t.0 (thread_of s t.0).body) }
     ensures lack { Lacks L.part (L.shows x.now) (L.has x.now) result (λ s. thread_part t ∷ []) }
@@ -200,24 +199,32 @@ fn cpu_plan<L: Look>(work: &Work, x: &L, c: CpuId) -> Result<Plan, L::Lack>
     }
 }
 
+/// 2. and 3. A nap that is over, and else the ageing.
+fn later_plan<L: Look>(work: &Work, x: &L, c: CpuId) -> Result<Option<Plan>, L::Lack>
+    ensures value { Tells (L.shows x.now) result (λ s. first_of (nap_plan work.now s c.0) (ageing_plan work.now s c.0)) }
+    ensures lack { Lacks L.part (L.shows x.now) (L.has x.now) result (λ s. actor_part c ∷ cpu_part c ∷ []) }
+{
+    match nap_plan(work, x, c)? {
+        Some(plan) => Ok(Some(plan)),
+        None => ageing_plan(work, x, c),
+    }
+}
+
 /// 1. to 3. The first of the duty, a nap that is over and the ageing that gives anything.
-#[tactic(auto, using(crate::proofs::Duties::after_duty, crate::proofs::Duties::within_duty))]
+#[tactic(auto, using(crate::proofs::Duties::within_duty))]
 fn first_plan<L: Look>(work: &Work, x: &L, c: CpuId) -> Result<Option<Plan>, L::Lack>
     ensures value { Tells (L.shows x.now) result (λ s. first_of (duty_plan work.now s c.0) (first_of (nap_plan work.now s c.0) (ageing_plan work.now s c.0))) }
     ensures lack { Lacks L.part (L.shows x.now) (L.has x.now) result (λ s. plan_parts work.now s c) }
 {
-    if let Some(plan) = duty_plan(work, x, c)? {
-        return Ok(Some(plan));
+    match duty_plan(work, x, c)? {
+        Some(plan) => Ok(Some(plan)),
+        None => later_plan(work, x, c),
     }
-    if let Some(plan) = nap_plan(work, x, c)? {
-        return Ok(Some(plan));
-    }
-    ageing_plan(work, x, c)
 }
 
 /// What processor `c` is about to do: the first of its duty, a nap that is over, the ageing of its queue, and what its
 /// running thread does, or the processor where none runs. Each count of a semaphore may rise once more.
-#[tactic(auto, using(crate::proofs::Duties::after_first), unfolding(sd_full::specs::Plans::plan))]
+#[tactic(auto, unfolding(sd_full::specs::Plans::plan))]
 pub fn plan<L: Look>(work: &Work, x: &L, c: CpuId) -> Result<Plan, L::Lack>
     ensures value { TellsIf (L.shows x.now) result (λ s. (k : ChanIdOf) → CanCount s k) (λ s. plan work.now s c.0) }
     ensures lack { Lacks L.part (L.shows x.now) (L.has x.now) result (λ s. plan_parts work.now s c) }
