@@ -1,5 +1,5 @@
 -- An entry that a processor makes in a state of a run has a line of its own.
-use Rattle.std.proofs.Common.{◌≡◌, ℕ, ◌+◌, ◌<◌, ◌^◌, true, length, Option, Some, None, refl, sym, subst, arith}
+use Rattle.std.proofs.Common.{◌≡◌, ℕ, ◌<◌, ◌^◌, true, length, Option, Some, None, refl, sym, subst, arith}
 use Rattle.std.specs.Prelude.{IfSome, nat_lt, IsTrue}
 use Rattle.std.proofs.lemmas.Bool.Decides.{nat_tests}
 use Rattle.sd_types.specs.declared.numbers.CpuId.{CpuId}
@@ -25,22 +25,20 @@ use Rattle.sd_types.proofs.WilledLemmas.{sound-with, sound-without}
 use Rattle.sd_machine.specs.declared.states.State.{State}
 use Rattle.sd_machine.specs.States.{thread_of}
 use Rattle.sd_full.specs.Bodies.{aged_class}
+use Rattle.sd_full.specs.Needs.{IsPut, IsPutIf, IsWoken, IsPrioPut, IsBindPut, CanInherit, Needs}
 use Rattle.sd_full.specs.Prioritising.{new_class}
 use Rattle.sd_full.specs.Shapes.{FitsFully}
-use Rattle.sd_full.specs.Threads.{eff_of, count_of, greatest_waiting}
+use Rattle.sd_full.specs.Threads.{eff_of, greatest_waiting}
 use Rattle.sd_full.specs.Walking.{inherited_priority}
 use Rattle.sd_full.specs.Runs.{IsReached, IsStep}
 use Rattle.sd_sound.specs.Causes.{IsCause}
-use Rattle.sd_sound.specs.Possible.{IsNamed, IsWokenThere}
 use Rattle.sd_sound.specs.Laws.{HasSmallCounts}
 use Rattle.sd_sound.proofs.BaseLemmas.{age_below, new_below}
 use Rattle.sd_sound.proofs.NumberLemmas.{AreFine, fine_eff}
 use Rattle.sd_sound.proofs.FineLemmas.{fine_reached}
-use Rattle.sd_sound.proofs.Ready.{ready_cause, reached_ready}
-use Rattle.sd_sound.proofs.Whole.{can_happen, fit_reached}
-use Rattle.sd_range.specs.InRange.{IsInRange, IsPutThere, IsPutThereIf, IsPrioThere, IsBindThere, CanBeWilled}
+use Rattle.sd_sound.proofs.Ready.{ready_cause, reached_ready, maker_inside}
 use Rattle.sd_range.proofs.Places.{threads_have_cpus}
-use Rattle.sd_range.proofs.Range.{events_in_range}
+use Rattle.sd_range.proofs.Range.{needs_reached}
 use Rattle.sd_spelling.specs.Fitting.{has_cpu, has_thread, has_lock, has_chan, has_set, put_fits, put_fits_if, woken_fits, cpu_fits_if, prio_fits, bind_fits, event_fits, entry_fits, is_byte, prio_in_range, event_in_range, hints_in_range, in_range, IsSpelled}
 use Rattle.sd_certified.proofs.PlanLemmas.{IsTold, tells, reads_rightly}
 
@@ -62,71 +60,71 @@ module _ (w : Work) (s : State) (fits : FitsFully w s) where
   set_ok : (p : SetId) → p.0 < length s.open_cpus → has_set w p ≡ true
   set_ok p inside = let many = fits.sets in grind (arith, nat_tests)
 
-  put_ok : (at : Put) → IsPutThere s at → put_fits w at ≡ true
+  put_ok : (at : Put) → IsPut s at → put_fits w at ≡ true
   put_ok (Cpu x) inside = cpu_ok x inside
   put_ok (OnRealTime x) inside = cpu_ok x inside
 
-  put_ok_if : (at : Option Put) → IsPutThereIf s at → put_fits_if w at ≡ true
+  put_ok_if : (at : Option Put) → IsPutIf s at → put_fits_if w at ≡ true
   put_ok_if None inside = refl
   put_ok_if (Some at) inside = put_ok at inside
 
-  woken_ok : (u : Option (ThreadId × Put)) → IsWokenThere s u → IfSome u (λ x. IsPutThere s x.1) → woken_fits w u ≡ true
-  woken_ok None there inside = refl
-  woken_ok (Some u) there inside = rw (thread_ok u.0 there, put_ok u.1 inside) refl
+  woken_ok : (u : Option (ThreadId × Put)) → IsWoken s u → woken_fits w u ≡ true
+  woken_ok None is = refl
+  woken_ok (Some u) is = rw (thread_ok u.0 is.thread, put_ok u.1 is.put) refl
 
   cpu_ok_if : (d : Option CpuId) → IfSome d (λ x. x.0 < length s.cpus) → cpu_fits_if w d ≡ true
   cpu_ok_if None inside = refl
   cpu_ok_if (Some d) inside = cpu_ok d inside
 
-  prio_ok : (a : PrioAnswer) → IsPrioThere s a → prio_fits w a ≡ true
+  prio_ok : (a : PrioAnswer) → IsPrioPut s a → prio_fits w a ≡ true
   prio_ok (Changed p at) inside = put_ok_if at inside
   prio_ok (Refused denied) inside = refl
 
-  bind_ok : (a : BindAnswer) → IsBindThere s a → bind_fits w a ≡ true
+  bind_ok : (a : BindAnswer) → IsBindPut s a → bind_fits w a ≡ true
   bind_ok (bind.Changed at) inside = put_ok_if at inside
   bind_ok bind.EPERM inside = refl
   bind_ok bind.ESRCH inside = refl
   bind_ok bind.EINVAL inside = refl
   bind_ok bind.EBUSY inside = refl
 
-  pub event_ok : (c : ℕ) (e : Event) → IsNamed w s c e → IsInRange w s e → event_fits w e ≡ true
+  pub event_ok : (c : CpuId) (e : Event) → Needs w s c e → event_fits w e ≡ true
   unfolding event_fits
-  event_ok c (Tick t) n r = thread_ok t n.0.inside
-  event_ok c (Spin t l) n r = rw (thread_ok t n.0, lock_ok l r) refl
-  event_ok c Idle n r = refl
-  event_ok c (Dispatch t p) n r = thread_ok t n
-  event_ok c (Steal v t p) n r = rw (cpu_ok v r, thread_ok t n) refl
-  event_ok c (Preempt t end) n r = thread_ok t n
-  event_ok c (Away t d) n r = rw (thread_ok t n, cpu_ok d r) refl
-  event_ok c (Yield t) n r = thread_ok t n.inside
-  event_ok c (Done t) n r = thread_ok t n
-  event_ok c (Nap t) n r = thread_ok t n.0.inside
-  event_ok c (Napend t at) n r = rw (thread_ok t n, put_ok at r) refl
-  event_ok c (Sleep t k) n r = rw (thread_ok t n.inside, chan_ok k r) refl
-  event_ok c (Wake t k u) n r = rw (thread_ok t n.0.inside, chan_ok k r.0, woken_ok u n.1 r.1) refl
-  event_ok c (Wakeall t k) n r = rw (thread_ok t n.inside, chan_ok k r) refl
-  event_ok c (Rouse k u) n r = rw (chan_ok k r.0, woken_ok u n r.1) refl
-  event_ok c (Enter t l) n r = rw (thread_ok t n.0.inside, lock_ok l r) refl
-  event_ok c (Read t l) n r = rw (thread_ok t n.0.inside, lock_ok l r) refl
-  event_ok c (Write t l) n r = rw (thread_ok t n.0.inside, lock_ok l r) refl
-  event_ok c (Block t l) n r = rw (thread_ok t n, lock_ok l r) refl
-  event_ok c (Will l o p at) n r = rw (lock_ok l r.0, thread_ok o n.0, put_ok_if at r.1) refl
-  event_ok c (WalkEnd l) n r = lock_ok l r
-  event_ok c (Exit t l) n r = rw (thread_ok t n.inside, lock_ok l r) refl
-  event_ok c (Unblock l u at) n r = rw (lock_ok l r.0, thread_ok u n, put_ok at r.1) refl
-  event_ok c (Grant l u at) n r = rw (lock_ok l r.0, thread_ok u n.0.inside, put_ok at r.1) refl
-  event_ok c (Passed l) n r = lock_ok l r
-  event_ok c (Age t p) n r = thread_ok t n
-  event_ok c (Prio t u answer) n r = rw (thread_ok t n.0.inside, thread_ok u n.1, prio_ok answer r.1) refl
-  event_ok c (CvWait t k l) n r = rw (thread_ok t n.inside, chan_ok k r.0, lock_ok l r.1) refl
-  event_ok c (SemaP t k) n r = rw (thread_ok t n.inside, chan_ok k r) refl
-  event_ok c (SemaWait t k) n r = rw (thread_ok t n.inside, chan_ok k r) refl
-  event_ok c (SemaVWake t k u at) n r = rw (thread_ok t n.0.inside, chan_ok k r.0, thread_ok u n.1, put_ok at r.1) refl
-  event_ok c (SemaVCount t k m) n r = rw (thread_ok t n.inside, chan_ok k r) refl
-  event_ok c (Assign t d to answer) n r = rw (thread_ok t n.inside, cpu_ok d r.0, set_ok to r.1) refl
-  event_ok c (Move t at) n r = rw (thread_ok t n, put_ok at r) refl
-  event_ok c (Joined to) n r = set_ok to r
-  event_ok c (Bind t u d answer) n r = rw (thread_ok t n.0.inside, thread_ok u n.1, cpu_ok_if d r.0, bind_ok answer r.1) refl
+  event_ok c (Tick t) n = thread_ok t n.0.thread
+  event_ok c (Spin t l) n = rw (thread_ok t n.0.thread, lock_ok l n.1) refl
+  event_ok c Idle n = refl
+  event_ok c (Dispatch t p) n = thread_ok t n.0
+  event_ok c (Steal v t p) n = rw (cpu_ok v n.2, thread_ok t n.0) refl
+  event_ok c (Preempt t end) n = thread_ok t n.thread
+  event_ok c (Away t d) n = rw (thread_ok t n.0.thread, cpu_ok d n.1) refl
+  event_ok c (Yield t) n = thread_ok t n.thread
+  event_ok c (Done t) n = thread_ok t n.thread
+  event_ok c (Nap t) n = thread_ok t n.0.thread
+  event_ok c (Napend t at) n = rw (thread_ok t n.0, put_ok at n.1) refl
+  event_ok c (Sleep t k) n = rw (thread_ok t n.0.thread, chan_ok k n.1) refl
+  event_ok c (Wake t k u) n = rw (thread_ok t n.0.thread, chan_ok k n.1, woken_ok u n.2) refl
+  event_ok c (Wakeall t k) n = rw (thread_ok t n.0.thread, chan_ok k n.1) refl
+  event_ok c (Rouse k u) n = rw (chan_ok k n.0, woken_ok u n.1) refl
+  event_ok c (Enter t l) n = rw (thread_ok t n.0.thread, lock_ok l n.1) refl
+  event_ok c (Read t l) n = rw (thread_ok t n.0.thread, lock_ok l n.1) refl
+  event_ok c (Write t l) n = rw (thread_ok t n.0.thread, lock_ok l n.1) refl
+  event_ok c (Block t l) n = rw (thread_ok t n.0.thread, lock_ok l n.1) refl
+  event_ok c (Will l o p at) n = rw (lock_ok l n.1, thread_ok o n.0, put_ok_if at n.3) refl
+  event_ok c (WalkEnd l) n = lock_ok l n
+  event_ok c (Exit t l) n = rw (thread_ok t n.0.thread, lock_ok l n.1) refl
+  event_ok c (Unblock l u at) n = rw (lock_ok l n.1, thread_ok u n.0, put_ok at n.2) refl
+  event_ok c (Grant l u at) n = rw (lock_ok l n.0, thread_ok u n.2.thread, put_ok at n.1) refl
+  event_ok c (Passed l) n = lock_ok l n
+  event_ok c (Age t p) n = thread_ok t n.0
+  event_ok c (Prio t u answer) n = rw (thread_ok t n.0.thread, thread_ok u n.1.thread, prio_ok answer n.1.put) refl
+  event_ok c (CvWait t k l) n = rw (thread_ok t n.0.thread, chan_ok k n.1, lock_ok l n.2) refl
+  event_ok c (SemaP t k) n = rw (thread_ok t n.0.thread, chan_ok k n.1) refl
+  event_ok c (SemaWait t k) n = rw (thread_ok t n.0.thread, chan_ok k n.1) refl
+  event_ok c (SemaVWake t k u at) n = rw (thread_ok t n.0.thread, chan_ok k n.1, thread_ok u n.2, put_ok at n.3) refl
+  event_ok c (SemaVCount t k m) n = rw (thread_ok t n.0.thread, chan_ok k n.1) refl
+  event_ok c (Assign t d to answer) n = rw (thread_ok t n.0.thread, cpu_ok d n.1, set_ok to n.2) refl
+  event_ok c (Move t at) n = rw (thread_ok t n.0, put_ok at n.1) refl
+  event_ok c (Joined to) n = set_ok to n.0
+  event_ok c (Bind t u d answer) n = rw (thread_ok t n.0.thread, thread_ok u n.1.thread, cpu_ok_if d n.1.cpu, bind_ok answer n.1.put) refl
 
 -- Its numbers have as many bits as their types.
 
@@ -134,81 +132,81 @@ byte_ok : (p : ℕ) → p < 160 → is_byte p ≡ true
 byte_ok p less = grind (arith, nat_tests)
 
 -- what the owner of a lock inherits is below 160
-inherited_below : (s : State) (l : LockId) (o : ℕ) → AreFine s → CanBeWilled s o l → inherited_priority s l o < 160
+inherited_below : (s : State) (l : LockId) (o : ThreadId) → AreFine s → CanInherit s o l (greatest_waiting l.0 s.threads) → inherited_priority s l o.0 < 160
 inherited_below s l o fine can = by (greatest_waiting l.0 s.threads) can.below
   where
     b : ThreadBody
-    b = (thread_of s o).body
+    b = (thread_of s o.0).body
 
     by : (n : Option ℕ) → IfSome n (λ m. m < 160) → eff_as b.class (with_willed (changed_number l n b.willed.items) b) < 160
-    by None below = greatest-below (base_of b.class) 160 (without_number l b.willed.items) (fine o).base (sound-without b l (without_number l b.willed.items) can.sound refl).below
-    by (Some m) below = greatest-below (base_of b.class) 160 (with_number l m b.willed.items) (fine o).base (sound-with b l m (with_number l m b.willed.items) can.sound can.held below refl).below
+    by None below = greatest-below (base_of b.class) 160 (without_number l b.willed.items) (fine o.0).base (sound-without b l (without_number l b.willed.items) can.sound refl).below
+    by (Some m) below = greatest-below (base_of b.class) 160 (with_number l m b.willed.items) (fine o.0).base (sound-with b l m (with_number l m b.willed.items) can.sound can.held below refl).below
 
-module _ (w : Work) (s : State) (c : ℕ) (fine : AreFine s) where
-  prio_byte : (t : ThreadId) (u : ThreadId) (a : PrioAnswer) → IsCause w s c (Prio t u a) → prio_in_range a ≡ true
+module _ (w : Work) (s : State) (c : CpuId) (fine : AreFine s) where
+  prio_byte : (t : ThreadId) (u : ThreadId) (a : PrioAnswer) → IsCause w s c.0 (Prio t u a) → prio_in_range a ≡ true
   prio_byte t u (Refused denied) cause = refl
   prio_byte t u (Changed p at) cause =
       let answered = cause.2 in
       let b = (thread_of s u.0).body in
-      subst (λ (n : ℕ). is_byte n ≡ true) (sym answered.2)
+      subst (λ (p : ℕ). is_byte p ≡ true) (sym answered.2)
       (byte_ok (eff_as (new_class w s u.0 answered.0) b)
       (greatest-below (base_of (new_class w s u.0 answered.0)) 160 b.willed.items (new_below w s t.0 u.0 cause.0 answered.0 answered.1) (fine u.0).sound.below))
 
-  pub numbers_ok : (e : Event) → IsCause w s c e → IsTold w s e → IsInRange w s e → ((k : ℕ) → count_of s k + 1 < 2 ^ 32) → event_in_range e ≡ true
-  numbers_ok (Dispatch t p) cause told r counts = subst (λ (n : ℕ). is_byte n ≡ true) (sym told) (byte_ok (eff_of s t.0) (fine_eff (thread_of s t.0) (fine t.0)))
-  numbers_ok (Steal v t p) cause told r counts = subst (λ (n : ℕ). is_byte n ≡ true) (sym told) (byte_ok (eff_of s t.0) (fine_eff (thread_of s t.0) (fine t.0)))
-  numbers_ok (Age t p) cause told r counts =
+  pub numbers_ok : (e : Event) → IsCause w s c.0 e → IsTold w s e → Needs w s c e → event_in_range e ≡ true
+  numbers_ok (Dispatch t p) cause told n = subst (λ (p : ℕ). is_byte p ≡ true) (sym told) (byte_ok (eff_of s t.0) (fine_eff (thread_of s t.0) (fine t.0)))
+  numbers_ok (Steal v t p) cause told n = subst (λ (p : ℕ). is_byte p ≡ true) (sym told) (byte_ok (eff_of s t.0) (fine_eff (thread_of s t.0) (fine t.0)))
+  numbers_ok (Age t p) cause told n =
       let b = (thread_of s t.0).body in
-      subst (λ (n : ℕ). is_byte n ≡ true) (sym told)
+      subst (λ (p : ℕ). is_byte p ≡ true) (sym told)
       (byte_ok (eff_as (aged_class w b.class) b) (greatest-below (base_of (aged_class w b.class)) 160 b.willed.items (age_below w b.class (fine t.0).base) (fine t.0).sound.below))
-  numbers_ok (Will l o p at) cause told r counts = subst (λ (n : ℕ). is_byte n ≡ true) (sym cause.2) (byte_ok (inherited_priority s l o.0) (inherited_below s l o.0 fine r.2))
-  numbers_ok (Prio t u answer) cause told r counts = prio_byte t u answer cause
-  numbers_ok (SemaVCount t k m) cause told r counts = let small = counts k.0 in let is = cause.2 in grind (arith, nat_tests)
-  numbers_ok (Tick t) cause told r counts = refl
-  numbers_ok (Spin t l) cause told r counts = refl
-  numbers_ok Idle cause told r counts = refl
-  numbers_ok (Preempt t end) cause told r counts = refl
-  numbers_ok (Away t d) cause told r counts = refl
-  numbers_ok (Yield t) cause told r counts = refl
-  numbers_ok (Done t) cause told r counts = refl
-  numbers_ok (Nap t) cause told r counts = refl
-  numbers_ok (Napend t at) cause told r counts = refl
-  numbers_ok (Sleep t k) cause told r counts = refl
-  numbers_ok (Wake t k u) cause told r counts = refl
-  numbers_ok (Wakeall t k) cause told r counts = refl
-  numbers_ok (Rouse k u) cause told r counts = refl
-  numbers_ok (Enter t l) cause told r counts = refl
-  numbers_ok (Read t l) cause told r counts = refl
-  numbers_ok (Write t l) cause told r counts = refl
-  numbers_ok (Block t l) cause told r counts = refl
-  numbers_ok (WalkEnd l) cause told r counts = refl
-  numbers_ok (Exit t l) cause told r counts = refl
-  numbers_ok (Unblock l u at) cause told r counts = refl
-  numbers_ok (Grant l u at) cause told r counts = refl
-  numbers_ok (Passed l) cause told r counts = refl
-  numbers_ok (CvWait t k l) cause told r counts = refl
-  numbers_ok (SemaP t k) cause told r counts = refl
-  numbers_ok (SemaWait t k) cause told r counts = refl
-  numbers_ok (SemaVWake t k u at) cause told r counts = refl
-  numbers_ok (Assign t d to answer) cause told r counts = refl
-  numbers_ok (Move t at) cause told r counts = refl
-  numbers_ok (Joined to) cause told r counts = refl
-  numbers_ok (Bind t u d answer) cause told r counts = refl
+  numbers_ok (Will l o p at) cause told n = subst (λ (p : ℕ). is_byte p ≡ true) (sym cause.2) (byte_ok (inherited_priority s l o.0) (inherited_below s l o fine n.2))
+  numbers_ok (Prio t u answer) cause told n = prio_byte t u answer cause
+  numbers_ok (SemaVCount t k m) cause told n = let small = n.2 in let is = cause.2 in grind (arith, nat_tests)
+  numbers_ok (Tick t) cause told n = refl
+  numbers_ok (Spin t l) cause told n = refl
+  numbers_ok Idle cause told n = refl
+  numbers_ok (Preempt t end) cause told n = refl
+  numbers_ok (Away t d) cause told n = refl
+  numbers_ok (Yield t) cause told n = refl
+  numbers_ok (Done t) cause told n = refl
+  numbers_ok (Nap t) cause told n = refl
+  numbers_ok (Napend t at) cause told n = refl
+  numbers_ok (Sleep t k) cause told n = refl
+  numbers_ok (Wake t k u) cause told n = refl
+  numbers_ok (Wakeall t k) cause told n = refl
+  numbers_ok (Rouse k u) cause told n = refl
+  numbers_ok (Enter t l) cause told n = refl
+  numbers_ok (Read t l) cause told n = refl
+  numbers_ok (Write t l) cause told n = refl
+  numbers_ok (Block t l) cause told n = refl
+  numbers_ok (WalkEnd l) cause told n = refl
+  numbers_ok (Exit t l) cause told n = refl
+  numbers_ok (Unblock l u at) cause told n = refl
+  numbers_ok (Grant l u at) cause told n = refl
+  numbers_ok (Passed l) cause told n = refl
+  numbers_ok (CvWait t k l) cause told n = refl
+  numbers_ok (SemaP t k) cause told n = refl
+  numbers_ok (SemaWait t k) cause told n = refl
+  numbers_ok (SemaVWake t k u at) cause told n = refl
+  numbers_ok (Assign t d to answer) cause told n = refl
+  numbers_ok (Move t at) cause told n = refl
+  numbers_ok (Joined to) cause told n = refl
+  numbers_ok (Bind t u d answer) cause told n = refl
 
 pub spelled : (w : Work) (n : ℕ) (s : State) (e : Entry) → HasSmallCounts w → IsReached w n s → IsStep w s e → e.number < 2 ^ 64 → IsTrue (hints_in_range e.hints) → IsSpelled w e
 unfolding entry_fits in_range
 spelled w n s e small reached step number hints =
-    let fit = fit_reached w n s small reached in
-    let happens = can_happen w n s e.cpu e.hints e.event reached step in
-    let inside = events_in_range w n s e.cpu e.hints e.event reached step in
-    let cause = ready_cause w s e.cpu e.hints e.event (reached_ready w n s reached) step in
-    let cpu : has_cpu w e.cpu ≡ true = let here = happens.cpu in grind (arith, nat_tests) in
+    let ready = reached_ready w n s reached in
+    let here = maker_inside w s e.cpu e.hints e.event step in
+    let needs = needs_reached w n s e.cpu e.hints e.event small reached step in
+    let cause = ready_cause w s e.cpu e.hints e.event ready step in
+    let cpu : has_cpu w e.cpu ≡ true = grind (arith, nat_tests) in
     let low : nat_lt e.number (2 ^ 64) ≡ true = grind (arith, nat_tests) in
     record {
       fits = rw (
         cpu,
-        event_ok w s fit.fits e.cpu.0 e.event happens.named inside,
+        event_ok w s ready.fits e.cpu e.event needs,
         reads_rightly w s e.cpu e.hints e.event (λ t. (threads_have_cpus w n s reached t).some) step,
       ) refl;
-      range = rw (low, numbers_ok w s e.cpu.0 (fine_reached w n s reached) e.event cause (tells w s e.cpu e.hints e.event step) inside fit.counts, hints) refl;
+      range = rw (low, numbers_ok w s e.cpu (fine_reached w n s reached) e.event cause (tells w s e.cpu e.hints e.event step) needs, hints) refl;
     }

@@ -1,5 +1,4 @@
 pub mod All
-pub mod Behind
 pub mod Bindings
 pub mod Complete
 pub mod Duties

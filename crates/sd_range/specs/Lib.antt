@@ -1,3 +1,3 @@
 pub mod Complete
-pub mod InRange
+pub mod Needed
 pub mod There

@@ -1,7 +1,7 @@
 //! Laws of what is there, each as the contract of a function without a body.
 
 ghost use Rattle.sd_range.specs.Complete.{CompleteRunsReachTheLimit};
-ghost use Rattle.sd_range.specs.InRange.{EventsAreInRange};
+ghost use Rattle.sd_range.specs.Needed.{EventsHaveWhatTheyNeed};
 ghost use Rattle.sd_range.specs.There.{BoundAreCounted, CpusAreThere, LocksAreThere, SetsAreOpen, ThreadsAreThere, ThreadsHaveCpus};
 ghost use Rattle.sd_sound.specs.Laws.{HoldsWhenReached};
 
@@ -37,10 +37,12 @@ pub fn bindings_are_counted()
     ensures { HoldsWhenReached BoundAreCounted }
 {}
 
-/// The locks, channels, processors and sets that an event names are there, where a processor may make it in a state of a
-/// run; who inherits a priority holds the lock, and who is given a lock does not hold it.
-pub fn events_are_in_range()
-    ensures { EventsAreInRange }
+/// An event that a processor may make in a state of a run has what it needs there: what it names is there; its thread runs
+/// on the processor and stands at an operation where one is over, or nobody runs there who would be in the way; there is
+/// room for one lock, one processor or one thread more, and no count leaves its type; who inherits a priority holds the
+/// lock, and who is given a lock does not hold it.
+pub fn events_have_what_they_need()
+    ensures { EventsHaveWhatTheyNeed }
 {}
 
 /// A run is complete only where each processor has counted the ticks of the limit.

@@ -5,6 +5,6 @@
 mod laws;
 
 pub use laws::{
-    bindings_are_counted, complete_runs_reach_the_limit, events_are_in_range, locks_are_there,
-    processors_are_there, sets_are_open, threads_are_there, threads_have_cpus,
+    bindings_are_counted, complete_runs_reach_the_limit, events_have_what_they_need,
+    locks_are_there, processors_are_there, sets_are_open, threads_are_there, threads_have_cpus,
 };

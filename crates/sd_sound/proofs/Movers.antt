@@ -119,7 +119,7 @@ behind_goes d e = cc
 anew_goes : Anew ≢ Stays
 anew_goes e = cc
 
-requeued_at_away : (w : Work) (s : State) (t p : ℕ) (at : Put) → IsRequeuedAt w s t p (Some at) → is_waiter (thread_of s t).place ≡ false
+pub requeued_at_away : (w : Work) (s : State) (t p : ℕ) (at : Put) → IsRequeuedAt w s t p (Some at) → is_waiter (thread_of s t).place ≡ false
 requeued_at_away w s t p at (inl is) = requeued_away (thread_of s t).place (eff_of s t) p (thread_of s t).body.bound (Behind is.0) is.1 (behind_goes is.0)
 requeued_at_away w s t p at (inr is) = requeued_away (thread_of s t).place (eff_of s t) p (thread_of s t).body.bound Anew is.0 anew_goes
 

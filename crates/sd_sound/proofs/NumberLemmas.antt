@@ -136,7 +136,7 @@ lock_self l = self l.0
     self : (n : ℕ) → (n == n) ≡ true
     self n = grind (arith, nat_tests)
 
-pub held_last : (l : LockId) (ls : List LockId) → is_held l (ls ++ l ∷ []) ≡ true
+held_last : (l : LockId) (ls : List LockId) → is_held l (ls ++ l ∷ []) ≡ true
 held_last l [] = rw (lock_self l) refl
 held_last l (m ∷ ls) = or_true (is_lock l m) (held_last l ls)
   where

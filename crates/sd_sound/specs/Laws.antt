@@ -1,15 +1,18 @@
 -- What the laws of the whole machine say.
-use Rattle.std.specs.Prelude.{◌≡◌, ℕ, ◌+◌, ◌<◌, ◌≤◌, Bool, true, false, List, [], ◌∷◌, ◌==◌, Option, Some, None, ⊤}
-use Rattle.std.specs.List.{list_any}
-use Rattle.sd_full.specs.Threads.{open_of, count_of}
+use Rattle.std.specs.Prelude.{◌≡◌, ℕ, ◌+◌, ◌<◌, ◌≤◌, ◌^◌, Bool, true, false, List, [], ◌∷◌, length, nat_lt, ◌==◌, Option, Some, None, ⊤}
+use Rattle.std.specs.List.{list_any, list_all}
+use Rattle.sd_full.specs.Shapes.{FitsFully}
+use Rattle.sd_full.specs.Threads.{open_of, lock_of, count_of}
 use Rattle.sd_machine.specs.Opening.{opening}
 use Rattle.sd_types.specs.declared.numbers.CpuId.{CpuId}
+use Rattle.sd_types.specs.declared.numbers.ThreadId.{ThreadId}
 use Rattle.sd_types.specs.declared.events.Event.{Event}
 use Rattle.sd_types.specs.declared.events.Event.TheVariants.{Napend, Wake, Rouse, Unblock, Grant, SemaVWake}
 use Rattle.sd_types.specs.declared.events.Hints.{Hints}
 use Rattle.sd_types.specs.declared.works.Work.{Work}
 use Rattle.sd_types.specs.Priorities.{eff}
 use Rattle.sd_types.specs.Willed.{IsSound}
+use Rattle.sd_machine.specs.declared.states.LockState.TheVariants.{Owned}
 use Rattle.sd_machine.specs.declared.states.Place.{Place}
 use Rattle.sd_machine.specs.declared.states.Place.TheVariants.{Queued, RealTime}
 use Rattle.sd_machine.specs.declared.states.State.{State}
@@ -17,7 +20,6 @@ use Rattle.sd_machine.specs.States.{thread_of, cpu_of}
 use Rattle.sd_full.specs.Events.{next, after}
 use Rattle.sd_full.specs.Runs.{IsReached}
 use Rattle.sd_sound.specs.Causes.{IsCause}
-use Rattle.sd_sound.specs.Possible.{IsFit, CanHappen}
 
 -- in every state to which a run leads
 abbrev pub HoldsWhenReached : (Work → State → Type 0) → Type 0
@@ -79,11 +81,14 @@ pub record OpenHold (w : Work) (s : State) : Type 0 where
 abbrev pub HasSmallCounts : Work → Type 0
 HasSmallCounts w = (k : ℕ) → count_of (opening w) k ≤ 65535
 
--- what a processor may make in a state of a run can happen: the threads that it names are there, with room for what they
--- take, and the numbers that it raises stay in their types
-abbrev pub EventsCanHappen : Type 0
-EventsCanHappen = (w : Work) (n : ℕ) (s : State) (c : CpuId) (hints : Option Hints) (e : Event) → IsReached w n s → next w s c hints ≡ Some e → CanHappen w s c.0 e
+-- There is as much of everything as the workload has, owners are there, inherited priorities are priorities, and each count
+-- may rise once more.
+pub record IsFit (w : Work) (s : State) : Type 0 where
+  pub fits : FitsFully w s
+  pub owners : (l : ℕ) (o : ThreadId) → lock_of s l ≡ Owned o → o.0 < length s.threads
+  pub willed : (t : ℕ) → list_all (λ n. nat_lt n.1 160) (thread_of s t).body.willed.items ≡ true
+  pub counts : (k : ℕ) → count_of s k + 1 < 2 ^ 32
 
--- and the state can be read and counted on
+-- a state of a run can be read, and counted on
 abbrev pub StatesFit : Type 0
 StatesFit = (w : Work) (n : ℕ) (s : State) → HasSmallCounts w → IsReached w n s → IsFit w s

@@ -2,5 +2,4 @@ pub mod Causes
 pub mod Holding
 pub mod Laws
 pub mod Moves
-pub mod Possible
 pub mod Scripted

@@ -2,7 +2,7 @@
 
 ghost use Rattle.sd_laws.specs.Laws.{KeysDiffer, KeysWithin, OneRuns};
 ghost use Rattle.sd_sound.specs.Holding.{Agreed, DutiesServe, ReadsWell};
-ghost use Rattle.sd_sound.specs.Laws.{AreSound, CountsWithin, EventsCanHappen, EventsHaveCauses, HoldsAfterEntries, HoldsWhenReached, OpenHold, StatesFit, WokenAreRunnable};
+ghost use Rattle.sd_sound.specs.Laws.{AreSound, CountsWithin, EventsHaveCauses, HoldsAfterEntries, HoldsWhenReached, OpenHold, StatesFit, WokenAreRunnable};
 ghost use Rattle.sd_sound.specs.Scripted.{Scripted};
 
 /// In every state of every run each thread stands at an operation of its script or behind the last; it holds exactly
@@ -70,13 +70,6 @@ pub fn inheritance_is_sound()
 /// The open processors of each set rise, and each of them is one of the workload's, is of that set, and is not closing.
 pub fn open_lists_hold()
     ensures { HoldsWhenReached OpenHold }
-{}
-
-/// An event that a processor may make in a state of a run names threads that are there and operations that are in their
-/// scripts; one lock more can be held, one inherited priority more kept, one processor more listed, and no count leaves
-/// its type.
-pub fn events_can_happen()
-    ensures { EventsCanHappen }
 {}
 
 /// A state of a run has as much of everything as its workload; owners of locks are there, inherited priorities are below

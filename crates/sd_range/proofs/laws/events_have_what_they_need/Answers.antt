@@ -1,0 +1,5 @@
+use Rattle.sd_range.proofs.Range.{needs_reached}
+use Rattle.sd_range.proofs.laws.events_have_what_they_need.Goals as goal
+
+pub returns : goal.returns
+returns c = λ w n s cpu h e small reached makes. needs_reached w n s cpu h e small reached makes
