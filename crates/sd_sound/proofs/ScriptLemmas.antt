@@ -159,7 +159,7 @@ take_one [] i o e = cc
 take_one (x ∷ xs) zero o e = let is : x ≡ o = cc in rw is refl
 take_one (x ∷ xs) (suc i) o e = ap (λ j. take j (x ∷ xs)) (let q : suc i + 1 ≡ suc (i + 1) = omega arith in q) ∙ ap (λ (ys : List Op). x ∷ ys) (take_one xs i o e)
 
-pub held_by_one : (ops : List Op) (i : ℕ) (o : Op) → slice_get ops i ≡ Some o → held_by (take (i + 1) ops) ≡ held_after (held_by (take i ops)) o
+held_by_one : (ops : List Op) (i : ℕ) (o : Op) → slice_get ops i ≡ Some o → held_by (take (i + 1) ops) ≡ held_after (held_by (take i ops)) o
 held_by_one ops i o e = ap (λ xs. fold held_after [] xs) (take_one ops i o e) ∙ fold_append (take i ops) (o ∷ []) []
 
 -- A thread that waits.
