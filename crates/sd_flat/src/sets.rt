@@ -46,7 +46,6 @@ fn with_cpu_in(c: CpuId, cpus: &mut ArrayVec<CpuId, 64>)
     }
 }
 
-
 /// Processor `d` leaves the open ones of its set, and is closing to another.
 #[tactic(auto, using(crate::proofs::Past::past), unfolding(sd_full::specs::Changes::close))]
 pub fn close(s: &mut State, d: CpuId, to: SetId)

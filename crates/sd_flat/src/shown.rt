@@ -8,8 +8,8 @@ ghost use Rattle.sd_flat.specs.Passes.{pass};
 ghost use Rattle.sd_machine.specs.States.{thread_of};
 
 use crate::passes::pass;
-use arrayvec::ArrayVec;
 use crate::scans::{best_unbound, runner};
+use arrayvec::ArrayVec;
 use sd_machine::State;
 use sd_types::{CpuId, Which};
 

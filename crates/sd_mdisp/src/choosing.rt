@@ -229,11 +229,7 @@ pub fn neighbours<L: Look>(x: &L, c: CpuId) -> Result<ArrayVec<CpuId, 64>, L::La
 /// The processor from which processor `c` would steal a thread: that with the greatest number, the least of several,
 /// none where all are 0; where a number was read for each neighbour, or none was.
 #[tactic(auto, unfolding(sd_full::specs::Choosing::victim_for))]
-pub fn victim_for<L: Look>(
-    x: &L,
-    c: CpuId,
-    hints: &Option<Hints>,
-) -> Result<Option<CpuId>, L::Lack>
+pub fn victim_for<L: Look>(x: &L, c: CpuId, hints: &Option<Hints>) -> Result<Option<CpuId>, L::Lack>
     ensures value { TellsIf (L.shows x.now) result (λ s. length (numbers_read (neighbours s c.0) hints.now) ≡ length (neighbours s c.0)) (λ s. victim_for s c.0 hints.now) }
     ensures lack { Lacks L.part (L.shows x.now) (L.has x.now) result (λ s. ready_parts s c) }
 {

@@ -25,7 +25,5 @@ pub use marks::{mark_over, remark};
 pub use placing::{put, put_where};
 pub use reading::{Reading, hints_fit, reads_for, reads_to_steal};
 pub use requeueing::{reordered, requeue};
-pub use running::{
-    dispatched, done, idled, preempted, sent_away, spun, stolen, ticked, yielded,
-};
+pub use running::{dispatched, done, idled, preempted, sent_away, spun, stolen, ticked, yielded};
 pub use waking::{woken, woken_priority};

@@ -1,2 +1,3 @@
-pub mod ReplayLemmas
+pub mod EnteringLemmas
 pub mod Needed
+pub mod ReplayLemmas

@@ -5,15 +5,27 @@ ghost use Rattle.sd_types.specs.declared.events.Hints.{Hints};
 ghost use Rattle.sd_full.specs.Choosing.{neighbours};
 ghost use Rattle.sd_full.specs.Events.{next};
 ghost use Rattle.sd_full.specs.Runs.{serial_hints};
-ghost use Rattle.sd_sound.specs.Possible.{IsFit};
+ghost use Rattle.sd_sound.specs.Laws.{IsFit};
 ghost use Rattle.sd_steps.specs.Entering.{can_enter, can_steal, plan_enters};
 
 use crate::serial::plan_of;
+use arrayvec::ArrayVec;
 use sd_flat::{may_tick, numbers_shown};
 use sd_full::Plan;
 use sd_machine::State;
 use sd_mdisp::neighbours;
 use sd_types::{CpuId, Which, Work};
+
+/// The other open processors of the partition of processor `c`.
+fn neighbours_of(work: &Work, s: &State, c: CpuId) -> ArrayVec<CpuId, 64>
+    requires fit { IsFit work.now s.now }
+    ensures { result.items ≡ neighbours s.now c.0 }
+{
+    match neighbours(s, c) {
+        Ok(cpus) => cpus,
+        Err(never) => match never {},
+    }
+}
 
 /// A neighbour of processor `c` shows a thread on its queue that is bound to no processor.
 #[tactic(auto, unfolding(crate::specs::Entering::can_steal))]
@@ -21,13 +33,9 @@ fn can_steal(work: &Work, s: &State, c: CpuId) -> bool
     requires fit { IsFit work.now s.now }
     ensures { result ≡ can_steal s.now c.0 }
 {
-    match neighbours(s, c) {
-        Ok(cpus) => {
-            let numbers = numbers_shown(s, Which::Queued, cpus.as_slice());
-            numbers.as_slice().iter().any(|n| *n > 0)
-        }
-        Err(never) => match never {},
-    }
+    let cpus = neighbours_of(work, s, c);
+    let numbers = numbers_shown(s, Which::Queued, cpus.as_slice());
+    numbers.as_slice().iter().any(|n| *n > 0)
 }
 
 fn plan_enters(work: &Work, s: &State, c: CpuId, plan: Plan) -> bool

@@ -7,7 +7,7 @@ ghost use Rattle.sd_full.specs.Events.{allowed, hints_fit, next, plan_event, pla
 ghost use Rattle.sd_full.specs.Plans.{plan};
 ghost use Rattle.sd_full.specs.Runs.{serial_hints, shown};
 ghost use Rattle.sd_mdisp.specs.Reading.{parts};
-ghost use Rattle.sd_sound.specs.Possible.{IsFit};
+ghost use Rattle.sd_sound.specs.Laws.{IsFit};
 
 use sd_flat::numbers_shown;
 use sd_full::Plan;

@@ -5,8 +5,7 @@ ghost use Rattle.std.specs.Bool.{OnTrue, OnFalse};
 ghost use Rattle.sd_full.specs.Events.{after, next};
 ghost use Rattle.sd_full.specs.Needs.{Needs};
 ghost use Rattle.sd_full.specs.Runs.{IsReached, IsStep, final, turn};
-ghost use Rattle.sd_sound.specs.Laws.{HasSmallCounts};
-ghost use Rattle.sd_sound.specs.Possible.{IsFit};
+ghost use Rattle.sd_sound.specs.Laws.{HasSmallCounts, IsFit};
 
 use crate::equality::same_event;
 use crate::serial::serial_next;

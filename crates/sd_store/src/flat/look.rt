@@ -167,12 +167,13 @@ impl Look for State {
     }
 
     fn lock(&self, l: LockId) -> Result<LockState, Never> {
-        Ok(self
-            .locks
-            .items()
-            .get(l.0 as usize)
-            .copied()
-            .unwrap_or(LockState::Free))
+        Ok(
+            self.locks
+                .items()
+                .get(l.0 as usize)
+                .copied()
+                .unwrap_or(LockState::Free),
+        )
     }
 
     fn tokens(&self, k: ChanId) -> Result<u32, Never> {

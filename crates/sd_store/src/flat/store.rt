@@ -190,13 +190,7 @@ impl Store for State {
     }
 
     #[tactic(auto, unfolding(sd_full::specs::Changes::leave))]
-    fn leave(
-        &mut self,
-        number: u64,
-        c: CpuId,
-        t: ThreadId,
-        to: Destination,
-    ) -> Result<(), Never> {
+    fn leave(&mut self, number: u64, c: CpuId, t: ThreadId, to: Destination) -> Result<(), Never> {
         sd_flat::leave(self, c, t, place_by(number, c, to));
         Ok(())
     }

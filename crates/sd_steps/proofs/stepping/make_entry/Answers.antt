@@ -4,8 +4,9 @@ use Rattle.sd_types.specs.declared.events.Hints.{Hints}
 use Rattle.sd_full.specs.Events.{next}
 use Rattle.sd_full.specs.Runs.{final, made, serial_hints}
 use Rattle.sd_full.proofs.RunLemmas.{final-one, final-nil}
+use Rattle.sd_range.proofs.Range.{needs_reached}
 use Rattle.sd_sound.proofs.Whole.{fit_reached}
-use Rattle.sd_steps.proofs.Needed.{no_maker, maker_there, all_needed}
+use Rattle.sd_steps.proofs.Needed.{no_maker}
 use Rattle.sd_steps.proofs.stepping.make_entry.Goals as goal
 
 pub returns-then-c-work-clause-entry : goal.returns-then-c-work-clause-entry
@@ -22,54 +23,30 @@ returns-then-c-work-clause-state c =
     let h = serial_hints w s c.args.c in
     sym (final-nil w s) ∙ ap (λ (o : Option Event). final w s (made c.args.number c.args.c h o)) (sym (no_maker w s c.args.c h c.if-c-work.true))
 
-pub serial_hints-hints-requires-clause-fits : goal.serial_hints-hints-requires-clause-fits
-serial_hints-hints-requires-clause-fits c = (fit_reached c.args.work.now c.args.number c.args.s.now c.requires.small c.requires.reached).fits
+pub serial_next-hints-requires-clause-fit : goal.serial_next-hints-requires-clause-fit
+serial_next-hints-requires-clause-fit c = fit_reached c.args.work.now c.args.number c.args.s.now c.requires.small c.requires.reached
 
-pub serial_hints-hints-requires-clause-cpu : goal.serial_hints-hints-requires-clause-cpu
-serial_hints-hints-requires-clause-cpu c =
-    let many = (fit_reached c.args.work.now c.args.number c.args.s.now c.requires.small c.requires.reached).fits.cpus in
-    let inside = c.if-c-work.false in
-    omega (arith, many, inside)
+pub apply-requires-clause-fit : goal.apply-requires-clause-fit
+apply-requires-clause-fit c = fit_reached c.args.work.now c.args.number c.args.s.now c.requires.small c.requires.reached
 
-pub serial_hints-hints-requires-clause-counts : goal.serial_hints-hints-requires-clause-counts
-serial_hints-hints-requires-clause-counts c = (fit_reached c.args.work.now c.args.number c.args.s.now c.requires.small c.requires.reached).counts
-
-pub serial_hints-hints-requires-clause-willed : goal.serial_hints-hints-requires-clause-willed
-serial_hints-hints-requires-clause-willed c = (fit_reached c.args.work.now c.args.number c.args.s.now c.requires.small c.requires.reached).willed
-
-pub next-requires-clause-fits : goal.next-requires-clause-fits
-next-requires-clause-fits c = (fit_reached c.args.work.now c.args.number c.args.s.now c.requires.small c.requires.reached).fits
-
-pub next-requires-clause-counts : goal.next-requires-clause-counts
-next-requires-clause-counts c = (fit_reached c.args.work.now c.args.number c.args.s.now c.requires.small c.requires.reached).counts
-
-pub next-requires-clause-willed : goal.next-requires-clause-willed
-next-requires-clause-willed c = (fit_reached c.args.work.now c.args.number c.args.s.now c.requires.small c.requires.reached).willed
-
-pub after-requires-clause-fits : goal.after-requires-clause-fits
-after-requires-clause-fits c = (fit_reached c.args.work.now c.args.number c.args.s.now c.requires.small c.requires.reached).fits
-
-pub after-requires-clause-cpu : goal.after-requires-clause-cpu
-after-requires-clause-cpu c =
-    maker_there c.args.work.now c.args.number c.args.s.now c.args.c c.serial_hints-hints.result c.in-Some.event c.requires.small c.requires.reached (sym c.in-Some.ensures)
-
-pub after-requires-clause-required : goal.after-requires-clause-required
-after-requires-clause-required c =
-    all_needed c.args.work.now c.args.number c.args.s.now c.args.c c.serial_hints-hints.result c.in-Some.event c.requires.small c.requires.reached (sym c.in-Some.ensures)
+pub apply-requires-clause-needs : goal.apply-requires-clause-needs
+apply-requires-clause-needs c =
+    let w = c.args.work.now in
+    let s = c.args.s.now in
+    needs_reached w c.args.number s c.args.c (serial_hints w s c.args.c) c.in-Some.event c.requires.small c.requires.reached
+    (sym c.serial_next-hints.ensures.event ∙ c.in-Some.is)
 
 pub returns-in-Some-clause-state : goal.returns-in-Some-clause-state
 returns-in-Some-clause-state c =
     let w = c.args.work.now in
     let s = c.args.s.now in
-    let h = c.serial_hints-hints.result in
-    c.after.ensures ∙ sym (final-one w s (record { number = c.args.number; cpu = c.args.c; event = c.in-Some.event; hints = h }))
-    ∙ ap (λ (o : Option Event). final w s (made c.args.number c.args.c h o)) c.in-Some.ensures
-    ∙ ap (λ (x : Option Hints). final w s (made c.args.number c.args.c x (next w s c.args.c x))) c.serial_hints-hints.ensures
+    let h = serial_hints w s c.args.c in
+    c.apply.ensures ∙ sym (final-one w s (record { number = c.args.number; cpu = c.args.c; event = c.in-Some.event; hints = h }))
+    ∙ ap (λ (o : Option Event). final w s (made c.args.number c.args.c h o)) (sym c.in-Some.is ∙ c.serial_next-hints.ensures.event)
 
 pub returns-in-None-clause-state : goal.returns-in-None-clause-state
 returns-in-None-clause-state c =
     let w = c.args.work.now in
     let s = c.args.s.now in
-    let h = c.serial_hints-hints.result in
-    sym (final-nil w s) ∙ ap (λ (o : Option Event). final w s (made c.args.number c.args.c h o)) c.in-None.ensures
-    ∙ ap (λ (x : Option Hints). final w s (made c.args.number c.args.c x (next w s c.args.c x))) c.serial_hints-hints.ensures
+    let h = serial_hints w s c.args.c in
+    sym (final-nil w s) ∙ ap (λ (o : Option Event). final w s (made c.args.number c.args.c h o)) (sym c.in-None.is ∙ c.serial_next-hints.ensures.event)
