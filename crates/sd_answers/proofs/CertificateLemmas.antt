@@ -5,6 +5,7 @@ use Rattle.std.proofs.lemmas.Result.{err_from_is_err_and}
 use Rattle.sd_types.specs.declared.works.Work.{Work}
 use Rattle.sd_declare.specs.declared.causes.WorkCause.{WorkCause}
 use Rattle.sd_workload.specs.Accepted.{Accepted, FirstCause}
+use Rattle.sd_workload.proofs.OneLemmas.{one-work}
 use Rattle.sd_cut.specs.Cuts.{HasNoJournal, IsCut}
 use Rattle.sd_cut.proofs.CutLemmas.{before_same, after_same, none_cut}
 use Rattle.sd_audit.specs.declared.audits.AuditFault.{AuditFault}
@@ -19,7 +20,7 @@ use Rattle.sd_answers.specs.Answers.{status_of, audit_answer, audit_fault}
 use Rattle.sd_answers.specs.Inputs.{most_certificate, HasRead, HasParts, IsCertificate, IsNoCertificate}
 use Rattle.sd_answers.specs.StreamChanges.{StreamChange}
 use Rattle.sd_answers.specs.Certificates.{IsJournalOf, HoldsJournal, IsFaulty, RefusesJournal, IsJudged, Writes, CausedByCertificate, Certifies, CompletesCertificate, RefusesFaulty, IsNone, RefusesCertificate}
-use Rattle.sd_answers.proofs.InputLemmas.{taken_within, taken_all, at_most_of, not_both}
+use Rattle.sd_answers.proofs.InputLemmas.{taken_within, taken_all, at_most_of, not_too_many, not_both}
 
 -- ---- what is certified of the bytes of an input, and what was read of it
 
@@ -50,11 +51,13 @@ module _ (input : StreamChange) (bytes text : List ℕ) (P : Work → Type 0) (i
   not_large large = let bound = c.bound in let many = large.many in absurd (omega (arith, ap length (same_before large.before large.text large.parts)))
 
   not_fault : (line : ℕ) (cause : WorkCause) → IsNoCertificate input (Refused line cause) → ⊥
-  not_fault line cause none = not_both c.before c.some.0 line cause c.some.1 (subst (λ bs. FirstCause bs line cause) (same_before none.before none.text none.parts) none.first)
+  not_fault line cause none = not_both c.before c.work line cause c.accepted (subst (λ bs. FirstCause bs line cause) (same_before none.before none.text none.parts) none.first)
 
   -- the property of the workload that was found
   its_property : (w : Work) (rest : List ℕ) → IsCertificate input w rest → P w
-  its_property w rest found = c.each w (subst (λ bs. Accepted bs w) (same_before found.before rest found.parts) found.accepted)
+  its_property w rest found =
+      let accepted : Accepted c.before w = subst (λ bs. Accepted bs w) (same_before found.before rest found.parts) found.accepted in
+      subst P (one-work c.before c.work w c.accepted accepted) c.holds
 
   its_text : (w : Work) (rest : List ℕ) → IsCertificate input w rest → rest ≡ text
   its_text w rest found = same_text found.before rest found.parts
@@ -175,18 +178,18 @@ module _ {X : Type 0} (Made : X → Type 0) (written : X → List ℕ) (input ou
     unmade bytes made is none m = let h = held made m in no_certificate input bytes is none h.work h.text h.certificate
 
     pub refuses_certificate_of : (a : Answer) → CausedByCertificate Made written input out a → RefusesCertificate input (status_of a)
-    refuses_certificate_of Done c = λ sound bytes is none. absurd (unmade bytes c.0 is none c.1)
-    refuses_certificate_of TooLarge c = λ sound bytes is none. inl refl
-    refuses_certificate_of TooLargeToAudit c = λ sound bytes is none. inl refl
-    refuses_certificate_of NoJournal c = λ sound bytes is none. inl refl
-    refuses_certificate_of (Refused line cause) c = λ sound bytes is none. inl refl
-    refuses_certificate_of ReadFault c = λ sound bytes is none. absurd (sound c.0)
+    refuses_certificate_of Done c = λ sound bytes is. (λ many. absurd (unmade bytes c.0 is (inl many) c.1), λ none. absurd (unmade bytes c.0 is none c.1))
+    refuses_certificate_of TooLarge c = λ sound bytes is. (λ many. refl, λ none. inl refl)
+    refuses_certificate_of TooLargeToAudit c = λ sound bytes is. (λ many. refl, λ none. inl refl)
+    refuses_certificate_of NoJournal c = λ sound bytes is. (λ many. refl, λ none. inl refl)
+    refuses_certificate_of (Refused line cause) c = λ sound bytes is. (λ many. refl, λ none. inl refl)
+    refuses_certificate_of ReadFault c = λ sound bytes is. (λ many. absurd (sound c.0), λ none. absurd (sound c.0))
     refuses_certificate_of Usage c = absurd c
     refuses_certificate_of Blocked c = absurd c
     refuses_certificate_of TooLong c = absurd c
-    refuses_certificate_of OutOfMemory c = λ sound bytes is none. inr refl
-    refuses_certificate_of WriteFault c = λ sound bytes is none. absurd (unmade bytes c.0 is none c.1)
-    refuses_certificate_of (NotAJournal fault) c = λ sound bytes is none. absurd (no_certificate input bytes is none c.0.work c.0.text c.0.certificate)
+    refuses_certificate_of OutOfMemory c = λ sound bytes is. (λ many. absurd (let few = not_too_many most_certificate input bytes c.0 is in omega arith), λ none. inr refl)
+    refuses_certificate_of WriteFault c = λ sound bytes is. (λ many. absurd (unmade bytes c.0 is (inl many) c.1), λ none. absurd (unmade bytes c.0 is none c.1))
+    refuses_certificate_of (NotAJournal fault) c = λ sound bytes is. (λ many. absurd (no_certificate input bytes is (inl many) c.0.work c.0.text c.0.certificate), λ none. absurd (no_certificate input bytes is none c.0.work c.0.text c.0.certificate))
 
 -- ---- the answer of a program
 

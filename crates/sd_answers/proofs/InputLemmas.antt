@@ -41,7 +41,13 @@ taken_all (Some ys) (Some (z ∷ zs)) bs xs c end e = cc
 
 -- what was read to its end is no more than an input may have
 pub at_most_of : (most : ℕ) (input : StreamChange) (bytes : List ℕ) → HasRead most input bytes → HasAtMost most input
-at_most_of most input bytes read = record { bytes = bytes; took = read.took; bound = read.bound; no_fault = read.no_fault }
+at_most_of most input bytes read = record { bytes = bytes; took = read.took; to_end = read.to_end; bound = read.bound; no_fault = read.no_fault }
+
+-- and what has no more is not too large
+pub not_too_many : (most : ℕ) (input : StreamChange) (bytes : List ℕ) → HasAtMost most input → input.before ≡ Some bytes → length bytes ≤ most
+not_too_many most input bytes few is =
+    let bound = few.bound in
+    omega (arith, ap length (taken_all input.before input.after few.bytes bytes few.took few.to_end is))
 
 -- a text is not both accepted and refused
 pub not_both : (bytes : List ℕ) (w : Work) (line : ℕ) (cause : WorkCause) → Accepted bytes w → FirstCause bytes line cause → ⊥
@@ -51,21 +57,22 @@ not_both bytes w line cause accepted first = cc (accepted.accepted)
 
 -- it was not read
 pub unread_of : (input : StreamChange) (r : Result (Vec ℕ Global) ReadAllFault) → TakesUpTo most_bytes input.before input.after r
-    → (IsErrOf r read.ReadFault → HasFault input) → (¬ IsErrOf r read.ReadFault → HasNoFault input)
+    → (IsErrOf r read.ReadFault → HasFault input) → (¬ IsErrOf r read.ReadFault → HasNoFault input) → (IsErrOf r read.Memory → IsAtEnd input.after)
     → IfErr r (λ fault. IsRefused input (read_answer fault))
-unread_of input (Ok v) taken fault none = tt
-unread_of input (Err read.ReadFault) taken fault none = fault refl
-unread_of input (Err read.TooLarge) taken fault none = record {
+unread_of input (Ok v) taken fault none end = tt
+unread_of input (Err read.ReadFault) taken fault none end = fault refl
+unread_of input (Err read.TooLarge) taken fault none end = record {
   bytes = taken.bytes;
   took = taken.consumed;
   many = taken.too_large.0 refl;
   no_fault = none (λ e. cc);
 }
-unread_of input (Err read.Memory) taken fault none =
+unread_of input (Err read.Memory) taken fault none end =
     let few : length taken.bytes ≢ most_bytes + 1 = λ many. absurd (let e = taken.too_large.1 many in cc) in
     record {
       bytes = taken.bytes;
       took = taken.consumed;
+      to_end = end refl;
       bound = omega (arith, taken.bound);
       no_fault = none (λ e. cc);
     }

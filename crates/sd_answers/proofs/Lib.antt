@@ -1,3 +1,4 @@
 pub mod CertificateLemmas
 pub mod InputLemmas
 pub mod PutLemmas
+pub mod WordLemmas

@@ -11,7 +11,7 @@ use Rattle.sd_answers.specs.declared.answers.JournalFault.{JournalFault}
 use Rattle.sd_answers.specs.declared.answers.Answer.{Answer}
 use Rattle.sd_answers.specs.declared.answers.Answer.TheVariants.{Done, TooLarge, TooLargeToAudit, NoJournal, Refused, ReadFault, WriteFault, OutOfMemory, NotAJournal}
 use Rattle.sd_answers.specs.Answers.{audit_fault}
-use Rattle.sd_answers.specs.Inputs.{most_bytes, most_certificate, HasAtMost, IsCertificate, IsNoCertificate}
+use Rattle.sd_answers.specs.Inputs.{most_bytes, most_certificate, IsCertificate, IsNoCertificate}
 use Rattle.sd_answers.specs.StreamChanges.{StreamChange, HasFault, HasNoFault, IsUntouched, AppendsPart}
 
 -- the text is the journal of a complete run of the workload
@@ -58,22 +58,21 @@ CausedByCertificate Made written input out (Refused line cause) = IsNoCertificat
 CausedByCertificate Made written input out ReadFault = IsNoCertificate input ReadFault × IsUntouched out
 CausedByCertificate Made written input out (NotAJournal fault) = IsFaulty input fault × IsUntouched out
 CausedByCertificate {X} Made written input out WriteFault = (made : X) × Made made × HasFault out × AppendsPart out.before out.after (written made)
-CausedByCertificate {X} Made written input out OutOfMemory =
-    HasAtMost most_certificate input × HasNoFault out
-    × (IsUntouched out ⊎ ((made : X) × Made made × AppendsPart out.before out.after (written made)))
+CausedByCertificate Made written input out OutOfMemory = IsNoCertificate input OutOfMemory × IsUntouched out
 CausedByCertificate Made written input out _ = ⊥
 
 -- ---- the other sides, of an input that tells its bytes
 
 -- These are the bytes of the input: an accepted workload of no more than it may have, the line `journal` and the text, of
--- which this holds, with each workload that the part before this line is accepted as. (All of them have the same parts.)
+-- which this holds with the workload as which the part before this line is accepted. (It is accepted as one alone.)
 pub record Certifies (bytes text : List ℕ) (P : Work → Type 0) : Type 0 where
   pub before : List ℕ
   pub many : length bytes ≤ most_certificate
   pub cut : IsCut bytes before text
   pub bound : length before ≤ most_bytes
-  pub some : (w : Work) × Accepted before w
-  pub each : (w : Work) → Accepted before w → P w
+  pub work : Work
+  pub accepted : Accepted before work
+  pub holds : P work
 
 -- a text that is the journal of a complete run is found to be, unless memory runs out
 abbrev pub CompletesCertificate : StreamChange → StreamChange → ℕ → Type 0
@@ -94,4 +93,6 @@ IsNone bytes =
     ⊎ (HasNoJournal bytes ⊎ ((before : List ℕ) × (text : List ℕ) × IsCut bytes before text × ((most_bytes < length before) ⊎ ((w : Work) → Accepted before w → ⊥))))
 
 abbrev pub RefusesCertificate : StreamChange → ℕ → Type 0
-RefusesCertificate input status = (HasFault input → ⊥) → (bytes : List ℕ) → input.before ≡ Some bytes → IsNone bytes → (status ≡ 2) ⊎ (status ≡ 5)
+RefusesCertificate input status =
+    (HasFault input → ⊥) → (bytes : List ℕ) → input.before ≡ Some bytes
+    → (most_certificate < length bytes → status ≡ 2) × (IsNone bytes → (status ≡ 2) ⊎ (status ≡ 5))

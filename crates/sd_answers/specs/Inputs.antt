@@ -21,10 +21,11 @@ most_bytes = 1048576
 abbrev pub most_certificate : ℕ
 most_certificate = 134217728
 
--- no more was read than this, without a fault
+-- the input was read to its end, without a fault, and has no more bytes than this
 pub record HasAtMost (most : ℕ) (input : StreamChange) : Type 0 where
   pub bytes : List ℕ
   pub took : Consumes input.before input.after bytes
+  pub to_end : IsAtEnd input.after
   pub bound : length bytes ≤ most
   pub no_fault : HasNoFault input
 

@@ -1,12 +1,16 @@
-//! The answers of a call of the program: exit statuses, lines on the error output, what was read of the input as a workload
-//! or as a workload with the journal of a run, and texts written line by line.
+//! The answers of a call of the program: exit statuses, lines on the error output, the arguments, what was read of the input as
+//! a workload or as a workload with the journal of a run, and texts written line by line.
 #![tactic(auto)]
 
 mod answers;
+mod arguments;
 mod inputs;
+mod laws;
 mod refusals;
 mod writing;
 
 pub use answers::{Answer, JournalFault};
+pub use arguments::behind_name;
 pub use inputs::{Certificate, read_certificate, read_input};
+pub use laws::accepted_texts_have_no_journal;
 pub use writing::{Unwritten, put_line, put_pieces, put_text};

@@ -66,7 +66,8 @@ fn line_end(text: &[u8], from: usize) -> usize
 
 /// Writes a text, line by line.
 pub fn put_text<K: Sink>(out: &mut K, text: &[u8]) -> Result<(), Unwritten>
-    ensures { Puts (K.contents out.old) (K.contents out.new) (K.fault_count out.old) (K.fault_count out.new) text.now result }
+    ensures puts { Puts (K.contents out.old) (K.contents out.new) (K.fault_count out.old) (K.fault_count out.new) text.now result }
+    ensures no_memory { IsErrOf result Memory → ⊥ }
 {
     let mut from = 0;
     while from < text.len() {

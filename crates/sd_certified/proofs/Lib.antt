@@ -1,3 +1,4 @@
 pub mod EntryLemmas
 pub mod HintLemmas
+pub mod JournalLemmas
 pub mod PlanLemmas

@@ -1,6 +1,7 @@
 -- That what a run makes can be read again.
 -- Source: this project's own.
-use Rattle.std.specs.Prelude.{ℕ, ◌<◌, ◌^◌, List, length, IsTrue}
+use Rattle.std.specs.Prelude.{◌≡◌, ℕ, ◌<◌, ◌^◌, List, length, IsTrue}
+use Rattle.std.specs.List.{All}
 use Rattle.sd_types.specs.declared.events.Entry.{Entry}
 use Rattle.sd_types.specs.declared.works.Work.{Work}
 use Rattle.sd_machine.specs.declared.states.State.{State}
@@ -20,3 +21,7 @@ EntriesAreSpelled =
 abbrev pub SerialJournalsAreJournals : Type 0
 SerialJournalsAreJournals =
     (w : Work) (turns : Turns) (es : List Entry) → HasSmallCounts w → IsSerial w (orders_of w turns) es → length es < 2 ^ 40 → IsJournal w (journal w es) (final w (opening w) es) (length es)
+
+-- a journal has the entries of one run alone: of entries that have lines of their own, no others have the same journal
+abbrev pub JournalsTellEntries : Type 0
+JournalsTellEntries = (w : Work) (es fs : List Entry) → All (IsSpelled w) es → All (IsSpelled w) fs → journal w es ≡ journal w fs → es ≡ fs

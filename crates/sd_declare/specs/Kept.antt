@@ -1,5 +1,5 @@
 -- What the reader keeps of the lines above, as plain data.
-use Rattle.std.specs.Prelude.{◌≡◌, ℕ, List, map, Option, Some, option_map}
+use Rattle.std.specs.Prelude.{◌≡◌, ℕ, List, map, Option, Some, None, option_map}
 use Rattle.std.specs.Prelude.{Vec}
 use Rattle.std.specs.declared.alloc.Global.{Global}
 use Rattle.sd_types.specs.declared.numbers.CpuId.{CpuId}
@@ -48,7 +48,7 @@ declarations d = record {
   scripted = d.scripted.items;
 }
 
--- a refusal names the cause, or says that memory ran out
+-- a refusal names the cause, or says that memory ran out, which it does only where there is no cause
 abbrev pub IsRefusal : Option WorkCause → Refusal → Type 0
 IsRefusal found (Cause cause) = found ≡ Some cause
-IsRefusal found Memory = Unit {0}
+IsRefusal found Memory = found ≡ None

@@ -1,6 +1,6 @@
 //! Locks, channels and threads.
 
-ghost use Rattle.std.specs.Prelude.{◌≡◌, [], None, Some, OnOk, IfErr};
+ghost use Rattle.std.specs.Prelude.{◌≡◌, [], None, Some, OnErr, OnOk, IfErr};
 ghost use Rattle.sd_lines.specs.Said.{word_of, thread_said};
 ghost use Rattle.sd_declare.specs.Causes.{least};
 ghost use Rattle.sd_declare.specs.Statements.{lock_causes, chan_causes, sema_causes, thread_causes, with_lock, with_chan, with_thread};
@@ -24,6 +24,7 @@ pub fn take_lock(d: &mut Declared, kind: LockKind, name: Name) -> Result<(), Ref
     ensures ok { OnOk result (least (lock_causes (declarations d.old) (word_of name)) ≡ None) }
     ensures err { IfErr result (IsRefusal (least (lock_causes (declarations d.old) (word_of name)))) }
     ensures new { OnOk result (declarations d.new ≡ with_lock (declarations d.old) kind (word_of name)) }
+    ensures kept { OnErr result (declarations d.new ≡ declarations d.old) }
 {
     if lock_number(d, &name) < d.locks.len() {
         return Err(Refusal::Cause(WorkCause::Twice));
@@ -40,6 +41,7 @@ pub fn take_chan(d: &mut Declared, name: Name) -> Result<(), Refusal>
     ensures ok { OnOk result (least (chan_causes (declarations d.old) (word_of name)) ≡ None) }
     ensures err { IfErr result (IsRefusal (least (chan_causes (declarations d.old) (word_of name)))) }
     ensures new { OnOk result (declarations d.new ≡ with_chan (declarations d.old) ChanKind.Chan (word_of name)) }
+    ensures kept { OnErr result (declarations d.new ≡ declarations d.old) }
 {
     if chan_number(d, &name) < d.chans.len() {
         return Err(Refusal::Cause(WorkCause::Twice));
@@ -56,6 +58,7 @@ pub fn take_sema(d: &mut Declared, name: Name, count: u64) -> Result<(), Refusal
     ensures ok { OnOk result (least (sema_causes (declarations d.old) (word_of name) count) ≡ None) }
     ensures err { IfErr result (IsRefusal (least (sema_causes (declarations d.old) (word_of name) count))) }
     ensures new { OnOk result (declarations d.new ≡ with_chan (declarations d.old) (ChanKind.Sema count) (word_of name)) }
+    ensures kept { OnErr result (declarations d.new ≡ declarations d.old) }
 {
     if chan_number(d, &name) < d.chans.len() {
         return Err(Refusal::Cause(WorkCause::Twice));
@@ -83,6 +86,7 @@ pub fn take_thread(alloc: Global, d: &mut Declared, line: ThreadLine) -> Result<
     ensures ok { OnOk result (least (thread_causes (declarations d.old) (thread_said line)) ≡ None) }
     ensures err { IfErr result (IsRefusal (least (thread_causes (declarations d.old) (thread_said line)))) }
     ensures new { OnOk result (declarations d.new ≡ with_thread (declarations d.old) (thread_said line)) }
+    ensures kept { OnErr result (declarations d.new ≡ declarations d.old) }
 {
     let set = set_of(d, &line.options.set)?;
     if thread_number(d, &line.name) < d.threads.len() {

@@ -2,7 +2,7 @@
 //!
 //! Source: psrset(1M).
 
-ghost use Rattle.std.specs.Prelude.{◌≡◌, ◌==◌, ◌+◌, ◌≤◌, ◌<◌, ◌^◌, ◌++◌, ◌∷◌, [], false, nat_le, length, map, sum_by, All, None, Some, OnOk, IfOk, IfErr};
+ghost use Rattle.std.specs.Prelude.{◌≡◌, ◌==◌, ◌+◌, ◌≤◌, ◌<◌, ◌^◌, ◌++◌, ◌∷◌, [], false, nat_le, length, map, sum_by, All, None, Some, OnErr, OnOk, IfOk, IfErr};
 ghost use Rattle.std.specs.List.{list_any};
 ghost use Rattle.sd_types.specs.Works.{is_distinct};
 ghost use Rattle.sd_types.specs.Partitions.{cpu_of_number};
@@ -145,6 +145,7 @@ fn put_set(d: &mut Declared, name: Name, ids: List<CpuId>) -> Result<(), Refusal
     requires room { length d.old.sets.items < 8 }
     ensures ok { OnOk result (declarations d.new ≡ record (declarations d.old) { sets = (declarations d.old).sets ++ (word_of name, ids) ∷ [] }) }
     ensures err { IfErr result (λ refusal. refusal ≡ Refusal.Memory) }
+    ensures kept { OnErr result (declarations d.new ≡ declarations d.old) }
 {
     d.sets.push((name, ids))?;
     Ok(())
@@ -155,6 +156,7 @@ pub fn take_set(alloc: Global, d: &mut Declared, name: Name, cpus: &[u64]) -> Re
     ensures ok { OnOk result (least (set_causes (declarations d.old) (word_of name) cpus.now) ≡ None) }
     ensures err { IfErr result (IsRefusal (least (set_causes (declarations d.old) (word_of name) cpus.now))) }
     ensures new { OnOk result (declarations d.new ≡ with_set (declarations d.old) (word_of name) cpus.now) }
+    ensures kept { OnErr result (declarations d.new ≡ declarations d.old) }
 {
     judge_set(d, &name, cpus)?;
     let ids = cpu_ids(alloc, cpus)?;

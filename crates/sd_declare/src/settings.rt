@@ -1,6 +1,6 @@
 //! The settings: processors, ticks of a second, ticks of each processor.
 
-ghost use Rattle.std.specs.Prelude.{◌≡◌, None, Some, OnOk, IfErr};
+ghost use Rattle.std.specs.Prelude.{◌≡◌, None, Some, OnErr, OnOk, IfErr};
 ghost use Rattle.sd_declare.specs.Causes.{least};
 ghost use Rattle.sd_declare.specs.Statements.{cpus_causes, hz_causes, limit_causes};
 ghost use Rattle.sd_declare.specs.Kept.{declarations};
@@ -12,6 +12,7 @@ pub fn take_cpus(d: &mut Declared, n: u64) -> Result<(), WorkCause>
     ensures ok { OnOk result (least (cpus_causes (declarations d.old) n) ≡ None) }
     ensures err { IfErr result (λ cause. least (cpus_causes (declarations d.old) n) ≡ Some cause) }
     ensures new { OnOk result (declarations d.new ≡ record (declarations d.old) { cpus = Some n }) }
+    ensures kept { OnErr result (declarations d.new ≡ declarations d.old) }
 {
     if !d.sets.is_empty() {
         return Err(WorkCause::Syntax);
@@ -31,6 +32,7 @@ pub fn take_hz(d: &mut Declared, n: u64) -> Result<(), WorkCause>
     ensures ok { OnOk result (least (hz_causes (declarations d.old) n) ≡ None) }
     ensures err { IfErr result (λ cause. least (hz_causes (declarations d.old) n) ≡ Some cause) }
     ensures new { OnOk result (declarations d.new ≡ record (declarations d.old) { hz = Some n }) }
+    ensures kept { OnErr result (declarations d.new ≡ declarations d.old) }
 {
     if d.hz.is_some() {
         return Err(WorkCause::Twice);
@@ -47,6 +49,7 @@ pub fn take_limit(d: &mut Declared, n: u64) -> Result<(), WorkCause>
     ensures ok { OnOk result (least (limit_causes (declarations d.old) n) ≡ None) }
     ensures err { IfErr result (λ cause. least (limit_causes (declarations d.old) n) ≡ Some cause) }
     ensures new { OnOk result (declarations d.new ≡ record (declarations d.old) { limit = Some n }) }
+    ensures kept { OnErr result (declarations d.new ≡ declarations d.old) }
 {
     if d.limit.is_some() {
         return Err(WorkCause::Twice);

@@ -1,6 +1,6 @@
 //! The lines outside blocks: judged, and taken.
 
-ghost use Rattle.std.specs.Prelude.{◌≡◌, ◌<◌, ◌==◌, length, None, Some, OnOk, IfOk, IfErr};
+ghost use Rattle.std.specs.Prelude.{◌≡◌, ◌<◌, ◌==◌, length, None, Some, OnErr, OnOk, IfOk, IfErr};
 ghost use Rattle.std.specs.List.{list_any};
 ghost use Rattle.sd_lines.specs.Said.{word_of, statement_said};
 ghost use Rattle.sd_declare.specs.Causes.{least};
@@ -74,6 +74,7 @@ pub fn take_statement(alloc: Global, d: &mut Declared, s: Statement) -> Result<O
     ensures ok { OnOk result (least (statement_causes (declarations d.old) (statement_said s)) ≡ None) }
     ensures err { IfErr result (IsRefusal (least (statement_causes (declarations d.old) (statement_said s)))) }
     ensures new { OnOk result (declarations d.new ≡ with_statement (declarations d.old) (statement_said s)) }
+    ensures kept { OnErr result (declarations d.new ≡ declarations d.old) }
     ensures opened { IfOk result (λ o. o ≡ opened_by (declarations d.old) (statement_said s)) }
     ensures within { IfOk result (IsOpenWithin (length d.new.threads.items)) }
 {

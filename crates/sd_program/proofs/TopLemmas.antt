@@ -27,8 +27,8 @@ use Rattle.sd_answers.specs.StreamChanges.{StreamChange, HasFault, IsUntouched, 
 use Rattle.sd_program.specs.Forms.{command_of, turns_of, text_of}
 use Rattle.sd_program.specs.RunAnswers.{Writes, Ran}
 use Rattle.sd_program.specs.TheRun.{IsTheRun}
-use Rattle.sd_answers.specs.Inputs.{most_bytes, HasTooMany, IsWorkload, IsNoWorkload, IsRefused}
-use Rattle.sd_answers.proofs.InputLemmas.{taken_within, taken_all, at_most_of, not_both}
+use Rattle.sd_answers.specs.Inputs.{most_bytes, HasAtMost, HasTooMany, IsWorkload, IsNoWorkload, IsRefused}
+use Rattle.sd_answers.proofs.InputLemmas.{taken_within, taken_all, at_most_of, not_too_many as within_most, not_both}
 use Rattle.sd_program.specs.Headline.{RanInput, CausedByInput, PrintsTables, CausedByTables, CausedByNumber, CausedBy, Caused, Completes, CompletesTables, Refuses}
 
 -- what the arguments ask for is one thing
@@ -160,33 +160,37 @@ no_workload input bytes is (inl many) w found =
 no_workload input bytes is (inr none) w found =
     none w (subst (λ bs. Accepted bs w) (taken_all input.before input.after found.bytes bytes found.read.took found.read.to_end is) found.accepted)
 
+-- nor has it no more bytes than it may have
+too_many_for : (input : StreamChange) (bytes : List ℕ) → HasAtMost most_bytes input → input.before ≡ Some bytes → most_bytes < length bytes → status_of OutOfMemory ≡ 2
+too_many_for input bytes few is many = let within = within_most most_bytes input bytes few is in absurd (omega arith)
+
 pub refuses_of : (arguments : List (List ℕ)) (form : Form) (input out : StreamChange) (a : Answer) → command_of arguments ≡ Some (Run form) → Caused arguments input out a → Refuses input (status_of a)
-refuses_of arguments form input out Done known c = λ sound bytes is bad. let d = subst (λ k. CausedBy k input out Done) (same_command arguments c.0 (Run form) c.1 known) c.2 in absurd (no_workload input bytes is bad d.0 d.1)
-refuses_of arguments form input out Usage known c = λ sound bytes is bad. absurd (some_command arguments (Run form) known c.0)
-refuses_of arguments form input out TooLarge known c = λ sound bytes is bad. inl refl
-refuses_of arguments form input out TooLargeToAudit known c = λ sound bytes is bad. absurd (subst (λ k. CausedBy k input out TooLargeToAudit) (same_command arguments c.0 (Run form) c.1 known) c.2)
-refuses_of arguments form input out NoJournal known c = λ sound bytes is bad. absurd (subst (λ k. CausedBy k input out NoJournal) (same_command arguments c.0 (Run form) c.1 known) c.2)
-refuses_of arguments form input out (NotAJournal fault) known c = λ sound bytes is bad. absurd (subst (λ k. CausedBy k input out (NotAJournal fault)) (same_command arguments c.0 (Run form) c.1 known) c.2)
-refuses_of arguments form input out (Refused line cause) known c = λ sound bytes is bad. inl refl
-refuses_of arguments form input out ReadFault known c = λ sound bytes is bad. absurd (sound (subst (λ k. CausedBy k input out ReadFault) (same_command arguments c.0 (Run form) c.1 known) c.2).0)
-refuses_of arguments form input out WriteFault known c = λ sound bytes is bad. let d = subst (λ k. CausedBy k input out WriteFault) (same_command arguments c.0 (Run form) c.1 known) c.2 in absurd (no_workload input bytes is bad d.0 d.1)
-refuses_of arguments form input out OutOfMemory known c = λ sound bytes is bad. inr refl
-refuses_of arguments form input out Blocked known c = λ sound bytes is bad. let d = subst (λ k. CausedBy k input out Blocked) (same_command arguments c.0 (Run form) c.1 known) c.2 in absurd (no_workload input bytes is bad d.0 d.1)
-refuses_of arguments form input out TooLong known c = λ sound bytes is bad. let d = subst (λ k. CausedBy k input out TooLong) (same_command arguments c.0 (Run form) c.1 known) c.2 in absurd (no_workload input bytes is bad d.0 d.1)
+refuses_of arguments form input out Done known c = λ sound bytes is. (λ many. let d = subst (λ k. CausedBy k input out Done) (same_command arguments c.0 (Run form) c.1 known) c.2 in absurd (no_workload input bytes is (inl many) d.0 d.1), λ none. let d = subst (λ k. CausedBy k input out Done) (same_command arguments c.0 (Run form) c.1 known) c.2 in absurd (no_workload input bytes is (inr none) d.0 d.1))
+refuses_of arguments form input out Usage known c = λ sound bytes is. (λ many. absurd (some_command arguments (Run form) known c.0), λ none. absurd (some_command arguments (Run form) known c.0))
+refuses_of arguments form input out TooLarge known c = λ sound bytes is. (λ many. refl, λ none. inl refl)
+refuses_of arguments form input out TooLargeToAudit known c = λ sound bytes is. (λ many. absurd (subst (λ k. CausedBy k input out TooLargeToAudit) (same_command arguments c.0 (Run form) c.1 known) c.2), λ none. absurd (subst (λ k. CausedBy k input out TooLargeToAudit) (same_command arguments c.0 (Run form) c.1 known) c.2))
+refuses_of arguments form input out NoJournal known c = λ sound bytes is. (λ many. absurd (subst (λ k. CausedBy k input out NoJournal) (same_command arguments c.0 (Run form) c.1 known) c.2), λ none. absurd (subst (λ k. CausedBy k input out NoJournal) (same_command arguments c.0 (Run form) c.1 known) c.2))
+refuses_of arguments form input out (NotAJournal fault) known c = λ sound bytes is. (λ many. absurd (subst (λ k. CausedBy k input out (NotAJournal fault)) (same_command arguments c.0 (Run form) c.1 known) c.2), λ none. absurd (subst (λ k. CausedBy k input out (NotAJournal fault)) (same_command arguments c.0 (Run form) c.1 known) c.2))
+refuses_of arguments form input out (Refused line cause) known c = λ sound bytes is. (λ many. refl, λ none. inl refl)
+refuses_of arguments form input out ReadFault known c = λ sound bytes is. (λ many. absurd (sound (subst (λ k. CausedBy k input out ReadFault) (same_command arguments c.0 (Run form) c.1 known) c.2).0), λ none. absurd (sound (subst (λ k. CausedBy k input out ReadFault) (same_command arguments c.0 (Run form) c.1 known) c.2).0))
+refuses_of arguments form input out WriteFault known c = λ sound bytes is. (λ many. let d = subst (λ k. CausedBy k input out WriteFault) (same_command arguments c.0 (Run form) c.1 known) c.2 in absurd (no_workload input bytes is (inl many) d.0 d.1), λ none. let d = subst (λ k. CausedBy k input out WriteFault) (same_command arguments c.0 (Run form) c.1 known) c.2 in absurd (no_workload input bytes is (inr none) d.0 d.1))
+refuses_of arguments form input out OutOfMemory known c = λ sound bytes is. (λ many. let d = subst (λ k. CausedBy k input out OutOfMemory) (same_command arguments c.0 (Run form) c.1 known) c.2 in too_many_for input bytes d.0 is many, λ none. inr refl)
+refuses_of arguments form input out Blocked known c = λ sound bytes is. (λ many. let d = subst (λ k. CausedBy k input out Blocked) (same_command arguments c.0 (Run form) c.1 known) c.2 in absurd (no_workload input bytes is (inl many) d.0 d.1), λ none. let d = subst (λ k. CausedBy k input out Blocked) (same_command arguments c.0 (Run form) c.1 known) c.2 in absurd (no_workload input bytes is (inr none) d.0 d.1))
+refuses_of arguments form input out TooLong known c = λ sound bytes is. (λ many. let d = subst (λ k. CausedBy k input out TooLong) (same_command arguments c.0 (Run form) c.1 known) c.2 in absurd (no_workload input bytes is (inl many) d.0 d.1), λ none. let d = subst (λ k. CausedBy k input out TooLong) (same_command arguments c.0 (Run form) c.1 known) c.2 in absurd (no_workload input bytes is (inr none) d.0 d.1))
 
 pub refuses_tables_of : (arguments : List (List ℕ)) (input out : StreamChange) (a : Answer) → command_of arguments ≡ Some Tables → Caused arguments input out a → Refuses input (status_of a)
-refuses_tables_of arguments input out Done known c = λ sound bytes is bad. let d = subst (λ k. CausedBy k input out Done) (same_command arguments c.0 Tables c.1 known) c.2 in absurd (no_workload input bytes is bad d.0 d.1)
-refuses_tables_of arguments input out Usage known c = λ sound bytes is bad. absurd (some_command arguments Tables known c.0)
-refuses_tables_of arguments input out TooLarge known c = λ sound bytes is bad. inl refl
-refuses_tables_of arguments input out TooLargeToAudit known c = λ sound bytes is bad. absurd (subst (λ k. CausedBy k input out TooLargeToAudit) (same_command arguments c.0 Tables c.1 known) c.2)
-refuses_tables_of arguments input out NoJournal known c = λ sound bytes is bad. absurd (subst (λ k. CausedBy k input out NoJournal) (same_command arguments c.0 Tables c.1 known) c.2)
-refuses_tables_of arguments input out (NotAJournal fault) known c = λ sound bytes is bad. absurd (subst (λ k. CausedBy k input out (NotAJournal fault)) (same_command arguments c.0 Tables c.1 known) c.2)
-refuses_tables_of arguments input out (Refused line cause) known c = λ sound bytes is bad. inl refl
-refuses_tables_of arguments input out ReadFault known c = λ sound bytes is bad. absurd (sound (subst (λ k. CausedBy k input out ReadFault) (same_command arguments c.0 Tables c.1 known) c.2).0)
-refuses_tables_of arguments input out WriteFault known c = λ sound bytes is bad. let d = subst (λ k. CausedBy k input out WriteFault) (same_command arguments c.0 Tables c.1 known) c.2 in absurd (no_workload input bytes is bad d.0 d.1)
-refuses_tables_of arguments input out OutOfMemory known c = λ sound bytes is bad. inr refl
-refuses_tables_of arguments input out Blocked known c = λ sound bytes is bad. absurd (subst (λ k. CausedBy k input out Blocked) (same_command arguments c.0 Tables c.1 known) c.2)
-refuses_tables_of arguments input out TooLong known c = λ sound bytes is bad. absurd (subst (λ k. CausedBy k input out TooLong) (same_command arguments c.0 Tables c.1 known) c.2)
+refuses_tables_of arguments input out Done known c = λ sound bytes is. (λ many. let d = subst (λ k. CausedBy k input out Done) (same_command arguments c.0 Tables c.1 known) c.2 in absurd (no_workload input bytes is (inl many) d.0 d.1), λ none. let d = subst (λ k. CausedBy k input out Done) (same_command arguments c.0 Tables c.1 known) c.2 in absurd (no_workload input bytes is (inr none) d.0 d.1))
+refuses_tables_of arguments input out Usage known c = λ sound bytes is. (λ many. absurd (some_command arguments Tables known c.0), λ none. absurd (some_command arguments Tables known c.0))
+refuses_tables_of arguments input out TooLarge known c = λ sound bytes is. (λ many. refl, λ none. inl refl)
+refuses_tables_of arguments input out TooLargeToAudit known c = λ sound bytes is. (λ many. absurd (subst (λ k. CausedBy k input out TooLargeToAudit) (same_command arguments c.0 Tables c.1 known) c.2), λ none. absurd (subst (λ k. CausedBy k input out TooLargeToAudit) (same_command arguments c.0 Tables c.1 known) c.2))
+refuses_tables_of arguments input out NoJournal known c = λ sound bytes is. (λ many. absurd (subst (λ k. CausedBy k input out NoJournal) (same_command arguments c.0 Tables c.1 known) c.2), λ none. absurd (subst (λ k. CausedBy k input out NoJournal) (same_command arguments c.0 Tables c.1 known) c.2))
+refuses_tables_of arguments input out (NotAJournal fault) known c = λ sound bytes is. (λ many. absurd (subst (λ k. CausedBy k input out (NotAJournal fault)) (same_command arguments c.0 Tables c.1 known) c.2), λ none. absurd (subst (λ k. CausedBy k input out (NotAJournal fault)) (same_command arguments c.0 Tables c.1 known) c.2))
+refuses_tables_of arguments input out (Refused line cause) known c = λ sound bytes is. (λ many. refl, λ none. inl refl)
+refuses_tables_of arguments input out ReadFault known c = λ sound bytes is. (λ many. absurd (sound (subst (λ k. CausedBy k input out ReadFault) (same_command arguments c.0 Tables c.1 known) c.2).0), λ none. absurd (sound (subst (λ k. CausedBy k input out ReadFault) (same_command arguments c.0 Tables c.1 known) c.2).0))
+refuses_tables_of arguments input out WriteFault known c = λ sound bytes is. (λ many. let d = subst (λ k. CausedBy k input out WriteFault) (same_command arguments c.0 Tables c.1 known) c.2 in absurd (no_workload input bytes is (inl many) d.0 d.1), λ none. let d = subst (λ k. CausedBy k input out WriteFault) (same_command arguments c.0 Tables c.1 known) c.2 in absurd (no_workload input bytes is (inr none) d.0 d.1))
+refuses_tables_of arguments input out OutOfMemory known c = λ sound bytes is. (λ many. let d = subst (λ k. CausedBy k input out OutOfMemory) (same_command arguments c.0 Tables c.1 known) c.2 in too_many_for input bytes d.0 is many, λ none. inr refl)
+refuses_tables_of arguments input out Blocked known c = λ sound bytes is. (λ many. absurd (subst (λ k. CausedBy k input out Blocked) (same_command arguments c.0 Tables c.1 known) c.2), λ none. absurd (subst (λ k. CausedBy k input out Blocked) (same_command arguments c.0 Tables c.1 known) c.2))
+refuses_tables_of arguments input out TooLong known c = λ sound bytes is. (λ many. absurd (subst (λ k. CausedBy k input out TooLong) (same_command arguments c.0 Tables c.1 known) c.2), λ none. absurd (subst (λ k. CausedBy k input out TooLong) (same_command arguments c.0 Tables c.1 known) c.2))
 
 -- status 1 comes exactly where the arguments are of none of the forms
 pub usage_of : (arguments : List (List ℕ)) (input out : StreamChange) (a : Answer) → Caused arguments input out a → (status_of a ≡ 1) ↔ (command_of arguments ≡ None)
@@ -226,7 +230,7 @@ refused_tables input out NoJournal refused kept = absurd refused
 refused_tables input out (NotAJournal fault) refused kept = absurd refused
 refused_tables input out (Refused line cause) refused kept = (refused, kept)
 refused_tables input out ReadFault refused kept = (refused, kept)
-refused_tables input out OutOfMemory refused kept = (refused, kept.no_fault, inl kept)
+refused_tables input out OutOfMemory refused kept = (refused, kept)
 refused_tables input out Done refused kept = absurd refused
 refused_tables input out Usage refused kept = absurd refused
 refused_tables input out WriteFault refused kept = absurd refused
@@ -234,14 +238,16 @@ refused_tables input out Blocked refused kept = absurd refused
 refused_tables input out TooLong refused kept = absurd refused
 
 -- the tables were not written whole
-pub tables_unwritten : (input out : StreamChange) (w : Work) (e : Unwritten) → IsWorkload input w → Puts out.before out.after out.faults_before out.faults_after (tables_text w) (Err e) → CausedByTables input out (unwritten_answer e)
-tables_unwritten input out w unwritten.Fault is p = (w, is, p.fault refl, p.part)
-tables_unwritten input out w unwritten.Memory is p = (at_most_of most_bytes input is.bytes is.read, p.no_fault (λ e. cc), inr (w, is, p.part))
+pub tables_unwritten : (input out : StreamChange) (w : Work) (e : Unwritten) → IsWorkload input w → Puts out.before out.after out.faults_before out.faults_after (tables_text w) (Err e)
+    → (e ≡ unwritten.Memory → out.after ≡ out.before) → CausedByTables input out (unwritten_answer e)
+tables_unwritten input out w unwritten.Fault is p kept = (w, is, p.fault refl, p.part)
+tables_unwritten input out w unwritten.Memory is p kept = (at_most_of most_bytes input is.bytes is.read, record { bytes = kept refl; no_fault = p.no_fault (λ e. cc) })
 
 -- nor the generated workload
-pub generated_unwritten : (out : StreamChange) (n : ℕ) (e : Unwritten) → Puts out.before out.after out.faults_before out.faults_after (generated n) (Err e) → CausedByNumber n out (unwritten_answer e)
-generated_unwritten out n unwritten.Fault p = (p.fault refl, p.part)
-generated_unwritten out n unwritten.Memory p = (p.no_fault (λ e. cc), p.part)
+pub generated_unwritten : (out : StreamChange) (n : ℕ) (e : Unwritten) → Puts out.before out.after out.faults_before out.faults_after (generated n) (Err e)
+    → (e ≡ unwritten.Memory → out.after ≡ out.before) → CausedByNumber n out (unwritten_answer e)
+generated_unwritten out n unwritten.Fault p kept = (p.fault refl, p.part)
+generated_unwritten out n unwritten.Memory p kept = record { bytes = kept refl; no_fault = p.no_fault (λ e. cc) }
 
 pub tables_exit : (input out : StreamChange) (r : Result (Unit {0}) Answer) (a : Answer) → IsErrAnd r (λ y. y ≡ a) → CausedByTables input out a → CausedByTables input out (answer_of r)
 tables_exit input out r a exit caused =

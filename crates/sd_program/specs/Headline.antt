@@ -47,15 +47,14 @@ CausedByTables input out TooLarge = HasTooMany most_bytes input × IsUntouched o
 CausedByTables input out (Refused line cause) = IsNoWorkload input line cause × IsUntouched out
 CausedByTables input out ReadFault = HasFault input × IsUntouched out
 CausedByTables input out WriteFault = (w : Work) × IsWorkload input w × HasFault out × AppendsPart out.before out.after (tables_text w)
-CausedByTables input out OutOfMemory =
-    HasAtMost most_bytes input × HasNoFault out × (IsUntouched out ⊎ ((w : Work) × IsWorkload input w × AppendsPart out.before out.after (tables_text w)))
+CausedByTables input out OutOfMemory = HasAtMost most_bytes input × IsUntouched out
 CausedByTables input out _ = ⊥
 
 -- the answer to the arguments `gen N`
 abbrev pub CausedByNumber : ℕ → StreamChange → Answer → Type 0
 CausedByNumber n out Done = Appends out.before out.after (generated n) × HasNoFault out
 CausedByNumber n out WriteFault = HasFault out × AppendsPart out.before out.after (generated n)
-CausedByNumber n out OutOfMemory = HasNoFault out × AppendsPart out.before out.after (generated n)
+CausedByNumber n out OutOfMemory = IsUntouched out
 CausedByNumber n out _ = ⊥
 
 abbrev pub CausedBy : Command → StreamChange → StreamChange → Answer → Type 0
@@ -94,12 +93,11 @@ CompletesTables input out status =
     (HasFault input → ⊥) → (HasFault out → ⊥)
     → (bytes : List ℕ) (w : Work) → input.before ≡ Some bytes → length bytes ≤ most_bytes → Accepted bytes w → (status ≡ 0) ⊎ (status ≡ 5)
 
--- an input that is too large, or no workload that is accepted, is refused, unless memory runs out
+-- an input that is too large is refused, and so is one that is no accepted workload, unless memory runs out
 abbrev pub Refuses : StreamChange → ℕ → Type 0
 Refuses input status =
-    (HasFault input → ⊥)
-    → (bytes : List ℕ) → input.before ≡ Some bytes → (most_bytes < length bytes) ⊎ ((w : Work) → Accepted bytes w → ⊥)
-    → (status ≡ 2) ⊎ (status ≡ 5)
+    (HasFault input → ⊥) → (bytes : List ℕ) → input.before ≡ Some bytes
+    → (most_bytes < length bytes → status ≡ 2) × (((w : Work) → Accepted bytes w → ⊥) → (status ≡ 2) ⊎ (status ≡ 5))
 
 -- All that the program promises of a call, from what it did to its streams: there is an answer with its cause, its
 -- status and its line; where a workload is run, status 0 says that the run was printed and that no threads block each

@@ -1,4 +1,5 @@
 pub mod AuditAnswers
+pub mod Audited
 pub mod Forms
 pub mod Headline
 pub mod RunAnswers

@@ -1,24 +1,15 @@
 -- What the program does with the arguments that it was started with.
 -- Source: this project's own.
-use Rattle.std.specs.Prelude.{◌≡◌, ℕ, map, string_bytes, Result, Ok, Err}
-use Rattle.std.specs.IoError.{error_kind}
+use Rattle.std.specs.Prelude.{ℕ, Result}
 use Rattle.std.specs.declared.io.Error.{Error}
 use Rattle.std.specs.declared.string.String.{String}
 use Rattle.std.specs.declared.vec.Vec.{Vec}
 use Rattle.std.specs.declared.alloc.Global.{Global}
-use Rattle.sd_answers.specs.declared.answers.Answer.{Answer}
-use Rattle.sd_answers.specs.Answers.{status_of, arguments_answer}
-use Rattle.sd_answers.specs.StreamChanges.{StreamChange, IsUntouched}
-use Rattle.sd_program.specs.Headline.{Tells, KeepsPromises}
+use Rattle.sd_answers.specs.Answers.{line_of}
+use Rattle.sd_answers.specs.Starts.{StartsBy}
+use Rattle.sd_answers.specs.StreamChanges.{StreamChange}
+use Rattle.sd_program.specs.Headline.{KeepsPromises}
 
--- nothing was read and nothing was written but the answer's line
-pub record IsRefusedWith (answer : Answer) (input out err : StreamChange) (status : ℕ) : Type 0 where
-  pub exit : status ≡ status_of answer
-  pub input_kept : IsUntouched input
-  pub out_kept : IsUntouched out
-  pub told : Tells err answer
-
--- Arguments that were read are carried out. Where they were not read, the answer says why.
+-- arguments that were read are carried out
 abbrev pub Starts : Result (Vec (String Global) Global) Error → StreamChange → StreamChange → StreamChange → ℕ → Type 0
-Starts (Ok arguments) input out err status = KeepsPromises (map string_bytes arguments.items) input out err status
-Starts (Err error) input out err status = IsRefusedWith (arguments_answer (error_kind error)) input out err status
+Starts = StartsBy KeepsPromises line_of

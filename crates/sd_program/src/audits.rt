@@ -1,6 +1,7 @@
 //! The audit of a journal that stands behind its workload in one input.
 
-ghost use Rattle.std.specs.Prelude.{◌≡◌, IfOk};
+ghost use Rattle.std.specs.Prelude.{◌≡◌, IfOk, IsErrOf};
+ghost use Rattle.sd_answers.specs.declared.writing.Unwritten.TheVariants.{Memory};
 ghost use Rattle.sd_answers.specs.Answers.{answer_of};
 ghost use Rattle.sd_answers.specs.StreamChanges.{Puts, change_of};
 ghost use Rattle.sd_program.specs.AuditAnswers.{CausedByAudit, IsLegalReading, legal_text};
@@ -21,9 +22,10 @@ fn legal_line(alloc: Global, entries: u64) -> Result<Vec<u8>, AllocError>
     Ok(line)
 }
 
-/// Writes that line.
+/// Writes that line. Memory is taken before the first byte is written.
 fn put_legal<K: Sink>(alloc: Global, entries: u64, out: &mut K) -> Result<(), Unwritten>
-    ensures { Puts (K.contents out.old) (K.contents out.new) (K.fault_count out.old) (K.fault_count out.new) (legal_text entries) result }
+    ensures puts { Puts (K.contents out.old) (K.contents out.new) (K.fault_count out.old) (K.fault_count out.new) (legal_text entries) result }
+    ensures kept { IsErrOf result Memory → K.contents out.new ≡ K.contents out.old }
 {
     let line = legal_line(alloc, entries)?;
     put_line(out, &line)

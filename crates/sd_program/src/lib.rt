@@ -5,28 +5,26 @@
 mod audits;
 mod forms;
 mod gates;
+mod laws;
 mod running;
 mod tables;
 mod top;
 mod writing;
 
 pub use gates::{Gate, OpenGate};
+pub use laws::runs_are_audited;
+use sd_answers::behind_name;
 use sd_text::{StdSink, StdSource};
 use std::marker::Sync;
 use std::process::ExitCode;
-use std::rt::Env;
 use std::sync::Wait;
 use std::thread::Threads;
 use std::{env, io};
-pub use top::{serial, start};
+pub use top::{dispsim, serial, start};
 
-/// The arguments after the program's name.
-fn arguments<R: Env + AllocGlobal>(rt: &R) -> io::Result<Vec<String>> {
-    let mut arguments = Vec::new(rt.alloc());
-    for argument in env::args(rt)?.skip(1) {
-        arguments.push(argument)?;
-    }
-    Ok(arguments)
+/// The arguments behind the program's name.
+fn arguments(host: &HostRuntime) -> io::Result<Vec<String>> {
+    Ok(behind_name(host.alloc(), env::args(host)?)?)
 }
 
 /// The program on the host: gives the host's input, output and error output, and its arguments, to `start`, with a handle

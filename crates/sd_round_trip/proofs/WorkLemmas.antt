@@ -21,7 +21,7 @@ use Rattle.sd_lines.specs.Words.{Word}
 use Rattle.sd_declare.specs.Declarations.{Thread, Declarations, nothing}
 use Rattle.sd_declare.specs.Kept.{set_kept, lock_kept, chan_kept, thread_kept}
 use Rattle.sd_declare.proofs.PlaceLemmas.{sum_kept}
-use Rattle.sd_workload.specs.Accepted.{Accepted, HaveSameParts, IsWork}
+use Rattle.sd_workload.specs.Accepted.{Accepted, IsWork}
 use Rattle.sd_workload.specs.Sound.{named_cpus}
 use Rattle.sd_workload.specs.Texts.{Outside, is_too_many, end_causes, end_cause, unless_refused, Accepts, judged}
 use Rattle.sd_workload.proofs.JudgedLemmas.{judged-end}
@@ -194,6 +194,6 @@ canonical-accepted w v =
       work = work-is w;
     }
 
-pub one-spelling : (w v : Work) → IsValid w → IsValid v → canonical w ≡ canonical v → HaveSameParts w v
+pub one-spelling : (w v : Work) → IsValid w → IsValid v → canonical w ≡ canonical v → w ≡ v
 one-spelling w v p q e =
     one-work (canonical w) w v (canonical-accepted w p) (subst (λ (text : List ℕ). Accepted text v) (sym e) (canonical-accepted v q))

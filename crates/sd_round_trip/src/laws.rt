@@ -2,7 +2,7 @@
 
 ghost use Rattle.std.specs.Prelude.{◌≡◌, ℕ, List};
 ghost use Rattle.sd_types.specs.declared.works.Work.{Work};
-ghost use Rattle.sd_workload.specs.Accepted.{Accepted, HaveSameParts};
+ghost use Rattle.sd_workload.specs.Accepted.{Accepted};
 ghost use Rattle.sd_canonical.specs.Canonical.{canonical};
 ghost use Rattle.sd_round_trip.specs.Valid.{IsValid};
 
@@ -16,7 +16,7 @@ pub fn accepted_works_are_valid()
     ensures { (text : List ℕ) (w : Work) → Accepted text w → IsValid w }
 {}
 
-/// The canonical spelling tells the workload: two valid workloads with one spelling have the same parts.
+/// The canonical spelling tells the workload: two valid workloads with one spelling are one workload.
 pub fn canonical_texts_tell_works()
-    ensures { (w v : Work) → IsValid w → IsValid v → canonical w ≡ canonical v → HaveSameParts w v }
+    ensures { (w v : Work) → IsValid w → IsValid v → canonical w ≡ canonical v → w ≡ v }
 {}

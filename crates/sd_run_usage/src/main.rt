@@ -1,5 +1,5 @@
-//! The program as it is called with arguments that it does not know: a stored run sees that the line of the refusal does
-//! not go to the output.
+//! The program as it is called with an argument more than a form has: a stored run sees that none is dropped, and that the line
+//! of the refusal does not go to the output.
 #![tactic(auto)]
 
 use std::process::ExitCode;

@@ -4,7 +4,8 @@ use Rattle.std.proofs.Math.Seq.{take-add}
 use Rattle.std.proofs.lemmas.List.{take_rest}
 use Rattle.std.proofs.KnownBytes.{Appends-trans, Consumes-trans}
 use Rattle.std.specs.Io.KnownBytes.{Appends, Consumes}
-use Rattle.sd_text.specs.declared.read.ReadAllFault.TheVariants.{TooLarge, Memory}
+use Rattle.sd_text.specs.declared.read.ReadAllFault.{ReadAllFault}
+use Rattle.sd_text.specs.declared.read.ReadAllFault.TheVariants.{TooLarge}
 use Rattle.sd_text.specs.Reading.{TakesUpTo}
 
 -- a prefix of a piece and then a prefix of its rest are a longer prefix
@@ -31,17 +32,20 @@ TakesUpTo-too_large most a b c xs buffer n first second within all = record {
   all = tt;
 }
 
--- a read within the limit, whose bytes found no memory
-pub TakesUpTo-memory : (most : ℕ) (a b c : Option (List ℕ)) (xs buffer : List ℕ) (n : ℕ)
-    → Consumes a b xs → Consumes b c (take n buffer) → n ≤ length buffer → length xs + n ≤ most
-    → TakesUpTo most a c (Err Memory)
-TakesUpTo-memory most a b c xs buffer n first second within all = record {
-  bytes = xs ++ take n buffer;
-  consumed = Consumes-trans a b c _ _ first second;
-  bound = omega (arith, length-prefix xs buffer n within);
-  too_large = (λ e. cc, λ e. absurd (omega (arith, length-prefix xs buffer n within)));
-  all = tt;
-}
+-- a read within the limit, whose bytes found no memory, and what was read past it
+pub TakesUpTo-past : (most left : ℕ) (a b c d : Option (List ℕ)) (xs buffer : List ℕ) (n : ℕ) (fault : ReadAllFault)
+    → Consumes a b xs → Consumes b c (take n buffer) → n ≤ length buffer → length xs + n + left ≡ most
+    → TakesUpTo left c d (Err fault) → TakesUpTo most a d (Err fault)
+TakesUpTo-past most left a b c d xs buffer n fault first second within all past =
+    let counted : length ((xs ++ take n buffer) ++ past.bytes) ≡ length xs + n + length past.bytes =
+    length-append (xs ++ take n buffer) past.bytes ∙ ap (λ k. k + length past.bytes) (length-prefix xs buffer n within) in
+    record {
+      bytes = (xs ++ take n buffer) ++ past.bytes;
+      consumed = Consumes-trans a c d _ _ (Consumes-trans a b c _ _ first second) past.consumed;
+      bound = let b = past.bound in omega (arith, counted, all);
+      too_large = (λ e. let m = past.too_large.0 e in omega (arith, counted, all), λ e. past.too_large.1 (omega (arith, counted, all)));
+      all = tt;
+    }
 
 -- ---- for a sink and a source that tell their bytes
 

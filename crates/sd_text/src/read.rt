@@ -1,5 +1,5 @@
 //! Reading a source to its end, up to a limit.
-ghost use Rattle.std.specs.Prelude.{◌≡◌, ◌^◌, ◌<◌, ◌≤◌, length, IfSome, IfOk, OnOk, IsErrOf};
+ghost use Rattle.std.specs.Prelude.{◌≡◌, ◌^◌, ◌<◌, ◌≤◌, length, Err, IfSome, IfOk, OnOk, IsErrOf};
 ghost use Rattle.std.specs.Io.KnownBytes.{IsAtEnd};
 ghost use Rattle.sd_text.specs.Faults.{HasRisen};
 ghost use Rattle.sd_text.specs.Reading.{TakesUpTo};
@@ -37,15 +37,43 @@ pub fn read_all<S: Source>(alloc: Global, source: &mut S) -> Result<Vec<u8>, Rea
     ensures end { OnOk result (IsAtEnd (S.remaining source.new)) }
     ensures bound { IfOk result (λ v. length v.items ≤ 1048576) }
 
-    // When each fault comes. Where memory ran out is left open, but no fault was counted then.
+    // When each fault comes. Out of memory comes only for an input that was read to its end, and is not too large.
     ensures read_fault { IsErrOf result ReadAllFault.ReadFault → HasRisen (S.fault_count source.old) (S.fault_count source.new) }
     ensures no_fault { ¬ IsErrOf result ReadAllFault.ReadFault → S.fault_count source.new ≡ S.fault_count source.old }
     ensures too_large { IsErrOf result ReadAllFault.TooLarge → IfSome (S.remaining source.old) (λ xs. 1048576 < length xs) }
+    ensures memory { IsErrOf result ReadAllFault.Memory → IsAtEnd (S.remaining source.new) }
 
     // What was taken, whatever the result.
     ensures taken { TakesUpTo 1048576 (S.remaining source.old) (S.remaining source.new) result }
 {
     read_up_to(alloc, source, GREATEST_INPUT)
+}
+
+/// Reads on to the end of the source and keeps nothing, where memory ran out for an input that may have `left` bytes more:
+/// a read that fails, and an input that is too large, are found without memory.
+fn read_past<S: Source>(source: &mut S, mut left: usize) -> ReadAllFault
+    requires { left < 2 ^ 32 }
+    ensures never_falls { S.fault_count source.old ≤ S.fault_count source.new }
+    ensures read_fault { result ≡ ReadAllFault.ReadFault → HasRisen (S.fault_count source.old) (S.fault_count source.new) }
+    ensures no_fault { ¬ (result ≡ ReadAllFault.ReadFault) → S.fault_count source.new ≡ S.fault_count source.old }
+    ensures memory { result ≡ ReadAllFault.Memory → IsAtEnd (S.remaining source.new) }
+    ensures taken { TakesUpTo left (S.remaining source.old) (S.remaining source.new) (Err result) }
+{
+    let mut buffer = [0u8; PIECE];
+    'reads: loop {
+        // One byte more than is left shows that the input is too large.
+        let wanted = PIECE.min(left + 1);
+        let Ok(count) = source.read(&mut buffer[..wanted]) else {
+            return ReadAllFault::ReadFault;
+        };
+        if count == 0 {
+            return ReadAllFault::Memory;
+        }
+        if left < count {
+            return ReadAllFault::TooLarge;
+        }
+        left -= count;
+    }
 }
 
 /// All bytes to the end of the source, of which there are at most `most`.
@@ -63,10 +91,11 @@ pub fn read_up_to<S: Source>(
     ensures end { OnOk result (IsAtEnd (S.remaining source.new)) }
     ensures bound { IfOk result (λ v. length v.items ≤ most) }
 
-    // When each fault comes. Where memory ran out is left open, but no fault was counted then.
+    // When each fault comes. Out of memory comes only for an input that was read to its end, and is not too large.
     ensures read_fault { IsErrOf result ReadAllFault.ReadFault → HasRisen (S.fault_count source.old) (S.fault_count source.new) }
     ensures no_fault { ¬ IsErrOf result ReadAllFault.ReadFault → S.fault_count source.new ≡ S.fault_count source.old }
     ensures too_large { IsErrOf result ReadAllFault.TooLarge → IfSome (S.remaining source.old) (λ xs. most < length xs) }
+    ensures memory { IsErrOf result ReadAllFault.Memory → IsAtEnd (S.remaining source.new) }
 
     // What was taken, whatever the result.
     ensures taken { TakesUpTo most (S.remaining source.old) (S.remaining source.new) result }
@@ -86,8 +115,9 @@ pub fn read_up_to<S: Source>(
         if most < bytes.len() + count {
             return Err(ReadAllFault::TooLarge);
         }
+        let left = most - bytes.len() - count;
         let Ok(()) = bytes.extend_from_slice(&buffer[..count]) else {
-            return Err(ReadAllFault::Memory);
+            return Err(read_past(source, left));
         };
     }
 }

@@ -32,17 +32,16 @@ undrawn d input out NoJournal n kept = ((n, kept), refl)
 undrawn d input out (Refused line cause) n kept = ((n, kept), refl)
 undrawn d input out ReadFault n kept = ((n, kept), refl)
 undrawn d input out WriteFault n kept = absurd n
-undrawn d input out OutOfMemory n kept = ((n, kept.no_fault, inl kept), refl)
+undrawn d input out OutOfMemory n kept = ((n, kept), refl)
 undrawn d input out Blocked n kept = absurd n
 undrawn d input out (NotAJournal fault) n kept = ((n, kept), refl)
 undrawn d input out TooLong n kept = absurd n
 
 -- the drawing was not written whole
 pub unwritten_view : (d : Drawing) (input out : StreamChange) (text : List ℕ) (e : Unwritten) → IsDrawnInput d input text → Puts out.before out.after out.faults_before out.faults_after text (Err e)
-    → CausedByView d input out (unwritten_answer e) (answer_line (unwritten_answer e))
-unwritten_view d input out text unwritten.Fault drawn p = ((text, drawn, p.fault refl, p.part), refl)
-unwritten_view d input out text unwritten.Memory drawn p =
-    ((at_most_of most_certificate input drawn.certificate.parts.bytes drawn.certificate.parts.read, p.no_fault (λ e. cc), inr (text, drawn, p.part)), refl)
+    → (e ≡ unwritten.Memory → ⊥) → CausedByView d input out (unwritten_answer e) (answer_line (unwritten_answer e))
+unwritten_view d input out text unwritten.Fault drawn p none = ((text, drawn, p.fault refl, p.part), refl)
+unwritten_view d input out text unwritten.Memory drawn p none = absurd (none refl)
 
 -- what the exit of a `?` returns
 pub view_exit : (d : Drawing) (input out : StreamChange) (r : Result Bool Answer) (a : Answer) → IsErrAnd r (λ y. y ≡ a) → CausedByView d input out a (answer_line a)

@@ -16,7 +16,8 @@ TellsDrawing drawing input out err = (line : List ℕ) × Draws drawing input ou
 -- line; status 0 says that the drawing of the complete legal run whose journal the input holds was written, and status 7
 -- what is first at fault in the text behind the workload, of which nothing is written. The other sides, where a drawing is
 -- asked for: the journal of a complete run is drawn; an input that is too large, has no journal or no accepted workload is
--- refused with 2; a text that is no such journal is refused with 7; out of memory and faults aside. And status 1 comes
+-- refused with 2; a text that is no such journal is refused with 7; faults aside, and out of memory but where the input is too large.
+-- And status 1 comes
 -- exactly where the arguments are of none of the forms.
 pub record KeepsPromises (arguments : List (List ℕ)) (input out err : StreamChange) (status : ℕ) : Type 0 where
   pub answered : IsViewed arguments input out err status

@@ -1,11 +1,11 @@
 //! The top call: from the arguments and the streams to the exit status.
 
 ghost use Rattle.std.specs.Prelude.{◌≡◌, map, string_bytes, IsErrOf, Err};
-ghost use Rattle.std.specs.IoError.{error_kind};
-ghost use Rattle.sd_answers.specs.Answers.{arguments_answer, status_of};
+ghost use Rattle.sd_answers.specs.Answers.{status_of};
 ghost use Rattle.sd_answers.specs.StreamChanges.{Puts, TellsLine, change_of};
 ghost use Rattle.sd_answers.specs.declared.writing.Unwritten.TheVariants.{Memory};
 ghost use Rattle.sd_viewer.specs.Promises.{KeepsPromises};
+ghost use Rattle.sd_viewer.specs.Starts.{Starts};
 ghost use Rattle.sd_viewer.specs.Viewing.{answer_line, viewed_answer, viewed_line};
 
 use crate::viewing::view_input;
@@ -72,11 +72,23 @@ pub fn view<S: Source, K: Sink, E: Sink>(
     }
 }
 
-/// Writes why the arguments were not read, and returns the exit status: one that is no text is none that the program knows.
-pub(crate) fn refuse_arguments<E: Sink>(error: &io::Error, err: &mut E) -> u8
-    ensures status { result ≡ status_of (arguments_answer (error_kind error.now)) }
-    ensures told { TellsLine (change_of (E.contents err.old) (E.contents err.new) (E.fault_count err.old) (E.fault_count err.new))
-        (answer_line (arguments_answer (error_kind error.now))) }
+/// The program from its start: `view` with the arguments that were read. Where one is no text they are none that the program
+/// knows, and where memory ran out the answer is out of memory; then nothing is read or written but the line that says so.
+pub fn start<S: Source, K: Sink, E: Sink>(
+    alloc: Global,
+    arguments: io::Result<Vec<String>>,
+    input: &mut S,
+    out: &mut K,
+    err: &mut E,
+) -> u8
+    ensures { Starts arguments
+        (change_of (S.remaining input.old) (S.remaining input.new) (S.fault_count input.old) (S.fault_count input.new))
+        (change_of (K.contents out.old) (K.contents out.new) (K.fault_count out.old) (K.fault_count out.new))
+        (change_of (E.contents err.old) (E.contents err.new) (E.fault_count err.old) (E.fault_count err.new))
+        result }
 {
-    tell(Err(Answer::of_unread_arguments(error)), err)
+    match arguments {
+        Ok(arguments) => view(alloc, &arguments, input, out, err),
+        Err(error) => tell(Err(Answer::of_unread_arguments(&error)), err),
+    }
 }

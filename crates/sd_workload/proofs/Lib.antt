@@ -8,6 +8,7 @@ pub mod NameLemmas
 pub mod NamedLemmas
 pub mod OneLemmas
 pub mod OperationLemmas
+pub mod PartsLemmas
 pub mod ScriptLemmas
 pub mod SoundLemmas
 pub mod StatementLemmas

@@ -10,6 +10,7 @@ use Rattle.sd_lines.specs.Words.{Line}
 use Rattle.sd_declare.specs.Declarations.{Declarations}
 use Rattle.sd_workload.specs.Accepted.{SpellsFixedLines, IsTs, IsFx, IsRt, IsWork, Accepted, HaveSameParts}
 use Rattle.sd_workload.proofs.FirstLemmas.{same-accepted}
+use Rattle.sd_workload.proofs.PartsLemmas.{one_work}
 
 ts-along : (text other : List ℕ) (hz : ℕ) (t : TsTable) → word_lines text ≡ word_lines other → SpellsTs text hz t → SpellsTs other hz t
 ts-along text other hz t e s = record {
@@ -67,5 +68,5 @@ work-same d e w v same p r =
       rt = rt-same d.rt v.hz w.rt v.rt (subst (λ (n : ℕ). IsRt d.rt n w.rt) hz p.rt) q.rt;
     }
 
-pub one-work : (text : List ℕ) (w v : Work) → Accepted text w → Accepted text v → HaveSameParts w v
-one-work text w v a b = work-same a.declares b.declares w v (same-accepted a.declares b.declares (sym a.accepted ∙ b.accepted)) a.work b.work
+pub one-work : (text : List ℕ) (w v : Work) → Accepted text w → Accepted text v → w ≡ v
+one-work text w v a b = one_work w v (work-same a.declares b.declares w v (same-accepted a.declares b.declares (sym a.accepted ∙ b.accepted)) a.work b.work)

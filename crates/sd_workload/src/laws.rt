@@ -23,7 +23,12 @@ pub fn causes_are_first()
     ensures accepted { (text : List ℕ) (d : Declarations) → (verdict_of text ≡ Accepts d) ↔ AllTaken (word_lines text) d }
 {}
 
+/// Two workloads with the same parts are one, though their values keep facts besides: facts are propositions.
+pub fn works_are_their_parts()
+    ensures { (w v : Work) → HaveSameParts w v → w ≡ v }
+{}
+
 /// A text is accepted as at most one workload.
 pub fn texts_have_one_work()
-    ensures { (text : List ℕ) (w v : Work) → Accepted text w → Accepted text v → HaveSameParts w v }
+    ensures { (text : List ℕ) (w v : Work) → Accepted text w → Accepted text v → w ≡ v }
 {}

@@ -11,6 +11,8 @@ mod tables;
 mod works;
 
 pub use fault::WorkFault;
-pub use laws::{causes_are_first, texts_have_one_answer, texts_have_one_work};
+pub use laws::{
+    causes_are_first, texts_have_one_answer, texts_have_one_work, works_are_their_parts,
+};
 pub use read::read_work;
 pub use sd_declare::WorkCause;

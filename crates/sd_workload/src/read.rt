@@ -123,8 +123,8 @@ fn declared(alloc: Global, bytes: &[u8]) -> Result<(Declared, u32), WorkFault>
     Ok((d, limit))
 }
 
-/// The workload that a text spells, or the first line at fault with the least of its causes. That memory ran out hides
-/// no cause.
+/// The workload that a text spells, or the first line at fault with the least of its causes. Where memory runs out on the way, the
+/// lines below are not judged, and out of memory may stand for either.
 pub fn read_work(alloc: Global, bytes: &[u8]) -> Result<Work, WorkFault>
     requires { length bytes.now < 2 ^ 31 }
     ensures ok { IfOk result (Accepted bytes.now) }

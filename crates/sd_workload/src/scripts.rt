@@ -6,7 +6,7 @@ ghost use Rattle.sd_text.specs.Words.{words_of};
 ghost use Rattle.sd_declare.specs.declared.causes.WorkCause.TheVariants.{Script as Scripted};
 ghost use Rattle.sd_declare.specs.Kept.{declarations, IsRefusal};
 ghost use Rattle.sd_declare.specs.Operations.{ops_of_op};
-ghost use Rattle.sd_workload.specs.Places.{judged_from, IsFault, IsFaultAt};
+ghost use Rattle.sd_workload.specs.Places.{judged_from, IsCause, IsFault, IsFaultAt};
 ghost use Rattle.sd_workload.specs.Scripts.{more_fault, ops_fault, end_fault};
 ghost use Rattle.sd_workload.specs.Tables.{IsBelow};
 ghost use Rattle.sd_workload.specs.Texts.{Outside, InScript, unless_done, operation_cause, ops_of, with_script};
@@ -55,7 +55,7 @@ fn take_op(script: &mut OpenScript, op: Op, after: Option<Op>) -> Result<(), Ref
 fn take_ops(script: &mut OpenScript, op: Op) -> Result<(), Refusal>
     requires { script.old.held.items ≡ held_by script.old.ops.items }
     ensures ok { OnOk result (ops_fault script.old.ops.items (ops_of_op op) ≡ None) }
-    ensures err { IfErr result (IsRefusal (option_map Scripted (ops_fault script.old.ops.items (ops_of_op op)))) }
+    ensures err { IfErr result (IsCause (option_map Scripted (ops_fault script.old.ops.items (ops_of_op op)))) }
     ensures ops { OnOk result (script.new.ops.items ≡ script.old.ops.items ++ ops_of_op op) }
     ensures held { OnOk result (script.new.held.items ≡ held_by script.new.ops.items) }
 {

@@ -15,7 +15,7 @@ returns-in_err-bytes g c =
     let input = change_of (left old) (left new) (faults old) (faults new) in
     let fault = c.in_err-bytes.field-0.0 in
     reading_exit input c.from_residual.result (read_answer fault) c.from_residual.ensures.1
-    (unread_of input (Err fault) c.in_err-bytes.ensures.taken c.in_err-bytes.ensures.read_fault c.in_err-bytes.ensures.no_fault)
+    (unread_of input (Err fault) c.in_err-bytes.ensures.taken c.in_err-bytes.ensures.read_fault c.in_err-bytes.ensures.no_fault c.in_err-bytes.ensures.memory)
 
 pub returns-in_err-read_work : goal.returns-in_err-read_work
 returns-in_err-read_work g c =

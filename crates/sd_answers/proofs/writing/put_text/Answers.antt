@@ -28,8 +28,8 @@ loop-from-preserved g c =
       whole = next_whole c.args.text.now l.invariant.done l.from c.line_end-to.result (let after = c.line_end-to.ensures.after in omega (arith, after)) l.invariant.whole;
     }
 
-pub returns-in_err-put_line : goal.returns-in_err-put_line
-returns-in_err-put_line g c =
+pub returns-in_err-put_line-clause-puts : goal.returns-in_err-put_line-clause-puts
+returns-in_err-put_line-clause-puts g c =
     let held = g.K.Sink.contents in
     let faults = g.K.Sink.fault_count in
     let l = c.loop-from in
@@ -43,8 +43,8 @@ returns-in_err-put_line g c =
     (Puts-err (held o) (held p) (held p) (faults o) (faults p) (faults p) (l.invariant.done ++ piece) (drop c.line_end-to.result text) c.in_err-put_line.field-0.0
     (Puts-then (held o) (held l.out) (held p) (faults o) (faults l.out) (faults p) l.invariant.done piece (Err c.in_err-put_line.field-0.0) l.invariant.puts c.in_err-put_line.ensures.puts)))
 
-pub returns : goal.returns
-returns g c =
+pub returns-clause-puts : goal.returns-clause-puts
+returns-clause-puts g c =
     let held = g.K.Sink.contents in
     let faults = g.K.Sink.fault_count in
     let l = c.loop-from in

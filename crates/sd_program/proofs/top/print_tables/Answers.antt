@@ -1,3 +1,4 @@
+use Rattle.std.proofs.Common.{Err, ap}
 use Rattle.sd_answers.specs.Answers.{unwritten_answer}
 use Rattle.sd_answers.specs.StreamChanges.{change_of}
 use Rattle.sd_program.proofs.TopLemmas.{tables_unwritten, tables_exit}
@@ -17,9 +18,9 @@ returns-in_err-put_tables g c =
     let out = change_of (held o) (held p) (written o) (written p) in
     let unwritten = c.in_err-put_tables.field-0.0 in
     tables_exit input out c.from_residual-in_err-put_tables.result (unwritten_answer unwritten) c.from_residual-in_err-put_tables.ensures.1
-    (tables_unwritten input out c.in_ok-work.work unwritten c.in_ok-work.ensures c.in_err-put_tables.ensures)
+    (tables_unwritten input out c.in_ok-work.work unwritten c.in_ok-work.ensures c.in_err-put_tables.ensures.puts (λ is. c.in_err-put_tables.ensures.kept (ap Err is)))
 
 pub returns : goal.returns
 returns g c =
-    let p = c.in_ok-put_tables.ensures in
+    let p = c.in_ok-put_tables.ensures.puts in
     (c.in_ok-work.work, c.in_ok-work.ensures, p.ok, p.no_fault (λ e. cc))

@@ -24,4 +24,4 @@ returns g c =
     let text : c.deref.result.now ≡ summary_of es (final w (opening w) es) =
     c.deref.ensures.value ∙ c.in_ok-write_summary.ensures.ok w es c.in_ok-accounts.ensures
     ∙ ap (λ (xs : List ℕ). xs ++ summary_of es c.args.s.now) c.new-text.ensures.items ∙ ap (summary_of es) c.requires.state in
-    subst (λ (xs : List ℕ). Puts (held o) (held p) (faults o) (faults p) xs c.put_text.result) text c.put_text.ensures
+    subst (λ (xs : List ℕ). Puts (held o) (held p) (faults o) (faults p) xs c.put_text.result) text c.put_text.ensures.puts

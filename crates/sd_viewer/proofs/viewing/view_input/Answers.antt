@@ -35,7 +35,7 @@ returns-in_err-put_text g c =
     let e = c.in_err-put_text.field-0.0 in
     view_exit c.args.drawing input out c.from_residual-in_err-put_text.result (unwritten_answer e) c.from_residual-in_err-put_text.ensures.1
     (unwritten_view c.args.drawing input out text e c.in_ok-drawn.ensures.0
-    (subst (λ (t : List ℕ). Puts (held o) (held p) (written o) (written p) t (Err e)) c.deref.ensures.value c.in_err-put_text.ensures))
+    (subst (λ (t : List ℕ). Puts (held o) (held p) (written o) (written p) t (Err e)) c.deref.ensures.value c.in_err-put_text.ensures.puts) (λ is. c.in_err-put_text.ensures.no_memory (ap Err is)))
 
 pub returns : goal.returns
 returns g c =
@@ -43,6 +43,6 @@ returns g c =
     let written = g.K.Sink.fault_count in
     let o = c.args.out.now in
     let p = c.put_text.new.out in
-    let puts = subst (λ (t : List ℕ). Puts (held o) (held p) (written o) (written p) t (Ok tt)) c.deref.ensures.value c.in_ok-put_text.ensures in
+    let puts = subst (λ (t : List ℕ). Puts (held o) (held p) (written o) (written p) t (Ok tt)) c.deref.ensures.value c.in_ok-put_text.ensures.puts in
     let drawn = c.in_ok-drawn.drawn in
     (drawn.text.items, c.in_ok-drawn.ensures.0, puts.ok, puts.no_fault (λ is. cc), ap drawn_line c.in_ok-drawn.ensures.1)
