@@ -268,13 +268,14 @@ moment-text : (w : Work) (f : Frame) (x : Stretch) → IsText (moment_text w f x
 moment-text w f x =
     both-text (cpu_moment w f x x.doing) (thread_moment w f x (row_of f x.thread)) (cpu-moment-text w f x x.doing) (thread-moment-text w f x (row_of f x.thread))
 
-set-note-text : (w : Work) (f : Frame) (tick : ℕ) (c : CpuId) (word : List ℕ) (set : SetId) → IsText word → IsText (set_note w f tick c word set)
+set-note-text : (class : List ℕ) (w : Work) (f : Frame) (tick : ℕ) (c : CpuId) (word : List ℕ) (set : SetId) → IsText class → IsText word
+    → IsText (set_note class w f tick c word set)
 unfolding set_note set_words
-set-note-text w f tick c word set h =
-    simp (list_all-append is_text_byte, label-start-text (codes "note") (column f tick) (under f (Cpu c.0)) refl, h, set-text w set.0)
+set-note-text class w f tick c word set is h =
+    simp (list_all-append is_text_byte, label-start-text class (column f tick) (under f (Cpu c.0)) is, h, set-text w set.0)
 
 assign-note-text : (w : Work) (f : Frame) (tick : ℕ) (c : CpuId) (set : SetId) (answer : AssignAnswer) → IsText (assign_note w f tick c set answer)
-assign-note-text w f tick c set assign.Changed = set-note-text w f tick c (codes "closes for ") set refl
+assign-note-text w f tick c set assign.Changed = set-note-text (codes "note closes") w f tick c (codes "closes for ") set refl refl
 assign-note-text w f tick c set assign.EPERM = refl
 assign-note-text w f tick c set assign.EINVAL = refl
 assign-note-text w f tick c set assign.EBUSY = refl
@@ -298,7 +299,7 @@ bind-note-text f tick t cpu bind.EBUSY = refl
 
 note-by-text : (w : Work) (f : Frame) (x : Happening) (e : Event) → IsText (note_by w f x e)
 note-by-text w f x (event.Assign t c set answer) = assign-note-text w f x.tick c set answer
-note-by-text w f x (event.Joined set) = set-note-text w f x.tick x.cpu (codes "in ") set refl
+note-by-text w f x (event.Joined set) = set-note-text (codes "note") w f x.tick x.cpu (codes "&#9652;in ") set refl refl
 note-by-text w f x (event.Bind t u cpu answer) = bind-note-text f x.tick u cpu answer
 note-by-text w f x _ = refl
 

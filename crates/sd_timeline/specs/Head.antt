@@ -37,7 +37,7 @@ letters = codes "text{font:11px sans-serif;fill:#000}\n.head{font-weight:bold}\n
 
 -- the priorities stand on a white edge, so that they can be read where an arrow passes behind them
 unfoldable pub small_letters : List ℕ
-small_letters = codes ".on,.in,.own,.inherited{font-size:10px}\n.note{font-size:8px}\n.on{fill:#fff}\n.own,.inherited{paint-order:stroke;stroke:#fff;stroke-width:3px}\n.inherited,.dead{font-weight:bold;fill:#a3160c}\n"
+small_letters = codes ".on,.in,.own,.inherited{font-size:10px}\n.note{font-size:8px}\n.closes{text-anchor:end}\n.on{fill:#fff;paint-order:stroke;stroke:#0f2c47;stroke-width:2px}\n.own,.inherited{paint-order:stroke;stroke:#fff;stroke-width:3px}\n.inherited,.dead{font-weight:bold;fill:#a3160c}\n"
 
 unfoldable pub lines : List ℕ
 lines =

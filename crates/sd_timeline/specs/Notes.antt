@@ -18,16 +18,16 @@ use Rattle.sd_timeline.specs.declared.frames.Row.TheVariants.{Cpu, Thread}
 use Rattle.sd_timeline.specs.Frames.{column, row_of, shows, under}
 use Rattle.sd_timeline.specs.Pieces.{label_start, label_end}
 
--- a triangle that points to the tick, a word and the name of a set
+-- a word and the name of a set
 unfoldable pub set_words : List ℕ → List ℕ → List ℕ
-set_words word set = codes "&#9652;" ++ word ++ set
+set_words word set = word ++ set
 
-unfoldable pub set_note : Work → Frame → ℕ → CpuId → List ℕ → SetId → List ℕ
-set_note w f tick c word set = label_start (codes "note") (column f tick) (under f (Cpu c.0)) ++ set_words word (set_name w set.0) ++ label_end
+unfoldable pub set_note : List ℕ → Work → Frame → ℕ → CpuId → List ℕ → SetId → List ℕ
+set_note class w f tick c word set = label_start class (column f tick) (under f (Cpu c.0)) ++ set_words word (set_name w set.0) ++ label_end
 
--- where a processor begins to close for a set
+-- where a processor begins to close for a set, in front of the tick, so that it may join at once
 abbrev pub assign_note : Work → Frame → ℕ → CpuId → SetId → AssignAnswer → List ℕ
-assign_note w f tick c set assign.Changed = set_note w f tick c (codes "closes for ") set
+assign_note w f tick c set assign.Changed = set_note (codes "note closes") w f tick c (codes "closes for ") set
 assign_note w f tick c set _ = []
 
 unfoldable pub bound_words : Option CpuId → List ℕ
@@ -44,7 +44,7 @@ bind_note f tick t cpu _ = []
 
 abbrev pub note_by : Work → Frame → Happening → Event → List ℕ
 note_by w f x (Assign t c set answer) = assign_note w f x.tick c set answer
-note_by w f x (Joined set) = set_note w f x.tick x.cpu (codes "in ") set
+note_by w f x (Joined set) = set_note (codes "note") w f x.tick x.cpu (codes "&#9652;in ") set
 note_by w f x (Bind t u cpu answer) = bind_note f x.tick u cpu answer
 note_by w f x _ = []
 

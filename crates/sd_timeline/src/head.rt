@@ -73,7 +73,7 @@ fn put_small_letters(out: &mut Vec<u8>) -> Result<(), AllocError>
     ensures { OnOk result (out.new.items ≡ out.old.items ++ small_letters) }
 {
     out.extend_from_slice(
-        b".on,.in,.own,.inherited{font-size:10px}\n.note{font-size:8px}\n.on{fill:#fff}\n.own,.inherited{paint-order:stroke;stroke:#fff;stroke-width:3px}\n.inherited,.dead{font-weight:bold;fill:#a3160c}\n",
+        b".on,.in,.own,.inherited{font-size:10px}\n.note{font-size:8px}\n.closes{text-anchor:end}\n.on{fill:#fff;paint-order:stroke;stroke:#0f2c47;stroke-width:2px}\n.own,.inherited{paint-order:stroke;stroke:#fff;stroke-width:3px}\n.inherited,.dead{font-weight:bold;fill:#a3160c}\n",
     )
 }
 

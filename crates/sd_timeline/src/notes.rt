@@ -17,7 +17,6 @@ use std::alloc::AllocError;
 fn put_set_words(word: &[u8], set: &[u8], out: &mut Vec<u8>) -> Result<(), AllocError>
     ensures { OnOk result (out.new.items ≡ out.old.items ++ set_words word.now set.now) }
 {
-    out.extend_from_slice(b"&#9652;")?;
     out.extend_from_slice(word)?;
     out.extend_from_slice(set)
 }
@@ -25,6 +24,7 @@ fn put_set_words(word: &[u8], set: &[u8], out: &mut Vec<u8>) -> Result<(), Alloc
 // A word with a set, under the row of a processor.
 #[tactic(auto, unfolding(crate::specs::Notes::set_note))]
 fn put_set_note(
+    class: &[u8],
     work: &Work,
     frame: Frame,
     tick: u32,
@@ -33,9 +33,9 @@ fn put_set_note(
     set: SetId,
     out: &mut Vec<u8>,
 ) -> Result<(), AllocError>
-    ensures { OnOk result (out.new.items ≡ out.old.items ++ set_note work.now frame tick c word.now set) }
+    ensures { OnOk result (out.new.items ≡ out.old.items ++ set_note class.now work.now frame tick c word.now set) }
 {
-    put_label_start(b"note", frame.column(tick), frame.under(Row::Cpu(c.0)), out)?;
+    put_label_start(class, frame.column(tick), frame.under(Row::Cpu(c.0)), out)?;
     put_set_words(word, set_name(work, set), out)?;
     put_label_end(out)
 }
@@ -53,7 +53,16 @@ fn put_assign_note(
     ensures { OnOk result (out.new.items ≡ out.old.items ++ assign_note work.now frame tick c set answer) }
 {
     match answer {
-        AssignAnswer::Changed => put_set_note(work, frame, tick, c, b"closes for ", set, out),
+        AssignAnswer::Changed => put_set_note(
+            b"note closes",
+            work,
+            frame,
+            tick,
+            c,
+            b"closes for ",
+            set,
+            out,
+        ),
         _ => Ok(()),
     }
 }
@@ -128,7 +137,16 @@ fn put_note_of(
             answer,
             ..
         } => put_assign_note(work, frame, x.tick, cpu, set, answer, out),
-        Event::Joined { set } => put_set_note(work, frame, x.tick, x.cpu, b"in ", set, out),
+        Event::Joined { set } => put_set_note(
+            b"note",
+            work,
+            frame,
+            x.tick,
+            x.cpu,
+            b"&#9652;in ",
+            set,
+            out,
+        ),
         Event::Bind { s, cpu, answer, .. } => put_bind_note(frame, x.tick, s, cpu, answer, out),
         _ => Ok(()),
     }
