@@ -9,10 +9,11 @@ use Rattle.sd_types.specs.declared.names.Name.{Name}
 use Rattle.sd_types.specs.declared.works.Work.{Work}
 use Rattle.sd_types.specs.NameWords.{is_name_byte, begins_with_letter}
 use Rattle.sd_text.proofs.LineLemmas.{both}
+use Rattle.sd_full.specs.Texts.{set_name}
 use Rattle.sd_machine.specs.Texts.{chan_name, lock_name, thread_name}
 use Rattle.sd_stretches.specs.declared.sights.Doing.{Doing}
-use Rattle.sd_stretches.specs.declared.sights.Doing.TheVariants.{Running, Runnable, Waiting, Asleep, Napping, Ended}
-use Rattle.sd_labels.specs.Doings.{doing_text}
+use Rattle.sd_stretches.specs.declared.sights.Doing.TheVariants.{Running, Spinning, Runnable, Waiting, Asleep, Napping, Ended}
+use Rattle.sd_labels.specs.Doings.{doing_text, spinning_text}
 use Rattle.sd_labels.specs.Plain.{is_plain_byte, IsPlain, HasPlainNames}
 
 -- ---- names
@@ -43,6 +44,10 @@ lock-plain w l = named (λ d. d.0) (slice_get w.locks l)
 pub chan-plain : (w : Work) (k : ℕ) → IsPlain (chan_name w k)
 chan-plain w k = named (λ d. d.0) (slice_get w.chans k)
 
+pub set-plain : (w : Work) (p : ℕ) → IsPlain (set_name w p)
+set-plain w zero = refl
+set-plain w (suc p) = named (λ d. d.0) (slice_get w.sets p)
+
 -- ---- numbers
 
 digit : (d : ℕ) → d < 10 → is_plain_byte (digit_glyph false d) ≡ true
@@ -68,8 +73,15 @@ decimal-plain n = digits-onto 64 n [] refl
 joined : (a b : List ℕ) → IsPlain a → IsPlain b → IsPlain (a ++ b)
 joined a b p q = list_all-append is_plain_byte a b ∙ rw p q
 
+spinning-plain : (c : ℕ) (lock : List ℕ) → IsPlain lock → IsPlain (spinning_text c lock)
+unfolding spinning_text
+spinning-plain c lock plain =
+    joined (codes "spins on processor " ++ decimal c) (codes " for " ++ lock)
+    (joined (codes "spins on processor ") (decimal c) refl (decimal-plain c)) (joined (codes " for ") lock refl plain)
+
 pub doing-plain : (w : Work) (d : Doing) → IsPlain (doing_text w d)
 doing-plain w (Running c) = joined (codes "runs on processor ") (decimal c.0) refl (decimal-plain c.0)
+doing-plain w (Spinning c l) = spinning-plain c.0 (lock_name w l.0) (lock-plain w l.0)
 doing-plain w Runnable = refl
 doing-plain w (Waiting l) = joined (codes "waits for ") (lock_name w l.0) refl (lock-plain w l.0)
 doing-plain w (Asleep k) = joined (codes "asleep on ") (chan_name w k.0) refl (chan-plain w k.0)
@@ -77,4 +89,4 @@ doing-plain w Napping = refl
 doing-plain w Ended = refl
 
 pub plain_names : (w : Work) → HasPlainNames w
-plain_names w = record { threads = thread-plain w; locks = lock-plain w; chans = chan-plain w; doings = doing-plain w }
+plain_names w = record { threads = thread-plain w; locks = lock-plain w; chans = chan-plain w; sets = set-plain w; doings = doing-plain w }

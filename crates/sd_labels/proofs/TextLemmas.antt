@@ -6,11 +6,12 @@ use Rattle.std.proofs.lemmas.Bool.Decides.{nat_tests}
 use Rattle.std.proofs.lemmas.List.Folds.{list_all-append}
 use Rattle.sd_types.specs.declared.works.Work.{Work}
 use Rattle.sd_text.proofs.LineLemmas.{both}
+use Rattle.sd_full.specs.Texts.{set_name}
 use Rattle.sd_machine.specs.Texts.{chan_name, lock_name, thread_name}
 use Rattle.sd_stretches.specs.declared.sights.Doing.{Doing}
 use Rattle.sd_labels.specs.Doings.{doing_text}
 use Rattle.sd_labels.specs.Plain.{is_plain_byte, is_text_byte, IsPlain, IsText}
-use Rattle.sd_labels.proofs.PlainLemmas.{thread-plain, lock-plain, chan-plain, doing-plain, decimal-plain}
+use Rattle.sd_labels.proofs.PlainLemmas.{thread-plain, lock-plain, chan-plain, set-plain, doing-plain, decimal-plain}
 
 plain-byte : (b : ℕ) → is_plain_byte b ≡ true → is_text_byte b ≡ true
 plain-byte b h = grind (arith, nat_tests)
@@ -43,6 +44,9 @@ lock-text w l = plain-text (lock_name w l) (lock-plain w l)
 
 pub chan-text : (w : Work) (k : ℕ) → IsText (chan_name w k)
 chan-text w k = plain-text (chan_name w k) (chan-plain w k)
+
+pub set-text : (w : Work) (p : ℕ) → IsText (set_name w p)
+set-text w p = plain-text (set_name w p) (set-plain w p)
 
 pub doing-text : (w : Work) (d : Doing) → IsText (doing_text w d)
 doing-text w d = plain-text (doing_text w d) (doing-plain w d)

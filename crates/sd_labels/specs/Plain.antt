@@ -3,6 +3,7 @@
 use Rattle.std.specs.Prelude.{ℕ, Bool, not, ◌&&◌, ◌||◌, ◌==◌, nat_le, List, IsTrue}
 use Rattle.std.specs.List.{list_all}
 use Rattle.sd_types.specs.declared.works.Work.{Work}
+use Rattle.sd_full.specs.Texts.{set_name}
 use Rattle.sd_machine.specs.Texts.{chan_name, lock_name, thread_name}
 use Rattle.sd_stretches.specs.declared.sights.Doing.{Doing}
 use Rattle.sd_labels.specs.Doings.{doing_text}
@@ -34,6 +35,7 @@ pub record HasPlainNames (w : Work) : Type 0 where
   pub threads : (t : ℕ) → IsPlain (thread_name w t)
   pub locks : (l : ℕ) → IsPlain (lock_name w l)
   pub chans : (k : ℕ) → IsPlain (chan_name w k)
+  pub sets : (p : ℕ) → IsPlain (set_name w p)
   pub doings : (d : Doing) → IsPlain (doing_text w d)
 
 abbrev pub NamesNeedNoEscaping : Type 0

@@ -1,7 +1,7 @@
 //! What a thread does, in words. Each function appends a text. Where memory runs out it may have appended a part of it.
 
 ghost use Rattle.std.specs.Prelude.{◌≡◌, ◌++◌, OnOk, decimal};
-ghost use Rattle.sd_labels.specs.Doings.{doing_text};
+ghost use Rattle.sd_labels.specs.Doings.{doing_text, spinning_text};
 
 use crate::names::{chan_name, lock_name};
 use sd_stretches::Doing;
@@ -25,12 +25,22 @@ fn put_named(word: &[u8], name: &[u8], out: &mut Vec<u8>) -> Result<(), AllocErr
     out.extend_from_slice(name)
 }
 
+// On which processor a thread spins for a lock.
+#[tactic(auto, unfolding(crate::specs::Doings::spinning_text))]
+fn put_spinning(c: u64, lock: &[u8], out: &mut Vec<u8>) -> Result<(), AllocError>
+    ensures { OnOk result (out.new.items ≡ out.old.items ++ spinning_text c lock.now) }
+{
+    put_counted(b"spins on processor ", c, out)?;
+    put_named(b" for ", lock, out)
+}
+
 /// What a thread does.
 pub fn put_doing(work: &Work, doing: Doing, out: &mut Vec<u8>) -> Result<(), AllocError>
     ensures { OnOk result (out.new.items ≡ out.old.items ++ doing_text work.now doing) }
 {
     match doing {
         Doing::Running(c) => put_counted(b"runs on processor ", u64::from(c.0), out),
+        Doing::Spinning(c, l) => put_spinning(u64::from(c.0), lock_name(work, l), out),
         Doing::Runnable => out.extend_from_slice(b"runnable"),
         Doing::Waiting(l) => put_named(b"waits for ", lock_name(work, l), out),
         Doing::Asleep(k) => put_named(b"asleep on ", chan_name(work, k), out),

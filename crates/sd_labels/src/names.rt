@@ -1,9 +1,10 @@
 //! The names that a workload declares, by their numbers. A number that names nothing has no name.
 
 ghost use Rattle.std.specs.Prelude.{◌≡◌};
+ghost use Rattle.sd_full.specs.Texts.{set_name};
 ghost use Rattle.sd_machine.specs.Texts.{chan_name, lock_name, thread_name};
 
-use sd_types::{ChanId, LockId, Work};
+use sd_types::{ChanId, LockId, SetId, Work};
 
 /// The name of thread `t`.
 pub fn thread_name(work: &Work, t: usize) -> &[u8]
@@ -31,6 +32,19 @@ pub fn chan_name(work: &Work, k: ChanId) -> &[u8]
 {
     match work.chans.items().get(k.0 as usize) {
         Some(chan) => chan.0.bytes(),
+        None => b"",
+    }
+}
+
+/// The name of a processor set, and `-` for the default partition, which has none.
+pub fn set_name(work: &Work, p: SetId) -> &[u8]
+    ensures { result.now ≡ set_name work.now p.0 }
+{
+    if p.0 == 0 {
+        return b"-";
+    }
+    match work.sets.items().get(p.0 as usize - 1) {
+        Some(set) => set.0.bytes(),
         None => b"",
     }
 }

@@ -6,7 +6,7 @@ use Rattle.std.proofs.lemmas.Bool.{false≢true, cases_Bool}
 use Rattle.std.proofs.lemmas.Bool.Decides.{nat_tests}
 use Rattle.std.proofs.lemmas.List.Elements.{filter-append}
 use Rattle.sd_stretches.specs.declared.sights.Doing.{Doing}
-use Rattle.sd_stretches.specs.declared.sights.Doing.TheVariants.{Running, Runnable, Waiting, Asleep, Napping, Ended}
+use Rattle.sd_stretches.specs.declared.sights.Doing.TheVariants.{Running, Spinning, Runnable, Waiting, Asleep, Napping, Ended}
 use Rattle.sd_stretches.specs.declared.sights.Sight.{Sight}
 use Rattle.sd_stretches.specs.declared.changes.Turn.{Turn}
 use Rattle.sd_stretches.specs.declared.rows.Stretch.{Stretch}
@@ -39,11 +39,13 @@ ends_later first later from after xs (Some y) a b (c, d, rest) = (omega (arith, 
 
 both_run : (c : ℕ) (x y : Doing) → runs_on c x ≡ true → runs_on c y ≡ true → same_doing x y ≡ true
 both_run c (Running d) (Running e) a b = grind (arith, nat_tests)
+both_run c (Running d) (Spinning e l) a b = cc
 both_run c (Running d) Runnable a b = cc
 both_run c (Running d) (Waiting l) a b = cc
 both_run c (Running d) (Asleep k) a b = cc
 both_run c (Running d) Napping a b = cc
 both_run c (Running d) Ended a b = cc
+both_run c (Spinning d l) y a b = cc
 both_run c Runnable y a b = cc
 both_run c (Waiting l) y a b = cc
 both_run c (Asleep k) y a b = cc

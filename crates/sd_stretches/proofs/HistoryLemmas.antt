@@ -13,8 +13,8 @@ use Rattle.sd_full.specs.Runs.{final, state_at}
 use Rattle.sd_machine.specs.States.{cpu_of}
 use Rattle.sd_stretches.specs.declared.histories.History.{History}
 use Rattle.sd_stretches.specs.Sights.{sights_of}
-use Rattle.sd_stretches.specs.Changes.{turns_between, ranks_between, load_if, hand_overs_of, wakeups_of}
-use Rattle.sd_stretches.specs.Histories.{Moment, moment, over, turns_in, ranks_in, loads_in, hand_overs_in, wakeups_in, IsHistory}
+use Rattle.sd_stretches.specs.Changes.{turns_between, ranks_between, load_if, hand_overs_of, happenings_of, wakeups_of}
+use Rattle.sd_stretches.specs.Histories.{Moment, moment, over, turns_in, ranks_in, loads_in, hand_overs_in, wakeups_in, happenings_in, IsHistory}
 use Rattle.sd_stretches.proofs.RangeLemmas.{flat_range_more, flat_range_same}
 
 module _ (w : Work) (es : List Entry) (e : Entry) where
@@ -78,14 +78,15 @@ over_none f w = append-nil (f (record { first = 0; earlier = []; state = final w
 
 -- the history of no entry, and of one entry more
 pub history_none : (w : Work) (s : State) (h : History) → s ≡ opening w → h.turns.items ≡ turns_between [] (sights_of s) 0 0 → h.ranks.items ≡ ranks_between [] (sights_of s) 0 0
-    → h.loads.items ≡ load_if [] (sights_of s) 0 0 → h.hand_overs.items ≡ [] → h.wakeups.items ≡ [] → h.sights.items ≡ sights_of s → h.entries ≡ 0
+    → h.loads.items ≡ load_if [] (sights_of s) 0 0 → h.hand_overs.items ≡ [] → h.wakeups.items ≡ [] → h.happenings.items ≡ [] → h.sights.items ≡ sights_of s → h.entries ≡ 0
     → IsHistory w [] h
-history_none w s h start turns ranks loads hand_overs wakeups sights entries = record {
+history_none w s h start turns ranks loads hand_overs wakeups happenings sights entries = record {
   turns = turns ∙ rw start (sym (over_none turns_in w));
   ranks = ranks ∙ rw start (sym (over_none ranks_in w));
   loads = loads ∙ rw start (sym (over_none loads_in w));
   hand_overs = hand_overs ∙ sym (over_none hand_overs_in w);
   wakeups = wakeups ∙ sym (over_none wakeups_in w);
+  happenings = happenings ∙ sym (over_none happenings_in w);
   sights = sights ∙ ap sights_of (start ∙ sym (final_none w));
   entries = entries;
 }
@@ -96,10 +97,11 @@ pub history_more : (w : Work) (es : List Entry) (e : Entry) (s : State) (old new
     → new.loads.items ≡ old.loads.items ++ load_if old.sights.items (sights_of s) (old.entries + 1) (cpu_of s e.cpu.0).count
     → new.hand_overs.items ≡ old.hand_overs.items ++ hand_overs_of s (Some e)
     → new.wakeups.items ≡ old.wakeups.items ++ wakeups_of s (Some e)
+    → new.happenings.items ≡ old.happenings.items ++ happenings_of s (Some e)
     → new.sights.items ≡ sights_of s → new.entries ≡ old.entries + 1
     → IsHistory w (es ++ e ∷ []) new
 unfolding last_moment
-history_more w es e s old new state h turns ranks loads hand_overs wakeups sights entries =
+history_more w es e s old new state h turns ranks loads hand_overs wakeups happenings sights entries =
     let o = h.sights in
     let n = h.entries in
     let t = h.turns in
@@ -107,12 +109,14 @@ history_more w es e s old new state h turns ranks loads hand_overs wakeups sight
     let l = h.loads in
     let g = h.hand_overs in
     let k = h.wakeups in
+    let p = h.happenings in
     record {
       turns = turns ∙ rw (t, o, n, state) (sym (over_more w es e turns_in));
       ranks = ranks ∙ rw (r, o, n, state) (sym (over_more w es e ranks_in));
       loads = loads ∙ rw (l, o, n, state) (sym (over_more w es e loads_in));
       hand_overs = hand_overs ∙ rw (g, state) (sym (over_more w es e hand_overs_in));
       wakeups = wakeups ∙ rw (k, state) (sym (over_more w es e wakeups_in));
+      happenings = happenings ∙ rw (p, state) (sym (over_more w es e happenings_in));
       sights = sights ∙ ap sights_of state;
       entries = entries ∙ ap (λ m. m + 1) n ∙ sym (length-append es (e ∷ []));
     }

@@ -4,3 +4,4 @@ pub mod RowLemmas
 pub mod ExactLemmas
 pub mod OrderLemmas
 pub mod SliceLemmas
+pub mod SpinLemmas

@@ -9,7 +9,7 @@ use Rattle.sd_machine.specs.declared.states.Place.TheVariants as place
 use Rattle.sd_machine.specs.States.{thread_of}
 use Rattle.sd_full.specs.Runs.{state_at}
 use Rattle.sd_stretches.specs.declared.sights.Doing.{Doing}
-use Rattle.sd_stretches.specs.declared.sights.Doing.TheVariants.{Running, Runnable, Waiting, Asleep, Napping, Ended}
+use Rattle.sd_stretches.specs.declared.sights.Doing.TheVariants.{Running, Spinning, Runnable, Waiting, Asleep, Napping, Ended}
 use Rattle.sd_stretches.specs.declared.rows.Stretch.{Stretch}
 use Rattle.sd_stretches.specs.declared.changes.Turn.{Turn}
 use Rattle.sd_stretches.specs.Sights.{doing_of, runs_on}
@@ -56,6 +56,7 @@ own_slices c t n end xs = swapped (λ x. x.thread == t) (λ x. runs_on c x.doing
 
 runs_is : (c : CpuId) (d : Doing) → runs_on c.0 d ≡ true → d ≡ Running c
 runs_is c (Running d) h = let e : d.0 ≡ c.0 = grind (arith, nat_tests) in ap (λ n. Running (record { 0 = n })) e
+runs_is c (Spinning d l) h = cc
 runs_is c Runnable h = cc
 runs_is c (Waiting l) h = cc
 runs_is c (Asleep k) h = cc

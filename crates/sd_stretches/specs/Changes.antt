@@ -1,13 +1,16 @@
 -- What changes from one state to the next, and the entries that hand priority on or wake.
 -- Source: Solaris Internals (turnstiles: priority inheritance; sleep queues); the lists are this project's own.
-use Rattle.std.specs.Prelude.{ℕ, Bool, ◌&&◌, ◌==◌, List, [], ◌∷◌, length, Option, Some, None, option_to_list, position, slice_get, if◌then◌else◌}
+use Rattle.std.specs.Prelude.{ℕ, Bool, false, ◌&&◌, ◌==◌, nat_lt, List, [], ◌∷◌, length, Option, Some, None, option_to_list, position, slice_get, if◌then◌else◌}
 use Rattle.std.specs.List.{flat_map, range_with_len}
 use Rattle.sd_types.specs.declared.numbers.CpuId.{CpuId}
+use Rattle.sd_types.specs.declared.numbers.LockId.{LockId}
 use Rattle.sd_types.specs.declared.numbers.ThreadId.{ThreadId}
 use Rattle.sd_types.specs.declared.events.Event.{Event}
-use Rattle.sd_types.specs.declared.events.Event.TheVariants.{Napend, Wake, Rouse, Unblock, Grant, SemaVWake, Will}
+use Rattle.sd_types.specs.declared.events.Event.TheVariants.{Block, Napend, Spin, Wake, Rouse, Unblock, Grant, SemaVWake, Will}
 use Rattle.sd_types.specs.declared.events.Entry.{Entry}
-use Rattle.sd_types.specs.Priorities.{eff}
+use Rattle.sd_types.specs.Priorities.{base_of, eff}
+use Rattle.sd_machine.specs.declared.states.LockState.{LockState}
+use Rattle.sd_machine.specs.declared.states.LockState.TheVariants.{Owned}
 use Rattle.sd_machine.specs.declared.states.ThreadState.{ThreadState}
 use Rattle.sd_machine.specs.declared.states.State.{State}
 use Rattle.sd_machine.specs.States.{cpu_of}
@@ -18,6 +21,7 @@ use Rattle.sd_stretches.specs.declared.changes.Rank.{Rank}
 use Rattle.sd_stretches.specs.declared.changes.Load.{Load}
 use Rattle.sd_stretches.specs.declared.changes.HandOver.{HandOver}
 use Rattle.sd_stretches.specs.declared.changes.Wakeup.{Wakeup}
+use Rattle.sd_stretches.specs.declared.changes.Happening.{Happening}
 use Rattle.sd_stretches.specs.Sights.{same_doing, same_rank, runnable}
 
 abbrev pub turn_from : ℕ → ℕ → ℕ → Sight → Turn
@@ -62,9 +66,21 @@ giver_of s l (Some greatest) = position (λ x. is_giver l greatest x) s.threads
 abbrev pub giver : State → ℕ → Option ℕ
 giver s l = giver_of s l (greatest_waiting l s.threads)
 
+abbrev pub is_above_base : Option ThreadState → ℕ → Bool
+is_above_base None p = false
+is_above_base (Some x) p = nat_lt (base_of x.body.class) p
+
+abbrev pub is_priority : Option ℕ → ℕ → Bool
+is_priority None p = false
+is_priority (Some greatest) p = greatest == p
+
+-- thread o, with this effective priority, has it from those who wait for lock l
+abbrev pub is_inherited : State → ℕ → ℕ → ℕ → Bool
+is_inherited s l o p = is_above_base (slice_get s.threads o) p && is_priority (greatest_waiting l s.threads) p
+
 -- what an entry hands on, from the state that it made
 abbrev pub hand_over_by : State → Entry → Event → Option HandOver
-hand_over_by s e (Will l o p at) = Some (record { entry = e.number; tick = (cpu_of s e.cpu.0).count; lock = l; waiter = giver s l.0; owner = o; priority = p })
+hand_over_by s e (Will l o p at) = Some (record { entry = e.number; tick = (cpu_of s e.cpu.0).count; lock = l; waiter = giver s l.0; owner = o; priority = p; inherited = is_inherited s l.0 o.0 p })
 hand_over_by s e _ = None
 
 abbrev pub hand_over_of : State → Entry → Option HandOver
@@ -100,3 +116,28 @@ wakeup_of s e = wakeup_by s e (woken_by e.event)
 abbrev pub wakeups_of : State → Option Entry → List Wakeup
 wakeups_of s None = []
 wakeups_of s (Some e) = option_to_list (wakeup_of s e)
+
+-- The entries, without the numbers that they read.
+
+-- the lock for which a thread spins or blocks
+abbrev pub wanted_lock : Event → Option LockId
+wanted_lock (Spin t l) = Some l
+wanted_lock (Block t l) = Some l
+wanted_lock _ = None
+
+abbrev pub owner_in : Option LockState → Option ThreadId
+owner_in (Some (Owned o)) = Some o
+owner_in _ = None
+
+-- a lock that is free, held by readers or passed on has no owner
+abbrev pub owner_of : State → Option LockId → Option ThreadId
+owner_of s None = None
+owner_of s (Some l) = owner_in (slice_get s.locks l.0)
+
+abbrev pub happening_of : State → Entry → Happening
+happening_of s e =
+    record { entry = e.number; cpu = e.cpu; tick = (cpu_of s e.cpu.0).count; event = e.event; owner = owner_of s (wanted_lock e.event) }
+
+abbrev pub happenings_of : State → Option Entry → List Happening
+happenings_of s None = []
+happenings_of s (Some e) = happening_of s e ∷ []

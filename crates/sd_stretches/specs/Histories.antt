@@ -14,9 +14,10 @@ use Rattle.sd_stretches.specs.declared.changes.Rank.{Rank}
 use Rattle.sd_stretches.specs.declared.changes.Load.{Load}
 use Rattle.sd_stretches.specs.declared.changes.HandOver.{HandOver}
 use Rattle.sd_stretches.specs.declared.changes.Wakeup.{Wakeup}
+use Rattle.sd_stretches.specs.declared.changes.Happening.{Happening}
 use Rattle.sd_stretches.specs.declared.histories.History.{History}
 use Rattle.sd_stretches.specs.Sights.{sights_of}
-use Rattle.sd_stretches.specs.Changes.{turns_between, ranks_between, load_if, hand_overs_of, wakeups_of}
+use Rattle.sd_stretches.specs.Changes.{turns_between, ranks_between, load_if, hand_overs_of, happenings_of, wakeups_of}
 
 -- a state of a run, by the number of entries that made it: what was seen in the state before it, and the entry between
 pub record Moment : Type 0 where
@@ -59,6 +60,9 @@ hand_overs_in m = hand_overs_of m.state m.entry
 abbrev pub wakeups_in : Moment → List Wakeup
 wakeups_in m = wakeups_of m.state m.entry
 
+abbrev pub happenings_in : Moment → List Happening
+happenings_in m = happenings_of m.state m.entry
+
 -- what all states of a run show, in order
 unfoldable pub over : {A : Type 0} → (Moment → List A) → Work → List Entry → List A
 over f w es = flat_map (λ k. f (moment w es k)) (range_with_len 0 (length es + 1))
@@ -70,5 +74,6 @@ pub record IsHistory (w : Work) (es : List Entry) (h : History) : Type 0 where
   pub loads : h.loads.items ≡ over loads_in w es
   pub hand_overs : h.hand_overs.items ≡ over hand_overs_in w es
   pub wakeups : h.wakeups.items ≡ over wakeups_in w es
+  pub happenings : h.happenings.items ≡ over happenings_in w es
   pub sights : h.sights.items ≡ sights_of (final w (opening w) es)
   pub entries : h.entries ≡ length es

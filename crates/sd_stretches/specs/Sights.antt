@@ -11,7 +11,7 @@ use Rattle.sd_machine.specs.declared.states.Place.TheVariants as place
 use Rattle.sd_machine.specs.declared.states.ThreadState.{ThreadState}
 use Rattle.sd_machine.specs.declared.states.State.{State}
 use Rattle.sd_stretches.specs.declared.sights.Doing.{Doing}
-use Rattle.sd_stretches.specs.declared.sights.Doing.TheVariants.{Running, Runnable, Waiting, Asleep, Napping, Ended}
+use Rattle.sd_stretches.specs.declared.sights.Doing.TheVariants.{Running, Spinning, Runnable, Waiting, Asleep, Napping, Ended}
 use Rattle.sd_stretches.specs.declared.sights.Sight.{Sight}
 
 -- what a thread does at a place; which queue it stands on, on which side it waits and until when it naps is left out
@@ -31,6 +31,7 @@ runs_on c _ = false
 
 abbrev pub same_doing : Doing → Doing → Bool
 same_doing (Running c) (Running d) = c.0 == d.0
+same_doing (Spinning c l) (Spinning d m) = (c.0 == d.0) && (l.0 == m.0)
 same_doing Runnable Runnable = true
 same_doing (Waiting l) (Waiting m) = l.0 == m.0
 same_doing (Asleep k) (Asleep j) = k.0 == j.0

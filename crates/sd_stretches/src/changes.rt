@@ -4,11 +4,11 @@
 
 ghost use Rattle.std.specs.Prelude.{◌≡◌, ◌++◌, OnOk, slice_get, None, Some};
 ghost use Rattle.sd_machine.specs.States.{cpu_of};
-ghost use Rattle.sd_stretches.specs.Changes.{giver, giver_of, hand_over_of, hand_overs_of, is_giver, load_if, rank_if, ranks_between, turn_if, turns_between, wakeup_of, wakeups_of, woken_by, waker_of};
+ghost use Rattle.sd_stretches.specs.Changes.{giver, giver_of, hand_over_of, hand_overs_of, happening_of, happenings_of, is_above_base, is_giver, is_inherited, is_priority, load_if, owner_of, rank_if, ranks_between, turn_if, turns_between, wakeup_of, wakeups_of, wanted_lock, woken_by, waker_of};
 
 use crate::sights::{Doing, Sight, runnable, same_doing, same_rank};
 use sd_flat::{greatest_waiting, runner};
-use sd_machine::{Place, State, ThreadState};
+use sd_machine::{LockState, Place, State, ThreadState};
 use sd_types::{Class, CpuId, Entry, Event, LockId, ThreadId};
 use std::alloc::AllocError;
 
@@ -44,7 +44,8 @@ pub struct Load {
 }
 
 /// The entry of this number gave the owner of the lock the greatest priority of those who wait for it: `waiter` is the first
-/// of them that has it, `priority` the owner's effective priority then.
+/// of them that has it, `priority` the owner's effective priority then. `inherited` says whether the owner has it from them: it is
+/// that of the waiter, and above the base priority of the owner's class.
 #[derive(Clone, Copy)]
 pub struct HandOver {
     pub entry: u64,
@@ -53,6 +54,7 @@ pub struct HandOver {
     pub waiter: Option<usize>,
     pub owner: ThreadId,
     pub priority: u8,
+    pub inherited: bool,
 }
 
 /// The entry of this number made a thread runnable that slept, napped or waited for a lock; `waker` is the thread that ran on
@@ -63,6 +65,17 @@ pub struct Wakeup {
     pub tick: u32,
     pub waker: Option<usize>,
     pub woken: ThreadId,
+}
+
+/// An entry, without the numbers that it read. `tick` is the count of its processor after it, and `owner` the thread that owns
+/// then the lock for which the entry says that a thread spins or blocks.
+#[derive(Clone, Copy)]
+pub struct Happening {
+    pub entry: u64,
+    pub cpu: CpuId,
+    pub tick: u32,
+    pub event: Event,
+    pub owner: Option<ThreadId>,
 }
 
 fn sight_at(sights: &[Sight], t: usize) -> Option<Sight>
@@ -225,6 +238,31 @@ pub(crate) fn count_of(s: &State, c: CpuId) -> u32
     }
 }
 
+fn is_above_base(s: &State, t: ThreadId, priority: u8) -> bool
+    ensures { result ≡ is_above_base (slice_get s.now.threads t.0) priority }
+{
+    match s.threads.items().get(t.0 as usize) {
+        Some(x) => x.body.class.base() < priority,
+        None => false,
+    }
+}
+
+fn is_priority(greatest: Option<u8>, priority: u8) -> bool
+    ensures { result ≡ is_priority greatest priority }
+{
+    match greatest {
+        Some(greatest) => greatest == priority,
+        None => false,
+    }
+}
+
+// The owner has its effective priority from those who wait for the lock.
+fn is_inherited(s: &State, l: LockId, owner: ThreadId, priority: u8) -> bool
+    ensures { result ≡ is_inherited s.now l.0 owner.0 priority }
+{
+    is_above_base(s, owner, priority) && is_priority(greatest_waiting(s, l), priority)
+}
+
 fn hand_over_of(s: &State, entry: &Entry) -> Option<HandOver>
     ensures { result ≡ hand_over_of s.now entry.now }
 {
@@ -236,6 +274,7 @@ fn hand_over_of(s: &State, entry: &Entry) -> Option<HandOver>
             waiter: giver(s, l),
             owner: o,
             priority: p,
+            inherited: is_inherited(s, l, o, p),
         }),
         _ => None,
     }
@@ -303,5 +342,49 @@ pub(crate) fn push_wakeup(s: &State, entry: &Entry, out: &mut Vec<Wakeup>) -> Re
     if let Some(wakeup) = wakeup_of(s, entry) {
         out.push(wakeup)?;
     }
+    Ok(())
+}
+
+// The lock for which a thread spins or blocks.
+fn wanted_lock(event: &Event) -> Option<LockId>
+    ensures { result ≡ wanted_lock event.now }
+{
+    match *event {
+        Event::Spin { l, .. } => Some(l),
+        Event::Block { l, .. } => Some(l),
+        _ => None,
+    }
+}
+
+fn owner_of(s: &State, l: Option<LockId>) -> Option<ThreadId>
+    ensures { result ≡ owner_of s.now l }
+{
+    match s.locks.items().get(l?.0 as usize) {
+        Some(LockState::Owned(o)) => Some(*o),
+        _ => None,
+    }
+}
+
+fn happening_of(s: &State, entry: &Entry) -> Happening
+    ensures { result ≡ happening_of s.now entry.now }
+{
+    Happening {
+        entry: entry.number,
+        cpu: entry.cpu,
+        tick: count_of(s, entry.cpu),
+        event: entry.event,
+        owner: owner_of(s, wanted_lock(&entry.event)),
+    }
+}
+
+/// Appends the entry, which made this state.
+pub(crate) fn push_happening(
+    s: &State,
+    entry: &Entry,
+    out: &mut Vec<Happening>,
+) -> Result<(), AllocError>
+    ensures { OnOk result (out.new.items ≡ out.old.items ++ happenings_of s.now (Some entry.now)) }
+{
+    out.push(happening_of(s, entry))?;
     Ok(())
 }

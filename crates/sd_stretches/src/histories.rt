@@ -10,8 +10,8 @@ ghost use Rattle.sd_stretches.specs.Histories.{IsHistory};
 ghost use Rattle.sd_stretches.specs.Sights.{sights_of};
 
 use crate::changes::{
-    HandOver, Load, Rank, Turn, Wakeup, count_of, push_hand_over, push_load, push_ranks,
-    push_turns, push_wakeup,
+    HandOver, Happening, Load, Rank, Turn, Wakeup, count_of, push_hand_over, push_happening,
+    push_load, push_ranks, push_turns, push_wakeup,
 };
 use crate::sights::{Sight, sights_of};
 use sd_machine::State;
@@ -19,7 +19,7 @@ use sd_types::{Entry, Work};
 use std::alloc::{AllocError, Global};
 
 /// What the states and entries of a run show, in order of the entries, as far as it was taken in: what each thread does, its
-/// priorities, how many threads stand on dispatch queues, who hands priority on and who wakes whom. Of which entries it is the
+/// priorities, how many threads stand on dispatch queues, who hands priority on, who wakes whom, and the entries themselves. Of which entries it is the
 /// history is said by `IsHistory`.
 #[derive(Drop)]
 pub struct History {
@@ -28,6 +28,7 @@ pub struct History {
     pub loads: Vec<Load>,
     pub hand_overs: Vec<HandOver>,
     pub wakeups: Vec<Wakeup>,
+    pub happenings: Vec<Happening>,
     pub(crate) sights: Vec<Sight>,
     pub entries: u64,
 }
@@ -40,6 +41,7 @@ impl History {
         ensures loads { result.loads.items ≡ [] }
         ensures hand_overs { result.hand_overs.items ≡ [] }
         ensures wakeups { result.wakeups.items ≡ [] }
+        ensures happenings { result.happenings.items ≡ [] }
         ensures sights { result.sights.items ≡ [] }
         ensures entries { result.entries ≡ 0 }
     {
@@ -49,6 +51,7 @@ impl History {
             loads: Vec::new(alloc),
             hand_overs: Vec::new(alloc),
             wakeups: Vec::new(alloc),
+            happenings: Vec::new(alloc),
             sights: Vec::new(alloc),
             entries: 0,
         }
@@ -63,6 +66,7 @@ impl History {
         ensures entries { OnOk result (self.new.entries ≡ first) }
         ensures hand_overs { self.new.hand_overs ≡ self.old.hand_overs }
         ensures wakeups { self.new.wakeups ≡ self.old.wakeups }
+        ensures happenings { self.new.happenings ≡ self.old.happenings }
     {
         let sights = sights_of(alloc, s)?;
         push_turns(&self.sights, &sights, first, tick, &mut self.turns)?;
@@ -92,6 +96,7 @@ impl History {
         self.see(alloc, s, first, count_of(s, entry.cpu))?;
         push_hand_over(s, entry, &mut self.hand_overs)?;
         push_wakeup(s, entry, &mut self.wakeups)?;
+        push_happening(s, entry, &mut self.happenings)?;
         Ok(())
     }
 }

@@ -2,6 +2,7 @@
 
 ghost use Rattle.sd_stretches.specs.Exact.{SlicesAreExact, StretchesAreExact};
 ghost use Rattle.sd_stretches.specs.Order.{StretchesStandInOrder};
+ghost use Rattle.sd_stretches.specs.Spins.{PiecesFillStretches};
 
 /// The stretches of each thread of a workload, over any entries, are exactly those of its place: they follow one another from
 /// the initial state to the last one, the place of the thread in each state of a stretch is that of the stretch, and
@@ -19,4 +20,10 @@ pub fn slices_are_exact()
 /// The stretches of all threads are those of each thread, in the order of the entries that began them.
 pub fn stretches_stand_in_order()
     ensures { StretchesStandInOrder }
+{}
+
+/// The pieces into which a stretch is cut where its thread spins fill it: the first begins at its first tick, each begins at the
+/// tick at which the one before it ends, and the last ends with it.
+pub fn pieces_fill_stretches()
+    ensures { PiecesFillStretches }
 {}

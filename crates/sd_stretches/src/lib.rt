@@ -1,5 +1,5 @@
 //! The stretches of a run: from which entry on each thread runs, is runnable, waits, sleeps, naps or has ended, with which
-//! priority, who hands priority on to whom, and who wakes whom. Definitions over the entries of a run, and a collector that
+//! priority, where it spins, who hands priority on to whom, and who wakes whom. Definitions over the entries of a run, and a collector that
 //! takes in one entry at a time.
 #![tactic(auto)]
 
@@ -8,9 +8,13 @@ mod histories;
 mod laws;
 mod rows;
 mod sights;
+mod spins;
 
-pub use changes::{HandOver, Load, Rank, Turn, Wakeup};
+pub use changes::{HandOver, Happening, Load, Rank, Turn, Wakeup};
 pub use histories::History;
-pub use laws::{slices_are_exact, stretches_are_exact, stretches_stand_in_order};
+pub use laws::{
+    pieces_fill_stretches, slices_are_exact, stretches_are_exact, stretches_stand_in_order,
+};
 pub use rows::{Level, Stretch, levels, slices, stretches};
 pub use sights::{Doing, Sight};
+pub use spins::{Track, pieces};

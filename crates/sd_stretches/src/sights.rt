@@ -10,11 +10,13 @@ use sd_machine::{Place, State, ThreadState};
 use sd_types::{ChanId, Class, ClassState, CpuId, LockId};
 use std::alloc::{AllocError, Global};
 
-/// What a thread does: it runs on a processor, stands on a dispatch queue, waits for a lock, sleeps on a channel (a condition
-/// variable or a semaphore is one), naps, or has ended.
+/// What a thread does: it runs on a processor, spins there for a lock, stands on a dispatch queue, waits for a lock, sleeps on a
+/// channel (a condition variable or a semaphore is one), naps, or has ended. A thread that spins has the place of one that runs:
+/// entries tell that it spins, and no state does.
 #[derive(Clone, Copy)]
 pub enum Doing {
     Running(CpuId),
+    Spinning(CpuId, LockId),
     Runnable,
     Waiting(LockId),
     Asleep(ChanId),
@@ -96,6 +98,7 @@ pub(crate) fn same_doing(x: Doing, y: Doing) -> bool
 {
     match (x, y) {
         (Doing::Running(c), Doing::Running(d)) => c.0 == d.0,
+        (Doing::Spinning(c, l), Doing::Spinning(d, m)) => c.0 == d.0 && l.0 == m.0,
         (Doing::Runnable, Doing::Runnable) => true,
         (Doing::Waiting(l), Doing::Waiting(m)) => l.0 == m.0,
         (Doing::Asleep(k), Doing::Asleep(j)) => k.0 == j.0,

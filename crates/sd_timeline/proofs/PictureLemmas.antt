@@ -1,33 +1,58 @@
 -- Which bytes pictures are made of.
-use Rattle.std.proofs.Common.{ℕ, ◌+◌, ◌%◌, ◌||◌, eqb, ltb, List, [], length, Option, Some, None, refl, if◌then◌else◌}
-use Rattle.std.specs.Prelude.{codes}
+use Rattle.std.proofs.Common.{ℕ, ◌+◌, ◌%◌, Bool, true, false, ◌&&◌, eqb, ltb, List, [], ◌∷◌, ◌++◌, length, Option, Some, None, refl, ◌∙◌, if◌then◌else◌}
+use Rattle.std.specs.Prelude.{codes, slice_get}
 use Rattle.std.specs.List.{flat_map, range_with_len}
 use Rattle.std.proofs.lemmas.List.Folds.{list_all-append}
 use Rattle.sd_types.specs.declared.numbers.CpuId.{CpuId}
+use Rattle.sd_types.specs.declared.numbers.SetId.{SetId}
+use Rattle.sd_types.specs.declared.numbers.ThreadId.{ThreadId}
+use Rattle.sd_types.specs.declared.events.AssignAnswer.{AssignAnswer}
+use Rattle.sd_types.specs.declared.events.AssignAnswer.TheVariants as assign
+use Rattle.sd_types.specs.declared.events.BindAnswer.{BindAnswer}
+use Rattle.sd_types.specs.declared.events.BindAnswer.TheVariants as bind
+use Rattle.sd_types.specs.declared.events.Event.{Event}
+use Rattle.sd_types.specs.declared.events.Event.TheVariants as event
+use Rattle.sd_types.specs.Partitions.{set_of_cpu}
+use Rattle.sd_full.specs.Texts.{set_name}
 use Rattle.sd_types.specs.declared.works.Work.{Work}
 use Rattle.sd_machine.specs.declared.states.State.{State}
 use Rattle.sd_machine.specs.Texts.{chan_name, lock_name, thread_name}
 use Rattle.sd_full.specs.LockGraph.{cycles_of}
 use Rattle.sd_stretches.specs.declared.sights.Doing.{Doing}
-use Rattle.sd_stretches.specs.declared.sights.Doing.TheVariants.{Running, Runnable, Waiting, Asleep, Napping, Ended}
+use Rattle.sd_stretches.specs.declared.sights.Doing.TheVariants.{Running, Spinning, Runnable, Waiting, Asleep, Napping, Ended}
 use Rattle.sd_stretches.specs.declared.changes.HandOver.{HandOver}
+use Rattle.sd_stretches.specs.declared.changes.Happening.{Happening}
+use Rattle.sd_stretches.specs.declared.changes.Wakeup.{Wakeup}
 use Rattle.sd_stretches.specs.declared.histories.History.{History}
 use Rattle.sd_stretches.specs.declared.rows.Level.{Level}
 use Rattle.sd_stretches.specs.declared.rows.Stretch.{Stretch}
-use Rattle.sd_stretches.specs.Rows.{stretches, levels}
+use Rattle.sd_stretches.specs.declared.spins.Track.TheVariants as track
+use Rattle.sd_stretches.specs.Rows.{levels}
+use Rattle.sd_stretches.specs.Spins.{pieces}
 use Rattle.sd_labels.specs.Plain.{is_plain_byte, is_text_byte, IsPlain, IsText}
 use Rattle.sd_labels.proofs.PlainLemmas.{thread-plain, lock-plain, doing-plain, decimal-plain}
-use Rattle.sd_labels.proofs.TextLemmas.{plain-text, flat-text, either-text, decimal-text, thread-text, lock-text, chan-text}
+use Rattle.sd_labels.proofs.TextLemmas.{plain-text, flat-text, either-text, decimal-text, thread-text, lock-text, chan-text, set-text}
 use Rattle.sd_timeline.specs.declared.frames.Frame.{Frame}
 use Rattle.sd_timeline.specs.declared.frames.Row.{Row}
 use Rattle.sd_timeline.specs.declared.frames.Row.TheVariants.{Cpu, Thread}
-use Rattle.sd_timeline.specs.Frames.{above, after, base, beside, bottom, column, floor, inside, row_of, shown, step, top, width}
-use Rattle.sd_timeline.specs.Pieces.{attribute, box_text, ends_text, bar_start, label_start, word_label, number_label, grid_line}
+use Rattle.sd_timeline.specs.Frames.{above, across, after, base, beside, bottom, column, floor, inside, over, row_of, shifted, shown, shows, step, top, under, width}
+use Rattle.sd_timeline.specs.declared.legend.Key.{Key}
+use Rattle.sd_timeline.specs.declared.legend.Key.TheVariants as key
+use Rattle.sd_timeline.specs.declared.legend.Shape.{Shape}
+use Rattle.sd_timeline.specs.declared.legend.Shape.TheVariants as shape
+use Rattle.sd_timeline.specs.Pieces.{attribute, box_text, ends_text, path_ends, path_start, bar_start, label_start, word_label, number_label, grid_line}
 use Rattle.sd_timeline.specs.Bars.{bar_text, between, cpu_word, doing_class, fits, on_bar, on_thread_bar, place_text, run_bar, run_bar_by, stretch_bar, stretch_title, times_text, word_text}
-use Rattle.sd_timeline.specs.Labels.{hand_from, hand_path, hand_rows, hand_start, hand_text, hand_title, inherited_level, level_text, mark_at, mark_text, own_level, path_end, path_start, waiter_text}
-use Rattle.sd_timeline.specs.Head.{arrow, arrow_key, axis, cpu_head, dark_colours, head, heading, inherited_key, key, keys, letters, light_colours, lines, mark, mark_if, measures, more_keys, opened, own_key, page, priority_keys, size, small_letters, start, style, thread_head, ticks_text, view_box}
-use Rattle.sd_timeline.specs.Picture.{marks_text, own_row, row_text, thread_text, timeline_text}
+use Rattle.sd_timeline.specs.Arrows.{arrow_start, hand_by, hand_path, hand_rows, hand_text, hand_texts, hand_title, heights, nth_at, waiter_text, wake_by, wake_path, wake_rows, wake_text, wake_title}
+use Rattle.sd_timeline.specs.Labels.{inherited_level, inherited_word, level_area, level_label, level_text, level_title, mark_at, mark_text, own_level}
+use Rattle.sd_timeline.specs.Legend.{box_key, class_of, key_at, key_if, key_text, keys_of, legend_text, line_key, shape_of, slot_x, slot_y, words_of}
+use Rattle.sd_timeline.specs.Moments.{cpu_moment, moment_line, moment_text, moments_of, thread_moment}
+use Rattle.sd_timeline.specs.Notes.{assign_note, bind_note, bound_words, note_by, note_text, set_note, set_words, thread_note}
+use Rattle.sd_timeline.specs.Head.{axis, bars_key, bound_label, counts_text, cpu_head, dark_colours, description, file_title, hatch, head, heading, letters, light_colours, lines, mark, mark_if, measures, opened, page, set_label, size, small_letters, start, style, thin_lines, thread_head, ticks_text, view_box}
+use Rattle.sd_timeline.specs.Picture.{bound_of, ground_text, marks_text, own_row, row_text, rows_text, thread_text, timeline_text}
 use Rattle.sd_timeline.specs.Plain.{HasPlainTitles}
+
+both-text : (a b : List ℕ) → IsText a → IsText b → IsText (a ++ b)
+both-text a b p q = list_all-append is_text_byte a b ∙ rw p q
 
 -- ---- pieces
 
@@ -56,10 +81,15 @@ line-text : (class : List ℕ) (from to : ℕ × ℕ) → IsText class → IsTex
 unfolding grid_line ends_text attribute
 line-text class from to h = simp (list_all-append is_text_byte, h, decimal-text)
 
+path-start-text : (class : List ℕ) (column : ℕ) (heights : ℕ × ℕ) → IsText class → IsText (path_start class column heights)
+unfolding path_start path_ends
+path-start-text class column heights h = simp (list_all-append is_text_byte, h, decimal-text)
+
 -- ---- bars
 
 class-text : (d : Doing) → IsText (doing_class d)
 class-text (Running c) = refl
+class-text (Spinning c l) = refl
 class-text Runnable = refl
 class-text (Waiting l) = refl
 class-text (Asleep k) = refl
@@ -81,6 +111,7 @@ cpu-text x y width c = either-text (fits 2 width) (number_label (codes "on") x y
 
 on-thread-text : (w : Work) (x y width : ℕ) (d : Doing) → IsText (on_thread_bar w x y width d)
 on-thread-text w x y width (Running c) = cpu-text x y width c
+on-thread-text w x y width (Spinning c l) = word-text (codes "on") x y width (lock_name w l.0) refl (lock-text w l.0)
 on-thread-text w x y width Runnable = refl
 on-thread-text w x y width (Waiting l) = word-text (codes "on") x y width (lock_name w l.0) refl (lock-text w l.0)
 on-thread-text w x y width (Asleep k) = word-text (codes "in") x y width (chan_name w k.0) refl (chan-text w k.0)
@@ -103,6 +134,7 @@ bar-text w f row x = either-text (eqb (width f x.from x.to) 0) [] (bar_text w f 
 
 run-text-by : (w : Work) (f : Frame) (x : Stretch) (d : Doing) → IsText (run_bar_by w f x d)
 run-text-by w f x (Running c) = bar-text w f (Cpu c.0) x
+run-text-by w f x (Spinning c l) = bar-text w f (Cpu c.0) x
 run-text-by w f x Runnable = refl
 run-text-by w f x (Waiting l) = refl
 run-text-by w f x (Asleep k) = refl
@@ -125,42 +157,154 @@ inherited-level-text f t x =
     (word-label-text (codes "inherited") (beside f x.from) (above f t) (codes "&#9650;") refl refl)
     (number-label-text (codes "inherited") (beside f x.from) (above f t) (codes "&#9650;") x.priority refl refl)
 
-level-text : (f : Frame) (t : ℕ) (x : Level) → IsText (level_text f t x)
-level-text f t x =
+level-label-text : (f : Frame) (t : ℕ) (x : Level) → IsText (level_label f t x)
+level-label-text f t x =
     either-text (ltb (width f x.from x.to) 20) [] (if x.inherited then inherited_level f t x else own_level f t x) refl
     (either-text x.inherited (inherited_level f t x) (own_level f t x) (inherited-level-text f t x) (own-level-text f t x))
+
+inherited-word-text : (b : Bool) → IsText (inherited_word b)
+inherited-word-text true = refl
+inherited-word-text false = refl
+
+level-title-text : (x : Level) → IsText (level_title x)
+unfolding level_title between
+level-title-text x = simp (list_all-append is_text_byte, decimal-text, inherited-word-text x.inherited)
+
+level-area-text : (f : Frame) (t : ℕ) (x : Level) → IsText (level_area f t x)
+unfolding level_area
+level-area-text f t x =
+    let begins = bar-start-text (codes "level") (column f x.from) (over f t) (width f x.from x.to) 12 refl in
+    simp (list_all-append is_text_byte, begins, level-title-text x)
+
+level-both-text : (f : Frame) (t : ℕ) (x : Level) → IsText (level_label f t x ++ level_area f t x)
+level-both-text f t x = both-text (level_label f t x) (level_area f t x) (level-label-text f t x) (level-area-text f t x)
+
+level-text : (f : Frame) (t : ℕ) (x : Level) → IsText (level_text f t x)
+level-text f t x = either-text (eqb (width f x.from x.to) 0) [] (level_label f t x ++ level_area f t x) refl (level-both-text f t x)
 
 arrow-title : (w : Work) (x : HandOver) (waiter : ℕ) → IsPlain (hand_title w x waiter)
 unfolding hand_title waiter_text
 arrow-title w x waiter =
     simp (list_all-append is_plain_byte, thread-plain w waiter, lock-plain w x.lock.0, thread-plain w x.owner.0, decimal-plain)
 
+wake-title : (w : Work) (x : Wakeup) (waker : ℕ) → IsPlain (wake_title w x waker)
+unfolding wake_title
+wake-title w x waker = simp (list_all-append is_plain_byte, thread-plain w waker, thread-plain w x.woken.0, decimal-plain)
+
 pub plain_titles : (w : Work) → HasPlainTitles w
-plain_titles w = record { bars = bar-title w; arrows = arrow-title w }
+plain_titles w = record { bars = bar-title w; arrows = arrow-title w; wakeups = wake-title w }
 
-hand-title-text : (w : Work) (x : HandOver) (waiter : ℕ) → IsText (hand_title w x waiter)
-hand-title-text w x waiter = plain-text (hand_title w x waiter) (arrow-title w x waiter)
+arrow-start-text : (class : List ℕ) (column : ℕ) (f : Frame) (from to : ℕ) → IsText class → IsText (arrow_start class column f from to)
+unfolding arrow_start
+arrow-start-text class column f from to h = path-start-text class column (heights f from to) h
 
-hand-start-text : (f : Frame) (tick waiter owner : ℕ) → IsText (hand_start f tick waiter owner)
-unfolding hand_start path_start
-hand-start-text f tick waiter owner = simp (list_all-append is_text_byte, decimal-text)
+hand-path-text : (w : Work) (f : Frame) (n : ℕ) (x : HandOver) (rows : ℕ × ℕ) → IsText (hand_path w f n x rows)
+unfolding hand_path
+hand-path-text w f n x rows =
+    let begins = arrow-start-text (codes "will") (shifted f x.tick n) f rows.0 rows.1 refl in
+    let title = plain-text (hand_title w x rows.0) (arrow-title w x rows.0) in
+    simp (list_all-append is_text_byte, begins, title)
 
-hand-path-text : (w : Work) (f : Frame) (x : HandOver) (waiter owner : ℕ) → IsText (hand_path w f x waiter owner)
-unfolding hand_path path_end
-hand-path-text w f x waiter owner =
-    simp (list_all-append is_text_byte, hand-start-text f x.tick waiter owner, hand-title-text w x waiter)
+hand-rows-text : (w : Work) (f : Frame) (n : ℕ) (x : HandOver) (waiter owner : Option ℕ) → IsText (hand_rows w f n x waiter owner)
+hand-rows-text w f n x None owner = refl
+hand-rows-text w f n x (Some waiter) None = refl
+hand-rows-text w f n x (Some waiter) (Some owner) = hand-path-text w f n x (waiter, owner)
 
-hand-rows-text : (w : Work) (f : Frame) (x : HandOver) (waiter owner : Option ℕ) → IsText (hand_rows w f x waiter owner)
-hand-rows-text w f x None owner = refl
-hand-rows-text w f x (Some waiter) None = refl
-hand-rows-text w f x (Some waiter) (Some owner) = hand-path-text w f x waiter owner
+hand-by-text : (w : Work) (f : Frame) (n : ℕ) (x : HandOver) (waiter : Option ℕ) → IsText (hand_by w f n x waiter)
+hand-by-text w f n x None = refl
+hand-by-text w f n x (Some waiter) = hand-rows-text w f n x (row_of f waiter) (row_of f x.owner.0)
 
-hand-from-text : (w : Work) (f : Frame) (x : HandOver) (waiter : Option ℕ) → IsText (hand_from w f x waiter)
-hand-from-text w f x None = refl
-hand-from-text w f x (Some waiter) = hand-rows-text w f x (row_of f waiter) (row_of f x.owner.0)
+hand-text : (w : Work) (f : Frame) (n : ℕ) (x : HandOver) → IsText (hand_text w f n x)
+hand-text w f n x = either-text (x.inherited && shows f x.tick) (hand_by w f n x x.waiter) [] (hand-by-text w f n x x.waiter) refl
 
-hand-text : (w : Work) (f : Frame) (x : HandOver) → IsText (hand_text w f x)
-hand-text w f x = either-text (ltb x.tick f.from || ltb f.to x.tick) [] (hand_from w f x x.waiter) refl (hand-from-text w f x x.waiter)
+hand-texts-text : (w : Work) (f : Frame) (earlier : Option ℕ) (n : ℕ) (xs : List HandOver) → IsText (hand_texts w f earlier n xs)
+unfolding hand_texts
+hand-texts-text w f earlier n [] = refl
+hand-texts-text w f earlier n (x ∷ xs) =
+    let m = nth_at earlier n x.tick in
+    simp (list_all-append is_text_byte, hand-text w f m x, hand-texts-text w f (Some x.tick) m xs)
+
+wake-path-text : (w : Work) (f : Frame) (x : Wakeup) (rows : ℕ × ℕ) → IsText (wake_path w f x rows)
+unfolding wake_path
+wake-path-text w f x rows =
+    let begins = arrow-start-text (codes "wake") (column f x.tick) f rows.0 rows.1 refl in
+    let title = plain-text (wake_title w x rows.0) (wake-title w x rows.0) in
+    simp (list_all-append is_text_byte, begins, title)
+
+wake-rows-text : (w : Work) (f : Frame) (x : Wakeup) (waker woken : Option ℕ) → IsText (wake_rows w f x waker woken)
+wake-rows-text w f x None woken = refl
+wake-rows-text w f x (Some waker) None = refl
+wake-rows-text w f x (Some waker) (Some woken) = wake-path-text w f x (waker, woken)
+
+wake-by-text : (w : Work) (f : Frame) (x : Wakeup) (waker : Option ℕ) → IsText (wake_by w f x waker)
+wake-by-text w f x None = refl
+wake-by-text w f x (Some waker) = wake-rows-text w f x (row_of f waker) (row_of f x.woken.0)
+
+wake-text : (w : Work) (f : Frame) (x : Wakeup) → IsText (wake_text w f x)
+wake-text w f x = either-text (shows f x.tick) (wake_by w f x x.waker) [] (wake-by-text w f x x.waker) refl
+
+-- ---- moments and notes
+
+moment-line-text : (w : Work) (f : Frame) (row : Row) (x : Stretch) → IsText (moment_line w f row x)
+unfolding moment_line
+moment-line-text w f row x =
+    let begins = path-start-text (codes "moment") (column f x.from) (across f row) refl in
+    simp (list_all-append is_text_byte, begins, title-text w x)
+
+cpu-moment-text : (w : Work) (f : Frame) (x : Stretch) (d : Doing) → IsText (cpu_moment w f x d)
+cpu-moment-text w f x (Running c) = moment-line-text w f (Cpu c.0) x
+cpu-moment-text w f x (Spinning c l) = refl
+cpu-moment-text w f x Runnable = refl
+cpu-moment-text w f x (Waiting l) = refl
+cpu-moment-text w f x (Asleep k) = refl
+cpu-moment-text w f x Napping = refl
+cpu-moment-text w f x Ended = refl
+
+thread-moment-text : (w : Work) (f : Frame) (x : Stretch) (row : Option ℕ) → IsText (thread_moment w f x row)
+thread-moment-text w f x None = refl
+thread-moment-text w f x (Some t) = moment-line-text w f (Thread t) x
+
+moment-text : (w : Work) (f : Frame) (x : Stretch) → IsText (moment_text w f x)
+moment-text w f x =
+    both-text (cpu_moment w f x x.doing) (thread_moment w f x (row_of f x.thread)) (cpu-moment-text w f x x.doing) (thread-moment-text w f x (row_of f x.thread))
+
+set-note-text : (class : List ℕ) (w : Work) (f : Frame) (tick : ℕ) (c : CpuId) (word : List ℕ) (set : SetId) → IsText class → IsText word
+    → IsText (set_note class w f tick c word set)
+unfolding set_note set_words
+set-note-text class w f tick c word set is h =
+    simp (list_all-append is_text_byte, label-start-text class (column f tick) (under f (Cpu c.0)) is, h, set-text w set.0)
+
+assign-note-text : (w : Work) (f : Frame) (tick : ℕ) (c : CpuId) (set : SetId) (answer : AssignAnswer) → IsText (assign_note w f tick c set answer)
+assign-note-text w f tick c set assign.Changed = set-note-text (codes "note closes") w f tick c (codes "closes for ") set refl refl
+assign-note-text w f tick c set assign.EPERM = refl
+assign-note-text w f tick c set assign.EINVAL = refl
+assign-note-text w f tick c set assign.EBUSY = refl
+
+bound-words-text : (cpu : Option CpuId) → IsText (bound_words cpu)
+unfolding bound_words
+bound-words-text None = refl
+bound-words-text (Some c) = simp (list_all-append is_text_byte, decimal-text)
+
+thread-note-text : (f : Frame) (tick : ℕ) (cpu : Option CpuId) (row : Option ℕ) → IsText (thread_note f tick cpu row)
+thread-note-text f tick cpu None = refl
+thread-note-text f tick cpu (Some t) =
+    simp (list_all-append is_text_byte, label-start-text (codes "note") (column f tick) (under f (Thread t)) refl, bound-words-text cpu)
+
+bind-note-text : (f : Frame) (tick : ℕ) (t : ThreadId) (cpu : Option CpuId) (answer : BindAnswer) → IsText (bind_note f tick t cpu answer)
+bind-note-text f tick t cpu (bind.Changed at) = thread-note-text f tick cpu (row_of f t.0)
+bind-note-text f tick t cpu bind.ESRCH = refl
+bind-note-text f tick t cpu bind.EINVAL = refl
+bind-note-text f tick t cpu bind.EPERM = refl
+bind-note-text f tick t cpu bind.EBUSY = refl
+
+note-by-text : (w : Work) (f : Frame) (x : Happening) (e : Event) → IsText (note_by w f x e)
+note-by-text w f x (event.Assign t c set answer) = assign-note-text w f x.tick c set answer
+note-by-text w f x (event.Joined set) = set-note-text (codes "note") w f x.tick x.cpu (codes "&#9652;in ") set refl refl
+note-by-text w f x (event.Bind t u cpu answer) = bind-note-text f x.tick u cpu answer
+note-by-text w f x _ = refl
+
+note-text : (w : Work) (f : Frame) (x : Happening) → IsText (note_text w f x)
+note-text w f x = either-text (shows f x.tick) (note_by w f x x.event) [] (note-by-text w f x x.event) refl
 
 mark-at-text : (f : Frame) (row : Option ℕ) → IsText (mark_at f row)
 mark-at-text f None = refl
@@ -171,57 +315,51 @@ mark-text f t = mark-at-text f (row_of f t)
 
 -- ---- what stands above the rows
 
-start-text : (f : Frame) → IsText (start f)
-unfolding start opened size measures view_box attribute style lines dark_colours light_colours letters small_letters page
-start-text f = simp (list_all-append is_text_byte, decimal-text)
+counts-text : (w : Work) → IsText (counts_text w)
+unfolding counts_text
+counts-text w = simp (list_all-append is_text_byte, decimal-text)
+
+ticks-text : (w : Work) (f : Frame) → IsText (ticks_text w f)
+unfolding ticks_text
+ticks-text w f = simp (list_all-append is_text_byte, decimal-text)
+
+file-title-text : (w : Work) → IsText (file_title w)
+unfolding file_title
+file-title-text w = simp (list_all-append is_text_byte, counts-text w)
+
+description-text : (w : Work) (f : Frame) → IsText (description w f)
+unfolding description
+description-text w f = simp (list_all-append is_text_byte, ticks-text w f)
+
+style-text : IsText style
+unfolding style lines thin_lines dark_colours light_colours letters small_letters
+style-text = refl
+
+size-text : (f : Frame) → IsText (size f)
+unfolding size measures view_box attribute
+size-text f = simp (list_all-append is_text_byte, decimal-text)
+
+start-text : (w : Work) (f : Frame) → IsText (start w f)
+unfolding start opened hatch page
+start-text w f = simp (list_all-append is_text_byte, size-text f, file-title-text w, description-text w f, style-text)
 
 heading-text : (w : Work) (f : Frame) → IsText (heading w f)
-unfolding heading ticks_text label_start attribute
-heading-text w f = simp (list_all-append is_text_byte, decimal-text)
+unfolding heading
+heading-text w f = simp (list_all-append is_text_byte, label-start-text (codes "head") 150 18 refl, ticks-text w f, counts-text w)
 
-key-text : (class : List ℕ) (x y : ℕ) (word : List ℕ) → IsText class → IsText word → IsText (key class x y word)
-unfolding key
-key-text class x y word p q =
-    simp (list_all-append is_text_byte, bar-start-text class x y 24 12 p, q, word-label-text (codes "key") (x + 30) (y + 10) word refl q)
-
-keys-text : IsText keys
-unfolding keys
-keys-text =
-    simp (
-      list_all-append is_text_byte,
-      key-text (codes "run") 150 32 (codes "running") refl refl,
-      key-text (codes "ready") 320 32 (codes "runnable") refl refl,
-      key-text (codes "wait") 490 32 (codes "waiting for a lock") refl refl,
-      key-text (codes "sleep") 660 32 (codes "asleep on a channel") refl refl,
-    )
-
-priority-keys-text : IsText priority_keys
-unfolding priority_keys own_key inherited_key arrow arrow_key
-priority-keys-text =
-    simp (
-      list_all-append is_text_byte,
-      word-label-text (codes "own") 490 62 (codes "29 priority") refl refl,
-      word-label-text (codes "inherited") 570 62 (codes "&#9650;110 inherited") refl refl,
-      word-label-text (codes "key") 730 62 (codes "hands priority on") refl refl,
-    )
-
-more-keys-text : IsText more_keys
-unfolding more_keys
-more-keys-text =
-    simp (
-      list_all-append is_text_byte,
-      key-text (codes "nap") 150 52 (codes "napping") refl refl,
-      key-text (codes "end") 320 52 (codes "ended") refl refl,
-      priority-keys-text,
-    )
+bars-key-text : IsText bars_key
+unfolding bars_key
+bars-key-text =
+    word-label-text (codes "key") 150 34 (codes "on a bar of a processor: the thread; on a bar of a thread: its processor, or the lock or channel; more where the pointer rests") refl refl
 
 tick-text : (f : Frame) (n : ℕ) → IsText (mark f n)
 unfolding mark
 tick-text f n =
     simp (
       list_all-append is_text_byte,
-      line-text (codes "grid") (after f n, 96) (after f n, bottom f) refl,
-      number-label-text (codes "tick") (after f n) 90 [] (f.from + n) refl refl,
+      line-text (codes "grid") (after f n, 118) (after f n, bottom f) refl,
+      number-label-text (codes "tick") (after f n) 113 [] (f.from + n) refl refl,
+      number-label-text (codes "tick") (after f n) (bottom f + 14) [] (f.from + n) refl refl,
     )
 
 tick-text-if : (f : Frame) (n : ℕ) → IsText (mark_if f n)
@@ -231,11 +369,18 @@ axis-text : (f : Frame) → IsText (axis f)
 unfolding axis
 axis-text f = simp (list_all-append is_text_byte, flat-text (mark_if f) (tick-text-if f) (range_with_len 0 (shown f)), tick-text-if f (shown f))
 
-cpu-head-text : (f : Frame) (c : ℕ) → IsText (cpu_head f c)
+set-label-text : (w : Work) (f : Frame) (c set : ℕ) → IsText (set_label w f c set)
+unfolding set_label
+set-label-text w f c set =
+    either-text (eqb set 0) [] (word_label (codes "name note") 142 (under f (Cpu c)) (set_name w set)) refl
+    (word-label-text (codes "name note") 142 (under f (Cpu c)) (set_name w set) refl (set-text w set))
+
+cpu-head-text : (w : Work) (f : Frame) (c : ℕ) → IsText (cpu_head w f c)
 unfolding cpu_head
-cpu-head-text f c =
+cpu-head-text w f c =
     simp (
       list_all-append is_text_byte,
+      set-label-text w f c (set_of_cpu w c),
       number-label-text (codes "name") 142 (base f (Cpu c)) (codes "processor ") c refl refl,
       line-text (codes "base") (150, floor f (Cpu c)) (column f f.to, floor f (Cpu c)) refl,
     )
@@ -244,53 +389,128 @@ thread-head-text : (w : Work) (f : Frame) (t : ℕ) → IsText (thread_head w f 
 unfolding thread_head
 thread-head-text w f t = simp (list_all-append is_text_byte, label-start-text (codes "name") 142 (base f (Thread t)) refl, thread-text w t)
 
+bound-label-text : (f : Frame) (t : ℕ) (bound : Option CpuId) → IsText (bound_label f t bound)
+bound-label-text f t None = refl
+bound-label-text f t (Some c) = number-label-text (codes "name note") 142 (under f (Thread t)) (codes "bound to ") c.0 refl refl
+
 head-text : (w : Work) (f : Frame) → IsText (head w f)
 unfolding head
 head-text w f =
     simp (
       list_all-append is_text_byte,
-      start-text f,
+      start-text w f,
       heading-text w f,
-      keys-text,
-      more-keys-text,
+      bars-key-text,
       axis-text f,
-      flat-text (cpu_head f) (cpu-head-text f) (range_with_len 0 f.cpus),
+      flat-text (cpu_head w f) (cpu-head-text w f) (range_with_len 0 f.cpus),
     )
+
+-- ---- the legend
+
+key-class-text : (k : Key) → IsText (class_of k)
+key-class-text key.Running = refl
+key-class-text key.Spinning = refl
+key-class-text key.Runnable = refl
+key-class-text key.Waiting = refl
+key-class-text key.Asleep = refl
+key-class-text key.Napping = refl
+key-class-text key.Ended = refl
+key-class-text key.Moment = refl
+key-class-text key.Wake = refl
+key-class-text key.HandOver = refl
+key-class-text key.Own = refl
+key-class-text key.Inherited = refl
+
+key-words-text : (k : Key) → IsText (words_of k)
+key-words-text key.Running = refl
+key-words-text key.Spinning = refl
+key-words-text key.Runnable = refl
+key-words-text key.Waiting = refl
+key-words-text key.Asleep = refl
+key-words-text key.Napping = refl
+key-words-text key.Ended = refl
+key-words-text key.Moment = refl
+key-words-text key.Wake = refl
+key-words-text key.HandOver = refl
+key-words-text key.Own = refl
+key-words-text key.Inherited = refl
+
+box-key-text : (class : List ℕ) (x y : ℕ) (words : List ℕ) → IsText class → IsText words → IsText (box_key class x y words)
+unfolding box_key
+box-key-text class x y words p q =
+    simp (list_all-append is_text_byte, bar-start-text class x y 24 12 p, q, word-label-text (codes "key") (x + 30) (y + 10) words refl q)
+
+line-key-text : (class : List ℕ) (x y : ℕ) (words : List ℕ) → IsText class → IsText words → IsText (line_key class x y words)
+unfolding line_key
+line-key-text class x y words p q =
+    simp (list_all-append is_text_byte, path-start-text class (x + 12) (y, y + 14) p, q, word-label-text (codes "key") (x + 30) (y + 10) words refl q)
+
+key-shape-text : (k : Key) (x y : ℕ) (shape : Shape) → IsText (key_text k x y shape)
+key-shape-text k x y shape.Box = box-key-text (class_of k) x y (words_of k) (key-class-text k) (key-words-text k)
+key-shape-text k x y shape.Line = line-key-text (class_of k) x y (words_of k) (key-class-text k) (key-words-text k)
+key-shape-text k x y shape.Word = word-label-text (class_of k) x (y + 10) (words_of k) (key-class-text k) (key-words-text k)
+
+key-if-text : (n : ℕ) (k : Option Key) → IsText (key_if n k)
+key-if-text n None = refl
+key-if-text n (Some k) = key-shape-text k (slot_x n) (slot_y n) (shape_of k)
+
+legend-text : (h : History) (moments : List Stretch) → IsText (legend_text h moments)
+unfolding legend_text
+legend-text h moments =
+    flat-text (key_at (keys_of h moments)) (λ n. key-if-text n (slice_get (keys_of h moments) n)) (range_with_len 0 (length (keys_of h moments)))
 
 -- ---- the picture
 
-own-row-text : (w : Work) (f : Frame) (h : History) (t : ℕ) (own : List Stretch) → IsText (own_row w f h t own)
+own-row-text : (w : Work) (f : Frame) (h : History) (s : State) (t : ℕ) (own : List Stretch) → IsText (own_row w f h s t own)
 unfolding own_row
-own-row-text w f h t own =
+own-row-text w f h s t own =
     simp (
       list_all-append is_text_byte,
       thread-head-text w f t,
+      bound-label-text f t (bound_of (slice_get s.threads t)),
       flat-text (stretch_bar w f (Thread t)) (bar-text w f (Thread t)) own,
       flat-text (level_text f t) (level-text f t) (levels t h.ranks.items w.limit),
     )
 
-row-text : (w : Work) (f : Frame) (h : History) (own : List Stretch) (row : Option ℕ) → IsText (row_text w f h own row)
-row-text w f h own None = refl
-row-text w f h own (Some t) = own-row-text w f h t own
+row-text : (w : Work) (f : Frame) (h : History) (s : State) (own : List Stretch) (row : Option ℕ) → IsText (row_text w f h s own row)
+row-text w f h s own None = refl
+row-text w f h s own (Some t) = own-row-text w f h s t own
 
-thread-row-text : (w : Work) (f : Frame) (h : History) (t : ℕ) → IsText (thread_text w f h t)
+thread-row-text : (w : Work) (f : Frame) (h : History) (s : State) (t : ℕ) → IsText (thread_text w f h s t)
 unfolding thread_text
-thread-row-text w f h t =
-    let own = stretches t h.turns.items h.entries w.limit in
-    simp (list_all-append is_text_byte, flat-text (run_bar w f) (run-text w f) own, row-text w f h own (row_of f t))
+thread-row-text w f h s t =
+    let own = pieces (track.Thread t) h w.limit in
+    simp (list_all-append is_text_byte, flat-text (run_bar w f) (run-text w f) own, row-text w f h s own (row_of f t))
 
 marks-text : (w : Work) (f : Frame) (s : State) → IsText (marks_text w f s)
 marks-text w f s =
     either-text (ltb f.to w.limit) [] (flat_map (flat_map (mark_text f)) (cycles_of s)) refl
     (flat-text (flat_map (mark_text f)) (flat-text (mark_text f) (mark-text f)) (cycles_of s))
 
-pub timeline-text : (w : Work) (f : Frame) (h : History) (s : State) → IsText (timeline_text w f h s)
-unfolding timeline_text
-timeline-text w f h s =
+ground-text : (w : Work) (f : Frame) (h : History) (moments : List Stretch) → IsText (ground_text w f h moments)
+unfolding ground_text
+ground-text w f h moments =
     simp (
       list_all-append is_text_byte,
       head-text w f,
-      flat-text (hand_text w f) (hand-text w f) h.hand_overs.items,
-      flat-text (thread_text w f h) (thread-row-text w f h) (range_with_len 0 (length w.threads)),
+      legend-text h moments,
+      flat-text (wake_text w f) (wake-text w f) h.wakeups.items,
+      hand-texts-text w f None 0 h.hand_overs.items,
+    )
+
+rows-text : (w : Work) (f : Frame) (h : History) (moments : List Stretch) (s : State) → IsText (rows_text w f h moments s)
+unfolding rows_text
+rows-text w f h moments s =
+    simp (
+      list_all-append is_text_byte,
+      flat-text (thread_text w f h s) (thread-row-text w f h s) (range_with_len 0 (length w.threads)),
+      flat-text (moment_text w f) (moment-text w f) moments,
+      flat-text (note_text w f) (note-text w f) h.happenings.items,
       marks-text w f s,
     )
+
+pub timeline-text : (w : Work) (f : Frame) (h : History) (s : State) → IsText (timeline_text w f h s)
+unfolding timeline_text
+timeline-text w f h s =
+    let moments = moments_of w f h in
+    simp (list_all-append is_text_byte, ground-text w f h moments, rows-text w f h moments s)

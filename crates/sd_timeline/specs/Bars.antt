@@ -6,7 +6,7 @@ use Rattle.sd_types.specs.declared.numbers.CpuId.{CpuId}
 use Rattle.sd_types.specs.declared.works.Work.{Work}
 use Rattle.sd_machine.specs.Texts.{chan_name, lock_name, thread_name}
 use Rattle.sd_stretches.specs.declared.sights.Doing.{Doing}
-use Rattle.sd_stretches.specs.declared.sights.Doing.TheVariants.{Running, Runnable, Waiting, Asleep, Napping, Ended}
+use Rattle.sd_stretches.specs.declared.sights.Doing.TheVariants.{Running, Spinning, Runnable, Waiting, Asleep, Napping, Ended}
 use Rattle.sd_stretches.specs.declared.rows.Stretch.{Stretch}
 use Rattle.sd_labels.specs.Doings.{doing_text}
 use Rattle.sd_timeline.specs.declared.frames.Frame.{Frame}
@@ -17,6 +17,7 @@ use Rattle.sd_timeline.specs.Pieces.{bar_start, bar_end, word_label, number_labe
 
 abbrev pub doing_class : Doing → List ℕ
 doing_class (Running c) = codes "run"
+doing_class (Spinning c l) = codes "spin"
 doing_class Runnable = codes "ready"
 doing_class (Waiting l) = codes "wait"
 doing_class (Asleep k) = codes "sleep"
@@ -49,6 +50,7 @@ cpu_word x y width c = if fits 2 width then number_label (codes "on") x y [] c.0
 
 abbrev pub on_thread_bar : Work → ℕ → ℕ → ℕ → Doing → List ℕ
 on_thread_bar w x y width (Running c) = cpu_word x y width c
+on_thread_bar w x y width (Spinning c l) = word_text (codes "on") x y width (lock_name w l.0)
 on_thread_bar w x y width (Waiting l) = word_text (codes "on") x y width (lock_name w l.0)
 on_thread_bar w x y width (Asleep k) = word_text (codes "in") x y width (chan_name w k.0)
 on_thread_bar w x y width _ = []
@@ -70,6 +72,7 @@ stretch_bar w f row x = if width f x.from x.to == 0 then [] else bar_text w f ro
 -- in the row of the processor on which the thread runs
 abbrev pub run_bar_by : Work → Frame → Stretch → Doing → List ℕ
 run_bar_by w f x (Running c) = stretch_bar w f (Cpu c.0) x
+run_bar_by w f x (Spinning c l) = stretch_bar w f (Cpu c.0) x
 run_bar_by w f x _ = []
 
 abbrev pub run_bar : Work → Frame → Stretch → List ℕ

@@ -35,3 +35,13 @@ number_label class x y word n = label_start class x y ++ (word ++ decimal n) ++ 
 
 unfoldable pub grid_line : List ℕ → ℕ × ℕ → ℕ × ℕ → List ℕ
 grid_line class from to = codes "<line class=\"" ++ class ++ codes "\"" ++ ends_text from to ++ codes "/>\n"
+
+-- an upright line from one height to another, with the words that are shown on it between the two
+unfoldable pub path_ends : ℕ → ℕ → ℕ → List ℕ
+path_ends column from to = (codes "\" d=\"M " ++ decimal column) ++ (codes " " ++ decimal from) ++ (codes " V " ++ decimal to)
+
+unfoldable pub path_start : List ℕ → ℕ → ℕ × ℕ → List ℕ
+path_start class column heights = codes "<path class=\"" ++ class ++ path_ends column heights.0 heights.1 ++ codes "\"><title>"
+
+abbrev pub path_end : List ℕ
+path_end = codes "</title></path>\n"

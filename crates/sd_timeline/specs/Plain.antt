@@ -4,18 +4,20 @@ use Rattle.std.specs.Prelude.{ℕ}
 use Rattle.sd_types.specs.declared.works.Work.{Work}
 use Rattle.sd_machine.specs.declared.states.State.{State}
 use Rattle.sd_stretches.specs.declared.changes.HandOver.{HandOver}
+use Rattle.sd_stretches.specs.declared.changes.Wakeup.{Wakeup}
 use Rattle.sd_stretches.specs.declared.histories.History.{History}
 use Rattle.sd_stretches.specs.declared.rows.Stretch.{Stretch}
 use Rattle.sd_labels.specs.Plain.{IsPlain, IsText}
 use Rattle.sd_timeline.specs.declared.frames.Frame.{Frame}
 use Rattle.sd_timeline.specs.Bars.{stretch_title}
-use Rattle.sd_timeline.specs.Labels.{hand_title}
+use Rattle.sd_timeline.specs.Arrows.{hand_title, wake_title}
 use Rattle.sd_timeline.specs.Picture.{timeline_text}
 
 -- the titles of bars and arrows
 pub record HasPlainTitles (w : Work) : Type 0 where
   pub bars : (x : Stretch) → IsPlain (stretch_title w x)
   pub arrows : (x : HandOver) (waiter : ℕ) → IsPlain (hand_title w x waiter)
+  pub wakeups : (x : Wakeup) (waker : ℕ) → IsPlain (wake_title w x waker)
 
 abbrev pub TitlesNeedNoEscaping : Type 0
 TitlesNeedNoEscaping = (w : Work) → HasPlainTitles w

@@ -15,6 +15,7 @@ fn doing_class(doing: Doing) -> &'static [u8]
 {
     match doing {
         Doing::Running(_) => b"run",
+        Doing::Spinning(_, _) => b"spin",
         Doing::Runnable => b"ready",
         Doing::Waiting(_) => b"wait",
         Doing::Asleep(_) => b"sleep",
@@ -25,7 +26,12 @@ fn doing_class(doing: Doing) -> &'static [u8]
 
 // From one number to another.
 #[tactic(auto, unfolding(crate::specs::Bars::between))]
-fn put_between(word: &[u8], from: u64, to: u64, out: &mut Vec<u8>) -> Result<(), AllocError>
+pub(crate) fn put_between(
+    word: &[u8],
+    from: u64,
+    to: u64,
+    out: &mut Vec<u8>,
+) -> Result<(), AllocError>
     ensures { OnOk result (out.new.items ≡ out.old.items ++ between word.now from to) }
 {
     put_counted(word, from, out)?;
@@ -52,7 +58,7 @@ fn put_place(x: &Stretch, out: &mut Vec<u8>) -> Result<(), AllocError>
 
 // What is shown on a bar.
 #[tactic(auto, unfolding(crate::specs::Bars::stretch_title))]
-fn put_title(work: &Work, x: &Stretch, out: &mut Vec<u8>) -> Result<(), AllocError>
+pub(crate) fn put_title(work: &Work, x: &Stretch, out: &mut Vec<u8>) -> Result<(), AllocError>
     ensures { OnOk result (out.new.items ≡ out.old.items ++ stretch_title work.now x.now) }
 {
     out.extend_from_slice(thread_name(work, x.thread))?;
@@ -113,6 +119,14 @@ fn put_on_bar(
     match (row, x.doing) {
         (Row::Cpu(_), _) => put_word(b"on", column, y, width, thread_name(work, x.thread), out),
         (Row::Thread(_), Doing::Running(c)) => put_cpu(column, y, width, c, out),
+        (Row::Thread(_), Doing::Spinning(_, l)) => put_word(
+            b"on",
+            column,
+            y,
+            width,
+            lock_name(work, l),
+            out,
+        ),
         (Row::Thread(_), Doing::Waiting(l)) => put_word(
             b"on",
             column,
@@ -181,6 +195,7 @@ fn put_run_bar(work: &Work, frame: Frame, x: &Stretch, out: &mut Vec<u8>) -> Res
 {
     match x.doing {
         Doing::Running(c) => put_bar(work, frame, Row::Cpu(c.0), x, out),
+        Doing::Spinning(c, _) => put_bar(work, frame, Row::Cpu(c.0), x, out),
         _ => Ok(()),
     }
 }

@@ -1,7 +1,7 @@
 //! Where things stand in the picture, in its units (pixels, where it is not scaled).
 
 ghost use Rattle.std.specs.Prelude.{◌≡◌, ◌<◌, ◌^◌};
-ghost use Rattle.sd_timeline.specs.Frames.{above, after, base, beside, bottom, column, floor, inside, offset, row_of, scaled, shown, step, top, total_width, width};
+ghost use Rattle.sd_timeline.specs.Frames.{above, across, after, base, beside, bottom, column, floor, inside, offset, over, row_of, scaled, shifted, shown, shows, step, top, total_width, under, width};
 
 /// What is drawn of a run: the ticks from `from` to `to`, and the first `threads` threads of a workload with so many
 /// processors.
@@ -34,12 +34,18 @@ impl Frame {
         ensures value { result ≡ scaled self ticks }
         ensures bound { result < 2 ^ 40 }
     {
-        if self.shown() <= 40 {
+        if self.shown() <= 50 {
             u64::from(ticks) * 20
+        } else if self.shown() <= 66 {
+            u64::from(ticks) * 15
         } else if self.shown() <= 100 {
             u64::from(ticks) * 10
+        } else if self.shown() <= 142 {
+            u64::from(ticks) * 7
         } else if self.shown() <= 200 {
             u64::from(ticks) * 5
+        } else if self.shown() <= 333 {
+            u64::from(ticks) * 3
         } else {
             u64::from(ticks) * 2
         }
@@ -50,12 +56,14 @@ impl Frame {
         ensures value { result ≡ step self }
         ensures some { 0 < result }
     {
-        if self.shown() <= 40 {
+        if self.shown() <= 50 {
             5
         } else if self.shown() <= 100 {
             10
         } else if self.shown() <= 200 {
             20
+        } else if self.shown() <= 333 {
+            50
         } else {
             100
         }
@@ -101,8 +109,8 @@ impl Frame {
         ensures { result ≡ top self row }
     {
         match row {
-            Row::Cpu(c) => 106 + 24 * u64::from(c),
-            Row::Thread(t) => 134 + 24 * u64::from(self.cpus) + 40 * u64::from(t),
+            Row::Cpu(c) => 128 + 24 * u64::from(c),
+            Row::Thread(t) => 156 + 24 * u64::from(self.cpus) + 40 * u64::from(t),
         }
     }
 
@@ -111,8 +119,8 @@ impl Frame {
         ensures { result ≡ base self row }
     {
         match row {
-            Row::Cpu(c) => 117 + 24 * u64::from(c),
-            Row::Thread(t) => 145 + 24 * u64::from(self.cpus) + 40 * u64::from(t),
+            Row::Cpu(c) => 139 + 24 * u64::from(c),
+            Row::Thread(t) => 167 + 24 * u64::from(self.cpus) + 40 * u64::from(t),
         }
     }
 
@@ -121,8 +129,31 @@ impl Frame {
         ensures { result ≡ floor self row }
     {
         match row {
-            Row::Cpu(c) => 120 + 24 * u64::from(c),
-            Row::Thread(t) => 148 + 24 * u64::from(self.cpus) + 40 * u64::from(t),
+            Row::Cpu(c) => 142 + 24 * u64::from(c),
+            Row::Thread(t) => 170 + 24 * u64::from(self.cpus) + 40 * u64::from(t),
+        }
+    }
+
+    /// From where to where a line across the bars of a row goes.
+    pub(crate) fn across(self, row: Row) -> (u64, u64)
+        ensures { result ≡ across self row }
+    {
+        match row {
+            Row::Cpu(c) => (125 + 24 * u64::from(c), 145 + 24 * u64::from(c)),
+            Row::Thread(t) => (
+                153 + 24 * u64::from(self.cpus) + 40 * u64::from(t),
+                173 + 24 * u64::from(self.cpus) + 40 * u64::from(t),
+            ),
+        }
+    }
+
+    /// The base line of the notes under a row.
+    pub(crate) fn under(self, row: Row) -> u64
+        ensures { result ≡ under self row }
+    {
+        match row {
+            Row::Cpu(c) => 150 + 24 * u64::from(c),
+            Row::Thread(t) => 179 + 24 * u64::from(self.cpus) + 40 * u64::from(t),
         }
     }
 
@@ -137,7 +168,21 @@ impl Frame {
     pub(crate) fn above(self, t: u16) -> u64
         ensures { result ≡ above self t }
     {
-        130 + 24 * u64::from(self.cpus) + 40 * u64::from(t)
+        152 + 24 * u64::from(self.cpus) + 40 * u64::from(t)
+    }
+
+    /// The top of the priorities of a thread.
+    pub(crate) fn over(self, t: u16) -> u64
+        ensures { result ≡ over self t }
+    {
+        142 + 24 * u64::from(self.cpus) + 40 * u64::from(t)
+    }
+
+    /// Where the arrow begins that is the one of this number, from 0, among those of a tick.
+    pub(crate) fn shifted(self, tick: u32, nth: u64) -> u64
+        ensures { result ≡ shifted self tick nth }
+    {
+        150 + self.scaled(self.offset(tick)) + 4 * (nth % 8)
     }
 
     /// The lower edge of the last row.
@@ -145,14 +190,21 @@ impl Frame {
         ensures value { result ≡ bottom self }
         ensures bound { result < 2 ^ 32 }
     {
-        124 + 24 * u64::from(self.cpus) + 40 * u64::from(self.threads)
+        146 + 24 * u64::from(self.cpus) + 40 * u64::from(self.threads)
     }
 
     /// The width of the picture.
     pub(crate) fn total_width(self) -> u64
         ensures { result ≡ total_width self }
     {
-        (240 + self.scaled(self.shown())).max(860)
+        (240 + self.scaled(self.shown())).max(920)
+    }
+
+    /// Whether a tick is drawn, or ends what is drawn.
+    pub(crate) fn shows(self, tick: u32) -> bool
+        ensures { result ≡ shows self tick }
+    {
+        self.from <= tick && tick <= self.to
     }
 
     /// The row of a thread has this number, if it has one.

@@ -2,15 +2,15 @@
 
 ghost use Rattle.std.specs.Prelude.{◌≡◌, ◌+◌, ◌++◌, ◌<◌, ◌^◌, OnOk, codes, decimal, flat_map};
 ghost use Rattle.std.specs.List.{range_with_len};
-ghost use Rattle.sd_timeline.specs.Head.{arrow, arrow_key, axis, cpu_head, dark_colours, head, heading, inherited_key, key, keys, letters, light_colours, lines, mark, mark_if, measures, more_keys, opened, own_key, page, priority_keys, size, small_letters, start, style, thread_head, ticks_text, view_box};
+ghost use Rattle.sd_timeline.specs.Head.{axis, bars_key, bound_label, counts_text, cpu_head, dark_colours, description, file_title, hatch, head, heading, letters, light_colours, lines, mark, mark_if, measures, opened, page, set_label, size, small_letters, start, style, thin_lines, thread_head, ticks_text, view_box};
 
 use crate::frames::{Frame, Row};
 use crate::pieces::{
-    put_attribute, put_bar_end, put_bar_start, put_label_end, put_label_start, put_line,
-    put_number_label, put_word_label,
+    put_attribute, put_label_end, put_label_start, put_line, put_number_label, put_word_label,
 };
-use sd_labels::{put_counted, thread_name};
-use sd_types::Work;
+use sd_labels::{put_counted, set_name, thread_name};
+use sd_part::set_of_cpu;
+use sd_types::{CpuId, SetId, Work};
 use std::alloc::AllocError;
 
 #[tactic(auto, unfolding(crate::specs::Head::view_box))]
@@ -35,7 +35,7 @@ fn put_measures(width: u64, height: u64, out: &mut Vec<u8>) -> Result<(), AllocE
 fn put_size(frame: Frame, out: &mut Vec<u8>) -> Result<(), AllocError>
     ensures { OnOk result (out.new.items ≡ out.old.items ++ size frame) }
 {
-    put_measures(frame.total_width(), frame.bottom() + 16, out)
+    put_measures(frame.total_width(), frame.bottom() + 26, out)
 }
 
 // The colours of what threads do, which differ in grey too.
@@ -44,7 +44,7 @@ fn put_dark_colours(out: &mut Vec<u8>) -> Result<(), AllocError>
     ensures { OnOk result (out.new.items ≡ out.old.items ++ dark_colours) }
 {
     out.extend_from_slice(
-        b".run{fill:#0f2c47;stroke:#fff}\n.wait{fill:#cd463c}\n.sleep{fill:#649c94}\n",
+        b".run{fill:#0f2c47;stroke:#fff}\n.spin{fill:url(#hatch)}\n.wait{fill:#cd463c}\n.sleep{fill:#649c94}\n",
     )
 }
 
@@ -53,7 +53,7 @@ fn put_light_colours(out: &mut Vec<u8>) -> Result<(), AllocError>
     ensures { OnOk result (out.new.items ≡ out.old.items ++ light_colours) }
 {
     out.extend_from_slice(
-        b".ready{fill:#f6b73c}\n.nap{fill:#dfdfee}\n.end{fill:#fff;stroke:#aaa}\n.page{fill:#fff;stroke:none}\n",
+        b".ready{fill:#f6b73c}\n.nap{fill:#dfdfee}\n.end{fill:#fff;stroke:#aaa}\n.page{fill:#fff;stroke:none}\n.level{fill:none;stroke:none;pointer-events:all}\n",
     )
 }
 
@@ -73,7 +73,7 @@ fn put_small_letters(out: &mut Vec<u8>) -> Result<(), AllocError>
     ensures { OnOk result (out.new.items ≡ out.old.items ++ small_letters) }
 {
     out.extend_from_slice(
-        b".on,.in,.own,.inherited{font-size:10px}\n.on{fill:#fff}\n.own,.inherited{paint-order:stroke;stroke:#fff;stroke-width:3px}\n.inherited,.dead{font-weight:bold;fill:#a3160c}\n",
+        b".on,.in,.own,.inherited{font-size:10px}\n.note{font-size:8px}\n.closes{text-anchor:end}\n.on{fill:#fff;paint-order:stroke;stroke:#0f2c47;stroke-width:2px}\n.own,.inherited{paint-order:stroke;stroke:#fff;stroke-width:3px}\n.inherited,.dead{font-weight:bold;fill:#a3160c}\n",
     )
 }
 
@@ -86,17 +86,38 @@ fn put_lines(out: &mut Vec<u8>) -> Result<(), AllocError>
     )
 }
 
+// Thin lines, and those of threads that run within a tick.
+#[tactic(auto, unfolding(crate::specs::Head::thin_lines))]
+fn put_thin_lines(out: &mut Vec<u8>) -> Result<(), AllocError>
+    ensures { OnOk result (out.new.items ≡ out.old.items ++ thin_lines) }
+{
+    out.extend_from_slice(
+        b".wake{fill:none;stroke:#777;stroke-width:.8;marker-end:url(#tip)}\n.moment{stroke:#0f2c47;stroke-width:2}\n",
+    )
+}
+
 #[tactic(auto, unfolding(crate::specs::Head::style))]
 fn put_style(out: &mut Vec<u8>) -> Result<(), AllocError>
     ensures { OnOk result (out.new.items ≡ out.old.items ++ style) }
 {
     out.extend_from_slice(b"<style>\n")?;
     put_lines(out)?;
+    put_thin_lines(out)?;
     put_dark_colours(out)?;
     put_light_colours(out)?;
     put_letters(out)?;
     put_small_letters(out)?;
     out.extend_from_slice(b"</style>\n")
+}
+
+// The pattern of the bars of threads that spin: dark stripes, which grey shows too.
+#[tactic(auto, unfolding(crate::specs::Head::hatch))]
+fn put_hatch(out: &mut Vec<u8>) -> Result<(), AllocError>
+    ensures { OnOk result (out.new.items ≡ out.old.items ++ hatch) }
+{
+    out.extend_from_slice(
+        b"<defs><pattern id=\"hatch\" width=\"6\" height=\"6\" patternUnits=\"userSpaceOnUse\"><path fill=\"#a066b8\" d=\"M0 0H6V6H0z\"/><path stroke=\"#2a0f36\" stroke-width=\"2\" d=\"M-1 1L1 -1M0 6L6 0M5 7L7 5\"/></pattern></defs>\n",
+    )
 }
 
 // The head of an arrow, and the white page.
@@ -116,17 +137,6 @@ fn put_opened(out: &mut Vec<u8>) -> Result<(), AllocError>
     out.extend_from_slice(b"<svg xmlns=\"http://www.w3.org/2000/svg\"")
 }
 
-// The start of the file, up to the white page.
-#[tactic(auto, unfolding(crate::specs::Head::start))]
-fn put_start(frame: Frame, out: &mut Vec<u8>) -> Result<(), AllocError>
-    ensures { OnOk result (out.new.items ≡ out.old.items ++ start frame) }
-{
-    put_opened(out)?;
-    put_size(frame, out)?;
-    put_style(out)?;
-    put_page(out)
-}
-
 // Which ticks are drawn, of how many.
 #[tactic(auto, unfolding(crate::specs::Head::ticks_text))]
 fn put_ticks(work: &Work, frame: Frame, out: &mut Vec<u8>) -> Result<(), AllocError>
@@ -139,83 +149,73 @@ fn put_ticks(work: &Work, frame: Frame, out: &mut Vec<u8>) -> Result<(), AllocEr
     out.extend_from_slice(b" in a second")
 }
 
+// How many threads and processors the workload has.
+#[tactic(auto, unfolding(crate::specs::Head::counts_text))]
+fn put_counts(work: &Work, out: &mut Vec<u8>) -> Result<(), AllocError>
+    ensures { OnOk result (out.new.items ≡ out.old.items ++ counts_text work.now) }
+{
+    let threads = work.threads.items().len();
+    put_counted(b"threads: ", threads as u64, out)?;
+    put_counted(b", processors: ", u64::from(work.cpus), out)
+}
+
+// The title of the file, for readers of screens.
+#[tactic(auto, unfolding(crate::specs::Head::file_title))]
+fn put_file_title(work: &Work, out: &mut Vec<u8>) -> Result<(), AllocError>
+    ensures { OnOk result (out.new.items ≡ out.old.items ++ file_title work.now) }
+{
+    out.extend_from_slice(b"<title>")?;
+    put_counts(work, out)?;
+    out.extend_from_slice(b"</title>\n")
+}
+
+// What it shows.
+#[tactic(auto, unfolding(crate::specs::Head::description))]
+fn put_description(work: &Work, frame: Frame, out: &mut Vec<u8>) -> Result<(), AllocError>
+    ensures { OnOk result (out.new.items ≡ out.old.items ++ description work.now frame) }
+{
+    out.extend_from_slice(b"<desc>")?;
+    put_ticks(work, frame, out)?;
+    out.extend_from_slice(b"</desc>\n")
+}
+
+// The start of the file, up to the white page.
+#[tactic(auto, unfolding(crate::specs::Head::start))]
+fn put_start(work: &Work, frame: Frame, out: &mut Vec<u8>) -> Result<(), AllocError>
+    ensures { OnOk result (out.new.items ≡ out.old.items ++ start work.now frame) }
+{
+    put_opened(out)?;
+    put_size(frame, out)?;
+    put_file_title(work, out)?;
+    put_description(work, frame, out)?;
+    put_style(out)?;
+    put_hatch(out)?;
+    put_page(out)
+}
+
 #[tactic(auto, unfolding(crate::specs::Head::heading))]
 fn put_heading(work: &Work, frame: Frame, out: &mut Vec<u8>) -> Result<(), AllocError>
     ensures { OnOk result (out.new.items ≡ out.old.items ++ heading work.now frame) }
 {
-    put_label_start(b"head", 150, 20, out)?;
+    put_label_start(b"head", 150, 18, out)?;
     put_ticks(work, frame, out)?;
+    out.extend_from_slice(b"; ")?;
+    put_counts(work, out)?;
     put_label_end(out)
 }
 
-// A box and its meaning.
-#[tactic(auto, unfolding(crate::specs::Head::key))]
-fn put_key(class: &[u8], x: u64, y: u64, word: &[u8], out: &mut Vec<u8>) -> Result<(), AllocError>
-    requires x { x < 2 ^ 32 }
-    requires y { y < 2 ^ 32 }
-    ensures key { OnOk result (out.new.items ≡ out.old.items ++ key class.now x y word.now) }
+// What stands on the bars.
+#[tactic(auto, unfolding(crate::specs::Head::bars_key))]
+fn put_bars_key(out: &mut Vec<u8>) -> Result<(), AllocError>
+    ensures { OnOk result (out.new.items ≡ out.old.items ++ bars_key) }
 {
-    put_bar_start(class, x, y, 24, 12, out)?;
-    out.extend_from_slice(word)?;
-    put_bar_end(out)?;
-    put_word_label(b"key", x + 30, y + 10, word, out)
-}
-
-#[tactic(auto, unfolding(crate::specs::Head::keys))]
-fn put_keys(out: &mut Vec<u8>) -> Result<(), AllocError>
-    ensures { OnOk result (out.new.items ≡ out.old.items ++ keys) }
-{
-    put_key(b"run", 150, 32, b"running", out)?;
-    put_key(b"ready", 320, 32, b"runnable", out)?;
-    put_key(b"wait", 490, 32, b"waiting for a lock", out)?;
-    put_key(b"sleep", 660, 32, b"asleep on a channel", out)
-}
-
-#[tactic(auto, unfolding(crate::specs::Head::own_key))]
-fn put_own_key(out: &mut Vec<u8>) -> Result<(), AllocError>
-    ensures { OnOk result (out.new.items ≡ out.old.items ++ own_key) }
-{
-    put_word_label(b"own", 490, 62, b"29 priority", out)
-}
-
-#[tactic(auto, unfolding(crate::specs::Head::inherited_key))]
-fn put_inherited_key(out: &mut Vec<u8>) -> Result<(), AllocError>
-    ensures { OnOk result (out.new.items ≡ out.old.items ++ inherited_key) }
-{
-    put_word_label(b"inherited", 570, 62, b"&#9650;110 inherited", out)
-}
-
-#[tactic(auto, unfolding(crate::specs::Head::arrow))]
-fn put_arrow(out: &mut Vec<u8>) -> Result<(), AllocError>
-    ensures { OnOk result (out.new.items ≡ out.old.items ++ arrow) }
-{
-    out.extend_from_slice(b"<path class=\"will\" d=\"M 700 57 H 724\"/>\n")
-}
-
-#[tactic(auto, unfolding(crate::specs::Head::arrow_key))]
-fn put_arrow_key(out: &mut Vec<u8>) -> Result<(), AllocError>
-    ensures { OnOk result (out.new.items ≡ out.old.items ++ arrow_key) }
-{
-    put_word_label(b"key", 730, 62, b"hands priority on", out)
-}
-
-#[tactic(auto, unfolding(crate::specs::Head::priority_keys))]
-fn put_priority_keys(out: &mut Vec<u8>) -> Result<(), AllocError>
-    ensures { OnOk result (out.new.items ≡ out.old.items ++ priority_keys) }
-{
-    put_own_key(out)?;
-    put_inherited_key(out)?;
-    put_arrow(out)?;
-    put_arrow_key(out)
-}
-
-#[tactic(auto, unfolding(crate::specs::Head::more_keys))]
-fn put_more_keys(out: &mut Vec<u8>) -> Result<(), AllocError>
-    ensures { OnOk result (out.new.items ≡ out.old.items ++ more_keys) }
-{
-    put_key(b"nap", 150, 52, b"napping", out)?;
-    put_key(b"end", 320, 52, b"ended", out)?;
-    put_priority_keys(out)
+    put_word_label(
+        b"key",
+        150,
+        34,
+        b"on a bar of a processor: the thread; on a bar of a thread: its processor, or the lock or channel; more where the pointer rests",
+        out,
+    )
 }
 
 // The number of a tick on the axis, and a line down from it.
@@ -224,15 +224,10 @@ fn put_mark(frame: Frame, n: u32, out: &mut Vec<u8>) -> Result<(), AllocError>
     ensures { OnOk result (out.new.items ≡ out.old.items ++ mark frame n) }
 {
     let x = frame.after(n);
-    put_line(b"grid", (x, 96), (x, frame.bottom()), out)?;
-    put_number_label(
-        b"tick",
-        x,
-        90,
-        b"",
-        u64::from(frame.from) + u64::from(n),
-        out,
-    )
+    let tick = u64::from(frame.from) + u64::from(n);
+    put_line(b"grid", (x, 118), (x, frame.bottom()), out)?;
+    put_number_label(b"tick", x, 113, b"", tick, out)?;
+    put_number_label(b"tick", x, frame.bottom() + 14, b"", tick, out)
 }
 
 fn put_mark_if(frame: Frame, n: u32, out: &mut Vec<u8>) -> Result<(), AllocError>
@@ -263,12 +258,36 @@ fn put_axis(frame: Frame, out: &mut Vec<u8>) -> Result<(), AllocError>
     put_mark_if(frame, frame.shown(), out)
 }
 
+// The name of the set of a processor, under its name; the default partition has none.
+#[tactic(auto, unfolding(crate::specs::Head::set_label))]
+fn put_set_label(
+    work: &Work,
+    frame: Frame,
+    c: u16,
+    set: SetId,
+    out: &mut Vec<u8>,
+) -> Result<(), AllocError>
+    ensures { OnOk result (out.new.items ≡ out.old.items ++ set_label work.now frame c set.0) }
+{
+    if set.0 == 0 {
+        return Ok(());
+    }
+    put_word_label(
+        b"name note",
+        142,
+        frame.under(Row::Cpu(c)),
+        set_name(work, set),
+        out,
+    )
+}
+
 // The name of a processor's row, and the line on which its bars stand.
 #[tactic(auto, unfolding(crate::specs::Head::cpu_head))]
-fn put_cpu_head(frame: Frame, c: u16, out: &mut Vec<u8>) -> Result<(), AllocError>
-    ensures { OnOk result (out.new.items ≡ out.old.items ++ cpu_head frame c) }
+fn put_cpu_head(work: &Work, frame: Frame, c: u16, out: &mut Vec<u8>) -> Result<(), AllocError>
+    ensures { OnOk result (out.new.items ≡ out.old.items ++ cpu_head work.now frame c) }
 {
     let row = Row::Cpu(c);
+    put_set_label(work, frame, c, set_of_cpu(work, CpuId(c)), out)?;
     put_number_label(
         b"name",
         142,
@@ -286,11 +305,11 @@ fn put_cpu_head(frame: Frame, c: u16, out: &mut Vec<u8>) -> Result<(), AllocErro
 }
 
 // The names of the processors' rows.
-fn put_cpu_heads(frame: Frame, out: &mut Vec<u8>) -> Result<(), AllocError>
-    ensures { OnOk result (out.new.items ≡ out.old.items ++ flat_map (cpu_head frame) (range_with_len 0 frame.cpus)) }
+fn put_cpu_heads(work: &Work, frame: Frame, out: &mut Vec<u8>) -> Result<(), AllocError>
+    ensures { OnOk result (out.new.items ≡ out.old.items ++ flat_map (cpu_head work.now frame) (range_with_len 0 frame.cpus)) }
 {
     for c in 0..frame.cpus {
-        put_cpu_head(frame, c, out)?;
+        put_cpu_head(work, frame, c, out)?;
     }
     Ok(())
 }
@@ -310,15 +329,36 @@ pub(crate) fn put_thread_head(
     put_label_end(out)
 }
 
+/// To which processor a thread is bound, under its name.
+pub(crate) fn put_bound_label(
+    frame: Frame,
+    t: u16,
+    bound: Option<CpuId>,
+    out: &mut Vec<u8>,
+) -> Result<(), AllocError>
+    ensures { OnOk result (out.new.items ≡ out.old.items ++ bound_label frame t bound) }
+{
+    match bound {
+        Some(c) => put_number_label(
+            b"name note",
+            142,
+            frame.under(Row::Thread(t)),
+            b"bound to ",
+            u64::from(c.0),
+            out,
+        ),
+        None => Ok(()),
+    }
+}
+
 /// All that stands above the rows, and the names of the processors' rows.
 #[tactic(auto, unfolding(crate::specs::Head::head))]
 pub(crate) fn put_head(work: &Work, frame: Frame, out: &mut Vec<u8>) -> Result<(), AllocError>
     ensures { OnOk result (out.new.items ≡ out.old.items ++ head work.now frame) }
 {
-    put_start(frame, out)?;
+    put_start(work, frame, out)?;
     put_heading(work, frame, out)?;
-    put_keys(out)?;
-    put_more_keys(out)?;
+    put_bars_key(out)?;
     put_axis(frame, out)?;
-    put_cpu_heads(frame, out)
+    put_cpu_heads(work, frame, out)
 }

@@ -4,11 +4,15 @@
 //! Names stand in it as they are, since none means anything in XML (`names_need_no_escaping` of `sd_labels`).
 #![tactic(auto)]
 
+mod arrows;
 mod bars;
 mod frames;
 mod head;
 mod labels;
 mod laws;
+mod legend;
+mod moments;
+mod notes;
 mod picture;
 mod pieces;
 

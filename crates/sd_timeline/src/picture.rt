@@ -1,20 +1,35 @@
 //! The whole picture.
 
-ghost use Rattle.std.specs.Prelude.{◌≡◌, ◌++◌, OnOk, codes, flat_map, map, length};
+ghost use Rattle.std.specs.Prelude.{◌≡◌, ◌++◌, OnOk, codes, flat_map, map, length, slice_get, None};
 ghost use Rattle.std.specs.List.{range_with_len};
 ghost use Rattle.sd_full.specs.LockGraph.{cycles_of};
+ghost use Rattle.sd_timeline.specs.Arrows.{hand_texts, wake_text};
 ghost use Rattle.sd_timeline.specs.Labels.{mark_text};
-ghost use Rattle.sd_timeline.specs.Picture.{marks_text, own_row, row_text, thread_text, timeline_text};
+ghost use Rattle.sd_timeline.specs.Picture.{bound_of, ground_text, marks_text, own_row, row_text, rows_text, thread_text, timeline_text};
 
+use crate::arrows::{put_hand_overs, put_wakeups};
 use crate::bars::{put_bars, put_run_bars};
 use crate::frames::Frame;
-use crate::head::{put_head, put_thread_head};
-use crate::labels::{put_hand_overs, put_levels, put_marks};
+use crate::head::{put_bound_label, put_head, put_thread_head};
+use crate::labels::{put_levels, put_marks};
+use crate::legend::put_legend;
+use crate::moments::{moments_of, put_moments};
+use crate::notes::put_notes;
 use sd_cycles::cycles;
 use sd_machine::State;
-use sd_stretches::{History, Stretch, levels, stretches};
-use sd_types::Work;
+use sd_stretches::{History, Stretch, Track, levels, pieces};
+use sd_types::{CpuId, Work};
 use std::alloc::{AllocError, Global};
+
+// To which processor a thread is bound.
+fn bound_of(s: &State, t: usize) -> Option<CpuId>
+    ensures { result ≡ bound_of (slice_get s.now.threads t) }
+{
+    match s.threads.items().get(t) {
+        Some(x) => x.body.bound,
+        None => None,
+    }
+}
 
 // The row of a thread.
 #[tactic(auto, unfolding(crate::specs::Picture::own_row))]
@@ -23,13 +38,15 @@ fn put_own_row(
     work: &Work,
     frame: Frame,
     history: &History,
+    s: &State,
     t: u16,
     own: &[Stretch],
     out: &mut Vec<u8>,
 ) -> Result<(), AllocError>
-    ensures { OnOk result (out.new.items ≡ out.old.items ++ own_row work.now frame history.now t own.now) }
+    ensures { OnOk result (out.new.items ≡ out.old.items ++ own_row work.now frame history.now s.now t own.now) }
 {
     put_thread_head(work, frame, t, out)?;
+    put_bound_label(frame, t, bound_of(s, usize::from(t)), out)?;
     put_bars(work, frame, t, own, out)?;
     let own_levels = levels(alloc, &history.ranks, usize::from(t), work.limit)?;
     put_levels(frame, t, &own_levels, out)
@@ -40,14 +57,15 @@ fn put_row_if(
     work: &Work,
     frame: Frame,
     history: &History,
+    s: &State,
     row: Option<u16>,
     own: &[Stretch],
     out: &mut Vec<u8>,
 ) -> Result<(), AllocError>
-    ensures { OnOk result (out.new.items ≡ out.old.items ++ row_text work.now frame history.now own.now row) }
+    ensures { OnOk result (out.new.items ≡ out.old.items ++ row_text work.now frame history.now s.now own.now row) }
 {
     match row {
-        Some(t) => put_own_row(alloc, work, frame, history, t, own, out),
+        Some(t) => put_own_row(alloc, work, frame, history, s, t, own, out),
         None => Ok(()),
     }
 }
@@ -59,14 +77,15 @@ fn put_thread(
     work: &Work,
     frame: Frame,
     history: &History,
+    s: &State,
     t: usize,
     out: &mut Vec<u8>,
 ) -> Result<(), AllocError>
-    ensures { OnOk result (out.new.items ≡ out.old.items ++ thread_text work.now frame history.now t) }
+    ensures { OnOk result (out.new.items ≡ out.old.items ++ thread_text work.now frame history.now s.now t) }
 {
-    let own = stretches(alloc, &history.turns, t, history.entries, work.limit)?;
+    let own = pieces(alloc, Track::Thread(t), history, work.limit)?;
     put_run_bars(work, frame, &own, out)?;
-    put_row_if(alloc, work, frame, history, frame.row_of(t), &own, out)
+    put_row_if(alloc, work, frame, history, s, frame.row_of(t), &own, out)
 }
 
 fn put_threads(
@@ -74,12 +93,13 @@ fn put_threads(
     work: &Work,
     frame: Frame,
     history: &History,
+    s: &State,
     out: &mut Vec<u8>,
 ) -> Result<(), AllocError>
-    ensures { OnOk result (out.new.items ≡ out.old.items ++ flat_map (thread_text work.now frame history.now) (range_with_len 0 (length work.now.threads))) }
+    ensures { OnOk result (out.new.items ≡ out.old.items ++ flat_map (thread_text work.now frame history.now s.now) (range_with_len 0 (length work.now.threads))) }
 {
     for t in 0..work.threads.items().len() {
-        put_thread(alloc, work, frame, history, t, out)?;
+        put_thread(alloc, work, frame, history, s, t, out)?;
     }
     Ok(())
 }
@@ -111,6 +131,56 @@ fn put_deadlocks(
     put_cycles(frame, &found, out)
 }
 
+// The arrows.
+fn put_arrows(
+    work: &Work,
+    frame: Frame,
+    history: &History,
+    out: &mut Vec<u8>,
+) -> Result<(), AllocError>
+    ensures { OnOk result (out.new.items ≡ out.old.items ++ (flat_map (wake_text work.now frame) history.now.wakeups.items
+        ++ hand_texts work.now frame None 0 history.now.hand_overs.items)) }
+{
+    put_wakeups(work, frame, &history.wakeups, out)?;
+    put_hand_overs(work, frame, &history.hand_overs, out)
+}
+
+// What lies under and above the rows.
+#[tactic(auto, unfolding(crate::specs::Picture::ground_text))]
+fn put_ground(
+    alloc: Global,
+    work: &Work,
+    frame: Frame,
+    history: &History,
+    moments: &[Stretch],
+    out: &mut Vec<u8>,
+) -> Result<(), AllocError>
+    ensures { OnOk result (out.new.items ≡ out.old.items ++ ground_text work.now frame history.now moments.now) }
+{
+    put_head(work, frame, out)?;
+    put_legend(alloc, history, moments, out)?;
+    put_arrows(work, frame, history, out)
+}
+
+// The rows, and the marks over and under them.
+#[tactic(auto, unfolding(crate::specs::Picture::rows_text))]
+fn put_rows(
+    alloc: Global,
+    work: &Work,
+    frame: Frame,
+    history: &History,
+    moments: &[Stretch],
+    s: &State,
+    out: &mut Vec<u8>,
+) -> Result<(), AllocError>
+    ensures { OnOk result (out.new.items ≡ out.old.items ++ rows_text work.now frame history.now moments.now s.now) }
+{
+    put_threads(alloc, work, frame, history, s, out)?;
+    put_moments(work, frame, moments, out)?;
+    put_notes(work, frame, &history.happenings, out)?;
+    put_deadlocks(alloc, work, frame, s, out)
+}
+
 /// Appends the picture of a run of the workload, of which this is the history and the last state, as far as the frame goes.
 #[tactic(auto, unfolding(crate::specs::Picture::timeline_text))]
 pub fn write_timeline(
@@ -123,9 +193,8 @@ pub fn write_timeline(
 ) -> Result<(), AllocError>
     ensures { OnOk result (out.new.items ≡ out.old.items ++ timeline_text work.now frame history.now s.now) }
 {
-    put_head(work, frame, out)?;
-    put_hand_overs(work, frame, &history.hand_overs, out)?;
-    put_threads(alloc, work, frame, history, out)?;
-    put_deadlocks(alloc, work, frame, s, out)?;
+    let moments = moments_of(alloc, work, frame, history)?;
+    put_ground(alloc, work, frame, history, &moments, out)?;
+    put_rows(alloc, work, frame, history, &moments, s, out)?;
     out.extend_from_slice(b"</svg>\n")
 }

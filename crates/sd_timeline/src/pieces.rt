@@ -2,7 +2,7 @@
 //! of it.
 
 ghost use Rattle.std.specs.Prelude.{◌≡◌, ◌++◌, OnOk};
-ghost use Rattle.sd_timeline.specs.Pieces.{attribute, bar_end, bar_start, box_text, ends_text, grid_line, label_end, label_start, number_label, word_label};
+ghost use Rattle.sd_timeline.specs.Pieces.{attribute, bar_end, bar_start, box_text, ends_text, grid_line, label_end, label_start, number_label, path_end, path_ends, path_start, word_label};
 
 use sd_labels::put_counted;
 use sd_text::put_number;
@@ -141,4 +141,37 @@ pub(crate) fn put_line(
     out.extend_from_slice(b"\"")?;
     put_ends(from, to, out)?;
     out.extend_from_slice(b"/>\n")
+}
+
+// `<path class=".." d="M x from V to`, an upright line from one height to another.
+#[tactic(auto, unfolding(crate::specs::Pieces::path_ends))]
+fn put_path_ends(column: u64, from: u64, to: u64, out: &mut Vec<u8>) -> Result<(), AllocError>
+    ensures { OnOk result (out.new.items ≡ out.old.items ++ path_ends column from to) }
+{
+    put_counted(b"\" d=\"M ", column, out)?;
+    put_counted(b" ", from, out)?;
+    put_counted(b" V ", to, out)
+}
+
+/// An upright line from one height to another, up to the words that are shown on it.
+#[tactic(auto, unfolding(crate::specs::Pieces::path_start))]
+pub(crate) fn put_path_start(
+    class: &[u8],
+    column: u64,
+    heights: (u64, u64),
+    out: &mut Vec<u8>,
+) -> Result<(), AllocError>
+    ensures { OnOk result (out.new.items ≡ out.old.items ++ path_start class.now column heights) }
+{
+    out.extend_from_slice(b"<path class=\"")?;
+    out.extend_from_slice(class)?;
+    put_path_ends(column, heights.0, heights.1, out)?;
+    out.extend_from_slice(b"\"><title>")
+}
+
+/// The end of such a line.
+pub(crate) fn put_path_end(out: &mut Vec<u8>) -> Result<(), AllocError>
+    ensures { OnOk result (out.new.items ≡ out.old.items ++ path_end) }
+{
+    out.extend_from_slice(b"</title></path>\n")
 }

@@ -6,16 +6,19 @@ use Rattle.std.proofs.lemmas.List.Folds.{list_all-append}
 use Rattle.sd_types.specs.declared.classes.Class.{Class}
 use Rattle.sd_types.specs.declared.classes.Class.TheVariants.{Ts, Fx, Sys, Rt}
 use Rattle.sd_types.specs.declared.works.Work.{Work}
+use Rattle.sd_stretches.specs.declared.sights.Doing.{Doing}
+use Rattle.sd_stretches.specs.declared.sights.Doing.TheVariants as doing
 use Rattle.sd_stretches.specs.declared.changes.HandOver.{HandOver}
 use Rattle.sd_stretches.specs.declared.changes.Load.{Load}
 use Rattle.sd_stretches.specs.declared.changes.Wakeup.{Wakeup}
 use Rattle.sd_stretches.specs.declared.histories.History.{History}
 use Rattle.sd_stretches.specs.declared.rows.Stretch.{Stretch}
-use Rattle.sd_stretches.specs.Rows.{slices, stretches}
+use Rattle.sd_stretches.specs.declared.spins.Track.TheVariants as track
+use Rattle.sd_stretches.specs.Spins.{pieces}
 use Rattle.sd_labels.specs.Plain.{is_text_byte, IsText}
-use Rattle.sd_labels.proofs.TextLemmas.{flat-text, decimal-text, thread-text, doing-text}
+use Rattle.sd_labels.proofs.TextLemmas.{flat-text, decimal-text, lock-text, thread-text, doing-text}
 use Rattle.sd_trace.specs.Words.{class_word, place_at, thread_number}
-use Rattle.sd_trace.specs.Slices.{about, class_argument, class_start, entry_arguments, length_of, priority_argument, run_slice, slice_kind, state_slice, state_slices}
+use Rattle.sd_trace.specs.Slices.{about, class_argument, class_start, entry_arguments, length_of, priority_argument, run_name, run_slice, slice_kind, spin_words, state_slice, state_slices}
 use Rattle.sd_trace.specs.Flows.{arrow_end, arrow_from, arrow_start, end_kind, entry_argument, flow, hand_flow, load_argument, load_event, load_start, named, start_kind, track_at, wake_flow}
 use Rattle.sd_trace.specs.Tracks.{all_tracks, cpu_name, cpu_part, cpu_track, name_end, name_start, own_part, thread_part, thread_track, threads_start, trace_start, track_order, track_start, trace_text}
 
@@ -39,9 +42,19 @@ length-text : (w : Work) (from to : ℕ) → IsText (length_of w from to)
 unfolding length_of
 length-text w from to = simp decimal-text
 
+spin-words-text : (w : Work) (d : Doing) → IsText (spin_words w d)
+unfolding spin_words
+spin-words-text w (doing.Spinning c l) = simp (list_all-append is_text_byte, lock-text w l.0)
+spin-words-text w (doing.Running c) = refl
+spin-words-text w doing.Runnable = refl
+spin-words-text w (doing.Waiting l) = refl
+spin-words-text w (doing.Asleep k) = refl
+spin-words-text w doing.Napping = refl
+spin-words-text w doing.Ended = refl
+
 run-text : (w : Work) (c : ℕ) (x : Stretch) → IsText (run_slice w c x)
-unfolding run_slice slice_kind
-run-text w c x = simp (list_all-append is_text_byte, thread-text w x.thread, place-text, length-text, about-text)
+unfolding run_slice run_name slice_kind
+run-text w c x = simp (list_all-append is_text_byte, thread-text w x.thread, spin-words-text w x.doing, place-text, length-text, about-text)
 
 state-text : (w : Work) (track from to : ℕ) (x : Stretch) → IsText (state_slice w track from to x)
 unfolding state_slice slice_kind
@@ -89,11 +102,11 @@ own-text : (w : Work) (t : ℕ) (own : List Stretch) → IsText (own_part w t ow
 own-text w t own = simp (list_all-append is_text_byte, track-text w t, states-text w (thread_number t) 0 own)
 
 cpu-part-text : (w : Work) (h : History) (c : ℕ) → IsText (cpu_part w h c)
-cpu-part-text w h c = simp (list_all-append is_text_byte, cpu-text c, flat-text (run_slice w c) (run-text w c) (slices c h.turns.items h.entries w.limit))
+cpu-part-text w h c = simp (list_all-append is_text_byte, cpu-text c, flat-text (run_slice w c) (run-text w c) (pieces (track.Cpu c) h w.limit))
 
 part-text : (w : Work) (h : History) (t : ℕ) → IsText (thread_part w h t)
 unfolding thread_part
-part-text w h t = own-text w t (stretches t h.turns.items h.entries w.limit)
+part-text w h t = own-text w t (pieces (track.Thread t) h w.limit)
 
 tracks-text : (w : Work) (h : History) → IsText (all_tracks w h)
 unfolding all_tracks trace_start threads_start

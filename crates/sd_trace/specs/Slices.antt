@@ -2,7 +2,9 @@
 -- Source: Trace Event Format (complete events).
 use Rattle.std.specs.Prelude.{ℕ, ◌-◌, max, List, [], ◌∷◌, ◌++◌, codes, decimal}
 use Rattle.sd_types.specs.declared.works.Work.{Work}
-use Rattle.sd_machine.specs.Texts.{thread_name}
+use Rattle.sd_machine.specs.Texts.{lock_name, thread_name}
+use Rattle.sd_stretches.specs.declared.sights.Doing.{Doing}
+use Rattle.sd_stretches.specs.declared.sights.Doing.TheVariants.{Spinning}
 use Rattle.sd_stretches.specs.declared.rows.Stretch.{Stretch}
 use Rattle.sd_labels.specs.Doings.{doing_text}
 use Rattle.sd_trace.specs.Words.{class_word, cpu_number, micros, place_at}
@@ -31,10 +33,19 @@ length_of w from to = codes ",\"dur\":" ++ decimal (micros w (to - from))
 unfoldable pub slice_kind : List ℕ → List ℕ
 slice_kind category = codes "\",\"cat\":\"" ++ category ++ codes "\",\"ph\":\"X\""
 
+-- for which lock the thread spins, if it does
+unfoldable pub spin_words : Work → Doing → List ℕ
+spin_words w (Spinning c l) = codes " spins for " ++ lock_name w l.0
+spin_words w _ = []
+
+-- who runs, and for which lock, if the thread spins
+unfoldable pub run_name : Work → Stretch → List ℕ
+run_name w x = thread_name w x.thread ++ spin_words w x.doing
+
 -- a slice on the track of processor c
 unfoldable pub run_slice : Work → ℕ → Stretch → List ℕ
 run_slice w c x =
-    codes ",\n{\"name\":\"" ++ thread_name w x.thread ++ slice_kind (codes "run") ++ place_at w x.from 1 (cpu_number c)
+    codes ",\n{\"name\":\"" ++ run_name w x ++ slice_kind (codes "run") ++ place_at w x.from 1 (cpu_number c)
     ++ length_of w x.from x.to ++ about x
 
 -- a slice on the track of a thread

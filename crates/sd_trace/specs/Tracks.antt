@@ -6,7 +6,8 @@ use Rattle.sd_types.specs.declared.works.Work.{Work}
 use Rattle.sd_machine.specs.Texts.{thread_name}
 use Rattle.sd_stretches.specs.declared.histories.History.{History}
 use Rattle.sd_stretches.specs.declared.rows.Stretch.{Stretch}
-use Rattle.sd_stretches.specs.Rows.{slices, stretches}
+use Rattle.sd_stretches.specs.declared.spins.Track.TheVariants as track
+use Rattle.sd_stretches.specs.Spins.{pieces}
 use Rattle.sd_trace.specs.Words.{cpu_number, thread_number}
 use Rattle.sd_trace.specs.Slices.{run_slice, state_slices}
 use Rattle.sd_trace.specs.Flows.{hand_flow, load_event, wake_flow}
@@ -40,7 +41,7 @@ thread_track w t =
 
 -- the track of a processor with its slices
 abbrev pub cpu_part : Work → History → ℕ → List ℕ
-cpu_part w h c = cpu_track c ++ flat_map (run_slice w c) (slices c h.turns.items h.entries w.limit)
+cpu_part w h c = cpu_track c ++ flat_map (run_slice w c) (pieces (track.Cpu c) h w.limit)
 
 -- the track of a thread, with a slice for each of its stretches
 abbrev pub own_part : Work → ℕ → List Stretch → List ℕ
@@ -48,7 +49,7 @@ own_part w t own =
     thread_track w t ++ state_slices w (thread_number t) 0 own
 
 unfoldable pub thread_part : Work → History → ℕ → List ℕ
-thread_part w h t = own_part w t (stretches t h.turns.items h.entries w.limit)
+thread_part w h t = own_part w t (pieces (track.Thread t) h w.limit)
 
 unfoldable pub trace_start : List ℕ
 trace_start = codes "{\"displayTimeUnit\":\"ms\",\"traceEvents\":[\n{\"name\":\"process_name\",\"ph\":\"M\",\"pid\":1,\"args\":{\"name\":\"processors\"}}"

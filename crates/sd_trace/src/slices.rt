@@ -2,11 +2,11 @@
 
 ghost use Rattle.std.specs.Prelude.{◌≡◌, ◌++◌, OnOk, codes, decimal, flat_map, max};
 ghost use Rattle.sd_machine.specs.Texts.{thread_name};
-ghost use Rattle.sd_trace.specs.Slices.{about, class_argument, class_start, entry_arguments, length_of, priority_argument, run_slice, slice_kind, state_slice, state_slices};
+ghost use Rattle.sd_trace.specs.Slices.{about, class_argument, class_start, entry_arguments, length_of, priority_argument, run_name, run_slice, slice_kind, spin_words, state_slice, state_slices};
 
 use crate::words::{class_word, cpu_number, micros, put_place};
-use sd_labels::{put_counted, put_doing, thread_name};
-use sd_stretches::Stretch;
+use sd_labels::{lock_name, put_counted, put_doing, thread_name};
+use sd_stretches::{Doing, Stretch};
 use sd_types::Work;
 use std::alloc::AllocError;
 
@@ -69,13 +69,36 @@ fn put_slice_kind(category: &[u8], out: &mut Vec<u8>) -> Result<(), AllocError>
     out.extend_from_slice(b"\",\"ph\":\"X\"")
 }
 
+// For which lock the thread spins, if it does.
+#[tactic(auto, unfolding(crate::specs::Slices::spin_words))]
+fn put_spin_words(work: &Work, doing: Doing, out: &mut Vec<u8>) -> Result<(), AllocError>
+    ensures { OnOk result (out.new.items ≡ out.old.items ++ spin_words work.now doing) }
+{
+    match doing {
+        Doing::Spinning(_, l) => {
+            out.extend_from_slice(b" spins for ")?;
+            out.extend_from_slice(lock_name(work, l))
+        }
+        _ => Ok(()),
+    }
+}
+
+// Who runs, and for which lock the thread spins, if it does.
+#[tactic(auto, unfolding(crate::specs::Slices::run_name))]
+fn put_run_name(work: &Work, x: &Stretch, out: &mut Vec<u8>) -> Result<(), AllocError>
+    ensures { OnOk result (out.new.items ≡ out.old.items ++ run_name work.now x.now) }
+{
+    out.extend_from_slice(thread_name(work, x.thread))?;
+    put_spin_words(work, x.doing, out)
+}
+
 // A slice on the track of a processor.
 #[tactic(auto, unfolding(crate::specs::Slices::run_slice))]
 fn put_run_slice(work: &Work, c: u16, x: &Stretch, out: &mut Vec<u8>) -> Result<(), AllocError>
     ensures { OnOk result (out.new.items ≡ out.old.items ++ run_slice work.now c x.now) }
 {
     out.extend_from_slice(b",\n{\"name\":\"")?;
-    out.extend_from_slice(thread_name(work, x.thread))?;
+    put_run_name(work, x, out)?;
     put_slice_kind(b"run", out)?;
     put_place(work, x.from, 1, cpu_number(c), out)?;
     put_length(work, x.from, x.to, out)?;

@@ -8,7 +8,7 @@ use crate::flows::{put_hand_overs, put_loads, put_wakeups};
 use crate::slices::{put_run_slices, put_states};
 use crate::words::{cpu_number, thread_number};
 use sd_labels::{put_counted, thread_name};
-use sd_stretches::{History, slices, stretches};
+use sd_stretches::{History, Track, pieces};
 use sd_types::Work;
 use std::alloc::{AllocError, Global};
 
@@ -82,7 +82,7 @@ fn put_cpu(
 ) -> Result<(), AllocError>
     ensures { OnOk result (out.new.items ≡ out.old.items ++ cpu_part work.now history.now c) }
 {
-    let slices = slices(alloc, &history.turns, c, history.entries, work.limit)?;
+    let slices = pieces(alloc, Track::Cpu(c), history, work.limit)?;
     put_cpu_track(c, out)?;
     put_run_slices(work, c, &slices, out)
 }
@@ -123,13 +123,7 @@ fn put_thread(
 ) -> Result<(), AllocError>
     ensures { OnOk result (out.new.items ≡ out.old.items ++ thread_part work.now history.now t) }
 {
-    let own = stretches(
-        alloc,
-        &history.turns,
-        usize::from(t),
-        history.entries,
-        work.limit,
-    )?;
+    let own = pieces(alloc, Track::Thread(usize::from(t)), history, work.limit)?;
     put_thread_track(work, t, out)?;
     put_states(work, thread_number(t), &own, out)
 }

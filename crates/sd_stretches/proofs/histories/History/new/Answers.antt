@@ -7,4 +7,4 @@ returns c w start =
     let h = c.in_ok-see.ensures in
     history_none w c.args.s.now c.see.new.self start
     (rw (e.turns, e.sights) at h.turns) (rw (e.ranks, e.sights) at h.ranks) (rw (e.loads, e.sights) at h.loads)
-    (rw h.hand_overs e.hand_overs) (rw h.wakeups e.wakeups) h.sights h.entries
+    (rw h.hand_overs e.hand_overs) (rw h.wakeups e.wakeups) (rw h.happenings e.happenings) h.sights h.entries

@@ -1,7 +1,0 @@
-use Rattle.std.proofs.Common.{◌≡◌, ◌++◌, take}
-use Rattle.std.specs.List.{flat_map}
-use Rattle.sd_timeline.specs.Labels.{hand_text}
-use Rattle.sd_timeline.proofs.labels.put_hand_overs.Given as goal
-
-abbrev pub invariant-loop-x : goal.invariant-loop-x
-invariant-loop-x l = l.out.items ≡ l.initial.out.items ++ flat_map (hand_text l.work l.frame) (take l.x-index l.hand_overs)

@@ -1,0 +1,7 @@
+use Rattle.std.proofs.Common.{◌≡◌, ◌++◌, take}
+use Rattle.std.specs.Prelude.{filter}
+use Rattle.sd_timeline.specs.Legend.{occurs}
+use Rattle.sd_timeline.proofs.legend.push_keys.Given as goal
+
+abbrev pub invariant-loop-key : goal.invariant-loop-key
+invariant-loop-key l = l.keys.items ≡ l.initial.keys.items ++ filter (λ k. occurs k l.history l.moments) (take l.key-index l.all)

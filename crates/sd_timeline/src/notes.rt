@@ -1,0 +1,179 @@
+//! What is noted under the rows: where a processor closes and joins a set, and where a thread is bound to a processor.
+//!
+//! Source: psrset(1M), pbind(1M).
+
+ghost use Rattle.std.specs.Prelude.{◌≡◌, ◌++◌, OnOk, flat_map};
+ghost use Rattle.sd_timeline.specs.Notes.{assign_note, bind_note, bound_words, note_by, note_text, set_note, set_words, thread_note};
+
+use crate::frames::{Frame, Row};
+use crate::pieces::{put_label_end, put_label_start};
+use sd_labels::{put_counted, set_name};
+use sd_stretches::Happening;
+use sd_types::{AssignAnswer, BindAnswer, CpuId, Event, SetId, ThreadId, Work};
+use std::alloc::AllocError;
+
+// A word and the name of a set.
+#[tactic(auto, unfolding(crate::specs::Notes::set_words))]
+fn put_set_words(word: &[u8], set: &[u8], out: &mut Vec<u8>) -> Result<(), AllocError>
+    ensures { OnOk result (out.new.items ≡ out.old.items ++ set_words word.now set.now) }
+{
+    out.extend_from_slice(word)?;
+    out.extend_from_slice(set)
+}
+
+// A word with a set, under the row of a processor.
+#[tactic(auto, unfolding(crate::specs::Notes::set_note))]
+fn put_set_note(
+    class: &[u8],
+    work: &Work,
+    frame: Frame,
+    tick: u32,
+    c: CpuId,
+    word: &[u8],
+    set: SetId,
+    out: &mut Vec<u8>,
+) -> Result<(), AllocError>
+    ensures { OnOk result (out.new.items ≡ out.old.items ++ set_note class.now work.now frame tick c word.now set) }
+{
+    put_label_start(class, frame.column(tick), frame.under(Row::Cpu(c.0)), out)?;
+    put_set_words(word, set_name(work, set), out)?;
+    put_label_end(out)
+}
+
+// Where a processor begins to close for a set.
+fn put_assign_note(
+    work: &Work,
+    frame: Frame,
+    tick: u32,
+    c: CpuId,
+    set: SetId,
+    answer: AssignAnswer,
+    out: &mut Vec<u8>,
+) -> Result<(), AllocError>
+    ensures { OnOk result (out.new.items ≡ out.old.items ++ assign_note work.now frame tick c set answer) }
+{
+    match answer {
+        AssignAnswer::Changed => put_set_note(
+            b"note closes",
+            work,
+            frame,
+            tick,
+            c,
+            b"closes for ",
+            set,
+            out,
+        ),
+        _ => Ok(()),
+    }
+}
+
+// To which processor a thread is bound.
+#[tactic(auto, unfolding(crate::specs::Notes::bound_words))]
+fn put_bound_words(cpu: Option<CpuId>, out: &mut Vec<u8>) -> Result<(), AllocError>
+    ensures { OnOk result (out.new.items ≡ out.old.items ++ bound_words cpu) }
+{
+    match cpu {
+        Some(c) => put_counted(b"&#9652;bound to ", u64::from(c.0), out),
+        None => out.extend_from_slice(b"&#9652;not bound"),
+    }
+}
+
+// Under the row of the thread, if it has one.
+fn put_thread_note(
+    frame: Frame,
+    tick: u32,
+    row: Option<u16>,
+    cpu: Option<CpuId>,
+    out: &mut Vec<u8>,
+) -> Result<(), AllocError>
+    ensures { OnOk result (out.new.items ≡ out.old.items ++ thread_note frame tick cpu row) }
+{
+    match row {
+        Some(t) => {
+            put_label_start(
+                b"note",
+                frame.column(tick),
+                frame.under(Row::Thread(t)),
+                out,
+            )?;
+            put_bound_words(cpu, out)?;
+            put_label_end(out)
+        }
+        None => Ok(()),
+    }
+}
+
+fn put_bind_note(
+    frame: Frame,
+    tick: u32,
+    t: ThreadId,
+    cpu: Option<CpuId>,
+    answer: BindAnswer,
+    out: &mut Vec<u8>,
+) -> Result<(), AllocError>
+    ensures { OnOk result (out.new.items ≡ out.old.items ++ bind_note frame tick t cpu answer) }
+{
+    match answer {
+        BindAnswer::Changed { .. } => {
+            put_thread_note(frame, tick, frame.row_of(t.0 as usize), cpu, out)
+        }
+        _ => Ok(()),
+    }
+}
+
+// What an entry changes of processor sets and bindings.
+fn put_note_of(
+    work: &Work,
+    frame: Frame,
+    x: &Happening,
+    out: &mut Vec<u8>,
+) -> Result<(), AllocError>
+    ensures { OnOk result (out.new.items ≡ out.old.items ++ note_by work.now frame x.now x.now.event) }
+{
+    match x.event {
+        Event::Assign {
+            cpu,
+            set,
+            answer,
+            ..
+        } => put_assign_note(work, frame, x.tick, cpu, set, answer, out),
+        Event::Joined { set } => put_set_note(
+            b"note",
+            work,
+            frame,
+            x.tick,
+            x.cpu,
+            b"&#9652;in ",
+            set,
+            out,
+        ),
+        Event::Bind { s, cpu, answer, .. } => put_bind_note(frame, x.tick, s, cpu, answer, out),
+        _ => Ok(()),
+    }
+}
+
+// Where its tick is drawn.
+fn put_note(work: &Work, frame: Frame, x: &Happening, out: &mut Vec<u8>) -> Result<(), AllocError>
+    ensures { OnOk result (out.new.items ≡ out.old.items ++ note_text work.now frame x.now) }
+{
+    if frame.shows(x.tick) {
+        put_note_of(work, frame, x, out)
+    } else {
+        Ok(())
+    }
+}
+
+/// The notes.
+pub(crate) fn put_notes(
+    work: &Work,
+    frame: Frame,
+    happenings: &[Happening],
+    out: &mut Vec<u8>,
+) -> Result<(), AllocError>
+    ensures { OnOk result (out.new.items ≡ out.old.items ++ flat_map (note_text work.now frame) happenings.now) }
+{
+    for x in happenings {
+        put_note(work, frame, x, out)?;
+    }
+    Ok(())
+}
