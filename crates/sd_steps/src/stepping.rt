@@ -1,6 +1,6 @@
 //! One step of the machine.
 
-ghost use Rattle.std.specs.Prelude.{◌≡◌, ◌↔◌, ◌+◌, ◌<◌, ◌^◌, length, IsTrue, option_to_list};
+ghost use Rattle.std.specs.Prelude.{◌≡◌, ◌↔◌, ◌+◌, ◌<◌, ◌^◌, length, IsSome, IsTrue, option_to_list};
 ghost use Rattle.std.specs.Bool.{OnTrue, OnFalse};
 ghost use Rattle.sd_full.specs.Events.{after, next};
 ghost use Rattle.sd_full.specs.Needs.{Needs};
@@ -46,6 +46,7 @@ pub fn step(work: &Work, s: &mut State, entry: &Entry) -> bool
     ensures step { IsTrue result ↔ IsStep work.now s.old entry.now }
     ensures made { OnTrue result (s.new ≡ after work.now s.old entry.now.number entry.now.cpu entry.now.event) }
     ensures kept { OnFalse result (s.new ≡ s.old) }
+    ensures reached { OnTrue result (IsReached work.now (entry.now.number + 1) s.new) }
 {
     match next_of(work, s, entry.cpu, &entry.hints) {
         Some(event) if same_event(&event, &entry.event) => {
@@ -64,6 +65,7 @@ pub fn make_entry(work: &Work, s: &mut State, number: u64, c: CpuId) -> Option<E
     requires number { number < 2 ^ 62 }
     ensures entry { option_to_list result ≡ turn work.now s.old number c }
     ensures state { s.new ≡ final work.now s.old (turn work.now s.old number c) }
+    ensures reached { IsSome result → IsReached work.now (number + 1) s.new }
 {
     if c.0 >= work.cpus {
         return None;

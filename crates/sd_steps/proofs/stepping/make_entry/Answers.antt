@@ -1,12 +1,14 @@
-use Rattle.std.proofs.Common.{Option, ap, sym, ◌∙◌, arith}
+use Rattle.std.proofs.Common.{◌+◌, Option, refl, ap, sym, ◌∙◌, subst, arith}
+use Rattle.sd_machine.specs.declared.states.State.{State}
 use Rattle.sd_types.specs.declared.events.Event.{Event}
 use Rattle.sd_types.specs.declared.events.Hints.{Hints}
 use Rattle.sd_full.specs.Events.{next}
-use Rattle.sd_full.specs.Runs.{final, made, serial_hints}
+use Rattle.sd_full.specs.Runs.{IsReached, final, made, serial_hints}
 use Rattle.sd_full.proofs.RunLemmas.{final-one, final-nil}
 use Rattle.sd_range.proofs.Range.{needs_reached}
 use Rattle.sd_sound.proofs.Whole.{fit_reached}
 use Rattle.sd_steps.proofs.Needed.{no_maker}
+use Rattle.sd_steps.proofs.ReplayLemmas.{reached_more}
 use Rattle.sd_steps.proofs.stepping.make_entry.Goals as goal
 
 pub returns-then-c-work-clause-entry : goal.returns-then-c-work-clause-entry
@@ -50,3 +52,11 @@ returns-in-None-clause-state c =
     let s = c.args.s.now in
     let h = serial_hints w s c.args.c in
     sym (final-nil w s) ∙ ap (λ (o : Option Event). final w s (made c.args.number c.args.c h o)) (sym c.in-None.is ∙ c.serial_next-hints.ensures.event)
+
+pub returns-in-Some-clause-reached : goal.returns-in-Some-clause-reached
+returns-in-Some-clause-reached c =
+    let w = c.args.work.now in
+    let s = c.args.s.now in
+    λ some. subst (λ (x : State). IsReached w (c.args.number + 1) x) (sym c.apply.ensures)
+    (reached_more w c.args.number s (record { number = c.args.number; cpu = c.args.c; event = c.in-Some.event; hints = serial_hints w s c.args.c }) c.requires.reached refl
+    (sym c.serial_next-hints.ensures.event ∙ c.in-Some.is))

@@ -1,6 +1,11 @@
-use Rattle.std.proofs.Common.{sym}
+use Rattle.std.proofs.Common.{◌+◌, Some, refl, sym, ap, ◌∙◌, subst}
 use Rattle.sd_range.proofs.Range.{needs_reached}
 use Rattle.sd_sound.proofs.Whole.{fit_reached}
+use Rattle.sd_machine.specs.declared.states.State.{State}
+use Rattle.sd_types.specs.declared.events.Event.{Event}
+use Rattle.sd_full.specs.Events.{after}
+use Rattle.sd_full.specs.Runs.{IsReached}
+use Rattle.sd_steps.proofs.ReplayLemmas.{reached_more}
 use Rattle.sd_steps.proofs.stepping.step.Goals as goal
 
 pub next_of-requires : goal.next_of-requires
@@ -13,3 +18,12 @@ pub apply-requires-clause-needs : goal.apply-requires-clause-needs
 apply-requires-clause-needs c =
     let e = c.args.entry.now in
     needs_reached c.args.work.now e.number c.args.s.now e.cpu e.hints c.in-Some.event c.requires.small c.requires.reached (sym c.in-Some.ensures)
+
+pub returns-in-Some-clause-reached : goal.returns-in-Some-clause-reached
+returns-in-Some-clause-reached c =
+    let w = c.args.work.now in
+    let s = c.args.s.now in
+    let e = c.args.entry.now in
+    let same = c.same_event.ensures.0 c.if-same_event.true in
+    subst (λ (x : State). IsReached w (e.number + 1) x) (sym (c.apply.ensures ∙ ap (λ (v : Event). after w s e.number e.cpu v) same))
+    (reached_more w e.number s e c.requires.reached refl (sym c.in-Some.ensures ∙ ap (λ (v : Event). Some v) same))
