@@ -23,9 +23,7 @@ use crate::targets::{answer_to, new_class};
 use sd_full::{Placement, Plan, Requeue};
 use sd_mdisp::{bound_of, eff_as, eff_of, op_of, reordered, requeue};
 use sd_store::{Look, Store, finish_op, set_class};
-use sd_types::{
-    ClassParms, ClassState, CpuId, Denied, Event, Op, PrioAnswer, Put, ThreadId, Work,
-};
+use sd_types::{ClassParms, ClassState, CpuId, Denied, Event, Op, PrioAnswer, Put, ThreadId, Work};
 
 /// Thread `t` gives thread `u` the effective priority `p`.
 fn change_plan<L: Look>(x: &L, t: ThreadId, u: ThreadId, p: u8) -> Result<Plan, L::Lack>
