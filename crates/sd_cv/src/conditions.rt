@@ -14,7 +14,7 @@ use sd_store::Store;
 use sd_types::{ChanId, CpuId, LockId, ThreadId, Work};
 
 /// By entry `number` thread `t`, which runs on processor `c`, gives up mutex `l` and falls asleep on channel `k`.
-#[tactic(auto, using(crate::proofs::GivenUp::released_length, crate::proofs::GivenUp::released_place, crate::proofs::GivenUp::released_counts, sd_mlock::proofs::GivenUp::released_inside), unfolding(sd_full::specs::Conditions::cv_waited))]
+#[tactic(auto, using(sd_mlock::proofs::GivenUp::released_length, sd_mlock::proofs::GivenUp::released_place, sd_mlock::proofs::GivenUp::released_counts, sd_mlock::proofs::GivenUp::released_inside), unfolding(sd_full::specs::Conditions::cv_waited))]
 pub fn cv_waited<S: Store>(
     work: &Work,
     x: &mut S,

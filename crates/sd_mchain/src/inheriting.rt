@@ -3,16 +3,17 @@
 //!
 //! Source: Solaris Internals (turnstiles: priority inheritance).
 
-ghost use Rattle.std.specs.Prelude.{◌≡◌, [], ◌∷◌, option_copied, unwrap_or};
+ghost use Rattle.std.specs.Prelude.{◌≡◌, [], ◌∷◌};
 ghost use Rattle.sd_full.specs.Bodies.{eff_as_with};
-ghost use Rattle.sd_machine.specs.States.{no_body, thread_of};
+ghost use Rattle.sd_machine.specs.States.{thread_of};
 ghost use Rattle.sd_store.specs.Parts.{thread_part};
 ghost use Rattle.sd_store.specs.Words.{Lacks, Tells};
 ghost use Rattle.sd_types.specs.Priorities.{greatest_willed};
 ghost use Rattle.sd_types.specs.Willed.{changed_number, with_number, without_number};
 
+use sd_mdisp::willed_numbers;
 use sd_store::Look;
-use sd_types::{ClassState, LockId, ThreadBody, ThreadId};
+use sd_types::{ClassState, LockId, ThreadId};
 
 /// The greatest of `base` and the numbers for other locks than `l`.
 fn greatest_without(base: u8, l: LockId, willed: &[(LockId, u8)]) -> u8
@@ -59,15 +60,6 @@ fn greatest_changed(base: u8, l: LockId, number: Option<u8>, willed: &[(LockId, 
     }
 }
 
-fn willed(body: Option<&ThreadBody>) -> &[(LockId, u8)]
-    ensures { result.now ≡ (unwrap_or (option_copied body.entry) no_body).willed.items }
-{
-    match body {
-        Some(body) => body.willed.as_slice(),
-        None => &[],
-    }
-}
-
 /// The effective priority that thread `t` would have in a class state, with this inherited priority for lock `l`, or none.
 pub fn eff_as_with<L: Look>(
     class: &ClassState,
@@ -80,5 +72,5 @@ pub fn eff_as_with<L: Look>(
     ensures lack { Lacks L.part (L.shows x.now) (L.has x.now) result (λ s. thread_part t ∷ []) }
 {
     let body = x.body(t)?;
-    Ok(greatest_changed(class.base(), l, number, willed(body)))
+    Ok(greatest_changed(class.base(), l, number, willed_numbers(body)))
 }

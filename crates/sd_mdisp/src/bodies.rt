@@ -3,15 +3,17 @@
 
 ghost use Rattle.std.specs.Prelude.{◌≡◌, [], ◌∷◌, IfOk, option_copied, option_map, unwrap_or};
 ghost use Rattle.sd_full.specs.Prioritising.{is_privileged, uid_of};
-ghost use Rattle.sd_full.specs.Threads.{eff_of, priority_of, set_of};
+ghost use Rattle.sd_full.specs.Threads.{eff_of, has_ended, priority_of, set_of};
 ghost use Rattle.sd_machine.specs.Operations.{op_of};
+ghost use Rattle.sd_machine.specs.declared.states.Place.{Place};
 ghost use Rattle.sd_machine.specs.States.{no_body, thread_of};
+ghost use Rattle.sd_store.specs.Keyless.{spot_of};
 ghost use Rattle.sd_store.specs.Parts.{found_parts, number, thread_part};
 ghost use Rattle.sd_store.specs.Words.{Lacks, Tells};
 ghost use Rattle.sd_types.specs.declared.bodies.ThreadBody.{ThreadBody as ThreadBodyOf};
 ghost use Rattle.sd_types.specs.Priorities.{eff, eff_as};
 
-use sd_store::Look;
+use sd_store::{Look, Spot};
 use sd_types::{
     ClassState, CpuId, LockId, Op, SetId, SysState, ThreadBody, ThreadId, Work, greatest_willed,
 };
@@ -38,7 +40,8 @@ pub fn bound_of<L: Look>(x: &L, t: ThreadId) -> Result<Option<CpuId>, L::Lack>
     }
 }
 
-fn willed(body: Option<&ThreadBody>) -> &[(LockId, u8)]
+/// The priorities that a thread inherits, one for each lock.
+pub fn willed_numbers(body: Option<&ThreadBody>) -> &[(LockId, u8)]
     ensures { result.now ≡ (unwrap_or (option_copied body.entry) no_body).willed.items }
 {
     match body {
@@ -53,7 +56,7 @@ pub fn eff_as<L: Look>(class: &ClassState, x: &L, t: ThreadId) -> Result<u8, L::
     ensures lack { Lacks L.part (L.shows x.now) (L.has x.now) result (λ s. thread_part t ∷ []) }
 {
     let body = x.body(t)?;
-    Ok(greatest_willed(class.base(), willed(body)))
+    Ok(greatest_willed(class.base(), willed_numbers(body)))
 }
 
 /// The effective priority of thread `t`.
@@ -77,6 +80,13 @@ pub fn priority_of<L: Look>(x: &L, t: Option<ThreadId>) -> Result<Option<u8>, L:
         None => Ok(None),
         Some(t) => Ok(Some(eff_of(x, t)?)),
     }
+}
+
+/// A thread that stands at a spot has ended.
+pub fn has_ended(spot: Spot) -> bool
+    ensures { (place : Place) → spot ≡ spot_of place → result ≡ has_ended place }
+{
+    matches!(spot, Spot::Ended)
 }
 
 /// The partition of a thread, which its declaration names.

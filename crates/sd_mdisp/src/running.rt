@@ -46,7 +46,7 @@ fn charge<S: Store>(
 }
 
 /// The class of thread `t` counts a tick.
-#[tactic(auto, using(crate::proofs::Kept::ready_classed))]
+#[tactic(auto, using(crate::proofs::RunningLemmas::ready_classed))]
 fn class_counts<S: Store>(work: &Work, x: &mut S, c: CpuId, t: ThreadId) -> Result<(), S::Lack>
     ensures value { Does (S.shows x.old) (S.shows x.new) result (λ s. ⊤) (λ s. class_counts work.now s c.0 t.0) }
     ensures lack { Lacks S.part (S.shows x.old) (S.has x.old) result (λ s. thread_part t ∷ ready_parts s c) }
@@ -58,7 +58,7 @@ fn class_counts<S: Store>(work: &Work, x: &mut S, c: CpuId, t: ThreadId) -> Resu
 }
 
 /// Thread `t` runs for a tick on processor `c`.
-#[tactic(auto, using(crate::proofs::Kept::counted_finish, crate::proofs::Kept::ready_counted, crate::proofs::Kept::ready_ran), unfolding(sd_full::specs::Dispatching::ticked))]
+#[tactic(auto, using(crate::proofs::RunningLemmas::counted_finish, crate::proofs::RunningLemmas::ready_counted, crate::proofs::RunningLemmas::ready_ran), unfolding(sd_full::specs::Dispatching::ticked))]
 pub fn ticked<S: Store>(work: &Work, x: &mut S, c: CpuId, t: ThreadId) -> Result<(), S::Lack>
     ensures value { Does (S.shows x.old) (S.shows x.new) result (λ s. CanTick work.now s c × CanFinish work.now s t) (λ s. ticked work.now s c.0 t.0) }
     ensures lack { LacksIf S.part (S.shows x.old) (S.has x.old) result (λ s. CanTick work.now s c × CanFinish work.now s t) (λ s. actor_part c ∷ thread_part t ∷ ready_parts s c) }
@@ -70,7 +70,7 @@ pub fn ticked<S: Store>(work: &Work, x: &mut S, c: CpuId, t: ThreadId) -> Result
 }
 
 /// Thread `t` spins for a tick on processor `c`.
-#[tactic(auto, using(crate::proofs::Kept::ready_counted), unfolding(sd_full::specs::Dispatching::spun))]
+#[tactic(auto, using(crate::proofs::RunningLemmas::ready_counted), unfolding(sd_full::specs::Dispatching::spun))]
 pub fn spun<S: Store>(work: &Work, x: &mut S, c: CpuId, t: ThreadId) -> Result<(), S::Lack>
     ensures value { Does (S.shows x.old) (S.shows x.new) result (λ s. CanTick work.now s c) (λ s. spun work.now s c.0 t.0) }
     ensures lack { LacksIf S.part (S.shows x.old) (S.has x.old) result (λ s. CanTick work.now s c) (λ s. actor_part c ∷ thread_part t ∷ ready_parts s c) }
@@ -91,7 +91,7 @@ pub fn idled<S: Store>(work: &Work, x: &mut S, c: CpuId) -> Result<(), S::Lack>
 }
 
 /// Processor `c` takes thread `t` from its queue, and runs it.
-#[tactic(auto, using(crate::proofs::Kept::free_unmarked), unfolding(sd_full::specs::Dispatching::dispatched))]
+#[tactic(auto, using(crate::proofs::RunningLemmas::free_unmarked), unfolding(sd_full::specs::Dispatching::dispatched))]
 pub fn dispatched<S: Store>(x: &mut S, c: CpuId, t: ThreadId) -> Result<(), S::Lack>
     ensures value { Does (S.shows x.old) (S.shows x.new) result (λ s. IsFree s c) (λ s. dispatched s c t.0) }
     ensures lack { Lacks S.part (S.shows x.old) (S.has x.old) result (λ s. thread_part t ∷ cpu_part c ∷ []) }
@@ -164,7 +164,7 @@ fn requeued_class<S: Store>(work: &Work, x: &mut S, t: ThreadId) -> Result<(), S
 }
 
 /// By entry `number` thread `t` leaves processor `c` for an end of the queue of its priority.
-#[tactic(auto, using(crate::proofs::Kept::runs_classed), unfolding(sd_full::specs::Dispatching::preempted))]
+#[tactic(auto, using(crate::proofs::RunningLemmas::runs_classed), unfolding(sd_full::specs::Dispatching::preempted))]
 pub fn preempted<S: Store>(
     work: &Work,
     x: &mut S,
@@ -204,7 +204,7 @@ pub fn sent_away<S: Store>(
 }
 
 /// By entry `number` thread `t` leaves processor `c` for the back of the queue of its priority, its operation over.
-#[tactic(auto, using(crate::proofs::Kept::left_finish), unfolding(sd_full::specs::Dispatching::yielded))]
+#[tactic(auto, using(crate::proofs::Kept::left_inside), unfolding(sd_full::specs::Dispatching::yielded))]
 pub fn yielded<S: Store>(
     work: &Work,
     x: &mut S,

@@ -16,7 +16,7 @@ use Rattle.sd_machine.specs.declared.states.ThreadState.{ThreadState}
 use Rattle.sd_machine.specs.States.{no_thread, thread_of, with_thread}
 use Rattle.sd_machine.specs.Operations.{script_of, op_over}
 use Rattle.sd_full.specs.Changes.{finish_op, hold}
-use Rattle.sd_mlock.proofs.Kept.{op_at, inside}
+use Rattle.sd_mdisp.proofs.Kept.{kept_op, inside}
 
 sound_is : (b d : ThreadBody) → d.willed.items ≡ b.willed.items → d.held.items ≡ b.held.items → IsSound b → IsSound d
 sound_is b d willed held is = record {
@@ -29,7 +29,7 @@ sound_is b d willed held is = record {
 pub held_inside : (w : Work) (s : State) (u : ℕ) (l : LockId) → (thread_of s u).body.op < length (script_of w u)
     → (thread_of (hold s u l) u).body.op < length (script_of w u)
 unfolding hold
-held_inside w s u l here = inside w s (hold s u l) u (op_at s u (record (thread_of s u) { body = with_held l (thread_of s u).body }) refl) here
+held_inside w s u l here = inside w s (hold s u l) u (kept_op s u u (record (thread_of s u) { body = with_held l (thread_of s u).body }) refl) here
 
 thread_set : (s : State) (t : ℕ) (x : ThreadState) → t < length s.threads → thread_of (with_thread s t x) t ≡ x
 thread_set s t x here = get_or-set_same s.threads t x no_thread here

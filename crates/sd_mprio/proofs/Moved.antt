@@ -1,5 +1,5 @@
 -- The operation at which a thread stands is kept where a thread gets other parameters.
-use Rattle.std.proofs.Common.{◌≡◌, ℕ, ◌<◌, Bool, true, false, length, Option, Some, None, refl, ◌∙◌}
+use Rattle.std.proofs.Common.{◌≡◌, ℕ, ◌<◌, Bool, true, false, length, Option, Some, refl, ◌∙◌}
 use Rattle.std.specs.Prelude.{nat_lt, Result, Ok, Err}
 use Rattle.sd_types.specs.declared.numbers.CpuId.{CpuId}
 use Rattle.sd_types.specs.declared.numbers.ThreadId.{ThreadId}
@@ -15,64 +15,42 @@ use Rattle.sd_machine.specs.declared.states.Place.TheVariants.{Running, Waiting}
 use Rattle.sd_machine.specs.declared.states.State.{State}
 use Rattle.sd_machine.specs.States.{thread_of}
 use Rattle.sd_machine.specs.Operations.{script_of}
-use Rattle.sd_full.specs.Changes.{priority_or_zero, put_where, remark, rivals, set_class, set_duty, set_mark}
+use Rattle.sd_full.specs.Changes.{remark, set_class, set_duty}
 use Rattle.sd_full.specs.Prioritising.{answer_to, changed_by, changed_on, changed_to, new_class, walk_from}
 use Rattle.sd_full.specs.Requeueing.{reordered, reordered_at}
-use Rattle.sd_full.specs.Threads.{best_ready, eff_of, priority_of, runner}
-use Rattle.sd_msleep.proofs.Kept.{class_op, inside, mark_threads, put_op, same_threads}
-
-Keeps : State → State → Type 0
-Keeps s r = (t : ℕ) → (thread_of r t).body.op ≡ (thread_of s t).body.op
-
-where_op : (w : Work) (s : State) (n u : ℕ) (at : Option Put) → Keeps s (put_where w s n u at)
-unfolding Keeps put_where
-where_op w s n u None t = refl
-where_op w s n u (Some at) t = put_op w s n u t at
-
-remark_op : (s : State) (x : ℕ) → Keeps s (remark s x)
-unfolding Keeps remark
-remark_op s x t = by (rivals (priority_of s (best_ready s x)) (priority_of s (runner s x))) refl
-  where
-    by : (b : Bool) → rivals (priority_of s (best_ready s x)) (priority_of s (runner s x)) ≡ b → (thread_of (remark s x) t).body.op ≡ (thread_of s t).body.op
-    by true e =
-        let m = priority_or_zero (priority_of s (best_ready s x)) in
-        rw e (same_threads s (set_mark s x m) t (mark_threads s x m))
-    by false e = rw e refl
+use Rattle.sd_full.specs.Threads.{eff_of}
+use Rattle.sd_mdisp.proofs.Kept.{Keeps, class_op, inside, remark_threads, same_op, where_op}
 
 reordered_op : (w : Work) (s : State) (n u old : ℕ) (at : Option Put) → Keeps s (reordered w s n u old at)
-unfolding Keeps reordered
+unfolding reordered
 reordered_op w s n u old at t = on (thread_of s u).place
   where
     on : (place : Place) → (thread_of (reordered_at w s n u old at place) t).body.op ≡ (thread_of s t).body.op
     on (Running x) = by (nat_lt (eff_of s u) old) refl
       where
         by : (b : Bool) → nat_lt (eff_of s u) old ≡ b → (thread_of (reordered_at w s n u old at (Running x)) t).body.op ≡ (thread_of s t).body.op
-        by true e = rw e (remark_op s x.0 t)
+        by true e = rw e (same_op s (remark s x.0) t (remark_threads s x.0))
         by false e = rw e refl
     on _ = where_op w s n u at t
 
 walk_op : (s : State) (c : CpuId) (u : ThreadId) (place : Place) → Keeps s (walk_from s c u place)
-unfolding Keeps set_duty
+unfolding set_duty
 walk_op s c u (Waiting l side k) t = refl
 walk_op s c u _ t = refl
 
 to_op : (w : Work) (s : State) (n : ℕ) (c : CpuId) (u : ThreadId) (at : Option Put) (class : ClassState) → Keeps s (changed_to w s n c u at class)
-unfolding Keeps
 to_op w s n c u at class t =
     let r = set_class s u.0 class in
-    walk_op (reordered w r n u.0 (eff_of s u.0) at) c u (thread_of s u.0).place t ∙ reordered_op w r n u.0 (eff_of s u.0) at t ∙ class_op s u.0 t class
+    walk_op (reordered w r n u.0 (eff_of s u.0) at) c u (thread_of s u.0).place t ∙ reordered_op w r n u.0 (eff_of s u.0) at t ∙ class_op s u.0 class t
 
 by_op : (w : Work) (s : State) (n : ℕ) (c : CpuId) (u : ThreadId) (at : Option Put) (a : Result ClassParms Denied) → Keeps s (changed_by w s n c u at a)
-unfolding Keeps
 by_op w s n c u at (Err denied) t = refl
 by_op w s n c u at (Ok parms) t = to_op w s n c u at (new_class w s u.0 parms) t
 
 on_op : (w : Work) (s : State) (n : ℕ) (c : CpuId) (v : ℕ) (u : ThreadId) (at : Option Put) (o : Option Op) → Keeps s (changed_on w s n c v u at o)
-unfolding Keeps
 on_op w s n c v u at (Some (Prio x r)) t = by_op w s n c u at (answer_to w s v u.0 r) t
 on_op w s n c v u at _ t = refl
 
 pub changed_inside : (w : Work) (s : State) (n : ℕ) (c : CpuId) (t : ℕ) (u : ThreadId) (at : Option Put) (o : Option Op) → (thread_of s t).body.op < length (script_of w t)
     → (thread_of (changed_on w s n c t u at o) t).body.op < length (script_of w t)
-unfolding Keeps
 changed_inside w s n c t u at o here = inside w s (changed_on w s n c t u at o) t (on_op w s n c t u at o t) here

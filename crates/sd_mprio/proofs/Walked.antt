@@ -1,8 +1,8 @@
 -- Where a thread gets other parameters: it waits afterwards if it did before, so that the walk begins where it waited; and
 -- the parts that it touches are those of the state before.
-use Rattle.std.proofs.Common.{◌≡◌, ℕ, Bool, true, false, List, Option, Some, None, refl, sym, ap, ◌∙◌, subst, arith, inr}
+use Rattle.std.proofs.Common.{◌≡◌, ℕ, Bool, true, false, Option, Some, None, refl, sym, ap, ◌∙◌, subst, arith, inr}
 use Rattle.std.proofs.lemmas.Grind.{common_steps}
-use Rattle.std.specs.Prelude.{◌∷◌, nat_lt, slice_index_or, Result, Ok, Err, ⊤}
+use Rattle.std.specs.Prelude.{◌∷◌, nat_lt, Result, Ok, Err, ⊤}
 use Rattle.sd_types.specs.declared.numbers.CpuId.{CpuId}
 use Rattle.sd_types.specs.declared.numbers.ThreadId.{ThreadId}
 use Rattle.sd_types.specs.declared.classes.ClassState.{ClassState}
@@ -14,31 +14,21 @@ use Rattle.sd_machine.specs.declared.states.Place.{Place}
 use Rattle.sd_machine.specs.declared.states.Place.TheVariants.{Running, Queued, RealTime, Waiting, Asleep, Napping, Ended}
 use Rattle.sd_machine.specs.declared.states.State.{State}
 use Rattle.sd_machine.specs.declared.states.ThreadState.{ThreadState}
-use Rattle.sd_machine.specs.States.{thread_of, no_thread, with_thread}
-use Rattle.sd_full.specs.Changes.{cpu_put, mark_over, place_put, priority_or_zero, put, put_where, remark, rivals, set_class, with_place}
+use Rattle.sd_machine.specs.States.{thread_of, with_thread}
+use Rattle.sd_full.specs.Changes.{cpu_put, mark_over, place_put, put, put_where, remark, set_class, with_place}
 use Rattle.sd_full.specs.Needs.{IsUnmoved}
 use Rattle.sd_full.specs.Prioritising.{walk_from}
 use Rattle.sd_full.specs.Requeueing.{reordered, reordered_at}
-use Rattle.sd_full.specs.Threads.{best_ready, eff_of, priority_of, runner}
+use Rattle.sd_full.specs.Threads.{eff_of}
 use Rattle.sd_mdisp.specs.Touched.{reordered_parts}
+use Rattle.sd_mdisp.proofs.Kept.{class_place, over_threads, remark_threads, same_place}
 use Rattle.sd_store.specs.declared.parts.Part.{Part}
 use Rattle.sd_store.specs.Parts.{IsAmong, thread_part}
 use Rattle.sd_store.specs.Walks.{walk_begun}
 use Rattle.sd_store.specs.Words.{LacksBy}
 use Rattle.sd_mprio.specs.Touched.{KeepsWaiting}
-use Rattle.sd_msleep.proofs.Kept.{mark_threads, over_threads}
 
 -- Places.
-
-same_place : (s r : State) (u : ℕ) → r.threads ≡ s.threads → (thread_of r u).place ≡ (thread_of s u).place
-same_place s r u e = ap (λ (xs : List ThreadState). (slice_index_or xs u no_thread).place) e
-
-place_at : (s : State) (u : ℕ) (x : ThreadState) → x.place ≡ (thread_of s u).place → (thread_of (with_thread s u x) u).place ≡ (thread_of s u).place
-place_at s u x same = grind (arith, common_steps)
-
-pub class_place : (s : State) (u : ℕ) (class : ClassState) → (thread_of (set_class s u class) u).place ≡ (thread_of s u).place
-unfolding set_class
-class_place s u class = place_at s u _ refl
 
 abbrev is_waiter : Place → Bool
 is_waiter (Waiting l side k) = true
@@ -61,14 +51,6 @@ where_apart w s n u (Some at) h =
     let r = with_place s u (place_put w n u at) in
     apart_by _ _ (same_place r (mark_over r (cpu_put at).0 (eff_of s u)) u (over_threads r (cpu_put at).0 (eff_of s u)))
     (apart_at s u (record (thread_of s u) { place = place_put w n u at }) (put_apart w n u at) h)
-
-remark_threads : (s : State) (x : ℕ) → (remark s x).threads ≡ s.threads
-unfolding remark
-remark_threads s x = by (rivals (priority_of s (best_ready s x)) (priority_of s (runner s x))) refl
-  where
-    by : (b : Bool) → rivals (priority_of s (best_ready s x)) (priority_of s (runner s x)) ≡ b → (remark s x).threads ≡ s.threads
-    by true e = rw e (mark_threads s x (priority_or_zero (priority_of s (best_ready s x))))
-    by false e = rw e refl
 
 reordered_apart : (w : Work) (s : State) (n u old : ℕ) (at : Option Put) → is_waiter (thread_of s u).place ≡ false → is_waiter (thread_of (reordered w s n u old at) u).place ≡ false
 unfolding reordered
@@ -105,14 +87,14 @@ same_walk w s n c u old at class keeps = on (thread_of s u.0).place refl keeps
         ≡ walk_from (reordered w (set_class s u.0 class) n u.0 old at) c u place
     apart place e h =
         let r = reordered w (set_class s u.0 class) n u.0 old at in
-        still r c u (thread_of r u.0).place (reordered_apart w (set_class s u.0 class) n u.0 old at (apart_by _ _ (class_place s u.0 class ∙ e) h))
+        still r c u (thread_of r u.0).place (reordered_apart w (set_class s u.0 class) n u.0 old at (apart_by _ _ (class_place s u.0 u.0 class ∙ e) h))
         ∙ sym (still r c u place h)
 
     on : (place : Place) → (thread_of s u.0).place ≡ place → KeepsWaiting place at
         → walk_from (reordered w (set_class s u.0 class) n u.0 old at) c u (thread_of (reordered w (set_class s u.0 class) n u.0 old at) u.0).place
         ≡ walk_from (reordered w (set_class s u.0 class) n u.0 old at) c u place
     on (Waiting l side k) e none =
-        rw none (ap (walk_from (reordered w (set_class s u.0 class) n u.0 old None) c u) (waits_on w (set_class s u.0 class) n u.0 old (Waiting l side k) (class_place s u.0 class ∙ e) refl))
+        rw none (ap (walk_from (reordered w (set_class s u.0 class) n u.0 old None) c u) (waits_on w (set_class s u.0 class) n u.0 old (Waiting l side k) (class_place s u.0 u.0 class ∙ e) refl))
     on (Running x) e keeps = apart (Running x) e refl
     on (Queued d k) e keeps = apart (Queued d k) e refl
     on (RealTime p k) e keeps = apart (RealTime p k) e refl
@@ -131,7 +113,7 @@ class_parts : (w : Work) (s : State) (u : ThreadId) (class : ClassState) (at : O
     → IsAmong p (reordered_parts w s u at (thread_of s u.0).place)
 unfolding set_class
 class_parts w s u class at p among =
-    on (thread_of s u.0).place (subst (λ place. IsAmong p (reordered_parts w (set_class s u.0 class) u at place)) (class_place s u.0 class) among)
+    on (thread_of s u.0).place (subst (λ place. IsAmong p (reordered_parts w (set_class s u.0 class) u at place)) (class_place s u.0 u.0 class) among)
   where
     on : (place : Place) → IsAmong p (reordered_parts w (set_class s u.0 class) u at place) → IsAmong p (reordered_parts w s u at place)
     on (Running d) h = h

@@ -9,5 +9,5 @@ mod priocntl;
 mod targets;
 
 pub use ageing::{age_plan, aged};
-pub use priocntl::{prio_plan, reprioritised};
+pub use priocntl::{prio_plan, reprioritised, wanted_op};
 pub use targets::answer_to;

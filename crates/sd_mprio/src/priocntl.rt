@@ -2,14 +2,14 @@
 //!
 //! Source: priocntl(2), Solaris Internals (thread_change_pri; turnstiles, on which a new priority is handed on).
 
-ghost use Rattle.std.specs.Prelude.{◌≡◌, ◌<◌, ◌^◌, [], ◌∷◌, ⊤, IfOk, IsTrue, Some, option_copied, unwrap_or};
+ghost use Rattle.std.specs.Prelude.{◌≡◌, ◌<◌, ◌^◌, [], ◌∷◌, ⊤, IfOk, IsTrue, Some};
 ghost use Rattle.sd_full.specs.Changes.{set_class};
 ghost use Rattle.sd_full.specs.Needs.{CanFinish, IsUnmoved};
 ghost use Rattle.sd_full.specs.Prioritising.{change_plan, changed_by, changed_on, changed_to, prio_plan, reprioritised};
 ghost use Rattle.sd_full.specs.Requeueing.{reordered};
 ghost use Rattle.sd_full.specs.Threads.{eff_of};
 ghost use Rattle.sd_machine.specs.Operations.{op_of};
-ghost use Rattle.sd_machine.specs.States.{no_body, thread_of};
+ghost use Rattle.sd_machine.specs.States.{thread_of};
 ghost use Rattle.sd_mdisp.specs.Touched.{reordered_parts};
 ghost use Rattle.sd_mprio.specs.Touched.{KeepsWaiting, changed_parts, prio_parts};
 ghost use Rattle.sd_store.specs.Parts.{thread_part};
@@ -21,11 +21,9 @@ ghost use Rattle.sd_types.specs.declared.scripts.Request.{Request};
 
 use crate::targets::{answer_to, new_class};
 use sd_full::{Placement, Plan, Requeue};
-use sd_mdisp::{bound_of, eff_as, eff_of, reordered, requeue};
+use sd_mdisp::{bound_of, eff_as, eff_of, op_of, reordered, requeue};
 use sd_store::{Look, Store, finish_op, set_class};
-use sd_types::{
-    ClassParms, ClassState, CpuId, Denied, Event, Op, PrioAnswer, Put, ThreadBody, ThreadId, Work,
-};
+use sd_types::{ClassParms, ClassState, CpuId, Denied, Event, Op, PrioAnswer, Put, ThreadId, Work};
 
 /// Thread `t` gives thread `u` the effective priority `p`.
 fn change_plan<L: Look>(x: &L, t: ThreadId, u: ThreadId, p: u8) -> Result<Plan, L::Lack>
@@ -141,26 +139,13 @@ fn changed_by<S: Store>(
     }
 }
 
-/// The operation of thread `t` with a number, None after the last.
-fn op_at(work: &Work, t: ThreadId, body: Option<&ThreadBody>) -> Option<Op>
-    ensures { result ≡ op_of work.now t.0 (unwrap_or (option_copied body.entry) no_body) }
+/// The operation at which thread `t` stands, None after the last. A request names a quantum that is in its range.
+pub fn wanted_op<L: Look>(work: &Work, x: &L, t: ThreadId) -> Result<Option<Op>, L::Lack>
+    ensures value { Tells (L.shows x.now) result (λ s. op_of work.now t.0 (thread_of s t.0).body) }
+    ensures lack { Lacks L.part (L.shows x.now) (L.has x.now) result (λ s. thread_part t ∷ []) }
+    ensures quantum { IfOk result (λ op. (u : ThreadId) (r : Request) → op ≡ Some (Prio u r) → IsTrue (quantum_fits r.quantum)) }
 {
-    let op = match body {
-        Some(body) => body.op,
-        None => 0,
-    };
-    match work.threads.items().get(t.0 as usize) {
-        Some(decl) => decl.script.ops().get(op as usize).copied(),
-        None => None,
-    }
-}
-
-/// The same. A request names a quantum that is in its range.
-fn wanted_op(work: &Work, t: ThreadId, body: Option<&ThreadBody>) -> Option<Op>
-    ensures value { result ≡ op_of work.now t.0 (unwrap_or (option_copied body.entry) no_body) }
-    ensures quantum { (u : ThreadId) (r : Request) → result ≡ Some (Prio u r) → IsTrue (quantum_fits r.quantum) }
-{
-    op_at(work, t, body)
+    op_of(work, x, t)
 }
 
 /// The same where the operation of thread `t` is such a request.
@@ -207,7 +192,7 @@ pub fn reprioritised<S: Store>(
     ensures has { S.has x.new ≡ S.has x.old }
 {
     if let PrioAnswer::Changed { at, .. } = answer {
-        let op = wanted_op(work, t, x.body(t)?);
+        let op = wanted_op(work, x, t)?;
         changed_on(work, x, number, c, t, u, at, op)?;
     }
     finish_op(x, work, t)

@@ -5,25 +5,16 @@
 ghost use Rattle.std.specs.Prelude.{◌≡◌, [], ◌∷◌, IfOk, IsTrue, option_map};
 ghost use Rattle.sd_full.specs.Bodies.{parms_of};
 ghost use Rattle.sd_full.specs.Prioritising.{answer_to, new_class, target_of};
-ghost use Rattle.sd_full.specs.Threads.{has_ended};
-ghost use Rattle.sd_machine.specs.declared.states.Place.{Place};
 ghost use Rattle.sd_machine.specs.declared.states.State.{State};
 ghost use Rattle.std.specs.Prelude.{ℕ};
-ghost use Rattle.sd_store.specs.Keyless.{spot_of};
 ghost use Rattle.sd_store.specs.Parts.{thread_part};
 ghost use Rattle.sd_store.specs.Words.{Lacks, Tells};
 ghost use Rattle.sd_types.specs.Works.{class_fits, quantum_fits};
 
-use sd_mdisp::{class_of, is_privileged, uid_of};
+use sd_mdisp::{class_of, has_ended, is_privileged, uid_of};
 use sd_prio::{Target, Who, enter, judge};
-use sd_store::{Look, Spot};
+use sd_store::Look;
 use sd_types::{ClassParms, ClassState, Denied, Request, ThreadId, Work};
-
-fn has_ended(spot: Spot) -> bool
-    ensures { (place : Place) → spot ≡ spot_of place → result ≡ has_ended place }
-{
-    matches!(spot, Spot::Ended)
-}
 
 /// The parameters of a class state, as priocntl(2) shows them.
 fn parms_of(class: &ClassState) -> ClassParms

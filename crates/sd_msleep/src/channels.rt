@@ -14,7 +14,7 @@ use sd_store::{Chore, Destination, Look, Store, finish_op};
 use sd_types::{ChanId, CpuId, Event, Put, ThreadId, Work};
 
 /// By entry `number` thread `t`, which runs on processor `c`, sleeps on channel `k`.
-#[tactic(auto, using(crate::proofs::Kept::left_inside), unfolding(sd_full::specs::Sleeping::fallen_asleep))]
+#[tactic(auto, using(sd_mdisp::proofs::Kept::left_inside), unfolding(sd_full::specs::Sleeping::fallen_asleep))]
 pub fn fallen_asleep<S: Store>(
     work: &Work,
     x: &mut S,
@@ -53,7 +53,7 @@ pub fn wake_plan<L: Look>(
 }
 
 /// By entry `number` thread `t` has woken another thread, or none.
-#[tactic(auto, using(crate::proofs::Kept::woken_inside), unfolding(sd_full::specs::Sleeping::woke))]
+#[tactic(auto, using(crate::proofs::Woken::woken_inside), unfolding(sd_full::specs::Sleeping::woke))]
 pub fn woke<S: Store>(
     work: &Work,
     x: &mut S,
@@ -116,7 +116,7 @@ pub fn rouse_plan<L: Look>(
 }
 
 /// By entry `number` processor `c` has woken a sleeper of channel `k`, or there was none. Its duty is over with the last.
-#[tactic(auto, using(crate::proofs::Kept::next_after_woken), unfolding(sd_full::specs::Sleeping::roused))]
+#[tactic(auto, using(crate::proofs::Woken::next_after_woken), unfolding(sd_full::specs::Sleeping::roused))]
 pub fn roused<S: Store>(
     work: &Work,
     x: &mut S,

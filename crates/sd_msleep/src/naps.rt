@@ -41,7 +41,7 @@ fn nap_ticks(op: Option<Op>) -> u32
 
 /// By entry `number` thread `t`, which runs on processor `c`, naps there until the processor has counted the ticks of its
 /// operation.
-#[tactic(auto, using(crate::proofs::Kept::left_inside), unfolding(sd_full::specs::Sleeping::napped))]
+#[tactic(auto, using(sd_mdisp::proofs::Kept::left_inside), unfolding(sd_full::specs::Sleeping::napped))]
 pub fn napped<S: Store>(
     work: &Work,
     x: &mut S,

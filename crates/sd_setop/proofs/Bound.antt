@@ -1,7 +1,5 @@
--- Where a thread is bound, or bound no more: the operation at which a thread stands and the place of the thread are kept,
--- and what is one of some parts is one of more.
-use Rattle.std.proofs.Common.{◌≡◌, ℕ, ◌+◌, ◌<◌, ◌^◌, Bool, true, false, length, List, [], ◌∷◌, ◌++◌, Option, Some, None, refl, ◌∙◌, arith, inl, inr}
-use Rattle.std.proofs.lemmas.Grind.{common_steps}
+-- Where a thread is bound, or bound no more: the operation at which a thread stands and the place of the thread are kept.
+use Rattle.std.proofs.Common.{◌≡◌, ℕ, ◌+◌, ◌<◌, ◌^◌, Bool, true, false, length, Option, Some, None, refl, ◌∙◌}
 use Rattle.std.specs.Prelude.{◌==◌, if◌then◌else◌, IfSome}
 use Rattle.sd_types.specs.declared.numbers.CpuId.{CpuId}
 use Rattle.sd_types.specs.declared.events.BindAnswer.TheVariants.{Changed}
@@ -10,28 +8,17 @@ use Rattle.sd_types.specs.declared.works.Work.{Work}
 use Rattle.sd_machine.specs.declared.states.Place.{Place}
 use Rattle.sd_machine.specs.declared.states.Place.TheVariants.{Running}
 use Rattle.sd_machine.specs.declared.states.State.{State}
-use Rattle.sd_machine.specs.declared.states.ThreadState.{ThreadState}
-use Rattle.sd_machine.specs.States.{cpu_of, thread_of, with_thread}
+use Rattle.sd_machine.specs.States.{cpu_of, thread_of}
 use Rattle.sd_machine.specs.Operations.{script_of}
 use Rattle.sd_full.specs.Changes.{bind, put_where, set_kernel_mark, unbind}
 use Rattle.sd_full.specs.Needs.{CanBind}
 use Rattle.sd_full.specs.SetChanges.{called_back, rebound}
-use Rattle.sd_store.specs.declared.parts.Part.{Part}
-use Rattle.sd_store.specs.Parts.{IsAmong}
-use Rattle.sd_msleep.proofs.Kept.{inside, kept_at, put_op}
+use Rattle.sd_mdisp.proofs.Kept.{Keeps, inside, kept_op, kept_place, where_op}
 
 -- Operations.
 
-Keeps : State → State → Type 0
-Keeps s r = (t : ℕ) → (thread_of r t).body.op ≡ (thread_of s t).body.op
-
-where_op : (w : Work) (s : State) (n u : ℕ) (at : Option Put) → Keeps s (put_where w s n u at)
-unfolding Keeps put_where
-where_op w s n u None t = refl
-where_op w s n u (Some at) t = put_op w s n u t at
-
 called_op : (s : State) (d : CpuId) (place : Place) → Keeps s (called_back s d place)
-unfolding Keeps set_kernel_mark
+unfolding set_kernel_mark
 called_op s d (Running c) t = by (c.0 == d.0) t
   where
     by : (b : Bool) → Keeps s (if b then s else set_kernel_mark s c.0)
@@ -40,39 +27,22 @@ called_op s d (Running c) t = by (c.0 == d.0) t
 called_op s d _ t = refl
 
 rebound_op : (s : State) (u : ℕ) (d b : Option CpuId) → Keeps s (rebound s u d b)
-unfolding Keeps bind unbind
-rebound_op s u (Some d) b t = called_op (bind s u d) d (thread_of s u).place t ∙ kept_at s u t (record (thread_of s u) { body = record (thread_of s u).body { bound = Some d } }) refl
-rebound_op s u None (Some b) t = kept_at s u t (record (thread_of s u) { body = record (thread_of s u).body { bound = None } }) refl
+unfolding bind unbind
+rebound_op s u (Some d) b t = called_op (bind s u d) d (thread_of s u).place t ∙ kept_op s u t (record (thread_of s u) { body = record (thread_of s u).body { bound = Some d } }) refl
+rebound_op s u None (Some b) t = kept_op s u t (record (thread_of s u) { body = record (thread_of s u).body { bound = None } }) refl
 rebound_op s u None None t = refl
 
 pub rebound_inside : (w : Work) (s : State) (n u t : ℕ) (d b : Option CpuId) (at : Option Put) → (thread_of s t).body.op < length (script_of w t)
     → (thread_of (put_where w (rebound s u d b) n u at) t).body.op < length (script_of w t)
-unfolding Keeps
 rebound_inside w s n u t d b at here =
     inside w s (put_where w (rebound s u d b) n u at) t (where_op w (rebound s u d b) n u at t ∙ rebound_op s u d b t) here
 
 -- The place.
 
-place_at : (s : State) (u : ℕ) (x : ThreadState) → x.place ≡ (thread_of s u).place → (thread_of (with_thread s u x) u).place ≡ (thread_of s u).place
-place_at s u x same = grind (arith, common_steps)
-
 pub bound_place : (s : State) (u : ℕ) (d : CpuId) → (thread_of (bind s u d) u).place ≡ (thread_of s u).place
 unfolding bind
-bound_place s u d = place_at s u (record (thread_of s u) { body = record (thread_of s u).body { bound = Some d } }) refl
+bound_place s u d = kept_place s u u (record (thread_of s u) { body = record (thread_of s u).body { bound = Some d } }) refl
 
 pub can_bind : (s : State) (d : Option CpuId) (at : Option Put) → CanBind s d (Changed at) → IfSome d (λ e. (cpu_of s e.0).bound + 1 < 2 ^ 16)
 can_bind s None at h = tt
 can_bind s (Some d) at h = h
-
--- Parts.
-
-pub among_left : (p : Part) (xs ys : List Part) → IsAmong p xs → IsAmong p (xs ++ ys)
-among_left p [] ys h = absurd h
-among_left p (x ∷ xs) ys h = elim h [
-  | inl e ↦ inl e
-  | inr later ↦ inr (among_left p xs ys later)
-]
-
-pub among_right : (p : Part) (xs ys : List Part) → IsAmong p ys → IsAmong p (xs ++ ys)
-among_right p [] ys h = h
-among_right p (x ∷ xs) ys h = inr (among_right p xs ys h)

@@ -8,7 +8,7 @@ use Rattle.sd_machine.specs.States.{thread_of}
 use Rattle.sd_machine.specs.Operations.{script_of}
 use Rattle.sd_full.specs.Changes.{close, set_kernel_mark}
 use Rattle.sd_full.specs.SetChanges.{cleared}
-use Rattle.sd_msleep.proofs.Kept.{inside, same_threads}
+use Rattle.sd_mdisp.proofs.Kept.{inside, same_op}
 
 kernel_threads : (s : State) (d : CpuId) (r : Option ℕ) → (cleared s d r).threads ≡ s.threads
 unfolding set_kernel_mark
@@ -22,4 +22,4 @@ close_threads s d to = refl
 pub closed_inside : (w : Work) (s : State) (d : CpuId) (to : SetId) (r : Option ℕ) (t : ℕ) → (thread_of s t).body.op < length (script_of w t)
     → (thread_of (cleared (close s d to) d r) t).body.op < length (script_of w t)
 closed_inside w s d to r t here =
-    inside w s (cleared (close s d to) d r) t (same_threads s (cleared (close s d to) d r) t (kernel_threads (close s d to) d r ∙ close_threads s d to)) here
+    inside w s (cleared (close s d to) d r) t (same_op s (cleared (close s d to) d r) t (kernel_threads (close s d to) d r ∙ close_threads s d to)) here

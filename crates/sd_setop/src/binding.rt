@@ -6,7 +6,6 @@ ghost use Rattle.std.specs.Prelude.{◌≡◌, ◌+◌, ◌<◌, ◌^◌, [], �
 ghost use Rattle.sd_full.specs.Needs.{CanBind, CanFinish};
 ghost use Rattle.sd_full.specs.Changes.{bind};
 ghost use Rattle.sd_full.specs.SetChanges.{bind_put, bind_to, bound_put, called_back, is_closing, is_misbound, pbound, rebound, unbound_put};
-ghost use Rattle.sd_full.specs.Threads.{has_ended};
 ghost use Rattle.sd_machine.specs.declared.states.Place.{Place};
 ghost use Rattle.sd_machine.specs.States.{cpu_of, thread_of};
 ghost use Rattle.sd_setop.specs.Touched.{bind_parts, rebound_parts, runs_parts};
@@ -14,15 +13,9 @@ ghost use Rattle.sd_store.specs.Keyless.{spot_of};
 ghost use Rattle.sd_store.specs.Parts.{bound_parts, cpu_part, thread_part};
 ghost use Rattle.sd_store.specs.Words.{Does, DoesBy, Lacks, LacksBy, LacksIf, Tells};
 
-use sd_mdisp::{bound_of, eff_of, is_privileged, put_where, set_of, uid_of};
+use sd_mdisp::{bound_of, eff_of, has_ended, is_privileged, put_where, set_of, uid_of};
 use sd_store::{Look, Sets, Spot, finish_op};
 use sd_types::{BindAnswer, CpuId, Put, REAL_TIME_PRIORITY, ThreadId, Work};
-
-fn has_ended(spot: Spot) -> bool
-    ensures { (place : Place) → spot ≡ spot_of place → result ≡ has_ended place }
-{
-    matches!(spot, Spot::Ended)
-}
 
 /// The processor is not of the set of thread `u`, or it is a second binding, or the end of none.
 fn is_misbound<L: Look>(
@@ -155,7 +148,7 @@ fn rebound<S: Sets>(x: &mut S, u: ThreadId, d: Option<CpuId>) -> Result<(), S::L
 
 /// By entry `number` thread `t` has asked to bind thread `u` to a processor, or to none. Where it may, the thread goes
 /// where the event says.
-#[tactic(auto, using(crate::proofs::Bound::rebound_inside, crate::proofs::Bound::can_bind, crate::proofs::Bound::among_left, crate::proofs::Bound::among_right), unfolding(sd_full::specs::SetChanges::pbound))]
+#[tactic(auto, using(crate::proofs::Bound::rebound_inside, crate::proofs::Bound::can_bind, sd_store::proofs::Among::among_left, sd_store::proofs::Among::among_right), unfolding(sd_full::specs::SetChanges::pbound))]
 pub fn pbound<S: Sets>(
     work: &Work,
     x: &mut S,

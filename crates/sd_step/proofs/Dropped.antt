@@ -29,7 +29,8 @@ use Rattle.sd_full.specs.Needs.{CanAct, CanBeBound, CanBeChanged, CanBind, CanUn
 use Rattle.sd_full.specs.Sleeping.{nap_ticks}
 use Rattle.sd_full.specs.Threads.{runner}
 use Rattle.sd_mdisp.specs.Touched.{reordered_parts}
-use Rattle.sd_mdisp.proofs.Kept.{kept_set, same_ready}
+use Rattle.sd_mdisp.proofs.Kept.{kept_set}
+use Rattle.sd_mdisp.proofs.RunningLemmas.{same_ready}
 use Rattle.sd_step.specs.Tasks.{task_dropped}
 use Rattle.sd_step.specs.Touched.{touched}
 use Rattle.sd_store.specs.declared.parts.Part.{Part}
@@ -57,7 +58,7 @@ module _ (w : Work) (s : State) (c : CpuId) (d : Duty) where
 
   set_left : (P : ℕ → Type 0) (e : ℕ) → P (cpu_of s e).set.0 → P (cpu_of (set_duty s c.0 d) e).set.0
   unfolding set_duty
-  set_left P e p = subst P (sym (kept_set s c.0 e (record (cpu_of s c.0) { duty = d }) refl)) p
+  set_left P e p = subst (λ (q : SetId). P q.0) (sym (kept_set s c.0 e (record (cpu_of s c.0) { duty = d }) refl)) p
 
   cpus_left : (P : ℕ → Type 0) → P (length s.cpus) → P (length (set_duty s c.0 d).cpus)
   unfolding set_duty
@@ -177,10 +178,7 @@ module _ (w : Work) (s : State) (c : CpuId) (d : Duty) where
 
   ready_left : (e : CpuId) → ready_parts (set_duty s c.0 d) e ≡ ready_parts s e
   unfolding set_duty
-  ready_left e = same_ready s (with_cpu s c.0 (record (cpu_of s c.0) { duty = d })) e (same_number _ _ (kept_set s c.0 e.0 (record (cpu_of s c.0) { duty = d }) refl))
-    where
-      same_number : (p q : SetId) → p.0 ≡ q.0 → p ≡ q
-      same_number p q e = grind arith
+  ready_left e = same_ready s (with_cpu s c.0 (record (cpu_of s c.0) { duty = d })) e (kept_set s c.0 e.0 (record (cpu_of s c.0) { duty = d }) refl)
 
   reordered_left : (t : ThreadId) (at : Option Put) (p : Place) → reordered_parts w (set_duty s c.0 d) t at p ≡ reordered_parts w s t at p
   reordered_left t at (place.Running e) = ap (λ (ps : List Part). thread_part t ∷ ps) (ready_left e)

@@ -90,7 +90,7 @@ pub fn plan_reads<L: Look>(
 }
 
 /// What processor `c` reads before its event, None where it reads nothing.
-#[tactic(auto, using(crate::proofs::Among::among_left, crate::proofs::Among::among_right), unfolding(sd_full::specs::Events::reads))]
+#[tactic(auto, using(sd_store::proofs::Among::among_left, sd_store::proofs::Among::among_right), unfolding(sd_full::specs::Events::reads))]
 pub fn reads<L: Look>(work: &Work, x: &L, c: CpuId) -> Result<Option<Reading>, L::Lack>
     ensures value { IfOk result (λ r. (n : ℕ) (s : State) → L.shows x.now n s → ((k : ChanIdOf) → CanCount s k) → option_map parts r ≡ reads work.now s c.0) }
     ensures lack { LacksIf L.part (L.shows x.now) (L.has x.now) result (λ s. (k : ChanIdOf) → CanCount s k) (λ s. reads_parts work.now s c) }
@@ -117,7 +117,7 @@ fn place_event<L: Look>(
 }
 
 /// What processor `c` comes to in a search by the numbers that it read.
-#[tactic(auto, using(crate::proofs::NumberLemmas::search_numbers, crate::proofs::Among::among_left, crate::proofs::Among::among_right))]
+#[tactic(auto, using(crate::proofs::NumberLemmas::search_numbers, sd_store::proofs::Among::among_left, sd_store::proofs::Among::among_right))]
 fn searched<L: Look>(x: &L, c: CpuId, hints: &Option<Hints>) -> Result<Event, L::Lack>
     ensures value { TellsIf (L.shows x.now) result (λ s. hints_fit (read_of (neighbours s c.0)) hints.now ≡ true) (λ s. search_event s (victim_for s c.0 hints.now)) }
     ensures lack { LacksIf L.part (L.shows x.now) (L.has x.now) result (λ s. hints_fit (read_of (neighbours s c.0)) hints.now ≡ true) (λ s. ready_parts s c ++ victim_parts (victim_for s c.0 hints.now)) }
@@ -146,7 +146,7 @@ fn plan_event<L: Look>(
 
 /// The one event that the order of its events gives to processor `c`, whether or not it may tick now, where it has read
 /// these numbers: exactly those that it reads in this state.
-#[tactic(auto, using(crate::proofs::Among::among_left, crate::proofs::Among::among_right), unfolding(sd_full::specs::Events::wish, sd_full::specs::Events::reads))]
+#[tactic(auto, using(sd_store::proofs::Among::among_left, sd_store::proofs::Among::among_right), unfolding(sd_full::specs::Events::wish, sd_full::specs::Events::reads))]
 pub fn wish<L: Look>(work: &Work, x: &L, c: CpuId, hints: &Option<Hints>) -> Result<Event, L::Lack>
     ensures value { TellsIf (L.shows x.now) result (λ s. ((k : ChanIdOf) → CanCount s k) × (hints_fit (reads work.now s c.0) hints.now ≡ true)) (λ s. wish work.now s c.0 hints.now) }
     ensures lack { LacksIf L.part (L.shows x.now) (L.has x.now) result (λ s. ((k : ChanIdOf) → CanCount s k) × (hints_fit (reads work.now s c.0) hints.now ≡ true)) (λ s. needed work.now s c hints.now) }

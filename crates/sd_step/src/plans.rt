@@ -2,7 +2,7 @@
 //!
 //! Source: Solaris Internals (swtch, the clock's tick, preemption); this order is this project's own.
 
-ghost use Rattle.std.specs.Prelude.{◌≡◌, [], ◌∷◌, Some, IfOk, IsTrue};
+ghost use Rattle.std.specs.Prelude.{◌≡◌, [], ◌∷◌, Some, IsTrue};
 ghost use Rattle.sd_types.specs.declared.numbers.ChanId.{ChanId as ChanIdOf};
 ghost use Rattle.sd_types.specs.declared.numbers.ThreadId.{ThreadId as ThreadIdOf};
 ghost use Rattle.sd_types.specs.declared.scripts.Op.TheVariants.{Prio};
@@ -21,11 +21,11 @@ ghost use Rattle.sd_store.specs.Words.{Lacks, Tells, TellsIf};
 use sd_cv::{sema_p_event, sema_v_plan};
 use sd_full::Plan;
 use sd_mchain::walk_plan;
-use sd_mdisp::{dispatch_plan, leave_plan, op_of};
+use sd_mdisp::{dispatch_plan, leave_plan};
 use sd_mlock::{
     enter_event, grant_reader_plan, grant_writer_plan, read_event, unblock_plan, write_event,
 };
-use sd_mprio::{age_plan, answer_to, prio_plan};
+use sd_mprio::{age_plan, answer_to, prio_plan, wanted_op};
 use sd_msleep::{napend_plan, rouse_plan, wake_plan};
 use sd_setop::{assign_answer, bind_to, closing_plan};
 use sd_store::{Look, Task};
@@ -104,15 +104,6 @@ fn ageing_plan<L: Look>(work: &Work, x: &L, c: CpuId) -> Result<Option<Plan>, L:
 {
     let task = x.duty(c)?;
     task_ageing(work, x, c, task)
-}
-
-/// The operation at which thread `t` stands, None after the last. A request names a quantum that is in its range.
-fn wanted_op<L: Look>(work: &Work, x: &L, t: ThreadId) -> Result<Option<Op>, L::Lack>
-    ensures value { Tells (L.shows x.now) result (λ s. op_of work.now t.0 (thread_of s t.0).body) }
-    ensures lack { Lacks L.part (L.shows x.now) (L.has x.now) result (λ s. thread_part t ∷ []) }
-    ensures quantum { IfOk result (λ op. (u : ThreadIdOf) (r : Request) → op ≡ Some (Prio u r) → IsTrue (quantum_fits r.quantum)) }
-{
-    op_of(work, x, t)
 }
 
 /// What the running thread `t` does at an operation that depends on other threads.

@@ -2,7 +2,7 @@ use Rattle.std.proofs.Common.{◌+◌, subst}
 use Rattle.sd_machine.specs.States.{thread_of}
 use Rattle.sd_full.specs.Changes.{set_class}
 use Rattle.sd_rules.specs.ClassRules.{class_requeue}
-use Rattle.sd_mdisp.proofs.Kept.{did, left_preempted, runs_classed}
+use Rattle.sd_mdisp.proofs.RunningLemmas.{did, left_preempted, runs_classed}
 use Rattle.sd_mdisp.proofs.running.preempted.Goals as goal
 
 pub returns-clause-value : goal.returns-clause-value

@@ -1,4 +1,4 @@
--- Parts of lists that are joined.
+-- Parts of lists that are joined: what is one of some parts is one of more.
 use Rattle.std.proofs.Common.{List, [], ◌∷◌, ◌++◌, inl, inr}
 use Rattle.sd_store.specs.declared.parts.Part.{Part}
 use Rattle.sd_store.specs.Parts.{IsAmong}
