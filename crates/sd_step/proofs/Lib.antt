@@ -1,5 +1,8 @@
 pub mod Among
+pub mod Covers
 pub mod Dropped
 pub mod Duties
+pub mod FewHomes
 pub mod NumberLemmas
+pub mod Standing
 pub mod WorkLemmas
