@@ -18,7 +18,7 @@ use Rattle.sd_store.specs.Keyless.{task_of}
 use Rattle.sd_store.specs.Parts.{IsAmong, actor_part, cpu_part}
 use Rattle.sd_store.specs.Words.{Lacks}
 use Rattle.sd_store.specs.Walks.{next_to_rouse}
-use Rattle.sd_step.specs.Needed.{cpu_parts, plan_parts}
+use Rattle.sd_step.specs.Needed.{cpu_parts, later_parts, plan_parts}
 use Rattle.sd_step.specs.Tasks.{task_ageing, task_parts, task_plan}
 
 by_task : (w : Work) (s : State) (c : CpuId) (d : Duty) → (cpu_of s c.0).duty ≡ d → duty_plan_of w s d ≡ task_plan w s c (task_of d)
@@ -62,16 +62,30 @@ first_none : (a b : Option Plan) → first_of a b ≡ None → a ≡ None
 first_none None b e = refl
 first_none (Some x) b e = cc
 
+-- where the duty gives none, a nap that is over needs the processor
+own_later : (w : Work) (s : State) (c : CpuId) (duty later : Option Plan) (p : Part) → duty ≡ None → p ≡ cpu_part c → IsAmong p (later_parts w s c duty later)
+own_later w s c None None p none e = inl e
+own_later w s c None (Some x) p none e = inl e
+own_later w s c (Some d) later p none e = absurd cc
+
+-- and where neither gives any, all of the processor is needed
+cpu_later : (w : Work) (s : State) (c : CpuId) (duty later : Option Plan) (p : Part) → first_of duty later ≡ None → IsAmong p (cpu_parts w s c) → IsAmong p (later_parts w s c duty later)
+cpu_later w s c None None p none among = among
+cpu_later w s c None (Some x) p none among = absurd cc
+cpu_later w s c (Some d) later p none among = absurd cc
+
 pub after_first : (w : Work) (s : State) (c : CpuId) → first_of (duty_plan w s c.0) (first_of (nap_plan w s c.0) (ageing_plan w s c.0)) ≡ None
     → (p : Part) → IsAmong p (actor_part c ∷ cpu_parts w s c) → IsAmong p (plan_parts w s c)
-after_first w s c none p among = elim among [
-  | inl e ↦ inl e
-  | inr later ↦ inr (after_task w s c (task_of (cpu_of s c.0).duty) _ p (sym (duty_by_task w s c) ∙ first_none _ _ none) later)
-]
+after_first w s c none p (inl e) = inl e
+after_first w s c none p (inr later) =
+    inr (after_task w s c (task_of (cpu_of s c.0).duty) _ p (sym (duty_by_task w s c) ∙ first_none _ _ none)
+    (cpu_later w s c (duty_plan w s c.0) (first_of (nap_plan w s c.0) (ageing_plan w s c.0)) p none later))
 
 pub after_duty : (w : Work) (s : State) (c : CpuId) → duty_plan w s c.0 ≡ None → (p : Part) → IsAmong p (actor_part c ∷ (cpu_part c ∷ [])) → IsAmong p (plan_parts w s c)
 after_duty w s c none p (inl e) = inl e
-after_duty w s c none p (inr (inl e)) = inr (after_task w s c (task_of (cpu_of s c.0).duty) _ p (sym (duty_by_task w s c) ∙ none) (inl e))
+after_duty w s c none p (inr (inl e)) =
+    inr (after_task w s c (task_of (cpu_of s c.0).duty) _ p (sym (duty_by_task w s c) ∙ none)
+    (own_later w s c (duty_plan w s c.0) (first_of (nap_plan w s c.0) (ageing_plan w s c.0)) p none e))
 after_duty w s c none p (inr (inr never)) = absurd never
 
 -- what is lacking behind a try that gave nothing is needed

@@ -1,3 +1,6 @@
+pub mod Covers
 pub mod Dropped
 pub mod Duties
+pub mod FewHomes
 pub mod NumberLemmas
+pub mod Standing

@@ -1,3 +1,4 @@
+pub mod Homes
 pub mod Needed
 pub mod Tasks
 pub mod Touched

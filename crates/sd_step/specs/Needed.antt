@@ -14,7 +14,7 @@ use Rattle.sd_full.specs.declared.plans.Plan.{Plan}
 use Rattle.sd_full.specs.declared.plans.Plan.TheVariants.{Make, Place, Search}
 use Rattle.sd_full.specs.Choosing.{victim_for}
 use Rattle.sd_full.specs.Events.{placed_thread}
-use Rattle.sd_full.specs.Plans.{plan}
+use Rattle.sd_full.specs.Plans.{ageing_plan, duty_plan, first_of, nap_plan, plan}
 use Rattle.sd_full.specs.Threads.{lock_of, runner, set_of, thread_id}
 use Rattle.sd_mdisp.specs.Touched.{victim_parts}
 use Rattle.sd_step.specs.Tasks.{task_parts}
@@ -43,9 +43,17 @@ run_parts w s c None = real_time_part (cpu_of s c.0).set ∷ []
 abbrev pub cpu_parts : Work → State → CpuId → List Part
 cpu_parts w s c = cpu_part c ∷ run_parts w s c (runner s c.0)
 
+-- after a duty that gave a plan or none: where a nap that is over or the ageing gives one, no operation is looked at
+abbrev pub later_parts : Work → State → CpuId → Option Plan → Option Plan → List Part
+later_parts w s c (Some p) later = []
+later_parts w s c None (Some p) = cpu_part c ∷ []
+later_parts w s c None None = cpu_parts w s c
+
 -- of a plan: of the duty, and where that gives none, of what comes after
 abbrev pub plan_parts : Work → State → CpuId → List Part
-plan_parts w s c = actor_part c ∷ task_parts s (task_of (cpu_of s c.0).duty) (cpu_parts w s c)
+plan_parts w s c =
+    actor_part c ∷ task_parts s (task_of (cpu_of s c.0).duty)
+    (later_parts w s c (duty_plan w s c.0) (first_of (nap_plan w s c.0) (ageing_plan w s c.0)))
 
 -- of the choice of a processor for a thread, and of a victim
 abbrev pub read_parts : Work → State → CpuId → Plan → List Part
@@ -58,9 +66,16 @@ choice_parts w s c hints (Make event) = []
 choice_parts w s c hints (Place placement p) = read_parts w s c (Place placement p)
 choice_parts w s c hints Search = ready_parts s c ++ victim_parts (victim_for s c.0 hints)
 
--- of what is read, and of the event
+-- of what is read and of the event behind a plan
+abbrev pub turn_parts : Work → State → CpuId → Option Hints → Plan → List Part
+turn_parts w s c hints p = read_parts w s c p ++ choice_parts w s c hints p
+
+-- of what is read, of the event that follows from it, and of both
 abbrev pub reads_parts : Work → State → CpuId → List Part
 reads_parts w s c = plan_parts w s c ++ read_parts w s c (plan w s c.0)
 
 abbrev pub needed : Work → State → CpuId → Option Hints → List Part
 needed w s c hints = plan_parts w s c ++ choice_parts w s c hints (plan w s c.0)
+
+abbrev pub next_parts : Work → State → CpuId → Option Hints → List Part
+next_parts w s c hints = plan_parts w s c ++ turn_parts w s c hints (plan w s c.0)

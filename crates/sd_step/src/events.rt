@@ -10,7 +10,7 @@ ghost use Rattle.sd_full.specs.Needs.{CanCount};
 ghost use Rattle.sd_machine.specs.declared.states.State.{State};
 ghost use Rattle.sd_mdisp.specs.Reading.{parts};
 ghost use Rattle.sd_mdisp.specs.Touched.{victim_parts};
-ghost use Rattle.sd_step.specs.Needed.{choice_parts, needed, read_parts, reads_parts};
+ghost use Rattle.sd_step.specs.Needed.{choice_parts, needed, next_parts, read_parts, reads_parts, turn_parts};
 ghost use Rattle.sd_store.specs.Parts.{ready_parts};
 ghost use Rattle.sd_store.specs.Words.{Lacks, LacksIf, Tells, TellsIf};
 
@@ -156,13 +156,13 @@ pub fn wish<L: Look>(work: &Work, x: &L, c: CpuId, hints: &Option<Hints>) -> Res
 }
 
 /// An event that processor `c` may make now: it may tick, where the event ticks.
-fn allowed<L: Clock>(work: &Work, x: &L, c: CpuId, event: Event) -> Result<Option<Event>, L::Lack>
-    ensures { Tells (L.shows x.now) result (λ s. allowed work.now s c.0 event) }
+fn allowed<L: Clock>(work: &Work, x: &L, c: CpuId, event: Event) -> Option<Event>
+    ensures { (n : ℕ) (s : State) → L.shows x.now n s → result ≡ allowed work.now s c.0 event }
 {
-    if !event.ticks() || x.may_tick(work, c)? {
-        Ok(Some(event))
+    if !event.ticks() || x.may_tick(work, c) {
+        Some(event)
     } else {
-        Ok(None)
+        None
     }
 }
 
@@ -174,13 +174,15 @@ pub fn plan_next<L: Clock>(
     hints: &Option<Hints>,
     plan: Plan,
 ) -> Result<Option<Event>, L::Lack>
-    ensures { TellsIf (L.shows x.now) result (λ s. hints_fit (plan_reads work.now s c.0 plan) hints.now ≡ true) (λ s. allowed work.now s c.0 (plan_event work.now s c.0 hints.now plan)) }
+    ensures value { TellsIf (L.shows x.now) result (λ s. hints_fit (plan_reads work.now s c.0 plan) hints.now ≡ true) (λ s. allowed work.now s c.0 (plan_event work.now s c.0 hints.now plan)) }
+    ensures lack { LacksIf L.part (L.shows x.now) (L.has x.now) result (λ s. hints_fit (plan_reads work.now s c.0 plan) hints.now ≡ true) (λ s. choice_parts work.now s c hints.now plan) }
 {
     let event = plan_event(work, x, c, hints, plan)?;
-    allowed(work, x, c, event)
+    Ok(allowed(work, x, c, event))
 }
 
 /// The same where the numbers that it read are those of the plan.
+#[tactic(auto, using(crate::proofs::Among::among_left, crate::proofs::Among::among_right))]
 fn planned<L: Clock>(
     work: &Work,
     x: &L,
@@ -188,7 +190,8 @@ fn planned<L: Clock>(
     hints: &Option<Hints>,
     plan: Plan,
 ) -> Result<Option<Event>, L::Lack>
-    ensures { Tells (L.shows x.now) result (λ s. if hints_fit (plan_reads work.now s c.0 plan) hints.now then allowed work.now s c.0 (plan_event work.now s c.0 hints.now plan) else None) }
+    ensures value { Tells (L.shows x.now) result (λ s. if hints_fit (plan_reads work.now s c.0 plan) hints.now then allowed work.now s c.0 (plan_event work.now s c.0 hints.now plan) else None) }
+    ensures lack { Lacks L.part (L.shows x.now) (L.has x.now) result (λ s. turn_parts work.now s c hints.now plan) }
 {
     let reading = plan_reads(work, x, c, plan)?;
     if hints_fit(&reading, hints) {
@@ -200,14 +203,15 @@ fn planned<L: Clock>(
 
 /// The one event that processor `c` may make, where it has read these numbers; None where it may make none, where there is
 /// no such processor, and where the numbers are not what it reads in this state.
-#[tactic(auto, unfolding(sd_full::specs::Events::next, sd_full::specs::Events::reads, sd_full::specs::Events::wish))]
+#[tactic(auto, using(crate::proofs::Among::among_left, crate::proofs::Among::among_right), unfolding(sd_full::specs::Events::next, sd_full::specs::Events::reads, sd_full::specs::Events::wish))]
 pub fn next<L: Clock>(
     work: &Work,
     x: &L,
     c: CpuId,
     hints: &Option<Hints>,
 ) -> Result<Option<Event>, L::Lack>
-    ensures { TellsIf (L.shows x.now) result (λ s. (k : ChanIdOf) → CanCount s k) (λ s. next work.now s c hints.now) }
+    ensures value { TellsIf (L.shows x.now) result (λ s. (k : ChanIdOf) → CanCount s k) (λ s. next work.now s c hints.now) }
+    ensures lack { LacksIf L.part (L.shows x.now) (L.has x.now) result (λ s. (k : ChanIdOf) → CanCount s k) (λ s. next_parts work.now s c hints.now) }
 {
     if c.0 < work.cpus {
         let plan = plan(work, x, c)?;

@@ -3,12 +3,13 @@
 use crate::Look;
 use sd_types::{CpuId, Work};
 
-/// What knows the counts of ticks of all processors.
+/// What knows the counts of ticks of all processors: it lacks nothing for this.
 pub trait Clock: Look {
+    ghost use Rattle.std.specs.Prelude.{◌≡◌, ℕ};
     ghost use Rattle.sd_full.specs.Events.{may_tick};
-    ghost use Rattle.sd_store.specs.Words.{Tells};
+    ghost use Rattle.sd_machine.specs.declared.states.State.{State};
 
     /// The count of processor `c` is below the limit, and no processor's is below it.
-    fn may_tick(&self, work: &Work, c: CpuId) -> Result<bool, Self::Lack>
-        ensures value { Tells (Self.shows self.now) result (λ s. may_tick work.now s c.0) };
+    fn may_tick(&self, work: &Work, c: CpuId) -> bool
+        ensures { (n : ℕ) (s : State) → Self.shows self.now n s → result ≡ may_tick work.now s c.0 };
 }

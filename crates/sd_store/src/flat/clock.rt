@@ -1,12 +1,11 @@
 //! Whether a processor may tick, in a state that is one value.
 
 use crate::Clock;
-use crate::flat::Never;
 use sd_machine::State;
 use sd_types::{CpuId, Work};
 
 impl Clock for State {
-    fn may_tick(&self, work: &Work, c: CpuId) -> Result<bool, Never> {
-        Ok(sd_flat::may_tick(work, self, c))
+    fn may_tick(&self, work: &Work, c: CpuId) -> bool {
+        sd_flat::may_tick(work, self, c)
     }
 }

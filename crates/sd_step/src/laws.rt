@@ -1,0 +1,14 @@
+//! How much of a state a turn of a processor looks at: a law, with nothing to run.
+
+ghost use Rattle.std.specs.Prelude.{Option};
+ghost use Rattle.sd_types.specs.declared.events.Hints.{Hints as HintsOf};
+ghost use Rattle.sd_types.specs.declared.numbers.CpuId.{CpuId as CpuIdOf};
+ghost use Rattle.sd_types.specs.declared.works.Work.{Work as WorkOf};
+ghost use Rattle.sd_machine.specs.declared.states.State.{State as StateOf};
+ghost use Rattle.sd_step.specs.Homes.{NeedsFour};
+
+/// Beside its own count and duty a processor looks at no more than four homes to find what it reads and its event, in any
+/// state and whatever it has read.
+pub fn a_turn_needs_four_homes()
+    ensures { (w : WorkOf) (s : StateOf) (c : CpuIdOf) (hints : Option HintsOf) → NeedsFour w s c hints }
+{}
