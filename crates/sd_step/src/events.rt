@@ -182,7 +182,7 @@ pub fn plan_next<L: Clock>(
 }
 
 /// The same where the numbers that it read are those of the plan.
-#[tactic(auto, using(crate::proofs::Among::among_left, crate::proofs::Among::among_right))]
+#[tactic(auto, using(sd_store::proofs::Among::among_left, sd_store::proofs::Among::among_right))]
 fn planned<L: Clock>(
     work: &Work,
     x: &L,
@@ -203,7 +203,7 @@ fn planned<L: Clock>(
 
 /// The one event that processor `c` may make, where it has read these numbers; None where it may make none, where there is
 /// no such processor, and where the numbers are not what it reads in this state.
-#[tactic(auto, using(crate::proofs::Among::among_left, crate::proofs::Among::among_right), unfolding(sd_full::specs::Events::next, sd_full::specs::Events::reads, sd_full::specs::Events::wish))]
+#[tactic(auto, using(sd_store::proofs::Among::among_left, sd_store::proofs::Among::among_right), unfolding(sd_full::specs::Events::next, sd_full::specs::Events::reads, sd_full::specs::Events::wish))]
 pub fn next<L: Clock>(
     work: &Work,
     x: &L,
