@@ -1,9 +1,9 @@
 -- The duty of a processor is no part of what an event needs or touches: so both are the same once the ageing that is over has
 -- been dropped.
-use Rattle.std.proofs.Common.{◌≡◌, ℕ, ◌+◌, ◌<◌, ◌≤◌, ◌^◌, Bool, true, false, length, List, [], ◌∷◌, ◌++◌, Option, Some, None, refl, sym, ap, ◌∙◌, subst, arith}
+use Rattle.std.proofs.Common.{◌≡◌, ℕ, ◌+◌, ◌<◌, ◌≤◌, ◌^◌, Bool, true, false, length, List, ◌∷◌, Option, Some, None, refl, sym, ap, ◌∙◌, subst, arith}
 use Rattle.std.proofs.lemmas.Grind.{common_steps}
 use Rattle.std.proofs.lemmas.List.{set-get_or}
-use Rattle.std.specs.Prelude.{IfSome, slice_set, if◌then◌else◌}
+use Rattle.std.specs.Prelude.{IfSome, if◌then◌else◌}
 use Rattle.sd_types.specs.declared.numbers.CpuId.{CpuId}
 use Rattle.sd_types.specs.declared.numbers.SetId.{SetId}
 use Rattle.sd_types.specs.declared.numbers.ThreadId.{ThreadId}
@@ -35,7 +35,7 @@ use Rattle.sd_step.specs.Tasks.{task_dropped}
 use Rattle.sd_step.specs.Touched.{touched}
 use Rattle.sd_store.specs.declared.parts.Part.{Part}
 use Rattle.sd_store.specs.Keyless.{task_of}
-use Rattle.sd_store.specs.Parts.{IsAmong, actor_part, chain_part, ready_parts, thread_part}
+use Rattle.sd_store.specs.Parts.{actor_part, chain_part, ready_parts, thread_part}
 
 -- a field of a processor that is kept with its duty changed
 kept_count : (s : State) (c d : ℕ) (duty : Duty) → (cpu_of (with_cpu s c (record (cpu_of s c) { duty = duty })) d).count ≡ (cpu_of s d).count

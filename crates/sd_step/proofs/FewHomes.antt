@@ -1,10 +1,9 @@
 -- A turn needs at most four homes: one of a duty that found nobody, and three of what the processor does then; or three of a
 -- duty.
-use Rattle.std.proofs.Common.{◌≡◌, ℕ, ◌+◌, ◌%◌, ◌≤◌, Bool, true, false, List, [], ◌∷◌, ◌++◌, length, Option, Some, None, refl, ap, ◌∙◌, inl, inr, arith}
+use Rattle.std.proofs.Common.{◌≡◌, ℕ, ◌%◌, Bool, true, false, [], ◌∷◌, Option, Some, None, refl, ap, inl, inr, arith}
 use Rattle.std.specs.Prelude.{Result, Ok, Err, if◌then◌else◌}
 use Rattle.sd_types.specs.declared.numbers.ChanId.{ChanId}
 use Rattle.sd_types.specs.declared.numbers.CpuId.{CpuId}
-use Rattle.sd_types.specs.declared.numbers.HomeId.{HomeId}
 use Rattle.sd_types.specs.declared.numbers.HomeId.TheVariants as home
 use Rattle.sd_types.specs.declared.numbers.LockId.{LockId}
 use Rattle.sd_types.specs.declared.numbers.SetId.{SetId}
@@ -28,28 +27,23 @@ use Rattle.sd_machine.specs.Operations.{op_of}
 use Rattle.sd_full.specs.declared.plans.Placement.TheVariants as placement
 use Rattle.sd_full.specs.declared.plans.Plan.{Plan}
 use Rattle.sd_full.specs.declared.plans.Plan.TheVariants.{Make, Place, Search}
-use Rattle.sd_full.specs.Bodies.{eff_as_with}
 use Rattle.sd_full.specs.Choosing.{victim_for}
 use Rattle.sd_full.specs.Conditions.{sema_p_event, sema_v_plan}
 use Rattle.sd_full.specs.Dispatching.{dispatch_plan, leave_event, must_leave}
 use Rattle.sd_full.specs.Locking.{enter_event, grant_reader_plan, grant_writer_plan, is_eligible, read_event, unblock_plan, write_event, writer_priority}
 use Rattle.sd_full.specs.Plans.{ageing_plan, ageing_plan_of, cpu_plan, cpu_plan_of, duty_plan, duty_plan_of, first_of, free_plan_of, nap_plan, op_plan, or_plan, plan, run_plan_of}
-use Rattle.sd_full.specs.Prioritising.{age_plan, answer_to, new_class, prio_plan}
-use Rattle.sd_full.specs.Requeueing.{requeue}
-use Rattle.sd_full.specs.SetChanges.{assign_answer, bind_to, closing_plan}
+use Rattle.sd_full.specs.Prioritising.{age_plan, answer_to, prio_plan}
+use Rattle.sd_full.specs.SetChanges.{closing_plan}
 use Rattle.sd_full.specs.Sleeping.{napend_plan, rouse_plan, wake_plan, woken_priority}
 use Rattle.sd_full.specs.Threads.{best_queued, best_ready, best_sleeper, best_sleeper_below, best_waiter, eff_of, first_due, lock_of, next_to_age, priority_of, runner, set_of, thread_id}
-use Rattle.sd_full.specs.Walking.{inherited_priority, walk_plan}
-use Rattle.sd_types.specs.Priorities.{eff_as}
-use Rattle.sd_mdisp.specs.Touched.{victim_parts}
+use Rattle.sd_full.specs.Walking.{walk_plan}
 use Rattle.sd_step.specs.Homes.{NeedsFour, home_of}
 use Rattle.sd_step.specs.Needed.{choice_parts, cpu_parts, later_parts, needed, next_parts, op_parts, plan_parts, read_parts, reads_parts, run_parts, turn_parts}
 use Rattle.sd_step.specs.Tasks.{task_parts}
-use Rattle.sd_step.proofs.Covers.{Cover, Turn, cover_each, cover_join, cover_more, cover_read, made, placing, requeueing}
+use Rattle.sd_step.proofs.Covers.{Turn, cover_each, cover_join, cover_more, cover_read, made, placing, requeueing}
 use Rattle.sd_step.proofs.Standing.{due_stands, queued_stands, sleeper_below_stands, sleeper_stands, waiter_stands}
-use Rattle.sd_store.specs.declared.parts.Part.{Part}
 use Rattle.sd_store.specs.Keyless.{task_of}
-use Rattle.sd_store.specs.Parts.{actor_part, chain_part, cpu_part, owner_parts, ready_parts, real_time_part, sleepers_part, thread_part}
+use Rattle.sd_store.specs.Parts.{actor_part, chain_part, cpu_part, owner_parts, ready_parts, sleepers_part, thread_part}
 
 -- The operation of the running thread.
 
