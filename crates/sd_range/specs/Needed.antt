@@ -1,5 +1,5 @@
 -- What an event needs of the state in which it happens is there.
-use Rattle.std.specs.Prelude.{◌≡◌, ℕ, Option, Some}
+use Rattle.std.specs.Prelude.{◌≡◌, ℕ, ◌<◌, Option, Some}
 use Rattle.sd_types.specs.declared.numbers.CpuId.{CpuId}
 use Rattle.sd_types.specs.declared.events.Event.{Event}
 use Rattle.sd_types.specs.declared.events.Hints.{Hints}
@@ -10,7 +10,8 @@ use Rattle.sd_full.specs.Needs.{Needs}
 use Rattle.sd_full.specs.Runs.{IsReached}
 use Rattle.sd_sound.specs.Laws.{HasSmallCounts}
 
--- what a processor may make in a state of a run has what it needs there; a count of tokens rises in 32 bits since it began with 16
+-- a processor that may make an event in a state of a run is there, and the event has what it needs; a count of tokens rises in 32 bits since it began with 16
 abbrev pub EventsHaveWhatTheyNeed : Type 0
 EventsHaveWhatTheyNeed =
-    (w : Work) (n : ℕ) (s : State) (c : CpuId) (hints : Option Hints) (e : Event) → HasSmallCounts w → IsReached w n s → next w s c hints ≡ Some e → Needs w s c e
+    (w : Work) (n : ℕ) (s : State) (c : CpuId) (hints : Option Hints) (e : Event) → HasSmallCounts w → IsReached w n s → next w s c hints ≡ Some e
+    → (c.0 < w.cpus) × Needs w s c e

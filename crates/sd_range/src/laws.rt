@@ -37,7 +37,7 @@ pub fn bindings_are_counted()
     ensures { HoldsWhenReached BoundAreCounted }
 {}
 
-/// An event that a processor may make in a state of a run has what it needs there: what it names is there; its thread runs
+/// A processor that may make an event in a state of a run is there, and the event has what it needs: what it names is there; its thread runs
 /// on the processor and stands at an operation where one is over, or nobody runs there who would be in the way; there is
 /// room for one lock, one processor or one thread more, and no count leaves its type; who inherits a priority holds the
 /// lock, and who is given a lock does not hold it.
