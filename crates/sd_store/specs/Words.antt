@@ -40,3 +40,7 @@ LacksIf part shows has r can parts = IfErr r (λ q. ((n : ℕ) (s : State) → s
 -- the same in each state after n entries that meets a condition, of a change by entry n
 abbrev pub LacksBy : {A L : Type 0} → ℕ → (L → Part) → (ℕ → State → Type 0) → (Part → Bool) → Result A L → (State → Type 0) → (State → List Part) → Type 0
 LacksBy n part shows has r can parts = IfErr r (λ q. ((s : State) → shows n s → can s → IsAmong (part q) (parts s)) × (has (part q) ≡ false))
+
+-- where a part is lacking, what was shown before still is
+abbrev pub Keeps : {A L : Type 0} → (ℕ → State → Type 0) → (ℕ → State → Type 0) → Result A L → Type 0
+Keeps shows shows' r = IfErr r (λ q. (n : ℕ) (s : State) → shows n s → shows' n s)

@@ -4,15 +4,15 @@ ghost use Rattle.std.specs.Prelude.{◌≡◌, [], ◌∷◌, ⊤};
 ghost use Rattle.sd_full.specs.Changes.{finish_op, hold, let_go, run_tick, send_back, set_class, set_looped, set_number};
 ghost use Rattle.sd_full.specs.Needs.{CanFinish, CanHold, CanInherit};
 ghost use Rattle.sd_store.specs.Parts.{thread_part};
-ghost use Rattle.sd_store.specs.Words.{Does, Lacks};
+ghost use Rattle.sd_store.specs.Words.{Does, Keeps, Lacks};
 
 use crate::{BodyChange, Chore, Destination, Look};
 use sd_machine::LockState;
 use sd_types::{ChanId, ClassState, CpuId, LockId, Put, ThreadId, Work};
 
 /// A store of which the state changes. A change that is made is made in every state that is shown, and what it asks of a
-/// state is asked of the states alone: no change has a condition on the store. A change that lacks a part has changed
-/// nothing. What the store has stays.
+/// state is asked of the states alone: no change has a condition on the store. A change that lacks a part is not made: what
+/// was shown before still is. What the store has stays.
 pub trait Store: Look {
     ghost use Rattle.std.specs.Prelude.{◌≡◌, ◌<◌, ◌^◌, [], ◌∷◌, ⊤};
     ghost use Rattle.sd_types.specs.declared.events.Duty.TheVariants.{Rouse};
@@ -24,12 +24,13 @@ pub trait Store: Look {
     ghost use Rattle.sd_store.specs.Keyless.{IsDestination, duty_of, place_by};
     ghost use Rattle.sd_store.specs.Parts.{actor_part, chain_part, cpu_part, destination_parts, put_parts, thread_part};
     ghost use Rattle.sd_store.specs.Walks.{walk_begun, walk_gone_on};
-    ghost use Rattle.sd_store.specs.Words.{Does, DoesBy, Lacks};
+    ghost use Rattle.sd_store.specs.Words.{Does, DoesBy, Keeps, Lacks};
 
     /// Processor `c` has a duty without a key.
     fn set_duty(&mut self, c: CpuId, chore: Chore) -> Result<(), Self::Lack>
         ensures value { Does (Self.shows self.old) (Self.shows self.new) result (λ s. ⊤) (λ s. set_duty s c.0 (duty_of chore)) }
         ensures lack { Lacks Self.part (Self.shows self.old) (Self.has self.old) result (λ s. actor_part c ∷ []) }
+        ensures kept { Keeps (Self.shows self.old) (Self.shows self.new) result }
         ensures has { Self.has self.new ≡ Self.has self.old };
 
     /// By entry `number` processor `c` has the duty to wake all that sleep on channel `k` now.
@@ -37,36 +38,42 @@ pub trait Store: Look {
         requires { number < 2 ^ 62 }
         ensures value { DoesBy number (Self.shows self.old) (Self.shows self.new) result (λ s. ⊤) (λ s. set_duty s c.0 (Rouse k (back_key number))) }
         ensures lack { Lacks Self.part (Self.shows self.old) (Self.has self.old) result (λ s. actor_part c ∷ []) }
+        ensures kept { Keeps (Self.shows self.old) (Self.shows self.new) result }
         ensures has { Self.has self.new ≡ Self.has self.old };
 
     /// Where thread `t` waits for a lock, processor `c` has the duty to walk on there, seeking it.
     fn begin_walk(&mut self, c: CpuId, t: ThreadId) -> Result<(), Self::Lack>
         ensures value { Does (Self.shows self.old) (Self.shows self.new) result (λ s. ⊤) (λ s. walk_begun s c t) }
         ensures lack { Lacks Self.part (Self.shows self.old) (Self.has self.old) result (λ s. actor_part c ∷ thread_part t ∷ []) }
+        ensures kept { Keeps (Self.shows self.old) (Self.shows self.new) result }
         ensures has { Self.has self.new ≡ Self.has self.old };
 
     /// The walk of processor `c` goes on from the owner `o`, or ends there.
     fn walk_on(&mut self, c: CpuId, o: ThreadId) -> Result<(), Self::Lack>
         ensures value { Does (Self.shows self.old) (Self.shows self.new) result (λ s. ⊤) (λ s. walk_gone_on s c o) }
         ensures lack { Lacks Self.part (Self.shows self.old) (Self.has self.old) result (λ s. actor_part c ∷ thread_part o ∷ []) }
+        ensures kept { Keeps (Self.shows self.old) (Self.shows self.new) result }
         ensures has { Self.has self.new ≡ Self.has self.old };
 
     /// Processor `c` counts a tick. Each second it has the duty to age its queue.
     fn count_tick(&mut self, work: &Work, c: CpuId) -> Result<(), Self::Lack>
         ensures value { Does (Self.shows self.old) (Self.shows self.new) result (λ s. CanTick work.now s c) (λ s. count_tick work.now s c.0) }
         ensures lack { Lacks Self.part (Self.shows self.old) (Self.has self.old) result (λ s. actor_part c ∷ []) }
+        ensures kept { Keeps (Self.shows self.old) (Self.shows self.new) result }
         ensures has { Self.has self.new ≡ Self.has self.old };
 
     /// Clears both marks of processor `c`.
     fn clear_marks(&mut self, c: CpuId) -> Result<(), Self::Lack>
         ensures value { Does (Self.shows self.old) (Self.shows self.new) result (λ s. ⊤) (λ s. clear_marks s c.0) }
         ensures lack { Lacks Self.part (Self.shows self.old) (Self.has self.old) result (λ s. cpu_part c ∷ []) }
+        ensures kept { Keeps (Self.shows self.old) (Self.shows self.new) result }
         ensures has { Self.has self.new ≡ Self.has self.old };
 
     /// Marks processor `c` for the sake of a thread of priority `m`.
     fn set_mark(&mut self, c: CpuId, m: u8) -> Result<(), Self::Lack>
         ensures value { Does (Self.shows self.old) (Self.shows self.new) result (λ s. ⊤) (λ s. set_mark s c.0 m) }
         ensures lack { Lacks Self.part (Self.shows self.old) (Self.has self.old) result (λ s. cpu_part c ∷ []) }
+        ensures kept { Keeps (Self.shows self.old) (Self.shows self.new) result }
         ensures has { Self.has self.new ≡ Self.has self.old };
 
     /// Changes the body of thread `t`, which stays where it is.
@@ -78,12 +85,14 @@ pub trait Store: Look {
     ) -> Result<(), Self::Lack>
         ensures value { Does (Self.shows self.old) (Self.shows self.new) result (λ s. CanChange work.now t change s) (λ s. with_body s t.0 (changed work.now t.0 change (thread_of s t.0).body)) }
         ensures lack { Lacks Self.part (Self.shows self.old) (Self.has self.old) result (λ s. thread_part t ∷ []) }
+        ensures kept { Keeps (Self.shows self.old) (Self.shows self.new) result }
         ensures has { Self.has self.new ≡ Self.has self.old };
 
     /// Thread `t` runs on processor `c`, on which none runs.
     fn run_on(&mut self, t: ThreadId, c: CpuId) -> Result<(), Self::Lack>
         ensures value { Does (Self.shows self.old) (Self.shows self.new) result (λ s. IsFree s c) (λ s. run_on s t.0 c) }
         ensures lack { Lacks Self.part (Self.shows self.old) (Self.has self.old) result (λ s. thread_part t ∷ cpu_part c ∷ []) }
+        ensures kept { Keeps (Self.shows self.old) (Self.shows self.new) result }
         ensures has { Self.has self.new ≡ Self.has self.old };
 
     /// By entry `number` thread `t`, which runs on processor `c`, leaves it.
@@ -97,6 +106,7 @@ pub trait Store: Look {
         requires { number < 2 ^ 62 }
         ensures value { DoesBy number (Self.shows self.old) (Self.shows self.new) result (λ s. RunsOn s t c × IsDestination s to) (λ s. leave s c.0 t.0 (place_by number c to)) }
         ensures lack { Lacks Self.part (Self.shows self.old) (Self.has self.old) result (λ s. cpu_part c ∷ destination_parts to) }
+        ensures kept { Keeps (Self.shows self.old) (Self.shows self.new) result }
         ensures has { Self.has self.new ≡ Self.has self.old };
 
     /// By entry `number` thread `t` goes to the back of a dispatch queue.
@@ -104,12 +114,14 @@ pub trait Store: Look {
         requires { number < 2 ^ 62 }
         ensures value { DoesBy number (Self.shows self.old) (Self.shows self.new) result (λ s. ⊤) (λ s. with_place s t.0 (place_put work.now number t.0 at)) }
         ensures lack { Lacks Self.part (Self.shows self.old) (Self.has self.old) result (λ s. put_parts work.now t at) }
+        ensures kept { Keeps (Self.shows self.old) (Self.shows self.new) result }
         ensures has { Self.has self.new ≡ Self.has self.old };
 
     /// Changes the state of lock `l`.
     fn set_lock(&mut self, l: LockId, lock: LockState) -> Result<(), Self::Lack>
         ensures value { Does (Self.shows self.old) (Self.shows self.new) result (λ s. IsLock s l) (λ s. with_lock s l.0 lock) }
         ensures lack { Lacks Self.part (Self.shows self.old) (Self.has self.old) result (λ s. chain_part l ∷ []) }
+        ensures kept { Keeps (Self.shows self.old) (Self.shows self.new) result }
         ensures has { Self.has self.new ≡ Self.has self.old };
 }
 
@@ -119,6 +131,7 @@ pub trait Store: Look {
 pub fn run_tick<S: Store>(x: &mut S, work: &Work, t: ThreadId) -> Result<(), S::Lack>
     ensures value { Does (S.shows x.old) (S.shows x.new) result (λ s. CanFinish work.now s t) (λ s. run_tick work.now s t.0) }
     ensures lack { Lacks S.part (S.shows x.old) (S.has x.old) result (λ s. thread_part t ∷ []) }
+    ensures kept { Keeps (S.shows x.old) (S.shows x.new) result }
     ensures has { S.has x.new ≡ S.has x.old }
 {
     x.change_body(work, t, BodyChange::RunTick)
@@ -130,6 +143,7 @@ pub fn run_tick<S: Store>(x: &mut S, work: &Work, t: ThreadId) -> Result<(), S::
 pub fn finish_op<S: Store>(x: &mut S, work: &Work, t: ThreadId) -> Result<(), S::Lack>
     ensures value { Does (S.shows x.old) (S.shows x.new) result (λ s. CanFinish work.now s t) (λ s. finish_op work.now s t.0) }
     ensures lack { Lacks S.part (S.shows x.old) (S.has x.old) result (λ s. thread_part t ∷ []) }
+    ensures kept { Keeps (S.shows x.old) (S.shows x.new) result }
     ensures has { S.has x.new ≡ S.has x.old }
 {
     x.change_body(work, t, BodyChange::FinishOp)
@@ -146,6 +160,7 @@ pub fn set_class<S: Store>(
 ) -> Result<(), S::Lack>
     ensures value { Does (S.shows x.old) (S.shows x.new) result (λ s. ⊤) (λ s. set_class s t.0 class) }
     ensures lack { Lacks S.part (S.shows x.old) (S.has x.old) result (λ s. thread_part t ∷ []) }
+    ensures kept { Keeps (S.shows x.old) (S.shows x.new) result }
     ensures has { S.has x.new ≡ S.has x.old }
 {
     x.change_body(work, t, BodyChange::Class(class))
@@ -157,6 +172,7 @@ pub fn set_class<S: Store>(
 pub fn send_back<S: Store>(x: &mut S, work: &Work, t: ThreadId) -> Result<(), S::Lack>
     ensures value { Does (S.shows x.old) (S.shows x.new) result (λ s. ⊤) (λ s. send_back s t.0) }
     ensures lack { Lacks S.part (S.shows x.old) (S.has x.old) result (λ s. thread_part t ∷ []) }
+    ensures kept { Keeps (S.shows x.old) (S.shows x.new) result }
     ensures has { S.has x.new ≡ S.has x.old }
 {
     x.change_body(work, t, BodyChange::SendBack)
@@ -168,6 +184,7 @@ pub fn send_back<S: Store>(x: &mut S, work: &Work, t: ThreadId) -> Result<(), S:
 pub fn hold<S: Store>(x: &mut S, work: &Work, t: ThreadId, l: LockId) -> Result<(), S::Lack>
     ensures value { Does (S.shows x.old) (S.shows x.new) result (λ s. CanHold s t l) (λ s. hold s t.0 l) }
     ensures lack { Lacks S.part (S.shows x.old) (S.has x.old) result (λ s. thread_part t ∷ []) }
+    ensures kept { Keeps (S.shows x.old) (S.shows x.new) result }
     ensures has { S.has x.new ≡ S.has x.old }
 {
     x.change_body(work, t, BodyChange::Hold(l))
@@ -179,6 +196,7 @@ pub fn hold<S: Store>(x: &mut S, work: &Work, t: ThreadId, l: LockId) -> Result<
 pub fn let_go<S: Store>(x: &mut S, work: &Work, t: ThreadId, l: LockId) -> Result<(), S::Lack>
     ensures value { Does (S.shows x.old) (S.shows x.new) result (λ s. ⊤) (λ s. let_go s t.0 l) }
     ensures lack { Lacks S.part (S.shows x.old) (S.has x.old) result (λ s. thread_part t ∷ []) }
+    ensures kept { Keeps (S.shows x.old) (S.shows x.new) result }
     ensures has { S.has x.new ≡ S.has x.old }
 {
     x.change_body(work, t, BodyChange::LetGo(l))
@@ -196,6 +214,7 @@ pub fn inherit<S: Store>(
 ) -> Result<(), S::Lack>
     ensures value { Does (S.shows x.old) (S.shows x.new) result (λ s. CanInherit s t l number) (λ s. set_number s t.0 l number) }
     ensures lack { Lacks S.part (S.shows x.old) (S.has x.old) result (λ s. thread_part t ∷ []) }
+    ensures kept { Keeps (S.shows x.old) (S.shows x.new) result }
     ensures has { S.has x.new ≡ S.has x.old }
 {
     x.change_body(work, t, BodyChange::Inherit(l, number))
@@ -212,6 +231,7 @@ pub fn set_looped<S: Store>(
 ) -> Result<(), S::Lack>
     ensures value { Does (S.shows x.old) (S.shows x.new) result (λ s. ⊤) (λ s. set_looped s t.0 looped) }
     ensures lack { Lacks S.part (S.shows x.old) (S.has x.old) result (λ s. thread_part t ∷ []) }
+    ensures kept { Keeps (S.shows x.old) (S.shows x.new) result }
     ensures has { S.has x.new ≡ S.has x.old }
 {
     x.change_body(work, t, BodyChange::Looped(looped))
