@@ -1,4 +1,3 @@
-pub mod Homes
 pub mod Needed
 pub mod Tasks
 pub mod Touched

@@ -6,10 +6,8 @@
 
 mod effects;
 mod events;
-mod laws;
 mod plans;
 
 pub use effects::after;
 pub use events::{next, plan_next, plan_reads, reads, wish};
-pub use laws::a_turn_needs_four_homes;
 pub use plans::plan;

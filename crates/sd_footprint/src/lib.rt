@@ -1,11 +1,13 @@
-//! How much of a state a turn of a processor looks at: a law, with nothing to run.
+//! The footprint of a processor's turn: in how many homes the parts of a state lie that it looks at. A law of every state;
+//! there is nothing to run.
+#![tactic(auto)]
 
 ghost use Rattle.std.specs.Prelude.{Option};
 ghost use Rattle.sd_types.specs.declared.events.Hints.{Hints as HintsOf};
 ghost use Rattle.sd_types.specs.declared.numbers.CpuId.{CpuId as CpuIdOf};
 ghost use Rattle.sd_types.specs.declared.works.Work.{Work as WorkOf};
 ghost use Rattle.sd_machine.specs.declared.states.State.{State as StateOf};
-ghost use Rattle.sd_step.specs.Homes.{NeedsFour};
+ghost use Rattle.sd_footprint.specs.Homes.{NeedsFour};
 
 /// Beside its own count and duty a processor looks at no more than four homes to find what it reads and its event, in any
 /// state and whatever it has read.

@@ -17,7 +17,7 @@ use Rattle.sd_full.specs.declared.plans.Requeue.TheVariants.{Stays, Behind, Anew
 use Rattle.sd_full.specs.Events.{placed_thread}
 use Rattle.sd_full.specs.Requeueing.{requeue_plan}
 use Rattle.sd_full.specs.Threads.{set_of}
-use Rattle.sd_step.specs.Homes.{IsOneOf, LiesIn, home_of}
+use Rattle.sd_footprint.specs.Homes.{IsOneOf, LiesIn, home_of}
 use Rattle.sd_step.specs.Needed.{choice_parts, read_parts}
 use Rattle.sd_store.specs.declared.parts.Part.{Part}
 use Rattle.sd_store.specs.Parts.{IsAmong}

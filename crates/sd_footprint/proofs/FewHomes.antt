@@ -37,11 +37,11 @@ use Rattle.sd_full.specs.SetChanges.{closing_plan}
 use Rattle.sd_full.specs.Sleeping.{napend_plan, rouse_plan, wake_plan, woken_priority}
 use Rattle.sd_full.specs.Threads.{best_queued, best_ready, best_sleeper, best_sleeper_below, best_waiter, eff_of, first_due, lock_of, next_to_age, priority_of, runner, set_of, thread_id}
 use Rattle.sd_full.specs.Walking.{walk_plan}
-use Rattle.sd_step.specs.Homes.{NeedsFour, home_of}
+use Rattle.sd_footprint.specs.Homes.{NeedsFour, home_of}
 use Rattle.sd_step.specs.Needed.{choice_parts, cpu_parts, later_parts, needed, next_parts, op_parts, plan_parts, read_parts, reads_parts, run_parts, turn_parts}
 use Rattle.sd_step.specs.Tasks.{task_parts}
-use Rattle.sd_step.proofs.Covers.{Turn, cover_each, cover_join, cover_more, cover_read, made, placing, requeueing}
-use Rattle.sd_step.proofs.Standing.{due_stands, queued_stands, sleeper_below_stands, sleeper_stands, waiter_stands}
+use Rattle.sd_footprint.proofs.Covers.{Turn, cover_each, cover_join, cover_more, cover_read, made, placing, requeueing}
+use Rattle.sd_footprint.proofs.Standing.{due_stands, queued_stands, sleeper_below_stands, sleeper_stands, waiter_stands}
 use Rattle.sd_store.specs.Keyless.{task_of}
 use Rattle.sd_store.specs.Parts.{actor_part, chain_part, cpu_part, owner_parts, ready_parts, sleepers_part, thread_part}
 

@@ -16,7 +16,7 @@ use Rattle.sd_machine.specs.declared.states.ThreadState.{ThreadState}
 use Rattle.sd_machine.specs.States.{thread_of, cpu_of, no_thread, is_queued}
 use Rattle.sd_machine.specs.Best.{leads_by, best_by, beats}
 use Rattle.sd_full.specs.Threads.{best_queued, best_sleeper, best_sleeper_below, best_waiter, first_due, is_asleep, is_asleep_below, is_due, is_waiting_at, naps_less, same_side}
-use Rattle.sd_step.specs.Homes.{home_of, home_of_place}
+use Rattle.sd_footprint.specs.Homes.{home_of, home_of_place}
 
 left : (a b : Bool) → (a && b) ≡ true → a ≡ true
 left true b e = cc
