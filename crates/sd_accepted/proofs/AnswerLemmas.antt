@@ -15,7 +15,7 @@ use Rattle.sd_types.specs.declared.works.ChanKind.{ChanKind}
 use Rattle.sd_types.specs.declared.works.ThreadDecl.{ThreadDecl}
 use Rattle.sd_types.specs.declared.works.Work.{Work}
 use Rattle.sd_types.specs.NameWords.{is_name}
-use Rattle.sd_types.specs.Works.{Declared, declared_of, same_bytes, same_cpu, is_distinct, set_cpus}
+use Rattle.sd_types.specs.Works.{Declared, declared_of, same_bytes, same_cpu, is_distinct, set_cpus, has_small_count}
 use Rattle.sd_types.specs.Ticks.{ts_ticks_fit, fixed_ticks_fit}
 use Rattle.sd_rules.specs.DefaultTables.{default_ts_rows, default_fx_rows, default_rt_rows}
 use Rattle.sd_text.specs.Lines.{lines_of, text_of_lines}
@@ -227,6 +227,7 @@ module _ (d : Declarations) (sets : List (Name × List CpuId)) (locks : List (Na
         lock_names = sym (ap (is_distinct same_bytes) (map-map lock_kept (λ (x : Word × LockKind). x.0) locks)) ∙ s.lock_names;
         chan_names = sym (ap (is_distinct same_bytes) (map-map chan_kept (λ (x : Word × ChanKind). x.0) chans)) ∙ s.chan_names;
         thread_names = sym (ap (is_distinct same_bytes) (map-map thread_kept (λ (x : Thread). x.name) threads)) ∙ s.threads.names;
+        small_counts = sym (all-map (λ (x : Word × ChanKind). has_small_count x.1) chan_kept chans) ∙ s.counts;
         threads_fit = sym (all-map (thread_is_sound (declared_of (cpu_count here) sets locks chans threads)) thread_kept threads)
             ∙ sym (ap (λ (x : Declared). list_all (thread_is_sound x) (map thread_kept threads)) (named-is d sets locks chans threads)) ∙ s.threads.fit;
         ts_ticks = ts.ticks;

@@ -3,7 +3,6 @@
 ghost use Rattle.std.specs.Prelude.{◌≡◌, ℕ, ◌+◌, ◌<◌, ◌≤◌, ◌^◌, IfOk, IfErr, OnOk, length, drop};
 ghost use Rattle.sd_full.specs.Runs.{IsComplete};
 ghost use Rattle.sd_machine.specs.declared.states.State.{State as StateValue};
-ghost use Rattle.sd_sound.specs.Laws.{HasSmallCounts};
 ghost use Rattle.sd_audit.specs.declared.audits.AuditFault.TheVariants.{Memory};
 ghost use Rattle.sd_audit.specs.Audits.{IsFault, IsJournal};
 ghost use Rattle.sd_audit.specs.Reading.{HasRead, IsAtAccounts};
@@ -78,7 +77,6 @@ fn check_rest(
     text: &[u8],
     at: Place,
 ) -> Result<(), AuditFault>
-    requires small { HasSmallCounts work.now }
     requires text { length text.now < 2 ^ 31 }
     requires read { HasRead work.now text.now s.now accounts.now at.number at.from }
     requires accounts { IsAtAccounts text.now at.from }

@@ -5,7 +5,6 @@ ghost use Rattle.sd_types.specs.declared.events.Hints.{Hints};
 ghost use Rattle.sd_types.specs.declared.numbers.CpuId.{CpuId as CpuValue};
 ghost use Rattle.sd_full.specs.Events.{next};
 ghost use Rattle.sd_full.specs.Runs.{IsComplete, IsReached, serial_hints};
-ghost use Rattle.sd_sound.specs.Laws.{HasSmallCounts};
 ghost use Rattle.sd_steps.specs.Entering.{can_enter};
 
 use sd_machine::State;
@@ -14,7 +13,6 @@ use sd_types::{CpuId, Work};
 
 fn enters(work: &Work, s: &State, number: u64, c: CpuId) -> bool
     requires reached { IsReached work.now number s.now }
-    requires small { HasSmallCounts work.now }
     ensures { result ≡ can_enter work.now s.now c }
 {
     can_enter(work, s, c)
@@ -23,7 +21,6 @@ fn enters(work: &Work, s: &State, number: u64, c: CpuId) -> bool
 /// The least processor that has an entry in the state of a run with so many entries, whatever it reads.
 pub fn first_to_enter(work: &Work, s: &State, number: u64) -> Option<CpuId>
     requires reached { IsReached work.now number s.now }
-    requires small { HasSmallCounts work.now }
     ensures some { IfSome result (λ c. can_enter work.now s.now c ≡ true) }
     ensures least { IfSome result (λ c. (d : CpuValue) → d.0 < c.0 → can_enter work.now s.now d ≡ false) }
     ensures none { IfNone result ((d : CpuValue) → can_enter work.now s.now d ≡ false) }

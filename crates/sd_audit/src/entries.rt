@@ -2,7 +2,6 @@
 
 ghost use Rattle.std.specs.Prelude.{◌≡◌, [], ◌+◌, ◌<◌, ◌≤◌, ◌^◌, IfOk, IfErr, length, drop};
 ghost use Rattle.sd_machine.specs.Opening.{opening};
-ghost use Rattle.sd_sound.specs.Laws.{HasSmallCounts};
 ghost use Rattle.sd_accounts.specs.Counters.{HasTaken};
 ghost use Rattle.sd_audit.specs.Audits.{IsFault};
 ghost use Rattle.sd_audit.specs.Reading.{HasRead, IsAtAccounts};
@@ -31,7 +30,6 @@ pub fn take_entries(
     text: &[u8],
 ) -> Result<Place, AuditFault>
     requires text { length text.now < 2 ^ 31 }
-    requires small { HasSmallCounts work.now }
     requires start { s.old ≡ opening work.now }
     requires none { HasTaken work.now [] accounts.old }
     ensures read { IfOk result (λ at. HasRead work.now text.now s.new accounts.new at.number at.from) }

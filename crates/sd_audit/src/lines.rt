@@ -4,7 +4,6 @@ ghost use Rattle.std.specs.Prelude.{◌≡◌, ◌+◌, ◌<◌, ◌^◌, IfOk, 
 ghost use Rattle.sd_types.specs.declared.events.Entry.{Entry as EntryValue};
 ghost use Rattle.sd_full.specs.Events.{after};
 ghost use Rattle.sd_full.specs.Runs.{IsReached};
-ghost use Rattle.sd_sound.specs.Laws.{HasSmallCounts};
 ghost use Rattle.sd_audit.specs.declared.audits.AuditFault.TheVariants.{Memory};
 ghost use Rattle.sd_audit.specs.Audits.{IsLineFault, IsTaken};
 
@@ -32,7 +31,6 @@ fn judge_line(
     number: u64,
 ) -> Result<Entry, AuditFault>
     requires reached { IsReached work.now number s.old }
-    requires small { HasSmallCounts work.now }
     requires number { number < 2 ^ 31 }
     ensures taken { IfOk result (IsTaken work.now s.old number line.now) }
     ensures state { IfOk result (λ e. s.new ≡ after work.now s.old e.number e.cpu e.event) }
@@ -60,7 +58,6 @@ pub fn take_line(
     number: u64,
 ) -> Result<Entry, AuditFault>
     requires reached { IsReached work.now number s.old }
-    requires small { HasSmallCounts work.now }
     requires number { number < 2 ^ 31 }
     ensures taken { IfOk result (IsTaken work.now s.old number line.now) }
     ensures state { IfOk result (λ e. s.new ≡ after work.now s.old e.number e.cpu e.event) }

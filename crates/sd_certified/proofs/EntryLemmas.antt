@@ -32,7 +32,6 @@ use Rattle.sd_full.specs.Threads.{eff_of, greatest_waiting}
 use Rattle.sd_full.specs.Walking.{inherited_priority}
 use Rattle.sd_full.specs.Runs.{IsReached, IsStep}
 use Rattle.sd_sound.specs.Causes.{IsCause}
-use Rattle.sd_sound.specs.Laws.{HasSmallCounts}
 use Rattle.sd_sound.proofs.BaseLemmas.{age_below, new_below}
 use Rattle.sd_sound.proofs.NumberLemmas.{AreFine, fine_eff}
 use Rattle.sd_sound.proofs.FineLemmas.{fine_reached}
@@ -193,12 +192,12 @@ module _ (w : Work) (s : State) (c : CpuId) (fine : AreFine s) where
   numbers_ok (Joined to) cause told n = refl
   numbers_ok (Bind t u d answer) cause told n = refl
 
-pub spelled : (w : Work) (n : ℕ) (s : State) (e : Entry) → HasSmallCounts w → IsReached w n s → IsStep w s e → e.number < 2 ^ 64 → IsTrue (hints_in_range e.hints) → IsSpelled w e
+pub spelled : (w : Work) (n : ℕ) (s : State) (e : Entry) → IsReached w n s → IsStep w s e → e.number < 2 ^ 64 → IsTrue (hints_in_range e.hints) → IsSpelled w e
 unfolding entry_fits in_range
-spelled w n s e small reached step number hints =
+spelled w n s e reached step number hints =
     let ready = reached_ready w n s reached in
     let here = maker_inside w s e.cpu e.hints e.event step in
-    let needs = needs_reached w n s e.cpu e.hints e.event small reached step in
+    let needs = needs_reached w n s e.cpu e.hints e.event reached step in
     let cause = ready_cause w s e.cpu e.hints e.event ready step in
     let cpu : has_cpu w e.cpu ≡ true = grind (arith, nat_tests) in
     let low : nat_lt e.number (2 ^ 64) ≡ true = grind (arith, nat_tests) in

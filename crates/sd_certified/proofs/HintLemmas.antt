@@ -16,7 +16,6 @@ use Rattle.sd_machine.specs.declared.states.State.{State}
 use Rattle.sd_machine.specs.States.{thread_of, cpu_of}
 use Rattle.sd_full.specs.Events.{next}
 use Rattle.sd_full.specs.Runs.{IsReached, IsStep}
-use Rattle.sd_sound.specs.Laws.{HasSmallCounts}
 use Rattle.sd_sound.proofs.NumberLemmas.{AreFine, fine_eff}
 use Rattle.sd_sound.proofs.FineLemmas.{fine_reached}
 use Rattle.sd_spelling.specs.Fitting.{is_byte, hints_in_range, IsSpelled}
@@ -177,21 +176,21 @@ reached_next w n s e r counted step = record {
   ends = final-push w (opening w) r.entries e ∙ ap (λ (x : State). after w x e.number e.cpu e.event) r.ends;
 }
 
-all_spelled : (w : Work) (n : ℕ) (s : State) (es : List Entry) → HasSmallCounts w → IsReached w n s → IsRunFrom w s n es → AreShown w s es → n + length es < 2 ^ 64 → All (IsSpelled w) es
+all_spelled : (w : Work) (n : ℕ) (s : State) (es : List Entry) → IsReached w n s → IsRunFrom w s n es → AreShown w s es → n + length es < 2 ^ 64 → All (IsSpelled w) es
 unfolding IsRunFrom
-all_spelled w n s [] small reached run shown few = All-nil (IsSpelled w)
-all_spelled w n s (e ∷ es) small reached run shown few =
-    let here = spelled w n s e small reached run.1 (let at = run.0 in omega (arith, at, few)) (ap hints_in_range shown.0 ∙ serial_ok w n s e.cpu reached) in
+all_spelled w n s [] reached run shown few = All-nil (IsSpelled w)
+all_spelled w n s (e ∷ es) reached run shown few =
+    let here = spelled w n s e reached run.1 (let at = run.0 in omega (arith, at, few)) (ap hints_in_range shown.0 ∙ serial_ok w n s e.cpu reached) in
     All-cons (IsSpelled w) e es here
-    (all_spelled w (n + 1) (after w s e.number e.cpu e.event) es small (reached_next w n s e reached run.0 run.1) run.2 shown.1 (omega (arith, few)))
+    (all_spelled w (n + 1) (after w s e.number e.cpu e.event) es (reached_next w n s e reached run.0 run.1) run.2 shown.1 (omega (arith, few)))
 
 opened : (w : Work) → IsReached w 0 (opening w)
 opened w = record { entries = []; run = IsRun-nil w; many = refl; ends = final-nil w (opening w) }
 
 -- all entries of a run in rounds
-serial_spelled : (w : Work) (orders : ℕ → List CpuId) (es : List Entry) → HasSmallCounts w → IsSerial w orders es → IsRun w es → length es < 2 ^ 64 → All (IsSpelled w) es
-serial_spelled w orders es small serial run few =
-    all_spelled w 0 (opening w) es small (opened w) (IsRun-from w es run)
+serial_spelled : (w : Work) (orders : ℕ → List CpuId) (es : List Entry) → IsSerial w orders es → IsRun w es → length es < 2 ^ 64 → All (IsSpelled w) es
+serial_spelled w orders es serial run few =
+    all_spelled w 0 (opening w) es (opened w) (IsRun-from w es run)
     (subst (λ (xs : List Entry). AreShown w (opening w) xs) (sym serial.entries) (rounds_shown w orders serial.count)) (omega (arith, few))
 
 -- ---- a run in rounds is a run
@@ -218,12 +217,12 @@ serial_run : (w : Work) (orders : ℕ → List CpuId) (es : List Entry) → IsSe
 serial_run w orders es serial = subst (λ (xs : List Entry). IsRun w xs) (sym serial.entries) (rounds_run w orders serial.count)
 
 -- its journal is one that the audit finds legal
-pub serial_journal : (w : Work) (turns : Turns) (es : List Entry) → HasSmallCounts w → IsSerial w (orders_of w turns) es → length es < 2 ^ 40
+pub serial_journal : (w : Work) (turns : Turns) (es : List Entry) → IsSerial w (orders_of w turns) es → length es < 2 ^ 40
     → IsJournal w (journal w es) (final w (opening w) es) (length es)
-serial_journal w turns es small serial few = record {
+serial_journal w turns es serial few = record {
   entries = es;
   run = serial_run w (orders_of w turns) es serial;
-  spelled = serial_spelled w (orders_of w turns) es small serial (serial_run w (orders_of w turns) es serial) (omega (arith, few));
+  spelled = serial_spelled w (orders_of w turns) es serial (serial_run w (orders_of w turns) es serial) (omega (arith, few));
   complete = complete_of w turns es serial;
   whole = refl;
   many = refl;

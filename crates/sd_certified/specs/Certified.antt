@@ -8,7 +8,6 @@ use Rattle.sd_machine.specs.declared.states.State.{State}
 use Rattle.sd_machine.specs.Opening.{opening}
 use Rattle.sd_full.specs.Runs.{final, IsReached, IsSerial, IsStep}
 use Rattle.sd_full.specs.Texts.{journal}
-use Rattle.sd_sound.specs.Laws.{HasSmallCounts}
 use Rattle.sd_rounds.specs.declared.orders.Turns.{Turns}
 use Rattle.sd_rounds.specs.Orders.{orders_of}
 use Rattle.sd_spelling.specs.Fitting.{hints_in_range, IsSpelled}
@@ -16,11 +15,11 @@ use Rattle.sd_audit.specs.Audits.{IsJournal}
 
 abbrev pub EntriesAreSpelled : Type 0
 EntriesAreSpelled =
-    (w : Work) (n : ℕ) (s : State) (e : Entry) → HasSmallCounts w → IsReached w n s → IsStep w s e → e.number < 2 ^ 64 → IsTrue (hints_in_range e.hints) → IsSpelled w e
+    (w : Work) (n : ℕ) (s : State) (e : Entry) → IsReached w n s → IsStep w s e → e.number < 2 ^ 64 → IsTrue (hints_in_range e.hints) → IsSpelled w e
 
 abbrev pub SerialJournalsAreJournals : Type 0
 SerialJournalsAreJournals =
-    (w : Work) (turns : Turns) (es : List Entry) → HasSmallCounts w → IsSerial w (orders_of w turns) es → length es < 2 ^ 40 → IsJournal w (journal w es) (final w (opening w) es) (length es)
+    (w : Work) (turns : Turns) (es : List Entry) → IsSerial w (orders_of w turns) es → length es < 2 ^ 40 → IsJournal w (journal w es) (final w (opening w) es) (length es)
 
 -- a journal has the entries of one run alone: of entries that have lines of their own, no others have the same journal
 abbrev pub JournalsTellEntries : Type 0

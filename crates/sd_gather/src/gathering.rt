@@ -3,7 +3,6 @@
 ghost use Rattle.std.specs.Prelude.{◌≡◌, ◌<◌, ◌^◌, IfOk, length};
 ghost use Rattle.sd_full.specs.Events.{after};
 ghost use Rattle.sd_full.specs.Runs.{IsReached};
-ghost use Rattle.sd_sound.specs.Laws.{HasSmallCounts};
 ghost use Rattle.sd_audit.specs.Audits.{IsTaken};
 ghost use Rattle.sd_gather.specs.Journals.{HasJournal, IsHistoryOf, TellsNext};
 
@@ -24,7 +23,6 @@ fn make(
     number: u64,
 ) -> Result<Entry, AllocError>
     requires reached { IsReached work.now number s.old }
-    requires small { HasSmallCounts work.now }
     requires number { number < 2 ^ 31 }
     requires told { TellsNext work.now s.old number line.now }
     ensures taken { IfOk result (IsTaken work.now s.old number line.now) }

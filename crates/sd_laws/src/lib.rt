@@ -1,5 +1,6 @@
-//! Laws of the machine: what holds in every state of every run, whatever the workload and whatever program
-//! made the run. The functions do nothing: the law is what the contract of each says.
+//! Laws of the first machine (`sd_machine`), whose events are tick, idle, dispatch, preempt and done: what holds in every state of each
+//! of its runs, whatever the workload and whatever program made the run. Those of all events are in `sd_sound` and the crates above
+//! it, which take its predicates of states. The functions do nothing: the law is what the contract of each says.
 #![tactic(auto)]
 
 mod laws;

@@ -1,5 +1,6 @@
-//! The dispatcher machine: its states, and, as definitions and lemmas that contracts cite, its initial state, its
-//! events, its runs, the accounts of a run and the texts of the journal. There is no code here but the types.
+//! The states of the dispatcher machine, its initial state and the best of a queue, as definitions and lemmas that contracts
+//! cite. Beside them a first machine of five events (tick, idle, dispatch, preempt, done) with its runs and texts, of which `sd_laws`
+//! speaks; `sd_full` has all events. There is no code here but the types.
 #![tactic(auto)]
 
 mod states;

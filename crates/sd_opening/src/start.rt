@@ -3,10 +3,9 @@
 //! Source: Solaris Internals (`thread_create`, `cpu_t`); that threads are assigned round-robin to the processors of their set is this
 //! project's own.
 
-ghost use Rattle.std.specs.Prelude.{◌≡◌, ◌+◌, ◌≤◌, length, nat_le, true, IsTrue, IfOk, map, replicate};
-ghost use Rattle.std.specs.List.{list_all, range_with_len};
+ghost use Rattle.std.specs.Prelude.{◌≡◌, ◌+◌, ◌≤◌, length, IsTrue, IfOk, map, replicate};
+ghost use Rattle.std.specs.List.{range_with_len};
 ghost use Rattle.sd_types.specs.Works.{class_fits};
-ghost use Rattle.sd_sound.specs.Laws.{HasSmallCounts};
 ghost use Rattle.sd_machine.specs.Opening.{is_urgent, is_dealt, turn_of, dealt_cpu, first_cpu, first_place, first_body, first_thread, first_threads, count_of, first_count, first_cpu_state, open_list, opening};
 
 use arrayvec::ArrayVec;
@@ -151,8 +150,7 @@ fn first_cpus(alloc: Global, work: &Work) -> Result<Vec<CpuState>, AllocError>
 }
 
 fn first_count(kind: &ChanKind) -> u32
-    ensures value { result ≡ count_of kind.now }
-    ensures small { result ≤ 65535 }
+    ensures { result ≡ count_of kind.now }
 {
     match kind {
         ChanKind::Chan => 0,
@@ -161,8 +159,7 @@ fn first_count(kind: &ChanKind) -> u32
 }
 
 fn first_counts(alloc: Global, work: &Work) -> Result<Vec<u32>, AllocError>
-    ensures counts { IfOk result (λ v. v.items ≡ map first_count work.now.chans) }
-    ensures small { IfOk result (λ v. list_all (λ n. nat_le n 65535) v.items ≡ true) }
+    ensures { IfOk result (λ v. v.items ≡ map first_count work.now.chans) }
 {
     let mut counts = Vec::new(alloc);
     for chan in work.chans.items() {
@@ -182,11 +179,10 @@ fn open_lists(alloc: Global, work: &Work) -> Result<Vec<ArrayVec<CpuId, 64>>, Al
     Ok(lists)
 }
 
-/// The state in which a run begins, in which no semaphore counts more than 65,535. `Err` only where memory runs out.
+/// The state in which a run begins. `Err` only where memory runs out.
 #[tactic(auto, unfolding(sd_machine::specs::Opening::opening))]
 pub fn opening(alloc: Global, work: &Work) -> Result<State, AllocError>
     ensures state { IfOk result (λ s. s ≡ opening work.now) }
-    ensures small { IfOk result (λ s. HasSmallCounts work.now) }
 {
     Ok(State {
         threads: List::from_vec(first_threads(alloc, work)?),

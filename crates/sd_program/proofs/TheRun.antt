@@ -11,7 +11,6 @@ use Rattle.sd_machine.specs.declared.states.State.{State}
 use Rattle.sd_full.specs.LockGraph.{graph, cycles_of}
 use Rattle.sd_full.specs.Runs.{state_at, IsRun, IsSerial, IsReached}
 use Rattle.sd_full.proofs.RunLemmas.{IsRun-from, from-IsRun, IsRunFrom-front}
-use Rattle.sd_sound.specs.Laws.{HasSmallCounts}
 use Rattle.sd_range.proofs.Complete.{complete_at_limit}
 use Rattle.sd_belonging.proofs.All.{threads_belong}
 use Rattle.sd_belonging.proofs.Marks.{marks_stand}
@@ -46,8 +45,8 @@ woken_on w es run before more rest e t is wakes none =
     let parts : before ++ e ∷ (more ++ rest) ≡ (before ++ e ∷ more) ++ rest = sym (append_assoc before (e ∷ more) rest) in
     runnable_law w before more e t (run_front w (before ++ e ∷ more) rest (subst (λ (xs : List Entry). IsRun w xs) (is ∙ parts) run)) wakes none
 
-pub is_the_run : (w : Work) (turns : Turns) (es : List Entry) → HasSmallCounts w → length es < 2 ^ 40 → IsSerial w (orders_of w turns) es → IsRun w es → IsTheRun w turns es
-is_the_run w turns es small short serial run = record {
+pub is_the_run : (w : Work) (turns : Turns) (es : List Entry) → length es < 2 ^ 40 → IsSerial w (orders_of w turns) es → IsRun w es → IsTheRun w turns es
+is_the_run w turns es short serial run = record {
   serial = serial;
   run = run;
   complete = complete_of w turns es serial;
@@ -57,7 +56,7 @@ is_the_run w turns es small short serial run = record {
   marks = λ k. marks_stand w (length (take k es)) (state_at w es k) (reached_at w es k run);
   woken = woken_on w es run;
   priorities = λ k. maxima_law w (length (take k es)) (state_at w es k) (reached_at w es k run);
-  certified = serial_journal w turns es small serial short;
+  certified = serial_journal w turns es serial short;
 }
 
 cycles_listed : (s : State) → ListsCycles (graph s) (cycles_of s)

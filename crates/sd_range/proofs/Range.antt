@@ -39,7 +39,7 @@ use Rattle.sd_full.specs.Needs.{IsThread, IsLock, IsChan, IsCpu, IsSet, IsPut, I
 use Rattle.sd_full.specs.Runs.{IsReached}
 use Rattle.sd_sound.specs.Causes.{Acts, WakesBest, RousesBest, IsRequeuedAt, IsAnswered, IsCause}
 use Rattle.sd_sound.specs.Holding.{pass_of}
-use Rattle.sd_sound.specs.Laws.{is_in, HasSmallCounts}
+use Rattle.sd_sound.specs.Laws.{is_in}
 use Rattle.sd_sound.proofs.AgreedAfter.{lock_inside, not_free_passing}
 use Rattle.sd_sound.proofs.BoundLemmas.{is_bound_at}
 use Rattle.sd_sound.proofs.CountLemmas.{ticks_below}
@@ -258,7 +258,7 @@ module _ (w : Work) (s : State) (whole : IsWhole w s) (is : IsInside w s) (sets 
     needs counts (Joined to) here cause = (set to (closing_to c.0 to cause.1), join_room w s c.0 to here cause.1 whole.opened)
     needs counts (Bind t u d answer) here cause = (acts t (op.Pbind u d) cause.0, bound t u d answer cause)
 
-pub needs_reached : (w : Work) (n : ℕ) (s : State) (c : CpuId) (h : Option Hints) (e : Event) → HasSmallCounts w → IsReached w n s → next w s c h ≡ Some e → Needs w s c e
-needs_reached w n s c h e small reached makes =
+pub needs_reached : (w : Work) (n : ℕ) (s : State) (c : CpuId) (h : Option Hints) (e : Event) → IsReached w n s → next w s c h ≡ Some e → Needs w s c e
+needs_reached w n s c h e reached makes =
     let whole = reached_whole w n s reached in
-    needs w s whole (inside_reached w n s reached) (sets_are_there w n s reached) (duties_named w n s reached) c (is_fit w s whole small).counts e (maker_inside w s c h e makes) (ready_cause w s c h e whole.ready makes)
+    needs w s whole (inside_reached w n s reached) (sets_are_there w n s reached) (duties_named w n s reached) c (is_fit w s whole).counts e (maker_inside w s c h e makes) (ready_cause w s c h e whole.ready makes)

@@ -8,10 +8,9 @@ use Rattle.sd_machine.specs.declared.states.State.{State}
 use Rattle.sd_full.specs.Events.{next}
 use Rattle.sd_full.specs.Needs.{Needs}
 use Rattle.sd_full.specs.Runs.{IsReached}
-use Rattle.sd_sound.specs.Laws.{HasSmallCounts}
 
 -- a processor that may make an event in a state of a run is there, and the event has what it needs; a count of tokens rises in 32 bits since it began with 16
 abbrev pub EventsHaveWhatTheyNeed : Type 0
 EventsHaveWhatTheyNeed =
-    (w : Work) (n : ℕ) (s : State) (c : CpuId) (hints : Option Hints) (e : Event) → HasSmallCounts w → IsReached w n s → next w s c hints ≡ Some e
+    (w : Work) (n : ℕ) (s : State) (c : CpuId) (hints : Option Hints) (e : Event) → IsReached w n s → next w s c hints ≡ Some e
     → (c.0 < w.cpus) × Needs w s c e

@@ -3,7 +3,6 @@
 ghost use Rattle.std.specs.Prelude.{◌≡◌, ◌++◌, ◌<◌, ◌≤◌, ◌↔◌, length, IsTrue, OnOk, IfOk, IsErrOf};
 ghost use Rattle.sd_full.specs.Runs.{final, turn, round, IsComplete, IsReached, IsRun, IsSerial};
 ghost use Rattle.sd_machine.specs.Opening.{opening};
-ghost use Rattle.sd_sound.specs.Laws.{HasSmallCounts};
 ghost use Rattle.sd_rounds.specs.Orders.{orders_of};
 ghost use Rattle.sd_rounds.specs.Rounds.{IsLongSerial};
 
@@ -35,7 +34,6 @@ fn is_full(entries: &[Entry]) -> bool
 /// so memory runs out only where it holds fewer, and the log then stays as it was.
 fn run_turn(work: &Work, s: &mut State, entries: &mut Vec<Entry>, c: CpuId) -> Result<(), Stop>
     requires reached { IsReached work.now (length entries.old.items) s.old }
-    requires small { HasSmallCounts work.now }
     ensures entries { OnOk result (entries.new.items ≡ entries.old.items ++ turn work.now s.old (length entries.old.items) c) }
     ensures state { OnOk result (s.new ≡ final work.now s.old (turn work.now s.old (length entries.old.items) c)) }
     ensures room { OnOk result (length entries.new.items ≤ MOST_ENTRIES) }
@@ -66,7 +64,6 @@ fn run_round(
     order: &[CpuId],
 ) -> Result<(), Stop>
     requires reached { IsReached work.now (length entries.old.items) s.old }
-    requires small { HasSmallCounts work.now }
     requires room { length entries.old.items ≤ MOST_ENTRIES }
     ensures entries { OnOk result (entries.new.items ≡ entries.old.items ++ round work.now s.old (length entries.old.items) order.now) }
     ensures state { OnOk result (s.new ≡ final work.now s.old (round work.now s.old (length entries.old.items) order.now)) }
@@ -87,14 +84,13 @@ fn run_round(
 
 /// The run of the workload that goes in rounds, in which the processors take turns so. `Full` only where it has 2^40
 /// entries or more, and then it is never returned whole: what `Memory` may stand for instead of a run or of `Full` is
-/// only that memory ran out. With a run it is said too that no semaphore of the workload begins with more than 65,535.
+/// only that memory ran out.
 pub fn run_rounds(alloc: Global, work: &Work, turns: Turns) -> Result<Finished, Stop>
     ensures serial { IfOk result (λ r. IsSerial work.now (orders_of work.now turns) r.entries.items) }
     ensures run { IfOk result (λ r. IsRun work.now r.entries.items) }
     ensures complete { IfOk result (λ r. IsComplete work.now r.state) }
     ensures state { IfOk result (λ r. r.state ≡ final work.now (opening work.now) r.entries.items) }
     ensures short { IfOk result (λ r. length r.entries.items < MOST_ENTRIES) }
-    ensures small { OnOk result (HasSmallCounts work.now) }
     ensures full { IsErrOf result Stop.Full → IsLongSerial work.now (orders_of work.now turns) }
     ensures no_longer { OnOk result (IsLongSerial work.now (orders_of work.now turns) → ⊥) }
 {

@@ -1,7 +1,8 @@
 -- All that is known of a state of a run, and what it says of an event that has its cause there: threads that are there and
 -- run, room for what they take, and numbers that stay in their types.
-use Rattle.std.proofs.Common.{◌≡◌, ℕ, zero, suc, ◌*◌, ◌<◌, ◌≤◌, Bool, true, false, not, List, [], length, take, Option, Some, None, refl, sym, ap, subst, arith, inl, inr}
-use Rattle.std.specs.Prelude.{slice_get, option_map, unwrap_or, nat_lt, nat_le, if◌then◌else◌, IfSome, ℤ}
+use Rattle.std.proofs.Common.{◌≡◌, ℕ, zero, suc, ◌*◌, ◌<◌, ◌≤◌, Bool, true, false, not, List, [], ◌∷◌, length, map, take, Option, Some, None, refl, sym, ap, subst, arith, inl, inr}
+use Rattle.std.specs.Prelude.{slice_get, slice_index_or, option_map, unwrap_or, nat_lt, nat_le, if◌then◌else◌, IfSome, ℤ}
+use Rattle.std.specs.List.{list_all}
 use Rattle.std.proofs.lemmas.Bool.{cases_lt}
 use Rattle.std.proofs.lemmas.Bool.Decides.{nat_tests}
 use Rattle.std.proofs.lemmas.List.{get_or_past}
@@ -12,12 +13,15 @@ use Rattle.sd_types.specs.declared.numbers.Side.{Side}
 use Rattle.sd_types.specs.declared.events.BindAnswer.{BindAnswer}
 use Rattle.sd_types.specs.declared.events.BindAnswer.TheVariants as bind
 use Rattle.sd_types.specs.declared.events.Put.{Put}
+use Rattle.sd_types.specs.declared.names.Name.{Name}
 use Rattle.sd_types.specs.declared.scripts.Op.{Op}
 use Rattle.sd_types.specs.declared.scripts.Op.TheVariants as op
+use Rattle.sd_types.specs.declared.works.ChanKind.{ChanKind}
+use Rattle.sd_types.specs.declared.works.ChanKind.TheVariants.{Chan, Sema}
 use Rattle.sd_types.specs.declared.works.ThreadDecl.{ThreadDecl}
 use Rattle.sd_types.specs.declared.works.Work.{Work}
 use Rattle.sd_types.specs.Scripts.{is_held, held_by, can_take}
-use Rattle.sd_types.specs.Works.{span_fits}
+use Rattle.sd_types.specs.Works.{span_fits, has_small_count}
 use Rattle.sd_machine.specs.declared.states.LockState.{LockState}
 use Rattle.sd_machine.specs.declared.states.LockState.TheVariants.{Free, Owned, ReadHeld, Passing}
 use Rattle.sd_machine.specs.declared.states.Place.{Place}
@@ -26,7 +30,9 @@ use Rattle.sd_machine.specs.declared.states.CpuState.{CpuState}
 use Rattle.sd_machine.specs.declared.states.State.{State}
 use Rattle.sd_machine.specs.States.{thread_of, cpu_of, no_cpu, is_running}
 use Rattle.sd_machine.specs.Operations.{script_of, op_of}
-use Rattle.sd_full.specs.Threads.{lock_of, runner, best_waiter, greatest_waiting}
+use Rattle.sd_machine.specs.Opening.{first_count, opening}
+use Rattle.sd_machine.specs.Opening.{count_of as first_count_of}
+use Rattle.sd_full.specs.Threads.{count_of, lock_of, runner, best_waiter, greatest_waiting}
 use Rattle.sd_full.specs.Locking.{others_waiting}
 use Rattle.sd_full.specs.Needs.{IsThread, Runs, CanAct, CanNap, CanHold, CanInherit, CanReceive, CanBind, more_fits}
 use Rattle.sd_full.specs.Sleeping.{nap_ticks}
@@ -34,7 +40,7 @@ use Rattle.sd_full.specs.Runs.{IsReached}
 use Rattle.sd_chains.specs.Holders as H
 use Rattle.sd_sound.specs.Causes.{Acts, wants, WakesBest, RousesBest}
 use Rattle.sd_sound.specs.Holding.{lock_state, table}
-use Rattle.sd_sound.specs.Laws.{CountsWithin, OpenHold, HasSmallCounts, IsFit}
+use Rattle.sd_sound.specs.Laws.{CountsWithin, OpenHold, IsFit}
 use Rattle.sd_sound.proofs.Found.{runner_found, waiter_found, sleeper_found, sleeper_below_found}
 use Rattle.sd_sound.proofs.ScriptLemmas.{waits_here}
 use Rattle.sd_sound.proofs.Works.{op_named, wanted_fits, first_of_two, second_of_two, not_true}
@@ -117,6 +123,20 @@ can_room l held can =
 can_apart : (l : LockId) (held : List LockId) → can_take l held ≡ true → is_held l held ≡ false
 can_apart l held can = not_true (is_held l held) (first_of_two (not (is_held l held)) (nat_lt (length held) 8) can)
 
+small_count : (kind : ChanKind) → has_small_count kind ≡ true → first_count_of kind ≤ 65535
+small_count Chan e = omega arith
+small_count (Sema n) e = grind (arith, nat_tests)
+
+small_counts : (ks : List (Name × ChanKind)) (k : ℕ) → list_all (λ x. has_small_count x.1) ks ≡ true → slice_index_or (map first_count ks) k 0 ≤ 65535
+small_counts [] k e = omega arith
+small_counts (x ∷ ks) zero e = small_count x.1 (first_of_two (has_small_count x.1) _ e)
+small_counts (x ∷ ks) (suc k) e = small_counts ks k (second_of_two (has_small_count x.1) _ e)
+
+-- a semaphore begins with 65,535 at most
+opening_small : (w : Work) (k : ℕ) → count_of (opening w) k ≤ 65535
+unfolding opening
+opening_small w k = small_counts w.chans k w.small_counts
+
 module _ (w : Work) (s : State) (whole : IsWhole w s) where
   pub threads_most : length s.threads ≤ 2048
   threads_most = let many = whole.ready.fits.threads in let most = w.most_threads in omega arith
@@ -127,12 +147,12 @@ module _ (w : Work) (s : State) (whole : IsWhole w s) where
       let many = threads_most in
       omega arith
 
-  pub is_fit : HasSmallCounts w → IsFit w s
-  is_fit small = record {
+  pub is_fit : IsFit w s
+  is_fit = record {
     fits = whole.ready.fits;
     owners = λ l o is. (whole.ready.agreed.owner l o.0 (ap lock_state is)).0;
     willed = λ t. (whole.fine t).sound.below;
-    counts = λ k. let a = whole.semaphores k in let b = ops_most in let c = small k in omega arith;
+    counts = λ k. let a = whole.semaphores k in let b = ops_most in let c = opening_small w k in omega arith;
   }
 
   -- a rwlock has no more readers than there are threads
@@ -230,5 +250,5 @@ module _ (w : Work) (s : State) (whole : IsWhole w s) where
         let limit = w.most_limit in
         omega (arith, most, is, count, limit)
 
-pub fit_reached : (w : Work) (n : ℕ) (s : State) → HasSmallCounts w → IsReached w n s → IsFit w s
-fit_reached w n s small reached = is_fit w s (reached_whole w n s reached) small
+pub fit_reached : (w : Work) (n : ℕ) (s : State) → IsReached w n s → IsFit w s
+fit_reached w n s reached = is_fit w s (reached_whole w n s reached)

@@ -77,10 +77,6 @@ pub record OpenHold (w : Work) (s : State) : Type 0 where
   pub member : (p c : ℕ) → is_in c (open_of s p) ≡ true → (c < w.cpus) × ((cpu_of s c).set.0 ≡ p) × ((cpu_of s c).closing ≡ None)
   pub rising : (p : ℕ) → IsRising 0 (open_of s p)
 
--- the first counts of semaphores are those of the type, 65,535 at most
-abbrev pub HasSmallCounts : Work → Type 0
-HasSmallCounts w = (k : ℕ) → count_of (opening w) k ≤ 65535
-
 -- There is as much of everything as the workload has, owners are there, inherited priorities are priorities, and each count
 -- may rise once more.
 pub record IsFit (w : Work) (s : State) : Type 0 where
@@ -91,4 +87,4 @@ pub record IsFit (w : Work) (s : State) : Type 0 where
 
 -- a state of a run can be read, and counted on
 abbrev pub StatesFit : Type 0
-StatesFit = (w : Work) (n : ℕ) (s : State) → HasSmallCounts w → IsReached w n s → IsFit w s
+StatesFit = (w : Work) (n : ℕ) (s : State) → IsReached w n s → IsFit w s

@@ -3,7 +3,6 @@
 ghost use Rattle.std.specs.Prelude.{◌≡◌, take, IfOk, OnOk, IfErr};
 ghost use Rattle.sd_full.specs.Runs.{final, IsRunFrom, IsRun};
 ghost use Rattle.sd_machine.specs.Opening.{opening};
-ghost use Rattle.sd_sound.specs.Laws.{HasSmallCounts};
 ghost use Rattle.sd_steps.specs.Replays.{IsIllegalFrom, IsFault};
 
 use crate::stepping::step;
@@ -31,7 +30,6 @@ pub enum ReplayFault {
 /// the one before the illegal entry. It takes no memory.
 fn replay_from(work: &Work, s: &mut State, entries: &[Entry]) -> Result<(), Illegal>
     requires start { s.old ≡ opening work.now }
-    requires small { HasSmallCounts work.now }
     ensures run { OnOk result (IsRunFrom work.now s.old 0 entries.now) }
     ensures state { OnOk result (s.new ≡ final work.now s.old entries.now) }
     ensures illegal { IfErr result (λ fault. IsIllegalFrom work.now s.old entries.now fault.number) }

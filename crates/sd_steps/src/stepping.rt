@@ -5,7 +5,7 @@ ghost use Rattle.std.specs.Bool.{OnTrue, OnFalse};
 ghost use Rattle.sd_full.specs.Events.{after, next};
 ghost use Rattle.sd_full.specs.Needs.{Needs};
 ghost use Rattle.sd_full.specs.Runs.{IsReached, IsStep, final, turn};
-ghost use Rattle.sd_sound.specs.Laws.{HasSmallCounts, IsFit};
+ghost use Rattle.sd_sound.specs.Laws.{IsFit};
 
 use crate::equality::same_event;
 use crate::serial::serial_next;
@@ -41,7 +41,6 @@ fn apply(work: &Work, s: &mut State, number: u64, c: CpuId, event: Event)
 /// then the next state. With false the state is as before. It takes no memory.
 pub fn step(work: &Work, s: &mut State, entry: &Entry) -> bool
     requires reached { IsReached work.now entry.now.number s.old }
-    requires small { HasSmallCounts work.now }
     requires number { entry.now.number < 2 ^ 62 }
     ensures step { IsTrue result ↔ IsStep work.now s.old entry.now }
     ensures made { OnTrue result (s.new ≡ after work.now s.old entry.now.number entry.now.cpu entry.now.event) }
@@ -61,7 +60,6 @@ pub fn step(work: &Work, s: &mut State, entry: &Entry) -> bool
 /// are the numbers of the state, which is that of a run with so many entries. The state is then the next one.
 pub fn make_entry(work: &Work, s: &mut State, number: u64, c: CpuId) -> Option<Entry>
     requires reached { IsReached work.now number s.old }
-    requires small { HasSmallCounts work.now }
     requires number { number < 2 ^ 62 }
     ensures entry { option_to_list result ≡ turn work.now s.old number c }
     ensures state { s.new ≡ final work.now s.old (turn work.now s.old number c) }

@@ -40,6 +40,11 @@ set_fits cpus s = nat_lt 0 (length s.1) && list_all (λ c. nat_lt c.0 cpus) s.1
 abbrev pub set_cpus : List (Name × List CpuId) → List CpuId
 set_cpus sets = flat_map (λ s. s.1) sets
 
+-- the first count of a semaphore has 16 bits
+abbrev pub has_small_count : ChanKind → Bool
+has_small_count Chan = true
+has_small_count (Sema count) = nat_le count 65535
+
 -- what a workload declares, as far as scripts name it
 pub record Declared : Type 0 where
   pub cpus : ℕ

@@ -2,7 +2,7 @@
 
 ghost use Rattle.std.specs.Prelude.{◌≡◌, ◌*◌, ◌<◌, ◌≤◌, ◌||◌, ◌==◌, length, sum_by, map, IsTrue};
 ghost use Rattle.std.specs.List.{list_all};
-ghost use Rattle.sd_types.specs.Works.{set_fits, set_cpus, same_cpu, same_bytes, is_distinct, thread_fits, declared_of};
+ghost use Rattle.sd_types.specs.Works.{set_fits, set_cpus, same_cpu, same_bytes, is_distinct, thread_fits, declared_of, has_small_count};
 ghost use Rattle.sd_types.specs.Ticks.{ts_ticks_fit, fixed_ticks_fit};
 
 use crate::{ClassParms, CpuId, FixedTable, List, Name, Script, SetId, TsTable};
@@ -70,6 +70,8 @@ pub struct Work {
     ghost lock_names: { IsTrue (is_distinct same_bytes (map (λ l. l.0.text.items) locks)) },
     ghost chan_names: { IsTrue (is_distinct same_bytes (map (λ k. k.0.text.items) chans)) },
     ghost thread_names: { IsTrue (is_distinct same_bytes (map (λ t. t.name.text.items) threads)) },
+    // the first counts of semaphores
+    ghost small_counts: { IsTrue (list_all (λ k. has_small_count k.1) chans) },
     ghost threads_fit: { IsTrue (list_all (thread_fits (declared_of cpus sets locks chans threads)) threads) },
     ghost ts_ticks: { IsTrue (ts_ticks_fit hz ts) },
     ghost fx_ticks: { IsTrue (fixed_ticks_fit hz fx) },

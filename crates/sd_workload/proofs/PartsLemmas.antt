@@ -19,7 +19,7 @@ use Rattle.sd_types.specs.declared.works.Work.{Work}
 use Rattle.sd_types.specs.NameWords.{is_name}
 use Rattle.sd_types.specs.Rows.{ts_row_fits, fixed_row_fits}
 use Rattle.sd_types.specs.Scripts.{EachOpFits, held_by}
-use Rattle.sd_types.specs.Works.{set_fits, set_cpus, same_cpu, same_bytes, is_distinct, thread_fits, declared_of}
+use Rattle.sd_types.specs.Works.{set_fits, set_cpus, same_cpu, same_bytes, is_distinct, thread_fits, declared_of, has_small_count}
 use Rattle.sd_types.specs.Ticks.{ts_ticks_fit, fixed_ticks_fit}
 use Rattle.sd_lines.specs.Words.{Word}
 use Rattle.sd_lines.specs.Said.{word_of}
@@ -132,6 +132,7 @@ one_work w v s =
       lock_names = is_prop→PathP (λ j. IsTrue (is_distinct same_bytes (map (λ l. l.0.text.items) (locks j)))) (λ j. hlevel props) w.lock_names v.lock_names i;
       chan_names = is_prop→PathP (λ j. IsTrue (is_distinct same_bytes (map (λ k. k.0.text.items) (chans j)))) (λ j. hlevel props) w.chan_names v.chan_names i;
       thread_names = is_prop→PathP (λ j. IsTrue (is_distinct same_bytes (map (λ t. t.name.text.items) (threads j)))) (λ j. hlevel props) w.thread_names v.thread_names i;
+      small_counts = is_prop→PathP (λ j. IsTrue (list_all (λ k. has_small_count k.1) (chans j))) (λ j. hlevel props) w.small_counts v.small_counts i;
       threads_fit = is_prop→PathP (λ j. IsTrue (list_all (thread_fits (declared_of (cpus j) (sets j) (locks j) (chans j) (threads j))) (threads j))) (λ j. hlevel props) w.threads_fit v.threads_fit i;
       ts_ticks = is_prop→PathP (λ j. IsTrue (ts_ticks_fit (hz j) (ts j))) (λ j. hlevel props) w.ts_ticks v.ts_ticks i;
       fx_ticks = is_prop→PathP (λ j. IsTrue (fixed_ticks_fit (hz j) (fx j))) (λ j. hlevel props) w.fx_ticks v.fx_ticks i;

@@ -92,6 +92,7 @@ table-sound d table.Ts lines given h = record {
   set_names = h.set_names;
   lock_names = h.lock_names;
   chan_names = h.chan_names;
+  counts = h.counts;
   threads = h.threads;
   tables = record { ts_lines = given; fx_lines = h.tables.fx_lines; rt_lines = h.tables.rt_lines };
 }
@@ -101,6 +102,7 @@ table-sound d table.Fx lines given h = record {
   set_names = h.set_names;
   lock_names = h.lock_names;
   chan_names = h.chan_names;
+  counts = h.counts;
   threads = h.threads;
   tables = record { ts_lines = h.tables.ts_lines; fx_lines = given; rt_lines = h.tables.rt_lines };
 }
@@ -110,6 +112,7 @@ table-sound d table.Rt lines given h = record {
   set_names = h.set_names;
   lock_names = h.lock_names;
   chan_names = h.chan_names;
+  counts = h.counts;
   threads = h.threads;
   tables = record { ts_lines = h.tables.ts_lines; fx_lines = h.tables.fx_lines; rt_lines = given };
 }
@@ -153,6 +156,7 @@ script-sound d t ops h named_ops =
       set_names = h.set_names;
       lock_names = h.lock_names;
       chan_names = h.chan_names;
+      counts = h.counts;
       threads = subst (λ n. AreThreads (record (named d) { threads = n }) (set d.threads t.0 (record (get_or d.threads t.0 no_thread) { ops = ops }))) (sym count)
           (record {
             names = ap (is_distinct same_bytes) (name-kept d.threads t.0 ops) ∙ h.threads.names;
@@ -236,6 +240,7 @@ nothing-sound = record {
   set_names = refl;
   lock_names = refl;
   chan_names = refl;
+  counts = refl;
   threads = record { names = refl; fit = refl };
   tables = record { ts_lines = tt; fx_lines = tt; rt_lines = tt };
 }

@@ -14,7 +14,7 @@ use Rattle.sd_types.specs.declared.classes.ClassParms.TheVariants as parms
 use Rattle.sd_types.specs.declared.works.LockKind.{LockKind}
 use Rattle.sd_types.specs.declared.works.ChanKind.{ChanKind}
 use Rattle.sd_types.specs.Partitions.{cpu_of_number}
-use Rattle.sd_types.specs.Works.{same_bytes, same_cpu, is_distinct, class_fits, upri_fits, quantum_fits}
+use Rattle.sd_types.specs.Works.{same_bytes, same_cpu, is_distinct, class_fits, upri_fits, quantum_fits, has_small_count}
 use Rattle.sd_lines.specs.declared.threads.ThreadClass.{ThreadClass}
 use Rattle.sd_lines.specs.declared.threads.ThreadClass.TheVariants.{Ts, Fx, Sys, Rt}
 use Rattle.sd_lines.specs.declared.words.QuantumWord.{QuantumWord}
@@ -59,6 +59,7 @@ cpus-sound d n none s =
       set_names = s.set_names;
       lock_names = s.lock_names;
       chan_names = s.chan_names;
+      counts = s.counts;
       threads = threads-more (named d) (named (record d { cpus = Some n })) d.threads
           (record { cpus = omega (arith, one, r.0); sets = omega arith; threads = omega arith; lock_count = omega arith; locks = λ i x e. e; chans = λ i x e. e }) s.threads;
       tables = s.tables;
@@ -77,6 +78,7 @@ hz-sound d n none s = record {
   set_names = s.set_names;
   lock_names = s.lock_names;
   chan_names = s.chan_names;
+  counts = s.counts;
   threads = s.threads;
   tables = s.tables;
 }
@@ -90,6 +92,7 @@ limit-sound d n none s =
       set_names = s.set_names;
       lock_names = s.lock_names;
       chan_names = s.chan_names;
+      counts = s.counts;
       threads = s.threads;
       tables = s.tables;
     }
@@ -149,6 +152,7 @@ set-sound d name cs none s =
       set_names = named-push d.sets name ids s.set_names c.twice;
       lock_names = s.lock_names;
       chan_names = s.chan_names;
+      counts = s.counts;
       threads = threads-more (named d) (named (with_set d name cs)) d.threads
           (record { cpus = omega arith; sets = omega (arith, length-append d.sets ((name, ids) ∷ [])); threads = omega arith; lock_count = omega arith; locks = λ i x e. e; chans = λ i x e. e }) s.threads;
       tables = s.tables;
@@ -176,19 +180,21 @@ lock-sound d kind name none s = record {
   set_names = s.set_names;
   lock_names = named-push d.locks name kind s.lock_names (clear (lock_causes d name) none).twice;
   chan_names = s.chan_names;
+  counts = s.counts;
   threads = threads-more (named d) (named (with_lock d kind name)) d.threads
       (record { cpus = omega arith; sets = omega arith; threads = omega arith; lock_count = kinds-count d.locks (name, kind); locks = kinds-push d.locks (name, kind); chans = λ i x e. e }) s.threads;
   tables = s.tables;
 }
 
-chan-new : (d : Declarations) (kind : ChanKind) (name : Word) → ltb (chan_number d name) (length d.chans) ≡ false → IsSound d → IsSound (with_chan d kind name)
+chan-new : (d : Declarations) (kind : ChanKind) (name : Word) → ltb (chan_number d name) (length d.chans) ≡ false → has_small_count kind ≡ true → IsSound d → IsSound (with_chan d kind name)
 unfolding chan_number
-chan-new d kind name new s = record {
+chan-new d kind name new small s = record {
   settings = s.settings;
   sets = s.sets;
   set_names = s.set_names;
   lock_names = s.lock_names;
   chan_names = named-push d.chans name kind s.chan_names new;
+  counts = all-push (λ (k : Word × ChanKind). has_small_count k.1) d.chans (name, kind) s.counts small;
   threads = threads-more (named d) (named (with_chan d kind name)) d.threads
       (record { cpus = omega arith; sets = omega arith; threads = omega arith; lock_count = omega arith; locks = λ i x e. e; chans = kinds-push d.chans (name, kind) }) s.threads;
   tables = s.tables;
@@ -234,6 +240,7 @@ thread-sound d t none s =
       set_names = s.set_names;
       lock_names = s.lock_names;
       chan_names = s.chan_names;
+      counts = s.counts;
       threads = record {
         names = ap (is_distinct same_bytes) (map-append (λ (x : Thread). x.name) d.threads (thread_of d t ∷ []))
             ∙ distinct-push same_bytes (map (λ (x : Thread). x.name) d.threads) t.name more.names
@@ -253,7 +260,7 @@ statement-sound d (Limit n) none s = limit-sound d n none s
 statement-sound d (Set name cs) none s = set-sound d name cs none s
 statement-sound d (Table class) none s = s
 statement-sound d (Lock kind name) none s = lock-sound d kind name none s
-statement-sound d (Chan name) none s = chan-new d chan.Chan name (clear (chan_causes d name) none).twice s
-statement-sound d (Sema name count) none s = chan-new d (chan.Sema count) name (clear (sema_causes d name count) none).twice s
+statement-sound d (Chan name) none s = chan-new d chan.Chan name (clear (chan_causes d name) none).twice refl s
+statement-sound d (Sema name count) none s = chan-new d (chan.Sema count) name (clear (sema_causes d name count) none).twice (not-false _ (clear (sema_causes d name count) none).range) s
 statement-sound d (Declare t) none s = thread-sound d t none s
 statement-sound d (Script name) none s = s

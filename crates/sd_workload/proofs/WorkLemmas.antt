@@ -11,7 +11,7 @@ use Rattle.sd_types.specs.declared.names.Name.{Name}
 use Rattle.sd_types.specs.declared.works.LockKind.{LockKind}
 use Rattle.sd_types.specs.declared.works.ChanKind.{ChanKind}
 use Rattle.sd_types.specs.declared.works.ThreadDecl.{ThreadDecl}
-use Rattle.sd_types.specs.Works.{Declared, same_bytes, same_cpu, is_distinct, set_fits, set_cpus, thread_fits, declared_of}
+use Rattle.sd_types.specs.Works.{Declared, same_bytes, same_cpu, is_distinct, set_fits, set_cpus, thread_fits, declared_of, has_small_count}
 use Rattle.sd_rules.specs.DefaultTables.{default_rt_levels, default_fixed_row, default_rt_quantum}
 use Rattle.sd_lines.specs.Words.{Word}
 use Rattle.sd_declare.specs.declared.declared.Declared.{Declared as Kept}
@@ -85,6 +85,9 @@ lock-names k locks s h = rw h (ap (is_distinct same_bytes) (sym (map-map lock_ke
 
 pub chan-names : (k : Kept) (chans : List (Name × ChanKind)) → IsSound (declarations k) → chans ≡ k.chans.items → is_distinct same_bytes (map (λ l. l.0.text.items) chans) ≡ true
 chan-names k chans s h = rw h (ap (is_distinct same_bytes) (sym (map-map chan_kept (λ (x : Word × ChanKind). x.0) k.chans.items)) ∙ s.chan_names)
+
+pub small-counts : (k : Kept) (chans : List (Name × ChanKind)) → IsSound (declarations k) → chans ≡ k.chans.items → list_all (λ c. has_small_count c.1) chans ≡ true
+small-counts k chans s h = rw h (sym (list_all-map (λ (x : Word × ChanKind). has_small_count x.1) chan_kept k.chans.items) ∙ s.counts)
 
 pub thread-names : (k : Kept) (threads : List ThreadDecl) → IsSound (declarations k) → threads ≡ k.threads.items → is_distinct same_bytes (map (λ t. t.name.text.items) threads) ≡ true
 thread-names k threads s h = rw h (ap (is_distinct same_bytes) (sym (map-map thread_kept (λ (x : Thread). x.name) k.threads.items)) ∙ s.threads.names)

@@ -3,7 +3,7 @@
 use Rattle.std.specs.Prelude.{◌≡◌, ℕ, ◌<◌, ◌≤◌, Bool, true, ◌&&◌, ◌||◌, ◌==◌, List, length, map, flat_map, nat_le, nat_lt, Option, IfSome}
 use Rattle.std.specs.List.{list_all}
 use Rattle.sd_types.specs.declared.numbers.CpuId.{CpuId}
-use Rattle.sd_types.specs.Works.{Declared, same_bytes, same_cpu, is_distinct, class_fits, op_names}
+use Rattle.sd_types.specs.Works.{Declared, same_bytes, same_cpu, is_distinct, class_fits, op_names, has_small_count}
 use Rattle.sd_tables.specs.TableText.{Format, AreClean, has_rows, ts_format, fx_format, rt_format}
 use Rattle.sd_lines.specs.Words.{Word, Line}
 use Rattle.sd_declare.specs.Declarations.{Thread, Declarations, cpu_count}
@@ -62,6 +62,7 @@ pub record IsSound (d : Declarations) : Type 0 where
   pub set_names : AreNamed d.sets
   pub lock_names : AreNamed d.locks
   pub chan_names : AreNamed d.chans
+  pub counts : list_all (λ k. has_small_count k.1) d.chans ≡ true
   pub threads : AreThreads (named d) d.threads
   pub tables : AreTables d.ts d.fx d.rt
 

@@ -31,7 +31,6 @@ make-requires c =
     let text = c.requires.text in
     record {
       reached = is_reached c.args.work.now c.args.text.now of.0 l.s l.history l.from of.1 at;
-      small = c.in_ok-s.ensures.small;
       number = omega (arith, bound, within.0, within.1, text);
       told = tells_next c.args.work.now c.args.text.now of.0 l.s l.history l.from of.1 at _ _
           c.in-Some.ensures.line (λ same. false≢true (sym c.if-is_accounts.false ∙ c.is_accounts.ensures.1 same));

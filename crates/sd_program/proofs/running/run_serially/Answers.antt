@@ -1,6 +1,5 @@
 use Rattle.std.proofs.Common.{◌<◌, ◌^◌, length, Ok, Err, Result}
-use Rattle.std.specs.Prelude.{IfOk, OnOk}
-use Rattle.sd_sound.specs.Laws.{HasSmallCounts}
+use Rattle.std.specs.Prelude.{IfOk}
 use Rattle.sd_types.specs.declared.events.Stop.{Stop}
 use Rattle.sd_types.specs.declared.works.Work.{Work}
 use Rattle.sd_full.specs.Runs.{IsRun, IsSerial}
@@ -11,12 +10,12 @@ use Rattle.sd_program.specs.TheRun.{IsTheRun}
 use Rattle.sd_program.proofs.TheRun.{is_the_run}
 use Rattle.sd_program.proofs.running.run_serially.Goals as goal
 
-run_ok : (w : Work) (turns : Turns) (r : Result Finished Stop) → OnOk r (HasSmallCounts w) → IfOk r (λ x. length x.entries.items < 2 ^ 40)
+run_ok : (w : Work) (turns : Turns) (r : Result Finished Stop) → IfOk r (λ x. length x.entries.items < 2 ^ 40)
     → IfOk r (λ x. IsSerial w (orders_of w turns) x.entries.items) → IfOk r (λ x. IsRun w x.entries.items) → IfOk r (λ x. IsTheRun w turns x.entries.items)
-run_ok w turns (Ok x) small short serial run = is_the_run w turns x.entries.items small short serial run
-run_ok w turns (Err stop) small short serial run = tt
+run_ok w turns (Ok x) short serial run = is_the_run w turns x.entries.items short serial run
+run_ok w turns (Err stop) short serial run = tt
 
 pub returns-clause-run : goal.returns-clause-run
 returns-clause-run c =
     let e = c.run_rounds.ensures in
-    run_ok c.args.work.now c.args.turns c.run_rounds.result e.small e.short e.serial e.run
+    run_ok c.args.work.now c.args.turns c.run_rounds.result e.short e.serial e.run

@@ -26,16 +26,16 @@ returns-then-c-work-clause-state c =
     sym (final-nil w s) ∙ ap (λ (o : Option Event). final w s (made c.args.number c.args.c h o)) (sym (no_maker w s c.args.c h c.if-c-work.true))
 
 pub serial_next-hints-requires-clause-fit : goal.serial_next-hints-requires-clause-fit
-serial_next-hints-requires-clause-fit c = fit_reached c.args.work.now c.args.number c.args.s.now c.requires.small c.requires.reached
+serial_next-hints-requires-clause-fit c = fit_reached c.args.work.now c.args.number c.args.s.now c.requires.reached
 
 pub apply-requires-clause-fit : goal.apply-requires-clause-fit
-apply-requires-clause-fit c = fit_reached c.args.work.now c.args.number c.args.s.now c.requires.small c.requires.reached
+apply-requires-clause-fit c = fit_reached c.args.work.now c.args.number c.args.s.now c.requires.reached
 
 pub apply-requires-clause-needs : goal.apply-requires-clause-needs
 apply-requires-clause-needs c =
     let w = c.args.work.now in
     let s = c.args.s.now in
-    needs_reached w c.args.number s c.args.c (serial_hints w s c.args.c) c.in-Some.event c.requires.small c.requires.reached
+    needs_reached w c.args.number s c.args.c (serial_hints w s c.args.c) c.in-Some.event c.requires.reached
     (sym c.serial_next-hints.ensures.event ∙ c.in-Some.is)
 
 pub returns-in-Some-clause-state : goal.returns-in-Some-clause-state

@@ -9,15 +9,15 @@ use Rattle.sd_steps.proofs.ReplayLemmas.{reached_more}
 use Rattle.sd_steps.proofs.stepping.step.Goals as goal
 
 pub next_of-requires : goal.next_of-requires
-next_of-requires c = record { fit = fit_reached c.args.work.now c.args.entry.now.number c.args.s.now c.requires.small c.requires.reached }
+next_of-requires c = record { fit = fit_reached c.args.work.now c.args.entry.now.number c.args.s.now c.requires.reached }
 
 pub apply-requires-clause-fit : goal.apply-requires-clause-fit
-apply-requires-clause-fit c = fit_reached c.args.work.now c.args.entry.now.number c.args.s.now c.requires.small c.requires.reached
+apply-requires-clause-fit c = fit_reached c.args.work.now c.args.entry.now.number c.args.s.now c.requires.reached
 
 pub apply-requires-clause-needs : goal.apply-requires-clause-needs
 apply-requires-clause-needs c =
     let e = c.args.entry.now in
-    needs_reached c.args.work.now e.number c.args.s.now e.cpu e.hints c.in-Some.event c.requires.small c.requires.reached (sym c.in-Some.ensures)
+    needs_reached c.args.work.now e.number c.args.s.now e.cpu e.hints c.in-Some.event c.requires.reached (sym c.in-Some.ensures)
 
 pub returns-in-Some-clause-reached : goal.returns-in-Some-clause-reached
 returns-in-Some-clause-reached c =

@@ -1,5 +1,5 @@
 use Rattle.sd_declare.specs.Kept.{declarations}
-use Rattle.sd_workload.proofs.WorkLemmas.{few, most-ticks, most-pairs, most-ops, sets-fit, cpus-differ, cpu-left, set-names, lock-names, chan-names, thread-names, threads-fit}
+use Rattle.sd_workload.proofs.WorkLemmas.{few, most-ticks, most-pairs, most-ops, sets-fit, cpus-differ, cpu-left, set-names, lock-names, chan-names, small-counts, thread-names, threads-fit}
 use Rattle.sd_workload.proofs.works.work.Goals as goal
 
 pub invariant_of-result-clause-known_hz : goal.invariant_of-result-clause-known_hz
@@ -33,6 +33,9 @@ invariant_of-result-clause-lock_names c = lock-names c.args.d _ c.requires.sound
 
 pub invariant_of-result-clause-chan_names : goal.invariant_of-result-clause-chan_names
 invariant_of-result-clause-chan_names c = chan-names c.args.d _ c.requires.sound c.from_vec-3.ensures
+
+pub invariant_of-result-clause-small_counts : goal.invariant_of-result-clause-small_counts
+invariant_of-result-clause-small_counts c = small-counts c.args.d _ c.requires.sound c.from_vec-3.ensures
 
 pub invariant_of-result-clause-thread_names : goal.invariant_of-result-clause-thread_names
 invariant_of-result-clause-thread_names c = thread-names c.args.d _ c.requires.sound c.from_vec-4.ensures
