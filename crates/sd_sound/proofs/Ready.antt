@@ -100,7 +100,7 @@ mutex_writer w s l scripted mutex some none =
           no_kind (kind_of w l) mutex (reader_kind w t (thread_of s t).body.op o l stands wanted)
     ]
 
-serves_of : (w : Work) (s : State) (d : Duty) → Scripted w s → DutyServes w s d → Serves s d
+pub serves_of : (w : Work) (s : State) (d : Duty) → Scripted w s → DutyServes w s d → Serves s d
 serves_of w s (duty.WakeMutex l) scripted is = mutex_writer w s l scripted is.0 is.1
 serves_of w s (duty.GrantWriter l) scripted is = is.1
 serves_of w s (duty.GrantReaders l) scripted is = tt
