@@ -1,3 +1,4 @@
+pub mod Bindings
 pub mod Covers
 pub mod FewHomes
 pub mod Standing

@@ -1,33 +1,28 @@
 -- The thread that a search finds stands in the home where the search looks.
-use Rattle.std.proofs.Common.{◌≡◌, ℕ, ◌%◌, Bool, true, false, ◌&&◌, Some, ap}
-use Rattle.std.specs.Prelude.{ℤ, ◌==◌, nat_le, int_lt}
+use Rattle.std.proofs.Common.{◌≡◌, ◌⊎◌, ℕ, ◌%◌, Bool, true, false, ◌&&◌, ◌||◌, Some, ap, inl, inr}
+use Rattle.std.specs.Prelude.{ℤ, ◌==◌, nat_le, int_lt, is_none}
 use Rattle.std.proofs.lemmas.Bool.{eqb-true}
-use Rattle.std.proofs.lemmas.List.Quantifiers.{position-Some}
 use Rattle.sd_types.specs.declared.numbers.ChanId.{ChanId}
 use Rattle.sd_types.specs.declared.numbers.CpuId.{CpuId}
-use Rattle.sd_types.specs.declared.numbers.HomeId.{HomeId}
 use Rattle.sd_types.specs.declared.numbers.HomeId.TheVariants as home
 use Rattle.sd_types.specs.declared.numbers.LockId.{LockId}
+use Rattle.sd_types.specs.declared.numbers.SetId.{SetId}
 use Rattle.sd_types.specs.declared.numbers.Side.{Side}
 use Rattle.sd_machine.specs.declared.states.Place.{Place}
-use Rattle.sd_machine.specs.declared.states.Place.TheVariants.{Queued, Waiting, Asleep, Napping}
+use Rattle.sd_machine.specs.declared.states.Place.TheVariants.{Running, Queued, RealTime, Waiting, Asleep, Napping}
 use Rattle.sd_machine.specs.declared.states.State.{State}
-use Rattle.sd_machine.specs.declared.states.ThreadState.{ThreadState}
-use Rattle.sd_machine.specs.States.{thread_of, cpu_of, no_thread, is_queued}
-use Rattle.sd_machine.specs.Best.{leads_by, best_by, beats}
-use Rattle.sd_full.specs.Threads.{best_queued, best_sleeper, best_sleeper_below, best_waiter, first_due, is_asleep, is_asleep_below, is_due, is_waiting_at, naps_less, same_side}
+use Rattle.sd_machine.specs.States.{thread_of, cpu_of, is_running, is_queued, is_ready}
+use Rattle.sd_full.specs.Threads.{best_queued, best_ready, best_sleeper, best_sleeper_below, best_unbound, best_waiter, first_due, is_asleep, is_asleep_below, is_due, is_ts, is_waiting_at, next_to_age, runner, same_side}
 use Rattle.sd_footprint.specs.Homes.{home_of, home_of_place}
+use Rattle.sd_sound.proofs.Found.{age_found, due_found, queued_found, ready_found, runner_found, sleeper_below_found, sleeper_found, unbound_found, waiter_found}
 
 left : (a b : Bool) → (a && b) ≡ true → a ≡ true
 left true b e = cc
 left false b e = cc
 
--- the best of those that stand where a test of the place says
-best_stands : (s : State) (on : Place → Bool) (before : ThreadState → ThreadState → Bool) (h : HomeId) (t : ℕ)
-    → ((p : Place) (last : CpuId) → on p ≡ true → home_of_place p last ≡ h) → best_by (λ (x : ThreadState). on x.place) before s.threads ≡ Some t → home_of (thread_of s t) ≡ h
-best_stands s on before h t stands e =
-    let found = position-Some (leads_by (λ (x : ThreadState). on x.place) before s.threads) s.threads t no_thread e in
-    stands (thread_of s t).place (thread_of s t).body.last (left (on (thread_of s t).place) _ found.1)
+alone : (a : Bool) → (a || false) ≡ true → a ≡ true
+alone true e = cc
+alone false e = cc
 
 same_cpu : (d c : CpuId) → d.0 ≡ c.0 → home.Cpu d ≡ home.Cpu c
 same_cpu d c e = ap (λ (n : ℕ). home.Cpu (record { 0 = n })) e
@@ -52,22 +47,38 @@ queued : (c : CpuId) (p : Place) (last : CpuId) → is_queued c.0 p ≡ true →
 queued c (Queued d key) last e = same_cpu d c (eqb-true d.0 c.0 e)
 queued c _ last e = cc
 
+running : (c : CpuId) (p : Place) (last : CpuId) → is_running c.0 p ≡ true → home_of_place p last ≡ home.Cpu c
+running c (Running d) last e = same_cpu d c (eqb-true d.0 c.0 e)
+running c _ last e = cc
+
+ready : (c : CpuId) (q : SetId) (p : Place) (last : CpuId) → is_ready c.0 q.0 p ≡ true → (home_of_place p last ≡ home.Cpu c) ⊎ (home_of_place p last ≡ home.RealTime q)
+ready c q (Queued d key) last e = inl (same_cpu d c (eqb-true d.0 c.0 (alone (d.0 == c.0) e)))
+ready c q (RealTime p key) last e = inr (ap (λ (n : ℕ). home.RealTime (record { 0 = n })) (eqb-true p.0 q.0 e))
+ready c q _ last e = cc
+
 pub waiter_stands : (s : State) (l : LockId) (side : Side) (t : ℕ) → best_waiter s l.0 side ≡ Some t → home_of (thread_of s t) ≡ home.Chain (l.0 % 64)
-unfolding best_waiter
-waiter_stands s l side t e = best_stands s (is_waiting_at l.0 side) beats (home.Chain (l.0 % 64)) t (waiting l side) e
+waiter_stands s l side t e = waiting l side (thread_of s t).place _ (waiter_found s l.0 side t e).stands
 
 pub sleeper_stands : (s : State) (k : ChanId) (t : ℕ) → best_sleeper s k.0 ≡ Some t → home_of (thread_of s t) ≡ home.Sleepers (k.0 % 64)
-unfolding best_sleeper
-sleeper_stands s k t e = best_stands s (is_asleep k.0) beats (home.Sleepers (k.0 % 64)) t (asleep k) e
+sleeper_stands s k t e = asleep k (thread_of s t).place _ (sleeper_found s k.0 t e).stands
 
 pub sleeper_below_stands : (s : State) (k : ChanId) (below : ℤ) (t : ℕ) → best_sleeper_below s k.0 below ≡ Some t → home_of (thread_of s t) ≡ home.Sleepers (k.0 % 64)
-unfolding best_sleeper_below
-sleeper_below_stands s k below t e = best_stands s (is_asleep_below k.0 below) beats (home.Sleepers (k.0 % 64)) t (asleep_below k below) e
+sleeper_below_stands s k below t e = asleep_below k below (thread_of s t).place _ (sleeper_below_found s k.0 below t e).stands
 
 pub due_stands : (s : State) (c : CpuId) (t : ℕ) → first_due s c.0 ≡ Some t → home_of (thread_of s t) ≡ home.Cpu c
-unfolding first_due
-due_stands s c t e = best_stands s (is_due c.0 (cpu_of s c.0).count) naps_less (home.Cpu c) t (due c (cpu_of s c.0).count) e
+due_stands s c t e = due c (cpu_of s c.0).count (thread_of s t).place _ (due_found s c.0 t e).stands
 
 pub queued_stands : (s : State) (c : CpuId) (t : ℕ) → best_queued s c.0 ≡ Some t → home_of (thread_of s t) ≡ home.Cpu c
-unfolding best_queued
-queued_stands s c t e = best_stands s (is_queued c.0) beats (home.Cpu c) t (queued c) e
+queued_stands s c t e = queued c (thread_of s t).place _ (queued_found s c.0 t e).stands
+
+pub unbound_stands : (s : State) (c : CpuId) (t : ℕ) → best_unbound s c.0 ≡ Some t → home_of (thread_of s t) ≡ home.Cpu c
+unbound_stands s c t e = queued c (thread_of s t).place _ (left _ (is_none (thread_of s t).body.bound) (unbound_found s c.0 t e).stands)
+
+pub runner_stands : (s : State) (c : CpuId) (t : ℕ) → runner s c.0 ≡ Some t → home_of (thread_of s t) ≡ home.Cpu c
+runner_stands s c t e = running c (thread_of s t).place _ (runner_found s c.0 t e).stands
+
+pub ready_stands : (s : State) (c : CpuId) (t : ℕ) → best_ready s c.0 ≡ Some t → (home_of (thread_of s t) ≡ home.Cpu c) ⊎ (home_of (thread_of s t) ≡ home.RealTime (cpu_of s c.0).set)
+ready_stands s c t e = ready c (cpu_of s c.0).set (thread_of s t).place _ (ready_found s c.0 t e).stands
+
+pub aged_stands : (s : State) (c : CpuId) (u t : ℕ) → next_to_age s c.0 u ≡ Some t → home_of (thread_of s t) ≡ home.Cpu c
+aged_stands s c u t e = queued c (thread_of s t).place _ (left _ (is_ts (thread_of s t).body.class) (age_found s c.0 u t e).stands)

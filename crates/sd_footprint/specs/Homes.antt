@@ -1,7 +1,7 @@
 -- In which homes the parts lie that a processor looks at.
 -- Source: this project's own; the homes are the dispatch queues, the chains of turnstiles and those of sleepers of Solaris
 -- Internals.
-use Rattle.std.specs.Prelude.{◌≡◌, ◌%◌, ◌≤◌, ◌⊎◌, List, [], ◌∷◌, length, Option, Some, None}
+use Rattle.std.specs.Prelude.{◌≡◌, ℕ, ◌%◌, ◌≤◌, ◌⊎◌, List, [], ◌∷◌, length, Option, Some, None}
 use Rattle.sd_types.specs.declared.numbers.CpuId.{CpuId}
 use Rattle.sd_types.specs.declared.numbers.HomeId.{HomeId}
 use Rattle.sd_types.specs.declared.numbers.HomeId.TheVariants as home
@@ -12,7 +12,10 @@ use Rattle.sd_machine.specs.declared.states.Place.TheVariants.{Running, Queued, 
 use Rattle.sd_machine.specs.declared.states.State.{State}
 use Rattle.sd_machine.specs.declared.states.ThreadState.{ThreadState}
 use Rattle.sd_machine.specs.States.{thread_of}
+use Rattle.sd_full.specs.Events.{wish}
+use Rattle.sd_full.specs.Runs.{IsReached}
 use Rattle.sd_step.specs.Needed.{needed, next_parts, reads_parts}
+use Rattle.sd_step.specs.Touched.{after_parts}
 use Rattle.sd_store.specs.declared.parts.Part.{Part}
 use Rattle.sd_store.specs.declared.parts.Part.TheVariants.{Home, Thread, Actor}
 use Rattle.sd_store.specs.Parts.{IsAmong, actor_part}
@@ -53,3 +56,12 @@ pub record NeedsFour (w : Work) (s : State) (c : CpuId) (hints : Option Hints) :
   pub reading : (p : Part) → IsAmong p (reads_parts w s c) → LiesIn s c homes p
   pub wishing : (p : Part) → IsAmong p (needed w s c hints) → LiesIn s c homes p
   pub making : (p : Part) → IsAmong p (next_parts w s c hints) → LiesIn s c homes p
+
+-- at most four homes hold all that, and all that its event touches
+pub record TakesFour (w : Work) (s : State) (c : CpuId) (hints : Option Hints) : Type 0 where
+  pub needs : NeedsFour w s c hints
+  pub touching : (p : Part) → IsAmong p (after_parts w s c (wish w s c.0 hints)) → LiesIn s c needs.homes p
+
+-- in every state of every run, whatever the processor has read
+abbrev pub TurnsTakeFour : Type 0
+TurnsTakeFour = (w : Work) (n : ℕ) (s : State) (c : CpuId) (hints : Option Hints) → IsReached w n s → TakesFour w s c hints

@@ -1,4 +1,4 @@
-//! The footprint of a processor's turn: in how many homes the parts of a state lie that it looks at. A law of every state;
+//! The footprint of a processor's turn: in how many homes the parts of a state lie that it looks at, and that its event touches. Laws;
 //! there is nothing to run.
 #![tactic(auto)]
 
@@ -7,10 +7,16 @@ ghost use Rattle.sd_types.specs.declared.events.Hints.{Hints as HintsOf};
 ghost use Rattle.sd_types.specs.declared.numbers.CpuId.{CpuId as CpuIdOf};
 ghost use Rattle.sd_types.specs.declared.works.Work.{Work as WorkOf};
 ghost use Rattle.sd_machine.specs.declared.states.State.{State as StateOf};
-ghost use Rattle.sd_footprint.specs.Homes.{NeedsFour};
+ghost use Rattle.sd_footprint.specs.Homes.{NeedsFour, TurnsTakeFour};
 
 /// Beside its own count and duty a processor looks at no more than four homes to find what it reads and its event, in any
 /// state and whatever it has read.
 pub fn a_turn_needs_four_homes()
     ensures { (w : WorkOf) (s : StateOf) (c : CpuIdOf) (hints : Option HintsOf) → NeedsFour w s c hints }
+{}
+
+/// In every state of every run, and whatever the processor has read, these four hold all that its event touches as well. In other
+/// states there may be five: a duty to hand a lock over for which nobody waits looks at the chain of that lock first.
+pub fn a_turn_takes_four_homes()
+    ensures { TurnsTakeFour }
 {}
