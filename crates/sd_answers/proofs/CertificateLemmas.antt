@@ -10,7 +10,7 @@ use Rattle.sd_cut.specs.Cuts.{HasNoJournal, IsCut}
 use Rattle.sd_cut.proofs.CutLemmas.{before_same, after_same, none_cut}
 use Rattle.sd_audit.specs.declared.audits.AuditFault.{AuditFault}
 use Rattle.sd_audit.specs.declared.audits.AuditFault.TheVariants as audit
-use Rattle.sd_audit.specs.Audits.{IsFault}
+use Rattle.sd_audit.specs.Audits.{IsFault, IsMemory}
 use Rattle.sd_audit.proofs.ExactLemmas.{no_fault}
 use Rattle.sd_answers.specs.declared.answers.JournalFault.{JournalFault}
 use Rattle.sd_answers.specs.declared.answers.JournalFault.TheVariants as journal
@@ -63,11 +63,11 @@ module _ (input : StreamChange) (bytes text : List ℕ) (P : Work → Type 0) (i
   its_text w rest found = same_text found.before rest found.parts
 
 -- a journal of a run has no fault
-not_memory : (fault : JournalFault) → audit_fault fault ≡ audit.Memory → ⊥
-not_memory (journal.NotAnEntry line) e = cc
-not_memory (journal.Illegal number) e = cc
-not_memory (journal.Incomplete cpu) e = cc
-not_memory (journal.Tail line) e = cc
+not_memory : (fault : JournalFault) → IsMemory (audit_fault fault) → ⊥
+not_memory (journal.NotAnEntry line) e = e
+not_memory (journal.Illegal number) e = e
+not_memory (journal.Incomplete cpu) e = e
+not_memory (journal.Tail line) e = e
 
 -- a text has no fault that is the journal of a run of the workload
 sound_text : (input : StreamChange) (bytes text : List ℕ) (fault : JournalFault) → input.before ≡ Some bytes → Certifies bytes text (IsJournalOf text) → IsFaulty input fault → ⊥
@@ -200,7 +200,7 @@ module _ {X : Type 0} (Made : X → Type 0) (input : StreamChange) where
   unjudged w text (audit.Illegal number) found is = record { work = w; text = text; certificate = found; is = is }
   unjudged w text (audit.Incomplete cpu) found is = record { work = w; text = text; certificate = found; is = is }
   unjudged w text (audit.Tail line) found is = record { work = w; text = text; certificate = found; is = is }
-  unjudged w text audit.Memory found is = at_most_of most_certificate input found.parts.bytes found.parts.read
+  unjudged w text (audit.Memory number) found is = at_most_of most_certificate input found.parts.bytes found.parts.read
 
   -- what the exit of a `?` returns
   pub judged_exit : (r : Result X Answer) (a : Answer) → IsErrAnd r (λ y. y ≡ a) → IsJudged Made input (Err a) → IsJudged Made input r

@@ -82,7 +82,7 @@ pub unspelled_of : (input : StreamChange) (bytes : List ℕ) (r : Result Work Wo
     → IfErr r (IsFault (verdict_of bytes)) → IfErr r (λ fault. IsRefused input (work_answer fault))
 unspelled_of input bytes (Ok w) read first = tt
 unspelled_of input bytes (Err (work.At line cause)) read first = record { bytes = bytes; read = read; first = first }
-unspelled_of input bytes (Err work.Memory) read first = at_most_of most_bytes input bytes read
+unspelled_of input bytes (Err (work.Memory line)) read first = at_most_of most_bytes input bytes read
 
 -- what the exit of a `?` returns
 pub reading_exit : (input : StreamChange) (r : Result Work Answer) (a : Answer) → IsErrAnd r (λ y. y ≡ a) → IsRefused input a → IsReading input r

@@ -63,7 +63,7 @@ read_answer read.Memory = OutOfMemory
 -- the input is no workload
 abbrev pub work_answer : WorkFault → Answer
 work_answer (work.At line cause) = Refused line cause
-work_answer work.Memory = OutOfMemory
+work_answer (work.Memory line) = OutOfMemory
 
 -- the input of an audit was not read
 abbrev pub certificate_answer : ReadAllFault → Answer
@@ -77,7 +77,7 @@ audit_answer (audit.NotAnEntry line) = NotAJournal (journal.NotAnEntry line)
 audit_answer (audit.Illegal number) = NotAJournal (journal.Illegal number)
 audit_answer (audit.Incomplete cpu) = NotAJournal (journal.Incomplete cpu)
 audit_answer (audit.Tail line) = NotAJournal (journal.Tail line)
-audit_answer audit.Memory = OutOfMemory
+audit_answer (audit.Memory number) = OutOfMemory
 
 -- the same fault as the audit says it
 abbrev pub audit_fault : JournalFault → AuditFault

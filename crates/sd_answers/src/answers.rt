@@ -171,7 +171,7 @@ impl From<WorkFault> for Answer {
     fn from(fault: WorkFault) -> Answer {
         match fault {
             WorkFault::At { line, cause } => Answer::Refused { line, cause },
-            WorkFault::Memory => Answer::OutOfMemory,
+            WorkFault::Memory { .. } => Answer::OutOfMemory,
         }
     }
 }
@@ -187,7 +187,7 @@ impl From<AuditFault> for Answer {
             AuditFault::Illegal { number } => Answer::NotAJournal(JournalFault::Illegal { number }),
             AuditFault::Incomplete { cpu } => Answer::NotAJournal(JournalFault::Incomplete { cpu }),
             AuditFault::Tail { line } => Answer::NotAJournal(JournalFault::Tail { line }),
-            AuditFault::Memory => Answer::OutOfMemory,
+            AuditFault::Memory { .. } => Answer::OutOfMemory,
         }
     }
 }

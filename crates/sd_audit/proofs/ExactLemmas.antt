@@ -19,7 +19,7 @@ use Rattle.sd_full.proofs.RunLemmas.{IsRun-from, from-IsRun, IsRunFrom-front}
 use Rattle.sd_spelling.specs.Fitting.{IsSpelled}
 use Rattle.sd_audit.specs.declared.audits.AuditFault.{AuditFault}
 use Rattle.sd_audit.specs.declared.audits.AuditFault.TheVariants.{NotAnEntry, Illegal, Incomplete, Tail, Memory}
-use Rattle.sd_audit.specs.Audits.{entry_line, TellsRun, NoEntryNext, IsNotAnEntry, IsIllegal, IsIncomplete, IsOtherTail, IsFault, IsJournal, tail_text, whole_lines, common_lines}
+use Rattle.sd_audit.specs.Audits.{entry_line, TellsRun, NoEntryNext, IsNotAnEntry, IsIllegal, IsIncomplete, IsOtherTail, IsFault, IsJournal, IsMemory, IsRunSoFar, tail_text, whole_lines, common_lines}
 use Rattle.sd_audit.proofs.LineLemmas.{text_of, same_line, not_accounts, journal_lines}
 
 head_same : (x y : List ℕ) (xs ys : List (List ℕ)) → x ∷ xs ≡ y ∷ ys → (x ≡ y) × (xs ≡ ys)
@@ -123,6 +123,12 @@ module _ (w : Work) where
     },
   )
 
+  -- the entries of a journal were read
+  pub journal_read : (text : List ℕ) (s : State) (n : ℕ) → IsJournal w text s n → IsRunSoFar w text n
+  journal_read text s n j =
+      let t = journal_told text s n j in
+      record { entries = j.entries; rest = codes "accounts" ∷ t.0; told = t.1.told; counted = sym j.many }
+
   told_none : (text : List ℕ) (n : ℕ) (f : IsNotAnEntry w text n) → Told w text f.entries f.rest
   told_none text n f = record { told = f.told; ends = none_ends f.entries f.rest f.none }
 
@@ -156,7 +162,7 @@ module _ (w : Work) where
   not_complete text c f es same complete =
       some_none _ f.has (subst (λ (x : List Entry). next w (final w (opening w) x) c f.hints ≡ None) (sym same) (complete c f.hints))
 
-  pub no_fault : (text : List ℕ) (s : State) (n : ℕ) (fault : AuditFault) → IsJournal w text s n → IsFault w text fault → fault ≡ Memory
+  pub no_fault : (text : List ℕ) (s : State) (n : ℕ) (fault : AuditFault) → IsJournal w text s n → IsFault w text fault → IsMemory fault
   no_fault text s n (NotAnEntry at) j f =
       let t = journal_told text s n j in
       absurd (none_accounts f.rest t.0 f.none (one_told text f.entries j.entries _ _ (told_none text at f) t.1).1)
@@ -170,7 +176,7 @@ module _ (w : Work) where
       let t = journal_told text s n j in
       let same = (one_told text f.entries j.entries _ _ (told_tail text at f) t.1).0 in
       absurd (f.differs (append_cancel_left (entries_text w f.entries) f.tail (tail_text w f.entries (final w (opening w) f.entries)) (sym f.parts ∙ j.whole ∙ ap (journal w) (sym same) ∙ journal_is f.entries)))
-  no_fault text s n Memory j f = refl
+  no_fault text s n (Memory at) j f = tt
 
   pub one_run : (text : List ℕ) (s t : State) (n m : ℕ) → IsJournal w text s n → IsJournal w text t m → (s ≡ t) × (n ≡ m)
   one_run text s t n m j k =
@@ -205,12 +211,12 @@ module _ (w : Work) where
       let tails = append_cancel_left (entries_text w g.entries) f.tail g.tail (ap (λ (x : List Entry). entries_text w x ++ f.tail) (sym same) ∙ sym f.parts ∙ g.parts) in
       f.counted ∙ ap (λ (x : List Entry). AtTail x f.tail) same ∙ ap (AtTail g.entries) tails ∙ sym g.counted
 
-  pub one_fault : (text : List ℕ) (f g : AuditFault) → IsFault w text f → IsFault w text g → (f ≡ Memory → ⊥) → (g ≡ Memory → ⊥) → f ≡ g
-  one_fault text Memory g p q mf mg = absurd (mf refl)
-  one_fault text (NotAnEntry a) Memory p q mf mg = absurd (mg refl)
-  one_fault text (Illegal a) Memory p q mf mg = absurd (mg refl)
-  one_fault text (Incomplete a) Memory p q mf mg = absurd (mg refl)
-  one_fault text (Tail a) Memory p q mf mg = absurd (mg refl)
+  pub one_fault : (text : List ℕ) (f g : AuditFault) → IsFault w text f → IsFault w text g → (IsMemory f → ⊥) → (IsMemory g → ⊥) → f ≡ g
+  one_fault text (Memory a) g p q mf mg = absurd (mf tt)
+  one_fault text (NotAnEntry a) (Memory b) p q mf mg = absurd (mg tt)
+  one_fault text (Illegal a) (Memory b) p q mf mg = absurd (mg tt)
+  one_fault text (Incomplete a) (Memory b) p q mf mg = absurd (mg tt)
+  one_fault text (Tail a) (Memory b) p q mf mg = absurd (mg tt)
   one_fault text (NotAnEntry a) (NotAnEntry b) p q mf mg =
       let same = (one_told text p.entries q.entries _ _ (told_none text a p) (told_none text b q)).0 in
       ap NotAnEntry (p.counted ∙ ap (λ (x : List Entry). length x + 1) same ∙ sym q.counted)
@@ -247,6 +253,6 @@ module _ (w : Work) where
       ap Tail (one_tail text a b p q (one_told text p.entries q.entries _ _ (told_tail text a p) (told_tail text b q)).0)
 
   pub refused_rightly : {T : Type 0} (text : List ℕ) (r : Result T AuditFault) → IfErr r (IsFault w text)
-      → IfErr r (λ fault. (s : State) (n : ℕ) → IsJournal w text s n → fault ≡ Memory)
+      → IfErr r (λ fault. (s : State) (n : ℕ) → IsJournal w text s n → IsMemory fault)
   refused_rightly text (Ok x) h = tt
   refused_rightly text (Err fault) h = λ s n j. no_fault text s n fault j h

@@ -30,7 +30,7 @@ use Rattle.sd_spelling.proofs.WordLemmas.{entry_is_line}
 use Rattle.sd_spelling.proofs.LineLemmas.{one_line}
 use Rattle.sd_audit.specs.declared.audits.AuditFault.{AuditFault}
 use Rattle.sd_audit.specs.declared.audits.AuditFault.TheVariants.{NotAnEntry, Illegal, Incomplete, Tail, Memory}
-use Rattle.sd_audit.specs.Audits.{entry_line, IsTaken, IsRefused, IsLineFault}
+use Rattle.sd_audit.specs.Audits.{entry_line, IsTaken, IsRefused, IsLineFault, IsMemory}
 use Rattle.sd_audit.proofs.ReadLemmas.{entry_line_is}
 
 module _ (w : Work) where
@@ -116,14 +116,14 @@ module _ (w : Work) (s : State) (number : ℕ) (line : List ℕ) where
       let same = one_line w e r.entry t.spelled r.spelled (t.text ∙ sym r.text) in
       subst (λ (x : Entry). (x.number ≡ number → IsStep w s x → ⊥) → ⊥) same (λ illegal. illegal t.counted t.step) r.illegal
 
-  no_line_fault : (fault : AuditFault) → IsLineFault w s number line fault → (e : Entry) → IsTaken w s number line e → fault ≡ Memory
+  no_line_fault : (fault : AuditFault) → IsLineFault w s number line fault → (e : Entry) → IsTaken w s number line e → IsMemory fault
   no_line_fault (NotAnEntry at) f e t = absurd (f.1 e t.spelled t.text)
   no_line_fault (Illegal at) f e t = absurd (no_refusal e t f.1)
   no_line_fault (Incomplete c) f e t = absurd f
   no_line_fault (Tail at) f e t = absurd f
-  no_line_fault Memory f e t = refl
+  no_line_fault (Memory at) f e t = tt
 
   pub line_refused_rightly : (r : Result Entry AuditFault) → IfErr r (IsLineFault w s number line)
-      → IfErr r (λ fault. (e : Entry) → IsTaken w s number line e → fault ≡ Memory)
+      → IfErr r (λ fault. (e : Entry) → IsTaken w s number line e → IsMemory fault)
   line_refused_rightly (Ok x) h = tt
   line_refused_rightly (Err fault) h = no_line_fault fault h

@@ -19,7 +19,7 @@ use Rattle.sd_accounts.specs.Counters.{HasTaken}
 use Rattle.sd_spelling.specs.Fitting.{IsSpelled}
 use Rattle.sd_audit.specs.declared.audits.AuditFault.{AuditFault}
 use Rattle.sd_audit.specs.declared.audits.AuditFault.TheVariants.{NotAnEntry, Illegal, Incomplete, Tail, Memory}
-use Rattle.sd_audit.specs.Audits.{entry_line, IsTaken, IsLineFault, IsFault}
+use Rattle.sd_audit.specs.Audits.{entry_line, IsTaken, IsLineFault, IsFault, IsRunSoFar}
 use Rattle.sd_audit.specs.Reading.{HasRead}
 
 -- the line of an entry is its text without the newline
@@ -38,6 +38,14 @@ read_start w text s a start none = record {
   taken = none;
   parts = λ h. refl;
 }
+
+-- what was read so far
+pub read_so_far : (w : Work) (text : List ℕ) (s : State) (a : Accounts) (number from : ℕ) → HasRead w text s a number from → IsRunSoFar w text number
+read_so_far w text s a number from r = record { entries = r.entries; rest = lines_of (drop from text); told = r.told; counted = sym r.many }
+
+-- nothing was read
+pub nothing_read : (w : Work) (text : List ℕ) → IsRunSoFar w text 0
+nothing_read w text = record { entries = []; rest = lines_of text; told = record { run = IsRun-nil w; spelled = All-nil (IsSpelled w); lines = refl }; counted = refl }
 
 pub reached : (w : Work) (text : List ℕ) (s : State) (a : Accounts) (number from : ℕ) → HasRead w text s a number from → IsReached w number s
 reached w text s a number from r = record { entries = r.entries; run = r.told.run; many = r.many; ends = sym r.ends }
@@ -105,7 +113,7 @@ module _ (w : Work) (text : List ℕ) (s : State) (a : Accounts) (number from : 
   }
   fault_next other (Incomplete cpu) f = absurd f
   fault_next other (Tail at) f = absurd f
-  fault_next other Memory f = tt
+  fault_next other (Memory at) f = record { entries = r.entries; rest = line ∷ rest; told = record { run = r.told.run; spelled = r.told.spelled; lines = told_next }; counted = f ∙ sym r.many }
 
 -- one entry more
 pub read_more : (w : Work) (text : List ℕ) (s s' : State) (a a' : Accounts) (number from end : ℕ) (line : List ℕ) (e : Entry)

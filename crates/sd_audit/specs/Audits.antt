@@ -96,12 +96,27 @@ pub record IsOtherTail (w : Work) (text : List ℕ) (number : ℕ) : Type 0 wher
   pub differs : tail ≢ tail_text w entries (final w (opening w) entries)
   pub counted : number ≡ length entries + common_lines (whole_lines tail) (whole_lines (tail_text w entries (final w (opening w) entries))) + 1
 
+-- the first lines are those of a run of so many entries: what was read when memory ran out
+pub record IsRunSoFar (w : Work) (text : List ℕ) (number : ℕ) : Type 0 where
+  pub entries : List Entry
+  pub rest : List (List ℕ)
+  pub told : TellsRun w text entries rest
+  pub counted : number ≡ length entries
+
+-- memory ran out
+abbrev pub IsMemory : AuditFault → Type 0
+IsMemory (NotAnEntry number) = ⊥
+IsMemory (Illegal number) = ⊥
+IsMemory (Incomplete c) = ⊥
+IsMemory (Tail number) = ⊥
+IsMemory (Memory number) = ⊤
+
 abbrev pub IsFault : Work → List ℕ → AuditFault → Type 0
 IsFault w text (NotAnEntry number) = IsNotAnEntry w text number
 IsFault w text (Illegal number) = IsIllegal w text number
 IsFault w text (Incomplete c) = IsIncomplete w text c
 IsFault w text (Tail number) = IsOtherTail w text number
-IsFault w text Memory = ⊤
+IsFault w text (Memory number) = IsRunSoFar w text number
 
 -- the text is the journal of a complete run of so many entries, each of which has a line of its own, and the state is the
 -- one after them
@@ -135,4 +150,4 @@ IsLineFault w s number line (NotAnEntry at) = (at ≡ number + 1) × NoEntry w l
 IsLineFault w s number line (Illegal at) = (at ≡ number) × IsRefused w s number line
 IsLineFault w s number line (Incomplete c) = ⊥
 IsLineFault w s number line (Tail at) = ⊥
-IsLineFault w s number line Memory = ⊤
+IsLineFault w s number line (Memory at) = at ≡ number

@@ -3,18 +3,18 @@
 ghost use Rattle.std.specs.Prelude.{◌≡◌, ℕ, ◌+◌, ◌<◌, ◌≤◌, ◌^◌, IfOk, IfErr, OnOk, length, drop};
 ghost use Rattle.sd_full.specs.Runs.{IsComplete};
 ghost use Rattle.sd_machine.specs.declared.states.State.{State as StateValue};
-ghost use Rattle.sd_audit.specs.declared.audits.AuditFault.TheVariants.{Memory};
-ghost use Rattle.sd_audit.specs.Audits.{IsFault, IsJournal};
+ghost use Rattle.sd_audit.specs.Audits.{IsFault, IsJournal, IsMemory};
 ghost use Rattle.sd_audit.specs.Reading.{HasRead, IsAtAccounts};
 
 use crate::complete::first_to_enter;
 use crate::differences::first_difference;
 use crate::entries::{Place, take_entries};
 use sd_accounts::Accounts;
+use sd_entry_reader::Names;
 use sd_machine::State;
 use sd_opening::opening;
 use sd_types::{CpuId, Work};
-use std::alloc::{AllocError, Global};
+use std::alloc::Global;
 
 /// Why a text is not the journal of a complete run. Lines are counted from 1, entries from 0.
 #[derive(Clone, Copy, PartialEq, Eq)]
@@ -29,16 +29,8 @@ pub enum AuditFault {
     Incomplete { cpu: CpuId },
     /// The run is complete, and in this line what stands from `accounts` on differs first from what its journal has there.
     Tail { line: u32 },
-    /// Out of memory.
-    Memory,
-}
-
-impl From<AllocError> for AuditFault {
-    ghost from_gives = { λ _ e. e ≡ Memory };
-
-    fn from(_error: AllocError) -> AuditFault {
-        AuditFault::Memory
-    }
+    /// Out of memory behind this many entries, which the first lines tell and which are a run.
+    Memory { number: u64 },
 }
 
 /// Judges what stands from the line `accounts` on.
@@ -59,7 +51,9 @@ fn check_tail(
     ensures fault { IfErr result (IsFault work.now text.now) }
 {
     let mut tail = Vec::new(alloc);
-    accounts.write_accounts(alloc, work, s, &mut tail)?;
+    let Ok(()) = accounts.write_accounts(alloc, work, s, &mut tail) else {
+        return Err(AuditFault::Memory { number: at.number });
+    };
     match first_difference(&text[at.from..], &tail) {
         Some(newlines) => Err(AuditFault::Tail {
             line: at.number as u32 + newlines as u32 + 1,
@@ -91,25 +85,33 @@ fn check_rest(
 }
 
 // Reads the text once, from the initial state on.
-fn judge(alloc: Global, work: &Work, text: &[u8]) -> Result<(State, u64), AuditFault>
+fn judge(alloc: Global, names: &Names<'_>, text: &[u8]) -> Result<(State, u64), AuditFault>
     requires { length text.now < 2 ^ 31 }
-    ensures journal { IfOk result (λ found. IsJournal work.now text.now found.0 found.1) }
-    ensures fault { IfErr result (IsFault work.now text.now) }
+    ensures journal { IfOk result (λ found. IsJournal names.now.work.now text.now found.0 found.1) }
+    ensures fault { IfErr result (IsFault names.now.work.now text.now) }
 {
-    let mut s = opening(alloc, work)?;
-    let mut accounts = Accounts::new(alloc, work)?;
-    let at = take_entries(alloc, work, &mut s, &mut accounts, text)?;
+    let work = names.work;
+    let Ok(mut s) = opening(alloc, work) else {
+        return Err(AuditFault::Memory { number: 0 });
+    };
+    let Ok(mut accounts) = Accounts::new(alloc, work) else {
+        return Err(AuditFault::Memory { number: 0 });
+    };
+    let at = take_entries(alloc, names, &mut s, &mut accounts, text)?;
     check_rest(alloc, work, &s, &accounts, text, at)?;
     Ok((s, at.number))
 }
 
 /// The final state and the number of entries of the complete run whose journal the text is, or what is first at fault. A
-/// text that is such a journal is refused only where memory runs out.
+/// text that is such a journal is refused only where memory runs out, and memory runs out only behind lines that tell a run.
 pub fn audit(alloc: Global, work: &Work, text: &[u8]) -> Result<(State, u64), AuditFault>
     requires { length text.now < 2 ^ 31 }
     ensures journal { IfOk result (λ found. IsJournal work.now text.now found.0 found.1) }
     ensures fault { IfErr result (IsFault work.now text.now) }
-    ensures exact { IfErr result (λ fault. (s : StateValue) (n : ℕ) → IsJournal work.now text.now s n → fault ≡ Memory) }
+    ensures exact { IfErr result (λ fault. (s : StateValue) (n : ℕ) → IsJournal work.now text.now s n → IsMemory fault) }
 {
-    judge(alloc, work, text)
+    let Ok(names) = Names::new(alloc, work) else {
+        return Err(AuditFault::Memory { number: 0 });
+    };
+    judge(alloc, &names, text)
 }

@@ -9,9 +9,9 @@ ghost use Rattle.sd_audit.specs.Reading.{HasRead, IsAtAccounts};
 use crate::audits::AuditFault;
 use crate::lines::{is_accounts, take_line};
 use sd_accounts::Accounts;
+use sd_entry_reader::Names;
 use sd_machine::State;
 use sd_text::next_line;
-use sd_types::Work;
 use std::alloc::Global;
 
 /// How many entries were read, and where the line `accounts` begins.
@@ -24,18 +24,18 @@ pub struct Place {
 /// Reads the lines before `accounts`, and makes their entries on the initial state.
 pub fn take_entries(
     alloc: Global,
-    work: &Work,
+    names: &Names<'_>,
     s: &mut State,
     accounts: &mut Accounts,
     text: &[u8],
 ) -> Result<Place, AuditFault>
     requires text { length text.now < 2 ^ 31 }
-    requires start { s.old ≡ opening work.now }
-    requires none { HasTaken work.now [] accounts.old }
-    ensures read { IfOk result (λ at. HasRead work.now text.now s.new accounts.new at.number at.from) }
+    requires start { s.old ≡ opening names.now.work.now }
+    requires none { HasTaken names.now.work.now [] accounts.old }
+    ensures read { IfOk result (λ at. HasRead names.now.work.now text.now s.new accounts.new at.number at.from) }
     ensures accounts { IfOk result (λ at. IsAtAccounts text.now at.from) }
     ensures bound { IfOk result (λ at. at.number ≤ at.from) }
-    ensures fault { IfErr result (IsFault work.now text.now) }
+    ensures fault { IfErr result (IsFault names.now.work.now text.now) }
 {
     let mut at = Place { number: 0, from: 0 };
     'lines: while let Some((start, end)) = next_line(text, at.from) {
@@ -43,7 +43,7 @@ pub fn take_entries(
         if is_accounts(line) {
             return Ok(at);
         }
-        let entry = take_line(alloc, work, s, line, at.number)?;
+        let entry = take_line(alloc, names, s, line, at.number)?;
         accounts.add(&entry);
         at = Place {
             number: at.number + 1,

@@ -4,16 +4,15 @@ ghost use Rattle.std.specs.Prelude.{◌≡◌, ℕ, List};
 ghost use Rattle.sd_types.specs.declared.works.Work.{Work};
 ghost use Rattle.sd_machine.specs.declared.states.State.{State};
 ghost use Rattle.sd_audit.specs.declared.audits.AuditFault.{AuditFault};
-ghost use Rattle.sd_audit.specs.declared.audits.AuditFault.TheVariants.{Memory};
-ghost use Rattle.sd_audit.specs.Audits.{IsFault, IsJournal};
+ghost use Rattle.sd_audit.specs.Audits.{IsFault, IsJournal, IsMemory};
 
 /// A text that is the journal of a complete run has no fault but want of memory, and it is the journal of one run alone.
 pub fn journals_have_no_fault()
-    ensures fault { (w : Work) (text : List ℕ) (s : State) (n : ℕ) (fault : AuditFault) → IsJournal w text s n → IsFault w text fault → fault ≡ Memory }
+    ensures fault { (w : Work) (text : List ℕ) (s : State) (n : ℕ) (fault : AuditFault) → IsJournal w text s n → IsFault w text fault → IsMemory fault }
     ensures one { (w : Work) (text : List ℕ) (s t : State) (n m : ℕ) → IsJournal w text s n → IsJournal w text t m → (s ≡ t) × (n ≡ m) }
 {}
 
 /// A text has one fault alone, but for want of memory.
 pub fn texts_have_one_fault()
-    ensures { (w : Work) (text : List ℕ) (f g : AuditFault) → IsFault w text f → IsFault w text g → (f ≡ Memory → ⊥) → (g ≡ Memory → ⊥) → f ≡ g }
+    ensures { (w : Work) (text : List ℕ) (f g : AuditFault) → IsFault w text f → IsFault w text g → (IsMemory f → ⊥) → (IsMemory g → ⊥) → f ≡ g }
 {}

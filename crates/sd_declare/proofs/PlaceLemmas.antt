@@ -1,5 +1,5 @@
 -- Lists of what is kept, read as plain data.
-use Rattle.std.proofs.Common.{◌≡◌, ℕ, ◌+◌, ◌<◌, ◌≤◌, Bool, true, false, not, ◌&&◌, ◌||◌, cond, ltb, leb, List, [], ◌∷◌, length, map, drop, get_or, Some, None, unwrap_or, refl, sym, ap, ◌∙◌, arith}
+use Rattle.std.proofs.Common.{◌≡◌, ℕ, suc, ◌+◌, ◌<◌, ◌≤◌, Bool, true, false, not, ◌&&◌, ◌||◌, cond, ltb, leb, List, [], ◌∷◌, length, map, drop, get_or, Some, None, unwrap_or, refl, sym, ap, ◌∙◌, arith}
 use Rattle.std.specs.List.{position, position_or_len, list_any, sum_by, slice_get, All}
 use Rattle.std.specs.Prelude.{nat_eq}
 use Rattle.std.specs.Option.{option_map}
@@ -10,7 +10,8 @@ use Rattle.std.proofs.lemmas.Option.{slice_get-map}
 use Rattle.std.proofs.lemmas.Bool.{false≢true}
 use Rattle.std.proofs.lemmas.List.Elements.{All-cons}
 use Rattle.std.proofs.lemmas.Bool.Decides.{nat_tests}
-use Rattle.sd_types.specs.Works.{is_distinct}
+use Rattle.sd_types.specs.Works.{is_distinct, same_bytes}
+use Rattle.sd_names.proofs.PlaceLemmas.{place-map, position-map, any-map}
 
 chosen : (b : Bool) (n m : ℕ) → (b ≡ false → n ≡ m) → unwrap_or (cond b (Some n) None) m ≡ n
 chosen true n m h = refl
@@ -21,13 +22,20 @@ or_length : {A : Type 0} (p : A → Bool) (xs : List A) → unwrap_or (position 
 or_length p xs =
     chosen (ltb (position_or_len p xs) (length xs)) _ _ (λ past. let le = prefix_len-le-length (λ x. not (p x)) xs in grind (arith, nat_tests))
 
-place-map : {A B : Type 0} (f : A → B) (p : B → Bool) (xs : List A) → position_or_len p (map f xs) ≡ position_or_len (λ x. p (f x)) xs
-place-map f p [] = refl
-place-map f p (x ∷ xs) = ap (λ n. cond (not (p (f x))) (1 + n) 0) (place-map f p xs)
-
 -- the place of the first that passes, among what is shown of a list
 pub place_kept : {A B : Type 0} (f : A → B) (p : B → Bool) (xs : List A) → unwrap_or (position (λ x. p (f x)) xs) (length xs) ≡ position_or_len p (map f xs)
 place_kept f p xs = or_length (λ x. p (f x)) xs ∙ sym (place-map f p xs)
+
+placed : (b : Bool) (n m : ℕ) → ltb (cond (not b) (1 + n) 0) (suc m) ≡ false → (b ≡ false) × (ltb n m ≡ false)
+placed true n m h = absurd (grind (arith, nat_tests))
+placed false n m h = (refl, grind (arith, nat_tests))
+
+-- none passes where the first that passes stands past the end
+pub none-placed : {X : Type 0} (p : X → Bool) (xs : List X) → ltb (position_or_len p xs) (length xs) ≡ false → list_any p xs ≡ false
+none-placed p [] h = refl
+none-placed p (x ∷ xs) h =
+    let q = placed (p x) (position_or_len p xs) (length xs) h in
+    rw (q.0) (none-placed p xs q.1)
 
 pub place_within : {A B : Type 0} (f : A → B) (p : B → Bool) (xs : List A) → unwrap_or (position (λ x. p (f x)) xs) (length xs) ≤ length xs
 place_within f p xs = let e = or_length (λ x. p (f x)) xs in let le = prefix_len-le-length (λ x. not (p (f x))) xs in omega (arith, e, le)
@@ -63,3 +71,25 @@ all-below n (c ∷ cs) h most =
     neither : (a b : Bool) → (a || b) ≡ false → (a ≡ false) × (b ≡ false)
     neither true b e = absurd (false≢true (sym e))
     neither false b e = (refl, e)
+
+-- Names that are listed beside what is kept.
+module _ {A B : Type 0} (kept : A → B) (name : B → List ℕ) (xs : List A) (word : List ℕ) where
+  -- the number of a name is that of the first with the name
+  pub number-named : unwrap_or (position (λ n. same_bytes n word) (map (λ x. name (kept x)) xs)) (length xs) ≡ position_or_len (λ y. same_bytes (name y) word) (map kept xs)
+  number-named =
+      ap (λ o. unwrap_or o (length xs)) (position-map (λ x. name (kept x)) (λ n. same_bytes n word) xs)
+      ∙ place_kept kept (λ y. same_bytes (name y) word) xs
+
+  pub number-within : unwrap_or (position (λ n. same_bytes n word) (map (λ x. name (kept x)) xs)) (length xs) ≤ length xs
+  number-within =
+      let e = ap (λ o. unwrap_or o (length xs)) (position-map (λ x. name (kept x)) (λ n. same_bytes n word) xs) in
+      let le = place_within kept (λ y. same_bytes (name y) word) xs in
+      omega (arith, e, le)
+
+  -- a name is not listed where nothing that is kept has it
+  pub not-named : ltb (position_or_len (λ y. same_bytes (name y) word) (map kept xs)) (length (map kept xs)) ≡ false
+      → list_any (λ n. same_bytes n word) (map (λ x. name (kept x)) xs) ≡ false
+  not-named h =
+      any-map (λ x. name (kept x)) (λ n. same_bytes n word) xs
+      ∙ any_kept kept (λ y. same_bytes (name y) word) xs
+      ∙ none-placed (λ y. same_bytes (name y) word) (map kept xs) h

@@ -45,7 +45,7 @@ declarations d = record {
   locks = map lock_kept d.locks.items;
   chans = map chan_kept d.chans.items;
   threads = map thread_kept d.threads.items;
-  scripted = d.scripted.items;
+  scripted = d.scripted;
 }
 
 -- a refusal names the cause, or says that memory ran out, which it does only where there is no cause

@@ -1,12 +1,15 @@
 //! What the lines so far declare.
 
-ghost use Rattle.std.specs.Prelude.{◌≡◌, ◌<◌, ◌≤◌, ◌^◌, length, sum_by, unwrap_or, option_map};
+ghost use Rattle.std.specs.Prelude.{◌≡◌, ◌<◌, ◌≤◌, ◌^◌, length, map, sum_by, unwrap_or, option_map};
 
-use sd_types::{ChanKind, CpuId, List, LockKind, Name, ThreadDecl, ThreadId};
+use crate::scripted::Scripted;
+use sd_names::NameIndex;
+use sd_types::{ChanKind, CpuId, List, LockKind, Name, ThreadDecl};
 use std::alloc::Global;
 
 /// What the lines so far declare: the settings, where a line gives them; the sets, locks, channels and threads in the
-/// order of their lines; the texts of the tables' blocks; and the threads that have been given a script.
+/// order of their lines, with the names of the last three to find them by; the texts of the tables' blocks; and the
+/// threads that have been given a script. The sets are eight at most, and sought from the first.
 #[derive(Drop)]
 pub struct Declared {
     pub cpus: Option<u16>,
@@ -19,7 +22,13 @@ pub struct Declared {
     pub locks: Vec<(Name, LockKind)>,
     pub chans: Vec<(Name, ChanKind)>,
     pub threads: Vec<ThreadDecl>,
-    pub scripted: Vec<ThreadId>,
+    pub scripted: Scripted,
+    pub lock_names: NameIndex,
+    pub chan_names: NameIndex,
+    pub thread_names: NameIndex,
+    ghost locks_named: { lock_names ≡ map (λ l. l.0.text.items) locks.items },
+    ghost chans_named: { chan_names ≡ map (λ k. k.0.text.items) chans.items },
+    ghost threads_named: { thread_names ≡ map (λ t. t.name.text.items) threads.items },
     ghost ts_short: { unwrap_or (option_map (λ t. length t.items) ts) 0 < 2 ^ 31 },
     ghost fx_short: { unwrap_or (option_map (λ t. length t.items) fx) 0 < 2 ^ 31 },
     ghost rt_short: { unwrap_or (option_map (λ t. length t.items) rt) 0 < 2 ^ 31 },
@@ -51,7 +60,10 @@ impl Declared {
             locks: Vec::new(alloc),
             chans: Vec::new(alloc),
             threads: Vec::new(alloc),
-            scripted: Vec::new(alloc),
+            scripted: Scripted::new(alloc),
+            lock_names: NameIndex::new(alloc),
+            chan_names: NameIndex::new(alloc),
+            thread_names: NameIndex::new(alloc),
         }
     }
 }

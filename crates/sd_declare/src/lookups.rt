@@ -21,33 +21,13 @@ pub fn cpu_count(d: &Declared) -> u16
     d.cpus.unwrap_or(1)
 }
 
-// The place of the first lock with the name.
-fn lock_at(locks: &[(Name, LockKind)], name: &Name) -> Option<usize>
-    ensures value { result ≡ position (λ x. same_bytes x.0.text.items (word_of name.now)) locks.now }
-    ensures bound { IfSome result (λ n. n < length locks.now) }
-{
-    locks
-        .iter()
-        .position(|lock| is_word(lock.0.bytes(), name.bytes()))
-}
-
 /// The number of the first lock with the name, or of the locks where none has it.
 #[tactic(auto, unfolding(crate::specs::Declarations::lock_number))]
 pub fn lock_number(d: &Declared, name: &Name) -> usize
     ensures value { result ≡ lock_number (declarations d.now) (word_of name.now) }
     ensures bound { result ≤ length d.now.locks.items }
 {
-    lock_at(&d.locks, name).unwrap_or(d.locks.len())
-}
-
-// The place of the first chan with the name.
-fn chan_at(chans: &[(Name, ChanKind)], name: &Name) -> Option<usize>
-    ensures value { result ≡ position (λ x. same_bytes x.0.text.items (word_of name.now)) chans.now }
-    ensures bound { IfSome result (λ n. n < length chans.now) }
-{
-    chans
-        .iter()
-        .position(|chan| is_word(chan.0.bytes(), name.bytes()))
+    d.lock_names.find(name.bytes()).unwrap_or(d.locks.len())
 }
 
 /// The number of the first channel with the name, or of the channels where none has it.
@@ -56,7 +36,7 @@ pub fn chan_number(d: &Declared, name: &Name) -> usize
     ensures value { result ≡ chan_number (declarations d.now) (word_of name.now) }
     ensures bound { result ≤ length d.now.chans.items }
 {
-    chan_at(&d.chans, name).unwrap_or(d.chans.len())
+    d.chan_names.find(name.bytes()).unwrap_or(d.chans.len())
 }
 
 // The place of the first set with the name.
@@ -77,23 +57,13 @@ pub fn set_place(d: &Declared, name: &Name) -> usize
     set_at(&d.sets, name).unwrap_or(d.sets.len())
 }
 
-// The place of the first thread with the name.
-fn thread_at(threads: &[ThreadDecl], name: &Name) -> Option<usize>
-    ensures value { result ≡ position (λ x. same_bytes x.name.text.items (word_of name.now)) threads.now }
-    ensures bound { IfSome result (λ n. n < length threads.now) }
-{
-    threads
-        .iter()
-        .position(|thread| is_word(thread.name.bytes(), name.bytes()))
-}
-
 /// The number of the first thread with the name, or of the threads where none has it.
 #[tactic(auto, unfolding(crate::specs::Declarations::thread_number))]
 pub fn thread_number(d: &Declared, name: &Name) -> usize
     ensures value { result ≡ thread_number (declarations d.now) (word_of name.now) }
     ensures bound { result ≤ length d.now.threads.items }
 {
-    thread_at(&d.threads, name).unwrap_or(d.threads.len())
+    d.thread_names.find(name.bytes()).unwrap_or(d.threads.len())
 }
 
 // The number as it stands in operations.

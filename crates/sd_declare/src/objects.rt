@@ -1,23 +1,38 @@
 //! Locks, channels and threads.
 
-ghost use Rattle.std.specs.Prelude.{◌≡◌, [], None, Some, OnErr, OnOk, IfErr};
+ghost use Rattle.std.specs.Prelude.{◌≡◌, ◌<◌, [], ◌∷◌, ◌++◌, false, length, None, Some, OnErr, OnOk, IfErr};
 ghost use Rattle.sd_lines.specs.Said.{word_of, thread_said};
 ghost use Rattle.sd_declare.specs.Causes.{least};
 ghost use Rattle.sd_declare.specs.Statements.{lock_causes, chan_causes, sema_causes, thread_causes, with_lock, with_chan, with_thread};
-ghost use Rattle.sd_declare.specs.Kept.{declarations, IsRefusal};
+ghost use Rattle.sd_declare.specs.Declarations.{is_chan_name, is_lock_name, is_thread_name};
+ghost use Rattle.sd_declare.specs.Kept.{declarations, thread_kept, IsRefusal};
 
 use crate::classes::{cpupri_of, is_class, parms_of};
 use crate::lookups::{chan_number, lock_number, set_of, thread_number};
 use crate::{Declared, Refusal, WorkCause};
 use sd_lines::ThreadLine;
 use sd_types::{ChanKind, List, LockKind, Name, Script, ThreadDecl};
-use std::alloc::Global;
+use std::alloc::{AllocError, Global};
 
 /// The most locks, and the most channels (this project's own).
 const MOST_OBJECTS: usize = 256;
 
 /// The most threads (this project's own).
 const MOST_THREADS: usize = 2048;
+
+// Declares a lock.
+fn put_lock(d: &mut Declared, name: Name, kind: LockKind) -> Result<(), AllocError>
+    requires new { is_lock_name (declarations d.old) (word_of name) ≡ false }
+    requires room { length d.old.locks.items < 256 }
+    ensures ok { OnOk result (declarations d.new ≡ with_lock (declarations d.old) kind (word_of name)) }
+    ensures err { OnErr result (declarations d.new ≡ declarations d.old) }
+{
+    d.locks.reserve(1)?;
+    d.lock_names.push(name.bytes())?;
+    // there is room
+    let _ = d.locks.push((name, kind));
+    Ok(())
+}
 
 /// `mutex NAME` or `rwlock NAME`.
 pub fn take_lock(d: &mut Declared, kind: LockKind, name: Name) -> Result<(), Refusal>
@@ -32,7 +47,21 @@ pub fn take_lock(d: &mut Declared, kind: LockKind, name: Name) -> Result<(), Ref
     if MOST_OBJECTS <= d.locks.len() {
         return Err(Refusal::Cause(WorkCause::Limits));
     }
-    d.locks.push((name, kind))?;
+    put_lock(d, name, kind)?;
+    Ok(())
+}
+
+// Declares a channel.
+fn put_chan(d: &mut Declared, name: Name, kind: ChanKind) -> Result<(), AllocError>
+    requires new { is_chan_name (declarations d.old) (word_of name) ≡ false }
+    requires room { length d.old.chans.items < 256 }
+    ensures ok { OnOk result (declarations d.new ≡ with_chan (declarations d.old) kind (word_of name)) }
+    ensures err { OnErr result (declarations d.new ≡ declarations d.old) }
+{
+    d.chans.reserve(1)?;
+    d.chan_names.push(name.bytes())?;
+    // there is room
+    let _ = d.chans.push((name, kind));
     Ok(())
 }
 
@@ -49,7 +78,7 @@ pub fn take_chan(d: &mut Declared, name: Name) -> Result<(), Refusal>
     if MOST_OBJECTS <= d.chans.len() {
         return Err(Refusal::Cause(WorkCause::Limits));
     }
-    d.chans.push((name, ChanKind::Chan))?;
+    put_chan(d, name, ChanKind::Chan)?;
     Ok(())
 }
 
@@ -70,7 +99,7 @@ pub fn take_sema(d: &mut Declared, name: Name, count: u64) -> Result<(), Refusal
         return Err(Refusal::Cause(WorkCause::Limits));
     }
     let count = count as u16;
-    d.chans.push((name, ChanKind::Sema { count }))?;
+    put_chan(d, name, ChanKind::Sema { count })?;
     Ok(())
 }
 
@@ -79,6 +108,20 @@ fn no_script(alloc: Global) -> Script
     ensures { result.ops ≡ [] }
 {
     Script::from_ops(List::from_vec(Vec::new(alloc)))
+}
+
+// Declares a thread.
+fn put_thread(d: &mut Declared, thread: ThreadDecl) -> Result<(), AllocError>
+    requires new { is_thread_name (declarations d.old) (word_of thread.name) ≡ false }
+    requires room { length d.old.threads.items < 2048 }
+    ensures ok { OnOk result (declarations d.new ≡ record (declarations d.old) { threads = (declarations d.old).threads ++ thread_kept thread ∷ [] }) }
+    ensures err { OnErr result (declarations d.new ≡ declarations d.old) }
+{
+    d.threads.reserve(1)?;
+    d.thread_names.push(thread.name.bytes())?;
+    // there is room
+    let _ = d.threads.push(thread);
+    Ok(())
 }
 
 /// `thread NAME CLASS ..`.
@@ -98,7 +141,7 @@ pub fn take_thread(alloc: Global, d: &mut Declared, line: ThreadLine) -> Result<
     if MOST_THREADS <= d.threads.len() {
         return Err(Refusal::Cause(WorkCause::Limits));
     }
-    d.threads.push(ThreadDecl {
+    let thread = ThreadDecl {
         name: line.name,
         class: parms_of(line.class),
         cpupri: cpupri_of(line.class),
@@ -106,6 +149,7 @@ pub fn take_thread(alloc: Global, d: &mut Declared, line: ThreadLine) -> Result<
         privileged: line.options.privileged,
         set,
         script: no_script(alloc),
-    })?;
+    };
+    put_thread(d, thread)?;
     Ok(())
 }

@@ -1,7 +1,6 @@
 //! The lines outside blocks: judged, and taken.
 
-ghost use Rattle.std.specs.Prelude.{◌≡◌, ◌<◌, ◌==◌, length, None, Some, OnErr, OnOk, IfOk, IfErr};
-ghost use Rattle.std.specs.List.{list_any};
+ghost use Rattle.std.specs.Prelude.{◌≡◌, ◌<◌, length, None, Some, OnErr, OnOk, IfOk, IfErr};
 ghost use Rattle.sd_lines.specs.Said.{word_of, statement_said};
 ghost use Rattle.sd_declare.specs.Causes.{least};
 ghost use Rattle.sd_declare.specs.Declarations.{thread_id};
@@ -48,13 +47,6 @@ fn judge_table(d: &Declared, class: TableClass) -> Result<(), WorkCause>
     Ok(())
 }
 
-// Whether the thread has been given a script.
-fn is_scripted(scripted: &[ThreadId], thread: ThreadId) -> bool
-    ensures { result ≡ list_any (λ t. t.0 == thread.0) scripted.now }
-{
-    scripted.iter().any(|other| other.0 == thread.0)
-}
-
 // `script NAME`: the thread whose script begins.
 fn judge_script(d: &Declared, name: &Name) -> Result<ThreadId, WorkCause>
     ensures ok { OnOk result (least (script_causes (declarations d.now) (word_of name.now)) ≡ None) }
@@ -63,7 +55,7 @@ fn judge_script(d: &Declared, name: &Name) -> Result<ThreadId, WorkCause>
     ensures within { IfOk result (λ thread. thread.0 < length d.now.threads.items) }
 {
     let thread = thread_of(d, name)?;
-    if is_scripted(&d.scripted, thread) {
+    if d.scripted.contains(thread) {
         return Err(WorkCause::Twice);
     }
     Ok(thread)

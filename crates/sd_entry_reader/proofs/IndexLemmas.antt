@@ -1,9 +1,14 @@
--- The index that was found, or else the length; and words further on.
-use Rattle.std.proofs.Common.{◌≡◌, ℕ, zero, suc, ◌-◌, ◌<◌, ◌≤◌, Bool, true, false, not, cond, ltb, List, [], ◌∷◌, length, get_or, Some, None, position, refl, ap, arith}
+-- The index that was found, or else the length; words further on; names that differ.
+use Rattle.std.proofs.Common.{◌≡◌, ℕ, zero, suc, ◌+◌, ◌-◌, ◌<◌, ◌≤◌, Bool, true, false, not, ◌&&◌, ◌||◌, cond, ltb, List, [], ◌∷◌, ◌++◌, length, map, take, drop, get_or, Some, None, position, refl, sym, ap, ◌∙◌, arith}
 use Rattle.std.specs.Prelude.{unwrap_or}
-use Rattle.std.specs.List.{position_or_len}
+use Rattle.std.specs.List.{position_or_len, list_any}
 use Rattle.std.proofs.lemmas.Bool.Decides.{nat_tests}
+use Rattle.std.proofs.lemmas.Bool.{false≢true}
+use Rattle.std.proofs.lemmas.List.{drop_more, map-append, take-append-drop, take_more}
+use Rattle.std.proofs.lemmas.List.Folds.{list_any-append}
 use Rattle.std.proofs.lemmas.List.Sums.{prefix_len-le-length}
+use Rattle.sd_types.specs.Works.{is_distinct, same_bytes}
+use Rattle.sd_names.proofs.PlaceLemmas.{position-map}
 
 module _ {X : Type 0} (p : X → Bool) (xs : List X) where
   pub index_or_len : unwrap_or (position p xs) (length xs) ≡ position_or_len p xs
@@ -18,6 +23,53 @@ module _ {X : Type 0} (p : X → Bool) (xs : List X) where
   pub index_within : position_or_len p xs ≤ length xs
   index_within = prefix_len-le-length (λ x. not (p x)) xs
 
+-- the number of a name is that of the first with the name
+module _ {X : Type 0} (name : X → List ℕ) (xs : List X) (word : List ℕ) where
+  pub number-named : unwrap_or (position (λ n. same_bytes n word) (map name xs)) (length xs) ≡ position_or_len (λ x. same_bytes (name x) word) xs
+  number-named =
+      ap (λ o. unwrap_or o (length xs)) (position-map name (λ n. same_bytes n word) xs)
+      ∙ index_or_len (λ x. same_bytes (name x) word) xs
+
 pub word_next : (x : List ℕ) (ws : List (List ℕ)) (k : ℕ) → 0 < k → get_or (x ∷ ws) k [] ≡ get_or ws (k - 1) []
 word_next x ws zero some = absurd (omega arith)
 word_next x ws (suc k) some = let e : k ≡ suc k - 1 = omega arith in ap (λ j. get_or ws j []) e
+
+-- ---- names that differ, one after another
+
+neither : (a b : Bool) → (a || b) ≡ false → (a ≡ false) × (b ≡ false)
+neither true b h = absurd (false≢true (sym h))
+neither false b h = (refl, h)
+
+both : (a b : Bool) → (a && b) ≡ true → (a ≡ true) × (b ≡ true)
+both true b h = (refl, h)
+both false b h = absurd (false≢true h)
+
+not-true : (a : Bool) → not a ≡ true → a ≡ false
+not-true true h = absurd (false≢true h)
+not-true false h = refl
+
+-- an element is none of those in front of it
+distinct-before : {X : Type 0} (same : X → X → Bool) (ys : List X) (z : X) (zs : List X) → is_distinct same (ys ++ z ∷ zs) ≡ true → list_any (λ y. same y z) ys ≡ false
+distinct-before same [] z zs h = refl
+distinct-before same (y ∷ ys) z zs h =
+    let p = both (not (list_any (same y) (ys ++ z ∷ zs))) (is_distinct same (ys ++ z ∷ zs)) h in
+    let none = sym (list_any-append (same y) ys (z ∷ zs)) ∙ not-true _ p.0 in
+    let q = neither (list_any (same y) ys) (same y z || list_any (same y) zs) none in
+    let r = neither (same y z) (list_any (same y) zs) q.1 in
+    rw (r.0) (distinct-before same ys z zs p.1)
+
+module _ {X : Type 0} (name : X → List ℕ) (xs : List X) (i : ℕ) (x : X) (inside : i < length xs) (is : x ≡ get_or xs i x) where
+  split-named : map name xs ≡ map name (take i xs) ++ name x ∷ map name (drop (i + 1) xs)
+  split-named =
+      ap (map name) (sym (take-append-drop i xs) ∙ ap (λ l. take i xs ++ l) (drop_more xs i x inside ∙ ap (λ y. y ∷ drop (i + 1) xs) (sym is)))
+      ∙ map-append name (take i xs) (x ∷ drop (i + 1) xs)
+
+  pub name-new : is_distinct same_bytes (map name xs) ≡ true → list_any (λ n. same_bytes n (name x)) (map name (take i xs)) ≡ false
+  name-new h =
+      distinct-before same_bytes (map name (take i xs)) (name x) (map name (drop (i + 1) xs))
+      (sym (ap (is_distinct same_bytes) split-named) ∙ h)
+
+  pub named-more : map name (take (i + 1) xs) ≡ map name (take i xs) ++ name x ∷ []
+  named-more =
+      ap (map name) (take_more xs i x inside ∙ ap (λ y. take i xs ++ y ∷ []) (sym is))
+      ∙ map-append name (take i xs) (x ∷ [])

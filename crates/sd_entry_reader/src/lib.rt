@@ -3,9 +3,11 @@
 
 mod events;
 mod fitting;
-mod names;
+mod indexing;
+mod lookups;
 mod places;
 mod read;
 mod words;
 
+pub use indexing::Names;
 pub use read::read_entry;

@@ -7,6 +7,7 @@ ghost use Rattle.sd_full.specs.Texts.{entry_text};
 ghost use Rattle.sd_spelling.specs.Fitting.{IsSpelled, entry_fits};
 ghost use Rattle.sd_spelling.specs.Reading.{bind_len, entry_of, event_len, hints_by, is_comma, numbers_in, prio_len, put_len, woken_len};
 
+use crate::Names;
 use crate::events::event_of;
 use crate::fitting::{entry_fits, may_read};
 use crate::words::{byte_in, cpu_in, is_word, number_in, word_at};
@@ -121,10 +122,10 @@ fn hints_by(may: Option<Which>, h: &[u8], numbers: &[u8]) -> Option<Hints>
 
 // The entry of the line, where it is one's.
 #[tactic(auto, unfolding(sd_spelling::specs::Reading::entry_of))]
-fn entry_of(work: &Work, line: &[u8]) -> Entry
-    ensures { result ≡ entry_of work.now (words_of line.now) }
+fn entry_of(names: &Names<'_>, line: &[u8]) -> Entry
+    ensures { result ≡ entry_of names.now.work.now (words_of line.now) }
 {
-    let event = event_of(work, line);
+    let event = event_of(names, line);
     let i = 2 + event_len(&event);
     Entry {
         number: number_in(word_at(line, 0)),
@@ -153,11 +154,16 @@ fn is_same(text: &[u8], other: &[u8]) -> bool
 
 /// The entry that a line without its newline tells: some where the line is that of an entry whose numbers name what the
 /// workload has, and which has read numbers only where its event reads; and none exactly where it is that of no such entry.
-pub fn read_entry(alloc: Global, work: &Work, line: &[u8]) -> Result<Option<Entry>, AllocError>
-    ensures some { IfOk result (λ found. IfSome found (λ e. IsTrue (entry_fits work.now e) × (entry_text work.now e ≡ line.now ++ 10 ∷ []))) }
-    ensures none { IfOk result (λ found. IfNone found ((e : EntryValue) → IsSpelled work.now e → entry_text work.now e ≡ line.now ++ 10 ∷ [] → ⊥)) }
+pub fn read_entry(
+    alloc: Global,
+    names: &Names<'_>,
+    line: &[u8],
+) -> Result<Option<Entry>, AllocError>
+    ensures some { IfOk result (λ found. IfSome found (λ e. IsTrue (entry_fits names.now.work.now e) × (entry_text names.now.work.now e ≡ line.now ++ 10 ∷ []))) }
+    ensures none { IfOk result (λ found. IfNone found ((e : EntryValue) → IsSpelled names.now.work.now e → entry_text names.now.work.now e ≡ line.now ++ 10 ∷ [] → ⊥)) }
 {
-    let entry = entry_of(work, line);
+    let work = names.work;
+    let entry = entry_of(names, line);
     if entry_fits(work, &entry) && is_line_of(alloc, work, &entry, line)? {
         Ok(Some(entry))
     } else {

@@ -7,6 +7,7 @@ ghost use Rattle.sd_audit.specs.Audits.{IsTaken};
 ghost use Rattle.sd_gather.specs.Journals.{HasJournal, IsHistoryOf, TellsNext};
 
 use sd_audit::{AuditFault, is_accounts, take_line};
+use sd_entry_reader::Names;
 use sd_machine::State;
 use sd_opening::opening;
 use sd_stretches::History;
@@ -17,22 +18,43 @@ use std::alloc::{AllocError, Global};
 /// Makes the entry that a line of the journal tells behind `number` entries.
 fn make(
     alloc: Global,
-    work: &Work,
+    names: &Names<'_>,
     s: &mut State,
     line: &[u8],
     number: u64,
 ) -> Result<Entry, AllocError>
-    requires reached { IsReached work.now number s.old }
+    requires reached { IsReached names.now.work.now number s.old }
     requires number { number < 2 ^ 31 }
-    requires told { TellsNext work.now s.old number line.now }
-    ensures taken { IfOk result (IsTaken work.now s.old number line.now) }
-    ensures state { IfOk result (λ e. s.new ≡ after work.now s.old e.number e.cpu e.event) }
+    requires told { TellsNext names.now.work.now s.old number line.now }
+    ensures taken { IfOk result (IsTaken names.now.work.now s.old number line.now) }
+    ensures state { IfOk result (λ e. s.new ≡ after names.now.work.now s.old e.number e.cpu e.event) }
 {
-    match take_line(alloc, work, s, line, number) {
+    match take_line(alloc, names, s, line, number) {
         Ok(entry) => Ok(entry),
-        Err(AuditFault::Memory) => Err(AllocError),
+        Err(AuditFault::Memory { .. }) => Err(AllocError),
         Err(_) => unreachable!(),
     }
+}
+
+// Reads the text once, from the initial state on.
+fn gather_lines(alloc: Global, names: &Names<'_>, text: &[u8]) -> Result<History, AllocError>
+    requires text { length text.now < 2 ^ 31 }
+    requires journal { HasJournal names.now.work.now text.now }
+    ensures { IfOk result (IsHistoryOf names.now.work.now text.now) }
+{
+    let mut s = opening(alloc, names.work)?;
+    let mut history = History::new(alloc, &s)?;
+    let mut from = 0;
+    'lines: while let Some((start, end)) = next_line(text, from) {
+        let line = &text[start..end];
+        if is_accounts(line) {
+            return Ok(history);
+        }
+        let entry = make(alloc, names, &mut s, line, history.entries)?;
+        history.add(alloc, &s, &entry)?;
+        from = end + 1;
+    }
+    unreachable!()
 }
 
 /// The history of the run whose journal the text is. The text is read once.
@@ -41,17 +63,6 @@ pub fn gather(alloc: Global, work: &Work, text: &[u8]) -> Result<History, AllocE
     requires journal { HasJournal work.now text.now }
     ensures { IfOk result (IsHistoryOf work.now text.now) }
 {
-    let mut s = opening(alloc, work)?;
-    let mut history = History::new(alloc, &s)?;
-    let mut from = 0;
-    'lines: while let Some((start, end)) = next_line(text, from) {
-        let line = &text[start..end];
-        if is_accounts(line) {
-            return Ok(history);
-        }
-        let entry = make(alloc, work, &mut s, line, history.entries)?;
-        history.add(alloc, &s, &entry)?;
-        from = end + 1;
-    }
-    unreachable!()
+    let names = Names::new(alloc, work)?;
+    gather_lines(alloc, &names, text)
 }

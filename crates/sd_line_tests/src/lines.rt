@@ -1,7 +1,7 @@
 //! Lines that are of entries, and lines that are of none.
 
 use crate::given::named;
-use sd_entry_reader::read_entry;
+use sd_entry_reader::{Names, read_entry};
 use sd_event::write_entry;
 use std::test::Fail;
 
@@ -61,9 +61,10 @@ fn lines_of_entries(rt: HostRuntime) -> Result<(), Fail> {
     let Some(work) = named(alloc) else {
         return Ok(assert!(rt; false, "no work"));
     };
+    let names = Names::new(alloc, &work)?;
     for i in 0..21 {
         let line = line_of_an_entry(i);
-        let Some(entry) = read_entry(alloc, &work, line.as_bytes())? else {
+        let Some(entry) = read_entry(alloc, &names, line.as_bytes())? else {
             return Ok(assert!(rt; false, "{line}"));
         };
         let mut out = Vec::new(alloc);
@@ -81,10 +82,11 @@ fn lines_of_no_entry(rt: HostRuntime) -> Result<(), Fail> {
     let Some(work) = named(alloc) else {
         return Ok(assert!(rt; false, "no work"));
     };
+    let names = Names::new(alloc, &work)?;
     for i in 0..16 {
         let line = line_of_none(i);
         assert!(rt;
-            read_entry(alloc, &work, line.as_bytes())?.is_none(),
+            read_entry(alloc, &names, line.as_bytes())?.is_none(),
             "{line}"
         );
     }

@@ -21,6 +21,7 @@ pub record IsIllegal (w : Work) (es : List Entry) (k : ℕ) : Type 0 where
   pub illegal : ¬ (IsRun w (take (k + 1) es))
   pub no_run : ¬ (IsRun w es)
 
+-- where memory ran out, it did so before an entry was judged
 abbrev pub IsFault : Work → List Entry → ReplayFault → Type 0
 IsFault w es (Illegal k) = IsIllegal w es k
 IsFault w es Memory = ⊤

@@ -9,5 +9,5 @@ mod serial;
 mod stepping;
 
 pub use entering::can_enter;
-pub use replays::{ReplayFault, replay};
+pub use replays::{IllegalEntry, ReplayFault, replay, replay_from};
 pub use stepping::{make_entry, step};

@@ -14,12 +14,12 @@ use std::alloc::Global;
 /// The entry that makes a list of entries no run: the one at index `number` is the first that is no step, or whose
 /// number is not its index.
 #[derive(Clone, Copy, Debug, PartialEq, Eq)]
-struct Illegal {
-    number: u64,
+pub struct IllegalEntry {
+    pub number: u64,
 }
 
 /// Why no state comes of a list of entries: it is no run, since the entry at index `number` is the first that is no
-/// step, or whose number is not its index; or memory ran out.
+/// step, or whose number is not its index; or the initial state found no memory, and no entry was judged.
 #[derive(Clone, Copy, Debug, PartialEq, Eq)]
 pub enum ReplayFault {
     Illegal { number: u64 },
@@ -28,7 +28,7 @@ pub enum ReplayFault {
 
 /// Makes the entries, numbered from 0 on, on the initial state: Ok exactly where each is a step. On a refusal the state is
 /// the one before the illegal entry. It takes no memory.
-fn replay_from(work: &Work, s: &mut State, entries: &[Entry]) -> Result<(), Illegal>
+pub fn replay_from(work: &Work, s: &mut State, entries: &[Entry]) -> Result<(), IllegalEntry>
     requires start { s.old ≡ opening work.now }
     ensures run { OnOk result (IsRunFrom work.now s.old 0 entries.now) }
     ensures state { OnOk result (s.new ≡ final work.now s.old entries.now) }
@@ -37,7 +37,7 @@ fn replay_from(work: &Work, s: &mut State, entries: &[Entry]) -> Result<(), Ille
 {
     for (i, entry) in entries.iter().enumerate() {
         if entry.number != i as u64 || !step(work, s, entry) {
-            return Err(Illegal { number: i as u64 });
+            return Err(IllegalEntry { number: i as u64 });
         }
     }
     Ok(())

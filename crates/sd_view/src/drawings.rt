@@ -2,8 +2,7 @@
 
 ghost use Rattle.std.specs.Prelude.{◌≡◌, ◌++◌, ◌<◌, ◌^◌, ℕ, IfOk, IfErr, OnOk, length};
 ghost use Rattle.sd_machine.specs.declared.states.State.{State as StateValue};
-ghost use Rattle.sd_audit.specs.declared.audits.AuditFault.TheVariants.{Memory};
-ghost use Rattle.sd_audit.specs.Audits.{IsFault, IsJournal};
+ghost use Rattle.sd_audit.specs.Audits.{IsFault, IsJournal, IsMemory};
 ghost use Rattle.sd_view.specs.Drawings.{IsDrawn, drawn_text, is_part_of};
 
 use crate::frames::{frame_of, is_part};
@@ -56,6 +55,25 @@ pub fn is_part_of(work: &Work, drawing: Drawing) -> bool
     }
 }
 
+// The drawing of the run of so many entries whose journal the text is.
+fn drawn(
+    alloc: Global,
+    work: &Work,
+    text: &[u8],
+    drawing: Drawing,
+    s: &State,
+    _number: u64,
+) -> Result<Vec<u8>, AllocError>
+    requires text { length text.now < 2 ^ 31 }
+    requires journal { IsJournal work.now text.now s.now _number }
+    ensures { IfOk result (λ out. IsDrawn drawing work.now text.now out.items) }
+{
+    let history = gather(alloc, work, text)?;
+    let mut out = Vec::new(alloc);
+    write_drawing(alloc, work, drawing, &history, s, &mut out)?;
+    Ok(out)
+}
+
 /// The drawing of the run whose journal the text is; where it is no journal of a complete legal run, what is first at fault. A
 /// text that is such a journal is refused only where memory runs out.
 pub fn draw(
@@ -67,11 +85,11 @@ pub fn draw(
     requires { length text.now < 2 ^ 31 }
     ensures drawn { IfOk result (λ out. IsDrawn drawing work.now text.now out.items) }
     ensures fault { IfErr result (IsFault work.now text.now) }
-    ensures exact { IfErr result (λ fault. (s : StateValue) (n : ℕ) → IsJournal work.now text.now s n → fault ≡ Memory) }
+    ensures exact { IfErr result (λ fault. (s : StateValue) (n : ℕ) → IsJournal work.now text.now s n → IsMemory fault) }
 {
-    let (s, _entries) = audit(alloc, work, text)?;
-    let history = gather(alloc, work, text)?;
-    let mut out = Vec::new(alloc);
-    write_drawing(alloc, work, drawing, &history, &s, &mut out)?;
+    let (s, number) = audit(alloc, work, text)?;
+    let Ok(out) = drawn(alloc, work, text, drawing, &s, number) else {
+        return Err(AuditFault::Memory { number });
+    };
     Ok(out)
 }

@@ -1,5 +1,5 @@
 -- The verdict on lines, one line further on.
-use Rattle.std.proofs.Common.{◌≡◌, ℕ, ◌+◌, not, false, append-nil, ◌++◌, List, [], ◌∷◌, Some, None, refl, sym, ap, ◌∙◌, subst}
+use Rattle.std.proofs.Common.{◌≡◌, ℕ, ◌+◌, not, Option, false, append-nil, ◌++◌, List, [], ◌∷◌, Some, None, refl, sym, ap, ◌∙◌, subst, arith}
 use Rattle.std.proofs.lemmas.Bool.{false≢true}
 use Rattle.sd_types.specs.declared.scripts.Op.{Op}
 use Rattle.sd_lines.specs.Words.{Line, is_done}
@@ -9,7 +9,7 @@ use Rattle.sd_declare.specs.declared.causes.WorkCause.{WorkCause}
 use Rattle.sd_declare.specs.Declarations.{Declarations}
 use Rattle.sd_workload.specs.declared.fault.WorkFault.{WorkFault}
 use Rattle.sd_workload.specs.declared.fault.WorkFault.TheVariants.{At, Memory}
-use Rattle.sd_workload.specs.Places.{IsFault, IsFaultAt}
+use Rattle.sd_workload.specs.Places.{NoneAbove, IsFault, IsFaultAt}
 use Rattle.sd_workload.specs.Texts.{Block, Outside, ops_of, cause_of, declared_after, block_after, end_cause, Verdict, Accepts, Refuses, unless_refused, judged}
 
 pub judged-end : (n : ℕ) (d : Declarations) (b : Block) (lines : List Line) → lines ≡ []
@@ -37,17 +37,40 @@ judged-stop n d b lines below line cause is some =
     judged-line n d b lines below line is
     ∙ ap (λ o. unless_refused n o (judged (n + 1) (declared_after d b line) (block_after d b line) below)) some
 
+-- what is judged from a line on refuses none above it
+none-unless : (n : ℕ) (o : Option WorkCause) (v : Verdict) → NoneAbove n v → NoneAbove n (unless_refused n o v)
+none-unless n (Some cause) v h = omega arith
+none-unless n None v h = h
+
+none-less : (n : ℕ) (v : Verdict) → NoneAbove (n + 1) v → NoneAbove n v
+none-less n (Accepts d) h = tt
+none-less n (Refuses m cause) h = omega (arith, h)
+
+pub none-above : (n : ℕ) (d : Declarations) (b : Block) (lines : List Line) → NoneAbove n (judged n d b lines)
+unfolding judged
+none-above n d b [] = none-unless n (end_cause d b) (Accepts d) tt
+none-above n d b (line ∷ lines) =
+    none-unless n (cause_of d b line) (judged (n + 1) (declared_after d b line) (block_after d b line) lines)
+    (none-less n (judged (n + 1) (declared_after d b line) (block_after d b line) lines) (none-above (n + 1) (declared_after d b line) (block_after d b line) lines))
+
+none-at : (n line : ℕ) (d : Declarations) (b : Block) (lines : List Line) → line ≡ n → NoneAbove line (judged n d b lines)
+none-at n line d b lines at = subst (λ (k : ℕ). NoneAbove k (judged n d b lines)) (sym at) (none-above n d b lines)
+
+-- an accepted text has none at fault
+pub none-accepted : (line : ℕ) (v : Verdict) (d : Declarations) → v ≡ Accepts d → NoneAbove line v
+none-accepted line v d is = subst (NoneAbove line) (sym is) tt
+
 -- a fault on a line is the refusal of the lines from there on
 pub fault-at : (n : ℕ) (d : Declarations) (b : Block) (lines below : List Line) (line : Line) (f : WorkFault) → lines ≡ line ∷ below
     → IsFaultAt n (cause_of d b line) f → IsFault (judged n d b lines) f
 fault-at n d b lines below line (At l c) is h = judged-stop n d b lines below line c is h.1 ∙ ap (λ k. Refuses k c) (sym h.0)
-fault-at n d b lines below line Memory is h = tt
+fault-at n d b lines below line (Memory at) is h = none-at n at d b lines h
 
 -- and so is one at the end
 pub fault-end : (n : ℕ) (d : Declarations) (b : Block) (lines : List Line) (f : WorkFault) → lines ≡ [] → IsFaultAt n (end_cause d b) f → IsFault (judged n d b lines) f
 fault-end n d b lines (At l c) is h =
     judged-end n d b lines is ∙ ap (λ o. unless_refused n o (Accepts d)) h.1 ∙ ap (λ k. Refuses k c) (sym h.0)
-fault-end n d b lines Memory is h = tt
+fault-end n d b lines (Memory at) is h = none-at n at d b lines h
 
 pub fault-along : (v w : Verdict) (f : WorkFault) → v ≡ w → IsFault w f → IsFault v f
 fault-along v w f e h = subst (λ (x : Verdict). IsFault x f) (sym e) h

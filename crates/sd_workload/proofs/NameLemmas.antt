@@ -1,7 +1,7 @@
 -- Lists whose elements differ, and tests.
-use Rattle.std.proofs.Common.{◌≡◌, ℕ, suc, ◌+◌, ◌≤◌, Bool, true, false, not, ◌&&◌, ◌||◌, cond, ltb, leb, List, [], ◌∷◌, ◌++◌, length, map, Option, Some, None, refl, sym, ap, ◌∙◌, arith, append-nil, append_assoc}
+use Rattle.std.proofs.Common.{◌≡◌, ℕ, ◌≤◌, Bool, true, false, not, ◌&&◌, ◌||◌, ltb, leb, List, [], ◌∷◌, ◌++◌, length, map, Option, Some, None, refl, sym, ap, ◌∙◌, arith, append-nil, append_assoc}
 use Rattle.std.specs.Prelude.{nat_eq}
-use Rattle.std.specs.List.{list_any, list_all, position_or_len, slice_get}
+use Rattle.std.specs.List.{list_any, list_all, slice_get}
 use Rattle.std.proofs.lemmas.Bool.{false≢true}
 use Rattle.std.proofs.lemmas.Bool.Decides.{nat_tests}
 use Rattle.std.proofs.lemmas.List.{map-append}
@@ -11,7 +11,7 @@ use Rattle.sd_types.specs.Partitions.{cpu_of_number}
 use Rattle.sd_types.specs.Works.{same_bytes, same_cpu, is_distinct}
 use Rattle.sd_lines.specs.Words.{Word}
 use Rattle.sd_declare.specs.Declarations.{place}
-use Rattle.sd_declare.proofs.PlaceLemmas.{any_kept}
+use Rattle.sd_declare.proofs.PlaceLemmas.{any_kept, none-placed}
 use Rattle.sd_workload.specs.Sound.{AreNamed}
 
 pub both : (a b : Bool) → (a && b) ≡ true → (a ≡ true) × (b ≡ true)
@@ -46,17 +46,6 @@ distinct-push same (x ∷ xs) y h none =
     let p = both (not (list_any (same x) xs)) (is_distinct same xs) h in
     let q = neither (same x y) (list_any (λ z. same z y) xs) none in
     rw (any-push (same x) y xs (not-true _ p.0) q.0) (distinct-push same xs y p.1 q.1)
-
-placed : (b : Bool) (n m : ℕ) → ltb (cond (not b) (1 + n) 0) (suc m) ≡ false → (b ≡ false) × (ltb n m ≡ false)
-placed true n m h = absurd (grind (arith, nat_tests))
-placed false n m h = (refl, grind (arith, nat_tests))
-
--- none passes where the first that passes stands past the end
-pub none-placed : {X : Type 0} (p : X → Bool) (xs : List X) → ltb (position_or_len p xs) (length xs) ≡ false → list_any p xs ≡ false
-none-placed p [] h = refl
-none-placed p (x ∷ xs) h =
-    let q = placed (p x) (position_or_len p xs) (length xs) h in
-    rw (q.0) (none-placed p xs q.1)
 
 pub named-push : {X : Type 0} (xs : List (Word × X)) (name : Word) (x : X) → AreNamed xs → ltb (place name xs) (length xs) ≡ false → AreNamed (xs ++ (name, x) ∷ [])
 named-push {X} xs name x h new =

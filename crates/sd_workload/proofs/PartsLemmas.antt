@@ -1,17 +1,11 @@
 -- A workload is determined by its parts: the facts that its values keep are propositions.
-use Rattle.std.proofs.Common.{◌≡◌, ◌≤◌, ◌<◌, ◌||◌, ◌==◌, ◌*◌, ℕ, Bool, true, List, [], ◌∷◌, map, length, sym, refl, ap, ap₂, ◌∙◌}
+use Rattle.std.proofs.Common.{◌≡◌, ◌≤◌, ◌<◌, ◌||◌, ◌==◌, ◌*◌, List, [], ◌∷◌, map, length, refl, ap, ap₂}
 use Rattle.std.specs.Prelude.{IsTrue, sum_by}
 use Rattle.std.specs.List.{list_all}
 use denote.Struct.Props.{props}
 use mathlib.Core.HLevel.{is_prop→PathP}
-use Rattle.sd_types.specs.declared.numbers.CpuId.{CpuId}
-use Rattle.sd_types.specs.declared.numbers.SetId.{SetId}
 use Rattle.sd_types.specs.declared.names.Name.{Name}
-use Rattle.sd_types.specs.declared.classes.ClassParms.{ClassParms}
-use Rattle.sd_types.specs.declared.scripts.Op.{Op}
 use Rattle.sd_types.specs.declared.scripts.Script.{Script}
-use Rattle.sd_types.specs.declared.tables.TsRow.{TsRow}
-use Rattle.sd_types.specs.declared.tables.FixedRow.{FixedRow}
 use Rattle.sd_types.specs.declared.tables.TsTable.{TsTable}
 use Rattle.sd_types.specs.declared.tables.FixedTable.{FixedTable}
 use Rattle.sd_types.specs.declared.works.ThreadDecl.{ThreadDecl}

@@ -26,10 +26,10 @@ use Rattle.sd_types.specs.declared.works.ChanKind.TheVariants as chan
 use Rattle.sd_declare.specs.Causes.{least}
 use Rattle.sd_declare.specs.Declarations.{Thread, Declarations, cpu_count, lock_number, chan_number, set_place, thread_number, named_count, set_number}
 use Rattle.sd_declare.specs.Statements.{is_quantum, is_class, is_beyond, is_named, is_taken, cpus_causes, hz_causes, limit_causes, set_causes, lock_causes, chan_causes, sema_causes, thread_causes, statement_causes, quantum_of, parms_of, cpupri_of, thread_of, with_set, with_lock, with_chan, with_thread, with_statement}
-use Rattle.sd_declare.proofs.PlaceLemmas.{any_kept}
+use Rattle.sd_declare.proofs.PlaceLemmas.{none-placed, any_kept}
 use Rattle.sd_workload.specs.Sound.{named, named_cpus, set_is_sound, thread_is_sound, AreSets, IsSound}
 use Rattle.sd_workload.proofs.ClearLemmas.{clear}
-use Rattle.sd_workload.proofs.NameLemmas.{both, neither, not-false, distinct-push, distinct-more, none-placed, named-push}
+use Rattle.sd_workload.proofs.NameLemmas.{both, neither, not-false, distinct-push, distinct-more, named-push}
 use Rattle.sd_workload.proofs.NamedLemmas.{get-push, threads-more}
 
 two : (a b : Bool) → a ≡ true → b ≡ true → (a && b) ≡ true

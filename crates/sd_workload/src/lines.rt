@@ -30,7 +30,10 @@ pub fn take_line(
     if !has_words(line) {
         return Ok(Opened::Nothing);
     }
-    let Some(statement) = statement_of(alloc, line)? else {
+    let Ok(found) = statement_of(alloc, line) else {
+        return Err(WorkFault::Memory { line: number });
+    };
+    let Some(statement) = found else {
         return Err(WorkFault::At {
             line: number,
             cause: WorkCause::Syntax,

@@ -45,6 +45,6 @@ pub fn fault_at(number: u32, refusal: Refusal) -> WorkFault
             line: number,
             cause,
         },
-        Refusal::Memory => WorkFault::Memory,
+        Refusal::Memory => WorkFault::Memory { line: number },
     }
 }

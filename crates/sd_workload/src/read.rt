@@ -16,7 +16,7 @@ use crate::tables::take_table;
 use crate::works::work;
 use sd_declare::{Declared, Opened, WorkCause};
 use sd_types::{ThreadDecl, Work};
-use std::alloc::Global;
+use std::alloc::{AllocError, Global};
 
 /// The most ticks of all processors (this project's own).
 const MOST_TICKS: u64 = 200_000;
@@ -106,8 +106,8 @@ fn check_end(d: &Declared, number: u32) -> Result<u32, WorkFault>
     Ok(limit)
 }
 
-// What a text declares, and its limit.
-fn declared(alloc: Global, bytes: &[u8]) -> Result<(Declared, u32), WorkFault>
+// What a text declares, its limit, and the number of the line after the last.
+fn declared(alloc: Global, bytes: &[u8]) -> Result<(Declared, u32, u32), WorkFault>
     requires { length bytes.now < 2 ^ 31 }
     ensures ok { IfOk result (λ found. verdict_of bytes.now ≡ Accepts (declarations found.0)) }
     ensures err { IfErr result (IsFault (verdict_of bytes.now)) }
@@ -120,16 +120,19 @@ fn declared(alloc: Global, bytes: &[u8]) -> Result<(Declared, u32), WorkFault>
         at = take_lines(alloc, &mut d, bytes, line, at.number, below)?;
     }
     let limit = check_end(&d, at.number)?;
-    Ok((d, limit))
+    Ok((d, limit, at.number))
 }
 
-/// The workload that a text spells, or the first line at fault with the least of its causes. Where memory runs out on the way, the
-/// lines below are not judged, and out of memory may stand for either.
+/// The workload that a text spells, or the first line at fault with the least of its causes. Where memory runs out at a line, none
+/// above it is at fault, and the lines from it on are not judged.
 pub fn read_work(alloc: Global, bytes: &[u8]) -> Result<Work, WorkFault>
     requires { length bytes.now < 2 ^ 31 }
     ensures ok { IfOk result (Accepted bytes.now) }
     ensures err { IfErr result (IsFault (verdict_of bytes.now)) }
 {
-    let (d, limit) = declared(alloc, bytes)?;
-    Ok(work(alloc, d, limit)?)
+    let (d, limit, end) = declared(alloc, bytes)?;
+    match work(alloc, d, limit) {
+        Ok(work) => Ok(work),
+        Err(AllocError) => Err(WorkFault::Memory { line: end }),
+    }
 }

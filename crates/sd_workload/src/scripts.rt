@@ -180,6 +180,8 @@ pub fn take_script(
     ensures below { IfOk result (IsBelow bytes.now at) }
 {
     let (script, to) = script_at(alloc, d, thread, bytes, at)?;
-    set_script(d, thread, script)?;
-    Ok(to)
+    match set_script(d, thread, script) {
+        Ok(()) => Ok(to),
+        Err(AllocError) => Err(WorkFault::Memory { line: to.number }),
+    }
 }

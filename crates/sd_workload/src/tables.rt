@@ -61,58 +61,69 @@ fn block_at(alloc: Global, bytes: &[u8], at: Place) -> Result<TableBlock, AllocE
     })
 }
 
+// The same, where there is memory to keep its lines. No line above the block is at fault.
+fn kept_block(alloc: Global, bytes: &[u8], at: Place) -> Result<TableBlock, WorkFault>
+    requires text { length bytes.now < 2 ^ 31 }
+    requires number { at.number ≤ at.from + 1 }
+    requires inside { 1 ≤ at.from }
+    requires within { at.from ≤ length bytes.now + 1 }
+    ensures block { IfOk result (IsBlock bytes.now at) }
+    ensures short { IfOk result (λ block. length block.text.items < 2 ^ 31) }
+    ensures err { IfErr result (λ fault. fault ≡ WorkFault.Memory at.number) }
+{
+    match block_at(alloc, bytes, at) {
+        Ok(block) => Ok(block),
+        Err(AllocError) => Err(WorkFault::Memory { line: at.number }),
+    }
+}
+
 // The fault of the text of a time-sharing table.
-fn ts_fault(alloc: Global, text: &[u8]) -> Result<Option<TableFault>, WorkFault>
+fn ts_fault(alloc: Global, text: &[u8]) -> Option<TableFault>
     requires { length text.now < 2 ^ 31 }
-    ensures none { IfOk result (λ found. IfNone found (IsTableText ts_format text.now)) }
-    ensures some { IfOk result (λ found. IfSome found (IsTableFault ts_format text.now)) }
-    ensures err { IfErr result (λ fault. fault ≡ WorkFault.Memory) }
+    ensures none { IfNone result (IsTableText ts_format text.now) }
+    ensures some { IfSome result (IsTableFault ts_format text.now) }
 {
     match read_ts(alloc, text, 1) {
-        Ok(_) => Ok(None),
-        Err(ReadTableFault::Table(fault)) => Ok(Some(fault)),
-        Err(ReadTableFault::Memory) => Err(WorkFault::Memory),
+        Ok(_) => None,
+        Err(ReadTableFault::Table(fault)) => Some(fault),
+        // only a text without a fault finds no memory
+        Err(ReadTableFault::Memory) => None,
     }
 }
 
 // The fault of the text of a fixed-priority table.
-fn fx_fault(alloc: Global, text: &[u8]) -> Result<Option<TableFault>, WorkFault>
+fn fx_fault(alloc: Global, text: &[u8]) -> Option<TableFault>
     requires { length text.now < 2 ^ 31 }
-    ensures none { IfOk result (λ found. IfNone found (IsTableText fx_format text.now)) }
-    ensures some { IfOk result (λ found. IfSome found (IsTableFault fx_format text.now)) }
-    ensures err { IfErr result (λ fault. fault ≡ WorkFault.Memory) }
+    ensures none { IfNone result (IsTableText fx_format text.now) }
+    ensures some { IfSome result (IsTableFault fx_format text.now) }
 {
     match read_fx(alloc, text, 1) {
-        Ok(_) => Ok(None),
-        Err(ReadTableFault::Table(fault)) => Ok(Some(fault)),
-        Err(ReadTableFault::Memory) => Err(WorkFault::Memory),
+        Ok(_) => None,
+        Err(ReadTableFault::Table(fault)) => Some(fault),
+        // only a text without a fault finds no memory
+        Err(ReadTableFault::Memory) => None,
     }
 }
 
 // The fault of the text of a real-time table.
-fn rt_fault(alloc: Global, text: &[u8]) -> Result<Option<TableFault>, WorkFault>
+fn rt_fault(alloc: Global, text: &[u8]) -> Option<TableFault>
     requires { length text.now < 2 ^ 31 }
-    ensures none { IfOk result (λ found. IfNone found (IsTableText rt_format text.now)) }
-    ensures some { IfOk result (λ found. IfSome found (IsTableFault rt_format text.now)) }
-    ensures err { IfErr result (λ fault. fault ≡ WorkFault.Memory) }
+    ensures none { IfNone result (IsTableText rt_format text.now) }
+    ensures some { IfSome result (IsTableFault rt_format text.now) }
 {
     match read_rt(alloc, text, 1) {
-        Ok(_) => Ok(None),
-        Err(ReadTableFault::Table(fault)) => Ok(Some(fault)),
-        Err(ReadTableFault::Memory) => Err(WorkFault::Memory),
+        Ok(_) => None,
+        Err(ReadTableFault::Table(fault)) => Some(fault),
+        // only a text without a fault finds no memory
+        Err(ReadTableFault::Memory) => None,
     }
 }
 
 // The fault of a table's text. It does not depend on the ticks of a second.
-fn table_fault(
-    alloc: Global,
-    class: TableClass,
-    text: &[u8],
-) -> Result<Option<TableFault>, WorkFault>
+fn table_fault(alloc: Global, class: TableClass, text: &[u8]) -> Option<TableFault>
     requires { length text.now < 2 ^ 31 }
-    ensures none { IfOk result (λ found. IfNone found (IsTableText (format_of class) text.now)) }
-    ensures some { IfOk result (λ found. IfSome found (IsTableFault (format_of class) text.now)) }
-    ensures err { IfErr result (λ fault. fault ≡ WorkFault.Memory) }
+    ensures none { IfNone result (IsTableText (format_of class) text.now) }
+    ensures some { IfSome result (IsTableFault (format_of class) text.now) }
 {
     match class {
         TableClass::Ts => ts_fault(alloc, text),
@@ -188,8 +199,8 @@ pub fn take_table(
     ensures err { IfErr result (IsFault (judged_from bytes.now at (declarations d.old) (InTable class []))) }
     ensures below { IfOk result (IsBelow bytes.now at) }
 {
-    let block = block_at(alloc, bytes, at)?;
-    if let Some(fault) = table_fault(alloc, class, &block.text)? {
+    let block = kept_block(alloc, bytes, at)?;
+    if let Some(fault) = table_fault(alloc, class, &block.text) {
         let is_closed = block.below.is_some();
         return Err(block_fault(at.number, block.end, is_closed, fault));
     }

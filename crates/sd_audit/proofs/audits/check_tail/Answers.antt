@@ -11,7 +11,7 @@ returns-clause-journal c =
     let w = c.args.work.now in
     let text = c.args.text.now in
     let r = c.requires.read in
-    let written = c.in_ok-write_accounts.ensures.ok r.entries r.taken in
+    let written = c.in-Ok.ensures.ok r.entries r.taken in
     let tail : drop c.args.at.from text ≡ tail_text w r.entries c.args.s.now =
     sym (take_rest text c.args.at.from) ∙ c.in-None.ensures.none ∙ c.deref.ensures.value ∙ written
     ∙ ap (λ (l : List ℕ). l ++ tail_text w r.entries c.args.s.now) c.new-tail.ensures.items in

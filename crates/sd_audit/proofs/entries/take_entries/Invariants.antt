@@ -4,7 +4,7 @@ use Rattle.sd_audit.proofs.entries.take_entries.Given as goal
 
 abbrev pub invariant-lines : goal.invariant-lines
 invariant-lines l = record {
-  read : HasRead l.work l.text l.s l.accounts l.at.number l.at.from;
+  read : HasRead l.names.work.now l.text l.s l.accounts l.at.number l.at.from;
   within : l.at.from ≤ length l.text + 1;
   bound : l.at.number ≤ l.at.from;
 }

@@ -1,13 +1,24 @@
-use Rattle.std.proofs.Common.{arith}
+use Rattle.std.proofs.Common.{◌≡◌, ℕ, List, length, vec_len, unwrap_or, ap, ◌∙◌, arith}
+use Rattle.std.specs.List.{position}
 use Rattle.sd_types.specs.Works.{same_bytes}
+use Rattle.sd_lines.specs.Words.{Word}
 use Rattle.sd_lines.specs.Said.{word_of}
 use Rattle.sd_declare.specs.Declarations.{Thread, thread_number}
 use Rattle.sd_declare.specs.Kept.{thread_kept}
-use Rattle.sd_declare.proofs.PlaceLemmas.{place_kept}
+use Rattle.sd_declare.proofs.PlaceLemmas.{number-named, number-within}
 use Rattle.sd_declare.proofs.lookups.thread_number.Goals as goal
 
-pub returns-clause-value : goal.returns-clause-value
+pub returns : goal.returns
 unfolding thread_number
-returns-clause-value c =
-    let kept = place_kept thread_kept (λ (x : Thread). same_bytes x.name (word_of c.args.name.now)) c.args.d.now.threads.items in
-    grind (arith, kept)
+returns c =
+    let items = c.args.d.now.threads.items in
+    let word = word_of c.args.name.now in
+    let many : vec_len c.args.d.now.threads ≡ length items = grind arith in
+    let sought : List ℕ → List Word → ℕ = λ w names. unwrap_or (position (λ n. same_bytes n w) names) (length items) in
+    let found = c.unwrap_or.ensures
+    ∙ ap (λ n. unwrap_or c.find.result n) (c.len.ensures ∙ many)
+    ∙ ap (λ o. unwrap_or o (length items)) c.find.ensures.value
+    ∙ ap (λ w. sought w c.args.d.now.thread_names) c.bytes.ensures
+    ∙ ap (sought word) c.args.d.now.threads_named in
+    let within = number-within thread_kept (λ (x : Thread). x.name) items word in
+    record { value = found ∙ number-named thread_kept (λ (x : Thread). x.name) items word; bound = omega (arith, found, within) }

@@ -1,24 +1,28 @@
-use Rattle.std.proofs.Common.{List, ℕ, Option, sym, ap, ◌∙◌, subst}
-use Rattle.std.specs.Prelude.{IfSome, IfNone}
-use Rattle.sd_tables.specs.declared.fault.TableFault.{TableFault}
+use Rattle.std.proofs.Common.{List, [], ℕ, sym, ap, ◌∙◌, subst, rules}
 use Rattle.sd_tables.specs.TableText.{IsTableText, IsTableFault}
 use Rattle.sd_declare.specs.Declarations.{Declarations}
 use Rattle.sd_declare.specs.Kept.{declarations}
-use Rattle.sd_workload.specs.Places.{judged_from}
-use Rattle.sd_workload.specs.Texts.{Outside, format_of}
+use Rattle.sd_workload.specs.Places.{IsFault, judged_from, lines_from}
+use Rattle.sd_workload.specs.Texts.{Outside, InTable, format_of}
+use Rattle.sd_workload.proofs.JudgedLemmas.{none-above}
 use Rattle.sd_workload.proofs.BlockLemmas.{fault-bound, block-open, block-done, block-refused}
 use Rattle.sd_workload.proofs.tables.take_table.Goals.{In-Some, In_default}
 use Rattle.sd_workload.proofs.tables.take_table.Goals as goal
 
 faulty : (c : In-Some) → IsTableFault (format_of c.args.class) c.in_ok-block.block.text.items c.in-Some.fault
 faulty c =
-    subst (λ (text : List ℕ). IsTableFault (format_of c.args.class) text c.in-Some.fault) c.deref.ensures.value
-    (subst (λ (o : Option TableFault). IfSome o (IsTableFault (format_of c.args.class) c.deref.result.now)) c.in-Some.is c.in_ok-fault.ensures.some)
+    subst (λ (text : List ℕ). IsTableFault (format_of c.args.class) text c.in-Some.fault) c.deref.ensures.value c.in-Some.ensures.some
 
 given : (c : In_default) → IsTableText (format_of c.args.class) c.in_ok-block.block.text.items
 given c =
-    subst (IsTableText (format_of c.args.class)) c.deref.ensures.value
-    (subst (λ (o : Option TableFault). IfNone o (IsTableText (format_of c.args.class) c.deref.result.now)) c.in_default.is c.in_ok-fault.ensures.none)
+    subst (IsTableText (format_of c.args.class)) c.deref.ensures.value c.in_default.ensures.none
+
+pub returns-in_err-block-clause-err : goal.returns-in_err-block-clause-err
+returns-in_err-block-clause-err c =
+    let table = declarations c.args.d.now in
+    let none = none-above c.args.at.number table (InTable c.args.class []) (lines_from c.args.bytes.now c.args.at) in
+    let fault = subst (IsFault (judged_from c.args.bytes.now c.args.at table (InTable c.args.class []))) (sym c.in_err-block.ensures.err) none in
+    search rules
 
 pub block_fault-requires : goal.block_fault-requires
 block_fault-requires c =
