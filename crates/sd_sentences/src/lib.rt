@@ -4,11 +4,11 @@
 //! Source: Solaris Internals; the sentences are this project's own.
 #![tactic(auto)]
 
-
-
+mod locks;
+mod requests;
 mod running;
-
-
+mod sentences;
+mod sleeping;
 mod words;
 
-
+pub use sentences::put_sentence;

@@ -9,7 +9,7 @@ ghost use Rattle.sd_full.specs.Threads.{lock_of};
 ghost use Rattle.sd_sentences.specs.Running.{away_sentence, dispatch_sentence, idle_sentence, preempt_sentence, quantum_words, spin_sentence, spin_words, steal_sentence, tick_sentence};
 ghost use Rattle.sd_sentences.specs.Words.{thread_then};
 
-use crate::words::{put_count, put_cpu, put_lock, put_thread};
+use crate::words::{put_cpu, put_lock, put_priority, put_thread, put_words};
 use sd_machine::{LockState, State};
 use sd_types::{ClassState, CpuId, End, LockId, Quantum, ThreadId, Work};
 use std::alloc::AllocError;
@@ -55,7 +55,12 @@ fn quantum_words_of(s: &State, t: ThreadId) -> &'static [u8]
     }
 }
 
-#[tactic(auto, unfolding(crate::specs::Running::tick_sentence))]
+fn put_quantum_words(s: &State, t: ThreadId, out: &mut Vec<u8>) -> Result<(), AllocError>
+    ensures { OnOk result (out.new.items ≡ out.old.items ++ quantum_words (thread_of s.now t.0).body.class) }
+{
+    put_words(quantum_words_of(s, t), out)
+}
+
 pub(crate) fn put_tick(
     work: &Work,
     s: &State,
@@ -65,20 +70,24 @@ pub(crate) fn put_tick(
     ensures { OnOk result (out.new.items ≡ out.old.items ++ tick_sentence work.now s.now t) }
 {
     put_thread(work, t, b" runs for a tick", out)?;
-    out.extend_from_slice(quantum_words_of(s, t))
+    put_quantum_words(s, t, out)
 }
 
 /// The state of a lock; a number that is out of range reads a free one.
 pub(crate) fn lock_of(s: &State, l: LockId) -> LockState
     ensures { result ≡ lock_of s.now l.0 }
 {
-    s.locks.items().get(l.0 as usize).copied().unwrap_or(LockState::Free)
+    s.locks
+        .items()
+        .get(l.0 as usize)
+        .copied()
+        .unwrap_or(LockState::Free)
 }
 
 fn put_owner_runs(work: &Work, o: ThreadId, out: &mut Vec<u8>) -> Result<(), AllocError>
     ensures { OnOk result (out.new.items ≡ out.old.items ++ (codes ": its owner " ++ thread_then work.now o (codes " runs"))) }
 {
-    out.extend_from_slice(b": its owner ")?;
+    put_words(b": its owner ", out)?;
     put_thread(work, o, b" runs", out)
 }
 
@@ -87,12 +96,18 @@ fn put_spin_words(work: &Work, lock: LockState, out: &mut Vec<u8>) -> Result<(),
 {
     match lock {
         LockState::Owned(o) => put_owner_runs(work, o, out),
-        LockState::Passing { .. } => out.extend_from_slice(b", which is being handed over"),
+        LockState::Passing { .. } => put_words(b", which is being handed over", out),
         _ => Ok(()),
     }
 }
 
-#[tactic(auto, unfolding(crate::specs::Running::spin_sentence))]
+// Why a thread spins for a lock.
+fn put_reason(work: &Work, s: &State, l: LockId, out: &mut Vec<u8>) -> Result<(), AllocError>
+    ensures { OnOk result (out.new.items ≡ out.old.items ++ spin_words work.now (lock_of s.now l.0)) }
+{
+    put_spin_words(work, lock_of(s, l), out)
+}
+
 pub(crate) fn put_spin(
     work: &Work,
     s: &State,
@@ -104,17 +119,15 @@ pub(crate) fn put_spin(
 {
     put_thread(work, t, b" spins for ", out)?;
     put_lock(work, l, b"", out)?;
-    put_spin_words(work, lock_of(s, l), out)
+    put_reason(work, s, l, out)
 }
 
-#[tactic(auto, unfolding(crate::specs::Running::idle_sentence))]
 pub(crate) fn put_idle(c: CpuId, out: &mut Vec<u8>) -> Result<(), AllocError>
     ensures { OnOk result (out.new.items ≡ out.old.items ++ idle_sentence c) }
 {
     put_cpu(c, b" has nothing to run", out)
 }
 
-#[tactic(auto, unfolding(crate::specs::Running::dispatch_sentence))]
 pub(crate) fn put_dispatch(
     work: &Work,
     c: CpuId,
@@ -126,10 +139,9 @@ pub(crate) fn put_dispatch(
 {
     put_cpu(c, b" dispatches ", out)?;
     put_thread(work, t, b" at priority ", out)?;
-    put_count(u64::from(p), b"", out)
+    put_priority(p, b"", out)
 }
 
-#[tactic(auto, unfolding(crate::specs::Running::steal_sentence))]
 pub(crate) fn put_steal(
     work: &Work,
     c: CpuId,
@@ -142,7 +154,7 @@ pub(crate) fn put_steal(
 {
     put_cpu(c, b" steals ", out)?;
     put_thread(work, t, b" at priority ", out)?;
-    put_count(u64::from(p), b" from the queue of ", out)?;
+    put_priority(p, b" from the queue of ", out)?;
     put_cpu(victim, b"", out)
 }
 
@@ -170,7 +182,6 @@ pub(crate) fn put_preempt(
     }
 }
 
-#[tactic(auto, unfolding(crate::specs::Running::away_sentence))]
 pub(crate) fn put_away(
     work: &Work,
     t: ThreadId,

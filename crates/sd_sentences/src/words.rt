@@ -10,6 +10,13 @@ use sd_text::put_number;
 use sd_types::{ChanId, CpuId, LockId, Put, SetId, ThreadId, Work};
 use std::alloc::AllocError;
 
+/// Words alone.
+pub(crate) fn put_words(words: &[u8], out: &mut Vec<u8>) -> Result<(), AllocError>
+    ensures { OnOk result (out.new.items ≡ out.old.items ++ words.now) }
+{
+    out.extend_from_slice(words)
+}
+
 #[tactic(auto, unfolding(crate::specs::Words::thread_then))]
 pub(crate) fn put_thread(
     work: &Work,
@@ -66,10 +73,16 @@ pub(crate) fn put_count(n: u64, words: &[u8], out: &mut Vec<u8>) -> Result<(), A
     out.extend_from_slice(words)
 }
 
+pub(crate) fn put_priority(p: u8, words: &[u8], out: &mut Vec<u8>) -> Result<(), AllocError>
+    ensures { OnOk result (out.new.items ≡ out.old.items ++ number_then p words.now) }
+{
+    put_count(u64::from(p), words, out)
+}
+
 fn put_named_set(work: &Work, p: SetId, out: &mut Vec<u8>) -> Result<(), AllocError>
     ensures { OnOk result (out.new.items ≡ out.old.items ++ (codes "the set " ++ set_name work.now p.0)) }
 {
-    out.extend_from_slice(b"the set ")?;
+    put_words(b"the set ", out)?;
     put_set_name(work, p, out)
 }
 
@@ -81,7 +94,7 @@ pub(crate) fn put_set(work: &Work, p: SetId, out: &mut Vec<u8>) -> Result<(), Al
     if 0 < p.0 {
         put_named_set(work, p, out)
     } else {
-        out.extend_from_slice(b"the default partition")
+        put_words(b"the default partition", out)
     }
 }
 
@@ -89,7 +102,7 @@ pub(crate) fn put_set(work: &Work, p: SetId, out: &mut Vec<u8>) -> Result<(), Al
 fn put_words_cpu(words: &[u8], c: CpuId, out: &mut Vec<u8>) -> Result<(), AllocError>
     ensures { OnOk result (out.new.items ≡ out.old.items ++ (words.now ++ cpu_then c [])) }
 {
-    out.extend_from_slice(words)?;
+    put_words(words, out)?;
     put_cpu(c, b"", out)
 }
 
@@ -106,7 +119,7 @@ pub(crate) fn put_place(at: Put, out: &mut Vec<u8>) -> Result<(), AllocError>
 fn put_requeued_at(at: Put, out: &mut Vec<u8>) -> Result<(), AllocError>
     ensures { OnOk result (out.new.items ≡ out.old.items ++ (codes "; it is queued again" ++ place_words at)) }
 {
-    out.extend_from_slice(b"; it is queued again")?;
+    put_words(b"; it is queued again", out)?;
     put_place(at, out)
 }
 
@@ -121,7 +134,6 @@ pub(crate) fn put_requeued(at: Option<Put>, out: &mut Vec<u8>) -> Result<(), All
 }
 
 /// A thread that was made runnable, and where it stands.
-#[tactic(auto, unfolding(crate::specs::Words::runnable_words))]
 pub(crate) fn put_runnable(
     work: &Work,
     t: ThreadId,
@@ -138,16 +150,16 @@ pub(crate) fn put_runnable(
 fn put_from_to(word: &[u8], before: u8, after: u8, out: &mut Vec<u8>) -> Result<(), AllocError>
     ensures { OnOk result (out.new.items ≡ out.old.items ++ (word.now ++ number_then before (codes " to ") ++ number_then after [])) }
 {
-    out.extend_from_slice(word)?;
-    put_count(u64::from(before), b" to ", out)?;
-    put_count(u64::from(after), b"", out)
+    put_words(word, out)?;
+    put_priority(before, b" to ", out)?;
+    put_priority(after, b"", out)
 }
 
 fn put_stays(p: u8, out: &mut Vec<u8>) -> Result<(), AllocError>
     ensures { OnOk result (out.new.items ≡ out.old.items ++ (codes "stays " ++ number_then p [])) }
 {
-    out.extend_from_slice(b"stays ")?;
-    put_count(u64::from(p), b"", out)
+    put_words(b"stays ", out)?;
+    put_priority(p, b"", out)
 }
 
 /// How a priority changes.
