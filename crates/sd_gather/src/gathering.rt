@@ -15,7 +15,7 @@ use sd_types::{Entry, Work};
 use std::alloc::{AllocError, Global};
 
 /// Makes the entry that a line of the journal tells behind `number` entries.
-fn make(
+pub fn make_line(
     alloc: Global,
     work: &Work,
     s: &mut State,
@@ -49,7 +49,7 @@ pub fn gather(alloc: Global, work: &Work, text: &[u8]) -> Result<History, AllocE
         if is_accounts(line) {
             return Ok(history);
         }
-        let entry = make(alloc, work, &mut s, line, history.entries)?;
+        let entry = make_line(alloc, work, &mut s, line, history.entries)?;
         history.add(alloc, &s, &entry)?;
         from = end + 1;
     }
