@@ -1,13 +1,10 @@
-// A library with one function.
+//! A run as a story: of each entry its tick, the line of the journal, and a sentence on what happens; for all entries, for those of
+//! some ticks, or for those that name a thread. It is told of a journal that was judged, whose entries are read again.
 #![tactic(auto)]
 
-ghost use Rattle.std.specs.Prelude.{◌≡◌};
-ghost use Rattle.sd_story.specs.Echo.{echo_of};
+mod rows;
+mod selections;
+mod telling;
 
-// The `ensures` clause is the contract: what `echo` returns is `echo_of` of its argument, a definition
-// in `specs/Echo.antt`, which a caller's clause can cite too.
-pub fn echo(x: usize) -> usize
-    ensures { result ≡ echo_of x }
-{
-    x
-}
+pub use selections::{Selection, has_thread};
+pub use telling::tell;

@@ -6,8 +6,8 @@ use Rattle.sd_viewer.specs.Viewing.{CausedBy, answer_line, viewed_answer, viewed
 use Rattle.sd_viewer.proofs.ViewLemmas.{promises_of}
 use Rattle.sd_viewer.proofs.top.view.Goals as goal
 
-pub returns-in-Some : goal.returns-in-Some
-returns-in-Some g c =
+pub returns-in-Some-Draw : goal.returns-in-Some-Draw
+returns-in-Some-Draw g c =
     let left = g.S.Source.remaining in
     let read = g.S.Source.fault_count in
     let held = g.K.Sink.contents in
@@ -25,7 +25,7 @@ returns-in-Some g c =
     let answer = viewed_answer c.view_input.result in
     let line = viewed_line c.view_input.result in
     promises_of (map string_bytes c.args.arguments.now) input out (change_of (shown e) (shown f) (failed e) (failed f)) answer line c.tell.result c.tell.ensures.status
-    (subst (λ k. CausedBy k input out answer line) (sym (sym c.drawing_of.ensures ∙ c.in-Some.is)) c.view_input.ensures) c.tell.ensures.told
+    (subst (λ k. CausedBy k input out answer line) (sym (sym c.request_of.ensures ∙ c.in-Some-Draw.is)) c.view_input.ensures) c.tell.ensures.told
 
 pub returns-in-None : goal.returns-in-None
 returns-in-None g c =
@@ -40,5 +40,5 @@ returns-in-None g c =
     let input = change_of left left read read in
     let out = change_of held held written written in
     promises_of (map string_bytes c.args.arguments.now) input out (change_of (shown e) (shown f) (failed e) (failed f)) Usage (answer_line Usage) c.tell-in-None.result c.tell-in-None.ensures.status
-    (subst (λ k. CausedBy k input out Usage (answer_line Usage)) (sym (sym c.drawing_of.ensures ∙ c.in-None.is))
+    (subst (λ k. CausedBy k input out Usage (answer_line Usage)) (sym (sym c.request_of.ensures ∙ c.in-None.is))
     (refl, refl, record { bytes = refl; no_fault = refl }, record { bytes = refl; no_fault = refl })) c.tell-in-None.ensures.told
