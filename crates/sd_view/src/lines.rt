@@ -25,11 +25,17 @@ fn put_counted(word: &[u8], n: u64, out: &mut Vec<u8>) -> Result<(), AllocError>
     put_number(out, n)
 }
 
+fn put_limit(work: &Work, out: &mut Vec<u8>) -> Result<(), AllocError>
+    ensures { OnOk result (out.new.items ≡ out.old.items ++ counted (codes ": the run ends at tick ") work.now.limit) }
+{
+    put_counted(b": the run ends at tick ", u64::from(work.limit), out)
+}
+
 fn put_past(form: &[u8], work: &Work, out: &mut Vec<u8>) -> Result<(), AllocError>
     ensures { OnOk result (out.new.items ≡ out.old.items ++ past_line form.now work.now) }
 {
     put_words(form, out)?;
-    put_counted(b": the run ends at tick ", u64::from(work.limit), out)?;
+    put_limit(work, out)?;
     put_words(b"\n", out)
 }
 
