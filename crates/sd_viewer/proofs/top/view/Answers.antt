@@ -1,8 +1,9 @@
-use Rattle.std.proofs.Common.{map, refl, sym, subst, ◌∙◌}
+use Rattle.std.proofs.Common.{Some, map, refl, sym, ap, subst, ◌∙◌}
 use Rattle.std.specs.Prelude.{string_bytes}
 use Rattle.sd_answers.specs.declared.answers.Answer.TheVariants.{Usage}
 use Rattle.sd_answers.specs.StreamChanges.{change_of}
 use Rattle.sd_viewer.specs.Viewing.{CausedBy, answer_line, viewed_answer, viewed_line}
+use Rattle.sd_view.specs.declared.forms.Request.{Request}
 use Rattle.sd_viewer.proofs.ViewLemmas.{promises_of}
 use Rattle.sd_viewer.proofs.top.view.Goals as goal
 
@@ -19,13 +20,13 @@ returns-in-Some-Draw g c =
     let o = c.args.out.now in
     let p = c.view_input.new.out in
     let e = c.args.err.now in
-    let f = c.tell.new.err in
+    let f = c.tell-in-Some-Draw.new.err in
     let input = change_of (left i) (left j) (read i) (read j) in
     let out = change_of (held o) (held p) (written o) (written p) in
     let answer = viewed_answer c.view_input.result in
     let line = viewed_line c.view_input.result in
-    promises_of (map string_bytes c.args.arguments.now) input out (change_of (shown e) (shown f) (failed e) (failed f)) answer line c.tell.result c.tell.ensures.status
-    (subst (λ k. CausedBy k input out answer line) (sym (sym c.request_of.ensures ∙ c.in-Some-Draw.is)) c.view_input.ensures) c.tell.ensures.told
+    promises_of (map string_bytes c.args.arguments.now) input out (change_of (shown e) (shown f) (failed e) (failed f)) answer line c.tell-in-Some-Draw.result c.tell-in-Some-Draw.ensures.status
+    (subst (λ k. CausedBy k input out answer line) (sym (sym c.request_of.ensures ∙ c.in-Some-Draw.is ∙ ap (λ (r : Request). Some r) c.in-Some-Draw.field-0-is)) c.view_input.ensures) c.tell-in-Some-Draw.ensures.told
 
 pub returns-in-None : goal.returns-in-None
 returns-in-None g c =
