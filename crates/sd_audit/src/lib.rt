@@ -13,3 +13,4 @@ mod ranges;
 pub use audits::{AuditFault, audit};
 pub use laws::{journals_have_no_fault, texts_have_one_fault};
 pub use lines::{is_accounts, take_line};
+pub use ranges::in_range;

@@ -23,9 +23,14 @@ SaysOfCertificate certificate picture trace (NotDrawn status) = Refuses (codes "
 SaysOfCertificate certificate picture trace OtherPicture = (text : List ℕ) × Draws (codes "timeline") certificate text × (text ≢ picture)
 SaysOfCertificate certificate picture trace v = Draws (codes "timeline") certificate picture × SaysOfTrace certificate trace v
 
--- What is said of a workload, its stored picture and its stored trace: the certificate is the workload with the journal of
--- its run.
-abbrev pub Says : List ℕ → List ℕ → Option (List ℕ) → Verdict → Type 0
-Says workload picture trace (NotRun status) = HasNoJournal workload status
-Says workload picture trace v =
+-- of a workload and the journal of its run
+abbrev pub SaysOfRun : List ℕ → List ℕ → Option (List ℕ) → Verdict → Type 0
+SaysOfRun workload picture trace (NotRun status) = HasNoJournal workload status
+SaysOfRun workload picture trace v =
     (journal : List ℕ) × IsJournalOf workload journal × SaysOfCertificate (certificate_of workload journal) picture trace v
+
+-- What is said of a workload, its stored journal if there is one, its stored picture and its stored trace: the certificate is the
+-- workload with the stored journal, or with the journal of its run.
+abbrev pub Says : List ℕ → Option (List ℕ) → List ℕ → Option (List ℕ) → Verdict → Type 0
+Says workload None picture trace v = SaysOfRun workload picture trace v
+Says workload (Some journal) picture trace v = SaysOfCertificate (certificate_of workload journal) picture trace v

@@ -1,4 +1,5 @@
-//! The files of the examples: NAME.workload, its picture NAME.svg, and NAME.json where the trace is stored too.
+//! The files of the examples: NAME.workload, its picture NAME.svg, NAME.json where the trace is stored too, and NAME.journal where
+//! the run is not that of `dispsim run`.
 
 use crate::verdicts::{Verdict, judge};
 use anyhow::{Context, Result};
@@ -49,11 +50,13 @@ fn read_if_there<R: Files + AllocGlobal>(rt: &R, path: &str) -> Result<Option<Ve
 pub fn judge_example<R: Files + AllocGlobal>(rt: &R, folder: &str, name: &str) -> Result<Verdict> {
     let alloc = rt.alloc();
     let workload = read_file(rt, format!(in alloc; "{folder}/{name}.workload")?.as_str())?;
+    let journal = read_if_there(rt, format!(in alloc; "{folder}/{name}.journal")?.as_str())?;
     let picture = read_file(rt, format!(in alloc; "{folder}/{name}.svg")?.as_str())?;
     let trace = read_if_there(rt, format!(in alloc; "{folder}/{name}.json")?.as_str())?;
     Ok(judge(
         alloc,
         &workload,
+        journal.as_ref().map(Vec::as_slice),
         &picture,
         trace.as_ref().map(Vec::as_slice),
     )?)

@@ -2,14 +2,16 @@
 
 ghost use Rattle.std.specs.Prelude.{IfOk};
 ghost use Rattle.std.specs.Option.{option_copied};
-ghost use Rattle.sd_examples.specs.Verdicts.{Says, SaysOfCertificate, SaysOfTrace};
+ghost use Rattle.sd_examples.specs.Calls.{certificate_of};
+ghost use Rattle.sd_examples.specs.Verdicts.{Says, SaysOfCertificate, SaysOfRun, SaysOfTrace};
 
 use crate::calls::{Outcome, certificate, draw, run};
 use crate::traces::count_events;
 use std::alloc::{AllocError, Global};
 use std::fmt;
 
-/// What is said of a workload, its stored picture and, where one is stored, its trace. What is told is the first that differs.
+/// What is said of a workload, its stored picture and, where one is stored, its trace, of the stored journal or that of its run.
+/// What is told is the first that differs.
 #[derive(Clone, Copy, Debug, PartialEq, Eq)]
 pub enum Verdict {
     /// The picture and the trace are as stored, and the trace is JSON with an array of so many events.
@@ -85,19 +87,48 @@ fn judge_certificate(
     judge_trace(alloc, certificate, trace)
 }
 
-/// Runs the workload, draws its run, and compares.
-pub fn judge(
+// Draws the run of the workload with a journal, and compares.
+fn judge_journal(
+    alloc: Global,
+    workload: &[u8],
+    journal: &[u8],
+    picture: &[u8],
+    trace: Option<&[u8]>,
+) -> Result<Verdict, AllocError>
+    ensures { IfOk result (SaysOfCertificate (certificate_of workload.now journal.now) picture.now (option_copied trace.entry)) }
+{
+    let certificate = certificate(alloc, workload, journal)?;
+    judge_certificate(alloc, &certificate, picture, trace)
+}
+
+// Runs the workload, draws its run, and compares.
+fn judge_run(
     alloc: Global,
     workload: &[u8],
     picture: &[u8],
     trace: Option<&[u8]>,
 ) -> Result<Verdict, AllocError>
-    ensures { IfOk result (Says workload.now picture.now (option_copied trace.entry)) }
+    ensures { IfOk result (SaysOfRun workload.now picture.now (option_copied trace.entry)) }
 {
     let journal = match run(alloc, workload)? {
         Outcome::Wrote(journal) => journal,
         Outcome::Refused { status } => return Ok(Verdict::NotRun { status }),
     };
-    let certificate = certificate(alloc, workload, journal.bytes())?;
-    judge_certificate(alloc, &certificate, picture, trace)
+    judge_journal(alloc, workload, journal.bytes(), picture, trace)
+}
+
+/// Draws the run of the workload, or that which the stored journal tells, and compares.
+pub fn judge(
+    alloc: Global,
+    workload: &[u8],
+    journal: Option<&[u8]>,
+    picture: &[u8],
+    trace: Option<&[u8]>,
+) -> Result<Verdict, AllocError>
+    ensures { IfOk result (Says workload.now (option_copied journal.entry) picture.now (option_copied trace.entry)) }
+{
+    match journal {
+        Some(journal) => judge_journal(alloc, workload, journal, picture, trace),
+        None => judge_run(alloc, workload, picture, trace),
+    }
 }

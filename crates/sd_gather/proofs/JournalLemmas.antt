@@ -18,8 +18,6 @@ use Rattle.sd_spelling.specs.Fitting.{IsSpelled}
 use Rattle.sd_spelling.proofs.LineLemmas.{one_line}
 use Rattle.sd_audit.specs.Audits.{entry_line, IsTaken}
 use Rattle.sd_audit.proofs.LineLemmas.{text_of, not_accounts, journal_lines}
-use Rattle.sd_stretches.specs.declared.histories.History.{History}
-use Rattle.sd_stretches.specs.Histories.{IsHistory}
 use Rattle.sd_gather.specs.Journals.{HasJournal, IsJournalOf, TellsNext, IsAtEntry, IsUnderWay}
 
 -- the entries of a journal
@@ -30,17 +28,18 @@ entries_of w text h = (h.2.entries, record { run = h.2.run; spelled = h.2.spelle
 lines_and_rest : (w : Work) (es : List Entry) → All (IsSpelled w) es → (rest : List (List ℕ)) × (lines_of (journal w es) ≡ map (entry_line w) es ++ codes "accounts" ∷ rest)
 lines_and_rest w es spelled = (_, journal_lines w es spelled)
 
-pub under_way_start : (w : Work) (text : List ℕ) (s : State) (h : History) → s ≡ opening w → IsHistory w [] h → IsUnderWay w text s h 0
-under_way_start w text s h start history es j =
-    let none : h.entries ≡ 0 = history.entries in
+pub under_way_start : (w : Work) (text : List ℕ) (s : State) (n : ℕ) (Made : List Entry → Type 0) → n ≡ 0 → s ≡ opening w → Made [] → IsUnderWay w text s n 0 Made
+under_way_start w text s n Made none start made es j =
     let told = lines_and_rest w es j.spelled in
-    record {
-      rest = told.0;
-      lines = ap lines_of j.whole ∙ told.1 ∙ ap (λ (n : ℕ). map (entry_line w) (drop n es) ++ codes "accounts" ∷ told.0) (sym none);
-      within = omega (arith, none);
-      state = start ∙ sym (final-nil w (opening w)) ∙ ap (λ (n : ℕ). state_at w es n) (sym none);
-      history = subst (λ (n : ℕ). IsHistory w (take n es) h) (sym none) history;
-    }
+    (
+      record {
+        rest = told.0;
+        lines = ap lines_of j.whole ∙ told.1 ∙ ap (λ (k : ℕ). map (entry_line w) (drop k es) ++ codes "accounts" ∷ told.0) (sym none);
+        within = omega (arith, none);
+        state = start ∙ sym (final-nil w (opening w)) ∙ ap (λ (k : ℕ). state_at w es k) (sym none);
+      },
+      subst (λ (k : ℕ). Made (take k es)) (sym none) made,
+    )
 
 head_same : (x y : List ℕ) (xs ys : List (List ℕ)) → x ∷ xs ≡ y ∷ ys → (x ≡ y) × (xs ≡ ys)
 head_same x y xs ys e = (cc, cc)
@@ -52,33 +51,33 @@ pub record IsNext (w : Work) (es : List Entry) (n : ℕ) (e : Entry) (left rest 
   pub lines : left ≡ map (entry_line w) (drop (n + 1) es) ++ codes "accounts" ∷ rest
 
 -- What stands next.
-module _ (w : Work) (text : List ℕ) (es : List Entry) (s : State) (h : History) (from : ℕ) (j : IsJournalOf w text es) (at : IsAtEntry w text es s h from) where
+module _ (w : Work) (text : List ℕ) (es : List Entry) (s : State) (n from : ℕ) (j : IsJournalOf w text es) (at : IsAtEntry w text es s n from) where
   -- behind the last entry stands the line `accounts`
-  past : length es ≤ h.entries → lines_of (drop from text) ≡ codes "accounts" ∷ at.rest
-  past all = at.lines ∙ ap (λ (xs : List Entry). map (entry_line w) xs ++ codes "accounts" ∷ at.rest) (drop_all h.entries es all)
+  past : length es ≤ n → lines_of (drop from text) ≡ codes "accounts" ∷ at.rest
+  past all = at.lines ∙ ap (λ (xs : List Entry). map (entry_line w) xs ++ codes "accounts" ∷ at.rest) (drop_all n es all)
 
   -- before it, the line of the next entry
-  next : (d : Entry) → h.entries < length es → get_or es h.entries d ≡ d
-      → lines_of (drop from text) ≡ entry_line w d ∷ (map (entry_line w) (drop (h.entries + 1) es) ++ codes "accounts" ∷ at.rest)
+  next : (d : Entry) → n < length es → get_or es n d ≡ d
+      → lines_of (drop from text) ≡ entry_line w d ∷ (map (entry_line w) (drop (n + 1) es) ++ codes "accounts" ∷ at.rest)
   next d more is =
-      at.lines ∙ ap (λ (xs : List Entry). map (entry_line w) xs ++ codes "accounts" ∷ at.rest) (drop_more es h.entries d more)
-      ∙ ap (λ (x : Entry). entry_line w x ∷ (map (entry_line w) (drop (h.entries + 1) es) ++ codes "accounts" ∷ at.rest)) is
+      at.lines ∙ ap (λ (xs : List Entry). map (entry_line w) xs ++ codes "accounts" ∷ at.rest) (drop_more es n d more)
+      ∙ ap (λ (x : Entry). entry_line w x ∷ (map (entry_line w) (drop (n + 1) es) ++ codes "accounts" ∷ at.rest)) is
 
-  spelled_at : (d : Entry) → h.entries < length es → get_or es h.entries d ≡ d → IsSpelled w d
-  spelled_at d more is = subst (IsSpelled w) is (All-get_or (IsSpelled w) es h.entries d more j.spelled)
+  spelled_at : (d : Entry) → n < length es → get_or es n d ≡ d → IsSpelled w d
+  spelled_at d more is = subst (IsSpelled w) is (All-get_or (IsSpelled w) es n d more j.spelled)
 
   -- so many entries are the first ones and one more
-  one_more : (d : Entry) → h.entries < length es → get_or es h.entries d ≡ d → take (h.entries + 1) es ≡ take h.entries es ++ d ∷ []
-  one_more d more is = take_more es h.entries d more ∙ ap (λ (x : Entry). take h.entries es ++ x ∷ []) is
+  one_more : (d : Entry) → n < length es → get_or es n d ≡ d → take (n + 1) es ≡ take n es ++ d ∷ []
+  one_more d more is = take_more es n d more ∙ ap (λ (x : Entry). take n es ++ x ∷ []) is
 
-  run_so_far : (d : Entry) → h.entries < length es → get_or es h.entries d ≡ d → IsRunFrom w (opening w) 0 (take h.entries es ++ d ∷ [])
-  run_so_far d more is = subst (λ (xs : List Entry). IsRunFrom w (opening w) 0 xs) (one_more d more is) (IsRunFrom-take w (opening w) 0 (h.entries + 1) es (IsRun-from w es j.run))
+  run_so_far : (d : Entry) → n < length es → get_or es n d ≡ d → IsRunFrom w (opening w) 0 (take n es ++ d ∷ [])
+  run_so_far d more is = subst (λ (xs : List Entry). IsRunFrom w (opening w) 0 xs) (one_more d more is) (IsRunFrom-take w (opening w) 0 (n + 1) es (IsRun-from w es j.run))
 
-  so_many : h.entries < length es → length (take h.entries es) ≡ h.entries
-  so_many more = length-take-le h.entries es (omega (arith, more))
+  so_many : n < length es → length (take n es) ≡ n
+  so_many more = length-take-le n es (omega (arith, more))
 
   pub some_line : lines_of (drop from text) ≡ [] → ⊥
-  some_line none = elim (slice_get_cases es h.entries).1 [
+  some_line none = elim (slice_get_cases es n).1 [
     | inl (d, more, held, is) ↦ no_line (sym none ∙ next d more is)
     | inr (all, held) ↦ no_line (sym none ∙ past all)
   ]
@@ -87,83 +86,82 @@ module _ (w : Work) (text : List ℕ) (es : List Entry) (s : State) (h : History
       no_line e = cc
 
   -- where the line `accounts` stands next, all entries were read
-  pub all_read : (rest : List (List ℕ)) → lines_of (drop from text) ≡ codes "accounts" ∷ rest → IsHistory w es h
-  all_read rest lines = elim (slice_get_cases es h.entries).1 [
+  pub all_read : (rest : List (List ℕ)) → lines_of (drop from text) ≡ codes "accounts" ∷ rest → take n es ≡ es
+  all_read rest lines = elim (slice_get_cases es n).1 [
     | inl (d, more, held, is) ↦ absurd (not_accounts w d (spelled_at d more is) (sym (head_same (codes "accounts") (entry_line w d) rest _ (sym lines ∙ next d more is)).0))
-    | inr (all, held) ↦ subst (λ (xs : List Entry). IsHistory w xs h) (take_all h.entries es all) at.history
+    | inr (all, held) ↦ take_all n es all
   ]
 
   -- the line of the entry that stands next tells it
   taken_of : (d : Entry) (line : List ℕ) (rest : List (List ℕ)) → lines_of (drop from text) ≡ line ∷ rest
-      → h.entries < length es → get_or es h.entries d ≡ d → IsTaken w s h.entries line d
+      → n < length es → get_or es n d ≡ d → IsTaken w s n line d
   taken_of d line rest lines more is =
       let run = run_so_far d more is in
-      let number = last_number w (opening w) 0 (take h.entries es) d run in
+      let number = last_number w (opening w) 0 (take n es) d run in
       let many = so_many more in
       record {
         spelled = spelled_at d more is;
         text = text_of w d ∙ ap (λ (l : List ℕ). l ++ 10 ∷ []) (sym (head_same line (entry_line w d) rest _ (sym lines ∙ next d more is)).0);
         counted = omega (arith, number, many);
-        step = subst (λ (x : State). IsStep w x d) (sym at.state) (last_step w (opening w) 0 (take h.entries es) d run);
+        step = subst (λ (x : State). IsStep w x d) (sym at.state) (last_step w (opening w) 0 (take n es) d run);
       }
 
   -- another line than `accounts` tells an entry
-  pub tells_next : (line : List ℕ) (rest : List (List ℕ)) → lines_of (drop from text) ≡ line ∷ rest → ¬ (line ≡ codes "accounts") → TellsNext w s h.entries line
-  tells_next line rest lines other = elim (slice_get_cases es h.entries).1 [
+  pub tells_next : (line : List ℕ) (rest : List (List ℕ)) → lines_of (drop from text) ≡ line ∷ rest → ¬ (line ≡ codes "accounts") → TellsNext w s n line
+  tells_next line rest lines other = elim (slice_get_cases es n).1 [
     | inl (d, more, held, is) ↦ (d, taken_of d line rest lines more is)
     | inr (all, held) ↦ absurd (other (head_same line (codes "accounts") rest at.rest (sym lines ∙ past all)).0)
   ]
 
-  next_of : (line : List ℕ) (left : List (List ℕ)) (e d : Entry) → lines_of (drop from text) ≡ line ∷ left → IsTaken w s h.entries line e
-      → h.entries < length es → get_or es h.entries d ≡ d → IsNext w es h.entries e left at.rest
+  next_of : (line : List ℕ) (left : List (List ℕ)) (e d : Entry) → lines_of (drop from text) ≡ line ∷ left → IsTaken w s n line e
+      → n < length es → get_or es n d ≡ d → IsNext w es n e left at.rest
   next_of line left e d lines read more is =
       let both = head_same line (entry_line w d) left _ (sym lines ∙ next d more is) in
       let same : d ≡ e = one_line w d e (spelled_at d more is) read.spelled (text_of w d ∙ ap (λ (l : List ℕ). l ++ 10 ∷ []) (sym both.0) ∙ sym read.text) in
-      let P : Entry → Type 0 = λ x. IsNext w es h.entries x left at.rest in
+      let P : Entry → Type 0 = λ x. IsNext w es n x left at.rest in
       subst P same (record { inside = more; is = is; lines = both.1 })
 
   -- what was read of it is the entry that stands next
   pub is_next : (line : List ℕ) (left : List (List ℕ)) (e : Entry) → lines_of (drop from text) ≡ line ∷ left → ¬ (line ≡ codes "accounts")
-      → IsTaken w s h.entries line e → IsNext w es h.entries e left at.rest
-  is_next line left e lines other read = elim (slice_get_cases es h.entries).1 [
+      → IsTaken w s n line e → IsNext w es n e left at.rest
+  is_next line left e lines other read = elim (slice_get_cases es n).1 [
     | inl (d, more, held, is) ↦ next_of line left e d lines read more is
     | inr (all, held) ↦ absurd (other (head_same line (codes "accounts") left at.rest (sym lines ∙ past all)).0)
   ]
 
-  pub is_reached : IsReached w h.entries s
+  pub is_reached : IsReached w n s
   is_reached = record {
-    entries = take h.entries es;
-    run = from-IsRun w (take h.entries es) (IsRunFrom-take w (opening w) 0 h.entries es (IsRun-from w es j.run));
-    many = length-take-le h.entries es at.within;
+    entries = take n es;
+    run = from-IsRun w (take n es) (IsRunFrom-take w (opening w) 0 n es (IsRun-from w es j.run));
+    many = length-take-le n es at.within;
     ends = sym at.state;
   }
 
   -- one entry more is read
-  module _ (e : Entry) (left : List (List ℕ)) (s' : State) (h' : History) (n : IsNext w es h.entries e left at.rest)
-      (made : s' ≡ after w s e.number e.cpu e.event)
-      (added : (u : Work) (fs : List Entry) → s' ≡ final u (opening u) (fs ++ e ∷ []) → IsHistory u fs h → IsHistory u (fs ++ e ∷ []) h') where
-    state_more : s' ≡ final w (opening w) (take h.entries es ++ e ∷ [])
-    state_more = made ∙ ap (λ (x : State). after w x e.number e.cpu e.event) at.state ∙ sym (final-push w (opening w) (take h.entries es) e)
+  module _ (e : Entry) (left : List (List ℕ)) (s' : State) (n' : ℕ) (next : IsNext w es n e left at.rest) (made : s' ≡ after w s e.number e.cpu e.event) where
+    pub state_more : s' ≡ final w (opening w) (take n es ++ e ∷ [])
+    state_more = made ∙ ap (λ (x : State). after w x e.number e.cpu e.event) at.state ∙ sym (final-push w (opening w) (take n es) e)
 
-    history_more : IsHistory w (take h.entries es ++ e ∷ []) h'
-    history_more = added w (take h.entries es) state_more at.history
+    pub many_more : length (take n es ++ e ∷ []) ≡ n + 1
+    many_more =
+        let pushed = length-append (take n es) (e ∷ []) in
+        let many = so_many next.inside in
+        omega (arith, pushed, many)
 
-    pub entries_more : h'.entries ≡ h.entries + 1
-    entries_more =
-        let entries = history_more.entries in
-        let pushed = length-append (take h.entries es) (e ∷ []) in
-        let many = so_many n.inside in
-        omega (arith, entries, pushed, many)
+    module _ (more : n' ≡ n + 1) where
+      -- so many entries are the first ones and this one
+      taken_more : take n es ++ e ∷ [] ≡ take n' es
+      taken_more = sym (one_more e next.inside next.is) ∙ ap (λ (k : ℕ). take k es) (sym more)
 
-    pub at_more : (from' : ℕ) → lines_of (drop from' text) ≡ left → IsAtEntry w text es s' h' from'
-    at_more from' lines =
-        let one = one_more e n.inside n.is in
-        let more = entries_more in
-        let inside = n.inside in
-        record {
-          rest = at.rest;
-          lines = lines ∙ n.lines ∙ ap (λ (k : ℕ). map (entry_line w) (drop k es) ++ codes "accounts" ∷ at.rest) (sym more);
-          within = omega (arith, more, inside);
-          state = state_more ∙ ap (final w (opening w)) (sym one) ∙ ap (λ (k : ℕ). state_at w es k) (sym more);
-          history = subst (λ (k : ℕ). IsHistory w (take k es) h') (sym more) (subst (λ (xs : List Entry). IsHistory w xs h') (sym one) history_more);
-        }
+      pub made_more : (Made : List Entry → Type 0) → Made (take n es ++ e ∷ []) → Made (take n' es)
+      made_more Made holds = subst Made taken_more holds
+
+      pub at_more : (from' : ℕ) → lines_of (drop from' text) ≡ left → IsAtEntry w text es s' n' from'
+      at_more from' lines =
+          let inside = next.inside in
+          record {
+            rest = at.rest;
+            lines = lines ∙ next.lines ∙ ap (λ (k : ℕ). map (entry_line w) (drop k es) ++ codes "accounts" ∷ at.rest) (sym more);
+            within = omega (arith, more, inside);
+            state = state_more ∙ ap (final w (opening w)) taken_more;
+          }

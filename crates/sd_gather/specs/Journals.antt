@@ -27,17 +27,16 @@ pub record IsJournalOf (w : Work) (text : List ℕ) (es : List Entry) : Type 0 w
 abbrev pub TellsNext : Work → State → ℕ → List ℕ → Type 0
 TellsNext w s number line = (e : Entry) × IsTaken w s number line e
 
--- what is read next, from this byte of the journal of these entries on, is the entry behind those of which the history is
-pub record IsAtEntry (w : Work) (text : List ℕ) (es : List Entry) (s : State) (h : History) (from : ℕ) : Type 0 where
+-- what is read next, from this byte of the journal of these entries on, is the entry behind the first n, which made this state
+pub record IsAtEntry (w : Work) (text : List ℕ) (es : List Entry) (s : State) (n from : ℕ) : Type 0 where
   pub rest : List (List ℕ)
-  pub lines : lines_of (drop from text) ≡ map (entry_line w) (drop h.entries es) ++ codes "accounts" ∷ rest
-  pub within : h.entries ≤ length es
-  pub state : s ≡ state_at w es h.entries
-  pub history : IsHistory w (take h.entries es) h
+  pub lines : lines_of (drop from text) ≡ map (entry_line w) (drop n es) ++ codes "accounts" ∷ rest
+  pub within : n ≤ length es
+  pub state : s ≡ state_at w es n
 
--- so it is, whichever the entries are
-abbrev pub IsUnderWay : Work → List ℕ → State → History → ℕ → Type 0
-IsUnderWay w text s h from = (es : List Entry) → IsJournalOf w text es → IsAtEntry w text es s h from
+-- so it is, whichever the entries are, and this holds of the first n of them
+abbrev pub IsUnderWay : Work → List ℕ → State → ℕ → ℕ → (List Entry → Type 0) → Type 0
+IsUnderWay w text s n from Made = (es : List Entry) → IsJournalOf w text es → IsAtEntry w text es s n from × Made (take n es)
 
 -- the history is that of the run whose journal the text is
 abbrev pub IsHistoryOf : Work → List ℕ → History → Type 0

@@ -16,7 +16,7 @@ use sd_types::{Entry, Work};
 use std::alloc::{AllocError, Global};
 
 /// Makes the entry that a line of the journal tells behind `number` entries.
-fn make(
+pub fn make_line(
     alloc: Global,
     names: &Names<'_>,
     s: &mut State,
@@ -50,7 +50,7 @@ fn gather_lines(alloc: Global, names: &Names<'_>, text: &[u8]) -> Result<History
         if is_accounts(line) {
             return Ok(history);
         }
-        let entry = make(alloc, names, &mut s, line, history.entries)?;
+        let entry = make_line(alloc, names, &mut s, line, history.entries)?;
         history.add(alloc, &s, &entry)?;
         from = end + 1;
     }

@@ -1,5 +1,7 @@
 //! The drawings of a run of three entries, worked out by hand.
 
+use arrayvec::ArrayVec;
+use sd_story::Selection;
 use sd_view::{Drawing, draw};
 use sd_workload::read_work;
 use std::test::Fail;
@@ -31,13 +33,45 @@ fn a_run_is_drawn(rt: HostRuntime) -> Result<(), Fail> {
     let Ok(work) = read_work(alloc, WORKLOAD) else {
         return Ok(assert!(rt; false, "no work"));
     };
-    let Ok(trace) = draw(alloc, &work, JOURNAL, Drawing::Trace) else {
+    let Ok(trace) = draw(alloc, &work, JOURNAL, &Drawing::Trace) else {
         return Ok(assert!(rt; false, "no trace"));
     };
     assert!(rt; trace.as_slice() == TRACE);
-    let Ok(picture) = draw(alloc, &work, JOURNAL, Drawing::Timeline { from: 0, to: 9 }) else {
+    let Ok(picture) = draw(alloc, &work, JOURNAL, &Drawing::Timeline { from: 0, to: 9 }) else {
         return Ok(assert!(rt; false, "no picture"));
     };
     assert!(rt; picture.as_slice().starts_with(b"<svg"));
+    Ok(())
+}
+
+const STORY: &[u8] = b"tick    entry                         what happens
+0       0 c0 dispatch a 29            processor 0 dispatches a at priority 29
+0       1 c0 done a                   a comes to the end of its script
+0       2 c0 idle                     processor 0 has nothing to run
+";
+
+const STORY_OF_A: &[u8] = b"tick    entry                         what happens
+0       0 c0 dispatch a 29            processor 0 dispatches a at priority 29
+0       1 c0 done a                   a comes to the end of its script
+";
+
+#[test]
+fn a_run_is_told(rt: HostRuntime) -> Result<(), Fail> {
+    let alloc = rt.alloc();
+    let Ok(work) = read_work(alloc, WORKLOAD) else {
+        return Ok(assert!(rt; false, "no work"));
+    };
+    let all = Drawing::Story(Selection::Ticks { from: 0, to: 9 });
+    let Ok(story) = draw(alloc, &work, JOURNAL, &all) else {
+        return Ok(assert!(rt; false, "no story"));
+    };
+    assert!(rt; story.as_slice() == STORY);
+    let mut name = ArrayVec::new();
+    name.push(b'a');
+    let of_a = Drawing::Story(Selection::Thread { name });
+    let Ok(story) = draw(alloc, &work, JOURNAL, &of_a) else {
+        return Ok(assert!(rt; false, "no story"));
+    };
+    assert!(rt; story.as_slice() == STORY_OF_A);
     Ok(())
 }

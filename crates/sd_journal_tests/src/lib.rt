@@ -13,4 +13,6 @@ mod drawings;
 #[cfg(test)]
 mod given;
 #[cfg(test)]
+mod sentences;
+#[cfg(test)]
 mod shown;

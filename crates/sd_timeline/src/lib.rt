@@ -18,4 +18,4 @@ mod pieces;
 
 pub use frames::Frame;
 pub use laws::{timelines_are_plain, titles_need_no_escaping};
-pub use picture::write_timeline;
+pub use picture::timeline;

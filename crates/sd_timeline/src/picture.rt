@@ -1,6 +1,6 @@
 //! The whole picture.
 
-ghost use Rattle.std.specs.Prelude.{◌≡◌, ◌++◌, OnOk, codes, flat_map, map, length, slice_get, None};
+ghost use Rattle.std.specs.Prelude.{◌≡◌, ◌++◌, IfOk, OnOk, codes, flat_map, map, length, slice_get, None};
 ghost use Rattle.std.specs.List.{range_with_len};
 ghost use Rattle.sd_full.specs.LockGraph.{cycles_of};
 ghost use Rattle.sd_timeline.specs.Arrows.{hand_texts, wake_text};
@@ -181,20 +181,21 @@ fn put_rows(
     put_deadlocks(alloc, work, frame, s, out)
 }
 
-/// Appends the picture of a run of the workload, of which this is the history and the last state, as far as the frame goes.
+/// The picture of a run of the workload, of which this is the history and the last state, as far as the frame goes.
 #[tactic(auto, unfolding(crate::specs::Picture::timeline_text))]
-pub fn write_timeline(
+pub fn timeline(
     alloc: Global,
     work: &Work,
     frame: Frame,
     history: &History,
     s: &State,
-    out: &mut Vec<u8>,
-) -> Result<(), AllocError>
-    ensures { OnOk result (out.new.items ≡ out.old.items ++ timeline_text work.now frame history.now s.now) }
+) -> Result<Vec<u8>, AllocError>
+    ensures { IfOk result (λ text. text.items ≡ timeline_text work.now frame history.now s.now) }
 {
     let moments = moments_of(alloc, work, frame, history)?;
-    put_ground(alloc, work, frame, history, &moments, out)?;
-    put_rows(alloc, work, frame, history, &moments, s, out)?;
-    out.extend_from_slice(b"</svg>\n")
+    let mut text = Vec::new(alloc);
+    put_ground(alloc, work, frame, history, &moments, &mut text)?;
+    put_rows(alloc, work, frame, history, &moments, s, &mut text)?;
+    text.extend_from_slice(b"</svg>\n")?;
+    Ok(text)
 }

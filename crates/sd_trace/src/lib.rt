@@ -11,4 +11,4 @@ mod tracks;
 mod words;
 
 pub use laws::{traces_are_plain, tracks_stand_apart};
-pub use tracks::write_trace;
+pub use tracks::trace;

@@ -1,6 +1,6 @@
 //! The tracks, and the whole trace.
 
-ghost use Rattle.std.specs.Prelude.{◌≡◌, ◌++◌, OnOk, codes, decimal, flat_map, length};
+ghost use Rattle.std.specs.Prelude.{◌≡◌, ◌++◌, IfOk, OnOk, codes, decimal, flat_map, length};
 ghost use Rattle.std.specs.List.{range_with_len};
 ghost use Rattle.sd_trace.specs.Tracks.{all_tracks, cpu_name, cpu_part, cpu_track, name_end, name_start, thread_part, thread_track, trace_start, track_order, track_start, trace_text, threads_start};
 
@@ -176,19 +176,16 @@ fn put_all_tracks(
     put_threads(alloc, work, history, out)
 }
 
-/// Appends the trace of a run of the workload, of which this is the history.
+/// The trace of a run of the workload, of which this is the history.
 #[tactic(auto, unfolding(crate::specs::Tracks::trace_text))]
-pub fn write_trace(
-    alloc: Global,
-    work: &Work,
-    history: &History,
-    out: &mut Vec<u8>,
-) -> Result<(), AllocError>
-    ensures { OnOk result (out.new.items ≡ out.old.items ++ trace_text work.now history.now) }
+pub fn trace(alloc: Global, work: &Work, history: &History) -> Result<Vec<u8>, AllocError>
+    ensures { IfOk result (λ text. text.items ≡ trace_text work.now history.now) }
 {
-    put_all_tracks(alloc, work, history, out)?;
-    put_wakeups(work, &history.wakeups, out)?;
-    put_hand_overs(work, &history.hand_overs, out)?;
-    put_loads(work, &history.loads, out)?;
-    out.extend_from_slice(b"\n]}\n")
+    let mut text = Vec::new(alloc);
+    put_all_tracks(alloc, work, history, &mut text)?;
+    put_wakeups(work, &history.wakeups, &mut text)?;
+    put_hand_overs(work, &history.hand_overs, &mut text)?;
+    put_loads(work, &history.loads, &mut text)?;
+    text.extend_from_slice(b"\n]}\n")?;
+    Ok(text)
 }

@@ -1,9 +1,8 @@
 -- What is drawn of a journal.
 -- Source: this project's own.
-use Rattle.std.specs.Prelude.{◌≡◌, ℕ, ◌+◌, min, Bool, false, ◌||◌, nat_lt, List, length}
+use Rattle.std.specs.Prelude.{◌≡◌, ℕ, ◌+◌, ◌-◌, min, nat_lt, List, [], ◌++◌, length, codes, decimal, if◌then◌else◌}
 use Rattle.sd_types.specs.declared.events.Entry.{Entry}
 use Rattle.sd_types.specs.declared.works.Work.{Work}
-use Rattle.sd_machine.specs.declared.states.State.{State}
 use Rattle.sd_machine.specs.Opening.{opening}
 use Rattle.sd_full.specs.Runs.{final, IsComplete}
 use Rattle.sd_stretches.specs.declared.histories.History.{History}
@@ -12,8 +11,12 @@ use Rattle.sd_gather.specs.Journals.{IsJournalOf}
 use Rattle.sd_timeline.specs.declared.frames.Frame.{Frame}
 use Rattle.sd_timeline.specs.Picture.{timeline_text}
 use Rattle.sd_trace.specs.Tracks.{trace_text}
+use Rattle.sd_story.specs.declared.selections.Selection.{Selection}
+use Rattle.sd_story.specs.declared.selections.Selection.TheVariants.{Ticks, Thread}
+use Rattle.sd_story.specs.Selections.{has_thread}
+use Rattle.sd_story.specs.Story.{story}
 use Rattle.sd_view.specs.declared.drawings.Drawing.{Drawing}
-use Rattle.sd_view.specs.declared.drawings.Drawing.TheVariants.{Timeline, Trace}
+use Rattle.sd_view.specs.declared.drawings.Drawing.TheVariants.{Timeline, Trace, Story}
 
 -- the ticks from a to b, as far as the run goes, and of these the first 2,000; and the first 100 threads
 abbrev pub first_tick : Work → ℕ → ℕ
@@ -28,25 +31,56 @@ rows w = min (length w.threads) 100
 abbrev pub frame_of : Work → ℕ → ℕ → Frame
 frame_of w from to = record { from = first_tick w from; to = last_tick w from to; cpus = w.cpus; threads = rows w }
 
--- ticks that were asked for, or threads, are left out
-abbrev pub is_part : Work → ℕ → ℕ → Bool
-is_part w from to = nat_lt (last_tick w from to) (min to w.limit) || nat_lt 100 (length w.threads)
+-- a word and a number
+abbrev pub counted : List ℕ → ℕ → List ℕ
+counted word n = word ++ decimal n
 
--- a drawing leaves something out; a trace has all of a run
-abbrev pub is_part_of : Drawing → Work → Bool
-is_part_of (Timeline from to) w = is_part w from to
-is_part_of Trace w = false
+-- the run ends before the ticks that were asked for
+unfoldable pub past_line : List ℕ → Work → List ℕ
+past_line form w = form ++ counted (codes ": the run ends at tick ") w.limit ++ codes "\n"
 
--- the text of a drawing
-abbrev pub drawn_text : Drawing → Work → History → State → List ℕ
-drawn_text (Timeline from to) w h s = timeline_text w (frame_of w from to) h s
-drawn_text Trace w h s = trace_text w h
+unfoldable pub from_to : List ℕ → ℕ → List ℕ → ℕ → List ℕ
+from_to word from then_word to = counted word from ++ counted then_word to
+
+unfoldable pub ticks_words : ℕ → ℕ → List ℕ
+ticks_words from to = from_to (codes "timeline: ticks ") from (codes " to ") to ++ from_to (codes " are not drawn; type: timeline ") from (codes " ") to ++ codes "\n"
+
+-- ticks that were asked for are left out
+unfoldable pub ticks_line : Work → ℕ → ℕ → List ℕ
+ticks_line w from to = if nat_lt (last_tick w from to) (min to w.limit) then ticks_words (last_tick w from to) (min to w.limit) else []
+
+unfoldable pub threads_words : ℕ → List ℕ
+threads_words n = counted (codes "timeline: ") n ++ codes " threads are not drawn; type for one: list NAME\n"
+
+-- threads are left out
+unfoldable pub threads_line : Work → List ℕ
+threads_line w = if nat_lt 100 (length w.threads) then threads_words (length w.threads - 100) else []
+
+unfoldable pub parts_line : Work → ℕ → ℕ → List ℕ
+parts_line w from to = ticks_line w from to ++ threads_line w
+
+unfoldable pub timeline_line : Work → ℕ → ℕ → List ℕ
+timeline_line w from to = if nat_lt from w.limit then parts_line w from to else past_line (codes "timeline") w
+
+unfoldable pub story_line : Work → Selection → List ℕ
+story_line w (Ticks from to) = if nat_lt w.limit from then past_line (codes "list") w else []
+story_line w (Thread name) = if has_thread w name.items then [] else codes "list: no thread has this name\n"
+
+-- what the error output says of a drawing: what is left out of it, or that the run does not have what was asked for
+abbrev pub left_line : Drawing → Work → List ℕ
+left_line (Timeline from to) w = timeline_line w from to
+left_line Trace w = []
+left_line (Story selection) w = story_line w selection
+
+-- the text is the drawing of the run of these entries
+abbrev pub IsDrawingOf : Drawing → Work → List Entry → List ℕ → Type 0
+IsDrawingOf (Timeline from to) w es text = (h : History) × IsHistory w es h × (text ≡ timeline_text w (frame_of w from to) h (final w (opening w) es))
+IsDrawingOf Trace w es text = (h : History) × IsHistory w es h × (text ≡ trace_text w h)
+IsDrawingOf (Story selection) w es text = text ≡ story w selection es
 
 -- the text is the drawing of the complete legal run whose journal was read
 pub record IsDrawn (drawing : Drawing) (w : Work) (journal drawn : List ℕ) : Type 0 where
   pub entries : List Entry
   pub journal_of : IsJournalOf w journal entries
   pub complete : IsComplete w (final w (opening w) entries)
-  pub history : History
-  pub is_history : IsHistory w entries history
-  pub text : drawn ≡ drawn_text drawing w history (final w (opening w) entries)
+  pub drawing_of : IsDrawingOf drawing w entries drawn

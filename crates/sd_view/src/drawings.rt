@@ -1,57 +1,78 @@
 //! The drawings.
 
-ghost use Rattle.std.specs.Prelude.{◌≡◌, ◌++◌, ◌<◌, ◌^◌, ℕ, IfOk, IfErr, OnOk, length};
+ghost use Rattle.std.specs.Prelude.{◌≡◌, ◌<◌, ◌^◌, ℕ, List as Items, IfOk, IfErr, length};
+ghost use Rattle.sd_types.specs.declared.events.Entry.{Entry as EntryValue};
 ghost use Rattle.sd_machine.specs.declared.states.State.{State as StateValue};
+ghost use Rattle.sd_machine.specs.Opening.{opening};
+ghost use Rattle.sd_full.specs.Runs.{final};
 ghost use Rattle.sd_audit.specs.Audits.{IsFault, IsJournal, IsMemory};
-ghost use Rattle.sd_view.specs.Drawings.{IsDrawn, drawn_text, is_part_of};
+ghost use Rattle.sd_gather.specs.Journals.{HasJournal, IsJournalOf};
+ghost use Rattle.sd_view.specs.declared.drawings.Drawing.TheVariants.{Timeline, Trace};
+ghost use Rattle.sd_view.specs.Drawings.{IsDrawingOf, IsDrawn};
 
-use crate::frames::{frame_of, is_part};
+use crate::frames::frame_of;
 use sd_audit::{AuditFault, audit};
 use sd_gather::gather;
 use sd_machine::State;
-use sd_stretches::History;
-use sd_timeline::write_timeline;
-use sd_trace::write_trace;
+use sd_story::{Selection, tell};
+use sd_timeline::timeline;
+use sd_trace::trace;
 use sd_types::Work;
 use std::alloc::{AllocError, Global};
 
-/// What is drawn of a run: the timeline of the ticks from `from` to `to`, or the trace.
-#[derive(Clone, Copy)]
+/// What is drawn of a run: the timeline of the ticks from `from` to `to`, the trace, or a story of some of its entries.
+#[derive(Drop)]
 pub enum Drawing {
     Timeline { from: u32, to: u32 },
     Trace,
+    Story(Selection),
 }
 
-fn write_drawing(
+fn draw_timeline(
     alloc: Global,
     work: &Work,
-    drawing: Drawing,
-    history: &History,
+    text: &[u8],
+    from: u32,
+    to: u32,
     s: &State,
-    out: &mut Vec<u8>,
-) -> Result<(), AllocError>
-    ensures { OnOk result (out.new.items ≡ out.old.items ++ drawn_text drawing work.now history.now s.now) }
+) -> Result<Vec<u8>, AllocError>
+    requires text { length text.now < 2 ^ 31 }
+    requires journal { HasJournal work.now text.now }
+    ensures { IfOk result (λ out. (es : Items EntryValue) → IsJournalOf work.now text.now es
+        → s.now ≡ final work.now (opening work.now) es → IsDrawingOf (Timeline from to) work.now es out.items) }
 {
-    match drawing {
-        Drawing::Timeline { from, to } => write_timeline(
-            alloc,
-            work,
-            frame_of(work, from, to),
-            history,
-            s,
-            out,
-        ),
-        Drawing::Trace => write_trace(alloc, work, history, out),
-    }
+    let history = gather(alloc, work, text)?;
+    let out = timeline(alloc, work, frame_of(work, from, to), &history, s)?;
+    Ok(out)
 }
 
-/// Whether a drawing of a run of the workload leaves something out: ticks that were asked for, or threads.
-pub fn is_part_of(work: &Work, drawing: Drawing) -> bool
-    ensures { result ≡ is_part_of drawing work.now }
+fn draw_trace(alloc: Global, work: &Work, text: &[u8]) -> Result<Vec<u8>, AllocError>
+    requires text { length text.now < 2 ^ 31 }
+    requires journal { HasJournal work.now text.now }
+    ensures { IfOk result (λ out. (es : Items EntryValue) → IsJournalOf work.now text.now es → IsDrawingOf Trace work.now es out.items) }
+{
+    let history = gather(alloc, work, text)?;
+    let out = trace(alloc, work, &history)?;
+    Ok(out)
+}
+
+// The drawing of the run whose journal the text is, and whose final state is given.
+fn drawing_text(
+    alloc: Global,
+    work: &Work,
+    text: &[u8],
+    drawing: &Drawing,
+    s: &State,
+) -> Result<Vec<u8>, AllocError>
+    requires text { length text.now < 2 ^ 31 }
+    requires journal { HasJournal work.now text.now }
+    ensures { IfOk result (λ out. (es : Items EntryValue) → IsJournalOf work.now text.now es
+        → s.now ≡ final work.now (opening work.now) es → IsDrawingOf drawing.now work.now es out.items) }
 {
     match drawing {
-        Drawing::Timeline { from, to } => is_part(work, from, to),
-        Drawing::Trace => false,
+        Drawing::Timeline { from, to } => draw_timeline(alloc, work, text, *from, *to, s),
+        Drawing::Trace => draw_trace(alloc, work, text),
+        Drawing::Story(selection) => tell(alloc, work, text, selection),
     }
 }
 
@@ -60,17 +81,15 @@ fn drawn(
     alloc: Global,
     work: &Work,
     text: &[u8],
-    drawing: Drawing,
+    drawing: &Drawing,
     s: &State,
     _number: u64,
 ) -> Result<Vec<u8>, AllocError>
     requires text { length text.now < 2 ^ 31 }
     requires journal { IsJournal work.now text.now s.now _number }
-    ensures { IfOk result (λ out. IsDrawn drawing work.now text.now out.items) }
+    ensures { IfOk result (λ out. IsDrawn drawing.now work.now text.now out.items) }
 {
-    let history = gather(alloc, work, text)?;
-    let mut out = Vec::new(alloc);
-    write_drawing(alloc, work, drawing, &history, s, &mut out)?;
+    let out = drawing_text(alloc, work, text, drawing, s)?;
     Ok(out)
 }
 
@@ -80,10 +99,10 @@ pub fn draw(
     alloc: Global,
     work: &Work,
     text: &[u8],
-    drawing: Drawing,
+    drawing: &Drawing,
 ) -> Result<Vec<u8>, AuditFault>
     requires { length text.now < 2 ^ 31 }
-    ensures drawn { IfOk result (λ out. IsDrawn drawing work.now text.now out.items) }
+    ensures drawn { IfOk result (λ out. IsDrawn drawing.now work.now text.now out.items) }
     ensures fault { IfErr result (IsFault work.now text.now) }
     ensures exact { IfErr result (λ fault. (s : StateValue) (n : ℕ) → IsJournal work.now text.now s n → IsMemory fault) }
 {

@@ -1,7 +1,7 @@
 //! How much of a run a timeline shows.
 
 ghost use Rattle.std.specs.Prelude.{◌≡◌};
-ghost use Rattle.sd_view.specs.Drawings.{first_tick, frame_of, is_part, last_tick, rows};
+ghost use Rattle.sd_view.specs.Drawings.{first_tick, frame_of, last_tick, rows};
 
 use sd_timeline::Frame;
 use sd_types::Work;
@@ -9,7 +9,7 @@ use sd_types::Work;
 // The most ticks and threads that one picture shows.
 const MOST_TICKS: u32 = 2000;
 
-const MOST_THREADS: usize = 100;
+pub(crate) const MOST_THREADS: usize = 100;
 
 fn first_tick(work: &Work, from: u32) -> u32
     ensures { result ≡ first_tick work.now from }
@@ -17,7 +17,8 @@ fn first_tick(work: &Work, from: u32) -> u32
     from.min(work.limit)
 }
 
-fn last_tick(work: &Work, from: u32, to: u32) -> u32
+/// The last tick that is drawn of those from `from` to `to`.
+pub(crate) fn last_tick(work: &Work, from: u32, to: u32) -> u32
     ensures { result ≡ last_tick work.now from to }
 {
     to.min(work.limit)
@@ -40,11 +41,4 @@ pub(crate) fn frame_of(work: &Work, from: u32, to: u32) -> Frame
         cpus: work.cpus,
         threads: rows(work),
     }
-}
-
-/// Whether ticks that were asked for, or threads, are left out.
-pub(crate) fn is_part(work: &Work, from: u32, to: u32) -> bool
-    ensures { result ≡ is_part work.now from to }
-{
-    last_tick(work, from, to) < to.min(work.limit) || MOST_THREADS < work.threads.items().len()
 }

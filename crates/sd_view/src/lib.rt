@@ -1,9 +1,11 @@
-//! What `dispview` draws: the timeline or the trace of the run whose journal a text is, and nothing where it is none.
+//! What `dispview` draws: the timeline, the trace or the story of the run whose journal a text is, and nothing where it is none.
 #![tactic(auto)]
 
 mod drawings;
 mod forms;
 mod frames;
+mod lines;
 
-pub use drawings::{Drawing, draw, is_part_of};
-pub use forms::drawing_of;
+pub use drawings::{Drawing, draw};
+pub use forms::{Request, drawing_of, request_of};
+pub use lines::left_line;

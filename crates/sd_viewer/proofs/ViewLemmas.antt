@@ -1,7 +1,9 @@
 -- The answers of `dispview` have their causes, and what is promised of a call follows from them.
-use Rattle.std.proofs.Common.{◌≡◌, ℕ, List, length, Bool, Result, Err, Option, Some, None, refl, sym, ap, subst, ◌∙◌, inl, inr, arith}
+use Rattle.std.proofs.Common.{◌≡◌, ℕ, List, length, Result, Err, Option, Some, None, refl, sym, ap, subst, ◌∙◌, inl, inr, arith}
 use Rattle.std.specs.Prelude.{◌↔◌}
 use Rattle.std.specs.Result.{IsErrAnd}
+use Rattle.std.specs.declared.vec.Vec.{Vec}
+use Rattle.std.specs.declared.alloc.Global.{Global}
 use Rattle.std.proofs.lemmas.Result.{err_from_is_err_and}
 use Rattle.sd_machine.specs.Opening.{opening}
 use Rattle.sd_full.specs.Runs.{final}
@@ -16,9 +18,11 @@ use Rattle.sd_answers.specs.StreamChanges.{StreamChange, IsUntouched, Puts, Tell
 use Rattle.sd_answers.proofs.InputLemmas.{at_most_of}
 use Rattle.sd_answers.proofs.CertificateLemmas.{completes_of, faulty_of, not_usage, refuses_certificate_of, refuses_faulty_of}
 use Rattle.sd_view.specs.declared.drawings.Drawing.{Drawing}
-use Rattle.sd_view.specs.Forms.{drawing_of}
-use Rattle.sd_viewer.specs.Promises.{KeepsPromises}
-use Rattle.sd_viewer.specs.Viewing.{IsDrawnInput, IsDrawing, Draws, CausedByView, CausedBy, answer_line, viewed_answer, viewed_line}
+use Rattle.sd_view.specs.declared.forms.Request.{Request}
+use Rattle.sd_view.specs.declared.forms.Request.TheVariants.{Help, Draw}
+use Rattle.sd_view.specs.Forms.{request_of}
+use Rattle.sd_viewer.specs.Promises.{Helps, KeepsPromises}
+use Rattle.sd_viewer.specs.Viewing.{IsDrawnInput, IsDrawing, Draws, CausedByView, CausedByHelp, CausedBy, answer_line, help_text, viewed_answer, viewed_line}
 
 -- ---- the answer to a drawing
 
@@ -44,7 +48,7 @@ unwritten_view d input out text unwritten.Fault drawn p none = ((text, drawn, p.
 unwritten_view d input out text unwritten.Memory drawn p none = absurd (none refl)
 
 -- what the exit of a `?` returns
-pub view_exit : (d : Drawing) (input out : StreamChange) (r : Result Bool Answer) (a : Answer) → IsErrAnd r (λ y. y ≡ a) → CausedByView d input out a (answer_line a)
+pub view_exit : (d : Drawing) (input out : StreamChange) (r : Result (Vec ℕ Global) Answer) (a : Answer) → IsErrAnd r (λ y. y ≡ a) → CausedByView d input out a (answer_line a)
     → CausedByView d input out (viewed_answer r) (viewed_line r)
 view_exit d input out r a exit caused =
     let x = err_from_is_err_and r exit in
@@ -107,24 +111,58 @@ module _ (d : Drawing) (input out : StreamChange) (line : List ℕ) where
   refuses_faulty_view : (a : Answer) → CausedByView d input out a line → RefusesFaulty input (status_of a)
   refuses_faulty_view a c = refuses_faulty_of (IsDrawnInput d input) (λ text. text) input out held a (cause_of a c)
 
-faults_of : (k : Option Drawing) (input out : StreamChange) (a : Answer) (line : List ℕ) → CausedBy k input out a line → status_of a ≡ 7 → RefusesJournal input out
-faults_of None input out a line c s = absurd (omega (arith, ap status_of c.0))
-faults_of (Some d) input out a line c s = faulty_of (IsDrawnInput d input) (λ text. text) input out a (cause_of d input out line a c) s
+-- ---- the forms
 
-usage_of : (k : Option Drawing) (input out : StreamChange) (a : Answer) (line : List ℕ) → CausedBy k input out a line → (status_of a ≡ 1) ↔ (k ≡ None)
+-- they were not written whole
+pub unwritten_help : (out : StreamChange) (e : Unwritten) → Puts out.before out.after out.faults_before out.faults_after help_text (Err e)
+    → (e ≡ unwritten.Memory → ⊥) → CausedByHelp out WriteFault
+unwritten_help out unwritten.Fault p none = (p.part, p.fault refl)
+unwritten_help out unwritten.Memory p none = absurd (none refl)
+
+helps_of : (input out : StreamChange) (a : Answer) → CausedByHelp out a → IsUntouched input → Helps input out (status_of a)
+helps_of input out Done c kept = (kept, inl (refl, c.0))
+helps_of input out Usage c kept = absurd c
+helps_of input out TooLarge c kept = absurd c
+helps_of input out TooLargeToAudit c kept = absurd c
+helps_of input out NoJournal c kept = absurd c
+helps_of input out (Refused number cause) c kept = absurd c
+helps_of input out ReadFault c kept = absurd c
+helps_of input out WriteFault c kept = (kept, inr (refl, c.1))
+helps_of input out OutOfMemory c kept = absurd c
+helps_of input out Blocked c kept = absurd c
+helps_of input out (NotAJournal fault) c kept = absurd c
+helps_of input out TooLong c kept = absurd c
+
+-- the status is 0 or 4
+no_help : {P : Type 0} (input out : StreamChange) (status n : ℕ) → Helps input out status → status ≡ n → (n ≡ 0 → ⊥) → (n ≡ 4 → ⊥) → P
+no_help input out status n h is zero four = elim h.1 [
+  | inl (s, a) ↦ absurd (zero (sym is ∙ s))
+  | inr (s, a) ↦ absurd (four (sym is ∙ s))
+]
+
+faults_of : (k : Option Request) (input out : StreamChange) (a : Answer) (line : List ℕ) → CausedBy k input out a line → status_of a ≡ 7 → RefusesJournal input out
+faults_of None input out a line c s = absurd (omega (arith, ap status_of c.0))
+faults_of (Some Help) input out a line c s = no_help input out (status_of a) 7 (helps_of input out a c.0 c.2) s (λ e. omega arith) (λ e. omega arith)
+faults_of (Some (Draw d)) input out a line c s = faulty_of (IsDrawnInput d input) (λ text. text) input out a (cause_of d input out line a c) s
+
+usage_of : (k : Option Request) (input out : StreamChange) (a : Answer) (line : List ℕ) → CausedBy k input out a line → (status_of a ≡ 1) ↔ (k ≡ None)
 usage_of None input out a line c = (λ one. refl, λ none. ap status_of c.0)
-usage_of (Some d) input out a line c = (λ one. absurd (not_usage (IsDrawnInput d input) (λ text. text) input out a (cause_of d input out line a c) one), λ none. cc)
+usage_of (Some Help) input out a line c =
+    (λ one. no_help input out (status_of a) 1 (helps_of input out a c.0 c.2) one (λ e. omega arith) (λ e. omega arith), λ none. cc)
+usage_of (Some (Draw d)) input out a line c = (λ one. absurd (not_usage (IsDrawnInput d input) (λ text. text) input out a (cause_of d input out line a c) one), λ none. cc)
 
 pub promises_of : (arguments : List (List ℕ)) (input out err : StreamChange) (a : Answer) (line : List ℕ) (status : ℕ) → status ≡ status_of a
-    → CausedBy (drawing_of arguments) input out a line → TellsLine err line → KeepsPromises arguments input out err status
+    → CausedBy (request_of arguments) input out a line → TellsLine err line → KeepsPromises arguments input out err status
 promises_of arguments input out err a line status is caused told =
-    let asked = λ (d : Drawing) (known : drawing_of arguments ≡ Some d). subst (λ k. CausedBy k input out a line) known caused in
+    let asked = λ (d : Drawing) (known : request_of arguments ≡ Some (Draw d)). subst (λ k. CausedBy k input out a line) known caused in
+    let helped = λ (known : request_of arguments ≡ Some Help). subst (λ k. CausedBy k input out a line) known caused in
     record {
       answered = record { answer = a; line = line; exit = is; caused = caused; told = told };
       draws = λ d known zero. (line, draws_of d input out line a (asked d known) (sym is ∙ zero), told);
-      faults = λ seven. faults_of (drawing_of arguments) input out a line caused (sym is ∙ seven);
+      faults = λ seven. faults_of (request_of arguments) input out a line caused (sym is ∙ seven);
       completes = λ d known. subst (CompletesCertificate input out) (sym is) (completes_view d input out line a (asked d known));
       refuses = λ d known. subst (RefusesCertificate input) (sym is) (refuses_view d input out line a (asked d known));
       refuses_faulty = λ d known. subst (RefusesFaulty input) (sym is) (refuses_faulty_view d input out line a (asked d known));
-      usage = subst (λ s. (s ≡ 1) ↔ (drawing_of arguments ≡ None)) (sym is) (usage_of (drawing_of arguments) input out a line caused);
+      helps = λ known. subst (Helps input out) (sym is) (helps_of input out a (helped known).0 (helped known).2);
+      usage = subst (λ s. (s ≡ 1) ↔ (request_of arguments ≡ None)) (sym is) (usage_of (request_of arguments) input out a line caused);
     }

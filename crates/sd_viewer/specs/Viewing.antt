@@ -1,17 +1,21 @@
 -- What stands behind an answer of `dispview`.
 -- Source: this project's own.
-use Rattle.std.specs.Prelude.{◌≡◌, ℕ, Bool, true, false, List, [], codes, Option, Some, None, Result, Ok, Err}
+use Rattle.std.specs.Prelude.{◌≡◌, ℕ, List, [], ◌++◌, codes, Option, Some, None, Result, Ok, Err}
 use Rattle.std.specs.Io.KnownBytes.{Appends}
+use Rattle.std.specs.declared.vec.Vec.{Vec}
+use Rattle.std.specs.declared.alloc.Global.{Global}
 use Rattle.sd_types.specs.declared.works.Work.{Work}
 use Rattle.sd_answers.specs.declared.answers.Answer.{Answer}
-use Rattle.sd_answers.specs.declared.answers.Answer.TheVariants.{Done, Usage}
+use Rattle.sd_answers.specs.declared.answers.Answer.TheVariants.{Done, Usage, WriteFault}
 use Rattle.sd_answers.specs.Answers.{line_of, status_of}
 use Rattle.sd_answers.specs.Certificates.{CausedByCertificate, IsJudged}
 use Rattle.sd_answers.specs.Inputs.{IsCertificate}
-use Rattle.sd_answers.specs.StreamChanges.{StreamChange, HasNoFault, IsUntouched, TellsLine}
+use Rattle.sd_answers.specs.StreamChanges.{StreamChange, AppendsPart, HasFault, HasNoFault, IsUntouched, TellsLine}
 use Rattle.sd_view.specs.declared.drawings.Drawing.{Drawing}
-use Rattle.sd_view.specs.Drawings.{IsDrawn, is_part_of}
-use Rattle.sd_view.specs.Forms.{drawing_of}
+use Rattle.sd_view.specs.declared.forms.Request.{Request}
+use Rattle.sd_view.specs.declared.forms.Request.TheVariants.{Help, Draw}
+use Rattle.sd_view.specs.Drawings.{IsDrawn, left_line}
+use Rattle.sd_view.specs.Forms.{request_of}
 use Rattle.sd_viewer.specs.declared.viewing.Drawn.{Drawn}
 
 -- the input is a workload and the journal of a complete run of it, and the text is the drawing of this run
@@ -21,52 +25,58 @@ pub record IsDrawnInput (drawing : Drawing) (input : StreamChange) (text : List 
   pub certificate : IsCertificate input work journal
   pub drawn : IsDrawn drawing work journal text
 
--- the drawing of the run whose journal the input holds, and whether it leaves something out, or why there is none
+-- the drawing of the run whose journal the input holds, and what is said of it, or why there is none
 abbrev pub IsDrawing : Drawing → StreamChange → Result Drawn Answer → Type 0
 IsDrawing drawing input drawn =
-    IsJudged (λ (d : Drawn). (of : IsDrawnInput drawing input d.text.items) × (d.part ≡ is_part_of drawing of.work)) input drawn
+    IsJudged (λ (d : Drawn). (of : IsDrawnInput drawing input d.text.items) × (d.line.items ≡ left_line drawing of.work)) input drawn
 
 -- ---- the lines on the error output
 
 -- the line of an answer where no drawing was written: that of an audit, but for the usage
 abbrev pub answer_line : Answer → List ℕ
-answer_line Usage = codes "usage: dispview timeline | timeline FROM TO | trace\n"
+answer_line Usage = codes "usage: dispview timeline [FROM TO] | trace | list [FROM TO] | list NAME | --help\n"
 answer_line a = line_of a
 
--- says that ticks that were asked for, or threads, are left out of a picture
-abbrev pub part_line : List ℕ
-part_line = codes "timeline: not all ticks and threads are drawn\n"
+-- ---- the forms in a few lines
 
--- the line of a drawing that was written: none where nothing is left out
-abbrev pub drawn_line : Bool → List ℕ
-drawn_line true = part_line
-drawn_line false = []
+abbrev pub help_text : List ℕ
+help_text =
+    codes "dispview reads a workload, the line journal, and a journal, and judges it:\n" ++ (codes "(cat W; echo journal; dispsim run < W) | dispview FORM\n"
+    ++ (codes "timeline          the run as a picture (SVG)\n" ++ (codes "timeline FROM TO  the ticks from FROM to TO of it\n"
+    ++ (codes "trace             the run for chrome://tracing and Perfetto (JSON)\n" ++ (codes "list              each entry with a sentence on it\n"
+    ++ (codes "list FROM TO      those of the ticks from FROM to TO\n" ++ (codes "list NAME         those that name the thread NAME\n" ++ codes "--help            these lines\n")))))))
 
 -- ---- an answer, its cause and its line
 
--- The drawing was written whole, of one workload and one journal of it; and the line says whether something of what was
--- asked for is left out of the drawing of a run of this workload.
+-- The drawing was written whole, of one workload and one journal of it; and the line says what of what was asked for is left
+-- out of the drawing of a run of this workload, or is not there.
 abbrev pub Draws : Drawing → StreamChange → StreamChange → List ℕ → Type 0
 Draws drawing input out line =
-    (text : List ℕ) × (of : IsDrawnInput drawing input text) × Appends out.before out.after text × HasNoFault out
-    × (line ≡ drawn_line (is_part_of drawing of.work))
+    (text : List ℕ) × (of : IsDrawnInput drawing input text) × Appends out.before out.after text × HasNoFault out × (line ≡ left_line drawing of.work)
 
 -- where a drawing is asked for
 abbrev pub CausedByView : Drawing → StreamChange → StreamChange → Answer → List ℕ → Type 0
 CausedByView drawing input out Done line = Draws drawing input out line
 CausedByView drawing input out a line = CausedByCertificate (IsDrawnInput drawing input) (λ text. text) input out a × (line ≡ answer_line a)
 
-abbrev pub CausedBy : Option Drawing → StreamChange → StreamChange → Answer → List ℕ → Type 0
-CausedBy None input out a line = (a ≡ Usage) × (line ≡ answer_line a) × IsUntouched input × IsUntouched out
-CausedBy (Some drawing) input out a line = CausedByView drawing input out a line
+-- where the forms are asked for: they were written whole, or a write failed
+abbrev pub CausedByHelp : StreamChange → Answer → Type 0
+CausedByHelp out Done = Appends out.before out.after help_text × HasNoFault out
+CausedByHelp out WriteFault = AppendsPart out.before out.after help_text × HasFault out
+CausedByHelp out _ = ⊥
 
--- the answer where a drawing was written, and true where it leaves something out, or where none was
-abbrev pub viewed_answer : Result Bool Answer → Answer
-viewed_answer (Ok part) = Done
+abbrev pub CausedBy : Option Request → StreamChange → StreamChange → Answer → List ℕ → Type 0
+CausedBy None input out a line = (a ≡ Usage) × (line ≡ answer_line a) × IsUntouched input × IsUntouched out
+CausedBy (Some Help) input out a line = CausedByHelp out a × (line ≡ answer_line a) × IsUntouched input
+CausedBy (Some (Draw drawing)) input out a line = CausedByView drawing input out a line
+
+-- the answer where a drawing was written, with what is said of it, or where none was
+abbrev pub viewed_answer : Result (Vec ℕ Global) Answer → Answer
+viewed_answer (Ok line) = Done
 viewed_answer (Err a) = a
 
-abbrev pub viewed_line : Result Bool Answer → List ℕ
-viewed_line (Ok part) = drawn_line part
+abbrev pub viewed_line : Result (Vec ℕ Global) Answer → List ℕ
+viewed_line (Ok line) = line.items
 viewed_line (Err a) = answer_line a
 
 -- there is an answer to the arguments with this status, with its cause and its line
@@ -74,5 +84,5 @@ pub record IsViewed (arguments : List (List ℕ)) (input out err : StreamChange)
   pub answer : Answer
   pub line : List ℕ
   pub exit : status ≡ status_of answer
-  pub caused : CausedBy (drawing_of arguments) input out answer line
+  pub caused : CausedBy (request_of arguments) input out answer line
   pub told : TellsLine err line

@@ -1,6 +1,7 @@
 //! The top call of `dispview`, which draws the run whose journal an input holds.
 #![tactic(auto)]
 
+mod helping;
 mod top;
 mod viewing;
 

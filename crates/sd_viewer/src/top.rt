@@ -8,16 +8,16 @@ ghost use Rattle.sd_viewer.specs.Promises.{KeepsPromises};
 ghost use Rattle.sd_viewer.specs.Starts.{Starts};
 ghost use Rattle.sd_viewer.specs.Viewing.{answer_line, viewed_answer, viewed_line};
 
+use crate::helping::put_help;
 use crate::viewing::view_input;
 use sd_answers::{Answer, Unwritten, put_line};
 use sd_text::{Sink, Source};
-use sd_view::drawing_of;
+use sd_view::{Request, request_of};
 use std::alloc::Global;
 use std::io;
 
-const USAGE: &[u8] = b"usage: dispview timeline | timeline FROM TO | trace\n";
-
-const PART: &[u8] = b"timeline: not all ticks and threads are drawn\n";
+const USAGE: &[u8] =
+    b"usage: dispview timeline [FROM TO] | trace | list [FROM TO] | list NAME | --help\n";
 
 /// Writes the line of an answer where no drawing was written.
 fn put_answer<E: Sink>(answer: Answer, err: &mut E) -> Result<(), Unwritten>
@@ -30,17 +30,16 @@ fn put_answer<E: Sink>(answer: Answer, err: &mut E) -> Result<(), Unwritten>
     }
 }
 
-/// Writes the line of the answer, or that something was left out, and returns the exit status. A fault of `err` changes none.
-fn tell<E: Sink>(viewed: Result<bool, Answer>, err: &mut E) -> u8
+/// Writes the line of the answer, or what is said of a drawing, and returns the exit status. A fault of `err` changes none.
+fn tell<E: Sink>(viewed: Result<Vec<u8>, Answer>, err: &mut E) -> u8
     ensures status { result ≡ status_of (viewed_answer viewed) }
     ensures told { TellsLine (change_of (E.contents err.old) (E.contents err.new) (E.fault_count err.old) (E.fault_count err.new)) (viewed_line viewed) }
 {
     match viewed {
-        Ok(true) => {
-            let _ = put_line(err, PART);
+        Ok(line) => {
+            let _ = put_line(err, &line);
             0
         }
-        Ok(false) => 0,
         Err(answer) => {
             let _ = put_answer(answer, err);
             answer.status()
@@ -52,7 +51,8 @@ fn tell<E: Sink>(viewed: Result<bool, Answer>, err: &mut E) -> u8
 /// input holds behind its workload was written), 1 (the arguments are of none of the forms), 2 (the input is too large, holds no
 /// journal or no accepted workload), 3 (a read failed), 4 (a write failed), 5 (out of memory) or 7 (the journal is not that of
 /// a complete run). Nothing is written to `out` before the journal was judged. Each status but 0 leaves a line on `err`, and 0
-/// does exactly where ticks that were asked for or threads of the workload are left out.
+/// does exactly where ticks that were asked for or threads of the workload are left out, or the run does not have what was asked
+/// for. `--help` reads nothing, and writes the forms.
 pub fn view<S: Source, K: Sink, E: Sink>(
     alloc: Global,
     arguments: &[String],
@@ -66,8 +66,9 @@ pub fn view<S: Source, K: Sink, E: Sink>(
         (change_of (E.contents err.old) (E.contents err.new) (E.fault_count err.old) (E.fault_count err.new))
         result }
 {
-    match drawing_of(arguments) {
-        Some(drawing) => tell(view_input(alloc, drawing, input, out), err),
+    match request_of(arguments) {
+        Some(Request::Help) => tell(put_help(alloc, out), err),
+        Some(Request::Draw(drawing)) => tell(view_input(alloc, &drawing, input, out), err),
         None => tell(Err(Answer::Usage), err),
     }
 }

@@ -5,42 +5,40 @@ ghost use Rattle.sd_viewer.specs.Viewing.{CausedByView, IsDrawing, viewed_answer
 
 use sd_answers::{Answer, put_text, read_certificate};
 use sd_text::{Sink, Source};
-use sd_view::{Drawing, draw, is_part_of};
+use sd_view::{Drawing, draw, left_line};
 use std::alloc::Global;
 
-/// The text of a drawing, and whether something is left out of it.
+/// The text of a drawing, and what is said of it: what is left out, or is not there.
 #[derive(Drop)]
 pub struct Drawn {
     pub text: Vec<u8>,
-    pub part: bool,
+    pub line: Vec<u8>,
 }
 
 /// The drawing of the run whose journal the input holds behind its workload, or why there is none.
-fn draw_input<S: Source>(alloc: Global, drawing: Drawing, input: &mut S) -> Result<Drawn, Answer>
-    ensures { IsDrawing drawing (change_of (S.remaining input.old) (S.remaining input.new) (S.fault_count input.old) (S.fault_count input.new)) result }
+fn draw_input<S: Source>(alloc: Global, drawing: &Drawing, input: &mut S) -> Result<Drawn, Answer>
+    ensures { IsDrawing drawing.now (change_of (S.remaining input.old) (S.remaining input.new) (S.fault_count input.old) (S.fault_count input.new)) result }
 {
     let certificate = read_certificate(alloc, input)?;
     let text = draw(alloc, &certificate.work, &certificate.journal, drawing)?;
-    Ok(Drawn {
-        text,
-        part: is_part_of(&certificate.work, drawing),
-    })
+    let line = left_line(alloc, &certificate.work, drawing)?;
+    Ok(Drawn { text, line })
 }
 
-/// Reads a workload and a journal, and writes the drawing of the run where the journal is that of a complete one. True where
-/// something is left out.
+/// Reads a workload and a journal, and writes the drawing of the run where the journal is that of a complete one. What is
+/// said of it is returned.
 pub(crate) fn view_input<S: Source, K: Sink>(
     alloc: Global,
-    drawing: Drawing,
+    drawing: &Drawing,
     input: &mut S,
     out: &mut K,
-) -> Result<bool, Answer>
-    ensures { CausedByView drawing
+) -> Result<Vec<u8>, Answer>
+    ensures { CausedByView drawing.now
         (change_of (S.remaining input.old) (S.remaining input.new) (S.fault_count input.old) (S.fault_count input.new))
         (change_of (K.contents out.old) (K.contents out.new) (K.fault_count out.old) (K.fault_count out.new))
         (viewed_answer result) (viewed_line result) }
 {
     let drawn = draw_input(alloc, drawing, input)?;
     put_text(out, &drawn.text)?;
-    Ok(drawn.part)
+    Ok(drawn.line)
 }

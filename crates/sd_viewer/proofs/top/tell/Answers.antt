@@ -1,18 +1,20 @@
-use Rattle.std.proofs.Common.{Ok, Bool, sym, ap, subst, ◌∙◌}
-use Rattle.sd_answers.specs.StreamChanges.{TellsLine, change_of}
+use Rattle.std.proofs.Common.{ℕ, List, sym, ap, subst}
+use Rattle.sd_answers.specs.StreamChanges.{Puts, TellsLine, change_of}
 use Rattle.sd_answers.proofs.PutLemmas.{tells_of}
-use Rattle.sd_viewer.specs.Viewing.{answer_line, part_line, viewed_line}
+use Rattle.sd_viewer.specs.Viewing.{answer_line, viewed_line}
 use Rattle.sd_viewer.proofs.top.tell.Goals as goal
 
-pub returns-in-Ok-true-clause-told : goal.returns-in-Ok-true-clause-told
-returns-in-Ok-true-clause-told g c =
+pub returns-in-Ok-clause-told : goal.returns-in-Ok-clause-told
+returns-in-Ok-clause-told g c =
     let held = g.E.Sink.contents in
     let faults = g.E.Sink.fault_count in
     let a = c.args.err.now in
     let b = c.put_line.new.out in
     let err = change_of (held a) (held b) (faults a) (faults b) in
-    subst (TellsLine err) (sym (ap viewed_line (c.in-Ok-true.is ∙ ap (λ (x : Bool). Ok x) c.in-Ok-true.field-0-test)))
-    (tells_of err part_line c.put_line.result c.put_line.ensures.puts c.put_line.ensures.no_memory)
+    let line = c.in-Ok.line.items in
+    subst (TellsLine err) (sym (ap viewed_line c.in-Ok.is))
+    (tells_of err line c.put_line.result
+    (subst (λ (t : List ℕ). Puts (held a) (held b) (faults a) (faults b) t c.put_line.result) c.deref.ensures.value c.put_line.ensures.puts) c.put_line.ensures.no_memory)
 
 pub returns-in-Err-clause-told : goal.returns-in-Err-clause-told
 returns-in-Err-clause-told g c =

@@ -3,7 +3,7 @@ use Rattle.sd_audit.specs.Audits.{IsFault}
 use Rattle.sd_answers.specs.Answers.{audit_answer}
 use Rattle.sd_answers.specs.StreamChanges.{change_of}
 use Rattle.sd_answers.proofs.CertificateLemmas.{unjudged, judged_exit}
-use Rattle.sd_view.specs.Drawings.{IsDrawn, is_part_of}
+use Rattle.sd_view.specs.Drawings.{IsDrawn, left_line}
 use Rattle.sd_viewer.specs.declared.viewing.Drawn.{Drawn}
 use Rattle.sd_viewer.specs.Viewing.{IsDrawnInput}
 use Rattle.sd_viewer.proofs.viewing.draw_input.Goals as goal
@@ -17,8 +17,8 @@ returns-in_err-text g c =
     let input = change_of (left i) (left j) (faults i) (faults j) in
     let found = c.in_ok-certificate.certificate in
     let fault = c.in_err-text.field-0.0 in
-    let drawing = c.args.drawing in
-    let Made = λ (d : Drawn). (of : IsDrawnInput drawing input d.text.items) × (d.part ≡ is_part_of drawing of.work) in
+    let drawing = c.args.drawing.now in
+    let Made = λ (d : Drawn). (of : IsDrawnInput drawing input d.text.items) × (d.line.items ≡ left_line drawing of.work) in
     judged_exit Made input c.from_residual-in_err-text.result (audit_answer fault) c.from_residual-in_err-text.ensures.1
     (unjudged Made input found.work found.journal.items fault c.in_ok-certificate.ensures
     (subst (λ text. IsFault found.work text fault) c.deref.ensures.value c.in_err-text.ensures.fault))
@@ -30,7 +30,7 @@ returns g c =
         work = found.work;
         journal = found.journal.items;
         certificate = c.in_ok-certificate.ensures;
-        drawn = subst (λ text. IsDrawn c.args.drawing found.work text c.in_ok-text.text.items) c.deref.ensures.value c.in_ok-text.ensures.drawn;
+        drawn = subst (λ text. IsDrawn c.args.drawing.now found.work text c.in_ok-text.text.items) c.deref.ensures.value c.in_ok-text.ensures.drawn;
       },
-      c.is_part_of.ensures,
+      c.in_ok-line.ensures,
     )

@@ -1,7 +1,6 @@
 use Rattle.std.proofs.Common.{refl, ap, subst, List, ℕ, Ok, Err}
 use Rattle.sd_answers.specs.StreamChanges.{change_of, Puts}
 use Rattle.sd_answers.specs.Answers.{unwritten_answer}
-use Rattle.sd_viewer.specs.Viewing.{drawn_line}
 use Rattle.sd_viewer.proofs.ViewLemmas.{undrawn, unwritten_view, view_exit}
 use Rattle.sd_viewer.proofs.viewing.view_input.Goals as goal
 
@@ -16,8 +15,8 @@ returns-in_err-drawn g c =
     let written = g.K.Sink.fault_count c.args.out.now in
     let out = change_of held held written written in
     let answer = c.in_err-drawn.field-0.0 in
-    view_exit c.args.drawing input out c.from_residual.result answer c.from_residual.ensures.1
-    (undrawn c.args.drawing input out answer c.in_err-drawn.ensures (record { bytes = refl; no_fault = refl }))
+    view_exit c.args.drawing.now input out c.from_residual.result answer c.from_residual.ensures.1
+    (undrawn c.args.drawing.now input out answer c.in_err-drawn.ensures (record { bytes = refl; no_fault = refl }))
 
 pub returns-in_err-put_text : goal.returns-in_err-put_text
 returns-in_err-put_text g c =
@@ -33,8 +32,8 @@ returns-in_err-put_text g c =
     let out = change_of (held o) (held p) (written o) (written p) in
     let text = c.in_ok-drawn.drawn.text.items in
     let e = c.in_err-put_text.field-0.0 in
-    view_exit c.args.drawing input out c.from_residual-in_err-put_text.result (unwritten_answer e) c.from_residual-in_err-put_text.ensures.1
-    (unwritten_view c.args.drawing input out text e c.in_ok-drawn.ensures.0
+    view_exit c.args.drawing.now input out c.from_residual-in_err-put_text.result (unwritten_answer e) c.from_residual-in_err-put_text.ensures.1
+    (unwritten_view c.args.drawing.now input out text e c.in_ok-drawn.ensures.0
     (subst (λ (t : List ℕ). Puts (held o) (held p) (written o) (written p) t (Err e)) c.deref.ensures.value c.in_err-put_text.ensures.puts) (λ is. c.in_err-put_text.ensures.no_memory (ap Err is)))
 
 pub returns : goal.returns
@@ -45,4 +44,4 @@ returns g c =
     let p = c.put_text.new.out in
     let puts = subst (λ (t : List ℕ). Puts (held o) (held p) (written o) (written p) t (Ok tt)) c.deref.ensures.value c.in_ok-put_text.ensures.puts in
     let drawn = c.in_ok-drawn.drawn in
-    (drawn.text.items, c.in_ok-drawn.ensures.0, puts.ok, puts.no_fault (λ is. cc), ap drawn_line c.in_ok-drawn.ensures.1)
+    (drawn.text.items, c.in_ok-drawn.ensures.0, puts.ok, puts.no_fault (λ is. cc), c.in_ok-drawn.ensures.1)

@@ -1,0 +1,404 @@
+//! A sentence on each kind of event, written by hand over one state.
+
+use crate::given::{in_place, state};
+use arrayvec::ArrayVec;
+use sd_machine::{CpuState, LockState, Place, State, ThreadState};
+use sd_sentences::put_sentence;
+use sd_types::{
+    AssignAnswer, BindAnswer, ChanId, ClassState, CpuId, Denied, Duty, End, Event, List, LockId,
+    PrioAnswer, Put, SetId, Side, ThreadId, TsState, Work,
+};
+use sd_workload::read_work;
+use std::alloc::{AllocError, Global};
+use std::test::Fail;
+
+/// Threads a, b and c, mutexes m, n and p, a rwlock w, a channel k, a semaphore q and a set s. The script of b naps for 5 ticks.
+const NAMED: &[u8] = b"cpus 2\nlimit 9\nset s 1\nmutex m\nmutex n\nmutex p\nrwlock w\nchan k\nsema q 3\nthread a sys 60\nthread b sys 60\nthread c ts 20 0 0\nscript b\nnap 5\nend\n";
+
+const A: ThreadId = ThreadId(0);
+
+const B: ThreadId = ThreadId(1);
+
+const C: ThreadId = ThreadId(2);
+
+const M: LockId = LockId(0);
+
+const N: LockId = LockId(1);
+
+const P: LockId = LockId(2);
+
+const W: LockId = LockId(3);
+
+const K: ChanId = ChanId(0);
+
+const Q: ChanId = ChanId(1);
+
+const C0: CpuId = CpuId(0);
+
+const C1: CpuId = CpuId(1);
+
+const TO: Put = Put::Cpu(CpuId(1));
+
+const RT: Put = Put::RealTime(CpuId(0));
+
+/// Thread a owns m, for which b waits with priority 60, and inherits 110 through it.
+fn owner() -> ThreadState {
+    let mut willed = ArrayVec::new();
+    willed.push((M, 110));
+    let mut thread = in_place(Place::Running(C0));
+    thread.body.willed = willed;
+    thread
+}
+
+/// Thread c, of the time-sharing class at priority 20, is at the last tick of its quantum.
+fn sharer() -> ThreadState {
+    let mut thread = in_place(Place::Running(C1));
+    thread.body.class = ClassState::Ts(TsState {
+        cpupri: 20,
+        limit: 0,
+        upri: 0,
+        left: 1,
+        wait: 0,
+    });
+    thread
+}
+
+fn cpu_at(count: u32) -> CpuState {
+    CpuState {
+        count,
+        user: false,
+        kernel: false,
+        duty: Duty::Nothing,
+        set: SetId(0),
+        closing: None,
+        bound: 0,
+    }
+}
+
+/// The threads a, b, c; m is owned by a, n is free, p is being handed over, and readers hold w; the count of q is 3.
+fn given(alloc: Global) -> Result<State, AllocError> {
+    let mut threads = Vec::new(alloc);
+    threads.push(owner())?;
+    threads.push(in_place(Place::Waiting(M, Side::Writer, 0)))?;
+    threads.push(sharer())?;
+    let mut locks = Vec::new(alloc);
+    locks.push(LockState::Owned(A))?;
+    locks.push(LockState::Free)?;
+    locks.push(LockState::Passing {
+        cpu: C0,
+        readers: 0,
+    })?;
+    locks.push(LockState::ReadHeld(1))?;
+    let mut cpus = Vec::new(alloc);
+    cpus.push(cpu_at(7))?;
+    cpus.push(cpu_at(8))?;
+    let mut s = state(alloc, threads, locks, cpus);
+    let mut counts = Vec::new(alloc);
+    counts.push(0)?;
+    counts.push(3)?;
+    s.counts = List::from_vec(counts);
+    Ok(s)
+}
+
+/// An event of running, of a nap, sleep or wakeup, and the sentence on it where processor 0 makes it.
+fn early(i: u8) -> (Event, &'static str) {
+    match i {
+        0 => (Event::Tick { t: A }, "a runs for a tick"),
+        1 => (
+            Event::Tick { t: C },
+            "c runs for a tick, the last of its quantum",
+        ),
+        2 => (
+            Event::Spin { t: C, l: M },
+            "c spins for m: its owner a runs",
+        ),
+        3 => (
+            Event::Spin { t: C, l: P },
+            "c spins for p, which is being handed over",
+        ),
+        4 => (Event::Idle, "processor 0 has nothing to run"),
+        5 => (
+            Event::Dispatch { t: A, p: 110 },
+            "processor 0 dispatches a at priority 110",
+        ),
+        6 => (
+            Event::Steal {
+                victim: C1,
+                t: C,
+                p: 20,
+            },
+            "processor 0 steals c at priority 20 from the queue of processor 1",
+        ),
+        7 => (
+            Event::Preempt {
+                t: A,
+                end: End::Front,
+            },
+            "a is preempted, and goes to the front of its queue",
+        ),
+        8 => (
+            Event::Preempt {
+                t: C,
+                end: End::Back,
+            },
+            "c is preempted at the end of its quantum, and goes to the back of its queue",
+        ),
+        9 => (
+            Event::Away { t: A, cpu: C1 },
+            "a leaves for processor 1, to which it is bound",
+        ),
+        10 => (
+            Event::Yield { t: A },
+            "a yields, and goes to the back of its queue",
+        ),
+        11 => (Event::Done { t: C }, "c comes to the end of its script"),
+        12 => (Event::Nap { t: B }, "b naps until tick 12"),
+        13 => (
+            Event::Napend { t: B, at: TO },
+            "a nap is over: b is runnable on the queue of processor 1",
+        ),
+        14 => (Event::Sleep { t: A, k: K }, "a sleeps on k"),
+        15 => (
+            Event::Wake {
+                t: A,
+                k: K,
+                woken: Some((B, RT)),
+            },
+            "a wakes the best that sleeps on k: b is runnable on the real-time queue, for processor 0",
+        ),
+        16 => (
+            Event::Wake {
+                t: A,
+                k: K,
+                woken: None,
+            },
+            "a finds nobody asleep on k: the wakeup is lost",
+        ),
+        17 => (
+            Event::Wakeall { t: A, k: K },
+            "a wakes all that sleep on k: processor 0 is to rouse them one by one",
+        ),
+        18 => (
+            Event::Rouse {
+                k: K,
+                woken: Some((B, TO)),
+            },
+            "processor 0 rouses the best that sleeps on k: b is runnable on the queue of processor 1",
+        ),
+        19 => (
+            Event::Rouse { k: K, woken: None },
+            "processor 0 finds nobody left to rouse on k",
+        ),
+        20 => (
+            Event::CvWait { t: A, k: K, l: M },
+            "a gives up m and sleeps on k",
+        ),
+        21 => (
+            Event::SemaP { t: A, k: Q },
+            "a takes one from q, whose count falls from 3 to 2",
+        ),
+        22 => (
+            Event::SemaWait { t: A, k: K },
+            "a sleeps on k, whose count is 0",
+        ),
+        23 => (
+            Event::SemaVWake {
+                t: A,
+                k: Q,
+                s: B,
+                at: TO,
+            },
+            "a gives to q, and the best that sleeps on it takes it: b is runnable on the queue of processor 1",
+        ),
+        _ => (
+            Event::SemaVCount {
+                t: A,
+                k: Q,
+                count: 4,
+            },
+            "a gives to q, on which nobody sleeps: its count is 4",
+        ),
+    }
+}
+
+/// An event of locks, classes, sets and bindings, and the sentence on it where processor 0 makes it.
+fn late(i: u8) -> (Event, &'static str) {
+    match i {
+        0 => (Event::Enter { t: C, l: N }, "c takes the mutex n"),
+        1 => (Event::Read { t: C, l: W }, "c takes w to read"),
+        2 => (Event::Write { t: C, l: W }, "c takes w to write"),
+        3 => (
+            Event::Block { t: C, l: M },
+            "c blocks on m, which a owns: it is to inherit 60",
+        ),
+        4 => (
+            Event::Block { t: C, l: W },
+            "c blocks on w, which readers hold",
+        ),
+        5 => (
+            Event::Will {
+                l: M,
+                o: C,
+                p: 60,
+                at: None,
+            },
+            "c inherits through m: its priority rises from 20 to 60",
+        ),
+        6 => (
+            Event::Will {
+                l: M,
+                o: A,
+                p: 60,
+                at: Some(TO),
+            },
+            "a inherits through m: its priority falls from 110 to 60; it is queued again on the queue of processor 1",
+        ),
+        7 => (
+            Event::Will {
+                l: M,
+                o: A,
+                p: 110,
+                at: None,
+            },
+            "a inherits through m: its priority stays 110",
+        ),
+        8 => (
+            Event::End { l: W },
+            "the walk ends at w, which readers hold",
+        ),
+        9 => (Event::End { l: N }, "the walk ends at n, which is free"),
+        10 => (
+            Event::End { l: P },
+            "the walk ends at p, which is being handed over",
+        ),
+        11 => (
+            Event::Exit { t: A, l: M },
+            "a gives up m, for which others wait; its priority falls from 110 to 60",
+        ),
+        12 => (
+            Event::Exit { t: C, l: N },
+            "c gives up n, for which nobody waits",
+        ),
+        13 => (
+            Event::Unblock {
+                l: M,
+                s: B,
+                at: TO,
+            },
+            "processor 0 wakes the best that waits for m: b is runnable on the queue of processor 1",
+        ),
+        14 => (
+            Event::Grant {
+                l: W,
+                s: B,
+                at: TO,
+            },
+            "processor 0 hands w over: b is runnable on the queue of processor 1",
+        ),
+        15 => (
+            Event::Passed { l: W },
+            "no reader is left to whom w is to be handed",
+        ),
+        16 => (
+            Event::Age { t: C, p: 52 },
+            "c has waited a second more: its priority rises from 20 to 52",
+        ),
+        17 => (
+            Event::Prio {
+                t: A,
+                s: C,
+                answer: PrioAnswer::Changed { p: 24, at: None },
+            },
+            "a sets the class or priority of c, whose priority rises from 20 to 24",
+        ),
+        18 => (
+            Event::Prio {
+                t: C,
+                s: A,
+                answer: PrioAnswer::Refused(Denied::EPERM),
+            },
+            "c sets the class or priority of a: it may not (EPERM)",
+        ),
+        19 => (
+            Event::Assign {
+                t: A,
+                cpu: C1,
+                set: SetId(1),
+                answer: AssignAnswer::Changed,
+            },
+            "a assigns processor 1 to the set s: it closes",
+        ),
+        20 => (
+            Event::Assign {
+                t: A,
+                cpu: C1,
+                set: SetId(0),
+                answer: AssignAnswer::EINVAL,
+            },
+            "a assigns processor 1 to the default partition: it is there already (EINVAL)",
+        ),
+        21 => (
+            Event::Move { t: B, at: TO },
+            "processor 0 is closing, and sends a thread away: b is runnable on the queue of processor 1",
+        ),
+        22 => (
+            Event::Joined { set: SetId(1) },
+            "processor 0 is empty, and joins the set s",
+        ),
+        23 => (
+            Event::Bind {
+                t: A,
+                s: B,
+                cpu: Some(C1),
+                answer: BindAnswer::Changed { at: None },
+            },
+            "a binds b to processor 1",
+        ),
+        _ => (
+            Event::Bind {
+                t: A,
+                s: B,
+                cpu: None,
+                answer: BindAnswer::ESRCH,
+            },
+            "a unbinds b: that thread has ended (ESRCH)",
+        ),
+    }
+}
+
+/// The sentence on an event that processor 0 makes.
+fn said(alloc: Global, work: &Work, s: &State, event: &Event) -> Result<Vec<u8>, AllocError> {
+    let mut out = Vec::new(alloc);
+    put_sentence(work, s, C0, event, &mut out)?;
+    Ok(out)
+}
+
+#[test]
+fn sentences_on_running_and_sleeping(rt: HostRuntime) -> Result<(), Fail> {
+    let alloc = rt.alloc();
+    let Ok(work) = read_work(alloc, NAMED) else {
+        return Ok(assert!(rt; false, "no work"));
+    };
+    let s = given(alloc)?;
+    for i in 0..25 {
+        let (event, text) = early(i);
+        let out = said(alloc, &work, &s, &event)?;
+        assert_eq!(rt; out.as_slice(), text.as_bytes(), "{text}");
+    }
+    Ok(())
+}
+
+#[test]
+fn sentences_on_locks_and_requests(rt: HostRuntime) -> Result<(), Fail> {
+    let alloc = rt.alloc();
+    let Ok(work) = read_work(alloc, NAMED) else {
+        return Ok(assert!(rt; false, "no work"));
+    };
+    let s = given(alloc)?;
+    for i in 0..25 {
+        let (event, text) = late(i);
+        let out = said(alloc, &work, &s, &event)?;
+        assert_eq!(rt; out.as_slice(), text.as_bytes(), "{text}");
+    }
+    Ok(())
+}

@@ -1,0 +1,145 @@
+//! Which entries of a run are told.
+
+ghost use Rattle.std.specs.Prelude.{◌≡◌, ◌&&◌, ◌||◌, nat_le, option_map};
+ghost use Rattle.sd_types.specs.Works.{same_bytes};
+ghost use Rattle.sd_machine.specs.States.{cpu_of};
+ghost use Rattle.sd_story.specs.Selections.{first_named, has_thread, is_named, is_told, second_named, tick_of};
+
+use arrayvec::ArrayVec;
+use sd_flat::cpu_of;
+use sd_labels::thread_name;
+use sd_machine::State;
+use sd_types::{Entry, Event, Put, ThreadDecl, ThreadId, Work};
+
+/// Which entries are told: those that are made at a tick from `from` to `to`, where the tick of an entry is the count of its
+/// processor before it; or those that name a thread.
+#[derive(Drop)]
+pub enum Selection {
+    Ticks { from: u32, to: u32 },
+    Thread { name: ArrayVec<u8, 16> },
+}
+
+fn woken_thread(woken: Option<(ThreadId, Put)>) -> Option<ThreadId>
+    ensures { result ≡ option_map (λ x. x.0) woken }
+{
+    match woken {
+        Some((u, _)) => Some(u),
+        None => None,
+    }
+}
+
+// The thread that an event names first: the acting one, or one that a processor moves.
+fn first_named(event: &Event) -> Option<ThreadId>
+    ensures { result ≡ first_named event.now }
+{
+    match *event {
+        Event::Tick { t } => Some(t),
+        Event::Spin { t, .. } => Some(t),
+        Event::Idle => None,
+        Event::Dispatch { t, .. } => Some(t),
+        Event::Steal { t, .. } => Some(t),
+        Event::Preempt { t, .. } => Some(t),
+        Event::Away { t, .. } => Some(t),
+        Event::Yield { t } => Some(t),
+        Event::Done { t } => Some(t),
+        Event::Nap { t } => Some(t),
+        Event::Napend { t, .. } => Some(t),
+        Event::Sleep { t, .. } => Some(t),
+        Event::Wake { t, .. } => Some(t),
+        Event::Wakeall { t, .. } => Some(t),
+        Event::Rouse { woken, .. } => woken_thread(woken),
+        Event::Enter { t, .. } => Some(t),
+        Event::Read { t, .. } => Some(t),
+        Event::Write { t, .. } => Some(t),
+        Event::Block { t, .. } => Some(t),
+        Event::Will { o, .. } => Some(o),
+        Event::End { .. } => None,
+        Event::Exit { t, .. } => Some(t),
+        Event::Unblock { s, .. } => Some(s),
+        Event::Grant { s, .. } => Some(s),
+        Event::Passed { .. } => None,
+        Event::Age { t, .. } => Some(t),
+        Event::Prio { t, .. } => Some(t),
+        Event::CvWait { t, .. } => Some(t),
+        Event::SemaP { t, .. } => Some(t),
+        Event::SemaWait { t, .. } => Some(t),
+        Event::SemaVWake { t, .. } => Some(t),
+        Event::SemaVCount { t, .. } => Some(t),
+        Event::Assign { t, .. } => Some(t),
+        Event::Move { t, .. } => Some(t),
+        Event::Joined { .. } => None,
+        Event::Bind { t, .. } => Some(t),
+    }
+}
+
+// The thread that it names beside it.
+fn second_named(event: &Event) -> Option<ThreadId>
+    ensures { result ≡ second_named event.now }
+{
+    match *event {
+        Event::Wake { woken, .. } => woken_thread(woken),
+        Event::Prio { s, .. } => Some(s),
+        Event::SemaVWake { s, .. } => Some(s),
+        Event::Bind { s, .. } => Some(s),
+        _ => None,
+    }
+}
+
+fn is_same(name: &[u8], other: &[u8]) -> bool
+    ensures { result ≡ same_bytes name.now other.now }
+{
+    name == other
+}
+
+fn is_named(work: &Work, name: &[u8], t: Option<ThreadId>) -> bool
+    ensures { result ≡ is_named work.now name.now t }
+{
+    match t {
+        Some(t) => is_same(thread_name(work, t.0 as usize), name),
+        None => false,
+    }
+}
+
+// The event names the thread.
+fn names(work: &Work, name: &[u8], event: &Event) -> bool
+    ensures { result ≡ (is_named work.now name.now (first_named event.now) || is_named work.now name.now (second_named event.now)) }
+{
+    is_named(work, name, first_named(event)) || is_named(work, name, second_named(event))
+}
+
+/// The count of its processor before an entry.
+pub(crate) fn tick_of(s: &State, entry: &Entry) -> u32
+    ensures { result ≡ tick_of s.now entry.now }
+{
+    cpu_of(s, entry.cpu).count
+}
+
+fn is_between(from: u32, tick: u32, to: u32) -> bool
+    ensures { result ≡ (nat_le from tick && nat_le tick to) }
+{
+    from <= tick && tick <= to
+}
+
+/// Whether an entry is told that is made in the state.
+pub(crate) fn is_told(work: &Work, selection: &Selection, s: &State, entry: &Entry) -> bool
+    ensures { result ≡ is_told work.now selection.now s.now entry.now }
+{
+    match selection {
+        Selection::Ticks { from, to } => is_between(*from, tick_of(s, entry), *to),
+        Selection::Thread { name } => names(work, name.as_slice(), &entry.event),
+    }
+}
+
+fn has_name(thread: &ThreadDecl, name: &[u8]) -> bool
+    ensures { result ≡ same_bytes thread.now.name.text.items name.now }
+{
+    thread.name.bytes() == name
+}
+
+/// Whether a thread of the workload has this name.
+#[tactic(auto, unfolding(crate::specs::Selections::has_thread))]
+pub fn has_thread(work: &Work, name: &[u8]) -> bool
+    ensures { result ≡ has_thread work.now name.now }
+{
+    work.threads.items().iter().any(|thread| has_name(thread, name))
+}

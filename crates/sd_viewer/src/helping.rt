@@ -1,0 +1,31 @@
+//! The forms of the arguments, in a few lines.
+
+ghost use Rattle.std.specs.Prelude.{◌≡◌};
+ghost use Rattle.sd_answers.specs.StreamChanges.{change_of};
+ghost use Rattle.sd_viewer.specs.Viewing.{CausedByHelp, answer_line, viewed_answer, viewed_line};
+
+use sd_answers::{Answer, put_text};
+use sd_text::Sink;
+use std::alloc::Global;
+
+const HELP: &[u8] = b"dispview reads a workload, the line journal, and a journal, and judges it:
+(cat W; echo journal; dispsim run < W) | dispview FORM
+timeline          the run as a picture (SVG)
+timeline FROM TO  the ticks from FROM to TO of it
+trace             the run for chrome://tracing and Perfetto (JSON)
+list              each entry with a sentence on it
+list FROM TO      those of the ticks from FROM to TO
+list NAME         those that name the thread NAME
+--help            these lines
+";
+
+/// Writes the forms. There is nothing more to say.
+pub(crate) fn put_help<K: Sink>(alloc: Global, out: &mut K) -> Result<Vec<u8>, Answer>
+    ensures caused { CausedByHelp (change_of (K.contents out.old) (K.contents out.new) (K.fault_count out.old) (K.fault_count out.new)) (viewed_answer result) }
+    ensures line { viewed_line result ≡ answer_line (viewed_answer result) }
+{
+    match put_text(out, HELP) {
+        Ok(()) => Ok(Vec::new(alloc)),
+        Err(_) => Err(Answer::WriteFault),
+    }
+}
