@@ -1,0 +1,18 @@
+//! The statistics of a run, from its history: how long each thread runs, spins, is runnable, waits, sleeps and naps, how soon it
+//! runs after a wakeup, and what its processors do. Each number is a sum or a count over the lists of the run, whose definitions
+//! stand in `specs/`.
+#![tactic(auto)]
+
+mod activities;
+mod cpus;
+mod delays;
+mod inherited;
+mod rows;
+mod spans;
+mod threads;
+
+pub use activities::Activity;
+pub use cpus::{Deed, cpu_rows};
+pub use rows::{Figures, Measure, Row, Subject};
+pub use spans::{Span, Summary};
+pub use threads::thread_rows;
