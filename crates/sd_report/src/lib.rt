@@ -1,13 +1,12 @@
-// A library with one function.
+//! The report of a run: its statistics as a text table that a person reads, and as comma-separated rows for a spreadsheet.
+//!
+//! Names stand in both as they are (`names_need_no_escaping` of `sd_labels`).
 #![tactic(auto)]
 
-ghost use Rattle.std.specs.Prelude.{◌≡◌};
-ghost use Rattle.sd_report.specs.Echo.{echo_of};
+mod cells;
+mod sheets;
+mod tables;
+mod words;
 
-// The `ensures` clause is the contract: what `echo` returns is `echo_of` of its argument, a definition
-// in `specs/Echo.antt`, which a caller's clause can cite too.
-pub fn echo(x: usize) -> usize
-    ensures { result ≡ echo_of x }
-{
-    x
-}
+pub use sheets::write_sheet;
+pub use tables::write_report;

@@ -9,10 +9,11 @@ use Rattle.sd_stretches.specs.declared.changes.Happening.{Happening}
 use Rattle.sd_stretches.specs.declared.histories.History.{History}
 use Rattle.sd_statistics.specs.declared.cpus.Deed.{Deed}
 use Rattle.sd_statistics.specs.declared.cpus.Deed.TheVariants.{Runs, Spins, Idles, Dispatches, Steals, Preempts}
+use Rattle.sd_statistics.specs.declared.rows.Figures.{Figures}
 use Rattle.sd_statistics.specs.declared.rows.Measure.TheVariants.{Makes}
 use Rattle.sd_statistics.specs.declared.rows.Row.{Row}
 use Rattle.sd_statistics.specs.declared.rows.Subject.TheVariants as subject
-use Rattle.sd_statistics.specs.Rows.{count_figures, row_if}
+use Rattle.sd_statistics.specs.Rows.{count_figures, row_if, tick_figures}
 
 abbrev pub is_deed : Deed → Event → Bool
 is_deed Runs (Tick t) = true
@@ -28,8 +29,17 @@ is_deed _ _ = false
 abbrev pub deeds : Deed → ℕ → List Happening → ℕ
 deeds deed c xs = count_by (λ x. (x.cpu.0 == c) && is_deed deed x.event) xs
 
+-- ticks, or how often
+abbrev pub deed_figures : Deed → ℕ → Figures
+deed_figures Runs n = tick_figures n
+deed_figures Spins n = tick_figures n
+deed_figures Idles n = tick_figures n
+deed_figures Dispatches n = count_figures n
+deed_figures Steals n = count_figures n
+deed_figures Preempts n = count_figures n
+
 abbrev pub deed_row : ℕ → List Happening → Deed → List Row
-deed_row c xs deed = row_if (record { subject = subject.Cpu c; measure = Makes deed; figures = count_figures (deeds deed c xs) })
+deed_row c xs deed = row_if (record { subject = subject.Cpu c; measure = Makes deed; figures = deed_figures deed (deeds deed c xs) })
 
 unfoldable pub cpu_part : List Happening → ℕ → List Row
 cpu_part xs c = deed_row c xs Runs ++ deed_row c xs Spins ++ deed_row c xs Idles ++ deed_row c xs Dispatches ++ deed_row c xs Steals ++ deed_row c xs Preempts

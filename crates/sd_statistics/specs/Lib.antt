@@ -5,3 +5,4 @@ pub mod Inherited
 pub mod Rows
 pub mod Threads
 pub mod Cpus
+pub mod Laws

@@ -1,6 +1,6 @@
 -- The rows of threads.
 -- Source: Solaris Internals (thread states, priority inheritance); the rows are this project's own.
-use Rattle.std.specs.Prelude.{ℕ, ◌-◌, List, ◌++◌, length, sum_by}
+use Rattle.std.specs.Prelude.{ℕ, ◌-◌, List, ◌++◌, length, sum_by, Some, None}
 use Rattle.std.specs.List.{flat_map, range_with_len}
 use Rattle.sd_types.specs.declared.works.Work.{Work}
 use Rattle.sd_stretches.specs.declared.changes.Wakeup.{Wakeup}
@@ -12,13 +12,13 @@ use Rattle.sd_stretches.specs.Rows.{levels, stretches}
 use Rattle.sd_stretches.specs.Spins.{pieces}
 use Rattle.sd_statistics.specs.declared.activities.Activity.{Activity}
 use Rattle.sd_statistics.specs.declared.activities.Activity.TheVariants.{Running, Spinning, Runnable, Waiting, Asleep, Napping, Ended, WaitingFor}
-use Rattle.sd_statistics.specs.declared.rows.Measure.TheVariants.{Does, Twice, WakeupToRun, Inherits, GreatestInherited}
+use Rattle.sd_statistics.specs.declared.rows.Measure.TheVariants.{Does, Twice, WakeupToRun, Inherits}
 use Rattle.sd_statistics.specs.declared.rows.Row.{Row}
 use Rattle.sd_statistics.specs.declared.rows.Subject.TheVariants as subject
 use Rattle.sd_statistics.specs.Activities.{spans_of}
 use Rattle.sd_statistics.specs.Delays.{delays_of}
 use Rattle.sd_statistics.specs.Inherited.{greatest_inherited, inherited_ticks}
-use Rattle.sd_statistics.specs.Rows.{all_of, count_figures, row_if, tick_figures}
+use Rattle.sd_statistics.specs.Rows.{all_of, row_if, tick_figures}
 use Rattle.sd_statistics.specs.Spans.{at_most_u64, summary_of}
 
 -- the row of an activity of thread t, from the pieces of its stretches
@@ -48,13 +48,16 @@ doing_rows w t own = activity_rows t own ++ lock_rows w t own ++ twice_row t own
 abbrev pub delay_row : ℕ → List Stretch → List Wakeup → List Row
 delay_row t own wakeups = row_if (record { subject = subject.Thread t; measure = WakeupToRun; figures = all_of (summary_of (delays_of t own wakeups)) })
 
-abbrev pub inherited_rows : ℕ → List Level → List Row
-inherited_rows t own =
-    row_if (record { subject = subject.Thread t; measure = Inherits; figures = tick_figures (at_most_u64 (sum_by inherited_ticks own)) })
-    ++ row_if (record { subject = subject.Thread t; measure = GreatestInherited; figures = count_figures (greatest_inherited own) })
+abbrev pub inherited_row : ℕ → List Level → List Row
+inherited_row t own =
+    row_if (record {
+      subject = subject.Thread t;
+      measure = Inherits;
+      figures = record { number = None; ticks = Some (at_most_u64 (sum_by inherited_ticks own)); longest = None; priority = Some (greatest_inherited own) };
+    })
 
 unfoldable pub other_rows : Work → History → ℕ → List Row
-other_rows w h t = delay_row t (stretches t h.turns.items h.entries w.limit) h.wakeups.items ++ inherited_rows t (levels t h.ranks.items w.limit)
+other_rows w h t = delay_row t (stretches t h.turns.items h.entries w.limit) h.wakeups.items ++ inherited_row t (levels t h.ranks.items w.limit)
 
 unfoldable pub thread_part : Work → History → ℕ → List Row
 thread_part w h t = doing_rows w t (pieces (track.Thread t) h w.limit) ++ other_rows w h t

@@ -2,9 +2,9 @@
 
 ghost use Rattle.std.specs.Prelude.{◌≡◌, ◌++◌, ◌&&◌, ◌==◌, IfOk, OnOk, count_by};
 ghost use Rattle.std.specs.List.{flat_map, range_with_len};
-ghost use Rattle.sd_statistics.specs.Cpus.{cpu_part, cpu_rows, deed_row, deeds, is_deed};
+ghost use Rattle.sd_statistics.specs.Cpus.{cpu_part, cpu_rows, deed_figures, deed_row, deeds, is_deed};
 
-use crate::rows::{Measure, Row, Subject, count_figures, push_row};
+use crate::rows::{Figures, Measure, Row, Subject, count_figures, push_row, tick_figures};
 use sd_stretches::{Happening, History};
 use sd_types::{Event, Work};
 use std::alloc::{AllocError, Global};
@@ -45,6 +45,16 @@ fn deeds(deed: Deed, c: u16, happenings: &[Happening]) -> usize
         .count()
 }
 
+// Ticks, or how often.
+fn deed_figures(deed: Deed, number: u64) -> Figures
+    ensures { result ≡ deed_figures deed number }
+{
+    match deed {
+        Deed::Runs | Deed::Spins | Deed::Idles => tick_figures(number),
+        Deed::Dispatches | Deed::Steals | Deed::Preempts => count_figures(number),
+    }
+}
+
 fn push_deed(
     deed: Deed,
     c: u16,
@@ -57,7 +67,7 @@ fn push_deed(
         Row {
             subject: Subject::Cpu(c),
             measure: Measure::Makes(deed),
-            figures: count_figures(deeds(deed, c, happenings) as u64),
+            figures: deed_figures(deed, deeds(deed, c, happenings) as u64),
         },
         out,
     )

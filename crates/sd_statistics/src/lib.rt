@@ -7,12 +7,14 @@ mod activities;
 mod cpus;
 mod delays;
 mod inherited;
+mod laws;
 mod rows;
 mod spans;
 mod threads;
 
 pub use activities::Activity;
 pub use cpus::{Deed, cpu_rows};
+pub use laws::{deeds_are_counts, the_longest_is_longest, ticks_add_up};
 pub use rows::{Figures, Measure, Row, Subject};
-pub use spans::{Span, Summary};
+pub use spans::{Span, Summary, ticks_of};
 pub use threads::thread_rows;

@@ -1,7 +1,7 @@
 //! A row of the statistics: of whom it speaks, what it measures, and the numbers.
 
 ghost use Rattle.std.specs.Prelude.{◌≡◌, ◌++◌, OnOk};
-ghost use Rattle.sd_statistics.specs.Rows.{all_of, count_figures, is_nothing, row_if, tick_figures};
+ghost use Rattle.sd_statistics.specs.Rows.{all_of, count_figures, is_nothing, is_zero, row_if, tick_figures};
 
 use crate::activities::Activity;
 use crate::cpus::Deed;
@@ -16,24 +16,24 @@ pub enum Subject {
 }
 
 /// What a row measures: what a thread does; the ticks that lie in two of its states (see `thread_rows`); the time from a wakeup
-/// to its running; the ticks over which it has an inherited priority, and the greatest of these priorities; how often a
-/// processor does something.
+/// to its running; over which ticks it has an inherited priority, and the greatest of these; what a processor does.
 #[derive(Clone, Copy)]
 pub enum Measure {
     Does(Activity),
     Twice,
     WakeupToRun,
     Inherits,
-    GreatestInherited,
     Makes(Deed),
 }
 
-/// The numbers of a row: how many there are, the sum of their ticks, and the longest. A row has those that say something.
+/// The numbers of a row: how many there are, the sum of their ticks, the longest, and a priority (0 to 159). A row has those that
+/// say something.
 #[derive(Clone, Copy)]
 pub struct Figures {
     pub number: Option<u64>,
     pub ticks: Option<u64>,
     pub longest: Option<Span>,
+    pub priority: Option<u64>,
 }
 
 #[derive(Clone, Copy)]
@@ -50,6 +50,7 @@ pub(crate) fn all_of(x: Summary) -> Figures
         number: Some(x.number),
         ticks: Some(x.ticks),
         longest: x.longest,
+        priority: None,
     }
 }
 
@@ -60,6 +61,7 @@ pub(crate) fn count_figures(number: u64) -> Figures
         number: Some(number),
         ticks: None,
         longest: None,
+        priority: None,
     }
 }
 
@@ -70,17 +72,23 @@ pub(crate) fn tick_figures(ticks: u64) -> Figures
         number: None,
         ticks: Some(ticks),
         longest: None,
+        priority: None,
+    }
+}
+
+fn is_zero(n: Option<u64>) -> bool
+    ensures { result ≡ is_zero n }
+{
+    match n {
+        Some(n) => n == 0,
+        None => true,
     }
 }
 
 fn is_nothing(figures: &Figures) -> bool
     ensures { result ≡ is_nothing figures.now }
 {
-    match (figures.number, figures.ticks) {
-        (Some(number), _) => number == 0,
-        (None, Some(ticks)) => ticks == 0,
-        (None, None) => true,
-    }
+    is_zero(figures.number) && is_zero(figures.ticks) && is_zero(figures.priority)
 }
 
 /// Appends the row, where it has something to count.

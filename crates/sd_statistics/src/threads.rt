@@ -4,12 +4,12 @@ ghost use Rattle.std.specs.Prelude.{◌≡◌, ◌++◌, IfOk, OnOk, length, sum
 ghost use Rattle.std.specs.List.{flat_map, range_with_len};
 ghost use Rattle.sd_statistics.specs.Rows.{row_if};
 ghost use Rattle.sd_statistics.specs.Spans.{at_most_u64};
-ghost use Rattle.sd_statistics.specs.Threads.{activity_row, activity_rows, delay_row, doing_rows, inherited_rows, lock_rows, other_rows, thread_part, thread_rows, ticks_behind, twice_row};
+ghost use Rattle.sd_statistics.specs.Threads.{activity_row, activity_rows, delay_row, doing_rows, inherited_row, lock_rows, other_rows, thread_part, thread_rows, ticks_behind, twice_row};
 
 use crate::activities::{Activity, spans_of};
 use crate::delays::delays_of;
 use crate::inherited::{all_inherited, greatest_inherited};
-use crate::rows::{Measure, Row, Subject, all_of, count_figures, push_row, tick_figures};
+use crate::rows::{Figures, Measure, Row, Subject, all_of, push_row, tick_figures};
 use crate::spans::summary_of;
 use sd_stretches::{History, Level, Stretch, Track, Wakeup, levels, pieces, stretches};
 use sd_types::{LockId, Work};
@@ -140,23 +140,20 @@ fn push_delay_row(
     )
 }
 
-// The rows of its inherited priority.
+// The row of its inherited priority.
 fn push_inherited(t: usize, own: &[Level], out: &mut Vec<Row>) -> Result<(), AllocError>
-    ensures { OnOk result (out.new.items ≡ out.old.items ++ inherited_rows t own.now) }
+    ensures { OnOk result (out.new.items ≡ out.old.items ++ inherited_row t own.now) }
 {
     push_row(
         Row {
             subject: Subject::Thread(t),
             measure: Measure::Inherits,
-            figures: tick_figures(all_inherited(own)),
-        },
-        out,
-    )?;
-    push_row(
-        Row {
-            subject: Subject::Thread(t),
-            measure: Measure::GreatestInherited,
-            figures: count_figures(u64::from(greatest_inherited(own))),
+            figures: Figures {
+                number: None,
+                ticks: Some(all_inherited(own)),
+                longest: None,
+                priority: Some(u64::from(greatest_inherited(own))),
+            },
         },
         out,
     )

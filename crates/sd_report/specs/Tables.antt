@@ -1,0 +1,56 @@
+-- The report as a table.
+-- Source: this project's own.
+use Rattle.std.specs.Prelude.{ℕ, List, [], ◌++◌, codes, decimal, Option, Some, None, option_map}
+use Rattle.std.specs.List.{flat_map}
+use Rattle.sd_types.specs.declared.works.Work.{Work}
+use Rattle.sd_stretches.specs.declared.histories.History.{History}
+use Rattle.sd_statistics.specs.declared.rows.Row.{Row}
+use Rattle.sd_statistics.specs.declared.spans.Span.{Span}
+use Rattle.sd_statistics.specs.Cpus.{cpu_rows}
+use Rattle.sd_statistics.specs.Spans.{ticks_of}
+use Rattle.sd_statistics.specs.Threads.{thread_rows}
+use Rattle.sd_report.specs.Cells.{figure, left, right}
+use Rattle.sd_report.specs.Words.{measure_object, measure_word, subject_name}
+
+unfoldable pub row_words : Work → Row → List ℕ
+row_words w x = left 17 (subject_name w x.subject) ++ left 15 (measure_word x.measure) ++ left 17 (measure_object w x.measure)
+
+abbrev pub longest_ticks : Option Span → Option ℕ
+longest_ticks None = None
+longest_ticks (Some x) = Some (ticks_of x)
+
+abbrev pub longest_first : Option Span → Option ℕ
+longest_first None = None
+longest_first (Some x) = Some x.first
+
+abbrev pub longest_last : Option Span → Option ℕ
+longest_last None = None
+longest_last (Some x) = Some x.last
+
+-- how long the longest is, the first entry that was made in it, and the one that ended it
+unfoldable pub longest_cells : Option Span → List ℕ
+longest_cells x = right 9 (figure (longest_ticks x)) ++ right 9 (figure (longest_first x)) ++ right 9 (figure (longest_last x))
+
+unfoldable pub row_cells : Row → List ℕ
+row_cells x =
+    right 8 (figure x.figures.number) ++ right 9 (figure x.figures.ticks) ++ longest_cells x.figures.longest ++ right 10 (figure x.figures.priority)
+
+unfoldable pub table_line : Work → Row → List ℕ
+table_line w x = row_words w x ++ row_cells x ++ codes "\n"
+
+unfoldable pub head_line : List ℕ
+head_line =
+    left 17 [] ++ left 15 [] ++ left 17 (codes "lock") ++ right 8 (codes "number") ++ right 9 (codes "ticks") ++ right 9 (codes "longest")
+    ++ right 9 (codes "from") ++ right 9 (codes "to") ++ right 10 (codes "priority") ++ codes "\n"
+
+-- the rows of one kind under their title
+unfoldable pub section : Work → List ℕ → List Row → List ℕ
+section w title rows = title ++ flat_map (table_line w) rows
+
+unfoldable pub ticks_line : Work → History → List ℕ
+ticks_line w h = (codes "ticks " ++ decimal w.limit) ++ (codes ", entries " ++ decimal h.entries) ++ codes "\n\n"
+
+-- the report
+unfoldable pub report_text : Work → History → List ℕ
+report_text w h =
+    ticks_line w h ++ head_line ++ section w (codes "threads\n") (thread_rows w h) ++ section w (codes "processors\n") (cpu_rows w h)

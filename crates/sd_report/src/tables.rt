@@ -1,0 +1,151 @@
+//! The report as a table.
+
+ghost use Rattle.std.specs.Prelude.{◌≡◌, ◌++◌, OnOk, codes, decimal};
+ghost use Rattle.std.specs.List.{flat_map};
+ghost use Rattle.sd_report.specs.Tables.{head_line, longest_cells, longest_first, longest_last, longest_ticks, report_text, row_cells, row_words, section, table_line, ticks_line};
+
+use crate::cells::{put_figure, put_left, put_right};
+use crate::words::{measure_object, measure_word, put_subject_name};
+use sd_labels::put_counted;
+use sd_statistics::{Row, Span, cpu_rows, thread_rows, ticks_of};
+use sd_stretches::History;
+use sd_types::Work;
+use std::alloc::{AllocError, Global};
+
+// Of whom a row speaks, what it measures, and the lock.
+#[tactic(auto, unfolding(crate::specs::Tables::row_words))]
+fn put_words(
+    alloc: Global,
+    work: &Work,
+    x: &Row,
+    out: &mut Vec<u8>,
+) -> Result<(), AllocError>
+    ensures { OnOk result (out.new.items ≡ out.old.items ++ row_words work.now x.now) }
+{
+    let mut name = Vec::new(alloc);
+    put_subject_name(work, x.subject, &mut name)?;
+    put_left(17, &name, out)?;
+    put_left(15, measure_word(x.measure), out)?;
+    put_left(17, measure_object(work, x.measure), out)
+}
+
+pub(crate) fn longest_ticks(longest: Option<Span>) -> Option<u64>
+    ensures { result ≡ longest_ticks longest }
+{
+    match longest {
+        Some(x) => Some(u64::from(ticks_of(x))),
+        None => None,
+    }
+}
+
+pub(crate) fn longest_first(longest: Option<Span>) -> Option<u64>
+    ensures { result ≡ longest_first longest }
+{
+    match longest {
+        Some(x) => Some(x.first),
+        None => None,
+    }
+}
+
+pub(crate) fn longest_last(longest: Option<Span>) -> Option<u64>
+    ensures { result ≡ longest_last longest }
+{
+    match longest {
+        Some(x) => Some(x.last),
+        None => None,
+    }
+}
+
+// How long the longest is, the first entry that was made in it, and the one that ended it.
+#[tactic(auto, unfolding(crate::specs::Tables::longest_cells))]
+fn put_longest(
+    alloc: Global,
+    longest: Option<Span>,
+    out: &mut Vec<u8>,
+) -> Result<(), AllocError>
+    ensures { OnOk result (out.new.items ≡ out.old.items ++ longest_cells longest) }
+{
+    put_figure(alloc, 9, longest_ticks(longest), out)?;
+    put_figure(alloc, 9, longest_first(longest), out)?;
+    put_figure(alloc, 9, longest_last(longest), out)
+}
+
+#[tactic(auto, unfolding(crate::specs::Tables::row_cells))]
+fn put_cells(alloc: Global, x: &Row, out: &mut Vec<u8>) -> Result<(), AllocError>
+    ensures { OnOk result (out.new.items ≡ out.old.items ++ row_cells x.now) }
+{
+    put_figure(alloc, 8, x.figures.number, out)?;
+    put_figure(alloc, 9, x.figures.ticks, out)?;
+    put_longest(alloc, x.figures.longest, out)?;
+    put_figure(alloc, 10, x.figures.priority, out)
+}
+
+#[tactic(auto, unfolding(crate::specs::Tables::table_line))]
+fn put_line(alloc: Global, work: &Work, x: &Row, out: &mut Vec<u8>) -> Result<(), AllocError>
+    ensures { OnOk result (out.new.items ≡ out.old.items ++ table_line work.now x.now) }
+{
+    put_words(alloc, work, x, out)?;
+    put_cells(alloc, x, out)?;
+    out.extend_from_slice(b"\n")
+}
+
+#[tactic(auto, unfolding(crate::specs::Tables::head_line))]
+fn put_head(out: &mut Vec<u8>) -> Result<(), AllocError>
+    ensures { OnOk result (out.new.items ≡ out.old.items ++ head_line) }
+{
+    put_left(17, b"", out)?;
+    put_left(15, b"", out)?;
+    put_left(17, b"lock", out)?;
+    put_right(8, b"number", out)?;
+    put_right(9, b"ticks", out)?;
+    put_right(9, b"longest", out)?;
+    put_right(9, b"from", out)?;
+    put_right(9, b"to", out)?;
+    put_right(10, b"priority", out)?;
+    out.extend_from_slice(b"\n")
+}
+
+// The rows of one kind under their title.
+#[tactic(auto, unfolding(crate::specs::Tables::section))]
+fn put_section(
+    alloc: Global,
+    work: &Work,
+    title: &[u8],
+    rows: &[Row],
+    out: &mut Vec<u8>,
+) -> Result<(), AllocError>
+    ensures { OnOk result (out.new.items ≡ out.old.items ++ section work.now title.now rows.now) }
+{
+    out.extend_from_slice(title)?;
+    for x in rows {
+        put_line(alloc, work, x, out)?;
+    }
+    Ok(())
+}
+
+#[tactic(auto, unfolding(crate::specs::Tables::ticks_line))]
+fn put_ticks_line(work: &Work, history: &History, out: &mut Vec<u8>) -> Result<(), AllocError>
+    ensures { OnOk result (out.new.items ≡ out.old.items ++ ticks_line work.now history.now) }
+{
+    put_counted(b"ticks ", u64::from(work.limit), out)?;
+    put_counted(b", entries ", history.entries, out)?;
+    out.extend_from_slice(b"\n\n")
+}
+
+/// Appends the report of a run of the workload, of which this is the history, as a table: a line for each row of the statistics.
+#[tactic(auto, unfolding(crate::specs::Tables::report_text))]
+pub fn write_report(
+    alloc: Global,
+    work: &Work,
+    history: &History,
+    out: &mut Vec<u8>,
+) -> Result<(), AllocError>
+    ensures { OnOk result (out.new.items ≡ out.old.items ++ report_text work.now history.now) }
+{
+    let threads = thread_rows(alloc, work, history)?;
+    let cpus = cpu_rows(alloc, work, history)?;
+    put_ticks_line(work, history, out)?;
+    put_head(out)?;
+    put_section(alloc, work, b"threads\n", &threads, out)?;
+    put_section(alloc, work, b"processors\n", &cpus, out)
+}
