@@ -1,16 +1,17 @@
 -- The report as a table.
 -- Source: this project's own.
-use Rattle.std.specs.Prelude.{ℕ, List, [], ◌++◌, codes, decimal, Option, Some, None, option_map}
+use Rattle.std.specs.Prelude.{ℕ, List, [], ◌++◌, codes, decimal, Option, Some, None}
 use Rattle.std.specs.List.{flat_map}
 use Rattle.sd_types.specs.declared.works.Work.{Work}
 use Rattle.sd_stretches.specs.declared.histories.History.{History}
 use Rattle.sd_statistics.specs.declared.rows.Row.{Row}
 use Rattle.sd_statistics.specs.declared.spans.Span.{Span}
 use Rattle.sd_statistics.specs.Cpus.{cpu_rows}
+use Rattle.sd_statistics.specs.Locks.{lock_rows}
 use Rattle.sd_statistics.specs.Spans.{ticks_of}
 use Rattle.sd_statistics.specs.Threads.{thread_rows}
 use Rattle.sd_report.specs.Cells.{figure, left, right}
-use Rattle.sd_report.specs.Words.{measure_object, measure_word, subject_name}
+use Rattle.sd_report.specs.Words.{holder, measure_object, measure_word, subject_name}
 
 unfoldable pub row_words : Work → Row → List ℕ
 row_words w x = left 17 (subject_name w x.subject) ++ left 15 (measure_word x.measure) ++ left 17 (measure_object w x.measure)
@@ -36,12 +37,12 @@ row_cells x =
     right 8 (figure x.figures.number) ++ right 9 (figure x.figures.ticks) ++ longest_cells x.figures.longest ++ right 10 (figure x.figures.priority)
 
 unfoldable pub table_line : Work → Row → List ℕ
-table_line w x = row_words w x ++ row_cells x ++ codes "\n"
+table_line w x = row_words w x ++ row_cells x ++ right 18 (holder w x) ++ codes "\n"
 
 unfoldable pub head_line : List ℕ
 head_line =
     left 17 [] ++ left 15 [] ++ left 17 (codes "lock") ++ right 8 (codes "number") ++ right 9 (codes "ticks") ++ right 9 (codes "longest")
-    ++ right 9 (codes "from") ++ right 9 (codes "to") ++ right 10 (codes "priority") ++ codes "\n"
+    ++ right 9 (codes "from") ++ right 9 (codes "to") ++ right 10 (codes "priority") ++ right 18 (codes "by") ++ codes "\n"
 
 -- the rows of one kind under their title
 unfoldable pub section : Work → List ℕ → List Row → List ℕ
@@ -50,7 +51,15 @@ section w title rows = title ++ flat_map (table_line w) rows
 unfoldable pub ticks_line : Work → History → List ℕ
 ticks_line w h = (codes "ticks " ++ decimal w.limit) ++ (codes ", entries " ++ decimal h.entries) ++ codes "\n\n"
 
+unfoldable pub thread_section : Work → History → List ℕ
+thread_section w h = section w (codes "threads\n") (thread_rows w h)
+
+unfoldable pub lock_section : Work → History → List ℕ
+lock_section w h = section w (codes "locks\n") (lock_rows w h)
+
+unfoldable pub cpu_section : Work → History → List ℕ
+cpu_section w h = section w (codes "processors\n") (cpu_rows w h)
+
 -- the report
 unfoldable pub report_text : Work → History → List ℕ
-report_text w h =
-    ticks_line w h ++ head_line ++ section w (codes "threads\n") (thread_rows w h) ++ section w (codes "processors\n") (cpu_rows w h)
+report_text w h = ticks_line w h ++ head_line ++ thread_section w h ++ lock_section w h ++ cpu_section w h

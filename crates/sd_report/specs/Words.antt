@@ -1,6 +1,6 @@
 -- The words of a row.
 -- Source: this project's own.
-use Rattle.std.specs.Prelude.{ℕ, List, [], codes, decimal}
+use Rattle.std.specs.Prelude.{ℕ, List, [], codes, decimal, Option, Some, None}
 use Rattle.sd_types.specs.declared.works.Work.{Work}
 use Rattle.sd_machine.specs.Texts.{lock_name, thread_name}
 use Rattle.sd_statistics.specs.declared.activities.Activity.{Activity}
@@ -8,19 +8,23 @@ use Rattle.sd_statistics.specs.declared.activities.Activity.TheVariants.{Running
 use Rattle.sd_statistics.specs.declared.cpus.Deed.{Deed}
 use Rattle.sd_statistics.specs.declared.cpus.Deed.TheVariants.{Runs, Spins, Idles, Dispatches, Steals, Preempts}
 use Rattle.sd_statistics.specs.declared.rows.Measure.{Measure}
-use Rattle.sd_statistics.specs.declared.rows.Measure.TheVariants.{Does, Twice, WakeupToRun, Inherits, Makes}
+use Rattle.sd_statistics.specs.declared.rows.Measure.TheVariants.{Does, Twice, WakeupToRun, Inherits, Makes, Held, Contended, HandsOn}
+use Rattle.sd_statistics.specs.declared.rows.Row.{Row}
 use Rattle.sd_statistics.specs.declared.rows.Subject.{Subject}
-use Rattle.sd_statistics.specs.declared.rows.Subject.TheVariants.{Thread, Cpu}
+use Rattle.sd_statistics.specs.declared.rows.Subject.TheVariants.{Thread, Cpu, Lock}
+use Rattle.sd_statistics.specs.declared.spans.Span.{Span}
 
 -- of what kind it is of which a row speaks
 abbrev pub subject_word : Subject → List ℕ
 subject_word (Thread t) = codes "thread"
 subject_word (Cpu c) = codes "processor"
+subject_word (Lock l) = codes "lock"
 
 -- its name, and of a processor its number
 abbrev pub subject_name : Work → Subject → List ℕ
 subject_name w (Thread t) = thread_name w t
 subject_name w (Cpu c) = decimal c
+subject_name w (Lock l) = lock_name w l.0
 
 abbrev pub activity_word : Activity → List ℕ
 activity_word Running = codes "running"
@@ -47,6 +51,9 @@ measure_word Twice = codes "in two states"
 measure_word WakeupToRun = codes "wakeup to run"
 measure_word Inherits = codes "inherits"
 measure_word (Makes d) = deed_word d
+measure_word Held = codes "held"
+measure_word Contended = codes "contended"
+measure_word HandsOn = codes "hands on"
 
 abbrev pub activity_object : Work → Activity → List ℕ
 activity_object w (SpinningFor l) = lock_name w l.0
@@ -57,3 +64,11 @@ activity_object w _ = []
 abbrev pub measure_object : Work → Measure → List ℕ
 measure_object w (Does a) = activity_object w a
 measure_object w _ = []
+
+abbrev pub holder_by : Work → Subject → Option Span → List ℕ
+holder_by w (Lock l) (Some x) = thread_name w x.thread
+holder_by w _ _ = []
+
+-- of a row of a lock, the thread of the longest
+abbrev pub holder : Work → Row → List ℕ
+holder w x = holder_by w x.subject x.figures.longest

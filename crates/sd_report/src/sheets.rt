@@ -1,39 +1,95 @@
 //! The report as comma-separated rows.
+//!
+//! Source: RFC 4180 (comma-separated values).
 
-ghost use Rattle.std.specs.Prelude.{◌≡◌, ◌++◌, IfOk, OnOk, codes, map};
-ghost use Rattle.std.specs.List.{flat_map};
+ghost use Rattle.std.specs.Prelude.{◌≡◌, ◌∷◌, [], ◌++◌, ℕ, IfOk, OnOk, List as Items};
+ghost use Rattle.csv.specs.Records.{fields_of};
 ghost use Rattle.csv.specs.Writing.{default_writer, row_text};
-ghost use Rattle.sd_report.specs.Sheets.{head_row, row_fields, sheet_row, sheet_text};
+ghost use Rattle.sd_report.specs.Cells.{figure};
+ghost use Rattle.sd_report.specs.Sheets.{HasFields, cpu_sheet, head_row, lock_sheet, longest_fields, number_fields, rows_text, sheet_row, sheet_text, thread_sheet, word_fields};
 
 use crate::cells::figure;
 use crate::tables::{longest_first, longest_last, longest_ticks};
-use crate::words::{measure_object, measure_word, put_subject_name, subject_word};
-use csv::{Error, WriterBuilder};
-use sd_statistics::{Row, cpu_rows, thread_rows};
+use crate::words::{holder, measure_object, measure_word, put_subject_name, subject_word};
+use csv::{ByteRecord, Error, WriterBuilder};
+use sd_statistics::{Row, cpu_rows, lock_rows, thread_rows};
 use sd_stretches::History;
 use sd_types::Work;
 use std::alloc::{AllocError, Global};
 
-// The text of one record.
-fn record_text(alloc: Global, fields: &[&[u8]]) -> Result<Vec<u8>, Error>
-    ensures { IfOk result (λ v. v.items ≡ row_text default_writer (map (λ f. f.now) fields.now)) }
+// The text of a record.
+fn record_text(alloc: Global, record: &ByteRecord) -> Result<Vec<u8>, Error>
+    ensures { IfOk result (λ v. v.items ≡ row_text default_writer (fields_of record.now)) }
 {
     let mut writer = WriterBuilder::new().from_writer(Vec::new(alloc));
-    writer.write_fields(fields)?;
+    writer.write_byte_record(record)?;
     match writer.into_inner() {
         Ok(text) => Ok(text),
         Err(e) => Err(e.into_error()),
     }
 }
 
-// One record; writing to memory fails only where there is none.
-fn put_record(alloc: Global, fields: &[&[u8]], out: &mut Vec<u8>) -> Result<(), AllocError>
-    ensures { OnOk result (out.new.items ≡ out.old.items ++ row_text default_writer (map (λ f. f.now) fields.now)) }
+// A record; writing to memory fails only where there is none.
+fn put_record(alloc: Global, record: &ByteRecord, out: &mut Vec<u8>) -> Result<(), AllocError>
+    ensures { OnOk result (out.new.items ≡ out.old.items ++ row_text default_writer (fields_of record.now)) }
 {
-    match record_text(alloc, fields) {
+    match record_text(alloc, record) {
         Ok(text) => out.extend_from_slice(&text),
         Err(_) => Err(AllocError),
     }
+}
+
+fn push_field(field: &[u8], record: &mut ByteRecord) -> Result<(), AllocError>
+    ensures { OnOk result ((xs : Items (Items ℕ)) → HasFields record.old xs → HasFields record.new (xs ++ field.now ∷ [])) }
+{
+    record.push_field(field)
+}
+
+// Of whom a row speaks, what it measures, and of which lock.
+fn push_words(
+    alloc: Global,
+    work: &Work,
+    x: &Row,
+    record: &mut ByteRecord,
+) -> Result<(), AllocError>
+    ensures { OnOk result ((xs : Items (Items ℕ)) → HasFields record.old xs → HasFields record.new (xs ++ word_fields work.now x.now)) }
+{
+    let mut name = Vec::new(alloc);
+    put_subject_name(work, x.subject, &mut name)?;
+    push_field(subject_word(x.subject), record)?;
+    push_field(&name, record)?;
+    push_field(measure_word(x.measure), record)?;
+    push_field(measure_object(work, x.measure), record)
+}
+
+fn push_figure(alloc: Global, n: Option<u64>, record: &mut ByteRecord) -> Result<(), AllocError>
+    ensures { OnOk result ((xs : Items (Items ℕ)) → HasFields record.old xs → HasFields record.new (xs ++ figure n ∷ [])) }
+{
+    let text = figure(alloc, n)?;
+    push_field(&text, record)
+}
+
+fn push_numbers(alloc: Global, x: &Row, record: &mut ByteRecord) -> Result<(), AllocError>
+    ensures { OnOk result ((xs : Items (Items ℕ)) → HasFields record.old xs → HasFields record.new (xs ++ number_fields x.now)) }
+{
+    push_figure(alloc, x.figures.number, record)?;
+    push_figure(alloc, x.figures.ticks, record)?;
+    push_figure(alloc, x.figures.priority, record)
+}
+
+// How long the longest is, the first entry that was made in it and the one that ended it, and whose it is.
+fn push_longest(
+    alloc: Global,
+    work: &Work,
+    x: &Row,
+    record: &mut ByteRecord,
+) -> Result<(), AllocError>
+    ensures { OnOk result ((xs : Items (Items ℕ)) → HasFields record.old xs → HasFields record.new (xs ++ longest_fields work.now x.now)) }
+{
+    push_figure(alloc, longest_ticks(x.figures.longest), record)?;
+    push_figure(alloc, longest_first(x.figures.longest), record)?;
+    push_figure(alloc, longest_last(x.figures.longest), record)?;
+    push_field(holder(work, x), record)
 }
 
 // The record of a row.
@@ -41,39 +97,21 @@ fn put_record(alloc: Global, fields: &[&[u8]], out: &mut Vec<u8>) -> Result<(), 
 fn put_row(alloc: Global, work: &Work, x: &Row, out: &mut Vec<u8>) -> Result<(), AllocError>
     ensures { OnOk result (out.new.items ≡ out.old.items ++ sheet_row work.now x.now) }
 {
-    let mut name = Vec::new(alloc);
-    put_subject_name(work, x.subject, &mut name)?;
-    let number = figure(alloc, x.figures.number)?;
-    let ticks = figure(alloc, x.figures.ticks)?;
-    let longest = figure(alloc, longest_ticks(x.figures.longest))?;
-    let first = figure(alloc, longest_first(x.figures.longest))?;
-    let last = figure(alloc, longest_last(x.figures.longest))?;
-    let priority = figure(alloc, x.figures.priority)?;
-    put_record(
-        alloc,
-        &[
-            subject_word(x.subject),
-            &name,
-            measure_word(x.measure),
-            measure_object(work, x.measure),
-            &number,
-            &ticks,
-            &longest,
-            &first,
-            &last,
-            &priority,
-        ],
-        out,
-    )
+    let mut record = ByteRecord::new(alloc);
+    push_words(alloc, work, x, &mut record)?;
+    push_numbers(alloc, x, &mut record)?;
+    push_longest(alloc, work, x, &mut record)?;
+    put_record(alloc, &record, out)
 }
 
+#[tactic(auto, unfolding(crate::specs::Sheets::rows_text))]
 fn put_rows(
     alloc: Global,
     work: &Work,
     rows: &[Row],
     out: &mut Vec<u8>,
 ) -> Result<(), AllocError>
-    ensures { OnOk result (out.new.items ≡ out.old.items ++ flat_map (sheet_row work.now) rows.now) }
+    ensures { OnOk result (out.new.items ≡ out.old.items ++ rows_text work.now rows.now) }
 {
     for x in rows {
         put_row(alloc, work, x, out)?;
@@ -86,8 +124,47 @@ fn put_head(out: &mut Vec<u8>) -> Result<(), AllocError>
     ensures { OnOk result (out.new.items ≡ out.old.items ++ head_row) }
 {
     out.extend_from_slice(
-        b"kind,name,measure,lock,number,ticks,longest,from entry,to entry,priority\n",
+        b"kind,name,measure,lock,number,ticks,priority,longest,from entry,to entry,by\n",
     )
+}
+
+#[tactic(auto, unfolding(crate::specs::Sheets::thread_sheet))]
+fn put_threads(
+    alloc: Global,
+    work: &Work,
+    history: &History,
+    out: &mut Vec<u8>,
+) -> Result<(), AllocError>
+    ensures { OnOk result (out.new.items ≡ out.old.items ++ thread_sheet work.now history.now) }
+{
+    let rows = thread_rows(alloc, work, history)?;
+    put_rows(alloc, work, &rows, out)
+}
+
+#[tactic(auto, unfolding(crate::specs::Sheets::lock_sheet))]
+fn put_locks(
+    alloc: Global,
+    work: &Work,
+    history: &History,
+    out: &mut Vec<u8>,
+) -> Result<(), AllocError>
+    ensures { OnOk result (out.new.items ≡ out.old.items ++ lock_sheet work.now history.now) }
+{
+    let rows = lock_rows(alloc, work, history)?;
+    put_rows(alloc, work, &rows, out)
+}
+
+#[tactic(auto, unfolding(crate::specs::Sheets::cpu_sheet))]
+fn put_cpus(
+    alloc: Global,
+    work: &Work,
+    history: &History,
+    out: &mut Vec<u8>,
+) -> Result<(), AllocError>
+    ensures { OnOk result (out.new.items ≡ out.old.items ++ cpu_sheet work.now history.now) }
+{
+    let rows = cpu_rows(alloc, work, history)?;
+    put_rows(alloc, work, &rows, out)
 }
 
 /// Appends the report of a run of the workload, of which this is the history, as comma-separated rows: the names of the fields,
@@ -101,9 +178,8 @@ pub fn write_sheet(
 ) -> Result<(), AllocError>
     ensures { OnOk result (out.new.items ≡ out.old.items ++ sheet_text work.now history.now) }
 {
-    let threads = thread_rows(alloc, work, history)?;
-    let cpus = cpu_rows(alloc, work, history)?;
     put_head(out)?;
-    put_rows(alloc, work, &threads, out)?;
-    put_rows(alloc, work, &cpus, out)
+    put_threads(alloc, work, history, out)?;
+    put_locks(alloc, work, history, out)?;
+    put_cpus(alloc, work, history, out)
 }

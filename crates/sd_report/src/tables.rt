@@ -2,12 +2,12 @@
 
 ghost use Rattle.std.specs.Prelude.{◌≡◌, ◌++◌, OnOk, codes, decimal};
 ghost use Rattle.std.specs.List.{flat_map};
-ghost use Rattle.sd_report.specs.Tables.{head_line, longest_cells, longest_first, longest_last, longest_ticks, report_text, row_cells, row_words, section, table_line, ticks_line};
+ghost use Rattle.sd_report.specs.Tables.{cpu_section, head_line, lock_section, longest_cells, longest_first, longest_last, longest_ticks, report_text, row_cells, row_words, section, table_line, thread_section, ticks_line};
 
 use crate::cells::{put_figure, put_left, put_right};
-use crate::words::{measure_object, measure_word, put_subject_name};
+use crate::words::{holder, measure_object, measure_word, put_subject_name};
 use sd_labels::put_counted;
-use sd_statistics::{Row, Span, cpu_rows, thread_rows, ticks_of};
+use sd_statistics::{Row, Span, cpu_rows, lock_rows, thread_rows, ticks_of};
 use sd_stretches::History;
 use sd_types::Work;
 use std::alloc::{AllocError, Global};
@@ -86,6 +86,7 @@ fn put_line(alloc: Global, work: &Work, x: &Row, out: &mut Vec<u8>) -> Result<()
 {
     put_words(alloc, work, x, out)?;
     put_cells(alloc, x, out)?;
+    put_right(18, holder(work, x), out)?;
     out.extend_from_slice(b"\n")
 }
 
@@ -102,6 +103,7 @@ fn put_head(out: &mut Vec<u8>) -> Result<(), AllocError>
     put_right(9, b"from", out)?;
     put_right(9, b"to", out)?;
     put_right(10, b"priority", out)?;
+    put_right(18, b"by", out)?;
     out.extend_from_slice(b"\n")
 }
 
@@ -132,6 +134,45 @@ fn put_ticks_line(work: &Work, history: &History, out: &mut Vec<u8>) -> Result<(
     out.extend_from_slice(b"\n\n")
 }
 
+#[tactic(auto, unfolding(crate::specs::Tables::thread_section))]
+fn put_threads(
+    alloc: Global,
+    work: &Work,
+    history: &History,
+    out: &mut Vec<u8>,
+) -> Result<(), AllocError>
+    ensures { OnOk result (out.new.items ≡ out.old.items ++ thread_section work.now history.now) }
+{
+    let rows = thread_rows(alloc, work, history)?;
+    put_section(alloc, work, b"threads\n", &rows, out)
+}
+
+#[tactic(auto, unfolding(crate::specs::Tables::lock_section))]
+fn put_locks(
+    alloc: Global,
+    work: &Work,
+    history: &History,
+    out: &mut Vec<u8>,
+) -> Result<(), AllocError>
+    ensures { OnOk result (out.new.items ≡ out.old.items ++ lock_section work.now history.now) }
+{
+    let rows = lock_rows(alloc, work, history)?;
+    put_section(alloc, work, b"locks\n", &rows, out)
+}
+
+#[tactic(auto, unfolding(crate::specs::Tables::cpu_section))]
+fn put_cpus(
+    alloc: Global,
+    work: &Work,
+    history: &History,
+    out: &mut Vec<u8>,
+) -> Result<(), AllocError>
+    ensures { OnOk result (out.new.items ≡ out.old.items ++ cpu_section work.now history.now) }
+{
+    let rows = cpu_rows(alloc, work, history)?;
+    put_section(alloc, work, b"processors\n", &rows, out)
+}
+
 /// Appends the report of a run of the workload, of which this is the history, as a table: a line for each row of the statistics.
 #[tactic(auto, unfolding(crate::specs::Tables::report_text))]
 pub fn write_report(
@@ -142,10 +183,9 @@ pub fn write_report(
 ) -> Result<(), AllocError>
     ensures { OnOk result (out.new.items ≡ out.old.items ++ report_text work.now history.now) }
 {
-    let threads = thread_rows(alloc, work, history)?;
-    let cpus = cpu_rows(alloc, work, history)?;
     put_ticks_line(work, history, out)?;
     put_head(out)?;
-    put_section(alloc, work, b"threads\n", &threads, out)?;
-    put_section(alloc, work, b"processors\n", &cpus, out)
+    put_threads(alloc, work, history, out)?;
+    put_locks(alloc, work, history, out)?;
+    put_cpus(alloc, work, history, out)
 }

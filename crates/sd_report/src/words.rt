@@ -1,10 +1,10 @@
 //! The words of a row.
 
 ghost use Rattle.std.specs.Prelude.{◌≡◌, ◌++◌, OnOk};
-ghost use Rattle.sd_report.specs.Words.{activity_object, activity_word, deed_word, measure_object, measure_word, subject_name, subject_word};
+ghost use Rattle.sd_report.specs.Words.{activity_object, activity_word, deed_word, holder, measure_object, measure_word, subject_name, subject_word};
 
 use sd_labels::{lock_name, thread_name};
-use sd_statistics::{Activity, Deed, Measure, Subject};
+use sd_statistics::{Activity, Deed, Measure, Row, Subject};
 use sd_text::put_number;
 use sd_types::Work;
 use std::alloc::AllocError;
@@ -16,6 +16,7 @@ pub(crate) fn subject_word(subject: Subject) -> &'static [u8]
     match subject {
         Subject::Thread(_) => b"thread",
         Subject::Cpu(_) => b"processor",
+        Subject::Lock(_) => b"lock",
     }
 }
 
@@ -30,6 +31,7 @@ pub(crate) fn put_subject_name(
     match subject {
         Subject::Thread(t) => out.extend_from_slice(thread_name(work, t)),
         Subject::Cpu(c) => put_number(out, u64::from(c)),
+        Subject::Lock(l) => out.extend_from_slice(lock_name(work, l)),
     }
 }
 
@@ -72,6 +74,9 @@ pub(crate) fn measure_word(measure: Measure) -> &'static [u8]
         Measure::WakeupToRun => b"wakeup to run",
         Measure::Inherits => b"inherits",
         Measure::Makes(deed) => deed_word(deed),
+        Measure::Held => b"held",
+        Measure::Contended => b"contended",
+        Measure::HandsOn => b"hands on",
     }
 }
 
@@ -91,6 +96,16 @@ pub(crate) fn measure_object(work: &Work, measure: Measure) -> &[u8]
 {
     match measure {
         Measure::Does(activity) => activity_object(work, activity),
+        _ => b"",
+    }
+}
+
+/// Of a row of a lock, the thread of the longest; else empty.
+pub(crate) fn holder<'a>(work: &'a Work, x: &Row) -> &'a [u8]
+    ensures { result.now ≡ holder work.now x.now }
+{
+    match (x.subject, x.figures.longest) {
+        (Subject::Lock(_), Some(longest)) => thread_name(work, longest.thread),
         _ => b"",
     }
 }

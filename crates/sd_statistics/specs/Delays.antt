@@ -8,6 +8,7 @@ use Rattle.sd_stretches.specs.declared.sights.Doing.{Doing}
 use Rattle.sd_stretches.specs.declared.sights.Doing.TheVariants.{Running}
 use Rattle.sd_stretches.specs.Rows.{next_of}
 use Rattle.sd_statistics.specs.declared.spans.Span.{Span}
+use Rattle.sd_statistics.specs.Spans.{state_after}
 
 abbrev pub runs : Doing → Bool
 runs (Running c) = true
@@ -23,7 +24,7 @@ first_run entry own = next_of (filter (runs_after entry) own)
 -- from a wakeup up to the entry that makes the thread run, where there is one
 abbrev pub delay_to : Wakeup → Option Stretch → List Span
 delay_to w None = []
-delay_to w (Some x) = record { thread = w.woken.0; first = w.entry; last = x.first - 1; from = w.tick; to = x.from } ∷ []
+delay_to w (Some x) = record { thread = w.woken.0; first = state_after w.entry; last = x.first - 1; from = w.tick; to = x.from } ∷ []
 
 abbrev pub delay_if : ℕ → List Stretch → Wakeup → List Span
 delay_if t own w = if not (w.woken.0 == t) then [] else delay_to w (first_run w.entry own)

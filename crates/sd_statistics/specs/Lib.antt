@@ -6,3 +6,4 @@ pub mod Rows
 pub mod Threads
 pub mod Cpus
 pub mod Laws
+pub mod Locks

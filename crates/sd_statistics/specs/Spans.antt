@@ -1,11 +1,15 @@
 -- Spans of a run and their summary.
 -- Source: this project's own.
-use Rattle.std.specs.Prelude.{ℕ, ◌-◌, nat_lt, min, List, [], ◌∷◌, length, sum_by, Option, Some, None, if◌then◌else◌}
+use Rattle.std.specs.Prelude.{ℕ, ◌+◌, ◌-◌, nat_lt, min, List, [], ◌∷◌, length, sum_by, Option, Some, None, if◌then◌else◌}
 use Rattle.sd_statistics.specs.declared.spans.Span.{Span}
 use Rattle.sd_statistics.specs.declared.spans.Summary.{Summary}
 
 abbrev pub ticks_of : Span → ℕ
 ticks_of x = x.to - x.from
+
+-- the number of the state that an entry made
+abbrev pub state_after : ℕ → ℕ
+state_after entry = min (entry + 1) 18446744073709551615
 
 -- the first, unless the second is longer
 abbrev pub longer : Option Span → Option Span → Option Span

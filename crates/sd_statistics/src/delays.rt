@@ -5,7 +5,7 @@
 ghost use Rattle.std.specs.Prelude.{◌≡◌, ◌++◌, IfOk, OnOk};
 ghost use Rattle.sd_statistics.specs.Delays.{delay_if, delay_to, delays_of, first_run, runs, runs_after};
 
-use crate::spans::Span;
+use crate::spans::{Span, state_after};
 use sd_stretches::{Doing, Stretch, Wakeup};
 use std::alloc::{AllocError, Global};
 
@@ -44,7 +44,7 @@ fn push_delay_to(
     if let Some(x) = run {
         out.push(Span {
             thread: wakeup.woken.0 as usize,
-            first: wakeup.entry,
+            first: state_after(wakeup.entry),
             last: x.first.saturating_sub(1),
             from: wakeup.tick,
             to: x.from,

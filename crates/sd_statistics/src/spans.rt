@@ -1,7 +1,7 @@
 //! Spans of a run: how many there are, how long they are together, and the longest.
 
 ghost use Rattle.std.specs.Prelude.{◌≡◌, ◌++◌, IfOk, OnOk, sum_by};
-ghost use Rattle.sd_statistics.specs.Spans.{at_most_u64, longer, longest, summary_of, ticks_of};
+ghost use Rattle.sd_statistics.specs.Spans.{at_most_u64, longer, longest, state_after, summary_of, ticks_of};
 
 /// A part of a run that is a thread's: from the state that `first` entries made up to the one that `last` entries made, and from
 /// one count of ticks to another. Each is the count of the processor that made the entry; where the processor that ends a span
@@ -28,6 +28,13 @@ pub fn ticks_of(x: Span) -> u32
     ensures { result ≡ ticks_of x }
 {
     x.to.saturating_sub(x.from)
+}
+
+/// The number of the state that an entry made.
+pub(crate) fn state_after(entry: u64) -> u64
+    ensures { result ≡ state_after entry }
+{
+    entry.saturating_add(1)
 }
 
 fn longer(x: Option<Span>, y: Option<Span>) -> Option<Span>
