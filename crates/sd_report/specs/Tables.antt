@@ -7,14 +7,15 @@ use Rattle.sd_stretches.specs.declared.histories.History.{History}
 use Rattle.sd_statistics.specs.declared.rows.Row.{Row}
 use Rattle.sd_statistics.specs.declared.spans.Span.{Span}
 use Rattle.sd_statistics.specs.Cpus.{cpu_rows}
+use Rattle.sd_statistics.specs.Jobs.{task_rows}
 use Rattle.sd_statistics.specs.Locks.{lock_rows}
 use Rattle.sd_statistics.specs.Spans.{ticks_of}
 use Rattle.sd_statistics.specs.Threads.{thread_rows}
 use Rattle.sd_report.specs.Cells.{figure, left, right}
-use Rattle.sd_report.specs.Words.{holder, measure_object, measure_word, subject_name}
+use Rattle.sd_report.specs.Words.{holder, measure_word, row_object, subject_name}
 
 unfoldable pub row_words : Work → Row → List ℕ
-row_words w x = left 17 (subject_name w x.subject) ++ left 15 (measure_word x.measure) ++ left 17 (measure_object w x.measure)
+row_words w x = left 17 (subject_name w x.subject) ++ left 15 (measure_word x.measure) ++ left 17 (row_object w x)
 
 abbrev pub longest_ticks : Option Span → Option ℕ
 longest_ticks None = None
@@ -41,7 +42,7 @@ table_line w x = row_words w x ++ row_cells x ++ right 18 (holder w x) ++ codes 
 
 unfoldable pub head_line : List ℕ
 head_line =
-    left 17 [] ++ left 15 [] ++ left 17 (codes "lock") ++ right 8 (codes "number") ++ right 9 (codes "ticks") ++ right 9 (codes "longest")
+    left 17 [] ++ left 15 [] ++ left 17 (codes "of") ++ right 8 (codes "number") ++ right 9 (codes "ticks") ++ right 9 (codes "longest")
     ++ right 9 (codes "from") ++ right 9 (codes "to") ++ right 10 (codes "priority") ++ right 18 (codes "by") ++ codes "\n"
 
 -- the rows of one kind under their title
@@ -54,6 +55,9 @@ ticks_line w h = (codes "ticks " ++ decimal w.limit) ++ (codes ", entries " ++ d
 unfoldable pub thread_section : Work → History → List ℕ
 thread_section w h = section w (codes "threads\n") (thread_rows w h)
 
+unfoldable pub task_section : Work → History → List ℕ
+task_section w h = section w (codes "tasks\n") (task_rows w h)
+
 unfoldable pub lock_section : Work → History → List ℕ
 lock_section w h = section w (codes "locks\n") (lock_rows w h)
 
@@ -62,4 +66,4 @@ cpu_section w h = section w (codes "processors\n") (cpu_rows w h)
 
 -- the report
 unfoldable pub report_text : Work → History → List ℕ
-report_text w h = ticks_line w h ++ head_line ++ thread_section w h ++ lock_section w h ++ cpu_section w h
+report_text w h = ticks_line w h ++ head_line ++ thread_section w h ++ task_section w h ++ lock_section w h ++ cpu_section w h

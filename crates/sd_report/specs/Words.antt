@@ -2,16 +2,16 @@
 -- Source: this project's own.
 use Rattle.std.specs.Prelude.{ℕ, List, [], codes, decimal, Option, Some, None}
 use Rattle.sd_types.specs.declared.works.Work.{Work}
-use Rattle.sd_machine.specs.Texts.{lock_name, thread_name}
+use Rattle.sd_machine.specs.Texts.{chan_name, lock_name, thread_name}
 use Rattle.sd_statistics.specs.declared.activities.Activity.{Activity}
 use Rattle.sd_statistics.specs.declared.activities.Activity.TheVariants.{Running, Spinning, Runnable, Waiting, Asleep, Napping, Ended, SpinningFor, WaitingFor}
 use Rattle.sd_statistics.specs.declared.cpus.Deed.{Deed}
 use Rattle.sd_statistics.specs.declared.cpus.Deed.TheVariants.{Runs, Spins, Idles, Dispatches, Steals, Preempts}
 use Rattle.sd_statistics.specs.declared.rows.Measure.{Measure}
-use Rattle.sd_statistics.specs.declared.rows.Measure.TheVariants.{Does, Twice, WakeupToRun, Inherits, Makes, Held, Contended, HandsOn}
+use Rattle.sd_statistics.specs.declared.rows.Measure.TheVariants.{Does, Twice, WakeupToRun, Inherits, Makes, Held, Contended, HandsOn, Responds}
 use Rattle.sd_statistics.specs.declared.rows.Row.{Row}
 use Rattle.sd_statistics.specs.declared.rows.Subject.{Subject}
-use Rattle.sd_statistics.specs.declared.rows.Subject.TheVariants.{Thread, Cpu, Lock}
+use Rattle.sd_statistics.specs.declared.rows.Subject.TheVariants.{Thread, Cpu, Lock, Task}
 use Rattle.sd_statistics.specs.declared.spans.Span.{Span}
 
 -- of what kind it is of which a row speaks
@@ -19,12 +19,14 @@ abbrev pub subject_word : Subject → List ℕ
 subject_word (Thread t) = codes "thread"
 subject_word (Cpu c) = codes "processor"
 subject_word (Lock l) = codes "lock"
+subject_word (Task t k) = codes "task"
 
 -- its name, and of a processor its number
 abbrev pub subject_name : Work → Subject → List ℕ
 subject_name w (Thread t) = thread_name w t
 subject_name w (Cpu c) = decimal c
 subject_name w (Lock l) = lock_name w l.0
+subject_name w (Task t k) = thread_name w t
 
 abbrev pub activity_word : Activity → List ℕ
 activity_word Running = codes "running"
@@ -54,6 +56,7 @@ measure_word (Makes d) = deed_word d
 measure_word Held = codes "held"
 measure_word Contended = codes "contended"
 measure_word HandsOn = codes "hands on"
+measure_word Responds = codes "response"
 
 abbrev pub activity_object : Work → Activity → List ℕ
 activity_object w (SpinningFor l) = lock_name w l.0
@@ -64,6 +67,14 @@ activity_object w _ = []
 abbrev pub measure_object : Work → Measure → List ℕ
 measure_object w (Does a) = activity_object w a
 measure_object w _ = []
+
+abbrev pub object_by : Work → Subject → Measure → List ℕ
+object_by w (Task t k) m = chan_name w k.0
+object_by w _ m = measure_object w m
+
+-- the lock of which a row speaks, or the semaphore of a task
+abbrev pub row_object : Work → Row → List ℕ
+row_object w x = object_by w x.subject x.measure
 
 abbrev pub holder_by : Work → Subject → Option Span → List ℕ
 holder_by w (Lock l) (Some x) = thread_name w x.thread

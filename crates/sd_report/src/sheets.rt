@@ -6,13 +6,13 @@ ghost use Rattle.std.specs.Prelude.{◌≡◌, ◌∷◌, [], ◌++◌, ℕ, IfO
 ghost use Rattle.csv.specs.Records.{fields_of};
 ghost use Rattle.csv.specs.Writing.{default_writer, row_text};
 ghost use Rattle.sd_report.specs.Cells.{figure};
-ghost use Rattle.sd_report.specs.Sheets.{HasFields, cpu_sheet, head_row, lock_sheet, longest_fields, number_fields, rows_text, sheet_row, sheet_text, thread_sheet, word_fields};
+ghost use Rattle.sd_report.specs.Sheets.{HasFields, cpu_sheet, head_row, lock_sheet, longest_fields, number_fields, rows_text, sheet_row, sheet_text, task_sheet, thread_sheet, word_fields};
 
 use crate::cells::figure;
 use crate::tables::{longest_first, longest_last, longest_ticks};
-use crate::words::{holder, measure_object, measure_word, put_subject_name, subject_word};
+use crate::words::{holder, measure_word, put_subject_name, row_object, subject_word};
 use csv::{ByteRecord, Error, WriterBuilder};
-use sd_statistics::{Row, cpu_rows, lock_rows, thread_rows};
+use sd_statistics::{Row, cpu_rows, lock_rows, task_rows, thread_rows};
 use sd_stretches::History;
 use sd_types::Work;
 use std::alloc::{AllocError, Global};
@@ -45,7 +45,7 @@ fn push_field(field: &[u8], record: &mut ByteRecord) -> Result<(), AllocError>
     record.push_field(field)
 }
 
-// Of whom a row speaks, what it measures, and of which lock.
+// Of whom a row speaks, what it measures, and of which lock or semaphore.
 fn push_words(
     alloc: Global,
     work: &Work,
@@ -59,7 +59,7 @@ fn push_words(
     push_field(subject_word(x.subject), record)?;
     push_field(&name, record)?;
     push_field(measure_word(x.measure), record)?;
-    push_field(measure_object(work, x.measure), record)
+    push_field(row_object(work, x), record)
 }
 
 fn push_figure(alloc: Global, n: Option<u64>, record: &mut ByteRecord) -> Result<(), AllocError>
@@ -124,7 +124,7 @@ fn put_head(out: &mut Vec<u8>) -> Result<(), AllocError>
     ensures { OnOk result (out.new.items ≡ out.old.items ++ head_row) }
 {
     out.extend_from_slice(
-        b"kind,name,measure,lock,number,ticks,priority,longest,from entry,to entry,by\n",
+        b"kind,name,measure,of,number,ticks,priority,longest,from entry,to entry,by\n",
     )
 }
 
@@ -138,6 +138,19 @@ fn put_threads(
     ensures { OnOk result (out.new.items ≡ out.old.items ++ thread_sheet work.now history.now) }
 {
     let rows = thread_rows(alloc, work, history)?;
+    put_rows(alloc, work, &rows, out)
+}
+
+#[tactic(auto, unfolding(crate::specs::Sheets::task_sheet))]
+fn put_tasks(
+    alloc: Global,
+    work: &Work,
+    history: &History,
+    out: &mut Vec<u8>,
+) -> Result<(), AllocError>
+    ensures { OnOk result (out.new.items ≡ out.old.items ++ task_sheet work.now history.now) }
+{
+    let rows = task_rows(alloc, work, history)?;
     put_rows(alloc, work, &rows, out)
 }
 
@@ -180,6 +193,7 @@ pub fn write_sheet(
 {
     put_head(out)?;
     put_threads(alloc, work, history, out)?;
+    put_tasks(alloc, work, history, out)?;
     put_locks(alloc, work, history, out)?;
     put_cpus(alloc, work, history, out)
 }

@@ -2,12 +2,12 @@
 
 ghost use Rattle.std.specs.Prelude.{◌≡◌, ◌++◌, OnOk, codes, decimal};
 ghost use Rattle.std.specs.List.{flat_map};
-ghost use Rattle.sd_report.specs.Tables.{cpu_section, head_line, lock_section, longest_cells, longest_first, longest_last, longest_ticks, report_text, row_cells, row_words, section, table_line, thread_section, ticks_line};
+ghost use Rattle.sd_report.specs.Tables.{cpu_section, head_line, lock_section, longest_cells, longest_first, longest_last, longest_ticks, report_text, row_cells, row_words, section, table_line, task_section, thread_section, ticks_line};
 
 use crate::cells::{put_figure, put_left, put_right};
-use crate::words::{holder, measure_object, measure_word, put_subject_name};
+use crate::words::{holder, measure_word, put_subject_name, row_object};
 use sd_labels::put_counted;
-use sd_statistics::{Row, Span, cpu_rows, lock_rows, thread_rows, ticks_of};
+use sd_statistics::{Row, Span, cpu_rows, lock_rows, task_rows, thread_rows, ticks_of};
 use sd_stretches::History;
 use sd_types::Work;
 use std::alloc::{AllocError, Global};
@@ -26,7 +26,7 @@ fn put_words(
     put_subject_name(work, x.subject, &mut name)?;
     put_left(17, &name, out)?;
     put_left(15, measure_word(x.measure), out)?;
-    put_left(17, measure_object(work, x.measure), out)
+    put_left(17, row_object(work, x), out)
 }
 
 pub(crate) fn longest_ticks(longest: Option<Span>) -> Option<u64>
@@ -96,7 +96,7 @@ fn put_head(out: &mut Vec<u8>) -> Result<(), AllocError>
 {
     put_left(17, b"", out)?;
     put_left(15, b"", out)?;
-    put_left(17, b"lock", out)?;
+    put_left(17, b"of", out)?;
     put_right(8, b"number", out)?;
     put_right(9, b"ticks", out)?;
     put_right(9, b"longest", out)?;
@@ -147,6 +147,19 @@ fn put_threads(
     put_section(alloc, work, b"threads\n", &rows, out)
 }
 
+#[tactic(auto, unfolding(crate::specs::Tables::task_section))]
+fn put_tasks(
+    alloc: Global,
+    work: &Work,
+    history: &History,
+    out: &mut Vec<u8>,
+) -> Result<(), AllocError>
+    ensures { OnOk result (out.new.items ≡ out.old.items ++ task_section work.now history.now) }
+{
+    let rows = task_rows(alloc, work, history)?;
+    put_section(alloc, work, b"tasks\n", &rows, out)
+}
+
 #[tactic(auto, unfolding(crate::specs::Tables::lock_section))]
 fn put_locks(
     alloc: Global,
@@ -186,6 +199,7 @@ pub fn write_report(
     put_ticks_line(work, history, out)?;
     put_head(out)?;
     put_threads(alloc, work, history, out)?;
+    put_tasks(alloc, work, history, out)?;
     put_locks(alloc, work, history, out)?;
     put_cpus(alloc, work, history, out)
 }

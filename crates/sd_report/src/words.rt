@@ -1,9 +1,9 @@
 //! The words of a row.
 
 ghost use Rattle.std.specs.Prelude.{◌≡◌, ◌++◌, OnOk};
-ghost use Rattle.sd_report.specs.Words.{activity_object, activity_word, deed_word, holder, measure_object, measure_word, subject_name, subject_word};
+ghost use Rattle.sd_report.specs.Words.{activity_object, activity_word, deed_word, holder, measure_object, measure_word, row_object, subject_name, subject_word};
 
-use sd_labels::{lock_name, thread_name};
+use sd_labels::{chan_name, lock_name, thread_name};
 use sd_statistics::{Activity, Deed, Measure, Row, Subject};
 use sd_text::put_number;
 use sd_types::Work;
@@ -17,6 +17,7 @@ pub(crate) fn subject_word(subject: Subject) -> &'static [u8]
         Subject::Thread(_) => b"thread",
         Subject::Cpu(_) => b"processor",
         Subject::Lock(_) => b"lock",
+        Subject::Task(_, _) => b"task",
     }
 }
 
@@ -32,6 +33,7 @@ pub(crate) fn put_subject_name(
         Subject::Thread(t) => out.extend_from_slice(thread_name(work, t)),
         Subject::Cpu(c) => put_number(out, u64::from(c)),
         Subject::Lock(l) => out.extend_from_slice(lock_name(work, l)),
+        Subject::Task(t, _) => out.extend_from_slice(thread_name(work, t)),
     }
 }
 
@@ -77,6 +79,7 @@ pub(crate) fn measure_word(measure: Measure) -> &'static [u8]
         Measure::Held => b"held",
         Measure::Contended => b"contended",
         Measure::HandsOn => b"hands on",
+        Measure::Responds => b"response",
     }
 }
 
@@ -90,13 +93,23 @@ fn activity_object(work: &Work, activity: Activity) -> &[u8]
     }
 }
 
-/// The lock of which a measure speaks; empty where it speaks of none.
-pub(crate) fn measure_object(work: &Work, measure: Measure) -> &[u8]
+// The lock of which a measure speaks; empty where it speaks of none.
+fn measure_object(work: &Work, measure: Measure) -> &[u8]
     ensures { result.now ≡ measure_object work.now measure }
 {
     match measure {
         Measure::Does(activity) => activity_object(work, activity),
         _ => b"",
+    }
+}
+
+/// The lock of which a row speaks, or the semaphore of a task; empty where there is none.
+pub(crate) fn row_object<'a>(work: &'a Work, x: &Row) -> &'a [u8]
+    ensures { result.now ≡ row_object work.now x.now }
+{
+    match x.subject {
+        Subject::Task(_, k) => chan_name(work, k),
+        _ => measure_object(work, x.measure),
     }
 }
 

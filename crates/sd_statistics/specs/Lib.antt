@@ -7,3 +7,4 @@ pub mod Threads
 pub mod Cpus
 pub mod Laws
 pub mod Locks
+pub mod Jobs

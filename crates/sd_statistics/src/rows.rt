@@ -6,21 +6,22 @@ ghost use Rattle.sd_statistics.specs.Rows.{all_of, count_figures, is_nothing, is
 use crate::activities::Activity;
 use crate::cpus::Deed;
 use crate::spans::{Span, Summary};
-use sd_types::LockId;
+use sd_types::{ChanId, LockId};
 use std::alloc::AllocError;
 
-/// Of whom a row speaks.
+/// Of whom a row speaks: a thread, a processor, a lock, or a task, which is a thread with the semaphore on which it waits.
 #[derive(Clone, Copy)]
 pub enum Subject {
     Thread(usize),
     Cpu(u16),
     Lock(LockId),
+    Task(usize, ChanId),
 }
 
 /// What a row measures: what a thread does; the ticks that lie in two of its states (see `thread_rows`); the time from a wakeup
 /// to its running; over which ticks it has an inherited priority, and the greatest of these; what a processor does; how often a
 /// lock is taken and how long it is held, how often a thread had to spin or wait first, and how often its owner is given the priority
-/// of those who wait.
+/// of those who wait; the response times of a task.
 #[derive(Clone, Copy)]
 pub enum Measure {
     Does(Activity),
@@ -31,6 +32,7 @@ pub enum Measure {
     Held,
     Contended,
     HandsOn,
+    Responds,
 }
 
 /// The numbers of a row: how many there are, the sum of their ticks, the longest, and a priority (0 to 159). A row has those that
