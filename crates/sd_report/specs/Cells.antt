@@ -13,7 +13,12 @@ left width text = text ++ blanks (width - length text)
 unfoldable pub right : ℕ → List ℕ → List ℕ
 right width text = blanks (width - length text) ++ text
 
--- a number, and an empty text for none
+-- a number in a table, and a dash for none
+abbrev pub cell : Option ℕ → List ℕ
+cell None = codes "-"
+cell (Some n) = decimal n
+
+-- a number in a record, and an empty text for none
 abbrev pub figure : Option ℕ → List ℕ
 figure None = []
 figure (Some n) = decimal n

@@ -1,6 +1,6 @@
 -- The report as a table.
 -- Source: this project's own.
-use Rattle.std.specs.Prelude.{ℕ, List, [], ◌++◌, codes, decimal, Option, Some, None}
+use Rattle.std.specs.Prelude.{ℕ, ◌==◌, List, [], ◌++◌, length, codes, decimal, Option, Some, None, if◌then◌else◌}
 use Rattle.std.specs.List.{flat_map}
 use Rattle.sd_types.specs.declared.works.Work.{Work}
 use Rattle.sd_stretches.specs.declared.histories.History.{History}
@@ -11,7 +11,7 @@ use Rattle.sd_statistics.specs.Jobs.{task_rows}
 use Rattle.sd_statistics.specs.Locks.{lock_rows}
 use Rattle.sd_statistics.specs.Spans.{ticks_of}
 use Rattle.sd_statistics.specs.Threads.{thread_rows}
-use Rattle.sd_report.specs.Cells.{figure, left, right}
+use Rattle.sd_report.specs.Cells.{cell, left, right}
 use Rattle.sd_report.specs.Words.{holder, measure_word, row_object, subject_name}
 
 unfoldable pub row_words : Work → Row → List ℕ
@@ -31,38 +31,42 @@ longest_last (Some x) = Some x.last
 
 -- how long the longest is, the first entry that was made in it, and the one that ended it
 unfoldable pub longest_cells : Option Span → List ℕ
-longest_cells x = right 9 (figure (longest_ticks x)) ++ right 9 (figure (longest_first x)) ++ right 9 (figure (longest_last x))
+longest_cells x = right 9 (cell (longest_ticks x)) ++ right 12 (cell (longest_first x)) ++ right 10 (cell (longest_last x))
 
 unfoldable pub row_cells : Row → List ℕ
 row_cells x =
-    right 8 (figure x.figures.number) ++ right 9 (figure x.figures.ticks) ++ longest_cells x.figures.longest ++ right 10 (figure x.figures.priority)
+    right 8 (cell x.figures.number) ++ right 9 (cell x.figures.ticks) ++ right 10 (cell x.figures.priority) ++ longest_cells x.figures.longest
+
+-- whose the longest is, where that is said
+abbrev pub by_text : List ℕ → List ℕ
+by_text name = if length name == 0 then [] else codes "  by " ++ name
 
 unfoldable pub table_line : Work → Row → List ℕ
-table_line w x = row_words w x ++ row_cells x ++ right 18 (holder w x) ++ codes "\n"
+table_line w x = row_words w x ++ row_cells x ++ by_text (holder w x) ++ codes "\n"
 
 unfoldable pub head_line : List ℕ
 head_line =
-    left 17 [] ++ left 15 [] ++ left 17 (codes "of") ++ right 8 (codes "number") ++ right 9 (codes "ticks") ++ right 9 (codes "longest")
-    ++ right 9 (codes "from") ++ right 9 (codes "to") ++ right 10 (codes "priority") ++ right 18 (codes "by") ++ codes "\n"
+    left 17 (codes "who") ++ left 15 (codes "what") ++ left 17 (codes "of") ++ right 8 (codes "number") ++ right 9 (codes "ticks") ++ right 10 (codes "priority")
+    ++ right 9 (codes "longest") ++ right 12 (codes "from entry") ++ right 10 (codes "to entry") ++ codes "\n"
 
--- the rows of one kind under their title
+-- the rows of one kind under their title, where there are any
 unfoldable pub section : Work → List ℕ → List Row → List ℕ
-section w title rows = title ++ flat_map (table_line w) rows
+section w title rows = if length rows == 0 then [] else title ++ flat_map (table_line w) rows
 
 unfoldable pub ticks_line : Work → History → List ℕ
 ticks_line w h = (codes "ticks " ++ decimal w.limit) ++ (codes ", entries " ++ decimal h.entries) ++ codes "\n\n"
 
 unfoldable pub thread_section : Work → History → List ℕ
-thread_section w h = section w (codes "threads\n") (thread_rows w h)
+thread_section w h = section w (codes "\nthreads\n") (thread_rows w h)
 
 unfoldable pub task_section : Work → History → List ℕ
-task_section w h = section w (codes "tasks\n") (task_rows w h)
+task_section w h = section w (codes "\ntasks\n") (task_rows w h)
 
 unfoldable pub lock_section : Work → History → List ℕ
-lock_section w h = section w (codes "locks\n") (lock_rows w h)
+lock_section w h = section w (codes "\nlocks\n") (lock_rows w h)
 
 unfoldable pub cpu_section : Work → History → List ℕ
-cpu_section w h = section w (codes "processors\n") (cpu_rows w h)
+cpu_section w h = section w (codes "\nprocessors\n") (cpu_rows w h)
 
 -- the report
 unfoldable pub report_text : Work → History → List ℕ

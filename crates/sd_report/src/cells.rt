@@ -1,7 +1,7 @@
 //! The cells of a table: texts with blanks to a width, and numbers that may be none.
 
 ghost use Rattle.std.specs.Prelude.{◌≡◌, ◌++◌, IfOk, OnOk, decimal};
-ghost use Rattle.sd_report.specs.Cells.{blanks, figure, left, right};
+ghost use Rattle.sd_report.specs.Cells.{blanks, cell, figure, left, right};
 
 use sd_text::put_number;
 use std::alloc::{AllocError, Global};
@@ -33,6 +33,31 @@ pub(crate) fn put_right(width: usize, text: &[u8], out: &mut Vec<u8>) -> Result<
     out.extend_from_slice(text)
 }
 
+// The digits of a number, and a dash for none.
+fn cell(alloc: Global, n: Option<u64>) -> Result<Vec<u8>, AllocError>
+    ensures { IfOk result (λ v. v.items ≡ cell n) }
+{
+    let mut text = Vec::new(alloc);
+    match n {
+        Some(n) => put_number(&mut text, n)?,
+        None => text.extend_from_slice(b"-")?,
+    }
+    Ok(text)
+}
+
+/// A number behind blanks, and a dash for none.
+pub(crate) fn put_cell(
+    alloc: Global,
+    width: usize,
+    n: Option<u64>,
+    out: &mut Vec<u8>,
+) -> Result<(), AllocError>
+    ensures { OnOk result (out.new.items ≡ out.old.items ++ right width (cell n)) }
+{
+    let text = cell(alloc, n)?;
+    put_right(width, &text, out)
+}
+
 /// The digits of a number, and nothing for none.
 pub(crate) fn figure(alloc: Global, n: Option<u64>) -> Result<Vec<u8>, AllocError>
     ensures { IfOk result (λ v. v.items ≡ figure n) }
@@ -42,17 +67,4 @@ pub(crate) fn figure(alloc: Global, n: Option<u64>) -> Result<Vec<u8>, AllocErro
         put_number(&mut text, n)?;
     }
     Ok(text)
-}
-
-/// A number behind blanks, and only blanks for none.
-pub(crate) fn put_figure(
-    alloc: Global,
-    width: usize,
-    n: Option<u64>,
-    out: &mut Vec<u8>,
-) -> Result<(), AllocError>
-    ensures { OnOk result (out.new.items ≡ out.old.items ++ right width (figure n)) }
-{
-    let text = figure(alloc, n)?;
-    put_right(width, &text, out)
 }

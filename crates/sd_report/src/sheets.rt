@@ -18,11 +18,11 @@ use sd_types::Work;
 use std::alloc::{AllocError, Global};
 
 // The text of a record.
-fn record_text(alloc: Global, record: &ByteRecord) -> Result<Vec<u8>, Error>
-    ensures { IfOk result (λ v. v.items ≡ row_text default_writer (fields_of record.now)) }
+fn record_text(alloc: Global, fields: &ByteRecord) -> Result<Vec<u8>, Error>
+    ensures { IfOk result (λ v. v.items ≡ row_text default_writer (fields_of fields.now)) }
 {
     let mut writer = WriterBuilder::new().from_writer(Vec::new(alloc));
-    writer.write_byte_record(record)?;
+    writer.write_byte_record(fields)?;
     match writer.into_inner() {
         Ok(text) => Ok(text),
         Err(e) => Err(e.into_error()),
@@ -30,19 +30,19 @@ fn record_text(alloc: Global, record: &ByteRecord) -> Result<Vec<u8>, Error>
 }
 
 // A record; writing to memory fails only where there is none.
-fn put_record(alloc: Global, record: &ByteRecord, out: &mut Vec<u8>) -> Result<(), AllocError>
-    ensures { OnOk result (out.new.items ≡ out.old.items ++ row_text default_writer (fields_of record.now)) }
+fn put_record(alloc: Global, fields: &ByteRecord, out: &mut Vec<u8>) -> Result<(), AllocError>
+    ensures { OnOk result (out.new.items ≡ out.old.items ++ row_text default_writer (fields_of fields.now)) }
 {
-    match record_text(alloc, record) {
+    match record_text(alloc, fields) {
         Ok(text) => out.extend_from_slice(&text),
         Err(_) => Err(AllocError),
     }
 }
 
-fn push_field(field: &[u8], record: &mut ByteRecord) -> Result<(), AllocError>
-    ensures { OnOk result ((xs : Items (Items ℕ)) → HasFields record.old xs → HasFields record.new (xs ++ field.now ∷ [])) }
+fn push_field(field: &[u8], fields: &mut ByteRecord) -> Result<(), AllocError>
+    ensures { OnOk result ((xs : Items (Items ℕ)) → HasFields fields.old xs → HasFields fields.new (xs ++ field.now ∷ [])) }
 {
-    record.push_field(field)
+    fields.push_field(field)
 }
 
 // Of whom a row speaks, what it measures, and of which lock or semaphore.
@@ -50,31 +50,31 @@ fn push_words(
     alloc: Global,
     work: &Work,
     x: &Row,
-    record: &mut ByteRecord,
+    fields: &mut ByteRecord,
 ) -> Result<(), AllocError>
-    ensures { OnOk result ((xs : Items (Items ℕ)) → HasFields record.old xs → HasFields record.new (xs ++ word_fields work.now x.now)) }
+    ensures { OnOk result ((xs : Items (Items ℕ)) → HasFields fields.old xs → HasFields fields.new (xs ++ word_fields work.now x.now)) }
 {
     let mut name = Vec::new(alloc);
     put_subject_name(work, x.subject, &mut name)?;
-    push_field(subject_word(x.subject), record)?;
-    push_field(&name, record)?;
-    push_field(measure_word(x.measure), record)?;
-    push_field(row_object(work, x), record)
+    push_field(subject_word(x.subject), fields)?;
+    push_field(&name, fields)?;
+    push_field(measure_word(x.measure), fields)?;
+    push_field(row_object(work, x), fields)
 }
 
-fn push_figure(alloc: Global, n: Option<u64>, record: &mut ByteRecord) -> Result<(), AllocError>
-    ensures { OnOk result ((xs : Items (Items ℕ)) → HasFields record.old xs → HasFields record.new (xs ++ figure n ∷ [])) }
+fn push_figure(alloc: Global, n: Option<u64>, fields: &mut ByteRecord) -> Result<(), AllocError>
+    ensures { OnOk result ((xs : Items (Items ℕ)) → HasFields fields.old xs → HasFields fields.new (xs ++ figure n ∷ [])) }
 {
     let text = figure(alloc, n)?;
-    push_field(&text, record)
+    push_field(&text, fields)
 }
 
-fn push_numbers(alloc: Global, x: &Row, record: &mut ByteRecord) -> Result<(), AllocError>
-    ensures { OnOk result ((xs : Items (Items ℕ)) → HasFields record.old xs → HasFields record.new (xs ++ number_fields x.now)) }
+fn push_numbers(alloc: Global, x: &Row, fields: &mut ByteRecord) -> Result<(), AllocError>
+    ensures { OnOk result ((xs : Items (Items ℕ)) → HasFields fields.old xs → HasFields fields.new (xs ++ number_fields x.now)) }
 {
-    push_figure(alloc, x.figures.number, record)?;
-    push_figure(alloc, x.figures.ticks, record)?;
-    push_figure(alloc, x.figures.priority, record)
+    push_figure(alloc, x.figures.number, fields)?;
+    push_figure(alloc, x.figures.ticks, fields)?;
+    push_figure(alloc, x.figures.priority, fields)
 }
 
 // How long the longest is, the first entry that was made in it and the one that ended it, and whose it is.
@@ -82,14 +82,14 @@ fn push_longest(
     alloc: Global,
     work: &Work,
     x: &Row,
-    record: &mut ByteRecord,
+    fields: &mut ByteRecord,
 ) -> Result<(), AllocError>
-    ensures { OnOk result ((xs : Items (Items ℕ)) → HasFields record.old xs → HasFields record.new (xs ++ longest_fields work.now x.now)) }
+    ensures { OnOk result ((xs : Items (Items ℕ)) → HasFields fields.old xs → HasFields fields.new (xs ++ longest_fields work.now x.now)) }
 {
-    push_figure(alloc, longest_ticks(x.figures.longest), record)?;
-    push_figure(alloc, longest_first(x.figures.longest), record)?;
-    push_figure(alloc, longest_last(x.figures.longest), record)?;
-    push_field(holder(work, x), record)
+    push_figure(alloc, longest_ticks(x.figures.longest), fields)?;
+    push_figure(alloc, longest_first(x.figures.longest), fields)?;
+    push_figure(alloc, longest_last(x.figures.longest), fields)?;
+    push_field(holder(work, x), fields)
 }
 
 // The record of a row.
@@ -97,20 +97,15 @@ fn push_longest(
 fn put_row(alloc: Global, work: &Work, x: &Row, out: &mut Vec<u8>) -> Result<(), AllocError>
     ensures { OnOk result (out.new.items ≡ out.old.items ++ sheet_row work.now x.now) }
 {
-    let mut record = ByteRecord::new(alloc);
-    push_words(alloc, work, x, &mut record)?;
-    push_numbers(alloc, x, &mut record)?;
-    push_longest(alloc, work, x, &mut record)?;
-    put_record(alloc, &record, out)
+    let mut fields = ByteRecord::new(alloc);
+    push_words(alloc, work, x, &mut fields)?;
+    push_numbers(alloc, x, &mut fields)?;
+    push_longest(alloc, work, x, &mut fields)?;
+    put_record(alloc, &fields, out)
 }
 
 #[tactic(auto, unfolding(crate::specs::Sheets::rows_text))]
-fn put_rows(
-    alloc: Global,
-    work: &Work,
-    rows: &[Row],
-    out: &mut Vec<u8>,
-) -> Result<(), AllocError>
+fn put_rows(alloc: Global, work: &Work, rows: &[Row], out: &mut Vec<u8>) -> Result<(), AllocError>
     ensures { OnOk result (out.new.items ≡ out.old.items ++ rows_text work.now rows.now) }
 {
     for x in rows {

@@ -2,9 +2,9 @@
 
 ghost use Rattle.std.specs.Prelude.{◌≡◌, ◌++◌, OnOk, codes, decimal};
 ghost use Rattle.std.specs.List.{flat_map};
-ghost use Rattle.sd_report.specs.Tables.{cpu_section, head_line, lock_section, longest_cells, longest_first, longest_last, longest_ticks, report_text, row_cells, row_words, section, table_line, task_section, thread_section, ticks_line};
+ghost use Rattle.sd_report.specs.Tables.{by_text, cpu_section, head_line, lock_section, longest_cells, longest_first, longest_last, longest_ticks, report_text, row_cells, row_words, section, table_line, task_section, thread_section, ticks_line};
 
-use crate::cells::{put_figure, put_left, put_right};
+use crate::cells::{put_cell, put_left, put_right};
 use crate::words::{holder, measure_word, put_subject_name, row_object};
 use sd_labels::put_counted;
 use sd_statistics::{Row, Span, cpu_rows, lock_rows, task_rows, thread_rows, ticks_of};
@@ -14,12 +14,7 @@ use std::alloc::{AllocError, Global};
 
 // Of whom a row speaks, what it measures, and the lock.
 #[tactic(auto, unfolding(crate::specs::Tables::row_words))]
-fn put_words(
-    alloc: Global,
-    work: &Work,
-    x: &Row,
-    out: &mut Vec<u8>,
-) -> Result<(), AllocError>
+fn put_words(alloc: Global, work: &Work, x: &Row, out: &mut Vec<u8>) -> Result<(), AllocError>
     ensures { OnOk result (out.new.items ≡ out.old.items ++ row_words work.now x.now) }
 {
     let mut name = Vec::new(alloc);
@@ -58,26 +53,33 @@ pub(crate) fn longest_last(longest: Option<Span>) -> Option<u64>
 
 // How long the longest is, the first entry that was made in it, and the one that ended it.
 #[tactic(auto, unfolding(crate::specs::Tables::longest_cells))]
-fn put_longest(
-    alloc: Global,
-    longest: Option<Span>,
-    out: &mut Vec<u8>,
-) -> Result<(), AllocError>
+fn put_longest(alloc: Global, longest: Option<Span>, out: &mut Vec<u8>) -> Result<(), AllocError>
     ensures { OnOk result (out.new.items ≡ out.old.items ++ longest_cells longest) }
 {
-    put_figure(alloc, 9, longest_ticks(longest), out)?;
-    put_figure(alloc, 9, longest_first(longest), out)?;
-    put_figure(alloc, 9, longest_last(longest), out)
+    put_cell(alloc, 9, longest_ticks(longest), out)?;
+    put_cell(alloc, 12, longest_first(longest), out)?;
+    put_cell(alloc, 10, longest_last(longest), out)
 }
 
 #[tactic(auto, unfolding(crate::specs::Tables::row_cells))]
 fn put_cells(alloc: Global, x: &Row, out: &mut Vec<u8>) -> Result<(), AllocError>
     ensures { OnOk result (out.new.items ≡ out.old.items ++ row_cells x.now) }
 {
-    put_figure(alloc, 8, x.figures.number, out)?;
-    put_figure(alloc, 9, x.figures.ticks, out)?;
-    put_longest(alloc, x.figures.longest, out)?;
-    put_figure(alloc, 10, x.figures.priority, out)
+    put_cell(alloc, 8, x.figures.number, out)?;
+    put_cell(alloc, 9, x.figures.ticks, out)?;
+    put_cell(alloc, 10, x.figures.priority, out)?;
+    put_longest(alloc, x.figures.longest, out)
+}
+
+// Whose the longest is, where that is said.
+fn put_by(name: &[u8], out: &mut Vec<u8>) -> Result<(), AllocError>
+    ensures { OnOk result (out.new.items ≡ out.old.items ++ by_text name.now) }
+{
+    if name.is_empty() {
+        return Ok(());
+    }
+    out.extend_from_slice(b"  by ")?;
+    out.extend_from_slice(name)
 }
 
 #[tactic(auto, unfolding(crate::specs::Tables::table_line))]
@@ -86,7 +88,7 @@ fn put_line(alloc: Global, work: &Work, x: &Row, out: &mut Vec<u8>) -> Result<()
 {
     put_words(alloc, work, x, out)?;
     put_cells(alloc, x, out)?;
-    put_right(18, holder(work, x), out)?;
+    put_by(holder(work, x), out)?;
     out.extend_from_slice(b"\n")
 }
 
@@ -94,20 +96,28 @@ fn put_line(alloc: Global, work: &Work, x: &Row, out: &mut Vec<u8>) -> Result<()
 fn put_head(out: &mut Vec<u8>) -> Result<(), AllocError>
     ensures { OnOk result (out.new.items ≡ out.old.items ++ head_line) }
 {
-    put_left(17, b"", out)?;
-    put_left(15, b"", out)?;
+    put_left(17, b"who", out)?;
+    put_left(15, b"what", out)?;
     put_left(17, b"of", out)?;
     put_right(8, b"number", out)?;
     put_right(9, b"ticks", out)?;
-    put_right(9, b"longest", out)?;
-    put_right(9, b"from", out)?;
-    put_right(9, b"to", out)?;
     put_right(10, b"priority", out)?;
-    put_right(18, b"by", out)?;
+    put_right(9, b"longest", out)?;
+    put_right(12, b"from entry", out)?;
+    put_right(10, b"to entry", out)?;
     out.extend_from_slice(b"\n")
 }
 
-// The rows of one kind under their title.
+fn put_lines(alloc: Global, work: &Work, rows: &[Row], out: &mut Vec<u8>) -> Result<(), AllocError>
+    ensures { OnOk result (out.new.items ≡ out.old.items ++ flat_map (table_line work.now) rows.now) }
+{
+    for x in rows {
+        put_line(alloc, work, x, out)?;
+    }
+    Ok(())
+}
+
+// The rows of one kind under their title, where there are any.
 #[tactic(auto, unfolding(crate::specs::Tables::section))]
 fn put_section(
     alloc: Global,
@@ -118,11 +128,11 @@ fn put_section(
 ) -> Result<(), AllocError>
     ensures { OnOk result (out.new.items ≡ out.old.items ++ section work.now title.now rows.now) }
 {
-    out.extend_from_slice(title)?;
-    for x in rows {
-        put_line(alloc, work, x, out)?;
+    if rows.is_empty() {
+        return Ok(());
     }
-    Ok(())
+    out.extend_from_slice(title)?;
+    put_lines(alloc, work, rows, out)
 }
 
 #[tactic(auto, unfolding(crate::specs::Tables::ticks_line))]
@@ -144,7 +154,7 @@ fn put_threads(
     ensures { OnOk result (out.new.items ≡ out.old.items ++ thread_section work.now history.now) }
 {
     let rows = thread_rows(alloc, work, history)?;
-    put_section(alloc, work, b"threads\n", &rows, out)
+    put_section(alloc, work, b"\nthreads\n", &rows, out)
 }
 
 #[tactic(auto, unfolding(crate::specs::Tables::task_section))]
@@ -157,7 +167,7 @@ fn put_tasks(
     ensures { OnOk result (out.new.items ≡ out.old.items ++ task_section work.now history.now) }
 {
     let rows = task_rows(alloc, work, history)?;
-    put_section(alloc, work, b"tasks\n", &rows, out)
+    put_section(alloc, work, b"\ntasks\n", &rows, out)
 }
 
 #[tactic(auto, unfolding(crate::specs::Tables::lock_section))]
@@ -170,7 +180,7 @@ fn put_locks(
     ensures { OnOk result (out.new.items ≡ out.old.items ++ lock_section work.now history.now) }
 {
     let rows = lock_rows(alloc, work, history)?;
-    put_section(alloc, work, b"locks\n", &rows, out)
+    put_section(alloc, work, b"\nlocks\n", &rows, out)
 }
 
 #[tactic(auto, unfolding(crate::specs::Tables::cpu_section))]
@@ -183,7 +193,7 @@ fn put_cpus(
     ensures { OnOk result (out.new.items ≡ out.old.items ++ cpu_section work.now history.now) }
 {
     let rows = cpu_rows(alloc, work, history)?;
-    put_section(alloc, work, b"processors\n", &rows, out)
+    put_section(alloc, work, b"\nprocessors\n", &rows, out)
 }
 
 /// Appends the report of a run of the workload, of which this is the history, as a table: a line for each row of the statistics.

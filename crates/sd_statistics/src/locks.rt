@@ -213,11 +213,7 @@ fn push_wait_to(
 }
 
 // From the entry, where it finds the lock taken, up to the one by which the thread takes it, where this is its next of the lock.
-fn push_wait(
-    x: &Happening,
-    rest: &[Happening],
-    out: &mut Vec<Span>,
-) -> Result<(), AllocError>
+fn push_wait(x: &Happening, rest: &[Happening], out: &mut Vec<Span>) -> Result<(), AllocError>
     ensures { OnOk result (out.new.items ≡ out.old.items ++ wait_by x.now rest.now (trying x.now.event)) }
 {
     match trying(&x.event) {
@@ -258,12 +254,7 @@ fn push_spans(
     )
 }
 
-fn push_count(
-    l: u16,
-    measure: Measure,
-    number: usize,
-    out: &mut Vec<Row>,
-) -> Result<(), AllocError>
+fn push_count(l: u16, measure: Measure, number: usize, out: &mut Vec<Row>) -> Result<(), AllocError>
     ensures { OnOk result (out.new.items ≡ out.old.items ++ lock_count l measure number) }
 {
     push_row(
@@ -296,12 +287,7 @@ fn push_held(
 
 // How long threads wait and spin for it, from the pieces of all their stretches.
 #[tactic(auto, unfolding(crate::specs::Locks::wait_rows))]
-fn push_waits(
-    alloc: Global,
-    l: u16,
-    all: &[Stretch],
-    out: &mut Vec<Row>,
-) -> Result<(), AllocError>
+fn push_waits(alloc: Global, l: u16, all: &[Stretch], out: &mut Vec<Row>) -> Result<(), AllocError>
     ensures { OnOk result (out.new.items ≡ out.old.items ++ wait_rows l all.now) }
 {
     let waits = spans_of(alloc, Activity::WaitingFor(LockId(l)), all)?;
@@ -350,11 +336,7 @@ fn push_pieces(
 
 // The pieces of the stretches of all threads.
 #[tactic(auto, unfolding(crate::specs::Locks::all_pieces))]
-fn all_pieces(
-    alloc: Global,
-    work: &Work,
-    history: &History,
-) -> Result<Vec<Stretch>, AllocError>
+fn all_pieces(alloc: Global, work: &Work, history: &History) -> Result<Vec<Stretch>, AllocError>
     ensures { IfOk result (λ v. v.items ≡ all_pieces work.now history.now) }
 {
     let mut all = Vec::new(alloc);

@@ -195,11 +195,7 @@ fn push_thread(
 /// the ticks that lie in two states; the time from its wakeups to its running; and its inherited priority. A row that would have
 /// nothing to count is left out.
 #[tactic(auto, unfolding(crate::specs::Threads::thread_rows))]
-pub fn thread_rows(
-    alloc: Global,
-    work: &Work,
-    history: &History,
-) -> Result<Vec<Row>, AllocError>
+pub fn thread_rows(alloc: Global, work: &Work, history: &History) -> Result<Vec<Row>, AllocError>
     ensures { IfOk result (λ v. v.items ≡ thread_rows work.now history.now) }
 {
     let mut rows = Vec::new(alloc);

@@ -8,8 +8,7 @@ pub returns : goal.returns
 returns c =
     on_ok_weaker c.push_field.result
     (λ last xs has.
-    let all = last _ (c.in_ok-push_figure-3.ensures _ (c.in_ok-push_figure-2.ensures _ (c.in_ok-push_figure.ensures xs has))) in
-    (
+    let all = last _ (c.in_ok-push_figure-3.ensures _ (c.in_ok-push_figure-2.ensures _ (c.in_ok-push_figure.ensures xs has))) in (
       four_more xs _ _ _ _ _ _ _ _ _ all.0 (ap figure c.longest_ticks.ensures) (ap figure c.longest_first.ensures) (ap figure c.longest_last.ensures) c.holder.ensures,
       all.1,
     ))
