@@ -1,6 +1,6 @@
 -- The words of a row.
 -- Source: this project's own.
-use Rattle.std.specs.Prelude.{ℕ, List, [], codes, decimal, Option, Some, None}
+use Rattle.std.specs.Prelude.{ℕ, List, [], codes, decimal, Option, Some}
 use Rattle.sd_types.specs.declared.works.Work.{Work}
 use Rattle.sd_machine.specs.Texts.{chan_name, lock_name, thread_name}
 use Rattle.sd_statistics.specs.declared.activities.Activity.{Activity}

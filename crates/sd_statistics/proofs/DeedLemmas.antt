@@ -1,9 +1,9 @@
 -- What happens is counted over the entries.
-use Rattle.std.proofs.Common.{◌≡◌, ℕ, zero, suc, ◌+◌, ◌<◌, Bool, true, false, List, [], ◌∷◌, ◌++◌, length, drop, Option, Some, None, refl, sym, ap, subst, ◌∙◌, arith, add-one}
+use Rattle.std.proofs.Common.{◌≡◌, ℕ, zero, suc, ◌+◌, ◌<◌, Bool, true, false, List, [], ◌∷◌, ◌++◌, length, drop, Option, Some, None, refl, sym, ap, ◌∙◌, arith, add-one}
 use Rattle.std.specs.Prelude.{◌&&◌, ◌==◌, cond, count_by, sum_by, slice_get}
 use Rattle.std.specs.List.{flat_map, range_with_len}
 use Rattle.std.proofs.lemmas.List.{drop_all}
-use Rattle.std.proofs.lemmas.List.Sums.{sum_by-append, sum_by-cons}
+use Rattle.std.proofs.lemmas.List.Sums.{sum_by-cons}
 use Rattle.sd_types.specs.declared.numbers.CpuId.{CpuId}
 use Rattle.sd_types.specs.declared.events.Entry.{Entry}
 use Rattle.sd_types.specs.declared.events.Event.{Event}
@@ -16,7 +16,7 @@ use Rattle.sd_full.specs.Runs.{state_at}
 use Rattle.sd_stretches.specs.declared.changes.Happening.{Happening}
 use Rattle.sd_stretches.specs.declared.histories.History.{History}
 use Rattle.sd_stretches.specs.Changes.{happening_of, happenings_of}
-use Rattle.sd_stretches.specs.Histories.{entry_before, happenings_in, moment, over, IsHistory}
+use Rattle.sd_stretches.specs.Histories.{entry_before, moment, over, IsHistory}
 use Rattle.sd_statistics.specs.declared.cpus.Deed.{Deed}
 use Rattle.sd_statistics.specs.declared.cpus.Deed.TheVariants.{Runs, Spins, Idles}
 use Rattle.sd_statistics.specs.Cpus.{deeds, is_deed}

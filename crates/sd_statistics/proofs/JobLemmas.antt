@@ -1,5 +1,5 @@
 -- The jobs of a task, one entry after another.
-use Rattle.std.proofs.Common.{◌≡◌, ℕ, List, ◌∷◌, ◌++◌, Option, append_assoc, refl, sym, ap, ◌∙◌}
+use Rattle.std.proofs.Common.{◌≡◌, ℕ, List, ◌∷◌, ◌++◌, Option, append_assoc, sym, ap, ◌∙◌}
 use Rattle.sd_stretches.specs.declared.changes.Happening.{Happening}
 use Rattle.sd_statistics.specs.declared.jobs.Release.{Release}
 use Rattle.sd_statistics.specs.declared.spans.Span.{Span}

@@ -1,5 +1,5 @@
 -- The ticks of what a thread does are those of the run, with those that lie in two states.
-use Rattle.std.proofs.Common.{◌≡◌, ℕ, ◌+◌, ◌-◌, ◌<◌, Bool, true, false, List, [], ◌∷◌, ◌++◌, length, take, drop, Option, Some, None, refl, sym, ap, subst, ◌∙◌, arith}
+use Rattle.std.proofs.Common.{◌≡◌, ℕ, ◌+◌, ◌-◌, ◌<◌, Bool, true, false, List, [], ◌∷◌, ◌++◌, length, take, drop, Some, refl, sym, ap, subst, ◌∙◌, arith}
 use Rattle.std.specs.Prelude.{sum_by, if◌then◌else◌}
 use Rattle.std.proofs.lemmas.List.{append-nil}
 use Rattle.std.proofs.lemmas.List.Sums.{sum_by-append, sum_by-cons}
@@ -12,14 +12,13 @@ use Rattle.sd_stretches.specs.declared.sights.Doing.{Doing}
 use Rattle.sd_stretches.specs.declared.sights.Doing.TheVariants as doing
 use Rattle.sd_stretches.specs.declared.spins.Spell.{Spell}
 use Rattle.sd_stretches.specs.declared.spins.Track.TheVariants as track
-use Rattle.sd_stretches.specs.Histories.{IsHistory, over, turns_in}
-use Rattle.sd_stretches.specs.Rows.{next_of, own_turns, stretch_from, stretch_to, stretches, stretches_of}
+use Rattle.sd_stretches.specs.Histories.{IsHistory}
+use Rattle.sd_stretches.specs.Rows.{own_turns, stretch_to, stretches, stretches_of}
 use Rattle.sd_stretches.specs.Spins.{cut_all, pieces, pieces_of, spells_on, spells_within, Fills}
 use Rattle.sd_stretches.proofs.ExactLemmas.{begins_at_0}
 use Rattle.sd_stretches.proofs.SpinLemmas.{pieces_fill}
 use Rattle.sd_statistics.specs.declared.activities.Activity.{Activity}
 use Rattle.sd_statistics.specs.declared.activities.Activity.TheVariants.{Running, Spinning, Runnable, Waiting, Asleep, Napping, Ended}
-use Rattle.sd_statistics.specs.declared.spans.Span.{Span}
 use Rattle.sd_statistics.specs.Activities.{is_of, span_if, span_of, spans_of}
 use Rattle.sd_statistics.specs.Spans.{ticks_of}
 use Rattle.sd_statistics.specs.Threads.{ticks_behind}

@@ -1,6 +1,6 @@
 -- The rows of locks: who holds each and how long, who waits and spins for it, and how often it hands priority on.
 -- Source: Solaris Internals (mutexes, readers-writer locks, turnstiles), lockstat(1M); the rows are this project's own.
-use Rattle.std.specs.Prelude.{ℕ, Bool, true, false, ◌||◌, ◌==◌, List, [], ◌∷◌, ◌++◌, length, filter, count_by, Option, Some, None, if◌then◌else◌}
+use Rattle.std.specs.Prelude.{ℕ, Bool, false, ◌||◌, ◌==◌, List, [], ◌∷◌, ◌++◌, length, filter, count_by, Option, Some, None, if◌then◌else◌}
 use Rattle.std.specs.List.{flat_map, range_with_len}
 use Rattle.sd_types.specs.declared.numbers.LockId.{LockId}
 use Rattle.sd_types.specs.declared.numbers.ThreadId.{ThreadId}
@@ -14,7 +14,6 @@ use Rattle.sd_stretches.specs.declared.rows.Stretch.{Stretch}
 use Rattle.sd_stretches.specs.declared.spins.Track.TheVariants as track
 use Rattle.sd_stretches.specs.Rows.{next_of}
 use Rattle.sd_stretches.specs.Spins.{pieces}
-use Rattle.sd_statistics.specs.declared.activities.Activity.{Activity}
 use Rattle.sd_statistics.specs.declared.activities.Activity.TheVariants.{Spinning, SpinningFor, Waiting, WaitingFor}
 use Rattle.sd_statistics.specs.declared.rows.Measure.{Measure}
 use Rattle.sd_statistics.specs.declared.rows.Measure.TheVariants.{Contended, Does, HandsOn, Held}

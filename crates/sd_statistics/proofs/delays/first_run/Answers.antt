@@ -1,4 +1,4 @@
-use Rattle.std.proofs.Common.{arith, sym, ◌∙◌}
+use Rattle.std.proofs.Common.{sym, ◌∙◌}
 use Rattle.sd_stretches.proofs.RowLemmas.{first_passes}
 use Rattle.sd_statistics.specs.Delays.{runs_after}
 use Rattle.sd_statistics.proofs.delays.first_run.Goals as goal
