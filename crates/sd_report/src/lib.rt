@@ -4,9 +4,11 @@
 #![tactic(auto)]
 
 mod cells;
+mod laws;
 mod sheets;
 mod tables;
 mod words;
 
+pub use laws::reports_are_plain;
 pub use sheets::write_sheet;
 pub use tables::write_report;

@@ -42,8 +42,8 @@ fn longer(x: Option<Span>, y: Option<Span>) -> Option<Span>
 {
     match (x, y) {
         (None, _) => y,
-        (Some(_), None) => x,
-        (Some(a), Some(b)) => { if ticks_of(a) < ticks_of(b) { y } else { x } }
+        (Some(a), Some(b)) if ticks_of(a) < ticks_of(b) => y,
+        _ => x,
     }
 }
 
