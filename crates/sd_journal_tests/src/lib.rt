@@ -1,5 +1,5 @@
-//! Tests of journals: the audit and the drawings of one, and the accounts, the blocking cycles and the history of a run over
-//! threads that stand in given places. All expected values were written by hand.
+//! Tests of journals: the audit and the drawings of one, and the accounts, the blocking cycles, the history and the report of a run
+//! over threads that stand in given places. All expected values were written by hand.
 #![tactic(auto)]
 
 #[cfg(test)]
@@ -12,6 +12,8 @@ mod blocking;
 mod drawings;
 #[cfg(test)]
 mod given;
+#[cfg(test)]
+mod reports;
 #[cfg(test)]
 mod sentences;
 #[cfg(test)]

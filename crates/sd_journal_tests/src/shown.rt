@@ -8,7 +8,7 @@ use std::alloc::{AllocError, Global};
 use std::test::Fail;
 
 /// A state of one processor and one thread.
-fn at_tick(alloc: Global, place: Place, count: u32) -> Result<State, AllocError> {
+pub(crate) fn at_tick(alloc: Global, place: Place, count: u32) -> Result<State, AllocError> {
     let mut threads = Vec::new(alloc);
     threads.push(in_place(place))?;
     let mut cpus = Vec::new(alloc);
@@ -24,7 +24,7 @@ fn at_tick(alloc: Global, place: Place, count: u32) -> Result<State, AllocError>
     Ok(state(alloc, threads, Vec::new(alloc), cpus))
 }
 
-fn entry(number: u64, event: Event) -> Entry {
+pub(crate) fn entry(number: u64, event: Event) -> Entry {
     Entry {
         number,
         cpu: CpuId(0),

@@ -255,3 +255,17 @@ unfolding stretches sight_at
 are_exact w es t end here =
     let P : List Turn → Type 0 = λ xs. AreExact (doing_at w es t) (length es) 0 (stretches_of (length es) end xs) in
     subst P (sym (own_over w es t here)) (exact_from (sight_at w es t here) t (tick_at w es t here) (length es) end)
+
+-- the first turn of a thread is that of the initial state, at tick 0
+pub begins_at_0 : (w : Work) (es : List Entry) (t : ℕ) → t < length w.threads
+    → (x : Turn) × (xs : List Turn) × (own_turns t (over turns_in w es) ≡ x ∷ xs) × (x.tick ≡ 0)
+unfolding turn_at before tick_at
+begins_at_0 w es t here =
+    let g : ℕ → Sight = sight_at w es t here in
+    let ticks : ℕ → ℕ = tick_at w es t here in
+    (
+      turn_from t 0 (ticks 0) (g 0),
+      flat_map (turn_at g t ticks) (range_with_len 1 (length es)),
+      own_over w es t here ∙ ap (λ n. flat_map (turn_at g t ticks) (range_with_len 0 n)) (add-one (length es)),
+      refl,
+    )

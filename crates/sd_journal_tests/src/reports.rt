@@ -1,0 +1,98 @@
+//! The report of a run of eight entries, worked out by hand: thread `a` is dispatched at tick 0, takes the mutex, ticks, gives it up
+//! at tick 1, takes the unit with which the semaphore begins, ticks, and sleeps for the next at tick 2; then the processor is idle.
+
+use crate::given::{in_place, state};
+use crate::shown::{at_tick, entry};
+use sd_machine::{Place, State};
+use sd_report::{write_report, write_sheet};
+use sd_stretches::History;
+use sd_types::{ChanId, CpuId, Event, LockId, ThreadId};
+use sd_workload::read_work;
+use std::alloc::{AllocError, Global};
+use std::test::Fail;
+
+const WORKLOAD: &[u8] = b"limit 5\nmutex m\nsema s 1\nthread a sys 60\n";
+
+const TABLE: &[u8] = b"ticks 5, entries 8
+
+who              what           of                 number    ticks  priority  longest  from entry  to entry
+
+threads
+a                running                                1        2         -        2           1         6
+a                runnable                               1        0         -        0           0         0
+a                asleep                                 1        3         -        3           7         8
+
+tasks
+a                response       s                       1        2         -        2           0         6
+
+locks
+m                held                                   1        1         -        1           2         3  by a
+
+processors
+0                running                                -        2         -        -           -         -
+0                idle                                   -        1         -        -           -         -
+0                dispatches                             1        -         -        -           -         -
+";
+
+const SHEET: &[u8] = b"kind,name,measure,of,number,ticks,priority,longest,from entry,to entry,by
+thread,a,running,,1,2,,2,1,6,
+thread,a,runnable,,1,0,,0,0,0,
+thread,a,asleep,,1,3,,3,7,8,
+task,a,response,s,1,2,,2,0,6,
+lock,m,held,,1,1,,1,2,3,a
+processor,0,running,,,2,,,,,
+processor,0,idle,,,1,,,,,
+processor,0,dispatches,,1,,,,,,
+";
+
+const A: ThreadId = ThreadId(0);
+
+const M: LockId = LockId(0);
+
+const S: ChanId = ChanId(0);
+
+/// Each event, with the count of ticks and the place of the thread after it.
+fn made(i: u8) -> (Event, u32, Place) {
+    let running = Place::Running(CpuId(0));
+    match i {
+        0 => (Event::Dispatch { t: A, p: 60 }, 0, running),
+        1 => (Event::Enter { t: A, l: M }, 0, running),
+        2 => (Event::Tick { t: A }, 1, running),
+        3 => (Event::Exit { t: A, l: M }, 1, running),
+        4 => (Event::SemaP { t: A, k: S }, 1, running),
+        5 => (Event::Tick { t: A }, 2, running),
+        6 => (Event::SemaWait { t: A, k: S }, 2, Place::Asleep(S, 0)),
+        _ => (Event::Idle, 3, Place::Asleep(S, 0)),
+    }
+}
+
+fn history(alloc: Global) -> Result<History, AllocError> {
+    let mut history = History::new(alloc, &at_tick(alloc, Place::Queued(CpuId(0), 0), 0)?)?;
+    for i in 0..8 {
+        let (event, count, place) = made(i);
+        if history.entries < 99 {
+            history.add(
+                alloc,
+                &at_tick(alloc, place, count)?,
+                &entry(u64::from(i), event),
+            )?;
+        }
+    }
+    Ok(history)
+}
+
+#[test]
+fn a_report_of_eight_entries(rt: HostRuntime) -> Result<(), Fail> {
+    let alloc = rt.alloc();
+    let Ok(work) = read_work(alloc, WORKLOAD) else {
+        return Ok(assert!(rt; false, "no work"));
+    };
+    let history = history(alloc)?;
+    let mut table = Vec::new(alloc);
+    write_report(alloc, &work, &history, &mut table)?;
+    assert!(rt; table.as_slice() == TABLE);
+    let mut sheet = Vec::new(alloc);
+    write_sheet(alloc, &work, &history, &mut sheet)?;
+    assert!(rt; sheet.as_slice() == SHEET);
+    Ok(())
+}

@@ -1,0 +1,180 @@
+-- Which bytes reports are made of.
+use Rattle.std.proofs.Common.{◌≡◌, ℕ, zero, suc, ◌-◌, List, [], ◌++◌, length, Option, Some, None, refl}
+use Rattle.std.specs.Prelude.{◌==◌, codes}
+use Rattle.std.specs.List.{flat_map}
+use Rattle.std.proofs.lemmas.List.Folds.{list_all-append}
+use Rattle.sd_types.specs.declared.works.Work.{Work}
+use Rattle.sd_stretches.specs.declared.histories.History.{History}
+use Rattle.sd_labels.specs.Plain.{is_text_byte, IsText}
+use Rattle.sd_labels.proofs.TextLemmas.{chan-text, decimal-text, either-text, flat-text, lock-text, thread-text}
+use Rattle.sd_statistics.specs.declared.activities.Activity.{Activity}
+use Rattle.sd_statistics.specs.declared.activities.Activity.TheVariants as activity
+use Rattle.sd_statistics.specs.declared.cpus.Deed.{Deed}
+use Rattle.sd_statistics.specs.declared.cpus.Deed.TheVariants as deed
+use Rattle.sd_statistics.specs.declared.rows.Measure.{Measure}
+use Rattle.sd_statistics.specs.declared.rows.Measure.TheVariants as measure
+use Rattle.sd_statistics.specs.declared.rows.Row.{Row}
+use Rattle.sd_statistics.specs.declared.rows.Subject.{Subject}
+use Rattle.sd_statistics.specs.declared.rows.Subject.TheVariants as subject
+use Rattle.sd_statistics.specs.declared.spans.Span.{Span}
+use Rattle.sd_statistics.specs.Cpus.{cpu_rows}
+use Rattle.sd_statistics.specs.Jobs.{task_rows}
+use Rattle.sd_statistics.specs.Locks.{lock_rows}
+use Rattle.sd_statistics.specs.Threads.{thread_rows}
+use Rattle.sd_report.specs.Cells.{blanks, cell, left, right}
+use Rattle.sd_report.specs.Words.{activity_object, activity_word, deed_word, holder_by, measure_object, measure_word, object_by, row_object, subject_name}
+use Rattle.sd_report.specs.Tables.{by_text, cpu_section, head_line, lock_section, longest_cells, report_text, row_cells, row_words, section, table_line, task_section, thread_section, ticks_line}
+
+-- ---- cells
+
+blanks-text : (n : ℕ) → IsText (blanks n)
+blanks-text zero = refl
+blanks-text (suc n) = blanks-text n
+
+left-text : (width : ℕ) (text : List ℕ) → IsText text → IsText (left width text)
+unfolding left
+left-text width text h = simp (list_all-append is_text_byte, h, blanks-text (width - length text))
+
+right-text : (width : ℕ) (text : List ℕ) → IsText text → IsText (right width text)
+unfolding right
+right-text width text h = simp (list_all-append is_text_byte, h, blanks-text (width - length text))
+
+cell-text : (n : Option ℕ) → IsText (cell n)
+cell-text None = refl
+cell-text (Some n) = decimal-text n
+
+number-text : (width : ℕ) (n : Option ℕ) → IsText (right width (cell n))
+number-text width n = right-text width (cell n) (cell-text n)
+
+-- ---- words
+
+name-text : (w : Work) (s : Subject) → IsText (subject_name w s)
+name-text w (subject.Thread t) = thread-text w t
+name-text w (subject.Cpu c) = decimal-text c
+name-text w (subject.Lock l) = lock-text w l.0
+name-text w (subject.Task t k) = thread-text w t
+
+activity-text : (a : Activity) → IsText (activity_word a)
+activity-text activity.Running = refl
+activity-text activity.Spinning = refl
+activity-text activity.Runnable = refl
+activity-text activity.Waiting = refl
+activity-text activity.Asleep = refl
+activity-text activity.Napping = refl
+activity-text activity.Ended = refl
+activity-text (activity.SpinningFor l) = refl
+activity-text (activity.WaitingFor l) = refl
+
+deed-text : (d : Deed) → IsText (deed_word d)
+deed-text deed.Runs = refl
+deed-text deed.Spins = refl
+deed-text deed.Idles = refl
+deed-text deed.Dispatches = refl
+deed-text deed.Steals = refl
+deed-text deed.Preempts = refl
+
+measure-text : (m : Measure) → IsText (measure_word m)
+measure-text (measure.Does a) = activity-text a
+measure-text measure.Twice = refl
+measure-text measure.WakeupToRun = refl
+measure-text measure.Inherits = refl
+measure-text (measure.Makes d) = deed-text d
+measure-text measure.Held = refl
+measure-text measure.Contended = refl
+measure-text measure.HandsOn = refl
+measure-text measure.Responds = refl
+
+activity-object-text : (w : Work) (a : Activity) → IsText (activity_object w a)
+activity-object-text w activity.Running = refl
+activity-object-text w activity.Spinning = refl
+activity-object-text w activity.Runnable = refl
+activity-object-text w activity.Waiting = refl
+activity-object-text w activity.Asleep = refl
+activity-object-text w activity.Napping = refl
+activity-object-text w activity.Ended = refl
+activity-object-text w (activity.SpinningFor l) = lock-text w l.0
+activity-object-text w (activity.WaitingFor l) = lock-text w l.0
+
+measure-object-text : (w : Work) (m : Measure) → IsText (measure_object w m)
+measure-object-text w (measure.Does a) = activity-object-text w a
+measure-object-text w measure.Twice = refl
+measure-object-text w measure.WakeupToRun = refl
+measure-object-text w measure.Inherits = refl
+measure-object-text w (measure.Makes d) = refl
+measure-object-text w measure.Held = refl
+measure-object-text w measure.Contended = refl
+measure-object-text w measure.HandsOn = refl
+measure-object-text w measure.Responds = refl
+
+object-text : (w : Work) (s : Subject) (m : Measure) → IsText (object_by w s m)
+object-text w (subject.Thread t) m = measure-object-text w m
+object-text w (subject.Cpu c) m = measure-object-text w m
+object-text w (subject.Lock l) m = measure-object-text w m
+object-text w (subject.Task t k) m = chan-text w k.0
+
+holder-text : (w : Work) (s : Subject) (x : Option Span) → IsText (holder_by w s x)
+holder-text w (subject.Thread t) x = refl
+holder-text w (subject.Cpu c) x = refl
+holder-text w (subject.Lock l) None = refl
+holder-text w (subject.Lock l) (Some x) = thread-text w x.thread
+holder-text w (subject.Task t k) x = refl
+
+-- ---- lines
+
+words-text : (w : Work) (x : Row) → IsText (row_words w x)
+unfolding row_words
+words-text w x =
+    simp (
+      list_all-append is_text_byte,
+      left-text 17 (subject_name w x.subject) (name-text w x.subject),
+      left-text 15 (measure_word x.measure) (measure-text x.measure),
+      left-text 17 (row_object w x) (object-text w x.subject x.measure),
+    )
+
+longest-text : (x : Option Span) → IsText (longest_cells x)
+unfolding longest_cells
+longest-text x = simp (list_all-append is_text_byte, number-text)
+
+cells-text : (x : Row) → IsText (row_cells x)
+unfolding row_cells
+cells-text x = simp (list_all-append is_text_byte, number-text, longest-text)
+
+by-text : (name : List ℕ) → IsText name → IsText (by_text name)
+by-text name h = either-text (length name == 0) [] (codes "  by " ++ name) refl h
+
+line-text : (w : Work) (x : Row) → IsText (table_line w x)
+unfolding table_line
+line-text w x =
+    simp (
+      list_all-append is_text_byte,
+      words-text w x,
+      cells-text x,
+      by-text (holder_by w x.subject x.figures.longest) (holder-text w x.subject x.figures.longest),
+    )
+
+lines-text : (w : Work) (rows : List Row) (title : List ℕ) → IsText title → IsText (section w title rows)
+unfolding section
+lines-text w rows title h =
+    either-text (length rows == 0) [] (title ++ flat_map (table_line w) rows) refl
+    (simp (list_all-append is_text_byte, h, flat-text (table_line w) (line-text w) rows))
+
+ticks-text : (w : Work) (h : History) → IsText (ticks_line w h)
+unfolding ticks_line
+ticks-text w h = simp (list_all-append is_text_byte, decimal-text)
+
+head-text : IsText head_line
+unfolding head_line left right
+head-text = refl
+
+pub report-text : (w : Work) (h : History) → IsText (report_text w h)
+unfolding report_text thread_section task_section lock_section cpu_section
+report-text w h =
+    simp (
+      list_all-append is_text_byte,
+      ticks-text w h,
+      head-text,
+      lines-text w (thread_rows w h) (codes "\nthreads\n") refl,
+      lines-text w (task_rows w h) (codes "\ntasks\n") refl,
+      lines-text w (lock_rows w h) (codes "\nlocks\n") refl,
+      lines-text w (cpu_rows w h) (codes "\nprocessors\n") refl,
+    )

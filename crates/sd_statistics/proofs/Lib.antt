@@ -1,0 +1,4 @@
+pub mod SpanLemmas
+pub mod TickLemmas
+pub mod DeedLemmas
+pub mod JobLemmas

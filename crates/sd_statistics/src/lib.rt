@@ -1,0 +1,24 @@
+//! The statistics of a run, from its history: how long each thread runs, spins, is runnable, waits, sleeps and naps, and how soon it
+//! runs after a wakeup; what the processors do; who holds the locks and waits for them; how soon tasks respond. Each number is a sum
+//! or a count over the lists of the run, whose definitions stand in `specs/`.
+#![tactic(auto)]
+
+mod activities;
+mod cpus;
+mod delays;
+mod inherited;
+mod jobs;
+mod laws;
+mod locks;
+mod rows;
+mod spans;
+mod threads;
+
+pub use activities::Activity;
+pub use cpus::{Deed, cpu_rows};
+pub use jobs::task_rows;
+pub use laws::{deeds_are_counts, the_longest_is_longest, ticks_add_up};
+pub use locks::lock_rows;
+pub use rows::{Figures, Measure, Row, Subject};
+pub use spans::{Span, Summary, ticks_of};
+pub use threads::thread_rows;
