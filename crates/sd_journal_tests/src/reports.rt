@@ -4,7 +4,7 @@
 use crate::given::{in_place, state};
 use crate::shown::{at_tick, entry};
 use sd_machine::{Place, State};
-use sd_report::{write_report, write_sheet};
+use sd_report::{report, sheet};
 use sd_stretches::History;
 use sd_types::{ChanId, CpuId, Event, LockId, ThreadId};
 use sd_workload::read_work;
@@ -88,11 +88,9 @@ fn a_report_of_eight_entries(rt: HostRuntime) -> Result<(), Fail> {
         return Ok(assert!(rt; false, "no work"));
     };
     let history = history(alloc)?;
-    let mut table = Vec::new(alloc);
-    write_report(alloc, &work, &history, &mut table)?;
+    let table = report(alloc, &work, &history)?;
     assert!(rt; table.as_slice() == TABLE);
-    let mut sheet = Vec::new(alloc);
-    write_sheet(alloc, &work, &history, &mut sheet)?;
-    assert!(rt; sheet.as_slice() == SHEET);
+    let rows = sheet(alloc, &work, &history)?;
+    assert!(rt; rows.as_slice() == SHEET);
     Ok(())
 }

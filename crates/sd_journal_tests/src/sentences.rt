@@ -13,7 +13,8 @@ use std::alloc::{AllocError, Global};
 use std::test::Fail;
 
 /// Threads a, b and c, mutexes m, n and p, a rwlock w, a channel k, a semaphore q and a set s. The script of b naps for 5 ticks.
-const NAMED: &[u8] = b"cpus 2\nlimit 9\nset s 1\nmutex m\nmutex n\nmutex p\nrwlock w\nchan k\nsema q 3\nthread a sys 60\nthread b sys 60\nthread c ts 20 0 0\nscript b\nnap 5\nend\n";
+const NAMED: &[u8] =
+    b"cpus 2\nlimit 9\nset s 1\nmutex m\nmutex n\nmutex p\nrwlock w\nchan k\nsema q 3\nthread a sys 60\nthread b sys 60\nthread c ts 20 0 0\nscript b\nnap 5\nend\n";
 
 const A: ThreadId = ThreadId(0);
 
@@ -280,19 +281,11 @@ fn late(i: u8) -> (Event, &'static str) {
             "c gives up n, for which nobody waits",
         ),
         13 => (
-            Event::Unblock {
-                l: M,
-                s: B,
-                at: TO,
-            },
+            Event::Unblock { l: M, s: B, at: TO },
             "processor 0 wakes the best that waits for m: b is runnable on the queue of processor 1",
         ),
         14 => (
-            Event::Grant {
-                l: W,
-                s: B,
-                at: TO,
-            },
+            Event::Grant { l: W, s: B, at: TO },
             "processor 0 hands w over: b is runnable on the queue of processor 1",
         ),
         15 => (

@@ -10,5 +10,5 @@ mod tables;
 mod words;
 
 pub use laws::reports_are_plain;
-pub use sheets::write_sheet;
-pub use tables::write_report;
+pub use sheets::sheet;
+pub use tables::report;

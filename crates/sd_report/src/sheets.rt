@@ -175,20 +175,17 @@ fn put_cpus(
     put_rows(alloc, work, &rows, out)
 }
 
-/// Appends the report of a run of the workload, of which this is the history, as comma-separated rows: the names of the fields,
+/// The report of a run of the workload, of which this is the history, as comma-separated rows: the names of the fields,
 /// and a record for each row of the statistics. A field that has nothing to say is empty.
 #[tactic(auto, unfolding(crate::specs::Sheets::sheet_text))]
-pub fn write_sheet(
-    alloc: Global,
-    work: &Work,
-    history: &History,
-    out: &mut Vec<u8>,
-) -> Result<(), AllocError>
-    ensures { OnOk result (out.new.items ≡ out.old.items ++ sheet_text work.now history.now) }
+pub fn sheet(alloc: Global, work: &Work, history: &History) -> Result<Vec<u8>, AllocError>
+    ensures { IfOk result (λ text. text.items ≡ sheet_text work.now history.now) }
 {
-    put_head(out)?;
-    put_threads(alloc, work, history, out)?;
-    put_tasks(alloc, work, history, out)?;
-    put_locks(alloc, work, history, out)?;
-    put_cpus(alloc, work, history, out)
+    let mut text = Vec::new(alloc);
+    put_head(&mut text)?;
+    put_threads(alloc, work, history, &mut text)?;
+    put_tasks(alloc, work, history, &mut text)?;
+    put_locks(alloc, work, history, &mut text)?;
+    put_cpus(alloc, work, history, &mut text)?;
+    Ok(text)
 }

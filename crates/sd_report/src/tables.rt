@@ -1,6 +1,6 @@
 //! The report as a table.
 
-ghost use Rattle.std.specs.Prelude.{◌≡◌, ◌++◌, OnOk, codes, decimal};
+ghost use Rattle.std.specs.Prelude.{◌≡◌, ◌++◌, IfOk, OnOk, codes, decimal};
 ghost use Rattle.std.specs.List.{flat_map};
 ghost use Rattle.sd_report.specs.Tables.{by_text, cpu_section, head_line, lock_section, longest_cells, longest_first, longest_last, longest_ticks, report_text, row_cells, row_words, section, table_line, task_section, thread_section, ticks_line};
 
@@ -196,20 +196,17 @@ fn put_cpus(
     put_section(alloc, work, b"\nprocessors\n", &rows, out)
 }
 
-/// Appends the report of a run of the workload, of which this is the history, as a table: a line for each row of the statistics.
+/// The report of a run of the workload, of which this is the history, as a table: a line for each row of the statistics.
 #[tactic(auto, unfolding(crate::specs::Tables::report_text))]
-pub fn write_report(
-    alloc: Global,
-    work: &Work,
-    history: &History,
-    out: &mut Vec<u8>,
-) -> Result<(), AllocError>
-    ensures { OnOk result (out.new.items ≡ out.old.items ++ report_text work.now history.now) }
+pub fn report(alloc: Global, work: &Work, history: &History) -> Result<Vec<u8>, AllocError>
+    ensures { IfOk result (λ text. text.items ≡ report_text work.now history.now) }
 {
-    put_ticks_line(work, history, out)?;
-    put_head(out)?;
-    put_threads(alloc, work, history, out)?;
-    put_tasks(alloc, work, history, out)?;
-    put_locks(alloc, work, history, out)?;
-    put_cpus(alloc, work, history, out)
+    let mut text = Vec::new(alloc);
+    put_ticks_line(work, history, &mut text)?;
+    put_head(&mut text)?;
+    put_threads(alloc, work, history, &mut text)?;
+    put_tasks(alloc, work, history, &mut text)?;
+    put_locks(alloc, work, history, &mut text)?;
+    put_cpus(alloc, work, history, &mut text)?;
+    Ok(text)
 }

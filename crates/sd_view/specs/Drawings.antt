@@ -11,12 +11,14 @@ use Rattle.sd_gather.specs.Journals.{IsJournalOf}
 use Rattle.sd_timeline.specs.declared.frames.Frame.{Frame}
 use Rattle.sd_timeline.specs.Picture.{timeline_text}
 use Rattle.sd_trace.specs.Tracks.{trace_text}
+use Rattle.sd_report.specs.Sheets.{sheet_text}
+use Rattle.sd_report.specs.Tables.{report_text}
 use Rattle.sd_story.specs.declared.selections.Selection.{Selection}
 use Rattle.sd_story.specs.declared.selections.Selection.TheVariants.{Ticks, Thread}
 use Rattle.sd_story.specs.Selections.{has_thread}
 use Rattle.sd_story.specs.Story.{story}
 use Rattle.sd_view.specs.declared.drawings.Drawing.{Drawing}
-use Rattle.sd_view.specs.declared.drawings.Drawing.TheVariants.{Timeline, Trace, Story}
+use Rattle.sd_view.specs.declared.drawings.Drawing.TheVariants.{Timeline, Trace, Story, Report, Sheet}
 
 -- the ticks from a to b, as far as the run goes, and of these the first 2,000; and the first 100 threads
 abbrev pub first_tick : Work → ℕ → ℕ
@@ -71,12 +73,16 @@ abbrev pub left_line : Drawing → Work → List ℕ
 left_line (Timeline from to) w = timeline_line w from to
 left_line Trace w = []
 left_line (Story selection) w = story_line w selection
+left_line Report w = []
+left_line Sheet w = []
 
 -- the text is the drawing of the run of these entries
 abbrev pub IsDrawingOf : Drawing → Work → List Entry → List ℕ → Type 0
 IsDrawingOf (Timeline from to) w es text = (h : History) × IsHistory w es h × (text ≡ timeline_text w (frame_of w from to) h (final w (opening w) es))
 IsDrawingOf Trace w es text = (h : History) × IsHistory w es h × (text ≡ trace_text w h)
 IsDrawingOf (Story selection) w es text = text ≡ story w selection es
+IsDrawingOf Report w es text = (h : History) × IsHistory w es h × (text ≡ report_text w h)
+IsDrawingOf Sheet w es text = (h : History) × IsHistory w es h × (text ≡ sheet_text w h)
 
 -- the text is the drawing of the complete legal run whose journal was read
 pub record IsDrawn (drawing : Drawing) (w : Work) (journal drawn : List ℕ) : Type 0 where

@@ -5,7 +5,7 @@ use Rattle.sd_types.specs.Works.{same_bytes}
 use Rattle.sd_text.specs.Numbers.{number_of}
 use Rattle.sd_story.specs.declared.selections.Selection.TheVariants.{Ticks, Thread}
 use Rattle.sd_view.specs.declared.drawings.Drawing.{Drawing}
-use Rattle.sd_view.specs.declared.drawings.Drawing.TheVariants.{Timeline, Trace, Story}
+use Rattle.sd_view.specs.declared.drawings.Drawing.TheVariants.{Timeline, Trace, Story, Report, Sheet}
 use Rattle.sd_view.specs.declared.forms.Request.{Request}
 use Rattle.sd_view.specs.declared.forms.Request.TheVariants.{Help, Draw}
 
@@ -13,7 +13,8 @@ use Rattle.sd_view.specs.declared.forms.Request.TheVariants.{Help, Draw}
 abbrev pub verb_drawing : List ℕ → Option Drawing
 verb_drawing verb =
     if same_bytes verb (codes "timeline") then Some (Timeline 0 100000) else if same_bytes verb (codes "trace") then Some Trace
-    else if same_bytes verb (codes "list") then Some (Story (Ticks 0 100000)) else None
+    else if same_bytes verb (codes "list") then Some (Story (Ticks 0 100000))
+    else if same_bytes verb (codes "report") then Some Report else None
 
 -- from one number to a greater one, which no run goes beyond
 abbrev pub ticks_between : ℕ → Option ℕ → Option (ℕ × ℕ)
@@ -33,7 +34,8 @@ part_by verb (Some ticks) =
 -- a name has 16 bytes at most
 abbrev pub named_by : List ℕ → List ℕ → Option Drawing
 named_by verb name =
-    if same_bytes verb (codes "list") && nat_le (length name) 16 then Some (Story (Thread (record { items = name }))) else None
+    if same_bytes verb (codes "list") && nat_le (length name) 16 then Some (Story (Thread (record { items = name })))
+    else if same_bytes verb (codes "report") && same_bytes name (codes "--csv") then Some Sheet else None
 
 -- the drawing that the arguments ask for, None where they are of none of the forms
 unfoldable pub drawing_of : List (List ℕ) → Option Drawing

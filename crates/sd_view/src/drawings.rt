@@ -7,25 +7,29 @@ ghost use Rattle.sd_machine.specs.Opening.{opening};
 ghost use Rattle.sd_full.specs.Runs.{final};
 ghost use Rattle.sd_audit.specs.Audits.{IsFault, IsJournal, IsMemory};
 ghost use Rattle.sd_gather.specs.Journals.{HasJournal, IsJournalOf};
-ghost use Rattle.sd_view.specs.declared.drawings.Drawing.TheVariants.{Timeline, Trace};
+ghost use Rattle.sd_view.specs.declared.drawings.Drawing.TheVariants.{Report, Sheet, Timeline, Trace};
 ghost use Rattle.sd_view.specs.Drawings.{IsDrawingOf, IsDrawn};
 
 use crate::frames::frame_of;
 use sd_audit::{AuditFault, audit};
 use sd_gather::gather;
 use sd_machine::State;
+use sd_report::{report, sheet};
 use sd_story::{Selection, tell};
 use sd_timeline::timeline;
 use sd_trace::trace;
 use sd_types::Work;
 use std::alloc::{AllocError, Global};
 
-/// What is drawn of a run: the timeline of the ticks from `from` to `to`, the trace, or a story of some of its entries.
+/// What is drawn of a run: the timeline of the ticks from `from` to `to`, the trace, a story of some of its entries, or its
+/// statistics, as a table or as comma-separated rows.
 #[derive(Drop)]
 pub enum Drawing {
     Timeline { from: u32, to: u32 },
     Trace,
     Story(Selection),
+    Report,
+    Sheet,
 }
 
 fn draw_timeline(
@@ -56,6 +60,26 @@ fn draw_trace(alloc: Global, work: &Work, text: &[u8]) -> Result<Vec<u8>, AllocE
     Ok(out)
 }
 
+fn draw_report(alloc: Global, work: &Work, text: &[u8]) -> Result<Vec<u8>, AllocError>
+    requires text { length text.now < 2 ^ 31 }
+    requires journal { HasJournal work.now text.now }
+    ensures { IfOk result (λ out. (es : Items EntryValue) → IsJournalOf work.now text.now es → IsDrawingOf Report work.now es out.items) }
+{
+    let history = gather(alloc, work, text)?;
+    let out = report(alloc, work, &history)?;
+    Ok(out)
+}
+
+fn draw_sheet(alloc: Global, work: &Work, text: &[u8]) -> Result<Vec<u8>, AllocError>
+    requires text { length text.now < 2 ^ 31 }
+    requires journal { HasJournal work.now text.now }
+    ensures { IfOk result (λ out. (es : Items EntryValue) → IsJournalOf work.now text.now es → IsDrawingOf Sheet work.now es out.items) }
+{
+    let history = gather(alloc, work, text)?;
+    let out = sheet(alloc, work, &history)?;
+    Ok(out)
+}
+
 // The drawing of the run whose journal the text is, and whose final state is given.
 fn drawing_text(
     alloc: Global,
@@ -73,6 +97,8 @@ fn drawing_text(
         Drawing::Timeline { from, to } => draw_timeline(alloc, work, text, *from, *to, s),
         Drawing::Trace => draw_trace(alloc, work, text),
         Drawing::Story(selection) => tell(alloc, work, text, selection),
+        Drawing::Report => draw_report(alloc, work, text),
+        Drawing::Sheet => draw_sheet(alloc, work, text),
     }
 }
 

@@ -41,6 +41,8 @@ fn verb_drawing(verb: &[u8]) -> Option<Drawing>
             from: 0,
             to: 100_000,
         }))
+    } else if is_word(verb, b"report") {
+        Some(Drawing::Report)
     } else {
         None
     }
@@ -100,13 +102,15 @@ fn named_by(verb: &[u8], name: &[u8]) -> Option<Drawing>
         Some(Drawing::Story(Selection::Thread {
             name: short_name(name),
         }))
+    } else if is_word(verb, b"report") && is_word(name, b"--csv") {
+        Some(Drawing::Sheet)
     } else {
         None
     }
 }
 
-/// The drawing that the arguments ask for: `timeline`, `trace`, `list`, `list NAME` with a name of at most 16 bytes, or `timeline
-/// FROM TO`, `list FROM TO` with FROM below TO and TO at most 100,000; None where they are of none of the forms.
+/// The drawing that the arguments ask for: `timeline`, `trace`, `list`, `report`, `report --csv`, `list NAME` with a name of at most 16
+/// bytes, or `timeline FROM TO`, `list FROM TO` with FROM below TO and TO at most 100,000; None where they are of none of the forms.
 #[tactic(auto, unfolding(crate::specs::Forms::drawing_of))]
 pub fn drawing_of(arguments: &[String]) -> Option<Drawing>
     ensures { result ≡ drawing_of (map string_bytes arguments.now) }

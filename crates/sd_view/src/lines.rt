@@ -135,11 +135,7 @@ fn put_unknown(work: &Work, name: &[u8], out: &mut Vec<u8>) -> Result<(), AllocE
 }
 
 #[tactic(auto, unfolding(crate::specs::Drawings::story_line))]
-fn put_story_line(
-    work: &Work,
-    selection: &Selection,
-    out: &mut Vec<u8>,
-) -> Result<(), AllocError>
+fn put_story_line(work: &Work, selection: &Selection, out: &mut Vec<u8>) -> Result<(), AllocError>
     ensures { OnOk result (out.new.items ≡ out.old.items ++ story_line work.now selection.now) }
 {
     match selection {
@@ -155,6 +151,7 @@ fn put_left_line(work: &Work, drawing: &Drawing, out: &mut Vec<u8>) -> Result<()
         Drawing::Timeline { from, to } => put_timeline_line(work, *from, *to, out),
         Drawing::Trace => Ok(()),
         Drawing::Story(selection) => put_story_line(work, selection, out),
+        Drawing::Report | Drawing::Sheet => Ok(()),
     }
 }
 

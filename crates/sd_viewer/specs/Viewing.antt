@@ -34,7 +34,7 @@ IsDrawing drawing input drawn =
 
 -- the line of an answer where no drawing was written: that of an audit, but for the usage
 abbrev pub answer_line : Answer → List ℕ
-answer_line Usage = codes "usage: dispview timeline [FROM TO] | trace | list [FROM TO] | list NAME | --help\n"
+answer_line Usage = codes "usage: dispview timeline [FROM TO] | trace | list [FROM TO] | list NAME | report [--csv] | --help\n"
 answer_line a = line_of a
 
 -- ---- the forms in a few lines
@@ -44,7 +44,9 @@ help_text =
     codes "dispview reads a workload, the line journal, and a journal, and judges it:\n" ++ (codes "(cat W; echo journal; dispsim run < W) | dispview FORM\n"
     ++ (codes "timeline          the run as a picture (SVG)\n" ++ (codes "timeline FROM TO  the ticks from FROM to TO of it\n"
     ++ (codes "trace             the run for chrome://tracing and Perfetto (JSON)\n" ++ (codes "list              each entry with a sentence on it\n"
-    ++ (codes "list FROM TO      those of the ticks from FROM to TO\n" ++ (codes "list NAME         those that name the thread NAME\n" ++ codes "--help            these lines\n")))))))
+    ++ (codes "list FROM TO      those of the ticks from FROM to TO\n" ++ (codes "list NAME         those that name the thread NAME\n"
+    ++ (codes "report            statistics of threads, tasks, locks and processors\n" ++ (codes "report --csv      the same for a spreadsheet (CSV)\n"
+    ++ codes "--help            these lines\n")))))))))
 
 -- ---- an answer, its cause and its line
 

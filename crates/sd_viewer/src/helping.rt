@@ -16,6 +16,8 @@ trace             the run for chrome://tracing and Perfetto (JSON)
 list              each entry with a sentence on it
 list FROM TO      those of the ticks from FROM to TO
 list NAME         those that name the thread NAME
+report            statistics of threads, tasks, locks and processors
+report --csv      the same for a spreadsheet (CSV)
 --help            these lines
 ";
 

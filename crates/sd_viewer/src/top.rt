@@ -17,7 +17,7 @@ use std::alloc::Global;
 use std::io;
 
 const USAGE: &[u8] =
-    b"usage: dispview timeline [FROM TO] | trace | list [FROM TO] | list NAME | --help\n";
+    b"usage: dispview timeline [FROM TO] | trace | list [FROM TO] | list NAME | report [--csv] | --help\n";
 
 /// Writes the line of an answer where no drawing was written.
 fn put_answer<E: Sink>(answer: Answer, err: &mut E) -> Result<(), Unwritten>

@@ -13,7 +13,7 @@ pub returns : goal.returns
 unfolding story
 returns c es j =
     let told = subst
-        (λ (w : Work). (fs : List Entry) → IsJournalOf w c.args.text.now fs → c.tell_entries.new.out.items ≡ c.in_ok-out.out.items ++ rows_from w c.args.selection.now (opening w) fs)
-        c.in_ok-names.ensures c.in_ok-tell_entries.ensures in
+    (λ (w : Work). (fs : List Entry) → IsJournalOf w c.args.text.now fs → c.tell_entries.new.out.items ≡ c.in_ok-out.out.items ++ rows_from w c.args.selection.now (opening w) fs)
+    c.in_ok-names.ensures c.in_ok-tell_entries.ensures in
     told es j
     ∙ ap (λ (text : List ℕ). text ++ rows_from c.args.work.now c.args.selection.now (opening c.args.work.now) es) c.in_ok-out.ensures.items

@@ -9,11 +9,10 @@ pub returns : goal.returns
 returns c es j same =
     let w = c.args.work.now in
     let h = c.in_ok-history.history in
-    let s = c.args.s.now in
-    (
+    let s = c.args.s.now in (
       h,
       c.in_ok-history.ensures es j,
       c.in_ok-out.ensures
-      ∙ ap (λ (f : Frame). timeline_text w f h s) c.frame_of.ensures
-      ∙ ap (λ (x : State). timeline_text w (frame_of w c.args.from c.args.to) h x) same,
+          ∙ ap (λ (f : Frame). timeline_text w f h s) c.frame_of.ensures
+          ∙ ap (λ (x : State). timeline_text w (frame_of w c.args.from c.args.to) h x) same,
     )
