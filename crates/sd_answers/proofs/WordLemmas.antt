@@ -1,5 +1,5 @@
 -- No line of an accepted workload is the word `journal`: no line has this form, in a block or outside.
-use Rattle.std.proofs.Common.{◌≡◌, ◌≢◌, ℕ, ◌+◌, ◌<◌, List, [], ◌∷◌, length, map, get_or, Option, Some, None, refl, sym, ap, subst, ◌∙◌, arith}
+use Rattle.std.proofs.Common.{◌≡◌, ◌≢◌, ℕ, ◌+◌, ◌<◌, List, [], ◌∷◌, length, get_or, Some, None, refl, sym, ap, subst, ◌∙◌, arith}
 use Rattle.std.specs.Prelude.{codes}
 use Rattle.std.proofs.lemmas.List.{get_or-map, length-map}
 use Rattle.std.proofs.lemmas.List.Elements.{All-from_get_or}
@@ -20,7 +20,7 @@ use Rattle.sd_declare.specs.declared.causes.WorkCause.{WorkCause}
 use Rattle.sd_declare.specs.declared.causes.WorkCause.TheVariants.{Syntax, Table}
 use Rattle.sd_declare.specs.Declarations.{Declarations}
 use Rattle.sd_workload.specs.Accepted.{Accepted}
-use Rattle.sd_workload.specs.First.{above, cause_at}
+use Rattle.sd_workload.specs.First.{above}
 use Rattle.sd_workload.specs.Texts.{Block, Outside, InTable, InScript, cause_of}
 use Rattle.sd_workload.proofs.FirstLemmas.{taken-back}
 use Rattle.sd_cut.specs.Cuts.{HasNoJournal}
