@@ -45,6 +45,7 @@ pub struct Figures {
     pub priority: Option<u64>,
 }
 
+/// A row of the statistics.
 #[derive(Clone, Copy)]
 pub struct Row {
     pub subject: Subject,
