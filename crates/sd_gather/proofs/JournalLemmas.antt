@@ -30,8 +30,7 @@ lines_and_rest w es spelled = (_, journal_lines w es spelled)
 
 pub under_way_start : (w : Work) (text : List ℕ) (s : State) (n : ℕ) (Made : List Entry → Type 0) → n ≡ 0 → s ≡ opening w → Made [] → IsUnderWay w text s n 0 Made
 under_way_start w text s n Made none start made es j =
-    let told = lines_and_rest w es j.spelled in
-    (
+    let told = lines_and_rest w es j.spelled in (
       record {
         rest = told.0;
         lines = ap lines_of j.whole ∙ told.1 ∙ ap (λ (k : ℕ). map (entry_line w) (drop k es) ++ codes "accounts" ∷ told.0) (sym none);

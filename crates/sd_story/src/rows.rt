@@ -33,23 +33,13 @@ fn put_tick(alloc: Global, tick: u32, out: &mut Vec<u8>) -> Result<(), AllocErro
 }
 
 // The count of its processor before an entry.
-fn put_tick_of(
-    alloc: Global,
-    s: &State,
-    entry: &Entry,
-    out: &mut Vec<u8>,
-) -> Result<(), AllocError>
+fn put_tick_of(alloc: Global, s: &State, entry: &Entry, out: &mut Vec<u8>) -> Result<(), AllocError>
     ensures { OnOk result (out.new.items ≡ out.old.items ++ cell tick_blanks (decimal (tick_of s.now entry.now))) }
 {
     put_tick(alloc, tick_of(s, entry), out)
 }
 
-fn put_line(
-    alloc: Global,
-    work: &Work,
-    entry: &Entry,
-    out: &mut Vec<u8>,
-) -> Result<(), AllocError>
+fn put_line(alloc: Global, work: &Work, entry: &Entry, out: &mut Vec<u8>) -> Result<(), AllocError>
     ensures { OnOk result (out.new.items ≡ out.old.items ++ cell line_blanks (entry_line work.now entry.now)) }
 {
     let mut line = Vec::new(alloc);
@@ -59,12 +49,7 @@ fn put_line(
 }
 
 // The sentence on an entry.
-fn put_words(
-    work: &Work,
-    s: &State,
-    entry: &Entry,
-    out: &mut Vec<u8>,
-) -> Result<(), AllocError>
+fn put_words(work: &Work, s: &State, entry: &Entry, out: &mut Vec<u8>) -> Result<(), AllocError>
     ensures { OnOk result (out.new.items ≡ out.old.items ++ sentence work.now s.now entry.now.cpu entry.now.event) }
 {
     put_sentence(work, s, entry.cpu, &entry.event, out)

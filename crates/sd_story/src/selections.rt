@@ -141,5 +141,8 @@ fn has_name(thread: &ThreadDecl, name: &[u8]) -> bool
 pub fn has_thread(work: &Work, name: &[u8]) -> bool
     ensures { result ≡ has_thread work.now name.now }
 {
-    work.threads.items().iter().any(|thread| has_name(thread, name))
+    work.threads
+        .items()
+        .iter()
+        .any(|thread| has_name(thread, name))
 }

@@ -135,11 +135,7 @@ fn put_unknown(work: &Work, name: &[u8], out: &mut Vec<u8>) -> Result<(), AllocE
 }
 
 #[tactic(auto, unfolding(crate::specs::Drawings::story_line))]
-fn put_story_line(
-    work: &Work,
-    selection: &Selection,
-    out: &mut Vec<u8>,
-) -> Result<(), AllocError>
+fn put_story_line(work: &Work, selection: &Selection, out: &mut Vec<u8>) -> Result<(), AllocError>
     ensures { OnOk result (out.new.items ≡ out.old.items ++ story_line work.now selection.now) }
 {
     match selection {

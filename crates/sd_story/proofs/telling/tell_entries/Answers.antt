@@ -75,16 +75,16 @@ lines-preserved c =
     let made = c.in_ok-_entry.ensures in
     let at = λ (es : List Entry) (j : IsJournalOf w text es). (l.invariant.under_way es j).0 in
     let next = λ (es : List Entry) (j : IsJournalOf w text es).
-        is_next w text es l.s n l.from j (at es j) _ _ e c.in-Some.ensures.line (λ same. false≢true (sym c.if-is_accounts.false ∙ c.is_accounts.ensures.1 same)) made.taken in
+    is_next w text es l.s n l.from j (at es j) _ _ e c.in-Some.ensures.line (λ same. false≢true (sym c.if-is_accounts.false ∙ c.is_accounts.ensures.1 same)) made.taken in
     let bound = l.invariant.bound in
     let within = c.in-Some.ensures.within in
     record {
       under_way = λ es j. (
-            at_more w text es l.s n l.from j (at es j) e _ s' (n + 1) (next es j) made.state refl (c.in-Some.end + 1) refl,
-            made_more w text es l.s n l.from j (at es j) e _ s' (n + 1) (next es j) made.state refl
+        at_more w text es l.s n l.from j (at es j) e _ s' (n + 1) (next es j) made.state refl (c.in-Some.end + 1) refl,
+        made_more w text es l.s n l.from j (at es j) e _ s' (n + 1) (next es j) made.state refl
             (λ fs. out' ≡ before ++ rows_from w sel (opening w) fs)
             (one_row w sel l.s (take n es) e before l.out.items out' (at es j).state (l.invariant.under_way es j).1 made.row),
-          );
+      );
       within = omega (arith, within.1);
       bound = omega (arith, bound, within.0);
     }

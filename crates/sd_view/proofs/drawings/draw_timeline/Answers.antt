@@ -9,12 +9,11 @@ pub returns : goal.returns
 returns c es j same =
     let w = c.args.work.now in
     let h = c.in_ok-history.history in
-    let s = c.args.s.now in
-    (
+    let s = c.args.s.now in (
       h,
       c.in_ok-history.ensures es j,
       c.in_ok-write_timeline.ensures
-      ∙ ap (λ (l : List ℕ). l ++ timeline_text w c.frame_of.result h s) c.new-out.ensures.items
-      ∙ ap (λ (f : Frame). timeline_text w f h s) c.frame_of.ensures
-      ∙ ap (λ (x : State). timeline_text w (frame_of w c.args.from c.args.to) h x) same,
+          ∙ ap (λ (l : List ℕ). l ++ timeline_text w c.frame_of.result h s) c.new-out.ensures.items
+          ∙ ap (λ (f : Frame). timeline_text w f h s) c.frame_of.ensures
+          ∙ ap (λ (x : State). timeline_text w (frame_of w c.args.from c.args.to) h x) same,
     )
