@@ -1,6 +1,6 @@
 //! A sentence on each kind of event, written by hand over one state.
 
-use crate::given::{in_place, state};
+use crate::given::in_place;
 use arrayvec::ArrayVec;
 use sd_machine::{CpuState, LockState, Place, State, ThreadState};
 use sd_sentences::put_sentence;
@@ -76,12 +76,16 @@ fn cpu_at(count: u32) -> CpuState {
     }
 }
 
-/// The threads a, b, c; m is owned by a, n is free, p is being handed over, and readers hold w; the count of q is 3.
-fn given(alloc: Global) -> Result<State, AllocError> {
+fn threads_of(alloc: Global) -> Result<Vec<ThreadState>, AllocError> {
     let mut threads = Vec::new(alloc);
     threads.push(owner())?;
     threads.push(in_place(Place::Waiting(M, Side::Writer, 0)))?;
     threads.push(sharer())?;
+    Ok(threads)
+}
+
+/// m is owned by a, n is free, p is being handed over, and readers hold w.
+fn locks_of(alloc: Global) -> Result<Vec<LockState>, AllocError> {
     let mut locks = Vec::new(alloc);
     locks.push(LockState::Owned(A))?;
     locks.push(LockState::Free)?;
@@ -90,15 +94,33 @@ fn given(alloc: Global) -> Result<State, AllocError> {
         readers: 0,
     })?;
     locks.push(LockState::ReadHeld(1))?;
+    Ok(locks)
+}
+
+/// Processors 0 and 1 have counted 7 and 8 ticks.
+fn cpus_of(alloc: Global) -> Result<Vec<CpuState>, AllocError> {
     let mut cpus = Vec::new(alloc);
     cpus.push(cpu_at(7))?;
     cpus.push(cpu_at(8))?;
-    let mut s = state(alloc, threads, locks, cpus);
+    Ok(cpus)
+}
+
+/// The count of q is 3; k is no semaphore.
+fn counts_of(alloc: Global) -> Result<Vec<u32>, AllocError> {
     let mut counts = Vec::new(alloc);
     counts.push(0)?;
     counts.push(3)?;
-    s.counts = List::from_vec(counts);
-    Ok(s)
+    Ok(counts)
+}
+
+fn given(alloc: Global) -> Result<State, AllocError> {
+    Ok(State {
+        threads: List::from_vec(threads_of(alloc)?),
+        locks: List::from_vec(locks_of(alloc)?),
+        cpus: List::from_vec(cpus_of(alloc)?),
+        counts: List::from_vec(counts_of(alloc)?),
+        open_cpus: List::from_vec(Vec::new(alloc)),
+    })
 }
 
 /// An event of running, of a nap, sleep or wakeup, and the sentence on it where processor 0 makes it.
