@@ -1,6 +1,6 @@
 //! One line before the accounts.
 
-ghost use Rattle.std.specs.Prelude.{◌≡◌, ◌+◌, ◌<◌, ◌^◌, IfOk, IfErr, OnOk, IsTrue, ◌↔◌, codes};
+ghost use Rattle.std.specs.Prelude.{◌≡◌, ◌+◌, ◌<◌, ◌^◌, IfOk, IfErr, OnErr, OnOk, IsTrue, ◌↔◌, codes};
 ghost use Rattle.sd_types.specs.declared.events.Entry.{Entry as EntryValue};
 ghost use Rattle.sd_full.specs.Events.{after};
 ghost use Rattle.sd_full.specs.Runs.{IsReached};
@@ -34,6 +34,7 @@ fn judge_line(
     ensures taken { IfOk result (IsTaken names.now.work.now s.old number line.now) }
     ensures state { IfOk result (λ e. s.new ≡ after names.now.work.now s.old e.number e.cpu e.event) }
     ensures reached { OnOk result (IsReached names.now.work.now (number + 1) s.new) }
+    ensures kept { OnErr result (s.new ≡ s.old) }
     ensures fault { IfErr result (IsLineFault names.now.work.now s.old number line.now) }
 {
     let Ok(found) = read_entry(alloc, names, line) else {
@@ -52,8 +53,8 @@ fn judge_line(
 }
 
 /// Makes the entry that the line tells, behind `number` entries, where it is a step there; else the fault is that of the
-/// line. A line of such an entry is refused only where memory runs out. The state is that of a run with so many entries, and
-/// then with one more.
+/// line, and the state stays. A line of such an entry is refused only where memory runs out. The state is that of a run with so many
+/// entries, and then with one more.
 pub fn take_line(
     alloc: Global,
     names: &Names<'_>,
@@ -66,6 +67,7 @@ pub fn take_line(
     ensures taken { IfOk result (IsTaken names.now.work.now s.old number line.now) }
     ensures state { IfOk result (λ e. s.new ≡ after names.now.work.now s.old e.number e.cpu e.event) }
     ensures reached { OnOk result (IsReached names.now.work.now (number + 1) s.new) }
+    ensures kept { OnErr result (s.new ≡ s.old) }
     ensures fault { IfErr result (IsLineFault names.now.work.now s.old number line.now) }
     ensures exact { IfErr result (λ fault. (e : EntryValue) → IsTaken names.now.work.now s.old number line.now e → IsMemory fault) }
 {

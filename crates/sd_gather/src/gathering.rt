@@ -51,7 +51,8 @@ fn gather_lines(alloc: Global, names: &Names<'_>, text: &[u8]) -> Result<History
             return Ok(history);
         }
         let entry = make_line(alloc, names, &mut s, line, history.entries)?;
-        history.add(alloc, &s, &entry)?;
+        let next = history.with(alloc, &s, &entry)?;
+        history = next;
         from = end + 1;
     }
     unreachable!()

@@ -262,8 +262,7 @@ pub begins_at_0 : (w : Work) (es : List Entry) (t : ℕ) → t < length w.thread
 unfolding turn_at before tick_at
 begins_at_0 w es t here =
     let g : ℕ → Sight = sight_at w es t here in
-    let ticks : ℕ → ℕ = tick_at w es t here in
-    (
+    let ticks : ℕ → ℕ = tick_at w es t here in (
       turn_from t 0 (ticks 0) (g 0),
       flat_map (turn_at g t ticks) (range_with_len 1 (length es)),
       own_over w es t here ∙ ap (λ n. flat_map (turn_at g t ticks) (range_with_len 0 n)) (add-one (length es)),

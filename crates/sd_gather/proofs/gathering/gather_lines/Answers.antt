@@ -51,13 +51,13 @@ lines-preserved c =
     let n = l.history.entries in
     let e = c.in_ok-entry.entry in
     let s' = c.make_line.new.s in
-    let h' = c.add.new.self in
+    let h' = c.in_ok-next.next in
     let made = c.in_ok-entry.ensures in
     let at = λ (es : List Entry) (j : IsJournalOf w text es). (l.invariant.under_way es j).0 in
     let next = λ (es : List Entry) (j : IsJournalOf w text es).
     is_next w text es l.s n l.from j (at es j) _ _ e c.in-Some.ensures.line (λ same. false≢true (sym c.if-is_accounts.false ∙ c.is_accounts.ensures.1 same)) made.taken in
     let added = λ (es : List Entry) (j : IsJournalOf w text es).
-    c.in_ok-add.ensures w (take n es) (state_more w text es l.s n l.from j (at es j) e _ s' h'.entries (next es j) made.state) (l.invariant.under_way es j).1 in
+    c.in_ok-next.ensures w (take n es) (state_more w text es l.s n l.from j (at es j) e _ s' h'.entries (next es j) made.state) (l.invariant.under_way es j).1 in
     let of = entries_of w text c.requires.journal in
     let more : h'.entries ≡ n + 1 =
     (added of.0 of.1).entries ∙ many_more w text of.0 l.s n l.from of.1 (at of.0 of.1) e _ s' h'.entries (next of.0 of.1) made.state in
