@@ -1,12 +1,13 @@
 //! A thread's record. The type keeps that the priorities which the thread inherits are for locks that it holds.
 
-ghost use Rattle.std.specs.Prelude.{◌≡◌, ◌<◌, false, IsTrue, IfSome, length};
+ghost use Rattle.std.specs.Prelude.{◌≡◌, ◌<◌, false, IsTrue, IfOk, IfSome, length};
 ghost use Rattle.sd_types.specs.Priorities.{base_of, eff_as, eff};
 ghost use Rattle.sd_types.specs.Scripts.{is_held};
-ghost use Rattle.sd_types.specs.Willed.{eff_with};
+ghost use Rattle.sd_types.specs.Willed.{eff_with, IsSound};
 
 use sd_boxq::Ranked;
 use sd_types::{ClassState, LockId, ThreadBody, ThreadId};
+use std::alloc::{AllocError, Global};
 use std::marker::Model;
 
 /// One thread as it moves between homes. `key` is that of its place: for a napper the tick at which its nap ends,
@@ -17,7 +18,7 @@ use std::marker::Model;
 #[derive(Drop)]
 pub struct Record {
     pub id: ThreadId,
-    pub body: ThreadBody,
+    pub body: Box<ThreadBody>,
     pub key: i64,
 }
 
@@ -27,13 +28,29 @@ impl Model for Record {
 
     ghost Value = { ThreadRecord };
 
-    ghost view = { λ r. record { id = r.id; body = r.body; key = r.key } };
+    ghost view = { λ r. record { id = r.id; body = r.body.value; key = r.key } };
 
-    ghost invariant = { λ r. IsSound r.body };
+    ghost invariant = { λ r. IsSound r.body.value };
 }
 
 impl Record {
     ghost use Rattle.sd_record.specs.Records.{inherited, waived, lock_taken, lock_released};
+
+    /// A record of this thread. Where memory runs out, its body is dropped.
+    pub fn new(
+        alloc: Global,
+        id: ThreadId,
+        body: ThreadBody,
+        key: i64,
+    ) -> Result<Record, AllocError>
+        requires { IsSound body }
+        ensures { IfOk result (λ r. r ≡ record { id = id; body = body; key = key }) }
+    {
+        match Box::new(alloc, body) {
+            Ok(body) => Ok(Record { id, body, key }),
+            Err(_) => Err(AllocError),
+        }
+    }
 
     /// The priority that the class gives, 0 to 159.
     pub fn base(&self) -> u8

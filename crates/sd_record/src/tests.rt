@@ -1,6 +1,6 @@
 //! Priorities worked out by hand, on records that hold the locks 1, 2 and 3.
 
-ghost use Rattle.std.specs.Prelude.{◌≡◌, ◌≤◌, ◌∷◌, [], pos, negsuc, ◌≤ℤ◌};
+ghost use Rattle.std.specs.Prelude.{◌≡◌, ◌≤◌, ◌∷◌, [], IfOk, pos, negsuc, ◌≤ℤ◌};
 
 use crate::Record;
 use arrayvec::ArrayVec;
@@ -8,32 +8,30 @@ use sd_boxq::{BoxQueue, Node, Ranked};
 use sd_types::{
     ClassState, CpuId, FxState, LockId, Quantum, RtState, SysState, ThreadBody, ThreadId, TsState,
 };
+use std::alloc::{AllocError, Global};
 use std::test::Fail;
 
 /// A record of a thread of this class that holds the locks 1, 2 and 3.
-fn holder(class: ClassState) -> Record
-    ensures { result.body.held.items ≡ record { 0 = 1 } ∷ record { 0 = 2 } ∷ record { 0 = 3 } ∷ [] }
+fn holder(alloc: Global, class: ClassState) -> Result<Record, AllocError>
+    ensures { IfOk result (λ r. r.body.held.items ≡ record { 0 = 1 } ∷ record { 0 = 2 } ∷ record { 0 = 3 } ∷ []) }
 {
     let mut held = ArrayVec::new();
     held.push(LockId(1));
     held.push(LockId(2));
     held.push(LockId(3));
-    Record {
-        id: ThreadId(7),
-        body: ThreadBody {
-            class,
-            willed: ArrayVec::new(),
-            held,
-            op: 0,
-            run_left: 0,
-            back: false,
-            last: CpuId(0),
-            left_at: None,
-            looped: false,
-            bound: None,
-        },
-        key: -5,
-    }
+    let body = ThreadBody {
+        class,
+        willed: ArrayVec::new(),
+        held,
+        op: 0,
+        run_left: 0,
+        back: false,
+        last: CpuId(0),
+        left_at: None,
+        looped: false,
+        bound: None,
+    };
+    Record::new(alloc, ThreadId(7), body, -5)
 }
 
 fn ts(cpupri: u8, upri: i8) -> ClassState
@@ -79,7 +77,7 @@ fn rt_class(pri: u8) -> ClassState
 }
 
 #[test]
-fn bases(rt: HostRuntime) {
+fn bases(rt: HostRuntime) -> Result<(), Fail> {
     let cases = [
         (ts(0, 0), 0),
         (ts(29, 0), 29),
@@ -97,18 +95,19 @@ fn bases(rt: HostRuntime) {
         (rt_class(59), 159),
     ];
     for (class, base) in cases {
-        let record = holder(class);
+        let record = holder(rt.alloc(), class)?;
         assert_eq!(rt; record.base(), base);
         assert_eq!(rt; record.effective(), base);
         assert_eq!(rt; record.rank(), base);
         assert_eq!(rt; record.id(), 7);
         assert_eq!(rt; record.key(), -5);
     }
+    Ok(())
 }
 
 #[test]
-fn inheritance(rt: HostRuntime) {
-    let mut record = holder(ts(29, 0));
+fn inheritance(rt: HostRuntime) -> Result<(), Fail> {
+    let mut record = holder(rt.alloc(), ts(29, 0))?;
     record.inherit(LockId(1), 20);
     assert_eq!(rt; record.effective(), 29);
     record.inherit(LockId(2), 40);
@@ -134,6 +133,7 @@ fn inheritance(rt: HostRuntime) {
     record.waive(LockId(2));
     assert_eq!(rt; record.effective(), 29);
     assert_eq!(rt; record.body.held.len(), 3);
+    Ok(())
 }
 
 /// What crosses threads crosses here.
@@ -142,14 +142,15 @@ fn sent<T: Send>(value: T) -> T {
 }
 
 #[test]
-fn another_thread_may_have_a_record(rt: HostRuntime) {
-    let record = sent(holder(ts(29, 0)));
+fn another_thread_may_have_a_record(rt: HostRuntime) -> Result<(), Fail> {
+    let record = sent(holder(rt.alloc(), ts(29, 0))?);
     assert_eq!(rt; record.id(), 7);
+    Ok(())
 }
 
 #[test]
-fn priorities_that_would_be(rt: HostRuntime) {
-    let mut record = holder(ts(29, 0));
+fn priorities_that_would_be(rt: HostRuntime) -> Result<(), Fail> {
+    let mut record = holder(rt.alloc(), ts(29, 0))?;
     record.inherit(LockId(1), 40);
     record.inherit(LockId(2), 20);
     // the class state, and the effective priority in it
@@ -185,6 +186,7 @@ fn priorities_that_would_be(rt: HostRuntime) {
         );
     }
     assert_eq!(rt; record.effective(), 40);
+    Ok(())
 }
 
 /// Whether the record holds exactly these locks, in this order.
@@ -198,8 +200,8 @@ fn holds(record: &Record, locks: &[u16]) -> bool {
 }
 
 #[test]
-fn locks(rt: HostRuntime) {
-    let mut record = holder(ts(29, 0));
+fn locks(rt: HostRuntime) -> Result<(), Fail> {
+    let mut record = holder(rt.alloc(), ts(29, 0))?;
     record.inherit(LockId(1), 40);
     record.inherit(LockId(3), 50);
     record.take_lock(LockId(0));
@@ -221,14 +223,15 @@ fn locks(rt: HostRuntime) {
     record.release_lock(LockId(1));
     assert!(rt; holds(&record, &[]));
     assert_eq!(rt; record.effective(), 29);
+    Ok(())
 }
 
 #[test]
 fn a_queue_of_records(rt: HostRuntime) -> Result<(), Fail> {
     let mut queue = BoxQueue::new();
-    queue.insert_ranked(Node::node(rt.alloc(), holder(fx(10)))?);
-    queue.insert_ranked(Node::node(rt.alloc(), holder(rt_class(0)))?);
-    queue.insert_ranked(Node::node(rt.alloc(), holder(fx(30)))?);
+    queue.insert_ranked(Node::node(rt.alloc(), holder(rt.alloc(), fx(10))?)?);
+    queue.insert_ranked(Node::node(rt.alloc(), holder(rt.alloc(), rt_class(0))?)?);
+    queue.insert_ranked(Node::node(rt.alloc(), holder(rt.alloc(), fx(30))?)?);
     for (index, base) in [(0, 100), (1, 30), (2, 10)] {
         assert_eq!(rt; queue.item(index).map(|record| record.base()), Some(base));
     }

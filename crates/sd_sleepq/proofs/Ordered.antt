@@ -6,7 +6,7 @@ use Rattle.std.proofs.lemmas.List.{get_or-set_same, get_or-set_other, set-get_or
 use Rattle.std.proofs.lemmas.Option.{get_or_from_slice_get}
 use Rattle.sd_boxq.specs.Order.{find_id, drop_id, IsRanked}
 use Rattle.sd_sleepq.specs.Among.{AreRanked, IsHolder, find_among}
-use Rattle.sd_sleepq.specs.Sleepers.{Sleepers, IsOfChain, sleepers_of, with_sleepers, Leaves, AreApart}
+use Rattle.sd_sleepq.specs.Sleepers.{Sleepers, IsOfChain, sleepers_of, with_sleepers, Leaves, SleepsThere, AreApart}
 
 -- a key that is passed on is the key
 pub same_number : (z : ℤ) → SFits w64 z → to_z w64 (of_z w64 z) ≡ z
@@ -91,3 +91,16 @@ module _ {X : Type 0} (c : Sleepers X) (four : length c.queues ≡ 4) where
     where
       below : (m : ℕ) → IsOfChain c m → m < 64 * i + c.chain → m / 64 < i
       below m g b = let a = g.1 in omega arith
+
+  pub sleeps_there : (id : X → ℕ) (n i : ℕ) → c.chain < 64 → IsHolder id n c.queues i → SleepsThere id n c (64 * i + c.chain)
+  sleeps_there id n i small h =
+      let inside = h.0 in
+      let k = 64 * i + c.chain in
+      let of_this : IsOfChain c k = (omega arith, omega arith) in
+      let index : k / 64 ≡ i = omega arith in
+      let found = found_there id n c.queues i h in
+      record {
+        of_chain = of_this;
+        some = ap is_some found ∙ h.1;
+        here = ap (λ j. find_id id n (get_or c.queues j [])) index ∙ sym found;
+      }

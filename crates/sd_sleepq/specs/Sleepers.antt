@@ -1,6 +1,6 @@
 -- A chain of sleep queues (Solaris Internals, sleep queues), as contracts see it.
 -- That chains have channels of one residue modulo 64 is this project's own.
-use Rattle.std.specs.Prelude.{◌≡◌, ◌≢◌, ℕ, ◌<◌, ◌/◌, ◌%◌, List, get_or, set, [], Some, None}
+use Rattle.std.specs.Prelude.{◌≡◌, ◌≢◌, ℕ, ◌<◌, ◌/◌, ◌%◌, List, get_or, set, [], true, is_some, Some, None}
 use Rattle.sd_boxq.specs.Order.{find_id, drop_id}
 use Rattle.sd_sleepq.specs.Among.{find_among}
 
@@ -20,6 +20,12 @@ sleepers_of c k = get_or c.queues (k / 64) []
 -- the chain with these sleepers on the channel k
 abbrev pub with_sleepers : {T : Type 0} → Sleepers T → ℕ → List T → Sleepers T
 with_sleepers c k xs = record c { queues = set c.queues (k / 64) xs }
+
+-- there is one with the id n, and the first sleeps on the channel k
+pub record SleepsThere {T : Type 0} (id : T → ℕ) (n : ℕ) (c : Sleepers T) (k : ℕ) : Type 0 where
+  pub of_chain : IsOfChain c k
+  pub some : is_some (find_among id n c.queues) ≡ true
+  pub here : find_id id n (sleepers_of c k) ≡ find_among id n c.queues
 
 -- x, who sleeps on the channel k and is the first with the id n by channel, has left
 pub record Leaves {T : Type 0} (id : T → ℕ) (n : ℕ) (old : Sleepers T) (k : ℕ) (x : T) (new : Sleepers T) : Type 0 where

@@ -1,9 +1,9 @@
 //! The chain: its number, and a ranked queue for each of its four channels.
-ghost use Rattle.std.specs.Prelude.{◌≡◌, ◌<◌, [], ◌∷◌, length, int_lt, IfSome, MatchOption, None};
+ghost use Rattle.std.specs.Prelude.{◌≡◌, ◌<◌, [], ◌∷◌, length, slice_get, int_lt, IfSome, MatchOption, None};
 ghost use Rattle.std.specs.Option.{option_copied};
-ghost use Rattle.sd_boxq.specs.Order.{precedes, insert_ranked, find_below, drop_below, IsBest};
+ghost use Rattle.sd_boxq.specs.Order.{precedes, insert_ranked, find_id, drop_id, find_below, drop_below, IsBest};
 ghost use Rattle.sd_sleepq.specs.Among.{find_among, AreRanked, IsHolder};
-ghost use Rattle.sd_sleepq.specs.Sleepers.{IsOfChain, sleepers_of, with_sleepers, Leaves, AreApart};
+ghost use Rattle.sd_sleepq.specs.Sleepers.{IsOfChain, sleepers_of, with_sleepers, Leaves, SleepsThere, AreApart};
 
 use sd_boxq::{BoxQueue, Node, Ranked};
 use sd_four::Four;
@@ -101,6 +101,50 @@ impl<T: Ranked> SleepChain<T> {
     {
         let queue = self.queues.at_mut(k.0 as usize / 64);
         queue.take_below(below)
+    }
+
+    /// The best of the channel. `None` exactly where nobody sleeps there.
+    pub fn first(&self, k: ChanId) -> Option<&T>
+        requires { IsOfChain self.now k.0 }
+        ensures { option_copied result ≡ slice_get (sleepers_of self.now k.0) 0 }
+    {
+        self.queues.at(k.0 as usize / 64).first()
+    }
+
+    /// The first sleeper with this id on the channel. `None` exactly where there is none.
+    pub fn find_at(&self, k: ChanId, id: u32) -> Option<&T>
+        requires { IsOfChain self.now k.0 }
+        ensures { option_copied result ≡ find_id T.id id (sleepers_of self.now k.0) }
+    {
+        self.queues.at(k.0 as usize / 64).find(id)
+    }
+
+    /// Takes the first sleeper with this id on the channel. `None` exactly where there is none.
+    pub fn take_at(&mut self, k: ChanId, id: u32) -> Option<Node<T>>
+        requires { IsOfChain self.old k.0 }
+        ensures taken { result ≡ find_id T.id id (sleepers_of self.old k.0) }
+        ensures rest { self.new ≡ with_sleepers self.old k.0 (drop_id T.id id (sleepers_of self.old k.0)) }
+    {
+        let queue = self.queues.at_mut(k.0 as usize / 64);
+        queue.take_first(id)
+    }
+
+    /// The number of the chain, below 64.
+    pub fn number(&self) -> u8
+        ensures value { result ≡ self.now.chain }
+        ensures below { result < 64 }
+    {
+        self.chain
+    }
+
+    /// The channel on which the first sleeper with this id sleeps, by channel. `None` exactly where there is none.
+    pub fn place_of(&self, id: u32) -> Option<ChanId>
+        ensures { MatchOption result (find_among T.id id self.now.queues ≡ None) (λ k. SleepsThere T.id id self.now k.0) }
+    {
+        match holder_of(&self.queues, id) {
+            None => None,
+            Some(index) => Some(ChanId(64 * index as u16 + self.chain as u16)),
+        }
     }
 
     /// The first sleeper with this id, by channel. `None` exactly where there is none.

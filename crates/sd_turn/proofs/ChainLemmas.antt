@@ -8,7 +8,7 @@ use Rattle.sd_types.specs.declared.numbers.Side.{Side}
 use Rattle.sd_types.specs.declared.numbers.Side.TheVariants.{Writer, Reader}
 use Rattle.sd_boxq.specs.Order.{insert_before, insert_ranked, precedes, find_first, drop_first, find_id, drop_id, IsRanked, IsNowhere, IsBest}
 use Rattle.sd_boxq.proofs.InOrder.{IsRanked-insert, best_first}
-use Rattle.sd_turn.specs.Waiters.{Waiters, Blocked, nobody, on_side, with_side, waiter_count, IsOfChain, of_lock, waiters_at, with_waiters, AreRanked, AreApart, higher, highest, highest_waiter, find_in, find_among, Leaves}
+use Rattle.sd_turn.specs.Waiters.{Waiters, Blocked, nobody, on_side, with_side, waiter_count, IsOfChain, of_lock, waiters_at, with_waiters, AreRanked, AreApart, higher, highest, highest_waiter, find_in, find_among, Leaves, WaitsThere}
 use Rattle.sd_turn.specs.Serving.{served, held, IsServed, AreServed, all_served, all_held, all_waiting, IsHolder}
 
 -- ---- lengths
@@ -340,4 +340,13 @@ module _ {X : Type 0} (id : X → ℕ) (n : ℕ) (ss : List (Option (Waiters X))
           first = ap (λ c. find_among id n c.locks) (sym v) ∙ sym (found_there s e) ∙ f;
           here = ap (λ u. find_id id n (on_side u side)) (lock_is k ss b (64 * p + k) s v here of_this four) ∙ f;
           rest = rest_of t w;
+        }
+
+    pub waits_there : WaitsThere id n b (64 * p + k) side
+    waits_there =
+        let number : (64 * p + k) % 64 ≡ k = omega arith in
+        record {
+          of_chain = (of_this, number ∙ ap (λ c. c.chain) v);
+          some = ap (λ c. is_some (find_among id n c.locks)) (sym v) ∙ h.1;
+          here = ap (λ u. find_id id n (on_side u side)) (lock_is k ss b (64 * p + k) s v here of_this four) ∙ found_there s e ∙ ap (λ c. find_among id n c.locks) v;
         }

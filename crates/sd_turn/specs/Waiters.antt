@@ -1,6 +1,6 @@
 -- The waiters of locks (Solaris Internals, turnstiles), as contracts see them.
 -- That chains have locks of one residue modulo 64 is this project's own.
-use Rattle.std.specs.Prelude.{◌≡◌, ◌≢◌, ℕ, ℤ, ◌+◌, ◌<◌, ◌/◌, ◌%◌, max, List, [], ◌∷◌, ◌++◌, length, get_or, set, Option, None, Some}
+use Rattle.std.specs.Prelude.{◌≡◌, ◌≢◌, ℕ, ℤ, ◌+◌, ◌<◌, ◌/◌, ◌%◌, max, true, is_some, List, [], ◌∷◌, ◌++◌, length, get_or, set, Option, None, Some}
 use Rattle.std.specs.Option.{option_or}
 use Rattle.sd_types.specs.declared.numbers.Side.{Side}
 use Rattle.sd_types.specs.declared.numbers.Side.TheVariants.{Writer, Reader}
@@ -76,6 +76,10 @@ highest rank (x ∷ xs) = higher (Some (rank x)) (highest rank xs)
 abbrev pub highest_waiter : {X : Type 0} → (X → ℕ) → Waiters X → Option ℕ
 highest_waiter rank w = highest rank (w.writers ++ w.readers)
 
+-- the waiters once the first one with the id n has left each side
+abbrev pub without_id : {X : Type 0} → (X → ℕ) → ℕ → Waiters X → Waiters X
+without_id id n w = record { writers = drop_id id n w.writers; readers = drop_id id n w.readers }
+
 -- the first waiter with the id n, by lock, and of one lock the writers before the readers
 abbrev pub find_in : {X : Type 0} → (X → ℕ) → ℕ → Waiters X → Option X
 find_in id n w = option_or (find_id id n w.writers) (find_id id n w.readers)
@@ -83,6 +87,12 @@ find_in id n w = option_or (find_id id n w.writers) (find_id id n w.readers)
 abbrev pub find_among : {X : Type 0} → (X → ℕ) → ℕ → List (Waiters X) → Option X
 find_among id n [] = None
 find_among id n (w ∷ ws) = option_or (find_in id n w) (find_among id n ws)
+
+-- there is one with the id n, and the first waits for the lock l at a side
+pub record WaitsThere {T : Type 0} (id : T → ℕ) (n : ℕ) (c : Blocked T) (l : ℕ) (side : Side) : Type 0 where
+  pub of_chain : IsOfChain c l
+  pub some : is_some (find_among id n c.locks) ≡ true
+  pub here : find_id id n (waiters_at c l side) ≡ find_among id n c.locks
 
 -- x, who waits for the lock l at a side and is the first with the id n, has left
 pub record Leaves {T : Type 0} (id : T → ℕ) (n : ℕ) (old : Blocked T) (l : ℕ) (side : Side) (x : T) (new : Blocked T) : Type 0 where

@@ -1,8 +1,8 @@
 //! The chain of turnstiles: its number, the turnstile that serves each lock, and the free ones.
 ghost use Rattle.std.specs.Prelude.{◌≡◌, ◌<◌, ◌^◌, [], ◌∷◌, length, slice_get, drop, IfSome, MatchOption, None, true};
 ghost use Rattle.std.specs.Option.{option_copied, option_map};
-ghost use Rattle.sd_boxq.specs.Order.{precedes, insert_ranked, IsRanked, IsBest};
-ghost use Rattle.sd_turn.specs.Waiters.{nobody, IsIdle, IsOfChain, of_lock, waiters_at, with_waiters, waiter_count, highest_waiter, find_among, Leaves, AreRanked, AreApart};
+ghost use Rattle.sd_boxq.specs.Order.{precedes, insert_ranked, find_id, drop_id, IsRanked, IsBest};
+ghost use Rattle.sd_turn.specs.Waiters.{nobody, IsIdle, IsOfChain, of_lock, waiters_at, with_waiters, waiter_count, highest_waiter, without_id, find_among, Leaves, WaitsThere, AreRanked, AreApart};
 ghost use Rattle.sd_turn.specs.Serving.{all_served, IsHolder};
 
 use crate::rack::Rack;
@@ -100,6 +100,18 @@ impl<T: Ranked> TurnChain<T> {
         }
     }
 
+    /// The greatest rank of the waiters of the lock once the first one with this id has left each side. `None` exactly
+    /// where nobody else waits.
+    pub fn greatest_but(&self, l: LockId, id: u32) -> Option<u8>
+        requires { IsOfChain self.now l.0 }
+        ensures { result ≡ highest_waiter T.rank (without_id T.id id (of_lock self.now l.0)) }
+    {
+        match self.locks.at(l.0 as usize / 64) {
+            None => None,
+            Some(turnstile) => turnstile.greatest_but(id),
+        }
+    }
+
     /// The best waiter at a side of the lock: the greatest rank, and of equal ranks the smallest key. `None`
     /// exactly where there is none.
     pub fn best(&self, l: LockId, side: Side) -> Option<&T>
@@ -137,6 +149,61 @@ impl<T: Ranked> TurnChain<T> {
                     Some((n, own))
                 }
             },
+        }
+    }
+
+    /// Takes the first waiter with this id at a side of the lock, with a turnstile whose queues are empty. `None`
+    /// exactly where there is none.
+    pub fn take_at(&mut self, l: LockId, side: Side, id: u32) -> Option<(Node<T>, Turnstile<T>)>
+        requires { IsOfChain self.old l.0 }
+        ensures taken { option_map (λ r. r.0) result ≡ find_id T.id id (waiters_at self.old l.0 side) }
+        ensures rest { self.new ≡ with_waiters self.old l.0 side (drop_id T.id id (waiters_at self.old l.0 side)) }
+        ensures turnstile { IfSome result (λ r. IsIdle r.1) }
+    {
+        let slot = self.locks.at_mut(l.0 as usize / 64);
+        match slot.take() {
+            None => None,
+            Some(mut turnstile) => match turnstile.take_first(side, id) {
+                None => {
+                    fill(slot, Some(turnstile));
+                    None
+                }
+                Some(n) => {
+                    let (serving, own) = released(turnstile, &mut self.free);
+                    fill(slot, serving);
+                    Some((n, own))
+                }
+            },
+        }
+    }
+
+    /// The first waiter with this id at a side of the lock. `None` exactly where there is none.
+    pub fn find_at(&self, l: LockId, side: Side, id: u32) -> Option<&T>
+        requires { IsOfChain self.now l.0 }
+        ensures { option_copied result ≡ find_id T.id id (waiters_at self.now l.0 side) }
+    {
+        match self.locks.at(l.0 as usize / 64) {
+            None => None,
+            Some(turnstile) => turnstile.find(side, id),
+        }
+    }
+
+    /// The number of the chain, below 64.
+    pub fn number(&self) -> u8
+        ensures value { result ≡ self.now.chain }
+        ensures below { result < 64 }
+    {
+        self.chain
+    }
+
+    /// The lock and the side at which the first waiter with this id waits, by lock, and of one lock the writers before
+    /// the readers. `None` exactly where there is none.
+    pub fn place_of(&self, id: u32) -> Option<(LockId, Side)>
+        ensures { MatchOption result (find_among T.id id self.now.locks ≡ None) (λ r. WaitsThere T.id id self.now r.0.0 r.1) }
+    {
+        match holder_of(&self.locks, id) {
+            None => None,
+            Some((index, side)) => Some((LockId(64 * index as u16 + self.chain as u16), side)),
         }
     }
 

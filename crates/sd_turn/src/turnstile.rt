@@ -2,7 +2,7 @@
 ghost use Rattle.std.specs.Prelude.{◌≡◌, ◌<◌, ◌^◌, ◌↔◌, IfOk, IsTrue, MatchOption, [], ◌∷◌, slice_get, drop, is_some, true, None};
 ghost use Rattle.std.specs.Option.{option_copied, option_map};
 ghost use Rattle.sd_boxq.specs.Order.{insert_ranked, find_id, drop_id, IsRanked};
-ghost use Rattle.sd_turn.specs.Waiters.{nobody, IsIdle, on_side, with_side, waiter_count, find_in, higher, highest_waiter};
+ghost use Rattle.sd_turn.specs.Waiters.{nobody, IsIdle, on_side, with_side, waiter_count, find_in, higher, highest_waiter, without_id};
 
 use sd_boxq::{BoxQueue, Node, Ranked};
 use sd_types::Side;
@@ -98,6 +98,32 @@ impl<T: Ranked> Sides<T> {
         match side {
             Side::Writer => self.writers.find(id),
             Side::Reader => self.readers.find(id),
+        }
+    }
+
+    fn first_but(&self, side: Side, id: u32) -> Option<&T>
+        ensures { option_copied result ≡ slice_get (drop_id T.id id (on_side self.now side)) 0 }
+    {
+        match side {
+            Side::Writer => first_but(&self.writers, id),
+            Side::Reader => first_but(&self.readers, id),
+        }
+    }
+}
+
+// The first item once the first one with this id has left.
+fn first_but<T: Ranked>(queue: &BoxQueue<T>, id: u32) -> Option<&T>
+    ensures { option_copied result ≡ slice_get (drop_id T.id id queue.now) 0 }
+{
+    let mut items = queue.items();
+    match items.next() {
+        None => None,
+        Some(first) => {
+            if first.id() == id {
+                items.next()
+            } else {
+                Some(first)
+            }
         }
     }
 }
@@ -207,6 +233,27 @@ impl<T: Ranked> Turnstile<T> {
         ensures { result ≡ option_map T.rank (slice_get (on_side self.now side) 0) }
     {
         match self.first(side) {
+            None => None,
+            Some(item) => Some(item.rank()),
+        }
+    }
+
+    /// The greatest rank of the waiters once the first one with this id has left each side.
+    pub(crate) fn greatest_but(&self, id: u32) -> Option<u8>
+        requires writers { IsRanked T.rank T.key self.now.writers }
+        requires readers { IsRanked T.rank T.key self.now.readers }
+        ensures { result ≡ highest_waiter T.rank (without_id T.id id self.now) }
+    {
+        higher(
+            self.rank_of_first_but(Side::Writer, id),
+            self.rank_of_first_but(Side::Reader, id),
+        )
+    }
+
+    fn rank_of_first_but(&self, side: Side, id: u32) -> Option<u8>
+        ensures { result ≡ option_map T.rank (slice_get (drop_id T.id id (on_side self.now side)) 0) }
+    {
+        match self.sides.item().first_but(side, id) {
             None => None,
             Some(item) => Some(item.rank()),
         }

@@ -1,0 +1,13 @@
+pub mod ActLemmas
+pub mod FoundLemmas
+pub mod FrameLemmas
+pub mod GoLemmas
+pub mod HasLemmas
+pub mod HomeLemmas
+pub mod MoveLemmas
+pub mod PartLemmas
+pub mod ShownLemmas
+pub mod SlotLemmas
+pub mod StepLemmas
+pub mod TellLemmas
+pub mod WalkLemmas

@@ -1,0 +1,39 @@
+-- What becomes of a thread on its way from list to list.
+-- Source: this project's own; see `sd_full`'s Changes.
+use Rattle.std.specs.Prelude.{ℕ, ⊤}
+use Rattle.sd_types.specs.declared.numbers.CpuId.{CpuId}
+use Rattle.sd_types.specs.declared.numbers.ThreadId.{ThreadId}
+use Rattle.sd_types.specs.declared.events.Put.{Put}
+use Rattle.sd_types.specs.declared.events.Put.TheVariants.{Cpu, RealTime}
+use Rattle.sd_types.specs.declared.works.Work.{Work}
+use Rattle.sd_machine.specs.declared.states.Place.TheVariants.{Running}
+use Rattle.sd_full.specs.Bodies.{arrived, departed}
+use Rattle.sd_full.specs.Threads.{set_of}
+use Rattle.sd_store.specs.declared.spots.Destination.{Destination}
+use Rattle.sd_store.specs.declared.spots.Destination.TheVariants as to
+use Rattle.sd_record.specs.Records.{ThreadRecord}
+use Rattle.sd_shown.specs.declared.list_id.ListId.{ListId}
+use Rattle.sd_shown.specs.declared.list_id.ListId.TheVariants.{Ends, Naps, Queues, Sleeps, Urgent, Waits}
+use Rattle.sd_shown.specs.Standing.{record_key}
+use Rattle.sd_homes.specs.Homes.{with_body_of, with_key}
+use Rattle.sd_hand.specs.declared.steps.Step.{Step}
+use Rattle.sd_hand.specs.declared.steps.Step.TheVariants.{Arrive, Depart, Move}
+
+abbrev pub stepped : Step → ThreadRecord → ThreadRecord
+stepped (Arrive c) r = with_key (record_key (Running c)) (with_body_of (arrived c r.body) r)
+stepped (Depart count place) r = with_key (record_key place) (with_body_of (departed count r.body) r)
+stepped (Move place) r = with_key (record_key place) r
+
+-- the list to which a thread goes that leaves processor c
+abbrev pub list_by : CpuId → Destination → ListId
+list_by c (to.Queue d end) = Queues d
+list_by c (to.RealTime p end) = Urgent p
+list_by c (to.Turnstile l side) = Waits l side
+list_by c (to.SleepQueue k) = Sleeps k
+list_by c (to.Nap due) = Naps c
+list_by c to.Nowhere = Ends c
+
+-- the list to which a thread goes that is put
+abbrev pub list_put : Work → ThreadId → Put → ListId
+list_put w t (Cpu x) = Queues x
+list_put w t (RealTime x) = Urgent (set_of w t.0)

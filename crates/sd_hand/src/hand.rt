@@ -1,0 +1,235 @@
+//! The hand: the homes that a processor holds.
+
+ghost use Rattle.std.specs.Prelude.{◌≡◌, ◌<◌, ◌%◌, [], ◌∷◌, None, Some, false, length, slice_get, IfSome, MatchOption, MatchResult};
+ghost use Rattle.std.specs.Option.{option_copied};
+ghost use Rattle.sd_types.specs.declared.numbers.HomeId.TheVariants.{Chain, Cpu, RealTime, Sleepers};
+ghost use Rattle.sd_full.specs.Changes.{with_cpu_in, without_cpu};
+ghost use Rattle.sd_shown.specs.Standing.{home_at};
+ghost use Rattle.sd_homes.specs.declared.home.Home.{Home as HomeOf};
+ghost use Rattle.sd_homes.specs.Families.{IsWhole, counting, locking, open_in, opening, putting, taken_from, taking, viewing};
+ghost use Rattle.sd_hand.specs.Hands.{Asks, HoldsMore, IsNoSlot, IsSlot, Seeks, StandsIn, StandsInSlot, edit, has_thread, held, is_at, slot_has};
+
+use sd_homes::{Home, Traveller, home_at, same_home};
+use sd_machine::LockState;
+use sd_record::Record;
+use sd_shown::ListId;
+use sd_store::{CpuView, Part};
+use sd_types::{ChanId, CpuId, HomeId, LockId, SetId, ThreadId, home_of_chan, home_of_lock};
+
+/// Up to four homes.
+#[derive(Drop)]
+pub struct Hand {
+    pub slots: [Option<Home>; 4],
+}
+
+fn is_at(k: HomeId, slot: &Option<Home>) -> bool
+    ensures { result ≡ is_at k slot.now }
+{
+    match slot {
+        None => false,
+        Some(home) => same_home(k, home.id()),
+    }
+}
+
+/// The first slot in which a home with this number lies.
+fn slot_in(slots: &[Option<Home>; 4], k: HomeId) -> Option<usize>
+    ensures inside { IfSome result (λ i. i < 4) }
+    ensures slot { MatchOption result (IsNoSlot k slots.now) (IsSlot k slots.now) }
+{
+    for i in 0..4 {
+        if is_at(k, &slots[i]) {
+            return Some(i);
+        }
+    }
+    None
+}
+
+/// The list of a home in which the thread stands.
+fn stands_in(slot: &Option<Home>, t: ThreadId) -> Option<ListId>
+    ensures { MatchOption result (slot_has t.0 slot.now ≡ false) (StandsInSlot t.0 slot.now) }
+{
+    match slot {
+        None => None,
+        Some(home) => home.where_is(t),
+    }
+}
+
+/// The first list of these homes in which the thread stands.
+fn where_in(slots: &[Option<Home>; 4], t: ThreadId) -> Option<ListId>
+    ensures { MatchOption result (has_thread t.0 slots.now ≡ false) (StandsIn t.0 slots.now) }
+{
+    for i in 0..4 {
+        if let Some(at) = stands_in(&slots[i], t) {
+            return Some(at);
+        }
+    }
+    None
+}
+
+/// The first slot in which no home lies.
+fn free_in(slots: &[Option<Home>; 4]) -> Option<usize>
+    ensures { IfSome result (λ i. (i < 4) × (slice_get slots.now i ≡ Some None)) }
+{
+    for i in 0..4 {
+        if slots[i].is_none() {
+            return Some(i);
+        }
+    }
+    None
+}
+
+impl Hand {
+    /// A hand that holds nothing.
+    pub fn new() -> Hand
+        ensures { result.slots ≡ None ∷ None ∷ None ∷ None ∷ [] }
+    {
+        Hand {
+            slots: [None, None, None, None],
+        }
+    }
+
+    /// Takes a home, where none with its number is held and three at most are.
+    pub fn hold(&mut self, home: Home) -> Result<(), Home>
+        ensures { MatchResult result (λ _. HoldsMore self.old.slots home self.new.slots) (λ h. (h ≡ home) × (self.new.slots ≡ self.old.slots)) }
+    {
+        match self.slot_of(home.id()) {
+            Some(_) => Err(home),
+            None => match free_in(&self.slots) {
+                None => Err(home),
+                Some(i) => {
+                    self.slots[i] = Some(home);
+                    Ok(())
+                }
+            },
+        }
+    }
+
+    /// The slot in which the home with this number lies.
+    fn slot_of(&self, k: HomeId) -> Option<usize>
+        ensures inside { IfSome result (λ i. i < 4) }
+        ensures slot { MatchOption result (IsNoSlot k self.now.slots) (IsSlot k self.now.slots) }
+    {
+        slot_in(&self.slots, k)
+    }
+
+    /// The home with this number, which is lacking where it is not held.
+    pub fn home(&self, k: HomeId) -> Result<&Home, Part>
+        ensures { Asks k self.now.slots result (λ h. h.now) (λ h. h) }
+    {
+        match self.slot_of(k) {
+            None => Err(Part::Home(k)),
+            Some(i) => match &self.slots[i] {
+                None => Err(Part::Home(k)),
+                Some(home) => Ok(home),
+            },
+        }
+    }
+
+    /// The list in which the thread stands, which is lacking where no held home has it.
+    pub fn where_is(&self, t: ThreadId) -> Result<ListId, Part>
+        ensures { Seeks t self.now.slots result (StandsIn t.0 self.now.slots) }
+    {
+        match where_in(&self.slots, t) {
+            None => Err(Part::Thread(t)),
+            Some(at) => Ok(at),
+        }
+    }
+
+    /// The thread, where it stands there.
+    pub fn find(&self, t: ThreadId, at: ListId) -> Option<&Record>
+        ensures { option_copied result ≡ taken_from t.0 at (held (home_at at) self.now.slots) }
+    {
+        match self.slot_of(home_at(at)) {
+            None => None,
+            Some(i) => match &self.slots[i] {
+                None => None,
+                Some(home) => home.find(t, at),
+            },
+        }
+    }
+
+    /// Takes the thread from the list of those who stand there.
+    pub fn take(&mut self, t: ThreadId, from: ListId) -> Option<Traveller>
+        ensures taken { result ≡ taken_from t.0 from (held (home_at from) self.old.slots) }
+        ensures rest { self.new.slots ≡ edit (home_at from) (taking t.0 from) self.old.slots }
+    {
+        match self.slot_of(home_at(from)) {
+            None => None,
+            Some(i) => match &mut self.slots[i] {
+                None => None,
+                Some(home) => home.take(t, from),
+            },
+        }
+    }
+
+    /// Puts the thread into the list of those who stand there. Where the home of that list is not held, the thread is
+    /// dropped.
+    pub fn put(&mut self, t: Traveller, at: ListId)
+        ensures rest { self.new.slots ≡ edit (home_at at) (putting t at) self.old.slots }
+        ensures whole { (h : HomeOf) → held (home_at at) self.old.slots ≡ Some h → IsWhole h }
+    {
+        if let Some(i) = self.slot_of(home_at(at)) {
+            if let Some(home) = &mut self.slots[i] {
+                home.is_whole();
+                home.put(t, at);
+            }
+        }
+    }
+
+    /// Changes the marks, the set and the bindings of processor `c`.
+    pub fn set_view(&mut self, c: CpuId, view: CpuView)
+        ensures { self.new.slots ≡ edit (Cpu c) (viewing view) self.old.slots }
+    {
+        if let Some(i) = self.slot_of(HomeId::Cpu(c)) {
+            if let Some(home) = &mut self.slots[i] {
+                home.set_view(view);
+            }
+        }
+    }
+
+    /// Changes a lock.
+    pub fn set_lock(&mut self, l: LockId, x: LockState)
+        ensures { self.new.slots ≡ edit (Chain (l.0 % 64)) (locking l.0 x) self.old.slots }
+    {
+        if let Some(i) = self.slot_of(home_of_lock(l)) {
+            if let Some(home) = &mut self.slots[i] {
+                home.set_lock(l, x);
+            }
+        }
+    }
+
+    /// Changes the count of a channel.
+    pub fn set_tokens(&mut self, k: ChanId, n: u32)
+        ensures { self.new.slots ≡ edit (Sleepers (k.0 % 64)) (counting k.0 n) self.old.slots }
+    {
+        if let Some(i) = self.slot_of(home_of_chan(k)) {
+            if let Some(home) = &mut self.slots[i] {
+                home.set_tokens(k, n);
+            }
+        }
+    }
+
+    /// Processor `c` is one of the open ones of set `p`, where there is room for it.
+    pub fn open(&mut self, p: SetId, c: CpuId)
+        ensures { (h : HomeOf) → held (RealTime p) self.old.slots ≡ Some h → length (open_in h) < 64
+            → self.new.slots ≡ edit (RealTime p) (opening (with_cpu_in c (open_in h))) self.old.slots }
+    {
+        if let Some(i) = self.slot_of(HomeId::RealTime(p)) {
+            if let Some(home) = &mut self.slots[i] {
+                home.open(c);
+            }
+        }
+    }
+
+    /// Processor `c` is no more one of the open ones of set `p`.
+    pub fn close(&mut self, p: SetId, c: CpuId)
+        ensures { (h : HomeOf) → held (RealTime p) self.old.slots ≡ Some h
+            → self.new.slots ≡ edit (RealTime p) (opening (without_cpu c (open_in h))) self.old.slots }
+    {
+        if let Some(i) = self.slot_of(HomeId::RealTime(p)) {
+            if let Some(home) = &mut self.slots[i] {
+                home.close(c);
+            }
+        }
+    }
+}

@@ -1,0 +1,19 @@
+//! The hand of a processor: the homes that it holds, up to four, as a store of the state. What it tells and what it changes
+//! is so in every state for whose parts its homes stand.
+#![tactic(auto)]
+
+mod acting;
+mod asks;
+mod changes;
+mod frames;
+mod hand;
+mod look;
+mod moves;
+mod sets;
+mod steps;
+mod walks;
+
+pub use acting::{Acting, Actor};
+pub use frames::{locks_keep_other_homes, processors_keep_other_homes, threads_keep_other_homes};
+pub use hand::Hand;
+pub use steps::Step;

@@ -1,0 +1,191 @@
+//! Looking at a state by a hand.
+
+ghost use Rattle.std.specs.Prelude.{◌≡◌, option_copied};
+ghost use Rattle.sd_store.specs.Keyless.{task_of};
+ghost use Rattle.sd_hand.specs.Keys.{is_back_at, key_or_zero, spot_at};
+
+use crate::acting::Acting;
+use sd_machine::LockState;
+use sd_record::Record;
+use sd_shown::ListId;
+use sd_store::{CpuView, Look, Part, Spot, Task};
+use sd_types::{ChanId, CpuId, Duty, HomeId, LockId, SetId, Side, ThreadBody, ThreadId};
+
+/// Where those of a list stand.
+fn spot_at(at: ListId) -> Spot
+    ensures { result ≡ spot_at at }
+{
+    match at {
+        ListId::Runs(c) => Spot::Running(c),
+        ListId::Queues(c) => Spot::Queued(c),
+        ListId::Urgent(p) => Spot::RealTime(p),
+        ListId::Waits(l, side) => Spot::Waiting(l, side),
+        ListId::Sleeps(k) => Spot::Asleep(k),
+        ListId::Naps(c) => Spot::Napping(c),
+        ListId::Ends(_) => Spot::Ended,
+    }
+}
+
+/// A duty without its key.
+fn task_of(duty: Duty) -> Task
+    ensures { result ≡ task_of duty }
+{
+    match duty {
+        Duty::Nothing => Task::Nothing,
+        Duty::Walk { lock, seek, .. } => Task::Walk { lock, seek },
+        Duty::WakeMutex(l) => Task::WakeMutex(l),
+        Duty::GrantWriter(l) => Task::GrantWriter(l),
+        Duty::GrantReaders(l) => Task::GrantReaders(l),
+        Duty::Rouse(k, _) => Task::Rouse(k),
+        Duty::Age(u) => Task::Age(u),
+    }
+}
+
+/// The walk has come back to the thread that it seeks, at owner `o`, which was found in this list.
+fn is_back_at(duty: Duty, o: ThreadId, at: ListId, found: Option<&Record>) -> bool
+    ensures { result ≡ is_back_at duty o at (key_or_zero (option_copied found.entry)) }
+{
+    match (duty, at, found) {
+        (Duty::Walk { seek, key, .. }, ListId::Waits(_, _), Some(owner)) => {
+            seek.0 == o.0 && key == owner.key
+        }
+        (Duty::Walk { seek, key, .. }, ListId::Waits(_, _), None) => seek.0 == o.0 && key == 0,
+        _ => false,
+    }
+}
+
+impl Look for Acting {
+    ghost use Rattle.sd_hand.specs.Acting.{IsShown, has_part, the_part};
+    ghost use Rattle.sd_hand.specs.Later.{shown_later};
+
+    type Lack = Part;
+
+    ghost part = { the_part };
+
+    ghost shows = { IsShown };
+
+    ghost has = { has_part };
+
+    ghost later = { shown_later };
+
+    fn runner(&self, c: CpuId) -> Result<Option<ThreadId>, Part> {
+        self.hand.first(ListId::Runs(c))
+    }
+
+    fn best_queued(&self, c: CpuId) -> Result<Option<ThreadId>, Part> {
+        self.hand.first(ListId::Queues(c))
+    }
+
+    fn best_unbound(&self, c: CpuId) -> Result<Option<ThreadId>, Part> {
+        self.hand.first_unbound(c)
+    }
+
+    fn next_to_age(&self, c: CpuId, u: ThreadId) -> Result<Option<ThreadId>, Part> {
+        self.hand.next_to_age(c, u)
+    }
+
+    fn best_waiter(&self, l: LockId, side: Side) -> Result<Option<ThreadId>, Part> {
+        self.hand.first(ListId::Waits(l, side))
+    }
+
+    fn best_sleeper(&self, k: ChanId) -> Result<Option<ThreadId>, Part> {
+        self.hand.first(ListId::Sleeps(k))
+    }
+
+    fn has_waiters(&self, l: LockId) -> Result<bool, Part> {
+        match self.hand.greatest(l) {
+            Err(q) => Err(q),
+            Ok(greatest) => Ok(greatest.is_some()),
+        }
+    }
+
+    fn greatest_waiting(&self, l: LockId) -> Result<Option<u8>, Part> {
+        self.hand.greatest(l)
+    }
+
+    fn others_waiting(&self, l: LockId, u: ThreadId) -> Result<Option<u8>, Part> {
+        self.hand.greatest_but(l, u)
+    }
+
+    fn cpu(&self, c: CpuId) -> Result<CpuView, Part> {
+        match self.hand.view(c) {
+            Err(q) => Err(q),
+            Ok(view) => Ok(view),
+        }
+    }
+
+    fn lock(&self, l: LockId) -> Result<LockState, Part> {
+        self.hand.lock(l)
+    }
+
+    fn tokens(&self, k: ChanId) -> Result<u32, Part> {
+        self.hand.tokens(k)
+    }
+
+    fn open_cpus(&self, p: SetId) -> Result<&[CpuId], Part> {
+        match self.hand.open_cpus(p) {
+            Err(q) => Err(q),
+            Ok(cpus) => Ok(cpus),
+        }
+    }
+
+    fn first_due(&self, c: CpuId) -> Result<Option<ThreadId>, Part> {
+        if c.0 != self.actor.cpu.0 {
+            return Err(Part::Actor(c));
+        }
+        self.hand.first_due(c, self.actor.count)
+    }
+
+    fn next_to_rouse(&self, c: CpuId, k: ChanId) -> Result<Option<ThreadId>, Part> {
+        if c.0 != self.actor.cpu.0 {
+            return Err(Part::Actor(c));
+        }
+        self.hand.first_roused(k, self.actor.duty)
+    }
+
+    fn duty(&self, c: CpuId) -> Result<Task, Part> {
+        if c.0 != self.actor.cpu.0 {
+            return Err(Part::Actor(c));
+        }
+        Ok(task_of(self.actor.duty))
+    }
+
+    fn ticks(&self, c: CpuId) -> Result<u32, Part> {
+        if c.0 != self.actor.cpu.0 {
+            return Err(Part::Actor(c));
+        }
+        Ok(self.actor.count)
+    }
+
+    fn best_ready(&self, c: CpuId) -> Result<Option<ThreadId>, Part> {
+        let set = match self.hand.view(c) {
+            Err(q) => return Err(q),
+            Ok(view) => view.set,
+        };
+        self.hand.better(c, set)
+    }
+
+    fn spot(&self, t: ThreadId) -> Result<Spot, Part> {
+        match self.hand.where_is(t) {
+            Err(q) => Err(q),
+            Ok(at) => Ok(spot_at(at)),
+        }
+    }
+
+    fn is_back(&self, c: CpuId, o: ThreadId) -> Result<bool, Part> {
+        if c.0 != self.actor.cpu.0 {
+            return Err(Part::Actor(c));
+        }
+        match self.hand.where_is(o) {
+            Err(q) => Err(q),
+            Ok(at) => Ok(is_back_at(self.actor.duty, o, at, self.hand.find(o, at))),
+        }
+    }
+
+    fn body(&self, t: ThreadId) -> Result<Option<&ThreadBody>, Part> {
+        match self.hand.where_is(t) {
+            Err(q) => Err(q),
+            Ok(at) => Ok(self.hand.body(t, at)),
+        }
+    }
+}

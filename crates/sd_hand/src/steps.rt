@@ -1,0 +1,184 @@
+//! How a thread goes from list to list, and changes on the way or where it stands.
+
+ghost use Rattle.std.specs.Prelude.{◌≡◌, ℕ, ◌+◌, ◌<◌, ◌^◌, Some, is_some, true};
+ghost use Rattle.sd_types.specs.declared.numbers.HomeId.{HomeId as HomeIdOf};
+ghost use Rattle.sd_full.specs.Changes.{back_key, key_at, place_put};
+ghost use Rattle.sd_full.specs.Threads.{set_of};
+ghost use Rattle.sd_record.specs.Records.{ThreadRecord};
+ghost use Rattle.sd_store.specs.Bodies.{changed};
+ghost use Rattle.sd_store.specs.Keyless.{place_by};
+ghost use Rattle.sd_shown.specs.Standing.{home_at};
+ghost use Rattle.sd_homes.specs.Bodies.{CanChangeThread};
+ghost use Rattle.sd_homes.specs.Families.{putting, taken_from, taking};
+ghost use Rattle.sd_homes.specs.Homes.{with_body_of};
+ghost use Rattle.sd_hand.specs.Hands.{AreApart, HasRoom, IsHeld, edit, has_thread, held};
+ghost use Rattle.sd_hand.specs.Shown.{IsListThere};
+ghost use Rattle.sd_hand.specs.Steps.{list_by, list_put, stepped};
+
+use crate::hand::Hand;
+use sd_homes::Traveller;
+use sd_machine::Place;
+use sd_shown::ListId;
+use sd_store::{BodyChange, Destination};
+use sd_types::{CpuId, End, Put, SetId, ThreadId, Work};
+
+/// What becomes of a thread on its way: it runs on a processor, leaves one that has counted so many ticks for a place, or
+/// goes to a place.
+#[derive(Clone, Copy)]
+pub enum Step {
+    Arrive(CpuId),
+    Depart(u32, Place),
+    Move(Place),
+}
+
+fn take_step(traveller: &mut Traveller, step: Step)
+    ensures { traveller.new ≡ stepped step traveller.old }
+{
+    match step {
+        Step::Arrive(c) => {
+            traveller.arrive(c);
+            traveller.set_place(Place::Running(c));
+        }
+        Step::Depart(count, place) => {
+            traveller.depart(count);
+            traveller.set_place(place);
+        }
+        Step::Move(place) => traveller.set_place(place),
+    }
+}
+
+impl Hand {
+    /// Thread `t`, which stands there, goes to another list, and changes on the way.
+    pub(crate) fn relocate(&mut self, t: ThreadId, from: ListId, step: Step, to: ListId)
+        ensures moved { (r : ThreadRecord) → Some r ≡ taken_from t.0 from (held (home_at from) self.old.slots)
+            → self.new.slots ≡ edit (home_at to) (putting (stepped step r) to) (edit (home_at from) (taking t.0 from) self.old.slots) }
+        ensures held { (k : HomeIdOf) → is_some (held k self.new.slots) ≡ is_some (held k self.old.slots) }
+        ensures apart { AreApart self.old.slots → AreApart self.new.slots }
+        ensures has { IsHeld (home_at to) self.old.slots → IsListThere to → HasRoom t.0 from to self.old.slots
+            → (u : ℕ) → has_thread u self.new.slots ≡ has_thread u self.old.slots }
+    {
+        if let Some(mut traveller) = self.take(t, from) {
+            take_step(&mut traveller, step);
+            self.put(traveller, to);
+        }
+    }
+
+    /// The body of thread `t`, which stands there, changes, where it can be changed so.
+    pub(crate) fn change_at(&mut self, work: &Work, t: ThreadId, at: ListId, change: BodyChange)
+        ensures moved { (r : ThreadRecord) → Some r ≡ taken_from t.0 at (held (home_at at) self.old.slots) → CanChangeThread work.now t.0 change r.body
+            → self.new.slots ≡ edit (home_at at) (putting (with_body_of (changed work.now t.0 change r.body) r) at) (edit (home_at at) (taking t.0 at) self.old.slots) }
+        ensures held { (k : HomeIdOf) → is_some (held k self.new.slots) ≡ is_some (held k self.old.slots) }
+        ensures apart { AreApart self.old.slots → AreApart self.new.slots }
+        ensures has { (u : ℕ) → has_thread u self.new.slots ≡ has_thread u self.old.slots }
+    {
+        if let Some(mut traveller) = self.take(t, at) {
+            traveller.change(work, t, change);
+            self.put(traveller, at);
+        }
+    }
+
+    /// Thread `t`, which stands there, is bound to a processor, or to none.
+    pub(crate) fn bind_at(&mut self, t: ThreadId, at: ListId, bound: Option<CpuId>)
+        ensures moved { (r : ThreadRecord) → Some r ≡ taken_from t.0 at (held (home_at at) self.old.slots)
+            → self.new.slots ≡ edit (home_at at) (putting (with_body_of (record r.body { bound = bound }) r) at) (edit (home_at at) (taking t.0 at) self.old.slots) }
+        ensures held { (k : HomeIdOf) → is_some (held k self.new.slots) ≡ is_some (held k self.old.slots) }
+        ensures apart { AreApart self.old.slots → AreApart self.new.slots }
+        ensures has { (u : ℕ) → has_thread u self.new.slots ≡ has_thread u self.old.slots }
+    {
+        if let Some(mut traveller) = self.take(t, at) {
+            traveller.set_bound(bound);
+            self.put(traveller, at);
+        }
+    }
+}
+
+/// The key of a thread that entry `number` puts at the back of a queue.
+pub(crate) fn back_key(number: u64) -> i64
+    requires { number < 2 ^ 62 }
+    ensures { result ≡ back_key number }
+{
+    4096 + number as i64
+}
+
+/// The key of a thread that entry `number` puts at an end of a queue.
+fn key_at(number: u64, end: End) -> i64
+    requires { number < 2 ^ 62 }
+    ensures { result ≡ key_at number end }
+{
+    match end {
+        End::Back => back_key(number),
+        End::Front => -1 - number as i64,
+    }
+}
+
+/// The place to which a thread goes by entry `number` when it leaves processor `c`.
+pub(crate) fn place_by(number: u64, c: CpuId, to: Destination) -> Place
+    requires { number < 2 ^ 62 }
+    ensures { result ≡ place_by number c to }
+{
+    match to {
+        Destination::Queue(d, end) => Place::Queued(d, key_at(number, end)),
+        Destination::RealTime(p, end) => Place::RealTime(p, key_at(number, end)),
+        Destination::Turnstile(l, side) => Place::Waiting(l, side, back_key(number)),
+        Destination::SleepQueue(k) => Place::Asleep(k, back_key(number)),
+        Destination::Nap(due) => Place::Napping(c, due),
+        Destination::Nowhere => Place::Ended,
+    }
+}
+
+/// The list to which a thread goes when it leaves processor `c`.
+pub(crate) fn list_by(c: CpuId, to: Destination) -> ListId
+    ensures { result ≡ list_by c to }
+{
+    match to {
+        Destination::Queue(d, _) => ListId::Queues(d),
+        Destination::RealTime(p, _) => ListId::Urgent(p),
+        Destination::Turnstile(l, side) => ListId::Waits(l, side),
+        Destination::SleepQueue(k) => ListId::Sleeps(k),
+        Destination::Nap(_) => ListId::Naps(c),
+        Destination::Nowhere => ListId::Ends(c),
+    }
+}
+
+fn set_of(work: &Work, t: ThreadId) -> SetId
+    ensures { result ≡ set_of work.now t.0 }
+{
+    match work.threads.items().get(t.0 as usize) {
+        Some(decl) => decl.set,
+        None => SetId(0),
+    }
+}
+
+/// The place to which entry `number` puts a thread.
+pub(crate) fn place_put(work: &Work, number: u64, t: ThreadId, at: Put) -> Place
+    requires { number < 2 ^ 62 }
+    ensures { result ≡ place_put work.now number t.0 at }
+{
+    let key = back_key(number);
+    match at {
+        Put::Cpu(x) => Place::Queued(x, key),
+        Put::RealTime(_) => Place::RealTime(set_of(work, t), key),
+    }
+}
+
+/// The list to which a thread is put.
+pub(crate) fn list_put(work: &Work, t: ThreadId, at: Put) -> ListId
+    ensures { result ≡ list_put work.now t at }
+{
+    match at {
+        Put::Cpu(x) => ListId::Queues(x),
+        Put::RealTime(_) => ListId::Urgent(set_of(work, t)),
+    }
+}
+
+/// A lock or a channel of a chain has a number below 256.
+pub(crate) fn is_there(at: ListId) -> bool
+    ensures yes { result ≡ true → IsListThere at }
+    ensures no { IsListThere at → result ≡ true }
+{
+    match at {
+        ListId::Waits(l, _) => l.0 < 256,
+        ListId::Sleeps(k) => k.0 < 256,
+        _ => true,
+    }
+}

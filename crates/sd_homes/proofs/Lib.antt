@@ -1,0 +1,3 @@
+pub mod AgeLemmas
+pub mod Lengths
+pub mod WhereLemmas

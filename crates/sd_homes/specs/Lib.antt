@@ -1,0 +1,4 @@
+pub mod Bodies
+pub mod Families
+pub mod Homes
+pub mod Kinds

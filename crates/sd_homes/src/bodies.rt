@@ -1,0 +1,85 @@
+//! The changes of a thread that stays where it is.
+
+ghost use Rattle.std.specs.Prelude.{◌≡◌, ◌<◌, false, length, IfSome, IsTrue};
+ghost use Rattle.sd_types.specs.Scripts.{is_held};
+ghost use Rattle.sd_types.specs.Willed.{changed_number, with_lock, with_willed};
+ghost use Rattle.sd_store.specs.declared.changes.BodyChange.TheVariants.{FinishOp, RunTick};
+ghost use Rattle.sd_store.specs.Bodies.{changed};
+ghost use Rattle.sd_homes.specs.Bodies.{CanChangeThread};
+ghost use Rattle.sd_homes.specs.Homes.{with_body_of};
+
+use sd_flat::script_of;
+use sd_record::Record;
+use sd_store::BodyChange;
+use sd_types::{LockId, ThreadBody, ThreadId, Work};
+
+/// Whether the thread holds the lock.
+fn is_held(l: LockId, body: &ThreadBody) -> bool
+    ensures { result ≡ is_held l body.now.held.items }
+{
+    body.held.as_slice().iter().any(|m| l.0 == m.0)
+}
+
+/// A tick of a run operation, where the thread stands at an operation.
+fn run_tick(work: &Work, t: ThreadId, r: &mut Record)
+    ensures body { CanChangeThread work.now t.0 RunTick r.old.body → r.new ≡ with_body_of (changed work.now t.0 RunTick r.old.body) r.old }
+    ensures id { r.new.id ≡ r.old.id }
+{
+    let script = script_of(work, t);
+    if (r.body.op as usize) < script.len() {
+        sd_flat::ran(script, &mut r.body);
+    }
+}
+
+/// The operation is over, where the thread stands at one.
+fn finish_op(work: &Work, t: ThreadId, r: &mut Record)
+    ensures body { CanChangeThread work.now t.0 FinishOp r.old.body → r.new ≡ with_body_of (changed work.now t.0 FinishOp r.old.body) r.old }
+    ensures id { r.new.id ≡ r.old.id }
+{
+    let script = script_of(work, t);
+    if (r.body.op as usize) < script.len() {
+        sd_flat::op_over(script, &mut r.body);
+    }
+}
+
+/// Holds the lock, where it does not and has room.
+fn hold(l: LockId, r: &mut Record)
+    ensures body { length r.old.body.held.items < 8 → is_held l r.old.body.held.items ≡ false → r.new ≡ with_body_of (with_lock l r.old.body) r.old }
+    ensures id { r.new.id ≡ r.old.id }
+{
+    if r.body.held.len() < 8 && !is_held(l, &r.body) {
+        r.take_lock(l);
+    }
+}
+
+/// Inherits the priority through the lock, where it holds that and the priority is one, or inherits none.
+fn inherit(l: LockId, number: Option<u8>, r: &mut Record)
+    ensures body { IsTrue (is_held l r.old.body.held.items) → IfSome number (λ n. n < 160) → r.new ≡ with_body_of (with_willed (changed_number l number r.old.body.willed.items) r.old.body) r.old }
+    ensures id { r.new.id ≡ r.old.id }
+{
+    match number {
+        None => r.waive(l),
+        Some(n) => {
+            if n < 160 && is_held(l, &r.body) {
+                r.inherit(l, n);
+            }
+        }
+    }
+}
+
+/// Changes the body of a thread, where that can be changed so.
+pub(crate) fn change(work: &Work, t: ThreadId, change: BodyChange, r: &mut Record)
+    ensures body { CanChangeThread work.now t.0 change r.old.body → r.new ≡ with_body_of (changed work.now t.0 change r.old.body) r.old }
+    ensures id { r.new.id ≡ r.old.id }
+{
+    match change {
+        BodyChange::RunTick => run_tick(work, t, r),
+        BodyChange::FinishOp => finish_op(work, t, r),
+        BodyChange::Class(class) => r.body.class = class,
+        BodyChange::SendBack => r.body.back = true,
+        BodyChange::Hold(l) => hold(l, r),
+        BodyChange::LetGo(l) => r.release_lock(l),
+        BodyChange::Inherit(l, number) => inherit(l, number, r),
+        BodyChange::Looped(looped) => r.body.looped = looped,
+    }
+}

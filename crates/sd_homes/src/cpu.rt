@@ -1,0 +1,313 @@
+//! The home of a processor.
+
+ghost use Rattle.std.specs.Prelude.{◌≡◌, ◌∷◌, false, Some, option_map, slice_get, IfOk, MatchOption};
+ghost use Rattle.std.specs.Option.{option_copied};
+ghost use Rattle.sd_boxq.specs.Order.{find_first, find_id, drop_id, insert_ranked, insert_keyed};
+ghost use Rattle.sd_shown.specs.Standing.{id_of, ages, earlier, is_unbound, key_in, least_to_age, rank_of};
+ghost use Rattle.sd_types.specs.declared.numbers.HomeId.TheVariants.{Cpu};
+ghost use Rattle.sd_homes.specs.Kinds.{IsListed, cpu_has, cpu_list};
+ghost use Rattle.sd_homes.specs.Homes.{OfCpu, empty_cpu, one, head_of, with_ended, with_nappers, with_queue, with_running, with_view};
+
+use crate::traveller::{Traveller, equipped};
+use sd_boxq::{BoxQueue, Node};
+use sd_dispq::DispQueue;
+use sd_record::Record;
+use sd_shown::ListId;
+use sd_store::CpuView;
+use sd_turn::Rack;
+use sd_types::{ClassState, CpuId, ThreadId};
+use std::alloc::{AllocError, Global};
+use std::marker::Model;
+
+/// A processor: its dispatch queue, the thread that runs on it, those that nap on it and those that ended and ran there
+/// last, with a spare turnstile for each; its marks, its set, the set that it is closing to and the number of threads that
+/// are bound to it.
+///
+/// Source: Solaris Internals (`cpu_t`, dispatch queues).
+#[derive(Drop)]
+pub struct CpuHome {
+    cpu: CpuId,
+    queue: DispQueue<Record>,
+    running: Option<Node<Record>>,
+    nappers: BoxQueue<Record>,
+    ended: BoxQueue<Record>,
+    view: CpuView,
+    rack: Rack<Record>,
+}
+
+impl Model for CpuHome {
+    ghost use Rattle.std.specs.Prelude.{◌≡◌, ◌+◌, length};
+    ghost use Rattle.sd_homes.specs.Homes.{OfCpu, one};
+
+    ghost Value = { OfCpu };
+
+    ghost view = { λ h. record { cpu = h.cpu; queue = h.queue; running = h.running; nappers = h.nappers; ended = h.ended; view = h.view } };
+
+    ghost invariant = { λ h. h.rack ≡ length h.queue + (length (one h.running) + (length h.nappers + length h.ended)) };
+}
+
+#[tactic(auto, using(crate::proofs::Lengths::length_dropped, crate::proofs::Lengths::length_inserted))]
+impl CpuHome {
+    /// The home of a processor with no thread.
+    pub fn new(alloc: Global, cpu: CpuId, view: CpuView) -> Result<CpuHome, AllocError>
+        ensures { IfOk result (λ h. h ≡ empty_cpu cpu view) }
+    {
+        Ok(CpuHome {
+            cpu,
+            queue: DispQueue::new(alloc)?,
+            running: None,
+            nappers: BoxQueue::new(),
+            ended: BoxQueue::new(),
+            view,
+            rack: Rack::new(),
+        })
+    }
+
+    pub fn cpu(&self) -> CpuId
+        ensures { result ≡ self.now.cpu }
+    {
+        self.cpu
+    }
+
+    /// The marks, the set and the bindings.
+    pub fn view(&self) -> CpuView
+        ensures { result ≡ self.now.view }
+    {
+        self.view
+    }
+
+    /// With other marks, set and bindings.
+    pub fn set_view(&mut self, view: CpuView)
+        ensures { self.new ≡ with_view view self.old }
+    {
+        self.view = view;
+    }
+
+    /// Takes the first thread with this number from the queue.
+    pub fn take_queued(&mut self, t: ThreadId) -> Option<Traveller>
+        ensures taken { result ≡ find_id id_of t.0 self.old.queue }
+        ensures rest { self.new ≡ with_queue (drop_id id_of t.0 self.old.queue) self.old }
+    {
+        match self.queue.take(u32::from(t.0)) {
+            None => None,
+            Some(node) => Some(equipped(node, &mut self.rack)),
+        }
+    }
+
+    /// Puts the thread on the queue, by its priority and key.
+    pub fn put_queued(&mut self, t: Traveller)
+        ensures { self.new ≡ with_queue (insert_ranked rank_of key_in t self.old.queue) self.old }
+    {
+        let _rank = t.effective();
+        let (node, own) = t.into_parts();
+        self.queue.put_ranked(node);
+        self.rack.put(own);
+    }
+
+    /// Takes the running thread, if it has this number.
+    pub fn take_running(&mut self, t: ThreadId) -> Option<Traveller>
+        ensures taken { result ≡ find_id id_of t.0 (one self.old.running) }
+        ensures rest { self.new ≡ with_running (head_of (drop_id id_of t.0 (one self.old.running))) self.old }
+    {
+        match self.running.take() {
+            None => None,
+            Some(node) => {
+                if node.item().id.0 == t.0 {
+                    Some(equipped(node, &mut self.rack))
+                } else {
+                    self.running = Some(node);
+                    None
+                }
+            }
+        }
+    }
+
+    /// The thread runs. Where another ran, that one is dropped.
+    pub fn put_running(&mut self, t: Traveller)
+        ensures { self.new ≡ with_running (Some t) self.old }
+    {
+        let (node, own) = t.into_parts();
+        match self.running.take() {
+            None => self.rack.put(own),
+            Some(_other) => {}
+        }
+        self.running = Some(node);
+    }
+
+    /// Takes the first napper with this number.
+    pub fn take_napper(&mut self, t: ThreadId) -> Option<Traveller>
+        ensures taken { result ≡ find_id id_of t.0 self.old.nappers }
+        ensures rest { self.new ≡ with_nappers (drop_id id_of t.0 self.old.nappers) self.old }
+    {
+        match self.nappers.take_first(u32::from(t.0)) {
+            None => None,
+            Some(node) => Some(equipped(node, &mut self.rack)),
+        }
+    }
+
+    /// Puts the thread among the nappers, by its key and number.
+    pub fn put_napper(&mut self, t: Traveller)
+        ensures { self.new ≡ with_nappers (insert_keyed key_in id_of t self.old.nappers) self.old }
+    {
+        let (node, own) = t.into_parts();
+        self.nappers.insert_keyed(node);
+        self.rack.put(own);
+    }
+
+    /// Takes the first ended thread with this number.
+    pub fn take_ended(&mut self, t: ThreadId) -> Option<Traveller>
+        ensures taken { result ≡ find_id id_of t.0 self.old.ended }
+        ensures rest { self.new ≡ with_ended (drop_id id_of t.0 self.old.ended) self.old }
+    {
+        match self.ended.take_first(u32::from(t.0)) {
+            None => None,
+            Some(node) => Some(equipped(node, &mut self.rack)),
+        }
+    }
+
+    /// Puts the thread among those that ended.
+    pub fn put_ended(&mut self, t: Traveller)
+        ensures { self.new ≡ with_ended (t ∷ self.old.ended) self.old }
+    {
+        let (node, own) = t.into_parts();
+        self.ended.push_front(node);
+        self.rack.put(own);
+    }
+
+    /// The running thread.
+    pub fn running(&self) -> Option<&Record>
+        ensures { option_copied result ≡ slice_get (one self.now.running) 0 }
+    {
+        match &self.running {
+            None => None,
+            Some(node) => Some(node.item()),
+        }
+    }
+
+    /// The running thread, if it has this number.
+    pub fn find_running(&self, t: ThreadId) -> Option<&Record>
+        ensures { option_copied result ≡ find_id id_of t.0 (one self.now.running) }
+    {
+        match &self.running {
+            None => None,
+            Some(node) => {
+                if node.item().id.0 == t.0 {
+                    Some(node.item())
+                } else {
+                    None
+                }
+            }
+        }
+    }
+
+    pub fn find_queued(&self, t: ThreadId) -> Option<&Record>
+        ensures { option_copied result ≡ find_id id_of t.0 self.now.queue }
+    {
+        self.queue.find(u32::from(t.0))
+    }
+
+    pub fn find_napper(&self, t: ThreadId) -> Option<&Record>
+        ensures { option_copied result ≡ find_id id_of t.0 self.now.nappers }
+    {
+        self.nappers.find(u32::from(t.0))
+    }
+
+    pub fn find_ended(&self, t: ThreadId) -> Option<&Record>
+        ensures { option_copied result ≡ find_id id_of t.0 self.now.ended }
+    {
+        self.ended.find(u32::from(t.0))
+    }
+
+    /// The list in which the thread stands. `None` exactly where it stands in none of this home.
+    pub fn where_is(&self, t: ThreadId) -> Option<ListId>
+        ensures { MatchOption result (cpu_has t.0 self.now ≡ false) (IsListed t.0 (Cpu self.now.cpu) (cpu_list self.now) (cpu_has t.0 self.now)) }
+    {
+        if self.find_running(t).is_some() {
+            return Some(ListId::Runs(self.cpu));
+        }
+        if self.find_queued(t).is_some() {
+            return Some(ListId::Queues(self.cpu));
+        }
+        if self.find_napper(t).is_some() {
+            return Some(ListId::Naps(self.cpu));
+        }
+        if self.find_ended(t).is_some() {
+            return Some(ListId::Ends(self.cpu));
+        }
+        None
+    }
+
+    /// The best thread on the queue.
+    pub fn best(&self) -> Option<&Record>
+        ensures { option_copied result ≡ slice_get self.now.queue 0 }
+    {
+        self.queue.best()
+    }
+
+    /// The thread whose nap ends first.
+    pub fn first_napper(&self) -> Option<&Record>
+        ensures { option_copied result ≡ slice_get self.now.nappers 0 }
+    {
+        self.nappers.first()
+    }
+
+    pub fn first_ended(&self) -> Option<&Record>
+        ensures { option_copied result ≡ slice_get self.now.ended 0 }
+    {
+        self.ended.first()
+    }
+
+    /// The best thread on the queue that is bound to no processor.
+    pub fn best_unbound(&self) -> Option<&Record>
+        ensures { option_copied result ≡ find_first is_unbound self.now.queue }
+    {
+        first_unbound(&self.queue)
+    }
+
+    /// The least number, from `u` on, of a time-sharing thread on the queue.
+    pub fn next_to_age(&self, u: ThreadId) -> Option<ThreadId>
+        ensures { option_map (λ t. t.0) result ≡ least_to_age u.0 self.now.queue }
+    {
+        least_to_age(&self.queue, u)
+    }
+}
+
+fn first_unbound(queue: &DispQueue<Record>) -> Option<&Record>
+    ensures { option_copied result ≡ find_first is_unbound queue.now }
+{
+    for record in queue.items() {
+        if record.body.bound.is_none() {
+            return Some(record);
+        }
+    }
+    None
+}
+
+/// Whether the thread is a time-sharing one with this number or a greater one.
+fn ages(u: ThreadId, thread: &Record) -> bool
+    ensures { result ≡ ages u.0 thread.now }
+{
+    u.0 <= thread.id.0 && matches!(thread.body.class, ClassState::Ts(_))
+}
+
+/// The lesser of a number and another one, where there is one.
+fn earlier(t: ThreadId, least: Option<ThreadId>) -> ThreadId
+    ensures { result.0 ≡ earlier t.0 (option_map (λ u. u.0) least) }
+{
+    match least {
+        Some(other) if other.0 <= t.0 => other,
+        _ => t,
+    }
+}
+
+fn least_to_age(queue: &DispQueue<Record>, u: ThreadId) -> Option<ThreadId>
+    ensures { option_map (λ t. t.0) result ≡ least_to_age u.0 queue.now }
+{
+    let mut least = None;
+    for thread in queue.items() {
+        if ages(u, thread) {
+            least = Some(earlier(thread.id, least));
+        }
+    }
+    least
+}

@@ -1,0 +1,163 @@
+//! The home of the real-time queue of a partition.
+
+ghost use Rattle.std.specs.Prelude.{◌≡◌, ◌∷◌, ◌++◌, ◌<◌, ◌≤◌, false, drop, length, slice_get, take, IfOk, MatchOption};
+ghost use Rattle.std.specs.Option.{option_copied};
+ghost use Rattle.sd_boxq.specs.Order.{find_id, drop_id, insert_ranked};
+ghost use Rattle.sd_full.specs.Changes.{with_cpu_in, without_cpu};
+ghost use Rattle.sd_shown.specs.Standing.{id_of, key_in, rank_of};
+ghost use Rattle.sd_types.specs.declared.numbers.HomeId.TheVariants.{RealTime};
+ghost use Rattle.sd_homes.specs.Kinds.{IsListed, set_has, set_list};
+ghost use Rattle.sd_homes.specs.Homes.{OfSet, empty_set, with_open_cpus, with_urgent};
+
+use crate::traveller::{Traveller, equipped};
+use arrayvec::ArrayVec;
+use sd_dispq::DispQueue;
+use sd_record::Record;
+use sd_shown::ListId;
+use sd_turn::Rack;
+use sd_types::{CpuId, SetId, ThreadId};
+use std::alloc::{AllocError, Global};
+use std::marker::Model;
+
+/// The real-time queue of a partition, and the open processors of its set in rising order, with a spare turnstile for each
+/// thread.
+///
+/// Source: Solaris Internals (`cpupart_t`, `cp_kp_queue`), psrset(8).
+#[derive(Drop)]
+pub struct RealTimeHome {
+    set: SetId,
+    queue: DispQueue<Record>,
+    open_cpus: ArrayVec<CpuId, 64>,
+    rack: Rack<Record>,
+}
+
+impl Model for RealTimeHome {
+    ghost use Rattle.std.specs.Prelude.{◌≡◌, length};
+    ghost use Rattle.sd_homes.specs.Homes.{OfSet};
+
+    ghost Value = { OfSet };
+
+    ghost view = { λ h. record { set = h.set; queue = h.queue; open_cpus = h.open_cpus.items } };
+
+    ghost invariant = { λ h. h.rack ≡ length h.queue };
+}
+
+#[tactic(auto, using(crate::proofs::Lengths::length_dropped, crate::proofs::Lengths::length_inserted))]
+impl RealTimeHome {
+    /// The home of a partition with no real-time thread, whose set has these open processors.
+    pub fn new(
+        alloc: Global,
+        set: SetId,
+        open_cpus: ArrayVec<CpuId, 64>,
+    ) -> Result<RealTimeHome, AllocError>
+        ensures { IfOk result (λ h. h ≡ empty_set set open_cpus.items) }
+    {
+        Ok(RealTimeHome {
+            set,
+            queue: DispQueue::new(alloc)?,
+            open_cpus,
+            rack: Rack::new(),
+        })
+    }
+
+    pub fn set(&self) -> SetId
+        ensures { result ≡ self.now.set }
+    {
+        self.set
+    }
+
+    /// The open processors of the set, in rising order: at most 64.
+    pub fn open_cpus(&self) -> &[CpuId]
+        ensures value { result.now ≡ self.now.open_cpus }
+        ensures fits { length result.now ≤ 64 }
+    {
+        self.open_cpus.as_slice()
+    }
+
+    /// Processor `c` is one of the open ones, where there is room for it.
+    pub fn open(&mut self, c: CpuId)
+        ensures { length self.old.open_cpus < 64 → self.new ≡ with_open_cpus (with_cpu_in c self.old.open_cpus) self.old }
+    {
+        if self.open_cpus.len() < 64 {
+            let index = index_for(c, self.open_cpus.as_slice());
+            self.open_cpus.insert(index, c);
+        }
+    }
+
+    /// Processor `c` is no more one of the open ones.
+    pub fn close(&mut self, c: CpuId)
+        ensures { self.new ≡ with_open_cpus (without_cpu c self.old.open_cpus) self.old }
+    {
+        self.open_cpus = without_cpu(c, &self.open_cpus);
+    }
+
+    /// Takes the first thread with this number from the queue.
+    pub fn take_queued(&mut self, t: ThreadId) -> Option<Traveller>
+        ensures taken { result ≡ find_id id_of t.0 self.old.queue }
+        ensures rest { self.new ≡ with_urgent (drop_id id_of t.0 self.old.queue) self.old }
+    {
+        match self.queue.take(u32::from(t.0)) {
+            None => None,
+            Some(node) => Some(equipped(node, &mut self.rack)),
+        }
+    }
+
+    /// Puts the thread on the queue, by its priority and key.
+    pub fn put_queued(&mut self, t: Traveller)
+        ensures { self.new ≡ with_urgent (insert_ranked rank_of key_in t self.old.queue) self.old }
+    {
+        let _rank = t.effective();
+        let (node, own) = t.into_parts();
+        self.queue.put_ranked(node);
+        self.rack.put(own);
+    }
+
+    /// The list in which the thread stands. `None` exactly where it stands in none of this home.
+    pub fn where_is(&self, t: ThreadId) -> Option<ListId>
+        ensures { MatchOption result (set_has t.0 self.now ≡ false) (IsListed t.0 (RealTime self.now.set) (set_list self.now) (set_has t.0 self.now)) }
+    {
+        if self.find_queued(t).is_some() {
+            return Some(ListId::Urgent(self.set));
+        }
+        None
+    }
+
+    /// The best thread on the queue.
+    pub fn best(&self) -> Option<&Record>
+        ensures { option_copied result ≡ slice_get self.now.queue 0 }
+    {
+        self.queue.best()
+    }
+
+    pub fn find_queued(&self, t: ThreadId) -> Option<&Record>
+        ensures { option_copied result ≡ find_id id_of t.0 self.now.queue }
+    {
+        self.queue.find(u32::from(t.0))
+    }
+}
+
+/// A rising list of processors without processor `c`.
+fn without_cpu(c: CpuId, cpus: &ArrayVec<CpuId, 64>) -> ArrayVec<CpuId, 64>
+    ensures { result.items ≡ without_cpu c cpus.now.items }
+{
+    let mut rest = ArrayVec::new();
+    for d in cpus.as_slice() {
+        if d.0 != c.0 {
+            rest.push(*d);
+        }
+    }
+    rest
+}
+
+/// The index before which processor `c` stands in a rising list: that of the first with a greater number.
+fn index_for(c: CpuId, cpus: &[CpuId]) -> usize
+    ensures inside { result ≤ length cpus.now }
+    ensures here { with_cpu_in c cpus.now ≡ take result cpus.now ++ c ∷ drop result cpus.now }
+{
+    for index in 0..cpus.len() {
+        if c.0 < cpus[index].0 {
+            return index;
+        }
+    }
+    cpus.len()
+}
