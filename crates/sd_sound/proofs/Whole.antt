@@ -103,7 +103,7 @@ script_short w t = by (slice_get w.threads t)
 
 -- A thread that runs, and one that takes a lock.
 
-running_on : (c : CpuId) (p : Place) → is_running c.0 p ≡ true → p ≡ Running c
+pub running_on : (c : CpuId) (p : Place) → is_running c.0 p ≡ true → p ≡ Running c
 running_on c (Running d) e =
     let same : d.0 ≡ c.0 = grind (arith, nat_tests) in
     let at : ℕ → CpuId = λ n. record { 0 = n } in
