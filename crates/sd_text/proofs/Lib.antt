@@ -1,5 +1,6 @@
 pub mod LineLemmas
 pub mod MemoryLemmas
 pub mod NumberLemmas
+pub mod PieceLemmas
 pub mod StreamLemmas
 pub mod WordLemmas

@@ -1,5 +1,5 @@
 -- Sources and sinks in memory (this project's own): what they hold, and what a call does to it.
-use Rattle.std.specs.Prelude.{◌≡◌, ℕ, ◌-◌, ◌<◌, ◌⊎◌, List, ◌++◌, length, take, drop, min, MatchResult, Result, Contains}
+use Rattle.std.specs.Prelude.{◌≡◌, ℕ, ◌-◌, ◌⊎◌, List, ◌++◌, length, take, drop, min, MatchResult, Result, Contains}
 use Rattle.sd_text.specs.declared.streams.Failed.{Failed}
 use Rattle.sd_text.specs.Faults.{next_count}
 
@@ -46,13 +46,13 @@ pub record SinkState : Type 0 where
 abbrev pub after_write : SinkState → SinkState
 after_write s = record s { writes = next_count s.writes }
 
--- the write fails: its number stands among the failing ones, or the sink is full and the piece is not empty
-abbrev pub IsRefused : SinkState → List ℕ → Type 0
-IsRefused s piece = Contains s.failing (next_count s.writes) ⊎ ((length s.held ≡ s.room) × (0 < length piece))
+-- the next write fails: its number stands among the failing ones, or the sink is full
+abbrev pub IsRefusing : SinkState → Type 0
+IsRefusing s = Contains s.failing (next_count s.writes) ⊎ (length s.held ≡ s.room)
 
 -- A write that fails changes nothing but the counts. Any other appends as much of the piece as there is room for.
 abbrev pub TakesPiece : SinkState → SinkState → Result ℕ Failed → List ℕ → Type 0
 TakesPiece old new result piece = MatchResult result
-    (λ n. (¬ IsRefused old piece) × (n ≡ min (old.room - length old.held) (length piece))
+    (λ n. (¬ IsRefusing old) × (n ≡ min (old.room - length old.held) (length piece))
     × (new ≡ record (after_write old) { held = old.held ++ take n piece }))
-    (λ _. IsRefused old piece × (new ≡ record (after_write old) { faults = next_count old.faults }))
+    (λ _. IsRefusing old × (new ≡ record (after_write old) { faults = next_count old.faults }))

@@ -3,6 +3,7 @@
 ghost use Rattle.std.specs.Prelude.{◌≡◌, ◌<◌, ◌≤◌, IfOk, OnOk, OnErr, length};
 ghost use Rattle.std.specs.Io.KnownBytes.{ReadConsumes, WriteAppends};
 ghost use Rattle.sd_text.specs.Faults.{HasRisen, next_count};
+ghost use Rattle.sd_text.specs.Lines.{IsOneLine};
 
 use super::streams::{Failed, Sink, Source};
 use std::io::{Read, Write};
@@ -56,8 +57,7 @@ impl<R: Read> Source for StdSource<R> {
     }
 }
 
-/// A sink over a writer. Each `Err` of the writer is a fault, and so is a write that took nothing of a piece that is
-/// not empty.
+/// A sink over a writer. Each `Err` of the writer is a fault, and so is a write that took nothing.
 #[derive(Drop)]
 pub struct StdSink<W> {
     inner: W,
@@ -87,18 +87,19 @@ impl<W: Write> Sink for StdSink<W> {
     }
 
     fn write(&mut self, bytes: &[u8]) -> Result<usize, Failed>
+        requires { IsOneLine bytes.now }
         ensures never_falls { sink_faults self.old ≤ sink_faults self.new }
         ensures no_fault { OnOk result (sink_faults self.new ≡ sink_faults self.old) }
         ensures failed_only_where_risen { OnErr result (HasRisen (sink_faults self.old) (sink_faults self.new)) }
         ensures bound { IfOk result (λ n. n ≤ length bytes.now) }
-        ensures progress { IfOk result (λ n. 0 < length bytes.now → 0 < n) }
+        ensures progress { IfOk result (λ n. 0 < n) }
         ensures bytes { WriteAppends (W.contents (sink_writer self.old)) (W.contents (sink_writer self.new)) result bytes.now }
 
         // A write that failed raises the count by one.
         ensures failed { OnErr result (sink_faults self.new ≡ next_count (sink_faults self.old)) }
     {
         match self.inner.write(bytes) {
-            Ok(count) if 0 < count || bytes.is_empty() => Ok(count),
+            Ok(count) if 0 < count => Ok(count),
             _ => {
                 self.faults = self.faults.saturating_add(1);
                 Err(Failed)

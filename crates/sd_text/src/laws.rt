@@ -1,9 +1,9 @@
 //! What the definitions of this crate mean: a text that was put together of lines, words and numbers is
 //! read again as these, and nothing else is ever read.
-ghost use Rattle.std.specs.Prelude.{◌≡◌, ℕ, ◌+◌, ◌^◌, ◌<◌, ◌⊎◌, ◌↔◌, List, [], ◌∷◌, ◌++◌, IsTrue, Some, pos, neg_ℤ, decimal};
+ghost use Rattle.std.specs.Prelude.{◌≡◌, ℕ, ◌+◌, ◌^◌, ◌<◌, ◌⊎◌, ◌↔◌, All, List, [], ◌∷◌, ◌++◌, IsTrue, Some, pos, neg_ℤ, decimal};
 ghost use Rattle.std.specs.List.{list_all, join_with_byte};
 ghost use Rattle.sd_text.specs.Faults.{HasRisen, greatest_count};
-ghost use Rattle.sd_text.specs.Lines.{lines_of, is_line, text_of_lines};
+ghost use Rattle.sd_text.specs.Lines.{lines_of, is_line, text_of_lines, EndsLine, IsOneLine, pieces_of, text_of_pieces};
 ghost use Rattle.sd_text.specs.Words.{words_of, is_word, EndsWord};
 ghost use Rattle.sd_text.specs.Numbers.{number_of, signed_of};
 
@@ -19,6 +19,15 @@ pub fn lines_of_texts()
     ensures text { (text : List ℕ) → (text_of_lines (lines_of text) ≡ text) ⊎ (text_of_lines (lines_of text) ≡ text ++ 10 ∷ []) }
     ensures again { (lines : List (List ℕ)) (rest : List ℕ) → IsTrue (list_all is_line lines)
         → lines_of (text_of_lines lines ++ rest) ≡ lines ++ lines_of rest }
+{}
+
+/// A text of whole lines is its lines with their newlines, one piece after another. It is put together of such pieces in no other
+/// way: pieces that are one line each are those of the text that they make, which ends with a line.
+pub fn pieces_are_lines()
+    ensures lines { (text : List ℕ) → All IsOneLine (pieces_of text) }
+    ensures text { (text : List ℕ) → EndsLine text → text_of_pieces (pieces_of text) ≡ text }
+    ensures ends { (pieces : List (List ℕ)) → All IsOneLine pieces → EndsLine (text_of_pieces pieces) }
+    ensures only { (pieces : List (List ℕ)) → All IsOneLine pieces → pieces_of (text_of_pieces pieces) ≡ pieces }
 {}
 
 /// The words of a line are words. Words that were written with single spaces between them are read again, also

@@ -1,5 +1,5 @@
 //! Bytes in and out: sources and sinks that count their faults, in memory and over the system's readers and
-//! writers; reading to the end, writing a piece whole; and the lines, words and numbers of a text.
+//! writers; reading to the end, writing a line whole; and the lines, words and numbers of a text.
 #![tactic(auto)]
 
 mod adapters;
@@ -13,7 +13,7 @@ mod words;
 mod write;
 
 pub use adapters::{StdSink, StdSource};
-pub use laws::{lines_of_texts, numbers_of_words, risen_counts, words_of_lines};
+pub use laws::{lines_of_texts, numbers_of_words, pieces_are_lines, risen_counts, words_of_lines};
 pub use lines::next_line;
 pub use memory::{MemorySink, MemorySource};
 pub use numbers::{number, put_number, signed};

@@ -2,6 +2,7 @@
 ghost use Rattle.std.specs.Prelude.{◌≡◌, ◌<◌, ◌≤◌, [], ◌++◌, IfOk, OnOk, OnErr, length, min, take, drop};
 ghost use Rattle.std.specs.Io.KnownBytes.{ReadConsumes, WriteAppends};
 ghost use Rattle.sd_text.specs.Faults.{HasRisen};
+ghost use Rattle.sd_text.specs.Lines.{IsOneLine};
 
 use super::streams::{Failed, Sink, Source};
 use std::alloc::{AllocError, Global};
@@ -113,8 +114,8 @@ impl Model for MemorySink {
 }
 
 impl MemorySink {
-    /// An empty sink with room for `room` bytes. The writes whose numbers from 1 stand in `failing` fail, and a write
-    /// of a piece that is not empty while the sink is full. A number that has reached the greatest `u64` stays there.
+    /// An empty sink with room for `room` bytes. The writes whose numbers from 1 stand in `failing` fail, and each one while
+    /// the sink is full. A number that has reached the greatest `u64` stays there.
     pub fn new(alloc: Global, room: usize, failing: Vec<u64>) -> Result<MemorySink, AllocError>
         ensures { IfOk result (λ s. s ≡ record { held = []; room = room; failing = failing.items; writes = 0; faults = 0 }) }
     {
@@ -149,11 +150,12 @@ impl Sink for MemorySink {
     }
 
     fn write(&mut self, bytes: &[u8]) -> Result<usize, Failed>
+        requires { IsOneLine bytes.now }
         ensures never_falls { self.old.faults ≤ self.new.faults }
         ensures no_fault { OnOk result (self.new.faults ≡ self.old.faults) }
         ensures failed_only_where_risen { OnErr result (HasRisen self.old.faults self.new.faults) }
         ensures bound { IfOk result (λ n. n ≤ length bytes.now) }
-        ensures progress { IfOk result (λ n. 0 < length bytes.now → 0 < n) }
+        ensures progress { IfOk result (λ n. 0 < n) }
         ensures bytes { WriteAppends (Some self.old.held) (Some self.new.held) result bytes.now }
 
         // Exactly what the write does.
@@ -161,8 +163,7 @@ impl Sink for MemorySink {
     {
         self.writes = self.writes.saturating_add(1);
         let free = self.room - self.bytes.len();
-        let is_full = free == 0 && !bytes.is_empty();
-        if is_full || self.failing.contains(&self.writes) {
+        if free == 0 || self.failing.contains(&self.writes) {
             self.faults = self.faults.saturating_add(1);
             return Err(Failed);
         }

@@ -3,6 +3,7 @@
 ghost use Rattle.std.specs.Prelude.{◌≡◌, ℕ, ◌<◌, ◌≤◌, List, Option, None, IfOk, OnOk, OnErr, length};
 ghost use Rattle.std.specs.Io.KnownBytes.{ReadConsumes, WriteAppends};
 ghost use Rattle.sd_text.specs.Faults.{HasRisen};
+ghost use Rattle.sd_text.specs.Lines.{IsOneLine};
 
 use thiserror::Error;
 
@@ -47,13 +48,16 @@ pub trait Sink {
     fn faults(&self) -> u64
         ensures { result ≡ fault_count self.now };
 
-    /// Appends the first bytes of the piece and returns how many, at least one of a piece that is not empty.
-    /// After a write that failed the sink holds what it held. One that did not fail counts no fault.
+    /// Appends the first bytes of the piece and returns how many, at least one. After a write that failed the sink holds what
+    /// it held. One that did not fail counts no fault.
+    ///
+    /// The piece is a whole line with its newline, or what is left of one where an earlier write took its beginning.
     fn write(&mut self, bytes: &[u8]) -> Result<usize, Failed>
+        requires { IsOneLine bytes.now }
         ensures never_falls { fault_count self.old ≤ fault_count self.new }
         ensures no_fault { OnOk result (fault_count self.new ≡ fault_count self.old) }
         ensures failed_only_where_risen { OnErr result (HasRisen (fault_count self.old) (fault_count self.new)) }
         ensures bound { IfOk result (λ n. n ≤ length bytes.now) }
-        ensures progress { IfOk result (λ n. 0 < length bytes.now → 0 < n) }
+        ensures progress { IfOk result (λ n. 0 < n) }
         ensures bytes { WriteAppends (contents self.old) (contents self.new) result bytes.now };
 }

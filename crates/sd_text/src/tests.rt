@@ -152,12 +152,13 @@ fn adapters_count_faults(rt: HostRuntime) -> Result<(), Fail> {
     assert_eq!(rt; halting.faults(), 1);
 
     let mut narrow = StdSink::new(Narrow { room: 5 });
-    assert_eq!(rt; write_piece(&mut narrow, b"abcd"), Ok(()));
+    assert_eq!(rt; write_piece(&mut narrow, b"abc\n"), Ok(()));
     assert_eq!(rt; narrow.faults(), 0);
     // One byte is taken, and then none.
-    assert_eq!(rt; write_piece(&mut narrow, b"ef"), Err(WriteFault));
+    assert_eq!(rt; write_piece(&mut narrow, b"d\n"), Err(WriteFault));
     assert_eq!(rt; narrow.faults(), 1);
-    assert_eq!(rt; narrow.write(b""), Ok(0));
+    assert_eq!(rt; narrow.write(b"\n"), Err(Failed));
+    assert_eq!(rt; narrow.faults(), 2);
     Ok(())
 }
 

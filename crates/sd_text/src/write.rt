@@ -1,7 +1,8 @@
-//! Writing a piece whole.
+//! Writing a line whole.
 ghost use Rattle.std.specs.Prelude.{◌≡◌, ℕ, ◌<◌, ◌≤◌, length, take, OnOk, OnErr};
 ghost use Rattle.std.specs.Io.KnownBytes.{Appends};
 ghost use Rattle.sd_text.specs.Faults.{HasRisen};
+ghost use Rattle.sd_text.specs.Lines.{IsOneLine};
 
 use super::streams::Sink;
 use thiserror::Error;
@@ -11,8 +12,10 @@ use thiserror::Error;
 #[error("write fault")]
 pub struct WriteFault;
 
-/// Appends the piece. Where a write takes a part of it, the rest is written next.
+/// Appends the piece, which is a whole line with its newline: the first write is offered all of it. Where a write takes a part,
+/// the rest is written next.
 pub fn write_piece<K: Sink>(sink: &mut K, piece: &[u8]) -> Result<(), WriteFault>
+    requires { IsOneLine piece.now }
     ensures never_falls { K.fault_count sink.old ≤ K.fault_count sink.new }
     ensures ok { OnOk result (Appends (K.contents sink.old) (K.contents sink.new) piece.now) }
 

@@ -1,4 +1,5 @@
 use Rattle.std.proofs.Common.{◌∙◌, arith, length-drop, length-take}
+use Rattle.sd_text.proofs.PieceLemmas.{rest-one_line}
 use Rattle.sd_text.proofs.StreamLemmas.{Appends-more}
 use Rattle.sd_text.proofs.write.write_piece.Goals as goal
 
@@ -8,3 +9,6 @@ loop-at-preserved g c = record {
   appended = Appends-more _ _ _ c.args.piece.now c.loop-at.at c.in-Ok.count c.loop-at.invariant.appended c.in-Ok.ensures.bytes;
   no_fault = c.in-Ok.ensures.no_fault ∙ c.loop-at.invariant.no_fault;
 }
+
+pub write-requires : goal.write-requires
+write-requires g c = rest-one_line c.args.piece.now c.loop-at.at c.requires c.loop-at-test.true
