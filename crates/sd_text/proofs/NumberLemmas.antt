@@ -1,11 +1,11 @@
 -- Reading a number digit by digit.
-use Rattle.std.proofs.Common.{◌≡◌, ℕ, ◌+◌, ◌-◌, ◌*◌, ◌^◌, ◌<◌, true, false, not, ◌&&◌, ltb, leb, eqb, Some, pos, neg_ℤ, List, [], ◌∷◌, length, drop, get_or, refl, ap, ◌∙◌, arith}
+use Rattle.std.proofs.Common.{◌≡◌, ℕ, zero, suc, ◌+◌, ◌-◌, ◌*◌, ◌/◌, ◌%◌, ◌^◌, ◌<◌, Bool, true, false, not, cond, ◌&&◌, ltb, leb, eqb, Some, pos, neg_ℤ, List, [], ◌∷◌, length, drop, get_or, refl, ap, ◌∙◌, arith}
 use Rattle.std.proofs.lemmas.List.{at_drop_more}
 use Rattle.std.proofs.lemmas.Bool.Decides.{nat_tests}
 use Rattle.std.specs.Char.{is_ascii_digit, digit_value}
 use Rattle.std.specs.Str.{all_ascii_digits}
 use Rattle.std.specs.Str.Parse.{digits_value, digits_value_after}
-use Rattle.std.specs.Fmt.{decimal}
+use Rattle.std.specs.Fmt.{decimal, digits, digits_onto, digit_glyph}
 use Rattle.std.specs.Option.{option_map}
 use Rattle.std.specs.List.{list_all}
 use Rattle.std.proofs.lemmas.Bool.{lt-ltb, le-leb}
@@ -80,3 +80,23 @@ is_word-decimal n h =
 
 pub is_line-decimal : (n : ℕ) → n < 2 ^ 64 → is_line (decimal n) ≡ true
 is_line-decimal n h = digits-line (decimal n) (digits_decimal own n h)
+
+-- ---- of any number, also one that no type of the program holds
+
+glyph-line : (d : ℕ) → d < 10 → is_newline (digit_glyph false d) ≡ false
+glyph-line d h = grind (arith, nat_tests)
+
+either-line : (b : Bool) (xs ys : List ℕ) → is_line xs ≡ true → is_line ys ≡ true → is_line (cond b xs ys) ≡ true
+either-line true xs ys p q = p
+either-line false xs ys p q = q
+
+glyphs-line : (k n : ℕ) (below : List ℕ) → is_line below ≡ true → is_line (digits_onto k 10 false n below) ≡ true
+glyphs-line zero n below h = h
+glyphs-line (suc k) n below h =
+    let here = glyph-line (n % 10) (omega arith) in
+    let more : is_line (digit_glyph false (n % 10) ∷ below) ≡ true = rw here h in
+    either-line (eqb (n / 10) 0) _ _ more (glyphs-line k (n / 10) (digit_glyph false (n % 10) ∷ below) more)
+
+pub decimal-line : (n : ℕ) → is_line (decimal n) ≡ true
+unfolding digits
+decimal-line n = glyphs-line 64 n [] refl

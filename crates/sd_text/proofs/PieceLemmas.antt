@@ -101,6 +101,14 @@ one_line-newline (x ∷ xs) h =
     let rest = one_line-newline xs p.1 in
     ap (λ b. cond b (1 + first (xs ++ 10 ∷ [])) 0 + 1) p.0 ∙ omega arith
 
+-- what stands in one line, before such a piece
+pub one_line-append : (xs ys : List ℕ) → is_line xs ≡ true → IsOneLine ys → IsOneLine (xs ++ ys)
+one_line-append [] ys h one = one
+one_line-append (x ∷ xs) ys h one =
+    let p = both _ _ h in
+    let rest = one_line-append xs ys p.1 one in
+    ap (λ b. cond b (1 + first (xs ++ ys)) 0 + 1) p.0 ∙ omega arith
+
 -- a line and its newline
 abbrev pub Split : List ℕ → Type 0
 Split piece = (line : List ℕ) × (piece ≡ line ++ 10 ∷ []) × (is_line line ≡ true)
