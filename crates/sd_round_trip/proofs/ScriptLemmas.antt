@@ -22,7 +22,7 @@ use Rattle.sd_declare.specs.declared.causes.WorkCause.{WorkCause}
 use Rattle.sd_declare.specs.declared.causes.WorkCause.TheVariants.{Script}
 use Rattle.sd_declare.specs.Declarations.{Declarations}
 use Rattle.sd_declare.specs.Operations.{operation_causes, op_of, ops_of_op}
-use Rattle.sd_workload.specs.Scripts.{first_of, more_fault, ops_fault, end_fault}
+use Rattle.sd_workload.specs.Scripts.{first_of, fault_behind, more_fault, ops_fault, end_fault}
 use Rattle.sd_workload.specs.Texts.{Outside, InScript, unless_done, operation_cause, ops_of, with_script}
 use Rattle.sd_workload.proofs.ScriptLemmas.{script-on, script-close}
 use Rattle.sd_workload.proofs.NameLemmas.{both}
@@ -81,7 +81,7 @@ entered l (_ ∷ more) h = absurd (false≢true h)
 -- ---- faults
 
 pub more-free : (ops : List Op) (o : Op) (after : Option Op) → length ops < 256 → op_fits (held_by ops) o after ≡ true → more_fault ops o after ≡ None
-unfolding more_fault
+unfolding fault_behind
 more-free ops o after room fits =
     let waits : nat_lt (length ops) 256 ≡ true = grind (arith, nat_tests) in
     rw waits (op_fault-from_fits (length ops) (held_by ops) o after fits)

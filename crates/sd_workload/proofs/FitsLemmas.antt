@@ -5,14 +5,15 @@ use Rattle.std.proofs.lemmas.Bool.{cases_lt, false≢true}
 use Rattle.std.proofs.lemmas.Bool.Decides.{nat_tests}
 use Rattle.std.proofs.lemmas.List.{take-append-le}
 use Rattle.std.proofs.lemmas.Option.{slice_get_past, same_Some, none-some}
+use Rattle.sd_types.specs.declared.numbers.ChanId.{ChanId}
 use Rattle.sd_types.specs.declared.numbers.LockId.{LockId}
 use Rattle.sd_types.specs.declared.scripts.Op.{Op}
 use Rattle.sd_types.specs.declared.scripts.Op.TheVariants.{Run, Yield, Nap, Sleep, Wake, WakeAll, Enter, Read, Write, Exit, Prio, CvWait, SemaP, SemaV, Assign, Pbind}
 use Rattle.std.specs.Prelude.{nat_lt}
 use Rattle.sd_types.specs.Scripts.{is_held, held_by, op_fits, EachOpFits}
 use Rattle.sd_script.specs.declared.faults.ScriptFault.{ScriptFault}
-use Rattle.sd_script.specs.declared.faults.ScriptFault.TheVariants.{TooLong}
-use Rattle.sd_script.specs.Faults.{op_fault}
+use Rattle.sd_script.specs.declared.faults.ScriptFault.TheVariants.{AlreadyHeld, TooLong, TooManyHeld, Unbalanced, Unpaired}
+use Rattle.sd_script.specs.Faults.{is_ninth, is_taken_again, is_unbalanced, is_unpaired, op_fault}
 use Rattle.sd_script.proofs.FaultLemmas.{op_fits-from_none}
 use Rattle.std.specs.Option.{option_map}
 use Rattle.sd_lines.specs.Words.{Line}
@@ -21,7 +22,7 @@ use Rattle.sd_declare.specs.declared.causes.WorkCause.TheVariants.{Syntax, Scrip
 use Rattle.sd_declare.specs.Declarations.{Declarations}
 use Rattle.sd_declare.specs.Operations.{op_of, ops_of_op}
 use Rattle.sd_workload.specs.Texts.{unless_done, operation_cause, ops_of}
-use Rattle.sd_workload.specs.Scripts.{first_of, more_fault, ops_fault}
+use Rattle.sd_workload.specs.Scripts.{first_of, fault_behind, more_fault, ops_fault}
 
 -- an operation that fits at the end of a script is no wait, and fits before any other
 at-none : (held : List LockId) (op : Op) (after : Option Op) → op_fits held op None ≡ true → op_fits held op after ≡ true
@@ -75,7 +76,7 @@ fits-append ops new fits more = λ i op e. elim (cases_lt i (length ops)) [
 
 -- one more operation without a fault: there is room, and it fits
 pub more-none : (ops : List Op) (op : Op) (after : Option Op) → more_fault ops op after ≡ None → (length ops < 256) × (op_fits (held_by ops) op after ≡ true)
-unfolding more_fault
+unfolding fault_behind
 more-none ops op after h = elim (cases_lt (length ops) 256) [
   | inl room ↦
       let none : op_fault (length ops) (held_by ops) op after ≡ None = sym (chosen (nat_lt (length ops) 256) (grind (arith, nat_tests)) (op_fault (length ops) (held_by ops) op after)) ∙ h in
@@ -90,6 +91,21 @@ more-none ops op after h = elim (cases_lt (length ops) 256) [
     other : (b : Bool) → b ≡ false → (o : Option ScriptFault) → cond b o (Some TooLong) ≡ Some TooLong
     other true e o = absurd (false≢true (sym e))
     other false e o = refl
+
+-- and it takes no ninth lock
+ninth : (room unbalanced ninth again unpaired : Bool) (e f g h : ScriptFault)
+    → cond room (cond unbalanced (Some e) (cond ninth (Some f) (cond again (Some g) (cond unpaired (Some h) None)))) (Some TooLong) ≡ None → ninth ≡ false
+ninth true true n a u e f g h none = absurd (none-some e (sym none))
+ninth true false true a u e f g h none = absurd (none-some f (sym none))
+ninth true false false a u e f g h none = refl
+ninth false b n a u e f g h none = absurd (none-some TooLong (sym none))
+
+no-ninth : (ops : List Op) (op : Op) (after : Option Op) → more_fault ops op after ≡ None → is_ninth (held_by ops) op ≡ false
+unfolding fault_behind
+no-ninth ops op after none =
+    let held = held_by ops in
+    ninth (nat_lt (length ops) 256) (is_unbalanced held op) (is_ninth held op) (is_taken_again held op) (is_unpaired op after)
+    (Unbalanced (length ops)) (TooManyHeld (length ops)) (AlreadyHeld (length ops)) (Unpaired (length ops)) none
 
 parts : {X : Type 0} (a b : Option X) → first_of a b ≡ None → (a ≡ None) × (b ≡ None)
 parts None b h = (refl, h)
@@ -114,6 +130,16 @@ one-fits : (ops : List Op) (op : Op) → EachOpFits ops → ops_fault ops (op �
 one-fits ops op fits h =
     let p = more-none ops op None (parts _ _ h).0 in
     (fits-append ops (op ∷ []) fits (each-one ops op p.1), omega (arith, p.0, length-append ops (op ∷ [])))
+
+-- the first operation of a line without a fault, and the second of a wait, take no ninth lock
+pub first-room : (ops : List Op) (op : Op) → ops_fault ops (ops_of_op op) ≡ None → is_ninth (held_by ops) op ≡ false
+first-room ops (Enter l) h = no-ninth ops (Enter l) None (parts _ _ h).0
+first-room ops (Read l) h = no-ninth ops (Read l) None (parts _ _ h).0
+first-room ops (Write l) h = no-ninth ops (Write l) None (parts _ _ h).0
+first-room ops _ h = refl
+
+pub second-room : (ops : List Op) (k : ChanId) (l : LockId) → ops_fault ops (ops_of_op (CvWait k l)) ≡ None → is_ninth (held_by (ops ++ CvWait k l ∷ [])) (Enter l) ≡ false
+second-room ops k l h = no-ninth (ops ++ CvWait k l ∷ []) (Enter l) None (parts _ _ (parts _ _ h).1).0
 
 -- the operations of one more line
 pub line-fits : (ops : List Op) (op : Op) → EachOpFits ops → ops_fault ops (ops_of_op op) ≡ None

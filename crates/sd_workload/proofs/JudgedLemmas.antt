@@ -6,10 +6,14 @@ use Rattle.sd_lines.specs.Words.{Line, is_done}
 use Rattle.sd_lines.specs.Statements.{statement_of}
 use Rattle.sd_lines.specs.Operations.{operation_of}
 use Rattle.sd_declare.specs.declared.causes.WorkCause.{WorkCause}
+use Rattle.sd_declare.specs.declared.causes.Refusal.{Refusal}
+use Rattle.sd_declare.specs.declared.causes.Refusal.TheVariants.{Cause}
+use Rattle.sd_declare.specs.declared.causes.Refusal.TheVariants as refused
 use Rattle.sd_declare.specs.Declarations.{Declarations}
+use Rattle.sd_declare.specs.Kept.{IsRefusal}
 use Rattle.sd_workload.specs.declared.fault.WorkFault.{WorkFault}
 use Rattle.sd_workload.specs.declared.fault.WorkFault.TheVariants.{At, Memory}
-use Rattle.sd_workload.specs.Places.{NoneAbove, IsFault, IsFaultAt}
+use Rattle.sd_workload.specs.Places.{NoneAbove, IsFault, IsFaultAt, fault_of}
 use Rattle.sd_workload.specs.Texts.{Block, Outside, ops_of, cause_of, declared_after, block_after, end_cause, Verdict, Accepts, Refuses, unless_refused, judged}
 
 pub judged-end : (n : ℕ) (d : Declarations) (b : Block) (lines : List Line) → lines ≡ []
@@ -59,6 +63,11 @@ none-at n line d b lines at = subst (λ (k : ℕ). NoneAbove k (judged n d b lin
 -- an accepted text has none at fault
 pub none-accepted : (line : ℕ) (v : Verdict) (d : Declarations) → v ≡ Accepts d → NoneAbove line v
 none-accepted line v d is = subst (NoneAbove line) (sym is) tt
+
+-- the fault that a refusal is
+pub refusal-at : (n : ℕ) (o : Option WorkCause) (r : Refusal) → IsRefusal o r → IsFaultAt n o (fault_of n r)
+refusal-at n o (Cause c) h = (refl, h)
+refusal-at n o refused.Memory h = refl
 
 -- a fault on a line is the refusal of the lines from there on
 pub fault-at : (n : ℕ) (d : Declarations) (b : Block) (lines below : List Line) (line : Line) (f : WorkFault) → lines ≡ line ∷ below

@@ -35,12 +35,6 @@ abbrev pub IsFaultAt : ℕ → Option WorkCause → WorkFault → Type 0
 IsFaultAt number found (At line cause) = (line ≡ number) × (found ≡ Some cause)
 IsFaultAt number found (Memory line) = line ≡ number
 
--- a refusal is the cause, or memory ran out, which here may hide it: a wait takes two operations, of which the second is judged
--- when there is memory for the first
-abbrev pub IsCause : Option WorkCause → Refusal → Type 0
-IsCause found (Cause cause) = found ≡ Some cause
-IsCause found refused.Memory = Unit {0}
-
 -- the fault that a refusal is, on its line
 abbrev pub fault_of : ℕ → Refusal → WorkFault
 fault_of number (Cause cause) = At number cause

@@ -1,6 +1,7 @@
 -- The fault of the operations that a line of a script gives, behind the operations of the lines above it.
 -- Source: this project's own.
-use Rattle.std.specs.Prelude.{List, [], ◌∷◌, ◌++◌, length, nat_lt, cond, Option, Some, None}
+use Rattle.std.specs.Prelude.{ℕ, List, [], ◌∷◌, ◌++◌, length, nat_lt, cond, Option, Some, None}
+use Rattle.sd_types.specs.declared.numbers.LockId.{LockId}
 use Rattle.sd_types.specs.declared.scripts.Op.{Op}
 use Rattle.sd_types.specs.Scripts.{held_by}
 use Rattle.sd_script.specs.declared.faults.ScriptFault.{ScriptFault}
@@ -16,10 +17,13 @@ abbrev pub head : List Op → Option Op
 head [] = None
 head (op ∷ ops) = Some op
 
--- The fault of one more operation, where this one follows it. A script has at most 256 operations, and that it is too
--- long comes before each other fault of the operation that is too many.
-unfoldable pub more_fault : List Op → Op → Option Op → Option ScriptFault
-more_fault ops op after = cond (nat_lt (length ops) 256) (op_fault (length ops) (held_by ops) op after) (Some TooLong)
+-- The fault of one more operation behind so many, behind which these locks are held, where this one follows it. A script has at
+-- most 256 operations, and that it is too long comes before each other fault of the operation that is too many.
+unfoldable pub fault_behind : ℕ → List LockId → Op → Option Op → Option ScriptFault
+fault_behind count held op after = cond (nat_lt count 256) (op_fault count held op after) (Some TooLong)
+
+abbrev pub more_fault : List Op → Op → Option Op → Option ScriptFault
+more_fault ops op after = fault_behind (length ops) (held_by ops) op after
 
 -- the first fault of more operations
 abbrev pub ops_fault : List Op → List Op → Option ScriptFault

@@ -1,13 +1,14 @@
 //! The blocks of scripts.
 
-ghost use Rattle.std.specs.Prelude.{◌≡◌, [], None, Some, ◌++◌, ◌∷◌, ◌+◌, ◌<◌, ◌≤◌, ◌^◌, length, OnOk, IfOk, IfErr, option_map};
+ghost use Rattle.std.specs.Prelude.{◌≡◌, [], None, Some, ◌++◌, ◌∷◌, ◌+◌, ◌<◌, ◌≤◌, ◌^◌, false, length, OnOk, IfOk, IfErr, option_map};
 ghost use Rattle.sd_types.specs.Scripts.{held_by, EachOpFits};
+ghost use Rattle.sd_script.specs.Faults.{is_ninth};
 ghost use Rattle.sd_text.specs.Words.{words_of};
 ghost use Rattle.sd_declare.specs.declared.causes.WorkCause.TheVariants.{Script as Scripted};
 ghost use Rattle.sd_declare.specs.Kept.{declarations, IsRefusal};
 ghost use Rattle.sd_declare.specs.Operations.{ops_of_op};
-ghost use Rattle.sd_workload.specs.Places.{judged_from, IsCause, IsFault, IsFaultAt};
-ghost use Rattle.sd_workload.specs.Scripts.{more_fault, ops_fault, end_fault};
+ghost use Rattle.sd_workload.specs.Places.{judged_from, IsFault, IsFaultAt};
+ghost use Rattle.sd_workload.specs.Scripts.{fault_behind, ops_fault, end_fault};
 ghost use Rattle.sd_workload.specs.Tables.{IsBelow};
 ghost use Rattle.sd_workload.specs.Texts.{Outside, InScript, unless_done, operation_cause, ops_of, with_script};
 ghost use Rattle.sd_lines.specs.Operations.{operation_of};
@@ -18,7 +19,7 @@ use arrayvec::ArrayVec;
 use sd_declare::{Declared, Refusal, WorkCause, op_of};
 use sd_lines::{has_words, is_end, operation_of};
 use sd_script::{ScriptFault, fault_of, take_or_release};
-use sd_types::{List, LockId, Op, Script, ThreadId};
+use sd_types::{ChanId, List, LockId, Op, Script, ThreadId, without_lock};
 use std::alloc::{AllocError, Global};
 
 /// The most operations of a script (this project's own).
@@ -31,52 +32,77 @@ struct OpenScript {
     held: ArrayVec<LockId, 8>,
 }
 
-// Takes one more operation, which `after` follows.
-#[tactic(auto, unfolding(crate::specs::Scripts::more_fault))]
-fn take_op(script: &mut OpenScript, op: Op, after: Option<Op>) -> Result<(), Refusal>
-    requires { script.old.held.items ≡ held_by script.old.ops.items }
-    ensures ok { OnOk result (more_fault script.old.ops.items op after ≡ None) }
-    ensures err { IfErr result (IsRefusal (option_map Scripted (more_fault script.old.ops.items op after))) }
+// The fault of one more operation behind so many, behind which these locks are held, where `after` follows it.
+#[tactic(auto, unfolding(crate::specs::Scripts::fault_behind))]
+fn fault_behind(count: usize, held: &[LockId], op: Op, after: Option<Op>) -> Option<ScriptFault>
+    ensures { result ≡ fault_behind count held.now op after }
+{
+    if MOST_OPS <= count {
+        return Some(ScriptFault::TooLong);
+    }
+    fault_of(count as u16, held, op, after)
+}
+
+// The first fault of the two operations of a wait.
+fn wait_fault(script: &OpenScript, chan: ChanId, mutex: LockId) -> Option<ScriptFault>
+    requires { script.now.held.items ≡ held_by script.now.ops.items }
+    ensures { result ≡ ops_fault script.now.ops.items (Op.CvWait chan mutex ∷ Op.Enter mutex ∷ []) }
+{
+    let count = script.ops.len();
+    let enter = Op::Enter(mutex);
+    if let Some(fault) = fault_behind(count, &script.held, Op::CvWait(chan, mutex), Some(enter)) {
+        return Some(fault);
+    }
+    let held = without_lock(mutex, &script.held);
+    fault_behind(count + 1, &held, enter, None)
+}
+
+// The first fault of the operations of a line, of which this is the first.
+fn ops_fault(script: &OpenScript, op: Op) -> Option<ScriptFault>
+    requires { script.now.held.items ≡ held_by script.now.ops.items }
+    ensures { result ≡ ops_fault script.now.ops.items (ops_of_op op) }
+{
+    match op {
+        Op::CvWait(chan, mutex) => wait_fault(script, chan, mutex),
+        _ => fault_behind(script.ops.len(), &script.held, op, None),
+    }
+}
+
+// Takes one more operation, which is without a fault.
+fn push_op(script: &mut OpenScript, op: Op) -> Result<(), AllocError>
+    requires held { script.old.held.items ≡ held_by script.old.ops.items }
+    requires room { is_ninth script.old.held.items op ≡ false }
     ensures ops { OnOk result (script.new.ops.items ≡ script.old.ops.items ++ op ∷ []) }
     ensures held { OnOk result (script.new.held.items ≡ held_by script.new.ops.items) }
 {
-    if MOST_OPS <= script.ops.len() {
-        return Err(Refusal::Cause(WorkCause::Script(ScriptFault::TooLong)));
-    }
-    if let Some(fault) = fault_of(script.ops.len() as u16, &script.held, op, after) {
-        return Err(Refusal::Cause(WorkCause::Script(fault)));
-    }
     script.ops.push(op)?;
     take_or_release(&mut script.held, op);
     Ok(())
 }
 
-// Takes the operations of a line, of which this is the first.
+// Takes the operations of a line, of which this is the first. All are judged before memory is taken for any.
 fn take_ops(script: &mut OpenScript, op: Op) -> Result<(), Refusal>
     requires { script.old.held.items ≡ held_by script.old.ops.items }
     ensures ok { OnOk result (ops_fault script.old.ops.items (ops_of_op op) ≡ None) }
-    ensures err { IfErr result (IsCause (option_map Scripted (ops_fault script.old.ops.items (ops_of_op op)))) }
+    ensures err { IfErr result (IsRefusal (option_map Scripted (ops_fault script.old.ops.items (ops_of_op op)))) }
     ensures ops { OnOk result (script.new.ops.items ≡ script.old.ops.items ++ ops_of_op op) }
     ensures held { OnOk result (script.new.held.items ≡ held_by script.new.ops.items) }
 {
-    if let Op::CvWait(_, mutex) = op {
-        take_op(script, op, Some(Op::Enter(mutex)))?;
-        take_op(script, Op::Enter(mutex), None)
-    } else {
-        take_op(script, op, None)
+    if let Some(fault) = ops_fault(script, op) {
+        return Err(Refusal::Cause(WorkCause::Script(fault)));
+    }
+    push_op(script, op)?;
+    match op {
+        Op::CvWait(_, mutex) => Ok(push_op(script, Op::Enter(mutex))?),
+        _ => Ok(()),
     }
 }
 
 // Takes a line inside the block, which does not close it.
-fn take_operation(
-    d: &Declared,
-    script: &mut OpenScript,
-    line: &[u8],
-    number: u32,
-) -> Result<(), WorkFault>
+fn take_operation(d: &Declared, script: &mut OpenScript, line: &[u8]) -> Result<(), Refusal>
     requires { script.old.held.items ≡ held_by script.old.ops.items }
     ensures ok { OnOk result (unless_done (words_of line.now) (operation_cause (declarations d.now) script.old.ops.items (operation_of (words_of line.now))) ≡ None) }
-    ensures err { IfErr result (IsFaultAt number (unless_done (words_of line.now) (operation_cause (declarations d.now) script.old.ops.items (operation_of (words_of line.now))))) }
+    ensures err { IfErr result (IsRefusal (unless_done (words_of line.now) (operation_cause (declarations d.now) script.old.ops.items (operation_of (words_of line.now))))) }
     ensures ops { OnOk result (script.new.ops.items ≡ script.old.ops.items ++ ops_of (declarations d.now) (operation_of (words_of line.now))) }
     ensures held { OnOk result (script.new.held.items ≡ held_by script.new.ops.items) }
 {
@@ -84,20 +110,11 @@ fn take_operation(
         return Ok(());
     }
     let Some(operation) = operation_of(line) else {
-        return Err(WorkFault::At {
-            line: number,
-            cause: WorkCause::Syntax,
-        });
+        return Err(Refusal::Cause(WorkCause::Syntax));
     };
     match op_of(d, &operation) {
-        Ok(op) => match take_ops(script, op) {
-            Ok(()) => Ok(()),
-            Err(refusal) => Err(fault_at(number, refusal)),
-        },
-        Err(cause) => Err(WorkFault::At {
-            line: number,
-            cause,
-        }),
+        Ok(op) => take_ops(script, op),
+        Err(cause) => Err(Refusal::Cause(cause)),
     }
 }
 
@@ -144,8 +161,10 @@ fn script_at(
             let script = closed(so_far, here.number)?;
             return Ok((script, below));
         }
-        take_operation(d, &mut so_far, line, here.number)?;
-        here = below;
+        match take_operation(d, &mut so_far, line) {
+            Ok(()) => here = below,
+            Err(refusal) => return Err(fault_at(here.number, refusal)),
+        }
     }
     Err(WorkFault::At {
         line: here.number,

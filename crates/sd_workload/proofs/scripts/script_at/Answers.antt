@@ -1,24 +1,27 @@
-use Rattle.std.proofs.Common.{◌≤◌, List, length, sym, ◌∙◌, subst, arith, rules}
+use Rattle.std.proofs.Common.{◌≤◌, List, [], length, sym, ◌∙◌, subst, arith, rules}
 use Rattle.sd_types.specs.declared.scripts.Op.{Op}
 use Rattle.sd_types.specs.Scripts.{EachOpFits}
 use Rattle.sd_text.specs.Words.{words_of}
 use Rattle.sd_declare.specs.Kept.{declarations}
-use Rattle.sd_workload.proofs.JudgedLemmas.{fault-along}
+use Rattle.sd_lines.specs.Operations.{operation_of}
+use Rattle.sd_workload.specs.Places.{IsFault, fault_of, judged_from}
+use Rattle.sd_workload.specs.Texts.{InScript, operation_cause, unless_done}
+use Rattle.sd_workload.proofs.JudgedLemmas.{fault-along, refusal-at}
 use Rattle.sd_workload.proofs.FitsLemmas.{line-more}
 use Rattle.sd_workload.proofs.ScriptLemmas.{script-on, script-stop, script-close, script-held, script-open}
 use Rattle.sd_workload.proofs.scripts.script_at.Goals as goal
 
 pub lines-preserved : goal.lines-preserved
 lines-preserved c =
-    let more = line-more (declarations c.args.d.now) c.lines.so_far.ops.items (words_of c.in-Some.line.now) c.in_ok-take_operation.ensures.ok c.lines.invariant.fits c.lines.invariant.short in
+    let more = line-more (declarations c.args.d.now) c.lines.so_far.ops.items (words_of c.in-Some.line.now) c.in-Ok.ensures.ok c.lines.invariant.fits c.lines.invariant.short in
     record {
-      held = c.in_ok-take_operation.ensures.held;
-      fits = subst EachOpFits (sym c.in_ok-take_operation.ensures.ops) more.0;
-      short = subst (λ (l : List Op). length l ≤ 256) (sym c.in_ok-take_operation.ensures.ops) more.1;
+      held = c.in-Ok.ensures.held;
+      fits = subst EachOpFits (sym c.in-Ok.ensures.ops) more.0;
+      short = subst (λ (l : List Op). length l ≤ 256) (sym c.in-Ok.ensures.ops) more.1;
       after = omega (arith, c.in-Some.ensures.below.below, c.lines.invariant.after);
       numbered = c.in-Some.ensures.below.numbered;
       rest = c.lines.invariant.rest
-          ∙ script-on _ _ _ _ _ _ _ _ _ c.in-Some.ensures.line (sym c.is_end.ensures ∙ c.if-is_end.false) c.in_ok-take_operation.ensures.ok c.in-Some.ensures.number c.in_ok-take_operation.ensures.ops;
+          ∙ script-on _ _ _ _ _ _ _ _ _ c.in-Some.ensures.line (sym c.is_end.ensures ∙ c.if-is_end.false) c.in-Ok.ensures.ok c.in-Some.ensures.number c.in-Ok.ensures.ops;
     }
 
 pub returns-in_err-script-clause-err : goal.returns-in_err-script-clause-err
@@ -32,11 +35,16 @@ returns-then-is_end-clause-ok c =
     c.lines.invariant.rest
     ∙ script-close _ _ _ _ _ _ _ _ _ c.in-Some.ensures.line (sym c.is_end.ensures ∙ c.if-is_end.true) c.in_ok-script.ensures.ok c.in-Some.ensures.number c.in_ok-script.ensures.ops
 
-pub returns-in_err-take_operation-clause-err : goal.returns-in_err-take_operation-clause-err
-returns-in_err-take_operation-clause-err c =
-    let fault = fault-along _ _ _ c.lines.invariant.rest
-    (script-stop _ _ _ _ _ _ _ _ c.in-Some.ensures.line (sym c.is_end.ensures ∙ c.if-is_end.false) c.in_err-take_operation.ensures.err) in
-    search rules
+pub returns-in-Err-clause-err : goal.returns-in-Err-clause-err
+returns-in-Err-clause-err c =
+    let d = declarations c.args.d.now in
+    let n = c.lines.here.number in
+    let ops = c.lines.so_far.ops.items in
+    let line = words_of c.in-Some.line.now in
+    let fault = refusal-at n (unless_done line (operation_cause d ops (operation_of line))) c.in-Err.refusal c.in-Err.ensures.err in
+    let stop = script-stop n d c.args.thread ops _ _ line (fault_of n c.in-Err.refusal) c.in-Some.ensures.line (sym c.is_end.ensures ∙ c.if-is_end.false) fault in
+    let here = fault-along _ _ (fault_of n c.in-Err.refusal) c.lines.invariant.rest stop in
+    subst (IsFault (judged_from c.args.bytes.now c.args.at d (InScript c.args.thread []))) (sym c.fault_at.ensures) here
 
 pub returns-clause-err : goal.returns-clause-err
 returns-clause-err c = c.lines.invariant.rest ∙ script-open _ _ _ _ _ c.in_default.ensures.none
