@@ -1,67 +1,10 @@
-//! Levels at the bounds of the bitmap's words, and a long queue over all levels.
-ghost use Rattle.std.specs.Prelude.{◌≡◌, IfOk};
+//! Dispatch queues: levels at the bounds of the bitmap's words, and a long queue over all levels.
+ghost use Rattle.std.specs.Prelude.{◌≡◌};
 
-use crate::DispQueue;
-use sd_boxq::{Node, Ranked};
-use std::alloc::AllocError;
+use crate::items::{Item, id_of, node, sent, taken};
+use sd_boxq::Ranked;
+use sd_dispq::DispQueue;
 use std::test::Fail;
-
-#[derive(Drop)]
-struct Item {
-    rank: u8,
-    key: i64,
-    id: u32,
-    // What queues do not look at.
-    mark: u8,
-}
-
-impl Ranked for Item {
-    ghost rank = { λ x. x.rank };
-
-    ghost key = { λ x. x.key };
-
-    ghost id = { λ x. x.id };
-
-    fn rank(&self) -> u8 {
-        self.rank
-    }
-
-    fn key(&self) -> i64 {
-        self.key
-    }
-
-    fn id(&self) -> u32 {
-        self.id
-    }
-}
-
-fn node(rt: &HostRuntime, rank: u8, key: i64, id: u32) -> Result<Node<Item>, AllocError>
-    ensures { IfOk result (λ n. n.rank ≡ rank) }
-{
-    Node::node(
-        rt.alloc(),
-        Item {
-            rank,
-            key,
-            id,
-            mark: 0,
-        },
-    )
-}
-
-fn id_of(item: Option<&Item>) -> u32 {
-    match item {
-        Some(item) => item.id,
-        None => 0,
-    }
-}
-
-fn taken(node: Option<Node<Item>>) -> u32 {
-    match node {
-        Some(node) => node.item().id,
-        None => 0,
-    }
-}
 
 // The ids of the items, up to the ninth, and 0 past the last.
 fn ids(queue: &DispQueue<Item>) -> [u32; 9] {
@@ -233,12 +176,6 @@ fn holds_400_000_boxes(rt: HostRuntime) -> Result<(), Fail> {
     assert_eq!(rt; id_of(level.item(399_999)), 399_999);
     assert!(rt; level.item(400_000).is_none());
     Ok(())
-}
-
-fn sent<T: Send>(value: T) -> T
-    ensures { result ≡ value }
-{
-    value
 }
 
 fn queue_is_sent<T: Ranked + Send>(queue: DispQueue<T>) -> DispQueue<T>

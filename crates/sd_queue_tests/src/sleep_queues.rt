@@ -1,58 +1,11 @@
-//! Four channels of one chain, by hand.
-ghost use Rattle.std.specs.Prelude.{◌≡◌, IfOk};
+//! Sleep queues: four channels of one chain, by hand.
+ghost use Rattle.std.specs.Prelude.{◌≡◌};
 
-use crate::SleepChain;
+use crate::items::{Item, id_of, node, sent, taken};
 use sd_boxq::{Node, Ranked};
+use sd_sleepq::SleepChain;
 use sd_types::ChanId;
-use std::alloc::AllocError;
 use std::test::Fail;
-
-#[derive(Drop)]
-struct Item {
-    rank: u8,
-    key: i64,
-    id: u32,
-}
-
-impl Ranked for Item {
-    ghost rank = { λ x. x.rank };
-
-    ghost key = { λ x. x.key };
-
-    ghost id = { λ x. x.id };
-
-    fn rank(&self) -> u8 {
-        self.rank
-    }
-
-    fn key(&self) -> i64 {
-        self.key
-    }
-
-    fn id(&self) -> u32 {
-        self.id
-    }
-}
-
-fn node(rt: &HostRuntime, rank: u8, key: i64, id: u32) -> Result<Node<Item>, AllocError>
-    ensures { IfOk result (λ n. n.rank ≡ rank) }
-{
-    Node::node(rt.alloc(), Item { rank, key, id })
-}
-
-fn id_of(item: Option<&Item>) -> u32 {
-    match item {
-        Some(item) => item.id,
-        None => 0,
-    }
-}
-
-fn taken(node: Option<Node<Item>>) -> u32 {
-    match node {
-        Some(node) => node.item().id,
-        None => 0,
-    }
-}
 
 // The channel on which the taken one slept, and 0 where there was none.
 fn woken(taken: Option<(ChanId, Node<Item>)>) -> u16 {
@@ -117,12 +70,6 @@ fn is_empty_at_first(rt: HostRuntime) -> Result<(), Fail> {
     assert!(rt; chain.best(ChanId(64), i64::MAX).is_none());
     assert!(rt; chain.take_best(ChanId(64), i64::MAX).is_none());
     Ok(())
-}
-
-fn sent<T: Send>(value: T) -> T
-    ensures { result ≡ value }
-{
-    value
 }
 
 fn chain_is_sent<T: Ranked + Send>(chain: SleepChain<T>) -> SleepChain<T>

@@ -1,52 +1,13 @@
-//! Four locks of one chain, each with waiters on both sides, taken in turn.
+//! Turnstiles: four locks of one chain, each with waiters on both sides, taken in turn.
 ghost use Rattle.std.specs.Prelude.{◌≡◌, ◌<◌, ◌^◌, IfOk};
 ghost use Rattle.sd_turn.specs.Waiters.{nobody, IsOfChain, of_lock, waiter_count};
 
-use crate::{Rack, TurnChain, Turnstile};
+use crate::items::{Item, id_of, node, sent};
 use sd_boxq::{Node, Ranked};
+use sd_turn::{Rack, TurnChain, Turnstile};
 use sd_types::{LockId, Side};
 use std::alloc::AllocError;
 use std::test::Fail;
-
-#[derive(Drop)]
-struct Item {
-    rank: u8,
-    key: i64,
-    id: u32,
-}
-
-impl Ranked for Item {
-    ghost rank = { λ x. x.rank };
-
-    ghost key = { λ x. x.key };
-
-    ghost id = { λ x. x.id };
-
-    fn rank(&self) -> u8 {
-        self.rank
-    }
-
-    fn key(&self) -> i64 {
-        self.key
-    }
-
-    fn id(&self) -> u32 {
-        self.id
-    }
-}
-
-fn node(rt: &HostRuntime, rank: u8, key: i64, id: u32) -> Result<Node<Item>, AllocError>
-    ensures { IfOk result (λ n. n.rank ≡ rank) }
-{
-    Node::node(rt.alloc(), Item { rank, key, id })
-}
-
-fn id_of(item: Option<&Item>) -> u32 {
-    match item {
-        Some(item) => item.id,
-        None => 0,
-    }
-}
 
 fn turnstile(rt: &HostRuntime) -> Result<Turnstile<Item>, AllocError>
     ensures { IfOk result (λ t. t ≡ nobody) }
@@ -207,12 +168,6 @@ fn racks(rt: HostRuntime) -> Result<(), Fail> {
     }
     assert!(rt; rack.take().is_none());
     Ok(())
-}
-
-fn sent<T: Send>(value: T) -> T
-    ensures { result ≡ value }
-{
-    value
 }
 
 fn chain_is_sent<T: Ranked + Send>(chain: TurnChain<T>) -> TurnChain<T>

@@ -1,5 +1,5 @@
 use Rattle.std.proofs.Common.{◌≡◌}
-use Rattle.sd_turn.proofs.tests.blocks_and_takes.Given as goal
+use Rattle.sd_queue_tests.proofs.turnstiles.blocks_and_takes.Given as goal
 
 abbrev pub invariant-loop-lock : goal.invariant-loop-lock
 invariant-loop-lock g l = l.chain.chain ≡ 5

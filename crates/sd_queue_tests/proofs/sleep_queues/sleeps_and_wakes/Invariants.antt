@@ -1,5 +1,5 @@
 use Rattle.std.proofs.Common.{◌≡◌}
-use Rattle.sd_sleepq.proofs.tests.sleeps_and_wakes.Given as goal
+use Rattle.sd_queue_tests.proofs.sleep_queues.sleeps_and_wakes.Given as goal
 
 abbrev pub invariant-loop-channel : goal.invariant-loop-channel
 invariant-loop-channel g l = l.chain.chain ≡ 3
