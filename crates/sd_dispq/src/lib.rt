@@ -6,8 +6,6 @@ mod items;
 pub mod laws;
 mod levels;
 mod queue;
-#[cfg(test)]
-mod tests;
 
 pub use items::Items;
 pub use queue::DispQueue;

@@ -9,8 +9,8 @@ use crate::reads::{cpu_of, is_cpu, is_thread};
 use sd_machine::{CpuState, LockState, Place, State};
 use sd_types::{ChanId, CpuId, Duty, LockId, REAL_TIME_PRIORITY, ThreadId, Work};
 
-/// Each second the time-sharing threads on the queue are looked at.
-fn duty_after(work: &Work, count: u32, duty: Duty) -> Duty
+/// The duty after a tick: each second the time-sharing threads on the queue are looked at.
+pub fn duty_after(work: &Work, count: u32, duty: Duty) -> Duty
     ensures { result ≡ duty_after work.now count duty }
 {
     if count % work.hz == 0 {

@@ -17,8 +17,8 @@ mod standings;
 
 pub use bodies::{hold, inherit, op_over, ran, ticks_at};
 pub use changes::{
-    clear_marks, count_tick, leave, move_to, run_on, set_count, set_duty, set_kernel_mark,
-    set_lock, set_mark,
+    clear_marks, count_tick, duty_after, leave, move_to, run_on, set_count, set_duty,
+    set_kernel_mark, set_lock, set_mark,
 };
 pub use clock::may_tick;
 pub use priorities::{greatest_waiting, has_waiters, others_waiting};
@@ -27,5 +27,5 @@ pub use scans::{
     best_queued, best_ready, best_sleeper, best_sleeper_below, best_unbound, best_waiter,
     first_due, next_to_age, runner,
 };
-pub use sets::{bind, close, join, unbind};
+pub use sets::{bind, close, join, unbind, with_cpu_in, without_cpu};
 pub use shown::{hint_shown, numbers_shown};

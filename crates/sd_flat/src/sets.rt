@@ -11,7 +11,7 @@ use sd_machine::State;
 use sd_types::{CpuId, SetId, ThreadId};
 
 /// A rising list of processors without processor `c`.
-fn without_cpu(c: CpuId, cpus: &ArrayVec<CpuId, 64>) -> ArrayVec<CpuId, 64>
+pub fn without_cpu(c: CpuId, cpus: &ArrayVec<CpuId, 64>) -> ArrayVec<CpuId, 64>
     ensures { result.items ≡ without_cpu c cpus.now.items }
 {
     let mut rest = ArrayVec::new();
@@ -36,8 +36,8 @@ fn index_for(c: CpuId, cpus: &[CpuId]) -> usize
     cpus.len()
 }
 
-/// The same list with processor `c`, where there is room.
-fn with_cpu_in(c: CpuId, cpus: &mut ArrayVec<CpuId, 64>)
+/// A rising list of processors with processor `c`, where there is room.
+pub fn with_cpu_in(c: CpuId, cpus: &mut ArrayVec<CpuId, 64>)
     ensures { length cpus.old.items < 64 → cpus.new.items ≡ with_cpu_in c cpus.old.items }
 {
     if cpus.len() < 64 {

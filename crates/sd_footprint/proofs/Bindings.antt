@@ -17,7 +17,7 @@ use Rattle.sd_machine.specs.States.{thread_of}
 use Rattle.sd_full.specs.Prioritising.{is_privileged, uid_of}
 use Rattle.sd_full.specs.SetChanges.{bind_put, bind_to, bound_put, is_closing, is_misbound, unbound_put}
 use Rattle.sd_full.specs.Threads.{eff_of, has_ended, set_of}
-use Rattle.sd_footprint.specs.Homes.{home_of, home_of_place}
+use Rattle.sd_shown.specs.Standing.{home_of, home_of_place}
 use Rattle.sd_footprint.proofs.Covers.{Cover}
 use Rattle.sd_mdisp.specs.Touched.{put_parts_if}
 use Rattle.sd_setop.specs.Touched.{bind_parts, runs_parts}

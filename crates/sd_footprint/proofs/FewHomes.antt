@@ -43,7 +43,8 @@ use Rattle.sd_full.specs.SetChanges.{closing_plan}
 use Rattle.sd_full.specs.Sleeping.{napend_plan, rouse_plan, wake_plan, woken_priority}
 use Rattle.sd_full.specs.Threads.{best_queued, best_ready, best_sleeper, best_sleeper_below, best_unbound, best_waiter, count_of, eff_of, first_due, lock_of, next_to_age, priority_of, runner, set_of, thread_id}
 use Rattle.sd_full.specs.Walking.{walk_plan}
-use Rattle.sd_footprint.specs.Homes.{IsOneOf, NeedsFour, TakesFour, home_of}
+use Rattle.sd_shown.specs.Standing.{home_of}
+use Rattle.sd_footprint.specs.Homes.{IsOneOf, NeedsFour, TakesFour}
 use Rattle.sd_step.specs.Needed.{choice_parts, cpu_parts, later_parts, needed, next_parts, op_parts, plan_parts, read_parts, reads_parts, run_parts, turn_parts}
 use Rattle.sd_step.specs.Tasks.{task_parts}
 use Rattle.sd_step.specs.Touched.{after_parts}
@@ -139,7 +140,7 @@ module _ (w : Work) (s : State) (c : CpuId) (hints : Option Hints) (t : ℕ) (ru
     where
       by : (b : Bool) → Cover s c (home.Cpu c ∷ (home.Cpu c ∷ (home.Sleepers (k.0 % 64) ∷ []))) (after_parts w s c (if b then event.SemaP (thread_id t) k else event.SemaWait (thread_id t) k))
       by true = (inl refl, (inr (inr (inr (inl refl))), (inr (inl (ap Some runs)), tt)))
-      by false = (inl refl, (inr (inl refl), (inr (inr (inr (inl refl))), (inr (inl (ap Some runs)), tt))))
+      by false = (inl refl, (inl refl, (inr (inl refl), (inr (inr (inr (inl refl))), (inr (inl (ap Some runs)), tt)))))
 
   prio_turn : (u : ThreadId) (answer : Result ClassParms Denied) → Turn w s c hints 3 (cpu_part c ∷ (thread_part u ∷ [])) (prio_plan w s t u answer)
   prio_turn u (Err denied) =
@@ -183,13 +184,13 @@ module _ (w : Work) (s : State) (c : CpuId) (hints : Option Hints) (t : ℕ) (ru
 
   op_turn : (o : Option Op) → Turn w s c hints 3 (cpu_part c ∷ op_parts s o) (op_plan w s t o)
   unfolding op_plan
-  op_turn None = own (home.Cpu c) (event.Done (thread_id t)) (inl refl, (inr (inl refl), tt))
+  op_turn None = own (home.Cpu c) (event.Done (thread_id t)) (inl refl, (inl refl, (inr (inl refl), tt)))
   op_turn (Some (op.Run n)) =
       own (home.RealTime (cpu_of s c.0).set) (event.Tick (thread_id t)) (inl refl, (inl refl, (inr (inr (inl (ap Some runs))), (inr (inr (inl refl)), (inr (inl refl), tt)))))
-  op_turn (Some op.Yield) = own (home.RealTime (set_of w t)) (event.Yield (thread_id t)) (inl refl, (inr (inr (inl (ap Some runs))), (inr (inr (inl refl)), (inr (inl refl), tt))))
+  op_turn (Some op.Yield) = own (home.RealTime (set_of w t)) (event.Yield (thread_id t)) (inl refl, (inr (inr (inl (ap Some runs))), (inl refl, (inr (inr (inl refl)), (inr (inl refl), tt)))))
   op_turn (Some (op.Nap n)) = own (home.Cpu c) (event.Nap (thread_id t)) (inl refl, (inl refl, (inr (inl refl), (inr (inl (ap Some runs)), tt))))
   op_turn (Some (op.Sleep k)) =
-      own (home.Sleepers (k.0 % 64)) (event.Sleep (thread_id t) k) (inl refl, (inr (inr (inl refl)), (inr (inl refl), (inr (inr (inl (ap Some runs))), tt))))
+      own (home.Sleepers (k.0 % 64)) (event.Sleep (thread_id t) k) (inl refl, (inl refl, (inr (inr (inl refl)), (inr (inl refl), (inr (inr (inl (ap Some runs))), tt)))))
   op_turn (Some (op.Wake k)) = wake_turn k (best_sleeper s k.0) refl
   op_turn (Some (op.WakeAll k)) =
       own (home.Sleepers (k.0 % 64)) (event.Wakeall (thread_id t) k) (inl refl, (inl refl, (inr (inl refl), (inr (inr (inl (ap Some runs))), tt))))
@@ -219,12 +220,12 @@ module _ (w : Work) (s : State) (c : CpuId) (hints : Option Hints) (t : ℕ) (ru
   leave_home (Some d) = if d.0 == c.0 then home.RealTime (set_of w t) else home.Cpu d
 
   leave_cover : (hs : List HomeId) (b : ThreadBody) (bound : Option CpuId) → IsOneOf (Some (home.Cpu c)) hs → Cover s c (leave_home bound ∷ hs) (after_parts w s c (leave_event c.0 t b bound))
-  leave_cover hs b None own = (inl refl, (inr (inr (subst (λ (x : HomeId). IsOneOf (Some x) hs) (sym runs) own)), (inr (inr own), (inr (inl refl), tt))))
+  leave_cover hs b None own = (inl refl, (inr (inr (subst (λ (x : HomeId). IsOneOf (Some x) hs) (sym runs) own)), (inl refl, (inr (inr own), (inr (inl refl), tt)))))
   leave_cover hs b (Some d) own = by (d.0 == c.0)
     where
       by : (x : Bool) → Cover s c ((if x then home.RealTime (set_of w t) else home.Cpu d) ∷ hs) (after_parts w s c (if x then event.Preempt (thread_id t) (end_of b.back) else event.Away (thread_id t) d))
-      by true = (inl refl, (inr (inr (subst (λ (x : HomeId). IsOneOf (Some x) hs) (sym runs) own)), (inr (inr own), (inr (inl refl), tt))))
-      by false = (inl refl, (inr (inr (subst (λ (x : HomeId). IsOneOf (Some x) hs) (sym runs) own)), (inr (inr own), (inr (inl refl), tt))))
+      by true = (inl refl, (inr (inr (subst (λ (x : HomeId). IsOneOf (Some x) hs) (sym runs) own)), (inl refl, (inr (inr own), (inr (inl refl), tt)))))
+      by false = (inl refl, (inl refl, (inr (inr (subst (λ (x : HomeId). IsOneOf (Some x) hs) (sym runs) own)), (inr (inr own), (inr (inl refl), tt)))))
 
   leaving : (leaves : Bool) → Turn w s c hints 3 (cpu_part c ∷ op_parts s (op_of w t (thread_of s t).body))
       (run_plan_of w s t (if leaves then Some (Make (leave_event c.0 t (thread_of s t).body (thread_of s t).body.bound)) else None))

@@ -1,38 +1,21 @@
 -- In which homes the parts lie that a processor looks at.
 -- Source: this project's own; the homes are the dispatch queues, the chains of turnstiles and those of sleepers of Solaris
 -- Internals.
-use Rattle.std.specs.Prelude.{◌≡◌, ℕ, ◌%◌, ◌≤◌, ◌⊎◌, List, [], ◌∷◌, length, Option, Some, None}
+use Rattle.std.specs.Prelude.{◌≡◌, ℕ, ◌≤◌, ◌⊎◌, List, [], ◌∷◌, length, Option, Some, None}
 use Rattle.sd_types.specs.declared.numbers.CpuId.{CpuId}
 use Rattle.sd_types.specs.declared.numbers.HomeId.{HomeId}
-use Rattle.sd_types.specs.declared.numbers.HomeId.TheVariants as home
 use Rattle.sd_types.specs.declared.events.Hints.{Hints}
 use Rattle.sd_types.specs.declared.works.Work.{Work}
-use Rattle.sd_machine.specs.declared.states.Place.{Place}
-use Rattle.sd_machine.specs.declared.states.Place.TheVariants.{Running, Queued, RealTime, Waiting, Asleep, Napping, Ended}
 use Rattle.sd_machine.specs.declared.states.State.{State}
-use Rattle.sd_machine.specs.declared.states.ThreadState.{ThreadState}
 use Rattle.sd_machine.specs.States.{thread_of}
 use Rattle.sd_full.specs.Events.{wish}
 use Rattle.sd_full.specs.Runs.{IsReached}
+use Rattle.sd_shown.specs.Standing.{home_of}
 use Rattle.sd_step.specs.Needed.{needed, next_parts, reads_parts}
 use Rattle.sd_step.specs.Touched.{after_parts}
 use Rattle.sd_store.specs.declared.parts.Part.{Part}
 use Rattle.sd_store.specs.declared.parts.Part.TheVariants.{Home, Thread, Actor}
 use Rattle.sd_store.specs.Parts.{IsAmong, actor_part}
-
--- the home of a place; a thread that has ended stays with the processor on which it ran last
-abbrev pub home_of_place : Place → CpuId → HomeId
-home_of_place (Running c) last = home.Cpu c
-home_of_place (Queued c key) last = home.Cpu c
-home_of_place (RealTime p key) last = home.RealTime p
-home_of_place (Waiting l side key) last = home.Chain (l.0 % 64)
-home_of_place (Asleep k key) last = home.Sleepers (k.0 % 64)
-home_of_place (Napping c due) last = home.Cpu c
-home_of_place Ended last = home.Cpu last
-
--- the home in which a thread stands
-abbrev pub home_of : ThreadState → HomeId
-home_of x = home_of_place x.place x.body.last
 
 -- the home in which a part lies: the count and the duty of a processor lie in none
 abbrev pub home_in : State → Part → Option HomeId

@@ -1,7 +1,7 @@
 -- Where a thread runs for a tick, or leaves its processor: the parts that are ready, who runs, and the queue to which the
 -- thread goes.
-use Rattle.std.proofs.Common.{◌≡◌, ℕ, List, [], ◌∷◌, refl, ap, ◌∙◌}
-use Rattle.std.specs.Prelude.{Option, Result, Ok, Err, IfOk}
+use Rattle.std.proofs.Common.{◌≡◌, ℕ, Bool, false, [], ◌∷◌, refl, sym, ap, ◌∙◌}
+use Rattle.std.specs.Prelude.{Option, Result, Ok, Err, IfOk, IfErr}
 use Rattle.sd_types.specs.declared.numbers.CpuId.{CpuId}
 use Rattle.sd_types.specs.declared.numbers.SetId.{SetId}
 use Rattle.sd_types.specs.declared.numbers.ThreadId.{ThreadId}
@@ -18,6 +18,7 @@ use Rattle.sd_full.specs.Needs.{CanFinish, IsFree}
 use Rattle.sd_full.specs.Threads.{eff_of, runner}
 use Rattle.sd_mdisp.specs.Touched.{queue_for}
 use Rattle.sd_mdisp.proofs.Kept.{class_place, kept_set}
+use Rattle.sd_store.specs.declared.parts.Part.{Part}
 use Rattle.sd_store.specs.Parts.{cpu_part, ready_parts, real_time_part}
 
 pub same_ready : (s r : State) (c : CpuId) → (cpu_of r c.0).set ≡ (cpu_of s c.0).set → ready_parts r c ≡ ready_parts s c
@@ -51,6 +52,12 @@ free_unmarked s c d free = free
 pub did : {A L : Type 0} (r : Result A L) (P Q : Type 0) → (P → Q) → IfOk r (λ _. P) → IfOk r (λ _. Q)
 did (Ok a) P Q f is = f is
 did (Err q) P Q f is = tt
+
+-- what was lacking afterwards was lacking before, of a store that has the same parts
+pub missed : {A L : Type 0} (r : Result A L) (part : L → Part) (before after : Part → Bool) (P Q : L → Type 0) → after ≡ before → ((q : L) → P q → Q q)
+    → IfErr r (λ q. P q × (after (part q) ≡ false)) → IfErr r (λ q. Q q × (before (part q) ≡ false))
+missed (Ok a) part before after P Q e f lack = tt
+missed (Err q) part before after P Q e f lack = (f q lack.0, sym (ap (λ (has : Part → Bool). has (part q)) e) ∙ lack.1)
 
 -- a thread that leaves for its queue by its priority and its binding
 pub left_preempted : (w : Work) (s : State) (n : ℕ) (c : CpuId) (t : ℕ) (end : End) (p : ℕ) (bound : Option CpuId) → p ≡ eff_of s t → bound ≡ (thread_of s t).body.bound

@@ -10,7 +10,7 @@ use Rattle.sd_machine.specs.declared.states.Place.TheVariants.{Running, Queued, 
 use Rattle.sd_machine.specs.declared.states.State.{State}
 use Rattle.sd_full.specs.Threads.{set_of}
 use Rattle.sd_store.specs.declared.parts.Part.{Part}
-use Rattle.sd_store.specs.Parts.{cpu_part, put_parts, ready_parts, real_time_part, thread_part}
+use Rattle.sd_store.specs.Parts.{actor_part, cpu_part, put_parts, ready_parts, real_time_part, thread_part}
 
 abbrev pub put_parts_if : Work → ThreadId → Option Put → List Part
 put_parts_if w t None = []
@@ -21,9 +21,9 @@ abbrev pub reordered_parts : Work → State → ThreadId → Option Put → Plac
 reordered_parts w s t at (Running d) = thread_part t ∷ ready_parts s d
 reordered_parts w s t at _ = thread_part t ∷ put_parts_if w t at
 
--- a thread that leaves its processor for a queue
+-- a thread that leaves its processor for a queue: it takes the count of ticks along
 abbrev pub leaving_parts : Work → ThreadId → CpuId → List Part
-leaving_parts w t c = thread_part t ∷ cpu_part c ∷ real_time_part (set_of w t.0) ∷ []
+leaving_parts w t c = thread_part t ∷ actor_part c ∷ cpu_part c ∷ real_time_part (set_of w t.0) ∷ []
 
 -- the queue of a thread of priority p that has been on processor c: `queue_place` by priority and binding
 abbrev pub queue_for : Work → ℕ → CpuId → ℤ → ℕ → Option CpuId → Place

@@ -3,7 +3,7 @@
 
 ghost use Rattle.std.specs.Prelude.{◌≡◌, [], ◌∷◌, IfOk, option_copied, option_map, unwrap_or};
 ghost use Rattle.sd_full.specs.Prioritising.{is_privileged, uid_of};
-ghost use Rattle.sd_full.specs.Threads.{eff_of, has_ended, priority_of, set_of};
+ghost use Rattle.sd_full.specs.Threads.{eff_of, has_ended, priority_of};
 ghost use Rattle.sd_machine.specs.Operations.{op_of};
 ghost use Rattle.sd_machine.specs.declared.states.Place.{Place};
 ghost use Rattle.sd_machine.specs.States.{no_body, thread_of};
@@ -15,7 +15,7 @@ ghost use Rattle.sd_types.specs.Priorities.{eff, eff_as};
 
 use sd_store::{Look, Spot};
 use sd_types::{
-    ClassState, CpuId, LockId, Op, SetId, SysState, ThreadBody, ThreadId, Work, greatest_willed,
+    ClassState, CpuId, LockId, Op, SysState, ThreadBody, ThreadId, Work, greatest_willed,
 };
 
 /// The class state of thread `t`.
@@ -87,16 +87,6 @@ pub fn has_ended(spot: Spot) -> bool
     ensures { (place : Place) → spot ≡ spot_of place → result ≡ has_ended place }
 {
     matches!(spot, Spot::Ended)
-}
-
-/// The partition of a thread, which its declaration names.
-pub fn set_of(work: &Work, t: ThreadId) -> SetId
-    ensures { result ≡ set_of work.now t.0 }
-{
-    match work.threads.items().get(t.0 as usize) {
-        Some(decl) => decl.set,
-        None => SetId(0),
-    }
 }
 
 /// The user of a thread.

@@ -12,10 +12,10 @@ ghost use Rattle.sd_machine.specs.States.{cpu_of, thread_of};
 ghost use Rattle.sd_store.specs.Parts.{actor_part, cpu_part, ready_parts, real_time_part, thread_part};
 ghost use Rattle.sd_store.specs.Words.{Lacks, Tells, TellsIf};
 
-use crate::bodies::{bound_of, set_of};
+use crate::bodies::bound_of;
 use arrayvec::ArrayVec;
 use sd_choose::{choose, victim};
-use sd_store::Look;
+use sd_store::{Look, set_of};
 use sd_types::{CpuId, Hints, Put, REAL_TIME_PRIORITY, ThreadId, Work};
 
 fn copied(cpus: &[CpuId]) -> ArrayVec<CpuId, 64>

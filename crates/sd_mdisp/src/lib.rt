@@ -16,8 +16,8 @@ mod running;
 mod waking;
 
 pub use bodies::{
-    bound_of, class_of, eff_as, eff_of, has_ended, is_privileged, op_of, priority_of, set_of,
-    uid_of, willed_numbers,
+    bound_of, class_of, eff_as, eff_of, has_ended, is_privileged, op_of, priority_of, uid_of,
+    willed_numbers,
 };
 pub use choosing::{neighbours, put_chosen, victim_for};
 pub use classes::{aged_class, class_expires, class_requeue, ticked_class, woken_class};

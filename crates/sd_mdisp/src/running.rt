@@ -13,10 +13,10 @@ ghost use Rattle.sd_mdisp.specs.Touched.{leaving_parts, queue_for};
 ghost use Rattle.sd_store.specs.Parts.{actor_part, cpu_part, ready_parts, real_time_part, thread_part};
 ghost use Rattle.sd_store.specs.Words.{Does, DoesBy, Lacks, LacksBy, LacksIf, Tells};
 
-use crate::bodies::{bound_of, class_of, eff_of, set_of};
+use crate::bodies::{bound_of, class_of, eff_of};
 use crate::classes::{class_expires, class_requeue, ticked_class};
 use crate::marks::mark_over;
-use sd_store::{Destination, Look, Store, finish_op, run_tick, send_back, set_class};
+use sd_store::{Destination, Look, Store, finish_op, run_tick, send_back, set_class, set_of};
 use sd_types::{CpuId, End, REAL_TIME_PRIORITY, ThreadBody, ThreadId, Work};
 
 /// Where the quantum has expired and something that is ready has at least the priority of thread `t`, the thread is to
@@ -125,7 +125,7 @@ fn left_for_queue<S: Store>(
 ) -> Result<(), S::Lack>
     requires { number < 2 ^ 62 }
     ensures value { DoesBy number (S.shows x.old) (S.shows x.new) result (λ s. RunsOn s t c) (λ s. leave s c.0 t.0 (queue_for work.now t.0 c (key_at number end) p bound)) }
-    ensures lack { LacksBy number S.part (S.shows x.old) (S.has x.old) result (λ s. RunsOn s t c) (λ s. cpu_part c ∷ real_time_part (set_of work.now t.0) ∷ []) }
+    ensures lack { LacksBy number S.part (S.shows x.old) (S.has x.old) result (λ s. RunsOn s t c) (λ s. actor_part c ∷ cpu_part c ∷ real_time_part (set_of work.now t.0) ∷ []) }
     ensures has { S.has x.new ≡ S.has x.old }
 {
     if p >= REAL_TIME_PRIORITY && bound.is_none() {
@@ -195,7 +195,7 @@ pub fn sent_away<S: Store>(
 ) -> Result<(), S::Lack>
     requires { number < 2 ^ 62 }
     ensures value { DoesBy number (S.shows x.old) (S.shows x.new) result (λ s. RunsOn s t c) (λ s. sent_away s number c t.0 d) }
-    ensures lack { LacksBy number S.part (S.shows x.old) (S.has x.old) result (λ s. RunsOn s t c) (λ s. thread_part t ∷ cpu_part c ∷ cpu_part d ∷ []) }
+    ensures lack { LacksBy number S.part (S.shows x.old) (S.has x.old) result (λ s. RunsOn s t c) (λ s. actor_part c ∷ thread_part t ∷ cpu_part c ∷ cpu_part d ∷ []) }
     ensures has { S.has x.new ≡ S.has x.old }
 {
     let m = eff_of(x, t)?;
@@ -228,7 +228,7 @@ pub fn yielded<S: Store>(
 pub fn done<S: Store>(x: &mut S, number: u64, c: CpuId, t: ThreadId) -> Result<(), S::Lack>
     requires { number < 2 ^ 62 }
     ensures value { DoesBy number (S.shows x.old) (S.shows x.new) result (λ s. RunsOn s t c) (λ s. done s c t.0) }
-    ensures lack { LacksBy number S.part (S.shows x.old) (S.has x.old) result (λ s. RunsOn s t c) (λ s. cpu_part c ∷ []) }
+    ensures lack { LacksBy number S.part (S.shows x.old) (S.has x.old) result (λ s. RunsOn s t c) (λ s. actor_part c ∷ cpu_part c ∷ []) }
     ensures has { S.has x.new ≡ S.has x.old }
 {
     x.leave(number, c, t, Destination::Nowhere)

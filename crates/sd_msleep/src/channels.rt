@@ -25,7 +25,7 @@ pub fn fallen_asleep<S: Store>(
 ) -> Result<(), S::Lack>
     requires { number < 2 ^ 62 }
     ensures value { DoesBy number (S.shows x.old) (S.shows x.new) result (λ s. CanAct work.now s t c × IsChan s k) (λ s. fallen_asleep work.now s number c t.0 k) }
-    ensures lack { LacksBy number S.part (S.shows x.old) (S.has x.old) result (λ s. CanAct work.now s t c × IsChan s k) (λ s. cpu_part c ∷ sleepers_part k ∷ thread_part t ∷ []) }
+    ensures lack { LacksBy number S.part (S.shows x.old) (S.has x.old) result (λ s. CanAct work.now s t c × IsChan s k) (λ s. actor_part c ∷ cpu_part c ∷ sleepers_part k ∷ thread_part t ∷ []) }
     ensures has { S.has x.new ≡ S.has x.old }
 {
     x.leave(number, c, t, Destination::SleepQueue(k))?;

@@ -13,8 +13,8 @@ ghost use Rattle.sd_store.specs.Keyless.{spot_of};
 ghost use Rattle.sd_store.specs.Parts.{bound_parts, cpu_part, thread_part};
 ghost use Rattle.sd_store.specs.Words.{Does, DoesBy, Lacks, LacksBy, LacksIf, Tells};
 
-use sd_mdisp::{bound_of, eff_of, has_ended, is_privileged, put_where, set_of, uid_of};
-use sd_store::{Look, Sets, Spot, finish_op};
+use sd_mdisp::{bound_of, eff_of, has_ended, is_privileged, put_where, uid_of};
+use sd_store::{Look, Sets, Spot, finish_op, set_of};
 use sd_types::{BindAnswer, CpuId, Put, REAL_TIME_PRIORITY, ThreadId, Work};
 
 /// The processor is not of the set of thread `u`, or it is a second binding, or the end of none.

@@ -1,6 +1,6 @@
 -- The state as a store.
 -- Source: this project's own.
-use Rattle.std.specs.Prelude.{◌≡◌, ℕ, ◌<◌, ◌≤◌, true, length, IfSome, IsTrue, ⊤}
+use Rattle.std.specs.Prelude.{◌≡◌, ℕ, ◌<◌, ◌≤◌, length, IfSome, IsTrue, ⊤}
 use Rattle.sd_types.specs.declared.bodies.ThreadBody.{ThreadBody}
 use Rattle.sd_types.specs.declared.works.Work.{Work}
 use Rattle.sd_types.specs.Scripts.{is_held}

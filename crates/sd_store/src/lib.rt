@@ -5,6 +5,7 @@
 mod changes;
 mod clock;
 mod flat;
+mod keyless;
 mod look;
 mod parts;
 mod sets;
@@ -14,6 +15,7 @@ mod store;
 pub use changes::BodyChange;
 pub use clock::Clock;
 pub use flat::Never;
+pub use keyless::{duty_of, place_by, place_put, rouse, rouse_key, set_of, task_of};
 pub use look::Look;
 pub use parts::{CpuView, Part};
 pub use sets::Sets;

@@ -105,7 +105,7 @@ pub trait Store: Look {
     ) -> Result<(), Self::Lack>
         requires { number < 2 ^ 62 }
         ensures value { DoesBy number (Self.shows self.old) (Self.shows self.new) result (λ s. RunsOn s t c × IsDestination s to) (λ s. leave s c.0 t.0 (place_by number c to)) }
-        ensures lack { Lacks Self.part (Self.shows self.old) (Self.has self.old) result (λ s. cpu_part c ∷ destination_parts to) }
+        ensures lack { Lacks Self.part (Self.shows self.old) (Self.has self.old) result (λ s. actor_part c ∷ cpu_part c ∷ destination_parts to) }
         ensures kept { Keeps (Self.shows self.old) (Self.shows self.new) result }
         ensures has { Self.has self.new ≡ Self.has self.old };
 

@@ -1,5 +1,5 @@
 -- Which bytes pictures are made of.
-use Rattle.std.proofs.Common.{ℕ, ◌+◌, ◌%◌, Bool, true, false, ◌&&◌, eqb, ltb, List, [], ◌∷◌, ◌++◌, length, Option, Some, None, refl, ◌∙◌, if◌then◌else◌}
+use Rattle.std.proofs.Common.{ℕ, ◌+◌, ◌-◌, ◌%◌, Bool, true, false, eqb, ltb, List, [], ◌∷◌, ◌++◌, length, Option, Some, None, refl, ◌∙◌}
 use Rattle.std.specs.Prelude.{codes, slice_get}
 use Rattle.std.specs.List.{flat_map, range_with_len}
 use Rattle.std.proofs.lemmas.List.Folds.{list_all-append}
@@ -32,23 +32,24 @@ use Rattle.sd_stretches.specs.Spins.{pieces}
 use Rattle.sd_labels.specs.Plain.{is_plain_byte, is_text_byte, IsPlain, IsText}
 use Rattle.sd_labels.proofs.PlainLemmas.{thread-plain, lock-plain, doing-plain, decimal-plain}
 use Rattle.sd_labels.proofs.TextLemmas.{plain-text, flat-text, either-text, decimal-text, thread-text, lock-text, chan-text, set-text}
+use Rattle.sd_timeline.specs.declared.layouts.Row.{Row}
+use Rattle.sd_timeline.specs.declared.layouts.Row.TheVariants.{Cpu, Thread}
 use Rattle.sd_timeline.specs.declared.frames.Frame.{Frame}
-use Rattle.sd_timeline.specs.declared.frames.Row.{Row}
-use Rattle.sd_timeline.specs.declared.frames.Row.TheVariants.{Cpu, Thread}
-use Rattle.sd_timeline.specs.Frames.{above, across, after, base, beside, bottom, column, floor, inside, over, row_of, shifted, shown, shows, step, top, under, width}
+use Rattle.sd_timeline.specs.Layouts.{Layout, above, across, after, axes, axis_base, base, beside, bottom, column, floor, inside, over, row_of, shifted, shown, shows, step, top, under, width}
 use Rattle.sd_timeline.specs.declared.legend.Key.{Key}
 use Rattle.sd_timeline.specs.declared.legend.Key.TheVariants as key
 use Rattle.sd_timeline.specs.declared.legend.Shape.{Shape}
 use Rattle.sd_timeline.specs.declared.legend.Shape.TheVariants as shape
 use Rattle.sd_timeline.specs.Pieces.{attribute, box_text, ends_text, path_ends, path_start, bar_start, label_start, word_label, number_label, grid_line}
 use Rattle.sd_timeline.specs.Bars.{bar_text, between, cpu_word, doing_class, fits, on_bar, on_thread_bar, place_text, run_bar, run_bar_by, stretch_bar, stretch_title, times_text, word_text}
-use Rattle.sd_timeline.specs.Arrows.{arrow_start, hand_by, hand_path, hand_rows, hand_text, hand_texts, hand_title, heights, nth_at, waiter_text, wake_by, wake_path, wake_rows, wake_text, wake_title}
-use Rattle.sd_timeline.specs.Labels.{inherited_level, inherited_word, level_area, level_label, level_text, level_title, mark_at, mark_text, own_level}
-use Rattle.sd_timeline.specs.Legend.{box_key, class_of, key_at, key_if, key_text, keys_of, legend_text, line_key, shape_of, slot_x, slot_y, words_of}
-use Rattle.sd_timeline.specs.Moments.{cpu_moment, moment_line, moment_text, moments_of, thread_moment}
+use Rattle.sd_timeline.specs.Arrows.{arrow_start, hand_path, hand_rows, hand_text, hand_texts, hand_title, heights, is_drawn_wake, nth_at, waiter_text, wake_by, wake_path, wake_rows, wake_text, wake_title}
+use Rattle.sd_timeline.specs.Labels.{has_room, inherited_level, inherited_word, level_area, level_label, level_text, level_title, mark_at, mark_text, own_level, some_level}
+use Rattle.sd_timeline.specs.Legend.{Drawn, box_key, class_of, drawn_of, key_at, key_if, key_text, keys_of, keys_text, legend_text, line_key, sample_key, sample_of, shape_of, slot_x, slot_y, words_of}
+use Rattle.sd_timeline.specs.Moments.{cpu_moment, is_moment, moment_line, moment_lines, moment_text, thread_moment}
 use Rattle.sd_timeline.specs.Notes.{assign_note, bind_note, bound_words, note_by, note_text, set_note, set_words, thread_note}
-use Rattle.sd_timeline.specs.Head.{axis, bars_key, bound_label, counts_text, cpu_head, dark_colours, description, file_title, hatch, head, heading, letters, light_colours, lines, mark, mark_if, measures, opened, page, set_label, size, small_letters, start, style, thin_lines, thread_head, ticks_text, view_box}
-use Rattle.sd_timeline.specs.Picture.{bound_of, ground_text, marks_text, own_row, row_text, rows_text, thread_text, timeline_text}
+use Rattle.sd_timeline.specs.Head.{axis, bound_label, counts_text, cpu_head, dark_colours, description, file_title, hatch, head, heading, hint, inner_number, letters, light_colours, lines, mark, mark_if, measures, opened, page, rowless, rowless_text, set_label, size, small_letters, start, style, thin_lines, thread_head, ticks_text, view_box}
+use Rattle.sd_timeline.specs.Picture.{bound_of, ground_text, laid_out, marks_text, own_row, row_text, rows_text, thread_text, timeline_text}
+use Rattle.sd_timeline.specs.Rows.{layout_of}
 use Rattle.sd_timeline.specs.Plain.{HasPlainTitles}
 
 both-text : (a b : List ℕ) → IsText a → IsText b → IsText (a ++ b)
@@ -118,21 +119,21 @@ on-thread-text w x y width (Asleep k) = word-text (codes "in") x y width (chan_n
 on-thread-text w x y width Napping = refl
 on-thread-text w x y width Ended = refl
 
-on-text : (w : Work) (f : Frame) (row : Row) (x : Stretch) → IsText (on_bar w f row x)
+on-text : (w : Work) (f : Layout) (row : Row) (x : Stretch) → IsText (on_bar w f row x)
 on-text w f (Cpu c) x =
     word-text (codes "on") (inside f x.from) (base f (Cpu c)) (width f x.from x.to) (thread_name w x.thread) refl (thread-text w x.thread)
 on-text w f (Thread t) x = on-thread-text w (inside f x.from) (base f (Thread t)) (width f x.from x.to) x.doing
 
-whole-text : (w : Work) (f : Frame) (row : Row) (x : Stretch) → IsText (bar_text w f row x)
+whole-text : (w : Work) (f : Layout) (row : Row) (x : Stretch) → IsText (bar_text w f row x)
 unfolding bar_text
 whole-text w f row x =
     let begins = bar-start-text (doing_class x.doing) (column f x.from) (top f row) (width f x.from x.to) 14 (class-text x.doing) in
     simp (list_all-append is_text_byte, begins, title-text w x, on-text w f row x)
 
-bar-text : (w : Work) (f : Frame) (row : Row) (x : Stretch) → IsText (stretch_bar w f row x)
+bar-text : (w : Work) (f : Layout) (row : Row) (x : Stretch) → IsText (stretch_bar w f row x)
 bar-text w f row x = either-text (eqb (width f x.from x.to) 0) [] (bar_text w f row x) refl (whole-text w f row x)
 
-run-text-by : (w : Work) (f : Frame) (x : Stretch) (d : Doing) → IsText (run_bar_by w f x d)
+run-text-by : (w : Work) (f : Layout) (x : Stretch) (d : Doing) → IsText (run_bar_by w f x d)
 run-text-by w f x (Running c) = bar-text w f (Cpu c.0) x
 run-text-by w f x (Spinning c l) = bar-text w f (Cpu c.0) x
 run-text-by w f x Runnable = refl
@@ -141,15 +142,15 @@ run-text-by w f x (Asleep k) = refl
 run-text-by w f x Napping = refl
 run-text-by w f x Ended = refl
 
-run-text : (w : Work) (f : Frame) (x : Stretch) → IsText (run_bar w f x)
+run-text : (w : Work) (f : Layout) (x : Stretch) → IsText (run_bar w f x)
 run-text w f x = run-text-by w f x x.doing
 
 -- ---- labels and arrows
 
-own-level-text : (f : Frame) (t : ℕ) (x : Level) → IsText (own_level f t x)
+own-level-text : (f : Layout) (t : ℕ) (x : Level) → IsText (own_level f t x)
 own-level-text f t x = number-label-text (codes "own") (beside f x.from) (above f t) [] x.priority refl refl
 
-inherited-level-text : (f : Frame) (t : ℕ) (x : Level) → IsText (inherited_level f t x)
+inherited-level-text : (f : Layout) (t : ℕ) (x : Level) → IsText (inherited_level f t x)
 inherited-level-text f t x =
     either-text (ltb (width f x.from x.to) 30)
     (word_label (codes "inherited") (beside f x.from) (above f t) (codes "&#9650;"))
@@ -157,10 +158,11 @@ inherited-level-text f t x =
     (word-label-text (codes "inherited") (beside f x.from) (above f t) (codes "&#9650;") refl refl)
     (number-label-text (codes "inherited") (beside f x.from) (above f t) (codes "&#9650;") x.priority refl refl)
 
-level-label-text : (f : Frame) (t : ℕ) (x : Level) → IsText (level_label f t x)
-level-label-text f t x =
-    either-text (ltb (width f x.from x.to) 20) [] (if x.inherited then inherited_level f t x else own_level f t x) refl
-    (either-text x.inherited (inherited_level f t x) (own_level f t x) (inherited-level-text f t x) (own-level-text f t x))
+some-level-text : (f : Layout) (t : ℕ) (x : Level) → IsText (some_level f t x)
+some-level-text f t x = either-text x.inherited (inherited_level f t x) (own_level f t x) (inherited-level-text f t x) (own-level-text f t x)
+
+level-label-text : (f : Layout) (t : ℕ) (x : Level) → IsText (level_label f t x)
+level-label-text f t x = either-text (has_room f x) (some_level f t x) [] (some-level-text f t x) refl
 
 inherited-word-text : (b : Bool) → IsText (inherited_word b)
 inherited-word-text true = refl
@@ -170,16 +172,16 @@ level-title-text : (x : Level) → IsText (level_title x)
 unfolding level_title between
 level-title-text x = simp (list_all-append is_text_byte, decimal-text, inherited-word-text x.inherited)
 
-level-area-text : (f : Frame) (t : ℕ) (x : Level) → IsText (level_area f t x)
+level-area-text : (f : Layout) (t : ℕ) (x : Level) → IsText (level_area f t x)
 unfolding level_area
 level-area-text f t x =
     let begins = bar-start-text (codes "level") (column f x.from) (over f t) (width f x.from x.to) 12 refl in
     simp (list_all-append is_text_byte, begins, level-title-text x)
 
-level-both-text : (f : Frame) (t : ℕ) (x : Level) → IsText (level_label f t x ++ level_area f t x)
+level-both-text : (f : Layout) (t : ℕ) (x : Level) → IsText (level_label f t x ++ level_area f t x)
 level-both-text f t x = both-text (level_label f t x) (level_area f t x) (level-label-text f t x) (level-area-text f t x)
 
-level-text : (f : Frame) (t : ℕ) (x : Level) → IsText (level_text f t x)
+level-text : (f : Layout) (t : ℕ) (x : Level) → IsText (level_text f t x)
 level-text f t x = either-text (eqb (width f x.from x.to) 0) [] (level_label f t x ++ level_area f t x) refl (level-both-text f t x)
 
 arrow-title : (w : Work) (x : HandOver) (waiter : ℕ) → IsPlain (hand_title w x waiter)
@@ -194,64 +196,61 @@ wake-title w x waker = simp (list_all-append is_plain_byte, thread-plain w waker
 pub plain_titles : (w : Work) → HasPlainTitles w
 plain_titles w = record { bars = bar-title w; arrows = arrow-title w; wakeups = wake-title w }
 
-arrow-start-text : (class : List ℕ) (column : ℕ) (f : Frame) (from to : ℕ) → IsText class → IsText (arrow_start class column f from to)
+arrow-start-text : (class : List ℕ) (column : ℕ) (f : Layout) (from to : ℕ) → IsText class → IsText (arrow_start class column f from to)
 unfolding arrow_start
 arrow-start-text class column f from to h = path-start-text class column (heights f from to) h
 
-hand-path-text : (w : Work) (f : Frame) (n : ℕ) (x : HandOver) (rows : ℕ × ℕ) → IsText (hand_path w f n x rows)
+hand-path-text : (w : Work) (f : Layout) (n : ℕ) (x : HandOver) (waiter : ℕ) (rows : ℕ × ℕ) → IsText (hand_path w f n x waiter rows)
 unfolding hand_path
-hand-path-text w f n x rows =
+hand-path-text w f n x waiter rows =
     let begins = arrow-start-text (codes "will") (shifted f x.tick n) f rows.0 rows.1 refl in
-    let title = plain-text (hand_title w x rows.0) (arrow-title w x rows.0) in
+    let title = plain-text (hand_title w x waiter) (arrow-title w x waiter) in
     simp (list_all-append is_text_byte, begins, title)
 
-hand-rows-text : (w : Work) (f : Frame) (n : ℕ) (x : HandOver) (waiter owner : Option ℕ) → IsText (hand_rows w f n x waiter owner)
-hand-rows-text w f n x None owner = refl
-hand-rows-text w f n x (Some waiter) None = refl
-hand-rows-text w f n x (Some waiter) (Some owner) = hand-path-text w f n x (waiter, owner)
+hand-rows-text : (w : Work) (f : Layout) (n : ℕ) (x : HandOver) (waiter : ℕ) (from to : Option ℕ) → IsText (hand_rows w f n x waiter from to)
+hand-rows-text w f n x waiter None to = refl
+hand-rows-text w f n x waiter (Some from) None = refl
+hand-rows-text w f n x waiter (Some from) (Some to) = hand-path-text w f n x waiter (from, to)
 
-hand-by-text : (w : Work) (f : Frame) (n : ℕ) (x : HandOver) (waiter : Option ℕ) → IsText (hand_by w f n x waiter)
-hand-by-text w f n x None = refl
-hand-by-text w f n x (Some waiter) = hand-rows-text w f n x (row_of f waiter) (row_of f x.owner.0)
+hand-text : (w : Work) (f : Layout) (n : ℕ) (x : HandOver) (waiter : Option ℕ) → IsText (hand_text w f n x waiter)
+hand-text w f n x None = refl
+hand-text w f n x (Some waiter) = hand-rows-text w f n x waiter (row_of f waiter) (row_of f x.owner.0)
 
-hand-text : (w : Work) (f : Frame) (n : ℕ) (x : HandOver) → IsText (hand_text w f n x)
-hand-text w f n x = either-text (x.inherited && shows f x.tick) (hand_by w f n x x.waiter) [] (hand-by-text w f n x x.waiter) refl
-
-hand-texts-text : (w : Work) (f : Frame) (earlier : Option ℕ) (n : ℕ) (xs : List HandOver) → IsText (hand_texts w f earlier n xs)
+hand-texts-text : (w : Work) (f : Layout) (earlier : Option ℕ) (n : ℕ) (xs : List HandOver) → IsText (hand_texts w f earlier n xs)
 unfolding hand_texts
 hand-texts-text w f earlier n [] = refl
 hand-texts-text w f earlier n (x ∷ xs) =
     let m = nth_at earlier n x.tick in
-    simp (list_all-append is_text_byte, hand-text w f m x, hand-texts-text w f (Some x.tick) m xs)
+    simp (list_all-append is_text_byte, hand-text w f m x x.waiter, hand-texts-text w f (Some x.tick) m xs)
 
-wake-path-text : (w : Work) (f : Frame) (x : Wakeup) (rows : ℕ × ℕ) → IsText (wake_path w f x rows)
+wake-path-text : (w : Work) (f : Layout) (x : Wakeup) (waker : ℕ) (rows : ℕ × ℕ) → IsText (wake_path w f x waker rows)
 unfolding wake_path
-wake-path-text w f x rows =
+wake-path-text w f x waker rows =
     let begins = arrow-start-text (codes "wake") (column f x.tick) f rows.0 rows.1 refl in
-    let title = plain-text (wake_title w x rows.0) (wake-title w x rows.0) in
+    let title = plain-text (wake_title w x waker) (wake-title w x waker) in
     simp (list_all-append is_text_byte, begins, title)
 
-wake-rows-text : (w : Work) (f : Frame) (x : Wakeup) (waker woken : Option ℕ) → IsText (wake_rows w f x waker woken)
-wake-rows-text w f x None woken = refl
-wake-rows-text w f x (Some waker) None = refl
-wake-rows-text w f x (Some waker) (Some woken) = wake-path-text w f x (waker, woken)
+wake-rows-text : (w : Work) (f : Layout) (x : Wakeup) (waker : ℕ) (from to : Option ℕ) → IsText (wake_rows w f x waker from to)
+wake-rows-text w f x waker None to = refl
+wake-rows-text w f x waker (Some from) None = refl
+wake-rows-text w f x waker (Some from) (Some to) = wake-path-text w f x waker (from, to)
 
-wake-by-text : (w : Work) (f : Frame) (x : Wakeup) (waker : Option ℕ) → IsText (wake_by w f x waker)
+wake-by-text : (w : Work) (f : Layout) (x : Wakeup) (waker : Option ℕ) → IsText (wake_by w f x waker)
 wake-by-text w f x None = refl
-wake-by-text w f x (Some waker) = wake-rows-text w f x (row_of f waker) (row_of f x.woken.0)
+wake-by-text w f x (Some waker) = wake-rows-text w f x waker (row_of f waker) (row_of f x.woken.0)
 
-wake-text : (w : Work) (f : Frame) (x : Wakeup) → IsText (wake_text w f x)
-wake-text w f x = either-text (shows f x.tick) (wake_by w f x x.waker) [] (wake-by-text w f x x.waker) refl
+wake-text : (w : Work) (f : Layout) (x : Wakeup) → IsText (wake_text w f x)
+wake-text w f x = either-text (is_drawn_wake f x) (wake_by w f x x.waker) [] (wake-by-text w f x x.waker) refl
 
 -- ---- moments and notes
 
-moment-line-text : (w : Work) (f : Frame) (row : Row) (x : Stretch) → IsText (moment_line w f row x)
+moment-line-text : (w : Work) (f : Layout) (row : Row) (x : Stretch) → IsText (moment_line w f row x)
 unfolding moment_line
 moment-line-text w f row x =
     let begins = path-start-text (codes "moment") (column f x.from) (across f row) refl in
     simp (list_all-append is_text_byte, begins, title-text w x)
 
-cpu-moment-text : (w : Work) (f : Frame) (x : Stretch) (d : Doing) → IsText (cpu_moment w f x d)
+cpu-moment-text : (w : Work) (f : Layout) (x : Stretch) (d : Doing) → IsText (cpu_moment w f x d)
 cpu-moment-text w f x (Running c) = moment-line-text w f (Cpu c.0) x
 cpu-moment-text w f x (Spinning c l) = refl
 cpu-moment-text w f x Runnable = refl
@@ -260,21 +259,24 @@ cpu-moment-text w f x (Asleep k) = refl
 cpu-moment-text w f x Napping = refl
 cpu-moment-text w f x Ended = refl
 
-thread-moment-text : (w : Work) (f : Frame) (x : Stretch) (row : Option ℕ) → IsText (thread_moment w f x row)
+thread-moment-text : (w : Work) (f : Layout) (x : Stretch) (row : Option ℕ) → IsText (thread_moment w f x row)
 thread-moment-text w f x None = refl
 thread-moment-text w f x (Some t) = moment-line-text w f (Thread t) x
 
-moment-text : (w : Work) (f : Frame) (x : Stretch) → IsText (moment_text w f x)
-moment-text w f x =
+moment-lines-text : (w : Work) (f : Layout) (x : Stretch) → IsText (moment_lines w f x)
+moment-lines-text w f x =
     both-text (cpu_moment w f x x.doing) (thread_moment w f x (row_of f x.thread)) (cpu-moment-text w f x x.doing) (thread-moment-text w f x (row_of f x.thread))
 
-set-note-text : (class : List ℕ) (w : Work) (f : Frame) (tick : ℕ) (c : CpuId) (word : List ℕ) (set : SetId) → IsText class → IsText word
+moment-text : (w : Work) (f : Layout) (x : Stretch) → IsText (moment_text w f x)
+moment-text w f x = either-text (is_moment f x) (moment_lines w f x) [] (moment-lines-text w f x) refl
+
+set-note-text : (class : List ℕ) (w : Work) (f : Layout) (tick : ℕ) (c : CpuId) (word : List ℕ) (set : SetId) → IsText class → IsText word
     → IsText (set_note class w f tick c word set)
 unfolding set_note set_words
 set-note-text class w f tick c word set is h =
     simp (list_all-append is_text_byte, label-start-text class (column f tick) (under f (Cpu c.0)) is, h, set-text w set.0)
 
-assign-note-text : (w : Work) (f : Frame) (tick : ℕ) (c : CpuId) (set : SetId) (answer : AssignAnswer) → IsText (assign_note w f tick c set answer)
+assign-note-text : (w : Work) (f : Layout) (tick : ℕ) (c : CpuId) (set : SetId) (answer : AssignAnswer) → IsText (assign_note w f tick c set answer)
 assign-note-text w f tick c set assign.Changed = set-note-text (codes "note closes") w f tick c (codes "closes for ") set refl refl
 assign-note-text w f tick c set assign.EPERM = refl
 assign-note-text w f tick c set assign.EINVAL = refl
@@ -285,32 +287,32 @@ unfolding bound_words
 bound-words-text None = refl
 bound-words-text (Some c) = simp (list_all-append is_text_byte, decimal-text)
 
-thread-note-text : (f : Frame) (tick : ℕ) (cpu : Option CpuId) (row : Option ℕ) → IsText (thread_note f tick cpu row)
+thread-note-text : (f : Layout) (tick : ℕ) (cpu : Option CpuId) (row : Option ℕ) → IsText (thread_note f tick cpu row)
 thread-note-text f tick cpu None = refl
 thread-note-text f tick cpu (Some t) =
     simp (list_all-append is_text_byte, label-start-text (codes "note") (column f tick) (under f (Thread t)) refl, bound-words-text cpu)
 
-bind-note-text : (f : Frame) (tick : ℕ) (t : ThreadId) (cpu : Option CpuId) (answer : BindAnswer) → IsText (bind_note f tick t cpu answer)
+bind-note-text : (f : Layout) (tick : ℕ) (t : ThreadId) (cpu : Option CpuId) (answer : BindAnswer) → IsText (bind_note f tick t cpu answer)
 bind-note-text f tick t cpu (bind.Changed at) = thread-note-text f tick cpu (row_of f t.0)
 bind-note-text f tick t cpu bind.ESRCH = refl
 bind-note-text f tick t cpu bind.EINVAL = refl
 bind-note-text f tick t cpu bind.EPERM = refl
 bind-note-text f tick t cpu bind.EBUSY = refl
 
-note-by-text : (w : Work) (f : Frame) (x : Happening) (e : Event) → IsText (note_by w f x e)
+note-by-text : (w : Work) (f : Layout) (x : Happening) (e : Event) → IsText (note_by w f x e)
 note-by-text w f x (event.Assign t c set answer) = assign-note-text w f x.tick c set answer
 note-by-text w f x (event.Joined set) = set-note-text (codes "note") w f x.tick x.cpu (codes "&#9652;in ") set refl refl
 note-by-text w f x (event.Bind t u cpu answer) = bind-note-text f x.tick u cpu answer
 note-by-text w f x _ = refl
 
-note-text : (w : Work) (f : Frame) (x : Happening) → IsText (note_text w f x)
+note-text : (w : Work) (f : Layout) (x : Happening) → IsText (note_text w f x)
 note-text w f x = either-text (shows f x.tick) (note_by w f x x.event) [] (note-by-text w f x x.event) refl
 
-mark-at-text : (f : Frame) (row : Option ℕ) → IsText (mark_at f row)
+mark-at-text : (f : Layout) (row : Option ℕ) → IsText (mark_at f row)
 mark-at-text f None = refl
 mark-at-text f (Some row) = word-label-text (codes "dead") (inside f f.to) (base f (Thread row)) (codes "deadlock") refl refl
 
-mark-text : (f : Frame) (t : ℕ) → IsText (mark_text f t)
+mark-text : (f : Layout) (t : ℕ) → IsText (mark_text f t)
 mark-text f t = mark-at-text f (row_of f t)
 
 -- ---- what stands above the rows
@@ -319,7 +321,7 @@ counts-text : (w : Work) → IsText (counts_text w)
 unfolding counts_text
 counts-text w = simp (list_all-append is_text_byte, decimal-text)
 
-ticks-text : (w : Work) (f : Frame) → IsText (ticks_text w f)
+ticks-text : (w : Work) (f : Layout) → IsText (ticks_text w f)
 unfolding ticks_text
 ticks-text w f = simp (list_all-append is_text_byte, decimal-text)
 
@@ -327,7 +329,7 @@ file-title-text : (w : Work) → IsText (file_title w)
 unfolding file_title
 file-title-text w = simp (list_all-append is_text_byte, counts-text w)
 
-description-text : (w : Work) (f : Frame) → IsText (description w f)
+description-text : (w : Work) (f : Layout) → IsText (description w f)
 unfolding description
 description-text w f = simp (list_all-append is_text_byte, ticks-text w f)
 
@@ -335,24 +337,35 @@ style-text : IsText style
 unfolding style lines thin_lines dark_colours light_colours letters small_letters
 style-text = refl
 
-size-text : (f : Frame) → IsText (size f)
+size-text : (f : Layout) → IsText (size f)
 unfolding size measures view_box attribute
 size-text f = simp (list_all-append is_text_byte, decimal-text)
 
-start-text : (w : Work) (f : Frame) → IsText (start w f)
+start-text : (w : Work) (f : Layout) → IsText (start w f)
 unfolding start opened hatch page
 start-text w f = simp (list_all-append is_text_byte, size-text f, file-title-text w, description-text w f, style-text)
 
-heading-text : (w : Work) (f : Frame) → IsText (heading w f)
+heading-text : (w : Work) (f : Layout) → IsText (heading w f)
 unfolding heading
 heading-text w f = simp (list_all-append is_text_byte, label-start-text (codes "head") 150 18 refl, ticks-text w f, counts-text w)
 
-bars-key-text : IsText bars_key
-unfolding bars_key
-bars-key-text =
-    word-label-text (codes "key") 150 34 (codes "on a bar of a processor: the thread; on a bar of a thread: its processor, or the lock or channel; more where the pointer rests") refl refl
+many-rowless-text : (n : ℕ) → IsText (rowless_text n)
+unfolding rowless_text
+many-rowless-text n = simp (list_all-append is_text_byte, decimal-text)
 
-tick-text : (f : Frame) (n : ℕ) → IsText (mark f n)
+rowless-text : (w : Work) (f : Layout) → IsText (rowless w f)
+rowless-text w f =
+    either-text (ltb f.threads (length w.threads)) (rowless_text (length w.threads - f.threads)) [] (many-rowless-text (length w.threads - f.threads)) refl
+
+hint-text : (w : Work) (f : Layout) → IsText (hint w f)
+unfolding hint
+hint-text w f = simp (list_all-append is_text_byte, label-start-text (codes "key") 150 34 refl, rowless-text w f)
+
+inner-number-text : (f : Layout) (n k : ℕ) → IsText (inner_number f n k)
+unfolding inner_number
+inner-number-text f n k = number-label-text (codes "tick") (after f n) (axis_base f k) [] (f.from + n) refl refl
+
+tick-text : (f : Layout) (n : ℕ) → IsText (mark f n)
 unfolding mark
 tick-text f n =
     simp (
@@ -360,22 +373,23 @@ tick-text f n =
       line-text (codes "grid") (after f n, 118) (after f n, bottom f) refl,
       number-label-text (codes "tick") (after f n) 113 [] (f.from + n) refl refl,
       number-label-text (codes "tick") (after f n) (bottom f + 14) [] (f.from + n) refl refl,
+      flat-text (inner_number f n) (inner-number-text f n) (range_with_len 0 (axes f)),
     )
 
-tick-text-if : (f : Frame) (n : ℕ) → IsText (mark_if f n)
+tick-text-if : (f : Layout) (n : ℕ) → IsText (mark_if f n)
 tick-text-if f n = either-text (eqb (n % step f) 0) (mark f n) [] (tick-text f n) refl
 
-axis-text : (f : Frame) → IsText (axis f)
+axis-text : (f : Layout) → IsText (axis f)
 unfolding axis
 axis-text f = simp (list_all-append is_text_byte, flat-text (mark_if f) (tick-text-if f) (range_with_len 0 (shown f)), tick-text-if f (shown f))
 
-set-label-text : (w : Work) (f : Frame) (c set : ℕ) → IsText (set_label w f c set)
+set-label-text : (w : Work) (f : Layout) (c set : ℕ) → IsText (set_label w f c set)
 unfolding set_label
 set-label-text w f c set =
     either-text (eqb set 0) [] (word_label (codes "name note") 142 (under f (Cpu c)) (set_name w set)) refl
     (word-label-text (codes "name note") 142 (under f (Cpu c)) (set_name w set) refl (set-text w set))
 
-cpu-head-text : (w : Work) (f : Frame) (c : ℕ) → IsText (cpu_head w f c)
+cpu-head-text : (w : Work) (f : Layout) (c : ℕ) → IsText (cpu_head w f c)
 unfolding cpu_head
 cpu-head-text w f c =
     simp (
@@ -385,22 +399,22 @@ cpu-head-text w f c =
       line-text (codes "base") (150, floor f (Cpu c)) (column f f.to, floor f (Cpu c)) refl,
     )
 
-thread-head-text : (w : Work) (f : Frame) (t : ℕ) → IsText (thread_head w f t)
+thread-head-text : (w : Work) (f : Layout) (row t : ℕ) → IsText (thread_head w f row t)
 unfolding thread_head
-thread-head-text w f t = simp (list_all-append is_text_byte, label-start-text (codes "name") 142 (base f (Thread t)) refl, thread-text w t)
+thread-head-text w f row t = simp (list_all-append is_text_byte, label-start-text (codes "name") 142 (base f (Thread row)) refl, thread-text w t)
 
-bound-label-text : (f : Frame) (t : ℕ) (bound : Option CpuId) → IsText (bound_label f t bound)
-bound-label-text f t None = refl
-bound-label-text f t (Some c) = number-label-text (codes "name note") 142 (under f (Thread t)) (codes "bound to ") c.0 refl refl
+bound-label-text : (f : Layout) (row : ℕ) (bound : Option CpuId) → IsText (bound_label f row bound)
+bound-label-text f row None = refl
+bound-label-text f row (Some c) = number-label-text (codes "name note") 142 (under f (Thread row)) (codes "bound to ") c.0 refl refl
 
-head-text : (w : Work) (f : Frame) → IsText (head w f)
+head-text : (w : Work) (f : Layout) → IsText (head w f)
 unfolding head
 head-text w f =
     simp (
       list_all-append is_text_byte,
       start-text w f,
       heading-text w f,
-      bars-key-text,
+      hint-text w f,
       axis-text f,
       flat-text (cpu_head w f) (cpu-head-text w f) (range_with_len 0 f.cpus),
     )
@@ -415,6 +429,9 @@ key-class-text key.Waiting = refl
 key-class-text key.Asleep = refl
 key-class-text key.Napping = refl
 key-class-text key.Ended = refl
+key-class-text key.Number = refl
+key-class-text key.Name = refl
+key-class-text key.Lock = refl
 key-class-text key.Moment = refl
 key-class-text key.Wake = refl
 key-class-text key.HandOver = refl
@@ -429,16 +446,41 @@ key-words-text key.Waiting = refl
 key-words-text key.Asleep = refl
 key-words-text key.Napping = refl
 key-words-text key.Ended = refl
+key-words-text key.Number = refl
+key-words-text key.Name = refl
+key-words-text key.Lock = refl
 key-words-text key.Moment = refl
 key-words-text key.Wake = refl
 key-words-text key.HandOver = refl
 key-words-text key.Own = refl
 key-words-text key.Inherited = refl
 
+sample-text : (k : Key) → IsText (sample_of k)
+sample-text key.Running = refl
+sample-text key.Spinning = refl
+sample-text key.Runnable = refl
+sample-text key.Waiting = refl
+sample-text key.Asleep = refl
+sample-text key.Napping = refl
+sample-text key.Ended = refl
+sample-text key.Number = refl
+sample-text key.Name = refl
+sample-text key.Lock = refl
+sample-text key.Moment = refl
+sample-text key.Wake = refl
+sample-text key.HandOver = refl
+sample-text key.Own = refl
+sample-text key.Inherited = refl
+
 box-key-text : (class : List ℕ) (x y : ℕ) (words : List ℕ) → IsText class → IsText words → IsText (box_key class x y words)
 unfolding box_key
 box-key-text class x y words p q =
     simp (list_all-append is_text_byte, bar-start-text class x y 24 12 p, q, word-label-text (codes "key") (x + 30) (y + 10) words refl q)
+
+sample-key-text : (class : List ℕ) (x y : ℕ) (sample words : List ℕ) → IsText class → IsText sample → IsText words → IsText (sample_key class x y sample words)
+unfolding sample_key
+sample-key-text class x y sample words p q r =
+    simp (list_all-append is_text_byte, box-key-text class x y words p r, word-label-text (codes "on") (x + 2) (y + 10) sample refl q)
 
 line-key-text : (class : List ℕ) (x y : ℕ) (words : List ℕ) → IsText class → IsText words → IsText (line_key class x y words)
 unfolding line_key
@@ -447,6 +489,7 @@ line-key-text class x y words p q =
 
 key-shape-text : (k : Key) (x y : ℕ) (shape : Shape) → IsText (key_text k x y shape)
 key-shape-text k x y shape.Box = box-key-text (class_of k) x y (words_of k) (key-class-text k) (key-words-text k)
+key-shape-text k x y shape.Sample = sample-key-text (class_of k) x y (sample_of k) (words_of k) (key-class-text k) (sample-text k) (key-words-text k)
 key-shape-text k x y shape.Line = line-key-text (class_of k) x y (words_of k) (key-class-text k) (key-words-text k)
 key-shape-text k x y shape.Word = word-label-text (class_of k) x (y + 10) (words_of k) (key-class-text k) (key-words-text k)
 
@@ -454,63 +497,66 @@ key-if-text : (n : ℕ) (k : Option Key) → IsText (key_if n k)
 key-if-text n None = refl
 key-if-text n (Some k) = key-shape-text k (slot_x n) (slot_y n) (shape_of k)
 
-legend-text : (h : History) (moments : List Stretch) → IsText (legend_text h moments)
+keys-text : (keys : List Key) → IsText (keys_text keys)
+keys-text keys = flat-text (key_at keys) (λ n. key-if-text n (slice_get keys n)) (range_with_len 0 (length keys))
+
+legend-text : (w : Work) (f : Layout) (h : History) (d : Drawn) → IsText (legend_text w f h d)
 unfolding legend_text
-legend-text h moments =
-    flat-text (key_at (keys_of h moments)) (λ n. key-if-text n (slice_get (keys_of h moments) n)) (range_with_len 0 (length (keys_of h moments)))
+legend-text w f h d = keys-text (keys_of w f h d)
 
 -- ---- the picture
 
-own-row-text : (w : Work) (f : Frame) (h : History) (s : State) (t : ℕ) (own : List Stretch) → IsText (own_row w f h s t own)
+own-row-text : (w : Work) (f : Layout) (h : History) (s : State) (t : ℕ) (own : List Stretch) (row : ℕ) → IsText (own_row w f h s t own row)
 unfolding own_row
-own-row-text w f h s t own =
+own-row-text w f h s t own row =
     simp (
       list_all-append is_text_byte,
-      thread-head-text w f t,
-      bound-label-text f t (bound_of (slice_get s.threads t)),
-      flat-text (stretch_bar w f (Thread t)) (bar-text w f (Thread t)) own,
-      flat-text (level_text f t) (level-text f t) (levels t h.ranks.items w.limit),
+      thread-head-text w f row t,
+      bound-label-text f row (bound_of (slice_get s.threads t)),
+      flat-text (stretch_bar w f (Thread row)) (bar-text w f (Thread row)) own,
+      flat-text (level_text f row) (level-text f row) (levels t h.ranks.items w.limit),
     )
 
-row-text : (w : Work) (f : Frame) (h : History) (s : State) (own : List Stretch) (row : Option ℕ) → IsText (row_text w f h s own row)
-row-text w f h s own None = refl
-row-text w f h s own (Some t) = own-row-text w f h s t own
+row-text : (w : Work) (f : Layout) (h : History) (s : State) (t : ℕ) (own : List Stretch) (row : Option ℕ) → IsText (row_text w f h s t own row)
+row-text w f h s t own None = refl
+row-text w f h s t own (Some row) = own-row-text w f h s t own row
 
-thread-row-text : (w : Work) (f : Frame) (h : History) (s : State) (t : ℕ) → IsText (thread_text w f h s t)
+thread-row-text : (w : Work) (f : Layout) (h : History) (s : State) (t : ℕ) → IsText (thread_text w f h s t)
 unfolding thread_text
 thread-row-text w f h s t =
     let own = pieces (track.Thread t) h w.limit in
-    simp (list_all-append is_text_byte, flat-text (run_bar w f) (run-text w f) own, row-text w f h s own (row_of f t))
+    simp (list_all-append is_text_byte, flat-text (run_bar w f) (run-text w f) own, row-text w f h s t own (row_of f t))
 
-marks-text : (w : Work) (f : Frame) (s : State) → IsText (marks_text w f s)
+marks-text : (w : Work) (f : Layout) (s : State) → IsText (marks_text w f s)
 marks-text w f s =
     either-text (ltb f.to w.limit) [] (flat_map (flat_map (mark_text f)) (cycles_of s)) refl
     (flat-text (flat_map (mark_text f)) (flat-text (mark_text f) (mark-text f)) (cycles_of s))
 
-ground-text : (w : Work) (f : Frame) (h : History) (moments : List Stretch) → IsText (ground_text w f h moments)
+ground-text : (w : Work) (f : Layout) (h : History) (d : Drawn) → IsText (ground_text w f h d)
 unfolding ground_text
-ground-text w f h moments =
+ground-text w f h d =
     simp (
       list_all-append is_text_byte,
       head-text w f,
-      legend-text h moments,
+      legend-text w f h d,
       flat-text (wake_text w f) (wake-text w f) h.wakeups.items,
-      hand-texts-text w f None 0 h.hand_overs.items,
+      hand-texts-text w f None 0 d.hand_overs,
     )
 
-rows-text : (w : Work) (f : Frame) (h : History) (moments : List Stretch) (s : State) → IsText (rows_text w f h moments s)
+rows-text : (w : Work) (f : Layout) (h : History) (parts : List Stretch) (s : State) → IsText (rows_text w f h parts s)
 unfolding rows_text
-rows-text w f h moments s =
+rows-text w f h parts s =
     simp (
       list_all-append is_text_byte,
       flat-text (thread_text w f h s) (thread-row-text w f h s) (range_with_len 0 (length w.threads)),
-      flat-text (moment_text w f) (moment-text w f) moments,
+      flat-text (moment_text w f) (moment-text w f) parts,
       flat-text (note_text w f) (note-text w f) h.happenings.items,
       marks-text w f s,
     )
 
+laid-out-text : (w : Work) (f : Layout) (h : History) (s : State) (d : Drawn) → IsText (laid_out w f h s d)
+unfolding laid_out
+laid-out-text w f h s d = simp (list_all-append is_text_byte, ground-text w f h d, rows-text w f h d.pieces s)
+
 pub timeline-text : (w : Work) (f : Frame) (h : History) (s : State) → IsText (timeline_text w f h s)
-unfolding timeline_text
-timeline-text w f h s =
-    let moments = moments_of w f h in
-    simp (list_all-append is_text_byte, ground-text w f h moments, rows-text w f h moments s)
+timeline-text w f h s = laid-out-text w (layout_of w f h) h s (drawn_of w (layout_of w f h) h)

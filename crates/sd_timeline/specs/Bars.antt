@@ -1,7 +1,7 @@
 -- The bars of the stretches of threads: each stretch of which a tick is drawn is one rectangle, which begins at its first tick,
 -- is as long as its ticks, and has the class of what the thread does.
 -- Source: this project's own.
-use Rattle.std.specs.Prelude.{ℕ, ◌/◌, Bool, ◌&&◌, ◌==◌, nat_lt, nat_le, List, [], ◌++◌, length, codes, decimal, if◌then◌else◌}
+use Rattle.std.specs.Prelude.{ℕ, ◌/◌, Bool, false, ◌&&◌, ◌==◌, nat_lt, nat_le, List, [], ◌++◌, length, codes, decimal, if◌then◌else◌}
 use Rattle.sd_types.specs.declared.numbers.CpuId.{CpuId}
 use Rattle.sd_types.specs.declared.works.Work.{Work}
 use Rattle.sd_machine.specs.Texts.{chan_name, lock_name, thread_name}
@@ -9,10 +9,9 @@ use Rattle.sd_stretches.specs.declared.sights.Doing.{Doing}
 use Rattle.sd_stretches.specs.declared.sights.Doing.TheVariants.{Running, Spinning, Runnable, Waiting, Asleep, Napping, Ended}
 use Rattle.sd_stretches.specs.declared.rows.Stretch.{Stretch}
 use Rattle.sd_labels.specs.Doings.{doing_text}
-use Rattle.sd_timeline.specs.declared.frames.Frame.{Frame}
-use Rattle.sd_timeline.specs.declared.frames.Row.{Row}
-use Rattle.sd_timeline.specs.declared.frames.Row.TheVariants.{Cpu, Thread}
-use Rattle.sd_timeline.specs.Frames.{base, column, inside, top, width}
+use Rattle.sd_timeline.specs.declared.layouts.Row.{Row}
+use Rattle.sd_timeline.specs.declared.layouts.Row.TheVariants.{Cpu, Thread}
+use Rattle.sd_timeline.specs.Layouts.{Layout, base, column, inside, top, width}
 use Rattle.sd_timeline.specs.Pieces.{bar_start, bar_end, word_label, number_label}
 
 abbrev pub doing_class : Doing → List ℕ
@@ -55,25 +54,36 @@ on_thread_bar w x y width (Waiting l) = word_text (codes "on") x y width (lock_n
 on_thread_bar w x y width (Asleep k) = word_text (codes "in") x y width (chan_name w k.0)
 on_thread_bar w x y width _ = []
 
+-- whether a number or a name stands on a bar of a thread's row
+abbrev pub has_number : ℕ → Doing → Bool
+has_number width (Running c) = fits 2 width
+has_number width _ = false
+
+abbrev pub has_name : Work → ℕ → Doing → Bool
+has_name w width (Spinning c l) = fits (length (lock_name w l.0)) width
+has_name w width (Waiting l) = fits (length (lock_name w l.0)) width
+has_name w width (Asleep k) = fits (length (chan_name w k.0)) width
+has_name w width _ = false
+
 -- what stands on a bar: in the row of a processor the thread, in the row of a thread the processor, lock or channel
-abbrev pub on_bar : Work → Frame → Row → Stretch → List ℕ
+abbrev pub on_bar : Work → Layout → Row → Stretch → List ℕ
 on_bar w f (Cpu c) x = word_text (codes "on") (inside f x.from) (base f (Cpu c)) (width f x.from x.to) (thread_name w x.thread)
 on_bar w f (Thread t) x = on_thread_bar w (inside f x.from) (base f (Thread t)) (width f x.from x.to) x.doing
 
 -- the rectangle of a stretch in a row
-unfoldable pub bar_text : Work → Frame → Row → Stretch → List ℕ
+unfoldable pub bar_text : Work → Layout → Row → Stretch → List ℕ
 bar_text w f row x =
     bar_start (doing_class x.doing) (column f x.from) (top f row) (width f x.from x.to) 14 ++ stretch_title w x ++ bar_end ++ on_bar w f row x
 
 -- none where no tick of it is drawn
-abbrev pub stretch_bar : Work → Frame → Row → Stretch → List ℕ
+abbrev pub stretch_bar : Work → Layout → Row → Stretch → List ℕ
 stretch_bar w f row x = if width f x.from x.to == 0 then [] else bar_text w f row x
 
 -- in the row of the processor on which the thread runs
-abbrev pub run_bar_by : Work → Frame → Stretch → Doing → List ℕ
+abbrev pub run_bar_by : Work → Layout → Stretch → Doing → List ℕ
 run_bar_by w f x (Running c) = stretch_bar w f (Cpu c.0) x
 run_bar_by w f x (Spinning c l) = stretch_bar w f (Cpu c.0) x
 run_bar_by w f x _ = []
 
-abbrev pub run_bar : Work → Frame → Stretch → List ℕ
+abbrev pub run_bar : Work → Layout → Stretch → List ℕ
 run_bar w f x = run_bar_by w f x x.doing

@@ -1,15 +1,14 @@
 -- What stands above the rows, and the names of the rows.
 -- Source: Scalable Vector Graphics 1.1; the layout is this project's own.
-use Rattle.std.specs.Prelude.{ℕ, ◌+◌, ◌%◌, ◌==◌, List, [], ◌++◌, length, codes, decimal, Option, Some, None, if◌then◌else◌}
+use Rattle.std.specs.Prelude.{ℕ, ◌+◌, ◌-◌, ◌%◌, ◌==◌, nat_lt, List, [], ◌++◌, length, codes, decimal, Option, Some, None, if◌then◌else◌}
 use Rattle.std.specs.List.{flat_map, range_with_len}
 use Rattle.sd_types.specs.declared.numbers.CpuId.{CpuId}
 use Rattle.sd_types.specs.declared.works.Work.{Work}
 use Rattle.sd_types.specs.Partitions.{set_of_cpu}
 use Rattle.sd_full.specs.Texts.{set_name}
 use Rattle.sd_machine.specs.Texts.{thread_name}
-use Rattle.sd_timeline.specs.declared.frames.Frame.{Frame}
-use Rattle.sd_timeline.specs.declared.frames.Row.TheVariants.{Cpu, Thread}
-use Rattle.sd_timeline.specs.Frames.{after, base, bottom, column, floor, shown, step, total_width, under}
+use Rattle.sd_timeline.specs.declared.layouts.Row.TheVariants.{Cpu, Thread}
+use Rattle.sd_timeline.specs.Layouts.{Layout, after, axes, axis_base, base, bottom, column, floor, shown, step, total_width, under}
 use Rattle.sd_timeline.specs.Pieces.{attribute, grid_line, label_start, label_end, number_label, word_label}
 
 unfoldable pub view_box : ℕ → ℕ → List ℕ
@@ -18,7 +17,7 @@ view_box width height = (codes " viewBox=\"0 0 " ++ decimal width) ++ (codes " "
 unfoldable pub measures : ℕ → ℕ → List ℕ
 measures width height = attribute (codes "width") width ++ attribute (codes "height") height ++ view_box width height
 
-unfoldable pub size : Frame → List ℕ
+unfoldable pub size : Layout → List ℕ
 size f = measures (total_width f) (bottom f + 26)
 
 unfoldable pub opened : List ℕ
@@ -61,7 +60,7 @@ page =
     codes "<defs><marker id=\"tip\" markerWidth=\"5\" markerHeight=\"5\" refX=\"5\" refY=\"2.5\" orient=\"auto\"><path d=\"M0 0L5 2.5L0 5z\"/></marker></defs>\n<rect class=\"page\" width=\"100%\" height=\"100%\"/>\n"
 
 -- which ticks are drawn, of how many
-unfoldable pub ticks_text : Work → Frame → List ℕ
+unfoldable pub ticks_text : Work → Layout → List ℕ
 ticks_text w f =
     (codes "ticks " ++ decimal f.from) ++ (codes " to " ++ decimal f.to) ++ (codes " of " ++ decimal w.limit) ++ (codes ", " ++ decimal w.hz)
     ++ codes " in a second"
@@ -74,53 +73,63 @@ counts_text w = (codes "threads: " ++ decimal (length w.threads)) ++ (codes ", p
 unfoldable pub file_title : Work → List ℕ
 file_title w = codes "<title>" ++ counts_text w ++ codes "</title>\n"
 
-unfoldable pub description : Work → Frame → List ℕ
+unfoldable pub description : Work → Layout → List ℕ
 description w f = codes "<desc>" ++ ticks_text w f ++ codes "</desc>\n"
 
 -- the start of the file, up to the white page
-unfoldable pub start : Work → Frame → List ℕ
+unfoldable pub start : Work → Layout → List ℕ
 start w f = opened ++ size f ++ file_title w ++ description w f ++ style ++ hatch ++ page
 
-unfoldable pub heading : Work → Frame → List ℕ
+unfoldable pub heading : Work → Layout → List ℕ
 heading w f = label_start (codes "head") 150 18 ++ ticks_text w f ++ codes "; " ++ counts_text w ++ label_end
 
--- what stands on the bars
-unfoldable pub bars_key : List ℕ
-bars_key =
-    word_label (codes "key") 150 34 (codes "on a bar of a processor: the thread; on a bar of a thread: its processor, or the lock or channel; more where the pointer rests")
+-- how many threads have no row, where some have none
+unfoldable pub rowless_text : ℕ → List ℕ
+rowless_text n = codes "; threads that have no row: " ++ decimal n
 
--- the number of a tick on the axis, a line down from it, and the number again
-unfoldable pub mark : Frame → ℕ → List ℕ
+abbrev pub rowless : Work → Layout → List ℕ
+rowless w f = if nat_lt f.threads (length w.threads) then rowless_text (length w.threads - f.threads) else []
+
+-- where more is told, and how many threads have no row
+unfoldable pub hint : Work → Layout → List ℕ
+hint w f = label_start (codes "key") 150 34 ++ codes "more where the pointer rests" ++ rowless w f ++ label_end
+
+-- the number of a tick on the axis between rows
+unfoldable pub inner_number : Layout → ℕ → ℕ → List ℕ
+inner_number f n k = number_label (codes "tick") (after f n) (axis_base f k) [] (f.from + n)
+
+-- the number of a tick on the axis, a line down from it, and the number again below, and after every 40 rows
+unfoldable pub mark : Layout → ℕ → List ℕ
 mark f n =
     grid_line (codes "grid") (after f n, 118) (after f n, bottom f) ++ number_label (codes "tick") (after f n) 113 [] (f.from + n)
-    ++ number_label (codes "tick") (after f n) (bottom f + 14) [] (f.from + n)
+    ++ number_label (codes "tick") (after f n) (bottom f + 14) [] (f.from + n) ++ flat_map (inner_number f n) (range_with_len 0 (axes f))
 
-abbrev pub mark_if : Frame → ℕ → List ℕ
+abbrev pub mark_if : Layout → ℕ → List ℕ
 mark_if f n = if n % step f == 0 then mark f n else []
 
-unfoldable pub axis : Frame → List ℕ
+unfoldable pub axis : Layout → List ℕ
 axis f = flat_map (mark_if f) (range_with_len 0 (shown f)) ++ mark_if f (shown f)
 
 -- the name of the set of a processor, under its name; the default partition has none
-unfoldable pub set_label : Work → Frame → ℕ → ℕ → List ℕ
+unfoldable pub set_label : Work → Layout → ℕ → ℕ → List ℕ
 set_label w f c set = if set == 0 then [] else word_label (codes "name note") 142 (under f (Cpu c)) (set_name w set)
 
 -- the name of a processor's row, and the line on which its bars stand
-unfoldable pub cpu_head : Work → Frame → ℕ → List ℕ
+unfoldable pub cpu_head : Work → Layout → ℕ → List ℕ
 cpu_head w f c =
     set_label w f c (set_of_cpu w c)
     ++ number_label (codes "name") 142 (base f (Cpu c)) (codes "processor ") c
     ++ grid_line (codes "base") (150, floor f (Cpu c)) (column f f.to, floor f (Cpu c))
 
--- the name of a thread's row
-unfoldable pub thread_head : Work → Frame → ℕ → List ℕ
-thread_head w f t = label_start (codes "name") 142 (base f (Thread t)) ++ thread_name w t ++ label_end
+-- the name of a thread at its row
+unfoldable pub thread_head : Work → Layout → ℕ → ℕ → List ℕ
+thread_head w f row t = label_start (codes "name") 142 (base f (Thread row)) ++ thread_name w t ++ label_end
 
 -- to which processor a thread is bound, under its name
-abbrev pub bound_label : Frame → ℕ → Option CpuId → List ℕ
-bound_label f t None = []
-bound_label f t (Some c) = number_label (codes "name note") 142 (under f (Thread t)) (codes "bound to ") c.0
+abbrev pub bound_label : Layout → ℕ → Option CpuId → List ℕ
+bound_label f row None = []
+bound_label f row (Some c) = number_label (codes "name note") 142 (under f (Thread row)) (codes "bound to ") c.0
 
 -- all that stands above the rows, and the names of the processors' rows
-unfoldable pub head : Work → Frame → List ℕ
-head w f = start w f ++ heading w f ++ bars_key ++ axis f ++ flat_map (cpu_head w f) (range_with_len 0 f.cpus)
+unfoldable pub head : Work → Layout → List ℕ
+head w f = start w f ++ heading w f ++ hint w f ++ axis f ++ flat_map (cpu_head w f) (range_with_len 0 f.cpus)

@@ -1,26 +1,42 @@
 -- The priorities above the bars, and the marks of deadlocks.
 -- Source: this project's own.
-use Rattle.std.specs.Prelude.{ℕ, Bool, true, false, ◌==◌, nat_lt, List, [], ◌++◌, codes, decimal, Option, Some, None, if◌then◌else◌}
+use Rattle.std.specs.Prelude.{ℕ, Bool, true, false, ◌==◌, nat_le, nat_lt, List, [], ◌++◌, codes, decimal, filter, Option, Some, None, if◌then◌else◌}
+use Rattle.std.specs.List.{flat_map}
+use Rattle.sd_types.specs.declared.works.Work.{Work}
+use Rattle.sd_stretches.specs.declared.histories.History.{History}
 use Rattle.sd_stretches.specs.declared.rows.Level.{Level}
-use Rattle.sd_timeline.specs.declared.frames.Frame.{Frame}
-use Rattle.sd_timeline.specs.declared.frames.Row.TheVariants.{Thread}
-use Rattle.sd_timeline.specs.Frames.{above, base, beside, column, inside, over, row_of, width}
+use Rattle.sd_stretches.specs.Rows.{levels}
+use Rattle.sd_timeline.specs.declared.layouts.Row.TheVariants.{Thread}
+use Rattle.sd_timeline.specs.Layouts.{Layout, above, base, beside, column, inside, over, row_of, width}
 use Rattle.sd_timeline.specs.Pieces.{bar_end, bar_start, word_label, number_label}
 use Rattle.sd_timeline.specs.Bars.{between}
 
-abbrev pub own_level : Frame → ℕ → Level → List ℕ
+abbrev pub own_level : Layout → ℕ → Level → List ℕ
 own_level f t x = number_label (codes "own") (beside f x.from) (above f t) [] x.priority
 
 -- a triangle tells that it is inherited
-abbrev pub inherited_level : Frame → ℕ → Level → List ℕ
+abbrev pub inherited_level : Layout → ℕ → Level → List ℕ
 inherited_level f t x =
     if nat_lt (width f x.from x.to) 30 then word_label (codes "inherited") (beside f x.from) (above f t) (codes "&#9650;")
     else number_label (codes "inherited") (beside f x.from) (above f t) (codes "&#9650;") x.priority
 
+-- there is room for it
+abbrev pub has_room : Layout → Level → Bool
+has_room f x = nat_le 20 (width f x.from x.to)
+
+abbrev pub some_level : Layout → ℕ → Level → List ℕ
+some_level f t x = if x.inherited then inherited_level f t x else own_level f t x
+
 -- a priority where it changes, if it stays so long that there is room for it
-abbrev pub level_label : Frame → ℕ → Level → List ℕ
-level_label f t x =
-    if nat_lt (width f x.from x.to) 20 then [] else if x.inherited then inherited_level f t x else own_level f t x
+abbrev pub level_label : Layout → ℕ → Level → List ℕ
+level_label f t x = if has_room f x then some_level f t x else []
+
+-- the priorities of threads that have a row for which there is room
+abbrev pub labelled_by : Work → Layout → History → ℕ → List Level
+labelled_by w f h t = filter (has_room f) (levels t h.ranks.items w.limit)
+
+unfoldable pub labelled : Work → Layout → History → List Level
+labelled w f h = flat_map (labelled_by w f h) f.rows
 
 abbrev pub inherited_word : Bool → List ℕ
 inherited_word true = codes ", inherited"
@@ -31,17 +47,17 @@ unfoldable pub level_title : Level → List ℕ
 level_title x = (codes "priority " ++ decimal x.priority) ++ inherited_word x.inherited ++ between (codes ", ticks ") x.from x.to
 
 -- the place of a priority, which shows it also where there is no room for it
-unfoldable pub level_area : Frame → ℕ → Level → List ℕ
+unfoldable pub level_area : Layout → ℕ → Level → List ℕ
 level_area f t x = bar_start (codes "level") (column f x.from) (over f t) (width f x.from x.to) 12 ++ level_title x ++ bar_end
 
 -- none where no tick of it is drawn
-abbrev pub level_text : Frame → ℕ → Level → List ℕ
+abbrev pub level_text : Layout → ℕ → Level → List ℕ
 level_text f t x = if width f x.from x.to == 0 then [] else level_label f t x ++ level_area f t x
 
-abbrev pub mark_at : Frame → Option ℕ → List ℕ
+abbrev pub mark_at : Layout → Option ℕ → List ℕ
 mark_at f None = []
 mark_at f (Some row) = word_label (codes "dead") (inside f f.to) (base f (Thread row)) (codes "deadlock")
 
 -- the mark of a thread that is blocked for good
-abbrev pub mark_text : Frame → ℕ → List ℕ
+abbrev pub mark_text : Layout → ℕ → List ℕ
 mark_text f t = mark_at f (row_of f t)

@@ -1,4 +1,5 @@
-pub mod Frames
+pub mod Layouts
+pub mod Rows
 pub mod Pieces
 pub mod Bars
 pub mod Arrows

@@ -12,15 +12,16 @@ use Rattle.sd_stretches.specs.declared.rows.Stretch.{Stretch}
 use Rattle.sd_stretches.specs.declared.spins.Track.TheVariants as track
 use Rattle.sd_stretches.specs.Rows.{levels}
 use Rattle.sd_stretches.specs.Spins.{pieces}
+use Rattle.sd_timeline.specs.declared.layouts.Row.TheVariants.{Thread}
 use Rattle.sd_timeline.specs.declared.frames.Frame.{Frame}
-use Rattle.sd_timeline.specs.declared.frames.Row.TheVariants.{Thread}
-use Rattle.sd_timeline.specs.Frames.{row_of}
+use Rattle.sd_timeline.specs.Layouts.{Layout, row_of}
+use Rattle.sd_timeline.specs.Rows.{layout_of}
 use Rattle.sd_timeline.specs.Bars.{run_bar, stretch_bar}
 use Rattle.sd_timeline.specs.Arrows.{hand_texts, wake_text}
 use Rattle.sd_timeline.specs.Labels.{level_text, mark_text}
 use Rattle.sd_timeline.specs.Head.{bound_label, head, thread_head}
-use Rattle.sd_timeline.specs.Legend.{legend_text}
-use Rattle.sd_timeline.specs.Moments.{moment_text, moments_of}
+use Rattle.sd_timeline.specs.Legend.{Drawn, drawn_of, legend_text}
+use Rattle.sd_timeline.specs.Moments.{moment_text}
 use Rattle.sd_timeline.specs.Notes.{note_text}
 
 abbrev pub bound_of : Option ThreadState → Option CpuId
@@ -29,34 +30,37 @@ bound_of (Some x) = x.body.bound
 
 -- the row of a thread: its name, the processor to which it is bound at the end, a bar for each of its stretches and a label for
 -- each level of its priority
-unfoldable pub own_row : Work → Frame → History → State → ℕ → List Stretch → List ℕ
-own_row w f h s t own =
-    thread_head w f t ++ bound_label f t (bound_of (slice_get s.threads t)) ++ flat_map (stretch_bar w f (Thread t)) own ++ flat_map (level_text f t) (levels t h.ranks.items w.limit)
+unfoldable pub own_row : Work → Layout → History → State → ℕ → List Stretch → ℕ → List ℕ
+own_row w f h s t own row =
+    thread_head w f row t ++ bound_label f row (bound_of (slice_get s.threads t)) ++ flat_map (stretch_bar w f (Thread row)) own
+    ++ flat_map (level_text f row) (levels t h.ranks.items w.limit)
 
-abbrev pub row_text : Work → Frame → History → State → List Stretch → Option ℕ → List ℕ
-row_text w f h s own None = []
-row_text w f h s own (Some t) = own_row w f h s t own
+abbrev pub row_text : Work → Layout → History → State → ℕ → List Stretch → Option ℕ → List ℕ
+row_text w f h s t own None = []
+row_text w f h s t own (Some row) = own_row w f h s t own row
 
 -- the bars of a thread in the rows of processors, and its own row, if it has one
-unfoldable pub thread_text : Work → Frame → History → State → ℕ → List ℕ
+unfoldable pub thread_text : Work → Layout → History → State → ℕ → List ℕ
 thread_text w f h s t =
-    flat_map (run_bar w f) (pieces (track.Thread t) h w.limit) ++ row_text w f h s (pieces (track.Thread t) h w.limit) (row_of f t)
+    flat_map (run_bar w f) (pieces (track.Thread t) h w.limit) ++ row_text w f h s t (pieces (track.Thread t) h w.limit) (row_of f t)
 
 -- the marks of threads that block each other in the last state, where the end of the run is drawn
-abbrev pub marks_text : Work → Frame → State → List ℕ
+abbrev pub marks_text : Work → Layout → State → List ℕ
 marks_text w f s = if nat_lt f.to w.limit then [] else flat_map (flat_map (mark_text f)) (cycles_of s)
 
 -- what lies under and above the rows
-unfoldable pub ground_text : Work → Frame → History → List Stretch → List ℕ
-ground_text w f h moments =
-    head w f ++ legend_text h moments ++ (flat_map (wake_text w f) h.wakeups.items ++ hand_texts w f None 0 h.hand_overs.items)
+unfoldable pub ground_text : Work → Layout → History → Drawn → List ℕ
+ground_text w f h d = head w f ++ legend_text w f h d ++ (flat_map (wake_text w f) h.wakeups.items ++ hand_texts w f None 0 d.hand_overs)
 
 -- the rows, and the marks over and under them
-unfoldable pub rows_text : Work → Frame → History → List Stretch → State → List ℕ
-rows_text w f h moments s =
-    flat_map (thread_text w f h s) (range_with_len 0 (length w.threads)) ++ flat_map (moment_text w f) moments
+unfoldable pub rows_text : Work → Layout → History → List Stretch → State → List ℕ
+rows_text w f h pieces s =
+    flat_map (thread_text w f h s) (range_with_len 0 (length w.threads)) ++ flat_map (moment_text w f) pieces
     ++ flat_map (note_text w f) h.happenings.items ++ marks_text w f s
 
+unfoldable pub laid_out : Work → Layout → History → State → Drawn → List ℕ
+laid_out w f h s d = ground_text w f h d ++ rows_text w f h d.pieces s ++ codes "</svg>\n"
+
 -- the picture: arrows lie under the bars and the priorities, and the marks of threads that run within a tick over them
-unfoldable pub timeline_text : Work → Frame → History → State → List ℕ
-timeline_text w f h s = ground_text w f h (moments_of w f h) ++ rows_text w f h (moments_of w f h) s ++ codes "</svg>\n"
+abbrev pub timeline_text : Work → Frame → History → State → List ℕ
+timeline_text w f h s = laid_out w (layout_of w f h) h s (drawn_of w (layout_of w f h) h)

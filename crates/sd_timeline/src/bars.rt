@@ -1,9 +1,9 @@
 //! The bars of the stretches of threads.
 
 ghost use Rattle.std.specs.Prelude.{◌≡◌, ◌++◌, OnOk, flat_map};
-ghost use Rattle.sd_timeline.specs.Bars.{bar_text, between, cpu_word, doing_class, fits, on_bar, place_text, run_bar, stretch_bar, stretch_title, times_text, word_text};
+ghost use Rattle.sd_timeline.specs.Bars.{bar_text, between, cpu_word, doing_class, fits, has_name, has_number, on_bar, place_text, run_bar, stretch_bar, stretch_title, times_text, word_text};
 
-use crate::frames::{Frame, Row};
+use crate::layouts::{Layout, Row};
 use crate::pieces::{put_bar_end, put_bar_start, put_number_label, put_word_label};
 use sd_labels::{chan_name, lock_name, put_counted, put_doing, thread_name};
 use sd_stretches::{Doing, Stretch};
@@ -67,8 +67,8 @@ pub(crate) fn put_title(work: &Work, x: &Stretch, out: &mut Vec<u8>) -> Result<(
     put_place(x, out)
 }
 
-// A word of so many letters fits into this width.
-fn fits(len: usize, width: u64) -> bool
+/// A word of so many letters fits into this width.
+pub(crate) fn fits(len: usize, width: u64) -> bool
     ensures { result ≡ fits len width }
 {
     0 < len && len as u64 <= width / 7
@@ -103,19 +103,41 @@ fn put_cpu(x: u64, y: u64, width: u64, c: CpuId, out: &mut Vec<u8>) -> Result<()
     }
 }
 
+/// Whether the number of a processor stands on a bar of a thread's row.
+pub(crate) fn has_number(width: u64, doing: Doing) -> bool
+    ensures { result ≡ has_number width doing }
+{
+    match doing {
+        Doing::Running(_) => fits(2, width),
+        _ => false,
+    }
+}
+
+/// Whether the name of a lock or a channel stands on a bar of a thread's row.
+pub(crate) fn has_name(work: &Work, width: u64, doing: Doing) -> bool
+    ensures { result ≡ has_name work.now width doing }
+{
+    match doing {
+        Doing::Spinning(_, l) => fits(lock_name(work, l).len(), width),
+        Doing::Waiting(l) => fits(lock_name(work, l).len(), width),
+        Doing::Asleep(k) => fits(chan_name(work, k).len(), width),
+        _ => false,
+    }
+}
+
 // What stands on a bar: in the row of a processor the thread, in the row of a thread the processor, lock or channel.
 fn put_on_bar(
     work: &Work,
-    frame: Frame,
+    layout: &Layout,
     row: Row,
     x: &Stretch,
     out: &mut Vec<u8>,
 ) -> Result<(), AllocError>
-    ensures { OnOk result (out.new.items ≡ out.old.items ++ on_bar work.now frame row x.now) }
+    ensures { OnOk result (out.new.items ≡ out.old.items ++ on_bar work.now layout.now row x.now) }
 {
-    let column = frame.inside(x.from);
-    let y = frame.base(row);
-    let width = frame.width(x.from, x.to);
+    let column = layout.inside(x.from);
+    let y = layout.base(row);
+    let width = layout.width(x.from, x.to);
     match (row, x.doing) {
         (Row::Cpu(_), _) => put_word(b"on", column, y, width, thread_name(work, x.thread), out),
         (Row::Thread(_), Doing::Running(c)) => put_cpu(column, y, width, c, out),
@@ -151,51 +173,56 @@ fn put_on_bar(
 #[tactic(auto, unfolding(crate::specs::Bars::bar_text))]
 fn put_whole_bar(
     work: &Work,
-    frame: Frame,
+    layout: &Layout,
     row: Row,
     x: &Stretch,
     out: &mut Vec<u8>,
 ) -> Result<(), AllocError>
-    ensures { OnOk result (out.new.items ≡ out.old.items ++ bar_text work.now frame row x.now) }
+    ensures { OnOk result (out.new.items ≡ out.old.items ++ bar_text work.now layout.now row x.now) }
 {
-    let width = frame.width(x.from, x.to);
+    let width = layout.width(x.from, x.to);
     put_bar_start(
         doing_class(x.doing),
-        frame.column(x.from),
-        frame.top(row),
+        layout.column(x.from),
+        layout.top(row),
         width,
         14,
         out,
     )?;
     put_title(work, x, out)?;
     put_bar_end(out)?;
-    put_on_bar(work, frame, row, x, out)
+    put_on_bar(work, layout, row, x, out)
 }
 
 // The bar of a stretch in a row, where any tick of it is drawn.
 fn put_bar(
     work: &Work,
-    frame: Frame,
+    layout: &Layout,
     row: Row,
     x: &Stretch,
     out: &mut Vec<u8>,
 ) -> Result<(), AllocError>
-    ensures { OnOk result (out.new.items ≡ out.old.items ++ stretch_bar work.now frame row x.now) }
+    ensures { OnOk result (out.new.items ≡ out.old.items ++ stretch_bar work.now layout.now row x.now) }
 {
-    if frame.width(x.from, x.to) == 0 {
+    if layout.width(x.from, x.to) == 0 {
         Ok(())
     } else {
-        put_whole_bar(work, frame, row, x, out)
+        put_whole_bar(work, layout, row, x, out)
     }
 }
 
 // The bar of a stretch in the row of the processor on which the thread runs.
-fn put_run_bar(work: &Work, frame: Frame, x: &Stretch, out: &mut Vec<u8>) -> Result<(), AllocError>
-    ensures { OnOk result (out.new.items ≡ out.old.items ++ run_bar work.now frame x.now) }
+fn put_run_bar(
+    work: &Work,
+    layout: &Layout,
+    x: &Stretch,
+    out: &mut Vec<u8>,
+) -> Result<(), AllocError>
+    ensures { OnOk result (out.new.items ≡ out.old.items ++ run_bar work.now layout.now x.now) }
 {
     match x.doing {
-        Doing::Running(c) => put_bar(work, frame, Row::Cpu(c.0), x, out),
-        Doing::Spinning(c, _) => put_bar(work, frame, Row::Cpu(c.0), x, out),
+        Doing::Running(c) => put_bar(work, layout, Row::Cpu(c.0), x, out),
+        Doing::Spinning(c, _) => put_bar(work, layout, Row::Cpu(c.0), x, out),
         _ => Ok(()),
     }
 }
@@ -203,14 +230,14 @@ fn put_run_bar(work: &Work, frame: Frame, x: &Stretch, out: &mut Vec<u8>) -> Res
 /// The bars of a thread in the rows of processors.
 pub(crate) fn put_run_bars(
     work: &Work,
-    frame: Frame,
+    layout: &Layout,
     own: &[Stretch],
     out: &mut Vec<u8>,
 ) -> Result<(), AllocError>
-    ensures { OnOk result (out.new.items ≡ out.old.items ++ flat_map (run_bar work.now frame) own.now) }
+    ensures { OnOk result (out.new.items ≡ out.old.items ++ flat_map (run_bar work.now layout.now) own.now) }
 {
     for x in own {
-        put_run_bar(work, frame, x, out)?;
+        put_run_bar(work, layout, x, out)?;
     }
     Ok(())
 }
@@ -218,15 +245,15 @@ pub(crate) fn put_run_bars(
 /// The bars of a thread in its own row.
 pub(crate) fn put_bars(
     work: &Work,
-    frame: Frame,
+    layout: &Layout,
     t: u16,
     own: &[Stretch],
     out: &mut Vec<u8>,
 ) -> Result<(), AllocError>
-    ensures { OnOk result (out.new.items ≡ out.old.items ++ flat_map (stretch_bar work.now frame (Row.Thread t)) own.now) }
+    ensures { OnOk result (out.new.items ≡ out.old.items ++ flat_map (stretch_bar work.now layout.now (Row.Thread t)) own.now) }
 {
     for x in own {
-        put_bar(work, frame, Row::Thread(t), x, out)?;
+        put_bar(work, layout, Row::Thread(t), x, out)?;
     }
     Ok(())
 }

@@ -2,9 +2,10 @@
 
 ghost use Rattle.std.specs.Prelude.{◌≡◌, ◌+◌, ◌++◌, ◌<◌, ◌^◌, OnOk, codes, decimal, flat_map};
 ghost use Rattle.std.specs.List.{range_with_len};
-ghost use Rattle.sd_timeline.specs.Head.{axis, bars_key, bound_label, counts_text, cpu_head, dark_colours, description, file_title, hatch, head, heading, letters, light_colours, lines, mark, mark_if, measures, opened, page, set_label, size, small_letters, start, style, thin_lines, thread_head, ticks_text, view_box};
+ghost use Rattle.sd_timeline.specs.Layouts.{axes};
+ghost use Rattle.sd_timeline.specs.Head.{axis, bound_label, counts_text, cpu_head, dark_colours, description, file_title, hatch, head, heading, hint, inner_number, letters, light_colours, lines, mark, mark_if, measures, opened, page, rowless, rowless_text, set_label, size, small_letters, start, style, thin_lines, thread_head, ticks_text, view_box};
 
-use crate::frames::{Frame, Row};
+use crate::layouts::{Layout, Row};
 use crate::pieces::{
     put_attribute, put_label_end, put_label_start, put_line, put_number_label, put_word_label,
 };
@@ -32,10 +33,10 @@ fn put_measures(width: u64, height: u64, out: &mut Vec<u8>) -> Result<(), AllocE
 }
 
 #[tactic(auto, unfolding(crate::specs::Head::size))]
-fn put_size(frame: Frame, out: &mut Vec<u8>) -> Result<(), AllocError>
-    ensures { OnOk result (out.new.items ≡ out.old.items ++ size frame) }
+fn put_size(layout: &Layout, out: &mut Vec<u8>) -> Result<(), AllocError>
+    ensures { OnOk result (out.new.items ≡ out.old.items ++ size layout.now) }
 {
-    put_measures(frame.total_width(), frame.bottom() + 26, out)
+    put_measures(layout.total_width(), layout.bottom() + 26, out)
 }
 
 // The colours of what threads do, which differ in grey too.
@@ -139,11 +140,11 @@ fn put_opened(out: &mut Vec<u8>) -> Result<(), AllocError>
 
 // Which ticks are drawn, of how many.
 #[tactic(auto, unfolding(crate::specs::Head::ticks_text))]
-fn put_ticks(work: &Work, frame: Frame, out: &mut Vec<u8>) -> Result<(), AllocError>
-    ensures { OnOk result (out.new.items ≡ out.old.items ++ ticks_text work.now frame) }
+fn put_ticks(work: &Work, layout: &Layout, out: &mut Vec<u8>) -> Result<(), AllocError>
+    ensures { OnOk result (out.new.items ≡ out.old.items ++ ticks_text work.now layout.now) }
 {
-    put_counted(b"ticks ", u64::from(frame.from), out)?;
-    put_counted(b" to ", u64::from(frame.to), out)?;
+    put_counted(b"ticks ", u64::from(layout.from), out)?;
+    put_counted(b" to ", u64::from(layout.to), out)?;
     put_counted(b" of ", u64::from(work.limit), out)?;
     put_counted(b", ", u64::from(work.hz), out)?;
     out.extend_from_slice(b" in a second")
@@ -171,103 +172,148 @@ fn put_file_title(work: &Work, out: &mut Vec<u8>) -> Result<(), AllocError>
 
 // What it shows.
 #[tactic(auto, unfolding(crate::specs::Head::description))]
-fn put_description(work: &Work, frame: Frame, out: &mut Vec<u8>) -> Result<(), AllocError>
-    ensures { OnOk result (out.new.items ≡ out.old.items ++ description work.now frame) }
+fn put_description(work: &Work, layout: &Layout, out: &mut Vec<u8>) -> Result<(), AllocError>
+    ensures { OnOk result (out.new.items ≡ out.old.items ++ description work.now layout.now) }
 {
     out.extend_from_slice(b"<desc>")?;
-    put_ticks(work, frame, out)?;
+    put_ticks(work, layout, out)?;
     out.extend_from_slice(b"</desc>\n")
 }
 
 // The start of the file, up to the white page.
 #[tactic(auto, unfolding(crate::specs::Head::start))]
-fn put_start(work: &Work, frame: Frame, out: &mut Vec<u8>) -> Result<(), AllocError>
-    ensures { OnOk result (out.new.items ≡ out.old.items ++ start work.now frame) }
+fn put_start(work: &Work, layout: &Layout, out: &mut Vec<u8>) -> Result<(), AllocError>
+    ensures { OnOk result (out.new.items ≡ out.old.items ++ start work.now layout.now) }
 {
     put_opened(out)?;
-    put_size(frame, out)?;
+    put_size(layout, out)?;
     put_file_title(work, out)?;
-    put_description(work, frame, out)?;
+    put_description(work, layout, out)?;
     put_style(out)?;
     put_hatch(out)?;
     put_page(out)
 }
 
 #[tactic(auto, unfolding(crate::specs::Head::heading))]
-fn put_heading(work: &Work, frame: Frame, out: &mut Vec<u8>) -> Result<(), AllocError>
-    ensures { OnOk result (out.new.items ≡ out.old.items ++ heading work.now frame) }
+fn put_heading(work: &Work, layout: &Layout, out: &mut Vec<u8>) -> Result<(), AllocError>
+    ensures { OnOk result (out.new.items ≡ out.old.items ++ heading work.now layout.now) }
 {
     put_label_start(b"head", 150, 18, out)?;
-    put_ticks(work, frame, out)?;
+    put_ticks(work, layout, out)?;
     out.extend_from_slice(b"; ")?;
     put_counts(work, out)?;
     put_label_end(out)
 }
 
-// What stands on the bars.
-#[tactic(auto, unfolding(crate::specs::Head::bars_key))]
-fn put_bars_key(out: &mut Vec<u8>) -> Result<(), AllocError>
-    ensures { OnOk result (out.new.items ≡ out.old.items ++ bars_key) }
+#[tactic(auto, unfolding(crate::specs::Head::rowless_text))]
+fn put_rowless_text(n: u64, out: &mut Vec<u8>) -> Result<(), AllocError>
+    ensures { OnOk result (out.new.items ≡ out.old.items ++ rowless_text n) }
 {
-    put_word_label(
-        b"key",
-        150,
-        34,
-        b"on a bar of a processor: the thread; on a bar of a thread: its processor, or the lock or channel; more where the pointer rests",
-        out,
-    )
+    put_counted(b"; threads that have no row: ", n, out)
 }
 
-// The number of a tick on the axis, and a line down from it.
-#[tactic(auto, unfolding(crate::specs::Head::mark))]
-fn put_mark(frame: Frame, n: u32, out: &mut Vec<u8>) -> Result<(), AllocError>
-    ensures { OnOk result (out.new.items ≡ out.old.items ++ mark frame n) }
+// How many threads have no row, where some have none.
+fn put_rowless(work: &Work, layout: &Layout, out: &mut Vec<u8>) -> Result<(), AllocError>
+    ensures { OnOk result (out.new.items ≡ out.old.items ++ rowless work.now layout.now) }
 {
-    let x = frame.after(n);
-    let tick = u64::from(frame.from) + u64::from(n);
-    put_line(b"grid", (x, 118), (x, frame.bottom()), out)?;
-    put_number_label(b"tick", x, 113, b"", tick, out)?;
-    put_number_label(b"tick", x, frame.bottom() + 14, b"", tick, out)
-}
-
-fn put_mark_if(frame: Frame, n: u32, out: &mut Vec<u8>) -> Result<(), AllocError>
-    ensures { OnOk result (out.new.items ≡ out.old.items ++ mark_if frame n) }
-{
-    if n % frame.step() == 0 {
-        put_mark(frame, n, out)
+    let threads = work.threads.items().len();
+    let rows = usize::from(layout.threads);
+    if rows < threads {
+        put_rowless_text((threads - rows) as u64, out)
     } else {
         Ok(())
     }
 }
 
-fn put_ticks_before(frame: Frame, count: u32, out: &mut Vec<u8>) -> Result<(), AllocError>
-    ensures { OnOk result (out.new.items ≡ out.old.items ++ flat_map (mark_if frame) (range_with_len 0 count)) }
+// Where more is told, and how many threads have no row.
+#[tactic(auto, unfolding(crate::specs::Head::hint))]
+fn put_hint(work: &Work, layout: &Layout, out: &mut Vec<u8>) -> Result<(), AllocError>
+    ensures { OnOk result (out.new.items ≡ out.old.items ++ hint work.now layout.now) }
+{
+    put_label_start(b"key", 150, 34, out)?;
+    out.extend_from_slice(b"more where the pointer rests")?;
+    put_rowless(work, layout, out)?;
+    put_label_end(out)
+}
+
+// The number of a tick on the axis between rows.
+#[tactic(auto, unfolding(crate::specs::Head::inner_number))]
+fn put_inner_number(layout: &Layout, n: u32, k: u32, out: &mut Vec<u8>) -> Result<(), AllocError>
+    requires { k < 2 ^ 17 }
+    ensures { OnOk result (out.new.items ≡ out.old.items ++ inner_number layout.now n k) }
+{
+    let tick = u64::from(layout.from) + u64::from(n);
+    put_number_label(
+        b"tick",
+        layout.after(n),
+        layout.axis_base(k),
+        b"",
+        tick,
+        out,
+    )
+}
+
+// After every 40 rows.
+fn put_inner_numbers(layout: &Layout, n: u32, out: &mut Vec<u8>) -> Result<(), AllocError>
+    ensures { OnOk result (out.new.items ≡ out.old.items ++ flat_map (inner_number layout.now n) (range_with_len 0 (axes layout.now))) }
+{
+    for k in 0..layout.axes() {
+        put_inner_number(layout, n, k, out)?;
+    }
+    Ok(())
+}
+
+// The number of a tick on the axis above, a line down from it, and the number again below and after every 40 rows.
+#[tactic(auto, unfolding(crate::specs::Head::mark))]
+fn put_mark(layout: &Layout, n: u32, out: &mut Vec<u8>) -> Result<(), AllocError>
+    ensures { OnOk result (out.new.items ≡ out.old.items ++ mark layout.now n) }
+{
+    let x = layout.after(n);
+    let tick = u64::from(layout.from) + u64::from(n);
+    put_line(b"grid", (x, 118), (x, layout.bottom()), out)?;
+    put_number_label(b"tick", x, 113, b"", tick, out)?;
+    put_number_label(b"tick", x, layout.bottom() + 14, b"", tick, out)?;
+    put_inner_numbers(layout, n, out)
+}
+
+fn put_mark_if(layout: &Layout, n: u32, out: &mut Vec<u8>) -> Result<(), AllocError>
+    ensures { OnOk result (out.new.items ≡ out.old.items ++ mark_if layout.now n) }
+{
+    if n % layout.step() == 0 {
+        put_mark(layout, n, out)
+    } else {
+        Ok(())
+    }
+}
+
+fn put_ticks_before(layout: &Layout, count: u32, out: &mut Vec<u8>) -> Result<(), AllocError>
+    ensures { OnOk result (out.new.items ≡ out.old.items ++ flat_map (mark_if layout.now) (range_with_len 0 count)) }
 {
     for n in 0..count {
-        put_mark_if(frame, n, out)?;
+        put_mark_if(layout, n, out)?;
     }
     Ok(())
 }
 
 // The axis.
 #[tactic(auto, unfolding(crate::specs::Head::axis))]
-fn put_axis(frame: Frame, out: &mut Vec<u8>) -> Result<(), AllocError>
-    ensures { OnOk result (out.new.items ≡ out.old.items ++ axis frame) }
+fn put_axis(layout: &Layout, out: &mut Vec<u8>) -> Result<(), AllocError>
+    ensures { OnOk result (out.new.items ≡ out.old.items ++ axis layout.now) }
 {
-    put_ticks_before(frame, frame.shown(), out)?;
-    put_mark_if(frame, frame.shown(), out)
+    put_ticks_before(layout, layout.shown(), out)?;
+    put_mark_if(layout, layout.shown(), out)
 }
 
 // The name of the set of a processor, under its name; the default partition has none.
 #[tactic(auto, unfolding(crate::specs::Head::set_label))]
 fn put_set_label(
     work: &Work,
-    frame: Frame,
+    layout: &Layout,
     c: u16,
     set: SetId,
     out: &mut Vec<u8>,
 ) -> Result<(), AllocError>
-    ensures { OnOk result (out.new.items ≡ out.old.items ++ set_label work.now frame c set.0) }
+    ensures { OnOk result (out.new.items ≡ out.old.items ++ set_label work.now layout.now c set.0) }
 {
     if set.0 == 0 {
         return Ok(());
@@ -275,7 +321,7 @@ fn put_set_label(
     put_word_label(
         b"name note",
         142,
-        frame.under(Row::Cpu(c)),
+        layout.under(Row::Cpu(c)),
         set_name(work, set),
         out,
     )
@@ -283,66 +329,67 @@ fn put_set_label(
 
 // The name of a processor's row, and the line on which its bars stand.
 #[tactic(auto, unfolding(crate::specs::Head::cpu_head))]
-fn put_cpu_head(work: &Work, frame: Frame, c: u16, out: &mut Vec<u8>) -> Result<(), AllocError>
-    ensures { OnOk result (out.new.items ≡ out.old.items ++ cpu_head work.now frame c) }
+fn put_cpu_head(work: &Work, layout: &Layout, c: u16, out: &mut Vec<u8>) -> Result<(), AllocError>
+    ensures { OnOk result (out.new.items ≡ out.old.items ++ cpu_head work.now layout.now c) }
 {
     let row = Row::Cpu(c);
-    put_set_label(work, frame, c, set_of_cpu(work, CpuId(c)), out)?;
+    put_set_label(work, layout, c, set_of_cpu(work, CpuId(c)), out)?;
     put_number_label(
         b"name",
         142,
-        frame.base(row),
+        layout.base(row),
         b"processor ",
         u64::from(c),
         out,
     )?;
     put_line(
         b"base",
-        (150, frame.floor(row)),
-        (frame.column(frame.to), frame.floor(row)),
+        (150, layout.floor(row)),
+        (layout.column(layout.to), layout.floor(row)),
         out,
     )
 }
 
 // The names of the processors' rows.
-fn put_cpu_heads(work: &Work, frame: Frame, out: &mut Vec<u8>) -> Result<(), AllocError>
-    ensures { OnOk result (out.new.items ≡ out.old.items ++ flat_map (cpu_head work.now frame) (range_with_len 0 frame.cpus)) }
+fn put_cpu_heads(work: &Work, layout: &Layout, out: &mut Vec<u8>) -> Result<(), AllocError>
+    ensures { OnOk result (out.new.items ≡ out.old.items ++ flat_map (cpu_head work.now layout.now) (range_with_len 0 layout.now.cpus)) }
 {
-    for c in 0..frame.cpus {
-        put_cpu_head(work, frame, c, out)?;
+    for c in 0..layout.cpus {
+        put_cpu_head(work, layout, c, out)?;
     }
     Ok(())
 }
 
-/// The name of a thread's row.
+/// The name of a thread at its row.
 #[tactic(auto, unfolding(crate::specs::Head::thread_head))]
 pub(crate) fn put_thread_head(
     work: &Work,
-    frame: Frame,
-    t: u16,
+    layout: &Layout,
+    row: u16,
+    t: usize,
     out: &mut Vec<u8>,
 ) -> Result<(), AllocError>
-    ensures { OnOk result (out.new.items ≡ out.old.items ++ thread_head work.now frame t) }
+    ensures { OnOk result (out.new.items ≡ out.old.items ++ thread_head work.now layout.now row t) }
 {
-    put_label_start(b"name", 142, frame.base(Row::Thread(t)), out)?;
-    out.extend_from_slice(thread_name(work, usize::from(t)))?;
+    put_label_start(b"name", 142, layout.base(Row::Thread(row)), out)?;
+    out.extend_from_slice(thread_name(work, t))?;
     put_label_end(out)
 }
 
 /// To which processor a thread is bound, under its name.
 pub(crate) fn put_bound_label(
-    frame: Frame,
-    t: u16,
+    layout: &Layout,
+    row: u16,
     bound: Option<CpuId>,
     out: &mut Vec<u8>,
 ) -> Result<(), AllocError>
-    ensures { OnOk result (out.new.items ≡ out.old.items ++ bound_label frame t bound) }
+    ensures { OnOk result (out.new.items ≡ out.old.items ++ bound_label layout.now row bound) }
 {
     match bound {
         Some(c) => put_number_label(
             b"name note",
             142,
-            frame.under(Row::Thread(t)),
+            layout.under(Row::Thread(row)),
             b"bound to ",
             u64::from(c.0),
             out,
@@ -353,12 +400,12 @@ pub(crate) fn put_bound_label(
 
 /// All that stands above the rows, and the names of the processors' rows.
 #[tactic(auto, unfolding(crate::specs::Head::head))]
-pub(crate) fn put_head(work: &Work, frame: Frame, out: &mut Vec<u8>) -> Result<(), AllocError>
-    ensures { OnOk result (out.new.items ≡ out.old.items ++ head work.now frame) }
+pub(crate) fn put_head(work: &Work, layout: &Layout, out: &mut Vec<u8>) -> Result<(), AllocError>
+    ensures { OnOk result (out.new.items ≡ out.old.items ++ head work.now layout.now) }
 {
-    put_start(work, frame, out)?;
-    put_heading(work, frame, out)?;
-    put_bars_key(out)?;
-    put_axis(frame, out)?;
-    put_cpu_heads(work, frame, out)
+    put_start(work, layout, out)?;
+    put_heading(work, layout, out)?;
+    put_hint(work, layout, out)?;
+    put_axis(layout, out)?;
+    put_cpu_heads(work, layout, out)
 }

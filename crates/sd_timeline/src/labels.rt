@@ -1,24 +1,25 @@
 //! The priorities above the bars, and the marks of deadlocks.
 
-ghost use Rattle.std.specs.Prelude.{◌≡◌, ◌++◌, OnOk, flat_map};
-ghost use Rattle.sd_timeline.specs.Labels.{inherited_level, level_area, level_label, level_text, level_title, inherited_word, mark_text, own_level};
+ghost use Rattle.std.specs.Prelude.{◌≡◌, ◌++◌, ◌∷◌, [], IfOk, OnOk, filter, flat_map, if◌then◌else◌};
+ghost use Rattle.sd_timeline.specs.Labels.{has_room, inherited_level, inherited_word, labelled, labelled_by, level_area, level_label, level_text, level_title, mark_text, own_level, some_level};
 
 use crate::bars::put_between;
-use crate::frames::{Frame, Row};
+use crate::layouts::{Layout, Row};
 use crate::pieces::{put_bar_end, put_bar_start, put_number_label, put_word_label};
 use sd_labels::put_counted;
-use sd_stretches::Level;
-use std::alloc::AllocError;
+use sd_stretches::{History, Level, levels};
+use sd_types::Work;
+use std::alloc::{AllocError, Global};
 
 // A priority that is the thread's own.
-fn put_own_level(frame: Frame, t: u16, x: &Level, out: &mut Vec<u8>) -> Result<(), AllocError>
-    ensures { OnOk result (out.new.items ≡ out.old.items ++ own_level frame t x.now) }
+fn put_own_level(layout: &Layout, t: u16, x: &Level, out: &mut Vec<u8>) -> Result<(), AllocError>
+    ensures { OnOk result (out.new.items ≡ out.old.items ++ own_level layout.now t x.now) }
 {
-    let column = frame.beside(x.from);
+    let column = layout.beside(x.from);
     put_number_label(
         b"own",
         column,
-        frame.above(t),
+        layout.above(t),
         b"",
         u64::from(x.priority),
         out,
@@ -26,12 +27,17 @@ fn put_own_level(frame: Frame, t: u16, x: &Level, out: &mut Vec<u8>) -> Result<(
 }
 
 // A triangle tells that it is inherited.
-fn put_inherited_level(frame: Frame, t: u16, x: &Level, out: &mut Vec<u8>) -> Result<(), AllocError>
-    ensures { OnOk result (out.new.items ≡ out.old.items ++ inherited_level frame t x.now) }
+fn put_inherited_level(
+    layout: &Layout,
+    t: u16,
+    x: &Level,
+    out: &mut Vec<u8>,
+) -> Result<(), AllocError>
+    ensures { OnOk result (out.new.items ≡ out.old.items ++ inherited_level layout.now t x.now) }
 {
-    let column = frame.beside(x.from);
-    let y = frame.above(t);
-    if frame.width(x.from, x.to) < 30 {
+    let column = layout.beside(x.from);
+    let y = layout.above(t);
+    if layout.width(x.from, x.to) < 30 {
         put_word_label(b"inherited", column, y, b"&#9650;", out)
     } else {
         put_number_label(
@@ -45,17 +51,82 @@ fn put_inherited_level(frame: Frame, t: u16, x: &Level, out: &mut Vec<u8>) -> Re
     }
 }
 
-// A priority where it changes, if it stays so long that there is room for it.
-fn put_level_label(frame: Frame, t: u16, x: &Level, out: &mut Vec<u8>) -> Result<(), AllocError>
-    ensures { OnOk result (out.new.items ≡ out.old.items ++ level_label frame t x.now) }
+// There is room for it.
+fn has_room(layout: &Layout, x: &Level) -> bool
+    ensures { result ≡ has_room layout.now x.now }
 {
-    if frame.width(x.from, x.to) < 20 {
-        Ok(())
-    } else if x.inherited {
-        put_inherited_level(frame, t, x, out)
+    20 <= layout.width(x.from, x.to)
+}
+
+fn put_some_level(layout: &Layout, t: u16, x: &Level, out: &mut Vec<u8>) -> Result<(), AllocError>
+    ensures { OnOk result (out.new.items ≡ out.old.items ++ some_level layout.now t x.now) }
+{
+    if x.inherited {
+        put_inherited_level(layout, t, x, out)
     } else {
-        put_own_level(frame, t, x, out)
+        put_own_level(layout, t, x, out)
     }
+}
+
+// A priority where it changes, if it stays so long that there is room for it.
+fn put_level_label(layout: &Layout, t: u16, x: &Level, out: &mut Vec<u8>) -> Result<(), AllocError>
+    ensures { OnOk result (out.new.items ≡ out.old.items ++ level_label layout.now t x.now) }
+{
+    if has_room(layout, x) {
+        put_some_level(layout, t, x, out)
+    } else {
+        Ok(())
+    }
+}
+
+fn push_level(layout: &Layout, x: &Level, found: &mut Vec<Level>) -> Result<(), AllocError>
+    ensures { OnOk result (found.new.items ≡ found.old.items ++ (if has_room layout.now x.now then x.now ∷ [] else [])) }
+{
+    if has_room(layout, x) {
+        found.push(*x)?;
+    }
+    Ok(())
+}
+
+fn push_levels(layout: &Layout, own: &[Level], found: &mut Vec<Level>) -> Result<(), AllocError>
+    ensures { OnOk result (found.new.items ≡ found.old.items ++ filter (has_room layout.now) own.now) }
+{
+    for x in own {
+        push_level(layout, x, found)?;
+    }
+    Ok(())
+}
+
+// Those of one thread.
+fn push_labelled(
+    alloc: Global,
+    work: &Work,
+    layout: &Layout,
+    history: &History,
+    t: usize,
+    found: &mut Vec<Level>,
+) -> Result<(), AllocError>
+    ensures { OnOk result (found.new.items ≡ found.old.items ++ labelled_by work.now layout.now history.now t) }
+{
+    let own = levels(alloc, &history.ranks, t, work.limit)?;
+    push_levels(layout, &own, found)
+}
+
+/// The priorities of threads that have a row for which there is room.
+#[tactic(auto, unfolding(crate::specs::Labels::labelled))]
+pub(crate) fn labelled(
+    alloc: Global,
+    work: &Work,
+    layout: &Layout,
+    history: &History,
+) -> Result<Vec<Level>, AllocError>
+    ensures { IfOk result (λ v. v.items ≡ labelled work.now layout.now history.now) }
+{
+    let mut found = Vec::new(alloc);
+    for t in &layout.rows {
+        push_labelled(alloc, work, layout, history, *t, &mut found)?;
+    }
+    Ok(found)
 }
 
 fn inherited_word(inherited: bool) -> &'static [u8]
@@ -76,14 +147,14 @@ fn put_level_title(x: &Level, out: &mut Vec<u8>) -> Result<(), AllocError>
 
 // The place of a priority, which shows it where the pointer rests, also where there is no room for it.
 #[tactic(auto, unfolding(crate::specs::Labels::level_area))]
-fn put_level_area(frame: Frame, t: u16, x: &Level, out: &mut Vec<u8>) -> Result<(), AllocError>
-    ensures { OnOk result (out.new.items ≡ out.old.items ++ level_area frame t x.now) }
+fn put_level_area(layout: &Layout, t: u16, x: &Level, out: &mut Vec<u8>) -> Result<(), AllocError>
+    ensures { OnOk result (out.new.items ≡ out.old.items ++ level_area layout.now t x.now) }
 {
-    let width = frame.width(x.from, x.to);
+    let width = layout.width(x.from, x.to);
     put_bar_start(
         b"level",
-        frame.column(x.from),
-        frame.over(t),
+        layout.column(x.from),
+        layout.over(t),
         width,
         12,
         out,
@@ -92,39 +163,39 @@ fn put_level_area(frame: Frame, t: u16, x: &Level, out: &mut Vec<u8>) -> Result<
     put_bar_end(out)
 }
 
-fn put_level(frame: Frame, t: u16, x: &Level, out: &mut Vec<u8>) -> Result<(), AllocError>
-    ensures { OnOk result (out.new.items ≡ out.old.items ++ level_text frame t x.now) }
+fn put_level(layout: &Layout, t: u16, x: &Level, out: &mut Vec<u8>) -> Result<(), AllocError>
+    ensures { OnOk result (out.new.items ≡ out.old.items ++ level_text layout.now t x.now) }
 {
-    if frame.width(x.from, x.to) == 0 {
+    if layout.width(x.from, x.to) == 0 {
         return Ok(());
     }
-    put_level_label(frame, t, x, out)?;
-    put_level_area(frame, t, x, out)
+    put_level_label(layout, t, x, out)?;
+    put_level_area(layout, t, x, out)
 }
 
 /// The priorities of a thread above its bars.
 pub(crate) fn put_levels(
-    frame: Frame,
+    layout: &Layout,
     t: u16,
     own: &[Level],
     out: &mut Vec<u8>,
 ) -> Result<(), AllocError>
-    ensures { OnOk result (out.new.items ≡ out.old.items ++ flat_map (level_text frame t) own.now) }
+    ensures { OnOk result (out.new.items ≡ out.old.items ++ flat_map (level_text layout.now t) own.now) }
 {
     for x in own {
-        put_level(frame, t, x, out)?;
+        put_level(layout, t, x, out)?;
     }
     Ok(())
 }
 
-fn put_mark(frame: Frame, t: usize, out: &mut Vec<u8>) -> Result<(), AllocError>
-    ensures { OnOk result (out.new.items ≡ out.old.items ++ mark_text frame t) }
+fn put_mark(layout: &Layout, t: usize, out: &mut Vec<u8>) -> Result<(), AllocError>
+    ensures { OnOk result (out.new.items ≡ out.old.items ++ mark_text layout.now t) }
 {
-    match frame.row_of(t) {
+    match layout.row_of(t) {
         Some(row) => put_word_label(
             b"dead",
-            frame.inside(frame.to),
-            frame.base(Row::Thread(row)),
+            layout.inside(layout.to),
+            layout.base(Row::Thread(row)),
             b"deadlock",
             out,
         ),
@@ -134,14 +205,14 @@ fn put_mark(frame: Frame, t: usize, out: &mut Vec<u8>) -> Result<(), AllocError>
 
 /// The marks of threads that block each other at the end.
 pub(crate) fn put_marks(
-    frame: Frame,
+    layout: &Layout,
     threads: &[usize],
     out: &mut Vec<u8>,
 ) -> Result<(), AllocError>
-    ensures { OnOk result (out.new.items ≡ out.old.items ++ flat_map (mark_text frame) threads.now) }
+    ensures { OnOk result (out.new.items ≡ out.old.items ++ flat_map (mark_text layout.now) threads.now) }
 {
     for t in threads {
-        put_mark(frame, *t, out)?;
+        put_mark(layout, *t, out)?;
     }
     Ok(())
 }

@@ -1,75 +1,81 @@
-//! The marks of threads that run without taking a tick, which no bar shows.
+//! The parts of a run that are drawn, and the marks of threads that run without taking a tick, which no bar shows.
 
 ghost use Rattle.std.specs.Prelude.{◌≡◌, ◌++◌, ◌∷◌, [], IfOk, OnOk, filter, flat_map, length, if◌then◌else◌};
 ghost use Rattle.std.specs.List.{range_with_len};
-ghost use Rattle.sd_timeline.specs.Moments.{cpu_moment, has_run, is_moment, moment_line, moment_text, moments_by, moments_of, thread_moment};
+ghost use Rattle.sd_timeline.specs.Moments.{cpu_moment, drawn_by, drawn_pieces, is_drawn, is_moment, moment_line, moment_lines, moment_text, thread_moment};
 
 use crate::bars::put_title;
-use crate::frames::{Frame, Row};
+use crate::layouts::{Layout, Row};
 use crate::pieces::{put_path_end, put_path_start};
+use crate::rows::has_run;
 use sd_stretches::{Doing, History, Stretch, Track, pieces};
 use sd_types::Work;
 use std::alloc::{AllocError, Global};
 
-fn has_run(doing: Doing) -> bool
-    ensures { result ≡ has_run doing }
+/// A thread runs, but takes no tick, and what is drawn shows when.
+pub(crate) fn is_moment(layout: &Layout, x: &Stretch) -> bool
+    ensures { result ≡ is_moment layout.now x.now }
 {
-    matches!(doing, Doing::Running(_))
+    has_run(x.doing) && x.from == x.to && layout.shows(x.from)
 }
 
-// A thread runs, but takes no tick, and what is drawn shows when.
-fn is_moment(frame: Frame, x: &Stretch) -> bool
-    ensures { result ≡ is_moment frame x.now }
+// It has a bar or a mark.
+fn is_drawn(layout: &Layout, x: &Stretch) -> bool
+    ensures { result ≡ is_drawn layout.now x.now }
 {
-    has_run(x.doing) && x.from == x.to && frame.shows(x.from)
+    is_moment(layout, x) || layout.width(x.from, x.to) != 0
 }
 
-fn push_moment(frame: Frame, x: &Stretch, found: &mut Vec<Stretch>) -> Result<(), AllocError>
-    ensures { OnOk result (found.new.items ≡ found.old.items ++ (if is_moment frame x.now then x.now ∷ [] else [])) }
+fn push_drawn(layout: &Layout, x: &Stretch, found: &mut Vec<Stretch>) -> Result<(), AllocError>
+    ensures { OnOk result (found.new.items ≡ found.old.items ++ (if is_drawn layout.now x.now then x.now ∷ [] else [])) }
 {
-    if is_moment(frame, x) {
+    if is_drawn(layout, x) {
         found.push(*x)?;
     }
     Ok(())
 }
 
-fn push_moments(frame: Frame, own: &[Stretch], found: &mut Vec<Stretch>) -> Result<(), AllocError>
-    ensures { OnOk result (found.new.items ≡ found.old.items ++ filter (is_moment frame) own.now) }
+fn push_all_drawn(
+    layout: &Layout,
+    own: &[Stretch],
+    found: &mut Vec<Stretch>,
+) -> Result<(), AllocError>
+    ensures { OnOk result (found.new.items ≡ found.old.items ++ filter (is_drawn layout.now) own.now) }
 {
     for x in own {
-        push_moment(frame, x, found)?;
+        push_drawn(layout, x, found)?;
     }
     Ok(())
 }
 
 // Those of one thread.
-fn push_own_moments(
+fn push_own(
     alloc: Global,
     work: &Work,
-    frame: Frame,
+    layout: &Layout,
     history: &History,
     t: usize,
     found: &mut Vec<Stretch>,
 ) -> Result<(), AllocError>
-    ensures { OnOk result (found.new.items ≡ found.old.items ++ moments_by work.now frame history.now t) }
+    ensures { OnOk result (found.new.items ≡ found.old.items ++ drawn_by work.now layout.now history.now t) }
 {
     let own = pieces(alloc, Track::Thread(t), history, work.limit)?;
-    push_moments(frame, &own, found)
+    push_all_drawn(layout, &own, found)
 }
 
-/// The stretches, of all threads, over which one runs without taking a tick.
-#[tactic(auto, unfolding(crate::specs::Moments::moments_of))]
-pub(crate) fn moments_of(
+/// The pieces of the stretches of all threads that are drawn.
+#[tactic(auto, unfolding(crate::specs::Moments::drawn_pieces))]
+pub(crate) fn drawn_pieces(
     alloc: Global,
     work: &Work,
-    frame: Frame,
+    layout: &Layout,
     history: &History,
 ) -> Result<Vec<Stretch>, AllocError>
-    ensures { IfOk result (λ v. v.items ≡ moments_of work.now frame history.now) }
+    ensures { IfOk result (λ v. v.items ≡ drawn_pieces work.now layout.now history.now) }
 {
     let mut found = Vec::new(alloc);
     for t in 0..work.threads.items().len() {
-        push_own_moments(alloc, work, frame, history, t, &mut found)?;
+        push_own(alloc, work, layout, history, t, &mut found)?;
     }
     Ok(found)
 }
@@ -78,66 +84,86 @@ pub(crate) fn moments_of(
 #[tactic(auto, unfolding(crate::specs::Moments::moment_line))]
 fn put_moment_line(
     work: &Work,
-    frame: Frame,
+    layout: &Layout,
     row: Row,
     x: &Stretch,
     out: &mut Vec<u8>,
 ) -> Result<(), AllocError>
-    ensures { OnOk result (out.new.items ≡ out.old.items ++ moment_line work.now frame row x.now) }
+    ensures { OnOk result (out.new.items ≡ out.old.items ++ moment_line work.now layout.now row x.now) }
 {
-    put_path_start(b"moment", frame.column(x.from), frame.across(row), out)?;
+    put_path_start(b"moment", layout.column(x.from), layout.across(row), out)?;
     put_title(work, x, out)?;
     put_path_end(out)
 }
 
 fn put_cpu_moment(
     work: &Work,
-    frame: Frame,
+    layout: &Layout,
     x: &Stretch,
     out: &mut Vec<u8>,
 ) -> Result<(), AllocError>
-    ensures { OnOk result (out.new.items ≡ out.old.items ++ cpu_moment work.now frame x.now x.now.doing) }
+    ensures { OnOk result (out.new.items ≡ out.old.items ++ cpu_moment work.now layout.now x.now x.now.doing) }
 {
     match x.doing {
-        Doing::Running(c) => put_moment_line(work, frame, Row::Cpu(c.0), x, out),
+        Doing::Running(c) => put_moment_line(work, layout, Row::Cpu(c.0), x, out),
         _ => Ok(()),
     }
 }
 
 fn put_thread_moment(
     work: &Work,
-    frame: Frame,
+    layout: &Layout,
     x: &Stretch,
     row: Option<u16>,
     out: &mut Vec<u8>,
 ) -> Result<(), AllocError>
-    ensures { OnOk result (out.new.items ≡ out.old.items ++ thread_moment work.now frame x.now row) }
+    ensures { OnOk result (out.new.items ≡ out.old.items ++ thread_moment work.now layout.now x.now row) }
 {
     match row {
-        Some(t) => put_moment_line(work, frame, Row::Thread(t), x, out),
+        Some(t) => put_moment_line(work, layout, Row::Thread(t), x, out),
         None => Ok(()),
     }
 }
 
 // On the row of its processor, and on its own, if it has one.
-fn put_moment(work: &Work, frame: Frame, x: &Stretch, out: &mut Vec<u8>) -> Result<(), AllocError>
-    ensures { OnOk result (out.new.items ≡ out.old.items ++ moment_text work.now frame x.now) }
-{
-    put_cpu_moment(work, frame, x, out)?;
-    put_thread_moment(work, frame, x, frame.row_of(x.thread), out)
-}
-
-/// The marks.
-pub(crate) fn put_moments(
+fn put_moment_lines(
     work: &Work,
-    frame: Frame,
-    moments: &[Stretch],
+    layout: &Layout,
+    x: &Stretch,
     out: &mut Vec<u8>,
 ) -> Result<(), AllocError>
-    ensures { OnOk result (out.new.items ≡ out.old.items ++ flat_map (moment_text work.now frame) moments.now) }
+    ensures { OnOk result (out.new.items ≡ out.old.items ++ moment_lines work.now layout.now x.now) }
 {
-    for x in moments {
-        put_moment(work, frame, x, out)?;
+    put_cpu_moment(work, layout, x, out)?;
+    put_thread_moment(work, layout, x, layout.row_of(x.thread), out)
+}
+
+fn put_moment(
+    work: &Work,
+    layout: &Layout,
+    x: &Stretch,
+    out: &mut Vec<u8>,
+) -> Result<(), AllocError>
+    ensures { OnOk result (out.new.items ≡ out.old.items ++ moment_text work.now layout.now x.now) }
+{
+    if is_moment(layout, x) {
+        put_moment_lines(work, layout, x, out)
+    } else {
+        Ok(())
+    }
+}
+
+/// The marks, among the pieces that are drawn.
+pub(crate) fn put_moments(
+    work: &Work,
+    layout: &Layout,
+    pieces: &[Stretch],
+    out: &mut Vec<u8>,
+) -> Result<(), AllocError>
+    ensures { OnOk result (out.new.items ≡ out.old.items ++ flat_map (moment_text work.now layout.now) pieces.now) }
+{
+    for x in pieces {
+        put_moment(work, layout, x, out)?;
     }
     Ok(())
 }

@@ -5,7 +5,7 @@
 ghost use Rattle.std.specs.Prelude.{◌≡◌, ◌++◌, OnOk, flat_map};
 ghost use Rattle.sd_timeline.specs.Notes.{assign_note, bind_note, bound_words, note_by, note_text, set_note, set_words, thread_note};
 
-use crate::frames::{Frame, Row};
+use crate::layouts::{Layout, Row};
 use crate::pieces::{put_label_end, put_label_start};
 use sd_labels::{put_counted, set_name};
 use sd_stretches::Happening;
@@ -26,16 +26,16 @@ fn put_set_words(word: &[u8], set: &[u8], out: &mut Vec<u8>) -> Result<(), Alloc
 fn put_set_note(
     class: &[u8],
     work: &Work,
-    frame: Frame,
+    layout: &Layout,
     tick: u32,
     c: CpuId,
     word: &[u8],
     set: SetId,
     out: &mut Vec<u8>,
 ) -> Result<(), AllocError>
-    ensures { OnOk result (out.new.items ≡ out.old.items ++ set_note class.now work.now frame tick c word.now set) }
+    ensures { OnOk result (out.new.items ≡ out.old.items ++ set_note class.now work.now layout.now tick c word.now set) }
 {
-    put_label_start(class, frame.column(tick), frame.under(Row::Cpu(c.0)), out)?;
+    put_label_start(class, layout.column(tick), layout.under(Row::Cpu(c.0)), out)?;
     put_set_words(word, set_name(work, set), out)?;
     put_label_end(out)
 }
@@ -43,20 +43,20 @@ fn put_set_note(
 // Where a processor begins to close for a set.
 fn put_assign_note(
     work: &Work,
-    frame: Frame,
+    layout: &Layout,
     tick: u32,
     c: CpuId,
     set: SetId,
     answer: AssignAnswer,
     out: &mut Vec<u8>,
 ) -> Result<(), AllocError>
-    ensures { OnOk result (out.new.items ≡ out.old.items ++ assign_note work.now frame tick c set answer) }
+    ensures { OnOk result (out.new.items ≡ out.old.items ++ assign_note work.now layout.now tick c set answer) }
 {
     match answer {
         AssignAnswer::Changed => put_set_note(
             b"note closes",
             work,
-            frame,
+            layout,
             tick,
             c,
             b"closes for ",
@@ -80,20 +80,20 @@ fn put_bound_words(cpu: Option<CpuId>, out: &mut Vec<u8>) -> Result<(), AllocErr
 
 // Under the row of the thread, if it has one.
 fn put_thread_note(
-    frame: Frame,
+    layout: &Layout,
     tick: u32,
     row: Option<u16>,
     cpu: Option<CpuId>,
     out: &mut Vec<u8>,
 ) -> Result<(), AllocError>
-    ensures { OnOk result (out.new.items ≡ out.old.items ++ thread_note frame tick cpu row) }
+    ensures { OnOk result (out.new.items ≡ out.old.items ++ thread_note layout.now tick cpu row) }
 {
     match row {
         Some(t) => {
             put_label_start(
                 b"note",
-                frame.column(tick),
-                frame.under(Row::Thread(t)),
+                layout.column(tick),
+                layout.under(Row::Thread(t)),
                 out,
             )?;
             put_bound_words(cpu, out)?;
@@ -104,18 +104,18 @@ fn put_thread_note(
 }
 
 fn put_bind_note(
-    frame: Frame,
+    layout: &Layout,
     tick: u32,
     t: ThreadId,
     cpu: Option<CpuId>,
     answer: BindAnswer,
     out: &mut Vec<u8>,
 ) -> Result<(), AllocError>
-    ensures { OnOk result (out.new.items ≡ out.old.items ++ bind_note frame tick t cpu answer) }
+    ensures { OnOk result (out.new.items ≡ out.old.items ++ bind_note layout.now tick t cpu answer) }
 {
     match answer {
         BindAnswer::Changed { .. } => {
-            put_thread_note(frame, tick, frame.row_of(t.0 as usize), cpu, out)
+            put_thread_note(layout, tick, layout.row_of(t.0 as usize), cpu, out)
         }
         _ => Ok(()),
     }
@@ -124,11 +124,11 @@ fn put_bind_note(
 // What an entry changes of processor sets and bindings.
 fn put_note_of(
     work: &Work,
-    frame: Frame,
+    layout: &Layout,
     x: &Happening,
     out: &mut Vec<u8>,
 ) -> Result<(), AllocError>
-    ensures { OnOk result (out.new.items ≡ out.old.items ++ note_by work.now frame x.now x.now.event) }
+    ensures { OnOk result (out.new.items ≡ out.old.items ++ note_by work.now layout.now x.now x.now.event) }
 {
     match x.event {
         Event::Assign {
@@ -136,28 +136,33 @@ fn put_note_of(
             set,
             answer,
             ..
-        } => put_assign_note(work, frame, x.tick, cpu, set, answer, out),
+        } => put_assign_note(work, layout, x.tick, cpu, set, answer, out),
         Event::Joined { set } => put_set_note(
             b"note",
             work,
-            frame,
+            layout,
             x.tick,
             x.cpu,
             b"&#9652;in ",
             set,
             out,
         ),
-        Event::Bind { s, cpu, answer, .. } => put_bind_note(frame, x.tick, s, cpu, answer, out),
+        Event::Bind { s, cpu, answer, .. } => put_bind_note(layout, x.tick, s, cpu, answer, out),
         _ => Ok(()),
     }
 }
 
 // Where its tick is drawn.
-fn put_note(work: &Work, frame: Frame, x: &Happening, out: &mut Vec<u8>) -> Result<(), AllocError>
-    ensures { OnOk result (out.new.items ≡ out.old.items ++ note_text work.now frame x.now) }
+fn put_note(
+    work: &Work,
+    layout: &Layout,
+    x: &Happening,
+    out: &mut Vec<u8>,
+) -> Result<(), AllocError>
+    ensures { OnOk result (out.new.items ≡ out.old.items ++ note_text work.now layout.now x.now) }
 {
-    if frame.shows(x.tick) {
-        put_note_of(work, frame, x, out)
+    if layout.shows(x.tick) {
+        put_note_of(work, layout, x, out)
     } else {
         Ok(())
     }
@@ -166,14 +171,14 @@ fn put_note(work: &Work, frame: Frame, x: &Happening, out: &mut Vec<u8>) -> Resu
 /// The notes.
 pub(crate) fn put_notes(
     work: &Work,
-    frame: Frame,
+    layout: &Layout,
     happenings: &[Happening],
     out: &mut Vec<u8>,
 ) -> Result<(), AllocError>
-    ensures { OnOk result (out.new.items ≡ out.old.items ++ flat_map (note_text work.now frame) happenings.now) }
+    ensures { OnOk result (out.new.items ≡ out.old.items ++ flat_map (note_text work.now layout.now) happenings.now) }
 {
     for x in happenings {
-        put_note(work, frame, x, out)?;
+        put_note(work, layout, x, out)?;
     }
     Ok(())
 }

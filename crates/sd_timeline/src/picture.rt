@@ -5,16 +5,19 @@ ghost use Rattle.std.specs.List.{range_with_len};
 ghost use Rattle.sd_full.specs.LockGraph.{cycles_of};
 ghost use Rattle.sd_timeline.specs.Arrows.{hand_texts, wake_text};
 ghost use Rattle.sd_timeline.specs.Labels.{mark_text};
-ghost use Rattle.sd_timeline.specs.Picture.{bound_of, ground_text, marks_text, own_row, row_text, rows_text, thread_text, timeline_text};
+ghost use Rattle.sd_timeline.specs.Layouts.{row_of};
+ghost use Rattle.sd_timeline.specs.Picture.{bound_of, ground_text, laid_out, marks_text, own_row, row_text, rows_text, thread_text, timeline_text};
 
 use crate::arrows::{put_hand_overs, put_wakeups};
 use crate::bars::{put_bars, put_run_bars};
 use crate::frames::Frame;
 use crate::head::{put_bound_label, put_head, put_thread_head};
 use crate::labels::{put_levels, put_marks};
-use crate::legend::put_legend;
-use crate::moments::{moments_of, put_moments};
+use crate::layouts::Layout;
+use crate::legend::{Drawn, drawn_of, put_legend};
+use crate::moments::put_moments;
 use crate::notes::put_notes;
+use crate::rows::layout_of;
 use sd_cycles::cycles;
 use sd_machine::State;
 use sd_stretches::{History, Stretch, Track, levels, pieces};
@@ -36,36 +39,37 @@ fn bound_of(s: &State, t: usize) -> Option<CpuId>
 fn put_own_row(
     alloc: Global,
     work: &Work,
-    frame: Frame,
+    layout: &Layout,
     history: &History,
     s: &State,
-    t: u16,
+    t: usize,
     own: &[Stretch],
+    row: u16,
     out: &mut Vec<u8>,
 ) -> Result<(), AllocError>
-    ensures { OnOk result (out.new.items ≡ out.old.items ++ own_row work.now frame history.now s.now t own.now) }
+    ensures { OnOk result (out.new.items ≡ out.old.items ++ own_row work.now layout.now history.now s.now t own.now row) }
 {
-    put_thread_head(work, frame, t, out)?;
-    put_bound_label(frame, t, bound_of(s, usize::from(t)), out)?;
-    put_bars(work, frame, t, own, out)?;
-    let own_levels = levels(alloc, &history.ranks, usize::from(t), work.limit)?;
-    put_levels(frame, t, &own_levels, out)
+    put_thread_head(work, layout, row, t, out)?;
+    put_bound_label(layout, row, bound_of(s, t), out)?;
+    put_bars(work, layout, row, own, out)?;
+    let own_levels = levels(alloc, &history.ranks, t, work.limit)?;
+    put_levels(layout, row, &own_levels, out)
 }
 
 fn put_row_if(
     alloc: Global,
     work: &Work,
-    frame: Frame,
+    layout: &Layout,
     history: &History,
     s: &State,
-    row: Option<u16>,
+    t: usize,
     own: &[Stretch],
     out: &mut Vec<u8>,
 ) -> Result<(), AllocError>
-    ensures { OnOk result (out.new.items ≡ out.old.items ++ row_text work.now frame history.now s.now own.now row) }
+    ensures { OnOk result (out.new.items ≡ out.old.items ++ row_text work.now layout.now history.now s.now t own.now (row_of layout.now t)) }
 {
-    match row {
-        Some(t) => put_own_row(alloc, work, frame, history, s, t, own, out),
+    match layout.row_of(t) {
+        Some(row) => put_own_row(alloc, work, layout, history, s, t, own, row, out),
         None => Ok(()),
     }
 }
@@ -75,41 +79,41 @@ fn put_row_if(
 fn put_thread(
     alloc: Global,
     work: &Work,
-    frame: Frame,
+    layout: &Layout,
     history: &History,
     s: &State,
     t: usize,
     out: &mut Vec<u8>,
 ) -> Result<(), AllocError>
-    ensures { OnOk result (out.new.items ≡ out.old.items ++ thread_text work.now frame history.now s.now t) }
+    ensures { OnOk result (out.new.items ≡ out.old.items ++ thread_text work.now layout.now history.now s.now t) }
 {
     let own = pieces(alloc, Track::Thread(t), history, work.limit)?;
-    put_run_bars(work, frame, &own, out)?;
-    put_row_if(alloc, work, frame, history, s, frame.row_of(t), &own, out)
+    put_run_bars(work, layout, &own, out)?;
+    put_row_if(alloc, work, layout, history, s, t, &own, out)
 }
 
 fn put_threads(
     alloc: Global,
     work: &Work,
-    frame: Frame,
+    layout: &Layout,
     history: &History,
     s: &State,
     out: &mut Vec<u8>,
 ) -> Result<(), AllocError>
-    ensures { OnOk result (out.new.items ≡ out.old.items ++ flat_map (thread_text work.now frame history.now s.now) (range_with_len 0 (length work.now.threads))) }
+    ensures { OnOk result (out.new.items ≡ out.old.items ++ flat_map (thread_text work.now layout.now history.now s.now) (range_with_len 0 (length work.now.threads))) }
 {
     for t in 0..work.threads.items().len() {
-        put_thread(alloc, work, frame, history, s, t, out)?;
+        put_thread(alloc, work, layout, history, s, t, out)?;
     }
     Ok(())
 }
 
 // The marks of the cycles.
-fn put_cycles(frame: Frame, found: &[Vec<usize>], out: &mut Vec<u8>) -> Result<(), AllocError>
-    ensures { OnOk result (out.new.items ≡ out.old.items ++ flat_map (flat_map (mark_text frame)) (map (λ v. v.items) found.now)) }
+fn put_cycles(layout: &Layout, found: &[Vec<usize>], out: &mut Vec<u8>) -> Result<(), AllocError>
+    ensures { OnOk result (out.new.items ≡ out.old.items ++ flat_map (flat_map (mark_text layout.now)) (map (λ v. v.items) found.now)) }
 {
     for threads in found {
-        put_marks(frame, threads, out)?;
+        put_marks(layout, threads, out)?;
     }
     Ok(())
 }
@@ -118,31 +122,32 @@ fn put_cycles(frame: Frame, found: &[Vec<usize>], out: &mut Vec<u8>) -> Result<(
 fn put_deadlocks(
     alloc: Global,
     work: &Work,
-    frame: Frame,
+    layout: &Layout,
     s: &State,
     out: &mut Vec<u8>,
 ) -> Result<(), AllocError>
-    ensures { OnOk result (out.new.items ≡ out.old.items ++ marks_text work.now frame s.now) }
+    ensures { OnOk result (out.new.items ≡ out.old.items ++ marks_text work.now layout.now s.now) }
 {
-    if frame.to < work.limit {
+    if layout.to < work.limit {
         return Ok(());
     }
     let found = cycles(alloc, s)?;
-    put_cycles(frame, &found, out)
+    put_cycles(layout, &found, out)
 }
 
 // The arrows.
 fn put_arrows(
     work: &Work,
-    frame: Frame,
+    layout: &Layout,
     history: &History,
+    drawn: &Drawn,
     out: &mut Vec<u8>,
 ) -> Result<(), AllocError>
-    ensures { OnOk result (out.new.items ≡ out.old.items ++ (flat_map (wake_text work.now frame) history.now.wakeups.items
-        ++ hand_texts work.now frame None 0 history.now.hand_overs.items)) }
+    ensures { OnOk result (out.new.items ≡ out.old.items ++ (flat_map (wake_text work.now layout.now) history.now.wakeups.items
+        ++ hand_texts work.now layout.now None 0 drawn.now.hand_overs)) }
 {
-    put_wakeups(work, frame, &history.wakeups, out)?;
-    put_hand_overs(work, frame, &history.hand_overs, out)
+    put_wakeups(work, layout, &history.wakeups, out)?;
+    put_hand_overs(work, layout, &drawn.hand_overs, out)
 }
 
 // What lies under and above the rows.
@@ -150,16 +155,16 @@ fn put_arrows(
 fn put_ground(
     alloc: Global,
     work: &Work,
-    frame: Frame,
+    layout: &Layout,
     history: &History,
-    moments: &[Stretch],
+    drawn: &Drawn,
     out: &mut Vec<u8>,
 ) -> Result<(), AllocError>
-    ensures { OnOk result (out.new.items ≡ out.old.items ++ ground_text work.now frame history.now moments.now) }
+    ensures { OnOk result (out.new.items ≡ out.old.items ++ ground_text work.now layout.now history.now drawn.now) }
 {
-    put_head(work, frame, out)?;
-    put_legend(alloc, history, moments, out)?;
-    put_arrows(work, frame, history, out)
+    put_head(work, layout, out)?;
+    put_legend(alloc, work, layout, history, drawn, out)?;
+    put_arrows(work, layout, history, drawn, out)
 }
 
 // The rows, and the marks over and under them.
@@ -167,22 +172,40 @@ fn put_ground(
 fn put_rows(
     alloc: Global,
     work: &Work,
-    frame: Frame,
+    layout: &Layout,
     history: &History,
-    moments: &[Stretch],
+    pieces: &[Stretch],
     s: &State,
     out: &mut Vec<u8>,
 ) -> Result<(), AllocError>
-    ensures { OnOk result (out.new.items ≡ out.old.items ++ rows_text work.now frame history.now moments.now s.now) }
+    ensures { OnOk result (out.new.items ≡ out.old.items ++ rows_text work.now layout.now history.now pieces.now s.now) }
 {
-    put_threads(alloc, work, frame, history, s, out)?;
-    put_moments(work, frame, moments, out)?;
-    put_notes(work, frame, &history.happenings, out)?;
-    put_deadlocks(alloc, work, frame, s, out)
+    put_threads(alloc, work, layout, history, s, out)?;
+    put_moments(work, layout, pieces, out)?;
+    put_notes(work, layout, &history.happenings, out)?;
+    put_deadlocks(alloc, work, layout, s, out)
+}
+
+// The picture in this layout.
+#[tactic(auto, unfolding(crate::specs::Picture::laid_out))]
+fn laid_out(
+    alloc: Global,
+    work: &Work,
+    layout: &Layout,
+    history: &History,
+    s: &State,
+    drawn: &Drawn,
+) -> Result<Vec<u8>, AllocError>
+    ensures { IfOk result (λ text. text.items ≡ laid_out work.now layout.now history.now s.now drawn.now) }
+{
+    let mut text = Vec::new(alloc);
+    put_ground(alloc, work, layout, history, drawn, &mut text)?;
+    put_rows(alloc, work, layout, history, &drawn.pieces, s, &mut text)?;
+    text.extend_from_slice(b"</svg>\n")?;
+    Ok(text)
 }
 
 /// The picture of a run of the workload, of which this is the history and the last state, as far as the frame goes.
-#[tactic(auto, unfolding(crate::specs::Picture::timeline_text))]
 pub fn timeline(
     alloc: Global,
     work: &Work,
@@ -192,10 +215,7 @@ pub fn timeline(
 ) -> Result<Vec<u8>, AllocError>
     ensures { IfOk result (λ text. text.items ≡ timeline_text work.now frame history.now s.now) }
 {
-    let moments = moments_of(alloc, work, frame, history)?;
-    let mut text = Vec::new(alloc);
-    put_ground(alloc, work, frame, history, &moments, &mut text)?;
-    put_rows(alloc, work, frame, history, &moments, s, &mut text)?;
-    text.extend_from_slice(b"</svg>\n")?;
-    Ok(text)
+    let layout = layout_of(alloc, work, frame, history)?;
+    let drawn = drawn_of(alloc, work, &layout, history)?;
+    laid_out(alloc, work, &layout, history, s, &drawn)
 }

@@ -5,10 +5,20 @@ use Rattle.std.specs.List.{range_with_len}
 use Rattle.std.proofs.lemmas.List.Folds.{list_all-append}
 use Rattle.sd_types.specs.declared.classes.Class.{Class}
 use Rattle.sd_types.specs.declared.classes.Class.TheVariants.{Ts, Fx, Sys, Rt}
+use Rattle.sd_types.specs.declared.numbers.CpuId.{CpuId}
+use Rattle.sd_types.specs.declared.numbers.SetId.{SetId}
+use Rattle.sd_types.specs.declared.numbers.ThreadId.{ThreadId}
+use Rattle.sd_types.specs.declared.events.AssignAnswer.{AssignAnswer}
+use Rattle.sd_types.specs.declared.events.AssignAnswer.TheVariants as assign
+use Rattle.sd_types.specs.declared.events.BindAnswer.{BindAnswer}
+use Rattle.sd_types.specs.declared.events.BindAnswer.TheVariants as bind
+use Rattle.sd_types.specs.declared.events.Event.{Event}
+use Rattle.sd_types.specs.declared.events.Event.TheVariants as event
 use Rattle.sd_types.specs.declared.works.Work.{Work}
 use Rattle.sd_stretches.specs.declared.sights.Doing.{Doing}
 use Rattle.sd_stretches.specs.declared.sights.Doing.TheVariants as doing
 use Rattle.sd_stretches.specs.declared.changes.HandOver.{HandOver}
+use Rattle.sd_stretches.specs.declared.changes.Happening.{Happening}
 use Rattle.sd_stretches.specs.declared.changes.Load.{Load}
 use Rattle.sd_stretches.specs.declared.changes.Wakeup.{Wakeup}
 use Rattle.sd_stretches.specs.declared.histories.History.{History}
@@ -16,10 +26,11 @@ use Rattle.sd_stretches.specs.declared.rows.Stretch.{Stretch}
 use Rattle.sd_stretches.specs.declared.spins.Track.TheVariants as track
 use Rattle.sd_stretches.specs.Spins.{pieces}
 use Rattle.sd_labels.specs.Plain.{is_text_byte, IsText}
-use Rattle.sd_labels.proofs.TextLemmas.{flat-text, decimal-text, lock-text, thread-text, doing-text}
+use Rattle.sd_labels.proofs.TextLemmas.{flat-text, decimal-text, lock-text, thread-text, set-text, doing-text}
 use Rattle.sd_trace.specs.Words.{class_word, place_at, thread_number}
 use Rattle.sd_trace.specs.Slices.{about, class_argument, class_start, entry_arguments, length_of, priority_argument, run_name, run_slice, slice_kind, spin_words, state_slice, state_slices}
 use Rattle.sd_trace.specs.Flows.{arrow_end, arrow_from, arrow_start, end_kind, entry_argument, flow, hand_flow, load_argument, load_event, load_start, named, start_kind, track_at, wake_flow}
+use Rattle.sd_trace.specs.Marks.{assign_mark, bind_mark, bound_mark, bound_name, mark_at, mark_by, mark_kind, mark_text, set_mark}
 use Rattle.sd_trace.specs.Tracks.{all_tracks, cpu_name, cpu_part, cpu_track, name_end, name_start, own_part, thread_part, thread_track, threads_start, trace_start, track_order, track_start, trace_text}
 
 -- ---- slices
@@ -88,6 +99,47 @@ load-text : (w : Work) (x : Load) → IsText (load_event w x)
 unfolding load_event load_start load_argument
 load-text w x = simp (list_all-append is_text_byte, decimal-text)
 
+-- ---- marks
+
+mark-at-text : (w : Work) (x : Happening) (process track : ℕ) → IsText (mark_at w x process track)
+unfolding mark_at mark_kind entry_argument
+mark-at-text w x process track = simp (list_all-append is_text_byte, decimal-text, place-text)
+
+set-mark-text : (w : Work) (x : Happening) (c : CpuId) (word : List ℕ) (set : SetId) → IsText word → IsText (set_mark w x c word set)
+unfolding set_mark named
+set-mark-text w x c word set h = simp (list_all-append is_text_byte, h, set-text w set.0, mark-at-text)
+
+assign-mark-text : (w : Work) (x : Happening) (c : CpuId) (set : SetId) (answer : AssignAnswer) → IsText (assign_mark w x c set answer)
+assign-mark-text w x c set assign.Changed = set-mark-text w x c (codes "closes for ") set refl
+assign-mark-text w x c set assign.EPERM = refl
+assign-mark-text w x c set assign.EINVAL = refl
+assign-mark-text w x c set assign.EBUSY = refl
+
+bound-name-text : (cpu : Option CpuId) → IsText (bound_name cpu)
+unfolding named
+bound-name-text None = refl
+bound-name-text (Some c) = simp (list_all-append is_text_byte, decimal-text)
+
+bound-mark-text : (w : Work) (x : Happening) (t : ThreadId) (cpu : Option CpuId) → IsText (bound_mark w x t cpu)
+unfolding bound_mark
+bound-mark-text w x t cpu = simp (list_all-append is_text_byte, bound-name-text cpu, mark-at-text)
+
+bind-mark-text : (w : Work) (x : Happening) (t : ThreadId) (cpu : Option CpuId) (answer : BindAnswer) → IsText (bind_mark w x t cpu answer)
+bind-mark-text w x t cpu (bind.Changed at) = bound-mark-text w x t cpu
+bind-mark-text w x t cpu bind.ESRCH = refl
+bind-mark-text w x t cpu bind.EINVAL = refl
+bind-mark-text w x t cpu bind.EPERM = refl
+bind-mark-text w x t cpu bind.EBUSY = refl
+
+mark-by-text : (w : Work) (x : Happening) (e : Event) → IsText (mark_by w x e)
+mark-by-text w x (event.Assign t c set answer) = assign-mark-text w x c set answer
+mark-by-text w x (event.Joined set) = set-mark-text w x x.cpu (codes "in ") set refl
+mark-by-text w x (event.Bind t u cpu answer) = bind-mark-text w x u cpu answer
+mark-by-text w x _ = refl
+
+mark-text : (w : Work) (x : Happening) → IsText (mark_text w x)
+mark-text w x = mark-by-text w x x.event
+
 -- ---- tracks
 
 cpu-text : (c : ℕ) → IsText (cpu_track c)
@@ -131,5 +183,6 @@ trace-text w h =
       tracks-text w h,
       flat-text (wake_flow w) (wake-text w) h.wakeups.items,
       flat-text (hand_flow w) (hand-text w) h.hand_overs.items,
+      flat-text (mark_text w) (mark-text w) h.happenings.items,
       flat-text (load_event w) (load-text w) h.loads.items,
     )

@@ -1,6 +1,7 @@
 pub mod Words
 pub mod Slices
 pub mod Flows
+pub mod Marks
 pub mod Tracks
 pub mod Plain
 pub mod Apart

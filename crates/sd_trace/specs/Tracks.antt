@@ -11,6 +11,7 @@ use Rattle.sd_stretches.specs.Spins.{pieces}
 use Rattle.sd_trace.specs.Words.{cpu_number, thread_number}
 use Rattle.sd_trace.specs.Slices.{run_slice, state_slices}
 use Rattle.sd_trace.specs.Flows.{hand_flow, load_event, wake_flow}
+use Rattle.sd_trace.specs.Marks.{mark_text}
 
 -- the start of the name of a track of a process
 unfoldable pub track_start : ℕ → ℕ → List ℕ
@@ -65,5 +66,5 @@ all_tracks w h =
 -- the trace
 unfoldable pub trace_text : Work → History → List ℕ
 trace_text w h =
-    all_tracks w h ++ flat_map (wake_flow w) h.wakeups.items ++ flat_map (hand_flow w) h.hand_overs.items ++ flat_map (load_event w) h.loads.items
-    ++ codes "\n]}\n"
+    all_tracks w h ++ flat_map (wake_flow w) h.wakeups.items ++ flat_map (hand_flow w) h.hand_overs.items ++ flat_map (mark_text w) h.happenings.items
+    ++ flat_map (load_event w) h.loads.items ++ codes "\n]}\n"

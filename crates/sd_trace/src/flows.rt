@@ -9,9 +9,9 @@ use sd_stretches::{HandOver, Load, Wakeup};
 use sd_types::Work;
 use std::alloc::AllocError;
 
-// A word as the name of an event.
+/// A word as the name of an event.
 #[tactic(auto, unfolding(crate::specs::Flows::named))]
-fn put_named(word: &[u8], out: &mut Vec<u8>) -> Result<(), AllocError>
+pub(crate) fn put_named(word: &[u8], out: &mut Vec<u8>) -> Result<(), AllocError>
     ensures { OnOk result (out.new.items ≡ out.old.items ++ named word.now) }
 {
     out.extend_from_slice(b",\n{\"name\":\"")?;
@@ -36,8 +36,9 @@ fn put_end_kind(entry: u64, out: &mut Vec<u8>) -> Result<(), AllocError>
     )
 }
 
+/// The entry that an event is about, and the end of the event.
 #[tactic(auto, unfolding(crate::specs::Flows::entry_argument))]
-fn put_entry_argument(entry: u64, out: &mut Vec<u8>) -> Result<(), AllocError>
+pub(crate) fn put_entry_argument(entry: u64, out: &mut Vec<u8>) -> Result<(), AllocError>
     ensures { OnOk result (out.new.items ≡ out.old.items ++ entry_argument entry) }
 {
     put_counted(b",\"args\":{\"entry\":", entry, out)?;

@@ -5,6 +5,7 @@ ghost use Rattle.std.specs.List.{range_with_len};
 ghost use Rattle.sd_trace.specs.Tracks.{all_tracks, cpu_name, cpu_part, cpu_track, name_end, name_start, thread_part, thread_track, trace_start, track_order, track_start, trace_text, threads_start};
 
 use crate::flows::{put_hand_overs, put_loads, put_wakeups};
+use crate::marks::put_marks;
 use crate::slices::{put_run_slices, put_states};
 use crate::words::{cpu_number, thread_number};
 use sd_labels::{put_counted, thread_name};
@@ -185,6 +186,7 @@ pub fn trace(alloc: Global, work: &Work, history: &History) -> Result<Vec<u8>, A
     put_all_tracks(alloc, work, history, &mut text)?;
     put_wakeups(work, &history.wakeups, &mut text)?;
     put_hand_overs(work, &history.hand_overs, &mut text)?;
+    put_marks(work, &history.happenings, &mut text)?;
     put_loads(work, &history.loads, &mut text)?;
     text.extend_from_slice(b"\n]}\n")?;
     Ok(text)

@@ -4,8 +4,6 @@
 mod chain;
 mod rack;
 mod serving;
-#[cfg(test)]
-mod tests;
 mod turnstile;
 
 pub use chain::TurnChain;

@@ -1,12 +1,12 @@
 //! Looking at a state that is one value.
 
 ghost use Rattle.std.specs.Prelude.{◌≡◌, ◌<◌, IfSome, option_map};
-ghost use Rattle.sd_full.specs.Sleeping.{rouse_key};
 ghost use Rattle.sd_full.specs.Walking.{is_back};
 ghost use Rattle.sd_machine.specs.States.{thread_of};
-ghost use Rattle.sd_store.specs.Keyless.{spot_of, task_of};
+ghost use Rattle.sd_store.specs.Keyless.{spot_of};
 ghost use Rattle.sd_store.specs.Parts.{number, view_of};
 
+use crate::keyless::{rouse_key, task_of};
 use crate::{CpuView, Look, Spot, Task};
 use sd_flat::{cpu_of, place_of};
 use sd_machine::{CpuState, LockState, Place, State};
@@ -30,20 +30,6 @@ fn spot_of(place: Place) -> Spot
     }
 }
 
-fn task_of(duty: Duty) -> Task
-    ensures { result ≡ task_of duty }
-{
-    match duty {
-        Duty::Nothing => Task::Nothing,
-        Duty::Walk { lock, seek, .. } => Task::Walk { lock, seek },
-        Duty::WakeMutex(l) => Task::WakeMutex(l),
-        Duty::GrantWriter(l) => Task::GrantWriter(l),
-        Duty::GrantReaders(l) => Task::GrantReaders(l),
-        Duty::Rouse(k, _) => Task::Rouse(k),
-        Duty::Age(u) => Task::Age(u),
-    }
-}
-
 fn view_of(x: CpuState) -> CpuView
     ensures { result ≡ view_of x }
 {
@@ -53,16 +39,6 @@ fn view_of(x: CpuState) -> CpuView
         set: x.set,
         closing: x.closing,
         bound: x.bound,
-    }
-}
-
-/// The number of a duty to wake sleepers.
-fn rouse_key(duty: Duty) -> i64
-    ensures { result ≡ rouse_key duty }
-{
-    match duty {
-        Duty::Rouse(_, below) => below,
-        _ => 0,
     }
 }
 

@@ -1,84 +1,16 @@
 //! Changing a state that is one value.
 
-ghost use Rattle.std.specs.Prelude.{◌≡◌, ◌<◌, ◌^◌};
-ghost use Rattle.sd_full.specs.Changes.{back_key, key_at, place_put};
-ghost use Rattle.sd_full.specs.Threads.{set_of};
+ghost use Rattle.std.specs.Prelude.{◌≡◌};
 ghost use Rattle.sd_full.specs.Walking.{next_walk};
 ghost use Rattle.sd_store.specs.Bodies.{changed};
 ghost use Rattle.sd_store.specs.Flat.{CanChangeBody};
-ghost use Rattle.sd_store.specs.Keyless.{duty_of, place_by};
 
 use crate::flat::Never;
+use crate::keyless::{duty_of, place_by, place_put, rouse};
 use crate::{BodyChange, Chore, Destination, Store};
 use sd_flat::{cpu_of, is_looped, is_thread, place_of, script_of};
 use sd_machine::{LockState, Place, State};
-use sd_types::{ChanId, CpuId, Duty, End, LockId, Put, SetId, ThreadBody, ThreadId, Work};
-
-/// The key of a thread that entry `number` puts at the back of a queue.
-fn back_key(number: u64) -> i64
-    requires { number < 2 ^ 62 }
-    ensures { result ≡ back_key number }
-{
-    4096 + number as i64
-}
-
-/// The key of a thread that entry `number` puts at an end of a queue.
-fn key_at(number: u64, end: End) -> i64
-    requires { number < 2 ^ 62 }
-    ensures { result ≡ key_at number end }
-{
-    match end {
-        End::Back => back_key(number),
-        End::Front => -1 - number as i64,
-    }
-}
-
-/// The place to which a thread goes by entry `number` when it leaves processor `c`.
-fn place_by(number: u64, c: CpuId, to: Destination) -> Place
-    requires { number < 2 ^ 62 }
-    ensures { result ≡ place_by number c to }
-{
-    match to {
-        Destination::Queue(d, end) => Place::Queued(d, key_at(number, end)),
-        Destination::RealTime(p, end) => Place::RealTime(p, key_at(number, end)),
-        Destination::Turnstile(l, side) => Place::Waiting(l, side, back_key(number)),
-        Destination::SleepQueue(k) => Place::Asleep(k, back_key(number)),
-        Destination::Nap(due) => Place::Napping(c, due),
-        Destination::Nowhere => Place::Ended,
-    }
-}
-
-fn set_of(work: &Work, t: ThreadId) -> SetId
-    ensures { result ≡ set_of work.now t.0 }
-{
-    match work.threads.items().get(t.0 as usize) {
-        Some(decl) => decl.set,
-        None => SetId(0),
-    }
-}
-
-fn place_put(work: &Work, number: u64, t: ThreadId, at: Put) -> Place
-    requires { number < 2 ^ 62 }
-    ensures { result ≡ place_put work.now number t.0 at }
-{
-    let key = back_key(number);
-    match at {
-        Put::Cpu(x) => Place::Queued(x, key),
-        Put::RealTime(_) => Place::RealTime(set_of(work, t), key),
-    }
-}
-
-fn duty_of(chore: Chore) -> Duty
-    ensures { result ≡ duty_of chore }
-{
-    match chore {
-        Chore::Nothing => Duty::Nothing,
-        Chore::WakeMutex(l) => Duty::WakeMutex(l),
-        Chore::GrantWriter(l) => Duty::GrantWriter(l),
-        Chore::GrantReaders(l) => Duty::GrantReaders(l),
-        Chore::Age(u) => Duty::Age(u),
-    }
-}
+use sd_types::{ChanId, CpuId, Duty, LockId, Put, ThreadBody, ThreadId, Work};
 
 /// Where the walk goes from the owner `o`, which is looped or not, at a place.
 fn next_walk(duty: Duty, o: ThreadId, looped: bool, place: Place) -> Duty
@@ -127,7 +59,7 @@ impl Store for State {
 
     #[tactic(auto, unfolding(sd_full::specs::Changes::set_duty))]
     fn begin_rouse(&mut self, number: u64, c: CpuId, k: ChanId) -> Result<(), Never> {
-        sd_flat::set_duty(self, c, Duty::Rouse(k, back_key(number)));
+        sd_flat::set_duty(self, c, rouse(number, k));
         Ok(())
     }
 

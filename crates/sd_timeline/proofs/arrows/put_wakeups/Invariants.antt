@@ -4,4 +4,4 @@ use Rattle.sd_timeline.specs.Arrows.{wake_text}
 use Rattle.sd_timeline.proofs.arrows.put_wakeups.Given as goal
 
 abbrev pub invariant-loop-x : goal.invariant-loop-x
-invariant-loop-x l = l.out.items ≡ l.initial.out.items ++ flat_map (wake_text l.work l.frame) (take l.x-index l.wakeups)
+invariant-loop-x l = l.out.items ≡ l.initial.out.items ++ flat_map (wake_text l.work l.layout) (take l.x-index l.wakeups)

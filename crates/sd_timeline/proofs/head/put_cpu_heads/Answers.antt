@@ -3,4 +3,4 @@ use Rattle.sd_timeline.specs.Head.{cpu_head}
 use Rattle.sd_timeline.proofs.head.put_cpu_heads.Goals as goal
 
 pub loop-c-preserved : goal.loop-c-preserved
-loop-c-preserved c = range_pushed (cpu_head c.args.work.now c.args.frame) c.loop-c.c _ _ _ c.loop-c.invariant c.in_ok-put_cpu_head.ensures
+loop-c-preserved c = range_pushed (cpu_head c.args.work.now c.args.layout.now) c.loop-c.c _ _ _ c.loop-c.invariant c.in_ok-put_cpu_head.ensures

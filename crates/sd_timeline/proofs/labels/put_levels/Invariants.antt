@@ -4,4 +4,4 @@ use Rattle.sd_timeline.specs.Labels.{level_text}
 use Rattle.sd_timeline.proofs.labels.put_levels.Given as goal
 
 abbrev pub invariant-loop-x : goal.invariant-loop-x
-invariant-loop-x l = l.out.items ≡ l.initial.out.items ++ flat_map (level_text l.frame l.t) (take l.x-index l.own)
+invariant-loop-x l = l.out.items ≡ l.initial.out.items ++ flat_map (level_text l.layout l.t) (take l.x-index l.own)

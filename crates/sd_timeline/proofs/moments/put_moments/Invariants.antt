@@ -4,4 +4,4 @@ use Rattle.sd_timeline.specs.Moments.{moment_text}
 use Rattle.sd_timeline.proofs.moments.put_moments.Given as goal
 
 abbrev pub invariant-loop-x : goal.invariant-loop-x
-invariant-loop-x l = l.out.items ≡ l.initial.out.items ++ flat_map (moment_text l.work l.frame) (take l.x-index l.moments)
+invariant-loop-x l = l.out.items ≡ l.initial.out.items ++ flat_map (moment_text l.work l.layout) (take l.x-index l.pieces)

@@ -1,0 +1,11 @@
+//! Tests of dispatch queues, of chains of sleep queues and of chains of turnstiles.
+#![tactic(auto)]
+
+#[cfg(test)]
+mod dispatch_queues;
+#[cfg(test)]
+mod items;
+#[cfg(test)]
+mod sleep_queues;
+#[cfg(test)]
+mod turnstiles;

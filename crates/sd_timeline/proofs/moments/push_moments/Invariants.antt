@@ -1,7 +1,0 @@
-use Rattle.std.proofs.Common.{◌≡◌, ◌++◌, take}
-use Rattle.std.specs.Prelude.{filter}
-use Rattle.sd_timeline.specs.Moments.{is_moment}
-use Rattle.sd_timeline.proofs.moments.push_moments.Given as goal
-
-abbrev pub invariant-loop-x : goal.invariant-loop-x
-invariant-loop-x l = l.found.items ≡ l.initial.found.items ++ filter (is_moment l.frame) (take l.x-index l.own)
