@@ -1,4 +1,6 @@
 pub mod CertificateLemmas
+pub mod EndLemmas
 pub mod InputLemmas
 pub mod PutLemmas
+pub mod RefusalLemmas
 pub mod WordLemmas

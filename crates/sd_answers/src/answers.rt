@@ -5,13 +5,14 @@ ghost use Rattle.std.specs.Prelude.{◌≡◌, ℕ, IsErrOf};
 ghost use Rattle.sd_declare.specs.declared.causes.WorkCause.{WorkCause as Cause};
 ghost use Rattle.sd_answers.specs.declared.answers.JournalFault.{JournalFault as Fault};
 ghost use Rattle.sd_answers.specs.StreamChanges.{Puts};
+ghost use Rattle.sd_text.specs.Lines.{EndsLine};
 ghost use Rattle.sd_answers.specs.declared.writing.Unwritten.TheVariants.{Memory};
 ghost use Rattle.std.specs.IoError.{error_kind};
 ghost use Rattle.sd_answers.specs.declared.answers.Answer.TheVariants.{OutOfMemory, Refused, NotAJournal};
 ghost use Rattle.sd_answers.specs.Answers.{status_of, line_of, answer_of, arguments_answer, audit_answer, certificate_answer, read_answer, work_answer, stop_answer, unwritten_answer};
 
 use crate::refusals::{put_journal_fault, put_refusal};
-use crate::writing::{Unwritten, put_line};
+use crate::writing::{Unwritten, put_text};
 use sd_audit::AuditFault;
 use sd_declare::WorkCause;
 use sd_text::{ReadAllFault, Sink};
@@ -121,7 +122,8 @@ impl Answer {
     fn constant_line(self) -> &'static [u8]
         requires no_line { (line : ℕ) (cause : Cause) → self ≡ Refused line cause → ⊥ }
         requires no_fault { (fault : Fault) → self ≡ NotAJournal fault → ⊥ }
-        ensures { result.now ≡ line_of self }
+        ensures line { result.now ≡ line_of self }
+        ensures whole { EndsLine result.now }
     {
         match self {
             Answer::Done => b"",
@@ -148,7 +150,7 @@ impl Answer {
         match self {
             Answer::Refused { line, cause } => put_refusal(err, line, cause),
             Answer::NotAJournal(fault) => put_journal_fault(err, fault),
-            other => put_line(err, other.constant_line()),
+            other => put_text(err, other.constant_line()),
         }
     }
 }

@@ -13,4 +13,4 @@ pub use answers::{Answer, JournalFault};
 pub use arguments::behind_name;
 pub use inputs::{Certificate, read_certificate, read_input};
 pub use laws::accepted_texts_have_no_journal;
-pub use writing::{Unwritten, put_line, put_pieces, put_text};
+pub use writing::{Unwritten, put_line, put_text};

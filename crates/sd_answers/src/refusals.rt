@@ -1,12 +1,12 @@
-//! The lines of a workload and of a journal that are refused, written from constant pieces and from digits on the stack.
+//! The lines of a workload and of a journal that are refused, put together on the stack of constant words and of digits.
 
-ghost use Rattle.std.specs.Prelude.{◌≡◌, IsErrOf};
+ghost use Rattle.std.specs.Prelude.{◌≡◌, ◌≤◌, length, IsErrOf};
 ghost use Rattle.sd_answers.specs.Refusals.{cause_number, cause_words, digits_if, journal_line, journal_number, refusal_line, script_words, table_words, words_after, words_before};
 ghost use Rattle.sd_answers.specs.StreamChanges.{Puts};
 ghost use Rattle.sd_answers.specs.declared.writing.Unwritten.TheVariants.{Memory};
 
 use crate::answers::JournalFault;
-use crate::writing::{Unwritten, put_pieces};
+use crate::writing::{Unwritten, put_parts};
 use itoa::Buffer;
 use sd_declare::WorkCause;
 use sd_script::ScriptFault;
@@ -64,7 +64,8 @@ fn cause_number(cause: WorkCause) -> Option<u32>
 }
 
 fn digits_if<'a>(number: Option<u32>, buffer: &'a mut Buffer) -> &'a [u8]
-    ensures { result.now ≡ digits_if number }
+    ensures text { result.now ≡ digits_if number }
+    ensures short { length result.now ≤ 40 }
 {
     match number {
         Some(number) => buffer.format(number).as_bytes(),
@@ -84,7 +85,7 @@ pub(crate) fn put_refusal<K: Sink>(
 {
     let mut line_digits = Buffer::new();
     let mut digits = Buffer::new();
-    let pieces: [&[u8]; 6] = [
+    let parts: [&[u8]; 6] = [
         b"refused: line ",
         line_digits.format(line).as_bytes(),
         b": ",
@@ -92,7 +93,7 @@ pub(crate) fn put_refusal<K: Sink>(
         digits_if(cause_number(cause), &mut digits),
         b"\n",
     ];
-    put_pieces(out, &pieces)
+    put_parts(out, &parts)
 }
 
 fn words_before(fault: JournalFault) -> &'static [u8]
@@ -136,11 +137,11 @@ pub(crate) fn put_journal_fault<K: Sink>(out: &mut K, fault: JournalFault) -> Re
     ensures no_memory { IsErrOf result Memory → ⊥ }
 {
     let mut digits = Buffer::new();
-    let pieces: [&[u8]; 4] = [
+    let parts: [&[u8]; 4] = [
         b"journal: ",
         words_before(fault),
         digits.format(journal_number(fault)).as_bytes(),
         words_after(fault),
     ];
-    put_pieces(out, &pieces)
+    put_parts(out, &parts)
 }

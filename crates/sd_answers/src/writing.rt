@@ -1,10 +1,12 @@
 //! Texts written line by line: each line with its newline as one piece.
 
-ghost use Rattle.std.specs.Prelude.{◌≡◌, ◌<◌, ◌≤◌, flat_map, length, IsErrOf};
+ghost use Rattle.std.specs.Prelude.{◌≡◌, ◌<◌, ◌≤◌, flat_map, length, slice_range, IsErrOf};
 ghost use Rattle.sd_answers.specs.declared.writing.Unwritten.TheVariants.{Fault, Memory};
 ghost use Rattle.sd_answers.specs.StreamChanges.{Puts};
+ghost use Rattle.sd_text.specs.Lines.{EndsLine, IsOneLine};
 
-use sd_text::{Sink, WriteFault, write_piece};
+use arrayvec::ArrayVec;
+use sd_text::{Sink, WriteFault, next_line, write_piece};
 use std::alloc::AllocError;
 
 /// Why a text was not written whole.
@@ -32,40 +34,55 @@ impl From<AllocError> for Unwritten {
     }
 }
 
-/// Writes a line.
+/// Writes a line, with its newline, as one piece.
 pub fn put_line<K: Sink>(out: &mut K, line: &[u8]) -> Result<(), Unwritten>
+    requires { IsOneLine line.now }
     ensures puts { Puts (K.contents out.old) (K.contents out.new) (K.fault_count out.old) (K.fault_count out.new) line.now result }
     ensures no_memory { IsErrOf result Memory → ⊥ }
 {
     Ok(write_piece(out, line)?)
 }
 
-/// Writes a line that comes in pieces.
-pub fn put_pieces<K: Sink>(out: &mut K, pieces: &[&[u8]]) -> Result<(), Unwritten>
-    ensures puts { Puts (K.contents out.old) (K.contents out.new) (K.fault_count out.old) (K.fault_count out.new)
-        (flat_map (λ p. p.now) pieces.now) result }
-    ensures no_memory { IsErrOf result Memory → ⊥ }
+/// The parts one after another.
+fn joined(parts: &[&[u8]]) -> ArrayVec<u8, 128>
+    requires { length (flat_map (λ p. p.now) parts.now) ≤ 128 }
+    ensures { result.items ≡ flat_map (λ p. p.now) parts.now }
 {
-    for piece in pieces {
-        put_line(out, piece)?;
+    let mut line = ArrayVec::new();
+    for part in parts {
+        line.try_extend_from_slice(part).unwrap();
     }
-    Ok(())
+    line
 }
 
-/// Where the line ends that begins at `from`: behind its newline, or at the end of the text.
+/// Writes a line that comes in parts. They are put together first, so that it goes out as one piece.
+pub(crate) fn put_parts<K: Sink>(out: &mut K, parts: &[&[u8]]) -> Result<(), Unwritten>
+    requires one_line { IsOneLine (flat_map (λ p. p.now) parts.now) }
+    requires short { length (flat_map (λ p. p.now) parts.now) ≤ 128 }
+    ensures puts { Puts (K.contents out.old) (K.contents out.new) (K.fault_count out.old) (K.fault_count out.new)
+        (flat_map (λ p. p.now) parts.now) result }
+    ensures no_memory { IsErrOf result Memory → ⊥ }
+{
+    put_line(out, &joined(parts))
+}
+
+/// Where the line ends that begins at `from`: behind its newline.
 fn line_end(text: &[u8], from: usize) -> usize
-    requires { from < length text.now }
+    requires inside { from < length text.now }
+    requires whole { EndsLine text.now }
+    ensures line { IsOneLine (slice_range text.now from result) }
     ensures after { from < result }
     ensures within { result ≤ length text.now }
 {
-    match text[from..].iter().position(|byte| *byte == b'\n') {
-        Some(newline) => from + newline + 1,
+    match next_line(text, from) {
+        Some(line) => line.1 + 1,
         None => text.len(),
     }
 }
 
-/// Writes a text, line by line.
+/// Writes a text of whole lines, each line as one piece.
 pub fn put_text<K: Sink>(out: &mut K, text: &[u8]) -> Result<(), Unwritten>
+    requires { EndsLine text.now }
     ensures puts { Puts (K.contents out.old) (K.contents out.new) (K.fault_count out.old) (K.fault_count out.new) text.now result }
     ensures no_memory { IsErrOf result Memory → ⊥ }
 {

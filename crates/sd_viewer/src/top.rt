@@ -1,16 +1,17 @@
 //! The top call: from the arguments and the streams to the exit status.
 
-ghost use Rattle.std.specs.Prelude.{◌≡◌, map, string_bytes, IsErrOf, Err};
+ghost use Rattle.std.specs.Prelude.{◌≡◌, map, string_bytes, IfOk, IsErrOf, Err};
 ghost use Rattle.sd_answers.specs.Answers.{status_of};
 ghost use Rattle.sd_answers.specs.StreamChanges.{Puts, TellsLine, change_of};
 ghost use Rattle.sd_answers.specs.declared.writing.Unwritten.TheVariants.{Memory};
+ghost use Rattle.sd_text.specs.Lines.{EndsLine};
 ghost use Rattle.sd_viewer.specs.Promises.{KeepsPromises};
 ghost use Rattle.sd_viewer.specs.Starts.{Starts};
 ghost use Rattle.sd_viewer.specs.Viewing.{answer_line, viewed_answer, viewed_line};
 
 use crate::helping::put_help;
 use crate::viewing::view_input;
-use sd_answers::{Answer, Unwritten, put_line};
+use sd_answers::{Answer, Unwritten, put_line, put_text};
 use sd_text::{Sink, Source};
 use sd_view::{Request, request_of};
 use std::alloc::Global;
@@ -32,12 +33,13 @@ fn put_answer<E: Sink>(answer: Answer, err: &mut E) -> Result<(), Unwritten>
 
 /// Writes the line of the answer, or what is said of a drawing, and returns the exit status. A fault of `err` changes none.
 fn tell<E: Sink>(viewed: Result<Vec<u8>, Answer>, err: &mut E) -> u8
+    requires { IfOk viewed (λ lines. EndsLine lines.items) }
     ensures status { result ≡ status_of (viewed_answer viewed) }
     ensures told { TellsLine (change_of (E.contents err.old) (E.contents err.new) (E.fault_count err.old) (E.fault_count err.new)) (viewed_line viewed) }
 {
     match viewed {
-        Ok(line) => {
-            let _ = put_line(err, &line);
+        Ok(lines) => {
+            let _ = put_text(err, &lines);
             0
         }
         Err(answer) => {

@@ -9,12 +9,12 @@ returns-in-Ok-clause-told g c =
     let held = g.E.Sink.contents in
     let faults = g.E.Sink.fault_count in
     let a = c.args.err.now in
-    let b = c.put_line.new.out in
+    let b = c.put_text.new.out in
     let err = change_of (held a) (held b) (faults a) (faults b) in
-    let line = c.in-Ok.line.items in
+    let line = c.in-Ok.lines.items in
     subst (TellsLine err) (sym (ap viewed_line c.in-Ok.is))
-    (tells_of err line c.put_line.result
-    (subst (λ (t : List ℕ). Puts (held a) (held b) (faults a) (faults b) t c.put_line.result) c.deref.ensures.value c.put_line.ensures.puts) c.put_line.ensures.no_memory)
+    (tells_of err line c.put_text.result
+    (subst (λ (t : List ℕ). Puts (held a) (held b) (faults a) (faults b) t c.put_text.result) c.deref.ensures.value c.put_text.ensures.puts) c.put_text.ensures.no_memory)
 
 pub returns-in-Err-clause-told : goal.returns-in-Err-clause-told
 returns-in-Err-clause-told g c =
