@@ -17,9 +17,12 @@ use Rattle.sd_story.specs.declared.selections.Selection.TheVariants.{Ticks, Thre
 use Rattle.sd_story.specs.Selections.{has_thread, is_told, tick_of}
 use Rattle.sd_story.specs.Story.{cell, heading, line_blanks, row, row_if, rows_from, story, tick_blanks}
 use Rattle.sd_timeline.specs.declared.frames.Frame.{Frame}
-use Rattle.sd_timeline.specs.Moments.{moments_of}
-use Rattle.sd_timeline.specs.Picture.{ground_text, rows_text, timeline_text}
+use Rattle.sd_timeline.specs.Layouts.{Layout}
+use Rattle.sd_timeline.specs.Legend.{Drawn, drawn_of}
+use Rattle.sd_timeline.specs.Picture.{ground_text, laid_out, rows_text, timeline_text}
+use Rattle.sd_timeline.specs.Rows.{layout_of}
 use Rattle.sd_trace.specs.Flows.{hand_flow, load_event, wake_flow}
+use Rattle.sd_trace.specs.Marks.{mark_text}
 use Rattle.sd_trace.specs.Tracks.{all_tracks, trace_text}
 use Rattle.sd_report.proofs.ClosingLemmas.{report-ends, sheet-ends}
 use Rattle.sd_view.specs.declared.drawings.Drawing.{Drawing}
@@ -37,14 +40,18 @@ either false xs ys p q = q
 
 -- ---- drawings
 
+laid_out-ends : (w : Work) (f : Layout) (h : History) (s : State) (d : Drawn) → EndsLine (laid_out w f h s d)
+unfolding laid_out
+laid_out-ends w f h s d = behind (ground_text w f h d ++ rows_text w f h d.pieces s) (codes "</svg>")
+
 timeline-ends : (w : Work) (f : Frame) (h : History) (s : State) → EndsLine (timeline_text w f h s)
-unfolding timeline_text
-timeline-ends w f h s = behind (ground_text w f h (moments_of w f h) ++ rows_text w f h (moments_of w f h) s) (codes "</svg>")
+timeline-ends w f h s = laid_out-ends w (layout_of w f h) h s (drawn_of w (layout_of w f h) h)
 
 trace-ends : (w : Work) (h : History) → EndsLine (trace_text w h)
 unfolding trace_text
 trace-ends w h =
-    behind (all_tracks w h ++ flat_map (wake_flow w) h.wakeups.items ++ flat_map (hand_flow w) h.hand_overs.items ++ flat_map (load_event w) h.loads.items) (codes "\n]}")
+    let flows = all_tracks w h ++ flat_map (wake_flow w) h.wakeups.items ++ flat_map (hand_flow w) h.hand_overs.items in
+    behind (flows ++ flat_map (mark_text w) h.happenings.items ++ flat_map (load_event w) h.loads.items) (codes "\n]}")
 
 row-ends : (w : Work) (s : State) (e : Entry) → EndsLine (row w s e)
 unfolding row

@@ -1,10 +1,11 @@
 -- The answers of `dispview` have their causes, and what is promised of a call follows from them.
-use Rattle.std.proofs.Common.{◌≡◌, ℕ, List, length, Result, Err, Option, Some, None, refl, sym, ap, subst, ◌∙◌, inl, inr, arith}
-use Rattle.std.specs.Prelude.{◌↔◌}
+use Rattle.std.proofs.Common.{◌≡◌, ℕ, List, length, Result, Ok, Err, Option, Some, None, refl, sym, ap, subst, ◌∙◌, inl, inr, arith}
+use Rattle.std.specs.Prelude.{◌↔◌, IfOk}
 use Rattle.std.specs.Result.{IsErrAnd}
 use Rattle.std.specs.declared.vec.Vec.{Vec}
 use Rattle.std.specs.declared.alloc.Global.{Global}
 use Rattle.std.proofs.lemmas.Result.{err_from_is_err_and}
+use Rattle.sd_text.specs.Lines.{EndsLine}
 use Rattle.sd_machine.specs.Opening.{opening}
 use Rattle.sd_full.specs.Runs.{final}
 use Rattle.sd_answers.specs.declared.answers.Answer.{Answer}
@@ -21,6 +22,7 @@ use Rattle.sd_view.specs.declared.drawings.Drawing.{Drawing}
 use Rattle.sd_view.specs.declared.forms.Request.{Request}
 use Rattle.sd_view.specs.declared.forms.Request.TheVariants.{Help, Draw}
 use Rattle.sd_view.specs.Forms.{request_of}
+use Rattle.sd_view.proofs.ClosingLemmas.{left-ends}
 use Rattle.sd_viewer.specs.Promises.{Helps, KeepsPromises}
 use Rattle.sd_viewer.specs.Viewing.{IsDrawnInput, IsDrawing, Draws, CausedByView, CausedByHelp, CausedBy, answer_line, help_text, viewed_answer, viewed_line}
 
@@ -53,6 +55,17 @@ pub view_exit : (d : Drawing) (input out : StreamChange) (r : Result (Vec ℕ Gl
 view_exit d input out r a exit caused =
     let x = err_from_is_err_and r exit in
     subst (λ y. CausedByView d input out (viewed_answer y) (viewed_line y)) (sym (x.1 ∙ ap Err x.2)) caused
+
+-- ---- what is said of a drawing, and of the forms, are whole lines
+
+pub said-ends : (d : Drawing) (input out : StreamChange) (r : Result (Vec ℕ Global) Answer) → CausedByView d input out (viewed_answer r) (viewed_line r)
+    → IfOk r (λ lines. EndsLine lines.items)
+said-ends d input out (Ok lines) c = subst EndsLine (sym c.4) (left-ends d c.1.work)
+said-ends d input out (Err a) c = tt
+
+pub helped-ends : (r : Result (Vec ℕ Global) Answer) → viewed_line r ≡ answer_line (viewed_answer r) → IfOk r (λ lines. EndsLine lines.items)
+helped-ends (Ok lines) e = subst EndsLine (sym e) refl
+helped-ends (Err a) e = tt
 
 -- ---- what is promised
 

@@ -1,4 +1,9 @@
-use Rattle.std.proofs.Common.{ℕ, List, sym, ap, subst}
+use Rattle.std.proofs.Common.{ℕ, List, Result, sym, ap, subst}
+use Rattle.std.specs.Prelude.{IfOk}
+use Rattle.std.specs.declared.vec.Vec.{Vec}
+use Rattle.std.specs.declared.alloc.Global.{Global}
+use Rattle.sd_text.specs.Lines.{EndsLine}
+use Rattle.sd_answers.specs.declared.answers.Answer.{Answer}
 use Rattle.sd_answers.specs.StreamChanges.{Puts, TellsLine, change_of}
 use Rattle.sd_answers.proofs.PutLemmas.{tells_of}
 use Rattle.sd_viewer.specs.Viewing.{answer_line, viewed_line}
@@ -24,3 +29,8 @@ returns-in-Err-clause-told g c =
     let b = c.put_answer.new.err in
     let err = change_of (held a) (held b) (faults a) (faults b) in
     subst (TellsLine err) (sym (ap viewed_line c.in-Err.is)) (tells_of err (answer_line c.in-Err.answer) c.put_answer.result c.put_answer.ensures.puts c.put_answer.ensures.no_memory)
+
+pub put_text-requires : goal.put_text-requires
+put_text-requires g c =
+    subst EndsLine (sym c.deref.ensures.value)
+    (subst (λ (viewed : Result (Vec ℕ Global) Answer). IfOk viewed (λ lines. EndsLine lines.items)) c.in-Ok.is c.requires)

@@ -4,7 +4,7 @@ use Rattle.sd_answers.specs.declared.answers.Answer.TheVariants.{Usage}
 use Rattle.sd_answers.specs.StreamChanges.{change_of}
 use Rattle.sd_viewer.specs.Viewing.{CausedBy, answer_line, viewed_answer, viewed_line}
 use Rattle.sd_view.specs.declared.forms.Request.{Request}
-use Rattle.sd_viewer.proofs.ViewLemmas.{promises_of}
+use Rattle.sd_viewer.proofs.ViewLemmas.{helped-ends, promises_of, said-ends}
 use Rattle.sd_viewer.proofs.top.view.Goals as goal
 
 pub returns-in-Some-Draw : goal.returns-in-Some-Draw
@@ -43,3 +43,18 @@ returns-in-None g c =
     promises_of (map string_bytes c.args.arguments.now) input out (change_of (shown e) (shown f) (failed e) (failed f)) Usage (answer_line Usage) c.tell-in-None.result c.tell-in-None.ensures.status
     (subst (λ k. CausedBy k input out Usage (answer_line Usage)) (sym (sym c.request_of.ensures ∙ c.in-None.is))
     (refl, refl, record { bytes = refl; no_fault = refl }, record { bytes = refl; no_fault = refl })) c.tell-in-None.ensures.told
+
+pub tell-requires : goal.tell-requires
+tell-requires g c = helped-ends c.put_help.result c.put_help.ensures.line
+
+pub tell-requires-in-Some-Draw : goal.tell-requires-in-Some-Draw
+tell-requires-in-Some-Draw g c =
+    let left = g.S.Source.remaining in
+    let read = g.S.Source.fault_count in
+    let held = g.K.Sink.contents in
+    let written = g.K.Sink.fault_count in
+    let i = c.args.input.now in
+    let j = c.view_input.new.input in
+    let o = c.args.out.now in
+    let p = c.view_input.new.out in
+    said-ends c.in-Some-Draw.drawing (change_of (left i) (left j) (read i) (read j)) (change_of (held o) (held p) (written o) (written p)) c.view_input.result c.view_input.ensures

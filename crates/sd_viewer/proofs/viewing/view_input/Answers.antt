@@ -1,4 +1,6 @@
-use Rattle.std.proofs.Common.{refl, ap, subst, List, ℕ, Ok, Err}
+use Rattle.std.proofs.Common.{refl, sym, ap, subst, List, ℕ, Ok, Err}
+use Rattle.sd_text.specs.Lines.{EndsLine}
+use Rattle.sd_view.proofs.ClosingLemmas.{drawn-ends}
 use Rattle.sd_answers.specs.StreamChanges.{change_of, Puts}
 use Rattle.sd_answers.specs.Answers.{unwritten_answer}
 use Rattle.sd_viewer.proofs.ViewLemmas.{undrawn, unwritten_view, view_exit}
@@ -45,3 +47,8 @@ returns g c =
     let puts = subst (λ (t : List ℕ). Puts (held o) (held p) (written o) (written p) t (Ok tt)) c.deref.ensures.value c.in_ok-put_text.ensures.puts in
     let drawn = c.in_ok-drawn.drawn in
     (drawn.text.items, c.in_ok-drawn.ensures.0, puts.ok, puts.no_fault (λ is. cc), c.in_ok-drawn.ensures.1)
+
+pub put_text-requires : goal.put_text-requires
+put_text-requires g c =
+    let of = c.in_ok-drawn.ensures.0 in
+    subst EndsLine (sym c.deref.ensures.value) (drawn-ends c.args.drawing.now of.work of.journal c.in_ok-drawn.drawn.text.items of.drawn)
