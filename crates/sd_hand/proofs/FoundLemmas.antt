@@ -1,11 +1,11 @@
 -- A thread that a list of a home has, the home has.
-use Rattle.std.proofs.Common.{◌≡◌, ◌≢◌, ℕ, ◌/◌, zero, suc, Bool, true, false, ◌==◌, ◌||◌, is_some, List, [], ◌∷◌, get_or, set, Option, Some, None, option_map, slice_get, refl, sym, ap, ◌∙◌, min, nat_lt, int_le, pos, ◌⊎◌, inl, inr, arith}
+use Rattle.std.proofs.Common.{◌≡◌, ℕ, ◌/◌, zero, suc, Bool, true, false, ◌==◌, ◌||◌, is_some, List, [], ◌∷◌, get_or, Option, Some, None, option_map, slice_get, refl, sym, ap, ◌∙◌, min, nat_lt, int_le, pos, ◌⊎◌, inl, inr, arith}
 use Rattle.std.specs.Option.{option_or}
 use Rattle.std.proofs.lemmas.Bool.{cases_lt, eq-eqb, or_left, or_right}
 use Rattle.sd_types.specs.declared.numbers.Side.{Side}
 use Rattle.sd_types.specs.declared.numbers.Side.TheVariants.{Writer, Reader}
 use Rattle.sd_boxq.specs.Order.{find_first, find_id}
-use Rattle.sd_turn.specs.Waiters.{Waiters, find_among as find_waiter, find_in, nobody, on_side, with_side}
+use Rattle.sd_turn.specs.Waiters.{Waiters, find_among as find_waiter, find_in, nobody, on_side}
 use Rattle.sd_sleepq.specs.Among.{find_among as find_sleeper}
 use Rattle.sd_record.specs.Records.{ThreadRecord}
 use Rattle.sd_shown.specs.declared.list_id.ListId.{ListId}

@@ -1,5 +1,5 @@
 -- Where threads go, and that they may come there.
-use Rattle.std.proofs.Common.{◌≡◌, ℕ, ◌+◌, ◌<◌, ◌≤◌, zero, suc, Bool, true, false, nat_le, List, [], ◌∷◌, length, get_or, Option, Some, None, option_map, slice_get, refl, sym, ap, ◌∙◌, arith, ◌⊎◌, inl, inr}
+use Rattle.std.proofs.Common.{◌≡◌, ℕ, ◌+◌, ◌<◌, ◌≤◌, zero, suc, Bool, true, false, nat_le, List, [], ◌∷◌, length, get_or, Some, None, option_map, slice_get, refl, sym, ap, ◌∙◌, arith, ◌⊎◌, inl, inr}
 use Rattle.std.proofs.lemmas.Bool.{cases_lt}
 use Rattle.std.proofs.lemmas.Int.{ints}
 use Rattle.sd_types.specs.declared.bodies.ThreadBody.{ThreadBody}
@@ -13,12 +13,11 @@ use Rattle.sd_types.specs.declared.numbers.ThreadId.{ThreadId}
 use Rattle.sd_types.specs.declared.scripts.Op.{Op}
 use Rattle.sd_types.specs.declared.works.Work.{Work}
 use Rattle.sd_record.specs.Records.{ThreadRecord}
-use Rattle.sd_machine.specs.declared.states.Place.TheVariants.{Running}
 use Rattle.sd_machine.specs.declared.states.State.{State}
 use Rattle.sd_machine.specs.declared.states.ThreadState.{ThreadState}
 use Rattle.sd_machine.specs.Operations.{ran, script_of}
 use Rattle.sd_machine.specs.States.{no_thread, thread_of}
-use Rattle.sd_full.specs.Changes.{back_key, key_at, place_put}
+use Rattle.sd_full.specs.Changes.{key_at, place_put}
 use Rattle.sd_full.specs.Needs.{RunsOn}
 use Rattle.sd_store.specs.Bodies.{CanChange, changed}
 use Rattle.sd_store.specs.Keyless.{IsDestination, place_by}
@@ -27,15 +26,15 @@ use Rattle.sd_store.specs.declared.changes.BodyChange.TheVariants.{Class, Finish
 use Rattle.sd_store.specs.declared.spots.Destination.{Destination}
 use Rattle.sd_store.specs.declared.spots.Destination.TheVariants as to
 use Rattle.sd_shown.specs.declared.list_id.ListId.{ListId}
-use Rattle.sd_shown.specs.declared.list_id.ListId.TheVariants.{Ends, Naps, Queues, Runs, Sleeps, Urgent, Waits}
-use Rattle.sd_shown.specs.Standing.{ByNumber, IsKeyFor, MayCome, home_at, id_of, list_at, look_of, stands}
+use Rattle.sd_shown.specs.declared.list_id.ListId.TheVariants.{Ends, Queues, Runs, Sleeps, Urgent, Waits}
+use Rattle.sd_shown.specs.Standing.{ByNumber, IsKeyFor, MayCome, id_of, list_at, look_of, stands}
 use Rattle.sd_shown.proofs.StandingLemmas.{runs_where_last, stands_own}
 use Rattle.sd_homes.specs.Bodies.{CanChangeThread}
 use Rattle.sd_homes.specs.declared.home.Home.{Home}
 use Rattle.sd_homes.specs.Families.{list_in}
 use Rattle.sd_hand.specs.declared.acting.Acting.{Acting}
 use Rattle.sd_hand.specs.Acting.{IsShown}
-use Rattle.sd_hand.specs.Hands.{HasRoom, IsRoom, held}
+use Rattle.sd_hand.specs.Hands.{IsRoom, held}
 use Rattle.sd_hand.specs.Shown.{IsListThere, StandsAt}
 use Rattle.sd_hand.specs.Steps.{list_by, list_put}
 use Rattle.sd_hand.proofs.MoveLemmas.{at_look}

@@ -1,13 +1,11 @@
 -- A move neither loses a thread nor brings another one.
-use Rattle.std.proofs.Common.{◌≡◌, ℕ, ◌/◌, ◌≤◌, zero, suc, Bool, true, false, ◌==◌, ◌||◌, is_some, List, [], ◌∷◌, get_or, set, Option, Some, None, option_map, refl, sym, ap, ◌∙◌, subst, inl, inr, ◌⊎◌}
-use Rattle.std.specs.Prelude.{⊤}
+use Rattle.std.proofs.Common.{◌≡◌, ℕ, ◌/◌, zero, suc, Bool, true, false, ◌==◌, ◌||◌, is_some, List, [], ◌∷◌, get_or, set, Option, Some, None, refl, sym, ap, ◌∙◌, subst, inl, inr, ◌⊎◌}
 use Rattle.std.specs.Option.{option_or}
-use Rattle.std.proofs.lemmas.Bool.{cases_eq, eq-eqb, eqb-true, eqb-false, ne_eqb}
+use Rattle.std.proofs.lemmas.Bool.{cases_eq, eq-eqb, ne_eqb}
 use Rattle.sd_types.specs.declared.numbers.HomeId.{HomeId}
-use Rattle.sd_types.specs.declared.numbers.HomeId.TheVariants as id
 use Rattle.sd_types.specs.declared.numbers.Side.{Side}
 use Rattle.sd_types.specs.declared.numbers.Side.TheVariants.{Writer, Reader}
-use Rattle.sd_boxq.specs.Order.{drop_first, drop_id, find_first, find_id, insert_before, precedes, precedes_keyed}
+use Rattle.sd_boxq.specs.Order.{drop_id, find_id, insert_before, precedes, precedes_keyed}
 use Rattle.sd_turn.proofs.LeftLemmas.{none_dropped}
 use Rattle.sd_turn.specs.Waiters.{Waiters, find_among as find_waiter, find_in, nobody, on_side, with_side}
 use Rattle.sd_sleepq.specs.Among.{find_among as find_sleeper}

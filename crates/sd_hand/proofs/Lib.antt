@@ -5,6 +5,7 @@ pub mod GoLemmas
 pub mod HasLemmas
 pub mod HomeLemmas
 pub mod MoveLemmas
+pub mod OneLemmas
 pub mod PartLemmas
 pub mod ShownLemmas
 pub mod SlotLemmas

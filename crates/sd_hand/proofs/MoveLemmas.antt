@@ -1,5 +1,5 @@
 -- A thread moves from home to home, and the state with it.
-use Rattle.std.proofs.Common.{◌≡◌, ℕ, ◌<◌, ◌≤◌, Bool, true, false, ◌==◌, List, [], ◌∷◌, length, is_some, position, not, get_or, Option, Some, None, slice_get, refl, sym, ap, ◌∙◌, subst, arith, le_refl, ◌⊎◌, inl, inr}
+use Rattle.std.proofs.Common.{◌≡◌, ℕ, ◌<◌, ◌≤◌, Bool, true, false, ◌==◌, List, length, is_some, position, not, get_or, Option, Some, None, slice_get, refl, sym, ap, ◌∙◌, subst, arith}
 use Rattle.std.proofs.lemmas.Bool.{eq-eqb, not-true}
 use Rattle.std.proofs.lemmas.Bool.Decides.{nat_tests}
 use Rattle.std.proofs.lemmas.List.Sums.{prefix_len_passes}
@@ -17,7 +17,7 @@ use Rattle.sd_machine.specs.States.{thread_of, with_thread, no_thread, is_runnin
 use Rattle.sd_full.specs.Threads.{runner}
 use Rattle.sd_shown.specs.declared.list_id.ListId.{ListId}
 use Rattle.sd_shown.specs.declared.list_id.ListId.TheVariants.{Runs, Queues, Naps, Ends, Urgent, Waits, Sleeps}
-use Rattle.sd_shown.specs.Standing.{home_at, list_of, stands, id_of, record_of, ByNumber, look_of, without, with_one, Lists, MayCome}
+use Rattle.sd_shown.specs.Standing.{home_at, list_of, stands, id_of, record_of, ByNumber, look_of, without, with_one, MayCome}
 use Rattle.sd_shown.proofs.StandingLemmas.{Stood, stood, shown, stands_own, stands_only, with_without, may_again}
 use Rattle.sd_shown.proofs.OthersShown.{look-with_thread}
 use Rattle.sd_homes.specs.declared.home.Home.{Home}
@@ -26,7 +26,7 @@ use Rattle.sd_homes.specs.Homes.{is_chan_of, is_of}
 use Rattle.sd_homes.specs.Kinds.{has_id}
 use Rattle.sd_homes.specs.Families.{home_id, list_in, putting, taken_from, taking}
 use Rattle.sd_hand.specs.Hands.{AreApart, IsHeld, StandsIn, edit, held}
-use Rattle.sd_hand.specs.Shown.{IsHome, IsListThere, PartsShown, Shows, ShowsState, StandsAt}
+use Rattle.sd_hand.specs.Shown.{IsHome, IsListThere, PartsShown, ShowsState, StandsAt}
 use Rattle.sd_hand.proofs.SlotLemmas.{apart_held, held_id}
 use Rattle.sd_hand.proofs.HomeLemmas.{of_asleep, of_chain, put_beside, put_shows, take_beside, take_shows}
 

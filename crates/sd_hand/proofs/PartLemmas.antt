@@ -23,7 +23,7 @@ use Rattle.sd_homes.specs.declared.home.Home.{Home}
 use Rattle.sd_homes.specs.declared.home.Home.TheVariants.{Cpu, RealTime, Chain, Sleepers}
 use Rattle.sd_homes.specs.Homes.{OfCpu, OfChain, OfSet, OfSleepers, is_chan_of, is_of, with_counts, with_open_cpus, with_states, with_view}
 use Rattle.sd_homes.specs.Kinds.{cpu_list, set_list, chain_list, asleep_list}
-use Rattle.sd_homes.specs.Families.{counting, has, home_id, list_in, locking, opening, viewing}
+use Rattle.sd_homes.specs.Families.{counting, home_id, list_in, locking, opening, viewing}
 use Rattle.sd_hand.specs.Hands.{edit, held}
 use Rattle.sd_hand.specs.Shown.{IsHome, PartsShown, Shows, ShowsState}
 use Rattle.sd_hand.proofs.SlotLemmas.{KeepsId, Changed, Other, Made, changed, held_id}

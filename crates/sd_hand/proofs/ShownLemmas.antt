@@ -1,5 +1,5 @@
 -- What a hand with its processor shows.
-use Rattle.std.proofs.Common.{◌≡◌, ℕ, ◌+◌, ◌<◌, ◌≤◌, ◌%◌, Bool, true, false, ◌==◌, is_some, List, [], ◌∷◌, ◌++◌, length, Option, Some, None, option_map, slice_get, refl, sym, ap, ◌∙◌, subst, arith, inl, inr, ◌⊎◌}
+use Rattle.std.proofs.Common.{◌≡◌, ℕ, true, false, is_some, List, Option, Some, None, option_map, sym, ap, ◌∙◌, subst, inl, inr, ◌⊎◌}
 use Rattle.std.specs.Prelude.{Result, Ok, Err}
 use Rattle.sd_types.specs.declared.numbers.HomeId.{HomeId}
 use Rattle.sd_types.specs.declared.numbers.ThreadId.{ThreadId}
@@ -11,12 +11,11 @@ use Rattle.sd_store.specs.Words.{Finds, Lacks, Names, Tells}
 use Rattle.sd_shown.specs.declared.list_id.ListId.{ListId}
 use Rattle.sd_shown.specs.Standing.{home_at, look_of, Lists}
 use Rattle.sd_homes.specs.declared.home.Home.{Home}
-use Rattle.sd_homes.specs.Families.{has, home_id, list_in}
+use Rattle.sd_homes.specs.Families.{has, list_in}
 use Rattle.sd_hand.specs.declared.acting.Acting.{Acting}
 use Rattle.sd_hand.specs.Acting.{IsShown, has_part, the_part}
-use Rattle.sd_hand.specs.Hands.{Asks, AsksTwo, Seeks, StandsIn, has_thread, held}
-use Rattle.sd_hand.specs.Shown.{IsHome}
-use Rattle.sd_hand.proofs.SlotLemmas.{held_has, held_id, stands_has}
+use Rattle.sd_hand.specs.Hands.{Asks, AsksTwo, has_thread, held}
+use Rattle.sd_hand.proofs.SlotLemmas.{held_has, held_id}
 
 pub list_shown : (x : Acting) (n : ℕ) (s : State) (sp : ListId) (h : Home) → IsShown x n s → held (home_at sp) x.hand.slots ≡ Some h → Lists n sp (list_in h sp) (look_of s)
 list_shown x n s sp h sh e = (sh.homes (home_at sp) h e).lists sp (held_id (home_at sp) h x.hand.slots e)

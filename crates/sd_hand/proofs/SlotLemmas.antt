@@ -1,11 +1,12 @@
 -- The homes of a hand.
 use Rattle.std.proofs.Common.{◌≡◌, ℕ, zero, suc, ◌<◌, Bool, true, false, ◌==◌, cond, ◌||◌, is_some, inl, inr, List, [], ◌∷◌, length, get_or, set, slice_get, Option, Some, None, option_map, refl, sym, ap, ◌∙◌, arith}
+use Rattle.std.specs.Prelude.{Result, Ok, Err, IfOk, IfErr}
 use Rattle.std.proofs.lemmas.Bool.{eqb-true, eq-eqb, or_left, or_right}
 use Rattle.sd_types.specs.declared.numbers.HomeId.{HomeId}
 use Rattle.sd_types.specs.declared.numbers.HomeId.TheVariants as id
 use Rattle.sd_homes.specs.declared.home.Home.{Home}
 use Rattle.sd_homes.specs.Families.{has, same_home, home_id}
-use Rattle.sd_hand.specs.Hands.{AreApart, HoldsMore, IsIn, StandsIn, StandsInSlot, held, edit, is_at, has_thread, slot_has, IsSlot, IsNoSlot}
+use Rattle.sd_hand.specs.Hands.{AreApart, AreTaken, HoldsMore, IsIn, StandsIn, StandsInSlot, held, edit, is_at, has_thread, slot_has, IsSlot, IsNoSlot}
 use Rattle.sd_shown.specs.declared.list_id.ListId.{ListId}
 
 self : (n : ℕ) → (n == n) ≡ true
@@ -28,6 +29,36 @@ pub same_default : {X : Type 0} (xs : List X) (i : ℕ) (d e : X) → i < length
 same_default [] i d e h = absurd (omega arith)
 same_default (x ∷ xs) zero d e h = refl
 same_default (x ∷ xs) (suc i) d e h = same_default xs i d e (omega arith)
+
+-- ---- where a home lies in each slot
+pub are_taken : (hs : List (Option Home)) → ((j : ℕ) → j < length hs → is_some (get_or hs j None) ≡ true) → AreTaken hs
+are_taken [] each = tt
+are_taken (None ∷ hs) each = let no : false ≡ true = each 0 (omega arith) in absurd cc
+are_taken (Some h ∷ hs) each = are_taken hs (λ j l. each (suc j) (omega arith))
+
+-- ---- what a slot has
+pub set_same : {X : Type 0} (xs : List X) (i : ℕ) (d y : X) → get_or xs i d ≡ y → set xs i y ≡ xs
+set_same [] i d y e = refl
+set_same (x ∷ xs) zero d y e = ap (λ z. z ∷ xs) (sym e)
+set_same (x ∷ xs) (suc i) d y e = ap (λ zs. x ∷ zs) (set_same xs i d y e)
+
+pub same_slot : (hs : List (Option Home)) (i : ℕ) (d : Option Home) (g h : Home) → get_or hs i d ≡ Some g → slice_get hs i ≡ Some (Some h) → g ≡ h
+same_slot [] i d g h e f = absurd cc
+same_slot (x ∷ hs) zero d g h e f = cc
+same_slot (x ∷ hs) (suc i) d g h e f = same_slot hs i d g h e f
+
+-- ---- what was done, or refused
+pub done : {A L : Type 0} (r : Result A L) (P Q : Type 0) → (P → Q) → IfOk r (λ _. P) → IfOk r (λ _. Q)
+done (Ok a) P Q f is = f is
+done (Err q) P Q f is = tt
+
+pub refused : {A L : Type 0} (r : Result A L) (P Q : Type 0) → (P → Q) → IfErr r (λ _. P) → IfErr r (λ _. Q)
+refused (Ok a) P Q f is = tt
+refused (Err q) P Q f is = f is
+
+pub either : {A L : Type 0} (r : Result A L) (P R Q : Type 0) → (P → Q) → (R → Q) → IfOk r (λ _. P) → IfErr r (λ _. R) → Q
+either (Ok a) P R Q f g made kept = f made
+either (Err q) P R Q f g made kept = g kept
 
 -- ---- the slot of a home
 pub slot_at : (k : HomeId) (hs : List (Option Home)) (i : ℕ) → is_at k (get_or hs i None) ≡ true → ((j : ℕ) → j < i → is_at k (get_or hs j None) ≡ false) → IsSlot k hs i
@@ -61,6 +92,16 @@ held_id k h (Some g ∷ hs) e = by (same_home k (home_id g)) refl (held_id k h h
     by : (b : Bool) → same_home k (home_id g) ≡ b → (held k hs ≡ Some h → k ≡ home_id h) → k ≡ home_id h
     by true f r = let is = rw f at e in let same : g ≡ h = cc in same_home_true k (home_id g) f ∙ ap home_id same
     by false f r = r (rw f at e)
+
+-- two changes that make the same of it
+pub edit_same : (k : HomeId) (f g : Home → Home) (hs : List (Option Home)) (h : Home) → held k hs ≡ Some h → f h ≡ g h → edit k f hs ≡ edit k g hs
+edit_same k f g [] h e same = refl
+edit_same k f g (None ∷ hs) h e same = ap (λ xs. None ∷ xs) (edit_same k f g hs h e same)
+edit_same k f g (Some x ∷ hs) h e same = by (same_home k (home_id x)) refl (edit_same k f g hs h)
+  where
+    by : (b : Bool) → same_home k (home_id x) ≡ b → (held k hs ≡ Some h → f h ≡ g h → edit k f hs ≡ edit k g hs) → edit k f (Some x ∷ hs) ≡ edit k g (Some x ∷ hs)
+    by true t r = let is = rw t at e in let one : x ≡ h = cc in let made : f x ≡ g x = ap f one ∙ same ∙ sym (ap g one) in rw t (ap (λ y. Some y ∷ hs) made)
+    by false t r = rw t (ap (λ xs. Some x ∷ xs) (r (rw t at e) same))
 
 abbrev pub KeepsId : (Home → Home) → Type 0
 KeepsId f = (h : Home) → home_id (f h) ≡ home_id h

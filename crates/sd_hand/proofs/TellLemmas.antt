@@ -1,6 +1,6 @@
 -- What a hand tells of each state that it shows.
-use Rattle.std.proofs.Common.{◌≡◌, ℕ, ◌%◌, ◌/◌, ◌<◌, ◌≤◌, ◌++◌, zero, suc, is_some, Bool, true, false, ◌==◌, List, [], ◌∷◌, length, get_or, Option, Some, None, option_map, slice_get, refl, sym, ap, ◌∙◌, arith, ◌⊎◌, inl, inr}
-use Rattle.std.specs.Prelude.{ℤ, nat_le, nat_lt}
+use Rattle.std.proofs.Common.{◌≡◌, ℕ, ◌%◌, ◌<◌, ◌≤◌, ◌++◌, zero, suc, is_some, Bool, true, false, List, [], ◌∷◌, length, get_or, Option, Some, None, option_map, slice_get, refl, sym, ap, ◌∙◌, arith, ◌⊎◌, inl, inr}
+use Rattle.std.specs.Prelude.{ℤ, nat_le}
 use Rattle.std.proofs.lemmas.Bool.{cases_lt, eq-eqb, le-ltb, lt-ltb}
 use Rattle.sd_types.specs.declared.numbers.CpuId.{CpuId}
 use Rattle.sd_types.specs.declared.numbers.ChanId.{ChanId}
@@ -13,7 +13,6 @@ use Rattle.sd_types.specs.declared.numbers.HomeId.TheVariants as id
 use Rattle.sd_boxq.specs.Order.{drop_id, find_first, find_below}
 use Rattle.sd_turn.specs.Waiters.{highest}
 use Rattle.sd_record.specs.Records.{ThreadRecord}
-use Rattle.sd_machine.specs.declared.states.LockState.{LockState}
 use Rattle.sd_machine.specs.declared.states.LockState.TheVariants.{Free}
 use Rattle.sd_machine.specs.declared.states.State.{State}
 use Rattle.sd_machine.specs.declared.states.Place.{Place}

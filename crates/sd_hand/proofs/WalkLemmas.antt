@@ -1,5 +1,5 @@
 -- Walks by lists and records are those by places.
-use Rattle.std.proofs.Common.{◌≡◌, ℕ, Bool, Option, Some, None, refl, sym, ap, ◌∙◌}
+use Rattle.std.proofs.Common.{◌≡◌, Some, refl}
 use Rattle.std.specs.Prelude.{ℤ}
 use Rattle.sd_types.specs.declared.bodies.ThreadBody.{ThreadBody}
 use Rattle.sd_types.specs.declared.events.Duty.{Duty}

@@ -1,8 +1,6 @@
 -- Homes that a change of the state does not name.
 -- Source: this project's own.
-use Rattle.std.specs.Prelude.{◌≡◌, ◌≢◌, ℕ, ◌<◌, ◌≤◌, length}
-use Rattle.sd_types.specs.declared.numbers.ChanId.{ChanId}
-use Rattle.sd_types.specs.declared.numbers.CpuId.{CpuId}
+use Rattle.std.specs.Prelude.{◌≢◌, ℕ}
 use Rattle.sd_types.specs.declared.numbers.HomeId.{HomeId}
 use Rattle.sd_machine.specs.declared.states.State.{State}
 use Rattle.sd_shown.specs.Standing.{look_of}

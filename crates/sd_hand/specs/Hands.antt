@@ -1,6 +1,6 @@
 -- The homes of a hand.
 -- Source: this project's own.
-use Rattle.std.specs.Prelude.{◌≡◌, ℕ, Bool, true, false, ◌||◌, ◌⊎◌, List, [], ◌∷◌, Option, Some, None, Result, MatchResult, if◌then◌else◌, slice_get, slice_set, ⊤}
+use Rattle.std.specs.Prelude.{◌≡◌, ℕ, Bool, false, ◌||◌, ◌⊎◌, List, [], ◌∷◌, Option, Some, None, Result, MatchResult, if◌then◌else◌, slice_get, slice_set, ⊤}
 use Rattle.sd_types.specs.declared.numbers.HomeId.{HomeId}
 use Rattle.sd_types.specs.declared.numbers.ThreadId.{ThreadId}
 use Rattle.sd_store.specs.declared.parts.Part.{Part}
@@ -43,6 +43,12 @@ pub record IsNoSlot (k : HomeId) (hs : List (Option Home)) : Type 0 where
 
 abbrev pub IsHeld : HomeId → List (Option Home) → Type 0
 IsHeld k hs = (h : Home) × (held k hs ≡ Some h)
+
+-- a home lies in each slot
+abbrev pub AreTaken : List (Option Home) → Type 0
+AreTaken [] = ⊤
+AreTaken (None ∷ hs) = ⊥
+AreTaken (Some h ∷ hs) = AreTaken hs
 
 -- one of the homes
 abbrev pub IsIn : Home → List (Option Home) → Type 0

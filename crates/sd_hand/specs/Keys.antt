@@ -1,11 +1,10 @@
 -- Spots and keys of those who stand in a list.
 -- Source: this project's own.
-use Rattle.std.specs.Prelude.{ℕ, ℤ, pos, Bool, false, ◌&&◌, ◌==◌, ◌||◌, int_lt, Option, Some, None, if◌then◌else◌}
+use Rattle.std.specs.Prelude.{ℤ, pos, Bool, false, ◌&&◌, ◌==◌, Option, Some, None}
 use Rattle.std.specs.Ordering.{int_eq}
-use Rattle.sd_types.specs.declared.bodies.ThreadBody.{ThreadBody}
 use Rattle.sd_types.specs.declared.numbers.ThreadId.{ThreadId}
 use Rattle.sd_types.specs.declared.events.Duty.{Duty}
-use Rattle.sd_types.specs.declared.events.Duty.TheVariants.{Nothing, Walk}
+use Rattle.sd_types.specs.declared.events.Duty.TheVariants.{Walk}
 use Rattle.sd_record.specs.Records.{ThreadRecord}
 use Rattle.sd_store.specs.declared.spots.Spot.{Spot}
 use Rattle.sd_store.specs.declared.spots.Spot.TheVariants as spot

@@ -3,6 +3,7 @@ pub mod Frames
 pub mod Hands
 pub mod Keys
 pub mod Later
+pub mod OneHome
 pub mod Shown
 pub mod Steps
 pub mod Walking

@@ -1,6 +1,5 @@
 -- What becomes of a thread on its way from list to list.
 -- Source: this project's own; see `sd_full`'s Changes.
-use Rattle.std.specs.Prelude.{ℕ, ⊤}
 use Rattle.sd_types.specs.declared.numbers.CpuId.{CpuId}
 use Rattle.sd_types.specs.declared.numbers.ThreadId.{ThreadId}
 use Rattle.sd_types.specs.declared.events.Put.{Put}

@@ -19,7 +19,7 @@ use sd_homes::{home_at, is_over};
 use sd_machine::LockState;
 use sd_record::Record;
 use sd_shown::ListId;
-use sd_store::{CpuView, Part};
+use sd_store::{CpuView, Part, rouse_key};
 use sd_types::{
     ChanId, CpuId, Duty, HomeId, LockId, SetId, ThreadBody, ThreadId, home_of_chan, home_of_lock,
 };
@@ -47,16 +47,6 @@ fn due(napper: Option<&Record>, count: u32) -> Option<ThreadId>
                 None
             }
         }
-    }
-}
-
-/// The number of a duty to wake sleepers.
-fn rouse_key(duty: Duty) -> i64
-    ensures { result ≡ rouse_key duty }
-{
-    match duty {
-        Duty::Rouse(_, below) => below,
-        _ => 0,
     }
 }
 

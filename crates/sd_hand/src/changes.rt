@@ -1,59 +1,28 @@
-//! Changing a state by a hand: the changes of `sd_store`'s `Store` and `Sets`, with their clauses. `leave` alone may lack one
-//! part more: the count of ticks that a thread takes along is the actor's.
+//! The steps of which the changes of a state by a hand are composed. Each tells what it makes of every state that is shown.
 
-ghost use Rattle.std.specs.Prelude.{◌≡◌, ℕ, ◌+◌, ◌<◌, ◌^◌, [], ◌∷◌, ⊤};
-ghost use Rattle.sd_types.specs.declared.events.Duty.TheVariants.{Rouse};
+ghost use Rattle.std.specs.Prelude.{◌≡◌, ℕ, ◌≤◌, [], ◌∷◌, ⊤, IfErr, IfOk};
+ghost use Rattle.sd_types.specs.declared.numbers.HomeId.TheVariants.{RealTime};
 ghost use Rattle.sd_machine.specs.declared.states.CpuState.{CpuState as CpuStateOf};
 ghost use Rattle.sd_machine.specs.declared.states.State.{State as StateOf};
-ghost use Rattle.sd_machine.specs.States.{cpu_of, thread_of, with_cpu};
-ghost use Rattle.sd_full.specs.Changes.{back_key, bind, clear_marks, close, count_tick, duty_after, join, leave, marked, place_put, run_on, set_duty, set_kernel_mark, set_mark, unbind, unmarked, with_body, with_place};
-ghost use Rattle.sd_full.specs.Needs.{CanJoin, CanTick, IsChan, IsFree, IsLock, RunsOn};
-ghost use Rattle.sd_full.specs.Threads.{with_count, with_lock};
-ghost use Rattle.sd_full.specs.Walking.{next_walk};
-ghost use Rattle.sd_store.specs.Bodies.{CanChange, changed};
-ghost use Rattle.sd_store.specs.Keyless.{IsDestination, duty_of, place_by};
-ghost use Rattle.sd_store.specs.Parts.{actor_part, chain_part, cpu_part, destination_parts, put_parts, real_time_part, sleepers_part, thread_part, view_of};
-ghost use Rattle.sd_store.specs.Walks.{walk_begun, walk_gone_on};
-ghost use Rattle.sd_store.specs.Words.{Does, DoesBy, Keeps, Lacks};
+ghost use Rattle.sd_machine.specs.declared.states.ThreadState.{ThreadState as ThreadStateOf};
+ghost use Rattle.sd_machine.specs.States.{cpu_of, thread_of, with_cpu, with_thread};
+ghost use Rattle.sd_full.specs.Changes.{marked, set_duty, unmarked, with_body, with_cpu_in, without_cpu};
+ghost use Rattle.sd_full.specs.Needs.{CanJoin};
+ghost use Rattle.sd_full.specs.Threads.{open_of, with_open};
+ghost use Rattle.sd_store.specs.Parts.{actor_part, view_of};
+ghost use Rattle.sd_store.specs.Words.{Does, Keeps, Lacks};
+ghost use Rattle.sd_shown.specs.Standing.{home_at, list_of, look_of, record_of, without, MayCome};
 ghost use Rattle.sd_hand.specs.Acting.{IsShown, has_part, the_part};
+ghost use Rattle.sd_hand.specs.Hands.{HasRoom, IsHeld};
+ghost use Rattle.sd_hand.specs.Shown.{IsListThere, StandsAt};
+ghost use Rattle.sd_hand.specs.Steps.{stepped};
 
 use crate::acting::Acting;
-use crate::steps::back_key;
-use sd_machine::LockState;
-use sd_store::{Chore, CpuView, Part};
-use sd_types::{ChanId, CpuId, Duty, LockId, REAL_TIME_PRIORITY, ThreadId, Work};
-
-/// The duty that has no key.
-fn duty_of(chore: Chore) -> Duty
-    ensures { result ≡ duty_of chore }
-{
-    match chore {
-        Chore::Nothing => Duty::Nothing,
-        Chore::WakeMutex(l) => Duty::WakeMutex(l),
-        Chore::GrantWriter(l) => Duty::GrantWriter(l),
-        Chore::GrantReaders(l) => Duty::GrantReaders(l),
-        Chore::Age(u) => Duty::Age(u),
-    }
-}
-
-/// Each second the time-sharing threads on the queue are looked at.
-fn duty_after(work: &Work, count: u32, duty: Duty) -> Duty
-    ensures { result ≡ duty_after work.now count duty }
-{
-    if count % work.hz == 0 {
-        Duty::Age(ThreadId(0))
-    } else {
-        duty
-    }
-}
-
-/// The duty of entry `number` to wake all that sleep on channel `k`.
-fn rouse(number: u64, k: ChanId) -> Duty
-    requires { number < 2 ^ 62 }
-    ensures { result ≡ Rouse k (back_key number) }
-{
-    Duty::Rouse(k, back_key(number))
-}
+use crate::steps::Step;
+use sd_homes::IsFull;
+use sd_shown::ListId;
+use sd_store::{CpuView, Part};
+use sd_types::{CpuId, Duty, REAL_TIME_PRIORITY, SetId, ThreadId};
 
 impl Acting {
     /// Gives processor `c` a duty.
@@ -67,48 +36,6 @@ impl Acting {
             return Err(Part::Actor(c));
         }
         self.actor.duty = duty;
-        Ok(())
-    }
-
-    /// Processor `c` has a duty without a key.
-    pub fn set_duty(&mut self, c: CpuId, chore: Chore) -> Result<(), Part>
-        ensures value { Does (IsShown self.old) (IsShown self.new) result (λ s. ⊤) (λ s. set_duty s c.0 (duty_of chore)) }
-        ensures lack { Lacks the_part (IsShown self.old) (has_part self.old) result (λ s. actor_part c ∷ []) }
-        ensures kept { Keeps (IsShown self.old) (IsShown self.new) result }
-        ensures has { has_part self.new ≡ has_part self.old }
-    {
-        self.give(c, duty_of(chore))
-    }
-
-    /// By entry `number` processor `c` has the duty to wake all that sleep on channel `k` now.
-    pub fn begin_rouse(&mut self, number: u64, c: CpuId, k: ChanId) -> Result<(), Part>
-        requires { number < 2 ^ 62 }
-        ensures value { DoesBy number (IsShown self.old) (IsShown self.new) result (λ s. ⊤) (λ s. set_duty s c.0 (Rouse k (back_key number))) }
-        ensures lack { Lacks the_part (IsShown self.old) (has_part self.old) result (λ s. actor_part c ∷ []) }
-        ensures kept { Keeps (IsShown self.old) (IsShown self.new) result }
-        ensures has { has_part self.new ≡ has_part self.old }
-    {
-        match self.give(c, rouse(number, k)) {
-            Err(q) => Err(q),
-            Ok(()) => Ok(()),
-        }
-    }
-
-    /// Processor `c` counts a tick. Each second it has the duty to age its queue.
-    pub fn count_tick(&mut self, work: &Work, c: CpuId) -> Result<(), Part>
-        ensures value { Does (IsShown self.old) (IsShown self.new) result (λ s. CanTick work.now s c) (λ s. count_tick work.now s c.0) }
-        ensures lack { Lacks the_part (IsShown self.old) (has_part self.old) result (λ s. actor_part c ∷ []) }
-        ensures kept { Keeps (IsShown self.old) (IsShown self.new) result }
-        ensures has { has_part self.new ≡ has_part self.old }
-    {
-        if c.0 != self.actor.cpu.0 {
-            return Err(Part::Actor(c));
-        }
-        if self.actor.count < work.limit {
-            let count = self.actor.count + 1;
-            self.actor.duty = duty_after(work, count, self.actor.duty);
-            self.actor.count = count;
-        }
         Ok(())
     }
 
@@ -129,95 +56,45 @@ impl Acting {
         self.set_view(c, unmarked(view));
     }
 
-    /// Clears both marks of processor `c`.
-    pub fn clear_marks(&mut self, c: CpuId) -> Result<(), Part>
-        ensures value { Does (IsShown self.old) (IsShown self.new) result (λ s. ⊤) (λ s. clear_marks s c.0) }
-        ensures lack { Lacks the_part (IsShown self.old) (has_part self.old) result (λ s. cpu_part c ∷ []) }
-        ensures kept { Keeps (IsShown self.old) (IsShown self.new) result }
-        ensures has { has_part self.new ≡ has_part self.old }
+    /// Thread `t`, which stands there, goes to another list, and changes on the way.
+    pub(crate) fn relocate(&mut self, t: ThreadId, from: ListId, step: Step, to: ListId)
+        ensures value { (n m : ℕ) (s : StateOf) (z : ThreadStateOf) → IsShown self.old n s → n ≤ m → StandsAt s t.0 from → IsHeld (home_at from) self.old.hand.slots
+            → list_of z ≡ to → record_of t.0 z ≡ stepped step (record_of t.0 (thread_of s t.0)) → MayCome n m (without t.0 (look_of s)) to z → IsListThere to
+            → IsShown self.new m (with_thread s t.0 z) }
+        ensures has { IsHeld (home_at to) self.old.hand.slots → IsListThere to → HasRoom t.0 from to self.old.hand.slots → has_part self.new ≡ has_part self.old }
     {
-        match self.hand.view(c) {
-            Err(q) => Err(q),
-            Ok(view) => {
-                self.set_view(c, unmarked(view));
-                Ok(())
-            }
-        }
+        self.hand.relocate(t, from, step, to);
     }
 
-    /// Marks processor `c` for the sake of a thread of priority `m`.
-    pub fn set_mark(&mut self, c: CpuId, m: u8) -> Result<(), Part>
-        ensures value { Does (IsShown self.old) (IsShown self.new) result (λ s. ⊤) (λ s. set_mark s c.0 m) }
-        ensures lack { Lacks the_part (IsShown self.old) (has_part self.old) result (λ s. cpu_part c ∷ []) }
-        ensures kept { Keeps (IsShown self.old) (IsShown self.new) result }
-        ensures has { has_part self.new ≡ has_part self.old }
+    /// Processor `d` is no more one of the open ones of set `p`.
+    pub(crate) fn shut(&mut self, p: SetId, d: CpuId)
+        ensures value { (n : ℕ) (s : StateOf) → IsShown self.old n s → IsHeld (RealTime p) self.old.hand.slots → IsShown self.new n (with_open s p.0 (without_cpu d (open_of s p.0))) }
+        ensures has { IsHeld (RealTime p) self.old.hand.slots → has_part self.new ≡ has_part self.old }
     {
-        match self.hand.view(c) {
-            Err(q) => Err(q),
-            Ok(view) => {
-                self.set_view(c, marked(m, view));
-                Ok(())
-            }
-        }
+        self.hand.close(p, d);
     }
 
-    /// Sets the kernel's mark of processor `c`.
-    pub fn set_kernel_mark(&mut self, c: CpuId) -> Result<(), Part>
-        ensures value { Does (IsShown self.old) (IsShown self.new) result (λ s. ⊤) (λ s. set_kernel_mark s c.0) }
-        ensures lack { Lacks the_part (IsShown self.old) (has_part self.old) result (λ s. cpu_part c ∷ []) }
-        ensures kept { Keeps (IsShown self.old) (IsShown self.new) result }
-        ensures has { has_part self.new ≡ has_part self.old }
+    /// Processor `c` is one of the open ones of set `p` from now on, unless their list is full.
+    pub(crate) fn open(&mut self, p: SetId, c: CpuId) -> Result<(), IsFull>
+        ensures value { IfOk result (λ _. (n : ℕ) (s : StateOf) → IsShown self.old n s → IsHeld (RealTime p) self.old.hand.slots → IsShown self.new n (with_open s p.0 (with_cpu_in c (open_of s p.0)))) }
+        ensures full { IfErr result (λ _. (n : ℕ) (s : StateOf) → IsShown self.old n s → CanJoin s p → ⊥) }
+        ensures has { IsHeld (RealTime p) self.old.hand.slots → has_part self.new ≡ has_part self.old }
     {
-        match self.hand.view(c) {
-            Err(q) => Err(q),
-            Ok(view) => {
-                self.set_view(
-                    c,
-                    CpuView {
-                        kernel: true,
-                        ..view
-                    },
-                );
-                Ok(())
-            }
-        }
+        self.hand.open(p, c)
     }
 
-    /// Changes the state of lock `l`.
-    pub fn set_lock(&mut self, l: LockId, lock: LockState) -> Result<(), Part>
-        ensures value { Does (IsShown self.old) (IsShown self.new) result (λ s. IsLock s l) (λ s. with_lock s l.0 lock) }
-        ensures lack { Lacks the_part (IsShown self.old) (has_part self.old) result (λ s. chain_part l ∷ []) }
-        ensures kept { Keeps (IsShown self.old) (IsShown self.new) result }
+    /// Thread `t`, which stands there, is bound to a processor, or to none.
+    pub(crate) fn bind_at(&mut self, t: ThreadId, at: ListId, bound: Option<CpuId>)
+        ensures value { (n : ℕ) (s : StateOf) → IsShown self.old n s → StandsAt s t.0 at → IsHeld (home_at at) self.old.hand.slots
+            → IsShown self.new n (with_body s t.0 (record (thread_of s t.0).body { bound = bound })) }
         ensures has { has_part self.new ≡ has_part self.old }
     {
-        match self.hand.lock(l) {
-            Err(q) => Err(q),
-            Ok(_) => {
-                self.hand.set_lock(l, lock);
-                Ok(())
-            }
-        }
-    }
-
-    /// The count of semaphore `k` becomes `n`.
-    pub fn set_tokens(&mut self, k: ChanId, n: u32) -> Result<(), Part>
-        ensures value { Does (IsShown self.old) (IsShown self.new) result (λ s. IsChan s k) (λ s. with_count s k.0 n) }
-        ensures lack { Lacks the_part (IsShown self.old) (has_part self.old) result (λ s. sleepers_part k ∷ []) }
-        ensures kept { Keeps (IsShown self.old) (IsShown self.new) result }
-        ensures has { has_part self.new ≡ has_part self.old }
-    {
-        match self.hand.tokens(k) {
-            Err(q) => Err(q),
-            Ok(_) => {
-                self.hand.set_tokens(k, n);
-                Ok(())
-            }
-        }
+        self.hand.bind_at(t, at, bound);
     }
 }
 
 /// Both marks are cleared.
-fn unmarked(view: CpuView) -> CpuView
+pub(crate) fn unmarked(view: CpuView) -> CpuView
     ensures { (z : CpuStateOf) → view ≡ view_of z → result ≡ view_of (unmarked z) }
 {
     CpuView {
@@ -228,7 +105,7 @@ fn unmarked(view: CpuView) -> CpuView
 }
 
 /// Marked for the sake of a thread of priority `m`: the kernel's mark from 100 on, else the user's.
-fn marked(m: u8, view: CpuView) -> CpuView
+pub(crate) fn marked(m: u8, view: CpuView) -> CpuView
     ensures { (z : CpuStateOf) → view ≡ view_of z → result ≡ view_of (marked m z) }
 {
     if m >= REAL_TIME_PRIORITY {

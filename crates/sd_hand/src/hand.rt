@@ -1,15 +1,14 @@
 //! The hand: the homes that a processor holds.
 
-ghost use Rattle.std.specs.Prelude.{◌≡◌, ◌<◌, ◌%◌, [], ◌∷◌, None, Some, false, length, slice_get, IfSome, MatchOption, MatchResult};
+ghost use Rattle.std.specs.Prelude.{◌≡◌, ◌⊎◌, ◌<◌, ◌%◌, [], ◌∷◌, None, Some, false, length, slice_get, IfErr, IfOk, IfSome, MatchOption};
 ghost use Rattle.std.specs.Option.{option_copied};
 ghost use Rattle.sd_types.specs.declared.numbers.HomeId.TheVariants.{Chain, Cpu, RealTime, Sleepers};
-ghost use Rattle.sd_full.specs.Changes.{with_cpu_in, without_cpu};
 ghost use Rattle.sd_shown.specs.Standing.{home_at};
 ghost use Rattle.sd_homes.specs.declared.home.Home.{Home as HomeOf};
-ghost use Rattle.sd_homes.specs.Families.{IsWhole, counting, locking, open_in, opening, putting, taken_from, taking, viewing};
-ghost use Rattle.sd_hand.specs.Hands.{Asks, HoldsMore, IsNoSlot, IsSlot, Seeks, StandsIn, StandsInSlot, edit, has_thread, held, is_at, slot_has};
+ghost use Rattle.sd_homes.specs.Families.{IsWhole, counting, home_id, locking, open_in, opened, putting, shut, taken_from, taking, viewing};
+ghost use Rattle.sd_hand.specs.Hands.{AreTaken, Asks, HoldsMore, IsHeld, IsNoSlot, IsSlot, Seeks, StandsIn, StandsInSlot, edit, has_thread, held, is_at, slot_has};
 
-use sd_homes::{Home, Traveller, home_at, same_home};
+use sd_homes::{Home, IsFull, Traveller, home_at, same_home};
 use sd_machine::LockState;
 use sd_record::Record;
 use sd_shown::ListId;
@@ -68,7 +67,7 @@ fn where_in(slots: &[Option<Home>; 4], t: ThreadId) -> Option<ListId>
 
 /// The first slot in which no home lies.
 fn free_in(slots: &[Option<Home>; 4]) -> Option<usize>
-    ensures { IfSome result (λ i. (i < 4) × (slice_get slots.now i ≡ Some None)) }
+    ensures { MatchOption result (AreTaken slots.now) (λ i. (i < 4) × (slice_get slots.now i ≡ Some None)) }
 {
     for i in 0..4 {
         if slots[i].is_none() {
@@ -88,9 +87,10 @@ impl Hand {
         }
     }
 
-    /// Takes a home, where none with its number is held and three at most are.
+    /// Takes a home, unless one with its number is held or four are: then it is given back.
     pub fn hold(&mut self, home: Home) -> Result<(), Home>
-        ensures { MatchResult result (λ _. HoldsMore self.old.slots home self.new.slots) (λ h. (h ≡ home) × (self.new.slots ≡ self.old.slots)) }
+        ensures held { IfOk result (λ _. HoldsMore self.old.slots home self.new.slots) }
+        ensures refused { IfErr result (λ h. (h ≡ home) × (self.new.slots ≡ self.old.slots) × (IsHeld (home_id home) self.old.slots ⊎ AreTaken self.old.slots)) }
     {
         match self.slot_of(home.id()) {
             Some(_) => Err(home),
@@ -209,22 +209,23 @@ impl Hand {
         }
     }
 
-    /// Processor `c` is one of the open ones of set `p`, where there is room for it.
-    pub fn open(&mut self, p: SetId, c: CpuId)
-        ensures { (h : HomeOf) → held (RealTime p) self.old.slots ≡ Some h → length (open_in h) < 64
-            → self.new.slots ≡ edit (RealTime p) (opening (with_cpu_in c (open_in h))) self.old.slots }
+    /// Processor `c` is one of the open ones of set `p` from now on, unless their list is full.
+    pub fn open(&mut self, p: SetId, c: CpuId) -> Result<(), IsFull>
+        ensures opened { IfOk result (λ _. self.new.slots ≡ edit (RealTime p) (opened c) self.old.slots) }
+        ensures full { IfErr result (λ _. (h : HomeOf) × (held (RealTime p) self.old.slots ≡ Some h) × (length (open_in h) ≡ 64) × (self.new.slots ≡ self.old.slots)) }
     {
-        if let Some(i) = self.slot_of(HomeId::RealTime(p)) {
-            if let Some(home) = &mut self.slots[i] {
-                home.open(c);
-            }
+        match self.slot_of(HomeId::RealTime(p)) {
+            None => Ok(()),
+            Some(i) => match &mut self.slots[i] {
+                None => Ok(()),
+                Some(home) => home.open(c),
+            },
         }
     }
 
     /// Processor `c` is no more one of the open ones of set `p`.
     pub fn close(&mut self, p: SetId, c: CpuId)
-        ensures { (h : HomeOf) → held (RealTime p) self.old.slots ≡ Some h
-            → self.new.slots ≡ edit (RealTime p) (opening (without_cpu c (open_in h))) self.old.slots }
+        ensures shut { self.new.slots ≡ edit (RealTime p) (shut c) self.old.slots }
     {
         if let Some(i) = self.slot_of(HomeId::RealTime(p)) {
             if let Some(home) = &mut self.slots[i] {

@@ -8,12 +8,14 @@ mod changes;
 mod frames;
 mod hand;
 mod look;
-mod moves;
+mod one_home;
 mod sets;
 mod steps;
+mod store;
 mod walks;
 
 pub use acting::{Acting, Actor};
 pub use frames::{locks_keep_other_homes, processors_keep_other_homes, threads_keep_other_homes};
 pub use hand::Hand;
+pub use one_home::each_thread_stands_in_one_list;
 pub use steps::Step;

@@ -1,14 +1,13 @@
 //! Looking at a state by a hand.
 
 ghost use Rattle.std.specs.Prelude.{◌≡◌, option_copied};
-ghost use Rattle.sd_store.specs.Keyless.{task_of};
 ghost use Rattle.sd_hand.specs.Keys.{is_back_at, key_or_zero, spot_at};
 
 use crate::acting::Acting;
 use sd_machine::LockState;
 use sd_record::Record;
 use sd_shown::ListId;
-use sd_store::{CpuView, Look, Part, Spot, Task};
+use sd_store::{CpuView, Look, Part, Spot, Task, task_of};
 use sd_types::{ChanId, CpuId, Duty, HomeId, LockId, SetId, Side, ThreadBody, ThreadId};
 
 /// Where those of a list stand.
@@ -23,21 +22,6 @@ fn spot_at(at: ListId) -> Spot
         ListId::Sleeps(k) => Spot::Asleep(k),
         ListId::Naps(c) => Spot::Napping(c),
         ListId::Ends(_) => Spot::Ended,
-    }
-}
-
-/// A duty without its key.
-fn task_of(duty: Duty) -> Task
-    ensures { result ≡ task_of duty }
-{
-    match duty {
-        Duty::Nothing => Task::Nothing,
-        Duty::Walk { lock, seek, .. } => Task::Walk { lock, seek },
-        Duty::WakeMutex(l) => Task::WakeMutex(l),
-        Duty::GrantWriter(l) => Task::GrantWriter(l),
-        Duty::GrantReaders(l) => Task::GrantReaders(l),
-        Duty::Rouse(k, _) => Task::Rouse(k),
-        Duty::Age(u) => Task::Age(u),
     }
 }
 

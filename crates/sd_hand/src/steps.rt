@@ -1,12 +1,9 @@
 //! How a thread goes from list to list, and changes on the way or where it stands.
 
-ghost use Rattle.std.specs.Prelude.{◌≡◌, ℕ, ◌+◌, ◌<◌, ◌^◌, Some, is_some, true};
+ghost use Rattle.std.specs.Prelude.{◌≡◌, ℕ, Some, is_some, true};
 ghost use Rattle.sd_types.specs.declared.numbers.HomeId.{HomeId as HomeIdOf};
-ghost use Rattle.sd_full.specs.Changes.{back_key, key_at, place_put};
-ghost use Rattle.sd_full.specs.Threads.{set_of};
 ghost use Rattle.sd_record.specs.Records.{ThreadRecord};
 ghost use Rattle.sd_store.specs.Bodies.{changed};
-ghost use Rattle.sd_store.specs.Keyless.{place_by};
 ghost use Rattle.sd_shown.specs.Standing.{home_at};
 ghost use Rattle.sd_homes.specs.Bodies.{CanChangeThread};
 ghost use Rattle.sd_homes.specs.Families.{putting, taken_from, taking};
@@ -19,8 +16,8 @@ use crate::hand::Hand;
 use sd_homes::Traveller;
 use sd_machine::Place;
 use sd_shown::ListId;
-use sd_store::{BodyChange, Destination};
-use sd_types::{CpuId, End, Put, SetId, ThreadId, Work};
+use sd_store::{BodyChange, Destination, set_of};
+use sd_types::{CpuId, Put, ThreadId, Work};
 
 /// What becomes of a thread on its way: it runs on a processor, leaves one that has counted so many ticks for a place, or
 /// goes to a place.
@@ -92,40 +89,6 @@ impl Hand {
     }
 }
 
-/// The key of a thread that entry `number` puts at the back of a queue.
-pub(crate) fn back_key(number: u64) -> i64
-    requires { number < 2 ^ 62 }
-    ensures { result ≡ back_key number }
-{
-    4096 + number as i64
-}
-
-/// The key of a thread that entry `number` puts at an end of a queue.
-fn key_at(number: u64, end: End) -> i64
-    requires { number < 2 ^ 62 }
-    ensures { result ≡ key_at number end }
-{
-    match end {
-        End::Back => back_key(number),
-        End::Front => -1 - number as i64,
-    }
-}
-
-/// The place to which a thread goes by entry `number` when it leaves processor `c`.
-pub(crate) fn place_by(number: u64, c: CpuId, to: Destination) -> Place
-    requires { number < 2 ^ 62 }
-    ensures { result ≡ place_by number c to }
-{
-    match to {
-        Destination::Queue(d, end) => Place::Queued(d, key_at(number, end)),
-        Destination::RealTime(p, end) => Place::RealTime(p, key_at(number, end)),
-        Destination::Turnstile(l, side) => Place::Waiting(l, side, back_key(number)),
-        Destination::SleepQueue(k) => Place::Asleep(k, back_key(number)),
-        Destination::Nap(due) => Place::Napping(c, due),
-        Destination::Nowhere => Place::Ended,
-    }
-}
-
 /// The list to which a thread goes when it leaves processor `c`.
 pub(crate) fn list_by(c: CpuId, to: Destination) -> ListId
     ensures { result ≡ list_by c to }
@@ -137,27 +100,6 @@ pub(crate) fn list_by(c: CpuId, to: Destination) -> ListId
         Destination::SleepQueue(k) => ListId::Sleeps(k),
         Destination::Nap(_) => ListId::Naps(c),
         Destination::Nowhere => ListId::Ends(c),
-    }
-}
-
-fn set_of(work: &Work, t: ThreadId) -> SetId
-    ensures { result ≡ set_of work.now t.0 }
-{
-    match work.threads.items().get(t.0 as usize) {
-        Some(decl) => decl.set,
-        None => SetId(0),
-    }
-}
-
-/// The place to which entry `number` puts a thread.
-pub(crate) fn place_put(work: &Work, number: u64, t: ThreadId, at: Put) -> Place
-    requires { number < 2 ^ 62 }
-    ensures { result ≡ place_put work.now number t.0 at }
-{
-    let key = back_key(number);
-    match at {
-        Put::Cpu(x) => Place::Queued(x, key),
-        Put::RealTime(_) => Place::RealTime(set_of(work, t), key),
     }
 }
 

@@ -8,7 +8,7 @@ use sd_homes::{ChainHome, CpuHome, Home, RealTimeHome, SleepersHome, Traveller};
 use sd_machine::LockState;
 use sd_record::Record;
 use sd_shown::ListId;
-use sd_store::{CpuView, Destination, Look, Part, Spot};
+use sd_store::{CpuView, Destination, Look, Part, Spot, Store};
 use sd_types::{
     ChanId, ClassState, CpuId, Duty, LockId, SetId, Side, SysState, ThreadBody, ThreadId,
 };

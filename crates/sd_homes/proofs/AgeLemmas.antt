@@ -1,6 +1,5 @@
 -- The least number that ages, as far as a scan has come.
-use Rattle.std.proofs.Common.{◌≡◌, ℕ, ◌≤◌, min, Bool, true, false, List, [], ◌∷◌, Option, Some, None, nat_le, refl, sym, ap, ◌∙◌, arith}
-use Rattle.std.proofs.lemmas.Bool.Decides.{nat_tests}
+use Rattle.std.proofs.Common.{◌≡◌, ℕ, true, false, List, ◌∷◌, Option, Some, None, refl, sym, ap, arith}
 use Rattle.sd_record.specs.Records.{ThreadRecord}
 use Rattle.sd_shown.specs.Standing.{id_of, ages, earlier, least_to_age}
 

@@ -8,6 +8,7 @@ use Rattle.sd_record.specs.Records.{ThreadRecord}
 use Rattle.sd_machine.specs.declared.states.LockState.{LockState}
 use Rattle.sd_machine.specs.declared.states.LockState.TheVariants.{Free}
 use Rattle.sd_boxq.specs.Order.{find_id, drop_id}
+use Rattle.sd_full.specs.Changes.{with_cpu_in, without_cpu}
 use Rattle.sd_store.specs.declared.parts.CpuView.{CpuView}
 use Rattle.sd_shown.specs.declared.list_id.ListId.{ListId}
 use Rattle.sd_shown.specs.Standing.{id_of, insert_at}
@@ -89,6 +90,13 @@ opening cpus (RealTime h) = RealTime (with_open_cpus cpus h)
 opening cpus (Cpu h) = Cpu h
 opening cpus (Chain h) = Chain h
 opening cpus (Sleepers h) = Sleepers h
+
+-- a processor comes to them, or leaves them
+abbrev pub opened : CpuId → Home → Home
+opened c h = opening (with_cpu_in c (open_in h)) h
+
+abbrev pub shut : CpuId → Home → Home
+shut c h = opening (without_cpu c (open_in h)) h
 
 -- the state of a lock of a chain; another lock is free
 abbrev pub lock_in : ℕ → Home → LockState

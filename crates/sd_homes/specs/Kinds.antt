@@ -1,11 +1,8 @@
 -- The lists of each kind of home.
 -- Source: this project's own; see Homes.
-use Rattle.std.specs.Prelude.{◌≡◌, ℕ, Bool, true, ◌||◌, List, [], Option, Some, None, is_some, if◌then◌else◌, get_or, ◌/◌}
-use Rattle.sd_types.specs.declared.numbers.CpuId.{CpuId}
+use Rattle.std.specs.Prelude.{◌≡◌, ℕ, Bool, true, ◌||◌, List, [], is_some, if◌then◌else◌}
 use Rattle.sd_types.specs.declared.numbers.HomeId.{HomeId}
 use Rattle.sd_record.specs.Records.{ThreadRecord}
-use Rattle.sd_machine.specs.declared.states.LockState.{LockState}
-use Rattle.sd_machine.specs.declared.states.LockState.TheVariants.{Free}
 use Rattle.sd_boxq.specs.Order.{find_id}
 use Rattle.sd_turn.specs.Waiters.{waiters_at, with_waiters, find_among as find_waiter}
 use Rattle.sd_sleepq.specs.Among.{find_among as find_sleeper}

@@ -17,6 +17,6 @@ pub use chain::ChainHome;
 pub use cpu::CpuHome;
 pub use home::{Home, home_at, same_home};
 pub use places::{is_over, list_at, record_key};
-pub use real_time::RealTimeHome;
+pub use real_time::{IsFull, RealTimeHome};
 pub use sleepers::SleepersHome;
 pub use traveller::Traveller;

@@ -1,16 +1,16 @@
 //! What a home tells and keeps beside the order of its threads.
 
-ghost use Rattle.std.specs.Prelude.{◌≡◌, ◌≤◌, ◌<◌, ◌++◌, length, option_map};
+ghost use Rattle.std.specs.Prelude.{◌≡◌, ◌≤◌, ◌++◌, length, option_map, IfErr, IfOk};
 ghost use Rattle.std.specs.Option.{option_copied};
 ghost use Rattle.sd_boxq.specs.Order.{drop_id, find_below, find_first};
-ghost use Rattle.sd_full.specs.Changes.{with_cpu_in, without_cpu};
 ghost use Rattle.sd_shown.specs.declared.list_id.ListId.TheVariants.{Queues, Sleeps, Waits};
 ghost use Rattle.sd_shown.specs.Standing.{id_of, is_unbound, key_in, least_to_age, rank_of};
 ghost use Rattle.sd_types.specs.declared.numbers.Side.TheVariants.{Writer, Reader};
 ghost use Rattle.sd_turn.specs.Waiters.{highest};
-ghost use Rattle.sd_homes.specs.Families.{counting, list_in, lock_in, locking, open_in, opening, tokens_in, view_in, viewing};
+ghost use Rattle.sd_homes.specs.Families.{counting, list_in, lock_in, locking, open_in, opened, shut, tokens_in, view_in, viewing};
 
 use crate::home::Home;
+use crate::real_time::IsFull;
 use sd_machine::LockState;
 use sd_record::Record;
 use sd_store::CpuView;
@@ -116,19 +116,20 @@ impl Home {
         }
     }
 
-    /// Processor `c` is one of the open ones of a set, where there is room for it.
-    pub fn open(&mut self, c: CpuId)
-        ensures { length (open_in self.old) < 64 → self.new ≡ opening (with_cpu_in c (open_in self.old)) self.old }
+    /// Processor `c` is one of the open ones of a set from now on, unless their list is full.
+    pub fn open(&mut self, c: CpuId) -> Result<(), IsFull>
+        ensures opened { IfOk result (λ _. self.new ≡ opened c self.old) }
+        ensures full { IfErr result (λ _. (length (open_in self.old) ≡ 64) × (self.new ≡ self.old)) }
     {
         match self {
             Home::RealTime(h) => h.get_mut().open(c),
-            _ => {}
+            _ => Ok(()),
         }
     }
 
     /// Processor `c` is no more one of the open ones of a set.
     pub fn close(&mut self, c: CpuId)
-        ensures { self.new ≡ opening (without_cpu c (open_in self.old)) self.old }
+        ensures shut { self.new ≡ shut c self.old }
     {
         match self {
             Home::RealTime(h) => h.get_mut().close(c),

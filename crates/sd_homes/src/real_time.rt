@@ -1,6 +1,6 @@
 //! The home of the real-time queue of a partition.
 
-ghost use Rattle.std.specs.Prelude.{◌≡◌, ◌∷◌, ◌++◌, ◌<◌, ◌≤◌, false, drop, length, slice_get, take, IfOk, MatchOption};
+ghost use Rattle.std.specs.Prelude.{◌≡◌, ◌≤◌, false, length, slice_get, IfErr, IfOk, MatchOption};
 ghost use Rattle.std.specs.Option.{option_copied};
 ghost use Rattle.sd_boxq.specs.Order.{find_id, drop_id, insert_ranked};
 ghost use Rattle.sd_full.specs.Changes.{with_cpu_in, without_cpu};
@@ -12,12 +12,17 @@ ghost use Rattle.sd_homes.specs.Homes.{OfSet, empty_set, with_open_cpus, with_ur
 use crate::traveller::{Traveller, equipped};
 use arrayvec::ArrayVec;
 use sd_dispq::DispQueue;
+use sd_flat::{with_cpu_in, without_cpu};
 use sd_record::Record;
 use sd_shown::ListId;
 use sd_turn::Rack;
 use sd_types::{CpuId, SetId, ThreadId};
 use std::alloc::{AllocError, Global};
 use std::marker::Model;
+
+/// A set has 64 open processors, and no room for another.
+#[derive(Debug, Clone, Copy)]
+pub struct IsFull;
 
 /// The real-time queue of a partition, and the open processors of its set in rising order, with a spare turnstile for each
 /// thread.
@@ -74,19 +79,21 @@ impl RealTimeHome {
         self.open_cpus.as_slice()
     }
 
-    /// Processor `c` is one of the open ones, where there is room for it.
-    pub fn open(&mut self, c: CpuId)
-        ensures { length self.old.open_cpus < 64 → self.new ≡ with_open_cpus (with_cpu_in c self.old.open_cpus) self.old }
+    /// Processor `c` is one of the open ones from now on, unless their list is full.
+    pub fn open(&mut self, c: CpuId) -> Result<(), IsFull>
+        ensures opened { IfOk result (λ _. self.new ≡ with_open_cpus (with_cpu_in c self.old.open_cpus) self.old) }
+        ensures full { IfErr result (λ _. (length self.old.open_cpus ≡ 64) × (self.new ≡ self.old)) }
     {
-        if self.open_cpus.len() < 64 {
-            let index = index_for(c, self.open_cpus.as_slice());
-            self.open_cpus.insert(index, c);
+        if self.open_cpus.len() == 64 {
+            return Err(IsFull);
         }
+        with_cpu_in(c, &mut self.open_cpus);
+        Ok(())
     }
 
     /// Processor `c` is no more one of the open ones.
     pub fn close(&mut self, c: CpuId)
-        ensures { self.new ≡ with_open_cpus (without_cpu c self.old.open_cpus) self.old }
+        ensures shut { self.new ≡ with_open_cpus (without_cpu c self.old.open_cpus) self.old }
     {
         self.open_cpus = without_cpu(c, &self.open_cpus);
     }
@@ -134,30 +141,4 @@ impl RealTimeHome {
     {
         self.queue.find(u32::from(t.0))
     }
-}
-
-/// A rising list of processors without processor `c`.
-fn without_cpu(c: CpuId, cpus: &ArrayVec<CpuId, 64>) -> ArrayVec<CpuId, 64>
-    ensures { result.items ≡ without_cpu c cpus.now.items }
-{
-    let mut rest = ArrayVec::new();
-    for d in cpus.as_slice() {
-        if d.0 != c.0 {
-            rest.push(*d);
-        }
-    }
-    rest
-}
-
-/// The index before which processor `c` stands in a rising list: that of the first with a greater number.
-fn index_for(c: CpuId, cpus: &[CpuId]) -> usize
-    ensures inside { result ≤ length cpus.now }
-    ensures here { with_cpu_in c cpus.now ≡ take result cpus.now ++ c ∷ drop result cpus.now }
-{
-    for index in 0..cpus.len() {
-        if c.0 < cpus[index].0 {
-            return index;
-        }
-    }
-    cpus.len()
 }

@@ -1,5 +1,5 @@
 use Rattle.std.proofs.Common.{refl}
-use Rattle.sd_machine.specs.States.{cpu_of, with_cpu, with_thread}
+use Rattle.sd_machine.specs.States.{cpu_of, with_cpu}
 use Rattle.sd_full.specs.Changes.{bind, close, join, unbind, with_body}
 use Rattle.sd_full.specs.Threads.{with_open}
 use Rattle.sd_shown.specs.Standing.{look_of}

@@ -1,4 +1,4 @@
-use Rattle.std.proofs.Common.{◌<◌, None, length, get_or, sym, ap, subst, arith}
+use Rattle.std.proofs.Common.{◌<◌, None, length, sym, subst, arith}
 use Rattle.sd_hand.specs.Hands.{StandsInSlot}
 use Rattle.sd_hand.proofs.SlotLemmas.{has_nowhere, same_default, stands_at_slot}
 use Rattle.sd_hand.proofs.hand.where_in.Goals as goal

@@ -1,4 +1,4 @@
-use Rattle.std.proofs.Common.{refl, sym, ap, ◌∙◌}
+use Rattle.std.proofs.Common.{refl, sym}
 use Rattle.sd_machine.specs.States.{thread_of}
 use Rattle.sd_shown.specs.Standing.{record_of}
 use Rattle.sd_hand.specs.Steps.{stepped}

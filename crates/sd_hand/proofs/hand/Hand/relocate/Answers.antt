@@ -1,7 +1,6 @@
 use Rattle.std.proofs.Common.{◌≡◌, Some, is_some, sym, ap, ◌∙◌, subst}
 use Rattle.sd_shown.specs.Standing.{home_at}
-use Rattle.sd_homes.specs.Families.{putting, taken_from, taking}
-use Rattle.sd_record.specs.Records.{ThreadRecord}
+use Rattle.sd_homes.specs.Families.{putting}
 use Rattle.sd_hand.specs.Hands.{AreApart, edit, has_thread, held}
 use Rattle.sd_hand.specs.Steps.{stepped}
 use Rattle.sd_hand.proofs.HasLemmas.{left_apart, left_held, none_taken, taken_id, went_apart, went_has, went_held}

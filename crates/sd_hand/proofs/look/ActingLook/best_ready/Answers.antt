@@ -1,7 +1,6 @@
 use Rattle.std.proofs.Common.{◌≡◌, Some, option_map, slice_get, inl, inr, refl, sym, ap, ◌∙◌}
 use Rattle.sd_types.specs.declared.numbers.HomeId.TheVariants.{Cpu, RealTime}
 use Rattle.sd_types.specs.declared.numbers.SetId.{SetId}
-use Rattle.sd_machine.specs.declared.states.State.{State}
 use Rattle.sd_machine.specs.States.{cpu_of}
 use Rattle.sd_full.specs.Threads.{best_ready}
 use Rattle.sd_store.specs.Parts.{number, ready_parts, real_time_part, view_of}

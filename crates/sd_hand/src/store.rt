@@ -1,0 +1,160 @@
+//! Changing a state by a hand: each change is made in the homes that are held, and by the processor that acts.
+
+use crate::acting::Acting;
+use crate::changes::{marked, unmarked};
+use crate::steps::{Step, is_there, list_by, list_put};
+use crate::walks::{next_walk_at, walk_at};
+use sd_flat::duty_after;
+use sd_homes::home_at;
+use sd_machine::LockState;
+use sd_shown::ListId;
+use sd_store::{BodyChange, Chore, Destination, Part, Store, duty_of, place_by, place_put, rouse};
+use sd_types::{ChanId, CpuId, LockId, Put, ThreadId, Work};
+
+impl Store for Acting {
+    fn set_duty(&mut self, c: CpuId, chore: Chore) -> Result<(), Part> {
+        self.give(c, duty_of(chore))
+    }
+
+    fn begin_rouse(&mut self, number: u64, c: CpuId, k: ChanId) -> Result<(), Part> {
+        match self.give(c, rouse(number, k)) {
+            Err(q) => Err(q),
+            Ok(()) => Ok(()),
+        }
+    }
+
+    fn begin_walk(&mut self, c: CpuId, t: ThreadId) -> Result<(), Part> {
+        let at = match self.hand.where_is(t) {
+            Err(q) => return Err(q),
+            Ok(at) => at,
+        };
+        match walk_at(t, at, self.hand.find(t, at)) {
+            None => Ok(()),
+            Some(duty) => match self.give(c, duty) {
+                Err(q) => Err(q),
+                Ok(()) => Ok(()),
+            },
+        }
+    }
+
+    fn walk_on(&mut self, c: CpuId, o: ThreadId) -> Result<(), Part> {
+        if c.0 != self.actor.cpu.0 {
+            return Err(Part::Actor(c));
+        }
+        let at = match self.hand.where_is(o) {
+            Err(q) => return Err(q),
+            Ok(at) => at,
+        };
+        let duty = next_walk_at(self.actor.duty, o, at, self.hand.find(o, at));
+        match self.give(c, duty) {
+            Err(q) => Err(q),
+            Ok(()) => Ok(()),
+        }
+    }
+
+    fn count_tick(&mut self, work: &Work, c: CpuId) -> Result<(), Part> {
+        if c.0 != self.actor.cpu.0 {
+            return Err(Part::Actor(c));
+        }
+        if self.actor.count < work.limit {
+            let count = self.actor.count + 1;
+            self.actor.duty = duty_after(work, count, self.actor.duty);
+            self.actor.count = count;
+        }
+        Ok(())
+    }
+
+    fn clear_marks(&mut self, c: CpuId) -> Result<(), Part> {
+        match self.hand.view(c) {
+            Err(q) => Err(q),
+            Ok(view) => {
+                self.set_view(c, unmarked(view));
+                Ok(())
+            }
+        }
+    }
+
+    fn set_mark(&mut self, c: CpuId, m: u8) -> Result<(), Part> {
+        match self.hand.view(c) {
+            Err(q) => Err(q),
+            Ok(view) => {
+                self.set_view(c, marked(m, view));
+                Ok(())
+            }
+        }
+    }
+
+    fn change_body(&mut self, work: &Work, t: ThreadId, change: BodyChange) -> Result<(), Part> {
+        match self.hand.where_is(t) {
+            Err(q) => Err(q),
+            Ok(at) => {
+                self.hand.change_at(work, t, at, change);
+                Ok(())
+            }
+        }
+    }
+
+    fn run_on(&mut self, t: ThreadId, c: CpuId) -> Result<(), Part> {
+        let from = match self.hand.where_is(t) {
+            Err(q) => return Err(q),
+            Ok(from) => from,
+        };
+        match self.hand.first(ListId::Runs(c)) {
+            Err(q) => Err(q),
+            // None of the states that are shown asks for this.
+            Ok(Some(_other)) => Ok(()),
+            Ok(None) => {
+                self.relocate(t, from, Step::Arrive(c), ListId::Runs(c));
+                Ok(())
+            }
+        }
+    }
+
+    fn leave(&mut self, number: u64, c: CpuId, t: ThreadId, to: Destination) -> Result<(), Part> {
+        if c.0 != self.actor.cpu.0 {
+            return Err(Part::Actor(c));
+        }
+        let view = match self.hand.view(c) {
+            Err(q) => return Err(q),
+            Ok(view) => view,
+        };
+        let list = list_by(c, to);
+        match self.hand.home(home_at(list)) {
+            Err(q) => Err(q),
+            Ok(_) => {
+                if is_there(list) {
+                    let step = Step::Depart(self.actor.count, place_by(number, c, to));
+                    self.relocate(t, ListId::Runs(c), step, list);
+                    self.unmark(c, view);
+                }
+                Ok(())
+            }
+        }
+    }
+
+    fn enqueue(&mut self, work: &Work, number: u64, t: ThreadId, at: Put) -> Result<(), Part> {
+        let from = match self.hand.where_is(t) {
+            Err(q) => return Err(q),
+            Ok(from) => from,
+        };
+        let to = list_put(work, t, at);
+        match self.hand.home(home_at(to)) {
+            Err(q) => Err(q),
+            Ok(_) => {
+                let place = place_put(work, number, t, at);
+                self.relocate(t, from, Step::Move(place), to);
+                Ok(())
+            }
+        }
+    }
+
+    fn set_lock(&mut self, l: LockId, lock: LockState) -> Result<(), Part> {
+        match self.hand.lock(l) {
+            Err(q) => Err(q),
+            Ok(_) => {
+                self.hand.set_lock(l, lock);
+                Ok(())
+            }
+        }
+    }
+}

@@ -1,7 +1,0 @@
-use Rattle.std.proofs.Common.{◌≡◌, ◌≤◌, length, take}
-use Rattle.sd_full.specs.Changes.{without_cpu}
-use Rattle.sd_homes.proofs.real_time.without_cpu.Given as goal
-
-abbrev pub invariant-loop-d : goal.invariant-loop-d
-invariant-loop-d l =
-    (l.rest.items ≡ without_cpu l.c (take l.d-index l.d-items)) × (length l.rest.items ≤ l.d-index)
