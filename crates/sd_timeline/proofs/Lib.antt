@@ -1,2 +1,3 @@
 pub mod PictureLemmas
 pub mod RowLemmas
+pub mod FoldLemmas

@@ -1,5 +1,5 @@
 -- Which bytes pictures are made of.
-use Rattle.std.proofs.Common.{ℕ, ◌+◌, ◌-◌, ◌%◌, Bool, true, false, eqb, ltb, List, [], ◌∷◌, ◌++◌, length, Option, Some, None, refl, ◌∙◌}
+use Rattle.std.proofs.Common.{ℕ, ◌+◌, ◌-◌, ◌%◌, Bool, true, false, ◌&&◌, eqb, ltb, List, [], ◌∷◌, ◌++◌, length, Option, Some, None, refl, ◌∙◌}
 use Rattle.std.specs.Prelude.{codes, slice_get}
 use Rattle.std.specs.List.{flat_map, range_with_len}
 use Rattle.std.proofs.lemmas.List.Folds.{list_all-append}
@@ -34,8 +34,9 @@ use Rattle.sd_labels.proofs.PlainLemmas.{thread-plain, lock-plain, doing-plain, 
 use Rattle.sd_labels.proofs.TextLemmas.{plain-text, flat-text, either-text, decimal-text, thread-text, lock-text, chan-text, set-text}
 use Rattle.sd_timeline.specs.declared.layouts.Row.{Row}
 use Rattle.sd_timeline.specs.declared.layouts.Row.TheVariants.{Cpu, Thread}
+use Rattle.sd_timeline.specs.declared.folds.Column.{Column}
 use Rattle.sd_timeline.specs.declared.frames.Frame.{Frame}
-use Rattle.sd_timeline.specs.Layouts.{Layout, above, across, after, axes, axis_base, base, beside, bottom, column, floor, inside, over, row_of, shifted, shown, shows, step, top, under, width}
+use Rattle.sd_timeline.specs.Layouts.{Layout, above, across, axes, axis_base, base, beside, bottom, column, depth, floor, inside, is_clear, over, row_of, shifted, shown, shows, step, top, under, width}
 use Rattle.sd_timeline.specs.declared.legend.Key.{Key}
 use Rattle.sd_timeline.specs.declared.legend.Key.TheVariants as key
 use Rattle.sd_timeline.specs.declared.legend.Shape.{Shape}
@@ -43,11 +44,11 @@ use Rattle.sd_timeline.specs.declared.legend.Shape.TheVariants as shape
 use Rattle.sd_timeline.specs.Pieces.{attribute, box_text, ends_text, path_ends, path_start, bar_start, label_start, word_label, number_label, grid_line}
 use Rattle.sd_timeline.specs.Bars.{bar_text, between, cpu_word, doing_class, fits, on_bar, on_thread_bar, place_text, run_bar, run_bar_by, stretch_bar, stretch_title, times_text, word_text}
 use Rattle.sd_timeline.specs.Arrows.{arrow_start, hand_path, hand_rows, hand_text, hand_texts, hand_title, heights, is_drawn_wake, nth_at, waiter_text, wake_by, wake_path, wake_rows, wake_text, wake_title}
-use Rattle.sd_timeline.specs.Labels.{has_room, inherited_level, inherited_word, level_area, level_label, level_text, level_title, mark_at, mark_text, own_level, some_level}
+use Rattle.sd_timeline.specs.Labels.{fold_text, fold_title, has_room, inherited_level, inherited_word, level_area, level_label, level_text, level_title, many_text, mark_at, mark_text, own_level, some_level}
 use Rattle.sd_timeline.specs.Legend.{Drawn, box_key, class_of, drawn_of, key_at, key_if, key_text, keys_of, keys_text, legend_text, line_key, sample_key, sample_of, shape_of, slot_x, slot_y, words_of}
 use Rattle.sd_timeline.specs.Moments.{cpu_moment, is_moment, moment_line, moment_lines, moment_text, thread_moment}
 use Rattle.sd_timeline.specs.Notes.{assign_note, bind_note, bound_words, note_by, note_text, set_note, set_words, thread_note}
-use Rattle.sd_timeline.specs.Head.{axis, bound_label, counts_text, cpu_head, dark_colours, description, file_title, hatch, head, heading, hint, inner_number, letters, light_colours, lines, mark, mark_if, measures, opened, page, rowless, rowless_text, set_label, size, small_letters, start, style, thin_lines, thread_head, ticks_text, view_box}
+use Rattle.sd_timeline.specs.Head.{axis, bound_label, counts_text, cpu_head, dark_colours, description, file_title, fold_marks, hatch, head, heading, hint, inner_number, letters, light_colours, lines, mark, mark_if, measures, opened, page, rowless, rowless_text, set_label, size, small_letters, start, style, thin_lines, thread_head, ticks_text, view_box}
 use Rattle.sd_timeline.specs.Picture.{bound_of, ground_text, laid_out, marks_text, own_row, row_text, rows_text, thread_text, timeline_text}
 use Rattle.sd_timeline.specs.Rows.{layout_of}
 use Rattle.sd_timeline.specs.Plain.{HasPlainTitles}
@@ -308,6 +309,16 @@ note-by-text w f x _ = refl
 note-text : (w : Work) (f : Layout) (x : Happening) → IsText (note_text w f x)
 note-text w f x = either-text (shows f x.tick) (note_by w f x x.event) [] (note-by-text w f x x.event) refl
 
+fold-title-text : (x : Column) → IsText (fold_title x)
+unfolding fold_title many_text between
+fold-title-text x = simp (list_all-append is_text_byte, decimal-text)
+
+fold-text : (f : Layout) (x : Column) → IsText (fold_text f x)
+unfolding fold_text
+fold-text f x =
+    let begins = bar-start-text (codes "page") (column f x.from) 118 (width f x.from x.to) (depth f) refl in
+    simp (list_all-append is_text_byte, begins, fold-title-text x)
+
 mark-at-text : (f : Layout) (row : Option ℕ) → IsText (mark_at f row)
 mark-at-text f None = refl
 mark-at-text f (Some row) = word-label-text (codes "dead") (inside f f.to) (base f (Thread row)) (codes "deadlock") refl refl
@@ -361,27 +372,37 @@ hint-text : (w : Work) (f : Layout) → IsText (hint w f)
 unfolding hint
 hint-text w f = simp (list_all-append is_text_byte, label-start-text (codes "key") 150 34 refl, rowless-text w f)
 
-inner-number-text : (f : Layout) (n k : ℕ) → IsText (inner_number f n k)
+inner-number-text : (f : Layout) (tick k : ℕ) → IsText (inner_number f tick k)
 unfolding inner_number
-inner-number-text f n k = number-label-text (codes "tick") (after f n) (axis_base f k) [] (f.from + n) refl refl
+inner-number-text f tick k = number-label-text (codes "tick") (column f tick) (axis_base f k) [] tick refl refl
 
-tick-text : (f : Layout) (n : ℕ) → IsText (mark f n)
+tick-text : (f : Layout) (tick : ℕ) → IsText (mark f tick)
 unfolding mark
-tick-text f n =
+tick-text f tick =
     simp (
       list_all-append is_text_byte,
-      line-text (codes "grid") (after f n, 118) (after f n, bottom f) refl,
-      number-label-text (codes "tick") (after f n) 113 [] (f.from + n) refl refl,
-      number-label-text (codes "tick") (after f n) (bottom f + 14) [] (f.from + n) refl refl,
-      flat-text (inner_number f n) (inner-number-text f n) (range_with_len 0 (axes f)),
+      line-text (codes "grid") (column f tick, 118) (column f tick, bottom f) refl,
+      number-label-text (codes "tick") (column f tick) 113 [] tick refl refl,
+      number-label-text (codes "tick") (column f tick) (bottom f + 14) [] tick refl refl,
+      flat-text (inner_number f tick) (inner-number-text f tick) (range_with_len 0 (axes f)),
     )
 
 tick-text-if : (f : Layout) (n : ℕ) → IsText (mark_if f n)
-tick-text-if f n = either-text (eqb (n % step f) 0) (mark f n) [] (tick-text f n) refl
+tick-text-if f n = either-text (eqb (n % step f) 0 && is_clear f (f.from + n)) (mark f (f.from + n)) [] (tick-text f (f.from + n)) refl
+
+fold-marks-text : (f : Layout) (x : Column) → IsText (fold_marks f x)
+unfolding fold_marks
+fold-marks-text f x = both-text (mark f x.from) (mark f x.to) (tick-text f x.from) (tick-text f x.to)
 
 axis-text : (f : Layout) → IsText (axis f)
 unfolding axis
-axis-text f = simp (list_all-append is_text_byte, flat-text (mark_if f) (tick-text-if f) (range_with_len 0 (shown f)), tick-text-if f (shown f))
+axis-text f =
+    simp (
+      list_all-append is_text_byte,
+      flat-text (mark_if f) (tick-text-if f) (range_with_len 0 (shown f)),
+      tick-text-if f (shown f),
+      flat-text (fold_marks f) (fold-marks-text f) f.folds,
+    )
 
 set-label-text : (w : Work) (f : Layout) (c set : ℕ) → IsText (set_label w f c set)
 unfolding set_label
@@ -552,6 +573,7 @@ rows-text w f h parts s =
       flat-text (moment_text w f) (moment-text w f) parts,
       flat-text (note_text w f) (note-text w f) h.happenings.items,
       marks-text w f s,
+      flat-text (fold_text f) (fold-text f) f.folds,
     )
 
 laid-out-text : (w : Work) (f : Layout) (h : History) (s : State) (d : Drawn) → IsText (laid_out w f h s d)

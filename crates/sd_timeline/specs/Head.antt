@@ -1,14 +1,15 @@
 -- What stands above the rows, and the names of the rows.
 -- Source: Scalable Vector Graphics 1.1; the layout is this project's own.
-use Rattle.std.specs.Prelude.{ℕ, ◌+◌, ◌-◌, ◌%◌, ◌==◌, nat_lt, List, [], ◌++◌, length, codes, decimal, Option, Some, None, if◌then◌else◌}
+use Rattle.std.specs.Prelude.{ℕ, ◌+◌, ◌-◌, ◌%◌, ◌&&◌, ◌==◌, nat_lt, List, [], ◌++◌, length, codes, decimal, Option, Some, None, if◌then◌else◌}
 use Rattle.std.specs.List.{flat_map, range_with_len}
 use Rattle.sd_types.specs.declared.numbers.CpuId.{CpuId}
 use Rattle.sd_types.specs.declared.works.Work.{Work}
 use Rattle.sd_types.specs.Partitions.{set_of_cpu}
 use Rattle.sd_full.specs.Texts.{set_name}
 use Rattle.sd_machine.specs.Texts.{thread_name}
+use Rattle.sd_timeline.specs.declared.folds.Column.{Column}
 use Rattle.sd_timeline.specs.declared.layouts.Row.TheVariants.{Cpu, Thread}
-use Rattle.sd_timeline.specs.Layouts.{Layout, after, axes, axis_base, base, bottom, column, floor, shown, step, total_width, under}
+use Rattle.sd_timeline.specs.Layouts.{Layout, axes, axis_base, base, bottom, column, floor, is_clear, shown, step, total_width, under}
 use Rattle.sd_timeline.specs.Pieces.{attribute, grid_line, label_start, label_end, number_label, word_label}
 
 unfoldable pub view_box : ℕ → ℕ → List ℕ
@@ -96,19 +97,23 @@ hint w f = label_start (codes "key") 150 34 ++ codes "more where the pointer res
 
 -- the number of a tick on the axis between rows
 unfoldable pub inner_number : Layout → ℕ → ℕ → List ℕ
-inner_number f n k = number_label (codes "tick") (after f n) (axis_base f k) [] (f.from + n)
+inner_number f tick k = number_label (codes "tick") (column f tick) (axis_base f k) [] tick
 
 -- the number of a tick on the axis, a line down from it, and the number again below, and after every 40 rows
 unfoldable pub mark : Layout → ℕ → List ℕ
-mark f n =
-    grid_line (codes "grid") (after f n, 118) (after f n, bottom f) ++ number_label (codes "tick") (after f n) 113 [] (f.from + n)
-    ++ number_label (codes "tick") (after f n) (bottom f + 14) [] (f.from + n) ++ flat_map (inner_number f n) (range_with_len 0 (axes f))
+mark f tick =
+    grid_line (codes "grid") (column f tick, 118) (column f tick, bottom f) ++ number_label (codes "tick") (column f tick) 113 [] tick
+    ++ number_label (codes "tick") (column f tick) (bottom f + 14) [] tick ++ flat_map (inner_number f tick) (range_with_len 0 (axes f))
 
 abbrev pub mark_if : Layout → ℕ → List ℕ
-mark_if f n = if n % step f == 0 then mark f n else []
+mark_if f n = if n % step f == 0 && is_clear f (f.from + n) then mark f (f.from + n) else []
+
+-- the ticks on both sides of a fold
+unfoldable pub fold_marks : Layout → Column → List ℕ
+fold_marks f x = mark f x.from ++ mark f x.to
 
 unfoldable pub axis : Layout → List ℕ
-axis f = flat_map (mark_if f) (range_with_len 0 (shown f)) ++ mark_if f (shown f)
+axis f = flat_map (mark_if f) (range_with_len 0 (shown f)) ++ mark_if f (shown f) ++ flat_map (fold_marks f) f.folds
 
 -- the name of the set of a processor, under its name; the default partition has none
 unfoldable pub set_label : Work → Layout → ℕ → ℕ → List ℕ

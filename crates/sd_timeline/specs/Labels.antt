@@ -6,10 +6,12 @@ use Rattle.sd_types.specs.declared.works.Work.{Work}
 use Rattle.sd_stretches.specs.declared.histories.History.{History}
 use Rattle.sd_stretches.specs.declared.rows.Level.{Level}
 use Rattle.sd_stretches.specs.Rows.{levels}
+use Rattle.sd_timeline.specs.declared.folds.Column.{Column}
 use Rattle.sd_timeline.specs.declared.layouts.Row.TheVariants.{Thread}
-use Rattle.sd_timeline.specs.Layouts.{Layout, above, base, beside, column, inside, over, row_of, width}
+use Rattle.sd_timeline.specs.Layouts.{Layout, above, base, beside, column, depth, inside, over, row_of, width}
 use Rattle.sd_timeline.specs.Pieces.{bar_end, bar_start, word_label, number_label}
 use Rattle.sd_timeline.specs.Bars.{between}
+use Rattle.sd_timeline.specs.Folds.{many}
 
 abbrev pub own_level : Layout → ℕ → Level → List ℕ
 own_level f t x = number_label (codes "own") (beside f x.from) (above f t) [] x.priority
@@ -53,6 +55,16 @@ level_area f t x = bar_start (codes "level") (column f x.from) (over f t) (width
 -- none where no tick of it is drawn
 abbrev pub level_text : Layout → ℕ → Level → List ℕ
 level_text f t x = if width f x.from x.to == 0 then [] else level_label f t x ++ level_area f t x
+
+unfoldable pub many_text : ℕ → List ℕ
+many_text n = codes "nothing changes in these ticks: " ++ decimal n
+
+unfoldable pub fold_title : Column → List ℕ
+fold_title x = many_text (many x) ++ between (codes ", ") x.from x.to
+
+-- a gap across the rows, which tells how many ticks are folded
+unfoldable pub fold_text : Layout → Column → List ℕ
+fold_text f x = bar_start (codes "page") (column f x.from) 118 (width f x.from x.to) (depth f) ++ fold_title x ++ bar_end
 
 abbrev pub mark_at : Layout → Option ℕ → List ℕ
 mark_at f None = []

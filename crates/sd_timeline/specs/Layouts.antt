@@ -1,60 +1,58 @@
 -- Where things stand in the picture.
 -- Source: this project's own.
-use Rattle.std.specs.Prelude.{ℕ, Bool, ◌&&◌, ◌+◌, ◌-◌, ◌*◌, ◌/◌, ◌%◌, ◌==◌, min, max, nat_le, nat_lt, List, Option, Some, None, if◌then◌else◌}
-use Rattle.std.specs.List.{position}
+use Rattle.std.specs.Prelude.{ℕ, Bool, not, ◌&&◌, ◌+◌, ◌-◌, ◌*◌, ◌/◌, ◌%◌, ◌==◌, min, max, nat_le, nat_lt, List, Option, Some, None, if◌then◌else◌}
+use Rattle.std.specs.List.{list_any, position}
+use Rattle.sd_timeline.specs.declared.folds.Column.{Column}
 use Rattle.sd_timeline.specs.declared.layouts.Row.{Row}
 use Rattle.sd_timeline.specs.declared.layouts.Row.TheVariants.{Cpu, Thread}
+use Rattle.sd_timeline.specs.Folds.{place_from}
 
--- what is drawn: the ticks from `from` to `to`, a row for each processor, and one for each of these threads, in this order, for
--- which there is room for so many
+-- what is drawn: the ticks from `from` to `to`, so many pixels each, but for those that are folded; a row for each processor, and
+-- one for each of these threads, in this order, for which there is room for so many
 pub record Layout : Type 0 where
   pub from : ℕ
   pub to : ℕ
   pub cpus : ℕ
   pub threads : ℕ
   pub rows : List ℕ
+  pub scale : ℕ
+  pub folds : List Column
 
 -- how many ticks are drawn
 abbrev pub shown : Layout → ℕ
 shown f = f.to - f.from
 
--- so many pixels a tick are not too many
-abbrev pub fits_page : Layout → ℕ → Bool
-fits_page f scale = nat_le (shown f * scale) 1000
-
--- how many pixels a tick is long: the widest of nine scales that fits, and two where none does
-unfoldable pub scale : Layout → ℕ
-scale f =
-    if fits_page f 20 then 20 else if fits_page f 15 then 15 else if fits_page f 10 then 10 else if fits_page f 8 then 8
-    else if fits_page f 7 then 7 else if fits_page f 5 then 5 else if fits_page f 4 then 4 else if fits_page f 3 then 3 else 2
-
--- ticks as a length
-abbrev pub scaled : Layout → ℕ → ℕ
-scaled f ticks = ticks * scale f
-
 -- how many ticks lie between the numbers of the axis
 abbrev pub step : Layout → ℕ
-step f = if nat_le (shown f) 50 then 5 else if nat_le (shown f) 100 then 10 else if nat_le (shown f) 200 then 20 else if nat_le (shown f) 333 then 50 else 100
+step f = if nat_le 20 f.scale then 5 else if nat_le 10 f.scale then 10 else if nat_le 5 f.scale then 20 else if nat_le 3 f.scale then 50 else 100
 
 -- how far a tick lies from the first one that is drawn; one that is not drawn lies at the nearer edge
-abbrev pub offset : Layout → ℕ → ℕ
-offset f tick = min (max tick f.from) f.to - f.from
+abbrev pub place : Layout → ℕ → ℕ
+place f tick = place_from f.scale f.from (min (max tick f.from) f.to) f.folds
 
 -- where a tick begins, from the left
 abbrev pub column : Layout → ℕ → ℕ
-column f tick = 150 + scaled f (offset f tick)
+column f tick = 150 + place f tick
 
 -- how long the part that is drawn of the ticks from a to b is
 abbrev pub width : Layout → ℕ → ℕ → ℕ
-width f a b = scaled f (offset f b - offset f a)
+width f a b = place f b - place f a
 
 -- where the text on a bar begins that begins with a tick
 abbrev pub inside : Layout → ℕ → ℕ
-inside f tick = 152 + scaled f (offset f tick)
+inside f tick = 152 + place f tick
 
 -- where the priority stands that a thread has from a tick on: beside the line that may end there
 abbrev pub beside : Layout → ℕ → ℕ
-beside f tick = 155 + scaled f (offset f tick)
+beside f tick = 155 + place f tick
+
+-- a fold lies so near a tick, or nearer
+abbrev pub is_near : ℕ → ℕ → Column → Bool
+is_near room tick x = nat_le x.from (tick + room) && nat_le tick (x.to + room)
+
+-- a number of the axis has room where no fold lies near it
+abbrev pub is_clear : Layout → ℕ → Bool
+is_clear f tick = not (list_any (is_near (step f / 3) tick) f.folds)
 
 -- the number of a row among all rows
 abbrev pub number : Layout → Row → ℕ
@@ -94,10 +92,6 @@ abbrev pub under : Layout → Row → ℕ
 under f (Cpu c) = 150 + lowered f (Cpu c)
 under f (Thread t) = 179 + lowered f (Thread t)
 
--- where the tick lies that is so many behind the first one
-abbrev pub after : Layout → ℕ → ℕ
-after f ticks = 150 + scaled f ticks
-
 -- the base line of the priorities of a thread, above its bars
 abbrev pub above : Layout → ℕ → ℕ
 above f t = 152 + lowered f (Thread t)
@@ -108,7 +102,7 @@ over f t = 142 + lowered f (Thread t)
 
 -- where the arrow begins that is number n, from 0, among those of a tick
 abbrev pub shifted : Layout → ℕ → ℕ → ℕ
-shifted f tick n = 150 + scaled f (offset f tick) + 4 * (n % 8)
+shifted f tick n = 150 + place f tick + 4 * (n % 8)
 
 -- the number of the last row
 abbrev pub last_row : Layout → ℕ
@@ -128,8 +122,12 @@ axis_base f k = between_rows f (40 * (k + 1))
 abbrev pub bottom : Layout → ℕ
 bottom f = 146 + (24 * f.cpus + 40 * f.threads) + gap (last_row f)
 
+-- how far the last row reaches below the axis
+abbrev pub depth : Layout → ℕ
+depth f = bottom f - 118
+
 abbrev pub total_width : Layout → ℕ
-total_width f = max (240 + scaled f (shown f)) 920
+total_width f = max (240 + place f f.to) 920
 
 -- a tick is drawn, or ends what is drawn
 abbrev pub shows : Layout → ℕ → Bool

@@ -18,7 +18,7 @@ use Rattle.sd_timeline.specs.Layouts.{Layout, row_of}
 use Rattle.sd_timeline.specs.Rows.{layout_of}
 use Rattle.sd_timeline.specs.Bars.{run_bar, stretch_bar}
 use Rattle.sd_timeline.specs.Arrows.{hand_texts, wake_text}
-use Rattle.sd_timeline.specs.Labels.{level_text, mark_text}
+use Rattle.sd_timeline.specs.Labels.{fold_text, level_text, mark_text}
 use Rattle.sd_timeline.specs.Head.{bound_label, head, thread_head}
 use Rattle.sd_timeline.specs.Legend.{Drawn, drawn_of, legend_text}
 use Rattle.sd_timeline.specs.Moments.{moment_text}
@@ -56,7 +56,7 @@ ground_text w f h d = head w f ++ legend_text w f h d ++ (flat_map (wake_text w 
 unfoldable pub rows_text : Work → Layout → History → List Stretch → State → List ℕ
 rows_text w f h pieces s =
     flat_map (thread_text w f h s) (range_with_len 0 (length w.threads)) ++ flat_map (moment_text w f) pieces
-    ++ flat_map (note_text w f) h.happenings.items ++ marks_text w f s
+    ++ flat_map (note_text w f) h.happenings.items ++ marks_text w f s ++ flat_map (fold_text f) f.folds
 
 unfoldable pub laid_out : Work → Layout → History → State → Drawn → List ℕ
 laid_out w f h s d = ground_text w f h d ++ rows_text w f h d.pieces s ++ codes "</svg>\n"

@@ -9,6 +9,7 @@ use Rattle.sd_stretches.specs.declared.histories.History.{History}
 use Rattle.sd_stretches.specs.declared.rows.Stretch.{Stretch}
 use Rattle.sd_stretches.specs.Rows.{stretches}
 use Rattle.sd_timeline.specs.declared.frames.Frame.{Frame}
+use Rattle.sd_timeline.specs.Folds.{folds, scale_of}
 use Rattle.sd_timeline.specs.Layouts.{Layout}
 
 abbrev pub has_run : Doing → Bool
@@ -44,7 +45,15 @@ rows_of w f h =
 
 -- what is drawn of a run
 abbrev pub layout_of : Work → Frame → History → Layout
-layout_of w f h = record { from = f.from; to = f.to; cpus = f.cpus; threads = f.threads; rows = rows_of w f h }
+layout_of w f h = record {
+  from = f.from;
+  to = f.to;
+  cpus = f.cpus;
+  threads = f.threads;
+  rows = rows_of w f h;
+  scale = scale_of f (folds f h);
+  folds = folds f h;
+}
 
 -- ---- laws
 

@@ -1,10 +1,11 @@
 //! What stands above the rows, and the names of the rows.
 
-ghost use Rattle.std.specs.Prelude.{◌≡◌, ◌+◌, ◌++◌, ◌<◌, ◌^◌, OnOk, codes, decimal, flat_map};
+ghost use Rattle.std.specs.Prelude.{◌≡◌, ◌+◌, ◌++◌, ◌<◌, ◌≤◌, ◌^◌, OnOk, codes, decimal, flat_map};
 ghost use Rattle.std.specs.List.{range_with_len};
-ghost use Rattle.sd_timeline.specs.Layouts.{axes};
-ghost use Rattle.sd_timeline.specs.Head.{axis, bound_label, counts_text, cpu_head, dark_colours, description, file_title, hatch, head, heading, hint, inner_number, letters, light_colours, lines, mark, mark_if, measures, opened, page, rowless, rowless_text, set_label, size, small_letters, start, style, thin_lines, thread_head, ticks_text, view_box};
+ghost use Rattle.sd_timeline.specs.Layouts.{axes, shown};
+ghost use Rattle.sd_timeline.specs.Head.{axis, bound_label, counts_text, cpu_head, dark_colours, description, file_title, fold_marks, hatch, head, heading, hint, inner_number, letters, light_colours, lines, mark, mark_if, measures, opened, page, rowless, rowless_text, set_label, size, small_letters, start, style, thin_lines, thread_head, ticks_text, view_box};
 
+use crate::folds::Column;
 use crate::layouts::{Layout, Row};
 use crate::pieces::{
     put_attribute, put_label_end, put_label_start, put_line, put_number_label, put_word_label,
@@ -238,59 +239,80 @@ fn put_hint(work: &Work, layout: &Layout, out: &mut Vec<u8>) -> Result<(), Alloc
 
 // The number of a tick on the axis between rows.
 #[tactic(auto, unfolding(crate::specs::Head::inner_number))]
-fn put_inner_number(layout: &Layout, n: u32, k: u32, out: &mut Vec<u8>) -> Result<(), AllocError>
+fn put_inner_number(layout: &Layout, tick: u32, k: u32, out: &mut Vec<u8>) -> Result<(), AllocError>
     requires { k < 2 ^ 17 }
-    ensures { OnOk result (out.new.items ≡ out.old.items ++ inner_number layout.now n k) }
+    ensures { OnOk result (out.new.items ≡ out.old.items ++ inner_number layout.now tick k) }
 {
-    let tick = u64::from(layout.from) + u64::from(n);
     put_number_label(
         b"tick",
-        layout.after(n),
+        layout.column(tick),
         layout.axis_base(k),
         b"",
-        tick,
+        u64::from(tick),
         out,
     )
 }
 
 // After every 40 rows.
-fn put_inner_numbers(layout: &Layout, n: u32, out: &mut Vec<u8>) -> Result<(), AllocError>
-    ensures { OnOk result (out.new.items ≡ out.old.items ++ flat_map (inner_number layout.now n) (range_with_len 0 (axes layout.now))) }
+fn put_inner_numbers(layout: &Layout, tick: u32, out: &mut Vec<u8>) -> Result<(), AllocError>
+    ensures { OnOk result (out.new.items ≡ out.old.items ++ flat_map (inner_number layout.now tick) (range_with_len 0 (axes layout.now))) }
 {
     for k in 0..layout.axes() {
-        put_inner_number(layout, n, k, out)?;
+        put_inner_number(layout, tick, k, out)?;
     }
     Ok(())
 }
 
 // The number of a tick on the axis above, a line down from it, and the number again below and after every 40 rows.
 #[tactic(auto, unfolding(crate::specs::Head::mark))]
-fn put_mark(layout: &Layout, n: u32, out: &mut Vec<u8>) -> Result<(), AllocError>
-    ensures { OnOk result (out.new.items ≡ out.old.items ++ mark layout.now n) }
+fn put_mark(layout: &Layout, tick: u32, out: &mut Vec<u8>) -> Result<(), AllocError>
+    ensures { OnOk result (out.new.items ≡ out.old.items ++ mark layout.now tick) }
 {
-    let x = layout.after(n);
-    let tick = u64::from(layout.from) + u64::from(n);
+    let x = layout.column(tick);
+    let number = u64::from(tick);
     put_line(b"grid", (x, 118), (x, layout.bottom()), out)?;
-    put_number_label(b"tick", x, 113, b"", tick, out)?;
-    put_number_label(b"tick", x, layout.bottom() + 14, b"", tick, out)?;
-    put_inner_numbers(layout, n, out)
+    put_number_label(b"tick", x, 113, b"", number, out)?;
+    put_number_label(b"tick", x, layout.bottom() + 14, b"", number, out)?;
+    put_inner_numbers(layout, tick, out)
 }
 
+// The mark of tick n of those that are drawn.
 fn put_mark_if(layout: &Layout, n: u32, out: &mut Vec<u8>) -> Result<(), AllocError>
+    requires { n ≤ shown layout.now }
     ensures { OnOk result (out.new.items ≡ out.old.items ++ mark_if layout.now n) }
 {
-    if n % layout.step() == 0 {
-        put_mark(layout, n, out)
+    let tick = layout.tick(n);
+    if n % layout.step() == 0 && layout.is_clear(tick) {
+        put_mark(layout, tick, out)
     } else {
         Ok(())
     }
 }
 
 fn put_ticks_before(layout: &Layout, count: u32, out: &mut Vec<u8>) -> Result<(), AllocError>
+    requires { count ≤ shown layout.now }
     ensures { OnOk result (out.new.items ≡ out.old.items ++ flat_map (mark_if layout.now) (range_with_len 0 count)) }
 {
     for n in 0..count {
         put_mark_if(layout, n, out)?;
+    }
+    Ok(())
+}
+
+// The ticks on both sides of a fold.
+#[tactic(auto, unfolding(crate::specs::Head::fold_marks))]
+fn put_fold_marks(layout: &Layout, x: &Column, out: &mut Vec<u8>) -> Result<(), AllocError>
+    ensures { OnOk result (out.new.items ≡ out.old.items ++ fold_marks layout.now x.now) }
+{
+    put_mark(layout, x.from, out)?;
+    put_mark(layout, x.to, out)
+}
+
+fn put_folds(layout: &Layout, folds: &[Column], out: &mut Vec<u8>) -> Result<(), AllocError>
+    ensures { OnOk result (out.new.items ≡ out.old.items ++ flat_map (fold_marks layout.now) folds.now) }
+{
+    for x in folds {
+        put_fold_marks(layout, x, out)?;
     }
     Ok(())
 }
@@ -301,7 +323,8 @@ fn put_axis(layout: &Layout, out: &mut Vec<u8>) -> Result<(), AllocError>
     ensures { OnOk result (out.new.items ≡ out.old.items ++ axis layout.now) }
 {
     put_ticks_before(layout, layout.shown(), out)?;
-    put_mark_if(layout, layout.shown(), out)
+    put_mark_if(layout, layout.shown(), out)?;
+    put_folds(layout, &layout.folds, out)
 }
 
 // The name of the set of a processor, under its name; the default partition has none.

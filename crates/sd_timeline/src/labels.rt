@@ -1,9 +1,10 @@
 //! The priorities above the bars, and the marks of deadlocks.
 
 ghost use Rattle.std.specs.Prelude.{◌≡◌, ◌++◌, ◌∷◌, [], IfOk, OnOk, filter, flat_map, if◌then◌else◌};
-ghost use Rattle.sd_timeline.specs.Labels.{has_room, inherited_level, inherited_word, labelled, labelled_by, level_area, level_label, level_text, level_title, mark_text, own_level, some_level};
+ghost use Rattle.sd_timeline.specs.Labels.{fold_text, fold_title, has_room, inherited_level, inherited_word, labelled, labelled_by, level_area, level_label, level_text, level_title, many_text, mark_text, own_level, some_level};
 
 use crate::bars::put_between;
+use crate::folds::Column;
 use crate::layouts::{Layout, Row};
 use crate::pieces::{put_bar_end, put_bar_start, put_number_label, put_word_label};
 use sd_labels::put_counted;
@@ -184,6 +185,54 @@ pub(crate) fn put_levels(
 {
     for x in own {
         put_level(layout, t, x, out)?;
+    }
+    Ok(())
+}
+
+#[tactic(auto, unfolding(crate::specs::Labels::many_text))]
+fn put_many(n: u64, out: &mut Vec<u8>) -> Result<(), AllocError>
+    ensures { OnOk result (out.new.items ≡ out.old.items ++ many_text n) }
+{
+    put_counted(b"nothing changes in these ticks: ", n, out)
+}
+
+// How many ticks are folded, and which.
+#[tactic(auto, unfolding(crate::specs::Labels::fold_title))]
+fn put_fold_title(x: &Column, out: &mut Vec<u8>) -> Result<(), AllocError>
+    ensures { OnOk result (out.new.items ≡ out.old.items ++ fold_title x.now) }
+{
+    put_many(x.many(), out)?;
+    put_between(b", ", u64::from(x.from), u64::from(x.to), out)
+}
+
+// A gap across the rows, which tells how many ticks are folded.
+#[tactic(auto, unfolding(crate::specs::Labels::fold_text))]
+fn put_fold(layout: &Layout, x: &Column, out: &mut Vec<u8>) -> Result<(), AllocError>
+    ensures { OnOk result (out.new.items ≡ out.old.items ++ fold_text layout.now x.now) }
+{
+    let width = layout.width(x.from, x.to);
+    put_bar_start(
+        b"page",
+        layout.column(x.from),
+        118,
+        width,
+        layout.depth(),
+        out,
+    )?;
+    put_fold_title(x, out)?;
+    put_bar_end(out)
+}
+
+/// The gaps of the ticks that are folded.
+pub(crate) fn put_gaps(
+    layout: &Layout,
+    folds: &[Column],
+    out: &mut Vec<u8>,
+) -> Result<(), AllocError>
+    ensures { OnOk result (out.new.items ≡ out.old.items ++ flat_map (fold_text layout.now) folds.now) }
+{
+    for x in folds {
+        put_fold(layout, x, out)?;
     }
     Ok(())
 }

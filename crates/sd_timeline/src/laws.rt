@@ -1,7 +1,14 @@
 //! Laws of pictures and of what is shown in them, with nothing to run.
 
+ghost use Rattle.sd_timeline.specs.Folds.{AllFoldsAreQuiet};
 ghost use Rattle.sd_timeline.specs.Rows.{ActingThreadsComeFirst, AllRowsAreOwn};
 ghost use Rattle.sd_timeline.specs.Plain.{TimelinesArePlain, TitlesNeedNoEscaping};
+
+/// Each tick that was asked for is in one column of the picture, in order; the columns of more than one tick are those that are folded,
+/// and nothing changes in them: neither what a thread does nor its priority, nor anything else by an entry.
+pub fn folds_are_quiet()
+    ensures { AllFoldsAreQuiet }
+{}
 
 /// The title of each bar and of each arrow needs no escaping, in the sense of `names_need_no_escaping` of `sd_labels`.
 pub fn titles_need_no_escaping()

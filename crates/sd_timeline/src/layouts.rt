@@ -1,13 +1,14 @@
 //! Where things stand in the picture, in its units (pixels, where it is not scaled).
 
-ghost use Rattle.std.specs.Prelude.{◌≡◌, ◌+◌, ◌*◌, ◌<◌, ◌^◌, ◌==◌};
-ghost use Rattle.std.specs.List.{position};
-ghost use Rattle.sd_timeline.specs.Layouts.{Layout as LayoutValue, above, across, after, axes, axis_base, base, beside, between_rows, bottom, column, fits_page, floor, gap, inside, last_row, lowered, number, offset, over, row_if, row_of, scale, scaled, shifted, shown, shows, step, top, total_width, under, width};
+ghost use Rattle.std.specs.Prelude.{◌≡◌, ◌+◌, ◌-◌, ◌*◌, ◌<◌, ◌≤◌, ◌^◌, ◌==◌, length};
+ghost use Rattle.std.specs.List.{list_any, position};
+ghost use Rattle.sd_timeline.specs.Layouts.{Layout as LayoutValue, above, across, axes, axis_base, base, beside, between_rows, bottom, column, depth, floor, gap, inside, is_clear, is_near, last_row, lowered, number, over, place, row_if, row_of, shifted, shown, shows, step, top, total_width, under, width};
 
+use crate::folds::{Column, place_from};
 use std::marker::Model;
 
-/// What is drawn: the ticks from `from` to `to`, a row for each processor, and one for each of the threads `rows`, in this order, for
-/// which there is room for so many.
+/// What is drawn: the ticks from `from` to `to`, so many pixels each, but for those that are folded; a row for each processor, and one
+/// for each of the threads `rows`, in this order, for which there is room for so many.
 #[derive(Drop)]
 pub(crate) struct Layout {
     pub(crate) from: u32,
@@ -15,12 +16,16 @@ pub(crate) struct Layout {
     pub(crate) cpus: u16,
     pub(crate) threads: u16,
     pub(crate) rows: Vec<usize>,
+    pub(crate) scale: u8,
+    pub(crate) folds: Vec<Column>,
 }
 
 impl Model for Layout {
     ghost Value = { LayoutValue };
 
-    ghost view = { λ f. record { from = f.from; to = f.to; cpus = f.cpus; threads = f.threads; rows = f.rows.items } };
+    ghost view = { λ f. record { from = f.from; to = f.to; cpus = f.cpus; threads = f.threads; rows = f.rows.items; scale = f.scale; folds = f.folds.items } };
+
+    ghost invariant = { λ f. length f.folds.items ≤ 1000 };
 }
 
 /// The row of a processor or of a thread, by its number.
@@ -36,6 +41,28 @@ fn gap(n: u32) -> u64
     ensures bound { result < 2 ^ 40 }
 {
     16 * (u64::from(n) / 40)
+}
+
+// A fold lies so near a tick, or nearer.
+fn is_near(room: u32, tick: u32, x: &Column) -> bool
+    ensures { result ≡ is_near room tick x.now }
+{
+    u64::from(x.from) <= u64::from(tick) + u64::from(room)
+        && u64::from(tick) <= u64::from(x.to) + u64::from(room)
+}
+
+fn any_near(room: u32, tick: u32, folds: &[Column]) -> bool
+    ensures { result ≡ list_any (is_near room tick) folds.now }
+{
+    folds.iter().any(|x| is_near(room, tick, x))
+}
+
+// The tick that is so many behind the first.
+fn tick_of(from: u32, to: u32, n: u32) -> u32
+    requires { n ≤ to - from }
+    ensures { result ≡ from + n }
+{
+    from + n
 }
 
 // So many rows of processors and of threads, without the numbers between them.
@@ -54,60 +81,27 @@ impl Layout {
         self.to.saturating_sub(self.from)
     }
 
-    // So many pixels a tick are not too many.
-    fn fits_page(&self, scale: u8) -> bool
-        ensures { result ≡ fits_page self.now scale }
+    /// The tick that is so many behind the first one.
+    pub(crate) fn tick(&self, n: u32) -> u32
+        requires { n ≤ shown self.now }
+        ensures { result ≡ self.now.from + n }
     {
-        u64::from(self.shown()) * u64::from(scale) <= 1000
-    }
-
-    // How many pixels a tick is long: the widest of nine scales that fits, and two where none does.
-    #[tactic(auto, unfolding(crate::specs::Layouts::scale))]
-    fn scale(&self) -> u64
-        ensures value { result ≡ scale self.now }
-        ensures bound { result < 21 }
-    {
-        if self.fits_page(20) {
-            20
-        } else if self.fits_page(15) {
-            15
-        } else if self.fits_page(10) {
-            10
-        } else if self.fits_page(8) {
-            8
-        } else if self.fits_page(7) {
-            7
-        } else if self.fits_page(5) {
-            5
-        } else if self.fits_page(4) {
-            4
-        } else if self.fits_page(3) {
-            3
-        } else {
-            2
-        }
-    }
-
-    // Ticks as a length.
-    fn scaled(&self, ticks: u32) -> u64
-        ensures value { result ≡ scaled self.now ticks }
-        ensures bound { result < 2 ^ 40 }
-    {
-        u64::from(ticks) * self.scale()
+        tick_of(self.from, self.to, n)
     }
 
     /// How many ticks lie between the numbers of the axis.
     pub(crate) fn step(&self) -> u32
         ensures value { result ≡ step self.now }
         ensures some { 0 < result }
+        ensures bound { result < 101 }
     {
-        if self.shown() <= 50 {
+        if 20 <= self.scale {
             5
-        } else if self.shown() <= 100 {
+        } else if 10 <= self.scale {
             10
-        } else if self.shown() <= 200 {
+        } else if 5 <= self.scale {
             20
-        } else if self.shown() <= 333 {
+        } else if 3 <= self.scale {
             50
         } else {
             100
@@ -115,38 +109,51 @@ impl Layout {
     }
 
     // How far a tick lies from the first one that is drawn; one that is not drawn lies at the nearer edge.
-    fn offset(&self, tick: u32) -> u32
-        ensures { result ≡ offset self.now tick }
+    fn place(&self, tick: u32) -> u64
+        ensures value { result ≡ place self.now tick }
+        ensures bound { result < 2 ^ 52 }
     {
-        tick.max(self.from).min(self.to).saturating_sub(self.from)
+        place_from(
+            self.scale,
+            self.from,
+            tick.max(self.from).min(self.to),
+            &self.folds,
+        )
     }
 
     /// Where a tick begins, from the left.
     pub(crate) fn column(&self, tick: u32) -> u64
         ensures { result ≡ column self.now tick }
     {
-        150 + self.scaled(self.offset(tick))
+        150 + self.place(tick)
     }
 
     /// How long the part that is drawn of the ticks from `from` to `to` is.
     pub(crate) fn width(&self, from: u32, to: u32) -> u64
         ensures { result ≡ width self.now from to }
     {
-        self.scaled(self.offset(to).saturating_sub(self.offset(from)))
+        self.place(to).saturating_sub(self.place(from))
     }
 
     /// Where the text on a bar begins that begins with a tick.
     pub(crate) fn inside(&self, tick: u32) -> u64
         ensures { result ≡ inside self.now tick }
     {
-        152 + self.scaled(self.offset(tick))
+        152 + self.place(tick)
     }
 
     /// Where the priority stands that a thread has from a tick on: beside the line that may end there.
     pub(crate) fn beside(&self, tick: u32) -> u64
         ensures { result ≡ beside self.now tick }
     {
-        155 + self.scaled(self.offset(tick))
+        155 + self.place(tick)
+    }
+
+    /// A number of the axis has room where no fold lies near it.
+    pub(crate) fn is_clear(&self, tick: u32) -> bool
+        ensures { result ≡ is_clear self.now tick }
+    {
+        !any_near(self.step() / 3, tick, &self.folds)
     }
 
     // The number of a row among all rows.
@@ -222,13 +229,6 @@ impl Layout {
         }
     }
 
-    /// Where the tick lies that is so many behind the first one.
-    pub(crate) fn after(&self, ticks: u32) -> u64
-        ensures { result ≡ after self.now ticks }
-    {
-        150 + self.scaled(ticks)
-    }
-
     /// The base line of the priorities of a thread, above its bars.
     pub(crate) fn above(&self, t: u16) -> u64
         ensures { result ≡ above self.now t }
@@ -247,7 +247,7 @@ impl Layout {
     pub(crate) fn shifted(&self, tick: u32, nth: u64) -> u64
         ensures { result ≡ shifted self.now tick nth }
     {
-        150 + self.scaled(self.offset(tick)) + 4 * (nth % 8)
+        150 + self.place(tick) + 4 * (nth % 8)
     }
 
     // The number of the last row.
@@ -294,11 +294,18 @@ impl Layout {
         146 + height(self.cpus, self.threads) + gap(self.last_row())
     }
 
+    /// How far the last row reaches below the axis.
+    pub(crate) fn depth(&self) -> u64
+        ensures { result ≡ depth self.now }
+    {
+        self.bottom().saturating_sub(118)
+    }
+
     /// The width of the picture.
     pub(crate) fn total_width(&self) -> u64
         ensures { result ≡ total_width self.now }
     {
-        (240 + self.scaled(self.shown())).max(920)
+        (240 + self.place(self.to)).max(920)
     }
 
     /// Whether a tick is drawn, or ends what is drawn.

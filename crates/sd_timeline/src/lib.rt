@@ -6,6 +6,7 @@
 
 mod arrows;
 mod bars;
+mod folds;
 mod frames;
 mod head;
 mod labels;
@@ -20,6 +21,7 @@ mod rows;
 
 pub use frames::Frame;
 pub use laws::{
-    acting_threads_come_first, rows_are_own, timelines_are_plain, titles_need_no_escaping,
+    acting_threads_come_first, folds_are_quiet, rows_are_own, timelines_are_plain,
+    titles_need_no_escaping,
 };
 pub use picture::timeline;

@@ -12,7 +12,7 @@ use crate::arrows::{put_hand_overs, put_wakeups};
 use crate::bars::{put_bars, put_run_bars};
 use crate::frames::Frame;
 use crate::head::{put_bound_label, put_head, put_thread_head};
-use crate::labels::{put_levels, put_marks};
+use crate::labels::{put_gaps, put_levels, put_marks};
 use crate::layouts::Layout;
 use crate::legend::{Drawn, drawn_of, put_legend};
 use crate::moments::put_moments;
@@ -183,7 +183,8 @@ fn put_rows(
     put_threads(alloc, work, layout, history, s, out)?;
     put_moments(work, layout, pieces, out)?;
     put_notes(work, layout, &history.happenings, out)?;
-    put_deadlocks(alloc, work, layout, s, out)
+    put_deadlocks(alloc, work, layout, s, out)?;
+    put_gaps(layout, &layout.folds, out)
 }
 
 // The picture in this layout.

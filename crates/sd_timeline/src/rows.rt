@@ -4,6 +4,7 @@ ghost use Rattle.std.specs.Prelude.{◌≡◌, ◌++◌, ◌∷◌, [], IfOk, On
 ghost use Rattle.std.specs.List.{list_any, range_with_len};
 ghost use Rattle.sd_timeline.specs.Rows.{acts, all_threads, begins_in, has_run, is_deed, layout_of, ordered, rows_of, runs_in};
 
+use crate::folds::{folds, scale_of};
 use crate::frames::Frame;
 use crate::layouts::Layout;
 use sd_stretches::{Doing, History, Stretch, stretches};
@@ -133,11 +134,15 @@ pub(crate) fn layout_of(
     ensures { IfOk result (λ layout. layout ≡ layout_of work.now frame history.now) }
 {
     let rows = rows_of(alloc, work, frame, history)?;
+    let folds = folds(alloc, frame, history)?;
+    let scale = scale_of(frame, &folds);
     Ok(Layout {
         from: frame.from,
         to: frame.to,
         cpus: frame.cpus,
         threads: frame.threads,
         rows,
+        scale,
+        folds,
     })
 }
