@@ -7,6 +7,7 @@ ghost use Rattle.sd_types.specs.declared.events.Hints.{Hints as HintsOf};
 ghost use Rattle.sd_types.specs.declared.numbers.CpuId.{CpuId as CpuIdOf};
 ghost use Rattle.sd_types.specs.declared.works.Work.{Work as WorkOf};
 ghost use Rattle.sd_machine.specs.declared.states.State.{State as StateOf};
+ghost use Rattle.sd_footprint.specs.Changed.{EventsChangeOnlyTheirs, RunnersRanThereLast};
 ghost use Rattle.sd_footprint.specs.Homes.{NeedsFour, TurnsTakeFour};
 
 /// Beside its own count and duty a processor looks at no more than four homes to find what it reads and its event, in any
@@ -19,4 +20,16 @@ pub fn a_turn_needs_four_homes()
 /// states there may be five: a duty to hand a lock over for which nobody waits looks at the chain of that lock first.
 pub fn a_turn_takes_four_homes()
     ensures { TurnsTakeFour }
+{}
+
+/// In every state of every run, where a thread runs, it ran last: so a thread that ends stays in the home of its processor.
+pub fn what_runs_ran_there_last()
+    ensures { RunnersRanThereLast }
+{}
+
+/// In every state of every run each event that may come leaves all as it was that is not among the parts that it touches: the
+/// threads that stand in none of them, and a thread that moves comes from one of them and goes to one; the marks, the set and the
+/// bindings of a processor; the count and the duty of every processor but its own; locks, counts of channels, open processors.
+pub fn an_event_changes_only_its_homes()
+    ensures { EventsChangeOnlyTheirs }
 {}
