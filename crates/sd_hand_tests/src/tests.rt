@@ -6,9 +6,10 @@ use sd_four::Four;
 use sd_hand::{Acting, Actor, Hand};
 use sd_homes::{ChainHome, CpuHome, Home, RealTimeHome, SleepersHome, Traveller};
 use sd_machine::LockState;
+use sd_mdisp::{dispatched, done};
 use sd_record::Record;
 use sd_shown::ListId;
-use sd_store::{CpuView, Destination, Look, Part, Spot, Store};
+use sd_store::{CpuView, Destination, Look, Part, Sets, Spot, Store};
 use sd_types::{
     ChanId, ClassState, CpuId, Duty, LockId, SetId, Side, SysState, ThreadBody, ThreadId,
 };
@@ -125,5 +126,55 @@ fn waits_and_sleeps(rt: HostRuntime) -> Result<(), Fail> {
     assert!(rt; x.set_lock(LockId(1), LockState::Owned(ThreadId(4))).is_ok());
     assert!(rt; matches!(x.lock(LockId(1)), Ok(LockState::Owned(ThreadId(4)))));
     assert!(rt; matches!(x.lock(LockId(65)), Ok(LockState::Free)));
+    Ok(())
+}
+
+#[test]
+fn events_change_a_hand(rt: HostRuntime) -> Result<(), Fail> {
+    let alloc = rt.alloc();
+    let mut x = acting();
+    assert!(rt; x.hand.hold(cpu_home(alloc)?).is_ok());
+    x.hand.put(thread(alloc, 7, true)?, ListId::Queues(CPU));
+    assert!(rt; dispatched(&mut x, CPU, ThreadId(7)).is_ok());
+    assert_eq!(rt; number(x.runner(CPU)), Some(7));
+    // dispatching has cleared the mark
+    assert!(rt; matches!(x.cpu(CPU), Ok(CpuView { user: false, .. })));
+    // the count that a thread takes along is its processor's
+    assert!(rt; matches!(done(&mut x, 1, CpuId(1), ThreadId(7)), Err(Part::Actor(_))));
+    assert!(rt; done(&mut x, 1, CPU, ThreadId(7)).is_ok());
+    assert_eq!(rt; number(x.runner(CPU)), None);
+    assert!(rt; matches!(x.spot(ThreadId(7)), Ok(Spot::Ended)));
+    Ok(())
+}
+
+fn open_count(x: &Acting) -> Option<usize> {
+    match x.open_cpus(SetId(0)) {
+        Ok(cpus) => Some(cpus.len()),
+        Err(_) => None,
+    }
+}
+
+#[test]
+fn joins_and_closes(rt: HostRuntime) -> Result<(), Fail> {
+    let alloc = rt.alloc();
+    let mut x = acting();
+    assert!(rt; x.hand.hold(cpu_home(alloc)?).is_ok());
+    // the home of the set is lacking
+    assert!(rt; matches!(x.join(CPU, SetId(0)), Err(Part::Home(_))));
+    assert!(rt; x.hand.hold(set_home(alloc)?).is_ok());
+    assert_eq!(rt; open_count(&x), Some(0));
+    assert!(rt; x.join(CPU, SetId(0)).is_ok());
+    assert_eq!(rt; open_count(&x), Some(1));
+    assert!(rt; x.close(CPU, SetId(2)).is_ok());
+    assert_eq!(rt; open_count(&x), Some(0));
+    assert!(rt;
+        matches!(
+            x.cpu(CPU),
+            Ok(CpuView {
+                closing: Some(SetId(2)),
+                ..
+            })
+        )
+    );
     Ok(())
 }

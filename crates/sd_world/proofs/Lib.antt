@@ -1,1 +1,5 @@
+pub mod BareLemmas
+pub mod ComeLemmas
+pub mod GivenLemmas
+pub mod NumberLemmas
 pub mod OtherHomes

@@ -26,7 +26,7 @@ use Rattle.sd_footprint.specs.Changed.{ChangesOnly, HasHome, IsNamed, MovesWithi
 use Rattle.sd_world.specs.Frames.{IsElsewhere}
 use Rattle.sd_shown.specs.Standing.{home_of}
 
-none_past : {X : Type 0} (xs : List X) (t : ℕ) → length xs ≤ t → slice_get xs t ≡ None
+pub none_past : {X : Type 0} (xs : List X) (t : ℕ) → length xs ≤ t → slice_get xs t ≡ None
 none_past [] t past = refl
 none_past (x ∷ xs) zero past = absurd (omega arith)
 none_past (x ∷ xs) (suc t) past = none_past xs t (omega arith)

@@ -1,6 +1,10 @@
-//! The homes of a run, all of them: what an event leaves as it was, whatever home it is.
+//! The homes of a run, all of them: where the threads of a whole state stand.
 #![tactic(auto)]
 
+mod bare;
+mod copies;
+mod homes;
 mod laws;
 
+pub use homes::Homes;
 pub use laws::an_event_leaves_other_homes;
