@@ -10,6 +10,7 @@ use std::test::Fail;
 const ONE_THREAD: &str = "limit 5\nthread a ts 29 0 0\nscript a\nrun 3\nend\n";
 
 #[test]
+#[tactic(auto, using(crate::proofs::FirstLemmas::first_reached))]
 fn an_initial_state_stands_in_homes(rt: HostRuntime) -> Result<(), Fail> {
     let alloc = rt.alloc();
     let Ok(work) = read_work(alloc, ONE_THREAD.as_bytes()) else {
