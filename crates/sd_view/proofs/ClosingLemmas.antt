@@ -27,7 +27,7 @@ use Rattle.sd_trace.specs.Tracks.{all_tracks, trace_text}
 use Rattle.sd_report.proofs.ClosingLemmas.{report-ends, sheet-ends}
 use Rattle.sd_view.specs.declared.drawings.Drawing.{Drawing}
 use Rattle.sd_view.specs.declared.drawings.Drawing.TheVariants.{Timeline, Trace, Story, Report, Sheet}
-use Rattle.sd_view.specs.Drawings.{IsDrawingOf, IsDrawn, counted, from_to, last_tick, left_line, parts_line, past_line, story_line, threads_line, threads_words, ticks_line, ticks_words, timeline_line}
+use Rattle.sd_view.specs.Drawings.{IsDrawingOf, IsDrawn, asks_past, counted, end_line, from_to, last_tick, left_line, parts_line, past_line, story_line, threads_line, threads_words, ticks_line, ticks_words, timeline_line}
 
 -- what ends with a fixed text and a newline
 behind : (xs fixed : List ℕ) → EndsLine (xs ++ (fixed ++ 10 ∷ []))
@@ -88,6 +88,10 @@ past-ends : (form : List ℕ) (w : Work) → EndsLine (past_line form w)
 unfolding past_line
 past-ends form w = EndsLine-newline (form ++ counted (codes ": the run ends at tick ") w.limit)
 
+end_line-ends : (form : List ℕ) (w : Work) (to : ℕ) → EndsLine (end_line form w to)
+unfolding end_line
+end_line-ends form w to = either (asks_past w to) (past_line form w) [] (past-ends form w) refl
+
 ticks_words-end : (from to : ℕ) → EndsLine (ticks_words from to)
 unfolding ticks_words
 ticks_words-end from to =
@@ -108,7 +112,9 @@ threads-end w = either (nat_lt 100 (length w.threads)) (threads_words (length w.
 
 parts-end : (w : Work) (from to : ℕ) → EndsLine (parts_line w from to)
 unfolding parts_line
-parts-end w from to = EndsLine-append (ticks_line w from to) (threads_line w) (ticks-ends w from to) (threads-end w)
+parts-end w from to =
+    EndsLine-append (end_line (codes "timeline") w to ++ ticks_line w from to) (threads_line w)
+    (EndsLine-append (end_line (codes "timeline") w to) (ticks_line w from to) (end_line-ends (codes "timeline") w to) (ticks-ends w from to)) (threads-end w)
 
 timeline_line-ends : (w : Work) (from to : ℕ) → EndsLine (timeline_line w from to)
 unfolding timeline_line
@@ -117,7 +123,8 @@ timeline_line-ends w from to =
 
 story_line-ends : (w : Work) (sel : Selection) → EndsLine (story_line w sel)
 unfolding story_line
-story_line-ends w (Ticks from to) = either (nat_lt w.limit from) (past_line (codes "list") w) [] (past-ends (codes "list") w) refl
+story_line-ends w (Ticks from to) =
+    either (nat_lt w.limit from) (past_line (codes "list") w) (end_line (codes "list") w to) (past-ends (codes "list") w) (end_line-ends (codes "list") w to)
 story_line-ends w (Thread name) = either (has_thread w name.items) [] (codes "list: no thread has this name\n") refl refl
 
 pub left-ends : (d : Drawing) (w : Work) → EndsLine (left_line d w)

@@ -1,6 +1,6 @@
 -- What is drawn of a journal.
 -- Source: this project's own.
-use Rattle.std.specs.Prelude.{◌≡◌, ℕ, ◌+◌, ◌-◌, min, nat_lt, List, [], ◌++◌, length, codes, decimal, if◌then◌else◌}
+use Rattle.std.specs.Prelude.{◌≡◌, ℕ, Bool, ◌&&◌, ◌+◌, ◌-◌, min, nat_lt, List, [], ◌++◌, length, codes, decimal, if◌then◌else◌}
 use Rattle.sd_types.specs.declared.events.Entry.{Entry}
 use Rattle.sd_types.specs.declared.works.Work.{Work}
 use Rattle.sd_machine.specs.Opening.{opening}
@@ -37,7 +37,10 @@ frame_of w from to = record { from = first_tick w from; to = last_tick w from to
 abbrev pub counted : List ℕ → ℕ → List ℕ
 counted word n = word ++ decimal n
 
--- the run ends before the ticks that were asked for
+-- the run ends before the last of the ticks that were asked for; the greatest number, beyond which no run goes, asks for all
+abbrev pub asks_past : Work → ℕ → Bool
+asks_past w to = nat_lt w.limit to && nat_lt to 100000
+
 unfoldable pub past_line : List ℕ → Work → List ℕ
 past_line form w = form ++ counted (codes ": the run ends at tick ") w.limit ++ codes "\n"
 
@@ -58,14 +61,20 @@ threads_words n = counted (codes "timeline: ") n ++ codes " threads are not draw
 unfoldable pub threads_line : Work → List ℕ
 threads_line w = if nat_lt 100 (length w.threads) then threads_words (length w.threads - 100) else []
 
-unfoldable pub parts_line : Work → ℕ → ℕ → List ℕ
-parts_line w from to = ticks_line w from to ++ threads_line w
+-- the run does not have all ticks that were asked for
+unfoldable pub end_line : List ℕ → Work → ℕ → List ℕ
+end_line form w to = if asks_past w to then past_line form w else []
 
+unfoldable pub parts_line : Work → ℕ → ℕ → List ℕ
+parts_line w from to = end_line (codes "timeline") w to ++ ticks_line w from to ++ threads_line w
+
+-- where the run has none of the ticks, its last state is drawn
 unfoldable pub timeline_line : Work → ℕ → ℕ → List ℕ
 timeline_line w from to = if nat_lt from w.limit then parts_line w from to else past_line (codes "timeline") w
 
+-- what happens at the last tick, behind all, is told too
 unfoldable pub story_line : Work → Selection → List ℕ
-story_line w (Ticks from to) = if nat_lt w.limit from then past_line (codes "list") w else []
+story_line w (Ticks from to) = if nat_lt w.limit from then past_line (codes "list") w else end_line (codes "list") w to
 story_line w (Thread name) = if has_thread w name.items then [] else codes "list: no thread has this name\n"
 
 -- what the error output says of a drawing: what is left out of it, or that the run does not have what was asked for

@@ -17,8 +17,8 @@ pub enum Request {
     Draw(Drawing),
 }
 
-// The greatest number of ticks of any run.
-const GREATEST_LIMIT: u64 = 100_000;
+/// The greatest number of ticks of any run.
+pub(crate) const GREATEST_LIMIT: u32 = 100_000;
 
 fn is_word(text: &[u8], word: &[u8]) -> bool
     ensures { result ≡ same_bytes text.now word.now }
@@ -53,7 +53,7 @@ fn ticks_between(from: u64, to: Option<u64>) -> Option<(u32, u32)>
 {
     match to {
         Some(to) => {
-            if from < to && to <= GREATEST_LIMIT {
+            if from < to && to <= u64::from(GREATEST_LIMIT) {
                 Some((from as u32, to as u32))
             } else {
                 None

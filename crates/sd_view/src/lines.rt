@@ -2,9 +2,10 @@
 
 ghost use Rattle.std.specs.Prelude.{◌≡◌, ◌++◌, [], OnOk, IfOk, codes, decimal, nat_lt, if◌then◌else◌};
 ghost use Rattle.sd_story.specs.Selections.{has_thread};
-ghost use Rattle.sd_view.specs.Drawings.{left_line, counted, from_to, parts_line, past_line, story_line, threads_line, threads_words, ticks_line, ticks_words, timeline_line};
+ghost use Rattle.sd_view.specs.Drawings.{asks_past, left_line, counted, end_line, from_to, parts_line, past_line, story_line, threads_line, threads_words, ticks_line, ticks_words, timeline_line};
 
 use crate::drawings::Drawing;
+use crate::forms::GREATEST_LIMIT;
 use crate::frames::{MOST_THREADS, last_tick};
 use sd_story::{Selection, has_thread};
 use sd_text::put_number;
@@ -37,6 +38,25 @@ fn put_past(form: &[u8], work: &Work, out: &mut Vec<u8>) -> Result<(), AllocErro
     put_words(form, out)?;
     put_limit(work, out)?;
     put_words(b"\n", out)
+}
+
+// The run ends before the last of the ticks that were asked for; the greatest number, beyond which no run goes, asks for all.
+fn asks_past(work: &Work, to: u32) -> bool
+    ensures { result ≡ asks_past work.now to }
+{
+    work.limit < to && to < GREATEST_LIMIT
+}
+
+// The run does not have all ticks that were asked for.
+#[tactic(auto, unfolding(crate::specs::Drawings::end_line))]
+fn put_end_line(form: &[u8], work: &Work, to: u32, out: &mut Vec<u8>) -> Result<(), AllocError>
+    ensures { OnOk result (out.new.items ≡ out.old.items ++ end_line form.now work.now to) }
+{
+    if asks_past(work, to) {
+        put_past(form, work, out)
+    } else {
+        Ok(())
+    }
 }
 
 fn put_from_to(
@@ -97,6 +117,7 @@ fn put_threads_line(work: &Work, out: &mut Vec<u8>) -> Result<(), AllocError>
 fn put_parts_line(work: &Work, from: u32, to: u32, out: &mut Vec<u8>) -> Result<(), AllocError>
     ensures { OnOk result (out.new.items ≡ out.old.items ++ parts_line work.now from to) }
 {
+    put_end_line(b"timeline", work, to, out)?;
     put_ticks_line(work, from, to, out)?;
     put_threads_line(work, out)
 }
@@ -112,14 +133,15 @@ fn put_timeline_line(work: &Work, from: u32, to: u32, out: &mut Vec<u8>) -> Resu
     }
 }
 
-// The run has none of the ticks from this one on.
-fn put_ticks_past(work: &Work, from: u32, out: &mut Vec<u8>) -> Result<(), AllocError>
-    ensures { OnOk result (out.new.items ≡ out.old.items ++ (if nat_lt work.now.limit from then past_line (codes "list") work.now else [])) }
+// The run has none of the ticks from this one on, or not all up to the other.
+fn put_ticks_past(work: &Work, from: u32, to: u32, out: &mut Vec<u8>) -> Result<(), AllocError>
+    ensures { OnOk result (out.new.items ≡ out.old.items
+        ++ (if nat_lt work.now.limit from then past_line (codes "list") work.now else end_line (codes "list") work.now to)) }
 {
     if work.limit < from {
         put_past(b"list", work, out)
     } else {
-        Ok(())
+        put_end_line(b"list", work, to, out)
     }
 }
 
@@ -139,7 +161,7 @@ fn put_story_line(work: &Work, selection: &Selection, out: &mut Vec<u8>) -> Resu
     ensures { OnOk result (out.new.items ≡ out.old.items ++ story_line work.now selection.now) }
 {
     match selection {
-        Selection::Ticks { from, .. } => put_ticks_past(work, *from, out),
+        Selection::Ticks { from, to } => put_ticks_past(work, *from, *to, out),
         Selection::Thread { name } => put_unknown(work, name.as_slice(), out),
     }
 }
