@@ -1,5 +1,5 @@
 -- The slices of a processor in a run follow one another in time.
-use Rattle.std.proofs.Common.{◌≡◌, ℕ, zero, suc, ◌+◌, ◌<◌, ◌≤◌, ◌⊎◌, true, false, inl, inr, List, [], ◌∷◌, ◌++◌, length, take, Some, None, refl, sym, ap, subst, ◌∙◌, arith}
+use Rattle.std.proofs.Common.{◌≡◌, ℕ, zero, suc, ◌+◌, ◌<◌, ◌≤◌, ◌⊎◌, true, false, inl, inr, List, length, take, Some, None, sym, ap, subst, ◌∙◌, arith}
 use Rattle.std.specs.Prelude.{slice_get, option_map}
 use Rattle.std.specs.List.{flat_map, range_with_len}
 use Rattle.std.proofs.lemmas.Bool.{cases_eq}
@@ -7,15 +7,12 @@ use Rattle.std.proofs.lemmas.List.{length-map}
 use Rattle.std.proofs.lemmas.Option.{slice_get-map, slice_get-get_or}
 use Rattle.sd_types.specs.declared.events.Entry.{Entry}
 use Rattle.sd_types.specs.declared.works.Work.{Work}
-use Rattle.sd_machine.specs.declared.states.Place.{Place}
-use Rattle.sd_machine.specs.declared.states.Place.TheVariants.{Running, Queued, RealTime, Waiting, Asleep, Napping, Ended}
 use Rattle.sd_machine.specs.declared.states.State.{State}
 use Rattle.sd_machine.specs.Opening.{opening}
 use Rattle.sd_machine.specs.States.{no_thread, thread_of, cpu_of, is_running}
 use Rattle.sd_full.specs.Events.{after}
-use Rattle.sd_full.specs.Runs.{final, state_at, IsReached, IsRun, IsRunFrom, IsStep}
-use Rattle.sd_full.proofs.OpeningLemmas.{opening_fits}
-use Rattle.sd_full.proofs.RunLemmas.{final-nil, final-push, final_fits, from-IsRun, last_number, last_step, IsRun-from, IsRunFrom-take}
+use Rattle.sd_full.specs.Runs.{state_at, IsRun}
+use Rattle.sd_full.proofs.RunLemmas.{final-nil}
 use Rattle.sd_laws.specs.Laws.{OneRuns as AtMostOneRuns}
 use Rattle.sd_laws.proofs.Openings.{opening_runs_none}
 use Rattle.sd_sound.specs.Laws.{CountsWithin}
@@ -24,29 +21,15 @@ use Rattle.sd_sound.proofs.Ready.{kept_reached, ready_cause, reached_ready}
 use Rattle.sd_sound.proofs.RunningLemmas.{opening_one, one_kept}
 use Rattle.sd_ticks.proofs.Counts.{rise_law}
 use Rattle.sd_stretches.specs.declared.sights.Sight.{Sight}
-use Rattle.sd_stretches.specs.Sights.{doing_of, runs_on, sight_of, sights_of}
+use Rattle.sd_stretches.specs.Sights.{runs_on, sight_of, sights_of}
 use Rattle.sd_stretches.specs.Changes.{turn_if, turns_between}
 use Rattle.sd_stretches.specs.Histories.{moment, sights_before, entry_before, tick_by, over, turns_in}
 use Rattle.sd_stretches.specs.Rows.{slices}
 use Rattle.sd_stretches.proofs.RangeLemmas.{flat_range_same}
 use Rattle.sd_slices.specs.Follow.{FollowInTime, SlicesFollowInTime}
 use Rattle.sd_slices.proofs.Local.{others_keep}
+use Rattle.sd_slices.proofs.Steps.{made_by, many, reached, runs_place}
 use Rattle.sd_slices.proofs.Turns.{all_follow, row, turn_in}
-
-runs_place : (c : ℕ) (p : Place) → runs_on c (doing_of p) ≡ is_running c p
-runs_place c (Running d) = refl
-runs_place c (Queued d k) = refl
-runs_place c (RealTime q k) = refl
-runs_place c (Waiting l side k) = refl
-runs_place c (Asleep j k) = refl
-runs_place c (Napping d k) = refl
-runs_place c Ended = refl
-
--- the entry behind the first k
-entry_there : (es : List Entry) (k : ℕ) → k < length es → (e : Entry) × (slice_get es k ≡ Some e) × (take (suc k) es ≡ take k es ++ e ∷ [])
-entry_there [] k inside = absurd (omega (arith, inside))
-entry_there (x ∷ xs) zero inside = (x, refl, refl)
-entry_there (x ∷ xs) (suc k) inside = let (e, is, more) = entry_there xs k (omega (arith, inside)) in (e, is, ap (λ ys. x ∷ ys) more)
 
 module _ (w : Work) (es : List Entry) (c : ℕ) (run : IsRun w es) (here : c < w.cpus) where
   view : ℕ → ℕ → Sight
@@ -58,37 +41,6 @@ module _ (w : Work) (es : List Entry) (c : ℕ) (run : IsRun w es) (here : c < w
   count_at : ℕ → ℕ
   count_at k = (cpu_of (state_at w es k) c).count
 
-  run_at : (k : ℕ) → IsRunFrom w (opening w) 0 (take k es)
-  run_at k = IsRunFrom-take w (opening w) 0 k es (IsRun-from w es run)
-
-  reached : (k : ℕ) → IsReached w (length (take k es)) (state_at w es k)
-  reached k = record { entries = take k es; run = from-IsRun w (take k es) (run_at k); many = refl; ends = refl }
-
-  many : (k : ℕ) → length (state_at w es k).threads ≡ length w.threads
-  many k = (final_fits w (opening w) (take k es) (opening_fits w)).threads
-
-  -- the entry that makes state k + 1
-  record Made (k : ℕ) : Type 0 where
-    entry : Entry
-    at : slice_get es k ≡ Some entry
-    state : state_at w es (suc k) ≡ after w (state_at w es k) entry.number entry.cpu entry.event
-    number : entry.number ≡ length (take k es)
-    step : IsStep w (state_at w es k) entry
-
-  made_by : (k : ℕ) → k < length es → Made k
-  made_by k inside = by (entry_there es k inside)
-    where
-      by : (e : Entry) × (slice_get es k ≡ Some e) × (take (suc k) es ≡ take k es ++ e ∷ []) → Made k
-      by (e, is, more) =
-          let both : IsRunFrom w (opening w) 0 (take k es ++ e ∷ []) = subst (IsRunFrom w (opening w) 0) more (run_at (suc k)) in
-          record {
-            entry = e;
-            at = is;
-            state = ap (final w (opening w)) more ∙ final-push w (opening w) (take k es) e;
-            number = (let at = last_number w (opening w) 0 (take k es) e both in omega (arith, at));
-            step = last_step w (opening w) 0 (take k es) e both;
-          }
-
   -- What holds of every state.
 
   still : (t : ℕ) → t < length w.threads → runs_on c (view 0 t).doing ≡ false
@@ -98,25 +50,25 @@ module _ (w : Work) (es : List Entry) (c : ℕ) (run : IsRun w es) (here : c < w
   one : (k t u : ℕ) → t < length w.threads → u < length w.threads → runs_on c (view k t).doing ≡ true → runs_on c (view k u).doing ≡ true → t ≡ u
   unfolding view
   one k t u t_in u_in t_on u_on =
-      let only : AtMostOneRuns (state_at w es k) = kept_reached (λ w s. AtMostOneRuns s) (record { start = opening_one; step = one_kept }) w (length (take k es)) (state_at w es k) (reached k) in
-      let as_many = many k in
+      let only : AtMostOneRuns (state_at w es k) = kept_reached (λ w s. AtMostOneRuns s) (record { start = opening_one; step = one_kept }) w (length (take k es)) (state_at w es k) (reached w es run k) in
+      let as_many = many w es run k in
       only t u c (omega (arith, as_many, t_in)) (omega (arith, as_many, u_in)) (sym (runs_place c (thread_of (state_at w es k) t).place) ∙ t_on) (sym (runs_place c (thread_of (state_at w es k) u).place) ∙ u_on)
 
   within : (k : ℕ) → count_at k ≤ w.limit
   unfolding count_at
   within k =
       kept_reached CountsWithin (record { start = opening_counts; step = λ w s n cpu e ready cause within. after_counts w s n cpu e cause within })
-      w (length (take k es)) (state_at w es k) (reached k) c
+      w (length (take k es)) (state_at w es k) (reached w es run k) c
 
   -- And of every entry.
 
   more : (k : ℕ) → k < length es → count_at k ≤ count_at (suc k)
   unfolding count_at
   more k inside =
-      let m = made_by k inside in
+      let m = made_by w es run k inside in
       let e = m.entry in
       let s = state_at w es k in
-      let rises = rise_law w (length (take k es)) s e.cpu e.hints e.event (reached k) m.step c here in
+      let rises = rise_law w (length (take k es)) s e.cpu e.hints e.event (reached w es run k) m.step c here in
       let same : (cpu_of (state_at w es (suc k)) c).count ≡ (cpu_of (after w s (length (take k es)) e.cpu e.event) c).count
       = ap (λ (r : State). (cpu_of r c).count) (m.state ∙ ap (λ n. after w s n e.cpu e.event) m.number) in
       omega (arith, rises, same)
@@ -124,13 +76,13 @@ module _ (w : Work) (es : List Entry) (c : ℕ) (run : IsRun w es) (here : c < w
   made_here : (k : ℕ) → k < length es → (t : ℕ) → t < length w.threads → (runs_on c (view k t).doing ≡ runs_on c (view (suc k) t).doing) ⊎ (tick_at (suc k) ≡ count_at (suc k))
   unfolding view tick_at count_at
   made_here k inside t t_in =
-      let m = made_by k inside in
+      let m = made_by w es run k inside in
       let e = m.entry in
       let s = state_at w es k in
       elim (cases_eq c e.cpu.0) [
         | inl is ↦ inr (ap (tick_by (state_at w es (suc k))) m.at ∙ ap (λ d. (cpu_of (state_at w es (suc k)) d).count) (sym is))
         | inr other ↦
-            let ready = reached_ready w (length (take k es)) s (reached k) in
+            let ready = reached_ready w (length (take k es)) s (reached w es run k) in
             let kept = others_keep w s e.number e.cpu e.event ready (ready_cause w s e.cpu e.hints e.event ready m.step) t c other in
             inl (runs_place c (thread_of s t).place ∙ sym (ap (λ (r : State). is_running c (thread_of r t).place) m.state ∙ kept) ∙ sym (runs_place c (thread_of (state_at w es (suc k)) t).place))
       ]
@@ -140,7 +92,7 @@ module _ (w : Work) (es : List Entry) (c : ℕ) (run : IsRun w es) (here : c < w
   seen : (k t : ℕ) → t < length w.threads → slice_get (sights_of (state_at w es k)) t ≡ Some (view k t)
   unfolding sights_of view
   seen k t inside =
-      let as_many = many k in
+      let as_many = many w es run k in
       slice_get-map sight_of (state_at w es k).threads t ∙ ap (option_map sight_of) (slice_get-get_or (state_at w es k).threads t no_thread (omega (arith, as_many, inside)))
 
   turn_is : (k t : ℕ) → t < length w.threads
@@ -153,7 +105,7 @@ module _ (w : Work) (es : List Entry) (c : ℕ) (run : IsRun w es) (here : c < w
 
   seen_many : (k : ℕ) → length (sights_of (state_at w es k)) ≡ length w.threads
   unfolding sights_of
-  seen_many k = length-map (state_at w es k).threads sight_of ∙ many k
+  seen_many k = length-map (state_at w es k).threads sight_of ∙ many w es run k
 
   row_is : (k : ℕ) → turns_in (moment w es k) ≡ row c (length es) w.limit view (length w.threads) tick_at k
   unfolding moment turns_between row tick_at

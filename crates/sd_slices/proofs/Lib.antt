@@ -1,3 +1,4 @@
 pub mod Local
 pub mod Turns
+pub mod Steps
 pub mod Follow

@@ -22,7 +22,7 @@ use Rattle.sd_statistics.specs.declared.cpus.Deed.TheVariants.{Runs, Spins, Idle
 use Rattle.sd_statistics.specs.Cpus.{deeds, is_deed}
 
 -- what stands at a place of a list
-drop_get : (es : List Entry) (i : ℕ) (e : Entry) → slice_get es i ≡ Some e → drop i es ≡ e ∷ drop (suc i) es
+pub drop_get : (es : List Entry) (i : ℕ) (e : Entry) → slice_get es i ≡ Some e → drop i es ≡ e ∷ drop (suc i) es
 drop_get [] i e is = cc
 drop_get (x ∷ xs) zero e is = let same : x ≡ e = cc in ap (λ y. y ∷ xs) same
 drop_get (x ∷ xs) (suc i) e is = drop_get xs i e is

@@ -29,14 +29,14 @@ use Rattle.sd_statistics.specs.Laws.{all_ticks, ticks_in, TicksAddUp}
 abbrev stretch_ticks : Stretch → ℕ
 stretch_ticks x = x.to - x.from
 
-abbrev share : Activity → Stretch → ℕ
+abbrev pub share : Activity → Stretch → ℕ
 share a x = if is_of a x.doing then x.to - x.from else 0
 
 share_if : (b : Bool) (x : Stretch) → sum_by ticks_of (if b then span_of x ∷ [] else []) ≡ (if b then x.to - x.from else 0)
 share_if true x = omega (arith, sum_by-cons ticks_of (span_of x) [])
 share_if false x = refl
 
-ticks_cons : (a : Activity) (x : Stretch) (xs : List Stretch) → ticks_in a (x ∷ xs) ≡ share a x + ticks_in a xs
+pub ticks_cons : (a : Activity) (x : Stretch) (xs : List Stretch) → ticks_in a (x ∷ xs) ≡ share a x + ticks_in a xs
 unfolding spans_of
 ticks_cons a x xs =
     sum_by-append ticks_of (span_if a x) (spans_of a xs) ∙ ap (λ n. n + sum_by ticks_of (spans_of a xs)) (share_if (is_of a x.doing) x)
