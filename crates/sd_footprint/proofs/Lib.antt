@@ -3,5 +3,8 @@ pub mod ChangeLemmas
 pub mod Covers
 pub mod EffectLemmas
 pub mod FewHomes
+pub mod LooksThere
 pub mod RanLast
 pub mod Standing
+pub mod ThereLemmas
+pub mod TouchedThere

@@ -1,5 +1,5 @@
-//! The footprint of a processor's turn: in how many homes the parts of a state lie that it looks at, and that its event touches. Laws;
-//! there is nothing to run.
+//! The footprint of a processor's turn: in how many homes the parts of a state lie that it looks at, and that its event touches, and
+//! that these parts are there. Laws; there is nothing to run.
 #![tactic(auto)]
 
 ghost use Rattle.std.specs.Prelude.{Option};
@@ -9,6 +9,7 @@ ghost use Rattle.sd_types.specs.declared.works.Work.{Work as WorkOf};
 ghost use Rattle.sd_machine.specs.declared.states.State.{State as StateOf};
 ghost use Rattle.sd_footprint.specs.Changed.{EventsChangeOnlyTheirs, RunnersRanThereLast};
 ghost use Rattle.sd_footprint.specs.Homes.{NeedsFour, TurnsTakeFour};
+ghost use Rattle.sd_footprint.specs.There.{PartsOfTurnsAreThere, ThreadsStandThere};
 
 /// Beside its own count and duty a processor looks at no more than four homes to find what it reads and its event, in any
 /// state and whatever it has read.
@@ -32,4 +33,17 @@ pub fn what_runs_ran_there_last()
 /// bindings of a processor; the count and the duty of every processor but its own; locks, counts of channels, open processors.
 pub fn an_event_changes_only_its_homes()
     ensures { EventsChangeOnlyTheirs }
+{}
+
+/// In every state of every run, for each processor of the workload and whatever it has read, each part is there that it looks at, and
+/// that the event touches which it may make: the home is one of the state's, the thread one of its threads, and of the counts and
+/// duties it is the processor's own.
+pub fn parts_of_a_turn_are_there()
+    ensures { PartsOfTurnsAreThere }
+{}
+
+/// In every state of every run the home in which a thread stands is one of the state's; the lock, the channel, the set or the processor
+/// is there after which its list there is named, and so is the processor on which it ran last.
+pub fn homes_of_threads_are_there()
+    ensures { ThreadsStandThere }
 {}
