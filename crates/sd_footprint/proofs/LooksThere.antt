@@ -1,6 +1,6 @@
 -- What a turn looks at is there: the operations of scripts and the duties of processors name what is there, and the threads that
 -- searches find are there.
-use Rattle.std.proofs.Common.{◌≡◌, ℕ, ◌<◌, Bool, true, false, ◌||◌, List, [], ◌∷◌, ◌++◌, length, Option, Some, None, refl, arith}
+use Rattle.std.proofs.Common.{◌≡◌, ℕ, ◌<◌, Bool, true, false, ◌||◌, List, [], ◌∷◌, length, Option, Some, None, refl, arith}
 use Rattle.std.specs.Prelude.{IfSome, Result, Ok, Err, ◌==◌, filter, not, nat_lt, slice_get, if◌then◌else◌}
 use Rattle.std.proofs.lemmas.Bool.Decides.{nat_tests}
 use Rattle.sd_types.specs.declared.bodies.ThreadBody.{ThreadBody}
@@ -53,7 +53,7 @@ use Rattle.sd_range.proofs.Named.{assign_cpu, bind_cpu}
 use Rattle.sd_sound.specs.Laws.{is_in}
 use Rattle.sd_sound.proofs.Found.{due_found, queued_found, sleeper_below_found, sleeper_found, waiter_found}
 use Rattle.sd_sound.proofs.Works.{declared, first_of_two, op_named}
-use Rattle.sd_step.specs.Needed.{choice_parts, cpu_parts, later_parts, next_parts, op_parts, plan_parts, read_parts, run_parts}
+use Rattle.sd_step.specs.Needed.{choice_parts, cpu_parts, later_parts, needed, next_parts, op_parts, plan_parts, read_parts, reads_parts, run_parts, turn_parts}
 use Rattle.sd_step.specs.Tasks.{task_parts}
 use Rattle.sd_store.specs.declared.parts.Part.{Part}
 use Rattle.sd_store.specs.Keyless.{task_of}
@@ -318,8 +318,16 @@ module _ (w : Work) (s : State) (known : IsKnown w s) (c : CpuId) (here : c.0 < 
   choice_there hints (Place thread p) there = read_there (Place thread p) there
   choice_there hints Search there = there_join s c (read_parts w s c Search) (victim_parts (victim_for s c.0 hints)) (read_there Search there) (victim_there hints)
 
+  -- What is looked at to find what is read, the event that follows from it, and whether it may be made.
+
+  pub reads_there : AllThere s c (reads_parts w s c)
+  reads_there = there_join s c (plan_parts w s c) (read_parts w s c (plan w s c.0)) plan_there (read_there (plan w s c.0) places)
+
+  pub needed_there : (hints : Option Hints) → AllThere s c (needed w s c hints)
+  needed_there hints = there_join s c (plan_parts w s c) (choice_parts w s c hints (plan w s c.0)) plan_there (choice_there hints (plan w s c.0) places)
+
   pub next_there : (hints : Option Hints) → AllThere s c (next_parts w s c hints)
   next_there hints =
       let p : Plan = plan w s c.0 in
-      there_join s c (plan_parts w s c) (read_parts w s c p ++ choice_parts w s c hints p) plan_there
+      there_join s c (plan_parts w s c) (turn_parts w s c hints p) plan_there
       (there_join s c (read_parts w s c p) (choice_parts w s c hints p) (read_there p places) (choice_there hints p places))

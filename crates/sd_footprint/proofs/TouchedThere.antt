@@ -20,14 +20,14 @@ use Rattle.sd_machine.specs.States.{thread_of}
 use Rattle.sd_full.specs.Needs.{CanBeBound, IsPrioPut, IsPut, IsPutIf, IsWoken, Needs, RunsThere}
 use Rattle.sd_full.specs.Runs.{IsReached}
 use Rattle.sd_footprint.specs.There.{PartsAreThere}
-use Rattle.sd_footprint.proofs.LooksThere.{next_there}
+use Rattle.sd_footprint.proofs.LooksThere.{needed_there, next_there, reads_there}
 use Rattle.sd_footprint.proofs.ThereLemmas.{AllThere, IsKnown, chain_there, cpu_inside, known_reached, ready_there, sleepers_there, there_each, there_join, thread_set}
 use Rattle.sd_mdisp.specs.Touched.{leaving_parts, put_parts_if, reordered_parts}
 use Rattle.sd_mprio.specs.Touched.{prio_parts}
 use Rattle.sd_msleep.specs.Touched.{woken_parts}
 use Rattle.sd_range.proofs.Range.{needs_reached}
 use Rattle.sd_setop.specs.Touched.{bind_parts, rebound_parts, runs_parts}
-use Rattle.sd_step.specs.Needed.{next_parts}
+use Rattle.sd_step.specs.Needed.{needed, next_parts, reads_parts}
 use Rattle.sd_step.specs.Touched.{after_parts, touched}
 use Rattle.sd_store.specs.Parts.{bound_parts, put_parts}
 
@@ -115,6 +115,8 @@ pub parts_there : (w : Work) (n : ℕ) (s : State) (c : CpuId) (hints : Option H
 parts_there w n s c hints reached inside =
     let known = known_reached w n s reached in
     record {
-      looking = there_each s c (next_parts w s c hints) (next_there w s known c inside hints);
+      reading = there_each s c (reads_parts w s c) (reads_there w s known c inside);
+      wishing = there_each s c (needed w s c hints) (needed_there w s known c inside hints);
+      making = there_each s c (next_parts w s c hints) (next_there w s known c inside hints);
       touching = λ e makes. there_each s c (after_parts w s c e) (refl, touched_there w s known c (cpu_inside w s known c inside) e (needs_reached w n s c hints e reached makes));
     }

@@ -12,7 +12,7 @@ use Rattle.sd_full.specs.Events.{next}
 use Rattle.sd_full.specs.Runs.{IsReached}
 use Rattle.sd_shown.specs.Numbers.{IsHomeOf, IsListOf}
 use Rattle.sd_shown.specs.Standing.{home_of, list_of}
-use Rattle.sd_step.specs.Needed.{next_parts}
+use Rattle.sd_step.specs.Needed.{needed, next_parts, reads_parts}
 use Rattle.sd_step.specs.Touched.{after_parts}
 use Rattle.sd_store.specs.declared.parts.Part.{Part}
 use Rattle.sd_store.specs.declared.parts.Part.TheVariants.{Home, Thread, Actor}
@@ -24,9 +24,12 @@ IsThere s c (Home k) = IsHomeOf s k
 IsThere s c (Thread t) = t.0 < length s.threads
 IsThere s c (Actor d) = d ≡ c
 
--- what processor c looks at to find what it reads, its event, and whether it may make it; and what the event touches that it may make
+-- each part is there that processor c looks at to find what it reads, its event, and whether it may make it; and that the event touches
+-- which it may make
 pub record PartsAreThere (w : Work) (s : State) (c : CpuId) (hints : Option Hints) : Type 0 where
-  pub looking : (p : Part) → IsAmong p (next_parts w s c hints) → IsThere s c p
+  pub reading : (p : Part) → IsAmong p (reads_parts w s c) → IsThere s c p
+  pub wishing : (p : Part) → IsAmong p (needed w s c hints) → IsThere s c p
+  pub making : (p : Part) → IsAmong p (next_parts w s c hints) → IsThere s c p
   pub touching : (e : Event) → next w s c hints ≡ Some e → (p : Part) → IsAmong p (after_parts w s c e) → IsThere s c p
 
 -- in every state of every run, for each processor of the workload, whatever it has read
