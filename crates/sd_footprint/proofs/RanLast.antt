@@ -1,5 +1,5 @@
 -- Where a thread runs, it ran last; and what each event of a run changes.
-use Rattle.std.proofs.Common.{◌≡◌, ℕ, ◌⊎◌, true, false, Option, Some, ap, ◌∙◌, sym, subst, inl, inr, eqb, arith}
+use Rattle.std.proofs.Common.{◌≡◌, ℕ, ◌⊎◌, true, Option, Some, ap, ◌∙◌, sym, subst, inl, inr, eqb, arith}
 use Rattle.std.proofs.lemmas.Bool.{false≢true}
 use Rattle.std.proofs.lemmas.Bool.Decides.{nat_tests}
 use Rattle.sd_types.specs.declared.numbers.CpuId.{CpuId}
