@@ -65,7 +65,7 @@ due_first : (count : ℕ) (rs : List ThreadRecord) → due_front count rs ≡ du
 due_first count [] = refl
 due_first count (r ∷ rs) = refl
 
-view_by : (s : State) (c : CpuId) (h : Home) → id.Cpu c ≡ home_id h → PartsShown s h → view_in h ≡ Some (view_of (cpu_of s c.0))
+pub view_by : (s : State) (c : CpuId) (h : Home) → id.Cpu c ≡ home_id h → PartsShown s h → view_in h ≡ Some (view_of (cpu_of s c.0))
 view_by s c (Cpu h) e p = let same : c ≡ h.cpu = cc in ap Some (p.0 ∙ ap (λ d. view_of (cpu_of s d.0)) (sym same))
 view_by s c (RealTime h) e p = absurd cc
 view_by s c (Chain h) e p = absurd cc
@@ -77,7 +77,7 @@ has_view c (RealTime h) e n = cc
 has_view c (Chain h) e n = cc
 has_view c (Sleepers h) e n = cc
 
-open_by : (s : State) (p : SetId) (h : Home) → id.RealTime p ≡ home_id h → PartsShown s h → open_of s p.0 ≡ open_in h
+pub open_by : (s : State) (p : SetId) (h : Home) → id.RealTime p ≡ home_id h → PartsShown s h → open_of s p.0 ≡ open_in h
 open_by s p (RealTime h) e q = let same : p ≡ h.set = cc in ap (λ r. open_of s r.0) same ∙ sym q.0
 open_by s p (Cpu h) e q = absurd cc
 open_by s p (Chain h) e q = absurd cc
@@ -88,7 +88,7 @@ get_or-past [] i d h = refl
 get_or-past (x ∷ xs) zero d h = absurd (omega arith)
 get_or-past (x ∷ xs) (suc i) d h = get_or-past xs i d (omega arith)
 
-lock_by : (s : State) (l : LockId) (h : Home) → id.Chain (l.0 % 64) ≡ home_id h → PartsShown s h → length s.locks ≤ 256 → lock_of s l.0 ≡ lock_in l.0 h
+pub lock_by : (s : State) (l : LockId) (h : Home) → id.Chain (l.0 % 64) ≡ home_id h → PartsShown s h → length s.locks ≤ 256 → lock_of s l.0 ≡ lock_in l.0 h
 lock_by s l (Cpu h) e p few = absurd cc
 lock_by s l (RealTime h) e p few = absurd cc
 lock_by s l (Sleepers h) e p few = absurd cc
@@ -105,7 +105,7 @@ lock_by s l (Chain h) e p few = by (cases_lt l.0 256)
         let no : is_of h.turns l.0 ≡ false = rw (le-ltb l.0 256 high) refl in
         rw no (get_or-past s.locks l.0 Free (omega arith))
 
-tokens_by : (s : State) (k : ChanId) (h : Home) → id.Sleepers (k.0 % 64) ≡ home_id h → PartsShown s h → length s.counts ≤ 256 → count_of s k.0 ≡ tokens_in k.0 h
+pub tokens_by : (s : State) (k : ChanId) (h : Home) → id.Sleepers (k.0 % 64) ≡ home_id h → PartsShown s h → length s.counts ≤ 256 → count_of s k.0 ≡ tokens_in k.0 h
 tokens_by s k (Cpu h) e p few = absurd cc
 tokens_by s k (RealTime h) e p few = absurd cc
 tokens_by s k (Chain h) e p few = absurd cc

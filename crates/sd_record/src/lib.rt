@@ -2,10 +2,12 @@
 //! and the key of its place.
 #![tactic(auto)]
 
+mod copies;
 mod laws;
 mod record;
 #[cfg(test)]
 mod tests;
 
+pub use copies::copied_body;
 pub use laws::{effective_is_greatest, numbers_are_apart};
 pub use record::Record;

@@ -1,0 +1,4 @@
+mod ListLemmas
+mod NapLemmas
+mod PartLemmas
+mod ThreadLemmas
