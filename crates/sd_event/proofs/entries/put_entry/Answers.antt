@@ -1,4 +1,4 @@
-use Rattle.std.proofs.Common.{◌≡◌, ◌≤◌, ◌++◌, length, arith, rules, ◌∙◌}
+use Rattle.std.proofs.Common.{◌≤◌, length, arith, rules, ◌∙◌}
 use Rattle.std.specs.Prelude.{codes, decimal}
 use Rattle.std.proofs.lemmas.Fmt.{length-decimal-le}
 use Rattle.sd_full.specs.Texts.{event_text, hints_text, entry_text}

@@ -1,4 +1,4 @@
-use Rattle.std.proofs.Common.{◌≡◌, ◌+◌, ◌/◌, ◌%◌, ◌++◌, ◌∷◌, [], List, ℕ, take, sym, ap, ◌∙◌, arith}
+use Rattle.std.proofs.Common.{◌/◌, ◌++◌, List, ℕ, take, sym, ap, ◌∙◌, arith}
 use Rattle.sd_event.proofs.TextLemmas.{last_alone, last_behind}
 use Rattle.sd_event.proofs.line.put_pair.Goals as goal
 

@@ -1,4 +1,4 @@
-use Rattle.std.proofs.Common.{◌≡◌, ◌++◌, take, ◌∙◌, arith}
+use Rattle.std.proofs.Common.{take, ◌∙◌, arith}
 use Rattle.sd_event.proofs.TextLemmas.{last_behind}
 use Rattle.sd_event.proofs.line.put_small.Goals as goal
 
