@@ -1,7 +1,8 @@
 -- The forms in which the program writes the names of sets and lists of numbers.
-use Rattle.std.proofs.Common.{◌≡◌, ℕ, zero, suc, ◌-◌, ◌<◌, ◌≤◌, List, [], ◌∷◌, ◌++◌, length, get_or, drop, sym, ap, ◌∙◌, append_assoc, arith}
+use Rattle.std.proofs.Common.{◌≡◌, ℕ, zero, suc, ◌-◌, ◌+◌, ◌/◌, ◌%◌, ◌<◌, ◌≤◌, List, [], ◌∷◌, ◌++◌, length, get_or, drop, sym, ap, ◌∙◌, append_assoc, arith}
 use Rattle.std.specs.Prelude.{codes, option_map, unwrap_or, slice_get}
 use Rattle.std.proofs.lemmas.List.{append-nil}
+use Rattle.std.proofs.lemmas.Fmt.{decimal_digit, decimal_step}
 use Rattle.std.specs.Fmt.{decimal}
 use Rattle.std.specs.List.{flat_map}
 use Rattle.sd_types.specs.declared.works.Work.{Work}
@@ -21,3 +22,14 @@ numbers_by_commas n (m ∷ ms) = append_assoc (decimal n) (codes ",") (numbers_t
 pub numbers_from_first : (ns : List ℕ) → 1 ≤ length ns → numbers_text ns ≡ decimal (get_or ns 0 0) ++ flat_map (λ m. 44 ∷ decimal m) (drop 1 ns)
 numbers_from_first [] some = absurd (omega arith)
 numbers_from_first (n ∷ ns) some = numbers_by_commas n ns
+
+-- ---- digits one after another
+
+-- a number of one digit is its last digit
+pub last_alone : (n : ℕ) → n < 10 → decimal n ≡ (48 + n % 10) ∷ []
+last_alone n small = decimal_digit n small ∙ ap (λ d. (48 + d) ∷ []) (let same : n ≡ n % 10 = omega arith in same)
+
+-- behind the digits before it, the last digit of a number is the number's text
+pub last_behind : (text behind : List ℕ) (n : ℕ) → 10 ≤ n → n < 256 → behind ≡ text ++ decimal (n / 10) → behind ++ (48 + n % 10) ∷ [] ≡ text ++ decimal n
+last_behind text behind n some small is =
+    rw is (append_assoc text (decimal (n / 10)) ((48 + n % 10) ∷ []) ∙ ap (λ (ds : List ℕ). text ++ ds) (sym (decimal_step n some (omega arith))))

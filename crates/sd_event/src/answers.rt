@@ -1,15 +1,15 @@
 //! The answers of calls that may be refused, as words.
 
-ghost use Rattle.std.specs.Prelude.{◌≡◌, ◌++◌, OnOk, codes, decimal};
+ghost use Rattle.std.specs.Prelude.{◌≡◌, ◌+◌, ◌≤◌, ◌++◌, length, take, codes, decimal};
 ghost use Rattle.sd_full.specs.Texts.{assign_text, bind_text, cpu_text_if, denied_text, prio_text, put_text_if};
 
+use crate::line::{Line, ROOM, put_bytes, put_small};
 use crate::words::{put_cpu, put_place_if};
-use sd_text::put_number;
 use sd_types::{AssignAnswer, BindAnswer, CpuId, Denied, PrioAnswer, Put};
-use std::alloc::AllocError;
 
 fn denied_word(denied: Denied) -> &'static [u8]
-    ensures { result.now ≡ denied_text denied }
+    ensures word { result.now ≡ denied_text denied }
+    ensures short { length result.now ≤ 6 }
 {
     match denied {
         Denied::ESRCH => b"ESRCH",
@@ -18,27 +18,32 @@ fn denied_word(denied: Denied) -> &'static [u8]
     }
 }
 
-fn put_changed(p: u8, at: Option<Put>, out: &mut Vec<u8>) -> Result<(), AllocError>
-    ensures { OnOk result (out.new.items ≡ out.old.items ++ (codes "ok " ++ decimal p ++ put_text_if at)) }
+fn put_changed(p: u8, at: Option<Put>, line: &mut Line, from: usize) -> usize
+    requires { from + 31 ≤ ROOM }
+    ensures text { take result line.new ≡ take from line.old ++ (codes "ok " ++ decimal p ++ put_text_if at) }
+    ensures within { result ≤ from + 31 }
 {
-    out.extend_from_slice(b"ok ")?;
-    put_number(out, u64::from(p))?;
-    put_place_if(at, out)
+    let from = put_bytes(b"ok ", line, from);
+    let from = put_small(p, line, from);
+    put_place_if(at, line, from)
 }
 
 /// `ok 59 to c7`, or the name of the refusal.
-pub(crate) fn put_prio_answer(answer: PrioAnswer, out: &mut Vec<u8>) -> Result<(), AllocError>
-    ensures { OnOk result (out.new.items ≡ out.old.items ++ prio_text answer) }
+pub(crate) fn put_prio_answer(answer: PrioAnswer, line: &mut Line, from: usize) -> usize
+    requires { from + 31 ≤ ROOM }
+    ensures text { take result line.new ≡ take from line.old ++ prio_text answer }
+    ensures within { result ≤ from + 31 }
 {
     match answer {
-        PrioAnswer::Changed { p, at } => put_changed(p, at, out),
-        PrioAnswer::Refused(denied) => out.extend_from_slice(denied_word(denied)),
+        PrioAnswer::Changed { p, at } => put_changed(p, at, line, from),
+        PrioAnswer::Refused(denied) => put_bytes(denied_word(denied), line, from),
     }
 }
 
 /// `ok`, or the name of the refusal.
 pub(crate) fn assign_word(answer: AssignAnswer) -> &'static [u8]
-    ensures { result.now ≡ assign_text answer }
+    ensures word { result.now ≡ assign_text answer }
+    ensures short { length result.now ≤ 6 }
 {
     match answer {
         AssignAnswer::Changed => b"ok",
@@ -48,32 +53,38 @@ pub(crate) fn assign_word(answer: AssignAnswer) -> &'static [u8]
     }
 }
 
-fn put_bound(at: Option<Put>, out: &mut Vec<u8>) -> Result<(), AllocError>
-    ensures { OnOk result (out.new.items ≡ out.old.items ++ (codes "ok" ++ put_text_if at)) }
+fn put_bound(at: Option<Put>, line: &mut Line, from: usize) -> usize
+    requires { from + 27 ≤ ROOM }
+    ensures text { take result line.new ≡ take from line.old ++ (codes "ok" ++ put_text_if at) }
+    ensures within { result ≤ from + 27 }
 {
-    out.extend_from_slice(b"ok")?;
-    put_place_if(at, out)
+    let from = put_bytes(b"ok", line, from);
+    put_place_if(at, line, from)
 }
 
 /// `ok to c7`, or the name of the refusal.
-pub(crate) fn put_bind_answer(answer: BindAnswer, out: &mut Vec<u8>) -> Result<(), AllocError>
-    ensures { OnOk result (out.new.items ≡ out.old.items ++ bind_text answer) }
+pub(crate) fn put_bind_answer(answer: BindAnswer, line: &mut Line, from: usize) -> usize
+    requires { from + 27 ≤ ROOM }
+    ensures text { take result line.new ≡ take from line.old ++ bind_text answer }
+    ensures within { result ≤ from + 27 }
 {
     match answer {
-        BindAnswer::Changed { at } => put_bound(at, out),
-        BindAnswer::ESRCH => out.extend_from_slice(b"ESRCH"),
-        BindAnswer::EINVAL => out.extend_from_slice(b"EINVAL"),
-        BindAnswer::EPERM => out.extend_from_slice(b"EPERM"),
-        BindAnswer::EBUSY => out.extend_from_slice(b"EBUSY"),
+        BindAnswer::Changed { at } => put_bound(at, line, from),
+        BindAnswer::ESRCH => put_bytes(b"ESRCH", line, from),
+        BindAnswer::EINVAL => put_bytes(b"EINVAL", line, from),
+        BindAnswer::EPERM => put_bytes(b"EPERM", line, from),
+        BindAnswer::EBUSY => put_bytes(b"EBUSY", line, from),
     }
 }
 
 /// `c7`, or `-` for none.
-pub(crate) fn put_cpu_if(c: Option<CpuId>, out: &mut Vec<u8>) -> Result<(), AllocError>
-    ensures { OnOk result (out.new.items ≡ out.old.items ++ cpu_text_if c) }
+pub(crate) fn put_cpu_if(c: Option<CpuId>, line: &mut Line, from: usize) -> usize
+    requires { from + 21 ≤ ROOM }
+    ensures text { take result line.new ≡ take from line.old ++ cpu_text_if c }
+    ensures within { result ≤ from + 21 }
 {
     match c {
-        None => out.extend_from_slice(b"-"),
-        Some(c) => put_cpu(c, out),
+        None => put_bytes(b"-", line, from),
+        Some(c) => put_cpu(c, line, from),
     }
 }

@@ -1,82 +1,133 @@
 //! The line of an entry.
 
-ghost use Rattle.std.specs.Prelude.{◌≡◌, ◌++◌, ◌∷◌, OnOk, OnErr, codes, decimal};
+ghost use Rattle.std.specs.Prelude.{◌≡◌, ◌+◌, ◌*◌, ◌≤◌, ◌++◌, ◌∷◌, OnOk, OnErr, codes, decimal, length, slice_range, take};
 ghost use Rattle.std.specs.List.{flat_map};
-ghost use Rattle.sd_full.specs.Texts.{entry_text, hints_text, numbers_text};
+ghost use Rattle.sd_full.specs.Texts.{entry_text, event_text, hints_text, numbers_text};
 
 use crate::events::put_event;
-use sd_text::put_number;
-use sd_types::{Entry, Hints, Work};
+use crate::line::{Line, ROOM, put_bytes, put_number, put_small};
+use itoa::write_digits;
+use sd_types::{CpuId, Entry, Hints, Work};
 use std::alloc::{AllocError, Global};
 
+// Where the number of an entry ends in its line: behind room for the digits of any.
+const NUMBER_END: usize = 20;
+
 // `,7`
-fn put_comma_number(n: u8, out: &mut Vec<u8>) -> Result<(), AllocError>
-    ensures { OnOk result (out.new.items ≡ out.old.items ++ (44 ∷ decimal n)) }
+#[inline(always)]
+fn put_comma_number(n: u8, line: &mut Line, from: usize) -> usize
+    requires { from + 4 ≤ ROOM }
+    ensures text { take result line.new ≡ take from line.old ++ (44 ∷ decimal n) }
+    ensures within { result ≤ from + 4 }
 {
-    out.extend_from_slice(b",")?;
-    put_number(out, u64::from(n))
+    let from = put_bytes(b",", line, from);
+    put_small(n, line, from)
 }
 
 // Each number with a comma before it.
-fn put_comma_numbers(numbers: &[u8], out: &mut Vec<u8>) -> Result<(), AllocError>
-    ensures { OnOk result (out.new.items ≡ out.old.items ++ flat_map (λ n. 44 ∷ decimal n) numbers.now) }
+fn put_comma_numbers(numbers: &[u8], line: &mut Line, from: usize) -> usize
+    requires { from + 4 * length numbers.now ≤ ROOM }
+    ensures text { take result line.new ≡ take from line.old ++ flat_map (λ n. 44 ∷ decimal n) numbers.now }
+    ensures within { result ≤ from + 4 * length numbers.now }
 {
+    let mut end = from;
     for number in numbers {
-        put_comma_number(*number, out)?;
+        end = put_comma_number(*number, line, end);
     }
-    Ok(())
+    end
 }
 
 // The numbers, joined by commas.
-fn put_numbers(numbers: &[u8], out: &mut Vec<u8>) -> Result<(), AllocError>
-    ensures { OnOk result (out.new.items ≡ out.old.items ++ numbers_text numbers.now) }
+fn put_numbers(numbers: &[u8], line: &mut Line, from: usize) -> usize
+    requires { from + 4 * length numbers.now ≤ ROOM }
+    ensures text { take result line.new ≡ take from line.old ++ numbers_text numbers.now }
+    ensures within { result ≤ from + 4 * length numbers.now }
 {
     match numbers {
-        [] => Ok(()),
+        [] => from,
         [first, rest @ ..] => {
-            put_number(out, u64::from(*first))?;
-            put_comma_numbers(rest, out)
+            let from = put_small(*first, line, from);
+            put_comma_numbers(rest, line, from)
         }
     }
 }
 
-fn put_hints(hints: &Option<Hints>, out: &mut Vec<u8>) -> Result<(), AllocError>
-    ensures { OnOk result (out.new.items ≡ out.old.items ++ hints_text hints.now) }
+#[inline(always)]
+fn put_hints(hints: &Option<Hints>, line: &mut Line, from: usize) -> usize
+    requires { from + 259 ≤ ROOM }
+    ensures text { take result line.new ≡ take from line.old ++ hints_text hints.now }
+    ensures within { result ≤ from + 259 }
 {
     match hints {
-        None => Ok(()),
+        None => from,
         Some(hints) => {
-            out.extend_from_slice(b" h ")?;
-            put_numbers(hints.numbers.as_slice(), out)
+            let from = put_bytes(b" h ", line, from);
+            put_numbers(hints.numbers.as_slice(), line, from)
         }
     }
 }
 
-// The number of the entry and the processor that made it, each with a space behind it.
-fn put_number_and_cpu(entry: &Entry, out: &mut Vec<u8>) -> Result<(), AllocError>
-    ensures { OnOk result (out.new.items ≡ out.old.items ++ (decimal entry.now.number ++ codes " c" ++ decimal entry.now.cpu.0 ++ codes " ")) }
+// ` c7 `: a processor, with a space before and behind it.
+#[inline(always)]
+fn put_spaced_cpu(c: CpuId, line: &mut Line, from: usize) -> usize
+    requires { from + 23 ≤ ROOM }
+    ensures text { take result line.new ≡ take from line.old ++ (codes " c" ++ decimal c.0 ++ codes " ") }
+    ensures within { result ≤ from + 23 }
 {
-    put_number(out, entry.number)?;
-    out.extend_from_slice(b" c")?;
-    put_number(out, u64::from(entry.cpu.0))?;
-    out.extend_from_slice(b" ")
+    let from = put_bytes(b" c", line, from);
+    let from = put_number(u64::from(c.0), line, from);
+    put_bytes(b" ", line, from)
 }
 
+// What follows the number of the entry.
+fn put_behind_number(work: &Work, entry: &Entry, line: &mut Line, from: usize) -> usize
+    requires { from + 383 ≤ ROOM }
+    ensures text { take result line.new ≡ take from line.old
+        ++ (codes " c" ++ decimal entry.now.cpu.0 ++ codes " " ++ event_text work.now entry.now.event ++ hints_text entry.now.hints ++ codes "\n") }
+    ensures within { result ≤ from + 383 }
+{
+    let from = put_spaced_cpu(entry.cpu, line, from);
+    let from = put_event(work, &entry.event, line, from);
+    let from = put_hints(&entry.hints, line, from);
+    put_bytes(b"\n", line, from)
+}
+
+// Puts the line of the entry, and returns where it begins and ends.
 #[tactic(auto, unfolding(sd_full::specs::Texts::entry_text))]
-fn put_entry(work: &Work, entry: &Entry, out: &mut Vec<u8>) -> Result<(), AllocError>
-    ensures { OnOk result (out.new.items ≡ out.old.items ++ entry_text work.now entry.now) }
+fn put_entry(work: &Work, entry: &Entry, line: &mut Line) -> (usize, usize)
+    ensures within { (result.0 ≤ result.1) × (result.1 ≤ ROOM) }
+    ensures text { slice_range line.new result.0 result.1 ≡ entry_text work.now entry.now }
 {
-    put_number_and_cpu(entry, out)?;
-    put_event(work, &entry.event, out)?;
-    put_hints(&entry.hints, out)?;
-    out.extend_from_slice(b"\n")
+    let from = write_digits(entry.number, line, NUMBER_END);
+    let to = put_behind_number(work, entry, line, NUMBER_END);
+    (from, to)
 }
 
-/// Appends the line of the entry, with its newline: its number, its processor, its event, and the numbers that it
-/// read, where it read any. A number that the workload does not declare has no name there. Where memory runs out,
-/// `out` is as it was.
+/// A buffer in which the lines of entries are made, one at a time.
+#[derive(Drop)]
+pub struct EntryLine {
+    line: Line,
+}
+
+impl EntryLine {
+    /// An empty buffer.
+    pub fn new() -> EntryLine {
+        EntryLine { line: [0; ROOM] }
+    }
+
+    /// The line of the entry, with its newline: its number, its processor, its event, and the numbers that it read,
+    /// where it read any. A number that the workload does not declare has no name there.
+    pub fn format(&mut self, work: &Work, entry: &Entry) -> &[u8]
+        ensures { result.now ≡ entry_text work.now entry.now }
+    {
+        let (from, to) = put_entry(work, entry, &mut self.line);
+        &self.line[from..to]
+    }
+}
+
+/// Appends the line of the entry, as `EntryLine` makes it. Where memory runs out, `out` is as it was.
 pub fn write_entry(
-    alloc: Global,
+    _alloc: Global,
     work: &Work,
     entry: &Entry,
     out: &mut Vec<u8>,
@@ -84,7 +135,6 @@ pub fn write_entry(
     ensures ok { OnOk result (out.new.items ≡ out.old.items ++ entry_text work.now entry.now) }
     ensures err { OnErr result (out.new.items ≡ out.old.items) }
 {
-    let mut line = Vec::new(alloc);
-    put_entry(work, entry, &mut line)?;
-    out.extend_from_slice(&line)
+    let mut line = EntryLine::new();
+    out.extend_from_slice(line.format(work, entry))
 }

@@ -1,24 +1,25 @@
 //! The text of an event.
 
-ghost use Rattle.std.specs.Prelude.{◌≡◌, ◌++◌, OnOk, codes, decimal};
+ghost use Rattle.std.specs.Prelude.{◌≡◌, ◌+◌, ◌≤◌, ◌++◌, length, take, codes, decimal};
 ghost use Rattle.sd_machine.specs.Texts.{end_text};
 ghost use Rattle.sd_full.specs.Texts.{assign_text, bind_text, cpu_text, cpu_text_if, event_text, prio_text, put_text, put_text_if, set_name, woken_text, word_chan, word_lock, word_thread};
 
 use crate::answers::{assign_word, put_bind_answer, put_cpu_if, put_prio_answer};
-use crate::names::put_set_name;
+use crate::line::{Line, ROOM, put_bytes};
+use crate::names::set_name;
 use crate::words::{
     put_cpu, put_lock_thread, put_place, put_place_if, put_space_lock, put_space_number,
-    put_space_thread, put_thread_chan, put_thread_lock, put_two_threads, put_woken, put_word_chan,
-    put_word_lock, put_word_thread,
+    put_space_small, put_space_thread, put_thread_chan, put_thread_lock, put_two_threads,
+    put_woken, put_word_chan, put_word_lock, put_word_thread,
 };
 use sd_types::{
     AssignAnswer, BindAnswer, ChanId, CpuId, End, Event, LockId, PrioAnswer, Put, SetId, ThreadId,
     Work,
 };
-use std::alloc::AllocError;
 
 fn end_word(end: End) -> &'static [u8]
-    ensures { result.now ≡ end_text end }
+    ensures word { result.now ≡ end_text end }
+    ensures short { length result.now ≤ 6 }
 {
     match end {
         End::Front => b" front",
@@ -32,42 +33,45 @@ fn put_thread_number(
     word: &[u8],
     t: ThreadId,
     p: u8,
-    out: &mut Vec<u8>,
-) -> Result<(), AllocError>
-    ensures { OnOk result (out.new.items ≡ out.old.items ++ (word_thread work.now word.now t ++ codes " " ++ decimal p)) }
+    line: &mut Line,
+    from: usize,
+) -> usize
+    requires { from + length word.now + 21 ≤ ROOM }
+    ensures text { take result line.new ≡ take from line.old ++ (word_thread work.now word.now t ++ codes " " ++ decimal p) }
+    ensures within { result ≤ from + length word.now + 21 }
 {
-    put_word_thread(work, word, t, out)?;
-    put_space_number(u64::from(p), out)
+    let from = put_word_thread(work, word, t, line, from);
+    put_space_small(p, line, from)
 }
 
-fn put_steal(
-    work: &Work,
-    victim: CpuId,
-    t: ThreadId,
-    p: u8,
-    out: &mut Vec<u8>,
-) -> Result<(), AllocError>
-    ensures { OnOk result (out.new.items ≡ out.old.items ++ (word_thread work.now (codes "steal " ++ cpu_text victim) t ++ codes " " ++ decimal p)) }
+fn put_steal(work: &Work, victim: CpuId, t: ThreadId, p: u8, line: &mut Line, from: usize) -> usize
+    requires { from + 48 ≤ ROOM }
+    ensures text { take result line.new ≡ take from line.old ++ (word_thread work.now (codes "steal " ++ cpu_text victim) t ++ codes " " ++ decimal p) }
+    ensures within { result ≤ from + 48 }
 {
-    out.extend_from_slice(b"steal ")?;
-    put_cpu(victim, out)?;
-    put_space_thread(work, t, out)?;
-    put_space_number(u64::from(p), out)
+    let from = put_bytes(b"steal ", line, from);
+    let from = put_cpu(victim, line, from);
+    let from = put_space_thread(work, t, line, from);
+    put_space_small(p, line, from)
 }
 
-fn put_preempt(work: &Work, t: ThreadId, end: End, out: &mut Vec<u8>) -> Result<(), AllocError>
-    ensures { OnOk result (out.new.items ≡ out.old.items ++ (word_thread work.now (codes "preempt") t ++ end_text end)) }
+fn put_preempt(work: &Work, t: ThreadId, end: End, line: &mut Line, from: usize) -> usize
+    requires { from + 30 ≤ ROOM }
+    ensures text { take result line.new ≡ take from line.old ++ (word_thread work.now (codes "preempt") t ++ end_text end) }
+    ensures within { result ≤ from + 30 }
 {
-    put_word_thread(work, b"preempt", t, out)?;
-    out.extend_from_slice(end_word(end))
+    let from = put_word_thread(work, b"preempt", t, line, from);
+    put_bytes(end_word(end), line, from)
 }
 
-fn put_away(work: &Work, t: ThreadId, cpu: CpuId, out: &mut Vec<u8>) -> Result<(), AllocError>
-    ensures { OnOk result (out.new.items ≡ out.old.items ++ (word_thread work.now (codes "preempt") t ++ codes " away " ++ cpu_text cpu)) }
+fn put_away(work: &Work, t: ThreadId, cpu: CpuId, line: &mut Line, from: usize) -> usize
+    requires { from + 52 ≤ ROOM }
+    ensures text { take result line.new ≡ take from line.old ++ (word_thread work.now (codes "preempt") t ++ codes " away " ++ cpu_text cpu) }
+    ensures within { result ≤ from + 52 }
 {
-    put_word_thread(work, b"preempt", t, out)?;
-    out.extend_from_slice(b" away ")?;
-    put_cpu(cpu, out)
+    let from = put_word_thread(work, b"preempt", t, line, from);
+    let from = put_bytes(b" away ", line, from);
+    put_cpu(cpu, line, from)
 }
 
 /// `word t to c7`
@@ -76,12 +80,15 @@ fn put_thread_place(
     word: &[u8],
     t: ThreadId,
     at: Put,
-    out: &mut Vec<u8>,
-) -> Result<(), AllocError>
-    ensures { OnOk result (out.new.items ≡ out.old.items ++ (word_thread work.now word.now t ++ put_text at)) }
+    line: &mut Line,
+    from: usize,
+) -> usize
+    requires { from + length word.now + 42 ≤ ROOM }
+    ensures text { take result line.new ≡ take from line.old ++ (word_thread work.now word.now t ++ put_text at) }
+    ensures within { result ≤ from + length word.now + 42 }
 {
-    put_word_thread(work, word, t, out)?;
-    put_place(at, out)
+    let from = put_word_thread(work, word, t, line, from);
+    put_place(at, line, from)
 }
 
 /// `word l s to c7`
@@ -91,12 +98,15 @@ fn put_lock_place(
     l: LockId,
     s: ThreadId,
     at: Put,
-    out: &mut Vec<u8>,
-) -> Result<(), AllocError>
-    ensures { OnOk result (out.new.items ≡ out.old.items ++ (word_thread work.now (word_lock work.now word.now l) s ++ put_text at)) }
+    line: &mut Line,
+    from: usize,
+) -> usize
+    requires { from + length word.now + 59 ≤ ROOM }
+    ensures text { take result line.new ≡ take from line.old ++ (word_thread work.now (word_lock work.now word.now l) s ++ put_text at) }
+    ensures within { result ≤ from + length word.now + 59 }
 {
-    put_lock_thread(work, word, l, s, out)?;
-    put_place(at, out)
+    let from = put_lock_thread(work, word, l, s, line, from);
+    put_place(at, line, from)
 }
 
 fn put_wake(
@@ -104,26 +114,32 @@ fn put_wake(
     t: ThreadId,
     k: ChanId,
     woken: Option<(ThreadId, Put)>,
-    out: &mut Vec<u8>,
-) -> Result<(), AllocError>
-    ensures { OnOk result (out.new.items ≡ out.old.items ++ (word_chan work.now (word_thread work.now (codes "wake") t) k ++ codes " " ++ woken_text work.now woken)) }
+    line: &mut Line,
+    from: usize,
+) -> usize
+    requires { from + 80 ≤ ROOM }
+    ensures text { take result line.new ≡ take from line.old ++ (word_chan work.now (word_thread work.now (codes "wake") t) k ++ codes " " ++ woken_text work.now woken) }
+    ensures within { result ≤ from + 80 }
 {
-    put_thread_chan(work, b"wake", t, k, out)?;
-    out.extend_from_slice(b" ")?;
-    put_woken(work, woken, out)
+    let from = put_thread_chan(work, b"wake", t, k, line, from);
+    let from = put_bytes(b" ", line, from);
+    put_woken(work, woken, line, from)
 }
 
 fn put_rouse(
     work: &Work,
     k: ChanId,
     woken: Option<(ThreadId, Put)>,
-    out: &mut Vec<u8>,
-) -> Result<(), AllocError>
-    ensures { OnOk result (out.new.items ≡ out.old.items ++ (word_chan work.now (codes "rouse") k ++ codes " " ++ woken_text work.now woken)) }
+    line: &mut Line,
+    from: usize,
+) -> usize
+    requires { from + 64 ≤ ROOM }
+    ensures text { take result line.new ≡ take from line.old ++ (word_chan work.now (codes "rouse") k ++ codes " " ++ woken_text work.now woken) }
+    ensures within { result ≤ from + 64 }
 {
-    put_word_chan(work, b"rouse", k, out)?;
-    out.extend_from_slice(b" ")?;
-    put_woken(work, woken, out)
+    let from = put_word_chan(work, b"rouse", k, line, from);
+    let from = put_bytes(b" ", line, from);
+    put_woken(work, woken, line, from)
 }
 
 fn put_will(
@@ -132,13 +148,16 @@ fn put_will(
     o: ThreadId,
     p: u8,
     at: Option<Put>,
-    out: &mut Vec<u8>,
-) -> Result<(), AllocError>
-    ensures { OnOk result (out.new.items ≡ out.old.items ++ (word_thread work.now (word_lock work.now (codes "will") l) o ++ codes " " ++ decimal p ++ put_text_if at)) }
+    line: &mut Line,
+    from: usize,
+) -> usize
+    requires { from + 67 ≤ ROOM }
+    ensures text { take result line.new ≡ take from line.old ++ (word_thread work.now (word_lock work.now (codes "will") l) o ++ codes " " ++ decimal p ++ put_text_if at) }
+    ensures within { result ≤ from + 67 }
 {
-    put_lock_thread(work, b"will", l, o, out)?;
-    put_space_number(u64::from(p), out)?;
-    put_place_if(at, out)
+    let from = put_lock_thread(work, b"will", l, o, line, from);
+    let from = put_space_small(p, line, from);
+    put_place_if(at, line, from)
 }
 
 fn put_prio(
@@ -146,13 +165,16 @@ fn put_prio(
     t: ThreadId,
     s: ThreadId,
     answer: PrioAnswer,
-    out: &mut Vec<u8>,
-) -> Result<(), AllocError>
-    ensures { OnOk result (out.new.items ≡ out.old.items ++ (word_thread work.now (word_thread work.now (codes "prio") t) s ++ codes " " ++ prio_text answer)) }
+    line: &mut Line,
+    from: usize,
+) -> usize
+    requires { from + 70 ≤ ROOM }
+    ensures text { take result line.new ≡ take from line.old ++ (word_thread work.now (word_thread work.now (codes "prio") t) s ++ codes " " ++ prio_text answer) }
+    ensures within { result ≤ from + 70 }
 {
-    put_two_threads(work, b"prio", t, s, out)?;
-    out.extend_from_slice(b" ")?;
-    put_prio_answer(answer, out)
+    let from = put_two_threads(work, b"prio", t, s, line, from);
+    let from = put_bytes(b" ", line, from);
+    put_prio_answer(answer, line, from)
 }
 
 fn put_cv_wait(
@@ -160,12 +182,15 @@ fn put_cv_wait(
     t: ThreadId,
     k: ChanId,
     l: LockId,
-    out: &mut Vec<u8>,
-) -> Result<(), AllocError>
-    ensures { OnOk result (out.new.items ≡ out.old.items ++ word_lock work.now (word_chan work.now (word_thread work.now (codes "cvwait") t) k) l) }
+    line: &mut Line,
+    from: usize,
+) -> usize
+    requires { from + 57 ≤ ROOM }
+    ensures text { take result line.new ≡ take from line.old ++ word_lock work.now (word_chan work.now (word_thread work.now (codes "cvwait") t) k) l }
+    ensures within { result ≤ from + 57 }
 {
-    put_thread_chan(work, b"cvwait", t, k, out)?;
-    put_space_lock(work, l, out)
+    let from = put_thread_chan(work, b"cvwait", t, k, line, from);
+    put_space_lock(work, l, line, from)
 }
 
 fn put_sema_wake(
@@ -174,13 +199,16 @@ fn put_sema_wake(
     k: ChanId,
     s: ThreadId,
     at: Put,
-    out: &mut Vec<u8>,
-) -> Result<(), AllocError>
-    ensures { OnOk result (out.new.items ≡ out.old.items ++ (word_thread work.now (word_chan work.now (word_thread work.now (codes "semav") t) k) s ++ put_text at)) }
+    line: &mut Line,
+    from: usize,
+) -> usize
+    requires { from + 81 ≤ ROOM }
+    ensures text { take result line.new ≡ take from line.old ++ (word_thread work.now (word_chan work.now (word_thread work.now (codes "semav") t) k) s ++ put_text at) }
+    ensures within { result ≤ from + 81 }
 {
-    put_thread_chan(work, b"semav", t, k, out)?;
-    put_space_thread(work, s, out)?;
-    put_place(at, out)
+    let from = put_thread_chan(work, b"semav", t, k, line, from);
+    let from = put_space_thread(work, s, line, from);
+    put_place(at, line, from)
 }
 
 fn put_sema_count(
@@ -188,22 +216,27 @@ fn put_sema_count(
     t: ThreadId,
     k: ChanId,
     count: u32,
-    out: &mut Vec<u8>,
-) -> Result<(), AllocError>
-    ensures { OnOk result (out.new.items ≡ out.old.items ++ (word_chan work.now (word_thread work.now (codes "semav") t) k ++ codes " " ++ decimal count)) }
+    line: &mut Line,
+    from: usize,
+) -> usize
+    requires { from + 60 ≤ ROOM }
+    ensures text { take result line.new ≡ take from line.old ++ (word_chan work.now (word_thread work.now (codes "semav") t) k ++ codes " " ++ decimal count) }
+    ensures within { result ≤ from + 60 }
 {
-    put_thread_chan(work, b"semav", t, k, out)?;
-    put_space_number(u64::from(count), out)
+    let from = put_thread_chan(work, b"semav", t, k, line, from);
+    put_space_number(u64::from(count), line, from)
 }
 
 /// ` c7 s`: a processor and a set.
-fn put_cpu_and_set(work: &Work, cpu: CpuId, set: SetId, out: &mut Vec<u8>) -> Result<(), AllocError>
-    ensures { OnOk result (out.new.items ≡ out.old.items ++ (codes " " ++ cpu_text cpu ++ codes " " ++ set_name work.now set.0)) }
+fn put_cpu_and_set(work: &Work, cpu: CpuId, set: SetId, line: &mut Line, from: usize) -> usize
+    requires { from + 39 ≤ ROOM }
+    ensures text { take result line.new ≡ take from line.old ++ (codes " " ++ cpu_text cpu ++ codes " " ++ set_name work.now set.0) }
+    ensures within { result ≤ from + 39 }
 {
-    out.extend_from_slice(b" ")?;
-    put_cpu(cpu, out)?;
-    out.extend_from_slice(b" ")?;
-    put_set_name(work, set, out)
+    let from = put_bytes(b" ", line, from);
+    let from = put_cpu(cpu, line, from);
+    let from = put_bytes(b" ", line, from);
+    put_bytes(set_name(work, set), line, from)
 }
 
 fn put_assign(
@@ -212,35 +245,38 @@ fn put_assign(
     cpu: CpuId,
     set: SetId,
     answer: AssignAnswer,
-    out: &mut Vec<u8>,
-) -> Result<(), AllocError>
-    ensures { OnOk result (out.new.items ≡ out.old.items ++ (word_thread work.now (codes "assign") t ++ codes " " ++ cpu_text cpu ++ codes " " ++ set_name work.now set.0 ++ codes " " ++ assign_text answer)) }
+    line: &mut Line,
+    from: usize,
+) -> usize
+    requires { from + 69 ≤ ROOM }
+    ensures text { take result line.new ≡ take from line.old ++ (word_thread work.now (codes "assign") t ++ codes " " ++ cpu_text cpu ++ codes " " ++ set_name work.now set.0 ++ codes " " ++ assign_text answer) }
+    ensures within { result ≤ from + 69 }
 {
-    put_word_thread(work, b"assign", t, out)?;
-    put_cpu_and_set(work, cpu, set, out)?;
-    out.extend_from_slice(b" ")?;
-    out.extend_from_slice(assign_word(answer))
+    let from = put_word_thread(work, b"assign", t, line, from);
+    let from = put_cpu_and_set(work, cpu, set, line, from);
+    let from = put_bytes(b" ", line, from);
+    put_bytes(assign_word(answer), line, from)
 }
 
-fn put_joined(work: &Work, set: SetId, out: &mut Vec<u8>) -> Result<(), AllocError>
-    ensures { OnOk result (out.new.items ≡ out.old.items ++ (codes "joined " ++ set_name work.now set.0)) }
+fn put_joined(work: &Work, set: SetId, line: &mut Line, from: usize) -> usize
+    requires { from + 23 ≤ ROOM }
+    ensures text { take result line.new ≡ take from line.old ++ (codes "joined " ++ set_name work.now set.0) }
+    ensures within { result ≤ from + 23 }
 {
-    out.extend_from_slice(b"joined ")?;
-    put_set_name(work, set, out)
+    let from = put_bytes(b"joined ", line, from);
+    put_bytes(set_name(work, set), line, from)
 }
 
 /// ` c7 ok`: a processor and the answer of a binding to it.
-fn put_cpu_and_answer(
-    cpu: Option<CpuId>,
-    answer: BindAnswer,
-    out: &mut Vec<u8>,
-) -> Result<(), AllocError>
-    ensures { OnOk result (out.new.items ≡ out.old.items ++ (codes " " ++ cpu_text_if cpu ++ codes " " ++ bind_text answer)) }
+fn put_cpu_and_answer(cpu: Option<CpuId>, answer: BindAnswer, line: &mut Line, from: usize) -> usize
+    requires { from + 50 ≤ ROOM }
+    ensures text { take result line.new ≡ take from line.old ++ (codes " " ++ cpu_text_if cpu ++ codes " " ++ bind_text answer) }
+    ensures within { result ≤ from + 50 }
 {
-    out.extend_from_slice(b" ")?;
-    put_cpu_if(cpu, out)?;
-    out.extend_from_slice(b" ")?;
-    put_bind_answer(answer, out)
+    let from = put_bytes(b" ", line, from);
+    let from = put_cpu_if(cpu, line, from);
+    let from = put_bytes(b" ", line, from);
+    put_bind_answer(answer, line, from)
 }
 
 fn put_bind(
@@ -249,59 +285,64 @@ fn put_bind(
     s: ThreadId,
     cpu: Option<CpuId>,
     answer: BindAnswer,
-    out: &mut Vec<u8>,
-) -> Result<(), AllocError>
-    ensures { OnOk result (out.new.items ≡ out.old.items ++ (word_thread work.now (word_thread work.now (codes "pbind") t) s ++ codes " " ++ cpu_text_if cpu ++ codes " " ++ bind_text answer)) }
+    line: &mut Line,
+    from: usize,
+) -> usize
+    requires { from + 90 ≤ ROOM }
+    ensures text { take result line.new ≡ take from line.old ++ (word_thread work.now (word_thread work.now (codes "pbind") t) s ++ codes " " ++ cpu_text_if cpu ++ codes " " ++ bind_text answer) }
+    ensures within { result ≤ from + 90 }
 {
-    put_two_threads(work, b"pbind", t, s, out)?;
-    put_cpu_and_answer(cpu, answer, out)
+    let from = put_two_threads(work, b"pbind", t, s, line, from);
+    put_cpu_and_answer(cpu, answer, line, from)
 }
 
-/// Appends the text of the event. Where memory runs out, a part of it may have been appended.
-pub(crate) fn put_event(work: &Work, event: &Event, out: &mut Vec<u8>) -> Result<(), AllocError>
-    ensures { OnOk result (out.new.items ≡ out.old.items ++ event_text work.now event.now) }
+/// The text of the event.
+pub(crate) fn put_event(work: &Work, event: &Event, line: &mut Line, from: usize) -> usize
+    requires { from + 100 ≤ ROOM }
+    ensures text { take result line.new ≡ take from line.old ++ event_text work.now event.now }
+    ensures within { result ≤ from + 100 }
 {
     match *event {
-        Event::Tick { t } => put_word_thread(work, b"tick", t, out),
-        Event::Spin { t, l } => put_thread_lock(work, b"spin", t, l, out),
-        Event::Idle => out.extend_from_slice(b"idle"),
-        Event::Dispatch { t, p } => put_thread_number(work, b"dispatch", t, p, out),
-        Event::Steal { victim, t, p } => put_steal(work, victim, t, p, out),
-        Event::Preempt { t, end } => put_preempt(work, t, end, out),
-        Event::Yield { t } => put_word_thread(work, b"yield", t, out),
-        Event::Done { t } => put_word_thread(work, b"done", t, out),
-        Event::Nap { t } => put_word_thread(work, b"nap", t, out),
-        Event::Napend { t, at } => put_thread_place(work, b"napend", t, at, out),
-        Event::Sleep { t, k } => put_thread_chan(work, b"sleep", t, k, out),
-        Event::Wake { t, k, woken } => put_wake(work, t, k, woken, out),
-        Event::Wakeall { t, k } => put_thread_chan(work, b"wakeall", t, k, out),
-        Event::Rouse { k, woken } => put_rouse(work, k, woken, out),
-        Event::Enter { t, l } => put_thread_lock(work, b"enter", t, l, out),
-        Event::Read { t, l } => put_thread_lock(work, b"read", t, l, out),
-        Event::Write { t, l } => put_thread_lock(work, b"write", t, l, out),
-        Event::Block { t, l } => put_thread_lock(work, b"block", t, l, out),
-        Event::Will { l, o, p, at } => put_will(work, l, o, p, at, out),
-        Event::End { l } => put_word_lock(work, b"end", l, out),
-        Event::Exit { t, l } => put_thread_lock(work, b"exit", t, l, out),
-        Event::Unblock { l, s, at } => put_lock_place(work, b"unblock", l, s, at, out),
-        Event::Grant { l, s, at } => put_lock_place(work, b"grant", l, s, at, out),
-        Event::Passed { l } => put_word_lock(work, b"passed", l, out),
-        Event::Age { t, p } => put_thread_number(work, b"age", t, p, out),
-        Event::Prio { t, s, answer } => put_prio(work, t, s, answer, out),
-        Event::CvWait { t, k, l } => put_cv_wait(work, t, k, l, out),
-        Event::SemaP { t, k } => put_thread_chan(work, b"semap", t, k, out),
-        Event::SemaWait { t, k } => put_thread_chan(work, b"semawait", t, k, out),
-        Event::SemaVWake { t, k, s, at } => put_sema_wake(work, t, k, s, at, out),
-        Event::SemaVCount { t, k, count } => put_sema_count(work, t, k, count, out),
+        Event::Tick { t } => put_word_thread(work, b"tick", t, line, from),
+        Event::Spin { t, l } => put_thread_lock(work, b"spin", t, l, line, from),
+        Event::Idle => put_bytes(b"idle", line, from),
+        Event::Dispatch { t, p } => put_thread_number(work, b"dispatch", t, p, line, from),
+        Event::Steal { victim, t, p } => put_steal(work, victim, t, p, line, from),
+        Event::Preempt { t, end } => put_preempt(work, t, end, line, from),
+        Event::Yield { t } => put_word_thread(work, b"yield", t, line, from),
+        Event::Done { t } => put_word_thread(work, b"done", t, line, from),
+        Event::Nap { t } => put_word_thread(work, b"nap", t, line, from),
+        Event::Napend { t, at } => put_thread_place(work, b"napend", t, at, line, from),
+        Event::Sleep { t, k } => put_thread_chan(work, b"sleep", t, k, line, from),
+        Event::Wake { t, k, woken } => put_wake(work, t, k, woken, line, from),
+        Event::Wakeall { t, k } => put_thread_chan(work, b"wakeall", t, k, line, from),
+        Event::Rouse { k, woken } => put_rouse(work, k, woken, line, from),
+        Event::Enter { t, l } => put_thread_lock(work, b"enter", t, l, line, from),
+        Event::Read { t, l } => put_thread_lock(work, b"read", t, l, line, from),
+        Event::Write { t, l } => put_thread_lock(work, b"write", t, l, line, from),
+        Event::Block { t, l } => put_thread_lock(work, b"block", t, l, line, from),
+        Event::Will { l, o, p, at } => put_will(work, l, o, p, at, line, from),
+        Event::End { l } => put_word_lock(work, b"end", l, line, from),
+        Event::Exit { t, l } => put_thread_lock(work, b"exit", t, l, line, from),
+        Event::Unblock { l, s, at } => put_lock_place(work, b"unblock", l, s, at, line, from),
+        Event::Grant { l, s, at } => put_lock_place(work, b"grant", l, s, at, line, from),
+        Event::Passed { l } => put_word_lock(work, b"passed", l, line, from),
+        Event::Age { t, p } => put_thread_number(work, b"age", t, p, line, from),
+        Event::Prio { t, s, answer } => put_prio(work, t, s, answer, line, from),
+        Event::CvWait { t, k, l } => put_cv_wait(work, t, k, l, line, from),
+        Event::SemaP { t, k } => put_thread_chan(work, b"semap", t, k, line, from),
+        Event::SemaWait { t, k } => put_thread_chan(work, b"semawait", t, k, line, from),
+        Event::SemaVWake { t, k, s, at } => put_sema_wake(work, t, k, s, at, line, from),
+        Event::SemaVCount { t, k, count } => put_sema_count(work, t, k, count, line, from),
         Event::Assign {
             t,
             cpu,
             set,
             answer,
-        } => put_assign(work, t, cpu, set, answer, out),
-        Event::Move { t, at } => put_thread_place(work, b"move", t, at, out),
-        Event::Joined { set } => put_joined(work, set, out),
-        Event::Bind { t, s, cpu, answer } => put_bind(work, t, s, cpu, answer, out),
-        Event::Away { t, cpu } => put_away(work, t, cpu, out),
+        } => put_assign(work, t, cpu, set, answer, line, from),
+        Event::Move { t, at } => put_thread_place(work, b"move", t, at, line, from),
+        Event::Joined { set } => put_joined(work, set, line, from),
+        Event::Bind { t, s, cpu, answer } => put_bind(work, t, s, cpu, answer, line, from),
+        Event::Away { t, cpu } => put_away(work, t, cpu, line, from),
     }
 }

@@ -4,8 +4,9 @@
 mod answers;
 mod entries;
 mod events;
+mod line;
 mod names;
 mod words;
 
-pub use entries::write_entry;
+pub use entries::{EntryLine, write_entry};
 pub use names::{put_chan_name, put_lock_name, put_set_name, put_thread_name};

@@ -1,57 +1,71 @@
-//! The words of which the texts of events are made. Each function appends a text. Where memory runs out it may have
-//! appended a part of it: the caller writes into a line of its own, which it then gives up.
+//! The words of which the texts of events are made.
 
-ghost use Rattle.std.specs.Prelude.{◌≡◌, ◌++◌, OnOk, codes, decimal};
+ghost use Rattle.std.specs.Prelude.{◌≡◌, ◌+◌, ◌≤◌, ◌++◌, length, take, codes, decimal};
 ghost use Rattle.sd_machine.specs.Texts.{chan_name, lock_name, thread_name};
 ghost use Rattle.sd_full.specs.Texts.{cpu_text, put_text, put_text_if, woken_text, word_chan, word_lock, word_thread};
 
-use crate::names::{put_chan_name, put_lock_name, put_thread_name};
-use sd_text::put_number;
+use crate::line::{Line, ROOM, put_bytes, put_number, put_small};
+use crate::names::{chan_name, lock_name, thread_name};
 use sd_types::{ChanId, CpuId, LockId, Put, ThreadId, Work};
-use std::alloc::AllocError;
 
 /// ` 7`
-pub(crate) fn put_space_number(n: u64, out: &mut Vec<u8>) -> Result<(), AllocError>
-    ensures { OnOk result (out.new.items ≡ out.old.items ++ (codes " " ++ decimal n)) }
+pub(crate) fn put_space_number(n: u64, line: &mut Line, from: usize) -> usize
+    requires { from + 21 ≤ ROOM }
+    ensures text { take result line.new ≡ take from line.old ++ (codes " " ++ decimal n) }
+    ensures within { result ≤ from + 21 }
 {
-    out.extend_from_slice(b" ")?;
-    put_number(out, n)
+    let from = put_bytes(b" ", line, from);
+    put_number(n, line, from)
+}
+
+/// The same, of a small number.
+pub(crate) fn put_space_small(n: u8, line: &mut Line, from: usize) -> usize
+    requires { from + 4 ≤ ROOM }
+    ensures text { take result line.new ≡ take from line.old ++ (codes " " ++ decimal n) }
+    ensures within { result ≤ from + 4 }
+{
+    let from = put_bytes(b" ", line, from);
+    put_small(n, line, from)
 }
 
 /// `c7`
-pub(crate) fn put_cpu(c: CpuId, out: &mut Vec<u8>) -> Result<(), AllocError>
-    ensures { OnOk result (out.new.items ≡ out.old.items ++ cpu_text c) }
+pub(crate) fn put_cpu(c: CpuId, line: &mut Line, from: usize) -> usize
+    requires { from + 21 ≤ ROOM }
+    ensures text { take result line.new ≡ take from line.old ++ cpu_text c }
+    ensures within { result ≤ from + 21 }
 {
-    out.extend_from_slice(b"c")?;
-    put_number(out, u64::from(c.0))
+    let from = put_bytes(b"c", line, from);
+    put_number(u64::from(c.0), line, from)
 }
 
 /// ` t`
-pub(crate) fn put_space_thread(
-    work: &Work,
-    t: ThreadId,
-    out: &mut Vec<u8>,
-) -> Result<(), AllocError>
-    ensures { OnOk result (out.new.items ≡ out.old.items ++ (codes " " ++ thread_name work.now t.0)) }
+pub(crate) fn put_space_thread(work: &Work, t: ThreadId, line: &mut Line, from: usize) -> usize
+    requires { from + 17 ≤ ROOM }
+    ensures text { take result line.new ≡ take from line.old ++ (codes " " ++ thread_name work.now t.0) }
+    ensures within { result ≤ from + 17 }
 {
-    out.extend_from_slice(b" ")?;
-    put_thread_name(work, t.0 as usize, out)
+    let from = put_bytes(b" ", line, from);
+    put_bytes(thread_name(work, t.0 as usize), line, from)
 }
 
 /// ` l`
-pub(crate) fn put_space_lock(work: &Work, l: LockId, out: &mut Vec<u8>) -> Result<(), AllocError>
-    ensures { OnOk result (out.new.items ≡ out.old.items ++ (codes " " ++ lock_name work.now l.0)) }
+pub(crate) fn put_space_lock(work: &Work, l: LockId, line: &mut Line, from: usize) -> usize
+    requires { from + 17 ≤ ROOM }
+    ensures text { take result line.new ≡ take from line.old ++ (codes " " ++ lock_name work.now l.0) }
+    ensures within { result ≤ from + 17 }
 {
-    out.extend_from_slice(b" ")?;
-    put_lock_name(work, l, out)
+    let from = put_bytes(b" ", line, from);
+    put_bytes(lock_name(work, l), line, from)
 }
 
 /// ` k`
-pub(crate) fn put_space_chan(work: &Work, k: ChanId, out: &mut Vec<u8>) -> Result<(), AllocError>
-    ensures { OnOk result (out.new.items ≡ out.old.items ++ (codes " " ++ chan_name work.now k.0)) }
+pub(crate) fn put_space_chan(work: &Work, k: ChanId, line: &mut Line, from: usize) -> usize
+    requires { from + 17 ≤ ROOM }
+    ensures text { take result line.new ≡ take from line.old ++ (codes " " ++ chan_name work.now k.0) }
+    ensures within { result ≤ from + 17 }
 {
-    out.extend_from_slice(b" ")?;
-    put_chan_name(work, k, out)
+    let from = put_bytes(b" ", line, from);
+    put_bytes(chan_name(work, k), line, from)
 }
 
 /// `word t`
@@ -59,12 +73,15 @@ pub(crate) fn put_word_thread(
     work: &Work,
     word: &[u8],
     t: ThreadId,
-    out: &mut Vec<u8>,
-) -> Result<(), AllocError>
-    ensures { OnOk result (out.new.items ≡ out.old.items ++ word_thread work.now word.now t) }
+    line: &mut Line,
+    from: usize,
+) -> usize
+    requires { from + length word.now + 17 ≤ ROOM }
+    ensures text { take result line.new ≡ take from line.old ++ word_thread work.now word.now t }
+    ensures within { result ≤ from + length word.now + 17 }
 {
-    out.extend_from_slice(word)?;
-    put_space_thread(work, t, out)
+    let from = put_bytes(word, line, from);
+    put_space_thread(work, t, line, from)
 }
 
 /// `word l`
@@ -72,12 +89,15 @@ pub(crate) fn put_word_lock(
     work: &Work,
     word: &[u8],
     l: LockId,
-    out: &mut Vec<u8>,
-) -> Result<(), AllocError>
-    ensures { OnOk result (out.new.items ≡ out.old.items ++ word_lock work.now word.now l) }
+    line: &mut Line,
+    from: usize,
+) -> usize
+    requires { from + length word.now + 17 ≤ ROOM }
+    ensures text { take result line.new ≡ take from line.old ++ word_lock work.now word.now l }
+    ensures within { result ≤ from + length word.now + 17 }
 {
-    out.extend_from_slice(word)?;
-    put_space_lock(work, l, out)
+    let from = put_bytes(word, line, from);
+    put_space_lock(work, l, line, from)
 }
 
 /// `word k`
@@ -85,12 +105,15 @@ pub(crate) fn put_word_chan(
     work: &Work,
     word: &[u8],
     k: ChanId,
-    out: &mut Vec<u8>,
-) -> Result<(), AllocError>
-    ensures { OnOk result (out.new.items ≡ out.old.items ++ word_chan work.now word.now k) }
+    line: &mut Line,
+    from: usize,
+) -> usize
+    requires { from + length word.now + 17 ≤ ROOM }
+    ensures text { take result line.new ≡ take from line.old ++ word_chan work.now word.now k }
+    ensures within { result ≤ from + length word.now + 17 }
 {
-    out.extend_from_slice(word)?;
-    put_space_chan(work, k, out)
+    let from = put_bytes(word, line, from);
+    put_space_chan(work, k, line, from)
 }
 
 /// `word t l`
@@ -99,12 +122,15 @@ pub(crate) fn put_thread_lock(
     word: &[u8],
     t: ThreadId,
     l: LockId,
-    out: &mut Vec<u8>,
-) -> Result<(), AllocError>
-    ensures { OnOk result (out.new.items ≡ out.old.items ++ word_lock work.now (word_thread work.now word.now t) l) }
+    line: &mut Line,
+    from: usize,
+) -> usize
+    requires { from + length word.now + 34 ≤ ROOM }
+    ensures text { take result line.new ≡ take from line.old ++ word_lock work.now (word_thread work.now word.now t) l }
+    ensures within { result ≤ from + length word.now + 34 }
 {
-    put_word_thread(work, word, t, out)?;
-    put_space_lock(work, l, out)
+    let from = put_word_thread(work, word, t, line, from);
+    put_space_lock(work, l, line, from)
 }
 
 /// `word t k`
@@ -113,12 +139,15 @@ pub(crate) fn put_thread_chan(
     word: &[u8],
     t: ThreadId,
     k: ChanId,
-    out: &mut Vec<u8>,
-) -> Result<(), AllocError>
-    ensures { OnOk result (out.new.items ≡ out.old.items ++ word_chan work.now (word_thread work.now word.now t) k) }
+    line: &mut Line,
+    from: usize,
+) -> usize
+    requires { from + length word.now + 34 ≤ ROOM }
+    ensures text { take result line.new ≡ take from line.old ++ word_chan work.now (word_thread work.now word.now t) k }
+    ensures within { result ≤ from + length word.now + 34 }
 {
-    put_word_thread(work, word, t, out)?;
-    put_space_chan(work, k, out)
+    let from = put_word_thread(work, word, t, line, from);
+    put_space_chan(work, k, line, from)
 }
 
 /// `word t s`
@@ -127,12 +156,15 @@ pub(crate) fn put_two_threads(
     word: &[u8],
     t: ThreadId,
     s: ThreadId,
-    out: &mut Vec<u8>,
-) -> Result<(), AllocError>
-    ensures { OnOk result (out.new.items ≡ out.old.items ++ word_thread work.now (word_thread work.now word.now t) s) }
+    line: &mut Line,
+    from: usize,
+) -> usize
+    requires { from + length word.now + 34 ≤ ROOM }
+    ensures text { take result line.new ≡ take from line.old ++ word_thread work.now (word_thread work.now word.now t) s }
+    ensures within { result ≤ from + length word.now + 34 }
 {
-    put_word_thread(work, word, t, out)?;
-    put_space_thread(work, s, out)
+    let from = put_word_thread(work, word, t, line, from);
+    put_space_thread(work, s, line, from)
 }
 
 /// `word l s`
@@ -141,58 +173,72 @@ pub(crate) fn put_lock_thread(
     word: &[u8],
     l: LockId,
     s: ThreadId,
-    out: &mut Vec<u8>,
-) -> Result<(), AllocError>
-    ensures { OnOk result (out.new.items ≡ out.old.items ++ word_thread work.now (word_lock work.now word.now l) s) }
+    line: &mut Line,
+    from: usize,
+) -> usize
+    requires { from + length word.now + 34 ≤ ROOM }
+    ensures text { take result line.new ≡ take from line.old ++ word_thread work.now (word_lock work.now word.now l) s }
+    ensures within { result ≤ from + length word.now + 34 }
 {
-    put_word_lock(work, word, l, out)?;
-    put_space_thread(work, s, out)
+    let from = put_word_lock(work, word, l, line, from);
+    put_space_thread(work, s, line, from)
 }
 
 /// ` to c7` or ` rt c7`: where a thread was put.
-pub(crate) fn put_place(at: Put, out: &mut Vec<u8>) -> Result<(), AllocError>
-    ensures { OnOk result (out.new.items ≡ out.old.items ++ put_text at) }
+pub(crate) fn put_place(at: Put, line: &mut Line, from: usize) -> usize
+    requires { from + 25 ≤ ROOM }
+    ensures text { take result line.new ≡ take from line.old ++ put_text at }
+    ensures within { result ≤ from + 25 }
 {
     match at {
-        Put::Cpu(x) => put_word_cpu(b" to ", x, out),
-        Put::RealTime(x) => put_word_cpu(b" rt ", x, out),
+        Put::Cpu(x) => put_word_cpu(b" to ", x, line, from),
+        Put::RealTime(x) => put_word_cpu(b" rt ", x, line, from),
     }
 }
 
-fn put_word_cpu(word: &[u8], c: CpuId, out: &mut Vec<u8>) -> Result<(), AllocError>
-    ensures { OnOk result (out.new.items ≡ out.old.items ++ (word.now ++ cpu_text c)) }
+fn put_word_cpu(word: &[u8], c: CpuId, line: &mut Line, from: usize) -> usize
+    requires { from + length word.now + 21 ≤ ROOM }
+    ensures text { take result line.new ≡ take from line.old ++ (word.now ++ cpu_text c) }
+    ensures within { result ≤ from + length word.now + 21 }
 {
-    out.extend_from_slice(word)?;
-    put_cpu(c, out)
+    let from = put_bytes(word, line, from);
+    put_cpu(c, line, from)
 }
 
 /// The same, and nothing where the thread was put nowhere.
-pub(crate) fn put_place_if(at: Option<Put>, out: &mut Vec<u8>) -> Result<(), AllocError>
-    ensures { OnOk result (out.new.items ≡ out.old.items ++ put_text_if at) }
+pub(crate) fn put_place_if(at: Option<Put>, line: &mut Line, from: usize) -> usize
+    requires { from + 25 ≤ ROOM }
+    ensures text { take result line.new ≡ take from line.old ++ put_text_if at }
+    ensures within { result ≤ from + 25 }
 {
     match at {
-        None => Ok(()),
-        Some(at) => put_place(at, out),
+        None => from,
+        Some(at) => put_place(at, line, from),
     }
 }
 
-fn put_woken_thread(work: &Work, s: ThreadId, at: Put, out: &mut Vec<u8>) -> Result<(), AllocError>
-    ensures { OnOk result (out.new.items ≡ out.old.items ++ (thread_name work.now s.0 ++ put_text at)) }
+fn put_woken_thread(work: &Work, s: ThreadId, at: Put, line: &mut Line, from: usize) -> usize
+    requires { from + 41 ≤ ROOM }
+    ensures text { take result line.new ≡ take from line.old ++ (thread_name work.now s.0 ++ put_text at) }
+    ensures within { result ≤ from + 41 }
 {
-    put_thread_name(work, s.0 as usize, out)?;
-    put_place(at, out)
+    let from = put_bytes(thread_name(work, s.0 as usize), line, from);
+    put_place(at, line, from)
 }
 
 /// `s to c7`, or `none` where no thread was woken.
 pub(crate) fn put_woken(
     work: &Work,
     woken: Option<(ThreadId, Put)>,
-    out: &mut Vec<u8>,
-) -> Result<(), AllocError>
-    ensures { OnOk result (out.new.items ≡ out.old.items ++ woken_text work.now woken) }
+    line: &mut Line,
+    from: usize,
+) -> usize
+    requires { from + 41 ≤ ROOM }
+    ensures text { take result line.new ≡ take from line.old ++ woken_text work.now woken }
+    ensures within { result ≤ from + 41 }
 {
     match woken {
-        None => out.extend_from_slice(b"none"),
-        Some((s, at)) => put_woken_thread(work, s, at, out),
+        None => put_bytes(b"none", line, from),
+        Some((s, at)) => put_woken_thread(work, s, at, line, from),
     }
 }

@@ -12,39 +12,33 @@ ghost use Rattle.sd_answers.specs.StreamChanges.{Puts};
 use crate::forms::Form;
 use sd_accounts::Accounts;
 use sd_answers::{Unwritten, put_line, put_text};
-use sd_event::write_entry;
+use sd_event::EntryLine;
 use sd_machine::State;
 use sd_text::Sink;
 use sd_types::{Entry, Work};
 use std::alloc::{AllocError, Global};
 
-/// Writes the line of an entry.
+/// Writes the line of an entry, which is made in the buffer.
 fn put_entry<K: Sink>(
-    alloc: Global,
     work: &Work,
     entry: &Entry,
+    line: &mut EntryLine,
     out: &mut K,
 ) -> Result<(), Unwritten>
     ensures { Puts (K.contents out.old) (K.contents out.new) (K.fault_count out.old) (K.fault_count out.new)
         (entry_text work.now entry.now) result }
 {
-    let mut line = Vec::new(alloc);
-    write_entry(alloc, work, entry, &mut line)?;
-    put_line(out, &line)
+    put_line(out, line.format(work, entry))
 }
 
 /// Writes the entries in order.
-fn put_entries<K: Sink>(
-    alloc: Global,
-    work: &Work,
-    entries: &[Entry],
-    out: &mut K,
-) -> Result<(), Unwritten>
+fn put_entries<K: Sink>(work: &Work, entries: &[Entry], out: &mut K) -> Result<(), Unwritten>
     ensures { Puts (K.contents out.old) (K.contents out.new) (K.fault_count out.old) (K.fault_count out.new)
         (entries_text work.now entries.now) result }
 {
+    let mut line = EntryLine::new();
     for entry in entries {
-        put_entry(alloc, work, entry, out)?;
+        put_entry(work, entry, &mut line, out)?;
     }
     Ok(())
 }
@@ -93,7 +87,7 @@ fn put_journal<K: Sink>(
     ensures { Puts (K.contents out.old) (K.contents out.new) (K.fault_count out.old) (K.fault_count out.new)
         (journal work.now entries.now) result }
 {
-    put_entries(alloc, work, entries, out)?;
+    put_entries(work, entries, out)?;
     put_accounts(alloc, work, entries, s, out)
 }
 
