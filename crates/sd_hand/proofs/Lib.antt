@@ -2,6 +2,7 @@ pub mod ActLemmas
 pub mod FoundLemmas
 pub mod FrameLemmas
 pub mod GoLemmas
+pub mod GuideLemmas
 pub mod HasLemmas
 pub mod HomeLemmas
 pub mod MoveLemmas

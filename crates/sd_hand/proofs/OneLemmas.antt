@@ -20,7 +20,8 @@ use Rattle.sd_homes.specs.declared.home.Home.{Home}
 use Rattle.sd_homes.specs.Families.{home_id, list_in, same_home}
 use Rattle.sd_homes.specs.Kinds.{has_id}
 use Rattle.sd_hand.specs.Hands.{AreApart, IsHeld, IsIn, held}
-use Rattle.sd_hand.specs.OneHome.{AreAllHomes, IsHomeOf, IsListOf, how_often, lists_at, lists_with}
+use Rattle.sd_shown.specs.Numbers.{IsHomeOf, IsListOf}
+use Rattle.sd_hand.specs.OneHome.{AreAllHomes, how_often, lists_at, lists_with}
 use Rattle.sd_hand.specs.Shown.{IsHome, IsListThere}
 use Rattle.sd_hand.proofs.MoveLemmas.{at_look}
 use Rattle.sd_hand.proofs.SlotLemmas.{apart_held, same_home_true}

@@ -13,6 +13,10 @@ use Rattle.sd_homes.specs.declared.home.Home.{Home}
 use Rattle.sd_homes.specs.Families.{has, home_id, list_in, same_home, taking}
 use Rattle.sd_homes.specs.Kinds.{IsListed}
 
+-- homes, each in a slot
+pub record HandSlots : Type 0 where
+  pub slots : List (Option Home)
+
 -- the first home of this number
 abbrev pub held : HomeId → List (Option Home) → Option Home
 held k [] = None

@@ -1,10 +1,11 @@
 -- All homes of a state, and in how many of their lists a thread stands.
 -- Source: this project's own; that a chain has four locks or four channels, see `sd_homes`.
-use Rattle.std.specs.Prelude.{ℕ, ◌+◌, ◌<◌, ◌≤◌, length, List, [], ◌∷◌, Option, Some, None, if◌then◌else◌}
+use Rattle.std.specs.Prelude.{◌≡◌, ℕ, ◌+◌, ◌<◌, ◌≤◌, length, List, [], ◌∷◌, Option, Some, None, if◌then◌else◌}
 use Rattle.sd_types.specs.declared.numbers.HomeId.{HomeId}
 use Rattle.sd_types.specs.declared.numbers.HomeId.TheVariants as home
 use Rattle.sd_types.specs.declared.numbers.Side.TheVariants.{Writer, Reader}
 use Rattle.sd_machine.specs.declared.states.State.{State}
+use Rattle.sd_shown.specs.Numbers.{IsHomeOf}
 use Rattle.sd_shown.specs.declared.list_id.ListId.{ListId}
 use Rattle.sd_shown.specs.declared.list_id.ListId.TheVariants.{Runs, Queues, Urgent, Waits, Sleeps, Naps, Ends}
 use Rattle.sd_homes.specs.declared.home.Home.{Home}
@@ -12,13 +13,6 @@ use Rattle.sd_homes.specs.Families.{home_id, list_in}
 use Rattle.sd_homes.specs.Kinds.{has_id}
 use Rattle.sd_hand.specs.Hands.{AreApart, IsHeld}
 use Rattle.sd_hand.specs.Shown.{ShowsState}
-
--- the state has a home of this number: one for each processor and for each set, and 64 chains of either kind
-abbrev pub IsHomeOf : State → HomeId → Type 0
-IsHomeOf s (home.Cpu c) = c.0 < length s.cpus
-IsHomeOf s (home.RealTime p) = p.0 < length s.open_cpus
-IsHomeOf s (home.Chain i) = i < 64
-IsHomeOf s (home.Sleepers i) = i < 64
 
 -- the homes are all those of the state and no others, each once, and stand for their parts of it after n entries
 pub record AreAllHomes (n : ℕ) (s : State) (hs : List (Option Home)) : Type 0 where
@@ -28,16 +22,6 @@ pub record AreAllHomes (n : ℕ) (s : State) (hs : List (Option Home)) : Type 0 
   pub only : (k : HomeId) → IsHeld k hs → IsHomeOf s k
   pub locks : length s.locks ≤ 256
   pub chans : length s.counts ≤ 256
-
--- what the list is named after is there
-abbrev pub IsListOf : State → ListId → Type 0
-IsListOf s (Runs c) = c.0 < length s.cpus
-IsListOf s (Queues c) = c.0 < length s.cpus
-IsListOf s (Urgent p) = p.0 < length s.open_cpus
-IsListOf s (Waits l side) = l.0 < length s.locks
-IsListOf s (Sleeps k) = k.0 < length s.counts
-IsListOf s (Naps c) = c.0 < length s.cpus
-IsListOf s (Ends c) = c.0 < length s.cpus
 
 -- the two sides of a lock
 abbrev pub sides_of : ℕ → List ListId → List ListId
@@ -63,3 +47,9 @@ abbrev pub lists_with : ℕ → List (Option Home) → ℕ
 lists_with t [] = 0
 lists_with t (None ∷ hs) = lists_with t hs
 lists_with t (Some h ∷ hs) = how_often t h (lists_at (home_id h)) + lists_with t hs
+
+-- there are homes of the state, all of them, which stand for it after n entries, and in which each of its threads stands in one list
+pub record StandsInHomes (n : ℕ) (s : State) : Type 0 where
+  pub homes : List (Option Home)
+  pub all : AreAllHomes n s homes
+  pub once : (t : ℕ) → t < length s.threads → lists_with t homes ≡ 1

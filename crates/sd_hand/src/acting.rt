@@ -4,7 +4,7 @@ use crate::hand::Hand;
 use sd_types::{CpuId, Duty};
 
 /// The processor that acts, with its count of ticks and its duty, which belong to it and to no home.
-#[derive(Drop)]
+#[derive(Clone, Copy)]
 pub struct Actor {
     pub cpu: CpuId,
     pub count: u32,

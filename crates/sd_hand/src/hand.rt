@@ -1,4 +1,4 @@
-//! The hand: the homes that a processor holds.
+//! The hand: the homes that a processor holds, or all homes of a run.
 
 ghost use Rattle.std.specs.Prelude.{◌≡◌, ◌⊎◌, ◌<◌, ◌%◌, [], ◌∷◌, None, Some, false, length, slice_get, IfErr, IfOk, IfSome, MatchOption};
 ghost use Rattle.std.specs.Option.{option_copied};
@@ -6,19 +6,33 @@ ghost use Rattle.sd_types.specs.declared.numbers.HomeId.TheVariants.{Chain, Cpu,
 ghost use Rattle.sd_shown.specs.Standing.{home_at};
 ghost use Rattle.sd_homes.specs.declared.home.Home.{Home as HomeOf};
 ghost use Rattle.sd_homes.specs.Families.{IsWhole, counting, home_id, locking, open_in, opened, putting, shut, taken_from, taking, viewing};
-ghost use Rattle.sd_hand.specs.Hands.{AreTaken, Asks, HoldsMore, IsHeld, IsNoSlot, IsSlot, Seeks, StandsIn, StandsInSlot, edit, has_thread, held, is_at, slot_has};
+ghost use Rattle.sd_hand.specs.Hands.{AreApart, AreTaken, Asks, HoldsMore, IsHeld, IsNoSlot, IsSlot, Seeks, StandsIn, StandsInSlot, edit, has_thread, held, is_at, slot_has};
 
+use crate::guide::Guide;
 use sd_homes::{Home, IsFull, Traveller, home_at, same_home};
 use sd_machine::LockState;
 use sd_record::Record;
 use sd_shown::ListId;
 use sd_store::{CpuView, Part};
 use sd_types::{ChanId, CpuId, HomeId, LockId, SetId, ThreadId, home_of_chan, home_of_lock};
+use std::alloc::{AllocError, Global};
+use std::marker::Model;
 
-/// Up to four homes.
+/// Homes of different numbers, each in a slot, and where to look first. Contracts see the slots.
 #[derive(Drop)]
 pub struct Hand {
-    pub slots: [Option<Home>; 4],
+    slots: Vec<Option<Home>>,
+    guide: Guide,
+}
+
+impl Model for Hand {
+    ghost use Rattle.sd_hand.specs.Hands.{AreApart, HandSlots};
+
+    ghost Value = { HandSlots };
+
+    ghost view = { λ h. record { slots = h.slots.items } };
+
+    ghost invariant = { λ h. AreApart h.slots.items };
 }
 
 fn is_at(k: HomeId, slot: &Option<Home>) -> bool
@@ -30,12 +44,16 @@ fn is_at(k: HomeId, slot: &Option<Home>) -> bool
     }
 }
 
-/// The first slot in which a home with this number lies.
-fn slot_in(slots: &[Option<Home>; 4], k: HomeId) -> Option<usize>
-    ensures inside { IfSome result (λ i. i < 4) }
+/// The slot in which a home with this number lies; the guess is looked at first.
+fn slot_in(slots: &[Option<Home>], guess: usize, k: HomeId) -> Option<usize>
+    requires apart { AreApart slots.now }
+    ensures inside { IfSome result (λ i. i < length slots.now) }
     ensures slot { MatchOption result (IsNoSlot k slots.now) (IsSlot k slots.now) }
 {
-    for i in 0..4 {
+    if guess < slots.len() && is_at(k, &slots[guess]) {
+        return Some(guess);
+    }
+    for i in 0..slots.len() {
         if is_at(k, &slots[i]) {
             return Some(i);
         }
@@ -54,10 +72,10 @@ fn stands_in(slot: &Option<Home>, t: ThreadId) -> Option<ListId>
 }
 
 /// The first list of these homes in which the thread stands.
-fn where_in(slots: &[Option<Home>; 4], t: ThreadId) -> Option<ListId>
+fn where_in(slots: &[Option<Home>], t: ThreadId) -> Option<ListId>
     ensures { MatchOption result (has_thread t.0 slots.now ≡ false) (StandsIn t.0 slots.now) }
 {
-    for i in 0..4 {
+    for i in 0..slots.len() {
         if let Some(at) = stands_in(&slots[i], t) {
             return Some(at);
         }
@@ -66,10 +84,10 @@ fn where_in(slots: &[Option<Home>; 4], t: ThreadId) -> Option<ListId>
 }
 
 /// The first slot in which no home lies.
-fn free_in(slots: &[Option<Home>; 4]) -> Option<usize>
-    ensures { MatchOption result (AreTaken slots.now) (λ i. (i < 4) × (slice_get slots.now i ≡ Some None)) }
+fn free_in(slots: &[Option<Home>]) -> Option<usize>
+    ensures { MatchOption result (AreTaken slots.now) (λ i. (i < length slots.now) × (slice_get slots.now i ≡ Some None)) }
 {
-    for i in 0..4 {
+    for i in 0..slots.len() {
         if slots[i].is_none() {
             return Some(i);
         }
@@ -78,13 +96,24 @@ fn free_in(slots: &[Option<Home>; 4]) -> Option<usize>
 }
 
 impl Hand {
-    /// A hand that holds nothing.
-    pub fn new() -> Hand
-        ensures { result.slots ≡ None ∷ None ∷ None ∷ None ∷ [] }
+    /// A hand that holds nothing, with room for four homes.
+    pub fn new(alloc: Global) -> Result<Hand, AllocError>
+        ensures { IfOk result (λ h. h.slots ≡ None ∷ None ∷ None ∷ None ∷ []) }
     {
-        Hand {
-            slots: [None, None, None, None],
-        }
+        let mut slots = Vec::new(alloc);
+        slots.push(None)?;
+        slots.push(None)?;
+        slots.push(None)?;
+        slots.push(None)?;
+        Ok(Hand::of(slots, Guide::new(alloc)))
+    }
+
+    /// These homes, of which no two have one number.
+    pub fn of(slots: Vec<Option<Home>>, guide: Guide) -> Hand
+        requires apart { AreApart slots.items }
+        ensures { result.slots ≡ slots.items }
+    {
+        Hand { slots, guide }
     }
 
     /// Takes a home, unless one with its number is held or four are: then it is given back.
@@ -106,10 +135,10 @@ impl Hand {
 
     /// The slot in which the home with this number lies.
     fn slot_of(&self, k: HomeId) -> Option<usize>
-        ensures inside { IfSome result (λ i. i < 4) }
+        ensures inside { IfSome result (λ i. i < length self.now.slots) }
         ensures slot { MatchOption result (IsNoSlot k self.now.slots) (IsSlot k self.now.slots) }
     {
-        slot_in(&self.slots, k)
+        slot_in(&self.slots, self.guide.slot(k), k)
     }
 
     /// The home with this number, which is lacking where it is not held.
@@ -129,6 +158,11 @@ impl Hand {
     pub fn where_is(&self, t: ThreadId) -> Result<ListId, Part>
         ensures { Seeks t self.now.slots result (StandsIn t.0 self.now.slots) }
     {
+        if let Some(at) = self.guide.list(t) {
+            if self.find(t, at).is_some() {
+                return Ok(at);
+            }
+        }
         match where_in(&self.slots, t) {
             None => Err(Part::Thread(t)),
             Some(at) => Ok(at),
@@ -153,13 +187,12 @@ impl Hand {
         ensures taken { result ≡ taken_from t.0 from (held (home_at from) self.old.slots) }
         ensures rest { self.new.slots ≡ edit (home_at from) (taking t.0 from) self.old.slots }
     {
-        match self.slot_of(home_at(from)) {
-            None => None,
-            Some(i) => match &mut self.slots[i] {
-                None => None,
-                Some(home) => home.take(t, from),
-            },
+        if let Some(i) = self.slot_of(home_at(from)) {
+            if let Some(home) = &mut self.slots[i] {
+                return home.take(t, from);
+            }
         }
+        None
     }
 
     /// Puts the thread into the list of those who stand there. Where the home of that list is not held, the thread is
@@ -168,6 +201,7 @@ impl Hand {
         ensures rest { self.new.slots ≡ edit (home_at at) (putting t at) self.old.slots }
         ensures whole { (h : HomeOf) → held (home_at at) self.old.slots ≡ Some h → IsWhole h }
     {
+        self.guide.note(t.id(), at);
         if let Some(i) = self.slot_of(home_at(at)) {
             if let Some(home) = &mut self.slots[i] {
                 home.is_whole();
@@ -214,13 +248,12 @@ impl Hand {
         ensures opened { IfOk result (λ _. self.new.slots ≡ edit (RealTime p) (opened c) self.old.slots) }
         ensures full { IfErr result (λ _. (h : HomeOf) × (held (RealTime p) self.old.slots ≡ Some h) × (length (open_in h) ≡ 64) × (self.new.slots ≡ self.old.slots)) }
     {
-        match self.slot_of(HomeId::RealTime(p)) {
-            None => Ok(()),
-            Some(i) => match &mut self.slots[i] {
-                None => Ok(()),
-                Some(home) => home.open(c),
-            },
+        if let Some(i) = self.slot_of(HomeId::RealTime(p)) {
+            if let Some(home) = &mut self.slots[i] {
+                return home.open(c);
+            }
         }
+        Ok(())
     }
 
     /// Processor `c` is no more one of the open ones of set `p`.

@@ -5,7 +5,8 @@ ghost use Rattle.sd_machine.specs.declared.states.State.{State as StateOf};
 ghost use Rattle.sd_machine.specs.States.{thread_of};
 ghost use Rattle.sd_shown.specs.Standing.{list_of};
 ghost use Rattle.sd_homes.specs.declared.home.Home.{Home as HomeOf};
-ghost use Rattle.sd_hand.specs.OneHome.{AreAllHomes, IsListOf, lists_with};
+ghost use Rattle.sd_shown.specs.Numbers.{IsListOf};
+ghost use Rattle.sd_hand.specs.OneHome.{AreAllHomes, lists_with};
 
 /// Where all homes of a state stand for it, each of its threads whose place is there stands in one list of one of them: none is
 /// lost between the homes, and none stands twice. A number that is no thread's stands in none.

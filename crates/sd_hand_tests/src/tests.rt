@@ -45,15 +45,15 @@ fn view() -> CpuView {
     }
 }
 
-fn acting() -> Acting {
-    Acting {
-        hand: Hand::new(),
+fn acting(alloc: Global) -> Result<Acting, AllocError> {
+    Ok(Acting {
+        hand: Hand::new(alloc)?,
         actor: Actor {
             cpu: CPU,
             count: 3,
             duty: Duty::Nothing,
         },
-    }
+    })
 }
 
 fn cpu_home(alloc: Global) -> Result<Home, AllocError> {
@@ -79,7 +79,7 @@ fn number(found: Result<Option<ThreadId>, Part>) -> Option<u16> {
 #[test]
 fn runs_and_naps(rt: HostRuntime) -> Result<(), Fail> {
     let alloc = rt.alloc();
-    let mut x = sent(acting());
+    let mut x = sent(acting(alloc)?);
     assert!(rt; x.hand.hold(cpu_home(alloc)?).is_ok());
     assert!(rt; x.hand.hold(cpu_home(alloc)?).is_err());
     x.hand.put(thread(alloc, 7, true)?, ListId::Queues(CPU));
@@ -106,7 +106,7 @@ fn runs_and_naps(rt: HostRuntime) -> Result<(), Fail> {
 #[test]
 fn waits_and_sleeps(rt: HostRuntime) -> Result<(), Fail> {
     let alloc = rt.alloc();
-    let mut x = acting();
+    let mut x = acting(alloc)?;
     let chain = Home::Chain(Boxed::new(alloc, ChainHome::new(1))?);
     let sleepers = Home::Sleepers(Boxed::new(alloc, SleepersHome::new(2, Four::new(0, 0, 5, 0)))?);
     assert!(rt; x.hand.hold(chain).is_ok());
@@ -132,7 +132,7 @@ fn waits_and_sleeps(rt: HostRuntime) -> Result<(), Fail> {
 #[test]
 fn events_change_a_hand(rt: HostRuntime) -> Result<(), Fail> {
     let alloc = rt.alloc();
-    let mut x = acting();
+    let mut x = acting(alloc)?;
     assert!(rt; x.hand.hold(cpu_home(alloc)?).is_ok());
     x.hand.put(thread(alloc, 7, true)?, ListId::Queues(CPU));
     assert!(rt; dispatched(&mut x, CPU, ThreadId(7)).is_ok());
@@ -157,7 +157,7 @@ fn open_count(x: &Acting) -> Option<usize> {
 #[test]
 fn joins_and_closes(rt: HostRuntime) -> Result<(), Fail> {
     let alloc = rt.alloc();
-    let mut x = acting();
+    let mut x = acting(alloc)?;
     assert!(rt; x.hand.hold(cpu_home(alloc)?).is_ok());
     // the home of the set is lacking
     assert!(rt; matches!(x.join(CPU, SetId(0)), Err(Part::Home(_))));

@@ -1,5 +1,5 @@
 -- The run that goes in rounds is complete and legal, and what holds of it.
-use Rattle.std.proofs.Common.{◌≡◌, ℕ, ◌<◌, ◌^◌, List, [], ◌∷◌, ◌++◌, length, take, drop, append_assoc, refl, sym, ap, subst, ◌∙◌, arith}
+use Rattle.std.proofs.Common.{◌≡◌, ℕ, ◌<◌, ◌≤◌, ◌^◌, List, [], ◌∷◌, ◌++◌, length, take, drop, append_assoc, refl, sym, ap, subst, ◌∙◌, arith}
 use Rattle.std.specs.List.{Contains}
 use Rattle.std.proofs.lemmas.List.{take-append-drop}
 use Rattle.sd_types.specs.declared.events.Entry.{Entry}
@@ -23,6 +23,7 @@ use Rattle.sd_cycles.proofs.StateGraphs.{waits_inside}
 use Rattle.sd_rounds.specs.declared.orders.Turns.{Turns}
 use Rattle.sd_rounds.specs.Orders.{orders_of}
 use Rattle.sd_rounds.proofs.CompleteLemmas.{complete_of}
+use Rattle.sd_hand.specs.OneHome.{StandsInHomes}
 use Rattle.sd_program.specs.TheRun.{final_state, WokenAreRunnable, IsTheRun, IsOpen}
 
 -- a run leads to its final state
@@ -45,13 +46,15 @@ woken_on w es run before more rest e t is wakes none =
     let parts : before ++ e ∷ (more ++ rest) ≡ (before ++ e ∷ more) ++ rest = sym (append_assoc before (e ∷ more) rest) in
     runnable_law w before more e t (run_front w (before ++ e ∷ more) rest (subst (λ (xs : List Entry). IsRun w xs) (is ∙ parts) run)) wakes none
 
-pub is_the_run : (w : Work) (turns : Turns) (es : List Entry) → length es < 2 ^ 40 → IsSerial w (orders_of w turns) es → IsRun w es → IsTheRun w turns es
-is_the_run w turns es short serial run = record {
+pub is_the_run : (w : Work) (turns : Turns) (es : List Entry) → length es < 2 ^ 40 → IsSerial w (orders_of w turns) es → IsRun w es
+    → ((k : ℕ) → k ≤ length es → StandsInHomes k (state_at w es k)) → IsTheRun w turns es
+is_the_run w turns es short serial run homes = record {
   serial = serial;
   run = run;
   complete = complete_of w turns es serial;
   limit = complete_at_limit w (length es) (final_state w es) (reached_end w es run) (complete_of w turns es serial);
   places = λ k. one_place w (length (take k es)) (state_at w es k) (reached_at w es k run);
+  homes = homes;
   belong = λ k. threads_belong w (length (take k es)) (state_at w es k) (reached_at w es k run);
   marks = λ k. marks_stand w (length (take k es)) (state_at w es k) (reached_at w es k run);
   woken = woken_on w es run;

@@ -1,6 +1,6 @@
 -- The run that is printed, and what holds of it.
 -- Source: Solaris Internals (dispatching, turnstiles), psrset(1M); that runs go in rounds is this project's own.
-use Rattle.std.specs.Prelude.{◌≡◌, ℕ, ◌<◌, true, List, [], ◌∷◌, ◌++◌, length, take}
+use Rattle.std.specs.Prelude.{◌≡◌, ℕ, ◌<◌, ◌≤◌, true, List, [], ◌∷◌, ◌++◌, length, take}
 use Rattle.sd_types.specs.declared.events.Entry.{Entry}
 use Rattle.sd_types.specs.declared.works.Work.{Work}
 use Rattle.sd_chains.specs.Graphs.{IsChainMax}
@@ -15,6 +15,7 @@ use Rattle.sd_full.specs.Threads.{eff_of}
 use Rattle.sd_laws.specs.Laws.{MarksStand}
 use Rattle.sd_belonging.specs.Belonging.{EachInOnePlace, ThreadsBelong}
 use Rattle.sd_inheritance.specs.Laws.{NobodyWalks, PrioritiesAreMaxima}
+use Rattle.sd_hand.specs.OneHome.{StandsInHomes}
 use Rattle.sd_history.specs.Laws.{NoneStops, runs_or_is_runnable}
 use Rattle.sd_audit.specs.Audits.{IsJournal}
 use Rattle.sd_rounds.specs.Orders.{orders_of}
@@ -40,6 +41,9 @@ pub record IsTheRun (w : Work) (turns : Turns) (es : List Entry) : Type 0 where
   pub limit : (c : ℕ) → c < w.cpus → (cpu_of (final_state w es) c).count ≡ w.limit
   -- in each of its states each thread stands in exactly one place, which is there, and at most one runs on a processor;
   pub places : (k : ℕ) → EachInOnePlace w (length (take k es)) (state_at w es k)
+  -- the homes on which the run went (dispatch queues, sleep queues, turnstiles) stood for it, all of them, and each thread stood in one
+  -- list of one of them;
+  pub homes : (k : ℕ) → k ≤ length es → StandsInHomes k (state_at w es k)
   -- the place suits the thread's set, binding and priority, and processors are marked that have to look at their queues;
   pub belong : (k : ℕ) → ThreadsBelong w (state_at w es k)
   pub marks : (k : ℕ) → MarksStand (state_at w es k)

@@ -262,3 +262,8 @@ pub needs_reached : (w : Work) (n : ℕ) (s : State) (c : CpuId) (h : Option Hin
 needs_reached w n s c h e reached makes =
     let whole = reached_whole w n s reached in
     needs w s whole (inside_reached w n s reached) (sets_are_there w n s reached) (duties_named w n s reached) c (is_fit w s whole).counts e (maker_inside w s c h e makes) (ready_cause w s c h e whole.ready makes)
+
+-- the processors that are searched for a thread to steal
+pub neighbours_there : (w : Work) (n : ℕ) (s : State) (c : ℕ) (d : CpuId) → IsReached w n s → Contains (neighbours s c) d → d.0 < w.cpus
+neighbours_there w n s c d reached near =
+    stolen_from w s (reached_whole w n s reached) (inside_reached w n s reached) (sets_are_there w n s reached) (duties_named w n s reached) c d near

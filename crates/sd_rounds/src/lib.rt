@@ -9,4 +9,4 @@ mod rounds;
 
 pub use laws::one_serial;
 pub use orders::Turns;
-pub use rounds::{Finished, MOST_ENTRIES, run_rounds};
+pub use rounds::{Finished, run_rounds};

@@ -1,20 +1,18 @@
 //! Rounds, until one makes no entry.
 
-ghost use Rattle.std.specs.Prelude.{◌≡◌, ◌++◌, ◌<◌, ◌≤◌, ◌↔◌, length, IsTrue, OnOk, IfOk, IsErrOf};
-ghost use Rattle.sd_full.specs.Runs.{final, turn, round, IsComplete, IsReached, IsRun, IsSerial};
+ghost use Rattle.std.specs.Prelude.{◌≡◌, ◌++◌, ◌<◌, ◌≤◌, ℕ, length, OnOk, IfErr, IfOk, IsErrOf};
+ghost use Rattle.sd_full.specs.Runs.{final, round, state_at, IsComplete, IsRun, IsSerial};
+ghost use Rattle.sd_hand.specs.OneHome.{StandsInHomes};
 ghost use Rattle.sd_machine.specs.Opening.{opening};
 ghost use Rattle.sd_rounds.specs.Orders.{orders_of};
 ghost use Rattle.sd_rounds.specs.Rounds.{IsLongSerial};
+ghost use Rattle.sd_world.specs.Plain.{Stands, told};
 
 use crate::orders::{Turns, first_generator, next_order};
 use sd_machine::State;
-use sd_opening::opening;
-use sd_steps::make_entry;
 use sd_types::{CpuId, Entry, Stop, Work};
+use sd_world::{MOST_ENTRIES, PlainWorld};
 use std::alloc::Global;
-
-/// A log that holds as many entries takes no more: 2^40.
-pub const MOST_ENTRIES: usize = 1_099_511_627_776;
 
 /// A whole run: its entries, and the state after them.
 #[derive(Drop)]
@@ -23,63 +21,40 @@ pub struct Finished {
     pub entries: Vec<Entry>,
 }
 
-/// Whether the log takes no more entries.
-fn is_full(entries: &[Entry]) -> bool
-    ensures { IsTrue result ↔ (MOST_ENTRIES ≤ length entries.now) }
-{
-    entries.len() >= MOST_ENTRIES
-}
-
-/// The turn of processor `c`: its entry, where it has one. `Full` exactly where the log holds 2^40 entries or more;
-/// so memory runs out only where it holds fewer, and the log then stays as it was.
-fn run_turn(work: &Work, s: &mut State, entries: &mut Vec<Entry>, c: CpuId) -> Result<(), Stop>
-    requires reached { IsReached work.now (length entries.old.items) s.old }
-    ensures entries { OnOk result (entries.new.items ≡ entries.old.items ++ turn work.now s.old (length entries.old.items) c) }
-    ensures state { OnOk result (s.new ≡ final work.now s.old (turn work.now s.old (length entries.old.items) c)) }
-    ensures room { OnOk result (length entries.new.items ≤ MOST_ENTRIES) }
-    ensures begins { OnOk result (length entries.old.items < MOST_ENTRIES) }
-    ensures full { IsErrOf result Stop.Full ↔ (MOST_ENTRIES ≤ length entries.old.items) }
-    ensures memory { IsErrOf result Stop.Memory → (length entries.old.items < MOST_ENTRIES) × (entries.new.items ≡ entries.old.items) }
-{
-    if is_full(entries) {
-        return Err(Stop::Full);
-    }
-    match make_entry(work, s, entries.len() as u64, c) {
-        Some(entry) => {
-            if entries.push(entry).is_err() {
-                return Err(Stop::Memory);
-            }
-            Ok(())
-        }
-        None => Ok(()),
-    }
-}
-
 /// One round: each processor of the order has a turn. `Full` only where the entries with those of this round
 /// are 2^40 or more. Memory runs out only where the log holds fewer.
-fn run_round(
-    work: &Work,
-    s: &mut State,
-    entries: &mut Vec<Entry>,
-    order: &[CpuId],
-) -> Result<(), Stop>
-    requires reached { IsReached work.now (length entries.old.items) s.old }
-    requires room { length entries.old.items ≤ MOST_ENTRIES }
-    ensures entries { OnOk result (entries.new.items ≡ entries.old.items ++ round work.now s.old (length entries.old.items) order.now) }
-    ensures state { OnOk result (s.new ≡ final work.now s.old (round work.now s.old (length entries.old.items) order.now)) }
-    ensures reached { OnOk result (IsReached work.now (length entries.new.items) s.new) }
-    ensures room { OnOk result (length entries.new.items ≤ MOST_ENTRIES) }
-    ensures begins { OnOk result (0 < length order.now → length entries.old.items < MOST_ENTRIES) }
+fn run_round(work: &Work, world: &mut PlainWorld, order: &[CpuId]) -> Result<(), Stop>
+    requires stands { Stands work.now world.old }
+    requires room { length world.old.entries.items ≤ MOST_ENTRIES }
+    ensures stands { Stands work.now world.new }
+    ensures entries { OnOk result (world.new.entries.items
+        ≡ world.old.entries.items ++ round work.now (told work.now world.old) (length world.old.entries.items) order.now) }
+    ensures room { OnOk result (length world.new.entries.items ≤ MOST_ENTRIES) }
+    ensures begins { OnOk result (0 < length order.now → length world.old.entries.items < MOST_ENTRIES) }
     ensures full { IsErrOf result Stop.Full
-        → MOST_ENTRIES ≤ length (entries.old.items ++ round work.now s.old (length entries.old.items) order.now) }
-    ensures memory { IsErrOf result Stop.Memory → length entries.new.items < MOST_ENTRIES }
+        → MOST_ENTRIES ≤ length (world.old.entries.items ++ round work.now (told work.now world.old) (length world.old.entries.items) order.now) }
+    ensures memory { IsErrOf result Stop.Memory → length world.new.entries.items < MOST_ENTRIES }
 {
     for c in order {
-        if let Err(stop) = run_turn(work, s, entries, *c) {
+        if let Err(stop) = world.turn(work, *c) {
             return Err(stop);
         }
     }
     Ok(())
+}
+
+/// The run, as far as it was made, with the state as its homes have it. `Memory` where that runs out, and no other error.
+fn finish(alloc: Global, work: &Work, world: PlainWorld) -> Result<Finished, Stop>
+    requires stands { Stands work.now world }
+    ensures entries { IfOk result (λ r. r.entries.items ≡ world.entries.items) }
+    ensures state { IfOk result (λ r. r.state ≡ told work.now world) }
+    ensures memory { IfErr result (λ stop. stop ≡ Stop.Memory) }
+{
+    let Ok(state) = world.state(alloc, work) else {
+        return Err(Stop::Memory);
+    };
+    let PlainWorld { entries, .. } = world;
+    Ok(Finished { state, entries })
 }
 
 /// The run of the workload that goes in rounds, in which the processors take turns so. `Full` only where it has 2^40
@@ -90,24 +65,24 @@ pub fn run_rounds(alloc: Global, work: &Work, turns: Turns) -> Result<Finished, 
     ensures run { IfOk result (λ r. IsRun work.now r.entries.items) }
     ensures complete { IfOk result (λ r. IsComplete work.now r.state) }
     ensures state { IfOk result (λ r. r.state ≡ final work.now (opening work.now) r.entries.items) }
+    ensures homes { IfOk result (λ r. (k : ℕ) → k ≤ length r.entries.items → StandsInHomes k (state_at work.now r.entries.items k)) }
     ensures short { IfOk result (λ r. length r.entries.items < MOST_ENTRIES) }
     ensures full { IsErrOf result Stop.Full → IsLongSerial work.now (orders_of work.now turns) }
     ensures no_longer { OnOk result (IsLongSerial work.now (orders_of work.now turns) → ⊥) }
 {
-    let Ok(mut state) = opening(alloc, work) else {
+    let Ok(mut world) = PlainWorld::new(alloc, work) else {
         return Err(Stop::Memory);
     };
     let mut generator = first_generator(turns);
-    let mut entries = Vec::new(alloc);
     'rounds: loop {
-        let before = entries.len();
+        let before = world.entries.len();
         let order = next_order(work, &mut generator);
-        if let Err(stop) = run_round(work, &mut state, &mut entries, order.as_slice()) {
+        if let Err(stop) = run_round(work, &mut world, order.as_slice()) {
             return Err(stop);
         }
-        if entries.len() == before {
+        if world.entries.len() == before {
             break 'rounds;
         }
     }
-    Ok(Finished { state, entries })
+    finish(alloc, work, world)
 }

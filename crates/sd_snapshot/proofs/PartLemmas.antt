@@ -20,7 +20,8 @@ use Rattle.sd_homes.specs.declared.home.Home.{Home}
 use Rattle.sd_homes.specs.Families.{lock_in, open_in, tokens_in, view_in}
 use Rattle.sd_hand.specs.declared.acting.Actor.{Actor}
 use Rattle.sd_hand.specs.Hands.{held}
-use Rattle.sd_hand.specs.OneHome.{AreAllHomes, IsHomeOf}
+use Rattle.sd_hand.specs.OneHome.{AreAllHomes}
+use Rattle.sd_shown.specs.Numbers.{IsHomeOf}
 use Rattle.sd_hand.proofs.SlotLemmas.{held_id}
 use Rattle.sd_hand.proofs.TellLemmas.{lock_by, open_by, tokens_by, view_by}
 use Rattle.sd_snapshot.specs.Told.{AreActorsOf, IsActorOf, IsToldBy}

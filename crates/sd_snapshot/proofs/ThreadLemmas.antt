@@ -18,7 +18,7 @@ use Rattle.sd_shown.specs.Standing.{home_at, home_of, list_at, list_of, record_k
 use Rattle.sd_homes.specs.declared.home.Home.{Home}
 use Rattle.sd_homes.specs.Families.{taken_from}
 use Rattle.sd_hand.specs.Hands.{StandsIn, has_thread, held}
-use Rattle.sd_hand.specs.OneHome.{IsHomeOf}
+use Rattle.sd_shown.specs.Numbers.{IsHomeOf}
 use Rattle.sd_hand.specs.Shown.{StandsAt}
 use Rattle.sd_hand.proofs.FoundLemmas.{listed_has}
 use Rattle.sd_hand.proofs.MoveLemmas.{is_taken, not_none, stands_at, stands_held, taken}

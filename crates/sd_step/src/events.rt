@@ -126,8 +126,8 @@ fn searched<L: Look>(x: &L, c: CpuId, hints: &Option<Hints>) -> Result<Event, L:
     search_event(x, victim)
 }
 
-/// The event of a plan, with the numbers that were read for it.
-fn plan_event<L: Look>(
+/// The event of a plan, whether or not it may come now, with the numbers that were read for it.
+pub fn plan_event<L: Look>(
     work: &Work,
     x: &L,
     c: CpuId,

@@ -37,7 +37,8 @@ use Rattle.sd_shown.specs.Standing.{IsArranged, IsFree, Lists, IsKeyFor, MayCome
 use Rattle.sd_homes.specs.declared.home.Home.{Home}
 use Rattle.sd_homes.specs.Families.{home_id, list_in, putting}
 use Rattle.sd_hand.specs.Hands.{IsHeld, edit, held}
-use Rattle.sd_hand.specs.OneHome.{AreAllHomes, IsHomeOf, IsListOf, lists_with}
+use Rattle.sd_shown.specs.Numbers.{IsHomeOf, IsListOf}
+use Rattle.sd_hand.specs.OneHome.{AreAllHomes, lists_with}
 use Rattle.sd_hand.specs.Shown.{IsHome, IsListThere, Shows, ShowsState}
 use Rattle.sd_hand.proofs.OneLemmas.{stands_once}
 use Rattle.sd_hand.proofs.HomeLemmas.{keeps-with_list, put_shows}

@@ -12,6 +12,7 @@ ghost use Rattle.sd_world.specs.Homes.{AreAllThere, AreBare, IsNumber, IsNumberA
 
 use crate::bare::bare_home;
 use crate::copies::copied;
+use sd_hand::{Guide, Hand};
 use sd_homes::{Home, Traveller, home_at, list_at, record_key};
 use sd_machine::{State, ThreadState};
 use sd_record::Record;
@@ -113,6 +114,14 @@ impl Homes {
         };
         homes.settle(alloc, work, number, s)?;
         Ok(homes)
+    }
+
+    /// All of them in one hand, which looks for a thread first in the list that it has for it.
+    pub fn into_hand(self, lists: Vec<ListId>) -> Hand
+        ensures { result.slots ≡ self.slots }
+    {
+        let guide = Guide::of(self.cpus, self.sets, lists);
+        Hand::of(self.slots, guide)
     }
 
     /// The threads of the state come to their homes.

@@ -5,6 +5,10 @@ mod bare;
 mod copies;
 mod homes;
 mod laws;
+mod plain;
+mod turns;
 
 pub use homes::Homes;
 pub use laws::an_event_leaves_other_homes;
+pub use plain::PlainWorld;
+pub use turns::MOST_ENTRIES;

@@ -4,6 +4,5 @@ use Rattle.sd_hand.proofs.hand.free_in.Goals as goal
 
 pub returns : goal.returns
 returns c =
-    let four = c.loop-i.invariant.four in
     let high = c.loop-i-test.false in
-    are_taken c.args.slots.now (λ j h. c.loop-i.invariant.before j (omega arith))
+    are_taken c.args.slots.now (λ j h. c.loop-i.invariant j (omega arith))

@@ -1,8 +1,5 @@
-use Rattle.std.proofs.Common.{◌≡◌, ℕ, ◌<◌, true, None, get_or, is_some, length}
+use Rattle.std.proofs.Common.{◌≡◌, ℕ, ◌<◌, true, None, get_or, is_some}
 use Rattle.sd_hand.proofs.hand.free_in.Given as goal
 
 abbrev pub invariant-loop-i : goal.invariant-loop-i
-invariant-loop-i l = record {
-  four : length l.slots ≡ 4;
-  before : (j : ℕ) → j < l.i → is_some (get_or l.slots j None) ≡ true;
-}
+invariant-loop-i l = (j : ℕ) → j < l.i → is_some (get_or l.slots j None) ≡ true

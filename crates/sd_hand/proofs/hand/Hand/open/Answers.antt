@@ -1,19 +1,36 @@
-use Rattle.std.proofs.Common.{◌≡◌, length, Some, set, sym, ap, ◌∙◌}
-use Rattle.sd_homes.specs.declared.home.Home.{Home}
-use Rattle.sd_homes.specs.Families.{open_in}
-use Rattle.sd_hand.proofs.SlotLemmas.{refused, same_slot, set_same}
+use Rattle.std.proofs.Common.{◌≡◌, ap, ◌∙◌}
+use Rattle.sd_types.specs.declared.numbers.HomeId.TheVariants.{RealTime}
+use Rattle.sd_homes.specs.Families.{home_id, opened}
+use Rattle.sd_hand.proofs.GuideLemmas.{apart_changed, held_here, kept_here, opened_keeps, slot_changed, slot_lost}
+use Rattle.sd_hand.proofs.SlotLemmas.{done, either, refused}
 use Rattle.sd_hand.proofs.hand.Hand.open.Goals as goal
 
-pub returns-in-Some-slots-clause-full : goal.returns-in-Some-slots-clause-full
-returns-in-Some-slots-clause-full c =
-    let slots = c.args.self.now.slots in
-    let slot = c.in-Some.ensures.slot in
-    let same : c.in-Some-slots.home ≡ slot.home = same_slot slots c.in-Some.i c.index-self-i.result c.in-Some-slots.home slot.home c.in-Some-slots.is slot.there in
+pub invariant_of-self : goal.invariant_of-self
+invariant_of-self c =
+    let home = c.in-Some-index_mut.home in
+    apart_changed c.self.inside.slots.items c.in-Some.i home c.open.new.self c.index_mut.result.now c.self.invariant c.index_mut.ensures.value c.in-Some-index_mut.is
+    (either c.open.result _ _ (home_id c.open.new.self ≡ home_id home) (λ made. ap home_id made ∙ opened_keeps c.args.c home) (λ full. ap home_id full.1) c.open.ensures.opened c.open.ensures.full)
+
+pub returns-in-Some-index_mut-clause-opened : goal.returns-in-Some-index_mut-clause-opened
+returns-in-Some-index_mut-clause-opened c =
+    done c.open.result _ _
+    (λ made. slot_changed c.args.self.now c.self.inside.slots.items (RealTime c.args.p) c.in-Some.i c.in-Some-index_mut.home c.open.new.self c.index_mut.result.now (opened c.args.c) c.self.view_is
+    c.in-Some.ensures.slot c.index_mut.ensures.value c.in-Some-index_mut.is made)
+    c.open.ensures.opened
+
+pub returns-in-Some-index_mut-clause-full : goal.returns-in-Some-index_mut-clause-full
+returns-in-Some-index_mut-clause-full c =
+    let home = c.in-Some-index_mut.home in
+    let hs = c.self.inside.slots.items in
     refused c.open.result _ _
     (λ full. (
-      slot.home,
-      slot.first,
-      ap (λ (h : Home). length (open_in h)) (sym same) ∙ full.0,
-      ap (λ (h : Home). set slots c.in-Some.i (Some h)) full.1 ∙ set_same slots c.in-Some.i c.index-self-i.result (Some c.in-Some-slots.home) c.in-Some-slots.is,
+      home,
+      held_here c.args.self.now hs (RealTime c.args.p) c.in-Some.i home c.index_mut.result.now c.self.view_is c.in-Some.ensures.slot c.index_mut.ensures.value c.in-Some-index_mut.is,
+      full.0,
+      kept_here c.args.self.now hs c.in-Some.i home c.open.new.self c.index_mut.result.now c.self.view_is c.index_mut.ensures.value c.in-Some-index_mut.is full.1,
     ))
     c.open.ensures.full
+
+pub returns-in_default-index_mut-clause-opened : goal.returns-in_default-index_mut-clause-opened
+returns-in_default-index_mut-clause-opened c =
+    slot_lost c.args.self.now c.self.inside.slots.items (RealTime c.args.p) c.in-Some.i c.index_mut.result.now (opened c.args.c) c.self.view_is c.in-Some.ensures.slot c.index_mut.ensures.value c.in_default-index_mut.is

@@ -1,0 +1,58 @@
+//! Where a look-up begins. Whatever a guide says, a look-up finds what is there: a guide makes it short.
+
+ghost use Rattle.std.specs.Prelude.{◌≡◌, slice_get};
+
+use sd_shown::ListId;
+use sd_types::{HomeId, ThreadId};
+use std::alloc::Global;
+
+/// How many processors and sets there are, where their homes lie in the order of their numbers, and the list to which each thread came
+/// last.
+#[derive(Drop)]
+pub struct Guide {
+    cpus: usize,
+    sets: usize,
+    lists: Vec<ListId>,
+}
+
+impl Guide {
+    /// A guide that knows nothing.
+    pub(crate) fn new(alloc: Global) -> Guide {
+        Guide {
+            cpus: 0,
+            sets: 0,
+            lists: Vec::new(alloc),
+        }
+    }
+
+    /// A guide to homes that lie in the order of their numbers: those of so many processors, then so many sets, then the chains of
+    /// turnstiles and those of sleep queues; and to threads that stand in these lists.
+    pub fn of(cpus: usize, sets: usize, lists: Vec<ListId>) -> Guide {
+        Guide { cpus, sets, lists }
+    }
+
+    /// The slot in which the home of this number lies, where they lie in this order.
+    pub(crate) fn slot(&self, k: HomeId) -> usize {
+        let chains = self.cpus.saturating_add(self.sets);
+        match k {
+            HomeId::Cpu(c) => c.0 as usize,
+            HomeId::RealTime(p) => self.cpus.saturating_add(p.0 as usize),
+            HomeId::Chain(i) => chains.saturating_add(i as usize),
+            HomeId::Sleepers(i) => chains.saturating_add(64 + i as usize),
+        }
+    }
+
+    /// The list to which the thread came last.
+    pub(crate) fn list(&self, t: ThreadId) -> Option<ListId>
+        ensures { result ≡ slice_get self.now.lists.items t.0 }
+    {
+        self.lists.get(t.0 as usize).copied()
+    }
+
+    /// The thread has come to this list.
+    pub(crate) fn note(&mut self, t: ThreadId, at: ListId) {
+        if let Some(list) = self.lists.get_mut(t.0 as usize) {
+            *list = at;
+        }
+    }
+}

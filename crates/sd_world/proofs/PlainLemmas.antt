@@ -1,0 +1,412 @@
+-- A run on homes, all of which are there: nothing that a processor needs is lacking, and what it makes is a step.
+use Rattle.std.proofs.Common.{◌≡◌, ◌≢◌, ℕ, ◌+◌, ◌<◌, ◌≤◌, ◌⊎◌, Bool, true, false, ◌==◌, List, [], ◌∷◌, ◌++◌, length, is_some, set, slice_get, take, Option, Some, None, IfSome, option_map, Result, Ok, Err, ◌&&◌, refl, sym, ap, ◌∙◌, subst, inl, inr, arith, if◌then◌else◌, length-append}
+use Rattle.std.specs.Prelude.{IfOk, nat_le, nat_lt}
+use Rattle.std.specs.List.{list_all}
+use Rattle.std.proofs.lemmas.Bool.{cases_eq, cases_lt, eq-eqb, eqb-true, false≢true}
+use Rattle.std.proofs.lemmas.Bool.Decides.{nat_tests}
+use Rattle.std.proofs.lemmas.List.{append-nil, get_or-set_same, get_or-set_other, length-set, take-append-le}
+use Rattle.std.proofs.Math.Seq.{take-append_seam, take-length}
+use Rattle.std.proofs.lemmas.Option.{slice_get-get_or, slice_get_within, get_or_from_slice_get}
+use Rattle.sd_types.specs.declared.numbers.CpuId.{CpuId}
+use Rattle.sd_types.specs.declared.numbers.HomeId.{HomeId}
+use Rattle.sd_types.specs.declared.numbers.HomeId.TheVariants as home
+use Rattle.sd_types.specs.declared.events.Entry.{Entry}
+use Rattle.sd_types.specs.declared.events.Event.{Event}
+use Rattle.sd_types.specs.declared.events.Hints.{Hints}
+use Rattle.sd_types.specs.declared.events.Which.{Which}
+use Rattle.sd_types.specs.declared.events.Which.TheVariants.{Running as OfRunning}
+use Rattle.sd_types.specs.declared.numbers.ThreadId.{ThreadId}
+use Rattle.sd_types.specs.declared.works.Work.{Work}
+use Rattle.sd_machine.specs.declared.states.CpuState.{CpuState}
+use Rattle.sd_machine.specs.declared.states.State.{State}
+use Rattle.sd_machine.specs.Opening.{opening}
+use Rattle.sd_machine.specs.States.{cpu_of, thread_of}
+use Rattle.sd_full.specs.declared.plans.Plan.{Plan}
+use Rattle.sd_full.specs.declared.plans.Plan.TheVariants.{Make, Place, Search}
+use Rattle.sd_full.specs.Choosing.{cpus_for, is_warm, neighbours, read_of, reads_for, is_settled}
+use Rattle.sd_full.specs.Events.{after, allowed, hints_fit, may_tick, next, placed_thread, plan_event, plan_reads, reads}
+use Rattle.sd_full.specs.Threads.{priority_of}
+use Rattle.sd_full.specs.Plans.{plan}
+use Rattle.sd_full.specs.Runs.{IsReached, IsRun, final, made, serial_hints, shown as shown_of, state_at, turn}
+use Rattle.sd_full.proofs.RunLemmas.{IsRun-append, IsRunFrom-one, final-append, final-push}
+use Rattle.sd_mdisp.specs.declared.reading.Reading.{Reading}
+use Rattle.sd_mdisp.specs.Reading.{parts}
+use Rattle.sd_steps.proofs.Needed.{no_maker}
+use Rattle.sd_full.proofs.ShapeLemmas.{after_shape}
+use Rattle.sd_range.proofs.Places.{cpus_there, inside_reached}
+use Rattle.sd_range.proofs.Range.{neighbours_there}
+use Rattle.sd_sound.proofs.FineLemmas.{sound_law}
+use Rattle.sd_sound.proofs.Whole.{fit_reached}
+use Rattle.sd_steps.proofs.EnteringLemmas.{serial_event, shown_fit}
+use Rattle.sd_store.specs.declared.parts.Part.{Part}
+use Rattle.sd_store.specs.declared.parts.Part.TheVariants as part
+use Rattle.sd_store.specs.Parts.{IsAmong, cpu_part, found_parts, number, thread_part}
+use Rattle.sd_store.proofs.Among.{among_left, among_right}
+use Rattle.sd_step.specs.Needed.{choice_parts, next_parts, plan_parts, read_parts, turn_parts}
+use Rattle.sd_step.specs.Touched.{after_parts}
+use Rattle.sd_shown.specs.Numbers.{IsHomeOf}
+use Rattle.sd_shown.specs.Standing.{home_at, home_of, list_of}
+use Rattle.sd_homes.specs.declared.home.Home.{Home}
+use Rattle.sd_hand.specs.declared.acting.Acting.{Acting}
+use Rattle.sd_hand.specs.declared.acting.Actor.{Actor}
+use Rattle.sd_hand.specs.Acting.{IsShown, has_part}
+use Rattle.sd_hand.specs.Hands.{has_thread, held}
+use Rattle.sd_hand.specs.OneHome.{AreAllHomes, StandsInHomes}
+use Rattle.sd_hand.proofs.GuideLemmas.{stands_guessed}
+use Rattle.sd_hand.proofs.MoveLemmas.{taken}
+use Rattle.sd_hand.proofs.SlotLemmas.{stands_has}
+use Rattle.sd_footprint.specs.Changed.{SameActor}
+use Rattle.sd_footprint.specs.There.{IsThere, PartsAreThere, StandsThere}
+use Rattle.sd_footprint.proofs.ThereLemmas.{known_reached, stands_there}
+use Rattle.sd_footprint.proofs.TouchedThere.{parts_there}
+use Rattle.sd_footprint.proofs.RanLast.{reached_changes}
+use Rattle.sd_snapshot.specs.Told.{AreActorsOf, IsActorOf}
+use Rattle.sd_world.specs.declared.plain.PlainWorld.{PlainWorld}
+use Rattle.sd_world.specs.Plain.{AreCpus, HasStood, Stands, told}
+use Rattle.sd_world.proofs.ActorLemmas.{all_counts}
+use Rattle.sd_world.proofs.ComeLemmas.{one_list}
+
+some_true : {A : Type 0} (o : Option A) (a : A) → o ≡ Some a → is_some o ≡ true
+some_true o a e = ap is_some e
+
+module _ (w : Work) (x : PlainWorld) (st : Stands w x) where
+  pub reached : IsReached w (length x.entries.items) (told w x)
+  reached = record { entries = x.entries.items; run = st.run; many = refl; ends = refl }
+
+  pub shown : IsShown x.acting (length x.entries.items) (told w x)
+  shown = record {
+    homes = st.all.shown;
+    apart = st.all.apart;
+    inside = st.inside;
+    count = st.acts.count;
+    duty = st.acts.duty;
+    locks = st.all.locks;
+    chans = st.all.chans;
+  }
+
+  cpu_inside : x.acting.actor.cpu.0 < w.cpus
+  cpu_inside = subst (λ m. x.acting.actor.cpu.0 < m) (fit_reached w (length x.entries.items) (told w x) reached).fits.cpus st.inside
+
+  -- each part that is there it has
+  has_home : (k : HomeId) → IsHomeOf (told w x) k → is_some (held k x.acting.hand.slots) ≡ true
+  has_home k there = let (h, e) = st.all.all k there in some_true (held k x.acting.hand.slots) h e
+
+  has_stander : (t : ℕ) → t < length (told w x).threads → IsHomeOf (told w x) (home_of (thread_of (told w x) t)) → has_thread t x.acting.hand.slots ≡ true
+  has_stander t inside there =
+      let at = list_of (thread_of (told w x) t) in
+      let hs = x.acting.hand.slots in
+      let e = taken (length x.entries.items) (told w x) t at hs (record { inside = inside; list = refl }) st.all.shown (st.all.all (home_at at) there) in
+      stands_has t hs at (stands_guessed t at hs (ap is_some e))
+
+  pub actor_inside : (c : CpuId) → c.0 < w.cpus → c.0 < length x.actors.items
+  actor_inside c there =
+      let many = (fit_reached w (length x.entries.items) (told w x) reached).fits.cpus in
+      let actors = st.actors.many in
+      omega (arith, there, many, actors)
+
+  -- every effective priority is below 160
+  pub below_all : (p : Option ℕ) (t : Option ThreadId) → p ≡ priority_of (told w x) (option_map number t) → IfSome p (λ n. n < 160)
+  below_all p None e = subst (λ o. IfSome o (λ n. n < 160)) (sym e) tt
+  below_all p (Some t) e = subst (λ o. IfSome o (λ n. n < 160)) (sym e) (sound_law w (length x.entries.items) (told w x) reached t.0).1
+
+  -- whether the acting processor may tick
+  pub ticks_now : (b : Bool) → x.acting.actor.count < w.limit → b ≡ list_all (λ a. nat_le x.acting.actor.count a.count) x.actors.items
+      → b ≡ may_tick w (told w x) x.acting.actor.cpu.0
+  unfolding may_tick
+  ticks_now b low all =
+      let less : nat_lt x.acting.actor.count w.limit ≡ true = grind (arith, nat_tests) in
+      let same : nat_lt (cpu_of (told w x) x.acting.actor.cpu.0).count w.limit ≡ true = ap (λ k. nat_lt k w.limit) (sym st.acts.count) ∙ less in
+      all ∙ all_counts (told w x) x.actors.items x.acting.actor.count st.actors
+      ∙ ap (λ k. list_all (λ (y : CpuState). nat_le k y.count) (told w x).cpus) st.acts.count
+      ∙ sym (ap (λ v. v && list_all (λ (y : CpuState). nat_le (cpu_of (told w x) x.acting.actor.cpu.0).count y.count) (told w x).cpus) same)
+
+  pub ticks_no_more : w.limit ≤ x.acting.actor.count → nat_lt x.acting.actor.count w.limit ≡ may_tick w (told w x) x.acting.actor.cpu.0
+  unfolding may_tick
+  ticks_no_more high =
+      let more : nat_lt x.acting.actor.count w.limit ≡ false = grind (arith, nat_tests) in
+      let same : nat_lt (cpu_of (told w x) x.acting.actor.cpu.0).count w.limit ≡ false = ap (λ k. nat_lt k w.limit) (sym st.acts.count) ∙ more in
+      more ∙ sym (ap (λ v. v && list_all (λ (y : CpuState). nat_le (cpu_of (told w x) x.acting.actor.cpu.0).count y.count) (told w x).cpus) same)
+
+  -- the state that is told
+  pub told_ok : {E : Type 0} (r : Result State E) (actors : List Actor) → AreActorsOf (told w x) actors
+      → IfOk r (λ z. (n : ℕ) (s : State) → IsReached w n s → AreAllHomes n s x.acting.hand.slots → AreActorsOf s actors → z ≡ s) → IfOk r (λ z. z ≡ told w x)
+  told_ok (Ok z) actors are tells = tells (length x.entries.items) (told w x) reached st.all are
+  told_ok (Err e) actors are tells = tt
+
+  stood : (t : ℕ) → StandsThere (told w x) (thread_of (told w x) t)
+  stood t = stands_there w (told w x) (known_reached w (length x.entries.items) (told w x) reached) t
+
+  has_there : (p : Part) → IsThere (told w x) x.acting.actor.cpu p → has_part x.acting p ≡ true
+  has_there (part.Home k) there = has_home k there
+  has_there (part.Thread t) there = has_stander t.0 there (stood t.0).home
+  has_there (part.Actor d) there = eq-eqb d.0 x.acting.actor.cpu.0 (ap (λ (c : CpuId). c.0) there)
+
+  turn_there : (hints : Option Hints) → PartsAreThere w (told w x) x.acting.actor.cpu hints
+  turn_there hints = parts_there w (length x.entries.items) (told w x) x.acting.actor.cpu hints reached cpu_inside
+
+  -- so nothing is lacking of what a turn looks at
+  pub not_looked : (hints : Option Hints) (q : Part) → IsAmong q (next_parts w (told w x) x.acting.actor.cpu hints) → has_part x.acting q ≡ false → ⊥
+  not_looked hints q among lacks = false≢true (sym lacks ∙ has_there q ((turn_there hints).making q among))
+
+  pub not_touched : (hints : Option Hints) (e : Event) (q : Part) → next w (told w x) x.acting.actor.cpu hints ≡ Some e → IsAmong q (after_parts w (told w x) x.acting.actor.cpu e)
+      → has_part x.acting q ≡ false → ⊥
+  not_touched hints e q is among lacks = false≢true (sym lacks ∙ has_there q ((turn_there hints).touching e is q among))
+
+  pub not_planned : (q : Part) → IsAmong q (plan_parts w (told w x) x.acting.actor.cpu) → has_part x.acting q ≡ false → ⊥
+  not_planned q among = not_looked None q (among_left q (plan_parts w (told w x) x.acting.actor.cpu) (turn_parts w (told w x) x.acting.actor.cpu None (plan w (told w x) x.acting.actor.cpu.0)) among)
+
+  pub not_read : (p : Plan) (q : Part) → p ≡ plan w (told w x) x.acting.actor.cpu.0 → IsAmong q (read_parts w (told w x) x.acting.actor.cpu p) → has_part x.acting q ≡ false → ⊥
+  not_read p q is among =
+      let c = x.acting.actor.cpu in
+      let own = plan w (told w x) c.0 in
+      not_looked None q
+      (among_right q (plan_parts w (told w x) c) (turn_parts w (told w x) c None own)
+      (among_left q (read_parts w (told w x) c own) (choice_parts w (told w x) c None own) (subst (λ z. IsAmong q (read_parts w (told w x) c z)) is among)))
+
+  pub not_chosen : (hints : Option Hints) (p : Plan) (q : Part) → p ≡ plan w (told w x) x.acting.actor.cpu.0 → IsAmong q (choice_parts w (told w x) x.acting.actor.cpu hints p)
+      → has_part x.acting q ≡ false → ⊥
+  not_chosen hints p q is among =
+      let c = x.acting.actor.cpu in
+      let own = plan w (told w x) c.0 in
+      not_looked hints q
+      (among_right q (plan_parts w (told w x) c) (turn_parts w (told w x) c hints own)
+      (among_right q (read_parts w (told w x) c own) (choice_parts w (told w x) c hints own) (subst (λ z. IsAmong q (choice_parts w (told w x) c hints z)) is among)))
+
+  pub not_cpu : (d : CpuId) (q : Part) → d.0 < w.cpus → IsAmong q (cpu_part d ∷ []) → has_part x.acting q ≡ false → ⊥
+  not_cpu d q there (inl is) lacks =
+      let inside : d.0 < length (told w x).cpus = subst (λ m. d.0 < m) (sym (fit_reached w (length x.entries.items) (told w x) reached).fits.cpus) there in
+      false≢true (sym lacks ∙ (ap (has_part x.acting) is ∙ has_home (home.Cpu d) inside))
+  not_cpu d q there (inr none) lacks = none
+
+  pub not_found : (t : Option ThreadId) (q : Part) → IfSome t (λ u. has_part x.acting (thread_part u) ≡ true) → IsAmong q (found_parts t) → has_part x.acting q ≡ false → ⊥
+  not_found None q has none lacks = none
+  not_found (Some u) q has (inl is) lacks = false≢true (sym lacks ∙ (ap (has_part x.acting) is ∙ has))
+  not_found (Some u) q has (inr none) lacks = none
+
+  -- the numbers that the state shows are those that the plan reads
+  pub hints_given : (p : Plan) (hints : Option Hints) → p ≡ plan w (told w x) x.acting.actor.cpu.0 → hints ≡ serial_hints w (told w x) x.acting.actor.cpu
+      → hints_fit (plan_reads w (told w x) x.acting.actor.cpu.0 p) hints ≡ true
+  unfolding serial_hints reads
+  hints_given p hints is given =
+      let s = told w x in
+      let c = x.acting.actor.cpu.0 in
+      subst (λ q. hints_fit (plan_reads w s c q) hints ≡ true) (sym is)
+      (subst (λ h. hints_fit (plan_reads w s c (plan w s c)) h ≡ true) (sym given) (shown_fit s (plan_reads w s c (plan w s c))))
+
+  pub serial_is : (p : Plan) → p ≡ plan w (told w x) x.acting.actor.cpu.0 → shown_of (told w x) (plan_reads w (told w x) x.acting.actor.cpu.0 p) ≡ serial_hints w (told w x) x.acting.actor.cpu
+  unfolding serial_hints reads
+  serial_is p is = ap (λ q. shown_of (told w x) (plan_reads w (told w x) x.acting.actor.cpu.0 q)) is
+
+  -- the one event that the acting processor may make
+  pub proposed : (p : Plan) (hints : Option Hints) (e : Event) → p ≡ plan w (told w x) x.acting.actor.cpu.0 → hints ≡ serial_hints w (told w x) x.acting.actor.cpu
+      → e ≡ plan_event w (told w x) x.acting.actor.cpu.0 hints p → allowed w (told w x) x.acting.actor.cpu.0 e ≡ next w (told w x) x.acting.actor.cpu hints
+  unfolding serial_hints reads
+  proposed p hints e is given made =
+      let s = told w x in
+      let c = x.acting.actor.cpu in
+      ap (allowed w s c.0) (made ∙ ap (λ h. plan_event w s c.0 h p) given ∙ ap (plan_event w s c.0 (shown_of s (plan_reads w s c.0 (plan w s c.0)))) is)
+      ∙ sym (serial_event w s c cpu_inside) ∙ ap (λ h. next w s c h) (sym given)
+
+  -- the processors that are read are there
+  pub read_there : (c : ℕ) → IfSome (plan_reads w (told w x) c (plan w (told w x) c)) (λ r. AreCpus w r.1)
+  unfolding reads_for
+  read_there c = by (plan w (told w x) c)
+    where
+      s : State
+      s = told w x
+
+      among_open : (t : ℕ) → AreCpus w (cpus_for w s t)
+      among_open t d has = cpus_there w s (inside_reached w (length x.entries.items) s reached) t d has
+
+      if_read : (cpus : List CpuId) (b : Bool) (which : Which) → AreCpus w cpus → IfSome {T = Which × List CpuId} (if b then None else Some (which, cpus)) (λ r. AreCpus w r.1)
+      if_read cpus true which there = tt
+      if_read cpus false which there = there
+
+      of_thread : (t : ℕ) → IfSome (reads_for w s c t) (λ r. AreCpus w r.1)
+      of_thread t = if_read (cpus_for w s t) (is_settled (cpus_for w s t) (thread_of s t).body.last (is_warm s c t)) OfRunning (among_open t)
+
+      of_neighbours : (cpus : List CpuId) → AreCpus w cpus → IfSome (read_of cpus) (λ r. AreCpus w r.1)
+      of_neighbours [] there = tt
+      of_neighbours (d ∷ ds) there = there
+
+      by : (p : Plan) → IfSome (plan_reads w s c p) (λ r. AreCpus w r.1)
+      by (Make e) = tt
+      by (Place placement p) = of_thread (placed_thread placement)
+      by Search = of_neighbours (neighbours s c) (λ d near. neighbours_there w (length x.entries.items) s c d reached near)
+
+-- the same of a reading
+pub reading_there : (w : Work) (o : Option Reading) (q : Option (Which × List CpuId)) → option_map parts o ≡ q → IfSome q (λ r. AreCpus w r.1) → IfSome o (λ r. AreCpus w r.cpus.items)
+reading_there w None q e there = tt
+reading_there w (Some r) q e there = subst (λ z. IfSome {T = Which × List CpuId} z (λ y. AreCpus w y.1)) (sym e) there
+
+-- the state to which more entries lead
+pub told_more : (w : Work) (x y : PlainWorld) (es : List Entry) → y.entries.items ≡ x.entries.items ++ es → told w y ≡ final w (told w x) es
+told_more w x y es e = ap (final w (opening w)) e ∙ final-append w (opening w) x.entries.items es
+
+-- a processor that is not there makes nothing
+pub no_turn : (w : Work) (s : State) (n : ℕ) (c : CpuId) (es : List Entry) → w.cpus ≤ c.0 → es ≡ es ++ turn w s n c
+no_turn w s n c es past =
+    let hints = serial_hints w s c in
+    sym (append-nil es) ∙ ap (λ (o : Option Event). es ++ made n c hints o) (sym (no_maker w s c hints past))
+
+-- the state to which its entries lead stands in homes too
+pub stands_in : (w : Work) (x : PlainWorld) → Stands w x → StandsInHomes (length x.entries.items) (told w x)
+stands_in w x st = record { homes = x.acting.hand.slots; all = st.all; once = one_list w (length x.entries.items) (told w x) x.acting.hand.slots (reached w x st) st.all }
+
+stood_one_more : (w : Work) (es : List Entry) (e : Entry) → HasStood w es → StandsInHomes (length es) (final w (opening w) es) → HasStood w (es ++ e ∷ [])
+stood_one_more w es e before last k below = by (cases_lt k (length es))
+  where
+    by : (k < length es) ⊎ (length es ≤ k) → StandsInHomes k (state_at w (es ++ e ∷ []) k)
+    by (inl earlier) = subst (λ fs. StandsInHomes k (final w (opening w) fs)) (sym (take-append-le k es (e ∷ []) (omega (arith, earlier)))) (before k earlier)
+    by (inr later) =
+        let many = length-append es (e ∷ []) in
+        let is : k ≡ length es = omega (arith, below, later, many) in
+        subst (λ j. StandsInHomes j (final w (opening w) (take j (es ++ e ∷ [])))) (sym is)
+        (subst (λ fs. StandsInHomes (length es) (final w (opening w) fs)) (sym (take-append_seam es (e ∷ []))) last)
+
+-- each state so far
+pub all_stood : (w : Work) (x : PlainWorld) → Stands w x → (k : ℕ) → k ≤ length x.entries.items → StandsInHomes k (state_at w x.entries.items k)
+all_stood w x st k most = by (cases_lt k (length x.entries.items))
+  where
+    by : (k < length x.entries.items) ⊎ (length x.entries.items ≤ k) → StandsInHomes k (state_at w x.entries.items k)
+    by (inl earlier) = st.stood k earlier
+    by (inr later) =
+        let is : k ≡ length x.entries.items = omega (arith, most, later) in
+        subst (λ j. StandsInHomes j (final w (opening w) (take j x.entries.items))) (sym is)
+        (subst (λ fs. StandsInHomes (length x.entries.items) (final w (opening w) fs)) (sym (take-length x.entries.items)) (stands_in w x st))
+
+-- ---- another processor acts
+pub acts_now : (w : Work) (x : PlainWorld) (a : Actor) → Stands w x → slice_get x.actors.items a.cpu.0 ≡ Some a → Stands w (record x { acting = record x.acting { actor = a } })
+acts_now w x a st at = record {
+  run = st.run;
+  all = st.all;
+  actors = st.actors;
+  inside = subst (λ m. a.cpu.0 < m) st.actors.many (slice_get_within x.actors.items a.cpu.0 a at);
+  acts = st.actors.each a.cpu.0 a at;
+  stood = st.stood;
+}
+
+-- a run that goes on from a state
+module _ (w : Work) (s : State) (es : List Entry) (run : IsRun w es) (is : s ≡ final w (opening w) es) where
+  begun : IsReached w (length es) s
+  begun = record { entries = es; run = run; many = refl; ends = sym is }
+
+  pub few_cpus : length s.cpus ≤ 64
+  few_cpus = let many = (fit_reached w (length es) s begun).fits.cpus in let most = w.most_cpus in omega (arith, many, most)
+
+  pub some_cpus : (actors : List Actor) → AreActorsOf s actors → 0 < length actors
+  some_cpus actors are = let many = (fit_reached w (length es) s begun).fits.cpus in let some = w.some_cpu in let all = are.many in omega (arith, many, some, all)
+
+  pub stands_begun : (x : PlainWorld) (hs : List (Option Home)) → HasStood w es → x.entries.items ≡ es → AreAllHomes (length es) s hs → x.acting.hand.slots ≡ hs → AreActorsOf s x.actors.items
+      → slice_get x.actors.items 0 ≡ Some x.acting.actor → Stands w x
+  stands_begun x hs stood same all slots actors first =
+      let goes : told w x ≡ s = ap (final w (opening w)) same ∙ sym is in
+      let zero_is = (actors.each 0 x.acting.actor first).cpu in
+      let own = subst (λ i. IsActorOf s i x.acting.actor) (sym zero_is) (actors.each 0 x.acting.actor first) in
+      let inside : x.acting.actor.cpu.0 < length s.cpus = let some = some_cpus x.actors.items actors in let many = actors.many in omega (arith, some, many, zero_is) in
+      record {
+        run = subst (IsRun w) (sym same) run;
+        all = subst (λ n. AreAllHomes n (told w x) x.acting.hand.slots) (ap length (sym same))
+            (subst (λ z. AreAllHomes (length es) z x.acting.hand.slots) (sym goes) (subst (AreAllHomes (length es) s) (sym slots) all));
+        actors = subst (λ z. AreActorsOf z x.actors.items) (sym goes) actors;
+        inside = subst (λ z. x.acting.actor.cpu.0 < length z.cpus) (sym goes) inside;
+        acts = subst (λ z. IsActorOf z x.acting.actor.cpu.0 x.acting.actor) (sym goes) own;
+        stood = subst (HasStood w) (sym same) stood;
+      }
+
+-- what has the same parts acts for the same processor
+pub same_actor : (x y : Acting) → has_part y ≡ has_part x → y.actor.cpu ≡ x.actor.cpu
+same_actor x y has =
+    let own : (x.actor.cpu.0 == x.actor.cpu.0) ≡ true = eq-eqb x.actor.cpu.0 x.actor.cpu.0 refl in
+    let e : (x.actor.cpu.0 == y.actor.cpu.0) ≡ true = ap (λ f. f (part.Actor x.actor.cpu)) has ∙ own in
+    ap (λ n. record { 0 = n }) (sym (eqb-true x.actor.cpu.0 y.actor.cpu.0 e))
+
+-- ---- one entry more
+module _ (w : Work) (x y : PlainWorld) (e : Event) (hints : Option Hints) (st : Stands w x) where
+  abbrev entry : Entry
+  entry = record { number = length x.entries.items; cpu = x.acting.actor.cpu; event = e; hints = hints }
+
+  abbrev before : State
+  before = told w x
+
+  abbrev new : State
+  new = after w before (length x.entries.items) x.acting.actor.cpu e
+
+  leads : y.entries.items ≡ x.entries.items ++ entry ∷ [] → told w y ≡ new
+  leads es = ap (final w (opening w)) es ∙ final-push w (opening w) x.entries.items entry
+
+  same_homes : (k : HomeId) → IsHomeOf new k ≡ IsHomeOf before k
+  same_homes (home.Cpu c) = ap (λ m. c.0 < m) (after_shape w before (length x.entries.items) x.acting.actor.cpu e).cpus
+  same_homes (home.RealTime p) = ap (λ m. p.0 < m) (after_shape w before (length x.entries.items) x.acting.actor.cpu e).sets
+  same_homes (home.Chain i) = refl
+  same_homes (home.Sleepers i) = refl
+
+  held_still : has_part y.acting ≡ has_part x.acting → (k : HomeId) → is_some (held k y.acting.hand.slots) ≡ is_some (held k x.acting.hand.slots)
+  held_still has k = ap (λ f. f (part.Home k)) has
+
+  as_held : (o : Option Home) → is_some o ≡ true → (h : Home) × (o ≡ Some h)
+  as_held None e = absurd cc
+  as_held (Some h) e = (h, refl)
+
+  all_still : IsShown y.acting (length x.entries.items + 1) new → has_part y.acting ≡ has_part x.acting → AreAllHomes (length x.entries.items + 1) new y.acting.hand.slots
+  all_still sh has = record {
+    shown = sh.homes;
+    apart = sh.apart;
+    all = λ k there. let (h, is) = st.all.all k (subst (λ z. z) (same_homes k) there) in as_held (held k y.acting.hand.slots) (held_still has k ∙ ap is_some is);
+    only = λ k there. let (h, is) = there in subst (λ z. z) (sym (same_homes k)) (st.all.only k (as_held (held k x.acting.hand.slots) (sym (held_still has k) ∙ ap is_some is)));
+    locks = sh.locks;
+    chans = sh.chans;
+  }
+
+  -- the counts and the duties of the others stay
+  own_alone : (d : ℕ) → d ≢ x.acting.actor.cpu.0 → next w before x.acting.actor.cpu hints ≡ Some e → SameActor (cpu_of before d) (cpu_of new d)
+  own_alone d other is = by ((reached_changes w (length x.entries.items) before x.acting.actor.cpu hints e (reached w x st) is).actors d)
+    where
+      by : SameActor (cpu_of before d) (cpu_of new d) ⊎ IsAmong (part.Actor (record { 0 = d })) (after_parts w before x.acting.actor.cpu e) → SameActor (cpu_of before d) (cpu_of new d)
+      by (inl same) = same
+      by (inr among) = absurd (other (ap (λ (c : CpuId). c.0) ((turn_there w x st hints).touching e is (part.Actor (record { 0 = d })) among)))
+
+  actors_now : next w before x.acting.actor.cpu hints ≡ Some e → IsShown y.acting (length x.entries.items + 1) new → y.acting.actor.cpu ≡ x.acting.actor.cpu
+      → y.actors.items ≡ set x.actors.items x.acting.actor.cpu.0 y.acting.actor → AreActorsOf new y.actors.items
+  actors_now is sh cpu list = subst (AreActorsOf new) (sym list) (record {
+    many = length-set x.actors.items x.acting.actor.cpu.0 y.acting.actor ∙ (st.actors.many ∙ sym (after_shape w before (length x.entries.items) x.acting.actor.cpu e).cpus);
+    each = λ d a at. by d a at (cases_eq d x.acting.actor.cpu.0);
+  })
+    where
+      by : (d : ℕ) (a : Actor) → slice_get (set x.actors.items x.acting.actor.cpu.0 y.acting.actor) d ≡ Some a → (d ≡ x.acting.actor.cpu.0) ⊎ (d ≢ x.acting.actor.cpu.0) → IsActorOf new d a
+      by d a at (inl own) =
+          let inside = slice_get_within (set x.actors.items x.acting.actor.cpu.0 y.acting.actor) d a at in
+          let there : x.acting.actor.cpu.0 < length x.actors.items = subst (λ j. j < length x.actors.items) own (subst (λ m. d < m) (length-set x.actors.items x.acting.actor.cpu.0 y.acting.actor) inside) in
+          let one : y.acting.actor ≡ a =
+          sym (get_or-set_same x.actors.items x.acting.actor.cpu.0 y.acting.actor a there)
+          ∙ get_or_from_slice_get (set x.actors.items x.acting.actor.cpu.0 y.acting.actor) x.acting.actor.cpu.0 a a (subst (λ j. slice_get (set x.actors.items x.acting.actor.cpu.0 y.acting.actor) j ≡ Some a) own at) in
+          let number : y.acting.actor.cpu.0 ≡ d = ap (λ (c : CpuId). c.0) cpu ∙ sym own in
+          subst (IsActorOf new d) one (record {
+            cpu = number;
+            count = subst (λ j. y.acting.actor.count ≡ (cpu_of new j).count) number sh.count;
+            duty = subst (λ j. y.acting.actor.duty ≡ (cpu_of new j).duty) number sh.duty;
+          })
+      by d a at (inr other) =
+          let inside = slice_get_within (set x.actors.items x.acting.actor.cpu.0 y.acting.actor) d a at in
+          let there : d < length x.actors.items = subst (λ m. d < m) (length-set x.actors.items x.acting.actor.cpu.0 y.acting.actor) inside in
+          let kept : slice_get x.actors.items d ≡ Some a =
+          slice_get-get_or x.actors.items d a there
+          ∙ ap Some (sym (get_or-set_other x.actors.items x.acting.actor.cpu.0 d y.acting.actor a other) ∙ get_or_from_slice_get (set x.actors.items x.acting.actor.cpu.0 y.acting.actor) d a a at) in
+          let old = st.actors.each d a kept in
+          let same = own_alone d other is in
+          record { cpu = old.cpu; count = old.count ∙ sym same.0; duty = old.duty ∙ sym same.1 }
+
+  -- a step was made
+  pub steps : next w before x.acting.actor.cpu hints ≡ Some e → IsShown y.acting (length x.entries.items + 1) new → has_part y.acting ≡ has_part x.acting → y.acting.actor.cpu ≡ x.acting.actor.cpu
+      → y.actors.items ≡ set x.actors.items x.acting.actor.cpu.0 y.acting.actor → y.entries.items ≡ x.entries.items ++ entry ∷ [] → Stands w y
+  steps is sh has cpu list es =
+      let goes = leads es in
+      let many : length y.entries.items ≡ length x.entries.items + 1 = ap length es ∙ length-append x.entries.items (entry ∷ []) in
+      record {
+        run = subst (IsRun w) (sym es) (IsRun-append w x.entries.items (entry ∷ []) st.run (IsRunFrom-one w before (length x.entries.items) entry refl is));
+        all = subst (λ m. AreAllHomes m (told w y) y.acting.hand.slots) (sym many) (subst (λ s. AreAllHomes (length x.entries.items + 1) s y.acting.hand.slots) (sym goes) (all_still sh has));
+        actors = subst (λ s. AreActorsOf s y.actors.items) (sym goes) (actors_now is sh cpu list);
+        inside = subst (λ s. y.acting.actor.cpu.0 < length s.cpus) (sym goes) sh.inside;
+        acts = subst (λ s. IsActorOf s y.acting.actor.cpu.0 y.acting.actor) (sym goes) (record { cpu = refl; count = sh.count; duty = sh.duty });
+        stood = subst (HasStood w) (sym es) (stood_one_more w x.entries.items entry st.stood (stands_in w x st));
+      }

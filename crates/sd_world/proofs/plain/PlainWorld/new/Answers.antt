@@ -1,0 +1,13 @@
+use Rattle.std.proofs.Common.{sym, ap, ◌∙◌, subst}
+use Rattle.sd_machine.specs.Opening.{opening}
+use Rattle.sd_full.specs.Runs.{IsRun, final}
+use Rattle.sd_full.proofs.RunLemmas.{IsRun-nil, final-nil}
+use Rattle.sd_world.proofs.plain.PlainWorld.new.Goals as goal
+
+pub resume-requires-clause-run : goal.resume-requires-clause-run
+resume-requires-clause-run c = subst (IsRun c.args.work.now) (sym c.new.ensures.items) (IsRun-nil c.args.work.now)
+
+pub resume-requires-clause-state : goal.resume-requires-clause-state
+resume-requires-clause-state c =
+    let w = c.args.work.now in
+    c.in_ok-s.ensures.state ∙ sym (final-nil w (opening w)) ∙ ap (final w (opening w)) (sym c.new.ensures.items)
