@@ -1,4 +1,5 @@
 pub mod CompleteLemmas
+pub mod FinishLemmas
 pub mod OrderLemmas
 pub mod RoundLemmas
 pub mod SerialLemmas

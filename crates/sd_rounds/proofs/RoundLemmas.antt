@@ -1,47 +1,18 @@
 -- Rounds as the program makes them: from the entries and the state so far.
-use Rattle.std.proofs.Common.{◌≡◌, ◌≢◌, ℕ, zero, suc, ◌+◌, ◌^◌, ◌<◌, ◌≤◌, List, [], ◌∷◌, ◌++◌, length, get_or, drop, Option, Some, None, refl, sym, ap, subst, ◌∙◌, arith, inl, inr}
+use Rattle.std.proofs.Common.{◌≡◌, ◌≢◌, ℕ, zero, suc, ◌+◌, ◌^◌, ◌<◌, ◌≤◌, List, [], ◌∷◌, ◌++◌, length, get_or, drop, refl, sym, ap, subst, ◌∙◌, arith, inl, inr}
 use Rattle.std.proofs.lemmas.Bool.{cases_lt}
 use Rattle.std.proofs.lemmas.List.{append-nil, drop_all, length-append, nil_from_length}
 use Rattle.sd_types.specs.declared.numbers.CpuId.{CpuId}
 use Rattle.sd_types.specs.declared.events.Entry.{Entry}
-use Rattle.sd_types.specs.declared.events.Event.{Event}
-use Rattle.sd_types.specs.declared.events.Hints.{Hints}
 use Rattle.sd_types.specs.declared.works.Work.{Work}
 use Rattle.sd_machine.specs.declared.states.State.{State}
 use Rattle.sd_machine.specs.Opening.{opening}
-use Rattle.sd_full.specs.Events.{next}
-use Rattle.sd_full.specs.Runs.{final, made, serial_hints, turn, round, round_after, rounds, IsRunFrom, IsRun, IsReached, IsSerial}
-use Rattle.sd_full.proofs.RunLemmas.{final-nil, final-append, IsRunFrom-nil, IsRunFrom-one, IsRun-append}
-use Rattle.sd_full.proofs.RoundLemmas.{round-nil, round_more, final_more, rounds-zero, rounds-more, run_round}
+use Rattle.sd_full.specs.Runs.{final, turn, round, round_after, rounds, IsSerial}
+use Rattle.sd_full.proofs.RoundLemmas.{round-nil, round_more, rounds-zero, rounds-more}
 use Rattle.sd_rounds.specs.Rounds.{HasRounds, IsLongSerial}
 
 pub grows : (more es es' : List Entry) → es' ≡ es ++ more → length es ≤ length es'
 grows more es es' e = omega (arith, ap length e, length-append es more)
-
-module _ (w : Work) where
-  turn_run : (s : State) (n : ℕ) (c : CpuId) (h : Option Hints) (o : Option Event) → next w s c h ≡ o → IsRunFrom w s n (made n c h o)
-  turn_run s n c h None e = IsRunFrom-nil w s n
-  turn_run s n c h (Some x) e = IsRunFrom-one w s n (record { number = n; cpu = c; event = x; hints = h }) refl e
-
-  -- a run leads to the state after a turn, with the entry of that turn
-  pub turn_reached : (s : State) (es : List Entry) (c : CpuId) → IsReached w (length es) s → IsReached w (length (es ++ turn w s (length es) c)) (final w s (turn w s (length es) c))
-  turn_reached s es c r =
-      let t = turn w s (length es) c in
-      record {
-        entries = r.entries ++ t;
-        run = IsRun-append w r.entries t r.run
-            (subst (λ (x : State). IsRunFrom w x (length r.entries) t) (sym r.ends)
-            (subst (λ m. IsRunFrom w s m t) (sym r.many) (turn_run s (length es) c (serial_hints w s c) (next w s c (serial_hints w s c)) refl)));
-        many = length-append r.entries t ∙ ap (λ m. m + length t) r.many ∙ sym (length-append es t);
-        ends = final-append w (opening w) r.entries t ∙ ap (λ (x : State). final w x t) r.ends;
-      }
-
-  -- the same of entries that are those and the turn's
-  pub reached_on : (s s' : State) (es es' : List Entry) (c : CpuId) → IsReached w (length es) s → es' ≡ es ++ turn w s (length es) c → s' ≡ final w s (turn w s (length es) c)
-      → IsReached w (length es') s'
-  reached_on s s' es es' c r made is =
-      subst (λ (xs : List Entry). IsReached w (length xs) s') (sym made)
-      (subst (λ (x : State). IsReached w (length (es ++ turn w s (length es) c)) x) (sym is) (turn_reached s es c r))
 
 module _ (w : Work) (order : List CpuId) where
   -- one turn of a round
@@ -53,14 +24,6 @@ module _ (w : Work) (order : List CpuId) where
       ∙ ap (λ (x : State). (es ++ turn w s (length es) (get_or order i d)) ++ round w x (length (es ++ turn w s (length es) (get_or order i d))) (drop (i + 1) order)) f
       ∙ round_more w order i d s es h
 
-  pub final_on : (i : ℕ) (d : CpuId) (s s' : State) (es es' : List Entry) → i < length order
-      → es' ≡ es ++ turn w s (length es) (get_or order i d) → s' ≡ final w s (turn w s (length es) (get_or order i d))
-      → final w s' (round w s' (length es') (drop (i + 1) order)) ≡ final w s (round w s (length es) (drop i order))
-  final_on i d s s' es es' h e f =
-      ap (λ (xs : List Entry). final w s' (round w s' (length xs) (drop (i + 1) order))) e
-      ∙ ap (λ (x : State). final w x (round w x (length (es ++ turn w s (length es) (get_or order i d))) (drop (i + 1) order))) f
-      ∙ final_more w order i d s es h
-
   -- the round is over
   pub round_over : (i : ℕ) (s : State) (n : ℕ) → length order ≤ i → round w s n (drop i order) ≡ []
   round_over i s n h = ap (round w s n) (drop_all i order h) ∙ round-nil w s n
@@ -68,21 +31,9 @@ module _ (w : Work) (order : List CpuId) where
   pub entries_over : (i : ℕ) (s : State) (es xs : List Entry) → length order ≤ i → es ++ round w s (length es) (drop i order) ≡ xs → es ≡ xs
   entries_over i s es xs h e = sym (ap (λ (ys : List Entry). es ++ ys) (round_over i s (length es) h) ∙ append-nil es) ∙ e
 
-  pub state_over : (i : ℕ) (s x : State) (n : ℕ) → length order ≤ i → final w s (round w s n (drop i order)) ≡ x → s ≡ x
-  state_over i s x n h e = sym (ap (final w s) (round_over i s n h) ∙ final-nil w s) ∙ e
-
   -- the entries of this round, where it begins in the state after those so far
   here : (s : State) (es : List Entry) → s ≡ final w (opening w) es → round w s (length es) order ≡ round_after w order es
   here s es e = ap (λ (x : State). round w x (length es) order) e
-
-  pub run_more : (s : State) (es es' : List Entry) → IsRun w es → s ≡ final w (opening w) es → es' ≡ es ++ round w s (length es) order → IsRun w es'
-  run_more s es es' r f e =
-      subst (λ (xs : List Entry). IsRun w xs) (sym (e ∙ ap (λ (xs : List Entry). es ++ xs) (here s es f))) (run_round w es order r)
-
-  pub state_more : (s s' : State) (es es' : List Entry) → s ≡ final w (opening w) es → es' ≡ es ++ round w s (length es) order
-      → s' ≡ final w s (round w s (length es) order) → s' ≡ final w (opening w) es'
-  state_more s s' es es' f e g =
-      g ∙ ap (λ (x : State). final w x (round w s (length es) order)) f ∙ sym (final-append w (opening w) es (round w s (length es) order)) ∙ ap (final w (opening w)) (sym e)
 
 module _ (w : Work) (orders : ℕ → List CpuId) where
   pub no_rounds : (es : List Entry) → es ≡ [] → HasRounds w orders 0 es

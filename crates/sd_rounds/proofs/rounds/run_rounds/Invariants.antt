@@ -1,7 +1,6 @@
 use Rattle.std.proofs.Common.{◌≡◌, ℕ, ◌-◌, ◌≤◌, length}
-use Rattle.sd_machine.specs.Opening.{opening}
-use Rattle.sd_full.specs.Runs.{final, IsRun}
-use Rattle.sd_rounds.specs.declared.rounds.TheConstants.{MOST_ENTRIES}
+use Rattle.sd_world.specs.Plain.{Stands}
+use Rattle.sd_world.specs.declared.turns.TheConstants.{MOST_ENTRIES}
 use Rattle.sd_rounds.specs.Orders.{orders_of, generator_at}
 use Rattle.sd_rounds.specs.Rounds.{HasRounds}
 use Rattle.sd_rounds.proofs.rounds.run_rounds.Given as goal
@@ -9,13 +8,12 @@ use Rattle.sd_rounds.proofs.rounds.run_rounds.Given as goal
 abbrev pub invariant-rounds : goal.invariant-rounds
 invariant-rounds l = record {
   count : ℕ;
-  rounds : HasRounds l.work (orders_of l.work l.fn.turns) count l.entries.items;
+  rounds : HasRounds l.work (orders_of l.work l.fn.turns) count l.world.entries.items;
   generator : l.generator ≡ generator_at l.work l.fn.turns count;
-  run : IsRun l.work l.entries.items;
-  state : l.state ≡ final l.work (opening l.work) l.entries.items;
-  room : length l.entries.items ≤ MOST_ENTRIES;
+  stands : Stands l.work l.world;
+  room : length l.world.entries.items ≤ MOST_ENTRIES;
 }
 
 -- each round that goes on adds an entry, and a log holds at most MOST_ENTRIES
 abbrev pub decreases-rounds : goal.decreases-rounds
-decreases-rounds l = MOST_ENTRIES - length l.entries.items
+decreases-rounds l = MOST_ENTRIES - length l.world.entries.items
