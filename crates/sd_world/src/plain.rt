@@ -8,8 +8,8 @@ ghost use Rattle.sd_snapshot.specs.Told.{AreActorsOf, IsActorOf};
 ghost use Rattle.sd_world.specs.Plain.{HasStood, Stands, told};
 
 use crate::homes::Homes;
-use sd_hand::{Acting, Actor};
 use sd_flat::cpu_of;
+use sd_hand::{Acting, Actor};
 use sd_homes::list_at;
 use sd_machine::State;
 use sd_opening::opening;
