@@ -1,3 +1,4 @@
 pub mod Frames
 pub mod Homes
 pub mod Plain
+pub mod Worlds

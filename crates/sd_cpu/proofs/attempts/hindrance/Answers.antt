@@ -1,0 +1,27 @@
+use Rattle.std.proofs.Common.{sym, ap, subst, ◌∙◌}
+use Rattle.sd_types.specs.declared.works.Work.{Work}
+use Rattle.sd_hand.specs.declared.acting.Acting.{Acting}
+use Rattle.sd_cpu.proofs.AttemptLemmas as M
+use Rattle.sd_cpu.proofs.MeaningLemmas.{counts_same}
+use Rattle.sd_cpu.proofs.attempts.hindrance.Goals as goal
+
+pub returns-then-acting-work-clause-counts : goal.returns-then-acting-work-clause-counts
+returns-then-acting-work-clause-counts g c = counts_same (g.W.World.meaning c.args.world.now)
+
+pub returns-then-acting-work-clause-hinders : goal.returns-then-acting-work-clause-hinders
+returns-then-acting-work-clause-hinders g c = M.high (g.W.World.meaning c.args.world.now) c.args.work.now c.acting.result.now c.requires.work c.acting.ensures c.if-acting-work.true
+
+pub returns-in-None-clause-counts : goal.returns-in-None-clause-counts
+returns-in-None-clause-counts g c = c.in-None.ensures.reads
+
+pub returns-in-None-clause-hinders : goal.returns-in-None-clause-hinders
+returns-in-None-clause-hinders g c =
+    M.may_tick_of (g.W.World.meaning c.args.world.now) (g.W.World.meaning c.behind.new.self) c.args.work.now c.acting.result.now c.requires.work c.acting.ensures c.if-acting-work.false c.in-None.ensures.reads c.in-None.ensures.finds
+
+pub returns-in-Some-clause-counts : goal.returns-in-Some-clause-counts
+returns-in-Some-clause-counts g c = c.in-Some.ensures.reads
+
+pub returns-in-Some-clause-hinders : goal.returns-in-Some-clause-hinders
+returns-in-Some-clause-hinders g c =
+    let b = c.in-Some.ensures.finds in
+    (M.low (g.W.World.meaning c.args.world.now) c.args.work.now c.acting.result.now c.requires.work c.acting.ensures c.if-acting-work.false, b.less, b.rises, b.last, b.own, b.there)

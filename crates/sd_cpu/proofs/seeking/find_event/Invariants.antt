@@ -1,0 +1,15 @@
+use Rattle.std.proofs.Common.{◌-◌}
+use Rattle.sd_world.specs.Worlds.{how_many_held, slots_of}
+use Rattle.sd_cpu.specs.Seeking.{HoldsToMake, IsReady, Looks}
+use Rattle.sd_cpu.proofs.seeking.find_event.Given as goal
+
+abbrev pub invariant-seeking : goal.invariant-seeking
+invariant-seeking g l = record {
+  good : g.W.World.good l.world;
+  looks : Looks (g.W.World.meaning l.fn.world) (g.W.World.meaning l.world);
+  ready : IsReady (g.W.World.meaning l.world) l.fn.plan l.fn.hints;
+  holds : HoldsToMake (g.W.World.meaning l.world) l.fn.hints;
+}
+
+abbrev pub decreases-seeking : goal.decreases-seeking
+decreases-seeking g l = 4 - how_many_held (slots_of (g.W.World.meaning l.world))

@@ -1,0 +1,14 @@
+use Rattle.std.proofs.Common.{◌-◌}
+use Rattle.sd_world.specs.Worlds.{how_many_held, slots_of}
+use Rattle.sd_cpu.specs.Seeking.{IsOnItsWay, Looks}
+use Rattle.sd_cpu.proofs.seeking.hold_all.Given as goal
+
+abbrev pub invariant-seeking : goal.invariant-seeking
+invariant-seeking g l = record {
+  good : g.W.World.good l.world;
+  looks : Looks (g.W.World.meaning l.fn.world) (g.W.World.meaning l.world);
+  way : IsOnItsWay (g.W.World.meaning l.world) l.fn.event;
+}
+
+abbrev pub decreases-seeking : goal.decreases-seeking
+decreases-seeking g l = 4 - how_many_held (slots_of (g.W.World.meaning l.world))

@@ -1,0 +1,6 @@
+use Rattle.sd_store.specs.Parts.{thread_part}
+use Rattle.sd_cpu.proofs.HasLemmas.{also}
+use Rattle.sd_cpu.proofs.touching.reprioritised.Goals as goal
+
+pub returns : goal.returns
+returns c = λ n s shown. also c.args.x.now c.prio.result (thread_part c.args.t) _ c.in_ok-thread.ensures.0 (c.prio.ensures n s shown)

@@ -1,0 +1,15 @@
+use Rattle.std.proofs.Common.{ap, ◌∙◌}
+use Rattle.sd_store.specs.declared.parts.CpuView.{CpuView}
+use Rattle.sd_store.specs.Parts.{cpu_part}
+use Rattle.sd_cpu.specs.Has.{running_cpu}
+use Rattle.sd_cpu.proofs.HasLemmas.{no_lack}
+use Rattle.sd_cpu.proofs.touching.set_on.Goals as goal
+
+pub unreachable-requires : goal.unreachable-requires
+unreachable-requires c =
+    let one = c.requires.shown in
+    let lack = c.in-Err.ensures.lack in
+    no_lack c.args.x.now c.in-Err.field-0 (cpu_part c.args.d) (lack.0 one.number one.state one.shown) lack.1 c.requires.here
+
+pub returns : goal.returns
+returns c = λ n s shown. ap (λ (v : CpuView). v.set) (c.in-Ok.ensures.value n s shown)

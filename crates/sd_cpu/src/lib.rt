@@ -1,0 +1,12 @@
+//! The turn of a processor on a world of homes: it takes the homes that it needs, one by one, makes at most one entry, and gives all back.
+//!
+//! Source: Solaris Internals (thread locks, the lock of a dispatch queue); the order in which homes are taken is this project's own.
+#![tactic(auto)]
+
+mod attempts;
+mod gate;
+mod seeking;
+mod touching;
+
+pub use attempts::{Attempted, Turned, attempt};
+pub use gate::{Gate, OpenGate};
