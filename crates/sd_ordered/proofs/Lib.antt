@@ -1,4 +1,6 @@
 pub mod AlikeLemmas
+pub mod CanLemmas
+pub mod ChangeLemmas
 pub mod KeyLemmas
 pub mod ListLemmas
 pub mod SeekLemmas

@@ -57,7 +57,7 @@ asleep_too k below Ended e = cc
 equal_is : (a b : ℤ) → int_eq a b ≡ (not (int_lt a b) && not (int_lt b a))
 equal_is a b = grind (arith, nat_tests, ints)
 
-equal_same : (a b a' b' : ℤ) → int_lt a b ≡ int_lt a' b' → int_lt b a ≡ int_lt b' a' → int_eq a b ≡ int_eq a' b'
+pub equal_same : (a b a' b' : ℤ) → int_lt a b ≡ int_lt a' b' → int_lt b a ≡ int_lt b' a' → int_eq a b ≡ int_eq a' b'
 equal_same a b a' b' e f = equal_is a b ∙ (λ i. not (e i) && not (f i)) ∙ sym (equal_is a' b')
 
 back_same : (d : Duty) (o : ThreadId) (p : Place) (i j : ℤ) → is_below (key_in d) (key_at p) ≡ is_below (key_in (duty_with d j)) (key_at (place_with p i))
@@ -77,10 +77,10 @@ back_same (duty.Rouse k below) o p i j e f = refl
 back_same (duty.Age u) o p i j e f = refl
 
 module _ (n : ℕ) (x s : State) (h : AreAlike n x s) where
-  place_is : (t : ℕ) → (thread_of s t).place ≡ place_with (thread_of x t).place (key_or_zero (key_at (thread_of s t).place))
+  pub place_is : (t : ℕ) → (thread_of s t).place ≡ place_with (thread_of x t).place (key_or_zero (key_at (thread_of s t).place))
   place_is t = place_rekeyed (thread_of x t).place (thread_of s t).place (place_alike x s h.same.bare t)
 
-  duty_is : (c : ℕ) → (cpu_of s c).duty ≡ duty_with (cpu_of x c).duty (key_or_zero (key_in (cpu_of s c).duty))
+  pub duty_is : (c : ℕ) → (cpu_of s c).duty ≡ duty_with (cpu_of x c).duty (key_or_zero (key_in (cpu_of s c).duty))
   duty_is c = duty_rekeyed (cpu_of x c).duty (cpu_of s c).duty (duty_alike x s h.same.bare c)
 
   to_rouse_same : (c k t : ℕ) → is_asleep_below k (rouse_key (cpu_of x c).duty) (thread_of x t).place ≡ is_asleep_below k (rouse_key (cpu_of s c).duty) (thread_of s t).place

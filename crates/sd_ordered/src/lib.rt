@@ -5,5 +5,7 @@
 mod clock;
 mod look;
 mod ordered;
+mod sets;
+mod store;
 
 pub use ordered::Ordered;
