@@ -76,7 +76,7 @@ back_same (duty.GrantReaders l) o p i j e f = refl
 back_same (duty.Rouse k below) o p i j e f = refl
 back_same (duty.Age u) o p i j e f = refl
 
-module _ (n : ℕ) (x s : State) (h : AreAlike n x s) where
+module _ (n m : ℕ) (x s : State) (h : AreAlike n m x s) where
   pub place_is : (t : ℕ) → (thread_of s t).place ≡ place_with (thread_of x t).place (key_or_zero (key_at (thread_of s t).place))
   place_is t = place_rekeyed (thread_of x t).place (thread_of s t).place (place_alike x s h.same.bare t)
 

@@ -21,13 +21,14 @@ abbrev SleepersFit : State → Type 0
 SleepersFit s = (t : ℕ) → IsSleeperKey (thread_of s t).place
 
 -- each key of the states afterwards comes from where `pick` says
-picked : (n m : ℕ) (x s x' s' : State) (pick : Holder → Source) → AreAlike n x s → bare x' ≡ bare s'
-    → ((a : Holder) → key_held x' a ≡ key_from n x (pick a)) → ((a : Holder) → key_held s' a ≡ key_from n s (pick a))
-    → ((z : State) → KeysFit n z → (a : Holder) → IfSome (key_from n z (pick a)) (IsKeyBefore m)) → SleepersFit x' → SleepersFit s' → AreAlike m x' s'
-picked n m x s x' s' pick h e kx ks fits sx ss = record {
-  same = record { bare = e; order = λ a b. rw (kx a, kx b, ks a, ks b) (order_from n x s h (pick a) (pick b)) };
-  own = record { before = λ a. rw (kx a) (fits x h.own a); sleepers = sx };
-  keys = record { before = λ a. rw (ks a) (fits s h.keys a); sleepers = ss };
+picked : (n m n' m' : ℕ) (x s x' s' : State) (pick : Holder → Source) → AreAlike n m x s → bare x' ≡ bare s'
+    → ((a : Holder) → key_held x' a ≡ key_from n x (pick a)) → ((a : Holder) → key_held s' a ≡ key_from m s (pick a))
+    → ((z : State) → KeysFit n z → (a : Holder) → IfSome (key_from n z (pick a)) (IsKeyBefore n')) → ((z : State) → KeysFit m z → (a : Holder) → IfSome (key_from m z (pick a)) (IsKeyBefore m'))
+    → SleepersFit x' → SleepersFit s' → AreAlike n' m' x' s'
+picked n m n' m' x s x' s' pick h e kx ks fx fs sx ss = record {
+  same = record { bare = e; order = λ a b. rw (kx a, kx b, ks a, ks b) (order_from n m x s h (pick a) (pick b)) };
+  own = record { before = λ a. rw (kx a) (fx x h.own a); sleepers = sx };
+  keys = record { before = λ a. rw (ks a) (fs s h.keys a); sleepers = ss };
 }
 
 since_fits : (n : ℕ) (b : Source) (key : Option ℤ) → IfSome key (IsKeyBefore n) → IfSome key (IsKeyBefore (since n b))
@@ -36,14 +37,14 @@ since_fits n (From a) key h = h
 since_fits n Back key h = if_later n key h
 since_fits n Front key h = if_later n key h
 
-pub alike_later : (n : ℕ) (x s : State) → AreAlike n x s → AreAlike (n + 1) x s
-alike_later n x s h = record { same = h.same; own = fit_later n x h.own; keys = fit_later n s h.keys }
+pub alike_later : (n m : ℕ) (x s : State) → AreAlike n m x s → AreAlike (n + 1) (m + 1) x s
+alike_later n m x s h = record { same = h.same; own = fit_later n x h.own; keys = fit_later m s h.keys }
 
-alike_since : (n : ℕ) (b : Source) (x s : State) → AreAlike n x s → AreAlike (since n b) x s
-alike_since n Gone x s h = h
-alike_since n (From a) x s h = h
-alike_since n Back x s h = alike_later n x s h
-alike_since n Front x s h = alike_later n x s h
+alike_since : (n m : ℕ) (b : Source) (x s : State) → AreAlike n m x s → AreAlike (since n b) (since m b) x s
+alike_since n m Gone x s h = h
+alike_since n m (From a) x s h = h
+alike_since n m Back x s h = alike_later n m x s h
+alike_since n m Front x s h = alike_later n m x s h
 
 
 -- the key of thread t comes from b, and each other is as before
@@ -121,51 +122,51 @@ cpu_past : (s : State) (c : ℕ) (y : CpuState) → length s.cpus ≤ c → with
 cpu_past s c y h = ap (λ (cpus : List CpuState). let z : State = record s { cpus = cpus } in z) (set_past s.cpus c y h)
 
 -- Thread t becomes another, which is the same in both but for its key, and its key comes from b.
-pub thread_step : (n : ℕ) (x s : State) (t : ℕ) (y z : ThreadState) (b : Source) → AreAlike n x s → bare_thread y ≡ bare_thread z
-    → key_at y.place ≡ key_from n x b → key_at z.place ≡ key_from n s b → IsSleeperKey y.place → IsSleeperKey z.place
-    → AreAlike (since n b) (with_thread x t y) (with_thread s t z)
-thread_step n x s t y z b h e kx ks sx ss = elim (cases_lt t (length x.threads)) [
+pub thread_step : (n m : ℕ) (x s : State) (t : ℕ) (y z : ThreadState) (b : Source) → AreAlike n m x s → bare_thread y ≡ bare_thread z
+    → key_at y.place ≡ key_from n x b → key_at z.place ≡ key_from m s b → IsSleeperKey y.place → IsSleeperKey z.place
+    → AreAlike (since n b) (since m b) (with_thread x t y) (with_thread s t z)
+thread_step n m x s t y z b h e kx ks sx ss = elim (cases_lt t (length x.threads)) [
   | inl inside ↦
       let inside' : t < length s.threads = rw (sym (threads_many x s h.same.bare)) inside in
       let same : bare (with_thread x t y) ≡ bare (with_thread s t z) = thread_bare x t y ∙ (λ i. with_thread (h.same.bare i) t (e i)) ∙ sym (thread_bare s t z) in
-      picked n (since n b) x s (with_thread x t y) (with_thread s t z) (pick_thread t b) h same (thread_keys n x t y b inside kx) (thread_keys n s t z b inside' ks) (thread_fits n t b)
+      picked n m (since n b) (since m b) x s (with_thread x t y) (with_thread s t z) (pick_thread t b) h same (thread_keys n x t y b inside kx) (thread_keys m s t z b inside' ks) (thread_fits n t b) (thread_fits m t b)
       (sleepers_fit x t y inside h.own.sleepers sx) (sleepers_fit s t z inside' h.keys.sleepers ss)
   | inr past ↦
       let past' : length s.threads ≤ t = rw (sym (threads_many x s h.same.bare)) past in
-      rw (thread_past x t y past, thread_past s t z past') (alike_since n b x s h)
+      rw (thread_past x t y past, thread_past s t z past') (alike_since n m b x s h)
 ]
 
 -- Processor c becomes another, which is the same in both but for its key, and its key comes from b.
-pub cpu_step : (n : ℕ) (x s : State) (c : ℕ) (y z : CpuState) (b : Source) → AreAlike n x s → bare_cpu y ≡ bare_cpu z
-    → key_in y.duty ≡ key_from n x b → key_in z.duty ≡ key_from n s b → AreAlike (since n b) (with_cpu x c y) (with_cpu s c z)
-cpu_step n x s c y z b h e kx ks = elim (cases_lt c (length x.cpus)) [
+pub cpu_step : (n m : ℕ) (x s : State) (c : ℕ) (y z : CpuState) (b : Source) → AreAlike n m x s → bare_cpu y ≡ bare_cpu z
+    → key_in y.duty ≡ key_from n x b → key_in z.duty ≡ key_from m s b → AreAlike (since n b) (since m b) (with_cpu x c y) (with_cpu s c z)
+cpu_step n m x s c y z b h e kx ks = elim (cases_lt c (length x.cpus)) [
   | inl inside ↦
       let inside' : c < length s.cpus = rw (sym (cpus_many x s h.same.bare)) inside in
       let same : bare (with_cpu x c y) ≡ bare (with_cpu s c z) = cpu_bare x c y ∙ (λ i. with_cpu (h.same.bare i) c (e i)) ∙ sym (cpu_bare s c z) in
-      picked n (since n b) x s (with_cpu x c y) (with_cpu s c z) (pick_cpu c b) h same (cpu_keys n x c y b inside kx) (cpu_keys n s c z b inside' ks) (cpu_fits n c b) h.own.sleepers h.keys.sleepers
+      picked n m (since n b) (since m b) x s (with_cpu x c y) (with_cpu s c z) (pick_cpu c b) h same (cpu_keys n x c y b inside kx) (cpu_keys m s c z b inside' ks) (cpu_fits n c b) (cpu_fits m c b) h.own.sleepers h.keys.sleepers
   | inr past ↦
       let past' : length s.cpus ≤ c = rw (sym (cpus_many x s h.same.bare)) past in
-      rw (cpu_past x c y past, cpu_past s c z past') (alike_since n b x s h)
+      rw (cpu_past x c y past, cpu_past s c z past') (alike_since n m b x s h)
 ]
 
 -- A lock, a count and the open processors of a set have no key.
 
-pub lock_step : (n : ℕ) (x s : State) (l : ℕ) (lock : LockState) → AreAlike n x s → AreAlike n (with_lock x l lock) (with_lock s l lock)
-lock_step n x s l lock h = record {
+pub lock_step : (n m : ℕ) (x s : State) (l : ℕ) (lock : LockState) → AreAlike n m x s → AreAlike n m (with_lock x l lock) (with_lock s l lock)
+lock_step n m x s l lock h = record {
   same = record { bare = ap (λ (z : State). with_lock z l lock) h.same.bare; order = h.same.order };
   own = record { before = h.own.before; sleepers = h.own.sleepers };
   keys = record { before = h.keys.before; sleepers = h.keys.sleepers };
 }
 
-pub count_step : (n : ℕ) (x s : State) (k count : ℕ) → AreAlike n x s → AreAlike n (with_count x k count) (with_count s k count)
-count_step n x s k count h = record {
+pub count_step : (n m : ℕ) (x s : State) (k count : ℕ) → AreAlike n m x s → AreAlike n m (with_count x k count) (with_count s k count)
+count_step n m x s k count h = record {
   same = record { bare = ap (λ (z : State). with_count z k count) h.same.bare; order = h.same.order };
   own = record { before = h.own.before; sleepers = h.own.sleepers };
   keys = record { before = h.keys.before; sleepers = h.keys.sleepers };
 }
 
-pub open_step : (n : ℕ) (x s : State) (p : ℕ) (cpus : List CpuId) → AreAlike n x s → AreAlike n (with_open x p cpus) (with_open s p cpus)
-open_step n x s p cpus h = record {
+pub open_step : (n m : ℕ) (x s : State) (p : ℕ) (cpus : List CpuId) → AreAlike n m x s → AreAlike n m (with_open x p cpus) (with_open s p cpus)
+open_step n m x s p cpus h = record {
   same = record { bare = ap (λ (z : State). with_open z p cpus) h.same.bare; order = h.same.order };
   own = record { before = h.own.before; sleepers = h.own.sleepers };
   keys = record { before = h.keys.before; sleepers = h.keys.sleepers };

@@ -12,4 +12,4 @@ returns-clause-value c =
     let x = c.args.self.now.state in
     let y : Ordered = record { state = c.bind.new.self } in
     does c.args.self.now y c.bind.result (λ s. (cpu_of s c.args.d.0).bound + 1 < 2 ^ 16) (λ s. bind s c.args.t.0 c.args.d) c.bind.ensures.value
-    (λ n s h k. bound_back x s h.same c.args.d k) (λ n s h k. bind_alike n x s h c.args.t.0 c.args.d)
+    (λ n s h k. bound_back x s h.same c.args.d k) (λ n s h k. bind_alike n n x s h c.args.t.0 c.args.d)

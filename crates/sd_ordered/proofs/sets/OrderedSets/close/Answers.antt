@@ -10,4 +10,4 @@ returns-clause-value c =
     let x = c.args.self.now.state in
     let y : Ordered = record { state = c.close.new.self } in
     does c.args.self.now y c.close.result (λ s. ⊤) (λ s. close s c.args.d c.args.to) c.close.ensures.value
-    (λ n s h k. k) (λ n s h k. close_alike n x s h c.args.d c.args.to)
+    (λ n s h k. k) (λ n s h k. close_alike n n x s h c.args.d c.args.to)

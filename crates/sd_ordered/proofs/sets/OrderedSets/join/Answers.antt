@@ -11,4 +11,4 @@ returns-clause-value c =
     let x = c.args.self.now.state in
     let y : Ordered = record { state = c.join.new.self } in
     does c.args.self.now y c.join.result (λ s. CanJoin s c.args.set) (λ s. join s c.args.c c.args.set) c.join.ensures.value
-    (λ n s h k. join_back x s h.same c.args.set k) (λ n s h k. join_alike n x s h c.args.c c.args.set)
+    (λ n s h k. join_back x s h.same c.args.set k) (λ n s h k. join_alike n n x s h c.args.c c.args.set)

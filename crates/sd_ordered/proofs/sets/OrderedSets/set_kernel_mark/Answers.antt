@@ -10,4 +10,4 @@ returns-clause-value c =
     let x = c.args.self.now.state in
     let y : Ordered = record { state = c.set_kernel_mark.new.self } in
     does c.args.self.now y c.set_kernel_mark.result (λ s. ⊤) (λ s. set_kernel_mark s c.args.c.0) c.set_kernel_mark.ensures.value
-    (λ n s h k. k) (λ n s h k. kernel_alike n x s h c.args.c.0)
+    (λ n s h k. k) (λ n s h k. kernel_alike n n x s h c.args.c.0)

@@ -10,4 +10,4 @@ returns-clause-value c =
     let x = c.args.self.now.state in
     let y : Ordered = record { state = c.unbind.new.self } in
     does c.args.self.now y c.unbind.result (λ s. ⊤) (λ s. unbind s c.args.t.0 c.args.b) c.unbind.ensures.value
-    (λ n s h k. k) (λ n s h k. unbind_alike n x s h c.args.t.0 c.args.b)
+    (λ n s h k. k) (λ n s h k. unbind_alike n n x s h c.args.t.0 c.args.b)

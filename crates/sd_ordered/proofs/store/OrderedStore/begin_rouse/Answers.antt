@@ -11,4 +11,4 @@ returns-clause-value c =
     let x = c.args.self.now.state in
     let y : Ordered = record { state = c.begin_rouse.new.self } in
     does_by c.args.number c.args.self.now y c.begin_rouse.result (λ s. ⊤) (λ s. set_duty s c.args.c.0 (Rouse c.args.k (back_key c.args.number))) c.begin_rouse.ensures.value
-    (λ s h k. k) (λ s h k. rouse_alike c.args.number x s h c.args.c.0 c.args.k)
+    (λ s h k. k) (λ s h k. rouse_alike c.args.number c.args.number x s h c.args.c.0 c.args.k)

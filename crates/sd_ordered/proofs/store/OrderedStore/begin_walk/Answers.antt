@@ -10,4 +10,4 @@ returns-clause-value c =
     let x = c.args.self.now.state in
     let y : Ordered = record { state = c.begin_walk.new.self } in
     does c.args.self.now y c.begin_walk.result (λ s. ⊤) (λ s. walk_begun s c.args.c c.args.t) c.begin_walk.ensures.value
-    (λ n s h k. k) (λ n s h k. begun_alike n x s h c.args.c c.args.t)
+    (λ n s h k. k) (λ n s h k. begun_alike n n x s h c.args.c c.args.t)

@@ -12,4 +12,4 @@ returns-clause-value c =
     let x = c.args.self.now.state in
     let y : Ordered = record { state = c.change_body.new.self } in
     does c.args.self.now y c.change_body.result (λ s. CanChange c.args.work.now c.args.t c.args.change s) (λ s. with_body s c.args.t.0 (changed c.args.work.now c.args.t.0 c.args.change (thread_of s c.args.t.0).body)) c.change_body.ensures.value
-    (λ n s h k. change_back x s h.same c.args.work.now c.args.t c.args.change k) (λ n s h k. body_alike n x s h c.args.t.0 (changed c.args.work.now c.args.t.0 c.args.change))
+    (λ n s h k. change_back x s h.same c.args.work.now c.args.t c.args.change k) (λ n s h k. body_alike n n x s h c.args.t.0 (changed c.args.work.now c.args.t.0 c.args.change))

@@ -10,4 +10,4 @@ returns-clause-value c =
     let x = c.args.self.now.state in
     let y : Ordered = record { state = c.clear_marks.new.self } in
     does c.args.self.now y c.clear_marks.result (λ s. ⊤) (λ s. clear_marks s c.args.c.0) c.clear_marks.ensures.value
-    (λ n s h k. k) (λ n s h k. clear_alike n x s h c.args.c.0)
+    (λ n s h k. k) (λ n s h k. clear_alike n n x s h c.args.c.0)

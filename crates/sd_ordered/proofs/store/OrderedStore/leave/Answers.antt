@@ -12,4 +12,4 @@ returns-clause-value c =
     let x = c.args.self.now.state in
     let y : Ordered = record { state = c.leave.new.self } in
     does_by c.args.number c.args.self.now y c.leave.result (λ s. RunsOn s c.args.t c.args.c × IsDestination s c.args.to) (λ s. leave s c.args.c.0 c.args.t.0 (place_by c.args.number c.args.c c.args.to)) c.leave.ensures.value
-    (λ s h k. (runs_back x s h.same c.args.t c.args.c k.0, destination_back x s h.same c.args.to k.1)) (λ s h k. leave_alike c.args.number x s h c.args.c c.args.t.0 c.args.to)
+    (λ s h k. (runs_back x s h.same c.args.t c.args.c k.0, destination_back x s h.same c.args.to k.1)) (λ s h k. leave_alike c.args.number c.args.number x s h c.args.c c.args.t.0 c.args.to)

@@ -11,4 +11,4 @@ returns-clause-value c =
     let x = c.args.self.now.state in
     let y : Ordered = record { state = c.run_on.new.self } in
     does c.args.self.now y c.run_on.result (λ s. IsFree s c.args.c) (λ s. run_on s c.args.t.0 c.args.c) c.run_on.ensures.value
-    (λ n s h k. free_back x s h.same c.args.c k) (λ n s h k. run_alike n x s h c.args.t.0 c.args.c)
+    (λ n s h k. free_back x s h.same c.args.c k) (λ n s h k. run_alike n n x s h c.args.t.0 c.args.c)

@@ -11,4 +11,4 @@ returns-clause-value c =
     let x = c.args.self.now.state in
     let y : Ordered = record { state = c.set_duty.new.self } in
     does c.args.self.now y c.set_duty.result (λ s. ⊤) (λ s. set_duty s c.args.c.0 (duty_of c.args.chore)) c.set_duty.ensures.value
-    (λ n s h k. k) (λ n s h k. duty_alike_after n x s h c.args.c.0 c.args.chore)
+    (λ n s h k. k) (λ n s h k. duty_alike_after n n x s h c.args.c.0 c.args.chore)

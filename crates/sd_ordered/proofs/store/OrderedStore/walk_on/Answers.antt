@@ -10,4 +10,4 @@ returns-clause-value c =
     let x = c.args.self.now.state in
     let y : Ordered = record { state = c.walk_on.new.self } in
     does c.args.self.now y c.walk_on.result (λ s. ⊤) (λ s. walk_gone_on s c.args.c c.args.o) c.walk_on.ensures.value
-    (λ n s h k. k) (λ n s h k. gone_alike n x s h c.args.c c.args.o)
+    (λ n s h k. k) (λ n s h k. gone_alike n n x s h c.args.c c.args.o)
