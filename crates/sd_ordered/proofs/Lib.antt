@@ -3,6 +3,7 @@ pub mod CanLemmas
 pub mod ChangeLemmas
 pub mod KeyLemmas
 pub mod ListLemmas
+pub mod PutLemmas
 pub mod SeekLemmas
 pub mod SourceLemmas
 pub mod StepLemmas

@@ -181,7 +181,7 @@ module _ (x s : State) (h : IsSameOrder x s) where
   tests : (on : Place → Bool) → IsBlind on → (t : ℕ) → on (thread_of x t).place ≡ on (thread_of s t).place
   tests on blind t = blind_place on blind (thread_of x t).place (thread_of s t).place (place_alike x s h.bare t)
 
-  eff_same : (t : ℕ) → eff (thread_of x t).body ≡ eff (thread_of s t).body
+  pub eff_same : (t : ℕ) → eff (thread_of x t).body ≡ eff (thread_of s t).body
   eff_same t = ap eff (body_same x s h.bare t)
 
   -- of two that pass a test of those with a key, the one beats the other in both or in neither
