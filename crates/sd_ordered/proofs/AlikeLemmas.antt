@@ -1,8 +1,7 @@
 -- What is the same in states that are the same but for their keys: each thread and processor but for its key, and the rest.
-use Rattle.std.proofs.Common.{◌≡◌, ℕ, ◌<◌, List, length, get_or, map, Option, Some, None, refl, sym, ap, ◌∙◌, is_some, true, false, Bool, ℤ, pos}
+use Rattle.std.proofs.Common.{◌≡◌, ℕ, length, get_or, Option, Some, None, refl, sym, ap, ◌∙◌, is_some, ℤ, pos}
 use Rattle.std.proofs.Math.ListN.{get_or-map}
 use Rattle.std.proofs.lemmas.List.{length-map}
-use Rattle.sd_types.specs.declared.bodies.ThreadBody.{ThreadBody}
 use Rattle.sd_types.specs.declared.events.Duty.{Duty}
 use Rattle.sd_types.specs.declared.events.Duty.TheVariants as duty
 use Rattle.sd_machine.specs.declared.states.CpuState.{CpuState}

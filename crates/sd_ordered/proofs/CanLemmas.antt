@@ -1,6 +1,6 @@
 -- What a change asks of a state it asks of each whose keys have the same order.
-use Rattle.std.proofs.Common.{◌≡◌, ℕ, ◌+◌, ◌<◌, ◌^◌, true, false, length, Option, None, refl, sym, ap, ◌∙◌, subst}
-use Rattle.std.specs.Prelude.{IfSome, IsTrue}
+use Rattle.std.proofs.Common.{◌≡◌, ℕ, ◌+◌, ◌<◌, ◌^◌, false, length, sym, ap, ◌∙◌, subst}
+use Rattle.std.specs.Prelude.{IsTrue}
 use Rattle.sd_types.specs.declared.bodies.ThreadBody.{ThreadBody}
 use Rattle.sd_types.specs.declared.numbers.CpuId.{CpuId}
 use Rattle.sd_types.specs.declared.numbers.ChanId.{ChanId}
@@ -11,11 +11,10 @@ use Rattle.sd_types.specs.declared.works.Work.{Work}
 use Rattle.sd_types.specs.Scripts.{is_held}
 use Rattle.sd_types.specs.Willed.{IsSound}
 use Rattle.sd_machine.specs.declared.states.CpuState.{CpuState}
-use Rattle.sd_machine.specs.declared.states.Place.TheVariants.{Running}
 use Rattle.sd_machine.specs.declared.states.State.{State}
 use Rattle.sd_machine.specs.States.{cpu_of, thread_of}
 use Rattle.sd_machine.specs.Operations.{script_of}
-use Rattle.sd_full.specs.Needs.{CanFinish, CanHold, CanInherit, CanJoin, CanTick, IsChan, IsFree, IsLock, RunsOn}
+use Rattle.sd_full.specs.Needs.{CanJoin, CanTick, IsChan, IsFree, IsLock, RunsOn}
 use Rattle.sd_store.specs.declared.changes.BodyChange.{BodyChange}
 use Rattle.sd_store.specs.declared.changes.BodyChange.TheVariants.{RunTick, FinishOp, Class, SendBack, Hold, LetGo, Inherit, Looped}
 use Rattle.sd_store.specs.declared.spots.Destination.{Destination}

@@ -1,5 +1,5 @@
 -- What a change does to states whose keys have the same order: they have it afterwards.
-use Rattle.std.proofs.Common.{◌≡◌, ℕ, ◌+◌, ◌-◌, ◌%◌, ◌==◌, Bool, true, false, ◌&&◌, ◌||◌, cond, List, length, ℤ, pos, int_lt, Option, Some, None, refl, sym, ap, ◌∙◌, subst, arith}
+use Rattle.std.proofs.Common.{◌≡◌, ℕ, ◌+◌, ◌-◌, ◌%◌, ◌==◌, Bool, true, false, ◌&&◌, ◌||◌, ℤ, pos, int_lt, Some, None, refl, sym, ap, ◌∙◌, subst, arith}
 use Rattle.std.specs.Ordering.{int_eq}
 use Rattle.std.specs.Prelude.{if◌then◌else◌, nat_le}
 use Rattle.std.proofs.lemmas.Bool.Decides.{nat_tests}
@@ -25,19 +25,17 @@ use Rattle.sd_machine.specs.declared.states.ThreadState.{ThreadState}
 use Rattle.sd_machine.specs.declared.states.State.{State}
 use Rattle.sd_machine.specs.States.{cpu_of, thread_of, with_cpu, with_thread}
 use Rattle.sd_full.specs.Bodies.{arrived, departed}
-use Rattle.sd_full.specs.Changes.{back_key, bind, clear_marks, close, count_tick, counted, duty_after, join, leave, marked, place_put, run_on, set_duty, set_kernel_mark, set_mark, unbind, unmarked, with_body, with_cpu_in, with_place, without_cpu}
+use Rattle.sd_full.specs.Changes.{back_key, bind, clear_marks, close, count_tick, counted, join, leave, marked, place_put, run_on, set_duty, set_kernel_mark, set_mark, unbind, unmarked, with_body, with_cpu_in, with_place, without_cpu}
 use Rattle.sd_full.specs.Prioritising.{walk_from}
 use Rattle.sd_full.specs.Threads.{open_of, with_count, with_lock, with_open}
-use Rattle.sd_full.specs.Walking.{is_back, next_walk}
-use Rattle.sd_store.specs.declared.changes.BodyChange.{BodyChange}
+use Rattle.sd_full.specs.Walking.{next_walk}
 use Rattle.sd_store.specs.declared.spots.Chore.{Chore}
 use Rattle.sd_store.specs.declared.spots.Chore.TheVariants as chore
 use Rattle.sd_store.specs.declared.spots.Destination.{Destination}
 use Rattle.sd_store.specs.declared.spots.Destination.TheVariants as to
-use Rattle.sd_store.specs.Bodies.{changed}
 use Rattle.sd_store.specs.Keyless.{duty_of, place_by}
 use Rattle.sd_store.specs.Walks.{walk_begun, walk_gone_on}
-use Rattle.sd_ordered.specs.Order.{Holder, OfThread, OfCpu, IsSleeperKey, bare_cpu, bare_duty, bare_place, bare_thread, is_below, key_at, key_held, key_in}
+use Rattle.sd_ordered.specs.Order.{OfThread, OfCpu, IsSleeperKey, bare_cpu, bare_duty, bare_place, is_below, key_at, key_held, key_in}
 use Rattle.sd_ordered.proofs.AlikeLemmas.{body_same, cpu_alike, duty_with, key_or_zero, place_alike, place_with}
 use Rattle.sd_ordered.proofs.SeekLemmas.{duty_is, equal_same, place_is}
 use Rattle.sd_ordered.proofs.SourceLemmas.{AreAlike, Source, Gone, From, Back, Front, key_from, since}
@@ -120,7 +118,7 @@ since_later n m Front x s h = h
 
 module _ (n m : ℕ) (x s : State) (h : AreAlike n m x s) where
   -- processor c with another duty, whose key comes from b
-  duty_step : (c : ℕ) (d e : Duty) (b : Source) → bare_duty d ≡ bare_duty e → key_in d ≡ key_from n x b → key_in e ≡ key_from m s b → AreAlike (since n b) (since m b) (set_duty x c d) (set_duty s c e)
+  pub duty_step : (c : ℕ) (d e : Duty) (b : Source) → bare_duty d ≡ bare_duty e → key_in d ≡ key_from n x b → key_in e ≡ key_from m s b → AreAlike (since n b) (since m b) (set_duty x c d) (set_duty s c e)
   unfolding set_duty
   duty_step c d e b same kx ks =
       cpu_step n m x s c (record (cpu_of x c) { duty = d }) (record (cpu_of s c) { duty = e }) b h

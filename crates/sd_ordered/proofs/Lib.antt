@@ -1,9 +1,12 @@
+pub mod AfterLemmas
 pub mod AlikeLemmas
 pub mod CanLemmas
 pub mod ChangeLemmas
 pub mod KeyLemmas
 pub mod ListLemmas
+pub mod PassLemmas
 pub mod PutLemmas
+pub mod RunLemmas
 pub mod SeekLemmas
 pub mod SourceLemmas
 pub mod StepLemmas

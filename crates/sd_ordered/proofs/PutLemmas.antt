@@ -1,9 +1,8 @@
 -- What threads and processors of states whose keys have the same order come to by the steps that many events have in common.
-use Rattle.std.proofs.Common.{◌≡◌, ℕ, ◌+◌, ◌<◌, ◌==◌, Bool, true, false, ◌&&◌, ◌||◌, List, ℤ, Option, Some, None, is_none, refl, sym, ap, ◌∙◌, subst}
+use Rattle.std.proofs.Common.{◌≡◌, ℕ, ◌+◌, Bool, true, false, ◌&&◌, ℤ, Option, Some, None, is_none, refl, sym, ap, ◌∙◌, subst}
 use Rattle.std.specs.Prelude.{if◌then◌else◌, nat_le, nat_lt}
 use Rattle.sd_types.specs.declared.numbers.CpuId.{CpuId}
 use Rattle.sd_types.specs.declared.numbers.LockId.{LockId}
-use Rattle.sd_types.specs.declared.numbers.ThreadId.{ThreadId}
 use Rattle.sd_types.specs.declared.bodies.ThreadBody.{ThreadBody}
 use Rattle.sd_types.specs.declared.classes.ClassState.{ClassState}
 use Rattle.sd_types.specs.declared.events.End.{End}
@@ -14,7 +13,7 @@ use Rattle.sd_types.specs.Willed.{changed_number, with_willed, with_lock as with
 use Rattle.sd_machine.specs.declared.states.Place.{Place}
 use Rattle.sd_machine.specs.declared.states.Place.TheVariants.{Running, Queued, RealTime, Waiting, Asleep, Napping, Ended}
 use Rattle.sd_machine.specs.declared.states.State.{State}
-use Rattle.sd_machine.specs.States.{cpu_of, thread_of}
+use Rattle.sd_machine.specs.States.{thread_of}
 use Rattle.sd_machine.specs.Operations.{op_over, ran, script_of}
 use Rattle.sd_full.specs.Bodies.{with_class, woken_class}
 use Rattle.sd_full.specs.Changes.{cpu_put, finish_op, hold, key_at, leave, let_go, mark_over, place_put, priority_or_zero, put, put_where, queue_place, remark, rivals, run_tick, runs_below, send_back, set_class, set_looped, set_mark, set_number, with_place}
@@ -24,9 +23,8 @@ use Rattle.sd_full.specs.Threads.{best_ready, eff_of, priority_of, runner, set_o
 use Rattle.sd_store.specs.declared.spots.Destination.{Destination}
 use Rattle.sd_store.specs.declared.spots.Destination.TheVariants as to
 use Rattle.sd_store.specs.Keyless.{place_by}
-use Rattle.sd_ordered.specs.Order.{Holder, bare_place}
 use Rattle.sd_ordered.specs.Order.{key_at as key_of_place}
-use Rattle.sd_ordered.proofs.AlikeLemmas.{body_same, key_or_zero, place_with}
+use Rattle.sd_ordered.proofs.AlikeLemmas.{key_or_zero, place_with}
 use Rattle.sd_ordered.proofs.ChangeLemmas.{body_alike, enqueue_alike, leave_alike, mark_alike}
 use Rattle.sd_ordered.proofs.SeekLemmas.{place_is}
 use Rattle.sd_ordered.proofs.SourceLemmas.{AreAlike}

@@ -1,7 +1,6 @@
 -- What is told by comparing the key of a duty with those of threads: whom to wake, and where a walk goes.
-use Rattle.std.proofs.Common.{◌≡◌, ℕ, ◌+◌, Bool, true, false, not, ◌&&◌, ◌||◌, ◌==◌, List, ℤ, pos, int_lt, Option, Some, None, refl, sym, ap, ◌∙◌, subst, inl, inr, arith}
+use Rattle.std.proofs.Common.{◌≡◌, ℕ, true, not, ◌&&◌, ◌==◌, ℤ, int_lt, refl, sym, ap, ◌∙◌, subst, arith}
 use Rattle.std.specs.Ordering.{int_eq}
-use Rattle.std.specs.Prelude.{if◌then◌else◌}
 use Rattle.std.proofs.lemmas.Bool.Decides.{nat_tests}
 use Rattle.std.proofs.lemmas.Int.{ints}
 use Rattle.sd_types.specs.declared.numbers.ChanId.{ChanId}
@@ -16,12 +15,12 @@ use Rattle.sd_machine.specs.States.{cpu_of, no_thread, thread_of}
 use Rattle.sd_machine.specs.Best.{beats}
 use Rattle.sd_full.specs.Sleeping.{rouse_key}
 use Rattle.sd_full.specs.Threads.{best_sleeper_below, is_asleep, is_asleep_below}
-use Rattle.sd_full.specs.Walking.{is_back, next_walk}
+use Rattle.sd_full.specs.Walking.{is_back}
 use Rattle.sd_store.specs.Walks.{next_to_rouse}
-use Rattle.sd_ordered.specs.Order.{Holder, OfThread, OfCpu, IsSleeperKey, bare_duty, is_below, key_at, key_held, key_in}
+use Rattle.sd_ordered.specs.Order.{OfThread, OfCpu, IsSleeperKey, is_below, key_at, key_in}
 use Rattle.sd_ordered.proofs.AlikeLemmas.{duty_alike, duty_rekeyed, duty_with, key_or_zero, place_alike, place_rekeyed, place_with, threads_many}
 use Rattle.sd_ordered.proofs.ListLemmas.{best_same}
-use Rattle.sd_ordered.proofs.SourceLemmas.{AreAlike, Source, Gone, From, key_from}
+use Rattle.sd_ordered.proofs.SourceLemmas.{AreAlike}
 use Rattle.sd_ordered.proofs.TellLemmas.{asleep_blind, asleep_key, beats_same, left_of}
 
 -- Whom to wake.

@@ -1,13 +1,12 @@
 -- A change takes each key of the state after it from somewhere: from the state before, or from the entry. Where two states
 -- with keys in one order take them from the same places, their keys are in one order afterwards.
-use Rattle.std.proofs.Common.{◌≡◌, ℕ, ◌+◌, ◌≤◌, Bool, true, false, List, ℤ, negsuc, int_lt, Option, Some, None, is_some, refl, sym, ap, ◌∙◌, subst, arith, le_refl}
+use Rattle.std.proofs.Common.{◌≡◌, ℕ, ◌+◌, true, false, ℤ, negsuc, int_lt, Option, Some, None, is_some, refl, sym, ◌∙◌, arith, le_refl}
 use Rattle.std.specs.Prelude.{IfSome}
 use Rattle.std.proofs.lemmas.Bool.Decides.{nat_tests}
 use Rattle.std.proofs.lemmas.Int.{ints}
 use Rattle.sd_machine.specs.declared.states.State.{State}
 use Rattle.sd_full.specs.Changes.{back_key}
-use Rattle.sd_ordered.specs.Order.{Holder, IsKeyBefore, IsSameOrder, KeysFit, bare, is_below, key_held}
-use Rattle.sd_ordered.specs.Shown.{if_later}
+use Rattle.sd_ordered.specs.Order.{Holder, IsKeyBefore, IsSameOrder, KeysFit, is_below, key_held}
 use Rattle.sd_ordered.proofs.AlikeLemmas.{there_alike}
 use Rattle.sd_ordered.proofs.KeyLemmas.{back_fits, front_fits}
 

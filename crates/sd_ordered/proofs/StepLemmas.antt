@@ -1,18 +1,17 @@
 -- A change of one thread, processor, lock, count or set in states whose keys have the same order.
-use Rattle.std.proofs.Common.{◌≡◌, ℕ, ◌+◌, ◌<◌, ◌≤◌, ◌==◌, Bool, true, false, List, length, map, get_or, set, ℤ, Option, Some, None, refl, sym, ap, ◌∙◌, subst, arith, inl, inr, get_or-set_same, get_or-set_other}
-use Rattle.std.specs.Prelude.{IfSome, slice_set, if◌then◌else◌}
+use Rattle.std.proofs.Common.{◌≡◌, ℕ, ◌+◌, ◌<◌, ◌≤◌, ◌==◌, false, List, length, get_or, set, ℤ, Option, refl, sym, ap, ◌∙◌, arith, inl, inr, get_or-set_same, get_or-set_other}
+use Rattle.std.specs.Prelude.{IfSome, if◌then◌else◌}
 use Rattle.std.proofs.lemmas.Bool.{cases_eq, cases_lt, eq-eqb}
 use Rattle.std.proofs.lemmas.Bool.Decides.{nat_tests}
 use Rattle.std.proofs.lemmas.List.{map-set, set_past}
 use Rattle.sd_types.specs.declared.numbers.CpuId.{CpuId}
 use Rattle.sd_machine.specs.declared.states.CpuState.{CpuState}
 use Rattle.sd_machine.specs.declared.states.LockState.{LockState}
-use Rattle.sd_machine.specs.declared.states.Place.{Place}
 use Rattle.sd_machine.specs.declared.states.ThreadState.{ThreadState}
 use Rattle.sd_machine.specs.declared.states.State.{State}
-use Rattle.sd_machine.specs.States.{cpu_of, no_cpu, no_thread, thread_of, with_cpu, with_thread}
+use Rattle.sd_machine.specs.States.{no_cpu, no_thread, thread_of, with_cpu, with_thread}
 use Rattle.sd_full.specs.Threads.{with_count, with_lock, with_open}
-use Rattle.sd_ordered.specs.Order.{Holder, OfThread, OfCpu, IsKeyBefore, IsSameOrder, IsSleeperKey, KeysFit, bare, bare_cpu, bare_thread, is_below, key_at, key_held, key_in}
+use Rattle.sd_ordered.specs.Order.{Holder, OfThread, OfCpu, IsKeyBefore, IsSleeperKey, KeysFit, bare, bare_cpu, bare_thread, key_at, key_held, key_in}
 use Rattle.sd_ordered.specs.Shown.{if_later, fit_later}
 use Rattle.sd_ordered.proofs.AlikeLemmas.{cpus_many, threads_many}
 use Rattle.sd_ordered.proofs.SourceLemmas.{AreAlike, Source, Gone, From, Back, Front, fits_from, key_from, order_from, since}
@@ -45,7 +44,6 @@ alike_since n m Gone x s h = h
 alike_since n m (From a) x s h = h
 alike_since n m Back x s h = alike_later n m x s h
 alike_since n m Front x s h = alike_later n m x s h
-
 
 -- the key of thread t comes from b, and each other is as before
 abbrev pick_thread : ℕ → Source → Holder → Source

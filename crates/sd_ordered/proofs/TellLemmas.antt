@@ -1,21 +1,9 @@
 -- What a look-up tells of states whose keys have the same order: the same of each.
-use Rattle.std.proofs.Common.{◌≡◌, ℕ, ◌+◌, ◌-◌, zero, suc, Bool, true, false, ◌&&◌, ◌||◌, ◌==◌, cond, List, [], ◌∷◌, length, map, get_or, drop, set, ℤ, int_lt, Option, Some, None, is_none, option_map, refl, sym, ap, ◌∙◌, subst, arith, inl, inr}
-use Rattle.std.specs.Ordering.{int_eq}
-use Rattle.std.specs.List.{list_all, list_any, position}
-use Rattle.std.specs.Prelude.{if◌then◌else◌, nat_le, nat_lt}
-use Rattle.std.proofs.lemmas.Bool.{cases_Bool}
-use Rattle.std.proofs.lemmas.Bool.Decides.{nat_tests}
-use Rattle.std.proofs.lemmas.Int.{ints}
+use Rattle.std.proofs.Common.{◌≡◌, ℕ, ◌+◌, ◌-◌, Bool, true, false, ◌&&◌, List, [], ◌∷◌, length, map, get_or, drop, set, int_lt, Some, is_none, option_map, refl, sym, ap, ◌∙◌}
+use Rattle.std.specs.Prelude.{nat_le, nat_lt}
 use Rattle.std.proofs.lemmas.List.{get_or-drop, length-drop, map-set}
-use Rattle.sd_types.specs.declared.numbers.ChanId.{ChanId}
-use Rattle.sd_types.specs.declared.numbers.CpuId.{CpuId}
 use Rattle.sd_types.specs.declared.numbers.LockId.{LockId}
 use Rattle.sd_types.specs.declared.numbers.Side.{Side}
-use Rattle.sd_types.specs.declared.numbers.Side.TheVariants.{Writer, Reader}
-use Rattle.sd_types.specs.declared.numbers.ThreadId.{ThreadId}
-use Rattle.sd_types.specs.declared.bodies.ThreadBody.{ThreadBody}
-use Rattle.sd_types.specs.declared.events.Duty.{Duty}
-use Rattle.sd_types.specs.declared.events.Duty.TheVariants as duty
 use Rattle.sd_types.specs.declared.works.Work.{Work}
 use Rattle.sd_types.specs.Priorities.{eff}
 use Rattle.sd_machine.specs.declared.states.CpuState.{CpuState}
@@ -23,19 +11,16 @@ use Rattle.sd_machine.specs.declared.states.Place.{Place}
 use Rattle.sd_machine.specs.declared.states.Place.TheVariants.{Running, Queued, RealTime, Waiting, Asleep, Napping, Ended}
 use Rattle.sd_machine.specs.declared.states.ThreadState.{ThreadState}
 use Rattle.sd_machine.specs.declared.states.State.{State}
-use Rattle.sd_machine.specs.States.{cpu_of, is_queued, is_ready, is_real_time, is_running, key_of, no_cpu, no_thread, thread_of}
-use Rattle.sd_machine.specs.Best.{beats, best_by, goes_before, queue_rank}
-use Rattle.sd_full.specs.Threads.{best_queued, count_of, lock_of, open_of, best_ready, best_sleeper, best_sleeper_below, best_unbound, best_waiter, due_of, first_due, greater, greatest_waiting, has_waiters, is_asleep, is_asleep_below, is_due, is_ts, is_waiting, is_waiting_at, naps_less, next_to_age, runner, same_side}
+use Rattle.sd_machine.specs.States.{cpu_of, is_queued, is_ready, is_running, key_of, no_cpu, no_thread, thread_of}
+use Rattle.sd_machine.specs.Best.{beats, best_by, queue_rank}
+use Rattle.sd_full.specs.Threads.{best_queued, count_of, lock_of, open_of, best_ready, best_sleeper, best_unbound, best_waiter, due_of, first_due, greatest_waiting, has_waiters, is_asleep, is_due, is_ts, is_waiting, is_waiting_at, naps_less, next_to_age, runner}
 use Rattle.sd_full.specs.Locking.{others_waiting}
 use Rattle.sd_full.specs.Events.{may_tick}
-use Rattle.sd_full.specs.Sleeping.{rouse_key}
-use Rattle.sd_full.specs.Walking.{is_back}
 use Rattle.sd_store.specs.Keyless.{spot_of, task_of}
 use Rattle.sd_store.specs.Parts.{view_of}
-use Rattle.sd_store.specs.Walks.{next_to_rouse}
-use Rattle.sd_ordered.specs.Order.{Holder, OfThread, OfCpu, IsSameOrder, bare_cpu, bare_place, bare_thread, is_below, key_at, key_held, key_in}
+use Rattle.sd_ordered.specs.Order.{OfThread, IsSameOrder, bare_thread, is_below, key_at}
 use Rattle.sd_ordered.proofs.AlikeLemmas.{IsBlind, blind_duty, blind_place, spot_blind, task_blind, body_same, cpu_alike, cpus_many, duty_alike, place_alike, thread_alike, threads_many}
-use Rattle.sd_ordered.proofs.ListLemmas.{best_same, place_same, position_same, all_same, any_same}
+use Rattle.sd_ordered.proofs.ListLemmas.{best_same, position_same, all_same, any_same}
 
 -- Tests of places that look at no key.
 

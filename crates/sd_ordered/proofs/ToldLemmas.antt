@@ -1,6 +1,6 @@
 -- What the one state tells is told of each that is shown.
-use Rattle.std.proofs.Common.{◌≡◌, ℕ, ◌+◌, true, false, Bool, List, Result, Ok, Err, Option, option_map, refl, sym, ◌∙◌, subst}
-use Rattle.std.specs.Prelude.{IfErr, IfOk}
+use Rattle.std.proofs.Common.{◌≡◌, ℕ, ◌+◌, Bool, List, Result, Ok, Err, Option, option_map, refl, sym, ◌∙◌, subst}
+use Rattle.std.specs.Prelude.{IfOk}
 use Rattle.sd_types.specs.declared.numbers.ThreadId.{ThreadId}
 use Rattle.sd_machine.specs.declared.states.State.{State}
 use Rattle.sd_store.specs.declared.flat.look.Never.{Never}
@@ -9,7 +9,7 @@ use Rattle.sd_store.specs.Parts.{number}
 use Rattle.sd_store.specs.Flat.{IsState}
 use Rattle.sd_store.specs.Words.{Does, DoesBy, Keeps, Lacks, Names, Tells}
 use Rattle.sd_ordered.specs.declared.ordered.Ordered.{Ordered}
-use Rattle.sd_ordered.specs.Shown.{IsShown, shown_later}
+use Rattle.sd_ordered.specs.Shown.{IsShown}
 use Rattle.sd_ordered.proofs.SourceLemmas.{AreAlike}
 
 itself : (x : Ordered) (n : ℕ) (s : State) → IsShown x n s → IsState x.state x.state

@@ -1,6 +1,6 @@
 -- Which states a state with keys in some order shows: each in which the keys have the same order.
 -- Source: this project's own.
-use Rattle.std.specs.Prelude.{◌≡◌, ℕ, ◌+◌, ◌≤◌, length, ℤ, Option, Some, None, IfSome}
+use Rattle.std.specs.Prelude.{ℕ, ◌+◌, ◌≤◌, length, ℤ, Option, Some, None, IfSome}
 use Rattle.std.proofs.Math.Nat.{le-add_right, le_trans}
 use Rattle.sd_machine.specs.declared.states.State.{State}
 use Rattle.sd_ordered.specs.Order.{IsKeyBefore, IsSameOrder, KeysFit, key_held}
