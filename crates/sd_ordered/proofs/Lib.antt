@@ -2,10 +2,12 @@ pub mod AfterLemmas
 pub mod AlikeLemmas
 pub mod CanLemmas
 pub mod ChangeLemmas
+pub mod CountLemmas
 pub mod KeyLemmas
 pub mod ListLemmas
 pub mod PassLemmas
 pub mod PutLemmas
+pub mod RankLemmas
 pub mod RunLemmas
 pub mod SeekLemmas
 pub mod SourceLemmas
