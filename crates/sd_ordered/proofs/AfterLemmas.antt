@@ -128,13 +128,13 @@ ended_blind (Napping c due) = refl
 ended_blind Ended = refl
 
 module _ (n m : ℕ) (x s : State) (h : AreAlike n m x s) where
-  ended_same : (u : ℕ) → has_ended (thread_of x u).place ≡ has_ended (thread_of s u).place
+  pub ended_same : (u : ℕ) → has_ended (thread_of x u).place ≡ has_ended (thread_of s u).place
   ended_same u = blind_place has_ended ended_blind (thread_of x u).place (thread_of s u).place (place_alike x s h.same.bare u)
 
   target_same : (w : Work) (u : ℕ) → target_of w x u ≡ target_of w s u
   target_same w u i = if ended_same u i then None else Some (uid_of w u, parms_of (body_same x s h.same.bare u i).class)
 
-  answer_same : (w : Work) (t u : ℕ) (r : Request) → answer_to w x t u r ≡ answer_to w s t u r
+  pub answer_same : (w : Work) (t u : ℕ) (r : Request) → answer_to w x t u r ≡ answer_to w s t u r
   answer_same w t u r i = judged (uid_of w t) (is_privileged w t) (target_same w u i) r
 
 -- what a walk begins with where thread u stands

@@ -6,6 +6,7 @@ pub mod CountLemmas
 pub mod KeyLemmas
 pub mod ListLemmas
 pub mod PassLemmas
+pub mod PlanLemmas
 pub mod PutLemmas
 pub mod RankLemmas
 pub mod RunLemmas
