@@ -5,6 +5,7 @@ pub mod ChangeLemmas
 pub mod CountLemmas
 pub mod KeyLemmas
 pub mod ListLemmas
+pub mod NextLemmas
 pub mod PassLemmas
 pub mod PlanLemmas
 pub mod PutLemmas
