@@ -1,13 +1,10 @@
 -- The event of a processor, what it reads for it and the numbers that are shown to it: the same in states whose keys have
 -- the same order.
-use Rattle.std.proofs.Common.{◌≡◌, ℕ, ◌+◌, ◌==◌, Bool, true, false, not, ◌&&◌, ◌||◌, List, filter, length, map, Option, Some, None, refl, sym, ap, ◌∙◌}
+use Rattle.std.proofs.Common.{◌≡◌, ℕ, ◌==◌, not, ◌&&◌, ◌||◌, List, filter, map, Option, Some, None, refl, ap, ◌∙◌}
 use Rattle.std.specs.Prelude.{if◌then◌else◌, nat_lt}
 use Rattle.sd_types.specs.declared.numbers.CpuId.{CpuId}
-use Rattle.sd_types.specs.declared.bodies.ThreadBody.{ThreadBody}
-use Rattle.sd_types.specs.declared.events.Event.{Event}
 use Rattle.sd_types.specs.declared.events.Event.TheVariants as event
 use Rattle.sd_types.specs.declared.events.Hints.{Hints}
-use Rattle.sd_types.specs.declared.events.Put.{Put}
 use Rattle.sd_types.specs.declared.events.Which.{Which}
 use Rattle.sd_types.specs.declared.events.Which.TheVariants.{Running as OfRunning, Queued as OfQueued}
 use Rattle.sd_types.specs.declared.works.Work.{Work}
@@ -16,13 +13,13 @@ use Rattle.sd_rules.specs.ChoiceFunctions.{chosen, victim_of}
 use Rattle.sd_full.specs.declared.plans.Plan.{Plan}
 use Rattle.sd_full.specs.declared.plans.Plan.TheVariants.{Make, Place as PlaceIt, Search}
 use Rattle.sd_machine.specs.declared.states.State.{State}
-use Rattle.sd_machine.specs.States.{cpu_of, thread_of}
+use Rattle.sd_machine.specs.States.{cpu_of}
 use Rattle.sd_full.specs.Choosing.{choice, cpus_for, cpus_or_bound, hint_of, hint_shown, is_recent, is_warm, neighbours, numbers_read, put_chosen, put_on, read_for, read_of, reads_for, victim_for}
 use Rattle.sd_full.specs.Dispatching.{search_event, steal_event}
-use Rattle.sd_full.specs.Events.{allowed, event_of, hints_fit, may_tick, next, placed_thread, plan_event, plan_reads, reads, wish}
+use Rattle.sd_full.specs.Events.{event_of, hints_fit, next, placed_thread, plan_event, plan_reads, reads, wish}
 use Rattle.sd_full.specs.Plans.{plan}
 use Rattle.sd_full.specs.Runs.{serial_hints, shown}
-use Rattle.sd_full.specs.Threads.{best_unbound, open_of, priority_of, runner, set_of, thread_id}
+use Rattle.sd_full.specs.Threads.{best_unbound, open_of, runner, set_of, thread_id}
 use Rattle.sd_ordered.proofs.AlikeLemmas.{body_same}
 use Rattle.sd_ordered.proofs.PlanLemmas.{plan_same}
 use Rattle.sd_ordered.proofs.PutLemmas.{priority_same}

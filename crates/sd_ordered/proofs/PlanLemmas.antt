@@ -1,5 +1,5 @@
 -- What a processor is about to do: the same in states whose keys have the same order.
-use Rattle.std.proofs.Common.{◌≡◌, ℕ, ◌+◌, ◌==◌, Bool, true, false, not, ◌&&◌, ◌||◌, List, length, ℤ, Option, Some, None, Result, Ok, Err, is_none, is_some, refl, sym, ap, ◌∙◌, subst}
+use Rattle.std.proofs.Common.{◌≡◌, ℕ, ◌+◌, ◌==◌, not, ◌&&◌, ◌||◌, length, ℤ, Option, Some, None, Result, Ok, Err, is_none, is_some, refl, sym, ap, ◌∙◌}
 use Rattle.std.specs.Prelude.{if◌then◌else◌, nat_le, nat_lt}
 use Rattle.sd_types.specs.declared.numbers.ChanId.{ChanId}
 use Rattle.sd_types.specs.declared.numbers.CpuId.{CpuId}
@@ -9,25 +9,20 @@ use Rattle.sd_types.specs.declared.numbers.Side.TheVariants.{Writer, Reader}
 use Rattle.sd_types.specs.declared.numbers.ThreadId.{ThreadId}
 use Rattle.sd_types.specs.declared.bodies.ThreadBody.{ThreadBody}
 use Rattle.sd_types.specs.declared.classes.ClassParms.{ClassParms}
-use Rattle.sd_types.specs.declared.events.AssignAnswer.{AssignAnswer}
 use Rattle.sd_types.specs.declared.events.AssignAnswer.TheVariants as assign
-use Rattle.sd_types.specs.declared.events.BindAnswer.{BindAnswer}
 use Rattle.sd_types.specs.declared.events.BindAnswer.TheVariants as bind_answer
 use Rattle.sd_types.specs.declared.events.Denied.{Denied}
 use Rattle.sd_types.specs.declared.events.Duty.{Duty}
 use Rattle.sd_types.specs.declared.events.Duty.TheVariants as duty
-use Rattle.sd_types.specs.declared.events.Event.{Event}
 use Rattle.sd_types.specs.declared.events.Event.TheVariants as event
 use Rattle.sd_types.specs.declared.events.PrioAnswer.TheVariants.{Changed}
-use Rattle.sd_types.specs.declared.events.Put.{Put}
 use Rattle.sd_types.specs.declared.scripts.Op.{Op}
 use Rattle.sd_types.specs.declared.scripts.Op.TheVariants as op
 use Rattle.sd_types.specs.declared.works.Work.{Work}
 use Rattle.sd_types.specs.Priorities.{eff_as}
-use Rattle.sd_full.specs.declared.plans.Placement.{Placement}
 use Rattle.sd_full.specs.declared.plans.Placement.TheVariants as placement
 use Rattle.sd_full.specs.declared.plans.Plan.{Plan}
-use Rattle.sd_full.specs.declared.plans.Plan.TheVariants.{Make, Place as PlaceIt, Search}
+use Rattle.sd_full.specs.declared.plans.Plan.TheVariants.{Make, Place as PlaceIt}
 use Rattle.sd_full.specs.declared.plans.Requeue.TheVariants.{Stays}
 use Rattle.sd_rules.specs.Priocntl.{entered}
 use Rattle.sd_machine.specs.declared.states.CpuState.{CpuState}
@@ -39,18 +34,18 @@ use Rattle.sd_machine.specs.declared.states.State.{State}
 use Rattle.sd_machine.specs.States.{cpu_of, thread_of}
 use Rattle.sd_machine.specs.Operations.{op_of}
 use Rattle.sd_full.specs.Bodies.{aged_class, eff_as_with, woken_class}
-use Rattle.sd_full.specs.Conditions.{sema_p_event, sema_v_plan}
-use Rattle.sd_full.specs.Dispatching.{dispatch_plan, leave_event, leave_plan, must_leave}
-use Rattle.sd_full.specs.Locking.{enter_event, grant_reader_plan, grant_writer_plan, is_eligible, owner_runs, read_event, unblock_plan, write_event, writer_priority}
+use Rattle.sd_full.specs.Conditions.{sema_v_plan}
+use Rattle.sd_full.specs.Dispatching.{dispatch_plan, leave_plan}
+use Rattle.sd_full.specs.Locking.{enter_event, grant_reader_plan, grant_writer_plan, is_eligible, read_event, unblock_plan, write_event}
 use Rattle.sd_full.specs.Plans.{ageing_plan, ageing_plan_of, cpu_plan, cpu_plan_of, duty_plan, duty_plan_of, first_of, free_plan_of, nap_plan, op_plan, or_plan, plan, run_plan, run_plan_of}
 use Rattle.sd_full.specs.Prioritising.{age_plan, answer_to, change_plan, is_privileged, new_class, prio_plan, uid_of}
 use Rattle.sd_full.specs.Requeueing.{requeue, requeue_at, requeue_plan}
-use Rattle.sd_full.specs.SetChanges.{assign_answer, bind_put, bind_to, bound_put, closing_plan, is_busy, is_closing, is_misbound, unbound_put}
+use Rattle.sd_full.specs.SetChanges.{assign_answer, bind_put, bind_to, bound_put, closing_plan, is_closing, is_misbound, unbound_put}
 use Rattle.sd_full.specs.Sleeping.{napend_plan, rouse_key, rouse_plan, wake_plan, woken_priority}
-use Rattle.sd_full.specs.Threads.{best_queued, best_ready, best_sleeper, best_sleeper_below, best_waiter, count_of, eff_of, first_due, greatest_waiting, has_ended, lock_of, next_to_age, open_of, priority_of, runner, runs_somewhere, set_of, thread_id}
+use Rattle.sd_full.specs.Threads.{best_queued, best_ready, best_sleeper, best_sleeper_below, best_waiter, eff_of, first_due, lock_of, next_to_age, open_of, runner, runs_somewhere, set_of, thread_id}
 use Rattle.sd_full.specs.Walking.{inherited_priority, walk_plan, will_plan}
 use Rattle.sd_store.specs.Walks.{next_to_rouse}
-use Rattle.sd_ordered.specs.Order.{bare_duty, key_in}
+use Rattle.sd_ordered.specs.Order.{key_in}
 use Rattle.sd_ordered.proofs.AfterLemmas.{answer_same, ended_same}
 use Rattle.sd_ordered.proofs.AlikeLemmas.{IsBlind, blind_place, body_same, cpu_alike, duty_with, key_or_zero, place_alike}
 use Rattle.sd_ordered.proofs.PutLemmas.{priority_same}
