@@ -1,5 +1,5 @@
 -- The keys of the initial state are the numbers of the threads.
-use Rattle.std.proofs.Common.{◌≡◌, ℕ, zero, suc, ◌+◌, ◌<◌, ◌≤◌, Bool, true, false, List, [], ◌∷◌, length, map, get_or, ℤ, pos, negsuc, int_lt, Option, Some, None, refl, sym, ap, ◌∙◌, subst, arith}
+use Rattle.std.proofs.Common.{◌≡◌, ℕ, zero, suc, ◌+◌, ◌<◌, ◌≤◌, Bool, true, false, List, [], ◌∷◌, length, map, get_or, pos, negsuc, int_lt, arith}
 use Rattle.std.specs.Prelude.{IfSome, if◌then◌else◌}
 use Rattle.std.specs.List.{range_with_len}
 use Rattle.std.proofs.lemmas.Bool.Decides.{nat_tests}
@@ -8,11 +8,9 @@ use Rattle.sd_types.specs.declared.numbers.CpuId.{CpuId}
 use Rattle.sd_types.specs.declared.numbers.SetId.{SetId}
 use Rattle.sd_types.specs.declared.works.ThreadDecl.{ThreadDecl}
 use Rattle.sd_types.specs.declared.works.Work.{Work}
-use Rattle.sd_machine.specs.declared.states.Place.{Place}
 use Rattle.sd_machine.specs.declared.states.Place.TheVariants.{Queued, RealTime}
-use Rattle.sd_machine.specs.declared.states.State.{State}
 use Rattle.sd_machine.specs.States.{no_cpu, no_thread}
-use Rattle.sd_machine.specs.Opening.{first_cpu, first_cpu_state, first_place, first_thread, first_threads, is_urgent, opening}
+use Rattle.sd_machine.specs.Opening.{first_cpu, first_cpu_state, first_thread, first_threads, is_urgent, opening}
 use Rattle.sd_full.specs.Changes.{back_key}
 use Rattle.sd_ordered.specs.Order.{Holder, OfThread, OfCpu, IsKeyBefore, IsSleeperKey, KeysFit, key_at, key_held, key_in}
 

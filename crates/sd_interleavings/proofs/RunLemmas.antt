@@ -1,5 +1,5 @@
 -- A closed set has the state after every entry.
-use Rattle.std.proofs.Common.{◌≡◌, ℕ, ◌+◌, List, [], ◌∷◌, Option, Some, refl, sym, ap, ◌∙◌, subst}
+use Rattle.std.proofs.Common.{◌≡◌, ℕ, ◌+◌, List, [], ◌∷◌, Option, Some, sym, ap, ◌∙◌, subst}
 use Rattle.sd_types.specs.declared.numbers.CpuId.{CpuId}
 use Rattle.sd_types.specs.declared.events.Entry.{Entry}
 use Rattle.sd_types.specs.declared.events.Event.{Event}
@@ -8,7 +8,6 @@ use Rattle.sd_types.specs.declared.works.Work.{Work}
 use Rattle.sd_machine.specs.declared.states.State.{State}
 use Rattle.sd_machine.specs.Opening.{opening}
 use Rattle.sd_full.specs.Events.{after, next}
-use Rattle.sd_full.specs.Needs.{Needs}
 use Rattle.sd_full.specs.Runs.{IsReached, IsRun, IsRunFrom, final, serial_hints}
 use Rattle.sd_full.proofs.RunLemmas.{IsRun-from}
 use Rattle.sd_range.proofs.Induction.{opening_reached, reached_more}
@@ -19,7 +18,7 @@ use Rattle.sd_ordered.proofs.NextLemmas.{next_same, reads_same, serial_same}
 use Rattle.sd_ordered.proofs.RankLemmas.{ranked_fits, ranked_order, ranked_same, same_ranked}
 use Rattle.sd_ordered.proofs.SourceLemmas.{AreAlike}
 use Rattle.sd_interleavings.specs.Closed.{Has, IsClosed, IsFresh}
-use Rattle.sd_interleavings.specs.Laws.{EntriesKeepTheOrder, IsSameTurn, RanksTellTheOrder, TurnsAreTheSame}
+use Rattle.sd_interleavings.specs.Laws.{EntriesKeepTheOrder, RanksTellTheOrder, TurnsAreTheSame}
 use Rattle.sd_interleavings.proofs.OpeningKeys.{opening_keys}
 
 pub joined : (x y s : State) → IsSameOrder x y → IsSameOrder y s → IsSameOrder x s

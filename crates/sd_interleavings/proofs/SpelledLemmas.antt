@@ -1,5 +1,5 @@
 -- The turns of a list of processors make a run that ends as the search found it.
-use Rattle.std.proofs.Common.{◌≡◌, ℕ, suc, ◌+◌, List, [], ◌∷◌, ◌++◌, length, Option, Some, refl, sym, ap, ◌∙◌, subst, arith}
+use Rattle.std.proofs.Common.{◌≡◌, ℕ, suc, ◌+◌, List, [], ◌∷◌, ◌++◌, length, Some, refl, sym, ap, ◌∙◌, subst}
 use Rattle.sd_types.specs.declared.numbers.CpuId.{CpuId}
 use Rattle.sd_types.specs.declared.events.Entry.{Entry}
 use Rattle.sd_types.specs.declared.events.Event.{Event}
@@ -7,17 +7,17 @@ use Rattle.sd_types.specs.declared.works.Work.{Work}
 use Rattle.sd_machine.specs.declared.states.State.{State}
 use Rattle.sd_machine.specs.Opening.{opening}
 use Rattle.sd_full.specs.Events.{after, next}
-use Rattle.sd_full.specs.Runs.{IsReached, IsRun, IsRunFrom, final, made, round, serial_hints, turn}
+use Rattle.sd_full.specs.Runs.{IsReached, IsRunFrom, final, made, round, serial_hints, turn}
 use Rattle.sd_full.proofs.RunLemmas.{from-IsRun}
 use Rattle.sd_range.proofs.Induction.{opening_reached, reached_more}
 use Rattle.sd_range.proofs.Range.{needs_reached}
-use Rattle.sd_ordered.specs.Order.{IsSameOrder, KeysFit}
+use Rattle.sd_ordered.specs.Order.{IsSameOrder}
 use Rattle.sd_ordered.proofs.AfterLemmas.{after_alike}
 use Rattle.sd_ordered.proofs.NextLemmas.{next_same, serial_same}
 use Rattle.sd_ordered.proofs.SourceLemmas.{AreAlike}
 use Rattle.sd_interleavings.specs.Closed.{IsFresh}
 use Rattle.sd_interleavings.specs.Laws.{TurnsSpellARun}
-use Rattle.sd_interleavings.specs.Spelled.{IsSpelled, IsTurn, Leads}
+use Rattle.sd_interleavings.specs.Spelled.{Leads}
 use Rattle.sd_interleavings.proofs.OpeningKeys.{opening_keys}
 use Rattle.sd_interleavings.proofs.RunLemmas.{alike, joined}
 
