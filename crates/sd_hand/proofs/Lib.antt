@@ -8,6 +8,7 @@ pub mod HomeLemmas
 pub mod MoveLemmas
 pub mod OneLemmas
 pub mod PartLemmas
+pub mod RunLemmas
 pub mod ShownLemmas
 pub mod SlotLemmas
 pub mod StepLemmas

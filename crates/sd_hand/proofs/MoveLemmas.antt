@@ -104,6 +104,13 @@ stood_at s t sp r st =
       list = ap list_of here ∙ sym (stands_only sp st.thread.body.last st.thread.place st.on);
     }
 
+-- who stands in a list of a hand is found there
+pub stands_found : (t : ℕ) (sp : ListId) (hs : List (Option Home)) → AreApart hs → StandsIn t hs sp → None ≡ taken_from t sp (held (home_at sp) hs) → ⊥
+stands_found t sp hs apart l e =
+    let none : None ≡ find_id id_of t (list_in l.home sp) = e ∙ ap (taken_from t sp) (held_by t sp hs l apart) in
+    let some = ap is_some none ∙ l.listed.found in
+    absurd cc
+
 pub stands_at : (n : ℕ) (s : State) (t : ℕ) (sp : ListId) (hs : List (Option Home)) → AreApart hs → ShowsState n s hs → StandsIn t hs sp → StandsAt s t sp
 stands_at n s t sp hs apart shows l =
     let found = some_found (find_id id_of t (list_in l.home sp)) l.listed.found in

@@ -10,7 +10,7 @@ use Rattle.sd_shown.specs.declared.list_id.ListId.TheVariants.{Runs}
 use Rattle.sd_record.specs.Records.{ThreadRecord}
 use Rattle.sd_shown.specs.Standing.{home_at}
 use Rattle.sd_homes.specs.declared.home.Home.{Home}
-use Rattle.sd_homes.specs.Families.{has, home_id, list_in, same_home, taking}
+use Rattle.sd_homes.specs.Families.{has, home_id, list_in, same_home, taken_from, taking}
 use Rattle.sd_homes.specs.Kinds.{IsListed}
 
 -- homes, each in a slot
@@ -85,6 +85,10 @@ pub record StandsIn (t : ℕ) (hs : List (Option Home)) (sp : ListId) : Type 0 w
   pub home : Home
   pub inside : IsIn home hs
   pub listed : IsListed t (home_id home) (list_in home) (has t home) sp
+
+-- this is the thread, which stands in a list of one of them
+abbrev pub IsThere : ℕ → List (Option Home) → ThreadRecord → Type 0
+IsThere t hs r = (sp : ListId) × StandsIn t hs sp × (Some r ≡ taken_from t sp (held (home_at sp) hs))
 
 -- the home of this number was asked, or is lacking
 abbrev pub Asks : {A B : Type 0} → HomeId → List (Option Home) → Result A Part → (A → B) → (Home → B) → Type 0

@@ -1,6 +1,8 @@
 -- What becomes of a thread on its way from list to list.
 -- Source: this project's own; see `sd_full`'s Changes.
+use Rattle.std.specs.Prelude.{◌≡◌, ℕ, List, Option, MatchOption}
 use Rattle.sd_types.specs.declared.numbers.CpuId.{CpuId}
+use Rattle.sd_types.specs.declared.numbers.HomeId.TheVariants as id
 use Rattle.sd_types.specs.declared.numbers.ThreadId.{ThreadId}
 use Rattle.sd_types.specs.declared.events.Put.{Put}
 use Rattle.sd_types.specs.declared.events.Put.TheVariants.{Cpu, RealTime}
@@ -12,9 +14,12 @@ use Rattle.sd_store.specs.declared.spots.Destination.{Destination}
 use Rattle.sd_store.specs.declared.spots.Destination.TheVariants as to
 use Rattle.sd_record.specs.Records.{ThreadRecord}
 use Rattle.sd_shown.specs.declared.list_id.ListId.{ListId}
-use Rattle.sd_shown.specs.declared.list_id.ListId.TheVariants.{Ends, Naps, Queues, Sleeps, Urgent, Waits}
+use Rattle.sd_shown.specs.declared.list_id.ListId.TheVariants.{Ends, Naps, Queues, Runs, Sleeps, Urgent, Waits}
 use Rattle.sd_shown.specs.Standing.{record_key}
+use Rattle.sd_homes.specs.declared.home.Home.{Home}
+use Rattle.sd_homes.specs.Families.{putting, taken_from, taking}
 use Rattle.sd_homes.specs.Homes.{with_body_of, with_key}
+use Rattle.sd_hand.specs.Hands.{edit, held}
 use Rattle.sd_hand.specs.declared.steps.Step.{Step}
 use Rattle.sd_hand.specs.declared.steps.Step.TheVariants.{Arrive, Depart, Move}
 
@@ -36,3 +41,9 @@ list_by c to.Nowhere = Ends c
 abbrev pub list_put : Work → ThreadId → Put → ListId
 list_put w t (Cpu x) = Queues x
 list_put w t (RealTime x) = Urgent (set_of w t.0)
+
+-- the thread that runs on processor c, where it is t, becomes such a one where it stands
+abbrev pub RunsChanged : ℕ → CpuId → (ThreadRecord → ThreadRecord → Type 0) → List (Option Home) → List (Option Home) → Type 0
+RunsChanged t c P hs new =
+    MatchOption (taken_from t (Runs c) (held (id.Cpu c) hs)) (new ≡ hs)
+    (λ r. (q : ThreadRecord) × (new ≡ edit (id.Cpu c) (putting q (Runs c)) (edit (id.Cpu c) (taking t (Runs c)) hs)) × (q.id ≡ r.id) × P r q)

@@ -11,8 +11,8 @@ ghost use Rattle.sd_full.specs.Sleeping.{rouse_key};
 ghost use Rattle.sd_store.specs.Parts.{number};
 ghost use Rattle.sd_shown.specs.declared.list_id.ListId.TheVariants.{Naps, Queues, Sleeps, Urgent, Waits};
 ghost use Rattle.sd_shown.specs.Standing.{better, due_of_first, home_at, id_of, is_unbound, key_in, least_to_age, rank_of};
-ghost use Rattle.sd_homes.specs.Families.{list_in, lock_in, open_in, taken_from, tokens_in, view_in};
-ghost use Rattle.sd_hand.specs.Hands.{Asks, AsksTwo, held};
+ghost use Rattle.sd_homes.specs.Families.{list_in, lock_in, open_in, tokens_in, view_in};
+ghost use Rattle.sd_hand.specs.Hands.{Asks, AsksTwo};
 
 use crate::hand::Hand;
 use sd_homes::{home_at, is_over};
@@ -20,11 +20,10 @@ use sd_machine::LockState;
 use sd_record::Record;
 use sd_shown::ListId;
 use sd_store::{CpuView, Part, rouse_key};
-use sd_types::{
-    ChanId, CpuId, Duty, HomeId, LockId, SetId, ThreadBody, ThreadId, home_of_chan, home_of_lock,
-};
+use sd_types::{ChanId, CpuId, Duty, HomeId, LockId, SetId, ThreadId, home_of_chan, home_of_lock};
 
 /// The number of a thread that was found.
+#[inline(always)]
 fn number_of(found: Option<&Record>) -> Option<ThreadId>
     ensures { option_map number result ≡ option_map id_of (option_copied found.entry) }
 {
@@ -35,6 +34,7 @@ fn number_of(found: Option<&Record>) -> Option<ThreadId>
 }
 
 /// The thread, if its nap is over at this count.
+#[inline(always)]
 fn due(napper: Option<&Record>, count: u32) -> Option<ThreadId>
     ensures { option_map number result ≡ option_map id_of (due_of_first count (option_copied napper.entry)) }
 {
@@ -52,6 +52,7 @@ fn due(napper: Option<&Record>, count: u32) -> Option<ThreadId>
 
 impl Hand {
     /// The first of those who stand there.
+    #[inline(always)]
     pub(crate) fn first(&self, at: ListId) -> Result<Option<ThreadId>, Part>
         ensures { Asks (home_at at) self.now.slots result (option_map number) (λ h. option_map id_of (slice_get (list_in h at) 0)) }
     {
@@ -62,6 +63,7 @@ impl Hand {
     }
 
     /// The best on the queue of processor `c` that is bound to no processor.
+    #[inline(always)]
     pub(crate) fn first_unbound(&self, c: CpuId) -> Result<Option<ThreadId>, Part>
         ensures { Asks (Cpu c) self.now.slots result (option_map number) (λ h. option_map id_of (find_first is_unbound (list_in h (Queues c)))) }
     {
@@ -72,6 +74,7 @@ impl Hand {
     }
 
     /// The thread whose nap on processor `c` is over first, where one is over at this count.
+    #[inline(always)]
     pub(crate) fn first_due(&self, c: CpuId, count: u32) -> Result<Option<ThreadId>, Part>
         ensures { Asks (Cpu c) self.now.slots result (option_map number) (λ h. option_map id_of (due_of_first count (slice_get (list_in h (Naps c)) 0))) }
     {
@@ -129,6 +132,7 @@ impl Hand {
     }
 
     /// The marks, the set and the bindings of processor `c`.
+    #[inline(always)]
     pub(crate) fn view(&self, c: CpuId) -> Result<CpuView, Part>
         ensures { Asks (Cpu c) self.now.slots result Some view_in }
     {
@@ -142,6 +146,7 @@ impl Hand {
     }
 
     /// The state of lock `l`.
+    #[inline(always)]
     pub(crate) fn lock(&self, l: LockId) -> Result<LockState, Part>
         ensures { Asks (Chain (l.0 % 64)) self.now.slots result (λ x. x) (lock_in l.0) }
     {
@@ -162,6 +167,7 @@ impl Hand {
     }
 
     /// The open processors of set `p`, in rising order: at most 64.
+    #[inline(always)]
     pub(crate) fn open_cpus(&self, p: SetId) -> Result<&[CpuId], Part>
         ensures value { Asks (RealTime p) self.now.slots result (λ r. r.now) open_in }
         ensures fits { IfOk result (λ r. length r.now ≤ 64) }
@@ -174,6 +180,7 @@ impl Hand {
 
     /// The better of the best of processor `c` and the best real-time thread of partition `p`: the latter, where priorities
     /// are equal.
+    #[inline(always)]
     pub(crate) fn better(&self, c: CpuId, p: SetId) -> Result<Option<ThreadId>, Part>
         ensures { AsksTwo (Cpu c) (RealTime p) self.now.slots result (option_map number) (λ h g. option_map id_of (better (slice_get (list_in h (Queues c)) 0) (slice_get (list_in g (Urgent p)) 0))) }
     {
@@ -188,22 +195,10 @@ impl Hand {
             },
         }
     }
-
-    /// The body of a thread, where it stands there.
-    pub(crate) fn body(&self, t: ThreadId, at: ListId) -> Option<&ThreadBody>
-        ensures { option_copied result ≡ option_map (λ r. r.body) (taken_from t.0 at (held (home_at at) self.now.slots)) }
-    {
-        match self.find(t, at) {
-            None => None,
-            Some(thread) => {
-                let body: &ThreadBody = &thread.body;
-                Some(body)
-            }
-        }
-    }
 }
 
 /// The better of two that are the best of a processor and of the real-time queue: the latter, where priorities are equal.
+#[inline(always)]
 fn better(own: Option<&Record>, urgent: Option<&Record>) -> Option<ThreadId>
     ensures { option_map number result ≡ option_map id_of (better (option_copied own.entry) (option_copied urgent.entry)) }
 {

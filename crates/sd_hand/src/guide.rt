@@ -32,6 +32,7 @@ impl Guide {
     }
 
     /// The slot in which the home of this number lies, where they lie in this order.
+    #[inline(always)]
     pub(crate) fn slot(&self, k: HomeId) -> usize {
         let chains = self.cpus.saturating_add(self.sets);
         match k {
@@ -43,6 +44,7 @@ impl Guide {
     }
 
     /// The list to which the thread came last.
+    #[inline(always)]
     pub(crate) fn list(&self, t: ThreadId) -> Option<ListId>
         ensures { result ≡ slice_get self.now.lists.items t.0 }
     {
@@ -50,6 +52,7 @@ impl Guide {
     }
 
     /// The thread has come to this list.
+    #[inline(always)]
     pub(crate) fn note(&mut self, t: ThreadId, at: ListId) {
         if let Some(list) = self.lists.get_mut(t.0 as usize) {
             *list = at;

@@ -6,15 +6,19 @@ ghost use Rattle.sd_types.specs.declared.numbers.HomeId.TheVariants.{Chain, Cpu,
 ghost use Rattle.sd_shown.specs.Standing.{home_at};
 ghost use Rattle.sd_homes.specs.declared.home.Home.{Home as HomeOf};
 ghost use Rattle.sd_homes.specs.Families.{IsWhole, counting, home_id, locking, open_in, opened, putting, shut, taken_from, taking, viewing};
-ghost use Rattle.sd_hand.specs.Hands.{AreApart, AreTaken, Asks, HoldsMore, IsHeld, IsNoSlot, IsSlot, Seeks, StandsIn, StandsInSlot, edit, has_thread, held, is_at, slot_has};
+ghost use Rattle.sd_store.specs.Bodies.{changed};
+ghost use Rattle.sd_homes.specs.Bodies.{CanChangeThread};
+ghost use Rattle.sd_homes.specs.Homes.{with_body_of};
+ghost use Rattle.sd_hand.specs.Steps.{RunsChanged};
+ghost use Rattle.sd_hand.specs.Hands.{AreApart, AreTaken, Asks, HoldsMore, IsHeld, IsNoSlot, IsSlot, IsThere, Seeks, StandsIn, StandsInSlot, edit, has_thread, held, is_at, slot_has};
 
 use crate::guide::Guide;
 use sd_homes::{Home, IsFull, Traveller, home_at, same_home};
 use sd_machine::LockState;
 use sd_record::Record;
 use sd_shown::ListId;
-use sd_store::{CpuView, Part};
-use sd_types::{ChanId, CpuId, HomeId, LockId, SetId, ThreadId, home_of_chan, home_of_lock};
+use sd_store::{BodyChange, CpuView, Part};
+use sd_types::{ChanId, CpuId, HomeId, LockId, SetId, ThreadId, Work, home_of_chan, home_of_lock};
 use std::alloc::{AllocError, Global};
 use std::marker::Model;
 
@@ -35,6 +39,7 @@ impl Model for Hand {
     ghost invariant = { λ h. AreApart h.slots.items };
 }
 
+#[inline(always)]
 fn is_at(k: HomeId, slot: &Option<Home>) -> bool
     ensures { result ≡ is_at k slot.now }
 {
@@ -44,7 +49,22 @@ fn is_at(k: HomeId, slot: &Option<Home>) -> bool
     }
 }
 
+/// The slot in which a home with this number lies, from the first slot on.
+#[inline(never)]
+fn search_in(slots: &[Option<Home>], k: HomeId) -> Option<usize>
+    ensures inside { IfSome result (λ i. i < length slots.now) }
+    ensures slot { MatchOption result (IsNoSlot k slots.now) (IsSlot k slots.now) }
+{
+    for i in 0..slots.len() {
+        if is_at(k, &slots[i]) {
+            return Some(i);
+        }
+    }
+    None
+}
+
 /// The slot in which a home with this number lies; the guess is looked at first.
+#[inline(always)]
 fn slot_in(slots: &[Option<Home>], guess: usize, k: HomeId) -> Option<usize>
     requires apart { AreApart slots.now }
     ensures inside { IfSome result (λ i. i < length slots.now) }
@@ -53,12 +73,7 @@ fn slot_in(slots: &[Option<Home>], guess: usize, k: HomeId) -> Option<usize>
     if guess < slots.len() && is_at(k, &slots[guess]) {
         return Some(guess);
     }
-    for i in 0..slots.len() {
-        if is_at(k, &slots[i]) {
-            return Some(i);
-        }
-    }
-    None
+    search_in(slots, k)
 }
 
 /// The list of a home in which the thread stands.
@@ -134,6 +149,7 @@ impl Hand {
     }
 
     /// The slot in which the home with this number lies.
+    #[inline(always)]
     fn slot_of(&self, k: HomeId) -> Option<usize>
         ensures inside { IfSome result (λ i. i < length self.now.slots) }
         ensures slot { MatchOption result (IsNoSlot k self.now.slots) (IsSlot k self.now.slots) }
@@ -142,6 +158,7 @@ impl Hand {
     }
 
     /// The home with this number, which is lacking where it is not held.
+    #[inline(always)]
     pub fn home(&self, k: HomeId) -> Result<&Home, Part>
         ensures { Asks k self.now.slots result (λ h. h.now) (λ h. h) }
     {
@@ -154,6 +171,17 @@ impl Hand {
         }
     }
 
+    /// The list in which the thread stands, by a search of all homes.
+    #[inline(never)]
+    fn where_found(&self, t: ThreadId) -> Result<ListId, Part>
+        ensures { Seeks t self.now.slots result (StandsIn t.0 self.now.slots) }
+    {
+        match where_in(&self.slots, t) {
+            None => Err(Part::Thread(t)),
+            Some(at) => Ok(at),
+        }
+    }
+
     /// The list in which the thread stands, which is lacking where no held home has it.
     pub fn where_is(&self, t: ThreadId) -> Result<ListId, Part>
         ensures { Seeks t self.now.slots result (StandsIn t.0 self.now.slots) }
@@ -163,9 +191,34 @@ impl Hand {
                 return Ok(at);
             }
         }
-        match where_in(&self.slots, t) {
-            None => Err(Part::Thread(t)),
-            Some(at) => Ok(at),
+        self.where_found(t)
+    }
+
+    /// The thread, which is lacking where no held home has it.
+    #[inline(always)]
+    pub fn record(&self, t: ThreadId) -> Result<&Record, Part>
+        ensures { Seeks t self.now.slots result (λ r. IsThere t.0 self.now.slots r.now) }
+    {
+        if let Some(at) = self.guide.list(t) {
+            if let Some(record) = self.find(t, at) {
+                return Ok(record);
+            }
+        }
+        self.search(t)
+    }
+
+    /// The same, by a search of all homes.
+    #[inline(never)]
+    fn search(&self, t: ThreadId) -> Result<&Record, Part>
+        ensures { Seeks t self.now.slots result (λ r. IsThere t.0 self.now.slots r.now) }
+    {
+        let _slots = &self.slots;
+        match self.where_found(t) {
+            Err(q) => Err(q),
+            Ok(at) => match self.find(t, at) {
+                None => Err(Part::Thread(t)),
+                Some(record) => Ok(record),
+            },
         }
     }
 
@@ -183,6 +236,7 @@ impl Hand {
     }
 
     /// Takes the thread from the list of those who stand there.
+    #[inline(always)]
     pub fn take(&mut self, t: ThreadId, from: ListId) -> Option<Traveller>
         ensures taken { result ≡ taken_from t.0 from (held (home_at from) self.old.slots) }
         ensures rest { self.new.slots ≡ edit (home_at from) (taking t.0 from) self.old.slots }
@@ -197,6 +251,7 @@ impl Hand {
 
     /// Puts the thread into the list of those who stand there. Where the home of that list is not held, the thread is
     /// dropped.
+    #[inline(always)]
     pub fn put(&mut self, t: Traveller, at: ListId)
         ensures rest { self.new.slots ≡ edit (home_at at) (putting t at) self.old.slots }
         ensures whole { (h : HomeOf) → held (home_at at) self.old.slots ≡ Some h → IsWhole h }
@@ -210,7 +265,20 @@ impl Hand {
         }
     }
 
+    /// The body of the thread that runs on processor `c` changes where it stands, if it is this thread, where it can be changed so.
+    #[inline(always)]
+    pub(crate) fn change_running(&mut self, work: &Work, t: ThreadId, c: CpuId, change: BodyChange)
+        ensures { RunsChanged t.0 c (λ r q. CanChangeThread work.now t.0 change r.body → q ≡ with_body_of (changed work.now t.0 change r.body) r) self.old.slots self.new.slots }
+    {
+        if let Some(i) = self.slot_of(HomeId::Cpu(c)) {
+            if let Some(home) = &mut self.slots[i] {
+                home.change_running(work, t, c, change);
+            }
+        }
+    }
+
     /// Changes the marks, the set and the bindings of processor `c`.
+    #[inline(always)]
     pub fn set_view(&mut self, c: CpuId, view: CpuView)
         ensures { self.new.slots ≡ edit (Cpu c) (viewing view) self.old.slots }
     {

@@ -167,9 +167,12 @@ impl Look for Acting {
     }
 
     fn body(&self, t: ThreadId) -> Result<Option<&ThreadBody>, Part> {
-        match self.hand.where_is(t) {
+        match self.hand.record(t) {
             Err(q) => Err(q),
-            Ok(at) => Ok(self.hand.body(t, at)),
+            Ok(thread) => {
+                let body: &ThreadBody = &thread.body;
+                Ok(Some(body))
+            }
         }
     }
 }

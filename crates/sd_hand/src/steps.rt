@@ -60,8 +60,8 @@ impl Hand {
         }
     }
 
-    /// The body of thread `t`, which stands there, changes, where it can be changed so.
-    pub(crate) fn change_at(&mut self, work: &Work, t: ThreadId, at: ListId, change: BodyChange)
+    /// The body of thread `t`, which stands there, changes on a way out of its list and back into it.
+    fn change_moved(&mut self, work: &Work, t: ThreadId, at: ListId, change: BodyChange)
         ensures moved { (r : ThreadRecord) → Some r ≡ taken_from t.0 at (held (home_at at) self.old.slots) → CanChangeThread work.now t.0 change r.body
             → self.new.slots ≡ edit (home_at at) (putting (with_body_of (changed work.now t.0 change r.body) r) at) (edit (home_at at) (taking t.0 at) self.old.slots) }
         ensures held { (k : HomeIdOf) → is_some (held k self.new.slots) ≡ is_some (held k self.old.slots) }
@@ -71,6 +71,20 @@ impl Hand {
         if let Some(mut traveller) = self.take(t, at) {
             traveller.change(work, t, change);
             self.put(traveller, at);
+        }
+    }
+
+    /// The body of thread `t`, which stands there, changes, where it can be changed so.
+    pub(crate) fn change_at(&mut self, work: &Work, t: ThreadId, at: ListId, change: BodyChange)
+        ensures moved { (r : ThreadRecord) → Some r ≡ taken_from t.0 at (held (home_at at) self.old.slots) → CanChangeThread work.now t.0 change r.body
+            → self.new.slots ≡ edit (home_at at) (putting (with_body_of (changed work.now t.0 change r.body) r) at) (edit (home_at at) (taking t.0 at) self.old.slots) }
+        ensures held { (k : HomeIdOf) → is_some (held k self.new.slots) ≡ is_some (held k self.old.slots) }
+        ensures apart { AreApart self.old.slots → AreApart self.new.slots }
+        ensures has { (u : ℕ) → has_thread u self.new.slots ≡ has_thread u self.old.slots }
+    {
+        match at {
+            ListId::Runs(c) => self.change_running(work, t, c, change),
+            _ => self.change_moved(work, t, at, change),
         }
     }
 

@@ -1,3 +1,4 @@
 pub mod AgeLemmas
+pub mod FirstLemmas
 pub mod Lengths
 pub mod WhereLemmas

@@ -64,6 +64,7 @@ impl ChainHome {
     }
 
     /// The number of the chain, below 64.
+    #[inline(always)]
     pub fn number(&self) -> u8
         ensures value { result ≡ self.now.turns.chain }
         ensures below { result < 64 }
@@ -72,6 +73,7 @@ impl ChainHome {
     }
 
     /// Whether the lock is one of this chain.
+    #[inline(always)]
     pub fn is_of(&self, l: LockId) -> bool
         ensures { result ≡ is_of self.now.turns l.0 }
     {
@@ -89,6 +91,7 @@ impl ChainHome {
     }
 
     /// The state of a lock of this chain.
+    #[inline(always)]
     pub fn lock(&self, l: LockId) -> LockState
         requires { is_of self.now.turns l.0 ≡ true }
         ensures { result ≡ get_or self.now.states (l.0 / 64) Free }

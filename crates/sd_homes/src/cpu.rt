@@ -5,17 +5,21 @@ ghost use Rattle.std.specs.Option.{option_copied};
 ghost use Rattle.sd_boxq.specs.Order.{find_first, find_id, drop_id, insert_ranked, insert_keyed};
 ghost use Rattle.sd_shown.specs.Standing.{id_of, ages, earlier, is_unbound, key_in, least_to_age, rank_of};
 ghost use Rattle.sd_types.specs.declared.numbers.HomeId.TheVariants.{Cpu};
+ghost use Rattle.sd_record.specs.Records.{ThreadRecord};
+ghost use Rattle.sd_store.specs.Bodies.{changed};
+ghost use Rattle.sd_homes.specs.Bodies.{CanChangeThread};
 ghost use Rattle.sd_homes.specs.Kinds.{IsListed, cpu_has, cpu_list};
-ghost use Rattle.sd_homes.specs.Homes.{OfCpu, empty_cpu, one, head_of, with_ended, with_nappers, with_queue, with_running, with_view};
+ghost use Rattle.sd_homes.specs.Homes.{OfCpu, empty_cpu, one, head_of, with_body_of, with_ended, with_nappers, with_queue, with_running, with_view};
 
+use crate::bodies;
 use crate::traveller::{Traveller, equipped};
 use sd_boxq::{BoxQueue, Node};
 use sd_dispq::DispQueue;
 use sd_record::Record;
 use sd_shown::ListId;
-use sd_store::CpuView;
+use sd_store::{BodyChange, CpuView};
 use sd_turn::Rack;
-use sd_types::{ClassState, CpuId, ThreadId};
+use sd_types::{ClassState, CpuId, ThreadId, Work};
 use std::alloc::{AllocError, Global};
 use std::marker::Model;
 
@@ -63,6 +67,7 @@ impl CpuHome {
         })
     }
 
+    #[inline(always)]
     pub fn cpu(&self) -> CpuId
         ensures { result ≡ self.now.cpu }
     {
@@ -70,6 +75,7 @@ impl CpuHome {
     }
 
     /// The marks, the set and the bindings.
+    #[inline(always)]
     pub fn view(&self) -> CpuView
         ensures { result ≡ self.now.view }
     {
@@ -77,6 +83,7 @@ impl CpuHome {
     }
 
     /// With other marks, set and bindings.
+    #[inline(always)]
     pub fn set_view(&mut self, view: CpuView)
         ensures { self.new ≡ with_view view self.old }
     {
@@ -105,6 +112,7 @@ impl CpuHome {
     }
 
     /// Takes the running thread, if it has this number.
+    #[inline(always)]
     pub fn take_running(&mut self, t: ThreadId) -> Option<Traveller>
         ensures taken { result ≡ find_id id_of t.0 (one self.old.running) }
         ensures rest { self.new ≡ with_running (head_of (drop_id id_of t.0 (one self.old.running))) self.old }
@@ -123,6 +131,7 @@ impl CpuHome {
     }
 
     /// The thread runs. Where another ran, that one is dropped.
+    #[inline(always)]
     pub fn put_running(&mut self, t: Traveller)
         ensures { self.new ≡ with_running (Some t) self.old }
     {
@@ -132,6 +141,19 @@ impl CpuHome {
             Some(_other) => {}
         }
         self.running = Some(node);
+    }
+
+    /// The body of the running thread changes where it stands, if the thread has this number, where it can be changed so.
+    pub fn change_running(&mut self, work: &Work, t: ThreadId, change: BodyChange)
+        ensures { MatchOption (find_id id_of t.0 (one self.old.running)) (self.new ≡ self.old) (λ r. (q : ThreadRecord) × (self.new ≡ with_running (Some q) self.old) × (q.id ≡ r.id)
+            × (CanChangeThread work.now t.0 change r.body → q ≡ with_body_of (changed work.now t.0 change r.body) r)) }
+    {
+        if let Some(node) = &mut self.running {
+            if node.item().id.0 == t.0 {
+                let record = node.item_mut();
+                bodies::change(work, t, change, record);
+            }
+        }
     }
 
     /// Takes the first napper with this number.
@@ -175,6 +197,7 @@ impl CpuHome {
     }
 
     /// The running thread.
+    #[inline(always)]
     pub fn running(&self) -> Option<&Record>
         ensures { option_copied result ≡ slice_get (one self.now.running) 0 }
     {
@@ -185,6 +208,7 @@ impl CpuHome {
     }
 
     /// The running thread, if it has this number.
+    #[inline(always)]
     pub fn find_running(&self, t: ThreadId) -> Option<&Record>
         ensures { option_copied result ≡ find_id id_of t.0 (one self.now.running) }
     {
@@ -203,7 +227,16 @@ impl CpuHome {
     pub fn find_queued(&self, t: ThreadId) -> Option<&Record>
         ensures { option_copied result ≡ find_id id_of t.0 self.now.queue }
     {
-        self.queue.find(u32::from(t.0))
+        match self.queue.best() {
+            None => None,
+            Some(best) => {
+                if best.id.0 == t.0 {
+                    Some(best)
+                } else {
+                    self.queue.find(u32::from(t.0))
+                }
+            }
+        }
     }
 
     pub fn find_napper(&self, t: ThreadId) -> Option<&Record>
@@ -238,6 +271,7 @@ impl CpuHome {
     }
 
     /// The best thread on the queue.
+    #[inline(always)]
     pub fn best(&self) -> Option<&Record>
         ensures { option_copied result ≡ slice_get self.now.queue 0 }
     {
@@ -245,12 +279,14 @@ impl CpuHome {
     }
 
     /// The thread whose nap ends first.
+    #[inline(always)]
     pub fn first_napper(&self) -> Option<&Record>
         ensures { option_copied result ≡ slice_get self.now.nappers 0 }
     {
         self.nappers.first()
     }
 
+    #[inline(always)]
     pub fn first_ended(&self) -> Option<&Record>
         ensures { option_copied result ≡ slice_get self.now.ended 0 }
     {
@@ -258,10 +294,20 @@ impl CpuHome {
     }
 
     /// The best thread on the queue that is bound to no processor.
+    #[inline(always)]
     pub fn best_unbound(&self) -> Option<&Record>
         ensures { option_copied result ≡ find_first is_unbound self.now.queue }
     {
-        first_unbound(&self.queue)
+        match self.queue.best() {
+            None => None,
+            Some(best) => {
+                if best.body.bound.is_none() {
+                    Some(best)
+                } else {
+                    first_unbound(&self.queue)
+                }
+            }
+        }
     }
 
     /// The least number, from `u` on, of a time-sharing thread on the queue.
@@ -272,6 +318,7 @@ impl CpuHome {
     }
 }
 
+#[inline(never)]
 fn first_unbound(queue: &DispQueue<Record>) -> Option<&Record>
     ensures { option_copied result ≡ find_first is_unbound queue.now }
 {

@@ -4,7 +4,12 @@ ghost use Rattle.std.specs.Prelude.{◌≡◌, false, slice_get, MatchOption};
 ghost use Rattle.std.specs.Option.{option_copied};
 ghost use Rattle.sd_boxq.specs.Order.{find_id, drop_id};
 ghost use Rattle.sd_shown.specs.Standing.{home_at, id_of, insert_at};
-ghost use Rattle.sd_homes.specs.Families.{IsWhole, has, home_id, list_in, same_home, with_list};
+ghost use Rattle.sd_record.specs.Records.{ThreadRecord};
+ghost use Rattle.sd_store.specs.Bodies.{changed};
+ghost use Rattle.sd_shown.specs.declared.list_id.ListId.TheVariants.{Runs};
+ghost use Rattle.sd_homes.specs.Bodies.{CanChangeThread};
+ghost use Rattle.sd_homes.specs.Families.{IsWhole, has, home_id, list_in, putting, same_home, taking, with_list};
+ghost use Rattle.sd_homes.specs.Homes.{with_body_of};
 ghost use Rattle.sd_homes.specs.Kinds.{IsListed};
 
 use crate::chain::ChainHome;
@@ -15,7 +20,8 @@ use crate::traveller::Traveller;
 use sd_boxed::Boxed;
 use sd_record::Record;
 use sd_shown::ListId;
-use sd_types::{HomeId, ThreadId, home_of_chan, home_of_lock};
+use sd_store::BodyChange;
+use sd_types::{CpuId, HomeId, ThreadId, Work, home_of_chan, home_of_lock};
 
 /// A home, behind a box: it moves by its address.
 #[derive(Drop)]
@@ -27,6 +33,7 @@ pub enum Home {
 }
 
 /// Whether these are the numbers of one home.
+#[inline(always)]
 pub fn same_home(a: HomeId, b: HomeId) -> bool
     ensures { result ≡ same_home a b }
 {
@@ -40,6 +47,7 @@ pub fn same_home(a: HomeId, b: HomeId) -> bool
 }
 
 /// The home of those who stand there.
+#[inline(always)]
 pub fn home_at(at: ListId) -> HomeId
     ensures { result ≡ home_at at }
 {
@@ -67,6 +75,7 @@ impl Home {
         }
     }
 
+    #[inline(always)]
     pub fn id(&self) -> HomeId
         ensures { result ≡ home_id self.now }
     {
@@ -91,6 +100,7 @@ impl Home {
     }
 
     /// The first of those who stand there.
+    #[inline(always)]
     pub fn first(&self, at: ListId) -> Option<&Record>
         ensures { option_copied result ≡ slice_get (list_in self.now at) 0 }
     {
@@ -130,6 +140,7 @@ impl Home {
     }
 
     /// The thread, where it stands there.
+    #[inline(always)]
     pub fn find(&self, t: ThreadId, at: ListId) -> Option<&Record>
         ensures { option_copied result ≡ find_id id_of t.0 (list_in self.now at) }
     {
@@ -165,6 +176,18 @@ impl Home {
                 }
                 _ => None,
             },
+        }
+    }
+
+    /// The body of the thread that runs here changes where it stands, if the thread has this number, where it can be changed so.
+    #[inline(always)]
+    pub fn change_running(&mut self, work: &Work, t: ThreadId, c: CpuId, change: BodyChange)
+        ensures { MatchOption (find_id id_of t.0 (list_in self.old (Runs c))) (self.new ≡ self.old) (λ r. (q : ThreadRecord) × (self.new ≡ putting q (Runs c) (taking t.0 (Runs c) self.old)) × (q.id ≡ r.id)
+            × (CanChangeThread work.now t.0 change r.body → q ≡ with_body_of (changed work.now t.0 change r.body) r)) }
+    {
+        match self {
+            Home::Cpu(h) => h.get_mut().change_running(work, t, change),
+            _ => {}
         }
     }
 

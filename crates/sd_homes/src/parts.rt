@@ -18,6 +18,7 @@ use sd_types::{ChanId, CpuId, LockId, ThreadId};
 
 impl Home {
     /// The best thread on the queue of processor `c` that is bound to no processor.
+    #[inline(always)]
     pub fn best_unbound(&self, c: CpuId) -> Option<&Record>
         ensures { option_copied result ≡ find_first is_unbound (list_in self.now (Queues c)) }
     {
@@ -86,6 +87,7 @@ impl Home {
     }
 
     /// The marks, the set and the bindings of a processor, where the home is that of one.
+    #[inline(always)]
     pub fn view(&self) -> Option<CpuView>
         ensures { result ≡ view_in self.now }
     {
@@ -96,6 +98,7 @@ impl Home {
     }
 
     /// Changes the marks, the set and the bindings of a processor.
+    #[inline(always)]
     pub fn set_view(&mut self, view: CpuView)
         ensures { self.new ≡ viewing view self.old }
     {
@@ -106,6 +109,7 @@ impl Home {
     }
 
     /// The open processors of a set, in rising order: at most 64.
+    #[inline(always)]
     pub fn open_cpus(&self) -> &[CpuId]
         ensures value { result.now ≡ open_in self.now }
         ensures fits { length result.now ≤ 64 }

@@ -9,6 +9,7 @@ use sd_shown::ListId;
 use sd_types::CpuId;
 
 /// Where a thread in this place stands, which ran last on this processor.
+#[inline(always)]
 pub fn list_at(last: CpuId, place: Place) -> ListId
     ensures { result ≡ list_at last place }
 {
@@ -24,6 +25,7 @@ pub fn list_at(last: CpuId, place: Place) -> ListId
 }
 
 /// The key of the record of a thread in this place.
+#[inline(always)]
 pub fn record_key(place: Place) -> i64
     ensures { result ≡ record_key place }
 {
@@ -39,6 +41,7 @@ pub fn record_key(place: Place) -> i64
 }
 
 /// Whether the nap of this thread is over at this count.
+#[inline(always)]
 pub fn is_over(napper: &Record, count: u32) -> bool
     ensures { result ≡ int_le napper.now.key (pos count) }
 {

@@ -65,6 +65,7 @@ impl RealTimeHome {
         })
     }
 
+    #[inline(always)]
     pub fn set(&self) -> SetId
         ensures { result ≡ self.now.set }
     {
@@ -72,6 +73,7 @@ impl RealTimeHome {
     }
 
     /// The open processors of the set, in rising order: at most 64.
+    #[inline(always)]
     pub fn open_cpus(&self) -> &[CpuId]
         ensures value { result.now ≡ self.now.open_cpus }
         ensures fits { length result.now ≤ 64 }
@@ -130,6 +132,7 @@ impl RealTimeHome {
     }
 
     /// The best thread on the queue.
+    #[inline(always)]
     pub fn best(&self) -> Option<&Record>
         ensures { option_copied result ≡ slice_get self.now.queue 0 }
     {
@@ -139,6 +142,15 @@ impl RealTimeHome {
     pub fn find_queued(&self, t: ThreadId) -> Option<&Record>
         ensures { option_copied result ≡ find_id id_of t.0 self.now.queue }
     {
-        self.queue.find(u32::from(t.0))
+        match self.queue.best() {
+            None => None,
+            Some(best) => {
+                if best.id.0 == t.0 {
+                    Some(best)
+                } else {
+                    self.queue.find(u32::from(t.0))
+                }
+            }
+        }
     }
 }

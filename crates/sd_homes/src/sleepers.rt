@@ -61,6 +61,7 @@ impl SleepersHome {
     }
 
     /// The number of the chain, below 64.
+    #[inline(always)]
     pub fn number(&self) -> u8
         ensures value { result ≡ self.now.sleepers.chain }
         ensures below { result < 64 }
@@ -69,6 +70,7 @@ impl SleepersHome {
     }
 
     /// Whether the channel is one of this chain.
+    #[inline(always)]
     pub fn is_of(&self, k: ChanId) -> bool
         ensures { result ≡ is_chan_of self.now.sleepers k.0 }
     {
@@ -86,6 +88,7 @@ impl SleepersHome {
     }
 
     /// The count of a channel of this chain.
+    #[inline(always)]
     pub fn tokens(&self, k: ChanId) -> u32
         requires { is_chan_of self.now.sleepers k.0 ≡ true }
         ensures { result ≡ get_or self.now.counts (k.0 / 64) 0 }

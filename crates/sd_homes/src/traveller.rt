@@ -39,6 +39,7 @@ impl Model for Traveller {
 }
 
 /// The thread with a spare turnstile of a rack that has one.
+#[inline(always)]
 pub(crate) fn equipped(node: Node<Record>, rack: &mut Rack<Record>) -> Traveller
     requires { 0 < rack.old }
     ensures thread { result ≡ node }
@@ -60,6 +61,7 @@ impl Traveller {
         Ok(Traveller::of_parts(node, own))
     }
 
+    #[inline(always)]
     pub(crate) fn of_parts(node: Node<Record>, own: Turnstile<Record>) -> Traveller
         requires { IsIdle own }
         ensures { result ≡ node }
@@ -67,6 +69,7 @@ impl Traveller {
         Traveller { node, own }
     }
 
+    #[inline(always)]
     pub(crate) fn into_parts(self) -> (Node<Record>, Turnstile<Record>)
         ensures node { result.0 ≡ self }
         ensures own { IsIdle result.1 }
@@ -75,6 +78,7 @@ impl Traveller {
         (node, own)
     }
 
+    #[inline(always)]
     pub fn id(&self) -> ThreadId
         ensures { result ≡ self.now.id }
     {
@@ -89,6 +93,7 @@ impl Traveller {
     }
 
     /// The effective priority, 0 to 159.
+    #[inline(always)]
     pub fn effective(&self) -> u8
         ensures value { result ≡ eff self.now.body }
         ensures below { result < 160 }
@@ -97,6 +102,7 @@ impl Traveller {
     }
 
     /// It goes to a place, whose key it has from now on.
+    #[inline(always)]
     pub fn set_place(&mut self, place: Place)
         ensures { self.new ≡ with_key (record_key place) self.old }
     {
@@ -106,6 +112,7 @@ impl Traveller {
     }
 
     /// It runs on a processor.
+    #[inline(always)]
     pub fn arrive(&mut self, c: CpuId)
         ensures { self.new ≡ with_body_of (arrived c self.old.body) self.old }
     {
@@ -114,6 +121,7 @@ impl Traveller {
     }
 
     /// It has left a processor that has counted these ticks.
+    #[inline(always)]
     pub fn depart(&mut self, count: u32)
         ensures { self.new ≡ with_body_of (departed count self.old.body) self.old }
     {
@@ -123,6 +131,7 @@ impl Traveller {
     }
 
     /// Its body changes, where it can be changed so.
+    #[inline(always)]
     pub fn change(&mut self, work: &Work, t: ThreadId, change: BodyChange)
         ensures body { CanChangeThread work.now t.0 change self.old.body → self.new ≡ with_body_of (changed work.now t.0 change self.old.body) self.old }
         ensures id { self.new.id ≡ self.old.id }

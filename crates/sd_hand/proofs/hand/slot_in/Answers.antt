@@ -1,7 +1,7 @@
-use Rattle.std.proofs.Common.{◌≡◌, true, None, get_or, sym, ap, ◌∙◌, arith}
+use Rattle.std.proofs.Common.{◌≡◌, true, None, get_or, sym, ap, ◌∙◌}
 use Rattle.sd_hand.specs.Hands.{is_at}
 use Rattle.sd_hand.proofs.GuideLemmas.{slot_guessed}
-use Rattle.sd_hand.proofs.SlotLemmas.{slot_at, no_slot, same_default}
+use Rattle.sd_hand.proofs.SlotLemmas.{same_default}
 use Rattle.sd_hand.proofs.hand.slot_in.Goals as goal
 
 pub returns-then-is_at-clause-slot : goal.returns-then-is_at-clause-slot
@@ -10,15 +10,3 @@ returns-then-is_at-clause-slot c =
     let here : is_at c.args.k (get_or c.args.slots.now c.args.guess None) ≡ true =
     ap (is_at c.args.k) (same_default c.args.slots.now c.args.guess None c.index-slots-guess.result inside ∙ sym c.index-slots-guess.is) ∙ sym c.is_at.ensures ∙ c.if-is_at.true in
     slot_guessed c.args.k c.args.slots.now c.args.guess c.requires.apart here
-
-pub returns-then-is_at-2-clause-slot : goal.returns-then-is_at-2-clause-slot
-returns-then-is_at-2-clause-slot c =
-    let low = c.loop-i-test.true in
-    let here : is_at c.args.k (get_or c.args.slots.now c.loop-i.i None) ≡ true =
-    ap (is_at c.args.k) (same_default c.args.slots.now c.loop-i.i None c.index-slots-i.result low ∙ sym c.index-slots-i.is) ∙ sym c.is_at-in-loop-i.ensures ∙ c.if-is_at-2.true in
-    slot_at c.args.k c.args.slots.now c.loop-i.i here c.loop-i.invariant
-
-pub returns-clause-slot : goal.returns-clause-slot
-returns-clause-slot c =
-    let high = c.loop-i-test.false in
-    no_slot c.args.k c.args.slots.now (λ j h. c.loop-i.invariant j (omega arith))

@@ -1,9 +1,13 @@
-use Rattle.std.proofs.Common.{option_map, ap, ◌∙◌}
-use Rattle.std.specs.Prelude.{unwrap_or}
-use Rattle.sd_machine.specs.States.{no_body}
+use Rattle.std.proofs.Common.{◌≡◌, ap, ◌∙◌}
+use Rattle.sd_machine.specs.States.{thread_of}
+use Rattle.sd_record.specs.Records.{ThreadRecord}
+use Rattle.sd_shown.specs.Standing.{record_of}
 use Rattle.sd_hand.proofs.TellLemmas.{found_record}
 use Rattle.sd_hand.proofs.look.ActingLook.body.Goals as goal
 
 pub returns-in-Ok-clause-value : goal.returns-in-Ok-clause-value
 returns-in-Ok-clause-value c n s sh =
-    ap (λ o. unwrap_or o no_body) (c.body.ensures ∙ ap (option_map (λ r. r.body)) (found_record c.args.self.now n s sh c.args.t.0 c.in-Ok.at c.in-Ok.ensures))
+    let here = c.in-Ok.ensures in
+    let found = here.2 ∙ found_record c.args.self.now n s sh c.args.t.0 here.0 here.1 in
+    let same : c.in-Ok.thread.now ≡ record_of c.args.t.0 (thread_of s c.args.t.0) = cc in
+    c.deref-body.ensures ∙ ap (λ (r : ThreadRecord). r.body) (c.thread.view_is ∙ same)

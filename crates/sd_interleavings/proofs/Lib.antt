@@ -1,0 +1,3 @@
+pub mod OpeningKeys
+pub mod RunLemmas
+pub mod SpelledLemmas
