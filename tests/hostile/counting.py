@@ -53,13 +53,18 @@ class Count:
 class Judge:
     """Counts what one process tries, and keeps each failure as a file with the command that shows it again."""
 
-    def __init__(self, setting: Setting, part: str, seed: int):
+    def __init__(self, setting: Setting, part: str, seed: int, deadline: float | None = None):
         self.setting = setting
         self.part = part
         self.seed = seed
+        self.deadline = time.monotonic() + setting.seconds if deadline is None else deadline
         self.draw = random.Random(f"{setting.seed} {part} {seed}")
         self.runner = Runner(setting.scratch)
         self.count = Count()
+
+    def is_late(self) -> bool:
+        """Whether the time of the part is over."""
+        return self.deadline < time.monotonic()
 
     def passes(self, kind: str):
         self.count.tried += 1

@@ -3,8 +3,6 @@
 A run ends as it would have, or with status 5 and its line; then its output is a prefix of the text, in whole lines.
 """
 
-import time
-
 from counting import Count, Judge, Setting, share_out
 from host import Host, NoCompiler, host
 from running import Ended
@@ -32,7 +30,7 @@ def _in_order(setting: Setting):
 
 
 def _of_example(setting: Setting, piece: int, _size: int, deadline: float) -> Count:
-    judge = Judge(setting, "growths", piece)
+    judge = Judge(setting, "growths", piece, deadline)
     workload = _in_order(setting)[piece].read_bytes()
     certificate = workload + b"journal\n" + judge.runner.run(setting.command("run"), workload).out
     inputs = [(form, workload) for form in WORKLOAD_FORMS] + [(form, certificate) for form in JOURNAL_FORMS]
@@ -41,15 +39,15 @@ def _of_example(setting: Setting, piece: int, _size: int, deadline: float) -> Co
     made = Host(setting.scratch)
     made.calls = setting.scratch / f"calls{piece}"
     for form, text in inputs:
-        _refuse_each(judge, made, form, text, deadline)
+        _refuse_each(judge, made, form, text)
     return judge.count
 
 
-def _refuse_each(judge: Judge, made: Host, form: str, text: bytes, deadline: float):
+def _refuse_each(judge: Judge, made: Host, form: str, text: bytes):
     command = judge.setting.command(form)
     whole = judge.runner.run(command, text, made.counted())
     for number in range(1, made.numbers()[0] + 1):
-        if deadline < time.monotonic():
+        if judge.is_late():
             return
         for name in ("REFUSE", "REFUSE_FROM"):
             ended = judge.runner.run(command, text, made.changed(**{name: number}))

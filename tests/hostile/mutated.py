@@ -4,7 +4,6 @@ A fault may not be told above the first line that was changed, since what stands
 """
 
 import json
-import time
 import xml.etree.ElementTree
 
 import answers
@@ -37,9 +36,9 @@ def mutated(setting: Setting, size: int) -> Count:
 
 
 def _piece(setting: Setting, piece: int, size: int, deadline: float) -> Count:
-    judge = Judge(setting, "mutated", piece)
+    judge = Judge(setting, "mutated", piece, deadline)
     for turn in range(size):
-        if deadline < time.monotonic():
+        if judge.is_late():
             break
         if turn % OF_ONE == 0:
             workload = _workload(judge, turn)

@@ -6,12 +6,14 @@ The toolchain builds each program once for a folder of inputs, and runs it on ea
 import re
 import shutil
 import subprocess
+import tempfile
 
 import answers
 from counting import Count, Judge, Setting
 from mutations import damaged
 from workloads import random_workload
 
+# The line of a case, on the error output of the toolchain.
 _CASE = re.compile(r"case=(\d+) run=(\S+) status=(\d+)")
 
 # The forms of each crate, of which one is drawn for an input.
@@ -51,10 +53,27 @@ def _run_all(judge: Judge, crate: str, inputs: list[tuple[str, bytes]]):
         (folder / f"{number:06}").write_bytes(text)
         (folder / f"{number:06}.args").write_text("\n".join(arguments) + "\n")
     command = ["rt", "try", "--cases", str(folder)]
-    ran = subprocess.run(command, cwd=judge.setting.repository / "crates" / crate, capture_output=True)
-    seen = {int(case[1]): (case[2], int(case[3])) for case in _CASE.finditer(ran.stderr.decode(errors="replace"))}
+    lines = _lines_of(command, judge.setting.repository / "crates" / crate, judge.setting.seconds)
+    seen = {int(case[1]): (case[2], int(case[3])) for case in _CASE.finditer(lines)}
+    if not seen:
+        judge.count.notes.append(f"no input was tried with {crate} in the time of the part")
     for number, (form, text) in enumerate(inputs):
-        run, status = seen.get(number, ("nothing", -1))
+        if number not in seen:
+            continue
+        run, status = seen[number]
         fits = run == "ended" and status in answers.STATUSES[answers.kind_of(form)]
         fault = None if fits else f"run={run} status={status} of the build with checks"
         judge.judge(fault, f"{answers.kind_of(form)} {status}", [*command, "in", crate, form], text)
+
+
+def _lines_of(command: list[str], folder, seconds: float) -> str:
+    """What the toolchain says of the cases, as far as it comes in this time."""
+    with tempfile.TemporaryFile() as err:
+        process = subprocess.Popen(command, cwd=folder, stdout=subprocess.DEVNULL, stderr=err)
+        try:
+            process.wait(seconds)
+        except subprocess.TimeoutExpired:
+            process.terminate()
+            process.wait()
+        err.seek(0)
+        return err.read().decode(errors="replace")

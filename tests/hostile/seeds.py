@@ -4,7 +4,6 @@ The accounts are counted here once more, from the lines of the entries alone, as
 """
 
 import re
-import time
 from collections import Counter
 
 import answers
@@ -40,9 +39,9 @@ def seeds(setting: Setting, size: int) -> Count:
 
 
 def _piece(setting: Setting, piece: int, size: int, deadline: float) -> Count:
-    judge = Judge(setting, "seeds", piece)
+    judge = Judge(setting, "seeds", piece, deadline)
     for number in range(size):
-        if deadline < time.monotonic():
+        if judge.is_late():
             break
         most_cpus = 64 if number % 20 == 0 else 6
         workload = random_workload(judge.draw, most_cpus)

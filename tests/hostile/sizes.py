@@ -29,6 +29,9 @@ def sizes(setting: Setting, size: int) -> Count:
 
 
 def _measure(judge: Judge, name: str, workload: bytes):
+    if judge.is_late():
+        print(f"{name}: not tried, since the time is over")
+        return
     for form in WORKLOAD_FORMS:
         ended = _run(judge, name, form, workload)
         if form == "run":

@@ -42,6 +42,8 @@ def streams(setting: Setting, size: int) -> Count:
     judge = Judge(setting, "streams", 0)
     for number in range(size):
         for case in _cases(judge, number):
+            if judge.is_late():
+                return judge.count
             for way in WAYS:
                 _try(judge, case, way.__name__.removeprefix("_"), way)
             for words in SHELL_WAYS:
@@ -282,6 +284,8 @@ def _try_host(judge: Judge):
         judge.count.notes.append("short and failing reads and writes were not tried: there is no C compiler")
         return
     for case in _cases(judge, 0) + _cases(judge, 2):
+        if judge.is_late():
+            return
         for most in (1, 3):
             ended = judge.runner.run(case.command, case.text, made.changed(READ_MOST=most, WRITE_MOST=most))
             fault = _same(case, ended.status, ended.out, ended.err)

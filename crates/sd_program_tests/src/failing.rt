@@ -1,7 +1,5 @@
 //! Each read and each write failing in turn, in a run, an audit and a story of the smallest run.
 
-ghost use Rattle.std.specs.Prelude.{◌≤◌};
-
 use crate::runs::{CERTIFICATE, Called, SMALLEST, SMALLEST_JOURNAL, call};
 use sd_text::{MemorySink, MemorySource};
 use sd_viewer::view;
