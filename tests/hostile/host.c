@@ -4,7 +4,7 @@
    READ_FAIL=N    the Nth read fails, and READ_MOST=N says how many bytes a read gives at most;
    WRITE_FAIL=N   the Nth write fails, and WRITE_MOST=N says how many bytes a write takes at most;
    ERROR=N        they fail with this error; without it, with one of input and output;
-   CALLS=FILE     at the end the numbers of growths, reads and writes are written there. */
+   CALLS=FILE     at the end the numbers of growths, reads and writes are written there, and the greatest memory in KiB. */
 #define _GNU_SOURCE
 #include <errno.h>
 #include <stdio.h>
@@ -75,15 +75,29 @@ ssize_t write(int file, const void *bytes, size_t count)
 	return syscall(SYS_write, file, bytes, at_most(count, "WRITE_MOST"));
 }
 
+/* The greatest memory of this program alone: what the system says when it has ended is no less than that of what started it. */
+static long greatest_memory(void)
+{
+	char line[200];
+	long found = 0;
+	FILE *file = fopen("/proc/self/status", "r");
+
+	while (file != NULL && fgets(line, sizeof line, file) != NULL)
+		if (sscanf(line, "VmHWM: %ld", &found) == 1)
+			break;
+	if (file != NULL)
+		fclose(file);
+	return found;
+}
+
 __attribute__((destructor)) static void tell(void)
 {
 	const char *name = getenv("CALLS");
-	char text[80];
+	unsigned long counts[] = {growths, reads, writes};
 	FILE *file;
-	int count = snprintf(text, sizeof text, "%lu %lu %lu\n", growths, reads, writes);
 
 	if (name == NULL || (file = fopen(name, "w")) == NULL)
 		return;
-	fwrite(text, 1, count, file);
+	fprintf(file, "%lu %lu %lu %ld\n", counts[0], counts[1], counts[2], greatest_memory());
 	fclose(file);
 }

@@ -29,7 +29,7 @@ class Host:
         return {"LD_PRELOAD": str(self.library), "CALLS": str(self.calls)}
 
     def numbers(self) -> list[int]:
-        """How many growths, reads and writes the run had that was counted last."""
+        """How many growths, reads and writes the run had that was counted last, and its greatest memory in KiB."""
         return [int(word) for word in self.calls.read_text().split()]
 
 

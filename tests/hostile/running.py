@@ -18,7 +18,6 @@ class Ended:
     out: bytes
     err: bytes
     seconds: float
-    peak_kib: int
     hung: bool
 
 
@@ -49,7 +48,6 @@ class Runner:
             out=self._contents(1),
             err=self._contents(2),
             seconds=taken,
-            peak_kib=usage.ru_maxrss,
             hung=self.was_killed or processor < taken,
         )
 

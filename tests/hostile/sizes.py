@@ -7,6 +7,7 @@ import random
 
 import answers
 from counting import Count, Judge, Setting
+from host import NoCompiler, host
 from running import Ended
 
 WORKLOAD_FORMS = ["tables", "sum", "run", "run --seed 7"]
@@ -45,10 +46,16 @@ def _measure(judge: Judge, name: str, workload: bytes):
 
 def _run(judge: Judge, name: str, form: str, text: bytes) -> Ended:
     command = judge.setting.command(form)
-    ended = judge.runner.run(command, text, processor=LONGEST, longest=LONGEST)
+    try:
+        made = host(judge.setting)
+        ended = judge.runner.run(command, text, made.counted(), processor=LONGEST, longest=LONGEST)
+        memory = f"{made.numbers()[3] / 1024:.1f}"
+    except NoCompiler:
+        ended = judge.runner.run(command, text, processor=LONGEST, longest=LONGEST)
+        memory = "-"
     fault = answers.fault_of(form, ended) or _unwanted(form, ended, text)
     judge.judge(fault, f"{answers.kind_of(form)} {ended.status}", command, text, ended)
-    _show(name, form, str(ended.status), f"{len(ended.out):,}", f"{ended.seconds:.2f}", f"{ended.peak_kib / 1024:.0f}")
+    _show(name, form, str(ended.status), f"{len(ended.out):,}", f"{ended.seconds:.2f}", memory)
     return ended
 
 

@@ -291,7 +291,7 @@ def _try_host(judge: Judge):
             fault = _same(case, ended.status, ended.out, ended.err)
             judge.judge(fault, "short reads and writes", case.command, case.text, ended)
         judge.runner.run(case.command, case.text, made.counted())
-        _, reads, writes = made.numbers()
+        _, reads, writes, _ = made.numbers()
         for number in range(1, reads + 1):
             _try_failing(judge, made, case, "READ_FAIL", number, READ_FAULT)
         outs = case.whole.out.count(b"\n")
