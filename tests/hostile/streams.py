@@ -17,6 +17,9 @@ from workloads import random_workload
 READ_FAULT, WRITE_FAULT = 3, 4
 LINES = {READ_FAULT: b"read fault\n", WRITE_FAULT: b"write fault\n"}
 
+# Signals that end a program that does nothing about them.
+ENDING = (signal.SIGTERM, signal.SIGINT, signal.SIGHUP, signal.SIGALRM, signal.SIGUSR1)
+
 # How long a process may last here: some are fed or read slowly.
 LONGEST = 60
 
@@ -132,7 +135,13 @@ def _in_shell(case: Case, redirections: str) -> str | None:
 
 def _started(case: Case, **streams) -> subprocess.Popen:
     given = {"stdin": subprocess.PIPE, "stdout": subprocess.PIPE, "stderr": subprocess.PIPE, **streams}
-    return subprocess.Popen(case.command, bufsize=0, **given)
+    return subprocess.Popen(case.command, bufsize=0, preexec_fn=_let_signals_end, **given)
+
+
+def _let_signals_end():
+    """What started this suite, such as nohup, may ignore signals, and a program would ignore them with it."""
+    for number in ENDING:
+        signal.signal(number, signal.SIG_DFL)
 
 
 def _communicated(case: Case, process: subprocess.Popen, text: bytes | None) -> str | None:
@@ -158,29 +167,41 @@ def _slow_writer(case: Case) -> str | None:
     return _communicated(case, process, None)
 
 
-def _slow_reader(case: Case) -> str | None:
-    """The output goes into a pipe of one page, which is read slowly."""
-    process = _started(case)
-    fcntl.fcntl(process.stdout, fcntl.F_SETPIPE_SZ, 4096)
+def _small_pipe() -> tuple[int, int]:
+    """A pipe that holds one page."""
+    ours, theirs = os.pipe()
+    fcntl.fcntl(theirs, fcntl.F_SETPIPE_SZ, 4096)
+    return ours, theirs
+
+
+def _started_over_small_pipe(case: Case) -> tuple[subprocess.Popen, int]:
+    """The program with its whole input, and the end of a small pipe that has its output."""
+    ours, theirs = _small_pipe()
+    process = _started(case, stdout=theirs)
+    os.close(theirs)
     _feed(process, [case.text])
     process.stdin.close()
+    return process, ours
+
+
+def _slow_reader(case: Case) -> str | None:
+    """The output goes into a small pipe, which is read slowly."""
+    process, ours = _started_over_small_pipe(case)
     out = b""
-    while piece := process.stdout.read(1000):
+    while piece := os.read(ours, 1000):
         out += piece
         time.sleep(0.0005)
+    os.close(ours)
     err = process.stderr.read()
     return _same(case, process.wait(LONGEST), out, err)
 
 
 def _closing_pipe(case: Case) -> str | None:
-    """The output goes into a pipe that is closed after a line. What fits into the pipe before may have been written."""
-    process = _started(case)
-    fcntl.fcntl(process.stdout, fcntl.F_SETPIPE_SZ, 4096)
-    _feed(process, [case.text])
-    process.stdin.close()
-    while (byte := process.stdout.read(1)) not in (b"\n", b""):
+    """The output goes into a small pipe that is closed after a line. What fits into the pipe before may have been written."""
+    process, ours = _started_over_small_pipe(case)
+    while os.read(ours, 1) not in (b"\n", b""):
         pass
-    process.stdout.close()
+    os.close(ours)
     err = process.stderr.read()
     status = process.wait(LONGEST)
     if (status, err) in ((WRITE_FAULT, LINES[WRITE_FAULT]), (-signal.SIGPIPE, b"")):
@@ -214,9 +235,8 @@ def _impatient_input(case: Case) -> str | None:
 
 
 def _impatient_output(case: Case) -> str | None:
-    """The output is a pipe of one page that does not wait, and that nobody reads."""
-    ours, theirs = os.pipe()
-    fcntl.fcntl(theirs, fcntl.F_SETPIPE_SZ, 4096)
+    """The output is a small pipe that does not wait, and that nobody reads."""
+    ours, theirs = _small_pipe()
     os.set_blocking(theirs, False)
     process = _started(case, stdout=theirs)
     os.close(theirs)
@@ -254,7 +274,7 @@ def _ended_by_signals(case: Case) -> str | None:
     """Signals that end it while it waits for its input. Before it has begun it may have ended by itself."""
     if not case.reads():
         return None
-    for number in (signal.SIGTERM, signal.SIGINT, signal.SIGHUP, signal.SIGALRM, signal.SIGUSR1):
+    for number in ENDING:
         process = _started(case)
         process.send_signal(number)
         out, _ = process.communicate(timeout=LONGEST)
