@@ -12,13 +12,13 @@ use std::io;
 use std::io::ErrorKind;
 use std::test::Fail;
 
-const SMALLEST: &str = "limit 5\nthread a ts 29 0 0\nscript a\nrun 3\nend\n";
+pub(crate) const SMALLEST: &str = "limit 5\nthread a ts 29 0 0\nscript a\nrun 3\nend\n";
 
-const SMALLEST_JOURNAL: &str =
+pub(crate) const SMALLEST_JOURNAL: &str =
     "0 c0 dispatch a 29\n1 c0 tick a\n2 c0 tick a\n3 c0 tick a\n4 c0 done a\n5 c0 idle\n6 c0 idle\naccounts\nthread a ticks 3 dispatches 1 preempts 0 wakes 0 ended\ncpu 0 ticks 5 idle 2\n";
 
 /// The smallest workload and its journal, as `audit` reads them.
-const CERTIFICATE: &str =
+pub(crate) const CERTIFICATE: &str =
     "limit 5\nthread a ts 29 0 0\nscript a\nrun 3\nend\njournal\n0 c0 dispatch a 29\n1 c0 tick a\n2 c0 tick a\n3 c0 tick a\n4 c0 done a\n5 c0 idle\n6 c0 idle\naccounts\nthread a ticks 3 dispatches 1 preempts 0 wakes 0 ended\ncpu 0 ticks 5 idle 2\n";
 
 const EXPIRY: &str =
@@ -68,15 +68,15 @@ const NOBODY_ASLEEP_JOURNAL: &str =
 
 /// What a call returned, and what its streams received.
 #[derive(Drop)]
-struct Called {
-    status: u8,
-    out: MemorySink,
-    err: MemorySink,
+pub(crate) struct Called {
+    pub(crate) status: u8,
+    pub(crate) out: MemorySink,
+    pub(crate) err: MemorySink,
 }
 
 /// A call over streams in memory: the reads named in `reads` and the writes named in `writes` fail, counted from 1. The error
 /// output has room for `err_room` bytes.
-fn call(
+pub(crate) fn call(
     alloc: Global,
     arguments: &str,
     input: &[u8],
