@@ -1,8 +1,8 @@
 -- From what a processor found to the entry that it makes.
-use Rattle.std.proofs.Common.{◌≡◌, ◌≢◌, ℕ, zero, suc, ◌+◌, ◌<◌, ◌≤◌, ◌⊎◌, Bool, true, false, ◌==◌, ◌&&◌, List, [], ◌∷◌, length, map, get_or, slice_get, Option, Some, None, Result, Ok, Err, refl, sym, ap, ◌∙◌, subst, inl, inr, ⊎_elim, arith, option_map, if◌then◌else◌}
+use Rattle.std.proofs.Common.{◌≡◌, ◌≢◌, ℕ, zero, suc, ◌<◌, ◌≤◌, Bool, true, false, ◌==◌, ◌&&◌, List, [], ◌∷◌, length, get_or, slice_get, Option, Some, None, Result, Ok, Err, refl, sym, ap, ◌∙◌, subst, ⊎_elim, arith, option_map, if◌then◌else◌}
 use Rattle.std.specs.Prelude.{nat_le, nat_lt, not, ◌||◌}
 use Rattle.std.specs.List.{list_all}
-use Rattle.std.proofs.lemmas.Bool.{cases_eq, eq-eqb, false≢true}
+use Rattle.std.proofs.lemmas.Bool.{cases_eq, eq-eqb}
 use Rattle.std.proofs.lemmas.Bool.Decides.{nat_tests}
 use Rattle.std.proofs.lemmas.Option.{get_or_from_slice_get, slice_get_within}
 use Rattle.sd_types.specs.Events.{ticks}
@@ -17,8 +17,7 @@ use Rattle.sd_machine.specs.declared.states.CpuState.{CpuState}
 use Rattle.sd_machine.specs.declared.states.State.{State}
 use Rattle.sd_machine.specs.States.{cpu_of, no_cpu}
 use Rattle.sd_full.specs.declared.plans.Plan.{Plan}
-use Rattle.sd_full.specs.Choosing.{hint_shown}
-use Rattle.sd_full.specs.Events.{allowed, hints_fit, may_tick, next, plan_event, plan_reads, reads, same_which, wish}
+use Rattle.sd_full.specs.Events.{allowed, hints_fit, may_tick, next, plan_reads, reads, same_which, wish}
 use Rattle.sd_full.specs.Plans.{plan}
 use Rattle.sd_full.specs.Runs.{serial_hints, shown}
 use Rattle.sd_sound.proofs.Whole.{fit_reached}
@@ -28,16 +27,16 @@ use Rattle.sd_hand.specs.declared.acting.Actor.{Actor}
 use Rattle.sd_world.specs.Worlds.{AllHinted, CanCommit, HasReserved, Holds, IsGood, Makes, MayStand, MayUse, Meaning, NoneBehind, ReadsCounts, Reserves, Rises, Stays, actor_of, after_run, most_entries, now}
 use Rattle.sd_types.specs.declared.events.Stop.{Stop}
 use Rattle.sd_types.specs.declared.events.Stop.TheVariants.{Full, Memory}
-use Rattle.sd_store.specs.declared.parts.Part.{Part}
 use Rattle.sd_store.specs.Parts.{IsAmong}
 use Rattle.sd_step.specs.Touched.{after_parts}
 use Rattle.sd_hand.specs.declared.acting.Acting.{Acting}
 use Rattle.sd_hand.specs.Acting.{has_part}
+use Rattle.sd_world.proofs.WorldLemmas.{begins_same}
 use Rattle.sd_cpu.specs.declared.attempts.Turned.{Turned}
 use Rattle.sd_cpu.specs.declared.attempts.Turned.TheVariants.{Acted, Ticked, Behind, Finished}
 use Rattle.sd_cpu.specs.Attempts.{Acts, AreRead, Enters, Hinders, IsHindered, MayNotTick, MayTick, Refuses, Turns}
 use Rattle.sd_cpu.specs.Seeking.{Comes, FindsEvent, GivesUp, HoldsToMake, IsCourse, IsOnItsWay, IsReady, Looks}
-use Rattle.sd_cpu.proofs.MeaningLemmas.{begins_same, begins_then, enters_from, hindered, idles, idles_from, looks_same, looks_still, may_same, one_from, rises_then}
+use Rattle.sd_cpu.proofs.MeaningLemmas.{begins_then, enters_from, hindered, idles, idles_from, looks_same, looks_still, may_same, one_from, rises_then}
 use Rattle.sd_cpu.proofs.RoomLemmas.{reached_by}
 
 which_self : (a : Which) → same_which a a ≡ true
@@ -121,11 +120,11 @@ may_tick_now m h good may tick =
     each i x at = ⊎_elim
         (λ (e : i ≡ (actor_of m).0). (let z = ap (λ (y : CpuState). y.count) is in let o = ap (λ k. (cpu_of (after_run m h) k).count) e ∙ own_count m h may in omega (arith, z, o)))
         (λ (n : i ≢ (actor_of m).0).
-            let inside = slice_get_within (after_run m h).cpus i x at in
-            let q = tick.none i (let e = many in omega (arith, inside, e)) n in
-            let r = good.reached i q.0 q.2 h may in
-            let o = q.1 in
-            let z = ap (λ (y : CpuState). y.count) is in omega (arith, r, o, z))
+        let inside = slice_get_within (after_run m h).cpus i x at in
+        let q = tick.none i (let e = many in omega (arith, inside, e)) n in
+        let r = good.reached i q.0 q.2 h may in
+        let o = q.1 in
+        let z = ap (λ (y : CpuState). y.count) is in omega (arith, r, o, z))
         (cases_eq i (actor_of m).0)
       where
         is : cpu_of (after_run m h) i ≡ x
@@ -214,11 +213,13 @@ unfolding reads
 use_read m m' p None None l course read = tt
 use_read m m' p None (Some hs) l course read = absurd read
 use_read m m' p (Some r) None l course read = absurd read
-use_read m m' p (Some r) (Some hs) l course read =
-    (r.cpus.items, (λ h may.
-        let x = course h (l.narrows h may) in
-        sym (same_state m m' h l.stays (λ w s c. reads w s c.0)) ∙ ap (plan_reads m.work (after_run m h) (actor_of m).0) (sym x.0) ∙ sym x.1 ∙ ap (λ k. Some (k, r.cpus.items)) (sym read.0)),
-        subst (λ k. AllHinted m' k r.cpus.items hs.numbers.items) (sym read.0) read.1)
+use_read m m' p (Some r) (Some hs) l course read = (
+  r.cpus.items,
+  (λ h may.
+      let x = course h (l.narrows h may) in
+      sym (same_state m m' h l.stays (λ w s c. reads w s c.0)) ∙ ap (plan_reads m.work (after_run m h) (actor_of m).0) (sym x.0) ∙ sym x.1 ∙ ap (λ k. Some (k, r.cpus.items)) (sym read.0)),
+  subst (λ k. AllHinted m' k r.cpus.items hs.numbers.items) (sym read.0) read.1,
+)
 
 pub makes : (m : Meaning) (e : Event) (hints : Option Hints) → IsGood m → Comes m e hints → (ticks e ≡ true → MayTick m) → Makes m e hints
 makes m e hints good comes may = λ h stand. next_is m.work (after_run m h) (actor_of m) hints e good.cpu (comes.fit h stand) (comes.wish h stand) (λ t. may_tick_now m h good stand (may t))
@@ -302,12 +303,13 @@ rests_from m m' m'' s x = record {
 turns_from : (m m' m'' : Meaning) (t : Turned) → Looks m m' → Turns m' m'' t → Turns m m'' t
 turns_from m m' m'' (Acted n) l x = one_from m m' m'' n false l.stays x
 turns_from m m' m'' (Ticked n) l x = one_from m m' m'' n true l.stays x
-turns_from m m' m'' (Behind c n) l x =
-    (rests_from m m' m'' l.stays x.0,
-     subst (λ w. m.acting.actor.count < w.limit) l.stays.work (subst (λ (a : Actor). a.count < m'.work.limit) l.stays.actor x.1),
-     subst (λ (a : Actor). n < a.count) l.stays.actor x.2,
-     subst (λ k. Rises k m''.reads) l.quiet.reads x.3,
-     x.4)
+turns_from m m' m'' (Behind c n) l x = (
+  rests_from m m' m'' l.stays x.0,
+  subst (λ w. m.acting.actor.count < w.limit) l.stays.work (subst (λ (a : Actor). a.count < m'.work.limit) l.stays.actor x.1),
+  subst (λ (a : Actor). n < a.count) l.stays.actor x.2,
+  subst (λ k. Rises k m''.reads) l.quiet.reads x.3,
+  x.4,
+)
 turns_from m m' m'' Finished l x =
     (rests_from m m' m'' l.stays x.0, subst (λ w. w.limit ≤ m.acting.actor.count) l.stays.work (subst (λ (a : Actor). m'.work.limit ≤ a.count) l.stays.actor x.1))
 

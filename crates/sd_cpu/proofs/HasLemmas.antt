@@ -1,5 +1,5 @@
 -- Parts one after another.
-use Rattle.std.proofs.Common.{◌≡◌, ℕ, ◌⊎◌, Bool, true, false, List, [], ◌∷◌, ◌++◌, Option, Some, None, Result, Ok, Err, refl, sym, ap, ◌∙◌, subst, inl, inr}
+use Rattle.std.proofs.Common.{◌≡◌, true, false, List, [], ◌∷◌, ◌++◌, Option, Some, None, Result, Ok, Err, refl, sym, ap, ◌∙◌, inl, inr}
 use Rattle.std.proofs.lemmas.Bool.{eq-eqb, false≢true}
 use Rattle.sd_types.specs.declared.numbers.CpuId.{CpuId}
 use Rattle.sd_types.specs.declared.numbers.ThreadId.{ThreadId}
@@ -10,7 +10,7 @@ use Rattle.sd_machine.specs.declared.states.Place.TheVariants as place
 use Rattle.sd_machine.specs.declared.states.State.{State}
 use Rattle.sd_store.specs.declared.parts.Part.{Part}
 use Rattle.sd_store.specs.Keyless.{spot_of}
-use Rattle.sd_store.specs.Parts.{IsAmong, actor_part, bound_parts, cpu_part, ready_parts, thread_part}
+use Rattle.sd_store.specs.Parts.{IsAmong, actor_part, bound_parts, ready_parts, thread_part}
 use Rattle.sd_mdisp.specs.Touched.{put_parts_if, reordered_parts}
 use Rattle.sd_setop.specs.Touched.{runs_parts}
 use Rattle.sd_hand.specs.declared.acting.Acting.{Acting}

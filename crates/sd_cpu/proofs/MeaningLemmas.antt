@@ -1,28 +1,25 @@
 -- What stays of a world from one call to the next.
-use Rattle.std.proofs.Common.{◌≡◌, ℕ, ◌+◌, ◌-◌, ◌^◌, ◌<◌, ◌≤◌, ◌⊎◌, Bool, true, false, List, [], ◌∷◌, ◌++◌, length, Option, Some, None, Result, Ok, Err, refl, sym, ap, ◌∙◌, subst, inl, inr, ⊎_elim, arith, append_assoc}
-use Rattle.std.proofs.lemmas.List.{append-nil}
+use Rattle.std.proofs.Common.{◌≡◌, ℕ, ◌<◌, ◌≤◌, Bool, true, false, List, [], ◌∷◌, ◌++◌, length, Option, Some, None, Result, Ok, Err, refl, sym, ap, ◌∙◌, subst, arith, append_assoc}
 use Rattle.std.proofs.lemmas.Bool.{false≢true}
 use Rattle.sd_types.specs.Events.{ticks}
-use Rattle.sd_types.specs.declared.numbers.CpuId.{CpuId}
 use Rattle.sd_types.specs.declared.numbers.HomeId.{HomeId}
 use Rattle.sd_types.specs.declared.events.Entry.{Entry}
 use Rattle.sd_types.specs.declared.events.Event.{Event}
 use Rattle.sd_types.specs.declared.events.Hints.{Hints}
-use Rattle.sd_types.specs.declared.works.Work.{Work}
 use Rattle.sd_machine.specs.declared.states.State.{State}
 use Rattle.sd_machine.specs.States.{cpu_of}
 use Rattle.sd_full.specs.Events.{next}
 use Rattle.sd_full.specs.Runs.{IsRun, serial_hints}
 use Rattle.sd_homes.specs.declared.home.Home.{Home}
 use Rattle.sd_homes.specs.Families.{home_id, same_home}
-use Rattle.sd_hand.specs.declared.acting.Acting.{Acting}
 use Rattle.sd_hand.specs.declared.acting.Actor.{Actor}
 use Rattle.sd_hand.specs.Acting.{IsShown}
 use Rattle.sd_hand.specs.Shown.{IsHome}
 use Rattle.sd_shown.specs.Standing.{look_of}
-use Rattle.sd_hand.specs.Hands.{AreApart, HoldsMore, held}
+use Rattle.sd_hand.specs.Hands.{AreApart, held}
 use Rattle.sd_hand.proofs.SlotLemmas.{same_home_self, same_home_true}
-use Rattle.sd_world.specs.Worlds.{Begins, Commits, Gains, Gives, IsGood, IsQuiet, IsStopped, Made, Makes, MayStand, Meaning, ReadsCounts, Rises, Stays, actor_of, after_run, entry_of, most_entries, now, slots_of}
+use Rattle.sd_world.specs.Worlds.{Begins, Commits, Gains, IsGood, IsQuiet, MayStand, Meaning, ReadsCounts, Rises, Stays, actor_of, after_run, entry_of, most_entries, now, slots_of}
+use Rattle.sd_world.proofs.WorldLemmas.{quiet_same, stays_same}
 use Rattle.sd_cpu.specs.declared.attempts.Attempted.{Attempted}
 use Rattle.sd_cpu.specs.declared.attempts.Turned.{Turned}
 use Rattle.sd_cpu.specs.declared.attempts.Turned.TheVariants.{Acted, Ticked, Behind, Finished}
@@ -30,9 +27,6 @@ use Rattle.sd_cpu.specs.Attempts.{Acts, Attempts, Enters, Idles, IsHindered, IsS
 use Rattle.sd_types.specs.declared.events.Stop.{Stop}
 use Rattle.sd_types.specs.declared.events.Stop.TheVariants.{Full, Memory}
 use Rattle.sd_cpu.specs.Seeking.{GivesUp, Looks}
-
-pub begins_same : (es : List Entry) → Begins es es
-begins_same es = ([], sym (append-nil es))
 
 pub begins_then : (a b c : List Entry) → Begins a b → Begins b c → Begins a c
 begins_then a b c (x, e) (y, f) = (x ++ y, f ∙ ap (λ z. z ++ y) e ∙ append_assoc a x y)
@@ -42,9 +36,6 @@ rises_then a b c e r = subst (λ x. Rises x c) (sym e) r
 
 pub same_cpu : (a b : Actor) → a ≡ b → a.cpu ≡ b.cpu
 same_cpu a b e = ap (λ (x : Actor). x.cpu) e
-
-pub stays_same : (m : Meaning) → Stays m m
-stays_same m = record { table = refl; work = refl; alone = refl; all = refl; actor = refl; log = refl; begins = begins_same m.seen; still = λ e. refl; hinted = λ c which n h. h; counted = λ c n h. h }
 
 pub stays_then : (m m' m'' : Meaning) → Stays m m' → Stays m' m'' → Stays m m''
 stays_then m m' m'' a b = record {
@@ -59,9 +50,6 @@ stays_then m m' m'' a b = record {
   hinted = λ c which n h. b.hinted c which n (a.hinted c which n h);
   counted = λ c n h. b.counted c n (a.counted c n h);
 }
-
-pub quiet_same : (m : Meaning) → IsQuiet m m
-quiet_same m = record { stops = refl; reads = refl; last = refl }
 
 pub quiet_then : (m m' m'' : Meaning) → IsQuiet m m' → IsQuiet m' m'' → IsQuiet m m''
 quiet_then m m' m'' a b = record { stops = b.stops ∙ a.stops; reads = b.reads ∙ a.reads; last = b.last ∙ a.last }

@@ -1,15 +1,13 @@
 -- That there is room for one home more while something is lacking: all for which homes are held lies in four.
-use Rattle.std.proofs.Common.{◌≡◌, ℕ, ◌+◌, ◌<◌, ◌≤◌, ◌⊎◌, Bool, true, false, List, [], ◌∷◌, length, Option, Some, None, is_some, refl, sym, ap, ◌∙◌, subst, inl, inr, arith, if◌then◌else◌}
+use Rattle.std.proofs.Common.{◌≡◌, ℕ, ◌+◌, ◌<◌, Bool, true, false, List, [], ◌∷◌, length, Option, Some, None, is_some, refl, sym, ap, ◌∙◌, subst, inl, inr, arith, if◌then◌else◌}
 use Rattle.std.proofs.lemmas.Bool.{false≢true, eq-eqb}
-use Rattle.sd_types.specs.declared.numbers.CpuId.{CpuId}
 use Rattle.sd_types.specs.declared.numbers.HomeId.{HomeId}
 use Rattle.sd_types.specs.declared.events.Entry.{Entry}
 use Rattle.sd_types.specs.declared.events.Event.{Event}
 use Rattle.sd_types.specs.declared.events.Hints.{Hints}
-use Rattle.sd_types.specs.declared.works.Work.{Work}
 use Rattle.sd_machine.specs.declared.states.State.{State}
 use Rattle.sd_machine.specs.States.{cpu_of, thread_of}
-use Rattle.sd_full.specs.Events.{next, wish}
+use Rattle.sd_full.specs.Events.{next}
 use Rattle.sd_full.specs.Runs.{IsReached}
 use Rattle.sd_sound.proofs.Ready.{reached_ready, serves_of}
 use Rattle.sd_store.specs.declared.parts.Part.{Part}
@@ -19,18 +17,17 @@ use Rattle.sd_step.specs.Needed.{needed, reads_parts}
 use Rattle.sd_step.specs.Touched.{after_parts}
 use Rattle.sd_shown.specs.Standing.{home_at, home_of, list_of}
 use Rattle.sd_homes.specs.declared.home.Home.{Home}
-use Rattle.sd_homes.specs.Families.{has, home_id, same_home}
-use Rattle.sd_hand.specs.Acting.{IsShown, has_part}
+use Rattle.sd_homes.specs.Families.{home_id, same_home}
+use Rattle.sd_hand.specs.Acting.{has_part}
 use Rattle.sd_hand.specs.Hands.{AreApart, IsHeld, IsIn, has_thread, held}
-use Rattle.sd_hand.specs.Shown.{ShowsState}
 use Rattle.sd_hand.proofs.GuideLemmas.{stands_guessed}
 use Rattle.sd_hand.proofs.MoveLemmas.{stands_at, taken}
 use Rattle.sd_hand.proofs.SlotLemmas.{same_home_self, same_home_true, stands_has}
 use Rattle.sd_footprint.specs.Homes.{IsOneOf, LiesIn, TakesFour, home_in}
-use Rattle.sd_footprint.specs.There.{IsThere, PartsAreThere}
+use Rattle.sd_footprint.specs.There.{IsThere}
 use Rattle.sd_footprint.proofs.FewHomes.{takes_four}
 use Rattle.sd_footprint.proofs.TouchedThere.{parts_there}
-use Rattle.sd_world.specs.Worlds.{Gains, IsGood, Makes, MayStand, Meaning, actor_of, after_run, how_many_held, now, slots_of}
+use Rattle.sd_world.specs.Worlds.{Gains, IsGood, MayStand, Meaning, actor_of, after_run, how_many_held, now, slots_of}
 use Rattle.sd_cpu.specs.Seeking.{CanFetch, HoldsFor, HoldsToMake, HomeHas, IsSought, IsWanted}
 use Rattle.sd_cpu.proofs.MeaningLemmas.{may_gain}
 
@@ -65,8 +62,8 @@ fewer (None ∷ slots) hs k apart all one none = fewer slots hs k apart all one 
 fewer (Some x ∷ slots) hs k apart all one none =
     let is = all (home_id x) own in
     let rest = fewer slots (dropped (home_id x) hs is) k apart.1
-        (λ j held_j. dropped_other (home_id x) j hs is (not_own j held_j) (all j (later j held_j)))
-        (dropped_other (home_id x) k hs is (not_same (same_home k (home_id x)) refl) one) (not_here (same_home k (home_id x)) refl none) in
+    (λ j held_j. dropped_other (home_id x) j hs is (not_own j held_j) (all j (later j held_j)))
+    (dropped_other (home_id x) k hs is (not_same (same_home k (home_id x)) refl) one) (not_here (same_home k (home_id x)) refl none) in
     let e = dropped_length (home_id x) hs is in
     omega (arith, rest, e)
   where
@@ -151,8 +148,8 @@ module _ (m : Meaning) (good : IsGood m) (h : List Entry) (may : MayStand m h) w
       let four = takes_four m.work s c hints (serves_of m.work s (cpu_of s c.0).duty ready.scripted (ready.serves c.0)) in
       let (k, lies) = some_home p (λ e. not_actor p e lacks) there in
       let less = fewer (slots_of m) four.needs.homes k may.shown.apart
-          (λ j is. let want = holds few h may j is in lies_by want.part j four.needs.homes want.lies (in_four hints want.part four want.kind))
-          (lies_by p k four.needs.homes lies (in_four hints p four sought)) (not_held p k there lies lacks) in
+      (λ j is. let want = holds few h may j is in lies_by want.part j four.needs.homes want.lies (in_four hints want.part four want.kind))
+      (lies_by p k four.needs.homes lies (in_four hints p four sought)) (not_held p k there lies lacks) in
       let most = four.needs.few in
       omega (arith, less, most)
 

@@ -1,5 +1,5 @@
 -- What a processor knows and holds while it seeks its event.
-use Rattle.std.proofs.Common.{◌≡◌, ℕ, ◌+◌, ◌-◌, ◌<◌, ◌⊎◌, Bool, true, false, ◌&&◌, List, [], ◌∷◌, length, Option, Some, None, Result, Ok, Err, IfOk, refl, sym, ap, ◌∙◌, subst, inl, inr, arith, option_map, if◌then◌else◌}
+use Rattle.std.proofs.Common.{◌≡◌, ℕ, ◌+◌, ◌<◌, Bool, true, false, ◌&&◌, List, [], ◌∷◌, length, Option, Some, None, Result, Ok, Err, IfOk, sym, ap, ◌∙◌, subst, inl, inr, arith, option_map, if◌then◌else◌}
 use Rattle.std.specs.Prelude.{nat_lt, not, ◌||◌}
 use Rattle.sd_types.specs.Events.{ticks}
 use Rattle.sd_types.specs.declared.numbers.ChanId.{ChanId}
@@ -19,20 +19,19 @@ use Rattle.sd_store.specs.declared.parts.Part.{Part}
 use Rattle.sd_store.specs.declared.parts.Part.TheVariants as part
 use Rattle.sd_store.specs.Parts.{IsAmong}
 use Rattle.sd_store.specs.Words.{Lacks, LacksIf}
-use Rattle.sd_store.proofs.Among.{among_left, among_right}
+use Rattle.sd_store.proofs.Among.{among_right}
 use Rattle.sd_mdisp.specs.Reading.{parts}
 use Rattle.sd_step.specs.Needed.{choice_parts, needed, plan_parts, read_parts, reads_parts}
 use Rattle.sd_step.specs.Touched.{after_parts}
 use Rattle.sd_hand.specs.declared.acting.Acting.{Acting}
-use Rattle.sd_hand.specs.declared.acting.Actor.{Actor}
 use Rattle.sd_hand.specs.Acting.{IsShown, has_part, the_part}
 use Rattle.sd_homes.specs.declared.home.Home.{Home}
 use Rattle.sd_hand.specs.Hands.{IsHeld, held}
 use Rattle.sd_footprint.specs.Homes.{home_in}
-use Rattle.sd_world.specs.Worlds.{Holds, IsGood, Makes, MayStand, Meaning, Stays, actor_of, after_run, how_many_held, now, slots_of}
+use Rattle.sd_world.specs.Worlds.{Holds, IsGood, MayStand, Meaning, Stays, actor_of, after_run, how_many_held, now, slots_of}
 use Rattle.sd_cpu.specs.Has.{HasAll, ShowsOne}
 use Rattle.sd_cpu.specs.declared.seeking.Course.{Course}
-use Rattle.sd_cpu.specs.Seeking.{CanFetch, Fetches, GivesUp, HoldsFor, HoldsToMake, HoldsToRead, IsCourse, IsOnItsWay, IsReady, IsSought, IsWanted, IsWish, Looks, TellsCourse}
+use Rattle.sd_cpu.specs.Seeking.{CanFetch, Fetches, GivesUp, HoldsFor, HoldsToMake, HoldsToRead, IsCourse, IsOnItsWay, IsReady, IsSought, IsWish, Looks, TellsCourse}
 use Rattle.sd_cpu.proofs.AttemptLemmas.{makes_later}
 use Rattle.sd_cpu.proofs.MeaningLemmas.{gives_up, looks_same, looks_then, may_gain, may_same, same_cpu}
 use Rattle.sd_cpu.proofs.RoomLemmas.{can_fetch, holds_more, reached_by, there_to_make, there_to_read, there_to_wish}
@@ -109,8 +108,11 @@ course_value w x p (Err q) is read = tt
 pub course_lack : (w : Work) (x : Acting) (p : Plan) (r : Result Course Part) → ((n : ℕ) (s : State) → IsShown x n s → ((ch : ChanId) → CanCount s ch) → p ≡ plan w s x.actor.cpu.0)
     → Lacks the_part (IsShown x) (has_part x) r (λ s. read_parts w s x.actor.cpu p) → LacksIf the_part (IsShown x) (has_part x) r (λ s. (ch : ChanId) → CanCount s ch) (λ s. reads_parts w s x.actor.cpu)
 course_lack w x p (Ok k) is lack = tt
-course_lack w x p (Err q) is lack = ((λ n s shown can.
-    among_right q (plan_parts w s x.actor.cpu) (read_parts w s x.actor.cpu (plan w s x.actor.cpu.0)) (subst (λ z. IsAmong q (read_parts w s x.actor.cpu z)) (is n s shown can) (lack.0 n s shown))), lack.1)
+course_lack w x p (Err q) is lack = (
+  (λ n s shown can.
+      among_right q (plan_parts w s x.actor.cpu) (read_parts w s x.actor.cpu (plan w s x.actor.cpu.0)) (subst (λ z. IsAmong q (read_parts w s x.actor.cpu z)) (is n s shown can) (lack.0 n s shown))),
+  lack.1,
+)
 
 module _ (m : Meaning) (good : IsGood m) (w : Work) (same : w ≡ m.work) (x : Acting) (here : x ≡ m.acting) where
   shown_by : (h : List Entry) → MayStand m h → IsShown x (length h) (after_run m h)

@@ -1,6 +1,6 @@
 -- For what a processor holds homes while it seeks its event.
 -- Source: this project's own.
-use Rattle.std.specs.Prelude.{◌≡◌, ◌⊎◌, ℕ, Bool, true, false, List, Option, Some, None, Result, IfOk, option_map}
+use Rattle.std.specs.Prelude.{◌≡◌, ◌⊎◌, ℕ, Bool, true, false, List, Option, Some, Result, IfOk, option_map}
 use Rattle.sd_types.specs.declared.numbers.ChanId.{ChanId}
 use Rattle.sd_types.specs.declared.numbers.CpuId.{CpuId}
 use Rattle.sd_types.specs.declared.numbers.HomeId.{HomeId}
@@ -115,7 +115,7 @@ HoldsAll m m' e false = GivesUp m m'
 abbrev pub TellsCourse : Work → Acting → Result Course Part → Type 0
 TellsCourse w x r =
     IfOk r (λ k. (n : ℕ) (s : State) → IsShown x n s → ((ch : ChanId) → CanCount s ch)
-        → (k.plan ≡ plan w s x.actor.cpu.0) × (option_map parts k.reading ≡ plan_reads w s x.actor.cpu.0 k.plan))
+    → (k.plan ≡ plan w s x.actor.cpu.0) × (option_map parts k.reading ≡ plan_reads w s x.actor.cpu.0 k.plan))
 
 -- the processor comes to this event with these numbers, which may be used, and are those of the state where nobody else makes entries
 pub record Comes (m : Meaning) (e : Event) (hints : Option Hints) : Type 0 where

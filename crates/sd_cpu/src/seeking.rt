@@ -55,12 +55,7 @@ fn plan_course(work: &Work, x: &Acting) -> Result<Course, Part>
 }
 
 /// The event of its plan, with the numbers that were read for it.
-fn planned_event(
-    work: &Work,
-    x: &Acting,
-    hints: &Option<Hints>,
-    plan: Plan,
-) -> Result<Event, Part>
+fn planned_event(work: &Work, x: &Acting, hints: &Option<Hints>, plan: Plan) -> Result<Event, Part>
     ensures value { TellsIf (IsShown x.now) result (λ s. hints_fit (plan_reads work.now s x.now.actor.cpu.0 plan) hints.now ≡ true) (λ s. plan_event work.now s x.now.actor.cpu.0 hints.now plan) }
     ensures lack { LacksIf the_part (IsShown x.now) (has_part x.now) result (λ s. hints_fit (plan_reads work.now s x.now.actor.cpu.0 plan) hints.now ≡ true) (λ s. choice_parts work.now s x.now.actor.cpu hints.now plan) }
 {

@@ -267,14 +267,7 @@ fn exited(x: &Acting, c: CpuId, t: ThreadId, l: LockId) -> Result<(), Part>
 }
 
 /// A lock goes to a waiter.
-fn handed(
-    work: &Work,
-    x: &Acting,
-    c: CpuId,
-    l: LockId,
-    u: ThreadId,
-    at: Put,
-) -> Result<(), Part>
+fn handed(work: &Work, x: &Acting, c: CpuId, l: LockId, u: ThreadId, at: Put) -> Result<(), Part>
     requires { c ≡ x.now.actor.cpu }
     ensures { Has x.now result (handed_parts work.now c l u at) }
 {

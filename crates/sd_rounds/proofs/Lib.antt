@@ -3,3 +3,4 @@ pub mod FinishLemmas
 pub mod OrderLemmas
 pub mod RoundLemmas
 pub mod SerialLemmas
+pub mod TurnLemmas

@@ -6,6 +6,7 @@
 mod laws;
 mod orders;
 mod rounds;
+mod turns;
 
 pub use laws::one_serial;
 pub use orders::Turns;

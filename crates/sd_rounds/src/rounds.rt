@@ -9,6 +9,7 @@ ghost use Rattle.sd_rounds.specs.Rounds.{IsLongSerial};
 ghost use Rattle.sd_world.specs.Plain.{Stands, told};
 
 use crate::orders::{Turns, first_generator, next_order};
+use crate::turns::take_turn;
 use sd_machine::State;
 use sd_types::{CpuId, Entry, Stop, Work};
 use sd_world::{MOST_ENTRIES, PlainWorld};
@@ -25,8 +26,10 @@ pub struct Finished {
 /// are 2^40 or more. Memory runs out only where the log holds fewer.
 fn run_round(work: &Work, world: &mut PlainWorld, order: &[CpuId]) -> Result<(), Stop>
     requires stands { Stands work.now world.old }
+    requires work { world.old.work.now ≡ work.now }
     requires room { length world.old.entries.items ≤ MOST_ENTRIES }
     ensures stands { Stands work.now world.new }
+    ensures work { world.new.work.now ≡ work.now }
     ensures entries { OnOk result (world.new.entries.items
         ≡ world.old.entries.items ++ round work.now (told work.now world.old) (length world.old.entries.items) order.now) }
     ensures room { OnOk result (length world.new.entries.items ≤ MOST_ENTRIES) }
@@ -36,7 +39,7 @@ fn run_round(work: &Work, world: &mut PlainWorld, order: &[CpuId]) -> Result<(),
     ensures memory { IsErrOf result Stop.Memory → length world.new.entries.items < MOST_ENTRIES }
 {
     for c in order {
-        if let Err(stop) = world.turn(work, *c) {
+        if let Err(stop) = take_turn(work, world, *c) {
             return Err(stop);
         }
     }
@@ -46,8 +49,8 @@ fn run_round(work: &Work, world: &mut PlainWorld, order: &[CpuId]) -> Result<(),
 /// The run, as far as it was made, with the state as its homes have it. `Memory` where that runs out, and no other error.
 fn finish(alloc: Global, work: &Work, world: PlainWorld) -> Result<Finished, Stop>
     requires stands { Stands work.now world }
-    ensures entries { IfOk result (λ r. r.entries.items ≡ world.entries.items) }
-    ensures state { IfOk result (λ r. r.state ≡ told work.now world) }
+    ensures entries { IfOk result (λ r. r.entries.items ≡ world.entry.entries.items) }
+    ensures state { IfOk result (λ r. r.state ≡ told work.now world.entry) }
     ensures memory { IfErr result (λ stop. stop ≡ Stop.Memory) }
 {
     let Ok(state) = world.state(alloc, work) else {

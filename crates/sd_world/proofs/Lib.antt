@@ -5,3 +5,4 @@ pub mod GivenLemmas
 pub mod NumberLemmas
 pub mod OtherHomes
 pub mod PlainLemmas
+pub mod WorldLemmas

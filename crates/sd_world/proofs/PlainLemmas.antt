@@ -1,10 +1,8 @@
 -- A run on homes, all of which are there: nothing that a processor needs is lacking, and what it makes is a step.
-use Rattle.std.proofs.Common.{◌≡◌, ◌≢◌, ℕ, ◌+◌, ◌<◌, ◌≤◌, ◌⊎◌, Bool, true, false, ◌==◌, List, [], ◌∷◌, ◌++◌, length, is_some, set, slice_get, take, Option, Some, None, IfSome, option_map, Result, Ok, Err, ◌&&◌, refl, sym, ap, ◌∙◌, subst, inl, inr, arith, if◌then◌else◌, length-append}
-use Rattle.std.specs.Prelude.{IfOk, nat_le, nat_lt}
-use Rattle.std.specs.List.{list_all}
+use Rattle.std.proofs.Common.{◌≡◌, ◌≢◌, ℕ, ◌+◌, ◌<◌, ◌≤◌, ◌⊎◌, true, false, ◌==◌, List, [], ◌∷◌, ◌++◌, length, is_some, set, slice_get, take, Option, Some, None, IfSome, option_map, Result, Ok, Err, refl, sym, ap, ◌∙◌, subst, inl, inr, arith, length-append}
+use Rattle.std.specs.Prelude.{IfOk}
 use Rattle.std.proofs.lemmas.Bool.{cases_eq, cases_lt, eq-eqb, eqb-true, false≢true}
-use Rattle.std.proofs.lemmas.Bool.Decides.{nat_tests}
-use Rattle.std.proofs.lemmas.List.{append-nil, get_or-set_same, get_or-set_other, length-set, take-append-le}
+use Rattle.std.proofs.lemmas.List.{get_or-set_same, get_or-set_other, length-set, take-append-le}
 use Rattle.std.proofs.Math.Seq.{take-append_seam, take-length}
 use Rattle.std.proofs.lemmas.Option.{slice_get-get_or, slice_get_within, get_or_from_slice_get}
 use Rattle.sd_types.specs.declared.numbers.CpuId.{CpuId}
@@ -13,36 +11,21 @@ use Rattle.sd_types.specs.declared.numbers.HomeId.TheVariants as home
 use Rattle.sd_types.specs.declared.events.Entry.{Entry}
 use Rattle.sd_types.specs.declared.events.Event.{Event}
 use Rattle.sd_types.specs.declared.events.Hints.{Hints}
-use Rattle.sd_types.specs.declared.events.Which.{Which}
-use Rattle.sd_types.specs.declared.events.Which.TheVariants.{Running as OfRunning}
 use Rattle.sd_types.specs.declared.numbers.ThreadId.{ThreadId}
 use Rattle.sd_types.specs.declared.works.Work.{Work}
-use Rattle.sd_machine.specs.declared.states.CpuState.{CpuState}
 use Rattle.sd_machine.specs.declared.states.State.{State}
 use Rattle.sd_machine.specs.Opening.{opening}
 use Rattle.sd_machine.specs.States.{cpu_of, thread_of}
-use Rattle.sd_full.specs.declared.plans.Plan.{Plan}
-use Rattle.sd_full.specs.declared.plans.Plan.TheVariants.{Make, Place, Search}
-use Rattle.sd_full.specs.Choosing.{cpus_for, is_warm, neighbours, read_of, reads_for, is_settled}
-use Rattle.sd_full.specs.Events.{after, allowed, hints_fit, may_tick, next, placed_thread, plan_event, plan_reads, reads}
+use Rattle.sd_full.specs.Events.{after, next}
 use Rattle.sd_full.specs.Threads.{priority_of}
-use Rattle.sd_full.specs.Plans.{plan}
-use Rattle.sd_full.specs.Runs.{IsReached, IsRun, final, made, serial_hints, shown as shown_of, state_at, turn}
+use Rattle.sd_full.specs.Runs.{IsReached, IsRun, final, state_at}
 use Rattle.sd_full.proofs.RunLemmas.{IsRun-append, IsRunFrom-one, final-append, final-push}
-use Rattle.sd_mdisp.specs.declared.reading.Reading.{Reading}
-use Rattle.sd_mdisp.specs.Reading.{parts}
-use Rattle.sd_steps.proofs.Needed.{no_maker}
 use Rattle.sd_full.proofs.ShapeLemmas.{after_shape}
-use Rattle.sd_range.proofs.Places.{cpus_there, inside_reached}
-use Rattle.sd_range.proofs.Range.{neighbours_there}
 use Rattle.sd_sound.proofs.FineLemmas.{sound_law}
 use Rattle.sd_sound.proofs.Whole.{fit_reached}
-use Rattle.sd_steps.proofs.EnteringLemmas.{serial_event, shown_fit}
 use Rattle.sd_store.specs.declared.parts.Part.{Part}
 use Rattle.sd_store.specs.declared.parts.Part.TheVariants as part
 use Rattle.sd_store.specs.Parts.{IsAmong, cpu_part, found_parts, number, thread_part}
-use Rattle.sd_store.proofs.Among.{among_left, among_right}
-use Rattle.sd_step.specs.Needed.{choice_parts, next_parts, plan_parts, read_parts, turn_parts}
 use Rattle.sd_step.specs.Touched.{after_parts}
 use Rattle.sd_shown.specs.Numbers.{IsHomeOf}
 use Rattle.sd_shown.specs.Standing.{home_at, home_of, list_of}
@@ -62,8 +45,7 @@ use Rattle.sd_footprint.proofs.TouchedThere.{parts_there}
 use Rattle.sd_footprint.proofs.RanLast.{reached_changes}
 use Rattle.sd_snapshot.specs.Told.{AreActorsOf, IsActorOf}
 use Rattle.sd_world.specs.declared.plain.PlainWorld.{PlainWorld}
-use Rattle.sd_world.specs.Plain.{AreCpus, HasStood, Stands, told}
-use Rattle.sd_world.proofs.ActorLemmas.{all_counts}
+use Rattle.sd_world.specs.Plain.{HasStood, Stands, told}
 use Rattle.sd_world.proofs.ComeLemmas.{one_list}
 
 some_true : {A : Type 0} (o : Option A) (a : A) → o ≡ Some a → is_some o ≡ true
@@ -84,14 +66,14 @@ module _ (w : Work) (x : PlainWorld) (st : Stands w x) where
     chans = st.all.chans;
   }
 
-  cpu_inside : x.acting.actor.cpu.0 < w.cpus
+  pub cpu_inside : x.acting.actor.cpu.0 < w.cpus
   cpu_inside = subst (λ m. x.acting.actor.cpu.0 < m) (fit_reached w (length x.entries.items) (told w x) reached).fits.cpus st.inside
 
   -- each part that is there it has
-  has_home : (k : HomeId) → IsHomeOf (told w x) k → is_some (held k x.acting.hand.slots) ≡ true
+  pub has_home : (k : HomeId) → IsHomeOf (told w x) k → is_some (held k x.acting.hand.slots) ≡ true
   has_home k there = let (h, e) = st.all.all k there in some_true (held k x.acting.hand.slots) h e
 
-  has_stander : (t : ℕ) → t < length (told w x).threads → IsHomeOf (told w x) (home_of (thread_of (told w x) t)) → has_thread t x.acting.hand.slots ≡ true
+  pub has_stander : (t : ℕ) → t < length (told w x).threads → IsHomeOf (told w x) (home_of (thread_of (told w x) t)) → has_thread t x.acting.hand.slots ≡ true
   has_stander t inside there =
       let at = list_of (thread_of (told w x) t) in
       let hs = x.acting.hand.slots in
@@ -109,34 +91,16 @@ module _ (w : Work) (x : PlainWorld) (st : Stands w x) where
   below_all p None e = subst (λ o. IfSome o (λ n. n < 160)) (sym e) tt
   below_all p (Some t) e = subst (λ o. IfSome o (λ n. n < 160)) (sym e) (sound_law w (length x.entries.items) (told w x) reached t.0).1
 
-  -- whether the acting processor may tick
-  pub ticks_now : (b : Bool) → x.acting.actor.count < w.limit → b ≡ list_all (λ a. nat_le x.acting.actor.count a.count) x.actors.items
-      → b ≡ may_tick w (told w x) x.acting.actor.cpu.0
-  unfolding may_tick
-  ticks_now b low all =
-      let less : nat_lt x.acting.actor.count w.limit ≡ true = grind (arith, nat_tests) in
-      let same : nat_lt (cpu_of (told w x) x.acting.actor.cpu.0).count w.limit ≡ true = ap (λ k. nat_lt k w.limit) (sym st.acts.count) ∙ less in
-      all ∙ all_counts (told w x) x.actors.items x.acting.actor.count st.actors
-      ∙ ap (λ k. list_all (λ (y : CpuState). nat_le k y.count) (told w x).cpus) st.acts.count
-      ∙ sym (ap (λ v. v && list_all (λ (y : CpuState). nat_le (cpu_of (told w x) x.acting.actor.cpu.0).count y.count) (told w x).cpus) same)
-
-  pub ticks_no_more : w.limit ≤ x.acting.actor.count → nat_lt x.acting.actor.count w.limit ≡ may_tick w (told w x) x.acting.actor.cpu.0
-  unfolding may_tick
-  ticks_no_more high =
-      let more : nat_lt x.acting.actor.count w.limit ≡ false = grind (arith, nat_tests) in
-      let same : nat_lt (cpu_of (told w x) x.acting.actor.cpu.0).count w.limit ≡ false = ap (λ k. nat_lt k w.limit) (sym st.acts.count) ∙ more in
-      more ∙ sym (ap (λ v. v && list_all (λ (y : CpuState). nat_le (cpu_of (told w x) x.acting.actor.cpu.0).count y.count) (told w x).cpus) same)
-
   -- the state that is told
   pub told_ok : {E : Type 0} (r : Result State E) (actors : List Actor) → AreActorsOf (told w x) actors
       → IfOk r (λ z. (n : ℕ) (s : State) → IsReached w n s → AreAllHomes n s x.acting.hand.slots → AreActorsOf s actors → z ≡ s) → IfOk r (λ z. z ≡ told w x)
   told_ok (Ok z) actors are tells = tells (length x.entries.items) (told w x) reached st.all are
   told_ok (Err e) actors are tells = tt
 
-  stood : (t : ℕ) → StandsThere (told w x) (thread_of (told w x) t)
+  pub stood : (t : ℕ) → StandsThere (told w x) (thread_of (told w x) t)
   stood t = stands_there w (told w x) (known_reached w (length x.entries.items) (told w x) reached) t
 
-  has_there : (p : Part) → IsThere (told w x) x.acting.actor.cpu p → has_part x.acting p ≡ true
+  pub has_there : (p : Part) → IsThere (told w x) x.acting.actor.cpu p → has_part x.acting p ≡ true
   has_there (part.Home k) there = has_home k there
   has_there (part.Thread t) there = has_stander t.0 there (stood t.0).home
   has_there (part.Actor d) there = eq-eqb d.0 x.acting.actor.cpu.0 (ap (λ (c : CpuId). c.0) there)
@@ -144,33 +108,9 @@ module _ (w : Work) (x : PlainWorld) (st : Stands w x) where
   turn_there : (hints : Option Hints) → PartsAreThere w (told w x) x.acting.actor.cpu hints
   turn_there hints = parts_there w (length x.entries.items) (told w x) x.acting.actor.cpu hints reached cpu_inside
 
-  -- so nothing is lacking of what a turn looks at
-  pub not_looked : (hints : Option Hints) (q : Part) → IsAmong q (next_parts w (told w x) x.acting.actor.cpu hints) → has_part x.acting q ≡ false → ⊥
-  not_looked hints q among lacks = false≢true (sym lacks ∙ has_there q ((turn_there hints).making q among))
-
   pub not_touched : (hints : Option Hints) (e : Event) (q : Part) → next w (told w x) x.acting.actor.cpu hints ≡ Some e → IsAmong q (after_parts w (told w x) x.acting.actor.cpu e)
       → has_part x.acting q ≡ false → ⊥
   not_touched hints e q is among lacks = false≢true (sym lacks ∙ has_there q ((turn_there hints).touching e is q among))
-
-  pub not_planned : (q : Part) → IsAmong q (plan_parts w (told w x) x.acting.actor.cpu) → has_part x.acting q ≡ false → ⊥
-  not_planned q among = not_looked None q (among_left q (plan_parts w (told w x) x.acting.actor.cpu) (turn_parts w (told w x) x.acting.actor.cpu None (plan w (told w x) x.acting.actor.cpu.0)) among)
-
-  pub not_read : (p : Plan) (q : Part) → p ≡ plan w (told w x) x.acting.actor.cpu.0 → IsAmong q (read_parts w (told w x) x.acting.actor.cpu p) → has_part x.acting q ≡ false → ⊥
-  not_read p q is among =
-      let c = x.acting.actor.cpu in
-      let own = plan w (told w x) c.0 in
-      not_looked None q
-      (among_right q (plan_parts w (told w x) c) (turn_parts w (told w x) c None own)
-      (among_left q (read_parts w (told w x) c own) (choice_parts w (told w x) c None own) (subst (λ z. IsAmong q (read_parts w (told w x) c z)) is among)))
-
-  pub not_chosen : (hints : Option Hints) (p : Plan) (q : Part) → p ≡ plan w (told w x) x.acting.actor.cpu.0 → IsAmong q (choice_parts w (told w x) x.acting.actor.cpu hints p)
-      → has_part x.acting q ≡ false → ⊥
-  not_chosen hints p q is among =
-      let c = x.acting.actor.cpu in
-      let own = plan w (told w x) c.0 in
-      not_looked hints q
-      (among_right q (plan_parts w (told w x) c) (turn_parts w (told w x) c hints own)
-      (among_right q (read_parts w (told w x) c own) (choice_parts w (told w x) c hints own) (subst (λ z. IsAmong q (choice_parts w (told w x) c hints z)) is among)))
 
   pub not_cpu : (d : CpuId) (q : Part) → d.0 < w.cpus → IsAmong q (cpu_part d ∷ []) → has_part x.acting q ≡ false → ⊥
   not_cpu d q there (inl is) lacks =
@@ -183,71 +123,9 @@ module _ (w : Work) (x : PlainWorld) (st : Stands w x) where
   not_found (Some u) q has (inl is) lacks = false≢true (sym lacks ∙ (ap (has_part x.acting) is ∙ has))
   not_found (Some u) q has (inr none) lacks = none
 
-  -- the numbers that the state shows are those that the plan reads
-  pub hints_given : (p : Plan) (hints : Option Hints) → p ≡ plan w (told w x) x.acting.actor.cpu.0 → hints ≡ serial_hints w (told w x) x.acting.actor.cpu
-      → hints_fit (plan_reads w (told w x) x.acting.actor.cpu.0 p) hints ≡ true
-  unfolding serial_hints reads
-  hints_given p hints is given =
-      let s = told w x in
-      let c = x.acting.actor.cpu.0 in
-      subst (λ q. hints_fit (plan_reads w s c q) hints ≡ true) (sym is)
-      (subst (λ h. hints_fit (plan_reads w s c (plan w s c)) h ≡ true) (sym given) (shown_fit s (plan_reads w s c (plan w s c))))
-
-  pub serial_is : (p : Plan) → p ≡ plan w (told w x) x.acting.actor.cpu.0 → shown_of (told w x) (plan_reads w (told w x) x.acting.actor.cpu.0 p) ≡ serial_hints w (told w x) x.acting.actor.cpu
-  unfolding serial_hints reads
-  serial_is p is = ap (λ q. shown_of (told w x) (plan_reads w (told w x) x.acting.actor.cpu.0 q)) is
-
-  -- the one event that the acting processor may make
-  pub proposed : (p : Plan) (hints : Option Hints) (e : Event) → p ≡ plan w (told w x) x.acting.actor.cpu.0 → hints ≡ serial_hints w (told w x) x.acting.actor.cpu
-      → e ≡ plan_event w (told w x) x.acting.actor.cpu.0 hints p → allowed w (told w x) x.acting.actor.cpu.0 e ≡ next w (told w x) x.acting.actor.cpu hints
-  unfolding serial_hints reads
-  proposed p hints e is given made =
-      let s = told w x in
-      let c = x.acting.actor.cpu in
-      ap (allowed w s c.0) (made ∙ ap (λ h. plan_event w s c.0 h p) given ∙ ap (plan_event w s c.0 (shown_of s (plan_reads w s c.0 (plan w s c.0)))) is)
-      ∙ sym (serial_event w s c cpu_inside) ∙ ap (λ h. next w s c h) (sym given)
-
-  -- the processors that are read are there
-  pub read_there : (c : ℕ) → IfSome (plan_reads w (told w x) c (plan w (told w x) c)) (λ r. AreCpus w r.1)
-  unfolding reads_for
-  read_there c = by (plan w (told w x) c)
-    where
-      s : State
-      s = told w x
-
-      among_open : (t : ℕ) → AreCpus w (cpus_for w s t)
-      among_open t d has = cpus_there w s (inside_reached w (length x.entries.items) s reached) t d has
-
-      if_read : (cpus : List CpuId) (b : Bool) (which : Which) → AreCpus w cpus → IfSome {T = Which × List CpuId} (if b then None else Some (which, cpus)) (λ r. AreCpus w r.1)
-      if_read cpus true which there = tt
-      if_read cpus false which there = there
-
-      of_thread : (t : ℕ) → IfSome (reads_for w s c t) (λ r. AreCpus w r.1)
-      of_thread t = if_read (cpus_for w s t) (is_settled (cpus_for w s t) (thread_of s t).body.last (is_warm s c t)) OfRunning (among_open t)
-
-      of_neighbours : (cpus : List CpuId) → AreCpus w cpus → IfSome (read_of cpus) (λ r. AreCpus w r.1)
-      of_neighbours [] there = tt
-      of_neighbours (d ∷ ds) there = there
-
-      by : (p : Plan) → IfSome (plan_reads w s c p) (λ r. AreCpus w r.1)
-      by (Make e) = tt
-      by (Place placement p) = of_thread (placed_thread placement)
-      by Search = of_neighbours (neighbours s c) (λ d near. neighbours_there w (length x.entries.items) s c d reached near)
-
--- the same of a reading
-pub reading_there : (w : Work) (o : Option Reading) (q : Option (Which × List CpuId)) → option_map parts o ≡ q → IfSome q (λ r. AreCpus w r.1) → IfSome o (λ r. AreCpus w r.cpus.items)
-reading_there w None q e there = tt
-reading_there w (Some r) q e there = subst (λ z. IfSome {T = Which × List CpuId} z (λ y. AreCpus w y.1)) (sym e) there
-
 -- the state to which more entries lead
 pub told_more : (w : Work) (x y : PlainWorld) (es : List Entry) → y.entries.items ≡ x.entries.items ++ es → told w y ≡ final w (told w x) es
 told_more w x y es e = ap (final w (opening w)) e ∙ final-append w (opening w) x.entries.items es
-
--- a processor that is not there makes nothing
-pub no_turn : (w : Work) (s : State) (n : ℕ) (c : CpuId) (es : List Entry) → w.cpus ≤ c.0 → es ≡ es ++ turn w s n c
-no_turn w s n c es past =
-    let hints = serial_hints w s c in
-    sym (append-nil es) ∙ ap (λ (o : Option Event). es ++ made n c hints o) (sym (no_maker w s c hints past))
 
 -- the state to which its entries lead stands in homes too
 pub stands_in : (w : Work) (x : PlainWorld) → Stands w x → StandsInHomes (length x.entries.items) (told w x)

@@ -1,6 +1,6 @@
 -- A run that goes on homes, all of which one thread of the host has.
 -- Source: this project's own.
-use Rattle.std.specs.Prelude.{ℕ, ◌<◌, List, length, Option}
+use Rattle.std.specs.Prelude.{◌≡◌, ℕ, ◌-◌, ◌<◌, ◌≤◌, ◌==◌, nat_le, true, List, length, slice_get, Option, Some, None, vec_capacity, vec_len}
 use Rattle.std.specs.List.{Contains}
 use Rattle.sd_types.specs.declared.events.Which.{Which}
 use Rattle.sd_types.specs.declared.events.Which.TheVariants.{Running as OfRunning, Queued as OfQueued}
@@ -10,10 +10,16 @@ use Rattle.sd_types.specs.declared.works.Work.{Work}
 use Rattle.sd_machine.specs.declared.states.State.{State}
 use Rattle.sd_machine.specs.Opening.{opening}
 use Rattle.sd_full.specs.Runs.{IsRun, final, state_at}
+use Rattle.sd_machine.specs.States.{cpu_of}
+use Rattle.sd_full.specs.Choosing.{hint_shown}
 use Rattle.sd_full.specs.Threads.{best_unbound, runner}
 use Rattle.sd_hand.specs.OneHome.{AreAllHomes, StandsInHomes}
 use Rattle.sd_snapshot.specs.Told.{AreActorsOf, IsActorOf}
+use Rattle.sd_types.specs.declared.events.Duty.TheVariants.{Nothing}
+use Rattle.sd_hand.specs.declared.acting.Actor.{Actor}
 use Rattle.sd_world.specs.declared.plain.PlainWorld.{PlainWorld}
+use Rattle.sd_world.specs.declared.world.Behind.{Behind}
+use Rattle.sd_world.specs.Worlds.{IsGood, Meaning}
 
 -- the state to which its entries lead
 abbrev pub told : Work → PlainWorld → State
@@ -40,3 +46,47 @@ AreCpus w cpus = (d : CpuId) → Contains cpus d → d.0 < w.cpus
 abbrev pub thread_shown : State → Which → CpuId → Option ℕ
 thread_shown s OfRunning d = runner s d.0
 thread_shown s OfQueued d = best_unbound s d.0
+
+-- for a number that is no processor's
+abbrev pub no_actor : Actor
+no_actor = record { cpu = record { 0 = 0 }; count = 0; duty = Nothing }
+
+-- none of the processors has a count below this one
+abbrev pub NoneLess : List Actor → ℕ → Type 0
+NoneLess actors count = (i : ℕ) (a : Actor) → slice_get actors i ≡ Some a → count ≤ a.count
+
+-- one of them has
+pub record IsLess (actors : List Actor) (count : ℕ) (b : Behind) : Type 0 where
+  pub index : ℕ
+  pub actor : Actor
+  pub there : slice_get actors index ≡ Some actor
+  pub cpu : b.cpu ≡ actor.cpu
+  pub same : b.count ≡ actor.count
+  pub less : b.count < count
+
+abbrev pub last_of : Option Behind → Option (ℕ × ℕ)
+last_of None = None
+last_of (Some b) = Some (b.cpu.0, b.count)
+
+-- as a world: nobody else makes entries, and all homes are in its hand; a number is a hint where the state shows it
+abbrev pub plain_meaning : PlainWorld → Meaning
+plain_meaning x = record {
+  table = None;
+  work = x.work.now;
+  alone = true;
+  all = true;
+  acting = x.acting;
+  log = x.entries.items;
+  seen = x.entries.items;
+  spare = vec_capacity x.entries - vec_len x.entries;
+  stops = 0;
+  reads = x.reads;
+  last = last_of x.last;
+  hinted = λ c which n. n == hint_shown (told x.work.now x) which (record { 0 = c });
+  counted = λ c n. nat_le n (cpu_of (told x.work.now x) c).count;
+}
+
+-- it stands as a run on homes, and so as a world
+pub record IsPlain (x : PlainWorld) : Type 0 where
+  pub stands : Stands x.work.now x
+  pub good : IsGood (plain_meaning x)

@@ -30,7 +30,7 @@ use Rattle.sd_homes.specs.Families.{has, home_id, list_in}
 use Rattle.sd_homes.specs.Kinds.{IsListed}
 use Rattle.sd_hand.specs.declared.acting.Acting.{Acting}
 use Rattle.sd_hand.specs.Acting.{IsShown, has_part}
-use Rattle.sd_hand.specs.Hands.{HoldsMore, IsHeld, has_thread, held}
+use Rattle.sd_hand.specs.Hands.{HoldsMore, has_thread}
 use Rattle.sd_footprint.specs.There.{IsThere}
 use Rattle.sd_world.specs.declared.world.Take.{Take}
 use Rattle.sd_world.specs.declared.world.Take.TheVariants.{Taken, Busy}

@@ -8,6 +8,7 @@ ghost use Rattle.sd_snapshot.specs.Told.{AreActorsOf, IsActorOf};
 ghost use Rattle.sd_world.specs.Plain.{HasStood, Stands, told};
 
 use crate::homes::Homes;
+use crate::world::Behind;
 use sd_flat::cpu_of;
 use sd_hand::{Acting, Actor};
 use sd_homes::list_at;
@@ -18,12 +19,16 @@ use sd_snapshot::state_of;
 use sd_types::{CpuId, Entry, Work};
 use std::alloc::{AllocError, Global};
 
-/// All homes of a run, the processor that acts, the count and the duty of each, and the entries that were made.
+/// All homes of a run of this workload, the processor that acts, the count and the duty of each, and the entries that were made; how
+/// often it was asked who is behind, and who was found last.
 #[derive(Drop)]
-pub struct PlainWorld {
+pub struct PlainWorld<'a> {
+    pub work: &'a Work,
     pub acting: Acting,
     pub actors: Vec<Actor>,
     pub entries: Vec<Entry>,
+    pub reads: u64,
+    pub last: Option<Behind>,
 }
 
 /// The lists in which the threads of a state stand: where look-ups begin.
@@ -60,19 +65,20 @@ fn actors_of(alloc: Global, s: &State) -> Result<Vec<Actor>, AllocError>
     Ok(actors)
 }
 
-impl PlainWorld {
+impl<'a> PlainWorld<'a> {
     /// A run that goes on from a state to which these entries led; each state before it stood in homes. `Err` only where memory
     /// runs out.
     pub fn resume(
         alloc: Global,
-        work: &Work,
+        work: &'a Work,
         s: &State,
         entries: Vec<Entry>,
-    ) -> Result<PlainWorld, AllocError>
+    ) -> Result<PlainWorld<'a>, AllocError>
         requires run { IsRun work.now entries.items }
         requires state { s.now ≡ final work.now (opening work.now) entries.items }
         requires stood { HasStood work.now entries.items }
         ensures stands { IfOk result (λ x. Stands work.now x) }
+        ensures work { IfOk result (λ x. x.work.now ≡ work.now) }
         ensures entries { IfOk result (λ x. x.entries.items ≡ entries.items) }
     {
         let homes = Homes::new(alloc, work, entries.len() as u64, s)?;
@@ -80,18 +86,22 @@ impl PlainWorld {
         let lists = lists_of(alloc, s)?;
         let actor = actors[0];
         Ok(PlainWorld {
+            work,
             acting: Acting {
                 hand: homes.into_hand(lists),
                 actor,
             },
             actors,
             entries,
+            reads: 0,
+            last: None,
         })
     }
 
     /// A run at its beginning. `Err` only where memory runs out.
-    pub fn new(alloc: Global, work: &Work) -> Result<PlainWorld, AllocError>
+    pub fn new(alloc: Global, work: &'a Work) -> Result<PlainWorld<'a>, AllocError>
         ensures stands { IfOk result (λ x. Stands work.now x) }
+        ensures work { IfOk result (λ x. x.work.now ≡ work.now) }
         ensures entries { IfOk result (λ x. x.entries.items ≡ []) }
     {
         let s = opening(alloc, work)?;

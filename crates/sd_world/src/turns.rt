@@ -1,27 +1,21 @@
-//! The turn of a processor, on homes.
+//! A run on homes as a world: what a processor reads of others, and the entry that it makes.
 
-ghost use Rattle.std.specs.Prelude.{◌≡◌, ◌++◌, ◌<◌, ◌≤◌, ◌^◌, ◌↔◌, ◌∷◌, [], Some, length, map, not, ◌||◌, nat_le, option_map, true, vec_capacity, vec_len, IfSome, IsErrOf, OnErr, OnOk};
-ghost use Rattle.std.specs.List.{list_all};
-ghost use Rattle.sd_types.specs.Events.{ticks};
-ghost use Rattle.sd_types.specs.declared.numbers.CpuId.{CpuId as CpuIdOf};
+ghost use Rattle.std.specs.Prelude.{◌≡◌, ◌++◌, ◌<◌, ◌≤◌, ◌∷◌, [], Some, length, map, option_map, true, vec_capacity, vec_len, IfSome, MatchOption};
 ghost use Rattle.sd_full.specs.Choosing.{hint_of, hint_shown};
-ghost use Rattle.sd_full.specs.Events.{allowed, may_tick, next, plan_event, plan_reads};
-ghost use Rattle.sd_full.specs.Plans.{plan};
-ghost use Rattle.sd_full.specs.Runs.{serial_hints, shown, turn};
-ghost use Rattle.sd_mdisp.specs.Reading.{parts};
+ghost use Rattle.sd_full.specs.Events.{next};
 ghost use Rattle.sd_full.specs.Threads.{priority_of};
 ghost use Rattle.sd_hand.specs.Acting.{has_part};
 ghost use Rattle.sd_store.specs.Parts.{number, thread_part};
-ghost use Rattle.sd_world.specs.Plain.{AreCpus, Stands, thread_shown, told};
+ghost use Rattle.sd_world.specs.Plain.{AreCpus, IsLess, NoneLess, Stands, thread_shown, told};
 
 use crate::plain::PlainWorld;
+use crate::world::{Behind, Take, ThreadLock, World};
 use arrayvec::ArrayVec;
-use sd_full::Plan;
-use sd_hand::Actor;
+use sd_hand::{Acting, Actor};
 use sd_mdisp::{Reading, priority_of};
-use sd_step::{after, plan, plan_event, plan_reads};
+use sd_step::after;
 use sd_store::Look;
-use sd_types::{CpuId, Entry, Event, Hints, Stop, ThreadId, Which, Work};
+use sd_types::{CpuId, Entry, Event, Hints, HomeId, Stop, ThreadId, Which, Work};
 
 /// A log that holds as many entries takes no more: 2^40.
 pub const MOST_ENTRIES: usize = 1_099_511_627_776;
@@ -37,34 +31,33 @@ fn hint_of(p: Option<u8>) -> u8
     }
 }
 
-/// No processor has counted less.
-fn is_least(actors: &[Actor], count: u32) -> bool
-    ensures { result ≡ list_all (λ x. nat_le count x.count) actors.now }
+/// The first processor that has counted less.
+fn first_behind(actors: &[Actor], count: u32) -> Option<Behind>
+    ensures { MatchOption result (NoneLess actors.now count) (IsLess actors.now count) }
 {
-    actors.iter().all(|x| count <= x.count)
+    for i in 0..actors.len() {
+        let x = actors[i];
+        if x.count < count {
+            return Some(Behind {
+                cpu: x.cpu,
+                count: x.count,
+            });
+        }
+    }
+    None
 }
 
-impl PlainWorld {
+impl<'a> PlainWorld<'a> {
     /// Processor `c` acts from now on.
-    fn act_as(&mut self, work: &Work, c: CpuId)
+    pub fn act_as(&mut self, work: &Work, c: CpuId)
         requires stands { Stands work.now self.old }
         requires cpu { c.0 < work.now.cpus }
         ensures stands { Stands work.now self.new }
         ensures acts { self.new.acting.actor.cpu ≡ c }
+        ensures work { self.new.work ≡ self.old.work }
         ensures entries { self.new.entries.items ≡ self.old.entries.items }
     {
         self.acting.actor = self.actors[c.0 as usize];
-    }
-
-    /// What the acting processor is about to do.
-    fn plan(&self, work: &Work) -> Plan
-        requires stands { Stands work.now self.now }
-        ensures { result ≡ plan work.now (told work.now self.now) self.now.acting.actor.cpu.0 }
-    {
-        match plan(work, &self.acting, self.acting.actor.cpu) {
-            Ok(plan) => plan,
-            Err(_) => unreachable!(),
-        }
     }
 
     /// The effective priority of a thread that was found.
@@ -124,80 +117,6 @@ impl PlainWorld {
         numbers
     }
 
-    /// The numbers that are read.
-    fn shown(&self, work: &Work, reading: &Option<Reading>) -> Option<Hints>
-        requires stands { Stands work.now self.now }
-        requires there { IfSome reading.now (λ r. AreCpus work.now r.cpus.items) }
-        ensures { result ≡ shown (told work.now self.now) (option_map parts reading.now) }
-    {
-        match reading {
-            None => None,
-            Some(reading) => Some(Hints {
-                which: reading.which,
-                numbers: self.numbers(work, reading.which, reading.cpus.as_slice()),
-            }),
-        }
-    }
-
-    /// The numbers that are read for the plan of the acting processor.
-    fn hints(&self, work: &Work, doing: Plan) -> Option<Hints>
-        requires stands { Stands work.now self.now }
-        requires doing { doing ≡ plan work.now (told work.now self.now) self.now.acting.actor.cpu.0 }
-        ensures { result ≡ serial_hints work.now (told work.now self.now) self.now.acting.actor.cpu }
-    {
-        match plan_reads(work, &self.acting, self.acting.actor.cpu, doing) {
-            Ok(reading) => self.shown(work, &reading),
-            Err(_) => unreachable!(),
-        }
-    }
-
-    /// The event of the plan, whether or not it may come now.
-    fn event(&self, work: &Work, doing: Plan, hints: &Option<Hints>) -> Event
-        requires stands { Stands work.now self.now }
-        requires doing { doing ≡ plan work.now (told work.now self.now) self.now.acting.actor.cpu.0 }
-        requires hints { hints.now ≡ serial_hints work.now (told work.now self.now) self.now.acting.actor.cpu }
-        ensures { result ≡ plan_event work.now (told work.now self.now) self.now.acting.actor.cpu.0 hints.now doing }
-    {
-        match plan_event(work, &self.acting, self.acting.actor.cpu, hints, doing) {
-            Ok(event) => event,
-            Err(_) => unreachable!(),
-        }
-    }
-
-    /// The acting processor may tick: its count is below the limit, and no processor's is below it.
-    fn may_tick(&self, work: &Work) -> bool
-        requires stands { Stands work.now self.now }
-        ensures { result ≡ may_tick work.now (told work.now self.now) self.now.acting.actor.cpu.0 }
-    {
-        let count = self.acting.actor.count;
-        count < work.limit && is_least(&self.actors, count)
-    }
-
-    /// The event, where the acting processor may make it now: it may tick, where the event ticks.
-    fn allowed(&self, work: &Work, event: Event) -> Option<Event>
-        requires stands { Stands work.now self.now }
-        ensures { result ≡ allowed work.now (told work.now self.now) self.now.acting.actor.cpu.0 event }
-    {
-        if !event.ticks() || self.may_tick(work) {
-            Some(event)
-        } else {
-            None
-        }
-    }
-
-    /// The event that the acting processor may make, and the numbers that it read for it; `None` where it may make none.
-    fn proposal(&self, work: &Work) -> (Option<Hints>, Option<Event>)
-        requires stands { Stands work.now self.now }
-        ensures hints { result.0 ≡ serial_hints work.now (told work.now self.now) self.now.acting.actor.cpu }
-        ensures event { result.1 ≡ next work.now (told work.now self.now) self.now.acting.actor.cpu result.0 }
-    {
-        let doing = self.plan(work);
-        let hints = self.hints(work, doing);
-        let event = self.event(work, doing, &hints);
-        let event = self.allowed(work, event);
-        (hints, event)
-    }
-
     /// Makes the event, for which the log has room.
     fn make(&mut self, work: &Work, hints: Option<Hints>, event: Event)
         requires stands { Stands work.now self.old }
@@ -207,6 +126,8 @@ impl PlainWorld {
         ensures stands { Stands work.now self.new }
         ensures entries { self.new.entries.items ≡ self.old.entries.items
             ++ record { number = length self.old.entries.items; cpu = self.old.acting.actor.cpu; event = event; hints = hints } ∷ [] }
+        ensures cpu { self.new.acting.actor.cpu ≡ self.old.acting.actor.cpu }
+        ensures rest { (self.new.work ≡ self.old.work) × (self.new.reads ≡ self.old.reads) × (self.new.last ≡ self.old.last) }
     {
         let number = self.entries.len() as u64;
         let cpu = self.acting.actor.cpu;
@@ -222,36 +143,62 @@ impl PlainWorld {
             hints,
         });
     }
+}
 
-    /// The turn of processor `c`: it makes its entry, where it has one. `Full` exactly where the log holds 2^40 entries or more; so
-    /// memory runs out only where it holds fewer, and all is then as it was.
-    pub fn turn(&mut self, work: &Work, c: CpuId) -> Result<(), Stop>
-        requires stands { Stands work.now self.old }
-        ensures stands { Stands work.now self.new }
-        ensures entries { OnOk result (self.new.entries.items ≡ self.old.entries.items ++ turn work.now (told work.now self.old) (length self.old.entries.items) c) }
-        ensures room { OnOk result (length self.new.entries.items ≤ MOST_ENTRIES) }
-        ensures begins { OnOk result (length self.old.entries.items < MOST_ENTRIES) }
-        ensures full { IsErrOf result Stop.Full ↔ (MOST_ENTRIES ≤ length self.old.entries.items) }
-        ensures memory { IsErrOf result Stop.Memory → length self.old.entries.items < MOST_ENTRIES }
-        ensures kept { OnErr result (self.new.entries.items ≡ self.old.entries.items) }
-    {
+impl<'a> World for PlainWorld<'a> {
+    ghost use Rattle.sd_world.specs.Plain.{IsPlain, plain_meaning};
+
+    ghost meaning = { λ x. plain_meaning x };
+
+    ghost good = { λ x. IsPlain x };
+
+    fn acting(&self) -> &Acting {
+        &self.acting
+    }
+
+    fn has_all(&self) -> bool {
+        true
+    }
+
+    fn take(&mut self, k: HomeId) -> Take {
+        unreachable!()
+    }
+
+    fn lock_thread(&mut self, t: ThreadId) -> ThreadLock {
+        unreachable!()
+    }
+
+    fn hints(&mut self, work: &Work, reading: &Reading) -> Hints {
+        Hints {
+            which: reading.which,
+            numbers: self.numbers(work, reading.which, reading.cpus.as_slice()),
+        }
+    }
+
+    fn behind(&mut self, work: &Work) -> Option<Behind> {
+        self.reads = self.reads.saturating_add(1);
+        let found = first_behind(&self.actors, self.acting.actor.count);
+        self.last = found;
+        found
+    }
+
+    fn reserve(&mut self) -> Result<(), Stop> {
         if self.entries.len() >= MOST_ENTRIES {
             return Err(Stop::Full);
         }
-        if c.0 >= work.cpus {
-            return Ok(());
+        if self.entries.reserve(1).is_err() {
+            return Err(Stop::Memory);
         }
-        self.act_as(work, c);
-        let (hints, event) = self.proposal(work);
-        match event {
-            None => Ok(()),
-            Some(event) => {
-                if self.entries.reserve(1).is_err() {
-                    return Err(Stop::Memory);
-                }
-                self.make(work, hints, event);
-                Ok(())
-            }
-        }
+        Ok(())
     }
+
+    fn commit(&mut self, work: &Work, event: Event, hints: Option<Hints>) -> u64 {
+        let number = self.entries.len() as u64;
+        self.make(work, hints, event);
+        number
+    }
+
+    fn give_all(&mut self) {}
+
+    ghost sound = { λ x h. h.good };
 }

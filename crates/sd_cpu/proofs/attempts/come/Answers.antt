@@ -1,4 +1,4 @@
-use Rattle.std.proofs.Common.{◌≡◌, true, false, sym, ◌∙◌}
+use Rattle.std.proofs.Common.{false, sym, ◌∙◌}
 use Rattle.std.proofs.lemmas.Bool.{false≢true}
 use Rattle.sd_cpu.proofs.AttemptLemmas as M
 use Rattle.sd_cpu.proofs.MeaningLemmas.{acts_made, same_bit}

@@ -1,6 +1,3 @@
-use Rattle.std.proofs.Common.{sym, ap, subst, ◌∙◌}
-use Rattle.sd_types.specs.declared.works.Work.{Work}
-use Rattle.sd_hand.specs.declared.acting.Acting.{Acting}
 use Rattle.sd_cpu.proofs.AttemptLemmas as M
 use Rattle.sd_cpu.proofs.MeaningLemmas.{counts_same}
 use Rattle.sd_cpu.proofs.attempts.hindrance.Goals as goal

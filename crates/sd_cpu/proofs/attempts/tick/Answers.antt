@@ -1,4 +1,4 @@
-use Rattle.std.proofs.Common.{true, sym}
+use Rattle.std.proofs.Common.{true}
 use Rattle.sd_cpu.proofs.AttemptLemmas as M
 use Rattle.sd_cpu.proofs.MeaningLemmas.{acts_made, enters_from, same_bit}
 use Rattle.sd_cpu.proofs.SeekLemmas.{make_still}

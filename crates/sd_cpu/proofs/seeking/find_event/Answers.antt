@@ -2,7 +2,6 @@ use Rattle.std.proofs.Common.{sym, ◌∙◌, arith}
 use Rattle.sd_cpu.proofs.MeaningLemmas.{looks_same}
 use Rattle.sd_cpu.proofs.SeekLemmas as S
 use Rattle.sd_cpu.proofs.seeking.find_event.Goals as goal
-
 use Rattle.std.proofs.Common.{inl, inr}
 use Rattle.sd_cpu.proofs.AttemptLemmas.{ready_later}
 

@@ -1,4 +1,4 @@
-use Rattle.std.proofs.Common.{◌≡◌, Err, sym, subst}
+use Rattle.std.proofs.Common.{Err, sym, subst}
 use Rattle.sd_store.specs.Parts.{thread_part}
 use Rattle.sd_mdisp.specs.Touched.{put_parts_if}
 use Rattle.sd_setop.specs.Touched.{bind_parts, rebound_parts}

@@ -1,4 +1,4 @@
-use Rattle.std.proofs.Common.{◌≡◌, sym, subst}
+use Rattle.std.proofs.Common.{sym, subst}
 use Rattle.sd_store.specs.Parts.{actor_part, thread_part}
 use Rattle.sd_mprio.specs.Touched.{prio_parts}
 use Rattle.sd_cpu.specs.Has.{Has}

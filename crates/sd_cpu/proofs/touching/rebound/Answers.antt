@@ -1,4 +1,4 @@
-use Rattle.std.proofs.Common.{◌≡◌, Option, sym, subst}
+use Rattle.std.proofs.Common.{Option, sym, subst}
 use Rattle.sd_types.specs.declared.numbers.CpuId.{CpuId}
 use Rattle.sd_machine.specs.States.{thread_of}
 use Rattle.sd_store.specs.Parts.{bound_parts, cpu_part}

@@ -1,5 +1,4 @@
 use Rattle.std.proofs.Common.{ap, ◌∙◌}
-use Rattle.sd_store.specs.declared.parts.CpuView.{CpuView}
 use Rattle.sd_store.specs.Parts.{thread_part}
 use Rattle.sd_cpu.specs.Has.{running_cpu}
 use Rattle.sd_cpu.proofs.HasLemmas.{no_lack}

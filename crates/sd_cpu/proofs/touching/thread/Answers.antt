@@ -1,4 +1,3 @@
-use Rattle.std.proofs.Common.{◌≡◌, true}
 use Rattle.sd_hand.proofs.SlotLemmas.{stands_has}
 use Rattle.sd_cpu.proofs.touching.thread.Goals as goal
 

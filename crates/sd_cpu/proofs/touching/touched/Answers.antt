@@ -1,4 +1,4 @@
-use Rattle.std.proofs.Common.{◌≡◌, sym, subst}
+use Rattle.std.proofs.Common.{sym, subst}
 use Rattle.sd_types.specs.declared.events.Event.{Event}
 use Rattle.sd_store.specs.Parts.{actor_part}
 use Rattle.sd_step.specs.Touched.{after_parts}
@@ -42,4 +42,3 @@ returns-in-Spin c = λ n s shown.
     subst (λ (e : Event). Has c.args.x.now c.among_ready-in-Spin.result (after_parts c.args.work.now s c.args.c e)) (sym c.in-Spin.is)
     (also c.args.x.now c.among_ready-in-Spin.result (actor_part c.args.c) _ (own c.args.x.now c.args.c c.requires.here)
     (also c.args.x.now c.among_ready-in-Spin.result (actor_part c.args.c) _ (own c.args.x.now c.args.c c.requires.here) (c.among_ready-in-Spin.ensures n s shown)))
-

@@ -11,11 +11,12 @@ loop-c-preserved c =
     let order = c.args.order.now in
     let l = c.loop-c in
     let x = l.world in
-    let y = c.turn.new.self in
+    let y = c.take_turn.new.world in
     let e = c.in_default.ensures in
     let t = turn w (told w x) (length x.entries.items) (get_or order l.c-index (record { 0 = 0 })) in
     record {
       stands = e.stands;
+      work = e.work;
       entries = round_on w order l.c-index (record { 0 = 0 }) (told w x) (told w y) x.entries.items y.entries.items c.loop-c-test.true e.entries (told_more w x y t e.entries) ∙ l.invariant.entries;
       room = e.room;
       grown = let more = grows t x.entries.items y.entries.items e.entries in

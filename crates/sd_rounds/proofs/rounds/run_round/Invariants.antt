@@ -8,6 +8,7 @@ use Rattle.sd_rounds.proofs.rounds.run_round.Given as goal
 abbrev pub invariant-loop-c : goal.invariant-loop-c
 invariant-loop-c l = record {
   stands : Stands l.work l.world;
+  work : l.world.work.now ≡ l.work;
   entries : l.world.entries.items ++ round l.work (told l.work l.world) (length l.world.entries.items) (drop l.c-index l.order)
       ≡ l.initial.world.entries.items ++ round l.work (told l.work l.initial.world) (length l.initial.world.entries.items) l.order;
   room : length l.world.entries.items ≤ MOST_ENTRIES;

@@ -23,6 +23,7 @@ rounds-init c =
       rounds = no_rounds w (orders_of w c.args.turns) c.in-Ok.world.entries.items none;
       generator = c.first_generator-generator.ensures w;
       stands = c.in-Ok.ensures.stands;
+      work = c.in-Ok.ensures.work;
       room = omega (arith, ap length none);
     }
 
@@ -54,6 +55,7 @@ rounds-preserved c =
           (λ same. c.if-len-before.false (let h : c.len.result ≡ c.len-before.result = omega (arith, same) in h));
       generator = c.next_order-order.ensures.generator ∙ ap (λ (g : Option Lcg). (next_order (rising w) g).1) r.invariant.generator ∙ generator_next w c.args.turns r.invariant.count;
       stands = e.stands;
+      work = e.work;
       room = e.room;
     }
 

@@ -11,6 +11,7 @@ invariant-rounds l = record {
   rounds : HasRounds l.work (orders_of l.work l.fn.turns) count l.world.entries.items;
   generator : l.generator ≡ generator_at l.work l.fn.turns count;
   stands : Stands l.work l.world;
+  work : l.world.work.now ≡ l.work;
   room : length l.world.entries.items ≤ MOST_ENTRIES;
 }
 

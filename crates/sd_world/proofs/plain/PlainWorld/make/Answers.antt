@@ -29,7 +29,10 @@ returns-clause-stands c =
     let e : length x.entries.items ≡ c.len-number.result = sym many ∙ sym c.len-number.ensures in
     let needs = needs_reached w (length x.entries.items) (told w x) cpu c.args.hints c.args.event (reached w x st) c.requires.next in
     let sh = c.in-Ok.ensures.value (told w x) (subst (λ m. IsShown x.acting m (told w x)) e (shown w x st)) needs in
-    steps w x (record { acting = c.after.new.x; actors = with_item x.actors cpu.0 c.after.new.x.actor; entries = c.push_reserved.new.self }) c.args.event c.args.hints st c.requires.next
+    steps w x (record { work = x.work; reads = x.reads; last = x.last; acting = c.after.new.x; actors = with_item x.actors cpu.0 c.after.new.x.actor; entries = c.push_reserved.new.self }) c.args.event c.args.hints st c.requires.next
     (subst (λ m. IsShown c.after.new.x (m + 1) (after w (told w x) m cpu c.args.event)) (sym e) sh)
     c.in-Ok.ensures.has (same_actor x.acting c.after.new.x c.in-Ok.ensures.has) refl
     (c.push_reserved.ensures.items ∙ ap (λ m. x.entries.items ++ record { number = m; cpu = cpu; event = c.args.event; hints = c.args.hints } ∷ []) (sym e))
+
+pub returns-clause-cpu : goal.returns-clause-cpu
+returns-clause-cpu c = same_actor c.args.self.now.acting c.after.new.x c.in-Ok.ensures.has

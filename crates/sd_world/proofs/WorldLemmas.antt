@@ -1,0 +1,107 @@
+-- A run on homes as a world that nobody shares.
+use Rattle.std.proofs.Common.{◌≡◌, ℕ, ◌+◌, ◌-◌, ◌^◌, ◌<◌, ◌≤◌, Bool, true, false, List, [], ◌∷◌, length, map, get_or, min, MatchOption, Option, Some, None, refl, sym, ap, ◌∙◌, subst, inl, inr, arith}
+use Rattle.std.specs.Prelude.{nat_le}
+use Rattle.std.proofs.lemmas.Bool.{eq-eqb}
+use Rattle.std.proofs.lemmas.Bool.Decides.{nat_tests}
+use Rattle.std.proofs.lemmas.List.{append-nil}
+use Rattle.std.proofs.lemmas.Option.{slice_get-get_or, slice_get_within}
+use Rattle.sd_types.specs.declared.numbers.CpuId.{CpuId}
+use Rattle.sd_types.specs.declared.events.Entry.{Entry}
+use Rattle.sd_types.specs.declared.events.Which.{Which}
+use Rattle.sd_types.specs.declared.works.Work.{Work}
+use Rattle.sd_machine.specs.States.{cpu_of}
+use Rattle.sd_machine.specs.Opening.{opening}
+use Rattle.sd_full.specs.Choosing.{hint_shown}
+use Rattle.sd_full.specs.Runs.{IsRun, final}
+use Rattle.sd_sound.proofs.Whole.{fit_reached}
+use Rattle.sd_hand.specs.OneHome.{AreAllHomes}
+use Rattle.sd_snapshot.specs.Told.{AreActorsOf, IsActorOf}
+use Rattle.sd_footprint.specs.There.{IsThere}
+use Rattle.sd_world.specs.declared.plain.PlainWorld.{PlainWorld}
+use Rattle.sd_world.specs.declared.world.Behind.{Behind}
+use Rattle.sd_world.specs.Plain.{HasStood, IsLess, IsPlain, NoneLess, Stands, last_of, plain_meaning, told}
+use Rattle.sd_world.specs.Worlds.{AllHinted, Begins, Finds, IsBehind, IsQuiet, Meaning, NoneBehind, ReadsCounts, Rises, Stays, after_run}
+use Rattle.sd_world.proofs.PlainLemmas.{actor_inside, cpu_inside, has_there, reached, shown}
+
+pub begins_same : (es : List Entry) → Begins es es
+begins_same es = ([], sym (append-nil es))
+
+pub stays_same : (m : Meaning) → Stays m m
+stays_same m = record { table = refl; work = refl; alone = refl; all = refl; actor = refl; log = refl; begins = begins_same m.seen; still = λ e. refl; hinted = λ c which n h. h; counted = λ c n h. h }
+
+pub quiet_same : (m : Meaning) → IsQuiet m m
+quiet_same m = record { stops = refl; reads = refl; last = refl }
+
+pub plain_good : (x : PlainWorld) → Stands x.work.now x → IsPlain x
+plain_good x st = record {
+  stands = st;
+  good = record {
+    stands = record { run = st.run; begins = begins_same x.entries.items; still = λ e. refl; shown = shown x.work.now x st };
+    cpu = cpu_inside x.work.now x st;
+    everything = λ e h may p there. has_there x.work.now x st p (subst (λ l. IsThere (after_run (plain_meaning x) l) x.acting.actor.cpu p) (may.still refl) there);
+    reached = λ d n is h may. subst (λ l. n ≤ (cpu_of (after_run (plain_meaning x) l) d).count) (sym (may.still refl)) (let z : nat_le n (cpu_of (told x.work.now x) d).count ≡ true = is in grind (arith, nat_tests));
+  };
+}
+
+-- another log with the same entries, and other notes
+pub stands_beside : (w : Work) (x y : PlainWorld) → y.acting ≡ x.acting → y.actors ≡ x.actors → y.entries.items ≡ x.entries.items → Stands w x → Stands w y
+stands_beside w x y a b e st = record {
+  run = subst (λ es. IsRun w es) (sym e) st.run;
+  all = subst (λ h. AreAllHomes (length y.entries.items) (told w y) h.hand.slots) (sym a) (subst (λ es. AreAllHomes (length es) (final w (opening w) es) x.acting.hand.slots) (sym e) st.all);
+  actors = subst (λ v. AreActorsOf (told w y) v.items) (sym b) (subst (λ es. AreActorsOf (final w (opening w) es) x.actors.items) (sym e) st.actors);
+  inside = subst (λ h. h.actor.cpu.0 < length (told w y).cpus) (sym a) (subst (λ es. x.acting.actor.cpu.0 < length (final w (opening w) es).cpus) (sym e) st.inside);
+  acts = subst (λ h. IsActorOf (told w y) h.actor.cpu.0 h.actor) (sym a) (subst (λ es. IsActorOf (final w (opening w) es) x.acting.actor.cpu.0 x.acting.actor) (sym e) st.acts);
+  stood = subst (λ es. HasStood w es) (sym e) st.stood;
+}
+
+-- the numbers that the state shows are hints
+pub all_hinted : (x : PlainWorld) (kind : Which) (cs : List CpuId) → AllHinted (plain_meaning x) kind cs (map (hint_shown (told x.work.now x) kind) cs)
+all_hinted x kind [] = tt
+all_hinted x kind (c ∷ cs) = (eq-eqb (hint_shown (told x.work.now x) kind c) (hint_shown (told x.work.now x) kind c) refl, all_hinted x kind cs)
+
+-- the same but for its notes
+stays_noted : (x y : PlainWorld) → y ≡ record x { reads = y.reads; last = y.last } → Stays (plain_meaning x) (plain_meaning y)
+stays_noted x y e = subst (λ z. Stays (plain_meaning x) (plain_meaning z)) (sym e) (record { table = refl; work = refl; alone = refl; all = refl; actor = refl; log = refl; begins = begins_same x.entries.items; still = λ t. refl; hinted = λ c which n h. h; counted = λ c n h. h })
+
+at_most : (a b : ℕ) → a < 2 ^ 64 → b ≡ min (a + 1) (2 ^ 64 - 1) → Rises a b
+at_most a b fits e = by (nat_le (a + 1) (2 ^ 64 - 1)) refl
+  where
+    by : (d : Bool) → nat_le (a + 1) (2 ^ 64 - 1) ≡ d → Rises a b
+    by true t = (let z : a < b = grind (arith, nat_tests) in let le : a ≤ b = omega (arith, z) in (le, inl z))
+    by false t = (let z : b ≡ 2 ^ 64 - 1 = grind (arith, nat_tests) in let le : a ≤ b = omega (arith, z, fits) in (le, inr z))
+
+pub reads_counts : (x y : PlainWorld) → y ≡ record x { reads = y.reads; last = y.last } → x.reads < 2 ^ 64 → y.reads ≡ min (x.reads + 1) (2 ^ 64 - 1) → ReadsCounts (plain_meaning x) (plain_meaning y)
+reads_counts x y e fits more = record { stays = stays_noted x y e; stops = refl; reads = (at_most x.reads y.reads fits more).0; acting = ap (λ (z : PlainWorld). z.acting) e }
+
+none_behind : (x : PlainWorld) → IsPlain x → NoneLess x.actors.items x.acting.actor.count → NoneBehind (plain_meaning x)
+none_behind x is none d inside other =
+    let w = x.work.now in
+    let there = actor_inside w x is.stands (record { 0 = d }) inside in
+    let a = get_or x.actors.items d x.acting.actor in
+    let at = slice_get-get_or x.actors.items d x.acting.actor there in
+    let same = (is.stands.actors.each d a at).count in
+    let own = none d a at in
+    let n = (cpu_of (told w x) d).count in
+    (n, (let z : x.acting.actor.count ≤ n = omega (arith, own, same) in z), (let z : nat_le n n ≡ true = grind (arith, nat_tests) in z))
+
+one_behind : (x y : PlainWorld) (b : Behind) → IsPlain x → y ≡ record x { reads = y.reads; last = y.last } → x.reads < 2 ^ 64 → y.reads ≡ min (x.reads + 1) (2 ^ 64 - 1) → y.last ≡ Some b
+    → IsLess x.actors.items x.acting.actor.count b → IsBehind (plain_meaning x) (plain_meaning y) b
+one_behind x y b is e fits more last less =
+    let w = x.work.now in
+    let of = is.stands.actors.each less.index less.actor less.there in
+    let index : b.cpu.0 ≡ less.index = ap (λ (c : CpuId). c.0) less.cpu ∙ of.cpu in
+    let within = slice_get_within x.actors.items less.index less.actor less.there in
+    let many = is.stands.actors.many in
+    let cpus = (fit_reached w (length x.entries.items) (told w x) (reached w x is.stands)).fits.cpus in
+    record {
+      less = less.less;
+      rises = at_most x.reads y.reads fits more;
+      last = ap last_of last;
+      there = omega (arith, index, within, many, cpus);
+      own = λ t. less.same ∙ of.count ∙ ap (λ k. (cpu_of (told w x) k).count) (sym index);
+    }
+
+pub finds : (x y : PlainWorld) (r : Option Behind) → IsPlain x → y ≡ record x { reads = y.reads; last = y.last } → x.reads < 2 ^ 64 → y.reads ≡ min (x.reads + 1) (2 ^ 64 - 1) → y.last ≡ r
+    → MatchOption r (NoneLess x.actors.items x.acting.actor.count) (IsLess x.actors.items x.acting.actor.count) → Finds (plain_meaning x) (plain_meaning y) r
+finds x y None is e fits more last none = subst (λ z. NoneBehind (plain_meaning z)) (sym e) (none_behind x is none)
+finds x y (Some b) is e fits more last less = one_behind x y b is e fits more last less

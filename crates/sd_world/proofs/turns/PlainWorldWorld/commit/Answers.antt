@@ -1,0 +1,38 @@
+use Rattle.std.proofs.Common.{◌≡◌, ◌++◌, ◌∷◌, [], length, refl, sym, ap, ◌∙◌, subst, arith}
+use Rattle.std.specs.Prelude.{vec_len}
+use Rattle.std.proofs.lemmas.List.{append-nil}
+use Rattle.sd_types.specs.declared.works.Work.{Work}
+use Rattle.sd_world.specs.Plain.{Stands, last_of}
+use Rattle.sd_world.proofs.WorldLemmas.{begins_same, plain_good}
+use Rattle.sd_world.proofs.turns.PlainWorldWorld.commit.Goals as goal
+
+pub returns-clause-good : goal.returns-clause-good
+returns-clause-good c =
+    let y = c.make.new.self in
+    plain_good y (subst (λ (w : Work). Stands w y) (c.requires.can.work ∙ sym (ap (λ b. b.now) c.make.ensures.rest.0)) c.make.ensures.stands)
+
+pub returns-clause-commits : goal.returns-clause-commits
+returns-clause-commits c =
+    let x = c.args.self.now in
+    let es = x.entries.items in
+    let many : vec_len x.entries ≡ length es = grind arith in
+    let number : length es ≡ c.len-number.result = sym many ∙ sym c.len-number.ensures in
+    let log = c.make.ensures.entries ∙ ap (λ k. es ++ record { number = k; cpu = x.acting.actor.cpu; event = c.args.event; hints = c.args.hints } ∷ []) number in
+    record {
+      run = es;
+      made = record {
+        begins = begins_same es;
+        still = λ e. refl;
+        number = number;
+        step = c.requires.can.makes es c.requires.good.good.stands;
+        log = log;
+        after = ([], log ∙ sym (append-nil _));
+        after_still = λ e. log;
+      };
+      quiet = record { stops = refl; reads = c.make.ensures.rest.1; last = ap last_of c.make.ensures.rest.2 };
+      table = refl;
+      work = ap (λ b. b.now) c.make.ensures.rest.0;
+      alone = refl;
+      all = refl;
+      cpu = c.make.ensures.cpu;
+    }
