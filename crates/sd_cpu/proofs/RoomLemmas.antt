@@ -19,7 +19,7 @@ use Rattle.sd_shown.specs.Standing.{home_at, home_of, list_of}
 use Rattle.sd_homes.specs.declared.home.Home.{Home}
 use Rattle.sd_homes.specs.Families.{home_id, same_home}
 use Rattle.sd_hand.specs.Acting.{has_part}
-use Rattle.sd_hand.specs.Hands.{AreApart, IsHeld, IsIn, has_thread, held}
+use Rattle.sd_hand.specs.Hands.{AreApart, IsHeld, IsIn, has_thread, held, how_many_held}
 use Rattle.sd_hand.proofs.GuideLemmas.{stands_guessed}
 use Rattle.sd_hand.proofs.MoveLemmas.{stands_at, taken}
 use Rattle.sd_hand.proofs.SlotLemmas.{same_home_self, same_home_true, stands_has}
@@ -27,7 +27,7 @@ use Rattle.sd_footprint.specs.Homes.{IsOneOf, LiesIn, TakesFour, home_in}
 use Rattle.sd_footprint.specs.There.{IsThere}
 use Rattle.sd_footprint.proofs.FewHomes.{takes_four}
 use Rattle.sd_footprint.proofs.TouchedThere.{parts_there}
-use Rattle.sd_world.specs.Worlds.{Gains, IsGood, MayStand, Meaning, actor_of, after_run, how_many_held, now, slots_of}
+use Rattle.sd_world.specs.Worlds.{Gains, IsGood, MayStand, Meaning, actor_of, after_run, now, slots_of}
 use Rattle.sd_cpu.specs.Seeking.{CanFetch, HoldsFor, HoldsToMake, HomeHas, IsSought, IsWanted}
 use Rattle.sd_cpu.proofs.MeaningLemmas.{may_gain}
 

@@ -26,9 +26,9 @@ use Rattle.sd_step.specs.Touched.{after_parts}
 use Rattle.sd_hand.specs.declared.acting.Acting.{Acting}
 use Rattle.sd_hand.specs.Acting.{IsShown, has_part, the_part}
 use Rattle.sd_homes.specs.declared.home.Home.{Home}
-use Rattle.sd_hand.specs.Hands.{IsHeld, held}
+use Rattle.sd_hand.specs.Hands.{IsHeld, held, how_many_held}
 use Rattle.sd_footprint.specs.Homes.{home_in}
-use Rattle.sd_world.specs.Worlds.{Holds, IsGood, MayStand, Meaning, Stays, actor_of, after_run, how_many_held, now, slots_of}
+use Rattle.sd_world.specs.Worlds.{Holds, IsGood, MayStand, Meaning, Stays, actor_of, after_run, now, slots_of}
 use Rattle.sd_cpu.specs.Has.{HasAll, ShowsOne}
 use Rattle.sd_cpu.specs.declared.seeking.Course.{Course}
 use Rattle.sd_cpu.specs.Seeking.{CanFetch, Fetches, GivesUp, HoldsFor, HoldsToMake, HoldsToRead, IsCourse, IsOnItsWay, IsReady, IsSought, IsWish, Looks, TellsCourse}

@@ -12,7 +12,8 @@ use Rattle.sd_full.specs.Runs.{serial_hints}
 use Rattle.sd_full.specs.Choosing.{hint_shown}
 use Rattle.sd_mdisp.specs.declared.reading.Reading.{Reading}
 use Rattle.sd_machine.specs.States.{cpu_of}
-use Rattle.sd_world.specs.Worlds.{AllHinted, Begins, how_many_held, slots_of, Made, Meaning, NoneBehind, Rises, actor_of, after_run, most_entries, now}
+use Rattle.sd_hand.specs.Hands.{how_many_held}
+use Rattle.sd_world.specs.Worlds.{AllHinted, Begins, slots_of, Made, Meaning, NoneBehind, Rises, actor_of, after_run, most_entries, now}
 use Rattle.sd_cpu.specs.declared.attempts.Turned.{Turned}
 use Rattle.sd_cpu.specs.declared.attempts.Turned.TheVariants.{Acted, Ticked, Behind, Finished}
 use Rattle.sd_cpu.specs.declared.attempts.Attempted.{Attempted}

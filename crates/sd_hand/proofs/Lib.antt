@@ -1,4 +1,5 @@
 pub mod ActLemmas
+pub mod CountLemmas
 pub mod FoundLemmas
 pub mod FrameLemmas
 pub mod GoLemmas

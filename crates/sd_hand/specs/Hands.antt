@@ -1,6 +1,6 @@
 -- The homes of a hand.
 -- Source: this project's own.
-use Rattle.std.specs.Prelude.{◌≡◌, ℕ, Bool, false, ◌||◌, ◌⊎◌, List, [], ◌∷◌, Option, Some, None, Result, MatchResult, if◌then◌else◌, slice_get, slice_set, ⊤}
+use Rattle.std.specs.Prelude.{◌≡◌, ℕ, ◌+◌, ◌≤◌, Bool, false, ◌||◌, ◌⊎◌, List, [], ◌∷◌, Option, Some, None, Result, MatchResult, if◌then◌else◌, length, slice_get, slice_set, ⊤}
 use Rattle.sd_types.specs.declared.numbers.HomeId.{HomeId}
 use Rattle.sd_types.specs.declared.numbers.ThreadId.{ThreadId}
 use Rattle.sd_store.specs.declared.parts.Part.{Part}
@@ -54,6 +54,12 @@ AreTaken [] = ⊤
 AreTaken (None ∷ hs) = ⊥
 AreTaken (Some h ∷ hs) = AreTaken hs
 
+-- in how many slots a home lies
+abbrev pub how_many_held : List (Option Home) → ℕ
+how_many_held [] = 0
+how_many_held (None ∷ hs) = how_many_held hs
+how_many_held (Some h ∷ hs) = how_many_held hs + 1
+
 -- one of the homes
 abbrev pub IsIn : Home → List (Option Home) → Type 0
 IsIn h [] = ⊥
@@ -65,6 +71,16 @@ abbrev pub AreApart : List (Option Home) → Type 0
 AreApart [] = ⊤
 AreApart (None ∷ hs) = AreApart hs
 AreApart (Some h ∷ hs) = (held (home_id h) hs ≡ None) × AreApart hs
+
+-- a home lies in each slot, of which there are four at least
+pub record HasNoRoom (hs : List (Option Home)) : Type 0 where
+  pub four : 4 ≤ length hs
+  pub all : how_many_held hs ≡ length hs
+
+-- the slots of a hand: four at least, for a processor never needs more homes at once
+pub record AreSlots (hs : List (Option Home)) : Type 0 where
+  pub apart : AreApart hs
+  pub four : 4 ≤ length hs
 
 -- one of them has the thread
 abbrev pub slot_has : ℕ → Option Home → Bool

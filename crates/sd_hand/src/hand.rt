@@ -1,6 +1,6 @@
 //! The hand: the homes that a processor holds, or all homes of a run.
 
-ghost use Rattle.std.specs.Prelude.{◌≡◌, ◌⊎◌, ◌<◌, ◌%◌, [], ◌∷◌, None, Some, false, length, slice_get, IfErr, IfOk, IfSome, MatchOption};
+ghost use Rattle.std.specs.Prelude.{◌≡◌, ◌⊎◌, ◌+◌, ◌<◌, ◌≤◌, ◌%◌, [], ◌∷◌, None, Some, false, length, slice_get, IfErr, IfNone, IfOk, IfSome, MatchOption};
 ghost use Rattle.std.specs.Option.{option_copied};
 ghost use Rattle.sd_types.specs.declared.numbers.HomeId.TheVariants.{Chain, Cpu, RealTime, Sleepers};
 ghost use Rattle.sd_shown.specs.Standing.{home_at};
@@ -10,7 +10,7 @@ ghost use Rattle.sd_store.specs.Bodies.{changed};
 ghost use Rattle.sd_homes.specs.Bodies.{CanChangeThread};
 ghost use Rattle.sd_homes.specs.Homes.{with_body_of};
 ghost use Rattle.sd_hand.specs.Steps.{RunsChanged};
-ghost use Rattle.sd_hand.specs.Hands.{AreApart, AreTaken, Asks, HoldsMore, IsHeld, IsNoSlot, IsSlot, IsThere, Seeks, StandsIn, StandsInSlot, edit, has_thread, held, is_at, slot_has};
+ghost use Rattle.sd_hand.specs.Hands.{AreApart, AreSlots, AreTaken, Asks, HasNoRoom, HoldsMore, IsHeld, IsNoSlot, IsSlot, IsThere, Seeks, StandsIn, StandsInSlot, edit, has_thread, held, how_many_held, is_at, slot_has};
 
 use crate::guide::Guide;
 use sd_homes::{Home, IsFull, Traveller, home_at, same_home};
@@ -30,13 +30,13 @@ pub struct Hand {
 }
 
 impl Model for Hand {
-    ghost use Rattle.sd_hand.specs.Hands.{AreApart, HandSlots};
+    ghost use Rattle.sd_hand.specs.Hands.{AreSlots, HandSlots};
 
     ghost Value = { HandSlots };
 
     ghost view = { λ h. record { slots = h.slots.items } };
 
-    ghost invariant = { λ h. AreApart h.slots.items };
+    ghost invariant = { λ h. AreSlots h.slots.items };
 }
 
 #[inline(always)]
@@ -110,6 +110,18 @@ fn free_in(slots: &[Option<Home>]) -> Option<usize>
     None
 }
 
+/// The number of the first of these homes. `None` exactly where there is none.
+fn any_in(slots: &[Option<Home>]) -> Option<HomeId>
+    ensures { MatchOption result (how_many_held slots.now ≡ 0) (λ k. IsHeld k slots.now) }
+{
+    for i in 0..slots.len() {
+        if let Some(home) = &slots[i] {
+            return Some(home.id());
+        }
+    }
+    None
+}
+
 impl Hand {
     /// A hand that holds nothing, with room for four homes.
     pub fn new(alloc: Global) -> Result<Hand, AllocError>
@@ -123,18 +135,19 @@ impl Hand {
         Ok(Hand::of(slots, Guide::new(alloc)))
     }
 
-    /// These homes, of which no two have one number.
+    /// These homes, of which no two have one number, in four slots or more.
     pub fn of(slots: Vec<Option<Home>>, guide: Guide) -> Hand
-        requires apart { AreApart slots.items }
+        requires slots { AreSlots slots.items }
         ensures { result.slots ≡ slots.items }
     {
         Hand { slots, guide }
     }
 
-    /// Takes a home, unless one with its number is held or four are: then it is given back.
+    /// Takes a home, unless one with its number is held or a home lies in each slot: then it is given back.
     pub fn hold(&mut self, home: Home) -> Result<(), Home>
         ensures held { IfOk result (λ _. HoldsMore self.old.slots home self.new.slots) }
-        ensures refused { IfErr result (λ h. (h ≡ home) × (self.new.slots ≡ self.old.slots) × (IsHeld (home_id home) self.old.slots ⊎ AreTaken self.old.slots)) }
+        ensures count { IfOk result (λ _. (how_many_held self.new.slots ≡ how_many_held self.old.slots + 1) × (length self.new.slots ≡ length self.old.slots)) }
+        ensures refused { IfErr result (λ h. (h ≡ home) × (self.new.slots ≡ self.old.slots) × (IsHeld (home_id home) self.old.slots ⊎ HasNoRoom self.old.slots)) }
     {
         match self.slot_of(home.id()) {
             Some(_) => Err(home),
@@ -146,6 +159,25 @@ impl Hand {
                 }
             },
         }
+    }
+
+    /// Gives out the home with this number. `None` exactly where it is not held.
+    pub fn release(&mut self, k: HomeId) -> Option<Home>
+        ensures none { IfNone result ((held k self.old.slots ≡ None) × (self.new.slots ≡ self.old.slots)) }
+        ensures some { IfSome result (λ h. (home_id h ≡ k) × HoldsMore self.new.slots h self.old.slots) }
+        ensures count { IfSome result (λ h. (how_many_held self.old.slots ≡ how_many_held self.new.slots + 1) × (length self.new.slots ≡ length self.old.slots)) }
+    {
+        match self.slot_of(k) {
+            None => None,
+            Some(i) => self.slots[i].take(),
+        }
+    }
+
+    /// The number of a home that is held. `None` exactly where none is.
+    pub fn any_home(&self) -> Option<HomeId>
+        ensures { MatchOption result (how_many_held self.now.slots ≡ 0) (λ k. IsHeld k self.now.slots) }
+    {
+        any_in(&self.slots)
     }
 
     /// The slot in which the home with this number lies.

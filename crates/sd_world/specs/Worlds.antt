@@ -30,7 +30,7 @@ use Rattle.sd_homes.specs.Families.{has, home_id, list_in}
 use Rattle.sd_homes.specs.Kinds.{IsListed}
 use Rattle.sd_hand.specs.declared.acting.Acting.{Acting}
 use Rattle.sd_hand.specs.Acting.{IsShown, has_part}
-use Rattle.sd_hand.specs.Hands.{HoldsMore, has_thread}
+use Rattle.sd_hand.specs.Hands.{HoldsMore, has_thread, how_many_held}
 use Rattle.sd_footprint.specs.There.{IsThere}
 use Rattle.sd_world.specs.declared.world.Take.{Take}
 use Rattle.sd_world.specs.declared.world.Take.TheVariants.{Taken, Busy}
@@ -90,12 +90,6 @@ pub record IsGood (m : Meaning) : Type 0 where
   pub cpu : (actor_of m).0 < m.work.cpus
   pub everything : m.all ≡ true → (h : List Entry) → MayStand m h → (p : Part) → IsThere (after_run m h) (actor_of m) p → has_part m.acting p ≡ true
   pub reached : (d n : ℕ) → m.counted d n ≡ true → (h : List Entry) → MayStand m h → n ≤ (cpu_of (after_run m h) d).count
-
--- how many homes are held
-abbrev pub how_many_held : List (Option Home) → ℕ
-how_many_held [] = 0
-how_many_held (None ∷ hs) = how_many_held hs
-how_many_held (Some h ∷ hs) = how_many_held hs + 1
 
 -- it did not fall, and it rose or stands at the greatest number
 abbrev pub Rises : ℕ → ℕ → Type 0

@@ -1,5 +1,6 @@
 use Rattle.std.proofs.Common.{◌-◌}
-use Rattle.sd_world.specs.Worlds.{how_many_held, slots_of}
+use Rattle.sd_hand.specs.Hands.{how_many_held}
+use Rattle.sd_world.specs.Worlds.{slots_of}
 use Rattle.sd_cpu.specs.Seeking.{HoldsToRead, Looks}
 use Rattle.sd_cpu.proofs.seeking.find_course.Given as goal
 

@@ -4,13 +4,13 @@ use Rattle.sd_record.specs.Records.{ThreadRecord}
 use Rattle.sd_store.specs.Bodies.{changed}
 use Rattle.sd_homes.specs.Bodies.{CanChangeThread}
 use Rattle.sd_homes.specs.Homes.{with_body_of}
-use Rattle.sd_hand.proofs.GuideLemmas.{apart_changed, slot_there}
+use Rattle.sd_hand.proofs.GuideLemmas.{slots_changed, slot_there}
 use Rattle.sd_hand.proofs.RunLemmas.{home_keeps, runs_changed}
 use Rattle.sd_hand.proofs.hand.Hand.change_running.Goals as goal
 
 pub invariant_of-self : goal.invariant_of-self
 invariant_of-self c =
-    apart_changed c.self.inside.slots.items c.in-Some.i c.in-Some-index_mut.home c.change_running.new.self c.index_mut.result.now c.self.invariant c.index_mut.ensures.value c.in-Some-index_mut.is
+    slots_changed c.self.inside.slots.items c.in-Some.i c.in-Some-index_mut.home c.change_running.new.self c.index_mut.result.now c.self.invariant c.index_mut.ensures.value c.in-Some-index_mut.is
     (home_keeps c.args.t.0 c.args.c (λ (r : ThreadRecord) (q : ThreadRecord). CanChangeThread c.args.work.now c.args.t.0 c.args.change r.body → q ≡ with_body_of (changed c.args.work.now c.args.t.0 c.args.change r.body) r)
     c.in-Some-index_mut.home c.change_running.new.self c.change_running.ensures)
 

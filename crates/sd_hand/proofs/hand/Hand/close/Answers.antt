@@ -1,12 +1,12 @@
 use Rattle.std.proofs.Common.{ap, ◌∙◌}
 use Rattle.sd_types.specs.declared.numbers.HomeId.TheVariants.{RealTime}
 use Rattle.sd_homes.specs.Families.{home_id, shut}
-use Rattle.sd_hand.proofs.GuideLemmas.{apart_changed, shut_keeps, slot_changed, slot_lost}
+use Rattle.sd_hand.proofs.GuideLemmas.{slots_changed, shut_keeps, slot_changed, slot_lost}
 use Rattle.sd_hand.proofs.hand.Hand.close.Goals as goal
 
 pub invariant_of-self : goal.invariant_of-self
 invariant_of-self c =
-    apart_changed c.self.inside.slots.items c.in-Some.i c.in-Some-index_mut.home c.close.new.self c.index_mut.result.now c.self.invariant c.index_mut.ensures.value c.in-Some-index_mut.is
+    slots_changed c.self.inside.slots.items c.in-Some.i c.in-Some-index_mut.home c.close.new.self c.index_mut.result.now c.self.invariant c.index_mut.ensures.value c.in-Some-index_mut.is
     (ap home_id c.close.ensures.shut ∙ shut_keeps c.args.c c.in-Some-index_mut.home)
 
 pub returns-in-Some-index_mut : goal.returns-in-Some-index_mut

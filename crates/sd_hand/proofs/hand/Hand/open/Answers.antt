@@ -1,14 +1,14 @@
 use Rattle.std.proofs.Common.{◌≡◌, ap, ◌∙◌}
 use Rattle.sd_types.specs.declared.numbers.HomeId.TheVariants.{RealTime}
 use Rattle.sd_homes.specs.Families.{home_id, opened}
-use Rattle.sd_hand.proofs.GuideLemmas.{apart_changed, held_here, kept_here, opened_keeps, slot_changed, slot_lost}
+use Rattle.sd_hand.proofs.GuideLemmas.{slots_changed, held_here, kept_here, opened_keeps, slot_changed, slot_lost}
 use Rattle.sd_hand.proofs.SlotLemmas.{done, either, refused}
 use Rattle.sd_hand.proofs.hand.Hand.open.Goals as goal
 
 pub invariant_of-self : goal.invariant_of-self
 invariant_of-self c =
     let home = c.in-Some-index_mut.home in
-    apart_changed c.self.inside.slots.items c.in-Some.i home c.open.new.self c.index_mut.result.now c.self.invariant c.index_mut.ensures.value c.in-Some-index_mut.is
+    slots_changed c.self.inside.slots.items c.in-Some.i home c.open.new.self c.index_mut.result.now c.self.invariant c.index_mut.ensures.value c.in-Some-index_mut.is
     (either c.open.result _ _ (home_id c.open.new.self ≡ home_id home) (λ made. ap home_id made ∙ opened_keeps c.args.c home) (λ full. ap home_id full.1) c.open.ensures.opened c.open.ensures.full)
 
 pub returns-in-Some-index_mut-clause-opened : goal.returns-in-Some-index_mut-clause-opened

@@ -3,13 +3,13 @@ use Rattle.std.specs.Prelude.{slice_set}
 use Rattle.sd_shown.specs.Standing.{insert_at}
 use Rattle.sd_homes.specs.Families.{IsWhole, home_id, list_in, putting}
 use Rattle.sd_hand.specs.Hands.{HandSlots, edit, held}
-use Rattle.sd_hand.proofs.GuideLemmas.{apart_changed, same_held, slot_changed, slot_lost, slot_there}
+use Rattle.sd_hand.proofs.GuideLemmas.{slots_changed, same_held, slot_changed, slot_lost, slot_there}
 use Rattle.sd_hand.proofs.HomeLemmas.{keeps-with_list}
 use Rattle.sd_hand.proofs.hand.Hand.put.Goals as goal
 
 pub invariant_of-self-in-Some-index_mut : goal.invariant_of-self-in-Some-index_mut
 invariant_of-self-in-Some-index_mut c =
-    apart_changed c.self.inside.slots.items c.in-Some.i c.in-Some-index_mut.home c.put.new.self c.index_mut.result.now c.self.invariant c.index_mut.ensures.value c.in-Some-index_mut.is
+    slots_changed c.self.inside.slots.items c.in-Some.i c.in-Some-index_mut.home c.put.new.self c.index_mut.result.now c.self.invariant c.index_mut.ensures.value c.in-Some-index_mut.is
     (ap home_id c.put.ensures ∙ keeps-with_list c.args.at (λ h. insert_at c.args.at c.args.t (list_in h c.args.at)) c.in-Some-index_mut.home)
 
 pub returns-in-Some-index_mut-clause-rest : goal.returns-in-Some-index_mut-clause-rest

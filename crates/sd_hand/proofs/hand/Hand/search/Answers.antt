@@ -5,4 +5,4 @@ use Rattle.sd_hand.proofs.hand.Hand.search.Goals as goal
 
 pub returns-in-None : goal.returns-in-None
 returns-in-None c =
-    absurd (stands_found c.args.t.0 c.in-Ok.at c.args.self.now.slots (subst (λ (x : HandSlots). AreApart x.slots) c.self.view_is c.self.invariant) c.in-Ok.ensures c.in-None.ensures)
+    absurd (stands_found c.args.t.0 c.in-Ok.at c.args.self.now.slots (subst (λ (x : HandSlots). AreApart x.slots) c.self.view_is c.self.invariant.apart) c.in-Ok.ensures c.in-None.ensures)

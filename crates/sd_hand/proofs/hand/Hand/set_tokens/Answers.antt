@@ -3,12 +3,12 @@ use Rattle.std.specs.Prelude.{slice_set}
 use Rattle.sd_homes.specs.Families.{counting, home_id}
 use Rattle.sd_hand.proofs.PartLemmas.{counting_keeps}
 use Rattle.sd_hand.specs.Hands.{edit}
-use Rattle.sd_hand.proofs.GuideLemmas.{apart_changed, slot_changed, slot_lost}
+use Rattle.sd_hand.proofs.GuideLemmas.{slots_changed, slot_changed, slot_lost}
 use Rattle.sd_hand.proofs.hand.Hand.set_tokens.Goals as goal
 
 pub invariant_of-self : goal.invariant_of-self
 invariant_of-self c =
-    apart_changed c.self.inside.slots.items c.in-Some.i c.in-Some-index_mut.home c.set_tokens.new.self c.index_mut.result.now c.self.invariant c.index_mut.ensures.value c.in-Some-index_mut.is
+    slots_changed c.self.inside.slots.items c.in-Some.i c.in-Some-index_mut.home c.set_tokens.new.self c.index_mut.result.now c.self.invariant c.index_mut.ensures.value c.in-Some-index_mut.is
     (ap home_id c.set_tokens.ensures ∙ counting_keeps c.args.k.0 c.args.n c.in-Some-index_mut.home)
 
 pub returns-in-Some-index_mut : goal.returns-in-Some-index_mut

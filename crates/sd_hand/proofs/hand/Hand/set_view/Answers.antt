@@ -2,12 +2,12 @@ use Rattle.std.proofs.Common.{ap, ◌∙◌}
 use Rattle.sd_types.specs.declared.numbers.HomeId.TheVariants.{Cpu}
 use Rattle.sd_homes.specs.Families.{home_id, viewing}
 use Rattle.sd_hand.proofs.PartLemmas.{viewing_keeps}
-use Rattle.sd_hand.proofs.GuideLemmas.{apart_changed, slot_changed, slot_lost}
+use Rattle.sd_hand.proofs.GuideLemmas.{slots_changed, slot_changed, slot_lost}
 use Rattle.sd_hand.proofs.hand.Hand.set_view.Goals as goal
 
 pub invariant_of-self : goal.invariant_of-self
 invariant_of-self c =
-    apart_changed c.self.inside.slots.items c.in-Some.i c.in-Some-index_mut.home c.set_view.new.self c.index_mut.result.now c.self.invariant c.index_mut.ensures.value c.in-Some-index_mut.is
+    slots_changed c.self.inside.slots.items c.in-Some.i c.in-Some-index_mut.home c.set_view.new.self c.index_mut.result.now c.self.invariant c.index_mut.ensures.value c.in-Some-index_mut.is
     (ap home_id c.set_view.ensures ∙ viewing_keeps c.args.view c.in-Some-index_mut.home)
 
 pub returns-in-Some-index_mut : goal.returns-in-Some-index_mut

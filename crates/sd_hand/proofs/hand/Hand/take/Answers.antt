@@ -4,13 +4,13 @@ use Rattle.sd_boxq.specs.Order.{drop_id}
 use Rattle.sd_shown.specs.Standing.{id_of}
 use Rattle.sd_homes.specs.Families.{home_id, list_in, taken_from, taking}
 use Rattle.sd_hand.specs.Hands.{edit, held}
-use Rattle.sd_hand.proofs.GuideLemmas.{apart_changed, held_here, slot_changed}
+use Rattle.sd_hand.proofs.GuideLemmas.{slots_changed, held_here, slot_changed}
 use Rattle.sd_hand.proofs.HomeLemmas.{keeps-with_list}
 use Rattle.sd_hand.proofs.hand.Hand.take.Goals as goal
 
 pub invariant_of-self : goal.invariant_of-self
 invariant_of-self c =
-    apart_changed c.self.inside.slots.items c.in-Some.i c.in-Some-index_mut.home c.take.new.self c.index_mut.result.now c.self.invariant c.index_mut.ensures.value c.in-Some-index_mut.is
+    slots_changed c.self.inside.slots.items c.in-Some.i c.in-Some-index_mut.home c.take.new.self c.index_mut.result.now c.self.invariant c.index_mut.ensures.value c.in-Some-index_mut.is
     (ap home_id c.take.ensures.rest ∙ keeps-with_list c.args.from (λ h. drop_id id_of c.args.t.0 (list_in h c.args.from)) c.in-Some-index_mut.home)
 
 pub returns-in-Some-index_mut-clause-taken : goal.returns-in-Some-index_mut-clause-taken

@@ -1,0 +1,13 @@
+use Rattle.sd_hand.proofs.CountLemmas.{gives_out, slots_without}
+use Rattle.sd_hand.proofs.hand.Hand.release.Goals as goal
+
+pub invariant_of-self : goal.invariant_of-self
+invariant_of-self c = slots_without c.self.inside.slots.items c.in-Some.i c.take.new.self c.take.ensures.after c.self.invariant
+
+pub returns-in-Some-clause-some : goal.returns-in-Some-clause-some
+returns-in-Some-clause-some c =
+    (gives_out c.args.self.now c.self.inside.slots.items c.args.k c.in-Some.i c.take.result c.index_mut.result.now c.take.new.self c.self.view_is c.self.invariant c.in-Some.ensures.slot c.take.ensures.value c.index_mut.ensures.value c.take.ensures.after).some
+
+pub returns-in-Some-clause-count : goal.returns-in-Some-clause-count
+returns-in-Some-clause-count c =
+    (gives_out c.args.self.now c.self.inside.slots.items c.args.k c.in-Some.i c.take.result c.index_mut.result.now c.take.new.self c.self.view_is c.self.invariant c.in-Some.ensures.slot c.take.ensures.value c.index_mut.ensures.value c.take.ensures.after).count
