@@ -165,6 +165,7 @@ impl Hand {
     pub fn release(&mut self, k: HomeId) -> Option<Home>
         ensures none { IfNone result ((held k self.old.slots ≡ None) × (self.new.slots ≡ self.old.slots)) }
         ensures some { IfSome result (λ h. (home_id h ≡ k) × HoldsMore self.new.slots h self.old.slots) }
+        ensures apart { AreApart self.new.slots }
         ensures count { IfSome result (λ h. (how_many_held self.old.slots ≡ how_many_held self.new.slots + 1) × (length self.new.slots ≡ length self.old.slots)) }
     {
         match self.slot_of(k) {

@@ -11,3 +11,6 @@ returns-in-Some-clause-some c =
 pub returns-in-Some-clause-count : goal.returns-in-Some-clause-count
 returns-in-Some-clause-count c =
     (gives_out c.args.self.now c.self.inside.slots.items c.args.k c.in-Some.i c.take.result c.index_mut.result.now c.take.new.self c.self.view_is c.self.invariant c.in-Some.ensures.slot c.take.ensures.value c.index_mut.ensures.value c.take.ensures.after).count
+
+pub returns-in-Some-clause-apart : goal.returns-in-Some-clause-apart
+returns-in-Some-clause-apart c = (slots_without c.self.inside.slots.items c.in-Some.i c.take.new.self c.take.ensures.after c.self.invariant).apart
