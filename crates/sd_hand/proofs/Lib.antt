@@ -12,6 +12,7 @@ pub mod PartLemmas
 pub mod RunLemmas
 pub mod ShownLemmas
 pub mod SlotLemmas
+pub mod StandLemmas
 pub mod StepLemmas
 pub mod TellLemmas
 pub mod WalkLemmas
