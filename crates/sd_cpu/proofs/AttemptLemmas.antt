@@ -31,12 +31,12 @@ use Rattle.sd_store.specs.Parts.{IsAmong}
 use Rattle.sd_step.specs.Touched.{after_parts}
 use Rattle.sd_hand.specs.declared.acting.Acting.{Acting}
 use Rattle.sd_hand.specs.Acting.{has_part}
-use Rattle.sd_world.proofs.WorldLemmas.{begins_same}
+use Rattle.sd_world.proofs.WorldLemmas.{begins_same, begins_then}
 use Rattle.sd_cpu.specs.declared.attempts.Turned.{Turned}
 use Rattle.sd_cpu.specs.declared.attempts.Turned.TheVariants.{Acted, Ticked, Behind, Finished}
 use Rattle.sd_cpu.specs.Attempts.{Acts, AreRead, Enters, Hinders, IsHindered, MayNotTick, MayTick, Refuses, Turns}
 use Rattle.sd_cpu.specs.Seeking.{Comes, FindsEvent, GivesUp, HoldsToMake, IsCourse, IsOnItsWay, IsReady, Looks}
-use Rattle.sd_cpu.proofs.MeaningLemmas.{begins_then, enters_from, hindered, idles, idles_from, looks_same, looks_still, may_same, one_from, rises_then}
+use Rattle.sd_cpu.proofs.MeaningLemmas.{enters_from, hindered, idles, idles_from, looks_same, looks_still, may_same, one_from, rises_then}
 use Rattle.sd_cpu.proofs.RoomLemmas.{reached_by}
 
 which_self : (a : Which) → same_which a a ≡ true

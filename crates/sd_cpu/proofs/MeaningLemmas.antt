@@ -19,7 +19,7 @@ use Rattle.sd_shown.specs.Standing.{look_of}
 use Rattle.sd_hand.specs.Hands.{AreApart, held}
 use Rattle.sd_hand.proofs.SlotLemmas.{same_home_self, same_home_true}
 use Rattle.sd_world.specs.Worlds.{Begins, Commits, Gains, IsGood, IsQuiet, MayStand, Meaning, ReadsCounts, Rises, Stays, actor_of, after_run, entry_of, most_entries, now, slots_of}
-use Rattle.sd_world.proofs.WorldLemmas.{quiet_same, stays_same}
+use Rattle.sd_world.proofs.WorldLemmas.{begins_then, quiet_same, quiet_then, stays_same, stays_then}
 use Rattle.sd_cpu.specs.declared.attempts.Attempted.{Attempted}
 use Rattle.sd_cpu.specs.declared.attempts.Turned.{Turned}
 use Rattle.sd_cpu.specs.declared.attempts.Turned.TheVariants.{Acted, Ticked, Behind, Finished}
@@ -28,31 +28,11 @@ use Rattle.sd_types.specs.declared.events.Stop.{Stop}
 use Rattle.sd_types.specs.declared.events.Stop.TheVariants.{Full, Memory}
 use Rattle.sd_cpu.specs.Seeking.{GivesUp, Looks}
 
-pub begins_then : (a b c : List Entry) → Begins a b → Begins b c → Begins a c
-begins_then a b c (x, e) (y, f) = (x ++ y, f ∙ ap (λ z. z ++ y) e ∙ append_assoc a x y)
-
 pub rises_then : (a b c : ℕ) → a ≡ b → Rises b c → Rises a c
 rises_then a b c e r = subst (λ x. Rises x c) (sym e) r
 
 pub same_cpu : (a b : Actor) → a ≡ b → a.cpu ≡ b.cpu
 same_cpu a b e = ap (λ (x : Actor). x.cpu) e
-
-pub stays_then : (m m' m'' : Meaning) → Stays m m' → Stays m' m'' → Stays m m''
-stays_then m m' m'' a b = record {
-  table = b.table ∙ a.table;
-  work = b.work ∙ a.work;
-  alone = b.alone ∙ a.alone;
-  all = b.all ∙ a.all;
-  actor = b.actor ∙ a.actor;
-  log = b.log ∙ a.log;
-  begins = begins_then m.seen m'.seen m''.seen a.begins b.begins;
-  still = λ e. b.still (a.alone ∙ e) ∙ a.still e;
-  hinted = λ c which n h. b.hinted c which n (a.hinted c which n h);
-  counted = λ c n h. b.counted c n (a.counted c n h);
-}
-
-pub quiet_then : (m m' m'' : Meaning) → IsQuiet m m' → IsQuiet m' m'' → IsQuiet m m''
-quiet_then m m' m'' a b = record { stops = b.stops ∙ a.stops; reads = b.reads ∙ a.reads; last = b.last ∙ a.last }
 
 pub looks_same : (m : Meaning) → Looks m m
 looks_same m = record { stays = stays_same m; quiet = quiet_same m; narrows = λ h may. may }

@@ -2,6 +2,7 @@ pub mod ActorLemmas
 pub mod BareLemmas
 pub mod ComeLemmas
 pub mod GivenLemmas
+pub mod HintLemmas
 pub mod NumberLemmas
 pub mod OtherHomes
 pub mod PlainLemmas

@@ -1,7 +1,7 @@
 -- A run on homes, all of which are there: nothing that a processor needs is lacking, and what it makes is a step.
-use Rattle.std.proofs.Common.{◌≡◌, ◌≢◌, ℕ, ◌+◌, ◌<◌, ◌≤◌, ◌⊎◌, true, false, ◌==◌, List, [], ◌∷◌, ◌++◌, length, is_some, set, slice_get, take, Option, Some, None, IfSome, option_map, Result, Ok, Err, refl, sym, ap, ◌∙◌, subst, inl, inr, arith, length-append}
+use Rattle.std.proofs.Common.{◌≡◌, ◌≢◌, ℕ, ◌+◌, ◌<◌, ◌≤◌, ◌⊎◌, true, ◌==◌, List, [], ◌∷◌, ◌++◌, length, is_some, set, slice_get, take, Option, Some, None, Result, Ok, Err, refl, sym, ap, ◌∙◌, subst, inl, inr, arith, length-append}
 use Rattle.std.specs.Prelude.{IfOk}
-use Rattle.std.proofs.lemmas.Bool.{cases_eq, cases_lt, eq-eqb, eqb-true, false≢true}
+use Rattle.std.proofs.lemmas.Bool.{cases_eq, cases_lt, eq-eqb, eqb-true}
 use Rattle.std.proofs.lemmas.List.{get_or-set_same, get_or-set_other, length-set, take-append-le}
 use Rattle.std.proofs.Math.Seq.{take-append_seam, take-length}
 use Rattle.std.proofs.lemmas.Option.{slice_get-get_or, slice_get_within, get_or_from_slice_get}
@@ -11,21 +11,18 @@ use Rattle.sd_types.specs.declared.numbers.HomeId.TheVariants as home
 use Rattle.sd_types.specs.declared.events.Entry.{Entry}
 use Rattle.sd_types.specs.declared.events.Event.{Event}
 use Rattle.sd_types.specs.declared.events.Hints.{Hints}
-use Rattle.sd_types.specs.declared.numbers.ThreadId.{ThreadId}
 use Rattle.sd_types.specs.declared.works.Work.{Work}
 use Rattle.sd_machine.specs.declared.states.State.{State}
 use Rattle.sd_machine.specs.Opening.{opening}
 use Rattle.sd_machine.specs.States.{cpu_of, thread_of}
 use Rattle.sd_full.specs.Events.{after, next}
-use Rattle.sd_full.specs.Threads.{priority_of}
 use Rattle.sd_full.specs.Runs.{IsReached, IsRun, final, state_at}
 use Rattle.sd_full.proofs.RunLemmas.{IsRun-append, IsRunFrom-one, final-append, final-push}
 use Rattle.sd_full.proofs.ShapeLemmas.{after_shape}
-use Rattle.sd_sound.proofs.FineLemmas.{sound_law}
 use Rattle.sd_sound.proofs.Whole.{fit_reached}
 use Rattle.sd_store.specs.declared.parts.Part.{Part}
 use Rattle.sd_store.specs.declared.parts.Part.TheVariants as part
-use Rattle.sd_store.specs.Parts.{IsAmong, cpu_part, found_parts, number, thread_part}
+use Rattle.sd_store.specs.Parts.{IsAmong, cpu_part}
 use Rattle.sd_step.specs.Touched.{after_parts}
 use Rattle.sd_shown.specs.Numbers.{IsHomeOf}
 use Rattle.sd_shown.specs.Standing.{home_at, home_of, list_of}
@@ -45,7 +42,9 @@ use Rattle.sd_footprint.proofs.TouchedThere.{parts_there}
 use Rattle.sd_footprint.proofs.RanLast.{reached_changes}
 use Rattle.sd_snapshot.specs.Told.{AreActorsOf, IsActorOf}
 use Rattle.sd_world.specs.declared.plain.PlainWorld.{PlainWorld}
-use Rattle.sd_world.specs.Plain.{HasStood, Stands, told}
+use Rattle.sd_world.specs.Entries.{CanEnter}
+use Rattle.sd_world.specs.Plain.{HasStood, Stands, StandsInRun, told}
+use Rattle.sd_world.specs.Worlds.{most_entries}
 use Rattle.sd_world.proofs.ComeLemmas.{one_list}
 
 some_true : {A : Type 0} (o : Option A) (a : A) → o ≡ Some a → is_some o ≡ true
@@ -86,11 +85,6 @@ module _ (w : Work) (x : PlainWorld) (st : Stands w x) where
       let actors = st.actors.many in
       omega (arith, there, many, actors)
 
-  -- every effective priority is below 160
-  pub below_all : (p : Option ℕ) (t : Option ThreadId) → p ≡ priority_of (told w x) (option_map number t) → IfSome p (λ n. n < 160)
-  below_all p None e = subst (λ o. IfSome o (λ n. n < 160)) (sym e) tt
-  below_all p (Some t) e = subst (λ o. IfSome o (λ n. n < 160)) (sym e) (sound_law w (length x.entries.items) (told w x) reached t.0).1
-
   -- the state that is told
   pub told_ok : {E : Type 0} (r : Result State E) (actors : List Actor) → AreActorsOf (told w x) actors
       → IfOk r (λ z. (n : ℕ) (s : State) → IsReached w n s → AreAllHomes n s x.acting.hand.slots → AreActorsOf s actors → z ≡ s) → IfOk r (λ z. z ≡ told w x)
@@ -108,20 +102,23 @@ module _ (w : Work) (x : PlainWorld) (st : Stands w x) where
   turn_there : (hints : Option Hints) → PartsAreThere w (told w x) x.acting.actor.cpu hints
   turn_there hints = parts_there w (length x.entries.items) (told w x) x.acting.actor.cpu hints reached cpu_inside
 
-  pub not_touched : (hints : Option Hints) (e : Event) (q : Part) → next w (told w x) x.acting.actor.cpu hints ≡ Some e → IsAmong q (after_parts w (told w x) x.acting.actor.cpu e)
-      → has_part x.acting q ≡ false → ⊥
-  not_touched hints e q is among lacks = false≢true (sym lacks ∙ has_there q ((turn_there hints).touching e is q among))
+  pub in_run : StandsInRun x.acting
+  in_run = record { work = w; number = length x.entries.items; state = told w x; reached = reached; shown = shown }
 
-  pub not_cpu : (d : CpuId) (q : Part) → d.0 < w.cpus → IsAmong q (cpu_part d ∷ []) → has_part x.acting q ≡ false → ⊥
-  not_cpu d q there (inl is) lacks =
-      let inside : d.0 < length (told w x).cpus = subst (λ m. d.0 < m) (sym (fit_reached w (length x.entries.items) (told w x) reached).fits.cpus) there in
-      false≢true (sym lacks ∙ (ap (has_part x.acting) is ∙ has_home (home.Cpu d) inside))
-  not_cpu d q there (inr none) lacks = none
+  -- the home of a processor
+  pub has_cpu : (d : CpuId) → d.0 < w.cpus → has_part x.acting (cpu_part d) ≡ true
+  has_cpu d there = has_home (home.Cpu d) (subst (λ m. d.0 < m) (sym (fit_reached w (length x.entries.items) (told w x) reached).fits.cpus) there)
 
-  pub not_found : (t : Option ThreadId) (q : Part) → IfSome t (λ u. has_part x.acting (thread_part u) ≡ true) → IsAmong q (found_parts t) → has_part x.acting q ≡ false → ⊥
-  not_found None q has none lacks = none
-  not_found (Some u) q has (inl is) lacks = false≢true (sym lacks ∙ (ap (has_part x.acting) is ∙ has))
-  not_found (Some u) q has (inr none) lacks = none
+  -- an entry may be made
+  pub can_enter : (e : Event) (hints : Option Hints) → length x.entries.items < most_entries → next w (told w x) x.acting.actor.cpu hints ≡ Some e → CanEnter w x.acting x.actors.items x.entries.items e hints
+  can_enter e hints few is = record {
+    run = st.run;
+    few = few;
+    shown = shown;
+    next = is;
+    holds = λ p among. has_there p ((turn_there hints).touching e is p among);
+    there = subst (λ m. x.acting.actor.cpu.0 < m) (sym st.actors.many) st.inside;
+  }
 
 -- the state to which more entries lead
 pub told_more : (w : Work) (x y : PlainWorld) (es : List Entry) → y.entries.items ≡ x.entries.items ++ es → told w y ≡ final w (told w x) es
@@ -219,14 +216,18 @@ module _ (w : Work) (x y : PlainWorld) (e : Event) (hints : Option Hints) (st : 
   same_homes (home.Chain i) = refl
   same_homes (home.Sleepers i) = refl
 
-  held_still : has_part y.acting ≡ has_part x.acting → (k : HomeId) → is_some (held k y.acting.hand.slots) ≡ is_some (held k x.acting.hand.slots)
-  held_still has k = ap (λ f. f (part.Home k)) has
+  -- it has the parts that it had
+  abbrev pub HasAsBefore : Type 0
+  HasAsBefore = (p : Part) → has_part y.acting p ≡ has_part x.acting p
+
+  held_still : HasAsBefore → (k : HomeId) → is_some (held k y.acting.hand.slots) ≡ is_some (held k x.acting.hand.slots)
+  held_still has k = has (part.Home k)
 
   as_held : (o : Option Home) → is_some o ≡ true → (h : Home) × (o ≡ Some h)
   as_held None e = absurd cc
   as_held (Some h) e = (h, refl)
 
-  all_still : IsShown y.acting (length x.entries.items + 1) new → has_part y.acting ≡ has_part x.acting → AreAllHomes (length x.entries.items + 1) new y.acting.hand.slots
+  all_still : IsShown y.acting (length x.entries.items + 1) new → HasAsBefore → AreAllHomes (length x.entries.items + 1) new y.acting.hand.slots
   all_still sh has = record {
     shown = sh.homes;
     apart = sh.apart;
@@ -275,7 +276,7 @@ module _ (w : Work) (x y : PlainWorld) (e : Event) (hints : Option Hints) (st : 
           record { cpu = old.cpu; count = old.count ∙ sym same.0; duty = old.duty ∙ sym same.1 }
 
   -- a step was made
-  pub steps : next w before x.acting.actor.cpu hints ≡ Some e → IsShown y.acting (length x.entries.items + 1) new → has_part y.acting ≡ has_part x.acting → y.acting.actor.cpu ≡ x.acting.actor.cpu
+  pub steps : next w before x.acting.actor.cpu hints ≡ Some e → IsShown y.acting (length x.entries.items + 1) new → HasAsBefore → y.acting.actor.cpu ≡ x.acting.actor.cpu
       → y.actors.items ≡ set x.actors.items x.acting.actor.cpu.0 y.acting.actor → y.entries.items ≡ x.entries.items ++ entry ∷ [] → Stands w y
   steps is sh has cpu list es =
       let goes = leads es in

@@ -1,5 +1,5 @@
 -- A run on homes as a world that nobody shares.
-use Rattle.std.proofs.Common.{◌≡◌, ℕ, ◌+◌, ◌-◌, ◌^◌, ◌<◌, ◌≤◌, Bool, true, false, List, [], ◌∷◌, length, map, get_or, min, MatchOption, Option, Some, None, refl, sym, ap, ◌∙◌, subst, inl, inr, arith}
+use Rattle.std.proofs.Common.{◌≡◌, ℕ, ◌+◌, ◌-◌, ◌^◌, ◌<◌, ◌≤◌, Bool, true, false, List, [], ◌∷◌, ◌++◌, length, map, get_or, min, MatchOption, Option, Some, None, refl, sym, ap, ◌∙◌, subst, inl, inr, arith, append_assoc}
 use Rattle.std.specs.Prelude.{nat_le}
 use Rattle.std.proofs.lemmas.Bool.{eq-eqb}
 use Rattle.std.proofs.lemmas.Bool.Decides.{nat_tests}
@@ -26,11 +26,31 @@ use Rattle.sd_world.proofs.PlainLemmas.{actor_inside, cpu_inside, has_there, rea
 pub begins_same : (es : List Entry) → Begins es es
 begins_same es = ([], sym (append-nil es))
 
+pub begins_then : (a b c : List Entry) → Begins a b → Begins b c → Begins a c
+begins_then a b c (x, e) (y, f) = (x ++ y, f ∙ ap (λ z. z ++ y) e ∙ append_assoc a x y)
+
 pub stays_same : (m : Meaning) → Stays m m
 stays_same m = record { table = refl; work = refl; alone = refl; all = refl; actor = refl; log = refl; begins = begins_same m.seen; still = λ e. refl; hinted = λ c which n h. h; counted = λ c n h. h }
 
 pub quiet_same : (m : Meaning) → IsQuiet m m
 quiet_same m = record { stops = refl; reads = refl; last = refl }
+
+pub stays_then : (m m' m'' : Meaning) → Stays m m' → Stays m' m'' → Stays m m''
+stays_then m m' m'' a b = record {
+  table = b.table ∙ a.table;
+  work = b.work ∙ a.work;
+  alone = b.alone ∙ a.alone;
+  all = b.all ∙ a.all;
+  actor = b.actor ∙ a.actor;
+  log = b.log ∙ a.log;
+  begins = begins_then m.seen m'.seen m''.seen a.begins b.begins;
+  still = λ e. b.still (a.alone ∙ e) ∙ a.still e;
+  hinted = λ c which n h. b.hinted c which n (a.hinted c which n h);
+  counted = λ c n h. b.counted c n (a.counted c n h);
+}
+
+pub quiet_then : (m m' m'' : Meaning) → IsQuiet m m' → IsQuiet m' m'' → IsQuiet m m''
+quiet_then m m' m'' a b = record { stops = b.stops ∙ a.stops; reads = b.reads ∙ a.reads; last = b.last ∙ a.last }
 
 pub plain_good : (x : PlainWorld) → Stands x.work.now x → IsPlain x
 plain_good x st = record {
@@ -54,6 +74,13 @@ stands_beside w x y a b e st = record {
   stood = subst (λ es. HasStood w es) (sym e) st.stood;
 }
 
+-- notes alone are changed
+pub noted : (x y : PlainWorld) (found : Option Behind) → y ≡ record x { reads = y.reads; last = found } → y ≡ record x { reads = y.reads; last = y.last }
+noted x y found e = e ∙ ap (λ o. record x { reads = y.reads; last = o }) (sym (ap (λ (z : PlainWorld). z.last) e))
+
+pub stands_with_notes : (x y : PlainWorld) (found : Option Behind) → y ≡ record x { reads = y.reads; last = found } → Stands x.work.now x → Stands y.work.now y
+stands_with_notes x y found e st = subst (λ (z : PlainWorld). Stands z.work.now z) (sym e) (stands_beside x.work.now x (record x { reads = y.reads; last = found }) refl refl refl st)
+
 -- the numbers that the state shows are hints
 pub all_hinted : (x : PlainWorld) (kind : Which) (cs : List CpuId) → AllHinted (plain_meaning x) kind cs (map (hint_shown (told x.work.now x) kind) cs)
 all_hinted x kind [] = tt
@@ -63,15 +90,15 @@ all_hinted x kind (c ∷ cs) = (eq-eqb (hint_shown (told x.work.now x) kind c) (
 stays_noted : (x y : PlainWorld) → y ≡ record x { reads = y.reads; last = y.last } → Stays (plain_meaning x) (plain_meaning y)
 stays_noted x y e = subst (λ z. Stays (plain_meaning x) (plain_meaning z)) (sym e) (record { table = refl; work = refl; alone = refl; all = refl; actor = refl; log = refl; begins = begins_same x.entries.items; still = λ t. refl; hinted = λ c which n h. h; counted = λ c n h. h })
 
-at_most : (a b : ℕ) → a < 2 ^ 64 → b ≡ min (a + 1) (2 ^ 64 - 1) → Rises a b
+pub at_most : (a b : ℕ) → a < 2 ^ 64 → b ≡ min (a + 1) (2 ^ 64 - 1) → Rises a b
 at_most a b fits e = by (nat_le (a + 1) (2 ^ 64 - 1)) refl
   where
     by : (d : Bool) → nat_le (a + 1) (2 ^ 64 - 1) ≡ d → Rises a b
     by true t = (let z : a < b = grind (arith, nat_tests) in let le : a ≤ b = omega (arith, z) in (le, inl z))
     by false t = (let z : b ≡ 2 ^ 64 - 1 = grind (arith, nat_tests) in let le : a ≤ b = omega (arith, z, fits) in (le, inr z))
 
-pub reads_counts : (x y : PlainWorld) → y ≡ record x { reads = y.reads; last = y.last } → x.reads < 2 ^ 64 → y.reads ≡ min (x.reads + 1) (2 ^ 64 - 1) → ReadsCounts (plain_meaning x) (plain_meaning y)
-reads_counts x y e fits more = record { stays = stays_noted x y e; stops = refl; reads = (at_most x.reads y.reads fits more).0; acting = ap (λ (z : PlainWorld). z.acting) e }
+pub reads_counts : (x y : PlainWorld) → y ≡ record x { reads = y.reads; last = y.last } → Rises x.reads y.reads → ReadsCounts (plain_meaning x) (plain_meaning y)
+reads_counts x y e rises = record { stays = stays_noted x y e; stops = refl; reads = rises.0; acting = ap (λ (z : PlainWorld). z.acting) e }
 
 none_behind : (x : PlainWorld) → IsPlain x → NoneLess x.actors.items x.acting.actor.count → NoneBehind (plain_meaning x)
 none_behind x is none d inside other =
@@ -84,9 +111,9 @@ none_behind x is none d inside other =
     let n = (cpu_of (told w x) d).count in
     (n, (let z : x.acting.actor.count ≤ n = omega (arith, own, same) in z), (let z : nat_le n n ≡ true = grind (arith, nat_tests) in z))
 
-one_behind : (x y : PlainWorld) (b : Behind) → IsPlain x → y ≡ record x { reads = y.reads; last = y.last } → x.reads < 2 ^ 64 → y.reads ≡ min (x.reads + 1) (2 ^ 64 - 1) → y.last ≡ Some b
+one_behind : (x y : PlainWorld) (b : Behind) → IsPlain x → y ≡ record x { reads = y.reads; last = y.last } → Rises x.reads y.reads → y.last ≡ Some b
     → IsLess x.actors.items x.acting.actor.count b → IsBehind (plain_meaning x) (plain_meaning y) b
-one_behind x y b is e fits more last less =
+one_behind x y b is e rises last less =
     let w = x.work.now in
     let of = is.stands.actors.each less.index less.actor less.there in
     let index : b.cpu.0 ≡ less.index = ap (λ (c : CpuId). c.0) less.cpu ∙ of.cpu in
@@ -95,13 +122,13 @@ one_behind x y b is e fits more last less =
     let cpus = (fit_reached w (length x.entries.items) (told w x) (reached w x is.stands)).fits.cpus in
     record {
       less = less.less;
-      rises = at_most x.reads y.reads fits more;
+      rises = rises;
       last = ap last_of last;
       there = omega (arith, index, within, many, cpus);
       own = λ t. less.same ∙ of.count ∙ ap (λ k. (cpu_of (told w x) k).count) (sym index);
     }
 
-pub finds : (x y : PlainWorld) (r : Option Behind) → IsPlain x → y ≡ record x { reads = y.reads; last = y.last } → x.reads < 2 ^ 64 → y.reads ≡ min (x.reads + 1) (2 ^ 64 - 1) → y.last ≡ r
+pub finds : (x y : PlainWorld) (r : Option Behind) → IsPlain x → y ≡ record x { reads = y.reads; last = y.last } → Rises x.reads y.reads → y.last ≡ r
     → MatchOption r (NoneLess x.actors.items x.acting.actor.count) (IsLess x.actors.items x.acting.actor.count) → Finds (plain_meaning x) (plain_meaning y) r
-finds x y None is e fits more last none = subst (λ z. NoneBehind (plain_meaning z)) (sym e) (none_behind x is none)
-finds x y (Some b) is e fits more last less = one_behind x y b is e fits more last less
+finds x y None is e rises last none = subst (λ z. NoneBehind (plain_meaning z)) (sym e) (none_behind x is none)
+finds x y (Some b) is e rises last less = one_behind x y b is e rises last less

@@ -9,17 +9,19 @@ use Rattle.sd_types.specs.declared.numbers.CpuId.{CpuId}
 use Rattle.sd_types.specs.declared.works.Work.{Work}
 use Rattle.sd_machine.specs.declared.states.State.{State}
 use Rattle.sd_machine.specs.Opening.{opening}
-use Rattle.sd_full.specs.Runs.{IsRun, final, state_at}
+use Rattle.sd_full.specs.Runs.{IsReached, IsRun, final, state_at}
 use Rattle.sd_machine.specs.States.{cpu_of}
 use Rattle.sd_full.specs.Choosing.{hint_shown}
 use Rattle.sd_full.specs.Threads.{best_unbound, runner}
 use Rattle.sd_hand.specs.OneHome.{AreAllHomes, StandsInHomes}
 use Rattle.sd_snapshot.specs.Told.{AreActorsOf, IsActorOf}
 use Rattle.sd_types.specs.declared.events.Duty.TheVariants.{Nothing}
+use Rattle.sd_hand.specs.declared.acting.Acting.{Acting}
 use Rattle.sd_hand.specs.declared.acting.Actor.{Actor}
+use Rattle.sd_hand.specs.Acting.{IsShown}
 use Rattle.sd_world.specs.declared.plain.PlainWorld.{PlainWorld}
 use Rattle.sd_world.specs.declared.world.Behind.{Behind}
-use Rattle.sd_world.specs.Worlds.{IsGood, Meaning}
+use Rattle.sd_world.specs.Worlds.{IsGood, Meaning, Rises}
 
 -- the state to which its entries lead
 abbrev pub told : Work → PlainWorld → State
@@ -37,6 +39,14 @@ pub record Stands (w : Work) (x : PlainWorld) : Type 0 where
   pub inside : x.acting.actor.cpu.0 < length (told w x).cpus
   pub acts : IsActorOf (told w x) x.acting.actor.cpu.0 x.acting.actor
   pub stood : HasStood w x.entries.items
+
+-- the homes of a hand, with the processor that acts, stand for a state of a run
+pub record StandsInRun (x : Acting) : Type 0 where
+  pub work : Work
+  pub number : ℕ
+  pub state : State
+  pub reached : IsReached work number state
+  pub shown : IsShown x number state
 
 -- the processors are the workload's
 abbrev pub AreCpus : Work → List CpuId → Type 0
@@ -63,6 +73,10 @@ pub record IsLess (actors : List Actor) (count : ℕ) (b : Behind) : Type 0 wher
   pub cpu : b.cpu ≡ actor.cpu
   pub same : b.count ≡ actor.count
   pub less : b.count < count
+
+-- it was asked who has counted less, and notes who was found
+abbrev pub HasNoted : PlainWorld → PlainWorld → Option Behind → Type 0
+HasNoted x y found = (y ≡ record x { reads = y.reads; last = found }) × Rises x.reads y.reads
 
 abbrev pub last_of : Option Behind → Option (ℕ × ℕ)
 last_of None = None

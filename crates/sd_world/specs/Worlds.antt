@@ -196,10 +196,13 @@ pub record Reserves (m m' : Meaning) : Type 0 where
   pub quiet : IsQuiet m m'
   pub acting : m'.acting ≡ m.acting
 
+abbrev pub HasRoomFor : List Entry → ℕ → Result Unit Stop → Type 0
+HasRoomFor es spare (Ok u) = (1 ≤ spare) × (length es < most_entries)
+HasRoomFor es spare (Err Full) = most_entries ≤ length es
+HasRoomFor es spare (Err Memory) = length es < most_entries
+
 abbrev pub HasReserved : Meaning → Meaning → Result Unit Stop → Type 0
-HasReserved m m' (Ok u) = (1 ≤ m'.spare) × (length m.log < most_entries)
-HasReserved m m' (Err Full) = most_entries ≤ length m.log
-HasReserved m m' (Err Memory) = length m.log < most_entries
+HasReserved m m' r = HasRoomFor m.log m'.spare r
 
 -- what the processor reads, in every run to whose state its hand stands
 abbrev pub Reads : Meaning → Which → List CpuId → Type 0

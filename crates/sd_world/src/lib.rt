@@ -3,14 +3,17 @@
 
 mod bare;
 mod copies;
+mod entries;
+mod hints;
 mod homes;
 mod laws;
 mod plain;
 mod turns;
 mod world;
 
+pub use entries::{MOST_ENTRIES, enter, reserve_entry};
+pub use hints::shown_hint;
 pub use homes::Homes;
 pub use laws::an_event_leaves_other_homes;
 pub use plain::PlainWorld;
-pub use turns::MOST_ENTRIES;
 pub use world::{Behind, Take, ThreadLock, World};

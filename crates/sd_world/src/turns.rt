@@ -1,35 +1,18 @@
 //! A run on homes as a world: what a processor reads of others, and the entry that it makes.
 
-ghost use Rattle.std.specs.Prelude.{◌≡◌, ◌++◌, ◌<◌, ◌≤◌, ◌∷◌, [], Some, length, map, option_map, true, vec_capacity, vec_len, IfSome, MatchOption};
-ghost use Rattle.sd_full.specs.Choosing.{hint_of, hint_shown};
+ghost use Rattle.std.specs.Prelude.{◌≡◌, ◌++◌, ◌<◌, ◌≤◌, ◌∷◌, [], Some, length, map, vec_capacity, vec_len, MatchOption};
+ghost use Rattle.sd_full.specs.Choosing.{hint_shown};
 ghost use Rattle.sd_full.specs.Events.{next};
-ghost use Rattle.sd_full.specs.Threads.{priority_of};
-ghost use Rattle.sd_hand.specs.Acting.{has_part};
-ghost use Rattle.sd_store.specs.Parts.{number, thread_part};
-ghost use Rattle.sd_world.specs.Plain.{AreCpus, IsLess, NoneLess, Stands, thread_shown, told};
+ghost use Rattle.sd_world.specs.Plain.{AreCpus, HasNoted, IsLess, NoneLess, Stands, told};
 
+use crate::entries::{MOST_ENTRIES, enter, reserve_entry};
+use crate::hints::shown_hint;
 use crate::plain::PlainWorld;
 use crate::world::{Behind, Take, ThreadLock, World};
 use arrayvec::ArrayVec;
 use sd_hand::{Acting, Actor};
-use sd_mdisp::{Reading, priority_of};
-use sd_step::after;
-use sd_store::Look;
-use sd_types::{CpuId, Entry, Event, Hints, HomeId, Stop, ThreadId, Which, Work};
-
-/// A log that holds as many entries takes no more: 2^40.
-pub const MOST_ENTRIES: usize = 1_099_511_627_776;
-
-/// A priority plus 1, or 0 for none.
-fn hint_of(p: Option<u8>) -> u8
-    requires { IfSome p (λ n. n < 160) }
-    ensures { result ≡ hint_of p }
-{
-    match p {
-        None => 0,
-        Some(p) => p + 1,
-    }
-}
+use sd_mdisp::Reading;
+use sd_types::{CpuId, Event, Hints, HomeId, Stop, ThreadId, Which, Work};
 
 /// The first processor that has counted less.
 fn first_behind(actors: &[Actor], count: u32) -> Option<Behind>
@@ -60,47 +43,13 @@ impl<'a> PlainWorld<'a> {
         self.acting.actor = self.actors[c.0 as usize];
     }
 
-    /// The effective priority of a thread that was found.
-    fn priority(&self, work: &Work, found: Option<ThreadId>) -> Option<u8>
-        requires stands { Stands work.now self.now }
-        requires found { IfSome found (λ t. has_part self.now.acting (thread_part t) ≡ true) }
-        ensures value { result ≡ priority_of (told work.now self.now) (option_map number found) }
-        ensures below { IfSome result (λ n. n < 160) }
-    {
-        match priority_of(&self.acting, found) {
-            Ok(p) => p,
-            Err(_) => unreachable!(),
-        }
-    }
-
-    /// The thread whose priority processor `d` shows.
-    fn shown_by(&self, work: &Work, which: Which, d: CpuId) -> Option<ThreadId>
-        requires stands { Stands work.now self.now }
-        requires cpu { d.0 < work.now.cpus }
-        ensures value { option_map number result ≡ thread_shown (told work.now self.now) which d }
-        ensures found { IfSome result (λ t. has_part self.now.acting (thread_part t) ≡ true) }
-    {
-        match which {
-            Which::Running => match self.acting.runner(d) {
-                Ok(t) => t,
-                Err(_) => unreachable!(),
-            },
-            Which::Queued => match self.acting.best_unbound(d) {
-                Ok(t) => t,
-                Err(_) => unreachable!(),
-            },
-        }
-    }
-
     /// The number that processor `d` shows.
-    #[tactic(auto, unfolding(sd_full::specs::Choosing::hint_shown))]
     fn hint(&self, work: &Work, which: Which, d: CpuId) -> u8
         requires stands { Stands work.now self.now }
         requires cpu { d.0 < work.now.cpus }
         ensures { result ≡ hint_shown (told work.now self.now) which d }
     {
-        let found = self.shown_by(work, which, d);
-        hint_of(self.priority(work, found))
+        shown_hint(&self.acting, which, d)
     }
 
     /// The numbers that these processors show, in their order.
@@ -129,19 +78,25 @@ impl<'a> PlainWorld<'a> {
         ensures cpu { self.new.acting.actor.cpu ≡ self.old.acting.actor.cpu }
         ensures rest { (self.new.work ≡ self.old.work) × (self.new.reads ≡ self.old.reads) × (self.new.last ≡ self.old.last) }
     {
-        let number = self.entries.len() as u64;
-        let cpu = self.acting.actor.cpu;
-        match after(work, &mut self.acting, number, cpu, event) {
-            Ok(()) => {}
-            Err(_) => unreachable!(),
-        }
-        self.actors[cpu.0 as usize] = self.acting.actor;
-        self.entries.push_reserved(Entry {
-            number,
-            cpu,
+        enter(
+            work,
+            &mut self.acting,
+            &mut self.actors,
+            &mut self.entries,
             event,
             hints,
-        });
+        );
+    }
+
+    /// The first processor that has counted less than this, which is noted.
+    pub fn find_behind(&mut self, count: u32) -> Option<Behind>
+        ensures finds { MatchOption result (NoneLess self.old.actors.items count) (IsLess self.old.actors.items count) }
+        ensures notes { HasNoted self.old self.new result }
+    {
+        self.reads = self.reads.saturating_add(1);
+        let found = first_behind(&self.actors, count);
+        self.last = found;
+        found
     }
 }
 
@@ -176,20 +131,12 @@ impl<'a> World for PlainWorld<'a> {
     }
 
     fn behind(&mut self, work: &Work) -> Option<Behind> {
-        self.reads = self.reads.saturating_add(1);
-        let found = first_behind(&self.actors, self.acting.actor.count);
-        self.last = found;
-        found
+        let count = self.acting.actor.count;
+        self.find_behind(count)
     }
 
     fn reserve(&mut self) -> Result<(), Stop> {
-        if self.entries.len() >= MOST_ENTRIES {
-            return Err(Stop::Full);
-        }
-        if self.entries.reserve(1).is_err() {
-            return Err(Stop::Memory);
-        }
-        Ok(())
+        reserve_entry(&mut self.entries)
     }
 
     fn commit(&mut self, work: &Work, event: Event, hints: Option<Hints>) -> u64 {

@@ -1,38 +1,19 @@
-use Rattle.std.proofs.Common.{◌≡◌, ◌+◌, ◌∷◌, [], ◌++◌, length, refl, sym, ap, ◌∙◌, subst, arith}
-use Rattle.std.specs.Prelude.{vec_len}
-use Rattle.std.specs.Vec.{with_item}
-use Rattle.sd_full.specs.Events.{after}
-use Rattle.sd_hand.specs.Acting.{IsShown}
-use Rattle.sd_range.proofs.Range.{needs_reached}
-use Rattle.sd_world.specs.Plain.{told}
-use Rattle.sd_world.proofs.PlainLemmas.{not_touched, reached, same_actor, shown, steps}
+use Rattle.std.proofs.Common.{ap}
+use Rattle.sd_world.proofs.PlainLemmas.{can_enter, same_actor, steps}
 use Rattle.sd_world.proofs.plain.PlainWorld.make.Goals as goal
 
-pub unreachable-requires : goal.unreachable-requires
-unreachable-requires c =
-    let w = c.args.work.now in
-    let x = c.args.self.now in
-    let st = c.requires.stands in
-    let many : vec_len x.entries ≡ length x.entries.items = grind arith in
-    let e : length x.entries.items ≡ c.len-number.result = sym many ∙ sym c.len-number.ensures in
-    let lack = c.in-Err.ensures.lack in
-    not_touched w x st c.args.hints c.args.event c.in-Err.field-0 c.requires.next
-    (lack.0 (told w x) (subst (λ m. IsShown x.acting m (told w x)) e (shown w x st)) (needs_reached w (length x.entries.items) (told w x) x.acting.actor.cpu c.args.hints c.args.event (reached w x st) c.requires.next)) lack.1
+pub enter-requires-clause-can : goal.enter-requires-clause-can
+enter-requires-clause-can c = can_enter c.args.work.now c.args.self.now c.requires.stands c.args.event c.args.hints c.requires.few c.requires.next
 
 pub returns-clause-stands : goal.returns-clause-stands
 returns-clause-stands c =
-    let w = c.args.work.now in
     let x = c.args.self.now in
-    let st = c.requires.stands in
-    let cpu = x.acting.actor.cpu in
-    let many : vec_len x.entries ≡ length x.entries.items = grind arith in
-    let e : length x.entries.items ≡ c.len-number.result = sym many ∙ sym c.len-number.ensures in
-    let needs = needs_reached w (length x.entries.items) (told w x) cpu c.args.hints c.args.event (reached w x st) c.requires.next in
-    let sh = c.in-Ok.ensures.value (told w x) (subst (λ m. IsShown x.acting m (told w x)) e (shown w x st)) needs in
-    steps w x (record { work = x.work; reads = x.reads; last = x.last; acting = c.after.new.x; actors = with_item x.actors cpu.0 c.after.new.x.actor; entries = c.push_reserved.new.self }) c.args.event c.args.hints st c.requires.next
-    (subst (λ m. IsShown c.after.new.x (m + 1) (after w (told w x) m cpu c.args.event)) (sym e) sh)
-    c.in-Ok.ensures.has (same_actor x.acting c.after.new.x c.in-Ok.ensures.has) refl
-    (c.push_reserved.ensures.items ∙ ap (λ m. x.entries.items ++ record { number = m; cpu = cpu; event = c.args.event; hints = c.args.hints } ∷ []) (sym e))
+    let made = c.enter.ensures in
+    steps c.args.work.now x (record x { acting = c.enter.new.acting; actors = c.enter.new.actors; entries = c.enter.new.entries }) c.args.event c.args.hints c.requires.stands c.requires.next
+    made.shown (λ p. ap (λ f. f p) made.has) (same_actor x.acting c.enter.new.acting made.has) made.actors made.entries
+
+pub returns-clause-entries : goal.returns-clause-entries
+returns-clause-entries c = c.enter.ensures.entries
 
 pub returns-clause-cpu : goal.returns-clause-cpu
-returns-clause-cpu c = same_actor c.args.self.now.acting c.after.new.x c.in-Ok.ensures.has
+returns-clause-cpu c = same_actor c.args.self.now.acting c.enter.new.acting c.enter.ensures.has

@@ -1,0 +1,3 @@
+pub mod HostileLemmas
+pub mod PlanLemmas
+pub mod WholeLemmas

@@ -1,0 +1,55 @@
+//! One entry more: what is done to the homes of a hand, to the counts and duties of the processors, and to the log.
+
+ghost use Rattle.std.specs.Prelude.{◌≡◌, ◌-◌, ◌<◌, vec_capacity, vec_len};
+ghost use Rattle.sd_world.specs.Entries.{CanEnter, Enters};
+ghost use Rattle.sd_world.specs.Worlds.{HasRoomFor};
+
+use sd_hand::{Acting, Actor};
+use sd_step::after;
+use sd_types::{Entry, Event, Hints, Stop, Work};
+
+/// A log that holds as many entries takes no more: 2^40.
+pub const MOST_ENTRIES: usize = 1_099_511_627_776;
+
+/// Makes room in the log for one entry. `Full` exactly where it has 2^40 entries or more.
+pub fn reserve_entry(entries: &mut Vec<Entry>) -> Result<(), Stop>
+    ensures same { entries.new.items ≡ entries.old.items }
+    ensures room { HasRoomFor entries.old.items (vec_capacity entries.new - vec_len entries.new) result }
+{
+    if entries.len() >= MOST_ENTRIES {
+        return Err(Stop::Full);
+    }
+    if entries.reserve(1).is_err() {
+        return Err(Stop::Memory);
+    }
+    Ok(())
+}
+
+/// Makes the event of the processor that acts, in the homes of its hand, which have all that it touches. The list of processors has
+/// its count and its duty after it, and the log, in which there is room, the entry.
+pub fn enter(
+    work: &Work,
+    acting: &mut Acting,
+    actors: &mut Vec<Actor>,
+    entries: &mut Vec<Entry>,
+    event: Event,
+    hints: Option<Hints>,
+)
+    requires can { CanEnter work.now acting.old actors.old.items entries.old.items event hints }
+    requires room { vec_len entries.old < vec_capacity entries.old }
+    ensures { Enters work.now acting.old acting.new actors.old.items actors.new.items entries.old.items entries.new.items event hints }
+{
+    let number = entries.len() as u64;
+    let cpu = acting.actor.cpu;
+    match after(work, acting, number, cpu, event) {
+        Ok(()) => {}
+        Err(_) => unreachable!(),
+    }
+    actors[cpu.0 as usize] = acting.actor;
+    entries.push_reserved(Entry {
+        number,
+        cpu,
+        event,
+        hints,
+    });
+}
