@@ -1,7 +1,7 @@
 -- A world that gives homes out one by one.
-use Rattle.std.proofs.Common.{◌≡◌, ◌≢◌, ℕ, ◌+◌, ◌-◌, ◌^◌, ◌<◌, ◌≤◌, ◌⊎◌, Bool, true, false, ◌||◌, ◌==◌, List, [], ◌∷◌, ◌++◌, length, is_some, map, min, set, Option, Some, None, refl, sym, ap, ◌∙◌, subst, inl, inr, arith}
+use Rattle.std.proofs.Common.{◌≡◌, ℕ, ◌+◌, ◌<◌, ◌≤◌, ◌⊎◌, true, false, ◌||◌, List, ◌++◌, length, is_some, set, Option, Some, None, refl, sym, ap, ◌∙◌, subst, inl, inr, arith}
 use Rattle.std.specs.Prelude.{nat_le}
-use Rattle.std.proofs.lemmas.Bool.{eq-eqb, false≢true}
+use Rattle.std.proofs.lemmas.Bool.{false≢true}
 use Rattle.std.proofs.lemmas.Bool.Decides.{nat_tests}
 use Rattle.sd_types.specs.declared.numbers.CpuId.{CpuId}
 use Rattle.sd_types.specs.declared.numbers.HomeId.{HomeId}
@@ -10,43 +10,42 @@ use Rattle.sd_types.specs.declared.numbers.ThreadId.{ThreadId}
 use Rattle.sd_types.specs.declared.events.Entry.{Entry}
 use Rattle.sd_types.specs.declared.events.Event.{Event}
 use Rattle.sd_types.specs.declared.events.Hints.{Hints}
-use Rattle.sd_types.specs.declared.events.Which.{Which}
 use Rattle.sd_types.specs.declared.works.Work.{Work}
 use Rattle.sd_machine.specs.declared.states.State.{State}
 use Rattle.sd_machine.specs.States.{cpu_of, thread_of}
-use Rattle.sd_full.specs.Events.{after, next}
+use Rattle.sd_full.specs.Events.{after}
 use Rattle.sd_full.proofs.ShapeLemmas.{after_shape}
 use Rattle.sd_store.specs.declared.parts.Part.{Part}
 use Rattle.sd_store.specs.declared.parts.Part.TheVariants as part
-use Rattle.sd_store.specs.Parts.{IsAmong}
+use Rattle.sd_store.specs.Parts.{IsAmong, cpu_part}
 use Rattle.sd_step.specs.Touched.{after_parts}
-use Rattle.sd_shown.specs.Standing.{home_of, look_of}
+use Rattle.sd_shown.specs.declared.list_id.ListId.{ListId}
+use Rattle.sd_shown.specs.Standing.{home_at, home_of, look_of}
+use Rattle.sd_snapshot.specs.Told.{IsActorOf}
 use Rattle.sd_homes.specs.declared.home.Home.{Home}
 use Rattle.sd_homes.specs.Families.{home_id}
 use Rattle.sd_hand.specs.declared.acting.Acting.{Acting}
 use Rattle.sd_hand.specs.declared.acting.Actor.{Actor}
 use Rattle.sd_hand.specs.Acting.{IsShown, has_part}
-use Rattle.sd_hand.specs.Hands.{AreApart, HandSlots, HoldsMore, IsHeld, has_thread, held, how_many_held}
-use Rattle.sd_hand.specs.OneHome.{AreAllHomes}
+use Rattle.sd_hand.specs.Hands.{AreApart, HandSlots, HasNoRoom, IsHeld, StandsIn, has_thread, held, how_many_held}
 use Rattle.sd_hand.specs.Shown.{IsHome, ShowsState}
 use Rattle.sd_hand.proofs.CountLemmas.{as_many}
+use Rattle.sd_hand.proofs.MoveLemmas.{held_by}
 use Rattle.sd_hand.proofs.SlotLemmas.{held_id}
 use Rattle.sd_hand.proofs.StandLemmas.{home_held}
 use Rattle.sd_footprint.specs.Homes.{home_in}
 use Rattle.sd_footprint.proofs.RanLast.{reached_changes}
-use Rattle.sd_world.specs.declared.plain.PlainWorld.{PlainWorld}
-use Rattle.sd_world.specs.declared.world.Take.TheVariants.{Taken, Busy}
 use Rattle.sd_world.specs.Entries.{CanEnter, Enters}
 use Rattle.sd_world.specs.Frames.{IsElsewhere}
 use Rattle.sd_world.specs.Plain.{Stands, StandsInRun, told}
-use Rattle.sd_world.specs.Worlds.{Begins, CanCommit, Commits, Gains, IsGood, IsQuiet, IsStopped, MayStand, Meaning, Rises, Stays, actor_of, after_run}
+use Rattle.sd_world.specs.Worlds.{CanCommit, CanLock, CanTake, Gains, IsGood, IsQuiet, IsStopped, Rises, Stays, after_run}
 use Rattle.sd_world.proofs.OtherHomes.{other_home}
-use Rattle.sd_world.proofs.PlainLemmas.{cpu_inside, reached, same_actor, steps}
-use Rattle.sd_world.proofs.WorldLemmas.{all_hinted, at_most, begins_same}
+use Rattle.sd_world.proofs.PlainLemmas.{cpu_inside, has_cpu, has_there, reached, same_actor, steps}
+use Rattle.sd_world.proofs.WorldLemmas.{begins_same}
 use Rattle.sd_hostile.specs.declared.hostile.HostileWorld.{HostileWorld}
-use Rattle.sd_hostile.specs.Hostile.{IsHostile, Moves, hostile_meaning, whole}
+use Rattle.sd_hostile.specs.Hostile.{HasHome, IsHostile, Moves, hostile_meaning, whole}
 use Rattle.sd_hostile.specs.Plan.{ArePossible}
-use Rattle.sd_hostile.proofs.WholeLemmas.{AreTwo, all_same, apart_left, apart_right, apart_two, apart_whole, has_both, held_both, left_held, most_held, none_held, others_held, right_held, same_whole, two_after, two_before, first_of}
+use Rattle.sd_hostile.proofs.WholeLemmas.{AreTwo, all_same, apart_empty, apart_left, apart_right, apart_two, apart_whole, has_both, held_both, left_held, most_held, none_held, others_held, right_held, same_whole, two_after, two_before, first_of}
 
 abbrev pub near_of : HostileWorld → List (Option Home)
 near_of x = x.near.hand.slots
@@ -116,8 +115,8 @@ stopped_good x n is = is_hostile (record x { stops = n }) is.stands is.actor is.
 pub stops_stay : (x : HostileWorld) (n : ℕ) → Stays (hostile_meaning x) (hostile_meaning (record x { stops = n }))
 stops_stay x n = record { table = refl; work = refl; alone = refl; all = refl; actor = refl; log = refl; begins = begins_same x.inner.entries.items; still = λ e. refl; hinted = λ c which m h. h; counted = λ c m h. h }
 
-pub is_stopped : (x : HostileWorld) (n : ℕ) → x.stops < 2 ^ 64 → n ≡ min (x.stops + 1) (2 ^ 64 - 1) → IsStopped (hostile_meaning x) (hostile_meaning (record x { stops = n }))
-is_stopped x n fits e = record { stays = stops_stay x n; acting = refl; stops = at_most x.stops n fits e }
+pub is_stopped : (x : HostileWorld) (n : ℕ) → Rises x.stops n → IsStopped (hostile_meaning x) (hostile_meaning (record x { stops = n }))
+is_stopped x n rises = record { stays = stops_stay x n; acting = refl; stops = rises }
 
 -- ---- with these homes in its hands
 abbrev pub with_hands : HostileWorld → HandSlots → HandSlots → HostileWorld
@@ -147,11 +146,11 @@ fetched_good x y h is moves apart =
     let near = moves.near.apart (apart_left (near_of x) (others_of x) is.stands.all.apart) in
     let more = moves.more in
     let fewer = moves.fewer in
-    let as = moves.room in
+    let slots = moves.room in
     let room = is.room in
     subst IsHostile (sym moves.rest)
     (rehanded x y.near.hand y.inner.acting.hand is (same_whole (near_of x) (others_of x) (near_of y) (others_of y) h moves.near moves.others)
-    (apart_whole (near_of y) (others_of y) near apart (two_after (near_of x) (others_of x) (near_of y) (others_of y) h moves.near moves.others before)) (omega (arith, more, fewer, as, room)))
+    (apart_whole (near_of y) (others_of y) near apart (two_after (near_of x) (others_of x) (near_of y) (others_of y) h moves.near moves.others before)) (omega (arith, more, fewer, slots, room)))
 
 pub fetched_gains : (x y : HostileWorld) (h : Home) → Moves x y h → Gains (hostile_meaning x) (hostile_meaning y) h
 fetched_gains x y h moves = record {
@@ -173,11 +172,11 @@ given_good x y h is moves apart =
     let others = moves.others.apart (apart_right (near_of x) (others_of x) is.stands.all.apart) in
     let more = moves.more in
     let fewer = moves.fewer in
-    let as = moves.room in
+    let slots = moves.room in
     let room = is.room in
     subst IsHostile (sym (back x y h moves))
     (rehanded x y.near.hand y.inner.acting.hand is (λ k. sym (same_whole (near_of y) (others_of y) (near_of x) (others_of x) h moves.near moves.others k))
-    (apart_whole (near_of y) (others_of y) apart others (two_before (near_of y) (others_of y) (near_of x) (others_of x) h moves.near moves.others after)) (omega (arith, more, fewer, as, room)))
+    (apart_whole (near_of y) (others_of y) apart others (two_before (near_of y) (others_of y) (near_of x) (others_of x) h moves.near moves.others after)) (omega (arith, more, fewer, slots, room)))
 
 pub given_stays : (x y : HostileWorld) (h : Home) → Moves y x h → Stays (hostile_meaning x) (hostile_meaning y) × IsQuiet (hostile_meaning x) (hostile_meaning y)
 given_stays x y h moves = (
@@ -303,3 +302,73 @@ module _ (x : HostileWorld) (near : Acting) (e : Event) (hints : Option Hints) (
       (subst (λ (a : Acting). how_many_held a.hand.slots + how_many_held (others_of y) ≤ length (others_of y)) (sym own)
       (subst (λ (a : Acting). how_many_held near.hand.slots + how_many_held a.hand.slots ≤ length a.hand.slots) (sym rest) (let room = is.room in omega (arith, many, room))))
       (subst (λ p. ArePossible p.items) (sym plan) is.possible)
+
+-- ---- what is asked of the hands
+not_held_near : (x : HostileWorld) (k : HomeId) → has_part x.near (part.Home k) ≡ false → held k (near_of x) ≡ None
+not_held_near x k fresh = by (held k (near_of x)) refl fresh
+  where
+    by : (o : Option Home) → held k (near_of x) ≡ o → is_some (held k (near_of x)) ≡ false → held k (near_of x) ≡ None
+    by None e f = e
+    by (Some h) e f = absurd (false≢true (sym f ∙ ap is_some e))
+
+pub not_gone : (x : HostileWorld) (k : HomeId) → IsHostile x → CanTake (hostile_meaning x) k → held k (others_of x) ≡ None → ⊥
+not_gone x k is can none =
+    let (h, e) = is.stands.all.all k can.there in
+    let no : None ≡ Some h = sym (right_held k (near_of x) (others_of x) (not_held_near x k can.fresh) ∙ none) ∙ e in
+    absurd cc
+
+pub not_refused : (x : HostileWorld) (k : HomeId) (h : Home) → CanTake (hostile_meaning x) k → home_id h ≡ k → IsHeld (home_id h) (near_of x) ⊎ HasNoRoom (near_of x) → ⊥
+not_refused x k h can same (inl (g, e)) = false≢true (sym can.fresh ∙ ap is_some (ap (λ j. held j (near_of x)) (sym same) ∙ e))
+not_refused x k h can same (inr full) = let less = can.room in let four = full.four in let all = full.all in absurd (omega (arith, less, four, all))
+
+pub not_lost : (x : HostileWorld) (k : HomeId) → IsHeld k (near_of x) → held k (near_of x) ≡ None → ⊥
+not_lost x k (h, e) none = let no : Some h ≡ None = sym e ∙ none in absurd cc
+
+pub has_room : (x : HostileWorld) (k : HomeId) (h : Home) (n : ℕ) → IsHostile x → IsHeld k (near_of x) → home_id h ≡ k → how_many_held (near_of x) ≡ n + 1 → IsHeld (home_id h) (others_of x) ⊎ HasNoRoom (others_of x) → ⊥
+has_room x k h n is near same count (inl (g, e)) = held_none k (near_of x) (others_of x) g (two x is.stands) (ap (λ j. held j (others_of x)) (sym same) ∙ e) near
+has_room x k h n is near same count (inr full) = let room = is.room in let all = full.all in absurd (omega (arith, room, all, count))
+
+pub not_nowhere : (x : HostileWorld) (t : ThreadId) → IsHostile x → CanLock (hostile_meaning x) t → has_thread t.0 (others_of x) ≡ false → ⊥
+not_nowhere x t is can none =
+    let there = has_there (work_of x) (whole x) is.stands (part.Thread t) can.there in
+    false≢true (sym (has_both t.0 (near_of x) (others_of x) ∙ (ap (λ b. b || has_thread t.0 (others_of x)) can.fresh ∙ none)) ∙ there)
+
+pub stands_home : (x : HostileWorld) (t : ThreadId) (at : ListId) (k : HomeId) → IsHostile x → k ≡ home_at at → StandsIn t.0 (others_of x) at → HasHome x t k
+stands_home x t at k is same stands =
+    let apart = apart_right (near_of x) (others_of x) is.stands.all.apart in
+    record {
+      home = stands.home;
+      there = ap (λ j. held j (others_of x)) same ∙ held_by t.0 at (others_of x) stands apart;
+      number = sym stands.listed.home ∙ sym same;
+      listed = (at, stands.listed);
+    }
+
+pub cpu_others : (x : HostileWorld) (d : CpuId) → IsHostile x → d.0 < (work_of x).cpus → held (home.Cpu d) (near_of x) ≡ None → has_part x.inner.acting (cpu_part d) ≡ true
+cpu_others x d is there none = ap is_some (sym (right_held (home.Cpu d) (near_of x) (others_of x) none)) ∙ has_cpu (work_of x) (whole x) is.stands d there
+
+-- ---- where no home is held
+pub alone_stands : (x : HostileWorld) (w : Work) → w ≡ work_of x → IsHostile x → how_many_held (near_of x) ≡ 0 → Stands w x.inner
+alone_stands x w same is empty = subst (λ v. Stands v x.inner) (sym same) (record {
+  run = is.stands.run;
+  all = all_same (many_of x) (state_of x) (near_of x ++ others_of x) (others_of x) (λ k. sym (right_held k (near_of x) (others_of x) (none_held k (near_of x) empty))) (apart_right (near_of x) (others_of x) is.stands.all.apart) is.stands.all;
+  actors = is.stands.actors;
+  inside = subst (λ a. a.cpu.0 < length (state_of x).cpus) (sym is.actor) is.stands.inside;
+  acts = subst (λ a. IsActorOf (state_of x) a.cpu.0 a) (sym is.actor) is.stands.acts;
+  stood = is.stands.stood;
+})
+
+-- and from where it goes on
+pub goes_on : (x : HostileWorld) → Stands (work_of x) x.inner → x.near.actor ≡ x.inner.acting.actor → how_many_held (near_of x) ≡ 0 → ArePossible x.plan.items → IsHostile x
+goes_on x st same empty possible =
+    let e : (k : HomeId) → held k (near_of x ++ others_of x) ≡ held k (others_of x) = λ k. right_held k (near_of x) (others_of x) (none_held k (near_of x) empty) in
+    let most = most_held (others_of x) in
+    is_hostile x
+    (record {
+      run = st.run;
+      all = all_same (many_of x) (told (work_of x) x.inner) (others_of x) (near_of x ++ others_of x) e (apart_empty (near_of x) (others_of x) empty st.all.apart) st.all;
+      actors = st.actors;
+      inside = subst (λ a. a.cpu.0 < length (state_of x).cpus) (sym same) st.inside;
+      acts = subst (λ a. IsActorOf (state_of x) a.cpu.0 a) (sym same) st.acts;
+      stood = st.stood;
+    })
+    (sym same) (omega (arith, empty, most)) possible

@@ -1,3 +1,4 @@
+pub mod CallLemmas
 pub mod HostileLemmas
 pub mod PlanLemmas
 pub mod WholeLemmas

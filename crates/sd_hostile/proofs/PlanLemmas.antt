@@ -1,8 +1,7 @@
 -- A plan of troubles.
-use Rattle.std.proofs.Common.{◌≡◌, ◌≢◌, ℕ, zero, suc, ◌<◌, Bool, true, false, ◌==◌, List, [], ◌∷◌, length, get_or, Option, Some, None, refl, sym, ap, ◌∙◌, subst, arith}
+use Rattle.std.proofs.Common.{◌≡◌, ◌≢◌, ℕ, zero, suc, ◌<◌, Bool, true, false, ◌==◌, List, [], ◌∷◌, length, get_or, Some, None, refl, subst, arith}
 use Rattle.sd_types.specs.declared.numbers.HomeId.{HomeId}
 use Rattle.sd_hostile.specs.declared.plan.Trouble.{Trouble}
-use Rattle.sd_hostile.specs.declared.plan.What.{What}
 use Rattle.sd_hostile.specs.declared.plan.What.TheVariants.{Moved}
 use Rattle.sd_hostile.specs.Plan.{ArePossible, IsPossible, trouble_at}
 

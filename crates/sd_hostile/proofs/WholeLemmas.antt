@@ -1,5 +1,5 @@
 -- Homes in two hands as in one: those that a processor holds, and the others.
-use Rattle.std.proofs.Common.{◌≡◌, ℕ, ◌+◌, ◌≤◌, ◌⊎◌, Bool, true, false, ◌||◌, is_some, inl, inr, List, [], ◌∷◌, ◌++◌, length, Option, Some, None, refl, sym, ap, ◌∙◌, subst, arith}
+use Rattle.std.proofs.Common.{◌≡◌, ℕ, ◌≤◌, ◌⊎◌, Bool, true, false, ◌||◌, inl, inr, List, [], ◌∷◌, ◌++◌, length, Option, Some, None, refl, sym, ap, ◌∙◌, subst, arith}
 use Rattle.std.proofs.lemmas.Bool.{false≢true}
 use Rattle.sd_types.specs.declared.numbers.HomeId.{HomeId}
 use Rattle.sd_machine.specs.declared.states.State.{State}
@@ -143,3 +143,8 @@ pub most_held : (hs : List (Option Home)) → how_many_held hs ≤ length hs
 most_held [] = omega arith
 most_held (None ∷ hs) = let rest = most_held hs in omega (arith, rest)
 most_held (Some h ∷ hs) = let rest = most_held hs in omega (arith, rest)
+
+pub apart_empty : (hs rs : List (Option Home)) → how_many_held hs ≡ 0 → AreApart rs → AreApart (hs ++ rs)
+apart_empty [] rs e a = a
+apart_empty (None ∷ hs) rs e a = apart_empty hs rs e a
+apart_empty (Some h ∷ hs) rs e a = absurd (omega (arith, e))

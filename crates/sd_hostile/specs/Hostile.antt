@@ -1,13 +1,16 @@
 -- A world that gives homes out one by one and follows a plan.
 -- Source: this project's own.
 use Rattle.std.specs.Prelude.{◌≡◌, ℕ, ◌+◌, ◌≤◌, false, ◌++◌, length, Some}
+use Rattle.sd_types.specs.declared.numbers.CpuId.{CpuId}
 use Rattle.sd_types.specs.declared.numbers.HomeId.{HomeId}
 use Rattle.sd_types.specs.declared.numbers.ThreadId.{ThreadId}
+use Rattle.sd_types.specs.declared.events.Which.{Which}
+use Rattle.sd_full.specs.Choosing.{hint_shown}
 use Rattle.sd_homes.specs.declared.home.Home.{Home}
 use Rattle.sd_homes.specs.Families.{home_id}
 use Rattle.sd_hand.specs.Hands.{HoldsMore, IsHeld, held, how_many_held}
 use Rattle.sd_world.specs.declared.plain.PlainWorld.{PlainWorld}
-use Rattle.sd_world.specs.Plain.{Stands, plain_meaning}
+use Rattle.sd_world.specs.Plain.{Stands, plain_meaning, told}
 use Rattle.sd_world.specs.Worlds.{IsGood, IsListedIn, Meaning}
 use Rattle.sd_hostile.specs.declared.hostile.HostileWorld.{HostileWorld}
 use Rattle.sd_hostile.specs.Plan.{ArePossible}
@@ -15,6 +18,10 @@ use Rattle.sd_hostile.specs.Plan.{ArePossible}
 -- all its homes in one hand: those that the processor holds, and the others
 abbrev pub whole : HostileWorld → PlainWorld
 whole x = record x.inner { acting = record { hand = record { slots = x.near.hand.slots ++ x.inner.acting.hand.slots }; actor = x.near.actor } }
+
+-- the number that a processor shows
+unfoldable pub hint_in : HostileWorld → Which → CpuId → ℕ
+hint_in x kind d = hint_shown (told x.inner.work.now (whole x)) kind d
 
 -- as a world: nobody else makes entries, and its homes are given out one by one
 abbrev pub hostile_meaning : HostileWorld → Meaning

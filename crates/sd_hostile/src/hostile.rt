@@ -1,13 +1,12 @@
 //! A world that gives homes out one by one and follows a plan.
 
 ghost use Rattle.std.specs.Prelude.{◌≡◌, ◌+◌, ◌^◌, ◌-◌, ◌<◌, min, IfOk};
-ghost use Rattle.sd_full.specs.Choosing.{hint_shown};
 ghost use Rattle.sd_homes.specs.declared.home.Home.{Home as HomeOf};
 ghost use Rattle.sd_homes.specs.Families.{home_id};
-ghost use Rattle.sd_hand.specs.Hands.{how_many_held};
-ghost use Rattle.sd_world.specs.Plain.{Stands, told};
-ghost use Rattle.sd_world.specs.Worlds.{CanLock, CanTake};
-ghost use Rattle.sd_hostile.specs.Hostile.{HasHome, IsHeldNear, IsHostile, Moves, hostile_meaning, whole};
+ghost use Rattle.sd_hand.specs.Hands.{AreApart, how_many_held};
+ghost use Rattle.sd_world.specs.Plain.{Stands};
+ghost use Rattle.sd_world.specs.Worlds.{CanLock, CanTake, Rises};
+ghost use Rattle.sd_hostile.specs.Hostile.{HasHome, IsHeldNear, IsHostile, Moves, hint_in, hostile_meaning};
 ghost use Rattle.sd_hostile.specs.Plan.{ArePossible, trouble_at};
 
 use crate::plan::{Trouble, What, trouble_at};
@@ -39,7 +38,7 @@ impl<'a> HostileWorld<'a> {
         requires possible { ArePossible plan.items }
         ensures good { IfOk result (λ x. IsHostile x) }
         ensures empty { IfOk result (λ x. how_many_held x.near.hand.slots ≡ 0) }
-        ensures same { IfOk result (λ x. (x.inner ≡ inner) × (x.plan ≡ plan) × (x.calls ≡ 0) × (x.stops ≡ 0)) }
+        ensures same { IfOk result (λ x. (x.inner ≡ inner.entry) × (x.plan ≡ plan) × (x.calls ≡ 0) × (x.stops ≡ 0)) }
     {
         let near = Acting {
             hand: Hand::new(alloc)?,
@@ -58,8 +57,8 @@ impl<'a> HostileWorld<'a> {
     pub fn into_inner(self) -> PlainWorld<'a>
         requires good { IsHostile self }
         requires empty { how_many_held self.near.hand.slots ≡ 0 }
-        ensures stands { Stands self.inner.work.now result }
-        ensures same { result ≡ self.inner }
+        ensures stands { Stands self.entry.inner.work.now result }
+        ensures same { result ≡ self.entry.inner }
     {
         self.inner
     }
@@ -92,7 +91,8 @@ impl<'a> HostileWorld<'a> {
 
     /// Counts a stop.
     pub(crate) fn stop(&mut self)
-        ensures { self.new ≡ record self.old { stops = min (self.old.stops + 1) (2 ^ 64 - 1) } }
+        ensures stops { self.new ≡ record self.old { stops = self.new.stops } }
+        ensures rises { Rises self.old.stops self.new.stops }
     {
         self.stops = self.stops.saturating_add(1);
     }
@@ -113,7 +113,8 @@ impl<'a> HostileWorld<'a> {
     pub(crate) fn fetch(&mut self, k: HomeId)
         requires good { IsHostile self.old }
         requires can { CanTake (hostile_meaning self.old) k }
-        ensures { (home : HomeOf) × (home_id home ≡ k) × Moves self.old self.new home }
+        ensures moves { (home : HomeOf) × (home_id home ≡ k) × Moves self.old self.new home }
+        ensures apart { AreApart self.new.inner.acting.hand.slots }
     {
         match self.inner.acting.hand.release(k) {
             None => unreachable!(),
@@ -128,7 +129,8 @@ impl<'a> HostileWorld<'a> {
     pub(crate) fn give(&mut self, k: HomeId)
         requires good { IsHostile self.old }
         requires held { IsHeldNear self.old k }
-        ensures { (home : HomeOf) × Moves self.new self.old home }
+        ensures moves { (home : HomeOf) × Moves self.new self.old home }
+        ensures apart { AreApart self.new.near.hand.slots }
     {
         match self.near.hand.release(k) {
             None => unreachable!(),
@@ -143,7 +145,7 @@ impl<'a> HostileWorld<'a> {
     pub(crate) fn hint(&self, which: Which, d: CpuId) -> u8
         requires good { IsHostile self.now }
         requires cpu { d.0 < self.now.inner.work.now.cpus }
-        ensures { result ≡ hint_shown (told self.now.inner.work.now (whole self.now)) which d }
+        ensures { result ≡ hint_in self.now which d }
     {
         match self.near.hand.home(HomeId::Cpu(d)) {
             Ok(_) => shown_hint(&self.near, which, d),

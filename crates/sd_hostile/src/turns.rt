@@ -1,9 +1,8 @@
 //! What a processor asks of a world that follows a plan.
 
 ghost use Rattle.std.specs.Prelude.{◌≡◌, ◌≤◌, length, map};
-ghost use Rattle.sd_full.specs.Choosing.{hint_shown};
-ghost use Rattle.sd_world.specs.Plain.{AreCpus, told};
-ghost use Rattle.sd_hostile.specs.Hostile.{IsHostile, whole};
+ghost use Rattle.sd_world.specs.Plain.{AreCpus};
+ghost use Rattle.sd_hostile.specs.Hostile.{IsHostile, hint_in};
 
 use crate::hostile::HostileWorld;
 use crate::plan::What;
@@ -11,7 +10,7 @@ use arrayvec::ArrayVec;
 use sd_hand::Acting;
 use sd_mdisp::Reading;
 use sd_types::{CpuId, Event, Hints, HomeId, Stop, ThreadId, Which, Work};
-use sd_world::{Behind, MOST_ENTRIES, Take, ThreadLock, World, enter, reserve_entry};
+use sd_world::{Behind, MOST_ENTRIES, Take, ThreadLock, World, reserve_entry};
 
 impl<'a> HostileWorld<'a> {
     /// The numbers that these processors show, in their order.
@@ -19,7 +18,7 @@ impl<'a> HostileWorld<'a> {
         requires good { IsHostile self.now }
         requires fits { length cpus.now ≤ 64 }
         requires there { AreCpus self.now.inner.work.now cpus.now }
-        ensures { result.items ≡ map (hint_shown (told self.now.inner.work.now (whole self.now)) which) cpus.now }
+        ensures { result.items ≡ map (hint_in self.now which) cpus.now }
     {
         let mut numbers = ArrayVec::new();
         for d in cpus {
@@ -88,28 +87,22 @@ impl<'a> World for HostileWorld<'a> {
     }
 
     fn reserve(&mut self) -> Result<(), Stop> {
-        match self.next_trouble() {
-            Some(What::NoMemory) if self.inner.entries.len() < MOST_ENTRIES => Err(Stop::Memory),
-            _ => reserve_entry(&mut self.inner.entries),
+        let refused = matches!(self.next_trouble(), Some(What::NoMemory));
+        if refused && self.inner.entries.len() < MOST_ENTRIES {
+            return Err(Stop::Memory);
         }
+        reserve_entry(&mut self.inner.entries)
     }
 
     fn commit(&mut self, work: &Work, event: Event, hints: Option<Hints>) -> u64 {
         let number = self.inner.entries.len() as u64;
-        enter(
-            work,
-            &mut self.near,
-            &mut self.inner.actors,
-            &mut self.inner.entries,
-            event,
-            hints,
-        );
+        self.inner.enter_from(work, &mut self.near, event, hints);
         self.inner.acting.actor = self.near.actor;
         number
     }
 
     fn give_all(&mut self) {
-        while let Some(k) = self.near.hand.any_home() {
+        'giving: while let Some(k) = self.near.hand.any_home() {
             self.give(k);
         }
     }

@@ -3,6 +3,7 @@
 ghost use Rattle.std.specs.Prelude.{◌≡◌, ◌++◌, ◌<◌, ◌≤◌, ◌∷◌, [], Some, length, map, vec_capacity, vec_len, MatchOption};
 ghost use Rattle.sd_full.specs.Choosing.{hint_shown};
 ghost use Rattle.sd_full.specs.Events.{next};
+ghost use Rattle.sd_world.specs.Entries.{CanEnter, Enters};
 ghost use Rattle.sd_world.specs.Plain.{AreCpus, HasNoted, IsLess, NoneLess, Stands, told};
 
 use crate::entries::{MOST_ENTRIES, enter, reserve_entry};
@@ -81,6 +82,29 @@ impl<'a> PlainWorld<'a> {
         enter(
             work,
             &mut self.acting,
+            &mut self.actors,
+            &mut self.entries,
+            event,
+            hints,
+        );
+    }
+
+    /// Makes the event in the homes of a hand that is given, which have all that it touches, as an entry of this run.
+    pub fn enter_from(
+        &mut self,
+        work: &Work,
+        acting: &mut Acting,
+        event: Event,
+        hints: Option<Hints>,
+    )
+        requires can { CanEnter work.now acting.old self.old.actors.items self.old.entries.items event hints }
+        requires room { vec_len self.old.entries < vec_capacity self.old.entries }
+        ensures enters { Enters work.now acting.old acting.new self.old.actors.items self.new.actors.items self.old.entries.items self.new.entries.items event hints }
+        ensures rest { self.new ≡ record self.old { actors = self.new.actors; entries = self.new.entries } }
+    {
+        enter(
+            work,
+            acting,
             &mut self.actors,
             &mut self.entries,
             event,
