@@ -10,4 +10,5 @@ mod stepping;
 
 pub use entering::can_enter;
 pub use replays::{IllegalEntry, ReplayFault, replay, replay_from};
-pub use stepping::{make_entry, step};
+pub use serial::serial_next;
+pub use stepping::{apply, make_entry, step};

@@ -67,7 +67,7 @@ fn event_of(work: &Work, s: &State, c: CpuId, hints: &Option<Hints>, plan: Plan)
 /// The numbers that processor `c` reads in the state itself, and the event that it may make then, None where it may make
 /// none.
 #[tactic(auto, using(crate::proofs::EnteringLemmas::serial_event, crate::proofs::EnteringLemmas::shown_fit), unfolding(sd_full::specs::Runs::serial_hints, sd_full::specs::Events::reads))]
-pub(crate) fn serial_next(work: &Work, s: &State, c: CpuId) -> (Option<Hints>, Option<Event>)
+pub fn serial_next(work: &Work, s: &State, c: CpuId) -> (Option<Hints>, Option<Event>)
     requires fit { IsFit work.now s.now }
     requires cpu { c.0 < work.now.cpus }
     ensures hints { result.0 ≡ serial_hints work.now s.now c }

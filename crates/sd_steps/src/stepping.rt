@@ -24,8 +24,8 @@ fn next_of(work: &Work, s: &State, c: CpuId, hints: &Option<Hints>) -> Option<Ev
     }
 }
 
-/// Makes the state that which follows after entry `number` of processor `c`, with this event.
-fn apply(work: &Work, s: &mut State, number: u64, c: CpuId, event: Event)
+/// Makes the state that which follows after entry `number` of processor `c`, with this event. It takes no memory.
+pub fn apply(work: &Work, s: &mut State, number: u64, c: CpuId, event: Event)
     requires fit { IsFit work.now s.old }
     requires number { number < 2 ^ 62 }
     requires needs { Needs work.now s.old c event }

@@ -1,0 +1,7 @@
+use Rattle.std.proofs.Common.{◌≡◌, ◌-◌}
+use Rattle.sd_encoding.specs.Reading.{items_at}
+use Rattle.sd_encoding.proofs.ItemLemmas.{with_front}
+use Rattle.sd_encoding.proofs.items.read_items.Given as goal
+
+abbrev pub invariant-loop : goal.invariant-loop
+invariant-loop g l = with_front l.items.items (items_at g.T.Packed.at (l.count - l.counter) l.rest) ≡ items_at g.T.Packed.at l.count l.numbers

@@ -1,0 +1,25 @@
+//! A state as compact bytes, and back: its numbers, one after another, each in LEB128. With it a state with its rank for each key,
+//! so that states whose keys have the same order have the same bytes.
+#![tactic(auto)]
+
+mod arrays;
+mod bytes;
+mod classes;
+mod duties;
+mod encoding;
+mod identities;
+mod items;
+mod locks;
+mod packed;
+mod places;
+mod plain;
+mod processors;
+mod ranks;
+mod states;
+mod threads;
+
+pub use encoding::{decode, encode, encodings_differ, states_are_read_again};
+pub use ranks::rank;
+
+#[cfg(test)]
+mod tests;

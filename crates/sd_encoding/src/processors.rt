@@ -1,0 +1,54 @@
+//! Processors.
+
+use crate::packed::Packed;
+use sd_machine::CpuState;
+use sd_types::{Duty, SetId};
+use std::alloc::AllocError;
+
+impl Packed for CpuState {
+    ghost use Rattle.sd_encoding.specs.Numbers.{cpu};
+    ghost use Rattle.sd_encoding.specs.Reading.{cpu_at};
+    ghost use Rattle.sd_encoding.specs.Fits.{FitsCpu};
+    ghost use Rattle.sd_encoding.specs.Again.{cpu_again};
+
+    ghost numbers_of = { cpu };
+
+    ghost fits = { FitsCpu };
+
+    ghost at = { cpu_at };
+
+    ghost again = { cpu_again };
+
+    #[tactic(auto, unfolding(crate::specs::Numbers::cpu))]
+    fn write(&self, into: &mut Vec<u64>) -> Result<(), AllocError> {
+        self.count.write(into)?;
+        self.user.write(into)?;
+        self.kernel.write(into)?;
+        self.duty.write(into)?;
+        self.set.write(into)?;
+        self.closing.write(into)?;
+        self.bound.write(into)?;
+        Ok(())
+    }
+
+    #[tactic(auto, unfolding(crate::specs::Reading::cpu_at))]
+    fn read(numbers: &[u64]) -> Option<(CpuState, &[u64])> {
+        let (count, rest) = u32::read(numbers)?;
+        let (user, rest) = bool::read(rest)?;
+        let (kernel, rest) = bool::read(rest)?;
+        let (duty, rest) = Duty::read(rest)?;
+        let (set, rest) = SetId::read(rest)?;
+        let (closing, rest) = Option::read(rest)?;
+        let (bound, rest) = u16::read(rest)?;
+        let value = CpuState {
+            count,
+            user,
+            kernel,
+            duty,
+            set,
+            closing,
+            bound,
+        };
+        Some((value, rest))
+    }
+}

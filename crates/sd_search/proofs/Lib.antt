@@ -1,0 +1,10 @@
+pub mod BackLemmas
+pub mod FinalLemmas
+pub mod GrowLemmas
+pub mod KeyLemmas
+pub mod PathLemmas
+pub mod QuestionLemmas
+pub mod StoreLemmas
+pub mod TellLemmas
+pub mod TurnLemmas
+pub mod WitnessLemmas

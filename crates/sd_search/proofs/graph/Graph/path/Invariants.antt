@@ -1,0 +1,16 @@
+use Rattle.std.proofs.Common.{◌<◌, length}
+use Rattle.std.specs.Prelude.{reverse}
+use Rattle.sd_machine.specs.declared.states.State.{State as StateOf}
+use Rattle.sd_search.specs.Graphs.{IsAt, packed}
+use Rattle.sd_search.proofs.PathLemmas.{IsWay}
+use Rattle.sd_search.proofs.graph.Graph.path.Given as goal
+
+abbrev pub invariant-loop-at : goal.invariant-loop-at
+invariant-loop-at l = record {
+  inside : l.at < length (packed l.self);
+  way : (x : StateOf) → IsAt (packed l.self) l.fn.i x → IsWay l.work (packed l.self) l.at (reverse l.cpus.items) x;
+}
+
+-- proposed from the loop's first test
+abbrev pub decreases-loop-at : goal.decreases-loop-at
+decreases-loop-at l = l.at

@@ -1,0 +1,5 @@
+pub mod Finals
+pub mod Findings
+pub mod Graphs
+pub mod Questions
+pub mod Stored

@@ -1,0 +1,127 @@
+//! The search itself, breadth first: the states that each turn of each processor leads to are put in, from the first state on.
+
+ghost use Rattle.std.specs.Prelude.{◌≡◌, ◌+◌, ◌<◌, ◌≤◌, ◌⊎◌, ℕ, Some, length, nat_le, IfOk, OnOk};
+ghost use Rattle.sd_full.specs.Events.{after, next};
+ghost use Rattle.sd_full.specs.Runs.{serial_hints};
+ghost use Rattle.sd_interleavings.specs.Closed.{Has};
+ghost use Rattle.sd_interleavings.specs.Spelled.{IsTurn};
+ghost use Rattle.sd_machine.specs.declared.states.State.{State as StateOf};
+ghost use Rattle.sd_types.specs.declared.numbers.CpuId.{CpuId as CpuIdOf};
+ghost use Rattle.sd_ordered.specs.Ranks.{ranked};
+ghost use Rattle.sd_search.specs.Graphs.{Gathers, IsAmong, IsAt, IsGrown, IsTurned, packed};
+
+use crate::graph::{Graph, Step};
+use crate::packing::pack;
+use crate::store::insert;
+use sd_encoding::rank;
+use sd_machine::State;
+use sd_steps::{apply, serial_next};
+use sd_types::{CpuId, Event, Work};
+use std::alloc::{AllocError, Global};
+
+impl Graph {
+    /// Puts in a state that a turn leads to, where it is not there yet.
+    fn add(
+        &mut self,
+        alloc: Global,
+        work: &Work,
+        state: &State,
+        step: Step,
+    ) -> Result<(), AllocError>
+        requires gathered { Gathers work.now self.old }
+        requires turn { (x : StateOf) × IsAt (packed self.old) step.before x × IsTurn work.now x step.cpu state.now }
+        requires ranks { ranked state.now ≡ state.now }
+        ensures grown { OnOk result (IsGrown work.now self.old self.new) }
+        ensures has { OnOk result (IsAmong (packed self.new) state.now) }
+    {
+        let bytes = pack(alloc, state)?;
+        let is_new = insert(&mut self.states, bytes)?;
+        if is_new {
+            self.steps.push(step)?;
+        }
+        Ok(())
+    }
+
+    /// Puts in the state after an event of processor `c` in state number `i`.
+    fn follow(
+        &mut self,
+        alloc: Global,
+        work: &Work,
+        i: usize,
+        c: CpuId,
+        event: Event,
+    ) -> Result<(), AllocError>
+        requires gathered { Gathers work.now self.old }
+        requires inside { i < length (packed self.old) }
+        requires makes { (x : StateOf) → IsAt (packed self.old) i x → next work.now x c (serial_hints work.now x c) ≡ Some event }
+        ensures grown { OnOk result (IsGrown work.now self.old self.new) }
+        ensures leads { OnOk result ((x : StateOf) → IsAt (packed self.old) i x → Has (IsAmong (packed self.new)) (after work.now x 0 c event)) }
+    {
+        let mut state = self.state(alloc, work, i)?;
+        apply(work, &mut state, 0, c, event);
+        rank(alloc, &mut state)?;
+        self.add(alloc, work, &state, Step { before: i, cpu: c })
+    }
+
+    /// Puts in the state that the turn of processor `c` leads to from state number `i`, where it has one.
+    fn visit(
+        &mut self,
+        alloc: Global,
+        work: &Work,
+        i: usize,
+        state: &State,
+        c: CpuId,
+    ) -> Result<(), AllocError>
+        requires gathered { Gathers work.now self.old }
+        requires at { IsAt (packed self.old) i state.now }
+        requires cpu { c.0 < work.now.cpus }
+        ensures grown { OnOk result (IsGrown work.now self.old self.new) }
+        ensures turned { OnOk result (IsTurned work.now (packed self.new) state.now c) }
+    {
+        let (_, event) = serial_next(work, state, c);
+        match event {
+            Some(event) => self.follow(alloc, work, i, c, event),
+            None => Ok(()),
+        }
+    }
+
+    /// Puts in the states that the turns of all processors lead to from state number `i`.
+    fn visit_all(
+        &mut self,
+        alloc: Global,
+        work: &Work,
+        i: usize,
+        state: &State,
+    ) -> Result<(), AllocError>
+        requires gathered { Gathers work.now self.old }
+        requires at { IsAt (packed self.old) i state.now }
+        ensures grown { OnOk result (IsGrown work.now self.old self.new) }
+        ensures turned { OnOk result ((c : CpuIdOf) → IsTurned work.now (packed self.new) state.now c) }
+    {
+        for c in 0..work.cpus {
+            self.visit(alloc, work, i, state, CpuId(c))?;
+        }
+        Ok(())
+    }
+
+    /// Expands one state more, the first that is not.
+    pub(crate) fn expand(&mut self, alloc: Global, work: &Work) -> Result<(), AllocError>
+        requires gathered { Gathers work.now self.old }
+        requires more { self.old.done < length (packed self.old) }
+        ensures gathered { OnOk result (Gathers work.now self.new) }
+        ensures done { OnOk result (self.new.done ≡ self.old.done + 1) }
+    {
+        let i = self.done;
+        let state = self.state(alloc, work, i)?;
+        self.visit_all(alloc, work, i, &state)?;
+        self.done = i + 1;
+        Ok(())
+    }
+
+    /// Each state was expanded: the search has looked at every order.
+    pub fn is_closed(&self) -> bool
+        ensures { result ≡ nat_le (length (packed self.now)) self.now.done }
+    {
+        self.states.len() <= self.done
+    }
+}

@@ -1,0 +1,49 @@
+//! The search from the initial state on.
+
+ghost use Rattle.std.specs.Prelude.{◌≤◌, ◌⊎◌, length, IfOk};
+ghost use Rattle.sd_search.specs.Graphs.{AreApart, Gathers, HasEveryRun, packed};
+
+use crate::graph::{Graph, Step};
+use crate::packing::pack;
+use crate::store::insert;
+use indexmap::IndexSet;
+use sd_encoding::rank;
+use sd_opening::opening;
+use sd_types::{CpuId, Work};
+use std::alloc::{AllocError, Global};
+
+/// The initial state alone.
+fn begin(alloc: Global, work: &Work) -> Result<Graph, AllocError>
+    ensures { IfOk result (Gathers work.now) }
+{
+    let mut state = opening(alloc, work)?;
+    rank(alloc, &mut state)?;
+    let bytes = pack(alloc, &state)?;
+    let mut states = IndexSet::new(alloc);
+    insert(&mut states, bytes)?;
+    let mut steps = Vec::new(alloc);
+    steps.push(Step {
+        before: 0,
+        cpu: CpuId(0),
+    })?;
+    Ok(Graph {
+        states,
+        steps,
+        done: 0,
+    })
+}
+
+/// The states to which the turns of the processors lead, in whatever order they act: all of them, or `most` and those that the
+/// last state expanded leads to. The time is that of expanding each state once.
+pub fn explore(alloc: Global, work: &Work, most: usize) -> Result<Graph, AllocError>
+    ensures gathered { IfOk result (Gathers work.now) }
+    ensures apart { IfOk result (λ g. AreApart (packed g)) }
+    ensures all { IfOk result (λ g. length (packed g) ≤ g.done → HasEveryRun work.now (packed g)) }
+    ensures ends { IfOk result (λ g. (length (packed g) ≤ g.done) ⊎ (most ≤ length (packed g))) }
+{
+    let mut graph = begin(alloc, work)?;
+    'states: while graph.done < graph.len() && graph.len() < most {
+        graph.expand(alloc, work)?;
+    }
+    Ok(graph)
+}

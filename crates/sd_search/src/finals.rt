@@ -1,0 +1,88 @@
+//! The states in which runs end, and which of them are as was asked for.
+
+ghost use Rattle.std.specs.Prelude.{◌≡◌, ◌↔◌, ◌<◌, [], ◌∷◌, ◌++◌, length, if◌then◌else◌, IsTrue, IfOk, OnOk};
+ghost use Rattle.sd_machine.specs.declared.states.State.{State as StateOf};
+ghost use Rattle.sd_search.specs.Finals.{AreFinals, Ends, IsAnswer};
+ghost use Rattle.sd_search.specs.Graphs.{Gathers, IsAt, packed};
+ghost use Rattle.sd_search.specs.Questions.{HasPart};
+
+use crate::graph::Graph;
+use crate::judging::{has_part, is_complete};
+use crate::questions::{Answer, Question};
+use sd_types::Work;
+use std::alloc::{AllocError, Global};
+
+fn note(finals: &mut Vec<usize>, i: usize, ends: bool) -> Result<(), AllocError>
+    ensures { OnOk result (finals.new.items ≡ finals.old.items ++ (if ends then i ∷ [] else [])) }
+{
+    if ends {
+        finals.push(i)?;
+    }
+    Ok(())
+}
+
+impl Graph {
+    /// A run ends in state number `i`.
+    fn is_final(&self, alloc: Global, work: &Work, i: usize) -> Result<bool, AllocError>
+        requires gathered { Gathers work.now self.now }
+        requires inside { i < length (packed self.now) }
+        ensures { IfOk result (λ r. IsTrue r ↔ Ends work.now (packed self.now) i) }
+    {
+        let state = self.state(alloc, work, i)?;
+        Ok(is_complete(work, &state))
+    }
+
+    /// The numbers of the states in which runs end, in rising order.
+    pub fn finals(&self, alloc: Global, work: &Work) -> Result<Vec<usize>, AllocError>
+        requires gathered { Gathers work.now self.now }
+        ensures { IfOk result (λ v. AreFinals work.now (packed self.now) (length (packed self.now)) v.items) }
+    {
+        let mut finals = Vec::new(alloc);
+        for i in 0..self.len() {
+            let ends = self.is_final(alloc, work, i)?;
+            note(&mut finals, i, ends)?;
+        }
+        Ok(finals)
+    }
+
+    /// State number `i` is as was asked for, but for whether a run ends there.
+    fn is_asked(
+        &self,
+        alloc: Global,
+        work: &Work,
+        i: usize,
+        question: Question,
+    ) -> Result<bool, AllocError>
+        requires gathered { Gathers work.now self.now }
+        requires inside { i < length (packed self.now) }
+        ensures { IfOk result (λ r. (x : StateOf) → IsAt (packed self.now) i x → (IsTrue r ↔ HasPart work.now question x)) }
+    {
+        let state = self.state(alloc, work, i)?;
+        has_part(alloc, work, &state, question)
+    }
+
+    /// The answer to a question by the states in which runs end: the first that is as was asked for, where one is. `Never` only
+    /// where all states were reached.
+    pub fn find(
+        &self,
+        alloc: Global,
+        work: &Work,
+        finals: &[usize],
+        question: Question,
+    ) -> Result<Answer, AllocError>
+        requires gathered { Gathers work.now self.now }
+        requires finals { AreFinals work.now (packed self.now) (length (packed self.now)) finals.now }
+        ensures { IfOk result (IsAnswer work.now question (packed self.now)) }
+    {
+        for i in finals {
+            if self.is_asked(alloc, work, *i, question)? {
+                return Ok(Answer::Found { index: *i });
+            }
+        }
+        if self.is_closed() {
+            Ok(Answer::Never)
+        } else {
+            Ok(Answer::More)
+        }
+    }
+}

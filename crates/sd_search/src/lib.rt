@@ -1,0 +1,19 @@
+//! The search of every order in which the processors of a workload can act.
+#![tactic(auto)]
+
+mod expanding;
+mod exploring;
+mod finals;
+mod findings;
+mod graph;
+mod judging;
+mod packing;
+mod questions;
+mod store;
+mod witnesses;
+
+pub use exploring::explore;
+pub use findings::Finding;
+pub use graph::{Graph, Step};
+pub use questions::{Answer, Question};
+pub use witnesses::witness;
