@@ -1,9 +1,10 @@
 -- The processor on which a thread ran last is there: it stays through each event that brings no thread to a processor, and one
 -- that does is made by a processor that is there.
-use Rattle.std.proofs.Common.{◌≡◌, ℕ, zero, suc, ◌+◌, ◌-◌, ◌<◌, ◌≤◌, Bool, true, false, List, [], ◌∷◌, length, get_or, Option, Some, None, is_none, refl, sym, subst, inl, inr, arith}
+use Rattle.std.proofs.Common.{◌≡◌, ℕ, zero, suc, ◌+◌, ◌-◌, ◌<◌, ◌≤◌, Bool, true, false, List, [], ◌∷◌, length, get_or, Option, Some, None, is_none, refl, sym, subst, inl, inr, arith, ◌≢◌, ap, ◌∙◌}
 use Rattle.std.specs.Prelude.{if◌then◌else◌, Result, Ok, Err, nat_lt, nat_le, ◌==◌}
 use Rattle.std.specs.List.{list_all}
-use Rattle.std.proofs.lemmas.Bool.{cases_lt}
+use Rattle.std.proofs.lemmas.Bool.{cases_lt, eq-eqb, false≢true}
+use Rattle.std.proofs.lemmas.List.{get_or-set_other}
 use Rattle.sd_types.specs.declared.numbers.ChanId.{ChanId}
 use Rattle.sd_types.specs.declared.numbers.CpuId.{CpuId}
 use Rattle.sd_types.specs.declared.numbers.LockId.{LockId}
@@ -451,3 +452,39 @@ opening_last w t = all_last w 0 w.threads w.threads_fit t
 
 pub lasts_are_there : HoldsWhenReached LastsAreThere
 lasts_are_there = held_reached LastsAreThere (record { start = opening_last; step = λ w s n c e reached here cause h. after_there w s n c e here h })
+
+-- The processor on which a thread ran last stays, unless the event brings this thread to a processor.
+
+abbrev pub brings : Event → ℕ → Bool
+brings (Dispatch t p) u = t.0 == u
+brings (Steal v t p) u = t.0 == u
+brings _ u = false
+
+run_on_else : (s : State) (t : ℕ) (c : CpuId) (u : ℕ) → u ≢ t → last_part (thread_of (run_on s t c) u) ≡ last_part (thread_of s u)
+unfolding run_on
+run_on_else s t c u other = ap last_part (get_or-set_other s.threads t u (record { body = arrived c (thread_of s t).body; place = Running c }) no_thread other)
+
+not_brought : (t u : ℕ) → (t == u) ≡ false → u ≢ t
+not_brought t u e same = false≢true (sym e ∙ eq-eqb t u (sym same))
+
+dispatched_else : (s : State) (c : CpuId) (t u : ℕ) → u ≢ t → last_part (thread_of (dispatched s c t) u) ≡ last_part (thread_of s u)
+unfolding dispatched
+dispatched_else s c t u other = run_on_else (clear_marks s c.0) t c u other ∙ (clear_marks_same last_part s c.0).each u
+
+stolen_else : (s : State) (c : CpuId) (t u : ℕ) → u ≢ t → last_part (thread_of (stolen s c t) u) ≡ last_part (thread_of s u)
+unfolding stolen
+stolen_else s c t u other = run_on_else s t c u other
+
+brought_else : (w : Work) (s : State) (n : ℕ) (c : CpuId) (e : Event) (u : ℕ) → brings_none e ≡ false → brings e u ≡ false → last_part (thread_of (effect w s n c e) u) ≡ last_part (thread_of s u)
+unfolding effect
+brought_else w s n c (Dispatch t p) u is none = dispatched_else s c t.0 u (not_brought t.0 u none)
+brought_else w s n c (Steal v t p) u is none = stolen_else s c t.0 u (not_brought t.0 u none)
+brought_else w s n c _ u is none = cc
+
+quiet_else : (w : Work) (s : State) (n : ℕ) (c : CpuId) (e : Event) (u : ℕ) → (b : Bool) → brings_none e ≡ b → brings e u ≡ false → last_part (thread_of (effect w s n c e) u) ≡ last_part (thread_of s u)
+quiet_else w s n c e u true is none = (effect_last w s n c e is).each u
+quiet_else w s n c e u false is none = brought_else w s n c e u is none
+
+pub others_last : (w : Work) (s : State) (n : ℕ) (c : CpuId) (e : Event) (u : ℕ) → brings e u ≡ false → (thread_of (after w s n c e) u).body.last ≡ (thread_of s u).body.last
+unfolding after
+others_last w s n c e u none = quiet_else w (drop_ageing s c.0 e) n c e u (brings_none e) refl none ∙ (drop_last s c.0 e).each u

@@ -1,0 +1,11 @@
+pub mod Board
+pub mod Bridge
+pub mod Commits
+pub mod Length
+pub mod Lists
+pub mod Making
+pub mod Movers
+pub mod Seats
+pub mod Since
+pub mod Steps
+pub mod Words
