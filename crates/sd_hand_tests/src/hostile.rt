@@ -41,6 +41,7 @@ const FIRST_QUEUED: [Option<u16>; 9] = [
 ];
 
 /// A gate that reads the home just taken: how often it was passed, and whether each time there was what was to be there.
+#[derive(Drop)]
 struct Reader {
     passes: Cell<u64>,
     right: Cell<bool>,

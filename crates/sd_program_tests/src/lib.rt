@@ -4,4 +4,6 @@
 #[cfg(test)]
 mod failing;
 #[cfg(test)]
+mod large;
+#[cfg(test)]
 mod runs;
