@@ -21,6 +21,15 @@ script a\nenter l\nenter r\nexit r\nexit l\nend\nscript b\nenter r\nenter l\nexi
 const CIRCLE: &[u8] = b"limit 3\nmutex l\nmutex r\nthread a ts 30 0 0\nthread b ts 30 0 0\n\
 script a\nenter l\nyield\nenter r\nexit r\nexit l\nend\nscript b\nenter r\nenter l\nexit l\nexit r\nend\n";
 
+/// Five philosophers on five processors, who all take the left fork first.
+const DINING: &[u8] =
+    b"cpus 5\nlimit 10\nmutex f0\nmutex f1\nmutex f2\nmutex f3\nmutex f4\nthread p0 ts 29 0 0\nthread p1 ts 29 0 0\nthread p2 ts 29 0 0\nthread p3 ts 29 0 0\nthread p4 ts 29 0 0\n\
+script p0\nrun 1\nenter f0\nrun 3\nenter f1\nrun 2\nexit f1\nexit f0\nend\n\
+script p1\nrun 1\nenter f1\nrun 3\nenter f2\nrun 2\nexit f2\nexit f1\nend\n\
+script p2\nrun 1\nenter f2\nrun 3\nenter f3\nrun 2\nexit f3\nexit f2\nend\n\
+script p3\nrun 1\nenter f3\nrun 3\nenter f4\nrun 2\nexit f4\nexit f3\nend\n\
+script p4\nrun 1\nenter f4\nrun 3\nenter f0\nrun 2\nexit f0\nexit f4\nend\n";
+
 /// What is seen of a search: how many states, in how many of them runs end, and how many entries a run has that ends so; None
 /// where none was found.
 #[derive(Clone, Copy, Debug, PartialEq, Eq)]
@@ -79,6 +88,14 @@ fn races_are_searched(rt: HostRuntime) -> Result<(), Fail> {
             entries: None
         }
     );
+    Ok(())
+}
+
+#[test]
+fn philosophers_are_searched(rt: HostRuntime) -> Result<(), Fail> {
+    let dining = counts_of(rt.alloc(), DINING, 10_000, Question::Blocked)?;
+    assert_eq!(rt; dining.states, 1483);
+    assert_eq!(rt; dining.entries, None);
     Ok(())
 }
 
