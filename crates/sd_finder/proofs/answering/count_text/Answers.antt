@@ -1,0 +1,10 @@
+use Rattle.sd_finder.proofs.answering.count_text.Goals as goal
+
+pub returns : goal.returns
+returns c = record {
+  graph = c.in_ok-graph.graph;
+  search = c.in_ok-graph.ensures;
+  finals = c.in_ok-finals.finals.items;
+  are = c.in_ok-finals.ensures;
+  written = rw (c.len-many.ensures, c.len.ensures, c.in_ok-finals.finals.ok.0) at c.in_ok-text.ensures;
+}

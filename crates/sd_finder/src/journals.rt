@@ -1,0 +1,88 @@
+//! The journal of a run as a text.
+
+ghost use Rattle.std.specs.Prelude.{◌≡◌, ◌++◌, ◌<◌, ◌^◌, length, IfOk, OnOk};
+ghost use Rattle.sd_accounts.specs.Counters.{HasTaken};
+ghost use Rattle.sd_full.specs.Runs.{final};
+ghost use Rattle.sd_full.specs.Texts.{cycles_text, entries_text, journal};
+ghost use Rattle.sd_machine.specs.Opening.{opening};
+ghost use Rattle.sd_machine.specs.Texts.{accounts_text};
+
+use sd_accounts::Accounts;
+use sd_event::write_entry;
+use sd_machine::State;
+use sd_steps::replay;
+use sd_types::{Entry, Work};
+use std::alloc::{AllocError, Global};
+
+/// The most entries of a run that is shown (this project's own): memory is taken to run out there.
+const MOST_ENTRIES: usize = 1 << 40;
+
+/// Appends the entries in order.
+#[tactic(auto, unfolding(sd_full::specs::Texts::entries_text))]
+fn write_entries(
+    alloc: Global,
+    work: &Work,
+    entries: &[Entry],
+    out: &mut Vec<u8>,
+) -> Result<(), AllocError>
+    ensures { OnOk result (out.new.items ≡ out.old.items ++ entries_text work.now entries.now) }
+{
+    for entry in entries {
+        write_entry(alloc, work, entry, out)?;
+    }
+    Ok(())
+}
+
+/// The accounts of the entries.
+fn counted(alloc: Global, work: &Work, entries: &[Entry]) -> Result<Accounts, AllocError>
+    requires { length entries.now < 2 ^ 48 }
+    ensures { IfOk result (λ a. HasTaken work.now entries.now a) }
+{
+    let mut accounts = Accounts::new(alloc, work)?;
+    for entry in entries {
+        accounts.add(entry);
+    }
+    Ok(accounts)
+}
+
+/// The state after the entries of a run. Where they are no run, memory is taken to run out.
+fn state_after(alloc: Global, work: &Work, entries: &[Entry]) -> Result<State, AllocError>
+    ensures { IfOk result (λ s. s ≡ final work.now (opening work.now) entries.now) }
+{
+    match replay(alloc, work, entries) {
+        Ok(state) => Ok(state),
+        Err(_) => Err(AllocError),
+    }
+}
+
+/// Appends the accounts of a run, and the blocking cycles of its last state.
+fn write_accounts(
+    alloc: Global,
+    work: &Work,
+    entries: &[Entry],
+    out: &mut Vec<u8>,
+) -> Result<(), AllocError>
+    requires { length entries.now < 2 ^ 48 }
+    ensures { OnOk result (let s = final work.now (opening work.now) entries.now in out.new.items ≡ out.old.items ++ (accounts_text work.now entries.now s ++ cycles_text work.now s)) }
+{
+    let state = state_after(alloc, work, entries)?;
+    let accounts = counted(alloc, work, entries)?;
+    accounts.write_accounts(alloc, work, &state, out)
+}
+
+/// Appends the journal of a run: its entries, its accounts, the blocking cycles of its last state.
+#[tactic(auto, unfolding(sd_full::specs::Texts::journal))]
+pub fn write_journal(
+    alloc: Global,
+    work: &Work,
+    entries: &[Entry],
+    out: &mut Vec<u8>,
+) -> Result<(), AllocError>
+    ensures { OnOk result (out.new.items ≡ out.old.items ++ journal work.now entries.now) }
+{
+    if entries.len() > MOST_ENTRIES {
+        return Err(AllocError);
+    }
+    write_entries(alloc, work, entries, out)?;
+    write_accounts(alloc, work, entries, out)
+}
