@@ -32,6 +32,7 @@ use Rattle.sd_table_rule.specs.declared.views.Desk.{Desk}
 use Rattle.sd_table_rule.specs.declared.views.View.{View}
 use Rattle.sd_table_rule.specs.declared.views.View.TheVariants.{Works}
 use Rattle.sd_table_rule.specs.Ledgers.{by}
+use Rattle.sd_table_rule.specs.Movers.{mover}
 use Rattle.sd_table_rule.specs.Places.{Apart, holds, now, sizes}
 use Rattle.sd_table_rule.specs.Plays.{Slot, desk_of, is_noted}
 use Rattle.sd_table.specs.declared.seat.Held.{Held}
@@ -182,6 +183,10 @@ HasMade w n e hints x y = (s : State) → IsReached w n s → IsShown x n s → 
 -- no thread but this, which stands in the hand
 abbrev pub IsMoved : ℕ → Acting → List ℕ → Type 0
 IsMoved t x ts = (ts ≡ []) ⊎ ((ts ≡ t ∷ []) × (has_thread t x.hand.slots ≡ true))
+
+-- no thread but the event's mover
+abbrev pub AreMoved : Event → Acting → List ℕ → Type 0
+AreMoved e x ts = MatchOption (mover e) (ts ≡ []) (λ u. IsMoved u.0 x ts)
 
 -- but for words that are no matter of the seat's
 pub record IsSameSeat (s s' : Seat) : Type 0 where

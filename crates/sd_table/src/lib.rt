@@ -1,6 +1,7 @@
 //! The homes of a run behind locks, in a table that all processors share.
 #![tactic(auto)]
 
+mod commit;
 mod reading;
 mod rule;
 mod seat;
