@@ -1,0 +1,14 @@
+//! The homes of a run behind locks, in a table that all processors share.
+#![tactic(auto)]
+
+mod commit;
+mod reading;
+mod rule;
+mod seat;
+mod shared;
+mod steps;
+mod taking;
+
+pub use rule::{Intent, Rule};
+pub use seat::{Held, Seat};
+pub use shared::Shared;
