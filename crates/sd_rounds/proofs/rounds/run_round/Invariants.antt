@@ -1,7 +1,7 @@
 use Rattle.std.proofs.Common.{◌≡◌, ◌++◌, ◌<◌, ◌≤◌, length, drop}
 use Rattle.sd_full.specs.Runs.{round}
 use Rattle.sd_world.specs.Plain.{Stands, told}
-use Rattle.sd_world.specs.declared.turns.TheConstants.{MOST_ENTRIES}
+use Rattle.sd_world.specs.declared.entries.TheConstants.{MOST_ENTRIES}
 use Rattle.sd_rounds.proofs.rounds.run_round.Given as goal
 
 -- what was made, and what is left of the round from here, are what was there and the whole round

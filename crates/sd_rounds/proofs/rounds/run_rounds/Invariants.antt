@@ -1,6 +1,6 @@
 use Rattle.std.proofs.Common.{◌≡◌, ℕ, ◌-◌, ◌≤◌, length}
 use Rattle.sd_world.specs.Plain.{Stands}
-use Rattle.sd_world.specs.declared.turns.TheConstants.{MOST_ENTRIES}
+use Rattle.sd_world.specs.declared.entries.TheConstants.{MOST_ENTRIES}
 use Rattle.sd_rounds.specs.Orders.{orders_of, generator_at}
 use Rattle.sd_rounds.specs.Rounds.{HasRounds}
 use Rattle.sd_rounds.proofs.rounds.run_rounds.Given as goal
