@@ -5,6 +5,4 @@
 #[cfg(test)]
 mod all_homes;
 #[cfg(test)]
-mod hostile;
-#[cfg(test)]
 mod tests;
