@@ -79,7 +79,11 @@ fn all_woken(alloc: Global) -> Result<Vec<u8>, AllocError> {
         let line = [("", first + 1 + i), (" c0 rouse k t", i)];
         put_line(&mut text, &line, " to c0\n")?;
     }
-    put_line(&mut text, &[("", first + 1 + SLEEPERS)], " c0 preempt z front\n")?;
+    put_line(
+        &mut text,
+        &[("", first + 1 + SLEEPERS)],
+        " c0 preempt z front\n",
+    )?;
     Ok(text)
 }
 

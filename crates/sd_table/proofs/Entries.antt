@@ -76,6 +76,7 @@ one_from p u a (suc n) only = by (p a) refl (one_from p u (a + 1) n only)
     out : (t : ℕ) → p a ≡ true → a + 1 ≤ t → (b : Bool) → p t ≡ b → p t ≡ false
     out t on l true e = (let x = only a on in let y = only t e in absurd (omega (arith, x, y, l)))
     out t on l false e = e
+
     by : (b : Bool) → p a ≡ b → (filter p (range_with_len (a + 1) n) ≡ []) ⊎ ((filter p (range_with_len (a + 1) n) ≡ u ∷ []) × (p u ≡ true) × (u < a + 1 + n))
         → (filter p (range_with_len a (suc n)) ≡ []) ⊎ ((filter p (range_with_len a (suc n)) ≡ u ∷ []) × (p u ≡ true) × (u < a + suc n))
     by true e r =
@@ -216,29 +217,36 @@ module _ (w : Work) (t : TableId) (s : Seat) (f : Fits t w s) where
         let to = (moves w h entry run_whole u apart).1 in
         let here = touched_held h e (place_home w (now w whole) u) may.shown may.run (can.holds h may) to in
         stander u inside here
+
     pub are_moved : AreMoved e s1.acting (moved w (now w h) (now w (h ++ entry_as (length h) (desk s).cpu e hints ∷ [])) ++ (desk s).stray)
     unfolding moved
     are_moved = by (mover e) refl
       where
         p : ℕ → Bool
         p t = not (place_home w (now w h) t == place_home w (now w (h ++ entry_as (length h) (desk s).cpu e hints ∷ [])) t)
+
         list : List ℕ
         list = filter (λ t. not (place_home w (now w h) t == place_home w (now w (h ++ entry_as (length h) (desk s).cpu e hints ∷ [])) t)) (range_with_len 0 (length w.threads))
+
         plain : list ++ (desk s).stray ≡ list
         plain = ap (λ l. list ++ l) f.settled ∙ append-nil list
+
         law : (u : ℕ) → p u ≡ true → IsMover e u
         law u on = moves_mover w h entry run_whole u (apart_if (place_home w (now w h) u) (place_home w (now w whole) u) on)
+
         same_mover : (x : ℕ) (u : ThreadId) → mover e ≡ Some u → IsMover e x → x ≡ u.0
         same_mover x u on m = let z : Some m.0 ≡ Some u = sym m.1 ∙ on in let same : m.0 ≡ u = cc in sym m.2 ∙ ap (λ (y : ThreadId). y.0) same
+
         none : mover e ≡ None → (u : ℕ) → (b : Bool) → p u ≡ b → p u ≡ false
         none off u true on = absurd (none_some (mover e) ((law u on).0) off (law u on).1)
         none off u false q = q
+
         by : (o : Option ThreadId) → mover e ≡ o → MatchOption o (list ++ (desk s).stray ≡ []) (λ u. IsMoved u.0 s1.acting (list ++ (desk s).stray))
         by None off = plain ∙ none_from p 0 (length w.threads) (λ u l. none off u (p u) refl)
         by (Some u) on = ⊎_elim
             (λ q. inl (plain ∙ q))
             (λ (q : (filter p (range_with_len 0 (length w.threads)) ≡ u.0 ∷ []) × (p u.0 ≡ true) × (u.0 < 0 + length w.threads)).
-              inr (plain ∙ q.0, moved_in u.0 (let z = q.2 in omega (arith, z)) (apart_if (place_home w (now w h) u.0) (place_home w (now w whole) u.0) q.1)))
+            inr (plain ∙ q.0, moved_in u.0 (let z = q.2 in omega (arith, z)) (apart_if (place_home w (now w h) u.0) (place_home w (now w whole) u.0) q.1)))
             (one_from p u.0 0 (length w.threads) (λ x px. same_mover x u on (law x px)))
 
     pub commits_made : (s2 : Seat) → Publishes s1 s2 → s2.place.table_id ≡ t → Commits (seat_meaning w s) (seat_meaning w s2) n e hints

@@ -61,7 +61,7 @@ lay-requires-clause-home c =
       x,
       ap (λ m. m.1) e3 ∙ ap (λ l. (i, Some x) ∷ l) (sym (ap (λ m. rest m.1) e3)),
       subst (λ m. Stands w i (desk_of m.0).seen x) (sym e3) (subst (λ p. Stands w i (desk_of p.me.0).seen x) (sym low.place)
-        (subst (λ j. Stands w j (desk c.args.seat.now).seen x) (sym e) (F.lowered_stands w _ c.args.seat.now c.put_down-home.new.self x c.requires.fits low))),
+          (subst (λ j. Stands w j (desk c.args.seat.now).seen x) (sym e) (F.lowered_stands w _ c.args.seat.now c.put_down-home.new.self x c.requires.fits low))),
     )
 
 pub returns-clause-fits : goal.returns-clause-fits
