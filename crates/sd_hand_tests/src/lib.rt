@@ -5,4 +5,6 @@
 #[cfg(test)]
 mod all_homes;
 #[cfg(test)]
+mod hostile;
+#[cfg(test)]
 mod tests;
