@@ -40,11 +40,7 @@ pub fn count_text(alloc: Global, work: &Work, most: u64) -> Result<Vec<u8>, Allo
     let graph = search(alloc, work, most)?;
     let finals = graph.finals(alloc, work)?;
     let many = graph.len();
-    let text = text_of_count(
-        alloc,
-        (many as u64) < most,
-        many as u64,
-        finals.len() as u64,
-    )?;
+    let all = graph.is_closed();
+    let text = text_of_count(alloc, all, many as u64, finals.len() as u64)?;
     Ok(text)
 }

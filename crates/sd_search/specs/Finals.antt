@@ -1,13 +1,14 @@
 -- The states in which runs end, and the answer to a question.
 -- Source: this project's own.
-use Rattle.std.specs.Prelude.{◌≡◌, ◌⊎◌, ℕ, zero, suc, List, [], ◌∷◌, ◌++◌}
+use Rattle.std.specs.Prelude.{◌≡◌, ◌⊎◌, ℕ, ◌<◌, zero, suc, List, [], ◌∷◌, ◌++◌, length, ⊤}
 use Rattle.sd_types.specs.declared.works.Work.{Work}
 use Rattle.sd_machine.specs.declared.states.State.{State}
 use Rattle.sd_full.specs.Runs.{IsComplete}
+use Rattle.sd_search.specs.declared.graph.Graph.{Graph}
 use Rattle.sd_search.specs.declared.questions.Answer.{Answer}
 use Rattle.sd_search.specs.declared.questions.Answer.TheVariants.{Found, Never, More}
 use Rattle.sd_search.specs.declared.questions.Question.{Question}
-use Rattle.sd_search.specs.Graphs.{IsAt}
+use Rattle.sd_search.specs.Graphs.{IsAt, packed}
 use Rattle.sd_search.specs.Questions.{HasNoWitness, Meets}
 
 -- a run ends in state number i
@@ -29,3 +30,8 @@ abbrev pub IsAnswer : Work → Question → List (List ℕ) → Answer → Type 
 IsAnswer w q bs (Found i) = (x : State) × IsAt bs i x × Meets w q x
 IsAnswer w q bs Never = HasNoWitness w q
 IsAnswer w q bs More = (i : ℕ) (x : State) → IsAt bs i x → Meets w q x → ⊥
+
+-- `More` is the answer only where not all was searched
+abbrev pub IsOpen : Graph → Answer → Type 0
+IsOpen g More = g.done < length (packed g)
+IsOpen g _ = ⊤

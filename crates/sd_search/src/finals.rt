@@ -2,7 +2,7 @@
 
 ghost use Rattle.std.specs.Prelude.{◌≡◌, ◌↔◌, ◌<◌, [], ◌∷◌, ◌++◌, length, if◌then◌else◌, IsTrue, IfOk, OnOk};
 ghost use Rattle.sd_machine.specs.declared.states.State.{State as StateOf};
-ghost use Rattle.sd_search.specs.Finals.{AreFinals, Ends, IsAnswer};
+ghost use Rattle.sd_search.specs.Finals.{AreFinals, Ends, IsAnswer, IsOpen};
 ghost use Rattle.sd_search.specs.Graphs.{Gathers, IsAt, packed};
 ghost use Rattle.sd_search.specs.Questions.{HasPart};
 
@@ -72,7 +72,8 @@ impl Graph {
     ) -> Result<Answer, AllocError>
         requires gathered { Gathers work.now self.now }
         requires finals { AreFinals work.now (packed self.now) (length (packed self.now)) finals.now }
-        ensures { IfOk result (IsAnswer work.now question (packed self.now)) }
+        ensures answer { IfOk result (IsAnswer work.now question (packed self.now)) }
+        ensures open { IfOk result (IsOpen self.now) }
     {
         for i in finals {
             if self.is_asked(alloc, work, *i, question)? {

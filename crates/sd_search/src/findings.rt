@@ -7,7 +7,7 @@ ghost use Rattle.sd_machine.specs.Opening.{opening};
 ghost use Rattle.sd_machine.specs.declared.states.State.{State as StateOf};
 ghost use Rattle.sd_types.specs.declared.numbers.CpuId.{CpuId as CpuIdOf};
 ghost use Rattle.sd_search.specs.Finals.{AreFinals};
-ghost use Rattle.sd_search.specs.Findings.{IsFinding};
+ghost use Rattle.sd_search.specs.Findings.{IsFair, IsFinding};
 ghost use Rattle.sd_search.specs.Graphs.{Gathers, IsAt, packed};
 
 use crate::graph::Graph;
@@ -51,7 +51,8 @@ impl Graph {
     ) -> Result<Finding, AllocError>
         requires gathered { Gathers work.now self.now }
         requires finals { AreFinals work.now (packed self.now) (length (packed self.now)) finals.now }
-        ensures { IfOk result (IsFinding work.now question) }
+        ensures finding { IfOk result (IsFinding work.now question) }
+        ensures fair { IfOk result (IsFair work.now question self.now) }
     {
         match self.find(alloc, work, finals, question)? {
             Answer::Found { index } => {

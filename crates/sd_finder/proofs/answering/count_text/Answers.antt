@@ -6,5 +6,5 @@ returns c = record {
   search = c.in_ok-graph.ensures;
   finals = c.in_ok-finals.finals.items;
   are = c.in_ok-finals.ensures;
-  written = rw (c.len-many.ensures, c.len.ensures, c.in_ok-finals.finals.ok.0) at c.in_ok-text.ensures;
+  written = rw (c.len-many.ensures, c.is_closed-all.ensures, c.len.ensures, c.in_ok-finals.finals.ok.0) at c.in_ok-text.ensures;
 }

@@ -1,7 +1,7 @@
 use Rattle.std.proofs.Common.{subst}
 use Rattle.sd_search.specs.declared.questions.Answer.{Answer}
 use Rattle.sd_search.specs.declared.questions.Answer.TheVariants.{Found}
-use Rattle.sd_search.specs.Finals.{IsAnswer}
+use Rattle.sd_search.specs.Finals.{IsAnswer, IsOpen}
 use Rattle.sd_search.specs.Graphs.{packed}
 use Rattle.sd_search.proofs.FinalLemmas.{found_witness}
 use Rattle.sd_search.proofs.TellLemmas.{inside_at}
@@ -10,12 +10,19 @@ use Rattle.sd_search.proofs.graph.Graph.finding.Goals as goal
 pub run_to-requires-clause-inside : goal.run_to-requires-clause-inside
 run_to-requires-clause-inside c =
     let found : IsAnswer c.args.work.now c.args.question (packed c.args.self.now) (Found c.in-Found.index) =
-    subst (λ (a : Answer). IsAnswer c.args.work.now c.args.question (packed c.args.self.now) a) c.in-Found.is c.in_ok-index.ensures in
+    subst (λ (a : Answer). IsAnswer c.args.work.now c.args.question (packed c.args.self.now) a) c.in-Found.is c.in_ok-index.ensures.answer in
     inside_at (packed c.args.self.now) c.in-Found.index found.0 found.1
 
-pub returns-in_ok-entries-in-Found : goal.returns-in_ok-entries-in-Found
-returns-in_ok-entries-in-Found c =
+pub returns-in_ok-entries-in-Found-clause-finding : goal.returns-in_ok-entries-in-Found-clause-finding
+returns-in_ok-entries-in-Found-clause-finding c =
     let found : IsAnswer c.args.work.now c.args.question (packed c.args.self.now) (Found c.in-Found.index) =
-    subst (λ (a : Answer). IsAnswer c.args.work.now c.args.question (packed c.args.self.now) a) c.in-Found.is c.in_ok-index.ensures in
+    subst (λ (a : Answer). IsAnswer c.args.work.now c.args.question (packed c.args.self.now) a) c.in-Found.is c.in_ok-index.ensures.answer in
     let way = c.in_ok-entries-in-Found.ensures found.0 found.1 in
     found_witness c.args.work.now c.args.question way.0 c.in_ok-entries-in-Found.entries.items found.0 (c.requires.gathered.fits c.in-Found.index found.0 found.1) found.2 way.1 way.2
+
+pub returns-in-More-clause-fair : goal.returns-in-More-clause-fair
+returns-in-More-clause-fair c =
+    let g = c.args.self.now in (
+      subst (λ (a : Answer). IsOpen g a) c.in-More.is c.in_ok-index.ensures.open,
+      subst (λ (a : Answer). IsAnswer c.args.work.now c.args.question (packed g) a) c.in-More.is c.in_ok-index.ensures.answer,
+    )
