@@ -11,15 +11,18 @@ use arrayvec::ArrayVec;
 use sd_types::{CpuId, LockId};
 use std::alloc::AllocError;
 
-/// Reads that many locks.
-fn read_locks(count: usize, numbers: &[u64]) -> Option<(ArrayVec<LockId, 8>, &[u64])>
-    requires { count ≤ 8 }
-    ensures { option_map (λ x. (x.0.items, x.1.now)) result ≡ items_at lock_id_at count numbers.now }
+/// Reads that many items.
+fn read_array<T: Packed + Default + Drop, const N: usize>(
+    count: usize,
+    numbers: &[u64],
+) -> Option<(ArrayVec<T, N>, &[u64])>
+    requires { count ≤ N }
+    ensures { option_map (λ x. (x.0.items, x.1.now)) result ≡ items_at T.at count numbers.now }
 {
     let mut items = ArrayVec::new();
     let mut rest = numbers;
     for _ in 0..count {
-        let (item, after) = LockId::read(rest)?;
+        let (item, after) = T::read(rest)?;
         items.push(item);
         rest = after;
     }
@@ -48,26 +51,11 @@ impl Packed for ArrayVec<LockId, 8> {
     fn read(numbers: &[u64]) -> Option<(ArrayVec<LockId, 8>, &[u64])> {
         let (count, rest) = first(numbers)?;
         if count <= 8 {
-            read_locks(count as usize, rest)
+            read_array(count as usize, rest)
         } else {
             None
         }
     }
-}
-
-/// Reads that many locks with the priorities that are inherited from their waiters.
-fn read_inherited(count: usize, numbers: &[u64]) -> Option<(ArrayVec<(LockId, u8), 8>, &[u64])>
-    requires { count ≤ 8 }
-    ensures { option_map (λ x. (x.0.items, x.1.now)) result ≡ items_at (pair_at lock_id_at (below_at (2 ^ 8))) count numbers.now }
-{
-    let mut items = ArrayVec::new();
-    let mut rest = numbers;
-    for _ in 0..count {
-        let (item, after) = <(LockId, u8)>::read(rest)?;
-        items.push(item);
-        rest = after;
-    }
-    Some((items, rest))
 }
 
 impl Packed for ArrayVec<(LockId, u8), 8> {
@@ -92,26 +80,11 @@ impl Packed for ArrayVec<(LockId, u8), 8> {
     fn read(numbers: &[u64]) -> Option<(ArrayVec<(LockId, u8), 8>, &[u64])> {
         let (count, rest) = first(numbers)?;
         if count <= 8 {
-            read_inherited(count as usize, rest)
+            read_array(count as usize, rest)
         } else {
             None
         }
     }
-}
-
-/// Reads that many processors.
-fn read_cpus(count: usize, numbers: &[u64]) -> Option<(ArrayVec<CpuId, 64>, &[u64])>
-    requires { count ≤ 64 }
-    ensures { option_map (λ x. (x.0.items, x.1.now)) result ≡ items_at cpu_id_at count numbers.now }
-{
-    let mut items = ArrayVec::new();
-    let mut rest = numbers;
-    for _ in 0..count {
-        let (item, after) = CpuId::read(rest)?;
-        items.push(item);
-        rest = after;
-    }
-    Some((items, rest))
 }
 
 impl Packed for ArrayVec<CpuId, 64> {
@@ -136,7 +109,7 @@ impl Packed for ArrayVec<CpuId, 64> {
     fn read(numbers: &[u64]) -> Option<(ArrayVec<CpuId, 64>, &[u64])> {
         let (count, rest) = first(numbers)?;
         if count <= 64 {
-            read_cpus(count as usize, rest)
+            read_array(count as usize, rest)
         } else {
             None
         }

@@ -18,8 +18,6 @@ mod ranks;
 mod states;
 mod threads;
 
+pub use bytes::{read_numbers, write_number};
 pub use encoding::{decode, encode, encodings_differ, states_are_read_again};
 pub use ranks::rank;
-
-#[cfg(test)]
-mod tests;

@@ -61,6 +61,28 @@ module _ (w : Work) (bs : List (List ℕ)) where
       by (inl less) rest = rest less
       by (inr more) rest = absurd (none (let same : i ≡ k = omega (arith, few, more) in subst (λ z. Ends w bs z) same ends))
 
+  -- they rise
+  below : (k : ℕ) (finals : List ℕ) (p i : ℕ) → AreFinals w bs k finals → slice_get finals p ≡ Some i → i < k
+  below zero finals p i none at = absurd (let few = slice_get_within finals p i at in let many = ap length none in omega (arith, few, many))
+  below (suc k) finals p i (inl (e, (before, is, are))) at =
+      elim (get_cases before k i p (subst (λ (us : List ℕ). slice_get us p ≡ Some i) is at)) [
+        | inl front ↦ let less = below k before p i are front in omega (arith, less)
+        | inr last ↦ let same = last.1 in omega (arith, same)
+      ]
+  below (suc k) finals p i (inr (none, are)) at = let less = below k finals p i are at in omega (arith, less)
+
+  rising : (k : ℕ) (finals : List ℕ) (p r i j : ℕ) → AreFinals w bs k finals → p ≤ r → slice_get finals p ≡ Some i → slice_get finals r ≡ Some j → i ≤ j
+  rising zero finals p r i j none le at there = absurd (let few = slice_get_within finals p i at in let many = ap length none in omega (arith, few, many))
+  rising (suc k) finals p r i j (inl (e, (before, is, are))) le at there =
+      by (λ a b. rising k before p r i j are le a b) (get_cases before k i p (subst (λ (us : List ℕ). slice_get us p ≡ Some i) is at)) (get_cases before k j r (subst (λ (us : List ℕ). slice_get us r ≡ Some j) is there))
+    where
+      by : (slice_get before p ≡ Some i → slice_get before r ≡ Some j → i ≤ j) → (slice_get before p ≡ Some i) ⊎ ((p ≡ length before) × (k ≡ i)) → (slice_get before r ≡ Some j) ⊎ ((r ≡ length before) × (k ≡ j)) → i ≤ j
+      by rest (inl a) (inl b) = rest a b
+      by rest (inl a) (inr b) = let less = below k before p i are a in let same = b.1 in omega (arith, less, same)
+      by rest (inr a) (inl b) = absurd (let within = slice_get_within before r j b in let place = a.0 in omega (arith, within, place, le))
+      by rest (inr a) (inr b) = let one = a.1 in let other = b.1 in omega (arith, one, other)
+  rising (suc k) finals p r i j (inr (none, are)) le at there = rising k finals p r i j are le at there
+
   module _ (finals : List ℕ) (are : AreFinals w bs (length bs) finals) where
     pub ends_there : (p : ℕ) → p < length finals → Ends w bs (get_or finals p 0)
     ends_there p inside = ends_at (length bs) finals p (get_or finals p 0) are (slice_get-get_or finals p 0 inside)
@@ -82,6 +104,18 @@ module _ (w : Work) (bs : List (List ℕ)) where
             let is : get_or finals p 0 ≡ j = get_or_from_slice_get finals p j 0 (subst (λ n. slice_get finals n ≡ Some j) same at) in
             let asked = (tells x (subst (λ n. IsAt bs n x) (sym is) here)).1 part in
             cc
+
+    -- none with a smaller number than the first that was found
+    pub none_before : (q : Question) (p : ℕ) → p < length finals → ((k j : ℕ) → k < p → slice_get finals k ≡ Some j → (x : State) → IsAt bs j x → HasPart w q x → ⊥)
+        → (j : ℕ) (y : State) → j < get_or finals p 0 → IsAt bs j y → Meets w q y → ⊥
+    none_before q p inside none j y less at meets = by (stands_at (length bs) finals j are (inside_at bs j y at) (record { state = y; at = at; complete = meets.complete }))
+      where
+        by_place : (r : ℕ) → slice_get finals r ≡ Some j → (r < p) ⊎ (p ≤ r) → ⊥
+        by_place r there (inl before) = none r j before there y at meets.part
+        by_place r there (inr later) = let le = rising (length bs) finals p r (get_or finals p 0) j are later (slice_get-get_or finals p 0 inside) there in omega (arith, le, less)
+
+        by : (r : ℕ) × (slice_get finals r ≡ Some j) → ⊥
+        by s = by_place s.0 s.1 (cases_lt s.0 p)
 
     -- none of all states
     pub none_meets : (q : Question) (p : ℕ) → length finals ≤ p → ((k j : ℕ) → k < p → slice_get finals k ≡ Some j → (x : State) → IsAt bs j x → HasPart w q x → ⊥)

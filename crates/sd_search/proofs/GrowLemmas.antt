@@ -3,11 +3,13 @@ use Rattle.std.proofs.Common.{◌≡◌, ℕ, zero, suc, ◌+◌, ◌<◌, ◌�
 use Rattle.std.specs.Prelude.{slice_get}
 use Rattle.std.proofs.lemmas.Bool.{cases_lt}
 use Rattle.std.proofs.lemmas.List.{length-append}
-use Rattle.std.proofs.lemmas.Option.{same_Some}
+use Rattle.std.proofs.lemmas.Option.{same_Some, slice_get_within}
 use Rattle.sd_types.specs.declared.numbers.CpuId.{CpuId}
+use Rattle.sd_types.specs.declared.events.Event.{Event}
 use Rattle.sd_types.specs.declared.works.Work.{Work}
 use Rattle.sd_machine.specs.declared.states.State.{State}
-use Rattle.sd_full.specs.Events.{after}
+use Rattle.sd_full.specs.Events.{after, next}
+use Rattle.sd_full.specs.Runs.{serial_hints}
 use Rattle.sd_ordered.specs.Order.{KeysFit}
 use Rattle.sd_ordered.specs.Ranks.{ranked}
 use Rattle.sd_interleavings.specs.Closed.{Has}
@@ -15,7 +17,7 @@ use Rattle.sd_interleavings.specs.Spelled.{IsTurn}
 use Rattle.sd_encoding.specs.Encoding.{IsHeld, encoded}
 use Rattle.sd_search.specs.declared.graph.Graph.{Graph}
 use Rattle.sd_search.specs.declared.graph.Step.{Step}
-use Rattle.sd_search.specs.Graphs.{IsAmong, IsAt, IsExpanded, IsGathered, IsGrown, IsReachedBy, IsTurned, packed, steps_of}
+use Rattle.sd_search.specs.Graphs.{IsAmong, IsAt, IsExpanded, IsGathered, IsGrown, IsLayered, IsReachedBy, IsSoon, IsSoonTurned, IsTurned, packed, steps_of}
 use Rattle.sd_search.specs.Stored.{IsInserted}
 use Rattle.sd_search.proofs.TellLemmas.{at_same, inside_at, told}
 
@@ -51,7 +53,7 @@ turned_kept w bs bs' kept x c turned = λ e makes. has_kept bs bs' kept (after w
 
 -- ---- one state more
 
-module _ (w : Work) (bs : List (List ℕ)) (steps : List Step) (done : ℕ) (g : IsGathered w bs steps done) (step : Step) (x y : State) (at : IsAt bs step.before x) (turn : IsTurn w x step.cpu y) (own : IsHeld y) (rank : ranked y ≡ y) (fresh : (k : ℕ) → slice_get bs k ≡ Some (encoded y) → ⊥) where
+module _ (w : Work) (bs : List (List ℕ)) (steps : List Step) (done : ℕ) (g : IsGathered w bs steps done) (step : Step) (x y : State) (at : IsAt bs step.before x) (turn : IsTurn w x step.cpu y) (own : IsHeld y) (rank : ranked y ≡ y) (last : step.before ≡ done) (fresh : (k : ℕ) → slice_get bs k ≡ Some (encoded y) → ⊥) where
   more : List (List ℕ)
   more = bs ++ encoded y ∷ []
 
@@ -110,6 +112,42 @@ module _ (w : Work) (bs : List (List ℕ)) (steps : List Step) (done : ℕ) (g :
     | inr last ↦ absurd (let n = g.within in let e = last.0 in omega (arith, n, e, few))
   ]
 
+  -- a state that was reached before was reached as soon
+  soon_more : (j i : ℕ) → j < length bs → IsSoon steps j i → IsSoon (steps ++ step ∷ []) j i
+  soon_more zero i inside is = tt
+  soon_more (suc j) i inside is = λ st e. elim (get_cases steps step st (suc j) e) [
+    | inl before ↦ is st before
+    | inr last ↦ absurd (let place : suc j ≡ length bs = last.0 ∙ g.many in omega (arith, inside, place))
+  ]
+
+  rising_more : (i j : ℕ) (s t : Step) → i ≤ j → slice_get (steps ++ step ∷ []) (suc i) ≡ Some s → slice_get (steps ++ step ∷ []) (suc j) ≡ Some t → s.before ≤ t.before
+  rising_more i j s t le e f = by (get_cases steps step s (suc i) e) (get_cases steps step t (suc j) f)
+    where
+      by : (slice_get steps (suc i) ≡ Some s) ⊎ ((suc i ≡ length steps) × (step ≡ s)) → (slice_get steps (suc j) ≡ Some t) ⊎ ((suc j ≡ length steps) × (step ≡ t)) → s.before ≤ t.before
+      by (inl a) (inl b) = g.layered.rising i j s t le a b
+      by (inl a) (inr b) = subst (λ (z : Step). s.before ≤ z.before) b.1 (subst (λ n. s.before ≤ n) (sym last) (g.layered.early (suc i) s a))
+      by (inr a) (inl b) = absurd (let within = slice_get_within steps (suc j) t b in let place = a.0 in omega (arith, within, place, le))
+      by (inr a) (inr b) = let same : s.before ≡ t.before = ap (λ (z : Step). z.before) (sym a.1 ∙ b.1) in omega (arith, same)
+
+  early_more : (i : ℕ) → IsSoon (steps ++ step ∷ []) i done
+  early_more zero = tt
+  early_more (suc i) = λ st e. elim (get_cases steps step st (suc i) e) [
+    | inl before ↦ g.layered.early (suc i) st before
+    | inr new ↦ subst (λ (z : Step). z.before ≤ done) new.1 (omega (arith, last))
+  ]
+
+  turned_more : (i : ℕ) → i < done → IsSoonTurned w more (steps ++ step ∷ []) i
+  unfolding more has_kept
+  turned_more i few z here c e makes = elim (get_cases bs (encoded y) (encoded z) i here.bytes) [
+    | inl before ↦
+        let r = g.layered.soon i few z (record { bytes = before; held = here.held }) c e makes in
+        (has_kept bs more kept_more (after w z 0 c e) r.0, soon_more r.0.among.index i (inside_at bs r.0.among.index r.0.state r.0.among.at) r.1)
+    | inr new ↦ absurd (let n = g.within in let place = new.0 in omega (arith, n, place, few))
+  ]
+
+  layered_more : IsLayered w more (steps ++ step ∷ []) done
+  layered_more = record { rising = rising_more; early = early_more; soon = turned_more }
+
   pub gathered_more : IsGathered w (bs ++ encoded y ∷ []) (steps ++ step ∷ []) done
   unfolding more
   gathered_more = record {
@@ -123,6 +161,7 @@ module _ (w : Work) (bs : List (List ℕ)) (steps : List Step) (done : ℕ) (g :
     differ = differ_more;
     expanded = expanded_more;
     within = let n = g.within in let m : length (bs ++ encoded y ∷ []) ≡ length bs + 1 = length-append bs (encoded y ∷ []) in omega (arith, n, m);
+    layered = layered_more;
   }
 
 -- what was put in goes last, and stood nowhere
@@ -131,14 +170,14 @@ new_last bs bs' b true is e = e
 new_last bs bs' b false is e = cc
 
 -- a state that a turn leads to is put in where it was not there
-module _ (w : Work) (bs : List (List ℕ)) (steps : List Step) (done : ℕ) (g : IsGathered w bs steps done) (step : Step) (x y : State) (at : IsAt bs step.before x) (turn : IsTurn w x step.cpu y) (own : IsHeld y) (rank : ranked y ≡ y) where
+module _ (w : Work) (bs : List (List ℕ)) (steps : List Step) (done : ℕ) (g : IsGathered w bs steps done) (step : Step) (x y : State) (at : IsAt bs step.before x) (turn : IsTurn w x step.cpu y) (own : IsHeld y) (rank : ranked y ≡ y) (last : step.before ≡ done) where
   pub put_in : (bs' : List (List ℕ)) (steps' : List Step) (b : List ℕ) (new : Bool) → b ≡ encoded y → new ≡ true → IsInserted bs bs' b new → steps' ≡ steps ++ step ∷ [] → IsGathered w bs' steps' done
   put_in bs' steps' b new is put e one =
-      let last = new_last bs bs' b new put e in
-      let all : bs' ≡ bs ++ encoded y ∷ [] = last.0 ∙ ap (λ (z : List ℕ). bs ++ z ∷ []) is in
-      let fresh : (k : ℕ) → slice_get bs k ≡ Some (encoded y) → ⊥ = λ k there. last.1 k (there ∙ ap (λ (z : List ℕ). Some z) (sym is)) in
+      let put_last = new_last bs bs' b new put e in
+      let all : bs' ≡ bs ++ encoded y ∷ [] = put_last.0 ∙ ap (λ (z : List ℕ). bs ++ z ∷ []) is in
+      let fresh : (k : ℕ) → slice_get bs k ≡ Some (encoded y) → ⊥ = λ k there. put_last.1 k (there ∙ ap (λ (z : List ℕ). Some z) (sym is)) in
       subst (λ (zs : List (List ℕ)). IsGathered w zs steps' done) (sym all)
-      (subst (λ (zs : List Step). IsGathered w (bs ++ encoded y ∷ []) zs done) (sym one) (gathered_more w bs steps done g step x y at turn own rank fresh))
+      (subst (λ (zs : List Step). IsGathered w (bs ++ encoded y ∷ []) zs done) (sym one) (gathered_more w bs steps done g step x y at turn own rank last fresh))
 
 pub kept_in : (bs bs' : List (List ℕ)) (b : List ℕ) (new : Bool) → IsInserted bs bs' b new → AreKept bs bs'
 kept_in bs bs' b true e i x at = subst (λ (zs : List (List ℕ)). IsAt zs i x) (sym e.0) (record { bytes = get_more bs (b ∷ []) i (encoded x) at.bytes; held = at.held })
@@ -175,8 +214,20 @@ expanded_one w bs steps done g inside here = record {
   differ = g.differ;
   expanded = λ i few. by i few (cases_lt i done);
   within = omega (arith, inside);
+  layered = record { rising = g.layered.rising; early = later; soon = λ i few. soon_by i few (cases_lt i done) };
 }
   where
+    later : (i : ℕ) → IsSoon steps i (done + 1)
+    later zero = tt
+    later (suc i) = λ st e. let le : st.before ≤ done = g.layered.early (suc i) st e in omega (arith, le)
+
+    soon_by : (i : ℕ) → i < done + 1 → (i < done) ⊎ (done ≤ i) → IsSoonTurned w bs steps i
+    soon_by i few (inl less) = g.layered.soon i less
+    soon_by i few (inr more) =
+        let e : done ≡ i = omega (arith, few, more) in
+        subst (λ k. IsSoonTurned w bs steps k) e
+        (λ x at c event makes. let has = here x at c event makes in (has, g.layered.early has.among.index))
+
     by : (i : ℕ) → i < done + 1 → (i < done) ⊎ (done ≤ i) → IsExpanded w bs i
     by i few (inl less) = g.expanded i less
     by i few (inr more) = let e : done ≡ i = omega (arith, few, more) in subst (λ k. IsExpanded w bs k) e here

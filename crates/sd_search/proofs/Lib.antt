@@ -1,4 +1,5 @@
 pub mod BackLemmas
+pub mod DepthLemmas
 pub mod FinalLemmas
 pub mod GrowLemmas
 pub mod KeyLemmas

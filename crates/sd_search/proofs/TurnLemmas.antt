@@ -26,7 +26,7 @@ use Rattle.sd_interleavings.specs.Spelled.{IsTurn}
 use Rattle.sd_interleavings.proofs.RunLemmas.{alike}
 use Rattle.sd_encoding.specs.Encoding.{IsHeld, encoded}
 use Rattle.sd_search.specs.declared.graph.Step.{Step}
-use Rattle.sd_search.specs.Graphs.{IsAt, IsGathered, IsTurned}
+use Rattle.sd_search.specs.Graphs.{IsAt, IsGathered, IsSoon, IsTurned}
 use Rattle.sd_search.specs.Stored.{IsInserted}
 use Rattle.sd_search.proofs.BackLemmas.{fit_back, needs_back}
 use Rattle.sd_search.proofs.KeyLemmas.{keys_reached}
@@ -122,10 +122,15 @@ begun w bs bs' b true steps step s y starts rank own is none e one =
       differ = λ i j b here there. one_place i b here ∙ sym (one_place j b there);
       expanded = λ i few. absurd (omega arith);
       within = omega arith;
+      layered = record { rising = λ i j first second le e f. absurd (past i first e); early = first_early; soon = λ i few. absurd (omega arith) };
     }))
   where
     past : (i : ℕ) (st : Step) → slice_get (step ∷ []) (suc i) ≡ Some st → ⊥
     past i st at = cc
+
+    first_early : (i : ℕ) → IsSoon (step ∷ []) i 0
+    first_early zero = tt
+    first_early (suc i) = λ st e. absurd (past i st e)
 
     alone : (i : ℕ) (z : State) → IsAt (encoded y ∷ []) i z → KeysFit 0 y → KeysFit 0 z
     alone zero z at first = subst (λ v. KeysFit 0 v) (told y z own at.held (same_Some (encoded y) (encoded z) at.bytes)) first

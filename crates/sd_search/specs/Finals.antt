@@ -35,3 +35,8 @@ IsAnswer w q bs More = (i : ℕ) (x : State) → IsAt bs i x → Meets w q x →
 abbrev pub IsOpen : Graph → Answer → Type 0
 IsOpen g More = g.done < length (packed g)
 IsOpen g _ = ⊤
+
+-- no state with a smaller number than the one that was found meets the question
+abbrev pub IsFirst : Work → Question → List (List ℕ) → Answer → Type 0
+IsFirst w q bs (Found i) = (j : ℕ) (y : State) → j < i → IsAt bs j y → Meets w q y → ⊥
+IsFirst w q bs _ = ⊤

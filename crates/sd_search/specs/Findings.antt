@@ -1,6 +1,7 @@
 -- The answer to a question in terms of runs alone.
 -- Source: this project's own.
-use Rattle.std.specs.Prelude.{ℕ, ◌<◌, length, ⊤}
+use Rattle.std.specs.Prelude.{ℕ, ◌<◌, ◌≤◌, List, length, ⊤}
+use Rattle.sd_types.specs.declared.events.Entry.{Entry}
 use Rattle.sd_types.specs.declared.works.Work.{Work}
 use Rattle.sd_machine.specs.declared.states.State.{State}
 use Rattle.sd_search.specs.declared.findings.Finding.{Finding}
@@ -20,3 +21,8 @@ IsFinding w q More = ⊤
 abbrev pub IsFair : Work → Question → Graph → Finding → Type 0
 IsFair w q g More = (g.done < length (packed g)) × ((i : ℕ) (x : State) → IsAt (packed g) i x → Meets w q x → ⊥)
 IsFair w q g _ = ⊤
+
+-- no run that ends so has fewer entries than the one that was found
+abbrev pub IsShortest : Work → Question → Finding → Type 0
+IsShortest w q (Found es) = (fs : List Entry) → IsWitness w q fs → length es.items ≤ length fs
+IsShortest w q _ = ⊤

@@ -2,7 +2,7 @@
 -- first from which it was reached, by the turn of which processor. States with an index below `done` have been expanded:
 -- each turn of each processor from there leads to a state that was gathered, up to the order of keys.
 -- Source: explicit search of state spaces, breadth first (Clarke, Grumberg and Peled, "Model Checking").
-use Rattle.std.specs.Prelude.{◌≡◌, ℕ, suc, ◌<◌, ◌≤◌, List, length, map, slice_get, Some}
+use Rattle.std.specs.Prelude.{◌≡◌, ℕ, zero, suc, ◌<◌, ◌≤◌, List, length, map, slice_get, Some, ⊤}
 use Rattle.sd_types.specs.declared.numbers.CpuId.{CpuId}
 use Rattle.sd_types.specs.declared.events.Entry.{Entry}
 use Rattle.sd_types.specs.declared.events.Event.{Event}
@@ -53,6 +53,29 @@ IsTurned w bs x c = (e : Event) → next w x c (serial_hints w x c) ≡ Some e �
 abbrev pub IsExpanded : Work → List (List ℕ) → ℕ → Type 0
 IsExpanded w bs i = (x : State) → IsAt bs i x → (c : CpuId) → IsTurned w bs x c
 
+-- the state from which state number j was reached has a number of at most i; the first was reached from none
+abbrev pub IsSoon : List Step → ℕ → ℕ → Type 0
+IsSoon steps zero i = ⊤
+IsSoon steps (suc j) i = (step : Step) → slice_get steps (suc j) ≡ Some step → step.before ≤ i
+
+-- each turn of each processor from state number i leads to a state that was reached from that one, or from one before it
+abbrev pub IsSoonTurned : Work → List (List ℕ) → List Step → ℕ → Type 0
+IsSoonTurned w bs steps i =
+    (x : State) → IsAt bs i x → (c : CpuId) (e : Event) → next w x c (serial_hints w x c) ≡ Some e
+    → (has : Has (IsAmong bs) (after w x 0 c e)) × IsSoon steps has.among.index i
+
+-- breadth first: states were found in the order in which those were expanded from which they were reached, none of them later
+-- than the next one to be expanded; so no way to a state has fewer steps than the one that was kept
+pub record IsLayered (w : Work) (bs : List (List ℕ)) (steps : List Step) (done : ℕ) : Type 0 where
+  pub rising : (i j : ℕ) (s t : Step) → i ≤ j → slice_get steps (suc i) ≡ Some s → slice_get steps (suc j) ≡ Some t → s.before ≤ t.before
+  pub early : (i : ℕ) → IsSoon steps i done
+  pub soon : (i : ℕ) → i < done → IsSoonTurned w bs steps i
+
+-- n steps lead back from state number i to the first
+abbrev pub IsDeep : List Step → ℕ → ℕ → Type 0
+IsDeep steps i zero = i ≡ 0
+IsDeep steps i (suc n) = (step : Step) × (0 < i) × (slice_get steps i ≡ Some step) × IsDeep steps step.before n
+
 -- the first state is the initial one, each other was reached by a turn from one before it, and the first `done` are expanded;
 -- each has its ranks for keys, and its bytes stand there once
 pub record IsGathered (w : Work) (bs : List (List ℕ)) (steps : List Step) (done : ℕ) : Type 0 where
@@ -66,6 +89,7 @@ pub record IsGathered (w : Work) (bs : List (List ℕ)) (steps : List Step) (don
   pub differ : (i j : ℕ) (b : List ℕ) → slice_get bs i ≡ Some b → slice_get bs j ≡ Some b → i ≡ j
   pub expanded : (i : ℕ) → i < done → IsExpanded w bs i
   pub within : done ≤ length bs
+  pub layered : IsLayered w bs steps done
 
 abbrev pub Gathers : Work → Graph → Type 0
 Gathers w g = IsGathered w (packed g) (steps_of g) g.done

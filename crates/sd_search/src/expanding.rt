@@ -1,6 +1,6 @@
 //! The search itself, breadth first: the states that each turn of each processor leads to are put in, from the first state on.
 
-ghost use Rattle.std.specs.Prelude.{◌≡◌, ◌+◌, ◌<◌, ◌≤◌, ◌⊎◌, ℕ, Some, length, nat_le, IfOk, OnOk};
+ghost use Rattle.std.specs.Prelude.{◌≡◌, ◌+◌, ◌<◌, ◌≤◌, ◌⊎◌, ◌||◌, ℕ, Some, length, nat_le, IfOk, OnOk};
 ghost use Rattle.sd_full.specs.Events.{after, next};
 ghost use Rattle.sd_full.specs.Runs.{serial_hints};
 ghost use Rattle.sd_interleavings.specs.Closed.{Has};
@@ -31,6 +31,7 @@ impl Graph {
         requires gathered { Gathers work.now self.old }
         requires turn { (x : StateOf) × IsAt (packed self.old) step.before x × IsTurn work.now x step.cpu state.now }
         requires ranks { ranked state.now ≡ state.now }
+        requires last { step.before ≡ self.old.done }
         ensures grown { OnOk result (IsGrown work.now self.old self.new) }
         ensures has { OnOk result (IsAmong (packed self.new) state.now) }
     {
@@ -53,6 +54,7 @@ impl Graph {
     ) -> Result<(), AllocError>
         requires gathered { Gathers work.now self.old }
         requires inside { i < length (packed self.old) }
+        requires last { i ≡ self.old.done }
         requires makes { (x : StateOf) → IsAt (packed self.old) i x → next work.now x c (serial_hints work.now x c) ≡ Some event }
         ensures grown { OnOk result (IsGrown work.now self.old self.new) }
         ensures leads { OnOk result ((x : StateOf) → IsAt (packed self.old) i x → Has (IsAmong (packed self.new)) (after work.now x 0 c event)) }
@@ -74,6 +76,7 @@ impl Graph {
     ) -> Result<(), AllocError>
         requires gathered { Gathers work.now self.old }
         requires at { IsAt (packed self.old) i state.now }
+        requires last { i ≡ self.old.done }
         requires cpu { c.0 < work.now.cpus }
         ensures grown { OnOk result (IsGrown work.now self.old self.new) }
         ensures turned { OnOk result (IsTurned work.now (packed self.new) state.now c) }
@@ -95,6 +98,7 @@ impl Graph {
     ) -> Result<(), AllocError>
         requires gathered { Gathers work.now self.old }
         requires at { IsAt (packed self.old) i state.now }
+        requires last { i ≡ self.old.done }
         ensures grown { OnOk result (IsGrown work.now self.old self.new) }
         ensures turned { OnOk result ((c : CpuIdOf) → IsTurned work.now (packed self.new) state.now c) }
     {
@@ -123,5 +127,19 @@ impl Graph {
         ensures { result ≡ nat_le (length (packed self.now)) self.now.done }
     {
         self.states.len() <= self.done
+    }
+
+    /// How many states were expanded.
+    pub fn expanded(&self) -> usize
+        ensures { result ≡ self.now.done }
+    {
+        self.done
+    }
+
+    /// Each state was expanded, or `most` were found: a search that is to end there goes on no more.
+    pub fn is_over(&self, most: usize) -> bool
+        ensures { result ≡ nat_le (length (packed self.now)) self.now.done || nat_le most (length (packed self.now)) }
+    {
+        self.is_closed() || most <= self.states.len()
     }
 }

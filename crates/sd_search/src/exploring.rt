@@ -1,6 +1,6 @@
 //! The search from the initial state on.
 
-ghost use Rattle.std.specs.Prelude.{◌≤◌, ◌⊎◌, length, IfOk};
+ghost use Rattle.std.specs.Prelude.{◌≡◌, ◌+◌, ◌≤◌, ◌⊎◌, length, IfOk, OnOk};
 ghost use Rattle.sd_search.specs.Graphs.{AreApart, Gathers, HasEveryRun, packed};
 
 use crate::graph::{Graph, Step};
@@ -12,8 +12,8 @@ use sd_opening::opening;
 use sd_types::{CpuId, Work};
 use std::alloc::{AllocError, Global};
 
-/// The initial state alone.
-fn begin(alloc: Global, work: &Work) -> Result<Graph, AllocError>
+/// The initial state alone: a search that has expanded none yet.
+pub fn begin(alloc: Global, work: &Work) -> Result<Graph, AllocError>
     ensures { IfOk result (Gathers work.now) }
 {
     let mut state = opening(alloc, work)?;
@@ -46,4 +46,27 @@ pub fn explore(alloc: Global, work: &Work, most: usize) -> Result<Graph, AllocEr
         graph.expand(alloc, work)?;
     }
     Ok(graph)
+}
+
+/// Goes on with a search, until so many states more are expanded, or all are, or `most` were found: so that a caller can tell
+/// between two calls how far it has come. After out of memory the graph is not to be used.
+pub fn explore_more(
+    alloc: Global,
+    work: &Work,
+    graph: &mut Graph,
+    most: usize,
+    states: usize,
+) -> Result<(), AllocError>
+    requires { Gathers work.now graph.old }
+    ensures gathered { OnOk result (Gathers work.now graph.new) }
+    ensures apart { OnOk result (AreApart (packed graph.new)) }
+    ensures all { OnOk result (length (packed graph.new) ≤ graph.new.done → HasEveryRun work.now (packed graph.new)) }
+    ensures ends { OnOk result ((graph.new.done ≡ graph.old.done + states) ⊎ (length (packed graph.new) ≤ graph.new.done) ⊎ (most ≤ length (packed graph.new))) }
+{
+    let mut left = states;
+    'states: while left > 0 && graph.done < graph.len() && graph.len() < most {
+        graph.expand(alloc, work)?;
+        left -= 1;
+    }
+    Ok(())
 }

@@ -2,7 +2,7 @@
 
 ghost use Rattle.std.specs.Prelude.{◌≡◌, ◌↔◌, ◌<◌, [], ◌∷◌, ◌++◌, length, if◌then◌else◌, IsTrue, IfOk, OnOk};
 ghost use Rattle.sd_machine.specs.declared.states.State.{State as StateOf};
-ghost use Rattle.sd_search.specs.Finals.{AreFinals, Ends, IsAnswer, IsOpen};
+ghost use Rattle.sd_search.specs.Finals.{AreFinals, Ends, IsAnswer, IsFirst, IsOpen};
 ghost use Rattle.sd_search.specs.Graphs.{Gathers, IsAt, packed};
 ghost use Rattle.sd_search.specs.Questions.{HasPart};
 
@@ -74,6 +74,7 @@ impl Graph {
         requires finals { AreFinals work.now (packed self.now) (length (packed self.now)) finals.now }
         ensures answer { IfOk result (IsAnswer work.now question (packed self.now)) }
         ensures open { IfOk result (IsOpen self.now) }
+        ensures first { IfOk result (IsFirst work.now question (packed self.now)) }
     {
         for i in finals {
             if self.is_asked(alloc, work, *i, question)? {

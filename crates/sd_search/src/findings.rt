@@ -7,8 +7,8 @@ ghost use Rattle.sd_machine.specs.Opening.{opening};
 ghost use Rattle.sd_machine.specs.declared.states.State.{State as StateOf};
 ghost use Rattle.sd_types.specs.declared.numbers.CpuId.{CpuId as CpuIdOf};
 ghost use Rattle.sd_search.specs.Finals.{AreFinals};
-ghost use Rattle.sd_search.specs.Findings.{IsFair, IsFinding};
-ghost use Rattle.sd_search.specs.Graphs.{Gathers, IsAt, packed};
+ghost use Rattle.sd_search.specs.Findings.{IsFair, IsFinding, IsShortest};
+ghost use Rattle.sd_search.specs.Graphs.{Gathers, IsAt, IsDeep, packed, steps_of};
 
 use crate::graph::Graph;
 use crate::questions::{Answer, Question};
@@ -34,14 +34,15 @@ impl Graph {
     fn run_to(&self, alloc: Global, work: &Work, i: usize) -> Result<Vec<Entry>, AllocError>
         requires gathered { Gathers work.now self.now }
         requires inside { i < length (packed self.now) }
-        ensures { IfOk result (λ entries. (x : StateOf) → IsAt (packed self.now) i x → (cs : List CpuIdOf) × IsSpelled work.now cs x × (entries.items ≡ round work.now (opening work.now) 0 cs)) }
+        ensures spelled { IfOk result (λ entries. (x : StateOf) → IsAt (packed self.now) i x → (cs : List CpuIdOf) × IsSpelled work.now cs x × (entries.items ≡ round work.now (opening work.now) 0 cs)) }
+        ensures deep { IfOk result (λ entries. IsDeep (steps_of self.now) i (length entries.items)) }
     {
         let path = self.path(alloc, work, i)?;
         witness(alloc, work, &path)
     }
 
     /// The answer to a question by the numbers of the states in which runs end, with the entries of a run that ends so, where
-    /// one does.
+    /// one does: as few as any such run has.
     pub fn finding(
         &self,
         alloc: Global,
@@ -53,6 +54,7 @@ impl Graph {
         requires finals { AreFinals work.now (packed self.now) (length (packed self.now)) finals.now }
         ensures finding { IfOk result (IsFinding work.now question) }
         ensures fair { IfOk result (IsFair work.now question self.now) }
+        ensures shortest { IfOk result (IsShortest work.now question) }
     {
         match self.find(alloc, work, finals, question)? {
             Answer::Found { index } => {

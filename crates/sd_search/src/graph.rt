@@ -3,7 +3,7 @@
 ghost use Rattle.std.specs.Prelude.{◌≡◌, ◌<◌, ℕ, length, IfOk, OnOk};
 ghost use Rattle.sd_interleavings.specs.Spelled.{IsSpelled, IsTurn};
 ghost use Rattle.sd_machine.specs.declared.states.State.{State as StateOf};
-ghost use Rattle.sd_search.specs.Graphs.{Gathers, IsAt, packed};
+ghost use Rattle.sd_search.specs.Graphs.{Gathers, IsAt, IsDeep, packed, steps_of};
 
 use crate::packing::unpack;
 use indexmap::IndexSet;
@@ -47,7 +47,8 @@ impl Graph {
     pub fn path(&self, alloc: Global, work: &Work, i: usize) -> Result<Vec<CpuId>, AllocError>
         requires gathered { Gathers work.now self.now }
         requires inside { i < length (packed self.now) }
-        ensures { IfOk result (λ cpus. (x : StateOf) → IsAt (packed self.now) i x → IsSpelled work.now cpus.items x) }
+        ensures spelled { IfOk result (λ cpus. (x : StateOf) → IsAt (packed self.now) i x → IsSpelled work.now cpus.items x) }
+        ensures deep { IfOk result (λ cpus. IsDeep (steps_of self.now) i (length cpus.items)) }
     {
         let mut cpus = Vec::new(alloc);
         let mut at = i;

@@ -12,7 +12,7 @@ mod questions;
 mod store;
 mod witnesses;
 
-pub use exploring::explore;
+pub use exploring::{begin, explore, explore_more};
 pub use findings::Finding;
 pub use graph::{Graph, Step};
 pub use questions::{Answer, Question};

@@ -9,7 +9,7 @@ use std::alloc::{AllocError, Global};
 use std::test::Fail;
 
 /// Two threads that take two mutexes in opposite orders, one of them after four calls of `wake`.
-const LATE_RACE: &[u8] =
+pub(crate) const LATE_RACE: &[u8] =
     b"cpus 2\nlimit 3\nmutex l\nmutex r\nchan c\nthread a ts 30 0 0\nthread b ts 30 0 0\n\
 script a\nenter l\nenter r\nexit r\nexit l\nend\nscript b\nwake c\nwake c\nwake c\nwake c\nenter r\nenter l\nexit l\nexit r\nend\n";
 

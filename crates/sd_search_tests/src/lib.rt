@@ -1,6 +1,10 @@
 //! Tests of the search: how many states small workloads have and in how many of them runs end, as another program found them that
-//! searched all orders of the processors.
+//! searched all orders of the processors; when threads end in them, as was worked out by hand; and states as bytes.
 #![tactic(auto)]
 
 #[cfg(test)]
 mod counts;
+#[cfg(test)]
+mod encoding;
+#[cfg(test)]
+mod extremes;

@@ -11,7 +11,7 @@ returns-in_ok-push-clause-grown c =
     let bs' = packed (record { states = c.insert.new.states; steps = c.push.new.self; done = g.done }) in
     let b = c.in_ok-bytes.bytes.items in
     record {
-      gathered = put_in w (packed g) (steps_of g) g.done c.requires.gathered c.args.step turn.0 c.args.state.now turn.1 turn.2 c.in_ok-bytes.ensures.held c.requires.ranks bs' c.push.new.self.items b c.in_ok-is_new.is_new c.in_ok-bytes.ensures.bytes
+      gathered = put_in w (packed g) (steps_of g) g.done c.requires.gathered c.args.step turn.0 c.args.state.now turn.1 turn.2 c.in_ok-bytes.ensures.held c.requires.ranks c.requires.last bs' c.push.new.self.items b c.in_ok-is_new.is_new c.in_ok-bytes.ensures.bytes
           c.if-is_new.true c.in_ok-is_new.ensures c.in_ok-push.ensures.items;
       kept = kept_in (packed g) bs' b c.in_ok-is_new.is_new c.in_ok-is_new.ensures;
       done = refl;

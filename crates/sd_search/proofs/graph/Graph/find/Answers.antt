@@ -13,6 +13,9 @@ returns-then-branch-clause-answer c =
     let e = F.ends_there c.args.work.now (packed c.args.self.now) c.args.finals.now c.requires.finals c.loop-i.i-index c.loop-i-test.true in
     (e.state, e.at, record { complete = e.complete; part = (c.in_ok-is_asked.ensures e.state e.at).0 c.if-branch.true })
 
+pub returns-then-branch-clause-first : goal.returns-then-branch-clause-first
+returns-then-branch-clause-first c = F.none_before c.args.work.now (packed c.args.self.now) c.args.finals.now c.requires.finals c.args.question c.loop-i.i-index c.loop-i-test.true c.loop-i.invariant
+
 pub loop-i-preserved : goal.loop-i-preserved
 loop-i-preserved c =
     F.none_more c.args.work.now (packed c.args.self.now) c.args.finals.now c.requires.finals c.args.question c.loop-i.i-index c.in_ok-is_asked.field-0 c.if-branch.false c.loop-i-test.true c.in_ok-is_asked.ensures c.loop-i.invariant

@@ -1,8 +1,9 @@
-use Rattle.std.proofs.Common.{◌<◌, refl, sym, subst, arith, List}
+use Rattle.std.proofs.Common.{◌≡◌, suc, ◌+◌, ◌<◌, [], ◌∷◌, length, refl, sym, ap, ◌∙◌, subst, arith, List}
+use Rattle.std.proofs.lemmas.List.{length-append, length-reverse}
 use Rattle.std.specs.Prelude.{reverse}
 use Rattle.sd_types.specs.declared.numbers.CpuId.{CpuId}
 use Rattle.sd_interleavings.specs.Spelled.{IsSpelled}
-use Rattle.sd_search.specs.Graphs.{packed, steps_of}
+use Rattle.sd_search.specs.Graphs.{IsDeep, packed, steps_of}
 use Rattle.sd_search.proofs.PathLemmas as P
 use Rattle.sd_search.proofs.graph.Graph.path.Goals as goal
 
@@ -13,6 +14,9 @@ loop-at-init c = record {
       let g = c.args.self.now in
       let e = c.new-cpus.ensures.items in
       subst (λ (cs : List CpuId). P.IsWay c.args.work.now (packed g) c.args.i (reverse cs) x) (sym e) (P.no_way c.args.work.now (packed g) c.args.i x at);
+  deep = λ m is.
+      let none = ap length c.new-cpus.ensures.items in
+      subst (λ k. IsDeep (steps_of c.args.self.now) c.args.i k) (let q : m ≡ length c.new-cpus.result.items + m = omega (arith, none) in q) is;
 }
 
 pub loop-at-smaller : goal.loop-at-smaller
@@ -34,10 +38,21 @@ loop-at-preserved c =
       way = λ x at.
           P.way_down w (packed g) (steps_of g) g.done c.requires.gathered c.loop-at.at step c.loop-at.cpus.items c.push.new.self.items (reverse c.push.new.self.items) x c.loop-at-test.true is c.in_ok-push.ensures.items refl
           (c.loop-at.invariant.way x at);
+      deep = λ m back.
+          let one = ap length c.in_ok-push.ensures.items ∙ length-append c.loop-at.cpus.items (step.cpu ∷ []) in
+          subst (λ k. IsDeep (steps_of g) c.args.i k) (let q : length c.loop-at.cpus.items + suc m ≡ length c.push.new.self.items + m = omega (arith, one) in q)
+          (c.loop-at.invariant.deep (suc m) (step, c.loop-at-test.true, is, back));
     }
 
-pub returns : goal.returns
-returns c = λ x at.
+pub returns-clause-deep : goal.returns-clause-deep
+returns-clause-deep c =
+    let g = c.args.self.now in
+    let end : c.loop-at.at ≡ 0 = let none = c.loop-at-test.false in omega (arith, none) in
+    let many = ap length c.reverse.ensures.items ∙ length-reverse c.loop-at.cpus.items in
+    subst (λ k. IsDeep (steps_of g) c.args.i k) (let q : length c.loop-at.cpus.items + 0 ≡ length c.reverse.new.self.items = omega (arith, many) in q) (c.loop-at.invariant.deep 0 end)
+
+pub returns-clause-spelled : goal.returns-clause-spelled
+returns-clause-spelled c = λ x at.
     let g = c.args.self.now in
     let w = c.args.work.now in
     subst (λ (cs : List CpuId). IsSpelled w cs x) (sym c.reverse.ensures.items)

@@ -1,7 +1,6 @@
 //! Numbers as bytes with values from the standard, and a state that was worked out by hand.
 
-use crate::bytes::{read_numbers, write_number};
-use crate::{decode, encode, rank};
+use sd_encoding::{decode, encode, rank, read_numbers, write_number};
 use std::alloc::{AllocError, Global};
 use std::test::*;
 

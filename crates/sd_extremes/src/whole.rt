@@ -1,0 +1,81 @@
+//! A run that goes to its end.
+
+ghost use Rattle.std.specs.Prelude.{◌≡◌, ◌++◌, length, None, IfOk, OnOk};
+ghost use Rattle.sd_extremes.specs.WholeRuns.{BeginsWith, GoesOn, LeadsTo};
+ghost use Rattle.sd_full.specs.Runs.{IsComplete, final, turn};
+ghost use Rattle.sd_sound.specs.Laws.{IsFit};
+
+use sd_machine::State;
+use sd_opening::opening;
+use sd_steps::{can_enter, make_entry};
+use sd_types::{CpuId, Entry, Work};
+use std::alloc::{AllocError, Global};
+
+/// The most entries of a run (this project's own): memory is taken to run out there.
+const MOST_ENTRIES: usize = 1 << 40;
+
+/// The entry of processor `c`, where it has one, goes behind those so far.
+fn go_on(
+    work: &Work,
+    state: &mut State,
+    entries: &mut Vec<Entry>,
+    c: CpuId,
+) -> Result<(), AllocError>
+    requires { LeadsTo work.now entries.old.items state.old }
+    ensures entries { OnOk result (entries.new.items ≡ entries.old.items ++ turn work.now state.old (length entries.old.items) c) }
+    ensures state { OnOk result (state.new ≡ final work.now state.old (turn work.now state.old (length entries.old.items) c)) }
+    ensures leads { OnOk result (LeadsTo work.now entries.new.items state.new) }
+{
+    let number = entries.len();
+    if number >= MOST_ENTRIES {
+        return Err(AllocError);
+    }
+    match make_entry(work, state, number as u64, c) {
+        Some(entry) => entries.push(entry)?,
+        None => {}
+    }
+    Ok(())
+}
+
+/// A processor that can make an entry; None only where none can, whatever it reads.
+fn first_able(work: &Work, state: &State) -> Option<CpuId>
+    requires { IsFit work.now state.now }
+    ensures { result ≡ None → IsComplete work.now state.now }
+{
+    for c in 0..work.cpus {
+        if can_enter(work, state, CpuId(c)) {
+            return Some(CpuId(c));
+        }
+    }
+    None
+}
+
+/// The run goes on until no processor can make an entry: each time the first that can makes one.
+fn finish(work: &Work, state: &mut State, entries: &mut Vec<Entry>) -> Result<(), AllocError>
+    requires { LeadsTo work.now entries.old.items state.old }
+    ensures leads { OnOk result (LeadsTo work.now entries.new.items state.new) }
+    ensures complete { OnOk result (IsComplete work.now state.new) }
+    ensures begins { OnOk result (BeginsWith entries.new.items entries.old.items) }
+{
+    for _n in 0..MOST_ENTRIES {
+        match first_able(work, state) {
+            Some(c) => go_on(work, state, entries, c)?,
+            None => return Ok(()),
+        }
+    }
+    Err(AllocError)
+}
+
+/// The entries that these processors make from the initial state on, each where it has one, with the numbers of the state as
+/// its hints, and those that follow until no processor can make one. Memory is taken to run out at 2^40 entries.
+pub fn whole_run(alloc: Global, work: &Work, path: &[CpuId]) -> Result<Vec<Entry>, AllocError>
+    ensures { IfOk result (λ entries. GoesOn work.now path.now entries.items) }
+{
+    let mut state = opening(alloc, work)?;
+    let mut entries = Vec::new(alloc);
+    for c in path {
+        go_on(work, &mut state, &mut entries, *c)?;
+    }
+    finish(work, &mut state, &mut entries)?;
+    Ok(entries)
+}
