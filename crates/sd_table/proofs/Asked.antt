@@ -1,5 +1,5 @@
 -- The steps, as the functions ask for them.
-use Rattle.std.proofs.Common.{◌≡◌, ◌≢◌, ℕ, zero, suc, ◌+◌, ◌*◌, ◌%◌, ◌^◌, ◌<◌, ◌≤◌, Bool, true, false, eqb, List, [], ◌∷◌, length, Option, Some, None, refl, sym, ap, ◌∙◌, subst, arith}
+use Rattle.std.proofs.Common.{◌≡◌, ℕ, suc, ◌+◌, ◌%◌, ◌^◌, ◌<◌, true, false, eqb, List, [], ◌∷◌, length, Option, Some, sym, ap, ◌∙◌, subst}
 use mathlib.Core.Option as M
 use prog.Atomic.{either}
 use Rattle.atomic_table.specs.Table.{Allows, Me, rest, step}

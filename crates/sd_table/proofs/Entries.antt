@@ -1,5 +1,5 @@
 -- A seat makes an entry: what it asks of the table, and that it fits afterwards.
-use Rattle.std.proofs.Common.{◌≡◌, ◌≢◌, ◌⊎◌, ℕ, zero, suc, ◌+◌, ◌<◌, ◌≤◌, ◌^◌, Bool, true, false, List, [], ◌∷◌, ◌++◌, length, filter, reverse, is_some, MatchOption, Option, Some, None, refl, sym, ap, ◌∙◌, subst, inl, inr, ⊎_elim, arith, append-nil, length-append}
+use Rattle.std.proofs.Common.{◌≡◌, ◌≢◌, ◌⊎◌, ℕ, zero, suc, ◌+◌, ◌<◌, ◌≤◌, Bool, true, false, List, [], ◌∷◌, ◌++◌, length, filter, reverse, is_some, MatchOption, Option, Some, None, refl, sym, ap, ◌∙◌, subst, inl, inr, ⊎_elim, arith, append-nil, length-append}
 use Rattle.std.specs.Prelude.{not, ◌==◌}
 use Rattle.std.specs.List.{range_with_len}
 use Rattle.std.proofs.lemmas.Bool.{false≢true}
@@ -17,7 +17,7 @@ use Rattle.sd_types.specs.declared.events.Hints.{Hints}
 use Rattle.sd_types.specs.declared.events.Which.{Which}
 use Rattle.sd_types.specs.declared.works.Work.{Work}
 use Rattle.sd_machine.specs.declared.states.State.{State}
-use Rattle.sd_machine.specs.States.{cpu_of, thread_of}
+use Rattle.sd_machine.specs.States.{thread_of}
 use Rattle.sd_full.specs.Events.{after, next, reads}
 use Rattle.sd_full.specs.Runs.{IsReached, IsRun}
 use Rattle.sd_sound.proofs.Whole.{fit_reached}
@@ -31,19 +31,19 @@ use Rattle.sd_homes.specs.declared.home.Home.{Home}
 use Rattle.sd_homes.specs.Families.{home_id}
 use Rattle.sd_hand.specs.declared.acting.Acting.{Acting}
 use Rattle.sd_hand.specs.Acting.{IsShown, has_part}
-use Rattle.sd_hand.specs.Hands.{IsHeld, has_thread, held, how_many_held}
+use Rattle.sd_hand.specs.Hands.{has_thread, held}
 use Rattle.sd_hand.proofs.GuideLemmas.{stands_guessed}
 use Rattle.sd_hand.proofs.MoveLemmas.{taken}
 use Rattle.sd_hand.proofs.SlotLemmas.{stands_has}
 use Rattle.sd_hand.proofs.StandLemmas.{home_held}
 use Rattle.sd_footprint.specs.Homes.{home_in}
-use Rattle.sd_world.specs.Homes.{IsNumber, index_of, sizes_of}
-use Rattle.sd_world.specs.Worlds.{AllHinted, Begins, CanCommit, Commits, MayStand, MayUse, Meaning, actor_of, after_run, entry_of}
+use Rattle.sd_world.specs.Homes.{IsNumber}
+use Rattle.sd_world.specs.Worlds.{AllHinted, CanCommit, Commits, MayStand, MayUse}
 use Rattle.sd_table_rule.specs.declared.views.Desk.{Desk}
 use Rattle.sd_table_rule.specs.declared.views.View.TheVariants.{Works}
-use Rattle.sd_table_rule.specs.Ledgers.{by, most}
+use Rattle.sd_table_rule.specs.Ledgers.{by}
 use Rattle.sd_table_rule.specs.Movers.{IsMover, mover}
-use Rattle.sd_table_rule.specs.Places.{Apart, Touches, holds, moved, now, place_home, sizes}
+use Rattle.sd_table_rule.specs.Places.{Touches, holds, moved, now, place_home, sizes}
 use Rattle.sd_table_rule.specs.Plays.{AllNoted, HintsNoted, MayCommit, Sees, committing, desk_of, entry_as}
 use Rattle.sd_table_rule.proofs.Bridge.{moves, now_push, place_number, reached}
 use Rattle.sd_table_rule.proofs.Lists.{by_mine}
@@ -51,9 +51,9 @@ use Rattle.sd_table_rule.proofs.Movers.{moves_mover}
 use Rattle.sd_table_rule.proofs.Since.{begins_then, reached_still}
 use Rattle.sd_table.specs.declared.seat.Seat.{Seat}
 use Rattle.sd_table.specs.declared.seat.Held.{Held}
-use Rattle.sd_table.specs.Seats.{AreMoved, AreNumbers, Fits, FitsAs, HasMade, IsMoved, MayMake, Publishes, desk, indices, lent, seat_meaning}
+use Rattle.sd_table.specs.Seats.{AreMoved, AreNumbers, Fits, FitsAs, HasMade, IsMoved, MayMake, Publishes, desk, indices, seat_meaning}
 use Rattle.sd_table.proofs.Counting.{same_count}
-use Rattle.sd_table.proofs.Fitting.{fits_as, may_stand, shown_since}
+use Rattle.sd_table.proofs.Fitting.{fits_as, may_stand}
 
 -- Hints.
 

@@ -1,44 +1,36 @@
 -- A seat still fits after a call.
-use Rattle.std.proofs.Common.{◌≡◌, ◌≢◌, ℕ, zero, suc, ◌+◌, ◌<◌, ◌≤◌, Bool, true, false, eqb, List, [], ◌∷◌, ◌++◌, length, map, reverse, is_some, Option, Some, None, refl, sym, ap, ◌∙◌, subst, inl, inr, ⊎_elim, ◌⊎◌, arith, append-nil, length-append}
+use Rattle.std.proofs.Common.{◌≡◌, ◌≢◌, ℕ, ◌+◌, ◌<◌, ◌≤◌, Bool, true, false, List, [], ◌∷◌, ◌++◌, length, reverse, is_some, Option, Some, None, refl, sym, ap, ◌∙◌, subst, inl, inr, ⊎_elim, ◌⊎◌, arith, length-append}
 use Rattle.std.specs.Prelude.{◌&&◌, ◌||◌, ◌==◌}
-use Rattle.std.specs.List.{list_any}
-use Rattle.std.proofs.lemmas.Bool.{cases_eq, eq-eqb, eqb-true, false≢true}
+use Rattle.std.proofs.lemmas.Bool.{eq-eqb, eqb-true, false≢true}
 use Rattle.std.proofs.lemmas.Bool.Decides.{nat_tests}
 use Rattle.std.proofs.lemmas.Grind.{common_steps}
-use Rattle.atomic_table.specs.Table.{Me, rest}
+use Rattle.atomic_table.specs.Table.{rest}
 use Rattle.arrayvec.specs.ArrayVec.{ArrayVec}
 use Rattle.atomic_table.specs.Seated.{TableId}
-use Rattle.sd_types.specs.Partitions.{cpu_of_number}
-use Rattle.sd_types.specs.declared.numbers.CpuId.{CpuId}
 use Rattle.sd_types.specs.declared.numbers.HomeId.{HomeId}
-use Rattle.sd_types.specs.declared.events.Event.{Event}
-use Rattle.sd_types.specs.declared.events.Hints.{Hints}
 use Rattle.sd_types.specs.declared.events.Entry.{Entry}
 use Rattle.sd_types.specs.declared.events.Which.{Which}
 use Rattle.sd_types.specs.declared.works.Work.{Work}
-use Rattle.sd_machine.specs.declared.states.State.{State}
 use Rattle.sd_machine.specs.States.{cpu_of}
-use Rattle.sd_full.specs.Runs.{IsRun}
 use Rattle.sd_sound.proofs.Whole.{fit_reached}
 use Rattle.sd_homes.specs.declared.home.Home.{Home}
 use Rattle.sd_homes.specs.Families.{home_id, same_home}
 use Rattle.sd_hand.specs.declared.acting.Acting.{Acting}
 use Rattle.sd_hand.specs.declared.acting.Actor.{Actor}
 use Rattle.sd_hand.specs.Acting.{IsShown}
-use Rattle.sd_hand.specs.Hands.{AreApart, HoldsMore, IsHeld, held, how_many_held}
+use Rattle.sd_hand.specs.Hands.{HoldsMore, IsHeld, held, how_many_held}
 use Rattle.sd_hand.specs.Shown.{IsHome}
 use Rattle.sd_shown.specs.Standing.{look_of}
 use Rattle.sd_hand.proofs.SlotLemmas.{held_id, same_home_self, same_home_true}
-use Rattle.sd_world.specs.Homes.{IsNumber, IsPlaced, index_of}
-use Rattle.sd_world.specs.Worlds.{Begins, Gains, IsGood, MayStand, Meaning, Stays}
+use Rattle.sd_world.specs.Homes.{IsNumber, index_of}
+use Rattle.sd_world.specs.Worlds.{Begins, IsGood, MayStand}
 use Rattle.sd_world.proofs.NumberLemmas.{same_number}
 use Rattle.sd_table_rule.specs.declared.views.Count.{Count}
 use Rattle.sd_table_rule.specs.declared.views.Desk.{Desk}
 use Rattle.sd_table_rule.specs.declared.views.Note.{Note}
-use Rattle.sd_table_rule.specs.declared.views.View.{View}
 use Rattle.sd_table_rule.specs.declared.views.View.TheVariants.{Works}
-use Rattle.sd_table_rule.specs.Ledgers.{Since, by}
-use Rattle.sd_table_rule.specs.Places.{Apart, Stands, holds, home_count, now, sizes, without}
+use Rattle.sd_table_rule.specs.Ledgers.{by}
+use Rattle.sd_table_rule.specs.Places.{Apart, Stands, holds, now, sizes, without}
 use Rattle.sd_table_rule.specs.Plays.{Sees, Slot, desk_of, giving, hinted, is_note, is_noted, missing, noting, seeing, taking}
 use Rattle.sd_table_rule.specs.Words.{which_word}
 use Rattle.sd_table_rule.proofs.Bridge.{reached}

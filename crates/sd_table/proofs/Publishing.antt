@@ -1,30 +1,34 @@
 -- What a seat publishes after an entry.
-use Rattle.std.proofs.Common.{◌≡◌, ◌⊎◌, ℕ, ◌+◌, ◌<◌, ◌≤◌, Bool, true, false, List, [], ◌∷◌, length, is_some, MatchOption, Option, Some, None, refl, sym, ap, ◌∙◌, subst, inl, inr, ⊎_elim, arith}
+use Rattle.std.proofs.Common.{◌≡◌, ℕ, zero, suc, ◌-◌, ◌<◌, true, false, List, [], ◌∷◌, length, get_or, reverse, is_some, MatchOption, Option, Some, None, refl, sym, ap, ◌∙◌, subst, inl, inr, arith}
 use Rattle.std.proofs.lemmas.Bool.{false≢true}
+use Rattle.std.proofs.lemmas.List.{get_or-reverse, length-reverse}
 use Rattle.arrayvec.specs.ArrayVec.{ArrayVec}
 use Rattle.atomic_table.specs.Seated.{TableId}
+use Rattle.sd_types.specs.declared.numbers.CpuId.{CpuId}
 use Rattle.sd_types.specs.declared.numbers.HomeId.{HomeId}
+use Rattle.sd_types.specs.declared.numbers.HomeId.TheVariants as id
 use Rattle.sd_types.specs.declared.numbers.ThreadId.{ThreadId}
 use Rattle.sd_types.specs.declared.events.Entry.{Entry}
 use Rattle.sd_types.specs.declared.events.Event.{Event}
 use Rattle.sd_types.specs.declared.works.Work.{Work}
-use Rattle.sd_machine.specs.States.{thread_of}
 use Rattle.sd_sound.proofs.Whole.{fit_reached}
 use Rattle.sd_shown.specs.declared.list_id.ListId.{ListId}
 use Rattle.sd_shown.specs.Standing.{home_at}
 use Rattle.sd_hand.specs.declared.acting.Acting.{Acting}
-use Rattle.sd_hand.specs.Hands.{StandsIn, has_thread}
+use Rattle.sd_homes.specs.declared.home.Home.{Home}
+use Rattle.sd_hand.specs.Hands.{IsHeld, StandsIn, has_thread, held}
 use Rattle.sd_hand.proofs.MoveLemmas.{stands_at, stands_held}
 use Rattle.sd_world.specs.Homes.{IsNumber, index_of}
-use Rattle.sd_table_rule.specs.declared.views.Desk.{Desk}
+use Rattle.sd_world.specs.Plain.{StandsInRun}
 use Rattle.sd_table_rule.specs.declared.views.View.TheVariants.{Works}
 use Rattle.sd_table_rule.specs.Movers.{mover}
 use Rattle.sd_table_rule.specs.Places.{holds, now, place_home, sizes, without}
 use Rattle.sd_table_rule.specs.Plays.{Sees, desk_of, naming}
 use Rattle.sd_table_rule.proofs.Bridge.{reached}
+use Rattle.sd_table_rule.proofs.Lists.{holds_cons, holds_here}
 use Rattle.sd_table.specs.declared.seat.Held.{Held}
 use Rattle.sd_table.specs.declared.seat.Seat.{Seat}
-use Rattle.sd_table.specs.Seats.{AreMoved, Fits, FitsAs, IsMoved, IsSameSeat, Publishes, desk, lent}
+use Rattle.sd_table.specs.Seats.{AreMoved, AreNumbers, Fits, FitsAs, IsMoved, IsSameSeat, Publishes, desk, indices}
 use Rattle.sd_table.proofs.Fitting.{refits, sees_same, shown_since, without_only}
 
 module _ (w : Work) where
@@ -89,3 +93,50 @@ module _ (w : Work) where
   -- the mover, where there is one
   pub moved_by : (e : Event) (x : Acting) (ts : List ℕ) (o : Option ThreadId) → o ≡ mover e → AreMoved e x ts → MatchOption o (ts ≡ []) (λ u. IsMoved u.0 x ts)
   moved_by e x ts o is moved = subst (λ p. MatchOption p (ts ≡ []) (λ u. IsMoved u.0 x ts)) (sym is) moved
+
+-- Hints.
+
+module _ (w : Work) where
+  -- a home of the order is held, and one of the run
+  holds_indices : (ys : List Held) (j : ℕ) (d : Held) → j < length ys → holds (index_of (sizes w) (get_or ys j d).0) (indices w ys) ≡ true
+  holds_indices [] j d inside = absurd (omega (arith, inside))
+  holds_indices (y ∷ ys) zero d inside = holds_here (index_of (sizes w) y.0) (indices w ys)
+  holds_indices (y ∷ ys) (suc j) d inside = holds_cons (index_of (sizes w) (get_or ys j d).0) (index_of (sizes w) y.0) (indices w ys) (holds_indices ys j d (omega (arith, inside)))
+
+  number_in : (ys : List Held) (j : ℕ) (d : Held) → j < length ys → AreNumbers w ys → IsNumber (sizes w) (get_or ys j d).0
+  number_in [] j d inside are = absurd (omega (arith, inside))
+  number_in (y ∷ ys) zero d inside are = are.0
+  number_in (y ∷ ys) (suc j) d inside are = number_in ys j d (omega (arith, inside)) are.1
+
+  as_held : (k : HomeId) (o : Option Home) → is_some o ≡ true → (h : Home) × (o ≡ Some h)
+  as_held k None e = absurd (false≢true e)
+  as_held k (Some h) e = (h, refl)
+
+  pub order_held : (t : TableId) (s : Seat) → Fits t w s → (i : ℕ) (d : Held) → i < length s.order.items → IsHeld (get_or s.order.items i d).0 s.acting.hand.slots
+  order_held t s f i d inside =
+      let xs = s.order.items in
+      let j = length xs - 1 - i in
+      let below : j < length xs = omega (arith, inside) in
+      let same : get_or (reverse xs) j d ≡ get_or xs i d = get_or-reverse xs j d below ∙ ap (λ m. get_or xs m d) (let e : length xs - 1 - j ≡ i = omega (arith, inside) in e) in
+      let long : j < length (reverse xs) = (let e = length-reverse xs in omega (arith, below, e)) in
+      let k = (get_or xs i d).0 in
+      let number : IsNumber (sizes w) k = subst (λ (h : Held). IsNumber (sizes w) h.0) same (number_in (reverse xs) j d long f.each) in
+      let here : holds (index_of (sizes w) k) (desk s).held ≡ true = ap (holds (index_of (sizes w) k)) f.order ∙ subst (λ (h : Held). holds (index_of (sizes w) h.0) (indices w (reverse xs)) ≡ true) same (holds_indices (reverse xs) j d long) in
+      as_held k (held k s.acting.hand.slots) (sym (f.held k number) ∙ here)
+
+  pub in_run : (t : TableId) (s : Seat) → Fits t w s → StandsInRun s.acting
+  in_run t s f = record { work = w; number = length (desk s).seen; state = now w (desk s).seen; reached = reached w (desk s).seen f.run; shown = f.shown }
+
+  pub cpu_inside : (t : TableId) (s : Seat) (c : CpuId) → Fits t w s → IsHeld (id.Cpu c) s.acting.hand.slots → c.0 < w.cpus
+  cpu_inside t s c f is = f.numbers (id.Cpu c) is
+
+  pub held_still : (s s' : Seat) (k : HomeId) → IsSameSeat s s' → IsHeld k s.acting.hand.slots → IsHeld k s'.acting.hand.slots
+  held_still s s' k same is = subst (λ (a : Acting). IsHeld k a.hand.slots) (sym same.acting) is
+
+  -- so far the seat is as it was
+  pub record Showing (t : TableId) (first s : Seat) : Type 0 where
+    pub fits : Fits t w s
+    pub same : IsSameSeat first s
+
+  pub same_seat : (s : Seat) → IsSameSeat s s
+  same_seat s = record { me = refl; table = refl; acting = refl; order = refl; log = refl }

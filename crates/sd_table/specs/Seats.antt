@@ -1,15 +1,13 @@
 -- A seat of the table with its hand, and what the calls do to it.
 -- Source: this project's own.
-use Rattle.std.specs.Prelude.{◌≡◌, ℕ, ◌+◌, ◌-◌, ◌<◌, ◌≤◌, Bool, true, false, ◌&&◌, List, [], ◌∷◌, ◌++◌, map, length, reverse, is_some, ◌==◌, MatchOption, Option, Some, None, Result, Ok, Err, vec_len, vec_capacity, ◌⊎◌, ⊤}
+use Rattle.std.specs.Prelude.{◌≡◌, ℕ, ◌+◌, ◌-◌, ◌<◌, ◌≤◌, Bool, true, false, ◌&&◌, List, [], ◌∷◌, ◌++◌, map, length, reverse, is_some, ◌==◌, MatchOption, Option, Some, None, vec_len, vec_capacity, ◌⊎◌, ⊤}
 use Rattle.std.specs.List.{list_any}
 use Rattle.atomic_table.specs.Seated.{TableId}
 use Rattle.atomic_table.specs.Table.{rest}
 use Rattle.sd_types.specs.declared.numbers.HomeId.{HomeId}
-use Rattle.sd_types.specs.declared.numbers.ThreadId.{ThreadId}
 use Rattle.sd_types.specs.declared.events.Event.{Event}
 use Rattle.sd_types.specs.declared.events.Hints.{Hints}
 use Rattle.sd_types.specs.declared.events.Which.{Which}
-use Rattle.sd_types.specs.declared.events.Entry.{Entry}
 use Rattle.sd_types.specs.declared.works.Work.{Work}
 use Rattle.sd_machine.specs.States.{cpu_of}
 use Rattle.sd_machine.specs.declared.states.State.{State}
@@ -24,12 +22,11 @@ use Rattle.sd_hand.specs.declared.acting.Acting.{Acting}
 use Rattle.sd_hand.specs.Acting.{IsShown, has_part}
 use Rattle.sd_hand.specs.Hands.{AreApart, HoldsMore, IsHeld, has_thread, held as held_in, how_many_held}
 use Rattle.sd_world.specs.Homes.{IsNumber, index_of}
-use Rattle.sd_world.specs.Worlds.{Gains, IsStopped, Meaning, Stays, slots_of}
+use Rattle.sd_world.specs.Worlds.{Gains, Meaning, Stays}
 use Rattle.sd_world.specs.declared.world.Take.{Take}
 use Rattle.sd_world.specs.declared.world.Take.TheVariants.{Taken, Busy}
 use Rattle.sd_table_rule.specs.declared.views.Count.{Count}
 use Rattle.sd_table_rule.specs.declared.views.Desk.{Desk}
-use Rattle.sd_table_rule.specs.declared.views.View.{View}
 use Rattle.sd_table_rule.specs.declared.views.View.TheVariants.{Works}
 use Rattle.sd_table_rule.specs.Ledgers.{by}
 use Rattle.sd_table_rule.specs.Movers.{mover}

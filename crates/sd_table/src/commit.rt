@@ -71,7 +71,7 @@ impl Seat {
 
 impl Shared {
     /// Makes the event as the next entry of the run, and answers its number. The hints are numbers that this seat read since its last entry.
-    /// The word of the thread that moved and the own count are published.
+    /// The word of the thread that moved, the hints of the processors whose homes are held and the own count are published.
     pub fn commit(&self, work: &Work, seat: &mut Seat, event: Event, hints: Option<Hints>) -> u64
         requires work { work.now ≡ work_of self.now }
         requires fits { Fits (id_of self.now) (work_of self.now) seat.old }
@@ -92,6 +92,7 @@ impl Shared {
         ensures publishes { Publishes seat.old seat.new }
     {
         self.publish_mover(seat, event);
+        self.publish_hints(seat);
         self.publish_count(seat);
     }
 

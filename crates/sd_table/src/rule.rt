@@ -1,18 +1,18 @@
 //! The rule of the table, and what each kind of step tells.
 
-ghost use Rattle.std.specs.Prelude.{ℕ, Option, Some, None};
+ghost use Rattle.std.specs.Prelude.{◌≡◌, ℕ, Option, Some, None, []};
 ghost use Rattle.sd_types.specs.declared.works.Work.{Work as WorkOf};
 ghost use Rattle.sd_types.specs.declared.events.Event.{Event as EventOf};
 ghost use Rattle.sd_types.specs.declared.events.Event.TheVariants.{Idle};
 ghost use Rattle.sd_types.specs.declared.events.Hints.{Hints as HintsOf};
 ghost use Rattle.sd_types.specs.declared.events.Which.{Which as WhichOf};
 ghost use Rattle.sd_types.specs.declared.events.Which.TheVariants.{Running};
-ghost use Rattle.sd_table_rule.specs.declared.views.View.TheVariants.{Maker};
+ghost use Rattle.sd_table_rule.specs.declared.views.View.TheVariants.{Gathers, Maker, Spent};
 ghost use Rattle.sd_table_rule.specs.Rule.{Kept};
 ghost use Rattle.sd_table_rule.specs.Plays.{Committed, Counted, Gave, Hinted, Looked, Published, Took, Wrote};
-ghost use Rattle.sd_table.specs.Intents.{within};
+ghost use Rattle.sd_table.specs.Intents.{gathers_more, maker_cut, maker_next, within};
 
-use atomic_table::{Play, TableRule};
+use atomic_table::{Join, Play, Split, TableRule};
 use sd_homes::Home;
 use sd_table_rule::View;
 use sd_types::Work;
@@ -99,4 +99,28 @@ pub(crate) struct Committing<I>(PhantomData<I>);
 
 impl<I: Intent> Play<Option<Home>, View> for Committing<I> {
     ghost then = { λ st m n k. within I.about (λ w. Committed w I.event I.hints st m n k) };
+}
+
+/// The seat of the next processor is cut from the one that makes them.
+pub(crate) struct Cutting;
+
+impl Split<View> for Cutting {
+    ghost left = { maker_next };
+
+    ghost right = { maker_cut };
+}
+
+pub(crate) struct Sitting;
+
+impl Play<Option<Home>, View> for Sitting {
+    ghost then = { λ st m n k. k ≡ (Gathers [], []) };
+}
+
+/// The seat of a processor is taken back.
+pub(crate) struct Gathering;
+
+impl Join<View> for Gathering {
+    ghost both = { gathers_more };
+
+    ghost spent = { Spent };
 }

@@ -13,6 +13,7 @@ use std::alloc::Global;
 
 /// The homes of a run behind their locks, with the words of its threads and processors; and the numbers of its homes, threads and
 /// processors.
+#[derive(Drop)]
 pub struct Shared {
     pub table: Table<Option<Home>, View, Work, Rule, Global>,
     pub homes: usize,

@@ -1,10 +1,11 @@
 //! The single steps of a seat, each with what it tells.
 
-ghost use Rattle.std.specs.Prelude.{◌≡◌, ℕ, suc, ◌+◌, ◌*◌, ◌<◌, ◌^◌, true, false, List, Some, [], ◌∷◌, length};
+ghost use Rattle.std.specs.Prelude.{◌≡◌, ℕ, suc, ◌+◌, ◌*◌, ◌<◌, true, false, List, Some, [], ◌∷◌, length};
 ghost use mathlib.Core.Option as M;
 ghost use Rattle.atomic_table.specs.Table.{step, rest};
 ghost use Rattle.sd_types.specs.declared.events.Entry.{Entry as EntryOf};
 ghost use Rattle.sd_machine.specs.States.{cpu_of};
+ghost use Rattle.sd_full.specs.Choosing.{hint_shown};
 ghost use Rattle.sd_homes.specs.declared.home.Home.{Home as HomeOf};
 ghost use Rattle.sd_table_rule.specs.Ledgers.{by, most};
 ghost use Rattle.sd_table_rule.specs.Places.{Stands, holds, home_count, now, place_home, sizes};
@@ -21,7 +22,7 @@ use crate::shared::Shared;
 use atomic_table::Seat as Place;
 use sd_homes::Home;
 use sd_table_rule::View;
-use sd_types::{Event, Hints, HomeId, Which};
+use sd_types::{CpuId, Event, Hints, HomeId, Which};
 
 impl Shared {
     /// The index of a home: that of its slot and of its lock.
@@ -175,23 +176,23 @@ impl Shared {
         self.table.shared.load::<Hinting<I>>(place, word)
     }
 
-    /// Writes a hint of a processor.
+    /// Writes the number that a processor shows, whatever entries others have made.
     pub(crate) fn write_hint<I: Intent>(
         &self,
         place: &mut Place<Option<Home>, View>,
-        c: usize,
+        c: CpuId,
         which: Which,
         hint: u8,
     )
         requires about { I.about ≡ Some (work_of self.now) }
-        requires fits { hint < 2 ^ 8 }
+        requires shown { (h : List EntryOf) → Sees (work_of self.now) (desk_of place.old.me.0) h → hint ≡ hint_shown (now (work_of self.now) h) which c }
         requires table { place.old.table_id ≡ id_of self.now }
         requires desk { IsDesk place.old.me }
-        requires inside { c < (work_of self.now).cpus }
+        requires inside { c.0 < (work_of self.now).cpus }
         ensures table { place.new.table_id ≡ place.old.table_id }
         ensures told { place.new.me ≡ place.old.me }
     {
-        let word = self.hint_at(c, which);
+        let word = self.hint_at(c.0 as usize, which);
         self.table
             .shared
             .store::<Writing<I>>(place, word, u64::from(hint));

@@ -1,6 +1,6 @@
-use Rattle.std.proofs.Common.{◌≡◌, ◌<◌, length, refl, sym, ap, ◌∙◌, subst}
-use Rattle.sd_table_rule.specs.Ledgers.{by, most}
-use Rattle.sd_table.specs.Seats.{HasMade, MayMake, desk, work_of}
+use Rattle.std.proofs.Common.{◌<◌, length, sym, ap, ◌∙◌, subst}
+use Rattle.sd_table_rule.specs.Ledgers.{most}
+use Rattle.sd_table.specs.Seats.{HasMade, MayMake, work_of}
 use Rattle.sd_table.proofs.Entries as E
 use Rattle.sd_table.proofs.shared.Shared.commit.Goals as goal
 

@@ -1,4 +1,4 @@
-use Rattle.std.specs.Prelude.{Some, None}
+use Rattle.std.specs.Prelude.{Some}
 use Rattle.sd_types.specs.declared.events.Which.TheVariants.{Running}
 use Rattle.sd_table.specs.Seats.{work_of}
 use Rattle.sd_table.proofs.shared.Shared.commit.Given as goal

@@ -1,4 +1,4 @@
-use Rattle.std.proofs.Common.{◌≡◌, ◌<◌, refl, sym, ap, ◌∙◌, subst}
+use Rattle.std.proofs.Common.{refl}
 use Rattle.sd_table.specs.Seats.{work_of}
 use Rattle.sd_table.proofs.Publishing as P
 use Rattle.sd_table.proofs.shared.Shared.publish_count.Goals as goal

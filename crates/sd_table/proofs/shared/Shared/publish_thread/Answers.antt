@@ -1,4 +1,4 @@
-use Rattle.std.proofs.Common.{◌≡◌, refl, sym, ap, ◌∙◌, subst}
+use Rattle.std.proofs.Common.{refl, sym, ap, ◌∙◌, subst}
 use Rattle.sd_world.specs.Homes.{IsNumber, index_of}
 use Rattle.sd_table_rule.specs.Places.{holds, sizes}
 use Rattle.sd_table.specs.Seats.{desk, work_of}

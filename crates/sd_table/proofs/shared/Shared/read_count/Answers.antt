@@ -1,4 +1,4 @@
-use Rattle.std.proofs.Common.{sym, ap, ◌∙◌, ◌+◌, ◌*◌, arith}
+use Rattle.std.proofs.Common.{◌+◌, ◌*◌, arith}
 use Rattle.sd_table.proofs.Asked as A
 use Rattle.sd_table.proofs.shared.Shared.read_count.Goals as goal
 

@@ -1,4 +1,3 @@
-use Rattle.std.proofs.Common.{sym, ap, ◌∙◌, ◌+◌, ◌*◌, arith}
 use Rattle.sd_table.proofs.Asked as A
 use Rattle.sd_table.proofs.shared.Shared.read_hint.Goals as goal
 

@@ -1,4 +1,4 @@
-use Rattle.std.proofs.Common.{sym, ap, ◌∙◌, ◌+◌, ◌*◌, arith}
+use Rattle.std.proofs.Common.{arith}
 use Rattle.sd_table.proofs.Asked as A
 use Rattle.sd_table.proofs.shared.Shared.write_hint.Goals as goal
 
@@ -7,5 +7,5 @@ store-requires g c =
     let s = c.args.self.now in (
       c.requires.table,
       c.hint_at-word.ensures.inside,
-      A.write_hint s.table.shared.key _ c.requires.about _ _ c.args.place.now.me c.requires.desk c.hint_at-word.result c.args.c c.from.result c.args.which c.hint_at-word.ensures.index c.requires.inside (let e = c.from.ensures in let f = c.requires.fits in omega (arith, e, f)),
+      A.write_hint s.table.shared.key _ c.requires.about _ _ c.args.place.now.me c.requires.desk c.hint_at-word.result c.args.c.0 c.from.result c.args.which c.hint_at-word.ensures.index c.requires.inside (let e = c.from.ensures in omega (arith, e)),
     )

@@ -1,0 +1,28 @@
+use Rattle.std.proofs.Common.{[], is_some, length, refl, ap}
+use Rattle.sd_table_rule.specs.Places.{now}
+use Rattle.sd_table.specs.Seats.{desk, work_of}
+use Rattle.sd_table.proofs.Fitting.{shown_since}
+use Rattle.sd_table.proofs.Publishing as P
+use Rattle.sd_table.proofs.shared.Shared.publish_hint.Goals as goal
+
+pub shown_hint-hint-requires : goal.shown_hint-hint-requires
+shown_hint-hint-requires c = record { stands = P.in_run (work_of c.args.self.now) _ c.args.seat.now c.requires.fits; home = ap is_some c.requires.held.1 }
+
+pub write_hint-requires-clause-shown : goal.write_hint-requires-clause-shown
+write_hint-requires-clause-shown c = λ h seen.
+    let w = work_of c.args.self.now in
+    c.shown_hint-hint.ensures (length h) (now w h) (shown_since w _ [] (desk c.args.seat.now) c.args.seat.now h c.requires.fits seen)
+
+pub write_hint-requires-clause-table : goal.write_hint-requires-clause-table
+write_hint-requires-clause-table c = c.requires.fits.table
+
+pub write_hint-requires-clause-desk : goal.write_hint-requires-clause-desk
+write_hint-requires-clause-desk c = ap (λ m. m.0) c.requires.fits.view
+
+pub write_hint-requires-clause-inside : goal.write_hint-requires-clause-inside
+write_hint-requires-clause-inside c = P.cpu_inside (work_of c.args.self.now) _ c.args.seat.now c.args.c c.requires.fits c.requires.held
+
+pub returns-clause-fits : goal.returns-clause-fits
+returns-clause-fits c =
+    let s = c.args.seat.now in
+    P.fits_same (work_of c.args.self.now) _ s (record { place = c.write_hint.new.place; acting = s.acting; order = s.order; log = s.log }) c.requires.fits (record { me = c.write_hint.ensures.told; table = c.write_hint.ensures.table; acting = refl; order = refl; log = refl })

@@ -1,0 +1,126 @@
+-- Processors between two phases.
+use Rattle.std.proofs.Common.{◌≡◌, ℕ, zero, suc, ◌^◌, ◌<◌, ◌≤◌, List, [], ◌∷◌, ◌++◌, length, get_or, slice_get, Some, Result, Err, refl, sym, ap, ◌∙◌, subst, arith}
+use Rattle.std.specs.Prelude.{slice_index_or}
+use Rattle.std.proofs.lemmas.Bool.Decides.{nat_tests}
+use Rattle.std.proofs.lemmas.List.{get_or_default}
+use Rattle.atomic_table.specs.Seated.{TableId}
+use Rattle.sd_types.specs.declared.numbers.CpuId.{CpuId}
+use Rattle.sd_types.specs.declared.events.Entry.{Entry}
+use Rattle.sd_types.specs.declared.events.Stop.{Stop}
+use Rattle.sd_types.specs.declared.events.Stop.TheVariants.{Full}
+use Rattle.sd_types.specs.declared.works.Work.{Work}
+use Rattle.sd_cpu.specs.Attempts.{IsEmpty, IsSameWorld, Refuses}
+use Rattle.sd_phase.specs.declared.phases.Phased.{Phased}
+use Rattle.sd_phase.specs.Phases.{PhaseAnswers, Stops}
+use Rattle.sd_table_rule.specs.Ledgers.{by}
+use Rattle.sd_table.specs.declared.seat.Seat.{Seat}
+use Rattle.sd_table.specs.Seats.{Fits, desk, id_of, work_of}
+use Rattle.sd_table.specs.Whole.{AreSeats, IsSeatOf}
+use Rattle.sd_tlock.specs.declared.world.TableWorld.{TableWorld}
+use Rattle.sd_tlock.specs.Tables.{IsTable, world_meaning}
+use Rattle.sd_threads.specs.declared.jobs.Job.{Job}
+use Rattle.sd_threads.specs.Jobs.{AreJobs, HavePhased, IsFree, IsLongRun, WasStopped, seats_in}
+
+-- ---- a phase of one processor
+by_short : (c : ℕ) (h : List Entry) → length (by c h) ≤ length h
+unfolding by
+by_short c [] = omega arith
+by_short c (e ∷ es) = let r = by_short c es in grind (arith, nat_tests)
+
+long_by : (t : TableId) (w : Work) (s : Seat) → Fits t w s → 2 ^ 40 ≤ length s.log.items → IsLongRun w
+long_by t w s f long =
+    let short = by_short (desk s).cpu (desk s).seen in
+    let many = ap length f.log in
+    record { entries = (desk s).seen; run = f.run; long = omega (arith, short, many, long) }
+
+pub outcome_is : (a b : Result Phased Stop) → Some a ≡ Some b → a ≡ b
+outcome_is a b e = cc
+
+-- x is the world before the phase, and y after it
+module _ (t : TableId) (w : Work) (x y : TableWorld) (table : id_of x.shared.now ≡ t) (work : work_of x.shared.now ≡ w) (before : IsTable x) (after : IsTable y) (same : IsSameWorld (world_meaning x) (world_meaning y)) where
+  some_id : (a b : TableId) → Some a ≡ Some b → a ≡ b
+  some_id a b e = cc
+
+  pub fits_back : Fits t w y.seat
+  fits_back =
+      let ids : id_of y.shared.now ≡ t = sym after.table ∙ (some_id y.seat.place.table_id x.seat.place.table_id same.table ∙ (before.table ∙ table)) in
+      subst (λ v. Fits t v y.seat) (same.work ∙ work) (subst (λ i. Fits i (work_of y.shared.now) y.seat) ids after)
+
+  pub free_back : IsEmpty (world_meaning y) → IsFree t w y.seat
+  free_back empty = record { fits = fits_back; free = empty refl }
+
+  pub full_long : (r : Result Phased Stop) → r ≡ Err Full → PhaseAnswers (world_meaning x) (world_meaning y) r → IsLongRun w
+  full_long r e answers =
+      let refused : Refuses answers.last (world_meaning y) Full = subst (Stops answers.last (world_meaning y) answers.count) e answers.stops in
+      let log = ap length refused.0.log in
+      let long = refused.1 in
+      long_by t w y.seat fits_back (omega (arith, log, long))
+
+-- ---- phases of all
+module _ (t : TableId) (w : Work) (js js' : List Job) (many : length js' ≡ length js) (phased : HavePhased t w js js') where
+  pub jobs_phased : AreJobs t w js → AreJobs t w js'
+  jobs_phased are = record {
+    many = many ∙ are.many;
+    free = λ i d inside. (phased i d (let z : i < length js = omega (arith, inside, many) in z)).free;
+    cpus = λ i d inside. (let z : i < length js = omega (arith, inside, many) in ap (λ (c : CpuId). c.0) (phased i d z).cpu ∙ are.cpus i d z);
+  }
+
+  pub long_of : WasStopped js' Full → IsLongRun w
+  long_of was = (phased was.index was.job (let i = was.inside in let z : was.index < length js = omega (arith, i, many) in z)).full (ap (λ (j : Job). j.outcome) (was.at was.job) ∙ was.stopped)
+
+-- the outcome of one of them says that it was refused
+pub stopped_at : (js : List Job) (i : ℕ) (d : Job) (stop : Stop) → i < length js → (get_or js i d).outcome ≡ Some (Err stop) → WasStopped js stop
+stopped_at js i d stop inside is = record {
+  index = i;
+  inside = inside;
+  job = get_or js i d;
+  at = λ e. get_or_default js i e d inside;
+  stopped = is;
+}
+
+-- ---- seats and jobs
+at_map : (js : List Job) (i : ℕ) (d : Job) → i < length js → slice_get (seats_in js) i ≡ Some (slice_index_or js i d).seat
+at_map [] i d inside = absurd (omega (arith, inside))
+at_map (j ∷ js) zero d inside = refl
+at_map (j ∷ js) (suc i) d inside = at_map js i d (omega (arith, inside))
+
+record IsOf (js : List Job) (c : ℕ) (s : Seat) : Type 0 where
+  pub job : Job
+  pub inside : c < length js
+  pub seat : job.seat ≡ s
+
+of_map : (js : List Job) (c : ℕ) (s : Seat) → slice_get (seats_in js) c ≡ Some s → IsOf js c s
+of_map [] c s e = absurd cc
+of_map (j ∷ js) zero s e = record { job = j; inside = (let z : 0 < length (j ∷ js) = omega arith in z); seat = cc }
+of_map (j ∷ js) (suc c) s e = let x = of_map js c s e in let i = x.inside in record { job = x.job; inside = omega (arith, i); seat = x.seat }
+
+length_seats : (js : List Job) → length (seats_in js) ≡ length js
+length_seats [] = refl
+length_seats (j ∷ js) = ap suc (length_seats js)
+
+pub seats_more : (js : List Job) (j : Job) → seats_in (js ++ j ∷ []) ≡ seats_in js ++ j.seat ∷ []
+seats_more [] j = refl
+seats_more (x ∷ js) j = ap (λ l. x.seat ∷ l) (seats_more js j)
+
+same_seat : (a b : Seat) → Some a ≡ Some b → a ≡ b
+same_seat a b e = cc
+
+pub jobs_begin : (t : TableId) (w : Work) (seats : List Seat) (js : List Job) → seats_in js ≡ seats → AreSeats t w seats → AreJobs t w js
+jobs_begin t w seats js e are = record {
+  many = sym (length_seats js) ∙ (ap length e ∙ are.many);
+  free = λ i d inside. let of = is i d inside in record { fits = of.fits; free = of.free };
+  cpus = λ i d inside. (is i d inside).cpu;
+}
+  where
+    is : (i : ℕ) (d : Job) → i < length js → IsSeatOf t w i (slice_index_or js i d).seat
+    is i d inside = are.each i (slice_index_or js i d).seat (ap (λ l. slice_get l i) (sym e) ∙ at_map js i d inside)
+
+pub seats_end : (t : TableId) (w : Work) (js : List Job) → AreJobs t w js → AreSeats t w (seats_in js)
+seats_end t w js are = record {
+  many = length_seats js ∙ are.many;
+  each = λ c s e.
+      let of = of_map js c s e in
+      let same : (slice_index_or js c of.job).seat ≡ s = same_seat (slice_index_or js c of.job).seat s (sym (at_map js c of.job of.inside) ∙ e) in
+      let free = are.free c of.job of.inside in
+      subst (IsSeatOf t w c) same (record { fits = free.fits; cpu = are.cpus c of.job of.inside; free = free.free });
+}

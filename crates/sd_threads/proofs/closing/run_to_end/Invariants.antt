@@ -1,0 +1,14 @@
+use Rattle.std.proofs.Common.{◌≡◌, ◌-◌, length}
+use Rattle.sd_world.specs.Plain.{Stands}
+use Rattle.sd_world.specs.declared.entries.TheConstants.{MOST_ENTRIES}
+use Rattle.sd_threads.proofs.closing.run_to_end.Given as goal
+
+abbrev pub invariant-rounds : goal.invariant-rounds
+invariant-rounds l = record {
+  stands : Stands l.work l.world;
+  work : l.world.work.now ≡ l.work;
+}
+
+-- each round that goes on adds an entry, and begins with fewer than MOST_ENTRIES
+abbrev pub decreases-rounds : goal.decreases-rounds
+decreases-rounds l = MOST_ENTRIES - length l.world.entries.items

@@ -1,0 +1,31 @@
+use Rattle.std.proofs.Common.{◌≡◌, sym, ap, ◌∙◌, subst}
+use Rattle.sd_hand.specs.Hands.{how_many_held}
+use Rattle.sd_table.specs.declared.seat.Seat.{Seat}
+use Rattle.sd_table.specs.Seats.{id_of, work_of}
+use Rattle.sd_threads.specs.Jobs.{IsFree}
+use Rattle.sd_threads.proofs.JobLemmas as J
+use Rattle.sd_threads.proofs.jobs.phase_of.Goals as goal
+
+pub phase-outcome-requires-clause-work : goal.phase-outcome-requires-clause-work
+phase-outcome-requires-clause-work g c = c.requires.work ∙ sym (ap work_of c.new-world.ensures.table)
+
+pub phase-outcome-requires-clause-empty : goal.phase-outcome-requires-clause-empty
+phase-outcome-requires-clause-empty g c = λ none. subst (λ (s : Seat). how_many_held s.acting.hand.slots ≡ 0) (sym c.new-world.ensures.seat) c.requires.free.free
+
+pub returns : goal.returns
+returns g c =
+    let t = id_of c.args.shared.now in
+    let w = c.args.work.now in
+    let x = c.new-world.result in
+    let y = c.phase-outcome.new.world in
+    let table = ap id_of c.new-world.ensures.table in
+    let work = ap work_of c.new-world.ensures.table ∙ sym c.requires.work in
+    let e = c.phase-outcome.ensures in
+    let same = c.into_seat.ensures in
+    record {
+      phased = record {
+        free = subst (IsFree t w) (sym same) (J.free_back t w x y table work c.new-world.ensures.good e.good e.world e.empty);
+        cpu = ap (λ (s : Seat). s.acting.actor.cpu) same ∙ (e.world.cpu ∙ ap (λ (s : Seat). s.acting.actor.cpu) c.new-world.ensures.seat);
+        full = λ refused. J.full_long t w x y table work c.new-world.ensures.good e.good e.world c.phase-outcome.result (J.outcome_is c.phase-outcome.result _ refused) e.answers;
+      };
+    }

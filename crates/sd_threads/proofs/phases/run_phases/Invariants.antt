@@ -1,0 +1,10 @@
+use Rattle.sd_table.specs.Seats.{id_of}
+use Rattle.sd_threads.specs.Jobs.{AreJobs}
+use Rattle.sd_threads.proofs.phases.run_phases.Given as goal
+
+abbrev pub invariant-loop : goal.invariant-loop
+invariant-loop g l = record {
+  can : (goal.iterator-loop g).can_next l.iterator';
+  ends : (goal.iterator-loop g).is_finite l.iterator';
+  jobs : AreJobs (id_of l.shared) l.work l.jobs.items;
+}

@@ -1,0 +1,9 @@
+use Rattle.std.proofs.Common.{◌≡◌, ◌++◌, length}
+use Rattle.std.specs.Vec.Iter.{into_iter_items, into_iter_len}
+use Rattle.sd_threads.specs.Jobs.{seats_in}
+use Rattle.sd_threads.proofs.run.seats_of.Given as goal
+
+abbrev pub invariant-loop-job : goal.invariant-loop-job
+invariant-loop-job l = (l.yielded ++ into_iter_items l.job-iterator ≡ into_iter_items l.initial.job-iterator)
+    × (l.seats.items ≡ seats_in l.yielded)
+    × (into_iter_len l.job-iterator ≡ length (into_iter_items l.job-iterator))

@@ -1,0 +1,12 @@
+//! The run of a workload whose processors are threads of the host: they share a table of homes in phases, and rounds on one thread show
+//! that nothing is left to do.
+//!
+//! Source: this project's own.
+#![tactic(auto)]
+
+mod closing;
+mod jobs;
+mod phases;
+mod run;
+
+pub use run::run_on_threads;

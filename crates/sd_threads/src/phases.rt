@@ -1,0 +1,86 @@
+//! Phases of all processors side by side, until one makes no entry.
+
+ghost use Rattle.std.specs.Prelude.{◌≡◌, length, IfErr, IfOk, IsErrOf};
+ghost use Rattle.std.specs.List.{All};
+ghost use Rattle.sd_table.specs.Seats.{id_of, work_of};
+ghost use Rattle.sd_threads.specs.Jobs.{AreJobs, HasPhased, HavePhased, IsFree, IsLongRun, WasStopped};
+
+use crate::jobs::{Job, phase_of};
+use sd_cpu::Gate;
+use sd_table::Shared;
+use sd_types::{Stop, Work};
+use std::alloc::AllocError;
+use std::sync::Wait;
+use std::thread;
+use std::thread::Threads;
+
+/// One phase of each processor, each on a thread of its own where one can be made, and else one after another. `Err` only where memory
+/// runs out.
+fn run_phase<R: Threads + Wait + Sync, G: Gate + Sync>(
+    rt: &R,
+    gate: &G,
+    shared: &Shared,
+    work: &Work,
+    jobs: Vec<Job>,
+) -> Result<Vec<Job>, AllocError>
+    requires work { work.now ≡ work_of shared.now }
+    requires free { All (λ j. IsFree (id_of shared.now) work.now j.seat) jobs.items }
+    ensures many { IfOk result (λ v. length v.items ≡ length jobs.items) }
+    ensures phased { IfOk result (λ v. HavePhased (id_of shared.now) work.now jobs.items v.items) }
+{
+    thread::map_vec(
+        rt,
+        jobs,
+        &|job: Job| -> Job
+            requires { (work.now ≡ work_of shared.now) × IsFree (id_of shared.now) work.now job.seat }
+            ensures { HasPhased (id_of shared.entry.now) work.entry.now job result }
+        { phase_of(rt, gate, shared, work, job) },
+    )
+}
+
+/// Whether any of these processors has made entries in its last phase. `Err` where one was refused: what the first of them was.
+fn have_acted(jobs: &[Job]) -> Result<bool, Stop>
+    ensures { IfErr result (λ stop. WasStopped jobs.now stop) }
+{
+    let mut acted = false;
+    for i in 0..jobs.len() {
+        if let Some(outcome) = jobs[i].outcome {
+            match outcome {
+                Err(stop) => return Err(stop),
+                Ok(phased) => acted = acted | phased.made,
+            }
+        }
+    }
+    Ok(acted)
+}
+
+/// Phases of all processors, until one makes no entry. `Full` only where a run of the workload has 2^40 entries or more.
+pub(crate) fn run_phases<R: Threads + Wait + Sync, G: Gate + Sync>(
+    rt: &R,
+    gate: &G,
+    shared: &Shared,
+    work: &Work,
+    jobs: Vec<Job>,
+) -> Result<Vec<Job>, Stop>
+    requires work { work.now ≡ work_of shared.now }
+    requires jobs { AreJobs (id_of shared.now) work.now jobs.items }
+    ensures jobs { IfOk result (λ v. AreJobs (id_of shared.now) work.now v.items) }
+    ensures full { IsErrOf result Stop.Full → IsLongRun work.now }
+{
+    let mut jobs = jobs;
+    for _ in rt.forever() {
+        match run_phase(rt, gate, shared, work, jobs) {
+            Err(_) => return Err(Stop::Memory),
+            Ok(done) => match have_acted(&done) {
+                Err(stop) => return Err(stop),
+                Ok(acted) => {
+                    if !acted {
+                        return Ok(done);
+                    }
+                    jobs = done;
+                }
+            },
+        }
+    }
+    unreachable!()
+}

@@ -1,0 +1,4 @@
+pub mod AsWorld
+pub mod Interlocking
+pub mod Listed
+pub mod Locking

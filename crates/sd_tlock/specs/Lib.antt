@@ -1,0 +1,3 @@
+pub mod Interlocks
+pub mod Locks
+pub mod Tables
