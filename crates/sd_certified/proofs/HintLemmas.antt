@@ -27,9 +27,9 @@ use Rattle.sd_full.specs.Threads.{open_of, set_of, runner, best_unbound, priorit
 use Rattle.sd_full.specs.Choosing.{hint_of, hint_shown, cpus_or_bound, cpus_for, is_warm, is_settled, reads_for, neighbours, read_of}
 use Rattle.sd_full.specs.Plans.{plan}
 use Rattle.sd_full.specs.Events.{after, placed_thread, plan_reads, reads}
-use Rattle.sd_full.specs.Runs.{final, IsRun, IsRunFrom, shown, serial_hints, made, turn, round, rounds, IsSerial}
+use Rattle.sd_full.specs.Runs.{final, IsComplete, IsRun, IsRunFrom, shown, serial_hints, made, turn, round, rounds, IsSerial}
 use Rattle.std.proofs.lemmas.List.{length-append}
-use Rattle.std.proofs.lemmas.List.Elements.{All-nil, All-cons}
+use Rattle.std.proofs.lemmas.List.Elements.{All-nil, All-cons, All-head, All-tail}
 use Rattle.sd_full.proofs.RunLemmas.{final-nil, final-push, IsRun-nil, IsRun-append, IsRun-from, IsRunFrom-nil, IsRunFrom-one, IsRunFrom-append}
 use Rattle.sd_sound.specs.Laws.{OpenHold, IsRising, is_in}
 use Rattle.sd_sound.proofs.Whole.{reached_whole}
@@ -38,6 +38,7 @@ use Rattle.sd_rounds.specs.declared.orders.Turns.{Turns}
 use Rattle.sd_rounds.specs.Orders.{orders_of}
 use Rattle.sd_rounds.proofs.CompleteLemmas.{complete_of}
 use Rattle.sd_audit.specs.Audits.{IsJournal}
+use Rattle.sd_certified.specs.Certified.{HasBytes}
 
 -- ---- the numbers that processors show
 
@@ -138,7 +139,7 @@ serial_ok w n s c reached = shown_ok s (plan_reads w s c.0 (plan w s c.0)) (fine
 -- ---- the entries of a run in rounds
 
 -- each entry has the numbers that the state before it shows
-abbrev AreShown : Work → State → List Entry → Type 0
+abbrev pub AreShown : Work → State → List Entry → Type 0
 AreShown w s [] = ⊤
 AreShown w s (e ∷ es) = (e.hints ≡ serial_hints w s e.cpu) × AreShown w (after w s e.number e.cpu e.event) es
 
@@ -176,22 +177,35 @@ reached_next w n s e r counted step = record {
   ends = final-push w (opening w) r.entries e ∙ ap (λ (x : State). after w x e.number e.cpu e.event) r.ends;
 }
 
-all_spelled : (w : Work) (n : ℕ) (s : State) (es : List Entry) → IsReached w n s → IsRunFrom w s n es → AreShown w s es → n + length es < 2 ^ 64 → All (IsSpelled w) es
+-- numbers that states show are of 8 bits
+range_of_shown : (w : Work) (n : ℕ) (s : State) (es : List Entry) → IsReached w n s → IsRunFrom w s n es → AreShown w s es → All HasBytes es
 unfolding IsRunFrom
-all_spelled w n s [] reached run shown few = All-nil (IsSpelled w)
-all_spelled w n s (e ∷ es) reached run shown few =
-    let here = spelled w n s e reached run.1 (let at = run.0 in omega (arith, at, few)) (ap hints_in_range shown.0 ∙ serial_ok w n s e.cpu reached) in
-    All-cons (IsSpelled w) e es here
-    (all_spelled w (n + 1) (after w s e.number e.cpu e.event) es (reached_next w n s e reached run.0 run.1) run.2 shown.1 (omega (arith, few)))
+range_of_shown w n s [] reached run shown = All-nil HasBytes
+range_of_shown w n s (e ∷ es) reached run shown =
+    All-cons HasBytes e es (ap hints_in_range shown.0 ∙ serial_ok w n s e.cpu reached)
+    (range_of_shown w (n + 1) (after w s e.number e.cpu e.event) es (reached_next w n s e reached run.0 run.1) run.2 shown.1)
 
-opened : (w : Work) → IsReached w 0 (opening w)
+-- each entry of a run has a line of its own, where the numbers that were read have 8 bits
+run_spelled : (w : Work) (n : ℕ) (s : State) (es : List Entry) → IsReached w n s → IsRunFrom w s n es → All HasBytes es → n + length es < 2 ^ 64 → All (IsSpelled w) es
+unfolding IsRunFrom
+run_spelled w n s [] reached run bytes few = All-nil (IsSpelled w)
+run_spelled w n s (e ∷ es) reached run bytes few =
+    let here = spelled w n s e reached run.1 (let at = run.0 in omega (arith, at, few)) (All-head HasBytes e es bytes) in
+    All-cons (IsSpelled w) e es here
+    (run_spelled w (n + 1) (after w s e.number e.cpu e.event) es (reached_next w n s e reached run.0 run.1) run.2 (All-tail HasBytes e es bytes) (omega (arith, few)))
+
+-- so has each that read what the states show
+pub all_spelled : (w : Work) (n : ℕ) (s : State) (es : List Entry) → IsReached w n s → IsRunFrom w s n es → AreShown w s es → n + length es < 2 ^ 64 → All (IsSpelled w) es
+all_spelled w n s es reached run shown few = run_spelled w n s es reached run (range_of_shown w n s es reached run shown) few
+
+pub opened : (w : Work) → IsReached w 0 (opening w)
 opened w = record { entries = []; run = IsRun-nil w; many = refl; ends = final-nil w (opening w) }
 
--- all entries of a run in rounds
-serial_spelled : (w : Work) (orders : ℕ → List CpuId) (es : List Entry) → IsSerial w orders es → IsRun w es → length es < 2 ^ 64 → All (IsSpelled w) es
-serial_spelled w orders es serial run few =
-    all_spelled w 0 (opening w) es (opened w) (IsRun-from w es run)
-    (subst (λ (xs : List Entry). AreShown w (opening w) xs) (sym serial.entries) (rounds_shown w orders serial.count)) (omega (arith, few))
+-- the numbers that are read in a run in rounds
+pub serial_bytes : (w : Work) (orders : ℕ → List CpuId) (es : List Entry) → IsSerial w orders es → IsRun w es → All HasBytes es
+serial_bytes w orders es serial run =
+    range_of_shown w 0 (opening w) es (opened w) (IsRun-from w es run)
+    (subst (λ (xs : List Entry). AreShown w (opening w) xs) (sym serial.entries) (rounds_shown w orders serial.count))
 
 -- ---- a run in rounds is a run
 
@@ -216,15 +230,21 @@ rounds_run w orders (suc k) =
 serial_run : (w : Work) (orders : ℕ → List CpuId) (es : List Entry) → IsSerial w orders es → IsRun w es
 serial_run w orders es serial = subst (λ (xs : List Entry). IsRun w xs) (sym serial.entries) (rounds_run w orders serial.count)
 
--- its journal is one that the audit finds legal
-pub serial_journal : (w : Work) (turns : Turns) (es : List Entry) → IsSerial w (orders_of w turns) es → length es < 2 ^ 40
+-- the journal of a complete run is one that the audit finds legal
+pub run_journal : (w : Work) (es : List Entry) → IsRun w es → IsComplete w (final w (opening w) es) → All HasBytes es → length es < 2 ^ 40
     → IsJournal w (journal w es) (final w (opening w) es) (length es)
-serial_journal w turns es serial few = record {
+run_journal w es run complete bytes few = record {
   entries = es;
-  run = serial_run w (orders_of w turns) es serial;
-  spelled = serial_spelled w (orders_of w turns) es serial (serial_run w (orders_of w turns) es serial) (omega (arith, few));
-  complete = complete_of w turns es serial;
+  run = run;
+  spelled = run_spelled w 0 (opening w) es (opened w) (IsRun-from w es run) bytes (omega (arith, few));
+  complete = complete;
   whole = refl;
   many = refl;
   ends = refl;
 }
+
+pub serial_journal : (w : Work) (turns : Turns) (es : List Entry) → IsSerial w (orders_of w turns) es → length es < 2 ^ 40
+    → IsJournal w (journal w es) (final w (opening w) es) (length es)
+serial_journal w turns es serial few =
+    let run = serial_run w (orders_of w turns) es serial in
+    run_journal w es run (complete_of w turns es serial) (serial_bytes w (orders_of w turns) es serial run) few

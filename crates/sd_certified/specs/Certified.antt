@@ -6,7 +6,7 @@ use Rattle.sd_types.specs.declared.events.Entry.{Entry}
 use Rattle.sd_types.specs.declared.works.Work.{Work}
 use Rattle.sd_machine.specs.declared.states.State.{State}
 use Rattle.sd_machine.specs.Opening.{opening}
-use Rattle.sd_full.specs.Runs.{final, IsReached, IsSerial, IsStep}
+use Rattle.sd_full.specs.Runs.{final, IsComplete, IsReached, IsRun, IsSerial, IsStep}
 use Rattle.sd_full.specs.Texts.{journal}
 use Rattle.sd_rounds.specs.declared.orders.Turns.{Turns}
 use Rattle.sd_rounds.specs.Orders.{orders_of}
@@ -16,6 +16,14 @@ use Rattle.sd_audit.specs.Audits.{IsJournal}
 abbrev pub EntriesAreSpelled : Type 0
 EntriesAreSpelled =
     (w : Work) (n : ℕ) (s : State) (e : Entry) → IsReached w n s → IsStep w s e → e.number < 2 ^ 64 → IsTrue (hints_in_range e.hints) → IsSpelled w e
+
+-- the numbers that were read for an entry have 8 bits, and are at most 64
+abbrev pub HasBytes : Entry → Type 0
+HasBytes e = IsTrue (hints_in_range e.hints)
+
+abbrev pub RunJournalsAreJournals : Type 0
+RunJournalsAreJournals =
+    (w : Work) (es : List Entry) → IsRun w es → IsComplete w (final w (opening w) es) → All HasBytes es → length es < 2 ^ 40 → IsJournal w (journal w es) (final w (opening w) es) (length es)
 
 abbrev pub SerialJournalsAreJournals : Type 0
 SerialJournalsAreJournals =

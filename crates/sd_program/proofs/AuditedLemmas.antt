@@ -8,24 +8,24 @@ use Rattle.sd_types.specs.declared.works.Work.{Work}
 use Rattle.sd_text.proofs.StreamLemmas.{Appends-told}
 use Rattle.sd_full.specs.Texts.{journal}
 use Rattle.sd_workload.specs.Accepted.{Accepted}
-use Rattle.sd_rounds.specs.declared.orders.Turns.{Turns}
 use Rattle.sd_audit.specs.Audits.{IsJournal}
 use Rattle.sd_answers.specs.Certificates.{IsJournalOf, Certifies}
 use Rattle.sd_answers.specs.Inputs.{most_bytes, most_certificate, IsWorkload}
 use Rattle.sd_answers.specs.StreamChanges.{StreamChange}
 use Rattle.sd_answers.proofs.InputLemmas.{taken_all}
 use Rattle.sd_answers.proofs.WordLemmas.{no_journal_line}
+use Rattle.sd_program.specs.declared.forms.Mode.{Mode}
 use Rattle.sd_program.specs.declared.forms.Form.TheVariants.{Journal}
 use Rattle.sd_program.specs.RunAnswers.{Writes}
 use Rattle.sd_program.specs.TheRun.{final_state}
 use Rattle.sd_program.specs.Audited.{HasWholeLines, certificate_of, RunsAreAudited}
 
-module _ (turns : Turns) (input out : StreamChange) (text printed : List ℕ) (is : input.before ≡ Some text) (empty : out.before ≡ Some []) (holds : out.after ≡ Some printed)
+module _ (mode : Mode) (input out : StreamChange) (text printed : List ℕ) (is : input.before ≡ Some text) (empty : out.before ≡ Some []) (holds : out.after ≡ Some printed)
     (whole : HasWholeLines text) (many : length (certificate_of text printed) ≤ most_certificate) where
   printed_journal : (w : Work) (es : List Entry) → Appends out.before out.after (journal w es) → printed ≡ journal w es
   printed_journal w es appended = same_Some printed (journal w es) (sym holds ∙ Appends-told out.before out.after [] (journal w es) appended empty)
 
-  certified : (w : Work) (P : List Entry → Type 0) → IsWorkload input w → Writes w (Journal turns) out P → Certifies (certificate_of text printed) printed (IsJournalOf printed)
+  certified : (w : Work) (P : List Entry → Type 0) → IsWorkload input w → Writes w (Journal mode) out P → Certifies (certificate_of text printed) printed (IsJournalOf printed)
   certified w P found (es, run, appended, none, ends) =
       let same = taken_all input.before input.after found.bytes text found.read.took found.read.to_end is in
       let accepted : Accepted text w = subst (λ (bs : List ℕ). Accepted bs w) same found.accepted in
@@ -40,9 +40,9 @@ module _ (turns : Turns) (input out : StreamChange) (text printed : List ℕ) (i
       }
 
 pub audited_law : RunsAreAudited
-audited_law turns arguments input out err status text printed kept known (inl zero) is empty holds whole many asked read told failed found promised audits sound written certificate =
-    let r = kept.headline (Journal turns) known zero in
-    promised.completes_audit audits sound written (certificate_of text printed) printed certificate (certified turns input out text printed is empty holds whole many r.0 _ r.1 r.2)
-audited_law turns arguments input out err status text printed kept known (inr six) is empty holds whole many asked read told failed found promised audits sound written certificate =
-    let r = kept.blocked (Journal turns) known six in
-    promised.completes_audit audits sound written (certificate_of text printed) printed certificate (certified turns input out text printed is empty holds whole many r.0 _ r.1 r.2)
+audited_law mode arguments input out err status text printed kept known (inl zero) is empty holds whole many asked read told failed found promised audits sound written certificate =
+    let r = kept.headline (Journal mode) known zero in
+    promised.completes_audit audits sound written (certificate_of text printed) printed certificate (certified mode input out text printed is empty holds whole many r.0 _ r.1 r.2)
+audited_law mode arguments input out err status text printed kept known (inr six) is empty holds whole many asked read told failed found promised audits sound written certificate =
+    let r = kept.blocked (Journal mode) known six in
+    promised.completes_audit audits sound written (certificate_of text printed) printed certificate (certified mode input out text printed is empty holds whole many r.0 _ r.1 r.2)

@@ -1,4 +1,4 @@
--- The run that goes in rounds is complete and legal, and what holds of it.
+-- A complete legal run, and what holds of it.
 use Rattle.std.proofs.Common.{◌≡◌, ℕ, ◌<◌, ◌≤◌, ◌^◌, List, [], ◌∷◌, ◌++◌, length, take, drop, append_assoc, refl, sym, ap, subst, ◌∙◌, arith}
 use Rattle.std.specs.List.{Contains}
 use Rattle.std.proofs.lemmas.List.{take-append-drop}
@@ -9,7 +9,7 @@ use Rattle.sd_chains.specs.Listing.{ListsCycles}
 use Rattle.sd_machine.specs.Opening.{opening}
 use Rattle.sd_machine.specs.declared.states.State.{State}
 use Rattle.sd_full.specs.LockGraph.{graph, cycles_of}
-use Rattle.sd_full.specs.Runs.{state_at, IsRun, IsSerial, IsReached}
+use Rattle.sd_full.specs.Runs.{state_at, IsComplete, IsRun, IsReached}
 use Rattle.sd_full.proofs.RunLemmas.{IsRun-from, from-IsRun, IsRunFrom-front}
 use Rattle.sd_range.proofs.Complete.{complete_at_limit}
 use Rattle.sd_belonging.proofs.All.{threads_belong}
@@ -17,14 +17,14 @@ use Rattle.sd_belonging.proofs.Marks.{marks_stand}
 use Rattle.sd_belonging.proofs.OnePlace.{one_place}
 use Rattle.sd_inheritance.proofs.Runs.{cycles_law, maxima_law, without_law}
 use Rattle.sd_history.proofs.Runnable.{runnable_law}
-use Rattle.sd_certified.proofs.HintLemmas.{serial_journal}
+use Rattle.std.specs.List.{All}
+use Rattle.sd_certified.specs.Certified.{HasBytes}
+use Rattle.sd_certified.proofs.HintLemmas.{run_journal}
 use Rattle.sd_chains.proofs.CycleLemmas.{lists_cycles}
 use Rattle.sd_cycles.proofs.StateGraphs.{waits_inside}
-use Rattle.sd_rounds.specs.declared.orders.Turns.{Turns}
-use Rattle.sd_rounds.specs.Orders.{orders_of}
-use Rattle.sd_rounds.proofs.CompleteLemmas.{complete_of}
+use Rattle.sd_program.specs.declared.forms.Mode.{Mode}
 use Rattle.sd_hand.specs.OneHome.{StandsInHomes}
-use Rattle.sd_program.specs.TheRun.{final_state, WokenAreRunnable, IsTheRun, IsOpen}
+use Rattle.sd_program.specs.TheRun.{final_state, Goes, WokenAreRunnable, IsTheRun, IsOpen}
 
 -- a run leads to its final state
 reached_end : (w : Work) (es : List Entry) → IsRun w es → IsReached w (length es) (final_state w es)
@@ -46,20 +46,20 @@ woken_on w es run before more rest e t is wakes none =
     let parts : before ++ e ∷ (more ++ rest) ≡ (before ++ e ∷ more) ++ rest = sym (append_assoc before (e ∷ more) rest) in
     runnable_law w before more e t (run_front w (before ++ e ∷ more) rest (subst (λ (xs : List Entry). IsRun w xs) (is ∙ parts) run)) wakes none
 
-pub is_the_run : (w : Work) (turns : Turns) (es : List Entry) → length es < 2 ^ 40 → IsSerial w (orders_of w turns) es → IsRun w es
-    → ((k : ℕ) → k ≤ length es → StandsInHomes k (state_at w es k)) → IsTheRun w turns es
-is_the_run w turns es short serial run homes = record {
-  serial = serial;
+pub is_the_run : (w : Work) (mode : Mode) (es : List Entry) → length es < 2 ^ 40 → Goes w mode es → IsRun w es → IsComplete w (final_state w es) → All HasBytes es
+    → ((k : ℕ) → k ≤ length es → StandsInHomes k (state_at w es k)) → IsTheRun w mode es
+is_the_run w mode es short goes run complete bytes homes = record {
+  goes = goes;
   run = run;
-  complete = complete_of w turns es serial;
-  limit = complete_at_limit w (length es) (final_state w es) (reached_end w es run) (complete_of w turns es serial);
+  complete = complete;
+  limit = complete_at_limit w (length es) (final_state w es) (reached_end w es run) complete;
   places = λ k. one_place w (length (take k es)) (state_at w es k) (reached_at w es k run);
   homes = homes;
   belong = λ k. threads_belong w (length (take k es)) (state_at w es k) (reached_at w es k run);
   marks = λ k. marks_stand w (length (take k es)) (state_at w es k) (reached_at w es k run);
   woken = woken_on w es run;
   priorities = λ k. maxima_law w (length (take k es)) (state_at w es k) (reached_at w es k run);
-  certified = serial_journal w turns es serial short;
+  certified = run_journal w es run complete bytes short;
 }
 
 cycles_listed : (s : State) → ListsCycles (graph s) (cycles_of s)

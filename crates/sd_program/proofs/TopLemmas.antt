@@ -1,7 +1,8 @@
 -- What the answers' causes give.
-use Rattle.std.proofs.Common.{◌≡◌, ℕ, ◌<◌, ◌≤◌, List, length, Some, None, Result, Ok, Err, refl, sym, ap, subst, ◌∙◌, inl, inr, arith}
+use Rattle.std.proofs.Common.{◌≡◌, ◌≢◌, ℕ, ◌<◌, ◌≤◌, Bool, true, false, List, [], ◌∷◌, length, Some, None, Result, Ok, Err, refl, sym, ap, subst, ◌∙◌, inl, inr, arith}
 use Rattle.sd_types.specs.declared.works.Work.{Work}
-use Rattle.std.specs.Prelude.{IfErr, ◌⊎◌, ◌↔◌}
+use Rattle.std.specs.Prelude.{IfErr, ◌⊎◌, ◌↔◌, codes, cond}
+use Rattle.sd_types.specs.Works.{same_bytes}
 use Rattle.std.specs.Result.{IsErrOf, IsErrAnd}
 use Rattle.std.proofs.lemmas.Result.{err_from_is_err_and}
 use Rattle.std.proofs.lemmas.Option.{same_Some}
@@ -11,12 +12,13 @@ use Rattle.sd_types.specs.declared.events.Stop.TheVariants as stop
 use Rattle.sd_declare.specs.declared.causes.WorkCause.{WorkCause}
 use Rattle.sd_workload.specs.Accepted.{Accepted, FirstCause}
 use Rattle.sd_rounds.specs.declared.rounds.Finished.{Finished}
-use Rattle.sd_rounds.specs.Orders.{orders_of}
-use Rattle.sd_rounds.specs.Rounds.{IsLongSerial}
 use Rattle.sd_gen.specs.Generated.{generated}
 use Rattle.sd_program.specs.declared.forms.Form.{Form}
+use Rattle.sd_program.specs.declared.forms.Form.TheVariants.{Journal, Summary}
+use Rattle.sd_program.specs.declared.forms.Mode.{Mode}
+use Rattle.sd_program.specs.declared.forms.Mode.TheVariants.{Threads}
 use Rattle.sd_program.specs.declared.forms.Command.{Command}
-use Rattle.sd_program.specs.declared.forms.Command.TheVariants.{Run, Tables, Generate}
+use Rattle.sd_program.specs.declared.forms.Command.TheVariants.{Run, Tables, Generate, Audit}
 use Rattle.sd_canonical.specs.Blocks.{tables_text}
 use Rattle.sd_answers.specs.declared.writing.Unwritten.{Unwritten}
 use Rattle.sd_answers.specs.declared.writing.Unwritten.TheVariants as unwritten
@@ -24,8 +26,8 @@ use Rattle.sd_answers.specs.declared.answers.Answer.{Answer}
 use Rattle.sd_answers.specs.declared.answers.Answer.TheVariants.{Done, Usage, TooLarge, TooLargeToAudit, NoJournal, Refused, ReadFault, WriteFault, OutOfMemory, Blocked, NotAJournal, TooLong}
 use Rattle.sd_answers.specs.Answers.{status_of, answer_of, stop_answer, unwritten_answer}
 use Rattle.sd_answers.specs.StreamChanges.{StreamChange, HasFault, IsUntouched, Puts}
-use Rattle.sd_program.specs.Forms.{command_of, turns_of, text_of}
-use Rattle.sd_program.specs.RunAnswers.{Writes, Ran}
+use Rattle.sd_program.specs.Forms.{command_of, mode_of, run_rising, text_of}
+use Rattle.sd_program.specs.RunAnswers.{IsLong, Writes, Ran}
 use Rattle.sd_program.specs.TheRun.{IsTheRun}
 use Rattle.sd_answers.specs.Inputs.{most_bytes, HasAtMost, HasTooMany, IsWorkload, IsNoWorkload, IsRefused}
 use Rattle.sd_answers.proofs.InputLemmas.{taken_within, taken_all, at_most_of, not_too_many as within_most, not_both}
@@ -34,6 +36,38 @@ use Rattle.sd_program.specs.Headline.{RanInput, CausedByInput, PrintsTables, Cau
 -- what the arguments ask for is one thing
 pub same_command : (arguments : List (List ℕ)) (j k : Command) → command_of arguments ≡ Some j → command_of arguments ≡ Some k → j ≡ k
 same_command arguments j k a b = same_Some j k (sym a ∙ b)
+
+-- arguments that do not ask for threads ask for a run in rounds, where they ask for a run
+pub in_rounds_of : (arguments : List (List ℕ)) (form : Form) → command_of arguments ≡ Some (Run form) → command_of arguments ≢ Some (Run (Journal Threads)) → mode_of form ≢ Threads
+in_rounds_of arguments (Journal mode) known alone is = alone (known ∙ ap (λ (m : Mode). Some (Run (Journal m))) is)
+in_rounds_of arguments Summary known alone is = cc
+
+-- one argument does not ask for threads
+pub one_word_alone : (verb : List ℕ) → command_of (verb ∷ []) ≢ Some (Run (Journal Threads))
+unfolding command_of
+one_word_alone verb is = by (same_bytes verb (codes "run")) (same_bytes verb (codes "sum")) (same_bytes verb (codes "tables")) (same_bytes verb (codes "audit")) is
+  where
+    by : (a b c d : Bool) → cond a run_rising (cond b (Some (Run Summary)) (cond c (Some Tables) (cond d (Some Audit) None))) ≡ Some (Run (Journal Threads)) → ⊥
+    by true b c d e = cc
+    by false true c d e = cc
+    by false false true d e = cc
+    by false false false true e = cc
+    by false false false false e = cc
+
+-- what an answer for an input was caused by
+pub caused_of : (arguments : List (List ℕ)) (form : Form) (input out : StreamChange) (a : Answer) → command_of arguments ≡ Some (Run form) → CausedByInput form input out a → Caused arguments input out a
+caused_of arguments form input out Usage known c = absurd c
+caused_of arguments form input out Done known c = (Run form, known, c)
+caused_of arguments form input out TooLarge known c = (Run form, known, c)
+caused_of arguments form input out TooLargeToAudit known c = absurd c
+caused_of arguments form input out NoJournal known c = absurd c
+caused_of arguments form input out (NotAJournal fault) known c = absurd c
+caused_of arguments form input out (Refused line cause) known c = (Run form, known, c)
+caused_of arguments form input out ReadFault known c = (Run form, known, c)
+caused_of arguments form input out WriteFault known c = (Run form, known, c)
+caused_of arguments form input out OutOfMemory known c = (Run form, known, c)
+caused_of arguments form input out Blocked known c = (Run form, known, c)
+caused_of arguments form input out TooLong known c = (Run form, known, c)
 
 -- status 0 is that of a run that was written whole and ends without a cycle
 pub headline_of : (arguments : List (List ℕ)) (form : Form) (input out : StreamChange) (a : Answer) → command_of arguments ≡ Some (Run form) → Caused arguments input out a → status_of a ≡ 0 → RanInput form input out Done
@@ -282,21 +316,21 @@ run_of form input out w ReadFault is r = absurd r
 -- ---- the answer of the run of a workload
 
 -- the run was not made
-pub stopped_of : (w : Work) (form : Form) (out : StreamChange) (r : Result Finished Stop) → (IsErrOf r stop.Full → IsLongSerial w (orders_of w (turns_of form)))
+pub stopped_of : (w : Work) (form : Form) (out : StreamChange) (r : Result Finished Stop) → (IsErrOf r stop.Full → IsLong w (mode_of form))
     → IsUntouched out → IfErr r (λ refusal. Ran w form out (stop_answer refusal))
 stopped_of w form out (Ok run) long kept = tt
 stopped_of w form out (Err stop.Full) long kept = (long refl, kept)
 stopped_of w form out (Err stop.Memory) long kept = (kept.no_fault, inl kept)
 
 -- it was not written whole
-pub unwritten_of : (w : Work) (form : Form) (out : StreamChange) (es : List Entry) (r : Result (Unit {0}) Unwritten) → IsTheRun w (turns_of form) es
+pub unwritten_of : (w : Work) (form : Form) (out : StreamChange) (es : List Entry) (r : Result (Unit {0}) Unwritten) → IsTheRun w (mode_of form) es
     → Puts out.before out.after out.faults_before out.faults_after (text_of form w es) r → IfErr r (λ refusal. Ran w form out (unwritten_answer refusal))
 unwritten_of w form out es (Ok u) is p = tt
 unwritten_of w form out es (Err unwritten.Fault) is p = (p.fault refl, (es, is, p.part))
 unwritten_of w form out es (Err unwritten.Memory) is p = (p.no_fault (λ e. cc), inr (es, is, p.part))
 
 -- it was written whole
-pub written_of : (w : Work) (form : Form) (out : StreamChange) (es : List Entry) → IsTheRun w (turns_of form) es
+pub written_of : (w : Work) (form : Form) (out : StreamChange) (es : List Entry) → IsTheRun w (mode_of form) es
     → Puts out.before out.after out.faults_before out.faults_after (text_of form w es) (Ok tt) → (P : List Entry → Type 0) → P es → Writes w form out P
 written_of w form out es is p P ends = (es, is, p.ok, p.no_fault (λ e. cc), ends)
 

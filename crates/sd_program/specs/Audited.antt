@@ -2,9 +2,9 @@
 -- what it printed. Source: this project's own.
 use Rattle.std.specs.Prelude.{◌≡◌, ℕ, ◌≤◌, List, [], ◌++◌, codes, length, Some, ◌⊎◌}
 use Rattle.sd_text.specs.Lines.{lines_of, text_of_lines}
-use Rattle.sd_rounds.specs.declared.orders.Turns.{Turns}
 use Rattle.sd_answers.specs.Inputs.{most_certificate}
 use Rattle.sd_answers.specs.StreamChanges.{StreamChange, HasFault}
+use Rattle.sd_program.specs.declared.forms.Mode.{Mode}
 use Rattle.sd_program.specs.declared.forms.Form.TheVariants.{Journal}
 use Rattle.sd_program.specs.declared.forms.Command.TheVariants.{Run, Audit}
 use Rattle.sd_program.specs.Forms.{command_of}
@@ -22,8 +22,8 @@ certificate_of text printed = text ++ (codes "journal\n" ++ printed)
 -- line has its newline, the line `journal` and what was printed, where they have no more bytes than an audit takes. Its status is 0, out of memory and faults aside.
 abbrev pub RunsAreAudited : Type 0
 RunsAreAudited =
-    (turns : Turns) (arguments : List (List ℕ)) (input out err : StreamChange) (status : ℕ) (text printed : List ℕ)
-    → KeepsPromises arguments input out err status → command_of arguments ≡ Some (Run (Journal turns)) → (status ≡ 0) ⊎ (status ≡ 6)
+    (mode : Mode) (arguments : List (List ℕ)) (input out err : StreamChange) (status : ℕ) (text printed : List ℕ)
+    → KeepsPromises arguments input out err status → command_of arguments ≡ Some (Run (Journal mode)) → (status ≡ 0) ⊎ (status ≡ 6)
     → input.before ≡ Some text → out.before ≡ Some [] → out.after ≡ Some printed
     → HasWholeLines text → length (certificate_of text printed) ≤ most_certificate
     → (asked : List (List ℕ)) (read told failed : StreamChange) (found : ℕ)

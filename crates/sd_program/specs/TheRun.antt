@@ -1,6 +1,6 @@
 -- The run that is printed, and what holds of it.
--- Source: Solaris Internals (dispatching, turnstiles), psrset(1M); that runs go in rounds is this project's own.
-use Rattle.std.specs.Prelude.{◌≡◌, ℕ, ◌<◌, ◌≤◌, true, List, [], ◌∷◌, ◌++◌, length, take}
+-- Source: Solaris Internals (dispatching, turnstiles), psrset(1M); that runs go in rounds, or on threads of the host, is this project's own.
+use Rattle.std.specs.Prelude.{◌≡◌, ⊤, ℕ, ◌<◌, ◌≤◌, true, List, [], ◌∷◌, ◌++◌, length, take}
 use Rattle.sd_types.specs.declared.events.Entry.{Entry}
 use Rattle.sd_types.specs.declared.works.Work.{Work}
 use Rattle.sd_chains.specs.Graphs.{IsChainMax}
@@ -19,7 +19,8 @@ use Rattle.sd_hand.specs.OneHome.{StandsInHomes}
 use Rattle.sd_history.specs.Laws.{NoneStops, runs_or_is_runnable}
 use Rattle.sd_audit.specs.Audits.{IsJournal}
 use Rattle.sd_rounds.specs.Orders.{orders_of}
-use Rattle.sd_rounds.specs.declared.orders.Turns.{Turns}
+use Rattle.sd_program.specs.declared.forms.Mode.{Mode}
+use Rattle.sd_program.specs.declared.forms.Mode.TheVariants.{Rounds, Threads}
 
 -- the state after the last entry
 abbrev pub final_state : Work → List Entry → State
@@ -32,10 +33,15 @@ WokenAreRunnable w es =
     (before more rest : List Entry) (e : Entry) (t : ℕ) → es ≡ before ++ e ∷ (more ++ rest) → is_wake_of t e.event ≡ true → NoneStops t more
     → runs_or_is_runnable (thread_of (final_state w (before ++ e ∷ more)) t).place ≡ true
 
--- The entries are those of the run that goes in rounds in which the processors take these turns: a complete legal run,
--- at whose end each processor has counted the ticks of the limit.
-pub record IsTheRun (w : Work) (turns : Turns) (es : List Entry) : Type 0 where
-  pub serial : IsSerial w (orders_of w turns) es
+-- the run goes in rounds in which the processors take these turns; or, on threads of the host, in any order
+abbrev pub Goes : Work → Mode → List Entry → Type 0
+Goes w (Rounds turns) es = IsSerial w (orders_of w turns) es
+Goes w Threads es = ⊤
+
+-- The entries are those of a run in which the processors act so: a complete legal run, at whose end each processor has
+-- counted the ticks of the limit.
+pub record IsTheRun (w : Work) (mode : Mode) (es : List Entry) : Type 0 where
+  pub goes : Goes w mode es
   pub run : IsRun w es
   pub complete : IsComplete w (final_state w es)
   pub limit : (c : ℕ) → c < w.cpus → (cpu_of (final_state w es) c).count ≡ w.limit

@@ -1,17 +1,29 @@
 //! The forms of the arguments.
 
-ghost use Rattle.std.specs.Prelude.{◌≡◌, map, string_bytes};
-ghost use Rattle.sd_program.specs.Forms.{command_of, drawn_command, generate_command, pair_command, seed_command, turns_of, verb_command};
+ghost use Rattle.std.specs.Prelude.{◌≡◌, ◌↔◌, IsTrue, Some, map, string_bytes};
+ghost use Rattle.sd_program.specs.declared.forms.Command.TheVariants.{Run};
+ghost use Rattle.sd_program.specs.declared.forms.Form.TheVariants.{Journal};
+ghost use Rattle.sd_program.specs.declared.forms.Mode.TheVariants.{Threads};
+ghost use Rattle.sd_program.specs.Forms.{command_of, drawn_command, generate_command, mode_of, pair_command, seed_command, verb_command};
 ghost use Rattle.sd_types.specs.Works.{same_bytes};
 
 use sd_rounds::Turns;
 use sd_text::number;
 
+/// How the processors of a run act.
+#[derive(Clone, Copy)]
+pub enum Mode {
+    /// In rounds, in which they take these turns.
+    Rounds(Turns),
+    /// Side by side, on threads of the host.
+    Threads,
+}
+
 /// What is printed of a run.
 #[derive(Clone, Copy)]
 pub enum Form {
-    /// The journal of the run in which the processors take these turns.
-    Journal(Turns),
+    /// The journal of the run in which the processors act so.
+    Journal(Mode),
     /// The summary of the run in rounds of rising processors.
     Summary,
 }
@@ -30,18 +42,20 @@ pub enum Command {
 }
 
 impl Form {
-    /// How the processors take turns.
-    pub(crate) fn turns(self) -> Turns
-        ensures { result ≡ turns_of self }
+    /// How the processors act.
+    pub(crate) fn mode(self) -> Mode
+        ensures { result ≡ mode_of self }
     {
         match self {
-            Form::Journal(turns) => turns,
-            Form::Summary => Turns::Rising,
+            Form::Journal(mode) => mode,
+            Form::Summary => Mode::Rounds(Turns::Rising),
         }
     }
 }
 
-const RUN_RISING: Command = Command::Run(Form::Journal(Turns::Rising));
+const RUN_RISING: Command = Command::Run(Form::Journal(Mode::Rounds(Turns::Rising)));
+
+const RUN_ON_THREADS: Command = Command::Run(Form::Journal(Mode::Threads));
 
 fn is_word(text: &[u8], word: &[u8]) -> bool
     ensures { result ≡ same_bytes text.now word.now }
@@ -81,7 +95,8 @@ fn drawn_command(seed: u64) -> Option<Command>
     ensures { result ≡ drawn_command seed }
 {
     if seed <= 4_294_967_295 {
-        Some(Command::Run(Form::Journal(Turns::Drawn { seed: seed as u32 })))
+        let turns = Turns::Drawn { seed: seed as u32 };
+        Some(Command::Run(Form::Journal(Mode::Rounds(turns))))
     } else {
         None
     }
@@ -91,7 +106,7 @@ fn pair_command(verb: &[u8], second: &[u8]) -> Option<Command>
     ensures { result ≡ pair_command verb.now second.now }
 {
     if is_word(verb, b"run") && is_word(second, b"--threads") {
-        Some(RUN_RISING)
+        Some(RUN_ON_THREADS)
     } else if is_word(verb, b"gen") {
         match number(second) {
             Some(number) => generate_command(number),
@@ -126,4 +141,21 @@ pub(crate) fn command_of(arguments: &[String]) -> Option<Command>
         [verb, second, seed] => seed_command(verb.as_bytes(), second.as_bytes(), seed.as_bytes()),
         _ => None,
     }
+}
+
+/// They ask for a run whose processors act on threads of the host.
+fn is_on_threads(command: Option<Command>) -> bool
+    ensures { IsTrue result ↔ (command ≡ Some (Run (Journal Threads))) }
+{
+    match command {
+        Some(Command::Run(Form::Journal(Mode::Threads))) => true,
+        _ => false,
+    }
+}
+
+/// The arguments ask for a run whose processors act on threads of the host.
+pub(crate) fn ask_for_threads(arguments: &[String]) -> bool
+    ensures { IsTrue result ↔ (command_of (map string_bytes arguments.now) ≡ Some (Run (Journal Threads))) }
+{
+    is_on_threads(command_of(arguments))
 }

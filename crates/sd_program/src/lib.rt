@@ -4,16 +4,15 @@
 
 mod audits;
 mod forms;
-mod gates;
 mod laws;
 mod running;
 mod tables;
 mod top;
 mod writing;
 
-pub use gates::{Gate, OpenGate};
 pub use laws::runs_are_audited;
 use sd_answers::behind_name;
+pub use sd_cpu::{Gate, OpenGate};
 use sd_text::{StdSink, StdSource};
 use std::marker::Sync;
 use std::process::ExitCode;

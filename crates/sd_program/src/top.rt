@@ -1,17 +1,21 @@
 //! The top call: from the arguments and the streams of the program to its exit status.
 
-ghost use Rattle.std.specs.Prelude.{◌≡◌, map, string_bytes};
+ghost use Rattle.std.specs.Prelude.{◌≡◌, ◌≢◌, ℕ, List, Some, map, string_bytes};
 ghost use Rattle.sd_answers.specs.Answers.{status_of, answer_of};
+ghost use Rattle.sd_program.specs.declared.forms.Command.TheVariants.{Run};
+ghost use Rattle.sd_program.specs.declared.forms.Form.TheVariants.{Journal};
+ghost use Rattle.sd_program.specs.declared.forms.Mode.TheVariants.{Threads};
+ghost use Rattle.sd_program.specs.Forms.{command_of, mode_of};
 ghost use Rattle.sd_program.specs.Headline.{CausedByInput, CausedByNumber, CausedByTables, Caused, Tells, KeepsPromises};
 ghost use Rattle.sd_program.specs.Starts.{Starts};
 ghost use Rattle.sd_answers.specs.StreamChanges.{change_of};
 
 use crate::audits::audit_input;
-use crate::forms::{Command, Form, command_of};
-use crate::gates::Gate;
-use crate::running::run_work;
+use crate::forms::{Command, Form, ask_for_threads, command_of};
+use crate::running::{run_work, run_work_on_threads};
 use crate::tables::{put_generated, put_tables};
 use sd_answers::{Answer, read_input};
+use sd_cpu::Gate;
 use sd_text::{Sink, Source};
 use std::alloc::Global;
 use std::io;
@@ -19,13 +23,14 @@ use std::marker::Sync;
 use std::sync::Wait;
 use std::thread::Threads;
 
-/// Reads the workload, runs it and writes what the form prints of the run.
+/// Reads the workload, runs it in rounds and writes what the form prints of the run.
 fn run_input<S: Source, K: Sink>(
     alloc: Global,
     form: Form,
     input: &mut S,
     out: &mut K,
 ) -> Result<(), Answer>
+    requires rounds { mode_of form ≢ Threads }
     ensures { CausedByInput form
         (change_of (S.remaining input.old) (S.remaining input.new) (S.fault_count input.old) (S.fault_count input.new))
         (change_of (K.contents out.old) (K.contents out.new) (K.fault_count out.old) (K.fault_count out.new))
@@ -33,6 +38,23 @@ fn run_input<S: Source, K: Sink>(
 {
     let work = read_input(alloc, input)?;
     run_work(alloc, &work, form, out)
+}
+
+/// Reads the workload, runs it on threads of the host and writes the journal of the run.
+fn run_input_on_threads<R: Threads + Wait + Sync, S: Source, K: Sink, G: Gate + Sync>(
+    rt: &R,
+    alloc: Global,
+    input: &mut S,
+    out: &mut K,
+    gate: &G,
+) -> Result<(), Answer>
+    ensures { CausedByInput (Journal Threads)
+        (change_of (S.remaining input.old) (S.remaining input.new) (S.fault_count input.old) (S.fault_count input.new))
+        (change_of (K.contents out.old) (K.contents out.new) (K.fault_count out.old) (K.fault_count out.new))
+        (answer_of result) }
+{
+    let work = read_input(alloc, input)?;
+    run_work_on_threads(rt, alloc, &work, out, gate)
 }
 
 /// Reads the workload, and writes its dispatch tables.
@@ -57,13 +79,14 @@ fn print_generated<K: Sink>(alloc: Global, number: u32, out: &mut K) -> Result<(
     Ok(())
 }
 
-/// Does what the arguments ask for.
+/// Does what the arguments ask for, on one thread of the host.
 fn carry_out<S: Source, K: Sink>(
     alloc: Global,
     arguments: &[String],
     input: &mut S,
     out: &mut K,
 ) -> Answer
+    requires alone { command_of (map string_bytes arguments.now) ≢ Some (Run (Journal Threads)) }
     ensures { Caused (map string_bytes arguments.now)
         (change_of (S.remaining input.old) (S.remaining input.new) (S.fault_count input.old) (S.fault_count input.new))
         (change_of (K.contents out.old) (K.contents out.new) (K.fault_count out.old) (K.fault_count out.new))
@@ -87,7 +110,8 @@ fn tell<E: Sink>(answer: Answer, err: &mut E) -> u8
     answer.status()
 }
 
-/// The program, on the host's one thread: does what the arguments ask for, and returns the exit status.
+/// The program, on one thread of the host: does what the arguments ask for, which is not `run --threads`, and returns the exit
+/// status.
 ///
 /// With status 0 what `out` received is the journal, or the summary, of the run of the workload that `input` spells: a
 /// complete legal run in rounds, in each state of which each thread stands in one place and at most one runs on a
@@ -106,6 +130,7 @@ pub fn serial<S: Source, K: Sink, E: Sink, G: Gate>(
     err: &mut E,
     _gate: &G,
 ) -> u8
+    requires alone { command_of (map string_bytes arguments.now) ≢ Some (Run (Journal Threads)) }
     ensures { KeepsPromises (map string_bytes arguments.now)
         (change_of (S.remaining input.old) (S.remaining input.new) (S.fault_count input.old) (S.fault_count input.new))
         (change_of (K.contents out.old) (K.contents out.new) (K.fault_count out.old) (K.fault_count out.new))
@@ -115,9 +140,30 @@ pub fn serial<S: Source, K: Sink, E: Sink, G: Gate>(
     tell(carry_out(alloc, arguments, input, out), err)
 }
 
-/// The program: as `serial`. `run --threads` goes in rounds as `run` does, so `rt` starts no thread.
-pub fn dispsim<R: Threads + Wait + Sync, S: Source, K: Sink, E: Sink, G: Gate>(
-    _rt: &R,
+/// Does what `run --threads` asks for.
+fn dispsim_on_threads<R: Threads + Wait + Sync, S: Source, K: Sink, E: Sink, G: Gate + Sync>(
+    rt: &R,
+    alloc: Global,
+    input: &mut S,
+    out: &mut K,
+    err: &mut E,
+    gate: &G,
+) -> u8
+    ensures { (arguments : List (List ℕ)) → command_of arguments ≡ Some (Run (Journal Threads)) → KeepsPromises arguments
+        (change_of (S.remaining input.old) (S.remaining input.new) (S.fault_count input.old) (S.fault_count input.new))
+        (change_of (K.contents out.old) (K.contents out.new) (K.fault_count out.old) (K.fault_count out.new))
+        (change_of (E.contents err.old) (E.contents err.new) (E.fault_count err.old) (E.fault_count err.new))
+        result }
+{
+    let answer = Answer::of(run_input_on_threads(rt, alloc, input, out, gate));
+    tell(answer, err)
+}
+
+/// The program: as `serial`; and with the arguments `run --threads` the processors act side by side, as far as `rt` starts threads
+/// of the host. What is printed is then the journal of a complete legal run in one of the orders in which they can act, and may be
+/// another one each time. The gate is passed once in each turn of a processor, with the first home that it takes.
+pub fn dispsim<R: Threads + Wait + Sync, S: Source, K: Sink, E: Sink, G: Gate + Sync>(
+    rt: &R,
     alloc: Global,
     arguments: &[String],
     input: &mut S,
@@ -131,12 +177,16 @@ pub fn dispsim<R: Threads + Wait + Sync, S: Source, K: Sink, E: Sink, G: Gate>(
         (change_of (E.contents err.old) (E.contents err.new) (E.fault_count err.old) (E.fault_count err.new))
         result }
 {
-    serial(alloc, arguments, input, out, err, gate)
+    if ask_for_threads(arguments) {
+        dispsim_on_threads(rt, alloc, input, out, err, gate)
+    } else {
+        serial(alloc, arguments, input, out, err, gate)
+    }
 }
 
 /// The program from its start: `dispsim` with the arguments that were read. Where one is no text they are none that
 /// the program knows, and where memory ran out the answer is out of memory; then nothing is read or run.
-pub fn start<R: Threads + Wait + Sync, S: Source, K: Sink, E: Sink, G: Gate>(
+pub fn start<R: Threads + Wait + Sync, S: Source, K: Sink, E: Sink, G: Gate + Sync>(
     rt: &R,
     alloc: Global,
     arguments: io::Result<Vec<String>>,

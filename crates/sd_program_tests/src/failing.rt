@@ -4,7 +4,10 @@ use crate::runs::{CERTIFICATE, Called, SMALLEST, SMALLEST_JOURNAL, call};
 use sd_text::{MemorySink, MemorySource};
 use sd_viewer::view;
 use std::alloc::{AllocError, Global};
+use std::marker::Sync;
+use std::sync::Wait;
 use std::test::Fail;
+use std::thread::Threads;
 
 const STORY: &str =
     "tick    entry                         what happens\n0       0 c0 dispatch a 29            processor 0 dispatches a at priority 29\n0       1 c0 tick a                   a runs for a tick\n1       2 c0 tick a                   a runs for a tick\n2       3 c0 tick a                   a runs for a tick\n3       4 c0 done a                   a comes to the end of its script\n3       5 c0 idle                     processor 0 has nothing to run\n4       6 c0 idle                     processor 0 has nothing to run\n";
@@ -64,8 +67,8 @@ fn call_view(
 }
 
 /// A call of the form, where the reads and writes of these numbers fail, over an output with this room.
-fn call_form(
-    alloc: Global,
+fn call_form<R: Threads + Wait + Sync + AllocGlobal>(
+    rt: &R,
     form: Form,
     reads: &[u64],
     room: usize,
@@ -73,9 +76,9 @@ fn call_form(
 ) -> Result<Called, AllocError> {
     let input = form.input.as_bytes();
     if form.is_view {
-        call_view(alloc, form.words, input, reads, room, writes)
+        call_view(rt.alloc(), form.words, input, reads, room, writes)
     } else {
-        call(alloc, form.words, input, 1, reads, room, writes, 200)
+        call(rt, form.words, input, 1, reads, room, writes, 200)
     }
 }
 
@@ -90,10 +93,13 @@ fn is_whole(called: &Called, form: Form) -> bool {
 }
 
 /// The first read, from 0, whose failing is not answered as it should. There is one for each byte, and one that finds the end.
-fn wrong_read(alloc: Global, form: Form) -> Result<Option<usize>, AllocError> {
+fn wrong_read<R: Threads + Wait + Sync + AllocGlobal>(
+    rt: &R,
+    form: Form,
+) -> Result<Option<usize>, AllocError> {
     for read in 0..=form.input.len() {
         let number = (read as u64).saturating_add(1);
-        let called = call_form(alloc, form, &[number], 4096, &[])?;
+        let called = call_form(rt, form, &[number], 4096, &[])?;
         if !has(&called, 3, b"", b"read fault\n") {
             return Ok(Some(read));
         }
@@ -103,9 +109,9 @@ fn wrong_read(alloc: Global, form: Form) -> Result<Option<usize>, AllocError> {
 
 #[test]
 fn each_read_fails(rt: HostRuntime) -> Result<(), Fail> {
-    assert_eq!(rt; wrong_read(rt.alloc(), RUN)?, None);
-    assert_eq!(rt; wrong_read(rt.alloc(), AUDIT)?, None);
-    assert_eq!(rt; wrong_read(rt.alloc(), LIST)?, None);
+    assert_eq!(rt; wrong_read(&rt, RUN)?, None);
+    assert_eq!(rt; wrong_read(&rt, AUDIT)?, None);
+    assert_eq!(rt; wrong_read(&rt, LIST)?, None);
     Ok(())
 }
 
@@ -123,10 +129,13 @@ fn has_lines(called: &Called, form: Form, count: usize) -> bool {
 }
 
 /// The first write, from 0, whose failing is not answered as it should. There is one for each line.
-fn wrong_write(alloc: Global, form: Form) -> Result<Option<usize>, AllocError> {
+fn wrong_write<R: Threads + Wait + Sync + AllocGlobal>(
+    rt: &R,
+    form: Form,
+) -> Result<Option<usize>, AllocError> {
     for write in 0..line_count(form.output.as_bytes()) {
         let number = (write as u64).saturating_add(1);
-        let called = call_form(alloc, form, &[], 4096, &[number])?;
+        let called = call_form(rt, form, &[], 4096, &[number])?;
         if !has_lines(&called, form, write) {
             return Ok(Some(write));
         }
@@ -136,17 +145,20 @@ fn wrong_write(alloc: Global, form: Form) -> Result<Option<usize>, AllocError> {
 
 #[test]
 fn each_write_fails(rt: HostRuntime) -> Result<(), Fail> {
-    assert_eq!(rt; wrong_write(rt.alloc(), RUN)?, None);
-    assert_eq!(rt; wrong_write(rt.alloc(), AUDIT)?, None);
-    assert_eq!(rt; wrong_write(rt.alloc(), LIST)?, None);
+    assert_eq!(rt; wrong_write(&rt, RUN)?, None);
+    assert_eq!(rt; wrong_write(&rt, AUDIT)?, None);
+    assert_eq!(rt; wrong_write(&rt, LIST)?, None);
     Ok(())
 }
 
 /// The first room for the output that is too small and is not answered as it should.
-fn wrong_room(alloc: Global, form: Form) -> Result<Option<usize>, AllocError> {
+fn wrong_room<R: Threads + Wait + Sync + AllocGlobal>(
+    rt: &R,
+    form: Form,
+) -> Result<Option<usize>, AllocError> {
     let output = form.output.as_bytes();
     for room in 0..output.len() {
-        let called = call_form(alloc, form, &[], room, &[])?;
+        let called = call_form(rt, form, &[], room, &[])?;
         if !has(&called, 4, &output[..room], b"write fault\n") {
             return Ok(Some(room));
         }
@@ -156,31 +168,34 @@ fn wrong_room(alloc: Global, form: Form) -> Result<Option<usize>, AllocError> {
 
 #[test]
 fn each_room_is_too_small(rt: HostRuntime) -> Result<(), Fail> {
-    assert_eq!(rt; wrong_room(rt.alloc(), RUN)?, None);
-    assert_eq!(rt; wrong_room(rt.alloc(), AUDIT)?, None);
-    assert_eq!(rt; wrong_room(rt.alloc(), LIST)?, None);
+    assert_eq!(rt; wrong_room(&rt, RUN)?, None);
+    assert_eq!(rt; wrong_room(&rt, AUDIT)?, None);
+    assert_eq!(rt; wrong_room(&rt, LIST)?, None);
     Ok(())
 }
 
 /// The first read and the first write that do not come: with room for the output, one byte a read and one line a write.
-fn is_not_called(alloc: Global, form: Form) -> Result<bool, AllocError> {
+fn is_not_called<R: Threads + Wait + Sync + AllocGlobal>(
+    rt: &R,
+    form: Form,
+) -> Result<bool, AllocError> {
     let read = (form.input.len() as u64).saturating_add(2);
     let write = (line_count(form.output.as_bytes()) as u64).saturating_add(1);
-    let called = call_form(alloc, form, &[read], form.output.len(), &[write])?;
+    let called = call_form(rt, form, &[read], form.output.len(), &[write])?;
     Ok(is_whole(&called, form))
 }
 
 #[test]
 fn reads_and_writes_are_counted(rt: HostRuntime) -> Result<(), Fail> {
-    assert!(rt; is_not_called(rt.alloc(), RUN)?);
-    assert!(rt; is_not_called(rt.alloc(), AUDIT)?);
-    assert!(rt; is_not_called(rt.alloc(), LIST)?);
+    assert!(rt; is_not_called(&rt, RUN)?);
+    assert!(rt; is_not_called(&rt, AUDIT)?);
+    assert!(rt; is_not_called(&rt, LIST)?);
     Ok(())
 }
 
 #[test]
 fn a_small_error_output(rt: HostRuntime) -> Result<(), Fail> {
-    let called = call(rt.alloc(), "run", b"", 4, &[], 16, &[], 3)?;
+    let called = call(&rt, "run", b"", 4, &[], 16, &[], 3)?;
     assert!(rt; has(&called, 2, b"", b"ref"));
     Ok(())
 }
@@ -188,7 +203,7 @@ fn a_small_error_output(rt: HostRuntime) -> Result<(), Fail> {
 /// Without the read behind the last byte the end of the input is not seen.
 #[test]
 fn a_read_behind_the_last_byte_fails(rt: HostRuntime) -> Result<(), Fail> {
-    let called = call(rt.alloc(), "run", b"limit 2\n", 1, &[9], 4096, &[], 200)?;
+    let called = call(&rt, "run", b"limit 2\n", 1, &[9], 4096, &[], 200)?;
     assert!(rt; has(&called, 3, b"", b"read fault\n"));
     Ok(())
 }

@@ -4,7 +4,10 @@
 use crate::runs::call;
 use sd_text::put_number;
 use std::alloc::{AllocError, Global};
+use std::marker::Sync;
+use std::sync::Wait;
 use std::test::Fail;
+use std::thread::Threads;
 
 /// Each text with its number behind it, and the end of the line.
 fn put_line(out: &mut Vec<u8>, pieces: &[(&str, u64)], end: &str) -> Result<(), AllocError> {
@@ -98,21 +101,25 @@ fn stand_in(text: &[u8], lines: &[u8]) -> bool {
 }
 
 /// The run of the workload ends well, and its journal has these lines, one after another.
-fn has_lines(alloc: Global, workload: &[u8], lines: &[u8]) -> Result<bool, AllocError> {
-    let called = call(alloc, "run", workload, 4096, &[], 1_000_000, &[], 200)?;
+fn has_lines<R: Threads + Wait + Sync + AllocGlobal>(
+    rt: &R,
+    workload: &[u8],
+    lines: &[u8],
+) -> Result<bool, AllocError> {
+    let called = call(rt, "run", workload, 4096, &[], 1_000_000, &[], 200)?;
     Ok(called.status == 0 && stand_in(called.out.bytes(), lines))
 }
 
 #[test]
 fn a_long_chain(rt: HostRuntime) -> Result<(), Fail> {
     let alloc = rt.alloc();
-    assert!(rt; has_lines(alloc, &long_chain(alloc)?, &long_walk(alloc)?)?);
+    assert!(rt; has_lines(&rt, &long_chain(alloc)?, &long_walk(alloc)?)?);
     Ok(())
 }
 
 #[test]
 fn a_large_wakeup(rt: HostRuntime) -> Result<(), Fail> {
     let alloc = rt.alloc();
-    assert!(rt; has_lines(alloc, &large_wakeup(alloc)?, &all_woken(alloc)?)?);
+    assert!(rt; has_lines(&rt, &large_wakeup(alloc)?, &all_woken(alloc)?)?);
     Ok(())
 }

@@ -7,3 +7,5 @@ mod failing;
 mod large;
 #[cfg(test)]
 mod runs;
+#[cfg(test)]
+mod threads;

@@ -2,15 +2,18 @@
 
 ghost use Rattle.std.specs.Prelude.{◌≤◌};
 
-use sd_program::{OpenGate, serial, start};
+use sd_program::{OpenGate, dispsim, start};
 use sd_rounds::{Turns, run_rounds};
 use sd_steps::replay;
 use sd_text::{MemorySink, MemorySource, read_all};
 use sd_workload::read_work;
-use std::alloc::{AllocError, Global};
+use std::alloc::AllocError;
 use std::io;
 use std::io::ErrorKind;
+use std::marker::Sync;
+use std::sync::Wait;
 use std::test::Fail;
+use std::thread::Threads;
 
 pub(crate) const SMALLEST: &str = "limit 5\nthread a ts 29 0 0\nscript a\nrun 3\nend\n";
 
@@ -66,6 +69,14 @@ const NOBODY_ASLEEP: &str =
 const NOBODY_ASLEEP_JOURNAL: &str =
     "0 c0 dispatch a 20\n1 c0 wake a k none\n2 c0 done a\n3 c0 dispatch b 10\n4 c0 sleep b k\n5 c0 idle\naccounts\nthread a ticks 0 dispatches 1 preempts 0 wakes 0 ended\nthread b ticks 0 dispatches 1 preempts 0 wakes 0 asleep k\ncpu 0 ticks 1 idle 1\n";
 
+/// A thread spins for a mutex, and then blocks.
+pub(crate) const SPINNING: &str =
+    "cpus 2\nlimit 4\nmutex m\nthread a fx 60 10 inf\nthread b fx 60 20 inf\nscript a\nenter m\nrun 2\nnap 1\nexit m\nend\nscript b\nenter m\nexit m\nend\n";
+
+/// A thread yields to another.
+pub(crate) const YIELD: &str =
+    "limit 2\nthread a fx 60 10 inf\nthread b fx 60 10 inf\nscript a\nyield\nrun 1\nend\nscript b\nrun 1\nend\n";
+
 /// What a call returned, and what its streams received.
 #[derive(Drop)]
 pub(crate) struct Called {
@@ -76,8 +87,8 @@ pub(crate) struct Called {
 
 /// A call over streams in memory: the reads named in `reads` and the writes named in `writes` fail, counted from 1. The error
 /// output has room for `err_room` bytes.
-pub(crate) fn call(
-    alloc: Global,
+pub(crate) fn call<R: Threads + Wait + Sync + AllocGlobal>(
+    rt: &R,
     arguments: &str,
     input: &[u8],
     chunk: usize,
@@ -88,6 +99,7 @@ pub(crate) fn call(
 ) -> Result<Called, AllocError>
     requires { 1 ≤ chunk }
 {
+    let alloc = rt.alloc();
     let mut texts = Vec::new(alloc);
     for argument in arguments.split_whitespace() {
         texts.push(String::from_str(alloc, argument)?)?;
@@ -99,7 +111,15 @@ pub(crate) fn call(
     );
     let mut out = MemorySink::new(alloc, room, Vec::from_slice(alloc, writes)?)?;
     let mut err = MemorySink::new(alloc, err_room, Vec::new(alloc))?;
-    let status = serial(alloc, &texts, &mut source, &mut out, &mut err, &OpenGate);
+    let status = dispsim(
+        rt,
+        alloc,
+        &texts,
+        &mut source,
+        &mut out,
+        &mut err,
+        &OpenGate,
+    );
     Ok(Called { status, out, err })
 }
 
@@ -127,7 +147,7 @@ fn worked_runs(rt: HostRuntime) -> Result<(), Fail> {
         (NOBODY_ASLEEP, NOBODY_ASLEEP_JOURNAL),
     ];
     for (input, journal) in rows {
-        let called = call(rt.alloc(), "run", input.as_bytes(), 7, &[], 4096, &[], 200)?;
+        let called = call(&rt, "run", input.as_bytes(), 7, &[], 4096, &[], 200)?;
         assert_eq!(rt; called.status, 0, "{input}");
         assert_eq!(rt; called.out.bytes(), journal.as_bytes(), "{input}");
         assert_eq!(rt; called.err.bytes(), b"".as_slice(), "{input}");
@@ -297,7 +317,7 @@ fn refusals_and_failing_streams(rt: HostRuntime) -> Result<(), Fail> {
     ];
     for (arguments, input, reads, room, writes, status, out, err) in cases {
         let called = call(
-            alloc,
+            &rt,
             arguments,
             input.as_bytes(),
             4,
@@ -316,7 +336,7 @@ fn refusals_and_failing_streams(rt: HostRuntime) -> Result<(), Fail> {
 #[test]
 fn an_input_too_large(rt: HostRuntime) -> Result<(), Fail> {
     let input = vec![in rt.alloc(); b'#'; 1_048_577]?;
-    let called = call(rt.alloc(), "run", &input, 65_536, &[], 16, &[], 8)?;
+    let called = call(&rt, "run", &input, 65_536, &[], 16, &[], 8)?;
     assert_eq!(rt; called.status, 2);
     assert_eq!(rt; called.out.bytes(), b"".as_slice());
     // The error output has room for a prefix of its line, which changes no status.

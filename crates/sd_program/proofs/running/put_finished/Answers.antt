@@ -1,0 +1,41 @@
+use Rattle.std.proofs.Common.{◌≡◌, ◌≢◌, List, ℕ, [], ◌∷◌, Err, refl, sym, ap, subst, ◌∙◌}
+use Rattle.std.proofs.lemmas.Bool.{false≢true}
+use Rattle.sd_types.specs.declared.events.Entry.{Entry}
+use Rattle.sd_machine.specs.declared.states.State.{State}
+use Rattle.sd_machine.specs.Opening.{opening}
+use Rattle.sd_full.specs.LockGraph.{cycles_of}
+use Rattle.sd_full.specs.Runs.{final}
+use Rattle.sd_answers.specs.Answers.{unwritten_answer}
+use Rattle.sd_program.specs.Forms.{mode_of}
+use Rattle.sd_program.specs.TheRun.{IsTheRun}
+use Rattle.sd_answers.specs.StreamChanges.{change_of}
+use Rattle.sd_program.proofs.TopLemmas.{unwritten_of, ran_exit}
+use Rattle.sd_program.proofs.TheRun.{is_open}
+use Rattle.sd_program.proofs.running.put_finished.Goals as goal
+
+pub returns-in_err-put_run-clause-ran : goal.returns-in_err-put_run-clause-ran
+returns-in_err-put_run-clause-ran g c =
+    let held = g.K.Sink.contents in
+    let faults = g.K.Sink.fault_count in
+    let o = c.args.out.now in
+    let p = c.put_run.new.out in
+    let out = change_of (held o) (held p) (faults o) (faults p) in
+    let w = c.args.work.now in
+    let unwritten = c.in_err-put_run.field-0.0 in
+    let is = subst (λ (es : List Entry). IsTheRun w (mode_of c.args.form) es) (sym c.deref.ensures.value) c.requires.run in
+    ran_exit w c.args.form out c.from_residual-in_err-put_run.result (unwritten_answer unwritten) c.from_residual-in_err-put_run.ensures.1
+    (unwritten_of w c.args.form out c.deref.result.now (Err unwritten) is c.in_err-put_run.ensures)
+
+-- a list of which it is not so that it has something
+nothing_in : (xs : List (List ℕ)) → (xs ≢ [] → ⊥) → xs ≡ []
+nothing_in [] none = refl
+nothing_in (x ∷ xs) none = absurd (none (λ e. cc))
+
+pub returns-clause-ran : goal.returns-clause-ran
+returns-clause-ran g c =
+    let w = c.args.work.now in
+    let is = subst (λ (es : List Entry). IsTheRun w (mode_of c.args.form) es) (sym c.deref.ensures.value) c.requires.run in
+    let p = c.in_ok-put_run.ensures in
+    let ends = c.requires.state ∙ ap (final w (opening w)) (sym c.deref.ensures.value) in
+    let none = nothing_in (cycles_of c.args.run.now.state) (λ some. false≢true (sym c.if-blocked.false ∙ c.in_ok-blocked.ensures.1 some)) in
+    (c.deref.result.now, is, p.ok, p.no_fault (λ e. cc), is_open w c.deref.result.now is.run (subst (λ (s : State). cycles_of s ≡ []) ends none))

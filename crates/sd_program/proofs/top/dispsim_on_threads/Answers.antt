@@ -1,0 +1,30 @@
+use Rattle.std.proofs.Common.{sym, ap, subst}
+use Rattle.sd_answers.specs.declared.answers.Answer.{Answer}
+use Rattle.sd_answers.specs.Answers.{answer_of}
+use Rattle.sd_answers.specs.StreamChanges.{change_of}
+use Rattle.sd_program.specs.declared.forms.Form.TheVariants.{Journal}
+use Rattle.sd_program.specs.declared.forms.Mode.TheVariants.{Threads}
+use Rattle.sd_program.specs.Headline.{CausedByInput}
+use Rattle.sd_program.proofs.TopLemmas.{caused_of}
+use Rattle.sd_program.proofs.Promises.{promises_of}
+use Rattle.sd_program.proofs.top.dispsim_on_threads.Goals as goal
+
+pub returns : goal.returns
+returns g c arguments known =
+    let left = g.S.Source.remaining in
+    let read = g.S.Source.fault_count in
+    let held = g.K.Sink.contents in
+    let written = g.K.Sink.fault_count in
+    let shown = g.E.Sink.contents in
+    let failed = g.E.Sink.fault_count in
+    let i = c.args.input.now in
+    let j = c.run_input_on_threads.new.input in
+    let o = c.args.out.now in
+    let p = c.run_input_on_threads.new.out in
+    let e = c.args.err.now in
+    let f = c.tell.new.err in
+    let input = change_of (left i) (left j) (read i) (read j) in
+    let out = change_of (held o) (held p) (written o) (written p) in
+    let caused = subst (λ (a : Answer). CausedByInput (Journal Threads) input out a) (sym c.of-answer.ensures) c.run_input_on_threads.ensures in
+    promises_of arguments input out (change_of (shown e) (shown f) (failed e) (failed f)) c.of-answer.result c.tell.result c.tell.ensures.status
+    (caused_of arguments (Journal Threads) input out c.of-answer.result known caused) c.tell.ensures.told
