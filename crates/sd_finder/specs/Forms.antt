@@ -4,14 +4,15 @@ use Rattle.std.specs.Prelude.{ℕ, ◌&&◌, nat_le, List, [], ◌∷◌, codes,
 use Rattle.sd_types.specs.Works.{same_bytes}
 use Rattle.sd_text.specs.Numbers.{number_of}
 use Rattle.sd_search.specs.declared.questions.Question.TheVariants.{Blocked, Stuck}
+use Rattle.sd_finder.specs.declared.forms.Aim.TheVariants.{Find, Count}
 use Rattle.sd_finder.specs.declared.forms.Request.{Request}
-use Rattle.sd_finder.specs.declared.forms.Request.TheVariants.{Help, Find, Count}
+use Rattle.sd_finder.specs.declared.forms.Request.TheVariants.{Help, Search}
 
 -- what a word asks for, with the number of states at which the search ends
 abbrev pub asked : List ℕ → ℕ → Option Request
 asked word most =
-    if same_bytes word (codes "blocked") then Some (Find Blocked most) else if same_bytes word (codes "stuck") then Some (Find Stuck most)
-    else if same_bytes word (codes "states") then Some (Count most) else None
+    if same_bytes word (codes "blocked") then Some (Search (Find Blocked) most) else if same_bytes word (codes "stuck") then Some (Search (Find Stuck) most)
+    else if same_bytes word (codes "states") then Some (Search Count most) else None
 
 -- from 1 to 1,000,000,000 states
 abbrev pub asked_within : List ℕ → Option ℕ → Option Request

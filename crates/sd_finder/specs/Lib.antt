@@ -1,3 +1,4 @@
 pub mod Forms
+pub mod Lefts
 pub mod Texts
 pub mod Answered

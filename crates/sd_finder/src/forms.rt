@@ -7,13 +7,19 @@ ghost use Rattle.sd_finder.specs.Forms.{asked, asked_within, request_of};
 use sd_search::Question;
 use sd_text::number;
 
-/// What is asked for: the forms of the arguments; a run that ends so; or how many states there are. `most` is the number of
-/// states at which the search ends, from 1 to 1,000,000,000.
+/// What a search is for: a run that ends so, or how many states there are.
+#[derive(Clone, Copy, Debug, PartialEq, Eq)]
+pub enum Aim {
+    Find(Question),
+    Count,
+}
+
+/// What is asked for: the forms of the arguments, or a search. `most` is the number of states at which it ends, from 1 to
+/// 1,000,000,000.
 #[derive(Clone, Copy, Debug, PartialEq, Eq)]
 pub enum Request {
     Help,
-    Find { question: Question, most: u64 },
-    Count { most: u64 },
+    Search { aim: Aim, most: u64 },
 }
 
 /// The number of states at which a search ends where none is given.
@@ -28,21 +34,16 @@ fn is_word(text: &[u8], word: &[u8]) -> bool
 fn asked(word: &[u8], most: u64) -> Option<Request>
     ensures { result ≡ asked word.now most }
 {
-    if is_word(word, b"blocked") {
-        Some(Request::Find {
-            question: Question::Blocked,
-            most,
-        })
+    let aim = if is_word(word, b"blocked") {
+        Aim::Find(Question::Blocked)
     } else if is_word(word, b"stuck") {
-        Some(Request::Find {
-            question: Question::Stuck,
-            most,
-        })
+        Aim::Find(Question::Stuck)
     } else if is_word(word, b"states") {
-        Some(Request::Count { most })
+        Aim::Count
     } else {
-        None
-    }
+        return None;
+    };
+    Some(Request::Search { aim, most })
 }
 
 fn asked_within(word: &[u8], most: Option<u64>) -> Option<Request>

@@ -1,6 +1,6 @@
 //! The journal of a run as a text.
 
-ghost use Rattle.std.specs.Prelude.{◌≡◌, ◌++◌, ◌<◌, ◌^◌, length, IfOk, OnOk};
+ghost use Rattle.std.specs.Prelude.{◌≡◌, ◌++◌, ◌<◌, ◌≤◌, ◌^◌, length, IfOk, OnOk};
 ghost use Rattle.sd_accounts.specs.Counters.{HasTaken};
 ghost use Rattle.sd_full.specs.Runs.{final};
 ghost use Rattle.sd_full.specs.Texts.{cycles_text, entries_text, journal};
@@ -46,7 +46,11 @@ fn counted(alloc: Global, work: &Work, entries: &[Entry]) -> Result<Accounts, Al
 }
 
 /// The state after the entries of a run. Where they are no run, memory is taken to run out.
-fn state_after(alloc: Global, work: &Work, entries: &[Entry]) -> Result<State, AllocError>
+pub(crate) fn state_after(
+    alloc: Global,
+    work: &Work,
+    entries: &[Entry],
+) -> Result<State, AllocError>
     ensures { IfOk result (λ s. s ≡ final work.now (opening work.now) entries.now) }
 {
     match replay(alloc, work, entries) {
@@ -72,13 +76,14 @@ fn write_accounts(
 
 /// Appends the journal of a run: its entries, its accounts, the blocking cycles of its last state.
 #[tactic(auto, unfolding(sd_full::specs::Texts::journal))]
-pub fn write_journal(
+pub(crate) fn write_journal(
     alloc: Global,
     work: &Work,
     entries: &[Entry],
     out: &mut Vec<u8>,
 ) -> Result<(), AllocError>
-    ensures { OnOk result (out.new.items ≡ out.old.items ++ journal work.now entries.now) }
+    ensures text { OnOk result (out.new.items ≡ out.old.items ++ journal work.now entries.now) }
+    ensures short { OnOk result (length entries.now ≤ 2 ^ 40) }
 {
     if entries.len() > MOST_ENTRIES {
         return Err(AllocError);

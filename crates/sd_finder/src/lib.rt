@@ -4,10 +4,13 @@
 mod answering;
 mod forms;
 mod journals;
+mod lefts;
 mod texts;
+mod verdicts;
 
-pub use answering::{count_text, finding_text};
-pub use forms::{Request, request_of};
+pub use answering::tell;
+pub use forms::{Aim, Request, request_of};
+pub use verdicts::{Told, Verdict};
 
 #[cfg(test)]
 mod tests;

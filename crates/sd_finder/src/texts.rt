@@ -1,24 +1,15 @@
 //! The text of an answer.
 
-ghost use Rattle.std.specs.Prelude.{◌≡◌, ◌++◌, OnOk, IfOk};
-ghost use Rattle.sd_finder.specs.Texts.{all_line, answer_line, count_text, finding_text, shown, states_line};
+ghost use Rattle.std.specs.Prelude.{◌≡◌, ◌++◌, ◌≤◌, ◌^◌, length, OnOk, IfOk};
+ghost use Rattle.sd_finder.specs.Answered.{IsShort};
+ghost use Rattle.sd_finder.specs.Texts.{all_line, count_text, finding_text, found_text, left_text, more_text, never_text, states_line};
 
-use crate::journals::write_journal;
-use sd_search::Finding;
+use crate::journals::{state_after, write_journal};
+use crate::lefts::write_lefts;
+use sd_search::{Finding, Question};
 use sd_text::put_number;
-use sd_types::Work;
+use sd_types::{Entry, Work};
 use std::alloc::{AllocError, Global};
-
-/// The line with the answer.
-fn answer_line(finding: &Finding) -> &'static [u8]
-    ensures { result.now ≡ answer_line finding.now }
-{
-    match finding {
-        Finding::Found { .. } => b"found\n",
-        Finding::Never => b"never\n",
-        Finding::More => b"not all searched\n",
-    }
-}
 
 /// The line that says whether all states were searched.
 fn all_line(all: bool) -> &'static [u8]
@@ -41,40 +32,99 @@ fn write_states(n: u64, out: &mut Vec<u8>) -> Result<(), AllocError>
     Ok(())
 }
 
-/// Appends the journal of a run that was found.
-fn write_shown(
+/// Appends what the threads do that have operations left, where that was asked for.
+fn write_left(
     alloc: Global,
     work: &Work,
-    finding: &Finding,
+    question: Question,
+    entries: &[Entry],
     out: &mut Vec<u8>,
 ) -> Result<(), AllocError>
-    ensures { OnOk result (out.new.items ≡ out.old.items ++ shown work.now finding.now) }
+    ensures { OnOk result (out.new.items ≡ out.old.items ++ left_text work.now question entries.now) }
+{
+    match question {
+        Question::Blocked => Ok(()),
+        Question::Stuck => {
+            let state = state_after(alloc, work, entries)?;
+            write_lefts(work, &state, out)
+        }
+    }
+}
+
+/// Appends that a run was found, and its journal.
+fn write_found(
+    alloc: Global,
+    work: &Work,
+    question: Question,
+    entries: &[Entry],
+    n: u64,
+    out: &mut Vec<u8>,
+) -> Result<(), AllocError>
+    ensures text { OnOk result (out.new.items ≡ out.old.items ++ found_text work.now question entries.now n) }
+    ensures short { OnOk result (length entries.now ≤ 2 ^ 40) }
+{
+    out.extend_from_slice(b"found\n")?;
+    write_left(alloc, work, question, entries, out)?;
+    write_states(n, out)?;
+    write_journal(alloc, work, entries, out)
+}
+
+fn write_never(n: u64, out: &mut Vec<u8>) -> Result<(), AllocError>
+    ensures { OnOk result (out.new.items ≡ out.old.items ++ never_text n) }
+{
+    out.extend_from_slice(b"never\n")?;
+    write_states(n, out)
+}
+
+fn write_more(n: u64, out: &mut Vec<u8>) -> Result<(), AllocError>
+    ensures { OnOk result (out.new.items ≡ out.old.items ++ more_text n) }
+{
+    out.extend_from_slice(b"not all searched\n")?;
+    write_states(n, out)
+}
+
+/// Appends the answer after a search of so many states.
+fn write_finding(
+    alloc: Global,
+    work: &Work,
+    question: Question,
+    finding: &Finding,
+    n: u64,
+    out: &mut Vec<u8>,
+) -> Result<(), AllocError>
+    ensures text { OnOk result (out.new.items ≡ out.old.items ++ finding_text work.now question finding.now n) }
+    ensures short { OnOk result (IsShort finding.now) }
 {
     match finding {
-        Finding::Found { entries } => write_journal(alloc, work, entries, out),
-        Finding::Never => Ok(()),
-        Finding::More => Ok(()),
+        Finding::Found { entries } => write_found(alloc, work, question, entries, n, out),
+        Finding::Never => write_never(n, out),
+        Finding::More => write_more(n, out),
     }
 }
 
 /// The text of an answer after a search of so many states.
-pub fn text_of_finding(
+pub(crate) fn text_of_finding(
     alloc: Global,
     work: &Work,
+    question: Question,
     finding: &Finding,
     n: u64,
 ) -> Result<Vec<u8>, AllocError>
-    ensures { IfOk result (λ text. text.items ≡ finding_text work.now finding.now n) }
+    ensures text { IfOk result (λ text. text.items ≡ finding_text work.now question finding.now n) }
+    ensures short { OnOk result (IsShort finding.now) }
 {
     let mut text = Vec::new(alloc);
-    text.extend_from_slice(answer_line(finding))?;
-    write_states(n, &mut text)?;
-    write_shown(alloc, work, finding, &mut text)?;
+    write_finding(alloc, work, question, finding, n, &mut text)?;
     Ok(text)
 }
 
 /// The text that says how many states there are, and in how many of them runs end.
-pub fn text_of_count(alloc: Global, all: bool, n: u64, finals: u64) -> Result<Vec<u8>, AllocError>
+pub(crate) fn text_of_count(
+    alloc: Global,
+    all: bool,
+    n: u64,
+    finals: u64,
+) -> Result<Vec<u8>, AllocError>
     ensures { IfOk result (λ text. text.items ≡ count_text all n finals) }
 {
     let mut text = Vec::new(alloc);

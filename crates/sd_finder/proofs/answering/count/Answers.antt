@@ -1,4 +1,4 @@
-use Rattle.sd_finder.proofs.answering.count_text.Goals as goal
+use Rattle.sd_finder.proofs.answering.count.Goals as goal
 
 pub returns : goal.returns
 returns c = record {
@@ -6,5 +6,6 @@ returns c = record {
   search = c.in_ok-graph.ensures;
   finals = c.in_ok-finals.finals.items;
   are = c.in_ok-finals.ensures;
+  verdict = rw c.is_closed-all.ensures at c.count_verdict-verdict.ensures;
   written = rw (c.len-many.ensures, c.is_closed-all.ensures, c.len.ensures, c.in_ok-finals.finals.ok.0) at c.in_ok-text.ensures;
 }

@@ -1,4 +1,4 @@
-use Rattle.sd_finder.proofs.answering.finding_text.Goals as goal
+use Rattle.sd_finder.proofs.answering.answer.Goals as goal
 
 pub returns : goal.returns
 returns c = record {
@@ -7,5 +7,7 @@ returns c = record {
   finding = c.in_ok-finding.finding;
   is = c.in_ok-finding.ensures.finding;
   fair = c.in_ok-finding.ensures.fair;
-  written = rw c.len-many.ensures at c.in_ok-text.ensures;
+  short = c.in_ok-text.ensures.short;
+  verdict = c.verdict_of-verdict.ensures;
+  written = rw c.len-many.ensures at c.in_ok-text.ensures.text;
 }

@@ -1,0 +1,4 @@
+pub mod AuditedLemmas
+pub mod FindLemmas
+pub mod ShownLemmas
+pub mod TextLemmas

@@ -1,0 +1,32 @@
+-- The journal of a run in which each processor reads the numbers of the state is one that the audit finds legal.
+use Rattle.std.proofs.Common.{◌≤◌, ◌^◌, List, [], ◌∷◌, length, refl, arith}
+use Rattle.sd_types.specs.declared.events.Entry.{Entry}
+use Rattle.sd_types.specs.declared.works.Work.{Work}
+use Rattle.sd_machine.specs.declared.states.State.{State}
+use Rattle.sd_machine.specs.Opening.{opening}
+use Rattle.sd_full.specs.Events.{after}
+use Rattle.sd_full.proofs.RunLemmas.{IsRun-from}
+use Rattle.sd_interleavings.specs.Closed.{IsFresh}
+use Rattle.sd_search.specs.declared.questions.Question.{Question}
+use Rattle.sd_search.specs.Questions.{IsWitness}
+use Rattle.sd_certified.proofs.HintLemmas.{AreShown, all_spelled, opened}
+use Rattle.sd_find.specs.Shown.{IsShown}
+
+fresh_shown : (w : Work) (s : State) (es : List Entry) → IsFresh w s es → AreShown w s es
+unfolding IsFresh
+fresh_shown w s [] fresh = tt
+fresh_shown w s (e ∷ es) fresh = (fresh.0, fresh_shown w (after w s e.number e.cpu e.event) es fresh.1)
+
+pub shown_of : (w : Work) (q : Question) (es : List Entry) → IsWitness w q es → length es ≤ 2 ^ 40 → IsShown w q es
+shown_of w q es is short = record {
+  witness = is;
+  certified = record {
+    entries = es;
+    run = is.run;
+    spelled = all_spelled w 0 (opening w) es (opened w) (IsRun-from w es is.run) (fresh_shown w (opening w) es is.fresh) (omega (arith, short));
+    complete = is.ends.complete;
+    whole = refl;
+    many = refl;
+    ends = refl;
+  };
+}

@@ -1,0 +1,65 @@
+use Rattle.std.proofs.Common.{Some, Err, Result, map, refl, sym, ap, subst, ◌∙◌}
+use Rattle.std.specs.Prelude.{string_bytes}
+use Rattle.sd_answers.specs.declared.answers.Answer.{Answer}
+use Rattle.sd_answers.specs.declared.answers.Answer.TheVariants.{Usage}
+use Rattle.sd_answers.specs.StreamChanges.{change_of}
+use Rattle.sd_finder.specs.declared.forms.Request.{Request}
+use Rattle.sd_finder.specs.declared.verdicts.Verdict.{Verdict}
+use Rattle.sd_find.specs.Seeking.{CausedBy}
+use Rattle.sd_find.proofs.FindLemmas.{promises_of}
+use Rattle.sd_find.proofs.top.find.Goals as goal
+
+pub returns-in-Some-Search : goal.returns-in-Some-Search
+returns-in-Some-Search g c =
+    let left = g.S.Source.remaining in
+    let read = g.S.Source.fault_count in
+    let held = g.K.Sink.contents in
+    let written = g.K.Sink.fault_count in
+    let shown = g.E.Sink.contents in
+    let failed = g.E.Sink.fault_count in
+    let i = c.args.input.now in
+    let j = c.seek.new.input in
+    let o = c.args.out.now in
+    let p = c.seek.new.out in
+    let e = c.args.err.now in
+    let f = c.report-in-Some-Search.new.err in
+    let input = change_of (left i) (left j) (read i) (read j) in
+    let out = change_of (held o) (held p) (written o) (written p) in
+    promises_of (map string_bytes c.args.arguments.now) input out (change_of (shown e) (shown f) (failed e) (failed f)) c.seek.result c.report-in-Some-Search.result
+    c.report-in-Some-Search.ensures.status
+    (subst (λ k. CausedBy k input out c.seek.result) (sym (sym c.request_of.ensures ∙ c.in-Some-Search.is ∙ ap (λ (r : Request). Some r) c.in-Some-Search.field-0-is)) c.seek.ensures) c.report-in-Some-Search.ensures.told
+
+pub returns-in-Some-Help : goal.returns-in-Some-Help
+returns-in-Some-Help g c =
+    let left = g.S.Source.remaining c.args.input.now in
+    let read = g.S.Source.fault_count c.args.input.now in
+    let held = g.K.Sink.contents in
+    let written = g.K.Sink.fault_count in
+    let shown = g.E.Sink.contents in
+    let failed = g.E.Sink.fault_count in
+    let o = c.args.out.now in
+    let p = c.put_help.new.out in
+    let e = c.args.err.now in
+    let f = c.report.new.err in
+    let input = change_of left left read read in
+    let out = change_of (held o) (held p) (written o) (written p) in
+    promises_of (map string_bytes c.args.arguments.now) input out (change_of (shown e) (shown f) (failed e) (failed f)) c.put_help.result c.report.result
+    c.report.ensures.status
+    (subst (λ k. CausedBy k input out c.put_help.result) (sym (sym c.request_of.ensures ∙ c.in-Some-Help.is ∙ ap (λ (r : Request). Some r) c.in-Some-Help.field-0-is)) (record { bytes = refl; no_fault = refl }, c.put_help.ensures)) c.report.ensures.told
+
+pub returns-in-None : goal.returns-in-None
+returns-in-None g c =
+    let left = g.S.Source.remaining c.args.input.now in
+    let read = g.S.Source.fault_count c.args.input.now in
+    let held = g.K.Sink.contents c.args.out.now in
+    let written = g.K.Sink.fault_count c.args.out.now in
+    let shown = g.E.Sink.contents in
+    let failed = g.E.Sink.fault_count in
+    let e = c.args.err.now in
+    let f = c.report-in-None.new.err in
+    let input = change_of left left read read in
+    let out = change_of held held written written in
+    let usage : Result Verdict Answer = Err Usage in
+    promises_of (map string_bytes c.args.arguments.now) input out (change_of (shown e) (shown f) (failed e) (failed f)) usage c.report-in-None.result c.report-in-None.ensures.status
+    (subst (λ k. CausedBy k input out usage) (sym (sym c.request_of.ensures ∙ c.in-None.is))
+    (refl, record { bytes = refl; no_fault = refl }, record { bytes = refl; no_fault = refl })) c.report-in-None.ensures.told

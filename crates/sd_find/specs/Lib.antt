@@ -1,0 +1,5 @@
+pub mod Audited
+pub mod Promises
+pub mod Shown
+pub mod Starts
+pub mod Seeking

@@ -1,0 +1,98 @@
+-- What stands behind an answer of `dispfind`.
+-- Source: this project's own.
+use Rattle.std.specs.Prelude.{◌≡◌, ℕ, List, [], ◌++◌, codes, Option, Some, None, Result, Ok, Err}
+use Rattle.std.specs.Io.KnownBytes.{Appends}
+use Rattle.sd_types.specs.declared.works.Work.{Work}
+use Rattle.sd_answers.specs.declared.answers.Answer.{Answer}
+use Rattle.sd_answers.specs.declared.answers.Answer.TheVariants.{Usage, TooLarge, Refused, ReadFault, WriteFault, OutOfMemory}
+use Rattle.sd_answers.specs.Answers.{line_of, status_of}
+use Rattle.sd_answers.specs.Inputs.{most_bytes, HasAtMost, HasTooMany, IsNoWorkload, IsWorkload}
+use Rattle.sd_answers.specs.StreamChanges.{StreamChange, AppendsPart, HasFault, HasNoFault, IsUntouched, TellsLine}
+use Rattle.sd_finder.specs.declared.forms.Aim.{Aim}
+use Rattle.sd_finder.specs.declared.forms.Request.{Request}
+use Rattle.sd_finder.specs.declared.forms.Request.TheVariants.{Help, Search}
+use Rattle.sd_finder.specs.declared.verdicts.Told.{Told}
+use Rattle.sd_finder.specs.declared.verdicts.Verdict.{Verdict}
+use Rattle.sd_finder.specs.declared.verdicts.Verdict.TheVariants.{Done, Found, Never, More}
+use Rattle.sd_finder.specs.Answered.{IsTold}
+use Rattle.sd_finder.specs.Forms.{request_of}
+
+-- ---- exit statuses and the lines on the error output
+
+abbrev pub verdict_status : Verdict → ℕ
+verdict_status Done = 0
+verdict_status Found = 9
+verdict_status Never = 10
+verdict_status More = 11
+
+abbrev pub ended_status : Result Verdict Answer → ℕ
+ended_status (Ok verdict) = verdict_status verdict
+ended_status (Err answer) = status_of answer
+
+-- the line of an answer where nothing was said: that of a run, but for the usage
+abbrev pub answer_line : Answer → List ℕ
+answer_line Usage = codes "usage: dispfind blocked [--most N] | stuck [--most N] | states [--most N] | --help\n"
+answer_line a = line_of a
+
+-- what was said stands on the output, and leaves no line
+abbrev pub ended_line : Result Verdict Answer → List ℕ
+ended_line (Ok verdict) = []
+ended_line (Err answer) = answer_line answer
+
+-- ---- the forms in a few lines
+
+abbrev pub help_text : List ℕ
+help_text =
+    codes "dispfind reads a workload, and searches every order in which its processors can act:\n" ++ (codes "dispfind FORM [--most N] < W\n"
+    ++ (codes "blocked   a run at whose end threads block each other in a circle\n" ++ (codes "stuck     a run at whose end a thread that has operations left has not ended\n"
+    ++ (codes "states    how many states there are, and in how many of them runs end\n" ++ (codes "--most N  ends with N states; 1000000 where it is not given\n"
+    ++ (codes "--help    these lines\n" ++ (codes "Exit status: 9 found, its journal behind the line states; 10 never; 11 not all searched\n"
+    ++ codes "(cat W; echo journal; dispfind FORM < W | sed '1,/^states /d') | dispsim audit\n")))))))
+
+-- ---- an answer and its cause
+
+-- the input is an accepted workload, and this is said of it
+pub record IsToldOf (aim : Aim) (most : ℕ) (input : StreamChange) (told : Told) : Type 0 where
+  pub work : Work
+  pub workload : IsWorkload input work
+  pub is : IsTold work aim most told
+
+-- what is said was written whole
+pub record Says (aim : Aim) (most : ℕ) (input out : StreamChange) (verdict : Verdict) : Type 0 where
+  pub told : Told
+  pub of : IsToldOf aim most input told
+  pub verdict_is : told.verdict ≡ verdict
+  pub whole : Appends out.before out.after told.text.items
+  pub no_fault : HasNoFault out
+
+-- why nothing was said, or not all of it was written
+abbrev pub SaysNothing : Aim → ℕ → StreamChange → StreamChange → Answer → Type 0
+SaysNothing aim most input out TooLarge = HasTooMany most_bytes input × IsUntouched out
+SaysNothing aim most input out (Refused line cause) = IsNoWorkload input line cause × IsUntouched out
+SaysNothing aim most input out ReadFault = HasFault input × IsUntouched out
+SaysNothing aim most input out WriteFault = (told : Told) × IsToldOf aim most input told × HasFault out × AppendsPart out.before out.after told.text.items
+SaysNothing aim most input out OutOfMemory = HasAtMost most_bytes input × IsUntouched out
+SaysNothing aim most input out _ = ⊥
+
+-- where a search is asked for
+abbrev pub CausedBySearch : Aim → ℕ → StreamChange → StreamChange → Result Verdict Answer → Type 0
+CausedBySearch aim most input out (Ok verdict) = Says aim most input out verdict
+CausedBySearch aim most input out (Err answer) = SaysNothing aim most input out answer
+
+-- where the forms are asked for: they were written whole, or a write failed
+abbrev pub CausedByHelp : StreamChange → Result Verdict Answer → Type 0
+CausedByHelp out (Ok Done) = Appends out.before out.after help_text × HasNoFault out
+CausedByHelp out (Err WriteFault) = AppendsPart out.before out.after help_text × HasFault out
+CausedByHelp out _ = ⊥
+
+abbrev pub CausedBy : Option Request → StreamChange → StreamChange → Result Verdict Answer → Type 0
+CausedBy None input out ended = (ended ≡ Err Usage) × IsUntouched input × IsUntouched out
+CausedBy (Some Help) input out ended = IsUntouched input × CausedByHelp out ended
+CausedBy (Some (Search aim most)) input out ended = CausedBySearch aim most input out ended
+
+-- how the call ended has its cause, its status and its line
+pub record IsSought (arguments : List (List ℕ)) (input out err : StreamChange) (status : ℕ) : Type 0 where
+  pub ended : Result Verdict Answer
+  pub exit : status ≡ ended_status ended
+  pub caused : CausedBy (request_of arguments) input out ended
+  pub told : TellsLine err (ended_line ended)

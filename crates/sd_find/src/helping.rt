@@ -1,0 +1,30 @@
+//! The forms of the arguments, in a few lines.
+
+ghost use Rattle.sd_answers.specs.StreamChanges.{change_of};
+ghost use Rattle.sd_find.specs.Seeking.{CausedByHelp};
+
+use sd_answers::{Answer, put_text};
+use sd_finder::Verdict;
+use sd_text::Sink;
+
+const HELP: &[u8] =
+    b"dispfind reads a workload, and searches every order in which its processors can act:
+dispfind FORM [--most N] < W
+blocked   a run at whose end threads block each other in a circle
+stuck     a run at whose end a thread that has operations left has not ended
+states    how many states there are, and in how many of them runs end
+--most N  ends with N states; 1000000 where it is not given
+--help    these lines
+Exit status: 9 found, its journal behind the line states; 10 never; 11 not all searched
+(cat W; echo journal; dispfind FORM < W | sed '1,/^states /d') | dispsim audit
+";
+
+/// Writes the forms.
+pub(crate) fn put_help<K: Sink>(out: &mut K) -> Result<Verdict, Answer>
+    ensures { CausedByHelp (change_of (K.contents out.old) (K.contents out.new) (K.fault_count out.old) (K.fault_count out.new)) result }
+{
+    match put_text(out, HELP) {
+        Ok(()) => Ok(Verdict::Done),
+        Err(_) => Err(Answer::WriteFault),
+    }
+}

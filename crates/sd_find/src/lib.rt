@@ -1,0 +1,29 @@
+//! The top call of `dispfind`, which searches every order in which the processors of a workload can act.
+#![tactic(auto)]
+
+mod helping;
+mod laws;
+mod seeking;
+mod top;
+
+pub use laws::witnesses_are_audited;
+use sd_answers::behind_name;
+use sd_text::{StdSink, StdSource};
+use std::process::ExitCode;
+use std::{env, io};
+pub use top::{find, start};
+
+/// The arguments behind the program's name.
+fn arguments(host: &HostRuntime) -> io::Result<Vec<String>> {
+    Ok(behind_name(host.alloc(), env::args(host)?)?)
+}
+
+/// The program on the host: gives the host's input, output and error output, and its arguments, to `start`, and returns its
+/// status. It is trusted: no clause says what the host does.
+pub fn program(host: &HostRuntime) -> ExitCode {
+    let mut input = StdSource::new(host.stdin());
+    let mut out = StdSink::new(host.stdout());
+    let mut err = StdSink::new(host.stderr());
+    let arguments = arguments(host);
+    ExitCode::from(start(host.alloc(), arguments, &mut input, &mut out, &mut err))
+}
