@@ -1,11 +1,13 @@
 """Each growth of memory refused in turn, alone and with all that come after it.
 
-A run ends as it would have, or with status 5 and its line; then its output is a prefix of the text, in whole lines.
+A run ends as it would have, or with status 5 and its line; then its output is a prefix of the text, in whole lines. On threads of the
+host a journal may be another one each time: it is legal, or there is status 5 with whole lines.
 """
 
 from counting import Count, Judge, Setting, share_out
 from host import Host, NoCompiler, host
 from running import Ended
+from seeds import audit_fault
 
 # Examples that come first: the smallest run, a chain of three mutexes, and a table in the manner of dispadmin(1M).
 FIRST = ["first", "inversion_chain", "own_table"]
@@ -40,6 +42,7 @@ def _of_example(setting: Setting, piece: int, _size: int, deadline: float) -> Co
     made.calls = setting.scratch / f"calls{piece}"
     for form, text in inputs:
         _refuse_each(judge, made, form, text)
+    _refuse_each_on_threads(judge, made, workload)
     return judge.count
 
 
@@ -64,3 +67,26 @@ def _fault(whole: Ended, ended: Ended) -> str | None:
         return f"status {ended.status} where memory was refused"
     lines = ended.out == b"" or ended.out.endswith(b"\n")
     return None if lines and whole.out.startswith(ended.out) else "output that is no prefix"
+
+
+def _refuse_each_on_threads(judge: Judge, made: Host, workload: bytes):
+    """One growth of each number up to those of a run in which none is refused: another run may have more of them, or fewer."""
+    command = judge.setting.command("run --threads")
+    judge.runner.run(command, workload, made.counted())
+    for number in range(1, made.numbers()[0] + 1):
+        if judge.is_late():
+            return
+        for name in ("REFUSE", "REFUSE_FROM"):
+            ended = judge.runner.run(command, workload, made.changed(**{name: number}))
+            shown = ["env", f"LD_PRELOAD=host.so {name}={number}", *command]
+            judge.judge(_thread_fault(judge, workload, ended), f"run --threads {ended.status}", shown, workload, ended)
+
+
+def _thread_fault(judge: Judge, workload: bytes, ended: Ended) -> str | None:
+    if ended.hung:
+        return "hung"
+    if ended.status in (0, 6):
+        return audit_fault(judge, workload, ended.out)
+    if ended.status != 5 or ended.err != b"out of memory\n":
+        return f"status {ended.status} where memory was refused"
+    return None if ended.out == b"" or ended.out.endswith(b"\n") else "output that is no whole lines"

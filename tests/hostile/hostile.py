@@ -18,6 +18,7 @@ from sanitised import sanitised
 from seeds import seeds
 from sizes import sizes
 from streams import streams
+from threads import threads
 
 REPOSITORY = Path(__file__).resolve().parents[2]
 
@@ -29,6 +30,7 @@ PARTS = {
     "seeds": (seeds, 5_000),
     "sizes": (sizes, 8),
     "streams": (streams, 3),
+    "threads": (threads, 200),
 }
 
 

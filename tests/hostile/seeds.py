@@ -57,11 +57,12 @@ def _one(judge: Judge, form: str, workload: bytes):
     if ended.status == 2:
         fault = fault or "a workload was refused that is to be accepted"
     if fault is None:
-        fault = accounts_fault(ended.out.decode()) or _audit_fault(judge, workload, ended.out)
+        fault = accounts_fault(ended.out.decode()) or audit_fault(judge, workload, ended.out)
     judge.judge(fault, f"{' '.join(form.split()[:2])} {ended.status}", command, workload, ended)
 
 
-def _audit_fault(judge: Judge, workload: bytes, journal: bytes) -> str | None:
+def audit_fault(judge: Judge, workload: bytes, journal: bytes) -> str | None:
+    """Why the audit does not find the journal legal, or nothing."""
     ended = judge.runner.run(judge.setting.command("audit"), workload + b"journal\n" + journal)
     entries = journal.split(b"accounts\n")[0].count(b"\n")
     if (ended.status, ended.out) == (0, b"legal %d\n" % entries):
