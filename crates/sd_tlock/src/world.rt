@@ -28,7 +28,7 @@ pub struct TableWorld<'a> {
 }
 
 impl<'a> TableWorld<'a> {
-    /// The table as this seat sees it. No home is held.
+    /// The table as this seat sees it.
     pub fn new(shared: &'a Shared, seat: Seat) -> TableWorld<'a>
         requires fits { Fits (id_of shared.now) (work_of shared.now) seat }
         ensures good { IsTable result }
