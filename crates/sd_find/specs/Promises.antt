@@ -45,7 +45,8 @@ pub record ExcludesRuns (q : Question) (most : ℕ) (input out : StreamChange) :
   pub written : Appends out.before out.after (never_text (length (packed graph)))
   pub no_fault : HasNoFault out
 
--- Status 11 where a run is asked for: so many states were found that the search ended before all were searched; what was written says no more.
+-- Status 11 where a run is asked for: as many states were found as were allowed, or more; what was written says no more. That not all of
+-- them were searched, and that none of them is so, is said by the cause of the answer (`answered`).
 pub record LeavesOpen (most : ℕ) (input out : StreamChange) : Type 0 where
   pub work : Work
   pub workload : IsWorkload input work
