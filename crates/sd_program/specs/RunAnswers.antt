@@ -7,7 +7,7 @@ use Rattle.sd_types.specs.declared.works.Work.{Work}
 use Rattle.sd_full.specs.LockGraph.{cycles_of}
 use Rattle.sd_rounds.specs.Orders.{orders_of}
 use Rattle.sd_rounds.specs.Rounds.{IsLongSerial}
-use Rattle.sd_threads.specs.Jobs.{IsLongRun}
+use Rattle.sd_rounds.specs.Rounds.{IsLongRun}
 use Rattle.sd_answers.specs.declared.answers.Answer.{Answer}
 use Rattle.sd_answers.specs.declared.answers.Answer.TheVariants.{Done, WriteFault, OutOfMemory, Blocked, TooLong}
 use Rattle.sd_answers.specs.StreamChanges.{StreamChange, HasFault, HasNoFault, IsUntouched, AppendsPart}

@@ -1,5 +1,5 @@
 -- The run that goes in rounds is complete: where a round makes no entry, no processor has one, whatever it reads.
-use Rattle.std.proofs.Common.{◌≡◌, ◌<◌, Bool, true, false, List, length, Option, None, refl, subst, arith}
+use Rattle.std.proofs.Common.{◌≡◌, ◌<◌, ℕ, Bool, true, false, List, [], length, Option, None, refl, subst, arith}
 use Rattle.std.specs.Prelude.{IsSome, nat_lt}
 use Rattle.std.proofs.lemmas.Bool.Decides.{nat_tests}
 use Rattle.sd_types.specs.declared.numbers.CpuId.{CpuId}
@@ -10,7 +10,7 @@ use Rattle.sd_machine.specs.declared.states.State.{State}
 use Rattle.sd_machine.specs.Opening.{opening}
 use Rattle.sd_full.specs.Events.{next}
 use Rattle.sd_full.specs.Plans.{plan}
-use Rattle.sd_full.specs.Runs.{final, serial_hints, IsComplete, IsSerial}
+use Rattle.sd_full.specs.Runs.{final, round_after, serial_hints, IsComplete, IsSerial}
 use Rattle.sd_full.proofs.RoundLemmas.{empty_round}
 use Rattle.sd_steps.specs.Entering.{can_enter, plan_enters}
 use Rattle.sd_steps.proofs.EnteringLemmas.{enters_some, enters_none}
@@ -28,16 +28,19 @@ enters_inside w s c e =
 some_none : (o : Option Event) → IsSome o → o ≡ None → ⊥
 some_none o some none = cc
 
-module _ (w : Work) (turns : Turns) (es : List Entry) (r : IsSerial w (orders_of w turns) es) where
+module _ (w : Work) (turns : Turns) (k : ℕ) (es : List Entry) (none : round_after w (orders_of w turns k) es ≡ []) where
   none_here : (c : CpuId) → c.0 < w.cpus → next w (final w (opening w) es) c (serial_hints w (final w (opening w) es) c) ≡ None
   none_here c here =
-      let at = order_in w turns r.count c here in
+      let at = order_in w turns k c here in
       subst (λ d. next w (final w (opening w) es) d (serial_hints w (final w (opening w) es) d) ≡ None) at.is
-      (empty_round w first (final w (opening w) es) (length es) (orders_of w turns r.count) r.ends at.place at.inside)
+      (empty_round w first (final w (opening w) es) (length es) (orders_of w turns k) none at.place at.inside)
 
-  pub complete_of : IsComplete w (final w (opening w) es)
-  complete_of c hints = by (can_enter w (final w (opening w) es) c) refl
+  pub complete_after : IsComplete w (final w (opening w) es)
+  complete_after c hints = by (can_enter w (final w (opening w) es) c) refl
     where
       by : (b : Bool) → can_enter w (final w (opening w) es) c ≡ b → next w (final w (opening w) es) c hints ≡ None
       by true e = absurd (some_none _ (enters_some w (final w (opening w) es) c e) (none_here c (enters_inside w (final w (opening w) es) c e)))
       by false e = enters_none w (final w (opening w) es) c hints e
+
+pub complete_of : (w : Work) (turns : Turns) (es : List Entry) → IsSerial w (orders_of w turns) es → IsComplete w (final w (opening w) es)
+complete_of w turns es r = complete_after w turns r.count es r.ends

@@ -14,6 +14,10 @@ use Rattle.sd_rounds.specs.Rounds.{HasRounds, IsLongSerial}
 pub grows : (more es es' : List Entry) → es' ≡ es ++ more → length es ≤ length es'
 grows more es es' e = omega (arith, ap length e, length-append es more)
 
+-- a round that adds nothing is empty
+pub none_more : (more es es' : List Entry) → es' ≡ es ++ more → length es' ≡ length es → more ≡ []
+none_more more es es' e same = nil_from_length more (omega (arith, ap length e, length-append es more, same))
+
 module _ (w : Work) (order : List CpuId) where
   -- one turn of a round
   pub round_on : (i : ℕ) (d : CpuId) (s s' : State) (es es' : List Entry) → i < length order

@@ -10,4 +10,4 @@ mod turns;
 
 pub use laws::one_serial;
 pub use orders::Turns;
-pub use rounds::{Finished, run_rounds};
+pub use rounds::{Finished, run_rounds, run_to_end};

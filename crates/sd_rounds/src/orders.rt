@@ -30,7 +30,7 @@ pub(crate) fn first_generator(turns: Turns) -> Option<Lcg64Xsh32>
 }
 
 /// The processors in rising order.
-fn rising(work: &Work) -> ArrayVec<CpuId, 64>
+pub(crate) fn rising(work: &Work) -> ArrayVec<CpuId, 64>
     ensures { result.items ≡ rising work.now }
 {
     let mut order = ArrayVec::new();

@@ -5,10 +5,11 @@ ghost use Rattle.sd_full.specs.Runs.{final, round, state_at, IsComplete, IsRun, 
 ghost use Rattle.sd_hand.specs.OneHome.{StandsInHomes};
 ghost use Rattle.sd_machine.specs.Opening.{opening};
 ghost use Rattle.sd_rounds.specs.Orders.{orders_of};
-ghost use Rattle.sd_rounds.specs.Rounds.{IsLongSerial};
+ghost use Rattle.sd_rounds.specs.Rounds.{IsLongRun, IsLongSerial};
 ghost use Rattle.sd_world.specs.Plain.{Stands, told};
+ghost use Rattle.sd_world.specs.Worlds.{Begins};
 
-use crate::orders::{Turns, first_generator, next_order};
+use crate::orders::{Turns, first_generator, next_order, rising};
 use crate::turns::take_turn;
 use sd_machine::State;
 use sd_types::{CpuId, Entry, Stop, Work};
@@ -36,6 +37,7 @@ fn run_round(work: &Work, world: &mut PlainWorld, order: &[CpuId]) -> Result<(),
     ensures begins { OnOk result (0 < length order.now → length world.old.entries.items < MOST_ENTRIES) }
     ensures full { IsErrOf result Stop.Full
         → MOST_ENTRIES ≤ length (world.old.entries.items ++ round work.now (told work.now world.old) (length world.old.entries.items) order.now) }
+    ensures long { IsErrOf result Stop.Full → MOST_ENTRIES ≤ length world.new.entries.items }
     ensures memory { IsErrOf result Stop.Memory → length world.new.entries.items < MOST_ENTRIES }
 {
     for c in order {
@@ -84,6 +86,36 @@ pub fn run_rounds(alloc: Global, work: &Work, turns: Turns) -> Result<Finished, 
             return Err(stop);
         }
         if world.entries.len() == before {
+            break 'rounds;
+        }
+    }
+    finish(alloc, work, world)
+}
+
+/// A run that goes on, from the entries that the world has, in rounds of rising order until one makes no entry: a complete one. `Full`
+/// only where a run of the workload has 2^40 entries or more; what `Memory` stands for is only that memory ran out.
+pub fn run_to_end(alloc: Global, work: &Work, world: PlainWorld) -> Result<Finished, Stop>
+    requires stands { Stands work.now world }
+    requires work { world.work.now ≡ work.now }
+    ensures run { IfOk result (λ r. IsRun work.now r.entries.items) }
+    ensures complete { IfOk result (λ r. IsComplete work.now r.state) }
+    ensures state { IfOk result (λ r. r.state ≡ final work.now (opening work.now) r.entries.items) }
+    ensures begins { IfOk result (λ r. Begins world.entry.entries.items r.entries.items) }
+    ensures homes { IfOk result (λ r. (k : ℕ) → k ≤ length r.entries.items → StandsInHomes k (state_at work.now r.entries.items k)) }
+    ensures short { IfOk result (λ r. length r.entries.items < MOST_ENTRIES) }
+    ensures full { IsErrOf result Stop.Full → IsLongRun work.now }
+{
+    if world.entries.len() > MOST_ENTRIES {
+        return Err(Stop::Full);
+    }
+    let mut world = world;
+    let order = rising(work);
+    'rounds: loop {
+        let so_far = world.entries.len();
+        if let Err(stop) = run_round(work, &mut world, order.as_slice()) {
+            return Err(stop);
+        }
+        if world.entries.len() == so_far {
             break 'rounds;
         }
     }

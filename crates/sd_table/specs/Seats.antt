@@ -4,13 +4,17 @@ use Rattle.std.specs.Prelude.{◌≡◌, ℕ, ◌+◌, ◌-◌, ◌<◌, ◌≤�
 use Rattle.std.specs.List.{list_any}
 use Rattle.atomic_table.specs.Seated.{TableId}
 use Rattle.atomic_table.specs.Table.{rest}
+use Rattle.sd_types.specs.declared.numbers.CpuId.{CpuId}
 use Rattle.sd_types.specs.declared.numbers.HomeId.{HomeId}
+use Rattle.sd_types.specs.declared.numbers.HomeId.TheVariants as id
+use Rattle.sd_types.specs.declared.events.Entry.{Entry}
 use Rattle.sd_types.specs.declared.events.Event.{Event}
 use Rattle.sd_types.specs.declared.events.Hints.{Hints}
 use Rattle.sd_types.specs.declared.events.Which.{Which}
 use Rattle.sd_types.specs.declared.works.Work.{Work}
 use Rattle.sd_machine.specs.States.{cpu_of}
 use Rattle.sd_machine.specs.declared.states.State.{State}
+use Rattle.sd_full.specs.Choosing.{hint_shown}
 use Rattle.sd_full.specs.Events.{after, next}
 use Rattle.sd_full.specs.Runs.{IsReached, IsRun}
 use Rattle.sd_store.specs.declared.parts.Part.{Part}
@@ -28,10 +32,12 @@ use Rattle.sd_world.specs.declared.world.Take.TheVariants.{Taken, Busy}
 use Rattle.sd_table_rule.specs.declared.views.Count.{Count}
 use Rattle.sd_table_rule.specs.declared.views.Desk.{Desk}
 use Rattle.sd_table_rule.specs.declared.views.View.TheVariants.{Works}
+use Rattle.sd_table_rule.specs.declared.views.Written.{Written}
 use Rattle.sd_table_rule.specs.Ledgers.{by}
 use Rattle.sd_table_rule.specs.Movers.{mover}
 use Rattle.sd_table_rule.specs.Places.{Apart, holds, now, sizes}
-use Rattle.sd_table_rule.specs.Plays.{Slot, desk_of, is_noted}
+use Rattle.sd_table_rule.specs.Plays.{Sees, Slot, desk_of, is_noted, is_written}
+use Rattle.sd_table_rule.specs.Words.{hint_word, tick_word}
 use Rattle.sd_table.specs.declared.seat.Held.{Held}
 use Rattle.sd_table.specs.declared.seat.Seat.{Seat}
 use Rattle.sd_table.specs.declared.shared.Shared.{Shared}
@@ -185,16 +191,41 @@ IsMoved t x ts = (ts ≡ []) ⊎ ((ts ≡ t ∷ []) × (has_thread t x.hand.slot
 abbrev pub AreMoved : Event → Acting → List ℕ → Type 0
 AreMoved e x ts = MatchOption (mover e) (ts ≡ []) (λ u. IsMoved u.0 x ts)
 
--- but for words that are no matter of the seat's
-pub record IsSameSeat (s s' : Seat) : Type 0 where
-  pub me : s'.place.me ≡ s.place.me
+-- What a seat shows to others.
+
+-- these were written too
+abbrev pub showing : Desk → List Written → Desk
+showing d more = record d { written = more ++ d.written }
+
+-- numbers were written in which others read, and nothing else was done
+pub record HasWritten (s s' : Seat) : Type 0 where
+  pub more : List Written
+  pub me : s'.place.me ≡ (Works (showing (desk s) more), s.place.me.1)
   pub table : s'.place.table_id ≡ s.place.table_id
   pub acting : s'.acting ≡ s.acting
   pub order : s'.order ≡ s.order
   pub log : s'.log ≡ s.log
 
--- the words of all threads are published; the seat is as it was
+-- the hint of processor c is written as it is in each run that the seat may see
+abbrev pub ShowsHint : Work → Seat → CpuId → Which → Type 0
+ShowsHint w s c which = (h : List Entry) → Sees w (desk s) h → is_written (desk s).written (hint_word w c.0 which) (hint_shown (now w h) which c) ≡ true
+
+-- both hints of the processor whose home this is
+abbrev pub ShowsHints : Work → Seat → HomeId → Type 0
+ShowsHints w s (id.Cpu c) = (which : Which) → ShowsHint w s c which
+ShowsHints w s _ = ⊤
+
+-- the own count is written
+abbrev pub ShowsCount : Work → Seat → Type 0
+ShowsCount w s = (h : List Entry) → Sees w (desk s) h → is_written (desk s).written (tick_word w (desk s).cpu) (cpu_of (now w h) (desk s).cpu).count ≡ true
+
+-- since the last entry the hints of each processor whose home is held, and the own count, were written, as they are after it
+pub record Shows (w : Work) (s : Seat) : Type 0 where
+  pub hints : (k : HomeId) → IsHeld k s.acting.hand.slots → ShowsHints w s k
+  pub count : ShowsCount w s
+
+-- the words of all threads are published; but for what was written for others, the seat is as it was
 pub record Publishes (s s' : Seat) : Type 0 where
-  pub desk : desk s' ≡ record (desk s) { stray = [] }
+  pub desk : desk s' ≡ record (desk s) { stray = []; written = (desk s').written }
   pub acting : s'.acting ≡ s.acting
   pub log : s'.log ≡ s.log

@@ -4,7 +4,7 @@ ghost use Rattle.std.specs.Prelude.{◌≡◌, ℕ, ◌+◌, ◌++◌, ◌<◌, 
 ghost use Rattle.sd_hand.specs.Acting.{has_part};
 ghost use Rattle.sd_world.specs.Worlds.{CanCommit, Commits};
 ghost use Rattle.sd_table_rule.specs.Movers.{mover};
-ghost use Rattle.sd_table.specs.Seats.{AreMoved, Fits, FitsAs, HasMade, IsMoved, IsSameSeat, MayMake, Publishes, desk, id_of, seat_meaning, work_of};
+ghost use Rattle.sd_table.specs.Seats.{AreMoved, Fits, FitsAs, HasMade, HasWritten, IsMoved, MayMake, Publishes, Shows, ShowsCount, desk, id_of, seat_meaning, work_of};
 
 use crate::seat::Seat;
 use crate::shared::Shared;
@@ -78,6 +78,7 @@ impl Shared {
         requires can { CanCommit (seat_meaning (work_of self.now) seat.old) work.now event hints }
         ensures fits { Fits (id_of self.now) (work_of self.now) seat.new }
         ensures commits { Commits (seat_meaning (work_of self.now) seat.old) (seat_meaning (work_of self.now) seat.new) result event hints }
+        ensures shows { Shows (work_of self.now) seat.new }
     {
         let number = self.draw::<Brand>(&mut seat.place, &event, &hints);
         seat.make(work, number, event, hints);
@@ -90,6 +91,7 @@ impl Shared {
         requires fits { (ts : List ℕ) × FitsAs (id_of self.now) (work_of self.now) ts (desk seat.old) seat.old × AreMoved event seat.old.acting ts }
         ensures fits { Fits (id_of self.now) (work_of self.now) seat.new }
         ensures publishes { Publishes seat.old seat.new }
+        ensures shows { Shows (work_of self.now) seat.new }
     {
         self.publish_mover(seat, event);
         self.publish_hints(seat);
@@ -127,7 +129,8 @@ impl Shared {
     fn publish_count(&self, seat: &mut Seat)
         requires fits { Fits (id_of self.now) (work_of self.now) seat.old }
         ensures fits { Fits (id_of self.now) (work_of self.now) seat.new }
-        ensures same { IsSameSeat seat.old seat.new }
+        ensures written { HasWritten seat.old seat.new }
+        ensures shows { ShowsCount (work_of self.now) seat.new }
     {
         let cpu = seat.acting.actor.cpu.0 as usize;
         let count = u64::from(seat.acting.actor.count);

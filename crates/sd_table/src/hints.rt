@@ -1,9 +1,10 @@
 //! A processor shows to others who runs and who is queued on the processors whose homes it holds.
 
 ghost use Rattle.std.specs.Prelude.{◌≡◌, true};
+ghost use Rattle.sd_types.specs.declared.numbers.HomeId.{HomeId as HomeIdOf};
 ghost use Rattle.sd_types.specs.declared.numbers.HomeId.TheVariants.{Cpu};
 ghost use Rattle.sd_hand.specs.Hands.{IsHeld};
-ghost use Rattle.sd_table.specs.Seats.{Fits, IsSameSeat, id_of, work_of};
+ghost use Rattle.sd_table.specs.Seats.{Fits, HasWritten, ShowsHint, ShowsHints, id_of, work_of};
 
 use crate::seat::{Held, Seat};
 use crate::shared::Shared;
@@ -16,7 +17,8 @@ impl Shared {
     pub(crate) fn publish_hints(&self, seat: &mut Seat)
         requires fits { Fits (id_of self.now) (work_of self.now) seat.old }
         ensures fits { Fits (id_of self.now) (work_of self.now) seat.new }
-        ensures same { IsSameSeat seat.old seat.new }
+        ensures written { HasWritten seat.old seat.new }
+        ensures shows { (k : HomeIdOf) → IsHeld k seat.new.acting.hand.slots → ShowsHints (work_of self.now) seat.new k }
     {
         for i in 0..seat.order.len() {
             let Held(k) = seat.order[i];
@@ -29,7 +31,8 @@ impl Shared {
         requires fits { Fits (id_of self.now) (work_of self.now) seat.old }
         requires held { IsHeld k seat.old.acting.hand.slots }
         ensures fits { Fits (id_of self.now) (work_of self.now) seat.new }
-        ensures same { IsSameSeat seat.old seat.new }
+        ensures written { HasWritten seat.old seat.new }
+        ensures shows { ShowsHints (work_of self.now) seat.new k }
     {
         if let HomeId::Cpu(c) = k {
             self.publish_hint(seat, c, Which::Running);
@@ -42,7 +45,8 @@ impl Shared {
         requires fits { Fits (id_of self.now) (work_of self.now) seat.old }
         requires held { IsHeld (Cpu c) seat.old.acting.hand.slots }
         ensures fits { Fits (id_of self.now) (work_of self.now) seat.new }
-        ensures same { IsSameSeat seat.old seat.new }
+        ensures written { HasWritten seat.old seat.new }
+        ensures shows { ShowsHint (work_of self.now) seat.new c which }
     {
         let hint = shown_hint(&seat.acting, which, c);
         self.write_hint::<Brand>(&mut seat.place, c, which, hint);

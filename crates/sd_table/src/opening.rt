@@ -13,7 +13,7 @@ ghost use Rattle.sd_table_rule.specs.Words.{word_count};
 ghost use Rattle.sd_table.specs.Seats.{id_of, work_of};
 ghost use Rattle.sd_table.specs.Whole.{AreLaid, AreNew, AreSeats, IsSeatOf};
 
-use crate::indices::{home_count, number_at};
+use crate::indices::{home_count, number_in};
 use crate::rule::Cutting;
 use crate::seat::Seat;
 use crate::shared::Shared;
@@ -34,7 +34,7 @@ fn slots_of(alloc: Global, work: &Work, hand: &mut Hand) -> Result<Vec<Option<Ho
 {
     let mut slots = Vec::new(alloc);
     for i in 0..home_count(work) {
-        match hand.release(number_at(work, i)) {
+        match hand.release(number_in(work, i)) {
             Some(home) => slots.push(Some(home))?,
             None => unreachable!(),
         }

@@ -8,10 +8,10 @@ ghost use Rattle.sd_machine.specs.States.{cpu_of};
 ghost use Rattle.sd_full.specs.Choosing.{hint_shown};
 ghost use Rattle.sd_homes.specs.declared.home.Home.{Home as HomeOf};
 ghost use Rattle.sd_table_rule.specs.Ledgers.{by, most};
-ghost use Rattle.sd_table_rule.specs.Places.{Stands, holds, home_count, now, place_home, sizes};
-ghost use Rattle.sd_table_rule.specs.Plays.{Committed, Counted, Gave, Hinted, Looked, MayCommit, Published, Sees, Took, desk_of};
+ghost use Rattle.sd_table_rule.specs.Places.{Stands, holds, home_count, now, place_home};
+ghost use Rattle.sd_table_rule.specs.Plays.{Committed, Counted, Gave, Hinted, Looked, MayCommit, Published, Sees, Took, desk_of, writing};
+ghost use Rattle.sd_table_rule.specs.declared.views.View.TheVariants.{Works};
 ghost use Rattle.sd_table_rule.specs.Words.{hint_word, thread_count, thread_word, tick_word};
-ghost use Rattle.sd_world.specs.Homes.{IsNumber, index_of};
 ghost use Rattle.sd_table.specs.Intents.{IsDesk};
 ghost use Rattle.sd_table.specs.Seats.{id_of, work_of};
 
@@ -22,30 +22,11 @@ use crate::shared::Shared;
 use atomic_table::Seat as Place;
 use sd_homes::Home;
 use sd_table_rule::View;
-use sd_types::{CpuId, Event, Hints, HomeId, Which};
+use sd_types::{CpuId, Event, Hints, Which};
 
 impl Shared {
-    /// The index of a home: that of its slot and of its lock.
-    pub(crate) fn index(&self, k: HomeId) -> usize
-        requires there { IsNumber (sizes (work_of self.now)) k }
-        ensures index { result ≡ index_of (sizes (work_of self.now)) k }
-        ensures inside { result < home_count (work_of self.now) }
-    {
-        match k {
-            HomeId::Cpu(c) => c.0 as usize,
-            HomeId::RealTime(p) => self.cpus + p.0 as usize,
-            HomeId::Chain(i) => self.homes - 128 + i as usize,
-            HomeId::Sleepers(i) => self.homes - 64 + i as usize,
-        }
-    }
-
     /// One exchange of the lock of a home: 0 for the processor's own number plus 1.
-    pub(crate) fn grab<I: Intent>(
-        &self,
-        place: &mut Place<Option<Home>, View>,
-        k: usize,
-        mine: u64,
-    ) -> u64
+    pub fn grab<I: Intent>(&self, place: &mut Place<Option<Home>, View>, k: usize, mine: u64) -> u64
         requires about { I.about ≡ Some (work_of self.now) }
         requires table { place.old.table_id ≡ id_of self.now }
         requires desk { IsDesk place.old.me }
@@ -61,7 +42,7 @@ impl Shared {
     }
 
     /// The lock of the home that was taken last is free again; the home lies in its slot.
-    pub(crate) fn lay<I: Intent>(&self, place: &mut Place<Option<Home>, View>, k: usize)
+    pub fn lay<I: Intent>(&self, place: &mut Place<Option<Home>, View>, k: usize)
         requires about { I.about ≡ Some (work_of self.now) }
         requires table { place.old.table_id ≡ id_of self.now }
         requires desk { IsDesk place.old.me }
@@ -76,7 +57,7 @@ impl Shared {
     }
 
     /// Reads the word of a thread.
-    pub(crate) fn look<I: Intent>(&self, place: &mut Place<Option<Home>, View>, t: usize) -> u64
+    pub fn look<I: Intent>(&self, place: &mut Place<Option<Home>, View>, t: usize) -> u64
         requires about { (I.about ≡ Some (work_of self.now)) × (I.number ≡ t) }
         requires table { place.old.table_id ≡ id_of self.now }
         requires desk { IsDesk place.old.me }
@@ -136,7 +117,7 @@ impl Shared {
         requires inside { (c < (work_of self.now).cpus) × (c ≡ (desk_of place.old.me.0).cpu) }
         requires own { count ≡ (cpu_of (now (work_of self.now) (desk_of place.old.me.0).seen) c).count }
         ensures table { place.new.table_id ≡ place.old.table_id }
-        ensures told { place.new.me ≡ place.old.me }
+        ensures told { place.new.me ≡ (Works (writing (desk_of place.old.me.0) (record { word = tick_word (work_of self.now) c; number = count })), place.old.me.1) }
     {
         self.table.shared.store::<Writing<I>>(
             place,
@@ -190,7 +171,7 @@ impl Shared {
         requires desk { IsDesk place.old.me }
         requires inside { c.0 < (work_of self.now).cpus }
         ensures table { place.new.table_id ≡ place.old.table_id }
-        ensures told { place.new.me ≡ place.old.me }
+        ensures told { place.new.me ≡ (Works (writing (desk_of place.old.me.0) (record { word = hint_word (work_of self.now) c.0 which; number = hint })), place.old.me.1) }
     {
         let word = self.hint_at(c.0 as usize, which);
         self.table

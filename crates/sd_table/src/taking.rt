@@ -38,7 +38,7 @@ impl Shared {
     }
 
     /// The home that was taken last comes from its slot to the hand.
-    pub(crate) fn lift(&self, seat: &mut Seat, k: HomeId, index: usize)
+    pub fn lift(&self, seat: &mut Seat, k: HomeId, index: usize)
         requires out { (x : HomeOf) × (home_id x ≡ k) × (seat.old.place.me.1 ≡ (index, Some x) ∷ rest seat.old.place.me.1) }
         requires table { seat.old.place.table_id ≡ id_of self.now }
         requires fresh { held_in k seat.old.acting.hand.slots ≡ None }

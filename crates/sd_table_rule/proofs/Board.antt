@@ -1,13 +1,12 @@
 -- A word that changes, seen through the functions.
-use Rattle.std.proofs.Common.{◌≡◌, ◌≢◌, ◌⊎◌, ℕ, zero, suc, ◌+◌, ◌*◌, ◌<◌, ◌≤◌, Bool, true, false, List, [], length, set, get_or, refl, sym, ap, ◌∙◌, subst, ⊎_elim, arith}
-use Rattle.std.specs.Prelude.{slice_index, nat_lt, if◌then◌else◌}
+use Rattle.std.proofs.Common.{◌≡◌, ◌≢◌, ◌⊎◌, ℕ, ◌+◌, ◌*◌, ◌<◌, ◌≤◌, List, length, set, refl, sym, ⊎_elim, arith}
+use Rattle.std.specs.Prelude.{slice_index}
 use Rattle.std.proofs.lemmas.Bool.{cases_eq}
 use Rattle.std.proofs.lemmas.Bool.Decides.{nat_tests}
 use Rattle.std.proofs.lemmas.List.{get_or-set_same, get_or-set_other}
 use Rattle.sd_types.specs.declared.works.Work.{Work}
 use Rattle.sd_table_rule.specs.Places.{home_count}
 use Rattle.sd_table_rule.specs.Words.{hint_at, lock_of, put, thread_count, thread_word, tick_of, tick_word, word_count, word_of}
-use Rattle.sd_table_rule.proofs.Lists.{put_here, put_else}
 
 module _ (w : Work) (ws : List ℕ) where
   pub lock_is : (k : ℕ) → k < home_count w → lock_of w ws k ≡ slice_index ws k

@@ -1,14 +1,11 @@
 -- What the rule takes of homes and events: in every run, by the laws of the machine.
-use Rattle.std.proofs.Common.{◌≡◌, ◌≢◌, ◌⊎◌, ℕ, zero, suc, ◌+◌, ◌<◌, ◌≤◌, Bool, true, false, List, [], ◌∷◌, ◌++◌, length, Option, Some, None, refl, sym, ap, ◌∙◌, subst, inl, inr, ⊎_elim, arith, length-append}
+use Rattle.std.proofs.Common.{◌≡◌, ◌≢◌, ◌⊎◌, ℕ, ◌+◌, ◌<◌, ◌≤◌, Bool, true, false, List, [], ◌∷◌, ◌++◌, length, Some, refl, sym, ap, ◌∙◌, subst, inl, inr, ⊎_elim, arith, length-append}
 use Rattle.std.specs.Prelude.{◌&&◌, ◌==◌, if◌then◌else◌}
-use Rattle.std.proofs.Math.Nat.{le-add_right}
 use Rattle.std.proofs.lemmas.Bool.{cases_eq}
 use Rattle.sd_types.specs.declared.numbers.CpuId.{CpuId}
 use Rattle.sd_types.specs.declared.numbers.HomeId.{HomeId}
 use Rattle.sd_types.specs.declared.numbers.HomeId.TheVariants as id
 use Rattle.sd_types.specs.declared.events.Entry.{Entry}
-use Rattle.sd_types.specs.declared.events.Event.{Event}
-use Rattle.sd_types.specs.declared.events.Hints.{Hints}
 use Rattle.sd_types.specs.declared.works.Work.{Work}
 use Rattle.sd_types.specs.Events.{ticks}
 use Rattle.sd_machine.specs.declared.states.State.{State}
@@ -18,7 +15,7 @@ use Rattle.sd_machine.specs.States.{cpu_of, thread_of}
 use Rattle.sd_full.specs.Events.{after, next}
 use Rattle.sd_full.specs.Runs.{IsReached, IsRun, final}
 use Rattle.sd_full.proofs.RunLemmas.{IsRun-from, IsRunFrom-front, final-push, from-IsRun, last_number, last_step}
-use Rattle.sd_full.proofs.ShapeLemmas.{IsShaped, after_shape}
+use Rattle.sd_full.proofs.ShapeLemmas.{after_shape}
 use Rattle.sd_sound.proofs.Whole.{fit_reached, reached_whole}
 use Rattle.sd_ticks.proofs.Counts.{rise_law}
 use Rattle.sd_store.specs.declared.parts.Part.{Part}
@@ -31,13 +28,11 @@ use Rattle.sd_homes.specs.declared.home.Home.{Home}
 use Rattle.sd_homes.specs.Families.{home_id}
 use Rattle.sd_hand.specs.Shown.{IsHome}
 use Rattle.sd_footprint.specs.Changed.{ChangesOnly, HasHome, IsNamed, MovesWithin, SameActor}
-use Rattle.sd_footprint.specs.Homes.{home_in}
 use Rattle.sd_footprint.proofs.RanLast.{reached_changes}
 use Rattle.sd_footprint.proofs.ThereLemmas.{known_reached, stands_there}
 use Rattle.sd_footprint.proofs.TouchedThere.{parts_there}
 use Rattle.sd_world.specs.Frames.{IsElsewhere}
-use Rattle.sd_world.specs.Homes.{IsNumber, how_many, index_of}
-use Rattle.sd_world.specs.Worlds.{Begins}
+use Rattle.sd_world.specs.Homes.{IsNumber, index_of}
 use Rattle.sd_world.proofs.NumberLemmas.{index_below}
 use Rattle.sd_world.proofs.OtherHomes.{other_home}
 use Rattle.sd_table_rule.specs.Places.{Stands, Touches, home_count, now, place_home, sizes}

@@ -1,45 +1,38 @@
 -- The step of a commit.
-use Rattle.std.proofs.Common.{◌≡◌, ◌≢◌, ◌⊎◌, ℕ, zero, suc, ◌+◌, ◌*◌, ◌%◌, ◌^◌, ◌<◌, ◌≤◌, Bool, true, false, eqb, cond, List, [], ◌∷◌, ◌++◌, length, set, get_or, filter, Option, Some, None, refl, sym, ap, ◌∙◌, subst, inl, inr, ⊎_elim, arith, length-set, length-append}
-use Rattle.std.specs.Prelude.{slice_index, slice_set, nat_lt, nat_le, not, ◌&&◌, ◌||◌, ◌==◌, if◌then◌else◌}
-use Rattle.std.specs.List.{list_all, range_with_len}
+use Rattle.std.proofs.Common.{◌≡◌, ◌≢◌, ◌⊎◌, ℕ, zero, suc, ◌+◌, ◌*◌, ◌%◌, ◌^◌, ◌<◌, ◌≤◌, Bool, true, false, List, [], ◌∷◌, ◌++◌, length, set, filter, Option, Some, refl, sym, ap, ◌∙◌, subst, inl, inr, ⊎_elim, arith, length-set, length-append}
+use Rattle.std.specs.Prelude.{not, ◌&&◌, ◌||◌, ◌==◌}
+use Rattle.std.specs.List.{range_with_len}
 use Rattle.std.proofs.lemmas.Bool.{cases_eq, false≢true}
 use Rattle.std.proofs.lemmas.Bool.Decides.{nat_tests}
 use Rattle.std.proofs.Math.Nat.{mod-eq_of_lt}
 use mathlib.Core.Option as M
 use lib.ListN.{get_elem?}
-use Rattle.atomic_table.specs.Table.{State as TableState, Step, step, Me, Act, keeps, Allows}
-use Rattle.sd_types.specs.Events.{ticks}
+use Rattle.atomic_table.specs.Table.{step, Me, keeps, Allows}
 use Rattle.sd_types.specs.Partitions.{cpu_of_number}
-use Rattle.sd_types.specs.declared.numbers.CpuId.{CpuId}
 use Rattle.sd_types.specs.declared.events.Event.{Event}
 use Rattle.sd_types.specs.declared.events.Hints.{Hints}
 use Rattle.sd_types.specs.declared.events.Entry.{Entry}
 use Rattle.sd_types.specs.declared.works.Work.{Work}
-use Rattle.sd_machine.specs.declared.states.CpuState.{CpuState}
 use Rattle.sd_machine.specs.declared.states.State.{State}
-use Rattle.sd_machine.specs.States.{cpu_of, no_cpu}
+use Rattle.sd_machine.specs.States.{cpu_of}
 use Rattle.sd_machine.specs.Opening.{opening}
-use Rattle.sd_full.specs.Events.{next, reads, hints_fit, wish, may_tick, allowed}
+use Rattle.sd_full.specs.Events.{next}
 use Rattle.sd_full.specs.Runs.{IsRun}
-use Rattle.sd_full.specs.Shapes.{FitsFully}
-use Rattle.sd_full.proofs.RunLemmas.{IsRunFrom-push, IsRun-from, from-IsRun, final_fits}
-use Rattle.sd_full.proofs.OpeningLemmas.{opening_fits}
-use Rattle.sd_homes.specs.declared.home.Home.{Home}
-use Rattle.sd_table_rule.specs.declared.views.Count.{Count}
+use Rattle.sd_full.proofs.RunLemmas.{IsRunFrom-push, IsRun-from, from-IsRun}
 use Rattle.sd_table_rule.specs.declared.views.Desk.{Desk}
 use Rattle.sd_table_rule.specs.declared.views.View.{View}
-use Rattle.sd_table_rule.specs.declared.views.View.TheVariants.{Maker, Works, Gathers, Spent}
-use Rattle.sd_table_rule.specs.Ledgers.{Named, Since, by, most}
-use Rattle.sd_table_rule.specs.Places.{Stands, Touches, holds, home_count, moved, now, place_home}
-use Rattle.sd_table_rule.specs.Rule.{Ledger, AtHome, Desked, Gathered, Knows, Story, Kept}
-use Rattle.sd_table_rule.specs.Plays.{Committed, HintsNoted, MayCommit, Sees, Slot, committing, entry_as}
-use Rattle.sd_table_rule.specs.Words.{hint_at, lock_of, put, tick_of, word_count, word_of}
-use Rattle.sd_table_rule.proofs.Bridge.{frame, moves, place_in, rises}
+use Rattle.sd_table_rule.specs.declared.views.View.TheVariants.{Works}
+use Rattle.sd_table_rule.specs.Ledgers.{Named, by, most}
+use Rattle.sd_table_rule.specs.Places.{Touches, holds, home_count, moved, now, place_home}
+use Rattle.sd_table_rule.specs.Rule.{Ledger, AtHome, Desked, Knows, Kept}
+use Rattle.sd_table_rule.specs.Plays.{Committed, MayCommit, Sees, Slot, committing, entry_as}
+use Rattle.sd_table_rule.specs.Words.{lock_of, word_of}
+use Rattle.sd_table_rule.proofs.Bridge.{frame, moves, rises}
 use Rattle.sd_table_rule.proofs.Lists.{put_here, put_else, by_mine, by_else}
 use Rattle.sd_table_rule.proofs.Words as W
 use Rattle.sd_table_rule.proofs.Board.{hint_kept, lock_kept, stamp_set, tick_else, word_kept}
 use Rattle.sd_table_rule.proofs.Since.{since_same}
-use Rattle.sd_table_rule.proofs.Length.{run_bound, next_cpu}
+use Rattle.sd_table_rule.proofs.Length.{run_bound}
 use Rattle.sd_table_rule.proofs.Seats.{entry_else, seats, with_entry}
 use Rattle.sd_table_rule.proofs.Steps.{TS, desk_at, other_cpu, held_lock, sees}
 

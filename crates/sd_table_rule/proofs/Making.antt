@@ -3,11 +3,10 @@ use Rattle.std.proofs.Common.{◌≡◌, ◌≢◌, ◌⊎◌, ℕ, zero, suc, �
 use Rattle.std.specs.Prelude.{slice_index, slice_index_or}
 use Rattle.std.proofs.lemmas.Bool.{cases_eq, false≢true}
 use Rattle.std.proofs.lemmas.Bool.Decides.{nat_tests}
-use Rattle.std.proofs.lemmas.List.{take_more, take-append-drop}
 use mathlib.Core.Option as M
 use lib.ListN.{get_elem?}
 use Rattle.atomic_table.specs.Table.{State as TableState, Splits, Joins, Enters, Final, Seen}
-use Rattle.atomic_table.proofs.Lists.{at_set, set_else}
+use Rattle.atomic_table.proofs.Lists.{at_set}
 use Rattle.sd_types.specs.declared.events.Entry.{Entry}
 use Rattle.sd_types.specs.declared.works.Work.{Work}
 use Rattle.sd_machine.specs.States.{cpu_of}
@@ -15,20 +14,18 @@ use Rattle.sd_machine.specs.Opening.{opening}
 use Rattle.sd_full.specs.Runs.{IsRun}
 use Rattle.sd_full.proofs.RunLemmas.{IsRun-nil, IsRunFrom-front, IsRun-from, from-IsRun}
 use Rattle.sd_homes.specs.declared.home.Home.{Home}
-use Rattle.sd_table_rule.specs.declared.views.Count.{Count}
 use Rattle.sd_table_rule.specs.declared.views.Desk.{Desk}
 use Rattle.sd_table_rule.specs.declared.views.View.{View}
 use Rattle.sd_table_rule.specs.declared.views.View.TheVariants.{Maker, Works, Gathers, Spent}
-use Rattle.sd_table_rule.specs.Ledgers.{Named, NamedBy, Since, by, most}
-use Rattle.sd_table_rule.specs.Places.{Apart, Stands, holds, home_count, now, place_home}
-use Rattle.sd_table_rule.specs.Rule.{Ledger, AtHome, Desked, Gathered, Knows, Story, Kept}
+use Rattle.sd_table_rule.specs.Ledgers.{NamedBy, Since, by, most}
+use Rattle.sd_table_rule.specs.Places.{Stands, holds, home_count, now, place_home}
+use Rattle.sd_table_rule.specs.Rule.{Ledger, AtHome, Desked, Gathered, Knows, Kept}
 use Rattle.sd_table_rule.specs.Plays.{Slot, new_desk}
 use Rattle.sd_table_rule.specs.Words.{hint_at, lock_of, put, tick_of, word_count, word_of}
 use Rattle.sd_table_rule.proofs.Bridge.{place_in}
-use Rattle.sd_table_rule.proofs.Lists.{put_here, put_else, holds-nil, by-nil, by_mine, by_else}
+use Rattle.sd_table_rule.proofs.Lists.{put_here, put_else, holds-nil, by-nil}
 use Rattle.sd_table_rule.proofs.Since.{since_same, since_fewer, since_other}
 use Rattle.sd_table_rule.proofs.Seats.{seats}
-use Rattle.sd_table_rule.proofs.Steps.{TS}
 
 cons_ne : {A : Type 0} (x : A) (xs : List A) → x ∷ xs ≡ [] → ⊥
 cons_ne x xs e = absurd (cc)

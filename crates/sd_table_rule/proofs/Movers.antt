@@ -1,5 +1,5 @@
 -- An event moves no thread from one home to another but its mover.
-use Rattle.std.proofs.Common.{◌≡◌, ◌≢◌, ◌⊎◌, ℕ, Bool, true, false, Option, Some, None, refl, sym, ap, ◌∙◌, subst, inl, inr, ⊎_elim, List, [], ◌∷◌, ◌++◌, length}
+use Rattle.std.proofs.Common.{◌≡◌, ◌≢◌, ℕ, Bool, true, false, Option, Some, None, refl, sym, ap, ◌∙◌, subst, ⊎_elim, List, [], ◌∷◌, ◌++◌, length}
 use Rattle.std.specs.Prelude.{◌==◌, if◌then◌else◌}
 use Rattle.std.proofs.lemmas.Bool.{eqb-true}
 use Rattle.sd_types.specs.declared.numbers.CpuId.{CpuId}
@@ -8,7 +8,7 @@ use Rattle.sd_types.specs.declared.events.BindAnswer.{BindAnswer}
 use Rattle.sd_types.specs.declared.events.BindAnswer.TheVariants as bind_answer
 use Rattle.sd_types.specs.declared.events.Entry.{Entry}
 use Rattle.sd_types.specs.declared.events.Event.{Event}
-use Rattle.sd_types.specs.declared.events.Event.TheVariants.{Tick, Spin, Idle, Dispatch, Steal, Preempt, Away, Yield, Done, Nap, Napend, Sleep, Wake, Wakeall, Rouse, Enter, Read, Write, Block, Will, End, Exit, Unblock, Grant, Passed, Age, Prio, CvWait, SemaP, SemaWait, SemaVWake, SemaVCount, Assign, Move, Joined, Bind}
+use Rattle.sd_types.specs.declared.events.Event.TheVariants.{Dispatch, Steal, Preempt, Away, Yield, Done, Nap, Napend, Sleep, Wake, Rouse, Block, Will, Unblock, Grant, Age, Prio, CvWait, SemaWait, SemaVWake, Move, Bind}
 use Rattle.sd_types.specs.declared.events.Hints.{Hints}
 use Rattle.sd_types.specs.declared.events.PrioAnswer.{PrioAnswer}
 use Rattle.sd_types.specs.declared.events.PrioAnswer.TheVariants.{Changed, Refused}
@@ -19,7 +19,6 @@ use Rattle.sd_chains.proofs.Moves.{put_cases}
 use Rattle.sd_machine.specs.declared.states.Place.{Place}
 use Rattle.sd_machine.specs.declared.states.Place.TheVariants as place
 use Rattle.sd_machine.specs.declared.states.State.{State}
-use Rattle.sd_machine.specs.declared.states.ThreadState.{ThreadState}
 use Rattle.sd_machine.specs.States.{thread_of}
 use Rattle.sd_full.specs.Bodies.{aged_class}
 use Rattle.sd_full.specs.Changes.{back_key}
@@ -28,12 +27,12 @@ use Rattle.sd_full.specs.Runs.{IsReached, IsRun}
 use Rattle.sd_full.specs.Threads.{eff_of}
 use Rattle.sd_sound.specs.Moves.{Step, aged_step, bind_step, prio_step, put_step_if, reordered_step, step_of, woken_step}
 use Rattle.sd_sound.proofs.Movers.{mover_there}
-use Rattle.sd_sound.proofs.PlaceTable.{Stepped, after_steps, place_part, step_needs}
+use Rattle.sd_sound.proofs.PlaceTable.{Stepped, after_steps, step_needs}
 use Rattle.sd_sound.proofs.Ready.{reached_ready, ready_cause}
 use Rattle.sd_range.proofs.Lasts.{brings, others_last}
 use Rattle.sd_shown.specs.Standing.{home_of, home_of_place}
 use Rattle.sd_world.specs.Homes.{index_of}
-use Rattle.sd_table_rule.specs.Movers.{IsMover, mover}
+use Rattle.sd_table_rule.specs.Movers.{IsMover}
 use Rattle.sd_table_rule.specs.Places.{now, place_home, sizes}
 use Rattle.sd_table_rule.proofs.Bridge.{now_push, reached, run_before, step_of as makes_of}
 

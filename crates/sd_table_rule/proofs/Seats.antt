@@ -1,22 +1,20 @@
 -- The other seats, when one of them steps.
-use Rattle.std.proofs.Common.{◌≡◌, ◌≢◌, ◌⊎◌, ℕ, zero, suc, ◌+◌, ◌<◌, ◌≤◌, Bool, true, false, eqb, List, [], ◌∷◌, ◌++◌, length, set, Option, Some, None, refl, sym, ap, ◌∙◌, subst, inl, inr, ⊎_elim, arith}
+use Rattle.std.proofs.Common.{◌≡◌, ◌≢◌, ℕ, suc, ◌<◌, true, false, eqb, List, [], ◌∷◌, ◌++◌, set, refl, sym, ap, ◌∙◌, subst, ⊎_elim, arith}
 use Rattle.std.specs.Prelude.{slice_index_or}
 use Rattle.std.proofs.lemmas.Bool.{cases_eq, false≢true}
 use Rattle.std.proofs.lemmas.Bool.Decides.{nat_tests}
 use mathlib.Core.Option as M
 use lib.ListN.{get_elem?}
-use Rattle.atomic_table.proofs.Lists.{at_set, at_snoc}
+use Rattle.atomic_table.proofs.Lists.{at_set}
 use Rattle.sd_types.specs.declared.events.Entry.{Entry}
 use Rattle.sd_types.specs.declared.works.Work.{Work}
 use Rattle.sd_full.specs.Runs.{IsRun}
-use Rattle.sd_table_rule.specs.declared.views.Count.{Count}
 use Rattle.sd_table_rule.specs.declared.views.Desk.{Desk}
 use Rattle.sd_table_rule.specs.declared.views.View.{View}
 use Rattle.sd_table_rule.specs.declared.views.View.TheVariants.{Maker, Works, Gathers, Spent}
-use Rattle.sd_table_rule.specs.Ledgers.{Since, by}
-use Rattle.sd_table_rule.specs.Places.{Apart, Touches, holds, home_count, now, without}
+use Rattle.sd_table_rule.specs.Places.{Touches, home_count, now}
 use Rattle.sd_table_rule.specs.Words.{put}
-use Rattle.sd_table_rule.specs.Rule.{Ledger, Desked, Gathered, Knows}
+use Rattle.sd_table_rule.specs.Rule.{Ledger, Desked, Knows}
 use Rattle.sd_table_rule.proofs.Bridge.{rises}
 use Rattle.sd_table_rule.proofs.Lists.{put_here, put_else, holds-nil}
 use Rattle.sd_table_rule.proofs.Since.{since_other}

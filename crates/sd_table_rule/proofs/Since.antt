@@ -1,18 +1,16 @@
 -- What a processor knows, when the history grows.
-use Rattle.std.proofs.Common.{◌≡◌, ◌≢◌, ◌⊎◌, ℕ, zero, suc, ◌+◌, ◌<◌, ◌≤◌, Bool, true, false, List, [], ◌∷◌, ◌++◌, length, refl, sym, ap, ◌∙◌, subst, ⊎_elim, arith, append_assoc, append-nil}
-use Rattle.std.proofs.lemmas.Bool.{cases_eq, false≢true}
+use Rattle.std.proofs.Common.{◌≡◌, ◌≢◌, ℕ, ◌≤◌, true, List, [], ◌∷◌, ◌++◌, refl, sym, ap, ◌∙◌, subst, arith, append_assoc, append-nil}
 use Rattle.sd_types.specs.declared.events.Entry.{Entry}
 use Rattle.sd_types.specs.declared.works.Work.{Work}
 use Rattle.sd_machine.specs.Opening.{opening}
 use Rattle.sd_full.specs.Runs.{IsRun}
 use Rattle.sd_full.proofs.RunLemmas.{IsRun-from, IsRunFrom-front, from-IsRun}
-use Rattle.sd_homes.specs.declared.home.Home.{Home}
 use Rattle.sd_machine.specs.States.{cpu_of}
 use Rattle.sd_world.specs.Worlds.{Begins}
-use Rattle.sd_table_rule.specs.Ledgers.{Since, by}
-use Rattle.sd_table_rule.specs.Places.{Stands, Touches, holds, now}
-use Rattle.sd_table_rule.proofs.Bridge.{frame, others, rises, run_before}
-use Rattle.sd_table_rule.proofs.Lists.{by_else, holds_here, holds_cons}
+use Rattle.sd_table_rule.specs.Ledgers.{Since}
+use Rattle.sd_table_rule.specs.Places.{Touches, holds, now}
+use Rattle.sd_table_rule.proofs.Bridge.{frame, others, rises}
+use Rattle.sd_table_rule.proofs.Lists.{by_else}
 
 pub begins_same : (h : List Entry) → Begins h h
 begins_same h = ([], sym (append-nil h))

@@ -1,5 +1,5 @@
 -- Each kind of step keeps the rule: all but the commit.
-use Rattle.std.proofs.Common.{◌≡◌, ◌≢◌, ◌⊎◌, ℕ, zero, suc, ◌+◌, ◌*◌, ◌%◌, ◌^◌, ◌<◌, ◌≤◌, Bool, true, false, eqb, List, [], ◌∷◌, ◌++◌, length, set, get_or, Option, Some, None, refl, sym, ap, ◌∙◌, subst, inl, inr, ⊎_elim, arith, length-set}
+use Rattle.std.proofs.Common.{◌≡◌, ◌≢◌, ℕ, zero, suc, ◌+◌, ◌*◌, ◌^◌, ◌<◌, ◌≤◌, true, false, eqb, List, [], ◌∷◌, set, Some, refl, sym, ap, ◌∙◌, subst, inl, inr, ⊎_elim, arith, length-set}
 use Rattle.std.specs.Prelude.{slice_index, slice_set}
 use Rattle.std.proofs.lemmas.Bool.{cases_eq, false≢true}
 use Rattle.std.proofs.lemmas.Bool.Decides.{nat_tests}
@@ -8,24 +8,24 @@ use mathlib.Core.Option as M
 use lib.ListN.{get_elem?}
 use prog.Atomic.{either}
 use Rattle.atomic_table.specs.Table.{State as TableState, Step, step, Me, Act, keeps, takes, gives, Allows, rest}
-use Rattle.atomic_table.proofs.Lists.{set_here, set_else, set_again}
+use Rattle.atomic_table.proofs.Lists.{set_here, set_else}
 use Rattle.sd_types.specs.declared.events.Which.{Which}
 use Rattle.sd_types.specs.declared.events.Which.TheVariants.{Running, Queued}
 use Rattle.sd_types.specs.declared.events.Entry.{Entry}
 use Rattle.sd_types.specs.declared.works.Work.{Work}
 use Rattle.sd_machine.specs.States.{cpu_of}
-use Rattle.sd_full.specs.Runs.{IsRun}
 use Rattle.sd_homes.specs.declared.home.Home.{Home}
 use Rattle.sd_table_rule.specs.declared.views.Count.{Count}
 use Rattle.sd_table_rule.specs.declared.views.Note.{Note}
 use Rattle.sd_table_rule.specs.declared.views.Desk.{Desk}
+use Rattle.sd_table_rule.specs.declared.views.Written.{Written}
 use Rattle.sd_table_rule.specs.declared.views.View.{View}
-use Rattle.sd_table_rule.specs.declared.views.View.TheVariants.{Maker, Works, Gathers, Spent}
-use Rattle.sd_table_rule.specs.Ledgers.{Named, Since, by}
-use Rattle.sd_table_rule.specs.Places.{Apart, Stands, holds, home_count, now, place_home, without}
-use Rattle.sd_table_rule.specs.Rule.{Ledger, AtHome, Desked, Gathered, Knows, Story, Kept}
-use Rattle.sd_table_rule.specs.Plays.{Counted, Gave, Hinted, Looked, Published, Sees, Slot, Took, Wrote, desk_of, giving, hinted, looking, missing, naming, noting, seeing, taking}
-use Rattle.sd_table_rule.specs.Words.{hint_at, hint_word, lock_of, put, thread_count, thread_word, tick_of, tick_word, which_word, word_count, word_of}
+use Rattle.sd_table_rule.specs.declared.views.View.TheVariants.{Works}
+use Rattle.sd_table_rule.specs.Ledgers.{Named}
+use Rattle.sd_table_rule.specs.Places.{Stands, holds, home_count, now, place_home, without}
+use Rattle.sd_table_rule.specs.Rule.{Ledger, AtHome, Desked, Knows, Story, Kept}
+use Rattle.sd_table_rule.specs.Plays.{Counted, Gave, Hinted, Looked, Published, Sees, Slot, Took, Wrote, giving, hinted, looking, missing, naming, noting, seeing, taking, writing}
+use Rattle.sd_table_rule.specs.Words.{hint_at, hint_word, lock_of, put, thread_count, thread_word, tick_of, tick_word, which_word, word_of}
 use Rattle.sd_table_rule.proofs.Bridge.{count_within}
 use Rattle.sd_table_rule.proofs.Lists.{apart-without, holds-cons_else, holds-without_else, holds-without_same, holds_from_without, holds_here, put_else, put_here}
 use Rattle.sd_table_rule.proofs.Words as W
@@ -111,6 +111,19 @@ module _ (w : Work) where
     apart = x.apart;
     stray = x.stray;
     counts = x.counts;
+  }
+
+  word_noted : (l : Ledger) (lock : ℕ → ℕ) (id : ℕ) (x : Written) (d : Desk) → Desked w l lock id d → Desked w l lock id (writing d x)
+  word_noted l lock id x d is = record {
+    made = is.made;
+    seat = is.seat;
+    here = is.here;
+    since = is.since;
+    held = is.held;
+    inside = is.inside;
+    apart = is.apart;
+    stray = is.stray;
+    counts = is.counts;
   }
 
   look_noted : (l : Ledger) (lock : ℕ → ℕ) (id n : ℕ) (d : Desk) → Desked w l lock id d → Desked w l lock id (looking d n)
@@ -446,19 +459,22 @@ module _ (w : Work) where
       let r = published s kept id t d at i (ap (λ x. holds x d.held) p.0 ∙ p.1) in
       (Works (naming d t), keeps, tt, subst (λ x. Kept w (record { words = set s.words (thread_word w t) x; homes = s.homes; views = set s.views id (Works (naming d t)) })) p.0 r, refl))
 
-  -- a seat that writes keeps its view
-  same_view : (s : TS) (id : ℕ) (v : View) → get_elem? s.views id ≡ M.some v → set s.views id v ≡ s.views
-  same_view s id v at = set_again s.views id v at
+  -- a word that neither the story nor the homes are about was written, and noted
+  wrote : (s : TS) (id i x : ℕ) (d : Desk) → get_elem? s.views id ≡ M.some (Works d) → Kept w (record { words = set s.words i x; homes = s.homes; views = s.views })
+      → Kept w (record { words = set s.words i x; homes = s.homes; views = set s.views id (Works (writing d (record { word = i; number = x }))) })
+  wrote s id i x d at kept =
+      let z : TS = record { words = set s.words i x; homes = s.homes; views = s.views } in
+      notes z kept id (writing d (record { word = i; number = x })) (word_noted kept.ledger (lock_of w z.words) id (record { word = i; number = x }) d (desk_at z kept id d at))
 
   pub writes_hint : (slots id : ℕ) (me : Me Slot View) (d : Desk) (bs : List (ℕ × Slot)) (c : ℕ) (which : Which) (x : ℕ) → me ≡ (Works d, bs) → c < w.cpus → x < 2 ^ 8 → (n : ℕ)
       → Allows (Kept w) slots id me (hint_word w c which) (λ _. x) (λ _. Wrote w (step slots (hint_word w c which) x 0 M.none) me n)
   writes_hint slots id me d bs c which x is inside fits n =
       subst (λ m. Allows (Kept w) slots id m (hint_word w c which) (λ _. x) (λ _. Wrote w (step slots (hint_word w c which) x 0 M.none) m n)) (sym is)
       (λ s kept deep at small. (
-        Works d,
+        Works (writing d (record { word = hint_word w c which; number = x })),
         keeps,
         tt,
-        subst (λ vs. Kept w (record { words = set s.words (hint_word w c which) x; homes = s.homes; views = vs })) (sym (same_view s id (Works d) at))
+        wrote s id (hint_word w c which) x d at
             (others s kept (hint_word w c which) x (omega arith)
             (λ e. subst (λ m. m ≤ (cpu_of (now w kept.ledger.history) e).count) (sym (tick_else w s.words kept.wide (hint_word w c which) x e (λ q. (let z = at_which in omega (arith, z, q))))) (kept.ticks e))
             (λ j. subst (λ f. f j < 2 ^ 8) (sym (hints_set s kept)) (small_put j (hint_at w s.words) (kept.small j)))),
@@ -485,10 +501,10 @@ module _ (w : Work) where
   writes_tick slots id me d bs x is i own n =
       subst (λ m. Allows (Kept w) slots id m (tick_word w d.cpu) (λ _. x) (λ _. Wrote w (step slots (tick_word w d.cpu) x 0 M.none) m n)) (sym is)
       (λ s kept deep at small. (
-        Works d,
+        Works (writing d (record { word = tick_word w d.cpu; number = x })),
         keeps,
         tt,
-        subst (λ vs. Kept w (record { words = set s.words (tick_word w d.cpu) x; homes = s.homes; views = vs })) (sym (same_view s id (Works d) at))
+        wrote s id (tick_word w d.cpu) x d at
             (others s kept (tick_word w d.cpu) x (omega arith) (λ c. ⊎_elim
             (λ (e : c ≡ d.cpu). subst (λ y. tick_of w (set s.words (tick_word w d.cpu) x) y ≤ (cpu_of (now w kept.ledger.history) y).count) (sym e)
             (let q = tick_set w s.words kept.wide d.cpu x i in let r = (desk_at s kept id d at).since.count in omega (arith, q, r, own)))

@@ -1,9 +1,7 @@
 -- What each kind of step does to the view of the seat that steps, and what it tells.
 -- Source: this project's own.
-use Rattle.std.specs.Prelude.{◌≡◌, ◌≢◌, ℕ, zero, suc, ◌+◌, ◌^◌, ◌<◌, ◌≤◌, ◌&&◌, ◌==◌, Bool, true, false, List, [], ◌∷◌, ◌++◌, length, Option, Some, None, ⊤}
+use Rattle.std.specs.Prelude.{◌≡◌, ◌≢◌, ℕ, ◌+◌, ◌^◌, ◌<◌, ◌≤◌, ◌&&◌, ◌==◌, Bool, true, List, [], ◌∷◌, ◌++◌, length, Option, Some, None, ⊤}
 use Rattle.std.specs.List.{list_any}
-use mathlib.Core.Option as M
-use lib.ListN.{get_elem?}
 use Rattle.atomic_table.specs.Table.{Step, Me, rest}
 use Rattle.sd_types.specs.declared.numbers.CpuId.{CpuId}
 use Rattle.sd_types.specs.declared.events.Which.{Which}
@@ -19,9 +17,10 @@ use Rattle.sd_full.specs.Events.{next, reads}
 use Rattle.sd_homes.specs.declared.home.Home.{Home}
 use Rattle.sd_table_rule.specs.declared.views.Count.{Count}
 use Rattle.sd_table_rule.specs.declared.views.Note.{Note}
+use Rattle.sd_table_rule.specs.declared.views.Written.{Written}
 use Rattle.sd_table_rule.specs.declared.views.Desk.{Desk}
 use Rattle.sd_table_rule.specs.declared.views.View.{View}
-use Rattle.sd_table_rule.specs.declared.views.View.TheVariants.{Maker, Works, Gathers, Spent}
+use Rattle.sd_table_rule.specs.declared.views.View.TheVariants.{Works}
 use Rattle.sd_table_rule.specs.Ledgers.{Since}
 use Rattle.sd_table_rule.specs.Places.{Stands, Touches, holds, home_count, moved, now, place_home, without}
 use Rattle.sd_table_rule.specs.Words.{which_word}
@@ -32,7 +31,7 @@ Slot = Option Home
 -- Views.
 
 abbrev pub new_desk : ℕ → Desk
-new_desk c = record { cpu = c; held = []; seen = []; stray = []; counts = []; hints = []; looked = []; fails = 0; last = 0 }
+new_desk c = record { cpu = c; held = []; seen = []; stray = []; counts = []; hints = []; looked = []; fails = 0; last = 0; written = [] }
 
 abbrev pub desk_of : View → Desk
 desk_of (Works d) = d
@@ -60,19 +59,23 @@ hinted d x = record d { hints = x ∷ d.hints }
 abbrev pub looking : Desk → ℕ → Desk
 looking d n = record d { looked = n ∷ d.looked }
 
+abbrev pub writing : Desk → Written → Desk
+writing d x = record d { written = x ∷ d.written }
+
 abbrev pub naming : Desk → ℕ → Desk
 naming d t = record d { stray = without t d.stray }
 
 abbrev pub entry_as : ℕ → ℕ → Event → Option Hints → Entry
 entry_as n c e hints = record { number = n; cpu = cpu_of_number c; event = e; hints = hints }
 
--- after an entry each thread that has moved is a stray, beside those that were, and no hint is noted
+-- after an entry each thread that has moved is a stray, beside those that were; no hint is noted, and nothing has been written
 abbrev pub committing : Work → Desk → List Entry → Event → Option Hints → Desk
 committing w d h e hints =
     record d {
       seen = h ++ entry_as (length h) d.cpu e hints ∷ [];
       stray = moved w (now w h) (now w (h ++ entry_as (length h) d.cpu e hints ∷ [])) ++ d.stray;
       hints = [];
+      written = [];
     }
 
 -- the history so far was seen
@@ -98,6 +101,10 @@ AllNoted notes which _ _ = ⊥
 abbrev pub HintsNoted : Work → State → Desk → Option Hints → Type 0
 HintsNoted w s d None = ⊤
 HintsNoted w s d (Some hs) = (cpus : List CpuId) × (reads w s d.cpu ≡ Some (hs.which, cpus)) × AllNoted d.hints hs.which cpus hs.numbers.items
+
+-- the number was written into the word since the last entry
+unfoldable pub is_written : List Written → ℕ → ℕ → Bool
+is_written xs i n = list_any (λ x. (x.word == i) && (x.number == n)) xs
 
 -- What each kind of step tells: of the word that was found, and of the seat after it.
 
@@ -135,7 +142,7 @@ Counted w c st m n m' =
 
 -- a hint or the own ticks were written
 abbrev pub Wrote : Work → Step Slot → Me Slot View → ℕ → Me Slot View → Type 0
-Wrote w st m n m' = m' ≡ m
+Wrote w st m n m' = m' ≡ (Works (writing (desk_of m.0) (record { word = st.word; number = st.first })), m.1)
 
 -- the number of an entry was drawn from the stamp: the entry is a step of the run so far, with hints that were noted
 abbrev pub Committed : Work → Event → Option Hints → Step Slot → Me Slot View → ℕ → Me Slot View → Type 0

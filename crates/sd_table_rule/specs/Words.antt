@@ -1,7 +1,7 @@
 -- The words of the table, and what each of them says.
 -- Source: this project's own; that a dispatch queue has a lock of its own, and that a thread knows the lock of the queue on which it
 -- stands, is as in Solaris Internals (the thread lock).
-use Rattle.std.specs.Prelude.{◌≡◌, ℕ, ◌+◌, ◌*◌, List, length, ◌==◌, nat_lt, if◌then◌else◌, slice_index}
+use Rattle.std.specs.Prelude.{ℕ, ◌+◌, ◌*◌, List, length, ◌==◌, nat_lt, if◌then◌else◌, slice_index}
 use Rattle.sd_types.specs.declared.events.Which.{Which}
 use Rattle.sd_types.specs.declared.events.Which.TheVariants.{Running, Queued}
 use Rattle.sd_types.specs.declared.works.Work.{Work}

@@ -15,10 +15,17 @@ pub struct Note {
     pub number: u64,
 }
 
+/// A number that a processor wrote into a word in which others read it.
+pub struct Written {
+    pub word: u64,
+    pub number: u64,
+}
+
 /// What the seat of a processor knows: the indices of the homes that it holds, the one that it took last first; the entries of all
 /// processors so far, as it has seen them; the threads that its entries moved between its homes, and whose words it has not published since; the counts
-/// and the hints that it read, the last first; the homes that the words of threads named when it read them, the last first; and how
-/// often it failed to take a home, with the word that it found there last.
+/// and the hints that it read, the last first; the homes that the words of threads named when it read them, the last first; how often
+/// it failed to take a home, with the word that it found there last; and the numbers of hints and ticks that it wrote since its last entry,
+/// the last first.
 pub struct Desk {
     pub cpu: u64,
     pub held: List<u64>,
@@ -29,6 +36,7 @@ pub struct Desk {
     pub looked: List<u64>,
     pub fails: u64,
     pub last: u64,
+    pub written: List<Written>,
 }
 
 /// The seat from which those of the processors are cut, with the number of the next; a processor's; the one that gathers them, with

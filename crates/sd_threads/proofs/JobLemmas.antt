@@ -1,6 +1,7 @@
 -- Processors between two phases.
-use Rattle.std.proofs.Common.{◌≡◌, ℕ, zero, suc, ◌^◌, ◌<◌, ◌≤◌, List, [], ◌∷◌, ◌++◌, length, get_or, slice_get, Some, Result, Err, refl, sym, ap, ◌∙◌, subst, arith}
-use Rattle.std.specs.Prelude.{slice_index_or}
+use Rattle.std.proofs.Common.{◌≡◌, ℕ, zero, suc, ◌+◌, ◌^◌, ◌<◌, ◌≤◌, ◌⊎◌, Bool, true, false, inl, inr, length-append, Ok, List, [], ◌∷◌, ◌++◌, length, get_or, slice_get, Some, Result, Err, refl, sym, ap, ◌∙◌, subst, arith}
+use Rattle.std.specs.Prelude.{◌||◌, nat_lt, slice_index_or}
+use Rattle.std.proofs.lemmas.Bool.{cases_lt}
 use Rattle.std.proofs.lemmas.Bool.Decides.{nat_tests}
 use Rattle.std.proofs.lemmas.List.{get_or_default}
 use Rattle.atomic_table.specs.Seated.{TableId}
@@ -9,9 +10,12 @@ use Rattle.sd_types.specs.declared.events.Entry.{Entry}
 use Rattle.sd_types.specs.declared.events.Stop.{Stop}
 use Rattle.sd_types.specs.declared.events.Stop.TheVariants.{Full}
 use Rattle.sd_types.specs.declared.works.Work.{Work}
-use Rattle.sd_cpu.specs.Attempts.{IsEmpty, IsSameWorld, Refuses}
+use Rattle.sd_world.specs.Worlds.{Meaning, entry_of}
+use Rattle.sd_cpu.specs.Attempts.{IsEmpty, IsSameWorld, MakesOne, Refuses}
+use Rattle.sd_cpu.specs.declared.attempts.Turned.{Turned}
+use Rattle.sd_cpu.specs.declared.attempts.Turned.TheVariants.{Acted, Ticked, Behind, Finished}
 use Rattle.sd_phase.specs.declared.phases.Phased.{Phased}
-use Rattle.sd_phase.specs.Phases.{PhaseAnswers, Stops}
+use Rattle.sd_phase.specs.Phases.{ActsOften, Ends, PhaseAnswers, Stops}
 use Rattle.sd_table_rule.specs.Ledgers.{by}
 use Rattle.sd_table.specs.declared.seat.Seat.{Seat}
 use Rattle.sd_table.specs.Seats.{Fits, desk, id_of, work_of}
@@ -19,7 +23,8 @@ use Rattle.sd_table.specs.Whole.{AreSeats, IsSeatOf}
 use Rattle.sd_tlock.specs.declared.world.TableWorld.{TableWorld}
 use Rattle.sd_tlock.specs.Tables.{IsTable, world_meaning}
 use Rattle.sd_threads.specs.declared.jobs.Job.{Job}
-use Rattle.sd_threads.specs.Jobs.{AreJobs, HavePhased, IsFree, IsLongRun, WasStopped, seats_in}
+use Rattle.sd_rounds.specs.Rounds.{IsLongRun}
+use Rattle.sd_threads.specs.Jobs.{AllTell, AreJobs, HasRested, HavePhased, IsFree, MadeAsLogged, Tells, WasStopped, seats_in}
 
 -- ---- a phase of one processor
 by_short : (c : ℕ) (h : List Entry) → length (by c h) ≤ length h
@@ -32,6 +37,37 @@ long_by t w s f long =
     let short = by_short (desk s).cpu (desk s).seen in
     let many = ap length f.log in
     record { entries = (desk s).seen; run = f.run; long = omega (arith, short, many, long) }
+
+-- so many entries more
+one_more : (m m' : Meaning) (n : ℕ) (b : Bool) → MakesOne m m' n b → length m'.log ≡ length m.log + 1
+one_more m m' n b one = let e = ap length one.made.log in let many = length-append m.log (entry_of m n one.event one.hints ∷ []) in omega (arith, e, many)
+
+some_more : (k : ℕ) (m m' : Meaning) → ActsOften k m m' → length m'.log ≡ length m.log + k
+some_more zero m m' e = let same = ap (λ (x : Meaning). length x.log) e in omega (arith, same)
+some_more (suc k) m m' (between, n, acts, one) = let before = some_more k m between acts in let after = one_more between m' n false one in omega (arith, before, after)
+
+more_than : (n k : ℕ) → nat_lt 0 k ≡ nat_lt n (n + k)
+more_than n zero = grind (arith, nat_tests)
+more_than n (suc k) = grind (arith, nat_tests)
+
+less_is : (a b : ℕ) → a < b → true ≡ nat_lt a b
+less_is a b less = grind (arith, nat_tests)
+
+pub made_as_logged : (m m' : Meaning) (r : Result Phased Stop) → PhaseAnswers m m' r → MadeAsLogged (length m.log) (length m'.log) r
+made_as_logged m m' (Err stop) a = tt
+made_as_logged m m' (Ok p) a = ends p.made p.end a.stops
+  where
+    acted : length a.last.log ≡ length m.log + a.count
+    acted = some_more a.count m a.last a.acts
+
+    idle : (made : Bool) → m'.log ≡ a.last.log → made ≡ nat_lt 0 a.count → made ≡ nat_lt (length m.log) (length m'.log)
+    idle made same is = is ∙ (more_than (length m.log) a.count ∙ ap (nat_lt (length m.log)) (sym (ap length same ∙ acted)))
+
+    ends : (made : Bool) (t : Turned) → Ends a.last m' a.count made t → made ≡ nat_lt (length m.log) (length m'.log)
+    ends made (Acted n) is = absurd is
+    ends made (Ticked n) is = let one = one_more a.last m' n true is.0 in is.1 ∙ less_is (length m.log) (length m'.log) (omega (arith, one, acted))
+    ends made (Behind c n) is = idle made is.0.0.idles.log is.1
+    ends made Finished is = idle made is.0.0.idles.log is.1
 
 pub outcome_is : (a b : Result Phased Stop) → Some a ≡ Some b → a ≡ b
 outcome_is a b e = cc
@@ -67,6 +103,19 @@ module _ (t : TableId) (w : Work) (js js' : List Job) (many : length js' ≡ len
 
   pub long_of : WasStopped js' Full → IsLongRun w
   long_of was = (phased was.index was.job (let i = was.inside in let z : was.index < length js = omega (arith, i, many) in z)).full (ap (λ (j : Job). j.outcome) (was.at was.job) ∙ was.stopped)
+
+-- ---- whether they have acted
+pub none_told : (js : List Job) → AllTell js 0 false
+none_told js i d inside = absurd (omega (arith, inside))
+
+pub one_told : (js : List Job) (n : ℕ) (b c : Bool) → AllTell js n b → n < length js → ((d : Job) → Tells (get_or js n d).outcome c) → AllTell js (n + 1) (b || c)
+one_told js n true c so_far inside here = record { index = so_far.index; inside = (let i = so_far.inside in omega (arith, i)); acted = so_far.acted }
+one_told js n false true so_far inside here = record { index = n; inside = omega arith; acted = here }
+one_told js n false false so_far inside here = λ i d below. at i d below (cases_lt i n)
+  where
+    at : (i : ℕ) (d : Job) → i < n + 1 → (i < n) ⊎ (n ≤ i) → HasRested (get_or js i d).outcome
+    at i d below (inl less) = so_far i d less
+    at i d below (inr most) = let same : n ≡ i = omega (arith, below, most) in subst (λ k. HasRested (get_or js k d).outcome) same (here d)
 
 -- the outcome of one of them says that it was refused
 pub stopped_at : (js : List Job) (i : ℕ) (d : Job) (stop : Stop) → i < length js → (get_or js i d).outcome ≡ Some (Err stop) → WasStopped js stop

@@ -4,7 +4,6 @@
 //! Source: this project's own.
 #![tactic(auto)]
 
-mod closing;
 mod jobs;
 mod phases;
 mod run;

@@ -1,9 +1,10 @@
 //! Phases of all processors side by side, until one makes no entry.
 
-ghost use Rattle.std.specs.Prelude.{◌≡◌, length, IfErr, IfOk, IsErrOf};
+ghost use Rattle.std.specs.Prelude.{◌≡◌, length, Some, Err, IfErr, IfOk, IsErrOf};
 ghost use Rattle.std.specs.List.{All};
+ghost use Rattle.sd_rounds.specs.Rounds.{IsLongRun};
 ghost use Rattle.sd_table.specs.Seats.{id_of, work_of};
-ghost use Rattle.sd_threads.specs.Jobs.{AreJobs, HasPhased, HavePhased, IsFree, IsLongRun, WasStopped};
+ghost use Rattle.sd_threads.specs.Jobs.{AllTell, AreAtRest, AreJobs, HasPhased, HavePhased, IsFree, Tells, WasStopped};
 
 use crate::jobs::{Job, phase_of};
 use sd_cpu::Gate;
@@ -38,17 +39,30 @@ fn run_phase<R: Threads + Wait + Sync, G: Gate + Sync>(
     )
 }
 
+/// Whether a processor has made entries in its last phase. `Err` where it was refused.
+fn has_acted(job: &Job) -> Result<bool, Stop>
+    ensures told { IfOk result (λ acted. Tells job.now.outcome acted) }
+    ensures stopped { IfErr result (λ stop. job.now.outcome ≡ Some (Err stop)) }
+{
+    match job.outcome {
+        None => Ok(false),
+        Some(outcome) => match outcome {
+            Err(stop) => Err(stop),
+            Ok(phased) => Ok(phased.made),
+        },
+    }
+}
+
 /// Whether any of these processors has made entries in its last phase. `Err` where one was refused: what the first of them was.
 fn have_acted(jobs: &[Job]) -> Result<bool, Stop>
-    ensures { IfErr result (λ stop. WasStopped jobs.now stop) }
+    ensures told { IfOk result (λ acted. AllTell jobs.now (length jobs.now) acted) }
+    ensures stopped { IfErr result (λ stop. WasStopped jobs.now stop) }
 {
     let mut acted = false;
     for i in 0..jobs.len() {
-        if let Some(outcome) = jobs[i].outcome {
-            match outcome {
-                Err(stop) => return Err(stop),
-                Ok(phased) => acted = acted | phased.made,
-            }
+        match has_acted(&jobs[i]) {
+            Ok(one) => acted = acted | one,
+            Err(stop) => return Err(stop),
         }
     }
     Ok(acted)
@@ -65,6 +79,7 @@ pub(crate) fn run_phases<R: Threads + Wait + Sync, G: Gate + Sync>(
     requires work { work.now ≡ work_of shared.now }
     requires jobs { AreJobs (id_of shared.now) work.now jobs.items }
     ensures jobs { IfOk result (λ v. AreJobs (id_of shared.now) work.now v.items) }
+    ensures rest { IfOk result (λ v. AreAtRest (id_of shared.now) work.now v.items) }
     ensures full { IsErrOf result Stop.Full → IsLongRun work.now }
 {
     let mut jobs = jobs;

@@ -4,13 +4,13 @@ ghost use Rattle.std.specs.Prelude.{◌≡◌, ℕ, ◌<◌, ◌≤◌, length, 
 ghost use Rattle.sd_full.specs.Runs.{IsComplete, IsRun, final, state_at};
 ghost use Rattle.sd_hand.specs.OneHome.{StandsInHomes};
 ghost use Rattle.sd_machine.specs.Opening.{opening};
-ghost use Rattle.sd_threads.specs.Jobs.{IsLongRun, seats_in};
+ghost use Rattle.sd_rounds.specs.Rounds.{IsLongRun};
+ghost use Rattle.sd_threads.specs.Jobs.{seats_in};
 
-use crate::closing::run_to_end;
 use crate::jobs::Job;
 use crate::phases::run_phases;
 use sd_cpu::Gate;
-use sd_rounds::Finished;
+use sd_rounds::{Finished, run_to_end};
 use sd_table::{Seat, Shared};
 use sd_types::{Stop, Work};
 use sd_world::MOST_ENTRIES;

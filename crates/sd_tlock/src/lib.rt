@@ -4,7 +4,6 @@
 #![tactic(auto)]
 
 mod interlocks;
-mod steps;
 mod threads;
 mod world;
 

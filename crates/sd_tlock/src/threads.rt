@@ -8,7 +8,6 @@ ghost use Rattle.sd_world.specs.Homes.{IsNumberAt};
 ghost use Rattle.sd_table.specs.Seats.{Fits, desk, id_of, work_of};
 ghost use Rattle.sd_tlock.specs.Locks.{ReadsHome, SeatLocks, SeatTries};
 
-use crate::steps::{grab, lay, lift, look, number_at};
 use sd_table::{Seat, Shared};
 use sd_types::{CpuId, HomeId, ThreadId};
 use sd_world::ThreadLock;
@@ -22,8 +21,8 @@ fn read_home(shared: &Shared, seat: &mut Seat, t: ThreadId) -> (usize, HomeId)
     ensures number { IsNumberAt (sizes (work_of shared.now)) result.0 result.1 }
     ensures reads { ReadsHome (work_of shared.now) seat.old seat.new t.0 result.1 }
 {
-    let index = look::<Brand>(shared, &mut seat.place, t.0 as usize) as usize;
-    (index, number_at(shared, index))
+    let index = shared.look::<Brand>(&mut seat.place, t.0 as usize) as usize;
+    (index, shared.home_at(index))
 }
 
 /// One try to take the home of this index, which the word of the thread named: the word is read again while the home is held. Where it
@@ -38,22 +37,22 @@ fn try_home(shared: &Shared, seat: &mut Seat, t: ThreadId, index: usize, k: Home
     ensures tries { SeatTries (work_of shared.now) seat.old seat.new t k result }
 {
     let mine = u64::from(seat.acting.actor.cpu.0) + 1;
-    let found = grab::<Brand>(shared, &mut seat.place, index, mine);
+    let found = shared.grab::<Brand>(&mut seat.place, index, mine);
     if found != 0 {
         return ThreadLock::Busy {
             home: k,
             holder: CpuId((found - 1) as u16),
         };
     }
-    let again = look::<Brand>(shared, &mut seat.place, t.0 as usize) as usize;
+    let again = shared.look::<Brand>(&mut seat.place, t.0 as usize) as usize;
     if again == index {
-        lift(shared, seat, k, index);
+        shared.lift(seat, k, index);
         return ThreadLock::Held { home: k };
     }
-    lay::<Brand>(shared, &mut seat.place, index);
+    shared.lay::<Brand>(&mut seat.place, index);
     ThreadLock::Moved {
         from: k,
-        to: number_at(shared, again),
+        to: shared.home_at(again),
     }
 }
 

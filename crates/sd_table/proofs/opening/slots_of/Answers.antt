@@ -7,9 +7,9 @@ loop-i-init c = lays_first (sizes c.args.work.now) c.args.hand.now.slots c.new-s
 
 pub loop-i-preserved : goal.loop-i-preserved
 loop-i-preserved c =
-    lays_next (sizes c.args.work.now) c.args.hand.now.slots c.loop-i.hand.slots c.release.new.self.slots c.loop-i.i c.loop-i.slots.items c.push.new.self.items c.number_at.result c.in-Some.home c.loop-i.invariant
-    c.number_at.ensures c.in-Some.ensures.some.0 c.in-Some.ensures.some.1 c.in_ok-push-in-Some.ensures.items
+    lays_next (sizes c.args.work.now) c.args.hand.now.slots c.loop-i.hand.slots c.release.new.self.slots c.loop-i.i c.loop-i.slots.items c.push.new.self.items c.number_in.result c.in-Some.home c.loop-i.invariant
+    c.number_in.ensures c.in-Some.ensures.some.0 c.in-Some.ensures.some.1 c.in_ok-push-in-Some.ensures.items
 
 pub unreachable-requires : goal.unreachable-requires
 unreachable-requires c =
-    left_there (sizes c.args.work.now) c.args.hand.now.slots c.loop-i.hand.slots c.loop-i.i c.loop-i.slots.items c.number_at.result c.loop-i.invariant c.number_at.ensures c.requires.all c.in-None.ensures.none.0
+    left_there (sizes c.args.work.now) c.args.hand.now.slots c.loop-i.hand.slots c.loop-i.i c.loop-i.slots.items c.number_in.result c.loop-i.invariant c.number_in.ensures c.requires.all c.in-None.ensures.none.0

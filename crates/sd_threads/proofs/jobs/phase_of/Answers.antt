@@ -1,8 +1,9 @@
-use Rattle.std.proofs.Common.{◌≡◌, sym, ap, ◌∙◌, subst}
+use Rattle.std.proofs.Common.{◌≡◌, length, refl, sym, ap, ◌∙◌, subst}
 use Rattle.sd_hand.specs.Hands.{how_many_held}
 use Rattle.sd_table.specs.declared.seat.Seat.{Seat}
 use Rattle.sd_table.specs.Seats.{id_of, work_of}
-use Rattle.sd_threads.specs.Jobs.{IsFree}
+use Rattle.sd_tlock.specs.Tables.{world_meaning}
+use Rattle.sd_threads.specs.Jobs.{IsFree, MadeAsLogged}
 use Rattle.sd_threads.proofs.JobLemmas as J
 use Rattle.sd_threads.proofs.jobs.phase_of.Goals as goal
 
@@ -22,10 +23,15 @@ returns g c =
     let work = ap work_of c.new-world.ensures.table ∙ sym c.requires.work in
     let e = c.phase-outcome.ensures in
     let same = c.into_seat.ensures in
+    let made = J.made_as_logged (world_meaning x) (world_meaning y) c.phase-outcome.result e.answers in
     record {
       phased = record {
         free = subst (IsFree t w) (sym same) (J.free_back t w x y table work c.new-world.ensures.good e.good e.world e.empty);
         cpu = ap (λ (s : Seat). s.acting.actor.cpu) same ∙ (e.world.cpu ∙ ap (λ (s : Seat). s.acting.actor.cpu) c.new-world.ensures.seat);
+        answer = c.phase-outcome.result;
+        answered = refl;
+        made = subst (λ (s : Seat). MadeAsLogged (length s.log.items) (length c.into_seat.result.log.items) c.phase-outcome.result) c.new-world.ensures.seat
+            (subst (λ (s : Seat). MadeAsLogged (length x.seat.log.items) (length s.log.items) c.phase-outcome.result) (sym same) made);
         full = λ refused. J.full_long t w x y table work c.new-world.ensures.good e.good e.world c.phase-outcome.result (J.outcome_is c.phase-outcome.result _ refused) e.answers;
       };
     }

@@ -15,7 +15,7 @@ run_phase-requires-clause-free g c κs lives = λ k d inside. c.loop.invariant.j
 pub returns-in-Err-have_acted-clause-full : goal.returns-in-Err-have_acted-clause-full
 returns-in-Err-have_acted-clause-full g c = λ is.
     let full : c.in-Err-have_acted.stop ≡ Full = cc in
-    J.long_of (id_of c.args.shared.now) c.args.work.now c.loop.jobs.items c.in-Ok.done.items c.in-Ok.ensures.many c.in-Ok.ensures.phased (subst (WasStopped c.in-Ok.done.items) full (subst (λ (js : List Job). WasStopped js c.in-Err-have_acted.stop) c.deref.ensures.value c.in-Err-have_acted.ensures))
+    J.long_of (id_of c.args.shared.now) c.args.work.now c.loop.jobs.items c.in-Ok.done.items c.in-Ok.ensures.many c.in-Ok.ensures.phased (subst (WasStopped c.in-Ok.done.items) full (subst (λ (js : List Job). WasStopped js c.in-Err-have_acted.stop) c.deref.ensures.value c.in-Err-have_acted.ensures.stopped))
 
 pub returns-then-not-acted-clause-jobs : goal.returns-then-not-acted-clause-jobs
 returns-then-not-acted-clause-jobs g c = J.jobs_phased (id_of c.args.shared.now) c.args.work.now c.loop.jobs.items c.in-Ok.done.items c.in-Ok.ensures.many c.in-Ok.ensures.phased c.loop.invariant.jobs

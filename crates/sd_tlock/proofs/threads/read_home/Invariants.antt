@@ -5,4 +5,4 @@ use Rattle.sd_table.specs.Seats.{work_of}
 use Rattle.sd_tlock.proofs.threads.read_home.Given as goal
 
 abbrev pub ghosts-look : goal.ghosts-look
-ghosts-look a = record { about = Some (work_of a.shared.now); event = Idle; hints = None; number = a.t; which = Running }
+ghosts-look a = record { about = Some (work_of a.self.now); event = Idle; hints = None; number = a.t; which = Running }

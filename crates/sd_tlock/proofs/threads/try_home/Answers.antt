@@ -125,8 +125,8 @@ lay-requires-clause-home c =
     let told2 = c.look-again.ensures.told in
     L.still_out w _ s f c.args.k c.args.index c.requires.number hit.0 told1.0 told2.0 c.look-again.result c.grab-found.new.place.me c.look-again.new.place.me told1.1 hit.1 hit.2 told2.1 told2.2
 
-pub number_at-requires : goal.number_at-requires
-number_at-requires c = record { inside = c.look-again.ensures.told.3 }
+pub home_at-requires : goal.home_at-requires
+home_at-requires c = record { inside = c.look-again.ensures.told.3 }
 
 pub returns-clause-fits : goal.returns-clause-fits
 returns-clause-fits c =
@@ -149,6 +149,6 @@ returns-clause-tries c =
     let told2 = c.look-again.ensures.told in
     let s' : Seat = record { place = c.lay.new.place; acting = s.acting; order = s.order; log = s.log } in (
       refl,
-      L.other_home w _ s f c.args.k c.args.index c.requires.number hit.0 told1.0 told2.0 c.look-again.result c.grab-found.new.place.me c.look-again.new.place.me told1.1 hit.1 hit.2 told2.1 told2.2 s' (c.lay.ensures.table ∙ (c.look-again.ensures.table ∙ (c.grab-found.ensures.table ∙ f.table))) c.lay.ensures.told refl refl c.number_at.result c.number_at.ensures c.if-again-index.false,
-      L.leaves w _ s f c.args.k c.args.index c.requires.number hit.0 told1.0 told2.0 c.look-again.result c.grab-found.new.place.me c.look-again.new.place.me told1.1 hit.1 hit.2 told2.1 told2.2 s' (c.lay.ensures.table ∙ (c.look-again.ensures.table ∙ (c.grab-found.ensures.table ∙ f.table))) c.lay.ensures.told refl refl c.number_at.result c.number_at.ensures,
+      L.other_home w _ s f c.args.k c.args.index c.requires.number hit.0 told1.0 told2.0 c.look-again.result c.grab-found.new.place.me c.look-again.new.place.me told1.1 hit.1 hit.2 told2.1 told2.2 s' (c.lay.ensures.table ∙ (c.look-again.ensures.table ∙ (c.grab-found.ensures.table ∙ f.table))) c.lay.ensures.told refl refl c.home_at.result c.home_at.ensures c.if-again-index.false,
+      L.leaves w _ s f c.args.k c.args.index c.requires.number hit.0 told1.0 told2.0 c.look-again.result c.grab-found.new.place.me c.look-again.new.place.me told1.1 hit.1 hit.2 told2.1 told2.2 s' (c.lay.ensures.table ∙ (c.look-again.ensures.table ∙ (c.grab-found.ensures.table ∙ f.table))) c.lay.ensures.told refl refl c.home_at.result c.home_at.ensures,
     )

@@ -5,10 +5,10 @@ use Rattle.sd_table.specs.Seats.{work_of}
 use Rattle.sd_tlock.proofs.threads.try_home.Given as goal
 
 abbrev pub ghosts-grab : goal.ghosts-grab
-ghosts-grab a = record { about = Some (work_of a.shared.now); event = Idle; hints = None; number = 0; which = Running }
+ghosts-grab a = record { about = Some (work_of a.self.now); event = Idle; hints = None; number = 0; which = Running }
 
 abbrev pub ghosts-look : goal.ghosts-look
-ghosts-look a = record { about = Some (work_of a.shared.now); event = Idle; hints = None; number = a.t; which = Running }
+ghosts-look a = record { about = Some (work_of a.self.now); event = Idle; hints = None; number = a.t; which = Running }
 
 abbrev pub ghosts-lay : goal.ghosts-lay
-ghosts-lay a = record { about = Some (work_of a.shared.now); event = Idle; hints = None; number = 0; which = Running }
+ghosts-lay a = record { about = Some (work_of a.self.now); event = Idle; hints = None; number = 0; which = Running }

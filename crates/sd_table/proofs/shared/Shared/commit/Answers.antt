@@ -54,3 +54,6 @@ returns-clause-commits c =
     let made = subst (λ v. HasMade v n c.args.event c.args.hints s.acting s1.acting) c.requires.work c.make.ensures.made in
     E.commits_made w _ s f c.args.event c.args.hints c.args.work.now told.0 n s1 c.requires.can told.1 told.2 told.6 table view made c.make.ensures.has c.make.ensures.cpu rest.1 c.make.ensures.log c.publish.new.seat c.publish.ensures.publishes
     c.publish.ensures.fits.table
+
+pub returns-clause-shows : goal.returns-clause-shows
+returns-clause-shows c = c.publish.ensures.shows

@@ -3,4 +3,4 @@ use Rattle.sd_table.proofs.Publishing.{Showing}
 use Rattle.sd_table.proofs.shared.Shared.publish_hints.Given as goal
 
 abbrev pub invariant-loop-i : goal.invariant-loop-i
-invariant-loop-i l = Showing (work_of l.self) (id_of l.self) l.fn.seat l.seat
+invariant-loop-i l = Showing (work_of l.self) (id_of l.self) l.fn.seat l.seat l.i

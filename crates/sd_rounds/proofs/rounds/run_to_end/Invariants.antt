@@ -1,14 +1,17 @@
-use Rattle.std.proofs.Common.{◌≡◌, ◌-◌, length}
+use Rattle.std.proofs.Common.{◌≡◌, ◌-◌, ◌≤◌, length}
 use Rattle.sd_world.specs.Plain.{Stands}
+use Rattle.sd_world.specs.Worlds.{Begins}
 use Rattle.sd_world.specs.declared.entries.TheConstants.{MOST_ENTRIES}
-use Rattle.sd_threads.proofs.closing.run_to_end.Given as goal
+use Rattle.sd_rounds.proofs.rounds.run_to_end.Given as goal
 
 abbrev pub invariant-rounds : goal.invariant-rounds
 invariant-rounds l = record {
   stands : Stands l.work l.world;
   work : l.world.work.now ≡ l.work;
+  begins : Begins l.initial.world.entries.items l.world.entries.items;
+  room : length l.world.entries.items ≤ MOST_ENTRIES;
 }
 
--- each round that goes on adds an entry, and begins with fewer than MOST_ENTRIES
+-- each round that goes on adds an entry, and a log holds at most MOST_ENTRIES
 abbrev pub decreases-rounds : goal.decreases-rounds
 decreases-rounds l = MOST_ENTRIES - length l.world.entries.items
