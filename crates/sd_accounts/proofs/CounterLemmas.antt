@@ -186,6 +186,12 @@ module _ (es : List Entry) (e : Entry) (few : length es < 2 ^ 48) where
     totals = totals ∙ ap (totals_after e.event) h.totals ∙ totals_taken;
   }
 
+  -- the same, where the event is known
+  pub taken_as : (w : Work) (v : Event) (a b : Accounts) → e.event ≡ v → b.threads ≡ threads_after v a.threads → b.cpus ≡ cpus_after e.cpu.0 v a.cpus
+      → b.totals ≡ totals_after v a.totals → HasTaken w es a → HasTaken w (es ++ e ∷ []) b
+  taken_as w v a b is threads cpus totals =
+      taken_more w a b (threads ∙ ap (λ u. threads_after u a.threads) (sym is)) (cpus ∙ ap (λ u. cpus_after e.cpu.0 u a.cpus) (sym is)) (totals ∙ ap (λ u. totals_after u a.totals) (sym is))
+
 -- none is taken in at first
 pub taken_none : (w : Work) (a : Accounts) → a.threads ≡ replicate (length w.threads) no_thread_counts → a.cpus ≡ replicate w.cpus no_cpu_counts
     → a.totals ≡ no_totals → HasTaken w [] a

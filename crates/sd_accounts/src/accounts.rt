@@ -6,7 +6,7 @@ ghost use Rattle.sd_types.specs.declared.works.Work.{Work as WorkValue};
 ghost use Rattle.sd_accounts.specs.Counters.{HasTaken, cpus_after, no_cpu_counts, no_thread_counts, threads_after, totals_after};
 
 use crate::counters::{CpuCounts, ThreadCounts, Totals, count_cpu, count_thread, totals_after};
-use sd_types::{Entry, List, Work};
+use sd_types::{CpuId, Entry, Event, List, Work};
 use std::alloc::{AllocError, Global};
 
 /// The counters of a run so far: of each thread, of each processor and of all entries. Which entries they have taken in
@@ -35,9 +35,24 @@ impl Accounts {
         ensures { (w : WorkValue) (es : Items EntryValue) → length es < 2 ^ 48
             → HasTaken w es self.old → HasTaken w (es ++ entry.now ∷ []) self.new }
     {
-        count_thread(&entry.event, &mut self.threads);
-        count_cpu(entry.cpu, &entry.event, &mut self.cpus);
-        self.totals = totals_after(&entry.event, self.totals);
+        match entry.event {
+            Event::Idle => self.count(entry.cpu, &Event::Idle),
+            Event::Tick { t } => self.count(entry.cpu, &Event::Tick { t }),
+            event => self.count(entry.cpu, &event),
+        }
+    }
+
+    /// Counts an event of processor `c`. In the place of a call with one of the two most frequent events, nothing is left of it but their
+    /// own counters.
+    #[inline(always)]
+    fn count(&mut self, c: CpuId, event: &Event)
+        ensures threads { self.new.threads ≡ threads_after event.now self.old.threads }
+        ensures cpus { self.new.cpus ≡ cpus_after c.0 event.now self.old.cpus }
+        ensures totals { self.new.totals ≡ totals_after event.now self.old.totals }
+    {
+        count_thread(event, &mut self.threads);
+        count_cpu(c, event, &mut self.cpus);
+        self.totals = totals_after(event, self.totals);
     }
 }
 

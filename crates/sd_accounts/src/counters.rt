@@ -68,6 +68,7 @@ impl Totals {
     };
 }
 
+#[inline(always)]
 fn more(counts: bool, n: u64) -> u64
     ensures { result ≡ more counts n }
 {
@@ -75,6 +76,7 @@ fn more(counts: bool, n: u64) -> u64
 }
 
 #[tactic(auto, unfolding(crate::specs::Counters::thread_after))]
+#[inline(always)]
 fn thread_after(t: ThreadId, event: &Event, x: ThreadCounts) -> ThreadCounts
     ensures { result ≡ thread_after t.0 event.now x }
 {
@@ -87,6 +89,7 @@ fn thread_after(t: ThreadId, event: &Event, x: ThreadCounts) -> ThreadCounts
 }
 
 #[tactic(auto, unfolding(crate::specs::Counters::cpu_after))]
+#[inline(always)]
 fn cpu_after(event: &Event, x: CpuCounts) -> CpuCounts
     ensures { result ≡ cpu_after event.now x }
 {
@@ -98,6 +101,7 @@ fn cpu_after(event: &Event, x: CpuCounts) -> CpuCounts
 
 /// The totals after the event.
 #[tactic(auto, unfolding(crate::specs::Counters::totals_after))]
+#[inline(always)]
 pub(crate) fn totals_after(event: &Event, x: Totals) -> Totals
     ensures { result ≡ totals_after event.now x }
 {
@@ -114,6 +118,7 @@ pub(crate) fn totals_after(event: &Event, x: Totals) -> Totals
     }
 }
 
+#[inline(always)]
 fn count_at(t: ThreadId, event: &Event, threads: &mut List<ThreadCounts>)
     ensures { threads.new ≡ slice_set threads.old t.0 (thread_after t.0 event.now (slice_index_or threads.old t.0 no_thread_counts)) }
 {
@@ -126,6 +131,7 @@ fn count_at(t: ThreadId, event: &Event, threads: &mut List<ThreadCounts>)
 
 /// Counts the event for its thread, where it is of the accounts of any.
 #[tactic(auto, unfolding(crate::specs::Counters::threads_after))]
+#[inline(always)]
 pub(crate) fn count_thread(event: &Event, threads: &mut List<ThreadCounts>)
     ensures { threads.new ≡ threads_after event.now threads.old }
 {
@@ -137,6 +143,7 @@ pub(crate) fn count_thread(event: &Event, threads: &mut List<ThreadCounts>)
 
 /// Counts the event for the processor that made it.
 #[tactic(auto, unfolding(crate::specs::Counters::cpus_after))]
+#[inline(always)]
 pub(crate) fn count_cpu(c: CpuId, event: &Event, cpus: &mut List<CpuCounts>)
     ensures { cpus.new ≡ cpus_after c.0 event.now cpus.old }
 {

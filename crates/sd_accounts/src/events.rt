@@ -7,6 +7,7 @@ ghost use Rattle.sd_accounts.specs.Counters.{counted_thread};
 
 use sd_types::{Event, ThreadId};
 
+#[inline(always)]
 pub(crate) fn is_tick_of(t: ThreadId, event: &Event) -> bool
     ensures { result ≡ is_tick_of t.0 event.now }
 {
@@ -17,6 +18,7 @@ pub(crate) fn is_tick_of(t: ThreadId, event: &Event) -> bool
     }
 }
 
+#[inline(always)]
 pub(crate) fn is_dispatch_of(t: ThreadId, event: &Event) -> bool
     ensures { result ≡ is_dispatch_of t.0 event.now }
 {
@@ -27,6 +29,7 @@ pub(crate) fn is_dispatch_of(t: ThreadId, event: &Event) -> bool
     }
 }
 
+#[inline(always)]
 pub(crate) fn is_preempt_of(t: ThreadId, event: &Event) -> bool
     ensures { result ≡ is_preempt_of t.0 event.now }
 {
@@ -37,6 +40,7 @@ pub(crate) fn is_preempt_of(t: ThreadId, event: &Event) -> bool
     }
 }
 
+#[inline(always)]
 pub(crate) fn is_wake_of(t: ThreadId, event: &Event) -> bool
     ensures { result ≡ is_wake_of t.0 event.now }
 {
@@ -57,30 +61,35 @@ pub(crate) fn is_wake_of(t: ThreadId, event: &Event) -> bool
     }
 }
 
+#[inline(always)]
 pub(crate) fn is_idle(event: &Event) -> bool
     ensures { result ≡ is_idle event.now }
 {
     matches!(event, Event::Idle)
 }
 
+#[inline(always)]
 pub(crate) fn is_dispatch(event: &Event) -> bool
     ensures { result ≡ is_dispatch event.now }
 {
     matches!(event, Event::Dispatch { .. } | Event::Steal { .. })
 }
 
+#[inline(always)]
 pub(crate) fn is_steal(event: &Event) -> bool
     ensures { result ≡ is_steal event.now }
 {
     matches!(event, Event::Steal { .. })
 }
 
+#[inline(always)]
 pub(crate) fn is_preempt(event: &Event) -> bool
     ensures { result ≡ is_preempt event.now }
 {
     matches!(event, Event::Preempt { .. } | Event::Away { .. })
 }
 
+#[inline(always)]
 pub(crate) fn is_wake(event: &Event) -> bool
     ensures { result ≡ is_wake event.now }
 {
@@ -95,12 +104,14 @@ pub(crate) fn is_wake(event: &Event) -> bool
     }
 }
 
+#[inline(always)]
 pub(crate) fn is_block(event: &Event) -> bool
     ensures { result ≡ is_block event.now }
 {
     matches!(event, Event::Block { .. })
 }
 
+#[inline(always)]
 pub(crate) fn is_will(event: &Event) -> bool
     ensures { result ≡ is_will event.now }
 {
@@ -109,6 +120,7 @@ pub(crate) fn is_will(event: &Event) -> bool
 
 /// The one thread of whose accounts the event is, where it is of any: the one that ticks, is dispatched, preempted or
 /// woken.
+#[inline(always)]
 pub(crate) fn counted_thread(event: &Event) -> Option<ThreadId>
     ensures { option_map (λ t. t.0) result ≡ counted_thread event.now }
 {

@@ -1,9 +1,8 @@
 -- A thread that a held home has stands in one of its lists, and so in a home that is held.
-use Rattle.std.proofs.Common.{◌≡◌, ℕ, zero, suc, ◌+◌, ◌*◌, ◌<◌, ◌/◌, ◌%◌, Bool, true, false, ◌||◌, ◌&&◌, ◌==◌, ◌⊎◌, is_some, inl, inr, List, [], ◌∷◌, length, get_or, Option, Some, None, refl, sym, ap, ◌∙◌, subst, arith}
+use Rattle.std.proofs.Common.{◌≡◌, ℕ, suc, ◌+◌, ◌*◌, ◌<◌, ◌/◌, ◌%◌, Bool, true, false, ◌||◌, ◌&&◌, ◌==◌, ◌⊎◌, is_some, inl, inr, List, [], ◌∷◌, length, get_or, Option, Some, None, refl, sym, ap, subst, arith}
 use Rattle.std.specs.Option.{option_or}
 use Rattle.std.proofs.lemmas.Bool.{eq-eqb, lt-ltb}
 use Rattle.std.specs.Prelude.{nat_lt}
-use Rattle.sd_types.specs.declared.numbers.HomeId.{HomeId}
 use Rattle.sd_types.specs.declared.numbers.HomeId.TheVariants as id
 use Rattle.sd_types.specs.declared.numbers.Side.{Side}
 use Rattle.sd_types.specs.declared.numbers.Side.TheVariants.{Writer, Reader}
@@ -16,13 +15,13 @@ use Rattle.sd_machine.specs.States.{thread_of}
 use Rattle.sd_shown.specs.Numbers.{IsHomeOf}
 use Rattle.sd_shown.specs.declared.list_id.ListId.{ListId}
 use Rattle.sd_shown.specs.declared.list_id.ListId.TheVariants.{Runs, Queues, Urgent, Waits, Sleeps, Naps, Ends}
-use Rattle.sd_shown.specs.Standing.{home_at, home_of, id_of, list_of}
+use Rattle.sd_shown.specs.Standing.{home_at, home_of, id_of}
 use Rattle.sd_homes.specs.declared.home.Home.{Home}
 use Rattle.sd_homes.specs.declared.home.Home.TheVariants.{Cpu, RealTime, Chain, Sleepers}
 use Rattle.sd_homes.specs.Homes.{is_chan_of, is_of, one}
-use Rattle.sd_homes.specs.Kinds.{IsListed, asleep_has, chain_has, cpu_has, has_id}
+use Rattle.sd_homes.specs.Kinds.{IsListed, has_id}
 use Rattle.sd_homes.specs.Families.{has, home_id, list_in}
-use Rattle.sd_hand.specs.Hands.{AreApart, IsHeld, IsIn, StandsIn, has_thread, held, slot_has}
+use Rattle.sd_hand.specs.Hands.{AreApart, IsHeld, IsIn, StandsIn, has_thread, held}
 use Rattle.sd_hand.specs.Shown.{PartsShown, ShowsState}
 use Rattle.sd_hand.proofs.MoveLemmas.{stands_at, stands_held}
 use Rattle.sd_hand.proofs.SlotLemmas.{apart_held}

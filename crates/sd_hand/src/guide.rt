@@ -1,6 +1,7 @@
 //! Where a look-up begins. Whatever a guide says, a look-up finds what is there: a guide makes it short.
 
 ghost use Rattle.std.specs.Prelude.{◌≡◌, slice_get};
+ghost use Rattle.std.specs.Option.{option_copied};
 
 use sd_shown::ListId;
 use sd_types::{HomeId, ThreadId};
@@ -45,10 +46,10 @@ impl Guide {
 
     /// The list to which the thread came last.
     #[inline(always)]
-    pub(crate) fn list(&self, t: ThreadId) -> Option<ListId>
-        ensures { result ≡ slice_get self.now.lists.items t.0 }
+    pub(crate) fn list(&self, t: ThreadId) -> Option<&ListId>
+        ensures { option_copied result ≡ slice_get self.now.lists.items t.0 }
     {
-        self.lists.get(t.0 as usize).copied()
+        self.lists.get(t.0 as usize)
     }
 
     /// The thread has come to this list.

@@ -4,6 +4,7 @@ ghost use Rattle.std.specs.Prelude.{◌≡◌, ◌⊎◌, ◌+◌, ◌<◌, ◌�
 ghost use Rattle.std.specs.Option.{option_copied};
 ghost use Rattle.sd_types.specs.declared.numbers.HomeId.TheVariants.{Chain, Cpu, RealTime, Sleepers};
 ghost use Rattle.sd_shown.specs.Standing.{home_at};
+ghost use Rattle.sd_shown.specs.declared.list_id.ListId.TheVariants.{Runs};
 ghost use Rattle.sd_homes.specs.declared.home.Home.{Home as HomeOf};
 ghost use Rattle.sd_homes.specs.Families.{IsWhole, counting, home_id, locking, open_in, opened, putting, shut, taken_from, taking, viewing};
 ghost use Rattle.sd_store.specs.Bodies.{changed};
@@ -74,6 +75,51 @@ fn slot_in(slots: &[Option<Home>], guess: usize, k: HomeId) -> Option<usize>
         return Some(guess);
     }
     search_in(slots, k)
+}
+
+/// The slot in which the home of a processor lies, from the first slot on.
+#[inline(never)]
+fn search_cpu_in(slots: &[Option<Home>], c: CpuId) -> Option<usize>
+    ensures inside { IfSome result (λ i. i < length slots.now) }
+    ensures slot { MatchOption result (IsNoSlot (Cpu c) slots.now) (IsSlot (Cpu c) slots.now) }
+{
+    search_in(slots, HomeId::Cpu(c))
+}
+
+/// The same, with a guess that is looked at first. The number of the home goes nowhere else, so that the compiler sees where a home was
+/// looked up before.
+#[inline(always)]
+fn cpu_slot_in(slots: &[Option<Home>], guess: usize, c: CpuId) -> Option<usize>
+    requires apart { AreApart slots.now }
+    ensures inside { IfSome result (λ i. i < length slots.now) }
+    ensures slot { MatchOption result (IsNoSlot (Cpu c) slots.now) (IsSlot (Cpu c) slots.now) }
+{
+    if guess < slots.len() && is_at(HomeId::Cpu(c), &slots[guess]) {
+        return Some(guess);
+    }
+    search_cpu_in(slots, c)
+}
+
+/// The slot in which the home of a real-time queue lies, from the first slot on.
+#[inline(never)]
+fn search_real_time_in(slots: &[Option<Home>], p: SetId) -> Option<usize>
+    ensures inside { IfSome result (λ i. i < length slots.now) }
+    ensures slot { MatchOption result (IsNoSlot (RealTime p) slots.now) (IsSlot (RealTime p) slots.now) }
+{
+    search_in(slots, HomeId::RealTime(p))
+}
+
+/// The same, with a guess that is looked at first.
+#[inline(always)]
+fn real_time_slot_in(slots: &[Option<Home>], guess: usize, p: SetId) -> Option<usize>
+    requires apart { AreApart slots.now }
+    ensures inside { IfSome result (λ i. i < length slots.now) }
+    ensures slot { MatchOption result (IsNoSlot (RealTime p) slots.now) (IsSlot (RealTime p) slots.now) }
+{
+    if guess < slots.len() && is_at(HomeId::RealTime(p), &slots[guess]) {
+        return Some(guess);
+    }
+    search_real_time_in(slots, p)
 }
 
 /// The list of a home in which the thread stands.
@@ -187,7 +233,12 @@ impl Hand {
         ensures inside { IfSome result (λ i. i < length self.now.slots) }
         ensures slot { MatchOption result (IsNoSlot k self.now.slots) (IsSlot k self.now.slots) }
     {
-        slot_in(&self.slots, self.guide.slot(k), k)
+        let guess = self.guide.slot(k);
+        match k {
+            HomeId::Cpu(c) => cpu_slot_in(&self.slots, guess, c),
+            HomeId::RealTime(p) => real_time_slot_in(&self.slots, guess, p),
+            _ => slot_in(&self.slots, guess, k),
+        }
     }
 
     /// The home with this number, which is lacking where it is not held.
@@ -216,12 +267,13 @@ impl Hand {
     }
 
     /// The list in which the thread stands, which is lacking where no held home has it.
+    #[inline(always)]
     pub fn where_is(&self, t: ThreadId) -> Result<ListId, Part>
         ensures { Seeks t self.now.slots result (StandsIn t.0 self.now.slots) }
     {
         if let Some(at) = self.guide.list(t) {
-            if self.find(t, at).is_some() {
-                return Ok(at);
+            if self.find_at(t, at).is_some() {
+                return Ok(*at);
             }
         }
         self.where_found(t)
@@ -233,7 +285,7 @@ impl Hand {
         ensures { Seeks t self.now.slots result (λ r. IsThere t.0 self.now.slots r.now) }
     {
         if let Some(at) = self.guide.list(t) {
-            if let Some(record) = self.find(t, at) {
+            if let Some(record) = self.find_at(t, at) {
                 return Ok(record);
             }
         }
@@ -256,7 +308,40 @@ impl Hand {
     }
 
     /// The thread, where it stands there.
+    #[inline(always)]
     pub fn find(&self, t: ThreadId, at: ListId) -> Option<&Record>
+        ensures { option_copied result ≡ taken_from t.0 at (held (home_at at) self.now.slots) }
+    {
+        self.find_at(t, &at)
+    }
+
+    /// The same of a list that is lent: where the thread runs, nothing is copied.
+    #[inline(always)]
+    fn find_at(&self, t: ThreadId, at: &ListId) -> Option<&Record>
+        ensures { option_copied result ≡ taken_from t.0 at.now (held (home_at at.now) self.now.slots) }
+    {
+        match at {
+            ListId::Runs(c) => self.find_running(t, *c),
+            _ => self.find_listed(t, *at),
+        }
+    }
+
+    /// The thread, where it runs on processor `c`.
+    #[inline(always)]
+    fn find_running(&self, t: ThreadId, c: CpuId) -> Option<&Record>
+        ensures { option_copied result ≡ taken_from t.0 (Runs c) (held (Cpu c) self.now.slots) }
+    {
+        match self.slot_of(HomeId::Cpu(c)) {
+            None => None,
+            Some(i) => match &self.slots[i] {
+                None => None,
+                Some(home) => home.find(t, ListId::Runs(c)),
+            },
+        }
+    }
+
+    /// The same of any list.
+    fn find_listed(&self, t: ThreadId, at: ListId) -> Option<&Record>
         ensures { option_copied result ≡ taken_from t.0 at (held (home_at at) self.now.slots) }
     {
         match self.slot_of(home_at(at)) {

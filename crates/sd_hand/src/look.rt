@@ -52,6 +52,7 @@ impl Look for Acting {
 
     ghost later = { shown_later };
 
+    #[inline(always)]
     fn runner(&self, c: CpuId) -> Result<Option<ThreadId>, Part> {
         self.hand.first(ListId::Runs(c))
     }
@@ -60,6 +61,7 @@ impl Look for Acting {
         self.hand.first(ListId::Queues(c))
     }
 
+    #[inline(always)]
     fn best_unbound(&self, c: CpuId) -> Result<Option<ThreadId>, Part> {
         self.hand.first_unbound(c)
     }
@@ -91,6 +93,7 @@ impl Look for Acting {
         self.hand.greatest_but(l, u)
     }
 
+    #[inline(always)]
     fn cpu(&self, c: CpuId) -> Result<CpuView, Part> {
         match self.hand.view(c) {
             Err(q) => Err(q),
@@ -113,6 +116,7 @@ impl Look for Acting {
         }
     }
 
+    #[inline(always)]
     fn first_due(&self, c: CpuId) -> Result<Option<ThreadId>, Part> {
         if c.0 != self.actor.cpu.0 {
             return Err(Part::Actor(c));
@@ -141,6 +145,7 @@ impl Look for Acting {
         Ok(self.actor.count)
     }
 
+    #[inline(always)]
     fn best_ready(&self, c: CpuId) -> Result<Option<ThreadId>, Part> {
         let set = match self.hand.view(c) {
             Err(q) => return Err(q),
@@ -166,6 +171,7 @@ impl Look for Acting {
         }
     }
 
+    #[inline(always)]
     fn body(&self, t: ThreadId) -> Result<Option<&ThreadBody>, Part> {
         match self.hand.record(t) {
             Err(q) => Err(q),

@@ -75,6 +75,7 @@ impl Hand {
     }
 
     /// The body of thread `t`, which stands there, changes, where it can be changed so.
+    #[inline(always)]
     pub(crate) fn change_at(&mut self, work: &Work, t: ThreadId, at: ListId, change: BodyChange)
         ensures moved { (r : ThreadRecord) → Some r ≡ taken_from t.0 at (held (home_at at) self.old.slots) → CanChangeThread work.now t.0 change r.body
             → self.new.slots ≡ edit (home_at at) (putting (with_body_of (changed work.now t.0 change r.body) r) at) (edit (home_at at) (taking t.0 at) self.old.slots) }

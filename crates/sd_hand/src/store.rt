@@ -52,6 +52,7 @@ impl Store for Acting {
         }
     }
 
+    #[inline(always)]
     fn count_tick(&mut self, work: &Work, c: CpuId) -> Result<(), Part> {
         if c.0 != self.actor.cpu.0 {
             return Err(Part::Actor(c));
@@ -84,6 +85,7 @@ impl Store for Acting {
         }
     }
 
+    #[inline(always)]
     fn change_body(&mut self, work: &Work, t: ThreadId, change: BodyChange) -> Result<(), Part> {
         match self.hand.where_is(t) {
             Err(q) => Err(q),

@@ -1,4 +1,5 @@
 pub mod AgeLemmas
 pub mod FirstLemmas
 pub mod Lengths
+pub mod NewestLemmas
 pub mod WhereLemmas

@@ -68,6 +68,7 @@ fn inherit(l: LockId, number: Option<u8>, r: &mut Record)
 }
 
 /// Changes the body of a thread, where that can be changed so.
+#[inline(always)]
 pub(crate) fn change(work: &Work, t: ThreadId, change: BodyChange, r: &mut Record)
     ensures body { CanChangeThread work.now t.0 change r.old.body → r.new ≡ with_body_of (changed work.now t.0 change r.old.body) r.old }
     ensures id { r.new.id ≡ r.old.id }

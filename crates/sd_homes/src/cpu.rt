@@ -12,6 +12,7 @@ ghost use Rattle.sd_homes.specs.Kinds.{IsListed, cpu_has, cpu_list};
 ghost use Rattle.sd_homes.specs.Homes.{OfCpu, empty_cpu, one, head_of, with_body_of, with_ended, with_nappers, with_queue, with_running, with_view};
 
 use crate::bodies;
+use crate::ready::ReadyQueue;
 use crate::traveller::{Traveller, equipped};
 use sd_boxq::{BoxQueue, Node};
 use sd_dispq::DispQueue;
@@ -31,7 +32,7 @@ use std::marker::Model;
 #[derive(Drop)]
 pub struct CpuHome {
     cpu: CpuId,
-    queue: DispQueue<Record>,
+    queue: ReadyQueue,
     running: Option<Node<Record>>,
     nappers: BoxQueue<Record>,
     ended: BoxQueue<Record>,
@@ -58,7 +59,7 @@ impl CpuHome {
     {
         Ok(CpuHome {
             cpu,
-            queue: DispQueue::new(alloc)?,
+            queue: ReadyQueue::new(alloc)?,
             running: None,
             nappers: BoxQueue::new(),
             ended: BoxQueue::new(),
@@ -107,7 +108,7 @@ impl CpuHome {
     {
         let _rank = t.effective();
         let (node, own) = t.into_parts();
-        self.queue.put_ranked(node);
+        self.queue.put(node);
         self.rack.put(own);
     }
 
@@ -144,6 +145,7 @@ impl CpuHome {
     }
 
     /// The body of the running thread changes where it stands, if the thread has this number, where it can be changed so.
+    #[inline(always)]
     pub fn change_running(&mut self, work: &Work, t: ThreadId, change: BodyChange)
         ensures { MatchOption (find_id id_of t.0 (one self.old.running)) (self.new ≡ self.old) (λ r. (q : ThreadRecord) × (self.new ≡ with_running (Some q) self.old) × (q.id ≡ r.id)
             × (CanChangeThread work.now t.0 change r.body → q ≡ with_body_of (changed work.now t.0 change r.body) r)) }
@@ -227,13 +229,13 @@ impl CpuHome {
     pub fn find_queued(&self, t: ThreadId) -> Option<&Record>
         ensures { option_copied result ≡ find_id id_of t.0 self.now.queue }
     {
-        match self.queue.best() {
+        match self.queue.threads().best() {
             None => None,
             Some(best) => {
                 if best.id.0 == t.0 {
                     Some(best)
                 } else {
-                    self.queue.find(u32::from(t.0))
+                    self.queue.threads().find(u32::from(t.0))
                 }
             }
         }
@@ -275,7 +277,7 @@ impl CpuHome {
     pub fn best(&self) -> Option<&Record>
         ensures { option_copied result ≡ slice_get self.now.queue 0 }
     {
-        self.queue.best()
+        self.queue.threads().best()
     }
 
     /// The thread whose nap ends first.
@@ -298,13 +300,13 @@ impl CpuHome {
     pub fn best_unbound(&self) -> Option<&Record>
         ensures { option_copied result ≡ find_first is_unbound self.now.queue }
     {
-        match self.queue.best() {
+        match self.queue.threads().best() {
             None => None,
             Some(best) => {
                 if best.body.bound.is_none() {
                     Some(best)
                 } else {
-                    first_unbound(&self.queue)
+                    first_unbound(self.queue.threads())
                 }
             }
         }
@@ -314,7 +316,7 @@ impl CpuHome {
     pub fn next_to_age(&self, u: ThreadId) -> Option<ThreadId>
         ensures { option_map (λ t. t.0) result ≡ least_to_age u.0 self.now.queue }
     {
-        least_to_age(&self.queue, u)
+        least_to_age(self.queue.threads(), u)
     }
 }
 

@@ -9,6 +9,7 @@ mod cpu;
 mod home;
 mod parts;
 mod places;
+mod ready;
 mod real_time;
 mod sleepers;
 mod traveller;

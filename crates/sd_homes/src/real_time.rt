@@ -9,9 +9,9 @@ ghost use Rattle.sd_types.specs.declared.numbers.HomeId.TheVariants.{RealTime};
 ghost use Rattle.sd_homes.specs.Kinds.{IsListed, set_has, set_list};
 ghost use Rattle.sd_homes.specs.Homes.{OfSet, empty_set, with_open_cpus, with_urgent};
 
+use crate::ready::ReadyQueue;
 use crate::traveller::{Traveller, equipped};
 use arrayvec::ArrayVec;
-use sd_dispq::DispQueue;
 use sd_flat::{with_cpu_in, without_cpu};
 use sd_record::Record;
 use sd_shown::ListId;
@@ -31,7 +31,7 @@ pub struct IsFull;
 #[derive(Drop)]
 pub struct RealTimeHome {
     set: SetId,
-    queue: DispQueue<Record>,
+    queue: ReadyQueue,
     open_cpus: ArrayVec<CpuId, 64>,
     rack: Rack<Record>,
 }
@@ -59,7 +59,7 @@ impl RealTimeHome {
     {
         Ok(RealTimeHome {
             set,
-            queue: DispQueue::new(alloc)?,
+            queue: ReadyQueue::new(alloc)?,
             open_cpus,
             rack: Rack::new(),
         })
@@ -117,7 +117,7 @@ impl RealTimeHome {
     {
         let _rank = t.effective();
         let (node, own) = t.into_parts();
-        self.queue.put_ranked(node);
+        self.queue.put(node);
         self.rack.put(own);
     }
 
@@ -136,19 +136,19 @@ impl RealTimeHome {
     pub fn best(&self) -> Option<&Record>
         ensures { option_copied result ≡ slice_get self.now.queue 0 }
     {
-        self.queue.best()
+        self.queue.threads().best()
     }
 
     pub fn find_queued(&self, t: ThreadId) -> Option<&Record>
         ensures { option_copied result ≡ find_id id_of t.0 self.now.queue }
     {
-        match self.queue.best() {
+        match self.queue.threads().best() {
             None => None,
             Some(best) => {
                 if best.id.0 == t.0 {
                     Some(best)
                 } else {
-                    self.queue.find(u32::from(t.0))
+                    self.queue.threads().find(u32::from(t.0))
                 }
             }
         }

@@ -19,6 +19,7 @@ use sd_types::{
 };
 
 /// The class state of thread `t`.
+#[inline(always)]
 pub fn class_of<L: Look>(x: &L, t: ThreadId) -> Result<ClassState, L::Lack>
     ensures value { Tells (L.shows x.now) result (λ s. (thread_of s t.0).body.class) }
     ensures lack { Lacks L.part (L.shows x.now) (L.has x.now) result (λ s. thread_part t ∷ []) }
@@ -30,6 +31,7 @@ pub fn class_of<L: Look>(x: &L, t: ThreadId) -> Result<ClassState, L::Lack>
 }
 
 /// The processor to which thread `t` is bound.
+#[inline(always)]
 pub fn bound_of<L: Look>(x: &L, t: ThreadId) -> Result<Option<CpuId>, L::Lack>
     ensures value { Tells (L.shows x.now) result (λ s. (thread_of s t.0).body.bound) }
     ensures lack { Lacks L.part (L.shows x.now) (L.has x.now) result (λ s. thread_part t ∷ []) }
@@ -72,6 +74,7 @@ pub fn eff_of<L: Look>(x: &L, t: ThreadId) -> Result<u8, L::Lack>
 }
 
 /// The effective priority of the thread that a look-up found.
+#[inline(always)]
 pub fn priority_of<L: Look>(x: &L, t: Option<ThreadId>) -> Result<Option<u8>, L::Lack>
     ensures value { Tells (L.shows x.now) result (λ s. priority_of s (option_map number t)) }
     ensures lack { Lacks L.part (L.shows x.now) (L.has x.now) result (λ s. found_parts t) }
@@ -110,6 +113,7 @@ pub fn is_privileged(work: &Work, t: ThreadId) -> bool
 }
 
 /// The operation of thread `t` with a number, None after the last.
+#[inline(always)]
 fn op_at(work: &Work, t: ThreadId, body: Option<&ThreadBody>) -> Option<Op>
     ensures { result ≡ op_of work.now t.0 (unwrap_or (option_copied body.entry) no_body) }
 {
@@ -124,6 +128,7 @@ fn op_at(work: &Work, t: ThreadId, body: Option<&ThreadBody>) -> Option<Op>
 }
 
 /// The operation at which thread `t` stands, None after the last. It is one of its script, whatever the store shows.
+#[inline(always)]
 pub fn op_of<L: Look>(work: &Work, x: &L, t: ThreadId) -> Result<Option<Op>, L::Lack>
     ensures value { Tells (L.shows x.now) result (λ s. op_of work.now t.0 (thread_of s t.0).body) }
     ensures lack { Lacks L.part (L.shows x.now) (L.has x.now) result (λ s. thread_part t ∷ []) }

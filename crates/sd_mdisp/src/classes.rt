@@ -8,6 +8,7 @@ ghost use Rattle.sd_rules.specs.ClassRules.{class_expires, class_requeue, quantu
 use sd_types::{ClassState, Quantum, Work};
 
 /// The class state after a tick of the running thread.
+#[inline(always)]
 pub fn ticked_class(work: &Work, class: ClassState) -> ClassState
     ensures { result ≡ ticked_class work.now class }
 {

@@ -47,6 +47,7 @@ fn charge<S: Store>(
 
 /// The class of thread `t` counts a tick.
 #[tactic(auto, using(crate::proofs::RunningLemmas::ready_classed))]
+#[inline(always)]
 fn class_counts<S: Store>(work: &Work, x: &mut S, c: CpuId, t: ThreadId) -> Result<(), S::Lack>
     ensures value { Does (S.shows x.old) (S.shows x.new) result (λ s. ⊤) (λ s. class_counts work.now s c.0 t.0) }
     ensures lack { Lacks S.part (S.shows x.old) (S.has x.old) result (λ s. thread_part t ∷ ready_parts s c) }
@@ -59,6 +60,7 @@ fn class_counts<S: Store>(work: &Work, x: &mut S, c: CpuId, t: ThreadId) -> Resu
 
 /// Thread `t` runs for a tick on processor `c`.
 #[tactic(auto, using(crate::proofs::RunningLemmas::counted_finish, crate::proofs::RunningLemmas::ready_counted, crate::proofs::RunningLemmas::ready_ran), unfolding(sd_full::specs::Dispatching::ticked))]
+#[inline(always)]
 pub fn ticked<S: Store>(work: &Work, x: &mut S, c: CpuId, t: ThreadId) -> Result<(), S::Lack>
     ensures value { Does (S.shows x.old) (S.shows x.new) result (λ s. CanTick work.now s c × CanFinish work.now s t) (λ s. ticked work.now s c.0 t.0) }
     ensures lack { LacksIf S.part (S.shows x.old) (S.has x.old) result (λ s. CanTick work.now s c × CanFinish work.now s t) (λ s. actor_part c ∷ thread_part t ∷ ready_parts s c) }

@@ -1,3 +1,4 @@
+pub mod AloneLemmas
 pub mod CompleteLemmas
 pub mod FinishLemmas
 pub mod OrderLemmas

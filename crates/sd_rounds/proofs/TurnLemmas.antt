@@ -1,5 +1,5 @@
 -- An attempt on a run that nobody shares is the turn of its processor.
-use Rattle.std.proofs.Common.{◌≡◌, ℕ, ◌+◌, ◌<◌, ◌≤◌, ◌^◌, ◌⊎◌, ◌-◌, Bool, true, false, List, [], ◌∷◌, ◌++◌, length, Option, Some, None, refl, sym, ap, ◌∙◌, subst, inl, inr, arith, length-append}
+use Rattle.std.proofs.Common.{◌≡◌, ℕ, ◌<◌, ◌≤◌, ◌^◌, ◌⊎◌, ◌-◌, Bool, true, false, List, [], ◌∷◌, ◌++◌, length, Option, Some, refl, sym, ap, ◌∙◌, subst, inl, inr, arith}
 use Rattle.std.proofs.lemmas.List.{append-nil}
 use Rattle.sd_types.specs.declared.numbers.CpuId.{CpuId}
 use Rattle.sd_types.specs.declared.events.Entry.{Entry}
@@ -49,13 +49,6 @@ attempt_is m m' (attempted.Again passed) alone s t x = absurd (rose (x.stops.1))
     rose (inl less) = omega (arith, less, s, t)
     rose (inr most) = omega (arith, most, t)
 
-pub turn_is_short : (w : Work) (s : State) (n : ℕ) (c : CpuId) (es : List Entry) → length (es ++ turn w s n c) ≤ length es + 1
-turn_is_short w s n c es = by (next w s c (serial_hints w s c))
-  where
-    by : (o : Option Event) → length (es ++ made n c (serial_hints w s c) o) ≤ length es + 1
-    by None = (let e = length-append es (made n c (serial_hints w s c) None) in omega (arith, e))
-    by (Some e) = (let f = length-append es (made n c (serial_hints w s c) (Some e)) in omega (arith, f))
-
 pub plain : (w : Work) (x : PlainWorld) → x.work.now ≡ w → Stands w x → IsPlain x
 plain w x e st = plain_good x (subst (λ v. Stands v x) (sym e) st)
 
@@ -79,12 +72,6 @@ module _ (w : Work) (x y z : PlainWorld) (c : CpuId) (work : x.work.now ≡ w) (
   work_kept (attempted.Made Finished) is = is.0.idles.world.work ∙ its_work
   work_kept (attempted.Again passed) is = is.idles.world.work ∙ its_work
 
-  pub room_left : (a : Attempted) → Attempts (plain_meaning y) (plain_meaning z) a → length x.entries.items < 2 ^ 40 → length z.entries.items ≤ 2 ^ 40
-  room_left a is few =
-      let short = turn_is_short w (told w x) (length x.entries.items) c x.entries.items in
-      let e = ap length (turn_taken a is) in
-      omega (arith, short, e, few)
-
   pub idle_work : (s : Stop) → Refuses (plain_meaning y) (plain_meaning z) s → z.work.now ≡ w
   idle_work Full is = is.0.world.work ∙ its_work
   idle_work Memory is = is.0.world.work ∙ its_work
@@ -96,6 +83,11 @@ module _ (w : Work) (x y z : PlainWorld) (c : CpuId) (work : x.work.now ≡ w) (
   pub not_full : (s : Stop) → Refuses (plain_meaning y) (plain_meaning z) s → length x.entries.items < 2 ^ 40 → s ≡ Full → ⊥
   not_full Full is few e = (let long = is.1 in let same = ap length items in omega (arith, long, same, few))
   not_full Memory is few e = cc
+
+-- a refusal that is none of a full log
+pub for_memory : (s : Stop) → (s ≡ Full → ⊥) → s ≡ Memory
+for_memory Full not = absurd (not refl)
+for_memory Memory not = refl
 
 -- as the world knows its work
 pub stands_again : (w : Work) (z : PlainWorld) → z.work.now ≡ w → IsPlain z → Stands w z

@@ -1,12 +1,217 @@
-//! The turn of a processor in a run on one thread of the host.
+//! The turn of a processor in a run on one thread of the host. Where nothing has to be read of others, and where a search finds nothing
+//! to steal, a processor that has all homes makes its entry at once; every other turn is an attempt, as where homes are shared.
 
-ghost use Rattle.std.specs.Prelude.{◌≡◌, ◌++◌, ◌<◌, ◌≤◌, ◌↔◌, length, IsErrOf, OnErr, OnOk};
-ghost use Rattle.sd_full.specs.Runs.{turn};
+ghost use Rattle.std.specs.Prelude.{◌≡◌, ◌++◌, ◌<◌, ◌≤◌, ◌↔◌, ◌==◌, IfErr, IfSome, List, Option, length, map, vec_capacity, vec_len, true, [], IsErrOf, OnErr, OnOk};
+ghost use Rattle.std.specs.List.{list_all};
+ghost use Rattle.sd_types.specs.declared.events.Which.TheVariants.{Queued};
+ghost use Rattle.sd_types.specs.declared.numbers.CpuId.{CpuId as CpuIdOf};
+ghost use Rattle.sd_machine.specs.declared.states.State.{State};
+ghost use Rattle.sd_full.specs.declared.plans.Plan.TheVariants.{Search};
+ghost use Rattle.sd_full.specs.Choosing.{hint_shown, neighbours, read_of};
+ghost use Rattle.sd_full.specs.Events.{allowed, next};
+ghost use Rattle.sd_full.specs.Plans.{plan as plan_of};
+ghost use Rattle.sd_full.specs.Runs.{made, shown, turn};
 ghost use Rattle.sd_world.specs.Plain.{Stands, told};
+ghost use Rattle.sd_rounds.specs.Turns.{ActsAlone};
 
+use arrayvec::ArrayVec;
 use sd_cpu::{OpenGate, attempt};
-use sd_types::{CpuId, Stop, Work};
-use sd_world::{MOST_ENTRIES, PlainWorld};
+use sd_full::Plan;
+use sd_step::plan;
+use sd_store::Look;
+use sd_types::{CpuId, Event, Hints, Stop, Which, Work};
+use sd_world::{MOST_ENTRIES, PlainWorld, reserve_entry};
+
+/// What a processor has done that has all homes: its turn, or nothing.
+#[derive(Clone, Copy)]
+pub enum Alone {
+    Turned,
+    Left,
+}
+
+/// What the processor that acts is about to do, as far as the homes show it.
+#[inline(always)]
+fn find_plan(work: &Work, world: &PlainWorld) -> Option<Plan>
+    requires { Stands work.now world.now }
+    ensures { IfSome result (λ p. p ≡ plan_of work.now (told work.now world.now) world.now.acting.actor.cpu.0) }
+{
+    match plan(work, &world.acting, world.acting.actor.cpu) {
+        Ok(plan) => Some(plan),
+        Err(_) => None,
+    }
+}
+
+/// Makes room for an entry. `Memory` where memory runs out, and no other error.
+#[inline(always)]
+fn reserve(work: &Work, world: &mut PlainWorld) -> Result<(), Stop>
+    requires stands { Stands work.now world.old }
+    requires few { length world.old.entries.items < MOST_ENTRIES }
+    ensures stands { Stands work.now world.new }
+    ensures same { (world.new.work ≡ world.old.work) × (world.new.acting ≡ world.old.acting) × (world.new.entries.items ≡ world.old.entries.items) }
+    ensures room { OnOk result (vec_len world.new.entries < vec_capacity world.new.entries) }
+    ensures stop { IfErr result (λ stop. stop ≡ Stop.Memory) }
+{
+    reserve_entry(&mut world.entries)
+}
+
+/// Makes the event, for which there is memory, where it may come now.
+#[inline(always)]
+fn come(work: &Work, world: &mut PlainWorld, event: Event, hints: Option<Hints>) -> Result<(), Stop>
+    requires stands { Stands work.now world.old }
+    requires work { world.old.work.now ≡ work.now }
+    requires few { length world.old.entries.items < MOST_ENTRIES }
+    requires event { next work.now (told work.now world.old) world.old.acting.actor.cpu hints ≡ allowed work.now (told work.now world.old) world.old.acting.actor.cpu.0 event }
+    ensures stands { Stands work.now world.new }
+    ensures work { world.new.work.now ≡ work.now }
+    ensures entries { OnOk result (world.new.entries.items ≡ world.old.entries.items
+        ++ made (length world.old.entries.items) world.old.acting.actor.cpu hints (next work.now (told work.now world.old) world.old.acting.actor.cpu hints)) }
+    ensures stop { IfErr result (λ stop. (stop ≡ Stop.Memory) × (world.new.entries.items ≡ world.old.entries.items)) }
+{
+    if event.ticks() && !world.may_tick(work) {
+        return Ok(());
+    }
+    reserve(work, world)?;
+    world.make(work, hints, event);
+    Ok(())
+}
+
+/// Reads the numbers that the neighbours of the processor that acts show of their queues. False where the homes do not show its
+/// neighbours.
+#[inline(always)]
+fn read_neighbours(work: &Work, world: &PlainWorld, numbers: &mut ArrayVec<u8, 64>) -> bool
+    requires stands { Stands work.now world.now }
+    requires empty { numbers.old.items ≡ [] }
+    ensures { result ≡ true → numbers.new.items ≡ map (hint_shown (told work.now world.now) Queued) (neighbours (told work.now world.now) world.now.acting.actor.cpu.0) }
+{
+    let c = world.acting.actor.cpu;
+    match world.acting.cpu(c) {
+        Err(_) => false,
+        Ok(view) => match world.acting.open_cpus(view.set) {
+            Err(_) => false,
+            Ok(cpus) => {
+                world.read_queues(work, c, cpus, numbers);
+                true
+            }
+        },
+    }
+}
+
+/// No thread is on a queue that may be stolen.
+#[inline(always)]
+fn none_queued(numbers: &[u8]) -> bool
+    ensures { result ≡ list_all (λ n. n == 0) numbers.now }
+{
+    numbers.iter().all(|n| *n == 0)
+}
+
+/// The numbers that were read in a search. A processor without neighbours has read none.
+#[inline(always)]
+fn search_hints(hints: Hints) -> Option<Hints>
+    ensures { (s : State) (cpus : List CpuIdOf) → hints.which ≡ Queued → hints.numbers.items ≡ map (hint_shown s Queued) cpus → result ≡ shown s (read_of cpus) }
+{
+    if hints.numbers.is_empty() {
+        None
+    } else {
+        Some(hints)
+    }
+}
+
+/// The turn of a processor that searches, where it finds nothing to steal.
+#[inline(always)]
+fn search(work: &Work, world: &mut PlainWorld) -> Result<Alone, Stop>
+    requires stands { Stands work.now world.old }
+    requires work { world.old.work.now ≡ work.now }
+    requires few { length world.old.entries.items < MOST_ENTRIES }
+    requires plan { Search ≡ plan_of work.now (told work.now world.old) world.old.acting.actor.cpu.0 }
+    ensures stands { Stands work.now world.new }
+    ensures work { world.new.work.now ≡ work.now }
+    ensures acts { ActsAlone work.now world.old world.new result }
+{
+    let mut hints = Hints {
+        which: Which::Queued,
+        numbers: ArrayVec::new(),
+    };
+    if !read_neighbours(work, world, &mut hints.numbers) {
+        return Ok(Alone::Left);
+    }
+    if !none_queued(hints.numbers.as_slice()) {
+        return Ok(Alone::Left);
+    }
+    match come(work, world, Event::Idle, search_hints(hints)) {
+        Ok(()) => Ok(Alone::Turned),
+        Err(stop) => Err(stop),
+    }
+}
+
+/// The turn of a processor with this plan, where it reads nothing of others, or searches and finds nothing to steal.
+#[inline(always)]
+fn follow(work: &Work, world: &mut PlainWorld, plan: Plan) -> Result<Alone, Stop>
+    requires stands { Stands work.now world.old }
+    requires work { world.old.work.now ≡ work.now }
+    requires few { length world.old.entries.items < MOST_ENTRIES }
+    requires plan { plan ≡ plan_of work.now (told work.now world.old) world.old.acting.actor.cpu.0 }
+    ensures stands { Stands work.now world.new }
+    ensures work { world.new.work.now ≡ work.now }
+    ensures acts { ActsAlone work.now world.old world.new result }
+{
+    match plan {
+        Plan::Make(event) => match come(work, world, event, None) {
+            Ok(()) => Ok(Alone::Turned),
+            Err(stop) => Err(stop),
+        },
+        Plan::Search => search(work, world),
+        Plan::Place(_, _) => Ok(Alone::Left),
+    }
+}
+
+/// The turn of the processor that acts, where it reads nothing of others, or searches and finds nothing to steal.
+#[inline(always)]
+fn act_alone(work: &Work, world: &mut PlainWorld) -> Result<Alone, Stop>
+    requires stands { Stands work.now world.old }
+    requires work { world.old.work.now ≡ work.now }
+    requires few { length world.old.entries.items < MOST_ENTRIES }
+    ensures stands { Stands work.now world.new }
+    ensures work { world.new.work.now ≡ work.now }
+    ensures acts { ActsAlone work.now world.old world.new result }
+{
+    match find_plan(work, world) {
+        Some(plan) => follow(work, world, plan),
+        None => Ok(Alone::Left),
+    }
+}
+
+/// The turn of the processor that acts, by an attempt.
+fn attempt_turn(work: &Work, world: &mut PlainWorld) -> Result<(), Stop>
+    requires stands { Stands work.now world.old }
+    requires work { world.old.work.now ≡ work.now }
+    requires few { length world.old.entries.items < MOST_ENTRIES }
+    ensures stands { Stands work.now world.new }
+    ensures work { world.new.work.now ≡ work.now }
+    ensures entries { OnOk result (world.new.entries.items ≡ world.old.entries.items ++ turn work.now (told work.now world.old) (length world.old.entries.items) world.old.acting.actor.cpu) }
+    ensures stop { IfErr result (λ stop. (stop ≡ Stop.Memory) × (world.new.entries.items ≡ world.old.entries.items)) }
+{
+    match attempt(world, &OpenGate, work, 0, false) {
+        Ok(_) => Ok(()),
+        Err(stop) => Err(stop),
+    }
+}
+
+/// The turn of the processor that acts.
+fn act(work: &Work, world: &mut PlainWorld) -> Result<(), Stop>
+    requires stands { Stands work.now world.old }
+    requires work { world.old.work.now ≡ work.now }
+    requires few { length world.old.entries.items < MOST_ENTRIES }
+    ensures stands { Stands work.now world.new }
+    ensures work { world.new.work.now ≡ work.now }
+    ensures entries { OnOk result (world.new.entries.items ≡ world.old.entries.items ++ turn work.now (told work.now world.old) (length world.old.entries.items) world.old.acting.actor.cpu) }
+    ensures stop { IfErr result (λ stop. (stop ≡ Stop.Memory) × (world.new.entries.items ≡ world.old.entries.items)) }
+{
+    match act_alone(work, world) {
+        Err(stop) => Err(stop),
+        Ok(Alone::Turned) => Ok(()),
+        Ok(Alone::Left) => attempt_turn(work, world),
+    }
+}
 
 /// The turn of processor `c`: it makes its entry, where it has one. `Full` exactly where the log holds 2^40 entries or more; so
 /// memory runs out only where it holds fewer, and the entries are then as they were.
@@ -29,8 +234,5 @@ pub(crate) fn take_turn(work: &Work, world: &mut PlainWorld, c: CpuId) -> Result
         return Ok(());
     }
     world.act_as(work, c);
-    match attempt(world, &OpenGate, work, 0, false) {
-        Ok(_) => Ok(()),
-        Err(stop) => Err(stop),
-    }
+    act(work, world)
 }

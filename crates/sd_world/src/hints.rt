@@ -14,6 +14,7 @@ use sd_store::Look;
 use sd_types::{CpuId, ThreadId, Which};
 
 /// A priority plus 1, or 0 for none.
+#[inline(always)]
 fn hint_of(p: Option<u8>) -> u8
     requires { IfSome p (λ n. n < 160) }
     ensures { result ≡ hint_of p }
@@ -25,6 +26,7 @@ fn hint_of(p: Option<u8>) -> u8
 }
 
 /// The effective priority of a thread that was found in these homes.
+#[inline(always)]
 fn priority(x: &Acting, found: Option<ThreadId>) -> Option<u8>
     requires stands { StandsInRun x.now }
     requires found { IfSome found (λ t. has_part x.now (thread_part t) ≡ true) }
@@ -38,6 +40,7 @@ fn priority(x: &Acting, found: Option<ThreadId>) -> Option<u8>
 }
 
 /// The thread whose priority processor `d` shows, whose home is one of these.
+#[inline(always)]
 fn shown_by(x: &Acting, which: Which, d: CpuId) -> Option<ThreadId>
     requires stands { StandsInRun x.now }
     requires home { has_part x.now (cpu_part d) ≡ true }
@@ -57,6 +60,7 @@ fn shown_by(x: &Acting, which: Which, d: CpuId) -> Option<ThreadId>
 }
 
 /// The number that processor `d` shows, whose home is one of these.
+#[inline(always)]
 pub fn shown_hint(x: &Acting, which: Which, d: CpuId) -> u8
     requires stands { StandsInRun x.now }
     requires home { has_part x.now (cpu_part d) ≡ true }

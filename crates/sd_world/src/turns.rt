@@ -1,8 +1,10 @@
 //! A run on homes as a world: what a processor reads of others, and the entry that it makes.
 
-ghost use Rattle.std.specs.Prelude.{◌≡◌, ◌++◌, ◌<◌, ◌≤◌, ◌∷◌, [], Some, length, map, vec_capacity, vec_len, MatchOption};
+ghost use Rattle.std.specs.Prelude.{◌≡◌, ◌++◌, ◌<◌, ◌≤◌, ◌∷◌, ◌==◌, [], Some, filter, length, map, nat_le, not, vec_capacity, vec_len, MatchOption};
+ghost use Rattle.std.specs.List.{list_all};
+ghost use Rattle.sd_types.specs.declared.events.Which.TheVariants.{Queued};
 ghost use Rattle.sd_full.specs.Choosing.{hint_shown};
-ghost use Rattle.sd_full.specs.Events.{next};
+ghost use Rattle.sd_full.specs.Events.{may_tick, next};
 ghost use Rattle.sd_world.specs.Entries.{CanEnter, Enters};
 ghost use Rattle.sd_world.specs.Plain.{AreCpus, HasNoted, IsLess, NoneLess, Stands, told};
 
@@ -31,6 +33,14 @@ fn first_behind(actors: &[Actor], count: u32) -> Option<Behind>
     None
 }
 
+/// No processor has counted less.
+#[inline(always)]
+fn nobody_behind(actors: &[Actor], count: u32) -> bool
+    ensures { result ≡ list_all (λ x. nat_le count x.count) actors.now }
+{
+    actors.iter().all(|x| count <= x.count)
+}
+
 impl<'a> PlainWorld<'a> {
     /// Processor `c` acts from now on.
     pub fn act_as(&mut self, work: &Work, c: CpuId)
@@ -45,6 +55,7 @@ impl<'a> PlainWorld<'a> {
     }
 
     /// The number that processor `d` shows.
+    #[inline(always)]
     fn hint(&self, work: &Work, which: Which, d: CpuId) -> u8
         requires stands { Stands work.now self.now }
         requires cpu { d.0 < work.now.cpus }
@@ -67,8 +78,35 @@ impl<'a> PlainWorld<'a> {
         numbers
     }
 
+    /// Appends the numbers that the others of these processors show of their queues, in the order of the processors.
+    #[inline(always)]
+    pub fn read_queues(&self, work: &Work, c: CpuId, cpus: &[CpuId], numbers: &mut ArrayVec<u8, 64>)
+        requires stands { Stands work.now self.now }
+        requires fits { length cpus.now ≤ 64 }
+        requires there { AreCpus work.now cpus.now }
+        requires empty { numbers.old.items ≡ [] }
+        ensures { numbers.new.items ≡ map (hint_shown (told work.now self.now) Queued) (filter (λ d. not (d.0 == c.0)) cpus.now) }
+    {
+        for d in cpus {
+            if d.0 != c.0 {
+                numbers.push(self.hint(work, Which::Queued, *d));
+            }
+        }
+    }
+
+    /// The processor that acts may tick: its count is below the limit, and no processor's is below it.
+    #[inline(always)]
+    pub fn may_tick(&self, work: &Work) -> bool
+        requires stands { Stands work.now self.now }
+        ensures { result ≡ may_tick work.now (told work.now self.now) self.now.acting.actor.cpu.0 }
+    {
+        let count = self.acting.actor.count;
+        count < work.limit && nobody_behind(&self.actors, count)
+    }
+
     /// Makes the event, for which the log has room.
-    fn make(&mut self, work: &Work, hints: Option<Hints>, event: Event)
+    #[inline(always)]
+    pub fn make(&mut self, work: &Work, hints: Option<Hints>, event: Event)
         requires stands { Stands work.now self.old }
         requires next { next work.now (told work.now self.old) self.old.acting.actor.cpu hints ≡ Some event }
         requires room { vec_len self.old.entries < vec_capacity self.old.entries }

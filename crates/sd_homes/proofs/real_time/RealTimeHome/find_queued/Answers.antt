@@ -1,4 +1,4 @@
-use Rattle.std.proofs.Common.{◌==◌, sym, ap, ◌∙◌}
+use Rattle.std.proofs.Common.{◌==◌, slice_get, sym, ap, ◌∙◌}
 use Rattle.std.proofs.lemmas.Bool.{eq-eqb}
 use Rattle.sd_boxq.specs.Order.{find_id}
 use Rattle.sd_shown.specs.Standing.{id_of}
@@ -8,11 +8,11 @@ use Rattle.sd_homes.proofs.real_time.RealTimeHome.find_queued.Goals as goal
 
 pub returns-in-None : goal.returns-in-None
 returns-in-None c =
-    none_first (λ r. id_of r == c.args.t.0) c.self.inside.queue c.in-None.ensures.value
+    none_first (λ r. id_of r == c.args.t.0) c.self.inside.queue (c.in-None.ensures.value ∙ ap (λ xs. slice_get xs 0) c.threads.ensures)
     ∙ ap (λ (h : OfSet). find_id id_of c.args.t.0 h.queue) c.self.view_is
 
 pub returns-then-best-t : goal.returns-then-best-t
 returns-then-best-t c =
-    some_first (λ r. id_of r == c.args.t.0) c.in-Some.best.now c.self.inside.queue c.in-Some.ensures.value
+    some_first (λ r. id_of r == c.args.t.0) c.in-Some.best.now c.self.inside.queue (c.in-Some.ensures.value ∙ ap (λ xs. slice_get xs 0) c.threads.ensures)
     (ap (λ r. id_of r == c.args.t.0) (sym c.best-in-Some.view_is) ∙ eq-eqb c.best-in-Some.inside.id.0 c.args.t.0 c.if-best-t.true)
     ∙ ap (λ (h : OfSet). find_id id_of c.args.t.0 h.queue) c.self.view_is

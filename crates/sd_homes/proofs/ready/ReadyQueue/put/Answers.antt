@@ -1,0 +1,19 @@
+use Rattle.std.proofs.Common.{◌≤ℤ◌, rules, arith, sym, subst, SFits, w64, ◌∙◌}
+use Rattle.std.proofs.lemmas.Int.{ints, to_z-of_z}
+use Rattle.sd_record.specs.Records.{ThreadRecord}
+use Rattle.sd_homes.proofs.NewestLemmas.{at_most_put}
+use Rattle.sd_homes.proofs.ready.ReadyQueue.put.Goals as goal
+
+pub invariant_of-self : goal.invariant_of-self
+invariant_of-self c =
+    let top = c.later-self-inside.result in
+    let first = c.later-self-inside.ensures.0 in
+    let second = c.later-self-inside.ensures.1 in
+    let own : SFits w64 c.self.inside.newest = search rules in
+    let its : SFits w64 c.behind-node.inside.key = search rules in
+    let fits : SFits w64 top = search rules in
+    let more : c.self.inside.newest ≤ℤ top = omega (arith, ints) in
+    let here : c.behind-node.inside.key ≤ℤ top = omega (arith, ints) in
+    let same = sym (to_z-of_z w64 top fits) in
+    at_most_put c.self.inside.newest _ c.args.node c.self.inside.queue _ (subst (λ z. c.self.inside.newest ≤ℤ z) same more)
+    (subst (λ z. c.args.node.key ≤ℤ z) same (subst (λ (r : ThreadRecord). r.key ≤ℤ top) (c.behind-node.view_is ∙ c.item.ensures) here)) c.self.invariant c.put_among.ensures

@@ -1,0 +1,20 @@
+use Rattle.std.proofs.Common.{◌++◌, None, length, sym, ap, ◌∙◌}
+use Rattle.sd_full.specs.declared.plans.Plan.TheVariants.{Make}
+use Rattle.sd_world.specs.Plain.{told}
+use Rattle.sd_world.proofs.PlainLemmas as P
+use Rattle.sd_rounds.proofs.AloneLemmas.{makes_it, serial_of, with_serial}
+use Rattle.sd_rounds.proofs.turns.follow.Goals as goal
+
+pub come-requires-clause-event : goal.come-requires-clause-event
+come-requires-clause-event c =
+    let w = c.args.work.now in
+    let x = c.args.world.now in
+    makes_it w (told w x) x.acting.actor.cpu c.in-Make.event (P.cpu_inside w x c.requires.stands) (sym c.in-Make.is ∙ c.requires.plan)
+
+pub returns-in-Ok-clause-acts : goal.returns-in-Ok-clause-acts
+returns-in-Ok-clause-acts c =
+    let w = c.args.work.now in
+    let x = c.args.world.now in
+    let s = told w x in
+    let cpu = x.acting.actor.cpu in
+    c.in-Ok.ensures.entries ∙ ap (λ es. x.entries.items ++ es) (with_serial w s (length x.entries.items) cpu None (sym (serial_of w s cpu (Make c.in-Make.event) (sym c.in-Make.is ∙ c.requires.plan))))

@@ -1,0 +1,27 @@
+use Rattle.std.proofs.Common.{length, map, filter, not, ◌==◌, ap, ◌∙◌}
+use Rattle.sd_types.specs.declared.events.Which.TheVariants.{Queued}
+use Rattle.sd_full.specs.Choosing.{hint_shown, neighbours}
+use Rattle.sd_full.specs.Threads.{open_of}
+use Rattle.sd_world.specs.Plain.{told}
+use Rattle.sd_world.proofs.PlainLemmas as P
+use Rattle.sd_rounds.proofs.AloneLemmas.{open_there}
+use Rattle.sd_rounds.proofs.turns.read_neighbours.Goals as goal
+
+pub read_queues-requires-clause-there : goal.read_queues-requires-clause-there
+read_queues-requires-clause-there c =
+    let w = c.args.work.now in
+    let x = c.args.world.now in
+    let st = c.requires.stands in
+    open_there w x c.in-Ok.view.set.0 c.in-Ok-open_cpus.cpus.now st (c.in-Ok-open_cpus.ensures.value (length x.entries.items) (told w x) (P.shown w x st))
+
+pub returns-in-Ok-open_cpus : goal.returns-in-Ok-open_cpus
+unfolding neighbours
+returns-in-Ok-open_cpus c =
+    let w = c.args.work.now in
+    let x = c.args.world.now in
+    let s = told w x in
+    let n = length x.entries.items in
+    let shown = P.shown w x c.requires.stands in
+    λ e. c.read_queues.ensures
+    ∙ ap (λ cs. map (hint_shown s Queued) (filter (λ d. not (d.0 == x.acting.actor.cpu.0)) cs))
+    (c.in-Ok-open_cpus.ensures.value n s shown ∙ ap (λ v. open_of s v.set.0) (c.in-Ok.ensures.value n s shown))
