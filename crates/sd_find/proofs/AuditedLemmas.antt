@@ -1,39 +1,43 @@
--- What was printed of a run that was found is the journal of a complete run, behind its workload.
+-- What was printed of runs that were found are journals of complete runs, behind their workload.
 use Rattle.std.proofs.Common.{◌≡◌, ℕ, ◌≤◌, List, [], length, Some, refl, sym, ap, subst, ◌∙◌, inl, arith}
 use Rattle.std.proofs.lemmas.Option.{same_Some}
 use Rattle.sd_text.proofs.StreamLemmas.{Appends-told}
+use Rattle.sd_types.specs.declared.events.Entry.{Entry}
+use Rattle.sd_types.specs.declared.works.Work.{Work}
 use Rattle.sd_machine.specs.Opening.{opening}
 use Rattle.sd_full.specs.Runs.{final}
 use Rattle.sd_full.specs.Texts.{journal}
 use Rattle.sd_workload.specs.Accepted.{Accepted}
-use Rattle.sd_search.specs.declared.questions.Question.{Question}
 use Rattle.sd_search.specs.Graphs.{packed}
 use Rattle.sd_answers.specs.Certificates.{Certifies, IsJournalOf}
-use Rattle.sd_answers.specs.Inputs.{most_certificate}
+use Rattle.sd_answers.specs.Inputs.{most_certificate, IsWorkload}
 use Rattle.sd_answers.specs.StreamChanges.{StreamChange}
 use Rattle.sd_answers.proofs.InputLemmas.{taken_all}
 use Rattle.sd_answers.proofs.WordLemmas.{no_journal_line}
 use Rattle.sd_program.specs.Audited.{HasWholeLines, certificate_of}
-use Rattle.sd_finder.specs.Texts.{found_text}
-use Rattle.sd_find.specs.Audited.{WitnessesAreAudited}
-use Rattle.sd_find.specs.Promises.{FindsRun}
+use Rattle.sd_finder.specs.Texts.{between_text, found_text, wait_text}
+use Rattle.sd_find.specs.Audited.{EndingsAreAudited, IsFoundLegal, WaitsAreAudited, WitnessesAreAudited}
+use Rattle.sd_find.specs.Shown.{IsCertified}
 
-module _ (q : Question) (most : ℕ) (input out : StreamChange) (text : List ℕ) (is : input.before ≡ Some text) (whole : HasWholeLines text) (f : FindsRun q most input out) where
-  certified : length (certificate_of text (journal f.work f.entries)) ≤ most_certificate
-      → Certifies (certificate_of text (journal f.work f.entries)) (journal f.work f.entries) (IsJournalOf (journal f.work f.entries))
+-- a certified journal behind the workload that was read
+module _ (w : Work) (es : List Entry) (input : StreamChange) (text : List ℕ) (is : input.before ≡ Some text) (whole : HasWholeLines text) (workload : IsWorkload input w) (legal : IsCertified w es) where
+  certified : length (certificate_of text (journal w es)) ≤ most_certificate → Certifies (certificate_of text (journal w es)) (journal w es) (IsJournalOf (journal w es))
   certified many =
-      let found = f.workload in
-      let same = taken_all input.before input.after found.bytes text found.read.took found.read.to_end is in
-      let accepted : Accepted text f.work = subst (λ (bs : List ℕ). Accepted bs f.work) same found.accepted in
+      let same = taken_all input.before input.after workload.bytes text workload.read.took workload.read.to_end is in
+      let accepted : Accepted text w = subst (λ (bs : List ℕ). Accepted bs w) same workload.accepted in
       record {
         before = text;
         many = many;
-        cut = record { first = no_journal_line text f.work accepted; whole = whole; parts = inl refl };
-        bound = let few = found.read.bound in omega (arith, ap length same);
-        work = f.work;
+        cut = record { first = no_journal_line text w accepted; whole = whole; parts = inl refl };
+        bound = let few = workload.read.bound in omega (arith, ap length same);
+        work = w;
         accepted = accepted;
-        holds = (final f.work (opening f.work) f.entries, length f.entries, f.shown.certified);
+        holds = (final w (opening w) es, length es, legal);
       }
+
+  found_legal : length (certificate_of text (journal w es)) ≤ most_certificate → IsFoundLegal text (journal w es)
+  found_legal many asked read told failed found promised audits sound written certificate =
+      promised.completes_audit audits sound written (certificate_of text (journal w es)) (journal w es) certificate (certified many)
 
 pub audited_law : WitnessesAreAudited
 audited_law q most arguments input out err status text printed kept known nine is empty holds whole =
@@ -45,7 +49,34 @@ audited_law q most arguments input out err status text printed kept known nine i
       states = length (packed f.graph);
       journal = journal f.work f.entries;
       printed_is = same_Some printed said (sym holds ∙ Appends-told out.before out.after [] said f.written empty);
-      legal = λ many asked read told failed found promised audits sound written certificate.
-          promised.completes_audit audits sound written (certificate_of text (journal f.work f.entries)) (journal f.work f.entries) certificate
-          (certified q most input out text is whole f many);
+      legal = found_legal f.work f.entries input text is whole f.workload f.shown.certified;
+    }
+
+pub endings_law : EndingsAreAudited
+endings_law name most arguments input out err status text printed kept known nine is empty holds whole =
+    let f = kept.times name most known nine in
+    let said = between_text f.work f.thread f.in_every f.earliest f.latest (length (packed f.graph)) in
+    record {
+      work = f.work;
+      thread = f.thread;
+      in_every = f.in_every;
+      earliest = f.earliest;
+      latest = f.latest;
+      states = length (packed f.graph);
+      printed_is = same_Some printed said (sym holds ∙ Appends-told out.before out.after [] said f.written empty);
+      earliest_legal = found_legal f.work f.earliest.entries.items input text is whole f.workload f.earliest_certified;
+      latest_legal = found_legal f.work f.latest.entries.items input text is whole f.workload f.latest_certified;
+    }
+
+pub waits_law : WaitsAreAudited
+waits_law name most arguments input out err status text printed kept known nine is empty holds whole =
+    let f = kept.measures name most known nine in
+    let said = wait_text f.work f.ticks f.entries (length (packed f.graph)) in
+    record {
+      work = f.work;
+      ticks = f.ticks;
+      entries = f.entries;
+      states = length (packed f.graph);
+      printed_is = same_Some printed said (sym holds ∙ Appends-told out.before out.after [] said f.written empty);
+      legal = found_legal f.work f.entries input text is whole f.workload f.certified;
     }

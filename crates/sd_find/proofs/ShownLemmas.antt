@@ -5,28 +5,29 @@ use Rattle.sd_types.specs.declared.works.Work.{Work}
 use Rattle.sd_machine.specs.declared.states.State.{State}
 use Rattle.sd_machine.specs.Opening.{opening}
 use Rattle.sd_full.specs.Events.{after}
+use Rattle.sd_full.specs.Runs.{IsComplete, IsRun, final}
 use Rattle.sd_full.proofs.RunLemmas.{IsRun-from}
 use Rattle.sd_interleavings.specs.Closed.{IsFresh}
 use Rattle.sd_search.specs.declared.questions.Question.{Question}
 use Rattle.sd_search.specs.Questions.{IsWitness}
 use Rattle.sd_certified.proofs.HintLemmas.{AreShown, all_spelled, opened}
-use Rattle.sd_find.specs.Shown.{IsShown}
+use Rattle.sd_find.specs.Shown.{IsCertified, IsShown}
 
 fresh_shown : (w : Work) (s : State) (es : List Entry) → IsFresh w s es → AreShown w s es
 unfolding IsFresh
 fresh_shown w s [] fresh = tt
 fresh_shown w s (e ∷ es) fresh = (fresh.0, fresh_shown w (after w s e.number e.cpu e.event) es fresh.1)
 
-pub shown_of : (w : Work) (q : Question) (es : List Entry) → IsWitness w q es → length es ≤ 2 ^ 40 → IsShown w q es
-shown_of w q es is short = record {
-  witness = is;
-  certified = record {
-    entries = es;
-    run = is.run;
-    spelled = all_spelled w 0 (opening w) es (opened w) (IsRun-from w es is.run) (fresh_shown w (opening w) es is.fresh) (omega (arith, short));
-    complete = is.ends.complete;
-    whole = refl;
-    many = refl;
-    ends = refl;
-  };
+pub certified_of : (w : Work) (es : List Entry) → IsRun w es → IsFresh w (opening w) es → IsComplete w (final w (opening w) es) → length es ≤ 2 ^ 40 → IsCertified w es
+certified_of w es run fresh complete short = record {
+  entries = es;
+  run = run;
+  spelled = all_spelled w 0 (opening w) es (opened w) (IsRun-from w es run) (fresh_shown w (opening w) es fresh) (omega (arith, short));
+  complete = complete;
+  whole = refl;
+  many = refl;
+  ends = refl;
 }
+
+pub shown_of : (w : Work) (q : Question) (es : List Entry) → IsWitness w q es → length es ≤ 2 ^ 40 → IsShown w q es
+shown_of w q es is short = record { witness = is; certified = certified_of w es is.run is.fresh is.ends.complete short }

@@ -1,7 +1,8 @@
 -- What is said of a search are whole lines.
-use Rattle.std.proofs.Common.{ℕ, Bool, true, false, List, [], ◌++◌, length, Some, refl, sym, subst}
+use Rattle.std.proofs.Common.{ℕ, Bool, true, false, List, [], ◌++◌, length, Option, None, Some, refl, sym, subst, inl, inr}
 use Rattle.std.specs.Prelude.{codes, decimal, if◌then◌else◌, nat_le}
 use Rattle.std.specs.List.{range_with_len}
+use Rattle.sd_types.specs.declared.numbers.ThreadId.{ThreadId}
 use Rattle.sd_types.specs.declared.events.Entry.{Entry}
 use Rattle.sd_types.specs.declared.works.Work.{Work}
 use Rattle.sd_text.specs.Lines.{EndsLine}
@@ -18,14 +19,20 @@ use Rattle.sd_search.specs.declared.questions.Question.{Question}
 use Rattle.sd_search.specs.declared.questions.Question.TheVariants.{Blocked, Stuck}
 use Rattle.sd_search.specs.Graphs.{packed}
 use Rattle.sd_search.specs.Questions.{is_left}
+use Rattle.sd_extremes.specs.declared.ends.Ending.{Ending}
+use Rattle.sd_latency.specs.declared.latency.Longest.{Longest}
+use Rattle.sd_latency.specs.declared.latency.Longest.TheVariants as longest
 use Rattle.sd_answers.proofs.EndLemmas.{Closes, closes-behind, ends-behind}
 use Rattle.sd_program.proofs.ClosingLemmas.{accounts-ends, cycles-ends}
 use Rattle.sd_finder.specs.declared.forms.Aim.{Aim}
-use Rattle.sd_finder.specs.declared.forms.Aim.TheVariants.{Find, Count}
+use Rattle.sd_finder.specs.declared.forms.Aim.TheVariants.{Find, Count, Ends, Waits}
+use Rattle.sd_finder.specs.declared.timings.Timing.{Timing}
+use Rattle.sd_finder.specs.declared.timings.Timing.TheVariants as timing
 use Rattle.sd_finder.specs.declared.verdicts.Told.{Told}
-use Rattle.sd_finder.specs.Answered.{IsTold}
+use Rattle.sd_finder.specs.Answered.{IsTimedByName, IsTold, IsWaitedByName}
 use Rattle.sd_finder.specs.Lefts.{left_line, lefts_text, line_if_left, place_words}
-use Rattle.sd_finder.specs.Texts.{all_line, count_text, finding_text, found_head, left_text, states_line}
+use Rattle.sd_finder.specs.Texts.{all_line, count_text, earliest_head, entries_line, finding_text, found_head, latest_head, left_text, longest_text, states_line, thread_line, tick_line, timing_text, wait_head}
+use Rattle.sd_find.specs.Shown.{progress_line}
 
 newline : Closes (codes "\n")
 newline = λ o. refl
@@ -77,13 +84,77 @@ finding-ends w q (Found es) n = EndsLine-append (found_head w q es.items n) (jou
 finding-ends w q Never n = ends-behind (codes "never\n") (states_line n) (states-closes n)
 finding-ends w q More n = ends-behind (codes "not all searched\n") (states_line n) (states-closes n)
 
-count-ends : (all : Bool) (n finals : ℕ) → EndsLine (count_text all n finals)
-count-ends all n finals =
-    let last = codes "final " ++ (decimal finals ++ codes "\n") in
+entries-closes : (most : Option ℕ) → Closes (codes "\n" ++ entries_line most)
+entries-closes None = newline
+entries-closes (Some k) =
+    let number = decimal k ++ codes "\n" in
+    let words = codes "entries at most " in
+    closes-behind (codes "\n") (words ++ number) (closes-behind words number (closes-behind (decimal k) (codes "\n") newline))
+
+count-ends : (all : Bool) (n finals : ℕ) (most : Option ℕ) → EndsLine (count_text all n finals most)
+count-ends all n finals most =
+    let rest = codes "\n" ++ entries_line most in
+    let last = codes "final " ++ (decimal finals ++ rest) in
     ends-behind (all_line all) (states_line n ++ last)
-    (closes-behind (states_line n) last (closes-behind (codes "final ") (decimal finals ++ codes "\n") (closes-behind (decimal finals) (codes "\n") newline)))
+    (closes-behind (states_line n) last (closes-behind (codes "final ") (decimal finals ++ rest) (closes-behind (decimal finals) rest (entries-closes most))))
+
+-- ---- when a thread ends
+
+tick-closes : (word : List ℕ) (tick : ℕ) → Closes (tick_line word tick)
+tick-closes word tick = closes-behind word (decimal tick ++ codes "\n") (closes-behind (decimal tick) (codes "\n") newline)
+
+ending-ends : (w : Work) (word : List ℕ) (e : Ending) → EndsLine (tick_line word e.tick ++ journal w e.entries.items)
+ending-ends w word e = EndsLine-append (tick_line word e.tick) (journal w e.entries.items) (tick-closes word e.tick (Some 10)) (journal-ends w e.entries.items)
+
+earliest-ends : (w : Work) (t : ThreadId) (in_every : Bool) (earliest : Ending) (n : ℕ) → EndsLine (earliest_head w t in_every earliest n)
+earliest-ends w t in_every earliest n =
+    let tick = tick_line (codes "earliest ") earliest.tick in
+    ends-behind (codes "found\n") (thread_line w t in_every ++ (states_line n ++ tick))
+    (closes-behind (thread_line w t in_every) (states_line n ++ tick) (closes-behind (states_line n) tick (tick-closes (codes "earliest ") earliest.tick)))
+
+timing-ends : (w : Work) (t : ThreadId) (x : Timing) (n : ℕ) → EndsLine (timing_text w t x n)
+timing-ends w t (timing.Between earliest latest in_every) n =
+    let first = journal w earliest.entries.items in
+    let last = latest_head latest ++ journal w latest.entries.items in
+    EndsLine-append (earliest_head w t in_every earliest n) (first ++ last) (earliest-ends w t in_every earliest n)
+    (EndsLine-append first last (journal-ends w earliest.entries.items) (ending-ends w (codes "latest ") latest))
+timing-ends w t timing.Never n = ends-behind (codes "never\n") (states_line n) (states-closes n)
+timing-ends w t timing.More n = ends-behind (codes "not all searched\n") (states_line n) (states-closes n)
+
+-- ---- how long it waits
+
+wait_head-ends : (ticks n : ℕ) → EndsLine (wait_head ticks n)
+wait_head-ends ticks n =
+    let line = tick_line (codes "longest ") ticks in
+    ends-behind (codes "found\n") (line ++ states_line n) (closes-behind line (states_line n) (states-closes n))
+
+longest-ends : (w : Work) (x : Longest) (n : ℕ) → EndsLine (longest_text w x n)
+longest-ends w (longest.Wait ticks es) n = EndsLine-append (wait_head ticks n) (journal w es.items) (wait_head-ends ticks n) (journal-ends w es.items)
+longest-ends w longest.Never n = ends-behind (codes "never\n") (states_line n) (states-closes n)
+longest-ends w longest.More n = ends-behind (codes "not all searched\n") (states_line n) (states-closes n)
+
+-- ---- by the name of the thread
+
+timed-ends : (w : Work) (name : List ℕ) (most : ℕ) (told : Told) → IsTimedByName w name most told → EndsLine told.text.items
+timed-ends w name most told (inl (t, named, is)) = subst EndsLine (sym is.written) (timing-ends w t is.timing (length (packed is.graph)))
+timed-ends w name most told (inr none) = subst EndsLine (sym none.empty) refl
+
+waited-ends : (w : Work) (name : List ℕ) (most : ℕ) (told : Told) → IsWaitedByName w name most told → EndsLine told.text.items
+waited-ends w name most told (inl (t, named, is)) = subst EndsLine (sym is.written) (longest-ends w is.longest (length (packed is.graph)))
+waited-ends w name most told (inr none) = subst EndsLine (sym none.empty) refl
 
 pub told-ends : (w : Work) (aim : Aim) (most : ℕ) (told : Told) → IsTold w aim most told → EndsLine told.text.items
 told-ends w (Find q) most told is = subst EndsLine (sym is.written) (finding-ends w q is.finding (length (packed is.graph)))
 told-ends w Count most told is =
-    subst EndsLine (sym is.written) (count-ends (nat_le (length (packed is.graph)) is.graph.done) (length (packed is.graph)) (length is.finals))
+    subst EndsLine (sym is.written) (count-ends (nat_le (length (packed is.graph)) is.graph.done) (length (packed is.graph)) (length is.finals) is.entries)
+told-ends w (Ends name) most told is = timed-ends w name.items most told is
+told-ends w (Waits name) most told is = waited-ends w name.items most told is
+
+-- ---- how far a search has come
+
+pub progress-ends : (states depth : ℕ) → EndsLine (progress_line states depth)
+progress-ends states depth =
+    let last = decimal depth ++ codes "\n" in
+    let words = codes " depth " in
+    ends-behind (codes "states ") (decimal states ++ (words ++ last))
+    (closes-behind (decimal states) (words ++ last) (closes-behind words last (closes-behind (decimal depth) (codes "\n") newline)))

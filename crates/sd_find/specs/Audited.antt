@@ -1,19 +1,22 @@
--- That the run which a search found is found legal: two calls, one of `dispfind` that finds a run, and one of `dispsim` that audits the
--- journal which it printed. Source: this project's own.
-use Rattle.std.specs.Prelude.{◌≡◌, ℕ, ◌≤◌, List, [], ◌++◌, length, Some, ◌⊎◌}
+-- That the run which a search found is found legal: two calls, one of `dispfind` that finds a run, when a thread ends, or how long it waits, and one of
+-- `dispsim` that audits a journal which it printed. Source: this project's own.
+use Rattle.std.specs.Prelude.{◌≡◌, ℕ, ◌≤◌, Bool, List, [], ◌++◌, length, Some, ◌⊎◌}
+use Rattle.sd_types.specs.declared.numbers.ThreadId.{ThreadId}
 use Rattle.sd_types.specs.declared.events.Entry.{Entry}
 use Rattle.sd_types.specs.declared.works.Work.{Work}
+use Rattle.sd_full.specs.Texts.{journal}
 use Rattle.sd_search.specs.declared.questions.Question.{Question}
+use Rattle.sd_extremes.specs.declared.ends.Ending.{Ending}
 use Rattle.sd_answers.specs.Inputs.{most_certificate}
 use Rattle.sd_answers.specs.StreamChanges.{StreamChange, HasFault}
 use Rattle.sd_program.specs.declared.forms.Command.TheVariants.{Audit}
 use Rattle.sd_program.specs.Audited.{HasWholeLines, certificate_of}
 use Rattle.sd_program.specs.Forms.{command_of}
 use Rattle.sd_program.specs.Headline as program
-use Rattle.sd_finder.specs.declared.forms.Aim.TheVariants.{Find}
+use Rattle.sd_finder.specs.declared.forms.Aim.TheVariants.{Find, Ends, Waits}
 use Rattle.sd_finder.specs.declared.forms.Request.TheVariants.{Search}
 use Rattle.sd_finder.specs.Forms.{request_of}
-use Rattle.sd_finder.specs.Texts.{found_head}
+use Rattle.sd_finder.specs.Texts.{between_text, found_head, wait_text}
 use Rattle.sd_find.specs.Promises.{KeepsPromises}
 
 -- each audit of the text, whose last line has its newline, the line `journal` and this journal has status 0, out of memory and faults aside
@@ -40,3 +43,39 @@ WitnessesAreAudited =
     → KeepsPromises arguments input out err status → request_of arguments ≡ Some (Search (Find q) most) → status ≡ 9
     → input.before ≡ Some text → out.before ≡ Some [] → out.after ≡ Some printed → HasWholeLines text
     → EndsWithJournal q text printed
+
+-- what was printed has two journals, each behind the line with its tick, of which each is found legal where all of it has no more bytes than
+-- an audit takes
+pub record HasJournals (name text printed : List ℕ) : Type 0 where
+  pub work : Work
+  pub thread : ThreadId
+  pub in_every : Bool
+  pub earliest : Ending
+  pub latest : Ending
+  pub states : ℕ
+  pub printed_is : printed ≡ between_text work thread in_every earliest latest states
+  pub earliest_legal : length (certificate_of text (journal work earliest.entries.items)) ≤ most_certificate → IsFoundLegal text (journal work earliest.entries.items)
+  pub latest_legal : length (certificate_of text (journal work latest.entries.items)) ≤ most_certificate → IsFoundLegal text (journal work latest.entries.items)
+
+abbrev pub EndingsAreAudited : Type 0
+EndingsAreAudited =
+    (name : List ℕ) (most : ℕ) (arguments : List (List ℕ)) (input out err : StreamChange) (status : ℕ) (text printed : List ℕ)
+    → KeepsPromises arguments input out err status → request_of arguments ≡ Some (Search (Ends (record { items = name })) most) → status ≡ 9
+    → input.before ≡ Some text → out.before ≡ Some [] → out.after ≡ Some printed → HasWholeLines text
+    → HasJournals name text printed
+
+-- what was printed ends with the journal of a run, found legal where all of it has no more bytes than an audit takes
+pub record HasWait (text printed : List ℕ) : Type 0 where
+  pub work : Work
+  pub ticks : ℕ
+  pub entries : List Entry
+  pub states : ℕ
+  pub printed_is : printed ≡ wait_text work ticks entries states
+  pub legal : length (certificate_of text (journal work entries)) ≤ most_certificate → IsFoundLegal text (journal work entries)
+
+abbrev pub WaitsAreAudited : Type 0
+WaitsAreAudited =
+    (name : List ℕ) (most : ℕ) (arguments : List (List ℕ)) (input out err : StreamChange) (status : ℕ) (text printed : List ℕ)
+    → KeepsPromises arguments input out err status → request_of arguments ≡ Some (Search (Waits (record { items = name })) most) → status ≡ 9
+    → input.before ≡ Some text → out.before ≡ Some [] → out.after ≡ Some printed → HasWholeLines text
+    → HasWait text printed

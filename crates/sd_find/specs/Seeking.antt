@@ -13,7 +13,7 @@ use Rattle.sd_finder.specs.declared.forms.Request.{Request}
 use Rattle.sd_finder.specs.declared.forms.Request.TheVariants.{Help, Search}
 use Rattle.sd_finder.specs.declared.verdicts.Told.{Told}
 use Rattle.sd_finder.specs.declared.verdicts.Verdict.{Verdict}
-use Rattle.sd_finder.specs.declared.verdicts.Verdict.TheVariants.{Done, Found, Never, More}
+use Rattle.sd_finder.specs.declared.verdicts.Verdict.TheVariants.{Done, Found, Never, More, NoThread}
 use Rattle.sd_finder.specs.Answered.{IsTold}
 use Rattle.sd_finder.specs.Forms.{request_of}
 
@@ -24,6 +24,7 @@ verdict_status Done = 0
 verdict_status Found = 9
 verdict_status Never = 10
 verdict_status More = 11
+verdict_status NoThread = 2
 
 abbrev pub ended_status : Result Verdict Answer → ℕ
 ended_status (Ok verdict) = verdict_status verdict
@@ -31,23 +32,29 @@ ended_status (Err answer) = status_of answer
 
 -- the line of an answer where nothing was said: that of a run, but for the usage
 abbrev pub answer_line : Answer → List ℕ
-answer_line Usage = codes "usage: dispfind blocked [--most N] | stuck [--most N] | states [--most N] | --help\n"
+answer_line Usage = codes "usage: dispfind (blocked | stuck | states | ends NAME | waits NAME) [--most N] [--quiet] | --help\n"
 answer_line a = line_of a
 
--- what was said stands on the output, and leaves no line
+-- what was said stands on the output, and leaves no line; that no thread has the name is said here alone
+abbrev pub verdict_line : Verdict → List ℕ
+verdict_line NoThread = codes "refused: no thread has this name\n"
+verdict_line _ = []
+
 abbrev pub ended_line : Result Verdict Answer → List ℕ
-ended_line (Ok verdict) = []
+ended_line (Ok verdict) = verdict_line verdict
 ended_line (Err answer) = answer_line answer
 
 -- ---- the forms in a few lines
 
 abbrev pub help_text : List ℕ
 help_text =
-    codes "dispfind reads a workload, and searches every order in which its processors can act:\n" ++ (codes "dispfind FORM [--most N] < W\n"
-    ++ (codes "blocked   a run at whose end threads block each other in a circle\n" ++ (codes "stuck     a run at whose end a thread that has operations left has not ended\n"
-    ++ (codes "states    how many states there are, and in how many of them runs end\n" ++ (codes "--most N  ends with N states; 1000000 where it is not given\n"
-    ++ (codes "--help    these lines\n" ++ (codes "Exit status: 9 found, its journal behind the line states; 10 never; 11 not all searched\n"
-    ++ codes "(cat W; echo journal; dispfind FORM < W | sed '1,/^states /d') | dispsim audit\n")))))))
+    codes "dispfind reads a workload, and searches every order in which its processors can act:\n" ++ (codes "dispfind FORM [--most N] [--quiet] < W\n"
+    ++ (codes "blocked    a run at whose end threads block each other in a circle\n" ++ (codes "stuck      a run at whose end a thread that has operations left has not ended\n"
+    ++ (codes "states     how many states there are, and in how many of them runs end\n" ++ (codes "ends NAME  at which tick thread NAME ends at the earliest and at the latest\n"
+    ++ (codes "waits NAME how many ticks thread NAME waits at most from a wakeup to its running\n" ++ (codes "--most N   ends with N states; 1000000 where it is not given\n"
+    ++ (codes "--quiet    no lines of progress on the error output of a terminal\n" ++ (codes "--help     these lines\n" ++ (codes "Exit status: 9 found, its journal behind the line states; 10 never; 11 not all searched\n"
+    ++ (codes "(cat W; echo journal; dispfind FORM < W | sed '1,/^states /d') | dispsim audit\n"
+    ++ codes "Of ends two journals stand behind the lines earliest and latest\n")))))))))))
 
 -- ---- an answer and its cause
 
@@ -57,12 +64,13 @@ pub record IsToldOf (aim : Aim) (most : ℕ) (input : StreamChange) (told : Told
   pub workload : IsWorkload input work
   pub is : IsTold work aim most told
 
--- what is said was written whole
+-- what is said was written whole; where that is nothing the output was left alone
 pub record Says (aim : Aim) (most : ℕ) (input out : StreamChange) (verdict : Verdict) : Type 0 where
   pub told : Told
   pub of : IsToldOf aim most input told
   pub verdict_is : told.verdict ≡ verdict
   pub whole : Appends out.before out.after told.text.items
+  pub silent : told.text.items ≡ [] → IsUntouched out
   pub no_fault : HasNoFault out
 
 -- why nothing was said, or not all of it was written
@@ -70,7 +78,7 @@ abbrev pub SaysNothing : Aim → ℕ → StreamChange → StreamChange → Answe
 SaysNothing aim most input out TooLarge = HasTooMany most_bytes input × IsUntouched out
 SaysNothing aim most input out (Refused line cause) = IsNoWorkload input line cause × IsUntouched out
 SaysNothing aim most input out ReadFault = HasFault input × IsUntouched out
-SaysNothing aim most input out WriteFault = (told : Told) × IsToldOf aim most input told × HasFault out × AppendsPart out.before out.after told.text.items
+SaysNothing aim most input out WriteFault = (told : Told) × IsToldOf aim most input told × (told.text.items ≡ [] → ⊥) × HasFault out × AppendsPart out.before out.after told.text.items
 SaysNothing aim most input out OutOfMemory = HasAtMost most_bytes input × IsUntouched out
 SaysNothing aim most input out _ = ⊥
 

@@ -3,12 +3,16 @@
 
 mod helping;
 mod laws;
+mod progress;
+mod quiet;
 mod seeking;
 mod top;
 
-pub use laws::witnesses_are_audited;
+pub use laws::{endings_are_audited, waits_are_audited, witnesses_are_audited};
+pub use progress::Progress;
 use sd_answers::behind_name;
 use sd_text::{StdSink, StdSource};
+use std::io::{IsTerminal, Stderr};
 use std::process::ExitCode;
 use std::{env, io};
 pub use top::{find, start};
@@ -18,6 +22,17 @@ fn arguments(host: &HostRuntime) -> io::Result<Vec<String>> {
     Ok(behind_name(host.alloc(), env::args(host)?)?)
 }
 
+/// Shows how far a search has come where the host's error output is a terminal.
+fn shown_on(host: &HostRuntime) -> Progress<StdSink<Stderr>> {
+    let err = host.stderr();
+    let sink = if err.is_terminal() {
+        Some(StdSink::new(err))
+    } else {
+        None
+    };
+    Progress::new(host.alloc(), sink)
+}
+
 /// The program on the host: gives the host's input, output and error output, and its arguments, to `start`, and returns its
 /// status. It is trusted: no clause says what the host does.
 pub fn program(host: &HostRuntime) -> ExitCode {
@@ -25,5 +40,12 @@ pub fn program(host: &HostRuntime) -> ExitCode {
     let mut out = StdSink::new(host.stdout());
     let mut err = StdSink::new(host.stderr());
     let arguments = arguments(host);
-    ExitCode::from(start(host.alloc(), arguments, &mut input, &mut out, &mut err))
+    ExitCode::from(start(
+        host.alloc(),
+        arguments,
+        &mut input,
+        &mut out,
+        &mut err,
+        &mut shown_on(host),
+    ))
 }

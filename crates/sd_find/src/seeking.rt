@@ -1,28 +1,68 @@
 //! The search of the workload that an input spells.
 
-ghost use Rattle.sd_answers.specs.StreamChanges.{change_of};
+ghost use Rattle.std.specs.Prelude.{◌≡◌, [], IsErrOf, IsOk};
+ghost use Rattle.sd_text.specs.Lines.{EndsLine};
+ghost use Rattle.sd_answers.specs.StreamChanges.{IsUntouched, Puts, change_of};
+ghost use Rattle.sd_answers.specs.declared.writing.Unwritten.TheVariants.{Memory};
 ghost use Rattle.sd_find.specs.Seeking.{CausedBySearch};
 
-use sd_answers::{Answer, put_text, read_input};
-use sd_finder::{Aim, Verdict, tell};
+use sd_answers::{Answer, Unwritten, put_text, read_input};
+use sd_finder::{Aim, Unwatched, Verdict, Watch, tell};
 use sd_text::{Sink, Source};
 use std::alloc::Global;
 
+/// Writes what is said; where that is nothing the output is left alone.
+fn put_said<K: Sink>(out: &mut K, text: &[u8]) -> Result<(), Unwritten>
+    requires { EndsLine text.now }
+    ensures puts { Puts (K.contents out.old) (K.contents out.new) (K.fault_count out.old) (K.fault_count out.new) text.now result }
+    ensures no_memory { IsErrOf result Memory → ⊥ }
+    ensures silent { text.now ≡ [] → IsOk result × IsUntouched (change_of (K.contents out.old) (K.contents out.new) (K.fault_count out.old) (K.fault_count out.new)) }
+{
+    if text.is_empty() {
+        Ok(())
+    } else {
+        put_text(out, text)
+    }
+}
+
 /// Reads a workload, searches it and writes what is said of it. Nothing is written before the search has ended.
-pub(crate) fn seek<S: Source, K: Sink>(
+pub(crate) fn seek<S: Source, K: Sink, W: Watch>(
     alloc: Global,
-    aim: Aim,
+    aim: &Aim,
     most: u64,
     input: &mut S,
     out: &mut K,
+    watch: &mut W,
 ) -> Result<Verdict, Answer>
-    ensures { CausedBySearch aim most
+    ensures { CausedBySearch aim.now most
         (change_of (S.remaining input.old) (S.remaining input.new) (S.fault_count input.old) (S.fault_count input.new))
         (change_of (K.contents out.old) (K.contents out.new) (K.fault_count out.old) (K.fault_count out.new))
         result }
 {
     let work = read_input(alloc, input)?;
-    let told = tell(alloc, &work, aim, most)?;
-    put_text(out, &told.text)?;
+    let told = tell(alloc, &work, aim, most, watch)?;
+    put_said(out, &told.text)?;
     Ok(told.verdict)
+}
+
+/// The same. `watch` is told how far the search has come, unless `quiet`.
+pub(crate) fn seek_watched<S: Source, K: Sink, W: Watch>(
+    alloc: Global,
+    aim: &Aim,
+    most: u64,
+    quiet: bool,
+    input: &mut S,
+    out: &mut K,
+    watch: &mut W,
+) -> Result<Verdict, Answer>
+    ensures { CausedBySearch aim.now most
+        (change_of (S.remaining input.old) (S.remaining input.new) (S.fault_count input.old) (S.fault_count input.new))
+        (change_of (K.contents out.old) (K.contents out.new) (K.fault_count out.old) (K.fault_count out.new))
+        result }
+{
+    if quiet {
+        seek(alloc, aim, most, input, out, &mut Unwatched)
+    } else {
+        seek(alloc, aim, most, input, out, watch)
+    }
 }

@@ -1,22 +1,26 @@
 //! The forms of the arguments of `dispfind`.
 
-ghost use Rattle.std.specs.Prelude.{◌≡◌, map, string_bytes};
+ghost use Rattle.std.specs.Prelude.{◌≡◌, ◌≤◌, length, map, string_bytes};
 ghost use Rattle.sd_types.specs.Works.{same_bytes};
-ghost use Rattle.sd_finder.specs.Forms.{asked, asked_within, request_of};
+ghost use Rattle.sd_finder.specs.Forms.{aim_of, bounded, most_of, named_aim, request_of, search_of, thread_aim};
 
+use arrayvec::ArrayVec;
 use sd_search::Question;
 use sd_text::number;
 
-/// What a search is for: a run that ends so, or how many states there are.
-#[derive(Clone, Copy, Debug, PartialEq, Eq)]
+/// What a search is for: a run that ends so, how many states there are, when the thread of a name ends, or how long it waits at
+/// most from a wakeup to its running.
+#[derive(Drop)]
 pub enum Aim {
     Find(Question),
     Count,
+    Ends { name: ArrayVec<u8, 16> },
+    Waits { name: ArrayVec<u8, 16> },
 }
 
 /// What is asked for: the forms of the arguments, or a search. `most` is the number of states at which it ends, from 1 to
 /// 1,000,000,000.
-#[derive(Clone, Copy, Debug, PartialEq, Eq)]
+#[derive(Drop)]
 pub enum Request {
     Help,
     Search { aim: Aim, most: u64 },
@@ -31,28 +35,59 @@ fn is_word(text: &[u8], word: &[u8]) -> bool
     text == word
 }
 
-fn asked(word: &[u8], most: u64) -> Option<Request>
-    ensures { result ≡ asked word.now most }
+fn aim_of(word: &[u8]) -> Option<Aim>
+    ensures { result ≡ aim_of word.now }
 {
-    let aim = if is_word(word, b"blocked") {
-        Aim::Find(Question::Blocked)
+    if is_word(word, b"blocked") {
+        Some(Aim::Find(Question::Blocked))
     } else if is_word(word, b"stuck") {
-        Aim::Find(Question::Stuck)
+        Some(Aim::Find(Question::Stuck))
     } else if is_word(word, b"states") {
-        Aim::Count
+        Some(Aim::Count)
     } else {
-        return None;
-    };
-    Some(Request::Search { aim, most })
+        None
+    }
 }
 
-fn asked_within(word: &[u8], most: Option<u64>) -> Option<Request>
-    ensures { result ≡ asked_within word.now most }
+/// A name that is short enough.
+fn short_name(name: &[u8]) -> ArrayVec<u8, 16>
+    requires { length name.now ≤ 16 }
+    ensures { result.items ≡ name.now }
+{
+    let mut short = ArrayVec::new();
+    let _ = short.try_extend_from_slice(name);
+    short
+}
+
+fn named_aim(word: &[u8], name: ArrayVec<u8, 16>) -> Option<Aim>
+    ensures { result ≡ named_aim word.now name }
+{
+    if is_word(word, b"ends") {
+        Some(Aim::Ends { name })
+    } else if is_word(word, b"waits") {
+        Some(Aim::Waits { name })
+    } else {
+        None
+    }
+}
+
+fn thread_aim(word: &[u8], name: &[u8]) -> Option<Aim>
+    ensures { result ≡ thread_aim word.now name.now }
+{
+    if name.len() <= 16 {
+        named_aim(word, short_name(name))
+    } else {
+        None
+    }
+}
+
+fn bounded(most: Option<u64>) -> Option<u64>
+    ensures { result ≡ bounded most }
 {
     match most {
         Some(most) => {
             if 1 <= most && most <= 1_000_000_000 {
-                asked(word, most)
+                Some(most)
             } else {
                 None
             }
@@ -61,8 +96,26 @@ fn asked_within(word: &[u8], most: Option<u64>) -> Option<Request>
     }
 }
 
-/// What the arguments ask for: `blocked`, `stuck` or `states`, alone or with `--most N`, or `--help`; None where they are of none
-/// of the forms.
+fn most_of(option: &[u8], most: &[u8]) -> Option<u64>
+    ensures { result ≡ most_of option.now most.now }
+{
+    if is_word(option, b"--most") {
+        bounded(number(most))
+    } else {
+        None
+    }
+}
+
+fn search_of(aim: Option<Aim>, most: Option<u64>) -> Option<Request>
+    ensures { result ≡ search_of aim most }
+{
+    let aim = aim?;
+    let most = most?;
+    Some(Request::Search { aim, most })
+}
+
+/// What the arguments ask for: `blocked`, `stuck`, `states`, or `ends NAME` or `waits NAME` with a name of at most 16 bytes, alone
+/// or with `--most N` behind, or `--help`; None where they are of none of the forms.
 #[tactic(auto, unfolding(crate::specs::Forms::request_of))]
 pub fn request_of(arguments: &[String]) -> Option<Request>
     ensures { result ≡ request_of (map string_bytes arguments.now) }
@@ -72,16 +125,21 @@ pub fn request_of(arguments: &[String]) -> Option<Request>
             if is_word(word.as_bytes(), b"--help") {
                 Some(Request::Help)
             } else {
-                asked(word.as_bytes(), MOST_STATES)
+                search_of(aim_of(word.as_bytes()), Some(MOST_STATES))
             }
         }
-        [word, option, most] => {
-            if is_word(option.as_bytes(), b"--most") {
-                asked_within(word.as_bytes(), number(most.as_bytes()))
-            } else {
-                None
-            }
-        }
+        [word, name] => search_of(
+            thread_aim(word.as_bytes(), name.as_bytes()),
+            Some(MOST_STATES),
+        ),
+        [word, option, most] => search_of(
+            aim_of(word.as_bytes()),
+            most_of(option.as_bytes(), most.as_bytes()),
+        ),
+        [word, name, option, most] => search_of(
+            thread_aim(word.as_bytes(), name.as_bytes()),
+            most_of(option.as_bytes(), most.as_bytes()),
+        ),
         _ => None,
     }
 }

@@ -6,11 +6,17 @@ mod forms;
 mod journals;
 mod lefts;
 mod texts;
+mod timing_texts;
+mod timings;
 mod verdicts;
+mod waiting;
+mod watching;
 
 pub use answering::tell;
 pub use forms::{Aim, Request, request_of};
+pub use timings::Timing;
 pub use verdicts::{Told, Verdict};
+pub use watching::{Unwatched, Watch};
 
 #[cfg(test)]
 mod tests;

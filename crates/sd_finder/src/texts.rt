@@ -2,7 +2,7 @@
 
 ghost use Rattle.std.specs.Prelude.{◌≡◌, ◌++◌, ◌≤◌, ◌^◌, length, OnOk, IfOk};
 ghost use Rattle.sd_finder.specs.Answered.{IsShort};
-ghost use Rattle.sd_finder.specs.Texts.{all_line, count_text, finding_text, found_text, left_text, more_text, never_text, states_line};
+ghost use Rattle.sd_finder.specs.Texts.{all_line, count_text, entries_line, finding_text, found_text, left_text, more_text, never_text, states_line};
 
 use crate::journals::{state_after, write_journal};
 use crate::lefts::write_lefts;
@@ -23,7 +23,7 @@ fn all_line(all: bool) -> &'static [u8]
 }
 
 /// Appends the line with the number of states.
-fn write_states(n: u64, out: &mut Vec<u8>) -> Result<(), AllocError>
+pub(crate) fn write_states(n: u64, out: &mut Vec<u8>) -> Result<(), AllocError>
     ensures { OnOk result (out.new.items ≡ out.old.items ++ states_line n) }
 {
     out.extend_from_slice(b"states ")?;
@@ -69,14 +69,14 @@ fn write_found(
     write_journal(alloc, work, entries, out)
 }
 
-fn write_never(n: u64, out: &mut Vec<u8>) -> Result<(), AllocError>
+pub(crate) fn write_never(n: u64, out: &mut Vec<u8>) -> Result<(), AllocError>
     ensures { OnOk result (out.new.items ≡ out.old.items ++ never_text n) }
 {
     out.extend_from_slice(b"never\n")?;
     write_states(n, out)
 }
 
-fn write_more(n: u64, out: &mut Vec<u8>) -> Result<(), AllocError>
+pub(crate) fn write_more(n: u64, out: &mut Vec<u8>) -> Result<(), AllocError>
     ensures { OnOk result (out.new.items ≡ out.old.items ++ more_text n) }
 {
     out.extend_from_slice(b"not all searched\n")?;
@@ -118,14 +118,31 @@ pub(crate) fn text_of_finding(
     Ok(text)
 }
 
-/// The text that says how many states there are, and in how many of them runs end.
+/// Appends the line with the number of entries that a run has at most, where it is known.
+fn write_entries_at_most(most: Option<u32>, out: &mut Vec<u8>) -> Result<(), AllocError>
+    ensures { OnOk result (out.new.items ≡ out.old.items ++ entries_line most) }
+{
+    match most {
+        Some(most) => {
+            out.extend_from_slice(b"entries at most ")?;
+            put_number(out, u64::from(most))?;
+            out.push(b'\n')?;
+            Ok(())
+        }
+        None => Ok(()),
+    }
+}
+
+/// The text that says how many states there are, in how many of them runs end, and how many entries a run has at most, where that
+/// is known.
 pub(crate) fn text_of_count(
     alloc: Global,
     all: bool,
     n: u64,
     finals: u64,
+    most: Option<u32>,
 ) -> Result<Vec<u8>, AllocError>
-    ensures { IfOk result (λ text. text.items ≡ count_text all n finals) }
+    ensures { IfOk result (λ text. text.items ≡ count_text all n finals most) }
 {
     let mut text = Vec::new(alloc);
     text.extend_from_slice(all_line(all))?;
@@ -133,5 +150,6 @@ pub(crate) fn text_of_count(
     text.extend_from_slice(b"final ")?;
     put_number(&mut text, finals)?;
     text.push(b'\n')?;
+    write_entries_at_most(most, &mut text)?;
     Ok(text)
 }

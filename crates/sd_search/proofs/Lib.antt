@@ -3,6 +3,7 @@ pub mod DepthLemmas
 pub mod FinalLemmas
 pub mod GrowLemmas
 pub mod KeyLemmas
+pub mod LookLemmas
 pub mod PathLemmas
 pub mod QuestionLemmas
 pub mod StoreLemmas

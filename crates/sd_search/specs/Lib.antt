@@ -3,3 +3,4 @@ pub mod Findings
 pub mod Graphs
 pub mod Questions
 pub mod Stored
+pub mod Turns

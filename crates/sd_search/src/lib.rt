@@ -10,10 +10,12 @@ mod judging;
 mod packing;
 mod questions;
 mod store;
+mod turning;
 mod witnesses;
 
 pub use exploring::{begin, explore, explore_more};
 pub use findings::Finding;
 pub use graph::{Graph, Step};
 pub use questions::{Answer, Question};
+pub use turning::Turn;
 pub use witnesses::witness;

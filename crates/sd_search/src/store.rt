@@ -1,7 +1,7 @@
 //! A set of byte strings in the order in which they were put in.
 
 ghost use Rattle.std.specs.Prelude.{map, IfOk};
-ghost use Rattle.sd_search.specs.Stored.{IsInserted};
+ghost use Rattle.sd_search.specs.Stored.{IsIndex, IsInserted};
 
 use indexmap::IndexSet;
 use std::alloc::AllocError;
@@ -12,4 +12,11 @@ pub(crate) fn insert(states: &mut IndexSet<Vec<u8>>, bytes: Vec<u8>) -> Result<b
 {
     let (_, is_new) = states.insert_full(bytes)?;
     Ok(is_new)
+}
+
+/// The number of a string of bytes, by the order in which they were put in; None where it was not.
+pub(crate) fn index_of(states: &IndexSet<Vec<u8>>, bytes: &[u8]) -> Option<usize>
+    ensures { IsIndex (map (λ v. v.items) states.now.keys) bytes.now result }
+{
+    states.get_index_of(bytes)
 }

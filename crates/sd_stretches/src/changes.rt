@@ -294,7 +294,8 @@ pub(crate) fn push_hand_over(
     Ok(())
 }
 
-fn woken_by(event: &Event) -> Option<ThreadId>
+/// The thread that an event wakes.
+pub fn woken_by(event: &Event) -> Option<ThreadId>
     ensures { result ≡ woken_by event.now }
 {
     match *event {

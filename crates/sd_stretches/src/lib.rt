@@ -10,7 +10,7 @@ mod rows;
 mod sights;
 mod spins;
 
-pub use changes::{HandOver, Happening, Load, Rank, Turn, Wakeup};
+pub use changes::{HandOver, Happening, Load, Rank, Turn, Wakeup, woken_by};
 pub use histories::History;
 pub use laws::{
     pieces_fill_stretches, slices_are_exact, stretches_are_exact, stretches_stand_in_order,

@@ -5,6 +5,8 @@ use Rattle.sd_answers.specs.declared.answers.Answer.TheVariants.{Usage}
 use Rattle.sd_answers.specs.StreamChanges.{change_of}
 use Rattle.sd_finder.specs.declared.forms.Request.{Request}
 use Rattle.sd_finder.specs.declared.verdicts.Verdict.{Verdict}
+use Rattle.sd_finder.specs.Forms.{request_of}
+use Rattle.sd_find.specs.Asked.{asked}
 use Rattle.sd_find.specs.Seeking.{CausedBy}
 use Rattle.sd_find.proofs.FindLemmas.{promises_of}
 use Rattle.sd_find.proofs.top.find.Goals as goal
@@ -18,16 +20,16 @@ returns-in-Some-Search g c =
     let shown = g.E.Sink.contents in
     let failed = g.E.Sink.fault_count in
     let i = c.args.input.now in
-    let j = c.seek.new.input in
+    let j = c.seek_watched-ended.new.input in
     let o = c.args.out.now in
-    let p = c.seek.new.out in
+    let p = c.seek_watched-ended.new.out in
     let e = c.args.err.now in
     let f = c.report-in-Some-Search.new.err in
     let input = change_of (left i) (left j) (read i) (read j) in
     let out = change_of (held o) (held p) (written o) (written p) in
-    promises_of (map string_bytes c.args.arguments.now) input out (change_of (shown e) (shown f) (failed e) (failed f)) c.seek.result c.report-in-Some-Search.result
+    promises_of (asked (map string_bytes c.args.arguments.now)) input out (change_of (shown e) (shown f) (failed e) (failed f)) c.seek_watched-ended.result c.report-in-Some-Search.result
     c.report-in-Some-Search.ensures.status
-    (subst (λ k. CausedBy k input out c.seek.result) (sym (sym c.request_of.ensures ∙ c.in-Some-Search.is ∙ ap (λ (r : Request). Some r) c.in-Some-Search.field-0-is)) c.seek.ensures) c.report-in-Some-Search.ensures.told
+    (subst (λ k. CausedBy k input out c.seek_watched-ended.result) (sym (ap request_of (sym c.asked.ensures) ∙ sym c.request_of.ensures ∙ c.in-Some-Search.is ∙ ap (λ (r : Request). Some r) c.in-Some-Search.field-0-is)) c.seek_watched-ended.ensures) c.report-in-Some-Search.ensures.told
 
 pub returns-in-Some-Help : goal.returns-in-Some-Help
 returns-in-Some-Help g c =
@@ -43,9 +45,9 @@ returns-in-Some-Help g c =
     let f = c.report.new.err in
     let input = change_of left left read read in
     let out = change_of (held o) (held p) (written o) (written p) in
-    promises_of (map string_bytes c.args.arguments.now) input out (change_of (shown e) (shown f) (failed e) (failed f)) c.put_help.result c.report.result
+    promises_of (asked (map string_bytes c.args.arguments.now)) input out (change_of (shown e) (shown f) (failed e) (failed f)) c.put_help.result c.report.result
     c.report.ensures.status
-    (subst (λ k. CausedBy k input out c.put_help.result) (sym (sym c.request_of.ensures ∙ c.in-Some-Help.is ∙ ap (λ (r : Request). Some r) c.in-Some-Help.field-0-is)) (record { bytes = refl; no_fault = refl }, c.put_help.ensures)) c.report.ensures.told
+    (subst (λ k. CausedBy k input out c.put_help.result) (sym (ap request_of (sym c.asked.ensures) ∙ sym c.request_of.ensures ∙ c.in-Some-Help.is ∙ ap (λ (r : Request). Some r) c.in-Some-Help.field-0-is)) (record { bytes = refl; no_fault = refl }, c.put_help.ensures)) c.report.ensures.told
 
 pub returns-in-None : goal.returns-in-None
 returns-in-None g c =
@@ -60,6 +62,6 @@ returns-in-None g c =
     let input = change_of left left read read in
     let out = change_of held held written written in
     let usage : Result Verdict Answer = Err Usage in
-    promises_of (map string_bytes c.args.arguments.now) input out (change_of (shown e) (shown f) (failed e) (failed f)) usage c.report-in-None.result c.report-in-None.ensures.status
-    (subst (λ k. CausedBy k input out usage) (sym (sym c.request_of.ensures ∙ c.in-None.is))
+    promises_of (asked (map string_bytes c.args.arguments.now)) input out (change_of (shown e) (shown f) (failed e) (failed f)) usage c.report-in-None.result c.report-in-None.ensures.status
+    (subst (λ k. CausedBy k input out usage) (sym (ap request_of (sym c.asked.ensures) ∙ sym c.request_of.ensures ∙ c.in-None.is))
     (refl, record { bytes = refl; no_fault = refl }, record { bytes = refl; no_fault = refl })) c.report-in-None.ensures.told

@@ -1,12 +1,13 @@
 use Rattle.sd_finder.proofs.answering.answer.Goals as goal
 
 pub returns : goal.returns
-returns c = record {
+returns g c = record {
   graph = c.in_ok-graph.graph;
   search = c.in_ok-graph.ensures;
   finding = c.in_ok-finding.finding;
   is = c.in_ok-finding.ensures.finding;
   fair = c.in_ok-finding.ensures.fair;
+  shortest = c.in_ok-finding.ensures.shortest;
   short = c.in_ok-text.ensures.short;
   verdict = c.verdict_of-verdict.ensures;
   written = rw c.len-many.ensures at c.in_ok-text.ensures.text;

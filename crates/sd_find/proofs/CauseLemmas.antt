@@ -1,0 +1,170 @@
+-- How a call of `dispfind` ends has its cause: what is so of its streams for each answer, and the other sides of this.
+use Rattle.std.proofs.Common.{◌≡◌, ℕ, ◌<◌, ◌≤◌, List, [], length, Result, Ok, Err, Some, refl, sym, ap, subst, ◌∙◌, inl, inr, arith}
+use Rattle.std.specs.Prelude.{◌⊎◌}
+use Rattle.std.specs.Result.{IsErrAnd}
+use Rattle.std.proofs.lemmas.Result.{err_from_is_err_and}
+use Rattle.sd_types.specs.declared.works.Work.{Work}
+use Rattle.sd_declare.specs.declared.causes.WorkCause.{WorkCause}
+use Rattle.sd_workload.specs.Accepted.{Accepted, FirstCause}
+use Rattle.sd_workload.proofs.OneLemmas.{one-work}
+use Rattle.sd_answers.specs.declared.answers.Answer.{Answer}
+use Rattle.sd_answers.specs.declared.answers.Answer.TheVariants as answer
+use Rattle.sd_answers.specs.declared.answers.Answer.TheVariants.{Usage, TooLarge, TooLargeToAudit, NoJournal, Refused, ReadFault, WriteFault, OutOfMemory, Blocked, NotAJournal, TooLong}
+use Rattle.sd_answers.specs.declared.writing.Unwritten.{Unwritten}
+use Rattle.sd_answers.specs.declared.writing.Unwritten.TheVariants as unwritten
+use Rattle.sd_answers.specs.Answers.{status_of, unwritten_answer}
+use Rattle.sd_answers.specs.Inputs.{most_bytes, HasTooMany, IsNoWorkload, IsRefused, IsWorkload}
+use Rattle.sd_answers.specs.StreamChanges.{StreamChange, IsUntouched, Puts}
+use Rattle.sd_answers.proofs.InputLemmas.{at_most_of, not_both, not_too_many as within_most, taken_all, taken_within}
+use Rattle.sd_program.specs.Headline.{Refuses}
+use Rattle.sd_finder.specs.declared.forms.Aim.{Aim}
+use Rattle.sd_finder.specs.declared.verdicts.Told.{Told}
+use Rattle.sd_finder.specs.declared.verdicts.Verdict.{Verdict}
+use Rattle.sd_finder.specs.declared.verdicts.Verdict.TheVariants.{Done, Found, Never, More, NoThread}
+use Rattle.sd_find.specs.Promises.{CompletesSearch}
+use Rattle.sd_find.specs.Seeking.{CausedBySearch, IsToldOf, Says, SaysNothing, ended_status, verdict_status}
+
+-- ---- an input that is too large, or no workload, is no accepted one
+
+pub too_many : (input : StreamChange) (bytes : List ℕ) → HasTooMany most_bytes input → input.before ≡ Some bytes → length bytes ≤ most_bytes → ⊥
+too_many input bytes many is short =
+    let within = taken_within input.before input.after many.bytes bytes many.took is in
+    let count = many.many in
+    absurd (omega arith)
+
+pub refused : (input : StreamChange) (bytes : List ℕ) (w : Work) (line : ℕ) (cause : WorkCause) → IsNoWorkload input line cause → input.before ≡ Some bytes → Accepted bytes w → ⊥
+refused input bytes w line cause none is accepted =
+    not_both bytes w line cause accepted
+    (subst (λ bs. FirstCause bs line cause) (taken_all input.before input.after none.bytes bytes none.read.took none.read.to_end is) none.first)
+
+no_workload : (input : StreamChange) (bytes : List ℕ) → input.before ≡ Some bytes → (most_bytes < length bytes) ⊎ ((w : Work) → Accepted bytes w → ⊥) → (w : Work) → IsWorkload input w → ⊥
+no_workload input bytes is (inl many) w found =
+    let all = taken_all input.before input.after found.bytes bytes found.read.took found.read.to_end is in
+    let bound = found.read.bound in
+    absurd (omega (arith, ap length all))
+no_workload input bytes is (inr none) w found =
+    none w (subst (λ bs. Accepted bs w) (taken_all input.before input.after found.bytes bytes found.read.took found.read.to_end is) found.accepted)
+
+-- the workload that was read is the one that the bytes spell
+pub read_work : (input : StreamChange) (bytes : List ℕ) (work w : Work) → IsWorkload input work → input.before ≡ Some bytes → Accepted bytes w → work ≡ w
+read_work input bytes work w found is accepted =
+    one-work bytes work w (subst (λ bs. Accepted bs work) (taken_all input.before input.after found.bytes bytes found.read.took found.read.to_end is) found.accepted) accepted
+
+-- ---- the search of an input
+
+module _ (aim : Aim) (most : ℕ) (input out : StreamChange) where
+  -- the input is no workload
+  pub unread : (a : Answer) → IsRefused input a → IsUntouched out → SaysNothing aim most input out a
+  unread answer.Done is kept = absurd is
+  unread Usage is kept = absurd is
+  unread TooLarge is kept = (is, kept)
+  unread TooLargeToAudit is kept = absurd is
+  unread NoJournal is kept = absurd is
+  unread (Refused line cause) is kept = (is, kept)
+  unread ReadFault is kept = (is, kept)
+  unread WriteFault is kept = absurd is
+  unread OutOfMemory is kept = (is, kept)
+  unread Blocked is kept = absurd is
+  unread (NotAJournal fault) is kept = absurd is
+  unread TooLong is kept = absurd is
+
+  -- what is said was not written whole
+  pub unwritten_told : (told : Told) (e : Unwritten) → IsToldOf aim most input told → (told.text.items ≡ [] → ⊥) → Puts out.before out.after out.faults_before out.faults_after told.text.items (Err e)
+      → (e ≡ unwritten.Memory → ⊥) → SaysNothing aim most input out (unwritten_answer e)
+  unwritten_told told unwritten.Fault of some p none = (told, of, some, p.fault refl, p.part)
+  unwritten_told told unwritten.Memory of some p none = absurd (none refl)
+
+  -- memory ran out in the search
+  pub unsearched : (w : Work) → IsWorkload input w → IsUntouched out → SaysNothing aim most input out OutOfMemory
+  unsearched w is kept = (at_most_of most_bytes input is.bytes is.read, kept)
+
+  -- what the exit of a `?` returns
+  pub seek_exit : (r : Result Verdict Answer) (a : Answer) → IsErrAnd r (λ y. y ≡ a) → SaysNothing aim most input out a → CausedBySearch aim most input out r
+  seek_exit r a exit nothing =
+      let x = err_from_is_err_and r exit in
+      subst (CausedBySearch aim most input out) (sym (x.1 ∙ ap Err x.2)) nothing
+
+  -- ---- the exit statuses
+
+  -- from 2 to 5, where nothing was said
+  pub failed : (a : Answer) → SaysNothing aim most input out a → (2 ≤ status_of a) × (status_of a ≤ 5)
+  failed answer.Done c = absurd c
+  failed Usage c = absurd c
+  failed TooLarge c = (omega arith, omega arith)
+  failed TooLargeToAudit c = absurd c
+  failed NoJournal c = absurd c
+  failed (Refused line cause) c = (omega arith, omega arith)
+  failed ReadFault c = (omega arith, omega arith)
+  failed WriteFault c = (omega arith, omega arith)
+  failed OutOfMemory c = (omega arith, omega arith)
+  failed Blocked c = absurd c
+  failed (NotAJournal fault) c = absurd c
+  failed TooLong c = absurd c
+
+  pub done_of : (ended : Result Verdict Answer) → CausedBySearch aim most input out ended → ended_status ended ≡ 0 → Says aim most input out Done
+  done_of (Ok Done) c is = c
+  done_of (Ok Found) c is = absurd (omega arith)
+  done_of (Ok Never) c is = absurd (omega arith)
+  done_of (Ok More) c is = absurd (omega arith)
+  done_of (Ok NoThread) c is = absurd (omega arith)
+  done_of (Err a) c is = let f = failed a c in absurd (omega (arith, f.0, f.1, is))
+
+  pub found_of : (ended : Result Verdict Answer) → CausedBySearch aim most input out ended → ended_status ended ≡ 9 → Says aim most input out Found
+  found_of (Ok Done) c is = absurd (omega arith)
+  found_of (Ok Found) c is = c
+  found_of (Ok Never) c is = absurd (omega arith)
+  found_of (Ok More) c is = absurd (omega arith)
+  found_of (Ok NoThread) c is = absurd (omega arith)
+  found_of (Err a) c is = let f = failed a c in absurd (omega (arith, f.0, f.1, is))
+
+  pub never_of : (ended : Result Verdict Answer) → CausedBySearch aim most input out ended → ended_status ended ≡ 10 → Says aim most input out Never
+  never_of (Ok Done) c is = absurd (omega arith)
+  never_of (Ok Found) c is = absurd (omega arith)
+  never_of (Ok Never) c is = c
+  never_of (Ok More) c is = absurd (omega arith)
+  never_of (Ok NoThread) c is = absurd (omega arith)
+  never_of (Err a) c is = let f = failed a c in absurd (omega (arith, f.0, f.1, is))
+
+  pub more_of : (ended : Result Verdict Answer) → CausedBySearch aim most input out ended → ended_status ended ≡ 11 → Says aim most input out More
+  more_of (Ok Done) c is = absurd (omega arith)
+  more_of (Ok Found) c is = absurd (omega arith)
+  more_of (Ok Never) c is = absurd (omega arith)
+  more_of (Ok More) c is = c
+  more_of (Ok NoThread) c is = absurd (omega arith)
+  more_of (Err a) c is = let f = failed a c in absurd (omega (arith, f.0, f.1, is))
+
+  -- ---- the other sides
+
+  pub completes : (Said : Work → ℕ → Type 0) → ((v : Verdict) → (c : Says aim most input out v) → Said c.of.work (verdict_status v)) → (ended : Result Verdict Answer)
+      → CausedBySearch aim most input out ended → CompletesSearch Said input out (ended_status ended)
+  completes Said said (Ok v) c = λ sound told bytes w is short accepted. inl (subst (λ x. Said x (verdict_status v)) (read_work input bytes c.of.work w c.of.workload is accepted) (said v c))
+  completes Said said (Err answer.Done) c = absurd c
+  completes Said said (Err Usage) c = absurd c
+  completes Said said (Err TooLarge) c = λ sound told bytes w is short accepted. absurd (too_many input bytes c.0 is short)
+  completes Said said (Err TooLargeToAudit) c = absurd c
+  completes Said said (Err NoJournal) c = absurd c
+  completes Said said (Err (Refused line cause)) c = λ sound told bytes w is short accepted. absurd (refused input bytes w line cause c.0 is accepted)
+  completes Said said (Err ReadFault) c = λ sound told bytes w is short accepted. absurd (sound c.0)
+  completes Said said (Err WriteFault) c = λ sound told bytes w is short accepted. absurd (told c.3)
+  completes Said said (Err OutOfMemory) c = λ sound told bytes w is short accepted. inr refl
+  completes Said said (Err Blocked) c = absurd c
+  completes Said said (Err (NotAJournal fault)) c = absurd c
+  completes Said said (Err TooLong) c = absurd c
+
+  pub refuses : (ended : Result Verdict Answer) → CausedBySearch aim most input out ended → Refuses input (ended_status ended)
+  refuses (Ok v) c = λ sound bytes is. (
+    λ many. absurd (no_workload input bytes is (inl many) c.of.work c.of.workload),
+    λ none. absurd (no_workload input bytes is (inr none) c.of.work c.of.workload),
+  )
+  refuses (Err answer.Done) c = absurd c
+  refuses (Err Usage) c = absurd c
+  refuses (Err TooLarge) c = λ sound bytes is. (λ many. refl, λ none. inl refl)
+  refuses (Err TooLargeToAudit) c = absurd c
+  refuses (Err NoJournal) c = absurd c
+  refuses (Err (Refused line cause)) c = λ sound bytes is. (λ many. refl, λ none. inl refl)
+  refuses (Err ReadFault) c = λ sound bytes is. (λ many. absurd (sound c.0), λ none. absurd (sound c.0))
+  refuses (Err WriteFault) c = λ sound bytes is. (λ many. absurd (no_workload input bytes is (inl many) c.1.work c.1.workload), λ none. absurd (no_workload input bytes is (inr none) c.1.work c.1.workload))
+  refuses (Err OutOfMemory) c = λ sound bytes is. (λ many. absurd (let few = within_most most_bytes input bytes c.0 is in omega arith), λ none. inr refl)
+  refuses (Err Blocked) c = absurd c
+  refuses (Err (NotAJournal fault)) c = absurd c
+  refuses (Err TooLong) c = absurd c

@@ -1,0 +1,4 @@
+pub mod Effects
+pub mod Laws
+pub mod Tables
+pub mod Waits

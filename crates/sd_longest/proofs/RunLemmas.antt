@@ -1,0 +1,88 @@
+-- From each state of a run as many entries follow as its height says, at most, and some run has as many.
+use Rattle.std.proofs.Common.{◌≡◌, ℕ, zero, suc, ◌+◌, ◌≤◌, List, [], ◌∷◌, length, get_or, Some, refl, ap, inl, inr, ◌⊎◌, arith}
+use Rattle.std.specs.Prelude.{slice_get, slice_index}
+use Rattle.std.proofs.lemmas.Option.{slice_get-get_or}
+use Rattle.sd_types.specs.declared.numbers.ThreadId.{ThreadId}
+use Rattle.sd_types.specs.declared.events.Entry.{Entry}
+use Rattle.sd_types.specs.declared.works.Work.{Work}
+use Rattle.sd_machine.specs.declared.states.State.{State}
+use Rattle.sd_machine.specs.Opening.{opening}
+use Rattle.sd_full.specs.Events.{after}
+use Rattle.sd_full.specs.Runs.{IsRun, IsRunFrom, IsStep, serial_hints}
+use Rattle.sd_full.proofs.RunLemmas.{IsRun-from}
+use Rattle.sd_range.proofs.Induction.{opening_reached}
+use Rattle.sd_interleavings.specs.Closed.{IsFresh}
+use Rattle.sd_search.specs.declared.graph.Step.{Step}
+use Rattle.sd_search.specs.Graphs.{IsGathered}
+use Rattle.sd_search.proofs.TellLemmas.{inside_at}
+use Rattle.sd_waits.specs.declared.edges.Edge.{Edge}
+use Rattle.sd_latency.specs.Tables.{AreRows}
+use Rattle.sd_latency.proofs.NearLemmas.{IsNear}
+use Rattle.sd_latency.proofs.TraceLemmas.{stepped}
+use Rattle.sd_latency.proofs.WalkLemmas.{entry_of, taken}
+use Rattle.sd_longest.specs.Heights.{AreHeights}
+use Rattle.sd_longest.specs.LongestRuns.{HasMost}
+
+-- so many entries follow from a state
+record HasEntries (w : Work) (n : ℕ) (s : State) (k : ℕ) : Type 0 where
+  entries : List Entry
+  run : IsRunFrom w s n entries
+  fresh : IsFresh w s entries
+  many : length entries ≡ k
+
+no_entries : (w : Work) (n : ℕ) (s : State) → HasEntries w n s 0
+unfolding IsRunFrom IsFresh
+no_entries w n s = record { entries = []; run = tt; fresh = tt; many = refl }
+
+one_entry : (w : Work) (n k : ℕ) (s : State) (e : Entry) → e.number ≡ n → IsStep w s e → e.hints ≡ serial_hints w s e.cpu → HasEntries w (n + 1) (after w s e.number e.cpu e.event) k → HasEntries w n s (suc k)
+unfolding IsRunFrom IsFresh
+one_entry w n k s e number step shown rest = record {
+  entries = e ∷ rest.entries;
+  run = (number, step, rest.run);
+  fresh = (shown, rest.fresh);
+  many = ap suc rest.many;
+}
+
+is_run : (w : Work) (es : List Entry) → IsRunFrom w (opening w) 0 es → IsRun w es
+unfolding IsRun
+is_run w es run = run
+
+module _ (w : Work) (bs : List (List ℕ)) (steps : List Step) (done : ℕ) (g : IsGathered w bs steps done) (t : ThreadId) (rows : List (List Edge)) (a : AreRows w bs t (length bs) rows) (hs : List ℕ) (heights : AreHeights rows hs) where
+  bounded : (n : ℕ) (s : State) (i : ℕ) (es : List Entry) → IsNear w bs n s i → IsRunFrom w s n es → IsFresh w s es → length es ≤ slice_index hs i
+  bounded n s i [] near run fresh = omega arith
+  bounded n s i (e ∷ es) near run fresh =
+      let one = stepped w bs steps done g t rows a n s i e es near run fresh in
+      let rest = bounded (n + 1) (after w s e.number e.cpu e.event) one.edge.to es one.near one.run one.fresh in
+      let up = (heights.each i one.at.row one.at.row_at).above one.at.place one.edge one.at.at in
+      let many : length (e ∷ es) ≡ length es + 1 = omega arith in
+      omega (arith, rest, up, many)
+
+  reached : (k n : ℕ) (s : State) (i : ℕ) → IsNear w bs n s i → slice_index hs i ≡ k → HasEntries w n s k
+  reached zero n s i near is = no_entries w n s
+  reached (suc k) n s i near is =
+      let within = inside_at bs i near.state near.at in
+      let many = a.many in
+      let none : List Edge = [] in
+      let row = get_or rows i none in
+      let row_at : slice_get rows i ≡ Some row = slice_get-get_or rows i none (omega (arith, many, within)) in
+      by (λ m x j there at. reached k m x j there at) row row_at (heights.each i row row_at).made
+    where
+      by : ((m : ℕ) (x : State) (j : ℕ) → IsNear w bs m x j → slice_index hs j ≡ k → HasEntries w m x k) → (row : List Edge) → slice_get rows i ≡ Some row → (slice_index hs i ≡ 0) ⊎ ((place : ℕ) × (e : Edge) × (slice_get row place ≡ Some e) × (slice_index hs i ≡ slice_index hs e.to + 1)) → HasEntries w n s (suc k)
+      by next row row_at (inl zero_is) = absurd (omega (arith, is, zero_is))
+      by next row row_at (inr (place, e, at, above)) =
+          let one = taken w bs steps done g t rows a n s i e near (record { row = row; row_at = row_at; place = place; at = at }) in
+          let rest = next (n + 1) (after w s n e.cpu one.event) e.to one.near (omega (arith, is, above)) in
+          one_entry w n k s (entry_of w n s e.cpu one.event) refl one.step refl rest
+
+  start : IsNear w bs 0 (opening w) 0
+  start = record { state = g.start; at = g.start_at; same = g.opens; reached = opening_reached w }
+
+  pub longest_of : HasMost w (slice_index hs 0)
+  longest_of =
+      let long = reached (slice_index hs 0) 0 (opening w) 0 start refl in
+      record {
+        entries = long.entries;
+        run = record { run = is_run w long.entries long.run; fresh = long.fresh };
+        many = long.many;
+        most = λ es r. bounded 0 (opening w) 0 es start (IsRun-from w es r.run) r.fresh;
+      }

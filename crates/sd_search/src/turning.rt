@@ -1,0 +1,75 @@
+//! The turns of processors from states that were expanded.
+
+ghost use Rattle.std.specs.Prelude.{◌≡◌, ◌<◌, Some, IfOk};
+ghost use Rattle.sd_full.specs.Events.{next};
+ghost use Rattle.sd_full.specs.Runs.{serial_hints};
+ghost use Rattle.sd_machine.specs.declared.states.State.{State as StateOf};
+ghost use Rattle.sd_search.specs.Graphs.{Gathers, IsAt, packed};
+ghost use Rattle.sd_search.specs.Turns.{IsTurnOf, LeadsTo};
+
+use crate::graph::Graph;
+use crate::packing::pack;
+use crate::store::index_of;
+use sd_encoding::rank;
+use sd_machine::State;
+use sd_steps::{apply, serial_next};
+use sd_types::{CpuId, Event, Work};
+use std::alloc::{AllocError, Global};
+
+/// The event that a processor makes in its turn, and the number of the state that it leads to.
+#[derive(Clone, Copy)]
+pub struct Turn {
+    pub event: Event,
+    pub to: usize,
+}
+
+impl Graph {
+    /// The number of the state after an event of processor `c` in state number `i`, which was expanded.
+    fn number_after(
+        &self,
+        alloc: Global,
+        work: &Work,
+        i: usize,
+        c: CpuId,
+        event: Event,
+    ) -> Result<usize, AllocError>
+        requires gathered { Gathers work.now self.now }
+        requires expanded { i < self.now.done }
+        requires makes { (x : StateOf) → IsAt (packed self.now) i x → next work.now x c (serial_hints work.now x c) ≡ Some event }
+        ensures { IfOk result (λ j. (x : StateOf) → IsAt (packed self.now) i x → LeadsTo work.now (packed self.now) x c event j) }
+    {
+        let mut state = self.state(alloc, work, i)?;
+        apply(work, &mut state, 0, c, event);
+        rank(alloc, &mut state)?;
+        let bytes = pack(alloc, &state)?;
+        match index_of(&self.states, bytes.as_slice()) {
+            Some(j) => Ok(j),
+            None => unreachable!(),
+        }
+    }
+
+    /// The turn of processor `c` from state number `i`, which is this one and was expanded; None where it has none.
+    pub fn turn(
+        &self,
+        alloc: Global,
+        work: &Work,
+        i: usize,
+        state: &State,
+        c: CpuId,
+    ) -> Result<Option<Turn>, AllocError>
+        requires gathered { Gathers work.now self.now }
+        requires at { IsAt (packed self.now) i state.now }
+        requires expanded { i < self.now.done }
+        requires cpu { c.0 < work.now.cpus }
+        ensures { IfOk result (IsTurnOf work.now (packed self.now) state.now c) }
+    {
+        let (_, event) = serial_next(work, state, c);
+        match event {
+            Some(event) => {
+                let to = self.number_after(alloc, work, i, c, event)?;
+                Ok(Some(Turn { event, to }))
+            }
+            None => Ok(None),
+        }
+    }
+}

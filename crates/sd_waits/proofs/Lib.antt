@@ -1,0 +1,7 @@
+pub mod CandidateLemmas
+pub mod LabelLemmas
+pub mod ListLemmas
+pub mod MarkLemmas
+pub mod OpeningLemmas
+pub mod SettledLemmas
+pub mod WalkLemmas

@@ -1,0 +1,5 @@
+pub mod Candidates
+pub mod Edges
+pub mod Labels
+pub mod Marking
+pub mod Openings
