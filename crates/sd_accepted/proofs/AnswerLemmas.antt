@@ -2,7 +2,7 @@
 use Rattle.std.proofs.Common.{◌≡◌, ℕ, ◌*◌, ◌<◌, ◌≤◌, ◌⊎◌, inl, inr, true, false, ◌&&◌, ◌||◌, nat_eq, List, [], ◌∷◌, length, map, Option, Some, None, refl, sym, ap, ◌∙◌, subst, arith, append-nil}
 use Rattle.std.specs.Prelude.{nat_le, unwrap_or, is_none, IfSome}
 use Rattle.std.specs.List.{list_all}
-use Rattle.std.proofs.lemmas.Bool.{false≢true}
+use Rattle.std.proofs.lemmas.Bool.{false≢true, and_parts}
 use Rattle.std.proofs.lemmas.Bool.Decides.{nat_tests}
 use Rattle.std.proofs.lemmas.List.{length-map}
 use Rattle.std.proofs.lemmas.List.Folds.{flat_map-map}
@@ -36,7 +36,6 @@ use Rattle.sd_workload.specs.Sound.{named, named_cpus, set_is_sound, thread_is_s
 use Rattle.sd_workload.specs.Texts.{Outside, Accepts, end_causes, end_cause, verdict_of}
 use Rattle.sd_workload.proofs.ClearLemmas.{clear}
 use Rattle.sd_workload.proofs.FirstLemmas.{either}
-use Rattle.sd_workload.proofs.NameLemmas.{both}
 use Rattle.sd_workload.proofs.SoundLemmas.{text-sound}
 use Rattle.sd_workload.proofs.WorkLemmas.{IsFew, few}
 use Rattle.sd_round_trip.proofs.ListLemmas.{all-map, map-map}
@@ -55,7 +54,7 @@ record NamedAs {X : Type 0} (xs : List (Word × X)) : Type 0 where
 names-of : {X : Type 0} (xs : List (Word × X)) → list_all (λ x. is_name x.0) xs ≡ true → NamedAs xs
 names-of [] h = record { things = []; same = refl }
 names-of {X} (x ∷ xs) h =
-    let p = both (is_name x.0) (list_all (λ (y : Word × X). is_name y.0) xs) h in
+    let p = and_parts (is_name x.0) (list_all (λ (y : Word × X). is_name y.0) xs) h in
     let rest = names-of xs p.1 in
     record { things = (name-of x.0 p.0, x.1) ∷ rest.things; same = ap (λ l. x ∷ l) rest.same }
 
@@ -129,7 +128,7 @@ record RtMade (o : Option (List Line)) (hz : ℕ) : Type 0 where
   rows : length table.rows ≡ 60
 
 sixty : (n : ℕ) → (nat_le 60 n && nat_le n 60) ≡ true → n ≡ 60
-sixty n h = let p = both (nat_le 60 n) (nat_le n 60) h in grind (arith, nat_tests, p.0, p.1)
+sixty n h = let p = and_parts (nat_le 60 n) (nat_le n 60) h in grind (arith, nat_tests, p.0, p.1)
 
 rt-made : (o : Option (List Line)) (hz : ℕ) → 1 ≤ hz → IfSome o Raw → IfSome o (IsTableLines rt_format) → RtMade o hz
 rt-made None hz some r t =

@@ -4,7 +4,7 @@ use Rattle.std.specs.Prelude.{codes}
 use Rattle.std.specs.Fmt.{digits}
 use Rattle.std.specs.Fmt.{decimal}
 use Rattle.std.specs.List.{list_all, range_with_len, flat_map}
-use Rattle.std.proofs.lemmas.Bool.{le-leb}
+use Rattle.std.proofs.lemmas.Bool.{le-leb, and_parts}
 use Rattle.std.proofs.lemmas.Bool.Decides.{nat_tests}
 use Rattle.std.proofs.lemmas.Option.{same_Some}
 use Rattle.std.proofs.lemmas.Fmt.{length-decimal-le, digits_decimal}
@@ -16,17 +16,15 @@ use Rattle.sd_types.specs.declared.works.LockKind.TheVariants.{Mutex, Rwlock}
 use Rattle.sd_types.specs.NameWords.{is_letter, is_name_byte, is_name}
 use Rattle.sd_types.specs.Works.{same_bytes}
 use Rattle.sd_text.specs.Numbers.{number_of}
-use Rattle.sd_text.proofs.NumberLemmas.{number_of-decimal}
+use Rattle.sd_text.proofs.NumberLemmas.{number_of-decimal, own}
 use Rattle.sd_lines.specs.Words.{Word, first, only_word, all_numbers}
 use Rattle.sd_lines.specs.Statements.{Cpus, Limit, Set, set_line, setting_statement, statement_of}
 use Rattle.sd_declare.specs.Declarations.{Declarations, nothing, set_place}
 use Rattle.sd_declare.specs.Statements.{is_taken}
 use Rattle.sd_workload.specs.Texts.{Outside}
-use Rattle.sd_workload.proofs.NameLemmas.{both}
 use Rattle.sd_gen.specs.Generated.{head_text, locks_text}
 use Rattle.sd_canonical.specs.Canonical.{line_text}
 use Rattle.sd_round_trip.proofs.TakesLemmas.{Takes, takes-both, takes-line}
-use Rattle.sd_round_trip.proofs.FormLemmas.{own}
 use Rattle.sd_round_trip.proofs.BlockLemmas.{same-word}
 use Rattle.sd_round_trip.proofs.ObjectLemmas.{IsNamed, kind_text, takes-lock_lines}
 
@@ -38,7 +36,7 @@ numbered letter n = letter ∷ decimal n
 digits-name : (word : Word) → all_ascii_digits word ≡ true → list_all is_name_byte word ≡ true
 digits-name [] h = refl
 digits-name (b ∷ bs) h =
-    let p = both (is_ascii_digit b) (all_ascii_digits bs) h in
+    let p = and_parts (is_ascii_digit b) (all_ascii_digits bs) h in
     let here : is_name_byte b ≡ true = grind (arith, nat_tests, p.0) in
     rw here (digits-name bs p.1)
 

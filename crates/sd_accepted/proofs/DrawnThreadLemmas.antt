@@ -24,6 +24,7 @@ use Rattle.sd_declare.specs.Statements.{statement_causes, thread_of}
 use Rattle.sd_workload.specs.Texts.{Outside}
 use Rattle.sd_workload.proofs.ClearLemmas.{IsClear}
 use Rattle.sd_gen.specs.Generated.{drawn, drawn_from, priorities, class_text, set_text, thread_text, thread_line}
+use Rattle.sd_gen.proofs.DrawnLemmas.{range_from}
 use Rattle.sd_canonical.specs.Lines.{class_words}
 use Rattle.sd_canonical.specs.Canonical.{spaced, line_text}
 use Rattle.sd_round_trip.proofs.TextLemmas.{is_plain, are_plain, name-plain}
@@ -38,18 +39,12 @@ use Rattle.sd_accepted.proofs.DrawnLemmas.{numbered, numbered-name, other-number
 unfoldable pub names-to : ℕ → List Word
 names-to n = map (numbered 116) (range_with_len 0 n)
 
-range-push : (a n : ℕ) → range_with_len a (suc n) ≡ range_with_len a n ++ (a + n) ∷ []
-range-push a zero = ap (λ k. k ∷ []) (let e : a ≡ a + 0 = omega arith in e)
-range-push a (suc n) =
-    ap (λ (xs : List ℕ). a ∷ xs) (range-push (a + 1) n)
-    ∙ ap (λ k. a ∷ (range_with_len (a + 1) n ++ k ∷ [])) (let e : a + 1 + n ≡ a + suc n = omega arith in e)
-
 names-push : (n : ℕ) → names-to (n + 1) ≡ names-to n ++ numbered 116 n ∷ []
 unfolding names-to
 names-push n =
     let e : n + 1 ≡ suc n = omega arith in
     let z : 0 + n ≡ n = omega arith in
-    ap (λ k. map (numbered 116) (range_with_len 0 k)) e ∙ ap (map (numbered 116)) (range-push 0 n) ∙ map-append (numbered 116) (range_with_len 0 n) ((0 + n) ∷ [])
+    ap (λ k. map (numbered 116) (range_with_len 0 k)) e ∙ ap (map (numbered 116)) (range_from 0 n) ∙ map-append (numbered 116) (range_with_len 0 n) ((0 + n) ∷ [])
     ∙ ap (λ k. map (numbered 116) (range_with_len 0 n) ++ numbered 116 k ∷ []) z
 
 pub names-count : (n : ℕ) → length (names-to n) ≡ n

@@ -2,7 +2,7 @@
 use Rattle.std.proofs.Common.{◌≡◌, ℕ, zero, suc, ◌+◌, ◌*◌, ◌<◌, ◌≤◌, true, false, not, ltb, leb, set, get_or, List, [], ◌∷◌, length, map, Option, Some, None, refl, sym, ap, ◌∙◌, subst, arith, append-nil}
 use Rattle.std.specs.Prelude.{codes, nat_lt, unwrap_or, is_none}
 use Rattle.std.specs.List.{list_all, position_or_len, sum_by}
-use Rattle.std.proofs.lemmas.Bool.{lt-ltb, leb-true, le-leb}
+use Rattle.std.proofs.lemmas.Bool.{lt-ltb, leb-true, le-leb, and_parts}
 use Rattle.std.proofs.lemmas.Bool.Decides.{nat_tests}
 use Rattle.std.proofs.lemmas.List.Folds.{list_all-append}
 use Rattle.std.proofs.lemmas.List.Sums.{sum_by-cons}
@@ -19,7 +19,6 @@ use Rattle.sd_declare.specs.Statements.{statement_causes}
 use Rattle.sd_workload.specs.Texts.{Outside, InScript, with_script, no_thread, is_too_many, end_causes, end_cause, unless_refused, Accepts, judged, verdict_of}
 use Rattle.sd_workload.proofs.ClearLemmas.{IsClear}
 use Rattle.sd_workload.proofs.JudgedLemmas.{judged-end}
-use Rattle.sd_workload.proofs.NameLemmas.{both}
 use Rattle.sd_gen.specs.Generated.{number_line, round_text, script_text, thread_line, drawn_from, first_generator, generated}
 use Rattle.sd_round_trip.proofs.TextLemmas.{are_plain, name-plain}
 use Rattle.sd_round_trip.proofs.TakesLemmas.{Takes, takes-nothing, takes-both, takes-line, none-clear}
@@ -28,6 +27,7 @@ use Rattle.sd_round_trip.proofs.ScriptLemmas.{takes-close}
 use Rattle.sd_round_trip.proofs.ScriptsLemmas.{are_before, none-given, before-more}
 use Rattle.sd_round_trip.proofs.RangeLemmas.{all-set}
 use Rattle.sd_round_trip.proofs.ListLemmas.{place-map}
+use Rattle.sd_round_trip.proofs.WorkLemmas.{not-more}
 use Rattle.sd_accepted.proofs.DrawnLemmas.{numbered, numbered-name, below-head, the-locks, locks-count, takes-head, takes-the-locks}
 use Rattle.sd_accepted.proofs.DrawnThreadLemmas.{names-to, Threads, threads-count, name-place, takes-drawn_threads}
 use Rattle.sd_accepted.proofs.DrawnOpLemmas.{two-words}
@@ -134,14 +134,11 @@ takes-drawn_scripts (suc k) i g d e r =
 sum-most : (ts : List Thread) → list_all (λ t. leb (length t.ops) 18) ts ≡ true → sum_by (λ t. length t.ops) ts ≤ 18 * length ts
 sum-most [] h = omega arith
 sum-most (t ∷ ts) h =
-    let p = both (leb (length t.ops) 18) (list_all (λ (x : Thread). leb (length x.ops) 18) ts) h in
+    let p = and_parts (leb (length t.ops) 18) (list_all (λ (x : Thread). leb (length x.ops) 18) ts) h in
     let here = leb-true _ _ p.0 in
     let rest = sum-most ts p.1 in
     let e : sum_by (λ (x : Thread). length x.ops) (t ∷ ts) ≡ length t.ops + sum_by (λ (x : Thread). length x.ops) ts = sum_by-cons (λ (x : Thread). length x.ops) t ts in
     omega arith
-
-not-more : (a b : ℕ) → b ≤ a → nat_lt a b ≡ false
-not-more a b h = grind (arith, nat_tests)
 
 end-free : (d : Declarations) → Ready 200 d → end_cause d Outside ≡ None
 unfolding end_cause

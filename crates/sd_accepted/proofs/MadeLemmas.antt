@@ -3,7 +3,7 @@ use Rattle.std.proofs.Common.{◌≡◌, ℕ, zero, suc, ◌+◌, ◌<◌, ◌�
 use Rattle.std.specs.Prelude.{codes, nat_lt, IfSome}
 use Rattle.std.specs.Option.{option_map, option_and_then}
 use Rattle.std.specs.List.{list_all}
-use Rattle.std.proofs.lemmas.Bool.{false≢true}
+use Rattle.std.proofs.lemmas.Bool.{false≢true, and_parts}
 use Rattle.std.proofs.lemmas.Bool.Decides.{nat_tests}
 use Rattle.std.proofs.lemmas.Option.{none-some}
 use Rattle.std.proofs.lemmas.List.{map-append, length-set}
@@ -46,7 +46,7 @@ use Rattle.sd_workload.specs.Texts.{Block, Outside, InTable, InScript, stated_ca
 use Rattle.sd_workload.proofs.ClearLemmas.{clear}
 use Rattle.sd_workload.proofs.FirstLemmas.{apart, same-accepted}
 use Rattle.sd_workload.proofs.FitsLemmas.{line-more}
-use Rattle.sd_workload.proofs.NameLemmas.{both}
+use Rattle.sd_workload.proofs.LineLemmas.{all-push}
 
 -- ---- names in statements
 
@@ -201,9 +201,6 @@ IsMadeBlock Outside = Unit {0}
 IsMadeBlock (InTable class above) = Raw above
 IsMadeBlock (InScript t ops) = EachOpFits ops × (length ops ≤ 256)
 
-push : {X : Type 0} (p : X → Bool) (xs : List X) (x : X) → list_all p xs ≡ true → p x ≡ true → list_all p (xs ++ x ∷ []) ≡ true
-push p xs x all here = list_all-append p xs (x ∷ []) ∙ rw (all, here) refl
-
 room : {X : Type 0} (xs : List X) (x : X) (n : ℕ) → leb n (length xs) ≡ false → length (xs ++ x ∷ []) ≤ n
 room xs x n h = let less : length xs < n = grind (arith, nat_tests) in omega (arith, length-append xs (x ∷ []))
 
@@ -211,7 +208,7 @@ room xs x n h = let less : length xs < n = grind (arith, nat_tests) in omega (ar
 
 set-made : (d : Declarations) (name : Word) (cs : List ℕ) → least (set_causes d name cs) ≡ None → is_name name ≡ true → Made d → Made (with_statement d (Set name cs))
 set-made d name cs h n m = record {
-  sets = push (λ (s : Word × List CpuId). is_name s.0) d.sets (name, map cpu_of_number cs) m.sets n;
+  sets = all-push (λ (s : Word × List CpuId). is_name s.0) d.sets (name, map cpu_of_number cs) m.sets n;
   locks = m.locks;
   chans = m.chans;
   threads = m.threads;
@@ -227,7 +224,7 @@ set-made d name cs h n m = record {
 lock-made : (d : Declarations) (k : LockKind) (name : Word) → least (lock_causes d name) ≡ None → is_name name ≡ true → Made d → Made (with_statement d (Lock k name))
 lock-made d k name h n m = record {
   sets = m.sets;
-  locks = push (λ (l : Word × LockKind). is_name l.0) d.locks (name, k) m.locks n;
+  locks = all-push (λ (l : Word × LockKind). is_name l.0) d.locks (name, k) m.locks n;
   chans = m.chans;
   threads = m.threads;
   few_sets = m.few_sets;
@@ -243,7 +240,7 @@ chan-made : (d : Declarations) (k : ChanKind) (name : Word) → leb 256 (length 
 chan-made d k name h n m = record {
   sets = m.sets;
   locks = m.locks;
-  chans = push (λ (l : Word × ChanKind). is_name l.0) d.chans (name, k) m.chans n;
+  chans = all-push (λ (l : Word × ChanKind). is_name l.0) d.chans (name, k) m.chans n;
   threads = m.threads;
   few_sets = m.few_sets;
   few_locks = m.few_locks;
@@ -376,7 +373,7 @@ table-made d table.Rt lines r m = record {
 raw-push : (lines : List Line) (line : List ℕ) → is_line line ≡ true → Raw lines → Raw (lines ++ words_of line ∷ [])
 raw-push lines line h r = record {
   raw = r.raw ++ line ∷ [];
-  single = push is_line r.raw line r.single h;
+  single = all-push is_line r.raw line r.single h;
   words = map-append words_of r.raw (line ∷ []) ∙ ap (λ l. l ++ words_of line ∷ []) r.words;
 }
 
@@ -436,7 +433,7 @@ line-below d Outside line l h m k = record { declared = outside-made d (words_of
 line-below d (InTable class above) line l h m k = table-below d class above line (is_end (words_of line)) l k m
 line-below d (InScript t ops) line l h m k = script-below d t ops (words_of line) (is_end (words_of line)) refl h k.0 k.1 m
 
-unrefused : (n : ℕ) (c : Option WorkCause) (v : Verdict) (e : Declarations) → unless_refused n c v ≡ Accepts e → (c ≡ None) × (v ≡ Accepts e)
+pub unrefused : (n : ℕ) (c : Option WorkCause) (v : Verdict) (e : Declarations) → unless_refused n c v ≡ Accepts e → (c ≡ None) × (v ≡ Accepts e)
 unrefused n None v e h = (refl, h)
 unrefused n (Some x) v e h = absurd (apart e n x (sym h))
 
@@ -457,7 +454,7 @@ lines-made : (lines : List (List ℕ)) (n : ℕ) (d e : Declarations) (b : Block
 unfolding judged
 lines-made [] n d e b l h m k = end-made n d e b h m
 lines-made (line ∷ lines) n d e b l h m k =
-    let q = both (is_line line) (list_all is_line lines) l in
+    let q = and_parts (is_line line) (list_all is_line lines) l in
     let words = words_of line in
     let p = unrefused n (cause_of d b words) (judged (n + 1) (declared_after d b words) (block_after d b words) (map words_of lines)) e h in
     let r = line-below d b line q.0 p.0 m k in

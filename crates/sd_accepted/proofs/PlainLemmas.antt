@@ -6,7 +6,7 @@ use Rattle.std.specs.Char.{is_ascii_digit}
 use Rattle.std.specs.Str.{all_ascii_digits}
 use Rattle.std.specs.Str.Parse.{digits_value}
 use Rattle.std.specs.List.{list_all}
-use Rattle.std.proofs.lemmas.Bool.{false≢true}
+use Rattle.std.proofs.lemmas.Bool.{false≢true, and_parts}
 use Rattle.std.proofs.lemmas.Bool.Decides.{nat_tests}
 use Rattle.std.proofs.lemmas.Option.{none-some, same_Some}
 use Rattle.sd_types.specs.declared.works.LockKind.TheVariants.{Mutex, Rwlock}
@@ -16,7 +16,6 @@ use Rattle.sd_text.specs.Numbers.{is_number, number_of, signed_of}
 use Rattle.sd_lines.specs.Words.{Word, Line, name_of, quantum_of, unless_dash, first, only_word, only, behind, is_done, all_numbers}
 use Rattle.sd_lines.specs.Threads.{ts_words, fx_words, sys_words, rt_words, class_words, uid_words, uid_option, priv_words, priv_option, set_words, set_option, options, thread_line}
 use Rattle.sd_lines.specs.Statements.{Cpus, Hz, Limit, Table, Lock, Chan, Declare, Script, table_class, set_line, sema_line, thread_statement, object_statement, setting_statement, statement_of}
-use Rattle.sd_workload.proofs.NameLemmas.{both}
 use Rattle.sd_round_trip.proofs.BlockLemmas.{same-word}
 use Rattle.sd_accepted.specs.Plain.{is_printable}
 
@@ -63,11 +62,11 @@ digit-printable b h = grind (arith, nat_tests)
 digits-plain : (word : Word) → all_ascii_digits word ≡ true → plain word ≡ true
 digits-plain [] h = refl
 digits-plain (b ∷ bs) h =
-    let p = both (is_ascii_digit b) (all_ascii_digits bs) h in
+    let p = and_parts (is_ascii_digit b) (all_ascii_digits bs) h in
     rw (digit-printable b p.0, digits-plain bs p.1) refl
 
 pub is-number-plain : (word : Word) → is_number word ≡ true → plain word ≡ true
-is-number-plain word h = digits-plain word (both (ltb 0 (length word) && leb (length word) 10) (all_ascii_digits word) h).1
+is-number-plain word h = digits-plain word (and_parts (ltb 0 (length word) && leb (length word) 10) (all_ascii_digits word) h).1
 
 number-if : (word : Word) (b : Bool) (n : ℕ) → is_number word ≡ b → Reads (if b then Some n else None) (plain word ≡ true)
 number-if word true n e = is-number-plain word e
@@ -98,14 +97,14 @@ quantum-plain word =
 bytes-plain : (word : Word) → list_all is_name_byte word ≡ true → plain word ≡ true
 bytes-plain [] h = refl
 bytes-plain (b ∷ bs) h =
-    let p = both (is_name_byte b) (list_all is_name_byte bs) h in
+    let p = and_parts (is_name_byte b) (list_all is_name_byte bs) h in
     let here : is_printable b ≡ true = grind (arith, nat_tests, p.0) in
     rw (here, bytes-plain bs p.1) refl
 
 pub name-plain : (word : Word) → Reads (name_of word) (plain word ≡ true)
 name-plain word =
     read-chosen (is_name word) (Some word) None (plain word ≡ true)
-    (λ h. bytes-plain word (both (begins_with_letter word && leb (length word) 16) (list_all is_name_byte word) h).1) tt
+    (λ h. bytes-plain word (and_parts (begins_with_letter word && leb (length word) 16) (list_all is_name_byte word) h).1) tt
 
 pub dash-plain : {X : Type 0} (of : Word → Option X) → ((word : Word) → Reads (of word) (plain word ≡ true)) → (word : Word) → Reads (unless_dash of word) (plain word ≡ true)
 dash-plain of each word = read-chosen (same_bytes word (codes "-")) _ _ (plain word ≡ true) (keyword word (codes "-") refl) (read-mapped _ (of word) (plain word ≡ true) (each word))

@@ -3,7 +3,7 @@ use Rattle.std.proofs.Common.{◌≡◌, ℕ, ◌+◌, Bool, true, false, not, �
 use Rattle.std.specs.Prelude.{codes, nat_lt, nat_eq, is_none}
 use Rattle.std.specs.Option.{option_map, option_and_then}
 use Rattle.std.specs.List.{list_all, list_any, slice_split, onto_first}
-use Rattle.std.proofs.lemmas.Bool.{false≢true, lt-ltb}
+use Rattle.std.proofs.lemmas.Bool.{false≢true, lt-ltb, and_parts, and_from}
 use Rattle.std.proofs.lemmas.Bool.Decides.{nat_tests}
 use Rattle.std.proofs.lemmas.Option.{none-some}
 use Rattle.sd_types.specs.declared.scripts.Op.{Op}
@@ -26,10 +26,11 @@ use Rattle.sd_workload.specs.Accepted.{Accepted}
 use Rattle.sd_workload.specs.Scripts.{end_fault}
 use Rattle.sd_workload.specs.Texts.{Block, Outside, InTable, InScript, stated_cause, format_of, rows_cause, operation_cause, script_cause, unless_done, cause_of, declared_after, block_after, Verdict, Accepts, unless_refused, judged}
 use Rattle.sd_workload.proofs.FirstLemmas.{apart}
-use Rattle.sd_workload.proofs.NameLemmas.{both}
+use Rattle.sd_workload.proofs.FitsLemmas.{none-mapped}
 use Rattle.sd_round_trip.proofs.BlockLemmas.{same-word}
 use Rattle.sd_accepted.specs.Plain.{is_printable, may_stand, is_plain_line}
 use Rattle.sd_accepted.proofs.PlainLemmas.{plain, plains, Reads, read-mapped, read-weaker, read-chosen, read-keyword, leaves-then, first-leaves, only-plain, number-plain, is-number-plain, signed-plain, quantum-plain, name-plain, dash-plain, statement-plain}
+use Rattle.sd_accepted.proofs.MadeLemmas.{unrefused}
 
 -- ---- operations
 
@@ -132,9 +133,9 @@ res-word (a ∷ []) h g = grind (arith, nat_tests)
 res-word (a ∷ b ∷ []) h g = grind (arith, nat_tests)
 res-word (a ∷ b ∷ c ∷ []) h g = grind (arith, nat_tests)
 res-word (a ∷ b ∷ c ∷ e ∷ rest) h g =
-    let p = both (nat_eq a 82 && nat_eq b 69 && nat_eq c 83) (nat_eq e 61) h in
-    let q = both (nat_eq a 82 && nat_eq b 69) (nat_eq c 83) p.0 in
-    let r = both (nat_eq a 82) (nat_eq b 69) q.0 in
+    let p = and_parts (nat_eq a 82 && nat_eq b 69 && nat_eq c 83) (nat_eq e 61) h in
+    let q = and_parts (nat_eq a 82 && nat_eq b 69) (nat_eq c 83) p.0 in
+    let r = and_parts (nat_eq a 82) (nat_eq b 69) q.0 in
     let first : is_printable a ≡ true = grind (arith, nat_tests, r.0) in
     let second : is_printable b ≡ true = grind (arith, nat_tests, r.1) in
     let third : is_printable c ≡ true = grind (arith, nat_tests, q.1) in
@@ -166,7 +167,7 @@ no-resolution false b c number h = refl
 numbers-plain : (line : Line) → list_all is_number line ≡ true → Plain line
 numbers-plain [] h = refl
 numbers-plain (word ∷ words) h =
-    let p = both (is_number word) (list_all is_number words) h in
+    let p = and_parts (is_number word) (list_all is_number words) h in
     rw (is-number-plain word p.0, numbers-plain words p.1) refl
 
 row-numbers : (b : Bool) (o : Option TableFault) (number : ℕ) → cond b o (Some (NotANumber number)) ≡ None → b ≡ true
@@ -182,17 +183,13 @@ table-if columns above word words number true h =
 table-if columns above word words number false h =
     let line = word ∷ words in
     let has = row-numbers (has_numbers columns line) (option_map (λ column. Range number (column + 1)) (column_outside columns (numbers_of line))) number h in
-    numbers-plain line (both (nat_eq (length line) (length columns)) (list_all is_number line) has).1
+    numbers-plain line (and_parts (nat_eq (length line) (length columns)) (list_all is_number line) has).1
 
 table-plain : (columns : List Column) (above : List Line) (line : Line) (number : ℕ) → line_fault columns above line number ≡ None → Plain line
 table-plain columns above [] number h = refl
 table-plain columns above (word ∷ words) number h = table-if columns above word words number (is_res_word word) h
 
 -- ---- lines
-
-none-mapped : {X Y : Type 0} (f : X → Y) (o : Option X) → option_map f o ≡ None → o ≡ None
-none-mapped f None h = refl
-none-mapped f (Some x) h = absurd (none-some (f x) (sym h))
 
 stated-plain : (d : Declarations) (line : Line) (o : Option Statement) → Reads o (Plain line) → stated_cause d o ≡ None → Plain line
 stated-plain d line None h none = absurd (none-some Syntax (sym none))
@@ -225,10 +222,6 @@ line-plain d Outside line h = outside-plain d line h
 line-plain d (InTable class above) line h = row-if (format_of class).columns above line (rows_cause (format_of class) above) (is_end line) refl h
 line-plain d (InScript t ops) line h = script-plain d ops line h
 
-unrefused : (n : ℕ) (c : Option WorkCause) (v : Verdict) (e : Declarations) → unless_refused n c v ≡ Accepts e → (c ≡ None) × (v ≡ Accepts e)
-unrefused n None v e h = (refl, h)
-unrefused n (Some x) v e h = absurd (apart e n x (sym h))
-
 lines-plain : (lines : List Line) (n : ℕ) (d e : Declarations) (b : Block) → judged n d b lines ≡ Accepts e → list_all plains lines ≡ true
 unfolding judged
 lines-plain [] n d e b h = refl
@@ -237,9 +230,6 @@ lines-plain (line ∷ lines) n d e b h =
     rw (line-plain d b line p.0, lines-plain lines (n + 1) (declared_after d b line) e (block_after d b line) p.1) refl
 
 -- ---- bytes
-
-two : (a b : Bool) → a ≡ true → b ≡ true → (a && b) ≡ true
-two a b p q = rw (p, q) refl
 
 abbrev full : List (List ℕ) → List Word
 full runs = filter (λ run. nat_lt 0 (length run)) runs
@@ -263,14 +253,14 @@ all-runs ([] ∷ runs) h = all-runs runs h
 all-runs ((b ∷ bs) ∷ runs) h =
     let some : nat_lt 0 (length (b ∷ bs)) ≡ true = lt-ltb _ _ (omega arith) in
     let e : full ((b ∷ bs) ∷ runs) ≡ (b ∷ bs) ∷ full runs = rw some refl in
-    let p = both (plain (b ∷ bs)) (plains (full runs)) (sym (ap plains e) ∙ h) in
-    two (plain (b ∷ bs)) (plains runs) p.0 (all-runs runs p.1)
+    let p = and_parts (plain (b ∷ bs)) (plains (full runs)) (sym (ap plains e) ∙ h) in
+    and_from (plain (b ∷ bs)) (plains runs) p.0 (all-runs runs p.1)
 
 onto-plain : (b : ℕ) (runs : List (List ℕ)) → First runs → plains (onto_first b runs) ≡ true → (is_printable b ≡ true) × (plains runs ≡ true)
 onto-plain b runs p h =
     let e : plains (onto_first b runs) ≡ ((is_printable b && plain p.0) && plains p.1) = ap (λ (rs : List (List ℕ)). plains (onto_first b rs)) p.2 in
-    let q = both (is_printable b && plain p.0) (plains p.1) (sym e ∙ h) in
-    let r = both (is_printable b) (plain p.0) q.0 in
+    let q = and_parts (is_printable b && plain p.0) (plains p.1) (sym e ∙ h) in
+    let r = and_parts (is_printable b) (plain p.0) q.0 in
     (r.0, ap plains p.2 ∙ rw (r.1, q.1) refl)
 
 bytes-if : (b : ℕ) (bs : List ℕ) (c : Bool) → is_blank b ≡ c → plains (if c then [] ∷ slice_split is_blank bs else onto_first b (slice_split is_blank bs)) ≡ true
@@ -291,7 +281,7 @@ line-stands line h = bytes-stand (before_comment line) (all-runs (runs_of line) 
 lines-stand : (lines : List (List ℕ)) → list_all plains (map words_of lines) ≡ true → list_all is_plain_line lines ≡ true
 lines-stand [] h = refl
 lines-stand (line ∷ lines) h =
-    let p = both (plains (words_of line)) (list_all plains (map words_of lines)) h in
+    let p = and_parts (plains (words_of line)) (list_all plains (map words_of lines)) h in
     rw (line-stands line p.0, lines-stand lines p.1) refl
 
 pub accepted-plain : (text : List ℕ) (w : Work) → Accepted text w → list_all is_plain_line (lines_of text) ≡ true

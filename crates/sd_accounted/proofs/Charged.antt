@@ -29,9 +29,9 @@ use Rattle.sd_full.specs.Events.{after}
 use Rattle.sd_full.specs.Runs.{final, state_at, IsComplete, IsRun}
 use Rattle.sd_full.specs.Threads.{runner}
 use Rattle.sd_full.proofs.RunLemmas.{final-nil}
-use Rattle.sd_laws.specs.Laws.{OneRuns}
-use Rattle.sd_laws.proofs.Chosen.{position_fails}
-use Rattle.sd_laws.proofs.Openings.{opening_runs_none}
+use Rattle.sd_machine.specs.Invariants.{OneRuns}
+use Rattle.sd_machine.proofs.Chosen.{position_fails}
+use Rattle.sd_machine.proofs.Openings.{opening_runs_none}
 use Rattle.sd_sound.specs.Causes.{IsCause}
 use Rattle.sd_sound.proofs.AgreedAfter.{IsReady}
 use Rattle.sd_sound.proofs.Found.{runner_found}

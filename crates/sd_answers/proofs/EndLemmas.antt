@@ -5,6 +5,7 @@ use Rattle.std.specs.List.{last_or, position_or_len}
 use Rattle.sd_text.specs.Lines.{EndsLine, IsOneLine, is_newline, lines_of}
 use Rattle.sd_text.proofs.LineLemmas.{lines-first}
 use Rattle.sd_text.proofs.PieceLemmas.{EndsLine-drop, first-one_line}
+use Rattle.sd_cut.proofs.CutLemmas.{head_same}
 
 -- the last byte is a newline, and there is one, whatever stands in front
 abbrev pub Closes : List ℕ → Type 0
@@ -22,9 +23,6 @@ pub ends-behind : (xs ys : List ℕ) → Closes ys → EndsLine (xs ++ ys)
 ends-behind xs ys h = closes-behind xs ys h (Some 10)
 
 -- ---- the line that begins at an index
-
-same_head : (x y : List ℕ) (xs ys : List (List ℕ)) → x ∷ xs ≡ y ∷ ys → x ≡ y
-same_head x y xs ys e = cc
 
 -- there is one
 pub some_line : {P : Type 0} (text : List ℕ) (from : ℕ) → from < length text → lines_of (drop from text) ≡ [] → P
@@ -46,7 +44,7 @@ whole_line text from start newline inside ends line begin after within =
     let long : length xs ≡ length text - from = length-drop from text in
     let found = first-one_line xs (omega (arith, long)) (EndsLine-drop text from ends) in
     let cut : take n xs ≡ take (newline - from) xs =
-    same_head (take n xs) (take (newline - from) xs) _ _
+    head_same (take n xs) (take (newline - from) xs) _ _
     (sym (lines-first xs (omega (arith, long))) ∙ line ∙ ap (λ k. slice_range text k newline ∷ lines_of (drop (newline + 1) text)) begin) in
     let here : n ≡ newline - from =
     sym (length-take-le n xs (omega (arith, found.0))) ∙ ap length cut ∙ length-take-le (newline - from) xs (omega (arith, long)) in

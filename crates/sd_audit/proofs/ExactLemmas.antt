@@ -22,7 +22,7 @@ use Rattle.sd_audit.specs.declared.audits.AuditFault.TheVariants.{NotAnEntry, Il
 use Rattle.sd_audit.specs.Audits.{entry_line, TellsRun, NoEntryNext, IsNotAnEntry, IsIllegal, IsIncomplete, IsOtherTail, IsFault, IsJournal, IsMemory, IsRunSoFar, tail_text, whole_lines, common_lines}
 use Rattle.sd_audit.proofs.LineLemmas.{text_of, same_line, not_accounts, journal_lines}
 
-head_same : (x y : List ℕ) (xs ys : List (List ℕ)) → x ∷ xs ≡ y ∷ ys → (x ≡ y) × (xs ≡ ys)
+pub head_same : (x y : List ℕ) (xs ys : List (List ℕ)) → x ∷ xs ≡ y ∷ ys → (x ≡ y) × (xs ≡ ys)
 head_same x y xs ys e = (cc, cc)
 
 nil_cons : (y : List ℕ) (ys : List (List ℕ)) → [] ≡ y ∷ ys → ⊥

@@ -6,7 +6,7 @@ use Rattle.std.specs.Fmt.{decimal}
 use Rattle.std.specs.Char.{is_ascii_digit}
 use Rattle.std.specs.Str.{all_ascii_digits}
 use Rattle.std.specs.Str.Parse.{digits_value}
-use Rattle.std.proofs.lemmas.Bool.{false≢true}
+use Rattle.std.proofs.lemmas.Bool.{false≢true, and_parts}
 use Rattle.std.proofs.lemmas.Bool.Decides.{nat_tests}
 use Rattle.std.proofs.lemmas.List.Elements.{All-head, All-tail}
 use Rattle.std.proofs.lemmas.Str.Parse.{IsNumeralModel, numerals_by_value, tells_all_ascii_digits}
@@ -19,12 +19,13 @@ use Rattle.sd_machine.specs.Texts.{accounts_text, threads_text, cpus_text}
 use Rattle.sd_text.specs.Lines.{lines_of, is_line, text_of_lines}
 use Rattle.sd_text.specs.Words.{is_word}
 use Rattle.sd_text.proofs.LineLemmas.{lines_of-line, lines_of-text}
+use Rattle.sd_text.proofs.NumberLemmas.{own}
 use Rattle.sd_full.specs.Runs.{final, IsStep}
 use Rattle.sd_full.specs.Texts.{entry_text, entries_text, cycles_text, journal}
 use Rattle.sd_spelling.specs.EntryWords.{entry_words, event_words, hint_words}
 use Rattle.sd_full.specs.Texts.{cpu_text}
 use Rattle.sd_spelling.specs.Fitting.{IsSpelled, in_range, event_in_range, hints_in_range}
-use Rattle.sd_spelling.proofs.NameLemmas.{both, number_word}
+use Rattle.sd_spelling.proofs.NameLemmas.{number_word}
 use Rattle.sd_spelling.proofs.SpellLemmas.{entry_spelled}
 use Rattle.sd_spelling.proofs.WordLemmas.{entry_is_line}
 use Rattle.sd_spelling.proofs.LineLemmas.{one_line}
@@ -48,9 +49,6 @@ module _ (w : Work) where
 
 -- ---- a line begins with a digit
 
-own : IsNumeralModel (λ ds. all_ascii_digits ds ≡ true) (digits_value 10)
-own = numerals_by_value _ tells_all_ascii_digits
-
 first_same : (x y : ℕ) (xs ys : List ℕ) → x ∷ xs ≡ y ∷ ys → x ≡ y
 first_same x y xs ys e = cc
 
@@ -58,14 +56,14 @@ no_digits : (ds rest : List ℕ) → all_ascii_digits ds ≡ true → is_word ds
 no_digits [] rest digits word same = false≢true word
 no_digits (d ∷ ds) rest digits word same =
     let letter : d ≡ 97 = first_same d 97 (ds ++ rest) (codes "ccounts") same in
-    let digit = (both (is_ascii_digit d) (all_ascii_digits ds) digits).0 in
+    let digit = (and_parts (is_ascii_digit d) (all_ascii_digits ds) digits).0 in
     false≢true (grind (arith, nat_tests))
 
 small_number : (e : Entry) → in_range e ≡ true → e.number < 2 ^ 64
 unfolding in_range
 small_number e h =
-    let r = both (nat_lt e.number (2 ^ 64) && event_in_range e.event) (hints_in_range e.hints) h in
-    let s = both (nat_lt e.number (2 ^ 64)) (event_in_range e.event) r.0 in
+    let r = and_parts (nat_lt e.number (2 ^ 64) && event_in_range e.event) (hints_in_range e.hints) h in
+    let s = and_parts (nat_lt e.number (2 ^ 64)) (event_in_range e.event) r.0 in
     grind (arith, nat_tests, s.0)
 
 words_begin : (w : Work) (e : Entry) → entry_words w e ≡ decimal e.number ∷ cpu_text e.cpu ∷ (event_words w e.event ++ hint_words e.hints)

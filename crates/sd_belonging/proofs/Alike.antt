@@ -33,7 +33,7 @@ use Rattle.sd_full.specs.Sleeping.{roused_on}
 use Rattle.sd_full.specs.Locking.{free_or_passed, release_from, unblocked_on, passed_on, after_owner, after_reader}
 use Rattle.sd_full.specs.Prioritising.{walk_from}
 use Rattle.sd_full.specs.Events.{drop_ageing}
-use Rattle.sd_laws.specs.Laws.{is_marked}
+use Rattle.sd_machine.specs.Invariants.{is_marked}
 use Rattle.sd_chains.proofs.Moves.{IsSame, IsPut}
 use Rattle.sd_sound.proofs.Parts.{put_item, same_item, set_past, put_same, same_put, put_put}
 use Rattle.sd_sound.proofs.Words.{of_threads}

@@ -1,5 +1,5 @@
 -- In every state of every run each thread stands where its set, its binding and its priority ask.
-use Rattle.std.proofs.Common.{◌≡◌, ℕ, ◌<◌, true, [], length, None, refl, sym, ap, ◌∙◌, subst, inl, inr, arith}
+use Rattle.std.proofs.Common.{◌≡◌, ℕ, ◌<◌, true, length, None, refl, sym, ap, ◌∙◌, subst, inl, inr, arith}
 use Rattle.std.proofs.lemmas.Bool.{cases_lt, false≢true}
 use Rattle.std.proofs.lemmas.List.{get_or_past}
 use Rattle.sd_types.specs.declared.numbers.CpuId.{CpuId}
@@ -15,14 +15,12 @@ use Rattle.sd_machine.specs.declared.states.ThreadState.{ThreadState}
 use Rattle.sd_machine.specs.declared.states.State.{State}
 use Rattle.sd_machine.specs.States.{no_thread, thread_of, is_running}
 use Rattle.sd_machine.specs.Opening.{opening}
-use Rattle.sd_machine.specs.Runs as M
-use Rattle.sd_machine.specs.Runs.{IsRun, IsRunFrom}
 use Rattle.sd_full.specs.Threads.{set_of, eff_of}
 use Rattle.sd_full.specs.Events.{after}
 use Rattle.sd_full.specs.Runs.{IsReached}
-use Rattle.sd_laws.specs.Laws.{OneRuns, IsThere, IsInItsSet, SuitsQueue, EachInItsSet, QueuesSuit}
-use Rattle.sd_laws.proofs.BelongLemmas.{own_law}
-use Rattle.sd_laws.proofs.QueueLemmas.{suits_law}
+use Rattle.sd_machine.specs.Invariants.{OneRuns, IsThere, IsInItsSet, SuitsQueue}
+use Rattle.sd_machine.proofs.OpeningQueues.{opening_suits}
+use Rattle.sd_machine.proofs.OpeningSets.{opening_well}
 use Rattle.sd_sound.specs.Causes.{IsCause}
 use Rattle.sd_sound.specs.Laws.{HoldsWhenReached}
 use Rattle.sd_sound.proofs.BoundLemmas.{first_free}
@@ -87,28 +85,14 @@ module _ (w : Work) (n : ℕ) (s : State) (reached : IsReached w n s) (homes : T
 
 -- The initial state.
 
-nothing_run : (w : Work) → IsRun w []
-unfolding IsRun IsRunFrom
-nothing_run w = tt
-
-first_state : (w : Work) → M.final w (opening w) [] ≡ opening w
-unfolding M.final
-first_state w = refl
-
 first_free_at : (w : Work) (t : ℕ) → (thread_of (opening w) t).body.bound ≡ None
 unfolding opening
 first_free_at w t = first_free w 0 w.threads t
 
-first_in_set : (w : Work) → EachInItsSet w (opening w)
-first_in_set w = subst (λ x. EachInItsSet w x) (first_state w) (own_law w [] (nothing_run w))
-
-first_suits : (w : Work) → QueuesSuit (opening w)
-first_suits w = subst (λ x. QueuesSuit x) (first_state w) (suits_law w [] (nothing_run w))
-
 opening_belongs : (w : Work) → ThreadsBelong w (opening w)
 opening_belongs w t = record {
   place = elim (cases_lt t (length s.threads)) [
-    | inl inside ↦ by (thread_of s t).place (first_in_set w t inside) (first_suits w t inside)
+    | inl inside ↦ by (thread_of s t).place (opening_well w t).0 (opening_suits w t)
     | inr past ↦ subst (λ (x : ThreadState). BelongsAt s (set_of w t) (eff_of s t) (thread_of s t).body.bound x.place) (sym (get_or_past s.threads t no_thread past)) tt
   ];
   bound = λ d is. absurd (none_some d (sym (first_free_at w t) ∙ is));

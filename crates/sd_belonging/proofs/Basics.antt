@@ -1,29 +1,11 @@
 -- Small facts on numbers, tests, options and places.
-use Rattle.std.proofs.Common.{◌≡◌, ℕ, Bool, true, false, ◌&&◌, ◌||◌, Option, Some, None, is_none, refl, sym, ap, ◌∙◌, arith}
-use Rattle.std.specs.Prelude.{◌==◌}
+use Rattle.std.proofs.Common.{◌≡◌, ℕ, true, false, Option, Some, None, is_none, refl, sym, ap, ◌∙◌}
 use Rattle.std.proofs.lemmas.Bool.{eqb-true}
-use Rattle.std.proofs.lemmas.Bool.Decides.{nat_tests}
 use Rattle.sd_types.specs.declared.numbers.CpuId.{CpuId}
-use Rattle.sd_types.specs.declared.numbers.SetId.{SetId}
 use Rattle.sd_machine.specs.declared.states.Place.{Place}
 use Rattle.sd_machine.specs.declared.states.Place.TheVariants.{Running, Queued, RealTime, Waiting, Asleep, Napping, Ended}
 use Rattle.sd_machine.specs.States.{is_running, is_queued}
 use Rattle.sd_sound.specs.Laws.{is_runnable}
-
-pub self : (n : ℕ) → (n == n) ≡ true
-self n = grind (arith, nat_tests)
-
-pub or_right : (a b : Bool) → b ≡ true → (a || b) ≡ true
-or_right true b e = refl
-or_right false b e = e
-
-pub neither : (a b : Bool) → (a || b) ≡ false → (a ≡ false) × (b ≡ false)
-neither true b e = cc
-neither false b e = (refl, e)
-
-pub both : (a b : Bool) → a ≡ true → b ≡ true → (a && b) ≡ true
-both true b h e = e
-both false b h e = h
 
 pub none_of : {X : Type 0} (o : Option X) → is_none o ≡ true → o ≡ None
 none_of None e = refl
@@ -33,9 +15,6 @@ pub none_some : {X : Type 0} (x : X) → None ≡ Some x → ⊥
 none_some x e = cc
 
 -- Numbers that are equal are of equal sets and processors.
-
-pub same_set : (p q : SetId) → p.0 ≡ q.0 → p ≡ q
-same_set p q e = ap (λ (n : ℕ). let r : SetId = record { 0 = n } in r) e
 
 pub same_cpu : (c d : CpuId) → c.0 ≡ d.0 → c ≡ d
 same_cpu c d e = ap (λ (n : ℕ). let r : CpuId = record { 0 = n } in r) e

@@ -18,8 +18,8 @@ use Rattle.sd_full.specs.Threads.{runner, best_ready, priority_of, eff_of}
 use Rattle.sd_full.specs.Bodies.{ticked_class}
 use Rattle.sd_full.specs.Changes.{send_back, marked, set_mark, rivals, priority_or_zero, remark}
 use Rattle.sd_full.specs.Dispatching.{is_rivalled, charge}
-use Rattle.sd_laws.specs.Laws.{is_marked}
-use Rattle.sd_laws.proofs.Chosen.{none_ready, best_greatest}
+use Rattle.sd_machine.specs.Invariants.{is_marked}
+use Rattle.sd_machine.proofs.Chosen.{none_ready, best_greatest}
 use Rattle.sd_sound.proofs.Found.{runner_found}
 use Rattle.sd_belonging.proofs.Alike.{marked_is}
 use Rattle.sd_belonging.proofs.Goes.{Single}

@@ -2,9 +2,9 @@
 use Rattle.std.proofs.Common.{is_none}
 use Rattle.sd_types.specs.declared.events.Event.TheVariants.{Dispatch, Steal}
 use Rattle.sd_machine.specs.States.{thread_of, is_queued}
+use Rattle.sd_machine.proofs.BestLemmas.{and_right}
 use Rattle.sd_sound.proofs.Found.{ready_found, unbound_found}
 use Rattle.sd_sound.proofs.Ready.{ready_cause, reached_ready}
-use Rattle.sd_sound.proofs.Works.{second_of_two}
 use Rattle.sd_belonging.specs.Changes.{BoundAreDispatchedAtHome, StolenAreUnbound}
 use Rattle.sd_belonging.proofs.All.{known, threads_belong}
 use Rattle.sd_belonging.proofs.Basics.{none_of, same_cpu}
@@ -19,4 +19,4 @@ dispatched_at_home w n s c hints t p d reached makes bound =
 pub stolen_unbound : StolenAreUnbound
 stolen_unbound w n s c hints v t p reached makes =
     let cause = ready_cause w s c hints (Steal v t p) (reached_ready w n s reached) makes in
-    none_of (thread_of s t.0).body.bound (second_of_two (is_queued v.0 (thread_of s t.0).place) (is_none (thread_of s t.0).body.bound) (unbound_found s v.0 t.0 cause.3).stands)
+    none_of (thread_of s t.0).body.bound (and_right (is_queued v.0 (thread_of s t.0).place) (is_none (thread_of s t.0).body.bound) (unbound_found s v.0 t.0 cause.3).stands)

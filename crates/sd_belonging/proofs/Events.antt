@@ -1,7 +1,7 @@
 -- What each event comes to, but for those that change a set or a binding.
 use Rattle.std.proofs.Common.{◌≡◌, ◌≢◌, ℕ, ◌+◌, ◌-◌, ◌<◌, ◌≤◌, Bool, true, false, ◌&&◌, length, Option, Some, None, is_none, refl, sym, ap, ◌∙◌, subst, inl, inr, ◌⊎◌, arith, ℤ}
 use Rattle.std.specs.Prelude.{if◌then◌else◌, nat_lt, ◌==◌}
-use Rattle.std.proofs.lemmas.Bool.{cases_eq, eqb-true, false≢true}
+use Rattle.std.proofs.lemmas.Bool.{cases_eq, eqb-true, false≢true, or_parts}
 use Rattle.std.proofs.lemmas.Bool.Decides.{nat_tests}
 use Rattle.sd_types.specs.declared.numbers.ChanId.{ChanId}
 use Rattle.sd_types.specs.declared.numbers.CpuId.{CpuId}
@@ -47,16 +47,17 @@ use Rattle.sd_full.specs.Prioritising.{new_class, walk_from, changed_by, changed
 use Rattle.sd_full.specs.Conditions.{sema_taken, sema_counted}
 use Rattle.sd_full.specs.SetChanges.{assigned, moved, pbound}
 use Rattle.sd_full.specs.Events.{dropped_duty, drop_ageing, effect, after}
-use Rattle.sd_laws.specs.Laws.{is_marked}
-use Rattle.sd_laws.proofs.MarkLemmas.{running_not_queued}
+use Rattle.sd_machine.specs.Invariants.{is_marked}
+use Rattle.sd_machine.proofs.Chosen.{running_not_queued}
+use Rattle.sd_machine.proofs.BestLemmas.{and_right, and_left}
 use Rattle.sd_sound.specs.Causes.{Runs, IsPut as IsPutAt, IsRequeuedAt, WakesBest, RousesBest, IsAnswered, IsCause}
 use Rattle.sd_sound.proofs.Found.{runner_found, ready_found, queued_found, unbound_found, waiter_found, sleeper_found, sleeper_below_found, due_found, age_found}
 use Rattle.sd_sound.proofs.Movers.{owner_thread, prio_thread}
 use Rattle.sd_sound.proofs.PassLemmas.{drop_duties}
-use Rattle.sd_sound.proofs.Works.{first_of_two, second_of_two}
+use Rattle.sd_sound.proofs.BoundLemmas.{same_id}
 use Rattle.sd_belonging.proofs.Alike.{Weight, weight_part, heft, Calm, Alike, Weighs, Weighed, all_calm, then_calm, calm_alike, then_alike, calm_weighs, weighs_calm, weighs_alike, weighed_alike, either_calm, lock_calm, count_calm, set_duty_calm, count_tick_calm, drop_calm, finish_op_calm, run_tick_calm, hold_calm, set_class_weighs, walk_from_calm, passed_on_calm, remark_alike, charge_alike}
 use Rattle.sd_belonging.proofs.Goes.{All, Others, Goes, Puts, single_back, calm_goes, goes_alike, calm_puts, weighs_puts, puts_alike, puts_to, put_puts, woken_puts, dispatched_goes, stolen_goes, sent_away_puts}
-use Rattle.sd_belonging.proofs.Basics.{self, none_of, none_some, neither, runs_one, running_rests}
+use Rattle.sd_belonging.proofs.Basics.{none_of, none_some, runs_one, running_rests}
 use Rattle.sd_belonging.proofs.Calls.{some_ready, most_ready, charge_called, remark_called, tick_base, requeue_base, other_base}
 use Rattle.sd_belonging.proofs.Joins.{nobody_runs}
 use Rattle.sd_belonging.proofs.Outcomes.{Known, Home, IsOff, Rests, Remarks, Outcome, stays_rests, put_off, queue_off, queue_here, put_home, requeued_home, runs_at, queued_at, ready_at, queue_home, neighbour_set}
@@ -249,7 +250,7 @@ module _ (w : Work) (s : State) (k : Known w s) (n : ℕ) (c : CpuId) (c_in : c.
       here y is = fell (nat_lt (eff_of q t) (eff_of s t)) refl
         where
           runs : is_running y.0 (thread_of s t).place ≡ true
-          runs = ap (is_running y.0) is ∙ self y.0
+          runs = ap (is_running y.0) is ∙ same_id y.0
 
           rests : Rests s t x
           rests = inr (running_rests y.0 (thread_of s t).place runs)
@@ -350,7 +351,7 @@ module _ (w : Work) (s : State) (k : Known w s) (n : ℕ) (c : CpuId) (c_in : c.
   yield_bound : (t : ℕ) → Runs s c.0 t → must_leave (cpu_of s c.0) (thread_of s t).body ≡ false → (d : CpuId) → (thread_of s t).body.bound ≡ Some d → d.0 ≡ c.0
   yield_bound t runs stays d is = elim (cases_eq d.0 c.0) [
     | inl same ↦ same
-    | inr other ↦ absurd (false≢true (sym (neither (cpu_of s c.0).kernel _ stays).0 ∙ (runs_at w s k t c (runner_found s c.0 t runs).stands).1 d is other))
+    | inr other ↦ absurd (false≢true (sym (or_parts (cpu_of s c.0).kernel _ stays).0 ∙ (runs_at w s k t c (runner_found s c.0 t runs).stands).1 d is other))
   ]
 
   aged_base : (kind : ClassState) → is_ts kind ≡ true → base_of (aged_class w kind) < 100
@@ -364,7 +365,7 @@ module _ (w : Work) (s : State) (k : Known w s) (n : ℕ) (c : CpuId) (c_in : c.
   aged_out q t before inside stands = by (eff_of p t == eff_of q t) refl
     where
       queued : is_queued c.0 (thread_of s t).place ≡ true
-      queued = first_of_two (is_queued c.0 (thread_of s t).place) (is_ts (thread_of s t).body.class) stands
+      queued = and_left (is_queued c.0 (thread_of s t).place) (is_ts (thread_of s t).body.class) stands
 
       off : IsOff (thread_of s t).place
       off = off_by (is_queued c.0) (λ d. refl) (thread_of s t).place queued
@@ -381,7 +382,7 @@ module _ (w : Work) (s : State) (k : Known w s) (n : ℕ) (c : CpuId) (c_in : c.
       low : (m : ℕ) → m < 100 → m ≡ eff_of s t → heft x < 100
       low m less is =
           let old : greatest_willed (base_of (thread_of s t).body.class) (thread_of s t).body.willed.items < 100 = omega (arith, less, is) in
-          other_base (base_of (thread_of s t).body.class) (base_of (aged_class w (thread_of s t).body.class)) 100 (thread_of s t).body.willed.items (aged_base (thread_of s t).body.class (second_of_two (is_queued c.0 (thread_of s t).place) _ stands)) old
+          other_base (base_of (thread_of s t).body.class) (base_of (aged_class w (thread_of s t).body.class)) 100 (thread_of s t).body.willed.items (aged_base (thread_of s t).body.class (and_right (is_queued c.0 (thread_of s t).place) _ stands)) old
 
       home : Home w s t x (Queued c (back_key n))
       home =
@@ -451,8 +452,8 @@ module _ (w : Work) (s : State) (k : Known w s) (n : ℕ) (c : CpuId) (c_in : c.
   steal_out v t p cause =
       let e : Event = Steal v t p in
       let found = unbound_found s v.0 t.0 cause.3 in
-      let queued = first_of_two (is_queued v.0 (thread_of s t.0).place) (is_none (thread_of s t.0).body.bound) found.stands in
-      let unbound = none_of (thread_of s t.0).body.bound (second_of_two (is_queued v.0 (thread_of s t.0).place) (is_none (thread_of s t.0).body.bound) found.stands) in
+      let queued = and_left (is_queued v.0 (thread_of s t.0).place) (is_none (thread_of s t.0).body.bound) found.stands in
+      let unbound = none_of (thread_of s t.0).body.bound (and_right (is_queued v.0 (thread_of s t.0).place) (is_none (thread_of s t.0).body.bound) found.stands) in
       comes t.0 c (weight_part (thread_of s t.0)) refl
       (calm_goes (Others c.0) s (drop_ageing s c.0 e) _ t.0 (Running c) _ (drop_calm s c.0 e) (stolen_goes (drop_ageing s c.0 e) c t.0 (in_drop e t.0 found.inside)))
       (nobody cause.0.idle.nobody) (sym (neighbour_set w s k c.0 v cause.2) ∙ (queued_at w s k t.0 v queued).0) (λ d is. absurd (none_some d (sym unbound ∙ is)))

@@ -20,7 +20,7 @@ use Rattle.sd_full.specs.Bodies.{woken_class, departed, arrived}
 use Rattle.sd_full.specs.Changes.{with_place, back_key, set_class, unmarked, clear_marks, marked, set_mark, runs_below, mark_over, run_on, leave, place_put, cpu_put, put}
 use Rattle.sd_full.specs.Dispatching.{dispatched, stolen, sent_away}
 use Rattle.sd_full.specs.Sleeping.{woken}
-use Rattle.sd_laws.specs.Laws.{is_marked}
+use Rattle.sd_machine.specs.Invariants.{is_marked}
 use Rattle.sd_chains.proofs.Moves.{IsSame, IsPut, put_cases}
 use Rattle.sd_sound.proofs.Parts.{put_item, same_item, put_same, same_put, put_put}
 use Rattle.sd_sound.proofs.Words.{of_threads}
@@ -29,8 +29,8 @@ use Rattle.sd_sound.proofs.PlaceTable.{place_part}
 use Rattle.sd_sound.proofs.HoldTable.{bound_part}
 use Rattle.sd_sound.proofs.OpenLemmas.{place_part as set_part}
 use Rattle.sd_sound.proofs.Found.{runner_found}
+use Rattle.sd_sound.proofs.BoundLemmas.{same_id}
 use Rattle.sd_belonging.proofs.Alike.{Weight, weight_part, heft, marks_part, IsBusy, Keeps, busy_on, Calm, Alike, Weighs, marked_is, mark_over_alike, set_class_weighs}
-use Rattle.sd_belonging.proofs.Basics.{self}
 use Rattle.sd_belonging.proofs.Joins.{nobody_runs}
 
 -- the processors whose marks stay: all, or all but one
@@ -264,7 +264,7 @@ stolen_goes s c t inside = record {
   kernel = λ d other e. e;
   marks = λ d other e. e;
   fresh = λ d e. elim (cases_eq d c.0) [
-    | inl is ↦ inr (record { who = t; runs = ap (is_running d) moves.at ∙ subst (λ i. (c.0 == i) ≡ true) (sym is) (self c.0) })
+    | inl is ↦ inr (record { who = t; runs = ap (is_running d) moves.at ∙ subst (λ i. (c.0 == i) ≡ true) (sym is) (same_id c.0) })
     | inr other ↦ inl (other, e)
   ];
 }

@@ -13,9 +13,9 @@ use Rattle.sd_sound.specs.Laws.{is_runnable}
 use Rattle.sd_chains.proofs.Moves.{IsSame, put_cases}
 use Rattle.sd_sound.proofs.CpuWords.{of_cpus}
 use Rattle.sd_sound.proofs.OpenLemmas.{place_part as set_part}
+use Rattle.sd_sound.proofs.BoundLemmas.{same_id}
 use Rattle.sd_belonging.specs.Belonging.{MayQueue, BelongsAt, IsBoundInSet, Belongs, ThreadsBelong}
 use Rattle.sd_belonging.proofs.Alike.{Weight, heft}
-use Rattle.sd_belonging.proofs.Basics.{self}
 use Rattle.sd_belonging.proofs.Goes.{Single}
 use Rattle.sd_belonging.proofs.Outcomes.{IsOff, Outcome}
 use Rattle.sd_belonging.proofs.Outcomes.Outcome.{alike, weighed, puts, leaves, comes}
@@ -49,8 +49,8 @@ frame_belongs w s r t f home = record {
     by : (p : Place) → BelongsAt s set (eff_of s t) b p → (eff_of r t ≡ eff_of s t) ⊎ (is_runnable p ≡ false)
         → ((d : ℕ) → is_running d p ≡ true → ((cpu_of r d).set ≡ (cpu_of s d).set) × ((cpu_of s d).kernel ≡ true → (cpu_of r d).kernel ≡ true))
         → ((d : ℕ) → is_queued d p ≡ true → (cpu_of r d).set ≡ (cpu_of s d).set) → BelongsAt r set (eff_of r t) b p
-    by (Running c) at rests runs queued = let now = runs c.0 (self c.0) in (now.0 ∙ at.0, λ d is other. now.1 (at.1 d is other))
-    by (Queued c k) at (inl same) runs queued = (queued c.0 (self c.0) ∙ at.0, may c at.1 same)
+    by (Running c) at rests runs queued = let now = runs c.0 (same_id c.0) in (now.0 ∙ at.0, λ d is other. now.1 (at.1 d is other))
+    by (Queued c k) at (inl same) runs queued = (queued c.0 (same_id c.0) ∙ at.0, may c at.1 same)
     by (Queued c k) at (inr off) runs queued = cc
     by (RealTime q k) at (inl same) runs queued = ((let high = at.0 in omega (arith, high, same)), at.1, at.2)
     by (RealTime q k) at (inr off) runs queued = cc
@@ -61,7 +61,7 @@ frame_belongs w s r t f home = record {
 
 -- a thread that has gone to a place off the processors
 pub moved_belongs : (s r : State) (set : SetId) (p : ℕ) (b : Option CpuId) (place : Place) → ((d : ℕ) → (cpu_of r d).set ≡ (cpu_of s d).set) → IsOff place → BelongsAt s set p b place → BelongsAt r set p b place
-moved_belongs s r set p b (Running c) same off at = absurd (false≢true (sym (off c.0) ∙ self c.0))
+moved_belongs s r set p b (Running c) same off at = absurd (false≢true (sym (off c.0) ∙ same_id c.0))
 moved_belongs s r set p b (Queued c k) same off at = (same c.0 ∙ at.0, at.1)
 moved_belongs s r set p b (RealTime q k) same off at = at
 moved_belongs s r set p b (Waiting l side k) same off at = tt

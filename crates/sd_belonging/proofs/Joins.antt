@@ -18,7 +18,7 @@ use Rattle.sd_full.specs.Threads.{open_of, with_open, runner, best_queued}
 use Rattle.sd_full.specs.Changes.{with_cpu_in, close, join}
 use Rattle.sd_full.specs.SetChanges.{cleared, assigned, joined}
 use Rattle.sd_full.specs.Events.{drop_ageing, effect, after}
-use Rattle.sd_laws.proofs.Chosen.{runs_none}
+use Rattle.sd_machine.proofs.Chosen.{runs_none}
 use Rattle.sd_sound.specs.Causes.{IsCause}
 use Rattle.sd_sound.proofs.Parts.{same_item}
 use Rattle.sd_sound.proofs.CpuWords as C

@@ -20,9 +20,9 @@ use Rattle.sd_full.specs.Changes.{place_put}
 use Rattle.sd_full.specs.SetChanges.{bound_put, unbound_put, bind_put}
 use Rattle.sd_full.specs.Events.{effect, after}
 use Rattle.sd_full.specs.Runs.{IsReached}
-use Rattle.sd_laws.specs.Laws.{is_marked, MarksStand}
-use Rattle.sd_laws.proofs.MarkLemmas.{running_not_queued}
-use Rattle.sd_laws.proofs.Openings.{opening_runs_none, opening_unmarked}
+use Rattle.sd_machine.specs.Invariants.{is_marked, MarksStand}
+use Rattle.sd_machine.proofs.Chosen.{running_not_queued}
+use Rattle.sd_machine.proofs.Openings.{opening_runs_none, opening_unmarked}
 use Rattle.sd_chains.proofs.Moves.{IsPut}
 use Rattle.sd_sound.specs.Causes.{IsCause}
 use Rattle.sd_sound.specs.Laws.{HoldsWhenReached, is_runnable}

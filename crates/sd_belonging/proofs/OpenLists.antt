@@ -1,10 +1,10 @@
 -- The open list of a set is exact: each processor of the set that is not closing is in it.
-use Rattle.std.proofs.Common.{◌≡◌, ◌≢◌, ℕ, zero, suc, ◌+◌, ◌<◌, ◌≤◌, Bool, true, false, not, ◌&&◌, ◌||◌, List, [], ◌∷◌, length, get_or, set, Option, Some, None, refl, sym, ap, ◌∙◌, subst, inl, inr, ◌⊎◌, arith}
+use Rattle.std.proofs.Common.{◌≡◌, ◌≢◌, ℕ, zero, suc, ◌+◌, ◌<◌, ◌≤◌, Bool, true, false, not, ◌&&◌, ◌||◌, List, [], ◌∷◌, length, get_or, Option, Some, None, refl, sym, ap, ◌∙◌, subst, inl, inr, ◌⊎◌, arith}
 use Rattle.std.specs.Prelude.{if◌then◌else◌, is_none, map, filter, nat_lt, ◌==◌, IfSome}
 use Rattle.std.specs.List.{range_with_len}
-use Rattle.std.proofs.lemmas.Bool.{cases_eq, eq-eqb, eqb-true, false≢true}
+use Rattle.std.proofs.lemmas.Bool.{cases_eq, eq-eqb, eqb-true, false≢true, or_right, and_from}
 use Rattle.std.proofs.lemmas.Bool.Decides.{nat_tests}
-use Rattle.std.proofs.lemmas.List.{get_or-set_same, get_or-set_other, length-set}
+use Rattle.std.proofs.lemmas.List.{length-set}
 use Rattle.std.proofs.lemmas.List.FromFn.{get_or-map-range_with_len}
 use Rattle.arrayvec.specs.ArrayVec.{ArrayVec}
 use Rattle.sd_types.specs.declared.numbers.CpuId.{CpuId}
@@ -19,7 +19,9 @@ use Rattle.sd_types.specs.Partitions.{set_of_cpu, cpus_of_set, cpu_of_number}
 use Rattle.sd_machine.specs.declared.states.CpuState.{CpuState}
 use Rattle.sd_machine.specs.declared.states.State.{State}
 use Rattle.sd_machine.specs.States.{no_cpu, cpu_of, with_cpu}
-use Rattle.sd_machine.specs.Opening.{first_cpu_state, open_list, opening}
+use Rattle.sd_machine.specs.Opening.{open_list, opening}
+use Rattle.sd_machine.proofs.BestLemmas.{and_right, and_left}
+use Rattle.sd_machine.proofs.OpeningSets.{opening_set}
 use Rattle.sd_full.specs.Threads.{no_cpus, open_of, with_open, runner}
 use Rattle.sd_full.specs.Changes.{with_cpu_in, without_cpu, close, join}
 use Rattle.sd_full.specs.SetChanges.{cleared, assigned, joined}
@@ -35,13 +37,13 @@ use Rattle.sd_sound.proofs.FieldWords as F
 use Rattle.sd_sound.proofs.PlainWords.{drop_keeps}
 use Rattle.sd_sound.proofs.OpenLemmas.{place_part, place_marks, places_plain, SamePlaces, cpus_same, open_field, finish_open, open_same, other_place}
 use Rattle.sd_sound.proofs.Whole.{reached_whole}
-use Rattle.sd_sound.proofs.Works.{first_of_two, second_of_two}
+use Rattle.sd_sound.proofs.BoundLemmas.{same_id}
 use Rattle.sd_range.specs.There.{IsSetThere}
 use Rattle.sd_range.proofs.Induction.{held_reached}
 use Rattle.sd_range.proofs.Named.{acts_named, assign_cpu}
-use Rattle.sd_range.proofs.Sets.{SetsAreThere, sets_are_there, sets_are_open}
+use Rattle.sd_range.proofs.Sets.{SetsAreThere, sets_are_there, sets_are_open, open_written}
 use Rattle.sd_belonging.specs.Belonging.{open_cpus, OpenListsAreExact}
-use Rattle.sd_belonging.proofs.Basics.{self, or_right, both, none_of, none_some, same_cpu}
+use Rattle.sd_belonging.proofs.Basics.{none_of, none_some, same_cpu}
 
 -- Lists of processors.
 
@@ -56,11 +58,11 @@ still_in c d (x ∷ xs) other e = by (x.0 == d.0) (x.0 == c) refl refl (λ f. st
     by false false is here more f = or_right (x.0 == c) (is_in c (without_cpu d xs)) (more f)
 
 with_itself : (c : CpuId) (xs : List CpuId) → is_in c.0 (with_cpu_in c xs) ≡ true
-with_itself c [] = rw (self c.0) refl
+with_itself c [] = rw (same_id c.0) refl
 with_itself c (x ∷ xs) = by (nat_lt c.0 x.0) (with_itself c xs)
   where
     by : (b : Bool) → is_in c.0 (with_cpu_in c xs) ≡ true → is_in c.0 (if b then (c ∷ (x ∷ xs)) else (x ∷ with_cpu_in c xs)) ≡ true
-    by true more = rw (self c.0) refl
+    by true more = rw (same_id c.0) refl
     by false more = or_right (x.0 == c.0) (is_in c.0 (with_cpu_in c xs)) more
 
 with_others : (d : ℕ) (c : CpuId) (xs : List CpuId) → is_in d xs ≡ true → is_in d (with_cpu_in c xs) ≡ true
@@ -84,22 +86,13 @@ same_listed w s r same lists listed c inside opened =
     subst (λ (p : SetId). is_in c (open_of r p.0) ≡ true) (sym set_is)
     (subst (λ (xs : List (ArrayVec CpuId)). is_in c (get_or xs (cpu_of s c).set.0 no_cpus).items ≡ true) (sym lists) (listed c inside was))
 
--- an open list is where it is written, or as it was
-list_written : (s : State) (p : ℕ) (cpus : List CpuId) (q : ℕ) → q < length s.open_cpus → ((q ≡ p) × (open_of (with_open s p cpus) q ≡ cpus)) ⊎ ((q ≢ p) × (open_of (with_open s p cpus) q ≡ open_of s q))
-list_written s p cpus q inside = elim (cases_eq q p) [
-  | inl is ↦
-      let here : p < length s.open_cpus = omega (arith, inside, is) in
-      inl (is, ap (λ i. (get_or (set s.open_cpus p (record { items = cpus })) i no_cpus).items) is ∙ ap (λ (x : ArrayVec CpuId). x.items) (get_or-set_same s.open_cpus p (record { items = cpus }) no_cpus here))
-  | inr other ↦ inr (other, ap (λ (x : ArrayVec CpuId). x.items) (get_or-set_other s.open_cpus p q (record { items = cpus }) no_cpus other))
-]
-
 -- the set of each processor has an open list
 abbrev HaveLists : State → Type 0
 HaveLists s = (c : ℕ) → (cpu_of s c).set.0 < length s.open_cpus
 
 close_listed : (w : Work) (s : State) (d : CpuId) (to : SetId) → d.0 < length s.cpus → HaveLists s → AreListed w s → AreListed w (close s d to)
 unfolding close
-close_listed w s d to inside lists listed c here opened = by (list_written s p0 left (cpu_of s c).set.0 (lists c))
+close_listed w s d to inside lists listed c here opened = by (open_written s p0 left (cpu_of s c).set.0 (lists c))
   where
     p0 : ℕ
     p0 = (cpu_of s d.0).set.0
@@ -139,7 +132,7 @@ join_listed w s c to inside there lists listed d here opened = elim (cases_eq d 
       let now : place_part (cpu_of (with_cpu wrote c.0 x) c.0) ≡ (to, None) = (put_item place_part s.cpus no_cpu c.0 x inside).at in
       let joins : (cpu_of (with_cpu wrote c.0 x) d).set ≡ to = ap (λ i. (cpu_of (with_cpu wrote c.0 x) i).set) is ∙ ap (λ (y : SetId × Option SetId). y.0) now in
       subst (λ (p : SetId). is_in d (open_of wrote p.0) ≡ true) (sym joins)
-      (elim (list_written s to.0 more to.0 there) [
+      (elim (open_written s to.0 more to.0 there) [
         | inl (_, wrote_it) ↦ subst (λ xs. is_in d xs ≡ true) (sym wrote_it) (subst (λ i. is_in i more ≡ true) (sym is) (with_itself c (open_of s to.0)))
         | inr (other, _) ↦ absurd (other refl)
       ])
@@ -147,7 +140,7 @@ join_listed w s c to inside there lists listed d here opened = elim (cases_eq d 
       let same = other_place wrote c.0 x d other in
       let was = listed d here (sym (ap (λ (y : SetId × Option SetId). y.1) same) ∙ opened) in
       subst (λ (p : SetId). is_in d (open_of wrote p.0) ≡ true) (sym (ap (λ (y : SetId × Option SetId). y.0) same))
-      (elim (list_written s to.0 more (cpu_of s d).set.0 (lists d)) [
+      (elim (open_written s to.0 more (cpu_of s d).set.0 (lists d)) [
         | inl (at, now) ↦ subst (λ xs. is_in d xs ≡ true) (sym now) (with_others d c (open_of s to.0) (subst (λ i. is_in d (open_of s i) ≡ true) at was))
         | inr (apart, now) ↦ subst (λ xs. is_in d xs ≡ true) (sym now) was
       ])
@@ -208,19 +201,15 @@ listed_kept w s n c e fits sets here cause listed = same_listed w s (after w s n
 
 -- The initial state.
 
-first_set : (w : Work) (c : ℕ) → c < w.cpus → (cpu_of (opening w) c).set.0 ≡ set_of_cpu w c
-unfolding opening first_cpu_state
-first_set w c here = ap (λ (x : CpuState). x.set.0) (get_or-map-range_with_len (first_cpu_state w) 0 w.cpus c c no_cpu here (omega arith))
-
 first_list : (w : Work) (p : ℕ) → p ≤ length w.sets → open_of (opening w) p ≡ cpus_of_set w p
 unfolding opening
 first_list w p there = ap (λ (x : ArrayVec CpuId). x.items) (get_or-map-range_with_len (open_list w) 0 (length w.sets + 1) p p no_cpus (omega (arith, there)) (omega arith))
 
 opening_listed : (w : Work) → AreListed w (opening w)
 opening_listed w c here opened =
-    subst (λ i. is_in c (open_of (opening w) i) ≡ true) (sym (first_set w c here))
+    subst (λ i. is_in c (open_of (opening w) i) ≡ true) (sym (opening_set w c here))
     (subst (λ xs. is_in c xs ≡ true) (sym (first_list w (set_of_cpu w c) (set-at_most w c)))
-    (names-passing w.cpus 0 c (λ d. set_of_cpu w d == set_of_cpu w c) (omega arith) (omega (arith, here)) (self (set_of_cpu w c))))
+    (names-passing w.cpus 0 c (λ d. set_of_cpu w d == set_of_cpu w c) (omega arith) (omega (arith, here)) (same_id (set_of_cpu w c))))
 
 pub are_listed : HoldsWhenReached AreListed
 are_listed = held_reached AreListed (record {
@@ -238,7 +227,7 @@ in_later c d ds e = by (d.0 == c) refl e
     by false is e = inr e
 
 in_first : (d : CpuId) (ds : List CpuId) → is_in d.0 (d ∷ ds) ≡ true
-in_first d ds = rw (self d.0) refl
+in_first d ds = rw (same_id d.0) refl
 
 rising_least : (n c : ℕ) (xs : List CpuId) → IsRising n xs → is_in c xs ≡ true → n ≤ c
 rising_least n c [] rises e = cc
@@ -302,11 +291,11 @@ open_lists_are_exact w n s reached p there = record {
     to : (c : ℕ) → is_in c (open_of s p) ≡ true → is_in c (open_cpus w s p) ≡ true
     to c e =
         let (inside, its_set, opened) = holds.member p c e in
-        names-passing w.cpus 0 c passes (omega arith) (omega (arith, inside)) (both ((cpu_of s c).set.0 == p) (is_none (cpu_of s c).closing) (eq-eqb (cpu_of s c).set.0 p its_set) (ap is_none opened))
+        names-passing w.cpus 0 c passes (omega arith) (omega (arith, inside)) (and_from ((cpu_of s c).set.0 == p) (is_none (cpu_of s c).closing) (eq-eqb (cpu_of s c).set.0 p its_set) (ap is_none opened))
 
     from : (c : ℕ) → is_in c (open_cpus w s p) ≡ true → is_in c (open_of s p) ≡ true
     from c e =
         let (least, below, test) = passing-named w.cpus 0 c passes e in
-        let its_set : (cpu_of s c).set.0 ≡ p = eqb-true (cpu_of s c).set.0 p (first_of_two ((cpu_of s c).set.0 == p) (is_none (cpu_of s c).closing) test) in
+        let its_set : (cpu_of s c).set.0 ≡ p = eqb-true (cpu_of s c).set.0 p (and_left ((cpu_of s c).set.0 == p) (is_none (cpu_of s c).closing) test) in
         subst (λ i. is_in c (open_of s i) ≡ true) its_set
-        (are_listed w n s reached c (omega (arith, below)) (none_of (cpu_of s c).closing (second_of_two ((cpu_of s c).set.0 == p) (is_none (cpu_of s c).closing) test)))
+        (are_listed w n s reached c (omega (arith, below)) (none_of (cpu_of s c).closing (and_right ((cpu_of s c).set.0 == p) (is_none (cpu_of s c).closing) test)))

@@ -1,8 +1,8 @@
 -- What an event comes to, of where threads stand, of priorities and of marks; and that a thread which goes to a place belongs there.
-use Rattle.std.proofs.Common.{◌≡◌, ◌≢◌, ℕ, zero, suc, ◌<◌, ◌≤◌, Bool, true, false, not, ◌&&◌, ◌||◌, List, [], ◌∷◌, length, Option, Some, None, is_none, refl, sym, ap, ◌∙◌, subst, inl, inr, ◌⊎◌, arith, ℤ}
+use Rattle.std.proofs.Common.{◌≡◌, ◌≢◌, ℕ, ◌<◌, ◌≤◌, Bool, true, false, not, ◌&&◌, ◌||◌, List, [], ◌∷◌, length, Option, Some, None, is_none, refl, sym, ap, ◌∙◌, subst, inl, inr, ◌⊎◌, arith, ℤ}
 use Rattle.std.specs.Prelude.{if◌then◌else◌, filter, nat_lt, nat_le, ◌==◌}
 use Rattle.std.specs.List.{Contains}
-use Rattle.std.proofs.lemmas.Bool.{eqb-true}
+use Rattle.std.proofs.lemmas.Bool.{eqb-true, or_right}
 use Rattle.std.proofs.lemmas.Bool.Decides.{nat_tests}
 use Rattle.std.proofs.lemmas.Option.{same_Some}
 use Rattle.sd_types.specs.declared.numbers.CpuId.{CpuId}
@@ -21,14 +21,16 @@ use Rattle.sd_full.specs.Threads.{open_of, set_of, eff_of}
 use Rattle.sd_full.specs.Changes.{back_key, queue_place, place_put}
 use Rattle.sd_full.specs.Choosing.{cpus_or_bound, cpus_for, put_on, neighbours}
 use Rattle.sd_full.specs.Requeueing.{is_bound_to, requeue}
-use Rattle.sd_laws.specs.Laws.{is_marked}
+use Rattle.sd_machine.specs.Invariants.{is_marked}
+use Rattle.sd_machine.proofs.OpeningSets.{same_set}
 use Rattle.sd_sound.specs.Causes.{IsPut, IsRequeuedAt}
 use Rattle.sd_sound.specs.Laws.{is_in, is_runnable}
 use Rattle.sd_sound.proofs.Whole.{IsWhole}
 use Rattle.sd_belonging.specs.Belonging.{MayQueue, MayRun, BelongsAt, ThreadsBelong}
 use Rattle.sd_belonging.proofs.Alike.{Weight, heft, Alike, Weighed}
-use Rattle.sd_belonging.proofs.Basics.{or_right, none_some, same_set, same_cpu}
+use Rattle.sd_belonging.proofs.Basics.{none_some, same_cpu}
 use Rattle.sd_belonging.proofs.Goes.{All, Others, Goes, Single, Puts}
+use Rattle.sd_range.proofs.Places.{only_item, never_stays, never_anew}
 
 -- what is known of a state of a run
 pub record Known (w : Work) (s : State) : Type 0 where
@@ -71,10 +73,6 @@ pub data Outcome (w : Work) (s r : State) (c : ℕ) : Type 0 where
       → (cpu_of s c).set ≡ set_of w t → ((d : CpuId) → (thread_of s t).body.bound ≡ Some d → d.0 ≡ c)
       → ((u : ℕ) → is_queued c (thread_of s u).place ≡ true → eff_of s u ≤ heft x) → IsOff (thread_of s t).place → Outcome w s r c
 
-only_item : (d x : CpuId) → Contains (d ∷ []) x → d ≡ x
-only_item d x (zero, inside, is) = is
-only_item d x (suc k, inside, is) = absurd (omega (arith, inside))
-
 in_filter : (p : CpuId → Bool) (c : ℕ) (xs : List CpuId) → is_in c (filter p xs) ≡ true → is_in c xs ≡ true
 in_filter p c [] e = cc
 in_filter p c (x ∷ xs) e = by (p x) (λ f. in_filter p c xs f) e
@@ -113,14 +111,6 @@ behind_is : (a b : Bool) (c d : CpuId) → (if a then Stays else if b then Behin
 behind_is true b c d e = cc
 behind_is false true c d e = (cc, refl)
 behind_is false false c d e = cc
-
-never_behind : (a : Bool) (d : CpuId) → (if a then Stays else Stays) ≡ Behind d → ⊥
-never_behind true d e = cc
-never_behind false d e = cc
-
-never_anew : (a : Bool) (d : CpuId) → (if a then Stays else Anew) ≡ Behind d → ⊥
-never_anew true d e = cc
-never_anew false d e = cc
 
 -- who stays keeps its priority, or stands on no queue
 pub stays_rests : (place : Place) (old p : ℕ) (b : Option CpuId) → requeue place old p b ≡ Stays → (p ≡ old) ⊎ (is_runnable place ≡ false)
@@ -193,11 +183,11 @@ module _ (w : Work) (s : State) (k : Known w s) where
           subst (λ (y : CpuId). ((cpu_of s y.0).set ≡ set_of w t) × MayQueue (heft x) bound y) same
           (home.0, elim home.1 [ inl low ↦ inl (low.0, test c bound tests low.0) | inr here ↦ inr here ])
       by (RealTime q key) home is = absurd (never_anew (eff_of s t == heft x) d is)
-      by (Running c) home is = absurd (never_behind (eff_of s t == heft x) d is)
-      by (Waiting l side key) home is = absurd (never_behind (eff_of s t == heft x) d is)
-      by (Asleep j key) home is = absurd (never_behind (eff_of s t == heft x) d is)
-      by (Napping c due) home is = absurd (never_behind (eff_of s t == heft x) d is)
-      by Ended home is = absurd (never_behind (eff_of s t == heft x) d is)
+      by (Running c) home is = absurd (never_stays (eff_of s t == heft x) d is)
+      by (Waiting l side key) home is = absurd (never_stays (eff_of s t == heft x) d is)
+      by (Asleep j key) home is = absurd (never_stays (eff_of s t == heft x) d is)
+      by (Napping c due) home is = absurd (never_stays (eff_of s t == heft x) d is)
+      by Ended home is = absurd (never_stays (eff_of s t == heft x) d is)
 
   pub requeued_home : (n t : ℕ) (x : Weight) (at : Put) → IsRequeuedAt w s t (heft x) (Some at) → Home w s t x (place_put w n t at)
   requeued_home n t x at (inl (d, e, goes)) = subst (λ q. Home w s t x (place_put w n t q)) (sym goes) (behind_home n t x d e)

@@ -32,11 +32,11 @@ use Rattle.sd_sound.proofs.Words.{of_threads}
 use Rattle.sd_sound.proofs.HoldTable.{bound_part, pbound_bound}
 use Rattle.sd_sound.proofs.OpenLemmas.{place_part as set_part, place_marks, places_plain, cpus_same, other_place}
 use Rattle.sd_sound.proofs.PlainWords.{drop_keeps}
-use Rattle.sd_sound.proofs.BoundLemmas.{threads_same}
+use Rattle.sd_sound.proofs.BoundLemmas.{threads_same, same_id}
 use Rattle.sd_sound.proofs.Movers.{bind_put_is}
 use Rattle.sd_belonging.specs.Belonging.{BelongsAt, Belongs, ThreadsBelong}
 use Rattle.sd_belonging.proofs.Alike.{heft, calm_alike, drop_calm}
-use Rattle.sd_belonging.proofs.Basics.{self, none_some, same_cpu}
+use Rattle.sd_belonging.proofs.Basics.{none_some, same_cpu}
 use Rattle.sd_belonging.proofs.Homes.{frame_belongs}
 use Rattle.sd_belonging.proofs.Joins.{assigned_sets, drop_sets, nobody_runs, nobody_queued}
 use Rattle.sd_belonging.proofs.Outcomes.{Known, queued_at, runs_at}
@@ -203,11 +203,11 @@ module _ (w : Work) (s : State) (k : Known w s) (n : ℕ) (c : CpuId) where
         by : (p : Place) → (thread_of s u.0).place ≡ p → at ≡ bound_put f (thread_of s u.0).place → BelongsAt After (set_of w u.0) (eff_of After u.0) (thread_of After u.0).body.bound (thread_of After u.0).place
         by (Running x) stands to =
             let none : at ≡ None = to ∙ ap (bound_put f) stands in
-            stays (Running x) stands none (own x.0 ∙ (runs_at w s k u.0 x (ap (is_running x.0) stands ∙ self x.0)).0, λ y bound other. kernel x stands none (subst (λ (z : CpuId). z.0 ≢ x.0) (same_Some y f (sym bound)) other))
+            stays (Running x) stands none (own x.0 ∙ (runs_at w s k u.0 x (ap (is_running x.0) stands ∙ same_id x.0)).0, λ y bound other. kernel x stands none (subst (λ (z : CpuId). z.0 ≢ x.0) (same_Some y f (sym bound)) other))
         by (Queued x key) stands to = queue (x.0 == f.0) refl (to ∙ ap (bound_put f) stands)
           where
             queue : (b : Bool) → (x.0 == f.0) ≡ b → at ≡ (if b then None else Some (Cpu f)) → BelongsAt After (set_of w u.0) (eff_of After u.0) (thread_of After u.0).body.bound (thread_of After u.0).place
-            queue true same h = stays (Queued x key) stands h (own x.0 ∙ (queued_at w s k u.0 x (ap (is_queued x.0) stands ∙ self x.0)).0, inr (ap Some (same_cpu f x (sym (eqb-true x.0 f.0 same)))))
+            queue true same h = stays (Queued x key) stands h (own x.0 ∙ (queued_at w s k u.0 x (ap (is_queued x.0) stands ∙ same_id x.0)).0, inr (ap Some (same_cpu f x (sym (eqb-true x.0 f.0 same)))))
             queue false same h = goes h
         by (RealTime q key) stands to = goes (to ∙ ap (bound_put f) stands)
         by (Waiting l side key) stands to = stays (Waiting l side key) stands (to ∙ ap (bound_put f) stands) tt
@@ -227,12 +227,12 @@ module _ (w : Work) (s : State) (k : Known w s) (n : ℕ) (c : CpuId) where
 
         by : (p : Place) → (thread_of s u.0).place ≡ p → at ≡ unbound_put (eff_of s u.0) (Some b) (thread_of s u.0).place → BelongsAt After (set_of w u.0) (eff_of After u.0) (thread_of After u.0).body.bound (thread_of After u.0).place
         by (Running x) stands to =
-            stays (Running x) stands (to ∙ ap (unbound_put (eff_of s u.0) (Some b)) stands) (own x.0 ∙ (runs_at w s k u.0 x (ap (is_running x.0) stands ∙ self x.0)).0, λ y bound other. absurd (none_some y bound))
+            stays (Running x) stands (to ∙ ap (unbound_put (eff_of s u.0) (Some b)) stands) (own x.0 ∙ (runs_at w s k u.0 x (ap (is_running x.0) stands ∙ same_id x.0)).0, λ y bound other. absurd (none_some y bound))
         by (Queued x key) stands to = queue (nat_le 100 (eff_of s u.0)) refl (to ∙ ap (unbound_put (eff_of s u.0) (Some b)) stands)
           where
             queue : (v : Bool) → nat_le 100 (eff_of s u.0) ≡ v → at ≡ (if v then Some (OnRealTime b) else None) → BelongsAt After (set_of w u.0) (eff_of After u.0) (thread_of After u.0).body.bound (thread_of After u.0).place
             queue true high h = its_place None (Some (OnRealTime b)) is h ((grind (arith, nat_tests)), refl, refl)
-            queue false low h = stays (Queued x key) stands h (own x.0 ∙ (queued_at w s k u.0 x (ap (is_queued x.0) stands ∙ self x.0)).0, inl (refl, (grind (arith, nat_tests))))
+            queue false low h = stays (Queued x key) stands h (own x.0 ∙ (queued_at w s k u.0 x (ap (is_queued x.0) stands ∙ same_id x.0)).0, inl (refl, (grind (arith, nat_tests))))
         by (RealTime q key) stands to =
             let home : BelongsAt s (set_of w u.0) (eff_of s u.0) (thread_of s u.0).body.bound (RealTime q key) = subst (λ p. BelongsAt s (set_of w u.0) (eff_of s u.0) (thread_of s u.0).body.bound p) stands (k.homes u.0).place in
             absurd (none_some b (sym home.1 ∙ was))

@@ -1,7 +1,7 @@
 -- The events that change a set or a binding: what they leave of places, priorities and marks.
 use Rattle.std.proofs.Common.{◌≡◌, ◌≢◌, ℕ, ◌<◌, ◌≤◌, Bool, true, false, not, ◌&&◌, ◌||◌, List, length, set, Option, Some, None, is_none, refl, sym, ap, ◌∙◌, subst, inl, inr, arith}
 use Rattle.std.specs.Prelude.{if◌then◌else◌, is_some, nat_lt, ◌==◌}
-use Rattle.std.proofs.lemmas.Bool.{cases_eq, eqb-true}
+use Rattle.std.proofs.lemmas.Bool.{cases_eq, eqb-true, or_parts}
 use Rattle.std.proofs.lemmas.Bool.Decides.{nat_tests}
 use Rattle.std.proofs.lemmas.List.{length-set, get_or-set_same}
 use Rattle.sd_types.specs.declared.numbers.CpuId.{CpuId}
@@ -16,6 +16,7 @@ use Rattle.sd_machine.specs.declared.states.CpuState.{CpuState}
 use Rattle.sd_machine.specs.declared.states.ThreadState.{ThreadState}
 use Rattle.sd_machine.specs.declared.states.State.{State}
 use Rattle.sd_machine.specs.States.{no_thread, no_cpu, thread_of, cpu_of, with_cpu, is_running}
+use Rattle.sd_machine.proofs.OpeningSets.{same_set}
 use Rattle.sd_full.specs.Threads.{open_of, with_open, runner, set_of, eff_of, has_ended}
 use Rattle.sd_full.specs.Changes.{with_cpu_in, without_cpu, with_body, place_put, set_kernel_mark, put, put_where, close, join, bind, unbind}
 use Rattle.sd_full.specs.Prioritising.{is_privileged, uid_of}
@@ -26,9 +27,8 @@ use Rattle.sd_sound.proofs.Parts.{same_item}
 use Rattle.sd_sound.proofs.Words.{of_threads}
 use Rattle.sd_sound.proofs.PlaceTable.{place_part}
 use Rattle.sd_sound.proofs.HoldTable.{bound_part}
-use Rattle.sd_sound.proofs.BoundLemmas.{is_bound_at, bound_threads}
+use Rattle.sd_sound.proofs.BoundLemmas.{is_bound_at, bound_threads, same_id}
 use Rattle.sd_belonging.proofs.Alike.{weight_part, heft, marks_part, IsBusy, MoreMarks, more_same, Alike, all_calm, calm_alike, busy_by, set_kernel_mark_alike, finish_op_calm}
-use Rattle.sd_belonging.proofs.Basics.{self, neither, same_set}
 use Rattle.sd_belonging.proofs.Goes.{All, Puts, put_puts, puts_alike}
 
 -- Threads stand where they stood with their priorities, and marks may be set where a thread runs.
@@ -132,7 +132,7 @@ pub none_bound : (w : Work) (s : State) (t : ℕ) (d : CpuId) (to : SetId) → a
 none_bound w s t d to answer counts u inside f is same =
     let zero : nat_lt 0 (cpu_of s d.0).bound ≡ false = granted_assignment w s t d to answer in
     let none : (cpu_of s d.0).bound ≤ 0 = grind (arith, nat_tests) in
-    let one = count_one (λ v. is_bound_at d.0 (bound_part (thread_of s v))) u (length s.threads) inside (ap (is_bound_at d.0) is ∙ ap (λ i. i == d.0) same ∙ self d.0) in
+    let one = count_one (λ v. is_bound_at d.0 (bound_part (thread_of s v))) u (length s.threads) inside (ap (is_bound_at d.0) is ∙ ap (λ i. i == d.0) same ∙ same_id d.0) in
     omega (arith, none, counts, one)
 
 -- Bindings.
@@ -150,7 +150,7 @@ called_stands s d u (Running c) is = by (c.0 == d.0)
   where
     by : (b : Bool) → Stands s (if b then s else set_kernel_mark s c.0)
     by true = same_stands s
-    by false = alike_stands s _ (set_kernel_mark_alike s c.0 (record { who = u; runs = ap (is_running c.0) is ∙ self c.0 }))
+    by false = alike_stands s _ (set_kernel_mark_alike s c.0 (record { who = u; runs = ap (is_running c.0) is ∙ same_id c.0 }))
 called_stands s d u (Queued c k) is = same_stands s
 called_stands s d u (RealTime q k) is = same_stands s
 called_stands s d u (Waiting l side k) is = same_stands s
@@ -197,8 +197,8 @@ pub bindable : (w : Work) (s : State) (t u : ℕ) (d : CpuId) (at : Option Put) 
 bindable w s t u d at e =
     let tests = granted_binding w s t u (Some d) at e in
     record {
-      free = unbound (thread_of s u).body.bound (neither (is_some (thread_of s u).body.bound) _ tests.0).0;
-      own = same_set (cpu_of s d.0).set (set_of w u) (eqb-true (cpu_of s d.0).set.0 (set_of w u).0 (unnot ((cpu_of s d.0).set.0 == (set_of w u).0) (neither (is_some (thread_of s u).body.bound) _ tests.0).1));
+      free = unbound (thread_of s u).body.bound (or_parts (is_some (thread_of s u).body.bound) _ tests.0).0;
+      own = same_set (cpu_of s d.0).set (set_of w u) (eqb-true (cpu_of s d.0).set.0 (set_of w u).0 (unnot ((cpu_of s d.0).set.0 == (set_of w u).0) (or_parts (is_some (thread_of s u).body.bound) _ tests.0).1));
       stays_open = opened (cpu_of s d.0).closing tests.1;
     }
   where

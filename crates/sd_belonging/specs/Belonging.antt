@@ -12,7 +12,7 @@ use Rattle.sd_machine.specs.declared.states.Place.TheVariants.{Running, Queued, 
 use Rattle.sd_machine.specs.declared.states.State.{State}
 use Rattle.sd_machine.specs.States.{thread_of, cpu_of}
 use Rattle.sd_full.specs.Threads.{open_of, set_of, eff_of}
-use Rattle.sd_laws.specs.Laws.{PlacesAreThere, OneRuns, KeysDiffer, KeysWithin}
+use Rattle.sd_machine.specs.Invariants.{PlacesAreThere, OneRuns, KeysDiffer, KeysWithin}
 
 -- A thread of effective priority p, bound to a processor or to none, may stand on the queue of processor c: it is bound to c, or
 -- it is bound to none and below 100.

@@ -39,6 +39,7 @@ use Rattle.sd_rounds.specs.Orders.{orders_of}
 use Rattle.sd_rounds.proofs.CompleteLemmas.{complete_of}
 use Rattle.sd_audit.specs.Audits.{IsJournal}
 use Rattle.sd_certified.specs.Certified.{HasBytes}
+use Rattle.sd_range.proofs.Induction.{opening_reached}
 
 -- ---- the numbers that processors show
 
@@ -198,13 +199,10 @@ run_spelled w n s (e ∷ es) reached run bytes few =
 pub all_spelled : (w : Work) (n : ℕ) (s : State) (es : List Entry) → IsReached w n s → IsRunFrom w s n es → AreShown w s es → n + length es < 2 ^ 64 → All (IsSpelled w) es
 all_spelled w n s es reached run shown few = run_spelled w n s es reached run (range_of_shown w n s es reached run shown) few
 
-pub opened : (w : Work) → IsReached w 0 (opening w)
-opened w = record { entries = []; run = IsRun-nil w; many = refl; ends = final-nil w (opening w) }
-
 -- the numbers that are read in a run in rounds
 pub serial_bytes : (w : Work) (orders : ℕ → List CpuId) (es : List Entry) → IsSerial w orders es → IsRun w es → All HasBytes es
 serial_bytes w orders es serial run =
-    range_of_shown w 0 (opening w) es (opened w) (IsRun-from w es run)
+    range_of_shown w 0 (opening w) es (opening_reached w) (IsRun-from w es run)
     (subst (λ (xs : List Entry). AreShown w (opening w) xs) (sym serial.entries) (rounds_shown w orders serial.count))
 
 -- ---- a run in rounds is a run
@@ -236,7 +234,7 @@ pub run_journal : (w : Work) (es : List Entry) → IsRun w es → IsComplete w (
 run_journal w es run complete bytes few = record {
   entries = es;
   run = run;
-  spelled = run_spelled w 0 (opening w) es (opened w) (IsRun-from w es run) bytes (omega (arith, few));
+  spelled = run_spelled w 0 (opening w) es (opening_reached w) (IsRun-from w es run) bytes (omega (arith, few));
   complete = complete;
   whole = refl;
   many = refl;

@@ -10,9 +10,7 @@ use Rattle.sd_full.specs.Texts.{journal}
 use Rattle.sd_spelling.specs.Fitting.{IsSpelled}
 use Rattle.sd_audit.specs.Audits.{entry_line}
 use Rattle.sd_audit.proofs.LineLemmas.{same_line, not_accounts, journal_lines}
-
-head_same : (x y : List ℕ) (xs ys : List (List ℕ)) → x ∷ xs ≡ y ∷ ys → (x ≡ y) × (xs ≡ ys)
-head_same x y xs ys e = (cc, cc)
+use Rattle.sd_audit.proofs.ExactLemmas.{head_same}
 
 module _ (w : Work) where
   -- the same lines before `accounts` are those of the same entries

@@ -2,7 +2,6 @@ pub mod Chains
 pub mod CycleLemmas
 pub mod Greatest
 pub mod HolderLemmas
-pub mod LapLemmas
 pub mod Moves
 pub mod Steps
 pub mod WillMove

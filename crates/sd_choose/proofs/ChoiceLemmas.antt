@@ -1,5 +1,5 @@
 -- What follows from the properties of a choice.
-use Rattle.std.proofs.Common.{◌≡◌, ◌≢◌, ℕ, ◌<◌, ◌≤◌, Bool, true, false, ◌&&◌, List, [], ◌∷◌, suc, Contains, length, get_or, All, MatchBool, inl, inr, refl, sym, ap, ◌∙◌, subst, arith}
+use Rattle.std.proofs.Common.{◌≡◌, ◌≢◌, ℕ, ◌<◌, ◌≤◌, Bool, true, false, ◌&&◌, List, [], ◌∷◌, suc, Contains, length, get_or, All, MatchBool, inl, inr, sym, ap, ◌∙◌, subst, arith}
 use Rattle.std.proofs.lemmas.Bool.{cases_eq, false≢true}
 use Rattle.std.proofs.lemmas.Bool.Decides.{nat_tests}
 use Rattle.std.proofs.lemmas.List.{get_or_default}
@@ -114,14 +114,6 @@ Contains-from_among c (d ∷ ds) h = elim (cases_eq d.0 c.0) [
       let w = Contains-from_among c ds rest in
       (suc w.0, omega arith, w.2)
 ]
-
-pub not_warm : (warm among : Bool) → warm ≡ false → (warm && among) ≡ false
-not_warm true among h = absurd (false≢true (sym h))
-not_warm false among h = refl
-
-pub not_among : (warm among : Bool) → among ≡ false → (warm && among) ≡ false
-not_among true among h = h
-not_among false among h = refl
 
 pub chosen_by_hints : (stays : Bool) (cpus : List CpuId) (hints : List ℕ) (last c : CpuId) → stays ≡ false → IsBestByHints cpus hints last c
     → MatchBool stays (c ≡ last) (IsBestByHints cpus hints last c)

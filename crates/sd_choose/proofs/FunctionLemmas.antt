@@ -1,16 +1,12 @@
 -- The functions give the choices.
-use Rattle.std.proofs.Common.{◌≡◌, ℕ, zero, suc, ◌<◌, ◌≤◌, Bool, true, false, ◌&&◌, cond, List, [], ◌∷◌, length, get_or, Option, Some, None, MatchBool, MatchOption, All, ◌⊎◌, inl, inr, refl, sym, ap, ◌∙◌, subst, arith, slice_get, ◌==◌}
-use Rattle.std.proofs.lemmas.Bool.{cases_eq, cases_lt, false≢true, eq-eqb, eqb-true}
+use Rattle.std.proofs.Common.{◌≡◌, ℕ, zero, suc, ◌<◌, ◌≤◌, Bool, true, false, ◌&&◌, cond, List, [], ◌∷◌, length, get_or, Option, Some, None, MatchBool, MatchOption, All, inl, inr, refl, sym, ap, ◌∙◌, subst, arith, slice_get, ◌==◌}
+use Rattle.std.proofs.lemmas.Bool.{cases_eq, cases_lt, false≢true, eq-eqb, eqb-true, cases_Bool}
 use Rattle.std.proofs.lemmas.Bool.Decides.{nat_tests}
 use Rattle.std.proofs.lemmas.Option.{same_Some, none-some, slice_get_within, slice_get-get_or, get_or_from_slice_get}
 use Rattle.sd_types.specs.declared.numbers.CpuId.{CpuId}
 use Rattle.sd_rules.specs.Choices.{is_among, HasHint, IsLeastBusy, IsBestByHints, IsChosen, IsVictim}
 use Rattle.sd_choose.proofs.ChoiceLemmas.{same_victim}
 use Rattle.sd_rules.specs.ChoiceFunctions.{least_hint, greatest_hint, with_hint, least_number, preferred, chosen, victim_of}
-
-bool_cases : (b : Bool) → (b ≡ true) ⊎ (b ≡ false)
-bool_cases true = inl refl
-bool_cases false = inr refl
 
 same_cpu : (c d : CpuId) → c.0 ≡ d.0 → c ≡ d
 same_cpu c d e = let cpu : ℕ → CpuId = λ n. record { 0 = n } in ap cpu e
@@ -51,7 +47,7 @@ among-with hint (c ∷ cs) (g ∷ gs) x zero e h =
     rw (with-here hint g c cs gs (same_Some g hint h)) (among-head x c (with_hint hint cs gs) (ap (λ (y : CpuId). y.0) (same_Some c x e)))
 among-with hint (c ∷ cs) (g ∷ gs) x (suc i) e h =
     let r = among-with hint cs gs x i e h in
-    elim (bool_cases (g == hint)) [
+    elim (cases_Bool (g == hint)) [
       | inl here ↦ rw (with-here hint g c cs gs (eqb-true g hint here)) (among-cons x c (with_hint hint cs gs) r)
       | inr later ↦ rw (with-later hint g c cs gs later) r
     ]
@@ -63,7 +59,7 @@ next-hint cpus hints c x g h (i, e, f) = (suc i, e, f)
 with-among : (hint : ℕ) (cpus : List CpuId) (hints : List ℕ) (x : CpuId) → is_among x (with_hint hint cpus hints) ≡ true → HasHint cpus hints x hint
 with-among hint [] hints x h = absurd (false≢true h)
 with-among hint (c ∷ cs) [] x h = absurd (false≢true h)
-with-among hint (c ∷ cs) (g ∷ gs) x h = elim (bool_cases (g == hint)) [
+with-among hint (c ∷ cs) (g ∷ gs) x h = elim (cases_Bool (g == hint)) [
   | inl here ↦
       let found : is_among x (c ∷ with_hint hint cs gs) ≡ true = rw (with-here hint g c cs gs (eqb-true g hint here)) at h in
       elim (cases_eq c.0 x.0) [
@@ -155,7 +151,7 @@ best-from_ties : (cpus : List CpuId) (hints : List ℕ) (last y : CpuId) → Has
     → IsBestByHints cpus hints last (preferred last (with_hint (least_hint hints) cpus hints))
 best-from_ties cpus hints last y at =
     let ties : List CpuId = with_hint (least_hint hints) cpus hints in
-    elim (bool_cases (is_among last ties)) [
+    elim (cases_Bool (is_among last ties)) [
       | inl here ↦ subst (IsBestByHints cpus hints last) (sym (preferred-last last ties here)) (record {
         busy = least-from_among cpus hints last here;
         stays = λ b. refl;

@@ -20,7 +20,7 @@ use Rattle.sd_homes.specs.declared.home.Home.{Home}
 use Rattle.sd_homes.specs.Families.{home_id, same_home}
 use Rattle.sd_hand.specs.Acting.{has_part}
 use Rattle.sd_hand.specs.Hands.{AreApart, IsHeld, IsIn, has_thread, held, how_many_held}
-use Rattle.sd_hand.proofs.GuideLemmas.{stands_guessed}
+use Rattle.sd_hand.proofs.GuideLemmas.{stands_guessed, held_in}
 use Rattle.sd_hand.proofs.MoveLemmas.{stands_at, taken}
 use Rattle.sd_hand.proofs.SlotLemmas.{same_home_self, same_home_true, stands_has}
 use Rattle.sd_footprint.specs.Homes.{IsOneOf, LiesIn, TakesFour, home_in}
@@ -177,15 +177,6 @@ can_fetch m good hints p holds sought there lacks = by p sought there lacks (few
     by (part.Home k) s there lacks less = record { room = less; there = there; fresh = lacks }
     by (part.Thread t) s there lacks less = record { room = less; there = there; fresh = lacks }
     by (part.Actor d) s there lacks less = not_actor m good m.seen good.stands (part.Actor d) (ap part.Actor there) lacks
-
-held_in : (k : HomeId) (h : Home) (hs : List (Option Home)) → held k hs ≡ Some h → IsIn h hs
-held_in k h [] e = absurd cc
-held_in k h (None ∷ hs) e = held_in k h hs e
-held_in k h (Some g ∷ hs) e = by (same_home k (home_id g)) refl (held_in k h hs)
-  where
-    by : (b : Bool) → same_home k (home_id g) ≡ b → (held k hs ≡ Some h → IsIn h hs) → IsIn h (Some g ∷ hs)
-    by true f r = let is = rw f at e in inl cc
-    by false f r = inr (r (rw f at e))
 
 -- the home lies there in which a part was fetched
 pub fetched_home : (m : Meaning) (x : Home) (p : Part) (h : List Entry) → MayStand m h → held (home_id x) (slots_of m) ≡ Some x → HomeHas x p → home_in (after_run m h) p ≡ Some (home_id x)

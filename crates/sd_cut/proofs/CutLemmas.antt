@@ -1,5 +1,6 @@
 -- The lines before a byte, and the cut.
 use Rattle.std.proofs.Common.{◌≡◌, ◌≢◌, ℕ, ◌+◌, ◌-◌, ◌<◌, ◌≤◌, true, min, List, [], ◌∷◌, ◌++◌, length, take, drop, get_or, append_assoc, append-nil, ◌⊎◌, inl, inr, refl, sym, ap, subst, ◌∙◌, arith, drop-drop}
+use Rattle.std.proofs.lemmas.Bool.{and_parts}
 use Rattle.std.specs.Prelude.{codes}
 use Rattle.std.specs.List.{All, list_all}
 use Rattle.std.proofs.lemmas.List.{take-append-drop, drop_more, drop_all, drop_min, append_cancel_left, append_cancel_right, length-append}
@@ -8,7 +9,7 @@ use Rattle.std.proofs.lemmas.List.Folds.{list_all-append}
 use Rattle.std.proofs.lemmas.Grind.{flat_map-append}
 use Rattle.std.proofs.Math.Nat.{eq-or-lt_of_le}
 use Rattle.sd_text.specs.Lines.{lines_of, is_line, text_of_lines}
-use Rattle.sd_text.proofs.LineLemmas.{both, are_lines, lines_of-text}
+use Rattle.sd_text.proofs.LineLemmas.{are_lines, lines_of-text}
 use Rattle.sd_cut.specs.Cuts.{HasNoJournal, IsCut}
 use Rattle.sd_cut.specs.Passing.{HasPassed}
 
@@ -35,7 +36,7 @@ lines_push : (lines : List (List ℕ)) (line : List ℕ) → text_of_lines (line
 lines_push lines line = flat_map-append (λ (l : List ℕ). l ++ 10 ∷ []) lines (line ∷ []) ∙ ap (λ (l : List ℕ). text_of_lines lines ++ l) (append-nil (line ++ 10 ∷ []))
 
 head_is_line : (text line : List ℕ) (rest : List (List ℕ)) → lines_of text ≡ line ∷ rest → is_line line ≡ true
-head_is_line text line rest next = (both (is_line line) (list_all is_line rest) (sym (ap (list_all is_line) next) ∙ are_lines text)).0
+head_is_line text line rest next = (and_parts (is_line line) (list_all is_line rest) (sym (ap (list_all is_line) next) ∙ are_lines text)).0
 
 -- one line more
 pub passed_more : (text line : List ℕ) (from end : ℕ) → HasPassed text from → lines_of (drop from text) ≡ line ∷ lines_of (drop (end + 1) text)
@@ -119,7 +120,7 @@ cut_lines text before after c = elim c.parts as (λ _. (rest : List (List ℕ)) 
   )
 ]
 
-head_same : (x y : List ℕ) (xs ys : List (List ℕ)) → x ∷ xs ≡ y ∷ ys → x ≡ y
+pub head_same : (x y : List ℕ) (xs ys : List (List ℕ)) → x ∷ xs ≡ y ∷ ys → x ≡ y
 head_same x y xs ys e = cc
 
 tail_same : (x y : List ℕ) (xs ys : List (List ℕ)) → x ∷ xs ≡ y ∷ ys → xs ≡ ys

@@ -12,10 +12,7 @@ use Rattle.std.proofs.lemmas.List.Elements.{All-cons}
 use Rattle.std.proofs.lemmas.Bool.Decides.{nat_tests}
 use Rattle.sd_types.specs.Works.{is_distinct, same_bytes}
 use Rattle.sd_names.proofs.PlaceLemmas.{place-map, position-map, any-map}
-
-chosen : (b : Bool) (n m : ℕ) → (b ≡ false → n ≡ m) → unwrap_or (cond b (Some n) None) m ≡ n
-chosen true n m h = refl
-chosen false n m h = sym (h refl)
+use Rattle.sd_text.proofs.LineLemmas.{chosen}
 
 -- the index that was found, or else the length
 or_length : {A : Type 0} (p : A → Bool) (xs : List A) → unwrap_or (position p xs) (length xs) ≡ position_or_len p xs

@@ -3,7 +3,7 @@ use Rattle.std.proofs.Common.{◌≡◌, ℕ, zero, suc, ◌+◌, ◌-◌, ◌<�
 use Rattle.std.specs.Prelude.{unwrap_or}
 use Rattle.std.specs.List.{position_or_len, list_any}
 use Rattle.std.proofs.lemmas.Bool.Decides.{nat_tests}
-use Rattle.std.proofs.lemmas.Bool.{false≢true}
+use Rattle.std.proofs.lemmas.Bool.{false≢true, or_parts, and_parts, not-true}
 use Rattle.std.proofs.lemmas.List.{drop_more, map-append, take-append-drop, take_more}
 use Rattle.std.proofs.lemmas.List.Folds.{list_any-append}
 use Rattle.std.proofs.lemmas.List.Sums.{prefix_len-le-length}
@@ -36,26 +36,14 @@ word_next x ws (suc k) some = let e : k ≡ suc k - 1 = omega arith in ap (λ j.
 
 -- ---- names that differ, one after another
 
-neither : (a b : Bool) → (a || b) ≡ false → (a ≡ false) × (b ≡ false)
-neither true b h = absurd (false≢true (sym h))
-neither false b h = (refl, h)
-
-both : (a b : Bool) → (a && b) ≡ true → (a ≡ true) × (b ≡ true)
-both true b h = (refl, h)
-both false b h = absurd (false≢true h)
-
-not-true : (a : Bool) → not a ≡ true → a ≡ false
-not-true true h = absurd (false≢true h)
-not-true false h = refl
-
 -- an element is none of those in front of it
 distinct-before : {X : Type 0} (same : X → X → Bool) (ys : List X) (z : X) (zs : List X) → is_distinct same (ys ++ z ∷ zs) ≡ true → list_any (λ y. same y z) ys ≡ false
 distinct-before same [] z zs h = refl
 distinct-before same (y ∷ ys) z zs h =
-    let p = both (not (list_any (same y) (ys ++ z ∷ zs))) (is_distinct same (ys ++ z ∷ zs)) h in
+    let p = and_parts (not (list_any (same y) (ys ++ z ∷ zs))) (is_distinct same (ys ++ z ∷ zs)) h in
     let none = sym (list_any-append (same y) ys (z ∷ zs)) ∙ not-true _ p.0 in
-    let q = neither (list_any (same y) ys) (same y z || list_any (same y) zs) none in
-    let r = neither (same y z) (list_any (same y) zs) q.1 in
+    let q = or_parts (list_any (same y) ys) (same y z || list_any (same y) zs) none in
+    let r = or_parts (same y z) (list_any (same y) zs) q.1 in
     rw (r.0) (distinct-before same ys z zs p.1)
 
 module _ {X : Type 0} (name : X → List ℕ) (xs : List X) (i : ℕ) (x : X) (inside : i < length xs) (is : x ≡ get_or xs i x) where

@@ -1,7 +1,9 @@
--- Calls of the two programs on texts in memory.
+-- Calls of the three programs on texts in memory.
 -- Source: this project's own.
 use Rattle.std.specs.Prelude.{◌≡◌, ℕ, List, [], ◌∷◌, ◌++◌, codes, Some}
 use Rattle.sd_answers.specs.StreamChanges.{StreamChange}
+use Rattle.sd_find.specs.Asked.{asked}
+use Rattle.sd_find.specs.Promises as finder
 use Rattle.sd_program.specs.Headline.{KeepsPromises}
 use Rattle.sd_viewer.specs.Promises as viewer
 
@@ -25,6 +27,10 @@ Runs workload text status = Writes (KeepsPromises (codes "run" ∷ [])) workload
 -- `dispview`, with this argument and on this certificate, wrote this text and returned this status
 abbrev pub Views : List ℕ → List ℕ → List ℕ → ℕ → Type 0
 Views word certificate text status = Writes (viewer.KeepsPromises (word ∷ [])) certificate text status
+
+-- `dispfind`, with these arguments and on this workload, wrote this text and returned this status
+abbrev pub Finds : List (List ℕ) → List ℕ → List ℕ → ℕ → Type 0
+Finds arguments workload text status = Writes (finder.KeepsPromises (asked arguments)) workload text status
 
 -- a workload and a journal as one text
 abbrev pub certificate_of : List ℕ → List ℕ → List ℕ

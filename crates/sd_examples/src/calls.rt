@@ -1,9 +1,10 @@
-//! Calls of the two programs over inputs and outputs in memory.
+//! Calls of the three programs over inputs and outputs in memory.
 
 ghost use Rattle.std.specs.Prelude.{◌≡◌, [], ◌∷◌, IfOk, map, string_bytes};
-ghost use Rattle.sd_examples.specs.Calls.{certificate_of, Runs, Views};
+ghost use Rattle.sd_examples.specs.Calls.{certificate_of, Finds, Runs, Views};
 ghost use Rattle.sd_examples.specs.Outcomes.{IsDrawing, IsRun};
 
+use sd_find::{Progress, find};
 use sd_program::{OpenGate, serial};
 use sd_text::{MemorySink, MemorySource};
 use sd_viewer::view;
@@ -67,6 +68,25 @@ fn call_view(alloc: Global, word: &str, certificate: &[u8]) -> Result<Finished, 
     let mut out = output(alloc)?;
     let mut err = output(alloc)?;
     let status = view(alloc, &arguments, &mut input, &mut out, &mut err);
+    Ok(Finished { status, out })
+}
+
+/// Calls `dispfind` with these arguments on the workload.
+pub fn search(alloc: Global, arguments: &[String], workload: &[u8]) -> Result<Finished, AllocError>
+    ensures { IfOk result (λ call. Finds (map string_bytes arguments.now) workload.now call.out.held call.status) }
+{
+    let mut input = input_of(alloc, workload)?;
+    let mut out = output(alloc)?;
+    let mut err = output(alloc)?;
+    let mut unseen: Progress<MemorySink> = Progress::new(alloc, None);
+    let status = find(
+        alloc,
+        arguments,
+        &mut input,
+        &mut out,
+        &mut err,
+        &mut unseen,
+    );
     Ok(Finished { status, out })
 }
 

@@ -1,8 +1,10 @@
-//! The files of the examples: NAME.workload, its picture NAME.svg, NAME.json where the trace is stored too, and NAME.journal where
-//! the run is not that of `dispsim run`.
+//! The files of the examples: NAME.workload, its picture NAME.svg, NAME.json where the trace is stored too, NAME.journal where
+//! the run is not that of `dispsim run`, and NAME.find where an answer of `dispfind` is stored: its first line has the arguments.
 
+use crate::searches::{Searched, judge_search};
 use crate::verdicts::{Verdict, judge};
 use anyhow::{Context, Result};
+use std::alloc::Global;
 use std::rt::{Env, Files};
 use std::{env, fs, io};
 
@@ -60,4 +62,31 @@ pub fn judge_example<R: Files + AllocGlobal>(rt: &R, folder: &str, name: &str) -
         &picture,
         trace.as_ref().map(Vec::as_slice),
     )?)
+}
+
+fn words_of(alloc: Global, line: &str) -> io::Result<Vec<String>> {
+    let mut words = Vec::new(alloc);
+    for word in line.split(' ') {
+        words.push(String::from_str(alloc, word)?)?;
+    }
+    Ok(words)
+}
+
+/// Reads the stored answer of an example and judges it; None where none is stored.
+pub fn judge_answer<R: Files + AllocGlobal>(
+    rt: &R,
+    folder: &str,
+    name: &str,
+) -> Result<Option<Searched>> {
+    let alloc = rt.alloc();
+    let stored = read_if_there(rt, format!(in alloc; "{folder}/{name}.find")?.as_str())?;
+    let Some(stored) = stored else {
+        return Ok(None);
+    };
+    let text = std::str::from_utf8(stored.as_slice())?;
+    let (line, answer) = text.split_once('\n').context("no arguments")?;
+    let arguments = words_of(alloc, line)?;
+    let workload = read_file(rt, format!(in alloc; "{folder}/{name}.workload")?.as_str())?;
+    let searched = judge_search(alloc, &arguments, &workload, answer.as_bytes())?;
+    Ok(Some(searched))
 }

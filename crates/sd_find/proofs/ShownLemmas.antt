@@ -10,7 +10,8 @@ use Rattle.sd_full.proofs.RunLemmas.{IsRun-from}
 use Rattle.sd_interleavings.specs.Closed.{IsFresh}
 use Rattle.sd_search.specs.declared.questions.Question.{Question}
 use Rattle.sd_search.specs.Questions.{IsWitness}
-use Rattle.sd_certified.proofs.HintLemmas.{AreShown, all_spelled, opened}
+use Rattle.sd_certified.proofs.HintLemmas.{AreShown, all_spelled}
+use Rattle.sd_range.proofs.Induction.{opening_reached}
 use Rattle.sd_find.specs.Shown.{IsCertified, IsShown}
 
 fresh_shown : (w : Work) (s : State) (es : List Entry) → IsFresh w s es → AreShown w s es
@@ -22,7 +23,7 @@ pub certified_of : (w : Work) (es : List Entry) → IsRun w es → IsFresh w (op
 certified_of w es run fresh complete short = record {
   entries = es;
   run = run;
-  spelled = all_spelled w 0 (opening w) es (opened w) (IsRun-from w es run) (fresh_shown w (opening w) es fresh) (omega (arith, short));
+  spelled = all_spelled w 0 (opening w) es (opening_reached w) (IsRun-from w es run) (fresh_shown w (opening w) es fresh) (omega (arith, short));
   complete = complete;
   whole = refl;
   many = refl;

@@ -1,6 +1,7 @@
 -- What a turn looks at is there: the operations of scripts and the duties of processors name what is there, and the threads that
 -- searches find are there.
 use Rattle.std.proofs.Common.{◌≡◌, ℕ, ◌<◌, Bool, true, false, ◌||◌, List, [], ◌∷◌, length, Option, Some, None, refl, arith}
+use Rattle.std.proofs.lemmas.Bool.{or_left, or_right}
 use Rattle.std.specs.Prelude.{IfSome, Result, Ok, Err, ◌==◌, filter, not, nat_lt, slice_get, if◌then◌else◌}
 use Rattle.std.proofs.lemmas.Bool.Decides.{nat_tests}
 use Rattle.sd_types.specs.declared.bodies.ThreadBody.{ThreadBody}
@@ -29,6 +30,7 @@ use Rattle.sd_machine.specs.declared.states.LockState.TheVariants.{Owned}
 use Rattle.sd_machine.specs.declared.states.State.{State}
 use Rattle.sd_machine.specs.Operations.{op_of, script_of}
 use Rattle.sd_machine.specs.States.{cpu_of, thread_of}
+use Rattle.sd_machine.proofs.BestLemmas.{and_left}
 use Rattle.sd_full.specs.declared.plans.Placement.{Placement}
 use Rattle.sd_full.specs.declared.plans.Placement.TheVariants as placement
 use Rattle.sd_full.specs.declared.plans.Plan.{Plan}
@@ -52,7 +54,7 @@ use Rattle.sd_mdisp.specs.Touched.{victim_parts}
 use Rattle.sd_range.proofs.Named.{assign_cpu, bind_cpu}
 use Rattle.sd_sound.specs.Laws.{is_in}
 use Rattle.sd_sound.proofs.Found.{due_found, queued_found, sleeper_below_found, sleeper_found, waiter_found}
-use Rattle.sd_sound.proofs.Works.{declared, first_of_two, op_named}
+use Rattle.sd_sound.proofs.Works.{declared, op_named}
 use Rattle.sd_step.specs.Needed.{choice_parts, cpu_parts, later_parts, needed, next_parts, op_parts, plan_parts, read_parts, reads_parts, run_parts, turn_parts}
 use Rattle.sd_step.specs.Tasks.{task_parts}
 use Rattle.sd_store.specs.declared.parts.Part.{Part}
@@ -65,19 +67,11 @@ abbrev AllBelow : ℕ → List CpuId → Type 0
 AllBelow n [] = Unit {0}
 AllBelow n (c ∷ cs) = (c.0 < n) × AllBelow n cs
 
-first_holds : (a b : Bool) → a ≡ true → (a || b) ≡ true
-first_holds true b e = refl
-first_holds false b e = cc
-
-second_holds : (a b : Bool) → b ≡ true → (a || b) ≡ true
-second_holds true b e = refl
-second_holds false b e = e
-
 listed_below : (n : ℕ) (xs : List CpuId) → ((d : ℕ) → is_in d xs ≡ true → d < n) → AllBelow n xs
 listed_below n [] each = tt
 listed_below n (x ∷ xs) each =
     let here : (x.0 == x.0) ≡ true = grind (arith, nat_tests) in
-    (each x.0 (first_holds (x.0 == x.0) (is_in x.0 xs) here), listed_below n xs (λ d is. each d (second_holds (x.0 == d) (is_in d xs) is)))
+    (each x.0 (or_left (x.0 == x.0) (is_in x.0 xs) here), listed_below n xs (λ d is. each d (or_right (x.0 == d) (is_in d xs) is)))
 
 filter_below : (n : ℕ) (p : CpuId → Bool) (xs : List CpuId) → AllBelow n xs → AllBelow n (filter p xs)
 filter_below n p [] below = tt
@@ -121,10 +115,10 @@ op_at w t b = by (op_of w t b) refl
     by (Some x) e = op_named w t b.op x e
 
 prio_thread : (w : Work) (u : ThreadId) (r : Request) → op_names (declared w) (op.Prio u r) ≡ true → u.0 < length w.threads
-prio_thread w u r e = let less : nat_lt u.0 (length w.threads) ≡ true = first_of_two _ (request_fits r) e in grind (arith, nat_tests)
+prio_thread w u r e = let less : nat_lt u.0 (length w.threads) ≡ true = and_left _ (request_fits r) e in grind (arith, nat_tests)
 
 bind_thread : (w : Work) (u : ThreadId) (d : Option CpuId) → op_names (declared w) (op.Pbind u d) ≡ true → u.0 < length w.threads
-bind_thread w u d e = let less : nat_lt u.0 (length w.threads) ≡ true = first_of_two _ (bound_fits w.cpus d) e in grind (arith, nat_tests)
+bind_thread w u d e = let less : nat_lt u.0 (length w.threads) ≡ true = and_left _ (bound_fits w.cpus d) e in grind (arith, nat_tests)
 
 -- a plan of a thread that is there
 abbrev Places : State → Plan → Type 0

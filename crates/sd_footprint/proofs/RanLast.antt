@@ -14,7 +14,7 @@ use Rattle.sd_machine.specs.States.{is_running, thread_of}
 use Rattle.sd_full.specs.Events.{after, next}
 use Rattle.sd_full.specs.Runs.{IsReached}
 use Rattle.sd_step.specs.Touched.{after_parts}
-use Rattle.sd_laws.proofs.Openings.{opening_runs_none}
+use Rattle.sd_machine.proofs.Openings.{opening_runs_none}
 use Rattle.sd_sound.specs.Causes.{IsCause}
 use Rattle.sd_sound.proofs.Found.{runner_found}
 use Rattle.sd_sound.proofs.Ready.{kept_reached, reached_ready, ready_cause}

@@ -18,6 +18,7 @@ use Rattle.sd_spelling.specs.Fitting.{IsSpelled}
 use Rattle.sd_spelling.proofs.LineLemmas.{one_line}
 use Rattle.sd_audit.specs.Audits.{entry_line, IsTaken}
 use Rattle.sd_audit.proofs.LineLemmas.{text_of, not_accounts, journal_lines}
+use Rattle.sd_audit.proofs.ExactLemmas.{head_same}
 use Rattle.sd_gather.specs.Journals.{HasJournal, IsJournalOf, TellsNext, IsAtEntry, IsUnderWay}
 
 -- the entries of a journal
@@ -39,9 +40,6 @@ under_way_start w text s n Made none start made es j =
       },
       subst (λ (k : ℕ). Made (take k es)) (sym none) made,
     )
-
-head_same : (x y : List ℕ) (xs ys : List (List ℕ)) → x ∷ xs ≡ y ∷ ys → (x ≡ y) × (xs ≡ ys)
-head_same x y xs ys e = (cc, cc)
 
 -- the entry that was read is the one that stands next
 pub record IsNext (w : Work) (es : List Entry) (n : ℕ) (e : Entry) (left rest : List (List ℕ)) : Type 0 where

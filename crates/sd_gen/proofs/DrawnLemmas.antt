@@ -40,7 +40,7 @@ module _ (line : ℕ → Lcg → Drawn) where
   pub generator_over : (i : ℕ) (g last : Lcg) → 200 ≤ i → (drawn_from line (200 - i) i g).1 ≡ last → g ≡ last
   generator_over i g last h e = ap (λ (d : Drawn). d.1) (sym (all_over i g h)) ∙ e
 
-range_from : (a n : ℕ) → range_with_len a (suc n) ≡ range_with_len a n ++ (a + n) ∷ []
+pub range_from : (a n : ℕ) → range_with_len a (suc n) ≡ range_with_len a n ++ (a + n) ∷ []
 range_from a zero = ap (λ k. k ∷ []) (let e : a ≡ a + 0 = omega arith in e)
 range_from a (suc n) =
     ap (λ (xs : List ℕ). a ∷ xs) (range_from (a + 1) n)

@@ -96,7 +96,7 @@ left_there s c (to.Nap due) locks chans there = tt
 left_there s c to.Nowhere locks chans there = tt
 
 -- who runs is there
-get_or-beyond : {X : Type 0} (xs : List X) (i : ℕ) (d : X) → length xs ≤ i → get_or xs i d ≡ d
+pub get_or-beyond : {X : Type 0} (xs : List X) (i : ℕ) (d : X) → length xs ≤ i → get_or xs i d ≡ d
 get_or-beyond [] i d h = refl
 get_or-beyond (x ∷ xs) zero d h = absurd (omega arith)
 get_or-beyond (x ∷ xs) (suc i) d h = get_or-beyond xs i d (omega arith)

@@ -45,7 +45,7 @@ pub slot_guessed : (k : HomeId) (hs : List (Option Home)) (i : ℕ) → AreApart
 slot_guessed k hs i a e = slot_at k hs i e (λ j l. apart_before k hs i j a e l)
 
 -- ---- a list that was guessed
-held_in : (k : HomeId) (h : Home) (hs : List (Option Home)) → held k hs ≡ Some h → IsIn h hs
+pub held_in : (k : HomeId) (h : Home) (hs : List (Option Home)) → held k hs ≡ Some h → IsIn h hs
 held_in k h [] e = absurd cc
 held_in k h (None ∷ hs) e = held_in k h hs e
 held_in k h (Some g ∷ hs) e = by (same_home k (home_id g)) refl (held_in k h hs)
@@ -66,7 +66,7 @@ stands_guessed t at hs e = by (held (home_at at) hs) refl e
     }
 
 -- ---- a home changes in its slot
-lies : (hs : List (Option Home)) (i : ℕ) (m : Option Home) → i < length hs → m ≡ get_or hs i m → slice_get hs i ≡ Some m
+pub lies : (hs : List (Option Home)) (i : ℕ) (m : Option Home) → i < length hs → m ≡ get_or hs i m → slice_get hs i ≡ Some m
 lies hs i m inside e = slice_get-get_or hs i m inside ∙ ap Some (sym e)
 
 abbrev pub ShowsSlots : HandSlots → List (Option Home) → Type 0

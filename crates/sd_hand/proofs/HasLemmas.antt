@@ -140,7 +140,7 @@ putting_here r sp h at there whole =
     listed_has (id_of r) (putting r sp h) sp (ap (has_id (id_of r)) (list_here sp h rs at (fits-inserted r sp (list_in h sp)) whole (inl there)) ∙ come_here sp r (list_in h sp))
 
 -- ---- a thread goes from list to list
-some_held : (o : Option Home) → is_some o ≡ true → (h : Home) × (o ≡ Some h)
+pub some_held : (o : Option Home) → is_some o ≡ true → (h : Home) × (o ≡ Some h)
 some_held None e = absurd cc
 some_held (Some h) e = (h, refl)
 

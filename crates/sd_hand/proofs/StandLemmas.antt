@@ -1,7 +1,7 @@
 -- A thread that a held home has stands in one of its lists, and so in a home that is held.
 use Rattle.std.proofs.Common.{◌≡◌, ℕ, suc, ◌+◌, ◌*◌, ◌<◌, ◌/◌, ◌%◌, Bool, true, false, ◌||◌, ◌&&◌, ◌==◌, ◌⊎◌, is_some, inl, inr, List, [], ◌∷◌, length, get_or, Option, Some, None, refl, sym, ap, subst, arith}
 use Rattle.std.specs.Option.{option_or}
-use Rattle.std.proofs.lemmas.Bool.{eq-eqb, lt-ltb}
+use Rattle.std.proofs.lemmas.Bool.{eq-eqb, lt-ltb, or_cases}
 use Rattle.std.specs.Prelude.{nat_lt}
 use Rattle.sd_types.specs.declared.numbers.HomeId.TheVariants as id
 use Rattle.sd_types.specs.declared.numbers.Side.{Side}
@@ -64,10 +64,6 @@ sleeps_at t (q ∷ qs) e = first (either_some (find_id id_of t q) (find_sleeper 
 -- the lists of a home
 abbrev IsListedIn : ℕ → Home → Type 0
 IsListedIn t h = (sp : ListId) × IsListed t (home_id h) (list_in h) (has t h) sp
-
-or_cases : (a b : Bool) → (a || b) ≡ true → (a ≡ true) ⊎ (b ≡ true)
-or_cases true b e = inl refl
-or_cases false b e = inr e
 
 -- a number of this residue modulo 64
 numbered : (chain i : ℕ) → chain < 64 → i < 4 → (chain + 64 * i < 256) × ((chain + 64 * i) % 64 ≡ chain) × ((chain + 64 * i) / 64 ≡ i)

@@ -28,12 +28,13 @@ use Rattle.sd_machine.specs.declared.states.Place.TheVariants.{Queued, RealTime,
 use Rattle.sd_machine.specs.declared.states.State.{State}
 use Rattle.sd_machine.specs.Opening.{count_of as count_in, first_count, first_cpu, is_urgent, first_thread, first_threads, opening}
 use Rattle.sd_machine.specs.States.{no_thread, thread_of}
+use Rattle.sd_machine.proofs.BestLemmas.{and_left}
 use Rattle.sd_full.specs.Accounts.{entries_of}
-use Rattle.sd_full.specs.Changes.{back_key, finish_op, set_duty, close, join}
+use Rattle.sd_full.specs.Changes.{back_key, finish_op, set_duty, close}
 use Rattle.sd_full.specs.Conditions.{sema_taken, sema_counted}
 use Rattle.sd_full.specs.Events.{drop_ageing, effect, after}
 use Rattle.sd_full.specs.Runs.{final, IsRunFrom}
-use Rattle.sd_full.specs.SetChanges.{cleared, assigned, joined}
+use Rattle.sd_full.specs.SetChanges.{cleared, assigned}
 use Rattle.sd_full.specs.Threads.{count_of, best_sleeper, runner}
 use Rattle.sd_full.proofs.RunLemmas.{IsRun-from}
 use Rattle.sd_sound.specs.Causes.{IsCause}
@@ -45,7 +46,8 @@ use Rattle.sd_sound.proofs.FieldWords as F
 use Rattle.sd_sound.proofs.PlaceTable.{Stepped}
 use Rattle.sd_sound.proofs.Ready.{kept_reached, next_ready, opening_ready, ready_cause}
 use Rattle.sd_sound.proofs.SideFields.{after_keeps}
-use Rattle.sd_sound.proofs.Works.{op_named, first_of_two}
+use Rattle.sd_sound.proofs.Works.{op_named}
+use Rattle.sd_sound.proofs.SemaphoreLemmas.{finish_counts, close_counts, joined_counts}
 use Rattle.sd_history.specs.Laws.{put_to_sleep, runs_or_is_runnable, is_taken, is_counted_up, declared_count, chan_kind, SemaphoresAreCounted, SleepersWaitAtZero}
 use Rattle.sd_history.proofs.Runnable.{IsLiveStep, live_step, steps_after}
 use Rattle.sd_history.proofs.Sleepers.{sleeps, someone_asleep}
@@ -59,18 +61,6 @@ abbrev CountsGo : State → State → Event → Type 0
 CountsGo s r (SemaP t k) = r.counts ≡ set s.counts k.0 (count_of s k.0 - 1)
 CountsGo s r (SemaVCount t k m) = r.counts ≡ set s.counts k.0 (count_of s k.0 + 1)
 CountsGo s r _ = r.counts ≡ s.counts
-
-finish_counts : (w : Work) (s : State) (t : ℕ) → (finish_op w s t).counts ≡ s.counts
-unfolding finish_op
-finish_counts w s t = refl
-
-close_counts : (s : State) (d : CpuId) (to : SetId) → (close s d to).counts ≡ s.counts
-unfolding close
-close_counts s d to = refl
-
-joined_counts : (s : State) (c : CpuId) (to : SetId) → (joined s c to).counts ≡ s.counts
-unfolding joined join
-joined_counts s c to = refl
 
 assigned_counts : (w : Work) (s : State) (t : ℕ) (d : CpuId) (to : SetId) (answer : AssignAnswer) → (assigned w s t d to answer).counts ≡ s.counts
 unfolding assigned
@@ -275,7 +265,7 @@ sleep_at_zero w s c (Sleep u j) t k zeros cause is =
     let at : is_chan (chan_kind w j.0) ≡ true = op_named w u.0 (thread_of s u.0).body.op (op.Sleep j) cause.stands in
     (subst (λ (i : ChanId). count_of s i.0 ≡ 0) (ap (λ x. x.1) (same_Some (u, j) (t, k) is)) (zeros.uncounted j.0 (chan_no_sema (chan_kind w j.0) at)), λ up. cc)
 sleep_at_zero w s c (CvWait u j l) t k zeros cause is =
-    let at : is_chan (chan_kind w j.0) ≡ true = first_of_two _ (is_mutex _) (op_named w u.0 (thread_of s u.0).body.op (op.CvWait j l) cause.stands) in
+    let at : is_chan (chan_kind w j.0) ≡ true = and_left _ (is_mutex _) (op_named w u.0 (thread_of s u.0).body.op (op.CvWait j l) cause.stands) in
     (subst (λ (i : ChanId). count_of s i.0 ≡ 0) (ap (λ x. x.1) (same_Some (u, j) (t, k) is)) (zeros.uncounted j.0 (chan_no_sema (chan_kind w j.0) at)), λ up. cc)
 sleep_at_zero w s c (SemaWait u j) t k zeros cause is = (subst (λ (i : ChanId). count_of s i.0 ≡ 0) (ap (λ x. x.1) (same_Some (u, j) (t, k) is)) cause.1, λ up. cc)
 sleep_at_zero w s c _ t k zeros cause is = cc

@@ -26,6 +26,7 @@ use Rattle.sd_machine.specs.declared.states.State.{State}
 use Rattle.sd_machine.specs.Operations.{script_of}
 use Rattle.sd_machine.specs.Opening.{first_thread, first_threads, opening}
 use Rattle.sd_machine.specs.States.{no_thread, thread_of, cpu_of}
+use Rattle.sd_machine.proofs.BestLemmas.{and_left}
 use Rattle.sd_full.specs.Changes.{back_key, place_put}
 use Rattle.sd_full.specs.Events.{after}
 use Rattle.sd_full.specs.Runs.{final, IsReached}
@@ -37,7 +38,7 @@ use Rattle.sd_sound.proofs.AgreedAfter.{IsReady}
 use Rattle.sd_sound.proofs.Found.{runner_found, waiter_found, sleeper_found, sleeper_below_found, due_found}
 use Rattle.sd_sound.proofs.PlaceTable.{Stepped}
 use Rattle.sd_sound.proofs.Ready.{kept_reached}
-use Rattle.sd_sound.proofs.Works.{op_named, first_of_two}
+use Rattle.sd_sound.proofs.Works.{op_named}
 use Rattle.sd_history.specs.Laws.{put_to_sleep, finds_nobody, chan_kind, declared_count, is_taken, is_counted_up, is_sema_p, is_sema_v, thread_numbers, ops_done, sleepers_on, SemaphoresBalance, SemaphoreWaitersSleepUntilHanded, SleepersWaitAtZero}
 use Rattle.sd_history.proofs.Balance.{ends_one, grows, in_work, p_blind, v_blind, sums_above, sums_put}
 use Rattle.sd_history.proofs.Carried.{IsCarried, carried_from, met_from, reached_at, split}
@@ -81,7 +82,7 @@ module _ (w : Work) (s : State) (c : ℕ) (k : ChanId) (sema : is_sema (chan_kin
       absurd (no_sema w j k (op_named w t.0 (thread_of s t.0).body.op (op.Wake j) cause.0.stands) sema (found_on j u v.0.0 key cause.1.best is asleep))
   sema_woken (Rouse j (Some v)) u key cause rousing asleep is =
       let below : is_asleep_below j.0 cause.0 (Asleep k key) ≡ true = not_asleep (is_asleep_below j.0 cause.0) u v.0.0 key (sleeper_below_found s j.0 cause.0 v.0.0 cause.2.0).stands is asleep in
-      absurd (no_sema w j k (rouses_chan w s c j cause.0 rousing cause.1) sema (same_chan j k (first_of_two (k.0 == j.0) (int_lt key cause.0) below)))
+      absurd (no_sema w j k (rouses_chan w s c j cause.0 rousing cause.1) sema (same_chan j k (and_left (k.0 == j.0) (int_lt key cause.0) below)))
   sema_woken (Napend t at) u key cause rousing asleep is =
       absurd (false≢true (not_asleep (is_due c (cpu_of s c).count) u t.0 key (due_found s c t.0 cause.0).stands is asleep))
   sema_woken (Unblock l v at) u key cause rousing asleep is =
@@ -154,7 +155,7 @@ waits_there : (w : Work) (s : State) (c : ℕ) (e : Event) (t : ThreadId) (k : C
 waits_there w s c (SemaWait u j) t k sema cause is = subst (λ (i : ChanId). (j.0 == i.0) ≡ true) (ap (λ x. x.1) (same_Some (u, j) (t, k) is)) (same_test j.0)
 waits_there w s c (Sleep u j) t k sema cause is = absurd (no_sema w j k (op_named w u.0 (thread_of s u.0).body.op (op.Sleep j) cause.stands) sema (ap (λ x. x.1) (same_Some (u, j) (t, k) is)))
 waits_there w s c (CvWait u j l) t k sema cause is =
-    absurd (no_sema w j k (first_of_two _ (is_mutex _) (op_named w u.0 (thread_of s u.0).body.op (op.CvWait j l) cause.stands)) sema (ap (λ x. x.1) (same_Some (u, j) (t, k) is)))
+    absurd (no_sema w j k (and_left _ (is_mutex _) (op_named w u.0 (thread_of s u.0).body.op (op.CvWait j l) cause.stands)) sema (ap (λ x. x.1) (same_Some (u, j) (t, k) is)))
 waits_there w s c _ t k sema cause is = cc
 
 module _ (w : Work) (s : State) (n : ℕ) (c : CpuId) (ready : IsReady w s) (rousing : RousingChans w s) (k : ChanId) (sema : is_sema (chan_kind w k.0) ≡ true) where

@@ -27,6 +27,7 @@ use Rattle.sd_machine.specs.declared.states.ThreadState.{ThreadState}
 use Rattle.sd_machine.specs.declared.states.State.{State}
 use Rattle.sd_machine.specs.Opening.{opening}
 use Rattle.sd_machine.specs.States.{no_thread, thread_of, cpu_of, is_running, is_queued, is_ready}
+use Rattle.sd_machine.proofs.BestLemmas.{and_left}
 use Rattle.sd_full.specs.Bodies.{aged_class}
 use Rattle.sd_full.specs.Changes.{back_key}
 use Rattle.sd_full.specs.Events.{after}
@@ -40,10 +41,9 @@ use Rattle.sd_sound.specs.Moves.{Step, put_step_if, reordered_step, aged_step, p
 use Rattle.sd_sound.specs.Moves.Step.{Stay, Go}
 use Rattle.sd_sound.proofs.AgreedAfter.{IsReady}
 use Rattle.sd_sound.proofs.Found.{runner_found, ready_found, queued_found, unbound_found, age_found}
-use Rattle.sd_sound.proofs.Movers.{bind_put_is}
+use Rattle.sd_sound.proofs.Movers.{bind_put_is, kept_stays, behind_goes, anew_goes}
 use Rattle.sd_sound.proofs.PlaceTable.{Stepped}
 use Rattle.sd_sound.proofs.Searches.{sleeper_some}
-use Rattle.sd_sound.proofs.Works.{first_of_two}
 use Rattle.sd_history.specs.Laws.{put_to_sleep, finds_nobody, SleepersSleepUntilWoken, WaitersSleepUntilWoken}
 use Rattle.sd_history.proofs.Carried.{IsCarried, IsMet, carried_from, met_from, split}
 use Rattle.sd_history.proofs.Runnable.{steps_after}
@@ -83,10 +83,6 @@ ready_awake c q Ended e = refl
 
 -- who is requeued does not sleep
 
-kept_stays : (b : Bool) → (if b then Stays else Stays) ≡ Stays
-kept_stays true = refl
-kept_stays false = refl
-
 requeued_awake : (p : Place) (old new : ℕ) (bound : Option CpuId) (r : Requeue) → requeue p old new bound ≡ r → r ≢ Stays → sleeps p ≡ false
 requeued_awake (Running d) old new bound r e goes = refl
 requeued_awake (Queued d k) old new bound r e goes = refl
@@ -95,12 +91,6 @@ requeued_awake (Waiting l side k) old new bound r e goes = refl
 requeued_awake (Asleep i k) old new bound r e goes = absurd (goes (sym e ∙ kept_stays (old == new)))
 requeued_awake (Napping d k) old new bound r e goes = refl
 requeued_awake Ended old new bound r e goes = refl
-
-behind_goes : (d : CpuId) → Behind d ≢ Stays
-behind_goes d e = cc
-
-anew_goes : Anew ≢ Stays
-anew_goes e = cc
 
 requeued_at_awake : (w : Work) (s : State) (t p : ℕ) (at : Put) → IsRequeuedAt w s t p (Some at) → sleeps (thread_of s t).place ≡ false
 requeued_at_awake w s t p at (inl is) = requeued_awake (thread_of s t).place (eff_of s t) p (thread_of s t).body.bound (Behind is.0) is.1 (behind_goes is.0)
@@ -156,7 +146,7 @@ reordered_rouses w s woken n t p at Ended is = put_rouses w s woken n t p at is
 aged_rouses : (w : Work) (s : State) (woken : Option ℕ) (n : ℕ) (c : CpuId) (u t : ℕ) → next_to_age s c.0 u ≡ Some t → Rouses s woken (aged_step w s n c t)
 aged_rouses w s woken n c u t e = elim (eff_as (aged_class w (thread_of s t).body.class) (thread_of s t).body == eff_of s t) as (λ b. Rouses s woken (if b then Stay else Go t (Queued c (back_key n)))) [
   | true ↦ tt
-  | false ↦ inr (queued_awake c.0 (thread_of s t).place (first_of_two _ (is_ts (thread_of s t).body.class) (age_found s c.0 u t e).stands))
+  | false ↦ inr (queued_awake c.0 (thread_of s t).place (and_left _ (is_ts (thread_of s t).body.class) (age_found s c.0 u t e).stands))
 ]
 
 prio_rouses : (w : Work) (s : State) (woken : Option ℕ) (n c t : ℕ) (u : ThreadId) (r : Request) (answer : PrioAnswer) → IsAnswered w s c t u.0 r answer → Rouses s woken (prio_step w s n u answer)
@@ -176,7 +166,7 @@ rouses w s n c (Tick t) cause = tt
 rouses w s n c (Spin t l) cause = tt
 rouses w s n c Idle cause = tt
 rouses w s n c (Dispatch t p) cause = inr (ready_awake c.0 (cpu_of s c.0).set.0 (thread_of s t.0).place (ready_found s c.0 t.0 cause.1).stands)
-rouses w s n c (Steal v t p) cause = inr (queued_awake v.0 (thread_of s t.0).place (first_of_two _ (is_none (thread_of s t.0).body.bound) (unbound_found s v.0 t.0 cause.3).stands))
+rouses w s n c (Steal v t p) cause = inr (queued_awake v.0 (thread_of s t.0).place (and_left _ (is_none (thread_of s t.0).body.bound) (unbound_found s v.0 t.0 cause.3).stands))
 rouses w s n c (Preempt t end) cause = runner_rouses s None c.0 t.0 cause.0.runs
 rouses w s n c (Away t d) cause = runner_rouses s None c.0 t.0 cause.0.runs
 rouses w s n c (Yield t) cause = runner_rouses s None c.0 t.0 cause.runs

@@ -2,4 +2,3 @@ pub mod AgeLemmas
 pub mod FirstLemmas
 pub mod Lengths
 pub mod NewestLemmas
-pub mod WhereLemmas

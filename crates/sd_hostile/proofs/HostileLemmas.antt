@@ -33,6 +33,7 @@ use Rattle.sd_hand.proofs.CountLemmas.{as_many}
 use Rattle.sd_hand.proofs.MoveLemmas.{held_by}
 use Rattle.sd_hand.proofs.SlotLemmas.{held_id}
 use Rattle.sd_hand.proofs.StandLemmas.{home_held}
+use Rattle.sd_hand.proofs.HasLemmas.{some_held}
 use Rattle.sd_footprint.specs.Homes.{home_in}
 use Rattle.sd_footprint.proofs.RanLast.{reached_changes}
 use Rattle.sd_world.specs.Entries.{CanEnter, Enters}
@@ -187,10 +188,6 @@ given_stays x y h moves = (
 -- ---- what is held is elsewhere than the others
 held_none : (k : HomeId) (hs rs : List (Option Home)) (h : Home) → AreTwo hs rs → held k rs ≡ Some h → IsHeld k hs → ⊥
 held_none k hs rs h apart e is = let no : None ≡ Some h = sym (apart k is) ∙ e in absurd cc
-
-some_held : (o : Option Home) → is_some o ≡ true → (h : Home) × (o ≡ Some h)
-some_held None e = absurd cc
-some_held (Some h) e = (h, refl)
 
 module _ (x : HostileWorld) (st : Stands (work_of x) (whole x)) where
   -- the home in which a part lies that the processor holds is one that it holds

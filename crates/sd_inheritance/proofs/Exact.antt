@@ -11,6 +11,7 @@ use Rattle.sd_types.specs.Scripts.{is_lock}
 use Rattle.sd_types.specs.Willed.{Numbers, number_for, same_lock}
 use Rattle.sd_types.specs.Works.{is_distinct}
 use Rattle.sd_types.proofs.PriorityLemmas.{greatest-base}
+use Rattle.sd_types.proofs.WilledLemmas.{for-here, for-later, lock_self}
 use Rattle.sd_chains.specs.Graphs as G
 use Rattle.sd_chains.proofs.Chains.{some_is}
 use Rattle.sd_machine.specs.declared.states.Place.{Place}
@@ -97,20 +98,11 @@ exact_waiting s l = by (greatest_waiting l s.threads) (greatest_of l s.threads)
 
 -- The effective priority is the maximum of the base priority and of the numbers.
 
-for_here : (l : LockId) (w : LockId × ℕ) (ws : Numbers) → is_lock l w.0 ≡ true → number_for l (w ∷ ws) ≡ Some w.1
-for_here l w ws h = rw h refl
-
-for_later : (l : LockId) (w : LockId × ℕ) (ws : Numbers) → is_lock l w.0 ≡ false → number_for l (w ∷ ws) ≡ number_for l ws
-for_later l w ws h = rw h refl
-
-lock_self : (l : LockId) → is_lock l l ≡ true
-lock_self l = grind (arith, nat_tests)
-
 willed_at_most : (n : ℕ) (ws : Numbers) (l : LockId) (k : ℕ) → number_for l ws ≡ Some k → k ≤ greatest_willed n ws
 willed_at_most n [] l k e = absurd (none-some k e)
 willed_at_most n (w ∷ ws) l k e = elim (cases_Bool (is_lock l w.0)) [
-  | inl h ↦ let is : w.1 ≡ k = some_is w.1 k (sym (for_here l w ws h) ∙ e) in omega (arith, is)
-  | inr h ↦ let r = willed_at_most n ws l k (sym (for_later l w ws h) ∙ e) in omega (arith, r)
+  | inl h ↦ let is : w.1 ≡ k = some_is w.1 k (sym (for-here l w ws h) ∙ e) in omega (arith, is)
+  | inr h ↦ let r = willed_at_most n ws l k (sym (for-later l w ws h) ∙ e) in omega (arith, r)
 ]
 
 -- a number behind another is for another lock
@@ -118,7 +110,7 @@ behind_apart : (w : LockId × ℕ) (ws : Numbers) (l : LockId) (k : ℕ) → lis
 behind_apart w [] l k none e = absurd (none-some k e)
 behind_apart w (v ∷ vs) l k none e = elim (cases_Bool (is_lock l v.0)) [
   | inl h ↦ grind (arith, nat_tests)
-  | inr h ↦ behind_apart w vs l k (grind (arith, nat_tests)) (sym (for_later l v vs h) ∙ e)
+  | inr h ↦ behind_apart w vs l k (grind (arith, nat_tests)) (sym (for-later l v vs h) ∙ e)
 ]
 
 greatest_from : (n : ℕ) (ws : Numbers) → is_distinct same_lock ws ≡ true → (greatest_willed n ws ≡ n) ⊎ ((l : LockId) × (number_for l ws ≡ Some (greatest_willed n ws)))
@@ -126,14 +118,14 @@ greatest_from n [] d = inl refl
 greatest_from n (w ∷ ws) d = elim (cases_Bool (nat_lt (greatest_willed n ws) w.1)) [
   | inl less ↦
       let is : max w.1 (greatest_willed n ws) ≡ w.1 = grind (arith, nat_tests) in
-      inr (w.0, for_here w.0 w ws (lock_self w.0) ∙ ap Some (sym is))
+      inr (w.0, for-here w.0 w ws (lock_self w.0) ∙ ap Some (sym is))
   | inr not ↦
       let is : max w.1 (greatest_willed n ws) ≡ greatest_willed n ws = grind (arith, nat_tests) in
       let rest : is_distinct same_lock ws ≡ true = grind (arith, nat_tests) in
       let none : list_any (same_lock w) ws ≡ false = grind (arith, nat_tests) in
       elim (greatest_from n ws rest) [
         | inl base ↦ inl (is ∙ base)
-        | inr (l, e) ↦ inr (l, for_later l w ws (behind_apart w ws l _ none e) ∙ e ∙ ap Some (sym is))
+        | inr (l, e) ↦ inr (l, for-later l w ws (behind_apart w ws l _ none e) ∙ e ∙ ap Some (sym is))
       ]
 ]
 

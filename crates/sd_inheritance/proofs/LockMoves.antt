@@ -29,6 +29,7 @@ use Rattle.sd_machine.specs.declared.states.ThreadState.{ThreadState}
 use Rattle.sd_machine.specs.declared.states.State.{State}
 use Rattle.sd_machine.specs.States.{no_thread, thread_of, cpu_of, with_thread}
 use Rattle.sd_machine.specs.Operations.{op_of}
+use Rattle.sd_machine.proofs.BestLemmas.{and_left}
 use Rattle.sd_full.specs.Threads.{thread_id, lock_of, best_waiter}
 use Rattle.sd_full.specs.Changes.{back_key, place_put, set_duty}
 use Rattle.sd_full.specs.Locking.{side_of, others_waiting, granted, granted_to_writer, granted_to_reader, one_reader_more}
@@ -53,7 +54,6 @@ use Rattle.sd_sound.proofs.ReleaseLemmas.Outcome.{freed, passed_on, fewer, left,
 use Rattle.sd_sound.proofs.ScriptLemmas.{is_waiter, waits_here, put_no_waiter, away_after}
 use Rattle.sd_sound.proofs.Movers.{mover_of}
 use Rattle.sd_sound.proofs.Words.{Same, then_same, plain_same}
-use Rattle.sd_sound.proofs.Works.{first_of_two}
 use Rattle.sd_inheritance.proofs.Begun.{duty_walk, walks_then, none_walks, block_walk}
 use Rattle.sd_inheritance.proofs.ClassThreads.{after_but}
 use Rattle.sd_inheritance.proofs.Exact.{exact_waiting}
@@ -236,7 +236,7 @@ module _ (w : Work) (s : State) (n : ℕ) (c : CpuId) (ready : IsReady w s) wher
   cv_wait_left t k l here busy = left_of (drop_ageing s c.0 (CvWait t k l)) (after w s n c (CvWait t k l)) l (lock_of s l.0) refl refl busy (cv_wait_outcome w s n c t k l here)
 
   gives_wait : (k : ChanId) (l : LockId) (next : Option Op) (held : List LockId) → op_fits held (op.CvWait k l) next ≡ true → is_held l held ≡ true
-  gives_wait k l next held e = first_of_two (is_held l held) _ e
+  gives_wait k l next held e = and_left (is_held l held) _ e
 
   pub cv_wait_move : (t : ThreadId) (k : ChanId) (l : LockId) → c.0 < length s.cpus → G.IsLocal (graph s) → IsCause w s c.0 (CvWait t k l) → IsGivenUp (after w s n c (CvWait t k l)) t.0 l.0
   cv_wait_move t k l here local cause =

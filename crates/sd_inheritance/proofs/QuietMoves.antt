@@ -20,6 +20,7 @@ use Rattle.sd_machine.specs.declared.states.Place.{Place}
 use Rattle.sd_machine.specs.declared.states.Place.TheVariants.{Running, Queued, RealTime, Waiting, Asleep, Napping, Ended}
 use Rattle.sd_machine.specs.declared.states.State.{State}
 use Rattle.sd_machine.specs.States.{thread_of, cpu_of, is_queued}
+use Rattle.sd_machine.proofs.BestLemmas.{and_left}
 use Rattle.sd_full.specs.Threads.{lock_of, is_ts, runner}
 use Rattle.sd_full.specs.Changes.{set_duty}
 use Rattle.sd_full.specs.Locking.{one_more}
@@ -38,7 +39,6 @@ use Rattle.sd_sound.proofs.PassLemmas.Passed.{to_readers, writer_next, to_nobody
 use Rattle.sd_sound.proofs.PlaceTable.{Stepped, step_needs, after_steps}
 use Rattle.sd_sound.proofs.ScriptLemmas.{is_waiter, runs_no_waiter, is_blocking, StepAway, step_away, away_after}
 use Rattle.sd_sound.proofs.Words.{Same, then_same, is_plain, plain_same}
-use Rattle.sd_sound.proofs.Works.{first_of_two}
 use Rattle.sd_inheritance.proofs.ClassThreads.{But, class_thread, after_but}
 use Rattle.sd_inheritance.proofs.Fields.{dropped_same}
 use Rattle.sd_inheritance.proofs.Views.{away_waits, quiet_waits, same_owners, kept_owners, same_willed, same_eff}
@@ -103,7 +103,7 @@ module _ (w : Work) (s : State) (n : ℕ) (c : CpuId) (ready : IsReady w s) wher
   class_away (Wake t k (Some u)) quiet cause = (mover_of w s n c (Wake t k (Some u)) refl ready.fits ready.agreed cause).away
   class_away (Rouse k None) quiet cause = tt
   class_away (Rouse k (Some u)) quiet cause = (mover_of w s n c (Rouse k (Some u)) refl ready.fits ready.agreed cause).away
-  class_away (Age t p) quiet cause = queued_away c.0 (thread_of s t.0).place (first_of_two _ (is_ts (thread_of s t.0).body.class) (age_found s c.0 (cause.0).0 t.0 cause.2).stands)
+  class_away (Age t p) quiet cause = queued_away c.0 (thread_of s t.0).place (and_left _ (is_ts (thread_of s t.0).body.class) (age_found s c.0 (cause.0).0 t.0 cause.2).stands)
   class_away (SemaVWake t k u at) quiet cause = (mover_of w s n c (SemaVWake t k u at) refl ready.fits ready.agreed cause).away
   class_away (Unblock l u at) quiet cause = cc
   class_away (Grant l u at) quiet cause = cc

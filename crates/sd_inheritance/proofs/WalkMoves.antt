@@ -1,8 +1,8 @@
 -- Events that take a walk on, end it, or begin one for another priority, as moves of the lock graph.
-use Rattle.std.proofs.Common.{◌≡◌, ◌≢◌, ℕ, ◌<◌, Bool, true, false, ◌&&◌, ◌||◌, length, Option, Some, None, ℤ, refl, sym, ap, ◌∙◌, subst, inl, inr, ◌⊎◌, ◌==◌, arith}
+use Rattle.std.proofs.Common.{◌≡◌, ◌≢◌, ℕ, ◌<◌, Bool, true, false, ◌&&◌, ◌||◌, length, Option, Some, None, ℤ, refl, sym, ap, ◌∙◌, subst, inl, inr, ◌==◌, arith}
 use Rattle.std.specs.Prelude.{int_lt}
 use Rattle.std.specs.Ordering.{int_eq}
-use Rattle.std.proofs.lemmas.Bool.{cases_Bool, false≢true}
+use Rattle.std.proofs.lemmas.Bool.{cases_Bool, false≢true, or_cases}
 use Rattle.std.proofs.lemmas.Bool.Decides.{nat_tests}
 use Rattle.std.proofs.lemmas.Int.{ints}
 use Rattle.sd_types.specs.declared.numbers.CpuId.{CpuId}
@@ -81,10 +81,6 @@ closed_is g l seek key o (Asleep j k) waits back = absurd (false≢true back)
 closed_is g l seek key o (Napping c due) waits back = absurd (false≢true back)
 closed_is g l seek key o Ended waits back = absurd (false≢true back)
 
-either_true : (a b : Bool) → (a || b) ≡ true → (a ≡ true) ⊎ (b ≡ true)
-either_true true b e = inl refl
-either_true false b e = inr e
-
 module _ (w : Work) (s : State) (n : ℕ) (c : CpuId) (ready : IsReady w s) where
   -- A walk is taken on.
 
@@ -113,7 +109,7 @@ module _ (w : Work) (s : State) (n : ℕ) (c : CpuId) (ready : IsReady w s) wher
     exact = subst (G.IsExact (graph s) l.0) (sym (its_willed s r o.0 l (greatest_waiting l.0 s.threads) numbers)) (exact_waiting s l.0);
     willed = other_willed s r o.0 l (greatest_waiting l.0 s.threads) numbers;
     looped = λ t loops. elim (put_cases o.0 _ _ _ looped.put t) [
-      | inl me ↦ elim (either_true (thread_of s o.0).body.looped (is_back (duty.Walk l seek key) o (thread_of s o.0).place) (sym me.1 ∙ loops)) [
+      | inl me ↦ elim (or_cases (thread_of s o.0).body.looped (is_back (duty.Walk l seek key) o (thread_of s o.0).place) (sym me.1 ∙ loops)) [
         | inl before ↦ inl (ap (graph s).looped me.0 ∙ before)
         | inr back ↦ inr (me.0, closed_is (graph s) l seek key o (thread_of s o.0).place refl back)
       ]

@@ -22,7 +22,7 @@ use Rattle.sd_interleavings.proofs.OpeningKeys.{opening_keys}
 use Rattle.sd_interleavings.proofs.RunLemmas.{alike, joined}
 
 -- the other way round
-turned : (x s : State) → IsSameOrder x s → IsSameOrder s x
+pub turned : (x s : State) → IsSameOrder x s → IsSameOrder s x
 turned x s h = record { bare = sym h.bare; order = λ a b. sym (h.order a b) }
 
 -- what the run from s is: the entries es lead there

@@ -1,5 +1,6 @@
 -- Which texts need no escaping.
 use Rattle.std.proofs.Common.{◌≡◌, ℕ, zero, suc, ◌/◌, ◌%◌, ◌<◌, Bool, true, false, ◌&&◌, cond, eqb, List, [], ◌∷◌, ◌++◌, length, leb, Option, Some, None, refl, ◌∙◌, arith}
+use Rattle.std.proofs.lemmas.Bool.{and_parts}
 use Rattle.std.specs.Prelude.{codes, option_map, unwrap_or, slice_get}
 use Rattle.std.specs.Fmt.{decimal, digits, digits_onto, digit_glyph}
 use Rattle.std.specs.List.{list_all}
@@ -8,7 +9,6 @@ use Rattle.std.proofs.lemmas.List.Folds.{list_all-append}
 use Rattle.sd_types.specs.declared.names.Name.{Name}
 use Rattle.sd_types.specs.declared.works.Work.{Work}
 use Rattle.sd_types.specs.NameWords.{is_name_byte, begins_with_letter}
-use Rattle.sd_text.proofs.LineLemmas.{both}
 use Rattle.sd_full.specs.Texts.{set_name}
 use Rattle.sd_machine.specs.Texts.{chan_name, lock_name, thread_name}
 use Rattle.sd_stretches.specs.declared.sights.Doing.{Doing}
@@ -24,11 +24,11 @@ name-byte b h = grind (arith, nat_tests)
 name-bytes : (bs : List ℕ) → list_all is_name_byte bs ≡ true → IsPlain bs
 name-bytes [] h = refl
 name-bytes (b ∷ bs) h =
-    let p = both (is_name_byte b) (list_all is_name_byte bs) h in
+    let p = and_parts (is_name_byte b) (list_all is_name_byte bs) h in
     rw (name-byte b p.0) (name-bytes bs p.1)
 
 name : (x : Name) → IsPlain x.text.items
-name x = name-bytes x.text.items (both (begins_with_letter x.text.items && leb (length x.text.items) 16) (list_all is_name_byte x.text.items) x.is_name).1
+name x = name-bytes x.text.items (and_parts (begins_with_letter x.text.items && leb (length x.text.items) 16) (list_all is_name_byte x.text.items) x.is_name).1
 
 -- the name of what stands there, if anything does
 named : {X : Type 0} (of : X → Name) (o : Option X) → IsPlain (unwrap_or (option_map (λ x. (of x).text.items) o) [])

@@ -1,11 +1,11 @@
--- The pieces of pictures and traces that stand in both.
+-- The pieces of pictures and traces that stand in and_parts.
 use Rattle.std.proofs.Common.{◌≡◌, ℕ, Bool, true, false, cond, List, [], ◌∷◌, ◌++◌, refl, ◌∙◌, arith}
+use Rattle.std.proofs.lemmas.Bool.{and_parts}
 use Rattle.std.specs.Fmt.{decimal}
 use Rattle.std.specs.List.{list_all, flat_map}
 use Rattle.std.proofs.lemmas.Bool.Decides.{nat_tests}
 use Rattle.std.proofs.lemmas.List.Folds.{list_all-append}
 use Rattle.sd_types.specs.declared.works.Work.{Work}
-use Rattle.sd_text.proofs.LineLemmas.{both}
 use Rattle.sd_full.specs.Texts.{set_name}
 use Rattle.sd_machine.specs.Texts.{chan_name, lock_name, thread_name}
 use Rattle.sd_stretches.specs.declared.sights.Doing.{Doing}
@@ -19,10 +19,10 @@ plain-byte b h = grind (arith, nat_tests)
 pub plain-text : (bs : List ℕ) → IsPlain bs → IsText bs
 plain-text [] h = refl
 plain-text (b ∷ bs) h =
-    let p = both (is_plain_byte b) (list_all is_plain_byte bs) h in
+    let p = and_parts (is_plain_byte b) (list_all is_plain_byte bs) h in
     rw (plain-byte b p.0) (plain-text bs p.1)
 
-append-text : (a b : List ℕ) → IsText a → IsText b → IsText (a ++ b)
+pub append-text : (a b : List ℕ) → IsText a → IsText b → IsText (a ++ b)
 append-text a b p q = list_all-append is_text_byte a b ∙ rw p q
 
 pub flat-text : {X : Type 0} (f : X → List ℕ) → ((x : X) → IsText (f x)) → (xs : List X) → IsText (flat_map f xs)

@@ -29,11 +29,11 @@ abbrev pub goes_ahead_by : {X : Type 0} → (X → Bool) → (X → X → Bool) 
 goes_ahead_by on beats d xs None i = on (get_or xs i d)
 goes_ahead_by on beats d xs (Some b) i = on (get_or xs i d) && beats (get_or xs i d) (get_or xs b d)
 
-and_left : (a b : Bool) → (a && b) ≡ true → a ≡ true
+pub and_left : (a b : Bool) → (a && b) ≡ true → a ≡ true
 and_left true b e = refl
 and_left false b e = cc
 
-and_right : (a b : Bool) → (a && b) ≡ true → b ≡ true
+pub and_right : (a b : Bool) → (a && b) ≡ true → b ≡ true
 and_right true b e = e
 and_right false b e = cc
 

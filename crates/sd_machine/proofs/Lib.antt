@@ -1,8 +1,10 @@
-pub mod AfterFits
 pub mod BestLemmas
-pub mod EffLemmas
+pub mod Chosen
+pub mod ClassLemmas
+pub mod Declared
+pub mod KeyLemmas
 pub mod OpeningLemmas
+pub mod OpeningQueues
+pub mod OpeningSets
+pub mod Openings
 pub mod OrderLemmas
-pub mod RangeLemmas
-pub mod RoundLemmas
-pub mod RunLemmas

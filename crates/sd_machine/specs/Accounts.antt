@@ -4,7 +4,7 @@ use Rattle.std.specs.Prelude.{ℕ, Bool, true, false, ◌&&◌, List, count_by, 
 use Rattle.sd_types.specs.declared.events.Event.{Event}
 use Rattle.sd_types.specs.declared.events.Event.TheVariants.{Tick, Spin, Idle, Dispatch, Steal, Preempt, Away, Napend, Wake, Rouse, Unblock, Grant, SemaVWake}
 use Rattle.sd_types.specs.declared.events.Entry.{Entry}
-use Rattle.sd_machine.specs.Machine.{ticks}
+use Rattle.sd_types.specs.Events.{ticks}
 
 -- a tick or a spin of thread t
 abbrev pub is_tick_of : ℕ → Event → Bool

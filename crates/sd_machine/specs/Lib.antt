@@ -1,9 +1,7 @@
 pub mod Accounts
 pub mod Best
-pub mod Dispatching
-pub mod Machine
+pub mod Invariants
 pub mod Opening
 pub mod Operations
-pub mod Runs
 pub mod States
 pub mod Texts

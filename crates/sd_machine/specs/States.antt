@@ -1,6 +1,7 @@
 -- Reading and changing a state. A number that is out of range reads a thread that has ended and a processor that
 -- is idle, and changes nothing.
-use Rattle.std.specs.Prelude.{◌≡◌, ℕ, Bool, false, ◌||◌, [], length, ◌==◌, None, ℤ, pos, slice_index_or, slice_set}
+use Rattle.std.specs.Prelude.{◌≡◌, ℕ, Bool, false, ◌||◌, [], length, ◌==◌, None, ℤ, pos, option_map, unwrap_or, slice_get, slice_index_or, slice_set}
+use Rattle.sd_types.specs.declared.numbers.SetId.{SetId}
 use Rattle.sd_types.specs.declared.bodies.ThreadBody.{ThreadBody}
 use Rattle.sd_types.specs.declared.classes.ClassState.TheVariants.{Sys}
 use Rattle.sd_types.specs.declared.events.Duty.TheVariants.{Nothing}
@@ -71,3 +72,7 @@ is_ready c p place = is_queued c place || is_real_time p place
 pub record FitsWork (w : Work) (s : State) : Type 0 where
   pub threads : length s.threads ≡ length w.threads
   pub cpus : length s.cpus ≡ w.cpus
+
+-- the set of a thread, as its workload declares it
+abbrev pub thread_set : Work → ℕ → SetId
+thread_set w t = unwrap_or (option_map (λ d. d.set) (slice_get w.threads t)) (record { 0 = 0 })

@@ -1,19 +1,15 @@
--- The texts of the journal. Of the events it has those of the machine: tick, idle, dispatch, preempt and done.
+-- The texts of names, and of the accounts with which a journal ends.
 -- Source: this project's own.
 use Rattle.std.specs.Prelude.{ℕ, List, [], ◌++◌, length, flat_map, codes, decimal, option_map, unwrap_or, slice_get}
 use Rattle.std.specs.List.{range_with_len}
 use Rattle.sd_types.specs.declared.events.End.{End}
 use Rattle.sd_types.specs.declared.events.End.TheVariants.{Front, Back}
-use Rattle.sd_types.specs.declared.events.Event.{Event}
-use Rattle.sd_types.specs.declared.events.Event.TheVariants.{Tick, Idle, Dispatch, Preempt, Done}
 use Rattle.sd_types.specs.declared.events.Entry.{Entry}
 use Rattle.sd_types.specs.declared.works.Work.{Work}
 use Rattle.sd_machine.specs.declared.states.Place.{Place}
 use Rattle.sd_machine.specs.declared.states.Place.TheVariants.{Running, Queued, RealTime, Waiting, Asleep, Napping, Ended}
 use Rattle.sd_machine.specs.declared.states.State.{State}
 use Rattle.sd_machine.specs.States.{thread_of}
-use Rattle.sd_machine.specs.Runs.{final}
-use Rattle.sd_machine.specs.Opening.{opening}
 use Rattle.sd_machine.specs.Accounts.{thread_ticks, thread_dispatches, thread_preempts, thread_wakes, cpu_ticks, cpu_idle}
 
 abbrev pub thread_name : Work → ℕ → List ℕ
@@ -28,18 +24,6 @@ chan_name w k = unwrap_or (option_map (λ d. d.0.text.items) (slice_get w.chans 
 abbrev pub end_text : End → List ℕ
 end_text Front = codes " front"
 end_text Back = codes " back"
-
-abbrev pub event_text : Work → Event → List ℕ
-event_text w (Tick t) = codes "tick " ++ thread_name w t.0
-event_text w Idle = codes "idle"
-event_text w (Dispatch t p) = codes "dispatch " ++ thread_name w t.0 ++ codes " " ++ decimal p
-event_text w (Preempt t end) = codes "preempt " ++ thread_name w t.0 ++ end_text end
-event_text w (Done t) = codes "done " ++ thread_name w t.0
-event_text w _ = []
-
--- the line of an entry, with its newline
-unfoldable pub entry_text : Work → Entry → List ℕ
-entry_text w e = decimal e.number ++ codes " c" ++ decimal e.cpu.0 ++ codes " " ++ event_text w e.event ++ codes "\n"
 
 -- the last word of a thread's account
 abbrev pub state_text : Work → Place → List ℕ
@@ -63,9 +47,6 @@ thread_line w es s t = codes "thread " ++ thread_name w t ++ thread_counts es t 
 unfoldable pub cpu_line : List Entry → ℕ → List ℕ
 cpu_line es c = codes "cpu " ++ decimal c ++ codes " ticks " ++ decimal (cpu_ticks c es) ++ codes " idle " ++ decimal (cpu_idle c es) ++ codes "\n"
 
-unfoldable pub entries_text : Work → List Entry → List ℕ
-entries_text w es = flat_map (entry_text w) es
-
 unfoldable pub threads_text : Work → List Entry → State → List ℕ
 threads_text w es s = flat_map (thread_line w es s) (range_with_len 0 (length w.threads))
 
@@ -74,7 +55,3 @@ cpus_text w es = flat_map (cpu_line es) (range_with_len 0 w.cpus)
 
 unfoldable pub accounts_text : Work → List Entry → State → List ℕ
 accounts_text w es s = codes "accounts\n" ++ (threads_text w es s ++ cpus_text w es)
-
--- what a run writes: its entries in order, then its accounts
-unfoldable pub journal : Work → List Entry → List ℕ
-journal w es = entries_text w es ++ accounts_text w es (final w (opening w) es)

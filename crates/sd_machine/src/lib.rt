@@ -1,6 +1,5 @@
-//! The states of the dispatcher machine, its initial state and the best of a queue, as definitions and lemmas that contracts
-//! cite. Beside them a first machine of five events (tick, idle, dispatch, preempt, done) with its runs and texts, of which `sd_laws`
-//! speaks; `sd_full` has all events. There is no code here but the types.
+//! The states of the dispatcher machine: their types, the initial state, the best of a queue, and what laws say of states, as definitions
+//! and lemmas that contracts cite. There is no code here but the types.
 #![tactic(auto)]
 
 mod states;

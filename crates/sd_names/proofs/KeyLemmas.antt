@@ -5,7 +5,7 @@ use Rattle.std.specs.List.{position, position_or_len, list_any, list_all}
 use Rattle.std.specs.Cmp.Lexicographic.{pointwise, bytes_decides}
 use Rattle.std.proofs.Math.Seq.{take-append_seam}
 use Rattle.std.proofs.lemmas.List.{map-append}
-use Rattle.std.proofs.lemmas.Bool.{false≢true}
+use Rattle.std.proofs.lemmas.Bool.{false≢true, and_parts, or_parts}
 use Rattle.std.proofs.lemmas.Bool.Decides.{nat_tests}
 use Rattle.sd_types.specs.Works.{same_bytes}
 use Rattle.sd_names.specs.contracts.key.NameKeyPartialEq.TheImpl.{eq-value}
@@ -15,14 +15,6 @@ use Rattle.sd_names.proofs.PlaceLemmas.{position-map, any-map}
 
 abbrev same_key : NameKey → NameKey → Bool
 same_key = eq-value.it
-
-both : (a b : Bool) → (a && b) ≡ true → (a ≡ true) × (b ≡ true)
-both true b h = (refl, h)
-both false b h = absurd (false≢true h)
-
-neither : (a b : Bool) → (a || b) ≡ false → (a ≡ false) × (b ≡ false)
-neither true b h = absurd (false≢true (sym h))
-neither false b h = (refl, h)
 
 -- ---- what tests decide
 
@@ -40,7 +32,7 @@ bytes_are xs ys h = same_pointwise xs ys ∙ (bytes_decides xs ys).1 h
 
 key_same : (x y : NameKey) → same_key x y ≡ true → x ≡ y
 key_same x y h =
-    let p = both (nat_eq x.length y.length) (pointwise nat_eq x.bytes y.bytes) h in
+    let p = and_parts (nat_eq x.length y.length) (pointwise nat_eq x.bytes y.bytes) h in
     let many : x.length ≡ y.length = grind (arith, nat_tests, p.0) in
     let bytes = (bytes_decides x.bytes y.bytes).0 p.1 in
     λ i. record { length = many i; bytes = bytes i }
@@ -59,14 +51,14 @@ word_of_key word = take-append_seam word (replicate (16 - length word) 0)
 module _ (k : NameKey) (own : is_key k ≡ true) where
   short_of : length (word_of k) ≤ 16
   short_of =
-      let p = both (leb k.length 16 && nat_eq (length (word_of k)) k.length) (same_bytes (padded (word_of k)) k.bytes) own in
-      let q = both (leb k.length 16) (nat_eq (length (word_of k)) k.length) p.0 in
+      let p = and_parts (leb k.length 16 && nat_eq (length (word_of k)) k.length) (same_bytes (padded (word_of k)) k.bytes) own in
+      let q = and_parts (leb k.length 16) (nat_eq (length (word_of k)) k.length) p.0 in
       grind (arith, nat_tests, q.0, q.1)
 
   key_of_word : key_of (word_of k) ≡ k
   key_of_word =
-      let p = both (leb k.length 16 && nat_eq (length (word_of k)) k.length) (same_bytes (padded (word_of k)) k.bytes) own in
-      let q = both (leb k.length 16) (nat_eq (length (word_of k)) k.length) p.0 in
+      let p = and_parts (leb k.length 16 && nat_eq (length (word_of k)) k.length) (same_bytes (padded (word_of k)) k.bytes) own in
+      let q = and_parts (leb k.length 16) (nat_eq (length (word_of k)) k.length) p.0 in
       let many : length (word_of k) ≡ k.length = grind (arith, nat_tests, q.1) in
       let bytes = bytes_same (padded (word_of k)) k.bytes p.1 in
       λ i. record { length = many i; bytes = bytes i }
@@ -97,7 +89,7 @@ module _ {A : Type 0} (good : A → Bool) (p q : A → Bool) (same : (x : A) →
   place_same : (xs : List A) → list_all good xs ≡ true → position_or_len p xs ≡ position_or_len q xs
   place_same [] h = refl
   place_same (x ∷ xs) h =
-      let r = both (good x) (list_all good xs) h in
+      let r = and_parts (good x) (list_all good xs) h in
       ap (λ b. cond (not b) (1 + position_or_len p xs) 0) (same x r.0) ∙ ap (λ n. cond (not (q x)) (1 + n) 0) (place_same xs r.1)
 
   position_same : (xs : List A) → list_all good xs ≡ true → position p xs ≡ position q xs
@@ -106,7 +98,7 @@ module _ {A : Type 0} (good : A → Bool) (p q : A → Bool) (same : (x : A) →
   any_same : (xs : List A) → list_all good xs ≡ true → list_any p xs ≡ list_any q xs
   any_same [] h = refl
   any_same (x ∷ xs) h =
-      let r = both (good x) (list_all good xs) h in
+      let r = and_parts (good x) (list_all good xs) h in
       ap (λ b. b || list_any p xs) (same x r.0) ∙ ap (λ b. q x || b) (any_same xs r.1)
 
 none_at : {A : Type 0} (xs : List A) → position (λ x. false) xs ≡ None

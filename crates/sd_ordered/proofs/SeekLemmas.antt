@@ -13,6 +13,7 @@ use Rattle.sd_machine.specs.declared.states.Place.TheVariants.{Running, Queued, 
 use Rattle.sd_machine.specs.declared.states.State.{State}
 use Rattle.sd_machine.specs.States.{cpu_of, no_thread, thread_of}
 use Rattle.sd_machine.specs.Best.{beats}
+use Rattle.sd_machine.proofs.BestLemmas.{and_left}
 use Rattle.sd_full.specs.Sleeping.{rouse_key}
 use Rattle.sd_full.specs.Threads.{best_sleeper_below, is_asleep, is_asleep_below}
 use Rattle.sd_full.specs.Walking.{is_back}
@@ -21,7 +22,7 @@ use Rattle.sd_ordered.specs.Order.{OfThread, OfCpu, IsSleeperKey, is_below, key_
 use Rattle.sd_ordered.proofs.AlikeLemmas.{duty_alike, duty_rekeyed, duty_with, key_or_zero, place_alike, place_rekeyed, place_with, threads_many}
 use Rattle.sd_ordered.proofs.ListLemmas.{best_same}
 use Rattle.sd_ordered.proofs.SourceLemmas.{AreAlike}
-use Rattle.sd_ordered.proofs.TellLemmas.{asleep_blind, asleep_key, beats_same, left_of}
+use Rattle.sd_ordered.proofs.TellLemmas.{asleep_blind, asleep_key, beats_same}
 
 -- Whom to wake.
 
@@ -43,7 +44,7 @@ below_same k (Asleep m key) (duty.GrantReaders l) i j e f g = ap (λ b. (m.0 == 
 below_same k (Asleep m key) (duty.Age u) i j e f g = ap (λ b. (m.0 == k) && b) (f ∙ sym g)
 
 asleep_too : (k : ℕ) (below : ℤ) (p : Place) → is_asleep_below k below p ≡ true → is_asleep k p ≡ true
-asleep_too k below (Asleep m key) e = left_of (m.0 == k) (int_lt key below) e
+asleep_too k below (Asleep m key) e = and_left (m.0 == k) (int_lt key below) e
 asleep_too k below (Running c) e = cc
 asleep_too k below (Queued c key) e = cc
 asleep_too k below (RealTime q key) e = cc

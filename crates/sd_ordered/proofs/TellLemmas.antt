@@ -13,6 +13,7 @@ use Rattle.sd_machine.specs.declared.states.ThreadState.{ThreadState}
 use Rattle.sd_machine.specs.declared.states.State.{State}
 use Rattle.sd_machine.specs.States.{cpu_of, is_queued, is_ready, is_running, key_of, no_cpu, no_thread, thread_of}
 use Rattle.sd_machine.specs.Best.{beats, best_by, queue_rank}
+use Rattle.sd_machine.proofs.BestLemmas.{and_left}
 use Rattle.sd_full.specs.Threads.{best_queued, count_of, lock_of, open_of, best_ready, best_sleeper, best_unbound, best_waiter, due_of, first_due, greatest_waiting, has_waiters, is_asleep, is_due, is_ts, is_waiting, is_waiting_at, naps_less, next_to_age, runner}
 use Rattle.sd_full.specs.Locking.{others_waiting}
 use Rattle.sd_full.specs.Events.{may_tick}
@@ -147,10 +148,6 @@ asleep_key k Ended h = cc
 abbrev pub HasKey : (Place → Bool) → Type 0
 HasKey on = (place : Place) → on place ≡ true → key_at place ≡ Some (key_of place)
 
-pub left_of : (a b : Bool) → (a && b) ≡ true → a ≡ true
-left_of true b e = refl
-left_of false b e = cc
-
 -- where there are keys in both, the first is the smaller one in both or in neither
 keys_lie : (p q p' q' : Place) → key_at p ≡ Some (key_of p) → key_at q ≡ Some (key_of q) → key_at p' ≡ Some (key_of p') → key_at q' ≡ Some (key_of q')
     → is_below (key_at p) (key_at q) ≡ is_below (key_at p') (key_at q') → int_lt (key_of p) (key_of q) ≡ int_lt (key_of p') (key_of q')
@@ -217,7 +214,7 @@ module _ (x s : State) (h : IsSameOrder x s) where
   unfolding best_unbound
   best_unbound_same c =
       best_same no_thread (λ y. is_queued c y.place && is_none y.body.bound) (λ y. is_queued c y.place && is_none y.body.bound) beats x.threads s.threads (threads_many x s h.bare)
-      (is_unbound_same c) (λ t u a b. beats_same (is_queued c) (queued_blind c) (queued_key c) t u (left_of _ _ a) (left_of _ _ b))
+      (is_unbound_same c) (λ t u a b. beats_same (is_queued c) (queued_blind c) (queued_key c) t u (and_left _ _ a) (and_left _ _ b))
 
   naps_same : (t u : ℕ) → naps_less (thread_of x t) (thread_of x u) ≡ naps_less (thread_of s t) (thread_of s u)
   naps_same t u =

@@ -1,7 +1,7 @@
 -- What a valid workload's partitions are.
-use Rattle.std.proofs.Common.{◌≡◌, ◌≢◌, ℕ, zero, suc, ◌+◌, ◌<◌, ◌≤◌, Bool, true, false, not, ◌&&◌, ◌||◌, List, [], ◌∷◌, ◌++◌, length, map, filter, get_or, ◌⊎◌, inl, inr, Some, refl, sym, ap, ◌∙◌, subst, arith, add-zero, zero-add, add-one, append-nil, slice_get, nat_lt, ◌==◌, Contains}
+use Rattle.std.proofs.Common.{◌≡◌, ◌≢◌, ℕ, zero, suc, ◌+◌, ◌<◌, ◌≤◌, Bool, true, false, not, ◌||◌, List, [], ◌∷◌, ◌++◌, length, map, filter, get_or, ◌⊎◌, inl, inr, Some, refl, sym, ap, ◌∙◌, subst, arith, add-zero, zero-add, add-one, append-nil, slice_get, nat_lt, ◌==◌, Contains}
 use Rattle.std.specs.List.{list_any, list_all, range_with_len}
-use Rattle.std.proofs.lemmas.Bool.{eq-eqb, eqb-true, cases_eq, false≢true}
+use Rattle.std.proofs.lemmas.Bool.{eq-eqb, eqb-true, cases_eq, false≢true, cases_Bool, and_from}
 use Rattle.std.proofs.lemmas.Bool.Decides.{nat_tests}
 use Rattle.std.proofs.lemmas.List.{map-append}
 use Rattle.std.proofs.lemmas.List.Elements.{filter-append}
@@ -18,10 +18,6 @@ use Rattle.sd_part.specs.Lists.{is_rising, is_partition, sets_of, lists_of, set_
 abbrev names : ℕ → List CpuId → Bool
 names c cpus = list_any (λ d. d.0 == c) cpus
 
-bool_cases : (b : Bool) → (b ≡ true) ⊎ (b ≡ false)
-bool_cases true = inl refl
-bool_cases false = inr refl
-
 -- ---- the numbers of sets
 
 pub set_naming-named : (c n : ℕ) (s : Name × List CpuId) (ss : List (Name × List CpuId)) → names c s.1 ≡ true → set_naming c n (s ∷ ss) ≡ n
@@ -33,7 +29,7 @@ set_naming-other c n s ss h = rw h refl
 -- at most the number of the last set
 pub set_naming-most : (c n : ℕ) (sets : List (Name × List CpuId)) → set_naming c (n + 1) sets ≤ n + length sets
 set_naming-most c n [] = omega arith
-set_naming-most c n (s ∷ ss) = elim (bool_cases (names c s.1)) [
+set_naming-most c n (s ∷ ss) = elim (cases_Bool (names c s.1)) [
   | inl h ↦ rw (set_naming-named c (n + 1) s ss h) (omega arith)
   | inr h ↦ rw (set_naming-other c (n + 1) s ss h) (omega (arith, set_naming-most c (n + 1) ss))
 ]
@@ -98,7 +94,7 @@ set_naming-at c n (suc i) (t ∷ ts) s d e h =
 -- 0, or the number of one of the sets
 set_naming-least : (c n : ℕ) (sets : List (Name × List CpuId)) → (set_naming c n sets ≡ 0) ⊎ (n ≤ set_naming c n sets)
 set_naming-least c n [] = inl refl
-set_naming-least c n (s ∷ ss) = elim (bool_cases (names c s.1)) [
+set_naming-least c n (s ∷ ss) = elim (cases_Bool (names c s.1)) [
   | inl h ↦ let e = set_naming-named c n s ss h in inr (omega arith)
   | inr h ↦ let e = set_naming-other c n s ss h in elim (set_naming-least c (n + 1) ss) [ inl none ↦ inl (e ∙ none) | inr some ↦ inr (omega arith) ]
 ]
@@ -106,13 +102,13 @@ set_naming-least c n (s ∷ ss) = elim (bool_cases (names c s.1)) [
 -- the set of that number names the processor
 pub named-at : (c n i : ℕ) (sets : List (Name × List CpuId)) (s : Name × List CpuId) → 0 < n → slice_get sets i ≡ Some s → set_naming c n sets ≡ n + i → names c s.1 ≡ true
 named-at c n i [] s p e h = absurd cc
-named-at c n zero (t ∷ ts) s p e h = elim (bool_cases (names c t.1)) [
+named-at c n zero (t ∷ ts) s p e h = elim (cases_Bool (names c t.1)) [
   | inl here ↦ subst (λ (x : Name × List CpuId). names c x.1 ≡ true) (same_Some t s e) here
   | inr other ↦
       let next = set_naming-other c n t ts other in
       elim (set_naming-least c (n + 1) ts) [ inl none ↦ absurd (omega arith) | inr some ↦ absurd (omega arith) ]
 ]
-named-at c n (suc i) (t ∷ ts) s p e h = elim (bool_cases (names c t.1)) [
+named-at c n (suc i) (t ∷ ts) s p e h = elim (cases_Bool (names c t.1)) [
   | inl here ↦ let first = set_naming-named c n t ts here in absurd (omega arith)
   | inr other ↦ let next = set_naming-other c n t ts other in named-at c (n + 1) i ts s (omega arith) e (omega arith)
 ]
@@ -162,7 +158,7 @@ unfolding covers
 find_missing zero xs = inl (λ c h. absurd (omega arith))
 find_missing (suc n) xs = elim (find_missing n xs) [
   | inr w ↦ inr (w.0, omega arith, w.2)
-  | inl all ↦ elim (bool_cases (names n xs)) [
+  | inl all ↦ elim (cases_Bool (names n xs)) [
     | inr h ↦ inr (n, omega arith, h)
     | inl h ↦ inl (λ c k. elim (cases_eq c n) [ inl e ↦ subst (λ (x : ℕ). names x xs ≡ true) (sym e) h | inr e ↦ all c (omega arith) ])
   ]
@@ -194,7 +190,7 @@ least a c p l fails passes = elim (cases_eq a c) [
 
 pub some_passes : (n a c : ℕ) (p : ℕ → Bool) → a ≤ c → c < a + n → p c ≡ true → 0 < length (map cpu_of_number (filter p (range_with_len a n)))
 some_passes zero a c p l h t = absurd (omega arith)
-some_passes (suc n) a c p l h t = elim (bool_cases (p a)) [
+some_passes (suc n) a c p l h t = elim (cases_Bool (p a)) [
   | inl pa ↦ rw pa (omega arith)
   | inr pa ↦ rw pa (some_passes n (a + 1) c p (least a c p l pa t) (omega arith) t)
 ]
@@ -205,13 +201,13 @@ names-passing zero a c p l h t = absurd (omega arith)
 names-passing (suc n) a c p l h t = elim (cases_eq a c) [
   | inl e ↦ let pa : p a ≡ true = subst (λ (x : ℕ). p x ≡ true) (sym e) t in rw pa (grind (arith, nat_tests))
   | inr ne ↦ let r = names-passing n (a + 1) c p (omega arith) (omega arith) t in
-      elim (bool_cases (p a)) [ inl pa ↦ rw pa (grind (arith, nat_tests)) | inr pa ↦ rw pa r ]
+      elim (cases_Bool (p a)) [ inl pa ↦ rw pa (grind (arith, nat_tests)) | inr pa ↦ rw pa r ]
 ]
 
 -- and no other number
 pub passing-named : (n a c : ℕ) (p : ℕ → Bool) → names c (map cpu_of_number (filter p (range_with_len a n))) ≡ true → (a ≤ c) × (c < a + n) × (p c ≡ true)
 passing-named zero a c p h = absurd (false≢true h)
-passing-named (suc n) a c p h = elim (bool_cases (p a)) [
+passing-named (suc n) a c p h = elim (cases_Bool (p a)) [
   | inl pa ↦ elim (cases_eq a c) [
     | inl e ↦ (omega arith, omega arith, subst (λ (x : ℕ). p x ≡ true) e pa)
     | inr ne ↦
@@ -297,16 +293,12 @@ in_no_other w c p h =
 is_partition-from : (cpus : List CpuId) → 0 < length cpus → is_rising cpus ≡ true → is_partition cpus ≡ true
 is_partition-from cpus h r = grind (arith, nat_tests)
 
-and_true : (a b : Bool) → a ≡ true → b ≡ true → (a && b) ≡ true
-and_true true b h k = k
-and_true false b h k = h
-
 all_partitions : (w : Work) (n a : ℕ) → a + n ≤ length w.sets + 1 → list_all is_partition (map (cpus_of_set w) (range_with_len a n)) ≡ true
 all_partitions w zero a h = refl
 all_partitions w (suc n) a h =
     let rest = all_partitions w n (a + 1) (omega arith) in
     let here = is_partition-from (cpus_of_set w a) (some_cpu w a (omega arith)) (rising_cpus w a) in
-    and_true (is_partition (cpus_of_set w a)) (list_all is_partition (map (cpus_of_set w) (range_with_len (a + 1) n))) here rest
+    and_from (is_partition (cpus_of_set w a)) (list_all is_partition (map (cpus_of_set w) (range_with_len (a + 1) n))) here rest
 
 pub lists_stand : (w : Work) → list_all is_partition (lists_of w) ≡ true
 lists_stand w = all_partitions w (length w.sets + 1) 0 (omega arith)

@@ -22,7 +22,7 @@ use Rattle.sd_canonical.specs.Blocks.{block_text, tables_text}
 use Rattle.sd_gen.specs.Generated.{Drawn, drawn, drawn_text, then_drawn, drawn_from, number_line, head_text, locks_text, class_text, set_text, thread_text, thread_line as thread_drawn, lock_line, locked_text, nested_text, mutex_part, nested_part, read_part, write_part, nap_part, part, part_drawn, round_text, end_text, script_text, first_generator, generated}
 use Rattle.sd_answers.proofs.EndLemmas.{Closes, closes-behind, closed, ends-behind}
 
-newline : Closes (codes "\n")
+pub newline : Closes (codes "\n")
 newline = λ o. refl
 
 -- ---- accounts, cycles and summaries

@@ -1,5 +1,6 @@
 -- The line of an entry has one newline, at its end: neither a name nor a number has any.
 use Rattle.std.proofs.Common.{◌≡◌, ℕ, zero, suc, true, false, not, ◌&&◌, List, [], ◌∷◌, ◌++◌, length, leb, Option, Some, None, refl, ◌∙◌, arith}
+use Rattle.std.proofs.lemmas.Bool.{and_parts}
 use Rattle.std.specs.Prelude.{codes, decimal, option_map, unwrap_or, slice_get}
 use Rattle.std.specs.List.{list_all}
 use Rattle.std.proofs.lemmas.Bool.Decides.{nat_tests}
@@ -28,7 +29,6 @@ use Rattle.sd_types.specs.declared.events.Entry.{Entry}
 use Rattle.sd_types.specs.declared.works.Work.{Work}
 use Rattle.sd_types.specs.NameWords.{is_name_byte, begins_with_letter}
 use Rattle.sd_text.specs.Lines.{is_newline, is_line, IsOneLine}
-use Rattle.sd_text.proofs.LineLemmas.{both}
 use Rattle.sd_text.proofs.NumberLemmas.{decimal-line}
 use Rattle.sd_text.proofs.PieceLemmas.{one_line-append, one_line-newline}
 use Rattle.sd_machine.specs.Texts.{thread_name, lock_name, chan_name, end_text}
@@ -46,11 +46,11 @@ name-byte b h = grind (arith, nat_tests)
 name-bytes : (bs : List ℕ) → list_all is_name_byte bs ≡ true → is_line bs ≡ true
 name-bytes [] h = refl
 name-bytes (b ∷ bs) h =
-    let p = both (is_name_byte b) (list_all is_name_byte bs) h in
+    let p = and_parts (is_name_byte b) (list_all is_name_byte bs) h in
     rw (name-byte b p.0) (name-bytes bs p.1)
 
 name-line : (x : Name) → is_line x.text.items ≡ true
-name-line x = name-bytes x.text.items (both (begins_with_letter x.text.items && leb (length x.text.items) 16) (list_all is_name_byte x.text.items) x.is_name).1
+name-line x = name-bytes x.text.items (and_parts (begins_with_letter x.text.items && leb (length x.text.items) 16) (list_all is_name_byte x.text.items) x.is_name).1
 
 -- the name of what stands there, if anything does
 named-line : {X : Type 0} (of : X → Name) (o : Option X) → is_line (unwrap_or (option_map (λ x. (of x).text.items) o) []) ≡ true

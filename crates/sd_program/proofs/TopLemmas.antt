@@ -138,7 +138,7 @@ not_too_many input bytes many is short =
     let count = many.many in
     absurd (omega arith)
 
-not_refused : (input : StreamChange) (bytes : List ℕ) (w : Work) (line : ℕ) (cause : WorkCause) → IsNoWorkload input line cause → input.before ≡ Some bytes → Accepted bytes w → ⊥
+pub not_refused : (input : StreamChange) (bytes : List ℕ) (w : Work) (line : ℕ) (cause : WorkCause) → IsNoWorkload input line cause → input.before ≡ Some bytes → Accepted bytes w → ⊥
 not_refused input bytes w line cause none is accepted =
     not_both bytes w line cause accepted
     (subst (λ bs. FirstCause bs line cause) (taken_all input.before input.after none.bytes bytes none.read.took none.read.to_end is) none.first)
@@ -186,7 +186,7 @@ completes_generated_of arguments n input out Blocked known c = λ told. absurd (
 completes_generated_of arguments n input out TooLong known c = λ told. absurd (subst (λ k. CausedBy k input out TooLong) (same_command arguments c.0 (Generate n) c.1 known) c.2).1
 
 -- an input that is too large, or no workload, is no accepted one
-no_workload : (input : StreamChange) (bytes : List ℕ) → input.before ≡ Some bytes → (most_bytes < length bytes) ⊎ ((w : Work) → Accepted bytes w → ⊥) → (w : Work) → IsWorkload input w → ⊥
+pub no_workload : (input : StreamChange) (bytes : List ℕ) → input.before ≡ Some bytes → (most_bytes < length bytes) ⊎ ((w : Work) → Accepted bytes w → ⊥) → (w : Work) → IsWorkload input w → ⊥
 no_workload input bytes is (inl many) w found =
     let all = taken_all input.before input.after found.bytes bytes found.read.took found.read.to_end is in
     let bound = found.read.bound in

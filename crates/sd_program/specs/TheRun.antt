@@ -12,7 +12,7 @@ use Rattle.sd_full.specs.LockGraph.{graph, cycles_of}
 use Rattle.sd_full.specs.Runs.{final, state_at, IsRun, IsComplete, IsSerial}
 use Rattle.sd_full.specs.Texts.{journal}
 use Rattle.sd_full.specs.Threads.{eff_of}
-use Rattle.sd_laws.specs.Laws.{MarksStand}
+use Rattle.sd_machine.specs.Invariants.{MarksStand}
 use Rattle.sd_belonging.specs.Belonging.{EachInOnePlace, ThreadsBelong}
 use Rattle.sd_inheritance.specs.Laws.{NobodyWalks, PrioritiesAreMaxima}
 use Rattle.sd_hand.specs.OneHome.{StandsInHomes}

@@ -3,7 +3,7 @@
 use Rattle.std.proofs.Common.{◌≡◌, ℕ, zero, suc, ◌<◌, ◌≤◌, Bool, true, false, not, ◌&&◌, ◌||◌, List, [], ◌∷◌, length, get_or, map, Option, Some, None, refl, sym, ◌∙◌, subst, inl, inr, arith}
 use Rattle.std.specs.Prelude.{if◌then◌else◌, nat_lt, nat_le, ◌==◌}
 use Rattle.std.specs.List.{list_all}
-use Rattle.std.proofs.lemmas.Bool.{cases_lt, false≢true}
+use Rattle.std.proofs.lemmas.Bool.{cases_lt, false≢true, and_from}
 use Rattle.std.proofs.lemmas.Bool.Decides.{nat_tests}
 use Rattle.std.proofs.lemmas.List.{length-map}
 use Rattle.sd_types.specs.declared.numbers.CpuId.{CpuId}
@@ -19,6 +19,7 @@ use Rattle.sd_full.specs.Choosing.{hint_shown}
 use Rattle.sd_full.specs.Events.{reads, same_which, hints_fit, wish, may_tick, allowed, next}
 use Rattle.sd_full.specs.Runs.{IsComplete, shown}
 use Rattle.sd_sound.proofs.Whole.{reached_whole}
+use Rattle.sd_sound.proofs.BoundLemmas.{same_id}
 use Rattle.sd_range.specs.Complete.{CompleteRunsReachTheLimit}
 
 -- What the state shows of itself fits what is read.
@@ -27,17 +28,10 @@ same_kind : (k : Which) → same_which k k ≡ true
 same_kind which.Running = refl
 same_kind which.Queued = refl
 
-same_number : (n : ℕ) → (n == n) ≡ true
-same_number n = grind (arith, nat_tests)
-
-both_true : (a b : Bool) → a ≡ true → b ≡ true → (a && b) ≡ true
-both_true true b h k = k
-both_true false b h k = h
-
 shown_fit : (s : State) (r : Option (Which × List CpuId)) → hints_fit r (shown s r) ≡ true
 shown_fit s None = refl
-shown_fit s (Some r) = both_true (same_which r.0 r.0) (length (map (hint_shown s r.0) r.1) == length r.1) (same_kind r.0)
-    (subst (λ m. (m == length r.1) ≡ true) (sym (length-map r.1 (hint_shown s r.0))) (same_number (length r.1)))
+shown_fit s (Some r) = and_from (same_which r.0 r.0) (length (map (hint_shown s r.0) r.1) == length r.1) (same_kind r.0)
+    (subst (λ m. (m == length r.1) ≡ true) (sym (length-map r.1 (hint_shown s r.0))) (same_id (length r.1)))
 
 -- A processor that has no entry may not tick.
 
@@ -49,7 +43,7 @@ refused false false e is = refl
 no_tick : (w : Work) (s : State) (c : CpuId) → c.0 < w.cpus → IsComplete w s → may_tick w s c.0 ≡ false
 unfolding next
 no_tick w s c inside complete =
-    by (nat_lt c.0 w.cpus && hints_fit (reads w s c.0) (shown s (reads w s c.0))) (both_true (nat_lt c.0 w.cpus) _ (let less : nat_lt c.0 w.cpus ≡ true = grind (arith, nat_tests) in less) (shown_fit s (reads w s c.0)))
+    by (nat_lt c.0 w.cpus && hints_fit (reads w s c.0) (shown s (reads w s c.0))) (and_from (nat_lt c.0 w.cpus) _ (let less : nat_lt c.0 w.cpus ≡ true = grind (arith, nat_tests) in less) (shown_fit s (reads w s c.0)))
     (complete c (shown s (reads w s c.0)))
   where
     by : (b : Bool) → b ≡ true → (if b then allowed w s c.0 (wish w s c.0 (shown s (reads w s c.0))) else None) ≡ None → may_tick w s c.0 ≡ false
@@ -63,7 +57,7 @@ all_later m n [] le all = refl
 all_later m n (x ∷ xs) le all = by (λ rest. all_later m n xs le rest) (nat_le n x.count) refl all
   where
     by : (list_all (λ (x : CpuState). nat_le n x.count) xs ≡ true → list_all (λ (x : CpuState). nat_le m x.count) xs ≡ true) → (b : Bool) → nat_le n x.count ≡ b → (b && list_all (λ (x : CpuState). nat_le n x.count) xs) ≡ true → (nat_le m x.count && list_all (λ (x : CpuState). nat_le m x.count) xs) ≡ true
-    by more true is rest = both_true (nat_le m x.count) _ (let a : n ≤ x.count = grind (arith, nat_tests) in let b : m ≤ x.count = omega (arith, a, le) in let t : nat_le m x.count ≡ true = grind (arith, nat_tests) in t) (more rest)
+    by more true is rest = and_from (nat_le m x.count) _ (let a : n ≤ x.count = grind (arith, nat_tests) in let b : m ≤ x.count = omega (arith, a, le) in let t : nat_le m x.count ≡ true = grind (arith, nat_tests) in t) (more rest)
     by more false is rest = cc
 
 record IsLeast (xs : List CpuState) : Type 0 where
@@ -75,7 +69,7 @@ itself : (n : ℕ) → nat_le n n ≡ true
 itself n = grind (arith, nat_tests)
 
 least_of : (x : CpuState) (xs : List CpuState) → IsLeast (x ∷ xs)
-least_of x [] = record { at = 0; inside = omega arith; least = both_true (nat_le x.count x.count) true (itself x.count) refl }
+least_of x [] = record { at = 0; inside = omega arith; least = and_from (nat_le x.count x.count) true (itself x.count) refl }
 least_of x (y ∷ ys) = by (least_of y ys)
   where
     by : IsLeast (y ∷ ys) → IsLeast (x ∷ y ∷ ys)
@@ -83,12 +77,12 @@ least_of x (y ∷ ys) = by (least_of y ys)
       | inl less ↦ record {
         at = 0;
         inside = omega arith;
-        least = both_true (nat_le x.count x.count) _ (itself x.count) (all_later x.count (get_or (y ∷ ys) rest.at no_cpu).count (y ∷ ys) (omega (arith, less)) rest.least);
+        least = and_from (nat_le x.count x.count) _ (itself x.count) (all_later x.count (get_or (y ∷ ys) rest.at no_cpu).count (y ∷ ys) (omega (arith, less)) rest.least);
       }
       | inr more ↦ record {
         at = suc rest.at;
         inside = let a = rest.inside in omega (arith, a);
-        least = both_true (nat_le (get_or (y ∷ ys) rest.at no_cpu).count x.count) _ (let t : nat_le (get_or (y ∷ ys) rest.at no_cpu).count x.count ≡ true = grind (arith, nat_tests) in t) rest.least;
+        least = and_from (nat_le (get_or (y ∷ ys) rest.at no_cpu).count x.count) _ (let t : nat_le (get_or (y ∷ ys) rest.at no_cpu).count x.count ≡ true = grind (arith, nat_tests) in t) rest.least;
       }
     ]
 

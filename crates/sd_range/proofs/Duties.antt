@@ -28,7 +28,7 @@ use Rattle.sd_types.specs.declared.scripts.Op.TheVariants as op
 use Rattle.sd_types.specs.declared.works.Work.{Work}
 use Rattle.sd_types.specs.Works.{is_mutex}
 use Rattle.sd_chains.proofs.Moves.{put_cases}
-use Rattle.sd_laws.specs.Laws.{IsThere}
+use Rattle.sd_machine.specs.Invariants.{IsThere}
 use Rattle.sd_machine.specs.declared.states.Place.{Place}
 use Rattle.sd_machine.specs.declared.states.Place.TheVariants.{Running, Queued, RealTime, Waiting, Asleep, Napping, Ended}
 use Rattle.sd_machine.specs.declared.states.LockState.{LockState}

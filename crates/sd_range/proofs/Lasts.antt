@@ -40,6 +40,7 @@ use Rattle.sd_machine.specs.declared.states.State.{State}
 use Rattle.sd_machine.specs.States.{no_thread, thread_of, cpu_of, with_thread, with_cpu}
 use Rattle.sd_machine.specs.Opening.{turn_of, is_urgent, first_cpu, first_thread, first_threads, opening}
 use Rattle.sd_machine.specs.Operations.{script_of, op_of, op_over, ran}
+use Rattle.sd_machine.proofs.BestLemmas.{and_right, and_left}
 use Rattle.sd_full.specs.Threads.{thread_id, lock_of, with_lock, runner, best_sleeper, eff_of}
 use Rattle.sd_full.specs.Bodies.{aged_class, departed, arrived}
 use Rattle.sd_full.specs.Changes.{back_key, with_place, finish_op, run_tick, set_class, send_back, hold, let_go, set_number, set_looped, set_duty, count_tick, clear_marks, run_on, leave, place_put, put, put_where, close, bind, unbind}
@@ -56,7 +57,7 @@ use Rattle.sd_sound.specs.Laws.{HoldsWhenReached}
 use Rattle.sd_sound.proofs.Parts.{same_item, put_item, set_past}
 use Rattle.sd_sound.proofs.Words.{Same, all_same, called_back_same, clear_marks_same, cleared_same, close_same, count_same, count_tick_same, idled_same, joined_same, lock_same, mark_over_same, passed_same, release_from_same, remark_same, roused_on_same, set_duty_same, set_mark_same, then_same, unblocked_on_same, walk_ended_same, walk_from_same}
 use Rattle.sd_sound.proofs.HoldTable.{body_same}
-use Rattle.sd_sound.proofs.Works.{declared, first_of_two, second_of_two}
+use Rattle.sd_sound.proofs.Works.{declared}
 use Rattle.sd_range.proofs.Induction.{held_reached}
 use Rattle.sd_range.proofs.Places.{first_cpu_there, decl_set}
 
@@ -443,8 +444,8 @@ first_last w t d there = first_cpu_there w d (if is_urgent d then 0 else turn_of
 
 all_last : (w : Work) (k : ℕ) (ds : List ThreadDecl) → list_all (thread_fits (declared w)) ds ≡ true → (t : ℕ) → (get_or (first_threads w k ds) t no_thread).body.last.0 < w.cpus
 all_last w k [] fits t = let some = w.some_cpu in omega (arith, some)
-all_last w k (d ∷ ds) fits zero = first_last w k d (decl_set w d (first_of_two (thread_fits (declared w) d) (list_all (thread_fits (declared w)) ds) fits))
-all_last w k (d ∷ ds) fits (suc t) = all_last w (k + 1) ds (second_of_two (thread_fits (declared w) d) _ fits) t
+all_last w k (d ∷ ds) fits zero = first_last w k d (decl_set w d (and_left (thread_fits (declared w) d) (list_all (thread_fits (declared w)) ds) fits))
+all_last w k (d ∷ ds) fits (suc t) = all_last w (k + 1) ds (and_right (thread_fits (declared w) d) _ fits) t
 
 opening_last : (w : Work) → LastsAreThere w (opening w)
 unfolding opening

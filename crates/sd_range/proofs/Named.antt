@@ -24,10 +24,11 @@ use Rattle.sd_types.specs.Works.{is_mutex, is_rwlock, is_chan, is_sema, bound_fi
 use Rattle.sd_machine.specs.declared.states.State.{State}
 use Rattle.sd_machine.specs.Operations.{script_of}
 use Rattle.sd_machine.specs.States.{thread_of}
+use Rattle.sd_machine.proofs.BestLemmas.{and_right, and_left}
 use Rattle.sd_full.specs.Threads.{set_of}
 use Rattle.sd_sound.specs.Causes.{Acts, Wants, wants}
 use Rattle.sd_sound.proofs.AgreedAfter.{named_inside}
-use Rattle.sd_sound.proofs.Works.{declared, all_at, op_named, first_of_two, second_of_two}
+use Rattle.sd_sound.proofs.Works.{declared, all_at, op_named}
 
 -- What passes a test that nothing fails which is not there is there.
 
@@ -73,19 +74,19 @@ exit_lock w l e =
     omega (arith, inside, many)
 
 pub wait_chan : (w : Work) (k : ChanId) (l : LockId) → op_names (declared w) (op.CvWait k l) ≡ true → k.0 < length w.chans
-wait_chan w k l e = chan_inside w k is_chan refl (first_of_two _ (is_mutex (slice_get (declared w).locks l.0)) e)
+wait_chan w k l e = chan_inside w k is_chan refl (and_left _ (is_mutex (slice_get (declared w).locks l.0)) e)
 
 pub wait_lock : (w : Work) (k : ChanId) (l : LockId) → op_names (declared w) (op.CvWait k l) ≡ true → l.0 < length w.locks
-wait_lock w k l e = lock_inside w l is_mutex refl (second_of_two (is_chan (slice_get (declared w).chans k.0)) _ e)
+wait_lock w k l e = lock_inside w l is_mutex refl (and_right (is_chan (slice_get (declared w).chans k.0)) _ e)
 
 pub assign_cpu : (w : Work) (d : CpuId) (to : SetId) → op_names (declared w) (op.Assign d to) ≡ true → d.0 < w.cpus
-assign_cpu w d to e = let less : nat_lt d.0 w.cpus ≡ true = first_of_two _ (nat_le to.0 (length w.sets)) e in grind (arith, nat_tests)
+assign_cpu w d to e = let less : nat_lt d.0 w.cpus ≡ true = and_left _ (nat_le to.0 (length w.sets)) e in grind (arith, nat_tests)
 
 pub assign_set : (w : Work) (d : CpuId) (to : SetId) → op_names (declared w) (op.Assign d to) ≡ true → to.0 ≤ length w.sets
-assign_set w d to e = let less : nat_le to.0 (length w.sets) ≡ true = second_of_two (nat_lt d.0 w.cpus) _ e in grind (arith, nat_tests)
+assign_set w d to e = let less : nat_le to.0 (length w.sets) ≡ true = and_right (nat_lt d.0 w.cpus) _ e in grind (arith, nat_tests)
 
 pub bind_cpu : (w : Work) (u : ThreadId) (d : Option CpuId) → op_names (declared w) (op.Pbind u d) ≡ true → IfSome d (λ x. x.0 < w.cpus)
-bind_cpu w u d e = by d (second_of_two (nat_lt u.0 (length w.threads)) _ e)
+bind_cpu w u d e = by d (and_right (nat_lt u.0 (length w.threads)) _ e)
   where
     by : (d : Option CpuId) → bound_fits w.cpus d ≡ true → IfSome d (λ x. x.0 < w.cpus)
     by None is = tt
@@ -128,5 +129,5 @@ set_of_there w t = by (slice_get w.threads t) refl
     by None at = omega arith
     by (Some d) at =
         let fits : thread_fits (declared w) d ≡ true = all_at (thread_fits (declared w)) w.threads t d w.threads_fit at in
-        let test : nat_le d.set.0 (length w.sets) ≡ true = second_of_two (class_fits d.class d.cpupri) _ (first_of_two _ (list_all (op_names (declared w)) d.script.ops) fits) in
+        let test : nat_le d.set.0 (length w.sets) ≡ true = and_right (class_fits d.class d.cpupri) _ (and_left _ (list_all (op_names (declared w)) d.script.ops) fits) in
         grind (arith, nat_tests)

@@ -26,12 +26,13 @@ use Rattle.sd_types.specs.Priorities.{eff, eff_as}
 use Rattle.sd_types.specs.Works.{op_names, class_fits, thread_fits}
 use Rattle.sd_part.proofs.PartitionLemmas.{some_cpu, in_no_other, names-from_Contains}
 use Rattle.sd_chains.proofs.Moves.{put_cases}
-use Rattle.sd_laws.specs.Laws.{IsThere}
+use Rattle.sd_machine.specs.Invariants.{IsThere}
 use Rattle.sd_machine.specs.declared.states.Place.{Place}
 use Rattle.sd_machine.specs.declared.states.Place.TheVariants.{Running, Queued, RealTime, Waiting, Asleep, Napping, Ended}
 use Rattle.sd_machine.specs.declared.states.State.{State}
 use Rattle.sd_machine.specs.States.{no_thread, thread_of}
 use Rattle.sd_machine.specs.Opening.{dealt_cpu, turn_of, is_urgent, first_cpu, first_thread, first_threads, opening}
+use Rattle.sd_machine.proofs.BestLemmas.{and_right, and_left}
 use Rattle.sd_full.specs.declared.plans.Requeue.TheVariants.{Stays, Behind, Anew}
 use Rattle.sd_full.specs.Threads.{open_of, set_of, eff_of}
 use Rattle.sd_full.specs.Bodies.{aged_class}
@@ -47,7 +48,7 @@ use Rattle.sd_sound.specs.Moves.Step.{Stay, Go}
 use Rattle.sd_sound.proofs.Movers.{bind_put_is, mover_there}
 use Rattle.sd_sound.proofs.PlaceTable.{Stepped, after_steps, step_needs}
 use Rattle.sd_sound.proofs.Whole.{reached_whole}
-use Rattle.sd_sound.proofs.Works.{declared, first_of_two, second_of_two}
+use Rattle.sd_sound.proofs.Works.{declared}
 use Rattle.sd_range.specs.There.{IsBoundThere, SetsAreOpen, ThreadsHaveCpus}
 use Rattle.sd_range.proofs.Induction.{held_reached}
 use Rattle.sd_range.proofs.Named.{acts_named, sleep_chan, sema_chan, wait_chan, bind_cpu, wants_lock, set_of_there}
@@ -98,11 +99,11 @@ same_queue true b c d e = cc
 same_queue false true c d e = cc
 same_queue false false c d e = cc
 
-never_anew : (a : Bool) (d : CpuId) → (if a then Stays else Anew) ≡ Behind d → ⊥
+pub never_anew : (a : Bool) (d : CpuId) → (if a then Stays else Anew) ≡ Behind d → ⊥
 never_anew true d e = cc
 never_anew false d e = cc
 
-never_stays : (a : Bool) (d : CpuId) → (if a then Stays else Stays) ≡ Behind d → ⊥
+pub never_stays : (a : Bool) (d : CpuId) → (if a then Stays else Stays) ≡ Behind d → ⊥
 never_stays true d e = cc
 never_stays false d e = cc
 
@@ -154,7 +155,7 @@ unbound_there w p None (Napping c due) at there e = absurd (none_put at e)
 unbound_there w p None Ended at there e = absurd (none_put at e)
 
 -- the only item of a list
-only_item : (d x : CpuId) → Contains (d ∷ []) x → d ≡ x
+pub only_item : (d x : CpuId) → Contains (d ∷ []) x → d ≡ x
 only_item d x (zero, inside, is) = is
 only_item d x (suc k, inside, is) = absurd (omega (arith, inside))
 
@@ -307,13 +308,13 @@ first_there w t d there = by (is_urgent d)
 
 pub decl_set : (w : Work) (d : ThreadDecl) → thread_fits (declared w) d ≡ true → d.set.0 ≤ length w.sets
 decl_set w d fits =
-    let test : nat_le d.set.0 (length w.sets) ≡ true = second_of_two (class_fits d.class d.cpupri) _ (first_of_two _ (list_all (op_names (declared w)) d.script.ops) fits) in
+    let test : nat_le d.set.0 (length w.sets) ≡ true = and_right (class_fits d.class d.cpupri) _ (and_left _ (list_all (op_names (declared w)) d.script.ops) fits) in
     grind (arith, nat_tests)
 
 all_there : (w : Work) (k : ℕ) (ds : List ThreadDecl) → list_all (thread_fits (declared w)) ds ≡ true → (t : ℕ) → IsThere w (get_or (first_threads w k ds) t no_thread).place
 all_there w k [] fits t = tt
-all_there w k (d ∷ ds) fits zero = first_there w k d (decl_set w d (first_of_two (thread_fits (declared w) d) (list_all (thread_fits (declared w)) ds) fits))
-all_there w k (d ∷ ds) fits (suc t) = all_there w (k + 1) ds (second_of_two (thread_fits (declared w) d) _ fits) t
+all_there w k (d ∷ ds) fits zero = first_there w k d (decl_set w d (and_left (thread_fits (declared w) d) (list_all (thread_fits (declared w)) ds) fits))
+all_there w k (d ∷ ds) fits (suc t) = all_there w (k + 1) ds (and_right (thread_fits (declared w) d) _ fits) t
 
 opening_there : (w : Work) → PlacesAreThere w (opening w)
 unfolding opening

@@ -26,7 +26,7 @@ use Rattle.sd_types.specs.declared.works.Work.{Work}
 use Rattle.sd_part.proofs.PartitionLemmas.{names-from_Contains}
 use Rattle.sd_chains.specs.Holders as H
 use Rattle.sd_chains.proofs.HolderLemmas.{count_one}
-use Rattle.sd_laws.specs.Laws.{IsThere}
+use Rattle.sd_machine.specs.Invariants.{IsThere}
 use Rattle.sd_machine.specs.declared.states.Place.{Place}
 use Rattle.sd_machine.specs.declared.states.Place.TheVariants.{Running, Queued, RealTime, Waiting, Asleep, Napping, Ended}
 use Rattle.sd_machine.specs.declared.states.State.{State}

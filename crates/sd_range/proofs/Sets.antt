@@ -42,7 +42,7 @@ use Rattle.sd_range.proofs.Named.{acts_named, assign_set}
 -- Open lists.
 
 -- an open list is where it is written, or as it was
-open_written : (s : State) (p : ℕ) (cpus : List CpuId) (q : ℕ) → q < length s.open_cpus → ((q ≡ p) × (open_of (with_open s p cpus) q ≡ cpus)) ⊎ ((q ≢ p) × (open_of (with_open s p cpus) q ≡ open_of s q))
+pub open_written : (s : State) (p : ℕ) (cpus : List CpuId) (q : ℕ) → q < length s.open_cpus → ((q ≡ p) × (open_of (with_open s p cpus) q ≡ cpus)) ⊎ ((q ≢ p) × (open_of (with_open s p cpus) q ≡ open_of s q))
 open_written s p cpus q inside = elim (cases_eq q p) [
   | inl is ↦
       let here : p < length s.open_cpus = omega (arith, inside, is) in

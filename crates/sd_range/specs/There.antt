@@ -19,7 +19,7 @@ use Rattle.sd_full.specs.Threads.{lock_of, open_of}
 use Rattle.sd_full.specs.Choosing.{cpus_for}
 use Rattle.sd_full.specs.Requeueing.{is_bound_to}
 use Rattle.sd_chains.specs.Holders.{counted}
-use Rattle.sd_laws.specs.Laws.{IsThere}
+use Rattle.sd_machine.specs.Invariants.{IsThere}
 
 -- a set is the default partition, of number 0, or one of the declared sets
 abbrev pub IsSetThere : Work → SetId → Type 0

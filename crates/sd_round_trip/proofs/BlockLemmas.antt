@@ -2,7 +2,7 @@
 use Rattle.std.proofs.Common.{◌≡◌, ℕ, suc, ◌+◌, ◌<◌, Bool, true, false, not, ◌&&◌, nat_eq, List, [], ◌∷◌, ◌++◌, length, map, take, get_or, Some, None, refl, sym, ap, ◌∙◌, arith, append_assoc, if◌then◌else◌}
 use Rattle.std.specs.Prelude.{codes}
 use Rattle.std.specs.List.{list_all, onto_first}
-use Rattle.std.proofs.lemmas.Bool.{false≢true}
+use Rattle.std.proofs.lemmas.Bool.{false≢true, and_parts, and_right}
 use Rattle.std.proofs.lemmas.Bool.Decides.{nat_tests}
 use Rattle.std.proofs.lemmas.List.{map-append}
 use Rattle.std.proofs.lemmas.Option.{none-some}
@@ -19,7 +19,6 @@ use Rattle.sd_declare.specs.Declarations.{Declarations}
 use Rattle.sd_declare.specs.Statements.{is_table_given}
 use Rattle.sd_workload.specs.Texts.{Outside, InTable, format_of, with_table, judged}
 use Rattle.sd_workload.proofs.TableLemmas.{table-clean, table-closed}
-use Rattle.sd_workload.proofs.NameLemmas.{both}
 use Rattle.sd_canonical.specs.Canonical.{line_text}
 use Rattle.sd_round_trip.proofs.TextLemmas.{is_plain, are_plain, line-again}
 use Rattle.sd_round_trip.proofs.TakesLemmas.{Takes, takes-both, takes-line}
@@ -70,17 +69,13 @@ same-word [] [] h = refl
 same-word [] (y ∷ ys) h = absurd (false≢true h)
 same-word (x ∷ xs) [] h = absurd (false≢true h)
 same-word (x ∷ xs) (y ∷ ys) h =
-    let p = both (nat_eq x y) (same_bytes xs ys) h in
+    let p = and_parts (nat_eq x y) (same_bytes xs ys) h in
     let e : x ≡ y = grind (arith, nat_tests, p.0) in
     ap (λ (n : ℕ). n ∷ xs) e ∙ ap (λ (l : List ℕ). y ∷ l) (same-word xs ys p.1)
 
-second-false : (a b : Bool) → b ≡ false → (a && b) ≡ false
-second-false true b h = h
-second-false false b h = refl
-
 end-fault : (columns : List Column) (above : List Line) (number : ℕ) → line_fault columns above (codes "end" ∷ []) number ≡ Some (NotANumber number)
 unfolding is_res_word
-end-fault columns above number = rw (second-false (nat_eq 1 (length columns)) false refl) refl
+end-fault columns above number = rw (and_right (nat_eq 1 (length columns)) false refl) refl
 
 not-end : (columns : List Column) (above : List Line) (line : Line) (number : ℕ) → line_fault columns above line number ≡ None → not (is_end line) ≡ true
 unfolding only_word

@@ -1,5 +1,6 @@
 -- What the lines outside blocks say: each form is read as its statement.
 use Rattle.std.proofs.Common.{◌≡◌, ℕ, ◌<◌, ◌≤◌, ◌^◌, Bool, true, false, ◌&&◌, eqb, ltb, leb, List, [], ◌∷◌, ◌++◌, map, Option, Some, None, refl, ap, arith}
+use Rattle.std.proofs.lemmas.Bool.{and_parts}
 use Rattle.std.specs.Prelude.{codes, nat_eq, int_le}
 use Rattle.std.specs.Option.{option_map}
 use Rattle.std.specs.Char.{is_ascii_digit}
@@ -19,8 +20,7 @@ use Rattle.sd_types.specs.declared.works.LockKind.{LockKind}
 use Rattle.sd_types.specs.declared.works.LockKind.TheVariants.{Mutex, Rwlock}
 use Rattle.sd_types.specs.NameWords.{is_name}
 use Rattle.sd_types.specs.Works.{same_bytes, quantum_fits, class_fits, upri_fits}
-use Rattle.sd_text.proofs.LineLemmas.{both}
-use Rattle.sd_text.proofs.NumberLemmas.{number_of-decimal}
+use Rattle.sd_text.proofs.NumberLemmas.{number_of-decimal, own}
 use Rattle.sd_lines.specs.declared.statements.TableClass.TheVariants as table
 use Rattle.sd_lines.specs.declared.threads.ThreadClass.{ThreadClass}
 use Rattle.sd_lines.specs.declared.threads.ThreadClass.TheVariants.{Ts, Fx, Sys, Rt}
@@ -56,7 +56,7 @@ numbers-again : (cs : List CpuId) → are_cpus cs ≡ true → all_numbers (cpu_
 unfolding all_numbers
 numbers-again [] h = refl
 numbers-again (c ∷ cs) h =
-    let p = both (ltb c.0 64) (are_cpus cs) h in
+    let p = and_parts (ltb c.0 64) (are_cpus cs) h in
     let few : c.0 < 64 = grind (arith, nat_tests, p.0) in
     rw (number_of-decimal c.0 (omega arith), numbers-again cs p.1) refl
 
@@ -98,14 +98,11 @@ script-form name h = rw h refl
 
 -- ---- quanta
 
-pub own : IsNumeralModel (λ ds. all_ascii_digits ds ≡ true) (digits_value 10)
-own = numerals_by_value _ tells_all_ascii_digits
-
 -- digits are no word that begins with a letter
 no-digits : (letter : ℕ) (word rest : Word) → 58 ≤ letter → all_ascii_digits word ≡ true → same_bytes word (letter ∷ rest) ≡ false
 no-digits letter [] rest h digits = refl
 no-digits letter (b ∷ bs) rest h digits =
-    let digit : is_ascii_digit b ≡ true = (both (is_ascii_digit b) _ digits).0 in
+    let digit : is_ascii_digit b ≡ true = (and_parts (is_ascii_digit b) _ digits).0 in
     let other : eqb b letter ≡ false = grind (arith, nat_tests) in
     rw other refl
 
@@ -138,22 +135,22 @@ pub class-form : (class : ClassParms) (cpupri : ℕ) (rest : Line) → class_fit
     → class_read (class_words class cpupri ++ rest) ≡ Some (class_said class cpupri, rest)
 unfolding class_read ts_words fx_words sys_words rt_words first
 class-form (parms.Ts limit upri) cpupri rest h =
-    let p = both (upri_fits limit && upri_fits upri && int_le upri limit) (leb cpupri 59) h in
-    let q = both (upri_fits limit && upri_fits upri) (int_le upri limit) p.0 in
-    let r = both (upri_fits limit) (upri_fits upri) q.0 in
+    let p = and_parts (upri_fits limit && upri_fits upri && int_le upri limit) (leb cpupri 59) h in
+    let q = and_parts (upri_fits limit && upri_fits upri) (int_le upri limit) p.0 in
+    let r = and_parts (upri_fits limit) (upri_fits upri) q.0 in
     let small : cpupri ≤ 59 = grind (arith, nat_tests, p.1) in
     rw (number_of-decimal cpupri (omega arith), signed-again limit (upri-short limit r.0), signed-again upri (upri-short upri r.1)) refl
 class-form (parms.Fx limit pri quantum) cpupri rest h =
-    let p = both (leb limit 60 && leb pri limit && quantum_fits quantum) (nat_eq cpupri 0) h in
-    let q = both (leb limit 60 && leb pri limit) (quantum_fits quantum) p.0 in
+    let p = and_parts (leb limit 60 && leb pri limit && quantum_fits quantum) (nat_eq cpupri 0) h in
+    let q = and_parts (leb limit 60 && leb pri limit) (quantum_fits quantum) p.0 in
     let small : (limit ≤ 60) × (pri ≤ 60) = (grind (arith, nat_tests, q.0), grind (arith, nat_tests, q.0)) in
     rw (number_of-decimal limit (omega (arith, small.0)), number_of-decimal pri (omega (arith, small.1)), quantum-again quantum q.1) refl
 class-form (parms.Sys pri) cpupri rest h =
     let small : pri ≤ 99 = grind (arith, nat_tests, h) in
     rw (number_of-decimal pri (omega arith)) refl
 class-form (parms.Rt pri quantum) cpupri rest h =
-    let p = both (leb pri 59 && quantum_fits quantum) (nat_eq cpupri 0) h in
-    let q = both (leb pri 59) (quantum_fits quantum) p.0 in
+    let p = and_parts (leb pri 59 && quantum_fits quantum) (nat_eq cpupri 0) h in
+    let q = and_parts (leb pri 59) (quantum_fits quantum) p.0 in
     let small : pri ≤ 59 = grind (arith, nat_tests, q.0) in
     rw (number_of-decimal pri (omega arith), quantum-again quantum q.1) refl
 

@@ -3,20 +3,19 @@ use Rattle.std.proofs.Common.{◌≡◌, ℕ, zero, suc, ◌+◌, ◌<◌, Bool,
 use Rattle.std.specs.Prelude.{unwrap_or, slice_get}
 use Rattle.std.specs.Option.{option_map}
 use Rattle.std.specs.List.{list_any, list_all, position_or_len}
-use Rattle.std.proofs.lemmas.Bool.{eq-eqb}
+use Rattle.std.proofs.lemmas.Bool.{eq-eqb, and_parts, or_parts, not-true}
 use Rattle.std.proofs.lemmas.Bool.Decides.{nat_tests}
 use Rattle.std.proofs.lemmas.List.{map-append}
 use Rattle.std.proofs.lemmas.List.Folds.{list_any-append, list_all-append}
 use Rattle.sd_types.specs.NameWords.{is_name}
 use Rattle.sd_types.specs.Works.{same_bytes, is_distinct}
-use Rattle.sd_workload.proofs.NameLemmas.{both, neither, not-true}
 
 -- ---- what holds of all elements
 
 pub all-at : {X : Type 0} (p : X → Bool) (xs ys : List X) (y : X) → list_all p (xs ++ y ∷ ys) ≡ true → p y ≡ true
 all-at p xs ys y h =
-    let q = both (list_all p xs) (p y && list_all p ys) (sym (list_all-append p xs (y ∷ ys)) ∙ h) in
-    (both (p y) (list_all p ys) q.1).0
+    let q = and_parts (list_all p xs) (p y && list_all p ys) (sym (list_all-append p xs (y ∷ ys)) ∙ h) in
+    (and_parts (p y) (list_all p ys) q.1).0
 
 pub under : (a b : ℕ) → a < b → leb b a ≡ false
 under a b h = grind (arith, nat_tests)
@@ -29,20 +28,20 @@ not-under a b e = grind (arith, nat_tests)
 pub fresh : {X : Type 0} (same : X → X → Bool) (xs ys : List X) (y : X) → is_distinct same (xs ++ y ∷ ys) ≡ true → list_any (λ x. same x y) xs ≡ false
 fresh same [] ys y h = refl
 fresh same (x ∷ xs) ys y h =
-    let p = both (not (list_any (same x) (xs ++ y ∷ ys))) (is_distinct same (xs ++ y ∷ ys)) h in
-    let q = neither (list_any (same x) xs) (same x y || list_any (same x) ys) (sym (list_any-append (same x) xs (y ∷ ys)) ∙ not-true _ p.0) in
-    let r = neither (same x y) (list_any (same x) ys) q.1 in
+    let p = and_parts (not (list_any (same x) (xs ++ y ∷ ys))) (is_distinct same (xs ++ y ∷ ys)) h in
+    let q = or_parts (list_any (same x) xs) (same x y || list_any (same x) ys) (sym (list_any-append (same x) xs (y ∷ ys)) ∙ not-true _ p.0) in
+    let r = or_parts (same x y) (list_any (same x) ys) q.1 in
     rw (r.0) (fresh same xs ys y p.1)
 
 pub distinct-tail : {X : Type 0} (same : X → X → Bool) (xs ys : List X) → is_distinct same (xs ++ ys) ≡ true → is_distinct same ys ≡ true
 distinct-tail same [] ys h = h
-distinct-tail same (x ∷ xs) ys h = distinct-tail same xs ys (both (not (list_any (same x) (xs ++ ys))) (is_distinct same (xs ++ ys)) h).1
+distinct-tail same (x ∷ xs) ys h = distinct-tail same xs ys (and_parts (not (list_any (same x) (xs ++ ys))) (is_distinct same (xs ++ ys)) h).1
 
 pub distinct-front : {X : Type 0} (same : X → X → Bool) (xs ys : List X) → is_distinct same (xs ++ ys) ≡ true → is_distinct same xs ≡ true
 distinct-front same [] ys h = refl
 distinct-front same (x ∷ xs) ys h =
-    let p = both (not (list_any (same x) (xs ++ ys))) (is_distinct same (xs ++ ys)) h in
-    let q = neither (list_any (same x) xs) (list_any (same x) ys) (sym (list_any-append (same x) xs ys) ∙ not-true _ p.0) in
+    let p = and_parts (not (list_any (same x) (xs ++ ys))) (is_distinct same (xs ++ ys)) h in
+    let q = or_parts (list_any (same x) xs) (list_any (same x) ys) (sym (list_any-append (same x) xs ys) ∙ not-true _ p.0) in
     rw (q.0) (distinct-front same xs ys p.1)
 
 pub any-map : {X Y : Type 0} (p : Y → Bool) (f : X → Y) (xs : List X) → list_any p (map f xs) ≡ list_any (λ x. p (f x)) xs
@@ -59,14 +58,14 @@ named-fresh name xs ys y h =
 pub none-before : {X : Type 0} (p : X → Bool) (xs : List X) → list_any p xs ≡ false → position_or_len p xs ≡ length xs
 none-before p [] h = refl
 none-before p (x ∷ xs) h =
-    let q = neither (p x) (list_any p xs) h in
+    let q = or_parts (p x) (list_any p xs) h in
     let e : 1 + length xs ≡ suc (length xs) = omega arith in
     rw (q.0) (ap (λ n. 1 + n) (none-before p xs q.1) ∙ e)
 
 pub place-seam : {X : Type 0} (p : X → Bool) (xs ys : List X) (y : X) → list_any p xs ≡ false → p y ≡ true → position_or_len p (xs ++ y ∷ ys) ≡ length xs
 place-seam p [] ys y h here = rw here refl
 place-seam p (x ∷ xs) ys y h here =
-    let q = neither (p x) (list_any p xs) h in
+    let q = or_parts (p x) (list_any p xs) h in
     let e : 1 + length xs ≡ suc (length xs) = omega arith in
     rw (q.0) (ap (λ n. 1 + n) (place-seam p xs ys y q.1 here) ∙ e)
 
@@ -98,8 +97,8 @@ name_at-name name named (x ∷ xs) (suc t) inside = name_at-name name named xs t
 
 none-passes : {X : Type 0} (name : X → List ℕ) (p : List ℕ → Bool) (xs : List X) (t : ℕ) → t < length xs → list_any p (map name xs) ≡ false → p (name_at name xs t) ≡ false
 none-passes name p [] t inside none = absurd (omega arith)
-none-passes name p (x ∷ xs) zero inside none = (neither _ _ none).0
-none-passes name p (x ∷ xs) (suc t) inside none = none-passes name p xs t (omega arith) (neither _ _ none).1
+none-passes name p (x ∷ xs) zero inside none = (or_parts _ _ none).0
+none-passes name p (x ∷ xs) (suc t) inside none = none-passes name p xs t (omega arith) (or_parts _ _ none).1
 
 -- where names differ, the first thing of a name is the one that it names
 pub place_of_name : {X : Type 0} (name : X → List ℕ) (xs : List X) (t : ℕ) → t < length xs → is_distinct same_bytes (map name xs) ≡ true
@@ -107,7 +106,7 @@ pub place_of_name : {X : Type 0} (name : X → List ℕ) (xs : List X) (t : ℕ)
 place_of_name name [] t inside distinct = absurd (omega arith)
 place_of_name name (x ∷ xs) zero inside distinct = rw (same-itself (name x)) refl
 place_of_name name (x ∷ xs) (suc t) inside distinct =
-    let p = both _ _ distinct in
+    let p = and_parts _ _ distinct in
     let other : same_bytes (name x) (name_at name xs t) ≡ false = none-passes name (same_bytes (name x)) xs t (omega arith) (not-true _ p.0) in
     let rest : position_or_len (λ y. same_bytes (name y) (name_at name xs t)) xs ≡ t = place_of_name name xs t (omega arith) p.1 in
     rw other (ap (λ k. 1 + k) rest ∙ (let e : 1 + t ≡ suc t = omega arith in e))

@@ -1,5 +1,6 @@
 -- The lines of settings, locks and channels are taken in.
 use Rattle.std.proofs.Common.{◌≡◌, ℕ, ◌<◌, ◌≤◌, ◌^◌, true, false, not, ◌&&◌, ◌||◌, eqb, leb, List, [], ◌∷◌, ◌++◌, length, map, Some, refl, sym, ap, ◌∙◌, subst, arith, append-nil, append_assoc, length-append}
+use Rattle.std.proofs.lemmas.Bool.{and_parts}
 use Rattle.std.specs.Prelude.{codes}
 use Rattle.std.specs.Fmt.{decimal}
 use Rattle.std.specs.List.{list_all, flat_map}
@@ -20,7 +21,6 @@ use Rattle.sd_declare.specs.Statements.{statement_causes, chan_causes, with_chan
 use Rattle.sd_workload.specs.Sound.{AreNamed}
 use Rattle.sd_workload.specs.Texts.{Outside}
 use Rattle.sd_workload.proofs.ClearLemmas.{IsClear}
-use Rattle.sd_workload.proofs.NameLemmas.{both}
 use Rattle.sd_canonical.specs.Lines.{setting_line, lock_word, chan_words}
 use Rattle.sd_canonical.specs.Canonical.{line_text, lock_text, chan_text}
 use Rattle.sd_round_trip.specs.Valid.{count_fits}
@@ -97,7 +97,7 @@ pub takes-lock_lines : (locks : List (Word × LockKind)) (d : Declarations) (all
 takes-lock_lines [] d all named e s =
     subst (λ (x : List (Word × LockKind)). Takes [] d Outside (record d { locks = x }) Outside) (sym (append-nil d.locks) ∙ e) (takes-nothing d Outside)
 takes-lock_lines (x ∷ xs) d all named e s =
-    let h = both (is_name x.0) (list_all (λ (l : Word × LockKind). is_name l.0) xs) named in
+    let h = and_parts (is_name x.0) (list_all (λ (l : Word × LockKind). is_name l.0) xs) named in
     let next : Declarations = with_lock d x.1 x.0 in
     takes-both (kind_text x) (flat_map kind_text xs) d next (record d { locks = all }) Outside Outside Outside
     (takes-line (lock_word x.1) (x.0 ∷ []) (Lock x.1 x.0) d (lock-plain x.1 x.0 h.0) (lock-form x.1 x.0 h.0) (lock-clear d x.1 x.0 xs (subst IsNamed (sym e) s)))
@@ -146,7 +146,7 @@ pub takes-chans : (chans : List (Name × ChanKind)) (d : Declarations) (all : Li
 takes-chans [] d all e fits s =
     subst (λ (x : List (Word × ChanKind)). Takes [] d Outside (record d { chans = x }) Outside) (sym (append-nil d.chans) ∙ e) (takes-nothing d Outside)
 takes-chans (x ∷ xs) d all e fits s =
-    let p = both (count_fits x.1) (list_all (λ (k : Name × ChanKind). count_fits k.1) xs) fits in
+    let p = and_parts (count_fits x.1) (list_all (λ (k : Name × ChanKind). count_fits k.1) xs) fits in
     let next : Declarations = with_chan d x.1 x.0.text.items in
     takes-both (chan_text x) (flat_map chan_text xs) d next (record d { chans = all }) Outside Outside Outside
     (takes-chan x.1 x.0.text.items (map chan_kept xs) d x.0.is_name p.0 (subst IsNamed (sym e) s))

@@ -12,17 +12,16 @@ use Rattle.sd_types.specs.declared.classes.Class.TheVariants as class
 use Rattle.sd_types.specs.declared.scripts.Request.{Request}
 use Rattle.sd_types.specs.NameWords.{is_letter, is_name_byte, is_name}
 use Rattle.sd_types.specs.Works.{same_bytes, quantum_fits, short_fits}
-use Rattle.sd_text.proofs.NumberLemmas.{number_of-decimal}
-use Rattle.std.proofs.lemmas.Bool.{false≢true}
+use Rattle.sd_text.proofs.NumberLemmas.{number_of-decimal, own}
+use Rattle.std.proofs.lemmas.Bool.{false≢true, and_parts}
 use Rattle.std.proofs.lemmas.Bool.Decides.{nat_tests}
 use Rattle.sd_lines.specs.declared.operations.RequestLine.{RequestLine}
 use Rattle.sd_lines.specs.declared.operations.RequestLine.TheVariants.{Ts, Fx, Sys, Rt}
 use Rattle.sd_lines.specs.Words.{Word, first, only_word}
 use Rattle.sd_lines.specs.Operations.{Run, Yield, Nap, Sleep, Wake, WakeAll, Enter, Read, Write, Exit, Prio, CvWait, SemaP, SemaV, Assign, Pbind, ts_request, fx_request, sys_request, rt_request, request_of, priocntl_line, cvwait_line, assign_line, pbind_line, thread_operation, chan_operation, lock_operation, operation_of}
-use Rattle.sd_workload.proofs.NameLemmas.{both}
 use Rattle.sd_canonical.specs.Lines.{asked_words, bound_word}
 use Rattle.sd_round_trip.proofs.TextLemmas.{are_plain, signed-again, signed-plain}
-use Rattle.sd_round_trip.proofs.FormLemmas.{own, quantum_said, quantum-again, is_name_if}
+use Rattle.sd_round_trip.proofs.FormLemmas.{quantum_said, quantum-again, is_name_if}
 use Rattle.sd_round_trip.proofs.ThreadLemmas.{quantum-plain}
 
 -- ---- of numbers
@@ -117,8 +116,8 @@ priocntl-form name class r named h = rw (named, request-form class r h) refl
 pub no-dash : (name : Word) → is_name name ≡ true → same_bytes name (codes "-") ≡ false
 no-dash [] h = absurd (false≢true h)
 no-dash (b ∷ bs) h =
-    let p = both (is_letter b && leb (length (b ∷ bs)) 16) (list_all is_name_byte (b ∷ bs)) h in
-    let letter = (both (is_letter b) (leb (length (b ∷ bs)) 16) p.0).0 in
+    let p = and_parts (is_letter b && leb (length (b ∷ bs)) 16) (list_all is_name_byte (b ∷ bs)) h in
+    let letter = (and_parts (is_letter b) (leb (length (b ∷ bs)) 16) p.0).0 in
     let other : eqb b 45 ≡ false = grind (arith, nat_tests) in
     rw other refl
 
@@ -136,7 +135,7 @@ assign-form c (Some name) small h = rw (number_of-decimal c small, no-dash name 
 no-dash-digits : (word : Word) → all_ascii_digits word ≡ true → same_bytes word (codes "-") ≡ false
 no-dash-digits [] h = refl
 no-dash-digits (b ∷ bs) h =
-    let digit : is_ascii_digit b ≡ true = (both (is_ascii_digit b) _ h).0 in
+    let digit : is_ascii_digit b ≡ true = (and_parts (is_ascii_digit b) _ h).0 in
     let other : eqb b 45 ≡ false = grind (arith, nat_tests) in
     rw other refl
 

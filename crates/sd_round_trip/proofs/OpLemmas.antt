@@ -4,7 +4,7 @@ use Rattle.std.specs.Prelude.{codes, slice_get, int_le}
 use Rattle.std.specs.Option.{option_map}
 use Rattle.std.specs.Fmt.{decimal}
 use Rattle.std.specs.List.{position_or_len}
-use Rattle.std.proofs.lemmas.Bool.{false≢true, lt-ltb, ltb-true, leb-true}
+use Rattle.std.proofs.lemmas.Bool.{false≢true, lt-ltb, ltb-true, leb-true, and_parts}
 use Rattle.std.proofs.lemmas.Bool.Decides.{nat_tests}
 use Rattle.std.proofs.lemmas.Int.{ints}
 use Rattle.std.proofs.lemmas.List.{length-map}
@@ -36,7 +36,6 @@ use Rattle.sd_declare.specs.Causes.{no_causes}
 use Rattle.sd_declare.specs.Kept.{set_kept, lock_kept, chan_kept}
 use Rattle.sd_declare.specs.Operations.{is_request, is_cpu, is_cpu_or_none, unless, operation_causes, request_of, op_of}
 use Rattle.sd_workload.proofs.ClearLemmas.{IsClear}
-use Rattle.sd_workload.proofs.NameLemmas.{both}
 use Rattle.sd_canonical.specs.Lines.{bound_word, operation_line}
 use Rattle.sd_round_trip.proofs.TextLemmas.{is_plain, are_plain, name-plain, number-plain}
 use Rattle.sd_round_trip.proofs.FormLemmas.{is_name_if}
@@ -214,21 +213,21 @@ request-back class.Ts r h = ap (λ (q : Quantum). request class.Ts r.limit r.pri
     request class limit pri quantum = record { class = class; limit = limit; pri = pri; quantum = quantum }
 request-back class.Fx r h = rw (quantum-back r.quantum) refl
 request-back class.Sys r h =
-    let p = both (int_le (pos 0) r.limit && int_le r.limit (pos 0)) (is_def r.quantum) h in
-    let q = both (int_le (pos 0) r.limit) (int_le r.limit (pos 0)) p.0 in
+    let p = and_parts (int_le (pos 0) r.limit && int_le r.limit (pos 0)) (is_def r.quantum) h in
+    let q = and_parts (int_le (pos 0) r.limit) (int_le r.limit (pos 0)) p.0 in
     let e : pos 0 ≡ r.limit = unused-limit r.limit q.0 q.1 in
     let f : quantum.Def ≡ r.quantum = unused-ts r.quantum p.1 in
     cc
 request-back class.Rt r h =
-    let q = both (int_le (pos 0) r.limit) (int_le r.limit (pos 0)) h in
+    let q = and_parts (int_le (pos 0) r.limit) (int_le r.limit (pos 0)) h in
     let e : pos 0 ≡ r.limit = unused-limit r.limit q.0 q.1 in
     rw (quantum-back r.quantum, e) refl
 
 asked : (r : Request) → request_fits r ≡ true → IsAsked r
 asked r h =
-    let p = both (short_fits r.limit && short_fits r.pri && quantum_fits r.quantum) (unused_fit r.class r.limit r.quantum) h in
-    let q = both (short_fits r.limit && short_fits r.pri) (quantum_fits r.quantum) p.0 in
-    let s = both (short_fits r.limit) (short_fits r.pri) q.0 in
+    let p = and_parts (short_fits r.limit && short_fits r.pri && quantum_fits r.quantum) (unused_fit r.class r.limit r.quantum) h in
+    let q = and_parts (short_fits r.limit && short_fits r.pri) (quantum_fits r.quantum) p.0 in
+    let s = and_parts (short_fits r.limit) (short_fits r.pri) q.0 in
     record { limit = s.0; pri = s.1; quantum = q.1 }
 
 in-range : (class : Class) (r : Request) → IsAsked r → is_request (asked_said class r) ≡ true
@@ -360,7 +359,7 @@ module _ (w : Work) (d : Declarations) (n : Names w d) where
   reads-cvwait : (k : ChanId) (l : LockId) → (is_chan (slice_get (map (λ x. x.1) w.chans) k.0) && is_mutex (slice_get (map (λ x. x.1) w.locks) l.0)) ≡ true → IsRead w d (op.CvWait k l)
   unfolding only_word
   reads-cvwait k l h =
-      let p = both (is_chan (slice_get (map (λ x. x.1) w.chans) k.0)) (is_mutex (slice_get (map (λ x. x.1) w.locks) l.0)) h in
+      let p = and_parts (is_chan (slice_get (map (λ x. x.1) w.chans) k.0)) (is_mutex (slice_get (map (λ x. x.1) w.locks) l.0)) h in
       let inside = chan-inside w is_chan k refl p.0 in
       let within = lock-inside w is_mutex l refl p.1 in
       let named = chan-name w k inside in
@@ -376,11 +375,11 @@ module _ (w : Work) (d : Declarations) (n : Names w d) where
   reads-prio : (t : ThreadId) (r : Request) → (ltb t.0 (length w.threads) && request_fits r) ≡ true → IsRead w d (op.Prio t r)
   unfolding only_word
   reads-prio t r h =
-      let p = both (ltb t.0 (length w.threads)) (request_fits r) h in
+      let p = and_parts (ltb t.0 (length w.threads)) (request_fits r) h in
       let inside = ltb-true _ _ p.0 in
       let named = thread-name w t inside in
       let a = asked r p.1 in
-      let unused = (both (short_fits r.limit && short_fits r.pri && quantum_fits r.quantum) (unused_fit r.class r.limit r.quantum) p.1).1 in
+      let unused = (and_parts (short_fits r.limit && short_fits r.pri && quantum_fits r.quantum) (unused_fit r.class r.limit r.quantum) p.1).1 in
       record {
         plain = rw (name-plain (thread_name w t.0) named, request-plain r.class r a) refl;
         inside = refl;
@@ -392,7 +391,7 @@ module _ (w : Work) (d : Declarations) (n : Names w d) where
   reads-assign : (c : CpuId) (s : SetId) → (ltb c.0 w.cpus && leb s.0 (length w.sets)) ≡ true → IsRead w d (op.Assign c s)
   unfolding only_word
   reads-assign c s h =
-      let p = both (ltb c.0 w.cpus) (leb s.0 (length w.sets)) h in
+      let p = and_parts (ltb c.0 w.cpus) (leb s.0 (length w.sets)) h in
       let less = ltb-true _ _ p.0 in
       let most = w.most_cpus in
       let inside = leb-true _ _ p.1 in
@@ -410,7 +409,7 @@ module _ (w : Work) (d : Declarations) (n : Names w d) where
   reads-pbind : (t : ThreadId) (c : Option CpuId) → (ltb t.0 (length w.threads) && bound_fits w.cpus c) ≡ true → IsRead w d (op.Pbind t c)
   unfolding only_word
   reads-pbind t c h =
-      let p = both (ltb t.0 (length w.threads)) (bound_fits w.cpus c) h in
+      let p = and_parts (ltb t.0 (length w.threads)) (bound_fits w.cpus c) h in
       let inside = ltb-true _ _ p.0 in
       let named = thread-name w t inside in
       let small = bound-small w.cpus c w.most_cpus p.1 in

@@ -1,5 +1,6 @@
 -- What is declared by lines of which none is at fault has numbers of users and counts of 16 bits.
 use Rattle.std.proofs.Common.{◌≡◌, ℕ, zero, suc, ◌+◌, Bool, true, false, cond, leb, set, get_or, List, [], ◌∷◌, ◌++◌, Option, Some, None, refl, sym, ap, ◌∙◌, subst}
+use Rattle.std.proofs.lemmas.Bool.{and_parts, not-false}
 use Rattle.std.specs.List.{list_all}
 use Rattle.std.proofs.lemmas.Option.{none-some}
 use Rattle.std.proofs.lemmas.List.Folds.{list_all-append}
@@ -24,7 +25,7 @@ use Rattle.sd_workload.specs.Accepted.{Accepted}
 use Rattle.sd_workload.specs.Texts.{Block, Outside, InTable, InScript, stated_cause, stated, unless_done, with_table, with_script, no_thread, cause_of, declared_after, block_after, end_cause, Verdict, Accepts, unless_refused, judged}
 use Rattle.sd_workload.proofs.ClearLemmas.{clear}
 use Rattle.sd_workload.proofs.FirstLemmas.{apart, same-accepted}
-use Rattle.sd_workload.proofs.NameLemmas.{both, not-false}
+use Rattle.sd_workload.proofs.LineLemmas.{all-push}
 use Rattle.sd_round_trip.specs.Valid.{count_fits, IsValid}
 use Rattle.sd_round_trip.proofs.ListLemmas.{all-map}
 
@@ -38,13 +39,10 @@ record InRange (d : Declarations) : Type 0 where
   uids : list_all user-fits d.threads ≡ true
   counts : list_all kind-fits d.chans ≡ true
 
-push : {X : Type 0} (p : X → Bool) (xs : List X) (x : X) → list_all p xs ≡ true → p x ≡ true → list_all p (xs ++ x ∷ []) ≡ true
-push p xs x all here = list_all-append p xs (x ∷ []) ∙ rw (all, here) refl
-
 -- ---- statements
 
 thread-kept : (d : Declarations) (t : ThreadLine) → least (thread_causes d t) ≡ None → leb t.uid 65535 ≡ true
-thread-kept d t h = (both (is_class t.class) (leb t.uid 65535) (not-false _ (clear (thread_causes d t) h).range)).1
+thread-kept d t h = (and_parts (is_class t.class) (leb t.uid 65535) (not-false _ (clear (thread_causes d t) h).range)).1
 
 sema-kept : (d : Declarations) (name : Word) (n : ℕ) → least (sema_causes d name n) ≡ None → leb n 65535 ≡ true
 sema-kept d name n h = not-false _ (clear (sema_causes d name n) h).range
@@ -56,9 +54,9 @@ statement-kept d (Limit n) h r = record { uids = r.uids; counts = r.counts }
 statement-kept d (Set name cpus) h r = record { uids = r.uids; counts = r.counts }
 statement-kept d (Table class) h r = r
 statement-kept d (Lock k name) h r = record { uids = r.uids; counts = r.counts }
-statement-kept d (Chan name) h r = record { uids = r.uids; counts = push kind-fits d.chans (name, kind.Chan) r.counts refl }
-statement-kept d (Sema name n) h r = record { uids = r.uids; counts = push kind-fits d.chans (name, kind.Sema n) r.counts (sema-kept d name n h) }
-statement-kept d (Declare t) h r = record { uids = push user-fits d.threads (thread_of d t) r.uids (thread-kept d t h); counts = r.counts }
+statement-kept d (Chan name) h r = record { uids = r.uids; counts = all-push kind-fits d.chans (name, kind.Chan) r.counts refl }
+statement-kept d (Sema name n) h r = record { uids = r.uids; counts = all-push kind-fits d.chans (name, kind.Sema n) r.counts (sema-kept d name n h) }
+statement-kept d (Declare t) h r = record { uids = all-push user-fits d.threads (thread_of d t) r.uids (thread-kept d t h); counts = r.counts }
 statement-kept d (Script name) h r = r
 
 stated-kept : (d : Declarations) (o : Option Statement) → stated_cause d o ≡ None → InRange d → InRange (stated d o)
@@ -79,13 +77,13 @@ table-kept d table.Rt lines r = record { uids = r.uids; counts = r.counts }
 
 pub all-set : {X : Type 0} (p : X → Bool) (xs : List X) (i : ℕ) (y : X) → list_all p xs ≡ true → p y ≡ true → list_all p (set xs i y) ≡ true
 all-set p [] i y h here = refl
-all-set p (x ∷ xs) zero y h here = rw (here, (both (p x) (list_all p xs) h).1) refl
-all-set p (x ∷ xs) (suc i) y h here = let q = both (p x) (list_all p xs) h in rw (q.0, all-set p xs i y q.1 here) refl
+all-set p (x ∷ xs) zero y h here = rw (here, (and_parts (p x) (list_all p xs) h).1) refl
+all-set p (x ∷ xs) (suc i) y h here = let q = and_parts (p x) (list_all p xs) h in rw (q.0, all-set p xs i y q.1 here) refl
 
 all-get : {X : Type 0} (p : X → Bool) (xs : List X) (i : ℕ) (d : X) → list_all p xs ≡ true → p d ≡ true → p (get_or xs i d) ≡ true
 all-get p [] i d h here = here
-all-get p (x ∷ xs) zero d h here = (both (p x) (list_all p xs) h).0
-all-get p (x ∷ xs) (suc i) d h here = all-get p xs i d (both (p x) (list_all p xs) h).1 here
+all-get p (x ∷ xs) zero d h here = (and_parts (p x) (list_all p xs) h).0
+all-get p (x ∷ xs) (suc i) d h here = all-get p xs i d (and_parts (p x) (list_all p xs) h).1 here
 
 script-kept : (d : Declarations) (t : ThreadId) (ops : List Op) → InRange d → InRange (with_script d t ops)
 script-kept d t ops r = record {

@@ -3,7 +3,7 @@ use Rattle.std.proofs.Common.{◌≡◌, ℕ, suc, ◌+◌, ◌<◌, ◌≤◌, 
 use Rattle.std.specs.Prelude.{codes, slice_get, nat_lt}
 use Rattle.std.specs.Option.{option_map}
 use Rattle.std.specs.List.{list_all}
-use Rattle.std.proofs.lemmas.Bool.{false≢true}
+use Rattle.std.proofs.lemmas.Bool.{false≢true, and_parts}
 use Rattle.std.proofs.lemmas.Bool.Decides.{nat_tests}
 use Rattle.sd_types.specs.declared.numbers.LockId.{LockId}
 use Rattle.sd_types.specs.declared.numbers.ChanId.{ChanId}
@@ -25,7 +25,6 @@ use Rattle.sd_declare.specs.Operations.{operation_causes, op_of, ops_of_op}
 use Rattle.sd_workload.specs.Scripts.{first_of, fault_behind, more_fault, ops_fault, end_fault}
 use Rattle.sd_workload.specs.Texts.{Outside, InScript, unless_done, operation_cause, ops_of, with_script}
 use Rattle.sd_workload.proofs.ScriptLemmas.{script-on, script-close}
-use Rattle.sd_workload.proofs.NameLemmas.{both}
 use Rattle.sd_canonical.specs.Lines.{operation_line, operation_lines}
 use Rattle.sd_canonical.specs.Canonical.{line_text, lines_text}
 use Rattle.sd_round_trip.proofs.TextLemmas.{line-again}
@@ -189,7 +188,7 @@ module _ (w : Work) (d : Declarations) (n : Names w d) (t : ThreadId) where
       let k = p.0 in
       let l = p.1 in
       let here : op_fits (held_by front) (CvWait k l) (slice_get back 0) ≡ true = fits-here front back (CvWait k l) (subst (λ (x : Op). EachOpFits (front ++ x ∷ back)) p.2 fits) in
-      let q = entered l back (both (is_held l (held_by front)) (enters l (slice_get back 0)) here).1 in
+      let q = entered l back (and_parts (is_held l (held_by front)) (enters l (slice_get back 0)) here).1 in
       subst (λ (x : Op). Takes (line_text (operation_line w x) ++ lines_text (operation_lines w true back)) d (InScript t front) d (InScript t (front ++ x ∷ back))) (sym p.2)
       (takes-wait k l back q.0 front q.1 (subst (λ (x : Op). op_names (declared_by w) x ≡ true) p.2 name) names
       (subst (λ (x : Op). EachOpFits (front ++ x ∷ back)) p.2 fits) (subst (λ (x : Op). length (front ++ x ∷ back) ≤ 256) p.2 short) rest)
@@ -198,10 +197,10 @@ module _ (w : Work) (d : Declarations) (n : Names w d) (t : ThreadId) where
   takes-ops [] false front names fits short = subst (λ (x : List Op). Takes [] d (InScript t front) d (InScript t x)) (sym (append-nil front)) (takes-nothing d (InScript t front))
   takes-ops [] true front names fits short = subst (λ (x : List Op). Takes [] d (InScript t front) d (InScript t x)) (sym (append-nil front)) (takes-nothing d (InScript t front))
   takes-ops (o ∷ back) false front names fits short =
-      let p = both (op_names (declared_by w) o) (list_all (op_names (declared_by w)) back) names in
+      let p = and_parts (op_names (declared_by w) o) (list_all (op_names (declared_by w)) back) names in
       takes-step o back front (is_wait o) refl p.0 p.1 fits short (takes-ops back)
   takes-ops (o ∷ back) true front names fits short =
-      let p = both (op_names (declared_by w) o) (list_all (op_names (declared_by w)) back) names in
+      let p = and_parts (op_names (declared_by w) o) (list_all (op_names (declared_by w)) back) names in
       let next = front ++ o ∷ [] in
       let e : next ++ back ≡ front ++ o ∷ back = append_assoc front (o ∷ []) back in
       subst (λ (l : List Op). Takes (lines_text (operation_lines w false back)) d (InScript t next) d (InScript t l)) e

@@ -2,7 +2,7 @@
 use Rattle.std.proofs.Common.{◌≡◌, ℕ, ◌<◌, ◌≤◌, Bool, true, false, not, eqb, ltb, set, get_or, List, [], ◌∷◌, ◌++◌, length, map, refl, sym, ap, ◌∙◌, subst, arith, append-nil, append_assoc, length-append}
 use Rattle.std.specs.Prelude.{codes}
 use Rattle.std.specs.List.{list_all, list_any, position_or_len, flat_map}
-use Rattle.std.proofs.lemmas.Bool.{lt-ltb, ltb-true}
+use Rattle.std.proofs.lemmas.Bool.{lt-ltb, ltb-true, and_parts}
 use Rattle.std.proofs.lemmas.Bool.Decides.{nat_tests}
 use Rattle.std.proofs.lemmas.List.{length-map, map-append}
 use Rattle.std.proofs.lemmas.List.Folds.{list_all-append}
@@ -19,7 +19,6 @@ use Rattle.sd_declare.specs.Kept.{set_kept, lock_kept, chan_kept, thread_kept}
 use Rattle.sd_declare.specs.Statements.{statement_causes}
 use Rattle.sd_workload.specs.Texts.{Outside, InScript, with_script, no_thread}
 use Rattle.sd_workload.proofs.ClearLemmas.{IsClear}
-use Rattle.sd_workload.proofs.NameLemmas.{both}
 use Rattle.sd_canonical.specs.Lines.{operation_lines}
 use Rattle.sd_canonical.specs.Canonical.{line_text, lines_text, script_text}
 use Rattle.sd_canonical.proofs.LineLemmas.{script_text_none, script_text_parts}
@@ -75,14 +74,14 @@ next-number w front back x d p =
 pub none-given : (n : ℕ) (ids : List ThreadId) → are_before n ids ≡ true → list_any (λ t. eqb t.0 n) ids ≡ false
 none-given n [] h = refl
 none-given n (t ∷ ts) h =
-    let p = both (ltb t.0 n) (are_before n ts) h in
+    let p = and_parts (ltb t.0 n) (are_before n ts) h in
     let other : eqb t.0 n ≡ false = grind (arith, nat_tests, p.0) in
     rw other (none-given n ts p.1)
 
 pub before-more : (n m : ℕ) (ids : List ThreadId) → n ≤ m → are_before n ids ≡ true → are_before m ids ≡ true
 before-more n m [] le h = refl
 before-more n m (t ∷ ts) le h =
-    let p = both (ltb t.0 n) (are_before n ts) h in
+    let p = and_parts (ltb t.0 n) (are_before n ts) h in
     let here : ltb t.0 m ≡ true = grind (arith, nat_tests, p.0) in
     rw here (before-more n m ts le p.1)
 
@@ -211,7 +210,7 @@ pub takes-scripts : (w : Work) (back front : List ThreadDecl) (d : Declarations)
     → AllGiven w (flat_map (script_text w) back) d
 takes-scripts w [] front d names p = given-all w front d p
 takes-scripts w (x ∷ back) front d names p =
-    let h = both (list_all (op_names (declared_by w)) x.script.ops) (list_all (λ (t : ThreadDecl). list_all (op_names (declared_by w)) t.script.ops) back) names in
+    let h = and_parts (list_all (op_names (declared_by w)) x.script.ops) (list_all (λ (t : ThreadDecl). list_all (op_names (declared_by w)) t.script.ops) back) names in
     takes-next w front back x d p h.0 (ltb 0 (length x.script.ops)) refl
     (λ q. takes-scripts w back (front ++ x ∷ []) (given d front back x) h.1 q)
     (λ q. takes-scripts w back (front ++ x ∷ []) d h.1 q)

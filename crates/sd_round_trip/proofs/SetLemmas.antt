@@ -2,7 +2,7 @@
 use Rattle.std.proofs.Common.{◌≡◌, ℕ, ◌+◌, ◌<◌, ◌≤◌, Bool, true, false, not, ◌&&◌, ◌||◌, ltb, leb, List, [], ◌∷◌, ◌++◌, length, map, refl, sym, ap, ◌∙◌, subst, arith, append-nil, append_assoc, length-append}
 use Rattle.std.specs.Prelude.{codes, nat_eq}
 use Rattle.std.specs.List.{list_any, list_all, flat_map}
-use Rattle.std.proofs.lemmas.Bool.{false≢true}
+use Rattle.std.proofs.lemmas.Bool.{false≢true, and_parts, or_parts, not-true, and_right}
 use Rattle.std.proofs.lemmas.Bool.Decides.{nat_tests}
 use Rattle.std.proofs.lemmas.List.{length-map}
 use Rattle.std.proofs.lemmas.List.Concat.{flat_map-append, length-flat_map}
@@ -20,7 +20,6 @@ use Rattle.sd_declare.specs.Statements.{is_named, is_taken, statement_causes}
 use Rattle.sd_workload.specs.Sound.{named_cpus, set_is_sound, AreSets, AreNamed}
 use Rattle.sd_workload.specs.Texts.{Outside}
 use Rattle.sd_workload.proofs.ClearLemmas.{IsClear}
-use Rattle.sd_workload.proofs.NameLemmas.{both, neither, not-true}
 use Rattle.sd_canonical.specs.Lines.{cpu_words}
 use Rattle.sd_canonical.specs.Canonical.{line_text, set_text}
 use Rattle.sd_round_trip.proofs.TextLemmas.{are_plain, name-plain, number-plain}
@@ -45,21 +44,21 @@ cpus-back (c ∷ cs) = ap (λ l. c ∷ l) (cpus-back cs)
 cpus-plain : (cs : List CpuId) → are_cpus cs ≡ true → are_plain (cpu_words cs) ≡ true
 cpus-plain [] h = refl
 cpus-plain (c ∷ cs) h =
-    let p = both (ltb c.0 64) (are_cpus cs) h in
+    let p = and_parts (ltb c.0 64) (are_cpus cs) h in
     let few : c.0 < 64 = grind (arith, nat_tests, p.0) in
     rw (number-plain c.0 (omega arith), cpus-plain cs p.1) refl
 
 fewer : (a b : ℕ) (cs : List CpuId) → a ≤ b → list_all (λ c. ltb c.0 a) cs ≡ true → list_all (λ c. ltb c.0 b) cs ≡ true
 fewer a b [] le h = refl
 fewer a b (c ∷ cs) le h =
-    let p = both (ltb c.0 a) (list_all (λ (x : CpuId). ltb x.0 a) cs) h in
+    let p = and_parts (ltb c.0 a) (list_all (λ (x : CpuId). ltb x.0 a) cs) h in
     let here : ltb c.0 b ≡ true = grind (arith, nat_tests, p.0) in
     rw here (fewer a b cs le p.1)
 
 none-beyond : (n : ℕ) (cs : List CpuId) → list_all (λ c. ltb c.0 n) cs ≡ true → list_any (λ c. leb n c) (numbers cs) ≡ false
 none-beyond n [] h = refl
 none-beyond n (c ∷ cs) h =
-    let p = both (ltb c.0 n) (list_all (λ (x : CpuId). ltb x.0 n) cs) h in
+    let p = and_parts (ltb c.0 n) (list_all (λ (x : CpuId). ltb x.0 n) cs) h in
     let here : leb n c.0 ≡ false = grind (arith, nat_tests, p.0) in
     rw here (none-beyond n cs p.1)
 
@@ -74,7 +73,7 @@ none-named d front (c ∷ cs) more h =
     let whole = named_cpus d.sets ++ front in
     let e : named_cpus d.sets ++ (front ++ (c ∷ (cs ++ more))) ≡ whole ++ c ∷ (cs ++ more) = sym (append_assoc (named_cpus d.sets) front (c ∷ (cs ++ more))) in
     let far = fresh same_cpu whole (cs ++ more) c (sym (ap (is_distinct same_cpu) e) ∙ h) in
-    let here = neither (list_any (λ (x : CpuId). nat_eq x.0 c.0) (named_cpus d.sets)) (list_any (λ (x : CpuId). nat_eq x.0 c.0) front) (sym (list_any-append (λ (x : CpuId). nat_eq x.0 c.0) (named_cpus d.sets) front) ∙ far) in
+    let here = or_parts (list_any (λ (x : CpuId). nat_eq x.0 c.0) (named_cpus d.sets)) (list_any (λ (x : CpuId). nat_eq x.0 c.0) front) (sym (list_any-append (λ (x : CpuId). nat_eq x.0 c.0) (named_cpus d.sets) front) ∙ far) in
     let this : is_named d c.0 ≡ false = sym (in-sets d.sets c.0) ∙ here.0 in
     let next : named_cpus d.sets ++ ((front ++ c ∷ []) ++ (cs ++ more)) ≡ named_cpus d.sets ++ (front ++ (c ∷ (cs ++ more))) = ap (λ l. named_cpus d.sets ++ l) (append_assoc front (c ∷ []) (cs ++ more)) in
     rw this (none-named d (front ++ c ∷ []) cs more (ap (is_distinct same_cpu) next ∙ h))
@@ -82,7 +81,7 @@ none-named d front (c ∷ cs) more h =
 numbers-differ : (cs : List CpuId) → is_distinct same_cpu cs ≡ true → is_distinct (λ a b. nat_eq a b) (numbers cs) ≡ true
 numbers-differ [] h = refl
 numbers-differ (c ∷ cs) h =
-    let p = both (not (list_any (same_cpu c) cs)) (is_distinct same_cpu cs) h in
+    let p = and_parts (not (list_any (same_cpu c) cs)) (is_distinct same_cpu cs) h in
     let e : list_any (λ b. nat_eq c.0 b) (numbers cs) ≡ false = any-map (λ b. nat_eq c.0 b) (λ (x : CpuId). x.0) cs ∙ not-true _ p.0 in
     rw (e, numbers-differ cs p.1) refl
 
@@ -104,15 +103,11 @@ some-numbers : (cs : List CpuId) → ltb 0 (length cs) ≡ true → nat_eq (leng
 some-numbers [] h = absurd (false≢true h)
 some-numbers (c ∷ cs) h = grind (arith, nat_tests)
 
-both-false : (a b : Bool) → b ≡ false → (a && b) ≡ false
-both-false true b h = h
-both-false false b h = refl
-
 set-clear : (d : Declarations) (name : Word) (cs : List CpuId) (rest : List (Word × List CpuId)) → IsSets (cpu_count d) (d.sets ++ (name, cs) ∷ rest)
     → IsClear (statement_causes d (Set name (numbers cs)))
 unfolding set_place
 set-clear d name cs rest s =
-    let fit = both (ltb 0 (length cs)) (list_all (λ (c : CpuId). ltb c.0 (cpu_count d)) cs) (all-at (set_is_sound (cpu_count d)) d.sets rest (name, cs) s.sets.fit) in
+    let fit = and_parts (ltb 0 (length cs)) (list_all (λ (c : CpuId). ltb c.0 (cpu_count d)) cs) (all-at (set_is_sound (cpu_count d)) d.sets rest (name, cs) s.sets.fit) in
     let few = s.few in
     let long = length-append d.sets ((name, cs) ∷ rest) in
     record {
@@ -120,14 +115,14 @@ set-clear d name cs rest s =
       unknown = refl;
       twice = not-under _ _ (none-before (λ (x : Word × List CpuId). same_bytes x.0 name) d.sets (named-fresh (λ (x : Word × List CpuId). x.0) d.sets rest (name, cs) s.names));
       range = none-beyond (cpu_count d) cs fit.1;
-      sets = both-false _ _ (not-taken d name cs rest s.sets);
+      sets = and_right _ _ (not-taken d name cs rest s.sets);
       limits = under (length d.sets) 8 (omega arith);
     }
 
 takes-set : (name : Word) (cs : List CpuId) (rest : List (Word × List CpuId)) (d : Declarations) → is_name name ≡ true → IsSets (cpu_count d) (d.sets ++ (name, cs) ∷ rest)
     → Takes (line_text (codes "set" ∷ name ∷ cpu_words cs)) d Outside (record d { sets = d.sets ++ (name, cs) ∷ [] }) Outside
 takes-set name cs rest d named s =
-    let fit = both (ltb 0 (length cs)) (list_all (λ (c : CpuId). ltb c.0 (cpu_count d)) cs) (all-at (set_is_sound (cpu_count d)) d.sets rest (name, cs) s.sets.fit) in
+    let fit = and_parts (ltb 0 (length cs)) (list_all (λ (c : CpuId). ltb c.0 (cpu_count d)) cs) (all-at (set_is_sound (cpu_count d)) d.sets rest (name, cs) s.sets.fit) in
     let small : are_cpus cs ≡ true = fewer (cpu_count d) 64 cs s.most fit.1 in
     let plain : are_plain (codes "set" ∷ name ∷ cpu_words cs) ≡ true = rw (name-plain name named, cpus-plain cs small) refl in
     subst (λ (l : List CpuId). Takes (line_text (codes "set" ∷ name ∷ cpu_words cs)) d Outside (record d { sets = d.sets ++ (name, l) ∷ [] }) Outside) (cpus-back cs)

@@ -2,7 +2,7 @@
 use Rattle.std.proofs.Common.{◌≡◌, ℕ, ℤ, pos, negsuc, suc, ◌<◌, ◌≤◌, ◌^◌, Bool, true, not, ◌&&◌, ltb, leb, List, [], ◌∷◌, ◌++◌, length, map, Some, refl, sym, ap, ◌∙◌, arith, append-nil, append_assoc}
 use Rattle.std.specs.Fmt.{decimal, signed_decimal}
 use Rattle.std.specs.List.{list_all, join_with_byte}
-use Rattle.std.proofs.lemmas.Bool.{false≢true, lt-ltb}
+use Rattle.std.proofs.lemmas.Bool.{false≢true, lt-ltb, and_parts}
 use Rattle.std.proofs.lemmas.Bool.Decides.{nat_tests}
 use Rattle.std.proofs.lemmas.Int.{ints}
 use Rattle.std.proofs.lemmas.List.Folds.{list_all-append}
@@ -11,7 +11,7 @@ use Rattle.sd_types.specs.Works.{short_fits, upri_fits}
 use Rattle.sd_text.specs.Lines.{is_newline, is_line}
 use Rattle.sd_text.specs.Words.{ends_word, is_word, words_of}
 use Rattle.sd_text.specs.Numbers.{signed_of}
-use Rattle.sd_text.proofs.LineLemmas.{both, lines_of-line}
+use Rattle.sd_text.proofs.LineLemmas.{lines_of-line}
 use Rattle.sd_text.proofs.WordLemmas.{words_of-joined}
 use Rattle.sd_text.proofs.NumberLemmas.{signed_of-decimal, signed_of-negative, is_word-decimal, is_line-decimal}
 use Rattle.sd_tables.specs.TableText.{word_lines}
@@ -35,22 +35,22 @@ joined (word ∷ next ∷ words) = ap (λ l. word ++ (32 ∷ l)) (joined (next �
 are-words : (words : Line) → are_plain words ≡ true → list_all is_word words ≡ true
 are-words [] h = refl
 are-words (word ∷ words) h =
-    let p = both (is_plain word) (are_plain words) h in
-    let q = both (is_word word) (is_line word) p.0 in
+    let p = and_parts (is_plain word) (are_plain words) h in
+    let q = and_parts (is_word word) (is_line word) p.0 in
     rw (q.0, are-words words p.1) refl
 
 spaced-line : (words : Line) → are_plain words ≡ true → is_line (spaced words) ≡ true
 spaced-line [] h = refl
 spaced-line (word ∷ words) h =
-    let p = both (is_plain word) (are_plain words) h in
-    let q = both (is_word word) (is_line word) p.0 in
+    let p = and_parts (is_plain word) (are_plain words) h in
+    let q = and_parts (is_word word) (is_line word) p.0 in
     list_all-append (λ byte. not (is_newline byte)) (32 ∷ word) (spaced words) ∙ rw (q.1, spaced-line words p.1) refl
 
 text-line : (words : Line) → are_plain words ≡ true → is_line (words_text words) ≡ true
 text-line [] h = refl
 text-line (word ∷ words) h =
-    let p = both (is_plain word) (are_plain words) h in
-    let q = both (is_word word) (is_line word) p.0 in
+    let p = and_parts (is_plain word) (are_plain words) h in
+    let q = and_parts (is_word word) (is_line word) p.0 in
     list_all-append (λ byte. not (is_newline byte)) word (spaced words) ∙ rw (q.1, spaced-line words p.1) refl
 
 words-again : (words : Line) → are_plain words ≡ true → words_of (words_text words) ≡ words
@@ -73,7 +73,7 @@ byte-plain b h = (grind (arith, nat_tests), grind (arith, nat_tests))
 bytes-plain : (bs : List ℕ) → list_all is_name_byte bs ≡ true → (list_all (λ b. not (ends_word b)) bs ≡ true) × (is_line bs ≡ true)
 bytes-plain [] h = (refl, refl)
 bytes-plain (b ∷ bs) h =
-    let p = both _ _ h in
+    let p = and_parts _ _ h in
     let q = byte-plain b p.0 in
     let r = bytes-plain bs p.1 in
     (rw (q.0) (r.0), rw (q.1) (r.1))
@@ -81,7 +81,7 @@ bytes-plain (b ∷ bs) h =
 pub name-plain : (name : Word) → is_name name ≡ true → is_plain name ≡ true
 name-plain [] h = absurd (false≢true h)
 name-plain (b ∷ bs) h =
-    let p = both (is_letter b && leb (length (b ∷ bs)) 16) (list_all is_name_byte (b ∷ bs)) h in
+    let p = and_parts (is_letter b && leb (length (b ∷ bs)) 16) (list_all is_name_byte (b ∷ bs)) h in
     let some : ltb 0 (length (b ∷ bs)) ≡ true = lt-ltb _ _ (omega arith) in
     let q = bytes-plain (b ∷ bs) p.1 in
     rw (some, q.0, q.1) refl
@@ -97,8 +97,8 @@ number-plain n h = rw (is_word-decimal n h, is_line-decimal n h) refl
 -- a negative number is one word too
 dashed-plain : (word : Word) → is_plain word ≡ true → is_plain (45 ∷ word) ≡ true
 dashed-plain word h =
-    let p = both (is_word word) (is_line word) h in
-    let q = both (ltb 0 (length word)) (list_all (λ b. not (ends_word b)) word) p.0 in
+    let p = and_parts (is_word word) (is_line word) h in
+    let q = and_parts (ltb 0 (length word)) (list_all (λ b. not (ends_word b)) word) p.0 in
     let some : ltb 0 (length (45 ∷ word)) ≡ true = lt-ltb _ _ (omega arith) in
     rw (some, q.1, p.1) refl
 

@@ -4,7 +4,7 @@ use Rattle.std.specs.Prelude.{codes, nat_eq, int_le}
 use Rattle.std.specs.Int.{int_min}
 use Rattle.std.specs.Fmt.{decimal}
 use Rattle.std.specs.List.{list_all, flat_map}
-use Rattle.std.proofs.lemmas.Bool.{lt-ltb, le-leb, leb-true}
+use Rattle.std.proofs.lemmas.Bool.{lt-ltb, le-leb, leb-true, and_parts}
 use Rattle.std.proofs.lemmas.Bool.Decides.{nat_tests}
 use Rattle.std.proofs.lemmas.Int.{ints}
 use Rattle.std.proofs.lemmas.List.{length-map}
@@ -27,7 +27,6 @@ use Rattle.sd_declare.specs.Kept.{set_kept, thread_kept}
 use Rattle.sd_declare.specs.Statements.{is_quantum, is_class, quantum_of, parms_of, cpupri_of, thread_of, statement_causes, with_thread}
 use Rattle.sd_workload.specs.Texts.{Outside}
 use Rattle.sd_workload.proofs.ClearLemmas.{IsClear}
-use Rattle.sd_workload.proofs.NameLemmas.{both}
 use Rattle.sd_canonical.specs.Lines.{class_words, quantum_word, priv_words, in_words, option_words}
 use Rattle.sd_canonical.specs.Canonical.{line_text, thread_text}
 use Rattle.sd_round_trip.proofs.TextLemmas.{is_plain, are_plain, name-plain, number-plain, signed-plain, upri-short}
@@ -93,12 +92,12 @@ least-upri upri limit h = grind (arith, nat_tests, ints)
 
 class-back : (class : ClassParms) (cpupri : ℕ) → class_fits class cpupri ≡ true → parms_of (class_said class cpupri) ≡ class
 class-back (parms.Ts limit upri) cpupri h =
-    let p = both (upri_fits limit && upri_fits upri && int_le upri limit) (leb cpupri 59) h in
-    let q = both (upri_fits limit && upri_fits upri) (int_le upri limit) p.0 in
+    let p = and_parts (upri_fits limit && upri_fits upri && int_le upri limit) (leb cpupri 59) h in
+    let q = and_parts (upri_fits limit && upri_fits upri) (int_le upri limit) p.0 in
     ap (λ (u : ℤ). parms.Ts limit u) (least-upri upri limit q.1)
 class-back (parms.Fx limit pri q) cpupri h =
-    let p = both (leb limit 60 && leb pri limit && quantum_fits q) (nat_eq cpupri 0) h in
-    let r = both (leb limit 60 && leb pri limit) (quantum_fits q) p.0 in
+    let p = and_parts (leb limit 60 && leb pri limit && quantum_fits q) (nat_eq cpupri 0) h in
+    let r = and_parts (leb limit 60 && leb pri limit) (quantum_fits q) p.0 in
     let least : min pri limit ≡ pri = grind (arith, nat_tests, r.0) in
     rw (least, quantum-back q) refl
 class-back (parms.Sys pri) cpupri h = refl
@@ -109,49 +108,49 @@ is-zero n h = grind (arith, nat_tests)
 
 cpupri-back : (class : ClassParms) (cpupri : ℕ) → class_fits class cpupri ≡ true → cpupri_of (class_said class cpupri) ≡ cpupri
 cpupri-back (parms.Ts limit upri) cpupri h = refl
-cpupri-back (parms.Fx limit pri q) cpupri h = is-zero cpupri (both (leb limit 60 && leb pri limit && quantum_fits q) (nat_eq cpupri 0) h).1
-cpupri-back (parms.Sys pri) cpupri h = is-zero cpupri (both (leb 60 pri && leb pri 99) (nat_eq cpupri 0) h).1
-cpupri-back (parms.Rt pri q) cpupri h = is-zero cpupri (both (leb pri 59 && quantum_fits q) (nat_eq cpupri 0) h).1
+cpupri-back (parms.Fx limit pri q) cpupri h = is-zero cpupri (and_parts (leb limit 60 && leb pri limit && quantum_fits q) (nat_eq cpupri 0) h).1
+cpupri-back (parms.Sys pri) cpupri h = is-zero cpupri (and_parts (leb 60 pri && leb pri 99) (nat_eq cpupri 0) h).1
+cpupri-back (parms.Rt pri q) cpupri h = is-zero cpupri (and_parts (leb pri 59 && quantum_fits q) (nat_eq cpupri 0) h).1
 
 pub is-class : (class : ClassParms) (cpupri : ℕ) → class_fits class cpupri ≡ true → is_class (class_said class cpupri) ≡ true
 is-class (parms.Ts limit upri) cpupri h =
-    let p = both (upri_fits limit && upri_fits upri && int_le upri limit) (leb cpupri 59) h in
-    let q = both (upri_fits limit && upri_fits upri) (int_le upri limit) p.0 in
-    let r = both (upri_fits limit) (upri_fits upri) q.0 in
+    let p = and_parts (upri_fits limit && upri_fits upri && int_le upri limit) (leb cpupri 59) h in
+    let q = and_parts (upri_fits limit && upri_fits upri) (int_le upri limit) p.0 in
+    let r = and_parts (upri_fits limit) (upri_fits upri) q.0 in
     rw (p.1, r.0, r.1) refl
 is-class (parms.Fx limit pri q) cpupri h =
-    let p = both (leb limit 60 && leb pri limit && quantum_fits q) (nat_eq cpupri 0) h in
-    let r = both (leb limit 60 && leb pri limit) (quantum_fits q) p.0 in
-    let s = both (leb limit 60) (leb pri limit) r.0 in
+    let p = and_parts (leb limit 60 && leb pri limit && quantum_fits q) (nat_eq cpupri 0) h in
+    let r = and_parts (leb limit 60 && leb pri limit) (quantum_fits q) p.0 in
+    let s = and_parts (leb limit 60) (leb pri limit) r.0 in
     let most : leb pri 60 ≡ true = grind (arith, nat_tests, s.0, s.1) in
     rw (s.0, most, is-quantum q r.1) refl
-is-class (parms.Sys pri) cpupri h = (both (leb 60 pri && leb pri 99) (nat_eq cpupri 0) h).0
+is-class (parms.Sys pri) cpupri h = (and_parts (leb 60 pri && leb pri 99) (nat_eq cpupri 0) h).0
 is-class (parms.Rt pri q) cpupri h =
-    let p = both (leb pri 59 && quantum_fits q) (nat_eq cpupri 0) h in
-    let r = both (leb pri 59) (quantum_fits q) p.0 in
+    let p = and_parts (leb pri 59 && quantum_fits q) (nat_eq cpupri 0) h in
+    let r = and_parts (leb pri 59) (quantum_fits q) p.0 in
     rw (r.0, is-quantum q r.1) refl
 
 pub class-plain : (class : ClassParms) (cpupri : ℕ) → class_fits class cpupri ≡ true → are_plain (class_words class cpupri) ≡ true
 class-plain (parms.Ts limit upri) cpupri h =
-    let p = both (upri_fits limit && upri_fits upri && int_le upri limit) (leb cpupri 59) h in
-    let q = both (upri_fits limit && upri_fits upri) (int_le upri limit) p.0 in
-    let r = both (upri_fits limit) (upri_fits upri) q.0 in
+    let p = and_parts (upri_fits limit && upri_fits upri && int_le upri limit) (leb cpupri 59) h in
+    let q = and_parts (upri_fits limit && upri_fits upri) (int_le upri limit) p.0 in
+    let r = and_parts (upri_fits limit) (upri_fits upri) q.0 in
     let small : cpupri ≤ 59 = grind (arith, nat_tests, p.1) in
     rw (number-plain cpupri (omega arith), signed-plain limit (upri-short limit r.0), signed-plain upri (upri-short upri r.1)) refl
 class-plain (parms.Fx limit pri q) cpupri h =
-    let p = both (leb limit 60 && leb pri limit && quantum_fits q) (nat_eq cpupri 0) h in
-    let r = both (leb limit 60 && leb pri limit) (quantum_fits q) p.0 in
-    let s = both (leb limit 60) (leb pri limit) r.0 in
+    let p = and_parts (leb limit 60 && leb pri limit && quantum_fits q) (nat_eq cpupri 0) h in
+    let r = and_parts (leb limit 60 && leb pri limit) (quantum_fits q) p.0 in
+    let s = and_parts (leb limit 60) (leb pri limit) r.0 in
     let most : limit ≤ 60 = grind (arith, nat_tests, s.0) in
     let less : pri ≤ limit = grind (arith, nat_tests, s.1) in
     rw (number-plain limit (omega arith), number-plain pri (omega arith), quantum-plain q r.1) refl
 class-plain (parms.Sys pri) cpupri h =
-    let p = both (leb 60 pri && leb pri 99) (nat_eq cpupri 0) h in
-    let most : pri ≤ 99 = grind (arith, nat_tests, (both (leb 60 pri) (leb pri 99) p.0).1) in
+    let p = and_parts (leb 60 pri && leb pri 99) (nat_eq cpupri 0) h in
+    let most : pri ≤ 99 = grind (arith, nat_tests, (and_parts (leb 60 pri) (leb pri 99) p.0).1) in
     rw (number-plain pri (omega arith)) refl
 class-plain (parms.Rt pri q) cpupri h =
-    let p = both (leb pri 59 && quantum_fits q) (nat_eq cpupri 0) h in
-    let r = both (leb pri 59) (quantum_fits q) p.0 in
+    let p = and_parts (leb pri 59 && quantum_fits q) (nat_eq cpupri 0) h in
+    let r = and_parts (leb pri 59) (quantum_fits q) p.0 in
     let most : pri ≤ 59 = grind (arith, nat_tests, r.0) in
     rw (number-plain pri (omega arith), quantum-plain q r.1) refl
 
@@ -239,9 +238,9 @@ pub takes-threads : (w : Work) (ts : List ThreadDecl) (d : Declarations) (all : 
 takes-threads w [] d all e fits uids sets s =
     subst (λ (x : List Thread). Takes [] d Outside (record d { threads = x }) Outside) (sym (append-nil d.threads) ∙ e) (takes-nothing d Outside)
 takes-threads w (t ∷ ts) d all e fits uids sets s =
-    let p = both (class_fits t.class t.cpupri && leb t.set.0 (length w.sets)) (list_all (λ (x : ThreadDecl). class_fits x.class x.cpupri && leb x.set.0 (length w.sets)) ts) fits in
-    let q = both (class_fits t.class t.cpupri) (leb t.set.0 (length w.sets)) p.0 in
-    let u = both (leb t.uid 65535) (list_all (λ (x : ThreadDecl). leb x.uid 65535) ts) uids in
+    let p = and_parts (class_fits t.class t.cpupri && leb t.set.0 (length w.sets)) (list_all (λ (x : ThreadDecl). class_fits x.class x.cpupri && leb x.set.0 (length w.sets)) ts) fits in
+    let q = and_parts (class_fits t.class t.cpupri) (leb t.set.0 (length w.sets)) p.0 in
+    let u = and_parts (leb t.uid 65535) (list_all (λ (x : ThreadDecl). leb x.uid 65535) ts) uids in
     let f : Fits w t = record { class = q.0; set = leb-true _ _ q.1; uid = leb-true _ _ u.0 } in
     let next : Declarations = record d { threads = d.threads ++ bare_kept t ∷ [] } in
     takes-both (thread_text w t) (flat_map (thread_text w) ts) d next (record d { threads = all }) Outside Outside Outside

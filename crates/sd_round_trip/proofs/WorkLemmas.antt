@@ -1,5 +1,6 @@
 -- The whole canonical spelling is accepted as the workload.
 use Rattle.std.proofs.Common.{◌≡◌, ℕ, ◌*◌, ◌<◌, ◌≤◌, Bool, true, false, ◌&&◌, leb, List, [], ◌∷◌, length, map, Some, None, refl, sym, ap, ◌∙◌, subst, arith, append-nil}
+use Rattle.std.proofs.lemmas.Bool.{and_parts}
 use Rattle.std.specs.Prelude.{codes, nat_lt}
 use Rattle.std.specs.List.{list_all, flat_map, sum_by}
 use Rattle.std.proofs.lemmas.Bool.Decides.{nat_tests}
@@ -25,7 +26,7 @@ use Rattle.sd_workload.specs.Accepted.{Accepted, IsWork}
 use Rattle.sd_workload.specs.Sound.{named_cpus}
 use Rattle.sd_workload.specs.Texts.{Outside, is_too_many, end_causes, end_cause, unless_refused, Accepts, judged}
 use Rattle.sd_workload.proofs.JudgedLemmas.{judged-end}
-use Rattle.sd_workload.proofs.NameLemmas.{both, all-more}
+use Rattle.sd_workload.proofs.NameLemmas.{all-more}
 use Rattle.sd_workload.proofs.OneLemmas.{one-work}
 use Rattle.sd_canonical.specs.Blocks.{tables_text}
 use Rattle.sd_canonical.specs.Canonical.{script_text, canonical}
@@ -80,12 +81,12 @@ class-and-set w t = class_fits t.class t.cpupri && leb t.set.0 (length w.sets)
 classes-fit : (w : Work) → list_all (λ t. class_fits t.class t.cpupri && leb t.set.0 (length w.sets)) w.threads ≡ true
 classes-fit w =
     all-more (thread_fits (declared_by w)) (class-and-set w) w.threads
-    (λ t h. (both (class-and-set w t) (list_all (op_names (declared_by w)) t.script.ops) h).0) w.threads_fit
+    (λ t h. (and_parts (class-and-set w t) (list_all (op_names (declared_by w)) t.script.ops) h).0) w.threads_fit
 
 ops-fit : (w : Work) → list_all (λ t. list_all (op_names (declared_by w)) t.script.ops) w.threads ≡ true
 ops-fit w =
     all-more (thread_fits (declared_by w)) (λ (t : ThreadDecl). list_all (op_names (declared_by w)) t.script.ops) w.threads
-    (λ t h. (both (class-and-set w t) (list_all (op_names (declared_by w)) t.script.ops) h).1) w.threads_fit
+    (λ t h. (and_parts (class-and-set w t) (list_all (op_names (declared_by w)) t.script.ops) h).1) w.threads_fit
 
 -- ---- the tables
 
@@ -154,7 +155,7 @@ takes-whole w v =
     (takes-threads w w.threads (above-threads w) (map bare_kept w.threads) refl (classes-fit w) v.uids refl (threads-are w))
     (scripts-given w).takes)))))
 
-not-more : (a b : ℕ) → b ≤ a → nat_lt a b ≡ false
+pub not-more : (a b : ℕ) → b ≤ a → nat_lt a b ≡ false
 not-more a b h = grind (arith, nat_tests)
 
 end-free : (w : Work) → end_cause (at-end w) Outside ≡ None

@@ -8,13 +8,13 @@ use Rattle.sd_types.specs.declared.events.Event.{Event}
 use Rattle.sd_types.specs.declared.works.Work.{Work}
 use Rattle.sd_machine.specs.declared.states.State.{State}
 use Rattle.sd_machine.specs.Opening.{opening}
+use Rattle.sd_machine.proofs.BestLemmas.{and_left}
 use Rattle.sd_full.specs.Events.{next}
 use Rattle.sd_full.specs.Plans.{plan}
 use Rattle.sd_full.specs.Runs.{final, round_after, serial_hints, IsComplete, IsSerial}
 use Rattle.sd_full.proofs.RoundLemmas.{empty_round}
 use Rattle.sd_steps.specs.Entering.{can_enter, plan_enters}
 use Rattle.sd_steps.proofs.EnteringLemmas.{enters_some, enters_none}
-use Rattle.sd_sound.proofs.Works.{first_of_two}
 use Rattle.sd_rounds.specs.declared.orders.Turns.{Turns}
 use Rattle.sd_rounds.specs.Orders.{orders_of}
 use Rattle.sd_rounds.proofs.OrderLemmas.{first, order_in}
@@ -22,7 +22,7 @@ use Rattle.sd_rounds.proofs.OrderLemmas.{first, order_in}
 enters_inside : (w : Work) (s : State) (c : CpuId) → can_enter w s c ≡ true → c.0 < w.cpus
 unfolding can_enter
 enters_inside w s c e =
-    let inside : nat_lt c.0 w.cpus ≡ true = first_of_two (nat_lt c.0 w.cpus) (plan_enters w s c.0 (plan w s c.0)) e in
+    let inside : nat_lt c.0 w.cpus ≡ true = and_left (nat_lt c.0 w.cpus) (plan_enters w s c.0 (plan w s c.0)) e in
     grind (arith, nat_tests)
 
 some_none : (o : Option Event) → IsSome o → o ≡ None → ⊥

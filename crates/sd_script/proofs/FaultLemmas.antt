@@ -192,7 +192,7 @@ well_formed ops held short e free h =
     let same = e ∙ ap held_by (take_all 256 ops short) in
     record { each_fits = EachOpFits-from_free ops (length ops) (omega arith) (λ i k. free i (omega arith)); released = subst (λ (ls : List LockId). length ls ≡ 0) same h; short = short }
 
-slice_get-append : (xs ys : List Op) (i : ℕ) → i < length xs → slice_get (xs ++ ys) i ≡ slice_get xs i
+pub slice_get-append : (xs ys : List Op) (i : ℕ) → i < length xs → slice_get (xs ++ ys) i ≡ slice_get xs i
 slice_get-append [] ys i h = absurd (omega arith)
 slice_get-append (x ∷ xs) ys zero h = refl
 slice_get-append (x ∷ xs) ys (suc i) h = slice_get-append xs ys i (omega arith)

@@ -13,8 +13,8 @@ use Rattle.sd_machine.specs.States.{no_thread, thread_of, cpu_of, is_running}
 use Rattle.sd_full.specs.Events.{after}
 use Rattle.sd_full.specs.Runs.{state_at, IsRun}
 use Rattle.sd_full.proofs.RunLemmas.{final-nil}
-use Rattle.sd_laws.specs.Laws.{OneRuns as AtMostOneRuns}
-use Rattle.sd_laws.proofs.Openings.{opening_runs_none}
+use Rattle.sd_machine.specs.Invariants.{OneRuns as AtMostOneRuns}
+use Rattle.sd_machine.proofs.Openings.{opening_runs_none}
 use Rattle.sd_sound.specs.Laws.{CountsWithin}
 use Rattle.sd_sound.proofs.CountLemmas.{opening_counts, after_counts}
 use Rattle.sd_sound.proofs.Ready.{kept_reached, ready_cause, reached_ready}

@@ -21,6 +21,7 @@ use Rattle.sd_machine.specs.declared.states.Place.{Place}
 use Rattle.sd_machine.specs.declared.states.Place.TheVariants.{Running, Queued, RealTime, Waiting, Asleep, Napping, Ended}
 use Rattle.sd_machine.specs.declared.states.State.{State}
 use Rattle.sd_machine.specs.States.{thread_of, cpu_of, is_running, is_queued, is_ready}
+use Rattle.sd_machine.proofs.BestLemmas.{and_left}
 use Rattle.sd_full.specs.Bodies.{aged_class}
 use Rattle.sd_full.specs.Changes.{back_key, key_at, place_put, queue_place}
 use Rattle.sd_full.specs.Events.{after}
@@ -35,7 +36,6 @@ use Rattle.sd_sound.proofs.Found.{runner_found, ready_found, queued_found, unbou
 use Rattle.sd_sound.proofs.Movers.{bind_put_is, mover_there}
 use Rattle.sd_sound.proofs.PlaceTable.{Stepped, after_steps, step_needs}
 use Rattle.sd_sound.proofs.Ready.{ready_cause, reached_ready}
-use Rattle.sd_sound.proofs.Works.{first_of_two}
 use Rattle.sd_slices.specs.Follow.{OthersKeepRunning}
 
 -- it is the place of no thread that runs on another processor than c
@@ -161,7 +161,7 @@ aged_local w s n c u t e = elim (eff_as (aged_class w (thread_of s t).body.class
   | true ↦ tt
   | false ↦ record {
     to = λ x other. refl;
-    from = queued_apart c.0 c.0 (thread_of s t).place (first_of_two _ (is_ts (thread_of s t).body.class) (age_found s c.0 u t e).stands);
+    from = queued_apart c.0 c.0 (thread_of s t).place (and_left _ (is_ts (thread_of s t).body.class) (age_found s c.0 u t e).stands);
   }
 ]
 
@@ -215,7 +215,7 @@ steps_local w s n c (Dispatch t p) cause = record {
 }
 steps_local w s n c (Steal v t p) cause = record {
   to = running_apart c.0 (Running c) (grind (arith, nat_tests));
-  from = queued_apart c.0 v.0 (thread_of s t.0).place (first_of_two _ (is_none (thread_of s t.0).body.bound) (unbound_found s v.0 t.0 cause.3).stands);
+  from = queued_apart c.0 v.0 (thread_of s t.0).place (and_left _ (is_none (thread_of s t.0).body.bound) (unbound_found s v.0 t.0 cause.3).stands);
 }
 steps_local w s n c (Preempt t end) cause = stops s c.0 t.0 _ cause.0.runs (queue_apart w t.0 c (key_at n end) (thread_of s t.0).body c.0)
 steps_local w s n c (Away t d) cause = stops s c.0 t.0 _ cause.0.runs (λ x other. refl)

@@ -5,7 +5,7 @@ use Rattle.sd_types.specs.declared.numbers.CpuId.{CpuId}
 use Rattle.sd_types.specs.declared.bodies.ThreadBody.{ThreadBody}
 use Rattle.sd_types.specs.declared.works.Work.{Work}
 use Rattle.sd_record.specs.Records.{ThreadRecord}
-use Rattle.sd_laws.specs.Laws.{IsThere}
+use Rattle.sd_machine.specs.Invariants.{IsThere}
 use Rattle.sd_machine.specs.declared.states.Place.{Place}
 use Rattle.sd_machine.specs.declared.states.Place.TheVariants.{Running, Queued, RealTime, Waiting, Asleep, Napping, Ended}
 use Rattle.sd_machine.specs.declared.states.State.{State}

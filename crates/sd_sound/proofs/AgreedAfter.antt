@@ -1,7 +1,7 @@
 -- Locks agree with those who hold them, wait for them and pass them on, after each event.
 use Rattle.std.proofs.Common.{◌≡◌, ◌≢◌, ℕ, zero, suc, ◌+◌, ◌-◌, ◌<◌, ◌≤◌, true, false, not, List, [], ◌∷◌, ◌++◌, length, get_or, set, take, Option, Some, None, refl, sym, ap, ◌∙◌, inl, inr, ◌⊎◌, subst, arith}
 use Rattle.std.specs.Prelude.{ℤ, slice_get}
-use Rattle.std.proofs.lemmas.Bool.{cases_lt, false≢true}
+use Rattle.std.proofs.lemmas.Bool.{cases_lt, false≢true, not-true}
 use Rattle.sd_types.specs.declared.numbers.CpuId.{CpuId}
 use Rattle.sd_types.specs.declared.numbers.LockId.{LockId}
 use Rattle.sd_types.specs.declared.numbers.Side.{Side}
@@ -33,6 +33,7 @@ use Rattle.sd_machine.specs.declared.states.State.{State}
 use Rattle.sd_machine.specs.States.{thread_of, cpu_of}
 use Rattle.sd_full.specs.Shapes.{FitsFully}
 use Rattle.sd_machine.specs.Operations.{script_of, op_of}
+use Rattle.sd_machine.proofs.BestLemmas.{and_left}
 use Rattle.sd_full.specs.Threads.{thread_id, lock_of, best_waiter}
 use Rattle.sd_full.specs.Changes.{back_key, set_duty}
 use Rattle.sd_full.specs.Locking.{side_of, one_more, one_reader_more, blocked}
@@ -52,7 +53,7 @@ use Rattle.sd_sound.proofs.FieldWords as F
 use Rattle.sd_sound.proofs.CpuWords as C
 use Rattle.sd_sound.proofs.AgreedLemmas as A
 use Rattle.sd_sound.proofs.Searches.{waits_has}
-use Rattle.sd_sound.proofs.Works.{op_balances, wanted_fits, first_of_two, not_true}
+use Rattle.sd_sound.proofs.Works.{op_balances, wanted_fits}
 
 -- What is known of the state before an event.
 pub record IsReady (w : Work) (s : State) : Type 0 where
@@ -152,14 +153,14 @@ module _ (w : Work) (s : State) (n : ℕ) (c : CpuId) (ready : IsReady w s) wher
   not_held t o l side acts wanted =
       let inside = (runner_found s c.0 t acts.runs).inside in
       let fits = wanted_fits w t (thread_of s t).body.op o l side acts.stands wanted in
-      ap (λ (xs : List LockId). is_held l xs) (ready.scripted t inside).held ∙ not_true _ (first_of_two (not (is_held l (held_by (take (thread_of s t).body.op (script_of w t))))) _ fits)
+      ap (λ (xs : List LockId). is_held l xs) (ready.scripted t inside).held ∙ not-true _ (and_left (not (is_held l (held_by (take (thread_of s t).body.op (script_of w t))))) _ fits)
 
   -- and one that waits for it neither
   pub waiter_not_held : (u : ℕ) (l : LockId) (side : Side) (k : ℤ) → u < length s.threads → (thread_of s u).place ≡ Waiting l side k → (table s).holds u l.0 ≡ false
   waiter_not_held u l side k inside is =
       let (o, at, wanted) = (ready.scripted u inside).waits l side k is in
       let fits = wanted_fits w u (thread_of s u).body.op o l side at wanted in
-      ap (λ (xs : List LockId). is_held l xs) (ready.scripted u inside).held ∙ not_true _ (first_of_two (not (is_held l (held_by (take (thread_of s u).body.op (script_of w u))))) _ fits)
+      ap (λ (xs : List LockId). is_held l xs) (ready.scripted u inside).held ∙ not-true _ (and_left (not (is_held l (held_by (take (thread_of s u).body.op (script_of w u))))) _ fits)
 
   taken : (r : State) (e : Event) (t : ThreadId) (l : LockId) (x : LockState) (o : Op) (side : Side) → Acts w s c.0 t.0 (Some o) → wants o ≡ Some (l, side) → IsNext w s r n c e → StepAway (step_of w s n c e)
       → Goes held_part s r t.0 ((thread_of s t.0).body.held.items ++ l ∷ []) → T.LocksAre s r (set s.locks l.0 x) → C.Kept pass_part s r → l.0 < length s.locks

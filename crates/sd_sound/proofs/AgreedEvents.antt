@@ -18,7 +18,7 @@ use Rattle.sd_sound.proofs.LockTable.{is_lockless, free_passes, drop_passes, qui
 use Rattle.sd_sound.proofs.AgreedLemmas.{agreed_quiet, waits_back}
 use Rattle.sd_sound.proofs.AgreedAfter.{IsReady, IsNext, drop_agreed, named_inside, not_free_owned, not_free_held, enter_locks, write_locks, read_locks, block_locks, enter_passes, write_passes, read_passes, block_passes, owned_taken, read_taken, blocked_agreed, waiter_not_held, holds_it, given_up, unblock_agreed, grant_agreed, pass_agreed}
 use Rattle.sd_sound.proofs.ReleaseLemmas.{exit_outcome, cv_wait_outcome}
-use Rattle.sd_sound.proofs.Works.{declared, op_named, first_of_two}
+use Rattle.sd_sound.proofs.Works.{declared, op_named}
 use Rattle.sd_machine.specs.States.{thread_of, cpu_of}
 use Rattle.sd_full.specs.Shapes.{FitsFully}
 use Rattle.sd_full.specs.Threads.{lock_of, eff_of, best_waiter}
@@ -35,6 +35,7 @@ use Rattle.sd_types.specs.declared.scripts.Op.{Op}
 use Rattle.sd_types.specs.declared.scripts.Op.TheVariants as op
 use Rattle.sd_types.specs.declared.works.Work.{Work}
 use Rattle.sd_machine.specs.declared.states.State.{State}
+use Rattle.sd_machine.proofs.BestLemmas.{and_left}
 
 free_pass : (s : State) (c : ℕ) → IsFree (cpu_of s c).duty → pass_of (cpu_of s c).duty ≡ None
 free_pass s c free = free_passes (cpu_of s c).duty free
@@ -187,7 +188,7 @@ module _ (w : Work) (s : State) (n : ℕ) (c : CpuId) (ready : IsReady w s) (c_i
   gives_exit l after held e = e
 
   gives_wait : (k : ChanId) (l : LockId) (after : Option Op) (held : List LockId) → op_fits held (op.CvWait k l) after ≡ true → is_held l held ≡ true
-  gives_wait k l after held e = first_of_two (is_held l held) _ e
+  gives_wait k l after held e = and_left (is_held l held) _ e
 
   exit_agreed : (t : ThreadId) (l : LockId) → IsCause w s c.0 (Exit t l) → IsNext w s (after w s n c (Exit t l)) n c (Exit t l) → Agreed (after w s n c (Exit t l))
   unfolding drop_ageing set_duty

@@ -16,9 +16,9 @@ use Rattle.sd_types.specs.Priorities.{umdpri, base_of, at_least_zero}
 use Rattle.sd_rules.specs.ClassRules.{fx_tick, fx_wake, rt_tick, rt_wake, class_requeue}
 use Rattle.sd_rules.specs.Priocntl.{is_sys, class_of_parms, from_zero_to, numbers_fit, is_invalid, is_forbidden, lowered, new_parms, judged, entered}
 use Rattle.sd_machine.specs.declared.states.State.{State}
+use Rattle.sd_machine.proofs.BestLemmas.{and_right, and_left}
 use Rattle.sd_full.specs.Bodies.{ticked_class, woken_class, aged_class}
 use Rattle.sd_full.specs.Prioritising.{answer_to, new_class, target_of, uid_of, is_privileged}
-use Rattle.sd_sound.proofs.Works.{first_of_two, second_of_two}
 
 abbrev pub IsBelow : ClassState → Type 0
 IsBelow k = base_of k < 160
@@ -65,7 +65,7 @@ not_more (pos m) n e = grind (arith, ints)
 not_more (negsuc m) n e = omega arith
 
 fits_up : (n : ℕ) (z : ℤ) → from_zero_to n z ≡ true → at_least_zero z ≤ n
-fits_up n z e = not_more z n (second_of_two (int_le (pos 0) z) (int_le z (pos n)) e)
+fits_up n z e = not_more z n (and_right (int_le (pos 0) z) (int_le z (pos n)) e)
 
 lowered_up : (n : ℕ) (limit pri : ℤ) → at_least_zero limit ≤ n → at_least_zero pri ≤ n → at_least_zero (lowered limit pri) ≤ n
 lowered_up n limit pri a b = elim (int_le pri limit) as (λ v. at_least_zero (cond v pri limit) ≤ n) [ true ↦ b | false ↦ a ]
@@ -74,8 +74,8 @@ asked_below : (c : Class) (r : Request) → is_sys c ≡ false → numbers_fit c
 unfolding new_parms
 asked_below class.Ts r a e = tt
 asked_below class.Fx r a e =
-    let limit = fits_up 60 r.limit (first_of_two _ (from_zero_to 60 r.pri) e) in
-    let pri = fits_up 60 r.pri (second_of_two (from_zero_to 60 r.limit) _ e) in
+    let limit = fits_up 60 r.limit (and_left _ (from_zero_to 60 r.pri) e) in
+    let pri = fits_up 60 r.pri (and_right (from_zero_to 60 r.limit) _ e) in
     let both = lowered_up 60 r.limit r.pri limit pri in
     omega arith
 asked_below class.Sys r a e = cc

@@ -47,7 +47,7 @@ use Rattle.sd_sound.proofs.Words.{Same, then_same, set_duty_same, plain_same}
 use Rattle.sd_sound.proofs.HoldTable.{bound_part, bound_moves, bound_ops, Goes, owned_bound, read_bound, exited_bound, cv_waited_bound, granted_to_writer_bound, granted_to_reader_bound, willed_bound, pbound_bound, refused_bound}
 use Rattle.sd_sound.proofs.Movers.{bind_thread}
 use Rattle.sd_sound.proofs.AgreedAfter.{IsReady}
-use Rattle.sd_sound.proofs.Ready.{IsKept}
+use Rattle.sd_sound.proofs.Ready.{IsKept, none_counted}
 
 abbrev number_part : CpuState → ℕ
 number_part x = x.bound
@@ -303,7 +303,7 @@ rest_numbers w s n t u at = then_numbers s (put_where w s n u at) _ (C.put_where
 refused_numbers : (w : Work) (s : State) (t : ℕ) → SameNumbers s (finish_op w s t)
 refused_numbers w s t = C.finish_op_kept number_part number_marks w s t
 
-same_id : (n : ℕ) → (n == n) ≡ true
+pub same_id : (n : ℕ) → (n == n) ≡ true
 same_id n = grind (arith, nat_tests)
 
 other_id : (x : CpuId) (d : ℕ) → d ≢ x.0 → (x.0 == d) ≡ false
@@ -499,10 +499,6 @@ unfolding first_thread
 first_free w k [] t = refl
 first_free w k (d ∷ ds) zero = refl
 first_free w k (d ∷ ds) (suc t) = first_free w (k + 1) ds t
-
-none_counted : (f : ℕ → Bool) (k : ℕ) → ((t : ℕ) → f t ≡ false) → H.counted f k ≡ 0
-none_counted f zero none = refl
-none_counted f (suc k) none = rw (none k) (none_counted f k none)
 
 opening_bound : (w : Work) → BoundHold (opening w)
 unfolding opening

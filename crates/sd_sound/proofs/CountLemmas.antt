@@ -30,16 +30,16 @@ use Rattle.std.proofs.lemmas.Bool.{cases_eq, cases_lt}
 use Rattle.std.proofs.Common.{get_or, ◌≤◌, inl, inr, zero, suc, [], ◌∷◌}
 use Rattle.std.specs.Prelude.{map}
 use Rattle.sd_machine.specs.Opening.{first_cpu_state, opening}
+use Rattle.sd_machine.proofs.BestLemmas.{and_left}
 use Rattle.sd_sound.proofs.Parts.{set_past}
-use Rattle.sd_sound.proofs.Works.{first_of_two}
 
 abbrev count_part : CpuState → ℕ
 count_part x = x.count
 
-count_marks : C.Markless count_part
+pub count_marks : C.Markless count_part
 count_marks = record { marks = λ x u k. refl }
 
-counts_plain : Plain count_part
+pub counts_plain : Plain count_part
 counts_plain = record { marks = count_marks; duty = λ x d. refl }
 
 abbrev SameCounts : State → State → Type 0
@@ -84,7 +84,7 @@ idled_grows : (w : Work) (limit : ℕ) (s : State) (c : ℕ) → (cpu_of s c).co
 unfolding idled
 idled_grows w limit s c below = count_tick_grows w limit s c below
 
-close_counts : (s : State) (d : CpuId) (to : SetId) → SameCounts s (close s d to)
+pub close_counts : (s : State) (d : CpuId) (to : SetId) → SameCounts s (close s d to)
 unfolding close
 close_counts s d to = C.then_kept count_part s _ _ (C.open_kept count_part s _ _) (C.written count_part _ d.0 _ refl)
 
@@ -127,7 +127,7 @@ pbound_counts w s n t u d bind_answer.EBUSY = C.finish_op_kept count_part count_
 -- a processor that may tick has a count below the limit
 pub ticks_below : (w : Work) (s : State) (c : ℕ) → may_tick w s c ≡ true → (cpu_of s c).count < w.limit
 unfolding may_tick
-ticks_below w s c may = let below : nat_lt (cpu_of s c).count w.limit ≡ true = first_of_two _ (list_all (λ (x : CpuState). nat_le (cpu_of s c).count x.count) s.cpus) may in grind (arith, nat_tests)
+ticks_below w s c may = let below : nat_lt (cpu_of s c).count w.limit ≡ true = and_left _ (list_all (λ (x : CpuState). nat_le (cpu_of s c).count x.count) s.cpus) may in grind (arith, nat_tests)
 
 dropped_count : (s : State) (c : ℕ) (e : Event) (limit : ℕ) → (cpu_of s c).count < limit → (cpu_of (drop_ageing s c e) c).count < limit
 dropped_count s c e limit below = subst (λ m. m < limit) (sym ((drop_keeps count_part counts_plain s c e).each c)) below
@@ -183,7 +183,7 @@ after_grows w s n c (Move t at) cause = plain_grows w s n c (Move t at) refl
 pub after_counts : (w : Work) (s : State) (n : ℕ) (c : CpuId) (e : Event) → IsCause w s c.0 e → CountsWithin w s → CountsWithin w (after w s n c e)
 after_counts w s n c e cause within = λ d. (after_grows w s n c e cause).each d (within d)
 
-first_count : (w : Work) (ns : List ℕ) (c : ℕ) → (get_or (map (first_cpu_state w) ns) c no_cpu).count ≡ 0
+pub first_count : (w : Work) (ns : List ℕ) (c : ℕ) → (get_or (map (first_cpu_state w) ns) c no_cpu).count ≡ 0
 unfolding first_cpu_state
 first_count w [] c = refl
 first_count w (n ∷ ns) zero = refl

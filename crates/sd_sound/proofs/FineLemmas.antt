@@ -10,28 +10,29 @@ use Rattle.sd_types.specs.declared.works.Work.{Work}
 use Rattle.sd_types.specs.Works.{class_fits, quantum_fits, thread_fits}
 use Rattle.sd_machine.specs.States.{thread_of, no_thread}
 use Rattle.sd_machine.specs.Opening.{first_class, first_thread, first_threads, opening}
+use Rattle.sd_machine.proofs.BestLemmas.{and_right, and_left}
 use Rattle.sd_sound.specs.Laws.{HoldsWhenReached, AreSound}
 use Rattle.sd_sound.proofs.BaseLemmas.{IsBelow, tick_below, wake_below, age_below, requeue_below, new_below}
 use Rattle.sd_sound.proofs.ClassWords.{IsClosed}
 use Rattle.sd_sound.proofs.ClassTable.{after_fit}
 use Rattle.sd_sound.proofs.NumberLemmas.{IsFine, AreFine, fine_eff, after_sound}
 use Rattle.sd_sound.proofs.Ready.{IsKept, kept_reached}
-use Rattle.sd_sound.proofs.Works.{declared, first_of_two, second_of_two}
+use Rattle.sd_sound.proofs.Works.{declared}
 
 first_below : (w : Work) (p : ClassParms) (level : ℕ) → class_fits p level ≡ true → IsBelow (first_class w p level)
 first_below w (parms.Ts limit upri) level fits = omega arith
 first_below w (parms.Fx limit pri quantum) level fits =
-    let both : (nat_le limit 60 && nat_le pri limit) ≡ true = first_of_two _ (quantum_fits quantum) (first_of_two _ (level == 0) fits) in
-    let a : nat_le limit 60 ≡ true = first_of_two _ (nat_le pri limit) both in
-    let b : nat_le pri limit ≡ true = second_of_two (nat_le limit 60) _ both in
+    let both : (nat_le limit 60 && nat_le pri limit) ≡ true = and_left _ (quantum_fits quantum) (and_left _ (level == 0) fits) in
+    let a : nat_le limit 60 ≡ true = and_left _ (nat_le pri limit) both in
+    let b : nat_le pri limit ≡ true = and_right (nat_le limit 60) _ both in
     grind (arith, nat_tests)
 first_below w (parms.Sys pri) level fits =
-    let both : (nat_le 60 pri && nat_le pri 99) ≡ true = first_of_two _ (level == 0) fits in
-    let b : nat_le pri 99 ≡ true = second_of_two (nat_le 60 pri) _ both in
+    let both : (nat_le 60 pri && nat_le pri 99) ≡ true = and_left _ (level == 0) fits in
+    let b : nat_le pri 99 ≡ true = and_right (nat_le 60 pri) _ both in
     grind (arith, nat_tests)
 first_below w (parms.Rt pri quantum) level fits =
-    let both : (nat_le pri 59 && quantum_fits quantum) ≡ true = first_of_two _ (level == 0) fits in
-    let b : nat_le pri 59 ≡ true = first_of_two _ (quantum_fits quantum) both in
+    let both : (nat_le pri 59 && quantum_fits quantum) ≡ true = and_left _ (level == 0) fits in
+    let b : nat_le pri 59 ≡ true = and_left _ (quantum_fits quantum) both in
     grind (arith, nat_tests)
 
 first_fine : (w : Work) (t : ℕ) (d : ThreadDecl) → class_fits d.class d.cpupri ≡ true → IsFine (first_thread w t d)
@@ -47,8 +48,8 @@ nobody_fine = record { sound = record { below = refl; apart = refl; owned = refl
 all_fine : (w : Work) (k : ℕ) (ds : List ThreadDecl) → list_all (thread_fits (declared w)) ds ≡ true → (t : ℕ) → IsFine (get_or (first_threads w k ds) t no_thread)
 all_fine w k [] fits t = nobody_fine
 all_fine w k (d ∷ ds) fits zero =
-    first_fine w k d (first_of_two (class_fits d.class d.cpupri) _ (first_of_two _ _ (first_of_two (thread_fits (declared w) d) (list_all (thread_fits (declared w)) ds) fits)))
-all_fine w k (d ∷ ds) fits (suc t) = all_fine w (k + 1) ds (second_of_two (thread_fits (declared w) d) _ fits) t
+    first_fine w k d (and_left (class_fits d.class d.cpupri) _ (and_left _ _ (and_left (thread_fits (declared w) d) (list_all (thread_fits (declared w)) ds) fits)))
+all_fine w k (d ∷ ds) fits (suc t) = all_fine w (k + 1) ds (and_right (thread_fits (declared w) d) _ fits) t
 
 opening_fine : (w : Work) → AreFine (opening w)
 unfolding opening

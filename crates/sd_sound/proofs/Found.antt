@@ -1,5 +1,5 @@
 -- The thread that a search finds is there, and stands where the search looks; where it finds none, none stands there.
-use Rattle.std.proofs.Common.{◌≡◌, ℕ, zero, suc, ◌+◌, ◌<◌, Bool, true, false, ◌&&◌, List, [], ◌∷◌, length, get_or, drop, Option, Some, None, is_none, refl, ap, ◌∙◌, subst, arith}
+use Rattle.std.proofs.Common.{◌≡◌, ℕ, zero, suc, ◌+◌, ◌<◌, Bool, true, ◌&&◌, List, [], ◌∷◌, length, get_or, drop, Option, Some, None, is_none, refl, ap, ◌∙◌, subst, arith}
 use Rattle.std.specs.Prelude.{position, option_map, ℤ}
 use Rattle.std.proofs.lemmas.List.Quantifiers.{position-Some}
 use Rattle.sd_types.specs.declared.numbers.Side.{Side}
@@ -7,11 +7,8 @@ use Rattle.sd_machine.specs.declared.states.ThreadState.{ThreadState}
 use Rattle.sd_machine.specs.declared.states.State.{State}
 use Rattle.sd_machine.specs.States.{thread_of, cpu_of, no_thread, is_running, is_queued, is_ready}
 use Rattle.sd_machine.specs.Best.{leads_by, best_by, beats}
+use Rattle.sd_machine.proofs.BestLemmas.{and_left}
 use Rattle.sd_full.specs.Threads.{is_ts, is_waiting_at, is_asleep, is_asleep_below, is_due, runner, best_ready, best_queued, best_unbound, best_waiter, best_sleeper, best_sleeper_below, naps_less, first_due, next_to_age}
-
-left : (a b : Bool) → (a && b) ≡ true → a ≡ true
-left true b e = refl
-left false b e = cc
 
 -- the number that a search gives is one of a thread that passes
 pub record IsFound (s : State) (on : ThreadState → Bool) (t : ℕ) : Type 0 where
@@ -21,7 +18,7 @@ pub record IsFound (s : State) (on : ThreadState → Bool) (t : ℕ) : Type 0 wh
 best_found : (s : State) (on : ThreadState → Bool) (before : ThreadState → ThreadState → Bool) (t : ℕ) → best_by on before s.threads ≡ Some t → IsFound s on t
 best_found s on before t e =
     let found = position-Some (leads_by on before s.threads) s.threads t no_thread e in
-    record { inside = found.0; stands = left (on (thread_of s t)) _ found.1 }
+    record { inside = found.0; stands = and_left (on (thread_of s t)) _ found.1 }
 
 pub runner_found : (s : State) (c t : ℕ) → runner s c ≡ Some t → IsFound s (λ x. is_running c x.place) t
 unfolding runner

@@ -32,10 +32,10 @@ use Rattle.sd_full.specs.Events.{after}
 use Rattle.sd_machine.specs.States.{key_of}
 use Rattle.sd_types.specs.declared.events.End.{End}
 use Rattle.sd_types.specs.declared.events.End.TheVariants.{Front, Back}
-use Rattle.sd_laws.specs.Laws.{has_key, KeysDiffer, KeysWithin}
-use Rattle.sd_laws.proofs.Changes as Ch
-use Rattle.sd_laws.proofs.Chosen.{places}
-use Rattle.sd_laws.proofs.KeyLemmas.{IsNew, GivesNew, KeysAt, keys_after, first_keys}
+use Rattle.sd_machine.specs.Invariants.{has_key, KeysDiffer, KeysWithin}
+use Rattle.sd_machine.proofs.KeyLemmas as Ch
+use Rattle.sd_machine.proofs.Chosen.{places}
+use Rattle.sd_machine.proofs.KeyLemmas.{IsNew, GivesNew, KeysAt, keys_after, first_keys}
 use Rattle.sd_sound.specs.Laws.{HoldsWhenReached, HoldsAfterEntries}
 use Rattle.sd_sound.proofs.PlaceTable.{after_steps, step_needs}
 use Rattle.sd_sound.proofs.Movers.{mover_there}

@@ -26,6 +26,7 @@ use Rattle.sd_machine.specs.declared.states.Place.TheVariants.{Running, Queued, 
 use Rattle.sd_machine.specs.declared.states.LockState.TheVariants.{Owned}
 use Rattle.sd_machine.specs.declared.states.State.{State}
 use Rattle.sd_machine.specs.States.{thread_of, cpu_of, is_queued, is_ready}
+use Rattle.sd_machine.proofs.BestLemmas.{and_left}
 use Rattle.sd_full.specs.Shapes.{FitsFully}
 use Rattle.sd_full.specs.Changes.{back_key}
 use Rattle.sd_full.specs.Threads.{lock_of, eff_of, runner, next_to_age, is_ts, is_asleep, is_asleep_below, is_due, has_ended}
@@ -40,7 +41,7 @@ use Rattle.sd_sound.specs.Moves.Step.{Stay, Go}
 use Rattle.sd_sound.proofs.Found.{runner_found, ready_found, queued_found, unbound_found, waiter_found, sleeper_found, sleeper_below_found, due_found, age_found}
 use Rattle.sd_sound.proofs.PlaceTable.{IsMoverThere}
 use Rattle.sd_sound.proofs.ScriptLemmas.{is_waiter, runs_no_waiter}
-use Rattle.sd_sound.proofs.Works.{declared, op_named, first_of_two}
+use Rattle.sd_sound.proofs.Works.{declared, op_named}
 
 -- the thread is there and waits for no lock
 pub record IsMover (s : State) (t : ℕ) : Type 0 where
@@ -100,7 +101,7 @@ due_away c n Ended e = refl
 
 -- who is requeued waits for no lock
 
-kept_stays : (b : Bool) → (if b then Stays else Stays) ≡ Stays
+pub kept_stays : (b : Bool) → (if b then Stays else Stays) ≡ Stays
 kept_stays true = refl
 kept_stays false = refl
 
@@ -113,10 +114,10 @@ requeued_away (Asleep i k) old new bound r e goes = refl
 requeued_away (Napping d k) old new bound r e goes = refl
 requeued_away Ended old new bound r e goes = refl
 
-behind_goes : (d : CpuId) → Behind d ≢ Stays
+pub behind_goes : (d : CpuId) → Behind d ≢ Stays
 behind_goes d e = cc
 
-anew_goes : Anew ≢ Stays
+pub anew_goes : Anew ≢ Stays
 anew_goes e = cc
 
 pub requeued_at_away : (w : Work) (s : State) (t p : ℕ) (at : Put) → IsRequeuedAt w s t p (Some at) → is_waiter (thread_of s t).place ≡ false
@@ -198,7 +199,7 @@ roused_mover w s n k below (Some u) is = let found = sleeper_below_found s k bel
 aged_mover : (w : Work) (s : State) (n : ℕ) (c : CpuId) (u t : ℕ) → next_to_age s c.0 u ≡ Some t → MoverIs s (aged_step w s n c t)
 aged_mover w s n c u t e = elim (eff_as (aged_class w (thread_of s t).body.class) (thread_of s t).body == eff_of s t) as (λ b. MoverIs s (if b then Stay else Go t (Queued c (back_key n)))) [
   | true ↦ tt
-  | false ↦ let found = age_found s c.0 u t e in record { inside = found.inside; away = queued_away c.0 (thread_of s t).place (first_of_two _ (is_ts (thread_of s t).body.class) found.stands) }
+  | false ↦ let found = age_found s c.0 u t e in record { inside = found.inside; away = queued_away c.0 (thread_of s t).place (and_left _ (is_ts (thread_of s t).body.class) found.stands) }
 ]
 
 prio_mover : (w : Work) (s : State) (n c t : ℕ) (u : ThreadId) (r : Request) (answer : PrioAnswer) → u.0 < length s.threads → IsAnswered w s c t u.0 r answer → MoverIs s (prio_step w s n u answer)
@@ -212,10 +213,10 @@ named_thread w s c t o u fits acts names =
     omega (arith, fits.threads)
 
 pub prio_thread : (w : Work) (s : State) (c t : ℕ) (u : ThreadId) (r : Request) → FitsFully w s → Acts w s c t (Some (op.Prio u r)) → u.0 < length s.threads
-prio_thread w s c t u r fits acts = named_thread w s c t (op.Prio u r) u.0 fits acts (λ e. first_of_two (nat_lt u.0 (length w.threads)) (request_fits r) e)
+prio_thread w s c t u r fits acts = named_thread w s c t (op.Prio u r) u.0 fits acts (λ e. and_left (nat_lt u.0 (length w.threads)) (request_fits r) e)
 
 pub bind_thread : (w : Work) (s : State) (c t : ℕ) (u : ThreadId) (d : Option CpuId) → FitsFully w s → Acts w s c t (Some (op.Pbind u d)) → u.0 < length s.threads
-bind_thread w s c t u d fits acts = named_thread w s c t (op.Pbind u d) u.0 fits acts (λ e. first_of_two (nat_lt u.0 (length w.threads)) (bound_fits w.cpus d) e)
+bind_thread w s c t u d fits acts = named_thread w s c t (op.Pbind u d) u.0 fits acts (λ e. and_left (nat_lt u.0 (length w.threads)) (bound_fits w.cpus d) e)
 
 pub owner_thread : (s : State) (l : LockId) (o : ThreadId) → Agreed s → lock_of s l.0 ≡ Owned o → o.0 < length s.threads
 owner_thread s l o agreed is = (agreed.owner l.0 o.0 (ap lock_state is)).0
@@ -233,7 +234,7 @@ mover_of w s n c Idle quiet fits agreed cause = tt
 mover_of w s n c (Dispatch t p) quiet fits agreed cause = let found = ready_found s c.0 t.0 cause.1 in record { inside = found.inside; away = ready_away c.0 (cpu_of s c.0).set.0 (thread_of s t.0).place found.stands }
 mover_of w s n c (Steal v t p) quiet fits agreed cause =
     let found = unbound_found s v.0 t.0 cause.3 in
-    record { inside = found.inside; away = queued_away v.0 (thread_of s t.0).place (first_of_two _ (is_none (thread_of s t.0).body.bound) found.stands) }
+    record { inside = found.inside; away = queued_away v.0 (thread_of s t.0).place (and_left _ (is_none (thread_of s t.0).body.bound) found.stands) }
 mover_of w s n c (Preempt t end) quiet fits agreed cause = runs_mover s c.0 t.0 cause.0.runs
 mover_of w s n c (Away t d) quiet fits agreed cause = runs_mover s c.0 t.0 cause.0.runs
 mover_of w s n c (Yield t) quiet fits agreed cause = runs_mover s c.0 t.0 cause.runs

@@ -1,10 +1,11 @@
 -- Whose operation each event ends.
-use Rattle.std.proofs.Common.{◌≡◌, ℕ, ◌+◌, ◌-◌, ◌<◌, Bool, true, false, length, Option, Some, None, refl, ap, arith, ◌⊎◌, inl, inr}
+use Rattle.std.proofs.Common.{◌≡◌, ℕ, ◌+◌, ◌-◌, ◌<◌, Bool, true, false, length, Option, Some, None, refl, ap, ◌⊎◌, inl, inr}
 use Rattle.std.specs.Prelude.{⊤}
 use Rattle.sd_chains.proofs.Moves.{IsPut}
 use Rattle.sd_full.proofs.ShapeLemmas.{IsShaped, then_shape, lock_shape, count_shape, hold_shape, set_duty_shape, count_tick_shape, leave_shape, put_where_shape, close_shape, woken_shape, released_shape, changed_on_shape, cleared_shape, rebound_shape}
 use Rattle.sd_sound.proofs.Parts.{same_item, put_item, put_same, same_put, put_is}
 use Rattle.sd_sound.proofs.Words.{all_same, then_same, lock_same, count_same, set_duty_same, count_tick_same, close_same, idled_same, walk_ended_same, joined_same, remark_same, cleared_same, called_back_same, release_from_same, passed_same, leave_same, put_where_same, class_counts_same, spun_same, dispatched_same, stolen_same, preempted_same, sent_away_same, done_same, woken_same, roused_same, blocked_same, unblocked_same, reordered_same, changed_on_same, aged_same, moved_same, Same, Moves, of_threads}
+use Rattle.sd_sound.proofs.HoldTable.{there}
 use Rattle.sd_types.specs.declared.numbers.ChanId.{ChanId}
 use Rattle.sd_types.specs.declared.numbers.CpuId.{CpuId}
 use Rattle.sd_types.specs.declared.numbers.LockId.{LockId}
@@ -91,10 +92,6 @@ bind_same s t d = then_same op_part s _ _ (body_same s t (record (thread_of s t)
 unbind_same : (s : State) (t : ℕ) (b : CpuId) → Same op_part s (unbind s t b)
 unfolding unbind
 unbind_same s t b = then_same op_part s _ _ (body_same s t (record (thread_of s t).body { bound = None }) refl) (cpu_same _ b.0 _)
-
--- the thread is there after a word
-there : (s r : State) (t : ℕ) → IsShaped s r → t < length s.threads → t < length r.threads
-there s r t a here = omega (arith, a.threads)
 
 -- after some words the operation is over
 later : (w : Work) (s r : State) (t : ℕ) → Same op_part s r → IsShaped s r → t < length s.threads → Finished s (finish_op w r t) t

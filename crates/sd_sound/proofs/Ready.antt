@@ -227,7 +227,7 @@ opening_scripted w t inside =
       waits = λ l side k is. absurd (no_waiter (thread_of (opening w) t).place first.away l side k is);
     }
 
-none_counted : (f : ℕ → Bool) (k : ℕ) → ((t : ℕ) → f t ≡ false) → H.counted f k ≡ 0
+pub none_counted : (f : ℕ → Bool) (k : ℕ) → ((t : ℕ) → f t ≡ false) → H.counted f k ≡ 0
 none_counted f zero none = refl
 none_counted f (suc k) none = rw (none k) (none_counted f k none)
 

@@ -40,7 +40,7 @@ use Rattle.sd_full.specs.Threads.{set_of}
 use Rattle.sd_full.specs.Changes.{queue_place, place_put, key_at}
 use Rattle.sd_full.specs.Events.{after}
 use Rattle.sd_full.proofs.ShapeLemmas.{after_shape}
-use Rattle.sd_laws.specs.Laws.{OneRuns}
+use Rattle.sd_machine.specs.Invariants.{OneRuns}
 use Rattle.sd_sound.proofs.PlaceTable.{after_steps, step_needs}
 use Rattle.sd_sound.proofs.Movers.{mover_there}
 use Rattle.sd_sound.proofs.AgreedAfter.{IsReady}

@@ -145,7 +145,7 @@ raise_count xs i j = elim (cases_lt i (length xs)) [
   | inr past ↦ let at : get_or (set xs i (get_or xs i 0 + 1)) j 0 ≡ get_or xs j 0 = ap (λ (ys : List ℕ). get_or ys j 0) (set_past xs i (get_or xs i 0 + 1) past) in omega (arith, at)
 ]
 
-finish_counts : (w : Work) (s : State) (t : ℕ) → (finish_op w s t).counts ≡ s.counts
+pub finish_counts : (w : Work) (s : State) (t : ℕ) → (finish_op w s t).counts ≡ s.counts
 unfolding finish_op
 finish_counts w s t = refl
 
@@ -157,11 +157,11 @@ counted_counts : (w : Work) (s : State) (t : ℕ) (k : ChanId) → (sema_counted
 unfolding sema_counted
 counted_counts w s t k = finish_counts w (with_count s k.0 (count_of s k.0 + 1)) t
 
-close_counts : (s : State) (d : CpuId) (to : SetId) → (close s d to).counts ≡ s.counts
+pub close_counts : (s : State) (d : CpuId) (to : SetId) → (close s d to).counts ≡ s.counts
 unfolding close
 close_counts s d to = refl
 
-joined_counts : (s : State) (c : CpuId) (to : SetId) → (joined s c to).counts ≡ s.counts
+pub joined_counts : (s : State) (c : CpuId) (to : SetId) → (joined s c to).counts ≡ s.counts
 unfolding joined join
 joined_counts s c to = refl
 

@@ -1,5 +1,5 @@
 -- Each duty to pass on a lock goes on serving somebody, through each event.
-use Rattle.std.proofs.Common.{◌≡◌, ◌≢◌, ◌&&◌, ℕ, zero, suc, ◌<◌, Bool, true, false, List, [], ◌∷◌, length, Option, Some, refl, sym, ap, ◌∙◌, subst, arith, ◌⊎◌, inl, inr}
+use Rattle.std.proofs.Common.{◌≡◌, ◌≢◌, ℕ, zero, suc, ◌<◌, Bool, true, false, List, [], ◌∷◌, length, Option, Some, refl, sym, ap, ◌∙◌, subst, arith, ◌⊎◌, inl, inr}
 use Rattle.std.specs.Prelude.{slice_get, option_map, map, nat_lt}
 use Rattle.std.proofs.lemmas.Bool.{cases_eq}
 use Rattle.std.proofs.lemmas.Bool.Decides.{nat_tests}
@@ -26,6 +26,7 @@ use Rattle.sd_machine.specs.declared.states.Place.TheVariants.{Waiting}
 use Rattle.sd_machine.specs.declared.states.State.{State}
 use Rattle.sd_machine.specs.States.{thread_of, cpu_of}
 use Rattle.sd_machine.specs.Operations.{op_of}
+use Rattle.sd_machine.proofs.BestLemmas.{and_right, and_left}
 use Rattle.sd_full.specs.Threads.{thread_id, lock_of, best_waiter, has_waiters}
 use Rattle.sd_full.specs.Changes.{back_key, set_duty, place_put}
 use Rattle.sd_full.specs.Locking.{kind_of, side_of, blocked}
@@ -42,7 +43,7 @@ use Rattle.sd_sound.proofs.Found.{runner_found, waiter_found}
 use Rattle.sd_sound.proofs.PlaceTable.{Stepped}
 use Rattle.sd_sound.proofs.Movers.{ends_wait, mover_of}
 use Rattle.sd_sound.proofs.Waiters.{Stays, quiet_stays, others_stay, side_waits, stays_has, stays_best}
-use Rattle.sd_sound.proofs.Works.{declared, op_named, first_of_two}
+use Rattle.sd_sound.proofs.Works.{declared, op_named}
 use Rattle.sd_chains.proofs.HolderLemmas.{count_one}
 use Rattle.sd_types.specs.Scripts.{is_held, op_fits}
 use Rattle.sd_sound.proofs.AgreedAfter.{IsReady, IsNext, holds_it}
@@ -139,12 +140,8 @@ mutex_there [] i e = cc
 mutex_there (x ∷ xs) zero e = omega arith
 mutex_there (x ∷ xs) (suc i) e = let more = mutex_there xs i e in omega arith
 
-and_second : (a b : Bool) → (a && b) ≡ true → b ≡ true
-and_second true b e = e
-and_second false b e = cc
-
 cv_wait_inside : (w : Work) (s : State) (c t : ℕ) (k : ChanId) (l : LockId) → Acts w s c t (Some (op.CvWait k l)) → l.0 < length (declared w).locks
-cv_wait_inside w s c t k l acts = mutex_there (declared w).locks l.0 (and_second _ (is_mutex (slice_get (declared w).locks l.0)) (op_named w t (thread_of s t).body.op (op.CvWait k l) acts.stands))
+cv_wait_inside w s c t k l acts = mutex_there (declared w).locks l.0 (and_right _ (is_mutex (slice_get (declared w).locks l.0)) (op_named w t (thread_of s t).body.op (op.CvWait k l) acts.stands))
 
 -- an event that is about no lock ends no wait
 pub lockless_ends : (e : Event) → is_lockless e ≡ true → ends_wait e ≡ false
@@ -376,7 +373,7 @@ module _ (w : Work) (s : State) (n : ℕ) (c : CpuId) (ready : IsReady w s) (c_i
   gives_exit l after held e = e
 
   gives_wait : (k : ChanId) (l : LockId) (after : Option Op) (held : List LockId) → op_fits held (op.CvWait k l) after ≡ true → is_held l held ≡ true
-  gives_wait k l after held e = first_of_two (is_held l held) _ e
+  gives_wait k l after held e = and_left (is_held l held) _ e
 
   pub exit_busy : (t : ThreadId) (l : LockId) → IsCause w s c.0 (Exit t l) → lock_of s l.0 ≢ Free
   exit_busy t l acts = held_busy t.0 l (runner_found s c.0 t.0 acts.runs).inside (holds_it w s n c ready t.0 (op.Exit l) l acts (gives_exit l))

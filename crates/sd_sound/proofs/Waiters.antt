@@ -8,6 +8,7 @@ use Rattle.sd_machine.specs.declared.states.Place.{Place}
 use Rattle.sd_machine.specs.declared.states.Place.TheVariants.{Running, Queued, RealTime, Waiting, Asleep, Napping, Ended}
 use Rattle.sd_machine.specs.declared.states.State.{State}
 use Rattle.sd_machine.specs.States.{thread_of}
+use Rattle.sd_machine.proofs.BestLemmas.{and_left}
 use Rattle.sd_full.specs.Threads.{same_side, is_waiting, is_waiting_at, best_waiter, has_waiters}
 use Rattle.sd_sound.specs.Moves.{Step}
 use Rattle.sd_sound.specs.Moves.Step.{Stay, Go}
@@ -16,7 +17,6 @@ use Rattle.sd_sound.proofs.Searches.{has_waiters_at, waits_has, waiter_some}
 use Rattle.sd_sound.proofs.PlaceTable.{Stepped}
 use Rattle.sd_sound.proofs.ScriptLemmas.{is_waiter, StepAway}
 use Rattle.sd_sound.proofs.Movers.{MoverIs}
-use Rattle.sd_sound.proofs.Works.{first_of_two}
 use Rattle.sd_chains.proofs.Moves.{put_cases}
 
 -- who waits for the lock goes on waiting
@@ -47,7 +47,7 @@ one_lock l m (Napping d k) a b = cc
 one_lock l m Ended a b = cc
 
 pub side_waits : (l : ℕ) (side : Side) (p : Place) → is_waiting_at l side p ≡ true → is_waiting l p ≡ true
-side_waits l side (Waiting m other k) on = first_of_two (m.0 == l) (same_side side other) on
+side_waits l side (Waiting m other k) on = and_left (m.0 == l) (same_side side other) on
 side_waits l side (Running d) on = cc
 side_waits l side (Queued d k) on = cc
 side_waits l side (RealTime q k) on = cc

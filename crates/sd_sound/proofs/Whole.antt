@@ -3,7 +3,7 @@
 use Rattle.std.proofs.Common.{◌≡◌, ℕ, zero, suc, ◌*◌, ◌<◌, ◌≤◌, Bool, true, false, not, List, [], ◌∷◌, length, map, take, Option, Some, None, refl, sym, ap, subst, arith, inl, inr}
 use Rattle.std.specs.Prelude.{slice_get, slice_index_or, option_map, unwrap_or, nat_lt, nat_le, if◌then◌else◌, IfSome, ℤ}
 use Rattle.std.specs.List.{list_all}
-use Rattle.std.proofs.lemmas.Bool.{cases_lt}
+use Rattle.std.proofs.lemmas.Bool.{cases_lt, not-true}
 use Rattle.std.proofs.lemmas.Bool.Decides.{nat_tests}
 use Rattle.std.proofs.lemmas.List.{get_or_past}
 use Rattle.sd_types.specs.declared.numbers.CpuId.{CpuId}
@@ -32,6 +32,7 @@ use Rattle.sd_machine.specs.States.{thread_of, cpu_of, no_cpu, is_running}
 use Rattle.sd_machine.specs.Operations.{script_of, op_of}
 use Rattle.sd_machine.specs.Opening.{first_count, opening}
 use Rattle.sd_machine.specs.Opening.{count_of as first_count_of}
+use Rattle.sd_machine.proofs.BestLemmas.{and_right, and_left}
 use Rattle.sd_full.specs.Threads.{count_of, lock_of, runner, best_waiter, greatest_waiting}
 use Rattle.sd_full.specs.Locking.{others_waiting}
 use Rattle.sd_full.specs.Needs.{IsThread, Runs, CanAct, CanNap, CanHold, CanInherit, CanReceive, CanBind, more_fits}
@@ -43,7 +44,7 @@ use Rattle.sd_sound.specs.Holding.{lock_state, table}
 use Rattle.sd_sound.specs.Laws.{CountsWithin, OpenHold, IsFit}
 use Rattle.sd_sound.proofs.Found.{runner_found, waiter_found, sleeper_found, sleeper_below_found}
 use Rattle.sd_sound.proofs.ScriptLemmas.{waits_here}
-use Rattle.sd_sound.proofs.Works.{op_named, wanted_fits, first_of_two, second_of_two, not_true}
+use Rattle.sd_sound.proofs.Works.{op_named, wanted_fits}
 use Rattle.sd_sound.proofs.AgreedAfter.{IsReady, named_inside}
 use Rattle.sd_sound.proofs.NumberLemmas.{AreFine, fine_eff, waiting_below, others_below}
 use Rattle.sd_sound.proofs.SemaphoreLemmas.{total, ops_over, CountsHold, holds_kept}
@@ -117,11 +118,11 @@ running_on c Ended e = cc
 
 can_room : (l : LockId) (held : List LockId) → can_take l held ≡ true → length held < 8
 can_room l held can =
-    let test : nat_lt (length held) 8 ≡ true = second_of_two (not (is_held l held)) _ can in
+    let test : nat_lt (length held) 8 ≡ true = and_right (not (is_held l held)) _ can in
     grind (arith, nat_tests)
 
 can_apart : (l : LockId) (held : List LockId) → can_take l held ≡ true → is_held l held ≡ false
-can_apart l held can = not_true (is_held l held) (first_of_two (not (is_held l held)) (nat_lt (length held) 8) can)
+can_apart l held can = not-true (is_held l held) (and_left (not (is_held l held)) (nat_lt (length held) 8) can)
 
 small_count : (kind : ChanKind) → has_small_count kind ≡ true → first_count_of kind ≤ 65535
 small_count Chan e = omega arith
@@ -129,8 +130,8 @@ small_count (Sema n) e = grind (arith, nat_tests)
 
 small_counts : (ks : List (Name × ChanKind)) (k : ℕ) → list_all (λ x. has_small_count x.1) ks ≡ true → slice_index_or (map first_count ks) k 0 ≤ 65535
 small_counts [] k e = omega arith
-small_counts (x ∷ ks) zero e = small_count x.1 (first_of_two (has_small_count x.1) _ e)
-small_counts (x ∷ ks) (suc k) e = small_counts ks k (second_of_two (has_small_count x.1) _ e)
+small_counts (x ∷ ks) zero e = small_count x.1 (and_left (has_small_count x.1) _ e)
+small_counts (x ∷ ks) (suc k) e = small_counts ks k (and_right (has_small_count x.1) _ e)
 
 -- a semaphore begins with 65,535 at most
 opening_small : (w : Work) (k : ℕ) → count_of (opening w) k ≤ 65535
@@ -243,7 +244,7 @@ module _ (w : Work) (s : State) (whole : IsWhole w s) where
     pub naps : (t : ThreadId) (n : ℕ) → Acts w s c.0 t.0 (Some (op.Nap n)) → CanNap w s t c
     naps t n acts =
         let fits : span_fits n ≡ true = op_named w t.0 (thread_of s t.0).body.op (op.Nap n) acts.stands in
-        let test : nat_le n 100000 ≡ true = second_of_two (nat_le 1 n) _ fits in
+        let test : nat_le n 100000 ≡ true = and_right (nat_le 1 n) _ fits in
         let most : n ≤ 100000 = grind (arith, nat_tests) in
         let is : nap_ticks (op_of w t.0 (thread_of s t.0).body) ≡ n = ap nap_ticks acts.stands in
         let count = whole.counts c.0 in

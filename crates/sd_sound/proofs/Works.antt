@@ -1,5 +1,5 @@
 -- What a workload says of the operation at which a thread stands.
-use Rattle.std.proofs.Common.{◌≡◌, ℕ, zero, suc, ◌+◌, Bool, true, false, not, ◌&&◌, List, [], ◌∷◌, take, Option, Some, None, refl, sym, ap, subst}
+use Rattle.std.proofs.Common.{◌≡◌, ℕ, zero, suc, ◌+◌, Bool, true, false, ◌&&◌, List, [], ◌∷◌, take, Option, Some, None, refl, sym, ap, subst}
 use Rattle.std.specs.Prelude.{slice_get, option_map, unwrap_or}
 use Rattle.std.specs.List.{list_all}
 use Rattle.sd_types.specs.declared.numbers.LockId.{LockId}
@@ -13,23 +13,11 @@ use Rattle.sd_types.specs.declared.works.Work.{Work}
 use Rattle.sd_types.specs.Scripts.{held_by, can_take, op_fits}
 use Rattle.sd_types.specs.Works.{Declared, declared_of, op_names, thread_fits}
 use Rattle.sd_machine.specs.Operations.{script_of}
+use Rattle.sd_machine.proofs.BestLemmas.{and_right}
 use Rattle.sd_sound.specs.Causes.{wants}
 
 abbrev pub declared : Work → Declared
 declared w = declared_of w.cpus w.sets w.locks w.chans w.threads
-
--- which parts of a test that has two hold
-pub first_of_two : (a b : Bool) → (a && b) ≡ true → a ≡ true
-first_of_two true b e = refl
-first_of_two false b e = cc
-
-pub second_of_two : (a b : Bool) → (a && b) ≡ true → b ≡ true
-second_of_two true b e = e
-second_of_two false b e = cc
-
-pub not_true : (a : Bool) → not a ≡ true → a ≡ false
-not_true true e = cc
-not_true false e = refl
 
 pub all_at : {X : Type 0} (p : X → Bool) (xs : List X) (i : ℕ) (x : X) → list_all p xs ≡ true → slice_get xs i ≡ Some x → p x ≡ true
 all_at p [] i x all e = cc
@@ -65,7 +53,7 @@ pub op_named : (w : Work) (t i : ℕ) (o : Op) → slice_get (script_of w t) i �
 op_named w t i o e =
     let d = declares w t i o e in
     let fits : thread_fits (declared w) d.thread ≡ true = all_at (thread_fits (declared w)) w.threads t d.thread w.threads_fit d.at in
-    all_at (op_names (declared w)) d.thread.script.ops i o (second_of_two _ (list_all (op_names (declared w)) d.thread.script.ops) fits) d.is
+    all_at (op_names (declared w)) d.thread.script.ops i o (and_right _ (list_all (op_names (declared w)) d.thread.script.ops) fits) d.is
 
 -- the script balances its locks
 pub op_balances : (w : Work) (t i : ℕ) (o : Op) → slice_get (script_of w t) i ≡ Some o → op_fits (held_by (take i (script_of w t))) o (slice_get (script_of w t) (i + 1)) ≡ true

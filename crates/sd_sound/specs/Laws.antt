@@ -1,11 +1,11 @@
 -- What the laws of the whole machine say.
-use Rattle.std.specs.Prelude.{◌≡◌, ℕ, ◌+◌, ◌<◌, ◌≤◌, ◌^◌, Bool, true, false, List, [], ◌∷◌, length, nat_lt, ◌==◌, Option, Some, None, ⊤}
+use Rattle.std.specs.Prelude.{◌≡◌, ℕ, ◌+◌, ◌<◌, ◌≤◌, ◌^◌, Bool, true, false, List, [], ◌∷◌, length, take, nat_lt, ◌==◌, Option, Some, None, ⊤}
 use Rattle.std.specs.List.{list_any, list_all}
 use Rattle.sd_full.specs.Shapes.{FitsFully}
 use Rattle.sd_full.specs.Threads.{open_of, lock_of, count_of}
-use Rattle.sd_machine.specs.Opening.{opening}
 use Rattle.sd_types.specs.declared.numbers.CpuId.{CpuId}
 use Rattle.sd_types.specs.declared.numbers.ThreadId.{ThreadId}
+use Rattle.sd_types.specs.declared.events.Entry.{Entry}
 use Rattle.sd_types.specs.declared.events.Event.{Event}
 use Rattle.sd_types.specs.declared.events.Event.TheVariants.{Napend, Wake, Rouse, Unblock, Grant, SemaVWake}
 use Rattle.sd_types.specs.declared.events.Hints.{Hints}
@@ -18,7 +18,7 @@ use Rattle.sd_machine.specs.declared.states.Place.TheVariants.{Queued, RealTime}
 use Rattle.sd_machine.specs.declared.states.State.{State}
 use Rattle.sd_machine.specs.States.{thread_of, cpu_of}
 use Rattle.sd_full.specs.Events.{next, after}
-use Rattle.sd_full.specs.Runs.{IsReached}
+use Rattle.sd_full.specs.Runs.{IsReached, IsRun, IsStep}
 use Rattle.sd_sound.specs.Causes.{IsCause}
 
 -- in every state to which a run leads
@@ -88,3 +88,13 @@ pub record IsFit (w : Work) (s : State) : Type 0 where
 -- a state of a run can be read, and counted on
 abbrev pub StatesFit : Type 0
 StatesFit = (w : Work) (n : ℕ) (s : State) → IsReached w n s → IsFit w s
+
+-- given the state, the number, the processor and what it reads there is at most one event and one next state
+abbrev pub OneNext : Type 0
+OneNext =
+    (w : Work) (s : State) (d e : Entry) → d.number ≡ e.number → d.cpu ≡ e.cpu → d.hints ≡ e.hints → IsStep w s d → IsStep w s e
+    → (d.event ≡ e.event) × (after w s d.number d.cpu d.event ≡ after w s e.number e.cpu e.event)
+
+-- a prefix of a run is a run, so that what holds after every run holds in each state of one
+abbrev pub FrontsAreRuns : Type 0
+FrontsAreRuns = (w : Work) (es : List Entry) (k : ℕ) → IsRun w es → IsRun w (take k es)

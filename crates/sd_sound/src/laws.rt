@@ -1,8 +1,8 @@
 //! Laws of the whole machine, each as the contract of a function without a body.
 
-ghost use Rattle.sd_laws.specs.Laws.{KeysDiffer, KeysWithin, OneRuns};
+ghost use Rattle.sd_machine.specs.Invariants.{KeysDiffer, KeysWithin, OneRuns, UrgentThreads};
 ghost use Rattle.sd_sound.specs.Holding.{Agreed, DutiesServe, ReadsWell};
-ghost use Rattle.sd_sound.specs.Laws.{AreSound, CountsWithin, EventsHaveCauses, HoldsAfterEntries, HoldsWhenReached, OpenHold, StatesFit, WokenAreRunnable};
+ghost use Rattle.sd_sound.specs.Laws.{AreSound, CountsWithin, EventsHaveCauses, FrontsAreRuns, HoldsAfterEntries, HoldsWhenReached, OneNext, OpenHold, StatesFit, WokenAreRunnable};
 ghost use Rattle.sd_sound.specs.Scripted.{Scripted};
 
 /// In every state of every run each thread stands at an operation of its script or behind the last; it holds exactly
@@ -76,4 +76,19 @@ pub fn open_lists_hold()
 /// 160, and the count of each semaphore may rise once more in 32 bits, where it began with 16.
 pub fn states_fit()
     ensures { StatesFit }
+{}
+
+/// Given a state, a number, a processor and what it reads there is at most one event and one next state.
+pub fn one_next()
+    ensures { OneNext }
+{}
+
+/// A prefix of a run is a run. So what a law says of the state after every run it says of each state in one.
+pub fn fronts_are_runs()
+    ensures { FrontsAreRuns }
+{}
+
+/// The threads that stand on real-time queues in the initial state are those of priority 100 or more.
+pub fn urgent_threads()
+    ensures { UrgentThreads }
 {}

@@ -5,7 +5,7 @@
 mod laws;
 
 pub use laws::{
-    counts_within, duties_serve, events_have_causes, inheritance_is_sound, keys_differ,
-    keys_within, locks_agree, one_runs, open_lists_hold, readers_wait_for_writers,
-    scripts_are_followed, states_fit, woken_are_runnable,
+    counts_within, duties_serve, events_have_causes, fronts_are_runs, inheritance_is_sound,
+    keys_differ, keys_within, locks_agree, one_next, one_runs, open_lists_hold,
+    readers_wait_for_writers, scripts_are_followed, states_fit, urgent_threads, woken_are_runnable,
 };

@@ -5,7 +5,7 @@ use Rattle.std.specs.List.{list_all, list_any, position_or_len}
 use Rattle.std.specs.Fmt.{decimal}
 use Rattle.std.specs.Str.{all_ascii_digits}
 use Rattle.std.specs.Str.Parse.{digits_value}
-use Rattle.std.proofs.lemmas.Bool.{false≢true, lt-ltb, le-leb, eq-eqb}
+use Rattle.std.proofs.lemmas.Bool.{false≢true, lt-ltb, le-leb, eq-eqb, and_parts, or_parts}
 use Rattle.std.proofs.lemmas.Bool.Decides.{nat_tests}
 use Rattle.std.proofs.lemmas.Str.Parse.{IsNumeralModel, numerals_by_value, tells_all_ascii_digits}
 use Rattle.std.proofs.lemmas.Fmt.{length-decimal-le, digits_decimal, digits_value-decimal}
@@ -18,19 +18,11 @@ use Rattle.sd_types.specs.declared.works.Work.{Work}
 use Rattle.sd_types.specs.NameWords.{is_letter, is_name_byte, is_name}
 use Rattle.sd_types.specs.Works.{same_bytes, is_distinct}
 use Rattle.sd_text.specs.Words.{ends_word, is_word}
-use Rattle.sd_text.proofs.NumberLemmas.{is_word-decimal}
+use Rattle.sd_text.proofs.NumberLemmas.{is_word-decimal, own}
 use Rattle.sd_machine.specs.Texts.{thread_name, lock_name, chan_name}
 use Rattle.sd_full.specs.Texts.{set_name, cpu_text}
 use Rattle.sd_spelling.specs.Fitting.{has_cpu, has_thread, has_lock, has_chan, has_set, is_byte}
 use Rattle.sd_spelling.specs.Reading.{digits_of, number_in, thread_in, lock_in, chan_in, set_in, cpu_in, byte_in, count_in}
-
-pub both : (a b : Bool) → (a && b) ≡ true → (a ≡ true) × (b ≡ true)
-both true b h = (refl, h)
-both false b h = absurd (false≢true h)
-
-neither : (a b : Bool) → (a || b) ≡ false → (a ≡ false) × (b ≡ false)
-neither true b h = absurd (false≢true (sym h))
-neither false b h = (refl, h)
 
 -- ---- what is a word
 
@@ -39,12 +31,12 @@ byte_plain b h = grind (arith, nat_tests)
 
 bytes_plain : (bs : List ℕ) → list_all is_name_byte bs ≡ true → list_all (λ b. not (ends_word b)) bs ≡ true
 bytes_plain [] h = refl
-bytes_plain (b ∷ bs) h = let p = both _ _ h in rw (byte_plain b p.0) (bytes_plain bs p.1)
+bytes_plain (b ∷ bs) h = let p = and_parts _ _ h in rw (byte_plain b p.0) (bytes_plain bs p.1)
 
 name_word : (name : List ℕ) → is_name name ≡ true → is_word name ≡ true
 name_word [] h = absurd (false≢true h)
 name_word (b ∷ bs) h =
-    let p = both (is_letter b && leb (length (b ∷ bs)) 16) (list_all is_name_byte (b ∷ bs)) h in
+    let p = and_parts (is_letter b && leb (length (b ∷ bs)) 16) (list_all is_name_byte (b ∷ bs)) h in
     let some : ltb 0 (length (b ∷ bs)) ≡ true = lt-ltb _ _ (omega arith) in
     rw some (bytes_plain (b ∷ bs) p.1)
 
@@ -66,8 +58,8 @@ module _ {X : Type 0} (name : X → List ℕ) where
 
   none_passes : (p : List ℕ → Bool) (xs : List X) (t : ℕ) → t < length xs → list_any p (map name xs) ≡ false → p (name_at name xs t) ≡ false
   none_passes p [] t inside none = absurd (omega arith)
-  none_passes p (x ∷ xs) zero inside none = (neither _ _ none).0
-  none_passes p (x ∷ xs) (suc t) inside none = none_passes p xs t (omega arith) (neither _ _ none).1
+  none_passes p (x ∷ xs) zero inside none = (or_parts _ _ none).0
+  none_passes p (x ∷ xs) (suc t) inside none = none_passes p xs t (omega arith) (or_parts _ _ none).1
 
   same_itself : (bs : List ℕ) → same_bytes bs bs ≡ true
   same_itself [] = refl
@@ -83,15 +75,12 @@ module _ {X : Type 0} (name : X → List ℕ) where
   place_of_name [] t inside distinct = absurd (omega arith)
   place_of_name (x ∷ xs) zero inside distinct = rw (same_itself (name x)) refl
   place_of_name (x ∷ xs) (suc t) inside distinct =
-      let p = both _ _ distinct in
+      let p = and_parts _ _ distinct in
       let other : same_bytes (name x) (name_at name xs t) ≡ false = none_passes (same_bytes (name x)) xs t (omega arith) (not_true _ p.0) in
       let rest : position_or_len (λ y. same_bytes (name y) (name_at name xs t)) xs ≡ t = place_of_name xs t (omega arith) p.1 in
       rw other (ap (λ k. 1 + k) rest ∙ (let e : 1 + t ≡ suc t = omega arith in e))
 
 -- ---- numbers
-
-own : IsNumeralModel (λ ds. all_ascii_digits ds ≡ true) (digits_value 10)
-own = numerals_by_value _ tells_all_ascii_digits
 
 pub number_read : (n : ℕ) → n < 2 ^ 64 → number_in (decimal n) ≡ n
 unfolding number_in digits_of
@@ -147,7 +136,7 @@ module _ (w : Work) where
   pub cpu_word : (c : CpuId) → has_cpu w c ≡ true → is_word (cpu_text c) ≡ true
   cpu_word c h =
       let few : c.0 < 64 = cpu_small c h in
-      let digits = both (ltb 0 (length (decimal c.0))) (list_all (λ b. not (ends_word b)) (decimal c.0)) (is_word-decimal c.0 (omega arith)) in
+      let digits = and_parts (ltb 0 (length (decimal c.0))) (list_all (λ b. not (ends_word b)) (decimal c.0)) (is_word-decimal c.0 (omega arith)) in
       let some : ltb 0 (length (cpu_text c)) ≡ true = lt-ltb _ _ (omega arith) in
       rw some digits.1
 
@@ -173,8 +162,8 @@ module _ (w : Work) where
   no_dash : (name : List ℕ) → is_name name ≡ true → same_bytes name (codes "-") ≡ false
   no_dash [] h = absurd (false≢true h)
   no_dash (b ∷ bs) h =
-      let p = both (is_letter b && leb (length (b ∷ bs)) 16) (list_all is_name_byte (b ∷ bs)) h in
-      let letter = (both (is_letter b) (leb (length (b ∷ bs)) 16) p.0).0 in
+      let p = and_parts (is_letter b && leb (length (b ∷ bs)) 16) (list_all is_name_byte (b ∷ bs)) h in
+      let letter = (and_parts (is_letter b) (leb (length (b ∷ bs)) 16) p.0).0 in
       let other : eqb b 45 ≡ false = grind (arith, nat_tests) in
       rw other refl
 

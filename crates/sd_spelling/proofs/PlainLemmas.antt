@@ -3,7 +3,7 @@ use Rattle.std.proofs.Common.{◌≡◌, ℕ, zero, suc, ◌<◌, ◌≤◌, ◌
 use Rattle.std.specs.Prelude.{unwrap_or}
 use Rattle.std.specs.List.{list_all}
 use Rattle.std.specs.Fmt.{decimal}
-use Rattle.std.proofs.lemmas.Bool.{false≢true}
+use Rattle.std.proofs.lemmas.Bool.{false≢true, and_parts}
 use Rattle.std.proofs.lemmas.Bool.Decides.{nat_tests}
 use Rattle.sd_types.specs.declared.numbers.CpuId.{CpuId}
 use Rattle.sd_types.specs.declared.numbers.ThreadId.{ThreadId}
@@ -18,7 +18,7 @@ use Rattle.sd_text.proofs.NumberLemmas.{is_line-decimal}
 use Rattle.sd_machine.specs.Texts.{thread_name, lock_name, chan_name}
 use Rattle.sd_full.specs.Texts.{set_name, cpu_text}
 use Rattle.sd_spelling.specs.Fitting.{has_cpu, has_thread, has_lock, has_chan, has_set, is_byte}
-use Rattle.sd_spelling.proofs.NameLemmas.{both, number_word, thread_word, lock_word, chan_word, set_word, cpu_word, cpu_small, byte_word, count_word}
+use Rattle.sd_spelling.proofs.NameLemmas.{number_word, thread_word, lock_word, chan_word, set_word, cpu_word, cpu_small, byte_word, count_word}
 
 -- one word, in one line
 abbrev pub IsPlain : List ℕ → Type 0
@@ -38,11 +38,11 @@ no_newline b h = grind (arith, nat_tests)
 
 no_newlines : (bs : List ℕ) → list_all is_name_byte bs ≡ true → is_line bs ≡ true
 no_newlines [] h = refl
-no_newlines (b ∷ bs) h = let p = both _ _ h in rw (no_newline b p.0) (no_newlines bs p.1)
+no_newlines (b ∷ bs) h = let p = and_parts _ _ h in rw (no_newline b p.0) (no_newlines bs p.1)
 
 name_line : (name : List ℕ) → is_name name ≡ true → is_line name ≡ true
 name_line [] h = absurd (false≢true h)
-name_line (b ∷ bs) h = no_newlines (b ∷ bs) (both (is_letter b && leb (length (b ∷ bs)) 16) (list_all is_name_byte (b ∷ bs)) h).1
+name_line (b ∷ bs) h = no_newlines (b ∷ bs) (and_parts (is_letter b && leb (length (b ∷ bs)) 16) (list_all is_name_byte (b ∷ bs)) h).1
 
 module _ {X : Type 0} (name : X → List ℕ) where
   name_at_line : ((x : X) → is_name (name x) ≡ true) → (xs : List X) (t : ℕ) → t < length xs → is_line (unwrap_or (option_map name (slice_get xs t)) []) ≡ true

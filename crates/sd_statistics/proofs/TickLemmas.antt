@@ -16,7 +16,7 @@ use Rattle.sd_stretches.specs.Histories.{IsHistory}
 use Rattle.sd_stretches.specs.Rows.{own_turns, stretch_to, stretches, stretches_of}
 use Rattle.sd_stretches.specs.Spins.{cut_all, pieces, pieces_of, spells_on, spells_within, Fills}
 use Rattle.sd_stretches.proofs.ExactLemmas.{begins_at_0}
-use Rattle.sd_stretches.proofs.SpinLemmas.{pieces_fill}
+use Rattle.sd_stretches.proofs.SpinLemmas.{pieces_fill, fills_cons}
 use Rattle.sd_statistics.specs.declared.activities.Activity.{Activity}
 use Rattle.sd_statistics.specs.declared.activities.Activity.TheVariants.{Running, Spinning, Runnable, Waiting, Asleep, Napping, Ended}
 use Rattle.sd_statistics.specs.Activities.{is_of, span_if, span_of, spans_of}
@@ -82,10 +82,6 @@ fills_ticks from to (p ∷ q ∷ ps) fills =
     let begins : p.from ≡ from = fills.0 in
     let rest : sum_by stretch_ticks (q ∷ ps) + p.to ≡ to + sum_by ticks_behind (q ∷ ps) = fills_ticks p.to to (q ∷ ps) fills.1 in
     omega (arith, begins, rest, sum_by-cons stretch_ticks p (q ∷ ps), sum_by-cons ticks_behind p (q ∷ ps))
-
-fills_cons : (from to : ℕ) (p : Stretch) (ys : List Stretch) → p.from ≡ from → Fills p.to to ys → Fills from to (p ∷ ys)
-fills_cons from to p [] begins fills = absurd fills
-fills_cons from to p (q ∷ qs) begins fills = (begins, fills)
 
 fills_append : (a b c : ℕ) (xs ys : List Stretch) → Fills a b xs → Fills b c ys → Fills a c (xs ++ ys)
 fills_append a b c [] ys first second = absurd first

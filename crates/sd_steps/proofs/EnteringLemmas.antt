@@ -3,7 +3,7 @@ use Rattle.std.proofs.Common.{◌≡◌, ℕ, zero, suc, ◌<◌, Bool, true, fa
 use Rattle.std.specs.Prelude.{slice_get, option_map, is_some, IsSome, nat_lt}
 use Rattle.std.specs.List.{list_any}
 use Rattle.std.proofs.lemmas.List.{length-map}
-use Rattle.std.proofs.lemmas.Bool.{eq-eqb}
+use Rattle.std.proofs.lemmas.Bool.{eq-eqb, or_right, and_from, cases_Bool, or_parts}
 use Rattle.std.proofs.lemmas.Bool.Decides.{nat_tests}
 use Rattle.std.proofs.lemmas.Option.{same_Some, slice_get-map, slice_get_within, get_or_from_slice_get}
 use Rattle.sd_types.specs.declared.numbers.CpuId.{CpuId}
@@ -56,10 +56,6 @@ found (n ∷ ns) e = by (nat_lt 0 n) refl (λ later. found ns later) e
     by true here rest e = record { index = 0; number = n; at = refl; above = above_zero n here }
     by false here rest e = found-next n ns (rest e)
 
-or_right : (a b : Bool) → b ≡ true → (a || b) ≡ true
-or_right true b e = refl
-or_right false b e = e
-
 any_at : (numbers : List ℕ) (i n : ℕ) → slice_get numbers i ≡ Some n → 0 < n → list_any (λ m. nat_lt 0 m) numbers ≡ true
 any_at [] i n at h = cc
 any_at (m ∷ ms) zero n at h =
@@ -74,15 +70,11 @@ same_kind : (k : Which) → same_which k k ≡ true
 same_kind Running = refl
 same_kind Queued = refl
 
-and_true : (a b : Bool) → a ≡ true → b ≡ true → (a && b) ≡ true
-and_true true b e f = f
-and_true false b e f = cc
-
 -- fit what is read
 pub shown_fit : (s : State) (r : Option (Which × List CpuId)) → hints_fit r (shown s r) ≡ true
 shown_fit s None = refl
 shown_fit s (Some r) =
-    and_true (same_which r.0 r.0) (length (map (hint_shown s r.0) r.1) == length r.1) (same_kind r.0)
+    and_from (same_which r.0 r.0) (length (map (hint_shown s r.0) r.1) == length r.1) (same_kind r.0)
     (eq-eqb (length (map (hint_shown s r.0) r.1)) (length r.1) (length-map r.1 (hint_shown s r.0)))
 
 numbers_shown : (s : State) (cpus : List CpuId) → numbers_read cpus (shown s (read_of cpus)) ≡ map (hint_shown s Queued) cpus
@@ -182,17 +174,9 @@ refused true false e h k = refl
 refused true true e h k = cc
 refused false b e h k = cc
 
-bool_cases : (b : Bool) → (b ≡ true) ⊎ (b ≡ false)
-bool_cases true = inl refl
-bool_cases false = inr refl
-
 not_or : (a b : Bool) → (not a || b) ≡ true → (a ≡ false) ⊎ (b ≡ true)
 not_or false b e = inl refl
 not_or true b e = inr e
-
-neither : (a b : Bool) → (a || b) ≡ false → (a ≡ false) × (b ≡ false)
-neither true b e = cc
-neither false b e = (refl, e)
 
 plan_some : (w : Work) (s : State) (c : ℕ) (p : Plan) → plan_enters w s c p ≡ true → is_some (allowed w s c (plan_event w s c (shown s (plan_reads w s c p)) p)) ≡ true
 plan_some w s c (Make e) may = given (ticks e) (may_tick w s c) e (not_or (ticks e) (may_tick w s c) may)
@@ -201,7 +185,7 @@ plan_some w s c (Place q p) may =
     given (ticks (event_of q at)) (may_tick w s c) (event_of q at) (inl (plain q at))
 plan_some w s c Search may =
     let e : Event = search_event s (victim_for s c (shown s (read_of (neighbours s c)))) in
-    elim (bool_cases (may_tick w s c)) [
+    elim (cases_Bool (may_tick w s c)) [
       | inl tick ↦ given (ticks e) (may_tick w s c) e (inr tick)
       | inr still ↦ given (ticks e) (may_tick w s c) e (inl (search_steals s c (by (may_tick w s c) (can_steal s c) still may)))
     ]
@@ -218,9 +202,9 @@ plan_none : (w : Work) (s : State) (c : ℕ) (hints : Option Hints) (p : Plan) �
 plan_none w s c hints (Make e) fit not_made = made_none (ticks e) (may_tick w s c) e not_made
 plan_none w s c hints (Place q p) fit not_made = cc
 plan_none w s c hints Search fit not_made =
-    let parts = neither (may_tick w s c) (can_steal s c) not_made in
+    let parts = or_parts (may_tick w s c) (can_steal s c) not_made in
     let e : Event = search_event s (victim_for s c hints) in
-    elim (bool_cases (ticks e)) [
+    elim (cases_Bool (ticks e)) [
       | inl tick ↦ refused (ticks e) (may_tick w s c) e tick parts.0
       | inr plain_one ↦ let steal = search_leads s c hints fit plain_one in let no_steal = parts.1 in cc
     ]

@@ -28,7 +28,7 @@ pushed_two {A} out first both bef one rest whole all is-first is-both is-whole s
     ap (λ (xs : List A). xs ++ rest) (is-both ∙ ap (λ (xs : List A). xs ++ one) is-first ∙ append_assoc out bef one)
     ∙ append_assoc out (bef ++ one) rest ∙ ap (λ (xs : List A). out ++ xs) (sym is-whole) ∙ so-far
 
-fills_cons : (from to : ℕ) (p : Stretch) (ys : List Stretch) → p.from ≡ from → Fills p.to to ys → Fills from to (p ∷ ys)
+pub fills_cons : (from to : ℕ) (p : Stretch) (ys : List Stretch) → p.from ≡ from → Fills p.to to ys → Fills from to (p ∷ ys)
 fills_cons from to p [] begins fills = absurd fills
 fills_cons from to p (q ∷ qs) begins fills = (begins, fills)
 

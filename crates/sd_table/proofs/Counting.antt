@@ -5,11 +5,7 @@ use Rattle.sd_homes.specs.declared.home.Home.{Home}
 use Rattle.sd_homes.specs.Families.{home_id, same_home}
 use Rattle.sd_hand.specs.Hands.{AreApart, HoldsMore, held, how_many_held}
 use Rattle.sd_hand.proofs.SlotLemmas.{holds_more, same_home_self, same_home_true}
-
-set_twice : {X : Type 0} (xs : List X) (i : ℕ) (x y : X) → set (set xs i x) i y ≡ set xs i y
-set_twice [] i x y = refl
-set_twice (z ∷ xs) zero x y = refl
-set_twice (z ∷ xs) (suc i) x y = ap (λ ys. z ∷ ys) (set_twice xs i x y)
+use Rattle.sd_world.proofs.GivenLemmas.{set_twice}
 
 emptied : (hs : List (Option Home)) (i : ℕ) (h : Home) → slice_get hs i ≡ Some (Some h) → slice_get (set hs i None) i ≡ Some None
 emptied [] i h e = absurd cc

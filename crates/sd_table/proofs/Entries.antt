@@ -49,6 +49,7 @@ use Rattle.sd_table_rule.proofs.Bridge.{moves, now_push, place_number, reached}
 use Rattle.sd_table_rule.proofs.Lists.{by_mine}
 use Rattle.sd_table_rule.proofs.Movers.{moves_mover}
 use Rattle.sd_table_rule.proofs.Since.{begins_then, reached_still}
+use Rattle.sd_table_rule.proofs.Commits.{apart_if}
 use Rattle.sd_table.specs.declared.seat.Seat.{Seat}
 use Rattle.sd_table.specs.declared.seat.Held.{Held}
 use Rattle.sd_table.specs.Seats.{AreMoved, AreNumbers, Fits, FitsAs, HasMade, IsMoved, MayMake, Publishes, desk, indices, seat_meaning}
@@ -97,9 +98,6 @@ none_some o u a b = let z : None ≡ Some u = sym a ∙ b in absurd cc
 as_held : (k : HomeId) (o : Option Home) → is_some o ≡ true → (h : Home) × (o ≡ Some h)
 as_held k None e = absurd (false≢true e)
 as_held k (Some h) e = (h, refl)
-
-apart_if : (a b : ℕ) → not (a == b) ≡ true → a ≢ b
-apart_if a b e same = let q : (a == b) ≡ true = grind (arith, nat_tests) in absurd (false≢true (sym (ap not q) ∙ e))
 
 module _ (w : Work) (t : TableId) (s : Seat) (f : Fits t w s) where
   pub cpu_is : cpu_of_number (desk s).cpu ≡ s.acting.actor.cpu

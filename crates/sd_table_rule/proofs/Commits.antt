@@ -2,7 +2,7 @@
 use Rattle.std.proofs.Common.{◌≡◌, ◌≢◌, ◌⊎◌, ℕ, zero, suc, ◌+◌, ◌*◌, ◌%◌, ◌^◌, ◌<◌, ◌≤◌, Bool, true, false, List, [], ◌∷◌, ◌++◌, length, set, filter, Option, Some, refl, sym, ap, ◌∙◌, subst, inl, inr, ⊎_elim, arith, length-set, length-append}
 use Rattle.std.specs.Prelude.{not, ◌&&◌, ◌||◌, ◌==◌}
 use Rattle.std.specs.List.{range_with_len}
-use Rattle.std.proofs.lemmas.Bool.{cases_eq, false≢true}
+use Rattle.std.proofs.lemmas.Bool.{cases_eq, false≢true, and_parts, or_cases, or_parts}
 use Rattle.std.proofs.lemmas.Bool.Decides.{nat_tests}
 use Rattle.std.proofs.Math.Nat.{mod-eq_of_lt}
 use mathlib.Core.Option as M
@@ -55,22 +55,10 @@ unfolding holds
 range-holds a zero t h = absurd (cc)
 range-holds a (suc n) t h = ⊎_elim (λ (e : a ≡ t). omega arith) (λ (m : a ≢ t). let r = range-holds (a + 1) n t (let z : holds t (range_with_len (a + 1) n) ≡ true = grind (arith, nat_tests) in z) in omega arith) (cases_eq a t)
 
-and_both : (a b : Bool) → (a && b) ≡ true → (a ≡ true) × (b ≡ true)
-and_both true b h = (refl, h)
-and_both false b h = absurd (false≢true h)
-
 holds-append : (xs ys : List ℕ) (t : ℕ) → holds t (xs ++ ys) ≡ (holds t xs || holds t ys)
 unfolding holds
 holds-append [] ys t = refl
 holds-append (x ∷ xs) ys t = let r = holds-append xs ys t in grind (arith, nat_tests)
-
-or_true : (a b : Bool) → (a || b) ≡ true → (a ≡ true) ⊎ (b ≡ true)
-or_true true b h = inl refl
-or_true false b h = inr h
-
-or_false : (a b : Bool) → (a || b) ≡ false → (a ≡ false) × (b ≡ false)
-or_false true b h = absurd (false≢true (sym h))
-or_false false b h = (refl, h)
 
 holds-moved : (w : Work) (s new : State) (t : ℕ) → holds t (moved w s new) ≡ (holds t (range_with_len 0 (length w.threads)) && not (place_home w s t == place_home w new t))
 unfolding moved
@@ -79,7 +67,7 @@ holds-moved w s new t = holds-filter (λ t. not (place_home w s t == place_home 
 not_apart : (a b : ℕ) → not (a == b) ≡ false → a ≡ b
 not_apart a b e = grind (arith, nat_tests)
 
-apart_if : (a b : ℕ) → not (a == b) ≡ true → a ≢ b
+pub apart_if : (a b : ℕ) → not (a == b) ≡ true → a ≢ b
 apart_if a b e same = let q : (a == b) ≡ true = grind (arith, nat_tests) in absurd (false≢true (sym (ap not q) ∙ e))
 
 small_run : (n c : ℕ) → c ≤ 64 → n ≤ c * most → n + 1 < 2 ^ 64
@@ -175,19 +163,19 @@ module _ (w : Work) where
       stays : (t : ℕ) → t < length w.threads → holds t strays ≡ false → (place_home w (now w kept.ledger.history) t ≡ place_home w (now w h') t) × (holds t (kept.ledger.stray d.cpu) ≡ false)
       stays t i q =
           let there : holds t (range_with_len 0 (length w.threads)) ≡ true = holds-range 0 (length w.threads) t (omega arith) (omega arith) in
-          let p = or_false _ _ (sym (stray_is t) ∙ q) in
+          let p = or_parts _ _ (sym (stray_is t) ∙ q) in
           let same : not (place_home w (now w h) t == place_home w (now w h') t) ≡ false = sym (ap (λ b. b && not (place_home w (now w h) t == place_home w (now w h') t)) there) ∙ p.0 in
           (not_apart (place_home w (now w h) t) (place_home w (now w h') t) same, ap (holds t) mine.stray ∙ p.1)
 
       only : (t : ℕ) → holds t strays ≡ true → (t < length w.threads) × (lock_of w s.words (place_home w (now w h') t) ≡ suc d.cpu)
-      only t q = ⊎_elim (λ p. came t p) (λ p. stayed t p) (or_true _ _ (sym (stray_is t) ∙ q))
+      only t q = ⊎_elim (λ p. came t p) (λ p. stayed t p) (or_cases _ _ (sym (stray_is t) ∙ q))
         where
           inside : (t : ℕ) → holds t (range_with_len 0 (length w.threads)) ≡ true → t < length w.threads
           inside t p = let r = range-holds 0 (length w.threads) t p in omega arith
 
           came : (t : ℕ) → (holds t (range_with_len 0 (length w.threads)) && not (place_home w (now w h) t == place_home w (now w h') t)) ≡ true → (t < length w.threads) × (lock_of w s.words (place_home w (now w h') t) ≡ suc d.cpu)
           came t p =
-              let both = and_both _ _ p in
+              let both = and_parts _ _ p in
               let i = inside t both.0 in
               (i, (goes t i (apart_if (place_home w (now w h) t) (place_home w (now w h') t) both.1)).1)
 

@@ -7,16 +7,15 @@ use Rattle.std.specs.Str.{all_ascii_digits}
 use Rattle.std.specs.Str.Parse.{digits_value}
 use Rattle.std.proofs.lemmas.List.{append-nil, length-map}
 use Rattle.std.proofs.lemmas.List.Folds.{list_all-append}
-use Rattle.std.proofs.lemmas.Bool.{lt-ltb}
+use Rattle.std.proofs.lemmas.Bool.{lt-ltb, and_parts}
 use Rattle.std.proofs.lemmas.Bool.Decides.{nat_tests}
-use Rattle.std.proofs.lemmas.Str.Parse.{IsNumeralModel, numerals_by_value, tells_all_ascii_digits}
 use Rattle.std.proofs.lemmas.Fmt.{digits_decimal, digits_value-decimal}
 use Rattle.sd_text.specs.Lines.{is_newline, is_line, lines_of, text_of_lines}
 use Rattle.sd_text.specs.Words.{is_word, words_of}
 use Rattle.sd_text.specs.Numbers.{is_number, number_of}
-use Rattle.sd_text.proofs.LineLemmas.{both, lines_of-text}
+use Rattle.sd_text.proofs.LineLemmas.{lines_of-text}
 use Rattle.sd_text.proofs.WordLemmas.{words_of-word, words_of-joined}
-use Rattle.sd_text.proofs.NumberLemmas.{number_of-decimal, is_word-decimal, is_line-decimal}
+use Rattle.sd_text.proofs.NumberLemmas.{number_of-decimal, is_word-decimal, is_line-decimal, own}
 use Rattle.sd_tables.specs.declared.columns.Column.{Column}
 use Rattle.sd_tables.specs.declared.fault.TableFault.TheVariants.{Range, Resolution}
 use Rattle.sd_tables.specs.TableText.{Line, Format, word_lines, is_res_word, is_res_line, is_row_line, is_unit, res_of_word, res_of_line, res_fault, numbers_of, column_outside, is_within, row_fault, line_fault, fault_at, AreClean, rows_in, res_in, IsTableText}
@@ -33,9 +32,9 @@ small n h = let below : n < 10000000000 = grind (arith, nat_tests) in (omega ari
 
 joined-line : (numbers : List ℕ) → is_small numbers ≡ true → is_line (join_with_byte 32 (map decimal numbers)) ≡ true
 joined-line [] h = refl
-joined-line (n ∷ []) h = let p = both (nat_lt n 10000000000) _ h in is_line-decimal n (small n p.0).1
+joined-line (n ∷ []) h = let p = and_parts (nat_lt n 10000000000) _ h in is_line-decimal n (small n p.0).1
 joined-line (n ∷ m ∷ ns) h =
-    let p = both (nat_lt n 10000000000) _ h in
+    let p = and_parts (nat_lt n 10000000000) _ h in
     list_all-append (λ byte. not (is_newline byte)) (decimal n) (32 ∷ join_with_byte 32 (map decimal (m ∷ ns)))
     ∙ rw (is_line-decimal n (small n p.0).1) (joined-line (m ∷ ns) p.1)
 
@@ -48,14 +47,14 @@ row_text-line numbers level h l =
 row_texts-lines : (rows : List (List ℕ)) (level : ℕ) → list_all is_small rows ≡ true → level + length rows < 2 ^ 64 → list_all is_line (row_texts rows level) ≡ true
 row_texts-lines [] level h l = refl
 row_texts-lines (row ∷ rows) level h l =
-    let p = both (is_small row) _ h in
+    let p = and_parts (is_small row) _ h in
     rw (row_text-line row level p.0 (omega arith)) (row_texts-lines rows (level + 1) p.1 (omega arith))
 
 -- ---- words
 
 decimals-words : (numbers : List ℕ) → is_small numbers ≡ true → list_all is_word (map decimal numbers) ≡ true
 decimals-words [] h = refl
-decimals-words (n ∷ ns) h = let p = both (nat_lt n 10000000000) _ h in rw (is_word-decimal n (small n p.0).1) (decimals-words ns p.1)
+decimals-words (n ∷ ns) h = let p = and_parts (nat_lt n 10000000000) _ h in rw (is_word-decimal n (small n p.0).1) (decimals-words ns p.1)
 
 row_text-words : (numbers : List ℕ) (level : ℕ) → is_small numbers ≡ true → words_of (row_text numbers level) ≡ map decimal numbers
 unfolding row_text words_of
@@ -66,12 +65,12 @@ row_text-words numbers level h =
 row_texts-words : (rows : List (List ℕ)) (level : ℕ) → list_all is_small rows ≡ true → map words_of (row_texts rows level) ≡ map (map decimal) rows
 row_texts-words [] level h = refl
 row_texts-words (row ∷ rows) level h =
-    let p = both (is_small row) _ h in
+    let p = and_parts (is_small row) _ h in
     ap (λ l. words_of (row_text row level) ∷ l) (row_texts-words rows (level + 1) p.1) ∙ ap (λ w. w ∷ map (map decimal) rows) (row_text-words row level p.0)
 
 res_text-word : (res : ℕ) → res < 2 ^ 64 → is_word (res_text res) ≡ true
 res_text-word res h =
-    let plain = (both (ltb 0 (length (decimal res))) _ (is_word-decimal res h)).1 in
+    let plain = (and_parts (ltb 0 (length (decimal res))) _ (is_word-decimal res h)).1 in
     let long : ltb 0 (length (res_text res)) ≡ true = lt-ltb _ _ (omega arith) in
     rw long plain
 
@@ -97,12 +96,9 @@ no_res_word : (digits : List ℕ) → all_ascii_digits digits ≡ true → is_re
 unfolding is_res_word
 no_res_word [] h = refl
 no_res_word (d ∷ ds) h =
-    let digit : is_ascii_digit d ≡ true = (both (is_ascii_digit d) _ h).0 in
+    let digit : is_ascii_digit d ≡ true = (and_parts (is_ascii_digit d) _ h).0 in
     let other : eqb d 82 ≡ false = grind (arith, nat_tests) in
     rw other refl
-
-own : IsNumeralModel (λ ds. all_ascii_digits ds ≡ true) (digits_value 10)
-own = numerals_by_value _ tells_all_ascii_digits
 
 no_res_number : (n : ℕ) → nat_lt n 10000000000 ≡ true → is_res_word (decimal n) ≡ false
 no_res_number n h = no_res_word (decimal n) (digits_decimal own n (small n h).1)
@@ -111,7 +107,7 @@ no_res_number n h = no_res_word (decimal n) (digits_decimal own n (small n h).1)
 written_row : (row : List ℕ) → 0 < length row → is_small row ≡ true → (is_res_line (map decimal row) ≡ false) × (is_row_line (map decimal row) ≡ true)
 written_row [] some h = absurd (omega arith)
 written_row (n ∷ ns) some h =
-    let e = no_res_number n (both (nat_lt n 10000000000) _ h).0 in (e, ap not e)
+    let e = no_res_number n (and_parts (nat_lt n 10000000000) _ h).0 in (e, ap not e)
 
 -- rows of as many numbers as there are columns, each within its column
 abbrev pub are_rows : List Column → List (List ℕ) → Bool
@@ -119,14 +115,14 @@ are_rows columns rows = list_all (λ row. is_within columns row && is_small row)
 
 has_some : (columns : List Column) (row : List ℕ) → 0 < length columns → is_within columns row ≡ true → 0 < length row
 has_some columns row some h =
-    let e : nat_eq (length row) (length columns) ≡ true = (both (nat_eq (length row) (length columns)) _ h).0 in grind (arith, nat_tests)
+    let e : nat_eq (length row) (length columns) ≡ true = (and_parts (nat_eq (length row) (length columns)) _ h).0 in grind (arith, nat_tests)
 
 rows-kept : (columns : List Column) (rows : List (List ℕ)) → 0 < length columns → are_rows columns rows ≡ true
     → (filter is_row_line (map (map decimal) rows) ≡ map (map decimal) rows) × (filter is_res_line (map (map decimal) rows) ≡ [])
 rows-kept columns [] some h = (refl, refl)
 rows-kept columns (row ∷ rows) some h =
-    let p = both (is_within columns row && is_small row) _ h in
-    let q = both (is_within columns row) _ p.0 in
+    let p = and_parts (is_within columns row && is_small row) _ h in
+    let q = and_parts (is_within columns row) _ p.0 in
     let kind = written_row row (has_some columns row some q.0) q.1 in
     let rest = rows-kept columns rows some p.1 in
     (rw (kind.1) (ap (λ l. map decimal row ∷ l) rest.0), rw (kind.0) rest.1)
@@ -134,14 +130,14 @@ rows-kept columns (row ∷ rows) some h =
 numbers-again : (row : List ℕ) → is_small row ≡ true → numbers_of (map decimal row) ≡ row
 numbers-again [] h = refl
 numbers-again (n ∷ ns) h =
-    let p = both (nat_lt n 10000000000) _ h in
+    let p = and_parts (nat_lt n 10000000000) _ h in
     ap (λ l. digits_value 10 (decimal n) ∷ l) (numbers-again ns p.1) ∙ ap (λ m. m ∷ ns) (digits_value-decimal own n (small n p.0).1)
 
 rows-again : (columns : List Column) (rows : List (List ℕ)) → are_rows columns rows ≡ true → map numbers_of (map (map decimal) rows) ≡ rows
 rows-again columns [] h = refl
 rows-again columns (row ∷ rows) h =
-    let p = both (is_within columns row && is_small row) _ h in
-    ap (λ l. numbers_of (map decimal row) ∷ l) (rows-again columns rows p.1) ∙ ap (λ r. r ∷ rows) (numbers-again row (both (is_within columns row) _ p.0).1)
+    let p = and_parts (is_within columns row && is_small row) _ h in
+    ap (λ l. numbers_of (map decimal row) ∷ l) (rows-again columns rows p.1) ∙ ap (λ r. r ∷ rows) (numbers-again row (and_parts (is_within columns row) _ p.0).1)
 
 -- ---- faults
 
@@ -153,7 +149,7 @@ numbers-are : (row : List ℕ) → is_small row ≡ true → list_all is_number 
 unfolding number_of
 numbers-are [] h = refl
 numbers-are (n ∷ ns) h =
-    let p = both (nat_lt n 10000000000) _ h in
+    let p = and_parts (nat_lt n 10000000000) _ h in
     rw (chosen-true (is_number (decimal n)) _ n (number_of-decimal n (small n p.0).0)) (numbers-are ns p.1)
 
 no_column : (number : ℕ) (o : Option ℕ) → is_none o ≡ true → option_map (λ column. Range number (column + 1)) o ≡ None
@@ -163,7 +159,7 @@ no_column number (Some column) h = cc
 row_fault-again : (columns : List Column) (row : List ℕ) (number : ℕ) → is_within columns row ≡ true → is_small row ≡ true
     → row_fault columns (map decimal row) number ≡ None
 row_fault-again columns row number within h =
-    let p = both (nat_eq (length row) (length columns)) _ within in
+    let p = and_parts (nat_eq (length row) (length columns)) _ within in
     let count : nat_eq (length (map decimal row)) (length columns) ≡ true = ap (λ n. nat_eq n (length columns)) (length-map row decimal) ∙ p.0 in
     rw (count, numbers-are row h) (ap (λ numbers. option_map (λ column. Range number (column + 1)) (column_outside columns numbers)) (numbers-again row h) ∙ no_column number (column_outside columns row) p.1)
 
@@ -171,15 +167,15 @@ row_fault-again columns row number within h =
 line-again : (columns : List Column) (above : List Line) (row : List ℕ) (number : ℕ) → 0 < length columns
     → (is_within columns row && is_small row) ≡ true → line_fault columns above (map decimal row) number ≡ None
 line-again columns above row number some h =
-    let p = both (is_within columns row) _ h in
+    let p = and_parts (is_within columns row) _ h in
     let kind = written_row row (has_some columns row some p.0) p.1 in
     rw (kind.0, kind.1) (row_fault-again columns row number p.0 p.1)
 
 row_at : (columns : List Column) (rows : List (List ℕ)) (k : ℕ) → are_rows columns rows ≡ true → k < length rows
     → (row : List ℕ) × ((is_within columns row && is_small row) ≡ true) × (get_or (map (map decimal) rows) k [] ≡ map decimal row)
 row_at columns [] k h below = absurd (omega arith)
-row_at columns (row ∷ rows) zero h below = (row, (both (is_within columns row && is_small row) _ h).0, refl)
-row_at columns (row ∷ rows) (suc k) h below = row_at columns rows k (both (is_within columns row && is_small row) _ h).1 (omega arith)
+row_at columns (row ∷ rows) zero h below = (row, (and_parts (is_within columns row && is_small row) _ h).0, refl)
+row_at columns (row ∷ rows) (suc k) h below = row_at columns rows k (and_parts (is_within columns row && is_small row) _ h).1 (omega arith)
 
 -- the RES that was written
 res-again : (res : ℕ) → is_unit res ≡ true → res_of_word (res_text res) ≡ Some res
@@ -208,8 +204,8 @@ clean-again columns res rows some unit h (suc k) below =
 smalls : (columns : List Column) (rows : List (List ℕ)) → are_rows columns rows ≡ true → list_all is_small rows ≡ true
 smalls columns [] h = refl
 smalls columns (row ∷ rows) h =
-    let p = both (is_within columns row && is_small row) _ h in
-    rw ((both (is_within columns row) _ p.0).1) (smalls columns rows p.1)
+    let p = and_parts (is_within columns row && is_small row) _ h in
+    rw ((and_parts (is_within columns row) _ p.0).1) (smalls columns rows p.1)
 
 first_kept : (res : ℕ) (more : List Line) → filter is_res_line ((res_text res ∷ []) ∷ more) ≡ (res_text res ∷ []) ∷ filter is_res_line more
 first_kept res more = rw (res_word (decimal res)) refl

@@ -1,5 +1,6 @@
 -- Each text is the spelling of one table, or has one fault.
 use Rattle.std.proofs.Common.{◌≡◌, ℕ, zero, suc, ◌+◌, ◌-◌, ◌*◌, ◌/◌, ◌<◌, ◌≤◌, ◌↔◌, ◌⊎◌, inl, inr, Bool, true, false, ◌&&◌, nat_eq, List, [], ◌∷◌, length, map, get_or, Option, Some, None, refl, sym, ap, ◌∙◌, subst, arith}
+use Rattle.std.proofs.lemmas.Bool.{and_parts}
 use borrow.Author.Count.{below_none, below_more}
 use Rattle.std.specs.List.{list_all}
 use Rattle.std.proofs.Math.Nat.{le-div_iff_mul-le}
@@ -11,7 +12,6 @@ use Rattle.sd_types.specs.declared.tables.TsTable.{TsTable}
 use Rattle.sd_types.specs.declared.tables.FixedTable.{FixedTable}
 use Rattle.sd_types.specs.Rows.{ts_row_fits, fixed_row_fits}
 use Rattle.sd_types.specs.Ticks.{ticks_of, ts_ticks_fit, fixed_ticks_fit}
-use Rattle.sd_text.proofs.LineLemmas.{both}
 use Rattle.sd_tables.specs.declared.columns.Column.{Column}
 use Rattle.sd_tables.specs.declared.fault.TableFault.{TableFault}
 use Rattle.sd_tables.specs.declared.fault.TableFault.TheVariants.{Rows}
@@ -107,8 +107,8 @@ ts_rows-same hz res [] [] e t u = refl
 ts_rows-same hz res [] (y ∷ ys) e t u = cc
 ts_rows-same hz res (x ∷ xs) [] e t u = cc
 ts_rows-same hz res (x ∷ xs) (y ∷ ys) e t u =
-    let p = both (nat_eq x.ticks (ticks_of x.quantum hz res)) _ t in
-    let q = both (nat_eq y.ticks (ticks_of y.quantum hz res)) _ u in
+    let p = and_parts (nat_eq x.ticks (ticks_of x.quantum hz res)) _ t in
+    let q = and_parts (nat_eq y.ticks (ticks_of y.quantum hz res)) _ u in
     let head : ts_numbers x ≡ ts_numbers y = cc in
     let tail : map ts_numbers xs ≡ map ts_numbers ys = cc in
     let quantum : x.quantum ≡ y.quantum = ap (λ (l : List ℕ). get_or l 0 0) head in
@@ -137,8 +137,8 @@ fixed_rows-same hz res [] [] e t u = refl
 fixed_rows-same hz res [] (y ∷ ys) e t u = cc
 fixed_rows-same hz res (x ∷ xs) [] e t u = cc
 fixed_rows-same hz res (x ∷ xs) (y ∷ ys) e t u =
-    let p = both (nat_eq x.ticks (ticks_of x.quantum hz res)) _ t in
-    let q = both (nat_eq y.ticks (ticks_of y.quantum hz res)) _ u in
+    let p = and_parts (nat_eq x.ticks (ticks_of x.quantum hz res)) _ t in
+    let q = and_parts (nat_eq y.ticks (ticks_of y.quantum hz res)) _ u in
     let head : fixed_numbers x ≡ fixed_numbers y = cc in
     let tail : map fixed_numbers xs ≡ map fixed_numbers ys = cc in
     let quantum : x.quantum ≡ y.quantum = ap (λ (l : List ℕ). get_or l 0 0) head in
@@ -162,7 +162,7 @@ ts_row-again r h = grind (arith, nat_tests)
 
 ts_rows-again : (rows : List TsRow) → list_all ts_row_fits rows ≡ true → are_rows ts_columns (map ts_numbers rows) ≡ true
 ts_rows-again [] h = refl
-ts_rows-again (r ∷ rows) h = let p = both (ts_row_fits r) _ h in rw (ts_row-again r p.0) (ts_rows-again rows p.1)
+ts_rows-again (r ∷ rows) h = let p = and_parts (ts_row_fits r) _ h in rw (ts_row-again r p.0) (ts_rows-again rows p.1)
 
 unit-of : (n : ℕ) → 1 ≤ n → n ≤ 1000000000 → is_unit n ≡ true
 unit-of n some most = grind (arith, nat_tests)
@@ -178,7 +178,7 @@ fixed_row-again r h = grind (arith, nat_tests)
 
 fixed_rows-again : (rows : List FixedRow) → list_all fixed_row_fits rows ≡ true → are_rows fixed_columns (map fixed_numbers rows) ≡ true
 fixed_rows-again [] h = refl
-fixed_rows-again (r ∷ rows) h = let p = both (fixed_row_fits r) _ h in rw (fixed_row-again r p.0) (fixed_rows-again rows p.1)
+fixed_rows-again (r ∷ rows) h = let p = and_parts (fixed_row_fits r) _ h in rw (fixed_row-again r p.0) (fixed_rows-again rows p.1)
 
 pub fixed_again : (most hz : ℕ) (t : FixedTable) → fixed_ticks_fit hz t ≡ true → length t.rows ≤ most → most ≤ 61 → SpellsFixed (fixed_format most) (fixed_text t) hz t
 fixed_again most hz t ticks short small =

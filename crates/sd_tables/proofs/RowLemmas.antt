@@ -1,9 +1,8 @@
 -- The numbers of a row that lie in the ranges of their columns.
 use Rattle.std.proofs.Common.{◌≡◌, ℕ, ◌<◌, ◌≤◌, zero, suc, get_or, Bool, true, ◌&&◌, nat_eq, List, [], ◌∷◌, length, map, slice_index, refl, ap, ◌∙◌, arith, eq-eqb}
 use Rattle.std.specs.List.{list_all}
-use Rattle.std.proofs.lemmas.Bool.{false≢true}
+use Rattle.std.proofs.lemmas.Bool.{false≢true, and_parts}
 use Rattle.std.proofs.lemmas.Bool.Decides.{nat_tests}
-use Rattle.sd_text.proofs.LineLemmas.{both}
 use Rattle.sd_tables.specs.TableText.{is_within, ts_columns, fixed_columns, ts_numbers, fixed_numbers, is_unit}
 use Rattle.sd_tables.specs.TableRows.{ts_row_of, fixed_row_of}
 use Rattle.sd_tables.proofs.TicksLemmas.{some_ticks}
@@ -18,8 +17,8 @@ too_long n m b more h = let e : n ≡ m = grind (arith, nat_tests) in omega arit
 -- a test that holds of each element of a list holds at an index
 pub all_at : {X Y : Type 0} (p : Y → Bool) (f : X → Y) (xs : List X) (i : ℕ) (d : X) → list_all p (map f xs) ≡ true → i < length xs → p (f (get_or xs i d)) ≡ true
 all_at p f [] i d h within = absurd (omega arith)
-all_at p f (x ∷ xs) zero d h within = (both (p (f x)) _ h).0
-all_at p f (x ∷ xs) (suc i) d h within = all_at p f xs i d (both (p (f x)) _ h).1 (omega arith)
+all_at p f (x ∷ xs) zero d h within = (and_parts (p (f x)) _ h).0
+all_at p f (x ∷ xs) (suc i) d h within = all_at p f xs i d (and_parts (p (f x)) _ h).1 (omega arith)
 
 pub record AreTs (numbers : List ℕ) : Type 0 where
   pub count : length numbers ≡ 5
@@ -90,7 +89,7 @@ pub ts_rows-right : (hz res : ℕ) (xs : List (List ℕ)) → 1 ≤ hz → is_un
     × (list_all (λ (r : TsRow). nat_eq r.ticks (ticks_of r.quantum hz res)) (map (ts_row_of hz res) xs) ≡ true)
 ts_rows-right hz res [] h unit all = (refl, refl, refl)
 ts_rows-right hz res (x ∷ xs) h unit all =
-    let p = both (is_within ts_columns x) _ all in
+    let p = and_parts (is_within ts_columns x) _ all in
     let here = ts_row-right hz res x h unit p.0 in
     let rest = ts_rows-right hz res xs h unit p.1 in
     (ap (λ l. ts_numbers (ts_row_of hz res x) ∷ l) rest.0 ∙ ap (λ y. y ∷ xs) here.0, rw (here.1) (rest.1), rw (here.2) (rest.2))
@@ -116,7 +115,7 @@ pub fixed_rows-right : (hz res : ℕ) (xs : List (List ℕ)) → 1 ≤ hz → is
     × (list_all (λ (r : FixedRow). nat_eq r.ticks (ticks_of r.quantum hz res)) (map (fixed_row_of hz res) xs) ≡ true)
 fixed_rows-right hz res [] h unit all = (refl, refl, refl)
 fixed_rows-right hz res (x ∷ xs) h unit all =
-    let p = both (is_within fixed_columns x) _ all in
+    let p = and_parts (is_within fixed_columns x) _ all in
     let here = fixed_row-right hz res x h unit p.0 in
     let rest = fixed_rows-right hz res xs h unit p.1 in
     (ap (λ l. fixed_numbers (fixed_row_of hz res x) ∷ l) rest.0 ∙ ap (λ y. y ∷ xs) here.0, rw (here.1) (rest.1), rw (here.2) (rest.2))

@@ -1,5 +1,6 @@
 -- A text without a fault spells a table.
 use Rattle.std.proofs.Common.{◌≡◌, ℕ, zero, suc, ◌+◌, ◌≤◌, ◌⊎◌, inl, inr, Bool, true, false, ◌&&◌, cond, nat_eq, nat_le, List, [], ◌∷◌, ◌++◌, length, take, map, filter, get_or, Option, Some, None, is_none, option_map, IfSome, unwrap_or, refl, sym, ap, ◌∙◌, arith}
+use Rattle.std.proofs.lemmas.Bool.{and_parts, not-true}
 use Rattle.std.specs.List.{list_all}
 use Rattle.std.specs.Str.Parse.{digits_value}
 use Rattle.std.proofs.lemmas.List.{length-map, take_more, take_all, map-append}
@@ -8,7 +9,6 @@ use Rattle.std.proofs.lemmas.List.Folds.{list_all-append}
 use Rattle.std.proofs.lemmas.Bool.Decides.{nat_tests}
 use Rattle.sd_types.specs.declared.tables.TsTable.{TsTable}
 use Rattle.sd_types.specs.declared.tables.FixedTable.{FixedTable}
-use Rattle.sd_text.proofs.LineLemmas.{both, not-true}
 use Rattle.sd_tables.specs.declared.columns.Column.{Column}
 use Rattle.sd_tables.specs.declared.fault.TableFault.{TableFault}
 use Rattle.sd_tables.specs.declared.fault.TableFault.TheVariants.{NotANumber, Range}
@@ -36,7 +36,7 @@ clean_row columns above line number row h =
     sym (ap (λ b. cond b (res_fault above line number) (cond (is_row_line line) (row_fault columns line number) None)) (not_res line row)
     ∙ ap (λ b. cond b (row_fault columns line number) None) row) ∙ h in
     let p = no_fault (has_numbers columns line) (column_outside columns (numbers_of line)) number here in
-    let count : nat_eq (length line) (length columns) ≡ true = (both (nat_eq (length line) (length columns)) _ p.0).0 in
+    let count : nat_eq (length line) (length columns) ≡ true = (and_parts (nat_eq (length line) (length columns)) _ p.0).0 in
     let same : nat_eq (length (numbers_of line)) (length columns) ≡ true = ap (λ n. nat_eq n (length columns)) (length-map line (digits_value 10)) ∙ count in
     rw same p.1
 

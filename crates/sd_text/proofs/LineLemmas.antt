@@ -1,13 +1,13 @@
 -- The first line of a text, and the rest.
-use Rattle.std.proofs.Common.{◌≡◌, ℕ, suc, ◌+◌, ◌-◌, ◌<◌, Bool, true, false, not, cond, ltb, ◌&&◌, ◌⊎◌, inl, inr, List, [], ◌∷◌, ◌++◌, length, append_assoc, take, drop, get_or, Some, None, unwrap_or, refl, sym, ap, ◌∙◌, arith, length-drop, drop-drop}
+use Rattle.std.proofs.Common.{◌≡◌, ℕ, suc, ◌+◌, ◌-◌, ◌<◌, Bool, true, false, not, cond, ltb, ◌⊎◌, inl, inr, List, [], ◌∷◌, ◌++◌, length, append_assoc, take, drop, get_or, Some, None, unwrap_or, refl, sym, ap, ◌∙◌, arith, length-drop, drop-drop}
 use Rattle.std.proofs.lemmas.List.{take_rest}
 use Rattle.std.proofs.lemmas.List.Sums.{prefix_len-le-length, passes_at_first}
 use Rattle.std.proofs.lemmas.Bool.Decides.{nat_tests}
-use Rattle.std.proofs.lemmas.Bool.{false≢true}
+use Rattle.std.proofs.lemmas.Bool.{and_parts, not-true}
 use Rattle.std.specs.List.{position, position_or_len, onto_first, list_all}
 use Rattle.sd_text.specs.Lines.{is_newline, lines_of, is_line, text_of_lines}
 
-chosen : (b : Bool) (n m : ℕ) → (b ≡ false → n ≡ m) → unwrap_or (cond b (Some n) None) m ≡ n
+pub chosen : (b : Bool) (n m : ℕ) → (b ≡ false → n ≡ m) → unwrap_or (cond b (Some n) None) m ≡ n
 chosen true n m h = refl
 chosen false n m h = sym (h refl)
 
@@ -65,20 +65,12 @@ newline_at xs n is within =
 
 -- ---- lines that are put together
 
-pub both : (a b : Bool) → (a && b) ≡ true → (a ≡ true) × (b ≡ true)
-both true b h = (refl, h)
-both false b h = absurd (false≢true h)
-
-pub not-true : (a : Bool) → not a ≡ true → a ≡ false
-not-true true h = absurd (false≢true h)
-not-true false h = refl
-
 -- a line with its newline, and then more
 pub lines_of-line : (line rest : List ℕ) → is_line line ≡ true → lines_of (line ++ 10 ∷ rest) ≡ line ∷ lines_of rest
 unfolding lines_of
 lines_of-line [] rest h = refl
 lines_of-line (x ∷ xs) rest h =
-    let p = both _ _ h in
+    let p = and_parts _ _ h in
     ap (λ b. cond b ([] ∷ lines_of (xs ++ 10 ∷ rest)) (onto_first x (lines_of (xs ++ 10 ∷ rest)))) (not-true (is_newline x) p.0)
     ∙ ap (onto_first x) (lines_of-line xs rest p.1)
 
@@ -86,7 +78,7 @@ pub lines_of-text : (lines : List (List ℕ)) (rest : List ℕ) → list_all is_
     → lines_of (text_of_lines lines ++ rest) ≡ lines ++ lines_of rest
 lines_of-text [] rest h = refl
 lines_of-text (line ∷ lines) rest h =
-    let p = both _ _ h in
+    let p = and_parts _ _ h in
     let e : text_of_lines (line ∷ lines) ++ rest ≡ line ++ 10 ∷ (text_of_lines lines ++ rest) = simp append_assoc in
     ap lines_of e ∙ lines_of-line line (text_of_lines lines ++ rest) p.0 ∙ ap (λ l. line ∷ l) (lines_of-text lines rest p.1)
 

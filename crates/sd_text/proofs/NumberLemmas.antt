@@ -8,13 +8,12 @@ use Rattle.std.specs.Str.Parse.{digits_value, digits_value_after}
 use Rattle.std.specs.Fmt.{decimal, digits, digits_onto, digit_glyph}
 use Rattle.std.specs.Option.{option_map}
 use Rattle.std.specs.List.{list_all}
-use Rattle.std.proofs.lemmas.Bool.{lt-ltb, le-leb}
+use Rattle.std.proofs.lemmas.Bool.{lt-ltb, le-leb, and_parts}
 use Rattle.std.proofs.lemmas.Str.Parse.{IsNumeralModel, numerals_by_value, tells_all_ascii_digits}
 use Rattle.std.proofs.lemmas.Fmt.{decimal_nonempty, length-decimal-le, digits_decimal, digits_value-decimal}
 use Rattle.sd_text.specs.Lines.{is_newline, is_line}
 use Rattle.sd_text.specs.Words.{ends_word, is_word}
 use Rattle.sd_text.specs.Numbers.{number_of, signed_of}
-use Rattle.sd_text.proofs.LineLemmas.{both}
 
 -- the digits that are left, one further on
 pub digits-more : (xs : List ℕ) (i : ℕ) → i < length xs → is_ascii_digit (get_or xs i 0) ≡ true
@@ -37,7 +36,7 @@ value-more v xs i within digit =
 
 -- ---- numbers that were written
 
-own : IsNumeralModel (λ ds. all_ascii_digits ds ≡ true) (digits_value 10)
+pub own : IsNumeralModel (λ ds. all_ascii_digits ds ≡ true) (digits_value 10)
 own = numerals_by_value _ tells_all_ascii_digits
 
 pub number_of-decimal : (n : ℕ) → n < 10 ^ 10 → number_of (decimal n) ≡ Some n
@@ -50,7 +49,7 @@ number_of-decimal n small =
 
 first-digit : (ds : List ℕ) → all_ascii_digits ds ≡ true → 0 < length ds → eqb (get_or ds 0 0) 45 ≡ false
 first-digit [] h some = refl
-first-digit (d ∷ ds) h some = let p : is_ascii_digit d ≡ true = (both _ _ h).0 in grind (arith, nat_tests)
+first-digit (d ∷ ds) h some = let p : is_ascii_digit d ≡ true = (and_parts _ _ h).0 in grind (arith, nat_tests)
 
 pub signed_of-decimal : (n : ℕ) → n < 10 ^ 10 → signed_of (decimal n) ≡ Some (pos n)
 unfolding signed_of
@@ -67,11 +66,11 @@ digit-plain d h = (grind (arith, nat_tests), grind (arith, nat_tests))
 
 digits-plain : (ds : List ℕ) → all_ascii_digits ds ≡ true → list_all (λ byte. not (ends_word byte)) ds ≡ true
 digits-plain [] h = refl
-digits-plain (d ∷ ds) h = let p = both _ _ h in rw ((digit-plain d p.0).0) (digits-plain ds p.1)
+digits-plain (d ∷ ds) h = let p = and_parts _ _ h in rw ((digit-plain d p.0).0) (digits-plain ds p.1)
 
 digits-line : (ds : List ℕ) → all_ascii_digits ds ≡ true → is_line ds ≡ true
 digits-line [] h = refl
-digits-line (d ∷ ds) h = let p = both _ _ h in rw ((digit-plain d p.0).1) (digits-line ds p.1)
+digits-line (d ∷ ds) h = let p = and_parts _ _ h in rw ((digit-plain d p.0).1) (digits-line ds p.1)
 
 pub is_word-decimal : (n : ℕ) → n < 2 ^ 64 → is_word (decimal n) ≡ true
 is_word-decimal n h =

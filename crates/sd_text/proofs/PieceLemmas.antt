@@ -1,12 +1,13 @@
 -- Pieces that are one line each, what is left of one, and texts of whole lines.
 use Rattle.std.proofs.Common.{◌≡◌, ℕ, zero, suc, ◌+◌, ◌-◌, ◌<◌, ◌≤◌, Bool, true, false, not, cond, All, List, [], ◌∷◌, ◌++◌, length, map, append_assoc, take, drop, Option, Some, refl, sym, ap, ◌∙◌, subst, arith, length-drop, length-take-le, lit<}
+use Rattle.std.proofs.lemmas.Bool.{and_parts}
 use Rattle.std.proofs.lemmas.List.{take_rest}
 use Rattle.std.proofs.lemmas.List.Elements.{All-nil, All-cons, All-head, All-tail}
 use Rattle.std.proofs.lemmas.List.Folds.{flat_map-map}
 use Rattle.std.proofs.lemmas.Bool.Decides.{nat_tests}
 use Rattle.std.specs.List.{position_or_len, onto_first, list_all, last_or, flat_map}
 use Rattle.sd_text.specs.Lines.{is_newline, lines_of, is_line, text_of_lines, IsOneLine, EndsLine, pieces_of, text_of_pieces}
-use Rattle.sd_text.proofs.LineLemmas.{both, are_lines, lines_of-line}
+use Rattle.sd_text.proofs.LineLemmas.{are_lines, lines_of-line}
 
 -- how many bytes stand before the first newline
 abbrev first : List ℕ → ℕ
@@ -97,7 +98,7 @@ EndsLine-flat_map f each (x ∷ xs) = EndsLine-append (f x) (flat_map f xs) (eac
 pub one_line-newline : (line : List ℕ) → is_line line ≡ true → IsOneLine (line ++ 10 ∷ [])
 one_line-newline [] h = refl
 one_line-newline (x ∷ xs) h =
-    let p = both _ _ h in
+    let p = and_parts _ _ h in
     let rest = one_line-newline xs p.1 in
     ap (λ b. cond b (1 + first (xs ++ 10 ∷ [])) 0 + 1) p.0 ∙ omega arith
 
@@ -105,7 +106,7 @@ one_line-newline (x ∷ xs) h =
 pub one_line-append : (xs ys : List ℕ) → is_line xs ≡ true → IsOneLine ys → IsOneLine (xs ++ ys)
 one_line-append [] ys h one = one
 one_line-append (x ∷ xs) ys h one =
-    let p = both _ _ h in
+    let p = and_parts _ _ h in
     let rest = one_line-append xs ys p.1 one in
     ap (λ b. cond b (1 + first (xs ++ ys)) 0 + 1) p.0 ∙ omega arith
 
@@ -135,7 +136,7 @@ EndsLine-one_line piece one = let s = split piece one in subst EndsLine (sym s.1
 one_lines : (lines : List (List ℕ)) → list_all is_line lines ≡ true → All IsOneLine (map (λ line. line ++ 10 ∷ []) lines)
 one_lines [] h = All-nil IsOneLine
 one_lines (line ∷ lines) h =
-    let p = both _ _ h in
+    let p = and_parts _ _ h in
     All-cons IsOneLine (line ++ 10 ∷ []) (map (λ l. l ++ 10 ∷ []) lines) (one_line-newline line p.0) (one_lines lines p.1)
 
 pub pieces-one_lines : (text : List ℕ) → All IsOneLine (pieces_of text)

@@ -2,11 +2,11 @@
 use Rattle.std.proofs.Common.{◌≡◌, ℕ, ◌+◌, ◌-◌, ◌<◌, Bool, true, false, not, cond, ltb, ◌||◌, List, [], ◌∷◌, ◌++◌, length, get_or, append_assoc, take, drop, refl, sym, ap, ◌∙◌, subst, arith, drop-drop, filter}
 use Rattle.std.proofs.lemmas.List.{take_rest, take_at, drop_at}
 use Rattle.std.proofs.lemmas.List.Folds.{length-prefix_len}
-use Rattle.std.proofs.lemmas.Bool.{lt-ltb}
+use Rattle.std.proofs.lemmas.Bool.{lt-ltb, and_parts}
 use Rattle.std.proofs.lemmas.Bool.Decides.{nat_tests}
 use Rattle.std.specs.List.{position_or_len, onto_first, list_all, join_with_byte}
 use Rattle.sd_text.specs.Words.{is_blank, is_comment, is_other, ends_word, runs_of, words_of, is_word}
-use Rattle.sd_text.proofs.LineLemmas.{take-one_more, drop-one_more, both}
+use Rattle.sd_text.proofs.LineLemmas.{take-one_more, drop-one_more}
 
 -- how many blanks the line begins with, and how many bytes of a word
 abbrev pub blanks : List ℕ → ℕ
@@ -131,7 +131,7 @@ plain-word : (word rest : List ℕ) → list_all (λ byte. not (ends_word byte))
     → plain (word ++ rest) ≡ length word
 plain-word [] rest h e = plain-here rest e
 plain-word (x ∷ xs) rest h e =
-    let p = both _ _ h in
+    let p = and_parts _ _ h in
     ap (λ b. cond b (1 + plain (xs ++ rest)) 0) p.0
     ∙ ap (λ n. 1 + n) (plain-word xs rest p.1 e) ∙ omega arith
 
@@ -139,7 +139,7 @@ plain-word (x ∷ xs) rest h e =
 pub words_of-word : (word rest : List ℕ) → is_word word ≡ true → ends_word (get_or rest 0 32) ≡ true
     → words_of (word ++ rest) ≡ word ∷ words_of rest
 words_of-word word rest h e =
-    let p = both _ _ h in
+    let p = and_parts _ _ h in
     let n : plain (word ++ rest) ≡ length word = plain-word word rest p.1 e in
     let some : 0 < length word = let long : ltb 0 (length word) ≡ true = p.0 in grind (arith, nat_tests) in
     words-first (word ++ rest) (omega arith)
@@ -150,9 +150,9 @@ words_of-word word rest h e =
 pub words_of-joined : (words : List (List ℕ)) (rest : List ℕ) → list_all is_word words ≡ true → ends_word (get_or rest 0 32) ≡ true
     → words_of (join_with_byte 32 words ++ rest) ≡ words ++ words_of rest
 words_of-joined [] rest h e = refl
-words_of-joined (word ∷ []) rest h e = words_of-word word rest (both _ _ h).0 e
+words_of-joined (word ∷ []) rest h e = words_of-word word rest (and_parts _ _ h).0 e
 words_of-joined (word ∷ next ∷ words) rest h e =
-    let p = both _ _ h in
+    let p = and_parts _ _ h in
     let more = join_with_byte 32 (next ∷ words) in
     ap words_of (append_assoc word (32 ∷ more) rest)
     ∙ words_of-word word (32 ∷ (more ++ rest)) p.0 refl
@@ -190,7 +190,7 @@ filtered false run runs long h rest = rest
 words-kept : (runs : List (List ℕ)) → list_all is_run runs ≡ true → list_all is_word (filter (λ run. ltb 0 (length run)) runs) ≡ true
 words-kept [] h = refl
 words-kept (run ∷ runs) h =
-    let p = both _ _ h in filtered (ltb 0 (length run)) run _ refl p.0 (words-kept runs p.1)
+    let p = and_parts _ _ h in filtered (ltb 0 (length run)) run _ refl p.0 (words-kept runs p.1)
 
 -- the words of a line are words
 pub are_words : (line : List ℕ) → list_all is_word (words_of line) ≡ true

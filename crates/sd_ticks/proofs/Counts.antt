@@ -1,6 +1,6 @@
 -- The counts of ticks: what each event makes of them.
-use Rattle.std.proofs.Common.{◌≡◌, ℕ, zero, suc, ◌+◌, ◌<◌, ◌≤◌, Bool, true, false, List, [], ◌∷◌, length, get_or, set, cond, Option, Some, None, refl, ◌∙◌, sym, ap, subst, arith}
-use Rattle.std.specs.Prelude.{◌&&◌, ◌==◌, if◌then◌else◌, map, nat_lt, nat_le}
+use Rattle.std.proofs.Common.{◌≡◌, ℕ, ◌+◌, ◌<◌, ◌≤◌, Bool, true, false, List, [], ◌∷◌, length, get_or, set, cond, Option, Some, None, refl, ◌∙◌, sym, ap, subst, arith}
+use Rattle.std.specs.Prelude.{◌&&◌, ◌==◌, if◌then◌else◌, nat_lt, nat_le}
 use Rattle.std.specs.List.{list_all, range_with_len}
 use Rattle.std.proofs.lemmas.Bool.{false≢true}
 use Rattle.std.proofs.lemmas.Bool.Decides.{nat_tests}
@@ -21,8 +21,9 @@ use Rattle.sd_types.specs.Events.{ticks}
 use Rattle.sd_machine.specs.declared.states.CpuState.{CpuState}
 use Rattle.sd_machine.specs.declared.states.State.{State}
 use Rattle.sd_machine.specs.Accounts.{cpu_ticks}
-use Rattle.sd_machine.specs.Opening.{first_cpu_state, opening}
+use Rattle.sd_machine.specs.Opening.{opening}
 use Rattle.sd_machine.specs.States.{no_cpu, thread_of, cpu_of}
+use Rattle.sd_machine.proofs.BestLemmas.{and_right}
 use Rattle.sd_full.specs.Changes.{counted, run_tick, count_tick, with_body, put_where, close, join, bind, unbind, set_duty}
 use Rattle.sd_full.specs.Dispatching.{ticked, spun, idled}
 use Rattle.sd_full.specs.Events.{may_tick, drop_ageing, effect, after}
@@ -34,19 +35,13 @@ use Rattle.sd_sound.specs.Causes.{IsCause}
 use Rattle.sd_sound.specs.Laws.{HoldsWhenReached}
 use Rattle.sd_sound.proofs.AgreedAfter.{IsReady}
 use Rattle.sd_sound.proofs.CpuWords as C
-use Rattle.sd_sound.proofs.PlainWords.{Plain, plain_keeps, drop_keeps}
+use Rattle.sd_sound.proofs.PlainWords.{plain_keeps, drop_keeps}
 use Rattle.sd_sound.proofs.Ready.{kept_reached, reached_ready, next_ready, opening_ready}
-use Rattle.sd_sound.proofs.Works.{second_of_two}
+use Rattle.sd_sound.proofs.CountLemmas.{count_marks, counts_plain, close_counts, first_count}
 use Rattle.sd_ticks.specs.Ticks.{CountsStayClose, CountsRiseByTicks, CountsAreTicks}
 
 abbrev count_part : CpuState → ℕ
 count_part x = x.count
-
-count_marks : C.Markless count_part
-count_marks = record { marks = λ x u k. refl }
-
-counts_plain : Plain count_part
-counts_plain = record { marks = count_marks; duty = λ x d. refl }
 
 abbrev SameCounts : State → State → Type 0
 SameCounts s r = C.Kept count_part s r
@@ -113,10 +108,6 @@ idled_rises w s c = count_rises w s c
 
 -- Changes of sets and bindings.
 
-close_same : (s : State) (d : CpuId) (to : SetId) → SameCounts s (close s d to)
-unfolding close
-close_same s d to = C.then_kept count_part s _ _ (C.open_kept count_part s _ _) (C.written count_part _ d.0 _ refl)
-
 joined_same : (s : State) (c : CpuId) (to : SetId) → SameCounts s (joined s c to)
 unfolding joined join
 joined_same s c to = C.then_kept count_part s _ _ (C.open_kept count_part s _ _) (C.written count_part _ c.0 _ refl)
@@ -124,7 +115,7 @@ joined_same s c to = C.then_kept count_part s _ _ (C.open_kept count_part s _ _)
 assigned_same : (w : Work) (s : State) (t : ℕ) (d : CpuId) (to : SetId) (answer : AssignAnswer) → SameCounts s (assigned w s t d to answer)
 unfolding assigned
 assigned_same w s t d to assign.Changed =
-    C.then_kept count_part s _ _ (close_same s d to)
+    C.then_kept count_part s _ _ (close_counts s d to)
     (C.then_kept count_part _ (cleared (close s d to) d (runner s d.0)) _ (C.cleared_kept count_part count_marks _ d _) (C.finish_op_kept count_part count_marks w _ t))
 assigned_same w s t d to assign.EPERM = C.finish_op_kept count_part count_marks w s t
 assigned_same w s t d to assign.EINVAL = C.finish_op_kept count_part count_marks w s t
@@ -187,7 +178,7 @@ unfolding may_tick
 none_behind w s c d may inside = by (nat_le (cpu_of s c).count (cpu_of s d).count) refl
   where
     all : list_all (λ (x : CpuState). nat_le (cpu_of s c).count x.count) s.cpus ≡ true
-    all = second_of_two (nat_lt (cpu_of s c).count w.limit) _ may
+    all = and_right (nat_lt (cpu_of s c).count w.limit) _ may
 
     by : (b : Bool) → nat_le (cpu_of s c).count (cpu_of s d).count ≡ b → (cpu_of s c).count ≤ (cpu_of s d).count
     by true is = grind (arith, nat_tests)
@@ -229,12 +220,6 @@ close_after w s n c e ready cause close x y first second = by (ticks e) refl (af
         no_tick : (b : Bool) → ones (b && false) ≡ 0
         no_tick true = refl
         no_tick false = refl
-
-first_count : (w : Work) (ns : List ℕ) (c : ℕ) → (get_or (map (first_cpu_state w) ns) c no_cpu).count ≡ 0
-unfolding first_cpu_state
-first_count w [] c = refl
-first_count w (n ∷ ns) zero = refl
-first_count w (n ∷ ns) (suc c) = first_count w ns c
 
 opening_count : (w : Work) (c : ℕ) → (cpu_of (opening w) c).count ≡ 0
 unfolding opening

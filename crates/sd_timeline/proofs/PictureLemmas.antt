@@ -31,7 +31,7 @@ use Rattle.sd_stretches.specs.Rows.{levels}
 use Rattle.sd_stretches.specs.Spins.{pieces}
 use Rattle.sd_labels.specs.Plain.{is_plain_byte, is_text_byte, IsPlain, IsText}
 use Rattle.sd_labels.proofs.PlainLemmas.{thread-plain, lock-plain, doing-plain, decimal-plain}
-use Rattle.sd_labels.proofs.TextLemmas.{plain-text, flat-text, either-text, decimal-text, thread-text, lock-text, chan-text, set-text}
+use Rattle.sd_labels.proofs.TextLemmas.{plain-text, flat-text, either-text, decimal-text, thread-text, lock-text, chan-text, set-text, append-text}
 use Rattle.sd_timeline.specs.declared.layouts.Row.{Row}
 use Rattle.sd_timeline.specs.declared.layouts.Row.TheVariants.{Cpu, Thread}
 use Rattle.sd_timeline.specs.declared.folds.Column.{Column}
@@ -52,9 +52,6 @@ use Rattle.sd_timeline.specs.Head.{axis, bound_label, counts_text, cpu_head, dar
 use Rattle.sd_timeline.specs.Picture.{bound_of, ground_text, laid_out, marks_text, own_row, row_text, rows_text, thread_text, timeline_text}
 use Rattle.sd_timeline.specs.Rows.{layout_of}
 use Rattle.sd_timeline.specs.Plain.{HasPlainTitles}
-
-both-text : (a b : List ℕ) → IsText a → IsText b → IsText (a ++ b)
-both-text a b p q = list_all-append is_text_byte a b ∙ rw p q
 
 -- ---- pieces
 
@@ -180,7 +177,7 @@ level-area-text f t x =
     simp (list_all-append is_text_byte, begins, level-title-text x)
 
 level-both-text : (f : Layout) (t : ℕ) (x : Level) → IsText (level_label f t x ++ level_area f t x)
-level-both-text f t x = both-text (level_label f t x) (level_area f t x) (level-label-text f t x) (level-area-text f t x)
+level-both-text f t x = append-text (level_label f t x) (level_area f t x) (level-label-text f t x) (level-area-text f t x)
 
 level-text : (f : Layout) (t : ℕ) (x : Level) → IsText (level_text f t x)
 level-text f t x = either-text (eqb (width f x.from x.to) 0) [] (level_label f t x ++ level_area f t x) refl (level-both-text f t x)
@@ -266,7 +263,7 @@ thread-moment-text w f x (Some t) = moment-line-text w f (Thread t) x
 
 moment-lines-text : (w : Work) (f : Layout) (x : Stretch) → IsText (moment_lines w f x)
 moment-lines-text w f x =
-    both-text (cpu_moment w f x x.doing) (thread_moment w f x (row_of f x.thread)) (cpu-moment-text w f x x.doing) (thread-moment-text w f x (row_of f x.thread))
+    append-text (cpu_moment w f x x.doing) (thread_moment w f x (row_of f x.thread)) (cpu-moment-text w f x x.doing) (thread-moment-text w f x (row_of f x.thread))
 
 moment-text : (w : Work) (f : Layout) (x : Stretch) → IsText (moment_text w f x)
 moment-text w f x = either-text (is_moment f x) (moment_lines w f x) [] (moment-lines-text w f x) refl
@@ -392,7 +389,7 @@ tick-text-if f n = either-text (eqb (n % step f) 0 && is_clear f (f.from + n)) (
 
 fold-marks-text : (f : Layout) (x : Column) → IsText (fold_marks f x)
 unfolding fold_marks
-fold-marks-text f x = both-text (mark f x.from) (mark f x.to) (tick-text f x.from) (tick-text f x.to)
+fold-marks-text f x = append-text (mark f x.from) (mark f x.to) (tick-text f x.from) (tick-text f x.to)
 
 axis-text : (f : Layout) → IsText (axis f)
 unfolding axis

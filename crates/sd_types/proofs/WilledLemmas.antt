@@ -1,9 +1,9 @@
 -- What the numbers of inherited priorities keep when one is set or removed, or a lock is taken or released.
-use Rattle.std.proofs.Common.{◌≡◌, ℕ, zero, suc, ◌<◌, ◌≤◌, Bool, true, false, not, List, [], ◌∷◌, ◌++◌, length, filter, get_or, take, drop, Some, None, ◌⊎◌, inl, inr, refl, sym, ap, ◌∙◌, subst, arith, max, nat_lt, drop-cons}
+use Rattle.std.proofs.Common.{◌≡◌, ℕ, zero, suc, ◌<◌, ◌≤◌, Bool, true, false, not, List, [], ◌∷◌, ◌++◌, length, filter, get_or, take, drop, Some, None, inl, inr, refl, sym, ap, ◌∙◌, subst, arith, max, nat_lt, drop-cons}
 use Rattle.std.specs.List.{list_any, list_all, refill}
 use Rattle.std.proofs.Math.ListN.{set, length-set}
 use Rattle.std.proofs.lemmas.List.{take-append-le, take_all}
-use Rattle.std.proofs.lemmas.Bool.{eq-eqb, false≢true}
+use Rattle.std.proofs.lemmas.Bool.{eq-eqb, false≢true, cases_Bool}
 use Rattle.std.proofs.lemmas.Bool.Decides.{nat_tests}
 use Rattle.std.proofs.lemmas.Option.{none-some}
 use Rattle.sd_types.specs.declared.numbers.LockId.{LockId}
@@ -13,10 +13,6 @@ use Rattle.sd_types.specs.Works.{is_distinct}
 use Rattle.sd_types.specs.Priorities.{base_of, greatest_willed}
 use Rattle.sd_types.specs.Willed.{Numbers, number_for, with_number, without_number, same_lock, eff_with, IsSound}
 
-bool_cases : (b : Bool) → (b ≡ true) ⊎ (b ≡ false)
-bool_cases true = inl refl
-bool_cases false = inr refl
-
 -- the definitions at the first number
 with-here : (l : LockId) (n : ℕ) (w : LockId × ℕ) (ws : Numbers) → is_lock l w.0 ≡ true → with_number l n (w ∷ ws) ≡ (l, n) ∷ ws
 with-here l n w ws h = rw h refl
@@ -24,10 +20,10 @@ with-here l n w ws h = rw h refl
 with-later : (l : LockId) (n : ℕ) (w : LockId × ℕ) (ws : Numbers) → is_lock l w.0 ≡ false → with_number l n (w ∷ ws) ≡ w ∷ with_number l n ws
 with-later l n w ws h = rw h refl
 
-for-here : (l : LockId) (w : LockId × ℕ) (ws : Numbers) → is_lock l w.0 ≡ true → number_for l (w ∷ ws) ≡ Some w.1
+pub for-here : (l : LockId) (w : LockId × ℕ) (ws : Numbers) → is_lock l w.0 ≡ true → number_for l (w ∷ ws) ≡ Some w.1
 for-here l w ws h = rw h refl
 
-for-later : (l : LockId) (w : LockId × ℕ) (ws : Numbers) → is_lock l w.0 ≡ false → number_for l (w ∷ ws) ≡ number_for l ws
+pub for-later : (l : LockId) (w : LockId × ℕ) (ws : Numbers) → is_lock l w.0 ≡ false → number_for l (w ∷ ws) ≡ number_for l ws
 for-later l w ws h = rw h refl
 
 without-here : (l : LockId) (w : LockId × ℕ) (ws : Numbers) → is_lock l w.0 ≡ true → without_number l (w ∷ ws) ≡ without_number l ws
@@ -36,21 +32,21 @@ without-here l w ws h = rw h refl
 without-later : (l : LockId) (w : LockId × ℕ) (ws : Numbers) → is_lock l w.0 ≡ false → without_number l (w ∷ ws) ≡ w ∷ without_number l ws
 without-later l w ws h = rw h refl
 
-lock_self : (l : LockId) → is_lock l l ≡ true
+pub lock_self : (l : LockId) → is_lock l l ≡ true
 lock_self l = grind (arith, nat_tests)
 
 -- ---- the number for a lock
 
 pub number_for-with : (ws : Numbers) (l : LockId) (n : ℕ) → number_for l (with_number l n ws) ≡ Some n
 number_for-with [] l n = for-here l (l, n) [] (lock_self l)
-number_for-with (w ∷ ws) l n = elim (bool_cases (is_lock l w.0)) [
+number_for-with (w ∷ ws) l n = elim (cases_Bool (is_lock l w.0)) [
   | inl h ↦ ap (number_for l) (with-here l n w ws h) ∙ for-here l (l, n) ws (lock_self l)
   | inr h ↦ ap (number_for l) (with-later l n w ws h) ∙ for-later l w (with_number l n ws) h ∙ number_for-with ws l n
 ]
 
 pub number_for-without : (ws : Numbers) (l : LockId) → number_for l (without_number l ws) ≡ None
 number_for-without [] l = refl
-number_for-without (w ∷ ws) l = elim (bool_cases (is_lock l w.0)) [
+number_for-without (w ∷ ws) l = elim (cases_Bool (is_lock l w.0)) [
   | inl h ↦ ap (number_for l) (without-here l w ws h) ∙ number_for-without ws l
   | inr h ↦ ap (number_for l) (without-later l w ws h) ∙ for-later l w (without_number l ws) h ∙ number_for-without ws l
 ]
@@ -63,21 +59,21 @@ not_same : (l other : LockId) → is_lock l other ≡ false → is_lock other l 
 not_same l other h = grind (arith, nat_tests)
 
 for-cons : (l : LockId) (w : LockId × ℕ) (vs ws : Numbers) → number_for l vs ≡ number_for l ws → number_for l (w ∷ vs) ≡ number_for l (w ∷ ws)
-for-cons l w vs ws e = elim (bool_cases (is_lock l w.0)) [
+for-cons l w vs ws e = elim (cases_Bool (is_lock l w.0)) [
   | inl h ↦ for-here l w vs h ∙ sym (for-here l w ws h)
   | inr h ↦ for-later l w vs h ∙ e ∙ sym (for-later l w ws h)
 ]
 
 pub number_for-with_other : (ws : Numbers) (l other : LockId) (n : ℕ) → is_lock l other ≡ false → number_for other (with_number l n ws) ≡ number_for other ws
 number_for-with_other [] l other n apart = for-later other (l, n) [] (not_same l other apart)
-number_for-with_other (w ∷ ws) l other n apart = elim (bool_cases (is_lock l w.0)) [
+number_for-with_other (w ∷ ws) l other n apart = elim (cases_Bool (is_lock l w.0)) [
   | inl h ↦ ap (number_for other) (with-here l n w ws h) ∙ for-later other (l, n) ws (not_same l other apart) ∙ sym (for-later other w ws (not_both l other w.0 apart h))
   | inr h ↦ ap (number_for other) (with-later l n w ws h) ∙ for-cons other w (with_number l n ws) ws (number_for-with_other ws l other n apart)
 ]
 
 pub number_for-without_other : (ws : Numbers) (l other : LockId) → is_lock l other ≡ false → number_for other (without_number l ws) ≡ number_for other ws
 number_for-without_other [] l other apart = refl
-number_for-without_other (w ∷ ws) l other apart = elim (bool_cases (is_lock l w.0)) [
+number_for-without_other (w ∷ ws) l other apart = elim (cases_Bool (is_lock l w.0)) [
   | inl h ↦ ap (number_for other) (without-here l w ws h) ∙ number_for-without_other ws l other apart ∙ sym (for-later other w ws (not_both l other w.0 apart h))
   | inr h ↦ ap (number_for other) (without-later l w ws h) ∙ for-cons other w (without_number l ws) ws (number_for-without_other ws l other apart)
 ]
@@ -88,7 +84,7 @@ list_all-with : (p : LockId × ℕ → Bool) (l : LockId) (n : ℕ) (ws : Number
 list_all-with p l n [] h all = grind (arith, nat_tests)
 list_all-with p l n (w ∷ ws) h all =
     let rest : list_all p ws ≡ true = grind (arith, nat_tests) in
-    elim (bool_cases (is_lock l w.0)) [
+    elim (cases_Bool (is_lock l w.0)) [
       | inl here ↦ rw (with-here l n w ws here) (grind (arith, nat_tests))
       | inr later ↦ let r = list_all-with p l n ws h rest in rw (with-later l n w ws later) (grind (arith, nat_tests))
     ]
@@ -97,7 +93,7 @@ any-with : (w : LockId × ℕ) (l : LockId) (n : ℕ) (ws : Numbers) → is_lock
 any-with w l n [] h none = grind (arith, nat_tests)
 any-with w l n (v ∷ vs) h none =
     let rest : list_any (same_lock w) vs ≡ false = grind (arith, nat_tests) in
-    elim (bool_cases (is_lock l v.0)) [
+    elim (cases_Bool (is_lock l v.0)) [
       | inl here ↦ rw (with-here l n v vs here) (grind (arith, nat_tests))
       | inr later ↦ let r = any-with w l n vs h rest in rw (with-later l n v vs later) (grind (arith, nat_tests))
     ]
@@ -118,7 +114,7 @@ distinct-with l n [] h = refl
 distinct-with l n (w ∷ ws) h =
     let rest : is_distinct same_lock ws ≡ true = grind (arith, nat_tests) in
     let none : list_any (same_lock w) ws ≡ false = grind (arith, nat_tests) in
-    elim (bool_cases (is_lock l w.0)) [
+    elim (cases_Bool (is_lock l w.0)) [
       | inl here ↦ rw (with-here l n w ws here) (distinct-here l n w ws (any-same (l, n) w ws here) none rest)
       | inr later ↦ rw (with-later l n w ws later) (distinct-later w (with_number l n ws) (any-with w l n ws later none) (distinct-with l n ws rest))
     ]
@@ -172,7 +168,7 @@ below-without b l ws s e = rw e (list_all-filter (λ w. nat_lt w.1 160) (λ w. n
 
 held-more : (m l : LockId) (held : List LockId) → is_held m held ≡ true → is_held m (held ++ l ∷ []) ≡ true
 held-more m l [] h = absurd (false≢true h)
-held-more m l (x ∷ xs) h = elim (bool_cases (is_lock m x)) [
+held-more m l (x ∷ xs) h = elim (cases_Bool (is_lock m x)) [
   | inl here ↦ grind (arith, nat_tests)
   | inr later ↦ let rest : is_held m xs ≡ true = grind (arith, nat_tests) in let r = held-more m l xs rest in grind (arith, nat_tests)
 ]
@@ -215,9 +211,9 @@ sound-taken b l ls s new e = record {
 
 held-without : (l m : LockId) (held : List LockId) → is_lock l m ≡ false → is_held m held ≡ true → is_held m (without_lock l held) ≡ true
 held-without l m [] apart h = h
-held-without l m (x ∷ xs) apart h = elim (bool_cases (is_lock l x)) [
+held-without l m (x ∷ xs) apart h = elim (cases_Bool (is_lock l x)) [
   | inl here ↦ let rest : is_held m xs ≡ true = grind (arith, nat_tests) in let r = held-without l m xs apart rest in grind (arith, nat_tests)
-  | inr later ↦ elim (bool_cases (is_lock m x)) [
+  | inr later ↦ elim (cases_Bool (is_lock m x)) [
     | inl same ↦ grind (arith, nat_tests)
     | inr other ↦ let rest : is_held m xs ≡ true = grind (arith, nat_tests) in let r = held-without l m xs apart rest in grind (arith, nat_tests)
   ]
@@ -231,7 +227,7 @@ all-released l held (w ∷ ws) h =
     let here : is_held w.0 held ≡ true = grind (arith, nat_tests) in
     let rest : list_all (λ v. is_held v.0 held) ws ≡ true = grind (arith, nat_tests) in
     let r = all-released l held ws rest in
-    elim (bool_cases (is_lock l w.0)) [
+    elim (cases_Bool (is_lock l w.0)) [
       | inl gone ↦ rw (without-here l w ws gone) r
       | inr stays ↦ let first = held-without l w.0 held stays here in rw (without-later l w ws stays) (grind (arith, nat_tests))
     ]
@@ -260,7 +256,7 @@ greatest-with n p l [] h = omega arith
 greatest-with n p l (w ∷ ws) h =
     let none : list_any (same_lock w) ws ≡ false = grind (arith, nat_tests) in
     let rest : is_distinct same_lock ws ≡ true = grind (arith, nat_tests) in
-    elim (bool_cases (is_lock l w.0)) [
+    elim (cases_Bool (is_lock l w.0)) [
       | inl here ↦
           let same = ap (greatest_willed n) (with-here l p w ws here) in
           let others = ap (greatest_willed n) (without-here l w ws here ∙ without-none l w ws here none) in
@@ -290,7 +286,7 @@ length-without_le l (m ∷ ms) = let r = length-without_le l ms in grind (arith,
 
 length-without : (l : LockId) (held : List LockId) → is_held l held ≡ true → length (without_lock l held) < length held
 length-without l [] h = absurd (false≢true h)
-length-without l (m ∷ ms) h = elim (bool_cases (is_lock l m)) [
+length-without l (m ∷ ms) h = elim (cases_Bool (is_lock l m)) [
   | inl here ↦ let r = length-without_le l ms in grind (arith, nat_tests)
   | inr later ↦ let rest : is_held l ms ≡ true = grind (arith, nat_tests) in let r = length-without l ms rest in grind (arith, nat_tests)
 ]
@@ -321,7 +317,7 @@ at_most_held (w ∷ ws) held d all =
 
 none-any : (l : LockId) (n : ℕ) (ws : Numbers) → number_for l ws ≡ None → list_any (same_lock (l, n)) ws ≡ false
 none-any l n [] h = refl
-none-any l n (w ∷ ws) h = elim (bool_cases (is_lock l w.0)) [
+none-any l n (w ∷ ws) h = elim (cases_Bool (is_lock l w.0)) [
   | inl here ↦ absurd (none-some w.1 (sym h ∙ for-here l w ws here))
   | inr later ↦ let r = none-any l n ws (sym (for-later l w ws later) ∙ h) in grind (arith, nat_tests)
 ]

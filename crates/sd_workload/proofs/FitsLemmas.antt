@@ -14,7 +14,7 @@ use Rattle.sd_types.specs.Scripts.{is_held, held_by, op_fits, EachOpFits}
 use Rattle.sd_script.specs.declared.faults.ScriptFault.{ScriptFault}
 use Rattle.sd_script.specs.declared.faults.ScriptFault.TheVariants.{AlreadyHeld, TooLong, TooManyHeld, Unbalanced, Unpaired}
 use Rattle.sd_script.specs.Faults.{is_ninth, is_taken_again, is_unbalanced, is_unpaired, op_fault}
-use Rattle.sd_script.proofs.FaultLemmas.{op_fits-from_none}
+use Rattle.sd_script.proofs.FaultLemmas.{op_fits-from_none, slice_get-append}
 use Rattle.std.specs.Option.{option_map}
 use Rattle.sd_lines.specs.Words.{Line}
 use Rattle.sd_lines.specs.Operations.{Operation, operation_of}
@@ -33,11 +33,6 @@ at-none held (CvWait k l) after h = absurd (wait (is_held l held) h)
     wait false e = false≢true e
 at-none held _ after h = h
 
-get-front : (xs ys : List Op) (i : ℕ) → i < length xs → slice_get (xs ++ ys) i ≡ slice_get xs i
-get-front [] ys i h = absurd (omega arith)
-get-front (x ∷ xs) ys zero h = refl
-get-front (x ∷ xs) ys (suc i) h = get-front xs ys i (omega arith)
-
 get-back : (xs ys : List Op) (i j : ℕ) → i ≡ length xs + j → slice_get (xs ++ ys) i ≡ slice_get ys j
 get-back [] ys i j e = ap (slice_get ys) (omega (arith, e))
 get-back (x ∷ xs) ys zero j e = absurd (omega (arith, e))
@@ -54,7 +49,7 @@ front-fits : (ops new : List Op) → EachOpFits ops → (i : ℕ) (op : Op) → 
 front-fits ops new fits i op h e = elim (cases_lt (i + 1) (length ops)) [
   | inl more ↦
       ap (λ l. op_fits (held_by l) op (slice_get (ops ++ new) (i + 1))) (take-append-le i ops new (omega arith))
-      ∙ ap (op_fits (held_by (take i ops)) op) (get-front ops new (i + 1) more) ∙ fits i op e
+      ∙ ap (op_fits (held_by (take i ops)) op) (slice_get-append ops new (i + 1) more) ∙ fits i op e
   | inr last ↦
       ap (λ l. op_fits (held_by l) op (slice_get (ops ++ new) (i + 1))) (take-append-le i ops new (omega arith))
       ∙ at-none (held_by (take i ops)) op (slice_get (ops ++ new) (i + 1))
@@ -64,7 +59,7 @@ front-fits ops new fits i op h e = elim (cases_lt (i + 1) (length ops)) [
 pub fits-append : (ops new : List Op) → EachOpFits ops
     → ((j : ℕ) (op : Op) → slice_get new j ≡ Some op → op_fits (held_by (ops ++ take j new)) op (slice_get new (j + 1)) ≡ true) → EachOpFits (ops ++ new)
 fits-append ops new fits more = λ i op e. elim (cases_lt i (length ops)) [
-  | inl h ↦ front-fits ops new fits i op h (sym (get-front ops new i h) ∙ e)
+  | inl h ↦ front-fits ops new fits i op h (sym (slice_get-append ops new i h) ∙ e)
   | inr h ↦
       let j = i - length ops in
       let at : i ≡ length ops + j = omega arith in
@@ -107,7 +102,7 @@ no-ninth ops op after none =
     ninth (nat_lt (length ops) 256) (is_unbalanced held op) (is_ninth held op) (is_taken_again held op) (is_unpaired op after)
     (Unbalanced (length ops)) (TooManyHeld (length ops)) (AlreadyHeld (length ops)) (Unpaired (length ops)) none
 
-parts : {X : Type 0} (a b : Option X) → first_of a b ≡ None → (a ≡ None) × (b ≡ None)
+pub parts : {X : Type 0} (a b : Option X) → first_of a b ≡ None → (a ≡ None) × (b ≡ None)
 parts None b h = (refl, h)
 parts (Some x) b h = absurd (none-some x (sym h))
 
@@ -167,7 +162,7 @@ line-fits ops (SemaV k) fits h = one-fits ops (SemaV k) fits h
 line-fits ops (Assign c s) fits h = one-fits ops (Assign c s) fits h
 line-fits ops (Pbind t c) fits h = one-fits ops (Pbind t c) fits h
 
-none-mapped : {X Y : Type 0} (f : X → Y) (o : Option X) → option_map f o ≡ None → o ≡ None
+pub none-mapped : {X Y : Type 0} (f : X → Y) (o : Option X) → option_map f o ≡ None → o ≡ None
 none-mapped f None h = refl
 none-mapped f (Some x) h = absurd (none-some (f x) (sym h))
 

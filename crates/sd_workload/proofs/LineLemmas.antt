@@ -1,11 +1,12 @@
 -- The lines of a text to which lines are appended.
 use Rattle.std.proofs.Common.{◌≡◌, ℕ, Bool, true, List, [], ◌∷◌, ◌++◌, map, refl, sym, ap, ◌∙◌, append_assoc}
+use Rattle.std.proofs.lemmas.Bool.{and_parts}
 use Rattle.std.specs.List.{list_all}
 use Rattle.std.proofs.lemmas.List.{map-append}
 use Rattle.std.proofs.lemmas.List.Folds.{list_all-append}
 use Rattle.sd_text.specs.Lines.{lines_of, is_line}
 use Rattle.sd_text.specs.Words.{words_of}
-use Rattle.sd_text.proofs.LineLemmas.{lines_of-line, are_lines, both}
+use Rattle.sd_text.proofs.LineLemmas.{lines_of-line, are_lines}
 use Rattle.sd_tables.specs.TableText.{word_lines}
 
 -- what follows a text begins on a line of its own
@@ -18,7 +19,7 @@ closed-nil = λ rest. refl
 
 -- what is the first line of a text has no newline
 pub is_line-first : (text rest line : List ℕ) → lines_of text ≡ line ∷ lines_of rest → is_line line ≡ true
-is_line-first text rest line e = (both (is_line line) (list_all is_line (lines_of rest)) (sym (ap (list_all is_line) e) ∙ are_lines text)).0
+is_line-first text rest line e = (and_parts (is_line line) (list_all is_line (lines_of rest)) (sym (ap (list_all is_line) e) ∙ are_lines text)).0
 
 line-alone : (line : List ℕ) → is_line line ≡ true → lines_of (line ++ 10 ∷ []) ≡ line ∷ []
 unfolding lines_of

@@ -2,7 +2,7 @@
 use Rattle.std.proofs.Common.{◌≡◌, ℕ, ◌≤◌, Bool, true, false, not, ◌&&◌, ◌||◌, ltb, leb, List, [], ◌∷◌, ◌++◌, length, map, Option, Some, None, refl, sym, ap, ◌∙◌, arith, append-nil, append_assoc}
 use Rattle.std.specs.Prelude.{nat_eq}
 use Rattle.std.specs.List.{list_any, list_all, slice_get}
-use Rattle.std.proofs.lemmas.Bool.{false≢true}
+use Rattle.std.proofs.lemmas.Bool.{false≢true, and_parts, or_parts, not-true, not-false}
 use Rattle.std.proofs.lemmas.Bool.Decides.{nat_tests}
 use Rattle.std.proofs.lemmas.List.{map-append}
 use Rattle.std.proofs.lemmas.List.Folds.{list_any-append}
@@ -13,22 +13,6 @@ use Rattle.sd_lines.specs.Words.{Word}
 use Rattle.sd_declare.specs.Declarations.{place}
 use Rattle.sd_declare.proofs.PlaceLemmas.{any_kept, none-placed}
 use Rattle.sd_workload.specs.Sound.{AreNamed}
-
-pub both : (a b : Bool) → (a && b) ≡ true → (a ≡ true) × (b ≡ true)
-both true b h = (refl, h)
-both false b h = absurd (false≢true h)
-
-pub neither : (a b : Bool) → (a || b) ≡ false → (a ≡ false) × (b ≡ false)
-neither true b h = absurd (false≢true (sym h))
-neither false b h = (refl, h)
-
-pub not-true : (a : Bool) → not a ≡ true → a ≡ false
-not-true true h = absurd (false≢true h)
-not-true false h = refl
-
-pub not-false : (a : Bool) → not a ≡ false → a ≡ true
-not-false true h = refl
-not-false false h = absurd (false≢true (sym h))
 
 pub lt-more : (a b c : ℕ) → ltb a b ≡ true → b ≤ c → ltb a c ≡ true
 lt-more a b c h l = grind (arith, nat_tests)
@@ -43,8 +27,8 @@ pub distinct-push : {X : Type 0} (same : X → X → Bool) (xs : List X) (y : X)
     → is_distinct same (xs ++ y ∷ []) ≡ true
 distinct-push same [] y h none = refl
 distinct-push same (x ∷ xs) y h none =
-    let p = both (not (list_any (same x) xs)) (is_distinct same xs) h in
-    let q = neither (same x y) (list_any (λ z. same z y) xs) none in
+    let p = and_parts (not (list_any (same x) xs)) (is_distinct same xs) h in
+    let q = or_parts (same x y) (list_any (λ z. same z y) xs) none in
     rw (any-push (same x) y xs (not-true _ p.0) q.0) (distinct-push same xs y p.1 q.1)
 
 pub named-push : {X : Type 0} (xs : List (Word × X)) (name : Word) (x : X) → AreNamed xs → ltb (place name xs) (length xs) ≡ false → AreNamed (xs ++ (name, x) ∷ [])
@@ -59,8 +43,8 @@ cross-push : (xs : List CpuId) (c : ℕ) (cs : List ℕ) → list_any (λ b. lis
     → list_any (λ b. list_any (λ (e : CpuId). nat_eq e.0 b) (xs ++ cpu_of_number c ∷ [])) cs ≡ false
 cross-push xs c [] h none = refl
 cross-push xs c (b ∷ cs) h none =
-    let p = neither _ _ h in
-    let q = neither _ _ none in
+    let p = or_parts _ _ h in
+    let q = or_parts _ _ none in
     rw (any-push (λ (e : CpuId). nat_eq e.0 b) (cpu_of_number c) xs p.0 q.0) (cross-push xs c cs p.1 q.1)
 
 -- processors that differ, and more that differ and are none of them
@@ -68,8 +52,8 @@ pub distinct-more : (xs : List CpuId) (cs : List ℕ) → is_distinct same_cpu x
     → list_any (λ b. list_any (λ (e : CpuId). nat_eq e.0 b) xs) cs ≡ false → is_distinct same_cpu (xs ++ map cpu_of_number cs) ≡ true
 distinct-more xs [] h d cross = ap (is_distinct same_cpu) (append-nil xs) ∙ h
 distinct-more xs (c ∷ cs) h d cross =
-    let p = both _ _ d in
-    let q = neither _ _ cross in
+    let p = and_parts _ _ d in
+    let q = or_parts _ _ cross in
     ap (is_distinct same_cpu) (sym (append_assoc xs (cpu_of_number c ∷ []) (map cpu_of_number cs)))
     ∙ distinct-more (xs ++ cpu_of_number c ∷ []) cs (distinct-push same_cpu xs (cpu_of_number c) h q.0) p.1
     (cross-push xs c cs q.1 (not-true _ p.0))
@@ -78,7 +62,7 @@ distinct-more xs (c ∷ cs) h d cross =
 
 pub all-more : {X : Type 0} (p q : X → Bool) (xs : List X) → ((x : X) → p x ≡ true → q x ≡ true) → list_all p xs ≡ true → list_all q xs ≡ true
 all-more p q [] more h = refl
-all-more p q (x ∷ xs) more h = let r = both _ _ h in rw (more x r.0) (all-more p q xs more r.1)
+all-more p q (x ∷ xs) more h = let r = and_parts _ _ h in rw (more x r.0) (all-more p q xs more r.1)
 
 -- a test that passes no absent element, in a longer list
 pub get-more : {X : Type 0} (p : Option X → Bool) (xs ys : List X) (i : ℕ) → p None ≡ false → ((x : X) → slice_get xs i ≡ Some x → slice_get ys i ≡ Some x)

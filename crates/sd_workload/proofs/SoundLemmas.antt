@@ -2,7 +2,7 @@
 use Rattle.std.proofs.Common.{◌≡◌, ℕ, zero, suc, ◌+◌, Bool, true, false, ◌&&◌, leb, cond, List, [], ◌∷◌, ◌++◌, length, map, take, set, get_or, Option, Some, None, inl, inr, refl, sym, ap, ◌∙◌, subst, arith, append-nil, length-append}
 use Rattle.std.specs.Option.{option_map}
 use Rattle.std.specs.List.{list_all}
-use Rattle.std.proofs.lemmas.Bool.{cases_lt}
+use Rattle.std.proofs.lemmas.Bool.{cases_lt, and_parts}
 use Rattle.std.proofs.lemmas.List.{take-append-le, take_at, get_or_append_left, get_or_at, map-set, set-get_or, set_past, length-set, get_or-map}
 use Rattle.std.proofs.lemmas.Option.{none-some}
 use Rattle.sd_types.specs.declared.numbers.ThreadId.{ThreadId}
@@ -23,9 +23,10 @@ use Rattle.sd_declare.specs.Opened.{opened_by}
 use Rattle.sd_workload.specs.Scripts.{first_of, end_fault}
 use Rattle.sd_workload.specs.Sound.{named, thread_is_sound, IsTableLines, AreThreads, IsSound, IsSoundBlock}
 use Rattle.sd_workload.specs.Texts.{Block, Outside, InTable, InScript, stated_cause, stated, block_of, opened, format_of, rows_cause, row_cause, with_table, operation_cause, script_cause, ops_of, with_script, no_thread, unless_done, cause_of, declared_after, block_after, end_cause, Verdict, Accepts, Refuses, unless_refused, judged}
-use Rattle.sd_workload.proofs.NameLemmas.{both}
 use Rattle.sd_workload.proofs.StatementLemmas.{statement-sound}
 use Rattle.sd_workload.proofs.OperationLemmas.{line-named}
+use Rattle.sd_workload.proofs.FitsLemmas.{none-mapped, parts}
+use Rattle.sd_workload.proofs.FirstLemmas.{same-accepted}
 
 -- the declarations and the block below a line
 record IsBelow (d : Declarations) (b : Block) : Type 0 where
@@ -60,10 +61,6 @@ outside-sound d [] none h = record { declared = h; block = tt }
 outside-sound d (word ∷ words) none h = stated-sound d (statement_of (word ∷ words)) none h
 
 -- ---- lines of tables
-
-none-mapped : {X Y : Type 0} (f : X → Y) (o : Option X) → option_map f o ≡ None → o ≡ None
-none-mapped f None h = refl
-none-mapped f (Some x) h = absurd (none-some (f x) (sym h))
 
 clean-more : (format : Format) (above : List Line) (line : Line) → AreClean format.columns above (length above)
     → line_fault format.columns above line (length above + 1) ≡ None → AreClean format.columns (above ++ line ∷ []) (length (above ++ line ∷ []))
@@ -144,8 +141,8 @@ name-kept ts i ops = elim (cases_lt i (length ts)) [
 all-set : {X : Type 0} (p : X → Bool) (xs : List X) (i : ℕ) (d : X) (f : X → X) → ((x : X) → p x ≡ true → p (f x) ≡ true) → list_all p xs ≡ true
     → list_all p (set xs i (f (get_or xs i d))) ≡ true
 all-set p [] i d f keeps h = refl
-all-set p (x ∷ xs) zero d f keeps h = let q = both (p x) (list_all p xs) h in rw (keeps x q.0, q.1) refl
-all-set p (x ∷ xs) (suc i) d f keeps h = let q = both (p x) (list_all p xs) h in rw (q.0, all-set p xs i d f keeps q.1) refl
+all-set p (x ∷ xs) zero d f keeps h = let q = and_parts (p x) (list_all p xs) h in rw (keeps x q.0, q.1) refl
+all-set p (x ∷ xs) (suc i) d f keeps h = let q = and_parts (p x) (list_all p xs) h in rw (q.0, all-set p xs i d f keeps q.1) refl
 
 script-sound : (d : Declarations) (t : ThreadId) (ops : List Op) → IsSound d → list_all (op_names (named d)) ops ≡ true → IsSound (with_script d t ops)
 script-sound d t ops h named_ops =
@@ -167,12 +164,8 @@ script-sound d t ops h named_ops =
   where
     keeps : (x : Thread) → thread_is_sound (named d) x ≡ true → thread_is_sound (named d) (record x { ops = ops }) ≡ true
     keeps x e =
-        let p = both (class_fits x.class x.cpupri && leb x.set.0 (named d).sets) (list_all (op_names (named d)) x.ops) e in
+        let p = and_parts (class_fits x.class x.cpupri && leb x.set.0 (named d).sets) (list_all (op_names (named d)) x.ops) e in
         rw (p.0, named_ops) refl
-
-parts : {X : Type 0} (a b : Option X) → first_of a b ≡ None → (a ≡ None) × (b ≡ None)
-parts None b h = (refl, h)
-parts (Some x) b h = absurd (none-some x (sym h))
 
 ops-sound : (d : Declarations) (ops : List Op) (o : Option Operation) → operation_cause d ops o ≡ None → list_all (op_names (named d)) ops ≡ true
     → list_all (op_names (named d)) (ops ++ ops_of d o) ≡ true
@@ -207,14 +200,11 @@ declared-by : Verdict → Declarations → Declarations
 declared-by (Accepts d) e = d
 declared-by (Refuses n c) e = e
 
-accepts-same : (d e : Declarations) → Accepts d ≡ Accepts e → d ≡ e
-accepts-same d e h = cc
-
 apart-from : (n : ℕ) (c : WorkCause) (e : Declarations) → Refuses n c ≡ Accepts e → ⊥
 apart-from n c e h = cc
 
 end-sound : (o : Option WorkCause) (n : ℕ) (d e : Declarations) → unless_refused n o (Accepts d) ≡ Accepts e → IsSound d → IsSound e
-end-sound None n d e h s = subst IsSound (accepts-same d e h) s
+end-sound None n d e h s = subst IsSound (same-accepted d e h) s
 end-sound (Some c) n d e h s = absurd (apart-from n c e h)
 
 -- what lines without a fault declare, below sound declarations

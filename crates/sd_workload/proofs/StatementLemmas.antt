@@ -3,7 +3,7 @@ use Rattle.std.proofs.Common.{◌≡◌, ℕ, ℤ, ◌+◌, ◌<◌, ◌≤◌, 
 use Rattle.std.specs.Prelude.{unwrap_or, is_some, nat_eq}
 use Rattle.std.specs.Int.{int_min}
 use Rattle.std.specs.List.{list_any, list_all, slice_get}
-use Rattle.std.proofs.lemmas.Bool.{false≢true}
+use Rattle.std.proofs.lemmas.Bool.{false≢true, and_from, and_parts, or_parts, not-false}
 use Rattle.std.proofs.lemmas.Bool.Decides.{nat_tests}
 use Rattle.std.proofs.lemmas.Int.{ints}
 use Rattle.std.proofs.lemmas.List.{map-append, nil_from_length, length-map}
@@ -29,11 +29,9 @@ use Rattle.sd_declare.specs.Statements.{is_quantum, is_class, is_beyond, is_name
 use Rattle.sd_declare.proofs.PlaceLemmas.{none-placed, any_kept}
 use Rattle.sd_workload.specs.Sound.{named, named_cpus, set_is_sound, thread_is_sound, AreSets, IsSound}
 use Rattle.sd_workload.proofs.ClearLemmas.{clear}
-use Rattle.sd_workload.proofs.NameLemmas.{both, neither, not-false, distinct-push, distinct-more, named-push}
+use Rattle.sd_workload.proofs.NameLemmas.{distinct-push, distinct-more, named-push}
 use Rattle.sd_workload.proofs.NamedLemmas.{get-push, threads-more}
-
-two : (a b : Bool) → a ≡ true → b ≡ true → (a && b) ≡ true
-two a b p q = rw (p, q) refl
+use Rattle.sd_workload.proofs.LineLemmas.{all-push}
 
 -- ---- settings
 
@@ -42,7 +40,7 @@ absent None h = refl
 absent (Some n) h = absurd (false≢true (sym h))
 
 within : (a n b : ℕ) → not (leb a n && leb n b) ≡ false → (a ≤ n) × (n ≤ b)
-within a n b h = let p = both (leb a n) (leb n b) (not-false _ h) in (grind (arith, nat_tests, p.0), grind (arith, nat_tests, p.1))
+within a n b h = let p = and_parts (leb a n) (leb n b) (not-false _ h) in (grind (arith, nat_tests, p.0), grind (arith, nat_tests, p.1))
 
 none-there : {X : Type 0} (xs : List X) → ltb 0 (length xs) ≡ false → xs ≡ []
 none-there xs h = nil_from_length xs (grind (arith, nat_tests))
@@ -99,13 +97,10 @@ limit-sound d n none s =
 
 -- ---- sets
 
-all-push : {X : Type 0} (p : X → Bool) (xs : List X) (x : X) → list_all p xs ≡ true → p x ≡ true → list_all p (xs ++ x ∷ []) ≡ true
-all-push p xs x all here = list_all-append p xs (x ∷ []) ∙ rw (all, here) refl
-
 below-all : (n : ℕ) (cs : List ℕ) → list_any (λ c. leb n c) cs ≡ false → list_all (λ (c : CpuId). ltb c.0 n) (map cpu_of_number cs) ≡ true
 below-all n [] h = refl
 below-all n (c ∷ cs) h =
-    let p = neither (leb n c) (list_any (λ b. leb n b) cs) h in
+    let p = or_parts (leb n c) (list_any (λ b. leb n b) cs) h in
     let lt : ltb c n ≡ true = grind (arith, nat_tests, p.0) in
     rw (lt, below-all n cs p.1) refl
 
@@ -114,13 +109,13 @@ unnamed : (sets : List (Word × List CpuId)) (c : ℕ) → list_any (λ s. list_
     → list_any (λ (e : CpuId). nat_eq e.0 c) (named_cpus sets) ≡ false
 unnamed [] c h = refl
 unnamed (s ∷ ss) c h =
-    let p = neither (list_any (λ (e : CpuId). nat_eq e.0 c) s.1) _ h in
+    let p = or_parts (list_any (λ (e : CpuId). nat_eq e.0 c) s.1) _ h in
     list_any-append (λ (e : CpuId). nat_eq e.0 c) s.1 (named_cpus ss) ∙ rw (p.0, unnamed ss c p.1) refl
 
 unnamed-all : (sets : List (Word × List CpuId)) (cs : List ℕ) → list_any (λ c. list_any (λ s. list_any (λ (e : CpuId). nat_eq e.0 c) s.1) sets) cs ≡ false
     → list_any (λ c. list_any (λ (e : CpuId). nat_eq e.0 c) (named_cpus sets)) cs ≡ false
 unnamed-all sets [] h = refl
-unnamed-all sets (c ∷ cs) h = let p = neither _ _ h in rw (unnamed sets c p.0, unnamed-all sets cs p.1) refl
+unnamed-all sets (c ∷ cs) h = let p = or_parts _ _ h in rw (unnamed sets c p.0, unnamed-all sets cs p.1) refl
 
 cpus-append : (sets : List (Word × List CpuId)) (name : Word) (cs : List CpuId) → named_cpus (sets ++ (name, cs) ∷ []) ≡ named_cpus sets ++ cs
 cpus-append sets name cs = flat_map-append (λ (s : Word × List CpuId). s.1) sets ((name, cs) ∷ []) ∙ ap (λ l. named_cpus sets ++ l) (append-nil cs)
@@ -134,8 +129,8 @@ set-sound d name cs none s =
     let c = clear (set_causes d name cs) none in
     let in_range = c.range in
     let free : is_taken d cs ≡ false = by (list_any (is_beyond d) cs) (is_taken d cs) in_range c.sets in
-    let p = neither (leb (cpu_count d) (named_count d + length cs) || list_any (is_named d) cs) (not (is_distinct (λ a b. nat_eq a b) cs)) free in
-    let q = neither (leb (cpu_count d) (named_count d + length cs)) (list_any (is_named d) cs) p.0 in
+    let p = or_parts (leb (cpu_count d) (named_count d + length cs) || list_any (is_named d) cs) (not (is_distinct (λ a b. nat_eq a b) cs)) free in
+    let q = or_parts (leb (cpu_count d) (named_count d + length cs)) (list_any (is_named d) cs) p.0 in
     let ids = map cpu_of_number cs in
     let few : named_count d + length cs < cpu_count d = grind (arith, nat_tests, q.0) in
     let count = length-flat_map (λ (x : Word × List CpuId). x.1) d.sets in
@@ -143,7 +138,7 @@ set-sound d name cs none s =
     record {
       settings = s.settings;
       sets = record {
-        fit = all-push (set_is_sound (cpu_count d)) d.sets (name, ids) s.sets.fit (two _ _ (some-cpus cs c.syntax) (below-all (cpu_count d) cs in_range));
+        fit = all-push (set_is_sound (cpu_count d)) d.sets (name, ids) s.sets.fit (and_from _ _ (some-cpus cs c.syntax) (below-all (cpu_count d) cs in_range));
         differ = ap (is_distinct same_cpu) (cpus-append d.sets name ids)
             ∙ distinct-more (named_cpus d.sets) cs s.sets.differ (not-false _ p.1) (unnamed-all d.sets cs q.1);
         left = subst (λ (l : List CpuId). length l < cpu_count d) (sym (cpus-append d.sets name ids))
@@ -202,7 +197,7 @@ chan-new d kind name new small s = record {
 
 -- ---- threads
 
-quantum-fits : (q : QuantumWord) → is_quantum q ≡ true → quantum_fits (quantum_of q) ≡ true
+pub quantum-fits : (q : QuantumWord) → is_quantum q ≡ true → quantum_fits (quantum_of q) ≡ true
 quantum-fits Def h = refl
 quantum-fits Inf h = refl
 quantum-fits (Ticks n) h = h
@@ -212,17 +207,17 @@ ts-fits cpupri limit upri p l u = grind (arith, nat_tests, ints)
 
 class-fits : (c : ThreadClass) → is_class c ≡ true → class_fits (parms_of c) (cpupri_of c) ≡ true
 class-fits (Ts cpupri limit upri) h =
-    let p = both (leb cpupri 59 && upri_fits limit) (upri_fits upri) h in
-    let q = both (leb cpupri 59) (upri_fits limit) p.0 in
+    let p = and_parts (leb cpupri 59 && upri_fits limit) (upri_fits upri) h in
+    let q = and_parts (leb cpupri 59) (upri_fits limit) p.0 in
     ts-fits cpupri limit upri q.0 q.1 p.1
 class-fits (Fx limit pri q) h =
-    let p = both (leb limit 60 && leb pri 60) (is_quantum q) h in
-    let r = both (leb limit 60) (leb pri 60) p.0 in
+    let p = and_parts (leb limit 60 && leb pri 60) (is_quantum q) h in
+    let r = and_parts (leb limit 60) (leb pri 60) p.0 in
     let le : leb (min pri limit) limit ≡ true = grind (arith, nat_tests) in
     rw (r.0, le, quantum-fits q p.1) refl
 class-fits (Sys pri) h = rw h refl
 class-fits (Rt pri q) h =
-    let p = both (leb pri 59) (is_quantum q) h in
+    let p = and_parts (leb pri 59) (is_quantum q) h in
     rw (p.0, quantum-fits q p.1) refl
 
 thread-sound : (d : Declarations) (t : ThreadLine) → least (thread_causes d t) ≡ None → IsSound d → IsSound (with_thread d t)
@@ -230,7 +225,7 @@ unfolding thread_number
 thread-sound d t none s =
     let c = clear (thread_causes d t) none in
     let new = none-placed (λ (x : Thread). same_bytes x.name t.name) d.threads c.twice in
-    let in_range = both (is_class t.class) (leb t.uid 65535) (not-false _ c.range) in
+    let in_range = and_parts (is_class t.class) (leb t.uid 65535) (not-false _ c.range) in
     let known : leb (set_number d t.set) (length d.sets) ≡ true = under (set_number d t.set) (length d.sets) (not-false _ c.unknown) in
     let more = threads-more (named d) (named (with_thread d t)) d.threads
     (record { cpus = omega arith; sets = omega arith; threads = omega (arith, length-append d.threads (thread_of d t ∷ [])); lock_count = omega arith; locks = λ i x e. e; chans = λ i x e. e }) s.threads in
@@ -245,7 +240,7 @@ thread-sound d t none s =
         names = ap (is_distinct same_bytes) (map-append (λ (x : Thread). x.name) d.threads (thread_of d t ∷ []))
             ∙ distinct-push same_bytes (map (λ (x : Thread). x.name) d.threads) t.name more.names
             (sym (any_kept (λ (x : Thread). x.name) (λ n. same_bytes n t.name) d.threads) ∙ new);
-        fit = all-push (thread_is_sound (named (with_thread d t))) d.threads (thread_of d t) more.fit (two _ _ (two _ _ (class-fits t.class in_range.0) known) refl);
+        fit = all-push (thread_is_sound (named (with_thread d t))) d.threads (thread_of d t) more.fit (and_from _ _ (and_from _ _ (class-fits t.class in_range.0) known) refl);
       };
       tables = s.tables;
     }

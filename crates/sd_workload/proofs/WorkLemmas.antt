@@ -1,5 +1,6 @@
 -- What is declared makes a workload.
 use Rattle.std.proofs.Common.{◌≡◌, ℕ, ◌*◌, ◌<◌, ◌≤◌, true, false, ◌||◌, ltb, List, length, map, sum_by, Option, Some, None, sym, ap, ◌∙◌, subst, arith}
+use Rattle.std.proofs.lemmas.Bool.{or_parts}
 use Rattle.std.specs.Prelude.{unwrap_or}
 use Rattle.std.specs.List.{list_all}
 use Rattle.std.proofs.lemmas.Bool.Decides.{nat_tests}
@@ -21,7 +22,6 @@ use Rattle.sd_declare.proofs.PlaceLemmas.{map-map, sum_kept}
 use Rattle.sd_workload.specs.Sound.{named, named_cpus, set_is_sound, thread_is_sound, IsSound}
 use Rattle.sd_workload.specs.Texts.{Outside, end_causes, end_cause}
 use Rattle.sd_workload.proofs.ClearLemmas.{clear}
-use Rattle.sd_workload.proofs.NameLemmas.{neither}
 
 pub length-default_rt : (hz : ℕ) → length (default_rt_levels hz 60) ≡ 60
 unfolding default_rt_levels
@@ -41,8 +41,8 @@ pub few : (d : Declarations) → end_cause d Outside ≡ None → IsFew d
 unfolding end_cause
 few d none =
     let l = (clear (end_causes d) none).limits in
-    let p = neither (ltb 200000 (unwrap_or d.limit 0 * cpu_count d) || ltb 65536 (length d.threads * length d.locks)) (ltb 4096 (sum_by (λ (t : Thread). length t.ops) d.threads)) l in
-    let q = neither (ltb 200000 (unwrap_or d.limit 0 * cpu_count d)) (ltb 65536 (length d.threads * length d.locks)) p.0 in
+    let p = or_parts (ltb 200000 (unwrap_or d.limit 0 * cpu_count d) || ltb 65536 (length d.threads * length d.locks)) (ltb 4096 (sum_by (λ (t : Thread). length t.ops) d.threads)) l in
+    let q = or_parts (ltb 200000 (unwrap_or d.limit 0 * cpu_count d)) (ltb 65536 (length d.threads * length d.locks)) p.0 in
     record { ticks = at-most _ _ q.0; pairs = at-most _ _ q.1; ops = at-most _ _ p.1 }
 
 -- ---- each part, as the workload has it

@@ -1,7 +1,7 @@
 -- The threads of a state come to its homes, one after another in the order of their numbers.
 use Rattle.std.proofs.Common.{◌≡◌, ◌≢◌, ℕ, ◌+◌, ◌++◌, is_some, ◌<◌, ◌≤◌, ◌⊎◌, zero, suc, Bool, true, false, ◌&&◌, List, [], ◌∷◌, length, get_or, Option, Some, None, refl, sym, ap, ◌∙◌, subst, inl, inr, arith, le_refl, slice_get}
 use Rattle.std.specs.Prelude.{ℤ, pos, neg_ℤ, ◌≤ℤ◌, ◌<ℤ◌, ◌==◌, nat_lt}
-use Rattle.std.proofs.lemmas.Bool.{cases_eq, cases_lt, cases_Bool, eqb-true, false≢true}
+use Rattle.std.proofs.lemmas.Bool.{cases_eq, cases_lt, cases_Bool, eqb-true, false≢true, and_from}
 use Rattle.std.proofs.lemmas.Bool.Decides.{nat_tests}
 use Rattle.std.proofs.lemmas.List.{length-append}
 use Rattle.std.proofs.lemmas.Option.{slice_get-get_or, slice_get_within, get_or_from_slice_get}
@@ -24,7 +24,7 @@ use Rattle.sd_machine.specs.States.{is_running, key_of, no_thread, thread_of}
 use Rattle.sd_full.specs.Runs.{IsReached}
 use Rattle.sd_full.specs.Shapes.{FitsFully}
 use Rattle.sd_full.specs.Threads.{same_side as same_waiting}
-use Rattle.sd_laws.specs.Laws.{IsThere, KeysDiffer, KeysWithin, OneRuns, has_key, same_queue, same_side}
+use Rattle.sd_machine.specs.Invariants.{IsThere, KeysDiffer, KeysWithin, OneRuns, has_key, same_queue, same_side}
 use Rattle.sd_sound.proofs.FineLemmas.{sound_law}
 use Rattle.sd_sound.proofs.KeyLemmas.{keys_differ_law, keys_within_law}
 use Rattle.sd_sound.proofs.Ready.{kept_reached, reached_ready}
@@ -110,9 +110,6 @@ of_below t s u y e = by (cases_lt u t)
 
 -- Two threads in one list with keys are in one queue.
 
-both : (a b : Bool) → a ≡ true → b ≡ true → (a && b) ≡ true
-both a b p q = rw (p, q) refl
-
 first : (a b : Bool) → (a && b) ≡ true → a ≡ true
 first true b e = refl
 first false b e = absurd (false≢true e)
@@ -143,7 +140,7 @@ urgent_with p k last _ e = absurd (false≢true e)
 
 waits_with : (l : LockId) (side : Side) (k : ℤ) (last : CpuId) (q : Place) → stands_at (Waits l side) last q ≡ true → InQueue (Waiting l side k) q
 waits_with l side k last (Waiting m other j) e =
-    (both (l.0 == m.0) (same_side side other) (turned m.0 l.0 (first (m.0 == l.0) (same_waiting side other) e)) (sides side other (second (m.0 == l.0) (same_waiting side other) e)), refl)
+    (and_from (l.0 == m.0) (same_side side other) (turned m.0 l.0 (first (m.0 == l.0) (same_waiting side other) e)) (sides side other (second (m.0 == l.0) (same_waiting side other) e)), refl)
 waits_with l side k last _ e = absurd (false≢true e)
 
 sleeps_with : (ch : ChanId) (k : ℤ) (last : CpuId) (q : Place) → stands_at (Sleeps ch) last q ≡ true → InQueue (Asleep ch k) q
@@ -259,7 +256,7 @@ bare_shows s m slots are n k h is = by (held_slot k slots h is)
         let bound = slice_get_within slots i (Some h) there in
         let many = are.many in
         let at = are.each i (omega arith) in
-        let both : Some (Some at.home) ≡ Some (Some h) = sym at.there ∙ there in
+        let and_from : Some (Some at.home) ≡ Some (Some h) = sym at.there ∙ there in
         let same : at.home ≡ h = cc in
         subst (λ g. IsHome n s (λ t. None) g) same (bare_home n s at.home at.bare)
 
@@ -271,7 +268,7 @@ bare_placed s slots are = record { many = are.many; each = placed }
         let bound = slice_get_within slots i (Some h) there in
         let many = are.many in
         let at = are.each i (omega arith) in
-        let both : Some (Some at.home) ≡ Some (Some h) = sym at.there ∙ there in
+        let and_from : Some (Some at.home) ≡ Some (Some h) = sym at.there ∙ there in
         let same : at.home ≡ h = cc in
         subst (λ g. IsPlaced (sizes_of s) i g) same at.placed
 

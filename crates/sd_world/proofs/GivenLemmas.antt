@@ -9,10 +9,11 @@ use Rattle.sd_homes.specs.declared.home.Home.{Home}
 use Rattle.sd_homes.specs.Families.{home_id}
 use Rattle.sd_hand.specs.Hands.{HoldsMore, IsHeld, edit, held}
 use Rattle.sd_hand.proofs.SlotLemmas.{holds_more}
+use Rattle.sd_hand.proofs.GuideLemmas.{lies}
 use Rattle.sd_world.specs.Homes.{AllHomes, ArePlaced, IsNumber, IsPlaced, Sizes, index_of}
 use Rattle.sd_world.proofs.NumberLemmas.{no_slot_of_number, same_number, slot_of_number, within_by}
 
-set_twice : {X : Type 0} (xs : List X) (i : ℕ) (x y : X) → set (set xs i x) i y ≡ set xs i y
+pub set_twice : {X : Type 0} (xs : List X) (i : ℕ) (x y : X) → set (set xs i x) i y ≡ set xs i y
 set_twice [] i x y = refl
 set_twice (z ∷ xs) zero x y = refl
 set_twice (z ∷ xs) (suc i) x y = ap (λ ys. z ∷ ys) (set_twice xs i x y)
@@ -78,9 +79,6 @@ Shown x z hs = record { sizes = z; slots = hs } ≡ x
 
 abbrev pub IsIndex : AllHomes → HomeId → ℕ → Type 0
 IsIndex x k i = (i ≡ index_of x.sizes k) × IsNumber x.sizes k
-
-lies : (hs : List (Option Home)) (i : ℕ) (m : Option Home) → i < length hs → m ≡ get_or hs i m → slice_get hs i ≡ Some m
-lies hs i m inside e = slice_get-get_or hs i m inside ∙ ap Some (sym e)
 
 pub not_there : (x : AllHomes) (z : Sizes) (hs : List (Option Home)) (k : HomeId) → Shown x z hs → ArePlaced z hs → (IsNumber x.sizes k → ⊥) → held k x.slots ≡ None
 not_there x z hs k shown placed = subst (λ y. (IsNumber y.sizes k → ⊥) → held k y.slots ≡ None) shown (λ never. (no_slot_of_number z hs k placed (λ n. absurd (never n))).none)

@@ -9,6 +9,7 @@ use Rattle.sd_types.specs.declared.numbers.HomeId.TheVariants as id
 use Rattle.sd_machine.specs.declared.states.State.{State}
 use Rattle.sd_machine.specs.declared.states.ThreadState.{ThreadState}
 use Rattle.sd_machine.specs.States.{cpu_of, no_thread, thread_of}
+use Rattle.sd_machine.proofs.BestLemmas.{and_right}
 use Rattle.sd_full.specs.Threads.{count_of, lock_of, open_of}
 use Rattle.sd_full.proofs.ShapeLemmas.{IsShaped}
 use Rattle.sd_store.specs.declared.parts.Part.{Part}
@@ -68,19 +69,15 @@ kept_or : {X : Type 0} {Q : Type 0} (x y : X) → (y ≡ x) ⊎ Q → (Q → ⊥
 kept_or x y (inl same) never = sym same
 kept_or x y (inr q) never = absurd (never q)
 
-second_true : (a b : Bool) → (a && b) ≡ true → b ≡ true
-second_true true b e = e
-second_true false b e = cc
-
 parts_same : (s new : State) (ps : List Part) (h : Home) → IsShaped s new → ChangesOnly ps s new → IsElsewhere s ps h → PartsShown s h → PartsShown new h
 parts_same s new ps (Cpu h) shape only apart p =
     (p.0 ∙ kept_or (view_of (cpu_of s h.cpu.0)) _ (only.cpus h.cpu.0) (λ is. lies_elsewhere s ps (Cpu h) _ apart is refl), subst (λ k. h.cpu.0 < k) (sym shape.cpus) p.1)
 parts_same s new ps (RealTime h) shape only apart p =
     (p.0 ∙ kept_or (open_of s h.set.0) _ (only.sets h.set.0) (λ is. lies_elsewhere s ps (RealTime h) _ apart is refl), subst (λ k. h.set.0 < k) (sym shape.sets) p.1)
 parts_same s new ps (Chain h) shape only apart p =
-    (p.0, p.1, λ l is. p.2 l is ∙ kept_or (lock_of s l) _ (only.locks l) (λ there. lies_elsewhere s ps (Chain h) _ apart there (ap id.Chain (eqb-true (l % 64) h.turns.chain (second_true (nat_lt l 256) _ is)))))
+    (p.0, p.1, λ l is. p.2 l is ∙ kept_or (lock_of s l) _ (only.locks l) (λ there. lies_elsewhere s ps (Chain h) _ apart there (ap id.Chain (eqb-true (l % 64) h.turns.chain (and_right (nat_lt l 256) _ is)))))
 parts_same s new ps (Sleepers h) shape only apart p =
-    (p.0, p.1, λ k is. p.2 k is ∙ kept_or (count_of s k) _ (only.chans k) (λ there. lies_elsewhere s ps (Sleepers h) _ apart there (ap id.Sleepers (eqb-true (k % 64) h.sleepers.chain (second_true (nat_lt k 256) _ is)))))
+    (p.0, p.1, λ k is. p.2 k is ∙ kept_or (count_of s k) _ (only.chans k) (λ there. lies_elsewhere s ps (Sleepers h) _ apart there (ap id.Sleepers (eqb-true (k % 64) h.sleepers.chain (and_right (nat_lt k 256) _ is)))))
 
 pub other_home : (n : ℕ) (s new : State) (ps : List Part) (h : Home) → IsShaped s new → ChangesOnly ps s new → IsElsewhere s ps h → Stays n (n + 1) s new h
 other_home n s new ps h shape only apart is = record {

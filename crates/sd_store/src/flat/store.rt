@@ -101,7 +101,7 @@ impl Store for State {
         Ok(())
     }
 
-    #[tactic(auto, using(crate::proofs::Past::past))]
+    #[tactic(auto, using(sd_flat::proofs::Past::past))]
     fn change_body(
         &mut self,
         work: &Work,

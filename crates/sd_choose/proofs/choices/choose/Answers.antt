@@ -1,6 +1,7 @@
 use Rattle.std.proofs.Common.{◌≡◌, ◌&&◌, false, sym, ◌∙◌}
+use Rattle.std.proofs.lemmas.Bool.{and_left, and_right}
 use Rattle.sd_rules.specs.Choices.{is_among}
-use Rattle.sd_choose.proofs.ChoiceLemmas.{same_choice, best_by_hints, chosen_by_hints, Contains-from_among, not_warm, not_among}
+use Rattle.sd_choose.proofs.ChoiceLemmas.{same_choice, best_by_hints, chosen_by_hints, Contains-from_among}
 use Rattle.sd_choose.proofs.FunctionLemmas.{chosen_is}
 use Rattle.sd_choose.proofs.choices.choose.Goals as goal
 use Rattle.sd_choose.proofs.choices.choose.Goals.{else-warm-via-then-warm+else-is_among, else-warm-via-else-warm}
@@ -11,8 +12,8 @@ returns-then-is_among-clause-among c = Contains-from_among c.args.last c.args.cp
 pub returns-clause-chosen : goal.returns-clause-chosen
 returns-clause-chosen c =
     let away : (c.args.warm && is_among c.args.last c.args.cpus.now) ≡ false = elim c.else-warm.branch [
-      | else-warm-via-then-warm+else-is_among w ↦ not_among c.args.warm _ (sym w.is_among.ensures ∙ w.if-is_among.false)
-      | else-warm-via-else-warm w ↦ not_warm c.args.warm _ w.if-warm.false
+      | else-warm-via-then-warm+else-is_among w ↦ and_right c.args.warm _ (sym w.is_among.ensures ∙ w.if-is_among.false)
+      | else-warm-via-else-warm w ↦ and_left c.args.warm _ w.if-warm.false
     ] in
     chosen_by_hints _ c.args.cpus.now c.args.hints.now c.args.last _ away
     (best_by_hints c.args.cpus.now c.args.hints.now c.args.last c.least_busy.result c.requires.hints c.least_busy.ensures.within c.least_busy.ensures.best)

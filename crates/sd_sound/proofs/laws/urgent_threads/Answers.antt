@@ -1,0 +1,5 @@
+use Rattle.sd_machine.proofs.ClassLemmas.{urgent_law}
+use Rattle.sd_sound.proofs.laws.urgent_threads.Goals as goal
+
+pub returns : goal.returns
+returns c = urgent_law
