@@ -18,20 +18,20 @@ use Rattle.sd_types.specs.declared.events.Event.{Event}
 use Rattle.sd_types.specs.declared.events.Event.TheVariants.{Tick, Spin, Idle}
 use Rattle.sd_types.specs.declared.works.Work.{Work}
 use Rattle.sd_types.specs.Events.{ticks}
-use Rattle.sd_machine.specs.declared.states.Place.{Place}
-use Rattle.sd_machine.specs.declared.states.Place.TheVariants as place
-use Rattle.sd_machine.specs.declared.states.State.{State}
-use Rattle.sd_machine.specs.declared.states.ThreadState.{ThreadState}
-use Rattle.sd_machine.specs.Accounts.{is_tick_of, thread_ticks}
-use Rattle.sd_machine.specs.Opening.{opening}
-use Rattle.sd_machine.specs.States.{no_thread, thread_of, cpu_of, is_running}
-use Rattle.sd_full.specs.Events.{after}
-use Rattle.sd_full.specs.Runs.{final, state_at, IsComplete, IsRun}
-use Rattle.sd_full.specs.Threads.{runner}
-use Rattle.sd_full.proofs.RunLemmas.{final-nil}
-use Rattle.sd_machine.specs.Invariants.{OneRuns}
-use Rattle.sd_machine.proofs.Chosen.{position_fails}
-use Rattle.sd_machine.proofs.Openings.{opening_runs_none}
+use Rattle.sd_state.specs.declared.states.Place.{Place}
+use Rattle.sd_state.specs.declared.states.Place.TheVariants as place
+use Rattle.sd_state.specs.declared.states.State.{State}
+use Rattle.sd_state.specs.declared.states.ThreadState.{ThreadState}
+use Rattle.sd_state.specs.Accounts.{is_tick_of, thread_ticks}
+use Rattle.sd_state.specs.Opening.{opening}
+use Rattle.sd_state.specs.States.{no_thread, thread_of, cpu_of, is_running}
+use Rattle.sd_machine.specs.Events.{after}
+use Rattle.sd_machine.specs.Runs.{final, state_at, IsComplete, IsRun}
+use Rattle.sd_machine.specs.Threads.{runner}
+use Rattle.sd_machine.proofs.RunLemmas.{final-nil}
+use Rattle.sd_state.specs.Invariants.{OneRuns}
+use Rattle.sd_state.proofs.Chosen.{position_fails}
+use Rattle.sd_state.proofs.Openings.{opening_runs_none}
 use Rattle.sd_sound.specs.Causes.{IsCause}
 use Rattle.sd_sound.proofs.AgreedAfter.{IsReady}
 use Rattle.sd_sound.proofs.Found.{runner_found}

@@ -3,9 +3,9 @@
 use Rattle.std.specs.Prelude.{◌≡◌, ℕ, ◌+◌, ◌<◌, List, length}
 use Rattle.sd_types.specs.declared.events.Entry.{Entry}
 use Rattle.sd_types.specs.declared.works.Work.{Work}
-use Rattle.sd_machine.specs.Accounts.{thread_ticks}
-use Rattle.sd_machine.specs.Opening.{opening}
-use Rattle.sd_full.specs.Runs.{final, IsComplete, IsRun}
+use Rattle.sd_state.specs.Accounts.{thread_ticks}
+use Rattle.sd_state.specs.Opening.{opening}
+use Rattle.sd_machine.specs.Runs.{final, IsComplete, IsRun}
 use Rattle.sd_stretches.specs.declared.histories.History.{History}
 use Rattle.sd_stretches.specs.declared.spins.Track.TheVariants as track
 use Rattle.sd_stretches.specs.Histories.{IsHistory}

@@ -9,8 +9,8 @@ use Rattle.sd_types.specs.declared.events.Event.TheVariants.{Tick, Spin, Idle, D
 use Rattle.sd_types.specs.declared.events.Entry.{Entry}
 use Rattle.sd_types.specs.declared.works.Work.{Work}
 use Rattle.sd_types.specs.Events.{ticks}
-use Rattle.sd_machine.specs.Accounts.{is_tick_of, is_dispatch_of, is_preempt_of, is_wake_of, is_idle, thread_ticks, thread_dispatches, thread_preempts, thread_wakes, cpu_ticks, cpu_idle}
-use Rattle.sd_full.specs.Accounts.{entries_of, is_dispatch, is_steal, is_preempt, is_wake, is_block, is_will}
+use Rattle.sd_state.specs.Accounts.{is_tick_of, is_dispatch_of, is_preempt_of, is_wake_of, is_idle, thread_ticks, thread_dispatches, thread_preempts, thread_wakes, cpu_ticks, cpu_idle}
+use Rattle.sd_machine.specs.Accounts.{entries_of, is_dispatch, is_steal, is_preempt, is_wake, is_block, is_will}
 use Rattle.sd_accounts.specs.declared.counters.ThreadCounts.{ThreadCounts}
 use Rattle.sd_accounts.specs.declared.counters.CpuCounts.{CpuCounts}
 use Rattle.sd_accounts.specs.declared.accounts.Accounts.{Accounts}

@@ -10,10 +10,10 @@ use Rattle.std.proofs.lemmas.List.FromFn.{map-range_with_len_more}
 use Rattle.std.proofs.lemmas.Option.{get_or_from_slice_get}
 use Rattle.sd_types.specs.declared.events.Entry.{Entry}
 use Rattle.sd_types.specs.declared.works.Work.{Work}
-use Rattle.sd_machine.specs.declared.states.State.{State}
-use Rattle.sd_machine.specs.States.{thread_of}
-use Rattle.sd_machine.specs.Texts.{thread_name, state_text, thread_counts, thread_line, cpu_line, threads_text, cpus_text, accounts_text}
-use Rattle.sd_full.specs.Texts.{summary_of}
+use Rattle.sd_state.specs.declared.states.State.{State}
+use Rattle.sd_state.specs.States.{thread_of}
+use Rattle.sd_state.specs.Texts.{thread_name, state_text, thread_counts, thread_line, cpu_line, threads_text, cpus_text, accounts_text}
+use Rattle.sd_machine.specs.Texts.{summary_of}
 use Rattle.sd_accounts.specs.declared.accounts.Accounts.{Accounts}
 use Rattle.sd_accounts.specs.Counters.{no_thread_counts, no_cpu_counts, thread_counts_of, cpu_counts_of, HasTaken, counted_text, counted_thread_line, counted_cpu_line, counted_threads_text, counted_cpus_text, counted_summary}
 

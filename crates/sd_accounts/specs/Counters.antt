@@ -8,13 +8,13 @@ use Rattle.sd_types.specs.declared.events.Event.TheVariants.{Tick, Spin, Dispatc
 use Rattle.sd_types.specs.declared.events.Entry.{Entry}
 use Rattle.sd_types.specs.declared.works.Work.{Work}
 use Rattle.sd_types.specs.Events.{ticks}
-use Rattle.sd_machine.specs.declared.states.State.{State}
-use Rattle.sd_machine.specs.States.{thread_of}
-use Rattle.sd_machine.specs.Accounts.{is_tick_of, is_dispatch_of, is_preempt_of, is_wake_of, is_idle, thread_ticks, thread_dispatches, thread_preempts, thread_wakes, cpu_ticks, cpu_idle}
-use Rattle.sd_machine.specs.Texts.{thread_name, state_text}
-use Rattle.sd_full.specs.Accounts.{entries_of, is_dispatch, is_steal, is_preempt, is_wake, is_block, is_will}
-use Rattle.sd_full.specs.Threads.{has_ended}
-use Rattle.sd_full.specs.Texts.{count_line}
+use Rattle.sd_state.specs.declared.states.State.{State}
+use Rattle.sd_state.specs.States.{thread_of}
+use Rattle.sd_state.specs.Accounts.{is_tick_of, is_dispatch_of, is_preempt_of, is_wake_of, is_idle, thread_ticks, thread_dispatches, thread_preempts, thread_wakes, cpu_ticks, cpu_idle}
+use Rattle.sd_state.specs.Texts.{thread_name, state_text}
+use Rattle.sd_machine.specs.Accounts.{entries_of, is_dispatch, is_steal, is_preempt, is_wake, is_block, is_will}
+use Rattle.sd_machine.specs.Threads.{has_ended}
+use Rattle.sd_machine.specs.Texts.{count_line}
 use Rattle.sd_accounts.specs.declared.counters.ThreadCounts.{ThreadCounts}
 use Rattle.sd_accounts.specs.declared.counters.CpuCounts.{CpuCounts}
 use Rattle.sd_accounts.specs.declared.counters.Totals.{Totals}

@@ -1,13 +1,13 @@
 //! The lines of the blocking cycles of a state.
 
 ghost use Rattle.std.specs.Prelude.{◌≡◌, ◌++◌, OnOk, OnErr, codes, flat_map, map};
-ghost use Rattle.sd_machine.specs.States.{thread_of};
-ghost use Rattle.sd_machine.specs.Texts.{thread_name};
-ghost use Rattle.sd_full.specs.Texts.{cycle_line, cycle_word, cycles_text, waited_name};
+ghost use Rattle.sd_state.specs.States.{thread_of};
+ghost use Rattle.sd_state.specs.Texts.{thread_name};
+ghost use Rattle.sd_machine.specs.Texts.{cycle_line, cycle_word, cycles_text, waited_name};
 
 use sd_cycles::cycles;
 use sd_event::{put_lock_name, put_thread_name};
-use sd_machine::{Place, State};
+use sd_state::{Place, State};
 use sd_types::Work;
 use std::alloc::{AllocError, Global};
 
@@ -54,7 +54,7 @@ fn put_cycle_words(
     Ok(())
 }
 
-#[tactic(auto, unfolding(sd_full::specs::Texts::cycle_line))]
+#[tactic(auto, unfolding(sd_machine::specs::Texts::cycle_line))]
 fn put_cycle_line(
     work: &Work,
     s: &State,
@@ -84,7 +84,7 @@ fn put_cycle_lines(
 
 /// Appends a line for each blocking cycle of the state, in order of their least threads: `cycle`, and from that thread on
 /// each thread's name and the name of the lock for which it waits. Where memory runs out, `out` is as it was.
-#[tactic(auto, unfolding(sd_full::specs::Texts::cycles_text))]
+#[tactic(auto, unfolding(sd_machine::specs::Texts::cycles_text))]
 pub fn write_cycles(
     alloc: Global,
     work: &Work,

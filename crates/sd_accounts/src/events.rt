@@ -1,8 +1,8 @@
 //! Of which counts an event is.
 
 ghost use Rattle.std.specs.Prelude.{◌≡◌, option_map};
-ghost use Rattle.sd_machine.specs.Accounts.{is_dispatch_of, is_idle, is_preempt_of, is_tick_of, is_wake_of};
-ghost use Rattle.sd_full.specs.Accounts.{is_block, is_dispatch, is_preempt, is_steal, is_wake, is_will};
+ghost use Rattle.sd_state.specs.Accounts.{is_dispatch_of, is_idle, is_preempt_of, is_tick_of, is_wake_of};
+ghost use Rattle.sd_machine.specs.Accounts.{is_block, is_dispatch, is_preempt, is_steal, is_wake, is_will};
 ghost use Rattle.sd_accounts.specs.Counters.{counted_thread};
 
 use sd_types::{Event, ThreadId};

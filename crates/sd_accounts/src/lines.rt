@@ -2,16 +2,16 @@
 
 ghost use Rattle.std.specs.Prelude.{◌≡◌, ◌++◌, OnOk, OnErr, List as Items, codes, decimal, slice_index_or};
 ghost use Rattle.sd_types.specs.declared.events.Entry.{Entry as EntryValue};
-ghost use Rattle.sd_machine.specs.States.{thread_of};
-ghost use Rattle.sd_machine.specs.Texts.{accounts_text, chan_name, lock_name, state_text};
-ghost use Rattle.sd_full.specs.Texts.{cycles_text};
+ghost use Rattle.sd_state.specs.States.{thread_of};
+ghost use Rattle.sd_state.specs.Texts.{accounts_text, chan_name, lock_name, state_text};
+ghost use Rattle.sd_machine.specs.Texts.{cycles_text};
 ghost use Rattle.sd_accounts.specs.Counters.{HasTaken, counted_cpu_line, counted_cpus_text, counted_text, counted_thread_line, counted_threads_text, no_cpu_counts, no_thread_counts};
 
 use crate::accounts::Accounts;
 use crate::counters::{CpuCounts, ThreadCounts};
 use crate::cycle_lines::write_cycles;
 use sd_event::{put_chan_name, put_lock_name, put_thread_name};
-use sd_machine::{Place, State};
+use sd_state::{Place, State};
 use sd_text::put_number;
 use sd_types::{ChanId, LockId, Work};
 use std::alloc::{AllocError, Global};

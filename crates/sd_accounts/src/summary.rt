@@ -3,14 +3,14 @@
 ghost use Rattle.std.specs.Prelude.{◌≡◌, ◌++◌, OnOk, OnErr, List as Items, codes, count_by, decimal};
 ghost use Rattle.sd_types.specs.declared.events.Entry.{Entry as EntryValue};
 ghost use Rattle.sd_types.specs.declared.works.Work.{Work as WorkValue};
-ghost use Rattle.sd_full.specs.Threads.{has_ended};
-ghost use Rattle.sd_full.specs.Texts.{count_line, summary_of};
+ghost use Rattle.sd_machine.specs.Threads.{has_ended};
+ghost use Rattle.sd_machine.specs.Texts.{count_line, summary_of};
 ghost use Rattle.sd_accounts.specs.Counters.{HasTaken, counted_summary};
 
 use crate::accounts::Accounts;
 use crate::counters::Totals;
 use crate::lines::put_count;
-use sd_machine::{Place, State};
+use sd_state::{Place, State};
 use std::alloc::{AllocError, Global};
 
 fn has_ended(place: &Place) -> bool

@@ -13,17 +13,17 @@ use Rattle.std.proofs.lemmas.Str.Parse.{IsNumeralModel, numerals_by_value, tells
 use Rattle.std.proofs.lemmas.Fmt.{digits_decimal}
 use Rattle.sd_types.specs.declared.events.Entry.{Entry}
 use Rattle.sd_types.specs.declared.works.Work.{Work}
-use Rattle.sd_machine.specs.declared.states.State.{State}
-use Rattle.sd_machine.specs.Opening.{opening}
-use Rattle.sd_machine.specs.Texts.{accounts_text, threads_text, cpus_text}
+use Rattle.sd_state.specs.declared.states.State.{State}
+use Rattle.sd_state.specs.Opening.{opening}
+use Rattle.sd_state.specs.Texts.{accounts_text, threads_text, cpus_text}
 use Rattle.sd_text.specs.Lines.{lines_of, is_line, text_of_lines}
 use Rattle.sd_text.specs.Words.{is_word}
 use Rattle.sd_text.proofs.LineLemmas.{lines_of-line, lines_of-text}
 use Rattle.sd_text.proofs.NumberLemmas.{own}
-use Rattle.sd_full.specs.Runs.{final, IsStep}
-use Rattle.sd_full.specs.Texts.{entry_text, entries_text, cycles_text, journal}
+use Rattle.sd_machine.specs.Runs.{final, IsStep}
+use Rattle.sd_machine.specs.Texts.{entry_text, entries_text, cycles_text, journal}
 use Rattle.sd_spelling.specs.EntryWords.{entry_words, event_words, hint_words}
-use Rattle.sd_full.specs.Texts.{cpu_text}
+use Rattle.sd_machine.specs.Texts.{cpu_text}
 use Rattle.sd_spelling.specs.Fitting.{IsSpelled, in_range, event_in_range, hints_in_range}
 use Rattle.sd_spelling.proofs.NameLemmas.{number_word}
 use Rattle.sd_spelling.proofs.SpellLemmas.{entry_spelled}

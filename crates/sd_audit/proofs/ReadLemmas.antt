@@ -7,13 +7,13 @@ use Rattle.std.proofs.lemmas.Grind.{flat_map-append}
 use Rattle.std.proofs.Math.Seq.{take-append_seam}
 use Rattle.sd_types.specs.declared.events.Entry.{Entry}
 use Rattle.sd_types.specs.declared.works.Work.{Work}
-use Rattle.sd_machine.specs.declared.states.State.{State}
-use Rattle.sd_machine.specs.Opening.{opening}
+use Rattle.sd_state.specs.declared.states.State.{State}
+use Rattle.sd_state.specs.Opening.{opening}
 use Rattle.sd_text.specs.Lines.{lines_of}
-use Rattle.sd_full.specs.Events.{after}
-use Rattle.sd_full.specs.Runs.{final, IsRun, IsStep, IsReached}
-use Rattle.sd_full.specs.Texts.{entry_text, entries_text}
-use Rattle.sd_full.proofs.RunLemmas.{IsRun-nil, IsRun-append, IsRun-from, IsRunFrom-one, final-nil, final-push, last_number, last_step}
+use Rattle.sd_machine.specs.Events.{after}
+use Rattle.sd_machine.specs.Runs.{final, IsRun, IsStep, IsReached}
+use Rattle.sd_machine.specs.Texts.{entry_text, entries_text}
+use Rattle.sd_machine.proofs.RunLemmas.{IsRun-nil, IsRun-append, IsRun-from, IsRunFrom-one, final-nil, final-push, last_number, last_step}
 use Rattle.sd_accounts.specs.declared.accounts.Accounts.{Accounts}
 use Rattle.sd_accounts.specs.Counters.{HasTaken}
 use Rattle.sd_spelling.specs.Fitting.{IsSpelled}

@@ -8,13 +8,13 @@ use Rattle.sd_types.specs.declared.numbers.CpuId.{CpuId}
 use Rattle.sd_types.specs.declared.events.Hints.{Hints}
 use Rattle.sd_types.specs.declared.events.Entry.{Entry}
 use Rattle.sd_types.specs.declared.works.Work.{Work}
-use Rattle.sd_machine.specs.declared.states.State.{State}
-use Rattle.sd_machine.specs.Opening.{opening}
-use Rattle.sd_machine.specs.Texts.{accounts_text}
+use Rattle.sd_state.specs.declared.states.State.{State}
+use Rattle.sd_state.specs.Opening.{opening}
+use Rattle.sd_state.specs.Texts.{accounts_text}
 use Rattle.sd_text.specs.Lines.{lines_of, is_newline}
-use Rattle.sd_full.specs.Events.{next}
-use Rattle.sd_full.specs.Runs.{final, IsRun, IsStep, IsComplete}
-use Rattle.sd_full.specs.Texts.{entry_text, entries_text, cycles_text, journal}
+use Rattle.sd_machine.specs.Events.{next}
+use Rattle.sd_machine.specs.Runs.{final, IsRun, IsStep, IsComplete}
+use Rattle.sd_machine.specs.Texts.{entry_text, entries_text, cycles_text, journal}
 use Rattle.sd_spelling.specs.Fitting.{IsSpelled}
 use Rattle.sd_audit.specs.declared.audits.AuditFault.{AuditFault}
 use Rattle.sd_audit.specs.declared.audits.AuditFault.TheVariants.{NotAnEntry, Illegal, Incomplete, Tail, Memory}

@@ -3,11 +3,11 @@
 use Rattle.std.specs.Prelude.{◌≡◌, ℕ, ◌≤◌, List, ◌∷◌, ◌++◌, length, drop, codes}
 use Rattle.sd_types.specs.declared.events.Entry.{Entry}
 use Rattle.sd_types.specs.declared.works.Work.{Work}
-use Rattle.sd_machine.specs.declared.states.State.{State}
-use Rattle.sd_machine.specs.Opening.{opening}
+use Rattle.sd_state.specs.declared.states.State.{State}
+use Rattle.sd_state.specs.Opening.{opening}
 use Rattle.sd_text.specs.Lines.{lines_of}
-use Rattle.sd_full.specs.Runs.{final}
-use Rattle.sd_full.specs.Texts.{entries_text}
+use Rattle.sd_machine.specs.Runs.{final}
+use Rattle.sd_machine.specs.Texts.{entries_text}
 use Rattle.sd_accounts.specs.declared.accounts.Accounts.{Accounts}
 use Rattle.sd_accounts.specs.Counters.{HasTaken}
 use Rattle.sd_audit.specs.Audits.{TellsRun}

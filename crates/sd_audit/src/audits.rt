@@ -1,8 +1,8 @@
 //! The judgement of a whole text.
 
 ghost use Rattle.std.specs.Prelude.{◌≡◌, ℕ, ◌+◌, ◌<◌, ◌≤◌, ◌^◌, IfOk, IfErr, OnOk, length, drop};
-ghost use Rattle.sd_full.specs.Runs.{IsComplete};
-ghost use Rattle.sd_machine.specs.declared.states.State.{State as StateValue};
+ghost use Rattle.sd_machine.specs.Runs.{IsComplete};
+ghost use Rattle.sd_state.specs.declared.states.State.{State as StateValue};
 ghost use Rattle.sd_audit.specs.Audits.{IsFault, IsJournal, IsMemory};
 ghost use Rattle.sd_audit.specs.Reading.{HasRead, IsAtAccounts};
 
@@ -11,8 +11,8 @@ use crate::differences::first_difference;
 use crate::entries::{Place, take_entries};
 use sd_accounts::Accounts;
 use sd_entry_reader::Names;
-use sd_machine::State;
 use sd_opening::opening;
+use sd_state::State;
 use sd_types::{CpuId, Work};
 use std::alloc::Global;
 

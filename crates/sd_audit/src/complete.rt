@@ -3,11 +3,11 @@
 ghost use Rattle.std.specs.Prelude.{◌≡◌, true, false, ◌<◌, ℕ, Option, None, IfSome, IfNone, IsSome};
 ghost use Rattle.sd_types.specs.declared.events.Hints.{Hints};
 ghost use Rattle.sd_types.specs.declared.numbers.CpuId.{CpuId as CpuValue};
-ghost use Rattle.sd_full.specs.Events.{next};
-ghost use Rattle.sd_full.specs.Runs.{IsComplete, IsReached, serial_hints};
+ghost use Rattle.sd_machine.specs.Events.{next};
+ghost use Rattle.sd_machine.specs.Runs.{IsComplete, IsReached, serial_hints};
 ghost use Rattle.sd_steps.specs.Entering.{can_enter};
 
-use sd_machine::State;
+use sd_state::State;
 use sd_steps::can_enter;
 use sd_types::{CpuId, Work};
 

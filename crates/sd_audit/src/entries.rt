@@ -1,7 +1,7 @@
 //! The lines before the accounts.
 
 ghost use Rattle.std.specs.Prelude.{◌≡◌, [], ◌+◌, ◌<◌, ◌≤◌, ◌^◌, IfOk, IfErr, length, drop};
-ghost use Rattle.sd_machine.specs.Opening.{opening};
+ghost use Rattle.sd_state.specs.Opening.{opening};
 ghost use Rattle.sd_accounts.specs.Counters.{HasTaken};
 ghost use Rattle.sd_audit.specs.Audits.{IsFault};
 ghost use Rattle.sd_audit.specs.Reading.{HasRead, IsAtAccounts};
@@ -10,7 +10,7 @@ use crate::audits::AuditFault;
 use crate::lines::{is_accounts, take_line};
 use sd_accounts::Accounts;
 use sd_entry_reader::Names;
-use sd_machine::State;
+use sd_state::State;
 use sd_text::next_line;
 use std::alloc::Global;
 

@@ -2,7 +2,7 @@
 
 ghost use Rattle.std.specs.Prelude.{◌≡◌, ℕ, List};
 ghost use Rattle.sd_types.specs.declared.works.Work.{Work};
-ghost use Rattle.sd_machine.specs.declared.states.State.{State};
+ghost use Rattle.sd_state.specs.declared.states.State.{State};
 ghost use Rattle.sd_audit.specs.declared.audits.AuditFault.{AuditFault};
 ghost use Rattle.sd_audit.specs.Audits.{IsFault, IsJournal, IsMemory};
 

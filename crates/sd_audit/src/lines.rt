@@ -2,14 +2,14 @@
 
 ghost use Rattle.std.specs.Prelude.{◌≡◌, ◌+◌, ◌<◌, ◌^◌, IfOk, IfErr, OnErr, OnOk, IsTrue, ◌↔◌, codes};
 ghost use Rattle.sd_types.specs.declared.events.Entry.{Entry as EntryValue};
-ghost use Rattle.sd_full.specs.Events.{after};
-ghost use Rattle.sd_full.specs.Runs.{IsReached};
+ghost use Rattle.sd_machine.specs.Events.{after};
+ghost use Rattle.sd_machine.specs.Runs.{IsReached};
 ghost use Rattle.sd_audit.specs.Audits.{IsLineFault, IsMemory, IsTaken};
 
 use crate::audits::AuditFault;
 use crate::ranges::in_range;
 use sd_entry_reader::{Names, read_entry};
-use sd_machine::State;
+use sd_state::State;
 use sd_steps::step;
 use sd_types::Entry;
 use std::alloc::Global;

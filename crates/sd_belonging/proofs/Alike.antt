@@ -16,24 +16,24 @@ use Rattle.sd_types.specs.declared.scripts.Op.{Op}
 use Rattle.sd_types.specs.declared.works.Work.{Work}
 use Rattle.sd_types.specs.Priorities.{base_of, greatest_willed}
 use Rattle.sd_types.specs.Willed.{Numbers, without_number, changed_number}
-use Rattle.sd_machine.specs.declared.states.Place.{Place}
-use Rattle.sd_machine.specs.declared.states.Place.TheVariants.{Waiting}
-use Rattle.sd_machine.specs.declared.states.LockState.{LockState}
-use Rattle.sd_machine.specs.declared.states.LockState.TheVariants.{Free, Owned, ReadHeld, Passing}
-use Rattle.sd_machine.specs.declared.states.CpuState.{CpuState}
-use Rattle.sd_machine.specs.declared.states.ThreadState.{ThreadState}
-use Rattle.sd_machine.specs.declared.states.State.{State}
-use Rattle.sd_machine.specs.States.{no_thread, no_cpu, thread_of, cpu_of, with_thread, with_cpu, is_running}
-use Rattle.sd_machine.specs.Operations.{script_of, op_over, ran}
-use Rattle.sd_full.specs.Threads.{with_lock, with_count, has_waiters, best_waiter, best_ready, priority_of, runner, eff_of}
-use Rattle.sd_full.specs.Bodies.{with_class}
-use Rattle.sd_full.specs.Changes.{with_body, finish_op, run_tick, set_class, send_back, hold, let_go, set_number, set_looped, set_duty, count_tick, marked, set_mark, set_kernel_mark, runs_below, mark_over, rivals, priority_or_zero, remark}
-use Rattle.sd_full.specs.Dispatching.{is_rivalled, charge}
-use Rattle.sd_full.specs.Sleeping.{roused_on}
-use Rattle.sd_full.specs.Locking.{free_or_passed, release_from, unblocked_on, passed_on, after_owner, after_reader}
-use Rattle.sd_full.specs.Prioritising.{walk_from}
-use Rattle.sd_full.specs.Events.{drop_ageing}
-use Rattle.sd_machine.specs.Invariants.{is_marked}
+use Rattle.sd_state.specs.declared.states.Place.{Place}
+use Rattle.sd_state.specs.declared.states.Place.TheVariants.{Waiting}
+use Rattle.sd_state.specs.declared.states.LockState.{LockState}
+use Rattle.sd_state.specs.declared.states.LockState.TheVariants.{Free, Owned, ReadHeld, Passing}
+use Rattle.sd_state.specs.declared.states.CpuState.{CpuState}
+use Rattle.sd_state.specs.declared.states.ThreadState.{ThreadState}
+use Rattle.sd_state.specs.declared.states.State.{State}
+use Rattle.sd_state.specs.States.{no_thread, no_cpu, thread_of, cpu_of, with_thread, with_cpu, is_running}
+use Rattle.sd_state.specs.Operations.{script_of, op_over, ran}
+use Rattle.sd_machine.specs.Threads.{with_lock, with_count, has_waiters, best_waiter, best_ready, priority_of, runner, eff_of}
+use Rattle.sd_machine.specs.Bodies.{with_class}
+use Rattle.sd_machine.specs.Changes.{with_body, finish_op, run_tick, set_class, send_back, hold, let_go, set_number, set_looped, set_duty, count_tick, marked, set_mark, set_kernel_mark, runs_below, mark_over, rivals, priority_or_zero, remark}
+use Rattle.sd_machine.specs.Dispatching.{is_rivalled, charge}
+use Rattle.sd_machine.specs.Sleeping.{roused_on}
+use Rattle.sd_machine.specs.Locking.{free_or_passed, release_from, unblocked_on, passed_on, after_owner, after_reader}
+use Rattle.sd_machine.specs.Prioritising.{walk_from}
+use Rattle.sd_machine.specs.Events.{drop_ageing}
+use Rattle.sd_state.specs.Invariants.{is_marked}
 use Rattle.sd_chains.proofs.Moves.{IsSame, IsPut}
 use Rattle.sd_sound.proofs.Parts.{put_item, same_item, set_past, put_same, same_put, put_put}
 use Rattle.sd_sound.proofs.Words.{of_threads}

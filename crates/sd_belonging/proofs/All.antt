@@ -9,18 +9,18 @@ use Rattle.sd_types.specs.declared.events.Event.{Event}
 use Rattle.sd_types.specs.declared.events.Event.TheVariants.{Assign, Joined, Bind}
 use Rattle.sd_types.specs.declared.scripts.Op.TheVariants as op
 use Rattle.sd_types.specs.declared.works.Work.{Work}
-use Rattle.sd_machine.specs.declared.states.Place.{Place}
-use Rattle.sd_machine.specs.declared.states.Place.TheVariants.{Running, Queued, RealTime, Waiting, Asleep, Napping, Ended}
-use Rattle.sd_machine.specs.declared.states.ThreadState.{ThreadState}
-use Rattle.sd_machine.specs.declared.states.State.{State}
-use Rattle.sd_machine.specs.States.{no_thread, thread_of, is_running}
-use Rattle.sd_machine.specs.Opening.{opening}
-use Rattle.sd_full.specs.Threads.{set_of, eff_of}
-use Rattle.sd_full.specs.Events.{after}
-use Rattle.sd_full.specs.Runs.{IsReached}
-use Rattle.sd_machine.specs.Invariants.{OneRuns, IsThere, IsInItsSet, SuitsQueue}
-use Rattle.sd_machine.proofs.OpeningQueues.{opening_suits}
-use Rattle.sd_machine.proofs.OpeningSets.{opening_well}
+use Rattle.sd_state.specs.declared.states.Place.{Place}
+use Rattle.sd_state.specs.declared.states.Place.TheVariants.{Running, Queued, RealTime, Waiting, Asleep, Napping, Ended}
+use Rattle.sd_state.specs.declared.states.ThreadState.{ThreadState}
+use Rattle.sd_state.specs.declared.states.State.{State}
+use Rattle.sd_state.specs.States.{no_thread, thread_of, is_running}
+use Rattle.sd_state.specs.Opening.{opening}
+use Rattle.sd_machine.specs.Threads.{set_of, eff_of}
+use Rattle.sd_machine.specs.Events.{after}
+use Rattle.sd_machine.specs.Runs.{IsReached}
+use Rattle.sd_state.specs.Invariants.{OneRuns, IsThere, IsInItsSet, SuitsQueue}
+use Rattle.sd_state.proofs.OpeningQueues.{opening_suits}
+use Rattle.sd_state.proofs.OpeningSets.{opening_well}
 use Rattle.sd_sound.specs.Causes.{IsCause}
 use Rattle.sd_sound.specs.Laws.{HoldsWhenReached}
 use Rattle.sd_sound.proofs.BoundLemmas.{first_free}

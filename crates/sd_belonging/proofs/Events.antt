@@ -29,27 +29,27 @@ use Rattle.sd_types.specs.declared.works.Work.{Work}
 use Rattle.sd_types.specs.Priorities.{base_of, eff_as, greatest_willed}
 use Rattle.sd_types.specs.Willed.{without_number, changed_number}
 use Rattle.sd_rules.specs.ClassRules.{class_expires, class_requeue}
-use Rattle.sd_machine.specs.declared.states.Place.{Place}
-use Rattle.sd_machine.specs.declared.states.Place.TheVariants.{Running, Queued, RealTime, Waiting, Asleep, Napping, Ended}
-use Rattle.sd_machine.specs.declared.states.LockState.TheVariants.{Owned}
-use Rattle.sd_machine.specs.declared.states.State.{State}
-use Rattle.sd_machine.specs.States.{thread_of, cpu_of, is_running, is_queued, is_ready}
-use Rattle.sd_machine.specs.Operations.{op_of}
-use Rattle.sd_full.specs.Threads.{thread_id, runner, greatest_waiting, lock_of, with_lock, with_count, count_of, best_sleeper, eff_of, is_ts, is_waiting_at, is_asleep, is_asleep_below, is_due}
-use Rattle.sd_full.specs.Bodies.{ticked_class, aged_class}
-use Rattle.sd_full.specs.Changes.{back_key, key_at, queue_place, place_put, finish_op, run_tick, set_class, set_duty, count_tick, remark, put, put_where}
-use Rattle.sd_full.specs.Dispatching.{must_leave, charge, class_counts, ticked, spun, idled}
-use Rattle.sd_full.specs.Sleeping.{woke, woke_all, roused}
-use Rattle.sd_full.specs.Locking.{owned, read, one_more, released, exited, others_waiting, writer_priority, granted, passed}
-use Rattle.sd_full.specs.Requeueing.{reordered_at, reordered}
-use Rattle.sd_full.specs.Walking.{walked, willed, walk_ended}
-use Rattle.sd_full.specs.Prioritising.{new_class, walk_from, changed_by, changed_on, reprioritised, lifted, aged}
-use Rattle.sd_full.specs.Conditions.{sema_taken, sema_counted}
-use Rattle.sd_full.specs.SetChanges.{assigned, moved, pbound}
-use Rattle.sd_full.specs.Events.{dropped_duty, drop_ageing, effect, after}
-use Rattle.sd_machine.specs.Invariants.{is_marked}
-use Rattle.sd_machine.proofs.Chosen.{running_not_queued}
-use Rattle.sd_machine.proofs.BestLemmas.{and_right, and_left}
+use Rattle.sd_state.specs.declared.states.Place.{Place}
+use Rattle.sd_state.specs.declared.states.Place.TheVariants.{Running, Queued, RealTime, Waiting, Asleep, Napping, Ended}
+use Rattle.sd_state.specs.declared.states.LockState.TheVariants.{Owned}
+use Rattle.sd_state.specs.declared.states.State.{State}
+use Rattle.sd_state.specs.States.{thread_of, cpu_of, is_running, is_queued, is_ready}
+use Rattle.sd_state.specs.Operations.{op_of}
+use Rattle.sd_machine.specs.Threads.{thread_id, runner, greatest_waiting, lock_of, with_lock, with_count, count_of, best_sleeper, eff_of, is_ts, is_waiting_at, is_asleep, is_asleep_below, is_due}
+use Rattle.sd_machine.specs.Bodies.{ticked_class, aged_class}
+use Rattle.sd_machine.specs.Changes.{back_key, key_at, queue_place, place_put, finish_op, run_tick, set_class, set_duty, count_tick, remark, put, put_where}
+use Rattle.sd_machine.specs.Dispatching.{must_leave, charge, class_counts, ticked, spun, idled}
+use Rattle.sd_machine.specs.Sleeping.{woke, woke_all, roused}
+use Rattle.sd_machine.specs.Locking.{owned, read, one_more, released, exited, others_waiting, writer_priority, granted, passed}
+use Rattle.sd_machine.specs.Requeueing.{reordered_at, reordered}
+use Rattle.sd_machine.specs.Walking.{walked, willed, walk_ended}
+use Rattle.sd_machine.specs.Prioritising.{new_class, walk_from, changed_by, changed_on, reprioritised, lifted, aged}
+use Rattle.sd_machine.specs.Conditions.{sema_taken, sema_counted}
+use Rattle.sd_machine.specs.SetChanges.{assigned, moved, pbound}
+use Rattle.sd_machine.specs.Events.{dropped_duty, drop_ageing, effect, after}
+use Rattle.sd_state.specs.Invariants.{is_marked}
+use Rattle.sd_state.proofs.Chosen.{running_not_queued}
+use Rattle.sd_state.proofs.BestLemmas.{and_right, and_left}
 use Rattle.sd_sound.specs.Causes.{Runs, IsPut as IsPutAt, IsRequeuedAt, WakesBest, RousesBest, IsAnswered, IsCause}
 use Rattle.sd_sound.proofs.Found.{runner_found, ready_found, queued_found, unbound_found, waiter_found, sleeper_found, sleeper_below_found, due_found, age_found}
 use Rattle.sd_sound.proofs.Movers.{owner_thread, prio_thread}

@@ -9,18 +9,18 @@ use Rattle.sd_types.specs.declared.classes.ClassState.{ClassState}
 use Rattle.sd_types.specs.declared.events.Put.{Put}
 use Rattle.sd_types.specs.declared.events.Put.TheVariants.{Cpu, RealTime as OnRealTime}
 use Rattle.sd_types.specs.declared.works.Work.{Work}
-use Rattle.sd_machine.specs.declared.states.Place.{Place}
-use Rattle.sd_machine.specs.declared.states.Place.TheVariants.{Running, Queued}
-use Rattle.sd_machine.specs.declared.states.CpuState.{CpuState}
-use Rattle.sd_machine.specs.declared.states.ThreadState.{ThreadState}
-use Rattle.sd_machine.specs.declared.states.State.{State}
-use Rattle.sd_machine.specs.States.{no_thread, no_cpu, thread_of, cpu_of, with_thread, with_cpu, is_running, is_queued}
-use Rattle.sd_full.specs.Threads.{runner, priority_of, eff_of}
-use Rattle.sd_full.specs.Bodies.{woken_class, departed, arrived}
-use Rattle.sd_full.specs.Changes.{with_place, back_key, set_class, unmarked, clear_marks, marked, set_mark, runs_below, mark_over, run_on, leave, place_put, cpu_put, put}
-use Rattle.sd_full.specs.Dispatching.{dispatched, stolen, sent_away}
-use Rattle.sd_full.specs.Sleeping.{woken}
-use Rattle.sd_machine.specs.Invariants.{is_marked}
+use Rattle.sd_state.specs.declared.states.Place.{Place}
+use Rattle.sd_state.specs.declared.states.Place.TheVariants.{Running, Queued}
+use Rattle.sd_state.specs.declared.states.CpuState.{CpuState}
+use Rattle.sd_state.specs.declared.states.ThreadState.{ThreadState}
+use Rattle.sd_state.specs.declared.states.State.{State}
+use Rattle.sd_state.specs.States.{no_thread, no_cpu, thread_of, cpu_of, with_thread, with_cpu, is_running, is_queued}
+use Rattle.sd_machine.specs.Threads.{runner, priority_of, eff_of}
+use Rattle.sd_machine.specs.Bodies.{woken_class, departed, arrived}
+use Rattle.sd_machine.specs.Changes.{with_place, back_key, set_class, unmarked, clear_marks, marked, set_mark, runs_below, mark_over, run_on, leave, place_put, cpu_put, put}
+use Rattle.sd_machine.specs.Dispatching.{dispatched, stolen, sent_away}
+use Rattle.sd_machine.specs.Sleeping.{woken}
+use Rattle.sd_state.specs.Invariants.{is_marked}
 use Rattle.sd_chains.proofs.Moves.{IsSame, IsPut, put_cases}
 use Rattle.sd_sound.proofs.Parts.{put_item, same_item, put_same, same_put, put_put}
 use Rattle.sd_sound.proofs.Words.{of_threads}

@@ -8,17 +8,17 @@ use Rattle.sd_types.specs.declared.events.AssignAnswer.TheVariants as assign
 use Rattle.sd_types.specs.declared.events.Event.{Event}
 use Rattle.sd_types.specs.declared.events.Event.TheVariants.{Assign, Joined}
 use Rattle.sd_types.specs.declared.works.Work.{Work}
-use Rattle.sd_machine.specs.declared.states.CpuState.{CpuState}
-use Rattle.sd_machine.specs.declared.states.ThreadState.{ThreadState}
-use Rattle.sd_machine.specs.declared.states.State.{State}
-use Rattle.sd_machine.specs.States.{no_thread, no_cpu, thread_of, cpu_of, is_running, is_queued}
-use Rattle.sd_machine.specs.Best.{running, beats}
-use Rattle.sd_machine.proofs.OrderLemmas.{beats_order}
-use Rattle.sd_full.specs.Threads.{open_of, with_open, runner, best_queued}
-use Rattle.sd_full.specs.Changes.{with_cpu_in, close, join}
-use Rattle.sd_full.specs.SetChanges.{cleared, assigned, joined}
-use Rattle.sd_full.specs.Events.{drop_ageing, effect, after}
-use Rattle.sd_machine.proofs.Chosen.{runs_none}
+use Rattle.sd_state.specs.declared.states.CpuState.{CpuState}
+use Rattle.sd_state.specs.declared.states.ThreadState.{ThreadState}
+use Rattle.sd_state.specs.declared.states.State.{State}
+use Rattle.sd_state.specs.States.{no_thread, no_cpu, thread_of, cpu_of, is_running, is_queued}
+use Rattle.sd_state.specs.Best.{running, beats}
+use Rattle.sd_state.proofs.OrderLemmas.{beats_order}
+use Rattle.sd_machine.specs.Threads.{open_of, with_open, runner, best_queued}
+use Rattle.sd_machine.specs.Changes.{with_cpu_in, close, join}
+use Rattle.sd_machine.specs.SetChanges.{cleared, assigned, joined}
+use Rattle.sd_machine.specs.Events.{drop_ageing, effect, after}
+use Rattle.sd_state.proofs.Chosen.{runs_none}
 use Rattle.sd_sound.specs.Causes.{IsCause}
 use Rattle.sd_sound.proofs.Parts.{same_item}
 use Rattle.sd_sound.proofs.CpuWords as C

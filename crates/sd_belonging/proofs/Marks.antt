@@ -10,19 +10,19 @@ use Rattle.sd_types.specs.declared.events.Event.{Event}
 use Rattle.sd_types.specs.declared.events.Event.TheVariants.{Assign, Joined, Bind}
 use Rattle.sd_types.specs.declared.events.Put.{Put}
 use Rattle.sd_types.specs.declared.works.Work.{Work}
-use Rattle.sd_machine.specs.declared.states.Place.{Place}
-use Rattle.sd_machine.specs.declared.states.Place.TheVariants.{Running, Queued, RealTime, Waiting, Asleep, Napping, Ended}
-use Rattle.sd_machine.specs.declared.states.State.{State}
-use Rattle.sd_machine.specs.States.{thread_of, cpu_of, is_running, is_queued}
-use Rattle.sd_machine.specs.Opening.{opening}
-use Rattle.sd_full.specs.Threads.{eff_of}
-use Rattle.sd_full.specs.Changes.{place_put}
-use Rattle.sd_full.specs.SetChanges.{bound_put, unbound_put, bind_put}
-use Rattle.sd_full.specs.Events.{effect, after}
-use Rattle.sd_full.specs.Runs.{IsReached}
-use Rattle.sd_machine.specs.Invariants.{is_marked, MarksStand}
-use Rattle.sd_machine.proofs.Chosen.{running_not_queued}
-use Rattle.sd_machine.proofs.Openings.{opening_runs_none, opening_unmarked}
+use Rattle.sd_state.specs.declared.states.Place.{Place}
+use Rattle.sd_state.specs.declared.states.Place.TheVariants.{Running, Queued, RealTime, Waiting, Asleep, Napping, Ended}
+use Rattle.sd_state.specs.declared.states.State.{State}
+use Rattle.sd_state.specs.States.{thread_of, cpu_of, is_running, is_queued}
+use Rattle.sd_state.specs.Opening.{opening}
+use Rattle.sd_machine.specs.Threads.{eff_of}
+use Rattle.sd_machine.specs.Changes.{place_put}
+use Rattle.sd_machine.specs.SetChanges.{bound_put, unbound_put, bind_put}
+use Rattle.sd_machine.specs.Events.{effect, after}
+use Rattle.sd_machine.specs.Runs.{IsReached}
+use Rattle.sd_state.specs.Invariants.{is_marked, MarksStand}
+use Rattle.sd_state.proofs.Chosen.{running_not_queued}
+use Rattle.sd_state.proofs.Openings.{opening_runs_none, opening_unmarked}
 use Rattle.sd_chains.proofs.Moves.{IsPut}
 use Rattle.sd_sound.specs.Causes.{IsCause}
 use Rattle.sd_sound.specs.Laws.{HoldsWhenReached, is_runnable}

@@ -1,5 +1,5 @@
 -- Each thread in one place: the laws of places, runners and keys together.
-use Rattle.sd_machine.specs.Invariants.{OneRuns}
+use Rattle.sd_state.specs.Invariants.{OneRuns}
 use Rattle.sd_sound.specs.Laws.{HoldsAfterEntries, HoldsWhenReached}
 use Rattle.sd_sound.proofs.Ready.{kept_reached, reached_ready}
 use Rattle.sd_sound.proofs.RunningLemmas.{one_kept, opening_one}

@@ -16,18 +16,18 @@ use Rattle.sd_types.specs.declared.events.Event.TheVariants.{Assign, Joined}
 use Rattle.sd_types.specs.declared.scripts.Op.TheVariants as op
 use Rattle.sd_types.specs.declared.works.Work.{Work}
 use Rattle.sd_types.specs.Partitions.{set_of_cpu, cpus_of_set, cpu_of_number}
-use Rattle.sd_machine.specs.declared.states.CpuState.{CpuState}
-use Rattle.sd_machine.specs.declared.states.State.{State}
-use Rattle.sd_machine.specs.States.{no_cpu, cpu_of, with_cpu}
-use Rattle.sd_machine.specs.Opening.{open_list, opening}
-use Rattle.sd_machine.proofs.BestLemmas.{and_right, and_left}
-use Rattle.sd_machine.proofs.OpeningSets.{opening_set}
-use Rattle.sd_full.specs.Threads.{no_cpus, open_of, with_open, runner}
-use Rattle.sd_full.specs.Changes.{with_cpu_in, without_cpu, close, join}
-use Rattle.sd_full.specs.SetChanges.{cleared, assigned, joined}
-use Rattle.sd_full.specs.Shapes.{FitsFully}
-use Rattle.sd_full.specs.Changes.{set_duty}
-use Rattle.sd_full.specs.Events.{dropped_duty, drop_ageing, effect, after}
+use Rattle.sd_state.specs.declared.states.CpuState.{CpuState}
+use Rattle.sd_state.specs.declared.states.State.{State}
+use Rattle.sd_state.specs.States.{no_cpu, cpu_of, with_cpu}
+use Rattle.sd_state.specs.Opening.{open_list, opening}
+use Rattle.sd_state.proofs.BestLemmas.{and_right, and_left}
+use Rattle.sd_state.proofs.OpeningSets.{opening_set}
+use Rattle.sd_machine.specs.Threads.{no_cpus, open_of, with_open, runner}
+use Rattle.sd_machine.specs.Changes.{with_cpu_in, without_cpu, close, join}
+use Rattle.sd_machine.specs.SetChanges.{cleared, assigned, joined}
+use Rattle.sd_machine.specs.Shapes.{FitsFully}
+use Rattle.sd_machine.specs.Changes.{set_duty}
+use Rattle.sd_machine.specs.Events.{dropped_duty, drop_ageing, effect, after}
 use Rattle.sd_part.proofs.PartitionLemmas.{names-passing, passing-named, set-at_most}
 use Rattle.sd_sound.specs.Causes.{IsCause}
 use Rattle.sd_sound.specs.Laws.{HoldsWhenReached, OpenHold, is_in, IsRising}

@@ -12,17 +12,17 @@ use Rattle.sd_types.specs.declared.events.Put.TheVariants.{Cpu, RealTime as OnRe
 use Rattle.sd_types.specs.declared.works.Work.{Work}
 use Rattle.sd_types.specs.Priorities.{eff}
 use Rattle.sd_part.proofs.PartitionLemmas.{names-from_Contains}
-use Rattle.sd_machine.specs.declared.states.Place.{Place}
-use Rattle.sd_machine.specs.declared.states.Place.TheVariants.{Running, Queued, RealTime, Waiting, Asleep, Napping, Ended}
-use Rattle.sd_machine.specs.declared.states.State.{State}
-use Rattle.sd_machine.specs.States.{thread_of, cpu_of, is_running, is_queued, is_ready}
-use Rattle.sd_full.specs.declared.plans.Requeue.TheVariants.{Stays, Behind, Anew}
-use Rattle.sd_full.specs.Threads.{open_of, set_of, eff_of}
-use Rattle.sd_full.specs.Changes.{back_key, queue_place, place_put}
-use Rattle.sd_full.specs.Choosing.{cpus_or_bound, cpus_for, put_on, neighbours}
-use Rattle.sd_full.specs.Requeueing.{is_bound_to, requeue}
-use Rattle.sd_machine.specs.Invariants.{is_marked}
-use Rattle.sd_machine.proofs.OpeningSets.{same_set}
+use Rattle.sd_state.specs.declared.states.Place.{Place}
+use Rattle.sd_state.specs.declared.states.Place.TheVariants.{Running, Queued, RealTime, Waiting, Asleep, Napping, Ended}
+use Rattle.sd_state.specs.declared.states.State.{State}
+use Rattle.sd_state.specs.States.{thread_of, cpu_of, is_running, is_queued, is_ready}
+use Rattle.sd_machine.specs.declared.plans.Requeue.TheVariants.{Stays, Behind, Anew}
+use Rattle.sd_machine.specs.Threads.{open_of, set_of, eff_of}
+use Rattle.sd_machine.specs.Changes.{back_key, queue_place, place_put}
+use Rattle.sd_machine.specs.Choosing.{cpus_or_bound, cpus_for, put_on, neighbours}
+use Rattle.sd_machine.specs.Requeueing.{is_bound_to, requeue}
+use Rattle.sd_state.specs.Invariants.{is_marked}
+use Rattle.sd_state.proofs.OpeningSets.{same_set}
 use Rattle.sd_sound.specs.Causes.{IsPut, IsRequeuedAt}
 use Rattle.sd_sound.specs.Laws.{is_in, is_runnable}
 use Rattle.sd_sound.proofs.Whole.{IsWhole}

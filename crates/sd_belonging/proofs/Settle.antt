@@ -15,15 +15,15 @@ use Rattle.sd_types.specs.declared.events.Event.TheVariants.{Assign, Joined, Bin
 use Rattle.sd_types.specs.declared.events.Put.{Put}
 use Rattle.sd_types.specs.declared.events.Put.TheVariants.{Cpu, RealTime as OnRealTime}
 use Rattle.sd_types.specs.declared.works.Work.{Work}
-use Rattle.sd_machine.specs.declared.states.Place.{Place}
-use Rattle.sd_machine.specs.declared.states.Place.TheVariants.{Running, Queued, RealTime, Waiting, Asleep, Napping, Ended}
-use Rattle.sd_machine.specs.declared.states.ThreadState.{ThreadState}
-use Rattle.sd_machine.specs.declared.states.State.{State}
-use Rattle.sd_machine.specs.States.{no_thread, thread_of, cpu_of, is_running, is_queued}
-use Rattle.sd_full.specs.Threads.{open_of, with_open, runner, set_of, eff_of}
-use Rattle.sd_full.specs.Changes.{with_cpu_in, without_cpu, set_duty, close, join}
-use Rattle.sd_full.specs.SetChanges.{bound_put, unbound_put, bind_put, bind_to, cleared, assigned, joined, pbound}
-use Rattle.sd_full.specs.Events.{drop_ageing, effect, after}
+use Rattle.sd_state.specs.declared.states.Place.{Place}
+use Rattle.sd_state.specs.declared.states.Place.TheVariants.{Running, Queued, RealTime, Waiting, Asleep, Napping, Ended}
+use Rattle.sd_state.specs.declared.states.ThreadState.{ThreadState}
+use Rattle.sd_state.specs.declared.states.State.{State}
+use Rattle.sd_state.specs.States.{no_thread, thread_of, cpu_of, is_running, is_queued}
+use Rattle.sd_machine.specs.Threads.{open_of, with_open, runner, set_of, eff_of}
+use Rattle.sd_machine.specs.Changes.{with_cpu_in, without_cpu, set_duty, close, join}
+use Rattle.sd_machine.specs.SetChanges.{bound_put, unbound_put, bind_put, bind_to, cleared, assigned, joined, pbound}
+use Rattle.sd_machine.specs.Events.{drop_ageing, effect, after}
 use Rattle.sd_chains.proofs.Moves.{IsPut}
 use Rattle.sd_sound.specs.Causes.{IsCause}
 use Rattle.sd_sound.proofs.CpuWords as C

@@ -10,17 +10,17 @@ use Rattle.sd_types.specs.declared.events.AssignAnswer.TheVariants as assign
 use Rattle.sd_types.specs.declared.events.BindAnswer.TheVariants as bind_answer
 use Rattle.sd_types.specs.declared.events.Put.{Put}
 use Rattle.sd_types.specs.declared.works.Work.{Work}
-use Rattle.sd_machine.specs.declared.states.Place.{Place}
-use Rattle.sd_machine.specs.declared.states.Place.TheVariants.{Running, Queued, RealTime, Waiting, Asleep, Napping, Ended}
-use Rattle.sd_machine.specs.declared.states.CpuState.{CpuState}
-use Rattle.sd_machine.specs.declared.states.ThreadState.{ThreadState}
-use Rattle.sd_machine.specs.declared.states.State.{State}
-use Rattle.sd_machine.specs.States.{no_thread, no_cpu, thread_of, cpu_of, with_cpu, is_running}
-use Rattle.sd_machine.proofs.OpeningSets.{same_set}
-use Rattle.sd_full.specs.Threads.{open_of, with_open, runner, set_of, eff_of, has_ended}
-use Rattle.sd_full.specs.Changes.{with_cpu_in, without_cpu, with_body, place_put, set_kernel_mark, put, put_where, close, join, bind, unbind}
-use Rattle.sd_full.specs.Prioritising.{is_privileged, uid_of}
-use Rattle.sd_full.specs.SetChanges.{assign_answer, cleared, assigned, joined, is_misbound, is_closing, bind_put, bind_to, called_back, rebound, pbound}
+use Rattle.sd_state.specs.declared.states.Place.{Place}
+use Rattle.sd_state.specs.declared.states.Place.TheVariants.{Running, Queued, RealTime, Waiting, Asleep, Napping, Ended}
+use Rattle.sd_state.specs.declared.states.CpuState.{CpuState}
+use Rattle.sd_state.specs.declared.states.ThreadState.{ThreadState}
+use Rattle.sd_state.specs.declared.states.State.{State}
+use Rattle.sd_state.specs.States.{no_thread, no_cpu, thread_of, cpu_of, with_cpu, is_running}
+use Rattle.sd_state.proofs.OpeningSets.{same_set}
+use Rattle.sd_machine.specs.Threads.{open_of, with_open, runner, set_of, eff_of, has_ended}
+use Rattle.sd_machine.specs.Changes.{with_cpu_in, without_cpu, with_body, place_put, set_kernel_mark, put, put_where, close, join, bind, unbind}
+use Rattle.sd_machine.specs.Prioritising.{is_privileged, uid_of}
+use Rattle.sd_machine.specs.SetChanges.{assign_answer, cleared, assigned, joined, is_misbound, is_closing, bind_put, bind_to, called_back, rebound, pbound}
 use Rattle.sd_chains.proofs.HolderLemmas.{count_one}
 use Rattle.sd_chains.proofs.Moves.{IsSame}
 use Rattle.sd_sound.proofs.Parts.{same_item}

@@ -11,20 +11,20 @@ use Rattle.sd_types.specs.declared.events.Put.{Put}
 use Rattle.sd_types.specs.declared.works.Work.{Work}
 use Rattle.sd_types.specs.Willed.{without_number, changed_number}
 use Rattle.sd_rules.specs.ClassRules.{class_requeue}
-use Rattle.sd_machine.specs.declared.states.Place.{Place}
-use Rattle.sd_machine.specs.declared.states.Place.TheVariants.{Waiting, Asleep, Napping, Ended}
-use Rattle.sd_machine.specs.declared.states.LockState.TheVariants.{Owned}
-use Rattle.sd_machine.specs.declared.states.State.{State}
-use Rattle.sd_machine.specs.States.{thread_of, cpu_of}
-use Rattle.sd_machine.specs.Operations.{op_of}
-use Rattle.sd_full.specs.Threads.{thread_id, lock_of, with_lock, greatest_waiting, has_waiters, best_sleeper_below}
-use Rattle.sd_full.specs.Bodies.{woken_class}
-use Rattle.sd_full.specs.Changes.{back_key, key_at, queue_place, place_put, finish_op, hold, set_class, set_number, set_looped, leave}
-use Rattle.sd_full.specs.Dispatching.{preempted, yielded, done}
-use Rattle.sd_full.specs.Sleeping.{nap_ticks, napped, fallen_asleep, woken, woke, rouse_key, roused}
-use Rattle.sd_full.specs.Locking.{side_of, blocked, release_from, released, unblocked, others_waiting, one_reader_more, granted_to_writer, granted_to_reader}
-use Rattle.sd_full.specs.Walking.{walked}
-use Rattle.sd_full.specs.Conditions.{cv_waited, sema_handed}
+use Rattle.sd_state.specs.declared.states.Place.{Place}
+use Rattle.sd_state.specs.declared.states.Place.TheVariants.{Waiting, Asleep, Napping, Ended}
+use Rattle.sd_state.specs.declared.states.LockState.TheVariants.{Owned}
+use Rattle.sd_state.specs.declared.states.State.{State}
+use Rattle.sd_state.specs.States.{thread_of, cpu_of}
+use Rattle.sd_state.specs.Operations.{op_of}
+use Rattle.sd_machine.specs.Threads.{thread_id, lock_of, with_lock, greatest_waiting, has_waiters, best_sleeper_below}
+use Rattle.sd_machine.specs.Bodies.{woken_class}
+use Rattle.sd_machine.specs.Changes.{back_key, key_at, queue_place, place_put, finish_op, hold, set_class, set_number, set_looped, leave}
+use Rattle.sd_machine.specs.Dispatching.{preempted, yielded, done}
+use Rattle.sd_machine.specs.Sleeping.{nap_ticks, napped, fallen_asleep, woken, woke, rouse_key, roused}
+use Rattle.sd_machine.specs.Locking.{side_of, blocked, release_from, released, unblocked, others_waiting, one_reader_more, granted_to_writer, granted_to_reader}
+use Rattle.sd_machine.specs.Walking.{walked}
+use Rattle.sd_machine.specs.Conditions.{cv_waited, sema_handed}
 use Rattle.sd_belonging.proofs.Alike.{Weight, weight_part, Calm, Weighs, then_calm, calm_alike, calm_weighs, weighs_calm, lock_calm, set_duty_calm, finish_op_calm, hold_calm, set_looped_calm, set_class_weighs, set_number_weighs, let_go_weighs, release_calm, unblocked_on_calm, roused_on_calm}
 use Rattle.sd_belonging.proofs.Goes.{All, Others, Goes, Puts, weighs_goes, goes_alike, goes_to, calm_puts, weighs_puts, puts_alike, puts_to, woken_puts, leave_goes}
 

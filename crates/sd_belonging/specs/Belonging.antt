@@ -7,12 +7,12 @@ use Rattle.sd_types.specs.declared.numbers.CpuId.{CpuId}
 use Rattle.sd_types.specs.declared.numbers.SetId.{SetId}
 use Rattle.sd_types.specs.declared.works.Work.{Work}
 use Rattle.sd_types.specs.Partitions.{cpu_of_number}
-use Rattle.sd_machine.specs.declared.states.Place.{Place}
-use Rattle.sd_machine.specs.declared.states.Place.TheVariants.{Running, Queued, RealTime}
-use Rattle.sd_machine.specs.declared.states.State.{State}
-use Rattle.sd_machine.specs.States.{thread_of, cpu_of}
-use Rattle.sd_full.specs.Threads.{open_of, set_of, eff_of}
-use Rattle.sd_machine.specs.Invariants.{PlacesAreThere, OneRuns, KeysDiffer, KeysWithin}
+use Rattle.sd_state.specs.declared.states.Place.{Place}
+use Rattle.sd_state.specs.declared.states.Place.TheVariants.{Running, Queued, RealTime}
+use Rattle.sd_state.specs.declared.states.State.{State}
+use Rattle.sd_state.specs.States.{thread_of, cpu_of}
+use Rattle.sd_machine.specs.Threads.{open_of, set_of, eff_of}
+use Rattle.sd_state.specs.Invariants.{PlacesAreThere, OneRuns, KeysDiffer, KeysWithin}
 
 -- A thread of effective priority p, bound to a processor or to none, may stand on the queue of processor c: it is bound to c, or
 -- it is bound to none and below 100.

@@ -8,10 +8,10 @@ use Rattle.sd_types.specs.declared.events.Event.{Event}
 use Rattle.sd_types.specs.declared.events.Event.TheVariants.{Dispatch, Steal, Joined}
 use Rattle.sd_types.specs.declared.events.Hints.{Hints}
 use Rattle.sd_types.specs.declared.works.Work.{Work}
-use Rattle.sd_machine.specs.declared.states.State.{State}
-use Rattle.sd_machine.specs.States.{thread_of, cpu_of, is_running, is_queued}
-use Rattle.sd_full.specs.Events.{next, after}
-use Rattle.sd_full.specs.Runs.{IsReached}
+use Rattle.sd_state.specs.declared.states.State.{State}
+use Rattle.sd_state.specs.States.{thread_of, cpu_of, is_running, is_queued}
+use Rattle.sd_machine.specs.Events.{next, after}
+use Rattle.sd_machine.specs.Runs.{IsReached}
 
 -- no thread runs on processor d, and none stands on its queue
 abbrev pub IsEmpty : State → ℕ → Type 0

@@ -2,7 +2,7 @@
 
 ghost use Rattle.sd_belonging.specs.Belonging.{EachInOnePlace, OpenListsAreExact, ThreadsBelong};
 ghost use Rattle.sd_belonging.specs.Changes.{BoundAreDispatchedAtHome, SetsChangeByJoining, StolenAreUnbound};
-ghost use Rattle.sd_machine.specs.Invariants.{MarksStand};
+ghost use Rattle.sd_state.specs.Invariants.{MarksStand};
 ghost use Rattle.sd_sound.specs.Laws.{HoldsAfterEntries, HoldsWhenReached};
 
 /// In every state of every run each thread stands where its processor set, its binding and its priority ask. A thread

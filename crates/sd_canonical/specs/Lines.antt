@@ -22,8 +22,8 @@ use Rattle.sd_types.specs.declared.works.ThreadDecl.{ThreadDecl}
 use Rattle.sd_types.specs.declared.works.Work.{Work}
 use Rattle.sd_script.specs.Faults.{is_wait}
 use Rattle.sd_lines.specs.Words.{Word, Line}
-use Rattle.sd_machine.specs.Texts.{thread_name, lock_name, chan_name}
-use Rattle.sd_full.specs.Texts.{set_name}
+use Rattle.sd_state.specs.Texts.{thread_name, lock_name, chan_name}
+use Rattle.sd_machine.specs.Texts.{set_name}
 
 -- ---- settings, sets, locks and channels
 

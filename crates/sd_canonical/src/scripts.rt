@@ -2,8 +2,8 @@
 
 ghost use Rattle.std.specs.Prelude.{◌≡◌, ◌++◌, ◌∷◌, [], OnOk, codes, decimal, false, flat_map, if◌then◌else◌};
 ghost use Rattle.sd_script.specs.Faults.{is_wait};
-ghost use Rattle.sd_machine.specs.Texts.{chan_name, lock_name, thread_name};
-ghost use Rattle.sd_full.specs.Texts.{set_name};
+ghost use Rattle.sd_state.specs.Texts.{chan_name, lock_name, thread_name};
+ghost use Rattle.sd_machine.specs.Texts.{set_name};
 ghost use Rattle.sd_canonical.specs.Lines.{asked_words, bound_word, operation_line, operation_lines, request_words};
 ghost use Rattle.sd_canonical.specs.Canonical.{line_text, lines_text, script_text, spaced, words_text};
 

@@ -3,8 +3,8 @@
 
 ghost use Rattle.std.specs.Prelude.{◌≡◌, ◌++◌, ◌∷◌, [], OnOk, decimal};
 ghost use Rattle.std.specs.Fmt.{signed_decimal};
-ghost use Rattle.sd_machine.specs.Texts.{chan_name, lock_name, thread_name};
-ghost use Rattle.sd_full.specs.Texts.{set_name};
+ghost use Rattle.sd_state.specs.Texts.{chan_name, lock_name, thread_name};
+ghost use Rattle.sd_machine.specs.Texts.{set_name};
 ghost use Rattle.sd_canonical.specs.Lines.{quantum_word};
 
 use itoa::Buffer;

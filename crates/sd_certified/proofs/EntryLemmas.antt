@@ -22,15 +22,15 @@ use Rattle.sd_types.specs.Priorities.{base_of, eff_as}
 use Rattle.sd_types.specs.Willed.{changed_number, with_number, without_number, with_willed}
 use Rattle.sd_types.proofs.PriorityLemmas.{greatest-below}
 use Rattle.sd_types.proofs.WilledLemmas.{sound-with, sound-without}
-use Rattle.sd_machine.specs.declared.states.State.{State}
-use Rattle.sd_machine.specs.States.{thread_of}
-use Rattle.sd_full.specs.Bodies.{aged_class}
-use Rattle.sd_full.specs.Needs.{IsPut, IsPutIf, IsWoken, IsPrioPut, IsBindPut, CanInherit, Needs}
-use Rattle.sd_full.specs.Prioritising.{new_class}
-use Rattle.sd_full.specs.Shapes.{FitsFully}
-use Rattle.sd_full.specs.Threads.{eff_of, greatest_waiting}
-use Rattle.sd_full.specs.Walking.{inherited_priority}
-use Rattle.sd_full.specs.Runs.{IsReached, IsStep}
+use Rattle.sd_state.specs.declared.states.State.{State}
+use Rattle.sd_state.specs.States.{thread_of}
+use Rattle.sd_machine.specs.Bodies.{aged_class}
+use Rattle.sd_machine.specs.Needs.{IsPut, IsPutIf, IsWoken, IsPrioPut, IsBindPut, CanInherit, Needs}
+use Rattle.sd_machine.specs.Prioritising.{new_class}
+use Rattle.sd_machine.specs.Shapes.{FitsFully}
+use Rattle.sd_machine.specs.Threads.{eff_of, greatest_waiting}
+use Rattle.sd_machine.specs.Walking.{inherited_priority}
+use Rattle.sd_machine.specs.Runs.{IsReached, IsStep}
 use Rattle.sd_sound.specs.Causes.{IsCause}
 use Rattle.sd_sound.proofs.BaseLemmas.{age_below, new_below}
 use Rattle.sd_sound.proofs.NumberLemmas.{AreFine, fine_eff}

@@ -12,28 +12,28 @@ use Rattle.sd_types.specs.declared.events.Hints.{Hints}
 use Rattle.sd_types.specs.declared.events.Which.{Which}
 use Rattle.sd_types.specs.declared.events.Which.TheVariants as which
 use Rattle.sd_types.specs.declared.works.Work.{Work}
-use Rattle.sd_machine.specs.declared.states.State.{State}
-use Rattle.sd_machine.specs.States.{thread_of, cpu_of}
-use Rattle.sd_full.specs.Events.{next}
-use Rattle.sd_full.specs.Runs.{IsReached, IsStep}
+use Rattle.sd_state.specs.declared.states.State.{State}
+use Rattle.sd_state.specs.States.{thread_of, cpu_of}
+use Rattle.sd_machine.specs.Events.{next}
+use Rattle.sd_machine.specs.Runs.{IsReached, IsStep}
 use Rattle.sd_sound.proofs.NumberLemmas.{AreFine, fine_eff}
 use Rattle.sd_sound.proofs.FineLemmas.{fine_reached}
 use Rattle.sd_spelling.specs.Fitting.{is_byte, hints_in_range, IsSpelled}
 use Rattle.sd_certified.proofs.EntryLemmas.{spelled}
-use Rattle.sd_machine.specs.Opening.{opening}
-use Rattle.sd_full.specs.declared.plans.Plan.{Plan}
-use Rattle.sd_full.specs.declared.plans.Plan.TheVariants.{Make, Place as PlaceIt, Search}
-use Rattle.sd_full.specs.Threads.{open_of, set_of, runner, best_unbound, priority_of}
-use Rattle.sd_full.specs.Choosing.{hint_of, hint_shown, cpus_or_bound, cpus_for, is_warm, is_settled, reads_for, neighbours, read_of}
-use Rattle.sd_full.specs.Plans.{plan}
-use Rattle.sd_full.specs.Events.{after, placed_thread, plan_reads, reads}
-use Rattle.sd_full.specs.Runs.{final, IsComplete, IsRun, IsRunFrom, shown, serial_hints, made, turn, round, rounds, IsSerial}
+use Rattle.sd_state.specs.Opening.{opening}
+use Rattle.sd_machine.specs.declared.plans.Plan.{Plan}
+use Rattle.sd_machine.specs.declared.plans.Plan.TheVariants.{Make, Place as PlaceIt, Search}
+use Rattle.sd_machine.specs.Threads.{open_of, set_of, runner, best_unbound, priority_of}
+use Rattle.sd_machine.specs.Choosing.{hint_of, hint_shown, cpus_or_bound, cpus_for, is_warm, is_settled, reads_for, neighbours, read_of}
+use Rattle.sd_machine.specs.Plans.{plan}
+use Rattle.sd_machine.specs.Events.{after, placed_thread, plan_reads, reads}
+use Rattle.sd_machine.specs.Runs.{final, IsComplete, IsRun, IsRunFrom, shown, serial_hints, made, turn, round, rounds, IsSerial}
 use Rattle.std.proofs.lemmas.List.{length-append}
 use Rattle.std.proofs.lemmas.List.Elements.{All-nil, All-cons, All-head, All-tail}
-use Rattle.sd_full.proofs.RunLemmas.{final-nil, final-push, IsRun-nil, IsRun-append, IsRun-from, IsRunFrom-nil, IsRunFrom-one, IsRunFrom-append}
+use Rattle.sd_machine.proofs.RunLemmas.{final-nil, final-push, IsRun-nil, IsRun-append, IsRun-from, IsRunFrom-nil, IsRunFrom-one, IsRunFrom-append}
 use Rattle.sd_sound.specs.Laws.{OpenHold, IsRising, is_in}
 use Rattle.sd_sound.proofs.Whole.{reached_whole}
-use Rattle.sd_full.specs.Texts.{journal}
+use Rattle.sd_machine.specs.Texts.{journal}
 use Rattle.sd_rounds.specs.declared.orders.Turns.{Turns}
 use Rattle.sd_rounds.specs.Orders.{orders_of}
 use Rattle.sd_rounds.proofs.CompleteLemmas.{complete_of}

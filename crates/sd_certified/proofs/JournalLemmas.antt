@@ -6,7 +6,7 @@ use Rattle.std.proofs.lemmas.List.Elements.{All-head, All-tail}
 use Rattle.sd_types.specs.declared.events.Entry.{Entry}
 use Rattle.sd_types.specs.declared.works.Work.{Work}
 use Rattle.sd_text.specs.Lines.{lines_of}
-use Rattle.sd_full.specs.Texts.{journal}
+use Rattle.sd_machine.specs.Texts.{journal}
 use Rattle.sd_spelling.specs.Fitting.{IsSpelled}
 use Rattle.sd_audit.specs.Audits.{entry_line}
 use Rattle.sd_audit.proofs.LineLemmas.{same_line, not_accounts, journal_lines}

@@ -13,13 +13,13 @@ use Rattle.sd_types.specs.declared.events.Hints.{Hints}
 use Rattle.sd_types.specs.declared.events.Which.{Which}
 use Rattle.sd_types.specs.declared.events.Which.TheVariants as which
 use Rattle.sd_types.specs.declared.works.Work.{Work}
-use Rattle.sd_machine.specs.declared.states.CpuState.{CpuState}
-use Rattle.sd_machine.specs.declared.states.State.{State}
-use Rattle.sd_machine.specs.States.{cpu_of, no_cpu}
-use Rattle.sd_full.specs.declared.plans.Plan.{Plan}
-use Rattle.sd_full.specs.Events.{allowed, hints_fit, may_tick, next, plan_reads, reads, same_which, wish}
-use Rattle.sd_full.specs.Plans.{plan}
-use Rattle.sd_full.specs.Runs.{serial_hints, shown}
+use Rattle.sd_state.specs.declared.states.CpuState.{CpuState}
+use Rattle.sd_state.specs.declared.states.State.{State}
+use Rattle.sd_state.specs.States.{cpu_of, no_cpu}
+use Rattle.sd_machine.specs.declared.plans.Plan.{Plan}
+use Rattle.sd_machine.specs.Events.{allowed, hints_fit, may_tick, next, plan_reads, reads, same_which, wish}
+use Rattle.sd_machine.specs.Plans.{plan}
+use Rattle.sd_machine.specs.Runs.{serial_hints, shown}
 use Rattle.sd_sound.proofs.Whole.{fit_reached}
 use Rattle.sd_mdisp.specs.declared.reading.Reading.{Reading}
 use Rattle.sd_mdisp.specs.Reading.{parts}

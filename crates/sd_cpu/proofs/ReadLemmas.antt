@@ -4,14 +4,14 @@ use Rattle.sd_types.specs.declared.numbers.CpuId.{CpuId}
 use Rattle.sd_types.specs.declared.events.Which.{Which}
 use Rattle.sd_types.specs.declared.events.Which.TheVariants.{Running as OfRunning}
 use Rattle.sd_types.specs.declared.works.Work.{Work}
-use Rattle.sd_machine.specs.declared.states.State.{State}
-use Rattle.sd_machine.specs.States.{thread_of}
-use Rattle.sd_full.specs.declared.plans.Plan.{Plan}
-use Rattle.sd_full.specs.declared.plans.Plan.TheVariants.{Make, Place, Search}
-use Rattle.sd_full.specs.Choosing.{cpus_for, is_warm, is_settled, neighbours, read_of, reads_for}
-use Rattle.sd_full.specs.Events.{placed_thread, plan_reads}
-use Rattle.sd_full.specs.Plans.{plan}
-use Rattle.sd_full.specs.Runs.{IsReached}
+use Rattle.sd_state.specs.declared.states.State.{State}
+use Rattle.sd_state.specs.States.{thread_of}
+use Rattle.sd_machine.specs.declared.plans.Plan.{Plan}
+use Rattle.sd_machine.specs.declared.plans.Plan.TheVariants.{Make, Place, Search}
+use Rattle.sd_machine.specs.Choosing.{cpus_for, is_warm, is_settled, neighbours, read_of, reads_for}
+use Rattle.sd_machine.specs.Events.{placed_thread, plan_reads}
+use Rattle.sd_machine.specs.Plans.{plan}
+use Rattle.sd_machine.specs.Runs.{IsReached}
 use Rattle.sd_mdisp.specs.declared.reading.Reading.{Reading}
 use Rattle.sd_mdisp.specs.Reading.{parts}
 use Rattle.sd_range.proofs.Places.{cpus_there, inside_reached}

@@ -9,11 +9,11 @@ use Rattle.sd_types.specs.declared.events.Entry.{Entry}
 use Rattle.sd_types.specs.declared.events.Event.{Event}
 use Rattle.sd_types.specs.declared.events.Hints.{Hints}
 use Rattle.sd_types.specs.declared.works.Work.{Work}
-use Rattle.sd_machine.specs.declared.states.State.{State}
-use Rattle.sd_full.specs.declared.plans.Plan.{Plan}
-use Rattle.sd_full.specs.Events.{allowed, hints_fit, may_tick, next, plan_event, plan_reads, reads, wish}
-use Rattle.sd_full.specs.Needs.{CanCount}
-use Rattle.sd_full.specs.Plans.{plan}
+use Rattle.sd_state.specs.declared.states.State.{State}
+use Rattle.sd_machine.specs.declared.plans.Plan.{Plan}
+use Rattle.sd_machine.specs.Events.{allowed, hints_fit, may_tick, next, plan_event, plan_reads, reads, wish}
+use Rattle.sd_machine.specs.Needs.{CanCount}
+use Rattle.sd_machine.specs.Plans.{plan}
 use Rattle.sd_sound.proofs.Whole.{fit_reached}
 use Rattle.sd_store.specs.declared.parts.Part.{Part}
 use Rattle.sd_store.specs.declared.parts.Part.TheVariants as part

@@ -1,8 +1,8 @@
 //! Whether a hand has all parts that an event touches.
 
 ghost use Rattle.std.specs.Prelude.{◌≡◌, ℕ, true, [], ◌∷◌};
-ghost use Rattle.sd_machine.specs.States.{cpu_of, thread_of};
-ghost use Rattle.sd_machine.specs.declared.states.State.{State};
+ghost use Rattle.sd_state.specs.States.{cpu_of, thread_of};
+ghost use Rattle.sd_state.specs.declared.states.State.{State};
 ghost use Rattle.sd_store.specs.Keyless.{spot_of};
 ghost use Rattle.sd_hand.specs.Acting.{IsShown, has_part};
 ghost use Rattle.sd_store.specs.declared.parts.Part.TheVariants.{Home};

@@ -4,12 +4,12 @@
 //! Source: Solaris Internals (sema_p, sema_v); that a semaphore is handed over directly is this project's own.
 
 ghost use Rattle.std.specs.Prelude.{◌≡◌, ◌<◌, ◌^◌, [], ◌∷◌, option_map};
-ghost use Rattle.sd_full.specs.Conditions.{sema_counted, sema_handed, sema_p_event, sema_taken, sema_v_plan};
-ghost use Rattle.sd_full.specs.Needs.{CanCount, CanFinish, IsChan};
+ghost use Rattle.sd_machine.specs.Conditions.{sema_counted, sema_handed, sema_p_event, sema_taken, sema_v_plan};
+ghost use Rattle.sd_machine.specs.Needs.{CanCount, CanFinish, IsChan};
 ghost use Rattle.sd_store.specs.Parts.{found_parts, number, put_parts, sleepers_part, thread_part};
 ghost use Rattle.sd_store.specs.Words.{Does, DoesBy, Lacks, LacksBy, LacksIf, Tells, TellsIf};
 
-use sd_full::{Placement, Plan};
+use sd_machine::{Placement, Plan};
 use sd_mdisp::woken_priority;
 use sd_msleep::woke;
 use sd_store::{Look, Sets, Store, finish_op};
@@ -28,7 +28,7 @@ pub fn sema_p_event<L: Look>(x: &L, t: ThreadId, k: ChanId) -> Result<Event, L::
 }
 
 /// Thread `t` takes one from semaphore `k`.
-#[tactic(auto, unfolding(sd_full::specs::Conditions::sema_taken))]
+#[tactic(auto, unfolding(sd_machine::specs::Conditions::sema_taken))]
 pub fn sema_taken<S: Sets>(work: &Work, x: &mut S, t: ThreadId, k: ChanId) -> Result<(), S::Lack>
     ensures value { Does (S.shows x.old) (S.shows x.new) result (λ s. CanFinish work.now s t × IsChan s k) (λ s. sema_taken work.now s t.0 k) }
     ensures lack { LacksIf S.part (S.shows x.old) (S.has x.old) result (λ s. CanFinish work.now s t × IsChan s k) (λ s. sleepers_part k ∷ thread_part t ∷ []) }
@@ -63,7 +63,7 @@ pub fn sema_v_plan<L: Look>(
 }
 
 /// Thread `t` counts semaphore `k` up.
-#[tactic(auto, unfolding(sd_full::specs::Conditions::sema_counted))]
+#[tactic(auto, unfolding(sd_machine::specs::Conditions::sema_counted))]
 pub fn sema_counted<S: Sets>(work: &Work, x: &mut S, t: ThreadId, k: ChanId) -> Result<(), S::Lack>
     ensures value { Does (S.shows x.old) (S.shows x.new) result (λ s. CanFinish work.now s t × IsChan s k × CanCount s k) (λ s. sema_counted work.now s t.0 k) }
     ensures lack { LacksIf S.part (S.shows x.old) (S.has x.old) result (λ s. CanFinish work.now s t × IsChan s k × CanCount s k) (λ s. sleepers_part k ∷ thread_part t ∷ []) }
@@ -75,7 +75,7 @@ pub fn sema_counted<S: Sets>(work: &Work, x: &mut S, t: ThreadId, k: ChanId) -> 
 }
 
 /// By entry `number` thread `t` hands a semaphore to thread `u`, which slept on it and is made runnable.
-#[tactic(auto, unfolding(sd_full::specs::Conditions::sema_handed, sd_full::specs::Sleeping::woke))]
+#[tactic(auto, unfolding(sd_machine::specs::Conditions::sema_handed, sd_machine::specs::Sleeping::woke))]
 pub fn sema_handed<S: Store>(
     work: &Work,
     x: &mut S,

@@ -3,10 +3,10 @@ use Rattle.std.proofs.Common.{◌≡◌, ℕ, ◌<◌, length, Some, sym, ap, �
 use Rattle.std.proofs.lemmas.Bool.{cases_lt}
 use Rattle.std.proofs.lemmas.List.{get_or_past}
 use Rattle.std.proofs.lemmas.Option.{none-some}
-use Rattle.sd_machine.specs.declared.states.State.{State}
-use Rattle.sd_machine.specs.States.{no_thread}
+use Rattle.sd_state.specs.declared.states.State.{State}
+use Rattle.sd_state.specs.States.{no_thread}
 use Rattle.sd_chains.specs.Graphs.{Wait}
-use Rattle.sd_full.specs.LockGraph.{wait_of, graph}
+use Rattle.sd_machine.specs.LockGraph.{wait_of, graph}
 
 pub waits_inside : (s : State) (t : ℕ) (w : Wait) → (graph s).waits t ≡ Some w → t < length s.threads
 waits_inside s t w waits = elim (cases_lt t (length s.threads)) [

@@ -2,11 +2,11 @@
 
 ghost use Rattle.std.specs.Prelude.{◌≡◌, ◌++◌, length, map, option_map, IfOk, OnOk};
 ghost use Rattle.sd_chains.specs.Cycles.{ahead, lap, none_or_one};
-ghost use Rattle.sd_full.specs.LockGraph.{cycles_of, graph, owner_of, wait_of};
-ghost use Rattle.sd_full.specs.Threads.{lock_of};
-ghost use Rattle.sd_machine.specs.States.{thread_of};
+ghost use Rattle.sd_machine.specs.LockGraph.{cycles_of, graph, owner_of, wait_of};
+ghost use Rattle.sd_machine.specs.Threads.{lock_of};
+ghost use Rattle.sd_state.specs.States.{thread_of};
 
-use sd_machine::{LockState, Place, State, ThreadState};
+use sd_state::{LockState, Place, State, ThreadState};
 use sd_types::LockId;
 use std::alloc::{AllocError, Global};
 
@@ -84,7 +84,7 @@ fn add_found(found: &mut Vec<Vec<usize>>, cycle: Option<Vec<usize>>) -> Result<(
 /// The blocking cycles of the state, in order of their least threads: each from that thread on, with each thread before
 /// the owner of the lock for which it waits. No cycle is found from two threads. The time is at most that of as many steps
 /// as the square of the number of threads.
-#[tactic(auto, unfolding(sd_full::specs::LockGraph::cycles_of))]
+#[tactic(auto, unfolding(sd_machine::specs::LockGraph::cycles_of))]
 pub fn cycles(alloc: Global, s: &State) -> Result<Vec<Vec<usize>>, AllocError>
     ensures { IfOk result (λ found. map (λ v. v.items) found.items ≡ cycles_of s.now) }
 {

@@ -20,13 +20,13 @@ use Rattle.sd_types.specs.declared.numbers.SetId.{SetId}
 use Rattle.sd_types.specs.declared.numbers.Side.{Side}
 use Rattle.sd_types.specs.declared.numbers.Side.TheVariants.{Writer, Reader}
 use Rattle.sd_types.specs.declared.numbers.ThreadId.{ThreadId}
-use Rattle.sd_machine.specs.declared.states.CpuState.{CpuState}
-use Rattle.sd_machine.specs.declared.states.LockState.{LockState}
-use Rattle.sd_machine.specs.declared.states.LockState.TheVariants.{Free, Owned, ReadHeld, Passing}
-use Rattle.sd_machine.specs.declared.states.Place.{Place}
-use Rattle.sd_machine.specs.declared.states.Place.TheVariants.{Running, Queued, RealTime, Waiting, Asleep, Napping, Ended}
-use Rattle.sd_machine.specs.declared.states.State.{State}
-use Rattle.sd_machine.specs.declared.states.ThreadState.{ThreadState}
+use Rattle.sd_state.specs.declared.states.CpuState.{CpuState}
+use Rattle.sd_state.specs.declared.states.LockState.{LockState}
+use Rattle.sd_state.specs.declared.states.LockState.TheVariants.{Free, Owned, ReadHeld, Passing}
+use Rattle.sd_state.specs.declared.states.Place.{Place}
+use Rattle.sd_state.specs.declared.states.Place.TheVariants.{Running, Queued, RealTime, Waiting, Asleep, Napping, Ended}
+use Rattle.sd_state.specs.declared.states.State.{State}
+use Rattle.sd_state.specs.declared.states.ThreadState.{ThreadState}
 use Rattle.sd_encoding.specs.Numbers.{zigzag, natural, signed, truth, flag, optional, listed, cpu_id, thread_id, lock_id, chan_id, set_id, side, place, lock, duty, quantum, ts, fx, sys, rt, class, body, thread, cpu, inherited, open_list, vector}
 use Rattle.sd_encoding.specs.Reading.{number_at, below_at, unzigzag, signed_at, signed_byte_at, truth_at, optional_at, pair_at, items_at, listed_at, array_at, cpu_id_at, thread_id_at, lock_id_at, chan_id_at, set_id_at, side_at, place_at, lock_at, duty_at, quantum_at, ts_within, fx_within, sys_within, rt_within, ts_at, fx_at, sys_at, rt_at, class_at, body_at, thread_at, cpu_at, state_at}
 use Rattle.sd_encoding.specs.Fits.{FitsCpuId, FitsThreadId, FitsLockId, FitsChanId, FitsSetId, FitsInherited, FitsArray, FitsPlace, FitsLock, FitsDuty, FitsQuantum, FitsClass, FitsBody, FitsThread, FitsCpu, FitsState}

@@ -1,7 +1,7 @@
 -- A state as bytes, and the state that bytes spell.
 use Rattle.std.specs.Prelude.{◌≡◌, ℕ, ◌<◌, ◌^◌, ◌==◌, List, length, Option, Some, None, if◌then◌else◌}
 use Rattle.std.specs.List.{All, flat_map}
-use Rattle.sd_machine.specs.declared.states.State.{State}
+use Rattle.sd_state.specs.declared.states.State.{State}
 use Rattle.sd_encoding.specs.Numbers.{vector}
 use Rattle.sd_encoding.specs.Reading.{◌>>=◌, state_at}
 use Rattle.sd_encoding.specs.Fits.{FitsState}

@@ -1,9 +1,9 @@
 -- Threads at other places, and processors with other duties.
 use Rattle.std.specs.Prelude.{List, [], ◌∷◌}
 use Rattle.sd_types.specs.declared.events.Duty.{Duty}
-use Rattle.sd_machine.specs.declared.states.CpuState.{CpuState}
-use Rattle.sd_machine.specs.declared.states.Place.{Place}
-use Rattle.sd_machine.specs.declared.states.ThreadState.{ThreadState}
+use Rattle.sd_state.specs.declared.states.CpuState.{CpuState}
+use Rattle.sd_state.specs.declared.states.Place.{Place}
+use Rattle.sd_state.specs.declared.states.ThreadState.{ThreadState}
 
 unfoldable pub with_places : List ThreadState → List Place → List ThreadState
 with_places [] places = []

@@ -3,11 +3,11 @@
 ghost use Rattle.std.specs.Prelude.{◌≡◌, ◌++◌, Some, OnOk, IfOk};
 ghost use Rattle.sd_encoding.specs.Bytes.{Extends};
 ghost use Rattle.sd_encoding.specs.Encoding.{encoded, state_in, IsHeld, StatesAreReadAgain, EncodingsDiffer};
-ghost use Rattle.sd_machine.specs.declared.states.State.{State};
+ghost use Rattle.sd_state.specs.declared.states.State.{State};
 
 use crate::bytes::{read_numbers, write_numbers};
 use crate::states::{read_state, write_state};
-use sd_machine::State;
+use sd_state::State;
 use std::alloc::{AllocError, Global};
 
 /// Writes the bytes of a state at the end of `into`. Where memory runs out, `into` has what it had, and maybe bytes after it.

@@ -1,7 +1,7 @@
 //! Locks.
 
 use crate::packed::Packed;
-use sd_machine::LockState;
+use sd_state::LockState;
 use sd_types::{CpuId, ThreadId};
 use std::alloc::AllocError;
 

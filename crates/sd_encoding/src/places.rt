@@ -1,7 +1,7 @@
 //! Where a thread is.
 
 use crate::packed::Packed;
-use sd_machine::Place;
+use sd_state::Place;
 use sd_types::{ChanId, CpuId, LockId, SetId, Side};
 use std::alloc::AllocError;
 

@@ -1,7 +1,7 @@
 //! Processors.
 
 use crate::packed::Packed;
-use sd_machine::CpuState;
+use sd_state::CpuState;
 use sd_types::{Duty, SetId};
 use std::alloc::AllocError;
 

@@ -7,7 +7,7 @@ ghost use Rattle.sd_ordered.specs.Order.{is_below, key_at, key_in};
 ghost use Rattle.sd_ordered.specs.Ranks.{many_below, rank, ranked, ranked_duty, ranked_place};
 ghost use Rattle.sd_encoding.specs.Rewriting.{with_duties, with_places};
 
-use sd_machine::{CpuState, Place, State, ThreadState};
+use sd_state::{CpuState, Place, State, ThreadState};
 use sd_types::Duty;
 use std::alloc::{AllocError, Global};
 

@@ -7,7 +7,7 @@ ghost use Rattle.sd_encoding.specs.Numbers.{vector};
 ghost use Rattle.sd_encoding.specs.Reading.{state_at};
 
 use crate::items::{read_list, write_items};
-use sd_machine::State;
+use sd_state::State;
 use std::alloc::{AllocError, Global};
 
 /// Writes the numbers of a state at the end.

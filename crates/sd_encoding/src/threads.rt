@@ -2,7 +2,7 @@
 
 use crate::packed::Packed;
 use arrayvec::ArrayVec;
-use sd_machine::{Place, ThreadState};
+use sd_state::{Place, ThreadState};
 use sd_types::{ClassState, CpuId, ThreadBody};
 use std::alloc::AllocError;
 

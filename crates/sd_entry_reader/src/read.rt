@@ -3,7 +3,7 @@
 ghost use Rattle.std.specs.Prelude.{◌≡◌, ◌+◌, ◌≤◌, ◌++◌, ◌∷◌, [], ◌↔◌, IfNone, IfOk, IfSome, IsTrue, length, position};
 ghost use Rattle.sd_types.specs.declared.events.Entry.{Entry as EntryValue};
 ghost use Rattle.sd_text.specs.Words.{words_of};
-ghost use Rattle.sd_full.specs.Texts.{entry_text};
+ghost use Rattle.sd_machine.specs.Texts.{entry_text};
 ghost use Rattle.sd_spelling.specs.Fitting.{IsSpelled, entry_fits};
 ghost use Rattle.sd_spelling.specs.Reading.{bind_len, entry_of, event_len, hints_by, is_comma, numbers_in, prio_len, put_len, woken_len};
 

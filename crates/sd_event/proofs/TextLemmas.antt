@@ -6,7 +6,7 @@ use Rattle.std.proofs.lemmas.Fmt.{decimal_digit, decimal_step}
 use Rattle.std.specs.Fmt.{decimal}
 use Rattle.std.specs.List.{flat_map}
 use Rattle.sd_types.specs.declared.works.Work.{Work}
-use Rattle.sd_full.specs.Texts.{set_name, numbers_text}
+use Rattle.sd_machine.specs.Texts.{set_name, numbers_text}
 
 pub set_name_past : (w : Work) (p : ℕ) → 0 < p → set_name w p ≡ unwrap_or (option_map (λ d. d.0.text.items) (slice_get w.sets (p - 1))) []
 set_name_past w zero some = absurd (omega arith)

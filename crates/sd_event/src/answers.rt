@@ -1,7 +1,7 @@
 //! The answers of calls that may be refused, as words.
 
 ghost use Rattle.std.specs.Prelude.{◌≡◌, ◌+◌, ◌≤◌, ◌++◌, length, take, codes, decimal};
-ghost use Rattle.sd_full.specs.Texts.{assign_text, bind_text, cpu_text_if, denied_text, prio_text, put_text_if};
+ghost use Rattle.sd_machine.specs.Texts.{assign_text, bind_text, cpu_text_if, denied_text, prio_text, put_text_if};
 
 use crate::line::{Line, ROOM, put_bytes, put_small};
 use crate::words::{put_cpu, put_place_if};

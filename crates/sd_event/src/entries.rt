@@ -2,7 +2,7 @@
 
 ghost use Rattle.std.specs.Prelude.{◌≡◌, ◌+◌, ◌*◌, ◌≤◌, ◌++◌, ◌∷◌, OnOk, OnErr, codes, decimal, length, slice_range, take};
 ghost use Rattle.std.specs.List.{flat_map};
-ghost use Rattle.sd_full.specs.Texts.{entry_text, event_text, hints_text, numbers_text};
+ghost use Rattle.sd_machine.specs.Texts.{entry_text, event_text, hints_text, numbers_text};
 
 use crate::events::put_event;
 use crate::line::{Line, ROOM, put_bytes, put_number, put_small};
@@ -93,7 +93,7 @@ fn put_behind_number(work: &Work, entry: &Entry, line: &mut Line, from: usize) -
 }
 
 // Puts the line of the entry, and returns where it begins and ends.
-#[tactic(auto, unfolding(sd_full::specs::Texts::entry_text))]
+#[tactic(auto, unfolding(sd_machine::specs::Texts::entry_text))]
 fn put_entry(work: &Work, entry: &Entry, line: &mut Line) -> (usize, usize)
     ensures within { (result.0 ≤ result.1) × (result.1 ≤ ROOM) }
     ensures text { slice_range line.new result.0 result.1 ≡ entry_text work.now entry.now }

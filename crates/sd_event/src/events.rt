@@ -1,8 +1,8 @@
 //! The text of an event.
 
 ghost use Rattle.std.specs.Prelude.{◌≡◌, ◌+◌, ◌≤◌, ◌++◌, length, take, codes, decimal};
-ghost use Rattle.sd_machine.specs.Texts.{end_text};
-ghost use Rattle.sd_full.specs.Texts.{assign_text, bind_text, cpu_text, cpu_text_if, event_text, prio_text, put_text, put_text_if, set_name, woken_text, word_chan, word_lock, word_thread};
+ghost use Rattle.sd_state.specs.Texts.{end_text};
+ghost use Rattle.sd_machine.specs.Texts.{assign_text, bind_text, cpu_text, cpu_text_if, event_text, prio_text, put_text, put_text_if, set_name, woken_text, word_chan, word_lock, word_thread};
 
 use crate::answers::{assign_word, put_bind_answer, put_cpu_if, put_prio_answer};
 use crate::line::{Line, ROOM, put_bytes};

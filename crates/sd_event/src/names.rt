@@ -1,8 +1,8 @@
 //! The names that a workload declares, as the journal writes them. A number that names nothing has no name.
 
 ghost use Rattle.std.specs.Prelude.{◌≡◌, ◌≤◌, ◌++◌, length, OnOk, OnErr};
-ghost use Rattle.sd_machine.specs.Texts.{chan_name, lock_name, thread_name};
-ghost use Rattle.sd_full.specs.Texts.{set_name};
+ghost use Rattle.sd_state.specs.Texts.{chan_name, lock_name, thread_name};
+ghost use Rattle.sd_machine.specs.Texts.{set_name};
 
 use sd_types::{ChanId, LockId, SetId, Work};
 use std::alloc::AllocError;

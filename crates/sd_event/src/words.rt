@@ -1,8 +1,8 @@
 //! The words of which the texts of events are made.
 
 ghost use Rattle.std.specs.Prelude.{◌≡◌, ◌+◌, ◌≤◌, ◌++◌, length, take, codes, decimal};
-ghost use Rattle.sd_machine.specs.Texts.{chan_name, lock_name, thread_name};
-ghost use Rattle.sd_full.specs.Texts.{cpu_text, put_text, put_text_if, woken_text, word_chan, word_lock, word_thread};
+ghost use Rattle.sd_state.specs.Texts.{chan_name, lock_name, thread_name};
+ghost use Rattle.sd_machine.specs.Texts.{cpu_text, put_text, put_text_if, woken_text, word_chan, word_lock, word_thread};
 
 use crate::line::{Line, ROOM, put_bytes, put_number, put_small};
 use crate::names::{chan_name, lock_name, thread_name};

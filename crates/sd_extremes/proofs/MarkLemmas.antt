@@ -11,12 +11,12 @@ use Rattle.sd_types.specs.declared.events.Entry.{Entry}
 use Rattle.sd_types.specs.declared.events.Event.{Event}
 use Rattle.sd_types.specs.declared.events.Event.TheVariants.{Done}
 use Rattle.sd_types.specs.declared.works.Work.{Work}
-use Rattle.sd_machine.specs.declared.states.State.{State}
-use Rattle.sd_machine.specs.Opening.{opening}
-use Rattle.sd_machine.specs.States.{cpu_of}
-use Rattle.sd_full.specs.Events.{next}
-use Rattle.sd_full.specs.Runs.{IsReached, IsStep, final, made, round, serial_hints, turn}
-use Rattle.sd_full.proofs.RunLemmas.{IsRun-from}
+use Rattle.sd_state.specs.declared.states.State.{State}
+use Rattle.sd_state.specs.Opening.{opening}
+use Rattle.sd_state.specs.States.{cpu_of}
+use Rattle.sd_machine.specs.Events.{next}
+use Rattle.sd_machine.specs.Runs.{IsReached, IsStep, final, made, round, serial_hints, turn}
+use Rattle.sd_machine.proofs.RunLemmas.{IsRun-from}
 use Rattle.sd_sound.proofs.Ready.{maker_inside}
 use Rattle.sd_ordered.proofs.NextLemmas.{next_same, serial_same}
 use Rattle.sd_ordered.proofs.SourceLemmas.{AreAlike}

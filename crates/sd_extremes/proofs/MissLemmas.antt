@@ -8,11 +8,11 @@ use Rattle.sd_types.specs.declared.numbers.CpuId.{CpuId}
 use Rattle.sd_types.specs.declared.numbers.ThreadId.{ThreadId}
 use Rattle.sd_types.specs.declared.events.Entry.{Entry}
 use Rattle.sd_types.specs.declared.works.Work.{Work}
-use Rattle.sd_machine.specs.declared.states.State.{State}
-use Rattle.sd_machine.specs.Opening.{opening}
-use Rattle.sd_machine.specs.States.{thread_of}
-use Rattle.sd_full.specs.Runs.{IsComplete, IsReached, final, round}
-use Rattle.sd_full.specs.Threads.{has_ended}
+use Rattle.sd_state.specs.declared.states.State.{State}
+use Rattle.sd_state.specs.Opening.{opening}
+use Rattle.sd_state.specs.States.{thread_of}
+use Rattle.sd_machine.specs.Runs.{IsComplete, IsReached, final, round}
+use Rattle.sd_machine.specs.Threads.{has_ended}
 use Rattle.sd_ordered.proofs.AfterLemmas.{ended_same}
 use Rattle.sd_ordered.proofs.NextLemmas.{next_same}
 use Rattle.sd_ordered.proofs.SourceLemmas.{AreAlike}

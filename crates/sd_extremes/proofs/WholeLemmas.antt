@@ -6,11 +6,11 @@ use Rattle.sd_types.specs.declared.events.Entry.{Entry}
 use Rattle.sd_types.specs.declared.events.Event.{Event}
 use Rattle.sd_types.specs.declared.events.Hints.{Hints}
 use Rattle.sd_types.specs.declared.works.Work.{Work}
-use Rattle.sd_machine.specs.declared.states.State.{State}
-use Rattle.sd_machine.specs.Opening.{opening}
-use Rattle.sd_full.specs.Events.{after, next}
-use Rattle.sd_full.specs.Runs.{IsComplete, IsReached, IsRunFrom, IsStep, final, made, round, serial_hints, turn}
-use Rattle.sd_full.proofs.RunLemmas.{IsRun-append, IsRun-from, IsRun-nil, IsRunFrom-front, IsRunFrom-nil, IsRunFrom-one, IsRunFrom-rest, final-append, final-nil, from-IsRun}
+use Rattle.sd_state.specs.declared.states.State.{State}
+use Rattle.sd_state.specs.Opening.{opening}
+use Rattle.sd_machine.specs.Events.{after, next}
+use Rattle.sd_machine.specs.Runs.{IsComplete, IsReached, IsRunFrom, IsStep, final, made, round, serial_hints, turn}
+use Rattle.sd_machine.proofs.RunLemmas.{IsRun-append, IsRun-from, IsRun-nil, IsRunFrom-front, IsRunFrom-nil, IsRunFrom-one, IsRunFrom-rest, final-append, final-nil, from-IsRun}
 use Rattle.sd_interleavings.specs.Closed.{IsFresh}
 use Rattle.sd_sound.specs.Laws.{IsFit}
 use Rattle.sd_sound.proofs.Whole.{fit_reached}

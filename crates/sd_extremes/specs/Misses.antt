@@ -4,11 +4,11 @@ use Rattle.std.specs.Prelude.{◌≡◌, ℕ, ◌<◌, false, List, length, Opti
 use Rattle.sd_types.specs.declared.numbers.ThreadId.{ThreadId}
 use Rattle.sd_types.specs.declared.events.Entry.{Entry}
 use Rattle.sd_types.specs.declared.works.Work.{Work}
-use Rattle.sd_machine.specs.declared.states.State.{State}
-use Rattle.sd_machine.specs.Opening.{opening}
-use Rattle.sd_machine.specs.States.{thread_of}
-use Rattle.sd_full.specs.Runs.{IsComplete, final}
-use Rattle.sd_full.specs.Threads.{has_ended}
+use Rattle.sd_state.specs.declared.states.State.{State}
+use Rattle.sd_state.specs.Opening.{opening}
+use Rattle.sd_state.specs.States.{thread_of}
+use Rattle.sd_machine.specs.Runs.{IsComplete, final}
+use Rattle.sd_machine.specs.Threads.{has_ended}
 use Rattle.sd_search.specs.declared.graph.Graph.{Graph}
 use Rattle.sd_search.specs.Graphs.{IsAt, packed}
 use Rattle.sd_extremes.specs.declared.misses.Missed.{Missed}

@@ -2,14 +2,14 @@
 
 ghost use Rattle.std.specs.Prelude.{◌≡◌, ◌↔◌, ◌<◌, ℕ, length, IsTrue, IfOk};
 ghost use Rattle.sd_extremes.specs.Misses.{IsFound, IsLeft, IsMiss, IsMissed, IsMissedAt, IsMissedOpen};
-ghost use Rattle.sd_full.specs.Threads.{has_ended};
-ghost use Rattle.sd_machine.specs.declared.states.State.{State as StateOf};
+ghost use Rattle.sd_machine.specs.Threads.{has_ended};
+ghost use Rattle.sd_state.specs.declared.states.State.{State as StateOf};
 ghost use Rattle.sd_search.specs.Finals.{AreFinals};
 ghost use Rattle.sd_search.specs.Graphs.{Gathers, IsAt, packed};
 
 use sd_flat::place_of;
-use sd_machine::Place;
 use sd_search::{Graph, witness};
+use sd_state::Place;
 use sd_types::{Entry, ThreadId, Work};
 use std::alloc::{AllocError, Global};
 

@@ -7,8 +7,8 @@ ghost use Rattle.sd_sound.specs.Laws.{IsFit};
 
 use crate::marks::{Mark, Span, ended, with_mark};
 use sd_flat::cpu_of;
-use sd_machine::State;
 use sd_search::Graph;
+use sd_state::State;
 use sd_steps::serial_next;
 use sd_types::{CpuId, ThreadId, Work};
 use std::alloc::{AllocError, Global};

@@ -2,11 +2,11 @@
 
 ghost use Rattle.std.specs.Prelude.{◌≡◌, ◌++◌, length, None, IfOk, OnOk};
 ghost use Rattle.sd_extremes.specs.WholeRuns.{BeginsWith, GoesOn, LeadsTo};
-ghost use Rattle.sd_full.specs.Runs.{IsComplete, final, turn};
+ghost use Rattle.sd_machine.specs.Runs.{IsComplete, final, turn};
 ghost use Rattle.sd_sound.specs.Laws.{IsFit};
 
-use sd_machine::State;
 use sd_opening::opening;
+use sd_state::State;
 use sd_steps::{can_enter, make_entry};
 use sd_types::{CpuId, Entry, Work};
 use std::alloc::{AllocError, Global};

@@ -2,11 +2,11 @@
 use Rattle.std.proofs.Common.{◌≤◌, ◌^◌, List, [], ◌∷◌, length, refl, arith}
 use Rattle.sd_types.specs.declared.events.Entry.{Entry}
 use Rattle.sd_types.specs.declared.works.Work.{Work}
-use Rattle.sd_machine.specs.declared.states.State.{State}
-use Rattle.sd_machine.specs.Opening.{opening}
-use Rattle.sd_full.specs.Events.{after}
-use Rattle.sd_full.specs.Runs.{IsComplete, IsRun, final}
-use Rattle.sd_full.proofs.RunLemmas.{IsRun-from}
+use Rattle.sd_state.specs.declared.states.State.{State}
+use Rattle.sd_state.specs.Opening.{opening}
+use Rattle.sd_machine.specs.Events.{after}
+use Rattle.sd_machine.specs.Runs.{IsComplete, IsRun, final}
+use Rattle.sd_machine.proofs.RunLemmas.{IsRun-from}
 use Rattle.sd_interleavings.specs.Closed.{IsFresh}
 use Rattle.sd_search.specs.declared.questions.Question.{Question}
 use Rattle.sd_search.specs.Questions.{IsWitness}

@@ -7,12 +7,12 @@ use Rattle.sd_types.specs.declared.events.Entry.{Entry}
 use Rattle.sd_types.specs.declared.works.Work.{Work}
 use Rattle.sd_text.specs.Lines.{EndsLine}
 use Rattle.sd_text.proofs.PieceLemmas.{EndsLine-append, EndsLine-flat_map}
-use Rattle.sd_machine.specs.declared.states.State.{State}
-use Rattle.sd_machine.specs.Opening.{opening}
-use Rattle.sd_machine.specs.States.{thread_of}
-use Rattle.sd_machine.specs.Texts.{accounts_text, thread_name}
-use Rattle.sd_full.specs.Runs.{final}
-use Rattle.sd_full.specs.Texts.{cycles_text, entries_text, entry_text, event_text, hints_text, journal}
+use Rattle.sd_state.specs.declared.states.State.{State}
+use Rattle.sd_state.specs.Opening.{opening}
+use Rattle.sd_state.specs.States.{thread_of}
+use Rattle.sd_state.specs.Texts.{accounts_text, thread_name}
+use Rattle.sd_machine.specs.Runs.{final}
+use Rattle.sd_machine.specs.Texts.{cycles_text, entries_text, entry_text, event_text, hints_text, journal}
 use Rattle.sd_search.specs.declared.findings.Finding.{Finding}
 use Rattle.sd_search.specs.declared.findings.Finding.TheVariants.{Found, Never, More}
 use Rattle.sd_search.specs.declared.questions.Question.{Question}

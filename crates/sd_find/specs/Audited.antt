@@ -4,7 +4,7 @@ use Rattle.std.specs.Prelude.{◌≡◌, ℕ, ◌≤◌, Bool, List, [], ◌++�
 use Rattle.sd_types.specs.declared.numbers.ThreadId.{ThreadId}
 use Rattle.sd_types.specs.declared.events.Entry.{Entry}
 use Rattle.sd_types.specs.declared.works.Work.{Work}
-use Rattle.sd_full.specs.Texts.{journal}
+use Rattle.sd_machine.specs.Texts.{journal}
 use Rattle.sd_search.specs.declared.questions.Question.{Question}
 use Rattle.sd_extremes.specs.declared.ends.Ending.{Ending}
 use Rattle.sd_answers.specs.Inputs.{most_certificate}

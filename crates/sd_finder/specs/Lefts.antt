@@ -8,14 +8,14 @@ use Rattle.sd_types.specs.declared.numbers.LockId.{LockId}
 use Rattle.sd_types.specs.declared.scripts.Op.{Op}
 use Rattle.sd_types.specs.declared.scripts.Op.TheVariants as op
 use Rattle.sd_types.specs.declared.works.Work.{Work}
-use Rattle.sd_machine.specs.declared.states.Place.{Place}
-use Rattle.sd_machine.specs.declared.states.Place.TheVariants.{Running, Queued, RealTime, Waiting, Asleep, Napping, Ended}
-use Rattle.sd_machine.specs.declared.states.State.{State}
-use Rattle.sd_machine.specs.Operations.{op_of}
-use Rattle.sd_machine.specs.States.{thread_of}
-use Rattle.sd_machine.specs.Texts.{chan_name, lock_name, thread_name}
-use Rattle.sd_full.specs.Locking.{enter_event, read_event, write_event}
-use Rattle.sd_full.specs.Threads.{lock_of}
+use Rattle.sd_state.specs.declared.states.Place.{Place}
+use Rattle.sd_state.specs.declared.states.Place.TheVariants.{Running, Queued, RealTime, Waiting, Asleep, Napping, Ended}
+use Rattle.sd_state.specs.declared.states.State.{State}
+use Rattle.sd_state.specs.Operations.{op_of}
+use Rattle.sd_state.specs.States.{thread_of}
+use Rattle.sd_state.specs.Texts.{chan_name, lock_name, thread_name}
+use Rattle.sd_machine.specs.Locking.{enter_event, read_event, write_event}
+use Rattle.sd_machine.specs.Threads.{lock_of}
 use Rattle.sd_search.specs.Questions.{is_left}
 
 abbrev pub is_spin : Event → Bool

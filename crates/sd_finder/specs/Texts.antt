@@ -6,10 +6,10 @@ use Rattle.std.specs.Prelude.{ℕ, Bool, true, false, List, [], ◌++◌, codes,
 use Rattle.sd_types.specs.declared.numbers.ThreadId.{ThreadId}
 use Rattle.sd_types.specs.declared.events.Entry.{Entry}
 use Rattle.sd_types.specs.declared.works.Work.{Work}
-use Rattle.sd_machine.specs.Opening.{opening}
-use Rattle.sd_machine.specs.Texts.{thread_name}
-use Rattle.sd_full.specs.Runs.{final}
-use Rattle.sd_full.specs.Texts.{journal}
+use Rattle.sd_state.specs.Opening.{opening}
+use Rattle.sd_state.specs.Texts.{thread_name}
+use Rattle.sd_machine.specs.Runs.{final}
+use Rattle.sd_machine.specs.Texts.{journal}
 use Rattle.sd_search.specs.declared.findings.Finding.{Finding}
 use Rattle.sd_search.specs.declared.findings.Finding.TheVariants.{Found, Never, More}
 use Rattle.sd_search.specs.declared.questions.Question.{Question}

@@ -5,11 +5,11 @@ use Rattle.std.specs.Prelude.{◌≡◌, ℕ, ◌<◌, ◌≤◌, ◌^◌, Bool,
 use Rattle.sd_types.specs.declared.numbers.ThreadId.{ThreadId}
 use Rattle.sd_types.specs.declared.events.Entry.{Entry}
 use Rattle.sd_types.specs.declared.works.Work.{Work}
-use Rattle.sd_machine.specs.Opening.{opening}
-use Rattle.sd_machine.specs.States.{thread_of}
-use Rattle.sd_machine.specs.Texts.{thread_name}
-use Rattle.sd_full.specs.Runs.{final}
-use Rattle.sd_full.specs.Threads.{has_ended}
+use Rattle.sd_state.specs.Opening.{opening}
+use Rattle.sd_state.specs.States.{thread_of}
+use Rattle.sd_state.specs.Texts.{thread_name}
+use Rattle.sd_machine.specs.Runs.{final}
+use Rattle.sd_machine.specs.Threads.{has_ended}
 use Rattle.sd_search.specs.declared.graph.Graph.{Graph}
 use Rattle.sd_search.specs.Graphs.{packed}
 use Rattle.sd_extremes.specs.Ends.{AreExtremes, EndsAt}

@@ -2,14 +2,14 @@
 
 ghost use Rattle.std.specs.Prelude.{◌≡◌, ◌++◌, ◌<◌, ◌≤◌, ◌^◌, length, IfOk, OnOk};
 ghost use Rattle.sd_accounts.specs.Counters.{HasTaken};
-ghost use Rattle.sd_full.specs.Runs.{final};
-ghost use Rattle.sd_full.specs.Texts.{cycles_text, entries_text, journal};
-ghost use Rattle.sd_machine.specs.Opening.{opening};
-ghost use Rattle.sd_machine.specs.Texts.{accounts_text};
+ghost use Rattle.sd_machine.specs.Runs.{final};
+ghost use Rattle.sd_machine.specs.Texts.{cycles_text, entries_text, journal};
+ghost use Rattle.sd_state.specs.Opening.{opening};
+ghost use Rattle.sd_state.specs.Texts.{accounts_text};
 
 use sd_accounts::Accounts;
 use sd_event::write_entry;
-use sd_machine::State;
+use sd_state::State;
 use sd_steps::replay;
 use sd_types::{Entry, Work};
 use std::alloc::{AllocError, Global};
@@ -18,7 +18,7 @@ use std::alloc::{AllocError, Global};
 const MOST_ENTRIES: usize = 1 << 40;
 
 /// Appends the entries in order.
-#[tactic(auto, unfolding(sd_full::specs::Texts::entries_text))]
+#[tactic(auto, unfolding(sd_machine::specs::Texts::entries_text))]
 fn write_entries(
     alloc: Global,
     work: &Work,
@@ -75,7 +75,7 @@ fn write_accounts(
 }
 
 /// Appends the journal of a run: its entries, its accounts, the blocking cycles of its last state.
-#[tactic(auto, unfolding(sd_full::specs::Texts::journal))]
+#[tactic(auto, unfolding(sd_machine::specs::Texts::journal))]
 pub(crate) fn write_journal(
     alloc: Global,
     work: &Work,

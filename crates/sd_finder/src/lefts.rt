@@ -2,18 +2,18 @@
 
 ghost use Rattle.std.specs.Prelude.{◌≡◌, ◌++◌, ℕ, OnOk, codes};
 ghost use Rattle.sd_types.specs.declared.numbers.LockId.{LockId as Lock};
-ghost use Rattle.sd_machine.specs.Operations.{op_of, script_of};
-ghost use Rattle.sd_machine.specs.States.{thread_of};
-ghost use Rattle.sd_machine.specs.Texts.{chan_name, lock_name};
-ghost use Rattle.sd_machine.specs.declared.states.State.{State as StateOf};
-ghost use Rattle.sd_full.specs.Locking.{enter_event, read_event, write_event};
-ghost use Rattle.sd_full.specs.Threads.{lock_of, runs_somewhere};
+ghost use Rattle.sd_state.specs.Operations.{op_of, script_of};
+ghost use Rattle.sd_state.specs.States.{thread_of};
+ghost use Rattle.sd_state.specs.Texts.{chan_name, lock_name};
+ghost use Rattle.sd_state.specs.declared.states.State.{State as StateOf};
+ghost use Rattle.sd_machine.specs.Locking.{enter_event, read_event, write_event};
+ghost use Rattle.sd_machine.specs.Threads.{lock_of, runs_somewhere};
 ghost use Rattle.sd_search.specs.Questions.{is_left};
 ghost use Rattle.sd_finder.specs.Lefts.{is_spin, left_line, lefts_text, line_if_left, lock_if, place_words, running_words, spun_for};
 
 use sd_event::{put_chan_name, put_lock_name, put_thread_name};
 use sd_flat::place_of;
-use sd_machine::{LockState, Place, State, ThreadState};
+use sd_state::{LockState, Place, State, ThreadState};
 use sd_types::{ChanId, LockId, Op, ThreadBody, ThreadId, Work};
 use std::alloc::AllocError;
 

@@ -1,7 +1,7 @@
 //! When a thread ends, over every order in which the processors of a workload can act.
 
 ghost use Rattle.std.specs.Prelude.{◌≡◌, ◌↔◌, ◌≤◌, length, IsTrue, IfOk};
-ghost use Rattle.sd_machine.specs.Texts.{thread_name};
+ghost use Rattle.sd_state.specs.Texts.{thread_name};
 ghost use Rattle.sd_search.specs.Graphs.{Gathers, packed};
 ghost use Rattle.sd_finder.specs.Timings.{IsInEvery, IsNamed, IsTiming};
 

@@ -2,8 +2,8 @@
 use Rattle.std.proofs.Common.{◌≡◌, ℕ, true, false, arith}
 use Rattle.std.specs.Prelude.{nat_lt}
 use Rattle.std.proofs.lemmas.Bool.Decides.{nat_tests}
-use Rattle.sd_machine.proofs.BestLemmas.{IsOrder}
-use Rattle.sd_full.specs.Threads.{due_of, naps_less}
+use Rattle.sd_state.proofs.BestLemmas.{IsOrder}
+use Rattle.sd_machine.specs.Threads.{due_of, naps_less}
 
 less_itself : (a : ℕ) → nat_lt a a ≡ false
 less_itself a = grind (arith, nat_tests)

@@ -3,10 +3,10 @@ use Rattle.std.proofs.Common.{◌≡◌, ℕ, zero, suc, ◌+◌, ◌<◌, true,
 use Rattle.std.specs.Prelude.{if◌then◌else◌}
 use Rattle.std.proofs.lemmas.Bool.Decides.{nat_tests}
 use Rattle.sd_types.specs.Priorities.{eff}
-use Rattle.sd_machine.specs.declared.states.ThreadState.{ThreadState}
-use Rattle.sd_machine.specs.declared.states.Place.TheVariants.{Ended}
-use Rattle.sd_machine.specs.States.{no_thread}
-use Rattle.sd_full.specs.Threads.{is_waiting, greater, greatest_waiting}
+use Rattle.sd_state.specs.declared.states.ThreadState.{ThreadState}
+use Rattle.sd_state.specs.declared.states.Place.TheVariants.{Ended}
+use Rattle.sd_state.specs.States.{no_thread}
+use Rattle.sd_machine.specs.Threads.{is_waiting, greater, greatest_waiting}
 use Rattle.sd_flat.specs.Standings.{greatest_but}
 
 pub all_of : (l i : ℕ) (xs : List ThreadState) → greatest_but l None i xs ≡ greatest_waiting l xs

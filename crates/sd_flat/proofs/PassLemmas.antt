@@ -9,16 +9,16 @@ use Rattle.sd_types.specs.declared.numbers.CpuId.{CpuId}
 use Rattle.sd_types.specs.declared.events.Which.{Which}
 use Rattle.sd_types.specs.declared.events.Which.TheVariants.{Running as OfRunning, Queued as OfQueued}
 use Rattle.sd_types.specs.Priorities.{eff}
-use Rattle.sd_machine.specs.declared.states.Place.{Place}
-use Rattle.sd_machine.specs.declared.states.Place.TheVariants.{Running, Queued, RealTime, Waiting, Asleep, Napping, Ended}
-use Rattle.sd_machine.specs.declared.states.ThreadState.{ThreadState}
-use Rattle.sd_machine.specs.declared.states.State.{State}
-use Rattle.sd_machine.specs.States.{no_thread, is_running, is_queued}
-use Rattle.sd_machine.specs.Best.{best_by, beats}
-use Rattle.sd_machine.proofs.BestLemmas.{IsBestBelow, goes_ahead_by, best_taken, best_kept, best_by_is, position_is, position_none}
-use Rattle.sd_machine.proofs.OrderLemmas.{beats_order}
-use Rattle.sd_full.specs.Threads.{runner, best_unbound, priority_of}
-use Rattle.sd_full.specs.Choosing.{hint_of, hint_shown}
+use Rattle.sd_state.specs.declared.states.Place.{Place}
+use Rattle.sd_state.specs.declared.states.Place.TheVariants.{Running, Queued, RealTime, Waiting, Asleep, Napping, Ended}
+use Rattle.sd_state.specs.declared.states.ThreadState.{ThreadState}
+use Rattle.sd_state.specs.declared.states.State.{State}
+use Rattle.sd_state.specs.States.{no_thread, is_running, is_queued}
+use Rattle.sd_state.specs.Best.{best_by, beats}
+use Rattle.sd_state.proofs.BestLemmas.{IsBestBelow, goes_ahead_by, best_taken, best_kept, best_by_is, position_is, position_none}
+use Rattle.sd_state.proofs.OrderLemmas.{beats_order}
+use Rattle.sd_machine.specs.Threads.{runner, best_unbound, priority_of}
+use Rattle.sd_machine.specs.Choosing.{hint_of, hint_shown}
 use Rattle.sd_flat.specs.Passes.{running_at, unbound_at, shown_at, number_with, taken_at, pass}
 
 -- ---- the number of one processor

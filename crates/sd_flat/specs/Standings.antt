@@ -1,10 +1,10 @@
 -- What the scans look for.
 use Rattle.std.specs.Prelude.{ℕ, ◌+◌, Bool, false, not, ◌&&◌, List, [], ◌∷◌, ◌==◌, Option, Some, None, is_none, position, if◌then◌else◌}
 use Rattle.sd_types.specs.Priorities.{eff}
-use Rattle.sd_machine.specs.declared.states.ThreadState.{ThreadState}
-use Rattle.sd_machine.specs.States.{is_queued, is_ready}
-use Rattle.sd_machine.specs.Best.{best_by, beats}
-use Rattle.sd_full.specs.Threads.{is_waiting, is_waiting_at, is_asleep, is_asleep_below, is_due, naps_less, greater, is_ts}
+use Rattle.sd_state.specs.declared.states.ThreadState.{ThreadState}
+use Rattle.sd_state.specs.States.{is_queued, is_ready}
+use Rattle.sd_state.specs.Best.{best_by, beats}
+use Rattle.sd_machine.specs.Threads.{is_waiting, is_waiting_at, is_asleep, is_asleep_below, is_due, naps_less, greater, is_ts}
 use Rattle.sd_flat.specs.declared.standings.Standing.{Standing}
 use Rattle.sd_flat.specs.declared.standings.Standing.TheVariants as standing
 

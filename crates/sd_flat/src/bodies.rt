@@ -1,7 +1,7 @@
 //! What becomes of the body of a thread that stays where it is.
 
 ghost use Rattle.std.specs.Prelude.{◌≡◌, ◌<◌, ◌≤◌, None, IfSome, IsTrue, length};
-ghost use Rattle.sd_machine.specs.Operations.{op_over, ran, ticks_at};
+ghost use Rattle.sd_state.specs.Operations.{op_over, ran, ticks_at};
 ghost use Rattle.sd_types.specs.Scripts.{is_held};
 ghost use Rattle.sd_types.specs.Willed.{IsSound, changed_number, number_for, with_lock as with_held, with_number, with_willed};
 

@@ -1,12 +1,12 @@
 //! Changes of a state. A number that is out of range changes nothing.
 
 ghost use Rattle.std.specs.Prelude.{◌≡◌, ◌<◌};
-ghost use Rattle.sd_full.specs.Changes.{clear_marks, count_tick, counted, duty_after, leave, marked, run_on, set_duty, set_kernel_mark, set_mark, with_place};
-ghost use Rattle.sd_full.specs.Threads.{with_count, with_lock};
-ghost use Rattle.sd_machine.specs.States.{cpu_of};
+ghost use Rattle.sd_machine.specs.Changes.{clear_marks, count_tick, counted, duty_after, leave, marked, run_on, set_duty, set_kernel_mark, set_mark, with_place};
+ghost use Rattle.sd_machine.specs.Threads.{with_count, with_lock};
+ghost use Rattle.sd_state.specs.States.{cpu_of};
 
 use crate::reads::{cpu_of, is_cpu, is_thread};
-use sd_machine::{CpuState, LockState, Place, State};
+use sd_state::{CpuState, LockState, Place, State};
 use sd_types::{ChanId, CpuId, Duty, LockId, REAL_TIME_PRIORITY, ThreadId, Work};
 
 /// The duty after a tick: each second the time-sharing threads on the queue are looked at.
@@ -45,7 +45,7 @@ fn marked(m: u8, x: CpuState) -> CpuState
 }
 
 /// Gives processor `c` a duty.
-#[tactic(auto, using(crate::proofs::Past::past), unfolding(sd_full::specs::Changes::set_duty))]
+#[tactic(auto, using(crate::proofs::Past::past), unfolding(sd_machine::specs::Changes::set_duty))]
 pub fn set_duty(s: &mut State, c: CpuId, duty: Duty)
     ensures { s.new ≡ set_duty s.old c.0 duty }
 {
@@ -55,7 +55,7 @@ pub fn set_duty(s: &mut State, c: CpuId, duty: Duty)
 }
 
 /// Processor `c` counts a tick, where its count is below the limit.
-#[tactic(auto, using(crate::proofs::Past::past), unfolding(sd_full::specs::Changes::count_tick))]
+#[tactic(auto, using(crate::proofs::Past::past), unfolding(sd_machine::specs::Changes::count_tick))]
 pub fn count_tick(work: &Work, s: &mut State, c: CpuId)
     ensures { (cpu_of s.old c.0).count < work.now.limit → s.new ≡ count_tick work.now s.old c.0 }
 {
@@ -66,7 +66,7 @@ pub fn count_tick(work: &Work, s: &mut State, c: CpuId)
 }
 
 /// Clears both marks of processor `c`.
-#[tactic(auto, using(crate::proofs::Past::past), unfolding(sd_full::specs::Changes::clear_marks))]
+#[tactic(auto, using(crate::proofs::Past::past), unfolding(sd_machine::specs::Changes::clear_marks))]
 pub fn clear_marks(s: &mut State, c: CpuId)
     ensures { s.new ≡ clear_marks s.old c.0 }
 {
@@ -78,7 +78,7 @@ pub fn clear_marks(s: &mut State, c: CpuId)
 }
 
 /// Marks processor `c` for the sake of a thread of priority `m`.
-#[tactic(auto, using(crate::proofs::Past::past), unfolding(sd_full::specs::Changes::set_mark))]
+#[tactic(auto, using(crate::proofs::Past::past), unfolding(sd_machine::specs::Changes::set_mark))]
 pub fn set_mark(s: &mut State, c: CpuId, m: u8)
     ensures { s.new ≡ set_mark s.old c.0 m }
 {
@@ -89,7 +89,7 @@ pub fn set_mark(s: &mut State, c: CpuId, m: u8)
 }
 
 /// Sets the kernel's mark of processor `c`.
-#[tactic(auto, using(crate::proofs::Past::past), unfolding(sd_full::specs::Changes::set_kernel_mark))]
+#[tactic(auto, using(crate::proofs::Past::past), unfolding(sd_machine::specs::Changes::set_kernel_mark))]
 pub fn set_kernel_mark(s: &mut State, c: CpuId)
     ensures { s.new ≡ set_kernel_mark s.old c.0 }
 {
@@ -99,7 +99,7 @@ pub fn set_kernel_mark(s: &mut State, c: CpuId)
 }
 
 /// Thread `t` runs on processor `c`.
-#[tactic(auto, using(crate::proofs::Past::past), unfolding(sd_full::specs::Changes::run_on))]
+#[tactic(auto, using(crate::proofs::Past::past), unfolding(sd_machine::specs::Changes::run_on))]
 pub fn run_on(s: &mut State, t: ThreadId, c: CpuId)
     ensures { s.new ≡ run_on s.old t.0 c }
 {
@@ -111,7 +111,7 @@ pub fn run_on(s: &mut State, t: ThreadId, c: CpuId)
 }
 
 /// Thread `t` leaves processor `c` for a place: both marks and its `back` are cleared, and it notes the count.
-#[tactic(auto, using(crate::proofs::Past::past), unfolding(sd_full::specs::Changes::leave))]
+#[tactic(auto, using(crate::proofs::Past::past), unfolding(sd_machine::specs::Changes::leave))]
 pub fn leave(s: &mut State, c: CpuId, t: ThreadId, place: Place)
     ensures { s.new ≡ leave s.old c.0 t.0 place }
 {

@@ -2,10 +2,10 @@
 
 ghost use Rattle.std.specs.Prelude.{◌≡◌, nat_le};
 ghost use Rattle.std.specs.List.{list_all};
-ghost use Rattle.sd_full.specs.Events.{may_tick};
+ghost use Rattle.sd_machine.specs.Events.{may_tick};
 
 use crate::reads::cpu_of;
-use sd_machine::State;
+use sd_state::State;
 use sd_types::{CpuId, Work};
 
 fn is_least(s: &State, count: u32) -> bool
@@ -15,7 +15,7 @@ fn is_least(s: &State, count: u32) -> bool
 }
 
 /// The count of processor `c` is below the limit, and no processor's is below it.
-#[tactic(auto, unfolding(sd_full::specs::Events::may_tick))]
+#[tactic(auto, unfolding(sd_machine::specs::Events::may_tick))]
 pub fn may_tick(work: &Work, s: &State, c: CpuId) -> bool
     ensures { result ≡ may_tick work.now s.now c.0 }
 {

@@ -1,11 +1,11 @@
 //! Which of two threads goes first.
 
 ghost use Rattle.std.specs.Prelude.{◌≡◌};
-ghost use Rattle.sd_full.specs.Threads.{due_of, naps_less};
-ghost use Rattle.sd_machine.specs.Best.{beats, queue_rank};
-ghost use Rattle.sd_machine.specs.States.{key_of};
+ghost use Rattle.sd_machine.specs.Threads.{due_of, naps_less};
+ghost use Rattle.sd_state.specs.Best.{beats, queue_rank};
+ghost use Rattle.sd_state.specs.States.{key_of};
 
-use sd_machine::{Place, ThreadState};
+use sd_state::{Place, ThreadState};
 
 fn key_of(place: &Place) -> i64
     ensures { result ≡ key_of place.now }

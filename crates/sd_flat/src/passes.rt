@@ -3,9 +3,9 @@
 ghost use Rattle.std.specs.Prelude.{◌≡◌, ◌<◌, ℕ, length, nat_lt, replicate, true};
 ghost use Rattle.std.specs.List.{list_all};
 ghost use Rattle.sd_flat.specs.Passes.{number_with, pass, running_at, shown_at, taken, unbound_at};
-ghost use Rattle.sd_machine.specs.States.{thread_of};
+ghost use Rattle.sd_state.specs.States.{thread_of};
 
-use sd_machine::{Place, State, ThreadState};
+use sd_state::{Place, State, ThreadState};
 use sd_types::{CpuId, Which};
 
 fn running_at(place: Place) -> Option<CpuId>

@@ -2,16 +2,16 @@
 
 ghost use Rattle.std.specs.Prelude.{◌≡◌, ◌<◌, ◌&&◌, length, not, slice_index_or};
 ghost use Rattle.sd_flat.specs.Standings.{greatest_but, is_number};
-ghost use Rattle.sd_machine.specs.States.{no_thread};
-ghost use Rattle.sd_full.specs.Threads.{greater, greatest_waiting, has_waiters, is_waiting};
-ghost use Rattle.sd_full.specs.Locking.{others_waiting};
+ghost use Rattle.sd_state.specs.States.{no_thread};
+ghost use Rattle.sd_machine.specs.Threads.{greater, greatest_waiting, has_waiters, is_waiting};
+ghost use Rattle.sd_machine.specs.Locking.{others_waiting};
 
 use crate::standings::is_waiting;
-use sd_machine::{State, ThreadState};
+use sd_state::{State, ThreadState};
 use sd_types::{LockId, ThreadId};
 
 /// Somebody waits for lock `l`, on either side.
-#[tactic(auto, unfolding(sd_full::specs::Threads::has_waiters))]
+#[tactic(auto, unfolding(sd_machine::specs::Threads::has_waiters))]
 pub fn has_waiters(s: &State, l: LockId) -> bool
     ensures { result ≡ has_waiters s.now l.0 }
 {

@@ -1,10 +1,10 @@
 //! Reading a state and a workload. A number that is out of range reads an idle processor, and no operation.
 
 ghost use Rattle.std.specs.Prelude.{◌≡◌, ◌≤◌, length, nat_lt};
-ghost use Rattle.sd_machine.specs.Operations.{script_of};
-ghost use Rattle.sd_machine.specs.States.{cpu_of, thread_of};
+ghost use Rattle.sd_state.specs.Operations.{script_of};
+ghost use Rattle.sd_state.specs.States.{cpu_of, thread_of};
 
-use sd_machine::{CpuState, Place, State};
+use sd_state::{CpuState, Place, State};
 use sd_types::{CpuId, Duty, Op, SetId, ThreadId, Work};
 
 const NO_CPU: CpuState = CpuState {

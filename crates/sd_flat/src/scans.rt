@@ -2,15 +2,15 @@
 
 ghost use Rattle.std.specs.Prelude.{◌≡◌, ◌<◌, length, IfSome};
 ghost use Rattle.sd_flat.specs.Standings.{best_standing, first_over, first_to_age, stands};
-ghost use Rattle.sd_full.specs.Threads.{best_queued, best_ready, best_sleeper, best_sleeper_below, best_unbound, best_waiter, first_due, is_due, naps_less, next_to_age, runner};
-ghost use Rattle.sd_machine.specs.Best.{beats};
-ghost use Rattle.sd_machine.specs.States.{no_thread};
-ghost use Rattle.sd_machine.proofs.BestLemmas.{goes_ahead_by};
+ghost use Rattle.sd_machine.specs.Threads.{best_queued, best_ready, best_sleeper, best_sleeper_below, best_unbound, best_waiter, first_due, is_due, naps_less, next_to_age, runner};
+ghost use Rattle.sd_state.specs.Best.{beats};
+ghost use Rattle.sd_state.specs.States.{no_thread};
+ghost use Rattle.sd_state.proofs.BestLemmas.{goes_ahead_by};
 
 use crate::orders::{beats, naps_less};
 use crate::reads::cpu_of;
 use crate::standings::{Standing, is_due, is_queued, is_running, is_ts, stands};
-use sd_machine::{State, ThreadState};
+use sd_state::{State, ThreadState};
 use sd_types::{ChanId, CpuId, LockId, Side, ThreadId};
 
 /// Thread `i` stands there and goes before the best so far.
@@ -76,7 +76,7 @@ fn first_over(c: CpuId, count: u32, threads: &[ThreadState]) -> Option<usize>
 }
 
 /// The number of the thread that runs on processor `c`.
-#[tactic(auto, unfolding(sd_full::specs::Threads::runner))]
+#[tactic(auto, unfolding(sd_machine::specs::Threads::runner))]
 pub fn runner(s: &State, c: CpuId) -> Option<usize>
     ensures value { result ≡ runner s.now c.0 }
     ensures inside { IfSome result (λ t. t < length s.now.threads) }
@@ -88,7 +88,7 @@ pub fn runner(s: &State, c: CpuId) -> Option<usize>
 }
 
 /// The best thread on the queue of processor `c` or on the real-time queue of its partition.
-#[tactic(auto, unfolding(sd_full::specs::Threads::best_ready, crate::specs::Standings::best_standing))]
+#[tactic(auto, unfolding(sd_machine::specs::Threads::best_ready, crate::specs::Standings::best_standing))]
 pub fn best_ready(s: &State, c: CpuId) -> Option<usize>
     ensures value { result ≡ best_ready s.now c.0 }
     ensures inside { IfSome result (λ t. t < length s.now.threads) }
@@ -97,7 +97,7 @@ pub fn best_ready(s: &State, c: CpuId) -> Option<usize>
 }
 
 /// The best thread on the queue of processor `c` alone.
-#[tactic(auto, unfolding(sd_full::specs::Threads::best_queued, crate::specs::Standings::best_standing))]
+#[tactic(auto, unfolding(sd_machine::specs::Threads::best_queued, crate::specs::Standings::best_standing))]
 pub fn best_queued(s: &State, c: CpuId) -> Option<usize>
     ensures value { result ≡ best_queued s.now c.0 }
     ensures inside { IfSome result (λ t. t < length s.now.threads) }
@@ -106,7 +106,7 @@ pub fn best_queued(s: &State, c: CpuId) -> Option<usize>
 }
 
 /// The best thread on the queue of processor `c` that is bound to no processor.
-#[tactic(auto, unfolding(sd_full::specs::Threads::best_unbound, crate::specs::Standings::best_standing))]
+#[tactic(auto, unfolding(sd_machine::specs::Threads::best_unbound, crate::specs::Standings::best_standing))]
 pub fn best_unbound(s: &State, c: CpuId) -> Option<usize>
     ensures value { result ≡ best_unbound s.now c.0 }
     ensures inside { IfSome result (λ t. t < length s.now.threads) }
@@ -115,7 +115,7 @@ pub fn best_unbound(s: &State, c: CpuId) -> Option<usize>
 }
 
 /// The best thread that waits for lock `l` at a side.
-#[tactic(auto, unfolding(sd_full::specs::Threads::best_waiter, crate::specs::Standings::best_standing))]
+#[tactic(auto, unfolding(sd_machine::specs::Threads::best_waiter, crate::specs::Standings::best_standing))]
 pub fn best_waiter(s: &State, l: LockId, side: Side) -> Option<usize>
     ensures value { result ≡ best_waiter s.now l.0 side }
     ensures inside { IfSome result (λ t. t < length s.now.threads) }
@@ -124,7 +124,7 @@ pub fn best_waiter(s: &State, l: LockId, side: Side) -> Option<usize>
 }
 
 /// The best thread that sleeps on channel `k`.
-#[tactic(auto, unfolding(sd_full::specs::Threads::best_sleeper, crate::specs::Standings::best_standing))]
+#[tactic(auto, unfolding(sd_machine::specs::Threads::best_sleeper, crate::specs::Standings::best_standing))]
 pub fn best_sleeper(s: &State, k: ChanId) -> Option<usize>
     ensures value { result ≡ best_sleeper s.now k.0 }
     ensures inside { IfSome result (λ t. t < length s.now.threads) }
@@ -133,7 +133,7 @@ pub fn best_sleeper(s: &State, k: ChanId) -> Option<usize>
 }
 
 /// The best thread that sleeps on channel `k` with a key below a number.
-#[tactic(auto, unfolding(sd_full::specs::Threads::best_sleeper_below, crate::specs::Standings::best_standing))]
+#[tactic(auto, unfolding(sd_machine::specs::Threads::best_sleeper_below, crate::specs::Standings::best_standing))]
 pub fn best_sleeper_below(s: &State, k: ChanId, below: i64) -> Option<usize>
     ensures value { result ≡ best_sleeper_below s.now k.0 below }
     ensures inside { IfSome result (λ t. t < length s.now.threads) }
@@ -142,7 +142,7 @@ pub fn best_sleeper_below(s: &State, k: ChanId, below: i64) -> Option<usize>
 }
 
 /// The thread whose nap on processor `c` is over first, where one is over.
-#[tactic(auto, unfolding(sd_full::specs::Threads::first_due, crate::specs::Standings::first_over))]
+#[tactic(auto, unfolding(sd_machine::specs::Threads::first_due, crate::specs::Standings::first_over))]
 pub fn first_due(s: &State, c: CpuId) -> Option<usize>
     ensures value { result ≡ first_due s.now c.0 }
     ensures inside { IfSome result (λ t. t < length s.now.threads) }
@@ -162,7 +162,7 @@ fn first_to_age(c: CpuId, threads: &[ThreadState]) -> Option<usize>
 }
 
 /// The least of the time-sharing threads with number `u` or more on the queue of processor `c`.
-#[tactic(auto, unfolding(sd_full::specs::Threads::next_to_age, crate::specs::Standings::first_to_age))]
+#[tactic(auto, unfolding(sd_machine::specs::Threads::next_to_age, crate::specs::Standings::first_to_age))]
 pub fn next_to_age(s: &State, c: CpuId, u: ThreadId) -> Option<usize>
     ensures value { result ≡ next_to_age s.now c.0 u.0 }
     ensures inside { IfSome result (λ t. t < length s.now.threads) }

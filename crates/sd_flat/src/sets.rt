@@ -1,13 +1,13 @@
 //! Processors that change their set, and threads that are bound to one.
 
 ghost use Rattle.std.specs.Prelude.{◌≡◌, ◌∷◌, ◌++◌, ◌+◌, ◌<◌, ◌≤◌, ◌^◌, drop, length, take};
-ghost use Rattle.sd_full.specs.Changes.{bind, close, join, unbind, with_cpu_in, without_cpu};
-ghost use Rattle.sd_full.specs.Threads.{open_of};
-ghost use Rattle.sd_machine.specs.States.{cpu_of};
+ghost use Rattle.sd_machine.specs.Changes.{bind, close, join, unbind, with_cpu_in, without_cpu};
+ghost use Rattle.sd_machine.specs.Threads.{open_of};
+ghost use Rattle.sd_state.specs.States.{cpu_of};
 
 use crate::reads::{cpu_of, is_cpu, is_thread};
 use arrayvec::ArrayVec;
-use sd_machine::State;
+use sd_state::State;
 use sd_types::{CpuId, SetId, ThreadId};
 
 /// A rising list of processors without processor `c`.
@@ -47,7 +47,7 @@ pub fn with_cpu_in(c: CpuId, cpus: &mut ArrayVec<CpuId, 64>)
 }
 
 /// Processor `d` leaves the open ones of its set, and is closing to another.
-#[tactic(auto, using(crate::proofs::Past::past), unfolding(sd_full::specs::Changes::close))]
+#[tactic(auto, using(crate::proofs::Past::past), unfolding(sd_machine::specs::Changes::close))]
 pub fn close(s: &mut State, d: CpuId, to: SetId)
     ensures { s.new ≡ close s.old d to }
 {
@@ -62,7 +62,7 @@ pub fn close(s: &mut State, d: CpuId, to: SetId)
 }
 
 /// Processor `c` is one of the open ones of a set, where that has room for it.
-#[tactic(auto, using(crate::proofs::Past::past), unfolding(sd_full::specs::Changes::join))]
+#[tactic(auto, using(crate::proofs::Past::past), unfolding(sd_machine::specs::Changes::join))]
 pub fn join(s: &mut State, c: CpuId, set: SetId)
     ensures { length (open_of s.old set.0) < 64 → s.new ≡ join s.old c set }
 {
@@ -77,7 +77,7 @@ pub fn join(s: &mut State, c: CpuId, set: SetId)
 }
 
 /// Thread `t` is bound to processor `d`, where that may count one more.
-#[tactic(auto, using(crate::proofs::Past::past), unfolding(sd_full::specs::Changes::bind))]
+#[tactic(auto, using(crate::proofs::Past::past), unfolding(sd_machine::specs::Changes::bind))]
 pub fn bind(s: &mut State, t: ThreadId, d: CpuId)
     ensures { (cpu_of s.old d.0).bound + 1 < 2 ^ 16 → s.new ≡ bind s.old t.0 d }
 {
@@ -91,7 +91,7 @@ pub fn bind(s: &mut State, t: ThreadId, d: CpuId)
 }
 
 /// Thread `t` is bound to processor `b` no more.
-#[tactic(auto, using(crate::proofs::Past::past), unfolding(sd_full::specs::Changes::unbind))]
+#[tactic(auto, using(crate::proofs::Past::past), unfolding(sd_machine::specs::Changes::unbind))]
 pub fn unbind(s: &mut State, t: ThreadId, b: CpuId)
     ensures { s.new ≡ unbind s.old t.0 b }
 {

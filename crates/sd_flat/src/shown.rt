@@ -2,15 +2,15 @@
 
 ghost use Rattle.std.specs.Prelude.{◌≡◌, ◌<◌, ◌≤◌, ℕ, length, map, nat_lt, true, IfSome};
 ghost use Rattle.std.specs.List.{list_all};
-ghost use Rattle.sd_full.specs.Choosing.{hint_of, hint_shown};
-ghost use Rattle.sd_full.specs.Threads.{priority_of};
+ghost use Rattle.sd_machine.specs.Choosing.{hint_of, hint_shown};
+ghost use Rattle.sd_machine.specs.Threads.{priority_of};
 ghost use Rattle.sd_flat.specs.Passes.{pass};
-ghost use Rattle.sd_machine.specs.States.{thread_of};
+ghost use Rattle.sd_state.specs.States.{thread_of};
 
 use crate::passes::pass;
 use crate::scans::{best_unbound, runner};
 use arrayvec::ArrayVec;
-use sd_machine::State;
+use sd_state::State;
 use sd_types::{CpuId, Which};
 
 /// The effective priority of the thread that a scan found, 0 to 159.
@@ -39,7 +39,7 @@ fn hint_of(p: Option<u8>) -> u8
 
 /// The number that processor `d` shows, 0 to 160: the effective priority plus 1 of its running thread, or of the best on
 /// its queue that is bound to no processor; 0 for none. Inherited priorities are below 160.
-#[tactic(auto, unfolding(sd_full::specs::Choosing::hint_shown))]
+#[tactic(auto, unfolding(sd_machine::specs::Choosing::hint_shown))]
 pub fn hint_shown(s: &State, which: Which, d: CpuId) -> u8
     requires { (t : ℕ) → list_all (λ n. nat_lt n.1 160) (thread_of s.now t).body.willed.items ≡ true }
     ensures { result ≡ hint_shown s.now which d }

@@ -2,10 +2,10 @@
 
 ghost use Rattle.std.specs.Prelude.{◌≡◌};
 ghost use Rattle.sd_flat.specs.Standings.{stands};
-ghost use Rattle.sd_full.specs.Threads.{is_due, is_ts, is_waiting, same_side};
-ghost use Rattle.sd_machine.specs.States.{is_queued, is_running};
+ghost use Rattle.sd_machine.specs.Threads.{is_due, is_ts, is_waiting, same_side};
+ghost use Rattle.sd_state.specs.States.{is_queued, is_running};
 
-use sd_machine::{Place, ThreadState};
+use sd_state::{Place, ThreadState};
 use sd_types::{ChanId, ClassState, CpuId, LockId, SetId, Side};
 
 /// Ready for a processor of a partition, on a processor's own queue, there and bound to none, waiting for a lock at a
@@ -77,7 +77,7 @@ pub(crate) fn is_ts(class: &ClassState) -> bool
 }
 
 fn is_ready(c: CpuId, p: SetId, place: &Place) -> bool
-    ensures { result ≡ Rattle.sd_machine.specs.States.is_ready c.0 p.0 place.now }
+    ensures { result ≡ Rattle.sd_state.specs.States.is_ready c.0 p.0 place.now }
 {
     match place {
         Place::Queued(d, _) => d.0 == c.0,
@@ -87,7 +87,7 @@ fn is_ready(c: CpuId, p: SetId, place: &Place) -> bool
 }
 
 fn waits_at(l: LockId, side: Side, place: &Place) -> bool
-    ensures { result ≡ Rattle.sd_full.specs.Threads.is_waiting_at l.0 side place.now }
+    ensures { result ≡ Rattle.sd_machine.specs.Threads.is_waiting_at l.0 side place.now }
 {
     match place {
         Place::Waiting(m, other, _) => m.0 == l.0 && same_side(side, *other),
@@ -96,7 +96,7 @@ fn waits_at(l: LockId, side: Side, place: &Place) -> bool
 }
 
 fn is_asleep(k: ChanId, place: &Place) -> bool
-    ensures { result ≡ Rattle.sd_full.specs.Threads.is_asleep k.0 place.now }
+    ensures { result ≡ Rattle.sd_machine.specs.Threads.is_asleep k.0 place.now }
 {
     match place {
         Place::Asleep(j, _) => j.0 == k.0,
@@ -105,7 +105,7 @@ fn is_asleep(k: ChanId, place: &Place) -> bool
 }
 
 fn is_asleep_below(k: ChanId, below: i64, place: &Place) -> bool
-    ensures { result ≡ Rattle.sd_full.specs.Threads.is_asleep_below k.0 below place.now }
+    ensures { result ≡ Rattle.sd_machine.specs.Threads.is_asleep_below k.0 below place.now }
 {
     match place {
         Place::Asleep(j, key) => j.0 == k.0 && *key < below,

@@ -14,18 +14,18 @@ use Rattle.sd_types.specs.declared.numbers.LockId.{LockId}
 use Rattle.sd_types.specs.declared.numbers.SetId.{SetId}
 use Rattle.sd_types.specs.declared.numbers.ThreadId.{ThreadId}
 use Rattle.sd_types.specs.declared.works.Work.{Work}
-use Rattle.sd_machine.specs.declared.states.CpuState.{CpuState}
-use Rattle.sd_machine.specs.declared.states.LockState.{LockState}
-use Rattle.sd_machine.specs.declared.states.LockState.TheVariants.{Free}
-use Rattle.sd_machine.specs.declared.states.Place.{Place}
-use Rattle.sd_machine.specs.declared.states.Place.TheVariants.{Running}
-use Rattle.sd_machine.specs.declared.states.State.{State}
-use Rattle.sd_machine.specs.declared.states.ThreadState.{ThreadState}
-use Rattle.sd_machine.specs.States.{cpu_of, no_cpu, no_thread, thread_of, with_cpu, with_thread}
-use Rattle.sd_machine.specs.Operations.{op_over, ran, script_of}
-use Rattle.sd_full.specs.Bodies.{arrived}
-use Rattle.sd_full.specs.Changes.{bind, clear_marks, close, count_tick, cpu_put, finish_op, hold, join, leave, let_go, mark_over, marked, place_put, put, remark, run_on, run_tick, send_back, set_class, set_duty, set_kernel_mark, set_looped, set_mark, set_number, unbind, with_body}
-use Rattle.sd_full.specs.Threads.{no_cpus, with_count, with_lock, with_open}
+use Rattle.sd_state.specs.declared.states.CpuState.{CpuState}
+use Rattle.sd_state.specs.declared.states.LockState.{LockState}
+use Rattle.sd_state.specs.declared.states.LockState.TheVariants.{Free}
+use Rattle.sd_state.specs.declared.states.Place.{Place}
+use Rattle.sd_state.specs.declared.states.Place.TheVariants.{Running}
+use Rattle.sd_state.specs.declared.states.State.{State}
+use Rattle.sd_state.specs.declared.states.ThreadState.{ThreadState}
+use Rattle.sd_state.specs.States.{cpu_of, no_cpu, no_thread, thread_of, with_cpu, with_thread}
+use Rattle.sd_state.specs.Operations.{op_over, ran, script_of}
+use Rattle.sd_machine.specs.Bodies.{arrived}
+use Rattle.sd_machine.specs.Changes.{bind, clear_marks, close, count_tick, cpu_put, finish_op, hold, join, leave, let_go, mark_over, marked, place_put, put, remark, run_on, run_tick, send_back, set_class, set_duty, set_kernel_mark, set_looped, set_mark, set_number, unbind, with_body}
+use Rattle.sd_machine.specs.Threads.{no_cpus, with_count, with_lock, with_open}
 use Rattle.sd_store.specs.declared.parts.Part.{Part}
 use Rattle.sd_store.specs.declared.parts.Part.TheVariants.{Actor, Thread}
 use Rattle.sd_store.specs.Parts.{IsAmong, put_parts, view_of}

@@ -9,20 +9,20 @@ use Rattle.sd_types.specs.declared.events.Hints.{Hints}
 use Rattle.sd_types.specs.declared.events.Put.{Put}
 use Rattle.sd_types.specs.declared.events.Put.TheVariants as put
 use Rattle.sd_types.specs.declared.works.Work.{Work}
-use Rattle.sd_machine.specs.declared.states.Place.{Place}
-use Rattle.sd_machine.specs.declared.states.Place.TheVariants.{Running}
-use Rattle.sd_machine.specs.declared.states.State.{State}
-use Rattle.sd_machine.specs.States.{cpu_of, thread_of}
-use Rattle.sd_full.specs.declared.plans.Placement.{Placement}
-use Rattle.sd_full.specs.declared.plans.Plan.{Plan}
-use Rattle.sd_full.specs.declared.plans.Plan.TheVariants.{Make, Place as PlaceIt, Search}
-use Rattle.sd_full.specs.declared.plans.Requeue.{Requeue}
-use Rattle.sd_full.specs.declared.plans.Requeue.TheVariants.{Stays, Behind, Anew}
-use Rattle.sd_full.specs.Changes.{cpu_put}
-use Rattle.sd_full.specs.Choosing.{put_chosen}
-use Rattle.sd_full.specs.Events.{event_of, placed_thread, plan_event}
-use Rattle.sd_full.specs.Requeueing.{requeue_plan}
-use Rattle.sd_full.specs.Threads.{set_of}
+use Rattle.sd_state.specs.declared.states.Place.{Place}
+use Rattle.sd_state.specs.declared.states.Place.TheVariants.{Running}
+use Rattle.sd_state.specs.declared.states.State.{State}
+use Rattle.sd_state.specs.States.{cpu_of, thread_of}
+use Rattle.sd_machine.specs.declared.plans.Placement.{Placement}
+use Rattle.sd_machine.specs.declared.plans.Plan.{Plan}
+use Rattle.sd_machine.specs.declared.plans.Plan.TheVariants.{Make, Place as PlaceIt, Search}
+use Rattle.sd_machine.specs.declared.plans.Requeue.{Requeue}
+use Rattle.sd_machine.specs.declared.plans.Requeue.TheVariants.{Stays, Behind, Anew}
+use Rattle.sd_machine.specs.Changes.{cpu_put}
+use Rattle.sd_machine.specs.Choosing.{put_chosen}
+use Rattle.sd_machine.specs.Events.{event_of, placed_thread, plan_event}
+use Rattle.sd_machine.specs.Requeueing.{requeue_plan}
+use Rattle.sd_machine.specs.Threads.{set_of}
 use Rattle.sd_shown.specs.Standing.{home_of, home_of_place}
 use Rattle.sd_footprint.specs.Homes.{IsOneOf, LiesIn}
 use Rattle.sd_mdisp.specs.Touched.{put_parts_if, reordered_parts}

@@ -29,25 +29,25 @@ use Rattle.sd_types.specs.declared.numbers.ThreadId.{ThreadId}
 use Rattle.sd_types.specs.declared.scripts.Op.{Op}
 use Rattle.sd_types.specs.declared.scripts.Op.TheVariants as op
 use Rattle.sd_types.specs.declared.works.Work.{Work}
-use Rattle.sd_machine.specs.declared.states.LockState.{LockState}
-use Rattle.sd_machine.specs.declared.states.LockState.TheVariants.{Free, Owned, ReadHeld, Passing}
-use Rattle.sd_machine.specs.declared.states.Place.{Place}
-use Rattle.sd_machine.specs.declared.states.Place.TheVariants.{Running, Queued, RealTime, Waiting, Ended}
-use Rattle.sd_machine.specs.declared.states.State.{State}
-use Rattle.sd_machine.specs.declared.states.ThreadState.{ThreadState}
-use Rattle.sd_machine.specs.States.{cpu_of, no_thread, thread_of}
-use Rattle.sd_machine.specs.Operations.{op_of}
-use Rattle.sd_full.specs.Changes.{back_key, key_at, put_where, queue_place, set_class, set_duty, set_looped, set_number, with_body}
-use Rattle.sd_full.specs.Conditions.{cv_waited, sema_counted, sema_handed, sema_taken}
-use Rattle.sd_full.specs.Dispatching.{charge, class_counts, dispatched, done, idled, preempted, sent_away, spun, stolen, ticked, yielded}
-use Rattle.sd_full.specs.Events.{after, drop_ageing, effect}
-use Rattle.sd_full.specs.Locking.{blocked, exited, free_or_passed, granted, granted_to_reader, granted_to_writer, owned, passed, passed_on, read, release_from, released, unblocked, unblocked_on}
-use Rattle.sd_full.specs.Prioritising.{aged, answer_to, changed_by, changed_on, lifted, reprioritised, walk_from}
-use Rattle.sd_full.specs.Requeueing.{reordered, reordered_at}
-use Rattle.sd_full.specs.SetChanges.{assigned, called_back, cleared, joined, moved, pbound, rebound}
-use Rattle.sd_full.specs.Sleeping.{fallen_asleep, napped, roused, roused_on, woke, woke_all, woken}
-use Rattle.sd_full.specs.Threads.{best_sleeper, best_waiter, eff_of, greatest_waiting, has_waiters, lock_of, set_of}
-use Rattle.sd_full.specs.Walking.{walk_ended, walked, willed}
+use Rattle.sd_state.specs.declared.states.LockState.{LockState}
+use Rattle.sd_state.specs.declared.states.LockState.TheVariants.{Free, Owned, ReadHeld, Passing}
+use Rattle.sd_state.specs.declared.states.Place.{Place}
+use Rattle.sd_state.specs.declared.states.Place.TheVariants.{Running, Queued, RealTime, Waiting, Ended}
+use Rattle.sd_state.specs.declared.states.State.{State}
+use Rattle.sd_state.specs.declared.states.ThreadState.{ThreadState}
+use Rattle.sd_state.specs.States.{cpu_of, no_thread, thread_of}
+use Rattle.sd_state.specs.Operations.{op_of}
+use Rattle.sd_machine.specs.Changes.{back_key, key_at, put_where, queue_place, set_class, set_duty, set_looped, set_number, with_body}
+use Rattle.sd_machine.specs.Conditions.{cv_waited, sema_counted, sema_handed, sema_taken}
+use Rattle.sd_machine.specs.Dispatching.{charge, class_counts, dispatched, done, idled, preempted, sent_away, spun, stolen, ticked, yielded}
+use Rattle.sd_machine.specs.Events.{after, drop_ageing, effect}
+use Rattle.sd_machine.specs.Locking.{blocked, exited, free_or_passed, granted, granted_to_reader, granted_to_writer, owned, passed, passed_on, read, release_from, released, unblocked, unblocked_on}
+use Rattle.sd_machine.specs.Prioritising.{aged, answer_to, changed_by, changed_on, lifted, reprioritised, walk_from}
+use Rattle.sd_machine.specs.Requeueing.{reordered, reordered_at}
+use Rattle.sd_machine.specs.SetChanges.{assigned, called_back, cleared, joined, moved, pbound, rebound}
+use Rattle.sd_machine.specs.Sleeping.{fallen_asleep, napped, roused, roused_on, woke, woke_all, woken}
+use Rattle.sd_machine.specs.Threads.{best_sleeper, best_waiter, eff_of, greatest_waiting, has_waiters, lock_of, set_of}
+use Rattle.sd_machine.specs.Walking.{walk_ended, walked, willed}
 use Rattle.sd_mdisp.specs.Touched.{put_parts_if, reordered_parts}
 use Rattle.sd_mprio.specs.Touched.{prio_parts}
 use Rattle.sd_msleep.specs.Touched.{woken_parts}

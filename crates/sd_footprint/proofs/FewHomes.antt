@@ -23,26 +23,26 @@ use Rattle.sd_rules.specs.ClassRules.{end_of}
 use Rattle.sd_types.specs.declared.scripts.Op.{Op}
 use Rattle.sd_types.specs.declared.scripts.Op.TheVariants as op
 use Rattle.sd_types.specs.declared.works.Work.{Work}
-use Rattle.sd_machine.specs.declared.states.LockState.{LockState}
-use Rattle.sd_machine.specs.declared.states.LockState.TheVariants.{Free, Owned, ReadHeld, Passing}
-use Rattle.sd_machine.specs.declared.states.State.{State}
-use Rattle.sd_machine.specs.States.{cpu_of, thread_of}
-use Rattle.sd_machine.specs.Operations.{op_of}
-use Rattle.sd_full.specs.declared.plans.Placement.TheVariants as placement
-use Rattle.sd_full.specs.declared.plans.Plan.{Plan}
-use Rattle.sd_full.specs.declared.plans.Plan.TheVariants.{Make, Place, Search}
-use Rattle.sd_full.specs.Choosing.{victim_for}
-use Rattle.sd_full.specs.Conditions.{sema_p_event, sema_v_plan}
-use Rattle.sd_full.specs.Dispatching.{dispatch_plan, leave_event, must_leave, steal_event}
-use Rattle.sd_full.specs.Locking.{enter_event, grant_reader_plan, grant_writer_plan, is_eligible, owner_runs, read_event, unblock_plan, write_event, writer_priority}
-use Rattle.sd_full.specs.Changes.{cpu_put}
-use Rattle.sd_full.specs.Events.{plan_event, wish}
-use Rattle.sd_full.specs.Plans.{ageing_plan, ageing_plan_of, cpu_plan, cpu_plan_of, duty_plan, duty_plan_of, first_of, free_plan_of, nap_plan, op_plan, or_plan, plan, run_plan_of}
-use Rattle.sd_full.specs.Prioritising.{age_plan, answer_to, prio_plan}
-use Rattle.sd_full.specs.SetChanges.{closing_plan}
-use Rattle.sd_full.specs.Sleeping.{napend_plan, rouse_plan, wake_plan, woken_priority}
-use Rattle.sd_full.specs.Threads.{best_queued, best_ready, best_sleeper, best_sleeper_below, best_unbound, best_waiter, count_of, eff_of, first_due, lock_of, next_to_age, priority_of, runner, set_of, thread_id}
-use Rattle.sd_full.specs.Walking.{walk_plan}
+use Rattle.sd_state.specs.declared.states.LockState.{LockState}
+use Rattle.sd_state.specs.declared.states.LockState.TheVariants.{Free, Owned, ReadHeld, Passing}
+use Rattle.sd_state.specs.declared.states.State.{State}
+use Rattle.sd_state.specs.States.{cpu_of, thread_of}
+use Rattle.sd_state.specs.Operations.{op_of}
+use Rattle.sd_machine.specs.declared.plans.Placement.TheVariants as placement
+use Rattle.sd_machine.specs.declared.plans.Plan.{Plan}
+use Rattle.sd_machine.specs.declared.plans.Plan.TheVariants.{Make, Place, Search}
+use Rattle.sd_machine.specs.Choosing.{victim_for}
+use Rattle.sd_machine.specs.Conditions.{sema_p_event, sema_v_plan}
+use Rattle.sd_machine.specs.Dispatching.{dispatch_plan, leave_event, must_leave, steal_event}
+use Rattle.sd_machine.specs.Locking.{enter_event, grant_reader_plan, grant_writer_plan, is_eligible, owner_runs, read_event, unblock_plan, write_event, writer_priority}
+use Rattle.sd_machine.specs.Changes.{cpu_put}
+use Rattle.sd_machine.specs.Events.{plan_event, wish}
+use Rattle.sd_machine.specs.Plans.{ageing_plan, ageing_plan_of, cpu_plan, cpu_plan_of, duty_plan, duty_plan_of, first_of, free_plan_of, nap_plan, op_plan, or_plan, plan, run_plan_of}
+use Rattle.sd_machine.specs.Prioritising.{age_plan, answer_to, prio_plan}
+use Rattle.sd_machine.specs.SetChanges.{closing_plan}
+use Rattle.sd_machine.specs.Sleeping.{napend_plan, rouse_plan, wake_plan, woken_priority}
+use Rattle.sd_machine.specs.Threads.{best_queued, best_ready, best_sleeper, best_sleeper_below, best_unbound, best_waiter, count_of, eff_of, first_due, lock_of, next_to_age, priority_of, runner, set_of, thread_id}
+use Rattle.sd_machine.specs.Walking.{walk_plan}
 use Rattle.sd_shown.specs.Standing.{home_of}
 use Rattle.sd_footprint.specs.Homes.{IsOneOf, NeedsFour, TakesFour}
 use Rattle.sd_step.specs.Needed.{choice_parts, cpu_parts, later_parts, needed, next_parts, op_parts, plan_parts, read_parts, reads_parts, run_parts, turn_parts}

@@ -25,30 +25,30 @@ use Rattle.sd_types.specs.declared.scripts.Request.{Request}
 use Rattle.sd_types.specs.declared.works.Work.{Work}
 use Rattle.sd_types.specs.Works.{bound_fits, op_names, request_fits}
 use Rattle.sd_rules.specs.ChoiceFunctions.{greatest_hint, least_number, victim_of, with_hint}
-use Rattle.sd_machine.specs.declared.states.LockState.{LockState}
-use Rattle.sd_machine.specs.declared.states.LockState.TheVariants.{Owned}
-use Rattle.sd_machine.specs.declared.states.State.{State}
-use Rattle.sd_machine.specs.Operations.{op_of, script_of}
-use Rattle.sd_machine.specs.States.{cpu_of, thread_of}
-use Rattle.sd_machine.proofs.BestLemmas.{and_left}
-use Rattle.sd_full.specs.declared.plans.Placement.{Placement}
-use Rattle.sd_full.specs.declared.plans.Placement.TheVariants as placement
-use Rattle.sd_full.specs.declared.plans.Plan.{Plan}
-use Rattle.sd_full.specs.declared.plans.Plan.TheVariants.{Make, Place, Search}
-use Rattle.sd_full.specs.declared.plans.Requeue.{Requeue}
-use Rattle.sd_full.specs.declared.plans.Requeue.TheVariants.{Stays, Behind, Anew}
-use Rattle.sd_full.specs.Choosing.{neighbours, numbers_read, victim_for}
-use Rattle.sd_full.specs.Conditions.{sema_v_plan}
-use Rattle.sd_full.specs.Dispatching.{dispatch_plan, leave_event, must_leave}
-use Rattle.sd_full.specs.Events.{placed_thread}
-use Rattle.sd_full.specs.Locking.{grant_reader_plan, grant_writer_plan, is_eligible, unblock_plan}
-use Rattle.sd_full.specs.Plans.{ageing_plan, ageing_plan_of, cpu_plan, cpu_plan_of, duty_plan, duty_plan_of, first_of, free_plan_of, nap_plan, op_plan, or_plan, plan, run_plan_of}
-use Rattle.sd_full.specs.Prioritising.{age_plan, answer_to, prio_plan}
-use Rattle.sd_full.specs.Requeueing.{requeue_plan}
-use Rattle.sd_full.specs.SetChanges.{closing_plan}
-use Rattle.sd_full.specs.Sleeping.{napend_plan, rouse_plan, wake_plan, woken_priority}
-use Rattle.sd_full.specs.Threads.{best_queued, best_ready, best_sleeper, best_sleeper_below, best_waiter, first_due, lock_of, next_to_age, open_of, priority_of, runner, thread_id}
-use Rattle.sd_full.specs.Walking.{walk_plan}
+use Rattle.sd_state.specs.declared.states.LockState.{LockState}
+use Rattle.sd_state.specs.declared.states.LockState.TheVariants.{Owned}
+use Rattle.sd_state.specs.declared.states.State.{State}
+use Rattle.sd_state.specs.Operations.{op_of, script_of}
+use Rattle.sd_state.specs.States.{cpu_of, thread_of}
+use Rattle.sd_state.proofs.BestLemmas.{and_left}
+use Rattle.sd_machine.specs.declared.plans.Placement.{Placement}
+use Rattle.sd_machine.specs.declared.plans.Placement.TheVariants as placement
+use Rattle.sd_machine.specs.declared.plans.Plan.{Plan}
+use Rattle.sd_machine.specs.declared.plans.Plan.TheVariants.{Make, Place, Search}
+use Rattle.sd_machine.specs.declared.plans.Requeue.{Requeue}
+use Rattle.sd_machine.specs.declared.plans.Requeue.TheVariants.{Stays, Behind, Anew}
+use Rattle.sd_machine.specs.Choosing.{neighbours, numbers_read, victim_for}
+use Rattle.sd_machine.specs.Conditions.{sema_v_plan}
+use Rattle.sd_machine.specs.Dispatching.{dispatch_plan, leave_event, must_leave}
+use Rattle.sd_machine.specs.Events.{placed_thread}
+use Rattle.sd_machine.specs.Locking.{grant_reader_plan, grant_writer_plan, is_eligible, unblock_plan}
+use Rattle.sd_machine.specs.Plans.{ageing_plan, ageing_plan_of, cpu_plan, cpu_plan_of, duty_plan, duty_plan_of, first_of, free_plan_of, nap_plan, op_plan, or_plan, plan, run_plan_of}
+use Rattle.sd_machine.specs.Prioritising.{age_plan, answer_to, prio_plan}
+use Rattle.sd_machine.specs.Requeueing.{requeue_plan}
+use Rattle.sd_machine.specs.SetChanges.{closing_plan}
+use Rattle.sd_machine.specs.Sleeping.{napend_plan, rouse_plan, wake_plan, woken_priority}
+use Rattle.sd_machine.specs.Threads.{best_queued, best_ready, best_sleeper, best_sleeper_below, best_waiter, first_due, lock_of, next_to_age, open_of, priority_of, runner, thread_id}
+use Rattle.sd_machine.specs.Walking.{walk_plan}
 use Rattle.sd_footprint.proofs.ThereLemmas.{AllThere, IsKnown, chain_there, cpu_inside, cpu_set, ready_there, sleepers_there, there_join, thread_set}
 use Rattle.sd_mdisp.specs.Touched.{victim_parts}
 use Rattle.sd_range.proofs.Named.{assign_cpu, bind_cpu}

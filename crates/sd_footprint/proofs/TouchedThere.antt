@@ -13,12 +13,12 @@ use Rattle.sd_types.specs.declared.events.Put.TheVariants.{Cpu, RealTime}
 use Rattle.sd_types.specs.declared.numbers.CpuId.{CpuId}
 use Rattle.sd_types.specs.declared.numbers.ThreadId.{ThreadId}
 use Rattle.sd_types.specs.declared.works.Work.{Work}
-use Rattle.sd_machine.specs.declared.states.Place.{Place}
-use Rattle.sd_machine.specs.declared.states.Place.TheVariants.{Running}
-use Rattle.sd_machine.specs.declared.states.State.{State}
-use Rattle.sd_machine.specs.States.{thread_of}
-use Rattle.sd_full.specs.Needs.{CanBeBound, IsPrioPut, IsPut, IsPutIf, IsWoken, Needs, RunsThere}
-use Rattle.sd_full.specs.Runs.{IsReached}
+use Rattle.sd_state.specs.declared.states.Place.{Place}
+use Rattle.sd_state.specs.declared.states.Place.TheVariants.{Running}
+use Rattle.sd_state.specs.declared.states.State.{State}
+use Rattle.sd_state.specs.States.{thread_of}
+use Rattle.sd_machine.specs.Needs.{CanBeBound, IsPrioPut, IsPut, IsPutIf, IsWoken, Needs, RunsThere}
+use Rattle.sd_machine.specs.Runs.{IsReached}
 use Rattle.sd_footprint.specs.There.{PartsAreThere}
 use Rattle.sd_footprint.proofs.LooksThere.{needed_there, next_there, reads_there}
 use Rattle.sd_footprint.proofs.ThereLemmas.{AllThere, IsKnown, chain_there, cpu_inside, known_reached, ready_there, sleepers_there, there_each, there_join, thread_set}

@@ -7,14 +7,14 @@ use Rattle.sd_types.specs.declared.numbers.HomeId.TheVariants as home
 use Rattle.sd_types.specs.declared.events.Event.{Event}
 use Rattle.sd_types.specs.declared.events.Hints.{Hints}
 use Rattle.sd_types.specs.declared.works.Work.{Work}
-use Rattle.sd_machine.specs.declared.states.CpuState.{CpuState}
-use Rattle.sd_machine.specs.declared.states.Place.TheVariants.{Running}
-use Rattle.sd_machine.specs.declared.states.State.{State}
-use Rattle.sd_machine.specs.declared.states.ThreadState.{ThreadState}
-use Rattle.sd_machine.specs.States.{cpu_of, thread_of}
-use Rattle.sd_full.specs.Events.{after, next}
-use Rattle.sd_full.specs.Runs.{IsReached}
-use Rattle.sd_full.specs.Threads.{count_of, lock_of, open_of}
+use Rattle.sd_state.specs.declared.states.CpuState.{CpuState}
+use Rattle.sd_state.specs.declared.states.Place.TheVariants.{Running}
+use Rattle.sd_state.specs.declared.states.State.{State}
+use Rattle.sd_state.specs.declared.states.ThreadState.{ThreadState}
+use Rattle.sd_state.specs.States.{cpu_of, thread_of}
+use Rattle.sd_machine.specs.Events.{after, next}
+use Rattle.sd_machine.specs.Runs.{IsReached}
+use Rattle.sd_machine.specs.Threads.{count_of, lock_of, open_of}
 use Rattle.sd_store.specs.declared.parts.Part.{Part}
 use Rattle.sd_store.specs.declared.parts.Part.TheVariants.{Actor, Home, Thread}
 use Rattle.sd_store.specs.Parts.{IsAmong, view_of}

@@ -6,10 +6,10 @@ use Rattle.sd_types.specs.declared.numbers.CpuId.{CpuId}
 use Rattle.sd_types.specs.declared.numbers.HomeId.{HomeId}
 use Rattle.sd_types.specs.declared.events.Hints.{Hints}
 use Rattle.sd_types.specs.declared.works.Work.{Work}
-use Rattle.sd_machine.specs.declared.states.State.{State}
-use Rattle.sd_machine.specs.States.{thread_of}
-use Rattle.sd_full.specs.Events.{wish}
-use Rattle.sd_full.specs.Runs.{IsReached}
+use Rattle.sd_state.specs.declared.states.State.{State}
+use Rattle.sd_state.specs.States.{thread_of}
+use Rattle.sd_machine.specs.Events.{wish}
+use Rattle.sd_machine.specs.Runs.{IsReached}
 use Rattle.sd_shown.specs.Standing.{home_of}
 use Rattle.sd_step.specs.Needed.{needed, next_parts, reads_parts}
 use Rattle.sd_step.specs.Touched.{after_parts}

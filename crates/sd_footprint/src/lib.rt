@@ -6,7 +6,7 @@ ghost use Rattle.std.specs.Prelude.{Option};
 ghost use Rattle.sd_types.specs.declared.events.Hints.{Hints as HintsOf};
 ghost use Rattle.sd_types.specs.declared.numbers.CpuId.{CpuId as CpuIdOf};
 ghost use Rattle.sd_types.specs.declared.works.Work.{Work as WorkOf};
-ghost use Rattle.sd_machine.specs.declared.states.State.{State as StateOf};
+ghost use Rattle.sd_state.specs.declared.states.State.{State as StateOf};
 ghost use Rattle.sd_footprint.specs.Changed.{EventsChangeOnlyTheirs, RunnersRanThereLast};
 ghost use Rattle.sd_footprint.specs.Homes.{NeedsFour, TurnsTakeFour};
 ghost use Rattle.sd_footprint.specs.There.{PartsOfTurnsAreThere, ThreadsStandThere};

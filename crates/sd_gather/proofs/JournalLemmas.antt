@@ -7,13 +7,13 @@ use Rattle.std.proofs.lemmas.List.Elements.{All-get_or}
 use Rattle.std.proofs.lemmas.List.{take_more, drop_more, drop_all, take_all, length-take-le, length-append}
 use Rattle.sd_types.specs.declared.events.Entry.{Entry}
 use Rattle.sd_types.specs.declared.works.Work.{Work}
-use Rattle.sd_machine.specs.declared.states.State.{State}
-use Rattle.sd_machine.specs.Opening.{opening}
+use Rattle.sd_state.specs.declared.states.State.{State}
+use Rattle.sd_state.specs.Opening.{opening}
 use Rattle.sd_text.specs.Lines.{lines_of}
-use Rattle.sd_full.specs.Events.{after}
-use Rattle.sd_full.specs.Runs.{final, IsRunFrom, IsStep, IsReached, state_at}
-use Rattle.sd_full.specs.Texts.{journal}
-use Rattle.sd_full.proofs.RunLemmas.{final-nil, final-push, IsRun-from, from-IsRun, IsRunFrom-take, last_number, last_step}
+use Rattle.sd_machine.specs.Events.{after}
+use Rattle.sd_machine.specs.Runs.{final, IsRunFrom, IsStep, IsReached, state_at}
+use Rattle.sd_machine.specs.Texts.{journal}
+use Rattle.sd_machine.proofs.RunLemmas.{final-nil, final-push, IsRun-from, from-IsRun, IsRunFrom-take, last_number, last_step}
 use Rattle.sd_spelling.specs.Fitting.{IsSpelled}
 use Rattle.sd_spelling.proofs.LineLemmas.{one_line}
 use Rattle.sd_audit.specs.Audits.{entry_line, IsTaken}

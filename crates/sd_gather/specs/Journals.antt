@@ -4,10 +4,10 @@ use Rattle.std.specs.Prelude.{◌≡◌, ℕ, ◌≤◌, List, ◌∷◌, ◌++�
 use Rattle.std.specs.List.{All}
 use Rattle.sd_types.specs.declared.events.Entry.{Entry}
 use Rattle.sd_types.specs.declared.works.Work.{Work}
-use Rattle.sd_machine.specs.declared.states.State.{State}
+use Rattle.sd_state.specs.declared.states.State.{State}
 use Rattle.sd_text.specs.Lines.{lines_of}
-use Rattle.sd_full.specs.Runs.{IsRun, state_at}
-use Rattle.sd_full.specs.Texts.{journal}
+use Rattle.sd_machine.specs.Runs.{IsRun, state_at}
+use Rattle.sd_machine.specs.Texts.{journal}
 use Rattle.sd_spelling.specs.Fitting.{IsSpelled}
 use Rattle.sd_audit.specs.Audits.{IsJournal, IsTaken, entry_line}
 use Rattle.sd_stretches.specs.declared.histories.History.{History}

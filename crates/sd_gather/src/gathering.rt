@@ -1,15 +1,15 @@
 //! The history of a whole journal.
 
 ghost use Rattle.std.specs.Prelude.{◌≡◌, ◌<◌, ◌^◌, IfOk, length};
-ghost use Rattle.sd_full.specs.Events.{after};
-ghost use Rattle.sd_full.specs.Runs.{IsReached};
+ghost use Rattle.sd_machine.specs.Events.{after};
+ghost use Rattle.sd_machine.specs.Runs.{IsReached};
 ghost use Rattle.sd_audit.specs.Audits.{IsTaken};
 ghost use Rattle.sd_gather.specs.Journals.{HasJournal, IsHistoryOf, TellsNext};
 
 use sd_audit::{AuditFault, is_accounts, take_line};
 use sd_entry_reader::Names;
-use sd_machine::State;
 use sd_opening::opening;
+use sd_state::State;
 use sd_stretches::History;
 use sd_text::next_line;
 use sd_types::{Entry, Work};

@@ -4,11 +4,11 @@ use Rattle.sd_types.specs.declared.bodies.ThreadBody.{ThreadBody}
 use Rattle.sd_types.specs.declared.numbers.CpuId.{CpuId}
 use Rattle.sd_types.specs.declared.numbers.HomeId.TheVariants as id
 use Rattle.sd_types.specs.declared.numbers.SetId.{SetId}
-use Rattle.sd_machine.specs.declared.states.CpuState.{CpuState}
-use Rattle.sd_machine.specs.declared.states.State.{State}
-use Rattle.sd_machine.specs.States.{thread_of, with_cpu}
-use Rattle.sd_full.specs.Changes.{with_body}
-use Rattle.sd_full.specs.Threads.{with_open}
+use Rattle.sd_state.specs.declared.states.CpuState.{CpuState}
+use Rattle.sd_state.specs.declared.states.State.{State}
+use Rattle.sd_state.specs.States.{thread_of, with_cpu}
+use Rattle.sd_machine.specs.Changes.{with_body}
+use Rattle.sd_machine.specs.Threads.{with_open}
 use Rattle.sd_shown.specs.Standing.{home_of, home_of_place, look_of}
 use Rattle.sd_homes.specs.declared.home.Home.{Home}
 use Rattle.sd_hand.specs.Frames.{IsNot, Stays}

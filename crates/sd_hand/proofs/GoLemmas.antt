@@ -13,12 +13,12 @@ use Rattle.sd_types.specs.declared.numbers.ThreadId.{ThreadId}
 use Rattle.sd_types.specs.declared.scripts.Op.{Op}
 use Rattle.sd_types.specs.declared.works.Work.{Work}
 use Rattle.sd_record.specs.Records.{ThreadRecord}
-use Rattle.sd_machine.specs.declared.states.State.{State}
-use Rattle.sd_machine.specs.declared.states.ThreadState.{ThreadState}
-use Rattle.sd_machine.specs.Operations.{ran, script_of}
-use Rattle.sd_machine.specs.States.{no_thread, thread_of}
-use Rattle.sd_full.specs.Changes.{key_at, place_put}
-use Rattle.sd_full.specs.Needs.{RunsOn}
+use Rattle.sd_state.specs.declared.states.State.{State}
+use Rattle.sd_state.specs.declared.states.ThreadState.{ThreadState}
+use Rattle.sd_state.specs.Operations.{ran, script_of}
+use Rattle.sd_state.specs.States.{no_thread, thread_of}
+use Rattle.sd_machine.specs.Changes.{key_at, place_put}
+use Rattle.sd_machine.specs.Needs.{RunsOn}
 use Rattle.sd_store.specs.Bodies.{CanChange, changed}
 use Rattle.sd_store.specs.Keyless.{IsDestination, place_by}
 use Rattle.sd_store.specs.declared.changes.BodyChange.{BodyChange}

@@ -9,7 +9,7 @@ use Rattle.sd_shown.specs.declared.list_id.ListId.{ListId}
 use Rattle.sd_shown.specs.Standing.{home_at}
 use Rattle.sd_homes.specs.declared.home.Home.{Home}
 use Rattle.sd_types.specs.declared.numbers.CpuId.{CpuId}
-use Rattle.sd_full.specs.Changes.{with_cpu_in, without_cpu}
+use Rattle.sd_machine.specs.Changes.{with_cpu_in, without_cpu}
 use Rattle.sd_homes.specs.Families.{home_id, open_in, opened, same_home, shut, taken_from}
 use Rattle.sd_hand.specs.Hands.{AreApart, AreSlots, HandSlots, HoldsMore, IsIn, IsSlot, StandsIn, edit, held, is_at}
 use Rattle.sd_hand.proofs.SlotLemmas.{held_id, holds_more, same_home_true, same_slot, slot_at}

@@ -11,10 +11,10 @@ use Rattle.sd_types.specs.declared.numbers.LockId.{LockId}
 use Rattle.sd_types.specs.declared.numbers.Side.{Side}
 use Rattle.sd_boxq.specs.Order.{find_id}
 use Rattle.sd_record.specs.Records.{ThreadRecord}
-use Rattle.sd_machine.specs.declared.states.ThreadState.{ThreadState}
-use Rattle.sd_machine.specs.declared.states.State.{State}
-use Rattle.sd_machine.specs.States.{thread_of, with_thread, no_thread, is_running}
-use Rattle.sd_full.specs.Threads.{runner}
+use Rattle.sd_state.specs.declared.states.ThreadState.{ThreadState}
+use Rattle.sd_state.specs.declared.states.State.{State}
+use Rattle.sd_state.specs.States.{thread_of, with_thread, no_thread, is_running}
+use Rattle.sd_machine.specs.Threads.{runner}
 use Rattle.sd_shown.specs.declared.list_id.ListId.{ListId}
 use Rattle.sd_shown.specs.declared.list_id.ListId.TheVariants.{Runs, Queues, Naps, Ends, Urgent, Waits, Sleeps}
 use Rattle.sd_shown.specs.Standing.{home_at, list_of, stands, id_of, record_of, ByNumber, look_of, without, with_one, MayCome}

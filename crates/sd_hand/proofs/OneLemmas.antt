@@ -7,12 +7,12 @@ use Rattle.sd_types.specs.declared.numbers.HomeId.{HomeId}
 use Rattle.sd_types.specs.declared.numbers.HomeId.TheVariants as home
 use Rattle.sd_types.specs.declared.numbers.Side.{Side}
 use Rattle.sd_types.specs.declared.numbers.Side.TheVariants.{Writer, Reader}
-use Rattle.sd_machine.specs.declared.states.Place.{Place}
-use Rattle.sd_machine.specs.declared.states.Place.TheVariants.{Running, Queued, RealTime, Waiting, Asleep, Napping, Ended}
-use Rattle.sd_machine.specs.declared.states.ThreadState.{ThreadState}
-use Rattle.sd_machine.specs.declared.states.State.{State}
-use Rattle.sd_machine.specs.States.{thread_of}
-use Rattle.sd_full.specs.Threads.{same_side}
+use Rattle.sd_state.specs.declared.states.Place.{Place}
+use Rattle.sd_state.specs.declared.states.Place.TheVariants.{Running, Queued, RealTime, Waiting, Asleep, Napping, Ended}
+use Rattle.sd_state.specs.declared.states.ThreadState.{ThreadState}
+use Rattle.sd_state.specs.declared.states.State.{State}
+use Rattle.sd_state.specs.States.{thread_of}
+use Rattle.sd_machine.specs.Threads.{same_side}
 use Rattle.sd_shown.specs.declared.list_id.ListId.{ListId}
 use Rattle.sd_shown.specs.declared.list_id.ListId.TheVariants.{Runs, Queues, Urgent, Waits, Sleeps, Naps, Ends}
 use Rattle.sd_shown.specs.Standing.{ByNumber, home_at, home_of, home_of_place, list_at, list_of, listed, look_of, record_of, stands, stands_at}

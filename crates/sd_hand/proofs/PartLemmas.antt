@@ -8,12 +8,12 @@ use Rattle.sd_types.specs.declared.numbers.HomeId.{HomeId}
 use Rattle.sd_types.specs.declared.numbers.HomeId.TheVariants as id
 use Rattle.sd_types.specs.declared.numbers.LockId.{LockId}
 use Rattle.sd_types.specs.declared.numbers.SetId.{SetId}
-use Rattle.sd_machine.specs.declared.states.CpuState.{CpuState}
-use Rattle.sd_machine.specs.declared.states.LockState.{LockState}
-use Rattle.sd_machine.specs.declared.states.LockState.TheVariants.{Free}
-use Rattle.sd_machine.specs.declared.states.State.{State}
-use Rattle.sd_machine.specs.States.{cpu_of, with_cpu, no_cpu}
-use Rattle.sd_full.specs.Threads.{count_of, lock_of, no_cpus, open_of, with_count, with_lock, with_open}
+use Rattle.sd_state.specs.declared.states.CpuState.{CpuState}
+use Rattle.sd_state.specs.declared.states.LockState.{LockState}
+use Rattle.sd_state.specs.declared.states.LockState.TheVariants.{Free}
+use Rattle.sd_state.specs.declared.states.State.{State}
+use Rattle.sd_state.specs.States.{cpu_of, with_cpu, no_cpu}
+use Rattle.sd_machine.specs.Threads.{count_of, lock_of, no_cpus, open_of, with_count, with_lock, with_open}
 use Rattle.sd_store.specs.declared.parts.CpuView.{CpuView}
 use Rattle.sd_store.specs.Parts.{view_of}
 use Rattle.sd_shown.specs.declared.list_id.ListId.{ListId}

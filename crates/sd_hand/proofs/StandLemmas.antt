@@ -10,8 +10,8 @@ use Rattle.sd_boxq.specs.Order.{find_id}
 use Rattle.sd_turn.specs.Waiters.{Waiters, find_among as find_waiter, nobody, on_side}
 use Rattle.sd_sleepq.specs.Among.{find_among as find_sleeper}
 use Rattle.sd_record.specs.Records.{ThreadRecord}
-use Rattle.sd_machine.specs.declared.states.State.{State}
-use Rattle.sd_machine.specs.States.{thread_of}
+use Rattle.sd_state.specs.declared.states.State.{State}
+use Rattle.sd_state.specs.States.{thread_of}
 use Rattle.sd_shown.specs.Numbers.{IsHomeOf}
 use Rattle.sd_shown.specs.declared.list_id.ListId.{ListId}
 use Rattle.sd_shown.specs.declared.list_id.ListId.TheVariants.{Runs, Queues, Urgent, Waits, Sleeps, Naps, Ends}

@@ -13,20 +13,20 @@ use Rattle.sd_types.specs.declared.numbers.HomeId.TheVariants as id
 use Rattle.sd_boxq.specs.Order.{drop_id, find_first, find_below}
 use Rattle.sd_turn.specs.Waiters.{highest}
 use Rattle.sd_record.specs.Records.{ThreadRecord}
-use Rattle.sd_machine.specs.declared.states.LockState.TheVariants.{Free}
-use Rattle.sd_machine.specs.declared.states.State.{State}
-use Rattle.sd_machine.specs.declared.states.Place.{Place}
-use Rattle.sd_machine.specs.declared.states.Place.TheVariants.{Running, Queued, RealTime as OnRealTime, Waiting, Asleep, Napping, Ended}
-use Rattle.sd_machine.specs.States.{cpu_of, thread_of}
+use Rattle.sd_state.specs.declared.states.LockState.TheVariants.{Free}
+use Rattle.sd_state.specs.declared.states.State.{State}
+use Rattle.sd_state.specs.declared.states.Place.{Place}
+use Rattle.sd_state.specs.declared.states.Place.TheVariants.{Running, Queued, RealTime as OnRealTime, Waiting, Asleep, Napping, Ended}
+use Rattle.sd_state.specs.States.{cpu_of, thread_of}
 use Rattle.sd_types.specs.declared.events.Duty.{Duty}
 use Rattle.sd_types.specs.declared.events.Duty.TheVariants.{Age, GrantReaders, GrantWriter, Nothing, Rouse, WakeMutex, Walk}
-use Rattle.sd_full.specs.Walking.{is_back}
+use Rattle.sd_machine.specs.Walking.{is_back}
 use Rattle.sd_store.specs.Keyless.{spot_of}
 use Rattle.sd_shown.specs.declared.list_id.ListId.{ListId}
-use Rattle.sd_machine.specs.declared.states.CpuState.{CpuState}
-use Rattle.sd_full.specs.Changes.{marked}
-use Rattle.sd_full.specs.Locking.{others_waiting}
-use Rattle.sd_full.specs.Threads.{best_queued, best_ready, best_sleeper, best_sleeper_below, best_unbound, best_waiter, count_of, first_due, greatest_waiting, has_waiters, lock_of, next_to_age, open_of, runner}
+use Rattle.sd_state.specs.declared.states.CpuState.{CpuState}
+use Rattle.sd_machine.specs.Changes.{marked}
+use Rattle.sd_machine.specs.Locking.{others_waiting}
+use Rattle.sd_machine.specs.Threads.{best_queued, best_ready, best_sleeper, best_sleeper_below, best_unbound, best_waiter, count_of, first_due, greatest_waiting, has_waiters, lock_of, next_to_age, open_of, runner}
 use Rattle.sd_store.specs.Parts.{view_of}
 use Rattle.sd_store.specs.declared.parts.CpuView.{CpuView}
 use Rattle.sd_shown.specs.declared.list_id.ListId.TheVariants.{Runs, Queues, Urgent, Naps, Waits, Sleeps}

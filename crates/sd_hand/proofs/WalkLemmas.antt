@@ -7,12 +7,12 @@ use Rattle.sd_types.specs.declared.events.Duty.TheVariants.{Age, GrantReaders, G
 use Rattle.sd_types.specs.declared.numbers.CpuId.{CpuId}
 use Rattle.sd_types.specs.declared.numbers.LockId.{LockId}
 use Rattle.sd_types.specs.declared.numbers.ThreadId.{ThreadId}
-use Rattle.sd_machine.specs.declared.states.Place.{Place}
-use Rattle.sd_machine.specs.declared.states.Place.TheVariants.{Running, Queued, RealTime, Waiting, Asleep, Napping, Ended}
-use Rattle.sd_machine.specs.declared.states.State.{State}
-use Rattle.sd_machine.specs.declared.states.ThreadState.{ThreadState}
-use Rattle.sd_full.specs.Prioritising.{walk_from}
-use Rattle.sd_full.specs.Walking.{next_walk}
+use Rattle.sd_state.specs.declared.states.Place.{Place}
+use Rattle.sd_state.specs.declared.states.Place.TheVariants.{Running, Queued, RealTime, Waiting, Asleep, Napping, Ended}
+use Rattle.sd_state.specs.declared.states.State.{State}
+use Rattle.sd_state.specs.declared.states.ThreadState.{ThreadState}
+use Rattle.sd_machine.specs.Prioritising.{walk_from}
+use Rattle.sd_machine.specs.Walking.{next_walk}
 use Rattle.sd_shown.specs.Standing.{list_at, record_of}
 use Rattle.sd_hand.specs.Walking.{given, next_walk_at, walk_at}
 

@@ -2,7 +2,7 @@
 -- Source: this project's own.
 use Rattle.std.specs.Prelude.{◌≢◌, ℕ}
 use Rattle.sd_types.specs.declared.numbers.HomeId.{HomeId}
-use Rattle.sd_machine.specs.declared.states.State.{State}
+use Rattle.sd_state.specs.declared.states.State.{State}
 use Rattle.sd_shown.specs.Standing.{look_of}
 use Rattle.sd_homes.specs.declared.home.Home.{Home}
 use Rattle.sd_homes.specs.Families.{home_id}

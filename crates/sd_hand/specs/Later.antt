@@ -2,7 +2,7 @@
 -- Source: this project's own.
 use Rattle.std.specs.Prelude.{ℕ, ◌+◌}
 use Rattle.std.proofs.Math.Nat.{le-add_right}
-use Rattle.sd_machine.specs.declared.states.State.{State}
+use Rattle.sd_state.specs.declared.states.State.{State}
 use Rattle.sd_shown.specs.Standing.{look_of}
 use Rattle.sd_shown.proofs.StandingLemmas.{lists-more}
 use Rattle.sd_homes.specs.Families.{list_in}

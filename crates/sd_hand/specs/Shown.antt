@@ -1,10 +1,10 @@
 -- What a home shows of a state.
 -- Source: this project's own.
 use Rattle.std.specs.Prelude.{◌≡◌, ℕ, ◌<◌, ◌/◌, true, List, length, Option, Some, get_or, ⊤}
-use Rattle.sd_machine.specs.declared.states.LockState.TheVariants.{Free}
-use Rattle.sd_machine.specs.declared.states.State.{State}
-use Rattle.sd_machine.specs.States.{cpu_of, thread_of}
-use Rattle.sd_full.specs.Threads.{open_of, lock_of, count_of}
+use Rattle.sd_state.specs.declared.states.LockState.TheVariants.{Free}
+use Rattle.sd_state.specs.declared.states.State.{State}
+use Rattle.sd_state.specs.States.{cpu_of, thread_of}
+use Rattle.sd_machine.specs.Threads.{open_of, lock_of, count_of}
 use Rattle.sd_store.specs.Parts.{view_of}
 use Rattle.sd_types.specs.declared.numbers.HomeId.{HomeId}
 use Rattle.sd_shown.specs.declared.list_id.ListId.{ListId}

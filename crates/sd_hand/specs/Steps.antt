@@ -1,5 +1,5 @@
 -- What becomes of a thread on its way from list to list.
--- Source: this project's own; see `sd_full`'s Changes.
+-- Source: this project's own; see `sd_machine`'s Changes.
 use Rattle.std.specs.Prelude.{◌≡◌, ℕ, List, Option, MatchOption}
 use Rattle.sd_types.specs.declared.numbers.CpuId.{CpuId}
 use Rattle.sd_types.specs.declared.numbers.HomeId.TheVariants as id
@@ -7,9 +7,9 @@ use Rattle.sd_types.specs.declared.numbers.ThreadId.{ThreadId}
 use Rattle.sd_types.specs.declared.events.Put.{Put}
 use Rattle.sd_types.specs.declared.events.Put.TheVariants.{Cpu, RealTime}
 use Rattle.sd_types.specs.declared.works.Work.{Work}
-use Rattle.sd_machine.specs.declared.states.Place.TheVariants.{Running}
-use Rattle.sd_full.specs.Bodies.{arrived, departed}
-use Rattle.sd_full.specs.Threads.{set_of}
+use Rattle.sd_state.specs.declared.states.Place.TheVariants.{Running}
+use Rattle.sd_machine.specs.Bodies.{arrived, departed}
+use Rattle.sd_machine.specs.Threads.{set_of}
 use Rattle.sd_store.specs.declared.spots.Destination.{Destination}
 use Rattle.sd_store.specs.declared.spots.Destination.TheVariants as to
 use Rattle.sd_record.specs.Records.{ThreadRecord}

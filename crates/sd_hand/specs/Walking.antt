@@ -1,13 +1,13 @@
 -- The duties of a walk, by the list and the record of a thread.
--- Source: this project's own; see `sd_full`'s Walking and Prioritising.
+-- Source: this project's own; see `sd_machine`'s Walking and Prioritising.
 use Rattle.std.specs.Prelude.{◌&&◌, ◌||◌, ◌==◌, int_lt, Option, Some, None, if◌then◌else◌}
 use Rattle.std.specs.Ordering.{int_eq}
 use Rattle.sd_types.specs.declared.events.Duty.{Duty}
 use Rattle.sd_types.specs.declared.events.Duty.TheVariants.{Nothing, Walk}
 use Rattle.sd_types.specs.declared.numbers.CpuId.{CpuId}
 use Rattle.sd_types.specs.declared.numbers.ThreadId.{ThreadId}
-use Rattle.sd_machine.specs.declared.states.State.{State}
-use Rattle.sd_full.specs.Changes.{set_duty}
+use Rattle.sd_state.specs.declared.states.State.{State}
+use Rattle.sd_machine.specs.Changes.{set_duty}
 use Rattle.sd_record.specs.Records.{ThreadRecord}
 use Rattle.sd_shown.specs.declared.list_id.ListId.{ListId}
 use Rattle.sd_shown.specs.declared.list_id.ListId.TheVariants.{Waits}

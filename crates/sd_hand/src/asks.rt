@@ -7,7 +7,7 @@ ghost use Rattle.sd_types.specs.declared.numbers.Side.TheVariants.{Writer, Reade
 ghost use Rattle.sd_boxq.specs.Order.{drop_id, find_below, find_first};
 ghost use Rattle.sd_turn.specs.Waiters.{highest};
 ghost use Rattle.sd_record.specs.Records.{ThreadRecord};
-ghost use Rattle.sd_full.specs.Sleeping.{rouse_key};
+ghost use Rattle.sd_machine.specs.Sleeping.{rouse_key};
 ghost use Rattle.sd_store.specs.Parts.{number};
 ghost use Rattle.sd_shown.specs.declared.list_id.ListId.TheVariants.{Naps, Queues, Sleeps, Urgent, Waits};
 ghost use Rattle.sd_shown.specs.Standing.{better, due_of_first, home_at, id_of, is_unbound, key_in, least_to_age, rank_of};
@@ -16,9 +16,9 @@ ghost use Rattle.sd_hand.specs.Hands.{Asks, AsksTwo};
 
 use crate::hand::Hand;
 use sd_homes::{home_at, is_over};
-use sd_machine::LockState;
 use sd_record::Record;
 use sd_shown::ListId;
+use sd_state::LockState;
 use sd_store::{CpuView, Part, rouse_key};
 use sd_types::{ChanId, CpuId, Duty, HomeId, LockId, SetId, ThreadId, home_of_chan, home_of_lock};
 

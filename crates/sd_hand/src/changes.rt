@@ -2,13 +2,13 @@
 
 ghost use Rattle.std.specs.Prelude.{◌≡◌, ℕ, ◌≤◌, [], ◌∷◌, ⊤, IfErr, IfOk};
 ghost use Rattle.sd_types.specs.declared.numbers.HomeId.TheVariants.{RealTime};
-ghost use Rattle.sd_machine.specs.declared.states.CpuState.{CpuState as CpuStateOf};
-ghost use Rattle.sd_machine.specs.declared.states.State.{State as StateOf};
-ghost use Rattle.sd_machine.specs.declared.states.ThreadState.{ThreadState as ThreadStateOf};
-ghost use Rattle.sd_machine.specs.States.{cpu_of, thread_of, with_cpu, with_thread};
-ghost use Rattle.sd_full.specs.Changes.{marked, set_duty, unmarked, with_body, with_cpu_in, without_cpu};
-ghost use Rattle.sd_full.specs.Needs.{CanJoin};
-ghost use Rattle.sd_full.specs.Threads.{open_of, with_open};
+ghost use Rattle.sd_state.specs.declared.states.CpuState.{CpuState as CpuStateOf};
+ghost use Rattle.sd_state.specs.declared.states.State.{State as StateOf};
+ghost use Rattle.sd_state.specs.declared.states.ThreadState.{ThreadState as ThreadStateOf};
+ghost use Rattle.sd_state.specs.States.{cpu_of, thread_of, with_cpu, with_thread};
+ghost use Rattle.sd_machine.specs.Changes.{marked, set_duty, unmarked, with_body, with_cpu_in, without_cpu};
+ghost use Rattle.sd_machine.specs.Needs.{CanJoin};
+ghost use Rattle.sd_machine.specs.Threads.{open_of, with_open};
 ghost use Rattle.sd_store.specs.Parts.{actor_part, view_of};
 ghost use Rattle.sd_store.specs.Words.{Does, Keeps, Lacks};
 ghost use Rattle.sd_shown.specs.Standing.{home_at, list_of, look_of, record_of, without, MayCome};

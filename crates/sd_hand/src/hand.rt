@@ -15,9 +15,9 @@ ghost use Rattle.sd_hand.specs.Hands.{AreApart, AreSlots, AreTaken, Asks, HasNoR
 
 use crate::guide::Guide;
 use sd_homes::{Home, IsFull, Traveller, home_at, same_home};
-use sd_machine::LockState;
 use sd_record::Record;
 use sd_shown::ListId;
+use sd_state::LockState;
 use sd_store::{BodyChange, CpuView, Part};
 use sd_types::{ChanId, CpuId, HomeId, LockId, SetId, ThreadId, Work, home_of_chan, home_of_lock};
 use std::alloc::{AllocError, Global};

@@ -1,8 +1,8 @@
 //! Where each thread of a state stands, over all of its homes. A law of every state; there is nothing to run.
 
 ghost use Rattle.std.specs.Prelude.{◌≡◌, ℕ, ◌<◌, ◌≤◌, List, Option, length};
-ghost use Rattle.sd_machine.specs.declared.states.State.{State as StateOf};
-ghost use Rattle.sd_machine.specs.States.{thread_of};
+ghost use Rattle.sd_state.specs.declared.states.State.{State as StateOf};
+ghost use Rattle.sd_state.specs.States.{thread_of};
 ghost use Rattle.sd_shown.specs.Standing.{list_of};
 ghost use Rattle.sd_homes.specs.declared.home.Home.{Home as HomeOf};
 ghost use Rattle.sd_shown.specs.Numbers.{IsListOf};

@@ -14,8 +14,8 @@ ghost use Rattle.sd_hand.specs.Steps.{list_by, list_put, stepped};
 
 use crate::hand::Hand;
 use sd_homes::Traveller;
-use sd_machine::Place;
 use sd_shown::ListId;
+use sd_state::Place;
 use sd_store::{BodyChange, Destination, set_of};
 use sd_types::{CpuId, Put, ThreadId, Work};
 

@@ -6,8 +6,8 @@ use crate::steps::{Step, is_there, list_by, list_put};
 use crate::walks::{next_walk_at, walk_at};
 use sd_flat::duty_after;
 use sd_homes::home_at;
-use sd_machine::LockState;
 use sd_shown::ListId;
+use sd_state::LockState;
 use sd_store::{BodyChange, Chore, Destination, Part, Store, duty_of, place_by, place_put, rouse};
 use sd_types::{ChanId, CpuId, LockId, Put, ThreadId, Work};
 

@@ -5,10 +5,10 @@ use sd_boxed::Boxed;
 use sd_four::Four;
 use sd_hand::{Acting, Actor, Hand};
 use sd_homes::{ChainHome, CpuHome, Home, RealTimeHome, SleepersHome, Traveller};
-use sd_machine::LockState;
 use sd_mdisp::{dispatched, done};
 use sd_record::Record;
 use sd_shown::ListId;
+use sd_state::LockState;
 use sd_store::{CpuView, Destination, Look, Part, Sets, Spot, Store};
 use sd_types::{
     ChanId, ClassState, CpuId, Duty, LockId, SetId, Side, SysState, ThreadBody, ThreadId,

@@ -15,11 +15,11 @@ use Rattle.sd_types.specs.declared.scripts.Op.{Op}
 use Rattle.sd_types.specs.declared.scripts.Op.TheVariants as op
 use Rattle.sd_types.specs.declared.works.Work.{Work}
 use Rattle.sd_chains.proofs.Moves.{IsPut}
-use Rattle.sd_machine.specs.declared.states.State.{State}
-use Rattle.sd_machine.specs.Operations.{script_of}
-use Rattle.sd_machine.specs.States.{thread_of}
-use Rattle.sd_full.specs.Events.{after}
-use Rattle.sd_full.specs.Threads.{runner, best_waiter}
+use Rattle.sd_state.specs.declared.states.State.{State}
+use Rattle.sd_state.specs.Operations.{script_of}
+use Rattle.sd_state.specs.States.{thread_of}
+use Rattle.sd_machine.specs.Events.{after}
+use Rattle.sd_machine.specs.Threads.{runner, best_waiter}
 use Rattle.sd_sound.specs.Causes.{wants, IsCause}
 use Rattle.sd_sound.proofs.AgreedAfter.{IsReady}
 use Rattle.sd_sound.proofs.Found.{runner_found, waiter_found}

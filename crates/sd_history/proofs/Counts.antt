@@ -23,20 +23,20 @@ use Rattle.sd_types.specs.declared.works.ThreadDecl.{ThreadDecl}
 use Rattle.sd_types.specs.declared.works.Work.{Work}
 use Rattle.sd_types.specs.Works.{is_chan, is_mutex, is_sema}
 use Rattle.sd_chains.proofs.Moves.{put_cases}
-use Rattle.sd_machine.specs.declared.states.Place.{Place}
-use Rattle.sd_machine.specs.declared.states.Place.TheVariants.{Queued, RealTime, Asleep, Ended}
-use Rattle.sd_machine.specs.declared.states.State.{State}
-use Rattle.sd_machine.specs.Opening.{count_of as count_in, first_count, first_cpu, is_urgent, first_thread, first_threads, opening}
-use Rattle.sd_machine.specs.States.{no_thread, thread_of}
-use Rattle.sd_machine.proofs.BestLemmas.{and_left}
-use Rattle.sd_full.specs.Accounts.{entries_of}
-use Rattle.sd_full.specs.Changes.{back_key, finish_op, set_duty, close}
-use Rattle.sd_full.specs.Conditions.{sema_taken, sema_counted}
-use Rattle.sd_full.specs.Events.{drop_ageing, effect, after}
-use Rattle.sd_full.specs.Runs.{final, IsRunFrom}
-use Rattle.sd_full.specs.SetChanges.{cleared, assigned}
-use Rattle.sd_full.specs.Threads.{count_of, best_sleeper, runner}
-use Rattle.sd_full.proofs.RunLemmas.{IsRun-from}
+use Rattle.sd_state.specs.declared.states.Place.{Place}
+use Rattle.sd_state.specs.declared.states.Place.TheVariants.{Queued, RealTime, Asleep, Ended}
+use Rattle.sd_state.specs.declared.states.State.{State}
+use Rattle.sd_state.specs.Opening.{count_of as count_in, first_count, first_cpu, is_urgent, first_thread, first_threads, opening}
+use Rattle.sd_state.specs.States.{no_thread, thread_of}
+use Rattle.sd_state.proofs.BestLemmas.{and_left}
+use Rattle.sd_machine.specs.Accounts.{entries_of}
+use Rattle.sd_machine.specs.Changes.{back_key, finish_op, set_duty, close}
+use Rattle.sd_machine.specs.Conditions.{sema_taken, sema_counted}
+use Rattle.sd_machine.specs.Events.{drop_ageing, effect, after}
+use Rattle.sd_machine.specs.Runs.{final, IsRunFrom}
+use Rattle.sd_machine.specs.SetChanges.{cleared, assigned}
+use Rattle.sd_machine.specs.Threads.{count_of, best_sleeper, runner}
+use Rattle.sd_machine.proofs.RunLemmas.{IsRun-from}
 use Rattle.sd_sound.specs.Causes.{IsCause}
 use Rattle.sd_sound.specs.Laws.{HoldsWhenReached}
 use Rattle.sd_sound.specs.Moves.{Step, step_of}

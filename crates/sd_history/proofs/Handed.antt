@@ -20,17 +20,17 @@ use Rattle.sd_types.specs.declared.scripts.Op.TheVariants as op
 use Rattle.sd_types.specs.declared.works.ThreadDecl.{ThreadDecl}
 use Rattle.sd_types.specs.declared.works.Work.{Work}
 use Rattle.sd_types.specs.Works.{is_chan, is_mutex, is_sema}
-use Rattle.sd_machine.specs.declared.states.Place.{Place}
-use Rattle.sd_machine.specs.declared.states.Place.TheVariants.{Running, Queued, RealTime, Waiting, Asleep, Napping, Ended}
-use Rattle.sd_machine.specs.declared.states.State.{State}
-use Rattle.sd_machine.specs.Operations.{script_of}
-use Rattle.sd_machine.specs.Opening.{first_thread, first_threads, opening}
-use Rattle.sd_machine.specs.States.{no_thread, thread_of, cpu_of}
-use Rattle.sd_machine.proofs.BestLemmas.{and_left}
-use Rattle.sd_full.specs.Changes.{back_key, place_put}
-use Rattle.sd_full.specs.Events.{after}
-use Rattle.sd_full.specs.Runs.{final, IsReached}
-use Rattle.sd_full.specs.Threads.{thread_id, count_of, best_sleeper, is_asleep, is_asleep_below, is_waiting_at, is_due}
+use Rattle.sd_state.specs.declared.states.Place.{Place}
+use Rattle.sd_state.specs.declared.states.Place.TheVariants.{Running, Queued, RealTime, Waiting, Asleep, Napping, Ended}
+use Rattle.sd_state.specs.declared.states.State.{State}
+use Rattle.sd_state.specs.Operations.{script_of}
+use Rattle.sd_state.specs.Opening.{first_thread, first_threads, opening}
+use Rattle.sd_state.specs.States.{no_thread, thread_of, cpu_of}
+use Rattle.sd_state.proofs.BestLemmas.{and_left}
+use Rattle.sd_machine.specs.Changes.{back_key, place_put}
+use Rattle.sd_machine.specs.Events.{after}
+use Rattle.sd_machine.specs.Runs.{final, IsReached}
+use Rattle.sd_machine.specs.Threads.{thread_id, count_of, best_sleeper, is_asleep, is_asleep_below, is_waiting_at, is_due}
 use Rattle.sd_sound.specs.Causes.{IsCause}
 use Rattle.sd_sound.specs.Laws.{woken_by, HoldsWhenReached}
 use Rattle.sd_sound.specs.Moves.Step.{Go}

@@ -19,22 +19,22 @@ use Rattle.sd_types.specs.declared.scripts.Request.{Request}
 use Rattle.sd_types.specs.declared.works.Work.{Work}
 use Rattle.sd_types.specs.Priorities.{eff_as}
 use Rattle.sd_chains.proofs.Moves.{put_cases}
-use Rattle.sd_full.specs.declared.plans.Requeue.{Requeue}
-use Rattle.sd_full.specs.declared.plans.Requeue.TheVariants.{Stays, Behind, Anew}
-use Rattle.sd_machine.specs.declared.states.Place.{Place}
-use Rattle.sd_machine.specs.declared.states.Place.TheVariants.{Running, Queued, RealTime, Waiting, Asleep, Napping, Ended}
-use Rattle.sd_machine.specs.declared.states.ThreadState.{ThreadState}
-use Rattle.sd_machine.specs.declared.states.State.{State}
-use Rattle.sd_machine.specs.Opening.{opening}
-use Rattle.sd_machine.specs.States.{no_thread, thread_of, cpu_of, is_running, is_queued, is_ready}
-use Rattle.sd_machine.proofs.BestLemmas.{and_left}
-use Rattle.sd_full.specs.Bodies.{aged_class}
-use Rattle.sd_full.specs.Changes.{back_key}
-use Rattle.sd_full.specs.Events.{after}
-use Rattle.sd_full.specs.Requeueing.{requeue}
-use Rattle.sd_full.specs.Runs.{final}
-use Rattle.sd_full.specs.SetChanges.{bound_put, unbound_put, bind_put, bind_to}
-use Rattle.sd_full.specs.Threads.{best_sleeper, is_asleep, is_ts, next_to_age, runner, eff_of}
+use Rattle.sd_machine.specs.declared.plans.Requeue.{Requeue}
+use Rattle.sd_machine.specs.declared.plans.Requeue.TheVariants.{Stays, Behind, Anew}
+use Rattle.sd_state.specs.declared.states.Place.{Place}
+use Rattle.sd_state.specs.declared.states.Place.TheVariants.{Running, Queued, RealTime, Waiting, Asleep, Napping, Ended}
+use Rattle.sd_state.specs.declared.states.ThreadState.{ThreadState}
+use Rattle.sd_state.specs.declared.states.State.{State}
+use Rattle.sd_state.specs.Opening.{opening}
+use Rattle.sd_state.specs.States.{no_thread, thread_of, cpu_of, is_running, is_queued, is_ready}
+use Rattle.sd_state.proofs.BestLemmas.{and_left}
+use Rattle.sd_machine.specs.Bodies.{aged_class}
+use Rattle.sd_machine.specs.Changes.{back_key}
+use Rattle.sd_machine.specs.Events.{after}
+use Rattle.sd_machine.specs.Requeueing.{requeue}
+use Rattle.sd_machine.specs.Runs.{final}
+use Rattle.sd_machine.specs.SetChanges.{bound_put, unbound_put, bind_put, bind_to}
+use Rattle.sd_machine.specs.Threads.{best_sleeper, is_asleep, is_ts, next_to_age, runner, eff_of}
 use Rattle.sd_sound.specs.Causes.{IsRequeuedAt, IsAnswered, IsCause}
 use Rattle.sd_sound.specs.Laws.{woken_by}
 use Rattle.sd_sound.specs.Moves.{Step, put_step_if, reordered_step, aged_step, prio_step, bind_step, step_of}

@@ -15,17 +15,17 @@ use Rattle.sd_types.specs.declared.scripts.Op.TheVariants.{SemaP as SemaPOp, Sem
 use Rattle.sd_types.specs.declared.works.ChanKind.{ChanKind}
 use Rattle.sd_types.specs.declared.works.Work.{Work}
 use Rattle.sd_types.specs.Works.{is_sema}
-use Rattle.sd_machine.specs.declared.states.Place.{Place}
-use Rattle.sd_machine.specs.declared.states.Place.TheVariants.{Running, Asleep}
-use Rattle.sd_machine.specs.declared.states.State.{State}
-use Rattle.sd_machine.specs.States.{thread_of}
-use Rattle.sd_machine.specs.Accounts.{is_wake_of}
-use Rattle.sd_machine.specs.Operations.{script_of}
-use Rattle.sd_machine.specs.Opening.{first_count, opening}
-use Rattle.sd_full.specs.Accounts.{is_wake, entries_of}
-use Rattle.sd_full.specs.Changes.{back_key}
-use Rattle.sd_full.specs.Runs.{final, IsRun}
-use Rattle.sd_full.specs.Threads.{count_of, is_asleep}
+use Rattle.sd_state.specs.declared.states.Place.{Place}
+use Rattle.sd_state.specs.declared.states.Place.TheVariants.{Running, Asleep}
+use Rattle.sd_state.specs.declared.states.State.{State}
+use Rattle.sd_state.specs.States.{thread_of}
+use Rattle.sd_state.specs.Accounts.{is_wake_of}
+use Rattle.sd_state.specs.Operations.{script_of}
+use Rattle.sd_state.specs.Opening.{first_count, opening}
+use Rattle.sd_machine.specs.Accounts.{is_wake, entries_of}
+use Rattle.sd_machine.specs.Changes.{back_key}
+use Rattle.sd_machine.specs.Runs.{final, IsRun}
+use Rattle.sd_machine.specs.Threads.{count_of, is_asleep}
 use Rattle.sd_sound.specs.Laws.{woken_by, is_runnable}
 
 -- Woken threads.

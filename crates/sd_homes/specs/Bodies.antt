@@ -4,7 +4,7 @@ use Rattle.std.specs.Prelude.{◌≡◌, ℕ, ◌<◌, false, length, IfSome, Is
 use Rattle.sd_types.specs.declared.bodies.ThreadBody.{ThreadBody}
 use Rattle.sd_types.specs.declared.works.Work.{Work}
 use Rattle.sd_types.specs.Scripts.{is_held}
-use Rattle.sd_machine.specs.Operations.{script_of}
+use Rattle.sd_state.specs.Operations.{script_of}
 use Rattle.sd_store.specs.declared.changes.BodyChange.{BodyChange}
 use Rattle.sd_store.specs.declared.changes.BodyChange.TheVariants.{RunTick, FinishOp, Class, SendBack, Hold, LetGo, Inherit, Looped}
 

@@ -5,10 +5,10 @@ use Rattle.sd_types.specs.declared.numbers.CpuId.{CpuId}
 use Rattle.sd_types.specs.declared.numbers.HomeId.{HomeId}
 use Rattle.sd_types.specs.declared.numbers.HomeId.TheVariants as id
 use Rattle.sd_record.specs.Records.{ThreadRecord}
-use Rattle.sd_machine.specs.declared.states.LockState.{LockState}
-use Rattle.sd_machine.specs.declared.states.LockState.TheVariants.{Free}
+use Rattle.sd_state.specs.declared.states.LockState.{LockState}
+use Rattle.sd_state.specs.declared.states.LockState.TheVariants.{Free}
 use Rattle.sd_boxq.specs.Order.{find_id, drop_id}
-use Rattle.sd_full.specs.Changes.{with_cpu_in, without_cpu}
+use Rattle.sd_machine.specs.Changes.{with_cpu_in, without_cpu}
 use Rattle.sd_store.specs.declared.parts.CpuView.{CpuView}
 use Rattle.sd_shown.specs.declared.list_id.ListId.{ListId}
 use Rattle.sd_shown.specs.Standing.{id_of, insert_at}

@@ -3,7 +3,7 @@
 ghost use Rattle.std.specs.Prelude.{◌≡◌, ◌/◌, ◌<◌, true, false, get_or, length, set, slice_get, MatchOption};
 ghost use Rattle.std.specs.Option.{option_copied};
 ghost use Rattle.sd_boxq.specs.Order.{find_id, drop_id, insert_ranked};
-ghost use Rattle.sd_machine.specs.declared.states.LockState.TheVariants.{Free};
+ghost use Rattle.sd_state.specs.declared.states.LockState.TheVariants.{Free};
 ghost use Rattle.sd_turn.specs.Waiters.{highest_waiter, of_lock, waiters_at, with_waiters, without_id};
 ghost use Rattle.sd_shown.specs.Standing.{id_of, key_in, rank_of};
 ghost use Rattle.sd_types.specs.declared.numbers.HomeId.TheVariants.{Chain};
@@ -12,9 +12,9 @@ ghost use Rattle.sd_homes.specs.Homes.{OfChain, empty_chain, is_of, with_states,
 
 use crate::traveller::Traveller;
 use sd_four::Four;
-use sd_machine::LockState;
 use sd_record::Record;
 use sd_shown::ListId;
+use sd_state::LockState;
 use sd_turn::TurnChain;
 use sd_types::{LockId, Side, ThreadId};
 use std::marker::Model;

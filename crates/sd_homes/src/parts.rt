@@ -11,8 +11,8 @@ ghost use Rattle.sd_homes.specs.Families.{counting, list_in, lock_in, locking, o
 
 use crate::home::Home;
 use crate::real_time::IsFull;
-use sd_machine::LockState;
 use sd_record::Record;
+use sd_state::LockState;
 use sd_store::CpuView;
 use sd_types::{ChanId, CpuId, LockId, ThreadId};
 

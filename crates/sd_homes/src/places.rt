@@ -3,9 +3,9 @@
 ghost use Rattle.std.specs.Prelude.{◌≡◌, int_le, pos};
 ghost use Rattle.sd_shown.specs.Standing.{list_at, record_key};
 
-use sd_machine::Place;
 use sd_record::Record;
 use sd_shown::ListId;
+use sd_state::Place;
 use sd_types::CpuId;
 
 /// Where a thread in this place stands, which ran last on this processor.

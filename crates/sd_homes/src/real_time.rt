@@ -3,7 +3,7 @@
 ghost use Rattle.std.specs.Prelude.{◌≡◌, ◌≤◌, false, length, slice_get, IfErr, IfOk, MatchOption};
 ghost use Rattle.std.specs.Option.{option_copied};
 ghost use Rattle.sd_boxq.specs.Order.{find_id, drop_id, insert_ranked};
-ghost use Rattle.sd_full.specs.Changes.{with_cpu_in, without_cpu};
+ghost use Rattle.sd_machine.specs.Changes.{with_cpu_in, without_cpu};
 ghost use Rattle.sd_shown.specs.Standing.{id_of, key_in, rank_of};
 ghost use Rattle.sd_types.specs.declared.numbers.HomeId.TheVariants.{RealTime};
 ghost use Rattle.sd_homes.specs.Kinds.{IsListed, set_has, set_list};

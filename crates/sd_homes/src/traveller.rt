@@ -3,7 +3,7 @@
 ghost use Rattle.std.specs.Prelude.{◌≡◌, ◌+◌, ◌<◌, IfOk};
 ghost use Rattle.sd_types.specs.Priorities.{eff};
 ghost use Rattle.sd_turn.specs.Waiters.{IsIdle};
-ghost use Rattle.sd_full.specs.Bodies.{arrived, departed};
+ghost use Rattle.sd_machine.specs.Bodies.{arrived, departed};
 ghost use Rattle.sd_shown.specs.Standing.{record_key};
 ghost use Rattle.sd_store.specs.Bodies.{changed};
 ghost use Rattle.sd_homes.specs.Bodies.{CanChangeThread};
@@ -12,8 +12,8 @@ ghost use Rattle.sd_homes.specs.Homes.{with_body_of, with_key};
 use crate::bodies;
 use crate::places::record_key;
 use sd_boxq::Node;
-use sd_machine::Place;
 use sd_record::Record;
+use sd_state::Place;
 use sd_store::BodyChange;
 use sd_turn::{Rack, Turnstile};
 use sd_types::{CpuId, ThreadId, Work};

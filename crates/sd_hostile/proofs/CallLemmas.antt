@@ -9,10 +9,10 @@ use Rattle.sd_types.specs.declared.numbers.HomeId.{HomeId}
 use Rattle.sd_types.specs.declared.numbers.ThreadId.{ThreadId}
 use Rattle.sd_types.specs.declared.events.Entry.{Entry}
 use Rattle.sd_types.specs.declared.events.Which.{Which}
-use Rattle.sd_machine.specs.Opening.{opening}
-use Rattle.sd_machine.specs.States.{cpu_of}
-use Rattle.sd_full.specs.Choosing.{hint_shown}
-use Rattle.sd_full.specs.Runs.{final}
+use Rattle.sd_state.specs.Opening.{opening}
+use Rattle.sd_state.specs.States.{cpu_of}
+use Rattle.sd_machine.specs.Choosing.{hint_shown}
+use Rattle.sd_machine.specs.Runs.{final}
 use Rattle.sd_homes.specs.declared.home.Home.{Home}
 use Rattle.sd_homes.specs.Families.{home_id}
 use Rattle.sd_hand.specs.Hands.{held}

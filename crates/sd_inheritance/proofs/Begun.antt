@@ -17,20 +17,20 @@ use Rattle.sd_types.specs.declared.scripts.Request.{Request}
 use Rattle.sd_types.specs.declared.works.Work.{Work}
 use Rattle.sd_chains.specs.Graphs as G
 use Rattle.sd_chains.proofs.Moves.{IsPut, put_cases}
-use Rattle.sd_machine.specs.declared.states.Place.{Place}
-use Rattle.sd_machine.specs.declared.states.Place.TheVariants.{Running, Queued, RealTime, Waiting, Asleep, Napping, Ended}
-use Rattle.sd_machine.specs.declared.states.ThreadState.{ThreadState}
-use Rattle.sd_machine.specs.declared.states.State.{State}
-use Rattle.sd_machine.specs.States.{no_thread, thread_of, cpu_of}
-use Rattle.sd_machine.specs.Operations.{op_of}
-use Rattle.sd_full.specs.Threads.{eff_of, greatest_waiting}
-use Rattle.sd_full.specs.Changes.{back_key, set_class, set_number, set_looped, set_duty}
-use Rattle.sd_full.specs.Requeueing.{reordered}
-use Rattle.sd_full.specs.Walking.{is_back, next_walk, walked, willed, walk_ended}
-use Rattle.sd_full.specs.Prioritising.{answer_to, new_class, walk_from, changed_by, changed_on, reprioritised}
-use Rattle.sd_full.specs.LockGraph.{wait_of, walk_of}
-use Rattle.sd_full.specs.Events.{dropped_duty, drop_ageing, effect, after}
-use Rattle.sd_full.proofs.ShapeLemmas.{IsShaped, then_shape, set_class_shape, set_number_shape, set_looped_shape, reordered_shape}
+use Rattle.sd_state.specs.declared.states.Place.{Place}
+use Rattle.sd_state.specs.declared.states.Place.TheVariants.{Running, Queued, RealTime, Waiting, Asleep, Napping, Ended}
+use Rattle.sd_state.specs.declared.states.ThreadState.{ThreadState}
+use Rattle.sd_state.specs.declared.states.State.{State}
+use Rattle.sd_state.specs.States.{no_thread, thread_of, cpu_of}
+use Rattle.sd_state.specs.Operations.{op_of}
+use Rattle.sd_machine.specs.Threads.{eff_of, greatest_waiting}
+use Rattle.sd_machine.specs.Changes.{back_key, set_class, set_number, set_looped, set_duty}
+use Rattle.sd_machine.specs.Requeueing.{reordered}
+use Rattle.sd_machine.specs.Walking.{is_back, next_walk, walked, willed, walk_ended}
+use Rattle.sd_machine.specs.Prioritising.{answer_to, new_class, walk_from, changed_by, changed_on, reprioritised}
+use Rattle.sd_machine.specs.LockGraph.{wait_of, walk_of}
+use Rattle.sd_machine.specs.Events.{dropped_duty, drop_ageing, effect, after}
+use Rattle.sd_machine.proofs.ShapeLemmas.{IsShaped, then_shape, set_class_shape, set_number_shape, set_looped_shape, reordered_shape}
 use Rattle.sd_sound.proofs.CpuWords as C
 use Rattle.sd_sound.proofs.LockTable as T
 use Rattle.sd_sound.proofs.LockTable.{duty_part, duty_marks}

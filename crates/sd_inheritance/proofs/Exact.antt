@@ -14,13 +14,13 @@ use Rattle.sd_types.proofs.PriorityLemmas.{greatest-base}
 use Rattle.sd_types.proofs.WilledLemmas.{for-here, for-later, lock_self}
 use Rattle.sd_chains.specs.Graphs as G
 use Rattle.sd_chains.proofs.Chains.{some_is}
-use Rattle.sd_machine.specs.declared.states.Place.{Place}
-use Rattle.sd_machine.specs.declared.states.Place.TheVariants.{Running, Queued, RealTime, Waiting, Asleep, Napping, Ended}
-use Rattle.sd_machine.specs.declared.states.ThreadState.{ThreadState}
-use Rattle.sd_machine.specs.declared.states.State.{State}
-use Rattle.sd_machine.specs.States.{thread_of, no_thread}
-use Rattle.sd_full.specs.Threads.{is_waiting, greater, greatest_waiting}
-use Rattle.sd_full.specs.LockGraph.{wait_of, graph}
+use Rattle.sd_state.specs.declared.states.Place.{Place}
+use Rattle.sd_state.specs.declared.states.Place.TheVariants.{Running, Queued, RealTime, Waiting, Asleep, Napping, Ended}
+use Rattle.sd_state.specs.declared.states.ThreadState.{ThreadState}
+use Rattle.sd_state.specs.declared.states.State.{State}
+use Rattle.sd_state.specs.States.{thread_of, no_thread}
+use Rattle.sd_machine.specs.Threads.{is_waiting, greater, greatest_waiting}
+use Rattle.sd_machine.specs.LockGraph.{wait_of, graph}
 
 -- what the scan of a list gives for the waiters of a lock
 abbrev IsGreatestOf : ℕ → List ThreadState → Option ℕ → Type 0

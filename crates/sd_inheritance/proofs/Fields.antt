@@ -1,10 +1,10 @@
 -- What a dropped ageing leaves.
 use Rattle.std.proofs.Common.{◌≡◌, ℕ, refl}
 use Rattle.sd_types.specs.declared.events.Event.{Event}
-use Rattle.sd_machine.specs.declared.states.ThreadState.{ThreadState}
-use Rattle.sd_machine.specs.declared.states.State.{State}
-use Rattle.sd_full.specs.Changes.{set_duty}
-use Rattle.sd_full.specs.Events.{drop_ageing}
+use Rattle.sd_state.specs.declared.states.ThreadState.{ThreadState}
+use Rattle.sd_state.specs.declared.states.State.{State}
+use Rattle.sd_machine.specs.Changes.{set_duty}
+use Rattle.sd_machine.specs.Events.{drop_ageing}
 use Rattle.sd_sound.proofs.Words.{Same, set_duty_same}
 
 pub same_threads : (s : State) (c : ℕ) (e : Event) → (drop_ageing s c e).threads ≡ s.threads

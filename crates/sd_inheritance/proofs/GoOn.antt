@@ -16,14 +16,14 @@ use Rattle.sd_types.specs.declared.works.Work.{Work}
 use Rattle.sd_chains.specs.Graphs.{InCycle}
 use Rattle.sd_chains.proofs.Steps.{cycle_stays}
 use Rattle.sd_chains.proofs.WillMove.{closed_cycle}
-use Rattle.sd_machine.specs.declared.states.Place.{Place}
-use Rattle.sd_machine.specs.declared.states.Place.TheVariants.{Running, Queued, RealTime, Waiting, Asleep, Napping, Ended}
-use Rattle.sd_machine.specs.declared.states.State.{State}
-use Rattle.sd_machine.specs.States.{thread_of, cpu_of}
-use Rattle.sd_full.specs.Changes.{back_key}
-use Rattle.sd_full.specs.Walking.{next_walk}
-use Rattle.sd_full.specs.LockGraph.{wait_of, owner_of, walk_of, graph}
-use Rattle.sd_full.specs.Events.{after}
+use Rattle.sd_state.specs.declared.states.Place.{Place}
+use Rattle.sd_state.specs.declared.states.Place.TheVariants.{Running, Queued, RealTime, Waiting, Asleep, Napping, Ended}
+use Rattle.sd_state.specs.declared.states.State.{State}
+use Rattle.sd_state.specs.States.{thread_of, cpu_of}
+use Rattle.sd_machine.specs.Changes.{back_key}
+use Rattle.sd_machine.specs.Walking.{next_walk}
+use Rattle.sd_machine.specs.LockGraph.{wait_of, owner_of, walk_of, graph}
+use Rattle.sd_machine.specs.Events.{after}
 use Rattle.sd_sound.specs.Causes.{IsCause}
 use Rattle.sd_sound.proofs.Ready.{ready_cause, maker_inside}
 use Rattle.sd_inheritance.specs.Laws.{Closes, WalkGoesOn, WalksGoOn, WalksEndAtUnowned}

@@ -22,19 +22,19 @@ use Rattle.sd_chains.proofs.HolderLemmas.{owner_alone, free_unheld}
 use Rattle.sd_chains.proofs.Moves.{IsSame, IsPut, SameEff, IsQuiet, IsBlock, IsRelease, IsAcquire, IsLeave, none_some, unowned}
 use Rattle.sd_chains.proofs.Steps.{exact_stays}
 use Rattle.sd_chains.proofs.Chains.{some_is}
-use Rattle.sd_machine.specs.declared.states.LockState.{LockState}
-use Rattle.sd_machine.specs.declared.states.LockState.TheVariants.{Free, Owned, ReadHeld, Passing}
-use Rattle.sd_machine.specs.declared.states.Place.TheVariants.{Ended}
-use Rattle.sd_machine.specs.declared.states.ThreadState.{ThreadState}
-use Rattle.sd_machine.specs.declared.states.State.{State}
-use Rattle.sd_machine.specs.States.{no_thread, thread_of, cpu_of, with_thread}
-use Rattle.sd_machine.specs.Operations.{op_of}
-use Rattle.sd_machine.proofs.BestLemmas.{and_left}
-use Rattle.sd_full.specs.Threads.{thread_id, lock_of, best_waiter}
-use Rattle.sd_full.specs.Changes.{back_key, place_put, set_duty}
-use Rattle.sd_full.specs.Locking.{side_of, others_waiting, granted, granted_to_writer, granted_to_reader, one_reader_more}
-use Rattle.sd_full.specs.LockGraph.{wait_of, owner_of, walk_of, graph}
-use Rattle.sd_full.specs.Events.{dropped_duty, drop_ageing, effect, after}
+use Rattle.sd_state.specs.declared.states.LockState.{LockState}
+use Rattle.sd_state.specs.declared.states.LockState.TheVariants.{Free, Owned, ReadHeld, Passing}
+use Rattle.sd_state.specs.declared.states.Place.TheVariants.{Ended}
+use Rattle.sd_state.specs.declared.states.ThreadState.{ThreadState}
+use Rattle.sd_state.specs.declared.states.State.{State}
+use Rattle.sd_state.specs.States.{no_thread, thread_of, cpu_of, with_thread}
+use Rattle.sd_state.specs.Operations.{op_of}
+use Rattle.sd_state.proofs.BestLemmas.{and_left}
+use Rattle.sd_machine.specs.Threads.{thread_id, lock_of, best_waiter}
+use Rattle.sd_machine.specs.Changes.{back_key, place_put, set_duty}
+use Rattle.sd_machine.specs.Locking.{side_of, others_waiting, granted, granted_to_writer, granted_to_reader, one_reader_more}
+use Rattle.sd_machine.specs.LockGraph.{wait_of, owner_of, walk_of, graph}
+use Rattle.sd_machine.specs.Events.{dropped_duty, drop_ageing, effect, after}
 use Rattle.sd_sound.specs.Causes.{IsCause}
 use Rattle.sd_sound.specs.Holding.{lock_state, pass_of, table}
 use Rattle.sd_sound.specs.Moves.{step_of}

@@ -14,18 +14,18 @@ use Rattle.sd_types.specs.Willed.{Numbers}
 use Rattle.sd_chains.specs.Graphs as G
 use Rattle.sd_chains.specs.Holders as H
 use Rattle.sd_chains.proofs.Moves.{IsSame, IsQuiet, SameEff}
-use Rattle.sd_machine.specs.declared.states.LockState.{LockState}
-use Rattle.sd_machine.specs.declared.states.LockState.TheVariants.{Free, Owned, ReadHeld, Passing}
-use Rattle.sd_machine.specs.declared.states.Place.{Place}
-use Rattle.sd_machine.specs.declared.states.Place.TheVariants.{Running, Queued, RealTime, Waiting, Asleep, Napping, Ended}
-use Rattle.sd_machine.specs.declared.states.State.{State}
-use Rattle.sd_machine.specs.States.{thread_of, cpu_of, is_queued}
-use Rattle.sd_machine.proofs.BestLemmas.{and_left}
-use Rattle.sd_full.specs.Threads.{lock_of, is_ts, runner}
-use Rattle.sd_full.specs.Changes.{set_duty}
-use Rattle.sd_full.specs.Locking.{one_more}
-use Rattle.sd_full.specs.LockGraph.{wait_of, owner_of, graph}
-use Rattle.sd_full.specs.Events.{drop_ageing, effect, after}
+use Rattle.sd_state.specs.declared.states.LockState.{LockState}
+use Rattle.sd_state.specs.declared.states.LockState.TheVariants.{Free, Owned, ReadHeld, Passing}
+use Rattle.sd_state.specs.declared.states.Place.{Place}
+use Rattle.sd_state.specs.declared.states.Place.TheVariants.{Running, Queued, RealTime, Waiting, Asleep, Napping, Ended}
+use Rattle.sd_state.specs.declared.states.State.{State}
+use Rattle.sd_state.specs.States.{thread_of, cpu_of, is_queued}
+use Rattle.sd_state.proofs.BestLemmas.{and_left}
+use Rattle.sd_machine.specs.Threads.{lock_of, is_ts, runner}
+use Rattle.sd_machine.specs.Changes.{set_duty}
+use Rattle.sd_machine.specs.Locking.{one_more}
+use Rattle.sd_machine.specs.LockGraph.{wait_of, owner_of, graph}
+use Rattle.sd_machine.specs.Events.{drop_ageing, effect, after}
 use Rattle.sd_sound.specs.Causes.{IsCause}
 use Rattle.sd_sound.specs.Holding.{lock_state, pass_of}
 use Rattle.sd_sound.specs.Moves.{Step, step_of}

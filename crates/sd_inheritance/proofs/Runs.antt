@@ -25,18 +25,18 @@ use Rattle.sd_chains.proofs.Greatest.{is_chain_max}
 use Rattle.sd_chains.proofs.Moves.{none_some, quiet_step, block_step, release_step, acquire_step, leave_step, end_step, rebase_step}
 use Rattle.sd_chains.proofs.Steps.{IsStep as IsGraphStep, step_sound, cycle_stays, empty_sound}
 use Rattle.sd_chains.proofs.WillMove.{will_step}
-use Rattle.sd_machine.specs.declared.states.ThreadState.{ThreadState}
-use Rattle.sd_machine.specs.declared.states.State.{State}
-use Rattle.sd_machine.specs.declared.states.LockState.TheVariants.{Free}
-use Rattle.sd_machine.specs.declared.states.Place.TheVariants.{Queued, RealTime}
-use Rattle.sd_machine.specs.States.{no_thread, no_cpu, thread_of, cpu_of}
-use Rattle.sd_machine.specs.Opening.{first_cpu, is_urgent, first_thread, first_threads, first_cpu_state, opening}
-use Rattle.sd_full.specs.Threads.{lock_of}
-use Rattle.sd_full.specs.Changes.{back_key}
-use Rattle.sd_full.specs.LockGraph.{wait_of, owner_of, walk_of, number_at, graph, cycles_of}
-use Rattle.sd_full.specs.Events.{next, after}
-use Rattle.sd_full.specs.Runs.{final, IsRun, IsRunFrom, IsReached}
-use Rattle.sd_full.proofs.RunLemmas.{final-append, IsRun-from, from-IsRun, IsRunFrom-front, IsRunFrom-rest}
+use Rattle.sd_state.specs.declared.states.ThreadState.{ThreadState}
+use Rattle.sd_state.specs.declared.states.State.{State}
+use Rattle.sd_state.specs.declared.states.LockState.TheVariants.{Free}
+use Rattle.sd_state.specs.declared.states.Place.TheVariants.{Queued, RealTime}
+use Rattle.sd_state.specs.States.{no_thread, no_cpu, thread_of, cpu_of}
+use Rattle.sd_state.specs.Opening.{first_cpu, is_urgent, first_thread, first_threads, first_cpu_state, opening}
+use Rattle.sd_machine.specs.Threads.{lock_of}
+use Rattle.sd_machine.specs.Changes.{back_key}
+use Rattle.sd_machine.specs.LockGraph.{wait_of, owner_of, walk_of, number_at, graph, cycles_of}
+use Rattle.sd_machine.specs.Events.{next, after}
+use Rattle.sd_machine.specs.Runs.{final, IsRun, IsRunFrom, IsReached}
+use Rattle.sd_machine.proofs.RunLemmas.{final-append, IsRun-from, from-IsRun, IsRunFrom-front, IsRunFrom-rest}
 use Rattle.sd_sound.specs.Causes.{IsCause}
 use Rattle.sd_sound.proofs.AgreedAfter.{IsReady}
 use Rattle.sd_sound.proofs.FineLemmas.{fine_reached}

@@ -11,14 +11,14 @@ use Rattle.sd_types.specs.Willed.{Numbers, changed_number}
 use Rattle.sd_types.proofs.WilledLemmas.{number_for-with, number_for-without, number_for-with_other, number_for-without_other}
 use Rattle.sd_chains.specs.Graphs as G
 use Rattle.sd_chains.proofs.Moves.{IsPut, IsSame, SameWilled, OthersWilled, put_cases}
-use Rattle.sd_machine.specs.declared.states.LockState.{LockState}
-use Rattle.sd_machine.specs.declared.states.LockState.TheVariants.{Free}
-use Rattle.sd_machine.specs.declared.states.Place.{Place}
-use Rattle.sd_machine.specs.declared.states.Place.TheVariants.{Running, Queued, RealTime, Waiting, Asleep, Napping, Ended}
-use Rattle.sd_machine.specs.declared.states.State.{State}
-use Rattle.sd_machine.specs.States.{thread_of}
-use Rattle.sd_full.specs.Threads.{lock_of}
-use Rattle.sd_full.specs.LockGraph.{wait_of, owner_of, number_at, graph}
+use Rattle.sd_state.specs.declared.states.LockState.{LockState}
+use Rattle.sd_state.specs.declared.states.LockState.TheVariants.{Free}
+use Rattle.sd_state.specs.declared.states.Place.{Place}
+use Rattle.sd_state.specs.declared.states.Place.TheVariants.{Running, Queued, RealTime, Waiting, Asleep, Napping, Ended}
+use Rattle.sd_state.specs.declared.states.State.{State}
+use Rattle.sd_state.specs.States.{thread_of}
+use Rattle.sd_machine.specs.Threads.{lock_of}
+use Rattle.sd_machine.specs.LockGraph.{wait_of, owner_of, number_at, graph}
 use Rattle.sd_sound.specs.Moves.{Step}
 use Rattle.sd_sound.specs.Moves.Step.{Stay, Go}
 use Rattle.sd_sound.proofs.AgreedLemmas.{locks_put}

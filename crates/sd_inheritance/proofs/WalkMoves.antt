@@ -21,17 +21,17 @@ use Rattle.sd_chains.proofs.Moves.{IsSame, IsPut, IsQuiet, IsEnd, IsRebase, none
 use Rattle.sd_chains.proofs.Chains.{some_is}
 use Rattle.sd_chains.proofs.WillMove.{IsNext, IsClosed, IsWill}
 use Rattle.sd_chains.proofs.WillMove.IsNext.{ends_free, ends_looped, ends_back, goes_anew, goes_same}
-use Rattle.sd_machine.specs.declared.states.LockState.{LockState}
-use Rattle.sd_machine.specs.declared.states.LockState.TheVariants.{Free, Owned, ReadHeld, Passing}
-use Rattle.sd_machine.specs.declared.states.Place.{Place}
-use Rattle.sd_machine.specs.declared.states.Place.TheVariants.{Running, Queued, RealTime, Waiting, Asleep, Napping, Ended}
-use Rattle.sd_machine.specs.declared.states.State.{State}
-use Rattle.sd_machine.specs.States.{thread_of, cpu_of}
-use Rattle.sd_full.specs.Threads.{lock_of, greatest_waiting}
-use Rattle.sd_full.specs.Changes.{set_duty}
-use Rattle.sd_full.specs.Walking.{is_back, next_walk}
-use Rattle.sd_full.specs.LockGraph.{wait_of, owner_of, walk_of, graph}
-use Rattle.sd_full.specs.Events.{dropped_duty, drop_ageing, effect, after}
+use Rattle.sd_state.specs.declared.states.LockState.{LockState}
+use Rattle.sd_state.specs.declared.states.LockState.TheVariants.{Free, Owned, ReadHeld, Passing}
+use Rattle.sd_state.specs.declared.states.Place.{Place}
+use Rattle.sd_state.specs.declared.states.Place.TheVariants.{Running, Queued, RealTime, Waiting, Asleep, Napping, Ended}
+use Rattle.sd_state.specs.declared.states.State.{State}
+use Rattle.sd_state.specs.States.{thread_of, cpu_of}
+use Rattle.sd_machine.specs.Threads.{lock_of, greatest_waiting}
+use Rattle.sd_machine.specs.Changes.{set_duty}
+use Rattle.sd_machine.specs.Walking.{is_back, next_walk}
+use Rattle.sd_machine.specs.LockGraph.{wait_of, owner_of, walk_of, graph}
+use Rattle.sd_machine.specs.Events.{dropped_duty, drop_ageing, effect, after}
 use Rattle.sd_sound.specs.Causes.{IsCause}
 use Rattle.sd_sound.specs.Moves.{step_of}
 use Rattle.sd_sound.proofs.AgreedAfter.{IsReady}

@@ -19,22 +19,22 @@ use Rattle.sd_types.specs.declared.events.Put.{Put}
 use Rattle.sd_types.specs.declared.works.Work.{Work}
 use Rattle.sd_types.specs.Works.{is_mutex}
 use Rattle.sd_chains.specs.Graphs as G
-use Rattle.sd_machine.specs.declared.states.LockState.{LockState}
-use Rattle.sd_machine.specs.declared.states.LockState.TheVariants.{Free, Owned, ReadHeld, Passing}
-use Rattle.sd_machine.specs.declared.states.CpuState.{CpuState}
-use Rattle.sd_machine.specs.declared.states.State.{State}
-use Rattle.sd_machine.specs.States.{thread_of, cpu_of}
-use Rattle.sd_full.specs.Threads.{lock_of, with_lock, runner, best_waiter, best_sleeper, best_sleeper_below, priority_of, has_waiters, eff_of}
-use Rattle.sd_full.specs.Bodies.{aged_class}
-use Rattle.sd_full.specs.Changes.{back_key, with_body, run_tick, set_class, set_duty, duty_after, count_tick, put_where, close, join, bind, unbind}
-use Rattle.sd_full.specs.Dispatching.{ticked, spun, idled}
-use Rattle.sd_full.specs.Sleeping.{woken, woke_all, roused_on, rouse_key, roused}
-use Rattle.sd_full.specs.Locking.{kind_of, writer_first, after_reader, after_owner, free_or_passed, release_from, exited, unblocked_on, unblocked, passed_on, passed}
-use Rattle.sd_full.specs.Prioritising.{lifted, aged}
-use Rattle.sd_full.specs.Conditions.{cv_waited}
-use Rattle.sd_full.specs.SetChanges.{cleared, assigned, joined, rebound, pbound}
-use Rattle.sd_full.specs.LockGraph.{walk_of}
-use Rattle.sd_full.specs.Events.{keeps_ageing, dropped_duty, drop_ageing, effect, after}
+use Rattle.sd_state.specs.declared.states.LockState.{LockState}
+use Rattle.sd_state.specs.declared.states.LockState.TheVariants.{Free, Owned, ReadHeld, Passing}
+use Rattle.sd_state.specs.declared.states.CpuState.{CpuState}
+use Rattle.sd_state.specs.declared.states.State.{State}
+use Rattle.sd_state.specs.States.{thread_of, cpu_of}
+use Rattle.sd_machine.specs.Threads.{lock_of, with_lock, runner, best_waiter, best_sleeper, best_sleeper_below, priority_of, has_waiters, eff_of}
+use Rattle.sd_machine.specs.Bodies.{aged_class}
+use Rattle.sd_machine.specs.Changes.{back_key, with_body, run_tick, set_class, set_duty, duty_after, count_tick, put_where, close, join, bind, unbind}
+use Rattle.sd_machine.specs.Dispatching.{ticked, spun, idled}
+use Rattle.sd_machine.specs.Sleeping.{woken, woke_all, roused_on, rouse_key, roused}
+use Rattle.sd_machine.specs.Locking.{kind_of, writer_first, after_reader, after_owner, free_or_passed, release_from, exited, unblocked_on, unblocked, passed_on, passed}
+use Rattle.sd_machine.specs.Prioritising.{lifted, aged}
+use Rattle.sd_machine.specs.Conditions.{cv_waited}
+use Rattle.sd_machine.specs.SetChanges.{cleared, assigned, joined, rebound, pbound}
+use Rattle.sd_machine.specs.LockGraph.{walk_of}
+use Rattle.sd_machine.specs.Events.{keeps_ageing, dropped_duty, drop_ageing, effect, after}
 use Rattle.sd_sound.specs.Causes.{IsFree, IsCause}
 use Rattle.sd_sound.proofs.CpuWords as C
 use Rattle.sd_sound.proofs.LockTable as T

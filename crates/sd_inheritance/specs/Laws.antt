@@ -14,16 +14,16 @@ use Rattle.sd_types.specs.declared.events.Put.{Put}
 use Rattle.sd_types.specs.declared.works.Work.{Work}
 use Rattle.sd_chains.specs.Graphs.{InCycle, IsLocal, IsSound, IsChainMax, IsCalm}
 use Rattle.sd_chains.specs.Cycles.{IsCycle}
-use Rattle.sd_machine.specs.declared.states.LockState.TheVariants.{Owned}
-use Rattle.sd_machine.specs.declared.states.Place.TheVariants.{Waiting}
-use Rattle.sd_machine.specs.declared.states.State.{State}
-use Rattle.sd_machine.specs.States.{thread_of, cpu_of}
-use Rattle.sd_machine.specs.Opening.{opening}
-use Rattle.sd_full.specs.Threads.{lock_of, eff_of}
-use Rattle.sd_full.specs.Changes.{back_key}
-use Rattle.sd_full.specs.Events.{next, after}
-use Rattle.sd_full.specs.LockGraph.{graph, cycles_of}
-use Rattle.sd_full.specs.Runs.{final, IsRun, IsReached}
+use Rattle.sd_state.specs.declared.states.LockState.TheVariants.{Owned}
+use Rattle.sd_state.specs.declared.states.Place.TheVariants.{Waiting}
+use Rattle.sd_state.specs.declared.states.State.{State}
+use Rattle.sd_state.specs.States.{thread_of, cpu_of}
+use Rattle.sd_state.specs.Opening.{opening}
+use Rattle.sd_machine.specs.Threads.{lock_of, eff_of}
+use Rattle.sd_machine.specs.Changes.{back_key}
+use Rattle.sd_machine.specs.Events.{next, after}
+use Rattle.sd_machine.specs.LockGraph.{graph, cycles_of}
+use Rattle.sd_machine.specs.Runs.{final, IsRun, IsReached}
 
 -- a thread keeps numbers only for locks that it owns; where it is in no blocking cycle and no walk stands at a lock that it
 -- owns, the number for the lock is the greatest effective priority of the lock's waiters, and there is none where nobody waits

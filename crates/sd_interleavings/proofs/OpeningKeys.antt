@@ -8,10 +8,10 @@ use Rattle.sd_types.specs.declared.numbers.CpuId.{CpuId}
 use Rattle.sd_types.specs.declared.numbers.SetId.{SetId}
 use Rattle.sd_types.specs.declared.works.ThreadDecl.{ThreadDecl}
 use Rattle.sd_types.specs.declared.works.Work.{Work}
-use Rattle.sd_machine.specs.declared.states.Place.TheVariants.{Queued, RealTime}
-use Rattle.sd_machine.specs.States.{no_cpu, no_thread}
-use Rattle.sd_machine.specs.Opening.{first_cpu, first_cpu_state, first_thread, first_threads, is_urgent, opening}
-use Rattle.sd_full.specs.Changes.{back_key}
+use Rattle.sd_state.specs.declared.states.Place.TheVariants.{Queued, RealTime}
+use Rattle.sd_state.specs.States.{no_cpu, no_thread}
+use Rattle.sd_state.specs.Opening.{first_cpu, first_cpu_state, first_thread, first_threads, is_urgent, opening}
+use Rattle.sd_machine.specs.Changes.{back_key}
 use Rattle.sd_ordered.specs.Order.{Holder, OfThread, OfCpu, IsKeyBefore, IsSleeperKey, KeysFit, key_at, key_held, key_in}
 
 first_back : (t m : ℕ) → t < 4096 → int_lt (pos t) (back_key m) ≡ true

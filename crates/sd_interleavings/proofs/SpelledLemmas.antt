@@ -4,11 +4,11 @@ use Rattle.sd_types.specs.declared.numbers.CpuId.{CpuId}
 use Rattle.sd_types.specs.declared.events.Entry.{Entry}
 use Rattle.sd_types.specs.declared.events.Event.{Event}
 use Rattle.sd_types.specs.declared.works.Work.{Work}
-use Rattle.sd_machine.specs.declared.states.State.{State}
-use Rattle.sd_machine.specs.Opening.{opening}
-use Rattle.sd_full.specs.Events.{after, next}
-use Rattle.sd_full.specs.Runs.{IsReached, IsRunFrom, final, made, round, serial_hints, turn}
-use Rattle.sd_full.proofs.RunLemmas.{from-IsRun}
+use Rattle.sd_state.specs.declared.states.State.{State}
+use Rattle.sd_state.specs.Opening.{opening}
+use Rattle.sd_machine.specs.Events.{after, next}
+use Rattle.sd_machine.specs.Runs.{IsReached, IsRunFrom, final, made, round, serial_hints, turn}
+use Rattle.sd_machine.proofs.RunLemmas.{from-IsRun}
 use Rattle.sd_range.proofs.Induction.{opening_reached, reached_more}
 use Rattle.sd_range.proofs.Range.{needs_reached}
 use Rattle.sd_ordered.specs.Order.{IsSameOrder}

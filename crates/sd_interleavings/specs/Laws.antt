@@ -6,11 +6,11 @@ use Rattle.sd_types.specs.declared.events.Entry.{Entry}
 use Rattle.sd_types.specs.declared.events.Event.{Event}
 use Rattle.sd_types.specs.declared.events.Hints.{Hints}
 use Rattle.sd_types.specs.declared.works.Work.{Work}
-use Rattle.sd_machine.specs.declared.states.State.{State}
-use Rattle.sd_machine.specs.Opening.{opening}
-use Rattle.sd_full.specs.Events.{after, next, reads}
-use Rattle.sd_full.specs.Needs.{Needs}
-use Rattle.sd_full.specs.Runs.{IsRun, final, serial_hints}
+use Rattle.sd_state.specs.declared.states.State.{State}
+use Rattle.sd_state.specs.Opening.{opening}
+use Rattle.sd_machine.specs.Events.{after, next, reads}
+use Rattle.sd_machine.specs.Needs.{Needs}
+use Rattle.sd_machine.specs.Runs.{IsRun, final, serial_hints}
 use Rattle.sd_ordered.specs.Order.{IsSameOrder, KeysFit}
 use Rattle.sd_ordered.specs.Ranks.{ranked}
 use Rattle.sd_interleavings.specs.Closed.{Has, IsClosed, IsFresh}

@@ -2,7 +2,7 @@
 
 use crate::given::{in_place, state};
 use sd_accounts::Accounts;
-use sd_machine::{LockState, Place, State};
+use sd_state::{LockState, Place, State};
 use sd_types::{ChanId, CpuId, End, Entry, Event, LockId, Put, SetId, Side, ThreadId, Work};
 use sd_workload::read_work;
 use std::alloc::{AllocError, Global};

@@ -2,7 +2,7 @@
 
 use crate::given::{in_place, state};
 use sd_cycles::cycles;
-use sd_machine::{LockState, Place, State};
+use sd_state::{LockState, Place, State};
 use sd_types::{LockId, Side, ThreadId};
 use std::alloc::{AllocError, Global};
 use std::test::Fail;

@@ -1,7 +1,7 @@
 //! What the tests are given: states of threads.
 
 use arrayvec::ArrayVec;
-use sd_machine::{CpuState, LockState, Place, State, ThreadState};
+use sd_state::{CpuState, LockState, Place, State, ThreadState};
 use sd_types::{ClassState, CpuId, List, SysState, ThreadBody};
 use std::alloc::Global;
 

@@ -3,8 +3,8 @@
 
 use crate::given::{in_place, state};
 use crate::shown::{at_tick, entry};
-use sd_machine::{Place, State};
 use sd_report::{report, sheet};
+use sd_state::{Place, State};
 use sd_stretches::History;
 use sd_types::{ChanId, CpuId, Event, LockId, ThreadId};
 use sd_workload::read_work;

@@ -2,8 +2,8 @@
 
 use crate::given::in_place;
 use arrayvec::ArrayVec;
-use sd_machine::{CpuState, LockState, Place, State, ThreadState};
 use sd_sentences::put_sentence;
+use sd_state::{CpuState, LockState, Place, State, ThreadState};
 use sd_types::{
     AssignAnswer, BindAnswer, ChanId, ClassState, CpuId, Denied, Duty, End, Event, List, LockId,
     PrioAnswer, Put, SetId, Side, ThreadId, TsState, Work,

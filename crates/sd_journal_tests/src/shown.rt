@@ -1,7 +1,7 @@
 //! The history of a run of three entries that was drawn by hand.
 
 use crate::given::{in_place, state};
-use sd_machine::{CpuState, Place, State};
+use sd_state::{CpuState, Place, State};
 use sd_stretches::{History, levels, stretches};
 use sd_types::{CpuId, Duty, Entry, Event, SetId, ThreadId};
 use std::alloc::{AllocError, Global};

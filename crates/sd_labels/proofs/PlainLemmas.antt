@@ -9,8 +9,8 @@ use Rattle.std.proofs.lemmas.List.Folds.{list_all-append}
 use Rattle.sd_types.specs.declared.names.Name.{Name}
 use Rattle.sd_types.specs.declared.works.Work.{Work}
 use Rattle.sd_types.specs.NameWords.{is_name_byte, begins_with_letter}
-use Rattle.sd_full.specs.Texts.{set_name}
-use Rattle.sd_machine.specs.Texts.{chan_name, lock_name, thread_name}
+use Rattle.sd_machine.specs.Texts.{set_name}
+use Rattle.sd_state.specs.Texts.{chan_name, lock_name, thread_name}
 use Rattle.sd_stretches.specs.declared.sights.Doing.{Doing}
 use Rattle.sd_stretches.specs.declared.sights.Doing.TheVariants.{Running, Spinning, Runnable, Waiting, Asleep, Napping, Ended}
 use Rattle.sd_labels.specs.Doings.{doing_text, spinning_text}

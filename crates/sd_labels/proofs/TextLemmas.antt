@@ -6,8 +6,8 @@ use Rattle.std.specs.List.{list_all, flat_map}
 use Rattle.std.proofs.lemmas.Bool.Decides.{nat_tests}
 use Rattle.std.proofs.lemmas.List.Folds.{list_all-append}
 use Rattle.sd_types.specs.declared.works.Work.{Work}
-use Rattle.sd_full.specs.Texts.{set_name}
-use Rattle.sd_machine.specs.Texts.{chan_name, lock_name, thread_name}
+use Rattle.sd_machine.specs.Texts.{set_name}
+use Rattle.sd_state.specs.Texts.{chan_name, lock_name, thread_name}
 use Rattle.sd_stretches.specs.declared.sights.Doing.{Doing}
 use Rattle.sd_labels.specs.Doings.{doing_text}
 use Rattle.sd_labels.specs.Plain.{is_plain_byte, is_text_byte, IsPlain, IsText}

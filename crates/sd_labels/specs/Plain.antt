@@ -3,8 +3,8 @@
 use Rattle.std.specs.Prelude.{ℕ, Bool, not, ◌&&◌, ◌||◌, ◌==◌, nat_le, List, IsTrue}
 use Rattle.std.specs.List.{list_all}
 use Rattle.sd_types.specs.declared.works.Work.{Work}
-use Rattle.sd_full.specs.Texts.{set_name}
-use Rattle.sd_machine.specs.Texts.{chan_name, lock_name, thread_name}
+use Rattle.sd_machine.specs.Texts.{set_name}
+use Rattle.sd_state.specs.Texts.{chan_name, lock_name, thread_name}
 use Rattle.sd_stretches.specs.declared.sights.Doing.{Doing}
 use Rattle.sd_labels.specs.Doings.{doing_text}
 

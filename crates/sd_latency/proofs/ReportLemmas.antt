@@ -5,11 +5,11 @@ use Rattle.sd_types.specs.declared.numbers.ThreadId.{ThreadId}
 use Rattle.sd_types.specs.declared.events.Event.{Event}
 use Rattle.sd_types.specs.declared.events.Event.TheVariants.{Tick, Spin, Idle}
 use Rattle.sd_types.specs.Events.{ticks}
-use Rattle.sd_machine.specs.declared.states.State.{State}
-use Rattle.sd_machine.specs.Opening.{opening}
-use Rattle.sd_machine.specs.States.{cpu_of}
-use Rattle.sd_full.specs.Runs.{IsReached, IsStep, final}
-use Rattle.sd_full.proofs.RunLemmas.{IsRun-from, IsRunFrom-front, final-push, from-IsRun, last_number, last_step}
+use Rattle.sd_state.specs.declared.states.State.{State}
+use Rattle.sd_state.specs.Opening.{opening}
+use Rattle.sd_state.specs.States.{cpu_of}
+use Rattle.sd_machine.specs.Runs.{IsReached, IsStep, final}
+use Rattle.sd_machine.proofs.RunLemmas.{IsRun-from, IsRunFrom-front, final-push, from-IsRun, last_number, last_step}
 use Rattle.sd_sound.proofs.Ready.{maker_inside}
 use Rattle.sd_ticks.proofs.Counts.{rise_law}
 use Rattle.sd_stretches.specs.Changes.{woken_by}

@@ -11,9 +11,9 @@ use Rattle.sd_types.specs.declared.numbers.CpuId.{CpuId}
 use Rattle.sd_types.specs.declared.numbers.ThreadId.{ThreadId}
 use Rattle.sd_types.specs.declared.events.Event.{Event}
 use Rattle.sd_types.specs.declared.works.Work.{Work}
-use Rattle.sd_machine.specs.declared.states.State.{State}
-use Rattle.sd_full.specs.Events.{next}
-use Rattle.sd_full.specs.Runs.{serial_hints}
+use Rattle.sd_state.specs.declared.states.State.{State}
+use Rattle.sd_machine.specs.Events.{next}
+use Rattle.sd_machine.specs.Runs.{serial_hints}
 use Rattle.sd_search.specs.declared.graph.Step.{Step}
 use Rattle.sd_search.specs.declared.turning.Turn.{Turn}
 use Rattle.sd_search.specs.Graphs.{IsAt, IsGathered}

@@ -9,12 +9,12 @@ use Rattle.sd_types.specs.declared.numbers.ThreadId.{ThreadId}
 use Rattle.sd_types.specs.declared.events.Entry.{Entry}
 use Rattle.sd_types.specs.declared.events.Event.{Event}
 use Rattle.sd_types.specs.declared.works.Work.{Work}
-use Rattle.sd_machine.specs.declared.states.State.{State}
-use Rattle.sd_machine.specs.Opening.{opening}
-use Rattle.sd_machine.specs.States.{cpu_of}
-use Rattle.sd_full.specs.Events.{after, next}
-use Rattle.sd_full.specs.Runs.{IsRunFrom, final, serial_hints}
-use Rattle.sd_full.proofs.RunLemmas.{IsRun-from, IsRunFrom-rest, final-append, final-cons}
+use Rattle.sd_state.specs.declared.states.State.{State}
+use Rattle.sd_state.specs.Opening.{opening}
+use Rattle.sd_state.specs.States.{cpu_of}
+use Rattle.sd_machine.specs.Events.{after, next}
+use Rattle.sd_machine.specs.Runs.{IsRunFrom, final, serial_hints}
+use Rattle.sd_machine.proofs.RunLemmas.{IsRun-from, IsRunFrom-rest, final-append, final-cons}
 use Rattle.sd_sound.proofs.Ready.{maker_inside}
 use Rattle.sd_interleavings.specs.Closed.{IsFresh}
 use Rattle.sd_search.specs.declared.graph.Step.{Step}

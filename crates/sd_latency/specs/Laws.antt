@@ -4,7 +4,7 @@ use Rattle.std.specs.Prelude.{◌≡◌, ◌⊎◌, List, [], ◌∷◌, ◌++�
 use Rattle.sd_types.specs.declared.numbers.ThreadId.{ThreadId}
 use Rattle.sd_types.specs.declared.events.Entry.{Entry}
 use Rattle.sd_types.specs.declared.works.Work.{Work}
-use Rattle.sd_full.specs.Runs.{IsRun}
+use Rattle.sd_machine.specs.Runs.{IsRun}
 use Rattle.sd_stretches.specs.Changes.{woken_by}
 use Rattle.sd_latency.specs.Waits.{run_by, tick_after}
 

@@ -7,8 +7,8 @@ ghost use Rattle.sd_waits.specs.Edges.{rows_of};
 
 use crate::effects::effect_of;
 use sd_flat::cpu_of;
-use sd_machine::State;
 use sd_search::{Graph, Turn};
+use sd_state::State;
 use sd_types::{CpuId, ThreadId, Work};
 use sd_waits::Edge;
 use std::alloc::{AllocError, Global};

@@ -5,11 +5,11 @@ use Rattle.std.proofs.lemmas.Option.{slice_get-get_or}
 use Rattle.sd_types.specs.declared.numbers.ThreadId.{ThreadId}
 use Rattle.sd_types.specs.declared.events.Entry.{Entry}
 use Rattle.sd_types.specs.declared.works.Work.{Work}
-use Rattle.sd_machine.specs.declared.states.State.{State}
-use Rattle.sd_machine.specs.Opening.{opening}
-use Rattle.sd_full.specs.Events.{after}
-use Rattle.sd_full.specs.Runs.{IsRun, IsRunFrom, IsStep, serial_hints}
-use Rattle.sd_full.proofs.RunLemmas.{IsRun-from}
+use Rattle.sd_state.specs.declared.states.State.{State}
+use Rattle.sd_state.specs.Opening.{opening}
+use Rattle.sd_machine.specs.Events.{after}
+use Rattle.sd_machine.specs.Runs.{IsRun, IsRunFrom, IsStep, serial_hints}
+use Rattle.sd_machine.proofs.RunLemmas.{IsRun-from}
 use Rattle.sd_range.proofs.Induction.{opening_reached}
 use Rattle.sd_interleavings.specs.Closed.{IsFresh}
 use Rattle.sd_search.specs.declared.graph.Step.{Step}

@@ -1,10 +1,4 @@
-pub mod BestLemmas
-pub mod Chosen
-pub mod ClassLemmas
-pub mod Declared
-pub mod KeyLemmas
 pub mod OpeningLemmas
-pub mod OpeningQueues
-pub mod OpeningSets
-pub mod Openings
-pub mod OrderLemmas
+pub mod RoundLemmas
+pub mod RunLemmas
+pub mod ShapeLemmas

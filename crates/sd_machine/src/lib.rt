@@ -1,7 +1,9 @@
-//! The states of the dispatcher machine: their types, the initial state, the best of a queue, and what laws say of states, as definitions
-//! and lemmas that contracts cite. There is no code here but the types.
+//! The dispatcher machine with all of its events, as definitions and lemmas: what a processor reads and does, the
+//! state after each event, runs, the counts of the summary and all texts of the journal. It takes the states, the
+//! initial state and the best of a queue from `sd_state`. The programs and their laws follow this machine. There is no code here
+//! but the types of a plan.
 #![tactic(auto)]
 
-mod states;
+mod plans;
 
-pub use states::{CpuState, LockState, Place, State, ThreadState};
+pub use plans::{Placement, Plan, Requeue};

@@ -6,12 +6,12 @@ use Rattle.sd_types.specs.declared.numbers.SetId.{SetId}
 use Rattle.sd_types.specs.declared.numbers.ThreadId.{ThreadId}
 use Rattle.sd_types.specs.declared.events.Put.{Put}
 use Rattle.sd_types.specs.declared.works.Work.{Work}
-use Rattle.sd_machine.specs.declared.states.Place.{Place}
-use Rattle.sd_machine.specs.declared.states.Place.TheVariants.{Running}
-use Rattle.sd_machine.specs.declared.states.State.{State}
-use Rattle.sd_machine.specs.States.{cpu_of, thread_of}
-use Rattle.sd_full.specs.Changes.{set_duty, set_looped, set_number}
-use Rattle.sd_full.specs.Walking.{walked}
+use Rattle.sd_state.specs.declared.states.Place.{Place}
+use Rattle.sd_state.specs.declared.states.Place.TheVariants.{Running}
+use Rattle.sd_state.specs.declared.states.State.{State}
+use Rattle.sd_state.specs.States.{cpu_of, thread_of}
+use Rattle.sd_machine.specs.Changes.{set_duty, set_looped, set_number}
+use Rattle.sd_machine.specs.Walking.{walked}
 use Rattle.sd_mdisp.specs.Touched.{reordered_parts}
 use Rattle.sd_mdisp.proofs.Kept.{kept_place, kept_set}
 use Rattle.sd_store.specs.Parts.{cpu_part, real_time_part, thread_part}

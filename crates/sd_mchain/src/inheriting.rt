@@ -4,8 +4,8 @@
 //! Source: Solaris Internals (turnstiles: priority inheritance).
 
 ghost use Rattle.std.specs.Prelude.{◌≡◌, [], ◌∷◌};
-ghost use Rattle.sd_full.specs.Bodies.{eff_as_with};
-ghost use Rattle.sd_machine.specs.States.{thread_of};
+ghost use Rattle.sd_machine.specs.Bodies.{eff_as_with};
+ghost use Rattle.sd_state.specs.States.{thread_of};
 ghost use Rattle.sd_store.specs.Parts.{thread_part};
 ghost use Rattle.sd_store.specs.Words.{Lacks, Tells};
 ghost use Rattle.sd_types.specs.Priorities.{greatest_willed};

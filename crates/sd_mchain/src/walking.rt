@@ -4,18 +4,18 @@
 //! Source: Solaris Internals (turnstiles: priority inheritance, turnstile_pi_inherit).
 
 ghost use Rattle.std.specs.Prelude.{◌≡◌, ◌<◌, ◌^◌, [], ◌∷◌, ⊤};
-ghost use Rattle.sd_full.specs.Needs.{CanInherit};
-ghost use Rattle.sd_full.specs.Threads.{greatest_waiting};
-ghost use Rattle.sd_full.specs.Walking.{inherited_priority, walk_ended, walk_plan, walked, will_plan, willed};
-ghost use Rattle.sd_machine.specs.States.{thread_of};
+ghost use Rattle.sd_machine.specs.Needs.{CanInherit};
+ghost use Rattle.sd_machine.specs.Threads.{greatest_waiting};
+ghost use Rattle.sd_machine.specs.Walking.{inherited_priority, walk_ended, walk_plan, walked, will_plan, willed};
+ghost use Rattle.sd_state.specs.States.{thread_of};
 ghost use Rattle.sd_mchain.specs.Passed.{walk_parts, walked_parts, willed_parts};
 ghost use Rattle.sd_store.specs.Parts.{actor_part, chain_part, thread_part};
 ghost use Rattle.sd_store.specs.Words.{Does, DoesBy, Lacks, LacksBy, LacksIf, Tells};
 
 use crate::inheriting::eff_as_with;
-use sd_full::{Placement, Plan, Requeue};
-use sd_machine::LockState;
+use sd_machine::{Placement, Plan, Requeue};
 use sd_mdisp::{bound_of, class_of, eff_of, reordered, requeue};
+use sd_state::LockState;
 use sd_store::{Chore, Look, Store, inherit, set_looped};
 use sd_types::{CpuId, Event, LockId, Put, ThreadId, Work};
 
@@ -71,7 +71,7 @@ fn looped_of<L: Look>(x: &L, t: ThreadId) -> Result<bool, L::Lack>
 
 /// The walk of processor `c` goes on from the owner `o` of lock `l`, or ends there, and the owner gets its number for the
 /// lock. What is read of the duty and of the owner is read before they change.
-#[tactic(auto, unfolding(sd_full::specs::Changes::set_duty, sd_full::specs::Changes::set_looped, sd_full::specs::Changes::set_number, sd_store::specs::Walks::walk_gone_on))]
+#[tactic(auto, unfolding(sd_machine::specs::Changes::set_duty, sd_machine::specs::Changes::set_looped, sd_machine::specs::Changes::set_number, sd_store::specs::Walks::walk_gone_on))]
 fn walked<S: Store>(work: &Work, x: &mut S, c: CpuId, l: LockId, o: ThreadId) -> Result<(), S::Lack>
     ensures value { Does (S.shows x.old) (S.shows x.new) result (λ s. CanInherit s o l (greatest_waiting l.0 s.threads)) (λ s. walked s c l o) }
     ensures lack { LacksIf S.part (S.shows x.old) (S.has x.old) result (λ s. CanInherit s o l (greatest_waiting l.0 s.threads)) (λ s. walked_parts c l o) }
@@ -86,7 +86,7 @@ fn walked<S: Store>(work: &Work, x: &mut S, c: CpuId, l: LockId, o: ThreadId) ->
 
 /// By entry `number` the owner `o` of lock `l` inherits the greatest priority of the waiters, and moves where the event
 /// says; the walk of processor `c` goes on or ends.
-#[tactic(auto, using(crate::proofs::Walked::parts_kept), unfolding(sd_full::specs::Walking::willed))]
+#[tactic(auto, using(crate::proofs::Walked::parts_kept), unfolding(sd_machine::specs::Walking::willed))]
 pub fn willed<S: Store>(
     work: &Work,
     x: &mut S,
@@ -107,7 +107,7 @@ pub fn willed<S: Store>(
 }
 
 /// The walk of processor `c` has come to a lock that nobody owns, and is over.
-#[tactic(auto, unfolding(sd_full::specs::Walking::walk_ended))]
+#[tactic(auto, unfolding(sd_machine::specs::Walking::walk_ended))]
 pub fn walk_ended<S: Store>(x: &mut S, c: CpuId) -> Result<(), S::Lack>
     ensures value { Does (S.shows x.old) (S.shows x.new) result (λ s. ⊤) (λ s. walk_ended s c) }
     ensures lack { Lacks S.part (S.shows x.old) (S.has x.old) result (λ s. actor_part c ∷ []) }

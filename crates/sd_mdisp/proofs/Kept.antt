@@ -6,15 +6,15 @@ use Rattle.std.specs.Prelude.{slice_index_or}
 use Rattle.sd_types.specs.declared.classes.ClassState.{ClassState}
 use Rattle.sd_types.specs.declared.events.Put.{Put}
 use Rattle.sd_types.specs.declared.works.Work.{Work}
-use Rattle.sd_machine.specs.declared.states.CpuState.{CpuState}
-use Rattle.sd_machine.specs.declared.states.Place.{Place}
-use Rattle.sd_machine.specs.declared.states.State.{State}
-use Rattle.sd_machine.specs.declared.states.ThreadState.{ThreadState}
-use Rattle.sd_machine.specs.States.{thread_of, cpu_of, no_thread, with_cpu, with_thread}
-use Rattle.sd_machine.specs.Operations.{script_of}
-use Rattle.sd_full.specs.Bodies.{departed}
-use Rattle.sd_full.specs.Changes.{cpu_put, leave, mark_over, place_put, priority_or_zero, put, put_where, remark, rivals, runs_below, set_class, set_mark, with_place}
-use Rattle.sd_full.specs.Threads.{best_ready, eff_of, priority_of, runner}
+use Rattle.sd_state.specs.declared.states.CpuState.{CpuState}
+use Rattle.sd_state.specs.declared.states.Place.{Place}
+use Rattle.sd_state.specs.declared.states.State.{State}
+use Rattle.sd_state.specs.declared.states.ThreadState.{ThreadState}
+use Rattle.sd_state.specs.States.{thread_of, cpu_of, no_thread, with_cpu, with_thread}
+use Rattle.sd_state.specs.Operations.{script_of}
+use Rattle.sd_machine.specs.Bodies.{departed}
+use Rattle.sd_machine.specs.Changes.{cpu_put, leave, mark_over, place_put, priority_or_zero, put, put_where, remark, rivals, runs_below, set_class, set_mark, with_place}
+use Rattle.sd_machine.specs.Threads.{best_ready, eff_of, priority_of, runner}
 
 -- One thread, one processor.
 

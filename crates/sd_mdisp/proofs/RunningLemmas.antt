@@ -8,14 +8,14 @@ use Rattle.sd_types.specs.declared.numbers.ThreadId.{ThreadId}
 use Rattle.sd_types.specs.declared.classes.ClassState.{ClassState}
 use Rattle.sd_types.specs.declared.events.End.{End}
 use Rattle.sd_types.specs.declared.works.Work.{Work}
-use Rattle.sd_machine.specs.declared.states.Place.TheVariants.{Running}
-use Rattle.sd_machine.specs.declared.states.State.{State}
-use Rattle.sd_machine.specs.States.{thread_of, cpu_of}
+use Rattle.sd_state.specs.declared.states.Place.TheVariants.{Running}
+use Rattle.sd_state.specs.declared.states.State.{State}
+use Rattle.sd_state.specs.States.{thread_of, cpu_of}
 use Rattle.sd_rules.specs.ClassRules.{class_requeue}
-use Rattle.sd_full.specs.Changes.{clear_marks, count_tick, counted, key_at, leave, run_tick, set_class}
-use Rattle.sd_full.specs.Dispatching.{preempted}
-use Rattle.sd_full.specs.Needs.{CanFinish, IsFree}
-use Rattle.sd_full.specs.Threads.{eff_of, runner}
+use Rattle.sd_machine.specs.Changes.{clear_marks, count_tick, counted, key_at, leave, run_tick, set_class}
+use Rattle.sd_machine.specs.Dispatching.{preempted}
+use Rattle.sd_machine.specs.Needs.{CanFinish, IsFree}
+use Rattle.sd_machine.specs.Threads.{eff_of, runner}
 use Rattle.sd_mdisp.specs.Touched.{queue_for}
 use Rattle.sd_mdisp.proofs.Kept.{class_place, kept_set}
 use Rattle.sd_store.specs.declared.parts.Part.{Part}

@@ -5,10 +5,10 @@
 ghost use Rattle.std.specs.Prelude.{◌≡◌, ◌≤◌, ◌==◌, ◌∷◌, [], IfOk, filter, length, not, replicate, ℕ};
 ghost use Rattle.sd_rules.specs.Choices.{is_among};
 ghost use Rattle.sd_rules.specs.ChoiceFunctions.{chosen};
-ghost use Rattle.sd_full.specs.Choosing.{choice, cpus_for, cpus_or_bound, is_recent, is_settled, is_warm, neighbours, numbers_read, put_chosen, put_on, victim_for};
-ghost use Rattle.sd_full.specs.Threads.{set_of};
-ghost use Rattle.sd_machine.specs.declared.states.State.{State};
-ghost use Rattle.sd_machine.specs.States.{cpu_of, thread_of};
+ghost use Rattle.sd_machine.specs.Choosing.{choice, cpus_for, cpus_or_bound, is_recent, is_settled, is_warm, neighbours, numbers_read, put_chosen, put_on, victim_for};
+ghost use Rattle.sd_machine.specs.Threads.{set_of};
+ghost use Rattle.sd_state.specs.declared.states.State.{State};
+ghost use Rattle.sd_state.specs.States.{cpu_of, thread_of};
 ghost use Rattle.sd_store.specs.Parts.{actor_part, cpu_part, ready_parts, real_time_part, thread_part};
 ghost use Rattle.sd_store.specs.Words.{Lacks, Tells, TellsIf};
 
@@ -49,7 +49,7 @@ fn cpus_or_bound(cpus: &[CpuId], bound: Option<CpuId>) -> ArrayVec<CpuId, 64>
 }
 
 /// The processors on which thread `t` may run.
-#[tactic(auto, unfolding(sd_full::specs::Choosing::cpus_for))]
+#[tactic(auto, unfolding(sd_machine::specs::Choosing::cpus_for))]
 pub(crate) fn cpus_for<L: Look>(
     work: &Work,
     x: &L,
@@ -156,7 +156,7 @@ fn chosen(cpus: &[CpuId], hints: &Option<Hints>, last: CpuId, warm: bool) -> Cpu
 
 /// The processor that processor `c` chooses for thread `t`: its last one while it is warm, else one with the least
 /// number; ties go to the last processor, then to the least number.
-#[tactic(auto, unfolding(sd_full::specs::Choosing::choice))]
+#[tactic(auto, unfolding(sd_machine::specs::Choosing::choice))]
 fn choice<L: Look>(
     work: &Work,
     x: &L,
@@ -186,7 +186,7 @@ fn put_on(p: u8, bound: Option<CpuId>, x: CpuId) -> Put
 
 /// Where processor `c` puts thread `t`, which has the effective priority `p` then, where a number was read for each
 /// processor on which the thread may run, or none was.
-#[tactic(auto, unfolding(sd_full::specs::Choosing::put_chosen))]
+#[tactic(auto, unfolding(sd_machine::specs::Choosing::put_chosen))]
 pub fn put_chosen<L: Look>(
     work: &Work,
     x: &L,
@@ -217,7 +217,7 @@ fn others(c: CpuId, cpus: &[CpuId]) -> ArrayVec<CpuId, 64>
 }
 
 /// The other open processors of the partition of processor `c`.
-#[tactic(auto, unfolding(sd_full::specs::Choosing::neighbours))]
+#[tactic(auto, unfolding(sd_machine::specs::Choosing::neighbours))]
 pub fn neighbours<L: Look>(x: &L, c: CpuId) -> Result<ArrayVec<CpuId, 64>, L::Lack>
     ensures value { IfOk result (λ r. (n : ℕ) (s : State) → L.shows x.now n s → r.items ≡ neighbours s c.0) }
     ensures lack { Lacks L.part (L.shows x.now) (L.has x.now) result (λ s. ready_parts s c) }
@@ -228,7 +228,7 @@ pub fn neighbours<L: Look>(x: &L, c: CpuId) -> Result<ArrayVec<CpuId, 64>, L::La
 
 /// The processor from which processor `c` would steal a thread: that with the greatest number, the least of several,
 /// none where all are 0; where a number was read for each neighbour, or none was.
-#[tactic(auto, unfolding(sd_full::specs::Choosing::victim_for))]
+#[tactic(auto, unfolding(sd_machine::specs::Choosing::victim_for))]
 pub fn victim_for<L: Look>(x: &L, c: CpuId, hints: &Option<Hints>) -> Result<Option<CpuId>, L::Lack>
     ensures value { TellsIf (L.shows x.now) result (λ s. length (numbers_read (neighbours s c.0) hints.now) ≡ length (neighbours s c.0)) (λ s. victim_for s c.0 hints.now) }
     ensures lack { Lacks L.part (L.shows x.now) (L.has x.now) result (λ s. ready_parts s c) }

@@ -2,7 +2,7 @@
 //!
 //! Source: Solaris Internals (the scheduling classes), ts_dptbl(4), rt_dptbl(4).
 ghost use Rattle.std.specs.Prelude.{◌≡◌};
-ghost use Rattle.sd_full.specs.Bodies.{aged_class, ticked_class, woken_class};
+ghost use Rattle.sd_machine.specs.Bodies.{aged_class, ticked_class, woken_class};
 ghost use Rattle.sd_rules.specs.ClassRules.{class_expires, class_requeue, quantum_expires};
 
 use sd_types::{ClassState, Quantum, Work};

@@ -4,10 +4,10 @@
 //! project's own.
 
 ghost use Rattle.std.specs.Prelude.{◌≡◌, [], ◌∷◌, ◌==◌, ◌&&◌, not, length, option_copied, option_map, unwrap_or};
-ghost use Rattle.sd_full.specs.Dispatching.{dispatch_plan, leave_event, leave_plan, must_leave, search_event, steal_event};
-ghost use Rattle.sd_full.specs.Threads.{is_sys};
-ghost use Rattle.sd_machine.specs.declared.states.CpuState.{CpuState};
-ghost use Rattle.sd_machine.specs.States.{cpu_of, no_body, thread_of};
+ghost use Rattle.sd_machine.specs.Dispatching.{dispatch_plan, leave_event, leave_plan, must_leave, search_event, steal_event};
+ghost use Rattle.sd_machine.specs.Threads.{is_sys};
+ghost use Rattle.sd_state.specs.declared.states.CpuState.{CpuState};
+ghost use Rattle.sd_state.specs.States.{cpu_of, no_body, thread_of};
 ghost use Rattle.sd_mdisp.specs.Touched.{victim_parts};
 ghost use Rattle.sd_types.specs.declared.bodies.ThreadBody.{ThreadBody as ThreadBodyOf};
 ghost use Rattle.sd_rules.specs.ClassRules.{end_of};
@@ -15,7 +15,7 @@ ghost use Rattle.sd_store.specs.Parts.{cpu_part, found_parts, number, thread_par
 ghost use Rattle.sd_store.specs.Words.{Lacks, Tells};
 
 use crate::bodies::eff_of;
-use sd_full::Plan;
+use sd_machine::Plan;
 use sd_store::{CpuView, Look};
 use sd_types::{ClassState, CpuId, End, Event, ThreadBody, ThreadId};
 

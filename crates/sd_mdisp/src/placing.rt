@@ -3,7 +3,7 @@
 //! Source: Solaris Internals (setbackdq, setfrontdq).
 
 ghost use Rattle.std.specs.Prelude.{◌≡◌, ◌<◌, ◌^◌, [], ⊤};
-ghost use Rattle.sd_full.specs.Changes.{cpu_put, put, put_where};
+ghost use Rattle.sd_machine.specs.Changes.{cpu_put, put, put_where};
 ghost use Rattle.sd_mdisp.specs.Touched.{put_parts_if};
 ghost use Rattle.sd_store.specs.Parts.{put_parts};
 ghost use Rattle.sd_store.specs.Words.{DoesBy, LacksBy};
@@ -24,7 +24,7 @@ fn cpu_put(at: Put) -> CpuId
 
 /// Entry `number` makes thread `t` runnable: puts it at the back of the queue, and marks the chosen processor where a
 /// thread of a smaller priority runs there.
-#[tactic(auto, unfolding(sd_full::specs::Changes::put))]
+#[tactic(auto, unfolding(sd_machine::specs::Changes::put))]
 pub fn put<S: Store>(
     work: &Work,
     x: &mut S,
@@ -43,7 +43,7 @@ pub fn put<S: Store>(
 }
 
 /// The same where the thread moves at all.
-#[tactic(auto, unfolding(sd_full::specs::Changes::put_where))]
+#[tactic(auto, unfolding(sd_machine::specs::Changes::put_where))]
 pub fn put_where<S: Store>(
     work: &Work,
     x: &mut S,

@@ -3,9 +3,9 @@
 //! Source: Solaris Internals (thread_change_pri).
 
 ghost use Rattle.std.specs.Prelude.{◌≡◌, ◌<◌, ◌^◌, ⊤};
-ghost use Rattle.sd_full.specs.Requeueing.{is_bound_to, reordered, requeue, requeue_at};
-ghost use Rattle.sd_machine.specs.declared.states.Place.{Place};
-ghost use Rattle.sd_machine.specs.States.{thread_of};
+ghost use Rattle.sd_machine.specs.Requeueing.{is_bound_to, reordered, requeue, requeue_at};
+ghost use Rattle.sd_state.specs.declared.states.Place.{Place};
+ghost use Rattle.sd_state.specs.States.{thread_of};
 ghost use Rattle.sd_mdisp.specs.Touched.{reordered_parts};
 ghost use Rattle.sd_store.specs.Keyless.{spot_of};
 ghost use Rattle.sd_store.specs.Words.{DoesBy, LacksBy};
@@ -13,7 +13,7 @@ ghost use Rattle.sd_store.specs.Words.{DoesBy, LacksBy};
 use crate::bodies::eff_of;
 use crate::marks::remark;
 use crate::placing::put_where;
-use sd_full::Requeue;
+use sd_machine::Requeue;
 use sd_store::{Spot, Store};
 use sd_types::{CpuId, Put, REAL_TIME_PRIORITY, ThreadId, Work};
 
@@ -56,7 +56,7 @@ pub fn requeue(spot: Spot, old: u8, new: u8, bound: Option<CpuId>) -> Requeue
 
 /// By entry `number`, where thread `t` had the effective priority `old` and now has its own: where it runs with a
 /// smaller one, its processor is marked for what is ready there; where it is queued, it goes where the event says.
-#[tactic(auto, unfolding(sd_full::specs::Requeueing::reordered))]
+#[tactic(auto, unfolding(sd_machine::specs::Requeueing::reordered))]
 pub fn reordered<S: Store>(
     work: &Work,
     x: &mut S,

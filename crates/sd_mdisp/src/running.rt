@@ -3,12 +3,12 @@
 //! Source: Solaris Internals (clock_tick, disp, preempt, yield), ts_dptbl(4).
 
 ghost use Rattle.std.specs.Prelude.{◌≡◌, ◌<◌, ◌^◌, [], ◌∷◌, ⊤, option_copied, unwrap_or};
-ghost use Rattle.sd_full.specs.Changes.{key_at, leave, set_class};
+ghost use Rattle.sd_machine.specs.Changes.{key_at, leave, set_class};
 ghost use Rattle.sd_rules.specs.ClassRules.{class_requeue};
-ghost use Rattle.sd_full.specs.Threads.{set_of};
-ghost use Rattle.sd_full.specs.Dispatching.{charge, class_counts, dispatched, done, idled, preempted, sent_away, spun, stolen, ticked, yielded};
-ghost use Rattle.sd_full.specs.Needs.{CanFinish, CanTick, IsFree, RunsOn};
-ghost use Rattle.sd_machine.specs.States.{no_body, thread_of};
+ghost use Rattle.sd_machine.specs.Threads.{set_of};
+ghost use Rattle.sd_machine.specs.Dispatching.{charge, class_counts, dispatched, done, idled, preempted, sent_away, spun, stolen, ticked, yielded};
+ghost use Rattle.sd_machine.specs.Needs.{CanFinish, CanTick, IsFree, RunsOn};
+ghost use Rattle.sd_state.specs.States.{no_body, thread_of};
 ghost use Rattle.sd_mdisp.specs.Touched.{leaving_parts, queue_for};
 ghost use Rattle.sd_store.specs.Parts.{actor_part, cpu_part, ready_parts, real_time_part, thread_part};
 ghost use Rattle.sd_store.specs.Words.{Does, DoesBy, Lacks, LacksBy, LacksIf, Tells};
@@ -21,7 +21,7 @@ use sd_types::{CpuId, End, REAL_TIME_PRIORITY, ThreadBody, ThreadId, Work};
 
 /// Where the quantum has expired and something that is ready has at least the priority of thread `t`, the thread is to
 /// go to the back, and processor `c` is marked.
-#[tactic(auto, unfolding(sd_full::specs::Dispatching::charge))]
+#[tactic(auto, unfolding(sd_machine::specs::Dispatching::charge))]
 fn charge<S: Store>(
     work: &Work,
     x: &mut S,
@@ -59,7 +59,7 @@ fn class_counts<S: Store>(work: &Work, x: &mut S, c: CpuId, t: ThreadId) -> Resu
 }
 
 /// Thread `t` runs for a tick on processor `c`.
-#[tactic(auto, using(crate::proofs::RunningLemmas::counted_finish, crate::proofs::RunningLemmas::ready_counted, crate::proofs::RunningLemmas::ready_ran), unfolding(sd_full::specs::Dispatching::ticked))]
+#[tactic(auto, using(crate::proofs::RunningLemmas::counted_finish, crate::proofs::RunningLemmas::ready_counted, crate::proofs::RunningLemmas::ready_ran), unfolding(sd_machine::specs::Dispatching::ticked))]
 #[inline(always)]
 pub fn ticked<S: Store>(work: &Work, x: &mut S, c: CpuId, t: ThreadId) -> Result<(), S::Lack>
     ensures value { Does (S.shows x.old) (S.shows x.new) result (λ s. CanTick work.now s c × CanFinish work.now s t) (λ s. ticked work.now s c.0 t.0) }
@@ -72,7 +72,7 @@ pub fn ticked<S: Store>(work: &Work, x: &mut S, c: CpuId, t: ThreadId) -> Result
 }
 
 /// Thread `t` spins for a tick on processor `c`.
-#[tactic(auto, using(crate::proofs::RunningLemmas::ready_counted), unfolding(sd_full::specs::Dispatching::spun))]
+#[tactic(auto, using(crate::proofs::RunningLemmas::ready_counted), unfolding(sd_machine::specs::Dispatching::spun))]
 pub fn spun<S: Store>(work: &Work, x: &mut S, c: CpuId, t: ThreadId) -> Result<(), S::Lack>
     ensures value { Does (S.shows x.old) (S.shows x.new) result (λ s. CanTick work.now s c) (λ s. spun work.now s c.0 t.0) }
     ensures lack { LacksIf S.part (S.shows x.old) (S.has x.old) result (λ s. CanTick work.now s c) (λ s. actor_part c ∷ thread_part t ∷ ready_parts s c) }
@@ -83,7 +83,7 @@ pub fn spun<S: Store>(work: &Work, x: &mut S, c: CpuId, t: ThreadId) -> Result<(
 }
 
 /// Processor `c` is idle for a tick.
-#[tactic(auto, unfolding(sd_full::specs::Dispatching::idled))]
+#[tactic(auto, unfolding(sd_machine::specs::Dispatching::idled))]
 pub fn idled<S: Store>(work: &Work, x: &mut S, c: CpuId) -> Result<(), S::Lack>
     ensures value { Does (S.shows x.old) (S.shows x.new) result (λ s. CanTick work.now s c) (λ s. idled work.now s c.0) }
     ensures lack { Lacks S.part (S.shows x.old) (S.has x.old) result (λ s. actor_part c ∷ []) }
@@ -93,7 +93,7 @@ pub fn idled<S: Store>(work: &Work, x: &mut S, c: CpuId) -> Result<(), S::Lack>
 }
 
 /// Processor `c` takes thread `t` from its queue, and runs it.
-#[tactic(auto, using(crate::proofs::RunningLemmas::free_unmarked), unfolding(sd_full::specs::Dispatching::dispatched))]
+#[tactic(auto, using(crate::proofs::RunningLemmas::free_unmarked), unfolding(sd_machine::specs::Dispatching::dispatched))]
 pub fn dispatched<S: Store>(x: &mut S, c: CpuId, t: ThreadId) -> Result<(), S::Lack>
     ensures value { Does (S.shows x.old) (S.shows x.new) result (λ s. IsFree s c) (λ s. dispatched s c t.0) }
     ensures lack { Lacks S.part (S.shows x.old) (S.has x.old) result (λ s. thread_part t ∷ cpu_part c ∷ []) }
@@ -104,7 +104,7 @@ pub fn dispatched<S: Store>(x: &mut S, c: CpuId, t: ThreadId) -> Result<(), S::L
 }
 
 /// Processor `c` runs thread `t`, which it took from the queue of another one.
-#[tactic(auto, unfolding(sd_full::specs::Dispatching::stolen))]
+#[tactic(auto, unfolding(sd_machine::specs::Dispatching::stolen))]
 pub fn stolen<S: Store>(x: &mut S, c: CpuId, t: ThreadId) -> Result<(), S::Lack>
     ensures value { Does (S.shows x.old) (S.shows x.new) result (λ s. IsFree s c) (λ s. stolen s c t.0) }
     ensures lack { Lacks S.part (S.shows x.old) (S.has x.old) result (λ s. thread_part t ∷ cpu_part c ∷ []) }
@@ -166,7 +166,7 @@ fn requeued_class<S: Store>(work: &Work, x: &mut S, t: ThreadId) -> Result<(), S
 }
 
 /// By entry `number` thread `t` leaves processor `c` for an end of the queue of its priority.
-#[tactic(auto, using(crate::proofs::RunningLemmas::runs_classed), unfolding(sd_full::specs::Dispatching::preempted))]
+#[tactic(auto, using(crate::proofs::RunningLemmas::runs_classed), unfolding(sd_machine::specs::Dispatching::preempted))]
 pub fn preempted<S: Store>(
     work: &Work,
     x: &mut S,
@@ -187,7 +187,7 @@ pub fn preempted<S: Store>(
 }
 
 /// By entry `number` thread `t` leaves processor `c` for the back of the queue of the processor to which it is bound.
-#[tactic(auto, unfolding(sd_full::specs::Dispatching::sent_away))]
+#[tactic(auto, unfolding(sd_machine::specs::Dispatching::sent_away))]
 pub fn sent_away<S: Store>(
     x: &mut S,
     number: u64,
@@ -206,7 +206,7 @@ pub fn sent_away<S: Store>(
 }
 
 /// By entry `number` thread `t` leaves processor `c` for the back of the queue of its priority, its operation over.
-#[tactic(auto, using(crate::proofs::Kept::left_inside), unfolding(sd_full::specs::Dispatching::yielded))]
+#[tactic(auto, using(crate::proofs::Kept::left_inside), unfolding(sd_machine::specs::Dispatching::yielded))]
 pub fn yielded<S: Store>(
     work: &Work,
     x: &mut S,
@@ -226,7 +226,7 @@ pub fn yielded<S: Store>(
 }
 
 /// By entry `number` thread `t` has ended, and leaves processor `c`.
-#[tactic(auto, unfolding(sd_full::specs::Dispatching::done))]
+#[tactic(auto, unfolding(sd_machine::specs::Dispatching::done))]
 pub fn done<S: Store>(x: &mut S, number: u64, c: CpuId, t: ThreadId) -> Result<(), S::Lack>
     requires { number < 2 ^ 62 }
     ensures value { DoesBy number (S.shows x.old) (S.shows x.new) result (λ s. RunsOn s t c) (λ s. done s c t.0) }

@@ -3,7 +3,7 @@
 //! Source: Solaris Internals (setrun, the wakeup of each scheduling class).
 
 ghost use Rattle.std.specs.Prelude.{◌≡◌, ◌<◌, ◌^◌, [], ◌∷◌, ⊤};
-ghost use Rattle.sd_full.specs.Sleeping.{woken, woken_priority};
+ghost use Rattle.sd_machine.specs.Sleeping.{woken, woken_priority};
 ghost use Rattle.sd_store.specs.Parts.{put_parts, thread_part};
 ghost use Rattle.sd_store.specs.Words.{DoesBy, Lacks, LacksBy, Tells};
 
@@ -22,7 +22,7 @@ pub fn woken_priority<L: Look>(work: &Work, x: &L, t: ThreadId) -> Result<u8, L:
 }
 
 /// By entry `number` thread `t` wakes up and is made runnable.
-#[tactic(auto, unfolding(sd_full::specs::Sleeping::woken))]
+#[tactic(auto, unfolding(sd_machine::specs::Sleeping::woken))]
 pub fn woken<S: Store>(
     work: &Work,
     x: &mut S,

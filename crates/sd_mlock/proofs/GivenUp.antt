@@ -8,15 +8,15 @@ use Rattle.sd_types.specs.declared.numbers.CpuId.{CpuId}
 use Rattle.sd_types.specs.declared.numbers.LockId.{LockId}
 use Rattle.sd_types.specs.declared.events.Duty.{Duty}
 use Rattle.sd_types.specs.declared.works.Work.{Work}
-use Rattle.sd_machine.specs.declared.states.LockState.{LockState}
-use Rattle.sd_machine.specs.declared.states.LockState.TheVariants.{Free, Owned, ReadHeld, Passing}
-use Rattle.sd_machine.specs.declared.states.State.{State}
-use Rattle.sd_machine.specs.declared.states.ThreadState.{ThreadState}
-use Rattle.sd_machine.specs.States.{cpu_of, thread_of, with_thread}
-use Rattle.sd_machine.specs.Operations.{script_of}
-use Rattle.sd_full.specs.Changes.{finish_op, let_go, set_duty}
-use Rattle.sd_full.specs.Threads.{lock_of, has_waiters}
-use Rattle.sd_full.specs.Locking.{release_from, released, free_or_passed}
+use Rattle.sd_state.specs.declared.states.LockState.{LockState}
+use Rattle.sd_state.specs.declared.states.LockState.TheVariants.{Free, Owned, ReadHeld, Passing}
+use Rattle.sd_state.specs.declared.states.State.{State}
+use Rattle.sd_state.specs.declared.states.ThreadState.{ThreadState}
+use Rattle.sd_state.specs.States.{cpu_of, thread_of, with_thread}
+use Rattle.sd_state.specs.Operations.{script_of}
+use Rattle.sd_machine.specs.Changes.{finish_op, let_go, set_duty}
+use Rattle.sd_machine.specs.Threads.{lock_of, has_waiters}
+use Rattle.sd_machine.specs.Locking.{release_from, released, free_or_passed}
 use Rattle.sd_mdisp.proofs.Kept.{inside, kept_op, kept_place, kept_set, same_op, same_place}
 
 -- the threads, the counts of semaphores and the sets of the processors stay

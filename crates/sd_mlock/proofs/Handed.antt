@@ -2,10 +2,10 @@
 use Rattle.std.proofs.Common.{◌≡◌, ℕ, Bool, true, false, refl}
 use Rattle.sd_types.specs.declared.events.Put.{Put}
 use Rattle.sd_types.specs.declared.works.Work.{Work}
-use Rattle.sd_machine.specs.declared.states.State.{State}
-use Rattle.sd_full.specs.Changes.{mark_over, put, runs_below, set_class, set_mark}
-use Rattle.sd_full.specs.Sleeping.{woken}
-use Rattle.sd_full.specs.Threads.{priority_of, runner}
+use Rattle.sd_state.specs.declared.states.State.{State}
+use Rattle.sd_machine.specs.Changes.{mark_over, put, runs_below, set_class, set_mark}
+use Rattle.sd_machine.specs.Sleeping.{woken}
+use Rattle.sd_machine.specs.Threads.{priority_of, runner}
 
 over_locks : (s : State) (c m : ℕ) → (mark_over s c m).locks ≡ s.locks
 unfolding mark_over set_mark

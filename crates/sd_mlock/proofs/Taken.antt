@@ -11,11 +11,11 @@ use Rattle.sd_types.specs.Scripts.{is_lock, is_held}
 use Rattle.sd_types.specs.Willed.{IsSound, Numbers, same_lock, with_lock as with_held}
 use Rattle.sd_types.specs.Works.{is_distinct}
 use Rattle.sd_types.proofs.WilledLemmas.{sound-taken}
-use Rattle.sd_machine.specs.declared.states.State.{State}
-use Rattle.sd_machine.specs.declared.states.ThreadState.{ThreadState}
-use Rattle.sd_machine.specs.States.{no_thread, thread_of, with_thread}
-use Rattle.sd_machine.specs.Operations.{script_of, op_over}
-use Rattle.sd_full.specs.Changes.{finish_op, hold}
+use Rattle.sd_state.specs.declared.states.State.{State}
+use Rattle.sd_state.specs.declared.states.ThreadState.{ThreadState}
+use Rattle.sd_state.specs.States.{no_thread, thread_of, with_thread}
+use Rattle.sd_state.specs.Operations.{script_of, op_over}
+use Rattle.sd_machine.specs.Changes.{finish_op, hold}
 use Rattle.sd_mdisp.proofs.Kept.{kept_op, inside}
 
 sound_is : (b d : ThreadBody) → d.willed.items ≡ b.willed.items → d.held.items ≡ b.held.items → IsSound b → IsSound d

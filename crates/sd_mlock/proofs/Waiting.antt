@@ -6,13 +6,13 @@ use Rattle.sd_types.specs.declared.numbers.LockId.{LockId}
 use Rattle.sd_types.specs.declared.numbers.Side.{Side}
 use Rattle.sd_types.specs.declared.numbers.ThreadId.{ThreadId}
 use Rattle.sd_types.specs.declared.events.Duty.TheVariants.{Walk}
-use Rattle.sd_machine.specs.declared.states.Place.{Place}
-use Rattle.sd_machine.specs.declared.states.Place.TheVariants.{Waiting}
-use Rattle.sd_machine.specs.declared.states.State.{State}
-use Rattle.sd_machine.specs.States.{thread_of}
-use Rattle.sd_full.specs.Changes.{back_key, leave, set_duty}
-use Rattle.sd_full.specs.Needs.{IsThread}
-use Rattle.sd_full.specs.Prioritising.{walk_from}
+use Rattle.sd_state.specs.declared.states.Place.{Place}
+use Rattle.sd_state.specs.declared.states.Place.TheVariants.{Waiting}
+use Rattle.sd_state.specs.declared.states.State.{State}
+use Rattle.sd_state.specs.States.{thread_of}
+use Rattle.sd_machine.specs.Changes.{back_key, leave, set_duty}
+use Rattle.sd_machine.specs.Needs.{IsThread}
+use Rattle.sd_machine.specs.Prioritising.{walk_from}
 use Rattle.sd_store.specs.Walks.{walk_begun}
 
 place_left : (s : State) (c t : ℕ) (place : Place) → t < length s.threads → (thread_of (leave s c t place) t).place ≡ place

@@ -8,14 +8,14 @@
 //! Source: Solaris Internals (mutex_enter, mutex_vector_enter, rw_enter, turnstile_block).
 
 ghost use Rattle.std.specs.Prelude.{◌≡◌, ◌<◌, ◌^◌, [], ◌∷◌, true};
-ghost use Rattle.sd_full.specs.Locking.{blocked, enter_event, one_more, owned, owner_runs, read, read_event, side_of, write_event};
-ghost use Rattle.sd_full.specs.Needs.{CanFinish, CanHold, IsLock, IsThread, RunsOn, more_fits};
-ghost use Rattle.sd_full.specs.Threads.{lock_of};
+ghost use Rattle.sd_machine.specs.Locking.{blocked, enter_event, one_more, owned, owner_runs, read, read_event, side_of, write_event};
+ghost use Rattle.sd_machine.specs.Needs.{CanFinish, CanHold, IsLock, IsThread, RunsOn, more_fits};
+ghost use Rattle.sd_machine.specs.Threads.{lock_of};
 ghost use Rattle.sd_store.specs.Parts.{actor_part, chain_part, cpu_part, owner_parts, thread_part};
 ghost use Rattle.sd_store.specs.Words.{Does, DoesBy, Lacks, LacksBy, LacksIf, Tells};
 
-use sd_machine::LockState;
 use sd_mdisp::op_of;
+use sd_state::LockState;
 use sd_store::{Destination, Look, Spot, Store, finish_op, hold};
 use sd_types::{CpuId, Event, LockId, Op, Side, ThreadId, Work};
 
@@ -85,7 +85,7 @@ pub fn write_event(t: ThreadId, l: LockId, lock: LockState) -> Event
 }
 
 /// Thread `t` owns the free lock `l`, as a mutex or for writing, and its operation is over.
-#[tactic(auto, using(crate::proofs::Taken::held_inside), unfolding(sd_full::specs::Locking::owned))]
+#[tactic(auto, using(crate::proofs::Taken::held_inside), unfolding(sd_machine::specs::Locking::owned))]
 pub fn owned<S: Store>(work: &Work, x: &mut S, t: ThreadId, l: LockId) -> Result<(), S::Lack>
     ensures value { Does (S.shows x.old) (S.shows x.new) result (λ s. IsLock s l × CanHold s t l × CanFinish work.now s t) (λ s. owned work.now s t.0 l) }
     ensures lack { LacksIf S.part (S.shows x.old) (S.has x.old) result (λ s. IsLock s l × CanHold s t l × CanFinish work.now s t) (λ s. chain_part l ∷ thread_part t ∷ []) }
@@ -107,7 +107,7 @@ fn one_more(lock: LockState) -> LockState
 }
 
 /// Thread `t` holds lock `l` as one of its readers, and its operation is over.
-#[tactic(auto, using(crate::proofs::Taken::held_inside), unfolding(sd_full::specs::Locking::read))]
+#[tactic(auto, using(crate::proofs::Taken::held_inside), unfolding(sd_machine::specs::Locking::read))]
 pub fn read<S: Store>(work: &Work, x: &mut S, t: ThreadId, l: LockId) -> Result<(), S::Lack>
     ensures value { Does (S.shows x.old) (S.shows x.new) result (λ s. IsLock s l × CanHold s t l × CanFinish work.now s t × (more_fits (lock_of s l.0) ≡ true)) (λ s. read work.now s t.0 l) }
     ensures lack { LacksIf S.part (S.shows x.old) (S.has x.old) result (λ s. IsLock s l × CanHold s t l × CanFinish work.now s t × (more_fits (lock_of s l.0) ≡ true)) (λ s. chain_part l ∷ thread_part t ∷ []) }
@@ -130,7 +130,7 @@ fn side_of(op: Option<Op>) -> Side
 }
 
 /// By entry `number` thread `t`, which runs on processor `c`, waits for lock `l`, and the processor begins a walk there.
-#[tactic(auto, using(crate::proofs::Waiting::walk_from_wait), unfolding(sd_full::specs::Locking::blocked))]
+#[tactic(auto, using(crate::proofs::Waiting::walk_from_wait), unfolding(sd_machine::specs::Locking::blocked))]
 pub fn blocked<S: Store>(
     work: &Work,
     x: &mut S,

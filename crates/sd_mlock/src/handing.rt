@@ -5,20 +5,20 @@
 //! before it runs is as there; that the waiters are taken one by one is this project's own.
 
 ghost use Rattle.std.specs.Prelude.{◌≡◌, ◌<◌, ◌^◌, [], ◌∷◌, Some, ⊤, option_map, true};
-ghost use Rattle.sd_full.specs.Locking.{grant_reader_plan, grant_writer_plan, granted, granted_to_reader, granted_to_writer, is_eligible, one_reader_more, passed, unblock_plan, unblocked, writer_priority};
-ghost use Rattle.sd_full.specs.Needs.{CanReceive, IsLock, more_fits};
-ghost use Rattle.sd_full.specs.Threads.{best_waiter, priority_of};
-ghost use Rattle.sd_machine.specs.States.{cpu_of};
+ghost use Rattle.sd_machine.specs.Locking.{grant_reader_plan, grant_writer_plan, granted, granted_to_reader, granted_to_writer, is_eligible, one_reader_more, passed, unblock_plan, unblocked, writer_priority};
+ghost use Rattle.sd_machine.specs.Needs.{CanReceive, IsLock, more_fits};
+ghost use Rattle.sd_machine.specs.Threads.{best_waiter, priority_of};
+ghost use Rattle.sd_state.specs.States.{cpu_of};
 ghost use Rattle.sd_mlock.specs.Released.{handed_parts, received_parts};
 ghost use Rattle.sd_store.specs.Parts.{actor_part, chain_part, found_parts, number, thread_part};
 ghost use Rattle.sd_store.specs.Words.{Does, DoesBy, Lacks, LacksBy, LacksIf, Tells};
 ghost use Rattle.sd_types.specs.declared.numbers.Side.TheVariants.{Writer};
 
 use crate::entering::owned;
-use sd_full::{Placement, Plan};
-use sd_machine::LockState;
+use sd_machine::{Placement, Plan};
 use sd_mchain::eff_as_with;
 use sd_mdisp::{class_of, eff_of, priority_of, woken, woken_class, woken_priority};
+use sd_state::LockState;
 use sd_store::{Chore, Look, Store, Task, finish_op, hold, inherit};
 use sd_types::{CpuId, Event, LockId, Put, Side, ThreadId, Work};
 
@@ -42,7 +42,7 @@ pub fn unblock_plan<L: Look>(
 }
 
 /// By entry `number` processor `c` wakes thread `u`, which waited for mutex `l`. With the last one the mutex is free.
-#[tactic(auto, using(crate::proofs::Handed::woken_locks), unfolding(sd_full::specs::Locking::unblocked))]
+#[tactic(auto, using(crate::proofs::Handed::woken_locks), unfolding(sd_machine::specs::Locking::unblocked))]
 pub fn unblocked<S: Store>(
     work: &Work,
     x: &mut S,
@@ -152,7 +152,7 @@ fn one_reader_more(lock: LockState) -> LockState
 
 /// By entry `number` thread `u` becomes the owner of rwlock `l`, inherits the greatest priority of the waiters that are
 /// left, and wakes up; the duty of processor `c` is over.
-#[tactic(auto, using(crate::proofs::Taken::taken_sound, crate::proofs::Taken::taken_held), unfolding(sd_full::specs::Locking::granted_to_writer, sd_full::specs::Locking::owned))]
+#[tactic(auto, using(crate::proofs::Taken::taken_sound, crate::proofs::Taken::taken_held), unfolding(sd_machine::specs::Locking::granted_to_writer, sd_machine::specs::Locking::owned))]
 fn granted_to_writer<S: Store>(
     work: &Work,
     x: &mut S,
@@ -175,7 +175,7 @@ fn granted_to_writer<S: Store>(
 }
 
 /// By entry `number` thread `u` holds rwlock `l` as a reader, and wakes up.
-#[tactic(auto, using(crate::proofs::Taken::held_inside), unfolding(sd_full::specs::Locking::granted_to_reader))]
+#[tactic(auto, using(crate::proofs::Taken::held_inside), unfolding(sd_machine::specs::Locking::granted_to_reader))]
 fn granted_to_reader<S: Store>(
     work: &Work,
     x: &mut S,
@@ -219,7 +219,7 @@ pub fn granted<S: Store>(
 
 /// No reader is left to whom processor `c` may give lock `l`: it is the readers' that have it, else the waiting
 /// writer's, else free.
-#[tactic(auto, unfolding(sd_full::specs::Locking::passed))]
+#[tactic(auto, unfolding(sd_machine::specs::Locking::passed))]
 pub fn passed<S: Store>(x: &mut S, c: CpuId, l: LockId) -> Result<(), S::Lack>
     ensures value { Does (S.shows x.old) (S.shows x.new) result (λ s. IsLock s l) (λ s. passed s c l) }
     ensures lack { LacksIf S.part (S.shows x.old) (S.has x.old) result (λ s. IsLock s l) (λ s. actor_part c ∷ chain_part l ∷ []) }

@@ -4,18 +4,18 @@
 //! Source: Solaris Internals (mutex_exit, rw_exit, turnstile_wakeup).
 
 ghost use Rattle.std.specs.Prelude.{◌≡◌, ℕ, [], ◌∷◌, IfOk};
-ghost use Rattle.sd_full.specs.Locking.{after_owner, after_reader, after_writer, exited, free_or_passed, kind_of, release_from, released, writer_first};
-ghost use Rattle.sd_full.specs.Needs.{CanFinish, IsLock};
-ghost use Rattle.sd_full.specs.Threads.{best_waiter, lock_of, priority_of};
-ghost use Rattle.sd_machine.specs.declared.states.State.{State};
+ghost use Rattle.sd_machine.specs.Locking.{after_owner, after_reader, after_writer, exited, free_or_passed, kind_of, release_from, released, writer_first};
+ghost use Rattle.sd_machine.specs.Needs.{CanFinish, IsLock};
+ghost use Rattle.sd_machine.specs.Threads.{best_waiter, lock_of, priority_of};
+ghost use Rattle.sd_state.specs.declared.states.State.{State};
 ghost use Rattle.sd_mlock.specs.Released.{Hands, exited_parts, released_parts};
 ghost use Rattle.sd_store.specs.Keyless.{duty_of};
 ghost use Rattle.sd_store.specs.Parts.{actor_part, chain_part};
 ghost use Rattle.sd_store.specs.Words.{Does, Lacks, LacksIf, Tells};
 ghost use Rattle.sd_types.specs.Works.{is_mutex};
 
-use sd_machine::LockState;
 use sd_mdisp::{priority_of, remark};
+use sd_state::LockState;
 use sd_store::{Chore, Look, Store, finish_op, let_go};
 use sd_types::{CpuId, LockId, LockKind, Side, ThreadId, Work};
 
@@ -129,7 +129,7 @@ fn release_from<S: Store>(work: &Work, x: &mut S, c: CpuId, l: LockId) -> Result
 
 /// Thread `t` gives up lock `l`, and with it what it inherits from the waiters. Where somebody waits, processor `c` has the
 /// duty to pass the lock on.
-#[tactic(auto, unfolding(sd_full::specs::Locking::released))]
+#[tactic(auto, unfolding(sd_machine::specs::Locking::released))]
 pub fn released<S: Store>(
     work: &Work,
     x: &mut S,
@@ -147,7 +147,7 @@ pub fn released<S: Store>(
 
 /// Thread `t`, which runs on processor `c`, gives up lock `l`, and its operation is over. Its priority may have fallen below
 /// that of a thread that is ready there.
-#[tactic(auto, using(crate::proofs::GivenUp::released_inside, crate::proofs::GivenUp::exited_set), unfolding(sd_full::specs::Locking::exited))]
+#[tactic(auto, using(crate::proofs::GivenUp::released_inside, crate::proofs::GivenUp::exited_set), unfolding(sd_machine::specs::Locking::exited))]
 pub fn exited<S: Store>(
     work: &Work,
     x: &mut S,

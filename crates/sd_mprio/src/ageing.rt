@@ -3,11 +3,11 @@
 //! Source: ts_dptbl(4) (ts_maxwait, ts_lwait), Solaris Internals (ts_update).
 
 ghost use Rattle.std.specs.Prelude.{◌≡◌, ◌+◌, ◌<◌, ◌^◌, [], ◌∷◌, ⊤, option_map};
-ghost use Rattle.sd_full.specs.Prioritising.{age_plan, aged, lifted};
+ghost use Rattle.sd_machine.specs.Prioritising.{age_plan, aged, lifted};
 ghost use Rattle.sd_store.specs.Parts.{actor_part, cpu_part, found_parts, number, thread_part};
 ghost use Rattle.sd_store.specs.Words.{DoesBy, Lacks, LacksBy, Tells};
 
-use sd_full::Plan;
+use sd_machine::Plan;
 use sd_mdisp::{aged_class, class_of, eff_as, eff_of, put};
 use sd_store::{Chore, Look, Store, set_class};
 use sd_types::{CpuId, Event, Put, ThreadId, Work};
@@ -53,7 +53,7 @@ fn lifted<S: Store>(
 
 /// By entry `number` thread `t`, which is on the queue of processor `c`, has waited for another second. The next one to be
 /// looked at has a greater number.
-#[tactic(auto, unfolding(sd_full::specs::Prioritising::aged))]
+#[tactic(auto, unfolding(sd_machine::specs::Prioritising::aged))]
 pub fn aged<S: Store>(
     work: &Work,
     x: &mut S,

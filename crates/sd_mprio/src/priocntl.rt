@@ -3,13 +3,13 @@
 //! Source: priocntl(2), Solaris Internals (thread_change_pri; turnstiles, on which a new priority is handed on).
 
 ghost use Rattle.std.specs.Prelude.{◌≡◌, ◌<◌, ◌^◌, [], ◌∷◌, ⊤, IfOk, IsTrue, Some};
-ghost use Rattle.sd_full.specs.Changes.{set_class};
-ghost use Rattle.sd_full.specs.Needs.{CanFinish, IsUnmoved};
-ghost use Rattle.sd_full.specs.Prioritising.{change_plan, changed_by, changed_on, changed_to, prio_plan, reprioritised};
-ghost use Rattle.sd_full.specs.Requeueing.{reordered};
-ghost use Rattle.sd_full.specs.Threads.{eff_of};
-ghost use Rattle.sd_machine.specs.Operations.{op_of};
-ghost use Rattle.sd_machine.specs.States.{thread_of};
+ghost use Rattle.sd_machine.specs.Changes.{set_class};
+ghost use Rattle.sd_machine.specs.Needs.{CanFinish, IsUnmoved};
+ghost use Rattle.sd_machine.specs.Prioritising.{change_plan, changed_by, changed_on, changed_to, prio_plan, reprioritised};
+ghost use Rattle.sd_machine.specs.Requeueing.{reordered};
+ghost use Rattle.sd_machine.specs.Threads.{eff_of};
+ghost use Rattle.sd_state.specs.Operations.{op_of};
+ghost use Rattle.sd_state.specs.States.{thread_of};
 ghost use Rattle.sd_mdisp.specs.Touched.{reordered_parts};
 ghost use Rattle.sd_mprio.specs.Touched.{KeepsWaiting, changed_parts, prio_parts};
 ghost use Rattle.sd_store.specs.Parts.{thread_part};
@@ -20,7 +20,7 @@ ghost use Rattle.sd_types.specs.declared.scripts.Op.TheVariants.{Prio};
 ghost use Rattle.sd_types.specs.declared.scripts.Request.{Request};
 
 use crate::targets::{answer_to, new_class};
-use sd_full::{Placement, Plan, Requeue};
+use sd_machine::{Placement, Plan, Requeue};
 use sd_mdisp::{bound_of, eff_as, eff_of, op_of, reordered, requeue};
 use sd_store::{Look, Store, finish_op, set_class};
 use sd_types::{ClassParms, ClassState, CpuId, Denied, Event, Op, PrioAnswer, Put, ThreadId, Work};
@@ -177,7 +177,7 @@ fn changed_on<S: Store>(
 
 /// By entry `number` thread `t` has asked for other class parameters of thread `u`. Where it gets them, the thread moves
 /// where the event says; one that waits hands its new priority on.
-#[tactic(auto, using(crate::proofs::Moved::changed_inside, crate::proofs::Walked::keeps_waiting), unfolding(sd_full::specs::Prioritising::reprioritised))]
+#[tactic(auto, using(crate::proofs::Moved::changed_inside, crate::proofs::Walked::keeps_waiting), unfolding(sd_machine::specs::Prioritising::reprioritised))]
 pub fn reprioritised<S: Store>(
     work: &Work,
     x: &mut S,

@@ -3,9 +3,9 @@
 //! Source: priocntl(2).
 
 ghost use Rattle.std.specs.Prelude.{◌≡◌, [], ◌∷◌, IfOk, IsTrue, option_map};
-ghost use Rattle.sd_full.specs.Bodies.{parms_of};
-ghost use Rattle.sd_full.specs.Prioritising.{answer_to, new_class, target_of};
-ghost use Rattle.sd_machine.specs.declared.states.State.{State};
+ghost use Rattle.sd_machine.specs.Bodies.{parms_of};
+ghost use Rattle.sd_machine.specs.Prioritising.{answer_to, new_class, target_of};
+ghost use Rattle.sd_state.specs.declared.states.State.{State};
 ghost use Rattle.std.specs.Prelude.{ℕ};
 ghost use Rattle.sd_store.specs.Parts.{thread_part};
 ghost use Rattle.sd_store.specs.Words.{Lacks, Tells};

@@ -6,13 +6,13 @@ use Rattle.sd_types.specs.declared.numbers.ChanId.{ChanId}
 use Rattle.sd_types.specs.declared.numbers.CpuId.{CpuId}
 use Rattle.sd_types.specs.declared.events.Put.{Put}
 use Rattle.sd_types.specs.declared.works.Work.{Work}
-use Rattle.sd_machine.specs.declared.states.CpuState.{CpuState}
-use Rattle.sd_machine.specs.declared.states.State.{State}
-use Rattle.sd_machine.specs.States.{thread_of, cpu_of, with_cpu}
-use Rattle.sd_machine.specs.Operations.{script_of}
-use Rattle.sd_full.specs.Changes.{cpu_put, mark_over, marked, put, runs_below, set_class, set_mark}
-use Rattle.sd_full.specs.Sleeping.{rouse_key, woken}
-use Rattle.sd_full.specs.Threads.{best_sleeper_below, priority_of, runner}
+use Rattle.sd_state.specs.declared.states.CpuState.{CpuState}
+use Rattle.sd_state.specs.declared.states.State.{State}
+use Rattle.sd_state.specs.States.{thread_of, cpu_of, with_cpu}
+use Rattle.sd_state.specs.Operations.{script_of}
+use Rattle.sd_machine.specs.Changes.{cpu_put, mark_over, marked, put, runs_below, set_class, set_mark}
+use Rattle.sd_machine.specs.Sleeping.{rouse_key, woken}
+use Rattle.sd_machine.specs.Threads.{best_sleeper_below, priority_of, runner}
 use Rattle.sd_mdisp.proofs.Kept.{Keeps, class_op, inside, put_op}
 use Rattle.sd_store.specs.Walks.{next_to_rouse}
 

@@ -1,20 +1,20 @@
 //! Threads that sleep on a channel until others wake them, one or all.
 
 ghost use Rattle.std.specs.Prelude.{◌≡◌, ◌<◌, ◌^◌, [], ◌∷◌, ⊤, option_map};
-ghost use Rattle.sd_full.specs.Needs.{CanAct, CanFinish, IsChan};
-ghost use Rattle.sd_full.specs.Sleeping.{fallen_asleep, rouse_plan, roused, wake_plan, woke, woke_all};
-ghost use Rattle.sd_machine.specs.States.{cpu_of};
+ghost use Rattle.sd_machine.specs.Needs.{CanAct, CanFinish, IsChan};
+ghost use Rattle.sd_machine.specs.Sleeping.{fallen_asleep, rouse_plan, roused, wake_plan, woke, woke_all};
+ghost use Rattle.sd_state.specs.States.{cpu_of};
 ghost use Rattle.sd_msleep.specs.Touched.{woken_parts};
 ghost use Rattle.sd_store.specs.Parts.{actor_part, cpu_part, found_parts, number, sleepers_part, thread_part};
 ghost use Rattle.sd_store.specs.Words.{DoesBy, Lacks, LacksBy, Tells};
 
-use sd_full::{Placement, Plan};
+use sd_machine::{Placement, Plan};
 use sd_mdisp::{woken, woken_priority};
 use sd_store::{Chore, Destination, Look, Store, finish_op};
 use sd_types::{ChanId, CpuId, Event, Put, ThreadId, Work};
 
 /// By entry `number` thread `t`, which runs on processor `c`, sleeps on channel `k`.
-#[tactic(auto, using(sd_mdisp::proofs::Kept::left_inside), unfolding(sd_full::specs::Sleeping::fallen_asleep))]
+#[tactic(auto, using(sd_mdisp::proofs::Kept::left_inside), unfolding(sd_machine::specs::Sleeping::fallen_asleep))]
 pub fn fallen_asleep<S: Store>(
     work: &Work,
     x: &mut S,
@@ -53,7 +53,7 @@ pub fn wake_plan<L: Look>(
 }
 
 /// By entry `number` thread `t` has woken another thread, or none.
-#[tactic(auto, using(crate::proofs::Woken::woken_inside), unfolding(sd_full::specs::Sleeping::woke))]
+#[tactic(auto, using(crate::proofs::Woken::woken_inside), unfolding(sd_machine::specs::Sleeping::woke))]
 pub fn woke<S: Store>(
     work: &Work,
     x: &mut S,
@@ -76,7 +76,7 @@ pub fn woke<S: Store>(
 }
 
 /// By entry `number` processor `c` is to wake all that sleep on channel `k` now, where any do; thread `t` goes on.
-#[tactic(auto, unfolding(sd_full::specs::Sleeping::woke_all, sd_full::specs::Changes::set_duty))]
+#[tactic(auto, unfolding(sd_machine::specs::Sleeping::woke_all, sd_machine::specs::Changes::set_duty))]
 pub fn woke_all<S: Store>(
     work: &Work,
     x: &mut S,
@@ -116,7 +116,7 @@ pub fn rouse_plan<L: Look>(
 }
 
 /// By entry `number` processor `c` has woken a sleeper of channel `k`, or there was none. Its duty is over with the last.
-#[tactic(auto, using(crate::proofs::Woken::next_after_woken), unfolding(sd_full::specs::Sleeping::roused))]
+#[tactic(auto, using(crate::proofs::Woken::next_after_woken), unfolding(sd_machine::specs::Sleeping::roused))]
 pub fn roused<S: Store>(
     work: &Work,
     x: &mut S,

@@ -1,12 +1,12 @@
 //! Threads that nap for a number of ticks of their processor.
 
 ghost use Rattle.std.specs.Prelude.{◌≡◌, ◌<◌, ◌^◌, [], ◌∷◌, option_map};
-ghost use Rattle.sd_full.specs.Needs.{CanAct, CanNap};
-ghost use Rattle.sd_full.specs.Sleeping.{nap_ticks, napend_plan, napped};
+ghost use Rattle.sd_machine.specs.Needs.{CanAct, CanNap};
+ghost use Rattle.sd_machine.specs.Sleeping.{nap_ticks, napend_plan, napped};
 ghost use Rattle.sd_store.specs.Parts.{actor_part, cpu_part, found_parts, number, thread_part};
 ghost use Rattle.sd_store.specs.Words.{DoesBy, Lacks, LacksBy, Tells};
 
-use sd_full::{Placement, Plan};
+use sd_machine::{Placement, Plan};
 use sd_mdisp::{op_of, woken_priority};
 use sd_store::{Destination, Look, Store, finish_op};
 use sd_types::{CpuId, Op, ThreadId, Work};
@@ -41,7 +41,7 @@ fn nap_ticks(op: Option<Op>) -> u32
 
 /// By entry `number` thread `t`, which runs on processor `c`, naps there until the processor has counted the ticks of its
 /// operation.
-#[tactic(auto, using(sd_mdisp::proofs::Kept::left_inside), unfolding(sd_full::specs::Sleeping::napped))]
+#[tactic(auto, using(sd_mdisp::proofs::Kept::left_inside), unfolding(sd_machine::specs::Sleeping::napped))]
 pub fn napped<S: Store>(
     work: &Work,
     x: &mut S,

@@ -6,13 +6,13 @@
 ghost use Rattle.std.specs.Prelude.{◌≡◌, ◌+◌, ◌≤◌, length, IsTrue, IfOk, map, replicate};
 ghost use Rattle.std.specs.List.{range_with_len};
 ghost use Rattle.sd_types.specs.Works.{class_fits};
-ghost use Rattle.sd_machine.specs.Opening.{is_urgent, is_dealt, turn_of, dealt_cpu, first_cpu, first_place, first_body, first_thread, first_threads, count_of, first_count, first_cpu_state, open_list, opening};
+ghost use Rattle.sd_state.specs.Opening.{is_urgent, is_dealt, turn_of, dealt_cpu, first_cpu, first_place, first_body, first_thread, first_threads, count_of, first_count, first_cpu_state, open_list, opening};
 
 use arrayvec::ArrayVec;
 use sd_flat::ticks_at;
-use sd_machine::{CpuState, LockState, Place, State, ThreadState};
 use sd_part::{cpus_of_set, set_of_cpu};
 use sd_prio::first_state;
+use sd_state::{CpuState, LockState, Place, State, ThreadState};
 use sd_types::{ChanKind, ClassParms, CpuId, Duty, List, SetId, ThreadBody, ThreadDecl, Work};
 use std::alloc::{AllocError, Global};
 
@@ -50,7 +50,7 @@ fn dealt_cpu(cpus: &[CpuId], k: usize) -> CpuId
 }
 
 /// The processor on whose queue thread `t` stands; for an urgent one the least of its partition.
-#[tactic(auto, unfolding(sd_machine::specs::Opening::first_cpu))]
+#[tactic(auto, unfolding(sd_state::specs::Opening::first_cpu))]
 fn first_cpu(work: &Work, t: usize, d: &ThreadDecl) -> CpuId
     requires { t ≤ length work.now.threads }
     ensures { result ≡ first_cpu work.now t d.now }
@@ -95,7 +95,7 @@ fn first_body(work: &Work, t: usize, d: &ThreadDecl) -> ThreadBody
     }
 }
 
-#[tactic(auto, unfolding(sd_machine::specs::Opening::first_thread))]
+#[tactic(auto, unfolding(sd_state::specs::Opening::first_thread))]
 fn first_thread(work: &Work, t: usize, d: &ThreadDecl) -> ThreadState
     requires inside { t ≤ length work.now.threads }
     requires class { IsTrue (class_fits d.now.class d.now.cpupri) }
@@ -124,7 +124,7 @@ fn first_locks(alloc: Global, work: &Work) -> Result<Vec<LockState>, AllocError>
     vec![in alloc; LockState::Free; work.locks.items().len()]
 }
 
-#[tactic(auto, unfolding(sd_machine::specs::Opening::first_cpu_state))]
+#[tactic(auto, unfolding(sd_state::specs::Opening::first_cpu_state))]
 fn first_cpu_state(work: &Work, c: u16) -> CpuState
     ensures { result ≡ first_cpu_state work.now c }
 {
@@ -180,7 +180,7 @@ fn open_lists(alloc: Global, work: &Work) -> Result<Vec<ArrayVec<CpuId, 64>>, Al
 }
 
 /// The state in which a run begins. `Err` only where memory runs out.
-#[tactic(auto, unfolding(sd_machine::specs::Opening::opening))]
+#[tactic(auto, unfolding(sd_state::specs::Opening::opening))]
 pub fn opening(alloc: Global, work: &Work) -> Result<State, AllocError>
     ensures state { IfOk result (λ s. s ≡ opening work.now) }
 {

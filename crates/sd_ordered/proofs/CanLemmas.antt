@@ -10,11 +10,11 @@ use Rattle.sd_types.specs.declared.numbers.ThreadId.{ThreadId}
 use Rattle.sd_types.specs.declared.works.Work.{Work}
 use Rattle.sd_types.specs.Scripts.{is_held}
 use Rattle.sd_types.specs.Willed.{IsSound}
-use Rattle.sd_machine.specs.declared.states.CpuState.{CpuState}
-use Rattle.sd_machine.specs.declared.states.State.{State}
-use Rattle.sd_machine.specs.States.{cpu_of, thread_of}
-use Rattle.sd_machine.specs.Operations.{script_of}
-use Rattle.sd_full.specs.Needs.{CanJoin, CanTick, IsChan, IsFree, IsLock, RunsOn}
+use Rattle.sd_state.specs.declared.states.CpuState.{CpuState}
+use Rattle.sd_state.specs.declared.states.State.{State}
+use Rattle.sd_state.specs.States.{cpu_of, thread_of}
+use Rattle.sd_state.specs.Operations.{script_of}
+use Rattle.sd_machine.specs.Needs.{CanJoin, CanTick, IsChan, IsFree, IsLock, RunsOn}
 use Rattle.sd_store.specs.declared.changes.BodyChange.{BodyChange}
 use Rattle.sd_store.specs.declared.changes.BodyChange.TheVariants.{RunTick, FinishOp, Class, SendBack, Hold, LetGo, Inherit, Looped}
 use Rattle.sd_store.specs.declared.spots.Destination.{Destination}

@@ -17,18 +17,18 @@ use Rattle.sd_types.specs.declared.events.End.TheVariants as end
 use Rattle.sd_types.specs.declared.events.Put.{Put}
 use Rattle.sd_types.specs.declared.events.Put.TheVariants as put
 use Rattle.sd_types.specs.declared.works.Work.{Work}
-use Rattle.sd_machine.specs.declared.states.CpuState.{CpuState}
-use Rattle.sd_machine.specs.declared.states.LockState.{LockState}
-use Rattle.sd_machine.specs.declared.states.Place.{Place}
-use Rattle.sd_machine.specs.declared.states.Place.TheVariants.{Running, Queued, RealTime, Waiting, Asleep, Napping, Ended}
-use Rattle.sd_machine.specs.declared.states.ThreadState.{ThreadState}
-use Rattle.sd_machine.specs.declared.states.State.{State}
-use Rattle.sd_machine.specs.States.{cpu_of, thread_of, with_cpu, with_thread}
-use Rattle.sd_full.specs.Bodies.{arrived, departed}
-use Rattle.sd_full.specs.Changes.{back_key, bind, clear_marks, close, count_tick, counted, join, leave, marked, place_put, run_on, set_duty, set_kernel_mark, set_mark, unbind, unmarked, with_body, with_cpu_in, with_place, without_cpu}
-use Rattle.sd_full.specs.Prioritising.{walk_from}
-use Rattle.sd_full.specs.Threads.{open_of, with_count, with_lock, with_open}
-use Rattle.sd_full.specs.Walking.{next_walk}
+use Rattle.sd_state.specs.declared.states.CpuState.{CpuState}
+use Rattle.sd_state.specs.declared.states.LockState.{LockState}
+use Rattle.sd_state.specs.declared.states.Place.{Place}
+use Rattle.sd_state.specs.declared.states.Place.TheVariants.{Running, Queued, RealTime, Waiting, Asleep, Napping, Ended}
+use Rattle.sd_state.specs.declared.states.ThreadState.{ThreadState}
+use Rattle.sd_state.specs.declared.states.State.{State}
+use Rattle.sd_state.specs.States.{cpu_of, thread_of, with_cpu, with_thread}
+use Rattle.sd_machine.specs.Bodies.{arrived, departed}
+use Rattle.sd_machine.specs.Changes.{back_key, bind, clear_marks, close, count_tick, counted, join, leave, marked, place_put, run_on, set_duty, set_kernel_mark, set_mark, unbind, unmarked, with_body, with_cpu_in, with_place, without_cpu}
+use Rattle.sd_machine.specs.Prioritising.{walk_from}
+use Rattle.sd_machine.specs.Threads.{open_of, with_count, with_lock, with_open}
+use Rattle.sd_machine.specs.Walking.{next_walk}
 use Rattle.sd_store.specs.declared.spots.Chore.{Chore}
 use Rattle.sd_store.specs.declared.spots.Chore.TheVariants as chore
 use Rattle.sd_store.specs.declared.spots.Destination.{Destination}

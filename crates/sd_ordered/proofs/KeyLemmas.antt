@@ -2,7 +2,7 @@
 use Rattle.std.proofs.Common.{◌≡◌, ℕ, ◌+◌, ◌≤◌, true, negsuc, int_lt, arith}
 use Rattle.std.proofs.lemmas.Bool.Decides.{nat_tests}
 use Rattle.std.proofs.lemmas.Int.{ints}
-use Rattle.sd_full.specs.Changes.{back_key}
+use Rattle.sd_machine.specs.Changes.{back_key}
 use Rattle.sd_ordered.specs.Order.{IsKeyBefore}
 
 back_below : (n m : ℕ) → n + 1 ≤ m → int_lt (back_key n) (back_key m) ≡ true

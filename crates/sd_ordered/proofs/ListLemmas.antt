@@ -2,7 +2,7 @@
 use Rattle.std.proofs.Common.{◌≡◌, ℕ, zero, suc, Bool, true, not, ◌&&◌, List, [], ◌∷◌, length, get_or, refl, sym, ◌∙◌, inl, inr, arith}
 use Rattle.std.specs.List.{list_all, list_any, position, position_or_len}
 use Rattle.std.proofs.lemmas.Bool.{cases_Bool}
-use Rattle.sd_machine.specs.Best.{leads_by, best_by}
+use Rattle.sd_state.specs.Best.{leads_by, best_by}
 
 -- each test of an element of the one list is that of the element of the other
 abbrev pub AreAlike : {X : Type 0} → X → (X → Bool) → (X → Bool) → List X → List X → Type 0

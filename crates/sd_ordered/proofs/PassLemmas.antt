@@ -16,19 +16,19 @@ use Rattle.sd_types.specs.declared.events.Duty.TheVariants as duty
 use Rattle.sd_types.specs.declared.events.Put.{Put}
 use Rattle.sd_types.specs.declared.works.Work.{Work}
 use Rattle.sd_types.specs.Works.{is_mutex}
-use Rattle.sd_machine.specs.declared.states.LockState.{LockState}
-use Rattle.sd_machine.specs.declared.states.LockState.TheVariants.{Free, Owned, ReadHeld, Passing}
-use Rattle.sd_machine.specs.declared.states.Place.{Place}
-use Rattle.sd_machine.specs.declared.states.Place.TheVariants.{Running, Queued, RealTime, Waiting, Asleep, Napping, Ended}
-use Rattle.sd_machine.specs.declared.states.State.{State}
-use Rattle.sd_machine.specs.States.{cpu_of, thread_of}
-use Rattle.sd_full.specs.Changes.{back_key, bind, set_duty, set_kernel_mark}
-use Rattle.sd_full.specs.Conditions.{cv_waited, sema_counted, sema_handed, sema_taken}
-use Rattle.sd_full.specs.Locking.{after_owner, after_reader, after_writer, exited, free_or_passed, granted, granted_to_reader, granted_to_writer, kind_of, one_more, one_reader_more, others_waiting, owned, passed, passed_on, read, release_from, released, unblocked, unblocked_on, writer_first}
-use Rattle.sd_full.specs.SetChanges.{assigned, called_back, cleared, joined, moved, pbound, rebound}
-use Rattle.sd_full.specs.Sleeping.{woke, woke_all, woken}
-use Rattle.sd_full.specs.Threads.{best_sleeper, best_waiter, count_of, has_waiters, lock_of, priority_of, runner, thread_id, with_count, with_lock}
-use Rattle.sd_full.specs.Walking.{walk_ended}
+use Rattle.sd_state.specs.declared.states.LockState.{LockState}
+use Rattle.sd_state.specs.declared.states.LockState.TheVariants.{Free, Owned, ReadHeld, Passing}
+use Rattle.sd_state.specs.declared.states.Place.{Place}
+use Rattle.sd_state.specs.declared.states.Place.TheVariants.{Running, Queued, RealTime, Waiting, Asleep, Napping, Ended}
+use Rattle.sd_state.specs.declared.states.State.{State}
+use Rattle.sd_state.specs.States.{cpu_of, thread_of}
+use Rattle.sd_machine.specs.Changes.{back_key, bind, set_duty, set_kernel_mark}
+use Rattle.sd_machine.specs.Conditions.{cv_waited, sema_counted, sema_handed, sema_taken}
+use Rattle.sd_machine.specs.Locking.{after_owner, after_reader, after_writer, exited, free_or_passed, granted, granted_to_reader, granted_to_writer, kind_of, one_more, one_reader_more, others_waiting, owned, passed, passed_on, read, release_from, released, unblocked, unblocked_on, writer_first}
+use Rattle.sd_machine.specs.SetChanges.{assigned, called_back, cleared, joined, moved, pbound, rebound}
+use Rattle.sd_machine.specs.Sleeping.{woke, woke_all, woken}
+use Rattle.sd_machine.specs.Threads.{best_sleeper, best_waiter, count_of, has_waiters, lock_of, priority_of, runner, thread_id, with_count, with_lock}
+use Rattle.sd_machine.specs.Walking.{walk_ended}
 use Rattle.sd_ordered.specs.Order.{bare_duty, key_in}
 use Rattle.sd_ordered.specs.Order.{key_at as key_of_place}
 use Rattle.sd_ordered.proofs.AlikeLemmas.{body_same, duty_with, key_or_zero, place_with}

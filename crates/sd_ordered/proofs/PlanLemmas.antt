@@ -20,30 +20,30 @@ use Rattle.sd_types.specs.declared.scripts.Op.{Op}
 use Rattle.sd_types.specs.declared.scripts.Op.TheVariants as op
 use Rattle.sd_types.specs.declared.works.Work.{Work}
 use Rattle.sd_types.specs.Priorities.{eff_as}
-use Rattle.sd_full.specs.declared.plans.Placement.TheVariants as placement
-use Rattle.sd_full.specs.declared.plans.Plan.{Plan}
-use Rattle.sd_full.specs.declared.plans.Plan.TheVariants.{Make, Place as PlaceIt}
-use Rattle.sd_full.specs.declared.plans.Requeue.TheVariants.{Stays}
+use Rattle.sd_machine.specs.declared.plans.Placement.TheVariants as placement
+use Rattle.sd_machine.specs.declared.plans.Plan.{Plan}
+use Rattle.sd_machine.specs.declared.plans.Plan.TheVariants.{Make, Place as PlaceIt}
+use Rattle.sd_machine.specs.declared.plans.Requeue.TheVariants.{Stays}
 use Rattle.sd_rules.specs.Priocntl.{entered}
-use Rattle.sd_machine.specs.declared.states.CpuState.{CpuState}
-use Rattle.sd_machine.specs.declared.states.LockState.{LockState}
-use Rattle.sd_machine.specs.declared.states.LockState.TheVariants.{Free, Owned, ReadHeld, Passing}
-use Rattle.sd_machine.specs.declared.states.Place.{Place}
-use Rattle.sd_machine.specs.declared.states.Place.TheVariants.{Running, Queued, RealTime, Waiting, Asleep, Napping, Ended}
-use Rattle.sd_machine.specs.declared.states.State.{State}
-use Rattle.sd_machine.specs.States.{cpu_of, thread_of}
-use Rattle.sd_machine.specs.Operations.{op_of}
-use Rattle.sd_full.specs.Bodies.{aged_class, eff_as_with, woken_class}
-use Rattle.sd_full.specs.Conditions.{sema_v_plan}
-use Rattle.sd_full.specs.Dispatching.{dispatch_plan, leave_plan}
-use Rattle.sd_full.specs.Locking.{enter_event, grant_reader_plan, grant_writer_plan, is_eligible, read_event, unblock_plan, write_event}
-use Rattle.sd_full.specs.Plans.{ageing_plan, ageing_plan_of, cpu_plan, cpu_plan_of, duty_plan, duty_plan_of, first_of, free_plan_of, nap_plan, op_plan, or_plan, plan, run_plan, run_plan_of}
-use Rattle.sd_full.specs.Prioritising.{age_plan, answer_to, change_plan, is_privileged, new_class, prio_plan, uid_of}
-use Rattle.sd_full.specs.Requeueing.{requeue, requeue_at, requeue_plan}
-use Rattle.sd_full.specs.SetChanges.{assign_answer, bind_put, bind_to, bound_put, closing_plan, is_closing, is_misbound, unbound_put}
-use Rattle.sd_full.specs.Sleeping.{napend_plan, rouse_key, rouse_plan, wake_plan, woken_priority}
-use Rattle.sd_full.specs.Threads.{best_queued, best_ready, best_sleeper, best_sleeper_below, best_waiter, eff_of, first_due, lock_of, next_to_age, open_of, runner, runs_somewhere, set_of, thread_id}
-use Rattle.sd_full.specs.Walking.{inherited_priority, walk_plan, will_plan}
+use Rattle.sd_state.specs.declared.states.CpuState.{CpuState}
+use Rattle.sd_state.specs.declared.states.LockState.{LockState}
+use Rattle.sd_state.specs.declared.states.LockState.TheVariants.{Free, Owned, ReadHeld, Passing}
+use Rattle.sd_state.specs.declared.states.Place.{Place}
+use Rattle.sd_state.specs.declared.states.Place.TheVariants.{Running, Queued, RealTime, Waiting, Asleep, Napping, Ended}
+use Rattle.sd_state.specs.declared.states.State.{State}
+use Rattle.sd_state.specs.States.{cpu_of, thread_of}
+use Rattle.sd_state.specs.Operations.{op_of}
+use Rattle.sd_machine.specs.Bodies.{aged_class, eff_as_with, woken_class}
+use Rattle.sd_machine.specs.Conditions.{sema_v_plan}
+use Rattle.sd_machine.specs.Dispatching.{dispatch_plan, leave_plan}
+use Rattle.sd_machine.specs.Locking.{enter_event, grant_reader_plan, grant_writer_plan, is_eligible, read_event, unblock_plan, write_event}
+use Rattle.sd_machine.specs.Plans.{ageing_plan, ageing_plan_of, cpu_plan, cpu_plan_of, duty_plan, duty_plan_of, first_of, free_plan_of, nap_plan, op_plan, or_plan, plan, run_plan, run_plan_of}
+use Rattle.sd_machine.specs.Prioritising.{age_plan, answer_to, change_plan, is_privileged, new_class, prio_plan, uid_of}
+use Rattle.sd_machine.specs.Requeueing.{requeue, requeue_at, requeue_plan}
+use Rattle.sd_machine.specs.SetChanges.{assign_answer, bind_put, bind_to, bound_put, closing_plan, is_closing, is_misbound, unbound_put}
+use Rattle.sd_machine.specs.Sleeping.{napend_plan, rouse_key, rouse_plan, wake_plan, woken_priority}
+use Rattle.sd_machine.specs.Threads.{best_queued, best_ready, best_sleeper, best_sleeper_below, best_waiter, eff_of, first_due, lock_of, next_to_age, open_of, runner, runs_somewhere, set_of, thread_id}
+use Rattle.sd_machine.specs.Walking.{inherited_priority, walk_plan, will_plan}
 use Rattle.sd_store.specs.Walks.{next_to_rouse}
 use Rattle.sd_ordered.specs.Order.{key_in}
 use Rattle.sd_ordered.proofs.AfterLemmas.{answer_same, ended_same}

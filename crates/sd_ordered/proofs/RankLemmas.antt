@@ -9,13 +9,13 @@ use Rattle.std.proofs.lemmas.List.{ext_get_or, get_or_past, length-map}
 use Rattle.std.proofs.lemmas.List.Sums.{count_by-le-length}
 use Rattle.sd_types.specs.declared.events.Duty.{Duty}
 use Rattle.sd_types.specs.declared.events.Duty.TheVariants as duty
-use Rattle.sd_machine.specs.declared.states.CpuState.{CpuState}
-use Rattle.sd_machine.specs.declared.states.Place.{Place}
-use Rattle.sd_machine.specs.declared.states.Place.TheVariants.{Running, Queued, RealTime, Waiting, Asleep, Napping, Ended}
-use Rattle.sd_machine.specs.declared.states.ThreadState.{ThreadState}
-use Rattle.sd_machine.specs.declared.states.State.{State}
-use Rattle.sd_machine.specs.States.{cpu_of, no_cpu, no_thread, thread_of}
-use Rattle.sd_full.specs.Changes.{back_key}
+use Rattle.sd_state.specs.declared.states.CpuState.{CpuState}
+use Rattle.sd_state.specs.declared.states.Place.{Place}
+use Rattle.sd_state.specs.declared.states.Place.TheVariants.{Running, Queued, RealTime, Waiting, Asleep, Napping, Ended}
+use Rattle.sd_state.specs.declared.states.ThreadState.{ThreadState}
+use Rattle.sd_state.specs.declared.states.State.{State}
+use Rattle.sd_state.specs.States.{cpu_of, no_cpu, no_thread, thread_of}
+use Rattle.sd_machine.specs.Changes.{back_key}
 use Rattle.sd_ordered.specs.Order.{Holder, OfThread, OfCpu, IsKeyBefore, IsSameOrder, IsSleeperKey, KeysFit, bare, bare_cpu, bare_duty, bare_place, bare_thread, is_below, key_at, key_held, key_in}
 use Rattle.sd_ordered.specs.Ranks.{many_below, rank, ranked, ranked_cpu, ranked_duty, ranked_place, ranked_thread}
 use Rattle.sd_ordered.proofs.AlikeLemmas.{body_same, cpu_alike, cpus_many, duty_alike, duty_rekeyed, duty_with, key_or_zero, place_alike, place_rekeyed, place_with, threads_many}

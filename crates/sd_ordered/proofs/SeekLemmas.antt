@@ -8,15 +8,15 @@ use Rattle.sd_types.specs.declared.numbers.CpuId.{CpuId}
 use Rattle.sd_types.specs.declared.numbers.ThreadId.{ThreadId}
 use Rattle.sd_types.specs.declared.events.Duty.{Duty}
 use Rattle.sd_types.specs.declared.events.Duty.TheVariants as duty
-use Rattle.sd_machine.specs.declared.states.Place.{Place}
-use Rattle.sd_machine.specs.declared.states.Place.TheVariants.{Running, Queued, RealTime, Waiting, Asleep, Napping, Ended}
-use Rattle.sd_machine.specs.declared.states.State.{State}
-use Rattle.sd_machine.specs.States.{cpu_of, no_thread, thread_of}
-use Rattle.sd_machine.specs.Best.{beats}
-use Rattle.sd_machine.proofs.BestLemmas.{and_left}
-use Rattle.sd_full.specs.Sleeping.{rouse_key}
-use Rattle.sd_full.specs.Threads.{best_sleeper_below, is_asleep, is_asleep_below}
-use Rattle.sd_full.specs.Walking.{is_back}
+use Rattle.sd_state.specs.declared.states.Place.{Place}
+use Rattle.sd_state.specs.declared.states.Place.TheVariants.{Running, Queued, RealTime, Waiting, Asleep, Napping, Ended}
+use Rattle.sd_state.specs.declared.states.State.{State}
+use Rattle.sd_state.specs.States.{cpu_of, no_thread, thread_of}
+use Rattle.sd_state.specs.Best.{beats}
+use Rattle.sd_state.proofs.BestLemmas.{and_left}
+use Rattle.sd_machine.specs.Sleeping.{rouse_key}
+use Rattle.sd_machine.specs.Threads.{best_sleeper_below, is_asleep, is_asleep_below}
+use Rattle.sd_machine.specs.Walking.{is_back}
 use Rattle.sd_store.specs.Walks.{next_to_rouse}
 use Rattle.sd_ordered.specs.Order.{OfThread, OfCpu, IsSleeperKey, is_below, key_at, key_in}
 use Rattle.sd_ordered.proofs.AlikeLemmas.{duty_alike, duty_rekeyed, duty_with, key_or_zero, place_alike, place_rekeyed, place_with, threads_many}

@@ -4,8 +4,8 @@ use Rattle.std.proofs.Common.{◌≡◌, ℕ, ◌+◌, true, false, ℤ, negsuc,
 use Rattle.std.specs.Prelude.{IfSome}
 use Rattle.std.proofs.lemmas.Bool.Decides.{nat_tests}
 use Rattle.std.proofs.lemmas.Int.{ints}
-use Rattle.sd_machine.specs.declared.states.State.{State}
-use Rattle.sd_full.specs.Changes.{back_key}
+use Rattle.sd_state.specs.declared.states.State.{State}
+use Rattle.sd_machine.specs.Changes.{back_key}
 use Rattle.sd_ordered.specs.Order.{Holder, IsKeyBefore, IsSameOrder, KeysFit, is_below, key_held}
 use Rattle.sd_ordered.proofs.AlikeLemmas.{there_alike}
 use Rattle.sd_ordered.proofs.KeyLemmas.{back_fits, front_fits}

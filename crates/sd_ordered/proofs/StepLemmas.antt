@@ -5,12 +5,12 @@ use Rattle.std.proofs.lemmas.Bool.{cases_eq, cases_lt, eq-eqb}
 use Rattle.std.proofs.lemmas.Bool.Decides.{nat_tests}
 use Rattle.std.proofs.lemmas.List.{map-set, set_past}
 use Rattle.sd_types.specs.declared.numbers.CpuId.{CpuId}
-use Rattle.sd_machine.specs.declared.states.CpuState.{CpuState}
-use Rattle.sd_machine.specs.declared.states.LockState.{LockState}
-use Rattle.sd_machine.specs.declared.states.ThreadState.{ThreadState}
-use Rattle.sd_machine.specs.declared.states.State.{State}
-use Rattle.sd_machine.specs.States.{no_cpu, no_thread, thread_of, with_cpu, with_thread}
-use Rattle.sd_full.specs.Threads.{with_count, with_lock, with_open}
+use Rattle.sd_state.specs.declared.states.CpuState.{CpuState}
+use Rattle.sd_state.specs.declared.states.LockState.{LockState}
+use Rattle.sd_state.specs.declared.states.ThreadState.{ThreadState}
+use Rattle.sd_state.specs.declared.states.State.{State}
+use Rattle.sd_state.specs.States.{no_cpu, no_thread, thread_of, with_cpu, with_thread}
+use Rattle.sd_machine.specs.Threads.{with_count, with_lock, with_open}
 use Rattle.sd_ordered.specs.Order.{Holder, OfThread, OfCpu, IsKeyBefore, IsSleeperKey, KeysFit, bare, bare_cpu, bare_thread, key_at, key_held, key_in}
 use Rattle.sd_ordered.specs.Shown.{if_later, fit_later}
 use Rattle.sd_ordered.proofs.AlikeLemmas.{cpus_many, threads_many}

@@ -6,17 +6,17 @@ use Rattle.sd_types.specs.declared.numbers.LockId.{LockId}
 use Rattle.sd_types.specs.declared.numbers.Side.{Side}
 use Rattle.sd_types.specs.declared.works.Work.{Work}
 use Rattle.sd_types.specs.Priorities.{eff}
-use Rattle.sd_machine.specs.declared.states.CpuState.{CpuState}
-use Rattle.sd_machine.specs.declared.states.Place.{Place}
-use Rattle.sd_machine.specs.declared.states.Place.TheVariants.{Running, Queued, RealTime, Waiting, Asleep, Napping, Ended}
-use Rattle.sd_machine.specs.declared.states.ThreadState.{ThreadState}
-use Rattle.sd_machine.specs.declared.states.State.{State}
-use Rattle.sd_machine.specs.States.{cpu_of, is_queued, is_ready, is_running, key_of, no_cpu, no_thread, thread_of}
-use Rattle.sd_machine.specs.Best.{beats, best_by, queue_rank}
-use Rattle.sd_machine.proofs.BestLemmas.{and_left}
-use Rattle.sd_full.specs.Threads.{best_queued, count_of, lock_of, open_of, best_ready, best_sleeper, best_unbound, best_waiter, due_of, first_due, greatest_waiting, has_waiters, is_asleep, is_due, is_ts, is_waiting, is_waiting_at, naps_less, next_to_age, runner}
-use Rattle.sd_full.specs.Locking.{others_waiting}
-use Rattle.sd_full.specs.Events.{may_tick}
+use Rattle.sd_state.specs.declared.states.CpuState.{CpuState}
+use Rattle.sd_state.specs.declared.states.Place.{Place}
+use Rattle.sd_state.specs.declared.states.Place.TheVariants.{Running, Queued, RealTime, Waiting, Asleep, Napping, Ended}
+use Rattle.sd_state.specs.declared.states.ThreadState.{ThreadState}
+use Rattle.sd_state.specs.declared.states.State.{State}
+use Rattle.sd_state.specs.States.{cpu_of, is_queued, is_ready, is_running, key_of, no_cpu, no_thread, thread_of}
+use Rattle.sd_state.specs.Best.{beats, best_by, queue_rank}
+use Rattle.sd_state.proofs.BestLemmas.{and_left}
+use Rattle.sd_machine.specs.Threads.{best_queued, count_of, lock_of, open_of, best_ready, best_sleeper, best_unbound, best_waiter, due_of, first_due, greatest_waiting, has_waiters, is_asleep, is_due, is_ts, is_waiting, is_waiting_at, naps_less, next_to_age, runner}
+use Rattle.sd_machine.specs.Locking.{others_waiting}
+use Rattle.sd_machine.specs.Events.{may_tick}
 use Rattle.sd_store.specs.Keyless.{spot_of, task_of}
 use Rattle.sd_store.specs.Parts.{view_of}
 use Rattle.sd_ordered.specs.Order.{OfThread, IsSameOrder, bare_thread, is_below, key_at}

@@ -2,7 +2,7 @@
 -- Source: this project's own.
 use Rattle.std.specs.Prelude.{ℕ, ◌+◌, ◌≤◌, length, ℤ, Option, Some, None, IfSome}
 use Rattle.std.proofs.Math.Nat.{le-add_right, le_trans}
-use Rattle.sd_machine.specs.declared.states.State.{State}
+use Rattle.sd_state.specs.declared.states.State.{State}
 use Rattle.sd_ordered.specs.Order.{IsKeyBefore, IsSameOrder, KeysFit, key_held}
 use Rattle.sd_ordered.specs.declared.ordered.Ordered.{Ordered}
 

@@ -1,7 +1,7 @@
 //! Looking at a state of which the keys count only by their order: what the one state tells is so in each that is shown.
 
 use crate::Ordered;
-use sd_machine::LockState;
+use sd_state::LockState;
 use sd_store::{CpuView, Look, Never, Spot, Task};
 use sd_types::{ChanId, CpuId, LockId, SetId, Side, ThreadBody, ThreadId};
 

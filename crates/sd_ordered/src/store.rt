@@ -2,7 +2,7 @@
 //! is shown, since an entry gives a key that is above all others, or below.
 
 use crate::Ordered;
-use sd_machine::LockState;
+use sd_state::LockState;
 use sd_store::{BodyChange, Chore, Destination, Never, Store};
 use sd_types::{ChanId, CpuId, LockId, Put, ThreadId, Work};
 

@@ -3,8 +3,8 @@ use Rattle.std.proofs.Common.{◌≡◌, ℕ, ◌<◌, ◌≤◌, Bool, true, fa
 use Rattle.sd_types.specs.declared.events.Stop.{Stop}
 use Rattle.sd_types.specs.declared.events.Stop.TheVariants.{Full, Memory}
 use Rattle.sd_types.specs.Events.{ticks}
-use Rattle.sd_full.specs.Events.{next, wish}
-use Rattle.sd_full.specs.Runs.{serial_hints}
+use Rattle.sd_machine.specs.Events.{next, wish}
+use Rattle.sd_machine.specs.Runs.{serial_hints}
 use Rattle.sd_hand.specs.declared.acting.Actor.{Actor}
 use Rattle.sd_world.specs.Worlds.{Begins, Meaning, actor_of, after_run, entry_of, most_entries}
 use Rattle.sd_world.proofs.WorldLemmas.{begins_same, begins_then}

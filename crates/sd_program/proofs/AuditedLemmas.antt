@@ -6,7 +6,7 @@ use Rattle.std.specs.Io.KnownBytes.{Appends}
 use Rattle.sd_types.specs.declared.events.Entry.{Entry}
 use Rattle.sd_types.specs.declared.works.Work.{Work}
 use Rattle.sd_text.proofs.StreamLemmas.{Appends-told}
-use Rattle.sd_full.specs.Texts.{journal}
+use Rattle.sd_machine.specs.Texts.{journal}
 use Rattle.sd_workload.specs.Accepted.{Accepted}
 use Rattle.sd_audit.specs.Audits.{IsJournal}
 use Rattle.sd_answers.specs.Certificates.{IsJournalOf, Certifies}

@@ -8,16 +8,16 @@ use Rattle.sd_types.specs.declared.works.Work.{Work}
 use Rattle.sd_tables.specs.TableSpelling.{ts_text, fixed_text}
 use Rattle.sd_text.specs.Lines.{EndsLine}
 use Rattle.sd_text.proofs.PieceLemmas.{EndsLine-append, EndsLine-flat_map}
-use Rattle.sd_machine.specs.declared.states.State.{State}
-use Rattle.sd_machine.specs.declared.states.ThreadState.{ThreadState}
-use Rattle.sd_machine.specs.States.{thread_of}
-use Rattle.sd_machine.specs.Accounts.{cpu_ticks, cpu_idle, is_idle}
-use Rattle.sd_machine.specs.Texts.{thread_name, thread_counts, state_text, thread_line, cpu_line, threads_text, cpus_text, accounts_text}
+use Rattle.sd_state.specs.declared.states.State.{State}
+use Rattle.sd_state.specs.declared.states.ThreadState.{ThreadState}
+use Rattle.sd_state.specs.States.{thread_of}
+use Rattle.sd_state.specs.Accounts.{cpu_ticks, cpu_idle, is_idle}
+use Rattle.sd_state.specs.Texts.{thread_name, thread_counts, state_text, thread_line, cpu_line, threads_text, cpus_text, accounts_text}
 use Rattle.sd_types.specs.Events.{ticks}
-use Rattle.sd_full.specs.Threads.{has_ended}
-use Rattle.sd_full.specs.Accounts.{entries_of, is_dispatch, is_steal, is_preempt, is_wake, is_block, is_will}
-use Rattle.sd_full.specs.LockGraph.{cycles_of}
-use Rattle.sd_full.specs.Texts.{cycle_line, cycle_word, cycles_text, count_line, summary_of}
+use Rattle.sd_machine.specs.Threads.{has_ended}
+use Rattle.sd_machine.specs.Accounts.{entries_of, is_dispatch, is_steal, is_preempt, is_wake, is_block, is_will}
+use Rattle.sd_machine.specs.LockGraph.{cycles_of}
+use Rattle.sd_machine.specs.Texts.{cycle_line, cycle_word, cycles_text, count_line, summary_of}
 use Rattle.sd_canonical.specs.Blocks.{block_text, tables_text}
 use Rattle.sd_gen.specs.Generated.{Drawn, drawn, drawn_text, then_drawn, drawn_from, number_line, head_text, locks_text, class_text, set_text, thread_text, thread_line as thread_drawn, lock_line, locked_text, nested_text, mutex_part, nested_part, read_part, write_part, nap_part, part, part_drawn, round_text, end_text, script_text, first_generator, generated}
 use Rattle.sd_answers.proofs.EndLemmas.{Closes, closes-behind, closed, ends-behind}

@@ -31,8 +31,8 @@ use Rattle.sd_types.specs.NameWords.{is_name_byte, begins_with_letter}
 use Rattle.sd_text.specs.Lines.{is_newline, is_line, IsOneLine}
 use Rattle.sd_text.proofs.NumberLemmas.{decimal-line}
 use Rattle.sd_text.proofs.PieceLemmas.{one_line-append, one_line-newline}
-use Rattle.sd_machine.specs.Texts.{thread_name, lock_name, chan_name, end_text}
-use Rattle.sd_full.specs.Texts.{set_name, cpu_text, put_text, put_text_if, woken_text, denied_text, prio_text, assign_text, bind_text, cpu_text_if, word_thread, word_lock, word_chan, event_text, numbers_text, hints_text, entry_text}
+use Rattle.sd_state.specs.Texts.{thread_name, lock_name, chan_name, end_text}
+use Rattle.sd_machine.specs.Texts.{set_name, cpu_text, put_text, put_text_if, woken_text, denied_text, prio_text, assign_text, bind_text, cpu_text_if, word_thread, word_lock, word_chan, event_text, numbers_text, hints_text, entry_text}
 use Rattle.sd_program.specs.AuditAnswers.{legal_text}
 
 line-join : (xs ys : List ℕ) → is_line xs ≡ true → is_line ys ≡ true → is_line (xs ++ ys) ≡ true

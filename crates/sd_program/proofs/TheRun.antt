@@ -6,11 +6,11 @@ use Rattle.sd_types.specs.declared.events.Entry.{Entry}
 use Rattle.sd_types.specs.declared.works.Work.{Work}
 use Rattle.sd_chains.specs.Cycles.{IsCycle}
 use Rattle.sd_chains.specs.Listing.{ListsCycles}
-use Rattle.sd_machine.specs.Opening.{opening}
-use Rattle.sd_machine.specs.declared.states.State.{State}
-use Rattle.sd_full.specs.LockGraph.{graph, cycles_of}
-use Rattle.sd_full.specs.Runs.{state_at, IsComplete, IsRun, IsReached}
-use Rattle.sd_full.proofs.RunLemmas.{IsRun-from, from-IsRun, IsRunFrom-front}
+use Rattle.sd_state.specs.Opening.{opening}
+use Rattle.sd_state.specs.declared.states.State.{State}
+use Rattle.sd_machine.specs.LockGraph.{graph, cycles_of}
+use Rattle.sd_machine.specs.Runs.{state_at, IsComplete, IsRun, IsReached}
+use Rattle.sd_machine.proofs.RunLemmas.{IsRun-from, from-IsRun, IsRunFrom-front}
 use Rattle.sd_range.proofs.Complete.{complete_at_limit}
 use Rattle.sd_belonging.proofs.All.{threads_belong}
 use Rattle.sd_belonging.proofs.Marks.{marks_stand}

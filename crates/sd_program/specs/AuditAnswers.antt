@@ -2,7 +2,7 @@
 -- Source: this project's own.
 use Rattle.std.specs.Prelude.{ℕ, List, ◌++◌, codes, decimal, Result}
 use Rattle.sd_types.specs.declared.works.Work.{Work}
-use Rattle.sd_machine.specs.declared.states.State.{State}
+use Rattle.sd_state.specs.declared.states.State.{State}
 use Rattle.sd_audit.specs.Audits.{IsJournal}
 use Rattle.sd_answers.specs.declared.answers.Answer.{Answer}
 use Rattle.sd_answers.specs.Certificates.{CausedByCertificate, IsJudged, Writes}

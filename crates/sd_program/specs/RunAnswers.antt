@@ -4,7 +4,7 @@ use Rattle.std.specs.Prelude.{◌≢◌, List, [], ◌⊎◌}
 use Rattle.std.specs.Io.KnownBytes.{Appends}
 use Rattle.sd_types.specs.declared.events.Entry.{Entry}
 use Rattle.sd_types.specs.declared.works.Work.{Work}
-use Rattle.sd_full.specs.LockGraph.{cycles_of}
+use Rattle.sd_machine.specs.LockGraph.{cycles_of}
 use Rattle.sd_rounds.specs.Orders.{orders_of}
 use Rattle.sd_rounds.specs.Rounds.{IsLongSerial}
 use Rattle.sd_rounds.specs.Rounds.{IsLongRun}

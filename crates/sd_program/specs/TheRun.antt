@@ -4,15 +4,15 @@ use Rattle.std.specs.Prelude.{◌≡◌, ⊤, ℕ, ◌<◌, ◌≤◌, true, Lis
 use Rattle.sd_types.specs.declared.events.Entry.{Entry}
 use Rattle.sd_types.specs.declared.works.Work.{Work}
 use Rattle.sd_chains.specs.Graphs.{IsChainMax}
-use Rattle.sd_machine.specs.Accounts.{is_wake_of}
-use Rattle.sd_machine.specs.Opening.{opening}
-use Rattle.sd_machine.specs.declared.states.State.{State}
-use Rattle.sd_machine.specs.States.{thread_of, cpu_of}
-use Rattle.sd_full.specs.LockGraph.{graph, cycles_of}
-use Rattle.sd_full.specs.Runs.{final, state_at, IsRun, IsComplete, IsSerial}
-use Rattle.sd_full.specs.Texts.{journal}
-use Rattle.sd_full.specs.Threads.{eff_of}
-use Rattle.sd_machine.specs.Invariants.{MarksStand}
+use Rattle.sd_state.specs.Accounts.{is_wake_of}
+use Rattle.sd_state.specs.Opening.{opening}
+use Rattle.sd_state.specs.declared.states.State.{State}
+use Rattle.sd_state.specs.States.{thread_of, cpu_of}
+use Rattle.sd_machine.specs.LockGraph.{graph, cycles_of}
+use Rattle.sd_machine.specs.Runs.{final, state_at, IsRun, IsComplete, IsSerial}
+use Rattle.sd_machine.specs.Texts.{journal}
+use Rattle.sd_machine.specs.Threads.{eff_of}
+use Rattle.sd_state.specs.Invariants.{MarksStand}
 use Rattle.sd_belonging.specs.Belonging.{EachInOnePlace, ThreadsBelong}
 use Rattle.sd_inheritance.specs.Laws.{NobodyWalks, PrioritiesAreMaxima}
 use Rattle.sd_hand.specs.OneHome.{StandsInHomes}

@@ -1,9 +1,9 @@
 //! The run of an accepted workload, made and written.
 
 ghost use Rattle.std.specs.Prelude.{◌≡◌, ◌≢◌, ◌<◌, ◌≤◌, ◌^◌, ◌↔◌, [], length, IfOk, IsTrue, IsErrOf};
-ghost use Rattle.sd_full.specs.LockGraph.{cycles_of};
-ghost use Rattle.sd_full.specs.Runs.{final};
-ghost use Rattle.sd_machine.specs.Opening.{opening};
+ghost use Rattle.sd_machine.specs.LockGraph.{cycles_of};
+ghost use Rattle.sd_machine.specs.Runs.{final};
+ghost use Rattle.sd_state.specs.Opening.{opening};
 ghost use Rattle.sd_answers.specs.Answers.{answer_of};
 ghost use Rattle.sd_program.specs.declared.forms.Form.TheVariants.{Journal};
 ghost use Rattle.sd_program.specs.declared.forms.Mode.TheVariants.{Threads};
@@ -18,8 +18,8 @@ use sd_answers::Answer;
 use sd_certified::numbers_are_bytes;
 use sd_cpu::Gate;
 use sd_cycles::cycles;
-use sd_machine::State;
 use sd_rounds::{Finished, run_rounds};
+use sd_state::State;
 use sd_text::Sink;
 use sd_threads::run_on_threads;
 use sd_types::{Stop, Work};

@@ -2,10 +2,10 @@
 
 ghost use Rattle.std.specs.Prelude.{◌≡◌, ◌++◌, ◌<◌, ◌^◌, length, IfOk};
 ghost use Rattle.sd_accounts.specs.Counters.{HasTaken};
-ghost use Rattle.sd_full.specs.Runs.{final};
-ghost use Rattle.sd_full.specs.Texts.{cycles_text, entries_text, entry_text, journal, summary};
-ghost use Rattle.sd_machine.specs.Opening.{opening};
-ghost use Rattle.sd_machine.specs.Texts.{accounts_text};
+ghost use Rattle.sd_machine.specs.Runs.{final};
+ghost use Rattle.sd_machine.specs.Texts.{cycles_text, entries_text, entry_text, journal, summary};
+ghost use Rattle.sd_state.specs.Opening.{opening};
+ghost use Rattle.sd_state.specs.Texts.{accounts_text};
 ghost use Rattle.sd_program.specs.Forms.{text_of};
 ghost use Rattle.sd_answers.specs.StreamChanges.{Puts};
 
@@ -13,7 +13,7 @@ use crate::forms::Form;
 use sd_accounts::Accounts;
 use sd_answers::{Unwritten, put_line, put_text};
 use sd_event::EntryLine;
-use sd_machine::State;
+use sd_state::State;
 use sd_text::Sink;
 use sd_types::{Entry, Work};
 use std::alloc::{AllocError, Global};
@@ -74,7 +74,7 @@ fn put_accounts<K: Sink>(
 }
 
 /// Writes the journal of a run: its entries in order, then its accounts and the blocking cycles of its final state.
-#[tactic(auto, unfolding(sd_full::specs::Texts::journal))]
+#[tactic(auto, unfolding(sd_machine::specs::Texts::journal))]
 fn put_journal<K: Sink>(
     alloc: Global,
     work: &Work,
@@ -92,7 +92,7 @@ fn put_journal<K: Sink>(
 }
 
 /// Writes the summary of a run.
-#[tactic(auto, unfolding(sd_full::specs::Texts::summary))]
+#[tactic(auto, unfolding(sd_machine::specs::Texts::summary))]
 fn put_summary<K: Sink>(
     alloc: Global,
     work: &Work,

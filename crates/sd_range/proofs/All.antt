@@ -10,12 +10,12 @@ use Rattle.sd_types.specs.Scripts.{is_held}
 use Rattle.sd_chains.specs.Holders as H
 use Rattle.sd_chains.proofs.HolderLemmas.{free_unheld}
 use Rattle.sd_chains.proofs.Moves.{none_some}
-use Rattle.sd_machine.specs.declared.states.LockState.{LockState}
-use Rattle.sd_machine.specs.declared.states.LockState.TheVariants.{Free, Owned, ReadHeld, Passing}
-use Rattle.sd_machine.specs.declared.states.CpuState.{CpuState}
-use Rattle.sd_machine.specs.declared.states.State.{State}
-use Rattle.sd_machine.specs.States.{no_cpu, thread_of, cpu_of}
-use Rattle.sd_full.specs.Threads.{lock_of}
+use Rattle.sd_state.specs.declared.states.LockState.{LockState}
+use Rattle.sd_state.specs.declared.states.LockState.TheVariants.{Free, Owned, ReadHeld, Passing}
+use Rattle.sd_state.specs.declared.states.CpuState.{CpuState}
+use Rattle.sd_state.specs.declared.states.State.{State}
+use Rattle.sd_state.specs.States.{no_cpu, thread_of, cpu_of}
+use Rattle.sd_machine.specs.Threads.{lock_of}
 use Rattle.sd_sound.specs.Holding.{lock_state, pass_of, table}
 use Rattle.sd_sound.specs.Laws.{HoldsWhenReached}
 use Rattle.sd_sound.proofs.AgreedAfter.{IsReady, lock_inside, not_free_passing}

@@ -12,12 +12,12 @@ use Rattle.sd_types.specs.declared.events.Which.{Which}
 use Rattle.sd_types.specs.declared.events.Which.TheVariants as which
 use Rattle.sd_types.specs.declared.works.Work.{Work}
 use Rattle.sd_types.specs.Events.{ticks}
-use Rattle.sd_machine.specs.declared.states.CpuState.{CpuState}
-use Rattle.sd_machine.specs.declared.states.State.{State}
-use Rattle.sd_machine.specs.States.{no_cpu, cpu_of}
-use Rattle.sd_full.specs.Choosing.{hint_shown}
-use Rattle.sd_full.specs.Events.{reads, same_which, hints_fit, wish, may_tick, allowed, next}
-use Rattle.sd_full.specs.Runs.{IsComplete, shown}
+use Rattle.sd_state.specs.declared.states.CpuState.{CpuState}
+use Rattle.sd_state.specs.declared.states.State.{State}
+use Rattle.sd_state.specs.States.{no_cpu, cpu_of}
+use Rattle.sd_machine.specs.Choosing.{hint_shown}
+use Rattle.sd_machine.specs.Events.{reads, same_which, hints_fit, wish, may_tick, allowed, next}
+use Rattle.sd_machine.specs.Runs.{IsComplete, shown}
 use Rattle.sd_sound.proofs.Whole.{reached_whole}
 use Rattle.sd_sound.proofs.BoundLemmas.{same_id}
 use Rattle.sd_range.specs.Complete.{CompleteRunsReachTheLimit}

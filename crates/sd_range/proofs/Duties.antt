@@ -28,29 +28,29 @@ use Rattle.sd_types.specs.declared.scripts.Op.TheVariants as op
 use Rattle.sd_types.specs.declared.works.Work.{Work}
 use Rattle.sd_types.specs.Works.{is_mutex}
 use Rattle.sd_chains.proofs.Moves.{put_cases}
-use Rattle.sd_machine.specs.Invariants.{IsThere}
-use Rattle.sd_machine.specs.declared.states.Place.{Place}
-use Rattle.sd_machine.specs.declared.states.Place.TheVariants.{Running, Queued, RealTime, Waiting, Asleep, Napping, Ended}
-use Rattle.sd_machine.specs.declared.states.LockState.{LockState}
-use Rattle.sd_machine.specs.declared.states.LockState.TheVariants.{Free, Owned, ReadHeld, Passing}
-use Rattle.sd_machine.specs.declared.states.CpuState.{CpuState}
-use Rattle.sd_machine.specs.declared.states.State.{State}
-use Rattle.sd_machine.specs.States.{no_cpu, thread_of, cpu_of, with_cpu}
-use Rattle.sd_machine.specs.Operations.{op_of}
-use Rattle.sd_machine.specs.Opening.{first_cpu_state, opening}
-use Rattle.sd_full.specs.Threads.{thread_id, lock_of, with_lock, runner, best_waiter, best_sleeper, best_sleeper_below, eff_of, priority_of, has_waiters, greatest_waiting}
-use Rattle.sd_full.specs.Bodies.{aged_class}
-use Rattle.sd_full.specs.Changes.{back_key, with_body, run_tick, set_class, set_number, set_looped, set_duty, duty_after, counted, count_tick, put_where, close, join, bind, unbind}
-use Rattle.sd_full.specs.Dispatching.{class_counts, ticked, spun, idled}
-use Rattle.sd_full.specs.Sleeping.{woken, woke_all, roused_on, rouse_key, roused}
-use Rattle.sd_full.specs.Locking.{kind_of, writer_first, after_reader, after_owner, free_or_passed, release_from, exited, unblocked_on, unblocked, granted, passed_on, passed}
-use Rattle.sd_full.specs.Requeueing.{reordered}
-use Rattle.sd_full.specs.Walking.{is_back, next_walk, walked, willed, walk_ended}
-use Rattle.sd_full.specs.Prioritising.{answer_to, new_class, walk_from, changed_by, changed_on, reprioritised, lifted, aged}
-use Rattle.sd_full.specs.Conditions.{cv_waited}
-use Rattle.sd_full.specs.SetChanges.{cleared, assigned, joined, rebound, pbound}
-use Rattle.sd_full.specs.Events.{keeps_ageing, dropped_duty, drop_ageing, effect, after}
-use Rattle.sd_full.proofs.ShapeLemmas.{set_duty_shape}
+use Rattle.sd_state.specs.Invariants.{IsThere}
+use Rattle.sd_state.specs.declared.states.Place.{Place}
+use Rattle.sd_state.specs.declared.states.Place.TheVariants.{Running, Queued, RealTime, Waiting, Asleep, Napping, Ended}
+use Rattle.sd_state.specs.declared.states.LockState.{LockState}
+use Rattle.sd_state.specs.declared.states.LockState.TheVariants.{Free, Owned, ReadHeld, Passing}
+use Rattle.sd_state.specs.declared.states.CpuState.{CpuState}
+use Rattle.sd_state.specs.declared.states.State.{State}
+use Rattle.sd_state.specs.States.{no_cpu, thread_of, cpu_of, with_cpu}
+use Rattle.sd_state.specs.Operations.{op_of}
+use Rattle.sd_state.specs.Opening.{first_cpu_state, opening}
+use Rattle.sd_machine.specs.Threads.{thread_id, lock_of, with_lock, runner, best_waiter, best_sleeper, best_sleeper_below, eff_of, priority_of, has_waiters, greatest_waiting}
+use Rattle.sd_machine.specs.Bodies.{aged_class}
+use Rattle.sd_machine.specs.Changes.{back_key, with_body, run_tick, set_class, set_number, set_looped, set_duty, duty_after, counted, count_tick, put_where, close, join, bind, unbind}
+use Rattle.sd_machine.specs.Dispatching.{class_counts, ticked, spun, idled}
+use Rattle.sd_machine.specs.Sleeping.{woken, woke_all, roused_on, rouse_key, roused}
+use Rattle.sd_machine.specs.Locking.{kind_of, writer_first, after_reader, after_owner, free_or_passed, release_from, exited, unblocked_on, unblocked, granted, passed_on, passed}
+use Rattle.sd_machine.specs.Requeueing.{reordered}
+use Rattle.sd_machine.specs.Walking.{is_back, next_walk, walked, willed, walk_ended}
+use Rattle.sd_machine.specs.Prioritising.{answer_to, new_class, walk_from, changed_by, changed_on, reprioritised, lifted, aged}
+use Rattle.sd_machine.specs.Conditions.{cv_waited}
+use Rattle.sd_machine.specs.SetChanges.{cleared, assigned, joined, rebound, pbound}
+use Rattle.sd_machine.specs.Events.{keeps_ageing, dropped_duty, drop_ageing, effect, after}
+use Rattle.sd_machine.proofs.ShapeLemmas.{set_duty_shape}
 use Rattle.sd_sound.specs.Causes.{IsCause}
 use Rattle.sd_sound.specs.Laws.{HoldsWhenReached}
 use Rattle.sd_sound.proofs.CpuWords as C

@@ -6,11 +6,11 @@ use Rattle.sd_types.specs.declared.numbers.CpuId.{CpuId}
 use Rattle.sd_types.specs.declared.events.Entry.{Entry}
 use Rattle.sd_types.specs.declared.events.Event.{Event}
 use Rattle.sd_types.specs.declared.works.Work.{Work}
-use Rattle.sd_machine.specs.declared.states.State.{State}
-use Rattle.sd_machine.specs.Opening.{opening}
-use Rattle.sd_full.specs.Events.{after}
-use Rattle.sd_full.specs.Runs.{final, IsStep, IsRunFrom, IsReached}
-use Rattle.sd_full.proofs.RunLemmas.{final-nil, final-push, IsRun-from, from-IsRun, IsRun-nil, IsRunFrom-push}
+use Rattle.sd_state.specs.declared.states.State.{State}
+use Rattle.sd_state.specs.Opening.{opening}
+use Rattle.sd_machine.specs.Events.{after}
+use Rattle.sd_machine.specs.Runs.{final, IsStep, IsRunFrom, IsReached}
+use Rattle.sd_machine.proofs.RunLemmas.{final-nil, final-push, IsRun-from, from-IsRun, IsRun-nil, IsRunFrom-push}
 use Rattle.sd_sound.specs.Causes.{IsCause}
 use Rattle.sd_sound.specs.Laws.{HoldsWhenReached}
 use Rattle.sd_sound.proofs.Ready.{ready_cause, maker_inside, reached_ready}

@@ -31,28 +31,28 @@ use Rattle.sd_types.specs.declared.works.ThreadDecl.{ThreadDecl}
 use Rattle.sd_types.specs.declared.works.Work.{Work}
 use Rattle.sd_types.specs.Works.{thread_fits}
 use Rattle.sd_chains.proofs.Moves.{put_cases}
-use Rattle.sd_machine.specs.declared.states.Place.{Place}
-use Rattle.sd_machine.specs.declared.states.Place.TheVariants.{Running, Ended}
-use Rattle.sd_machine.specs.declared.states.LockState.TheVariants.{Owned}
-use Rattle.sd_machine.specs.declared.states.CpuState.{CpuState}
-use Rattle.sd_machine.specs.declared.states.ThreadState.{ThreadState}
-use Rattle.sd_machine.specs.declared.states.State.{State}
-use Rattle.sd_machine.specs.States.{no_thread, thread_of, cpu_of, with_thread, with_cpu}
-use Rattle.sd_machine.specs.Opening.{turn_of, is_urgent, first_cpu, first_thread, first_threads, opening}
-use Rattle.sd_machine.specs.Operations.{script_of, op_of, op_over, ran}
-use Rattle.sd_machine.proofs.BestLemmas.{and_right, and_left}
-use Rattle.sd_full.specs.Threads.{thread_id, lock_of, with_lock, runner, best_sleeper, eff_of}
-use Rattle.sd_full.specs.Bodies.{aged_class, departed, arrived}
-use Rattle.sd_full.specs.Changes.{back_key, with_place, finish_op, run_tick, set_class, send_back, hold, let_go, set_number, set_looped, set_duty, count_tick, clear_marks, run_on, leave, place_put, put, put_where, close, bind, unbind}
-use Rattle.sd_full.specs.Dispatching.{charge, class_counts, ticked, spun, dispatched, stolen, preempted, sent_away, yielded, done}
-use Rattle.sd_full.specs.Sleeping.{woken, napped, fallen_asleep, woke, woke_all, roused}
-use Rattle.sd_full.specs.Locking.{owned, one_more, read, blocked, released, exited, unblocked, one_reader_more, granted_to_writer, granted_to_reader, granted}
-use Rattle.sd_full.specs.Requeueing.{reordered_at, reordered}
-use Rattle.sd_full.specs.Walking.{walked, willed}
-use Rattle.sd_full.specs.Prioritising.{answer_to, new_class, changed_by, changed_on, reprioritised, lifted, aged}
-use Rattle.sd_full.specs.Conditions.{cv_waited, sema_taken, sema_counted, sema_handed}
-use Rattle.sd_full.specs.SetChanges.{cleared, assigned, moved, rebound, pbound}
-use Rattle.sd_full.specs.Events.{drop_ageing, effect, after}
+use Rattle.sd_state.specs.declared.states.Place.{Place}
+use Rattle.sd_state.specs.declared.states.Place.TheVariants.{Running, Ended}
+use Rattle.sd_state.specs.declared.states.LockState.TheVariants.{Owned}
+use Rattle.sd_state.specs.declared.states.CpuState.{CpuState}
+use Rattle.sd_state.specs.declared.states.ThreadState.{ThreadState}
+use Rattle.sd_state.specs.declared.states.State.{State}
+use Rattle.sd_state.specs.States.{no_thread, thread_of, cpu_of, with_thread, with_cpu}
+use Rattle.sd_state.specs.Opening.{turn_of, is_urgent, first_cpu, first_thread, first_threads, opening}
+use Rattle.sd_state.specs.Operations.{script_of, op_of, op_over, ran}
+use Rattle.sd_state.proofs.BestLemmas.{and_right, and_left}
+use Rattle.sd_machine.specs.Threads.{thread_id, lock_of, with_lock, runner, best_sleeper, eff_of}
+use Rattle.sd_machine.specs.Bodies.{aged_class, departed, arrived}
+use Rattle.sd_machine.specs.Changes.{back_key, with_place, finish_op, run_tick, set_class, send_back, hold, let_go, set_number, set_looped, set_duty, count_tick, clear_marks, run_on, leave, place_put, put, put_where, close, bind, unbind}
+use Rattle.sd_machine.specs.Dispatching.{charge, class_counts, ticked, spun, dispatched, stolen, preempted, sent_away, yielded, done}
+use Rattle.sd_machine.specs.Sleeping.{woken, napped, fallen_asleep, woke, woke_all, roused}
+use Rattle.sd_machine.specs.Locking.{owned, one_more, read, blocked, released, exited, unblocked, one_reader_more, granted_to_writer, granted_to_reader, granted}
+use Rattle.sd_machine.specs.Requeueing.{reordered_at, reordered}
+use Rattle.sd_machine.specs.Walking.{walked, willed}
+use Rattle.sd_machine.specs.Prioritising.{answer_to, new_class, changed_by, changed_on, reprioritised, lifted, aged}
+use Rattle.sd_machine.specs.Conditions.{cv_waited, sema_taken, sema_counted, sema_handed}
+use Rattle.sd_machine.specs.SetChanges.{cleared, assigned, moved, rebound, pbound}
+use Rattle.sd_machine.specs.Events.{drop_ageing, effect, after}
 use Rattle.sd_sound.specs.Laws.{HoldsWhenReached}
 use Rattle.sd_sound.proofs.Parts.{same_item, put_item, set_past}
 use Rattle.sd_sound.proofs.Words.{Same, all_same, called_back_same, clear_marks_same, cleared_same, close_same, count_same, count_tick_same, idled_same, joined_same, lock_same, mark_over_same, passed_same, release_from_same, remark_same, roused_on_same, set_duty_same, set_mark_same, then_same, unblocked_on_same, walk_ended_same, walk_from_same}

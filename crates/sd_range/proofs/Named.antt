@@ -21,11 +21,11 @@ use Rattle.sd_types.specs.declared.works.LockKind.{LockKind}
 use Rattle.sd_types.specs.declared.works.ThreadDecl.{ThreadDecl}
 use Rattle.sd_types.specs.declared.works.Work.{Work}
 use Rattle.sd_types.specs.Works.{is_mutex, is_rwlock, is_chan, is_sema, bound_fits, op_names, class_fits, thread_fits}
-use Rattle.sd_machine.specs.declared.states.State.{State}
-use Rattle.sd_machine.specs.Operations.{script_of}
-use Rattle.sd_machine.specs.States.{thread_of}
-use Rattle.sd_machine.proofs.BestLemmas.{and_right, and_left}
-use Rattle.sd_full.specs.Threads.{set_of}
+use Rattle.sd_state.specs.declared.states.State.{State}
+use Rattle.sd_state.specs.Operations.{script_of}
+use Rattle.sd_state.specs.States.{thread_of}
+use Rattle.sd_state.proofs.BestLemmas.{and_right, and_left}
+use Rattle.sd_machine.specs.Threads.{set_of}
 use Rattle.sd_sound.specs.Causes.{Acts, Wants, wants}
 use Rattle.sd_sound.proofs.AgreedAfter.{named_inside}
 use Rattle.sd_sound.proofs.Works.{declared, all_at, op_named}

@@ -26,21 +26,21 @@ use Rattle.sd_types.specs.Priorities.{eff, eff_as}
 use Rattle.sd_types.specs.Works.{op_names, class_fits, thread_fits}
 use Rattle.sd_part.proofs.PartitionLemmas.{some_cpu, in_no_other, names-from_Contains}
 use Rattle.sd_chains.proofs.Moves.{put_cases}
-use Rattle.sd_machine.specs.Invariants.{IsThere}
-use Rattle.sd_machine.specs.declared.states.Place.{Place}
-use Rattle.sd_machine.specs.declared.states.Place.TheVariants.{Running, Queued, RealTime, Waiting, Asleep, Napping, Ended}
-use Rattle.sd_machine.specs.declared.states.State.{State}
-use Rattle.sd_machine.specs.States.{no_thread, thread_of}
-use Rattle.sd_machine.specs.Opening.{dealt_cpu, turn_of, is_urgent, first_cpu, first_thread, first_threads, opening}
-use Rattle.sd_machine.proofs.BestLemmas.{and_right, and_left}
-use Rattle.sd_full.specs.declared.plans.Requeue.TheVariants.{Stays, Behind, Anew}
-use Rattle.sd_full.specs.Threads.{open_of, set_of, eff_of}
-use Rattle.sd_full.specs.Bodies.{aged_class}
-use Rattle.sd_full.specs.Changes.{back_key, key_at, queue_place, place_put, cpu_put}
-use Rattle.sd_full.specs.Choosing.{cpus_or_bound, cpus_for}
-use Rattle.sd_full.specs.Requeueing.{is_bound_to, requeue}
-use Rattle.sd_full.specs.SetChanges.{bound_put, unbound_put, bind_put, bind_to}
-use Rattle.sd_full.specs.Events.{after}
+use Rattle.sd_state.specs.Invariants.{IsThere}
+use Rattle.sd_state.specs.declared.states.Place.{Place}
+use Rattle.sd_state.specs.declared.states.Place.TheVariants.{Running, Queued, RealTime, Waiting, Asleep, Napping, Ended}
+use Rattle.sd_state.specs.declared.states.State.{State}
+use Rattle.sd_state.specs.States.{no_thread, thread_of}
+use Rattle.sd_state.specs.Opening.{dealt_cpu, turn_of, is_urgent, first_cpu, first_thread, first_threads, opening}
+use Rattle.sd_state.proofs.BestLemmas.{and_right, and_left}
+use Rattle.sd_machine.specs.declared.plans.Requeue.TheVariants.{Stays, Behind, Anew}
+use Rattle.sd_machine.specs.Threads.{open_of, set_of, eff_of}
+use Rattle.sd_machine.specs.Bodies.{aged_class}
+use Rattle.sd_machine.specs.Changes.{back_key, key_at, queue_place, place_put, cpu_put}
+use Rattle.sd_machine.specs.Choosing.{cpus_or_bound, cpus_for}
+use Rattle.sd_machine.specs.Requeueing.{is_bound_to, requeue}
+use Rattle.sd_machine.specs.SetChanges.{bound_put, unbound_put, bind_put, bind_to}
+use Rattle.sd_machine.specs.Events.{after}
 use Rattle.sd_sound.specs.Causes.{IsPut, IsRequeuedAt, WakesBest, RousesBest, IsAnswered, IsCause}
 use Rattle.sd_sound.specs.Laws.{HoldsWhenReached, OpenHold}
 use Rattle.sd_sound.specs.Moves.{Step, put_step_if, woken_step, reordered_step, aged_step, prio_step, bind_step, step_of}

@@ -26,17 +26,17 @@ use Rattle.sd_types.specs.declared.works.Work.{Work}
 use Rattle.sd_part.proofs.PartitionLemmas.{names-from_Contains}
 use Rattle.sd_chains.specs.Holders as H
 use Rattle.sd_chains.proofs.HolderLemmas.{count_one}
-use Rattle.sd_machine.specs.Invariants.{IsThere}
-use Rattle.sd_machine.specs.declared.states.Place.{Place}
-use Rattle.sd_machine.specs.declared.states.Place.TheVariants.{Running, Queued, RealTime, Waiting, Asleep, Napping, Ended}
-use Rattle.sd_machine.specs.declared.states.State.{State}
-use Rattle.sd_machine.specs.States.{thread_of, cpu_of}
-use Rattle.sd_full.specs.Threads.{lock_of, open_of, count_of, runner}
-use Rattle.sd_full.specs.Changes.{cpu_put}
-use Rattle.sd_full.specs.Choosing.{neighbours}
-use Rattle.sd_full.specs.Events.{next}
-use Rattle.sd_full.specs.Needs.{IsThread, IsLock, IsChan, IsCpu, IsSet, IsPut, IsPutIf, IsWoken, RunsThere, Runs, CanAct, IsPrioPut, IsUnmoved, IsBindPut, CanUnbind, CanBeChanged, CanBeBound, Needs}
-use Rattle.sd_full.specs.Runs.{IsReached}
+use Rattle.sd_state.specs.Invariants.{IsThere}
+use Rattle.sd_state.specs.declared.states.Place.{Place}
+use Rattle.sd_state.specs.declared.states.Place.TheVariants.{Running, Queued, RealTime, Waiting, Asleep, Napping, Ended}
+use Rattle.sd_state.specs.declared.states.State.{State}
+use Rattle.sd_state.specs.States.{thread_of, cpu_of}
+use Rattle.sd_machine.specs.Threads.{lock_of, open_of, count_of, runner}
+use Rattle.sd_machine.specs.Changes.{cpu_put}
+use Rattle.sd_machine.specs.Choosing.{neighbours}
+use Rattle.sd_machine.specs.Events.{next}
+use Rattle.sd_machine.specs.Needs.{IsThread, IsLock, IsChan, IsCpu, IsSet, IsPut, IsPutIf, IsWoken, RunsThere, Runs, CanAct, IsPrioPut, IsUnmoved, IsBindPut, CanUnbind, CanBeChanged, CanBeBound, Needs}
+use Rattle.sd_machine.specs.Runs.{IsReached}
 use Rattle.sd_sound.specs.Causes.{Acts, WakesBest, RousesBest, IsRequeuedAt, IsAnswered, IsCause}
 use Rattle.sd_sound.specs.Holding.{pass_of}
 use Rattle.sd_sound.specs.Laws.{is_in}

@@ -17,16 +17,16 @@ use Rattle.sd_types.specs.declared.scripts.Op.TheVariants as op
 use Rattle.sd_types.specs.declared.works.Work.{Work}
 use Rattle.sd_types.specs.Partitions.{cpus_of_set}
 use Rattle.sd_part.proofs.PartitionLemmas.{some_cpu, set-at_most}
-use Rattle.sd_machine.specs.declared.states.CpuState.{CpuState}
-use Rattle.sd_machine.specs.declared.states.State.{State}
-use Rattle.sd_machine.specs.States.{no_cpu, cpu_of, with_cpu}
-use Rattle.sd_machine.specs.Opening.{first_cpu_state, open_list, opening}
-use Rattle.sd_full.specs.Shapes.{FitsFully}
-use Rattle.sd_full.specs.Threads.{no_cpus, open_of, with_open, runner}
-use Rattle.sd_full.specs.Changes.{with_cpu_in, without_cpu, set_duty, close, join}
-use Rattle.sd_full.specs.Prioritising.{is_privileged}
-use Rattle.sd_full.specs.SetChanges.{assign_answer, cleared, assigned, joined}
-use Rattle.sd_full.specs.Events.{drop_ageing, effect, after}
+use Rattle.sd_state.specs.declared.states.CpuState.{CpuState}
+use Rattle.sd_state.specs.declared.states.State.{State}
+use Rattle.sd_state.specs.States.{no_cpu, cpu_of, with_cpu}
+use Rattle.sd_state.specs.Opening.{first_cpu_state, open_list, opening}
+use Rattle.sd_machine.specs.Shapes.{FitsFully}
+use Rattle.sd_machine.specs.Threads.{no_cpus, open_of, with_open, runner}
+use Rattle.sd_machine.specs.Changes.{with_cpu_in, without_cpu, set_duty, close, join}
+use Rattle.sd_machine.specs.Prioritising.{is_privileged}
+use Rattle.sd_machine.specs.SetChanges.{assign_answer, cleared, assigned, joined}
+use Rattle.sd_machine.specs.Events.{drop_ageing, effect, after}
 use Rattle.sd_sound.specs.Causes.{IsCause}
 use Rattle.sd_sound.specs.Laws.{HoldsWhenReached, OpenHold, IsRising}
 use Rattle.sd_sound.proofs.Parts.{put_item, set_past}

@@ -9,17 +9,17 @@ use Rattle.sd_types.specs.declared.events.Duty.{Duty}
 use Rattle.sd_types.specs.declared.events.Duty.TheVariants.{Nothing, Walk, WakeMutex, GrantWriter, GrantReaders, Rouse, Age}
 use Rattle.sd_types.specs.declared.works.Work.{Work}
 use Rattle.sd_types.specs.Scripts.{is_held}
-use Rattle.sd_machine.specs.declared.states.LockState.{LockState}
-use Rattle.sd_machine.specs.declared.states.LockState.TheVariants.{Free, Owned, ReadHeld, Passing}
-use Rattle.sd_machine.specs.declared.states.CpuState.{CpuState}
-use Rattle.sd_machine.specs.declared.states.ThreadState.{ThreadState}
-use Rattle.sd_machine.specs.declared.states.State.{State}
-use Rattle.sd_machine.specs.States.{thread_of, cpu_of}
-use Rattle.sd_full.specs.Threads.{lock_of, open_of}
-use Rattle.sd_full.specs.Choosing.{cpus_for}
-use Rattle.sd_full.specs.Requeueing.{is_bound_to}
+use Rattle.sd_state.specs.declared.states.LockState.{LockState}
+use Rattle.sd_state.specs.declared.states.LockState.TheVariants.{Free, Owned, ReadHeld, Passing}
+use Rattle.sd_state.specs.declared.states.CpuState.{CpuState}
+use Rattle.sd_state.specs.declared.states.ThreadState.{ThreadState}
+use Rattle.sd_state.specs.declared.states.State.{State}
+use Rattle.sd_state.specs.States.{thread_of, cpu_of}
+use Rattle.sd_machine.specs.Threads.{lock_of, open_of}
+use Rattle.sd_machine.specs.Choosing.{cpus_for}
+use Rattle.sd_machine.specs.Requeueing.{is_bound_to}
 use Rattle.sd_chains.specs.Holders.{counted}
-use Rattle.sd_machine.specs.Invariants.{IsThere}
+use Rattle.sd_state.specs.Invariants.{IsThere}
 
 -- a set is the default partition, of number 0, or one of the declared sets
 abbrev pub IsSetThere : Work → SetId → Type 0

@@ -1,8 +1,8 @@
 -- Locks that readers hold. Source: Solaris Internals (rw_enter, rw_exit).
 use Rattle.std.specs.Prelude.{◌≡◌, ℕ, ◌≤◌}
-use Rattle.sd_machine.specs.declared.states.LockState.TheVariants.{ReadHeld}
-use Rattle.sd_machine.specs.declared.states.State.{State}
-use Rattle.sd_full.specs.Threads.{lock_of}
+use Rattle.sd_state.specs.declared.states.LockState.TheVariants.{ReadHeld}
+use Rattle.sd_state.specs.declared.states.State.{State}
+use Rattle.sd_machine.specs.Threads.{lock_of}
 
 -- a lock that n readers hold has one of them
 abbrev pub ReadersAreSome : State → Type 0

@@ -2,7 +2,7 @@
 -- Source: this project's own.
 use Rattle.std.specs.Prelude.{ℕ, List, [], codes, decimal, Option, Some}
 use Rattle.sd_types.specs.declared.works.Work.{Work}
-use Rattle.sd_machine.specs.Texts.{chan_name, lock_name, thread_name}
+use Rattle.sd_state.specs.Texts.{chan_name, lock_name, thread_name}
 use Rattle.sd_statistics.specs.declared.activities.Activity.{Activity}
 use Rattle.sd_statistics.specs.declared.activities.Activity.TheVariants.{Running, Spinning, Runnable, Waiting, Asleep, Napping, Ended, SpinningFor, WaitingFor}
 use Rattle.sd_statistics.specs.declared.cpus.Deed.{Deed}

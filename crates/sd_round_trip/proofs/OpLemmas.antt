@@ -29,8 +29,8 @@ use Rattle.sd_types.specs.NameWords.{is_name}
 use Rattle.sd_types.specs.Works.{Declared, declared_of, same_bytes, is_mutex, is_rwlock, is_chan, is_sema, span_fits, short_fits, quantum_fits, is_def, unused_fit, request_fits, bound_fits, op_names}
 use Rattle.sd_lines.specs.Words.{Word, Line, is_end, only_word}
 use Rattle.sd_lines.specs.Operations.{Operation, Run, Yield, Nap, Sleep, Wake, WakeAll, Enter, Read, Write, Exit, Prio, CvWait, SemaP, SemaV, Assign, Pbind, operation_of}
-use Rattle.sd_machine.specs.Texts.{thread_name, lock_name, chan_name}
-use Rattle.sd_full.specs.Texts.{set_name}
+use Rattle.sd_state.specs.Texts.{thread_name, lock_name, chan_name}
+use Rattle.sd_machine.specs.Texts.{set_name}
 use Rattle.sd_declare.specs.Declarations.{Thread, Declarations, cpu_count, lock_number, chan_number, thread_number, place, set_id, lock_id, chan_id, thread_id, lock_kind, chan_kind, is_set, is_thread_name, is_lock_name}
 use Rattle.sd_declare.specs.Causes.{no_causes}
 use Rattle.sd_declare.specs.Kept.{set_kept, lock_kept, chan_kept}

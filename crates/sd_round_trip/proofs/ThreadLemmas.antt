@@ -21,7 +21,7 @@ use Rattle.sd_types.specs.Works.{same_bytes, is_distinct, quantum_fits, class_fi
 use Rattle.sd_lines.specs.Words.{Word, Line}
 use Rattle.sd_lines.specs.Threads.{Thread as ThreadLine, thread}
 use Rattle.sd_lines.specs.Statements.{Declare}
-use Rattle.sd_full.specs.Texts.{set_name}
+use Rattle.sd_machine.specs.Texts.{set_name}
 use Rattle.sd_declare.specs.Declarations.{Thread, Declarations, place, set_place, set_number, is_set, thread_number}
 use Rattle.sd_declare.specs.Kept.{set_kept, thread_kept}
 use Rattle.sd_declare.specs.Statements.{is_quantum, is_class, quantum_of, parms_of, cpupri_of, thread_of, statement_causes, with_thread}

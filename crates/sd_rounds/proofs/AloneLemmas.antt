@@ -10,16 +10,16 @@ use Rattle.sd_types.specs.declared.events.Hints.{Hints}
 use Rattle.sd_types.specs.declared.events.Which.TheVariants.{Queued}
 use Rattle.sd_types.specs.declared.works.Work.{Work}
 use Rattle.sd_rules.specs.ChoiceFunctions.{greatest_hint, least_number, victim_of, with_hint}
-use Rattle.sd_machine.specs.declared.states.State.{State}
-use Rattle.sd_full.specs.declared.plans.Plan.{Plan}
-use Rattle.sd_full.specs.declared.plans.Plan.TheVariants.{Make, Search}
-use Rattle.sd_full.specs.Choosing.{hint_shown, neighbours, numbers_read, read_of, victim_for}
-use Rattle.sd_full.specs.Dispatching.{search_event}
-use Rattle.sd_full.specs.Events.{allowed, next, plan_event, plan_reads, reads}
-use Rattle.sd_full.specs.Needs.{CanCount}
-use Rattle.sd_full.specs.Plans.{plan}
-use Rattle.sd_full.specs.Threads.{open_of}
-use Rattle.sd_full.specs.Runs.{made, serial_hints, shown, turn}
+use Rattle.sd_state.specs.declared.states.State.{State}
+use Rattle.sd_machine.specs.declared.plans.Plan.{Plan}
+use Rattle.sd_machine.specs.declared.plans.Plan.TheVariants.{Make, Search}
+use Rattle.sd_machine.specs.Choosing.{hint_shown, neighbours, numbers_read, read_of, victim_for}
+use Rattle.sd_machine.specs.Dispatching.{search_event}
+use Rattle.sd_machine.specs.Events.{allowed, next, plan_event, plan_reads, reads}
+use Rattle.sd_machine.specs.Needs.{CanCount}
+use Rattle.sd_machine.specs.Plans.{plan}
+use Rattle.sd_machine.specs.Threads.{open_of}
+use Rattle.sd_machine.specs.Runs.{made, serial_hints, shown, turn}
 use Rattle.sd_part.proofs.PartitionLemmas.{names-from_Contains}
 use Rattle.sd_sound.proofs.Whole.{fit_reached}
 use Rattle.sd_range.proofs.Places.{inside_reached}

@@ -6,13 +6,13 @@ use Rattle.sd_types.specs.declared.numbers.CpuId.{CpuId}
 use Rattle.sd_types.specs.declared.events.Entry.{Entry}
 use Rattle.sd_types.specs.declared.events.Event.{Event}
 use Rattle.sd_types.specs.declared.works.Work.{Work}
-use Rattle.sd_machine.specs.declared.states.State.{State}
-use Rattle.sd_machine.specs.Opening.{opening}
-use Rattle.sd_machine.proofs.BestLemmas.{and_left}
-use Rattle.sd_full.specs.Events.{next}
-use Rattle.sd_full.specs.Plans.{plan}
-use Rattle.sd_full.specs.Runs.{final, round_after, serial_hints, IsComplete, IsSerial}
-use Rattle.sd_full.proofs.RoundLemmas.{empty_round}
+use Rattle.sd_state.specs.declared.states.State.{State}
+use Rattle.sd_state.specs.Opening.{opening}
+use Rattle.sd_state.proofs.BestLemmas.{and_left}
+use Rattle.sd_machine.specs.Events.{next}
+use Rattle.sd_machine.specs.Plans.{plan}
+use Rattle.sd_machine.specs.Runs.{final, round_after, serial_hints, IsComplete, IsSerial}
+use Rattle.sd_machine.proofs.RoundLemmas.{empty_round}
 use Rattle.sd_steps.specs.Entering.{can_enter, plan_enters}
 use Rattle.sd_steps.proofs.EnteringLemmas.{enters_some, enters_none}
 use Rattle.sd_rounds.specs.declared.orders.Turns.{Turns}

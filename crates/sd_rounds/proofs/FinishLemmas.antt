@@ -5,9 +5,9 @@ use Rattle.sd_types.specs.declared.events.Entry.{Entry}
 use Rattle.sd_types.specs.declared.events.Stop.{Stop}
 use Rattle.sd_types.specs.declared.events.Stop.TheVariants.{Full, Memory}
 use Rattle.sd_types.specs.declared.works.Work.{Work}
-use Rattle.sd_machine.specs.declared.states.State.{State}
-use Rattle.sd_machine.specs.Opening.{opening}
-use Rattle.sd_full.specs.Runs.{final, IsComplete}
+use Rattle.sd_state.specs.declared.states.State.{State}
+use Rattle.sd_state.specs.Opening.{opening}
+use Rattle.sd_machine.specs.Runs.{final, IsComplete}
 use Rattle.sd_rounds.specs.declared.rounds.Finished.{Finished}
 
 pub finished : (r : Result Finished Stop) (es : List Entry) (P : List Entry → Type 0) → IfOk r (λ z. z.entries.items ≡ es) → P es → IfOk r (λ z. P z.entries.items)

@@ -10,7 +10,7 @@ use Rattle.rand_pcg.specs.Pcg.{pcg32}
 use Rattle.sd_types.specs.declared.numbers.CpuId.{CpuId}
 use Rattle.sd_types.specs.declared.works.Work.{Work}
 use Rattle.sd_types.specs.Partitions.{cpu_of_number}
-use Rattle.sd_full.specs.Runs.{rising}
+use Rattle.sd_machine.specs.Runs.{rising}
 use Rattle.sd_rounds.specs.declared.orders.Turns.{Turns}
 use Rattle.sd_rounds.specs.declared.orders.Turns.TheVariants.{Rising, Drawn}
 use Rattle.sd_rounds.specs.Orders.{shuffled, generator, orders_of, generator_at, next_order}

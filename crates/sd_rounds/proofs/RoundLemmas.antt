@@ -5,10 +5,10 @@ use Rattle.std.proofs.lemmas.List.{append-nil, drop_all, length-append, nil_from
 use Rattle.sd_types.specs.declared.numbers.CpuId.{CpuId}
 use Rattle.sd_types.specs.declared.events.Entry.{Entry}
 use Rattle.sd_types.specs.declared.works.Work.{Work}
-use Rattle.sd_machine.specs.declared.states.State.{State}
-use Rattle.sd_machine.specs.Opening.{opening}
-use Rattle.sd_full.specs.Runs.{final, turn, round, round_after, rounds, IsSerial}
-use Rattle.sd_full.proofs.RoundLemmas.{round-nil, round_more, rounds-zero, rounds-more}
+use Rattle.sd_state.specs.declared.states.State.{State}
+use Rattle.sd_state.specs.Opening.{opening}
+use Rattle.sd_machine.specs.Runs.{final, turn, round, round_after, rounds, IsSerial}
+use Rattle.sd_machine.proofs.RoundLemmas.{round-nil, round_more, rounds-zero, rounds-more}
 use Rattle.sd_rounds.specs.Rounds.{HasRounds, IsLongSerial}
 
 pub grows : (more es es' : List Entry) → es' ≡ es ++ more → length es ≤ length es'

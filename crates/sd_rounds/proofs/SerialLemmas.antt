@@ -4,7 +4,7 @@ use Rattle.std.proofs.lemmas.Bool.{cases_lt}
 use Rattle.sd_types.specs.declared.numbers.CpuId.{CpuId}
 use Rattle.sd_types.specs.declared.events.Entry.{Entry}
 use Rattle.sd_types.specs.declared.works.Work.{Work}
-use Rattle.sd_full.specs.Runs.{rounds, round_after, IsSerial}
+use Rattle.sd_machine.specs.Runs.{rounds, round_after, IsSerial}
 
 -- the run of one ended before the other went on
 no_fewer : (w : Work) (orders : ℕ → List CpuId) (es fs : List Entry) (a : IsSerial w orders es) (b : IsSerial w orders fs) → a.count < b.count → ⊥

@@ -6,7 +6,7 @@ use Rattle.rand_pcg.specs.Lcg.{Lcg, started, increment_of}
 use Rattle.rand_pcg.specs.Pcg.{multiplier_64, pcg32}
 use Rattle.sd_types.specs.declared.numbers.CpuId.{CpuId}
 use Rattle.sd_types.specs.declared.works.Work.{Work}
-use Rattle.sd_full.specs.Runs.{rising}
+use Rattle.sd_machine.specs.Runs.{rising}
 use Rattle.sd_rounds.specs.declared.orders.Turns.{Turns}
 use Rattle.sd_rounds.specs.declared.orders.Turns.TheVariants.{Rising, Drawn}
 

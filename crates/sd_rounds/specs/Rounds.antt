@@ -4,7 +4,7 @@ use Rattle.std.specs.Prelude.{◌≡◌, ◌≢◌, ℕ, ◌^◌, ◌<◌, ◌�
 use Rattle.sd_types.specs.declared.numbers.CpuId.{CpuId}
 use Rattle.sd_types.specs.declared.events.Entry.{Entry}
 use Rattle.sd_types.specs.declared.works.Work.{Work}
-use Rattle.sd_full.specs.Runs.{rounds, round_after, IsRun}
+use Rattle.sd_machine.specs.Runs.{rounds, round_after, IsRun}
 
 -- so many rounds, none of which was empty
 pub record HasRounds (w : Work) (orders : ℕ → List CpuId) (count : ℕ) (es : List Entry) : Type 0 where

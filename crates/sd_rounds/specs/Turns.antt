@@ -4,7 +4,7 @@ use Rattle.std.specs.Prelude.{◌≡◌, ◌++◌, length, Result, Ok, Err}
 use Rattle.sd_types.specs.declared.events.Stop.{Stop}
 use Rattle.sd_types.specs.declared.events.Stop.TheVariants.{Memory}
 use Rattle.sd_types.specs.declared.works.Work.{Work}
-use Rattle.sd_full.specs.Runs.{turn}
+use Rattle.sd_machine.specs.Runs.{turn}
 use Rattle.sd_world.specs.declared.plain.PlainWorld.{PlainWorld}
 use Rattle.sd_world.specs.Plain.{told}
 use Rattle.sd_rounds.specs.declared.turns.Alone.{Alone}

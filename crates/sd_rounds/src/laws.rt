@@ -1,7 +1,7 @@
 //! A law of runs that go in rounds, as the contract of a function that does nothing.
 
 ghost use Rattle.std.specs.Prelude.{◌≡◌, ℕ, List};
-ghost use Rattle.sd_full.specs.Runs.{IsSerial};
+ghost use Rattle.sd_machine.specs.Runs.{IsSerial};
 
 use sd_types::{CpuId, Entry, Work};
 

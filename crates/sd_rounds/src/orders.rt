@@ -1,7 +1,7 @@
 //! The order in which the processors have their turns in each round.
 
 ghost use Rattle.std.specs.Prelude.{◌≡◌, ◌-◌, length};
-ghost use Rattle.sd_full.specs.Runs.{rising};
+ghost use Rattle.sd_machine.specs.Runs.{rising};
 ghost use Rattle.sd_rounds.specs.Orders.{generator_at, next_order, shuffled};
 ghost use Rattle.sd_types.specs.declared.works.Work.{Work};
 

@@ -1,9 +1,9 @@
 //! Rounds, until one makes no entry.
 
 ghost use Rattle.std.specs.Prelude.{◌≡◌, ◌++◌, ◌<◌, ◌≤◌, ℕ, length, OnOk, IfErr, IfOk, IsErrOf};
-ghost use Rattle.sd_full.specs.Runs.{final, round, state_at, IsComplete, IsRun, IsSerial};
+ghost use Rattle.sd_machine.specs.Runs.{final, round, state_at, IsComplete, IsRun, IsSerial};
 ghost use Rattle.sd_hand.specs.OneHome.{StandsInHomes};
-ghost use Rattle.sd_machine.specs.Opening.{opening};
+ghost use Rattle.sd_state.specs.Opening.{opening};
 ghost use Rattle.sd_rounds.specs.Orders.{orders_of};
 ghost use Rattle.sd_rounds.specs.Rounds.{IsLongRun, IsLongSerial};
 ghost use Rattle.sd_world.specs.Plain.{Stands, told};
@@ -11,7 +11,7 @@ ghost use Rattle.sd_world.specs.Worlds.{Begins};
 
 use crate::orders::{Turns, first_generator, next_order, rising};
 use crate::turns::take_turn;
-use sd_machine::State;
+use sd_state::State;
 use sd_types::{CpuId, Entry, Stop, Work};
 use sd_world::{MOST_ENTRIES, PlainWorld};
 use std::alloc::Global;

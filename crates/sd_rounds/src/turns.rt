@@ -5,18 +5,18 @@ ghost use Rattle.std.specs.Prelude.{◌≡◌, ◌++◌, ◌<◌, ◌≤◌, ◌
 ghost use Rattle.std.specs.List.{list_all};
 ghost use Rattle.sd_types.specs.declared.events.Which.TheVariants.{Queued};
 ghost use Rattle.sd_types.specs.declared.numbers.CpuId.{CpuId as CpuIdOf};
-ghost use Rattle.sd_machine.specs.declared.states.State.{State};
-ghost use Rattle.sd_full.specs.declared.plans.Plan.TheVariants.{Search};
-ghost use Rattle.sd_full.specs.Choosing.{hint_shown, neighbours, read_of};
-ghost use Rattle.sd_full.specs.Events.{allowed, next};
-ghost use Rattle.sd_full.specs.Plans.{plan as plan_of};
-ghost use Rattle.sd_full.specs.Runs.{made, shown, turn};
+ghost use Rattle.sd_state.specs.declared.states.State.{State};
+ghost use Rattle.sd_machine.specs.declared.plans.Plan.TheVariants.{Search};
+ghost use Rattle.sd_machine.specs.Choosing.{hint_shown, neighbours, read_of};
+ghost use Rattle.sd_machine.specs.Events.{allowed, next};
+ghost use Rattle.sd_machine.specs.Plans.{plan as plan_of};
+ghost use Rattle.sd_machine.specs.Runs.{made, shown, turn};
 ghost use Rattle.sd_world.specs.Plain.{Stands, told};
 ghost use Rattle.sd_rounds.specs.Turns.{ActsAlone};
 
 use arrayvec::ArrayVec;
 use sd_cpu::{OpenGate, attempt};
-use sd_full::Plan;
+use sd_machine::Plan;
 use sd_step::plan;
 use sd_store::Look;
 use sd_types::{CpuId, Event, Hints, Stop, Which, Work};

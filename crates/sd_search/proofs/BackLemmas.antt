@@ -18,16 +18,16 @@ use Rattle.sd_types.specs.declared.events.Put.{Put}
 use Rattle.sd_types.specs.declared.scripts.Op.TheVariants as op
 use Rattle.sd_types.specs.declared.works.Work.{Work}
 use Rattle.sd_types.specs.Willed.{IsSound}
-use Rattle.sd_machine.specs.declared.states.CpuState.{CpuState}
-use Rattle.sd_machine.specs.declared.states.Place.{Place}
-use Rattle.sd_machine.specs.declared.states.Place.TheVariants.{Running, Queued, RealTime, Waiting, Asleep, Napping, Ended}
-use Rattle.sd_machine.specs.declared.states.State.{State}
-use Rattle.sd_machine.specs.States.{cpu_of, thread_of}
-use Rattle.sd_machine.specs.Operations.{op_of}
-use Rattle.sd_full.specs.Changes.{cpu_put}
-use Rattle.sd_full.specs.Needs.{CanAct, CanBeBound, CanBeChanged, CanBind, CanCount, CanFinish, CanInherit, CanNap, CanReceive, CanUnbind, IsBindPut, IsCpu, IsPrioPut, IsPut, IsPutIf, IsSet, IsThread, IsUnmoved, IsWoken, Needs, Runs, RunsThere, more_fits}
-use Rattle.sd_full.specs.Sleeping.{nap_ticks}
-use Rattle.sd_full.specs.Threads.{greatest_waiting, lock_of}
+use Rattle.sd_state.specs.declared.states.CpuState.{CpuState}
+use Rattle.sd_state.specs.declared.states.Place.{Place}
+use Rattle.sd_state.specs.declared.states.Place.TheVariants.{Running, Queued, RealTime, Waiting, Asleep, Napping, Ended}
+use Rattle.sd_state.specs.declared.states.State.{State}
+use Rattle.sd_state.specs.States.{cpu_of, thread_of}
+use Rattle.sd_state.specs.Operations.{op_of}
+use Rattle.sd_machine.specs.Changes.{cpu_put}
+use Rattle.sd_machine.specs.Needs.{CanAct, CanBeBound, CanBeChanged, CanBind, CanCount, CanFinish, CanInherit, CanNap, CanReceive, CanUnbind, IsBindPut, IsCpu, IsPrioPut, IsPut, IsPutIf, IsSet, IsThread, IsUnmoved, IsWoken, Needs, Runs, RunsThere, more_fits}
+use Rattle.sd_machine.specs.Sleeping.{nap_ticks}
+use Rattle.sd_machine.specs.Threads.{greatest_waiting, lock_of}
 use Rattle.sd_sound.specs.Laws.{IsFit}
 use Rattle.sd_store.specs.declared.changes.BodyChange.TheVariants.{FinishOp, Hold, Inherit}
 use Rattle.sd_ordered.specs.Order.{IsSameOrder, key_at}

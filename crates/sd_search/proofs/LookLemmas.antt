@@ -4,9 +4,9 @@ use Rattle.std.specs.Prelude.{slice_get}
 use Rattle.sd_types.specs.declared.numbers.CpuId.{CpuId}
 use Rattle.sd_types.specs.declared.events.Event.{Event}
 use Rattle.sd_types.specs.declared.works.Work.{Work}
-use Rattle.sd_machine.specs.declared.states.State.{State}
-use Rattle.sd_full.specs.Events.{after, next}
-use Rattle.sd_full.specs.Runs.{serial_hints}
+use Rattle.sd_state.specs.declared.states.State.{State}
+use Rattle.sd_machine.specs.Events.{after, next}
+use Rattle.sd_machine.specs.Runs.{serial_hints}
 use Rattle.sd_ordered.specs.Order.{IsSameOrder}
 use Rattle.sd_ordered.specs.Ranks.{ranked}
 use Rattle.sd_ordered.proofs.RankLemmas.{ranked_order, ranked_same}

@@ -4,13 +4,13 @@ use Rattle.std.specs.Prelude.{nat_lt}
 use Rattle.sd_types.specs.declared.works.Work.{Work}
 use Rattle.sd_chains.specs.Cycles.{ahead, cycles, cycles_below, joined, lap, none_or_one, owner_at}
 use Rattle.sd_chains.specs.Graphs.{Graph}
-use Rattle.sd_machine.specs.declared.states.Place.{Place}
-use Rattle.sd_machine.specs.declared.states.Place.TheVariants.{Running, Queued, RealTime, Waiting, Asleep, Napping, Ended}
-use Rattle.sd_machine.specs.declared.states.State.{State}
-use Rattle.sd_machine.specs.Operations.{script_of}
-use Rattle.sd_machine.specs.States.{thread_of}
-use Rattle.sd_full.specs.LockGraph.{cycles_of, graph, owner_of, wait_of}
-use Rattle.sd_full.specs.Runs.{IsComplete}
+use Rattle.sd_state.specs.declared.states.Place.{Place}
+use Rattle.sd_state.specs.declared.states.Place.TheVariants.{Running, Queued, RealTime, Waiting, Asleep, Napping, Ended}
+use Rattle.sd_state.specs.declared.states.State.{State}
+use Rattle.sd_state.specs.Operations.{script_of}
+use Rattle.sd_state.specs.States.{thread_of}
+use Rattle.sd_machine.specs.LockGraph.{cycles_of, graph, owner_of, wait_of}
+use Rattle.sd_machine.specs.Runs.{IsComplete}
 use Rattle.sd_ordered.specs.Order.{IsSameOrder}
 use Rattle.sd_ordered.proofs.AfterLemmas.{ended_same}
 use Rattle.sd_ordered.proofs.AlikeLemmas.{IsBlind, blind_place, body_same, place_alike, threads_many}

@@ -6,11 +6,11 @@ use Rattle.sd_types.specs.declared.numbers.CpuId.{CpuId}
 use Rattle.sd_types.specs.declared.events.Entry.{Entry}
 use Rattle.sd_types.specs.declared.events.Event.{Event}
 use Rattle.sd_types.specs.declared.works.Work.{Work}
-use Rattle.sd_machine.specs.declared.states.State.{State}
-use Rattle.sd_machine.specs.Opening.{opening}
-use Rattle.sd_full.specs.Events.{after, next}
-use Rattle.sd_full.specs.Needs.{Needs}
-use Rattle.sd_full.specs.Runs.{IsReached, serial_hints}
+use Rattle.sd_state.specs.declared.states.State.{State}
+use Rattle.sd_state.specs.Opening.{opening}
+use Rattle.sd_machine.specs.Events.{after, next}
+use Rattle.sd_machine.specs.Needs.{Needs}
+use Rattle.sd_machine.specs.Runs.{IsReached, serial_hints}
 use Rattle.sd_sound.specs.Laws.{IsFit}
 use Rattle.sd_sound.proofs.Ready.{maker_inside}
 use Rattle.sd_sound.proofs.Whole.{fit_reached}

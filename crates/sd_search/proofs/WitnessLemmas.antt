@@ -4,11 +4,11 @@ use Rattle.std.proofs.lemmas.List.{append-nil, drop_all}
 use Rattle.sd_types.specs.declared.numbers.CpuId.{CpuId}
 use Rattle.sd_types.specs.declared.events.Entry.{Entry}
 use Rattle.sd_types.specs.declared.works.Work.{Work}
-use Rattle.sd_machine.specs.declared.states.State.{State}
-use Rattle.sd_machine.specs.Opening.{opening}
-use Rattle.sd_full.specs.Runs.{IsReached, final, round, turn}
-use Rattle.sd_full.proofs.RoundLemmas.{round-nil, round_more}
-use Rattle.sd_full.proofs.RunLemmas.{final-nil}
+use Rattle.sd_state.specs.declared.states.State.{State}
+use Rattle.sd_state.specs.Opening.{opening}
+use Rattle.sd_machine.specs.Runs.{IsReached, final, round, turn}
+use Rattle.sd_machine.proofs.RoundLemmas.{round-nil, round_more}
+use Rattle.sd_machine.proofs.RunLemmas.{final-nil}
 use Rattle.sd_range.proofs.Induction.{opening_reached}
 
 module _ (w : Work) where

@@ -2,8 +2,8 @@
 -- Source: this project's own.
 use Rattle.std.specs.Prelude.{◌≡◌, ◌⊎◌, ℕ, ◌<◌, zero, suc, List, [], ◌∷◌, ◌++◌, length, ⊤}
 use Rattle.sd_types.specs.declared.works.Work.{Work}
-use Rattle.sd_machine.specs.declared.states.State.{State}
-use Rattle.sd_full.specs.Runs.{IsComplete}
+use Rattle.sd_state.specs.declared.states.State.{State}
+use Rattle.sd_machine.specs.Runs.{IsComplete}
 use Rattle.sd_search.specs.declared.graph.Graph.{Graph}
 use Rattle.sd_search.specs.declared.questions.Answer.{Answer}
 use Rattle.sd_search.specs.declared.questions.Answer.TheVariants.{Found, Never, More}

@@ -3,7 +3,7 @@
 use Rattle.std.specs.Prelude.{ℕ, ◌<◌, ◌≤◌, List, length, ⊤}
 use Rattle.sd_types.specs.declared.events.Entry.{Entry}
 use Rattle.sd_types.specs.declared.works.Work.{Work}
-use Rattle.sd_machine.specs.declared.states.State.{State}
+use Rattle.sd_state.specs.declared.states.State.{State}
 use Rattle.sd_search.specs.declared.findings.Finding.{Finding}
 use Rattle.sd_search.specs.declared.findings.Finding.TheVariants.{Found, Never, More}
 use Rattle.sd_search.specs.declared.graph.Graph.{Graph}

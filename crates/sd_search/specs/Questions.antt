@@ -3,14 +3,14 @@
 use Rattle.std.specs.Prelude.{◌≡◌, ◌≢◌, ℕ, ◌<◌, Bool, true, not, ◌&&◌, List, [], length, nat_lt}
 use Rattle.sd_types.specs.declared.events.Entry.{Entry}
 use Rattle.sd_types.specs.declared.works.Work.{Work}
-use Rattle.sd_machine.specs.declared.states.State.{State}
-use Rattle.sd_machine.specs.declared.states.ThreadState.{ThreadState}
-use Rattle.sd_machine.specs.Opening.{opening}
-use Rattle.sd_machine.specs.Operations.{script_of}
-use Rattle.sd_machine.specs.States.{thread_of}
-use Rattle.sd_full.specs.LockGraph.{cycles_of}
-use Rattle.sd_full.specs.Runs.{IsComplete, IsRun, final}
-use Rattle.sd_full.specs.Threads.{has_ended}
+use Rattle.sd_state.specs.declared.states.State.{State}
+use Rattle.sd_state.specs.declared.states.ThreadState.{ThreadState}
+use Rattle.sd_state.specs.Opening.{opening}
+use Rattle.sd_state.specs.Operations.{script_of}
+use Rattle.sd_state.specs.States.{thread_of}
+use Rattle.sd_machine.specs.LockGraph.{cycles_of}
+use Rattle.sd_machine.specs.Runs.{IsComplete, IsRun, final}
+use Rattle.sd_machine.specs.Threads.{has_ended}
 use Rattle.sd_interleavings.specs.Closed.{IsFresh}
 use Rattle.sd_search.specs.declared.questions.Question.{Question}
 use Rattle.sd_search.specs.declared.questions.Question.TheVariants.{Blocked, Stuck}

@@ -1,11 +1,11 @@
 //! The search itself, breadth first: the states that each turn of each processor leads to are put in, from the first state on.
 
 ghost use Rattle.std.specs.Prelude.{◌≡◌, ◌+◌, ◌<◌, ◌≤◌, ◌⊎◌, ◌||◌, ℕ, Some, length, nat_le, IfOk, OnOk};
-ghost use Rattle.sd_full.specs.Events.{after, next};
-ghost use Rattle.sd_full.specs.Runs.{serial_hints};
+ghost use Rattle.sd_machine.specs.Events.{after, next};
+ghost use Rattle.sd_machine.specs.Runs.{serial_hints};
 ghost use Rattle.sd_interleavings.specs.Closed.{Has};
 ghost use Rattle.sd_interleavings.specs.Spelled.{IsTurn};
-ghost use Rattle.sd_machine.specs.declared.states.State.{State as StateOf};
+ghost use Rattle.sd_state.specs.declared.states.State.{State as StateOf};
 ghost use Rattle.sd_types.specs.declared.numbers.CpuId.{CpuId as CpuIdOf};
 ghost use Rattle.sd_ordered.specs.Ranks.{ranked};
 ghost use Rattle.sd_search.specs.Graphs.{Gathers, IsAmong, IsAt, IsGrown, IsTurned, packed};
@@ -14,7 +14,7 @@ use crate::graph::{Graph, Step};
 use crate::packing::pack;
 use crate::store::insert;
 use sd_encoding::rank;
-use sd_machine::State;
+use sd_state::State;
 use sd_steps::{apply, serial_next};
 use sd_types::{CpuId, Event, Work};
 use std::alloc::{AllocError, Global};

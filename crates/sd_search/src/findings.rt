@@ -1,10 +1,10 @@
 //! The answer to a question, with the run that shows it.
 
 ghost use Rattle.std.specs.Prelude.{◌≡◌, ◌<◌, List, length, IfOk};
-ghost use Rattle.sd_full.specs.Runs.{round};
+ghost use Rattle.sd_machine.specs.Runs.{round};
 ghost use Rattle.sd_interleavings.specs.Spelled.{IsSpelled};
-ghost use Rattle.sd_machine.specs.Opening.{opening};
-ghost use Rattle.sd_machine.specs.declared.states.State.{State as StateOf};
+ghost use Rattle.sd_state.specs.Opening.{opening};
+ghost use Rattle.sd_state.specs.declared.states.State.{State as StateOf};
 ghost use Rattle.sd_types.specs.declared.numbers.CpuId.{CpuId as CpuIdOf};
 ghost use Rattle.sd_search.specs.Finals.{AreFinals};
 ghost use Rattle.sd_search.specs.Findings.{IsFair, IsFinding, IsShortest};

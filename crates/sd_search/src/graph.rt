@@ -2,12 +2,12 @@
 
 ghost use Rattle.std.specs.Prelude.{◌≡◌, ◌<◌, ℕ, length, IfOk, OnOk};
 ghost use Rattle.sd_interleavings.specs.Spelled.{IsSpelled, IsTurn};
-ghost use Rattle.sd_machine.specs.declared.states.State.{State as StateOf};
+ghost use Rattle.sd_state.specs.declared.states.State.{State as StateOf};
 ghost use Rattle.sd_search.specs.Graphs.{Gathers, IsAt, IsDeep, packed, steps_of};
 
 use crate::packing::unpack;
 use indexmap::IndexSet;
-use sd_machine::State;
+use sd_state::State;
 use sd_types::{CpuId, Work};
 use std::alloc::{AllocError, Global};
 

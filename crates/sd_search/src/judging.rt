@@ -1,14 +1,14 @@
 //! What is asked of one state.
 
 ghost use Rattle.std.specs.Prelude.{◌≡◌, ◌↔◌, ◌<◌, IsTrue, IfOk};
-ghost use Rattle.sd_full.specs.Runs.{IsComplete};
+ghost use Rattle.sd_machine.specs.Runs.{IsComplete};
 ghost use Rattle.sd_search.specs.Questions.{HasPart, IsBlocked, IsStuck, is_left};
 ghost use Rattle.sd_sound.specs.Laws.{IsFit};
 
 use crate::questions::Question;
 use sd_cycles::cycles;
 use sd_flat::script_of;
-use sd_machine::{Place, State, ThreadState};
+use sd_state::{Place, State, ThreadState};
 use sd_steps::can_enter;
 use sd_types::{CpuId, ThreadId, Work};
 use std::alloc::{AllocError, Global};

@@ -2,10 +2,10 @@
 
 ghost use Rattle.std.specs.Prelude.{◌≡◌, [], ◌++◌, IfOk, OnOk};
 ghost use Rattle.sd_encoding.specs.Encoding.{IsHeld, encoded};
-ghost use Rattle.sd_machine.specs.declared.states.State.{State as StateOf};
+ghost use Rattle.sd_state.specs.declared.states.State.{State as StateOf};
 
 use sd_encoding::{decode, encode};
-use sd_machine::State;
+use sd_state::State;
 use std::alloc::{AllocError, Global};
 
 /// The bytes for which there is room from the first (this project's own): most states of a search have fewer.

@@ -1,9 +1,9 @@
 //! The turns of processors from states that were expanded.
 
 ghost use Rattle.std.specs.Prelude.{◌≡◌, ◌<◌, Some, IfOk};
-ghost use Rattle.sd_full.specs.Events.{next};
-ghost use Rattle.sd_full.specs.Runs.{serial_hints};
-ghost use Rattle.sd_machine.specs.declared.states.State.{State as StateOf};
+ghost use Rattle.sd_machine.specs.Events.{next};
+ghost use Rattle.sd_machine.specs.Runs.{serial_hints};
+ghost use Rattle.sd_state.specs.declared.states.State.{State as StateOf};
 ghost use Rattle.sd_search.specs.Graphs.{Gathers, IsAt, packed};
 ghost use Rattle.sd_search.specs.Turns.{IsTurnOf, LeadsTo};
 
@@ -11,7 +11,7 @@ use crate::graph::Graph;
 use crate::packing::pack;
 use crate::store::index_of;
 use sd_encoding::rank;
-use sd_machine::State;
+use sd_state::State;
 use sd_steps::{apply, serial_next};
 use sd_types::{CpuId, Event, Work};
 use std::alloc::{AllocError, Global};

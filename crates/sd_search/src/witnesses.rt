@@ -1,11 +1,11 @@
 //! The entries of the run that a list of processors spells.
 
 ghost use Rattle.std.specs.Prelude.{◌≡◌, ◌++◌, length, IfOk, OnOk};
-ghost use Rattle.sd_full.specs.Runs.{IsReached, final, round, turn};
-ghost use Rattle.sd_machine.specs.Opening.{opening};
+ghost use Rattle.sd_machine.specs.Runs.{IsReached, final, round, turn};
+ghost use Rattle.sd_state.specs.Opening.{opening};
 
-use sd_machine::State;
 use sd_opening::opening;
+use sd_state::State;
 use sd_steps::make_entry;
 use sd_types::{CpuId, Entry, Work};
 use std::alloc::{AllocError, Global};

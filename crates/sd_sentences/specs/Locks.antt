@@ -6,12 +6,12 @@ use Rattle.sd_types.specs.declared.numbers.ThreadId.{ThreadId}
 use Rattle.sd_types.specs.declared.numbers.LockId.{LockId}
 use Rattle.sd_types.specs.declared.events.Put.{Put}
 use Rattle.sd_types.specs.declared.works.Work.{Work}
-use Rattle.sd_machine.specs.declared.states.LockState.{LockState}
-use Rattle.sd_machine.specs.declared.states.LockState.TheVariants.{Free, Owned, ReadHeld, Passing}
-use Rattle.sd_machine.specs.declared.states.State.{State}
-use Rattle.sd_machine.specs.States.{thread_of}
-use Rattle.sd_full.specs.Bodies.{eff_as_with}
-use Rattle.sd_full.specs.Threads.{eff_of, greater, greatest_waiting, has_waiters, lock_of}
+use Rattle.sd_state.specs.declared.states.LockState.{LockState}
+use Rattle.sd_state.specs.declared.states.LockState.TheVariants.{Free, Owned, ReadHeld, Passing}
+use Rattle.sd_state.specs.declared.states.State.{State}
+use Rattle.sd_state.specs.States.{thread_of}
+use Rattle.sd_machine.specs.Bodies.{eff_as_with}
+use Rattle.sd_machine.specs.Threads.{eff_of, greater, greatest_waiting, has_waiters, lock_of}
 use Rattle.sd_sentences.specs.Words.{thread_then, lock_then, cpu_then, number_then, requeued_words, runnable_words, change_words}
 
 unfoldable pub enter_sentence : Work → ThreadId → LockId → List ℕ

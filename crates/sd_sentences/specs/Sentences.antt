@@ -5,7 +5,7 @@ use Rattle.sd_types.specs.declared.events.Event.{Event}
 use Rattle.sd_types.specs.declared.events.Event.TheVariants.{Tick, Spin, Idle, Dispatch, Steal, Preempt, Yield, Done, Nap, Napend, Sleep, Wake, Wakeall, Rouse, Enter, Read, Write, Block, Will, End, Exit, Unblock, Grant, Passed, Age, Prio, CvWait, SemaP, SemaWait, SemaVWake, SemaVCount, Assign, Move, Joined, Bind, Away}
 use Rattle.sd_types.specs.declared.numbers.CpuId.{CpuId}
 use Rattle.sd_types.specs.declared.works.Work.{Work}
-use Rattle.sd_machine.specs.declared.states.State.{State}
+use Rattle.sd_state.specs.declared.states.State.{State}
 use Rattle.sd_sentences.specs.Words.{thread_then}
 use Rattle.sd_sentences.specs.Running.{tick_sentence, spin_sentence, idle_sentence, dispatch_sentence, steal_sentence, preempt_sentence, away_sentence}
 use Rattle.sd_sentences.specs.Sleeping.{nap_sentence, napend_sentence, sleep_sentence, wake_sentence, wakeall_sentence, rouse_sentence, cvwait_sentence, semap_sentence, semawait_sentence, handed_sentence, counted_sentence}

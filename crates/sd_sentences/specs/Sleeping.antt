@@ -7,11 +7,11 @@ use Rattle.sd_types.specs.declared.numbers.LockId.{LockId}
 use Rattle.sd_types.specs.declared.numbers.ChanId.{ChanId}
 use Rattle.sd_types.specs.declared.events.Put.{Put}
 use Rattle.sd_types.specs.declared.works.Work.{Work}
-use Rattle.sd_machine.specs.declared.states.State.{State}
-use Rattle.sd_machine.specs.States.{cpu_of, thread_of}
-use Rattle.sd_machine.specs.Operations.{op_of}
-use Rattle.sd_full.specs.Sleeping.{nap_ticks}
-use Rattle.sd_full.specs.Threads.{count_of}
+use Rattle.sd_state.specs.declared.states.State.{State}
+use Rattle.sd_state.specs.States.{cpu_of, thread_of}
+use Rattle.sd_state.specs.Operations.{op_of}
+use Rattle.sd_machine.specs.Sleeping.{nap_ticks}
+use Rattle.sd_machine.specs.Threads.{count_of}
 use Rattle.sd_sentences.specs.Words.{thread_then, lock_then, chan_then, cpu_then, number_then, runnable_words}
 
 -- when the nap ends, in ticks of its processor

@@ -3,7 +3,7 @@
 //! Source: Solaris Internals (adaptive mutexes, rwlocks, turnstiles, priority inheritance).
 
 ghost use Rattle.std.specs.Prelude.{◌≡◌, ◌++◌, [], OnOk, codes};
-ghost use Rattle.sd_full.specs.Threads.{eff_of, greater, lock_of};
+ghost use Rattle.sd_machine.specs.Threads.{eff_of, greater, lock_of};
 ghost use Rattle.sd_types.specs.Priorities.{greatest_willed};
 ghost use Rattle.sd_types.specs.Willed.{without_number};
 ghost use Rattle.sd_sentences.specs.Locks.{block_sentence, block_words, end_sentence, end_words, enter_sentence, exit_sentence, fall_words, grant_sentence, left_priority, passed_sentence, read_sentence, unblock_sentence, waiters_words, waiting_with, will_sentence, write_sentence};
@@ -14,7 +14,7 @@ use crate::words::{
     put_change, put_cpu, put_lock, put_priority, put_requeued, put_runnable, put_thread, put_words,
 };
 use sd_flat::{greatest_waiting, has_waiters};
-use sd_machine::{LockState, State};
+use sd_state::{LockState, State};
 use sd_types::{CpuId, LockId, Put, ThreadId, Work};
 use std::alloc::AllocError;
 

@@ -3,7 +3,7 @@
 //! Source: priocntl(2), psrset(1M), pbind(1M).
 
 ghost use Rattle.std.specs.Prelude.{◌≡◌, ◌++◌, [], OnOk, codes};
-ghost use Rattle.sd_full.specs.Threads.{eff_of};
+ghost use Rattle.sd_machine.specs.Threads.{eff_of};
 ghost use Rattle.sd_sentences.specs.Requests.{age_sentence, assign_sentence, assign_words, bind_sentence, bind_words, bound_sentence, denied_words, joined_sentence, move_sentence, prio_sentence, prio_words};
 ghost use Rattle.sd_sentences.specs.Words.{change_words, cpu_then, requeued_words, thread_then};
 
@@ -11,7 +11,7 @@ use crate::locks::{effective, put_change_of};
 use crate::words::{
     put_change, put_cpu, put_requeued, put_runnable, put_set, put_thread, put_words,
 };
-use sd_machine::State;
+use sd_state::State;
 use sd_types::{AssignAnswer, BindAnswer, CpuId, Denied, PrioAnswer, Put, SetId, ThreadId, Work};
 use std::alloc::AllocError;
 

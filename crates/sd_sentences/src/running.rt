@@ -3,14 +3,14 @@
 //! Source: Solaris Internals (dispatch queues, preemption, adaptive mutexes).
 
 ghost use Rattle.std.specs.Prelude.{◌≡◌, ◌++◌, OnOk, [], codes, if◌then◌else◌};
-ghost use Rattle.sd_machine.specs.States.{thread_of};
+ghost use Rattle.sd_state.specs.States.{thread_of};
 ghost use Rattle.sd_rules.specs.ClassRules.{quantum_expires, ts_expires};
-ghost use Rattle.sd_full.specs.Threads.{lock_of};
+ghost use Rattle.sd_machine.specs.Threads.{lock_of};
 ghost use Rattle.sd_sentences.specs.Running.{away_sentence, dispatch_sentence, idle_sentence, preempt_sentence, quantum_words, spin_sentence, spin_words, steal_sentence, tick_sentence};
 ghost use Rattle.sd_sentences.specs.Words.{thread_then};
 
 use crate::words::{put_cpu, put_lock, put_priority, put_thread, put_words};
-use sd_machine::{LockState, State};
+use sd_state::{LockState, State};
 use sd_types::{ClassState, CpuId, End, LockId, Quantum, ThreadId, Work};
 use std::alloc::AllocError;
 

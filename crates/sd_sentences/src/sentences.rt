@@ -16,7 +16,7 @@ use crate::sleeping::{
     put_sleep, put_wake, put_wakeall,
 };
 use crate::words::put_thread;
-use sd_machine::State;
+use sd_state::State;
 use sd_types::{CpuId, Event, Work};
 use std::alloc::AllocError;
 

@@ -3,16 +3,16 @@
 //! Source: Solaris Internals (sleep queues, condition variables, semaphores).
 
 ghost use Rattle.std.specs.Prelude.{◌≡◌, ◌++◌, ◌-◌, [], OnOk, codes};
-ghost use Rattle.sd_full.specs.Sleeping.{nap_ticks};
-ghost use Rattle.sd_full.specs.Threads.{count_of};
-ghost use Rattle.sd_machine.specs.Operations.{op_of};
-ghost use Rattle.sd_machine.specs.States.{thread_of};
+ghost use Rattle.sd_machine.specs.Sleeping.{nap_ticks};
+ghost use Rattle.sd_machine.specs.Threads.{count_of};
+ghost use Rattle.sd_state.specs.Operations.{op_of};
+ghost use Rattle.sd_state.specs.States.{thread_of};
 ghost use Rattle.sd_sentences.specs.Sleeping.{counted_sentence, cvwait_sentence, handed_sentence, nap_end, nap_sentence, napend_sentence, rouse_sentence, semap_sentence, semawait_sentence, sleep_sentence, wake_sentence, wakeall_sentence};
 ghost use Rattle.sd_sentences.specs.Words.{chan_then, cpu_then, number_then, runnable_words, thread_then};
 
 use crate::words::{put_chan, put_count, put_cpu, put_lock, put_runnable, put_thread, put_words};
 use sd_flat::{cpu_of, script_of};
-use sd_machine::State;
+use sd_state::State;
 use sd_types::{ChanId, CpuId, LockId, Op, Put, ThreadId, Work};
 use std::alloc::AllocError;
 

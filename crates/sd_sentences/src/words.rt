@@ -2,7 +2,7 @@
 //! memory runs out it may have appended a part of it: the caller writes into a line of its own, which it then gives up.
 
 ghost use Rattle.std.specs.Prelude.{◌≡◌, ◌++◌, [], OnOk, codes};
-ghost use Rattle.sd_full.specs.Texts.{set_name};
+ghost use Rattle.sd_machine.specs.Texts.{set_name};
 ghost use Rattle.sd_sentences.specs.Words.{chan_then, change_words, cpu_then, lock_then, number_then, place_words, requeued_words, runnable_words, set_words, thread_then};
 
 use sd_event::{put_chan_name, put_lock_name, put_set_name, put_thread_name};

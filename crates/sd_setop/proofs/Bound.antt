@@ -5,14 +5,14 @@ use Rattle.sd_types.specs.declared.numbers.CpuId.{CpuId}
 use Rattle.sd_types.specs.declared.events.BindAnswer.TheVariants.{Changed}
 use Rattle.sd_types.specs.declared.events.Put.{Put}
 use Rattle.sd_types.specs.declared.works.Work.{Work}
-use Rattle.sd_machine.specs.declared.states.Place.{Place}
-use Rattle.sd_machine.specs.declared.states.Place.TheVariants.{Running}
-use Rattle.sd_machine.specs.declared.states.State.{State}
-use Rattle.sd_machine.specs.States.{cpu_of, thread_of}
-use Rattle.sd_machine.specs.Operations.{script_of}
-use Rattle.sd_full.specs.Changes.{bind, put_where, set_kernel_mark, unbind}
-use Rattle.sd_full.specs.Needs.{CanBind}
-use Rattle.sd_full.specs.SetChanges.{called_back, rebound}
+use Rattle.sd_state.specs.declared.states.Place.{Place}
+use Rattle.sd_state.specs.declared.states.Place.TheVariants.{Running}
+use Rattle.sd_state.specs.declared.states.State.{State}
+use Rattle.sd_state.specs.States.{cpu_of, thread_of}
+use Rattle.sd_state.specs.Operations.{script_of}
+use Rattle.sd_machine.specs.Changes.{bind, put_where, set_kernel_mark, unbind}
+use Rattle.sd_machine.specs.Needs.{CanBind}
+use Rattle.sd_machine.specs.SetChanges.{called_back, rebound}
 use Rattle.sd_mdisp.proofs.Kept.{Keeps, inside, kept_op, kept_place, where_op}
 
 -- Operations.

@@ -3,11 +3,11 @@ use Rattle.std.proofs.Common.{◌≡◌, ℕ, ◌<◌, length, Option, Some, Non
 use Rattle.sd_types.specs.declared.numbers.CpuId.{CpuId}
 use Rattle.sd_types.specs.declared.numbers.SetId.{SetId}
 use Rattle.sd_types.specs.declared.works.Work.{Work}
-use Rattle.sd_machine.specs.declared.states.State.{State}
-use Rattle.sd_machine.specs.States.{thread_of}
-use Rattle.sd_machine.specs.Operations.{script_of}
-use Rattle.sd_full.specs.Changes.{close, set_kernel_mark}
-use Rattle.sd_full.specs.SetChanges.{cleared}
+use Rattle.sd_state.specs.declared.states.State.{State}
+use Rattle.sd_state.specs.States.{thread_of}
+use Rattle.sd_state.specs.Operations.{script_of}
+use Rattle.sd_machine.specs.Changes.{close, set_kernel_mark}
+use Rattle.sd_machine.specs.SetChanges.{cleared}
 use Rattle.sd_mdisp.proofs.Kept.{inside, same_op}
 
 kernel_threads : (s : State) (d : CpuId) (r : Option ℕ) → (cleared s d r).threads ≡ s.threads

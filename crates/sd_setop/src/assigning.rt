@@ -4,12 +4,12 @@
 //! Source: psrset(1M), Solaris Internals (cpupart_move_cpu).
 
 ghost use Rattle.std.specs.Prelude.{◌≡◌, ◌<◌, ◌^◌, [], ◌∷◌, ⊤, option_map};
-ghost use Rattle.sd_full.specs.Needs.{CanFinish, CanJoin};
-ghost use Rattle.sd_full.specs.SetChanges.{assign_answer, assigned, closing_plan, is_busy, joined, moved};
+ghost use Rattle.sd_machine.specs.Needs.{CanFinish, CanJoin};
+ghost use Rattle.sd_machine.specs.SetChanges.{assign_answer, assigned, closing_plan, is_busy, joined, moved};
 ghost use Rattle.sd_store.specs.Parts.{cpu_part, found_parts, number, put_parts, ready_parts, real_time_part, thread_part};
 ghost use Rattle.sd_store.specs.Words.{Does, DoesBy, Lacks, LacksBy, LacksIf, Tells};
 
-use sd_full::{Placement, Plan};
+use sd_machine::{Placement, Plan};
 use sd_mdisp::{eff_of, is_privileged, put};
 use sd_store::{Look, Sets, Store, finish_op};
 use sd_types::{AssignAnswer, CpuId, Event, Put, SetId, ThreadId, Work};
@@ -24,7 +24,7 @@ fn is_busy<L: Look>(x: &L, d: CpuId) -> Result<bool, L::Lack>
 }
 
 /// The answer to thread `t`, which assigns processor `d` to a set: the first refusal that holds.
-#[tactic(auto, unfolding(sd_full::specs::SetChanges::assign_answer))]
+#[tactic(auto, unfolding(sd_machine::specs::SetChanges::assign_answer))]
 pub fn assign_answer<L: Look>(
     work: &Work,
     x: &L,
@@ -47,7 +47,7 @@ pub fn assign_answer<L: Look>(
 }
 
 /// Thread `t` has assigned processor `d` to a set. Where it may, the processor is closing, and what runs there has to leave.
-#[tactic(auto, using(crate::proofs::Closed::closed_inside), unfolding(sd_full::specs::SetChanges::assigned))]
+#[tactic(auto, using(crate::proofs::Closed::closed_inside), unfolding(sd_machine::specs::SetChanges::assigned))]
 pub fn assigned<S: Sets>(
     work: &Work,
     x: &mut S,
@@ -86,7 +86,7 @@ pub fn closing_plan<L: Look>(x: &L, to: SetId, best: Option<ThreadId>) -> Result
 }
 
 /// By entry `number` thread `t` leaves the queue of a closing processor for another one.
-#[tactic(auto, unfolding(sd_full::specs::SetChanges::moved))]
+#[tactic(auto, unfolding(sd_machine::specs::SetChanges::moved))]
 pub fn moved<S: Store>(
     work: &Work,
     x: &mut S,
@@ -103,7 +103,7 @@ pub fn moved<S: Store>(
 }
 
 /// Processor `c` is one of its new set.
-#[tactic(auto, unfolding(sd_full::specs::SetChanges::joined))]
+#[tactic(auto, unfolding(sd_machine::specs::SetChanges::joined))]
 pub fn joined<S: Sets>(x: &mut S, c: CpuId, to: SetId) -> Result<(), S::Lack>
     ensures value { Does (S.shows x.old) (S.shows x.new) result (λ s. CanJoin s to) (λ s. joined s c to) }
     ensures lack { Lacks S.part (S.shows x.old) (S.has x.old) result (λ s. cpu_part c ∷ real_time_part to ∷ []) }

@@ -3,11 +3,11 @@
 //! Source: pbind(1M), processor_bind(2).
 
 ghost use Rattle.std.specs.Prelude.{◌≡◌, ◌+◌, ◌<◌, ◌^◌, [], ◌∷◌, ⊤, IfSome};
-ghost use Rattle.sd_full.specs.Needs.{CanBind, CanFinish};
-ghost use Rattle.sd_full.specs.Changes.{bind};
-ghost use Rattle.sd_full.specs.SetChanges.{bind_put, bind_to, bound_put, called_back, is_closing, is_misbound, pbound, rebound, unbound_put};
-ghost use Rattle.sd_machine.specs.declared.states.Place.{Place};
-ghost use Rattle.sd_machine.specs.States.{cpu_of, thread_of};
+ghost use Rattle.sd_machine.specs.Needs.{CanBind, CanFinish};
+ghost use Rattle.sd_machine.specs.Changes.{bind};
+ghost use Rattle.sd_machine.specs.SetChanges.{bind_put, bind_to, bound_put, called_back, is_closing, is_misbound, pbound, rebound, unbound_put};
+ghost use Rattle.sd_state.specs.declared.states.Place.{Place};
+ghost use Rattle.sd_state.specs.States.{cpu_of, thread_of};
 ghost use Rattle.sd_setop.specs.Touched.{bind_parts, rebound_parts, runs_parts};
 ghost use Rattle.sd_store.specs.Keyless.{spot_of};
 ghost use Rattle.sd_store.specs.Parts.{bound_parts, cpu_part, thread_part};
@@ -82,7 +82,7 @@ fn bind_put<L: Look>(x: &L, u: ThreadId, d: Option<CpuId>) -> Result<Option<Put>
 }
 
 /// The answer to thread `t`, which binds thread `u` or ends its binding: the first refusal that holds.
-#[tactic(auto, unfolding(sd_full::specs::SetChanges::bind_to))]
+#[tactic(auto, unfolding(sd_machine::specs::SetChanges::bind_to))]
 pub fn bind_to<L: Look>(
     work: &Work,
     x: &L,
@@ -148,7 +148,7 @@ fn rebound<S: Sets>(x: &mut S, u: ThreadId, d: Option<CpuId>) -> Result<(), S::L
 
 /// By entry `number` thread `t` has asked to bind thread `u` to a processor, or to none. Where it may, the thread goes
 /// where the event says.
-#[tactic(auto, using(crate::proofs::Bound::rebound_inside, crate::proofs::Bound::can_bind, sd_store::proofs::Among::among_left, sd_store::proofs::Among::among_right), unfolding(sd_full::specs::SetChanges::pbound))]
+#[tactic(auto, using(crate::proofs::Bound::rebound_inside, crate::proofs::Bound::can_bind, sd_store::proofs::Among::among_left, sd_store::proofs::Among::among_right), unfolding(sd_machine::specs::SetChanges::pbound))]
 pub fn pbound<S: Sets>(
     work: &Work,
     x: &mut S,

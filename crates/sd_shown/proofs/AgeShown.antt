@@ -8,10 +8,10 @@ use Rattle.std.proofs.lemmas.List.Quantifiers.{position-Some}
 use Rattle.std.proofs.lemmas.Option.{slice_get-get_or, slice_get_within, get_or_from_slice_get}
 use Rattle.sd_types.specs.declared.numbers.CpuId.{CpuId}
 use Rattle.sd_record.specs.Records.{ThreadRecord}
-use Rattle.sd_machine.specs.declared.states.ThreadState.{ThreadState}
-use Rattle.sd_machine.specs.declared.states.State.{State}
-use Rattle.sd_machine.specs.States.{no_thread, is_queued}
-use Rattle.sd_full.specs.Threads.{next_to_age, is_ts}
+use Rattle.sd_state.specs.declared.states.ThreadState.{ThreadState}
+use Rattle.sd_state.specs.declared.states.State.{State}
+use Rattle.sd_state.specs.States.{no_thread, is_queued}
+use Rattle.sd_machine.specs.Threads.{next_to_age, is_ts}
 use Rattle.sd_shown.specs.declared.list_id.ListId.TheVariants.{Queues}
 use Rattle.sd_shown.specs.Standing.{record_of, id_of, look_of, ages, earlier, least_to_age, Lists}
 use Rattle.sd_shown.proofs.StandingLemmas.{stood, shown}

@@ -7,10 +7,10 @@ use Rattle.std.proofs.lemmas.Option.{slice_get-get_or, slice_get_within, get_or_
 use Rattle.sd_boxq.specs.Order.{find_id, find_first, precedes, IsBest}
 use Rattle.sd_boxq.proofs.InOrder.{best_first}
 use Rattle.sd_record.specs.Records.{ThreadRecord}
-use Rattle.sd_machine.specs.declared.states.ThreadState.{ThreadState}
-use Rattle.sd_machine.specs.Best.{best_by}
-use Rattle.sd_machine.specs.States.{no_thread}
-use Rattle.sd_machine.proofs.BestLemmas.{best_by_is, IsBestBelow}
+use Rattle.sd_state.specs.declared.states.ThreadState.{ThreadState}
+use Rattle.sd_state.specs.Best.{best_by}
+use Rattle.sd_state.specs.States.{no_thread}
+use Rattle.sd_state.proofs.BestLemmas.{best_by_is, IsBestBelow}
 use Rattle.sd_shown.specs.declared.list_id.ListId.{ListId}
 use Rattle.sd_shown.specs.Lists.{IsQueue}
 use Rattle.sd_shown.specs.Standing.{stands, record_of, id_of, rank_of, key_in, Lists}

@@ -8,14 +8,14 @@ use Rattle.sd_types.specs.declared.numbers.LockId.{LockId}
 use Rattle.sd_types.specs.declared.numbers.Side.{Side}
 use Rattle.sd_boxq.specs.Order.{find_id, find_first, find_below}
 use Rattle.sd_record.specs.Records.{ThreadRecord}
-use Rattle.sd_machine.specs.declared.states.Place.{Place}
-use Rattle.sd_machine.specs.declared.states.Place.TheVariants.{Queued, Waiting, Asleep}
-use Rattle.sd_machine.specs.declared.states.State.{State}
-use Rattle.sd_machine.specs.Best.{goes_before, queue_rank, beats}
-use Rattle.sd_machine.specs.States.{key_of, is_running, no_thread}
-use Rattle.sd_machine.proofs.BestLemmas.{position_is, position_none}
+use Rattle.sd_state.specs.declared.states.Place.{Place}
+use Rattle.sd_state.specs.declared.states.Place.TheVariants.{Queued, Waiting, Asleep}
+use Rattle.sd_state.specs.declared.states.State.{State}
+use Rattle.sd_state.specs.Best.{goes_before, queue_rank, beats}
+use Rattle.sd_state.specs.States.{key_of, is_running, no_thread}
+use Rattle.sd_state.proofs.BestLemmas.{position_is, position_none}
 use Rattle.sd_types.specs.Priorities.{eff}
-use Rattle.sd_full.specs.Threads.{runner, best_queued, best_unbound, best_waiter, best_sleeper, best_sleeper_below, is_asleep, is_asleep_below}
+use Rattle.sd_machine.specs.Threads.{runner, best_queued, best_unbound, best_waiter, best_sleeper, best_sleeper_below, is_asleep, is_asleep_below}
 use Rattle.sd_shown.specs.declared.list_id.ListId.TheVariants.{Runs, Queues, Waits, Sleeps}
 use Rattle.sd_shown.specs.Standing.{stands, stands_at, is_unbound, record_key, record_of, id_of, key_in, look_of, Lists}
 use Rattle.sd_shown.proofs.StandingLemmas.{stood, shown}

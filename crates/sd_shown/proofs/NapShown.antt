@@ -8,12 +8,12 @@ use Rattle.std.proofs.lemmas.Option.{slice_get-get_or, slice_get_within, get_or_
 use Rattle.sd_types.specs.declared.numbers.CpuId.{CpuId}
 use Rattle.sd_boxq.specs.Order.{find_id, precedes_keyed, IsKeyed}
 use Rattle.sd_record.specs.Records.{ThreadRecord}
-use Rattle.sd_machine.specs.declared.states.Place.{Place}
-use Rattle.sd_machine.specs.declared.states.Place.TheVariants.{Napping}
-use Rattle.sd_machine.specs.declared.states.State.{State}
-use Rattle.sd_machine.specs.States.{no_thread, cpu_of}
-use Rattle.sd_machine.proofs.BestLemmas.{best_by_is, IsBestBelow}
-use Rattle.sd_full.specs.Threads.{first_due, is_due, due_of, naps_less}
+use Rattle.sd_state.specs.declared.states.Place.{Place}
+use Rattle.sd_state.specs.declared.states.Place.TheVariants.{Napping}
+use Rattle.sd_state.specs.declared.states.State.{State}
+use Rattle.sd_state.specs.States.{no_thread, cpu_of}
+use Rattle.sd_state.proofs.BestLemmas.{best_by_is, IsBestBelow}
+use Rattle.sd_machine.specs.Threads.{first_due, is_due, due_of, naps_less}
 use Rattle.sd_shown.specs.declared.list_id.ListId.TheVariants.{Naps}
 use Rattle.sd_shown.specs.Standing.{is_napping, record_key, record_of, id_of, key_in, look_of, due_front, Lists}
 use Rattle.sd_shown.proofs.ListLemmas.{nowhere_found, found_id}

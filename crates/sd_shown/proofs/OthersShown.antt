@@ -6,11 +6,11 @@ use Rattle.sd_types.specs.declared.numbers.Side.TheVariants.{Writer, Reader}
 use Rattle.sd_boxq.specs.Order.{drop_id}
 use Rattle.sd_turn.specs.Waiters.{highest}
 use Rattle.sd_record.specs.Records.{ThreadRecord}
-use Rattle.sd_machine.specs.declared.states.Place.TheVariants.{Ended}
-use Rattle.sd_machine.specs.declared.states.ThreadState.{ThreadState}
-use Rattle.sd_machine.specs.declared.states.State.{State}
-use Rattle.sd_machine.specs.States.{thread_of, with_thread}
-use Rattle.sd_full.specs.Locking.{others_waiting}
+use Rattle.sd_state.specs.declared.states.Place.TheVariants.{Ended}
+use Rattle.sd_state.specs.declared.states.ThreadState.{ThreadState}
+use Rattle.sd_state.specs.declared.states.State.{State}
+use Rattle.sd_state.specs.States.{thread_of, with_thread}
+use Rattle.sd_machine.specs.Locking.{others_waiting}
 use Rattle.sd_shown.specs.declared.list_id.ListId.{ListId}
 use Rattle.sd_shown.specs.declared.list_id.ListId.TheVariants.{Waits}
 use Rattle.sd_shown.specs.Standing.{id_of, rank_of, stands, look_of, without, with_one, Lists}

@@ -8,14 +8,14 @@ use Rattle.sd_types.specs.declared.numbers.SetId.{SetId}
 use Rattle.sd_types.specs.Priorities.{eff}
 use Rattle.sd_boxq.specs.Order.{find_first}
 use Rattle.sd_record.specs.Records.{ThreadRecord}
-use Rattle.sd_machine.specs.declared.states.Place.{Place}
-use Rattle.sd_machine.specs.declared.states.Place.TheVariants.{Queued, RealTime}
-use Rattle.sd_machine.specs.declared.states.State.{State}
-use Rattle.sd_machine.specs.Best.{best_by, goes_before, queue_rank, beats}
-use Rattle.sd_machine.specs.States.{key_of, is_ready, no_thread, cpu_of}
-use Rattle.sd_machine.proofs.BestLemmas.{IsOrder, IsBest, IsBestBelow, best_by_is}
-use Rattle.sd_machine.proofs.OrderLemmas.{beats_order}
-use Rattle.sd_full.specs.Threads.{best_ready}
+use Rattle.sd_state.specs.declared.states.Place.{Place}
+use Rattle.sd_state.specs.declared.states.Place.TheVariants.{Queued, RealTime}
+use Rattle.sd_state.specs.declared.states.State.{State}
+use Rattle.sd_state.specs.Best.{best_by, goes_before, queue_rank, beats}
+use Rattle.sd_state.specs.States.{key_of, is_ready, no_thread, cpu_of}
+use Rattle.sd_state.proofs.BestLemmas.{IsOrder, IsBest, IsBestBelow, best_by_is}
+use Rattle.sd_state.proofs.OrderLemmas.{beats_order}
+use Rattle.sd_machine.specs.Threads.{best_ready}
 use Rattle.sd_shown.specs.declared.list_id.ListId.TheVariants.{Queues, Urgent}
 use Rattle.sd_shown.specs.Standing.{stands, stands_at, record_key, id_of, rank_of, better, look_of, Lists}
 use Rattle.sd_shown.proofs.ListLemmas.{first_found}

@@ -9,11 +9,11 @@ use Rattle.sd_types.specs.Priorities.{eff}
 use Rattle.sd_boxq.specs.Order.{find_id}
 use Rattle.sd_turn.specs.Waiters.{higher, highest}
 use Rattle.sd_record.specs.Records.{ThreadRecord}
-use Rattle.sd_machine.specs.declared.states.Place.{Place}
-use Rattle.sd_machine.specs.declared.states.Place.TheVariants.{Waiting}
-use Rattle.sd_machine.specs.declared.states.ThreadState.{ThreadState}
-use Rattle.sd_machine.specs.declared.states.State.{State}
-use Rattle.sd_full.specs.Threads.{is_waiting, is_waiting_at, same_side, greater, greatest_waiting, has_waiters}
+use Rattle.sd_state.specs.declared.states.Place.{Place}
+use Rattle.sd_state.specs.declared.states.Place.TheVariants.{Waiting}
+use Rattle.sd_state.specs.declared.states.ThreadState.{ThreadState}
+use Rattle.sd_state.specs.declared.states.State.{State}
+use Rattle.sd_machine.specs.Threads.{is_waiting, is_waiting_at, same_side, greater, greatest_waiting, has_waiters}
 use Rattle.sd_shown.specs.declared.list_id.ListId.TheVariants.{Waits}
 use Rattle.sd_shown.specs.Standing.{record_of, id_of, rank_of, look_of, Lists}
 use Rattle.sd_shown.specs.Lists.{IdsDiffer}

@@ -6,15 +6,15 @@ use Rattle.sd_types.specs.declared.numbers.CpuId.{CpuId}
 use Rattle.sd_types.specs.declared.numbers.HomeId.{HomeId}
 use Rattle.sd_types.specs.declared.numbers.HomeId.TheVariants as home
 use Rattle.sd_types.specs.Priorities.{eff}
-use Rattle.sd_full.specs.Threads.{is_ts}
+use Rattle.sd_machine.specs.Threads.{is_ts}
 use Rattle.sd_boxq.specs.Order.{find_id, insert_ranked, insert_keyed, IsKeyed}
 use Rattle.sd_record.specs.Records.{ThreadRecord}
-use Rattle.sd_machine.specs.declared.states.Place.{Place}
-use Rattle.sd_machine.specs.declared.states.Place.TheVariants.{Running, Queued, RealTime, Waiting, Asleep, Napping, Ended}
-use Rattle.sd_machine.specs.declared.states.ThreadState.{ThreadState}
-use Rattle.sd_machine.specs.declared.states.State.{State}
-use Rattle.sd_machine.specs.States.{key_of, is_running, is_queued, is_real_time}
-use Rattle.sd_full.specs.Threads.{is_waiting_at, is_asleep, has_ended}
+use Rattle.sd_state.specs.declared.states.Place.{Place}
+use Rattle.sd_state.specs.declared.states.Place.TheVariants.{Running, Queued, RealTime, Waiting, Asleep, Napping, Ended}
+use Rattle.sd_state.specs.declared.states.ThreadState.{ThreadState}
+use Rattle.sd_state.specs.declared.states.State.{State}
+use Rattle.sd_state.specs.States.{key_of, is_running, is_queued, is_real_time}
+use Rattle.sd_machine.specs.Threads.{is_waiting_at, is_asleep, has_ended}
 use Rattle.sd_shown.specs.declared.list_id.ListId.{ListId}
 use Rattle.sd_shown.specs.declared.list_id.ListId.TheVariants.{Runs, Queues, Urgent, Waits, Sleeps, Naps, Ends}
 use Rattle.sd_shown.specs.Lists.{IdsDiffer, IsKeyAfter, IsQueue}

@@ -7,14 +7,14 @@ use Rattle.std.proofs.lemmas.List.{length-map}
 use Rattle.std.proofs.lemmas.Option.{slice_get-map, slice_get-get_or}
 use Rattle.sd_types.specs.declared.events.Entry.{Entry}
 use Rattle.sd_types.specs.declared.works.Work.{Work}
-use Rattle.sd_machine.specs.declared.states.State.{State}
-use Rattle.sd_machine.specs.Opening.{opening}
-use Rattle.sd_machine.specs.States.{no_thread, thread_of, cpu_of, is_running}
-use Rattle.sd_full.specs.Events.{after}
-use Rattle.sd_full.specs.Runs.{state_at, IsRun}
-use Rattle.sd_full.proofs.RunLemmas.{final-nil}
-use Rattle.sd_machine.specs.Invariants.{OneRuns as AtMostOneRuns}
-use Rattle.sd_machine.proofs.Openings.{opening_runs_none}
+use Rattle.sd_state.specs.declared.states.State.{State}
+use Rattle.sd_state.specs.Opening.{opening}
+use Rattle.sd_state.specs.States.{no_thread, thread_of, cpu_of, is_running}
+use Rattle.sd_machine.specs.Events.{after}
+use Rattle.sd_machine.specs.Runs.{state_at, IsRun}
+use Rattle.sd_machine.proofs.RunLemmas.{final-nil}
+use Rattle.sd_state.specs.Invariants.{OneRuns as AtMostOneRuns}
+use Rattle.sd_state.proofs.Openings.{opening_runs_none}
 use Rattle.sd_sound.specs.Laws.{CountsWithin}
 use Rattle.sd_sound.proofs.CountLemmas.{opening_counts, after_counts}
 use Rattle.sd_sound.proofs.Ready.{kept_reached, ready_cause, reached_ready}

@@ -3,14 +3,14 @@ use Rattle.std.proofs.Common.{◌≡◌, ℕ, zero, suc, ◌<◌, List, [], ◌�
 use Rattle.std.specs.Prelude.{slice_get}
 use Rattle.sd_types.specs.declared.events.Entry.{Entry}
 use Rattle.sd_types.specs.declared.works.Work.{Work}
-use Rattle.sd_machine.specs.declared.states.Place.{Place}
-use Rattle.sd_machine.specs.declared.states.Place.TheVariants.{Running, Queued, RealTime, Waiting, Asleep, Napping, Ended}
-use Rattle.sd_machine.specs.Opening.{opening}
-use Rattle.sd_machine.specs.States.{is_running}
-use Rattle.sd_full.specs.Events.{after}
-use Rattle.sd_full.specs.Runs.{final, state_at, IsReached, IsRun, IsRunFrom, IsStep}
-use Rattle.sd_full.proofs.OpeningLemmas.{opening_fits}
-use Rattle.sd_full.proofs.RunLemmas.{final-push, final_fits, from-IsRun, last_number, last_step, IsRun-from, IsRunFrom-take}
+use Rattle.sd_state.specs.declared.states.Place.{Place}
+use Rattle.sd_state.specs.declared.states.Place.TheVariants.{Running, Queued, RealTime, Waiting, Asleep, Napping, Ended}
+use Rattle.sd_state.specs.Opening.{opening}
+use Rattle.sd_state.specs.States.{is_running}
+use Rattle.sd_machine.specs.Events.{after}
+use Rattle.sd_machine.specs.Runs.{final, state_at, IsReached, IsRun, IsRunFrom, IsStep}
+use Rattle.sd_machine.proofs.OpeningLemmas.{opening_fits}
+use Rattle.sd_machine.proofs.RunLemmas.{final-push, final_fits, from-IsRun, last_number, last_step, IsRun-from, IsRunFrom-take}
 use Rattle.sd_stretches.specs.Sights.{doing_of, runs_on}
 
 pub runs_place : (c : ℕ) (p : Place) → runs_on c (doing_of p) ≡ is_running c p

@@ -7,10 +7,10 @@ use Rattle.sd_types.specs.declared.events.Entry.{Entry}
 use Rattle.sd_types.specs.declared.events.Event.{Event}
 use Rattle.sd_types.specs.declared.events.Hints.{Hints}
 use Rattle.sd_types.specs.declared.works.Work.{Work}
-use Rattle.sd_machine.specs.declared.states.State.{State}
-use Rattle.sd_machine.specs.States.{thread_of, is_running}
-use Rattle.sd_full.specs.Events.{next, after}
-use Rattle.sd_full.specs.Runs.{IsReached, IsRun}
+use Rattle.sd_state.specs.declared.states.State.{State}
+use Rattle.sd_state.specs.States.{thread_of, is_running}
+use Rattle.sd_machine.specs.Events.{next, after}
+use Rattle.sd_machine.specs.Runs.{IsReached, IsRun}
 use Rattle.sd_stretches.specs.declared.rows.Stretch.{Stretch}
 use Rattle.sd_stretches.specs.Histories.{over, turns_in}
 use Rattle.sd_stretches.specs.Rows.{slices}

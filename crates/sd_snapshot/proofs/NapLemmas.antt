@@ -17,15 +17,15 @@ use Rattle.sd_types.specs.declared.works.ThreadDecl.{ThreadDecl}
 use Rattle.sd_types.specs.declared.works.Work.{Work}
 use Rattle.sd_types.specs.Priorities.{eff, eff_as}
 use Rattle.sd_chains.proofs.Moves.{put_cases}
-use Rattle.sd_machine.specs.declared.states.Place.{Place}
-use Rattle.sd_machine.specs.declared.states.Place.TheVariants.{Running, Queued, RealTime, Waiting, Asleep, Napping, Ended}
-use Rattle.sd_machine.specs.declared.states.State.{State}
-use Rattle.sd_machine.specs.States.{no_thread, thread_of}
-use Rattle.sd_machine.specs.Opening.{is_urgent, first_cpu, first_thread, first_threads, opening}
-use Rattle.sd_full.specs.Threads.{eff_of, set_of}
-use Rattle.sd_full.specs.Bodies.{aged_class}
-use Rattle.sd_full.specs.Changes.{back_key, key_at, place_put, queue_place}
-use Rattle.sd_full.specs.Events.{after}
+use Rattle.sd_state.specs.declared.states.Place.{Place}
+use Rattle.sd_state.specs.declared.states.Place.TheVariants.{Running, Queued, RealTime, Waiting, Asleep, Napping, Ended}
+use Rattle.sd_state.specs.declared.states.State.{State}
+use Rattle.sd_state.specs.States.{no_thread, thread_of}
+use Rattle.sd_state.specs.Opening.{is_urgent, first_cpu, first_thread, first_threads, opening}
+use Rattle.sd_machine.specs.Threads.{eff_of, set_of}
+use Rattle.sd_machine.specs.Bodies.{aged_class}
+use Rattle.sd_machine.specs.Changes.{back_key, key_at, place_put, queue_place}
+use Rattle.sd_machine.specs.Events.{after}
 use Rattle.sd_sound.specs.Causes.{IsCause}
 use Rattle.sd_sound.specs.Laws.{HoldsWhenReached}
 use Rattle.sd_sound.specs.Moves.{Step, put_step_if, woken_step, reordered_step, aged_step, prio_step, bind_step, step_of}

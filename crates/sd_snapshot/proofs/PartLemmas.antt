@@ -8,11 +8,11 @@ use Rattle.sd_types.specs.declared.numbers.HomeId.TheVariants as id
 use Rattle.sd_types.specs.declared.numbers.LockId.{LockId}
 use Rattle.sd_types.specs.declared.numbers.SetId.{SetId}
 use Rattle.sd_types.specs.declared.works.Work.{Work}
-use Rattle.sd_machine.specs.declared.states.State.{State}
-use Rattle.sd_machine.specs.States.{cpu_of}
-use Rattle.sd_full.specs.Runs.{IsReached}
-use Rattle.sd_full.specs.Shapes.{FitsFully}
-use Rattle.sd_full.specs.Threads.{count_of, lock_of, open_of}
+use Rattle.sd_state.specs.declared.states.State.{State}
+use Rattle.sd_state.specs.States.{cpu_of}
+use Rattle.sd_machine.specs.Runs.{IsReached}
+use Rattle.sd_machine.specs.Shapes.{FitsFully}
+use Rattle.sd_machine.specs.Threads.{count_of, lock_of, open_of}
 use Rattle.sd_sound.proofs.Ready.{reached_ready}
 use Rattle.sd_store.specs.declared.parts.CpuView.{CpuView}
 use Rattle.sd_store.specs.Parts.{view_of}

@@ -5,12 +5,12 @@ use Rattle.sd_types.specs.declared.numbers.CpuId.{CpuId}
 use Rattle.sd_types.specs.declared.bodies.ThreadBody.{ThreadBody}
 use Rattle.sd_types.specs.declared.works.Work.{Work}
 use Rattle.sd_record.specs.Records.{ThreadRecord}
-use Rattle.sd_machine.specs.Invariants.{IsThere}
-use Rattle.sd_machine.specs.declared.states.Place.{Place}
-use Rattle.sd_machine.specs.declared.states.Place.TheVariants.{Running, Queued, RealTime, Waiting, Asleep, Napping, Ended}
-use Rattle.sd_machine.specs.declared.states.State.{State}
-use Rattle.sd_machine.specs.States.{thread_of}
-use Rattle.sd_full.specs.Shapes.{FitsFully}
+use Rattle.sd_state.specs.Invariants.{IsThere}
+use Rattle.sd_state.specs.declared.states.Place.{Place}
+use Rattle.sd_state.specs.declared.states.Place.TheVariants.{Running, Queued, RealTime, Waiting, Asleep, Napping, Ended}
+use Rattle.sd_state.specs.declared.states.State.{State}
+use Rattle.sd_state.specs.States.{thread_of}
+use Rattle.sd_machine.specs.Shapes.{FitsFully}
 use Rattle.sd_sound.proofs.Ready.{reached_ready}
 use Rattle.sd_range.proofs.All.{threads_law}
 use Rattle.sd_shown.specs.declared.list_id.ListId.{ListId}

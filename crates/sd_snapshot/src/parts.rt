@@ -2,15 +2,15 @@
 //! the order of their numbers.
 
 ghost use Rattle.std.specs.Prelude.{◌≡◌, ◌<◌, Some, length, slice_get, IfOk};
-ghost use Rattle.sd_machine.specs.declared.states.State.{State as StateOf};
-ghost use Rattle.sd_machine.specs.States.{cpu_of};
-ghost use Rattle.sd_full.specs.Threads.{count_of, lock_of, open_of};
+ghost use Rattle.sd_state.specs.declared.states.State.{State as StateOf};
+ghost use Rattle.sd_state.specs.States.{cpu_of};
+ghost use Rattle.sd_machine.specs.Threads.{count_of, lock_of, open_of};
 ghost use Rattle.sd_store.specs.Parts.{view_of};
 ghost use Rattle.sd_snapshot.specs.Told.{AreActorsOf, IsActorOf, IsToldBy};
 
 use arrayvec::ArrayVec;
 use sd_hand::{Actor, Hand};
-use sd_machine::{CpuState, LockState};
+use sd_state::{CpuState, LockState};
 use sd_store::CpuView;
 use sd_types::{ChanId, CpuId, HomeId, LockId, SetId, home_of_chan, home_of_lock};
 use std::alloc::{AllocError, Global};

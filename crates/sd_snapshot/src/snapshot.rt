@@ -1,15 +1,15 @@
 //! The state of a run as one value.
 
 ghost use Rattle.std.specs.Prelude.{◌≡◌, ℕ, IfOk};
-ghost use Rattle.sd_machine.specs.declared.states.State.{State as StateOf};
-ghost use Rattle.sd_full.specs.Runs.{IsReached};
+ghost use Rattle.sd_state.specs.declared.states.State.{State as StateOf};
+ghost use Rattle.sd_machine.specs.Runs.{IsReached};
 ghost use Rattle.sd_hand.specs.OneHome.{AreAllHomes};
 ghost use Rattle.sd_snapshot.specs.Told.{AreActorsOf};
 
 use crate::parts::{counts_of, cpus_of, locks_of, open_lists};
 use crate::threads::threads_of;
 use sd_hand::{Actor, Hand};
-use sd_machine::State;
+use sd_state::State;
 use sd_types::{List, Work};
 use std::alloc::{AllocError, Global};
 

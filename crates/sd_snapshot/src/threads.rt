@@ -1,17 +1,17 @@
 //! The threads of a state, each with the place that its list and its key tell.
 
 ghost use Rattle.std.specs.Prelude.{◌≡◌, ◌<◌, length, IfOk};
-ghost use Rattle.sd_machine.specs.declared.states.Place.{Place as PlaceOf};
-ghost use Rattle.sd_machine.specs.declared.states.State.{State as StateOf};
-ghost use Rattle.sd_machine.specs.States.{thread_of};
+ghost use Rattle.sd_state.specs.declared.states.Place.{Place as PlaceOf};
+ghost use Rattle.sd_state.specs.declared.states.State.{State as StateOf};
+ghost use Rattle.sd_state.specs.States.{thread_of};
 ghost use Rattle.sd_shown.specs.Standing.{list_at, record_key};
 ghost use Rattle.sd_types.specs.declared.numbers.CpuId.{CpuId as CpuOf};
 ghost use Rattle.sd_snapshot.specs.Told.{IsDue, IsToldBy};
 
 use sd_hand::Hand;
-use sd_machine::{Place, ThreadState};
 use sd_record::copied_body;
 use sd_shown::ListId;
+use sd_state::{Place, ThreadState};
 use sd_types::ThreadId;
 use std::alloc::{AllocError, Global};
 

@@ -26,19 +26,19 @@ use Rattle.sd_sound.proofs.PassLemmas.Woken.{more, last}
 use Rattle.sd_sound.proofs.PassLemmas.Granted.{to_writer, to_reader}
 use Rattle.sd_sound.proofs.PassLemmas.Passed.{to_readers, writer_next, to_nobody, otherwise}
 use Rattle.sd_sound.proofs.ReleaseLemmas.Outcome.{freed, passed_on as handed_on, fewer, left, nothing}
-use Rattle.sd_machine.specs.declared.states.Place.TheVariants.{Waiting}
-use Rattle.sd_machine.specs.declared.states.LockState.{LockState}
-use Rattle.sd_machine.specs.declared.states.LockState.TheVariants.{Free, Owned, ReadHeld, Passing}
-use Rattle.sd_machine.specs.declared.states.State.{State}
-use Rattle.sd_machine.specs.States.{thread_of, cpu_of}
-use Rattle.sd_full.specs.Shapes.{FitsFully}
-use Rattle.sd_machine.specs.Operations.{script_of, op_of}
-use Rattle.sd_machine.proofs.BestLemmas.{and_left}
-use Rattle.sd_full.specs.Threads.{thread_id, lock_of, best_waiter}
-use Rattle.sd_full.specs.Changes.{back_key, set_duty}
-use Rattle.sd_full.specs.Locking.{side_of, one_more, one_reader_more, blocked}
-use Rattle.sd_full.specs.Events.{effect, after, drop_ageing, dropped_duty}
-use Rattle.sd_full.proofs.ShapeLemmas.{IsShaped}
+use Rattle.sd_state.specs.declared.states.Place.TheVariants.{Waiting}
+use Rattle.sd_state.specs.declared.states.LockState.{LockState}
+use Rattle.sd_state.specs.declared.states.LockState.TheVariants.{Free, Owned, ReadHeld, Passing}
+use Rattle.sd_state.specs.declared.states.State.{State}
+use Rattle.sd_state.specs.States.{thread_of, cpu_of}
+use Rattle.sd_machine.specs.Shapes.{FitsFully}
+use Rattle.sd_state.specs.Operations.{script_of, op_of}
+use Rattle.sd_state.proofs.BestLemmas.{and_left}
+use Rattle.sd_machine.specs.Threads.{thread_id, lock_of, best_waiter}
+use Rattle.sd_machine.specs.Changes.{back_key, set_duty}
+use Rattle.sd_machine.specs.Locking.{side_of, one_more, one_reader_more, blocked}
+use Rattle.sd_machine.specs.Events.{effect, after, drop_ageing, dropped_duty}
+use Rattle.sd_machine.proofs.ShapeLemmas.{IsShaped}
 use Rattle.sd_sound.specs.Causes.{IsFree, Acts, wants}
 use Rattle.sd_sound.specs.Holding.{lock_state, pass_of, table, Agreed, DutiesServe, ReadsWell}
 use Rattle.sd_sound.specs.Moves.{step_of}

@@ -19,11 +19,11 @@ use Rattle.sd_sound.proofs.AgreedLemmas.{agreed_quiet, waits_back}
 use Rattle.sd_sound.proofs.AgreedAfter.{IsReady, IsNext, drop_agreed, named_inside, not_free_owned, not_free_held, enter_locks, write_locks, read_locks, block_locks, enter_passes, write_passes, read_passes, block_passes, owned_taken, read_taken, blocked_agreed, waiter_not_held, holds_it, given_up, unblock_agreed, grant_agreed, pass_agreed}
 use Rattle.sd_sound.proofs.ReleaseLemmas.{exit_outcome, cv_wait_outcome}
 use Rattle.sd_sound.proofs.Works.{declared, op_named}
-use Rattle.sd_machine.specs.States.{thread_of, cpu_of}
-use Rattle.sd_full.specs.Shapes.{FitsFully}
-use Rattle.sd_full.specs.Threads.{lock_of, eff_of, best_waiter}
-use Rattle.sd_full.specs.Changes.{set_duty}
-use Rattle.sd_full.specs.Events.{after, drop_ageing}
+use Rattle.sd_state.specs.States.{thread_of, cpu_of}
+use Rattle.sd_machine.specs.Shapes.{FitsFully}
+use Rattle.sd_machine.specs.Threads.{lock_of, eff_of, best_waiter}
+use Rattle.sd_machine.specs.Changes.{set_duty}
+use Rattle.sd_machine.specs.Events.{after, drop_ageing}
 use Rattle.sd_types.specs.declared.numbers.ChanId.{ChanId}
 use Rattle.sd_types.specs.declared.numbers.CpuId.{CpuId}
 use Rattle.sd_types.specs.declared.numbers.LockId.{LockId}
@@ -34,8 +34,8 @@ use Rattle.sd_types.specs.declared.events.Event.TheVariants.{Tick, Spin, Idle, D
 use Rattle.sd_types.specs.declared.scripts.Op.{Op}
 use Rattle.sd_types.specs.declared.scripts.Op.TheVariants as op
 use Rattle.sd_types.specs.declared.works.Work.{Work}
-use Rattle.sd_machine.specs.declared.states.State.{State}
-use Rattle.sd_machine.proofs.BestLemmas.{and_left}
+use Rattle.sd_state.specs.declared.states.State.{State}
+use Rattle.sd_state.proofs.BestLemmas.{and_left}
 
 free_pass : (s : State) (c : ℕ) → IsFree (cpu_of s c).duty → pass_of (cpu_of s c).duty ≡ None
 free_pass s c free = free_passes (cpu_of s c).duty free

@@ -12,15 +12,15 @@ use Rattle.sd_chains.proofs.Moves.{IsPut, none_some}
 use Rattle.sd_chains.proofs.Chains.{some_is}
 use Rattle.sd_chains.proofs.HolderLemmas.{count_same, count_one, IsAt, agreed_at}
 use Rattle.sd_chains.proofs.HolderLemmas.IsHeldAfter.{stays, comes, goes}
-use Rattle.sd_machine.specs.declared.states.Place.{Place}
-use Rattle.sd_machine.specs.declared.states.Place.TheVariants.{Running, Queued, RealTime, Waiting, Asleep, Napping, Ended}
-use Rattle.sd_machine.specs.declared.states.LockState.{LockState}
-use Rattle.sd_machine.specs.declared.states.LockState.TheVariants.{Free, Passing}
-use Rattle.sd_machine.specs.declared.states.ThreadState.{ThreadState}
-use Rattle.sd_machine.specs.declared.states.State.{State}
-use Rattle.sd_machine.specs.States.{thread_of, no_thread}
-use Rattle.sd_full.specs.Threads.{lock_of, is_waiting}
-use Rattle.sd_full.specs.LockGraph.{wait_of}
+use Rattle.sd_state.specs.declared.states.Place.{Place}
+use Rattle.sd_state.specs.declared.states.Place.TheVariants.{Running, Queued, RealTime, Waiting, Asleep, Napping, Ended}
+use Rattle.sd_state.specs.declared.states.LockState.{LockState}
+use Rattle.sd_state.specs.declared.states.LockState.TheVariants.{Free, Passing}
+use Rattle.sd_state.specs.declared.states.ThreadState.{ThreadState}
+use Rattle.sd_state.specs.declared.states.State.{State}
+use Rattle.sd_state.specs.States.{thread_of, no_thread}
+use Rattle.sd_machine.specs.Threads.{lock_of, is_waiting}
+use Rattle.sd_machine.specs.LockGraph.{wait_of}
 use Rattle.sd_sound.specs.Holding.{lock_state, table, Agreed}
 use Rattle.sd_sound.specs.Moves.{Step}
 use Rattle.sd_sound.proofs.Parts.{put_item}

@@ -15,10 +15,10 @@ use Rattle.sd_types.specs.declared.works.Work.{Work}
 use Rattle.sd_types.specs.Priorities.{umdpri, base_of, at_least_zero}
 use Rattle.sd_rules.specs.ClassRules.{fx_tick, fx_wake, rt_tick, rt_wake, class_requeue}
 use Rattle.sd_rules.specs.Priocntl.{is_sys, class_of_parms, from_zero_to, numbers_fit, is_invalid, is_forbidden, lowered, new_parms, judged, entered}
-use Rattle.sd_machine.specs.declared.states.State.{State}
-use Rattle.sd_machine.proofs.BestLemmas.{and_right, and_left}
-use Rattle.sd_full.specs.Bodies.{ticked_class, woken_class, aged_class}
-use Rattle.sd_full.specs.Prioritising.{answer_to, new_class, target_of, uid_of, is_privileged}
+use Rattle.sd_state.specs.declared.states.State.{State}
+use Rattle.sd_state.proofs.BestLemmas.{and_right, and_left}
+use Rattle.sd_machine.specs.Bodies.{ticked_class, woken_class, aged_class}
+use Rattle.sd_machine.specs.Prioritising.{answer_to, new_class, target_of, uid_of, is_privileged}
 
 abbrev pub IsBelow : ClassState → Type 0
 IsBelow k = base_of k < 160

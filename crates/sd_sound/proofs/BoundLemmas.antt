@@ -17,30 +17,30 @@ use Rattle.sd_types.specs.declared.events.Event.TheVariants.{Tick, Spin, Idle, D
 use Rattle.sd_types.specs.declared.events.Put.{Put}
 use Rattle.sd_types.specs.declared.works.Work.{Work}
 use Rattle.std.specs.Prelude.{if◌then◌else◌, is_none, is_some, ◌==◌, not, ◌&&◌}
-use Rattle.sd_machine.specs.declared.states.CpuState.{CpuState}
-use Rattle.sd_machine.specs.declared.states.State.{State}
-use Rattle.sd_machine.specs.States.{no_thread, no_cpu, thread_of, cpu_of}
-use Rattle.sd_full.specs.Threads.{runner}
-use Rattle.sd_full.specs.Changes.{with_body, finish_op, run_tick, set_duty, count_tick, put, put_where, close, join, bind, unbind}
-use Rattle.sd_full.specs.Dispatching.{class_counts, ticked, spun, idled}
-use Rattle.sd_full.specs.Locking.{granted}
-use Rattle.sd_full.specs.SetChanges.{cleared, assigned, joined, rebound, pbound}
-use Rattle.sd_full.specs.Events.{dropped_duty, drop_ageing, effect, after}
+use Rattle.sd_state.specs.declared.states.CpuState.{CpuState}
+use Rattle.sd_state.specs.declared.states.State.{State}
+use Rattle.sd_state.specs.States.{no_thread, no_cpu, thread_of, cpu_of}
+use Rattle.sd_machine.specs.Threads.{runner}
+use Rattle.sd_machine.specs.Changes.{with_body, finish_op, run_tick, set_duty, count_tick, put, put_where, close, join, bind, unbind}
+use Rattle.sd_machine.specs.Dispatching.{class_counts, ticked, spun, idled}
+use Rattle.sd_machine.specs.Locking.{granted}
+use Rattle.sd_machine.specs.SetChanges.{cleared, assigned, joined, rebound, pbound}
+use Rattle.sd_machine.specs.Events.{dropped_duty, drop_ageing, effect, after}
 use Rattle.sd_sound.specs.Causes.{IsCause}
 use Rattle.sd_sound.proofs.PlainWords.{Plain, plain_keeps, drop_keeps}
 use Rattle.std.proofs.Common.{get_or, ◌≤◌, inl, inr, ◌⊎◌, zero, suc, [], ◌∷◌}
 use Rattle.std.specs.Prelude.{map}
 use Rattle.std.specs.List.{range_with_len}
-use Rattle.sd_machine.specs.States.{with_cpu}
+use Rattle.sd_state.specs.States.{with_cpu}
 use Rattle.std.proofs.lemmas.Bool.{cases_eq, cases_lt}
 use Rattle.std.proofs.lemmas.Bool.Decides.{nat_tests}
 use Rattle.sd_types.specs.declared.works.ThreadDecl.{ThreadDecl}
-use Rattle.sd_machine.specs.Opening.{first_cpu_state, first_thread, first_threads, opening}
-use Rattle.sd_full.specs.Changes.{bind, unbind, put_where}
-use Rattle.sd_full.specs.Prioritising.{is_privileged, uid_of}
-use Rattle.sd_full.specs.SetChanges.{is_misbound, is_closing, bind_to, bind_put}
-use Rattle.sd_full.specs.Threads.{has_ended, set_of}
-use Rattle.sd_full.proofs.ShapeLemmas.{IsShaped, set_duty_shape, pbound_shape, after_shape}
+use Rattle.sd_state.specs.Opening.{first_cpu_state, first_thread, first_threads, opening}
+use Rattle.sd_machine.specs.Changes.{bind, unbind, put_where}
+use Rattle.sd_machine.specs.Prioritising.{is_privileged, uid_of}
+use Rattle.sd_machine.specs.SetChanges.{is_misbound, is_closing, bind_to, bind_put}
+use Rattle.sd_machine.specs.Threads.{has_ended, set_of}
+use Rattle.sd_machine.proofs.ShapeLemmas.{IsShaped, set_duty_shape, pbound_shape, after_shape}
 use Rattle.sd_chains.proofs.HolderLemmas.{count_same, count_more}
 use Rattle.sd_sound.proofs.Parts.{set_past}
 use Rattle.sd_sound.proofs.Words.{Same, then_same, set_duty_same, plain_same}

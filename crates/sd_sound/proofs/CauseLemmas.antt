@@ -33,30 +33,30 @@ use Rattle.sd_rules.specs.ChoiceFunctions.{chosen, victim_of}
 use Rattle.sd_choose.proofs.FunctionLemmas.{chosen_is, victim_is}
 use Rattle.sd_types.specs.Events.{ticks}
 use Rattle.sd_rules.specs.ClassRules.{end_of}
-use Rattle.sd_full.specs.declared.plans.Plan.{Plan}
-use Rattle.sd_full.specs.declared.plans.Plan.TheVariants.{Make, Place as PlaceIt}
-use Rattle.sd_full.specs.declared.plans.Placement.TheVariants as placement
-use Rattle.sd_full.specs.declared.plans.Requeue.{Requeue}
-use Rattle.sd_full.specs.declared.plans.Requeue.TheVariants.{Stays, Behind, Anew}
-use Rattle.sd_machine.specs.declared.states.LockState.{LockState}
-use Rattle.sd_machine.specs.declared.states.LockState.TheVariants.{Free, Owned, ReadHeld, Passing}
-use Rattle.sd_machine.specs.declared.states.State.{State}
-use Rattle.sd_machine.specs.States.{thread_of, cpu_of}
-use Rattle.sd_machine.specs.Operations.{op_of}
-use Rattle.sd_full.specs.Threads.{thread_id, lock_of, count_of, runner, best_ready, best_queued, best_unbound, best_waiter, best_sleeper, best_sleeper_below, first_due, next_to_age, eff_of, priority_of}
+use Rattle.sd_machine.specs.declared.plans.Plan.{Plan}
+use Rattle.sd_machine.specs.declared.plans.Plan.TheVariants.{Make, Place as PlaceIt}
+use Rattle.sd_machine.specs.declared.plans.Placement.TheVariants as placement
+use Rattle.sd_machine.specs.declared.plans.Requeue.{Requeue}
+use Rattle.sd_machine.specs.declared.plans.Requeue.TheVariants.{Stays, Behind, Anew}
+use Rattle.sd_state.specs.declared.states.LockState.{LockState}
+use Rattle.sd_state.specs.declared.states.LockState.TheVariants.{Free, Owned, ReadHeld, Passing}
+use Rattle.sd_state.specs.declared.states.State.{State}
+use Rattle.sd_state.specs.States.{thread_of, cpu_of}
+use Rattle.sd_state.specs.Operations.{op_of}
+use Rattle.sd_machine.specs.Threads.{thread_id, lock_of, count_of, runner, best_ready, best_queued, best_unbound, best_waiter, best_sleeper, best_sleeper_below, first_due, next_to_age, eff_of, priority_of}
 use Rattle.sd_types.specs.Priorities.{eff_as}
-use Rattle.sd_full.specs.Changes.{cpu_put}
-use Rattle.sd_full.specs.Choosing.{numbers_read, cpus_for, is_warm, is_settled, read_for, reads_for, choice, put_on, put_chosen, neighbours, read_of, victim_for}
-use Rattle.sd_full.specs.Dispatching.{must_leave, leave_event, dispatch_plan, steal_event, search_event}
-use Rattle.sd_full.specs.Sleeping.{woken_priority, napend_plan, wake_plan, rouse_plan}
-use Rattle.sd_full.specs.Locking.{owner_runs, enter_event, read_event, write_event, unblock_plan, writer_priority, grant_writer_plan, is_eligible, grant_reader_plan}
-use Rattle.sd_full.specs.Requeueing.{requeue, requeue_plan}
-use Rattle.sd_full.specs.Walking.{inherited_priority, will_plan, walk_plan}
-use Rattle.sd_full.specs.Prioritising.{answer_to, new_class, change_plan, prio_plan, age_plan}
-use Rattle.sd_full.specs.Conditions.{sema_p_event, sema_v_plan}
-use Rattle.sd_full.specs.SetChanges.{closing_plan}
-use Rattle.sd_full.specs.Plans.{first_of, duty_plan_of, duty_plan, nap_plan, ageing_plan_of, ageing_plan, op_plan, run_plan_of, run_plan, free_plan_of, cpu_plan_of, cpu_plan, or_plan, plan}
-use Rattle.sd_full.specs.Events.{plan_reads, reads, same_which, hints_fit, plan_event, wish, may_tick, allowed, next}
+use Rattle.sd_machine.specs.Changes.{cpu_put}
+use Rattle.sd_machine.specs.Choosing.{numbers_read, cpus_for, is_warm, is_settled, read_for, reads_for, choice, put_on, put_chosen, neighbours, read_of, victim_for}
+use Rattle.sd_machine.specs.Dispatching.{must_leave, leave_event, dispatch_plan, steal_event, search_event}
+use Rattle.sd_machine.specs.Sleeping.{woken_priority, napend_plan, wake_plan, rouse_plan}
+use Rattle.sd_machine.specs.Locking.{owner_runs, enter_event, read_event, write_event, unblock_plan, writer_priority, grant_writer_plan, is_eligible, grant_reader_plan}
+use Rattle.sd_machine.specs.Requeueing.{requeue, requeue_plan}
+use Rattle.sd_machine.specs.Walking.{inherited_priority, will_plan, walk_plan}
+use Rattle.sd_machine.specs.Prioritising.{answer_to, new_class, change_plan, prio_plan, age_plan}
+use Rattle.sd_machine.specs.Conditions.{sema_p_event, sema_v_plan}
+use Rattle.sd_machine.specs.SetChanges.{closing_plan}
+use Rattle.sd_machine.specs.Plans.{first_of, duty_plan_of, duty_plan, nap_plan, ageing_plan_of, ageing_plan, op_plan, run_plan_of, run_plan, free_plan_of, cpu_plan_of, cpu_plan, or_plan, plan}
+use Rattle.sd_machine.specs.Events.{plan_reads, reads, same_which, hints_fit, plan_event, wish, may_tick, allowed, next}
 use Rattle.sd_sound.specs.Causes.{IsFree, Runs, IsIdle, IsOpenIdle, Acts, Leaves, IsPut, IsCause}
 
 -- Choices.

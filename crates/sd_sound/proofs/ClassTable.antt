@@ -13,18 +13,18 @@ use Rattle.sd_types.specs.declared.events.Event.{Event}
 use Rattle.sd_types.specs.declared.events.Event.TheVariants.{Tick, Spin, Idle, Dispatch, Steal, Preempt, Yield, Done, Nap, Napend, Sleep, Wake, Wakeall, Rouse, Enter, Read, Write, Block, Will, End as WalkEnd, Exit, Unblock, Grant, Passed, Age, Prio, CvWait, SemaP, SemaWait, SemaVWake, SemaVCount, Assign, Move, Joined, Bind, Away}
 use Rattle.sd_types.specs.declared.events.Put.{Put}
 use Rattle.sd_types.specs.declared.works.Work.{Work}
-use Rattle.sd_machine.specs.declared.states.LockState.TheVariants.{Owned}
-use Rattle.sd_machine.specs.declared.states.State.{State}
-use Rattle.sd_machine.specs.States.{thread_of}
-use Rattle.sd_full.specs.Threads.{thread_id, lock_of, with_lock, eff_of, greatest_waiting}
-use Rattle.sd_full.specs.Changes.{finish_op, hold, let_go, set_number, set_looped, put_where, bind, unbind}
-use Rattle.sd_full.specs.Locking.{release_from, released, exited, others_waiting, granted_to_writer, granted}
-use Rattle.sd_full.specs.Walking.{walked, willed}
-use Rattle.sd_full.specs.Conditions.{cv_waited}
-use Rattle.sd_full.specs.SetChanges.{rebound, pbound}
-use Rattle.sd_full.specs.Events.{drop_ageing, effect, after}
-use Rattle.sd_full.specs.Locking.{owned, read, granted_to_reader}
-use Rattle.sd_full.specs.Changes.{hold, let_go, set_number, set_looped, bind, unbind}
+use Rattle.sd_state.specs.declared.states.LockState.TheVariants.{Owned}
+use Rattle.sd_state.specs.declared.states.State.{State}
+use Rattle.sd_state.specs.States.{thread_of}
+use Rattle.sd_machine.specs.Threads.{thread_id, lock_of, with_lock, eff_of, greatest_waiting}
+use Rattle.sd_machine.specs.Changes.{finish_op, hold, let_go, set_number, set_looped, put_where, bind, unbind}
+use Rattle.sd_machine.specs.Locking.{release_from, released, exited, others_waiting, granted_to_writer, granted}
+use Rattle.sd_machine.specs.Walking.{walked, willed}
+use Rattle.sd_machine.specs.Conditions.{cv_waited}
+use Rattle.sd_machine.specs.SetChanges.{rebound, pbound}
+use Rattle.sd_machine.specs.Events.{drop_ageing, effect, after}
+use Rattle.sd_machine.specs.Locking.{owned, read, granted_to_reader}
+use Rattle.sd_machine.specs.Changes.{hold, let_go, set_number, set_looped, bind, unbind}
 use Rattle.sd_sound.proofs.ClassWords as W
 use Rattle.sd_sound.proofs.ClassWords.{Fit, IsClosed}
 

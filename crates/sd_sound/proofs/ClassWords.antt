@@ -29,27 +29,27 @@ use Rattle.sd_types.specs.declared.scripts.Op.{Op}
 use Rattle.sd_types.specs.declared.scripts.Op.TheVariants as op
 use Rattle.sd_types.specs.declared.works.Work.{Work}
 use Rattle.std.specs.Prelude.{if◌then◌else◌, Result, Ok, Err, is_none, is_some, nat_lt, nat_le, ◌==◌}
-use Rattle.sd_machine.specs.declared.states.Place.{Place}
-use Rattle.sd_machine.specs.declared.states.Place.TheVariants.{Running, Waiting, Ended}
-use Rattle.sd_machine.specs.declared.states.LockState.{LockState}
-use Rattle.sd_machine.specs.declared.states.LockState.TheVariants.{Free, Owned, ReadHeld, Passing}
-use Rattle.sd_machine.specs.declared.states.ThreadState.{ThreadState}
-use Rattle.sd_machine.specs.declared.states.State.{State}
-use Rattle.sd_machine.specs.States.{no_thread, thread_of, cpu_of, with_thread}
-use Rattle.sd_machine.specs.Operations.{script_of, op_of, op_over, ran}
-use Rattle.sd_full.specs.Threads.{lock_of, with_lock, with_count, runner, best_waiter, best_sleeper, eff_of, has_waiters}
+use Rattle.sd_state.specs.declared.states.Place.{Place}
+use Rattle.sd_state.specs.declared.states.Place.TheVariants.{Running, Waiting, Ended}
+use Rattle.sd_state.specs.declared.states.LockState.{LockState}
+use Rattle.sd_state.specs.declared.states.LockState.TheVariants.{Free, Owned, ReadHeld, Passing}
+use Rattle.sd_state.specs.declared.states.ThreadState.{ThreadState}
+use Rattle.sd_state.specs.declared.states.State.{State}
+use Rattle.sd_state.specs.States.{no_thread, thread_of, cpu_of, with_thread}
+use Rattle.sd_state.specs.Operations.{script_of, op_of, op_over, ran}
+use Rattle.sd_machine.specs.Threads.{lock_of, with_lock, with_count, runner, best_waiter, best_sleeper, eff_of, has_waiters}
 use Rattle.sd_rules.specs.ClassRules.{class_requeue}
-use Rattle.sd_full.specs.Bodies.{ticked_class, woken_class, aged_class, departed}
-use Rattle.sd_full.specs.Changes.{with_body, back_key, with_place, finish_op, run_tick, set_class, send_back, set_duty, count_tick, clear_marks, set_mark, set_kernel_mark, mark_over, remark, run_on, leave, place_put, put, put_where, close, join}
-use Rattle.sd_full.specs.Dispatching.{charge, class_counts, ticked, spun, idled, dispatched, stolen, preempted, sent_away, yielded, done}
-use Rattle.sd_full.specs.Sleeping.{woken, napped, fallen_asleep, woke, woke_all, roused_on, roused}
-use Rattle.sd_full.specs.Locking.{blocked, free_or_passed, release_from, unblocked_on, unblocked, passed_on, passed}
-use Rattle.sd_full.specs.Requeueing.{reordered_at, reordered}
-use Rattle.sd_full.specs.Walking.{walk_ended}
-use Rattle.sd_full.specs.Prioritising.{answer_to, new_class, walk_from, changed_by, changed_on, reprioritised, lifted, aged}
-use Rattle.sd_full.specs.Conditions.{sema_taken, sema_counted, sema_handed}
-use Rattle.sd_full.specs.SetChanges.{cleared, assigned, moved, joined, called_back}
-use Rattle.sd_full.specs.Events.{dropped_duty, drop_ageing, effect, after}
+use Rattle.sd_machine.specs.Bodies.{ticked_class, woken_class, aged_class, departed}
+use Rattle.sd_machine.specs.Changes.{with_body, back_key, with_place, finish_op, run_tick, set_class, send_back, set_duty, count_tick, clear_marks, set_mark, set_kernel_mark, mark_over, remark, run_on, leave, place_put, put, put_where, close, join}
+use Rattle.sd_machine.specs.Dispatching.{charge, class_counts, ticked, spun, idled, dispatched, stolen, preempted, sent_away, yielded, done}
+use Rattle.sd_machine.specs.Sleeping.{woken, napped, fallen_asleep, woke, woke_all, roused_on, roused}
+use Rattle.sd_machine.specs.Locking.{blocked, free_or_passed, release_from, unblocked_on, unblocked, passed_on, passed}
+use Rattle.sd_machine.specs.Requeueing.{reordered_at, reordered}
+use Rattle.sd_machine.specs.Walking.{walk_ended}
+use Rattle.sd_machine.specs.Prioritising.{answer_to, new_class, walk_from, changed_by, changed_on, reprioritised, lifted, aged}
+use Rattle.sd_machine.specs.Conditions.{sema_taken, sema_counted, sema_handed}
+use Rattle.sd_machine.specs.SetChanges.{cleared, assigned, moved, joined, called_back}
+use Rattle.sd_machine.specs.Events.{dropped_duty, drop_ageing, effect, after}
 
 -- each thread's class state keeps what P says of it
 pub record Fit (P : ClassState → Type 0) (s r : State) : Type 0 where

@@ -12,25 +12,25 @@ use Rattle.sd_types.specs.declared.events.Event.{Event}
 use Rattle.sd_types.specs.declared.events.Event.TheVariants.{Tick, Spin, Idle, Dispatch, Steal, Preempt, Yield, Done, Nap, Napend, Sleep, Wake, Wakeall, Rouse, Enter, Read, Write, Block, Will, End as WalkEnd, Exit, Unblock, Grant, Passed, Age, Prio, CvWait, SemaP, SemaWait, SemaVWake, SemaVCount, Assign, Move, Joined, Bind, Away}
 use Rattle.sd_types.specs.declared.works.Work.{Work}
 use Rattle.std.specs.Prelude.{nat_lt, nat_le}
-use Rattle.sd_machine.specs.declared.states.CpuState.{CpuState}
-use Rattle.sd_machine.specs.declared.states.State.{State}
-use Rattle.sd_machine.specs.States.{no_cpu, thread_of, cpu_of}
-use Rattle.sd_full.specs.Threads.{runner}
-use Rattle.sd_full.specs.Changes.{with_body, run_tick, duty_after, count_tick, put_where, close, join, bind, unbind}
-use Rattle.sd_full.specs.Dispatching.{class_counts, ticked, spun, idled}
-use Rattle.sd_full.specs.SetChanges.{cleared, assigned, joined, rebound, pbound}
-use Rattle.sd_full.specs.Events.{drop_ageing, effect, after}
+use Rattle.sd_state.specs.declared.states.CpuState.{CpuState}
+use Rattle.sd_state.specs.declared.states.State.{State}
+use Rattle.sd_state.specs.States.{no_cpu, thread_of, cpu_of}
+use Rattle.sd_machine.specs.Threads.{runner}
+use Rattle.sd_machine.specs.Changes.{with_body, run_tick, duty_after, count_tick, put_where, close, join, bind, unbind}
+use Rattle.sd_machine.specs.Dispatching.{class_counts, ticked, spun, idled}
+use Rattle.sd_machine.specs.SetChanges.{cleared, assigned, joined, rebound, pbound}
+use Rattle.sd_machine.specs.Events.{drop_ageing, effect, after}
 use Rattle.sd_sound.specs.Causes.{IsCause}
 use Rattle.sd_sound.specs.Laws.{CountsWithin}
 use Rattle.sd_sound.proofs.PlainWords.{Plain, plain_keeps, is_plain, drop_keeps}
-use Rattle.sd_full.specs.Events.{may_tick}
+use Rattle.sd_machine.specs.Events.{may_tick}
 use Rattle.std.specs.List.{list_all, range_with_len}
 use Rattle.std.proofs.lemmas.Bool.Decides.{nat_tests}
 use Rattle.std.proofs.lemmas.Bool.{cases_eq, cases_lt}
 use Rattle.std.proofs.Common.{get_or, ◌≤◌, inl, inr, zero, suc, [], ◌∷◌}
 use Rattle.std.specs.Prelude.{map}
-use Rattle.sd_machine.specs.Opening.{first_cpu_state, opening}
-use Rattle.sd_machine.proofs.BestLemmas.{and_left}
+use Rattle.sd_state.specs.Opening.{first_cpu_state, opening}
+use Rattle.sd_state.proofs.BestLemmas.{and_left}
 use Rattle.sd_sound.proofs.Parts.{set_past}
 
 abbrev count_part : CpuState → ℕ

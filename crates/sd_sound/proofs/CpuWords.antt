@@ -13,24 +13,24 @@ use Rattle.sd_types.specs.declared.events.Event.TheVariants.{Tick, Spin, Idle, D
 use Rattle.sd_types.specs.declared.events.Put.{Put}
 use Rattle.sd_types.specs.declared.works.Work.{Work}
 use Rattle.std.specs.Prelude.{if◌then◌else◌, nat_lt, nat_le, ◌==◌}
-use Rattle.sd_machine.specs.declared.states.Place.{Place}
-use Rattle.sd_machine.specs.declared.states.Place.TheVariants.{Running}
-use Rattle.sd_machine.specs.declared.states.LockState.{LockState}
-use Rattle.sd_machine.specs.declared.states.CpuState.{CpuState}
-use Rattle.sd_machine.specs.declared.states.ThreadState.{ThreadState}
-use Rattle.sd_machine.specs.declared.states.State.{State}
-use Rattle.sd_machine.specs.States.{no_cpu, thread_of, cpu_of, with_thread, with_cpu}
-use Rattle.sd_full.specs.Threads.{with_lock, with_count, with_open, eff_of}
-use Rattle.sd_full.specs.Bodies.{departed}
-use Rattle.sd_full.specs.Changes.{finish_op, run_tick, set_class, send_back, hold, let_go, set_number, set_looped, clear_marks, marked, set_mark, set_kernel_mark, mark_over, remark, run_on, leave, put, put_where}
-use Rattle.sd_full.specs.Dispatching.{charge, class_counts, dispatched, stolen, preempted, sent_away, yielded, done}
-use Rattle.sd_full.specs.Sleeping.{woken, napped, fallen_asleep, woke}
-use Rattle.sd_full.specs.Locking.{owned, read, granted_to_reader}
-use Rattle.sd_full.specs.Requeueing.{reordered_at, reordered}
-use Rattle.sd_full.specs.Prioritising.{lifted}
-use Rattle.sd_full.specs.Conditions.{sema_taken, sema_counted, sema_handed}
-use Rattle.sd_full.specs.SetChanges.{cleared, moved, called_back}
-use Rattle.sd_full.specs.Events.{effect}
+use Rattle.sd_state.specs.declared.states.Place.{Place}
+use Rattle.sd_state.specs.declared.states.Place.TheVariants.{Running}
+use Rattle.sd_state.specs.declared.states.LockState.{LockState}
+use Rattle.sd_state.specs.declared.states.CpuState.{CpuState}
+use Rattle.sd_state.specs.declared.states.ThreadState.{ThreadState}
+use Rattle.sd_state.specs.declared.states.State.{State}
+use Rattle.sd_state.specs.States.{no_cpu, thread_of, cpu_of, with_thread, with_cpu}
+use Rattle.sd_machine.specs.Threads.{with_lock, with_count, with_open, eff_of}
+use Rattle.sd_machine.specs.Bodies.{departed}
+use Rattle.sd_machine.specs.Changes.{finish_op, run_tick, set_class, send_back, hold, let_go, set_number, set_looped, clear_marks, marked, set_mark, set_kernel_mark, mark_over, remark, run_on, leave, put, put_where}
+use Rattle.sd_machine.specs.Dispatching.{charge, class_counts, dispatched, stolen, preempted, sent_away, yielded, done}
+use Rattle.sd_machine.specs.Sleeping.{woken, napped, fallen_asleep, woke}
+use Rattle.sd_machine.specs.Locking.{owned, read, granted_to_reader}
+use Rattle.sd_machine.specs.Requeueing.{reordered_at, reordered}
+use Rattle.sd_machine.specs.Prioritising.{lifted}
+use Rattle.sd_machine.specs.Conditions.{sema_taken, sema_counted, sema_handed}
+use Rattle.sd_machine.specs.SetChanges.{cleared, moved, called_back}
+use Rattle.sd_machine.specs.Events.{effect}
 
 -- the event writes no duty, no count of ticks and no set or binding of a processor, but for the ageing that it drops
 abbrev pub keeps_cpus : Event → Bool

@@ -8,9 +8,9 @@ use Rattle.sd_types.specs.declared.classes.ClassParms.TheVariants as parms
 use Rattle.sd_types.specs.declared.works.ThreadDecl.{ThreadDecl}
 use Rattle.sd_types.specs.declared.works.Work.{Work}
 use Rattle.sd_types.specs.Works.{class_fits, quantum_fits, thread_fits}
-use Rattle.sd_machine.specs.States.{thread_of, no_thread}
-use Rattle.sd_machine.specs.Opening.{first_class, first_thread, first_threads, opening}
-use Rattle.sd_machine.proofs.BestLemmas.{and_right, and_left}
+use Rattle.sd_state.specs.States.{thread_of, no_thread}
+use Rattle.sd_state.specs.Opening.{first_class, first_thread, first_threads, opening}
+use Rattle.sd_state.proofs.BestLemmas.{and_right, and_left}
 use Rattle.sd_sound.specs.Laws.{HoldsWhenReached, AreSound}
 use Rattle.sd_sound.proofs.BaseLemmas.{IsBelow, tick_below, wake_below, age_below, requeue_below, new_below}
 use Rattle.sd_sound.proofs.ClassWords.{IsClosed}

@@ -4,7 +4,7 @@ use Rattle.std.proofs.Common.{◌≡◌, ℕ, ◌<◌, Bool, ◌||◌, List, [],
 use Rattle.sd_types.specs.Scripts.{without_lock}
 use Rattle.sd_types.specs.Willed.{Numbers, without_number, changed_number}
 use Rattle.sd_chains.proofs.Moves.{IsPut}
-use Rattle.sd_full.proofs.ShapeLemmas.{IsShaped, then_shape, lock_shape, finish_op_shape, hold_shape, set_number_shape, release_from_shape}
+use Rattle.sd_machine.proofs.ShapeLemmas.{IsShaped, then_shape, lock_shape, finish_op_shape, hold_shape, set_number_shape, release_from_shape}
 use Rattle.sd_sound.proofs.Parts.{same_item, put_item, put_same, same_put, put_is, same_is_put}
 use Rattle.sd_sound.proofs.Words.{all_same, then_same, lock_same, set_duty_same, remark_same, called_back_same, release_from_same, put_where_same, woken_same, reordered_same, finish_op_same, fallen_asleep_same, Same, Moves, Ops, of_threads}
 use Rattle.sd_types.specs.declared.numbers.ChanId.{ChanId}
@@ -16,17 +16,17 @@ use Rattle.sd_types.specs.declared.events.BindAnswer.{BindAnswer}
 use Rattle.sd_types.specs.declared.events.BindAnswer.TheVariants as bind_answer
 use Rattle.sd_types.specs.declared.events.Put.{Put}
 use Rattle.sd_types.specs.declared.works.Work.{Work}
-use Rattle.sd_machine.specs.declared.states.LockState.TheVariants.{Owned}
-use Rattle.sd_machine.specs.declared.states.CpuState.{CpuState}
-use Rattle.sd_machine.specs.declared.states.ThreadState.{ThreadState}
-use Rattle.sd_machine.specs.declared.states.State.{State}
-use Rattle.sd_machine.specs.States.{no_thread, thread_of, cpu_of, with_cpu}
-use Rattle.sd_full.specs.Threads.{thread_id, lock_of, with_lock, greatest_waiting}
-use Rattle.sd_full.specs.Changes.{with_body, finish_op, hold, let_go, set_number, set_looped, put_where, bind, unbind}
-use Rattle.sd_full.specs.Locking.{owned, one_more, read, release_from, released, exited, others_waiting, one_reader_more, granted_to_writer, granted_to_reader}
-use Rattle.sd_full.specs.Walking.{is_back, walked, willed}
-use Rattle.sd_full.specs.Conditions.{cv_waited}
-use Rattle.sd_full.specs.SetChanges.{rebound, pbound}
+use Rattle.sd_state.specs.declared.states.LockState.TheVariants.{Owned}
+use Rattle.sd_state.specs.declared.states.CpuState.{CpuState}
+use Rattle.sd_state.specs.declared.states.ThreadState.{ThreadState}
+use Rattle.sd_state.specs.declared.states.State.{State}
+use Rattle.sd_state.specs.States.{no_thread, thread_of, cpu_of, with_cpu}
+use Rattle.sd_machine.specs.Threads.{thread_id, lock_of, with_lock, greatest_waiting}
+use Rattle.sd_machine.specs.Changes.{with_body, finish_op, hold, let_go, set_number, set_looped, put_where, bind, unbind}
+use Rattle.sd_machine.specs.Locking.{owned, one_more, read, release_from, released, exited, others_waiting, one_reader_more, granted_to_writer, granted_to_reader}
+use Rattle.sd_machine.specs.Walking.{is_back, walked, willed}
+use Rattle.sd_machine.specs.Conditions.{cv_waited}
+use Rattle.sd_machine.specs.SetChanges.{rebound, pbound}
 
 abbrev pub held_part : ThreadState → List LockId
 held_part x = x.body.held.items

@@ -14,28 +14,28 @@ use Rattle.sd_types.specs.declared.events.Put.{Put}
 use Rattle.sd_types.specs.declared.events.Put.TheVariants.{Cpu, RealTime as OnRealTime}
 use Rattle.sd_types.specs.declared.works.Work.{Work}
 use Rattle.sd_types.specs.Priorities.{eff_as}
-use Rattle.sd_machine.specs.declared.states.Place.{Place}
-use Rattle.sd_machine.specs.declared.states.Place.TheVariants.{Running, Queued, RealTime, Waiting, Asleep, Napping, Ended}
-use Rattle.sd_machine.specs.declared.states.State.{State}
-use Rattle.sd_machine.specs.States.{thread_of}
-use Rattle.sd_full.specs.Changes.{back_key}
-use Rattle.sd_full.specs.Threads.{eff_of}
-use Rattle.sd_full.specs.Bodies.{aged_class}
+use Rattle.sd_state.specs.declared.states.Place.{Place}
+use Rattle.sd_state.specs.declared.states.Place.TheVariants.{Running, Queued, RealTime, Waiting, Asleep, Napping, Ended}
+use Rattle.sd_state.specs.declared.states.State.{State}
+use Rattle.sd_state.specs.States.{thread_of}
+use Rattle.sd_machine.specs.Changes.{back_key}
+use Rattle.sd_machine.specs.Threads.{eff_of}
+use Rattle.sd_machine.specs.Bodies.{aged_class}
 use Rattle.sd_sound.specs.Moves.{Step, put_step, put_step_if, woken_step, reordered_step, aged_step, prio_step, bind_step, step_of}
 use Rattle.sd_sound.specs.Moves.Step.{Stay, Go}
 use Rattle.sd_sound.proofs.PlaceTable.{Stepped}
 use Rattle.sd_types.specs.declared.bodies.ThreadBody.{ThreadBody}
 use Rattle.sd_types.specs.Priorities.{eff}
-use Rattle.sd_full.specs.Threads.{set_of}
-use Rattle.sd_full.specs.Changes.{queue_place, key_at}
-use Rattle.sd_full.specs.Events.{after}
-use Rattle.sd_machine.specs.States.{key_of}
+use Rattle.sd_machine.specs.Threads.{set_of}
+use Rattle.sd_machine.specs.Changes.{queue_place, key_at}
+use Rattle.sd_machine.specs.Events.{after}
+use Rattle.sd_state.specs.States.{key_of}
 use Rattle.sd_types.specs.declared.events.End.{End}
 use Rattle.sd_types.specs.declared.events.End.TheVariants.{Front, Back}
-use Rattle.sd_machine.specs.Invariants.{has_key, KeysDiffer, KeysWithin}
-use Rattle.sd_machine.proofs.KeyLemmas as Ch
-use Rattle.sd_machine.proofs.Chosen.{places}
-use Rattle.sd_machine.proofs.KeyLemmas.{IsNew, GivesNew, KeysAt, keys_after, first_keys}
+use Rattle.sd_state.specs.Invariants.{has_key, KeysDiffer, KeysWithin}
+use Rattle.sd_state.proofs.KeyLemmas as Ch
+use Rattle.sd_state.proofs.Chosen.{places}
+use Rattle.sd_state.proofs.KeyLemmas.{IsNew, GivesNew, KeysAt, keys_after, first_keys}
 use Rattle.sd_sound.specs.Laws.{HoldsWhenReached, HoldsAfterEntries}
 use Rattle.sd_sound.proofs.PlaceTable.{after_steps, step_needs}
 use Rattle.sd_sound.proofs.Movers.{mover_there}

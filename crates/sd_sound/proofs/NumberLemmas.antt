@@ -13,10 +13,10 @@ use Rattle.sd_types.specs.declared.events.Event.TheVariants.{Tick, Spin, Idle, D
 use Rattle.sd_types.specs.declared.events.Put.{Put}
 use Rattle.sd_types.specs.declared.scripts.Op.TheVariants as op
 use Rattle.sd_types.specs.declared.works.Work.{Work}
-use Rattle.sd_machine.specs.declared.states.Place.TheVariants.{Ended}
-use Rattle.sd_machine.specs.declared.states.State.{State}
-use Rattle.sd_machine.specs.States.{thread_of, cpu_of}
-use Rattle.sd_full.specs.Threads.{best_waiter}
+use Rattle.sd_state.specs.declared.states.Place.TheVariants.{Ended}
+use Rattle.sd_state.specs.declared.states.State.{State}
+use Rattle.sd_state.specs.States.{thread_of, cpu_of}
+use Rattle.sd_machine.specs.Threads.{best_waiter}
 use Rattle.sd_sound.specs.Causes.{IsCause}
 use Rattle.sd_sound.specs.Holding.{lock_state}
 use Rattle.sd_sound.proofs.Found.{runner_found, waiter_found}
@@ -32,12 +32,12 @@ use Rattle.sd_types.specs.Works.{is_distinct}
 use Rattle.std.specs.List.{list_all}
 use Rattle.sd_types.proofs.PriorityLemmas.{greatest-below}
 use Rattle.sd_types.proofs.WilledLemmas.{sound-with, sound-without, sound-taken, sound-released}
-use Rattle.sd_machine.specs.declared.states.ThreadState.{ThreadState}
-use Rattle.sd_machine.specs.States.{no_thread}
-use Rattle.sd_full.specs.Threads.{is_waiting, greatest_waiting, greater}
-use Rattle.sd_full.specs.Changes.{set_duty}
-use Rattle.sd_full.specs.Locking.{granted, others_waiting}
-use Rattle.sd_full.specs.Events.{drop_ageing, effect, after}
+use Rattle.sd_state.specs.declared.states.ThreadState.{ThreadState}
+use Rattle.sd_state.specs.States.{no_thread}
+use Rattle.sd_machine.specs.Threads.{is_waiting, greatest_waiting, greater}
+use Rattle.sd_machine.specs.Changes.{set_duty}
+use Rattle.sd_machine.specs.Locking.{granted, others_waiting}
+use Rattle.sd_machine.specs.Events.{drop_ageing, effect, after}
 use Rattle.sd_sound.proofs.Parts.{same_item}
 use Rattle.sd_sound.proofs.BaseLemmas.{IsBelow}
 use Rattle.sd_sound.proofs.Words.{Same, plain_same, set_duty_same, then_same}

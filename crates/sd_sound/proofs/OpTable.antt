@@ -2,7 +2,7 @@
 use Rattle.std.proofs.Common.{◌≡◌, ℕ, ◌+◌, ◌-◌, ◌<◌, Bool, true, false, length, Option, Some, None, refl, ap, ◌⊎◌, inl, inr}
 use Rattle.std.specs.Prelude.{⊤}
 use Rattle.sd_chains.proofs.Moves.{IsPut}
-use Rattle.sd_full.proofs.ShapeLemmas.{IsShaped, then_shape, lock_shape, count_shape, hold_shape, set_duty_shape, count_tick_shape, leave_shape, put_where_shape, close_shape, woken_shape, released_shape, changed_on_shape, cleared_shape, rebound_shape}
+use Rattle.sd_machine.proofs.ShapeLemmas.{IsShaped, then_shape, lock_shape, count_shape, hold_shape, set_duty_shape, count_tick_shape, leave_shape, put_where_shape, close_shape, woken_shape, released_shape, changed_on_shape, cleared_shape, rebound_shape}
 use Rattle.sd_sound.proofs.Parts.{same_item, put_item, put_same, same_put, put_is}
 use Rattle.sd_sound.proofs.Words.{all_same, then_same, lock_same, count_same, set_duty_same, count_tick_same, close_same, idled_same, walk_ended_same, joined_same, remark_same, cleared_same, called_back_same, release_from_same, passed_same, leave_same, put_where_same, class_counts_same, spun_same, dispatched_same, stolen_same, preempted_same, sent_away_same, done_same, woken_same, roused_same, blocked_same, unblocked_same, reordered_same, changed_on_same, aged_same, moved_same, Same, Moves, of_threads}
 use Rattle.sd_sound.proofs.HoldTable.{there}
@@ -25,23 +25,23 @@ use Rattle.sd_types.specs.declared.events.PrioAnswer.TheVariants.{Changed, Refus
 use Rattle.sd_types.specs.declared.events.Put.{Put}
 use Rattle.sd_types.specs.declared.works.Work.{Work}
 use Rattle.std.specs.Prelude.{if◌then◌else◌, is_none, nat_le}
-use Rattle.sd_machine.specs.declared.states.Place.TheVariants.{Asleep, Napping}
-use Rattle.sd_machine.specs.declared.states.LockState.TheVariants.{Owned}
-use Rattle.sd_machine.specs.declared.states.CpuState.{CpuState}
-use Rattle.sd_machine.specs.declared.states.ThreadState.{ThreadState}
-use Rattle.sd_machine.specs.declared.states.State.{State}
-use Rattle.sd_machine.specs.States.{no_thread, thread_of, cpu_of, with_cpu}
-use Rattle.sd_machine.specs.Operations.{script_of, op_of, op_over}
-use Rattle.sd_full.specs.Threads.{thread_id, lock_of, with_lock, count_of, with_count, runner, best_sleeper}
-use Rattle.sd_full.specs.Changes.{back_key, with_body, finish_op, run_tick, hold, let_go, set_number, set_looped, set_duty, count_tick, leave, queue_place, put_where, close, bind, unbind}
-use Rattle.sd_full.specs.Dispatching.{ticked, yielded}
-use Rattle.sd_full.specs.Sleeping.{woken, nap_ticks, napped, fallen_asleep, woke, woke_all}
-use Rattle.sd_full.specs.Locking.{owned, one_more, read, released, exited, one_reader_more, granted_to_writer, granted_to_reader, granted}
-use Rattle.sd_full.specs.Walking.{walked, willed}
-use Rattle.sd_full.specs.Prioritising.{changed_on, reprioritised}
-use Rattle.sd_full.specs.Conditions.{cv_waited, sema_taken, sema_counted, sema_handed}
-use Rattle.sd_full.specs.SetChanges.{cleared, assigned, rebound, pbound}
-use Rattle.sd_full.specs.Events.{drop_ageing, effect, after}
+use Rattle.sd_state.specs.declared.states.Place.TheVariants.{Asleep, Napping}
+use Rattle.sd_state.specs.declared.states.LockState.TheVariants.{Owned}
+use Rattle.sd_state.specs.declared.states.CpuState.{CpuState}
+use Rattle.sd_state.specs.declared.states.ThreadState.{ThreadState}
+use Rattle.sd_state.specs.declared.states.State.{State}
+use Rattle.sd_state.specs.States.{no_thread, thread_of, cpu_of, with_cpu}
+use Rattle.sd_state.specs.Operations.{script_of, op_of, op_over}
+use Rattle.sd_machine.specs.Threads.{thread_id, lock_of, with_lock, count_of, with_count, runner, best_sleeper}
+use Rattle.sd_machine.specs.Changes.{back_key, with_body, finish_op, run_tick, hold, let_go, set_number, set_looped, set_duty, count_tick, leave, queue_place, put_where, close, bind, unbind}
+use Rattle.sd_machine.specs.Dispatching.{ticked, yielded}
+use Rattle.sd_machine.specs.Sleeping.{woken, nap_ticks, napped, fallen_asleep, woke, woke_all}
+use Rattle.sd_machine.specs.Locking.{owned, one_more, read, released, exited, one_reader_more, granted_to_writer, granted_to_reader, granted}
+use Rattle.sd_machine.specs.Walking.{walked, willed}
+use Rattle.sd_machine.specs.Prioritising.{changed_on, reprioritised}
+use Rattle.sd_machine.specs.Conditions.{cv_waited, sema_taken, sema_counted, sema_handed}
+use Rattle.sd_machine.specs.SetChanges.{cleared, assigned, rebound, pbound}
+use Rattle.sd_machine.specs.Events.{drop_ageing, effect, after}
 
 abbrev pub op_part : ThreadState → ℕ
 op_part x = x.body.op

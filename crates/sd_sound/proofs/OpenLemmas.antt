@@ -15,15 +15,15 @@ use Rattle.sd_types.specs.declared.events.Event.{Event}
 use Rattle.sd_types.specs.declared.events.Event.TheVariants.{Tick, Spin, Idle, Dispatch, Steal, Preempt, Yield, Done, Nap, Napend, Sleep, Wake, Wakeall, Rouse, Enter, Read, Write, Block, Will, End as WalkEnd, Exit, Unblock, Grant, Passed, Age, Prio, CvWait, SemaP, SemaWait, SemaVWake, SemaVCount, Assign, Move, Joined, Bind, Away}
 use Rattle.sd_types.specs.declared.works.Work.{Work}
 use Rattle.std.specs.Prelude.{if◌then◌else◌, nat_lt, ◌==◌, not}
-use Rattle.sd_machine.specs.declared.states.CpuState.{CpuState}
-use Rattle.sd_machine.specs.declared.states.State.{State}
-use Rattle.sd_machine.specs.States.{no_cpu, thread_of, cpu_of}
-use Rattle.sd_full.specs.Threads.{count_of, with_count, runner}
-use Rattle.sd_full.specs.Changes.{with_body, finish_op, run_tick, set_duty, count_tick, put_where, close, join, bind, unbind}
-use Rattle.sd_full.specs.Dispatching.{class_counts, ticked, spun, idled}
-use Rattle.sd_full.specs.Conditions.{sema_taken, sema_counted}
-use Rattle.sd_full.specs.SetChanges.{cleared, assigned, joined, rebound, pbound}
-use Rattle.sd_full.specs.Events.{drop_ageing, effect, after}
+use Rattle.sd_state.specs.declared.states.CpuState.{CpuState}
+use Rattle.sd_state.specs.declared.states.State.{State}
+use Rattle.sd_state.specs.States.{no_cpu, thread_of, cpu_of}
+use Rattle.sd_machine.specs.Threads.{count_of, with_count, runner}
+use Rattle.sd_machine.specs.Changes.{with_body, finish_op, run_tick, set_duty, count_tick, put_where, close, join, bind, unbind}
+use Rattle.sd_machine.specs.Dispatching.{class_counts, ticked, spun, idled}
+use Rattle.sd_machine.specs.Conditions.{sema_taken, sema_counted}
+use Rattle.sd_machine.specs.SetChanges.{cleared, assigned, joined, rebound, pbound}
+use Rattle.sd_machine.specs.Events.{drop_ageing, effect, after}
 use Rattle.sd_sound.specs.Causes.{IsCause}
 use Rattle.sd_sound.specs.Laws.{OpenHold, is_in, IsRising}
 use Rattle.sd_sound.proofs.PlainWords.{Plain, plain_keeps, drop_keeps}
@@ -36,10 +36,10 @@ use Rattle.std.proofs.lemmas.Bool.Decides.{nat_tests}
 use Rattle.std.proofs.lemmas.List.{get_or_past, get_or-set_same, get_or-set_other}
 use Rattle.std.proofs.lemmas.List.FromFn.{get_or-map-range_with_len, length-map-range_with_len}
 use Rattle.sd_types.specs.Partitions.{set_of_cpu, cpu_of_number, cpus_of_set}
-use Rattle.sd_machine.specs.Opening.{first_cpu_state, open_list, opening}
-use Rattle.sd_full.specs.Threads.{no_cpus, open_of, with_open}
-use Rattle.sd_full.specs.Changes.{with_cpu_in, without_cpu}
-use Rattle.sd_machine.specs.States.{with_cpu}
+use Rattle.sd_state.specs.Opening.{first_cpu_state, open_list, opening}
+use Rattle.sd_machine.specs.Threads.{no_cpus, open_of, with_open}
+use Rattle.sd_machine.specs.Changes.{with_cpu_in, without_cpu}
+use Rattle.sd_state.specs.States.{with_cpu}
 use Rattle.sd_sound.proofs.Parts.{set_past}
 use Rattle.sd_sound.proofs.AgreedAfter.{IsReady}
 use Rattle.sd_sound.proofs.Ready.{IsKept}

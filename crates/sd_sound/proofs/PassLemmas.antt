@@ -12,16 +12,16 @@ use Rattle.sd_types.specs.declared.events.Event.{Event}
 use Rattle.sd_types.specs.declared.events.Event.TheVariants as event
 use Rattle.sd_types.specs.declared.events.Put.{Put}
 use Rattle.sd_types.specs.declared.works.Work.{Work}
-use Rattle.sd_machine.specs.declared.states.LockState.{LockState}
-use Rattle.sd_machine.specs.declared.states.LockState.TheVariants.{Free, Owned, ReadHeld, Passing}
-use Rattle.sd_machine.specs.declared.states.State.{State}
-use Rattle.sd_machine.specs.States.{cpu_of, no_cpu}
-use Rattle.sd_full.specs.Threads.{thread_id, lock_of, with_lock, best_waiter, has_waiters}
-use Rattle.sd_full.specs.Changes.{set_duty}
-use Rattle.sd_full.specs.Sleeping.{woken}
-use Rattle.sd_full.specs.Locking.{one_reader_more, unblocked, unblocked_on, granted, passed, passed_on}
-use Rattle.sd_full.specs.Events.{effect, after, drop_ageing, dropped_duty}
-use Rattle.sd_full.proofs.ShapeLemmas.{woken_shape, lock_shape, then_shape}
+use Rattle.sd_state.specs.declared.states.LockState.{LockState}
+use Rattle.sd_state.specs.declared.states.LockState.TheVariants.{Free, Owned, ReadHeld, Passing}
+use Rattle.sd_state.specs.declared.states.State.{State}
+use Rattle.sd_state.specs.States.{cpu_of, no_cpu}
+use Rattle.sd_machine.specs.Threads.{thread_id, lock_of, with_lock, best_waiter, has_waiters}
+use Rattle.sd_machine.specs.Changes.{set_duty}
+use Rattle.sd_machine.specs.Sleeping.{woken}
+use Rattle.sd_machine.specs.Locking.{one_reader_more, unblocked, unblocked_on, granted, passed, passed_on}
+use Rattle.sd_machine.specs.Events.{effect, after, drop_ageing, dropped_duty}
+use Rattle.sd_machine.proofs.ShapeLemmas.{woken_shape, lock_shape, then_shape}
 use Rattle.sd_sound.proofs.Parts.{same_item}
 use Rattle.sd_sound.proofs.LockTable as T
 use Rattle.sd_sound.proofs.LockTable.{duty_part, duty_marks}

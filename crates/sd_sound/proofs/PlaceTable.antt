@@ -36,27 +36,27 @@ use Rattle.sd_types.specs.declared.events.Put.{Put}
 use Rattle.sd_types.specs.declared.scripts.Op.TheVariants as op
 use Rattle.sd_types.specs.declared.works.Work.{Work}
 use Rattle.std.specs.Prelude.{if◌then◌else◌, Ok, is_none, is_some, nat_lt, nat_le, ◌==◌}
-use Rattle.sd_machine.specs.declared.states.Place.{Place}
-use Rattle.sd_machine.specs.declared.states.Place.TheVariants.{Running, Queued, Waiting, Asleep, Napping, Ended}
-use Rattle.sd_machine.specs.declared.states.LockState.{LockState}
-use Rattle.sd_machine.specs.declared.states.LockState.TheVariants.{Free, Owned, ReadHeld, Passing}
-use Rattle.sd_machine.specs.declared.states.CpuState.{CpuState}
-use Rattle.sd_machine.specs.declared.states.ThreadState.{ThreadState}
-use Rattle.sd_machine.specs.declared.states.State.{State}
-use Rattle.sd_machine.specs.States.{no_thread, no_cpu, thread_of, cpu_of, with_thread}
-use Rattle.sd_machine.specs.Operations.{op_of}
-use Rattle.sd_full.specs.Threads.{thread_id, lock_of, with_lock, with_count, best_waiter, best_sleeper, eff_of, has_waiters}
-use Rattle.sd_full.specs.Bodies.{with_class, aged_class, departed}
-use Rattle.sd_full.specs.Changes.{back_key, key_at, with_body, with_place, finish_op, run_tick, set_class, send_back, hold, let_go, set_number, set_looped, set_duty, count_tick, clear_marks, set_mark, set_kernel_mark, mark_over, remark, run_on, leave, queue_place, place_put, put, put_where, close, join, bind, unbind}
-use Rattle.sd_full.specs.Dispatching.{charge, class_counts, ticked, spun, idled, dispatched, stolen, preempted, sent_away, yielded, done}
-use Rattle.sd_full.specs.Sleeping.{woken, nap_ticks, napped, fallen_asleep, woke, woke_all, roused_on, roused}
-use Rattle.sd_full.specs.Locking.{owned, read, side_of, blocked, free_or_passed, release_from, released, exited, unblocked_on, unblocked, others_waiting, one_reader_more, granted_to_writer, granted_to_reader, granted, passed_on, passed}
-use Rattle.sd_full.specs.Requeueing.{reordered_at, reordered}
-use Rattle.sd_full.specs.Walking.{walked, willed, walk_ended}
-use Rattle.sd_full.specs.Prioritising.{answer_to, new_class, walk_from, changed_by, changed_on, reprioritised, lifted, aged}
-use Rattle.sd_full.specs.Conditions.{cv_waited, sema_taken, sema_counted, sema_handed}
-use Rattle.sd_full.specs.SetChanges.{cleared, assigned, moved, joined, called_back, rebound, pbound}
-use Rattle.sd_full.specs.Events.{dropped_duty, drop_ageing, effect, after}
+use Rattle.sd_state.specs.declared.states.Place.{Place}
+use Rattle.sd_state.specs.declared.states.Place.TheVariants.{Running, Queued, Waiting, Asleep, Napping, Ended}
+use Rattle.sd_state.specs.declared.states.LockState.{LockState}
+use Rattle.sd_state.specs.declared.states.LockState.TheVariants.{Free, Owned, ReadHeld, Passing}
+use Rattle.sd_state.specs.declared.states.CpuState.{CpuState}
+use Rattle.sd_state.specs.declared.states.ThreadState.{ThreadState}
+use Rattle.sd_state.specs.declared.states.State.{State}
+use Rattle.sd_state.specs.States.{no_thread, no_cpu, thread_of, cpu_of, with_thread}
+use Rattle.sd_state.specs.Operations.{op_of}
+use Rattle.sd_machine.specs.Threads.{thread_id, lock_of, with_lock, with_count, best_waiter, best_sleeper, eff_of, has_waiters}
+use Rattle.sd_machine.specs.Bodies.{with_class, aged_class, departed}
+use Rattle.sd_machine.specs.Changes.{back_key, key_at, with_body, with_place, finish_op, run_tick, set_class, send_back, hold, let_go, set_number, set_looped, set_duty, count_tick, clear_marks, set_mark, set_kernel_mark, mark_over, remark, run_on, leave, queue_place, place_put, put, put_where, close, join, bind, unbind}
+use Rattle.sd_machine.specs.Dispatching.{charge, class_counts, ticked, spun, idled, dispatched, stolen, preempted, sent_away, yielded, done}
+use Rattle.sd_machine.specs.Sleeping.{woken, nap_ticks, napped, fallen_asleep, woke, woke_all, roused_on, roused}
+use Rattle.sd_machine.specs.Locking.{owned, read, side_of, blocked, free_or_passed, release_from, released, exited, unblocked_on, unblocked, others_waiting, one_reader_more, granted_to_writer, granted_to_reader, granted, passed_on, passed}
+use Rattle.sd_machine.specs.Requeueing.{reordered_at, reordered}
+use Rattle.sd_machine.specs.Walking.{walked, willed, walk_ended}
+use Rattle.sd_machine.specs.Prioritising.{answer_to, new_class, walk_from, changed_by, changed_on, reprioritised, lifted, aged}
+use Rattle.sd_machine.specs.Conditions.{cv_waited, sema_taken, sema_counted, sema_handed}
+use Rattle.sd_machine.specs.SetChanges.{cleared, assigned, moved, joined, called_back, rebound, pbound}
+use Rattle.sd_machine.specs.Events.{dropped_duty, drop_ageing, effect, after}
 
 abbrev pub place_part : ThreadState → Place
 place_part x = x.place

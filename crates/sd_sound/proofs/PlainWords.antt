@@ -20,24 +20,24 @@ use Rattle.sd_types.specs.declared.scripts.Op.{Op}
 use Rattle.sd_types.specs.declared.scripts.Op.TheVariants as op
 use Rattle.sd_types.specs.declared.works.Work.{Work}
 use Rattle.std.specs.Prelude.{if◌then◌else◌, Result, Ok, Err, is_none, is_some, nat_lt, nat_le}
-use Rattle.sd_machine.specs.declared.states.Place.{Place}
-use Rattle.sd_machine.specs.declared.states.Place.TheVariants.{Running, Queued, RealTime, Waiting, Asleep, Napping, Ended}
-use Rattle.sd_machine.specs.declared.states.LockState.{LockState}
-use Rattle.sd_machine.specs.declared.states.LockState.TheVariants.{Free, Owned, ReadHeld, Passing}
-use Rattle.sd_machine.specs.declared.states.CpuState.{CpuState}
-use Rattle.sd_machine.specs.declared.states.State.{State}
-use Rattle.sd_machine.specs.States.{thread_of, cpu_of}
-use Rattle.sd_machine.specs.Operations.{op_of}
-use Rattle.sd_full.specs.Threads.{thread_id, has_waiters, best_waiter, lock_of, with_lock, best_sleeper, best_sleeper_below, eff_of, greatest_waiting}
-use Rattle.sd_full.specs.Bodies.{aged_class}
-use Rattle.sd_full.specs.Changes.{back_key, finish_op, set_class, set_duty}
-use Rattle.sd_full.specs.Sleeping.{woken, woke_all, roused_on, rouse_key, roused}
-use Rattle.sd_full.specs.Locking.{side_of, blocked, after_reader, after_owner, free_or_passed, release_from, released, exited, others_waiting, unblocked_on, unblocked, granted_to_writer, granted, passed_on, passed}
-use Rattle.sd_full.specs.Requeueing.{reordered}
-use Rattle.sd_full.specs.Walking.{is_back, next_walk, walked, willed, walk_ended}
-use Rattle.sd_full.specs.Prioritising.{answer_to, new_class, walk_from, changed_by, changed_on, reprioritised, aged}
-use Rattle.sd_full.specs.Conditions.{cv_waited}
-use Rattle.sd_full.specs.Events.{dropped_duty, drop_ageing, effect, after}
+use Rattle.sd_state.specs.declared.states.Place.{Place}
+use Rattle.sd_state.specs.declared.states.Place.TheVariants.{Running, Queued, RealTime, Waiting, Asleep, Napping, Ended}
+use Rattle.sd_state.specs.declared.states.LockState.{LockState}
+use Rattle.sd_state.specs.declared.states.LockState.TheVariants.{Free, Owned, ReadHeld, Passing}
+use Rattle.sd_state.specs.declared.states.CpuState.{CpuState}
+use Rattle.sd_state.specs.declared.states.State.{State}
+use Rattle.sd_state.specs.States.{thread_of, cpu_of}
+use Rattle.sd_state.specs.Operations.{op_of}
+use Rattle.sd_machine.specs.Threads.{thread_id, has_waiters, best_waiter, lock_of, with_lock, best_sleeper, best_sleeper_below, eff_of, greatest_waiting}
+use Rattle.sd_machine.specs.Bodies.{aged_class}
+use Rattle.sd_machine.specs.Changes.{back_key, finish_op, set_class, set_duty}
+use Rattle.sd_machine.specs.Sleeping.{woken, woke_all, roused_on, rouse_key, roused}
+use Rattle.sd_machine.specs.Locking.{side_of, blocked, after_reader, after_owner, free_or_passed, release_from, released, exited, others_waiting, unblocked_on, unblocked, granted_to_writer, granted, passed_on, passed}
+use Rattle.sd_machine.specs.Requeueing.{reordered}
+use Rattle.sd_machine.specs.Walking.{is_back, next_walk, walked, willed, walk_ended}
+use Rattle.sd_machine.specs.Prioritising.{answer_to, new_class, walk_from, changed_by, changed_on, reprioritised, aged}
+use Rattle.sd_machine.specs.Conditions.{cv_waited}
+use Rattle.sd_machine.specs.Events.{dropped_duty, drop_ageing, effect, after}
 
 pub record Plain {X : Type 0} (part : CpuState → X) : Type 0 where
   pub marks : C.Markless part

@@ -17,18 +17,18 @@ use Rattle.sd_types.specs.declared.events.Put.{Put}
 use Rattle.sd_types.specs.declared.scripts.Op.TheVariants as op
 use Rattle.sd_types.specs.declared.works.Work.{Work}
 use Rattle.sd_types.specs.Works.{is_rwlock}
-use Rattle.sd_machine.specs.declared.states.LockState.{LockState}
-use Rattle.sd_machine.specs.declared.states.LockState.TheVariants.{Free, Owned, ReadHeld, Passing}
-use Rattle.sd_machine.specs.declared.states.Place.{Place}
-use Rattle.sd_machine.specs.declared.states.Place.TheVariants.{Running, Queued, RealTime, Waiting, Asleep, Napping, Ended}
-use Rattle.sd_machine.specs.declared.states.State.{State}
-use Rattle.sd_machine.specs.States.{thread_of, cpu_of}
-use Rattle.sd_machine.specs.Operations.{op_of}
-use Rattle.sd_full.specs.Threads.{thread_id, lock_of, is_waiting, is_waiting_at, best_waiter, has_waiters, eff_of}
-use Rattle.sd_full.specs.Changes.{back_key, set_duty}
-use Rattle.sd_full.specs.Locking.{kind_of, side_of, one_more, one_reader_more}
-use Rattle.sd_full.specs.LockGraph.{wait_of}
-use Rattle.sd_full.specs.Events.{after, drop_ageing, dropped_duty}
+use Rattle.sd_state.specs.declared.states.LockState.{LockState}
+use Rattle.sd_state.specs.declared.states.LockState.TheVariants.{Free, Owned, ReadHeld, Passing}
+use Rattle.sd_state.specs.declared.states.Place.{Place}
+use Rattle.sd_state.specs.declared.states.Place.TheVariants.{Running, Queued, RealTime, Waiting, Asleep, Napping, Ended}
+use Rattle.sd_state.specs.declared.states.State.{State}
+use Rattle.sd_state.specs.States.{thread_of, cpu_of}
+use Rattle.sd_state.specs.Operations.{op_of}
+use Rattle.sd_machine.specs.Threads.{thread_id, lock_of, is_waiting, is_waiting_at, best_waiter, has_waiters, eff_of}
+use Rattle.sd_machine.specs.Changes.{back_key, set_duty}
+use Rattle.sd_machine.specs.Locking.{kind_of, side_of, one_more, one_reader_more}
+use Rattle.sd_machine.specs.LockGraph.{wait_of}
+use Rattle.sd_machine.specs.Events.{after, drop_ageing, dropped_duty}
 use Rattle.sd_chains.specs.Graphs as G
 use Rattle.sd_chains.specs.Holders as H
 use Rattle.sd_chains.proofs.Moves.{put_cases}

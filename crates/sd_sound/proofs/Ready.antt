@@ -23,22 +23,22 @@ use Rattle.sd_types.specs.declared.works.ThreadDecl.{ThreadDecl}
 use Rattle.sd_types.specs.declared.works.Work.{Work}
 use Rattle.sd_types.specs.Scripts.{is_held, held_by}
 use Rattle.sd_types.specs.Works.{is_mutex, is_rwlock}
-use Rattle.sd_machine.specs.declared.states.LockState.TheVariants.{Free, ReadHeld}
-use Rattle.sd_machine.specs.declared.states.Place.{Place}
-use Rattle.sd_machine.specs.declared.states.Place.TheVariants.{Running, Queued, RealTime, Waiting, Asleep, Napping, Ended}
-use Rattle.sd_machine.specs.declared.states.ThreadState.{ThreadState}
-use Rattle.sd_machine.specs.declared.states.State.{State}
-use Rattle.sd_machine.specs.States.{thread_of, cpu_of, no_thread, no_cpu}
-use Rattle.sd_machine.specs.Operations.{script_of}
-use Rattle.sd_machine.specs.Opening.{first_cpu, is_urgent, first_thread, first_threads, first_cpu_state, opening}
-use Rattle.sd_full.specs.Threads.{lock_of, best_waiter, has_waiters}
-use Rattle.sd_full.specs.Locking.{kind_of}
-use Rattle.sd_full.specs.LockGraph.{wait_of}
-use Rattle.sd_full.specs.Events.{next, after, allowed, wish, reads, hints_fit}
-use Rattle.sd_full.specs.Runs.{final, IsRunFrom, IsReached}
-use Rattle.sd_full.proofs.OpeningLemmas.{opening_fits}
-use Rattle.sd_full.proofs.RunLemmas.{IsRun-from}
-use Rattle.sd_full.proofs.ShapeLemmas.{IsShaped, after_shape, after_fits}
+use Rattle.sd_state.specs.declared.states.LockState.TheVariants.{Free, ReadHeld}
+use Rattle.sd_state.specs.declared.states.Place.{Place}
+use Rattle.sd_state.specs.declared.states.Place.TheVariants.{Running, Queued, RealTime, Waiting, Asleep, Napping, Ended}
+use Rattle.sd_state.specs.declared.states.ThreadState.{ThreadState}
+use Rattle.sd_state.specs.declared.states.State.{State}
+use Rattle.sd_state.specs.States.{thread_of, cpu_of, no_thread, no_cpu}
+use Rattle.sd_state.specs.Operations.{script_of}
+use Rattle.sd_state.specs.Opening.{first_cpu, is_urgent, first_thread, first_threads, first_cpu_state, opening}
+use Rattle.sd_machine.specs.Threads.{lock_of, best_waiter, has_waiters}
+use Rattle.sd_machine.specs.Locking.{kind_of}
+use Rattle.sd_machine.specs.LockGraph.{wait_of}
+use Rattle.sd_machine.specs.Events.{next, after, allowed, wish, reads, hints_fit}
+use Rattle.sd_machine.specs.Runs.{final, IsRunFrom, IsReached}
+use Rattle.sd_machine.proofs.OpeningLemmas.{opening_fits}
+use Rattle.sd_machine.proofs.RunLemmas.{IsRun-from}
+use Rattle.sd_machine.proofs.ShapeLemmas.{IsShaped, after_shape, after_fits}
 use Rattle.sd_chains.specs.Graphs as G
 use Rattle.sd_chains.specs.Holders as H
 use Rattle.sd_sound.specs.Causes.{wants, IsCause}

@@ -13,24 +13,24 @@ use Rattle.sd_types.specs.declared.events.Event.{Event}
 use Rattle.sd_types.specs.declared.events.Event.TheVariants as event
 use Rattle.sd_types.specs.declared.works.Work.{Work}
 use Rattle.sd_types.specs.Works.{is_mutex}
-use Rattle.sd_machine.specs.declared.states.LockState.{LockState}
-use Rattle.sd_machine.specs.declared.states.LockState.TheVariants.{Free, Owned, ReadHeld, Passing}
-use Rattle.sd_machine.specs.declared.states.State.{State}
-use Rattle.sd_machine.specs.States.{thread_of}
-use Rattle.sd_full.specs.Threads.{lock_of, with_lock, best_waiter, has_waiters, priority_of}
-use Rattle.sd_full.specs.Changes.{set_duty}
-use Rattle.sd_full.specs.Locking.{kind_of, writer_first, after_writer, after_reader, after_owner, free_or_passed, release_from}
-use Rattle.sd_full.specs.Events.{effect, after, drop_ageing}
+use Rattle.sd_state.specs.declared.states.LockState.{LockState}
+use Rattle.sd_state.specs.declared.states.LockState.TheVariants.{Free, Owned, ReadHeld, Passing}
+use Rattle.sd_state.specs.declared.states.State.{State}
+use Rattle.sd_state.specs.States.{thread_of}
+use Rattle.sd_machine.specs.Threads.{lock_of, with_lock, best_waiter, has_waiters, priority_of}
+use Rattle.sd_machine.specs.Changes.{set_duty}
+use Rattle.sd_machine.specs.Locking.{kind_of, writer_first, after_writer, after_reader, after_owner, free_or_passed, release_from}
+use Rattle.sd_machine.specs.Events.{effect, after, drop_ageing}
 use Rattle.sd_sound.specs.Holding.{pass_of}
 use Rattle.sd_sound.proofs.LockTable as T
 use Rattle.sd_sound.proofs.LockTable.{pass_part, duty_part}
 use Rattle.sd_sound.proofs.CpuWords as C
-use Rattle.sd_full.proofs.ShapeLemmas.{IsShaped, set_duty_shape}
+use Rattle.sd_machine.proofs.ShapeLemmas.{IsShaped, set_duty_shape}
 use Rattle.sd_sound.proofs.Searches.{has_waiters_at, waiter_none}
 use Rattle.std.proofs.lemmas.Bool.{false≢true}
-use Rattle.sd_full.specs.Threads.{is_waiting, is_waiting_at}
-use Rattle.sd_machine.specs.declared.states.Place.{Place}
-use Rattle.sd_machine.specs.declared.states.Place.TheVariants.{Running, Queued, RealTime, Waiting, Asleep, Napping, Ended}
+use Rattle.sd_machine.specs.Threads.{is_waiting, is_waiting_at}
+use Rattle.sd_state.specs.declared.states.Place.{Place}
+use Rattle.sd_state.specs.declared.states.Place.TheVariants.{Running, Queued, RealTime, Waiting, Asleep, Napping, Ended}
 
 -- the duty to pass on a lock that was given up in this state suits the lock
 pub record Suits (w : Work) (s : State) (l : LockId) (x : LockState) (d : Duty) : Type 0 where

@@ -14,13 +14,13 @@ use Rattle.sd_types.specs.declared.events.Put.{Put}
 use Rattle.sd_types.specs.declared.events.Put.TheVariants.{Cpu, RealTime as OnRealTime}
 use Rattle.sd_types.specs.declared.works.Work.{Work}
 use Rattle.sd_types.specs.Priorities.{eff_as}
-use Rattle.sd_machine.specs.declared.states.Place.{Place}
-use Rattle.sd_machine.specs.declared.states.Place.TheVariants.{Running, Queued, RealTime, Waiting, Asleep, Napping, Ended}
-use Rattle.sd_machine.specs.declared.states.State.{State}
-use Rattle.sd_machine.specs.States.{thread_of, is_running}
-use Rattle.sd_full.specs.Changes.{back_key}
-use Rattle.sd_full.specs.Threads.{eff_of, runner}
-use Rattle.sd_full.specs.Bodies.{aged_class}
+use Rattle.sd_state.specs.declared.states.Place.{Place}
+use Rattle.sd_state.specs.declared.states.Place.TheVariants.{Running, Queued, RealTime, Waiting, Asleep, Napping, Ended}
+use Rattle.sd_state.specs.declared.states.State.{State}
+use Rattle.sd_state.specs.States.{thread_of, is_running}
+use Rattle.sd_machine.specs.Changes.{back_key}
+use Rattle.sd_machine.specs.Threads.{eff_of, runner}
+use Rattle.sd_machine.specs.Bodies.{aged_class}
 use Rattle.sd_sound.specs.Causes.{IsCause}
 use Rattle.sd_sound.specs.Moves.{Step, put_step_if, woken_step, reordered_step, aged_step, prio_step, bind_step, step_of}
 use Rattle.sd_sound.specs.Moves.Step.{Stay, Go}
@@ -32,15 +32,15 @@ use Rattle.std.proofs.lemmas.Bool.{eqb-true, false≢true}
 use Rattle.std.proofs.lemmas.List.Sums.{fails_before_first}
 use Rattle.sd_types.specs.declared.bodies.ThreadBody.{ThreadBody}
 use Rattle.sd_types.specs.Priorities.{eff}
-use Rattle.sd_machine.specs.declared.states.ThreadState.{ThreadState}
-use Rattle.sd_machine.specs.States.{no_thread}
-use Rattle.sd_machine.specs.Opening.{first_cpu, is_urgent, first_thread, first_threads, opening}
+use Rattle.sd_state.specs.declared.states.ThreadState.{ThreadState}
+use Rattle.sd_state.specs.States.{no_thread}
+use Rattle.sd_state.specs.Opening.{first_cpu, is_urgent, first_thread, first_threads, opening}
 use Rattle.sd_types.specs.declared.works.ThreadDecl.{ThreadDecl}
-use Rattle.sd_full.specs.Threads.{set_of}
-use Rattle.sd_full.specs.Changes.{queue_place, place_put, key_at}
-use Rattle.sd_full.specs.Events.{after}
-use Rattle.sd_full.proofs.ShapeLemmas.{after_shape}
-use Rattle.sd_machine.specs.Invariants.{OneRuns}
+use Rattle.sd_machine.specs.Threads.{set_of}
+use Rattle.sd_machine.specs.Changes.{queue_place, place_put, key_at}
+use Rattle.sd_machine.specs.Events.{after}
+use Rattle.sd_machine.proofs.ShapeLemmas.{after_shape}
+use Rattle.sd_state.specs.Invariants.{OneRuns}
 use Rattle.sd_sound.proofs.PlaceTable.{after_steps, step_needs}
 use Rattle.sd_sound.proofs.Movers.{mover_there}
 use Rattle.sd_sound.proofs.AgreedAfter.{IsReady}

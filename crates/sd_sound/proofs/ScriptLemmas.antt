@@ -35,17 +35,17 @@ use Rattle.sd_types.specs.declared.scripts.Op.{Op}
 use Rattle.sd_types.specs.declared.scripts.Op.TheVariants as op
 use Rattle.sd_types.specs.declared.works.Work.{Work}
 use Rattle.std.specs.Prelude.{if◌then◌else◌, is_none, nat_le, ◌==◌, ◌&&◌}
-use Rattle.sd_machine.specs.declared.states.Place.{Place}
-use Rattle.sd_machine.specs.declared.states.Place.TheVariants.{Running, Queued, RealTime, Waiting, Asleep, Napping, Ended}
-use Rattle.sd_machine.specs.declared.states.State.{State}
-use Rattle.sd_machine.specs.States.{thread_of, cpu_of, is_running}
-use Rattle.sd_machine.specs.Operations.{script_of, op_of}
-use Rattle.sd_full.specs.Threads.{set_of, same_side, is_waiting_at, runner, eff_of}
-use Rattle.sd_full.specs.Bodies.{aged_class}
-use Rattle.sd_full.specs.Changes.{back_key, queue_place, place_put}
-use Rattle.sd_full.specs.Dispatching.{done}
-use Rattle.sd_full.specs.Locking.{side_of, granted}
-use Rattle.sd_full.specs.Events.{drop_ageing, effect, after}
+use Rattle.sd_state.specs.declared.states.Place.{Place}
+use Rattle.sd_state.specs.declared.states.Place.TheVariants.{Running, Queued, RealTime, Waiting, Asleep, Napping, Ended}
+use Rattle.sd_state.specs.declared.states.State.{State}
+use Rattle.sd_state.specs.States.{thread_of, cpu_of, is_running}
+use Rattle.sd_state.specs.Operations.{script_of, op_of}
+use Rattle.sd_machine.specs.Threads.{set_of, same_side, is_waiting_at, runner, eff_of}
+use Rattle.sd_machine.specs.Bodies.{aged_class}
+use Rattle.sd_machine.specs.Changes.{back_key, queue_place, place_put}
+use Rattle.sd_machine.specs.Dispatching.{done}
+use Rattle.sd_machine.specs.Locking.{side_of, granted}
+use Rattle.sd_machine.specs.Events.{drop_ageing, effect, after}
 use Rattle.sd_sound.proofs.Words.{then_same, set_duty_same, idled_same, walk_ended_same, joined_same, passed_same, spun_same, dispatched_same, stolen_same, preempted_same, sent_away_same, done_same, woken_same, roused_same, blocked_same, unblocked_same, aged_same, moved_same, ticked_same, yielded_same, napped_same, fallen_asleep_same, woke_same, woke_all_same, reprioritised_same, sema_taken_same, sema_counted_same, sema_handed_same, assigned_same, Same}
 
 -- What becomes of the locks that are held.

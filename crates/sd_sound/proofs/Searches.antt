@@ -3,13 +3,13 @@ use Rattle.std.proofs.Common.{◌≡◌, ◌≢◌, ℕ, zero, suc, ◌+◌, ◌
 use Rattle.std.specs.List.{list_any}
 use Rattle.std.proofs.lemmas.Bool.{cases_Bool, false≢true}
 use Rattle.sd_types.specs.declared.numbers.Side.{Side}
-use Rattle.sd_machine.specs.declared.states.ThreadState.{ThreadState}
-use Rattle.sd_machine.specs.declared.states.State.{State}
-use Rattle.sd_machine.specs.States.{thread_of, no_thread}
-use Rattle.sd_machine.specs.Best.{best_by, beats}
-use Rattle.sd_full.specs.Threads.{is_waiting, is_waiting_at, is_asleep, best_waiter, best_sleeper, has_waiters}
-use Rattle.sd_machine.proofs.BestLemmas.{IsOrder, IsBestBelow, goes_ahead_by, best_taken, best_kept, best_by_is}
-use Rattle.sd_machine.proofs.OrderLemmas.{beats_order}
+use Rattle.sd_state.specs.declared.states.ThreadState.{ThreadState}
+use Rattle.sd_state.specs.declared.states.State.{State}
+use Rattle.sd_state.specs.States.{thread_of, no_thread}
+use Rattle.sd_state.specs.Best.{best_by, beats}
+use Rattle.sd_machine.specs.Threads.{is_waiting, is_waiting_at, is_asleep, best_waiter, best_sleeper, has_waiters}
+use Rattle.sd_state.proofs.BestLemmas.{IsOrder, IsBestBelow, goes_ahead_by, best_taken, best_kept, best_by_is}
+use Rattle.sd_state.proofs.OrderLemmas.{beats_order}
 
 -- a scan comes to an end
 scanned : {X : Type 0} (on : X → Bool) (before : X → X → Bool) (d : X) → IsOrder before → (xs : List X) (n : ℕ) → (o : Option ℕ) × IsBestBelow on before d xs n o

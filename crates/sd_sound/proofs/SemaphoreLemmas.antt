@@ -6,9 +6,9 @@ use Rattle.sd_types.specs.declared.numbers.ThreadId.{ThreadId}
 use Rattle.sd_types.specs.declared.events.Event.{Event}
 use Rattle.sd_types.specs.declared.events.Event.TheVariants.{Tick, Spin, Idle, Dispatch, Steal, Preempt, Yield, Done, Nap, Napend, Sleep, Wake, Wakeall, Rouse, Enter, Read, Write, Block, Will, End as WalkEnd, Exit, Unblock, Grant, Passed, Age, Prio, CvWait, SemaP, SemaWait, SemaVWake, SemaVCount, Assign, Move, Joined, Bind, Away}
 use Rattle.sd_types.specs.declared.works.Work.{Work}
-use Rattle.sd_machine.specs.declared.states.State.{State}
-use Rattle.sd_machine.specs.States.{thread_of}
-use Rattle.sd_full.specs.Threads.{runner}
+use Rattle.sd_state.specs.declared.states.State.{State}
+use Rattle.sd_state.specs.States.{thread_of}
+use Rattle.sd_machine.specs.Threads.{runner}
 use Rattle.sd_sound.specs.Causes.{IsCause}
 use Rattle.std.proofs.Common.{get_or, set, zero, suc, ◌+◌, ◌-◌, ◌≤◌}
 use Rattle.std.proofs.lemmas.Bool.{cases_eq, cases_lt}
@@ -16,13 +16,13 @@ use Rattle.std.proofs.lemmas.List.{get_or-set_same, get_or-set_other}
 use Rattle.sd_types.specs.declared.events.AssignAnswer.{AssignAnswer}
 use Rattle.sd_types.specs.declared.events.AssignAnswer.TheVariants as assign
 use Rattle.sd_types.specs.declared.numbers.SetId.{SetId}
-use Rattle.sd_machine.specs.Opening.{opening}
-use Rattle.sd_full.specs.Threads.{count_of, with_count}
-use Rattle.sd_full.specs.Changes.{finish_op, set_duty, close, join}
-use Rattle.sd_full.specs.Conditions.{sema_taken, sema_counted}
-use Rattle.sd_full.specs.SetChanges.{cleared, assigned, joined}
-use Rattle.sd_full.specs.Events.{drop_ageing, effect, after}
-use Rattle.sd_full.proofs.ShapeLemmas.{after_shape}
+use Rattle.sd_state.specs.Opening.{opening}
+use Rattle.sd_machine.specs.Threads.{count_of, with_count}
+use Rattle.sd_machine.specs.Changes.{finish_op, set_duty, close, join}
+use Rattle.sd_machine.specs.Conditions.{sema_taken, sema_counted}
+use Rattle.sd_machine.specs.SetChanges.{cleared, assigned, joined}
+use Rattle.sd_machine.specs.Events.{drop_ageing, effect, after}
+use Rattle.sd_machine.proofs.ShapeLemmas.{after_shape}
 use Rattle.sd_sound.proofs.Parts.{set_past}
 use Rattle.sd_sound.proofs.FieldWords as F
 use Rattle.sd_sound.proofs.SideFields.{is_side, after_keeps}

@@ -20,17 +20,17 @@ use Rattle.sd_types.specs.declared.works.LockKind.{LockKind}
 use Rattle.sd_types.specs.declared.works.LockKind.TheVariants.{Mutex, Rwlock}
 use Rattle.sd_types.specs.declared.works.Work.{Work}
 use Rattle.sd_types.specs.Works.{is_mutex, is_rwlock}
-use Rattle.sd_machine.specs.declared.states.LockState.{LockState}
-use Rattle.sd_machine.specs.declared.states.LockState.TheVariants.{Free, Owned, ReadHeld, Passing}
-use Rattle.sd_machine.specs.declared.states.Place.TheVariants.{Waiting}
-use Rattle.sd_machine.specs.declared.states.State.{State}
-use Rattle.sd_machine.specs.States.{thread_of, cpu_of}
-use Rattle.sd_machine.specs.Operations.{op_of}
-use Rattle.sd_machine.proofs.BestLemmas.{and_right, and_left}
-use Rattle.sd_full.specs.Threads.{thread_id, lock_of, best_waiter, has_waiters}
-use Rattle.sd_full.specs.Changes.{back_key, set_duty, place_put}
-use Rattle.sd_full.specs.Locking.{kind_of, side_of, blocked}
-use Rattle.sd_full.specs.Events.{effect, after, drop_ageing, dropped_duty}
+use Rattle.sd_state.specs.declared.states.LockState.{LockState}
+use Rattle.sd_state.specs.declared.states.LockState.TheVariants.{Free, Owned, ReadHeld, Passing}
+use Rattle.sd_state.specs.declared.states.Place.TheVariants.{Waiting}
+use Rattle.sd_state.specs.declared.states.State.{State}
+use Rattle.sd_state.specs.States.{thread_of, cpu_of}
+use Rattle.sd_state.specs.Operations.{op_of}
+use Rattle.sd_state.proofs.BestLemmas.{and_right, and_left}
+use Rattle.sd_machine.specs.Threads.{thread_id, lock_of, best_waiter, has_waiters}
+use Rattle.sd_machine.specs.Changes.{back_key, set_duty, place_put}
+use Rattle.sd_machine.specs.Locking.{kind_of, side_of, blocked}
+use Rattle.sd_machine.specs.Events.{effect, after, drop_ageing, dropped_duty}
 use Rattle.sd_chains.specs.Holders as H
 use Rattle.sd_sound.specs.Causes.{Acts, IsCause}
 use Rattle.sd_sound.specs.Holding.{lock_state, pass_of, table, Agreed, DutyServes, DutiesServe}

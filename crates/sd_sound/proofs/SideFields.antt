@@ -13,20 +13,20 @@ use Rattle.sd_types.specs.declared.events.Event.TheVariants.{Tick, Spin, Idle, D
 use Rattle.sd_types.specs.declared.events.Put.{Put}
 use Rattle.sd_types.specs.declared.works.Work.{Work}
 use Rattle.std.specs.Prelude.{if◌then◌else◌, is_some, nat_lt, nat_le}
-use Rattle.sd_machine.specs.declared.states.LockState.{LockState}
-use Rattle.sd_machine.specs.declared.states.LockState.TheVariants.{Free, Owned, ReadHeld, Passing}
-use Rattle.sd_machine.specs.declared.states.CpuState.{CpuState}
-use Rattle.sd_machine.specs.declared.states.ThreadState.{ThreadState}
-use Rattle.sd_machine.specs.declared.states.State.{State}
-use Rattle.sd_full.specs.Threads.{thread_id, has_waiters, best_waiter, lock_of, with_lock}
-use Rattle.sd_full.specs.Changes.{finish_op, hold, set_duty}
-use Rattle.sd_full.specs.Sleeping.{woken}
-use Rattle.sd_full.specs.Locking.{after_reader, after_owner, free_or_passed, release_from, released, exited, others_waiting, unblocked_on, unblocked, granted_to_writer, granted, passed_on, passed}
-use Rattle.sd_full.specs.Conditions.{cv_waited}
-use Rattle.sd_full.specs.Events.{drop_ageing, effect, after}
-use Rattle.sd_full.specs.Locking.{owned, read, granted_to_reader}
-use Rattle.sd_full.specs.Changes.{hold}
-use Rattle.sd_machine.specs.States.{with_thread, with_cpu}
+use Rattle.sd_state.specs.declared.states.LockState.{LockState}
+use Rattle.sd_state.specs.declared.states.LockState.TheVariants.{Free, Owned, ReadHeld, Passing}
+use Rattle.sd_state.specs.declared.states.CpuState.{CpuState}
+use Rattle.sd_state.specs.declared.states.ThreadState.{ThreadState}
+use Rattle.sd_state.specs.declared.states.State.{State}
+use Rattle.sd_machine.specs.Threads.{thread_id, has_waiters, best_waiter, lock_of, with_lock}
+use Rattle.sd_machine.specs.Changes.{finish_op, hold, set_duty}
+use Rattle.sd_machine.specs.Sleeping.{woken}
+use Rattle.sd_machine.specs.Locking.{after_reader, after_owner, free_or_passed, release_from, released, exited, others_waiting, unblocked_on, unblocked, granted_to_writer, granted, passed_on, passed}
+use Rattle.sd_machine.specs.Conditions.{cv_waited}
+use Rattle.sd_machine.specs.Events.{drop_ageing, effect, after}
+use Rattle.sd_machine.specs.Locking.{owned, read, granted_to_reader}
+use Rattle.sd_machine.specs.Changes.{hold}
+use Rattle.sd_state.specs.States.{with_thread, with_cpu}
 use Rattle.sd_sound.proofs.FieldWords.{keeps_fields}
 
 -- the event takes from a semaphore or counts it up, or changes the open processors of a set

@@ -22,22 +22,22 @@ use Rattle.sd_types.specs.declared.works.ThreadDecl.{ThreadDecl}
 use Rattle.sd_types.specs.declared.works.Work.{Work}
 use Rattle.sd_types.specs.Scripts.{is_held, held_by, can_take}
 use Rattle.sd_types.specs.Works.{span_fits, has_small_count}
-use Rattle.sd_machine.specs.declared.states.LockState.{LockState}
-use Rattle.sd_machine.specs.declared.states.LockState.TheVariants.{Free, Owned, ReadHeld, Passing}
-use Rattle.sd_machine.specs.declared.states.Place.{Place}
-use Rattle.sd_machine.specs.declared.states.Place.TheVariants.{Running, Queued, RealTime, Waiting, Asleep, Napping, Ended}
-use Rattle.sd_machine.specs.declared.states.CpuState.{CpuState}
-use Rattle.sd_machine.specs.declared.states.State.{State}
-use Rattle.sd_machine.specs.States.{thread_of, cpu_of, no_cpu, is_running}
-use Rattle.sd_machine.specs.Operations.{script_of, op_of}
-use Rattle.sd_machine.specs.Opening.{first_count, opening}
-use Rattle.sd_machine.specs.Opening.{count_of as first_count_of}
-use Rattle.sd_machine.proofs.BestLemmas.{and_right, and_left}
-use Rattle.sd_full.specs.Threads.{count_of, lock_of, runner, best_waiter, greatest_waiting}
-use Rattle.sd_full.specs.Locking.{others_waiting}
-use Rattle.sd_full.specs.Needs.{IsThread, Runs, CanAct, CanNap, CanHold, CanInherit, CanReceive, CanBind, more_fits}
-use Rattle.sd_full.specs.Sleeping.{nap_ticks}
-use Rattle.sd_full.specs.Runs.{IsReached}
+use Rattle.sd_state.specs.declared.states.LockState.{LockState}
+use Rattle.sd_state.specs.declared.states.LockState.TheVariants.{Free, Owned, ReadHeld, Passing}
+use Rattle.sd_state.specs.declared.states.Place.{Place}
+use Rattle.sd_state.specs.declared.states.Place.TheVariants.{Running, Queued, RealTime, Waiting, Asleep, Napping, Ended}
+use Rattle.sd_state.specs.declared.states.CpuState.{CpuState}
+use Rattle.sd_state.specs.declared.states.State.{State}
+use Rattle.sd_state.specs.States.{thread_of, cpu_of, no_cpu, is_running}
+use Rattle.sd_state.specs.Operations.{script_of, op_of}
+use Rattle.sd_state.specs.Opening.{first_count, opening}
+use Rattle.sd_state.specs.Opening.{count_of as first_count_of}
+use Rattle.sd_state.proofs.BestLemmas.{and_right, and_left}
+use Rattle.sd_machine.specs.Threads.{count_of, lock_of, runner, best_waiter, greatest_waiting}
+use Rattle.sd_machine.specs.Locking.{others_waiting}
+use Rattle.sd_machine.specs.Needs.{IsThread, Runs, CanAct, CanNap, CanHold, CanInherit, CanReceive, CanBind, more_fits}
+use Rattle.sd_machine.specs.Sleeping.{nap_ticks}
+use Rattle.sd_machine.specs.Runs.{IsReached}
 use Rattle.sd_chains.specs.Holders as H
 use Rattle.sd_sound.specs.Causes.{Acts, wants, WakesBest, RousesBest}
 use Rattle.sd_sound.specs.Holding.{lock_state, table}

@@ -7,13 +7,13 @@ use Rattle.sd_types.specs.declared.events.Event.TheVariants.{Tick, Spin, Idle, D
 use Rattle.sd_types.specs.declared.events.Put.{Put}
 use Rattle.sd_types.specs.declared.events.Put.TheVariants.{Cpu, RealTime as OnRealTime}
 use Rattle.sd_types.specs.declared.works.Work.{Work}
-use Rattle.sd_machine.specs.declared.states.State.{State}
-use Rattle.sd_machine.specs.States.{thread_of}
+use Rattle.sd_state.specs.declared.states.State.{State}
+use Rattle.sd_state.specs.States.{thread_of}
 use Rattle.sd_sound.specs.Causes.{IsCause}
 use Rattle.sd_sound.specs.Moves.{put_step, step_of}
 use Rattle.sd_sound.proofs.PlaceTable.{Stepped}
-use Rattle.sd_full.specs.Changes.{place_put}
-use Rattle.sd_full.specs.Events.{after}
+use Rattle.sd_machine.specs.Changes.{place_put}
+use Rattle.sd_machine.specs.Events.{after}
 use Rattle.sd_sound.specs.Laws.{woken_by, is_runnable}
 use Rattle.sd_sound.proofs.PlaceTable.{after_steps, step_needs}
 use Rattle.sd_sound.proofs.Movers.{mover_there}

@@ -12,8 +12,8 @@ use Rattle.sd_types.specs.declared.works.ThreadDecl.{ThreadDecl}
 use Rattle.sd_types.specs.declared.works.Work.{Work}
 use Rattle.sd_types.specs.Scripts.{held_by, can_take, op_fits}
 use Rattle.sd_types.specs.Works.{Declared, declared_of, op_names, thread_fits}
-use Rattle.sd_machine.specs.Operations.{script_of}
-use Rattle.sd_machine.proofs.BestLemmas.{and_right}
+use Rattle.sd_state.specs.Operations.{script_of}
+use Rattle.sd_state.proofs.BestLemmas.{and_right}
 use Rattle.sd_sound.specs.Causes.{wants}
 
 abbrev pub declared : Work → Declared

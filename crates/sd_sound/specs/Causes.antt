@@ -20,23 +20,23 @@ use Rattle.sd_types.specs.declared.scripts.Op.TheVariants as op
 use Rattle.sd_types.specs.declared.scripts.Request.{Request}
 use Rattle.sd_types.specs.declared.works.Work.{Work}
 use Rattle.std.specs.Prelude.{Ok}
-use Rattle.sd_full.specs.declared.plans.Requeue.TheVariants.{Stays, Behind, Anew}
-use Rattle.sd_machine.specs.declared.states.LockState.TheVariants.{Free, Owned, ReadHeld}
-use Rattle.sd_machine.specs.declared.states.State.{State}
-use Rattle.sd_machine.specs.States.{thread_of, cpu_of}
-use Rattle.sd_machine.specs.Operations.{op_of}
-use Rattle.sd_full.specs.Threads.{lock_of, count_of, runner, best_ready, best_queued, best_unbound, best_waiter, best_sleeper, best_sleeper_below, first_due, next_to_age, eff_of}
+use Rattle.sd_machine.specs.declared.plans.Requeue.TheVariants.{Stays, Behind, Anew}
+use Rattle.sd_state.specs.declared.states.LockState.TheVariants.{Free, Owned, ReadHeld}
+use Rattle.sd_state.specs.declared.states.State.{State}
+use Rattle.sd_state.specs.States.{thread_of, cpu_of}
+use Rattle.sd_state.specs.Operations.{op_of}
+use Rattle.sd_machine.specs.Threads.{lock_of, count_of, runner, best_ready, best_queued, best_unbound, best_waiter, best_sleeper, best_sleeper_below, first_due, next_to_age, eff_of}
 use Rattle.sd_types.specs.Priorities.{eff_as}
-use Rattle.sd_full.specs.Changes.{cpu_put}
-use Rattle.sd_full.specs.Choosing.{cpus_for, neighbours, put_on}
-use Rattle.sd_full.specs.Dispatching.{must_leave}
-use Rattle.sd_full.specs.Sleeping.{woken_priority}
-use Rattle.sd_full.specs.Locking.{writer_priority}
-use Rattle.sd_full.specs.Requeueing.{requeue}
-use Rattle.sd_full.specs.Walking.{inherited_priority}
-use Rattle.sd_full.specs.Prioritising.{answer_to, new_class}
-use Rattle.sd_full.specs.SetChanges.{assign_answer, bind_to}
-use Rattle.sd_full.specs.Events.{may_tick}
+use Rattle.sd_machine.specs.Changes.{cpu_put}
+use Rattle.sd_machine.specs.Choosing.{cpus_for, neighbours, put_on}
+use Rattle.sd_machine.specs.Dispatching.{must_leave}
+use Rattle.sd_machine.specs.Sleeping.{woken_priority}
+use Rattle.sd_machine.specs.Locking.{writer_priority}
+use Rattle.sd_machine.specs.Requeueing.{requeue}
+use Rattle.sd_machine.specs.Walking.{inherited_priority}
+use Rattle.sd_machine.specs.Prioritising.{answer_to, new_class}
+use Rattle.sd_machine.specs.SetChanges.{assign_answer, bind_to}
+use Rattle.sd_machine.specs.Events.{may_tick}
 
 -- no duty but the ageing of the queue, which gives way
 abbrev pub IsFree : Duty → Type 0

@@ -10,13 +10,13 @@ use Rattle.sd_types.specs.Scripts.{is_held}
 use Rattle.sd_types.specs.Works.{is_mutex, is_rwlock}
 use Rattle.sd_chains.specs.Graphs as G
 use Rattle.sd_chains.specs.Holders as H
-use Rattle.sd_machine.specs.declared.states.LockState.{LockState}
-use Rattle.sd_machine.specs.declared.states.LockState.TheVariants.{Free, Owned, ReadHeld, Passing}
-use Rattle.sd_machine.specs.declared.states.State.{State}
-use Rattle.sd_machine.specs.States.{thread_of, cpu_of}
-use Rattle.sd_full.specs.Threads.{lock_of, best_waiter, has_waiters}
-use Rattle.sd_full.specs.Locking.{kind_of}
-use Rattle.sd_full.specs.LockGraph.{wait_of}
+use Rattle.sd_state.specs.declared.states.LockState.{LockState}
+use Rattle.sd_state.specs.declared.states.LockState.TheVariants.{Free, Owned, ReadHeld, Passing}
+use Rattle.sd_state.specs.declared.states.State.{State}
+use Rattle.sd_state.specs.States.{thread_of, cpu_of}
+use Rattle.sd_machine.specs.Threads.{lock_of, best_waiter, has_waiters}
+use Rattle.sd_machine.specs.Locking.{kind_of}
+use Rattle.sd_machine.specs.LockGraph.{wait_of}
 
 abbrev pub lock_state : LockState → H.Lock
 lock_state Free = H.Lock.Free

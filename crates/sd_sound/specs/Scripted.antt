@@ -6,10 +6,10 @@ use Rattle.sd_types.specs.declared.numbers.Side.{Side}
 use Rattle.sd_types.specs.declared.scripts.Op.{Op}
 use Rattle.sd_types.specs.declared.works.Work.{Work}
 use Rattle.sd_types.specs.Scripts.{held_by}
-use Rattle.sd_machine.specs.declared.states.Place.TheVariants.{Waiting}
-use Rattle.sd_machine.specs.declared.states.State.{State}
-use Rattle.sd_machine.specs.States.{thread_of}
-use Rattle.sd_machine.specs.Operations.{script_of, op_of}
+use Rattle.sd_state.specs.declared.states.Place.TheVariants.{Waiting}
+use Rattle.sd_state.specs.declared.states.State.{State}
+use Rattle.sd_state.specs.States.{thread_of}
+use Rattle.sd_state.specs.Operations.{script_of, op_of}
 use Rattle.sd_sound.specs.Causes.{wants}
 
 -- A thread stands at an operation of its script or behind the last; it holds exactly the locks that the finished part took

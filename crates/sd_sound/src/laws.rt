@@ -1,6 +1,6 @@
 //! Laws of the whole machine, each as the contract of a function without a body.
 
-ghost use Rattle.sd_machine.specs.Invariants.{KeysDiffer, KeysWithin, OneRuns, UrgentThreads};
+ghost use Rattle.sd_state.specs.Invariants.{KeysDiffer, KeysWithin, OneRuns, UrgentThreads};
 ghost use Rattle.sd_sound.specs.Holding.{Agreed, DutiesServe, ReadsWell};
 ghost use Rattle.sd_sound.specs.Laws.{AreSound, CountsWithin, EventsHaveCauses, FrontsAreRuns, HoldsAfterEntries, HoldsWhenReached, OneNext, OpenHold, StatesFit, WokenAreRunnable};
 ghost use Rattle.sd_sound.specs.Scripted.{Scripted};

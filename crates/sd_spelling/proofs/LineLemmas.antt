@@ -6,7 +6,7 @@ use Rattle.sd_types.specs.declared.events.Entry.{Entry}
 use Rattle.sd_types.specs.declared.works.Work.{Work}
 use Rattle.sd_text.specs.Words.{words_of}
 use Rattle.sd_text.proofs.WordLemmas.{words_of-joined}
-use Rattle.sd_full.specs.Texts.{entry_text}
+use Rattle.sd_machine.specs.Texts.{entry_text}
 use Rattle.sd_spelling.specs.EntryWords.{entry_words}
 use Rattle.sd_spelling.specs.Fitting.{IsSpelled}
 use Rattle.sd_spelling.specs.Reading.{entry_of}

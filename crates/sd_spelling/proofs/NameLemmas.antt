@@ -19,8 +19,8 @@ use Rattle.sd_types.specs.NameWords.{is_letter, is_name_byte, is_name}
 use Rattle.sd_types.specs.Works.{same_bytes, is_distinct}
 use Rattle.sd_text.specs.Words.{ends_word, is_word}
 use Rattle.sd_text.proofs.NumberLemmas.{is_word-decimal, own}
-use Rattle.sd_machine.specs.Texts.{thread_name, lock_name, chan_name}
-use Rattle.sd_full.specs.Texts.{set_name, cpu_text}
+use Rattle.sd_state.specs.Texts.{thread_name, lock_name, chan_name}
+use Rattle.sd_machine.specs.Texts.{set_name, cpu_text}
 use Rattle.sd_spelling.specs.Fitting.{has_cpu, has_thread, has_lock, has_chan, has_set, is_byte}
 use Rattle.sd_spelling.specs.Reading.{digits_of, number_in, thread_in, lock_in, chan_in, set_in, cpu_in, byte_in, count_in}
 

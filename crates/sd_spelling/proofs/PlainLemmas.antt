@@ -15,8 +15,8 @@ use Rattle.sd_types.specs.NameWords.{is_letter, is_name_byte, is_name}
 use Rattle.sd_text.specs.Lines.{is_newline, is_line}
 use Rattle.sd_text.specs.Words.{is_word}
 use Rattle.sd_text.proofs.NumberLemmas.{is_line-decimal}
-use Rattle.sd_machine.specs.Texts.{thread_name, lock_name, chan_name}
-use Rattle.sd_full.specs.Texts.{set_name, cpu_text}
+use Rattle.sd_state.specs.Texts.{thread_name, lock_name, chan_name}
+use Rattle.sd_machine.specs.Texts.{set_name, cpu_text}
 use Rattle.sd_spelling.specs.Fitting.{has_cpu, has_thread, has_lock, has_chan, has_set, is_byte}
 use Rattle.sd_spelling.proofs.NameLemmas.{number_word, thread_word, lock_word, chan_word, set_word, cpu_word, cpu_small, byte_word, count_word}
 

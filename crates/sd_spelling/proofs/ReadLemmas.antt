@@ -24,7 +24,7 @@ use Rattle.sd_types.specs.declared.events.AssignAnswer.TheVariants as assign
 use Rattle.sd_types.specs.declared.events.BindAnswer.TheVariants as bind
 use Rattle.sd_types.specs.declared.events.Entry.{Entry}
 use Rattle.sd_types.specs.declared.works.Work.{Work}
-use Rattle.sd_full.specs.Texts.{numbers_text, cpu_text}
+use Rattle.sd_machine.specs.Texts.{numbers_text, cpu_text}
 use Rattle.sd_spelling.specs.EntryWords.{event_words, hint_words, entry_words}
 use Rattle.sd_spelling.specs.Fitting.{has_cpu, is_byte, event_fits, event_in_range, may_read, same_which, hints_fit, hints_in_range, entry_fits, in_range, IsSpelled}
 use Rattle.sd_spelling.specs.Reading.{at, cpu_in_if, byte_in, end_in, put_in, put_in_if, denied_in, prio_in, assign_in, bind_in, running_event, preempting, placing_event, sleeping_event, locking_event, handing_event, semaphore_event, answering_event, event_of, event_len, is_comma, numbers_in, hints_by, entry_of}

@@ -15,8 +15,8 @@ use Rattle.sd_types.specs.declared.events.AssignAnswer.TheVariants as assign
 use Rattle.sd_types.specs.declared.events.BindAnswer.TheVariants as bind
 use Rattle.sd_types.specs.declared.events.Entry.{Entry}
 use Rattle.sd_types.specs.declared.works.Work.{Work}
-use Rattle.sd_machine.specs.Texts.{thread_name}
-use Rattle.sd_full.specs.Texts.{word_thread, word_lock, set_name, assign_text, bind_text, cpu_text, cpu_text_if, put_text, event_text, hints_text, entry_text}
+use Rattle.sd_state.specs.Texts.{thread_name}
+use Rattle.sd_machine.specs.Texts.{word_thread, word_lock, set_name, assign_text, bind_text, cpu_text, cpu_text_if, put_text, event_text, hints_text, entry_text}
 use Rattle.sd_spelling.specs.EntryWords.{event_words, hint_words, entry_words}
 
 two : (t u x : List ℕ) → t ++ codes " " ++ u ++ codes " " ++ x ≡ t ++ (32 ∷ (u ++ (32 ∷ x)))

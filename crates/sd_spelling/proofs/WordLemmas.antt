@@ -19,7 +19,7 @@ use Rattle.sd_types.specs.declared.events.Entry.{Entry}
 use Rattle.sd_types.specs.declared.works.Work.{Work}
 use Rattle.sd_text.specs.Lines.{is_newline, is_line}
 use Rattle.sd_text.specs.Words.{ends_word, is_word}
-use Rattle.sd_full.specs.Texts.{numbers_text}
+use Rattle.sd_machine.specs.Texts.{numbers_text}
 use Rattle.sd_spelling.specs.EntryWords.{event_words, hint_words, entry_words}
 use Rattle.sd_spelling.specs.Fitting.{has_cpu, is_byte, event_fits, event_in_range, may_read, hints_fit, hints_in_range, entry_fits, in_range, IsSpelled}
 use Rattle.sd_spelling.proofs.NameLemmas.{byte_word}

@@ -15,8 +15,8 @@ use Rattle.sd_types.specs.declared.events.BindAnswer.{BindAnswer}
 use Rattle.sd_types.specs.declared.events.BindAnswer.TheVariants as bind
 use Rattle.sd_types.specs.declared.events.Entry.{Entry}
 use Rattle.sd_types.specs.declared.works.Work.{Work}
-use Rattle.sd_machine.specs.Texts.{thread_name, lock_name, chan_name}
-use Rattle.sd_full.specs.Texts.{set_name, cpu_text, cpu_text_if, denied_text, assign_text, numbers_text}
+use Rattle.sd_state.specs.Texts.{thread_name, lock_name, chan_name}
+use Rattle.sd_machine.specs.Texts.{set_name, cpu_text, cpu_text_if, denied_text, assign_text, numbers_text}
 
 abbrev pub end_word : End → List ℕ
 end_word Front = codes "front"

@@ -5,7 +5,7 @@ ghost use Rattle.std.specs.List.{join_with_byte};
 ghost use Rattle.sd_types.specs.declared.events.Entry.{Entry};
 ghost use Rattle.sd_types.specs.declared.works.Work.{Work};
 ghost use Rattle.sd_text.specs.Lines.{is_line};
-ghost use Rattle.sd_full.specs.Texts.{entry_text};
+ghost use Rattle.sd_machine.specs.Texts.{entry_text};
 ghost use Rattle.sd_spelling.specs.EntryWords.{entry_words};
 ghost use Rattle.sd_spelling.specs.Fitting.{IsSpelled};
 

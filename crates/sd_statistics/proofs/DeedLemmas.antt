@@ -10,9 +10,9 @@ use Rattle.sd_types.specs.declared.events.Event.{Event}
 use Rattle.sd_types.specs.declared.events.Event.TheVariants.{Tick, Spin, Idle, Dispatch, Steal, Preempt, Yield, Done, Nap, Napend, Sleep, Wake, Wakeall, Rouse, Enter, Read, Write, Block, Will, End as WalkEnd, Exit, Unblock, Grant, Passed, Age, Prio, CvWait, SemaP, SemaWait, SemaVWake, SemaVCount, Assign, Move, Joined, Bind, Away}
 use Rattle.sd_types.specs.Events.{ticks}
 use Rattle.sd_types.specs.declared.works.Work.{Work}
-use Rattle.sd_machine.specs.declared.states.State.{State}
-use Rattle.sd_machine.specs.Accounts.{cpu_ticks}
-use Rattle.sd_full.specs.Runs.{state_at}
+use Rattle.sd_state.specs.declared.states.State.{State}
+use Rattle.sd_state.specs.Accounts.{cpu_ticks}
+use Rattle.sd_machine.specs.Runs.{state_at}
 use Rattle.sd_stretches.specs.declared.changes.Happening.{Happening}
 use Rattle.sd_stretches.specs.declared.histories.History.{History}
 use Rattle.sd_stretches.specs.Changes.{happening_of, happenings_of}

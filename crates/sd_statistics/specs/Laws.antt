@@ -4,7 +4,7 @@ use Rattle.std.specs.Prelude.{◌≡◌, ℕ, ◌+◌, ◌<◌, ◌≤◌, ◌&&
 use Rattle.std.specs.List.{All, Contains}
 use Rattle.sd_types.specs.declared.events.Entry.{Entry}
 use Rattle.sd_types.specs.declared.works.Work.{Work}
-use Rattle.sd_machine.specs.Accounts.{cpu_ticks}
+use Rattle.sd_state.specs.Accounts.{cpu_ticks}
 use Rattle.sd_stretches.specs.declared.histories.History.{History}
 use Rattle.sd_stretches.specs.declared.rows.Stretch.{Stretch}
 use Rattle.sd_stretches.specs.declared.spins.Track.TheVariants as track

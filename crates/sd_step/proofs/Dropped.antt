@@ -17,17 +17,17 @@ use Rattle.sd_types.specs.declared.events.PrioAnswer.{PrioAnswer}
 use Rattle.sd_types.specs.declared.events.PrioAnswer.TheVariants.{Changed, Refused}
 use Rattle.sd_types.specs.declared.events.Put.{Put}
 use Rattle.sd_types.specs.declared.works.Work.{Work}
-use Rattle.sd_machine.specs.declared.states.CpuState.{CpuState}
-use Rattle.sd_machine.specs.declared.states.Place.{Place}
-use Rattle.sd_machine.specs.declared.states.Place.TheVariants as place
-use Rattle.sd_machine.specs.declared.states.State.{State}
-use Rattle.sd_machine.specs.States.{thread_of, cpu_of, no_cpu, with_cpu}
-use Rattle.sd_machine.specs.Operations.{op_of}
-use Rattle.sd_full.specs.Changes.{cpu_put, set_duty}
-use Rattle.sd_full.specs.Events.{drop_ageing, dropped_duty, keeps_ageing}
-use Rattle.sd_full.specs.Needs.{CanAct, CanBeBound, CanBeChanged, CanBind, CanUnbind, IsBindPut, IsPrioPut, IsPutIf, IsWoken, Needs, RunsThere}
-use Rattle.sd_full.specs.Sleeping.{nap_ticks}
-use Rattle.sd_full.specs.Threads.{runner}
+use Rattle.sd_state.specs.declared.states.CpuState.{CpuState}
+use Rattle.sd_state.specs.declared.states.Place.{Place}
+use Rattle.sd_state.specs.declared.states.Place.TheVariants as place
+use Rattle.sd_state.specs.declared.states.State.{State}
+use Rattle.sd_state.specs.States.{thread_of, cpu_of, no_cpu, with_cpu}
+use Rattle.sd_state.specs.Operations.{op_of}
+use Rattle.sd_machine.specs.Changes.{cpu_put, set_duty}
+use Rattle.sd_machine.specs.Events.{drop_ageing, dropped_duty, keeps_ageing}
+use Rattle.sd_machine.specs.Needs.{CanAct, CanBeBound, CanBeChanged, CanBind, CanUnbind, IsBindPut, IsPrioPut, IsPutIf, IsWoken, Needs, RunsThere}
+use Rattle.sd_machine.specs.Sleeping.{nap_ticks}
+use Rattle.sd_machine.specs.Threads.{runner}
 use Rattle.sd_mdisp.specs.Touched.{reordered_parts}
 use Rattle.sd_mdisp.proofs.Kept.{kept_set}
 use Rattle.sd_mdisp.proofs.RunningLemmas.{same_ready}

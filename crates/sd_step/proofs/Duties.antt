@@ -5,12 +5,12 @@ use Rattle.sd_types.specs.declared.events.Duty.{Duty}
 use Rattle.sd_types.specs.declared.events.Duty.TheVariants as duty
 use Rattle.sd_types.specs.declared.numbers.CpuId.{CpuId}
 use Rattle.sd_types.specs.declared.works.Work.{Work}
-use Rattle.sd_machine.specs.declared.states.State.{State}
-use Rattle.sd_machine.specs.States.{cpu_of}
-use Rattle.sd_full.specs.declared.plans.Plan.{Plan}
-use Rattle.sd_full.specs.Plans.{ageing_plan, ageing_plan_of, duty_plan, duty_plan_of, first_of, nap_plan}
-use Rattle.sd_full.specs.Sleeping.{rouse_key, rouse_plan}
-use Rattle.sd_full.specs.Threads.{best_sleeper_below}
+use Rattle.sd_state.specs.declared.states.State.{State}
+use Rattle.sd_state.specs.States.{cpu_of}
+use Rattle.sd_machine.specs.declared.plans.Plan.{Plan}
+use Rattle.sd_machine.specs.Plans.{ageing_plan, ageing_plan_of, duty_plan, duty_plan_of, first_of, nap_plan}
+use Rattle.sd_machine.specs.Sleeping.{rouse_key, rouse_plan}
+use Rattle.sd_machine.specs.Threads.{best_sleeper_below}
 use Rattle.sd_store.specs.declared.parts.Part.{Part}
 use Rattle.sd_store.specs.declared.spots.Task.{Task}
 use Rattle.sd_store.specs.declared.spots.Task.TheVariants as task

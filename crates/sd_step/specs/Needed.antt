@@ -1,20 +1,20 @@
 -- The parts of a state that a processor looks at to find its event.
--- Source: this project's own; the cases are those of `sd_full`'s Plans.
+-- Source: this project's own; the cases are those of `sd_machine`'s Plans.
 use Rattle.std.specs.Prelude.{ℕ, List, [], ◌∷◌, ◌++◌, Option, Some, None}
 use Rattle.sd_types.specs.declared.numbers.CpuId.{CpuId}
 use Rattle.sd_types.specs.declared.events.Hints.{Hints}
 use Rattle.sd_types.specs.declared.scripts.Op.{Op}
 use Rattle.sd_types.specs.declared.scripts.Op.TheVariants as op
 use Rattle.sd_types.specs.declared.works.Work.{Work}
-use Rattle.sd_machine.specs.declared.states.State.{State}
-use Rattle.sd_machine.specs.States.{thread_of, cpu_of}
-use Rattle.sd_machine.specs.Operations.{op_of}
-use Rattle.sd_full.specs.declared.plans.Plan.{Plan}
-use Rattle.sd_full.specs.declared.plans.Plan.TheVariants.{Make, Place, Search}
-use Rattle.sd_full.specs.Choosing.{victim_for}
-use Rattle.sd_full.specs.Events.{placed_thread}
-use Rattle.sd_full.specs.Plans.{ageing_plan, duty_plan, first_of, nap_plan, plan}
-use Rattle.sd_full.specs.Threads.{lock_of, runner, set_of, thread_id}
+use Rattle.sd_state.specs.declared.states.State.{State}
+use Rattle.sd_state.specs.States.{thread_of, cpu_of}
+use Rattle.sd_state.specs.Operations.{op_of}
+use Rattle.sd_machine.specs.declared.plans.Plan.{Plan}
+use Rattle.sd_machine.specs.declared.plans.Plan.TheVariants.{Make, Place, Search}
+use Rattle.sd_machine.specs.Choosing.{victim_for}
+use Rattle.sd_machine.specs.Events.{placed_thread}
+use Rattle.sd_machine.specs.Plans.{ageing_plan, duty_plan, first_of, nap_plan, plan}
+use Rattle.sd_machine.specs.Threads.{lock_of, runner, set_of, thread_id}
 use Rattle.sd_mdisp.specs.Touched.{victim_parts}
 use Rattle.sd_step.specs.Tasks.{task_parts}
 use Rattle.sd_store.specs.declared.parts.Part.{Part}

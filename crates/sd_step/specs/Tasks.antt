@@ -6,15 +6,15 @@ use Rattle.sd_types.specs.declared.numbers.Side.TheVariants.{Writer, Reader}
 use Rattle.sd_types.specs.declared.events.Duty.TheVariants as duty
 use Rattle.sd_types.specs.declared.events.Event.{Event}
 use Rattle.sd_types.specs.declared.works.Work.{Work}
-use Rattle.sd_machine.specs.declared.states.State.{State}
-use Rattle.sd_full.specs.declared.plans.Plan.{Plan}
-use Rattle.sd_full.specs.Changes.{set_duty}
-use Rattle.sd_full.specs.Events.{keeps_ageing}
-use Rattle.sd_full.specs.Locking.{grant_reader_plan, grant_writer_plan, unblock_plan}
-use Rattle.sd_full.specs.Prioritising.{age_plan}
-use Rattle.sd_full.specs.Sleeping.{rouse_plan}
-use Rattle.sd_full.specs.Threads.{best_waiter, lock_of, next_to_age}
-use Rattle.sd_full.specs.Walking.{walk_plan}
+use Rattle.sd_state.specs.declared.states.State.{State}
+use Rattle.sd_machine.specs.declared.plans.Plan.{Plan}
+use Rattle.sd_machine.specs.Changes.{set_duty}
+use Rattle.sd_machine.specs.Events.{keeps_ageing}
+use Rattle.sd_machine.specs.Locking.{grant_reader_plan, grant_writer_plan, unblock_plan}
+use Rattle.sd_machine.specs.Prioritising.{age_plan}
+use Rattle.sd_machine.specs.Sleeping.{rouse_plan}
+use Rattle.sd_machine.specs.Threads.{best_waiter, lock_of, next_to_age}
+use Rattle.sd_machine.specs.Walking.{walk_plan}
 use Rattle.sd_store.specs.declared.parts.Part.{Part}
 use Rattle.sd_store.specs.declared.spots.Task.{Task}
 use Rattle.sd_store.specs.declared.spots.Task.TheVariants as task

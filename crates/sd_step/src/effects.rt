@@ -1,8 +1,8 @@
 //! The state after an event.
 
 ghost use Rattle.std.specs.Prelude.{◌≡◌, ◌<◌, ◌^◌, [], ◌∷◌, ⊤};
-ghost use Rattle.sd_full.specs.Events.{after, drop_ageing, effect, keeps_ageing};
-ghost use Rattle.sd_full.specs.Needs.{Needs};
+ghost use Rattle.sd_machine.specs.Events.{after, drop_ageing, effect, keeps_ageing};
+ghost use Rattle.sd_machine.specs.Needs.{Needs};
 ghost use Rattle.sd_step.specs.Touched.{after_parts, touched};
 ghost use Rattle.sd_store.specs.Parts.{actor_part};
 ghost use Rattle.sd_store.specs.Words.{Does, DoesBy, Lacks, LacksBy};
@@ -46,7 +46,7 @@ fn drop_ageing<S: Store>(x: &mut S, c: CpuId, event: &Event) -> Result<(), S::La
 }
 
 /// What entry `number` of processor `c` does to a state in which no ageing is left over.
-#[tactic(auto, unfolding(sd_full::specs::Events::effect))]
+#[tactic(auto, unfolding(sd_machine::specs::Events::effect))]
 fn effect<S: Sets>(
     work: &Work,
     x: &mut S,
@@ -111,7 +111,7 @@ fn effect<S: Sets>(
 
 /// Makes of each state that the store shows, and in which the event has what it needs, the one that follows after entry
 /// `number` of processor `c`, with this event. It takes no memory, and lacks nothing but what the event touches.
-#[tactic(auto, using(crate::proofs::Dropped::needs_dropped, crate::proofs::Dropped::touched_dropped), unfolding(sd_full::specs::Events::after))]
+#[tactic(auto, using(crate::proofs::Dropped::needs_dropped, crate::proofs::Dropped::touched_dropped), unfolding(sd_machine::specs::Events::after))]
 pub fn after<S: Sets>(
     work: &Work,
     x: &mut S,

@@ -2,12 +2,12 @@
 
 ghost use Rattle.std.specs.Prelude.{◌≡◌, ℕ, ◌++◌, IfOk, None, true, option_map, if◌then◌else◌};
 ghost use Rattle.sd_types.specs.declared.numbers.ChanId.{ChanId as ChanIdOf};
-ghost use Rattle.sd_full.specs.declared.plans.Plan.TheVariants.{Place};
-ghost use Rattle.sd_full.specs.Choosing.{neighbours, put_chosen, read_of, reads_for, victim_for};
-ghost use Rattle.sd_full.specs.Dispatching.{search_event};
-ghost use Rattle.sd_full.specs.Events.{allowed, event_of, hints_fit, next, placed_thread, plan_event, plan_reads, reads, wish};
-ghost use Rattle.sd_full.specs.Needs.{CanCount};
-ghost use Rattle.sd_machine.specs.declared.states.State.{State};
+ghost use Rattle.sd_machine.specs.declared.plans.Plan.TheVariants.{Place};
+ghost use Rattle.sd_machine.specs.Choosing.{neighbours, put_chosen, read_of, reads_for, victim_for};
+ghost use Rattle.sd_machine.specs.Dispatching.{search_event};
+ghost use Rattle.sd_machine.specs.Events.{allowed, event_of, hints_fit, next, placed_thread, plan_event, plan_reads, reads, wish};
+ghost use Rattle.sd_machine.specs.Needs.{CanCount};
+ghost use Rattle.sd_state.specs.declared.states.State.{State};
 ghost use Rattle.sd_mdisp.specs.Reading.{parts};
 ghost use Rattle.sd_mdisp.specs.Touched.{victim_parts};
 ghost use Rattle.sd_step.specs.Needed.{choice_parts, needed, next_parts, read_parts, reads_parts, turn_parts};
@@ -15,7 +15,7 @@ ghost use Rattle.sd_store.specs.Parts.{ready_parts};
 ghost use Rattle.sd_store.specs.Words.{Lacks, LacksIf, Tells, TellsIf};
 
 use crate::plans::plan;
-use sd_full::{Placement, Plan};
+use sd_machine::{Placement, Plan};
 use sd_mdisp::{
     Reading, hints_fit, put_chosen, reads_for, reads_to_steal, search_event, victim_for,
 };
@@ -90,7 +90,7 @@ pub fn plan_reads<L: Look>(
 }
 
 /// What processor `c` reads before its event, None where it reads nothing.
-#[tactic(auto, using(sd_store::proofs::Among::among_left, sd_store::proofs::Among::among_right), unfolding(sd_full::specs::Events::reads))]
+#[tactic(auto, using(sd_store::proofs::Among::among_left, sd_store::proofs::Among::among_right), unfolding(sd_machine::specs::Events::reads))]
 pub fn reads<L: Look>(work: &Work, x: &L, c: CpuId) -> Result<Option<Reading>, L::Lack>
     ensures value { IfOk result (λ r. (n : ℕ) (s : State) → L.shows x.now n s → ((k : ChanIdOf) → CanCount s k) → option_map parts r ≡ reads work.now s c.0) }
     ensures lack { LacksIf L.part (L.shows x.now) (L.has x.now) result (λ s. (k : ChanIdOf) → CanCount s k) (λ s. reads_parts work.now s c) }
@@ -146,7 +146,7 @@ pub fn plan_event<L: Look>(
 
 /// The one event that the order of its events gives to processor `c`, whether or not it may tick now, where it has read
 /// these numbers: exactly those that it reads in this state.
-#[tactic(auto, using(sd_store::proofs::Among::among_left, sd_store::proofs::Among::among_right), unfolding(sd_full::specs::Events::wish, sd_full::specs::Events::reads))]
+#[tactic(auto, using(sd_store::proofs::Among::among_left, sd_store::proofs::Among::among_right), unfolding(sd_machine::specs::Events::wish, sd_machine::specs::Events::reads))]
 pub fn wish<L: Look>(work: &Work, x: &L, c: CpuId, hints: &Option<Hints>) -> Result<Event, L::Lack>
     ensures value { TellsIf (L.shows x.now) result (λ s. ((k : ChanIdOf) → CanCount s k) × (hints_fit (reads work.now s c.0) hints.now ≡ true)) (λ s. wish work.now s c.0 hints.now) }
     ensures lack { LacksIf L.part (L.shows x.now) (L.has x.now) result (λ s. ((k : ChanIdOf) → CanCount s k) × (hints_fit (reads work.now s c.0) hints.now ≡ true)) (λ s. needed work.now s c hints.now) }
@@ -203,7 +203,7 @@ fn planned<L: Clock>(
 
 /// The one event that processor `c` may make, where it has read these numbers; None where it may make none, where there is
 /// no such processor, and where the numbers are not what it reads in this state.
-#[tactic(auto, using(sd_store::proofs::Among::among_left, sd_store::proofs::Among::among_right), unfolding(sd_full::specs::Events::next, sd_full::specs::Events::reads, sd_full::specs::Events::wish))]
+#[tactic(auto, using(sd_store::proofs::Among::among_left, sd_store::proofs::Among::among_right), unfolding(sd_machine::specs::Events::next, sd_machine::specs::Events::reads, sd_machine::specs::Events::wish))]
 pub fn next<L: Clock>(
     work: &Work,
     x: &L,

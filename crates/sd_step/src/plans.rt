@@ -8,10 +8,10 @@ ghost use Rattle.sd_types.specs.declared.numbers.ThreadId.{ThreadId as ThreadIdO
 ghost use Rattle.sd_types.specs.declared.scripts.Op.TheVariants.{Prio};
 ghost use Rattle.sd_types.specs.declared.scripts.Request.{Request};
 ghost use Rattle.sd_types.specs.Works.{quantum_fits};
-ghost use Rattle.sd_machine.specs.Operations.{op_of};
-ghost use Rattle.sd_machine.specs.States.{cpu_of, thread_of};
-ghost use Rattle.sd_full.specs.Needs.{CanCount};
-ghost use Rattle.sd_full.specs.Plans.{ageing_plan, cpu_plan, duty_plan, first_of, free_plan_of, nap_plan, op_plan, plan, run_plan};
+ghost use Rattle.sd_state.specs.Operations.{op_of};
+ghost use Rattle.sd_state.specs.States.{cpu_of, thread_of};
+ghost use Rattle.sd_machine.specs.Needs.{CanCount};
+ghost use Rattle.sd_machine.specs.Plans.{ageing_plan, cpu_plan, duty_plan, first_of, free_plan_of, nap_plan, op_plan, plan, run_plan};
 ghost use Rattle.sd_step.specs.Needed.{cpu_parts, op_parts, plan_parts};
 ghost use Rattle.sd_step.specs.Tasks.{task_ageing, task_parts, task_plan};
 ghost use Rattle.sd_store.specs.Keyless.{task_of};
@@ -19,7 +19,7 @@ ghost use Rattle.sd_store.specs.Parts.{actor_part, cpu_part, ready_parts, thread
 ghost use Rattle.sd_store.specs.Words.{Lacks, Tells, TellsIf};
 
 use sd_cv::{sema_p_event, sema_v_plan};
-use sd_full::Plan;
+use sd_machine::Plan;
 use sd_mchain::walk_plan;
 use sd_mdisp::{dispatch_plan, leave_plan};
 use sd_mlock::{
@@ -73,7 +73,7 @@ fn duty_plan<L: Look>(work: &Work, x: &L, c: CpuId) -> Result<Option<Plan>, L::L
 }
 
 /// 2. The nap on processor `c` that is over first.
-#[tactic(auto, unfolding(sd_full::specs::Plans::nap_plan))]
+#[tactic(auto, unfolding(sd_machine::specs::Plans::nap_plan))]
 fn nap_plan<L: Look>(work: &Work, x: &L, c: CpuId) -> Result<Option<Plan>, L::Lack>
     ensures value { Tells (L.shows x.now) result (λ s. nap_plan work.now s c.0) }
     ensures lack { Lacks L.part (L.shows x.now) (L.has x.now) result (λ s. actor_part c ∷ cpu_part c ∷ []) }
@@ -107,7 +107,7 @@ fn ageing_plan<L: Look>(work: &Work, x: &L, c: CpuId) -> Result<Option<Plan>, L:
 }
 
 /// What the running thread `t` does at an operation that depends on other threads.
-#[tactic(auto, unfolding(sd_full::specs::Plans::op_plan))]
+#[tactic(auto, unfolding(sd_machine::specs::Plans::op_plan))]
 fn at_op<L: Look>(work: &Work, x: &L, t: ThreadId, op: Op) -> Result<Plan, L::Lack>
     requires { (u : ThreadIdOf) (r : Request) → op ≡ Prio u r → IsTrue (quantum_fits r.quantum) }
     ensures value { TellsIf (L.shows x.now) result (λ s. (k : ChanIdOf) → CanCount s k) (λ s. op_plan work.now s t.0 (Some op)) }
@@ -144,7 +144,7 @@ fn at_op<L: Look>(work: &Work, x: &L, t: ThreadId, op: Op) -> Result<Plan, L::La
 }
 
 /// What the running thread `t` does by its operation, and done after the last.
-#[tactic(auto, unfolding(sd_full::specs::Plans::op_plan))]
+#[tactic(auto, unfolding(sd_machine::specs::Plans::op_plan))]
 fn op_plan<L: Look>(work: &Work, x: &L, t: ThreadId, op: Option<Op>) -> Result<Plan, L::Lack>
     requires { (u : ThreadIdOf) (r : Request) → op ≡ Some (Prio u r) → IsTrue (quantum_fits r.quantum) }
     ensures value { TellsIf (L.shows x.now) result (λ s. (k : ChanIdOf) → CanCount s k) (λ s. op_plan work.now s t.0 op) }
@@ -179,7 +179,7 @@ fn free_plan_of<L: Look>(x: &L, c: CpuId, closing: Option<SetId>) -> Result<Plan
 }
 
 /// 4. to 6. What processor `c` does where nothing comes before its running thread, or its lack of one.
-#[tactic(auto, unfolding(sd_full::specs::Plans::cpu_plan))]
+#[tactic(auto, unfolding(sd_machine::specs::Plans::cpu_plan))]
 fn cpu_plan<L: Look>(work: &Work, x: &L, c: CpuId) -> Result<Plan, L::Lack>
     ensures value { TellsIf (L.shows x.now) result (λ s. (k : ChanIdOf) → CanCount s k) (λ s. cpu_plan work.now s c.0) }
     ensures lack { Lacks L.part (L.shows x.now) (L.has x.now) result (λ s. actor_part c ∷ cpu_parts work.now s c) }
@@ -215,7 +215,7 @@ fn first_plan<L: Look>(work: &Work, x: &L, c: CpuId) -> Result<Option<Plan>, L::
 
 /// What processor `c` is about to do: the first of its duty, a nap that is over, the ageing of its queue, and what its
 /// running thread does, or the processor where none runs. Each count of a semaphore may rise once more.
-#[tactic(auto, unfolding(sd_full::specs::Plans::plan))]
+#[tactic(auto, unfolding(sd_machine::specs::Plans::plan))]
 pub fn plan<L: Look>(work: &Work, x: &L, c: CpuId) -> Result<Plan, L::Lack>
     ensures value { TellsIf (L.shows x.now) result (λ s. (k : ChanIdOf) → CanCount s k) (λ s. plan work.now s c.0) }
     ensures lack { Lacks L.part (L.shows x.now) (L.has x.now) result (λ s. plan_parts work.now s c) }

@@ -17,17 +17,17 @@ use Rattle.sd_types.specs.Events.{ticks}
 use Rattle.sd_rules.specs.Choices.{IsVictim}
 use Rattle.sd_rules.specs.ChoiceFunctions.{victim_of}
 use Rattle.sd_choose.proofs.FunctionLemmas.{victim_is}
-use Rattle.sd_machine.specs.declared.states.State.{State}
-use Rattle.sd_full.specs.declared.plans.Plan.{Plan}
-use Rattle.sd_full.specs.declared.plans.Plan.TheVariants.{Make, Place, Search}
-use Rattle.sd_full.specs.declared.plans.Placement.{Placement}
-use Rattle.sd_full.specs.declared.plans.Placement.TheVariants as placement
-use Rattle.sd_full.specs.Threads.{best_unbound, priority_of}
-use Rattle.sd_full.specs.Choosing.{hint_of, hint_shown, neighbours, numbers_read, put_chosen, read_of, victim_for}
-use Rattle.sd_full.specs.Dispatching.{search_event, steal_event}
-use Rattle.sd_full.specs.Events.{allowed, event_of, hints_fit, may_tick, next, placed_thread, plan_event, plan_reads, reads, same_which, wish}
-use Rattle.sd_full.specs.Plans.{plan}
-use Rattle.sd_full.specs.Runs.{serial_hints, shown}
+use Rattle.sd_state.specs.declared.states.State.{State}
+use Rattle.sd_machine.specs.declared.plans.Plan.{Plan}
+use Rattle.sd_machine.specs.declared.plans.Plan.TheVariants.{Make, Place, Search}
+use Rattle.sd_machine.specs.declared.plans.Placement.{Placement}
+use Rattle.sd_machine.specs.declared.plans.Placement.TheVariants as placement
+use Rattle.sd_machine.specs.Threads.{best_unbound, priority_of}
+use Rattle.sd_machine.specs.Choosing.{hint_of, hint_shown, neighbours, numbers_read, put_chosen, read_of, victim_for}
+use Rattle.sd_machine.specs.Dispatching.{search_event, steal_event}
+use Rattle.sd_machine.specs.Events.{allowed, event_of, hints_fit, may_tick, next, placed_thread, plan_event, plan_reads, reads, same_which, wish}
+use Rattle.sd_machine.specs.Plans.{plan}
+use Rattle.sd_machine.specs.Runs.{serial_hints, shown}
 use Rattle.sd_steps.specs.Entering.{can_enter, can_steal, plan_enters}
 use Rattle.sd_step.proofs.NumberLemmas.{search_numbers}
 

@@ -3,11 +3,11 @@ use Rattle.std.proofs.Common.{◌≡◌, ℕ, ◌+◌, ◌<◌, ◌≤◌, List,
 use Rattle.std.proofs.lemmas.List.{take_more, length-take-le}
 use Rattle.sd_types.specs.declared.events.Entry.{Entry}
 use Rattle.sd_types.specs.declared.works.Work.{Work}
-use Rattle.sd_machine.specs.declared.states.State.{State}
-use Rattle.sd_full.specs.Events.{after}
-use Rattle.sd_machine.specs.Opening.{opening}
-use Rattle.sd_full.specs.Runs.{final, IsStep, IsRunFrom, IsReached}
-use Rattle.sd_full.proofs.RunLemmas.{IsRunFrom-push, final-push, last_number, last_step, IsRunFrom-take, from-IsRun, IsRun-from}
+use Rattle.sd_state.specs.declared.states.State.{State}
+use Rattle.sd_machine.specs.Events.{after}
+use Rattle.sd_state.specs.Opening.{opening}
+use Rattle.sd_machine.specs.Runs.{final, IsStep, IsRunFrom, IsReached}
+use Rattle.sd_machine.proofs.RunLemmas.{IsRunFrom-push, final-push, last_number, last_step, IsRunFrom-take, from-IsRun, IsRun-from}
 use Rattle.sd_steps.specs.Replays.{IsIllegalFrom, IsIllegal}
 
 module _ (w : Work) (s₀ s : State) (es : List Entry) (i : ℕ) (e : Entry) (here : i < length es) (is : e ≡ get_or es i e) where

@@ -5,12 +5,12 @@ use Rattle.sd_types.specs.declared.numbers.CpuId.{CpuId}
 use Rattle.sd_types.specs.declared.events.Which.TheVariants.{Queued}
 use Rattle.sd_types.specs.declared.works.Work.{Work}
 use Rattle.sd_types.specs.Events.{ticks}
-use Rattle.sd_machine.specs.declared.states.State.{State}
-use Rattle.sd_full.specs.declared.plans.Plan.{Plan}
-use Rattle.sd_full.specs.declared.plans.Plan.TheVariants.{Make, Place, Search}
-use Rattle.sd_full.specs.Choosing.{hint_shown, neighbours}
-use Rattle.sd_full.specs.Events.{may_tick}
-use Rattle.sd_full.specs.Plans.{plan}
+use Rattle.sd_state.specs.declared.states.State.{State}
+use Rattle.sd_machine.specs.declared.plans.Plan.{Plan}
+use Rattle.sd_machine.specs.declared.plans.Plan.TheVariants.{Make, Place, Search}
+use Rattle.sd_machine.specs.Choosing.{hint_shown, neighbours}
+use Rattle.sd_machine.specs.Events.{may_tick}
+use Rattle.sd_machine.specs.Plans.{plan}
 
 -- a neighbour shows a thread on its queue that is bound to no processor
 unfoldable pub can_steal : State → ℕ → Bool

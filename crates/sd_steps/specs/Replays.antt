@@ -3,8 +3,8 @@
 use Rattle.std.specs.Prelude.{ℕ, ◌+◌, ◌<◌, List, length, take, ⊤}
 use Rattle.sd_types.specs.declared.events.Entry.{Entry}
 use Rattle.sd_types.specs.declared.works.Work.{Work}
-use Rattle.sd_machine.specs.declared.states.State.{State}
-use Rattle.sd_full.specs.Runs.{IsRunFrom, IsRun}
+use Rattle.sd_state.specs.declared.states.State.{State}
+use Rattle.sd_machine.specs.Runs.{IsRunFrom, IsRun}
 use Rattle.sd_steps.specs.declared.replays.ReplayFault.{ReplayFault}
 use Rattle.sd_steps.specs.declared.replays.ReplayFault.TheVariants.{Illegal, Memory}
 

@@ -2,18 +2,18 @@
 
 ghost use Rattle.std.specs.Prelude.{◌≡◌, Option, None, false, true, IsSome};
 ghost use Rattle.sd_types.specs.declared.events.Hints.{Hints};
-ghost use Rattle.sd_full.specs.Choosing.{neighbours};
-ghost use Rattle.sd_full.specs.Events.{next};
-ghost use Rattle.sd_full.specs.Runs.{serial_hints};
+ghost use Rattle.sd_machine.specs.Choosing.{neighbours};
+ghost use Rattle.sd_machine.specs.Events.{next};
+ghost use Rattle.sd_machine.specs.Runs.{serial_hints};
 ghost use Rattle.sd_sound.specs.Laws.{IsFit};
 ghost use Rattle.sd_steps.specs.Entering.{can_enter, can_steal, plan_enters};
 
 use crate::serial::plan_of;
 use arrayvec::ArrayVec;
 use sd_flat::{may_tick, numbers_shown};
-use sd_full::Plan;
-use sd_machine::State;
+use sd_machine::Plan;
 use sd_mdisp::neighbours;
+use sd_state::State;
 use sd_types::{CpuId, Which, Work};
 
 /// The other open processors of the partition of processor `c`.

@@ -1,13 +1,13 @@
 //! Whole lists of entries, judged.
 
 ghost use Rattle.std.specs.Prelude.{◌≡◌, take, IfOk, OnOk, IfErr};
-ghost use Rattle.sd_full.specs.Runs.{final, IsRunFrom, IsRun};
-ghost use Rattle.sd_machine.specs.Opening.{opening};
+ghost use Rattle.sd_machine.specs.Runs.{final, IsRunFrom, IsRun};
+ghost use Rattle.sd_state.specs.Opening.{opening};
 ghost use Rattle.sd_steps.specs.Replays.{IsIllegalFrom, IsFault};
 
 use crate::stepping::step;
-use sd_machine::State;
 use sd_opening::opening;
+use sd_state::State;
 use sd_types::{Entry, Work};
 use std::alloc::Global;
 

@@ -2,14 +2,14 @@
 
 ghost use Rattle.std.specs.Prelude.{◌≡◌, ◌↔◌, ◌+◌, ◌<◌, ◌^◌, length, IsSome, IsTrue, option_to_list};
 ghost use Rattle.std.specs.Bool.{OnTrue, OnFalse};
-ghost use Rattle.sd_full.specs.Events.{after, next};
-ghost use Rattle.sd_full.specs.Needs.{Needs};
-ghost use Rattle.sd_full.specs.Runs.{IsReached, IsStep, final, turn};
+ghost use Rattle.sd_machine.specs.Events.{after, next};
+ghost use Rattle.sd_machine.specs.Needs.{Needs};
+ghost use Rattle.sd_machine.specs.Runs.{IsReached, IsStep, final, turn};
 ghost use Rattle.sd_sound.specs.Laws.{IsFit};
 
 use crate::equality::same_event;
 use crate::serial::serial_next;
-use sd_machine::State;
+use sd_state::State;
 use sd_step::{after, next};
 use sd_types::{CpuId, Entry, Event, Hints, Work};
 

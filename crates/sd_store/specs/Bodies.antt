@@ -1,14 +1,14 @@
 -- The changes of the body of a thread that stays where it is, and what each asks of the body.
--- Source: this project's own; the changes are those of `sd_full`.
+-- Source: this project's own; the changes are those of `sd_machine`.
 use Rattle.std.specs.Prelude.{ℕ, true, ⊤}
 use Rattle.sd_types.specs.declared.numbers.ThreadId.{ThreadId}
 use Rattle.sd_types.specs.declared.bodies.ThreadBody.{ThreadBody}
 use Rattle.sd_types.specs.declared.works.Work.{Work}
 use Rattle.sd_types.specs.Willed.{changed_number, with_willed, with_lock as with_held, released as without_held}
-use Rattle.sd_machine.specs.declared.states.State.{State}
-use Rattle.sd_machine.specs.Operations.{script_of, op_over, ran}
-use Rattle.sd_full.specs.Bodies.{with_class}
-use Rattle.sd_full.specs.Needs.{CanFinish, CanHold, CanInherit}
+use Rattle.sd_state.specs.declared.states.State.{State}
+use Rattle.sd_state.specs.Operations.{script_of, op_over, ran}
+use Rattle.sd_machine.specs.Bodies.{with_class}
+use Rattle.sd_machine.specs.Needs.{CanFinish, CanHold, CanInherit}
 use Rattle.sd_store.specs.declared.changes.BodyChange.{BodyChange}
 use Rattle.sd_store.specs.declared.changes.BodyChange.TheVariants.{RunTick, FinishOp, Class, SendBack, Hold, LetGo, Inherit, Looped}
 

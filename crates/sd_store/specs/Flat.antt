@@ -5,13 +5,13 @@ use Rattle.sd_types.specs.declared.bodies.ThreadBody.{ThreadBody}
 use Rattle.sd_types.specs.declared.works.Work.{Work}
 use Rattle.sd_types.specs.Scripts.{is_held}
 use Rattle.sd_types.specs.Willed.{IsSound}
-use Rattle.sd_machine.specs.Operations.{script_of}
+use Rattle.sd_state.specs.Operations.{script_of}
 use Rattle.sd_store.specs.declared.flat.look.Never.{Never}
 use Rattle.sd_store.specs.declared.parts.Part.{Part}
 use Rattle.sd_store.specs.Parts.{actor_part}
 use Rattle.sd_store.specs.declared.changes.BodyChange.{BodyChange}
 use Rattle.sd_store.specs.declared.changes.BodyChange.TheVariants.{RunTick, FinishOp, Hold, Inherit}
-use Rattle.sd_machine.specs.declared.states.State.{State}
+use Rattle.sd_state.specs.declared.states.State.{State}
 
 -- it stands for itself alone, where the numbers of the threads fit their type
 pub record IsState (x s : State) : Type 0 where

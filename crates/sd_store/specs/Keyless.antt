@@ -4,11 +4,11 @@ use Rattle.std.specs.Prelude.{ℕ, ⊤}
 use Rattle.sd_types.specs.declared.numbers.CpuId.{CpuId}
 use Rattle.sd_types.specs.declared.events.Duty.{Duty}
 use Rattle.sd_types.specs.declared.events.Duty.TheVariants as duty
-use Rattle.sd_machine.specs.declared.states.Place.{Place}
-use Rattle.sd_machine.specs.declared.states.Place.TheVariants as place
-use Rattle.sd_machine.specs.declared.states.State.{State}
-use Rattle.sd_full.specs.Changes.{back_key, key_at}
-use Rattle.sd_full.specs.Needs.{IsChan, IsLock}
+use Rattle.sd_state.specs.declared.states.Place.{Place}
+use Rattle.sd_state.specs.declared.states.Place.TheVariants as place
+use Rattle.sd_state.specs.declared.states.State.{State}
+use Rattle.sd_machine.specs.Changes.{back_key, key_at}
+use Rattle.sd_machine.specs.Needs.{IsChan, IsLock}
 use Rattle.sd_store.specs.declared.spots.Chore.{Chore}
 use Rattle.sd_store.specs.declared.spots.Chore.TheVariants as chore
 use Rattle.sd_store.specs.declared.spots.Destination.{Destination}

@@ -1,16 +1,16 @@
 -- The duties whose keys come from where threads stand.
--- Source: this project's own; see `sd_full`'s Walking, Prioritising and Sleeping.
+-- Source: this project's own; see `sd_machine`'s Walking, Prioritising and Sleeping.
 use Rattle.std.specs.Prelude.{ℕ, Option}
 use Rattle.sd_types.specs.declared.numbers.ChanId.{ChanId}
 use Rattle.sd_types.specs.declared.numbers.CpuId.{CpuId}
 use Rattle.sd_types.specs.declared.numbers.ThreadId.{ThreadId}
-use Rattle.sd_machine.specs.declared.states.State.{State}
-use Rattle.sd_machine.specs.States.{thread_of, cpu_of}
-use Rattle.sd_full.specs.Changes.{set_duty}
-use Rattle.sd_full.specs.Prioritising.{walk_from}
-use Rattle.sd_full.specs.Sleeping.{rouse_key}
-use Rattle.sd_full.specs.Threads.{best_sleeper_below}
-use Rattle.sd_full.specs.Walking.{next_walk}
+use Rattle.sd_state.specs.declared.states.State.{State}
+use Rattle.sd_state.specs.States.{thread_of, cpu_of}
+use Rattle.sd_machine.specs.Changes.{set_duty}
+use Rattle.sd_machine.specs.Prioritising.{walk_from}
+use Rattle.sd_machine.specs.Sleeping.{rouse_key}
+use Rattle.sd_machine.specs.Threads.{best_sleeper_below}
+use Rattle.sd_machine.specs.Walking.{next_walk}
 
 -- where thread t waits, processor c walks from there on, seeking it
 unfoldable pub walk_begun : State → CpuId → ThreadId → State

@@ -2,7 +2,7 @@
 -- Source: this project's own.
 use Rattle.std.specs.Prelude.{◌≡◌, ℕ, ◌+◌, Bool, true, false, List, Option, Result, IfOk, IfErr, IfSome, option_map}
 use Rattle.sd_types.specs.declared.numbers.ThreadId.{ThreadId}
-use Rattle.sd_machine.specs.declared.states.State.{State}
+use Rattle.sd_state.specs.declared.states.State.{State}
 use Rattle.sd_store.specs.declared.parts.Part.{Part}
 use Rattle.sd_store.specs.Parts.{IsAmong, number, thread_part}
 

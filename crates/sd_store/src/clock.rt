@@ -6,8 +6,8 @@ use sd_types::{CpuId, Work};
 /// What knows the counts of ticks of all processors: it lacks nothing for this.
 pub trait Clock: Look {
     ghost use Rattle.std.specs.Prelude.{◌≡◌, ℕ};
-    ghost use Rattle.sd_full.specs.Events.{may_tick};
-    ghost use Rattle.sd_machine.specs.declared.states.State.{State};
+    ghost use Rattle.sd_machine.specs.Events.{may_tick};
+    ghost use Rattle.sd_state.specs.declared.states.State.{State};
 
     /// The count of processor `c` is below the limit, and no processor's is below it.
     fn may_tick(&self, work: &Work, c: CpuId) -> bool

@@ -3,13 +3,13 @@
 
 ghost use Rattle.std.specs.Prelude.{◌≡◌, ◌<◌, ◌^◌};
 ghost use Rattle.sd_types.specs.declared.events.Duty.TheVariants.{Rouse};
-ghost use Rattle.sd_full.specs.Changes.{back_key, key_at, place_put};
-ghost use Rattle.sd_full.specs.Sleeping.{rouse_key};
-ghost use Rattle.sd_full.specs.Threads.{set_of};
+ghost use Rattle.sd_machine.specs.Changes.{back_key, key_at, place_put};
+ghost use Rattle.sd_machine.specs.Sleeping.{rouse_key};
+ghost use Rattle.sd_machine.specs.Threads.{set_of};
 ghost use Rattle.sd_store.specs.Keyless.{duty_of, place_by, task_of};
 
 use crate::{Chore, Destination, Task};
-use sd_machine::Place;
+use sd_state::Place;
 use sd_types::{ChanId, CpuId, Duty, End, Put, SetId, ThreadId, Work};
 
 /// The key of a thread that entry `number` puts at the back of a queue.

@@ -1,7 +1,7 @@
 //! Looking at a state: what a processor has to know to decide what it does.
 
 use crate::{CpuView, Part, Spot, Task};
-use sd_machine::LockState;
+use sd_state::LockState;
 use sd_types::{ChanId, CpuId, LockId, SetId, Side, ThreadBody, ThreadId};
 
 /// What holds a state, or a part of one. `shows x n s` says that x may stand for the state s after n entries; x may show
@@ -11,11 +11,11 @@ use sd_types::{ChanId, CpuId, LockId, SetId, Side, ThreadBody, ThreadId};
 /// No look-up tells a key. A number that is out of range reads what the definitions of the state say of it.
 pub trait Look {
     ghost use Rattle.std.specs.Prelude.{◌≡◌, ℕ, ◌+◌, ◌≤◌, Bool, true, [], ◌∷◌, length, IfOk, option_copied, unwrap_or};
-    ghost use Rattle.sd_machine.specs.declared.states.State.{State};
-    ghost use Rattle.sd_machine.specs.States.{cpu_of, no_body, thread_of};
-    ghost use Rattle.sd_full.specs.Threads.{best_queued, best_ready, best_sleeper, best_unbound, best_waiter, count_of, first_due, greatest_waiting, has_waiters, lock_of, next_to_age, open_of, runner};
-    ghost use Rattle.sd_full.specs.Locking.{others_waiting};
-    ghost use Rattle.sd_full.specs.Walking.{is_back};
+    ghost use Rattle.sd_state.specs.declared.states.State.{State};
+    ghost use Rattle.sd_state.specs.States.{cpu_of, no_body, thread_of};
+    ghost use Rattle.sd_machine.specs.Threads.{best_queued, best_ready, best_sleeper, best_unbound, best_waiter, count_of, first_due, greatest_waiting, has_waiters, lock_of, next_to_age, open_of, runner};
+    ghost use Rattle.sd_machine.specs.Locking.{others_waiting};
+    ghost use Rattle.sd_machine.specs.Walking.{is_back};
     ghost use Rattle.sd_store.specs.declared.parts.Part.{Part as PartOf};
     ghost use Rattle.sd_store.specs.Keyless.{spot_of, task_of};
     ghost use Rattle.sd_store.specs.Parts.{actor_part, chain_part, cpu_part, ready_parts, real_time_part, sleepers_part, thread_part, view_of};

@@ -6,10 +6,10 @@ use sd_types::{ChanId, CpuId, SetId, ThreadId};
 /// A store of which the counts of semaphores, the sets and the bindings change.
 pub trait Sets: Store {
     ghost use Rattle.std.specs.Prelude.{◌≡◌, ◌<◌, ◌+◌, ◌^◌, [], ◌∷◌, ⊤};
-    ghost use Rattle.sd_machine.specs.States.{cpu_of};
-    ghost use Rattle.sd_full.specs.Needs.{CanJoin, IsChan};
-    ghost use Rattle.sd_full.specs.Threads.{with_count};
-    ghost use Rattle.sd_full.specs.Changes.{bind, close, join, set_kernel_mark, unbind};
+    ghost use Rattle.sd_state.specs.States.{cpu_of};
+    ghost use Rattle.sd_machine.specs.Needs.{CanJoin, IsChan};
+    ghost use Rattle.sd_machine.specs.Threads.{with_count};
+    ghost use Rattle.sd_machine.specs.Changes.{bind, close, join, set_kernel_mark, unbind};
     ghost use Rattle.sd_store.specs.Parts.{cpu_part, real_time_part, sleepers_part, thread_part};
     ghost use Rattle.sd_store.specs.Words.{Does, Keeps, Lacks};
 

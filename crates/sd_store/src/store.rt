@@ -1,13 +1,13 @@
 //! Changing a state: the steps of which the events are composed.
 
 ghost use Rattle.std.specs.Prelude.{◌≡◌, [], ◌∷◌, ⊤};
-ghost use Rattle.sd_full.specs.Changes.{finish_op, hold, let_go, run_tick, send_back, set_class, set_looped, set_number};
-ghost use Rattle.sd_full.specs.Needs.{CanFinish, CanHold, CanInherit};
+ghost use Rattle.sd_machine.specs.Changes.{finish_op, hold, let_go, run_tick, send_back, set_class, set_looped, set_number};
+ghost use Rattle.sd_machine.specs.Needs.{CanFinish, CanHold, CanInherit};
 ghost use Rattle.sd_store.specs.Parts.{thread_part};
 ghost use Rattle.sd_store.specs.Words.{Does, Keeps, Lacks};
 
 use crate::{BodyChange, Chore, Destination, Look};
-use sd_machine::LockState;
+use sd_state::LockState;
 use sd_types::{ChanId, ClassState, CpuId, LockId, Put, ThreadId, Work};
 
 /// A store of which the state changes. A change that is made is made in every state that is shown, and what it asks of a
@@ -16,10 +16,10 @@ use sd_types::{ChanId, ClassState, CpuId, LockId, Put, ThreadId, Work};
 pub trait Store: Look {
     ghost use Rattle.std.specs.Prelude.{◌≡◌, ◌<◌, ◌^◌, [], ◌∷◌, ⊤};
     ghost use Rattle.sd_types.specs.declared.events.Duty.TheVariants.{Rouse};
-    ghost use Rattle.sd_machine.specs.States.{thread_of};
-    ghost use Rattle.sd_full.specs.Changes.{back_key, clear_marks, count_tick, leave, place_put, run_on, set_duty, set_mark, with_body, with_place};
-    ghost use Rattle.sd_full.specs.Needs.{CanTick, IsFree, IsLock, RunsOn};
-    ghost use Rattle.sd_full.specs.Threads.{with_lock};
+    ghost use Rattle.sd_state.specs.States.{thread_of};
+    ghost use Rattle.sd_machine.specs.Changes.{back_key, clear_marks, count_tick, leave, place_put, run_on, set_duty, set_mark, with_body, with_place};
+    ghost use Rattle.sd_machine.specs.Needs.{CanTick, IsFree, IsLock, RunsOn};
+    ghost use Rattle.sd_machine.specs.Threads.{with_lock};
     ghost use Rattle.sd_store.specs.Bodies.{CanChange, changed};
     ghost use Rattle.sd_store.specs.Keyless.{IsDestination, duty_of, place_by};
     ghost use Rattle.sd_store.specs.Parts.{actor_part, chain_part, cpu_part, destination_parts, put_parts, thread_part};
@@ -127,7 +127,7 @@ pub trait Store: Look {
 
 /// Thread `t` runs for a tick of its operation.
 #[inline(always)]
-#[tactic(auto, unfolding(sd_full::specs::Changes::run_tick))]
+#[tactic(auto, unfolding(sd_machine::specs::Changes::run_tick))]
 pub fn run_tick<S: Store>(x: &mut S, work: &Work, t: ThreadId) -> Result<(), S::Lack>
     ensures value { Does (S.shows x.old) (S.shows x.new) result (λ s. CanFinish work.now s t) (λ s. run_tick work.now s t.0) }
     ensures lack { Lacks S.part (S.shows x.old) (S.has x.old) result (λ s. thread_part t ∷ []) }
@@ -139,7 +139,7 @@ pub fn run_tick<S: Store>(x: &mut S, work: &Work, t: ThreadId) -> Result<(), S::
 
 /// The operation at which thread `t` stands is over.
 #[inline(always)]
-#[tactic(auto, unfolding(sd_full::specs::Changes::finish_op))]
+#[tactic(auto, unfolding(sd_machine::specs::Changes::finish_op))]
 pub fn finish_op<S: Store>(x: &mut S, work: &Work, t: ThreadId) -> Result<(), S::Lack>
     ensures value { Does (S.shows x.old) (S.shows x.new) result (λ s. CanFinish work.now s t) (λ s. finish_op work.now s t.0) }
     ensures lack { Lacks S.part (S.shows x.old) (S.has x.old) result (λ s. thread_part t ∷ []) }
@@ -151,7 +151,7 @@ pub fn finish_op<S: Store>(x: &mut S, work: &Work, t: ThreadId) -> Result<(), S:
 
 /// Gives thread `t` a class state.
 #[inline(always)]
-#[tactic(auto, unfolding(sd_full::specs::Changes::set_class))]
+#[tactic(auto, unfolding(sd_machine::specs::Changes::set_class))]
 pub fn set_class<S: Store>(
     x: &mut S,
     work: &Work,
@@ -168,7 +168,7 @@ pub fn set_class<S: Store>(
 
 /// Thread `t` is to go to the back of its queue.
 #[inline(always)]
-#[tactic(auto, unfolding(sd_full::specs::Changes::send_back))]
+#[tactic(auto, unfolding(sd_machine::specs::Changes::send_back))]
 pub fn send_back<S: Store>(x: &mut S, work: &Work, t: ThreadId) -> Result<(), S::Lack>
     ensures value { Does (S.shows x.old) (S.shows x.new) result (λ s. ⊤) (λ s. send_back s t.0) }
     ensures lack { Lacks S.part (S.shows x.old) (S.has x.old) result (λ s. thread_part t ∷ []) }
@@ -180,7 +180,7 @@ pub fn send_back<S: Store>(x: &mut S, work: &Work, t: ThreadId) -> Result<(), S:
 
 /// Thread `t` holds lock `l`.
 #[inline(always)]
-#[tactic(auto, unfolding(sd_full::specs::Changes::hold))]
+#[tactic(auto, unfolding(sd_machine::specs::Changes::hold))]
 pub fn hold<S: Store>(x: &mut S, work: &Work, t: ThreadId, l: LockId) -> Result<(), S::Lack>
     ensures value { Does (S.shows x.old) (S.shows x.new) result (λ s. CanHold s t l) (λ s. hold s t.0 l) }
     ensures lack { Lacks S.part (S.shows x.old) (S.has x.old) result (λ s. thread_part t ∷ []) }
@@ -192,7 +192,7 @@ pub fn hold<S: Store>(x: &mut S, work: &Work, t: ThreadId, l: LockId) -> Result<
 
 /// Thread `t` holds lock `l` no more.
 #[inline(always)]
-#[tactic(auto, unfolding(sd_full::specs::Changes::let_go))]
+#[tactic(auto, unfolding(sd_machine::specs::Changes::let_go))]
 pub fn let_go<S: Store>(x: &mut S, work: &Work, t: ThreadId, l: LockId) -> Result<(), S::Lack>
     ensures value { Does (S.shows x.old) (S.shows x.new) result (λ s. ⊤) (λ s. let_go s t.0 l) }
     ensures lack { Lacks S.part (S.shows x.old) (S.has x.old) result (λ s. thread_part t ∷ []) }
@@ -204,7 +204,7 @@ pub fn let_go<S: Store>(x: &mut S, work: &Work, t: ThreadId, l: LockId) -> Resul
 
 /// Thread `t` inherits this priority, or none, through lock `l`, which it holds.
 #[inline(always)]
-#[tactic(auto, unfolding(sd_full::specs::Changes::set_number))]
+#[tactic(auto, unfolding(sd_machine::specs::Changes::set_number))]
 pub fn inherit<S: Store>(
     x: &mut S,
     work: &Work,
@@ -222,7 +222,7 @@ pub fn inherit<S: Store>(
 
 /// A walk has come back to thread `t`, or has not.
 #[inline(always)]
-#[tactic(auto, unfolding(sd_full::specs::Changes::set_looped))]
+#[tactic(auto, unfolding(sd_machine::specs::Changes::set_looped))]
 pub fn set_looped<S: Store>(
     x: &mut S,
     work: &Work,

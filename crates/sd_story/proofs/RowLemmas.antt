@@ -3,9 +3,9 @@ use Rattle.std.proofs.Common.{◌≡◌, ℕ, List, [], ◌∷◌, ◌++◌, app
 use Rattle.std.proofs.lemmas.List.{append-nil}
 use Rattle.sd_types.specs.declared.events.Entry.{Entry}
 use Rattle.sd_types.specs.declared.works.Work.{Work}
-use Rattle.sd_machine.specs.declared.states.State.{State}
-use Rattle.sd_full.specs.Events.{after}
-use Rattle.sd_full.specs.Runs.{final}
+use Rattle.sd_state.specs.declared.states.State.{State}
+use Rattle.sd_machine.specs.Events.{after}
+use Rattle.sd_machine.specs.Runs.{final}
 use Rattle.sd_story.specs.declared.selections.Selection.{Selection}
 use Rattle.sd_story.specs.Story.{row_if, rows_from}
 

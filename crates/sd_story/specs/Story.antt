@@ -3,9 +3,9 @@
 use Rattle.std.specs.Prelude.{ℕ, ◌-◌, min, List, [], ◌∷◌, ◌++◌, length, drop, codes, decimal, if◌then◌else◌}
 use Rattle.sd_types.specs.declared.events.Entry.{Entry}
 use Rattle.sd_types.specs.declared.works.Work.{Work}
-use Rattle.sd_machine.specs.declared.states.State.{State}
-use Rattle.sd_machine.specs.Opening.{opening}
-use Rattle.sd_full.specs.Events.{after}
+use Rattle.sd_state.specs.declared.states.State.{State}
+use Rattle.sd_state.specs.Opening.{opening}
+use Rattle.sd_machine.specs.Events.{after}
 use Rattle.sd_audit.specs.Audits.{entry_line}
 use Rattle.sd_sentences.specs.Sentences.{sentence}
 use Rattle.sd_story.specs.declared.selections.Selection.{Selection}

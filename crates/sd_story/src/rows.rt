@@ -8,8 +8,8 @@ ghost use Rattle.sd_story.specs.Story.{cell, line_blanks, row, row_if, tick_blan
 
 use crate::selections::{Selection, is_told, tick_of};
 use sd_event::write_entry;
-use sd_machine::State;
 use sd_sentences::put_sentence;
+use sd_state::State;
 use sd_text::put_number;
 use sd_types::{Entry, Work};
 use std::alloc::{AllocError, Global};

@@ -2,13 +2,13 @@
 
 ghost use Rattle.std.specs.Prelude.{◌≡◌, ◌&&◌, ◌||◌, nat_le, option_map};
 ghost use Rattle.sd_types.specs.Works.{same_bytes};
-ghost use Rattle.sd_machine.specs.States.{cpu_of};
+ghost use Rattle.sd_state.specs.States.{cpu_of};
 ghost use Rattle.sd_story.specs.Selections.{first_named, has_thread, is_named, is_told, second_named, tick_of};
 
 use arrayvec::ArrayVec;
 use sd_flat::cpu_of;
 use sd_labels::thread_name;
-use sd_machine::State;
+use sd_state::State;
 use sd_types::{Entry, Event, Put, ThreadDecl, ThreadId, Work};
 
 /// Which entries are told: those that are made at a tick from `from` to `to`, where the tick of an entry is the count of its

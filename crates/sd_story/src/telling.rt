@@ -2,10 +2,10 @@
 
 ghost use Rattle.std.specs.Prelude.{◌≡◌, ◌<◌, ◌^◌, ◌++◌, ◌∷◌, [], List as Items, IfOk, OnOk, length};
 ghost use Rattle.sd_types.specs.declared.events.Entry.{Entry as EntryValue};
-ghost use Rattle.sd_machine.specs.Opening.{opening};
-ghost use Rattle.sd_full.specs.Events.{after};
-ghost use Rattle.sd_full.specs.Runs.{IsReached};
-ghost use Rattle.sd_full.specs.Texts.{entry_text};
+ghost use Rattle.sd_state.specs.Opening.{opening};
+ghost use Rattle.sd_machine.specs.Events.{after};
+ghost use Rattle.sd_machine.specs.Runs.{IsReached};
+ghost use Rattle.sd_machine.specs.Texts.{entry_text};
 ghost use Rattle.sd_spelling.specs.Fitting.{IsSpelled};
 ghost use Rattle.sd_audit.specs.Audits.{IsTaken};
 ghost use Rattle.sd_gather.specs.Journals.{HasJournal, IsJournalOf, TellsNext};
@@ -16,8 +16,8 @@ use crate::selections::Selection;
 use sd_audit::{in_range, is_accounts};
 use sd_entry_reader::{Names, read_entry};
 use sd_gather::make_line;
-use sd_machine::State;
 use sd_opening::opening;
+use sd_state::State;
 use sd_text::next_line;
 use sd_types::{Entry, Work};
 use std::alloc::{AllocError, Global};

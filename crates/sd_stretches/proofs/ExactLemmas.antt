@@ -9,11 +9,11 @@ use Rattle.std.proofs.lemmas.List.Elements.{filter-append}
 use Rattle.std.proofs.lemmas.Option.{slice_get-map, slice_get-get_or}
 use Rattle.sd_types.specs.declared.events.Entry.{Entry}
 use Rattle.sd_types.specs.declared.works.Work.{Work}
-use Rattle.sd_machine.specs.Opening.{opening}
-use Rattle.sd_machine.specs.States.{thread_of, no_thread}
-use Rattle.sd_full.specs.Runs.{state_at}
-use Rattle.sd_full.proofs.OpeningLemmas.{opening_fits}
-use Rattle.sd_full.proofs.RunLemmas.{final_fits}
+use Rattle.sd_state.specs.Opening.{opening}
+use Rattle.sd_state.specs.States.{thread_of, no_thread}
+use Rattle.sd_machine.specs.Runs.{state_at}
+use Rattle.sd_machine.proofs.OpeningLemmas.{opening_fits}
+use Rattle.sd_machine.proofs.RunLemmas.{final_fits}
 use Rattle.sd_stretches.specs.declared.sights.Doing.{Doing}
 use Rattle.sd_stretches.specs.declared.sights.Doing.TheVariants.{Running, Spinning, Runnable, Waiting, Asleep, Napping, Ended}
 use Rattle.sd_stretches.specs.declared.sights.Sight.{Sight}

@@ -9,12 +9,12 @@ use Rattle.sd_types.specs.declared.events.Event.{Event}
 use Rattle.sd_types.specs.declared.events.Event.TheVariants.{Block, Napend, Spin, Wake, Rouse, Unblock, Grant, SemaVWake, Will}
 use Rattle.sd_types.specs.declared.events.Entry.{Entry}
 use Rattle.sd_types.specs.Priorities.{base_of, eff}
-use Rattle.sd_machine.specs.declared.states.LockState.{LockState}
-use Rattle.sd_machine.specs.declared.states.LockState.TheVariants.{Owned}
-use Rattle.sd_machine.specs.declared.states.ThreadState.{ThreadState}
-use Rattle.sd_machine.specs.declared.states.State.{State}
-use Rattle.sd_machine.specs.States.{cpu_of}
-use Rattle.sd_full.specs.Threads.{greatest_waiting, is_waiting, runner}
+use Rattle.sd_state.specs.declared.states.LockState.{LockState}
+use Rattle.sd_state.specs.declared.states.LockState.TheVariants.{Owned}
+use Rattle.sd_state.specs.declared.states.ThreadState.{ThreadState}
+use Rattle.sd_state.specs.declared.states.State.{State}
+use Rattle.sd_state.specs.States.{cpu_of}
+use Rattle.sd_machine.specs.Threads.{greatest_waiting, is_waiting, runner}
 use Rattle.sd_stretches.specs.declared.sights.Sight.{Sight}
 use Rattle.sd_stretches.specs.declared.changes.Turn.{Turn}
 use Rattle.sd_stretches.specs.declared.changes.Rank.{Rank}

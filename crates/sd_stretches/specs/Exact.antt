@@ -5,9 +5,9 @@ use Rattle.std.specs.Prelude.{◌≡◌, ◌≢◌, ◌↔◌, ◌⊎◌, ℕ, �
 use Rattle.sd_types.specs.declared.numbers.CpuId.{CpuId}
 use Rattle.sd_types.specs.declared.events.Entry.{Entry}
 use Rattle.sd_types.specs.declared.works.Work.{Work}
-use Rattle.sd_machine.specs.declared.states.Place.TheVariants as place
-use Rattle.sd_machine.specs.States.{thread_of}
-use Rattle.sd_full.specs.Runs.{state_at}
+use Rattle.sd_state.specs.declared.states.Place.TheVariants as place
+use Rattle.sd_state.specs.States.{thread_of}
+use Rattle.sd_machine.specs.Runs.{state_at}
 use Rattle.sd_stretches.specs.declared.sights.Doing.{Doing}
 use Rattle.sd_stretches.specs.declared.rows.Stretch.{Stretch}
 use Rattle.sd_stretches.specs.Sights.{doing_of}

@@ -3,12 +3,12 @@
 //! Source: Solaris Internals (turnstiles, sleep queues); the lists are this project's own.
 
 ghost use Rattle.std.specs.Prelude.{◌≡◌, ◌++◌, OnOk, slice_get, None, Some};
-ghost use Rattle.sd_machine.specs.States.{cpu_of};
+ghost use Rattle.sd_state.specs.States.{cpu_of};
 ghost use Rattle.sd_stretches.specs.Changes.{giver, giver_of, hand_over_of, hand_overs_of, happening_of, happenings_of, is_above_base, is_giver, is_inherited, is_priority, load_if, owner_of, rank_if, ranks_between, turn_if, turns_between, wakeup_of, wakeups_of, wanted_lock, woken_by, waker_of};
 
 use crate::sights::{Doing, Sight, runnable, same_doing, same_rank};
 use sd_flat::{greatest_waiting, runner};
-use sd_machine::{LockState, Place, State, ThreadState};
+use sd_state::{LockState, Place, State, ThreadState};
 use sd_types::{Class, CpuId, Entry, Event, LockId, ThreadId};
 use std::alloc::AllocError;
 

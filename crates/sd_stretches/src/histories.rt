@@ -3,8 +3,8 @@
 ghost use Rattle.std.specs.Prelude.{◌≡◌, ◌+◌, ◌<◌, ◌^◌, ◌∷◌, [], ◌++◌, length, List as Items, IfOk, OnOk, Some, None};
 ghost use Rattle.sd_types.specs.declared.events.Entry.{Entry as EntryValue};
 ghost use Rattle.sd_types.specs.declared.works.Work.{Work as WorkValue};
-ghost use Rattle.sd_machine.specs.Opening.{opening};
-ghost use Rattle.sd_full.specs.Runs.{final};
+ghost use Rattle.sd_state.specs.Opening.{opening};
+ghost use Rattle.sd_machine.specs.Runs.{final};
 ghost use Rattle.sd_stretches.specs.Changes.{load_if, ranks_between, turns_between};
 ghost use Rattle.sd_stretches.specs.Histories.{IsHistory};
 ghost use Rattle.sd_stretches.specs.Sights.{sights_of};
@@ -14,7 +14,7 @@ use crate::changes::{
     push_load, push_ranks, push_turns, push_wakeup,
 };
 use crate::sights::{Sight, sights_of};
-use sd_machine::State;
+use sd_state::State;
 use sd_types::{Entry, Work};
 use std::alloc::{AllocError, Global};
 

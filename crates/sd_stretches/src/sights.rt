@@ -6,7 +6,7 @@ ghost use Rattle.std.specs.Prelude.{◌≡◌, ◌==◌, map, IfOk};
 ghost use Rattle.sd_types.specs.Priorities.{base_of, eff};
 ghost use Rattle.sd_stretches.specs.Sights.{class_of, doing_of, runs_on, same_doing, same_rank, sight_of, sights_of, runnable, is_runnable};
 
-use sd_machine::{Place, State, ThreadState};
+use sd_state::{Place, State, ThreadState};
 use sd_types::{ChanId, Class, ClassState, CpuId, LockId};
 use std::alloc::{AllocError, Global};
 

@@ -12,12 +12,12 @@ use Rattle.atomic_table.specs.Table.{Final, Joins, Seen}
 use Rattle.sd_types.specs.declared.numbers.HomeId.{HomeId}
 use Rattle.sd_types.specs.declared.events.Entry.{Entry}
 use Rattle.sd_types.specs.declared.works.Work.{Work}
-use Rattle.sd_machine.specs.declared.states.State.{State}
-use Rattle.sd_machine.specs.Opening.{opening}
-use Rattle.sd_machine.specs.States.{cpu_of}
-use Rattle.sd_full.specs.Events.{after}
-use Rattle.sd_full.specs.Runs.{IsRunFrom, final}
-use Rattle.sd_full.proofs.RunLemmas.{IsRun-from}
+use Rattle.sd_state.specs.declared.states.State.{State}
+use Rattle.sd_state.specs.Opening.{opening}
+use Rattle.sd_state.specs.States.{cpu_of}
+use Rattle.sd_machine.specs.Events.{after}
+use Rattle.sd_machine.specs.Runs.{IsRunFrom, final}
+use Rattle.sd_machine.proofs.RunLemmas.{IsRun-from}
 use Rattle.sd_sound.proofs.Whole.{fit_reached}
 use Rattle.sd_homes.specs.declared.home.Home.{Home}
 use Rattle.sd_hand.specs.Hands.{AreSlots, IsHeld, held}

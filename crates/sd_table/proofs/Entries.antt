@@ -16,10 +16,10 @@ use Rattle.sd_types.specs.declared.events.Event.{Event}
 use Rattle.sd_types.specs.declared.events.Hints.{Hints}
 use Rattle.sd_types.specs.declared.events.Which.{Which}
 use Rattle.sd_types.specs.declared.works.Work.{Work}
-use Rattle.sd_machine.specs.declared.states.State.{State}
-use Rattle.sd_machine.specs.States.{thread_of}
-use Rattle.sd_full.specs.Events.{after, next, reads}
-use Rattle.sd_full.specs.Runs.{IsReached, IsRun}
+use Rattle.sd_state.specs.declared.states.State.{State}
+use Rattle.sd_state.specs.States.{thread_of}
+use Rattle.sd_machine.specs.Events.{after, next, reads}
+use Rattle.sd_machine.specs.Runs.{IsReached, IsRun}
 use Rattle.sd_sound.proofs.Whole.{fit_reached}
 use Rattle.sd_store.specs.declared.parts.Part.{Part}
 use Rattle.sd_store.specs.declared.parts.Part.TheVariants as part

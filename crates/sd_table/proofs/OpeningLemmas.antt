@@ -15,12 +15,12 @@ use Rattle.atomic_table.specs.Table.{opening as table_opening}
 use Rattle.sd_types.specs.declared.numbers.HomeId.{HomeId}
 use Rattle.sd_types.specs.declared.numbers.HomeId.TheVariants as id
 use Rattle.sd_types.specs.declared.works.Work.{Work}
-use Rattle.sd_machine.specs.declared.states.State.{State}
-use Rattle.sd_machine.specs.Opening.{opening}
-use Rattle.sd_machine.specs.States.{cpu_of}
-use Rattle.sd_full.specs.Runs.{final}
-use Rattle.sd_full.specs.Shapes.{FitsFully}
-use Rattle.sd_full.proofs.RunLemmas.{IsRun-nil}
+use Rattle.sd_state.specs.declared.states.State.{State}
+use Rattle.sd_state.specs.Opening.{opening}
+use Rattle.sd_state.specs.States.{cpu_of}
+use Rattle.sd_machine.specs.Runs.{final}
+use Rattle.sd_machine.specs.Shapes.{FitsFully}
+use Rattle.sd_machine.proofs.RunLemmas.{IsRun-nil}
 use Rattle.sd_sound.proofs.Whole.{fit_reached}
 use Rattle.sd_homes.specs.declared.home.Home.{Home}
 use Rattle.sd_homes.specs.Families.{home_id}

@@ -6,12 +6,12 @@ use Rattle.sd_types.specs.declared.numbers.HomeId.{HomeId}
 use Rattle.sd_types.specs.declared.numbers.HomeId.TheVariants as id
 use Rattle.sd_types.specs.declared.events.Entry.{Entry}
 use Rattle.sd_types.specs.declared.works.Work.{Work}
-use Rattle.sd_machine.specs.declared.states.State.{State}
-use Rattle.sd_machine.specs.Opening.{opening}
-use Rattle.sd_machine.specs.States.{cpu_of, thread_of}
-use Rattle.sd_full.specs.Runs.{IsReached, IsRun, state_at}
-use Rattle.sd_full.specs.Threads.{open_of}
-use Rattle.sd_full.proofs.RunLemmas.{IsRun-from, IsRunFrom-take, from-IsRun}
+use Rattle.sd_state.specs.declared.states.State.{State}
+use Rattle.sd_state.specs.Opening.{opening}
+use Rattle.sd_state.specs.States.{cpu_of, thread_of}
+use Rattle.sd_machine.specs.Runs.{IsReached, IsRun, state_at}
+use Rattle.sd_machine.specs.Threads.{open_of}
+use Rattle.sd_machine.proofs.RunLemmas.{IsRun-from, IsRunFrom-take, from-IsRun}
 use Rattle.sd_record.specs.Records.{ThreadRecord}
 use Rattle.sd_sound.proofs.Ready.{reached_ready}
 use Rattle.sd_store.specs.Parts.{view_of}

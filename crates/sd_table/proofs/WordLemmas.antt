@@ -5,7 +5,7 @@ use Rattle.std.proofs.lemmas.List.{replicate_more}
 use Rattle.std.proofs.lemmas.List.Elements.{All-nil, All-push}
 use Rattle.std.proofs.lemmas.List.FromFn.{map-range_with_len_more}
 use Rattle.sd_types.specs.declared.works.Work.{Work}
-use Rattle.sd_machine.specs.declared.states.State.{State}
+use Rattle.sd_state.specs.declared.states.State.{State}
 use Rattle.std.proofs.lemmas.Bool.{false≢true}
 use Rattle.sd_sound.proofs.Whole.{fit_reached}
 use Rattle.sd_shown.specs.Standing.{home_at}

@@ -6,10 +6,10 @@ use Rattle.atomic_table.specs.Seated.{TableId}
 use Rattle.sd_types.specs.declared.numbers.HomeId.{HomeId}
 use Rattle.sd_types.specs.declared.events.Entry.{Entry}
 use Rattle.sd_types.specs.declared.works.Work.{Work}
-use Rattle.sd_machine.specs.declared.states.State.{State}
+use Rattle.sd_state.specs.declared.states.State.{State}
 use Rattle.sd_homes.specs.declared.home.Home.{Home}
 use Rattle.sd_hand.specs.Hands.{held as held_in, how_many_held}
-use Rattle.sd_full.specs.Runs.{IsRun}
+use Rattle.sd_machine.specs.Runs.{IsRun}
 use Rattle.sd_world.specs.Homes.{IsNumberAt, Sizes}
 use Rattle.sd_table_rule.specs.declared.views.View.TheVariants.{Gathers}
 use Rattle.sd_table_rule.specs.Ledgers.{Since, by}

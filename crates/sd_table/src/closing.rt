@@ -2,7 +2,7 @@
 
 ghost use Rattle.std.specs.Prelude.{◌≡◌, ◌++◌, ◌∷◌, [], ◌<◌, ◌≤◌, List, length, map, IfOk, OnOk, vec_capacity};
 ghost use Rattle.sd_types.specs.declared.events.Entry.{Entry as EntryOf};
-ghost use Rattle.sd_full.specs.Runs.{IsRun};
+ghost use Rattle.sd_machine.specs.Runs.{IsRun};
 ghost use Rattle.sd_world.specs.Plain.{Stands};
 ghost use Rattle.sd_table_rule.specs.declared.views.View.TheVariants.{Gathers};
 ghost use Rattle.sd_table_rule.specs.Ledgers.{Since};

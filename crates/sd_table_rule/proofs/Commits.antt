@@ -13,12 +13,12 @@ use Rattle.sd_types.specs.declared.events.Event.{Event}
 use Rattle.sd_types.specs.declared.events.Hints.{Hints}
 use Rattle.sd_types.specs.declared.events.Entry.{Entry}
 use Rattle.sd_types.specs.declared.works.Work.{Work}
-use Rattle.sd_machine.specs.declared.states.State.{State}
-use Rattle.sd_machine.specs.States.{cpu_of}
-use Rattle.sd_machine.specs.Opening.{opening}
-use Rattle.sd_full.specs.Events.{next}
-use Rattle.sd_full.specs.Runs.{IsRun}
-use Rattle.sd_full.proofs.RunLemmas.{IsRunFrom-push, IsRun-from, from-IsRun}
+use Rattle.sd_state.specs.declared.states.State.{State}
+use Rattle.sd_state.specs.States.{cpu_of}
+use Rattle.sd_state.specs.Opening.{opening}
+use Rattle.sd_machine.specs.Events.{next}
+use Rattle.sd_machine.specs.Runs.{IsRun}
+use Rattle.sd_machine.proofs.RunLemmas.{IsRunFrom-push, IsRun-from, from-IsRun}
 use Rattle.sd_table_rule.specs.declared.views.Desk.{Desk}
 use Rattle.sd_table_rule.specs.declared.views.View.{View}
 use Rattle.sd_table_rule.specs.declared.views.View.TheVariants.{Works}

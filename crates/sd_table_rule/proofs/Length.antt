@@ -7,10 +7,10 @@ use Rattle.sd_types.specs.declared.events.Event.{Event}
 use Rattle.sd_types.specs.declared.events.Hints.{Hints}
 use Rattle.sd_types.specs.declared.events.Entry.{Entry}
 use Rattle.sd_types.specs.declared.works.Work.{Work}
-use Rattle.sd_machine.specs.declared.states.State.{State}
-use Rattle.sd_machine.specs.Opening.{opening}
-use Rattle.sd_full.specs.Events.{next, after}
-use Rattle.sd_full.specs.Runs.{IsRunFrom, IsRun}
+use Rattle.sd_state.specs.declared.states.State.{State}
+use Rattle.sd_state.specs.Opening.{opening}
+use Rattle.sd_machine.specs.Events.{next, after}
+use Rattle.sd_machine.specs.Runs.{IsRunFrom, IsRun}
 use Rattle.sd_table_rule.specs.Ledgers.{by}
 
 -- the entries of the processors below c

@@ -9,10 +9,10 @@ use Rattle.atomic_table.specs.Table.{State as TableState, Splits, Joins, Enters,
 use Rattle.atomic_table.proofs.Lists.{at_set}
 use Rattle.sd_types.specs.declared.events.Entry.{Entry}
 use Rattle.sd_types.specs.declared.works.Work.{Work}
-use Rattle.sd_machine.specs.States.{cpu_of}
-use Rattle.sd_machine.specs.Opening.{opening}
-use Rattle.sd_full.specs.Runs.{IsRun}
-use Rattle.sd_full.proofs.RunLemmas.{IsRun-nil, IsRunFrom-front, IsRun-from, from-IsRun}
+use Rattle.sd_state.specs.States.{cpu_of}
+use Rattle.sd_state.specs.Opening.{opening}
+use Rattle.sd_machine.specs.Runs.{IsRun}
+use Rattle.sd_machine.proofs.RunLemmas.{IsRun-nil, IsRunFrom-front, IsRun-from, from-IsRun}
 use Rattle.sd_homes.specs.declared.home.Home.{Home}
 use Rattle.sd_table_rule.specs.declared.views.Desk.{Desk}
 use Rattle.sd_table_rule.specs.declared.views.View.{View}

@@ -16,15 +16,15 @@ use Rattle.sd_types.specs.declared.events.Put.{Put}
 use Rattle.sd_types.specs.declared.works.Work.{Work}
 use Rattle.sd_types.specs.Priorities.{eff_as}
 use Rattle.sd_chains.proofs.Moves.{put_cases}
-use Rattle.sd_machine.specs.declared.states.Place.{Place}
-use Rattle.sd_machine.specs.declared.states.Place.TheVariants as place
-use Rattle.sd_machine.specs.declared.states.State.{State}
-use Rattle.sd_machine.specs.States.{thread_of}
-use Rattle.sd_full.specs.Bodies.{aged_class}
-use Rattle.sd_full.specs.Changes.{back_key}
-use Rattle.sd_full.specs.Events.{after, next}
-use Rattle.sd_full.specs.Runs.{IsReached, IsRun}
-use Rattle.sd_full.specs.Threads.{eff_of}
+use Rattle.sd_state.specs.declared.states.Place.{Place}
+use Rattle.sd_state.specs.declared.states.Place.TheVariants as place
+use Rattle.sd_state.specs.declared.states.State.{State}
+use Rattle.sd_state.specs.States.{thread_of}
+use Rattle.sd_machine.specs.Bodies.{aged_class}
+use Rattle.sd_machine.specs.Changes.{back_key}
+use Rattle.sd_machine.specs.Events.{after, next}
+use Rattle.sd_machine.specs.Runs.{IsReached, IsRun}
+use Rattle.sd_machine.specs.Threads.{eff_of}
 use Rattle.sd_sound.specs.Moves.{Step, aged_step, bind_step, prio_step, put_step_if, reordered_step, step_of, woken_step}
 use Rattle.sd_sound.proofs.Movers.{mover_there}
 use Rattle.sd_sound.proofs.PlaceTable.{Stepped, after_steps, step_needs}

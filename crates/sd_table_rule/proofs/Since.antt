@@ -2,10 +2,10 @@
 use Rattle.std.proofs.Common.{◌≡◌, ◌≢◌, ℕ, ◌≤◌, true, List, [], ◌∷◌, ◌++◌, refl, sym, ap, ◌∙◌, subst, arith, append_assoc, append-nil}
 use Rattle.sd_types.specs.declared.events.Entry.{Entry}
 use Rattle.sd_types.specs.declared.works.Work.{Work}
-use Rattle.sd_machine.specs.Opening.{opening}
-use Rattle.sd_full.specs.Runs.{IsRun}
-use Rattle.sd_full.proofs.RunLemmas.{IsRun-from, IsRunFrom-front, from-IsRun}
-use Rattle.sd_machine.specs.States.{cpu_of}
+use Rattle.sd_state.specs.Opening.{opening}
+use Rattle.sd_machine.specs.Runs.{IsRun}
+use Rattle.sd_machine.proofs.RunLemmas.{IsRun-from, IsRunFrom-front, from-IsRun}
+use Rattle.sd_state.specs.States.{cpu_of}
 use Rattle.sd_world.specs.Worlds.{Begins}
 use Rattle.sd_table_rule.specs.Ledgers.{Since}
 use Rattle.sd_table_rule.specs.Places.{Touches, holds, now}

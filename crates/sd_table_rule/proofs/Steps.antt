@@ -13,7 +13,7 @@ use Rattle.sd_types.specs.declared.events.Which.{Which}
 use Rattle.sd_types.specs.declared.events.Which.TheVariants.{Running, Queued}
 use Rattle.sd_types.specs.declared.events.Entry.{Entry}
 use Rattle.sd_types.specs.declared.works.Work.{Work}
-use Rattle.sd_machine.specs.States.{cpu_of}
+use Rattle.sd_state.specs.States.{cpu_of}
 use Rattle.sd_homes.specs.declared.home.Home.{Home}
 use Rattle.sd_table_rule.specs.declared.views.Count.{Count}
 use Rattle.sd_table_rule.specs.declared.views.Note.{Note}

@@ -3,8 +3,8 @@
 use Rattle.std.specs.Prelude.{◌≡◌, ℕ, zero, suc, ◌^◌, ◌<◌, true, false, List, length, filter, ◌==◌}
 use Rattle.sd_types.specs.declared.events.Entry.{Entry}
 use Rattle.sd_types.specs.declared.works.Work.{Work}
-use Rattle.sd_machine.specs.declared.states.State.{State}
-use Rattle.sd_machine.specs.States.{cpu_of}
+use Rattle.sd_state.specs.declared.states.State.{State}
+use Rattle.sd_state.specs.States.{cpu_of}
 use Rattle.sd_homes.specs.declared.home.Home.{Home}
 use Rattle.sd_world.specs.Worlds.{Begins}
 use Rattle.sd_table_rule.specs.Places.{Stands, holds, home_count, now, place_home}

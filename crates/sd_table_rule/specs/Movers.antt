@@ -1,5 +1,5 @@
 -- The thread that an event may move to another place.
--- Source: this project's own; see `sd_full`'s Events.
+-- Source: this project's own; see `sd_machine`'s Events.
 use Rattle.std.specs.Prelude.{◌≡◌, ℕ, Option, Some, None, option_map}
 use Rattle.sd_types.specs.declared.numbers.ThreadId.{ThreadId}
 use Rattle.sd_types.specs.declared.events.Event.{Event}

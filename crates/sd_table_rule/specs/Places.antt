@@ -7,10 +7,10 @@ use Rattle.sd_types.specs.declared.numbers.HomeId.{HomeId}
 use Rattle.sd_types.specs.declared.events.Entry.{Entry}
 use Rattle.sd_types.specs.declared.events.Event.{Event}
 use Rattle.sd_types.specs.declared.works.Work.{Work}
-use Rattle.sd_machine.specs.declared.states.State.{State}
-use Rattle.sd_machine.specs.Opening.{opening}
-use Rattle.sd_machine.specs.States.{thread_of}
-use Rattle.sd_full.specs.Runs.{final}
+use Rattle.sd_state.specs.declared.states.State.{State}
+use Rattle.sd_state.specs.Opening.{opening}
+use Rattle.sd_state.specs.States.{thread_of}
+use Rattle.sd_machine.specs.Runs.{final}
 use Rattle.sd_store.specs.declared.parts.Part.{Part}
 use Rattle.sd_store.specs.Parts.{IsAmong}
 use Rattle.sd_step.specs.Touched.{after_parts}

@@ -1,9 +1,9 @@
 //! The whole run: the table is opened, phases follow one another, it is closed, and rounds end the run.
 
 ghost use Rattle.std.specs.Prelude.{◌≡◌, ℕ, ◌<◌, ◌≤◌, length, IfErr, IfOk, IsErrOf};
-ghost use Rattle.sd_full.specs.Runs.{IsComplete, IsRun, final, state_at};
+ghost use Rattle.sd_machine.specs.Runs.{IsComplete, IsRun, final, state_at};
 ghost use Rattle.sd_hand.specs.OneHome.{StandsInHomes};
-ghost use Rattle.sd_machine.specs.Opening.{opening};
+ghost use Rattle.sd_state.specs.Opening.{opening};
 ghost use Rattle.sd_rounds.specs.Rounds.{IsLongRun};
 ghost use Rattle.sd_threads.specs.Jobs.{seats_in};
 

@@ -18,19 +18,19 @@ use Rattle.sd_types.specs.declared.events.Event.{Event}
 use Rattle.sd_types.specs.declared.events.Event.TheVariants.{Tick, Spin, Idle, Assign, Joined, Bind}
 use Rattle.sd_types.specs.declared.works.Work.{Work}
 use Rattle.sd_types.specs.Events.{ticks}
-use Rattle.sd_machine.specs.declared.states.CpuState.{CpuState}
-use Rattle.sd_machine.specs.declared.states.State.{State}
-use Rattle.sd_machine.specs.Accounts.{cpu_ticks}
-use Rattle.sd_machine.specs.Opening.{opening}
-use Rattle.sd_machine.specs.States.{no_cpu, thread_of, cpu_of}
-use Rattle.sd_machine.proofs.BestLemmas.{and_right}
-use Rattle.sd_full.specs.Changes.{counted, run_tick, count_tick, with_body, put_where, close, join, bind, unbind, set_duty}
-use Rattle.sd_full.specs.Dispatching.{ticked, spun, idled}
-use Rattle.sd_full.specs.Events.{may_tick, drop_ageing, effect, after}
-use Rattle.sd_full.specs.Runs.{final, IsRunFrom}
-use Rattle.sd_full.specs.SetChanges.{cleared, assigned, joined, rebound, pbound}
-use Rattle.sd_full.specs.Threads.{runner}
-use Rattle.sd_full.proofs.RunLemmas.{IsRun-from}
+use Rattle.sd_state.specs.declared.states.CpuState.{CpuState}
+use Rattle.sd_state.specs.declared.states.State.{State}
+use Rattle.sd_state.specs.Accounts.{cpu_ticks}
+use Rattle.sd_state.specs.Opening.{opening}
+use Rattle.sd_state.specs.States.{no_cpu, thread_of, cpu_of}
+use Rattle.sd_state.proofs.BestLemmas.{and_right}
+use Rattle.sd_machine.specs.Changes.{counted, run_tick, count_tick, with_body, put_where, close, join, bind, unbind, set_duty}
+use Rattle.sd_machine.specs.Dispatching.{ticked, spun, idled}
+use Rattle.sd_machine.specs.Events.{may_tick, drop_ageing, effect, after}
+use Rattle.sd_machine.specs.Runs.{final, IsRunFrom}
+use Rattle.sd_machine.specs.SetChanges.{cleared, assigned, joined, rebound, pbound}
+use Rattle.sd_machine.specs.Threads.{runner}
+use Rattle.sd_machine.proofs.RunLemmas.{IsRun-from}
 use Rattle.sd_sound.specs.Causes.{IsCause}
 use Rattle.sd_sound.specs.Laws.{HoldsWhenReached}
 use Rattle.sd_sound.proofs.AgreedAfter.{IsReady}

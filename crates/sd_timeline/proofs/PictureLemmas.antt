@@ -13,11 +13,11 @@ use Rattle.sd_types.specs.declared.events.BindAnswer.TheVariants as bind
 use Rattle.sd_types.specs.declared.events.Event.{Event}
 use Rattle.sd_types.specs.declared.events.Event.TheVariants as event
 use Rattle.sd_types.specs.Partitions.{set_of_cpu}
-use Rattle.sd_full.specs.Texts.{set_name}
+use Rattle.sd_machine.specs.Texts.{set_name}
 use Rattle.sd_types.specs.declared.works.Work.{Work}
-use Rattle.sd_machine.specs.declared.states.State.{State}
-use Rattle.sd_machine.specs.Texts.{chan_name, lock_name, thread_name}
-use Rattle.sd_full.specs.LockGraph.{cycles_of}
+use Rattle.sd_state.specs.declared.states.State.{State}
+use Rattle.sd_state.specs.Texts.{chan_name, lock_name, thread_name}
+use Rattle.sd_machine.specs.LockGraph.{cycles_of}
 use Rattle.sd_stretches.specs.declared.sights.Doing.{Doing}
 use Rattle.sd_stretches.specs.declared.sights.Doing.TheVariants.{Running, Spinning, Runnable, Waiting, Asleep, Napping, Ended}
 use Rattle.sd_stretches.specs.declared.changes.HandOver.{HandOver}

@@ -2,7 +2,7 @@
 -- Source: this project's own.
 use Rattle.std.specs.Prelude.{ℕ, ◌+◌, ◌%◌, Bool, false, ◌&&◌, ◌==◌, nat_lt, List, [], ◌∷◌, ◌++◌, codes, decimal, filter, Option, Some, None, is_some, if◌then◌else◌}
 use Rattle.sd_types.specs.declared.works.Work.{Work}
-use Rattle.sd_machine.specs.Texts.{thread_name}
+use Rattle.sd_state.specs.Texts.{thread_name}
 use Rattle.sd_stretches.specs.declared.sights.Doing.TheVariants.{Waiting}
 use Rattle.sd_stretches.specs.declared.changes.HandOver.{HandOver}
 use Rattle.sd_stretches.specs.declared.changes.Wakeup.{Wakeup}

@@ -5,8 +5,8 @@ use Rattle.std.specs.List.{flat_map, range_with_len}
 use Rattle.sd_types.specs.declared.numbers.CpuId.{CpuId}
 use Rattle.sd_types.specs.declared.works.Work.{Work}
 use Rattle.sd_types.specs.Partitions.{set_of_cpu}
-use Rattle.sd_full.specs.Texts.{set_name}
-use Rattle.sd_machine.specs.Texts.{thread_name}
+use Rattle.sd_machine.specs.Texts.{set_name}
+use Rattle.sd_state.specs.Texts.{thread_name}
 use Rattle.sd_timeline.specs.declared.folds.Column.{Column}
 use Rattle.sd_timeline.specs.declared.layouts.Row.TheVariants.{Cpu, Thread}
 use Rattle.sd_timeline.specs.Layouts.{Layout, axes, axis_base, base, bottom, column, floor, is_clear, shown, step, total_width, under}

@@ -3,7 +3,7 @@
 use Rattle.std.specs.Prelude.{ℕ, ◌+◌, ◌*◌, ◌/◌, ◌%◌, Bool, true, false, not, ◌&&◌, ◌||◌, ◌==◌, List, [], ◌∷◌, ◌++◌, length, codes, filter, Option, Some, None, slice_get}
 use Rattle.std.specs.List.{flat_map, list_any, range_with_len}
 use Rattle.sd_types.specs.declared.works.Work.{Work}
-use Rattle.sd_machine.specs.Texts.{thread_name}
+use Rattle.sd_state.specs.Texts.{thread_name}
 use Rattle.sd_stretches.specs.declared.sights.Doing.{Doing}
 use Rattle.sd_stretches.specs.declared.sights.Doing.TheVariants as doing
 use Rattle.sd_stretches.specs.declared.changes.HandOver.{HandOver}

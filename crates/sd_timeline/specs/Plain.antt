@@ -2,7 +2,7 @@
 -- Source: XML 1.0, sections 2.2 (characters) and 2.4 (character data and markup).
 use Rattle.std.specs.Prelude.{ℕ}
 use Rattle.sd_types.specs.declared.works.Work.{Work}
-use Rattle.sd_machine.specs.declared.states.State.{State}
+use Rattle.sd_state.specs.declared.states.State.{State}
 use Rattle.sd_stretches.specs.declared.changes.HandOver.{HandOver}
 use Rattle.sd_stretches.specs.declared.changes.Wakeup.{Wakeup}
 use Rattle.sd_stretches.specs.declared.histories.History.{History}

@@ -2,7 +2,7 @@
 
 ghost use Rattle.std.specs.Prelude.{◌≡◌, ◌++◌, IfOk, OnOk, codes, flat_map, map, length, slice_get, None};
 ghost use Rattle.std.specs.List.{range_with_len};
-ghost use Rattle.sd_full.specs.LockGraph.{cycles_of};
+ghost use Rattle.sd_machine.specs.LockGraph.{cycles_of};
 ghost use Rattle.sd_timeline.specs.Arrows.{hand_texts, wake_text};
 ghost use Rattle.sd_timeline.specs.Labels.{mark_text};
 ghost use Rattle.sd_timeline.specs.Layouts.{row_of};
@@ -19,7 +19,7 @@ use crate::moments::put_moments;
 use crate::notes::put_notes;
 use crate::rows::layout_of;
 use sd_cycles::cycles;
-use sd_machine::State;
+use sd_state::State;
 use sd_stretches::{History, Stretch, Track, levels, pieces};
 use sd_types::{CpuId, Work};
 use std::alloc::{AllocError, Global};

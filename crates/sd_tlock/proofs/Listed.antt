@@ -1,8 +1,8 @@
 -- A thread stands in one of the lists of the home in which the state has it.
 use Rattle.std.proofs.Common.{◌≡◌, ℕ, ◌<◌, List, length, is_some, Option, Some, refl, sym, ap, ◌∙◌, subst}
 use Rattle.sd_types.specs.declared.numbers.ThreadId.{ThreadId}
-use Rattle.sd_machine.specs.declared.states.State.{State}
-use Rattle.sd_machine.specs.States.{thread_of}
+use Rattle.sd_state.specs.declared.states.State.{State}
+use Rattle.sd_state.specs.States.{thread_of}
 use Rattle.sd_shown.specs.Standing.{home_at, home_of, list_of}
 use Rattle.sd_homes.specs.declared.home.Home.{Home}
 use Rattle.sd_homes.specs.Families.{has, home_id, list_in}

@@ -1,10 +1,10 @@
 //! A processor that holds the chain of a lock takes the home of the lock's owner too.
 
 ghost use Rattle.std.specs.Prelude.{◌≡◌, ℕ, ◌<◌, true};
-ghost use Rattle.sd_full.specs.Threads.{lock_of};
+ghost use Rattle.sd_machine.specs.Threads.{lock_of};
 ghost use Rattle.sd_hand.specs.Acting.{IsShown, has_part};
 ghost use Rattle.sd_hand.specs.Hands.{how_many_held};
-ghost use Rattle.sd_machine.specs.declared.states.State.{State as StateOf};
+ghost use Rattle.sd_state.specs.declared.states.State.{State as StateOf};
 ghost use Rattle.sd_store.specs.Parts.{chain_part};
 ghost use Rattle.sd_table.specs.Seats.{Fits, id_of, work_of};
 ghost use Rattle.sd_tlock.specs.Interlocks.{SeatInterlocks, interlocked, owner_in};
@@ -12,7 +12,7 @@ ghost use Rattle.sd_world.specs.Plain.{StandsInRun};
 
 use crate::threads::try_lock_thread;
 use sd_hand::Acting;
-use sd_machine::LockState;
+use sd_state::LockState;
 use sd_store::Look;
 use sd_table::{Seat, Shared};
 use sd_types::{CpuId, HomeId, LockId, ThreadId};

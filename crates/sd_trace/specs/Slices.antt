@@ -2,7 +2,7 @@
 -- Source: Trace Event Format (complete events).
 use Rattle.std.specs.Prelude.{ℕ, ◌-◌, max, List, [], ◌∷◌, ◌++◌, codes, decimal}
 use Rattle.sd_types.specs.declared.works.Work.{Work}
-use Rattle.sd_machine.specs.Texts.{lock_name, thread_name}
+use Rattle.sd_state.specs.Texts.{lock_name, thread_name}
 use Rattle.sd_stretches.specs.declared.sights.Doing.{Doing}
 use Rattle.sd_stretches.specs.declared.sights.Doing.TheVariants.{Spinning}
 use Rattle.sd_stretches.specs.declared.rows.Stretch.{Stretch}

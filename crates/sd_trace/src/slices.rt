@@ -1,7 +1,7 @@
 //! The slices of the stretches of threads.
 
 ghost use Rattle.std.specs.Prelude.{◌≡◌, ◌++◌, OnOk, codes, decimal, flat_map, max};
-ghost use Rattle.sd_machine.specs.Texts.{thread_name};
+ghost use Rattle.sd_state.specs.Texts.{thread_name};
 ghost use Rattle.sd_trace.specs.Slices.{about, class_argument, class_start, entry_arguments, length_of, priority_argument, run_name, run_slice, slice_kind, spin_words, state_slice, state_slices};
 
 use crate::words::{class_word, cpu_number, micros, put_place};

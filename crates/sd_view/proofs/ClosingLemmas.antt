@@ -6,9 +6,9 @@ use Rattle.sd_types.specs.declared.events.Entry.{Entry}
 use Rattle.sd_types.specs.declared.works.Work.{Work}
 use Rattle.sd_text.specs.Lines.{EndsLine}
 use Rattle.sd_text.proofs.PieceLemmas.{EndsLine-append, EndsLine-newline}
-use Rattle.sd_machine.specs.declared.states.State.{State}
-use Rattle.sd_machine.specs.Opening.{opening}
-use Rattle.sd_full.specs.Events.{after}
+use Rattle.sd_state.specs.declared.states.State.{State}
+use Rattle.sd_state.specs.Opening.{opening}
+use Rattle.sd_machine.specs.Events.{after}
 use Rattle.sd_audit.specs.Audits.{entry_line}
 use Rattle.sd_stretches.specs.declared.histories.History.{History}
 use Rattle.sd_sentences.specs.Sentences.{sentence}

@@ -2,9 +2,9 @@
 
 ghost use Rattle.std.specs.Prelude.{◌≡◌, ◌<◌, ◌^◌, ℕ, List as Items, IfOk, IfErr, length};
 ghost use Rattle.sd_types.specs.declared.events.Entry.{Entry as EntryValue};
-ghost use Rattle.sd_machine.specs.declared.states.State.{State as StateValue};
-ghost use Rattle.sd_machine.specs.Opening.{opening};
-ghost use Rattle.sd_full.specs.Runs.{final};
+ghost use Rattle.sd_state.specs.declared.states.State.{State as StateValue};
+ghost use Rattle.sd_state.specs.Opening.{opening};
+ghost use Rattle.sd_machine.specs.Runs.{final};
 ghost use Rattle.sd_audit.specs.Audits.{IsFault, IsJournal, IsMemory};
 ghost use Rattle.sd_gather.specs.Journals.{HasJournal, IsJournalOf};
 ghost use Rattle.sd_view.specs.declared.drawings.Drawing.TheVariants.{Report, Sheet, Timeline, Trace};
@@ -13,8 +13,8 @@ ghost use Rattle.sd_view.specs.Drawings.{IsDrawingOf, IsDrawn};
 use crate::frames::frame_of;
 use sd_audit::{AuditFault, audit};
 use sd_gather::gather;
-use sd_machine::State;
 use sd_report::{report, sheet};
+use sd_state::State;
 use sd_story::{Selection, tell};
 use sd_timeline::timeline;
 use sd_trace::trace;

@@ -4,9 +4,9 @@ use Rattle.std.specs.Prelude.{nat_le}
 use Rattle.std.specs.List.{list_all}
 use Rattle.std.proofs.lemmas.Option.{get_or_from_slice_get, slice_get-get_or}
 use Rattle.sd_types.specs.declared.numbers.CpuId.{CpuId}
-use Rattle.sd_machine.specs.declared.states.CpuState.{CpuState}
-use Rattle.sd_machine.specs.declared.states.State.{State}
-use Rattle.sd_machine.specs.States.{no_cpu}
+use Rattle.sd_state.specs.declared.states.CpuState.{CpuState}
+use Rattle.sd_state.specs.declared.states.State.{State}
+use Rattle.sd_state.specs.States.{no_cpu}
 use Rattle.sd_hand.specs.declared.acting.Actor.{Actor}
 use Rattle.sd_snapshot.specs.Told.{AreActorsOf, IsActorOf}
 

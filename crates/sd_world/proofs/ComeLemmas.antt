@@ -16,15 +16,15 @@ use Rattle.sd_types.specs.declared.numbers.Side.TheVariants.{Writer, Reader}
 use Rattle.sd_types.specs.declared.works.Work.{Work}
 use Rattle.sd_types.specs.Willed.{IsSound}
 use Rattle.sd_record.specs.Records.{ThreadRecord}
-use Rattle.sd_machine.specs.declared.states.Place.{Place}
-use Rattle.sd_machine.specs.declared.states.Place.TheVariants.{Running, Queued, RealTime, Waiting, Asleep, Napping, Ended}
-use Rattle.sd_machine.specs.declared.states.State.{State}
-use Rattle.sd_machine.specs.declared.states.ThreadState.{ThreadState}
-use Rattle.sd_machine.specs.States.{is_running, key_of, no_thread, thread_of}
-use Rattle.sd_full.specs.Runs.{IsReached}
-use Rattle.sd_full.specs.Shapes.{FitsFully}
-use Rattle.sd_full.specs.Threads.{same_side as same_waiting}
-use Rattle.sd_machine.specs.Invariants.{IsThere, KeysDiffer, KeysWithin, OneRuns, has_key, same_queue, same_side}
+use Rattle.sd_state.specs.declared.states.Place.{Place}
+use Rattle.sd_state.specs.declared.states.Place.TheVariants.{Running, Queued, RealTime, Waiting, Asleep, Napping, Ended}
+use Rattle.sd_state.specs.declared.states.State.{State}
+use Rattle.sd_state.specs.declared.states.ThreadState.{ThreadState}
+use Rattle.sd_state.specs.States.{is_running, key_of, no_thread, thread_of}
+use Rattle.sd_machine.specs.Runs.{IsReached}
+use Rattle.sd_machine.specs.Shapes.{FitsFully}
+use Rattle.sd_machine.specs.Threads.{same_side as same_waiting}
+use Rattle.sd_state.specs.Invariants.{IsThere, KeysDiffer, KeysWithin, OneRuns, has_key, same_queue, same_side}
 use Rattle.sd_sound.proofs.FineLemmas.{sound_law}
 use Rattle.sd_sound.proofs.KeyLemmas.{keys_differ_law, keys_within_law}
 use Rattle.sd_sound.proofs.Ready.{kept_reached, reached_ready}

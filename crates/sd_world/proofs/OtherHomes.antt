@@ -6,12 +6,12 @@ use Rattle.std.proofs.lemmas.Bool.{cases_lt, eqb-true}
 use Rattle.std.proofs.lemmas.Option.{slice_get-get_or}
 use Rattle.sd_types.specs.declared.numbers.HomeId.{HomeId}
 use Rattle.sd_types.specs.declared.numbers.HomeId.TheVariants as id
-use Rattle.sd_machine.specs.declared.states.State.{State}
-use Rattle.sd_machine.specs.declared.states.ThreadState.{ThreadState}
-use Rattle.sd_machine.specs.States.{cpu_of, no_thread, thread_of}
-use Rattle.sd_machine.proofs.BestLemmas.{and_right}
-use Rattle.sd_full.specs.Threads.{count_of, lock_of, open_of}
-use Rattle.sd_full.proofs.ShapeLemmas.{IsShaped}
+use Rattle.sd_state.specs.declared.states.State.{State}
+use Rattle.sd_state.specs.declared.states.ThreadState.{ThreadState}
+use Rattle.sd_state.specs.States.{cpu_of, no_thread, thread_of}
+use Rattle.sd_state.proofs.BestLemmas.{and_right}
+use Rattle.sd_machine.specs.Threads.{count_of, lock_of, open_of}
+use Rattle.sd_machine.proofs.ShapeLemmas.{IsShaped}
 use Rattle.sd_store.specs.declared.parts.Part.{Part}
 use Rattle.sd_store.specs.declared.parts.Part.TheVariants.{Home as HomePart, Thread}
 use Rattle.sd_store.specs.Parts.{view_of}

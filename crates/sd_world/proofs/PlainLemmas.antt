@@ -12,13 +12,13 @@ use Rattle.sd_types.specs.declared.events.Entry.{Entry}
 use Rattle.sd_types.specs.declared.events.Event.{Event}
 use Rattle.sd_types.specs.declared.events.Hints.{Hints}
 use Rattle.sd_types.specs.declared.works.Work.{Work}
-use Rattle.sd_machine.specs.declared.states.State.{State}
-use Rattle.sd_machine.specs.Opening.{opening}
-use Rattle.sd_machine.specs.States.{cpu_of, thread_of}
-use Rattle.sd_full.specs.Events.{after, next}
-use Rattle.sd_full.specs.Runs.{IsReached, IsRun, final, state_at}
-use Rattle.sd_full.proofs.RunLemmas.{IsRun-append, IsRunFrom-one, final-append, final-push}
-use Rattle.sd_full.proofs.ShapeLemmas.{after_shape}
+use Rattle.sd_state.specs.declared.states.State.{State}
+use Rattle.sd_state.specs.Opening.{opening}
+use Rattle.sd_state.specs.States.{cpu_of, thread_of}
+use Rattle.sd_machine.specs.Events.{after, next}
+use Rattle.sd_machine.specs.Runs.{IsReached, IsRun, final, state_at}
+use Rattle.sd_machine.proofs.RunLemmas.{IsRun-append, IsRunFrom-one, final-append, final-push}
+use Rattle.sd_machine.proofs.ShapeLemmas.{after_shape}
 use Rattle.sd_sound.proofs.Whole.{fit_reached}
 use Rattle.sd_store.specs.declared.parts.Part.{Part}
 use Rattle.sd_store.specs.declared.parts.Part.TheVariants as part

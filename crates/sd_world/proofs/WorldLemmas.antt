@@ -9,10 +9,10 @@ use Rattle.sd_types.specs.declared.numbers.CpuId.{CpuId}
 use Rattle.sd_types.specs.declared.events.Entry.{Entry}
 use Rattle.sd_types.specs.declared.events.Which.{Which}
 use Rattle.sd_types.specs.declared.works.Work.{Work}
-use Rattle.sd_machine.specs.States.{cpu_of}
-use Rattle.sd_machine.specs.Opening.{opening}
-use Rattle.sd_full.specs.Choosing.{hint_shown}
-use Rattle.sd_full.specs.Runs.{IsRun, final}
+use Rattle.sd_state.specs.States.{cpu_of}
+use Rattle.sd_state.specs.Opening.{opening}
+use Rattle.sd_machine.specs.Choosing.{hint_shown}
+use Rattle.sd_machine.specs.Runs.{IsRun, final}
 use Rattle.sd_sound.proofs.Whole.{fit_reached}
 use Rattle.sd_hand.specs.OneHome.{AreAllHomes}
 use Rattle.sd_snapshot.specs.Told.{AreActorsOf, IsActorOf}

@@ -4,7 +4,7 @@
 use Rattle.std.specs.Prelude.{◌≡◌, ℕ, ◌+◌, ◌<◌, nat_lt, List, [], Option, Some, None, length, slice_get, if◌then◌else◌}
 use Rattle.sd_types.specs.declared.numbers.HomeId.{HomeId}
 use Rattle.sd_types.specs.declared.numbers.HomeId.TheVariants as id
-use Rattle.sd_machine.specs.declared.states.State.{State}
+use Rattle.sd_state.specs.declared.states.State.{State}
 use Rattle.sd_shown.specs.Standing.{ByNumber, look_of}
 use Rattle.sd_homes.specs.declared.home.Home.{Home}
 use Rattle.sd_shown.specs.declared.list_id.ListId.{ListId}

@@ -7,12 +7,12 @@ use Rattle.sd_types.specs.declared.events.Which.TheVariants.{Running as OfRunnin
 use Rattle.sd_types.specs.declared.events.Entry.{Entry}
 use Rattle.sd_types.specs.declared.numbers.CpuId.{CpuId}
 use Rattle.sd_types.specs.declared.works.Work.{Work}
-use Rattle.sd_machine.specs.declared.states.State.{State}
-use Rattle.sd_machine.specs.Opening.{opening}
-use Rattle.sd_full.specs.Runs.{IsReached, IsRun, final, state_at}
-use Rattle.sd_machine.specs.States.{cpu_of}
-use Rattle.sd_full.specs.Choosing.{hint_shown}
-use Rattle.sd_full.specs.Threads.{best_unbound, runner}
+use Rattle.sd_state.specs.declared.states.State.{State}
+use Rattle.sd_state.specs.Opening.{opening}
+use Rattle.sd_machine.specs.Runs.{IsReached, IsRun, final, state_at}
+use Rattle.sd_state.specs.States.{cpu_of}
+use Rattle.sd_machine.specs.Choosing.{hint_shown}
+use Rattle.sd_machine.specs.Threads.{best_unbound, runner}
 use Rattle.sd_hand.specs.OneHome.{AreAllHomes, StandsInHomes}
 use Rattle.sd_snapshot.specs.Told.{AreActorsOf, IsActorOf}
 use Rattle.sd_types.specs.declared.events.Duty.TheVariants.{Nothing}

@@ -2,7 +2,7 @@
 
 ghost use Rattle.std.specs.Prelude.{◌≡◌, ◌<◌, length, IfOk};
 ghost use Rattle.sd_types.specs.declared.numbers.HomeId.TheVariants.{Chain, Cpu, RealTime, Sleepers};
-ghost use Rattle.sd_full.specs.Threads.{count_of, lock_of, open_of};
+ghost use Rattle.sd_machine.specs.Threads.{count_of, lock_of, open_of};
 ghost use Rattle.sd_store.specs.Parts.{view_of};
 ghost use Rattle.sd_homes.specs.Families.{home_id};
 ghost use Rattle.sd_world.specs.Homes.{IsBare, IsNumber, sizes_of};
@@ -13,7 +13,7 @@ use sd_boxed::Boxed;
 use sd_flat::cpu_of;
 use sd_four::Four;
 use sd_homes::{ChainHome, CpuHome, Home, RealTimeHome, SleepersHome};
-use sd_machine::{CpuState, LockState, State};
+use sd_state::{CpuState, LockState, State};
 use sd_store::CpuView;
 use sd_types::{CpuId, HomeId, LockId, SetId};
 use std::alloc::{AllocError, Global};

@@ -1,9 +1,9 @@
 //! The number that a processor shows to others, as its home tells it.
 
 ghost use Rattle.std.specs.Prelude.{◌≡◌, ℕ, ◌<◌, option_map, true, IfSome};
-ghost use Rattle.sd_machine.specs.declared.states.State.{State as StateOf};
-ghost use Rattle.sd_full.specs.Choosing.{hint_of, hint_shown};
-ghost use Rattle.sd_full.specs.Threads.{priority_of};
+ghost use Rattle.sd_state.specs.declared.states.State.{State as StateOf};
+ghost use Rattle.sd_machine.specs.Choosing.{hint_of, hint_shown};
+ghost use Rattle.sd_machine.specs.Threads.{priority_of};
 ghost use Rattle.sd_hand.specs.Acting.{IsShown, has_part};
 ghost use Rattle.sd_store.specs.Parts.{cpu_part, number, thread_part};
 ghost use Rattle.sd_world.specs.Plain.{StandsInRun, thread_shown};

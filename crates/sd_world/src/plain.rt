@@ -2,8 +2,8 @@
 //! queues, between which the boxes of threads move.
 
 ghost use Rattle.std.specs.Prelude.{◌≡◌, ◌≤◌, [], length, IfOk};
-ghost use Rattle.sd_full.specs.Runs.{IsRun, final};
-ghost use Rattle.sd_machine.specs.Opening.{opening};
+ghost use Rattle.sd_machine.specs.Runs.{IsRun, final};
+ghost use Rattle.sd_state.specs.Opening.{opening};
 ghost use Rattle.sd_snapshot.specs.Told.{AreActorsOf, IsActorOf};
 ghost use Rattle.sd_world.specs.Plain.{HasStood, Stands, told};
 
@@ -12,10 +12,10 @@ use crate::world::Behind;
 use sd_flat::cpu_of;
 use sd_hand::{Acting, Actor};
 use sd_homes::list_at;
-use sd_machine::State;
 use sd_opening::opening;
 use sd_shown::ListId;
 use sd_snapshot::state_of;
+use sd_state::State;
 use sd_types::{CpuId, Entry, Work};
 use std::alloc::{AllocError, Global};
 

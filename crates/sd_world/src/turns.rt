@@ -3,8 +3,8 @@
 ghost use Rattle.std.specs.Prelude.{◌≡◌, ◌++◌, ◌<◌, ◌≤◌, ◌∷◌, ◌==◌, [], Some, filter, length, map, nat_le, not, vec_capacity, vec_len, MatchOption};
 ghost use Rattle.std.specs.List.{list_all};
 ghost use Rattle.sd_types.specs.declared.events.Which.TheVariants.{Queued};
-ghost use Rattle.sd_full.specs.Choosing.{hint_shown};
-ghost use Rattle.sd_full.specs.Events.{may_tick, next};
+ghost use Rattle.sd_machine.specs.Choosing.{hint_shown};
+ghost use Rattle.sd_machine.specs.Events.{may_tick, next};
 ghost use Rattle.sd_world.specs.Entries.{CanEnter, Enters};
 ghost use Rattle.sd_world.specs.Plain.{AreCpus, HasNoted, IsLess, NoneLess, Stands, told};
 

@@ -1,7 +1,7 @@
 //! Whether a processor may tick, in a state that is one value.
 
 use crate::Clock;
-use sd_machine::State;
+use sd_state::State;
 use sd_types::{CpuId, Work};
 
 impl Clock for State {

@@ -1,15 +1,15 @@
 //! Looking at a state that is one value.
 
 ghost use Rattle.std.specs.Prelude.{◌≡◌, ◌<◌, IfSome, option_map};
-ghost use Rattle.sd_full.specs.Walking.{is_back};
-ghost use Rattle.sd_machine.specs.States.{thread_of};
+ghost use Rattle.sd_machine.specs.Walking.{is_back};
+ghost use Rattle.sd_state.specs.States.{thread_of};
 ghost use Rattle.sd_store.specs.Keyless.{spot_of};
 ghost use Rattle.sd_store.specs.Parts.{number, view_of};
 
 use crate::keyless::{rouse_key, task_of};
 use crate::{CpuView, Look, Spot, Task};
 use sd_flat::{cpu_of, place_of};
-use sd_machine::{CpuState, LockState, Place, State};
+use sd_state::{CpuState, LockState, Place, State};
 use sd_types::{ChanId, CpuId, Duty, LockId, SetId, Side, ThreadBody, ThreadId};
 
 /// What a state lacks: nothing.

@@ -1,7 +1,7 @@
 //! Changing a state that is one value.
 
 ghost use Rattle.std.specs.Prelude.{◌≡◌};
-ghost use Rattle.sd_full.specs.Walking.{next_walk};
+ghost use Rattle.sd_machine.specs.Walking.{next_walk};
 ghost use Rattle.sd_store.specs.Bodies.{changed};
 ghost use Rattle.sd_store.specs.Flat.{CanChangeBody};
 
@@ -9,7 +9,7 @@ use crate::flat::Never;
 use crate::keyless::{duty_of, place_by, place_put, rouse};
 use crate::{BodyChange, Chore, Destination, Store};
 use sd_flat::{cpu_of, is_looped, is_thread, place_of, script_of};
-use sd_machine::{LockState, Place, State};
+use sd_state::{LockState, Place, State};
 use sd_types::{ChanId, CpuId, Duty, LockId, Put, ThreadBody, ThreadId, Work};
 
 /// Where the walk goes from the owner `o`, which is looped or not, at a place.
@@ -51,19 +51,19 @@ fn change(work: &Work, t: ThreadId, change: BodyChange, b: &mut ThreadBody)
 }
 
 impl Store for State {
-    #[tactic(auto, unfolding(sd_full::specs::Changes::set_duty))]
+    #[tactic(auto, unfolding(sd_machine::specs::Changes::set_duty))]
     fn set_duty(&mut self, c: CpuId, chore: Chore) -> Result<(), Never> {
         sd_flat::set_duty(self, c, duty_of(chore));
         Ok(())
     }
 
-    #[tactic(auto, unfolding(sd_full::specs::Changes::set_duty))]
+    #[tactic(auto, unfolding(sd_machine::specs::Changes::set_duty))]
     fn begin_rouse(&mut self, number: u64, c: CpuId, k: ChanId) -> Result<(), Never> {
         sd_flat::set_duty(self, c, rouse(number, k));
         Ok(())
     }
 
-    #[tactic(auto, unfolding(crate::specs::Walks::walk_begun, sd_full::specs::Changes::set_duty))]
+    #[tactic(auto, unfolding(crate::specs::Walks::walk_begun, sd_machine::specs::Changes::set_duty))]
     fn begin_walk(&mut self, c: CpuId, t: ThreadId) -> Result<(), Never> {
         if let Place::Waiting(lock, _, key) = place_of(self, t) {
             sd_flat::set_duty(self, c, Duty::Walk { lock, seek: t, key });
@@ -71,7 +71,7 @@ impl Store for State {
         Ok(())
     }
 
-    #[tactic(auto, unfolding(crate::specs::Walks::walk_gone_on, sd_full::specs::Changes::set_duty))]
+    #[tactic(auto, unfolding(crate::specs::Walks::walk_gone_on, sd_machine::specs::Changes::set_duty))]
     fn walk_on(&mut self, c: CpuId, o: ThreadId) -> Result<(), Never> {
         let duty = next_walk(
             cpu_of(self, c).duty,
@@ -83,19 +83,19 @@ impl Store for State {
         Ok(())
     }
 
-    #[tactic(auto, unfolding(sd_full::specs::Changes::count_tick))]
+    #[tactic(auto, unfolding(sd_machine::specs::Changes::count_tick))]
     fn count_tick(&mut self, work: &Work, c: CpuId) -> Result<(), Never> {
         sd_flat::count_tick(work, self, c);
         Ok(())
     }
 
-    #[tactic(auto, unfolding(sd_full::specs::Changes::clear_marks))]
+    #[tactic(auto, unfolding(sd_machine::specs::Changes::clear_marks))]
     fn clear_marks(&mut self, c: CpuId) -> Result<(), Never> {
         sd_flat::clear_marks(self, c);
         Ok(())
     }
 
-    #[tactic(auto, unfolding(sd_full::specs::Changes::set_mark))]
+    #[tactic(auto, unfolding(sd_machine::specs::Changes::set_mark))]
     fn set_mark(&mut self, c: CpuId, m: u8) -> Result<(), Never> {
         sd_flat::set_mark(self, c, m);
         Ok(())
@@ -115,13 +115,13 @@ impl Store for State {
         Ok(())
     }
 
-    #[tactic(auto, unfolding(sd_full::specs::Changes::run_on))]
+    #[tactic(auto, unfolding(sd_machine::specs::Changes::run_on))]
     fn run_on(&mut self, t: ThreadId, c: CpuId) -> Result<(), Never> {
         sd_flat::run_on(self, t, c);
         Ok(())
     }
 
-    #[tactic(auto, unfolding(sd_full::specs::Changes::leave))]
+    #[tactic(auto, unfolding(sd_machine::specs::Changes::leave))]
     fn leave(&mut self, number: u64, c: CpuId, t: ThreadId, to: Destination) -> Result<(), Never> {
         sd_flat::leave(self, c, t, place_by(number, c, to));
         Ok(())

@@ -1,6 +1,6 @@
 use Rattle.std.proofs.Common.{◌≡◌, ◌++◌, take}
 use Rattle.std.specs.List.{flat_map}
-use Rattle.sd_full.specs.Texts.{cycle_word}
+use Rattle.sd_machine.specs.Texts.{cycle_word}
 use Rattle.sd_accounts.proofs.cycle_lines.put_cycle_words.Given as goal
 
 abbrev pub invariant-loop-t : goal.invariant-loop-t

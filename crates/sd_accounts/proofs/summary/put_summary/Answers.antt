@@ -2,8 +2,8 @@ use Rattle.std.proofs.Common.{ℕ, List, ◌++◌, ap, ◌∙◌}
 use Rattle.std.specs.Prelude.{codes}
 use Rattle.std.specs.List.{count_by}
 use Rattle.std.proofs.lemmas.Result.{on_ok_weaker}
-use Rattle.sd_full.specs.Threads.{has_ended}
-use Rattle.sd_full.specs.Texts.{count_line}
+use Rattle.sd_machine.specs.Threads.{has_ended}
+use Rattle.sd_machine.specs.Texts.{count_line}
 use Rattle.sd_accounts.specs.Counters.{counted_summary}
 use Rattle.sd_accounts.proofs.TextLemmas.{ten_lines}
 use Rattle.sd_accounts.proofs.summary.put_summary.Goals as goal

@@ -1,7 +1,7 @@
 use Rattle.std.proofs.Common.{◌≡◌, ℕ, List, ◌++◌, drop, sym, ap, subst, ◌∙◌}
 use Rattle.std.proofs.lemmas.List.{take_rest}
-use Rattle.sd_full.specs.Texts.{entries_text, journal}
-use Rattle.sd_full.specs.Runs.{IsComplete}
+use Rattle.sd_machine.specs.Texts.{entries_text, journal}
+use Rattle.sd_machine.specs.Runs.{IsComplete}
 use Rattle.sd_audit.specs.Audits.{tail_text}
 use Rattle.sd_audit.proofs.audits.check_tail.Goals as goal
 

@@ -1,4 +1,4 @@
-use Rattle.sd_full.specs.Plans.{plan}
+use Rattle.sd_machine.specs.Plans.{plan}
 use Rattle.sd_step.specs.Needed.{plan_parts, read_parts}
 use Rattle.sd_store.proofs.Among.{among_left}
 use Rattle.sd_cpu.proofs.SeekLemmas.{course_lack, course_value}

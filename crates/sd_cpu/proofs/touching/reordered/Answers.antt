@@ -1,5 +1,5 @@
 use Rattle.std.proofs.Common.{sym, subst, ◌∙◌}
-use Rattle.sd_machine.specs.States.{thread_of}
+use Rattle.sd_state.specs.States.{thread_of}
 use Rattle.sd_store.specs.Parts.{thread_part}
 use Rattle.sd_cpu.specs.Has.{Has}
 use Rattle.sd_cpu.proofs.HasLemmas.{also, reordered_is, reordered_not}

@@ -1,6 +1,6 @@
 use Rattle.std.proofs.Common.{ℕ, List, ◌++◌, length, map, option_map, sym, ap, ◌∙◌}
 use Rattle.sd_chains.specs.Cycles.{cycles_below, none_or_one}
-use Rattle.sd_full.specs.LockGraph.{graph}
+use Rattle.sd_machine.specs.LockGraph.{graph}
 use Rattle.sd_cycles.proofs.LapSteps.{cycles_more, cycles_none}
 use Rattle.sd_cycles.proofs.laps.cycles.Goals as goal
 

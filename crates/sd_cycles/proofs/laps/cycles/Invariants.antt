@@ -1,6 +1,6 @@
 use Rattle.std.proofs.Common.{◌≡◌, length, map}
 use Rattle.sd_chains.specs.Cycles.{cycles_below}
-use Rattle.sd_full.specs.LockGraph.{graph}
+use Rattle.sd_machine.specs.LockGraph.{graph}
 use Rattle.sd_cycles.proofs.laps.cycles.Given as goal
 
 abbrev pub invariant-loop-first : goal.invariant-loop-first

@@ -1,6 +1,6 @@
 use Rattle.std.proofs.Common.{◌≡◌, ℕ, ◌+◌, ◌-◌, ◌<◌, List, [], ◌∷◌, ◌++◌, length, Some, option_map, sym, ap, ◌∙◌, arith}
 use Rattle.sd_chains.specs.Cycles.{lap}
-use Rattle.sd_full.specs.LockGraph.{graph}
+use Rattle.sd_machine.specs.LockGraph.{graph}
 use Rattle.sd_cycles.proofs.LapSteps.{lap_ends, lap_back, lap_less, lap_on, lap_out}
 use Rattle.sd_cycles.proofs.laps.lap.Goals as goal
 

@@ -1,6 +1,6 @@
 use Rattle.std.proofs.Common.{◌≡◌, ◌-◌, ◌++◌, length, option_map}
 use Rattle.sd_chains.specs.Cycles.{lap}
-use Rattle.sd_full.specs.LockGraph.{graph}
+use Rattle.sd_machine.specs.LockGraph.{graph}
 use Rattle.sd_cycles.proofs.laps.lap.Given as goal
 
 -- the threads that were passed and the rest of the lap are the whole lap

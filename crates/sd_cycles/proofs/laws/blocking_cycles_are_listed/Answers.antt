@@ -1,6 +1,6 @@
 use Rattle.std.proofs.Common.{length}
 use Rattle.sd_chains.proofs.CycleLemmas.{lists_cycles}
-use Rattle.sd_full.specs.LockGraph.{graph, cycles_of}
+use Rattle.sd_machine.specs.LockGraph.{graph, cycles_of}
 use Rattle.sd_cycles.proofs.StateGraphs.{waits_inside}
 use Rattle.sd_cycles.proofs.laws.blocking_cycles_are_listed.Goals as goal
 

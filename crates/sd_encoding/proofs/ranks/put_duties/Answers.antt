@@ -1,7 +1,7 @@
 use Rattle.std.proofs.Common.{List, false, None, get_or, set, sym, ap, ◌∙◌, arith}
 use Rattle.std.proofs.lemmas.List.{take_all}
 use Rattle.sd_types.specs.declared.events.Duty.TheVariants.{Nothing}
-use Rattle.sd_machine.specs.declared.states.CpuState.{CpuState}
+use Rattle.sd_state.specs.declared.states.CpuState.{CpuState}
 use Rattle.sd_encoding.specs.Rewriting.{with_duties}
 use Rattle.sd_encoding.proofs.RankLemmas.{no_duties, duties_more}
 use Rattle.sd_encoding.proofs.ranks.put_duties.Goals as goal

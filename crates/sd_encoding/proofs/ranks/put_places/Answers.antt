@@ -1,7 +1,7 @@
 use Rattle.std.proofs.Common.{List, get_or, set, sym, ap, ◌∙◌, arith}
 use Rattle.std.proofs.lemmas.List.{take_all}
-use Rattle.sd_machine.specs.declared.states.Place.TheVariants.{Running}
-use Rattle.sd_machine.specs.declared.states.ThreadState.{ThreadState}
+use Rattle.sd_state.specs.declared.states.Place.TheVariants.{Running}
+use Rattle.sd_state.specs.declared.states.ThreadState.{ThreadState}
 use Rattle.sd_encoding.specs.Rewriting.{with_places}
 use Rattle.sd_encoding.proofs.RankLemmas.{no_places, places_more}
 use Rattle.sd_encoding.proofs.ranks.put_places.Goals as goal

@@ -1,6 +1,6 @@
 use Rattle.std.proofs.Common.{sym, ap, ◌∙◌}
 use Rattle.std.proofs.lemmas.Bool.{false≢true}
-use Rattle.sd_full.specs.Texts.{entry_text}
+use Rattle.sd_machine.specs.Texts.{entry_text}
 use Rattle.sd_spelling.specs.Fitting.{entry_fits}
 use Rattle.sd_spelling.proofs.LineLemmas.{line_read}
 use Rattle.sd_entry_reader.proofs.read.read_entry.Goals as goal

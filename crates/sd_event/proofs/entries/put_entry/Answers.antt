@@ -1,7 +1,7 @@
 use Rattle.std.proofs.Common.{◌≤◌, length, arith, rules, ◌∙◌}
 use Rattle.std.specs.Prelude.{codes, decimal}
 use Rattle.std.proofs.lemmas.Fmt.{length-decimal-le}
-use Rattle.sd_full.specs.Texts.{event_text, hints_text, entry_text}
+use Rattle.sd_machine.specs.Texts.{event_text, hints_text, entry_text}
 use Rattle.sd_event.proofs.LineLemmas.{ends_behind, line_between, first_before}
 use Rattle.sd_event.proofs.entries.put_entry.Goals as goal
 

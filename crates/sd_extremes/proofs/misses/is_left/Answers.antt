@@ -1,7 +1,7 @@
 use Rattle.std.proofs.Common.{◌∙◌, ap}
-use Rattle.sd_machine.specs.declared.states.State.{State}
-use Rattle.sd_machine.specs.States.{thread_of}
-use Rattle.sd_full.specs.Threads.{has_ended}
+use Rattle.sd_state.specs.declared.states.State.{State}
+use Rattle.sd_state.specs.States.{thread_of}
+use Rattle.sd_machine.specs.Threads.{has_ended}
 use Rattle.sd_search.specs.Graphs.{packed}
 use Rattle.sd_search.proofs.TellLemmas.{at_same}
 use Rattle.sd_extremes.proofs.MissLemmas.{left_tells}

@@ -1,6 +1,6 @@
 use Rattle.std.proofs.Common.{◌+◌, sym, ap, ◌∙◌, subst}
 use Rattle.std.proofs.lemmas.Bool.{false≢true}
-use Rattle.sd_machine.specs.declared.states.CpuState.{CpuState}
+use Rattle.sd_state.specs.declared.states.CpuState.{CpuState}
 use Rattle.sd_search.specs.Graphs.{packed, steps_of}
 use Rattle.sd_search.proofs.PathLemmas.{fit_at}
 use Rattle.sd_extremes.specs.declared.marks.Span.{Span}

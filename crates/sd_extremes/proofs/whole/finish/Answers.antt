@@ -1,5 +1,5 @@
 use Rattle.std.proofs.Common.{length}
-use Rattle.sd_full.specs.Runs.{turn}
+use Rattle.sd_machine.specs.Runs.{turn}
 use Rattle.sd_extremes.proofs.WholeLemmas as W
 use Rattle.sd_extremes.proofs.whole.finish.Goals as goal
 

@@ -1,7 +1,7 @@
 use Rattle.std.proofs.Common.{◌≡◌, ◌<◌, Option, None}
 use Rattle.sd_types.specs.declared.numbers.CpuId.{CpuId}
 use Rattle.sd_types.specs.declared.events.Hints.{Hints}
-use Rattle.sd_full.specs.Events.{next}
+use Rattle.sd_machine.specs.Events.{next}
 use Rattle.sd_extremes.proofs.whole.first_able.Given as goal
 
 abbrev pub invariant-loop-c : goal.invariant-loop-c

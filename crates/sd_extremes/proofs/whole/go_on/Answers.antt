@@ -1,5 +1,5 @@
 use Rattle.std.proofs.Common.{◌≡◌, length, sym, subst, arith}
-use Rattle.sd_full.specs.Runs.{IsReached}
+use Rattle.sd_machine.specs.Runs.{IsReached}
 use Rattle.sd_extremes.proofs.WholeLemmas as W
 use Rattle.sd_extremes.proofs.whole.go_on.Goals as goal
 

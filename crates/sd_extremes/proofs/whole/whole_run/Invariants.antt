@@ -1,6 +1,6 @@
 use Rattle.std.proofs.Common.{◌≡◌, ◌++◌, length, drop}
-use Rattle.sd_full.specs.Runs.{round}
-use Rattle.sd_machine.specs.Opening.{opening}
+use Rattle.sd_machine.specs.Runs.{round}
+use Rattle.sd_state.specs.Opening.{opening}
 use Rattle.sd_extremes.specs.WholeRuns.{LeadsTo}
 use Rattle.sd_extremes.proofs.whole.whole_run.Given as goal
 

@@ -1,6 +1,6 @@
 use Rattle.std.proofs.Common.{◌≡◌, ◌++◌, take}
 use Rattle.std.specs.List.{flat_map}
-use Rattle.sd_full.specs.Texts.{entry_text}
+use Rattle.sd_machine.specs.Texts.{entry_text}
 use Rattle.sd_finder.proofs.journals.write_entries.Given as goal
 
 abbrev pub invariant-loop-entry : goal.invariant-loop-entry

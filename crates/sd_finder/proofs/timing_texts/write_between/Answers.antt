@@ -1,4 +1,4 @@
-use Rattle.sd_full.specs.Texts.{journal}
+use Rattle.sd_machine.specs.Texts.{journal}
 use Rattle.sd_finder.specs.Texts.{earliest_head, latest_head}
 use Rattle.sd_finder.proofs.AppendLemmas.{joined}
 use Rattle.sd_finder.proofs.timing_texts.write_between.Goals as goal

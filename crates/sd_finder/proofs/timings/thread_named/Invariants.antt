@@ -1,5 +1,5 @@
 use Rattle.std.proofs.Common.{◌≡◌, ◌<◌, ℕ}
-use Rattle.sd_machine.specs.Texts.{thread_name}
+use Rattle.sd_state.specs.Texts.{thread_name}
 use Rattle.sd_finder.proofs.timings.thread_named.Given as goal
 
 -- none of the threads before it has the name

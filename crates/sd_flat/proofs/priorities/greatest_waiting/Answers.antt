@@ -1,5 +1,5 @@
 use Rattle.std.proofs.Common.{List, None, ap, ◌∙◌}
-use Rattle.sd_machine.specs.declared.states.ThreadState.{ThreadState}
+use Rattle.sd_state.specs.declared.states.ThreadState.{ThreadState}
 use Rattle.sd_flat.specs.Standings.{greatest_but}
 use Rattle.sd_flat.proofs.OthersLemmas.{all_of}
 use Rattle.sd_flat.proofs.priorities.greatest_waiting.Goals as goal

@@ -1,8 +1,8 @@
 use Rattle.std.proofs.Common.{List, ap, ◌∙◌}
-use Rattle.sd_machine.specs.declared.states.ThreadState.{ThreadState}
+use Rattle.sd_state.specs.declared.states.ThreadState.{ThreadState}
 use Rattle.sd_flat.specs.declared.standings.Standing.TheVariants as standing
-use Rattle.sd_machine.specs.declared.states.CpuState.{CpuState}
-use Rattle.sd_full.specs.Threads.{best_ready}
+use Rattle.sd_state.specs.declared.states.CpuState.{CpuState}
+use Rattle.sd_machine.specs.Threads.{best_ready}
 use Rattle.sd_flat.specs.Standings.{best_standing}
 use Rattle.sd_flat.proofs.scans.best_ready.Goals as goal
 

@@ -1,9 +1,9 @@
 use Rattle.std.proofs.Common.{List, ap, ◌∙◌, w64}
 use Rattle.std.proofs.lemmas.Int.{to_z-of_z}
 use Rattle.std.specs.Prelude.{ℤ}
-use Rattle.sd_machine.specs.declared.states.ThreadState.{ThreadState}
+use Rattle.sd_state.specs.declared.states.ThreadState.{ThreadState}
 use Rattle.sd_flat.specs.declared.standings.Standing.TheVariants as standing
-use Rattle.sd_full.specs.Threads.{best_sleeper_below}
+use Rattle.sd_machine.specs.Threads.{best_sleeper_below}
 use Rattle.sd_flat.specs.Standings.{best_standing}
 use Rattle.sd_flat.proofs.scans.best_sleeper_below.Goals as goal
 

@@ -1,10 +1,10 @@
 use Rattle.std.proofs.Common.{◌≡◌, length, sym, subst, ◌∙◌, arith}
-use Rattle.sd_machine.specs.declared.states.ThreadState.{ThreadState}
-use Rattle.sd_machine.specs.States.{no_thread}
+use Rattle.sd_state.specs.declared.states.ThreadState.{ThreadState}
+use Rattle.sd_state.specs.States.{no_thread}
 use Rattle.sd_flat.specs.Standings.{stands, best_standing}
-use Rattle.sd_machine.specs.Best.{beats}
-use Rattle.sd_machine.proofs.BestLemmas.{best_taken, best_kept, best_by_is, IsBestBelow}
-use Rattle.sd_machine.proofs.OrderLemmas.{beats_order}
+use Rattle.sd_state.specs.Best.{beats}
+use Rattle.sd_state.proofs.BestLemmas.{best_taken, best_kept, best_by_is, IsBestBelow}
+use Rattle.sd_state.proofs.OrderLemmas.{beats_order}
 use Rattle.sd_flat.proofs.scans.best_standing.Goals as goal
 use Rattle.sd_flat.proofs.scans.best_standing.Goals.{then-goes_ahead, else-goes_ahead}
 

@@ -1,7 +1,7 @@
-use Rattle.sd_machine.specs.States.{no_thread}
+use Rattle.sd_state.specs.States.{no_thread}
 use Rattle.sd_flat.specs.Standings.{stands}
-use Rattle.sd_machine.specs.Best.{beats}
-use Rattle.sd_machine.proofs.BestLemmas.{IsBestBelow}
+use Rattle.sd_state.specs.Best.{beats}
+use Rattle.sd_state.proofs.BestLemmas.{IsBestBelow}
 use Rattle.sd_flat.proofs.scans.best_standing.Given as goal
 
 abbrev pub invariant-loop-i : goal.invariant-loop-i

@@ -1,7 +1,7 @@
 use Rattle.std.proofs.Common.{List, ap, ◌∙◌}
-use Rattle.sd_machine.specs.declared.states.ThreadState.{ThreadState}
-use Rattle.sd_machine.specs.declared.states.CpuState.{CpuState}
-use Rattle.sd_full.specs.Threads.{first_due}
+use Rattle.sd_state.specs.declared.states.ThreadState.{ThreadState}
+use Rattle.sd_state.specs.declared.states.CpuState.{CpuState}
+use Rattle.sd_machine.specs.Threads.{first_due}
 use Rattle.sd_flat.specs.Standings.{first_over}
 use Rattle.sd_flat.proofs.scans.first_due.Goals as goal
 

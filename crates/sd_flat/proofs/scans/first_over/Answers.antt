@@ -1,9 +1,9 @@
 use Rattle.std.proofs.Common.{◌≡◌, length, sym, subst, ◌∙◌, arith}
-use Rattle.sd_machine.specs.declared.states.ThreadState.{ThreadState}
-use Rattle.sd_machine.specs.States.{no_thread}
+use Rattle.sd_state.specs.declared.states.ThreadState.{ThreadState}
+use Rattle.sd_state.specs.States.{no_thread}
 use Rattle.sd_flat.specs.Standings.{first_over}
-use Rattle.sd_full.specs.Threads.{is_due, naps_less}
-use Rattle.sd_machine.proofs.BestLemmas.{best_taken, best_kept, best_by_is, IsBestBelow}
+use Rattle.sd_machine.specs.Threads.{is_due, naps_less}
+use Rattle.sd_state.proofs.BestLemmas.{best_taken, best_kept, best_by_is, IsBestBelow}
 use Rattle.sd_flat.proofs.NapOrder.{naps_order}
 use Rattle.sd_flat.proofs.scans.first_over.Goals as goal
 use Rattle.sd_flat.proofs.scans.first_over.Goals.{then-is_over_before, else-is_over_before}

@@ -1,6 +1,6 @@
-use Rattle.sd_machine.specs.States.{no_thread}
-use Rattle.sd_full.specs.Threads.{is_due, naps_less}
-use Rattle.sd_machine.proofs.BestLemmas.{IsBestBelow}
+use Rattle.sd_state.specs.States.{no_thread}
+use Rattle.sd_machine.specs.Threads.{is_due, naps_less}
+use Rattle.sd_state.proofs.BestLemmas.{IsBestBelow}
 use Rattle.sd_flat.proofs.scans.first_over.Given as goal
 
 abbrev pub invariant-loop-i : goal.invariant-loop-i

@@ -1,5 +1,5 @@
 use Rattle.std.proofs.Common.{◌≡◌, ◌++◌, take, drop}
-use Rattle.sd_full.specs.Changes.{with_cpu_in}
+use Rattle.sd_machine.specs.Changes.{with_cpu_in}
 use Rattle.sd_flat.proofs.sets.index_for.Given as goal
 
 abbrev pub invariant-loop-index : goal.invariant-loop-index

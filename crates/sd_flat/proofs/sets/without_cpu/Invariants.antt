@@ -1,5 +1,5 @@
 use Rattle.std.proofs.Common.{◌≡◌, ◌≤◌, length, take}
-use Rattle.sd_full.specs.Changes.{without_cpu}
+use Rattle.sd_machine.specs.Changes.{without_cpu}
 use Rattle.sd_flat.proofs.sets.without_cpu.Given as goal
 
 abbrev pub invariant-loop-d : goal.invariant-loop-d

@@ -1,4 +1,4 @@
-use Rattle.sd_full.specs.Threads.{with_count, with_lock}
+use Rattle.sd_machine.specs.Threads.{with_count, with_lock}
 use Rattle.sd_shown.specs.Standing.{look_of}
 use Rattle.sd_hand.proofs.FrameLemmas.{open_stays}
 use Rattle.sd_hand.proofs.MoveLemmas.{of_state}

@@ -1,7 +1,7 @@
 use Rattle.std.proofs.Common.{le_refl}
 use Rattle.std.proofs.lemmas.List.{get_or-set_other}
-use Rattle.sd_machine.specs.States.{no_thread, with_thread}
-use Rattle.sd_full.specs.Changes.{leave, run_on}
+use Rattle.sd_state.specs.States.{no_thread, with_thread}
+use Rattle.sd_machine.specs.Changes.{leave, run_on}
 use Rattle.sd_hand.proofs.FrameLemmas.{body_stays, cpu_stays}
 use Rattle.sd_hand.proofs.MoveLemmas.{frame_thread}
 use Rattle.sd_hand.proofs.frames.threads_keep_other_homes.Goals as goal

@@ -1,5 +1,5 @@
 use Rattle.std.proofs.Common.{◌+◌, inr, subst}
-use Rattle.sd_machine.specs.States.{thread_of}
+use Rattle.sd_state.specs.States.{thread_of}
 use Rattle.sd_rules.specs.ClassRules.{class_requeue}
 use Rattle.sd_mdisp.proofs.RunningLemmas.{did, left_preempted, missed, runs_classed}
 use Rattle.sd_mdisp.proofs.running.preempted.Goals as goal

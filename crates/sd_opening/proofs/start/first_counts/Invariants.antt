@@ -1,5 +1,5 @@
 use Rattle.std.proofs.Common.{◌≡◌, map, take}
-use Rattle.sd_machine.specs.Opening.{first_count}
+use Rattle.sd_state.specs.Opening.{first_count}
 use Rattle.sd_opening.proofs.start.first_counts.Given as goal
 
 abbrev pub invariant-loop-chan : goal.invariant-loop-chan

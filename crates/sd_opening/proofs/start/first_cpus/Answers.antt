@@ -1,6 +1,6 @@
 use Rattle.std.proofs.Common.{arith}
 use Rattle.std.proofs.lemmas.List.FromFn.{map-range_with_len_more}
-use Rattle.sd_machine.specs.Opening.{first_cpu_state}
+use Rattle.sd_state.specs.Opening.{first_cpu_state}
 use Rattle.sd_opening.proofs.start.first_cpus.Goals as goal
 
 pub loop-c-preserved : goal.loop-c-preserved

@@ -1,5 +1,5 @@
 use Rattle.std.proofs.Common.{◌≡◌, ◌++◌, drop}
-use Rattle.sd_machine.specs.Opening.{first_threads}
+use Rattle.sd_state.specs.Opening.{first_threads}
 use Rattle.sd_opening.proofs.start.first_threads.Given as goal
 
 -- what was made, and what the rest of the declarations makes

@@ -1,6 +1,6 @@
 use Rattle.std.proofs.Common.{◌≡◌, arith}
 use Rattle.std.proofs.lemmas.List.FromFn.{map-range_with_len_more}
-use Rattle.sd_machine.specs.Opening.{open_list}
+use Rattle.sd_state.specs.Opening.{open_list}
 use Rattle.sd_opening.proofs.start.open_lists.Goals as goal
 
 pub loop-p-preserved : goal.loop-p-preserved

@@ -1,6 +1,6 @@
 use Rattle.std.proofs.Common.{◌≡◌, map}
 use Rattle.std.specs.List.{range_with_len}
-use Rattle.sd_machine.specs.Opening.{open_list}
+use Rattle.sd_state.specs.Opening.{open_list}
 use Rattle.sd_opening.proofs.start.open_lists.Given as goal
 
 abbrev pub invariant-loop-p : goal.invariant-loop-p

@@ -4,8 +4,8 @@ use Rattle.std.specs.Result.{IsErrOf}
 use Rattle.sd_types.specs.declared.events.Stop.{Stop}
 use Rattle.sd_types.specs.declared.events.Stop.TheVariants.{Full}
 use Rattle.sd_types.specs.declared.works.Work.{Work}
-use Rattle.sd_machine.specs.Opening.{opening}
-use Rattle.sd_full.specs.Runs.{final, IsComplete, IsRun, IsSerial, state_at}
+use Rattle.sd_state.specs.Opening.{opening}
+use Rattle.sd_machine.specs.Runs.{final, IsComplete, IsRun, IsSerial, state_at}
 use Rattle.sd_hand.specs.OneHome.{StandsInHomes}
 use Rattle.sd_rounds.specs.declared.orders.Turns.{Turns}
 use Rattle.sd_rounds.specs.declared.rounds.Finished.{Finished}

@@ -1,8 +1,8 @@
 use Rattle.std.proofs.Common.{◌++◌, List, ℕ, sym, ap, subst, ◌∙◌}
 use Rattle.sd_text.specs.Lines.{EndsLine}
 use Rattle.sd_text.proofs.PieceLemmas.{EndsLine-append}
-use Rattle.sd_machine.specs.Texts.{accounts_text}
-use Rattle.sd_full.specs.Texts.{cycles_text}
+use Rattle.sd_state.specs.Texts.{accounts_text}
+use Rattle.sd_machine.specs.Texts.{cycles_text}
 use Rattle.sd_answers.proofs.PutLemmas.{Puts-memory, Puts-exit}
 use Rattle.sd_program.proofs.ClosingLemmas.{accounts-ends, cycles-ends}
 use Rattle.sd_program.proofs.writing.put_accounts.Goals as goal

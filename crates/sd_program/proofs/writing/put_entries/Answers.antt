@@ -1,4 +1,4 @@
-use Rattle.sd_full.specs.Texts.{entry_text, entries_text}
+use Rattle.sd_machine.specs.Texts.{entry_text, entries_text}
 use Rattle.sd_answers.proofs.PutLemmas.{Puts-nil, Puts-item, Puts-item_err, Puts-all, Puts-exit}
 use Rattle.sd_program.proofs.writing.put_entries.Goals as goal
 

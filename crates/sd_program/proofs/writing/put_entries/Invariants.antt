@@ -1,6 +1,6 @@
 use Rattle.std.proofs.Common.{take, Ok}
 use Rattle.std.specs.List.{flat_map}
-use Rattle.sd_full.specs.Texts.{entry_text}
+use Rattle.sd_machine.specs.Texts.{entry_text}
 use Rattle.sd_answers.specs.StreamChanges.{Puts}
 use Rattle.sd_program.proofs.writing.put_entries.Given as goal
 

@@ -1,8 +1,8 @@
 use Rattle.std.proofs.Common.{◌++◌, subst}
-use Rattle.sd_machine.specs.Opening.{opening}
-use Rattle.sd_machine.specs.Texts.{accounts_text}
-use Rattle.sd_full.specs.Runs.{final}
-use Rattle.sd_full.specs.Texts.{entries_text, cycles_text, journal}
+use Rattle.sd_state.specs.Opening.{opening}
+use Rattle.sd_state.specs.Texts.{accounts_text}
+use Rattle.sd_machine.specs.Runs.{final}
+use Rattle.sd_machine.specs.Texts.{entries_text, cycles_text, journal}
 use Rattle.sd_answers.specs.StreamChanges.{Puts}
 use Rattle.sd_answers.proofs.PutLemmas.{Puts-then, Puts-err, Puts-exit}
 use Rattle.sd_program.proofs.writing.put_journal.Goals as goal

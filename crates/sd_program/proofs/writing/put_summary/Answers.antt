@@ -1,8 +1,8 @@
 use Rattle.std.proofs.Common.{◌≡◌, List, ℕ, ◌++◌, sym, ap, subst, ◌∙◌}
 use Rattle.sd_text.specs.Lines.{EndsLine}
-use Rattle.sd_machine.specs.Opening.{opening}
-use Rattle.sd_full.specs.Runs.{final}
-use Rattle.sd_full.specs.Texts.{summary, summary_of}
+use Rattle.sd_state.specs.Opening.{opening}
+use Rattle.sd_machine.specs.Runs.{final}
+use Rattle.sd_machine.specs.Texts.{summary, summary_of}
 use Rattle.sd_answers.specs.StreamChanges.{Puts}
 use Rattle.sd_answers.proofs.PutLemmas.{Puts-memory, Puts-exit}
 use Rattle.sd_program.proofs.ClosingLemmas.{summary-ends}

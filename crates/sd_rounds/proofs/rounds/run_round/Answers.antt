@@ -1,5 +1,5 @@
 use Rattle.std.proofs.Common.{length, get_or, ◌∙◌, arith}
-use Rattle.sd_full.specs.Runs.{turn}
+use Rattle.sd_machine.specs.Runs.{turn}
 use Rattle.sd_world.specs.Plain.{told}
 use Rattle.sd_world.proofs.PlainLemmas.{told_more}
 use Rattle.sd_rounds.proofs.RoundLemmas.{grows, round_on, entries_over}

@@ -1,5 +1,5 @@
 use Rattle.std.proofs.Common.{◌≡◌, ◌++◌, ◌<◌, ◌≤◌, length, drop}
-use Rattle.sd_full.specs.Runs.{round}
+use Rattle.sd_machine.specs.Runs.{round}
 use Rattle.sd_world.specs.Plain.{Stands, told}
 use Rattle.sd_world.specs.declared.entries.TheConstants.{MOST_ENTRIES}
 use Rattle.sd_rounds.proofs.rounds.run_round.Given as goal

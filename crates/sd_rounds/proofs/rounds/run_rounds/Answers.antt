@@ -3,7 +3,7 @@ use Rattle.std.specs.Prelude.{IsErrOf}
 use Rattle.rand_pcg.specs.Lcg.{Lcg}
 use Rattle.sd_types.specs.declared.numbers.CpuId.{CpuId}
 use Rattle.sd_types.specs.declared.events.Stop.TheVariants.{Full}
-use Rattle.sd_full.specs.Runs.{rising, round, state_at, IsRun, IsSerial}
+use Rattle.sd_machine.specs.Runs.{rising, round, state_at, IsRun, IsSerial}
 use Rattle.sd_hand.specs.OneHome.{StandsInHomes}
 use Rattle.sd_world.specs.Plain.{told}
 use Rattle.sd_world.proofs.PlainLemmas.{all_stood}

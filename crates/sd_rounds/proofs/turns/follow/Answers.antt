@@ -1,5 +1,5 @@
 use Rattle.std.proofs.Common.{◌++◌, None, length, sym, ap, ◌∙◌}
-use Rattle.sd_full.specs.declared.plans.Plan.TheVariants.{Make}
+use Rattle.sd_machine.specs.declared.plans.Plan.TheVariants.{Make}
 use Rattle.sd_world.specs.Plain.{told}
 use Rattle.sd_world.proofs.PlainLemmas as P
 use Rattle.sd_rounds.proofs.AloneLemmas.{makes_it, serial_of, with_serial}

@@ -1,7 +1,7 @@
 use Rattle.std.proofs.Common.{length, map, filter, not, ◌==◌, ap, ◌∙◌}
 use Rattle.sd_types.specs.declared.events.Which.TheVariants.{Queued}
-use Rattle.sd_full.specs.Choosing.{hint_shown, neighbours}
-use Rattle.sd_full.specs.Threads.{open_of}
+use Rattle.sd_machine.specs.Choosing.{hint_shown, neighbours}
+use Rattle.sd_machine.specs.Threads.{open_of}
 use Rattle.sd_world.specs.Plain.{told}
 use Rattle.sd_world.proofs.PlainLemmas as P
 use Rattle.sd_rounds.proofs.AloneLemmas.{open_there}

@@ -1,8 +1,8 @@
 use Rattle.std.proofs.Common.{◌≡◌, true, ◌==◌, ◌++◌, length, map, refl, sym, ap, ◌∙◌}
 use Rattle.std.specs.List.{list_all}
 use Rattle.sd_types.specs.declared.events.Which.TheVariants.{Queued}
-use Rattle.sd_full.specs.declared.plans.Plan.TheVariants.{Search}
-use Rattle.sd_full.specs.Choosing.{hint_shown, neighbours}
+use Rattle.sd_machine.specs.declared.plans.Plan.TheVariants.{Search}
+use Rattle.sd_machine.specs.Choosing.{hint_shown, neighbours}
 use Rattle.sd_world.specs.Plain.{told}
 use Rattle.sd_world.proofs.PlainLemmas as P
 use Rattle.sd_rounds.proofs.AloneLemmas.{serial_of, vain, with_serial}

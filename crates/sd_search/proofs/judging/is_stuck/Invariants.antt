@@ -1,5 +1,5 @@
 use Rattle.std.proofs.Common.{◌≡◌, ◌<◌, ℕ, false}
-use Rattle.sd_machine.specs.States.{thread_of}
+use Rattle.sd_state.specs.States.{thread_of}
 use Rattle.sd_search.specs.Questions.{is_left}
 use Rattle.sd_search.proofs.judging.is_stuck.Given as goal
 

@@ -1,5 +1,5 @@
 use Rattle.std.proofs.Common.{length}
-use Rattle.sd_full.specs.Runs.{turn}
+use Rattle.sd_machine.specs.Runs.{turn}
 use Rattle.sd_search.proofs.WitnessLemmas.{stays}
 use Rattle.sd_search.proofs.witnesses.take_turn.Goals as goal
 

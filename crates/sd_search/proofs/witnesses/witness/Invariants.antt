@@ -1,6 +1,6 @@
 use Rattle.std.proofs.Common.{◌≡◌, ◌++◌, length, drop}
-use Rattle.sd_full.specs.Runs.{IsReached, round}
-use Rattle.sd_machine.specs.Opening.{opening}
+use Rattle.sd_machine.specs.Runs.{IsReached, round}
+use Rattle.sd_state.specs.Opening.{opening}
 use Rattle.sd_search.proofs.witnesses.witness.Given as goal
 
 -- what was made, and what is left from here, are the whole

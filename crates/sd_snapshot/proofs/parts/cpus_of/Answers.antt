@@ -1,7 +1,7 @@
 use Rattle.std.proofs.Common.{◌≡◌, ◌<◌, ◌∙◌, ap, get_or, length, subst, arith}
 use Rattle.sd_types.specs.declared.events.Duty.TheVariants.{Nothing}
 use Rattle.sd_hand.specs.declared.acting.Actor.{Actor}
-use Rattle.sd_machine.specs.States.{cpu_of, no_cpu}
+use Rattle.sd_state.specs.States.{cpu_of, no_cpu}
 use Rattle.sd_snapshot.proofs.ListLemmas.{all_made, one_more}
 use Rattle.sd_snapshot.proofs.PartLemmas.{actor_at, actor_inside, own_number}
 use Rattle.sd_snapshot.proofs.parts.cpus_of.Goals as goal

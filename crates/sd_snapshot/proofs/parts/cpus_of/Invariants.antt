@@ -1,5 +1,5 @@
 use Rattle.std.proofs.Common.{◌≡◌, take}
-use Rattle.sd_machine.specs.declared.states.State.{State}
+use Rattle.sd_state.specs.declared.states.State.{State}
 use Rattle.sd_snapshot.specs.Told.{AreActorsOf, IsToldBy}
 use Rattle.sd_snapshot.proofs.parts.cpus_of.Given as goal
 

@@ -1,5 +1,5 @@
 use Rattle.std.proofs.Common.{◌≡◌, ◌<◌, length, sym, subst, arith}
-use Rattle.sd_machine.specs.declared.states.LockState.TheVariants.{Free}
+use Rattle.sd_state.specs.declared.states.LockState.TheVariants.{Free}
 use Rattle.sd_snapshot.proofs.ListLemmas.{all_made, one_more}
 use Rattle.sd_snapshot.proofs.parts.locks_of.Goals as goal
 

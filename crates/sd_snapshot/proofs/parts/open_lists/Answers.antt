@@ -1,5 +1,5 @@
 use Rattle.std.proofs.Common.{◌≡◌, ◌<◌, length, sym, subst, arith}
-use Rattle.sd_full.specs.Threads.{no_cpus}
+use Rattle.sd_machine.specs.Threads.{no_cpus}
 use Rattle.sd_snapshot.proofs.ListLemmas.{all_made, one_more}
 use Rattle.sd_snapshot.proofs.parts.open_lists.Goals as goal
 

@@ -1,5 +1,5 @@
 use Rattle.std.proofs.Common.{◌≡◌, ◌<◌, length, sym, subst, arith}
-use Rattle.sd_machine.specs.States.{no_thread}
+use Rattle.sd_state.specs.States.{no_thread}
 use Rattle.sd_snapshot.proofs.ListLemmas.{all_made, one_more}
 use Rattle.sd_snapshot.proofs.threads.threads_of.Goals as goal
 

@@ -1,6 +1,6 @@
 use Rattle.std.proofs.Common.{take}
-use Rattle.sd_machine.specs.Opening.{opening}
-use Rattle.sd_full.proofs.RunLemmas.{IsRun-from, from-IsRun, IsRunFrom-take}
+use Rattle.sd_state.specs.Opening.{opening}
+use Rattle.sd_machine.proofs.RunLemmas.{IsRun-from, from-IsRun, IsRunFrom-take}
 use Rattle.sd_sound.proofs.laws.fronts_are_runs.Goals as goal
 
 pub returns : goal.returns

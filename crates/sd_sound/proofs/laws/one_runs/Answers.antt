@@ -1,4 +1,4 @@
-use Rattle.sd_machine.specs.Invariants.{OneRuns}
+use Rattle.sd_state.specs.Invariants.{OneRuns}
 use Rattle.sd_sound.proofs.RunningLemmas.{opening_one, one_kept}
 use Rattle.sd_sound.proofs.Ready.{kept_reached}
 use Rattle.sd_sound.proofs.laws.one_runs.Goals as goal

@@ -1,4 +1,4 @@
-use Rattle.sd_machine.proofs.ClassLemmas.{urgent_law}
+use Rattle.sd_state.proofs.ClassLemmas.{urgent_law}
 use Rattle.sd_sound.proofs.laws.urgent_threads.Goals as goal
 
 pub returns : goal.returns

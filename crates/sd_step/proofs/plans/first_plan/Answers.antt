@@ -1,5 +1,5 @@
 use Rattle.std.proofs.Common.{◌≡◌, [], ◌∷◌, None, sym, ◌∙◌}
-use Rattle.sd_full.specs.Plans.{duty_plan}
+use Rattle.sd_machine.specs.Plans.{duty_plan}
 use Rattle.sd_step.specs.Needed.{plan_parts}
 use Rattle.sd_store.specs.Parts.{actor_part, cpu_part}
 use Rattle.sd_step.proofs.Duties.{after_duty, lacks_after}

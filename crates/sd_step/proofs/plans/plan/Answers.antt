@@ -1,5 +1,5 @@
 use Rattle.std.proofs.Common.{◌≡◌, ◌∷◌, None, sym, ◌∙◌}
-use Rattle.sd_full.specs.Plans.{ageing_plan, duty_plan, first_of, nap_plan}
+use Rattle.sd_machine.specs.Plans.{ageing_plan, duty_plan, first_of, nap_plan}
 use Rattle.sd_step.specs.Needed.{cpu_parts, plan_parts}
 use Rattle.sd_store.specs.Parts.{actor_part}
 use Rattle.sd_step.proofs.Duties.{after_first, lacks_after}

@@ -1,6 +1,6 @@
 use Rattle.std.proofs.Common.{subst}
-use Rattle.sd_full.specs.Runs.{IsRunFrom}
-use Rattle.sd_full.proofs.RunLemmas.{from-IsRun}
+use Rattle.sd_machine.specs.Runs.{IsRunFrom}
+use Rattle.sd_machine.proofs.RunLemmas.{from-IsRun}
 use Rattle.sd_steps.proofs.ReplayLemmas.{from_illegal}
 use Rattle.sd_steps.proofs.replays.replay.Goals as goal
 

@@ -1,8 +1,8 @@
 use Rattle.std.proofs.Common.{◌≡◌, take, sym, subst, ◌∙◌, arith}
-use Rattle.sd_machine.specs.declared.states.State.{State}
-use Rattle.sd_full.specs.Runs.{final, IsRunFrom, IsReached}
+use Rattle.sd_state.specs.declared.states.State.{State}
+use Rattle.sd_machine.specs.Runs.{final, IsRunFrom, IsReached}
 use Rattle.std.proofs.lemmas.Bool.{false≢true}
-use Rattle.sd_full.proofs.RunLemmas.{IsRunFrom-nil, final-nil}
+use Rattle.sd_machine.proofs.RunLemmas.{IsRunFrom-nil, final-nil}
 use Rattle.sd_steps.proofs.ReplayLemmas.{run_more, state_more, is_illegal, reached_at}
 use Rattle.sd_steps.proofs.replays.replay_from.Goals as goal
 use Rattle.sd_steps.proofs.replays.replay_from.Goals.{then-entry-i-via-then-entry-i, then-entry-i-via-else-entry-i+then-not-step}

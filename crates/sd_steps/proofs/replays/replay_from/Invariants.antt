@@ -1,5 +1,5 @@
 use Rattle.std.proofs.Common.{◌≡◌, take}
-use Rattle.sd_full.specs.Runs.{final, IsRunFrom}
+use Rattle.sd_machine.specs.Runs.{final, IsRunFrom}
 use Rattle.sd_steps.proofs.replays.replay_from.Given as goal
 
 abbrev pub invariant-loop-i : goal.invariant-loop-i

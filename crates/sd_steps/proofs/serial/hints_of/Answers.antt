@@ -1,7 +1,7 @@
 use Rattle.std.proofs.Common.{Option, List, ap, ◌∙◌}
 use Rattle.sd_types.specs.declared.numbers.CpuId.{CpuId}
 use Rattle.sd_types.specs.declared.events.Which.{Which}
-use Rattle.sd_full.specs.Runs.{shown}
+use Rattle.sd_machine.specs.Runs.{shown}
 use Rattle.sd_steps.proofs.Needed.{is_state}
 use Rattle.sd_steps.proofs.serial.hints_of.Goals as goal
 

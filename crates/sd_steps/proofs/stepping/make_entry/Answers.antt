@@ -1,10 +1,10 @@
 use Rattle.std.proofs.Common.{◌+◌, Option, refl, ap, sym, ◌∙◌, subst, arith}
-use Rattle.sd_machine.specs.declared.states.State.{State}
+use Rattle.sd_state.specs.declared.states.State.{State}
 use Rattle.sd_types.specs.declared.events.Event.{Event}
 use Rattle.sd_types.specs.declared.events.Hints.{Hints}
-use Rattle.sd_full.specs.Events.{next}
-use Rattle.sd_full.specs.Runs.{IsReached, final, made, serial_hints}
-use Rattle.sd_full.proofs.RunLemmas.{final-one, final-nil}
+use Rattle.sd_machine.specs.Events.{next}
+use Rattle.sd_machine.specs.Runs.{IsReached, final, made, serial_hints}
+use Rattle.sd_machine.proofs.RunLemmas.{final-one, final-nil}
 use Rattle.sd_range.proofs.Range.{needs_reached}
 use Rattle.sd_sound.proofs.Whole.{fit_reached}
 use Rattle.sd_steps.proofs.Needed.{no_maker}

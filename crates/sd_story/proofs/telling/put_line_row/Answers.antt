@@ -2,7 +2,7 @@ use Rattle.std.proofs.Common.{◌≡◌, ℕ, List, [], ◌∷◌, ◌++◌, Opt
 use Rattle.std.specs.Prelude.{IsTrue, IfSome}
 use Rattle.std.proofs.lemmas.Result.{on_ok_weaker}
 use Rattle.sd_types.specs.declared.events.Entry.{Entry}
-use Rattle.sd_full.specs.Texts.{entry_text}
+use Rattle.sd_machine.specs.Texts.{entry_text}
 use Rattle.sd_spelling.specs.Fitting.{entry_fits, IsSpelled}
 use Rattle.sd_spelling.proofs.LineLemmas.{one_line}
 use Rattle.sd_story.specs.Story.{row_if}

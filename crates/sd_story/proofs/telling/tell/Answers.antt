@@ -1,7 +1,7 @@
 use Rattle.std.proofs.Common.{◌≡◌, List, ℕ, ◌++◌, ap, subst, sym, ◌∙◌}
 use Rattle.sd_types.specs.declared.events.Entry.{Entry}
 use Rattle.sd_types.specs.declared.works.Work.{Work}
-use Rattle.sd_machine.specs.Opening.{opening}
+use Rattle.sd_state.specs.Opening.{opening}
 use Rattle.sd_gather.specs.Journals.{HasJournal, IsJournalOf}
 use Rattle.sd_story.specs.Story.{story, rows_from}
 use Rattle.sd_story.proofs.telling.tell.Goals as goal

@@ -3,9 +3,9 @@ use Rattle.std.proofs.lemmas.Bool.{false≢true}
 use Rattle.std.proofs.lemmas.List.{append-nil}
 use Rattle.sd_types.specs.declared.events.Entry.{Entry}
 use Rattle.sd_types.specs.declared.works.Work.{Work}
-use Rattle.sd_machine.specs.declared.states.State.{State}
-use Rattle.sd_machine.specs.Opening.{opening}
-use Rattle.sd_full.specs.Runs.{final}
+use Rattle.sd_state.specs.declared.states.State.{State}
+use Rattle.sd_state.specs.Opening.{opening}
+use Rattle.sd_machine.specs.Runs.{final}
 use Rattle.sd_text.specs.Lines.{lines_of}
 use Rattle.sd_gather.specs.Journals.{IsJournalOf}
 use Rattle.sd_gather.proofs.JournalLemmas.{entries_of, under_way_start, some_line, all_read, tells_next, is_next, is_reached, made_more, at_more}

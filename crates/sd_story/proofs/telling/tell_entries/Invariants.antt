@@ -1,5 +1,5 @@
 use Rattle.std.proofs.Common.{◌≡◌, ◌+◌, ◌-◌, ◌≤◌, ◌++◌, length}
-use Rattle.sd_machine.specs.Opening.{opening}
+use Rattle.sd_state.specs.Opening.{opening}
 use Rattle.sd_gather.specs.Journals.{IsUnderWay}
 use Rattle.sd_story.specs.Story.{rows_from}
 use Rattle.sd_story.proofs.telling.tell_entries.Given as goal

@@ -1,8 +1,8 @@
 use Rattle.std.proofs.Common.{◌≡◌, List, sym, subst}
 use Rattle.std.specs.Prelude.{IfOk}
 use Rattle.sd_types.specs.declared.events.Entry.{Entry}
-use Rattle.sd_machine.specs.Opening.{opening}
-use Rattle.sd_full.specs.Runs.{final}
+use Rattle.sd_state.specs.Opening.{opening}
+use Rattle.sd_machine.specs.Runs.{final}
 use Rattle.sd_gather.specs.Journals.{IsJournalOf}
 use Rattle.sd_view.specs.declared.drawings.Drawing.{Drawing}
 use Rattle.sd_view.specs.Drawings.{IsDrawingOf}

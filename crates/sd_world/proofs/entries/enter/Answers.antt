@@ -1,8 +1,8 @@
 use Rattle.std.proofs.Common.{◌≡◌, ◌+◌, ◌∷◌, [], ◌++◌, length, refl, sym, ap, ◌∙◌, subst, arith}
 use Rattle.std.specs.Prelude.{vec_len}
 use Rattle.std.proofs.lemmas.Bool.{false≢true}
-use Rattle.sd_full.specs.Events.{after}
-use Rattle.sd_full.specs.Runs.{IsReached}
+use Rattle.sd_machine.specs.Events.{after}
+use Rattle.sd_machine.specs.Runs.{IsReached}
 use Rattle.sd_hand.specs.Acting.{IsShown}
 use Rattle.sd_range.proofs.Range.{needs_reached}
 use Rattle.sd_world.specs.Entries.{led_to}

@@ -1,6 +1,6 @@
 use Rattle.std.proofs.Common.{ap, ◌∙◌}
-use Rattle.sd_full.specs.Choosing.{hint_of}
-use Rattle.sd_full.specs.Threads.{priority_of}
+use Rattle.sd_machine.specs.Choosing.{hint_of}
+use Rattle.sd_machine.specs.Threads.{priority_of}
 use Rattle.sd_world.proofs.HintLemmas.{hint_is}
 use Rattle.sd_world.proofs.hints.shown_hint.Goals as goal
 

@@ -1,5 +1,5 @@
-use Rattle.sd_full.specs.Events.{after}
-use Rattle.sd_full.proofs.ShapeLemmas.{after_shape}
+use Rattle.sd_machine.specs.Events.{after}
+use Rattle.sd_machine.proofs.ShapeLemmas.{after_shape}
 use Rattle.sd_step.specs.Touched.{after_parts}
 use Rattle.sd_world.proofs.OtherHomes.{other_home}
 use Rattle.sd_footprint.proofs.RanLast.{reached_changes}

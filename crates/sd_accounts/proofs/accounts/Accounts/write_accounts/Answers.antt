@@ -1,6 +1,6 @@
 use Rattle.std.proofs.Common.{ℕ, List, ◌++◌, ap, ◌∙◌}
 use Rattle.std.proofs.lemmas.Result.{on_ok_weaker}
-use Rattle.sd_full.specs.Texts.{cycles_text}
+use Rattle.sd_machine.specs.Texts.{cycles_text}
 use Rattle.sd_accounts.proofs.TextLemmas.{accounts_same}
 use Rattle.sd_accounts.proofs.accounts.Accounts.write_accounts.Goals as goal
 

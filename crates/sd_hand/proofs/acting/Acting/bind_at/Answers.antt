@@ -1,6 +1,6 @@
 use Rattle.std.proofs.Common.{refl, sym, le_refl}
-use Rattle.sd_machine.specs.declared.states.ThreadState.{ThreadState}
-use Rattle.sd_machine.specs.States.{thread_of}
+use Rattle.sd_state.specs.declared.states.ThreadState.{ThreadState}
+use Rattle.sd_state.specs.States.{thread_of}
 use Rattle.sd_shown.specs.Standing.{record_of}
 use Rattle.sd_homes.specs.Homes.{with_body_of}
 use Rattle.sd_hand.specs.declared.acting.Acting.{Acting}

@@ -1,7 +1,7 @@
 use Rattle.std.proofs.Common.{◌∙◌, length, refl, sym, ap, subst, arith}
 use Rattle.sd_types.specs.declared.numbers.HomeId.TheVariants.{RealTime}
-use Rattle.sd_full.specs.Changes.{with_cpu_in}
-use Rattle.sd_full.specs.Threads.{with_open}
+use Rattle.sd_machine.specs.Changes.{with_cpu_in}
+use Rattle.sd_machine.specs.Threads.{with_open}
 use Rattle.sd_homes.specs.Families.{open_in, opened, opening}
 use Rattle.sd_hand.specs.Acting.{IsShown}
 use Rattle.sd_hand.specs.declared.acting.Acting.{Acting}

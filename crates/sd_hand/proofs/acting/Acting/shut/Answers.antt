@@ -1,7 +1,7 @@
 use Rattle.std.proofs.Common.{◌∙◌, refl, sym, subst}
 use Rattle.sd_types.specs.declared.numbers.HomeId.TheVariants.{RealTime}
-use Rattle.sd_full.specs.Changes.{without_cpu}
-use Rattle.sd_full.specs.Threads.{with_open}
+use Rattle.sd_machine.specs.Changes.{without_cpu}
+use Rattle.sd_machine.specs.Threads.{with_open}
 use Rattle.sd_homes.specs.Families.{open_in, opening, shut}
 use Rattle.sd_hand.specs.Acting.{IsShown}
 use Rattle.sd_hand.specs.declared.acting.Acting.{Acting}

@@ -1,6 +1,6 @@
 use Rattle.std.proofs.Common.{refl}
-use Rattle.sd_machine.specs.States.{cpu_of}
-use Rattle.sd_full.specs.Changes.{unmarked}
+use Rattle.sd_state.specs.States.{cpu_of}
+use Rattle.sd_machine.specs.Changes.{unmarked}
 use Rattle.sd_hand.proofs.acting.Acting.unmark.Goals as goal
 
 pub returns-clause-value : goal.returns-clause-value

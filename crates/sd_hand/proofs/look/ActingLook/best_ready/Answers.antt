@@ -1,8 +1,8 @@
 use Rattle.std.proofs.Common.{◌≡◌, Some, option_map, slice_get, inl, inr, refl, sym, ap, ◌∙◌}
 use Rattle.sd_types.specs.declared.numbers.HomeId.TheVariants.{Cpu, RealTime}
 use Rattle.sd_types.specs.declared.numbers.SetId.{SetId}
-use Rattle.sd_machine.specs.States.{cpu_of}
-use Rattle.sd_full.specs.Threads.{best_ready}
+use Rattle.sd_state.specs.States.{cpu_of}
+use Rattle.sd_machine.specs.Threads.{best_ready}
 use Rattle.sd_store.specs.Parts.{number, ready_parts, real_time_part, view_of}
 use Rattle.sd_shown.specs.declared.list_id.ListId.TheVariants.{Queues, Urgent}
 use Rattle.sd_shown.specs.Standing.{better, id_of}

@@ -1,6 +1,6 @@
 use Rattle.std.proofs.Common.{◌%◌, [], ◌∷◌, option_map, slice_get, inl, refl}
 use Rattle.sd_types.specs.declared.numbers.HomeId.TheVariants.{Sleepers}
-use Rattle.sd_full.specs.Threads.{best_sleeper}
+use Rattle.sd_machine.specs.Threads.{best_sleeper}
 use Rattle.sd_store.specs.Parts.{number, sleepers_part}
 use Rattle.sd_shown.specs.declared.list_id.ListId.TheVariants.{Sleeps}
 use Rattle.sd_shown.specs.Standing.{id_of}

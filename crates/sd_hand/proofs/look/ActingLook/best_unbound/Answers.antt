@@ -1,7 +1,7 @@
 use Rattle.std.proofs.Common.{[], ◌∷◌, option_map, inl, refl}
 use Rattle.sd_types.specs.declared.numbers.HomeId.TheVariants.{Cpu}
 use Rattle.sd_boxq.specs.Order.{find_first}
-use Rattle.sd_full.specs.Threads.{best_unbound}
+use Rattle.sd_machine.specs.Threads.{best_unbound}
 use Rattle.sd_store.specs.Parts.{cpu_part, number}
 use Rattle.sd_shown.specs.declared.list_id.ListId.TheVariants.{Queues}
 use Rattle.sd_shown.specs.Standing.{id_of, is_unbound}

@@ -1,6 +1,6 @@
 use Rattle.std.proofs.Common.{◌%◌, [], ◌∷◌, option_map, slice_get, inl, refl}
 use Rattle.sd_types.specs.declared.numbers.HomeId.TheVariants.{Chain}
-use Rattle.sd_full.specs.Threads.{best_waiter}
+use Rattle.sd_machine.specs.Threads.{best_waiter}
 use Rattle.sd_store.specs.Parts.{chain_part, number}
 use Rattle.sd_shown.specs.declared.list_id.ListId.TheVariants.{Waits}
 use Rattle.sd_shown.specs.Standing.{id_of}

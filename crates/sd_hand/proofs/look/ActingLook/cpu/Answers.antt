@@ -1,5 +1,5 @@
 use Rattle.std.proofs.Common.{◌≡◌, Some, ◌∙◌}
-use Rattle.sd_machine.specs.States.{cpu_of}
+use Rattle.sd_state.specs.States.{cpu_of}
 use Rattle.sd_store.specs.Parts.{view_of}
 use Rattle.sd_hand.proofs.TellLemmas.{view_told}
 use Rattle.sd_hand.proofs.look.ActingLook.cpu.Goals as goal

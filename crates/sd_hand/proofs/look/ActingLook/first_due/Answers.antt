@@ -1,7 +1,7 @@
 use Rattle.std.proofs.Common.{option_map, slice_get, sym, ap, ◌∙◌}
 use Rattle.sd_types.specs.declared.numbers.HomeId.TheVariants.{Cpu}
-use Rattle.sd_machine.specs.States.{cpu_of}
-use Rattle.sd_full.specs.Threads.{first_due}
+use Rattle.sd_state.specs.States.{cpu_of}
+use Rattle.sd_machine.specs.Threads.{first_due}
 use Rattle.sd_shown.specs.declared.list_id.ListId.TheVariants.{Naps}
 use Rattle.sd_shown.specs.Standing.{due_of_first, id_of}
 use Rattle.sd_homes.specs.Families.{list_in}

@@ -2,7 +2,7 @@ use Rattle.std.proofs.Common.{◌%◌, ◌++◌, [], ◌∷◌, inl, refl}
 use Rattle.sd_types.specs.declared.numbers.HomeId.TheVariants.{Chain}
 use Rattle.sd_types.specs.declared.numbers.Side.TheVariants.{Writer, Reader}
 use Rattle.sd_turn.specs.Waiters.{highest}
-use Rattle.sd_full.specs.Threads.{greatest_waiting}
+use Rattle.sd_machine.specs.Threads.{greatest_waiting}
 use Rattle.sd_store.specs.Parts.{chain_part}
 use Rattle.sd_shown.specs.declared.list_id.ListId.TheVariants.{Waits}
 use Rattle.sd_shown.specs.Standing.{rank_of}

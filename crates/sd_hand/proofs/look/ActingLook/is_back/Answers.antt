@@ -1,5 +1,5 @@
 use Rattle.std.proofs.Common.{sym, ap, ◌∙◌}
-use Rattle.sd_machine.specs.States.{cpu_of, thread_of}
+use Rattle.sd_state.specs.States.{cpu_of, thread_of}
 use Rattle.sd_hand.specs.Keys.{is_back_at, key_or_zero}
 use Rattle.sd_hand.proofs.TellLemmas.{back_by, found_at, found_record}
 use Rattle.sd_hand.proofs.look.ActingLook.is_back.Goals as goal

@@ -1,6 +1,6 @@
 use Rattle.std.proofs.Common.{◌%◌, [], ◌∷◌, inl, refl}
 use Rattle.sd_types.specs.declared.numbers.HomeId.TheVariants.{Chain}
-use Rattle.sd_full.specs.Threads.{lock_of}
+use Rattle.sd_machine.specs.Threads.{lock_of}
 use Rattle.sd_store.specs.Parts.{chain_part}
 use Rattle.sd_homes.specs.Families.{lock_in}
 use Rattle.sd_hand.proofs.ShownLemmas.{lacks_by, tells_by}

@@ -1,9 +1,9 @@
 use Rattle.std.proofs.Common.{◌%◌, int_lt, option_map, sym, ap, ◌∙◌}
 use Rattle.sd_types.specs.declared.numbers.HomeId.TheVariants.{Sleepers}
 use Rattle.sd_boxq.specs.Order.{find_below}
-use Rattle.sd_machine.specs.States.{cpu_of}
-use Rattle.sd_full.specs.Sleeping.{rouse_key}
-use Rattle.sd_full.specs.Threads.{best_sleeper_below}
+use Rattle.sd_state.specs.States.{cpu_of}
+use Rattle.sd_machine.specs.Sleeping.{rouse_key}
+use Rattle.sd_machine.specs.Threads.{best_sleeper_below}
 use Rattle.sd_store.specs.Walks.{next_to_rouse}
 use Rattle.sd_shown.specs.declared.list_id.ListId.TheVariants.{Sleeps}
 use Rattle.sd_shown.specs.Standing.{id_of, key_in}

@@ -3,7 +3,7 @@ use Rattle.sd_types.specs.declared.numbers.HomeId.TheVariants.{Chain}
 use Rattle.sd_types.specs.declared.numbers.Side.TheVariants.{Writer, Reader}
 use Rattle.sd_boxq.specs.Order.{drop_id}
 use Rattle.sd_turn.specs.Waiters.{highest}
-use Rattle.sd_full.specs.Locking.{others_waiting}
+use Rattle.sd_machine.specs.Locking.{others_waiting}
 use Rattle.sd_store.specs.Parts.{chain_part}
 use Rattle.sd_shown.specs.declared.list_id.ListId.TheVariants.{Waits}
 use Rattle.sd_shown.specs.Standing.{id_of, rank_of}

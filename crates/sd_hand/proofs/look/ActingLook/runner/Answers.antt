@@ -1,6 +1,6 @@
 use Rattle.std.proofs.Common.{[], ◌∷◌, option_map, slice_get, inl, refl}
 use Rattle.sd_types.specs.declared.numbers.HomeId.TheVariants.{Cpu}
-use Rattle.sd_full.specs.Threads.{runner}
+use Rattle.sd_machine.specs.Threads.{runner}
 use Rattle.sd_store.specs.Parts.{cpu_part, number}
 use Rattle.sd_shown.specs.declared.list_id.ListId.TheVariants.{Runs}
 use Rattle.sd_shown.specs.Standing.{id_of}

@@ -1,6 +1,6 @@
 use Rattle.std.proofs.Common.{◌%◌, [], ◌∷◌, inl, refl}
 use Rattle.sd_types.specs.declared.numbers.HomeId.TheVariants.{Sleepers}
-use Rattle.sd_full.specs.Threads.{count_of}
+use Rattle.sd_machine.specs.Threads.{count_of}
 use Rattle.sd_store.specs.Parts.{sleepers_part}
 use Rattle.sd_homes.specs.Families.{tokens_in}
 use Rattle.sd_hand.proofs.ShownLemmas.{lacks_by, tells_by}

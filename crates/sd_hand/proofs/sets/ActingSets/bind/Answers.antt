@@ -1,7 +1,7 @@
 use Rattle.std.proofs.Common.{◌≡◌, ◌+◌, Some, refl, ap, ◌∙◌, arith}
-use Rattle.sd_machine.specs.declared.states.CpuState.{CpuState}
-use Rattle.sd_machine.specs.States.{cpu_of, thread_of}
-use Rattle.sd_full.specs.Changes.{bind, with_body}
+use Rattle.sd_state.specs.declared.states.CpuState.{CpuState}
+use Rattle.sd_state.specs.States.{cpu_of, thread_of}
+use Rattle.sd_machine.specs.Changes.{bind, with_body}
 use Rattle.sd_store.specs.declared.parts.CpuView.{CpuView}
 use Rattle.sd_hand.proofs.TellLemmas.{found_at, found_held, view_is}
 use Rattle.sd_hand.proofs.sets.ActingSets.bind.Goals as goal

@@ -1,9 +1,9 @@
 use Rattle.std.proofs.Common.{◌≡◌, Some, is_some, inl, inr, refl, ap, ◌∙◌, subst}
 use Rattle.sd_types.specs.declared.numbers.SetId.{SetId}
-use Rattle.sd_machine.specs.declared.states.CpuState.{CpuState}
-use Rattle.sd_machine.specs.States.{cpu_of, with_cpu}
-use Rattle.sd_full.specs.Changes.{close, without_cpu}
-use Rattle.sd_full.specs.Threads.{open_of, with_open}
+use Rattle.sd_state.specs.declared.states.CpuState.{CpuState}
+use Rattle.sd_state.specs.States.{cpu_of, with_cpu}
+use Rattle.sd_machine.specs.Changes.{close, without_cpu}
+use Rattle.sd_machine.specs.Threads.{open_of, with_open}
 use Rattle.sd_store.specs.declared.parts.CpuView.{CpuView}
 use Rattle.sd_store.specs.Parts.{real_time_part}
 use Rattle.sd_hand.specs.Acting.{IsShown, has_part}

@@ -1,8 +1,8 @@
 use Rattle.std.proofs.Common.{None, refl, ap, ◌∙◌}
-use Rattle.sd_machine.specs.declared.states.CpuState.{CpuState}
-use Rattle.sd_machine.specs.States.{cpu_of}
-use Rattle.sd_full.specs.Changes.{join, with_cpu_in}
-use Rattle.sd_full.specs.Threads.{open_of, with_open}
+use Rattle.sd_state.specs.declared.states.CpuState.{CpuState}
+use Rattle.sd_state.specs.States.{cpu_of}
+use Rattle.sd_machine.specs.Changes.{join, with_cpu_in}
+use Rattle.sd_machine.specs.Threads.{open_of, with_open}
 use Rattle.sd_store.specs.declared.parts.CpuView.{CpuView}
 use Rattle.sd_hand.proofs.TellLemmas.{view_is}
 use Rattle.sd_hand.proofs.sets.ActingSets.join.Goals as goal

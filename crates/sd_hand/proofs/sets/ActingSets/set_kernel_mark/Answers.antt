@@ -1,7 +1,7 @@
 use Rattle.std.proofs.Common.{true, refl, ap}
-use Rattle.sd_machine.specs.States.{cpu_of}
+use Rattle.sd_state.specs.States.{cpu_of}
 use Rattle.sd_store.specs.declared.parts.CpuView.{CpuView}
-use Rattle.sd_full.specs.Changes.{set_kernel_mark}
+use Rattle.sd_machine.specs.Changes.{set_kernel_mark}
 use Rattle.sd_hand.proofs.TellLemmas.{view_is}
 use Rattle.sd_hand.proofs.sets.ActingSets.set_kernel_mark.Goals as goal
 

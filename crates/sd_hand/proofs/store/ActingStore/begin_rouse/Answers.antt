@@ -1,5 +1,5 @@
 use Rattle.std.proofs.Common.{◌+◌, subst}
-use Rattle.sd_full.specs.Changes.{set_duty}
+use Rattle.sd_machine.specs.Changes.{set_duty}
 use Rattle.sd_hand.specs.Acting.{IsShown}
 use Rattle.sd_hand.specs.Later.{shown_later}
 use Rattle.sd_hand.proofs.store.ActingStore.begin_rouse.Goals as goal

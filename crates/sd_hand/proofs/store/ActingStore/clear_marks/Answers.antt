@@ -1,6 +1,6 @@
 use Rattle.std.proofs.Common.{refl}
-use Rattle.sd_machine.specs.States.{cpu_of}
-use Rattle.sd_full.specs.Changes.{clear_marks, unmarked}
+use Rattle.sd_state.specs.States.{cpu_of}
+use Rattle.sd_machine.specs.Changes.{clear_marks, unmarked}
 use Rattle.sd_hand.proofs.TellLemmas.{view_is}
 use Rattle.sd_hand.proofs.store.ActingStore.clear_marks.Goals as goal
 

@@ -1,6 +1,6 @@
 use Rattle.std.proofs.Common.{◌+◌, refl, sym, ap, ◌∙◌}
-use Rattle.sd_machine.specs.States.{cpu_of}
-use Rattle.sd_full.specs.Changes.{count_tick, counted, duty_after}
+use Rattle.sd_state.specs.States.{cpu_of}
+use Rattle.sd_machine.specs.Changes.{count_tick, counted, duty_after}
 use Rattle.sd_hand.specs.declared.acting.Acting.{Acting}
 use Rattle.sd_hand.proofs.ActLemmas.{actor_carried}
 use Rattle.sd_hand.proofs.store.ActingStore.count_tick.Goals as goal

@@ -1,9 +1,9 @@
 use Rattle.std.proofs.Common.{◌+◌, sym, ap, ◌∙◌, subst}
 use Rattle.std.proofs.Math.Nat.{le-add_right}
-use Rattle.sd_machine.specs.declared.states.ThreadState.{ThreadState}
-use Rattle.sd_machine.specs.States.{cpu_of, thread_of, with_thread}
-use Rattle.sd_full.specs.Bodies.{departed}
-use Rattle.sd_full.specs.Changes.{leave}
+use Rattle.sd_state.specs.declared.states.ThreadState.{ThreadState}
+use Rattle.sd_state.specs.States.{cpu_of, thread_of, with_thread}
+use Rattle.sd_machine.specs.Bodies.{departed}
+use Rattle.sd_machine.specs.Changes.{leave}
 use Rattle.sd_store.specs.Keyless.{place_by}
 use Rattle.sd_shown.specs.Standing.{look_of, record_of, without, MayCome}
 use Rattle.sd_homes.specs.Families.{list_in}

@@ -1,10 +1,10 @@
 use Rattle.std.proofs.Common.{◌≡◌, [], Some, None, option_map, refl, sym, ap, ◌∙◌, subst, le_refl}
-use Rattle.sd_machine.specs.declared.states.Place.TheVariants.{Running}
-use Rattle.sd_machine.specs.declared.states.ThreadState.{ThreadState}
-use Rattle.sd_machine.specs.States.{thread_of}
-use Rattle.sd_full.specs.Bodies.{arrived}
-use Rattle.sd_full.specs.Changes.{run_on}
-use Rattle.sd_full.specs.Threads.{runner}
+use Rattle.sd_state.specs.declared.states.Place.TheVariants.{Running}
+use Rattle.sd_state.specs.declared.states.ThreadState.{ThreadState}
+use Rattle.sd_state.specs.States.{thread_of}
+use Rattle.sd_machine.specs.Bodies.{arrived}
+use Rattle.sd_machine.specs.Changes.{run_on}
+use Rattle.sd_machine.specs.Threads.{runner}
 use Rattle.sd_store.specs.Parts.{number}
 use Rattle.sd_shown.specs.declared.list_id.ListId.TheVariants.{Runs}
 use Rattle.sd_homes.specs.Families.{list_in}

@@ -1,6 +1,6 @@
 use Rattle.std.proofs.Common.{subst}
 use Rattle.std.specs.Prelude.{⊤}
-use Rattle.sd_full.specs.Changes.{set_duty}
+use Rattle.sd_machine.specs.Changes.{set_duty}
 use Rattle.sd_store.specs.Words.{Does}
 use Rattle.sd_hand.specs.Acting.{IsShown}
 use Rattle.sd_hand.proofs.store.ActingStore.set_duty.Goals as goal

@@ -1,5 +1,5 @@
-use Rattle.sd_machine.specs.States.{cpu_of}
-use Rattle.sd_full.specs.Changes.{marked, set_mark}
+use Rattle.sd_state.specs.States.{cpu_of}
+use Rattle.sd_machine.specs.Changes.{marked, set_mark}
 use Rattle.sd_hand.proofs.TellLemmas.{marked_count, marked_duty, view_is}
 use Rattle.sd_hand.proofs.store.ActingStore.set_mark.Goals as goal
 

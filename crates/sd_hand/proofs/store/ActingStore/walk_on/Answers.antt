@@ -1,7 +1,7 @@
 use Rattle.std.proofs.Common.{inl, inr}
 use Rattle.std.proofs.Common.{sym, ap, ◌∙◌, subst}
-use Rattle.sd_machine.specs.States.{cpu_of, thread_of}
-use Rattle.sd_full.specs.Changes.{set_duty}
+use Rattle.sd_state.specs.States.{cpu_of, thread_of}
+use Rattle.sd_machine.specs.Changes.{set_duty}
 use Rattle.sd_store.specs.Walks.{walk_gone_on}
 use Rattle.sd_hand.specs.Acting.{IsShown}
 use Rattle.sd_hand.specs.Walking.{next_walk_at}

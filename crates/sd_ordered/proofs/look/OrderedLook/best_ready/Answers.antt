@@ -1,4 +1,4 @@
-use Rattle.sd_full.specs.Threads.{best_ready}
+use Rattle.sd_machine.specs.Threads.{best_ready}
 use Rattle.sd_ordered.proofs.TellLemmas.{best_ready_same}
 use Rattle.sd_ordered.proofs.ToldLemmas.{names}
 use Rattle.sd_ordered.proofs.look.OrderedLook.best_ready.Goals as goal

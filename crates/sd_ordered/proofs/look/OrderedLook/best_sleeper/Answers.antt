@@ -1,4 +1,4 @@
-use Rattle.sd_full.specs.Threads.{best_sleeper}
+use Rattle.sd_machine.specs.Threads.{best_sleeper}
 use Rattle.sd_ordered.proofs.TellLemmas.{best_sleeper_same}
 use Rattle.sd_ordered.proofs.ToldLemmas.{names}
 use Rattle.sd_ordered.proofs.look.OrderedLook.best_sleeper.Goals as goal

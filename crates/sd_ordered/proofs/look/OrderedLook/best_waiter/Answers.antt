@@ -1,4 +1,4 @@
-use Rattle.sd_full.specs.Threads.{best_waiter}
+use Rattle.sd_machine.specs.Threads.{best_waiter}
 use Rattle.sd_ordered.proofs.TellLemmas.{best_waiter_same}
 use Rattle.sd_ordered.proofs.ToldLemmas.{names}
 use Rattle.sd_ordered.proofs.look.OrderedLook.best_waiter.Goals as goal

@@ -1,6 +1,6 @@
 use Rattle.std.proofs.Common.{◌≡◌, ◌∙◌}
 use Rattle.std.specs.Prelude.{option_copied, unwrap_or}
-use Rattle.sd_machine.specs.States.{no_body, thread_of}
+use Rattle.sd_state.specs.States.{no_body, thread_of}
 use Rattle.sd_ordered.proofs.AlikeLemmas.{body_same}
 use Rattle.sd_ordered.proofs.ToldLemmas.{told}
 use Rattle.sd_ordered.proofs.look.OrderedLook.body.Goals as goal

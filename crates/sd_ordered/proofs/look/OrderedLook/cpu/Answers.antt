@@ -1,4 +1,4 @@
-use Rattle.sd_machine.specs.States.{cpu_of}
+use Rattle.sd_state.specs.States.{cpu_of}
 use Rattle.sd_store.specs.Parts.{view_of}
 use Rattle.sd_ordered.proofs.TellLemmas.{view_same}
 use Rattle.sd_ordered.proofs.ToldLemmas.{tells}

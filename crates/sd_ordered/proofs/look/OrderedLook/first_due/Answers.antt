@@ -1,4 +1,4 @@
-use Rattle.sd_full.specs.Threads.{first_due}
+use Rattle.sd_machine.specs.Threads.{first_due}
 use Rattle.sd_ordered.proofs.TellLemmas.{first_due_same}
 use Rattle.sd_ordered.proofs.ToldLemmas.{names}
 use Rattle.sd_ordered.proofs.look.OrderedLook.first_due.Goals as goal

@@ -1,4 +1,4 @@
-use Rattle.sd_full.specs.Threads.{greatest_waiting}
+use Rattle.sd_machine.specs.Threads.{greatest_waiting}
 use Rattle.sd_ordered.proofs.TellLemmas.{greatest_same}
 use Rattle.sd_ordered.proofs.ToldLemmas.{tells}
 use Rattle.sd_ordered.proofs.look.OrderedLook.greatest_waiting.Goals as goal

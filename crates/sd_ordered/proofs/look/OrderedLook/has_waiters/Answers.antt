@@ -1,4 +1,4 @@
-use Rattle.sd_full.specs.Threads.{has_waiters}
+use Rattle.sd_machine.specs.Threads.{has_waiters}
 use Rattle.sd_ordered.proofs.TellLemmas.{has_waiters_same}
 use Rattle.sd_ordered.proofs.ToldLemmas.{tells}
 use Rattle.sd_ordered.proofs.look.OrderedLook.has_waiters.Goals as goal

@@ -1,5 +1,5 @@
-use Rattle.sd_machine.specs.States.{cpu_of, thread_of}
-use Rattle.sd_full.specs.Walking.{is_back}
+use Rattle.sd_state.specs.States.{cpu_of, thread_of}
+use Rattle.sd_machine.specs.Walking.{is_back}
 use Rattle.sd_ordered.proofs.SeekLemmas.{is_back_same}
 use Rattle.sd_ordered.proofs.ToldLemmas.{tells}
 use Rattle.sd_ordered.proofs.look.OrderedLook.is_back.Goals as goal

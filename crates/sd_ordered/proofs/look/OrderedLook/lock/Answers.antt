@@ -1,4 +1,4 @@
-use Rattle.sd_full.specs.Threads.{lock_of}
+use Rattle.sd_machine.specs.Threads.{lock_of}
 use Rattle.sd_ordered.proofs.TellLemmas.{lock_same}
 use Rattle.sd_ordered.proofs.ToldLemmas.{tells}
 use Rattle.sd_ordered.proofs.look.OrderedLook.lock.Goals as goal

@@ -1,4 +1,4 @@
-use Rattle.sd_full.specs.Threads.{next_to_age}
+use Rattle.sd_machine.specs.Threads.{next_to_age}
 use Rattle.sd_ordered.proofs.TellLemmas.{next_to_age_same}
 use Rattle.sd_ordered.proofs.ToldLemmas.{names}
 use Rattle.sd_ordered.proofs.look.OrderedLook.next_to_age.Goals as goal

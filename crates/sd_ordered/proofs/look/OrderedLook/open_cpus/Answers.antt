@@ -1,5 +1,5 @@
 use Rattle.std.proofs.Common.{◌≡◌, ◌∙◌}
-use Rattle.sd_full.specs.Threads.{open_of}
+use Rattle.sd_machine.specs.Threads.{open_of}
 use Rattle.sd_ordered.proofs.TellLemmas.{open_same}
 use Rattle.sd_ordered.proofs.ToldLemmas.{told}
 use Rattle.sd_ordered.proofs.look.OrderedLook.open_cpus.Goals as goal

@@ -1,4 +1,4 @@
-use Rattle.sd_full.specs.Locking.{others_waiting}
+use Rattle.sd_machine.specs.Locking.{others_waiting}
 use Rattle.sd_ordered.proofs.TellLemmas.{others_same}
 use Rattle.sd_ordered.proofs.ToldLemmas.{tells}
 use Rattle.sd_ordered.proofs.look.OrderedLook.others_waiting.Goals as goal

@@ -1,4 +1,4 @@
-use Rattle.sd_full.specs.Threads.{runner}
+use Rattle.sd_machine.specs.Threads.{runner}
 use Rattle.sd_ordered.proofs.TellLemmas.{runner_same}
 use Rattle.sd_ordered.proofs.ToldLemmas.{names}
 use Rattle.sd_ordered.proofs.look.OrderedLook.runner.Goals as goal

@@ -1,4 +1,4 @@
-use Rattle.sd_machine.specs.States.{thread_of}
+use Rattle.sd_state.specs.States.{thread_of}
 use Rattle.sd_store.specs.Keyless.{spot_of}
 use Rattle.sd_ordered.proofs.TellLemmas.{spot_same}
 use Rattle.sd_ordered.proofs.ToldLemmas.{tells}

@@ -1,4 +1,4 @@
-use Rattle.sd_machine.specs.States.{cpu_of}
+use Rattle.sd_state.specs.States.{cpu_of}
 use Rattle.sd_ordered.proofs.TellLemmas.{count_same}
 use Rattle.sd_ordered.proofs.ToldLemmas.{tells}
 use Rattle.sd_ordered.proofs.look.OrderedLook.ticks.Goals as goal

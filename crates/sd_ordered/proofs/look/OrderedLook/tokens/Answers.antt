@@ -1,4 +1,4 @@
-use Rattle.sd_full.specs.Threads.{count_of}
+use Rattle.sd_machine.specs.Threads.{count_of}
 use Rattle.sd_ordered.proofs.TellLemmas.{count_of_same}
 use Rattle.sd_ordered.proofs.ToldLemmas.{tells}
 use Rattle.sd_ordered.proofs.look.OrderedLook.tokens.Goals as goal

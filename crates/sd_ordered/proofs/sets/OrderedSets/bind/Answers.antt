@@ -1,6 +1,6 @@
 use Rattle.std.specs.Prelude.{◌+◌, ◌<◌, ◌^◌}
-use Rattle.sd_full.specs.Changes.{bind}
-use Rattle.sd_machine.specs.States.{cpu_of}
+use Rattle.sd_machine.specs.Changes.{bind}
+use Rattle.sd_state.specs.States.{cpu_of}
 use Rattle.sd_ordered.proofs.CanLemmas.{bound_back}
 use Rattle.sd_ordered.proofs.ChangeLemmas.{bind_alike}
 use Rattle.sd_ordered.specs.declared.ordered.Ordered.{Ordered}

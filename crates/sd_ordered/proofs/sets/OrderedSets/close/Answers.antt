@@ -1,5 +1,5 @@
 use Rattle.std.specs.Prelude.{⊤}
-use Rattle.sd_full.specs.Changes.{close}
+use Rattle.sd_machine.specs.Changes.{close}
 use Rattle.sd_ordered.proofs.ChangeLemmas.{close_alike}
 use Rattle.sd_ordered.specs.declared.ordered.Ordered.{Ordered}
 use Rattle.sd_ordered.proofs.ToldLemmas.{does}

@@ -1,5 +1,5 @@
-use Rattle.sd_full.specs.Changes.{join}
-use Rattle.sd_full.specs.Needs.{CanJoin}
+use Rattle.sd_machine.specs.Changes.{join}
+use Rattle.sd_machine.specs.Needs.{CanJoin}
 use Rattle.sd_ordered.proofs.CanLemmas.{join_back}
 use Rattle.sd_ordered.proofs.ChangeLemmas.{join_alike}
 use Rattle.sd_ordered.specs.declared.ordered.Ordered.{Ordered}

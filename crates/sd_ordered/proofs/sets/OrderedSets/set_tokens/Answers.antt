@@ -1,5 +1,5 @@
-use Rattle.sd_full.specs.Threads.{with_count}
-use Rattle.sd_full.specs.Needs.{IsChan}
+use Rattle.sd_machine.specs.Threads.{with_count}
+use Rattle.sd_machine.specs.Needs.{IsChan}
 use Rattle.sd_ordered.proofs.CanLemmas.{chan_back}
 use Rattle.sd_ordered.proofs.ChangeLemmas.{tokens_alike}
 use Rattle.sd_ordered.specs.declared.ordered.Ordered.{Ordered}

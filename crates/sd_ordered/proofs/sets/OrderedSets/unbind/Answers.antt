@@ -1,5 +1,5 @@
 use Rattle.std.specs.Prelude.{⊤}
-use Rattle.sd_full.specs.Changes.{unbind}
+use Rattle.sd_machine.specs.Changes.{unbind}
 use Rattle.sd_ordered.proofs.ChangeLemmas.{unbind_alike}
 use Rattle.sd_ordered.specs.declared.ordered.Ordered.{Ordered}
 use Rattle.sd_ordered.proofs.ToldLemmas.{does}

@@ -1,5 +1,5 @@
 use Rattle.std.specs.Prelude.{⊤}
-use Rattle.sd_full.specs.Changes.{back_key, set_duty}
+use Rattle.sd_machine.specs.Changes.{back_key, set_duty}
 use Rattle.sd_types.specs.declared.events.Duty.TheVariants.{Rouse}
 use Rattle.sd_ordered.proofs.ChangeLemmas.{rouse_alike}
 use Rattle.sd_ordered.specs.declared.ordered.Ordered.{Ordered}

@@ -1,6 +1,6 @@
-use Rattle.sd_full.specs.Changes.{with_body}
+use Rattle.sd_machine.specs.Changes.{with_body}
 use Rattle.sd_store.specs.Bodies.{CanChange, changed}
-use Rattle.sd_machine.specs.States.{thread_of}
+use Rattle.sd_state.specs.States.{thread_of}
 use Rattle.sd_ordered.proofs.CanLemmas.{change_back}
 use Rattle.sd_ordered.proofs.ChangeLemmas.{body_alike}
 use Rattle.sd_ordered.specs.declared.ordered.Ordered.{Ordered}

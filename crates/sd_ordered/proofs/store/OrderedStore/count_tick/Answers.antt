@@ -1,5 +1,5 @@
-use Rattle.sd_full.specs.Changes.{count_tick}
-use Rattle.sd_full.specs.Needs.{CanTick}
+use Rattle.sd_machine.specs.Changes.{count_tick}
+use Rattle.sd_machine.specs.Needs.{CanTick}
 use Rattle.sd_ordered.proofs.CanLemmas.{tick_back}
 use Rattle.sd_ordered.proofs.ChangeLemmas.{count_alike}
 use Rattle.sd_ordered.specs.declared.ordered.Ordered.{Ordered}

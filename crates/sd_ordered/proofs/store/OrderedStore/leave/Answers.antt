@@ -1,5 +1,5 @@
-use Rattle.sd_full.specs.Changes.{leave}
-use Rattle.sd_full.specs.Needs.{RunsOn}
+use Rattle.sd_machine.specs.Changes.{leave}
+use Rattle.sd_machine.specs.Needs.{RunsOn}
 use Rattle.sd_store.specs.Keyless.{IsDestination, place_by}
 use Rattle.sd_ordered.proofs.CanLemmas.{destination_back, runs_back}
 use Rattle.sd_ordered.proofs.ChangeLemmas.{leave_alike}

@@ -1,5 +1,5 @@
-use Rattle.sd_full.specs.Changes.{run_on}
-use Rattle.sd_full.specs.Needs.{IsFree}
+use Rattle.sd_machine.specs.Changes.{run_on}
+use Rattle.sd_machine.specs.Needs.{IsFree}
 use Rattle.sd_ordered.proofs.CanLemmas.{free_back}
 use Rattle.sd_ordered.proofs.ChangeLemmas.{run_alike}
 use Rattle.sd_ordered.specs.declared.ordered.Ordered.{Ordered}

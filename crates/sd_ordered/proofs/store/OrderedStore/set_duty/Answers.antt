@@ -1,5 +1,5 @@
 use Rattle.std.specs.Prelude.{⊤}
-use Rattle.sd_full.specs.Changes.{set_duty}
+use Rattle.sd_machine.specs.Changes.{set_duty}
 use Rattle.sd_store.specs.Keyless.{duty_of}
 use Rattle.sd_ordered.proofs.ChangeLemmas.{duty_alike_after}
 use Rattle.sd_ordered.specs.declared.ordered.Ordered.{Ordered}

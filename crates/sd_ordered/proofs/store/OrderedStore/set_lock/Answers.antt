@@ -1,5 +1,5 @@
-use Rattle.sd_full.specs.Threads.{with_lock}
-use Rattle.sd_full.specs.Needs.{IsLock}
+use Rattle.sd_machine.specs.Threads.{with_lock}
+use Rattle.sd_machine.specs.Needs.{IsLock}
 use Rattle.sd_ordered.proofs.CanLemmas.{lock_back}
 use Rattle.sd_ordered.proofs.ChangeLemmas.{lock_alike}
 use Rattle.sd_ordered.specs.declared.ordered.Ordered.{Ordered}

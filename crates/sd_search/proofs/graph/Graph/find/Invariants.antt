@@ -1,6 +1,6 @@
 use Rattle.std.proofs.Common.{◌≡◌, ◌<◌, ℕ, Some}
 use Rattle.std.specs.Prelude.{slice_get}
-use Rattle.sd_machine.specs.declared.states.State.{State}
+use Rattle.sd_state.specs.declared.states.State.{State}
 use Rattle.sd_search.specs.Graphs.{IsAt, packed}
 use Rattle.sd_search.specs.Questions.{HasPart}
 use Rattle.sd_search.proofs.graph.Graph.find.Given as goal

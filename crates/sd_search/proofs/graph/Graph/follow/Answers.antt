@@ -1,7 +1,7 @@
 use Rattle.std.proofs.Common.{◌≡◌, sym, ap, ◌∙◌, subst}
 use Rattle.std.proofs.lemmas.Result.{on_ok_weaker}
-use Rattle.sd_machine.specs.declared.states.State.{State}
-use Rattle.sd_full.specs.Events.{after}
+use Rattle.sd_state.specs.declared.states.State.{State}
+use Rattle.sd_machine.specs.Events.{after}
 use Rattle.sd_interleavings.specs.Spelled.{IsTurn}
 use Rattle.sd_ordered.specs.Order.{IsSameOrder}
 use Rattle.sd_ordered.specs.Ranks.{ranked}

@@ -1,6 +1,6 @@
 use Rattle.std.proofs.Common.{subst}
-use Rattle.sd_machine.specs.declared.states.State.{State}
-use Rattle.sd_full.specs.Runs.{IsComplete}
+use Rattle.sd_state.specs.declared.states.State.{State}
+use Rattle.sd_machine.specs.Runs.{IsComplete}
 use Rattle.sd_search.specs.Graphs.{packed, steps_of}
 use Rattle.sd_search.proofs.PathLemmas.{fit_at}
 use Rattle.sd_search.proofs.TellLemmas.{at_same}

@@ -1,6 +1,6 @@
 use Rattle.std.proofs.Common.{ℕ, ◌+◌, ◌<◌, length}
 use Rattle.std.specs.Prelude.{reverse}
-use Rattle.sd_machine.specs.declared.states.State.{State as StateOf}
+use Rattle.sd_state.specs.declared.states.State.{State as StateOf}
 use Rattle.sd_search.specs.Graphs.{IsAt, IsDeep, packed, steps_of}
 use Rattle.sd_search.proofs.PathLemmas.{IsWay}
 use Rattle.sd_search.proofs.graph.Graph.path.Given as goal

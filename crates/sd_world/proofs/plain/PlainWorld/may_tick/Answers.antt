@@ -2,9 +2,9 @@ use Rattle.std.proofs.Common.{◌≡◌, true, false, ◌&&◌, sym, ap, ◌∙�
 use Rattle.std.specs.Prelude.{nat_le, nat_lt}
 use Rattle.std.specs.List.{list_all}
 use Rattle.std.proofs.lemmas.Bool.Decides.{nat_tests}
-use Rattle.sd_machine.specs.declared.states.CpuState.{CpuState}
+use Rattle.sd_state.specs.declared.states.CpuState.{CpuState}
 use Rattle.sd_hand.specs.declared.acting.Actor.{Actor}
-use Rattle.sd_full.specs.Events.{may_tick}
+use Rattle.sd_machine.specs.Events.{may_tick}
 use Rattle.sd_world.specs.Plain.{told}
 use Rattle.sd_world.proofs.ActorLemmas.{all_counts}
 use Rattle.sd_world.proofs.plain.PlainWorld.may_tick.Goals as goal

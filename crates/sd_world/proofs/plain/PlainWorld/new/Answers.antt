@@ -1,7 +1,7 @@
 use Rattle.std.proofs.Common.{sym, ap, ◌∙◌, subst}
-use Rattle.sd_machine.specs.Opening.{opening}
-use Rattle.sd_full.specs.Runs.{IsRun, final}
-use Rattle.sd_full.proofs.RunLemmas.{IsRun-nil, final-nil}
+use Rattle.sd_state.specs.Opening.{opening}
+use Rattle.sd_machine.specs.Runs.{IsRun, final}
+use Rattle.sd_machine.proofs.RunLemmas.{IsRun-nil, final-nil}
 use Rattle.sd_world.proofs.plain.PlainWorld.new.Goals as goal
 
 pub resume-requires-clause-run : goal.resume-requires-clause-run

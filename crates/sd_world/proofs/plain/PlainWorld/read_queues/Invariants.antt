@@ -1,6 +1,6 @@
 use Rattle.std.proofs.Common.{◌≡◌, ◌≤◌, ◌==◌, not, filter, length, map, take}
 use Rattle.sd_types.specs.declared.events.Which.TheVariants.{Queued}
-use Rattle.sd_full.specs.Choosing.{hint_shown}
+use Rattle.sd_machine.specs.Choosing.{hint_shown}
 use Rattle.sd_world.specs.Plain.{told}
 use Rattle.sd_world.proofs.plain.PlainWorld.read_queues.Given as goal
 

@@ -1,4 +1,0 @@
-pub mod OpeningLemmas
-pub mod RoundLemmas
-pub mod RunLemmas
-pub mod ShapeLemmas

@@ -1,0 +1,10 @@
+pub mod BestLemmas
+pub mod Chosen
+pub mod ClassLemmas
+pub mod Declared
+pub mod KeyLemmas
+pub mod OpeningLemmas
+pub mod OpeningQueues
+pub mod OpeningSets
+pub mod Openings
+pub mod OrderLemmas

@@ -1,0 +1,7 @@
+pub mod Accounts
+pub mod Best
+pub mod Invariants
+pub mod Opening
+pub mod Operations
+pub mod States
+pub mod Texts
