@@ -155,7 +155,7 @@ fn worked_runs(rt: HostRuntime) -> Result<(), Fail> {
     Ok(())
 }
 
-const USAGE: &str =
+pub(crate) const USAGE: &str =
     "usage: dispsim run | run --seed N | run --threads | sum | gen N | tables | audit\n";
 
 const SUMMARY: &str =

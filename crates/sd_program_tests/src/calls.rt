@@ -1,0 +1,176 @@
+//! The three programs from their start: the status, the output and the error output that the arguments of each kind are answered
+//! with, as one table. The journals and the ticks were worked out by hand.
+
+use crate::runs::{Called, SMALLEST, SMALLEST_JOURNAL, USAGE};
+use sd_find::Progress;
+use sd_program::OpenGate;
+use sd_text::{MemorySink, MemorySource};
+use std::alloc::AllocError;
+use std::io;
+use std::io::ErrorKind;
+use std::marker::Sync;
+use std::sync::Wait;
+use std::test::Fail;
+use std::thread::Threads;
+
+const VIEW_USAGE: &str =
+    "usage: dispview timeline [FROM TO] | trace | list [FROM TO] | list NAME | report [--csv] | --help\n";
+
+const VIEW_HELP: &str =
+    "dispview reads a workload, the line journal, and a journal, and judges it:\n(cat W; echo journal; dispsim run < W) | dispview FORM\ntimeline          the run as a picture (SVG)\ntimeline FROM TO  the ticks from FROM to TO of it\ntrace             the run for chrome://tracing and Perfetto (JSON)\nlist              each entry with a sentence on it\nlist FROM TO      those of the ticks from FROM to TO\nlist NAME         those that name the thread NAME\nreport            statistics of threads, tasks, locks and processors\nreport --csv      the same for a spreadsheet (CSV)\n--help            these lines\n";
+
+const FIND_USAGE: &str =
+    "usage: dispfind (blocked | stuck | states | ends NAME | waits NAME) [--most N] [--quiet] | --help\n";
+
+const FIND_HELP: &str =
+    "dispfind reads a workload, and searches every order in which its processors can act:\ndispfind FORM [--most N] [--quiet] < W\nblocked    a run at whose end threads block each other in a circle\nstuck      a run at whose end a thread that has operations left has not ended\nstates     how many states there are, and in how many of them runs end\nends NAME  at which tick thread NAME ends at the earliest and at the latest\nwaits NAME how many ticks thread NAME waits at most from a wakeup to its running\n--most N   ends with N states; 1000000 where it is not given\n--quiet    no lines of progress on the error output of a terminal\n--help     these lines\nExit status: 9 found, its journal behind the line states; 10 never; 11 not all searched\n(cat W; echo journal; dispfind FORM < W | sed '1,/^states /d') | dispsim audit\nOf ends two journals stand behind the lines earliest and latest\n";
+
+const FIND_ENDS: &str =
+    "found\nthread a ends in every run\nstates 8\nearliest 3\n0 c0 dispatch a 29\n1 c0 tick a\n2 c0 tick a\n3 c0 tick a\n4 c0 done a\n5 c0 idle\n6 c0 idle\naccounts\nthread a ticks 3 dispatches 1 preempts 0 wakes 0 ended\ncpu 0 ticks 5 idle 2\nlatest 3\n0 c0 dispatch a 29\n1 c0 tick a\n2 c0 tick a\n3 c0 tick a\n4 c0 done a\n5 c0 idle\n6 c0 idle\naccounts\nthread a ticks 3 dispatches 1 preempts 0 wakes 0 ended\ncpu 0 ticks 5 idle 2\n";
+
+/// A thread is woken two ticks before it runs again.
+const WOKEN: &str =
+    "limit 3\nchan k\nthread a fx 60 20 inf\nthread b fx 60 20 inf\nscript a\nsleep k\nend\nscript b\nwake k\nrun 2\nend\n";
+
+const FIND_WAITS: &str =
+    "found\nlongest 2\nstates 11\n0 c0 dispatch a 20\n1 c0 sleep a k\n2 c0 dispatch b 20\n3 c0 wake b k a to c0\n4 c0 tick b\n5 c0 tick b\n6 c0 done b\n7 c0 dispatch a 20\n8 c0 done a\n9 c0 idle\naccounts\nthread a ticks 0 dispatches 2 preempts 0 wakes 1 ended\nthread b ticks 2 dispatches 1 preempts 0 wakes 0 ended\ncpu 0 ticks 3 idle 1\n";
+
+#[derive(Clone, Copy)]
+enum Program {
+    Dispsim,
+    Dispview,
+    Dispfind,
+}
+
+/// A call of a program, and what it is to answer. Arguments that no words spell could not be read as text.
+#[derive(Clone, Copy)]
+struct Row {
+    program: Program,
+    words: Option<&'static str>,
+    input: &'static str,
+    status: u8,
+    out: &'static str,
+    err: &'static str,
+}
+
+const fn asked(
+    program: Program,
+    words: Option<&'static str>,
+    input: &'static str,
+    status: u8,
+    out: &'static str,
+    err: &'static str,
+) -> Row {
+    Row {
+        program,
+        words,
+        input,
+        status,
+        out,
+        err,
+    }
+}
+
+fn arguments<R: AllocGlobal>(rt: &R, words: Option<&str>) -> io::Result<Vec<String>> {
+    let Some(words) = words else {
+        return Err(io::Error::from(ErrorKind::InvalidData));
+    };
+    let alloc = rt.alloc();
+    let mut texts = Vec::new(alloc);
+    for word in words.split_whitespace() {
+        texts.push(String::from_str(alloc, word)?)?;
+    }
+    Ok(texts)
+}
+
+fn call_of<R: Threads + Wait + Sync + AllocGlobal>(rt: &R, row: Row) -> Result<Called, AllocError> {
+    let alloc = rt.alloc();
+    let bytes = Vec::from_slice(alloc, row.input.as_bytes())?;
+    let mut input = MemorySource::new(bytes, 7, Vec::new(alloc));
+    let mut out = MemorySink::new(alloc, 4096, Vec::new(alloc))?;
+    let mut err = MemorySink::new(alloc, 200, Vec::new(alloc))?;
+    let arguments = arguments(rt, row.words);
+    let status = match row.program {
+        Program::Dispsim => sd_program::start(
+            rt, alloc, arguments, &mut input, &mut out, &mut err, &OpenGate,
+        ),
+        Program::Dispview => sd_viewer::start(alloc, arguments, &mut input, &mut out, &mut err),
+        Program::Dispfind => {
+            let mut progress: Progress<MemorySink> = Progress::new(alloc, None);
+            sd_find::start(
+                alloc,
+                arguments,
+                &mut input,
+                &mut out,
+                &mut err,
+                &mut progress,
+            )
+        }
+    };
+    Ok(Called { status, out, err })
+}
+
+#[test]
+fn calls_of_each_program(rt: HostRuntime) -> Result<(), Fail> {
+    use Program::{Dispfind, Dispsim, Dispview};
+    let rows = [
+        asked(Dispsim, Some("run"), SMALLEST, 0, SMALLEST_JOURNAL, ""),
+        asked(Dispsim, Some("run --seed 7 more"), SMALLEST, 1, "", USAGE),
+        asked(
+            Dispsim,
+            Some("run"),
+            "limit 0\n",
+            2,
+            "",
+            "refused: line 1: range\n",
+        ),
+        asked(Dispsim, None, SMALLEST, 1, "", USAGE),
+        asked(Dispview, Some("--help"), "", 0, VIEW_HELP, ""),
+        asked(Dispview, Some("timeline 0 5 more"), "", 1, "", VIEW_USAGE),
+        asked(
+            Dispview,
+            Some("timeline"),
+            "limit 5\n",
+            2,
+            "",
+            "refused: no journal\n",
+        ),
+        asked(Dispview, None, "", 1, "", VIEW_USAGE),
+        asked(Dispfind, Some("--help"), "", 0, FIND_HELP, ""),
+        asked(Dispfind, Some("ends a"), SMALLEST, 9, FIND_ENDS, ""),
+        asked(Dispfind, Some("waits a"), WOKEN, 9, FIND_WAITS, ""),
+        asked(
+            Dispfind,
+            Some("stuck"),
+            SMALLEST,
+            10,
+            "never\nstates 8\n",
+            "",
+        ),
+        asked(
+            Dispfind,
+            Some("states --most 100 more"),
+            "",
+            1,
+            "",
+            FIND_USAGE,
+        ),
+        asked(
+            Dispfind,
+            Some("blocked"),
+            "limit 5\nthread a xx 29 0 0\n",
+            2,
+            "",
+            "refused: line 2: syntax\n",
+        ),
+        asked(Dispfind, None, "", 1, "", FIND_USAGE),
+    ];
+    for row in rows {
+        let called = call_of(&rt, row)?;
+        let words = row.words.unwrap_or("no text");
+        assert_eq!(rt; called.status, row.status, "{words}");
+        assert_eq!(rt; called.out.bytes(), row.out.as_bytes(), "{words}");
+        assert_eq!(rt; called.err.bytes(), row.err.as_bytes(), "{words}");
+    }
+    Ok(())
+}

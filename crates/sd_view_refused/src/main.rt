@@ -1,9 +1,0 @@
-//! `dispview` as it is given a workload without a journal: a stored run sees that the line of the refusal does not go to the
-//! output.
-#![tactic(auto)]
-
-use std::process::ExitCode;
-
-fn main(rt: HostRuntime) -> ExitCode {
-    sd_viewer::program(&rt)
-}
