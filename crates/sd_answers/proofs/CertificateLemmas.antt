@@ -6,8 +6,8 @@ use Rattle.sd_types.specs.declared.works.Work.{Work}
 use Rattle.sd_declare.specs.declared.causes.WorkCause.{WorkCause}
 use Rattle.sd_workload.specs.Accepted.{Accepted, FirstCause}
 use Rattle.sd_workload.proofs.OneLemmas.{one-work}
-use Rattle.sd_cut.specs.Cuts.{HasNoJournal, IsCut}
-use Rattle.sd_cut.proofs.CutLemmas.{before_same, after_same, none_cut}
+use Rattle.sd_answers.specs.Cuts.{HasNoJournal, IsCut}
+use Rattle.sd_answers.proofs.CutLemmas.{before_same, after_same, none_cut}
 use Rattle.sd_audit.specs.declared.audits.AuditFault.{AuditFault}
 use Rattle.sd_audit.specs.declared.audits.AuditFault.TheVariants as audit
 use Rattle.sd_audit.specs.Audits.{IsFault, IsMemory}

@@ -5,7 +5,7 @@ use Rattle.std.specs.List.{last_or, position_or_len}
 use Rattle.sd_text.specs.Lines.{EndsLine, IsOneLine, is_newline, lines_of}
 use Rattle.sd_text.proofs.LineLemmas.{lines-first}
 use Rattle.sd_text.proofs.PieceLemmas.{EndsLine-drop, first-one_line}
-use Rattle.sd_cut.proofs.CutLemmas.{head_same}
+use Rattle.sd_answers.proofs.CutLemmas.{head_same}
 
 -- the last byte is a newline, and there is one, whatever stands in front
 abbrev pub Closes : List ℕ → Type 0

@@ -1,4 +1,5 @@
 pub mod CertificateLemmas
+pub mod CutLemmas
 pub mod EndLemmas
 pub mod InputLemmas
 pub mod PutLemmas

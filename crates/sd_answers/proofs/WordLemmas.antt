@@ -23,7 +23,7 @@ use Rattle.sd_workload.specs.Accepted.{Accepted}
 use Rattle.sd_workload.specs.First.{above}
 use Rattle.sd_workload.specs.Texts.{Block, Outside, InTable, InScript, cause_of}
 use Rattle.sd_workload.proofs.FirstLemmas.{taken-back}
-use Rattle.sd_cut.specs.Cuts.{HasNoJournal}
+use Rattle.sd_answers.specs.Cuts.{HasNoJournal}
 
 -- the words of the line
 abbrev journal_line : Line

@@ -5,7 +5,7 @@ use Rattle.std.specs.Io.KnownBytes.{Appends}
 use Rattle.sd_types.specs.declared.works.Work.{Work}
 use Rattle.sd_state.specs.declared.states.State.{State}
 use Rattle.sd_workload.specs.Accepted.{Accepted}
-use Rattle.sd_cut.specs.Cuts.{HasNoJournal, IsCut}
+use Rattle.sd_answers.specs.Cuts.{HasNoJournal, IsCut}
 use Rattle.sd_audit.specs.Audits.{IsFault, IsJournal}
 use Rattle.sd_answers.specs.declared.answers.JournalFault.{JournalFault}
 use Rattle.sd_answers.specs.declared.answers.Answer.{Answer}

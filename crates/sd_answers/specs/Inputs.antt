@@ -7,7 +7,7 @@ use Rattle.std.specs.declared.alloc.Global.{Global}
 use Rattle.sd_types.specs.declared.works.Work.{Work}
 use Rattle.sd_declare.specs.declared.causes.WorkCause.{WorkCause}
 use Rattle.sd_workload.specs.Accepted.{Accepted, FirstCause}
-use Rattle.sd_cut.specs.Cuts.{HasNoJournal, IsCut}
+use Rattle.sd_answers.specs.Cuts.{HasNoJournal, IsCut}
 use Rattle.sd_answers.specs.declared.answers.Answer.{Answer}
 use Rattle.sd_answers.specs.declared.answers.Answer.TheVariants.{TooLarge, TooLargeToAudit, NoJournal, Refused, ReadFault, OutOfMemory}
 use Rattle.sd_answers.specs.declared.inputs.Certificate.{Certificate}

@@ -3,10 +3,10 @@
 ghost use Rattle.std.specs.Prelude.{◌≤◌, IfOk, IfSome, IfNone, length, take, drop};
 ghost use Rattle.sd_answers.specs.Inputs.{IsReading, IsReadingCertificate, IsReadingBytes};
 ghost use Rattle.sd_answers.specs.StreamChanges.{change_of};
-ghost use Rattle.sd_cut.specs.Cuts.{HasNoJournal, IsCut};
+ghost use Rattle.sd_answers.specs.Cuts.{HasNoJournal, IsCut};
 
 use crate::answers::Answer;
-use sd_cut::find_cut;
+use crate::cuts::find_cut;
 use sd_text::{Source, read_all, read_up_to};
 use sd_types::Work;
 use sd_workload::read_work;

@@ -4,6 +4,7 @@
 
 mod answers;
 mod arguments;
+mod cuts;
 mod inputs;
 mod laws;
 mod refusals;
@@ -11,6 +12,9 @@ mod writing;
 
 pub use answers::{Answer, JournalFault};
 pub use arguments::behind_name;
+pub use cuts::{Cut, find_cut};
 pub use inputs::{Certificate, read_certificate, read_input};
-pub use laws::accepted_texts_have_no_journal;
+pub use laws::{
+    accepted_texts_have_no_journal, texts_have_one_cut, texts_without_journal_have_no_cut,
+};
 pub use writing::{Unwritten, put_line, put_text};

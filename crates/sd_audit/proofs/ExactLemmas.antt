@@ -178,6 +178,11 @@ module _ (w : Work) where
       absurd (f.differs (append_cancel_left (entries_text w f.entries) f.tail (tail_text w f.entries (final w (opening w) f.entries)) (sym f.parts ∙ j.whole ∙ ap (journal w) (sym same) ∙ journal_is f.entries)))
   no_fault text s n (Memory at) j f = tt
 
+  -- the entries that were read are those of the journal
+  pub entries_read : (text : List ℕ) (s : State) (n : ℕ) (es : List Entry) (rest : List (List ℕ)) → TellsRun w text es (codes "accounts" ∷ rest) → (j : IsJournal w text s n) → es ≡ j.entries
+  entries_read text s n es rest told j =
+      (one_told text es j.entries _ _ (record { told = told; ends = accounts_end es rest }) (journal_told text s n j).1).0
+
   pub one_run : (text : List ℕ) (s t : State) (n m : ℕ) → IsJournal w text s n → IsJournal w text t m → (s ≡ t) × (n ≡ m)
   one_run text s t n m j k =
       let same = (one_told text j.entries k.entries _ _ (journal_told text s n j).1 (journal_told text t m k).1).0 in

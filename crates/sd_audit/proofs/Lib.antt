@@ -1,6 +1,7 @@
+pub mod CollectLemmas
 mod CommonLemmas
 mod DifferenceLemmas
 mod EnterLemmas
 pub mod ExactLemmas
 pub mod LineLemmas
-mod ReadLemmas
+pub mod ReadLemmas

@@ -1,15 +1,13 @@
 -- Entries and their lines: a line tells one entry, and never is `accounts`.
-use Rattle.std.proofs.Common.{◌≡◌, ℕ, ◌<◌, ◌^◌, true, ◌&&◌, List, [], ◌∷◌, ◌++◌, map, refl, sym, ap, subst, ◌∙◌, arith}
-use Rattle.std.specs.Prelude.{codes, nat_lt, Result, Ok, Err, IfErr}
+use Rattle.std.proofs.Common.{◌≡◌, ℕ, ◌<◌, ◌^◌, true, ◌&&◌, List, [], ◌∷◌, ◌++◌, map, refl, sym, ap, ◌∙◌, arith}
+use Rattle.std.specs.Prelude.{codes, nat_lt}
 use Rattle.std.specs.List.{All, list_all, join_with_byte}
 use Rattle.std.specs.Fmt.{decimal}
 use Rattle.std.specs.Char.{is_ascii_digit}
 use Rattle.std.specs.Str.{all_ascii_digits}
-use Rattle.std.specs.Str.Parse.{digits_value}
 use Rattle.std.proofs.lemmas.Bool.{false≢true, and_parts}
 use Rattle.std.proofs.lemmas.Bool.Decides.{nat_tests}
 use Rattle.std.proofs.lemmas.List.Elements.{All-head, All-tail}
-use Rattle.std.proofs.lemmas.Str.Parse.{IsNumeralModel, numerals_by_value, tells_all_ascii_digits}
 use Rattle.std.proofs.lemmas.Fmt.{digits_decimal}
 use Rattle.sd_types.specs.declared.events.Entry.{Entry}
 use Rattle.sd_types.specs.declared.works.Work.{Work}
@@ -20,7 +18,7 @@ use Rattle.sd_text.specs.Lines.{lines_of, is_line, text_of_lines}
 use Rattle.sd_text.specs.Words.{is_word}
 use Rattle.sd_text.proofs.LineLemmas.{lines_of-line, lines_of-text}
 use Rattle.sd_text.proofs.NumberLemmas.{own}
-use Rattle.sd_machine.specs.Runs.{final, IsStep}
+use Rattle.sd_machine.specs.Runs.{final}
 use Rattle.sd_machine.specs.Texts.{entry_text, entries_text, cycles_text, journal}
 use Rattle.sd_spelling.specs.EntryWords.{entry_words, event_words, hint_words}
 use Rattle.sd_machine.specs.Texts.{cpu_text}
@@ -29,9 +27,7 @@ use Rattle.sd_spelling.proofs.NameLemmas.{number_word}
 use Rattle.sd_spelling.proofs.SpellLemmas.{entry_spelled}
 use Rattle.sd_spelling.proofs.WordLemmas.{entry_is_line}
 use Rattle.sd_spelling.proofs.LineLemmas.{one_line}
-use Rattle.sd_audit.specs.declared.audits.AuditFault.{AuditFault}
-use Rattle.sd_audit.specs.declared.audits.AuditFault.TheVariants.{NotAnEntry, Illegal, Incomplete, Tail, Memory}
-use Rattle.sd_audit.specs.Audits.{entry_line, IsTaken, IsRefused, IsLineFault, IsMemory}
+use Rattle.sd_audit.specs.Audits.{entry_line}
 use Rattle.sd_audit.proofs.ReadLemmas.{entry_line_is}
 
 module _ (w : Work) where
@@ -105,23 +101,3 @@ journal_lines w es h =
     ∙ lines_of-text (map (entry_line w) es) (accounts_text w es s ++ cycles_text w s) (are_lines w es h)
     ∙ ap (λ (l : List ℕ). map (entry_line w) es ++ lines_of l) (tail_begins w es s)
     ∙ ap (λ (ls : List (List ℕ)). map (entry_line w) es ++ ls) (lines_of-line (codes "accounts") (behind w es s) refl)
-
--- ---- a line that tells an entry has no fault
-
-module _ (w : Work) (s : State) (number : ℕ) (line : List ℕ) where
-  no_refusal : (e : Entry) → IsTaken w s number line e → IsRefused w s number line → ⊥
-  no_refusal e t r =
-      let same = one_line w e r.entry t.spelled r.spelled (t.text ∙ sym r.text) in
-      subst (λ (x : Entry). (x.number ≡ number → IsStep w s x → ⊥) → ⊥) same (λ illegal. illegal t.counted t.step) r.illegal
-
-  no_line_fault : (fault : AuditFault) → IsLineFault w s number line fault → (e : Entry) → IsTaken w s number line e → IsMemory fault
-  no_line_fault (NotAnEntry at) f e t = absurd (f.1 e t.spelled t.text)
-  no_line_fault (Illegal at) f e t = absurd (no_refusal e t f.1)
-  no_line_fault (Incomplete c) f e t = absurd f
-  no_line_fault (Tail at) f e t = absurd f
-  no_line_fault (Memory at) f e t = tt
-
-  pub line_refused_rightly : (r : Result Entry AuditFault) → IfErr r (IsLineFault w s number line)
-      → IfErr r (λ fault. (e : Entry) → IsTaken w s number line e → IsMemory fault)
-  line_refused_rightly (Ok x) h = tt
-  line_refused_rightly (Err fault) h = no_line_fault fault h

@@ -20,7 +20,8 @@ use Rattle.sd_spelling.specs.Fitting.{IsSpelled}
 use Rattle.sd_audit.specs.declared.audits.AuditFault.{AuditFault}
 use Rattle.sd_audit.specs.declared.audits.AuditFault.TheVariants.{NotAnEntry, Illegal, Incomplete, Tail, Memory}
 use Rattle.sd_audit.specs.Audits.{entry_line, IsTaken, IsLineFault, IsFault, IsRunSoFar}
-use Rattle.sd_audit.specs.Reading.{HasRead}
+use Rattle.sd_audit.specs.Collecting.{IsAfter, Takes}
+use Rattle.sd_audit.specs.Reading.{HasRead, HasReadWith}
 
 -- the line of an entry is its text without the newline
 pub entry_line_is : (w : Work) (e : Entry) (line : List ℕ) → entry_text w e ≡ line ++ 10 ∷ [] → entry_line w e ≡ line
@@ -49,6 +50,9 @@ nothing_read w text = record { entries = []; rest = lines_of text; told = record
 
 pub reached : (w : Work) (text : List ℕ) (s : State) (a : Accounts) (number from : ℕ) → HasRead w text s a number from → IsReached w number s
 reached w text s a number from r = record { entries = r.entries; run = r.told.run; many = r.many; ends = sym r.ends }
+
+pub after_read : (w : Work) (text : List ℕ) (s : State) (a : Accounts) (number from : ℕ) (Has : List Entry → Type 0) → HasReadWith w text s a number from Has → IsAfter w number s Has
+after_read w text s a number from Has r = record { entries = r.0.entries; run = r.0.told.run; many = r.0.many; ends = r.0.ends; has = r.1 }
 
 -- what stands from a line on is the line, its newline and the rest
 rest_of : (text line : List ℕ) (from end : ℕ) → from ≤ end → end < length text → get_or text end 0 ≡ 10 → line ≡ take (end - from) (drop from text)
@@ -137,3 +141,18 @@ read_more w text s s' a a' number from end line e r next within newline is t mad
       ∙ sym (append_assoc (entries_text w r.entries) (entry_text w e) (drop (end + 1) text))
       ∙ ap (λ (l : List ℕ). l ++ drop (end + 1) text) (sym (entries_push w r.entries e));
 }
+
+-- what is kept goes with what was read
+
+pub start_with : (w : Work) (text : List ℕ) (s : State) (a : Accounts) (Has : List Entry → Type 0) → s ≡ opening w → HasTaken w [] a → Has [] → HasReadWith w text s a 0 0 Has
+unfolding read_start
+start_with w text s a Has start none has = (read_start w text s a start none, has)
+
+pub more_with : (w : Work) (text : List ℕ) (s s' : State) (a a' : Accounts) (number from end : ℕ) (line : List ℕ) (e : Entry) (Has Has' : List Entry → Type 0)
+    → (r : HasReadWith w text s a number from Has) → lines_of (drop from text) ≡ line ∷ lines_of (drop (end + 1) text)
+    → from ≤ end → (end < length text → get_or text end 0 ≡ 10) → line ≡ take (end - from) (drop from text)
+    → IsTaken w s number line e → s' ≡ after w s e.number e.cpu e.event → HasTaken w (r.0.entries ++ e ∷ []) a'
+    → Takes w s e Has Has' → HasReadWith w text s' a' (number + 1) (end + 1) Has'
+unfolding read_more
+more_with w text s s' a a' number from end line e Has Has' r next within newline is t made taken takes =
+    (read_more w text s s' a a' number from end line e r.0 next within newline is t made taken, takes r.0.entries r.0.ends r.1)

@@ -129,6 +129,12 @@ pub record IsJournal (w : Work) (text : List ℕ) (s : State) (n : ℕ) : Type 0
   pub many : length entries ≡ n
   pub ends : s ≡ final w (opening w) entries
 
+-- the text is the journal of these entries, which are a run, and each of which has a line of its own
+pub record IsJournalOf (w : Work) (text : List ℕ) (es : List Entry) : Type 0 where
+  pub run : IsRun w es
+  pub spelled : All (IsSpelled w) es
+  pub whole : text ≡ journal w es
+
 -- What one line says, behind so many entries.
 
 -- the line is that of this entry, which makes a step there

@@ -1,3 +1,4 @@
 pub mod Audits
+pub mod Collecting
 pub mod Differences
 pub mod Reading

@@ -22,6 +22,10 @@ pub record HasRead (w : Work) (text : List ℕ) (s : State) (accounts : Accounts
   pub taken : HasTaken w entries accounts
   pub parts : from ≤ length text → text ≡ entries_text w entries ++ drop from text
 
+-- so it is, and this holds of the entries
+abbrev pub HasReadWith : Work → List ℕ → State → Accounts → ℕ → ℕ → (List Entry → Type 0) → Type 0
+HasReadWith w text s accounts number from Has = (r : HasRead w text s accounts number from) × Has r.entries
+
 -- the line `accounts` begins at this byte
 pub record IsAtAccounts (text : List ℕ) (from : ℕ) : Type 0 where
   pub rest : List (List ℕ)

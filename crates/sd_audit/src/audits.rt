@@ -1,11 +1,14 @@
 //! The judgement of a whole text.
 
-ghost use Rattle.std.specs.Prelude.{◌≡◌, ℕ, ◌+◌, ◌<◌, ◌≤◌, ◌^◌, IfOk, IfErr, OnOk, length, drop};
+ghost use Rattle.std.specs.Prelude.{◌≡◌, [], ℕ, ◌+◌, ◌<◌, ◌≤◌, ◌^◌, IfOk, IfErr, OnOk, length, drop};
 ghost use Rattle.sd_machine.specs.Runs.{IsComplete};
 ghost use Rattle.sd_state.specs.declared.states.State.{State as StateValue};
+ghost use Rattle.sd_state.specs.Opening.{opening as opening_of};
 ghost use Rattle.sd_audit.specs.Audits.{IsFault, IsJournal, IsMemory};
+ghost use Rattle.sd_audit.specs.Collecting.{IsJournalWith};
 ghost use Rattle.sd_audit.specs.Reading.{HasRead, IsAtAccounts};
 
+use crate::collecting::{Collector, NoCollector};
 use crate::complete::first_to_enter;
 use crate::differences::first_difference;
 use crate::entries::{Place, take_entries};
@@ -85,21 +88,49 @@ fn check_rest(
 }
 
 // Reads the text once, from the initial state on.
-fn judge(alloc: Global, names: &Names<'_>, text: &[u8]) -> Result<(State, u64), AuditFault>
-    requires { length text.now < 2 ^ 31 }
-    ensures journal { IfOk result (λ found. IsJournal names.now.work.now text.now found.0 found.1) }
+fn judge<C: Collector>(
+    alloc: Global,
+    names: &Names<'_>,
+    text: &[u8],
+    opening: State,
+    collector: &mut C,
+) -> Result<(State, u64), AuditFault>
+    requires text { length text.now < 2 ^ 31 }
+    requires start { opening ≡ opening_of names.now.work.now }
+    requires empty { C.became names.now.work.now [] collector.old collector.old }
+    ensures journal { IfOk result (λ found. IsJournalWith names.now.work.now text.now found.0 found.1 (λ es. C.became names.now.work.now es collector.old collector.new)) }
     ensures fault { IfErr result (IsFault names.now.work.now text.now) }
 {
     let work = names.work;
-    let Ok(mut s) = opening(alloc, work) else {
-        return Err(AuditFault::Memory { number: 0 });
-    };
     let Ok(mut accounts) = Accounts::new(alloc, work) else {
         return Err(AuditFault::Memory { number: 0 });
     };
-    let at = take_entries(alloc, names, &mut s, &mut accounts, text)?;
+    let mut s = opening;
+    let at = take_entries(alloc, names, &mut s, &mut accounts, text, collector)?;
     check_rest(alloc, work, &s, &accounts, text, at)?;
     Ok((s, at.number))
+}
+
+/// As `audit`, from the initial state. A collector makes the entries, and where the text is the journal of a complete run it has become
+/// what it is behind that run.
+pub fn audit_collecting<C: Collector>(
+    alloc: Global,
+    work: &Work,
+    text: &[u8],
+    opening: State,
+    collector: &mut C,
+) -> Result<(State, u64), AuditFault>
+    requires text { length text.now < 2 ^ 31 }
+    requires start { opening ≡ opening_of work.now }
+    requires empty { C.became work.now [] collector.old collector.old }
+    ensures journal { IfOk result (λ found. IsJournalWith work.now text.now found.0 found.1 (λ es. C.became work.now es collector.old collector.new)) }
+    ensures fault { IfErr result (IsFault work.now text.now) }
+    ensures exact { IfErr result (λ fault. (s : StateValue) (n : ℕ) → IsJournal work.now text.now s n → IsMemory fault) }
+{
+    let Ok(names) = Names::new(alloc, work) else {
+        return Err(AuditFault::Memory { number: 0 });
+    };
+    judge(alloc, &names, text, opening, collector)
 }
 
 /// The final state and the number of entries of the complete run whose journal the text is, or what is first at fault. A
@@ -110,8 +141,8 @@ pub fn audit(alloc: Global, work: &Work, text: &[u8]) -> Result<(State, u64), Au
     ensures fault { IfErr result (IsFault work.now text.now) }
     ensures exact { IfErr result (λ fault. (s : StateValue) (n : ℕ) → IsJournal work.now text.now s n → IsMemory fault) }
 {
-    let Ok(names) = Names::new(alloc, work) else {
+    let Ok(s) = opening(alloc, work) else {
         return Err(AuditFault::Memory { number: 0 });
     };
-    judge(alloc, &names, text)
+    audit_collecting(alloc, work, text, s, &mut NoCollector)
 }

@@ -4,9 +4,10 @@ ghost use Rattle.std.specs.Prelude.{◌≡◌, [], ◌+◌, ◌<◌, ◌≤◌, 
 ghost use Rattle.sd_state.specs.Opening.{opening};
 ghost use Rattle.sd_accounts.specs.Counters.{HasTaken};
 ghost use Rattle.sd_audit.specs.Audits.{IsFault};
-ghost use Rattle.sd_audit.specs.Reading.{HasRead, IsAtAccounts};
+ghost use Rattle.sd_audit.specs.Reading.{HasReadWith, IsAtAccounts};
 
 use crate::audits::AuditFault;
+use crate::collecting::Collector;
 use crate::lines::{is_accounts, take_line};
 use sd_accounts::Accounts;
 use sd_entry_reader::Names;
@@ -22,17 +23,19 @@ pub struct Place {
 }
 
 /// Reads the lines before `accounts`, and makes their entries on the initial state.
-pub fn take_entries(
+pub fn take_entries<C: Collector>(
     alloc: Global,
     names: &Names<'_>,
     s: &mut State,
     accounts: &mut Accounts,
     text: &[u8],
+    collector: &mut C,
 ) -> Result<Place, AuditFault>
     requires text { length text.now < 2 ^ 31 }
     requires start { s.old ≡ opening names.now.work.now }
     requires none { HasTaken names.now.work.now [] accounts.old }
-    ensures read { IfOk result (λ at. HasRead names.now.work.now text.now s.new accounts.new at.number at.from) }
+    requires empty { C.became names.now.work.now [] collector.old collector.old }
+    ensures read { IfOk result (λ at. HasReadWith names.now.work.now text.now s.new accounts.new at.number at.from (λ es. C.became names.now.work.now es collector.old collector.new)) }
     ensures accounts { IfOk result (λ at. IsAtAccounts text.now at.from) }
     ensures bound { IfOk result (λ at. at.number ≤ at.from) }
     ensures fault { IfErr result (IsFault names.now.work.now text.now) }
@@ -43,7 +46,7 @@ pub fn take_entries(
         if is_accounts(line) {
             return Ok(at);
         }
-        let entry = take_line(alloc, names, s, line, at.number)?;
+        let entry = take_line(alloc, names, s, line, at.number, collector)?;
         accounts.add(&entry);
         at = Place {
             number: at.number + 1,

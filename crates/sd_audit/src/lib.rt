@@ -3,6 +3,7 @@
 #![tactic(auto)]
 
 mod audits;
+mod collecting;
 mod complete;
 mod differences;
 mod entries;
@@ -10,7 +11,7 @@ mod laws;
 mod lines;
 mod ranges;
 
-pub use audits::{AuditFault, audit};
+pub use audits::{AuditFault, audit, audit_collecting};
+pub use collecting::Collector;
 pub use laws::{journals_have_no_fault, texts_have_one_fault};
-pub use lines::{is_accounts, take_line};
 pub use ranges::in_range;

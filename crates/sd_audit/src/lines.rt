@@ -1,40 +1,40 @@
 //! One line before the accounts.
 
-ghost use Rattle.std.specs.Prelude.{◌≡◌, ◌+◌, ◌<◌, ◌^◌, IfOk, IfErr, OnErr, OnOk, IsTrue, ◌↔◌, codes};
-ghost use Rattle.sd_types.specs.declared.events.Entry.{Entry as EntryValue};
+ghost use Rattle.std.specs.Prelude.{◌≡◌, ◌<◌, ◌^◌, IfOk, IfErr, IsTrue, ◌↔◌, codes};
 ghost use Rattle.sd_machine.specs.Events.{after};
-ghost use Rattle.sd_machine.specs.Runs.{IsReached};
-ghost use Rattle.sd_audit.specs.Audits.{IsLineFault, IsMemory, IsTaken};
+ghost use Rattle.sd_audit.specs.Audits.{IsLineFault, IsTaken};
+ghost use Rattle.sd_audit.specs.Collecting.{IsAfter, Takes};
 
 use crate::audits::AuditFault;
+use crate::collecting::Collector;
 use crate::ranges::in_range;
 use sd_entry_reader::{Names, read_entry};
 use sd_state::State;
-use sd_steps::step;
 use sd_types::Entry;
 use std::alloc::Global;
 
 /// Whether a line is the one that stands before the accounts.
-pub fn is_accounts(line: &[u8]) -> bool
+pub(crate) fn is_accounts(line: &[u8]) -> bool
     ensures { IsTrue result ↔ (line.now ≡ codes "accounts") }
 {
     line == b"accounts".as_slice()
 }
 
-// Reads the line, and makes its entry.
-fn judge_line(
+/// Makes the entry that the line tells, behind `number` entries, where it is a step there, and the collector takes it in; else the
+/// fault is that of the line.
+pub(crate) fn take_line<C: Collector>(
     alloc: Global,
     names: &Names<'_>,
     s: &mut State,
     line: &[u8],
     number: u64,
+    collector: &mut C,
 ) -> Result<Entry, AuditFault>
-    requires reached { IsReached names.now.work.now number s.old }
+    requires follows { IsAfter names.now.work.now number s.old (λ es. (first : C) × C.became names.now.work.now es first collector.old) }
     requires number { number < 2 ^ 31 }
     ensures taken { IfOk result (IsTaken names.now.work.now s.old number line.now) }
     ensures state { IfOk result (λ e. s.new ≡ after names.now.work.now s.old e.number e.cpu e.event) }
-    ensures reached { OnOk result (IsReached names.now.work.now (number + 1) s.new) }
-    ensures kept { OnErr result (s.new ≡ s.old) }
+    ensures takes { IfOk result (λ e. (first : C) → Takes names.now.work.now s.old e (λ es. C.became names.now.work.now es first collector.old) (λ es. C.became names.now.work.now es first collector.new)) }
     ensures fault { IfErr result (IsLineFault names.now.work.now s.old number line.now) }
 {
     let Ok(found) = read_entry(alloc, names, line) else {
@@ -46,30 +46,12 @@ fn judge_line(
         });
     };
     in_range(&entry);
-    if entry.number != number || !step(names.work, s, &entry) {
+    if entry.number != number {
         return Err(AuditFault::Illegal { number });
     }
-    Ok(entry)
-}
-
-/// Makes the entry that the line tells, behind `number` entries, where it is a step there; else the fault is that of the
-/// line, and the state stays. A line of such an entry is refused only where memory runs out. The state is that of a run with so many
-/// entries, and then with one more.
-pub fn take_line(
-    alloc: Global,
-    names: &Names<'_>,
-    s: &mut State,
-    line: &[u8],
-    number: u64,
-) -> Result<Entry, AuditFault>
-    requires reached { IsReached names.now.work.now number s.old }
-    requires number { number < 2 ^ 31 }
-    ensures taken { IfOk result (IsTaken names.now.work.now s.old number line.now) }
-    ensures state { IfOk result (λ e. s.new ≡ after names.now.work.now s.old e.number e.cpu e.event) }
-    ensures reached { OnOk result (IsReached names.now.work.now (number + 1) s.new) }
-    ensures kept { OnErr result (s.new ≡ s.old) }
-    ensures fault { IfErr result (IsLineFault names.now.work.now s.old number line.now) }
-    ensures exact { IfErr result (λ fault. (e : EntryValue) → IsTaken names.now.work.now s.old number line.now e → IsMemory fault) }
-{
-    judge_line(alloc, names, s, line, number)
+    match collector.enter(alloc, names.work, s, &entry) {
+        Ok(true) => Ok(entry),
+        Ok(false) => Err(AuditFault::Illegal { number }),
+        Err(_) => Err(AuditFault::Memory { number }),
+    }
 }

@@ -2,7 +2,7 @@
 
 use arrayvec::ArrayVec;
 use sd_story::Selection;
-use sd_view::{Drawing, draw};
+use sd_viewer::{Drawing, draw};
 use sd_workload::read_work;
 use std::test::Fail;
 

@@ -1,5 +1,6 @@
 //! Laws of the slices of processors, each as the contract of a function without a body.
 
+ghost use Rattle.sd_slices.specs.Accounted.{RunningTicksAreAccounted};
 ghost use Rattle.sd_slices.specs.Follow.{OthersKeepRunning, SlicesFollowInTime};
 
 /// A step of a processor changes on no other processor which threads run there, in every state of every run.
@@ -11,4 +12,10 @@ pub fn others_keep_running()
 /// front of it has ended, by the entries and by the count of ticks of the processor.
 pub fn slices_follow_in_time()
     ensures { SlicesFollowInTime }
+{}
+
+/// In every complete run the ticks over which a thread runs and spins, as pictures show and reports count them, are its ticks in
+/// the accounts.
+pub fn running_ticks_are_accounted()
+    ensures { RunningTicksAreAccounted }
 {}

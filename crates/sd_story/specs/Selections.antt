@@ -4,7 +4,6 @@ use Rattle.std.specs.Prelude.{ℕ, Bool, false, ◌&&◌, ◌||◌, nat_le, List
 use Rattle.std.specs.List.{list_any}
 use Rattle.sd_types.specs.Works.{same_bytes}
 use Rattle.sd_types.specs.declared.numbers.ThreadId.{ThreadId}
-use Rattle.sd_types.specs.declared.events.Put.{Put}
 use Rattle.sd_types.specs.declared.events.Event.{Event}
 use Rattle.sd_types.specs.declared.events.Event.TheVariants.{Tick, Spin, Idle, Dispatch, Steal, Preempt, Yield, Done, Nap, Napend, Sleep, Wake, Wakeall, Rouse, Enter, Read, Write, Block, Will, End, Exit, Unblock, Grant, Passed, Age, Prio, CvWait, SemaP, SemaWait, SemaVWake, SemaVCount, Assign, Move, Joined, Bind, Away}
 use Rattle.sd_types.specs.declared.events.Entry.{Entry}

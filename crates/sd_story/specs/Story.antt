@@ -1,12 +1,13 @@
 -- A run as a story: of each entry that is told its tick, the line of the journal, and a sentence on it.
 -- Source: this project's own.
-use Rattle.std.specs.Prelude.{ℕ, ◌-◌, min, List, [], ◌∷◌, ◌++◌, length, drop, codes, decimal, if◌then◌else◌}
+use Rattle.std.specs.Prelude.{◌≡◌, ℕ, ◌-◌, min, List, [], ◌∷◌, ◌++◌, length, drop, codes, decimal, if◌then◌else◌}
 use Rattle.sd_types.specs.declared.events.Entry.{Entry}
 use Rattle.sd_types.specs.declared.works.Work.{Work}
 use Rattle.sd_state.specs.declared.states.State.{State}
 use Rattle.sd_state.specs.Opening.{opening}
 use Rattle.sd_machine.specs.Events.{after}
-use Rattle.sd_audit.specs.Audits.{entry_line}
+use Rattle.sd_machine.specs.Runs.{final, IsComplete}
+use Rattle.sd_audit.specs.Audits.{entry_line, IsJournalOf}
 use Rattle.sd_sentences.specs.Sentences.{sentence}
 use Rattle.sd_story.specs.declared.selections.Selection.{Selection}
 use Rattle.sd_story.specs.Selections.{is_told, tick_of}
@@ -40,3 +41,10 @@ rows_from w sel s (e ∷ es) = row_if w sel s e ++ rows_from w sel (after w s e.
 -- the story of a run
 unfoldable pub story : Work → Selection → List Entry → List ℕ
 story w sel es = heading ++ rows_from w sel (opening w) es
+
+-- the text is the story of the complete legal run whose journal was read
+pub record IsTold (w : Work) (journal : List ℕ) (sel : Selection) (told : List ℕ) : Type 0 where
+  pub entries : List Entry
+  pub journal_of : IsJournalOf w journal entries
+  pub complete : IsComplete w (final w (opening w) entries)
+  pub story : told ≡ story w sel entries

@@ -1,5 +1,5 @@
 //! A run as a story: of each entry its tick, the line of the journal, and a sentence on what happens; for all entries, for those of
-//! some ticks, or for those that name a thread. It is told of a journal that was judged, whose entries are read again.
+//! some ticks, or for those that name a thread. It is told of a journal while that is judged.
 #![tactic(auto)]
 
 mod rows;

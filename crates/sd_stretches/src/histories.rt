@@ -86,8 +86,8 @@ impl History {
         Ok(history)
     }
 
-    // Takes in the next entry, which made this state.
-    fn add(&mut self, alloc: Global, s: &State, entry: &Entry) -> Result<(), AllocError>
+    /// Takes in the next entry, which made this state. Where memory runs out nothing is said of what is there.
+    pub fn add(&mut self, alloc: Global, s: &State, entry: &Entry) -> Result<(), AllocError>
         requires { self.old.entries < 2 ^ 62 }
         ensures { OnOk result ((w : WorkValue) (es : Items EntryValue)
             → s.now ≡ final w (opening w) (es ++ entry.now ∷ []) → IsHistory w es self.old → IsHistory w (es ++ entry.now ∷ []) self.new) }
@@ -98,16 +98,5 @@ impl History {
         push_wakeup(s, entry, &mut self.wakeups)?;
         push_happening(s, entry, &mut self.happenings)?;
         Ok(())
-    }
-
-    /// The history with the next entry, which made this state. Where memory runs out there is none.
-    pub fn with(self, alloc: Global, s: &State, entry: &Entry) -> Result<History, AllocError>
-        requires { self.entries < 2 ^ 62 }
-        ensures { IfOk result (λ h. (w : WorkValue) (es : Items EntryValue)
-            → s.now ≡ final w (opening w) (es ++ entry.now ∷ []) → IsHistory w es self → IsHistory w (es ++ entry.now ∷ []) h) }
-    {
-        let mut history = self;
-        history.add(alloc, s, entry)?;
-        Ok(history)
     }
 }

@@ -18,11 +18,11 @@ use Rattle.sd_answers.specs.Inputs.{most_certificate}
 use Rattle.sd_answers.specs.StreamChanges.{StreamChange, IsUntouched, Puts, TellsLine}
 use Rattle.sd_answers.proofs.InputLemmas.{at_most_of}
 use Rattle.sd_answers.proofs.CertificateLemmas.{completes_of, faulty_of, not_usage, refuses_certificate_of, refuses_faulty_of}
-use Rattle.sd_view.specs.declared.drawings.Drawing.{Drawing}
-use Rattle.sd_view.specs.declared.forms.Request.{Request}
-use Rattle.sd_view.specs.declared.forms.Request.TheVariants.{Help, Draw}
-use Rattle.sd_view.specs.Forms.{request_of}
-use Rattle.sd_view.proofs.ClosingLemmas.{left-ends}
+use Rattle.sd_viewer.specs.declared.drawings.Drawing.{Drawing}
+use Rattle.sd_viewer.specs.declared.forms.Request.{Request}
+use Rattle.sd_viewer.specs.declared.forms.Request.TheVariants.{Help, Draw}
+use Rattle.sd_viewer.specs.Forms.{request_of}
+use Rattle.sd_viewer.proofs.ClosingLemmas.{left-ends}
 use Rattle.sd_viewer.specs.Promises.{Helps, KeepsPromises}
 use Rattle.sd_viewer.specs.Viewing.{IsDrawnInput, IsDrawing, Draws, CausedByView, CausedByHelp, CausedBy, answer_line, help_text, viewed_answer, viewed_line}
 

@@ -1,3 +1,6 @@
+pub mod Drawings
+pub mod Forms
+pub mod Gathering
 pub mod Promises
 pub mod Starts
 pub mod Viewing

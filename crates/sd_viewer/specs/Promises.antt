@@ -4,9 +4,9 @@
 use Rattle.std.specs.Prelude.{◌≡◌, ℕ, List, Some, None, ◌↔◌, ◌⊎◌}
 use Rattle.sd_answers.specs.Certificates.{CompletesCertificate, RefusesCertificate, RefusesFaulty, RefusesJournal}
 use Rattle.sd_answers.specs.StreamChanges.{StreamChange, HasFault, IsUntouched, TellsLine}
-use Rattle.sd_view.specs.declared.drawings.Drawing.{Drawing}
-use Rattle.sd_view.specs.declared.forms.Request.TheVariants.{Help, Draw}
-use Rattle.sd_view.specs.Forms.{request_of}
+use Rattle.sd_viewer.specs.declared.drawings.Drawing.{Drawing}
+use Rattle.sd_viewer.specs.declared.forms.Request.TheVariants.{Help, Draw}
+use Rattle.sd_viewer.specs.Forms.{request_of}
 use Rattle.std.specs.Io.KnownBytes.{Appends}
 use Rattle.sd_viewer.specs.Viewing.{Draws, IsViewed, help_text}
 

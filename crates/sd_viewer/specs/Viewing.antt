@@ -11,11 +11,11 @@ use Rattle.sd_answers.specs.Answers.{line_of, status_of}
 use Rattle.sd_answers.specs.Certificates.{CausedByCertificate, IsJudged}
 use Rattle.sd_answers.specs.Inputs.{IsCertificate}
 use Rattle.sd_answers.specs.StreamChanges.{StreamChange, AppendsPart, HasFault, HasNoFault, IsUntouched, TellsLine}
-use Rattle.sd_view.specs.declared.drawings.Drawing.{Drawing}
-use Rattle.sd_view.specs.declared.forms.Request.{Request}
-use Rattle.sd_view.specs.declared.forms.Request.TheVariants.{Help, Draw}
-use Rattle.sd_view.specs.Drawings.{IsDrawn, left_line}
-use Rattle.sd_view.specs.Forms.{request_of}
+use Rattle.sd_viewer.specs.declared.drawings.Drawing.{Drawing}
+use Rattle.sd_viewer.specs.declared.forms.Request.{Request}
+use Rattle.sd_viewer.specs.declared.forms.Request.TheVariants.{Help, Draw}
+use Rattle.sd_viewer.specs.Drawings.{IsDrawn, left_line}
+use Rattle.sd_viewer.specs.Forms.{request_of}
 use Rattle.sd_viewer.specs.declared.viewing.Drawn.{Drawn}
 
 -- the input is a workload and the journal of a complete run of it, and the text is the drawing of this run

@@ -1,7 +1,13 @@
-//! The top call of `dispview`, which draws the run whose journal an input holds.
+//! What `dispview` draws of a run: the timeline, the trace, the story or the report of the run whose journal a text is, and nothing where
+//! it is none; and its top call, which reads an input and writes the drawing.
 #![tactic(auto)]
 
+mod drawings;
+mod forms;
+mod frames;
+mod gathering;
 mod helping;
+mod lines;
 mod top;
 mod viewing;
 
@@ -9,6 +15,10 @@ use sd_answers::behind_name;
 use sd_text::{StdSink, StdSource};
 use std::process::ExitCode;
 use std::{env, io};
+
+pub use drawings::{Drawing, draw};
+pub use forms::{Request, drawing_of, request_of};
+pub use lines::left_line;
 pub use top::{start, view};
 
 /// The arguments behind the program's name.

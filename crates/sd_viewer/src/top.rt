@@ -13,7 +13,7 @@ use crate::helping::put_help;
 use crate::viewing::view_input;
 use sd_answers::{Answer, Unwritten, put_line, put_text};
 use sd_text::{Sink, Source};
-use sd_view::{Request, request_of};
+use crate::forms::{Request, request_of};
 use std::alloc::Global;
 use std::io;
 

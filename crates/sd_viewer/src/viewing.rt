@@ -5,7 +5,8 @@ ghost use Rattle.sd_viewer.specs.Viewing.{CausedByView, IsDrawing, viewed_answer
 
 use sd_answers::{Answer, put_text, read_certificate};
 use sd_text::{Sink, Source};
-use sd_view::{Drawing, draw, left_line};
+use crate::drawings::{Drawing, draw};
+use crate::lines::left_line;
 use std::alloc::Global;
 
 /// The text of a drawing, and what is said of it: what is left out, or is not there.

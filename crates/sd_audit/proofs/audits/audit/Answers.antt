@@ -1,19 +1,5 @@
-use Rattle.std.proofs.Common.{subst}
-use Rattle.std.specs.Prelude.{IfOk, IfErr}
-use Rattle.sd_types.specs.declared.works.Work.{Work}
-use Rattle.sd_audit.specs.Audits.{IsFault, IsJournal}
-use Rattle.sd_audit.proofs.ExactLemmas.{refused_rightly}
 use Rattle.sd_audit.proofs.ReadLemmas.{nothing_read}
 use Rattle.sd_audit.proofs.audits.audit.Goals as goal
 
 pub returns-in_default-clause-fault : goal.returns-in_default-clause-fault
 returns-in_default-clause-fault c = nothing_read c.args.work.now c.args.text.now
-
-pub returns : goal.returns
-returns c =
-    let text = c.args.text.now in
-    let r = c.judge.result in
-    let named = c.in-Ok.ensures in
-    let journal = subst (λ (w : Work). IfOk r (λ found. IsJournal w text found.0 found.1)) named c.judge.ensures.journal in
-    let fault = subst (λ (w : Work). IfErr r (IsFault w text)) named c.judge.ensures.fault in
-    record { journal = journal; fault = fault; exact = refused_rightly c.args.work.now text r fault }

@@ -1,8 +1,22 @@
+use Rattle.std.proofs.Common.{List, subst, ap, ◌++◌, map, ◌∙◌}
+use Rattle.sd_types.specs.declared.events.Entry.{Entry}
+use Rattle.sd_audit.specs.Audits.{entry_line}
 use Rattle.sd_audit.proofs.ReadLemmas.{nothing_read}
+use Rattle.sd_audit.proofs.ExactLemmas.{entries_read}
 use Rattle.sd_audit.proofs.audits.judge.Goals as goal
 
 pub returns-in_default-clause-fault : goal.returns-in_default-clause-fault
-returns-in_default-clause-fault c = nothing_read c.args.names.now.work.now c.args.text.now
+returns-in_default-clause-fault g c = nothing_read c.args.names.now.work.now c.args.text.now
 
-pub returns-in_default-new-clause-fault : goal.returns-in_default-new-clause-fault
-returns-in_default-new-clause-fault c = nothing_read c.args.names.now.work.now c.args.text.now
+pub returns-clause-journal : goal.returns-clause-journal
+returns-clause-journal g c =
+    let w = c.args.names.now.work.now in
+    let text = c.args.text.now in
+    let s = c.take_entries.new.s in
+    let at = c.in_ok-at.at in
+    let read = c.in_ok-at.ensures.read in
+    let journal = c.in_ok-check_rest.ensures.journal in
+    let same = entries_read w text s at.number read.0.entries _
+    (record { run = read.0.told.run; spelled = read.0.told.spelled; lines = read.0.told.lines ∙ ap (λ ls. map (entry_line w) read.0.entries ++ ls) c.in_ok-at.ensures.accounts.lines })
+    journal in
+    (journal, subst (λ (es : List Entry). g.C.Collector.became w es c.args.collector.now c.take_entries.new.collector) same read.1)

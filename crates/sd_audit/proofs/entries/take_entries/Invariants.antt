@@ -1,13 +1,13 @@
 use Rattle.std.proofs.Common.{◌+◌, ◌-◌, ◌≤◌, length}
-use Rattle.sd_audit.specs.Reading.{HasRead}
+use Rattle.sd_audit.specs.Reading.{HasReadWith}
 use Rattle.sd_audit.proofs.entries.take_entries.Given as goal
 
 abbrev pub invariant-lines : goal.invariant-lines
-invariant-lines l = record {
-  read : HasRead l.names.work.now l.text l.s l.accounts l.at.number l.at.from;
+invariant-lines g l = record {
+  read : HasReadWith l.names.work.now l.text l.s l.accounts l.at.number l.at.from (λ es. g.C.Collector.became l.names.work.now es l.fn.collector l.collector);
   within : l.at.from ≤ length l.text + 1;
   bound : l.at.number ≤ l.at.from;
 }
 
 abbrev pub decreases-lines : goal.decreases-lines
-decreases-lines l = length l.text + 2 - l.at.from
+decreases-lines g l = length l.text + 2 - l.at.from

@@ -3,7 +3,7 @@ use Rattle.std.specs.Prelude.{string_bytes}
 use Rattle.sd_answers.specs.declared.answers.Answer.TheVariants.{Usage}
 use Rattle.sd_answers.specs.StreamChanges.{change_of}
 use Rattle.sd_viewer.specs.Viewing.{CausedBy, answer_line, viewed_answer, viewed_line}
-use Rattle.sd_view.specs.declared.forms.Request.{Request}
+use Rattle.sd_viewer.specs.declared.forms.Request.{Request}
 use Rattle.sd_viewer.proofs.ViewLemmas.{helped-ends, promises_of, said-ends}
 use Rattle.sd_viewer.proofs.top.view.Goals as goal
 

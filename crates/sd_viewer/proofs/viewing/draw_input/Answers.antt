@@ -3,7 +3,7 @@ use Rattle.sd_audit.specs.Audits.{IsFault}
 use Rattle.sd_answers.specs.Answers.{audit_answer}
 use Rattle.sd_answers.specs.StreamChanges.{change_of}
 use Rattle.sd_answers.proofs.CertificateLemmas.{unjudged, judged_exit}
-use Rattle.sd_view.specs.Drawings.{IsDrawn, left_line}
+use Rattle.sd_viewer.specs.Drawings.{IsDrawn, left_line}
 use Rattle.sd_viewer.specs.declared.viewing.Drawn.{Drawn}
 use Rattle.sd_viewer.specs.Viewing.{IsDrawnInput}
 use Rattle.sd_viewer.proofs.viewing.draw_input.Goals as goal

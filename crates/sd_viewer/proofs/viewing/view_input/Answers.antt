@@ -1,6 +1,6 @@
 use Rattle.std.proofs.Common.{refl, sym, ap, subst, List, ℕ, Ok, Err}
 use Rattle.sd_text.specs.Lines.{EndsLine}
-use Rattle.sd_view.proofs.ClosingLemmas.{drawn-ends}
+use Rattle.sd_viewer.proofs.ClosingLemmas.{drawn-ends}
 use Rattle.sd_answers.specs.StreamChanges.{change_of, Puts}
 use Rattle.sd_answers.specs.Answers.{unwritten_answer}
 use Rattle.sd_viewer.proofs.ViewLemmas.{undrawn, unwritten_view, view_exit}

@@ -1,5 +1,0 @@
-use Rattle.sd_cut.proofs.CutLemmas.{before_same, after_same}
-use Rattle.sd_cut.proofs.laws.texts_have_one_cut.Goals as goal
-
-pub returns : goal.returns
-returns c = λ text a b d e p q. (before_same text a b d e p q, after_same text a b d e p q)
