@@ -9,7 +9,7 @@ use Rattle.sd_types.specs.declared.bodies.ThreadBody.{ThreadBody}
 use Rattle.sd_types.specs.declared.events.BindAnswer.{BindAnswer}
 use Rattle.sd_types.specs.declared.events.BindAnswer.TheVariants as bind_answer
 use Rattle.sd_types.specs.declared.events.Event.{Event}
-use Rattle.sd_types.specs.declared.events.Event.TheVariants.{Tick, Spin, Idle, Dispatch, Steal, Preempt, Yield, Done, Nap, Napend, Sleep, Wake, Wakeall, Rouse, Enter, Read, Write, Block, Will, End as WalkEnd, Exit, Unblock, Grant, Passed, Age, Prio, CvWait, SemaP, SemaWait, SemaVWake, SemaVCount, Assign, Move, Joined, Bind, Away}
+use Rattle.sd_types.specs.declared.events.Event.TheVariants.{Dispatch, Steal, Preempt, Yield, Done, Nap, Napend, Sleep, Wake, Rouse, Block, Will, Unblock, Grant, Age, Prio, CvWait, SemaWait, SemaVWake, Move, Bind, Away}
 use Rattle.sd_types.specs.declared.events.PrioAnswer.{PrioAnswer}
 use Rattle.sd_types.specs.declared.events.PrioAnswer.TheVariants.{Changed, Refused}
 use Rattle.sd_types.specs.declared.events.Put.{Put}
@@ -94,9 +94,6 @@ live_aged u w s n c t = elim (eff_as (aged_class w (thread_of s t).body.class) (
 
 -- each event but one that stops u
 pub live_step : (u : ℕ) (w : Work) (s : State) (n : ℕ) (c : CpuId) (e : Event) → stopped_by e ≢ Some u → IsLiveStep u (step_of w s n c e)
-live_step u w s n c (Tick t) goes_on = tt
-live_step u w s n c (Spin t l) goes_on = tt
-live_step u w s n c Idle goes_on = tt
 live_step u w s n c (Dispatch t p) goes_on = λ same. refl
 live_step u w s n c (Steal v t p) goes_on = λ same. refl
 live_step u w s n c (Preempt t end) goes_on = λ same. live_queue w t.0 c _ (thread_of s t.0).body
@@ -107,29 +104,19 @@ live_step u w s n c (Nap t) goes_on = λ same. absurd (goes_on (ap Some same))
 live_step u w s n c (Napend t at) goes_on = λ same. live_put w n t.0 at
 live_step u w s n c (Sleep t k) goes_on = λ same. absurd (goes_on (ap Some same))
 live_step u w s n c (Wake t k v) goes_on = live_woken u w n v
-live_step u w s n c (Wakeall t k) goes_on = tt
 live_step u w s n c (Rouse k v) goes_on = live_woken u w n v
-live_step u w s n c (Enter t l) goes_on = tt
-live_step u w s n c (Read t l) goes_on = tt
-live_step u w s n c (Write t l) goes_on = tt
 live_step u w s n c (Block t l) goes_on = λ same. absurd (goes_on (ap Some same))
 live_step u w s n c (Will l o p at) goes_on = live_reordered u w n o.0 at (thread_of s o.0).place
-live_step u w s n c (WalkEnd l) goes_on = tt
-live_step u w s n c (Exit t l) goes_on = tt
 live_step u w s n c (Unblock l v at) goes_on = λ same. live_put w n v.0 at
 live_step u w s n c (Grant l v at) goes_on = λ same. live_put w n v.0 at
-live_step u w s n c (Passed l) goes_on = tt
 live_step u w s n c (Age t p) goes_on = live_aged u w s n c t.0
 live_step u w s n c (Prio t v answer) goes_on = live_prio u w s n v answer
 live_step u w s n c (CvWait t k l) goes_on = λ same. absurd (goes_on (ap Some same))
-live_step u w s n c (SemaP t k) goes_on = tt
 live_step u w s n c (SemaWait t k) goes_on = λ same. absurd (goes_on (ap Some same))
 live_step u w s n c (SemaVWake t k v at) goes_on = λ same. live_put w n v.0 at
-live_step u w s n c (SemaVCount t k m) goes_on = tt
-live_step u w s n c (Assign t d to answer) goes_on = tt
 live_step u w s n c (Move t at) goes_on = λ same. live_put w n t.0 at
-live_step u w s n c (Joined to) goes_on = tt
 live_step u w s n c (Bind t v d answer) goes_on = live_bind u w n v.0 answer
+live_step u w s n c e goes_on = tt
 
 live_carried : (w : Work) (u : ℕ) → IsCarried w (λ s. runs_or_is_runnable (thread_of s u).place ≡ true) (λ e. stopped_by e ≢ Some u)
 live_carried w u = record { step = λ s n c e ready cause goes_on before. live_kept u s (after w s n c e) (step_of w s n c e) (live_step u w s n c e goes_on) (steps_after w s n c e ready cause) before }

@@ -11,7 +11,7 @@ use Rattle.sd_types.specs.declared.numbers.ThreadId.{ThreadId}
 use Rattle.sd_types.specs.declared.events.BindAnswer.{BindAnswer}
 use Rattle.sd_types.specs.declared.events.BindAnswer.TheVariants as bind_answer
 use Rattle.sd_types.specs.declared.events.Event.{Event}
-use Rattle.sd_types.specs.declared.events.Event.TheVariants.{Tick, Spin, Idle, Dispatch, Steal, Preempt, Yield, Done, Nap, Napend, Sleep, Wake, Wakeall, Rouse, Enter, Read, Write, Block, Will, End as WalkEnd, Exit, Unblock, Grant, Passed, Age, Prio, CvWait, SemaP, SemaWait, SemaVWake, SemaVCount, Assign, Move, Joined, Bind, Away}
+use Rattle.sd_types.specs.declared.events.Event.TheVariants.{Dispatch, Steal, Preempt, Yield, Done, Nap, Napend, Sleep, Wake, Rouse, Block, Will, Unblock, Grant, Age, Prio, CvWait, SemaWait, SemaVWake, SemaVCount, Move, Bind, Away}
 use Rattle.sd_types.specs.declared.events.PrioAnswer.{PrioAnswer}
 use Rattle.sd_types.specs.declared.events.PrioAnswer.TheVariants.{Changed, Refused}
 use Rattle.sd_types.specs.declared.events.Put.{Put}
@@ -162,9 +162,6 @@ bind_rouses w s woken n t u d bind_answer.EPERM is = tt
 bind_rouses w s woken n t u d bind_answer.EBUSY is = tt
 
 rouses : (w : Work) (s : State) (n : ℕ) (c : CpuId) (e : Event) → IsCause w s c.0 e → Rouses s (woken_by e) (step_of w s n c e)
-rouses w s n c (Tick t) cause = tt
-rouses w s n c (Spin t l) cause = tt
-rouses w s n c Idle cause = tt
 rouses w s n c (Dispatch t p) cause = inr (ready_awake c.0 (cpu_of s c.0).set.0 (thread_of s t.0).place (ready_found s c.0 t.0 cause.1).stands)
 rouses w s n c (Steal v t p) cause = inr (queued_awake v.0 (thread_of s t.0).place (and_left _ (is_none (thread_of s t.0).body.bound) (unbound_found s v.0 t.0 cause.3).stands))
 rouses w s n c (Preempt t end) cause = runner_rouses s None c.0 t.0 cause.0.runs
@@ -175,31 +172,19 @@ rouses w s n c (Nap t) cause = runner_rouses s None c.0 t.0 cause.1.runs
 rouses w s n c (Napend t at) cause = inl refl
 rouses w s n c (Sleep t k) cause = runner_rouses s None c.0 t.0 cause.runs
 rouses w s n c (Wake t k (Some u)) cause = inl refl
-rouses w s n c (Wake t k None) cause = tt
-rouses w s n c (Wakeall t k) cause = tt
 rouses w s n c (Rouse k (Some u)) cause = inl refl
-rouses w s n c (Rouse k None) cause = tt
-rouses w s n c (Enter t l) cause = tt
-rouses w s n c (Read t l) cause = tt
-rouses w s n c (Write t l) cause = tt
 rouses w s n c (Block t l) cause = runner_rouses s None c.0 t.0 cause.1.acts.runs
 rouses w s n c (Will l o p at) cause = reordered_rouses w s None n o.0 p at (thread_of s o.0).place cause.3
-rouses w s n c (WalkEnd l) cause = tt
-rouses w s n c (Exit t l) cause = tt
 rouses w s n c (Unblock l u at) cause = inl refl
 rouses w s n c (Grant l u at) cause = inl refl
-rouses w s n c (Passed l) cause = tt
 rouses w s n c (Age t p) cause = aged_rouses w s None n c (cause.0).0 t.0 cause.2
 rouses w s n c (Prio t u answer) cause = prio_rouses w s None n c.0 t.0 u cause.0 answer cause.2
 rouses w s n c (CvWait t k l) cause = runner_rouses s None c.0 t.0 cause.runs
-rouses w s n c (SemaP t k) cause = tt
 rouses w s n c (SemaWait t k) cause = runner_rouses s None c.0 t.0 cause.0.runs
 rouses w s n c (SemaVWake t k u at) cause = inl refl
-rouses w s n c (SemaVCount t k m) cause = tt
-rouses w s n c (Assign t d to answer) cause = tt
 rouses w s n c (Move t at) cause = inr (queued_awake c.0 (thread_of s t.0).place (queued_found s c.0 t.0 cause.1).stands)
-rouses w s n c (Joined to) cause = tt
 rouses w s n c (Bind t u d answer) cause = bind_rouses w s None n t.0 u.0 d answer cause.1
+rouses w s n c e cause = tt
 
 asleep_kept : (s r : State) (u : ℕ) (woken : Option ℕ) (step : Step) → Rouses s woken step → Stepped step s r → woken ≢ Some u → sleeps (thread_of s u).place ≡ true → (thread_of r u).place ≡ (thread_of s u).place
 asleep_kept s r u woken Stay is a unwoken asleep = a u

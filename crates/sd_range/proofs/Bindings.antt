@@ -4,7 +4,7 @@ use Rattle.sd_types.specs.declared.numbers.CpuId.{CpuId}
 use Rattle.sd_types.specs.declared.events.BindAnswer.{BindAnswer}
 use Rattle.sd_types.specs.declared.events.BindAnswer.TheVariants as bind_answer
 use Rattle.sd_types.specs.declared.events.Event.{Event}
-use Rattle.sd_types.specs.declared.events.Event.TheVariants.{Tick, Spin, Idle, Dispatch, Steal, Preempt, Yield, Done, Nap, Napend, Sleep, Wake, Wakeall, Rouse, Enter, Read, Write, Block, Will, End as WalkEnd, Exit, Unblock, Grant, Passed, Age, Prio, CvWait, SemaP, SemaWait, SemaVWake, SemaVCount, Assign, Move, Joined, Bind, Away}
+use Rattle.sd_types.specs.declared.events.Event.TheVariants.{Bind}
 use Rattle.sd_types.specs.declared.scripts.Op.TheVariants as op
 use Rattle.sd_types.specs.declared.works.Work.{Work}
 use Rattle.sd_chains.proofs.HolderLemmas.{count_same}
@@ -51,41 +51,7 @@ bounds_kept : (w : Work) (s : State) (n : ℕ) (c : CpuId) (e : Event) → FitsF
 unfolding after effect drop_ageing set_duty
 bounds_kept w s n c (Bind t u d answer) fits cause there =
     pbound_bounds w (drop_ageing s c.0 (Bind t u d answer)) n t.0 u.0 d answer (bind_thread w s c.0 t.0 u d fits cause.0) (bind_cpu w u d (acts_named w s c.0 t.0 (op.Pbind u d) cause.0)) there
-bounds_kept w s n c (Tick t) fits cause there = same_bounds w s (after w s n c (Tick t)) (threads_same w s n c (Tick t) refl) there
-bounds_kept w s n c (Spin t l) fits cause there = same_bounds w s (after w s n c (Spin t l)) (threads_same w s n c (Spin t l) refl) there
-bounds_kept w s n c Idle fits cause there = same_bounds w s (after w s n c Idle) (threads_same w s n c Idle refl) there
-bounds_kept w s n c (Dispatch t p) fits cause there = same_bounds w s (after w s n c (Dispatch t p)) (threads_same w s n c (Dispatch t p) refl) there
-bounds_kept w s n c (Steal v t p) fits cause there = same_bounds w s (after w s n c (Steal v t p)) (threads_same w s n c (Steal v t p) refl) there
-bounds_kept w s n c (Preempt t end) fits cause there = same_bounds w s (after w s n c (Preempt t end)) (threads_same w s n c (Preempt t end) refl) there
-bounds_kept w s n c (Away t d) fits cause there = same_bounds w s (after w s n c (Away t d)) (threads_same w s n c (Away t d) refl) there
-bounds_kept w s n c (Yield t) fits cause there = same_bounds w s (after w s n c (Yield t)) (threads_same w s n c (Yield t) refl) there
-bounds_kept w s n c (Done t) fits cause there = same_bounds w s (after w s n c (Done t)) (threads_same w s n c (Done t) refl) there
-bounds_kept w s n c (Nap t) fits cause there = same_bounds w s (after w s n c (Nap t)) (threads_same w s n c (Nap t) refl) there
-bounds_kept w s n c (Napend t at) fits cause there = same_bounds w s (after w s n c (Napend t at)) (threads_same w s n c (Napend t at) refl) there
-bounds_kept w s n c (Sleep t j) fits cause there = same_bounds w s (after w s n c (Sleep t j)) (threads_same w s n c (Sleep t j) refl) there
-bounds_kept w s n c (Wake t j u) fits cause there = same_bounds w s (after w s n c (Wake t j u)) (threads_same w s n c (Wake t j u) refl) there
-bounds_kept w s n c (Wakeall t j) fits cause there = same_bounds w s (after w s n c (Wakeall t j)) (threads_same w s n c (Wakeall t j) refl) there
-bounds_kept w s n c (Rouse j u) fits cause there = same_bounds w s (after w s n c (Rouse j u)) (threads_same w s n c (Rouse j u) refl) there
-bounds_kept w s n c (Enter t l) fits cause there = same_bounds w s (after w s n c (Enter t l)) (threads_same w s n c (Enter t l) refl) there
-bounds_kept w s n c (Read t l) fits cause there = same_bounds w s (after w s n c (Read t l)) (threads_same w s n c (Read t l) refl) there
-bounds_kept w s n c (Write t l) fits cause there = same_bounds w s (after w s n c (Write t l)) (threads_same w s n c (Write t l) refl) there
-bounds_kept w s n c (Block t l) fits cause there = same_bounds w s (after w s n c (Block t l)) (threads_same w s n c (Block t l) refl) there
-bounds_kept w s n c (Will l o p at) fits cause there = same_bounds w s (after w s n c (Will l o p at)) (threads_same w s n c (Will l o p at) refl) there
-bounds_kept w s n c (WalkEnd l) fits cause there = same_bounds w s (after w s n c (WalkEnd l)) (threads_same w s n c (WalkEnd l) refl) there
-bounds_kept w s n c (Exit t l) fits cause there = same_bounds w s (after w s n c (Exit t l)) (threads_same w s n c (Exit t l) refl) there
-bounds_kept w s n c (Unblock l u at) fits cause there = same_bounds w s (after w s n c (Unblock l u at)) (threads_same w s n c (Unblock l u at) refl) there
-bounds_kept w s n c (Grant l u at) fits cause there = same_bounds w s (after w s n c (Grant l u at)) (threads_same w s n c (Grant l u at) refl) there
-bounds_kept w s n c (Passed l) fits cause there = same_bounds w s (after w s n c (Passed l)) (threads_same w s n c (Passed l) refl) there
-bounds_kept w s n c (Age t p) fits cause there = same_bounds w s (after w s n c (Age t p)) (threads_same w s n c (Age t p) refl) there
-bounds_kept w s n c (Prio t u answer) fits cause there = same_bounds w s (after w s n c (Prio t u answer)) (threads_same w s n c (Prio t u answer) refl) there
-bounds_kept w s n c (CvWait t j l) fits cause there = same_bounds w s (after w s n c (CvWait t j l)) (threads_same w s n c (CvWait t j l) refl) there
-bounds_kept w s n c (SemaP t j) fits cause there = same_bounds w s (after w s n c (SemaP t j)) (threads_same w s n c (SemaP t j) refl) there
-bounds_kept w s n c (SemaWait t j) fits cause there = same_bounds w s (after w s n c (SemaWait t j)) (threads_same w s n c (SemaWait t j) refl) there
-bounds_kept w s n c (SemaVWake t j u at) fits cause there = same_bounds w s (after w s n c (SemaVWake t j u at)) (threads_same w s n c (SemaVWake t j u at) refl) there
-bounds_kept w s n c (SemaVCount t j m) fits cause there = same_bounds w s (after w s n c (SemaVCount t j m)) (threads_same w s n c (SemaVCount t j m) refl) there
-bounds_kept w s n c (Assign t d to answer) fits cause there = same_bounds w s (after w s n c (Assign t d to answer)) (threads_same w s n c (Assign t d to answer) refl) there
-bounds_kept w s n c (Move t at) fits cause there = same_bounds w s (after w s n c (Move t at)) (threads_same w s n c (Move t at) refl) there
-bounds_kept w s n c (Joined to) fits cause there = same_bounds w s (after w s n c (Joined to)) (threads_same w s n c (Joined to) refl) there
+bounds_kept w s n c e fits cause there = same_bounds w s (after w s n c e) (threads_same w s n c e refl) there
 
 opening_bounds : (w : Work) → BoundsAreThere w (opening w)
 unfolding opening

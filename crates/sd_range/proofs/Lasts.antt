@@ -397,40 +397,7 @@ effect_there : (w : Work) (s : State) (n : ℕ) (c : CpuId) (e : Event) → c.0 
 unfolding effect
 effect_there w s n c (Dispatch t p) here h = dispatched_there w s c t.0 here h
 effect_there w s n c (Steal v t p) here h = stolen_there w s c t.0 here h
-effect_there w s n c (Tick t) here h = same_there w s _ (effect_last w s n c (Tick t) refl) h
-effect_there w s n c (Spin t l) here h = same_there w s _ (effect_last w s n c (Spin t l) refl) h
-effect_there w s n c Idle here h = same_there w s _ (effect_last w s n c Idle refl) h
-effect_there w s n c (Preempt t end) here h = same_there w s _ (effect_last w s n c (Preempt t end) refl) h
-effect_there w s n c (Away t d) here h = same_there w s _ (effect_last w s n c (Away t d) refl) h
-effect_there w s n c (Yield t) here h = same_there w s _ (effect_last w s n c (Yield t) refl) h
-effect_there w s n c (Done t) here h = same_there w s _ (effect_last w s n c (Done t) refl) h
-effect_there w s n c (Nap t) here h = same_there w s _ (effect_last w s n c (Nap t) refl) h
-effect_there w s n c (Napend t at) here h = same_there w s _ (effect_last w s n c (Napend t at) refl) h
-effect_there w s n c (Sleep t j) here h = same_there w s _ (effect_last w s n c (Sleep t j) refl) h
-effect_there w s n c (Wake t j u) here h = same_there w s _ (effect_last w s n c (Wake t j u) refl) h
-effect_there w s n c (Wakeall t j) here h = same_there w s _ (effect_last w s n c (Wakeall t j) refl) h
-effect_there w s n c (Rouse j u) here h = same_there w s _ (effect_last w s n c (Rouse j u) refl) h
-effect_there w s n c (Enter t l) here h = same_there w s _ (effect_last w s n c (Enter t l) refl) h
-effect_there w s n c (Read t l) here h = same_there w s _ (effect_last w s n c (Read t l) refl) h
-effect_there w s n c (Write t l) here h = same_there w s _ (effect_last w s n c (Write t l) refl) h
-effect_there w s n c (Block t l) here h = same_there w s _ (effect_last w s n c (Block t l) refl) h
-effect_there w s n c (Will l o p at) here h = same_there w s _ (effect_last w s n c (Will l o p at) refl) h
-effect_there w s n c (WalkEnd l) here h = same_there w s _ (effect_last w s n c (WalkEnd l) refl) h
-effect_there w s n c (Exit t l) here h = same_there w s _ (effect_last w s n c (Exit t l) refl) h
-effect_there w s n c (Unblock l u at) here h = same_there w s _ (effect_last w s n c (Unblock l u at) refl) h
-effect_there w s n c (Grant l u at) here h = same_there w s _ (effect_last w s n c (Grant l u at) refl) h
-effect_there w s n c (Passed l) here h = same_there w s _ (effect_last w s n c (Passed l) refl) h
-effect_there w s n c (Age t p) here h = same_there w s _ (effect_last w s n c (Age t p) refl) h
-effect_there w s n c (Prio t u answer) here h = same_there w s _ (effect_last w s n c (Prio t u answer) refl) h
-effect_there w s n c (CvWait t j l) here h = same_there w s _ (effect_last w s n c (CvWait t j l) refl) h
-effect_there w s n c (SemaP t j) here h = same_there w s _ (effect_last w s n c (SemaP t j) refl) h
-effect_there w s n c (SemaWait t j) here h = same_there w s _ (effect_last w s n c (SemaWait t j) refl) h
-effect_there w s n c (SemaVWake t j u at) here h = same_there w s _ (effect_last w s n c (SemaVWake t j u at) refl) h
-effect_there w s n c (SemaVCount t j m) here h = same_there w s _ (effect_last w s n c (SemaVCount t j m) refl) h
-effect_there w s n c (Assign t d to answer) here h = same_there w s _ (effect_last w s n c (Assign t d to answer) refl) h
-effect_there w s n c (Move t at) here h = same_there w s _ (effect_last w s n c (Move t at) refl) h
-effect_there w s n c (Joined to) here h = same_there w s _ (effect_last w s n c (Joined to) refl) h
-effect_there w s n c (Bind t u d answer) here h = same_there w s _ (effect_last w s n c (Bind t u d answer) refl) h
+effect_there w s n c e here h = same_there w s _ (effect_last w s n c e refl) h
 
 after_there : (w : Work) (s : State) (n : ℕ) (c : CpuId) (e : Event) → c.0 < w.cpus → LastsAreThere w s → LastsAreThere w (after w s n c e)
 unfolding after

@@ -12,7 +12,7 @@ use Rattle.sd_types.specs.declared.bodies.ThreadBody.{ThreadBody}
 use Rattle.sd_types.specs.declared.events.BindAnswer.{BindAnswer}
 use Rattle.sd_types.specs.declared.events.BindAnswer.TheVariants as bind_answer
 use Rattle.sd_types.specs.declared.events.Event.{Event}
-use Rattle.sd_types.specs.declared.events.Event.TheVariants.{Tick, Spin, Idle, Dispatch, Steal, Preempt, Yield, Done, Nap, Napend, Sleep, Wake, Wakeall, Rouse, Enter, Read, Write, Block, Will, End as WalkEnd, Exit, Unblock, Grant, Passed, Age, Prio, CvWait, SemaP, SemaWait, SemaVWake, SemaVCount, Assign, Move, Joined, Bind, Away}
+use Rattle.sd_types.specs.declared.events.Event.TheVariants.{Dispatch, Steal, Preempt, Yield, Nap, Napend, Sleep, Wake, Rouse, Block, Will, Unblock, Grant, Age, Prio, CvWait, SemaP, SemaWait, SemaVWake, Move, Bind, Away}
 use Rattle.sd_types.specs.declared.events.PrioAnswer.{PrioAnswer}
 use Rattle.sd_types.specs.declared.events.PrioAnswer.TheVariants.{Changed, Refused}
 use Rattle.sd_types.specs.declared.events.Put.{Put}
@@ -242,43 +242,29 @@ module _ (w : Work) (s : State) (is : IsInside w s) where
     bound_step_there u bind_answer.EBUSY there = tt
 
     step_there : (e : Event) → IsCause w s c.0 e → StepThere w (step_of w s n c e)
-    step_there (Tick t) cause = tt
-    step_there (Spin t l) cause = tt
-    step_there Idle cause = tt
     step_there (Dispatch t p) cause = here
     step_there (Steal v t p) cause = here
     step_there (Preempt t end) cause = queue_there w t.0 c (key_at n end) (thread_of s t.0).body here
     step_there (Away t d) cause = subst (λ o. IsBoundThere w o) cause.1 (is.bounds t.0)
     step_there (Yield t) cause = queue_there w t.0 c (back_key n) (thread_of s t.0).body here
-    step_there (Done t) cause = tt
     step_there (Nap t) cause = here
     step_there (Napend t at) cause = place_put_there w n t.0 at (put_inside t.0 _ at cause.1)
     step_there (Sleep t k) cause = sleep_chan w k (acts_named w s c.0 t.0 (op.Sleep k) cause)
     step_there (Wake t k u) cause = woken_there w n u (wakes_inside k.0 u cause.1)
-    step_there (Wakeall t k) cause = tt
     step_there (Rouse k u) cause = woken_there w n u (rouses_inside k.0 cause.0 u cause.2)
-    step_there (Enter t l) cause = tt
-    step_there (Read t l) cause = tt
-    step_there (Write t l) cause = tt
     step_there (Block t l) cause = wants_lock w s c.0 t.0 l cause.0 cause.1
     step_there (Will l o p at) cause = reordered_there w n o.0 at (thread_of s o.0).place (requeued_inside o.0 p at cause.3)
-    step_there (WalkEnd l) cause = tt
-    step_there (Exit t l) cause = tt
     step_there (Unblock l u at) cause = place_put_there w n u.0 at (put_inside u.0 _ at cause.2)
     step_there (Grant l u at) (inl cause) = place_put_there w n u.0 at (put_inside u.0 _ at cause.2)
     step_there (Grant l u at) (inr cause) = place_put_there w n u.0 at (put_inside u.0 _ at cause.2)
-    step_there (Passed l) cause = tt
     step_there (Age t p) cause = aged_there t.0
     step_there (Prio t u answer) cause = prio_there u answer (answered_inside c.0 t.0 u cause.0 answer cause.2)
     step_there (CvWait t k l) cause = wait_chan w k l (acts_named w s c.0 t.0 (op.CvWait k l) cause)
-    step_there (SemaP t k) cause = tt
     step_there (SemaWait t k) cause = sema_chan w k (acts_named w s c.0 t.0 (op.SemaP k) cause.0)
     step_there (SemaVWake t k u at) cause = place_put_there w n u.0 at (put_inside u.0 _ at cause.1.put)
-    step_there (SemaVCount t k m) cause = tt
-    step_there (Assign t d to answer) cause = tt
     step_there (Move t at) cause = place_put_there w n t.0 at (put_inside t.0 _ at cause.2)
-    step_there (Joined to) cause = tt
     step_there (Bind t u d answer) cause = bound_step_there u.0 answer (bind_inside t.0 u.0 d answer (bind_cpu w u d (acts_named w s c.0 t.0 (op.Pbind u d) cause.0)) cause.1)
+    step_there e cause = tt
 
 stepped_there : (w : Work) (s r : State) (step : Step) → Stepped step s r → StepThere w step → PlacesAreThere w s → PlacesAreThere w r
 stepped_there w s r Stay same there places t = subst (λ p. IsThere w p) (sym (same t)) (places t)

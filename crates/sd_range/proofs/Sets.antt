@@ -12,7 +12,7 @@ use Rattle.sd_types.specs.declared.numbers.SetId.{SetId}
 use Rattle.sd_types.specs.declared.events.AssignAnswer.{AssignAnswer}
 use Rattle.sd_types.specs.declared.events.AssignAnswer.TheVariants as assign
 use Rattle.sd_types.specs.declared.events.Event.{Event}
-use Rattle.sd_types.specs.declared.events.Event.TheVariants.{Tick, Spin, Idle, Dispatch, Steal, Preempt, Yield, Done, Nap, Napend, Sleep, Wake, Wakeall, Rouse, Enter, Read, Write, Block, Will, End as WalkEnd, Exit, Unblock, Grant, Passed, Age, Prio, CvWait, SemaP, SemaWait, SemaVWake, SemaVCount, Assign, Move, Joined, Bind, Away}
+use Rattle.sd_types.specs.declared.events.Event.TheVariants.{Assign, Joined}
 use Rattle.sd_types.specs.declared.scripts.Op.TheVariants as op
 use Rattle.sd_types.specs.declared.works.Work.{Work}
 use Rattle.sd_types.specs.Partitions.{cpus_of_set}
@@ -168,40 +168,7 @@ sets_kept w s n c (Assign t d to answer) fits holds cause some =
     (λ is. drop_alone s c.0 (Assign t d to answer) d (granted_assignment w s t.0 d to (sym is ∙ cause.1))) (same_open w s (drop_ageing s c.0 (Assign t d to answer)) (drop_open s c.0 (Assign t d to answer)) some)
 sets_kept w s n c (Joined to) fits holds cause some =
     joins w (drop_ageing s c.0 (Joined to)) c to (drop_sets w s c.0 (Joined to) fits) (same_open w s (drop_ageing s c.0 (Joined to)) (drop_open s c.0 (Joined to)) some)
-sets_kept w s n c (Tick t) fits holds cause some = same_open w s (after w s n c (Tick t)) (open_same w s n c (Tick t) refl) some
-sets_kept w s n c (Spin t l) fits holds cause some = same_open w s (after w s n c (Spin t l)) (open_same w s n c (Spin t l) refl) some
-sets_kept w s n c Idle fits holds cause some = same_open w s (after w s n c Idle) (open_same w s n c Idle refl) some
-sets_kept w s n c (Dispatch t p) fits holds cause some = same_open w s (after w s n c (Dispatch t p)) (open_same w s n c (Dispatch t p) refl) some
-sets_kept w s n c (Steal v t p) fits holds cause some = same_open w s (after w s n c (Steal v t p)) (open_same w s n c (Steal v t p) refl) some
-sets_kept w s n c (Preempt t end) fits holds cause some = same_open w s (after w s n c (Preempt t end)) (open_same w s n c (Preempt t end) refl) some
-sets_kept w s n c (Away t d) fits holds cause some = same_open w s (after w s n c (Away t d)) (open_same w s n c (Away t d) refl) some
-sets_kept w s n c (Yield t) fits holds cause some = same_open w s (after w s n c (Yield t)) (open_same w s n c (Yield t) refl) some
-sets_kept w s n c (Done t) fits holds cause some = same_open w s (after w s n c (Done t)) (open_same w s n c (Done t) refl) some
-sets_kept w s n c (Nap t) fits holds cause some = same_open w s (after w s n c (Nap t)) (open_same w s n c (Nap t) refl) some
-sets_kept w s n c (Napend t at) fits holds cause some = same_open w s (after w s n c (Napend t at)) (open_same w s n c (Napend t at) refl) some
-sets_kept w s n c (Sleep t j) fits holds cause some = same_open w s (after w s n c (Sleep t j)) (open_same w s n c (Sleep t j) refl) some
-sets_kept w s n c (Wake t j u) fits holds cause some = same_open w s (after w s n c (Wake t j u)) (open_same w s n c (Wake t j u) refl) some
-sets_kept w s n c (Wakeall t j) fits holds cause some = same_open w s (after w s n c (Wakeall t j)) (open_same w s n c (Wakeall t j) refl) some
-sets_kept w s n c (Rouse j u) fits holds cause some = same_open w s (after w s n c (Rouse j u)) (open_same w s n c (Rouse j u) refl) some
-sets_kept w s n c (Enter t l) fits holds cause some = same_open w s (after w s n c (Enter t l)) (open_same w s n c (Enter t l) refl) some
-sets_kept w s n c (Read t l) fits holds cause some = same_open w s (after w s n c (Read t l)) (open_same w s n c (Read t l) refl) some
-sets_kept w s n c (Write t l) fits holds cause some = same_open w s (after w s n c (Write t l)) (open_same w s n c (Write t l) refl) some
-sets_kept w s n c (Block t l) fits holds cause some = same_open w s (after w s n c (Block t l)) (open_same w s n c (Block t l) refl) some
-sets_kept w s n c (Will l o p at) fits holds cause some = same_open w s (after w s n c (Will l o p at)) (open_same w s n c (Will l o p at) refl) some
-sets_kept w s n c (WalkEnd l) fits holds cause some = same_open w s (after w s n c (WalkEnd l)) (open_same w s n c (WalkEnd l) refl) some
-sets_kept w s n c (Exit t l) fits holds cause some = same_open w s (after w s n c (Exit t l)) (open_same w s n c (Exit t l) refl) some
-sets_kept w s n c (Unblock l u at) fits holds cause some = same_open w s (after w s n c (Unblock l u at)) (open_same w s n c (Unblock l u at) refl) some
-sets_kept w s n c (Grant l u at) fits holds cause some = same_open w s (after w s n c (Grant l u at)) (open_same w s n c (Grant l u at) refl) some
-sets_kept w s n c (Passed l) fits holds cause some = same_open w s (after w s n c (Passed l)) (open_same w s n c (Passed l) refl) some
-sets_kept w s n c (Age t p) fits holds cause some = same_open w s (after w s n c (Age t p)) (open_same w s n c (Age t p) refl) some
-sets_kept w s n c (Prio t u answer) fits holds cause some = same_open w s (after w s n c (Prio t u answer)) (open_same w s n c (Prio t u answer) refl) some
-sets_kept w s n c (CvWait t j l) fits holds cause some = same_open w s (after w s n c (CvWait t j l)) (open_same w s n c (CvWait t j l) refl) some
-sets_kept w s n c (SemaP t j) fits holds cause some = same_open w s (after w s n c (SemaP t j)) (open_same w s n c (SemaP t j) refl) some
-sets_kept w s n c (SemaWait t j) fits holds cause some = same_open w s (after w s n c (SemaWait t j)) (open_same w s n c (SemaWait t j) refl) some
-sets_kept w s n c (SemaVWake t j u at) fits holds cause some = same_open w s (after w s n c (SemaVWake t j u at)) (open_same w s n c (SemaVWake t j u at) refl) some
-sets_kept w s n c (SemaVCount t j m) fits holds cause some = same_open w s (after w s n c (SemaVCount t j m)) (open_same w s n c (SemaVCount t j m) refl) some
-sets_kept w s n c (Move t at) fits holds cause some = same_open w s (after w s n c (Move t at)) (open_same w s n c (Move t at) refl) some
-sets_kept w s n c (Bind t u d answer) fits holds cause some = same_open w s (after w s n c (Bind t u d answer)) (open_same w s n c (Bind t u d answer) refl) some
+sets_kept w s n c e fits holds cause some = same_open w s (after w s n c e) (open_same w s n c e refl) some
 
 opening_sets : (w : Work) → SetsAreOpen w (opening w)
 unfolding opening
@@ -259,40 +226,7 @@ places_kept w s n c (Assign t d to answer) cause there =
     assigned_sets w (drop_ageing s c.0 (Assign t d to answer)) t.0 d to answer (assign_set w d to (acts_named w s c.0 t.0 (op.Assign d to) cause.0)) (same_sets w s _ (drop_places s c.0 (Assign t d to answer)) there)
 places_kept w s n c (Joined to) cause there =
     joined_sets w (drop_ageing s c.0 (Joined to)) c to (subst (λ o. IfSome o (IsSetThere w)) cause.1 (there c.0).1) (same_sets w s _ (drop_places s c.0 (Joined to)) there)
-places_kept w s n c (Tick t) cause there = same_sets w s (after w s n c (Tick t)) (cpus_same w s n c (Tick t) refl) there
-places_kept w s n c (Spin t l) cause there = same_sets w s (after w s n c (Spin t l)) (cpus_same w s n c (Spin t l) refl) there
-places_kept w s n c Idle cause there = same_sets w s (after w s n c Idle) (cpus_same w s n c Idle refl) there
-places_kept w s n c (Dispatch t p) cause there = same_sets w s (after w s n c (Dispatch t p)) (cpus_same w s n c (Dispatch t p) refl) there
-places_kept w s n c (Steal v t p) cause there = same_sets w s (after w s n c (Steal v t p)) (cpus_same w s n c (Steal v t p) refl) there
-places_kept w s n c (Preempt t end) cause there = same_sets w s (after w s n c (Preempt t end)) (cpus_same w s n c (Preempt t end) refl) there
-places_kept w s n c (Away t d) cause there = same_sets w s (after w s n c (Away t d)) (cpus_same w s n c (Away t d) refl) there
-places_kept w s n c (Yield t) cause there = same_sets w s (after w s n c (Yield t)) (cpus_same w s n c (Yield t) refl) there
-places_kept w s n c (Done t) cause there = same_sets w s (after w s n c (Done t)) (cpus_same w s n c (Done t) refl) there
-places_kept w s n c (Nap t) cause there = same_sets w s (after w s n c (Nap t)) (cpus_same w s n c (Nap t) refl) there
-places_kept w s n c (Napend t at) cause there = same_sets w s (after w s n c (Napend t at)) (cpus_same w s n c (Napend t at) refl) there
-places_kept w s n c (Sleep t j) cause there = same_sets w s (after w s n c (Sleep t j)) (cpus_same w s n c (Sleep t j) refl) there
-places_kept w s n c (Wake t j u) cause there = same_sets w s (after w s n c (Wake t j u)) (cpus_same w s n c (Wake t j u) refl) there
-places_kept w s n c (Wakeall t j) cause there = same_sets w s (after w s n c (Wakeall t j)) (cpus_same w s n c (Wakeall t j) refl) there
-places_kept w s n c (Rouse j u) cause there = same_sets w s (after w s n c (Rouse j u)) (cpus_same w s n c (Rouse j u) refl) there
-places_kept w s n c (Enter t l) cause there = same_sets w s (after w s n c (Enter t l)) (cpus_same w s n c (Enter t l) refl) there
-places_kept w s n c (Read t l) cause there = same_sets w s (after w s n c (Read t l)) (cpus_same w s n c (Read t l) refl) there
-places_kept w s n c (Write t l) cause there = same_sets w s (after w s n c (Write t l)) (cpus_same w s n c (Write t l) refl) there
-places_kept w s n c (Block t l) cause there = same_sets w s (after w s n c (Block t l)) (cpus_same w s n c (Block t l) refl) there
-places_kept w s n c (Will l o p at) cause there = same_sets w s (after w s n c (Will l o p at)) (cpus_same w s n c (Will l o p at) refl) there
-places_kept w s n c (WalkEnd l) cause there = same_sets w s (after w s n c (WalkEnd l)) (cpus_same w s n c (WalkEnd l) refl) there
-places_kept w s n c (Exit t l) cause there = same_sets w s (after w s n c (Exit t l)) (cpus_same w s n c (Exit t l) refl) there
-places_kept w s n c (Unblock l u at) cause there = same_sets w s (after w s n c (Unblock l u at)) (cpus_same w s n c (Unblock l u at) refl) there
-places_kept w s n c (Grant l u at) cause there = same_sets w s (after w s n c (Grant l u at)) (cpus_same w s n c (Grant l u at) refl) there
-places_kept w s n c (Passed l) cause there = same_sets w s (after w s n c (Passed l)) (cpus_same w s n c (Passed l) refl) there
-places_kept w s n c (Age t p) cause there = same_sets w s (after w s n c (Age t p)) (cpus_same w s n c (Age t p) refl) there
-places_kept w s n c (Prio t u answer) cause there = same_sets w s (after w s n c (Prio t u answer)) (cpus_same w s n c (Prio t u answer) refl) there
-places_kept w s n c (CvWait t j l) cause there = same_sets w s (after w s n c (CvWait t j l)) (cpus_same w s n c (CvWait t j l) refl) there
-places_kept w s n c (SemaP t j) cause there = same_sets w s (after w s n c (SemaP t j)) (cpus_same w s n c (SemaP t j) refl) there
-places_kept w s n c (SemaWait t j) cause there = same_sets w s (after w s n c (SemaWait t j)) (cpus_same w s n c (SemaWait t j) refl) there
-places_kept w s n c (SemaVWake t j u at) cause there = same_sets w s (after w s n c (SemaVWake t j u at)) (cpus_same w s n c (SemaVWake t j u at) refl) there
-places_kept w s n c (SemaVCount t j m) cause there = same_sets w s (after w s n c (SemaVCount t j m)) (cpus_same w s n c (SemaVCount t j m) refl) there
-places_kept w s n c (Move t at) cause there = same_sets w s (after w s n c (Move t at)) (cpus_same w s n c (Move t at) refl) there
-places_kept w s n c (Bind t u d answer) cause there = same_sets w s (after w s n c (Bind t u d answer)) (cpus_same w s n c (Bind t u d answer) refl) there
+places_kept w s n c e cause there = same_sets w s (after w s n c e) (cpus_same w s n c e refl) there
 
 first_sets : (w : Work) (xs : List ℕ) (c : ℕ) → IsPlacedThere w (place_part (get_or (map (first_cpu_state w) xs) c no_cpu))
 unfolding first_cpu_state

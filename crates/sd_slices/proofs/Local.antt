@@ -10,7 +10,7 @@ use Rattle.sd_types.specs.declared.bodies.ThreadBody.{ThreadBody}
 use Rattle.sd_types.specs.declared.events.BindAnswer.{BindAnswer}
 use Rattle.sd_types.specs.declared.events.BindAnswer.TheVariants as bind_answer
 use Rattle.sd_types.specs.declared.events.Event.{Event}
-use Rattle.sd_types.specs.declared.events.Event.TheVariants.{Tick, Spin, Idle, Dispatch, Steal, Preempt, Yield, Done, Nap, Napend, Sleep, Wake, Wakeall, Rouse, Enter, Read, Write, Block, Will, End as WalkEnd, Exit, Unblock, Grant, Passed, Age, Prio, CvWait, SemaP, SemaWait, SemaVWake, SemaVCount, Assign, Move, Joined, Bind, Away}
+use Rattle.sd_types.specs.declared.events.Event.TheVariants.{Dispatch, Steal, Preempt, Yield, Done, Nap, Napend, Sleep, Wake, Rouse, Block, Will, Unblock, Grant, Age, Prio, CvWait, SemaWait, SemaVWake, Move, Bind, Away}
 use Rattle.sd_types.specs.declared.events.PrioAnswer.{PrioAnswer}
 use Rattle.sd_types.specs.declared.events.PrioAnswer.TheVariants.{Changed, Refused}
 use Rattle.sd_types.specs.declared.events.Put.{Put}
@@ -206,9 +206,6 @@ stops s c t place runs to = record { to = to; from = runs_apart s c t runs }
 
 -- the step of each event
 steps_local : (w : Work) (s : State) (n : ℕ) (c : CpuId) (e : Event) → IsCause w s c.0 e → Local s c.0 (step_of w s n c e)
-steps_local w s n c (Tick t) cause = tt
-steps_local w s n c (Spin t l) cause = tt
-steps_local w s n c Idle cause = tt
 steps_local w s n c (Dispatch t p) cause = record {
   to = running_apart c.0 (Running c) (grind (arith, nat_tests));
   from = ready_apart c.0 c.0 (cpu_of s c.0).set.0 (thread_of s t.0).place (ready_found s c.0 t.0 cause.1).stands;
@@ -225,30 +222,20 @@ steps_local w s n c (Nap t) cause = stops s c.0 t.0 _ cause.1.runs (λ x other. 
 steps_local w s n c (Napend t at) cause = put_local w s n c.0 t.0 at (due_apart c.0 c.0 (cpu_of s c.0).count (thread_of s t.0).place (due_found s c.0 t.0 cause.0).stands)
 steps_local w s n c (Sleep t k) cause = stops s c.0 t.0 _ cause.runs (λ x other. refl)
 steps_local w s n c (Wake t k u) cause = woken_local w s n c.0 k.0 u cause.1
-steps_local w s n c (Wakeall t k) cause = tt
 steps_local w s n c (Rouse k u) cause = roused_local w s n c.0 k.0 cause.0 u cause.2
-steps_local w s n c (Enter t l) cause = tt
-steps_local w s n c (Read t l) cause = tt
-steps_local w s n c (Write t l) cause = tt
 steps_local w s n c (Block t l) cause = stops s c.0 t.0 _ cause.1.acts.runs (λ x other. refl)
 steps_local w s n c (Will l o p at) cause = reordered_local w s n c.0 o.0 at (thread_of s o.0).place refl
-steps_local w s n c (WalkEnd l) cause = tt
-steps_local w s n c (Exit t l) cause = tt
 steps_local w s n c (Unblock l u at) cause = put_local w s n c.0 u.0 at (waiting_apart c.0 l.0 Writer (thread_of s u.0).place (waiter_found s l.0 Writer u.0 cause.1).stands)
 steps_local w s n c (Grant l u at) (inl cause) = put_local w s n c.0 u.0 at (waiting_apart c.0 l.0 Writer (thread_of s u.0).place (waiter_found s l.0 Writer u.0 cause.1).stands)
 steps_local w s n c (Grant l u at) (inr cause) = put_local w s n c.0 u.0 at (waiting_apart c.0 l.0 Reader (thread_of s u.0).place (waiter_found s l.0 Reader u.0 cause.1).stands)
-steps_local w s n c (Passed l) cause = tt
 steps_local w s n c (Age t p) cause = aged_local w s n c (cause.0).0 t.0 cause.2
 steps_local w s n c (Prio t u answer) cause = prio_local w s n c.0 u answer
 steps_local w s n c (CvWait t k l) cause = stops s c.0 t.0 _ cause.runs (λ x other. refl)
-steps_local w s n c (SemaP t k) cause = tt
 steps_local w s n c (SemaWait t k) cause = stops s c.0 t.0 _ cause.0.runs (λ x other. refl)
 steps_local w s n c (SemaVWake t k u at) cause = put_local w s n c.0 u.0 at (asleep_apart c.0 k.0 (thread_of s u.0).place (sleeper_found s k.0 u.0 cause.1.best).stands)
-steps_local w s n c (SemaVCount t k m) cause = tt
-steps_local w s n c (Assign t d to answer) cause = tt
 steps_local w s n c (Move t at) cause = put_local w s n c.0 t.0 at (queued_apart c.0 c.0 (thread_of s t.0).place (queued_found s c.0 t.0 cause.1).stands)
-steps_local w s n c (Joined to) cause = tt
 steps_local w s n c (Bind t u d answer) cause = bind_local w s n c.0 t.0 u.0 d answer cause.1
+steps_local w s n c e cause = tt
 
 -- The states before and after.
 

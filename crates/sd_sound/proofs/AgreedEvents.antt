@@ -30,7 +30,7 @@ use Rattle.sd_types.specs.declared.numbers.LockId.{LockId}
 use Rattle.sd_types.specs.declared.numbers.Side.TheVariants.{Writer}
 use Rattle.sd_types.specs.declared.numbers.ThreadId.{ThreadId}
 use Rattle.sd_types.specs.declared.events.Event.{Event}
-use Rattle.sd_types.specs.declared.events.Event.TheVariants.{Tick, Spin, Idle, Dispatch, Steal, Preempt, Yield, Done, Nap, Napend, Sleep, Wake, Wakeall, Rouse, Enter, Read, Write, Block, Will, End as WalkEnd, Exit, Unblock, Grant, Passed, Age, Prio, CvWait, SemaP, SemaWait, SemaVWake, SemaVCount, Assign, Move, Joined, Bind, Away}
+use Rattle.sd_types.specs.declared.events.Event.TheVariants.{Tick, Spin, Idle, Dispatch, Steal, Yield, Done, Nap, Napend, Sleep, Wakeall, Rouse, Enter, Read, Write, Block, Will, End as WalkEnd, Exit, Unblock, Grant, Passed, Age, Prio, CvWait}
 use Rattle.sd_types.specs.declared.scripts.Op.{Op}
 use Rattle.sd_types.specs.declared.scripts.Op.TheVariants as op
 use Rattle.sd_types.specs.declared.works.Work.{Work}
@@ -47,14 +47,11 @@ cause_pass w s c (Spin t l) quiet cause = free_pass s c cause.0.1.acts.free
 cause_pass w s c Idle quiet cause = free_pass s c cause.0.idle.free
 cause_pass w s c (Dispatch t p) quiet cause = free_pass s c cause.0.idle.free
 cause_pass w s c (Steal v t p) quiet cause = free_pass s c cause.0.idle.free
-cause_pass w s c (Preempt t end) quiet cause = free_pass s c cause.0.free
-cause_pass w s c (Away t d) quiet cause = free_pass s c cause.0.free
 cause_pass w s c (Yield t) quiet cause = free_pass s c cause.free
 cause_pass w s c (Done t) quiet cause = free_pass s c cause.free
 cause_pass w s c (Nap t) quiet cause = free_pass s c cause.1.free
 cause_pass w s c (Napend t at) quiet cause = free_pass s c cause.2
 cause_pass w s c (Sleep t k) quiet cause = free_pass s c cause.free
-cause_pass w s c (Wake t k u) quiet cause = free_pass s c cause.0.free
 cause_pass w s c (Wakeall t k) quiet cause = free_pass s c cause.free
 cause_pass w s c (Rouse k u) quiet cause = ap pass_of cause.1
 cause_pass w s c (Enter t l) quiet cause = cc
@@ -70,91 +67,32 @@ cause_pass w s c (Passed l) quiet cause = cc
 cause_pass w s c (Age t p) quiet cause = ap pass_of cause.1
 cause_pass w s c (Prio t u answer) quiet cause = free_pass s c cause.1.free
 cause_pass w s c (CvWait t k l) quiet cause = cc
-cause_pass w s c (SemaP t k) quiet cause = free_pass s c cause.0.free
-cause_pass w s c (SemaWait t k) quiet cause = free_pass s c cause.0.free
-cause_pass w s c (SemaVWake t k u at) quiet cause = free_pass s c cause.0.free
-cause_pass w s c (SemaVCount t k m) quiet cause = free_pass s c cause.0.free
-cause_pass w s c (Assign t d to answer) quiet cause = free_pass s c cause.0.free
-cause_pass w s c (Move t at) quiet cause = free_pass s c cause.0.free
-cause_pass w s c (Joined to) quiet cause = free_pass s c cause.0.free
-cause_pass w s c (Bind t u d answer) quiet cause = free_pass s c cause.0.free
+cause_pass w s c e quiet cause = free_pass s c cause.0.free
 
 -- an event that is none of locks takes none and gives none up
 lockless_held : (s r : State) (e : Event) → is_lockless e ≡ true → HeldGo s r e → Same held_part s r
-lockless_held s r (Tick t) quiet held = held
-lockless_held s r (Spin t l) quiet held = held
-lockless_held s r Idle quiet held = held
-lockless_held s r (Dispatch t p) quiet held = held
-lockless_held s r (Steal v t p) quiet held = held
-lockless_held s r (Preempt t end) quiet held = held
-lockless_held s r (Away t d) quiet held = held
-lockless_held s r (Yield t) quiet held = held
-lockless_held s r (Done t) quiet held = held
-lockless_held s r (Nap t) quiet held = held
-lockless_held s r (Napend t at) quiet held = held
-lockless_held s r (Sleep t k) quiet held = held
-lockless_held s r (Wake t k u) quiet held = held
-lockless_held s r (Wakeall t k) quiet held = held
-lockless_held s r (Rouse k u) quiet held = held
 lockless_held s r (Enter t l) quiet held = cc
 lockless_held s r (Read t l) quiet held = cc
 lockless_held s r (Write t l) quiet held = cc
 lockless_held s r (Block t l) quiet held = cc
-lockless_held s r (Will l o p at) quiet held = held
-lockless_held s r (WalkEnd l) quiet held = held
 lockless_held s r (Exit t l) quiet held = cc
 lockless_held s r (Unblock l u at) quiet held = cc
 lockless_held s r (Grant l u at) quiet held = cc
 lockless_held s r (Passed l) quiet held = cc
-lockless_held s r (Age t p) quiet held = held
-lockless_held s r (Prio t u answer) quiet held = held
 lockless_held s r (CvWait t k l) quiet held = cc
-lockless_held s r (SemaP t k) quiet held = held
-lockless_held s r (SemaWait t k) quiet held = held
-lockless_held s r (SemaVWake t k u at) quiet held = held
-lockless_held s r (SemaVCount t k m) quiet held = held
-lockless_held s r (Assign t d to answer) quiet held = held
-lockless_held s r (Move t at) quiet held = held
-lockless_held s r (Joined to) quiet held = held
-lockless_held s r (Bind t u d answer) quiet held = held
+lockless_held s r e quiet held = held
 
 pub lockless_away : (e : Event) → is_lockless e ≡ true → is_blocking e ≡ false
-lockless_away (Tick t) quiet = refl
-lockless_away (Spin t l) quiet = refl
-lockless_away Idle quiet = refl
-lockless_away (Dispatch t p) quiet = refl
-lockless_away (Steal v t p) quiet = refl
-lockless_away (Preempt t end) quiet = refl
-lockless_away (Away t d) quiet = refl
-lockless_away (Yield t) quiet = refl
-lockless_away (Done t) quiet = refl
-lockless_away (Nap t) quiet = refl
-lockless_away (Napend t at) quiet = refl
-lockless_away (Sleep t k) quiet = refl
-lockless_away (Wake t k u) quiet = refl
-lockless_away (Wakeall t k) quiet = refl
-lockless_away (Rouse k u) quiet = refl
 lockless_away (Enter t l) quiet = cc
 lockless_away (Read t l) quiet = cc
 lockless_away (Write t l) quiet = cc
 lockless_away (Block t l) quiet = cc
-lockless_away (Will l o p at) quiet = refl
-lockless_away (WalkEnd l) quiet = refl
 lockless_away (Exit t l) quiet = cc
 lockless_away (Unblock l u at) quiet = cc
 lockless_away (Grant l u at) quiet = cc
 lockless_away (Passed l) quiet = cc
-lockless_away (Age t p) quiet = refl
-lockless_away (Prio t u answer) quiet = refl
 lockless_away (CvWait t k l) quiet = cc
-lockless_away (SemaP t k) quiet = refl
-lockless_away (SemaWait t k) quiet = refl
-lockless_away (SemaVWake t k u at) quiet = refl
-lockless_away (SemaVCount t k m) quiet = refl
-lockless_away (Assign t d to answer) quiet = refl
-lockless_away (Move t at) quiet = refl
-lockless_away (Joined to) quiet = refl
-lockless_away (Bind t u d answer) quiet = refl
+lockless_away e quiet = refl
 
 -- a lock that an operation names is there
 pub lock_named : (w : Work) (s : State) (c t : ℕ) (o : Op) → FitsFully w s → Acts w s c t (Some o) → (l : LockId) → ((d : Declared) → op_names d o ≡ true → (is_mutex (slice_get d.locks l.0) ≡ true) ⊎ (is_rwlock (slice_get d.locks l.0) ≡ true)) → l.0 < length s.locks
@@ -230,30 +168,4 @@ module _ (w : Work) (s : State) (n : ℕ) (c : CpuId) (ready : IsReady w s) (c_i
   after_agreed (Grant l u at) (inl cause) next = grant_agreed w s n c ready c_in l u at (inl cause.0) (waiter_found s l.0 Writer u.0 cause.1).inside (found_not_held l Writer u.0 cause.1) next
   after_agreed (Grant l u at) (inr cause) next = grant_agreed w s n c ready c_in l u at (inr cause.0) (waiter_found s l.0 Reader u.0 cause.1).inside (found_not_held l Reader u.0 cause.1) next
   after_agreed (Passed l) cause next = pass_agreed w s n c ready c_in l cause.0 (pass_readers l cause.1) next
-  after_agreed (Tick t) cause next = lockless_agreed (Tick t) refl cause next
-  after_agreed (Spin t l) cause next = lockless_agreed (Spin t l) refl cause next
-  after_agreed Idle cause next = lockless_agreed Idle refl cause next
-  after_agreed (Dispatch t p) cause next = lockless_agreed (Dispatch t p) refl cause next
-  after_agreed (Steal v t p) cause next = lockless_agreed (Steal v t p) refl cause next
-  after_agreed (Preempt t end) cause next = lockless_agreed (Preempt t end) refl cause next
-  after_agreed (Away t d) cause next = lockless_agreed (Away t d) refl cause next
-  after_agreed (Yield t) cause next = lockless_agreed (Yield t) refl cause next
-  after_agreed (Done t) cause next = lockless_agreed (Done t) refl cause next
-  after_agreed (Nap t) cause next = lockless_agreed (Nap t) refl cause next
-  after_agreed (Napend t at) cause next = lockless_agreed (Napend t at) refl cause next
-  after_agreed (Sleep t k) cause next = lockless_agreed (Sleep t k) refl cause next
-  after_agreed (Wake t k u) cause next = lockless_agreed (Wake t k u) refl cause next
-  after_agreed (Wakeall t k) cause next = lockless_agreed (Wakeall t k) refl cause next
-  after_agreed (Rouse k u) cause next = lockless_agreed (Rouse k u) refl cause next
-  after_agreed (Will l o p at) cause next = lockless_agreed (Will l o p at) refl cause next
-  after_agreed (WalkEnd l) cause next = lockless_agreed (WalkEnd l) refl cause next
-  after_agreed (Age t p) cause next = lockless_agreed (Age t p) refl cause next
-  after_agreed (Prio t u answer) cause next = lockless_agreed (Prio t u answer) refl cause next
-  after_agreed (SemaP t k) cause next = lockless_agreed (SemaP t k) refl cause next
-  after_agreed (SemaWait t k) cause next = lockless_agreed (SemaWait t k) refl cause next
-  after_agreed (SemaVWake t k u at) cause next = lockless_agreed (SemaVWake t k u at) refl cause next
-  after_agreed (SemaVCount t k m) cause next = lockless_agreed (SemaVCount t k m) refl cause next
-  after_agreed (Assign t d to answer) cause next = lockless_agreed (Assign t d to answer) refl cause next
-  after_agreed (Move t at) cause next = lockless_agreed (Move t at) refl cause next
-  after_agreed (Joined to) cause next = lockless_agreed (Joined to) refl cause next
-  after_agreed (Bind t u d answer) cause next = lockless_agreed (Bind t u d answer) refl cause next
+  after_agreed e cause next = lockless_agreed e refl cause next

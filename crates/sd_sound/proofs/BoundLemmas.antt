@@ -13,7 +13,7 @@ use Rattle.sd_types.specs.declared.events.BindAnswer.TheVariants as bind_answer
 use Rattle.sd_types.specs.declared.events.Duty.{Duty}
 use Rattle.sd_types.specs.declared.events.Duty.TheVariants as duty
 use Rattle.sd_types.specs.declared.events.Event.{Event}
-use Rattle.sd_types.specs.declared.events.Event.TheVariants.{Tick, Spin, Idle, Dispatch, Steal, Preempt, Yield, Done, Nap, Napend, Sleep, Wake, Wakeall, Rouse, Enter, Read, Write, Block, Will, End as WalkEnd, Exit, Unblock, Grant, Passed, Age, Prio, CvWait, SemaP, SemaWait, SemaVWake, SemaVCount, Assign, Move, Joined, Bind, Away}
+use Rattle.sd_types.specs.declared.events.Event.TheVariants.{Tick, Spin, Idle, Rouse, Enter, Read, Write, Will, Exit, Grant, Age, CvWait, Assign, Joined, Bind}
 use Rattle.sd_types.specs.declared.events.Put.{Put}
 use Rattle.sd_types.specs.declared.works.Work.{Work}
 use Rattle.std.specs.Prelude.{if◌then◌else◌, is_none, is_some, ◌==◌, not, ◌&&◌}
@@ -120,36 +120,7 @@ cpus_same w s n c Idle quiet = from_dropped w s n c Idle (idled_numbers w _ c.0)
 cpus_same w s n c (Assign t d to answer) quiet = from_dropped w s n c (Assign t d to answer) (assigned_numbers w _ t.0 d to answer)
 cpus_same w s n c (Joined to) quiet = from_dropped w s n c (Joined to) (joined_numbers _ c to)
 cpus_same w s n c (Bind t u d answer) quiet = cc
-cpus_same w s n c (Dispatch t p) quiet = plain_keeps number_part numbers_plain w s n c (Dispatch t p) refl
-cpus_same w s n c (Steal v t p) quiet = plain_keeps number_part numbers_plain w s n c (Steal v t p) refl
-cpus_same w s n c (Preempt t end) quiet = plain_keeps number_part numbers_plain w s n c (Preempt t end) refl
-cpus_same w s n c (Away t d) quiet = plain_keeps number_part numbers_plain w s n c (Away t d) refl
-cpus_same w s n c (Yield t) quiet = plain_keeps number_part numbers_plain w s n c (Yield t) refl
-cpus_same w s n c (Done t) quiet = plain_keeps number_part numbers_plain w s n c (Done t) refl
-cpus_same w s n c (Nap t) quiet = plain_keeps number_part numbers_plain w s n c (Nap t) refl
-cpus_same w s n c (Napend t at) quiet = plain_keeps number_part numbers_plain w s n c (Napend t at) refl
-cpus_same w s n c (Sleep t j) quiet = plain_keeps number_part numbers_plain w s n c (Sleep t j) refl
-cpus_same w s n c (Wake t j u) quiet = plain_keeps number_part numbers_plain w s n c (Wake t j u) refl
-cpus_same w s n c (Wakeall t j) quiet = plain_keeps number_part numbers_plain w s n c (Wakeall t j) refl
-cpus_same w s n c (Rouse j u) quiet = plain_keeps number_part numbers_plain w s n c (Rouse j u) refl
-cpus_same w s n c (Enter t l) quiet = plain_keeps number_part numbers_plain w s n c (Enter t l) refl
-cpus_same w s n c (Read t l) quiet = plain_keeps number_part numbers_plain w s n c (Read t l) refl
-cpus_same w s n c (Write t l) quiet = plain_keeps number_part numbers_plain w s n c (Write t l) refl
-cpus_same w s n c (Block t l) quiet = plain_keeps number_part numbers_plain w s n c (Block t l) refl
-cpus_same w s n c (Will l o p at) quiet = plain_keeps number_part numbers_plain w s n c (Will l o p at) refl
-cpus_same w s n c (WalkEnd l) quiet = plain_keeps number_part numbers_plain w s n c (WalkEnd l) refl
-cpus_same w s n c (Exit t l) quiet = plain_keeps number_part numbers_plain w s n c (Exit t l) refl
-cpus_same w s n c (Unblock l u at) quiet = plain_keeps number_part numbers_plain w s n c (Unblock l u at) refl
-cpus_same w s n c (Grant l u at) quiet = plain_keeps number_part numbers_plain w s n c (Grant l u at) refl
-cpus_same w s n c (Passed l) quiet = plain_keeps number_part numbers_plain w s n c (Passed l) refl
-cpus_same w s n c (Age t p) quiet = plain_keeps number_part numbers_plain w s n c (Age t p) refl
-cpus_same w s n c (Prio t u answer) quiet = plain_keeps number_part numbers_plain w s n c (Prio t u answer) refl
-cpus_same w s n c (CvWait t j l) quiet = plain_keeps number_part numbers_plain w s n c (CvWait t j l) refl
-cpus_same w s n c (SemaP t j) quiet = plain_keeps number_part numbers_plain w s n c (SemaP t j) refl
-cpus_same w s n c (SemaWait t j) quiet = plain_keeps number_part numbers_plain w s n c (SemaWait t j) refl
-cpus_same w s n c (SemaVWake t j u at) quiet = plain_keeps number_part numbers_plain w s n c (SemaVWake t j u at) refl
-cpus_same w s n c (SemaVCount t j m) quiet = plain_keeps number_part numbers_plain w s n c (SemaVCount t j m) refl
-cpus_same w s n c (Move t at) quiet = plain_keeps number_part numbers_plain w s n c (Move t at) refl
+cpus_same w s n c e quiet = plain_keeps number_part numbers_plain w s n c e refl
 
 -- Threads.
 
@@ -179,34 +150,7 @@ threads_same w s n c (Exit t l) quiet = bound_dropped w s n c (Exit t l) (exited
 threads_same w s n c (Grant l u at) quiet = bound_dropped w s n c (Grant l u at) (granted_bound w _ n c l u.0 at _)
 threads_same w s n c (CvWait t j l) quiet = bound_dropped w s n c (CvWait t j l) (cv_waited_bound w _ n c t.0 j l)
 threads_same w s n c (Bind t u d answer) quiet = cc
-threads_same w s n c (Tick t) quiet = plain_same bound_part bound_moves bound_ops w s n c (Tick t) refl
-threads_same w s n c (Spin t l) quiet = plain_same bound_part bound_moves bound_ops w s n c (Spin t l) refl
-threads_same w s n c Idle quiet = plain_same bound_part bound_moves bound_ops w s n c Idle refl
-threads_same w s n c (Dispatch t p) quiet = plain_same bound_part bound_moves bound_ops w s n c (Dispatch t p) refl
-threads_same w s n c (Steal v t p) quiet = plain_same bound_part bound_moves bound_ops w s n c (Steal v t p) refl
-threads_same w s n c (Preempt t end) quiet = plain_same bound_part bound_moves bound_ops w s n c (Preempt t end) refl
-threads_same w s n c (Away t d) quiet = plain_same bound_part bound_moves bound_ops w s n c (Away t d) refl
-threads_same w s n c (Yield t) quiet = plain_same bound_part bound_moves bound_ops w s n c (Yield t) refl
-threads_same w s n c (Done t) quiet = plain_same bound_part bound_moves bound_ops w s n c (Done t) refl
-threads_same w s n c (Nap t) quiet = plain_same bound_part bound_moves bound_ops w s n c (Nap t) refl
-threads_same w s n c (Napend t at) quiet = plain_same bound_part bound_moves bound_ops w s n c (Napend t at) refl
-threads_same w s n c (Sleep t j) quiet = plain_same bound_part bound_moves bound_ops w s n c (Sleep t j) refl
-threads_same w s n c (Wake t j u) quiet = plain_same bound_part bound_moves bound_ops w s n c (Wake t j u) refl
-threads_same w s n c (Wakeall t j) quiet = plain_same bound_part bound_moves bound_ops w s n c (Wakeall t j) refl
-threads_same w s n c (Rouse j u) quiet = plain_same bound_part bound_moves bound_ops w s n c (Rouse j u) refl
-threads_same w s n c (Block t l) quiet = plain_same bound_part bound_moves bound_ops w s n c (Block t l) refl
-threads_same w s n c (WalkEnd l) quiet = plain_same bound_part bound_moves bound_ops w s n c (WalkEnd l) refl
-threads_same w s n c (Unblock l u at) quiet = plain_same bound_part bound_moves bound_ops w s n c (Unblock l u at) refl
-threads_same w s n c (Passed l) quiet = plain_same bound_part bound_moves bound_ops w s n c (Passed l) refl
-threads_same w s n c (Age t p) quiet = plain_same bound_part bound_moves bound_ops w s n c (Age t p) refl
-threads_same w s n c (Prio t u answer) quiet = plain_same bound_part bound_moves bound_ops w s n c (Prio t u answer) refl
-threads_same w s n c (SemaP t j) quiet = plain_same bound_part bound_moves bound_ops w s n c (SemaP t j) refl
-threads_same w s n c (SemaWait t j) quiet = plain_same bound_part bound_moves bound_ops w s n c (SemaWait t j) refl
-threads_same w s n c (SemaVWake t j u at) quiet = plain_same bound_part bound_moves bound_ops w s n c (SemaVWake t j u at) refl
-threads_same w s n c (SemaVCount t j m) quiet = plain_same bound_part bound_moves bound_ops w s n c (SemaVCount t j m) refl
-threads_same w s n c (Assign t d to answer) quiet = plain_same bound_part bound_moves bound_ops w s n c (Assign t d to answer) refl
-threads_same w s n c (Move t at) quiet = plain_same bound_part bound_moves bound_ops w s n c (Move t at) refl
-threads_same w s n c (Joined to) quiet = plain_same bound_part bound_moves bound_ops w s n c (Joined to) refl
+threads_same w s n c e quiet = plain_same bound_part bound_moves bound_ops w s n c e refl
 
 -- The threads that are bound to a processor.
 
@@ -452,41 +396,7 @@ bound_kept w s n c (Bind t u d answer) ready cause holds =
         misbound_same None b e = e
         misbound_same (Some x) None e = let same : (cpu_of (drop_ageing s c.0 (Bind t u d answer)) x.0).set ≡ (cpu_of s x.0).set = drop_set s c.0 (Bind t u d answer) x.0 in rw same e
         misbound_same (Some x) (Some y) e = cc
-bound_kept w s n c (Tick t) ready cause holds = quiet_hold w s n c (Tick t) refl holds
-bound_kept w s n c (Spin t l) ready cause holds = quiet_hold w s n c (Spin t l) refl holds
-bound_kept w s n c Idle ready cause holds = quiet_hold w s n c Idle refl holds
-bound_kept w s n c (Dispatch t p) ready cause holds = quiet_hold w s n c (Dispatch t p) refl holds
-bound_kept w s n c (Steal v t p) ready cause holds = quiet_hold w s n c (Steal v t p) refl holds
-bound_kept w s n c (Preempt t end) ready cause holds = quiet_hold w s n c (Preempt t end) refl holds
-bound_kept w s n c (Away t d) ready cause holds = quiet_hold w s n c (Away t d) refl holds
-bound_kept w s n c (Yield t) ready cause holds = quiet_hold w s n c (Yield t) refl holds
-bound_kept w s n c (Done t) ready cause holds = quiet_hold w s n c (Done t) refl holds
-bound_kept w s n c (Nap t) ready cause holds = quiet_hold w s n c (Nap t) refl holds
-bound_kept w s n c (Napend t at) ready cause holds = quiet_hold w s n c (Napend t at) refl holds
-bound_kept w s n c (Sleep t j) ready cause holds = quiet_hold w s n c (Sleep t j) refl holds
-bound_kept w s n c (Wake t j u) ready cause holds = quiet_hold w s n c (Wake t j u) refl holds
-bound_kept w s n c (Wakeall t j) ready cause holds = quiet_hold w s n c (Wakeall t j) refl holds
-bound_kept w s n c (Rouse j u) ready cause holds = quiet_hold w s n c (Rouse j u) refl holds
-bound_kept w s n c (Enter t l) ready cause holds = quiet_hold w s n c (Enter t l) refl holds
-bound_kept w s n c (Read t l) ready cause holds = quiet_hold w s n c (Read t l) refl holds
-bound_kept w s n c (Write t l) ready cause holds = quiet_hold w s n c (Write t l) refl holds
-bound_kept w s n c (Block t l) ready cause holds = quiet_hold w s n c (Block t l) refl holds
-bound_kept w s n c (Will l o p at) ready cause holds = quiet_hold w s n c (Will l o p at) refl holds
-bound_kept w s n c (WalkEnd l) ready cause holds = quiet_hold w s n c (WalkEnd l) refl holds
-bound_kept w s n c (Exit t l) ready cause holds = quiet_hold w s n c (Exit t l) refl holds
-bound_kept w s n c (Unblock l u at) ready cause holds = quiet_hold w s n c (Unblock l u at) refl holds
-bound_kept w s n c (Grant l u at) ready cause holds = quiet_hold w s n c (Grant l u at) refl holds
-bound_kept w s n c (Passed l) ready cause holds = quiet_hold w s n c (Passed l) refl holds
-bound_kept w s n c (Age t p) ready cause holds = quiet_hold w s n c (Age t p) refl holds
-bound_kept w s n c (Prio t u answer) ready cause holds = quiet_hold w s n c (Prio t u answer) refl holds
-bound_kept w s n c (CvWait t j l) ready cause holds = quiet_hold w s n c (CvWait t j l) refl holds
-bound_kept w s n c (SemaP t j) ready cause holds = quiet_hold w s n c (SemaP t j) refl holds
-bound_kept w s n c (SemaWait t j) ready cause holds = quiet_hold w s n c (SemaWait t j) refl holds
-bound_kept w s n c (SemaVWake t j u at) ready cause holds = quiet_hold w s n c (SemaVWake t j u at) refl holds
-bound_kept w s n c (SemaVCount t j m) ready cause holds = quiet_hold w s n c (SemaVCount t j m) refl holds
-bound_kept w s n c (Assign t d to answer) ready cause holds = quiet_hold w s n c (Assign t d to answer) refl holds
-bound_kept w s n c (Move t at) ready cause holds = quiet_hold w s n c (Move t at) refl holds
-bound_kept w s n c (Joined to) ready cause holds = quiet_hold w s n c (Joined to) refl holds
+bound_kept w s n c e ready cause holds = quiet_hold w s n c e refl holds
 
 first_number : (w : Work) (ns : List ℕ) (c : ℕ) → (get_or (map (first_cpu_state w) ns) c no_cpu).bound ≡ 0
 unfolding first_cpu_state

@@ -10,7 +10,7 @@ use Rattle.sd_types.specs.declared.events.BindAnswer.TheVariants as bind_answer
 use Rattle.sd_types.specs.declared.events.Duty.{Duty}
 use Rattle.sd_types.specs.declared.events.Duty.TheVariants as duty
 use Rattle.sd_types.specs.declared.events.Event.{Event}
-use Rattle.sd_types.specs.declared.events.Event.TheVariants.{Tick, Spin, Idle, Dispatch, Steal, Preempt, Yield, Done, Nap, Napend, Sleep, Wake, Wakeall, Rouse, Enter, Read, Write, Block, Will, End as WalkEnd, Exit, Unblock, Grant, Passed, Age, Prio, CvWait, SemaP, SemaWait, SemaVWake, SemaVCount, Assign, Move, Joined, Bind, Away}
+use Rattle.sd_types.specs.declared.events.Event.TheVariants.{Rouse, Enter, Read, Write, Will, Exit, Grant, Age, CvWait, Bind}
 use Rattle.sd_types.specs.declared.events.Put.{Put}
 use Rattle.sd_types.specs.declared.works.Work.{Work}
 use Rattle.sd_state.specs.declared.states.LockState.TheVariants.{Owned}
@@ -133,31 +133,4 @@ module _ (P : ClassState → Type 0) (w : Work) (k : IsClosed P w) where
   after_fit s n c (Grant l u at) = special s n c (Grant l u at) (granted_fits _ n c l u.0 at _)
   after_fit s n c (CvWait t j l) = special s n c (CvWait t j l) (cv_waited_fits _ n c t.0 j l)
   after_fit s n c (Bind t u d answer) = special s n c (Bind t u d answer) (pbound_fits _ n t.0 u.0 d answer)
-  after_fit s n c (Tick t) = W.plain_fit P w k s n c (Tick t) refl
-  after_fit s n c (Spin t l) = W.plain_fit P w k s n c (Spin t l) refl
-  after_fit s n c Idle = W.plain_fit P w k s n c Idle refl
-  after_fit s n c (Dispatch t p) = W.plain_fit P w k s n c (Dispatch t p) refl
-  after_fit s n c (Steal v t p) = W.plain_fit P w k s n c (Steal v t p) refl
-  after_fit s n c (Preempt t end) = W.plain_fit P w k s n c (Preempt t end) refl
-  after_fit s n c (Away t d) = W.plain_fit P w k s n c (Away t d) refl
-  after_fit s n c (Yield t) = W.plain_fit P w k s n c (Yield t) refl
-  after_fit s n c (Done t) = W.plain_fit P w k s n c (Done t) refl
-  after_fit s n c (Nap t) = W.plain_fit P w k s n c (Nap t) refl
-  after_fit s n c (Napend t at) = W.plain_fit P w k s n c (Napend t at) refl
-  after_fit s n c (Sleep t j) = W.plain_fit P w k s n c (Sleep t j) refl
-  after_fit s n c (Wake t j u) = W.plain_fit P w k s n c (Wake t j u) refl
-  after_fit s n c (Wakeall t j) = W.plain_fit P w k s n c (Wakeall t j) refl
-  after_fit s n c (Rouse j u) = W.plain_fit P w k s n c (Rouse j u) refl
-  after_fit s n c (Block t l) = W.plain_fit P w k s n c (Block t l) refl
-  after_fit s n c (WalkEnd l) = W.plain_fit P w k s n c (WalkEnd l) refl
-  after_fit s n c (Unblock l u at) = W.plain_fit P w k s n c (Unblock l u at) refl
-  after_fit s n c (Passed l) = W.plain_fit P w k s n c (Passed l) refl
-  after_fit s n c (Age t p) = W.plain_fit P w k s n c (Age t p) refl
-  after_fit s n c (Prio t u answer) = W.plain_fit P w k s n c (Prio t u answer) refl
-  after_fit s n c (SemaP t j) = W.plain_fit P w k s n c (SemaP t j) refl
-  after_fit s n c (SemaWait t j) = W.plain_fit P w k s n c (SemaWait t j) refl
-  after_fit s n c (SemaVWake t j u at) = W.plain_fit P w k s n c (SemaVWake t j u at) refl
-  after_fit s n c (SemaVCount t j m) = W.plain_fit P w k s n c (SemaVCount t j m) refl
-  after_fit s n c (Assign t d to answer) = W.plain_fit P w k s n c (Assign t d to answer) refl
-  after_fit s n c (Move t at) = W.plain_fit P w k s n c (Move t at) refl
-  after_fit s n c (Joined to) = W.plain_fit P w k s n c (Joined to) refl
+  after_fit s n c e = W.plain_fit P w k s n c e refl

@@ -21,7 +21,7 @@ use Rattle.sd_types.specs.declared.events.Duty.{Duty}
 use Rattle.sd_types.specs.declared.events.Duty.TheVariants as duty
 use Rattle.sd_types.specs.declared.events.End.{End}
 use Rattle.sd_types.specs.declared.events.Event.{Event}
-use Rattle.sd_types.specs.declared.events.Event.TheVariants.{Tick, Spin, Idle, Dispatch, Steal, Preempt, Yield, Done, Nap, Napend, Sleep, Wake, Wakeall, Rouse, Enter, Read, Write, Block, Will, End as WalkEnd, Exit, Unblock, Grant, Passed, Age, Prio, CvWait, SemaP, SemaWait, SemaVWake, SemaVCount, Assign, Move, Joined, Bind, Away}
+use Rattle.sd_types.specs.declared.events.Event.TheVariants.{Tick, Spin, Idle, Dispatch, Steal, Preempt, Yield, Done, Nap, Napend, Sleep, Wake, Wakeall, Rouse, Block, End as WalkEnd, Unblock, Passed, Age, Prio, SemaP, SemaWait, SemaVWake, SemaVCount, Assign, Move, Joined, Away}
 use Rattle.sd_types.specs.declared.events.PrioAnswer.{PrioAnswer}
 use Rattle.sd_types.specs.declared.events.PrioAnswer.TheVariants.{Changed, Refused}
 use Rattle.sd_types.specs.declared.events.Put.{Put}
@@ -370,19 +370,12 @@ module _ (P : ClassState → Type 0) where
     event_fit s n c (Wake t k u) plain = woke_fit s n t.0 u
     event_fit s n c (Wakeall t k) plain = woke_all_fit s n c t.0 k
     event_fit s n c (Rouse k u) plain = roused_fit s n c k u (cpu_of s c.0).duty
-    event_fit s n c (Enter t l) plain = cc
-    event_fit s n c (Read t l) plain = cc
-    event_fit s n c (Write t l) plain = cc
     event_fit s n c (Block t l) plain = blocked_fit s n c t.0 l
-    event_fit s n c (Will l o p at) plain = cc
     event_fit s n c (WalkEnd l) plain = walk_ended_fit s c
-    event_fit s n c (Exit t l) plain = cc
     event_fit s n c (Unblock l u at) plain = unblocked_fit s n c l u.0 at
-    event_fit s n c (Grant l u at) plain = cc
     event_fit s n c (Passed l) plain = passed_fit s c l
     event_fit s n c (Age t p) plain = aged_fit s n c t.0
     event_fit s n c (Prio t u answer) plain = reprioritised_fit s n c t.0 u answer
-    event_fit s n c (CvWait t k l) plain = cc
     event_fit s n c (SemaP t k) plain = sema_taken_fit s t.0 k
     event_fit s n c (SemaWait t k) plain = fallen_asleep_fit s n c t.0 k
     event_fit s n c (SemaVWake t k u at) plain = sema_handed_fit s n t.0 u.0 at
@@ -390,7 +383,7 @@ module _ (P : ClassState → Type 0) where
     event_fit s n c (Assign t d to answer) plain = assigned_fit s t.0 d to answer
     event_fit s n c (Move t at) plain = moved_fit s n t.0 at
     event_fit s n c (Joined to) plain = joined_fit s c to
-    event_fit s n c (Bind t u d answer) plain = cc
+    event_fit s n c e plain = cc
 
     pub plain_fit : (s : State) (n : ℕ) (c : CpuId) (e : Event) → is_plain e ≡ true → Fit P s (after w s n c e)
     unfolding after drop_ageing

@@ -9,7 +9,7 @@ use Rattle.sd_types.specs.declared.events.AssignAnswer.TheVariants as assign
 use Rattle.sd_types.specs.declared.events.BindAnswer.{BindAnswer}
 use Rattle.sd_types.specs.declared.events.BindAnswer.TheVariants as bind_answer
 use Rattle.sd_types.specs.declared.events.Event.{Event}
-use Rattle.sd_types.specs.declared.events.Event.TheVariants.{Tick, Spin, Idle, Dispatch, Steal, Preempt, Yield, Done, Nap, Napend, Sleep, Wake, Wakeall, Rouse, Enter, Read, Write, Block, Will, End as WalkEnd, Exit, Unblock, Grant, Passed, Age, Prio, CvWait, SemaP, SemaWait, SemaVWake, SemaVCount, Assign, Move, Joined, Bind, Away}
+use Rattle.sd_types.specs.declared.events.Event.TheVariants.{Tick, Spin, Idle, Assign, Joined, Bind}
 use Rattle.sd_types.specs.declared.works.Work.{Work}
 use Rattle.std.specs.Prelude.{nat_lt, nat_le}
 use Rattle.sd_state.specs.declared.states.CpuState.{CpuState}
@@ -149,36 +149,7 @@ after_grows w s n c Idle cause = after_dropped w s _ c Idle (idled_grows w w.lim
 after_grows w s n c (Assign t d to answer) cause = after_dropped w s _ c (Assign t d to answer) (same_grows w.limit _ _ (assigned_counts w (drop_ageing s c.0 (Assign t d to answer)) t.0 d to answer))
 after_grows w s n c (Joined to) cause = after_dropped w s _ c (Joined to) (same_grows w.limit _ _ (joined_counts (drop_ageing s c.0 (Joined to)) c to))
 after_grows w s n c (Bind t u d answer) cause = after_dropped w s _ c (Bind t u d answer) (same_grows w.limit _ _ (pbound_counts w (drop_ageing s c.0 (Bind t u d answer)) n t.0 u.0 d answer))
-after_grows w s n c (Dispatch t p) cause = plain_grows w s n c (Dispatch t p) refl
-after_grows w s n c (Steal v t p) cause = plain_grows w s n c (Steal v t p) refl
-after_grows w s n c (Preempt t end) cause = plain_grows w s n c (Preempt t end) refl
-after_grows w s n c (Away t d) cause = plain_grows w s n c (Away t d) refl
-after_grows w s n c (Yield t) cause = plain_grows w s n c (Yield t) refl
-after_grows w s n c (Done t) cause = plain_grows w s n c (Done t) refl
-after_grows w s n c (Nap t) cause = plain_grows w s n c (Nap t) refl
-after_grows w s n c (Napend t at) cause = plain_grows w s n c (Napend t at) refl
-after_grows w s n c (Sleep t k) cause = plain_grows w s n c (Sleep t k) refl
-after_grows w s n c (Wake t k u) cause = plain_grows w s n c (Wake t k u) refl
-after_grows w s n c (Wakeall t k) cause = plain_grows w s n c (Wakeall t k) refl
-after_grows w s n c (Rouse k u) cause = plain_grows w s n c (Rouse k u) refl
-after_grows w s n c (Enter t l) cause = plain_grows w s n c (Enter t l) refl
-after_grows w s n c (Read t l) cause = plain_grows w s n c (Read t l) refl
-after_grows w s n c (Write t l) cause = plain_grows w s n c (Write t l) refl
-after_grows w s n c (Block t l) cause = plain_grows w s n c (Block t l) refl
-after_grows w s n c (Will l o p at) cause = plain_grows w s n c (Will l o p at) refl
-after_grows w s n c (WalkEnd l) cause = plain_grows w s n c (WalkEnd l) refl
-after_grows w s n c (Exit t l) cause = plain_grows w s n c (Exit t l) refl
-after_grows w s n c (Unblock l u at) cause = plain_grows w s n c (Unblock l u at) refl
-after_grows w s n c (Grant l u at) cause = plain_grows w s n c (Grant l u at) refl
-after_grows w s n c (Passed l) cause = plain_grows w s n c (Passed l) refl
-after_grows w s n c (Age t p) cause = plain_grows w s n c (Age t p) refl
-after_grows w s n c (Prio t u answer) cause = plain_grows w s n c (Prio t u answer) refl
-after_grows w s n c (CvWait t k l) cause = plain_grows w s n c (CvWait t k l) refl
-after_grows w s n c (SemaP t k) cause = plain_grows w s n c (SemaP t k) refl
-after_grows w s n c (SemaWait t k) cause = plain_grows w s n c (SemaWait t k) refl
-after_grows w s n c (SemaVWake t k u at) cause = plain_grows w s n c (SemaVWake t k u at) refl
-after_grows w s n c (SemaVCount t k m) cause = plain_grows w s n c (SemaVCount t k m) refl
-after_grows w s n c (Move t at) cause = plain_grows w s n c (Move t at) refl
+after_grows w s n c e cause = plain_grows w s n c e refl
 
 pub after_counts : (w : Work) (s : State) (n : ℕ) (c : CpuId) (e : Event) → IsCause w s c.0 e → CountsWithin w s → CountsWithin w (after w s n c e)
 after_counts w s n c e cause within = λ d. (after_grows w s n c e cause).each d (within d)

@@ -260,9 +260,6 @@ module _ {X : Type 0} (part : CpuState → X) where
 
     pub effect_kept : (w : Work) (s : State) (n : ℕ) (c : CpuId) (e : Event) → keeps_cpus e ≡ true → Kept s (effect w s n c e)
     unfolding effect
-    effect_kept w s n c (Tick t) plain = cc
-    effect_kept w s n c (Spin t l) plain = cc
-    effect_kept w s n c Idle plain = cc
     effect_kept w s n c (Dispatch t p) plain = dispatched_kept s c t.0
     effect_kept w s n c (Steal v t p) plain = stolen_kept s c t.0
     effect_kept w s n c (Preempt t end) plain = preempted_kept w s n c t.0 end
@@ -273,26 +270,12 @@ module _ {X : Type 0} (part : CpuState → X) where
     effect_kept w s n c (Napend t at) plain = woken_kept w s n t.0 at
     effect_kept w s n c (Sleep t k) plain = fallen_asleep_kept w s n c t.0 k
     effect_kept w s n c (Wake t k u) plain = woke_kept w s n t.0 u
-    effect_kept w s n c (Wakeall t k) plain = cc
-    effect_kept w s n c (Rouse k u) plain = cc
     effect_kept w s n c (Enter t l) plain = owned_kept w s t.0 l
     effect_kept w s n c (Read t l) plain = read_kept w s t.0 l
     effect_kept w s n c (Write t l) plain = owned_kept w s t.0 l
-    effect_kept w s n c (Block t l) plain = cc
-    effect_kept w s n c (Will l o p at) plain = cc
-    effect_kept w s n c (WalkEnd l) plain = cc
-    effect_kept w s n c (Exit t l) plain = cc
-    effect_kept w s n c (Unblock l u at) plain = cc
-    effect_kept w s n c (Grant l u at) plain = cc
-    effect_kept w s n c (Passed l) plain = cc
-    effect_kept w s n c (Age t p) plain = cc
-    effect_kept w s n c (Prio t u answer) plain = cc
-    effect_kept w s n c (CvWait t k l) plain = cc
     effect_kept w s n c (SemaP t k) plain = sema_taken_kept w s t.0 k
     effect_kept w s n c (SemaWait t k) plain = fallen_asleep_kept w s n c t.0 k
     effect_kept w s n c (SemaVWake t k u at) plain = sema_handed_kept w s n t.0 u.0 at
     effect_kept w s n c (SemaVCount t k m) plain = sema_counted_kept w s t.0 k
-    effect_kept w s n c (Assign t d to answer) plain = cc
     effect_kept w s n c (Move t at) plain = moved_kept w s n t.0 at
-    effect_kept w s n c (Joined to) plain = cc
-    effect_kept w s n c (Bind t u d answer) plain = cc
+    effect_kept w s n c e plain = cc

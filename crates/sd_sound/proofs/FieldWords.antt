@@ -324,27 +324,16 @@ module _ {X : Type 0} (field : State → X) (on_thread : (s : State) (t : ℕ) (
   effect_kept w s n c (Wake t k u) plain = woke_kept w s n t.0 u
   effect_kept w s n c (Wakeall t k) plain = woke_all_kept w s n c t.0 k
   effect_kept w s n c (Rouse k u) plain = roused_kept w s n c k u (cpu_of s c.0).duty
-  effect_kept w s n c (Enter t l) plain = cc
-  effect_kept w s n c (Read t l) plain = cc
-  effect_kept w s n c (Write t l) plain = cc
   effect_kept w s n c (Block t l) plain = blocked_kept w s n c t.0 l
   effect_kept w s n c (Will l o p at) plain = willed_kept w s n c l o at
   effect_kept w s n c (WalkEnd l) plain = walk_ended_kept s c
-  effect_kept w s n c (Exit t l) plain = cc
-  effect_kept w s n c (Unblock l u at) plain = cc
-  effect_kept w s n c (Grant l u at) plain = cc
-  effect_kept w s n c (Passed l) plain = cc
   effect_kept w s n c (Age t p) plain = aged_kept w s n c t.0
   effect_kept w s n c (Prio t u answer) plain = reprioritised_kept w s n c t.0 u answer
-  effect_kept w s n c (CvWait t k l) plain = cc
-  effect_kept w s n c (SemaP t k) plain = cc
   effect_kept w s n c (SemaWait t k) plain = fallen_asleep_kept w s n c t.0 k
   effect_kept w s n c (SemaVWake t k u at) plain = sema_handed_kept w s n t.0 u.0 at
-  effect_kept w s n c (SemaVCount t k m) plain = cc
-  effect_kept w s n c (Assign t d to answer) plain = cc
   effect_kept w s n c (Move t at) plain = moved_kept w s n t.0 at
-  effect_kept w s n c (Joined to) plain = cc
   effect_kept w s n c (Bind t u d answer) plain = pbound_kept w s n t.0 u.0 d answer
+  effect_kept w s n c e plain = cc
 
   pub drop_kept : (s : State) (c : ℕ) (e : Event) → Kept s (drop_ageing s c e)
   unfolding drop_ageing

@@ -7,7 +7,7 @@ use Rattle.sd_types.specs.declared.numbers.ThreadId.{ThreadId}
 use Rattle.sd_types.specs.declared.events.BindAnswer.{BindAnswer}
 use Rattle.sd_types.specs.declared.events.BindAnswer.TheVariants as bind_answer
 use Rattle.sd_types.specs.declared.events.Event.{Event}
-use Rattle.sd_types.specs.declared.events.Event.TheVariants.{Tick, Spin, Idle, Dispatch, Steal, Preempt, Yield, Done, Nap, Napend, Sleep, Wake, Wakeall, Rouse, Enter, Read, Write, Block, Will, End as WalkEnd, Exit, Unblock, Grant, Passed, Age, Prio, CvWait, SemaP, SemaWait, SemaVWake, SemaVCount, Assign, Move, Joined, Bind, Away}
+use Rattle.sd_types.specs.declared.events.Event.TheVariants.{Dispatch, Steal, Preempt, Yield, Done, Nap, Napend, Sleep, Wake, Rouse, Block, Will, Unblock, Grant, Age, Prio, CvWait, SemaWait, SemaVWake, Move, Bind, Away}
 use Rattle.sd_types.specs.declared.events.PrioAnswer.{PrioAnswer}
 use Rattle.sd_types.specs.declared.events.PrioAnswer.TheVariants.{Changed, Refused}
 use Rattle.sd_types.specs.declared.events.Put.{Put}
@@ -109,9 +109,6 @@ keyless : (n t : ℕ) (p : Place) → has_key p ≡ false → HasNew n (Go t p)
 keyless n t p none has = absurd (false≢true (sym none ∙ has))
 
 has_new : (w : Work) (s : State) (n : ℕ) (c : CpuId) (e : Event) → HasNew n (step_of w s n c e)
-has_new w s n c (Tick t) = stay_new n
-has_new w s n c (Spin t l) = stay_new n
-has_new w s n c Idle = stay_new n
 has_new w s n c (Dispatch t p) = keyless n t.0 (Running c) refl
 has_new w s n c (Steal v t p) = keyless n t.0 (Running c) refl
 has_new w s n c (Preempt t end) = queue_new w n t.0 c (key_at n end) (thread_of s t.0).body (end_new n end)
@@ -122,29 +119,19 @@ has_new w s n c (Nap t) = λ has. absurd (false≢true has)
 has_new w s n c (Napend t at) = put_new w n t.0 at
 has_new w s n c (Sleep t k) = λ has. inl refl
 has_new w s n c (Wake t k u) = woken_new w n u
-has_new w s n c (Wakeall t k) = stay_new n
 has_new w s n c (Rouse k u) = woken_new w n u
-has_new w s n c (Enter t l) = stay_new n
-has_new w s n c (Read t l) = stay_new n
-has_new w s n c (Write t l) = stay_new n
 has_new w s n c (Block t l) = λ has. inl refl
 has_new w s n c (Will l o p at) = reordered_new w n o.0 at (thread_of s o.0).place
-has_new w s n c (WalkEnd l) = stay_new n
-has_new w s n c (Exit t l) = stay_new n
 has_new w s n c (Unblock l u at) = put_new w n u.0 at
 has_new w s n c (Grant l u at) = put_new w n u.0 at
-has_new w s n c (Passed l) = stay_new n
 has_new w s n c (Age t p) = aged_new w s n c t.0
 has_new w s n c (Prio t u answer) = prio_new w s n u answer
 has_new w s n c (CvWait t k l) = λ has. inl refl
-has_new w s n c (SemaP t k) = stay_new n
 has_new w s n c (SemaWait t k) = λ has. inl refl
 has_new w s n c (SemaVWake t k u at) = put_new w n u.0 at
-has_new w s n c (SemaVCount t k m) = stay_new n
-has_new w s n c (Assign t d to answer) = stay_new n
 has_new w s n c (Move t at) = put_new w n t.0 at
-has_new w s n c (Joined to) = stay_new n
 has_new w s n c (Bind t u d answer) = bind_new w n u.0 answer
+has_new w s n c e = stay_new n
 
 keys_kept : IsKept (λ w n s. KeysAt n (places s))
 keys_kept = record {

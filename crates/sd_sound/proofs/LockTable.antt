@@ -421,19 +421,10 @@ effect_served w s n c (Sleep t k) quiet free = C.fallen_asleep_kept served_part 
 effect_served w s n c (Wake t k u) quiet free = C.woke_kept served_part served_marks w s n t.0 u
 effect_served w s n c (Wakeall t k) quiet free = woke_all_served w s n c t.0 k free
 effect_served w s n c (Rouse k u) quiet free = roused_served w s n c k u (cpu_of s c.0).duty free
-effect_served w s n c (Enter t l) quiet free = cc
-effect_served w s n c (Read t l) quiet free = cc
-effect_served w s n c (Write t l) quiet free = cc
-effect_served w s n c (Block t l) quiet free = cc
 effect_served w s n c (Will l o p at) quiet free = willed_served w s n c l o at free
 effect_served w s n c (WalkEnd l) quiet free = walk_ended_served s c free
-effect_served w s n c (Exit t l) quiet free = cc
-effect_served w s n c (Unblock l u at) quiet free = cc
-effect_served w s n c (Grant l u at) quiet free = cc
-effect_served w s n c (Passed l) quiet free = cc
 effect_served w s n c (Age t p) quiet free = aged_served w s n c t.0 free
 effect_served w s n c (Prio t u answer) quiet free = reprioritised_served w s n c t.0 u answer free
-effect_served w s n c (CvWait t k l) quiet free = cc
 effect_served w s n c (SemaP t k) quiet free = C.sema_taken_kept served_part served_marks w s t.0 k
 effect_served w s n c (SemaWait t k) quiet free = C.fallen_asleep_kept served_part served_marks w s n c t.0 k
 effect_served w s n c (SemaVWake t k u at) quiet free = C.sema_handed_kept served_part served_marks w s n t.0 u.0 at
@@ -442,6 +433,7 @@ effect_served w s n c (Assign t d to answer) quiet free = assigned_served w s t.
 effect_served w s n c (Move t at) quiet free = C.moved_kept served_part served_marks w s n t.0 at
 effect_served w s n c (Joined to) quiet free = joined_served s c to
 effect_served w s n c (Bind t u d answer) quiet free = pbound_served w s n t.0 u.0 d answer
+effect_served w s n c e quiet free = cc
 
 pub quiet_served : (w : Work) (s : State) (n : ℕ) (c : CpuId) (e : Event) → is_lockless e ≡ true → pass_duty (cpu_of s c.0).duty ≡ duty.Nothing → Served s (after w s n c e)
 unfolding after
@@ -520,19 +512,10 @@ effect_locks w s n c (Sleep t k) quiet = (F.fallen_asleep_kept locks_field (λ s
 effect_locks w s n c (Wake t k u) quiet = (F.woke_kept locks_field (λ s t x. refl) (λ s c x. refl) w s n t.0 u).same
 effect_locks w s n c (Wakeall t k) quiet = (F.woke_all_kept locks_field (λ s t x. refl) (λ s c x. refl) w s n c t.0 k).same
 effect_locks w s n c (Rouse k u) quiet = (F.roused_kept locks_field (λ s t x. refl) (λ s c x. refl) w s n c k u (cpu_of s c.0).duty).same
-effect_locks w s n c (Enter t l) quiet = cc
-effect_locks w s n c (Read t l) quiet = cc
-effect_locks w s n c (Write t l) quiet = cc
-effect_locks w s n c (Block t l) quiet = cc
 effect_locks w s n c (Will l o p at) quiet = (F.willed_kept locks_field (λ s t x. refl) (λ s c x. refl) w s n c l o at).same
 effect_locks w s n c (WalkEnd l) quiet = (F.walk_ended_kept locks_field (λ s t x. refl) (λ s c x. refl) s c).same
-effect_locks w s n c (Exit t l) quiet = cc
-effect_locks w s n c (Unblock l u at) quiet = cc
-effect_locks w s n c (Grant l u at) quiet = cc
-effect_locks w s n c (Passed l) quiet = cc
 effect_locks w s n c (Age t p) quiet = (F.aged_kept locks_field (λ s t x. refl) (λ s c x. refl) w s n c t.0).same
 effect_locks w s n c (Prio t u answer) quiet = (F.reprioritised_kept locks_field (λ s t x. refl) (λ s c x. refl) w s n c t.0 u answer).same
-effect_locks w s n c (CvWait t k l) quiet = cc
 effect_locks w s n c (SemaP t k) quiet = sema_taken_lockless w s t.0 k
 effect_locks w s n c (SemaWait t k) quiet = (F.fallen_asleep_kept locks_field (λ s t x. refl) (λ s c x. refl) w s n c t.0 k).same
 effect_locks w s n c (SemaVWake t k u at) quiet = (F.sema_handed_kept locks_field (λ s t x. refl) (λ s c x. refl) w s n t.0 u.0 at).same
@@ -541,6 +524,7 @@ effect_locks w s n c (Assign t d to answer) quiet = assigned_lockless w s t.0 d 
 effect_locks w s n c (Move t at) quiet = (F.moved_kept locks_field (λ s t x. refl) (λ s c x. refl) w s n t.0 at).same
 effect_locks w s n c (Joined to) quiet = joined_lockless s c to
 effect_locks w s n c (Bind t u d answer) quiet = (F.pbound_kept locks_field (λ s t x. refl) (λ s c x. refl) w s n t.0 u.0 d answer).same
+effect_locks w s n c e quiet = cc
 
 pub quiet_locks : (w : Work) (s : State) (n : ℕ) (c : CpuId) (e : Event) → is_lockless e ≡ true → (after w s n c e).locks ≡ s.locks
 unfolding after

@@ -9,7 +9,7 @@ use Rattle.sd_types.specs.declared.numbers.Side.TheVariants.{Writer, Reader}
 use Rattle.sd_types.specs.declared.events.BindAnswer.{BindAnswer}
 use Rattle.sd_types.specs.declared.events.BindAnswer.TheVariants as bind_answer
 use Rattle.sd_types.specs.declared.events.Event.{Event}
-use Rattle.sd_types.specs.declared.events.Event.TheVariants.{Tick, Spin, Idle, Dispatch, Steal, Preempt, Yield, Done, Nap, Napend, Sleep, Wake, Wakeall, Rouse, Enter, Read, Write, Block, Will, End as WalkEnd, Exit, Unblock, Grant, Passed, Age, Prio, CvWait, SemaP, SemaWait, SemaVWake, SemaVCount, Assign, Move, Joined, Bind, Away}
+use Rattle.sd_types.specs.declared.events.Event.TheVariants.{Tick, Spin, Idle, Dispatch, Steal, Preempt, Yield, Done, Nap, Napend, Sleep, Wake, Rouse, Block, Will, Unblock, Grant, Age, Prio, CvWait, SemaWait, SemaVWake, Move, Bind, Away}
 use Rattle.sd_types.specs.declared.events.PrioAnswer.{PrioAnswer}
 use Rattle.sd_types.specs.declared.events.PrioAnswer.TheVariants.{Changed, Refused}
 use Rattle.sd_types.specs.declared.events.Put.{Put}
@@ -228,9 +228,6 @@ ends_wait (Grant l u at) = true
 ends_wait _ = false
 
 pub mover_of : (w : Work) (s : State) (n : ℕ) (c : CpuId) (e : Event) → ends_wait e ≡ false → FitsFully w s → Agreed s → IsCause w s c.0 e → MoverIs s (step_of w s n c e)
-mover_of w s n c (Tick t) quiet fits agreed cause = tt
-mover_of w s n c (Spin t l) quiet fits agreed cause = tt
-mover_of w s n c Idle quiet fits agreed cause = tt
 mover_of w s n c (Dispatch t p) quiet fits agreed cause = let found = ready_found s c.0 t.0 cause.1 in record { inside = found.inside; away = ready_away c.0 (cpu_of s c.0).set.0 (thread_of s t.0).place found.stands }
 mover_of w s n c (Steal v t p) quiet fits agreed cause =
     let found = unbound_found s v.0 t.0 cause.3 in
@@ -243,29 +240,19 @@ mover_of w s n c (Nap t) quiet fits agreed cause = runs_mover s c.0 t.0 cause.1.
 mover_of w s n c (Napend t at) quiet fits agreed cause = let found = due_found s c.0 t.0 cause.0 in record { inside = found.inside; away = due_away c.0 (cpu_of s c.0).count (thread_of s t.0).place found.stands }
 mover_of w s n c (Sleep t k) quiet fits agreed cause = runs_mover s c.0 t.0 cause.runs
 mover_of w s n c (Wake t k u) quiet fits agreed cause = woken_mover w s n k.0 u cause.1
-mover_of w s n c (Wakeall t k) quiet fits agreed cause = tt
 mover_of w s n c (Rouse k u) quiet fits agreed cause = roused_mover w s n k.0 cause.0 u cause.2
-mover_of w s n c (Enter t l) quiet fits agreed cause = tt
-mover_of w s n c (Read t l) quiet fits agreed cause = tt
-mover_of w s n c (Write t l) quiet fits agreed cause = tt
 mover_of w s n c (Block t l) quiet fits agreed cause = runs_mover s c.0 t.0 cause.1.acts.runs
 mover_of w s n c (Will l o p at) quiet fits agreed cause = reordered_mover w s n o.0 p at (thread_of s o.0).place (owner_thread s l o agreed cause.1) cause.3
-mover_of w s n c (WalkEnd l) quiet fits agreed cause = tt
-mover_of w s n c (Exit t l) quiet fits agreed cause = tt
 mover_of w s n c (Unblock l u at) quiet fits agreed cause = cc
 mover_of w s n c (Grant l u at) quiet fits agreed cause = cc
-mover_of w s n c (Passed l) quiet fits agreed cause = tt
 mover_of w s n c (Age t p) quiet fits agreed cause = aged_mover w s n c (cause.0).0 t.0 cause.2
 mover_of w s n c (Prio t u answer) quiet fits agreed cause = prio_mover w s n c.0 t.0 u cause.0 answer (prio_thread w s c.0 t.0 u cause.0 fits cause.1) cause.2
 mover_of w s n c (CvWait t k l) quiet fits agreed cause = runs_mover s c.0 t.0 cause.runs
-mover_of w s n c (SemaP t k) quiet fits agreed cause = tt
 mover_of w s n c (SemaWait t k) quiet fits agreed cause = runs_mover s c.0 t.0 cause.0.runs
 mover_of w s n c (SemaVWake t k u at) quiet fits agreed cause = let found = sleeper_found s k.0 u.0 cause.1.best in record { inside = found.inside; away = asleep_away k.0 (thread_of s u.0).place found.stands }
-mover_of w s n c (SemaVCount t k m) quiet fits agreed cause = tt
-mover_of w s n c (Assign t d to answer) quiet fits agreed cause = tt
 mover_of w s n c (Move t at) quiet fits agreed cause = let found = queued_found s c.0 t.0 cause.1 in record { inside = found.inside; away = queued_away c.0 (thread_of s t.0).place found.stands }
-mover_of w s n c (Joined to) quiet fits agreed cause = tt
 mover_of w s n c (Bind t u d answer) quiet fits agreed cause = bind_mover w s n t.0 u.0 d answer (bind_thread w s c.0 t.0 u d fits cause.0) cause.1
+mover_of w s n c e quiet fits agreed cause = tt
 
 mover_is_there : (s : State) (step : Step) → MoverIs s step → IsMoverThere s step
 mover_is_there s Stay is = tt
@@ -279,34 +266,4 @@ mover_there w s n c (Grant l u at) fits agreed (inr cause) = (waiter_found s l.0
 mover_there w s n c (Tick t) fits agreed cause = tt
 mover_there w s n c (Spin t l) fits agreed cause = tt
 mover_there w s n c Idle fits agreed cause = tt
-mover_there w s n c (Dispatch t p) fits agreed cause = mover_is_there s (step_of w s n c (Dispatch t p)) (mover_of w s n c (Dispatch t p) refl fits agreed cause)
-mover_there w s n c (Steal v t p) fits agreed cause = mover_is_there s (step_of w s n c (Steal v t p)) (mover_of w s n c (Steal v t p) refl fits agreed cause)
-mover_there w s n c (Preempt t end) fits agreed cause = mover_is_there s (step_of w s n c (Preempt t end)) (mover_of w s n c (Preempt t end) refl fits agreed cause)
-mover_there w s n c (Away t d) fits agreed cause = mover_is_there s (step_of w s n c (Away t d)) (mover_of w s n c (Away t d) refl fits agreed cause)
-mover_there w s n c (Yield t) fits agreed cause = mover_is_there s (step_of w s n c (Yield t)) (mover_of w s n c (Yield t) refl fits agreed cause)
-mover_there w s n c (Done t) fits agreed cause = mover_is_there s (step_of w s n c (Done t)) (mover_of w s n c (Done t) refl fits agreed cause)
-mover_there w s n c (Nap t) fits agreed cause = mover_is_there s (step_of w s n c (Nap t)) (mover_of w s n c (Nap t) refl fits agreed cause)
-mover_there w s n c (Napend t at) fits agreed cause = mover_is_there s (step_of w s n c (Napend t at)) (mover_of w s n c (Napend t at) refl fits agreed cause)
-mover_there w s n c (Sleep t k) fits agreed cause = mover_is_there s (step_of w s n c (Sleep t k)) (mover_of w s n c (Sleep t k) refl fits agreed cause)
-mover_there w s n c (Wake t k u) fits agreed cause = mover_is_there s (step_of w s n c (Wake t k u)) (mover_of w s n c (Wake t k u) refl fits agreed cause)
-mover_there w s n c (Wakeall t k) fits agreed cause = mover_is_there s (step_of w s n c (Wakeall t k)) (mover_of w s n c (Wakeall t k) refl fits agreed cause)
-mover_there w s n c (Rouse k u) fits agreed cause = mover_is_there s (step_of w s n c (Rouse k u)) (mover_of w s n c (Rouse k u) refl fits agreed cause)
-mover_there w s n c (Enter t l) fits agreed cause = mover_is_there s (step_of w s n c (Enter t l)) (mover_of w s n c (Enter t l) refl fits agreed cause)
-mover_there w s n c (Read t l) fits agreed cause = mover_is_there s (step_of w s n c (Read t l)) (mover_of w s n c (Read t l) refl fits agreed cause)
-mover_there w s n c (Write t l) fits agreed cause = mover_is_there s (step_of w s n c (Write t l)) (mover_of w s n c (Write t l) refl fits agreed cause)
-mover_there w s n c (Block t l) fits agreed cause = mover_is_there s (step_of w s n c (Block t l)) (mover_of w s n c (Block t l) refl fits agreed cause)
-mover_there w s n c (Will l o p at) fits agreed cause = mover_is_there s (step_of w s n c (Will l o p at)) (mover_of w s n c (Will l o p at) refl fits agreed cause)
-mover_there w s n c (WalkEnd l) fits agreed cause = mover_is_there s (step_of w s n c (WalkEnd l)) (mover_of w s n c (WalkEnd l) refl fits agreed cause)
-mover_there w s n c (Exit t l) fits agreed cause = mover_is_there s (step_of w s n c (Exit t l)) (mover_of w s n c (Exit t l) refl fits agreed cause)
-mover_there w s n c (Passed l) fits agreed cause = mover_is_there s (step_of w s n c (Passed l)) (mover_of w s n c (Passed l) refl fits agreed cause)
-mover_there w s n c (Age t p) fits agreed cause = mover_is_there s (step_of w s n c (Age t p)) (mover_of w s n c (Age t p) refl fits agreed cause)
-mover_there w s n c (Prio t u answer) fits agreed cause = mover_is_there s (step_of w s n c (Prio t u answer)) (mover_of w s n c (Prio t u answer) refl fits agreed cause)
-mover_there w s n c (CvWait t k l) fits agreed cause = mover_is_there s (step_of w s n c (CvWait t k l)) (mover_of w s n c (CvWait t k l) refl fits agreed cause)
-mover_there w s n c (SemaP t k) fits agreed cause = mover_is_there s (step_of w s n c (SemaP t k)) (mover_of w s n c (SemaP t k) refl fits agreed cause)
-mover_there w s n c (SemaWait t k) fits agreed cause = mover_is_there s (step_of w s n c (SemaWait t k)) (mover_of w s n c (SemaWait t k) refl fits agreed cause)
-mover_there w s n c (SemaVWake t k u at) fits agreed cause = mover_is_there s (step_of w s n c (SemaVWake t k u at)) (mover_of w s n c (SemaVWake t k u at) refl fits agreed cause)
-mover_there w s n c (SemaVCount t k m) fits agreed cause = mover_is_there s (step_of w s n c (SemaVCount t k m)) (mover_of w s n c (SemaVCount t k m) refl fits agreed cause)
-mover_there w s n c (Assign t d to answer) fits agreed cause = mover_is_there s (step_of w s n c (Assign t d to answer)) (mover_of w s n c (Assign t d to answer) refl fits agreed cause)
-mover_there w s n c (Move t at) fits agreed cause = mover_is_there s (step_of w s n c (Move t at)) (mover_of w s n c (Move t at) refl fits agreed cause)
-mover_there w s n c (Joined to) fits agreed cause = mover_is_there s (step_of w s n c (Joined to)) (mover_of w s n c (Joined to) refl fits agreed cause)
-mover_there w s n c (Bind t u d answer) fits agreed cause = mover_is_there s (step_of w s n c (Bind t u d answer)) (mover_of w s n c (Bind t u d answer) refl fits agreed cause)
+mover_there w s n c e fits agreed cause = mover_is_there s (step_of w s n c e) (mover_of w s n c e refl fits agreed cause)

@@ -9,7 +9,7 @@ use Rattle.sd_types.specs.declared.numbers.ThreadId.{ThreadId}
 use Rattle.sd_types.specs.declared.numbers.Side.{Side}
 use Rattle.sd_types.specs.declared.numbers.Side.TheVariants.{Writer, Reader}
 use Rattle.sd_types.specs.declared.events.Event.{Event}
-use Rattle.sd_types.specs.declared.events.Event.TheVariants.{Tick, Spin, Idle, Dispatch, Steal, Preempt, Yield, Done, Nap, Napend, Sleep, Wake, Wakeall, Rouse, Enter, Read, Write, Block, Will, End as WalkEnd, Exit, Unblock, Grant, Passed, Age, Prio, CvWait, SemaP, SemaWait, SemaVWake, SemaVCount, Assign, Move, Joined, Bind, Away}
+use Rattle.sd_types.specs.declared.events.Event.TheVariants.{Rouse, Enter, Read, Write, Will, Exit, Grant, Age, CvWait, Bind}
 use Rattle.sd_types.specs.declared.events.Put.{Put}
 use Rattle.sd_types.specs.declared.scripts.Op.TheVariants as op
 use Rattle.sd_types.specs.declared.works.Work.{Work}
@@ -91,34 +91,7 @@ after_numbers w s n c (Enter t l) here = special_numbers w s n c (Enter t l) (ow
 after_numbers w s n c (Read t l) here = special_numbers w s n c (Read t l) (read_numbers w _ t.0 l)
 after_numbers w s n c (Write t l) here = special_numbers w s n c (Write t l) (owned_numbers w _ t.0 l)
 after_numbers w s n c (Bind t u d answer) here = special_numbers w s n c (Bind t u d answer) (pbound_numbers w _ n t.0 u.0 d answer)
-after_numbers w s n c (Tick t) here = plain_same numbers_part numbers_moves numbers_ops w s n c (Tick t) refl
-after_numbers w s n c (Spin t l) here = plain_same numbers_part numbers_moves numbers_ops w s n c (Spin t l) refl
-after_numbers w s n c Idle here = plain_same numbers_part numbers_moves numbers_ops w s n c Idle refl
-after_numbers w s n c (Dispatch t p) here = plain_same numbers_part numbers_moves numbers_ops w s n c (Dispatch t p) refl
-after_numbers w s n c (Steal v t p) here = plain_same numbers_part numbers_moves numbers_ops w s n c (Steal v t p) refl
-after_numbers w s n c (Preempt t end) here = plain_same numbers_part numbers_moves numbers_ops w s n c (Preempt t end) refl
-after_numbers w s n c (Away t d) here = plain_same numbers_part numbers_moves numbers_ops w s n c (Away t d) refl
-after_numbers w s n c (Yield t) here = plain_same numbers_part numbers_moves numbers_ops w s n c (Yield t) refl
-after_numbers w s n c (Done t) here = plain_same numbers_part numbers_moves numbers_ops w s n c (Done t) refl
-after_numbers w s n c (Nap t) here = plain_same numbers_part numbers_moves numbers_ops w s n c (Nap t) refl
-after_numbers w s n c (Napend t at) here = plain_same numbers_part numbers_moves numbers_ops w s n c (Napend t at) refl
-after_numbers w s n c (Sleep t j) here = plain_same numbers_part numbers_moves numbers_ops w s n c (Sleep t j) refl
-after_numbers w s n c (Wake t j u) here = plain_same numbers_part numbers_moves numbers_ops w s n c (Wake t j u) refl
-after_numbers w s n c (Wakeall t j) here = plain_same numbers_part numbers_moves numbers_ops w s n c (Wakeall t j) refl
-after_numbers w s n c (Rouse j u) here = plain_same numbers_part numbers_moves numbers_ops w s n c (Rouse j u) refl
-after_numbers w s n c (Block t l) here = plain_same numbers_part numbers_moves numbers_ops w s n c (Block t l) refl
-after_numbers w s n c (WalkEnd l) here = plain_same numbers_part numbers_moves numbers_ops w s n c (WalkEnd l) refl
-after_numbers w s n c (Unblock l u at) here = plain_same numbers_part numbers_moves numbers_ops w s n c (Unblock l u at) refl
-after_numbers w s n c (Passed l) here = plain_same numbers_part numbers_moves numbers_ops w s n c (Passed l) refl
-after_numbers w s n c (Age t p) here = plain_same numbers_part numbers_moves numbers_ops w s n c (Age t p) refl
-after_numbers w s n c (Prio t u answer) here = plain_same numbers_part numbers_moves numbers_ops w s n c (Prio t u answer) refl
-after_numbers w s n c (SemaP t j) here = plain_same numbers_part numbers_moves numbers_ops w s n c (SemaP t j) refl
-after_numbers w s n c (SemaWait t j) here = plain_same numbers_part numbers_moves numbers_ops w s n c (SemaWait t j) refl
-after_numbers w s n c (SemaVWake t j u at) here = plain_same numbers_part numbers_moves numbers_ops w s n c (SemaVWake t j u at) refl
-after_numbers w s n c (SemaVCount t j m) here = plain_same numbers_part numbers_moves numbers_ops w s n c (SemaVCount t j m) refl
-after_numbers w s n c (Assign t d to answer) here = plain_same numbers_part numbers_moves numbers_ops w s n c (Assign t d to answer) refl
-after_numbers w s n c (Move t at) here = plain_same numbers_part numbers_moves numbers_ops w s n c (Move t at) refl
-after_numbers w s n c (Joined to) here = plain_same numbers_part numbers_moves numbers_ops w s n c (Joined to) refl
+after_numbers w s n c e here = plain_same numbers_part numbers_moves numbers_ops w s n c e refl
 
 -- Soundness looks at the two lists alone.
 
@@ -226,38 +199,7 @@ module _ (w : Work) (s : State) (n : ℕ) (c : CpuId) (ready : IsReady w s) (fin
   holder_there (Grant l u at) (inr cause) = (waiter_found s l.0 Reader u.0 cause.1).inside
   holder_there (Exit t l) cause = (runner_found s c.0 t.0 cause.runs).inside
   holder_there (CvWait t k l) cause = (runner_found s c.0 t.0 cause.runs).inside
-  holder_there (Tick t) cause = tt
-  holder_there (Spin t l) cause = tt
-  holder_there Idle cause = tt
-  holder_there (Dispatch t p) cause = tt
-  holder_there (Steal v t p) cause = tt
-  holder_there (Preempt t end) cause = tt
-  holder_there (Away t d) cause = tt
-  holder_there (Yield t) cause = tt
-  holder_there (Done t) cause = tt
-  holder_there (Nap t) cause = tt
-  holder_there (Napend t at) cause = tt
-  holder_there (Sleep t j) cause = tt
-  holder_there (Wake t j u) cause = tt
-  holder_there (Wakeall t j) cause = tt
-  holder_there (Rouse j u) cause = tt
-  holder_there (Block t l) cause = tt
-  holder_there (WalkEnd l) cause = tt
-  holder_there (Unblock l u at) cause = tt
-  holder_there (Passed l) cause = tt
-  holder_there (Age t p) cause = tt
-  holder_there (Prio t u answer) cause = tt
-  holder_there (SemaP t j) cause = tt
-  holder_there (SemaWait t j) cause = tt
-  holder_there (SemaVWake t j u at) cause = tt
-  holder_there (SemaVCount t j m) cause = tt
-  holder_there (Assign t d to answer) cause = tt
-  holder_there (Move t at) cause = tt
-  holder_there (Joined to) cause = tt
-  holder_there (Enter t l) cause = tt
-  holder_there (Read t l) cause = tt
-  holder_there (Write t l) cause = tt
-  holder_there (Bind t u d answer) cause = tt
+  holder_there e cause = tt
 
   not_held_yet : (l : LockId) (side : Side) (u : ℕ) → best_waiter s l.0 side ≡ Some u → is_held l (thread_of s u).body.held.items ≡ false
   not_held_yet l side u e =
@@ -276,35 +218,7 @@ module _ (w : Work) (s : State) (n : ℕ) (c : CpuId) (ready : IsReady w s) (fin
   sound_after (Grant l v at) (inl cause) (inr numbers) held u = granted_sound (after w s n c (Grant l v at)) v.0 l numbers held (not_held_yet l Writer v.0 cause.1) u
   sound_after (Grant l v at) (inr cause) (inl numbers) held u = taken_sound (after w s n c (Grant l v at)) v.0 l numbers held (not_held_yet l Reader v.0 cause.1) u
   sound_after (Grant l v at) (inr cause) (inr numbers) held u = granted_sound (after w s n c (Grant l v at)) v.0 l numbers held (not_held_yet l Reader v.0 cause.1) u
-  sound_after (Tick t) cause numbers held u = quiet_sound (after w s n c (Tick t)) numbers held u
-  sound_after (Spin t l) cause numbers held u = quiet_sound (after w s n c (Spin t l)) numbers held u
-  sound_after Idle cause numbers held u = quiet_sound (after w s n c Idle) numbers held u
-  sound_after (Dispatch t p) cause numbers held u = quiet_sound (after w s n c (Dispatch t p)) numbers held u
-  sound_after (Steal v t p) cause numbers held u = quiet_sound (after w s n c (Steal v t p)) numbers held u
-  sound_after (Preempt t end) cause numbers held u = quiet_sound (after w s n c (Preempt t end)) numbers held u
-  sound_after (Away t d) cause numbers held u = quiet_sound (after w s n c (Away t d)) numbers held u
-  sound_after (Yield t) cause numbers held u = quiet_sound (after w s n c (Yield t)) numbers held u
-  sound_after (Done t) cause numbers held u = quiet_sound (after w s n c (Done t)) numbers held u
-  sound_after (Nap t) cause numbers held u = quiet_sound (after w s n c (Nap t)) numbers held u
-  sound_after (Napend t at) cause numbers held u = quiet_sound (after w s n c (Napend t at)) numbers held u
-  sound_after (Sleep t j) cause numbers held u = quiet_sound (after w s n c (Sleep t j)) numbers held u
-  sound_after (Wake t j v) cause numbers held u = quiet_sound (after w s n c (Wake t j v)) numbers held u
-  sound_after (Wakeall t j) cause numbers held u = quiet_sound (after w s n c (Wakeall t j)) numbers held u
-  sound_after (Rouse j v) cause numbers held u = quiet_sound (after w s n c (Rouse j v)) numbers held u
-  sound_after (Block t l) cause numbers held u = quiet_sound (after w s n c (Block t l)) numbers held u
-  sound_after (WalkEnd l) cause numbers held u = quiet_sound (after w s n c (WalkEnd l)) numbers held u
-  sound_after (Unblock l v at) cause numbers held u = quiet_sound (after w s n c (Unblock l v at)) numbers held u
-  sound_after (Passed l) cause numbers held u = quiet_sound (after w s n c (Passed l)) numbers held u
-  sound_after (Age t p) cause numbers held u = quiet_sound (after w s n c (Age t p)) numbers held u
-  sound_after (Prio t v answer) cause numbers held u = quiet_sound (after w s n c (Prio t v answer)) numbers held u
-  sound_after (SemaP t j) cause numbers held u = quiet_sound (after w s n c (SemaP t j)) numbers held u
-  sound_after (SemaWait t j) cause numbers held u = quiet_sound (after w s n c (SemaWait t j)) numbers held u
-  sound_after (SemaVWake t j v at) cause numbers held u = quiet_sound (after w s n c (SemaVWake t j v at)) numbers held u
-  sound_after (SemaVCount t j m) cause numbers held u = quiet_sound (after w s n c (SemaVCount t j m)) numbers held u
-  sound_after (Assign t d to answer) cause numbers held u = quiet_sound (after w s n c (Assign t d to answer)) numbers held u
-  sound_after (Move t at) cause numbers held u = quiet_sound (after w s n c (Move t at)) numbers held u
-  sound_after (Joined to) cause numbers held u = quiet_sound (after w s n c (Joined to)) numbers held u
-  sound_after (Bind t v d answer) cause numbers held u = quiet_sound (after w s n c (Bind t v d answer)) numbers held u
+  sound_after e cause numbers held u = quiet_sound (after w s n c e) numbers held u
 
   pub after_sound : (e : Event) → IsCause w s c.0 e → (u : ℕ) → IsSound (thread_of (after w s n c e) u).body
   after_sound e cause u = sound_after e cause (after_numbers w s n c e (holder_there e cause)) (after_held w s n c e (ender_in w s c.0 e cause)) u

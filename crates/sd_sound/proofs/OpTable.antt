@@ -228,31 +228,16 @@ ticked_op w s c t here = elim (run_tick_op w (count_tick w s c) t (there s _ t (
 
 abbrev pub ender : Event → Option ℕ
 ender (Tick t) = Some t.0
-ender (Spin t l) = None
-ender Idle = None
-ender (Dispatch t p) = None
-ender (Steal v t p) = None
-ender (Preempt t end) = None
-ender (Away t d) = None
 ender (Yield t) = Some t.0
-ender (Done t) = None
 ender (Nap t) = Some t.0
-ender (Napend t at) = None
 ender (Sleep t k) = Some t.0
 ender (Wake t k u) = Some t.0
 ender (Wakeall t k) = Some t.0
-ender (Rouse k u) = None
 ender (Enter t l) = Some t.0
 ender (Read t l) = Some t.0
 ender (Write t l) = Some t.0
-ender (Block t l) = None
-ender (Will l o p at) = None
-ender (WalkEnd l) = None
 ender (Exit t l) = Some t.0
-ender (Unblock l u at) = None
 ender (Grant l u at) = Some u.0
-ender (Passed l) = None
-ender (Age t p) = None
 ender (Prio t u answer) = Some t.0
 ender (CvWait t k l) = Some t.0
 ender (SemaP t k) = Some t.0
@@ -260,9 +245,8 @@ ender (SemaWait t k) = Some t.0
 ender (SemaVWake t k u at) = Some t.0
 ender (SemaVCount t k m) = Some t.0
 ender (Assign t d to answer) = Some t.0
-ender (Move t at) = None
-ender (Joined to) = None
 ender (Bind t u d answer) = Some t.0
+ender e = None
 
 abbrev pub OpsGo : State → State → Event → Type 0
 OpsGo s r (Tick t) = Same op_part s r ⊎ Finished s r t.0
@@ -341,31 +325,16 @@ ender_there s c e (Some t) here = here
 go_after : (s r q : State) (e : Event) → Same op_part s r → OpsGo r q e → OpsGo s q e
 go_after s r q (Tick t) a (inl b) = inl (then_same op_part s r q a b)
 go_after s r q (Tick t) a (inr b) = inr (same_ended s r q t.0 a b)
-go_after s r q (Spin t l) a b = then_same op_part s r q a b
-go_after s r q Idle a b = then_same op_part s r q a b
-go_after s r q (Dispatch t p) a b = then_same op_part s r q a b
-go_after s r q (Steal v t p) a b = then_same op_part s r q a b
-go_after s r q (Preempt t end) a b = then_same op_part s r q a b
-go_after s r q (Away t d) a b = then_same op_part s r q a b
 go_after s r q (Yield t) a b = same_ended s r q t.0 a b
-go_after s r q (Done t) a b = then_same op_part s r q a b
 go_after s r q (Nap t) a b = same_ended s r q t.0 a b
-go_after s r q (Napend t at) a b = then_same op_part s r q a b
 go_after s r q (Sleep t k) a b = same_ended s r q t.0 a b
 go_after s r q (Wake t k u) a b = same_ended s r q t.0 a b
 go_after s r q (Wakeall t k) a b = same_ended s r q t.0 a b
-go_after s r q (Rouse k u) a b = then_same op_part s r q a b
 go_after s r q (Enter t l) a b = same_ended s r q t.0 a b
 go_after s r q (Read t l) a b = same_ended s r q t.0 a b
 go_after s r q (Write t l) a b = same_ended s r q t.0 a b
-go_after s r q (Block t l) a b = then_same op_part s r q a b
-go_after s r q (Will l o p at) a b = then_same op_part s r q a b
-go_after s r q (WalkEnd l) a b = then_same op_part s r q a b
 go_after s r q (Exit t l) a b = same_ended s r q t.0 a b
-go_after s r q (Unblock l u at) a b = then_same op_part s r q a b
 go_after s r q (Grant l u at) a b = same_ended s r q u.0 a b
-go_after s r q (Passed l) a b = then_same op_part s r q a b
-go_after s r q (Age t p) a b = then_same op_part s r q a b
 go_after s r q (Prio t u answer) a b = same_ended s r q t.0 a b
 go_after s r q (CvWait t k l) a b = same_ended s r q t.0 a b
 go_after s r q (SemaP t k) a b = same_ended s r q t.0 a b
@@ -373,9 +342,8 @@ go_after s r q (SemaWait t k) a b = same_ended s r q t.0 a b
 go_after s r q (SemaVWake t k u at) a b = same_ended s r q t.0 a b
 go_after s r q (SemaVCount t k m) a b = same_ended s r q t.0 a b
 go_after s r q (Assign t d to answer) a b = same_ended s r q t.0 a b
-go_after s r q (Move t at) a b = then_same op_part s r q a b
-go_after s r q (Joined to) a b = then_same op_part s r q a b
 go_after s r q (Bind t u d answer) a b = same_ended s r q t.0 a b
+go_after s r q e a b = then_same op_part s r q a b
 
 -- whose operation each event ends
 pub after_ops : (w : Work) (s : State) (n : ℕ) (c : CpuId) (e : Event) → IsEnderThere s (ender e) → OpsGo s (after w s n c e) e

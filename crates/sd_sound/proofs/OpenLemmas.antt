@@ -12,7 +12,7 @@ use Rattle.sd_types.specs.declared.events.AssignAnswer.TheVariants as assign
 use Rattle.sd_types.specs.declared.events.BindAnswer.{BindAnswer}
 use Rattle.sd_types.specs.declared.events.BindAnswer.TheVariants as bind_answer
 use Rattle.sd_types.specs.declared.events.Event.{Event}
-use Rattle.sd_types.specs.declared.events.Event.TheVariants.{Tick, Spin, Idle, Dispatch, Steal, Preempt, Yield, Done, Nap, Napend, Sleep, Wake, Wakeall, Rouse, Enter, Read, Write, Block, Will, End as WalkEnd, Exit, Unblock, Grant, Passed, Age, Prio, CvWait, SemaP, SemaWait, SemaVWake, SemaVCount, Assign, Move, Joined, Bind, Away}
+use Rattle.sd_types.specs.declared.events.Event.TheVariants.{Tick, Spin, Idle, SemaP, SemaVCount, Assign, Joined, Bind}
 use Rattle.sd_types.specs.declared.works.Work.{Work}
 use Rattle.std.specs.Prelude.{if◌then◌else◌, nat_lt, ◌==◌, not}
 use Rattle.sd_state.specs.declared.states.CpuState.{CpuState}
@@ -224,36 +224,7 @@ cpus_same w s n c Idle quiet = from_dropped w s n c Idle (idled_places w _ c.0)
 cpus_same w s n c (Bind t u d answer) quiet = from_dropped w s n c (Bind t u d answer) (pbound_places w _ n t.0 u.0 d answer)
 cpus_same w s n c (Assign t d to answer) quiet = cc
 cpus_same w s n c (Joined to) quiet = cc
-cpus_same w s n c (Dispatch t p) quiet = plain_keeps place_part places_plain w s n c (Dispatch t p) refl
-cpus_same w s n c (Steal v t p) quiet = plain_keeps place_part places_plain w s n c (Steal v t p) refl
-cpus_same w s n c (Preempt t end) quiet = plain_keeps place_part places_plain w s n c (Preempt t end) refl
-cpus_same w s n c (Away t d) quiet = plain_keeps place_part places_plain w s n c (Away t d) refl
-cpus_same w s n c (Yield t) quiet = plain_keeps place_part places_plain w s n c (Yield t) refl
-cpus_same w s n c (Done t) quiet = plain_keeps place_part places_plain w s n c (Done t) refl
-cpus_same w s n c (Nap t) quiet = plain_keeps place_part places_plain w s n c (Nap t) refl
-cpus_same w s n c (Napend t at) quiet = plain_keeps place_part places_plain w s n c (Napend t at) refl
-cpus_same w s n c (Sleep t j) quiet = plain_keeps place_part places_plain w s n c (Sleep t j) refl
-cpus_same w s n c (Wake t j u) quiet = plain_keeps place_part places_plain w s n c (Wake t j u) refl
-cpus_same w s n c (Wakeall t j) quiet = plain_keeps place_part places_plain w s n c (Wakeall t j) refl
-cpus_same w s n c (Rouse j u) quiet = plain_keeps place_part places_plain w s n c (Rouse j u) refl
-cpus_same w s n c (Enter t l) quiet = plain_keeps place_part places_plain w s n c (Enter t l) refl
-cpus_same w s n c (Read t l) quiet = plain_keeps place_part places_plain w s n c (Read t l) refl
-cpus_same w s n c (Write t l) quiet = plain_keeps place_part places_plain w s n c (Write t l) refl
-cpus_same w s n c (Block t l) quiet = plain_keeps place_part places_plain w s n c (Block t l) refl
-cpus_same w s n c (Will l o p at) quiet = plain_keeps place_part places_plain w s n c (Will l o p at) refl
-cpus_same w s n c (WalkEnd l) quiet = plain_keeps place_part places_plain w s n c (WalkEnd l) refl
-cpus_same w s n c (Exit t l) quiet = plain_keeps place_part places_plain w s n c (Exit t l) refl
-cpus_same w s n c (Unblock l u at) quiet = plain_keeps place_part places_plain w s n c (Unblock l u at) refl
-cpus_same w s n c (Grant l u at) quiet = plain_keeps place_part places_plain w s n c (Grant l u at) refl
-cpus_same w s n c (Passed l) quiet = plain_keeps place_part places_plain w s n c (Passed l) refl
-cpus_same w s n c (Age t p) quiet = plain_keeps place_part places_plain w s n c (Age t p) refl
-cpus_same w s n c (Prio t u answer) quiet = plain_keeps place_part places_plain w s n c (Prio t u answer) refl
-cpus_same w s n c (CvWait t j l) quiet = plain_keeps place_part places_plain w s n c (CvWait t j l) refl
-cpus_same w s n c (SemaP t j) quiet = plain_keeps place_part places_plain w s n c (SemaP t j) refl
-cpus_same w s n c (SemaWait t j) quiet = plain_keeps place_part places_plain w s n c (SemaWait t j) refl
-cpus_same w s n c (SemaVWake t j u at) quiet = plain_keeps place_part places_plain w s n c (SemaVWake t j u at) refl
-cpus_same w s n c (SemaVCount t j m) quiet = plain_keeps place_part places_plain w s n c (SemaVCount t j m) refl
-cpus_same w s n c (Move t at) quiet = plain_keeps place_part places_plain w s n c (Move t at) refl
+cpus_same w s n c e quiet = plain_keeps place_part places_plain w s n c e refl
 
 -- Open lists.
 
@@ -278,38 +249,7 @@ open_same w s n c (SemaP t k) quiet = taken_open w (drop_ageing s c.0 (SemaP t k
 open_same w s n c (SemaVCount t k m) quiet = counted_open w (drop_ageing s c.0 (SemaVCount t k m)) t.0 k
 open_same w s n c (Assign t d to answer) quiet = cc
 open_same w s n c (Joined to) quiet = cc
-open_same w s n c (Tick t) quiet = (after_keeps open_field (λ s t x. refl) (λ s c x. refl) (λ s l x. refl) w s n c (Tick t) refl).same
-open_same w s n c (Spin t l) quiet = (after_keeps open_field (λ s t x. refl) (λ s c x. refl) (λ s l x. refl) w s n c (Spin t l) refl).same
-open_same w s n c Idle quiet = (after_keeps open_field (λ s t x. refl) (λ s c x. refl) (λ s l x. refl) w s n c Idle refl).same
-open_same w s n c (Dispatch t p) quiet = (after_keeps open_field (λ s t x. refl) (λ s c x. refl) (λ s l x. refl) w s n c (Dispatch t p) refl).same
-open_same w s n c (Steal v t p) quiet = (after_keeps open_field (λ s t x. refl) (λ s c x. refl) (λ s l x. refl) w s n c (Steal v t p) refl).same
-open_same w s n c (Preempt t end) quiet = (after_keeps open_field (λ s t x. refl) (λ s c x. refl) (λ s l x. refl) w s n c (Preempt t end) refl).same
-open_same w s n c (Away t d) quiet = (after_keeps open_field (λ s t x. refl) (λ s c x. refl) (λ s l x. refl) w s n c (Away t d) refl).same
-open_same w s n c (Yield t) quiet = (after_keeps open_field (λ s t x. refl) (λ s c x. refl) (λ s l x. refl) w s n c (Yield t) refl).same
-open_same w s n c (Done t) quiet = (after_keeps open_field (λ s t x. refl) (λ s c x. refl) (λ s l x. refl) w s n c (Done t) refl).same
-open_same w s n c (Nap t) quiet = (after_keeps open_field (λ s t x. refl) (λ s c x. refl) (λ s l x. refl) w s n c (Nap t) refl).same
-open_same w s n c (Napend t at) quiet = (after_keeps open_field (λ s t x. refl) (λ s c x. refl) (λ s l x. refl) w s n c (Napend t at) refl).same
-open_same w s n c (Sleep t j) quiet = (after_keeps open_field (λ s t x. refl) (λ s c x. refl) (λ s l x. refl) w s n c (Sleep t j) refl).same
-open_same w s n c (Wake t j u) quiet = (after_keeps open_field (λ s t x. refl) (λ s c x. refl) (λ s l x. refl) w s n c (Wake t j u) refl).same
-open_same w s n c (Wakeall t j) quiet = (after_keeps open_field (λ s t x. refl) (λ s c x. refl) (λ s l x. refl) w s n c (Wakeall t j) refl).same
-open_same w s n c (Rouse j u) quiet = (after_keeps open_field (λ s t x. refl) (λ s c x. refl) (λ s l x. refl) w s n c (Rouse j u) refl).same
-open_same w s n c (Enter t l) quiet = (after_keeps open_field (λ s t x. refl) (λ s c x. refl) (λ s l x. refl) w s n c (Enter t l) refl).same
-open_same w s n c (Read t l) quiet = (after_keeps open_field (λ s t x. refl) (λ s c x. refl) (λ s l x. refl) w s n c (Read t l) refl).same
-open_same w s n c (Write t l) quiet = (after_keeps open_field (λ s t x. refl) (λ s c x. refl) (λ s l x. refl) w s n c (Write t l) refl).same
-open_same w s n c (Block t l) quiet = (after_keeps open_field (λ s t x. refl) (λ s c x. refl) (λ s l x. refl) w s n c (Block t l) refl).same
-open_same w s n c (Will l o p at) quiet = (after_keeps open_field (λ s t x. refl) (λ s c x. refl) (λ s l x. refl) w s n c (Will l o p at) refl).same
-open_same w s n c (WalkEnd l) quiet = (after_keeps open_field (λ s t x. refl) (λ s c x. refl) (λ s l x. refl) w s n c (WalkEnd l) refl).same
-open_same w s n c (Exit t l) quiet = (after_keeps open_field (λ s t x. refl) (λ s c x. refl) (λ s l x. refl) w s n c (Exit t l) refl).same
-open_same w s n c (Unblock l u at) quiet = (after_keeps open_field (λ s t x. refl) (λ s c x. refl) (λ s l x. refl) w s n c (Unblock l u at) refl).same
-open_same w s n c (Grant l u at) quiet = (after_keeps open_field (λ s t x. refl) (λ s c x. refl) (λ s l x. refl) w s n c (Grant l u at) refl).same
-open_same w s n c (Passed l) quiet = (after_keeps open_field (λ s t x. refl) (λ s c x. refl) (λ s l x. refl) w s n c (Passed l) refl).same
-open_same w s n c (Age t p) quiet = (after_keeps open_field (λ s t x. refl) (λ s c x. refl) (λ s l x. refl) w s n c (Age t p) refl).same
-open_same w s n c (Prio t u answer) quiet = (after_keeps open_field (λ s t x. refl) (λ s c x. refl) (λ s l x. refl) w s n c (Prio t u answer) refl).same
-open_same w s n c (CvWait t j l) quiet = (after_keeps open_field (λ s t x. refl) (λ s c x. refl) (λ s l x. refl) w s n c (CvWait t j l) refl).same
-open_same w s n c (SemaWait t j) quiet = (after_keeps open_field (λ s t x. refl) (λ s c x. refl) (λ s l x. refl) w s n c (SemaWait t j) refl).same
-open_same w s n c (SemaVWake t j u at) quiet = (after_keeps open_field (λ s t x. refl) (λ s c x. refl) (λ s l x. refl) w s n c (SemaVWake t j u at) refl).same
-open_same w s n c (Move t at) quiet = (after_keeps open_field (λ s t x. refl) (λ s c x. refl) (λ s l x. refl) w s n c (Move t at) refl).same
-open_same w s n c (Bind t u d answer) quiet = (after_keeps open_field (λ s t x. refl) (λ s c x. refl) (λ s l x. refl) w s n c (Bind t u d answer) refl).same
+open_same w s n c e quiet = (after_keeps open_field (λ s t x. refl) (λ s c x. refl) (λ s l x. refl) w s n c e refl).same
 
 -- What holds of open lists looks at them, at sets and at closing alone.
 same_hold : (w : Work) (s r : State) → SamePlaces s r → r.open_cpus ≡ s.open_cpus → OpenHold w s → OpenHold w r
@@ -490,40 +430,7 @@ open_kept w s n c (Assign t d to answer) ready cause holds = assigned_hold w (dr
 open_kept w s n c (Joined to) ready cause holds =
     joined_hold w (drop_ageing s c.0 (Joined to)) c to (maker_there w s c.0 to ready cause.1)
     (ap (λ (x : SetId × Option SetId). x.1) ((drop_keeps place_part places_plain s c.0 (Joined to)).each c.0) ∙ cause.1) (drop_hold w s c.0 (Joined to) holds)
-open_kept w s n c (Tick t) ready cause holds = same_hold w s (after w s n c (Tick t)) (cpus_same w s n c (Tick t) refl) (open_same w s n c (Tick t) refl) holds
-open_kept w s n c (Spin t l) ready cause holds = same_hold w s (after w s n c (Spin t l)) (cpus_same w s n c (Spin t l) refl) (open_same w s n c (Spin t l) refl) holds
-open_kept w s n c Idle ready cause holds = same_hold w s (after w s n c Idle) (cpus_same w s n c Idle refl) (open_same w s n c Idle refl) holds
-open_kept w s n c (Dispatch t p) ready cause holds = same_hold w s (after w s n c (Dispatch t p)) (cpus_same w s n c (Dispatch t p) refl) (open_same w s n c (Dispatch t p) refl) holds
-open_kept w s n c (Steal v t p) ready cause holds = same_hold w s (after w s n c (Steal v t p)) (cpus_same w s n c (Steal v t p) refl) (open_same w s n c (Steal v t p) refl) holds
-open_kept w s n c (Preempt t end) ready cause holds = same_hold w s (after w s n c (Preempt t end)) (cpus_same w s n c (Preempt t end) refl) (open_same w s n c (Preempt t end) refl) holds
-open_kept w s n c (Away t d) ready cause holds = same_hold w s (after w s n c (Away t d)) (cpus_same w s n c (Away t d) refl) (open_same w s n c (Away t d) refl) holds
-open_kept w s n c (Yield t) ready cause holds = same_hold w s (after w s n c (Yield t)) (cpus_same w s n c (Yield t) refl) (open_same w s n c (Yield t) refl) holds
-open_kept w s n c (Done t) ready cause holds = same_hold w s (after w s n c (Done t)) (cpus_same w s n c (Done t) refl) (open_same w s n c (Done t) refl) holds
-open_kept w s n c (Nap t) ready cause holds = same_hold w s (after w s n c (Nap t)) (cpus_same w s n c (Nap t) refl) (open_same w s n c (Nap t) refl) holds
-open_kept w s n c (Napend t at) ready cause holds = same_hold w s (after w s n c (Napend t at)) (cpus_same w s n c (Napend t at) refl) (open_same w s n c (Napend t at) refl) holds
-open_kept w s n c (Sleep t j) ready cause holds = same_hold w s (after w s n c (Sleep t j)) (cpus_same w s n c (Sleep t j) refl) (open_same w s n c (Sleep t j) refl) holds
-open_kept w s n c (Wake t j u) ready cause holds = same_hold w s (after w s n c (Wake t j u)) (cpus_same w s n c (Wake t j u) refl) (open_same w s n c (Wake t j u) refl) holds
-open_kept w s n c (Wakeall t j) ready cause holds = same_hold w s (after w s n c (Wakeall t j)) (cpus_same w s n c (Wakeall t j) refl) (open_same w s n c (Wakeall t j) refl) holds
-open_kept w s n c (Rouse j u) ready cause holds = same_hold w s (after w s n c (Rouse j u)) (cpus_same w s n c (Rouse j u) refl) (open_same w s n c (Rouse j u) refl) holds
-open_kept w s n c (Enter t l) ready cause holds = same_hold w s (after w s n c (Enter t l)) (cpus_same w s n c (Enter t l) refl) (open_same w s n c (Enter t l) refl) holds
-open_kept w s n c (Read t l) ready cause holds = same_hold w s (after w s n c (Read t l)) (cpus_same w s n c (Read t l) refl) (open_same w s n c (Read t l) refl) holds
-open_kept w s n c (Write t l) ready cause holds = same_hold w s (after w s n c (Write t l)) (cpus_same w s n c (Write t l) refl) (open_same w s n c (Write t l) refl) holds
-open_kept w s n c (Block t l) ready cause holds = same_hold w s (after w s n c (Block t l)) (cpus_same w s n c (Block t l) refl) (open_same w s n c (Block t l) refl) holds
-open_kept w s n c (Will l o p at) ready cause holds = same_hold w s (after w s n c (Will l o p at)) (cpus_same w s n c (Will l o p at) refl) (open_same w s n c (Will l o p at) refl) holds
-open_kept w s n c (WalkEnd l) ready cause holds = same_hold w s (after w s n c (WalkEnd l)) (cpus_same w s n c (WalkEnd l) refl) (open_same w s n c (WalkEnd l) refl) holds
-open_kept w s n c (Exit t l) ready cause holds = same_hold w s (after w s n c (Exit t l)) (cpus_same w s n c (Exit t l) refl) (open_same w s n c (Exit t l) refl) holds
-open_kept w s n c (Unblock l u at) ready cause holds = same_hold w s (after w s n c (Unblock l u at)) (cpus_same w s n c (Unblock l u at) refl) (open_same w s n c (Unblock l u at) refl) holds
-open_kept w s n c (Grant l u at) ready cause holds = same_hold w s (after w s n c (Grant l u at)) (cpus_same w s n c (Grant l u at) refl) (open_same w s n c (Grant l u at) refl) holds
-open_kept w s n c (Passed l) ready cause holds = same_hold w s (after w s n c (Passed l)) (cpus_same w s n c (Passed l) refl) (open_same w s n c (Passed l) refl) holds
-open_kept w s n c (Age t p) ready cause holds = same_hold w s (after w s n c (Age t p)) (cpus_same w s n c (Age t p) refl) (open_same w s n c (Age t p) refl) holds
-open_kept w s n c (Prio t u answer) ready cause holds = same_hold w s (after w s n c (Prio t u answer)) (cpus_same w s n c (Prio t u answer) refl) (open_same w s n c (Prio t u answer) refl) holds
-open_kept w s n c (CvWait t j l) ready cause holds = same_hold w s (after w s n c (CvWait t j l)) (cpus_same w s n c (CvWait t j l) refl) (open_same w s n c (CvWait t j l) refl) holds
-open_kept w s n c (SemaP t j) ready cause holds = same_hold w s (after w s n c (SemaP t j)) (cpus_same w s n c (SemaP t j) refl) (open_same w s n c (SemaP t j) refl) holds
-open_kept w s n c (SemaWait t j) ready cause holds = same_hold w s (after w s n c (SemaWait t j)) (cpus_same w s n c (SemaWait t j) refl) (open_same w s n c (SemaWait t j) refl) holds
-open_kept w s n c (SemaVWake t j u at) ready cause holds = same_hold w s (after w s n c (SemaVWake t j u at)) (cpus_same w s n c (SemaVWake t j u at) refl) (open_same w s n c (SemaVWake t j u at) refl) holds
-open_kept w s n c (SemaVCount t j m) ready cause holds = same_hold w s (after w s n c (SemaVCount t j m)) (cpus_same w s n c (SemaVCount t j m) refl) (open_same w s n c (SemaVCount t j m) refl) holds
-open_kept w s n c (Move t at) ready cause holds = same_hold w s (after w s n c (Move t at)) (cpus_same w s n c (Move t at) refl) (open_same w s n c (Move t at) refl) holds
-open_kept w s n c (Bind t u d answer) ready cause holds = same_hold w s (after w s n c (Bind t u d answer)) (cpus_same w s n c (Bind t u d answer) refl) (open_same w s n c (Bind t u d answer) refl) holds
+open_kept w s n c e ready cause holds = same_hold w s (after w s n c e) (cpus_same w s n c e refl) (open_same w s n c e refl) holds
 
 -- The initial state.
 

@@ -12,7 +12,7 @@ use Rattle.sd_types.specs.declared.numbers.Side.TheVariants.{Writer, Reader}
 use Rattle.sd_types.specs.declared.events.Duty.{Duty}
 use Rattle.sd_types.specs.declared.events.Duty.TheVariants as duty
 use Rattle.sd_types.specs.declared.events.Event.{Event}
-use Rattle.sd_types.specs.declared.events.Event.TheVariants.{Tick, Spin, Idle, Dispatch, Steal, Preempt, Yield, Done, Nap, Napend, Sleep, Wake, Wakeall, Rouse, Enter, Read, Write, Block, Will, End as WalkEnd, Exit, Unblock, Grant, Passed, Age, Prio, CvWait, SemaP, SemaWait, SemaVWake, SemaVCount, Assign, Move, Joined, Bind, Away}
+use Rattle.sd_types.specs.declared.events.Event.TheVariants.{Enter, Read, Write, Block, Exit, Unblock, Grant, Passed, CvWait}
 use Rattle.sd_types.specs.declared.events.Put.{Put}
 use Rattle.sd_types.specs.declared.scripts.Op.TheVariants as op
 use Rattle.sd_types.specs.declared.works.Work.{Work}
@@ -318,30 +318,4 @@ module _ (w : Work) (s : State) (n : ℕ) (c : CpuId) (ready : IsReady w s) (c_i
   after_reads (Grant l u at) (inl cause) next = grant_reads l u at Writer true (inl cause.0) (ap pass_of cause.0) cause.1 next
   after_reads (Grant l u at) (inr cause) next = grant_reads l u at Reader false (inr cause.0) (ap pass_of cause.0) cause.1 next
   after_reads (Passed l) cause next = pass_reads l cause next
-  after_reads (Tick t) cause next = lockless_reads (Tick t) refl cause next
-  after_reads (Spin t l) cause next = lockless_reads (Spin t l) refl cause next
-  after_reads Idle cause next = lockless_reads Idle refl cause next
-  after_reads (Dispatch t p) cause next = lockless_reads (Dispatch t p) refl cause next
-  after_reads (Steal v t p) cause next = lockless_reads (Steal v t p) refl cause next
-  after_reads (Preempt t end) cause next = lockless_reads (Preempt t end) refl cause next
-  after_reads (Away t d) cause next = lockless_reads (Away t d) refl cause next
-  after_reads (Yield t) cause next = lockless_reads (Yield t) refl cause next
-  after_reads (Done t) cause next = lockless_reads (Done t) refl cause next
-  after_reads (Nap t) cause next = lockless_reads (Nap t) refl cause next
-  after_reads (Napend t at) cause next = lockless_reads (Napend t at) refl cause next
-  after_reads (Sleep t k) cause next = lockless_reads (Sleep t k) refl cause next
-  after_reads (Wake t k u) cause next = lockless_reads (Wake t k u) refl cause next
-  after_reads (Wakeall t k) cause next = lockless_reads (Wakeall t k) refl cause next
-  after_reads (Rouse k u) cause next = lockless_reads (Rouse k u) refl cause next
-  after_reads (Will l o p at) cause next = lockless_reads (Will l o p at) refl cause next
-  after_reads (WalkEnd l) cause next = lockless_reads (WalkEnd l) refl cause next
-  after_reads (Age t p) cause next = lockless_reads (Age t p) refl cause next
-  after_reads (Prio t u answer) cause next = lockless_reads (Prio t u answer) refl cause next
-  after_reads (SemaP t k) cause next = lockless_reads (SemaP t k) refl cause next
-  after_reads (SemaWait t k) cause next = lockless_reads (SemaWait t k) refl cause next
-  after_reads (SemaVWake t k u at) cause next = lockless_reads (SemaVWake t k u at) refl cause next
-  after_reads (SemaVCount t k m) cause next = lockless_reads (SemaVCount t k m) refl cause next
-  after_reads (Assign t d to answer) cause next = lockless_reads (Assign t d to answer) refl cause next
-  after_reads (Move t at) cause next = lockless_reads (Move t at) refl cause next
-  after_reads (Joined to) cause next = lockless_reads (Joined to) refl cause next
-  after_reads (Bind t u d answer) cause next = lockless_reads (Bind t u d answer) refl cause next
+  after_reads e cause next = lockless_reads e refl cause next

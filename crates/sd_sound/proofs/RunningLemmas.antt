@@ -7,7 +7,7 @@ use Rattle.sd_types.specs.declared.numbers.ThreadId.{ThreadId}
 use Rattle.sd_types.specs.declared.events.BindAnswer.{BindAnswer}
 use Rattle.sd_types.specs.declared.events.BindAnswer.TheVariants as bind_answer
 use Rattle.sd_types.specs.declared.events.Event.{Event}
-use Rattle.sd_types.specs.declared.events.Event.TheVariants.{Tick, Spin, Idle, Dispatch, Steal, Preempt, Yield, Done, Nap, Napend, Sleep, Wake, Wakeall, Rouse, Enter, Read, Write, Block, Will, End as WalkEnd, Exit, Unblock, Grant, Passed, Age, Prio, CvWait, SemaP, SemaWait, SemaVWake, SemaVCount, Assign, Move, Joined, Bind, Away}
+use Rattle.sd_types.specs.declared.events.Event.TheVariants.{Dispatch, Steal, Preempt, Yield, Done, Nap, Napend, Sleep, Wake, Rouse, Block, Will, Unblock, Grant, Age, Prio, CvWait, SemaWait, SemaVWake, Move, Bind, Away}
 use Rattle.sd_types.specs.declared.events.PrioAnswer.{PrioAnswer}
 use Rattle.sd_types.specs.declared.events.PrioAnswer.TheVariants.{Changed, Refused}
 use Rattle.sd_types.specs.declared.events.Put.{Put}
@@ -111,9 +111,6 @@ bind_starts w s n u bind_answer.EPERM = tt
 bind_starts w s n u bind_answer.EBUSY = tt
 
 starts_well : (w : Work) (s : State) (n : ℕ) (c : CpuId) (e : Event) → IsCause w s c.0 e → StartsWell s (step_of w s n c e)
-starts_well w s n c (Tick t) cause = tt
-starts_well w s n c (Spin t l) cause = tt
-starts_well w s n c Idle cause = tt
 starts_well w s n c (Dispatch t p) cause = dispatch_starts s c cause.0.idle.nobody
 starts_well w s n c (Steal v t p) cause = dispatch_starts s c cause.0.idle.nobody
 starts_well w s n c (Preempt t end) cause = queue_starts w s t.0 c (key_at n end) (thread_of s t.0).body
@@ -124,29 +121,19 @@ starts_well w s n c (Nap t) cause = λ x e. cc
 starts_well w s n c (Napend t at) cause = put_starts w s n t.0 at
 starts_well w s n c (Sleep t k) cause = λ x e. cc
 starts_well w s n c (Wake t k u) cause = woken_starts w s n u
-starts_well w s n c (Wakeall t k) cause = tt
 starts_well w s n c (Rouse k u) cause = woken_starts w s n u
-starts_well w s n c (Enter t l) cause = tt
-starts_well w s n c (Read t l) cause = tt
-starts_well w s n c (Write t l) cause = tt
 starts_well w s n c (Block t l) cause = λ x e. cc
 starts_well w s n c (Will l o p at) cause = reordered_starts w s n o.0 at (thread_of s o.0).place
-starts_well w s n c (WalkEnd l) cause = tt
-starts_well w s n c (Exit t l) cause = tt
 starts_well w s n c (Unblock l u at) cause = put_starts w s n u.0 at
 starts_well w s n c (Grant l u at) cause = put_starts w s n u.0 at
-starts_well w s n c (Passed l) cause = tt
 starts_well w s n c (Age t p) cause = aged_starts w s n c t.0
 starts_well w s n c (Prio t u answer) cause = prio_starts w s n u answer
 starts_well w s n c (CvWait t k l) cause = λ x e. cc
-starts_well w s n c (SemaP t k) cause = tt
 starts_well w s n c (SemaWait t k) cause = λ x e. cc
 starts_well w s n c (SemaVWake t k u at) cause = put_starts w s n u.0 at
-starts_well w s n c (SemaVCount t k m) cause = tt
-starts_well w s n c (Assign t d to answer) cause = tt
 starts_well w s n c (Move t at) cause = put_starts w s n t.0 at
-starts_well w s n c (Joined to) cause = tt
 starts_well w s n c (Bind t u d answer) cause = bind_starts w s n u.0 answer
+starts_well w s n c e cause = tt
 
 one_after : (step : Step) (s r : State) → length r.threads ≡ length s.threads → Stepped step s r → StartsWell s step → OneRuns s → OneRuns r
 one_after Stay s r many a well one = λ t u c t_in u_in t_on u_on.

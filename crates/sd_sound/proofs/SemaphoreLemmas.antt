@@ -4,7 +4,7 @@ use Rattle.sd_types.specs.declared.numbers.ChanId.{ChanId}
 use Rattle.sd_types.specs.declared.numbers.CpuId.{CpuId}
 use Rattle.sd_types.specs.declared.numbers.ThreadId.{ThreadId}
 use Rattle.sd_types.specs.declared.events.Event.{Event}
-use Rattle.sd_types.specs.declared.events.Event.TheVariants.{Tick, Spin, Idle, Dispatch, Steal, Preempt, Yield, Done, Nap, Napend, Sleep, Wake, Wakeall, Rouse, Enter, Read, Write, Block, Will, End as WalkEnd, Exit, Unblock, Grant, Passed, Age, Prio, CvWait, SemaP, SemaWait, SemaVWake, SemaVCount, Assign, Move, Joined, Bind, Away}
+use Rattle.sd_types.specs.declared.events.Event.TheVariants.{Tick, Yield, Nap, Sleep, Wake, Wakeall, Enter, Read, Write, Exit, Grant, Prio, CvWait, SemaP, SemaWait, SemaVWake, SemaVCount, Assign, Joined, Bind}
 use Rattle.sd_types.specs.declared.works.Work.{Work}
 use Rattle.sd_state.specs.declared.states.State.{State}
 use Rattle.sd_state.specs.States.{thread_of}
@@ -86,23 +86,6 @@ one_more_over s r t many inside a = let e = one_over s r t many inside a in omeg
 more_over : (s r : State) (e : Event) → length r.threads ≡ length s.threads → IsEnderThere s (ender e) → OpsGo s r e → ops_over s ≤ ops_over r
 more_over s r (Tick t) many here (inl a) = same_more s r many a
 more_over s r (Tick t) many here (inr a) = one_more_over s r t.0 many here a
-more_over s r (Spin t l) many here a = same_more s r many a
-more_over s r Idle many here a = same_more s r many a
-more_over s r (Dispatch t p) many here a = same_more s r many a
-more_over s r (Steal v t p) many here a = same_more s r many a
-more_over s r (Preempt t end) many here a = same_more s r many a
-more_over s r (Away t d) many here a = same_more s r many a
-more_over s r (Done t) many here a = same_more s r many a
-more_over s r (Napend t at) many here a = same_more s r many a
-more_over s r (Rouse k u) many here a = same_more s r many a
-more_over s r (Block t l) many here a = same_more s r many a
-more_over s r (Will l o p at) many here a = same_more s r many a
-more_over s r (WalkEnd l) many here a = same_more s r many a
-more_over s r (Unblock l u at) many here a = same_more s r many a
-more_over s r (Passed l) many here a = same_more s r many a
-more_over s r (Age t p) many here a = same_more s r many a
-more_over s r (Move t at) many here a = same_more s r many a
-more_over s r (Joined to) many here a = same_more s r many a
 more_over s r (Yield t) many here a = one_more_over s r t.0 many here a
 more_over s r (Nap t) many here a = one_more_over s r t.0 many here a
 more_over s r (Sleep t k) many here a = one_more_over s r t.0 many here a
@@ -121,6 +104,7 @@ more_over s r (SemaVCount t k m) many here a = one_more_over s r t.0 many here a
 more_over s r (Assign t d to answer) many here a = one_more_over s r t.0 many here a
 more_over s r (Bind t u d answer) many here a = one_more_over s r t.0 many here a
 more_over s r (Grant l u at) many here a = one_more_over s r u.0 many here a
+more_over s r e many here a = same_more s r many a
 
 -- Counts.
 
@@ -218,38 +202,7 @@ module _ (w : Work) (s : State) (n : ℕ) (c : CpuId) (ready : IsReady w s) (hol
       omega (arith, more, up, old)
   after_holds (Assign t d to answer) cause = kept_below (Assign t d to answer) cause (λ j. let same : count_of (after w s n c (Assign t d to answer)) j ≡ count_of s j = ap (λ (xs : List ℕ). get_or xs j 0) (assign_counts w s n c t d to answer) in omega arith)
   after_holds (Joined to) cause = kept_below (Joined to) cause (λ j. let same : count_of (after w s n c (Joined to)) j ≡ count_of s j = ap (λ (xs : List ℕ). get_or xs j 0) (join_counts w s n c to) in omega arith)
-  after_holds (Tick t) cause = quiet_below (Tick t) cause refl
-  after_holds (Spin t l) cause = quiet_below (Spin t l) cause refl
-  after_holds Idle cause = quiet_below Idle cause refl
-  after_holds (Dispatch t p) cause = quiet_below (Dispatch t p) cause refl
-  after_holds (Steal v t p) cause = quiet_below (Steal v t p) cause refl
-  after_holds (Preempt t end) cause = quiet_below (Preempt t end) cause refl
-  after_holds (Away t d) cause = quiet_below (Away t d) cause refl
-  after_holds (Yield t) cause = quiet_below (Yield t) cause refl
-  after_holds (Done t) cause = quiet_below (Done t) cause refl
-  after_holds (Nap t) cause = quiet_below (Nap t) cause refl
-  after_holds (Napend t at) cause = quiet_below (Napend t at) cause refl
-  after_holds (Sleep t j) cause = quiet_below (Sleep t j) cause refl
-  after_holds (Wake t j u) cause = quiet_below (Wake t j u) cause refl
-  after_holds (Wakeall t j) cause = quiet_below (Wakeall t j) cause refl
-  after_holds (Rouse j u) cause = quiet_below (Rouse j u) cause refl
-  after_holds (Enter t l) cause = quiet_below (Enter t l) cause refl
-  after_holds (Read t l) cause = quiet_below (Read t l) cause refl
-  after_holds (Write t l) cause = quiet_below (Write t l) cause refl
-  after_holds (Block t l) cause = quiet_below (Block t l) cause refl
-  after_holds (Will l o p at) cause = quiet_below (Will l o p at) cause refl
-  after_holds (WalkEnd l) cause = quiet_below (WalkEnd l) cause refl
-  after_holds (Exit t l) cause = quiet_below (Exit t l) cause refl
-  after_holds (Unblock l u at) cause = quiet_below (Unblock l u at) cause refl
-  after_holds (Grant l u at) cause = quiet_below (Grant l u at) cause refl
-  after_holds (Passed l) cause = quiet_below (Passed l) cause refl
-  after_holds (Age t p) cause = quiet_below (Age t p) cause refl
-  after_holds (Prio t u answer) cause = quiet_below (Prio t u answer) cause refl
-  after_holds (CvWait t j l) cause = quiet_below (CvWait t j l) cause refl
-  after_holds (SemaWait t j) cause = quiet_below (SemaWait t j) cause refl
-  after_holds (SemaVWake t j u at) cause = quiet_below (SemaVWake t j u at) cause refl
-  after_holds (Move t at) cause = quiet_below (Move t at) cause refl
-  after_holds (Bind t u d answer) cause = quiet_below (Bind t u d answer) cause refl
+  after_holds e cause = quiet_below e cause refl
 
 pub holds_kept : IsKept (λ w n s. CountsHold w s)
 holds_kept = record { start = λ w k. omega arith; step = λ w s n c e ready cause holds. after_holds w s n c ready holds e cause }

@@ -12,7 +12,7 @@ use Rattle.sd_types.specs.declared.numbers.Side.TheVariants.{Writer, Reader}
 use Rattle.sd_types.specs.declared.events.Duty.{Duty}
 use Rattle.sd_types.specs.declared.events.Duty.TheVariants as duty
 use Rattle.sd_types.specs.declared.events.Event.{Event}
-use Rattle.sd_types.specs.declared.events.Event.TheVariants.{Tick, Spin, Idle, Dispatch, Steal, Preempt, Yield, Done, Nap, Napend, Sleep, Wake, Wakeall, Rouse, Enter, Read, Write, Block, Will, End as WalkEnd, Exit, Unblock, Grant, Passed, Age, Prio, CvWait, SemaP, SemaWait, SemaVWake, SemaVCount, Assign, Move, Joined, Bind, Away}
+use Rattle.sd_types.specs.declared.events.Event.TheVariants.{Rouse, Enter, Read, Write, Block, Exit, Unblock, Grant, Passed, Age, CvWait}
 use Rattle.sd_types.specs.declared.events.Put.{Put}
 use Rattle.sd_types.specs.declared.scripts.Op.{Op}
 use Rattle.sd_types.specs.declared.scripts.Op.TheVariants as op
@@ -145,33 +145,6 @@ cv_wait_inside w s c t k l acts = mutex_there (declared w).locks l.0 (and_right 
 
 -- an event that is about no lock ends no wait
 pub lockless_ends : (e : Event) → is_lockless e ≡ true → ends_wait e ≡ false
-lockless_ends (Tick t) quiet = refl
-lockless_ends (Spin t l) quiet = refl
-lockless_ends Idle quiet = refl
-lockless_ends (Dispatch t p) quiet = refl
-lockless_ends (Steal v t p) quiet = refl
-lockless_ends (Preempt t end) quiet = refl
-lockless_ends (Away t d) quiet = refl
-lockless_ends (Yield t) quiet = refl
-lockless_ends (Done t) quiet = refl
-lockless_ends (Nap t) quiet = refl
-lockless_ends (Napend t at) quiet = refl
-lockless_ends (Sleep t k) quiet = refl
-lockless_ends (Wake t k u) quiet = refl
-lockless_ends (Wakeall t k) quiet = refl
-lockless_ends (Rouse k u) quiet = refl
-lockless_ends (Will l o p at) quiet = refl
-lockless_ends (WalkEnd l) quiet = refl
-lockless_ends (Age t p) quiet = refl
-lockless_ends (Prio t u answer) quiet = refl
-lockless_ends (SemaP t k) quiet = refl
-lockless_ends (SemaWait t k) quiet = refl
-lockless_ends (SemaVWake t k u at) quiet = refl
-lockless_ends (SemaVCount t k m) quiet = refl
-lockless_ends (Assign t d to answer) quiet = refl
-lockless_ends (Move t at) quiet = refl
-lockless_ends (Joined to) quiet = refl
-lockless_ends (Bind t u d answer) quiet = refl
 lockless_ends (Enter t l) quiet = cc
 lockless_ends (Read t l) quiet = cc
 lockless_ends (Write t l) quiet = cc
@@ -181,6 +154,7 @@ lockless_ends (Unblock l u at) quiet = cc
 lockless_ends (Grant l u at) quiet = cc
 lockless_ends (Passed l) quiet = cc
 lockless_ends (CvWait t k l) quiet = cc
+lockless_ends e quiet = refl
 
 same_stays : (s : State) (c : ℕ) (e : Event) (l : ℕ) → Stays s (drop_ageing s c e) l
 unfolding drop_ageing set_duty
@@ -396,30 +370,4 @@ module _ (w : Work) (s : State) (n : ℕ) (c : CpuId) (ready : IsReady w s) (c_i
   after_serves (Grant l u at) (inl cause) next = grant_writer_serves l u at cause.0 cause.1 next
   after_serves (Grant l u at) (inr cause) next = grant_readers_serves l u at cause.0 cause.1 next
   after_serves (Passed l) cause next = pass_serves l cause next
-  after_serves (Tick t) cause next = lockless_serves (Tick t) refl cause next
-  after_serves (Spin t l) cause next = lockless_serves (Spin t l) refl cause next
-  after_serves Idle cause next = lockless_serves Idle refl cause next
-  after_serves (Dispatch t p) cause next = lockless_serves (Dispatch t p) refl cause next
-  after_serves (Steal v t p) cause next = lockless_serves (Steal v t p) refl cause next
-  after_serves (Preempt t end) cause next = lockless_serves (Preempt t end) refl cause next
-  after_serves (Away t d) cause next = lockless_serves (Away t d) refl cause next
-  after_serves (Yield t) cause next = lockless_serves (Yield t) refl cause next
-  after_serves (Done t) cause next = lockless_serves (Done t) refl cause next
-  after_serves (Nap t) cause next = lockless_serves (Nap t) refl cause next
-  after_serves (Napend t at) cause next = lockless_serves (Napend t at) refl cause next
-  after_serves (Sleep t k) cause next = lockless_serves (Sleep t k) refl cause next
-  after_serves (Wake t k u) cause next = lockless_serves (Wake t k u) refl cause next
-  after_serves (Wakeall t k) cause next = lockless_serves (Wakeall t k) refl cause next
-  after_serves (Rouse k u) cause next = lockless_serves (Rouse k u) refl cause next
-  after_serves (Will l o p at) cause next = lockless_serves (Will l o p at) refl cause next
-  after_serves (WalkEnd l) cause next = lockless_serves (WalkEnd l) refl cause next
-  after_serves (Age t p) cause next = lockless_serves (Age t p) refl cause next
-  after_serves (Prio t u answer) cause next = lockless_serves (Prio t u answer) refl cause next
-  after_serves (SemaP t k) cause next = lockless_serves (SemaP t k) refl cause next
-  after_serves (SemaWait t k) cause next = lockless_serves (SemaWait t k) refl cause next
-  after_serves (SemaVWake t k u at) cause next = lockless_serves (SemaVWake t k u at) refl cause next
-  after_serves (SemaVCount t k m) cause next = lockless_serves (SemaVCount t k m) refl cause next
-  after_serves (Assign t d to answer) cause next = lockless_serves (Assign t d to answer) refl cause next
-  after_serves (Move t at) cause next = lockless_serves (Move t at) refl cause next
-  after_serves (Joined to) cause next = lockless_serves (Joined to) refl cause next
-  after_serves (Bind t u d answer) cause next = lockless_serves (Bind t u d answer) refl cause next
+  after_serves e cause next = lockless_serves e refl cause next

@@ -9,7 +9,7 @@ use Rattle.sd_types.specs.declared.numbers.Side.TheVariants.{Writer}
 use Rattle.sd_types.specs.declared.events.Duty.{Duty}
 use Rattle.sd_types.specs.declared.events.Duty.TheVariants as duty
 use Rattle.sd_types.specs.declared.events.Event.{Event}
-use Rattle.sd_types.specs.declared.events.Event.TheVariants.{Tick, Spin, Idle, Dispatch, Steal, Preempt, Yield, Done, Nap, Napend, Sleep, Wake, Wakeall, Rouse, Enter, Read, Write, Block, Will, End as WalkEnd, Exit, Unblock, Grant, Passed, Age, Prio, CvWait, SemaP, SemaWait, SemaVWake, SemaVCount, Assign, Move, Joined, Bind, Away}
+use Rattle.sd_types.specs.declared.events.Event.TheVariants.{Rouse, Enter, Read, Write, Exit, Unblock, Grant, Passed, Age, CvWait, SemaP, SemaVCount, Assign, Joined}
 use Rattle.sd_types.specs.declared.events.Put.{Put}
 use Rattle.sd_types.specs.declared.works.Work.{Work}
 use Rattle.std.specs.Prelude.{if◌then◌else◌, is_some, nat_lt, nat_le}
@@ -153,27 +153,4 @@ module _ {X : Type 0} (field : State → X) (on_thread : (s : State) (t : ℕ) (
   after_keeps w s n c (SemaVCount t k m) quiet = cc
   after_keeps w s n c (Assign t d to answer) quiet = cc
   after_keeps w s n c (Joined to) quiet = cc
-  after_keeps w s n c (Tick t) quiet = F.after_kept field on_thread on_cpu w s n c (Tick t) refl
-  after_keeps w s n c (Spin t l) quiet = F.after_kept field on_thread on_cpu w s n c (Spin t l) refl
-  after_keeps w s n c Idle quiet = F.after_kept field on_thread on_cpu w s n c Idle refl
-  after_keeps w s n c (Dispatch t p) quiet = F.after_kept field on_thread on_cpu w s n c (Dispatch t p) refl
-  after_keeps w s n c (Steal v t p) quiet = F.after_kept field on_thread on_cpu w s n c (Steal v t p) refl
-  after_keeps w s n c (Preempt t end) quiet = F.after_kept field on_thread on_cpu w s n c (Preempt t end) refl
-  after_keeps w s n c (Away t d) quiet = F.after_kept field on_thread on_cpu w s n c (Away t d) refl
-  after_keeps w s n c (Yield t) quiet = F.after_kept field on_thread on_cpu w s n c (Yield t) refl
-  after_keeps w s n c (Done t) quiet = F.after_kept field on_thread on_cpu w s n c (Done t) refl
-  after_keeps w s n c (Nap t) quiet = F.after_kept field on_thread on_cpu w s n c (Nap t) refl
-  after_keeps w s n c (Napend t at) quiet = F.after_kept field on_thread on_cpu w s n c (Napend t at) refl
-  after_keeps w s n c (Sleep t j) quiet = F.after_kept field on_thread on_cpu w s n c (Sleep t j) refl
-  after_keeps w s n c (Wake t j u) quiet = F.after_kept field on_thread on_cpu w s n c (Wake t j u) refl
-  after_keeps w s n c (Wakeall t j) quiet = F.after_kept field on_thread on_cpu w s n c (Wakeall t j) refl
-  after_keeps w s n c (Rouse j u) quiet = F.after_kept field on_thread on_cpu w s n c (Rouse j u) refl
-  after_keeps w s n c (Block t l) quiet = F.after_kept field on_thread on_cpu w s n c (Block t l) refl
-  after_keeps w s n c (Will l o p at) quiet = F.after_kept field on_thread on_cpu w s n c (Will l o p at) refl
-  after_keeps w s n c (WalkEnd l) quiet = F.after_kept field on_thread on_cpu w s n c (WalkEnd l) refl
-  after_keeps w s n c (Age t p) quiet = F.after_kept field on_thread on_cpu w s n c (Age t p) refl
-  after_keeps w s n c (Prio t u answer) quiet = F.after_kept field on_thread on_cpu w s n c (Prio t u answer) refl
-  after_keeps w s n c (SemaWait t j) quiet = F.after_kept field on_thread on_cpu w s n c (SemaWait t j) refl
-  after_keeps w s n c (SemaVWake t j u at) quiet = F.after_kept field on_thread on_cpu w s n c (SemaVWake t j u at) refl
-  after_keeps w s n c (Move t at) quiet = F.after_kept field on_thread on_cpu w s n c (Move t at) refl
-  after_keeps w s n c (Bind t u d answer) quiet = F.after_kept field on_thread on_cpu w s n c (Bind t u d answer) refl
+  after_keeps w s n c e quiet = F.after_kept field on_thread on_cpu w s n c e refl

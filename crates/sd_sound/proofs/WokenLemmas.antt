@@ -3,7 +3,7 @@ use Rattle.std.proofs.Common.{◌≡◌, ℕ, true, Some, None, refl, ap, ◌∙
 use Rattle.std.proofs.lemmas.Option.{same_Some}
 use Rattle.sd_types.specs.declared.numbers.CpuId.{CpuId}
 use Rattle.sd_types.specs.declared.events.Event.{Event}
-use Rattle.sd_types.specs.declared.events.Event.TheVariants.{Tick, Spin, Idle, Dispatch, Steal, Preempt, Yield, Done, Nap, Napend, Sleep, Wake, Wakeall, Rouse, Enter, Read, Write, Block, Will, End as WalkEnd, Exit, Unblock, Grant, Passed, Age, Prio, CvWait, SemaP, SemaWait, SemaVWake, SemaVCount, Assign, Move, Joined, Bind, Away}
+use Rattle.sd_types.specs.declared.events.Event.TheVariants.{Napend, Wake, Rouse, Unblock, Grant, SemaVWake}
 use Rattle.sd_types.specs.declared.events.Put.{Put}
 use Rattle.sd_types.specs.declared.events.Put.TheVariants.{Cpu, RealTime as OnRealTime}
 use Rattle.sd_types.specs.declared.works.Work.{Work}
@@ -35,36 +35,7 @@ woken_at w s r n c (Wake t k (Some v)) u a is = put_woken w s r n v.0.0 u v.1 a 
 woken_at w s r n c (Rouse k (Some v)) u a is = put_woken w s r n v.0.0 u v.1 a is
 woken_at w s r n c (Wake t k None) u a is = cc
 woken_at w s r n c (Rouse k None) u a is = cc
-woken_at w s r n c (Tick t) u a is = cc
-woken_at w s r n c (Spin t l) u a is = cc
-woken_at w s r n c Idle u a is = cc
-woken_at w s r n c (Dispatch t p) u a is = cc
-woken_at w s r n c (Steal v t p) u a is = cc
-woken_at w s r n c (Preempt t end) u a is = cc
-woken_at w s r n c (Away t d) u a is = cc
-woken_at w s r n c (Yield t) u a is = cc
-woken_at w s r n c (Done t) u a is = cc
-woken_at w s r n c (Nap t) u a is = cc
-woken_at w s r n c (Sleep t k) u a is = cc
-woken_at w s r n c (Wakeall t k) u a is = cc
-woken_at w s r n c (Enter t l) u a is = cc
-woken_at w s r n c (Read t l) u a is = cc
-woken_at w s r n c (Write t l) u a is = cc
-woken_at w s r n c (Block t l) u a is = cc
-woken_at w s r n c (Will l o p at) u a is = cc
-woken_at w s r n c (WalkEnd l) u a is = cc
-woken_at w s r n c (Exit t l) u a is = cc
-woken_at w s r n c (Passed l) u a is = cc
-woken_at w s r n c (Age t p) u a is = cc
-woken_at w s r n c (Prio t v answer) u a is = cc
-woken_at w s r n c (CvWait t k l) u a is = cc
-woken_at w s r n c (SemaP t k) u a is = cc
-woken_at w s r n c (SemaWait t k) u a is = cc
-woken_at w s r n c (SemaVCount t k m) u a is = cc
-woken_at w s r n c (Assign t d to answer) u a is = cc
-woken_at w s r n c (Move t at) u a is = cc
-woken_at w s r n c (Joined to) u a is = cc
-woken_at w s r n c (Bind t v d answer) u a is = cc
+woken_at w s r n c e u a is = cc
 
 pub woken_after : (w : Work) (s : State) (n : ℕ) (c : CpuId) (e : Event) (u : ℕ) → IsReady w s → IsCause w s c.0 e → woken_by e ≡ Some u → is_runnable (thread_of (after w s n c e) u).place ≡ true
 woken_after w s n c e u ready cause is =

@@ -375,19 +375,12 @@ module _ {X : Type 0} (part : ThreadState → X) where
       event_same w s n c (Wake t k u) plain = woke_same w s n t.0 u
       event_same w s n c (Wakeall t k) plain = woke_all_same w s n c t.0 k
       event_same w s n c (Rouse k u) plain = roused_same w s n c k u (cpu_of s c.0).duty
-      event_same w s n c (Enter t l) plain = cc
-      event_same w s n c (Read t l) plain = cc
-      event_same w s n c (Write t l) plain = cc
       event_same w s n c (Block t l) plain = blocked_same w s n c t.0 l
-      event_same w s n c (Will l o p at) plain = cc
       event_same w s n c (WalkEnd l) plain = walk_ended_same s c
-      event_same w s n c (Exit t l) plain = cc
       event_same w s n c (Unblock l u at) plain = unblocked_same w s n c l u.0 at
-      event_same w s n c (Grant l u at) plain = cc
       event_same w s n c (Passed l) plain = passed_same s c l
       event_same w s n c (Age t p) plain = aged_same w s n c t.0
       event_same w s n c (Prio t u answer) plain = reprioritised_same w s n c t.0 u answer
-      event_same w s n c (CvWait t k l) plain = cc
       event_same w s n c (SemaP t k) plain = sema_taken_same w s t.0 k
       event_same w s n c (SemaWait t k) plain = fallen_asleep_same w s n c t.0 k
       event_same w s n c (SemaVWake t k u at) plain = sema_handed_same w s n t.0 u.0 at
@@ -395,7 +388,7 @@ module _ {X : Type 0} (part : ThreadState → X) where
       event_same w s n c (Assign t d to answer) plain = assigned_same w s t.0 d to answer
       event_same w s n c (Move t at) plain = moved_same w s n t.0 at
       event_same w s n c (Joined to) plain = joined_same s c to
-      event_same w s n c (Bind t u d answer) plain = cc
+      event_same w s n c e plain = cc
 
       pub plain_same : (w : Work) (s : State) (n : ℕ) (c : CpuId) (e : Event) → is_plain e ≡ true → Same s (after w s n c e)
       unfolding after drop_ageing

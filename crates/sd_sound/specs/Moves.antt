@@ -5,7 +5,7 @@ use Rattle.sd_types.specs.declared.numbers.ThreadId.{ThreadId}
 use Rattle.sd_types.specs.declared.events.BindAnswer.{BindAnswer}
 use Rattle.sd_types.specs.declared.events.BindAnswer.TheVariants as bind_answer
 use Rattle.sd_types.specs.declared.events.Event.{Event}
-use Rattle.sd_types.specs.declared.events.Event.TheVariants.{Tick, Spin, Idle, Dispatch, Steal, Preempt, Yield, Done, Nap, Napend, Sleep, Wake, Wakeall, Rouse, Enter, Read, Write, Block, Will, End, Exit, Unblock, Grant, Passed, Age, Prio, CvWait, SemaP, SemaWait, SemaVWake, SemaVCount, Assign, Move, Joined, Bind, Away}
+use Rattle.sd_types.specs.declared.events.Event.TheVariants.{Dispatch, Steal, Preempt, Yield, Done, Nap, Napend, Sleep, Wake, Rouse, Block, Will, Unblock, Grant, Age, Prio, CvWait, SemaWait, SemaVWake, Move, Bind, Away}
 use Rattle.sd_types.specs.declared.events.PrioAnswer.{PrioAnswer}
 use Rattle.sd_types.specs.declared.events.PrioAnswer.TheVariants.{Changed, Refused}
 use Rattle.sd_types.specs.declared.events.Put.{Put}
@@ -56,9 +56,6 @@ bind_step w n u (bind_answer.Changed at) = put_step_if w n u at
 bind_step w n u _ = Stay
 
 abbrev pub step_of : Work → State → ℕ → CpuId → Event → Step
-step_of w s n c (Tick t) = Stay
-step_of w s n c (Spin t l) = Stay
-step_of w s n c Idle = Stay
 step_of w s n c (Dispatch t p) = Go t.0 (Running c)
 step_of w s n c (Steal v t p) = Go t.0 (Running c)
 step_of w s n c (Preempt t end) = Go t.0 (queue_place w t.0 c (key_at n end) (thread_of s t.0).body)
@@ -69,26 +66,16 @@ step_of w s n c (Nap t) = Go t.0 (Napping c ((cpu_of s c.0).count + nap_ticks (o
 step_of w s n c (Napend t at) = put_step w n t.0 at
 step_of w s n c (Sleep t k) = Go t.0 (Asleep k (back_key n))
 step_of w s n c (Wake t k u) = woken_step w n u
-step_of w s n c (Wakeall t k) = Stay
 step_of w s n c (Rouse k u) = woken_step w n u
-step_of w s n c (Enter t l) = Stay
-step_of w s n c (Read t l) = Stay
-step_of w s n c (Write t l) = Stay
 step_of w s n c (Block t l) = Go t.0 (Waiting l (side_of (op_of w t.0 (thread_of s t.0).body)) (back_key n))
 step_of w s n c (Will l o p at) = reordered_step w n o.0 at (thread_of s o.0).place
-step_of w s n c (End l) = Stay
-step_of w s n c (Exit t l) = Stay
 step_of w s n c (Unblock l u at) = put_step w n u.0 at
 step_of w s n c (Grant l u at) = put_step w n u.0 at
-step_of w s n c (Passed l) = Stay
 step_of w s n c (Age t p) = aged_step w s n c t.0
 step_of w s n c (Prio t u answer) = prio_step w s n u answer
 step_of w s n c (CvWait t k l) = Go t.0 (Asleep k (back_key n))
-step_of w s n c (SemaP t k) = Stay
 step_of w s n c (SemaWait t k) = Go t.0 (Asleep k (back_key n))
 step_of w s n c (SemaVWake t k u at) = put_step w n u.0 at
-step_of w s n c (SemaVCount t k m) = Stay
-step_of w s n c (Assign t d to answer) = Stay
 step_of w s n c (Move t at) = put_step w n t.0 at
-step_of w s n c (Joined to) = Stay
 step_of w s n c (Bind t u d answer) = bind_step w n u.0 answer
+step_of w s n c _ = Stay
