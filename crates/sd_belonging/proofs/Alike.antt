@@ -35,13 +35,13 @@ use Rattle.sd_machine.specs.Prioritising.{walk_from}
 use Rattle.sd_machine.specs.Events.{drop_ageing}
 use Rattle.sd_state.specs.Invariants.{is_marked}
 use Rattle.sd_chains.proofs.Moves.{IsSame, IsPut}
-use Rattle.sd_sound.proofs.Parts.{put_item, same_item, set_past, put_same, same_put, put_put}
-use Rattle.sd_sound.proofs.Words.{of_threads}
-use Rattle.sd_sound.proofs.CpuWords.{of_cpus}
-use Rattle.sd_sound.proofs.PlaceTable.{place_part}
-use Rattle.sd_sound.proofs.HoldTable.{bound_part}
-use Rattle.sd_sound.proofs.OpenLemmas.{place_part as set_part}
-use Rattle.sd_sound.proofs.Found.{runner_found}
+use Rattle.sd_frames.proofs.Parts.{put_item, same_item, set_past, put_same, same_put, put_put}
+use Rattle.sd_frames.proofs.Words.{of_threads}
+use Rattle.sd_frames.proofs.CpuWords.{of_cpus}
+use Rattle.sd_frames.proofs.PlaceTable.{place_part}
+use Rattle.sd_frames.proofs.HoldTable.{bound_part}
+use Rattle.sd_invariants.proofs.OpenLemmas.{place_part as set_part}
+use Rattle.sd_frames.proofs.Found.{runner_found}
 
 -- What an effective priority is made of.
 

@@ -21,11 +21,11 @@ use Rattle.sd_machine.specs.Runs.{IsReached}
 use Rattle.sd_state.specs.Invariants.{OneRuns, IsThere, IsInItsSet, SuitsQueue}
 use Rattle.sd_state.proofs.OpeningQueues.{opening_suits}
 use Rattle.sd_state.proofs.OpeningSets.{opening_well}
-use Rattle.sd_sound.specs.Causes.{IsCause}
-use Rattle.sd_sound.specs.Laws.{HoldsWhenReached}
-use Rattle.sd_sound.proofs.BoundLemmas.{first_free}
-use Rattle.sd_sound.proofs.Movers.{bind_thread}
-use Rattle.sd_sound.proofs.Whole.{reached_whole}
+use Rattle.sd_frames.specs.Causes.{IsCause}
+use Rattle.sd_invariants.specs.Laws.{HoldsWhenReached}
+use Rattle.sd_invariants.proofs.BoundLemmas.{first_free}
+use Rattle.sd_invariants.proofs.Movers.{bind_thread}
+use Rattle.sd_invariants.proofs.Whole.{reached_whole}
 use Rattle.sd_range.proofs.Induction.{held_reached}
 use Rattle.sd_range.proofs.Named.{acts_named, assign_cpu}
 use Rattle.sd_range.proofs.Places.{threads_have_cpus}

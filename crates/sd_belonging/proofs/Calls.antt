@@ -20,7 +20,7 @@ use Rattle.sd_machine.specs.Changes.{send_back, marked, set_mark, rivals, priori
 use Rattle.sd_machine.specs.Dispatching.{is_rivalled, charge}
 use Rattle.sd_state.specs.Invariants.{is_marked}
 use Rattle.sd_state.proofs.Chosen.{none_ready, best_greatest}
-use Rattle.sd_sound.proofs.Found.{runner_found}
+use Rattle.sd_frames.proofs.Found.{runner_found}
 use Rattle.sd_belonging.proofs.Alike.{marked_is}
 use Rattle.sd_belonging.proofs.Goes.{Single}
 use Rattle.sd_belonging.proofs.Joins.{nobody_runs}

@@ -3,8 +3,8 @@ use Rattle.std.proofs.Common.{is_none}
 use Rattle.sd_types.specs.declared.events.Event.TheVariants.{Dispatch, Steal}
 use Rattle.sd_state.specs.States.{thread_of, is_queued}
 use Rattle.sd_state.proofs.BestLemmas.{and_right}
-use Rattle.sd_sound.proofs.Found.{ready_found, unbound_found}
-use Rattle.sd_sound.proofs.Ready.{ready_cause, reached_ready}
+use Rattle.sd_frames.proofs.Found.{ready_found, unbound_found}
+use Rattle.sd_invariants.proofs.Ready.{ready_cause, reached_ready}
 use Rattle.sd_belonging.specs.Changes.{BoundAreDispatchedAtHome, StolenAreUnbound}
 use Rattle.sd_belonging.proofs.All.{known, threads_belong}
 use Rattle.sd_belonging.proofs.Basics.{none_of, same_cpu}

@@ -50,11 +50,11 @@ use Rattle.sd_machine.specs.Events.{dropped_duty, drop_ageing, effect, after}
 use Rattle.sd_state.specs.Invariants.{is_marked}
 use Rattle.sd_state.proofs.Chosen.{running_not_queued}
 use Rattle.sd_state.proofs.BestLemmas.{and_right, and_left}
-use Rattle.sd_sound.specs.Causes.{Runs, IsPut as IsPutAt, IsRequeuedAt, WakesBest, RousesBest, IsAnswered, IsCause}
-use Rattle.sd_sound.proofs.Found.{runner_found, ready_found, queued_found, unbound_found, waiter_found, sleeper_found, sleeper_below_found, due_found, age_found}
-use Rattle.sd_sound.proofs.Movers.{owner_thread, prio_thread}
-use Rattle.sd_sound.proofs.PassLemmas.{drop_duties}
-use Rattle.sd_sound.proofs.BoundLemmas.{same_id}
+use Rattle.sd_frames.specs.Causes.{Runs, IsPut as IsPutAt, IsRequeuedAt, WakesBest, RousesBest, IsAnswered, IsCause}
+use Rattle.sd_frames.proofs.Found.{runner_found, ready_found, queued_found, unbound_found, waiter_found, sleeper_found, sleeper_below_found, due_found, age_found}
+use Rattle.sd_invariants.proofs.Movers.{owner_thread, prio_thread}
+use Rattle.sd_frames.proofs.PassLemmas.{drop_duties}
+use Rattle.sd_invariants.proofs.BoundLemmas.{same_id}
 use Rattle.sd_belonging.proofs.Alike.{Weight, weight_part, heft, Calm, Alike, Weighs, Weighed, all_calm, then_calm, calm_alike, then_alike, calm_weighs, weighs_calm, weighs_alike, weighed_alike, either_calm, lock_calm, count_calm, set_duty_calm, count_tick_calm, drop_calm, finish_op_calm, run_tick_calm, hold_calm, set_class_weighs, walk_from_calm, passed_on_calm, remark_alike, charge_alike}
 use Rattle.sd_belonging.proofs.Goes.{All, Others, Goes, Puts, single_back, calm_goes, goes_alike, calm_puts, weighs_puts, puts_alike, puts_to, put_puts, woken_puts, dispatched_goes, stolen_goes, sent_away_puts}
 use Rattle.sd_belonging.proofs.Basics.{none_of, none_some, runs_one, running_rests}

@@ -22,14 +22,14 @@ use Rattle.sd_machine.specs.Dispatching.{dispatched, stolen, sent_away}
 use Rattle.sd_machine.specs.Sleeping.{woken}
 use Rattle.sd_state.specs.Invariants.{is_marked}
 use Rattle.sd_chains.proofs.Moves.{IsSame, IsPut, put_cases}
-use Rattle.sd_sound.proofs.Parts.{put_item, same_item, put_same, same_put, put_put}
-use Rattle.sd_sound.proofs.Words.{of_threads}
-use Rattle.sd_sound.proofs.CpuWords.{of_cpus}
-use Rattle.sd_sound.proofs.PlaceTable.{place_part}
-use Rattle.sd_sound.proofs.HoldTable.{bound_part}
-use Rattle.sd_sound.proofs.OpenLemmas.{place_part as set_part}
-use Rattle.sd_sound.proofs.Found.{runner_found}
-use Rattle.sd_sound.proofs.BoundLemmas.{same_id}
+use Rattle.sd_frames.proofs.Parts.{put_item, same_item, put_same, same_put, put_put}
+use Rattle.sd_frames.proofs.Words.{of_threads}
+use Rattle.sd_frames.proofs.CpuWords.{of_cpus}
+use Rattle.sd_frames.proofs.PlaceTable.{place_part}
+use Rattle.sd_frames.proofs.HoldTable.{bound_part}
+use Rattle.sd_invariants.proofs.OpenLemmas.{place_part as set_part}
+use Rattle.sd_frames.proofs.Found.{runner_found}
+use Rattle.sd_invariants.proofs.BoundLemmas.{same_id}
 use Rattle.sd_belonging.proofs.Alike.{Weight, weight_part, heft, marks_part, IsBusy, Keeps, busy_on, Calm, Alike, Weighs, marked_is, mark_over_alike, set_class_weighs}
 use Rattle.sd_belonging.proofs.Joins.{nobody_runs}
 

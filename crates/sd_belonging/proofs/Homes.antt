@@ -9,11 +9,11 @@ use Rattle.sd_state.specs.declared.states.Place.TheVariants.{Running, Queued, Re
 use Rattle.sd_state.specs.declared.states.State.{State}
 use Rattle.sd_state.specs.States.{thread_of, cpu_of, is_running, is_queued}
 use Rattle.sd_machine.specs.Threads.{set_of, eff_of}
-use Rattle.sd_sound.specs.Laws.{is_runnable}
+use Rattle.sd_invariants.specs.Laws.{is_runnable}
 use Rattle.sd_chains.proofs.Moves.{IsSame, put_cases}
-use Rattle.sd_sound.proofs.CpuWords.{of_cpus}
-use Rattle.sd_sound.proofs.OpenLemmas.{place_part as set_part}
-use Rattle.sd_sound.proofs.BoundLemmas.{same_id}
+use Rattle.sd_frames.proofs.CpuWords.{of_cpus}
+use Rattle.sd_invariants.proofs.OpenLemmas.{place_part as set_part}
+use Rattle.sd_invariants.proofs.BoundLemmas.{same_id}
 use Rattle.sd_belonging.specs.Belonging.{MayQueue, BelongsAt, IsBoundInSet, Belongs, ThreadsBelong}
 use Rattle.sd_belonging.proofs.Alike.{Weight, heft}
 use Rattle.sd_belonging.proofs.Goes.{Single}

@@ -19,13 +19,13 @@ use Rattle.sd_machine.specs.Changes.{with_cpu_in, close, join}
 use Rattle.sd_machine.specs.SetChanges.{cleared, assigned, joined}
 use Rattle.sd_machine.specs.Events.{drop_ageing, effect, after}
 use Rattle.sd_state.proofs.Chosen.{runs_none}
-use Rattle.sd_sound.specs.Causes.{IsCause}
-use Rattle.sd_sound.proofs.Parts.{same_item}
-use Rattle.sd_sound.proofs.CpuWords as C
-use Rattle.sd_sound.proofs.PlainWords.{drop_keeps}
-use Rattle.sd_sound.proofs.OpenLemmas.{place_part, place_marks, places_plain, SamePlaces, cpus_same, other_place}
-use Rattle.sd_sound.proofs.Ready.{ready_cause, reached_ready}
-use Rattle.sd_sound.proofs.Searches.{none_stands}
+use Rattle.sd_frames.specs.Causes.{IsCause}
+use Rattle.sd_frames.proofs.Parts.{same_item}
+use Rattle.sd_frames.proofs.CpuWords as C
+use Rattle.sd_frames.proofs.PlainWords.{drop_keeps}
+use Rattle.sd_invariants.proofs.OpenLemmas.{place_part, place_marks, places_plain, SamePlaces, cpus_same, other_place}
+use Rattle.sd_invariants.proofs.Ready.{ready_cause, reached_ready}
+use Rattle.sd_frames.proofs.Searches.{none_stands}
 use Rattle.sd_belonging.specs.Changes.{IsEmpty, IsJoining, SetsChangeByJoining}
 
 -- where no thread is found, none runs

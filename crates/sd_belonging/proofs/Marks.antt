@@ -24,10 +24,10 @@ use Rattle.sd_state.specs.Invariants.{is_marked, MarksStand}
 use Rattle.sd_state.proofs.Chosen.{running_not_queued}
 use Rattle.sd_state.proofs.Openings.{opening_runs_none, opening_unmarked}
 use Rattle.sd_chains.proofs.Moves.{IsPut}
-use Rattle.sd_sound.specs.Causes.{IsCause}
-use Rattle.sd_sound.specs.Laws.{HoldsWhenReached, is_runnable}
-use Rattle.sd_sound.proofs.Movers.{bind_thread, bind_put_is}
-use Rattle.sd_sound.proofs.Whole.{reached_whole}
+use Rattle.sd_frames.specs.Causes.{IsCause}
+use Rattle.sd_invariants.specs.Laws.{HoldsWhenReached, is_runnable}
+use Rattle.sd_invariants.proofs.Movers.{bind_thread, bind_put_is}
+use Rattle.sd_invariants.proofs.Whole.{reached_whole}
 use Rattle.sd_range.proofs.Induction.{held_reached}
 use Rattle.sd_belonging.proofs.Alike.{Weight, weight_part, heft, IsBusy}
 use Rattle.sd_belonging.proofs.All.{runs_inside, single, known, runs_there, threads_belong}

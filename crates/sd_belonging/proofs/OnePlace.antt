@@ -1,9 +1,9 @@
 -- Each thread in one place: the laws of places, runners and keys together.
 use Rattle.sd_state.specs.Invariants.{OneRuns}
-use Rattle.sd_sound.specs.Laws.{HoldsAfterEntries, HoldsWhenReached}
-use Rattle.sd_sound.proofs.Ready.{kept_reached, reached_ready}
-use Rattle.sd_sound.proofs.RunningLemmas.{one_kept, opening_one}
-use Rattle.sd_sound.proofs.KeyLemmas.{keys_differ_law, keys_within_law}
+use Rattle.sd_invariants.specs.Laws.{HoldsAfterEntries, HoldsWhenReached}
+use Rattle.sd_invariants.proofs.Ready.{kept_reached, reached_ready}
+use Rattle.sd_invariants.proofs.RunningLemmas.{one_kept, opening_one}
+use Rattle.sd_invariants.proofs.KeyLemmas.{keys_differ_law, keys_within_law}
 use Rattle.sd_range.proofs.All.{threads_law}
 use Rattle.sd_belonging.specs.Belonging.{EachInOnePlace}
 

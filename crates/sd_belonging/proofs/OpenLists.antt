@@ -29,15 +29,15 @@ use Rattle.sd_machine.specs.Shapes.{FitsFully}
 use Rattle.sd_machine.specs.Changes.{set_duty}
 use Rattle.sd_machine.specs.Events.{dropped_duty, drop_ageing, effect, after}
 use Rattle.sd_part.proofs.PartitionLemmas.{names-passing, passing-named, set-at_most}
-use Rattle.sd_sound.specs.Causes.{IsCause}
-use Rattle.sd_sound.specs.Laws.{HoldsWhenReached, OpenHold, is_in, IsRising}
-use Rattle.sd_sound.proofs.Parts.{put_item}
-use Rattle.sd_sound.proofs.CpuWords as C
-use Rattle.sd_sound.proofs.FieldWords as F
-use Rattle.sd_sound.proofs.PlainWords.{drop_keeps}
-use Rattle.sd_sound.proofs.OpenLemmas.{place_part, place_marks, places_plain, SamePlaces, cpus_same, open_field, finish_open, open_same, other_place}
-use Rattle.sd_sound.proofs.Whole.{reached_whole}
-use Rattle.sd_sound.proofs.BoundLemmas.{same_id}
+use Rattle.sd_frames.specs.Causes.{IsCause}
+use Rattle.sd_invariants.specs.Laws.{HoldsWhenReached, OpenHold, is_in, IsRising}
+use Rattle.sd_frames.proofs.Parts.{put_item}
+use Rattle.sd_frames.proofs.CpuWords as C
+use Rattle.sd_frames.proofs.FieldWords as F
+use Rattle.sd_frames.proofs.PlainWords.{drop_keeps}
+use Rattle.sd_invariants.proofs.OpenLemmas.{place_part, place_marks, places_plain, SamePlaces, cpus_same, open_field, finish_open, open_same, other_place}
+use Rattle.sd_invariants.proofs.Whole.{reached_whole}
+use Rattle.sd_invariants.proofs.BoundLemmas.{same_id}
 use Rattle.sd_range.specs.There.{IsSetThere}
 use Rattle.sd_range.proofs.Induction.{held_reached}
 use Rattle.sd_range.proofs.Named.{acts_named, assign_cpu}

@@ -23,9 +23,9 @@ use Rattle.sd_machine.specs.Choosing.{cpus_or_bound, cpus_for, put_on, neighbour
 use Rattle.sd_machine.specs.Requeueing.{is_bound_to, requeue}
 use Rattle.sd_state.specs.Invariants.{is_marked}
 use Rattle.sd_state.proofs.OpeningSets.{same_set}
-use Rattle.sd_sound.specs.Causes.{IsPut, IsRequeuedAt}
-use Rattle.sd_sound.specs.Laws.{is_in, is_runnable}
-use Rattle.sd_sound.proofs.Whole.{IsWhole}
+use Rattle.sd_frames.specs.Causes.{IsPut, IsRequeuedAt}
+use Rattle.sd_invariants.specs.Laws.{is_in, is_runnable}
+use Rattle.sd_invariants.proofs.Whole.{IsWhole}
 use Rattle.sd_belonging.specs.Belonging.{MayQueue, MayRun, BelongsAt, ThreadsBelong}
 use Rattle.sd_belonging.proofs.Alike.{Weight, heft, Alike, Weighed}
 use Rattle.sd_belonging.proofs.Basics.{none_some, same_cpu}

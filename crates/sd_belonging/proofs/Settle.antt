@@ -25,15 +25,15 @@ use Rattle.sd_machine.specs.Changes.{with_cpu_in, without_cpu, set_duty, close, 
 use Rattle.sd_machine.specs.SetChanges.{bound_put, unbound_put, bind_put, bind_to, cleared, assigned, joined, pbound}
 use Rattle.sd_machine.specs.Events.{drop_ageing, effect, after}
 use Rattle.sd_chains.proofs.Moves.{IsPut}
-use Rattle.sd_sound.specs.Causes.{IsCause}
-use Rattle.sd_sound.proofs.CpuWords as C
-use Rattle.sd_sound.proofs.CpuWords.{of_cpus}
-use Rattle.sd_sound.proofs.Words.{of_threads}
-use Rattle.sd_sound.proofs.HoldTable.{bound_part, pbound_bound}
-use Rattle.sd_sound.proofs.OpenLemmas.{place_part as set_part, place_marks, places_plain, cpus_same, other_place}
-use Rattle.sd_sound.proofs.PlainWords.{drop_keeps}
-use Rattle.sd_sound.proofs.BoundLemmas.{threads_same, same_id}
-use Rattle.sd_sound.proofs.Movers.{bind_put_is}
+use Rattle.sd_frames.specs.Causes.{IsCause}
+use Rattle.sd_frames.proofs.CpuWords as C
+use Rattle.sd_frames.proofs.CpuWords.{of_cpus}
+use Rattle.sd_frames.proofs.Words.{of_threads}
+use Rattle.sd_frames.proofs.HoldTable.{bound_part, pbound_bound}
+use Rattle.sd_invariants.proofs.OpenLemmas.{place_part as set_part, place_marks, places_plain, cpus_same, other_place}
+use Rattle.sd_frames.proofs.PlainWords.{drop_keeps}
+use Rattle.sd_invariants.proofs.BoundLemmas.{threads_same, same_id}
+use Rattle.sd_invariants.proofs.Movers.{bind_put_is}
 use Rattle.sd_belonging.specs.Belonging.{BelongsAt, Belongs, ThreadsBelong}
 use Rattle.sd_belonging.proofs.Alike.{heft, calm_alike, drop_calm}
 use Rattle.sd_belonging.proofs.Basics.{none_some, same_cpu}

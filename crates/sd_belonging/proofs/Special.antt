@@ -23,11 +23,11 @@ use Rattle.sd_machine.specs.Prioritising.{is_privileged, uid_of}
 use Rattle.sd_machine.specs.SetChanges.{assign_answer, cleared, assigned, joined, is_misbound, is_closing, bind_put, bind_to, called_back, rebound, pbound}
 use Rattle.sd_chains.proofs.HolderLemmas.{count_one}
 use Rattle.sd_chains.proofs.Moves.{IsSame}
-use Rattle.sd_sound.proofs.Parts.{same_item}
-use Rattle.sd_sound.proofs.Words.{of_threads}
-use Rattle.sd_sound.proofs.PlaceTable.{place_part}
-use Rattle.sd_sound.proofs.HoldTable.{bound_part}
-use Rattle.sd_sound.proofs.BoundLemmas.{is_bound_at, bound_threads, same_id}
+use Rattle.sd_frames.proofs.Parts.{same_item}
+use Rattle.sd_frames.proofs.Words.{of_threads}
+use Rattle.sd_frames.proofs.PlaceTable.{place_part}
+use Rattle.sd_frames.proofs.HoldTable.{bound_part}
+use Rattle.sd_invariants.proofs.BoundLemmas.{is_bound_at, bound_threads, same_id}
 use Rattle.sd_belonging.proofs.Alike.{weight_part, heft, marks_part, IsBusy, MoreMarks, more_same, Alike, all_calm, calm_alike, busy_by, set_kernel_mark_alike, finish_op_calm}
 use Rattle.sd_belonging.proofs.Goes.{All, Puts, put_puts, puts_alike}
 

@@ -3,7 +3,7 @@
 ghost use Rattle.sd_belonging.specs.Belonging.{EachInOnePlace, OpenListsAreExact, ThreadsBelong};
 ghost use Rattle.sd_belonging.specs.Changes.{BoundAreDispatchedAtHome, SetsChangeByJoining, StolenAreUnbound};
 ghost use Rattle.sd_state.specs.Invariants.{MarksStand};
-ghost use Rattle.sd_sound.specs.Laws.{HoldsAfterEntries, HoldsWhenReached};
+ghost use Rattle.sd_invariants.specs.Laws.{HoldsAfterEntries, HoldsWhenReached};
 
 /// In every state of every run each thread stands where its processor set, its binding and its priority ask. A thread
 /// on a real-time queue has an effective priority of at least 100, is not bound, and the queue is that of its set. One on

@@ -31,11 +31,11 @@ use Rattle.sd_machine.specs.Shapes.{FitsFully}
 use Rattle.sd_machine.specs.Threads.{eff_of, greatest_waiting}
 use Rattle.sd_machine.specs.Walking.{inherited_priority}
 use Rattle.sd_machine.specs.Runs.{IsReached, IsStep}
-use Rattle.sd_sound.specs.Causes.{IsCause}
-use Rattle.sd_sound.proofs.BaseLemmas.{age_below, new_below}
-use Rattle.sd_sound.proofs.NumberLemmas.{AreFine, fine_eff}
-use Rattle.sd_sound.proofs.FineLemmas.{fine_reached}
-use Rattle.sd_sound.proofs.Ready.{ready_cause, reached_ready, maker_inside}
+use Rattle.sd_frames.specs.Causes.{IsCause}
+use Rattle.sd_invariants.proofs.BaseLemmas.{age_below, new_below}
+use Rattle.sd_invariants.proofs.NumberLemmas.{AreFine, fine_eff}
+use Rattle.sd_invariants.proofs.FineLemmas.{fine_reached}
+use Rattle.sd_invariants.proofs.Ready.{ready_cause, reached_ready, maker_inside}
 use Rattle.sd_range.proofs.Places.{threads_have_cpus}
 use Rattle.sd_range.proofs.Range.{needs_reached}
 use Rattle.sd_spelling.specs.Fitting.{has_cpu, has_thread, has_lock, has_chan, has_set, put_fits, put_fits_if, woken_fits, cpu_fits_if, prio_fits, bind_fits, event_fits, entry_fits, is_byte, prio_in_range, event_in_range, hints_in_range, in_range, IsSpelled}

@@ -16,8 +16,8 @@ use Rattle.sd_state.specs.declared.states.State.{State}
 use Rattle.sd_state.specs.States.{thread_of, cpu_of}
 use Rattle.sd_machine.specs.Events.{next}
 use Rattle.sd_machine.specs.Runs.{IsReached, IsStep}
-use Rattle.sd_sound.proofs.NumberLemmas.{AreFine, fine_eff}
-use Rattle.sd_sound.proofs.FineLemmas.{fine_reached}
+use Rattle.sd_invariants.proofs.NumberLemmas.{AreFine, fine_eff}
+use Rattle.sd_invariants.proofs.FineLemmas.{fine_reached}
 use Rattle.sd_spelling.specs.Fitting.{is_byte, hints_in_range, IsSpelled}
 use Rattle.sd_certified.proofs.EntryLemmas.{spelled}
 use Rattle.sd_state.specs.Opening.{opening}
@@ -31,8 +31,8 @@ use Rattle.sd_machine.specs.Runs.{final, IsComplete, IsRun, IsRunFrom, shown, se
 use Rattle.std.proofs.lemmas.List.{length-append}
 use Rattle.std.proofs.lemmas.List.Elements.{All-nil, All-cons, All-head, All-tail}
 use Rattle.sd_machine.proofs.RunLemmas.{final-nil, final-push, IsRun-nil, IsRun-append, IsRun-from, IsRunFrom-nil, IsRunFrom-one, IsRunFrom-append}
-use Rattle.sd_sound.specs.Laws.{OpenHold, IsRising, is_in}
-use Rattle.sd_sound.proofs.Whole.{reached_whole}
+use Rattle.sd_invariants.specs.Laws.{OpenHold, IsRising, is_in}
+use Rattle.sd_invariants.proofs.Whole.{reached_whole}
 use Rattle.sd_machine.specs.Texts.{journal}
 use Rattle.sd_rounds.specs.declared.orders.Turns.{Turns}
 use Rattle.sd_rounds.specs.Orders.{orders_of}

@@ -20,7 +20,7 @@ use Rattle.sd_machine.specs.declared.plans.Plan.{Plan}
 use Rattle.sd_machine.specs.Events.{allowed, hints_fit, may_tick, next, plan_reads, reads, same_which, wish}
 use Rattle.sd_machine.specs.Plans.{plan}
 use Rattle.sd_machine.specs.Runs.{serial_hints, shown}
-use Rattle.sd_sound.proofs.Whole.{fit_reached}
+use Rattle.sd_invariants.proofs.Whole.{fit_reached}
 use Rattle.sd_mdisp.specs.declared.reading.Reading.{Reading}
 use Rattle.sd_mdisp.specs.Reading.{parts}
 use Rattle.sd_hand.specs.declared.acting.Actor.{Actor}

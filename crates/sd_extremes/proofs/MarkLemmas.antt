@@ -17,7 +17,7 @@ use Rattle.sd_state.specs.States.{cpu_of}
 use Rattle.sd_machine.specs.Events.{next}
 use Rattle.sd_machine.specs.Runs.{IsReached, IsStep, final, made, round, serial_hints, turn}
 use Rattle.sd_machine.proofs.RunLemmas.{IsRun-from}
-use Rattle.sd_sound.proofs.Ready.{maker_inside}
+use Rattle.sd_invariants.proofs.Ready.{maker_inside}
 use Rattle.sd_ordered.proofs.NextLemmas.{next_same, serial_same}
 use Rattle.sd_ordered.proofs.SourceLemmas.{AreAlike}
 use Rattle.sd_ordered.proofs.TellLemmas.{count_same}

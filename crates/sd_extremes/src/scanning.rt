@@ -3,7 +3,7 @@
 ghost use Rattle.std.specs.Prelude.{◌≡◌, ◌+◌, ◌<◌, ◌↔◌, length, IsTrue, IfOk};
 ghost use Rattle.sd_extremes.specs.Marks.{EndsNow, IsBefore, IsBelow, Spans};
 ghost use Rattle.sd_search.specs.Graphs.{Gathers, IsAt, packed};
-ghost use Rattle.sd_sound.specs.Laws.{IsFit};
+ghost use Rattle.sd_invariants.specs.Laws.{IsFit};
 
 use crate::marks::{Mark, Span, ended, with_mark};
 use sd_flat::cpu_of;

@@ -3,7 +3,7 @@
 ghost use Rattle.std.specs.Prelude.{◌≡◌, ◌++◌, length, None, IfOk, OnOk};
 ghost use Rattle.sd_extremes.specs.WholeRuns.{BeginsWith, GoesOn, LeadsTo};
 ghost use Rattle.sd_machine.specs.Runs.{IsComplete, final, turn};
-ghost use Rattle.sd_sound.specs.Laws.{IsFit};
+ghost use Rattle.sd_invariants.specs.Laws.{IsFit};
 
 use sd_opening::opening;
 use sd_state::State;

@@ -31,7 +31,7 @@ use Rattle.sd_store.specs.declared.parts.Part.TheVariants.{Actor, Thread}
 use Rattle.sd_store.specs.Parts.{IsAmong, put_parts, view_of}
 use Rattle.sd_footprint.specs.Changed.{ChangesOnly, HasHome, IsNamed, MovesWithin, RanThere, SameActor}
 use Rattle.sd_shown.specs.Standing.{home_of, home_of_place}
-use Rattle.sd_sound.proofs.Parts.{same_item, set_past}
+use Rattle.sd_frames.proofs.Parts.{same_item, set_past}
 
 abbrev pub HasThread : List Part → ℕ → Type 0
 HasThread ps t = IsAmong (Thread (record { 0 = t })) ps

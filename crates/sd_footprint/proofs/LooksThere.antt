@@ -52,9 +52,9 @@ use Rattle.sd_machine.specs.Walking.{walk_plan}
 use Rattle.sd_footprint.proofs.ThereLemmas.{AllThere, IsKnown, chain_there, cpu_inside, cpu_set, ready_there, sleepers_there, there_join, thread_set}
 use Rattle.sd_mdisp.specs.Touched.{victim_parts}
 use Rattle.sd_range.proofs.Named.{assign_cpu, bind_cpu}
-use Rattle.sd_sound.specs.Laws.{is_in}
-use Rattle.sd_sound.proofs.Found.{due_found, queued_found, sleeper_below_found, sleeper_found, waiter_found}
-use Rattle.sd_sound.proofs.Works.{declared, op_named}
+use Rattle.sd_invariants.specs.Laws.{is_in}
+use Rattle.sd_frames.proofs.Found.{due_found, queued_found, sleeper_below_found, sleeper_found, waiter_found}
+use Rattle.sd_invariants.proofs.Works.{declared, op_named}
 use Rattle.sd_step.specs.Needed.{choice_parts, cpu_parts, later_parts, needed, next_parts, op_parts, plan_parts, read_parts, reads_parts, run_parts, turn_parts}
 use Rattle.sd_step.specs.Tasks.{task_parts}
 use Rattle.sd_store.specs.declared.parts.Part.{Part}

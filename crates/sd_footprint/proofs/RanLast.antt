@@ -15,10 +15,10 @@ use Rattle.sd_machine.specs.Events.{after, next}
 use Rattle.sd_machine.specs.Runs.{IsReached}
 use Rattle.sd_step.specs.Touched.{after_parts}
 use Rattle.sd_state.proofs.Openings.{opening_runs_none}
-use Rattle.sd_sound.specs.Causes.{IsCause}
-use Rattle.sd_sound.proofs.Found.{runner_found}
-use Rattle.sd_sound.proofs.Ready.{kept_reached, reached_ready, ready_cause}
-use Rattle.sd_sound.proofs.Whole.{running_on}
+use Rattle.sd_frames.specs.Causes.{IsCause}
+use Rattle.sd_frames.proofs.Found.{runner_found}
+use Rattle.sd_invariants.proofs.Ready.{kept_reached, reached_ready, ready_cause}
+use Rattle.sd_invariants.proofs.Whole.{running_on}
 use Rattle.sd_footprint.specs.Changed.{ChangesOnly, MovesWithin, RanThere}
 use Rattle.sd_footprint.proofs.EffectLemmas.{EndsHere, after_changes}
 

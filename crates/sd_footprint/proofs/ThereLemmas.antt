@@ -23,8 +23,8 @@ use Rattle.sd_footprint.specs.There.{IsThere, StandsThere}
 use Rattle.sd_range.specs.There.{CpusAreThere, ThreadsAreThere}
 use Rattle.sd_range.proofs.All.{cpus_law, threads_law}
 use Rattle.sd_range.proofs.Named.{set_of_there}
-use Rattle.sd_sound.specs.Laws.{OpenHold}
-use Rattle.sd_sound.proofs.Whole.{is_fit, reached_whole}
+use Rattle.sd_invariants.specs.Laws.{OpenHold}
+use Rattle.sd_invariants.proofs.Whole.{is_fit, reached_whole}
 use Rattle.sd_store.specs.declared.parts.Part.{Part}
 use Rattle.sd_store.specs.Parts.{IsAmong, ready_parts}
 

@@ -20,12 +20,12 @@ use Rattle.sd_state.specs.Operations.{script_of}
 use Rattle.sd_state.specs.States.{thread_of}
 use Rattle.sd_machine.specs.Events.{after}
 use Rattle.sd_machine.specs.Threads.{runner, best_waiter}
-use Rattle.sd_sound.specs.Causes.{wants, IsCause}
-use Rattle.sd_sound.proofs.AgreedAfter.{IsReady}
-use Rattle.sd_sound.proofs.Found.{runner_found, waiter_found}
-use Rattle.sd_sound.proofs.OpTable.{op_part, Finished, after_ops}
-use Rattle.sd_sound.proofs.ScriptLemmas.{waits_here, ender_in}
-use Rattle.sd_sound.proofs.Words.{Same}
+use Rattle.sd_frames.specs.Causes.{wants, IsCause}
+use Rattle.sd_invariants.proofs.AgreedAfter.{IsReady}
+use Rattle.sd_frames.proofs.Found.{runner_found, waiter_found}
+use Rattle.sd_frames.proofs.OpTable.{op_part, Finished, after_ops}
+use Rattle.sd_invariants.proofs.ScriptLemmas.{waits_here, ender_in}
+use Rattle.sd_frames.proofs.Words.{Same}
 use Rattle.sd_history.specs.Laws.{is_sema_p, is_sema_v, ops_done}
 use Rattle.sd_history.proofs.Counts.{ones}
 

@@ -10,9 +10,9 @@ use Rattle.sd_state.specs.Opening.{opening}
 use Rattle.sd_machine.specs.Events.{after}
 use Rattle.sd_machine.specs.Runs.{final, IsRun, IsRunFrom, IsReached}
 use Rattle.sd_machine.proofs.RunLemmas.{final-append, IsRun-from, from-IsRun, IsRunFrom-front, IsRunFrom-rest}
-use Rattle.sd_sound.specs.Causes.{IsCause}
-use Rattle.sd_sound.proofs.AgreedAfter.{IsReady}
-use Rattle.sd_sound.proofs.Ready.{ready_cause, next_ready, reached_ready}
+use Rattle.sd_frames.specs.Causes.{IsCause}
+use Rattle.sd_invariants.proofs.AgreedAfter.{IsReady}
+use Rattle.sd_invariants.proofs.Ready.{ready_cause, next_ready, reached_ready}
 
 -- P holds after each event of which Q holds, where it held before
 pub record IsCarried (w : Work) (P : State → Type 0) (Q : Event → Type 0) : Type 0 where

@@ -37,17 +37,17 @@ use Rattle.sd_machine.specs.Runs.{final, IsRunFrom}
 use Rattle.sd_machine.specs.SetChanges.{cleared, assigned}
 use Rattle.sd_machine.specs.Threads.{count_of, best_sleeper, runner}
 use Rattle.sd_machine.proofs.RunLemmas.{IsRun-from}
-use Rattle.sd_sound.specs.Causes.{IsCause}
-use Rattle.sd_sound.specs.Laws.{HoldsWhenReached}
-use Rattle.sd_sound.specs.Moves.{Step, step_of}
-use Rattle.sd_sound.specs.Moves.Step.{Stay, Go}
-use Rattle.sd_sound.proofs.AgreedAfter.{IsReady, named_inside}
-use Rattle.sd_sound.proofs.FieldWords as F
-use Rattle.sd_sound.proofs.PlaceTable.{Stepped}
-use Rattle.sd_sound.proofs.Ready.{kept_reached, next_ready, opening_ready, ready_cause}
-use Rattle.sd_sound.proofs.SideFields.{after_keeps}
-use Rattle.sd_sound.proofs.Works.{op_named}
-use Rattle.sd_sound.proofs.SemaphoreLemmas.{finish_counts, close_counts, joined_counts}
+use Rattle.sd_frames.specs.Causes.{IsCause}
+use Rattle.sd_invariants.specs.Laws.{HoldsWhenReached}
+use Rattle.sd_frames.specs.Moves.{Step, step_of}
+use Rattle.sd_frames.specs.Moves.Step.{Stay, Go}
+use Rattle.sd_invariants.proofs.AgreedAfter.{IsReady, named_inside}
+use Rattle.sd_frames.proofs.FieldWords as F
+use Rattle.sd_frames.proofs.PlaceTable.{Stepped}
+use Rattle.sd_invariants.proofs.Ready.{kept_reached, next_ready, opening_ready, ready_cause}
+use Rattle.sd_frames.proofs.SideFields.{after_keeps}
+use Rattle.sd_invariants.proofs.Works.{op_named}
+use Rattle.sd_invariants.proofs.SemaphoreLemmas.{finish_counts, close_counts, joined_counts}
 use Rattle.sd_history.specs.Laws.{put_to_sleep, runs_or_is_runnable, is_taken, is_counted_up, declared_count, chan_kind, SemaphoresAreCounted, SleepersWaitAtZero}
 use Rattle.sd_history.proofs.Runnable.{IsLiveStep, live_step, steps_after}
 use Rattle.sd_history.proofs.Sleepers.{sleeps, someone_asleep}

@@ -31,14 +31,14 @@ use Rattle.sd_machine.specs.Changes.{back_key, place_put}
 use Rattle.sd_machine.specs.Events.{after}
 use Rattle.sd_machine.specs.Runs.{final, IsReached}
 use Rattle.sd_machine.specs.Threads.{thread_id, count_of, best_sleeper, is_asleep, is_asleep_below, is_waiting_at, is_due}
-use Rattle.sd_sound.specs.Causes.{IsCause}
-use Rattle.sd_sound.specs.Laws.{woken_by, HoldsWhenReached}
-use Rattle.sd_sound.specs.Moves.Step.{Go}
-use Rattle.sd_sound.proofs.AgreedAfter.{IsReady}
-use Rattle.sd_sound.proofs.Found.{runner_found, waiter_found, sleeper_found, sleeper_below_found, due_found}
-use Rattle.sd_sound.proofs.PlaceTable.{Stepped}
-use Rattle.sd_sound.proofs.Ready.{kept_reached}
-use Rattle.sd_sound.proofs.Works.{op_named}
+use Rattle.sd_frames.specs.Causes.{IsCause}
+use Rattle.sd_invariants.specs.Laws.{woken_by, HoldsWhenReached}
+use Rattle.sd_frames.specs.Moves.Step.{Go}
+use Rattle.sd_invariants.proofs.AgreedAfter.{IsReady}
+use Rattle.sd_frames.proofs.Found.{runner_found, waiter_found, sleeper_found, sleeper_below_found, due_found}
+use Rattle.sd_frames.proofs.PlaceTable.{Stepped}
+use Rattle.sd_invariants.proofs.Ready.{kept_reached}
+use Rattle.sd_invariants.proofs.Works.{op_named}
 use Rattle.sd_history.specs.Laws.{put_to_sleep, finds_nobody, chan_kind, declared_count, is_taken, is_counted_up, is_sema_p, is_sema_v, thread_numbers, ops_done, sleepers_on, SemaphoresBalance, SemaphoreWaitersSleepUntilHanded, SleepersWaitAtZero}
 use Rattle.sd_history.proofs.Balance.{ends_one, grows, in_work, p_blind, v_blind, sums_above, sums_put}
 use Rattle.sd_history.proofs.Carried.{IsCarried, carried_from, met_from, reached_at, split}

@@ -50,14 +50,14 @@ use Rattle.sd_machine.specs.Prioritising.{answer_to, new_class, walk_from, chang
 use Rattle.sd_machine.specs.Conditions.{cv_waited}
 use Rattle.sd_machine.specs.SetChanges.{cleared, assigned, joined, rebound, pbound}
 use Rattle.sd_machine.specs.Events.{keeps_ageing, dropped_duty, drop_ageing, effect, after}
-use Rattle.sd_sound.specs.Causes.{IsCause}
-use Rattle.sd_sound.specs.Laws.{HoldsWhenReached}
-use Rattle.sd_sound.proofs.CpuWords as C
-use Rattle.sd_sound.proofs.LockTable as T
-use Rattle.sd_sound.proofs.LockTable.{duty_part, duty_marks}
-use Rattle.sd_sound.proofs.Parts.{put_item, set_past}
-use Rattle.sd_sound.proofs.Ready.{kept_reached}
-use Rattle.sd_sound.proofs.Works.{op_named}
+use Rattle.sd_frames.specs.Causes.{IsCause}
+use Rattle.sd_invariants.specs.Laws.{HoldsWhenReached}
+use Rattle.sd_frames.proofs.CpuWords as C
+use Rattle.sd_frames.proofs.LockTable as T
+use Rattle.sd_frames.proofs.LockTable.{duty_part, duty_marks}
+use Rattle.sd_frames.proofs.Parts.{put_item, set_past}
+use Rattle.sd_invariants.proofs.Ready.{kept_reached}
+use Rattle.sd_invariants.proofs.Works.{op_named}
 use Rattle.sd_history.specs.Laws.{chan_kind}
 
 -- a duty to wake sleepers

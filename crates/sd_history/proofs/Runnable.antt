@@ -27,14 +27,14 @@ use Rattle.sd_machine.specs.Changes.{back_key, queue_place, place_put}
 use Rattle.sd_machine.specs.Events.{after}
 use Rattle.sd_machine.specs.Runs.{final}
 use Rattle.sd_machine.specs.Threads.{set_of, eff_of}
-use Rattle.sd_sound.specs.Causes.{IsCause}
-use Rattle.sd_sound.specs.Laws.{woken_by, is_runnable}
-use Rattle.sd_sound.specs.Moves.{Step, put_step_if, woken_step, reordered_step, aged_step, prio_step, bind_step, step_of}
-use Rattle.sd_sound.specs.Moves.Step.{Stay, Go}
-use Rattle.sd_sound.proofs.AgreedAfter.{IsReady}
-use Rattle.sd_sound.proofs.Movers.{mover_there}
-use Rattle.sd_sound.proofs.PlaceTable.{Stepped, after_steps, step_needs}
-use Rattle.sd_sound.proofs.WokenLemmas.{woken_after}
+use Rattle.sd_frames.specs.Causes.{IsCause}
+use Rattle.sd_invariants.specs.Laws.{woken_by, is_runnable}
+use Rattle.sd_frames.specs.Moves.{Step, put_step_if, woken_step, reordered_step, aged_step, prio_step, bind_step, step_of}
+use Rattle.sd_frames.specs.Moves.Step.{Stay, Go}
+use Rattle.sd_invariants.proofs.AgreedAfter.{IsReady}
+use Rattle.sd_invariants.proofs.Movers.{mover_there}
+use Rattle.sd_frames.proofs.PlaceTable.{Stepped, after_steps, step_needs}
+use Rattle.sd_invariants.proofs.WokenLemmas.{woken_after}
 use Rattle.sd_history.specs.Laws.{stopped_by, runs_or_is_runnable, WakesAreCounted, WokenStayRunnable}
 use Rattle.sd_history.proofs.Carried.{IsCarried, carried_from, split}
 

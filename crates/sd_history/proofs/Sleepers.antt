@@ -35,15 +35,15 @@ use Rattle.sd_machine.specs.Requeueing.{requeue}
 use Rattle.sd_machine.specs.Runs.{final}
 use Rattle.sd_machine.specs.SetChanges.{bound_put, unbound_put, bind_put, bind_to}
 use Rattle.sd_machine.specs.Threads.{best_sleeper, is_asleep, is_ts, next_to_age, runner, eff_of}
-use Rattle.sd_sound.specs.Causes.{IsRequeuedAt, IsAnswered, IsCause}
-use Rattle.sd_sound.specs.Laws.{woken_by}
-use Rattle.sd_sound.specs.Moves.{Step, put_step_if, reordered_step, aged_step, prio_step, bind_step, step_of}
-use Rattle.sd_sound.specs.Moves.Step.{Stay, Go}
-use Rattle.sd_sound.proofs.AgreedAfter.{IsReady}
-use Rattle.sd_sound.proofs.Found.{runner_found, ready_found, queued_found, unbound_found, age_found}
-use Rattle.sd_sound.proofs.Movers.{bind_put_is, kept_stays, behind_goes, anew_goes}
-use Rattle.sd_sound.proofs.PlaceTable.{Stepped}
-use Rattle.sd_sound.proofs.Searches.{sleeper_some}
+use Rattle.sd_frames.specs.Causes.{IsRequeuedAt, IsAnswered, IsCause}
+use Rattle.sd_invariants.specs.Laws.{woken_by}
+use Rattle.sd_frames.specs.Moves.{Step, put_step_if, reordered_step, aged_step, prio_step, bind_step, step_of}
+use Rattle.sd_frames.specs.Moves.Step.{Stay, Go}
+use Rattle.sd_invariants.proofs.AgreedAfter.{IsReady}
+use Rattle.sd_frames.proofs.Found.{runner_found, ready_found, queued_found, unbound_found, age_found}
+use Rattle.sd_invariants.proofs.Movers.{bind_put_is, kept_stays, behind_goes, anew_goes}
+use Rattle.sd_frames.proofs.PlaceTable.{Stepped}
+use Rattle.sd_frames.proofs.Searches.{sleeper_some}
 use Rattle.sd_history.specs.Laws.{put_to_sleep, finds_nobody, SleepersSleepUntilWoken, WaitersSleepUntilWoken}
 use Rattle.sd_history.proofs.Carried.{IsCarried, IsMet, carried_from, met_from, split}
 use Rattle.sd_history.proofs.Runnable.{steps_after}

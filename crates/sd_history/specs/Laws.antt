@@ -26,7 +26,7 @@ use Rattle.sd_machine.specs.Accounts.{is_wake, entries_of}
 use Rattle.sd_machine.specs.Changes.{back_key}
 use Rattle.sd_machine.specs.Runs.{final, IsRun}
 use Rattle.sd_machine.specs.Threads.{count_of, is_asleep}
-use Rattle.sd_sound.specs.Laws.{woken_by, is_runnable}
+use Rattle.sd_invariants.specs.Laws.{woken_by, is_runnable}
 
 -- Woken threads.
 

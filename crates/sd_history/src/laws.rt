@@ -1,7 +1,7 @@
 //! Laws of the entries of a run so far, each as the contract of a function without a body.
 
 ghost use Rattle.sd_history.specs.Laws.{SemaphoresAreBounded, SemaphoresAreCounted, SemaphoresBalance, SemaphoreWaitersSleepUntilHanded, SleepersSleepUntilWoken, SleepersWaitAtZero, WaitersSleepUntilWoken, WakesAreCounted, WokenStayRunnable};
-ghost use Rattle.sd_sound.specs.Laws.{HoldsWhenReached};
+ghost use Rattle.sd_invariants.specs.Laws.{HoldsWhenReached};
 
 /// The accounts count an entry as a wake of a thread exactly where its event wakes that thread: after a nap, a sleep or a
 /// wait for a lock. The summary counts an entry as a wake exactly where its event wakes a thread.

@@ -31,12 +31,12 @@ use Rattle.sd_machine.specs.Prioritising.{answer_to, new_class, walk_from, chang
 use Rattle.sd_machine.specs.LockGraph.{wait_of, walk_of}
 use Rattle.sd_machine.specs.Events.{dropped_duty, drop_ageing, effect, after}
 use Rattle.sd_machine.proofs.ShapeLemmas.{IsShaped, then_shape, set_class_shape, set_number_shape, set_looped_shape, reordered_shape}
-use Rattle.sd_sound.proofs.CpuWords as C
-use Rattle.sd_sound.proofs.LockTable as T
-use Rattle.sd_sound.proofs.LockTable.{duty_part, duty_marks}
-use Rattle.sd_sound.proofs.Parts.{same_put, put_same, same_is_put}
-use Rattle.sd_sound.proofs.PassLemmas.{drop_duties}
-use Rattle.sd_sound.proofs.ReleaseLemmas.{drop_shape}
+use Rattle.sd_frames.proofs.CpuWords as C
+use Rattle.sd_frames.proofs.LockTable as T
+use Rattle.sd_frames.proofs.LockTable.{duty_part, duty_marks}
+use Rattle.sd_frames.proofs.Parts.{same_put, put_same, same_is_put}
+use Rattle.sd_frames.proofs.PassLemmas.{drop_duties}
+use Rattle.sd_frames.proofs.ReleaseLemmas.{drop_shape}
 use Rattle.sd_inheritance.proofs.Fields.{same_threads}
 use Rattle.sd_inheritance.proofs.WalkTable.{walk_part, walk_marks, Walks, drop_walks}
 

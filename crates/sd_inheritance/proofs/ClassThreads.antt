@@ -44,9 +44,9 @@ use Rattle.sd_machine.specs.Prioritising.{answer_to, new_class, changed_by, chan
 use Rattle.sd_machine.specs.Conditions.{cv_waited, sema_taken, sema_counted, sema_handed}
 use Rattle.sd_machine.specs.SetChanges.{cleared, assigned, moved, rebound, pbound}
 use Rattle.sd_machine.specs.Events.{drop_ageing, effect, after}
-use Rattle.sd_sound.proofs.HoldTable.{body_same}
-use Rattle.sd_sound.proofs.Parts.{same_item}
-use Rattle.sd_sound.proofs.Words.{Same, all_same, then_same, lock_same, count_same, set_duty_same, count_tick_same, clear_marks_same, set_mark_same, close_same, idled_same, walk_ended_same, joined_same, mark_over_same, remark_same, cleared_same, called_back_same, walk_from_same, release_from_same, unblocked_on_same, roused_on_same, passed_same}
+use Rattle.sd_frames.proofs.HoldTable.{body_same}
+use Rattle.sd_frames.proofs.Parts.{same_item}
+use Rattle.sd_frames.proofs.Words.{Same, all_same, then_same, lock_same, count_same, set_duty_same, count_tick_same, clear_marks_same, set_mark_same, close_same, idled_same, walk_ended_same, joined_same, mark_over_same, remark_same, cleared_same, called_back_same, walk_from_same, release_from_same, unblocked_on_same, roused_on_same, passed_same}
 
 abbrev pub class_part : ThreadState → ClassState
 class_part x = x.body.class

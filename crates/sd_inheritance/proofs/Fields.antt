@@ -5,7 +5,7 @@ use Rattle.sd_state.specs.declared.states.ThreadState.{ThreadState}
 use Rattle.sd_state.specs.declared.states.State.{State}
 use Rattle.sd_machine.specs.Changes.{set_duty}
 use Rattle.sd_machine.specs.Events.{drop_ageing}
-use Rattle.sd_sound.proofs.Words.{Same, set_duty_same}
+use Rattle.sd_frames.proofs.Words.{Same, set_duty_same}
 
 pub same_threads : (s : State) (c : ℕ) (e : Event) → (drop_ageing s c e).threads ≡ s.threads
 unfolding drop_ageing set_duty

@@ -24,8 +24,8 @@ use Rattle.sd_machine.specs.Changes.{back_key}
 use Rattle.sd_machine.specs.Walking.{next_walk}
 use Rattle.sd_machine.specs.LockGraph.{wait_of, owner_of, walk_of, graph}
 use Rattle.sd_machine.specs.Events.{after}
-use Rattle.sd_sound.specs.Causes.{IsCause}
-use Rattle.sd_sound.proofs.Ready.{ready_cause, maker_inside}
+use Rattle.sd_frames.specs.Causes.{IsCause}
+use Rattle.sd_invariants.proofs.Ready.{ready_cause, maker_inside}
 use Rattle.sd_inheritance.specs.Laws.{Closes, WalkGoesOn, WalksGoOn, WalksEndAtUnowned}
 use Rattle.sd_inheritance.proofs.Begun.{will_duty, end_duty}
 use Rattle.sd_inheritance.proofs.Runs.{Steps, IsChained, reached_chained, step_after}

@@ -35,25 +35,26 @@ use Rattle.sd_machine.specs.Changes.{back_key, place_put, set_duty}
 use Rattle.sd_machine.specs.Locking.{side_of, others_waiting, granted, granted_to_writer, granted_to_reader, one_reader_more}
 use Rattle.sd_machine.specs.LockGraph.{wait_of, owner_of, walk_of, graph}
 use Rattle.sd_machine.specs.Events.{dropped_duty, drop_ageing, effect, after}
-use Rattle.sd_sound.specs.Causes.{IsCause}
-use Rattle.sd_sound.specs.Holding.{lock_state, pass_of, table}
-use Rattle.sd_sound.specs.Moves.{step_of}
-use Rattle.sd_sound.specs.Moves.Step.{Go}
-use Rattle.sd_sound.proofs.AgreedAfter.{IsReady, lock_inside, not_free_passing, enter_locks, write_locks, block_locks, holds_it}
-use Rattle.sd_sound.proofs.AgreedEvents.{lock_named}
-use Rattle.sd_sound.proofs.CpuWords as C
-use Rattle.sd_sound.proofs.Found.{runner_found, waiter_found}
-use Rattle.sd_sound.proofs.HoldTable.{numbers_part, numbers_moves, numbers_ops, looped_part, looped_moves, looped_ops, Goes, owned_numbers, owned_looped, exited_numbers, exited_looped, cv_waited_numbers, cv_waited_looped, granted_to_writer_numbers, granted_to_writer_looped, granted_to_reader_numbers, granted_to_reader_looped}
-use Rattle.sd_sound.proofs.LockTable as T
-use Rattle.sd_sound.proofs.Parts.{put_item, same_item, same_is_put}
-use Rattle.sd_sound.proofs.PassLemmas.{drop_duties, Woken, unblock_outcome}
-use Rattle.sd_sound.proofs.PassLemmas.Woken.{more, last}
-use Rattle.sd_sound.proofs.PlaceTable.{Stepped}
-use Rattle.sd_sound.proofs.ReleaseLemmas.{Outcome, drop_shape, exit_outcome, cv_wait_outcome}
-use Rattle.sd_sound.proofs.ReleaseLemmas.Outcome.{freed, passed_on, fewer, left, nothing}
-use Rattle.sd_sound.proofs.ScriptLemmas.{is_waiter, waits_here, put_no_waiter, away_after}
-use Rattle.sd_sound.proofs.Movers.{mover_of}
-use Rattle.sd_sound.proofs.Words.{Same, then_same, plain_same}
+use Rattle.sd_frames.specs.Causes.{IsCause}
+use Rattle.sd_frames.specs.Passing.{pass_of}
+use Rattle.sd_invariants.specs.Holding.{lock_state, table}
+use Rattle.sd_frames.specs.Moves.{step_of}
+use Rattle.sd_frames.specs.Moves.Step.{Go}
+use Rattle.sd_invariants.proofs.AgreedAfter.{IsReady, lock_inside, not_free_passing, enter_locks, write_locks, block_locks, holds_it}
+use Rattle.sd_invariants.proofs.AgreedEvents.{lock_named}
+use Rattle.sd_frames.proofs.CpuWords as C
+use Rattle.sd_frames.proofs.Found.{runner_found, waiter_found}
+use Rattle.sd_frames.proofs.HoldTable.{numbers_part, numbers_moves, numbers_ops, looped_part, looped_moves, looped_ops, Goes, owned_numbers, owned_looped, exited_numbers, exited_looped, cv_waited_numbers, cv_waited_looped, granted_to_writer_numbers, granted_to_writer_looped, granted_to_reader_numbers, granted_to_reader_looped}
+use Rattle.sd_frames.proofs.LockTable as T
+use Rattle.sd_frames.proofs.Parts.{put_item, same_item, same_is_put}
+use Rattle.sd_frames.proofs.PassLemmas.{drop_duties, Woken, unblock_outcome}
+use Rattle.sd_frames.proofs.PassLemmas.Woken.{more, last}
+use Rattle.sd_frames.proofs.PlaceTable.{Stepped}
+use Rattle.sd_frames.proofs.ReleaseLemmas.{Outcome, drop_shape, exit_outcome, cv_wait_outcome}
+use Rattle.sd_frames.proofs.ReleaseLemmas.Outcome.{freed, passed_on, fewer, left, nothing}
+use Rattle.sd_invariants.proofs.ScriptLemmas.{is_waiter, waits_here, put_no_waiter, away_after}
+use Rattle.sd_invariants.proofs.Movers.{mover_of}
+use Rattle.sd_frames.proofs.Words.{Same, then_same, plain_same}
 use Rattle.sd_inheritance.proofs.Begun.{duty_walk, walks_then, none_walks, block_walk}
 use Rattle.sd_inheritance.proofs.ClassThreads.{after_but}
 use Rattle.sd_inheritance.proofs.Exact.{exact_waiting}

@@ -26,19 +26,20 @@ use Rattle.sd_machine.specs.Changes.{set_duty}
 use Rattle.sd_machine.specs.Locking.{one_more}
 use Rattle.sd_machine.specs.LockGraph.{wait_of, owner_of, graph}
 use Rattle.sd_machine.specs.Events.{drop_ageing, effect, after}
-use Rattle.sd_sound.specs.Causes.{IsCause}
-use Rattle.sd_sound.specs.Holding.{lock_state, pass_of}
-use Rattle.sd_sound.specs.Moves.{Step, step_of}
-use Rattle.sd_sound.proofs.AgreedAfter.{IsReady, read_locks}
-use Rattle.sd_sound.proofs.Found.{runner_found, age_found}
-use Rattle.sd_sound.proofs.HoldTable.{numbers_part, numbers_moves, numbers_ops, looped_part, looped_moves, looped_ops, Goes, read_numbers, read_looped, pbound_numbers, pbound_looped}
-use Rattle.sd_sound.proofs.LockTable.{is_lockless, quiet_locks}
-use Rattle.sd_sound.proofs.Movers.{ends_wait, mover_of, mover_there}
-use Rattle.sd_sound.proofs.PassLemmas.{Passed as WasPassed, pass_outcome}
-use Rattle.sd_sound.proofs.PassLemmas.Passed.{to_readers, writer_next, to_nobody, otherwise}
-use Rattle.sd_sound.proofs.PlaceTable.{Stepped, step_needs, after_steps}
-use Rattle.sd_sound.proofs.ScriptLemmas.{is_waiter, runs_no_waiter, is_blocking, StepAway, step_away, away_after}
-use Rattle.sd_sound.proofs.Words.{Same, then_same, is_plain, plain_same}
+use Rattle.sd_frames.specs.Causes.{IsCause}
+use Rattle.sd_frames.specs.Passing.{pass_of}
+use Rattle.sd_invariants.specs.Holding.{lock_state}
+use Rattle.sd_frames.specs.Moves.{Step, step_of}
+use Rattle.sd_invariants.proofs.AgreedAfter.{IsReady, read_locks}
+use Rattle.sd_frames.proofs.Found.{runner_found, age_found}
+use Rattle.sd_frames.proofs.HoldTable.{numbers_part, numbers_moves, numbers_ops, looped_part, looped_moves, looped_ops, Goes, read_numbers, read_looped, pbound_numbers, pbound_looped}
+use Rattle.sd_frames.proofs.LockTable.{is_lockless, quiet_locks}
+use Rattle.sd_invariants.proofs.Movers.{ends_wait, mover_of, mover_there}
+use Rattle.sd_frames.proofs.PassLemmas.{Passed as WasPassed, pass_outcome}
+use Rattle.sd_frames.proofs.PassLemmas.Passed.{to_readers, writer_next, to_nobody, otherwise}
+use Rattle.sd_frames.proofs.PlaceTable.{Stepped, step_needs, after_steps}
+use Rattle.sd_invariants.proofs.ScriptLemmas.{is_waiter, runs_no_waiter, is_blocking, StepAway, step_away, away_after}
+use Rattle.sd_frames.proofs.Words.{Same, then_same, is_plain, plain_same}
 use Rattle.sd_inheritance.proofs.ClassThreads.{But, class_thread, after_but}
 use Rattle.sd_inheritance.proofs.Fields.{dropped_same}
 use Rattle.sd_inheritance.proofs.Views.{away_waits, quiet_waits, same_owners, kept_owners, same_willed, same_eff}

@@ -37,10 +37,10 @@ use Rattle.sd_machine.specs.LockGraph.{wait_of, owner_of, walk_of, number_at, gr
 use Rattle.sd_machine.specs.Events.{next, after}
 use Rattle.sd_machine.specs.Runs.{final, IsRun, IsRunFrom, IsReached}
 use Rattle.sd_machine.proofs.RunLemmas.{final-append, IsRun-from, from-IsRun, IsRunFrom-front, IsRunFrom-rest}
-use Rattle.sd_sound.specs.Causes.{IsCause}
-use Rattle.sd_sound.proofs.AgreedAfter.{IsReady}
-use Rattle.sd_sound.proofs.FineLemmas.{fine_reached}
-use Rattle.sd_sound.proofs.Ready.{ready_cause, maker_inside, next_ready, opening_ready}
+use Rattle.sd_frames.specs.Causes.{IsCause}
+use Rattle.sd_invariants.proofs.AgreedAfter.{IsReady}
+use Rattle.sd_invariants.proofs.FineLemmas.{fine_reached}
+use Rattle.sd_invariants.proofs.Ready.{ready_cause, maker_inside, next_ready, opening_ready}
 use Rattle.sd_inheritance.specs.Laws.{InheritanceIsLocal, WalksLeadOn, OwnersHaveChainMaximum, PrioritiesAreMaxima, CyclesStay, CyclicThreadsStay, MaximaWithoutCycles}
 use Rattle.sd_inheritance.proofs.Exact.{is_eff}
 use Rattle.sd_inheritance.proofs.LockMoves.{IsGivenUp, IsGiven, block_move, enter_move, write_move, exit_move, cv_wait_move, unblock_move, grant_move}

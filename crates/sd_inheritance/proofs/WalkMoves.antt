@@ -32,15 +32,15 @@ use Rattle.sd_machine.specs.Changes.{set_duty}
 use Rattle.sd_machine.specs.Walking.{is_back, next_walk}
 use Rattle.sd_machine.specs.LockGraph.{wait_of, owner_of, walk_of, graph}
 use Rattle.sd_machine.specs.Events.{dropped_duty, drop_ageing, effect, after}
-use Rattle.sd_sound.specs.Causes.{IsCause}
-use Rattle.sd_sound.specs.Moves.{step_of}
-use Rattle.sd_sound.proofs.AgreedAfter.{IsReady}
-use Rattle.sd_sound.proofs.HoldTable.{numbers_part, numbers_moves, numbers_ops, looped_part, looped_moves, looped_ops, Goes, willed_numbers, willed_looped}
-use Rattle.sd_sound.proofs.LockTable.{quiet_locks}
-use Rattle.sd_sound.proofs.Movers.{mover_of, owner_thread}
-use Rattle.sd_sound.proofs.PassLemmas.{drop_duties}
-use Rattle.sd_sound.proofs.ScriptLemmas.{step_away}
-use Rattle.sd_sound.proofs.Words.{Same, plain_same}
+use Rattle.sd_frames.specs.Causes.{IsCause}
+use Rattle.sd_frames.specs.Moves.{step_of}
+use Rattle.sd_invariants.proofs.AgreedAfter.{IsReady}
+use Rattle.sd_frames.proofs.HoldTable.{numbers_part, numbers_moves, numbers_ops, looped_part, looped_moves, looped_ops, Goes, willed_numbers, willed_looped}
+use Rattle.sd_frames.proofs.LockTable.{quiet_locks}
+use Rattle.sd_invariants.proofs.Movers.{mover_of, owner_thread}
+use Rattle.sd_frames.proofs.PassLemmas.{drop_duties}
+use Rattle.sd_invariants.proofs.ScriptLemmas.{step_away}
+use Rattle.sd_frames.proofs.Words.{Same, plain_same}
 use Rattle.sd_inheritance.proofs.Begun.{WalkIs, duty_walk, none_walks, begun, prio_walk, refused_prio_walks, will_duty, end_duty}
 use Rattle.sd_inheritance.proofs.ClassThreads.{after_but}
 use Rattle.sd_inheritance.proofs.Exact.{exact_waiting}

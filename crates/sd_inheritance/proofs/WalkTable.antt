@@ -35,10 +35,10 @@ use Rattle.sd_machine.specs.Conditions.{cv_waited}
 use Rattle.sd_machine.specs.SetChanges.{cleared, assigned, joined, rebound, pbound}
 use Rattle.sd_machine.specs.LockGraph.{walk_of}
 use Rattle.sd_machine.specs.Events.{keeps_ageing, dropped_duty, drop_ageing, effect, after}
-use Rattle.sd_sound.specs.Causes.{IsFree, IsCause}
-use Rattle.sd_sound.proofs.CpuWords as C
-use Rattle.sd_sound.proofs.LockTable as T
-use Rattle.sd_sound.proofs.LockTable.{duty_part, duty_marks}
+use Rattle.sd_frames.specs.Causes.{IsFree, IsCause}
+use Rattle.sd_frames.proofs.CpuWords as C
+use Rattle.sd_frames.proofs.LockTable as T
+use Rattle.sd_frames.proofs.LockTable.{duty_part, duty_marks}
 
 abbrev pub walk_part : CpuState → Option G.Walk
 walk_part x = walk_of x.duty

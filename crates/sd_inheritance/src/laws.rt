@@ -1,7 +1,7 @@
 //! Laws of priority inheritance, each as the contract of a function without a body.
 
 ghost use Rattle.sd_inheritance.specs.Laws.{CyclesStay, CyclicThreadsStay, InheritanceIsLocal, MaximaWithoutCycles, OwnersHaveChainMaximum, PrioritiesAreMaxima, WalksEndAtUnowned, WalksGoOn, WalksLeadOn};
-ghost use Rattle.sd_sound.specs.Laws.{HoldsAfterEntries, HoldsWhenReached};
+ghost use Rattle.sd_invariants.specs.Laws.{HoldsAfterEntries, HoldsWhenReached};
 
 /// A thread inherits only through locks that it owns. For each lock whose owner is in no blocking cycle and at which no
 /// walk stands, the owner inherits exactly the greatest effective priority of the lock's waiters, and nothing where

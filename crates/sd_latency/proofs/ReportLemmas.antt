@@ -10,7 +10,7 @@ use Rattle.sd_state.specs.Opening.{opening}
 use Rattle.sd_state.specs.States.{cpu_of}
 use Rattle.sd_machine.specs.Runs.{IsReached, IsStep, final}
 use Rattle.sd_machine.proofs.RunLemmas.{IsRun-from, IsRunFrom-front, final-push, from-IsRun, last_number, last_step}
-use Rattle.sd_sound.proofs.Ready.{maker_inside}
+use Rattle.sd_invariants.proofs.Ready.{maker_inside}
 use Rattle.sd_ticks.proofs.Counts.{rise_law}
 use Rattle.sd_stretches.specs.Changes.{woken_by}
 use Rattle.sd_latency.specs.Laws.{TicksAreReported}

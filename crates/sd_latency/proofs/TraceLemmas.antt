@@ -15,7 +15,7 @@ use Rattle.sd_state.specs.States.{cpu_of}
 use Rattle.sd_machine.specs.Events.{after, next}
 use Rattle.sd_machine.specs.Runs.{IsRunFrom, final, serial_hints}
 use Rattle.sd_machine.proofs.RunLemmas.{IsRun-from, IsRunFrom-rest, final-append, final-cons}
-use Rattle.sd_sound.proofs.Ready.{maker_inside}
+use Rattle.sd_invariants.proofs.Ready.{maker_inside}
 use Rattle.sd_interleavings.specs.Closed.{IsFresh}
 use Rattle.sd_search.specs.declared.graph.Step.{Step}
 use Rattle.sd_search.specs.Graphs.{IsAt, IsGathered}

@@ -16,10 +16,11 @@ use Rattle.sd_state.specs.declared.states.CpuState.{CpuState}
 use Rattle.sd_state.specs.declared.states.State.{State}
 use Rattle.sd_state.specs.States.{no_cpu, thread_of, cpu_of}
 use Rattle.sd_machine.specs.Threads.{lock_of}
-use Rattle.sd_sound.specs.Holding.{lock_state, pass_of, table}
-use Rattle.sd_sound.specs.Laws.{HoldsWhenReached}
-use Rattle.sd_sound.proofs.AgreedAfter.{IsReady, lock_inside, not_free_passing}
-use Rattle.sd_sound.proofs.Ready.{reached_ready}
+use Rattle.sd_frames.specs.Passing.{pass_of}
+use Rattle.sd_invariants.specs.Holding.{lock_state, table}
+use Rattle.sd_invariants.specs.Laws.{HoldsWhenReached}
+use Rattle.sd_invariants.proofs.AgreedAfter.{IsReady, lock_inside, not_free_passing}
+use Rattle.sd_invariants.proofs.Ready.{reached_ready}
 use Rattle.sd_range.specs.There.{IsDutyThere, IsLockStateThere, ThreadsAreThere, CpusAreThere, LocksAreThere}
 use Rattle.sd_range.proofs.Sets.{sets_are_there}
 use Rattle.sd_range.proofs.Bindings.{bounds_are_there}

@@ -17,13 +17,13 @@ use Rattle.sd_machine.specs.Changes.{set_duty}
 use Rattle.sd_machine.specs.Requeueing.{is_bound_to}
 use Rattle.sd_machine.specs.SetChanges.{pbound}
 use Rattle.sd_machine.specs.Events.{drop_ageing, effect, after}
-use Rattle.sd_sound.specs.Causes.{IsCause}
-use Rattle.sd_sound.specs.Laws.{HoldsWhenReached}
-use Rattle.sd_sound.proofs.Words.{Same}
-use Rattle.sd_sound.proofs.HoldTable.{bound_part, Goes, pbound_bound, refused_bound}
-use Rattle.sd_sound.proofs.BoundLemmas.{threads_same, is_bound_at, first_free}
-use Rattle.sd_sound.proofs.Movers.{bind_thread}
-use Rattle.sd_sound.proofs.Whole.{reached_whole}
+use Rattle.sd_frames.specs.Causes.{IsCause}
+use Rattle.sd_invariants.specs.Laws.{HoldsWhenReached}
+use Rattle.sd_frames.proofs.Words.{Same}
+use Rattle.sd_frames.proofs.HoldTable.{bound_part, Goes, pbound_bound, refused_bound}
+use Rattle.sd_invariants.proofs.BoundLemmas.{threads_same, is_bound_at, first_free}
+use Rattle.sd_invariants.proofs.Movers.{bind_thread}
+use Rattle.sd_invariants.proofs.Whole.{reached_whole}
 use Rattle.sd_range.specs.There.{IsBoundThere, BoundAreCounted}
 use Rattle.sd_range.proofs.Induction.{held_reached}
 use Rattle.sd_range.proofs.Named.{acts_named, bind_cpu}

@@ -18,8 +18,8 @@ use Rattle.sd_state.specs.States.{no_cpu, cpu_of}
 use Rattle.sd_machine.specs.Choosing.{hint_shown}
 use Rattle.sd_machine.specs.Events.{reads, same_which, hints_fit, wish, may_tick, allowed, next}
 use Rattle.sd_machine.specs.Runs.{IsComplete, shown}
-use Rattle.sd_sound.proofs.Whole.{reached_whole}
-use Rattle.sd_sound.proofs.BoundLemmas.{same_id}
+use Rattle.sd_invariants.proofs.Whole.{reached_whole}
+use Rattle.sd_invariants.proofs.BoundLemmas.{same_id}
 use Rattle.sd_range.specs.Complete.{CompleteRunsReachTheLimit}
 
 -- What the state shows of itself fits what is read.

@@ -51,15 +51,15 @@ use Rattle.sd_machine.specs.Conditions.{cv_waited}
 use Rattle.sd_machine.specs.SetChanges.{cleared, assigned, joined, rebound, pbound}
 use Rattle.sd_machine.specs.Events.{keeps_ageing, dropped_duty, drop_ageing, effect, after}
 use Rattle.sd_machine.proofs.ShapeLemmas.{set_duty_shape}
-use Rattle.sd_sound.specs.Causes.{IsCause}
-use Rattle.sd_sound.specs.Laws.{HoldsWhenReached}
-use Rattle.sd_sound.proofs.CpuWords as C
-use Rattle.sd_sound.proofs.LockTable as T
-use Rattle.sd_sound.proofs.LockTable.{duty_part, duty_marks}
-use Rattle.sd_sound.proofs.Found.{runner_found, age_found}
-use Rattle.sd_sound.proofs.Movers.{owner_thread, prio_thread}
-use Rattle.sd_sound.proofs.Parts.{put_item, set_past}
-use Rattle.sd_sound.proofs.Whole.{IsWhole, reached_whole}
+use Rattle.sd_frames.specs.Causes.{IsCause}
+use Rattle.sd_invariants.specs.Laws.{HoldsWhenReached}
+use Rattle.sd_frames.proofs.CpuWords as C
+use Rattle.sd_frames.proofs.LockTable as T
+use Rattle.sd_frames.proofs.LockTable.{duty_part, duty_marks}
+use Rattle.sd_frames.proofs.Found.{runner_found, age_found}
+use Rattle.sd_invariants.proofs.Movers.{owner_thread, prio_thread}
+use Rattle.sd_frames.proofs.Parts.{put_item, set_past}
+use Rattle.sd_invariants.proofs.Whole.{IsWhole, reached_whole}
 use Rattle.sd_range.proofs.Induction.{held_reached}
 use Rattle.sd_range.proofs.Named.{acts_named, sleep_chan, wants_lock}
 use Rattle.sd_range.proofs.Places.{PlacesAreThere, places_are_there}

@@ -11,9 +11,9 @@ use Rattle.sd_state.specs.Opening.{opening}
 use Rattle.sd_machine.specs.Events.{after}
 use Rattle.sd_machine.specs.Runs.{final, IsStep, IsRunFrom, IsReached}
 use Rattle.sd_machine.proofs.RunLemmas.{final-nil, final-push, IsRun-from, from-IsRun, IsRun-nil, IsRunFrom-push}
-use Rattle.sd_sound.specs.Causes.{IsCause}
-use Rattle.sd_sound.specs.Laws.{HoldsWhenReached}
-use Rattle.sd_sound.proofs.Ready.{ready_cause, maker_inside, reached_ready}
+use Rattle.sd_frames.specs.Causes.{IsCause}
+use Rattle.sd_invariants.specs.Laws.{HoldsWhenReached}
+use Rattle.sd_invariants.proofs.Ready.{ready_cause, maker_inside, reached_ready}
 
 pub opening_reached : (w : Work) → IsReached w 0 (opening w)
 opening_reached w = record { entries = []; run = IsRun-nil w; many = refl; ends = final-nil w (opening w) }

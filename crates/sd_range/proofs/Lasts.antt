@@ -53,11 +53,11 @@ use Rattle.sd_machine.specs.Prioritising.{answer_to, new_class, changed_by, chan
 use Rattle.sd_machine.specs.Conditions.{cv_waited, sema_taken, sema_counted, sema_handed}
 use Rattle.sd_machine.specs.SetChanges.{cleared, assigned, moved, rebound, pbound}
 use Rattle.sd_machine.specs.Events.{drop_ageing, effect, after}
-use Rattle.sd_sound.specs.Laws.{HoldsWhenReached}
-use Rattle.sd_sound.proofs.Parts.{same_item, put_item, set_past}
-use Rattle.sd_sound.proofs.Words.{Same, all_same, called_back_same, clear_marks_same, cleared_same, close_same, count_same, count_tick_same, idled_same, joined_same, lock_same, mark_over_same, passed_same, release_from_same, remark_same, roused_on_same, set_duty_same, set_mark_same, then_same, unblocked_on_same, walk_ended_same, walk_from_same}
-use Rattle.sd_sound.proofs.HoldTable.{body_same}
-use Rattle.sd_sound.proofs.Works.{declared}
+use Rattle.sd_invariants.specs.Laws.{HoldsWhenReached}
+use Rattle.sd_frames.proofs.Parts.{same_item, put_item, set_past}
+use Rattle.sd_frames.proofs.Words.{Same, all_same, called_back_same, clear_marks_same, cleared_same, close_same, count_same, count_tick_same, idled_same, joined_same, lock_same, mark_over_same, passed_same, release_from_same, remark_same, roused_on_same, set_duty_same, set_mark_same, then_same, unblocked_on_same, walk_ended_same, walk_from_same}
+use Rattle.sd_frames.proofs.HoldTable.{body_same}
+use Rattle.sd_invariants.proofs.Works.{declared}
 use Rattle.sd_range.proofs.Induction.{held_reached}
 use Rattle.sd_range.proofs.Places.{first_cpu_there, decl_set}
 

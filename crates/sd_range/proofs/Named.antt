@@ -26,9 +26,9 @@ use Rattle.sd_state.specs.Operations.{script_of}
 use Rattle.sd_state.specs.States.{thread_of}
 use Rattle.sd_state.proofs.BestLemmas.{and_right, and_left}
 use Rattle.sd_machine.specs.Threads.{set_of}
-use Rattle.sd_sound.specs.Causes.{Acts, Wants, wants}
-use Rattle.sd_sound.proofs.AgreedAfter.{named_inside}
-use Rattle.sd_sound.proofs.Works.{declared, all_at, op_named}
+use Rattle.sd_frames.specs.Causes.{Acts, Wants, wants}
+use Rattle.sd_invariants.proofs.AgreedAfter.{named_inside}
+use Rattle.sd_invariants.proofs.Works.{declared, all_at, op_named}
 
 -- What passes a test that nothing fails which is not there is there.
 

@@ -41,14 +41,14 @@ use Rattle.sd_machine.specs.Choosing.{cpus_or_bound, cpus_for}
 use Rattle.sd_machine.specs.Requeueing.{is_bound_to, requeue}
 use Rattle.sd_machine.specs.SetChanges.{bound_put, unbound_put, bind_put, bind_to}
 use Rattle.sd_machine.specs.Events.{after}
-use Rattle.sd_sound.specs.Causes.{IsPut, IsRequeuedAt, WakesBest, RousesBest, IsAnswered, IsCause}
-use Rattle.sd_sound.specs.Laws.{HoldsWhenReached, OpenHold}
-use Rattle.sd_sound.specs.Moves.{Step, put_step_if, woken_step, reordered_step, aged_step, prio_step, bind_step, step_of}
-use Rattle.sd_sound.specs.Moves.Step.{Stay, Go}
-use Rattle.sd_sound.proofs.Movers.{bind_put_is, mover_there}
-use Rattle.sd_sound.proofs.PlaceTable.{Stepped, after_steps, step_needs}
-use Rattle.sd_sound.proofs.Whole.{reached_whole}
-use Rattle.sd_sound.proofs.Works.{declared}
+use Rattle.sd_frames.specs.Causes.{IsPut, IsRequeuedAt, WakesBest, RousesBest, IsAnswered, IsCause}
+use Rattle.sd_invariants.specs.Laws.{HoldsWhenReached, OpenHold}
+use Rattle.sd_frames.specs.Moves.{Step, put_step_if, woken_step, reordered_step, aged_step, prio_step, bind_step, step_of}
+use Rattle.sd_frames.specs.Moves.Step.{Stay, Go}
+use Rattle.sd_invariants.proofs.Movers.{bind_put_is, mover_there}
+use Rattle.sd_frames.proofs.PlaceTable.{Stepped, after_steps, step_needs}
+use Rattle.sd_invariants.proofs.Whole.{reached_whole}
+use Rattle.sd_invariants.proofs.Works.{declared}
 use Rattle.sd_range.specs.There.{IsBoundThere, SetsAreOpen, ThreadsHaveCpus}
 use Rattle.sd_range.proofs.Induction.{held_reached}
 use Rattle.sd_range.proofs.Named.{acts_named, sleep_chan, sema_chan, wait_chan, bind_cpu, wants_lock, set_of_there}

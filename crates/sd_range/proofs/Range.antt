@@ -37,19 +37,19 @@ use Rattle.sd_machine.specs.Choosing.{neighbours}
 use Rattle.sd_machine.specs.Events.{next}
 use Rattle.sd_machine.specs.Needs.{IsThread, IsLock, IsChan, IsCpu, IsSet, IsPut, IsPutIf, IsWoken, RunsThere, Runs, CanAct, IsPrioPut, IsUnmoved, IsBindPut, CanUnbind, CanBeChanged, CanBeBound, Needs}
 use Rattle.sd_machine.specs.Runs.{IsReached}
-use Rattle.sd_sound.specs.Causes.{Acts, WakesBest, RousesBest, IsRequeuedAt, IsAnswered, IsCause}
-use Rattle.sd_sound.specs.Holding.{pass_of}
-use Rattle.sd_sound.specs.Laws.{is_in}
-use Rattle.sd_sound.proofs.AgreedAfter.{lock_inside, not_free_passing}
-use Rattle.sd_sound.proofs.BoundLemmas.{is_bound_at}
-use Rattle.sd_sound.proofs.CountLemmas.{ticks_below}
-use Rattle.sd_sound.proofs.Found.{ready_found, queued_found, unbound_found, waiter_found, sleeper_found, due_found, age_found}
-use Rattle.sd_sound.proofs.HoldTable.{bound_part}
-use Rattle.sd_sound.proofs.Movers.{owner_thread, prio_thread, bind_thread, requeued_at_away}
-use Rattle.sd_sound.proofs.OpenLemmas.{join_room}
-use Rattle.sd_sound.proofs.Ready.{ready_cause, maker_inside}
-use Rattle.sd_sound.proofs.ScriptLemmas.{is_waiter}
-use Rattle.sd_sound.proofs.Whole.{IsWhole, reached_whole, threads_most, is_fit, one_more, binds, woken_there, roused_there, receives, inherits, runs_on, acts_on, takes, naps}
+use Rattle.sd_frames.specs.Causes.{Acts, WakesBest, RousesBest, IsRequeuedAt, IsAnswered, IsCause}
+use Rattle.sd_frames.specs.Passing.{pass_of}
+use Rattle.sd_invariants.specs.Laws.{is_in}
+use Rattle.sd_invariants.proofs.AgreedAfter.{lock_inside, not_free_passing}
+use Rattle.sd_invariants.proofs.BoundLemmas.{is_bound_at}
+use Rattle.sd_invariants.proofs.CountLemmas.{ticks_below}
+use Rattle.sd_frames.proofs.Found.{ready_found, queued_found, unbound_found, waiter_found, sleeper_found, due_found, age_found}
+use Rattle.sd_frames.proofs.HoldTable.{bound_part}
+use Rattle.sd_invariants.proofs.Movers.{owner_thread, prio_thread, bind_thread, requeued_at_away}
+use Rattle.sd_invariants.proofs.OpenLemmas.{join_room}
+use Rattle.sd_invariants.proofs.Ready.{ready_cause, maker_inside}
+use Rattle.sd_invariants.proofs.ScriptLemmas.{is_waiter}
+use Rattle.sd_invariants.proofs.Whole.{IsWhole, reached_whole, threads_most, is_fit, one_more, binds, woken_there, roused_there, receives, inherits, runs_on, acts_on, takes, naps}
 use Rattle.sd_range.specs.There.{IsSetThere, IsBoundThere}
 use Rattle.sd_range.proofs.Named.{acts_named, sleep_chan, sema_chan, enter_lock, read_lock, exit_lock, wait_chan, wait_lock, assign_cpu, assign_set, bind_cpu, wants_lock}
 use Rattle.sd_range.proofs.Sets.{SetsAreThere, sets_are_there}

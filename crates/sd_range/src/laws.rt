@@ -3,7 +3,7 @@
 ghost use Rattle.sd_range.specs.Complete.{CompleteRunsReachTheLimit};
 ghost use Rattle.sd_range.specs.Needed.{EventsHaveWhatTheyNeed};
 ghost use Rattle.sd_range.specs.There.{BoundAreCounted, CpusAreThere, LocksAreThere, SetsAreOpen, ThreadsAreThere, ThreadsHaveCpus};
-ghost use Rattle.sd_sound.specs.Laws.{HoldsWhenReached};
+ghost use Rattle.sd_invariants.specs.Laws.{HoldsWhenReached};
 
 /// In every state of every run the place of each thread names a processor, a set, a lock or a channel of the workload;
 /// the processor on which it ran last, the one to which it is bound and the locks that it holds are there.

@@ -21,7 +21,7 @@ use Rattle.sd_machine.specs.Plans.{plan}
 use Rattle.sd_machine.specs.Threads.{open_of}
 use Rattle.sd_machine.specs.Runs.{made, serial_hints, shown, turn}
 use Rattle.sd_part.proofs.PartitionLemmas.{names-from_Contains}
-use Rattle.sd_sound.proofs.Whole.{fit_reached}
+use Rattle.sd_invariants.proofs.Whole.{fit_reached}
 use Rattle.sd_range.proofs.Places.{inside_reached}
 use Rattle.sd_steps.proofs.EnteringLemmas.{serial_event}
 use Rattle.sd_hand.specs.Acting.{IsShown}

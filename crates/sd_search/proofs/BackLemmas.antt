@@ -28,7 +28,7 @@ use Rattle.sd_machine.specs.Changes.{cpu_put}
 use Rattle.sd_machine.specs.Needs.{CanAct, CanBeBound, CanBeChanged, CanBind, CanCount, CanFinish, CanInherit, CanNap, CanReceive, CanUnbind, IsBindPut, IsCpu, IsPrioPut, IsPut, IsPutIf, IsSet, IsThread, IsUnmoved, IsWoken, Needs, Runs, RunsThere, more_fits}
 use Rattle.sd_machine.specs.Sleeping.{nap_ticks}
 use Rattle.sd_machine.specs.Threads.{greatest_waiting, lock_of}
-use Rattle.sd_sound.specs.Laws.{IsFit}
+use Rattle.sd_invariants.specs.Laws.{IsFit}
 use Rattle.sd_store.specs.declared.changes.BodyChange.TheVariants.{FinishOp, Hold, Inherit}
 use Rattle.sd_ordered.specs.Order.{IsSameOrder, key_at}
 use Rattle.sd_ordered.proofs.AlikeLemmas.{body_same, cpu_alike, cpus_many, key_or_zero, place_alike, place_rekeyed, place_with, threads_many}

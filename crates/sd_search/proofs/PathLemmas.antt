@@ -9,8 +9,8 @@ use Rattle.sd_state.specs.declared.states.State.{State}
 use Rattle.sd_state.specs.Opening.{opening}
 use Rattle.sd_machine.specs.Runs.{IsReached, final, round}
 use Rattle.sd_ordered.specs.Order.{IsSameOrder}
-use Rattle.sd_sound.specs.Laws.{IsFit}
-use Rattle.sd_sound.proofs.Whole.{fit_reached}
+use Rattle.sd_invariants.specs.Laws.{IsFit}
+use Rattle.sd_invariants.proofs.Whole.{fit_reached}
 use Rattle.sd_interleavings.specs.Spelled.{IsSpelled, IsTurn, Leads}
 use Rattle.sd_interleavings.proofs.SpelledLemmas.{spelled_law}
 use Rattle.sd_search.specs.declared.graph.Step.{Step}

@@ -11,9 +11,9 @@ use Rattle.sd_state.specs.Opening.{opening}
 use Rattle.sd_machine.specs.Events.{after, next}
 use Rattle.sd_machine.specs.Needs.{Needs}
 use Rattle.sd_machine.specs.Runs.{IsReached, serial_hints}
-use Rattle.sd_sound.specs.Laws.{IsFit}
-use Rattle.sd_sound.proofs.Ready.{maker_inside}
-use Rattle.sd_sound.proofs.Whole.{fit_reached}
+use Rattle.sd_invariants.specs.Laws.{IsFit}
+use Rattle.sd_invariants.proofs.Ready.{maker_inside}
+use Rattle.sd_invariants.proofs.Whole.{fit_reached}
 use Rattle.sd_range.proofs.Induction.{opening_reached, reached_more}
 use Rattle.sd_range.proofs.Range.{needs_reached}
 use Rattle.sd_ordered.specs.Order.{IsSameOrder, KeysFit}

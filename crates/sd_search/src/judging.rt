@@ -3,7 +3,7 @@
 ghost use Rattle.std.specs.Prelude.{◌≡◌, ◌↔◌, ◌<◌, IsTrue, IfOk};
 ghost use Rattle.sd_machine.specs.Runs.{IsComplete};
 ghost use Rattle.sd_search.specs.Questions.{HasPart, IsBlocked, IsStuck, is_left};
-ghost use Rattle.sd_sound.specs.Laws.{IsFit};
+ghost use Rattle.sd_invariants.specs.Laws.{IsFit};
 
 use crate::questions::Question;
 use sd_cycles::cycles;

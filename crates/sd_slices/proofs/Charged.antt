@@ -32,13 +32,13 @@ use Rattle.sd_machine.proofs.RunLemmas.{final-nil}
 use Rattle.sd_state.specs.Invariants.{OneRuns}
 use Rattle.sd_state.proofs.Chosen.{position_fails}
 use Rattle.sd_state.proofs.Openings.{opening_runs_none}
-use Rattle.sd_sound.specs.Causes.{IsCause}
-use Rattle.sd_sound.proofs.AgreedAfter.{IsReady}
-use Rattle.sd_sound.proofs.Found.{runner_found}
-use Rattle.sd_sound.proofs.Movers.{mover_there}
-use Rattle.sd_sound.proofs.PlaceTable.{after_steps, step_needs}
-use Rattle.sd_sound.proofs.Ready.{kept_reached, maker_inside, ready_cause, reached_ready}
-use Rattle.sd_sound.proofs.RunningLemmas.{opening_one, one_kept}
+use Rattle.sd_frames.specs.Causes.{IsCause}
+use Rattle.sd_invariants.proofs.AgreedAfter.{IsReady}
+use Rattle.sd_frames.proofs.Found.{runner_found}
+use Rattle.sd_invariants.proofs.Movers.{mover_there}
+use Rattle.sd_frames.proofs.PlaceTable.{after_steps, step_needs}
+use Rattle.sd_invariants.proofs.Ready.{kept_reached, maker_inside, ready_cause, reached_ready}
+use Rattle.sd_invariants.proofs.RunningLemmas.{opening_one, one_kept}
 use Rattle.sd_range.proofs.Complete.{complete_at_limit}
 use Rattle.sd_ticks.proofs.Counts.{rise_law}
 use Rattle.sd_stretches.specs.declared.changes.Happening.{Happening}

@@ -15,10 +15,10 @@ use Rattle.sd_machine.specs.Runs.{state_at, IsRun}
 use Rattle.sd_machine.proofs.RunLemmas.{final-nil}
 use Rattle.sd_state.specs.Invariants.{OneRuns as AtMostOneRuns}
 use Rattle.sd_state.proofs.Openings.{opening_runs_none}
-use Rattle.sd_sound.specs.Laws.{CountsWithin}
-use Rattle.sd_sound.proofs.CountLemmas.{opening_counts, after_counts}
-use Rattle.sd_sound.proofs.Ready.{kept_reached, ready_cause, reached_ready}
-use Rattle.sd_sound.proofs.RunningLemmas.{opening_one, one_kept}
+use Rattle.sd_invariants.specs.Laws.{CountsWithin}
+use Rattle.sd_invariants.proofs.CountLemmas.{opening_counts, after_counts}
+use Rattle.sd_invariants.proofs.Ready.{kept_reached, ready_cause, reached_ready}
+use Rattle.sd_invariants.proofs.RunningLemmas.{opening_one, one_kept}
 use Rattle.sd_ticks.proofs.Counts.{rise_law}
 use Rattle.sd_stretches.specs.declared.sights.Sight.{Sight}
 use Rattle.sd_stretches.specs.Sights.{runs_on, sight_of, sights_of}

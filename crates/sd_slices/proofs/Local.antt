@@ -28,14 +28,14 @@ use Rattle.sd_machine.specs.Events.{after}
 use Rattle.sd_machine.specs.SetChanges.{bound_put, unbound_put, bind_put, bind_to}
 use Rattle.sd_machine.specs.Threads.{set_of, eff_of, runner, next_to_age, is_ts, is_asleep, is_asleep_below, is_due, is_waiting_at}
 use Rattle.sd_chains.proofs.Moves.{put_cases}
-use Rattle.sd_sound.specs.Causes.{WakesBest, RousesBest, IsCause}
-use Rattle.sd_sound.specs.Moves.{Step, put_step_if, woken_step, reordered_step, aged_step, prio_step, bind_step, step_of}
-use Rattle.sd_sound.specs.Moves.Step.{Stay, Go}
-use Rattle.sd_sound.proofs.AgreedAfter.{IsReady}
-use Rattle.sd_sound.proofs.Found.{runner_found, ready_found, queued_found, unbound_found, waiter_found, sleeper_found, sleeper_below_found, due_found, age_found}
-use Rattle.sd_sound.proofs.Movers.{bind_put_is, mover_there}
-use Rattle.sd_sound.proofs.PlaceTable.{Stepped, after_steps, step_needs}
-use Rattle.sd_sound.proofs.Ready.{ready_cause, reached_ready}
+use Rattle.sd_frames.specs.Causes.{WakesBest, RousesBest, IsCause}
+use Rattle.sd_frames.specs.Moves.{Step, put_step_if, woken_step, reordered_step, aged_step, prio_step, bind_step, step_of}
+use Rattle.sd_frames.specs.Moves.Step.{Stay, Go}
+use Rattle.sd_invariants.proofs.AgreedAfter.{IsReady}
+use Rattle.sd_frames.proofs.Found.{runner_found, ready_found, queued_found, unbound_found, waiter_found, sleeper_found, sleeper_below_found, due_found, age_found}
+use Rattle.sd_invariants.proofs.Movers.{bind_put_is, mover_there}
+use Rattle.sd_frames.proofs.PlaceTable.{Stepped, after_steps, step_needs}
+use Rattle.sd_invariants.proofs.Ready.{ready_cause, reached_ready}
 use Rattle.sd_slices.specs.Follow.{OthersKeepRunning}
 
 -- it is the place of no thread that runs on another processor than c

@@ -26,13 +26,13 @@ use Rattle.sd_machine.specs.Threads.{eff_of, set_of}
 use Rattle.sd_machine.specs.Bodies.{aged_class}
 use Rattle.sd_machine.specs.Changes.{back_key, key_at, place_put, queue_place}
 use Rattle.sd_machine.specs.Events.{after}
-use Rattle.sd_sound.specs.Causes.{IsCause}
-use Rattle.sd_sound.specs.Laws.{HoldsWhenReached}
-use Rattle.sd_sound.specs.Moves.{Step, put_step_if, woken_step, reordered_step, aged_step, prio_step, bind_step, step_of}
-use Rattle.sd_sound.specs.Moves.Step.{Stay, Go}
-use Rattle.sd_sound.proofs.Movers.{mover_there}
-use Rattle.sd_sound.proofs.PlaceTable.{Stepped, after_steps, step_needs}
-use Rattle.sd_sound.proofs.Whole.{IsWhole, naps, reached_whole}
+use Rattle.sd_frames.specs.Causes.{IsCause}
+use Rattle.sd_invariants.specs.Laws.{HoldsWhenReached}
+use Rattle.sd_frames.specs.Moves.{Step, put_step_if, woken_step, reordered_step, aged_step, prio_step, bind_step, step_of}
+use Rattle.sd_frames.specs.Moves.Step.{Stay, Go}
+use Rattle.sd_invariants.proofs.Movers.{mover_there}
+use Rattle.sd_frames.proofs.PlaceTable.{Stepped, after_steps, step_needs}
+use Rattle.sd_invariants.proofs.Whole.{IsWhole, naps, reached_whole}
 use Rattle.sd_range.proofs.Induction.{held_reached}
 
 abbrev pub NapFits : Place → Type 0

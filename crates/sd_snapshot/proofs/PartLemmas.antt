@@ -13,7 +13,7 @@ use Rattle.sd_state.specs.States.{cpu_of}
 use Rattle.sd_machine.specs.Runs.{IsReached}
 use Rattle.sd_machine.specs.Shapes.{FitsFully}
 use Rattle.sd_machine.specs.Threads.{count_of, lock_of, open_of}
-use Rattle.sd_sound.proofs.Ready.{reached_ready}
+use Rattle.sd_invariants.proofs.Ready.{reached_ready}
 use Rattle.sd_store.specs.declared.parts.CpuView.{CpuView}
 use Rattle.sd_store.specs.Parts.{view_of}
 use Rattle.sd_homes.specs.declared.home.Home.{Home}

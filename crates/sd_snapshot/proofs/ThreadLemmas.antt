@@ -11,7 +11,7 @@ use Rattle.sd_state.specs.declared.states.Place.TheVariants.{Running, Queued, Re
 use Rattle.sd_state.specs.declared.states.State.{State}
 use Rattle.sd_state.specs.States.{thread_of}
 use Rattle.sd_machine.specs.Shapes.{FitsFully}
-use Rattle.sd_sound.proofs.Ready.{reached_ready}
+use Rattle.sd_invariants.proofs.Ready.{reached_ready}
 use Rattle.sd_range.proofs.All.{threads_law}
 use Rattle.sd_shown.specs.declared.list_id.ListId.{ListId}
 use Rattle.sd_shown.specs.Standing.{home_at, home_of, list_at, list_of, record_key, record_of}

@@ -8,7 +8,7 @@ use Rattle.sd_types.specs.declared.events.Hints.{Hints}
 use Rattle.sd_types.specs.declared.works.Work.{Work}
 use Rattle.sd_state.specs.declared.states.State.{State}
 use Rattle.sd_machine.specs.Events.{next}
-use Rattle.sd_sound.specs.Laws.{IsFit}
+use Rattle.sd_invariants.specs.Laws.{IsFit}
 use Rattle.sd_store.specs.Flat.{IsState}
 
 -- there is no event of a processor that is not there

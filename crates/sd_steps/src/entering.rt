@@ -5,7 +5,7 @@ ghost use Rattle.sd_types.specs.declared.events.Hints.{Hints};
 ghost use Rattle.sd_machine.specs.Choosing.{neighbours};
 ghost use Rattle.sd_machine.specs.Events.{next};
 ghost use Rattle.sd_machine.specs.Runs.{serial_hints};
-ghost use Rattle.sd_sound.specs.Laws.{IsFit};
+ghost use Rattle.sd_invariants.specs.Laws.{IsFit};
 ghost use Rattle.sd_steps.specs.Entering.{can_enter, can_steal, plan_enters};
 
 use crate::serial::plan_of;

@@ -7,7 +7,7 @@ ghost use Rattle.sd_machine.specs.Events.{allowed, hints_fit, next, plan_event, 
 ghost use Rattle.sd_machine.specs.Plans.{plan};
 ghost use Rattle.sd_machine.specs.Runs.{serial_hints, shown};
 ghost use Rattle.sd_mdisp.specs.Reading.{parts};
-ghost use Rattle.sd_sound.specs.Laws.{IsFit};
+ghost use Rattle.sd_invariants.specs.Laws.{IsFit};
 
 use sd_flat::numbers_shown;
 use sd_machine::Plan;

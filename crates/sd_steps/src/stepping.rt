@@ -5,7 +5,7 @@ ghost use Rattle.std.specs.Bool.{OnTrue, OnFalse};
 ghost use Rattle.sd_machine.specs.Events.{after, next};
 ghost use Rattle.sd_machine.specs.Needs.{Needs};
 ghost use Rattle.sd_machine.specs.Runs.{IsReached, IsStep, final, turn};
-ghost use Rattle.sd_sound.specs.Laws.{IsFit};
+ghost use Rattle.sd_invariants.specs.Laws.{IsFit};
 
 use crate::equality::same_event;
 use crate::serial::serial_next;

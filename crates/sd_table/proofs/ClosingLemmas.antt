@@ -18,7 +18,7 @@ use Rattle.sd_state.specs.States.{cpu_of}
 use Rattle.sd_machine.specs.Events.{after}
 use Rattle.sd_machine.specs.Runs.{IsRunFrom, final}
 use Rattle.sd_machine.proofs.RunLemmas.{IsRun-from}
-use Rattle.sd_sound.proofs.Whole.{fit_reached}
+use Rattle.sd_invariants.proofs.Whole.{fit_reached}
 use Rattle.sd_homes.specs.declared.home.Home.{Home}
 use Rattle.sd_hand.specs.Hands.{AreSlots, IsHeld, held}
 use Rattle.sd_hand.specs.OneHome.{AreAllHomes}

@@ -12,7 +12,7 @@ use Rattle.sd_types.specs.declared.events.Entry.{Entry}
 use Rattle.sd_types.specs.declared.events.Which.{Which}
 use Rattle.sd_types.specs.declared.works.Work.{Work}
 use Rattle.sd_state.specs.States.{cpu_of}
-use Rattle.sd_sound.proofs.Whole.{fit_reached}
+use Rattle.sd_invariants.proofs.Whole.{fit_reached}
 use Rattle.sd_homes.specs.declared.home.Home.{Home}
 use Rattle.sd_homes.specs.Families.{home_id, same_home}
 use Rattle.sd_hand.specs.declared.acting.Acting.{Acting}

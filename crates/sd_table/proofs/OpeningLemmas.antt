@@ -21,7 +21,7 @@ use Rattle.sd_state.specs.States.{cpu_of}
 use Rattle.sd_machine.specs.Runs.{final}
 use Rattle.sd_machine.specs.Shapes.{FitsFully}
 use Rattle.sd_machine.proofs.RunLemmas.{IsRun-nil}
-use Rattle.sd_sound.proofs.Whole.{fit_reached}
+use Rattle.sd_invariants.proofs.Whole.{fit_reached}
 use Rattle.sd_homes.specs.declared.home.Home.{Home}
 use Rattle.sd_homes.specs.Families.{home_id}
 use Rattle.sd_hand.specs.Hands.{AreApart, HoldsMore, IsHeld, held, how_many_held}

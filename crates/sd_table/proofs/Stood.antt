@@ -13,7 +13,7 @@ use Rattle.sd_machine.specs.Runs.{IsReached, IsRun, state_at}
 use Rattle.sd_machine.specs.Threads.{open_of}
 use Rattle.sd_machine.proofs.RunLemmas.{IsRun-from, IsRunFrom-take, from-IsRun}
 use Rattle.sd_record.specs.Records.{ThreadRecord}
-use Rattle.sd_sound.proofs.Ready.{reached_ready}
+use Rattle.sd_invariants.proofs.Ready.{reached_ready}
 use Rattle.sd_store.specs.Parts.{view_of}
 use Rattle.sd_shown.specs.Numbers.{IsHomeOf}
 use Rattle.sd_shown.specs.Standing.{home_at, insert_at, list_of, record_of}

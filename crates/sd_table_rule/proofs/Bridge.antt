@@ -16,7 +16,7 @@ use Rattle.sd_machine.specs.Events.{after, next}
 use Rattle.sd_machine.specs.Runs.{IsReached, IsRun, final}
 use Rattle.sd_machine.proofs.RunLemmas.{IsRun-from, IsRunFrom-front, final-push, from-IsRun, last_number, last_step}
 use Rattle.sd_machine.proofs.ShapeLemmas.{after_shape}
-use Rattle.sd_sound.proofs.Whole.{fit_reached, reached_whole}
+use Rattle.sd_invariants.proofs.Whole.{fit_reached, reached_whole}
 use Rattle.sd_ticks.proofs.Counts.{rise_law}
 use Rattle.sd_store.specs.declared.parts.Part.{Part}
 use Rattle.sd_store.specs.declared.parts.Part.TheVariants as part

@@ -25,10 +25,10 @@ use Rattle.sd_machine.specs.Changes.{back_key}
 use Rattle.sd_machine.specs.Events.{after, next}
 use Rattle.sd_machine.specs.Runs.{IsReached, IsRun}
 use Rattle.sd_machine.specs.Threads.{eff_of}
-use Rattle.sd_sound.specs.Moves.{Step, aged_step, bind_step, prio_step, put_step_if, reordered_step, step_of, woken_step}
-use Rattle.sd_sound.proofs.Movers.{mover_there}
-use Rattle.sd_sound.proofs.PlaceTable.{Stepped, after_steps, step_needs}
-use Rattle.sd_sound.proofs.Ready.{reached_ready, ready_cause}
+use Rattle.sd_frames.specs.Moves.{Step, aged_step, bind_step, prio_step, put_step_if, reordered_step, step_of, woken_step}
+use Rattle.sd_invariants.proofs.Movers.{mover_there}
+use Rattle.sd_frames.proofs.PlaceTable.{Stepped, after_steps, step_needs}
+use Rattle.sd_invariants.proofs.Ready.{reached_ready, ready_cause}
 use Rattle.sd_range.proofs.Lasts.{brings, others_last}
 use Rattle.sd_shown.specs.Standing.{home_of, home_of_place}
 use Rattle.sd_world.specs.Homes.{index_of}

@@ -6,7 +6,7 @@ use Rattle.sd_types.specs.declared.numbers.HomeId.{HomeId}
 use Rattle.sd_types.specs.declared.numbers.HomeId.TheVariants as id
 use Rattle.sd_types.specs.declared.numbers.ThreadId.{ThreadId}
 use Rattle.sd_types.specs.declared.works.Work.{Work}
-use Rattle.sd_sound.proofs.Whole.{fit_reached}
+use Rattle.sd_invariants.proofs.Whole.{fit_reached}
 use Rattle.sd_homes.specs.declared.home.Home.{Home}
 use Rattle.sd_hand.specs.declared.acting.Acting.{Acting}
 use Rattle.sd_hand.specs.declared.acting.Actor.{Actor}

@@ -31,13 +31,13 @@ use Rattle.sd_machine.specs.Runs.{final, IsRunFrom}
 use Rattle.sd_machine.specs.SetChanges.{cleared, assigned, joined, rebound, pbound}
 use Rattle.sd_machine.specs.Threads.{runner}
 use Rattle.sd_machine.proofs.RunLemmas.{IsRun-from}
-use Rattle.sd_sound.specs.Causes.{IsCause}
-use Rattle.sd_sound.specs.Laws.{HoldsWhenReached}
-use Rattle.sd_sound.proofs.AgreedAfter.{IsReady}
-use Rattle.sd_sound.proofs.CpuWords as C
-use Rattle.sd_sound.proofs.PlainWords.{plain_keeps, drop_keeps}
-use Rattle.sd_sound.proofs.Ready.{kept_reached, reached_ready, next_ready, opening_ready}
-use Rattle.sd_sound.proofs.CountLemmas.{count_marks, counts_plain, close_counts, first_count}
+use Rattle.sd_frames.specs.Causes.{IsCause}
+use Rattle.sd_invariants.specs.Laws.{HoldsWhenReached}
+use Rattle.sd_invariants.proofs.AgreedAfter.{IsReady}
+use Rattle.sd_frames.proofs.CpuWords as C
+use Rattle.sd_frames.proofs.PlainWords.{plain_keeps, drop_keeps}
+use Rattle.sd_invariants.proofs.Ready.{kept_reached, reached_ready, next_ready, opening_ready}
+use Rattle.sd_invariants.proofs.CountLemmas.{count_marks, counts_plain, close_counts, first_count}
 use Rattle.sd_ticks.specs.Ticks.{CountsStayClose, CountsRiseByTicks, CountsAreTicks}
 
 abbrev count_part : CpuState → ℕ

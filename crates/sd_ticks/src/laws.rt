@@ -1,6 +1,6 @@
 //! Laws of the counts of ticks, each as the contract of a function without a body.
 
-ghost use Rattle.sd_sound.specs.Laws.{HoldsWhenReached};
+ghost use Rattle.sd_invariants.specs.Laws.{HoldsWhenReached};
 ghost use Rattle.sd_ticks.specs.Ticks.{CountsAreTicks, CountsRiseByTicks, CountsStayClose};
 
 /// The counts of ticks of two processors differ by at most 1, in every state of every run and in whatever order the

@@ -20,7 +20,7 @@ use Rattle.sd_world.specs.Worlds.{AllHinted, CanCommit, CanTake, Commits, Gains,
 use Rattle.sd_world.proofs.WorldLemmas.{stays_same, stays_then}
 use Rattle.sd_table_rule.proofs.Bridge.{reached}
 use Rattle.sd_table.specs.declared.seat.Seat.{Seat}
-use Rattle.sd_sound.proofs.Whole.{fit_reached}
+use Rattle.sd_invariants.proofs.Whole.{fit_reached}
 use Rattle.sd_table_rule.specs.Places.{now}
 use Rattle.sd_table_rule.specs.Words.{thread_count}
 use Rattle.sd_table.specs.Seats.{Fits, SeatCounts, SeatStays, desk, seat_meaning, table_meaning}

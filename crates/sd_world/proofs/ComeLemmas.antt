@@ -25,10 +25,10 @@ use Rattle.sd_machine.specs.Runs.{IsReached}
 use Rattle.sd_machine.specs.Shapes.{FitsFully}
 use Rattle.sd_machine.specs.Threads.{same_side as same_waiting}
 use Rattle.sd_state.specs.Invariants.{IsThere, KeysDiffer, KeysWithin, OneRuns, has_key, same_queue, same_side}
-use Rattle.sd_sound.proofs.FineLemmas.{sound_law}
-use Rattle.sd_sound.proofs.KeyLemmas.{keys_differ_law, keys_within_law}
-use Rattle.sd_sound.proofs.Ready.{kept_reached, reached_ready}
-use Rattle.sd_sound.proofs.RunningLemmas.{one_kept, opening_one}
+use Rattle.sd_invariants.proofs.FineLemmas.{sound_law}
+use Rattle.sd_invariants.proofs.KeyLemmas.{keys_differ_law, keys_within_law}
+use Rattle.sd_invariants.proofs.Ready.{kept_reached, reached_ready}
+use Rattle.sd_invariants.proofs.RunningLemmas.{one_kept, opening_one}
 use Rattle.sd_range.proofs.All.{threads_law}
 use Rattle.sd_footprint.proofs.RanLast.{reached_ran}
 use Rattle.sd_shown.specs.declared.list_id.ListId.{ListId}

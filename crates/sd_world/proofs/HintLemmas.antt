@@ -8,7 +8,7 @@ use Rattle.sd_types.specs.declared.events.Which.TheVariants.{Running, Queued}
 use Rattle.sd_state.specs.declared.states.State.{State}
 use Rattle.sd_machine.specs.Choosing.{hint_of, hint_shown}
 use Rattle.sd_machine.specs.Threads.{priority_of}
-use Rattle.sd_sound.proofs.FineLemmas.{sound_law}
+use Rattle.sd_invariants.proofs.FineLemmas.{sound_law}
 use Rattle.sd_store.specs.declared.parts.Part.{Part}
 use Rattle.sd_store.specs.Parts.{IsAmong, cpu_part, found_parts, number, thread_part}
 use Rattle.sd_hand.specs.declared.acting.Acting.{Acting}

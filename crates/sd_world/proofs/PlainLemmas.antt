@@ -19,7 +19,7 @@ use Rattle.sd_machine.specs.Events.{after, next}
 use Rattle.sd_machine.specs.Runs.{IsReached, IsRun, final, state_at}
 use Rattle.sd_machine.proofs.RunLemmas.{IsRun-append, IsRunFrom-one, final-append, final-push}
 use Rattle.sd_machine.proofs.ShapeLemmas.{after_shape}
-use Rattle.sd_sound.proofs.Whole.{fit_reached}
+use Rattle.sd_invariants.proofs.Whole.{fit_reached}
 use Rattle.sd_store.specs.declared.parts.Part.{Part}
 use Rattle.sd_store.specs.declared.parts.Part.TheVariants as part
 use Rattle.sd_store.specs.Parts.{IsAmong, cpu_part}

@@ -13,7 +13,7 @@ use Rattle.sd_state.specs.States.{cpu_of}
 use Rattle.sd_state.specs.Opening.{opening}
 use Rattle.sd_machine.specs.Choosing.{hint_shown}
 use Rattle.sd_machine.specs.Runs.{IsRun, final}
-use Rattle.sd_sound.proofs.Whole.{fit_reached}
+use Rattle.sd_invariants.proofs.Whole.{fit_reached}
 use Rattle.sd_hand.specs.OneHome.{AreAllHomes}
 use Rattle.sd_snapshot.specs.Told.{AreActorsOf, IsActorOf}
 use Rattle.sd_footprint.specs.There.{IsThere}

@@ -1,5 +1,5 @@
 use Rattle.sd_state.specs.States.{cpu_of}
-use Rattle.sd_sound.proofs.Ready.{reached_ready, serves_of}
+use Rattle.sd_invariants.proofs.Ready.{reached_ready, serves_of}
 use Rattle.sd_footprint.proofs.FewHomes.{takes_four}
 use Rattle.sd_footprint.proofs.a_turn_takes_four_homes.Goals as goal
 

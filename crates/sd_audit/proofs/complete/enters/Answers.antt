@@ -1,4 +1,4 @@
-use Rattle.sd_sound.proofs.Whole.{fit_reached}
+use Rattle.sd_invariants.proofs.Whole.{fit_reached}
 use Rattle.sd_audit.proofs.complete.enters.Goals as goal
 
 pub can_enter-requires : goal.can_enter-requires

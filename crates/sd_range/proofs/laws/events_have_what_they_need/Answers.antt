@@ -1,4 +1,4 @@
-use Rattle.sd_sound.proofs.Ready.{maker_inside}
+use Rattle.sd_invariants.proofs.Ready.{maker_inside}
 use Rattle.sd_range.proofs.Range.{needs_reached}
 use Rattle.sd_range.proofs.laws.events_have_what_they_need.Goals as goal
 

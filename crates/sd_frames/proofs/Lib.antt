@@ -1,0 +1,17 @@
+pub mod CauseLemmas
+pub mod ClassTable
+pub mod ClassWords
+pub mod CpuWords
+pub mod FieldWords
+pub mod Found
+pub mod HoldTable
+pub mod LockTable
+pub mod OpTable
+pub mod Parts
+pub mod PassLemmas
+pub mod PlaceTable
+pub mod PlainWords
+pub mod ReleaseLemmas
+pub mod Searches
+pub mod SideFields
+pub mod Words

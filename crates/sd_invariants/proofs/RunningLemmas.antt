@@ -1,0 +1,171 @@
+-- At most one thread runs on each processor.
+use Rattle.std.proofs.Common.{◌≡◌, ℕ, ◌<◌, Bool, true, false, ◌&&◌, List, length, Option, Some, None, refl, sym, ap, ◌∙◌, subst, arith, inl, inr}
+use Rattle.std.specs.Prelude.{⊤, nat_lt, nat_le, ◌==◌, if◌then◌else◌, is_none, ℤ}
+use Rattle.std.proofs.lemmas.Bool.Decides.{nat_tests}
+use Rattle.sd_types.specs.declared.numbers.CpuId.{CpuId}
+use Rattle.sd_types.specs.declared.numbers.ThreadId.{ThreadId}
+use Rattle.sd_types.specs.declared.events.BindAnswer.{BindAnswer}
+use Rattle.sd_types.specs.declared.events.BindAnswer.TheVariants as bind_answer
+use Rattle.sd_types.specs.declared.events.Event.{Event}
+use Rattle.sd_types.specs.declared.events.Event.TheVariants.{Dispatch, Steal, Preempt, Yield, Done, Nap, Napend, Sleep, Wake, Rouse, Block, Will, Unblock, Grant, Age, Prio, CvWait, SemaWait, SemaVWake, Move, Bind, Away}
+use Rattle.sd_types.specs.declared.events.PrioAnswer.{PrioAnswer}
+use Rattle.sd_types.specs.declared.events.PrioAnswer.TheVariants.{Changed, Refused}
+use Rattle.sd_types.specs.declared.events.Put.{Put}
+use Rattle.sd_types.specs.declared.events.Put.TheVariants.{Cpu, RealTime as OnRealTime}
+use Rattle.sd_types.specs.declared.works.Work.{Work}
+use Rattle.sd_types.specs.Priorities.{eff_as}
+use Rattle.sd_state.specs.declared.states.Place.{Place}
+use Rattle.sd_state.specs.declared.states.Place.TheVariants.{Running, Queued, RealTime, Waiting, Asleep, Napping, Ended}
+use Rattle.sd_state.specs.declared.states.State.{State}
+use Rattle.sd_state.specs.States.{thread_of, is_running}
+use Rattle.sd_machine.specs.Changes.{back_key}
+use Rattle.sd_machine.specs.Threads.{eff_of, runner}
+use Rattle.sd_machine.specs.Bodies.{aged_class}
+use Rattle.sd_frames.specs.Causes.{IsCause}
+use Rattle.sd_frames.specs.Moves.{Step, put_step_if, woken_step, reordered_step, aged_step, prio_step, bind_step, step_of}
+use Rattle.sd_frames.specs.Moves.Step.{Stay, Go}
+use Rattle.sd_frames.proofs.PlaceTable.{Stepped}
+use Rattle.sd_chains.proofs.Moves.{put_cases}
+use Rattle.std.specs.List.{position_or_len}
+use Rattle.std.proofs.Common.{cond}
+use Rattle.std.proofs.lemmas.Bool.{eqb-true, false≢true}
+use Rattle.std.proofs.lemmas.List.Sums.{fails_before_first}
+use Rattle.sd_types.specs.declared.bodies.ThreadBody.{ThreadBody}
+use Rattle.sd_types.specs.Priorities.{eff}
+use Rattle.sd_state.specs.declared.states.ThreadState.{ThreadState}
+use Rattle.sd_state.specs.States.{no_thread}
+use Rattle.sd_state.specs.Opening.{first_cpu, is_urgent, first_thread, first_threads, opening}
+use Rattle.sd_types.specs.declared.works.ThreadDecl.{ThreadDecl}
+use Rattle.sd_machine.specs.Threads.{set_of}
+use Rattle.sd_machine.specs.Changes.{queue_place, place_put, key_at}
+use Rattle.sd_machine.specs.Events.{after}
+use Rattle.sd_machine.proofs.ShapeLemmas.{after_shape}
+use Rattle.sd_state.specs.Invariants.{OneRuns}
+use Rattle.sd_frames.proofs.PlaceTable.{after_steps, step_needs}
+use Rattle.sd_invariants.proofs.Movers.{mover_there}
+use Rattle.sd_invariants.proofs.AgreedAfter.{IsReady}
+use Rattle.std.specs.Prelude.{pos}
+use Rattle.std.proofs.Common.{get_or, [], ◌∷◌, zero, suc, ◌+◌}
+
+-- where no runner is found, no thread runs
+nobody_runs : (s : State) (c : ℕ) → runner s c ≡ None → (t : ℕ) → t < length s.threads → is_running c (thread_of s t).place ≡ false
+unfolding runner
+nobody_runs s c none t inside = fails_before_first (λ (x : ThreadState). is_running c x.place) s.threads t no_thread (by (nat_lt (position_or_len (λ (x : ThreadState). is_running c x.place) s.threads) (length s.threads)) refl none)
+  where
+    by : (b : Bool) → nat_lt (position_or_len (λ (x : ThreadState). is_running c x.place) s.threads) (length s.threads) ≡ b → cond b (Some (position_or_len (λ (x : ThreadState). is_running c x.place) s.threads)) None ≡ None
+        → t < position_or_len (λ (x : ThreadState). is_running c x.place) s.threads
+    by true e is = cc
+    by false e is = grind (arith, nat_tests, inside)
+
+-- who comes to run does so where nobody ran
+abbrev StartsWell : State → Step → Type 0
+StartsWell s Stay = ⊤
+StartsWell s (Go m place) = (x : ℕ) → is_running x place ≡ true → runner s x ≡ None
+
+dispatch_starts : (s : State) (c : CpuId) → runner s c.0 ≡ None → (x : ℕ) → is_running x (Running c) ≡ true → runner s x ≡ None
+dispatch_starts s c nobody x on = subst (λ d. runner s d ≡ None) (eqb-true c.0 x on) nobody
+
+put_starts : (w : Work) (s : State) (n t : ℕ) (at : Put) (x : ℕ) → is_running x (place_put w n t at) ≡ true → runner s x ≡ None
+put_starts w s n t (Cpu d) x on = cc
+put_starts w s n t (OnRealTime d) x on = cc
+
+queue_starts : (w : Work) (s : State) (t : ℕ) (c : CpuId) (k : ℤ) (b : ThreadBody) (x : ℕ) → is_running x (queue_place w t c k b) ≡ true → runner s x ≡ None
+queue_starts w s t c k b x on = absurd (false≢true (sym (still (nat_le 100 (eff b) && is_none b.bound)) ∙ on))
+  where
+    still : (v : Bool) → is_running x (if v then RealTime (set_of w t) k else Queued c k) ≡ false
+    still true = refl
+    still false = refl
+
+put_if_starts : (w : Work) (s : State) (n t : ℕ) (at : Option Put) → StartsWell s (put_step_if w n t at)
+put_if_starts w s n t None = tt
+put_if_starts w s n t (Some at) = put_starts w s n t at
+
+woken_starts : (w : Work) (s : State) (n : ℕ) (u : Option (ThreadId × Put)) → StartsWell s (woken_step w n u)
+woken_starts w s n None = tt
+woken_starts w s n (Some u) = put_starts w s n u.0.0 u.1
+
+reordered_starts : (w : Work) (s : State) (n t : ℕ) (at : Option Put) (p : Place) → StartsWell s (reordered_step w n t at p)
+reordered_starts w s n t at (Running x) = tt
+reordered_starts w s n t at (Queued d k) = put_if_starts w s n t at
+reordered_starts w s n t at (RealTime q k) = put_if_starts w s n t at
+reordered_starts w s n t at (Waiting l side k) = put_if_starts w s n t at
+reordered_starts w s n t at (Asleep j k) = put_if_starts w s n t at
+reordered_starts w s n t at (Napping d k) = put_if_starts w s n t at
+reordered_starts w s n t at Ended = put_if_starts w s n t at
+
+queued_starts : (s : State) (c : CpuId) (k : ℤ) (x : ℕ) → is_running x (Queued c k) ≡ true → runner s x ≡ None
+queued_starts s c k x on = cc
+
+aged_starts : (w : Work) (s : State) (n : ℕ) (c : CpuId) (t : ℕ) → StartsWell s (aged_step w s n c t)
+aged_starts w s n c t = elim (eff_as (aged_class w (thread_of s t).body.class) (thread_of s t).body == eff_of s t) as (λ b. StartsWell s (if b then Stay else Go t (Queued c (back_key n)))) [ true ↦ tt | false ↦ queued_starts s c (back_key n) ]
+
+prio_starts : (w : Work) (s : State) (n : ℕ) (u : ThreadId) (answer : PrioAnswer) → StartsWell s (prio_step w s n u answer)
+prio_starts w s n u (Changed p at) = reordered_starts w s n u.0 at (thread_of s u.0).place
+prio_starts w s n u (Refused d) = tt
+
+bind_starts : (w : Work) (s : State) (n u : ℕ) (answer : BindAnswer) → StartsWell s (bind_step w n u answer)
+bind_starts w s n u (bind_answer.Changed at) = put_if_starts w s n u at
+bind_starts w s n u bind_answer.ESRCH = tt
+bind_starts w s n u bind_answer.EINVAL = tt
+bind_starts w s n u bind_answer.EPERM = tt
+bind_starts w s n u bind_answer.EBUSY = tt
+
+starts_well : (w : Work) (s : State) (n : ℕ) (c : CpuId) (e : Event) → IsCause w s c.0 e → StartsWell s (step_of w s n c e)
+starts_well w s n c (Dispatch t p) cause = dispatch_starts s c cause.0.idle.nobody
+starts_well w s n c (Steal v t p) cause = dispatch_starts s c cause.0.idle.nobody
+starts_well w s n c (Preempt t end) cause = queue_starts w s t.0 c (key_at n end) (thread_of s t.0).body
+starts_well w s n c (Away t d) cause = λ x e. cc
+starts_well w s n c (Yield t) cause = queue_starts w s t.0 c (back_key n) (thread_of s t.0).body
+starts_well w s n c (Done t) cause = λ x e. cc
+starts_well w s n c (Nap t) cause = λ x e. cc
+starts_well w s n c (Napend t at) cause = put_starts w s n t.0 at
+starts_well w s n c (Sleep t k) cause = λ x e. cc
+starts_well w s n c (Wake t k u) cause = woken_starts w s n u
+starts_well w s n c (Rouse k u) cause = woken_starts w s n u
+starts_well w s n c (Block t l) cause = λ x e. cc
+starts_well w s n c (Will l o p at) cause = reordered_starts w s n o.0 at (thread_of s o.0).place
+starts_well w s n c (Unblock l u at) cause = put_starts w s n u.0 at
+starts_well w s n c (Grant l u at) cause = put_starts w s n u.0 at
+starts_well w s n c (Age t p) cause = aged_starts w s n c t.0
+starts_well w s n c (Prio t u answer) cause = prio_starts w s n u answer
+starts_well w s n c (CvWait t k l) cause = λ x e. cc
+starts_well w s n c (SemaWait t k) cause = λ x e. cc
+starts_well w s n c (SemaVWake t k u at) cause = put_starts w s n u.0 at
+starts_well w s n c (Move t at) cause = put_starts w s n t.0 at
+starts_well w s n c (Bind t u d answer) cause = bind_starts w s n u.0 answer
+starts_well w s n c e cause = tt
+
+one_after : (step : Step) (s r : State) → length r.threads ≡ length s.threads → Stepped step s r → StartsWell s step → OneRuns s → OneRuns r
+one_after Stay s r many a well one = λ t u c t_in u_in t_on u_on.
+    one t u c (omega (arith, many, t_in)) (omega (arith, many, u_in)) (ap (λ p. is_running c p) (sym (a t)) ∙ t_on) (ap (λ p. is_running c p) (sym (a u)) ∙ u_on)
+one_after (Go m place) s r many a well one = λ t u c t_in u_in t_on u_on.
+    let t_was : t < length s.threads = omega (arith, many, t_in) in
+    let u_was : u < length s.threads = omega (arith, many, u_in) in
+    elim (put_cases m place _ _ a t) [
+      | inl here ↦ elim (put_cases m place _ _ a u) [
+        | inl also ↦ here.0 ∙ sym also.0
+        | inr other ↦ absurd (false≢true (sym (nobody_runs s c (well c (ap (λ p. is_running c p) (sym here.1) ∙ t_on)) u u_was) ∙ ap (λ p. is_running c p) (sym other.1) ∙ u_on))
+      ]
+      | inr there ↦ elim (put_cases m place _ _ a u) [
+        | inl also ↦ absurd (false≢true (sym (nobody_runs s c (well c (ap (λ p. is_running c p) (sym also.1) ∙ u_on)) t t_was) ∙ ap (λ p. is_running c p) (sym there.1) ∙ t_on))
+        | inr other ↦ one t u c t_was u_was (ap (λ p. is_running c p) (sym there.1) ∙ t_on) (ap (λ p. is_running c p) (sym other.1) ∙ u_on)
+      ]
+    ]
+
+pub one_kept : (w : Work) (s : State) (n : ℕ) (c : CpuId) (e : Event) → IsReady w s → IsCause w s c.0 e → OneRuns s → OneRuns (after w s n c e)
+one_kept w s n c e ready cause one =
+    one_after (step_of w s n c e) s (after w s n c e) (after_shape w s n c e).threads (after_steps w s n c e (step_needs w s c.0 e cause) (mover_there w s n c e ready.fits ready.agreed cause)) (starts_well w s n c e cause) one
+
+-- in the initial state none runs
+first_still : (w : Work) (t : ℕ) (d : ThreadDecl) (x : ℕ) → is_running x (first_thread w t d).place ≡ false
+unfolding first_thread
+first_still w t d x = elim (is_urgent d) as (λ b. is_running x (if b then RealTime d.set (pos t) else Queued (first_cpu w t d) (pos t)) ≡ false) [ true ↦ refl | false ↦ refl ]
+
+all_still : (w : Work) (k : ℕ) (ds : List ThreadDecl) (t x : ℕ) → is_running x (get_or (first_threads w k ds) t no_thread).place ≡ false
+all_still w k [] t x = refl
+all_still w k (d ∷ ds) zero x = first_still w k d x
+all_still w k (d ∷ ds) (suc t) x = all_still w (k + 1) ds t x
+
+pub opening_one : (w : Work) → OneRuns (opening w)
+unfolding opening
+opening_one w = λ t u c t_in u_in t_on u_on. absurd (false≢true (sym (all_still w 0 w.threads t c) ∙ t_on))

@@ -1,0 +1,472 @@
+-- A thread's place in its script through each event.
+use Rattle.std.proofs.Common.{◌≡◌, ◌≢◌, ℕ, zero, suc, ◌+◌, ◌<◌, ◌≤◌, Bool, true, false, List, [], ◌∷◌, ◌++◌, length, take, Option, Some, None, refl, ◌∙◌, sym, ap, subst, arith, inl, inr}
+use Rattle.std.specs.Prelude.{⊤, ℤ, fold, slice_get}
+use Rattle.std.proofs.lemmas.Option.{slice_get_within, same_Some}
+use Rattle.sd_types.specs.declared.numbers.Side.{Side}
+use Rattle.sd_types.specs.declared.numbers.Side.TheVariants.{Reader}
+use Rattle.sd_types.specs.declared.events.Put.TheVariants.{Cpu, RealTime as OnRealTime}
+use Rattle.sd_types.specs.Priorities.{eff, eff_as}
+use Rattle.sd_types.specs.Scripts.{without_lock, held_after, held_by}
+use Rattle.sd_frames.specs.Causes.{wants, Acts, IsCause}
+use Rattle.sd_invariants.specs.Scripted.{IsScripted, Scripted}
+use Rattle.sd_frames.proofs.HoldTable.{held_part, held_moves, held_ops, Goes, same_then, put_to, owned_held, read_held, exited_held, cv_waited_held, granted_to_writer_held, granted_to_reader_held, willed_held, pbound_held}
+use Rattle.sd_frames.proofs.OpTable.{ender, IsEnderThere, ender_there, Finished, OpsGo}
+use Rattle.sd_frames.proofs.PlaceTable.{Stepped}
+use Rattle.sd_frames.proofs.Found.{runner_found, waiter_found}
+use Rattle.sd_frames.specs.Moves.{Step, put_step_if, woken_step, reordered_step, aged_step, prio_step, bind_step, step_of}
+use Rattle.sd_frames.specs.Moves.Step.{Stay, Go}
+use Rattle.sd_chains.proofs.Moves.{put_cases}
+use Rattle.std.proofs.lemmas.Bool.{cases_eq, eqb-true}
+use Rattle.sd_types.specs.declared.numbers.CpuId.{CpuId}
+use Rattle.sd_types.specs.declared.numbers.LockId.{LockId}
+use Rattle.sd_types.specs.declared.numbers.Side.TheVariants.{Writer}
+use Rattle.sd_types.specs.declared.numbers.ThreadId.{ThreadId}
+use Rattle.sd_types.specs.declared.bodies.ThreadBody.{ThreadBody}
+use Rattle.sd_types.specs.declared.events.BindAnswer.{BindAnswer}
+use Rattle.sd_types.specs.declared.events.BindAnswer.TheVariants as bind_answer
+use Rattle.sd_types.specs.declared.events.Duty.{Duty}
+use Rattle.sd_types.specs.declared.events.Duty.TheVariants as duty
+use Rattle.sd_types.specs.declared.events.Event.{Event}
+use Rattle.sd_types.specs.declared.events.Event.TheVariants.{Tick, Spin, Idle, Dispatch, Steal, Preempt, Yield, Done, Nap, Napend, Sleep, Wake, Wakeall, Rouse, Enter, Read, Write, Block, Will, End as WalkEnd, Exit, Unblock, Grant, Passed, Age, Prio, CvWait, SemaP, SemaWait, SemaVWake, SemaVCount, Assign, Move, Joined, Bind, Away}
+use Rattle.sd_types.specs.declared.events.PrioAnswer.{PrioAnswer}
+use Rattle.sd_types.specs.declared.events.PrioAnswer.TheVariants.{Changed, Refused}
+use Rattle.sd_types.specs.declared.events.Put.{Put}
+use Rattle.sd_types.specs.declared.scripts.Op.{Op}
+use Rattle.sd_types.specs.declared.scripts.Op.TheVariants as op
+use Rattle.sd_types.specs.declared.works.Work.{Work}
+use Rattle.std.specs.Prelude.{if◌then◌else◌, is_none, nat_le, ◌==◌, ◌&&◌}
+use Rattle.sd_state.specs.declared.states.Place.{Place}
+use Rattle.sd_state.specs.declared.states.Place.TheVariants.{Running, Queued, RealTime, Waiting, Asleep, Napping, Ended}
+use Rattle.sd_state.specs.declared.states.State.{State}
+use Rattle.sd_state.specs.States.{thread_of, cpu_of, is_running}
+use Rattle.sd_state.specs.Operations.{script_of, op_of}
+use Rattle.sd_machine.specs.Threads.{set_of, same_side, is_waiting_at, runner, eff_of}
+use Rattle.sd_machine.specs.Bodies.{aged_class}
+use Rattle.sd_machine.specs.Changes.{back_key, queue_place, place_put}
+use Rattle.sd_machine.specs.Dispatching.{done}
+use Rattle.sd_machine.specs.Locking.{side_of, granted}
+use Rattle.sd_machine.specs.Events.{drop_ageing, effect, after}
+use Rattle.sd_frames.proofs.Words.{then_same, set_duty_same, idled_same, walk_ended_same, joined_same, passed_same, spun_same, dispatched_same, stolen_same, preempted_same, sent_away_same, done_same, woken_same, roused_same, blocked_same, unblocked_same, aged_same, moved_same, ticked_same, yielded_same, napped_same, fallen_asleep_same, woke_same, woke_all_same, reprioritised_same, sema_taken_same, sema_counted_same, sema_handed_same, assigned_same, Same}
+
+-- What becomes of the locks that are held.
+
+abbrev pub HeldGo : State → State → Event → Type 0
+HeldGo s r (Enter t l) = Goes held_part s r t.0 ((thread_of s t.0).body.held.items ++ l ∷ [])
+HeldGo s r (Read t l) = Goes held_part s r t.0 ((thread_of s t.0).body.held.items ++ l ∷ [])
+HeldGo s r (Write t l) = Goes held_part s r t.0 ((thread_of s t.0).body.held.items ++ l ∷ [])
+HeldGo s r (Grant l u at) = Goes held_part s r u.0 ((thread_of s u.0).body.held.items ++ l ∷ [])
+HeldGo s r (Exit t l) = Goes held_part s r t.0 (without_lock l (thread_of s t.0).body.held.items)
+HeldGo s r (CvWait t k l) = Goes held_part s r t.0 (without_lock l (thread_of s t.0).body.held.items)
+HeldGo s r e = Same held_part s r
+
+granted_held : (w : Work) (s : State) (n : ℕ) (c : CpuId) (l : LockId) (u : ℕ) (at : Put) (d : Duty) → u < length s.threads → Goes held_part s (granted w s n c l u at d) u ((thread_of s u).body.held.items ++ l ∷ [])
+granted_held w s n c l u at (duty.GrantWriter m) here = granted_to_writer_held w s n c l u at here
+granted_held w s n c l u at _ here = granted_to_reader_held w s n l u at here
+
+effect_held : (w : Work) (s : State) (n : ℕ) (c : CpuId) (e : Event) → IsEnderThere s (ender e) → HeldGo s (effect w s n c e) e
+unfolding effect
+effect_held w s n c (Tick t) here = ticked_same held_part held_moves held_ops w s c.0 t.0
+effect_held w s n c (Spin t l) here = spun_same held_part held_moves w s c.0 t.0
+effect_held w s n c Idle here = idled_same held_part w s c.0
+effect_held w s n c (Dispatch t p) here = dispatched_same held_part held_moves s c t.0
+effect_held w s n c (Steal v t p) here = stolen_same held_part held_moves s c t.0
+effect_held w s n c (Preempt t end) here = preempted_same held_part held_moves w s n c t.0 end
+effect_held w s n c (Away t d) here = sent_away_same held_part held_moves s n c t.0 d
+effect_held w s n c (Yield t) here = yielded_same held_part held_moves held_ops w s n c t.0
+effect_held w s n c (Done t) here = done_same held_part held_moves s c t.0
+effect_held w s n c (Nap t) here = napped_same held_part held_moves held_ops w s c t.0
+effect_held w s n c (Napend t at) here = woken_same held_part held_moves w s n t.0 at
+effect_held w s n c (Sleep t k) here = fallen_asleep_same held_part held_moves held_ops w s n c t.0 k
+effect_held w s n c (Wake t k u) here = woke_same held_part held_moves held_ops w s n t.0 u
+effect_held w s n c (Wakeall t k) here = woke_all_same held_part held_moves held_ops w s n c t.0 k
+effect_held w s n c (Rouse k u) here = roused_same held_part held_moves w s n c k u (cpu_of s c.0).duty
+effect_held w s n c (Enter t l) here = owned_held w s t.0 l here
+effect_held w s n c (Read t l) here = read_held w s t.0 l here
+effect_held w s n c (Write t l) here = owned_held w s t.0 l here
+effect_held w s n c (Block t l) here = blocked_same held_part held_moves w s n c t.0 l
+effect_held w s n c (Will l o p at) here = willed_held w s n c l o at
+effect_held w s n c (WalkEnd l) here = walk_ended_same held_part s c
+effect_held w s n c (Exit t l) here = exited_held w s c t.0 l here
+effect_held w s n c (Unblock l u at) here = unblocked_same held_part held_moves w s n c l u.0 at
+effect_held w s n c (Grant l u at) here = granted_held w s n c l u.0 at (cpu_of s c.0).duty here
+effect_held w s n c (Passed l) here = passed_same held_part s c l
+effect_held w s n c (Age t p) here = aged_same held_part held_moves w s n c t.0
+effect_held w s n c (Prio t u answer) here = reprioritised_same held_part held_moves held_ops w s n c t.0 u answer
+effect_held w s n c (CvWait t k l) here = cv_waited_held w s n c t.0 k l here
+effect_held w s n c (SemaP t k) here = sema_taken_same held_part held_moves held_ops w s t.0 k
+effect_held w s n c (SemaWait t k) here = fallen_asleep_same held_part held_moves held_ops w s n c t.0 k
+effect_held w s n c (SemaVWake t k u at) here = sema_handed_same held_part held_moves held_ops w s n t.0 u.0 at
+effect_held w s n c (SemaVCount t k m) here = sema_counted_same held_part held_moves held_ops w s t.0 k
+effect_held w s n c (Assign t d to answer) here = assigned_same held_part held_moves held_ops w s t.0 d to answer
+effect_held w s n c (Move t at) here = moved_same held_part held_moves w s n t.0 at
+effect_held w s n c (Joined to) here = joined_same held_part s c to
+effect_held w s n c (Bind t u d answer) here = pbound_held w s n t.0 u.0 d answer
+
+held_later : (s r q : State) (e : Event) → Same held_part s r → HeldGo r q e → HeldGo s q e
+held_later s r q (Enter t l) a b = put_to held_part s q t.0 _ _ (same_then held_part s r q t.0 _ a b) (ap (λ (xs : List LockId). xs ++ l ∷ []) (a.each t.0))
+held_later s r q (Read t l) a b = put_to held_part s q t.0 _ _ (same_then held_part s r q t.0 _ a b) (ap (λ (xs : List LockId). xs ++ l ∷ []) (a.each t.0))
+held_later s r q (Write t l) a b = put_to held_part s q t.0 _ _ (same_then held_part s r q t.0 _ a b) (ap (λ (xs : List LockId). xs ++ l ∷ []) (a.each t.0))
+held_later s r q (Exit t l) a b = put_to held_part s q t.0 _ _ (same_then held_part s r q t.0 _ a b) (ap (λ (xs : List LockId). without_lock l xs) (a.each t.0))
+held_later s r q (Grant l u at) a b = put_to held_part s q u.0 _ _ (same_then held_part s r q u.0 _ a b) (ap (λ (xs : List LockId). xs ++ l ∷ []) (a.each u.0))
+held_later s r q (CvWait t k l) a b = put_to held_part s q t.0 _ _ (same_then held_part s r q t.0 _ a b) (ap (λ (xs : List LockId). without_lock l xs) (a.each t.0))
+held_later s r q e a b = then_same held_part s r q a b
+
+drop_held : (s : State) (c : ℕ) (e : Event) → Same held_part s (drop_ageing s c e)
+unfolding drop_ageing
+drop_held s c e = set_duty_same held_part s c _
+
+pub after_held : (w : Work) (s : State) (n : ℕ) (c : CpuId) (e : Event) → IsEnderThere s (ender e) → HeldGo s (after w s n c e) e
+unfolding after
+after_held w s n c e here = held_later s (drop_ageing s c.0 e) _ e (drop_held s c.0 e) (effect_held w _ n c e (ender_there s c.0 e (ender e) here))
+
+-- One operation more.
+
+fold_append : (xs ys : List Op) (a : List LockId) → fold held_after a (xs ++ ys) ≡ fold held_after (fold held_after a xs) ys
+fold_append [] ys a = refl
+fold_append (x ∷ xs) ys a = fold_append xs ys (held_after a x)
+
+take_one : (ops : List Op) (i : ℕ) (o : Op) → slice_get ops i ≡ Some o → take (i + 1) ops ≡ take i ops ++ o ∷ []
+take_one [] i o e = cc
+take_one (x ∷ xs) zero o e = let is : x ≡ o = cc in rw is refl
+take_one (x ∷ xs) (suc i) o e = ap (λ j. take j (x ∷ xs)) (let q : suc i + 1 ≡ suc (i + 1) = omega arith in q) ∙ ap (λ (ys : List Op). x ∷ ys) (take_one xs i o e)
+
+held_by_one : (ops : List Op) (i : ℕ) (o : Op) → slice_get ops i ≡ Some o → held_by (take (i + 1) ops) ≡ held_after (held_by (take i ops)) o
+held_by_one ops i o e = ap (λ xs. fold held_after [] xs) (take_one ops i o e) ∙ fold_append (take i ops) (o ∷ []) []
+
+-- A thread that waits.
+abbrev pub is_waiter : Place → Bool
+is_waiter (Waiting l side k) = true
+is_waiter _ = false
+
+not_waiter : (p : Place) (l : LockId) (side : Side) (k : ℤ) → is_waiter p ≡ false → p ≡ Waiting l side k → ⊥
+not_waiter (Waiting m other j) l side k e is = cc
+not_waiter (Running c) l side k e is = cc
+not_waiter (Queued c j) l side k e is = cc
+not_waiter (RealTime p j) l side k e is = cc
+not_waiter (Asleep j key) l side k e is = cc
+not_waiter (Napping c due) l side k e is = cc
+not_waiter Ended l side k e is = cc
+
+pub runs_no_waiter : (c : ℕ) (p : Place) → is_running c p ≡ true → is_waiter p ≡ false
+runs_no_waiter c (Running d) e = refl
+runs_no_waiter c (Queued d k) e = cc
+runs_no_waiter c (RealTime q k) e = cc
+runs_no_waiter c (Waiting l side k) e = cc
+runs_no_waiter c (Asleep j k) e = cc
+runs_no_waiter c (Napping d k) e = cc
+runs_no_waiter c Ended e = cc
+
+pub put_no_waiter : (w : Work) (n t : ℕ) (at : Put) → is_waiter (place_put w n t at) ≡ false
+put_no_waiter w n t (Cpu x) = refl
+put_no_waiter w n t (OnRealTime x) = refl
+
+pub queue_no_waiter : (w : Work) (t : ℕ) (c : CpuId) (k : ℤ) (b : ThreadBody) → is_waiter (queue_place w t c k b) ≡ false
+queue_no_waiter w t c k b = elim (nat_le 100 (eff b) && is_none b.bound) as (λ v. is_waiter (if v then RealTime (set_of w t) k else Queued c k) ≡ false) [ true ↦ refl | false ↦ refl ]
+
+-- What becomes of one thread.
+
+module _ (w : Work) (s r : State) (u : ℕ) (before : IsScripted w s u) where
+  -- it keeps its operation and its locks, and does not come to wait
+  pub keeps : (thread_of r u).body.op ≡ (thread_of s u).body.op → (thread_of r u).body.held.items ≡ (thread_of s u).body.held.items
+      → ((l : LockId) (side : Side) (k : ℤ) → (thread_of r u).place ≡ Waiting l side k → (o : Op) × (slice_get (script_of w u) (thread_of s u).body.op ≡ Some o) × (wants o ≡ Some (l, side))) → IsScripted w r u
+  keeps ops held waits = record {
+    op = subst (λ i. i ≤ length (script_of w u)) (sym ops) before.op;
+    held = held ∙ before.held ∙ ap (λ i. held_by (take i (script_of w u))) (sym ops);
+    waits = λ l side k is. let (o, at, wanted) = waits l side k is in (o, ap (λ i. slice_get (script_of w u) i) ops ∙ at, wanted);
+  }
+
+  -- its operation is over, and it does not wait
+  pub goes_on : (o : Op) → slice_get (script_of w u) (thread_of s u).body.op ≡ Some o → (thread_of r u).body.op ≡ (thread_of s u).body.op + 1
+      → (thread_of r u).body.held.items ≡ held_after (thread_of s u).body.held.items o → is_waiter (thread_of r u).place ≡ false → IsScripted w r u
+  goes_on o at ops held away =
+      let inside = slice_get_within (script_of w u) (thread_of s u).body.op o at in
+      record {
+        op = subst (λ i. i ≤ length (script_of w u)) (sym ops) (omega arith);
+        held = held ∙ ap (λ (xs : List LockId). held_after xs o) before.held ∙ sym (held_by_one (script_of w u) (thread_of s u).body.op o at) ∙ ap (λ i. held_by (take i (script_of w u))) (sym ops);
+        waits = λ l side k is. absurd (not_waiter (thread_of r u).place l side k away is);
+      }
+
+-- The steps.
+
+abbrev pub StepAway : Step → Type 0
+StepAway Stay = ⊤
+StepAway (Go m p) = is_waiter p ≡ false
+
+pub waits_after : (step : Step) (s r : State) (u : ℕ) → Stepped step s r → StepAway step → (l : LockId) (side : Side) (k : ℤ) → (thread_of r u).place ≡ Waiting l side k → (thread_of s u).place ≡ Waiting l side k
+waits_after Stay s r u a away l side k is = sym (a u) ∙ is
+waits_after (Go m p) s r u a away l side k is = elim (put_cases m p _ _ a u) [
+  | inl me ↦ absurd (not_waiter p l side k away (sym me.1 ∙ is))
+  | inr other ↦ sym other.1 ∙ is
+]
+
+pub away_after : (step : Step) (s r : State) (u : ℕ) → Stepped step s r → StepAway step → is_waiter (thread_of s u).place ≡ false → is_waiter (thread_of r u).place ≡ false
+away_after Stay s r u a away before = ap is_waiter (a u) ∙ before
+away_after (Go m p) s r u a away before = elim (put_cases m p _ _ a u) [
+  | inl me ↦ ap is_waiter me.1 ∙ away
+  | inr other ↦ ap is_waiter other.1 ∙ before
+]
+
+put_if_away : (w : Work) (n t : ℕ) (at : Option Put) → StepAway (put_step_if w n t at)
+put_if_away w n t None = tt
+put_if_away w n t (Some at) = put_no_waiter w n t at
+
+woken_away : (w : Work) (n : ℕ) (u : Option (ThreadId × Put)) → StepAway (woken_step w n u)
+woken_away w n None = tt
+woken_away w n (Some u) = put_no_waiter w n u.0.0 u.1
+
+reordered_away : (w : Work) (n t : ℕ) (at : Option Put) (p : Place) → StepAway (reordered_step w n t at p)
+reordered_away w n t at (Running x) = tt
+reordered_away w n t at _ = put_if_away w n t at
+
+aged_away : (w : Work) (s : State) (n : ℕ) (c : CpuId) (t : ℕ) → StepAway (aged_step w s n c t)
+aged_away w s n c t = elim (eff_as (aged_class w (thread_of s t).body.class) (thread_of s t).body == eff_of s t) as (λ b. StepAway (if b then Stay else Go t (Queued c (back_key n)))) [ true ↦ tt | false ↦ refl ]
+
+prio_away : (w : Work) (s : State) (n : ℕ) (u : ThreadId) (answer : PrioAnswer) → StepAway (prio_step w s n u answer)
+prio_away w s n u (Changed p at) = reordered_away w n u.0 at (thread_of s u.0).place
+prio_away w s n u (Refused d) = tt
+
+bind_away : (w : Work) (n u : ℕ) (answer : BindAnswer) → StepAway (bind_step w n u answer)
+bind_away w n u (bind_answer.Changed at) = put_if_away w n u at
+bind_away w n u bind_answer.ESRCH = tt
+bind_away w n u bind_answer.EINVAL = tt
+bind_away w n u bind_answer.EPERM = tt
+bind_away w n u bind_answer.EBUSY = tt
+
+abbrev pub is_blocking : Event → Bool
+is_blocking (Block t l) = true
+is_blocking _ = false
+
+pub step_away : (w : Work) (s : State) (n : ℕ) (c : CpuId) (e : Event) → is_blocking e ≡ false → StepAway (step_of w s n c e)
+step_away w s n c (Dispatch t p) quiet = refl
+step_away w s n c (Steal v t p) quiet = refl
+step_away w s n c (Preempt t end) quiet = queue_no_waiter w t.0 c _ (thread_of s t.0).body
+step_away w s n c (Away t d) quiet = refl
+step_away w s n c (Yield t) quiet = queue_no_waiter w t.0 c _ (thread_of s t.0).body
+step_away w s n c (Done t) quiet = refl
+step_away w s n c (Nap t) quiet = refl
+step_away w s n c (Napend t at) quiet = put_no_waiter w n t.0 at
+step_away w s n c (Sleep t k) quiet = refl
+step_away w s n c (Wake t k u) quiet = woken_away w n u
+step_away w s n c (Rouse k u) quiet = woken_away w n u
+step_away w s n c (Block t l) quiet = cc
+step_away w s n c (Will l o p at) quiet = reordered_away w n o.0 at (thread_of s o.0).place
+step_away w s n c (Unblock l u at) quiet = put_no_waiter w n u.0 at
+step_away w s n c (Grant l u at) quiet = put_no_waiter w n u.0 at
+step_away w s n c (Age t p) quiet = aged_away w s n c t.0
+step_away w s n c (Prio t u answer) quiet = prio_away w s n u answer
+step_away w s n c (CvWait t k l) quiet = refl
+step_away w s n c (SemaWait t k) quiet = refl
+step_away w s n c (SemaVWake t k u at) quiet = put_no_waiter w n u.0 at
+step_away w s n c (Move t at) quiet = put_no_waiter w n t.0 at
+step_away w s n c (Bind t u d answer) quiet = bind_away w n u.0 answer
+step_away w s n c e quiet = tt
+
+-- What the cause says of the thread whose operation is over.
+
+pub runs_there : (s : State) (c t : ℕ) → runner s c ≡ Some t → t < length s.threads
+runs_there s c t e = (runner_found s c t e).inside
+
+pub ender_in : (w : Work) (s : State) (c : ℕ) (e : Event) → IsCause w s c e → IsEnderThere s (ender e)
+ender_in w s c (Tick t) cause = runs_there s c t.0 cause.0.1.runs
+ender_in w s c (Yield t) cause = runs_there s c t.0 cause.runs
+ender_in w s c (Nap t) cause = runs_there s c t.0 cause.1.runs
+ender_in w s c (Sleep t k) cause = runs_there s c t.0 cause.runs
+ender_in w s c (Wake t k u) cause = runs_there s c t.0 cause.0.runs
+ender_in w s c (Wakeall t k) cause = runs_there s c t.0 cause.runs
+ender_in w s c (Enter t l) cause = runs_there s c t.0 cause.0.runs
+ender_in w s c (Read t l) cause = runs_there s c t.0 cause.0.runs
+ender_in w s c (Write t l) cause = runs_there s c t.0 cause.0.runs
+ender_in w s c (Exit t l) cause = runs_there s c t.0 cause.runs
+ender_in w s c (Grant l u at) (inl cause) = (waiter_found s l.0 Writer u.0 cause.1).inside
+ender_in w s c (Grant l u at) (inr cause) = (waiter_found s l.0 Reader u.0 cause.1).inside
+ender_in w s c (Prio t u answer) cause = runs_there s c t.0 cause.1.runs
+ender_in w s c (CvWait t k l) cause = runs_there s c t.0 cause.runs
+ender_in w s c (SemaP t k) cause = runs_there s c t.0 cause.0.runs
+ender_in w s c (SemaWait t k) cause = runs_there s c t.0 cause.0.runs
+ender_in w s c (SemaVWake t k u at) cause = runs_there s c t.0 cause.0.runs
+ender_in w s c (SemaVCount t k m) cause = runs_there s c t.0 cause.0.runs
+ender_in w s c (Assign t d to answer) cause = runs_there s c t.0 cause.0.runs
+ender_in w s c (Bind t u d answer) cause = runs_there s c t.0 cause.0.runs
+ender_in w s c e cause = tt
+
+-- the operation that is over, and what it makes of the locks that are held
+pub record IsOver (w : Work) (s r : State) (t : ℕ) : Type 0 where
+  pub by : Op
+  pub stood : op_of w t (thread_of s t).body ≡ Some by
+  pub held : (thread_of r t).body.held.items ≡ held_after (thread_of s t).body.held.items by
+  pub away : is_waiter (thread_of r t).place ≡ false
+
+over_running : (w : Work) (s r : State) (c t : ℕ) (step : Step) (o : Op) → Acts w s c t (Some o) → Stepped step s r → StepAway step
+    → (thread_of r t).body.held.items ≡ held_after (thread_of s t).body.held.items o → IsOver w s r t
+over_running w s r c t step o acts a away held = record {
+  by = o;
+  stood = acts.stands;
+  held = held;
+  away = away_after step s r t a away (runs_no_waiter c (thread_of s t).place (runner_found s c t acts.runs).stands);
+}
+
+pub waits_here : (l : LockId) (side : Side) (p : Place) → is_waiting_at l.0 side p ≡ true → (k : ℤ) × (p ≡ Waiting l side k)
+waits_here l side (Waiting m other k) e = (k, same m other k (and_left (m.0 == l.0) _ e) (and_right (m.0 == l.0) _ e))
+  where
+    and_left : (a b : Bool) → (a && b) ≡ true → a ≡ true
+    and_left true b e = refl
+    and_left false b e = cc
+
+    and_right : (a b : Bool) → (a && b) ≡ true → b ≡ true
+    and_right true b e = e
+    and_right false b e = cc
+
+    side_is : (x y : Side) → same_side x y ≡ true → y ≡ x
+    side_is Writer Writer e = refl
+    side_is Reader Reader e = refl
+    side_is Writer Reader e = cc
+    side_is Reader Writer e = cc
+
+    same : (m : LockId) (other : Side) (k : ℤ) → (m.0 == l.0) ≡ true → same_side side other ≡ true → Waiting m other k ≡ Waiting l side k
+    same m other k e f = let lock : ℕ → LockId = λ i. record { 0 = i } in ap (λ i. Waiting (lock i) other k) (eqb-true m.0 l.0 e) ∙ ap (λ x. Waiting l x k) (side_is side other f)
+waits_here l side (Running c) e = cc
+waits_here l side (Queued c k) e = cc
+waits_here l side (RealTime q k) e = cc
+waits_here l side (Asleep j k) e = cc
+waits_here l side (Napping c due) e = cc
+waits_here l side Ended e = cc
+
+-- an operation that wants a lock takes it
+takes : (o : Op) (l : LockId) (side : Side) (held : List LockId) → wants o ≡ Some (l, side) → held_after held o ≡ held ++ l ∷ []
+takes (op.Enter m) l side held e = ap (λ x. held ++ x.0 ∷ []) (same_Some (m, Writer) (l, side) e)
+takes (op.Read m) l side held e = ap (λ x. held ++ x.0 ∷ []) (same_Some (m, Reader) (l, side) e)
+takes (op.Write m) l side held e = ap (λ x. held ++ x.0 ∷ []) (same_Some (m, Writer) (l, side) e)
+takes (op.Run n) l side held e = cc
+takes op.Yield l side held e = cc
+takes (op.Nap n) l side held e = cc
+takes (op.Sleep k) l side held e = cc
+takes (op.Wake k) l side held e = cc
+takes (op.WakeAll k) l side held e = cc
+takes (op.Exit m) l side held e = cc
+takes (op.Prio t q) l side held e = cc
+takes (op.CvWait k m) l side held e = cc
+takes (op.SemaP k) l side held e = cc
+takes (op.SemaV k) l side held e = cc
+takes (op.Assign d to) l side held e = cc
+takes (op.Pbind t d) l side held e = cc
+
+over_granted : (w : Work) (s r : State) (u : ℕ) (l : LockId) (side : Side) (p : Place) → IsScripted w s u → is_waiting_at l.0 side (thread_of s u).place ≡ true → Stepped (Go u p) s r → is_waiter p ≡ false
+    → (thread_of r u).body.held.items ≡ (thread_of s u).body.held.items ++ l ∷ [] → IsOver w s r u
+over_granted w s r u l side p before waits a away held =
+    let (k, is) = waits_here l side (thread_of s u).place waits in
+    let (o, at, wanted) = before.waits l side k is in
+    record { by = o; stood = at; held = held ∙ sym (takes o l side (thread_of s u).body.held.items wanted); away = ap is_waiter a.at ∙ away }
+
+abbrev pub OverIf : Work → State → State → Option ℕ → Type 0
+OverIf w s r None = ⊤
+OverIf w s r (Some t) = IsOver w s r t
+
+pub over_of : (w : Work) (s r : State) (n : ℕ) (c : CpuId) (e : Event) → IsCause w s c.0 e → Scripted w s → Stepped (step_of w s n c e) s r → HeldGo s r e → OverIf w s r (ender e)
+over_of w s r n c (Tick t) cause before a held = over_running w s r c.0 t.0 (step_of w s n c (Tick t)) (op.Run cause.0.0) (cause.0.1) a (step_away w s n c (Tick t) refl) (held.each t.0)
+over_of w s r n c (Yield t) cause before a held = over_running w s r c.0 t.0 (step_of w s n c (Yield t)) (op.Yield) (cause) a (step_away w s n c (Yield t) refl) (held.each t.0)
+over_of w s r n c (Nap t) cause before a held = over_running w s r c.0 t.0 (step_of w s n c (Nap t)) (op.Nap cause.0) (cause.1) a (step_away w s n c (Nap t) refl) (held.each t.0)
+over_of w s r n c (Sleep t k) cause before a held = over_running w s r c.0 t.0 (step_of w s n c (Sleep t k)) (op.Sleep k) (cause) a (step_away w s n c (Sleep t k) refl) (held.each t.0)
+over_of w s r n c (Wake t k u) cause before a held = over_running w s r c.0 t.0 (step_of w s n c (Wake t k u)) (op.Wake k) (cause.0) a (step_away w s n c (Wake t k u) refl) (held.each t.0)
+over_of w s r n c (Wakeall t k) cause before a held = over_running w s r c.0 t.0 (step_of w s n c (Wakeall t k)) (op.WakeAll k) (cause) a (step_away w s n c (Wakeall t k) refl) (held.each t.0)
+over_of w s r n c (Enter t l) cause before a held = over_running w s r c.0 t.0 (step_of w s n c (Enter t l)) (op.Enter l) (cause.0) a (step_away w s n c (Enter t l) refl) (held.put.at)
+over_of w s r n c (Read t l) cause before a held = over_running w s r c.0 t.0 (step_of w s n c (Read t l)) (op.Read l) (cause.0) a (step_away w s n c (Read t l) refl) (held.put.at)
+over_of w s r n c (Write t l) cause before a held = over_running w s r c.0 t.0 (step_of w s n c (Write t l)) (op.Write l) (cause.0) a (step_away w s n c (Write t l) refl) (held.put.at)
+over_of w s r n c (Exit t l) cause before a held = over_running w s r c.0 t.0 (step_of w s n c (Exit t l)) (op.Exit l) (cause) a (step_away w s n c (Exit t l) refl) (held.put.at)
+over_of w s r n c (Grant l u at) (inl cause) before a held = over_granted w s r u.0 l Writer (place_put w n u.0 at) (before u.0 (waiter_found s l.0 Writer u.0 cause.1).inside) (waiter_found s l.0 Writer u.0 cause.1).stands a (put_no_waiter w n u.0 at) held.put.at
+over_of w s r n c (Grant l u at) (inr cause) before a held = over_granted w s r u.0 l Reader (place_put w n u.0 at) (before u.0 (waiter_found s l.0 Reader u.0 cause.1).inside) (waiter_found s l.0 Reader u.0 cause.1).stands a (put_no_waiter w n u.0 at) held.put.at
+over_of w s r n c (Prio t u answer) cause before a held = over_running w s r c.0 t.0 (step_of w s n c (Prio t u answer)) (op.Prio u cause.0) (cause.1) a (step_away w s n c (Prio t u answer) refl) (held.each t.0)
+over_of w s r n c (CvWait t k l) cause before a held = over_running w s r c.0 t.0 (step_of w s n c (CvWait t k l)) (op.CvWait k l) (cause) a (step_away w s n c (CvWait t k l) refl) (held.put.at)
+over_of w s r n c (SemaP t k) cause before a held = over_running w s r c.0 t.0 (step_of w s n c (SemaP t k)) (op.SemaP k) (cause.0) a (step_away w s n c (SemaP t k) refl) (held.each t.0)
+over_of w s r n c (SemaWait t k) cause before a held = over_running w s r c.0 t.0 (step_of w s n c (SemaWait t k)) (op.SemaP k) (cause.0) a (step_away w s n c (SemaWait t k) refl) (held.each t.0)
+over_of w s r n c (SemaVWake t k u at) cause before a held = over_running w s r c.0 t.0 (step_of w s n c (SemaVWake t k u at)) (op.SemaV k) (cause.0) a (step_away w s n c (SemaVWake t k u at) refl) (held.each t.0)
+over_of w s r n c (SemaVCount t k m) cause before a held = over_running w s r c.0 t.0 (step_of w s n c (SemaVCount t k m)) (op.SemaV k) (cause.0) a (step_away w s n c (SemaVCount t k m) refl) (held.each t.0)
+over_of w s r n c (Assign t d to answer) cause before a held = over_running w s r c.0 t.0 (step_of w s n c (Assign t d to answer)) (op.Assign d to) (cause.0) a (step_away w s n c (Assign t d to answer) refl) (held.each t.0)
+over_of w s r n c (Bind t u d answer) cause before a held = over_running w s r c.0 t.0 (step_of w s n c (Bind t u d answer)) (op.Pbind u d) (cause.0) a (step_away w s n c (Bind t u d answer) refl) (held.each t.0)
+over_of w s r n c e cause before a held = tt
+
+-- the locks that another thread holds
+held_other : (s r : State) (e : Event) (u : ℕ) → HeldGo s r e → ((t : ℕ) → ender e ≡ Some t → u ≢ t) → (thread_of r u).body.held.items ≡ (thread_of s u).body.held.items
+held_other s r (Enter t l) thread held other = held.put.others thread (other t.0 refl)
+held_other s r (Read t l) thread held other = held.put.others thread (other t.0 refl)
+held_other s r (Write t l) thread held other = held.put.others thread (other t.0 refl)
+held_other s r (Exit t l) thread held other = held.put.others thread (other t.0 refl)
+held_other s r (Grant l u at) thread held other = held.put.others thread (other u.0 refl)
+held_other s r (CvWait t k l) thread held other = held.put.others thread (other t.0 refl)
+held_other s r e thread held other = held.each thread
+
+-- a thread that blocks stands at an operation that wants the lock
+pub side_is : (o : Op) (l : LockId) (side : Side) → wants o ≡ Some (l, side) → side_of (Some o) ≡ side
+side_is (op.Enter m) l side e = ap (λ x. x.1) (same_Some (m, Writer) (l, side) e)
+side_is (op.Read m) l side e = ap (λ x. x.1) (same_Some (m, Reader) (l, side) e)
+side_is (op.Write m) l side e = ap (λ x. x.1) (same_Some (m, Writer) (l, side) e)
+side_is (op.Run n) l side e = cc
+side_is op.Yield l side e = cc
+side_is (op.Nap n) l side e = cc
+side_is (op.Sleep k) l side e = cc
+side_is (op.Wake k) l side e = cc
+side_is (op.WakeAll k) l side e = cc
+side_is (op.Exit m) l side e = cc
+side_is (op.Prio t q) l side e = cc
+side_is (op.CvWait k m) l side e = cc
+side_is (op.SemaP k) l side e = cc
+side_is (op.SemaV k) l side e = cc
+side_is (op.Assign d to) l side e = cc
+side_is (op.Pbind t d) l side e = cc
+
+module _ (w : Work) (s r : State) (n : ℕ) (c : CpuId) (u : ℕ) (before : IsScripted w s u) where
+  quiet_scripted : (step : Step) → Stepped step s r → StepAway step → (thread_of r u).body.op ≡ (thread_of s u).body.op → (thread_of r u).body.held.items ≡ (thread_of s u).body.held.items → IsScripted w r u
+  quiet_scripted step a away ops held = keeps w s r u before ops held (λ l side k is. before.waits l side k (waits_after step s r u a away l side k is))
+
+  over_scripted : (step : Step) → Stepped step s r → StepAway step → IsOver w s r u → Finished s r u → IsScripted w r u
+  over_scripted step a away over ends = goes_on w s r u before over.by over.stood ends.ops.at over.held over.away
+
+  block_scripted : (t : ℕ) (l : LockId) (side : Side) (by : Op) → Acts w s c.0 t (Some by) → wants by ≡ Some (l, side)
+      → Stepped (Go t (Waiting l (side_of (op_of w t (thread_of s t).body)) (back_key n))) s r
+      → (thread_of r u).body.op ≡ (thread_of s u).body.op → (thread_of r u).body.held.items ≡ (thread_of s u).body.held.items → IsScripted w r u
+  block_scripted t l side by acts wanted a ops held = keeps w s r u before ops held (λ m other k is. elim (put_cases t _ _ _ a u) [
+    | inl me ↦
+        let here : Waiting l (side_of (op_of w t (thread_of s t).body)) (back_key n) ≡ Waiting m other k = sym me.1 ∙ is in
+        let which : side_of (op_of w t (thread_of s t).body) ≡ side = ap side_of acts.stands ∙ side_is by l side wanted in
+        let locks : l ≡ m = cc in
+        let sides : side_of (op_of w t (thread_of s t).body) ≡ other = cc in
+        (by, subst (λ v. op_of w v (thread_of s v).body ≡ Some by) (sym me.0) acts.stands, wanted ∙ ap (λ x. Some (x, side)) locks ∙ ap (λ x. Some (m, x)) (sym which ∙ sides))
+    | inr him ↦ before.waits m other k (sym him.1 ∙ is)
+  ])
+
+finished_by : (w : Work) (s r : State) (n : ℕ) (c : CpuId) (e : Event) (t : ℕ) → ender e ≡ Some t → IsOver w s r t → Finished s r t → HeldGo s r e → Stepped (step_of w s n c e) s r
+    → StepAway (step_of w s n c e) → (u : ℕ) → IsScripted w s u → IsScripted w r u
+finished_by w s r n c e t ends over done held a away u before = elim (cases_eq u t) [
+  | inl me ↦ subst (λ v. IsScripted w r v) (sym me) (over_scripted w s r n c t (subst (λ v. IsScripted w s v) me before) (step_of w s n c e) a away over done)
+  | inr other ↦ quiet_scripted w s r n c u before (step_of w s n c e) a away (done.ops.others u other) (held_other s r e u held (apart other))
+]
+  where
+    apart : u ≢ t → (v : ℕ) → ender e ≡ Some v → u ≢ v
+    apart other v is same = let t_is : t ≡ v = same_Some t v (sym ends ∙ is) in other (same ∙ sym t_is)
+
+-- where what each event makes of operations, locks and places is known, threads stand where they stand in their scripts
+pub scripted_by : (w : Work) (s r : State) (n : ℕ) (c : CpuId) (e : Event) → Scripted w s → IsCause w s c.0 e → OpsGo s r e → HeldGo s r e → Stepped (step_of w s n c e) s r
+    → (u : ℕ) → IsScripted w s u → IsScripted w r u
+scripted_by w s r n c (Block t l) all cause ops held a u before =
+    let wanted = cause.1 in
+    block_scripted w s r n c u before t.0 l cause.0 wanted.by wanted.acts wanted.wanted a (ops.each u) (held.each u)
+scripted_by w s r n c (Tick t) all cause (inl same) held a thread before = quiet_scripted w s r n c thread before (step_of w s n c (Tick t)) a (step_away w s n c (Tick t) refl) (same.each thread) (held.each thread)
+scripted_by w s r n c (Tick t) all cause (inr done) held a thread before = finished_by w s r n c (Tick t) t.0 refl (over_of w s r n c (Tick t) cause all a held) done held a (step_away w s n c (Tick t) refl) thread before
+scripted_by w s r n c (Yield t) all cause ops held a thread before = finished_by w s r n c (Yield t) t.0 refl (over_of w s r n c (Yield t) cause all a held) ops held a (step_away w s n c (Yield t) refl) thread before
+scripted_by w s r n c (Nap t) all cause ops held a thread before = finished_by w s r n c (Nap t) t.0 refl (over_of w s r n c (Nap t) cause all a held) ops held a (step_away w s n c (Nap t) refl) thread before
+scripted_by w s r n c (Sleep t k) all cause ops held a thread before = finished_by w s r n c (Sleep t k) t.0 refl (over_of w s r n c (Sleep t k) cause all a held) ops held a (step_away w s n c (Sleep t k) refl) thread before
+scripted_by w s r n c (Wake t k u) all cause ops held a thread before = finished_by w s r n c (Wake t k u) t.0 refl (over_of w s r n c (Wake t k u) cause all a held) ops held a (step_away w s n c (Wake t k u) refl) thread before
+scripted_by w s r n c (Wakeall t k) all cause ops held a thread before = finished_by w s r n c (Wakeall t k) t.0 refl (over_of w s r n c (Wakeall t k) cause all a held) ops held a (step_away w s n c (Wakeall t k) refl) thread before
+scripted_by w s r n c (Enter t l) all cause ops held a thread before = finished_by w s r n c (Enter t l) t.0 refl (over_of w s r n c (Enter t l) cause all a held) ops held a (step_away w s n c (Enter t l) refl) thread before
+scripted_by w s r n c (Read t l) all cause ops held a thread before = finished_by w s r n c (Read t l) t.0 refl (over_of w s r n c (Read t l) cause all a held) ops held a (step_away w s n c (Read t l) refl) thread before
+scripted_by w s r n c (Write t l) all cause ops held a thread before = finished_by w s r n c (Write t l) t.0 refl (over_of w s r n c (Write t l) cause all a held) ops held a (step_away w s n c (Write t l) refl) thread before
+scripted_by w s r n c (Exit t l) all cause ops held a thread before = finished_by w s r n c (Exit t l) t.0 refl (over_of w s r n c (Exit t l) cause all a held) ops held a (step_away w s n c (Exit t l) refl) thread before
+scripted_by w s r n c (Grant l u at) all cause ops held a thread before = finished_by w s r n c (Grant l u at) u.0 refl (over_of w s r n c (Grant l u at) cause all a held) ops held a (step_away w s n c (Grant l u at) refl) thread before
+scripted_by w s r n c (Prio t u answer) all cause ops held a thread before = finished_by w s r n c (Prio t u answer) t.0 refl (over_of w s r n c (Prio t u answer) cause all a held) ops held a (step_away w s n c (Prio t u answer) refl) thread before
+scripted_by w s r n c (CvWait t k l) all cause ops held a thread before = finished_by w s r n c (CvWait t k l) t.0 refl (over_of w s r n c (CvWait t k l) cause all a held) ops held a (step_away w s n c (CvWait t k l) refl) thread before
+scripted_by w s r n c (SemaP t k) all cause ops held a thread before = finished_by w s r n c (SemaP t k) t.0 refl (over_of w s r n c (SemaP t k) cause all a held) ops held a (step_away w s n c (SemaP t k) refl) thread before
+scripted_by w s r n c (SemaWait t k) all cause ops held a thread before = finished_by w s r n c (SemaWait t k) t.0 refl (over_of w s r n c (SemaWait t k) cause all a held) ops held a (step_away w s n c (SemaWait t k) refl) thread before
+scripted_by w s r n c (SemaVWake t k u at) all cause ops held a thread before = finished_by w s r n c (SemaVWake t k u at) t.0 refl (over_of w s r n c (SemaVWake t k u at) cause all a held) ops held a (step_away w s n c (SemaVWake t k u at) refl) thread before
+scripted_by w s r n c (SemaVCount t k m) all cause ops held a thread before = finished_by w s r n c (SemaVCount t k m) t.0 refl (over_of w s r n c (SemaVCount t k m) cause all a held) ops held a (step_away w s n c (SemaVCount t k m) refl) thread before
+scripted_by w s r n c (Assign t d to answer) all cause ops held a thread before = finished_by w s r n c (Assign t d to answer) t.0 refl (over_of w s r n c (Assign t d to answer) cause all a held) ops held a (step_away w s n c (Assign t d to answer) refl) thread before
+scripted_by w s r n c (Bind t u d answer) all cause ops held a thread before = finished_by w s r n c (Bind t u d answer) t.0 refl (over_of w s r n c (Bind t u d answer) cause all a held) ops held a (step_away w s n c (Bind t u d answer) refl) thread before
+scripted_by w s r n c e all cause ops held a thread before = quiet_scripted w s r n c thread before (step_of w s n c e) a (step_away w s n c e refl) (ops.each thread) (held.each thread)

@@ -1,5 +1,0 @@
-use Rattle.sd_sound.proofs.FineLemmas.{sound_law}
-use Rattle.sd_sound.proofs.laws.inheritance_is_sound.Goals as goal
-
-pub returns : goal.returns
-returns c = sound_law

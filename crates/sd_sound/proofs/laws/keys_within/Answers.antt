@@ -1,5 +1,0 @@
-use Rattle.sd_sound.proofs.KeyLemmas.{keys_within_law}
-use Rattle.sd_sound.proofs.laws.keys_within.Goals as goal
-
-pub returns : goal.returns
-returns c = keys_within_law

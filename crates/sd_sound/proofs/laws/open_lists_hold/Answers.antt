@@ -1,5 +1,0 @@
-use Rattle.sd_sound.proofs.Whole.{reached_whole}
-use Rattle.sd_sound.proofs.laws.open_lists_hold.Goals as goal
-
-pub returns : goal.returns
-returns c = λ w n s reached. (reached_whole w n s reached).opened

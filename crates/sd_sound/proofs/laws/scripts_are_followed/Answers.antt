@@ -1,5 +1,0 @@
-use Rattle.sd_sound.proofs.Ready.{reached_ready}
-use Rattle.sd_sound.proofs.laws.scripts_are_followed.Goals as goal
-
-pub returns : goal.returns
-returns c = λ w n s reached. (reached_ready w n s reached).scripted

@@ -1,5 +1,0 @@
-use Rattle.sd_sound.proofs.Whole.{fit_reached}
-use Rattle.sd_sound.proofs.laws.states_fit.Goals as goal
-
-pub returns : goal.returns
-returns r = λ w n s reached. fit_reached w n s reached
