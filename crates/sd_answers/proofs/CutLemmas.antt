@@ -17,9 +17,6 @@ use Rattle.sd_answers.specs.Passing.{HasPassed}
 abbrev IsOther : List ℕ → Type 0
 IsOther line = line ≢ codes "journal"
 
-pub passed_none : (text : List ℕ) → HasPassed text 0
-passed_none text = record { lines = []; are_lines = refl; none = All-nil IsOther; told = refl; parts = λ h. refl }
-
 -- what stands from a line on is the line and what stands from its end on
 from_line : (text line : List ℕ) (from end : ℕ) → from ≤ end → line ≡ take (end - from) (drop from text) → drop from text ≡ line ++ drop end text
 from_line text line from end within is =

@@ -35,7 +35,7 @@ use Rattle.sd_machine.specs.Prioritising.{walk_from}
 use Rattle.sd_machine.specs.Events.{drop_ageing}
 use Rattle.sd_state.specs.Invariants.{is_marked}
 use Rattle.sd_chains.proofs.Moves.{IsSame, IsPut}
-use Rattle.sd_frames.proofs.Parts.{put_item, same_item, set_past, put_same, same_put, put_put}
+use Rattle.sd_frames.proofs.Parts.{put_item, same_item, set_past, put_same, same_put}
 use Rattle.sd_frames.proofs.Words.{of_threads}
 use Rattle.sd_frames.proofs.CpuWords.{of_cpus}
 use Rattle.sd_frames.proofs.PlaceTable.{place_part}
@@ -146,14 +146,8 @@ calm_weighs s r q t x a b = record { keeps = then_keeps s r q a.keeps b.keeps; m
 pub weighs_calm : (s r q : State) (t : ℕ) (x : Weight) → Weighs s r t x → Calm r q → Weighs s q t x
 weighs_calm s r q t x a b = record { keeps = then_keeps s r q a.keeps b.keeps; marks = λ u. b.marks u ∙ a.marks u; weights = put_same t x a.weights b.weights }
 
-pub then_weighs : (s r q : State) (t : ℕ) (x y : Weight) → Weighs s r t x → Weighs r q t y → Weighs s q t y
-then_weighs s r q t x y a b = record { keeps = then_keeps s r q a.keeps b.keeps; marks = λ u. b.marks u ∙ a.marks u; weights = put_put t x y a.weights b.weights }
-
 pub weighs_alike : (s r q : State) (t : ℕ) (x : Weight) → Weighs s r t x → Alike r q → Weighed s q t x
 weighs_alike s r q t x a b = record { keeps = then_keeps s r q a.keeps b.keeps; marks = then_more s r q a.keeps (more_same s r a.marks) b.marks; weights = put_same t x a.weights b.weights }
-
-pub calm_weighed : (s r q : State) (t : ℕ) (x : Weight) → Calm s r → Weighed r q t x → Weighed s q t x
-calm_weighed s r q t x a b = record { keeps = then_keeps s r q a.keeps b.keeps; marks = then_more s r q a.keeps (more_same s r a.marks) b.marks; weights = same_put t x a.weights b.weights }
 
 pub weighed_alike : (s r q : State) (t : ℕ) (x : Weight) → Weighed s r t x → Alike r q → Weighed s q t x
 weighed_alike s r q t x a b = record { keeps = then_keeps s r q a.keeps b.keeps; marks = then_more s r q a.keeps a.marks b.marks; weights = put_same t x a.weights b.weights }

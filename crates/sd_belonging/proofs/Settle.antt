@@ -27,7 +27,6 @@ use Rattle.sd_machine.specs.Events.{drop_ageing, effect, after}
 use Rattle.sd_chains.proofs.Moves.{IsPut}
 use Rattle.sd_frames.specs.Causes.{IsCause}
 use Rattle.sd_frames.proofs.CpuWords as C
-use Rattle.sd_frames.proofs.CpuWords.{of_cpus}
 use Rattle.sd_frames.proofs.Words.{of_threads}
 use Rattle.sd_frames.proofs.HoldTable.{bound_part, pbound_bound}
 use Rattle.sd_invariants.proofs.OpenLemmas.{place_part as set_part, place_marks, places_plain, cpus_same, other_place}

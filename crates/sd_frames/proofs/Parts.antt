@@ -36,9 +36,6 @@ put_same t x put same = record { at = same t ∙ put.at; others = λ u other. sa
 pub same_put : {X : Type 0} {f g h : ℕ → X} (t : ℕ) (x : X) → IsSame f g → IsPut t x g h → IsPut t x f h
 same_put t x same put = record { at = put.at; others = λ u other. put.others u other ∙ same u }
 
-pub same_same : {X : Type 0} {f g h : ℕ → X} → IsSame f g → IsSame g h → IsSame f h
-same_same a b u = b u ∙ a u
-
 pub same_is_put : {X : Type 0} {f g : ℕ → X} (t : ℕ) (x : X) → IsSame f g → f t ≡ x → IsPut t x f g
 same_is_put t x same is = record { at = same t ∙ is; others = λ u other. same u }
 

@@ -24,7 +24,7 @@ use Rattle.sd_machine.specs.Events.{effect, after, drop_ageing, dropped_duty}
 use Rattle.sd_machine.proofs.ShapeLemmas.{woken_shape, lock_shape, then_shape}
 use Rattle.sd_frames.proofs.Parts.{same_item}
 use Rattle.sd_frames.proofs.LockTable as T
-use Rattle.sd_frames.proofs.LockTable.{duty_part, duty_marks}
+use Rattle.sd_frames.proofs.LockTable.{duty_part}
 use Rattle.sd_frames.proofs.ReleaseLemmas.{drop_shape}
 use Rattle.sd_frames.proofs.CpuWords as C
 

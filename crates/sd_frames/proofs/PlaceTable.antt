@@ -10,7 +10,7 @@ use Rattle.sd_frames.specs.Causes.{IsCause, IsAnswered}
 use Rattle.sd_frames.specs.Moves.{Step, put_step, put_step_if, woken_step, reordered_step, aged_step, prio_step, bind_step, step_of}
 use Rattle.sd_frames.specs.Moves.Step.{Stay, Go}
 use Rattle.sd_frames.proofs.Found.{age_found}
-use Rattle.sd_frames.proofs.Parts.{same_item, put_item, put_same, same_put, put_is}
+use Rattle.sd_frames.proofs.Parts.{same_item, put_item, put_same, same_put}
 use Rattle.sd_frames.proofs.Words.{of_threads}
 use Rattle.sd_types.specs.declared.numbers.ChanId.{ChanId}
 use Rattle.sd_types.specs.declared.numbers.CpuId.{CpuId}
@@ -289,9 +289,6 @@ moved_still s r q t place a b = record { places = put_same t place a.places b.pl
 
 still_moved : (s r q : State) (t : ℕ) (place : Place) → Still s r → Moved r q t place → Moved s q t place
 still_moved s r q t place a b = record { places = same_put t place a.places b.places }
-
-moved_to : (s r : State) (t : ℕ) (place there : Place) → Moved s r t place → place ≡ there → Moved s r t there
-moved_to s r t place there a is = record { places = put_is t place there a.places is }
 
 thread_moved : (s : State) (t : ℕ) (x : ThreadState) → t < length s.threads → Moved s (with_thread s t x) t x.place
 thread_moved s t x here = record { places = put_item place_part s.threads no_thread t x here }

@@ -23,7 +23,7 @@ use Rattle.sd_machine.specs.Locking.{kind_of, writer_first, after_writer, after_
 use Rattle.sd_machine.specs.Events.{effect, after, drop_ageing}
 use Rattle.sd_frames.specs.Passing.{pass_of}
 use Rattle.sd_frames.proofs.LockTable as T
-use Rattle.sd_frames.proofs.LockTable.{pass_part, duty_part}
+use Rattle.sd_frames.proofs.LockTable.{duty_part}
 use Rattle.sd_frames.proofs.CpuWords as C
 use Rattle.sd_machine.proofs.ShapeLemmas.{IsShaped, set_duty_shape}
 use Rattle.sd_frames.proofs.Searches.{has_waiters_at, waiter_none}

@@ -39,10 +39,6 @@ pub waiter_some : (s : State) (l : ℕ) (side : Side) (t : ℕ) → t < length s
 unfolding best_waiter
 waiter_some s l side t inside stands = some_stands (λ x. is_waiting_at l side x.place) beats no_thread beats_order s.threads t inside stands
 
-pub sleeper_none : (s : State) (k : ℕ) → best_sleeper s k ≡ None → (t : ℕ) → t < length s.threads → is_asleep k (thread_of s t).place ≡ false
-unfolding best_sleeper
-sleeper_none s k none t inside = none_stands (λ x. is_asleep k x.place) beats no_thread beats_order s.threads none t inside
-
 pub sleeper_some : (s : State) (k t : ℕ) → t < length s.threads → is_asleep k (thread_of s t).place ≡ true → best_sleeper s k ≢ None
 unfolding best_sleeper
 sleeper_some s k t inside stands = some_stands (λ x. is_asleep k x.place) beats no_thread beats_order s.threads t inside stands

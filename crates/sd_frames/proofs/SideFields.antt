@@ -27,7 +27,6 @@ use Rattle.sd_machine.specs.Events.{drop_ageing, effect, after}
 use Rattle.sd_machine.specs.Locking.{owned, read, granted_to_reader}
 use Rattle.sd_machine.specs.Changes.{hold}
 use Rattle.sd_state.specs.States.{with_thread, with_cpu}
-use Rattle.sd_frames.proofs.FieldWords.{keeps_fields}
 
 -- the event takes from a semaphore or counts it up, or changes the open processors of a set
 abbrev pub is_side : Event → Bool

@@ -38,7 +38,7 @@ use Rattle.sd_machine.specs.Events.{keeps_ageing, dropped_duty, drop_ageing, eff
 use Rattle.sd_frames.specs.Causes.{IsFree, IsCause}
 use Rattle.sd_frames.proofs.CpuWords as C
 use Rattle.sd_frames.proofs.LockTable as T
-use Rattle.sd_frames.proofs.LockTable.{duty_part, duty_marks}
+use Rattle.sd_frames.proofs.LockTable.{duty_part}
 
 abbrev pub walk_part : CpuState → Option G.Walk
 walk_part x = walk_of x.duty

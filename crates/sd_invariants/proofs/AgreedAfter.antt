@@ -49,7 +49,7 @@ use Rattle.sd_frames.proofs.HoldTable.{held_part, Goes}
 use Rattle.sd_frames.proofs.PlaceTable.{Stepped}
 use Rattle.sd_invariants.proofs.ScriptLemmas.{HeldGo, StepAway, step_away}
 use Rattle.sd_frames.proofs.LockTable as T
-use Rattle.sd_frames.proofs.LockTable.{locks_field, duty_part, pass_part, pass_marks, duty_marks, is_lockless}
+use Rattle.sd_frames.proofs.LockTable.{locks_field, duty_part, pass_part, pass_marks}
 use Rattle.sd_frames.proofs.FieldWords as F
 use Rattle.sd_frames.proofs.CpuWords as C
 use Rattle.sd_invariants.proofs.AgreedLemmas as A
@@ -79,9 +79,6 @@ put_passes s r c d is = (λ e other. ap pass_of (is.put.others e other), ap pass
 
 duty_kept : (s r : State) → T.Duties s r → C.Kept pass_part s r
 duty_kept s r a = record { each = λ d. ap pass_of (a.each d) }
-
-both_duties : (s r q : State) (c : ℕ) (d : Duty) → C.Kept pass_part s r → T.DutyIs r q c d → ((e : ℕ) → e ≢ c → (table q).passes e ≡ (table s).passes e) × ((table q).passes c ≡ pass_of d)
-both_duties s r q c d a is = (λ e other. ap pass_of (is.put.others e other) ∙ a.each e, ap pass_of is.put.at)
 
 -- a dropped ageing leaves the locks, and every duty that is not ageing
 drop_locks : (s : State) (c : ℕ) (e : Event) → (drop_ageing s c e).locks ≡ s.locks

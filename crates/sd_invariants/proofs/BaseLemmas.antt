@@ -12,7 +12,7 @@ use Rattle.sd_types.specs.ClassNumbers.{TsNumbers}
 use Rattle.sd_types.specs.declared.events.Denied.TheVariants.{EINVAL, EPERM}
 use Rattle.sd_types.specs.declared.scripts.Request.{Request}
 use Rattle.sd_types.specs.declared.works.Work.{Work}
-use Rattle.sd_types.specs.Priorities.{umdpri, base_of, at_least_zero}
+use Rattle.sd_types.specs.Priorities.{base_of, at_least_zero}
 use Rattle.sd_rules.specs.ClassRules.{fx_tick, fx_wake, rt_tick, rt_wake, class_requeue}
 use Rattle.sd_rules.specs.Priocntl.{is_sys, class_of_parms, from_zero_to, numbers_fit, is_invalid, is_forbidden, lowered, new_parms, judged, entered}
 use Rattle.sd_state.specs.declared.states.State.{State}
@@ -22,9 +22,6 @@ use Rattle.sd_machine.specs.Prioritising.{answer_to, new_class, target_of, uid_o
 
 abbrev pub IsBelow : ClassState → Type 0
 IsBelow k = base_of k < 160
-
-ts_below : (s : TsNumbers) → umdpri s < 160
-ts_below s = omega arith
 
 pub tick_below : (w : Work) (k : ClassState) → IsBelow k → IsBelow (ticked_class w k)
 unfolding fx_tick rt_tick

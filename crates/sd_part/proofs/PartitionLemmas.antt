@@ -303,13 +303,6 @@ all_partitions w (suc n) a h =
 pub lists_stand : (w : Work) → list_all is_partition (lists_of w) ≡ true
 lists_stand w = all_partitions w (length w.sets + 1) 0 (omega arith)
 
--- the two parts of the test of a partition
-pub is_partition-some : (cpus : List CpuId) → is_partition cpus ≡ true → 0 < length cpus
-is_partition-some cpus h = grind (arith, nat_tests)
-
-pub is_partition-rising : (cpus : List CpuId) → is_partition cpus ≡ true → is_rising cpus ≡ true
-is_partition-rising cpus h = grind (arith, nat_tests)
-
 -- what the lists of a workload have at an index
 pub sets-at : (w : Work) (c : ℕ) (d : SetId) → c < length (sets_of w) → (get_or (sets_of w) c d).0 ≡ set_of_cpu w c
 sets-at w c d h =

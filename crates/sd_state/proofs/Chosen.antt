@@ -55,10 +55,6 @@ pub runs_there : (s : State) (c t : ℕ) → Runs s c t → is_running c (places
 unfolding running
 runs_there s c t r = (position-Some (λ (x : ThreadState). is_running c x.place) s.threads t no_thread r).1
 
-pub best_inside : (s : State) (c p t : ℕ) → best_ready c p s.threads ≡ Some t → t < length s.threads
-unfolding best_ready
-best_inside s c p t e = (position-Some (leads_by (λ x. is_ready c p x.place) beats s.threads) s.threads t no_thread e).0
-
 -- the best of the first n
 best_below : {X : Type 0} (on : X → Bool) (beats : X → X → Bool) (d : X) → IsOrder beats → (xs : List X) (n : ℕ) → (o : Option ℕ) × IsBestBelow on beats d xs n o
 best_below on beats d order xs zero = (None, λ k h. absurd (omega arith))

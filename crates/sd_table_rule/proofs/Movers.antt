@@ -25,7 +25,7 @@ use Rattle.sd_machine.specs.Changes.{back_key}
 use Rattle.sd_machine.specs.Events.{after, next}
 use Rattle.sd_machine.specs.Runs.{IsReached, IsRun}
 use Rattle.sd_machine.specs.Threads.{eff_of}
-use Rattle.sd_frames.specs.Moves.{Step, aged_step, bind_step, prio_step, put_step_if, reordered_step, step_of, woken_step}
+use Rattle.sd_frames.specs.Moves.{Step, aged_step, bind_step, prio_step, put_step_if, reordered_step, step_of}
 use Rattle.sd_invariants.proofs.Movers.{mover_there}
 use Rattle.sd_frames.proofs.PlaceTable.{Stepped, after_steps, step_needs}
 use Rattle.sd_invariants.proofs.Ready.{reached_ready, ready_cause}
@@ -39,9 +39,6 @@ use Rattle.sd_table_rule.proofs.Bridge.{now_push, reached, run_before, step_of a
 put_goes : (w : Work) (n t : ℕ) (at : Option Put) (u : ℕ) (to : Place) → put_step_if w n t at ≡ Step.Go u to → t ≡ u
 put_goes w n t None u to e = absurd cc
 put_goes w n t (Some at) u to e = cc
-
-woken_goes : (w : Work) (n : ℕ) (x : ThreadId × Put) (u : ℕ) (to : Place) → woken_step w n (Some x) ≡ Step.Go u to → x.0.0 ≡ u
-woken_goes w n x u to e = cc
 
 reordered_goes : (w : Work) (n t : ℕ) (at : Option Put) (p : Place) (u : ℕ) (to : Place) → reordered_step w n t at p ≡ Step.Go u to → t ≡ u
 reordered_goes w n t at (place.Running c) u to e = absurd cc

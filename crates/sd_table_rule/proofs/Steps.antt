@@ -36,9 +36,6 @@ use Rattle.sd_table_rule.proofs.Seats.{seats, apart_cpus, lock_else, stray_else,
 abbrev pub TS : Type 0
 TS = TableState Slot View
 
-suc_apart : (a b : ℕ) → a ≢ b → suc a ≢ suc b
-suc_apart a b n e = n (omega arith)
-
 module _ (w : Work) where
   -- the desk of a seat
   pub desk_at : (s : TS) (kept : Kept w s) (id : ℕ) (d : Desk) → get_elem? s.views id ≡ M.some (Works d) → Desked w kept.ledger (lock_of w s.words) id d

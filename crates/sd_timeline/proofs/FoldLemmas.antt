@@ -13,17 +13,6 @@ use Rattle.sd_timeline.specs.Folds.{AllFoldsAreQuiet, are_few, changes_in, colum
 
 -- ---- where ticks lie
 
-pub place_here : (s start tick : ℕ) (x : Column) (xs : List Column) → nat_lt tick x.to ≡ true → place_from s start tick (x ∷ xs) ≡ long s start (min tick x.from)
-unfolding place_from
-place_here s start tick x xs h =
-    ap (λ b. if b then long s start (min tick x.from) else long s start x.from + 40 + place_from s x.to tick xs) h
-
-pub place_past : (s start tick : ℕ) (x : Column) (xs : List Column) → nat_lt tick x.to ≡ false
-    → place_from s start tick (x ∷ xs) ≡ long s start x.from + 40 + place_from s x.to tick xs
-unfolding place_from
-place_past s start tick x xs h =
-    ap (λ b. if b then long s start (min tick x.from) else long s start x.from + 40 + place_from s x.to tick xs) h
-
 -- ---- ranges and columns
 
 range_join : (a m n : ℕ) → range_with_len a m ++ range_with_len (a + m) n ≡ range_with_len a (m + n)

@@ -55,10 +55,6 @@ use Rattle.sd_timeline.specs.Plain.{HasPlainTitles}
 
 -- ---- pieces
 
-attribute-text : (name : List ℕ) (n : ℕ) → IsText name → IsText (attribute name n)
-unfolding attribute
-attribute-text name n h = simp (list_all-append is_text_byte, h, decimal-text)
-
 bar-start-text : (class : List ℕ) (x y width height : ℕ) → IsText class → IsText (bar_start class x y width height)
 unfolding bar_start box_text attribute
 bar-start-text class x y width height h = simp (list_all-append is_text_byte, h, decimal-text)
