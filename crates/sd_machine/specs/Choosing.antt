@@ -1,6 +1,16 @@
 -- On which processor a thread is put that is made runnable, what is read for that, and from which processor a thread
 -- is stolen.
 -- Source: Solaris Internals (cpu_choose, disp_getwork); hints, and the three ticks of warmth, are this project's own.
+--
+-- Why: what a thread used last may still be in the cache of the processor on which it ran, so it goes back there for a while; later
+-- it goes where it has the best chance to run at once, to the processor that runs the least priority, best of all nothing. To
+-- know that, other processors are read, and as in the kernel without their locks: a number that was read may be old when it
+-- is used. So an entry records the numbers that it used, and is right with those, whatever the others do meanwhile.
+--
+-- For example, a thread last ran on processor 1, of a set with 0, 1, 2 and 3 open. Two ticks after it left it is put on 1, and
+-- nothing is read. Ten ticks after, the running threads are read: with the numbers 31, 0, 61, 0 (a priority of 30, nobody, 60,
+-- nobody) both 1 and 3 have the least, and it goes to 1, where it was; with 31, 25, 61, 0 it goes to 3. A bound thread goes where
+-- it is bound.
 use Rattle.std.specs.Prelude.{ℕ, ◌+◌, Bool, false, not, ◌&&◌, ◌||◌, List, [], ◌∷◌, length, filter, replicate, nat_le, ◌==◌, Option, Some, None, is_none, if◌then◌else◌}
 use Rattle.sd_types.specs.declared.numbers.CpuId.{CpuId}
 use Rattle.sd_types.specs.declared.events.Hints.{Hints}

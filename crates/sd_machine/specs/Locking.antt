@@ -1,6 +1,17 @@
 -- Mutexes and readers/writer locks: enter, read, write, block, exit, unblock, grant, passed.
 -- Source: Solaris Internals (adaptive mutexes, rwlocks, turnstiles); that a mutex is free for whoever comes while its waiters
 -- are woken, and that a rwlock is handed over, one waiter after another, are this project's own.
+--
+-- Why the two kinds are given up in different ways: a mutex is held for a short time, so that all its waiters are woken and ask
+-- for it again, and whoever asks first has it. Readers and writers could starve one another like that; so a rwlock goes from
+-- its last holder straight to those that are chosen, without being free, and they wake as its holders (rw_exit, turnstile_wakeup).
+-- Waking takes one event for each waiter. Meanwhile the lock is passing, from the processor that has the duty, and who asks for
+-- it spins: it is neither free nor owned by anybody who could inherit a priority.
+--
+-- For example, a writer gives a rwlock up for which a writer of priority 60 waits, and readers of 70, 60 and 50. The best reader is
+-- above the writer, so the duty is to grant it to readers: to that of 70, then to that of 60, and not to that of 50, which is below
+-- the writer. With passed the two have it. When the second gives it up a writer waits, so it goes to that one, who inherits from
+-- the reader of 50 if need be.
 use Rattle.std.specs.Prelude.{ℕ, ◌+◌, ◌-◌, Bool, true, false, nat_lt, nat_le, Option, Some, None, is_none, is_some, option_map, slice_get, slice_set, if◌then◌else◌}
 use Rattle.sd_types.specs.declared.numbers.CpuId.{CpuId}
 use Rattle.sd_types.specs.declared.numbers.LockId.{LockId}

@@ -1,5 +1,13 @@
 -- A thread whose effective priority has changed where it stands.
 -- Source: Solaris Internals (thread_change_pri).
+--
+-- Why: a dispatch queue has a list for each priority, so a queued thread has to leave its list for another. Elsewhere nothing
+-- moves: a running thread runs on, but one whose priority fell may now be below what is ready, so its processor looks again
+-- and may get a mark; who sleeps or waits for a lock is found by its priority when it is woken.
+--
+-- For example, a thread with 29 on the queue of processor 2 inherits 59: it goes behind the others of 59 on the same queue. With
+-- 105 it goes to a real-time queue, and a processor is chosen for it anew; if it is bound to processor 2, it goes behind the
+-- others of 105 there. A thread on a real-time queue is placed anew whatever its new priority.
 use Rattle.std.specs.Prelude.{ℕ, Bool, false, ◌||◌, nat_lt, ◌==◌, Option, Some, None, if◌then◌else◌}
 use Rattle.sd_types.specs.declared.numbers.CpuId.{CpuId}
 use Rattle.sd_types.specs.declared.events.Event.{Event}

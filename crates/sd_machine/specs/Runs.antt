@@ -89,7 +89,3 @@ pub record IsSerial (w : Work) (orders : ℕ → List CpuId) (es : List Entry) :
 -- the processors in rising order
 abbrev pub rising : Work → List CpuId
 rising w = map cpu_of_number (range_with_len 0 w.cpus)
-
--- every round in rising order
-abbrev pub always_rising : Work → ℕ → List CpuId
-always_rising w k = rising w

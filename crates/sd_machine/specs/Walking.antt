@@ -2,6 +2,22 @@
 -- owner that waits itself: will, end.
 -- Source: Solaris Internals (turnstiles: priority inheritance, turnstile_pi_inherit); that a walk takes one lock at a time,
 -- and how it finds that a chain is closed, are this project's own.
+--
+-- Why: a thread that waits for a lock would wait for every thread whose priority lies between its own and that of the owner,
+-- though none of these has to do with the lock. So an owner runs at the greatest effective priority of those that wait for its
+-- locks, until it gives them up. An owner that waits for a lock itself does not run, whatever its priority: it is the owner of
+-- that lock who has to hurry, and so on. In turnstile.c the blocking thread goes along this chain at once, with one turnstile's
+-- lock in hand while it takes the next; here the walk is a duty of its processor, one `will` for each lock, so that the other
+-- processors act in between.
+--
+-- For example, low (priority 20) owns m; middle (50) owns l and waits for m; high (110) blocks on l, and its processor has the
+-- duty to walk from l. The first will gives middle 110 for l; middle waits for m, so the walk goes on there. The second gives
+-- low 110 for m; low waits for nothing, so the duty is over. Had somebody given m up in between, nobody would own it now, and
+-- in place of the second will the walk would end.
+--
+-- A chain may be closed: a owns l and waits for m, b owns m and waits for l. A walk seeks the wait with the greatest key that it
+-- has met, which is the last one that began. Where it comes back to that wait, the chain behind it is a blocking cycle; the
+-- thread that waits there is marked as looped, and this walk and every later one ends at it, so that none goes round for ever.
 use Rattle.std.specs.Prelude.{ℕ, Bool, false, ◌&&◌, ◌||◌, ◌==◌, int_lt, Option, if◌then◌else◌}
 use Rattle.std.specs.Ordering.{int_eq}
 use Rattle.sd_types.specs.declared.numbers.CpuId.{CpuId}
