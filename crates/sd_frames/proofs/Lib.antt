@@ -1,9 +1,9 @@
 pub mod CauseLemmas
 pub mod ClassTable
-pub mod ClassWords
 pub mod CpuWords
 pub mod FieldWords
 pub mod Found
+pub mod Frames
 pub mod HoldTable
 pub mod LockTable
 pub mod OpTable

@@ -8,7 +8,9 @@ use Rattle.sd_machine.proofs.ShapeLemmas.{IsShaped, then_shape, lock_shape, fini
 use Rattle.sd_frames.specs.Causes.{IsFree}
 use Rattle.sd_frames.specs.Passing.{pass_of}
 use Rattle.sd_frames.proofs.Parts.{put_item, put_same, same_put}
-use Rattle.sd_frames.proofs.FieldWords as F
+use Rattle.sd_frames.proofs.FieldWords as W
+use Rattle.sd_frames.proofs.Frames as F
+use Rattle.sd_frames.proofs.Frames.{IsFrame, KeepsCounts, KeepsSets, KeepsRest, Rest, rest_of}
 use Rattle.sd_frames.proofs.CpuWords as C
 use Rattle.sd_types.specs.declared.numbers.ChanId.{ChanId}
 use Rattle.sd_types.specs.declared.numbers.CpuId.{CpuId}
@@ -40,7 +42,7 @@ use Rattle.sd_state.specs.declared.states.CpuState.{CpuState}
 use Rattle.sd_state.specs.declared.states.State.{State}
 use Rattle.sd_state.specs.States.{no_cpu, thread_of, cpu_of}
 use Rattle.sd_state.specs.Operations.{op_of}
-use Rattle.sd_machine.specs.Threads.{thread_id, lock_of, with_lock, count_of, with_count, runner, best_sleeper, best_sleeper_below, eff_of, greatest_waiting}
+use Rattle.sd_machine.specs.Threads.{thread_id, lock_of, with_lock, runner, best_sleeper, best_sleeper_below, eff_of, greatest_waiting}
 use Rattle.sd_machine.specs.Bodies.{aged_class}
 use Rattle.sd_machine.specs.Changes.{back_key, with_body, finish_op, run_tick, set_class, hold, let_go, set_number, set_looped, set_duty, duty_after, count_tick, leave, put_where, close, join, bind, unbind}
 use Rattle.sd_machine.specs.Dispatching.{class_counts, ticked, spun, idled}
@@ -49,7 +51,7 @@ use Rattle.sd_machine.specs.Locking.{owned, one_more, read, side_of, blocked, re
 use Rattle.sd_machine.specs.Requeueing.{reordered}
 use Rattle.sd_machine.specs.Walking.{is_back, next_walk, walked, willed, walk_ended}
 use Rattle.sd_machine.specs.Prioritising.{answer_to, new_class, walk_from, changed_by, changed_on, reprioritised, lifted, aged}
-use Rattle.sd_machine.specs.Conditions.{cv_waited, sema_taken, sema_counted}
+use Rattle.sd_machine.specs.Conditions.{cv_waited}
 use Rattle.sd_machine.specs.SetChanges.{cleared, assigned, joined, rebound, pbound}
 use Rattle.sd_machine.specs.Events.{keeps_ageing, dropped_duty, drop_ageing, effect, after}
 
@@ -59,7 +61,10 @@ abbrev pub locks_field : State → List LockState
 locks_field s = s.locks
 
 abbrev pub Locks : State → State → Type 0
-Locks s r = F.Kept locks_field (λ s t x. refl) (λ s c x. refl) s r
+Locks s r = W.Kept locks_field (λ s t x. refl) (λ s c x. refl) s r
+
+locks_frame : (w : Work) → IsFrame w Locks
+locks_frame w = W.frame locks_field (λ s t x. refl) (λ s c x. refl) w
 
 -- the locks of the second state
 pub record LocksAre (s r : State) (xs : List LockState) : Type 0 where
@@ -71,42 +76,42 @@ same_locks_are s r q xs a b = record { are = b.same ∙ a.are }
 pub owned_locks : (w : Work) (s : State) (t : ℕ) (l : LockId) → LocksAre s (owned w s t l) (set s.locks l.0 (Owned (thread_id t)))
 unfolding owned
 owned_locks w s t l = same_locks_are s (with_lock s l.0 (Owned (thread_id t))) _ _ (record { are = refl })
-    (F.then_kept locks_field (λ s t x. refl) (λ s c x. refl) _ _ _ (F.hold_kept locks_field (λ s t x. refl) (λ s c x. refl) _ t l) (F.finish_op_kept locks_field (λ s t x. refl) (λ s c x. refl) w _ t))
+    ((locks_frame w).joins _ _ _ (F.hold_kept w (locks_frame w) _ t l) (F.finish_op_kept w (locks_frame w) _ t))
 
 pub read_locks : (w : Work) (s : State) (t : ℕ) (l : LockId) → LocksAre s (read w s t l) (set s.locks l.0 (one_more (lock_of s l.0)))
 unfolding read
 read_locks w s t l = same_locks_are s (with_lock s l.0 (one_more (lock_of s l.0))) _ _ (record { are = refl })
-    (F.then_kept locks_field (λ s t x. refl) (λ s c x. refl) _ _ _ (F.hold_kept locks_field (λ s t x. refl) (λ s c x. refl) _ t l) (F.finish_op_kept locks_field (λ s t x. refl) (λ s c x. refl) w _ t))
+    ((locks_frame w).joins _ _ _ (F.hold_kept w (locks_frame w) _ t l) (F.finish_op_kept w (locks_frame w) _ t))
 
 pub released_locks : (w : Work) (s : State) (c : CpuId) (t : ℕ) (l : LockId) → LocksAre s (released w s c t l) (release_from w s c l (lock_of s l.0)).locks
 unfolding released
-released_locks w s c t l = record { are = (F.let_go_kept locks_field (λ s t x. refl) (λ s c x. refl) (release_from w s c l (lock_of s l.0)) t l).same }
+released_locks w s c t l = record { are = (F.let_go_kept w (locks_frame w) (release_from w s c l (lock_of s l.0)) t l).same }
 
 pub exited_locks : (w : Work) (s : State) (c : CpuId) (t : ℕ) (l : LockId) → LocksAre s (exited w s c t l) (release_from w s c l (lock_of s l.0)).locks
 unfolding exited
 exited_locks w s c t l = same_locks_are s (released w s c t l) _ _ (released_locks w s c t l)
-    (F.then_kept locks_field (λ s t x. refl) (λ s c x. refl) _ _ _ (F.finish_op_kept locks_field (λ s t x. refl) (λ s c x. refl) w _ t) (F.remark_kept locks_field (λ s t x. refl) (λ s c x. refl) _ c.0))
+    ((locks_frame w).joins _ _ _ (F.finish_op_kept w (locks_frame w) _ t) (F.remark_kept w (locks_frame w) _ c.0))
 
 pub cv_waited_locks : (w : Work) (s : State) (n : ℕ) (c : CpuId) (t : ℕ) (k : ChanId) (l : LockId) → LocksAre s (cv_waited w s n c t k l) (release_from w s c l (lock_of s l.0)).locks
 unfolding cv_waited
-cv_waited_locks w s n c t k l = same_locks_are s (released w s c t l) _ _ (released_locks w s c t l) (F.fallen_asleep_kept locks_field (λ s t x. refl) (λ s c x. refl) w _ n c t k)
+cv_waited_locks w s n c t k l = same_locks_are s (released w s c t l) _ _ (released_locks w s c t l) (F.fallen_asleep_kept w (locks_frame w) _ n c t k)
 
 pub woken_locks : (w : Work) (s : State) (n u : ℕ) (at : Put) → Locks s (woken w s n u at)
-woken_locks w s n u at = F.woken_kept locks_field (λ s t x. refl) (λ s c x. refl) w s n u at
+woken_locks w s n u at = F.woken_kept w (locks_frame w) s n u at
 
 pub granted_to_writer_locks : (w : Work) (s : State) (n : ℕ) (c : CpuId) (l : LockId) (u : ℕ) (at : Put) → LocksAre s (granted_to_writer w s n c l u at) (set s.locks l.0 (Owned (thread_id u)))
 unfolding granted_to_writer
 granted_to_writer_locks w s n c l u at = same_locks_are s (with_lock s l.0 (Owned (thread_id u))) _ _ (record { are = refl })
-    (F.then_kept locks_field (λ s t x. refl) (λ s c x. refl) _ _ _ (F.hold_kept locks_field (λ s t x. refl) (λ s c x. refl) _ u l)
-    (F.then_kept locks_field (λ s t x. refl) (λ s c x. refl) _ _ _ (F.finish_op_kept locks_field (λ s t x. refl) (λ s c x. refl) w _ u)
-    (F.then_kept locks_field (λ s t x. refl) (λ s c x. refl) _ _ _ (F.set_number_kept locks_field (λ s t x. refl) (λ s c x. refl) _ u l _)
-    (F.then_kept locks_field (λ s t x. refl) (λ s c x. refl) _ _ _ (woken_locks w _ n u at) (F.set_duty_kept locks_field (λ s t x. refl) (λ s c x. refl) _ c.0 _)))))
+    ((locks_frame w).joins _ _ _ (F.hold_kept w (locks_frame w) _ u l)
+    ((locks_frame w).joins _ _ _ (F.finish_op_kept w (locks_frame w) _ u)
+    ((locks_frame w).joins _ _ _ (F.set_number_kept w (locks_frame w) _ u l _)
+    ((locks_frame w).joins _ _ _ (woken_locks w _ n u at) (F.set_duty_kept w (locks_frame w) _ c.0 _)))))
 
 pub granted_to_reader_locks : (w : Work) (s : State) (n : ℕ) (l : LockId) (u : ℕ) (at : Put) → LocksAre s (granted_to_reader w s n l u at) (set s.locks l.0 (one_reader_more (lock_of s l.0)))
 unfolding granted_to_reader
 granted_to_reader_locks w s n l u at = same_locks_are s (with_lock s l.0 (one_reader_more (lock_of s l.0))) _ _ (record { are = refl })
-    (F.then_kept locks_field (λ s t x. refl) (λ s c x. refl) _ _ _ (F.hold_kept locks_field (λ s t x. refl) (λ s c x. refl) _ u l)
-    (F.then_kept locks_field (λ s t x. refl) (λ s c x. refl) _ _ _ (F.finish_op_kept locks_field (λ s t x. refl) (λ s c x. refl) w _ u) (woken_locks w _ n u at)))
+    ((locks_frame w).joins _ _ _ (F.hold_kept w (locks_frame w) _ u l)
+    ((locks_frame w).joins _ _ _ (F.finish_op_kept w (locks_frame w) _ u) (woken_locks w _ n u at)))
 
 -- Duties.
 
@@ -467,65 +472,35 @@ served_passes s r a = record { each = λ d. sym (of_pass_duty (cpu_of r d).duty)
 pub quiet_passes : (w : Work) (s : State) (n : ℕ) (c : CpuId) (e : Event) → is_lockless e ≡ true → pass_of (cpu_of s c.0).duty ≡ None → Passes s (after w s n c e)
 quiet_passes w s n c e quiet free = served_passes s (after w s n c e) (quiet_served w s n c e quiet (unserved (cpu_of s c.0).duty free))
 
-sema_taken_lockless : (w : Work) (s : State) (t : ℕ) (k : ChanId) → (sema_taken w s t k).locks ≡ s.locks
-unfolding sema_taken
-sema_taken_lockless w s t k = (F.finish_op_kept locks_field (λ s t x. refl) (λ s c x. refl) w (with_count s k.0 (count_of s k.0 - 1)) t).same
-
-sema_counted_lockless : (w : Work) (s : State) (t : ℕ) (k : ChanId) → (sema_counted w s t k).locks ≡ s.locks
-unfolding sema_counted
-sema_counted_lockless w s t k = (F.finish_op_kept locks_field (λ s t x. refl) (λ s c x. refl) w (with_count s k.0 (count_of s k.0 + 1)) t).same
-
-joined_lockless : (s : State) (c : CpuId) (to : SetId) → (joined s c to).locks ≡ s.locks
-unfolding joined join
-joined_lockless s c to = refl
-
-close_lockless : (s : State) (d : CpuId) (to : SetId) → (close s d to).locks ≡ s.locks
+close_lockless : (s : State) (d : CpuId) (to : SetId) → Locks s (close s d to)
 unfolding close
-close_lockless s d to = refl
+close_lockless s d to = record { same = refl }
 
-assigned_lockless : (w : Work) (s : State) (t : ℕ) (d : CpuId) (to : SetId) (answer : AssignAnswer) → (assigned w s t d to answer).locks ≡ s.locks
-unfolding assigned
-assigned_lockless w s t d to assign.Changed =
-    (F.finish_op_kept locks_field (λ s t x. refl) (λ s c x. refl) w (cleared (close s d to) d (runner s d.0)) t).same ∙ (F.cleared_kept locks_field (λ s t x. refl) (λ s c x. refl) (close s d to) d (runner s d.0)).same ∙ closed
-  where
-    closed : (close s d to).locks ≡ s.locks
-    closed = close_lockless s d to
-assigned_lockless w s t d to assign.EPERM = (F.finish_op_kept locks_field (λ s t x. refl) (λ s c x. refl) w s t).same
-assigned_lockless w s t d to assign.EINVAL = (F.finish_op_kept locks_field (λ s t x. refl) (λ s c x. refl) w s t).same
-assigned_lockless w s t d to assign.EBUSY = (F.finish_op_kept locks_field (λ s t x. refl) (λ s c x. refl) w s t).same
+join_lockless : (s : State) (c : CpuId) (to : SetId) → Locks s (join s c to)
+unfolding join
+join_lockless s c to = record { same = refl }
+
+abbrev writes_locks : Rest → Bool
+writes_locks Rest.locks = true
+writes_locks _ = false
+
+rest : (w : Work) (x : Rest) → writes_locks x ≡ false → KeepsRest w Locks x
+rest w Rest.locks quiet = cc
+rest w Rest.counts quiet = record { count = λ s k n. record { same = refl } }
+rest w Rest.sets quiet = record { closes = close_lockless; enters_set = join_lockless }
+rest w x quiet = W.rest locks_field (λ s t x. refl) (λ s c x. refl) w x refl
+
+lockless_rest : (e : Event) → is_lockless e ≡ true → writes_locks (rest_of e) ≡ false
+lockless_rest (Enter t l) quiet = cc
+lockless_rest (Read t l) quiet = cc
+lockless_rest (Write t l) quiet = cc
+lockless_rest (Exit t l) quiet = cc
+lockless_rest (Unblock l u at) quiet = cc
+lockless_rest (Grant l u at) quiet = cc
+lockless_rest (Passed l) quiet = cc
+lockless_rest (CvWait t k l) quiet = cc
+lockless_rest e quiet = refl
 
 -- the locks are as they were after such an event
-effect_locks : (w : Work) (s : State) (n : ℕ) (c : CpuId) (e : Event) → is_lockless e ≡ true → (effect w s n c e).locks ≡ s.locks
-unfolding effect
-effect_locks w s n c (Tick t) quiet = (F.ticked_kept locks_field (λ s t x. refl) (λ s c x. refl) w s c.0 t.0).same
-effect_locks w s n c (Spin t l) quiet = (F.spun_kept locks_field (λ s t x. refl) (λ s c x. refl) w s c.0 t.0).same
-effect_locks w s n c Idle quiet = (F.idled_kept locks_field (λ s t x. refl) (λ s c x. refl) w s c.0).same
-effect_locks w s n c (Dispatch t p) quiet = (F.dispatched_kept locks_field (λ s t x. refl) (λ s c x. refl) s c t.0).same
-effect_locks w s n c (Steal v t p) quiet = (F.stolen_kept locks_field (λ s t x. refl) (λ s c x. refl) s c t.0).same
-effect_locks w s n c (Preempt t end) quiet = (F.preempted_kept locks_field (λ s t x. refl) (λ s c x. refl) w s n c t.0 end).same
-effect_locks w s n c (Away t d) quiet = (F.sent_away_kept locks_field (λ s t x. refl) (λ s c x. refl) s n c t.0 d).same
-effect_locks w s n c (Yield t) quiet = (F.yielded_kept locks_field (λ s t x. refl) (λ s c x. refl) w s n c t.0).same
-effect_locks w s n c (Done t) quiet = (F.done_kept locks_field (λ s t x. refl) (λ s c x. refl) s c t.0).same
-effect_locks w s n c (Nap t) quiet = (F.napped_kept locks_field (λ s t x. refl) (λ s c x. refl) w s c t.0).same
-effect_locks w s n c (Napend t at) quiet = (F.woken_kept locks_field (λ s t x. refl) (λ s c x. refl) w s n t.0 at).same
-effect_locks w s n c (Sleep t k) quiet = (F.fallen_asleep_kept locks_field (λ s t x. refl) (λ s c x. refl) w s n c t.0 k).same
-effect_locks w s n c (Wake t k u) quiet = (F.woke_kept locks_field (λ s t x. refl) (λ s c x. refl) w s n t.0 u).same
-effect_locks w s n c (Wakeall t k) quiet = (F.woke_all_kept locks_field (λ s t x. refl) (λ s c x. refl) w s n c t.0 k).same
-effect_locks w s n c (Rouse k u) quiet = (F.roused_kept locks_field (λ s t x. refl) (λ s c x. refl) w s n c k u (cpu_of s c.0).duty).same
-effect_locks w s n c (Will l o p at) quiet = (F.willed_kept locks_field (λ s t x. refl) (λ s c x. refl) w s n c l o at).same
-effect_locks w s n c (WalkEnd l) quiet = (F.walk_ended_kept locks_field (λ s t x. refl) (λ s c x. refl) s c).same
-effect_locks w s n c (Age t p) quiet = (F.aged_kept locks_field (λ s t x. refl) (λ s c x. refl) w s n c t.0).same
-effect_locks w s n c (Prio t u answer) quiet = (F.reprioritised_kept locks_field (λ s t x. refl) (λ s c x. refl) w s n c t.0 u answer).same
-effect_locks w s n c (SemaP t k) quiet = sema_taken_lockless w s t.0 k
-effect_locks w s n c (SemaWait t k) quiet = (F.fallen_asleep_kept locks_field (λ s t x. refl) (λ s c x. refl) w s n c t.0 k).same
-effect_locks w s n c (SemaVWake t k u at) quiet = (F.sema_handed_kept locks_field (λ s t x. refl) (λ s c x. refl) w s n t.0 u.0 at).same
-effect_locks w s n c (SemaVCount t k m) quiet = sema_counted_lockless w s t.0 k
-effect_locks w s n c (Assign t d to answer) quiet = assigned_lockless w s t.0 d to answer
-effect_locks w s n c (Move t at) quiet = (F.moved_kept locks_field (λ s t x. refl) (λ s c x. refl) w s n t.0 at).same
-effect_locks w s n c (Joined to) quiet = joined_lockless s c to
-effect_locks w s n c (Bind t u d answer) quiet = (F.pbound_kept locks_field (λ s t x. refl) (λ s c x. refl) w s n t.0 u.0 d answer).same
-effect_locks w s n c e quiet = cc
-
 pub quiet_locks : (w : Work) (s : State) (n : ℕ) (c : CpuId) (e : Event) → is_lockless e ≡ true → (after w s n c e).locks ≡ s.locks
-unfolding after
-quiet_locks w s n c e quiet = effect_locks w (drop_ageing s c.0 e) n c e quiet ∙ (F.drop_kept locks_field (λ s t x. refl) (λ s c x. refl) s c.0 e).same
+quiet_locks w s n c e quiet = (F.after_kept w (locks_frame w) s n c e (rest w (rest_of e) (lockless_rest e quiet))).same

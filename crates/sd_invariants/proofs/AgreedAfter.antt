@@ -123,8 +123,7 @@ unfolding after effect drop_ageing set_duty
 read_locks w s n c t l = record { are = (T.read_locks w (drop_ageing s c.0 (event.Read t l)) t.0 l).are }
 
 pub block_locks : (w : Work) (s : State) (n : ℕ) (c : CpuId) (t : ThreadId) (l : LockId) → (after w s n c (event.Block t l)).locks ≡ s.locks
-unfolding after effect drop_ageing set_duty
-block_locks w s n c t l = (F.blocked_kept locks_field (λ s t x. refl) (λ s c x. refl) w (drop_ageing s c.0 (event.Block t l)) n c t.0 l).same
+block_locks w s n c t l = (F.after_kept locks_field (λ s t x. refl) (λ s c x. refl) w s n c (event.Block t l) refl).same
 
 -- and what is passed on
 pub enter_passes : (w : Work) (s : State) (n : ℕ) (c : CpuId) (t : ThreadId) (l : LockId) → C.Kept pass_part s (after w s n c (event.Enter t l))

@@ -13,8 +13,7 @@ use Rattle.sd_state.specs.Opening.{first_class, first_thread, first_threads, ope
 use Rattle.sd_state.proofs.BestLemmas.{and_right, and_left}
 use Rattle.sd_invariants.specs.Laws.{HoldsWhenReached, AreSound}
 use Rattle.sd_invariants.proofs.BaseLemmas.{IsBelow, tick_below, wake_below, age_below, requeue_below, new_below}
-use Rattle.sd_frames.proofs.ClassWords.{IsClosed}
-use Rattle.sd_frames.proofs.ClassTable.{after_fit}
+use Rattle.sd_frames.proofs.ClassTable.{IsClosed, after_fit}
 use Rattle.sd_invariants.proofs.NumberLemmas.{IsFine, AreFine, fine_eff, after_sound}
 use Rattle.sd_invariants.proofs.Ready.{IsKept, kept_reached}
 use Rattle.sd_invariants.proofs.Works.{declared}
