@@ -40,10 +40,6 @@ read_start w text s a start none = record {
   parts = λ h. refl;
 }
 
--- what was read so far
-pub read_so_far : (w : Work) (text : List ℕ) (s : State) (a : Accounts) (number from : ℕ) → HasRead w text s a number from → IsRunSoFar w text number
-read_so_far w text s a number from r = record { entries = r.entries; rest = lines_of (drop from text); told = r.told; counted = sym r.many }
-
 -- nothing was read
 pub nothing_read : (w : Work) (text : List ℕ) → IsRunSoFar w text 0
 nothing_read w text = record { entries = []; rest = lines_of text; told = record { run = IsRun-nil w; spelled = All-nil (IsSpelled w); lines = refl }; counted = refl }

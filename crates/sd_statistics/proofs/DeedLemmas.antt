@@ -7,7 +7,7 @@ use Rattle.std.proofs.lemmas.List.Sums.{sum_by-cons}
 use Rattle.sd_types.specs.declared.numbers.CpuId.{CpuId}
 use Rattle.sd_types.specs.declared.events.Entry.{Entry}
 use Rattle.sd_types.specs.declared.events.Event.{Event}
-use Rattle.sd_types.specs.declared.events.Event.TheVariants.{Tick, Spin, Idle, Dispatch, Steal, Preempt, Yield, Done, Nap, Napend, Sleep, Wake, Wakeall, Rouse, Enter, Read, Write, Block, Will, End as WalkEnd, Exit, Unblock, Grant, Passed, Age, Prio, CvWait, SemaP, SemaWait, SemaVWake, SemaVCount, Assign, Move, Joined, Bind, Away}
+use Rattle.sd_types.specs.declared.events.Event.TheVariants.{Tick, Spin, Idle}
 use Rattle.sd_types.specs.Events.{ticks}
 use Rattle.sd_types.specs.declared.works.Work.{Work}
 use Rattle.sd_state.specs.declared.states.State.{State}
@@ -74,39 +74,7 @@ tick_once : (e : Event) → cond (is_deed Runs e) 1 0 + cond (is_deed Spins e) 1
 tick_once (Tick u) = refl
 tick_once (Spin u l) = refl
 tick_once Idle = refl
-tick_once (Dispatch u p) = refl
-tick_once (Steal v u p) = refl
-tick_once (Preempt u end) = refl
-tick_once (Yield u) = refl
-tick_once (Done u) = refl
-tick_once (Nap u) = refl
-tick_once (Napend u at) = refl
-tick_once (Sleep u k) = refl
-tick_once (Wake u k woken) = refl
-tick_once (Wakeall u k) = refl
-tick_once (Rouse k woken) = refl
-tick_once (Enter u l) = refl
-tick_once (Read u l) = refl
-tick_once (Write u l) = refl
-tick_once (Block u l) = refl
-tick_once (Will l o p at) = refl
-tick_once (WalkEnd l) = refl
-tick_once (Exit u l) = refl
-tick_once (Unblock l s at) = refl
-tick_once (Grant l s at) = refl
-tick_once (Passed l) = refl
-tick_once (Age u p) = refl
-tick_once (Prio u s answer) = refl
-tick_once (CvWait u k l) = refl
-tick_once (SemaP u k) = refl
-tick_once (SemaWait u k) = refl
-tick_once (SemaVWake u k s at) = refl
-tick_once (SemaVCount u k n) = refl
-tick_once (Assign u d to answer) = refl
-tick_once (Move u at) = refl
-tick_once (Joined to) = refl
-tick_once (Bind u s d answer) = refl
-tick_once (Away u d) = refl
+tick_once e = refl
 
 own_once : (own : Bool) (e : Event)
     → cond (own && is_deed Runs e) 1 0 + cond (own && is_deed Spins e) 1 0 + cond (own && is_deed Idles e) 1 0 ≡ cond (own && ticks e) 1 0

@@ -7,7 +7,7 @@ use Rattle.std.proofs.lemmas.List.Sums.{sum_by_more}
 use Rattle.sd_stretches.specs.declared.rows.Level.{Level}
 use Rattle.sd_statistics.specs.declared.spans.Span.{Span}
 use Rattle.sd_statistics.specs.Inherited.{greatest_inherited, inherited_priority}
-use Rattle.sd_statistics.specs.Spans.{at_most_u64, longer, longest, ticks_of}
+use Rattle.sd_statistics.specs.Spans.{longer, longest, ticks_of}
 
 pub longer_none : (x : Option Span) → longer x None ≡ x
 longer_none None = refl
@@ -104,11 +104,6 @@ unfolding longest
 longest_greatest [] y is = λ k d inside. absurd (omega (arith, inside))
 longest_greatest (x ∷ xs) y is =
     all_cons (λ v. ticks_of v ≤ ticks_of y) x xs (first_below x y (longest xs) is) (rest_below xs x y (longest xs) refl is (λ z so. longest_greatest xs z so))
-
--- a sum that stops at the greatest number of 64 bits, and one term more
-pub sum_more : {X : Type 0} (f : X → ℕ) (xs : List X) (i : ℕ) (d : X) (so_far new : ℕ) → i < length xs → so_far ≡ at_most_u64 (sum_by f (take i xs))
-    → new ≡ min (so_far + f (get_or xs i d)) 18446744073709551615 → new ≡ at_most_u64 (sum_by f (take (i + 1) xs))
-sum_more f xs i d so_far new inside is more = let e = sum_by_more f xs i d inside in omega (arith, e, is, more)
 
 -- one level more is looked at
 pub greatest_more : (greatest new all priority : ℕ) (x : Level) (left rest : List Level) → left ≡ x ∷ rest → max greatest (greatest_inherited left) ≡ all

@@ -99,11 +99,6 @@ seat_next w t seats done rest s are e = are.each (length done) s (ap (λ l. slic
 
 -- The slots of a table at its end.
 
-elem_slot : (xs : List Slot) (k : ℕ) (y : Slot) → get_elem? xs k ≡ M.some y → slice_get xs k ≡ Some y
-elem_slot [] k y e = absurd cc
-elem_slot (x ∷ xs) zero y e = ap Some (M.some-injective x y e)
-elem_slot (x ∷ xs) (suc k) y e = elem_slot xs k y e
-
 pub elem_word : (ws : List ℕ) (i n : ℕ) → get_elem? ws i ≡ M.some n → slice_index ws i ≡ n
 elem_word [] i n e = absurd cc
 elem_word (x ∷ xs) zero n e = M.some-injective x n e

@@ -46,9 +46,6 @@ hints_next first now one two c a b h fa fb ea eb = record {
   is = eb ∙ (ap (λ l. l ++ b ∷ []) (ea ∙ (ap (λ l. l ++ a ∷ []) h.is ∙ append_assoc first h.hints (a ∷ []))) ∙ append_assoc first (h.hints ++ a ∷ []) (b ∷ []));
 }
 
-pub hints_last : (w : Work) (first now : List ℕ) (c : ℕ) → Hinting first c now → c ≡ w.cpus → (hints : List ℕ) × AreHints w hints × (now ≡ first ++ hints)
-hints_last w first now c h is = (h.hints, record { many = h.many ∙ ap (λ n. 2 * n) is; small = h.small }, h.is)
-
 -- words that are 0
 pub zeros_next : (first now new : List ℕ) (n z : ℕ) → now ≡ first ++ replicate n z → new ≡ now ++ z ∷ [] → new ≡ first ++ replicate (n + 1) z
 zeros_next first now new n z p e = e ∙ (ap (λ l. l ++ z ∷ []) p ∙ (append_assoc first (replicate n z) (z ∷ []) ∙ ap (λ l. first ++ l) (replicate_more n z)))
