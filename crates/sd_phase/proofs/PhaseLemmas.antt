@@ -7,10 +7,8 @@ use Rattle.sd_world.specs.Worlds.{Meaning}
 use Rattle.sd_cpu.specs.Attempts.{IsSameWorld}
 use Rattle.sd_cpu.specs.declared.attempts.Turned.{Turned}
 use Rattle.sd_cpu.specs.declared.attempts.Turned.TheVariants.{Acted, Ticked, Behind, Finished}
-use Rattle.sd_cpu.proofs.MeaningLemmas.{world_then}
 use Rattle.sd_phase.specs.Phases.{ActsOften, Ends}
 use Rattle.sd_phase.specs.Turns.{TakesTurn}
-use Rattle.sd_phase.proofs.TurnLemmas.{world_turned}
 
 pub world_same : (m : Meaning) → IsSameWorld m m
 world_same m = record { table = refl; work = refl; alone = refl; all = refl; cpu = refl }
@@ -20,9 +18,6 @@ none_acted m = (0, refl, refl)
 
 pub one_acted : (m between m' : Meaning) (t : Turned) (n : ℕ) (made : Bool) → t ≡ Acted n → TakesTurn between m' t → (k : ℕ) × ActsOften k m between × (made ≡ nat_lt 0 k) → (k : ℕ) × ActsOften k m m' × (true ≡ nat_lt 0 k)
 one_acted m between m' t n made is turn (k, acts, same) = (suc k, (between, n, acts, subst (TakesTurn between m') is turn), (let z : true ≡ nat_lt 0 (suc k) = grind (arith, nat_tests) in z))
-
-pub world_on : (m between m' : Meaning) (t : Turned) → IsSameWorld m between → TakesTurn between m' t → IsSameWorld m m'
-world_on m between m' t same turn = world_then m between m' same (world_turned between m' t turn)
 
 pub ticked : (m m' : Meaning) (k n : ℕ) (t : Turned) → t ≡ Ticked n → TakesTurn m m' t → Ends m m' k true t
 ticked m m' k n t is turn = subst (Ends m m' k true) (sym is) (subst (TakesTurn m m') is turn, refl)

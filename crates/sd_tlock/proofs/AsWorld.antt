@@ -17,7 +17,7 @@ use Rattle.sd_hand.specs.Hands.{has_thread, held as held_in}
 use Rattle.sd_hand.proofs.SlotLemmas.{held_has}
 use Rattle.sd_world.specs.declared.world.Behind.{Behind}
 use Rattle.sd_world.specs.Worlds.{AllHinted, CanCommit, CanTake, Commits, Gains, IsBehind, IsListedIn, IsQuiet, IsStopped, MayStand, MayUse, Meaning, NoneBehind, ReadsCounts, Reserves, Rises, Stays}
-use Rattle.sd_world.proofs.WorldLemmas.{stays_same, stays_then}
+use Rattle.sd_world.proofs.WorldLemmas.{stays_then}
 use Rattle.sd_table_rule.proofs.Bridge.{reached}
 use Rattle.sd_table.specs.declared.seat.Seat.{Seat}
 use Rattle.sd_invariants.proofs.Whole.{fit_reached}
@@ -121,9 +121,6 @@ hinted_more m which [] (k ∷ ns) c n x is = absurd x
 hinted_more m which (d ∷ cs) [] c n x is = absurd x
 
 -- ---- counts that were read
-pub counts_none : (m : Meaning) → ReadsCounts m m
-counts_none m = record { stays = stays_same m; stops = refl; reads = (let z : m.reads ≤ m.reads = omega arith in z); acting = refl }
-
 pub counts_then : (m m' m'' : Meaning) → ReadsCounts m m' → ReadsCounts m' m'' → ReadsCounts m m''
 counts_then m m' m'' x y = record {
   stays = stays_then m m' m'' x.stays y.stays;
@@ -142,9 +139,6 @@ pub record AreLevel (m m' : Meaning) (d : ℕ) : Type 0 where
   pub reads : ReadsCounts m m'
   pub level : (e : ℕ) → e < d → IsLevel m' e
 
-pub level_none : (m : Meaning) → AreLevel m m 0
-level_none m = record { reads = counts_none m; level = λ e i. absurd (omega (arith, i)) }
-
 pub level_more : (m m' m'' : Meaning) (d : ℕ) → AreLevel m m' d → ReadsCounts m' m'' → IsLevel m'' d → AreLevel m m'' (d + 1)
 level_more m m' m'' d x y is = record {
   reads = counts_then m m' m'' x.reads y;
@@ -154,20 +148,6 @@ level_more m m' m'' d x y is = record {
     by : (e : ℕ) → e < d + 1 → (e < d) ⊎ (d ≤ e) → IsLevel m'' e
     by e below (inl less) = level_still m' m'' e y (x.level e less)
     by e below (inr most) = let same : d ≡ e = omega (arith, below, most) in subst (IsLevel m'') same is
-
-pub level_all : (m m' : Meaning) (d : ℕ) → AreLevel m m' d → m.work.cpus ≤ d → NoneBehind m'
-level_all m m' d x all e inside other =
-    let work = ap (λ (w : Work). w.cpus) x.reads.stays.work in
-    x.level e (omega (arith, all, inside, work)) other
-
-pub behind_then : (m m' m'' : Meaning) (b : Behind) → ReadsCounts m m' → m.alone ≡ false → IsBehind m' m'' b → IsBehind m m'' b
-behind_then m m' m'' b x shared y = record {
-  less = subst (λ (v : Acting). b.count < v.actor.count) x.acting y.less;
-  rises = (let p = x.reads in let q = y.rises in (omega (arith, p, q.0), ⊎_elim (λ (z : m'.reads < m''.reads). inl (omega (arith, z, p))) (λ z. inr z) q.1));
-  last = y.last;
-  there = (let i = y.there in let work = ap (λ (w : Work). w.cpus) x.stays.work in omega (arith, i, work));
-  own = λ e. absurd (false≢true (sym shared ∙ e));
-}
 
 -- ---- a thread of the run is one of the workload's
 pub thread_inside : (w : Work) (t : TableId) (s : Seat) (u : ℕ) → Fits t w s → u < length (now w (desk s).seen).threads → u < thread_count w
