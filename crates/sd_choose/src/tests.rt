@@ -1,6 +1,6 @@
 //! Choices worked out by hand.
 
-use crate::{MarkKind, choose, mark, victim};
+use crate::{choose, victim};
 use sd_types::CpuId;
 use std::test::Fail;
 
@@ -97,32 +97,4 @@ fn sixty_four_processors(rt: HostRuntime) -> Result<(), Fail> {
     assert_eq!(rt; choose(&cpus, &hints, CpuId(64), true).0, 0);
     assert_eq!(rt; victim(&cpus, &hints).map(|cpu| cpu.0), Some(3));
     Ok(())
-}
-
-#[test]
-fn marks(rt: HostRuntime) {
-    // the running priority, the queued one, and the mark
-    let cases = [
-        (None, 0, MarkKind::Nothing),
-        (None, 159, MarkKind::Nothing),
-        (Some(0), 0, MarkKind::Nothing),
-        (Some(0), 1, MarkKind::User),
-        (Some(29), 29, MarkKind::Nothing),
-        (Some(29), 30, MarkKind::User),
-        (Some(30), 29, MarkKind::Nothing),
-        (Some(59), 99, MarkKind::User),
-        (Some(59), 100, MarkKind::Kernel),
-        (Some(98), 99, MarkKind::User),
-        (Some(99), 99, MarkKind::Nothing),
-        (Some(99), 100, MarkKind::Kernel),
-        (Some(100), 100, MarkKind::Nothing),
-        (Some(100), 99, MarkKind::Nothing),
-        (Some(100), 101, MarkKind::Kernel),
-        (Some(158), 159, MarkKind::Kernel),
-        (Some(159), 159, MarkKind::Nothing),
-        (Some(0), 159, MarkKind::Kernel),
-    ];
-    for (running, queued, want) in cases {
-        assert_eq!(rt; mark(running, queued), want, "at {queued}");
-    }
 }

@@ -4,5 +4,4 @@ pub mod ClassRules
 pub mod ClassStates
 pub mod DefaultTables
 pub mod FirstStates
-pub mod Marks
 pub mod Priocntl

@@ -1,7 +1,3 @@
 //! The rules of the scheduling classes, of dispatch tables and of the dispatcher's choices, as definitions and lemmas
-//! that contracts cite. There is no code here but the type of a mark.
+//! that contracts cite. There is no code here.
 #![tactic(auto)]
-
-mod marks;
-
-pub use marks::MarkKind;
