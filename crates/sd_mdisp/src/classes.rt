@@ -5,6 +5,7 @@ ghost use Rattle.std.specs.Prelude.{◌≡◌};
 ghost use Rattle.sd_machine.specs.Bodies.{aged_class, ticked_class, woken_class};
 ghost use Rattle.sd_rules.specs.ClassRules.{class_expires, class_requeue, quantum_expires};
 
+use sd_class::{fx_tick, fx_wake, rt_tick, rt_wake, ts_requeue, ts_second, ts_tick, ts_wake};
 use sd_types::{ClassState, Quantum, Work};
 
 /// The class state after a tick of the running thread.
@@ -14,16 +15,16 @@ pub fn ticked_class(work: &Work, class: ClassState) -> ClassState
 {
     match class {
         ClassState::Ts(mut s) => {
-            sd_ts::tick(&mut s, &work.ts);
+            ts_tick(&mut s, &work.ts);
             ClassState::Ts(s)
         }
         ClassState::Fx(mut s) => {
-            sd_fixed::fx_tick(&mut s, &work.fx);
+            fx_tick(&mut s, &work.fx);
             ClassState::Fx(s)
         }
         ClassState::Sys(s) => ClassState::Sys(s),
         ClassState::Rt(mut s) => {
-            sd_rt::tick(&mut s, &work.rt);
+            rt_tick(&mut s, &work.rt);
             ClassState::Rt(s)
         }
     }
@@ -35,16 +36,16 @@ pub fn woken_class(work: &Work, class: ClassState) -> ClassState
 {
     match class {
         ClassState::Ts(mut s) => {
-            sd_ts::wake(&mut s, &work.ts);
+            ts_wake(&mut s, &work.ts);
             ClassState::Ts(s)
         }
         ClassState::Fx(mut s) => {
-            sd_fixed::fx_wake(&mut s, &work.fx);
+            fx_wake(&mut s, &work.fx);
             ClassState::Fx(s)
         }
         ClassState::Sys(s) => ClassState::Sys(s),
         ClassState::Rt(mut s) => {
-            sd_rt::wake(&mut s, &work.rt);
+            rt_wake(&mut s, &work.rt);
             ClassState::Rt(s)
         }
     }
@@ -56,7 +57,7 @@ pub fn aged_class(work: &Work, class: ClassState) -> ClassState
 {
     match class {
         ClassState::Ts(mut s) => {
-            sd_ts::second(&mut s, &work.ts);
+            ts_second(&mut s, &work.ts);
             ClassState::Ts(s)
         }
         other => other,
@@ -69,7 +70,7 @@ pub fn class_requeue(expired: bool, class: ClassState) -> ClassState
 {
     match class {
         ClassState::Ts(mut s) => {
-            sd_ts::requeue(&mut s, expired);
+            ts_requeue(&mut s, expired);
             ClassState::Ts(s)
         }
         other => other,

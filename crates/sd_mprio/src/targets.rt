@@ -12,7 +12,7 @@ ghost use Rattle.sd_store.specs.Words.{Lacks, Tells};
 ghost use Rattle.sd_types.specs.Works.{class_fits, quantum_fits};
 
 use sd_mdisp::{class_of, has_ended, is_privileged, uid_of};
-use sd_prio::{Target, Who, enter, judge};
+use sd_class::{Target, Who, enter, judge};
 use sd_store::Look;
 use sd_types::{ClassParms, ClassState, Denied, Request, ThreadId, Work};
 

@@ -1,0 +1,34 @@
+//! The scheduling classes: what a tick, a wakeup, a second of waiting and a requeue make of a thread's class state, and the checks of
+//! priocntl(2), which changes it. No call allocates.
+//!
+//! Source: Solaris Internals (the TS, FX, SYS and RT classes), `ts_dptbl`(4), `rt_dptbl`(4), priocntl(2).
+#![tactic(auto)]
+
+mod changes;
+mod fixed_priority;
+mod laws;
+mod permissions;
+mod quanta;
+mod real_time;
+mod system;
+mod time_sharing;
+
+pub use changes::{enter, first_state};
+pub use fixed_priority::{fx_global, fx_tick, fx_wake};
+pub use laws::{base_priorities_in_range, callers_without_privilege};
+pub use permissions::{Target, Who, judge};
+pub use quanta::{full_quantum, left_after_tick};
+pub use real_time::{rt_global, rt_tick, rt_wake};
+pub use system::sys_global;
+pub use time_sharing::{
+    ts_global, ts_requeue, ts_second, ts_tick, ts_wake, wakes_without_longer_wait,
+};
+
+#[cfg(test)]
+mod fixed_priority_tests;
+#[cfg(test)]
+mod priocntl_tests;
+#[cfg(test)]
+mod real_time_tests;
+#[cfg(test)]
+mod time_sharing_tests;
