@@ -14,9 +14,7 @@ use Rattle.sd_answers.specs.declared.writing.Unwritten.{Unwritten}
 use Rattle.sd_answers.specs.declared.writing.Unwritten.TheVariants as unwritten
 use Rattle.sd_answers.specs.Answers.{status_of, unwritten_answer}
 use Rattle.sd_answers.specs.Certificates.{HoldsJournal, CausedByCertificate, CompletesCertificate, RefusesCertificate, RefusesFaulty, RefusesJournal}
-use Rattle.sd_answers.specs.Inputs.{most_certificate}
 use Rattle.sd_answers.specs.StreamChanges.{StreamChange, IsUntouched, Puts, TellsLine}
-use Rattle.sd_answers.proofs.InputLemmas.{at_most_of}
 use Rattle.sd_answers.proofs.CertificateLemmas.{completes_of, faulty_of, not_usage, refuses_certificate_of, refuses_faulty_of}
 use Rattle.sd_viewer.specs.declared.drawings.Drawing.{Drawing}
 use Rattle.sd_viewer.specs.declared.forms.Request.{Request}

@@ -1,6 +1,6 @@
 -- A run that was gathered while its journal was judged.
 -- Source: this project's own.
-use Rattle.std.specs.Prelude.{◌≡◌, ℕ, List}
+use Rattle.std.specs.Prelude.{ℕ, List}
 use Rattle.sd_types.specs.declared.works.Work.{Work}
 use Rattle.sd_audit.specs.Audits.{IsJournal}
 use Rattle.sd_stretches.specs.Histories.{IsHistory}

@@ -38,9 +38,17 @@ fn draw_timeline(
     ensures drawn { IfOk result (λ out. IsDrawn (Timeline from to) work.now text.now out.items) }
     ensures fault { IfErr result (IsFault work.now text.now) }
 {
-    let run = gather(alloc, work, text)?;
-    let Ok(out) = timeline(alloc, work, frame_of(work, from, to), &run.history, &run.end) else {
-        return Err(AuditFault::Memory { number: run.number });
+    let gathered = gather(alloc, work, text)?;
+    let Ok(out) = timeline(
+        alloc,
+        work,
+        frame_of(work, from, to),
+        &gathered.history,
+        &gathered.end,
+    ) else {
+        return Err(AuditFault::Memory {
+            number: gathered.number,
+        });
     };
     Ok(out)
 }
@@ -50,9 +58,11 @@ fn draw_trace(alloc: Global, work: &Work, text: &[u8]) -> Result<Vec<u8>, AuditF
     ensures drawn { IfOk result (λ out. IsDrawn Trace work.now text.now out.items) }
     ensures fault { IfErr result (IsFault work.now text.now) }
 {
-    let run = gather(alloc, work, text)?;
-    let Ok(out) = trace(alloc, work, &run.history) else {
-        return Err(AuditFault::Memory { number: run.number });
+    let gathered = gather(alloc, work, text)?;
+    let Ok(out) = trace(alloc, work, &gathered.history) else {
+        return Err(AuditFault::Memory {
+            number: gathered.number,
+        });
     };
     Ok(out)
 }
@@ -62,9 +72,11 @@ fn draw_report(alloc: Global, work: &Work, text: &[u8]) -> Result<Vec<u8>, Audit
     ensures drawn { IfOk result (λ out. IsDrawn Report work.now text.now out.items) }
     ensures fault { IfErr result (IsFault work.now text.now) }
 {
-    let run = gather(alloc, work, text)?;
-    let Ok(out) = report(alloc, work, &run.history) else {
-        return Err(AuditFault::Memory { number: run.number });
+    let gathered = gather(alloc, work, text)?;
+    let Ok(out) = report(alloc, work, &gathered.history) else {
+        return Err(AuditFault::Memory {
+            number: gathered.number,
+        });
     };
     Ok(out)
 }
@@ -74,9 +86,11 @@ fn draw_sheet(alloc: Global, work: &Work, text: &[u8]) -> Result<Vec<u8>, AuditF
     ensures drawn { IfOk result (λ out. IsDrawn Sheet work.now text.now out.items) }
     ensures fault { IfErr result (IsFault work.now text.now) }
 {
-    let run = gather(alloc, work, text)?;
-    let Ok(out) = sheet(alloc, work, &run.history) else {
-        return Err(AuditFault::Memory { number: run.number });
+    let gathered = gather(alloc, work, text)?;
+    let Ok(out) = sheet(alloc, work, &gathered.history) else {
+        return Err(AuditFault::Memory {
+            number: gathered.number,
+        });
     };
     Ok(out)
 }

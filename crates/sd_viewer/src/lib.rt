@@ -11,14 +11,13 @@ mod lines;
 mod top;
 mod viewing;
 
+pub use drawings::{Drawing, draw};
+pub use forms::{Request, drawing_of, request_of};
+pub use lines::left_line;
 use sd_answers::behind_name;
 use sd_text::{StdSink, StdSource};
 use std::process::ExitCode;
 use std::{env, io};
-
-pub use drawings::{Drawing, draw};
-pub use forms::{Request, drawing_of, request_of};
-pub use lines::left_line;
 pub use top::{start, view};
 
 /// The arguments behind the program's name.

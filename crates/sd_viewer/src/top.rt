@@ -9,11 +9,11 @@ ghost use Rattle.sd_viewer.specs.Promises.{KeepsPromises};
 ghost use Rattle.sd_viewer.specs.Starts.{Starts};
 ghost use Rattle.sd_viewer.specs.Viewing.{answer_line, viewed_answer, viewed_line};
 
+use crate::forms::{Request, request_of};
 use crate::helping::put_help;
 use crate::viewing::view_input;
 use sd_answers::{Answer, Unwritten, put_line, put_text};
 use sd_text::{Sink, Source};
-use crate::forms::{Request, request_of};
 use std::alloc::Global;
 use std::io;
 

@@ -3,10 +3,10 @@
 ghost use Rattle.sd_answers.specs.StreamChanges.{change_of};
 ghost use Rattle.sd_viewer.specs.Viewing.{CausedByView, IsDrawing, viewed_answer, viewed_line};
 
-use sd_answers::{Answer, put_text, read_certificate};
-use sd_text::{Sink, Source};
 use crate::drawings::{Drawing, draw};
 use crate::lines::left_line;
+use sd_answers::{Answer, put_text, read_certificate};
+use sd_text::{Sink, Source};
 use std::alloc::Global;
 
 /// The text of a drawing, and what is said of it: what is left out, or is not there.
