@@ -45,9 +45,6 @@ pub is_done : (o : Option Event) (t : ThreadId) → ended_if o ≡ Some t → o 
 is_done (Some e) t is = ap (λ x. Some x) (by_event e t is)
 is_done None t is = cc
 
-pub ends_it : (o : Option Event) (t : ThreadId) → o ≡ Some (Done t) → ended_if o ≡ Some t
-ends_it o t is = ap ended_if is
-
 -- ---- the first and the last of two marks
 
 earlier_first : (a b : Mark) → ((earlier a b).tick ≤ a.tick) × ((earlier a b).tick ≤ b.tick)
