@@ -60,10 +60,6 @@ none-above n d b (line ∷ lines) =
 none-at : (n line : ℕ) (d : Declarations) (b : Block) (lines : List Line) → line ≡ n → NoneAbove line (judged n d b lines)
 none-at n line d b lines at = subst (λ (k : ℕ). NoneAbove k (judged n d b lines)) (sym at) (none-above n d b lines)
 
--- an accepted text has none at fault
-pub none-accepted : (line : ℕ) (v : Verdict) (d : Declarations) → v ≡ Accepts d → NoneAbove line v
-none-accepted line v d is = subst (NoneAbove line) (sym is) tt
-
 -- the fault that a refusal is
 pub refusal-at : (n : ℕ) (o : Option WorkCause) (r : Refusal) → IsRefusal o r → IsFaultAt n o (fault_of n r)
 refusal-at n o (Cause c) h = (refl, h)

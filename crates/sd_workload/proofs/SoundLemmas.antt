@@ -196,10 +196,6 @@ line-sound d Outside line none h k = outside-sound d line none h
 line-sound d (InTable class above) line none h k = inside-sound d class above line (is_end line) refl none h k
 line-sound d (InScript t ops) line none h k = in-script-sound d t ops line none h k
 
-declared-by : Verdict → Declarations → Declarations
-declared-by (Accepts d) e = d
-declared-by (Refuses n c) e = e
-
 apart-from : (n : ℕ) (c : WorkCause) (e : Declarations) → Refuses n c ≡ Accepts e → ⊥
 apart-from n c e h = cc
 

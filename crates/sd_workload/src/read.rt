@@ -25,7 +25,7 @@ const MOST_TICKS: u64 = 200_000;
 const MOST_PAIRS: usize = 65_536;
 
 /// The most operations of all scripts (this project's own).
-const MOST_OPS: usize = 4096;
+const MOST_OPS_OF_ALL: usize = 4096;
 
 // Takes a line outside blocks, which has this number, and the block that it opens, and gives the place below.
 fn take_lines(
@@ -81,7 +81,7 @@ fn is_too_many(d: &Declared) -> bool
     let limit = u64::from(d.limit.unwrap_or(0));
     MOST_TICKS < limit * cpus
         || MOST_PAIRS < d.threads.len() * d.locks.len()
-        || MOST_OPS < op_count(&d.threads)
+        || MOST_OPS_OF_ALL < op_count(&d.threads)
 }
 
 // Judges the end of the input, on the line after the last, and gives the limit.
