@@ -30,10 +30,6 @@ module _ {X : Type 0} (name : X → List ℕ) (xs : List X) (word : List ℕ) wh
       ap (λ o. unwrap_or o (length xs)) (position-map name (λ n. same_bytes n word) xs)
       ∙ index_or_len (λ x. same_bytes (name x) word) xs
 
-pub word_next : (x : List ℕ) (ws : List (List ℕ)) (k : ℕ) → 0 < k → get_or (x ∷ ws) k [] ≡ get_or ws (k - 1) []
-word_next x ws zero some = absurd (omega arith)
-word_next x ws (suc k) some = let e : k ≡ suc k - 1 = omega arith in ap (λ j. get_or ws j []) e
-
 -- ---- names that differ, one after another
 
 -- an element is none of those in front of it
