@@ -114,16 +114,6 @@ module _ {X : Type 0} (line : X → List ℕ) where
   pub Puts-all : (a b : Option (List ℕ)) (f g : ℕ) (xs : List X) (i : ℕ) → length xs ≤ i → Puts a b f g (flat_map line (take i xs)) (Ok tt) → Puts a b f g (flat_map line xs) (Ok tt)
   Puts-all a b f g xs i h p = subst (λ (ys : List X). Puts a b f g (flat_map line ys) (Ok tt)) (take_all i xs h) p
 
--- the numbers of a range as elements that were read
-pub range_item : (n i : ℕ) → i < n → i ≡ get_or (range_with_len 0 n) i i
-range_item n i l = sym (get_or-range_with_len 0 n i i l ∙ (let e : 0 + i ≡ i = omega arith in e))
-
-pub range_inside : (n i : ℕ) → i < n → i < length (range_with_len 0 n)
-range_inside n i l = omega (arith, length-range_with_len 0 n)
-
-pub range_past : (n i : ℕ) → n ≤ i → length (range_with_len 0 n) ≤ i
-range_past n i l = omega (arith, length-range_with_len 0 n)
-
 -- ---- the line on the error output
 
 -- a line that wants no memory was told

@@ -161,36 +161,7 @@ module _ (w : Work) (s : State) (c : CpuId) (fine : AreFine s) where
   numbers_ok (Will l o p at) cause told n = subst (λ (p : ℕ). is_byte p ≡ true) (sym cause.2) (byte_ok (inherited_priority s l o.0) (inherited_below s l o fine n.2))
   numbers_ok (Prio t u answer) cause told n = prio_byte t u answer cause
   numbers_ok (SemaVCount t k m) cause told n = let small = n.2 in let is = cause.2 in grind (arith, nat_tests)
-  numbers_ok (Tick t) cause told n = refl
-  numbers_ok (Spin t l) cause told n = refl
-  numbers_ok Idle cause told n = refl
-  numbers_ok (Preempt t end) cause told n = refl
-  numbers_ok (Away t d) cause told n = refl
-  numbers_ok (Yield t) cause told n = refl
-  numbers_ok (Done t) cause told n = refl
-  numbers_ok (Nap t) cause told n = refl
-  numbers_ok (Napend t at) cause told n = refl
-  numbers_ok (Sleep t k) cause told n = refl
-  numbers_ok (Wake t k u) cause told n = refl
-  numbers_ok (Wakeall t k) cause told n = refl
-  numbers_ok (Rouse k u) cause told n = refl
-  numbers_ok (Enter t l) cause told n = refl
-  numbers_ok (Read t l) cause told n = refl
-  numbers_ok (Write t l) cause told n = refl
-  numbers_ok (Block t l) cause told n = refl
-  numbers_ok (WalkEnd l) cause told n = refl
-  numbers_ok (Exit t l) cause told n = refl
-  numbers_ok (Unblock l u at) cause told n = refl
-  numbers_ok (Grant l u at) cause told n = refl
-  numbers_ok (Passed l) cause told n = refl
-  numbers_ok (CvWait t k l) cause told n = refl
-  numbers_ok (SemaP t k) cause told n = refl
-  numbers_ok (SemaWait t k) cause told n = refl
-  numbers_ok (SemaVWake t k u at) cause told n = refl
-  numbers_ok (Assign t d to answer) cause told n = refl
-  numbers_ok (Move t at) cause told n = refl
-  numbers_ok (Joined to) cause told n = refl
-  numbers_ok (Bind t u d answer) cause told n = refl
+  numbers_ok e cause told n = refl
 
 pub spelled : (w : Work) (n : ℕ) (s : State) (e : Entry) → IsReached w n s → IsStep w s e → e.number < 2 ^ 64 → IsTrue (hints_in_range e.hints) → IsSpelled w e
 unfolding entry_fits in_range

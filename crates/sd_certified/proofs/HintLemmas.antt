@@ -30,7 +30,7 @@ use Rattle.sd_machine.specs.Events.{after, placed_thread, plan_reads, reads}
 use Rattle.sd_machine.specs.Runs.{final, IsComplete, IsRun, IsRunFrom, shown, serial_hints, made, turn, round, rounds, IsSerial}
 use Rattle.std.proofs.lemmas.List.{length-append}
 use Rattle.std.proofs.lemmas.List.Elements.{All-nil, All-cons, All-head, All-tail}
-use Rattle.sd_machine.proofs.RunLemmas.{final-nil, final-push, IsRun-nil, IsRun-append, IsRun-from, IsRunFrom-nil, IsRunFrom-one, IsRunFrom-append}
+use Rattle.sd_machine.proofs.RunLemmas.{final-push, IsRun-nil, IsRun-append, IsRun-from, IsRunFrom-nil, IsRunFrom-one, IsRunFrom-append}
 use Rattle.sd_invariants.specs.Laws.{OpenHold, IsRising, is_in}
 use Rattle.sd_invariants.proofs.Whole.{reached_whole}
 use Rattle.sd_machine.specs.Texts.{journal}

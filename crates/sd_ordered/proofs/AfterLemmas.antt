@@ -137,11 +137,6 @@ module _ (n m : ℕ) (x s : State) (h : AreAlike n m x s) where
   pub answer_same : (w : Work) (t u : ℕ) (r : Request) → answer_to w x t u r ≡ answer_to w s t u r
   answer_same w t u r i = judged (uid_of w t) (is_privileged w t) (target_same w u i) r
 
--- what a walk begins with where thread u stands
-walk_alike : (n m : ℕ) (x s : State) → AreAlike n m x s → (c : CpuId) (u : ThreadId) → AreAlike n m (walk_from x c u (thread_of x u.0).place) (walk_from s c u (thread_of s u.0).place)
-unfolding walk_begun
-walk_alike n m x s h c u = begun_alike n m x s h c u
-
 place_after_class : (s : State) (u : ℕ) (class : ClassState) → (thread_of (set_class s u class) u).place ≡ (thread_of s u).place
 unfolding set_class
 place_after_class s u class = grind (arith, common_steps)

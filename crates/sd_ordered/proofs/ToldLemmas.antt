@@ -31,14 +31,6 @@ pub names : {L : Type 0} (x : Ordered) (r : Result (Option ThreadId) L) (f : Sta
     → ((n : ℕ) (s : State) → AreAlike n n x.state s → f x.state ≡ f s) → Names (IsShown x) r f
 names x r f h same = told x r (λ s t. option_map number t ≡ f s) h (λ n s sh a e. e ∙ same n s (alike_of x n s sh))
 
-pub none_lacks : {A : Type 0} (part : Never → Part) (shows : ℕ → State → Type 0) (has : Part → Bool) (r : Result A Never) (parts : State → List Part) → Lacks part shows has r parts
-none_lacks part shows has (Ok a) parts = tt
-none_lacks part shows has (Err q) parts = elim q [ ]
-
-pub none_keeps : {A : Type 0} (shows shows' : ℕ → State → Type 0) (r : Result A Never) → Keeps shows shows' r
-none_keeps shows shows' (Ok a) = tt
-none_keeps shows shows' (Err q) = elim q [ ]
-
 -- where the states stay alike, a change is made in each that is shown
 shown_after : (x : Ordered) (n : ℕ) (z s : State) → IsState x.state z → AreAlike n n z s → IsShown x n s
 shown_after x n z s is h =

@@ -105,9 +105,6 @@ module _ (t : TableId) (w : Work) (js js' : List Job) (many : length js' ≡ len
   long_of was = (phased was.index was.job (let i = was.inside in let z : was.index < length js = omega (arith, i, many) in z)).full (ap (λ (j : Job). j.outcome) (was.at was.job) ∙ was.stopped)
 
 -- ---- whether they have acted
-pub none_told : (js : List Job) → AllTell js 0 false
-none_told js i d inside = absurd (omega (arith, inside))
-
 pub one_told : (js : List Job) (n : ℕ) (b c : Bool) → AllTell js n b → n < length js → ((d : Job) → Tells (get_or js n d).outcome c) → AllTell js (n + 1) (b || c)
 one_told js n true c so_far inside here = record { index = so_far.index; inside = (let i = so_far.inside in omega (arith, i)); acted = so_far.acted }
 one_told js n false true so_far inside here = record { index = n; inside = omega arith; acted = here }
