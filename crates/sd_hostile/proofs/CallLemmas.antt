@@ -20,7 +20,7 @@ use Rattle.sd_world.specs.declared.plain.PlainWorld.{PlainWorld}
 use Rattle.sd_world.specs.declared.world.Behind.{Behind}
 use Rattle.sd_world.specs.Plain.{IsLess, NoneLess, plain_meaning}
 use Rattle.sd_world.specs.Worlds.{AllHinted, CanLock, CanTake, Finds, Gains, IsListedIn, IsStopped, ReadsCounts, Reserves, Rises, Stays}
-use Rattle.sd_world.proofs.WorldLemmas.{begins_same, finds, plain_good, quiet_same, stands_beside, stays_same}
+use Rattle.sd_world.proofs.WorldLemmas.{begins_same, finds, plain_good, stands_beside}
 use Rattle.sd_hostile.specs.declared.hostile.HostileWorld.{HostileWorld}
 use Rattle.sd_hostile.specs.Hostile.{HasHome, IsHostile, Moves, hint_in, hostile_meaning, whole}
 use Rattle.sd_hostile.proofs.HostileLemmas.{counted, fetched_gains, is_hostile, is_stopped, near_of, others_of, state_of, stopped_good, two, work_of}
@@ -144,7 +144,3 @@ module _ (x z : HostileWorld) (n : ℕ) (counts : z ≡ record x { calls = n }) 
 
   pub roomy_reserves : Reserves (hostile_meaning x) (hostile_meaning roomy)
   roomy_reserves = subst (λ a. Reserves a (hostile_meaning roomy)) (same_call x z n counts) (record { stays = roomy_stays; quiet = record { stops = refl; reads = refl; last = refl }; acting = refl })
-
--- there was none
-pub refused_reserves : (x z : HostileWorld) (n : ℕ) → z ≡ record x { calls = n } → Reserves (hostile_meaning x) (hostile_meaning z)
-refused_reserves x z n e = subst (λ a. Reserves a (hostile_meaning z)) (same_call x z n e) (record { stays = stays_same (hostile_meaning z); quiet = quiet_same (hostile_meaning z); acting = refl })

@@ -86,9 +86,6 @@ name-plain (b ∷ bs) h =
     let q = bytes-plain (b ∷ bs) p.1 in
     rw (some, q.0, q.1) refl
 
-pub name-again : (name : Word) → is_name name ≡ true → name_of name ≡ Some name
-name-again name h = rw h refl
-
 -- ---- numbers
 
 pub number-plain : (n : ℕ) → n < 2 ^ 64 → is_plain (decimal n) ≡ true

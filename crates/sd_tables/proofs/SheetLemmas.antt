@@ -64,30 +64,6 @@ res_taken columns line number old new res here no_row gives ok new_res new_count
       },
     )
 
-pub row_taken : (columns : List Column) (line : Line) (number : ℕ) (old new : Sheet) (found : List ℕ)
-    → is_res_line line ≡ false → is_row_line line ≡ true → row_fault columns line number ≡ None
-    → found ≡ numbers_of line → is_within columns found ≡ true
-    → new.res ≡ old.res → new.count ≡ old.count + 1
-    → (length old.rows.items < 61 → rows_of new ≡ rows_of old ++ found ∷ [])
-    → (above : List Line) → StandsFor columns above old
-    → (line_fault columns above line number ≡ None) × StandsFor columns (above ++ line ∷ []) new
-row_taken columns line number old new found no_res here no_fault is inside new_res new_count new_rows above h = (
-  grind (arith, common_steps),
-  record {
-    res = grind (arith, common_steps, h.res);
-    has_res = grind (arith, list_any-append, h.has_res);
-    count = grind (arith, common_steps, h.count);
-    rows = λ (few : new.count ≤ 61).
-        let below : old.count ≤ 61 = omega arith in
-        let same : rows_of old ≡ rows_in above = h.rows below in
-        let long : length old.rows.items < 61 = omega (arith, ap length same, length-map old.rows.items (λ r. r.items), h.count) in
-        grind (arith, common_steps, new_rows long);
-    has_row = grind (arith, list_any-append, h.has_row);
-    unit = grind (arith, h.unit);
-    within = grind (arith, common_steps, h.within);
-  },
-)
-
 -- ---- lines, one after the other
 
 -- where a list goes on from an index with an element
