@@ -1,12 +1,11 @@
 -- Numbers as bytes and back.
-use Rattle.std.proofs.Common.{◌≡◌, ℕ, zero, suc, ◌+◌, ◌-◌, ◌*◌, ◌/◌, ◌%◌, ◌^◌, ◌<◌, ◌≤◌, Bool, true, false, List, [], ◌∷◌, ◌++◌, length, get_or, drop, take, Option, Some, None, refl, sym, ap, ◌∙◌, append_assoc, arith, inl, inr, cond}
-use Rattle.std.specs.Prelude.{nat_lt, reverse}
-use Rattle.std.specs.List.{flat_map, AllByRecursion}
+use Rattle.std.proofs.Common.{◌≡◌, ℕ, zero, suc, ◌+◌, ◌-◌, ◌*◌, ◌/◌, ◌%◌, ◌^◌, ◌<◌, ◌≤◌, Bool, true, false, List, [], ◌∷◌, ◌++◌, length, get_or, drop, Option, Some, None, refl, sym, ap, ◌∙◌, append_assoc, arith, inl, inr, cond}
+use Rattle.std.specs.Prelude.{nat_lt, reverse, ◌&&◌, ◌==◌}
+use Rattle.std.specs.List.{AllByRecursion}
 use Rattle.std.proofs.Math.Seq.{drop-cons}
-use Rattle.std.proofs.lemmas.Bool.{lt-ltb, le-ltb, cases_lt}
-use Rattle.std.proofs.lemmas.List.{append-nil, take_more, reverse-append, nil_from_length, drop_all}
-use Rattle.std.proofs.lemmas.Grind.{flat_map-append}
-use Rattle.sd_encoding.specs.Bytes.{Extends, leb128_within, leb128, continued, joined, numbers_in}
+use Rattle.std.proofs.lemmas.Bool.{lt-ltb, le-ltb, ltb-true, eqb-true, and_parts, cases_lt}
+use Rattle.std.proofs.lemmas.List.{append-nil, reverse-append, nil_from_length, drop_all}
+use Rattle.sd_encoding.specs.Bytes.{Extends, number_within, number_bytes, bytes_from, bytes_of, with_zeros, continued, joined, numbers_in}
 
 abbrev none : Option ℕ
 none = None
@@ -15,71 +14,131 @@ abbrev none_read : Option (List ℕ)
 none_read = None
 
 -- more room than a number needs changes nothing
-same_within : (a b n : ℕ) → n ≤ a → n ≤ b → leb128_within a n ≡ leb128_within b n
-unfolding leb128_within
-same_within zero zero n p q = refl
-same_within zero (suc b) n p q = let few : nat_lt n 128 ≡ true = lt-ltb n 128 (omega arith) in rw few refl
-same_within (suc a) zero n p q = let few : nat_lt n 128 ≡ true = lt-ltb n 128 (omega arith) in rw few refl
-same_within (suc a) (suc b) n p q =
-    elim (cases_lt n 128) [
-      | inl lt ↦ let few : nat_lt n 128 ≡ true = lt-ltb n 128 lt in rw few refl
+same_within : (a b n z : ℕ) → n ≤ a → n ≤ b → number_within a n z ≡ number_within b n z
+unfolding number_within
+same_within zero zero n z p q = refl
+same_within zero (suc b) n z p q = let few : nat_lt n 32 ≡ true = lt-ltb n 32 (omega arith) in rw few refl
+same_within (suc a) zero n z p q = let few : nat_lt n 32 ≡ true = lt-ltb n 32 (omega arith) in rw few refl
+same_within (suc a) (suc b) n z p q =
+    elim (cases_lt n 32) [
+      | inl lt ↦ let few : nat_lt n 32 ≡ true = lt-ltb n 32 lt in rw few refl
       | inr le ↦
-          let many : nat_lt n 128 ≡ false = le-ltb n 128 le in
-          let below : n / 128 < n = omega arith in
-          rw many (ap (λ (ns : List ℕ). (n % 128 + 128) ∷ ns) (same_within a b (n / 128) (omega arith) (omega arith)))
+          let many : nat_lt n 32 ≡ false = le-ltb n 32 le in
+          let below : n / 32 < n = omega arith in
+          rw many (ap (λ (ns : List ℕ). (n % 32 + 224) ∷ ns) (same_within a b (n / 32) z (omega arith) (omega arith)))
     ]
 
-pub last_byte : (n : ℕ) → n < 128 → leb128 n ≡ n ∷ []
-unfolding leb128 leb128_within
-last_byte zero lt = refl
-last_byte (suc n) lt = let few : nat_lt (suc n) 128 ≡ true = lt-ltb (suc n) 128 lt in rw few refl
+pub last_byte : (n z : ℕ) → n < 32 → number_bytes n z ≡ (n + 32 * z) ∷ []
+unfolding number_bytes number_within
+last_byte zero z lt = refl
+last_byte (suc n) z lt = let few : nat_lt (suc n) 32 ≡ true = lt-ltb (suc n) 32 lt in rw few refl
 
-pub first_byte : (n : ℕ) → 128 ≤ n → leb128 n ≡ (n % 128 + 128) ∷ leb128 (n / 128)
-unfolding leb128 leb128_within
-first_byte zero le = absurd (omega arith)
-first_byte (suc n) le =
-    let many : nat_lt (suc n) 128 ≡ false = le-ltb (suc n) 128 le in
-    let below : suc n / 128 < suc n = omega arith in
-    rw many (ap (λ (ns : List ℕ). (suc n % 128 + 128) ∷ ns) (same_within n (suc n / 128) (suc n / 128) (omega arith) (omega arith)))
+pub first_byte : (n z : ℕ) → 32 ≤ n → number_bytes n z ≡ (n % 32 + 224) ∷ number_bytes (n / 32) z
+unfolding number_bytes number_within
+first_byte zero z le = absurd (omega arith)
+first_byte (suc n) z le =
+    let many : nat_lt (suc n) 32 ≡ false = le-ltb (suc n) 32 le in
+    let below : suc n / 32 < suc n = omega arith in
+    rw many (ap (λ (ns : List ℕ). (suc n % 32 + 224) ∷ ns) (same_within n (suc n / 32) (suc n / 32) z (omega arith) (omega arith)))
 
-within_again : (room n : ℕ) (bytes ns : List ℕ) → n ≤ room → n < 2 ^ 64 → numbers_in bytes ≡ Some ns → numbers_in (leb128_within room n ++ bytes) ≡ Some (n ∷ ns)
-unfolding leb128_within numbers_in joined continued
-within_again zero n bytes ns p lt is = let few : nat_lt n 128 ≡ true = lt-ltb n 128 (omega arith) in rw (is, few) refl
-within_again (suc room) n bytes ns p lt is =
-    elim (cases_lt n 128) [
-      | inl less ↦ let few : nat_lt n 128 ≡ true = lt-ltb n 128 less in rw (few, is, few) refl
+one_byte : (n z : ℕ) (bytes ns : List ℕ) → n < 32 → z ≤ 6 → numbers_in bytes ≡ Some ns → numbers_in ((n + 32 * z) ∷ bytes) ≡ Some (n ∷ with_zeros z ns)
+unfolding numbers_in joined
+one_byte n z bytes ns lt few is =
+    let ends : nat_lt (n + 32 * z) 224 ≡ true = lt-ltb (n + 32 * z) 224 (omega arith) in
+    let low : (n + 32 * z) % 32 ≡ n = omega arith in
+    let high : (n + 32 * z) / 32 ≡ z = omega arith in
+    rw (is, ends, low, high) refl
+
+within_again : (room n z : ℕ) (bytes ns : List ℕ) → n ≤ room → n < 2 ^ 64 → z ≤ 6 → numbers_in bytes ≡ Some ns → numbers_in (number_within room n z ++ bytes) ≡ Some (n ∷ with_zeros z ns)
+unfolding number_within numbers_in joined continued
+within_again zero n z bytes ns p lt few is = one_byte n z bytes ns (omega arith) few is
+within_again (suc room) n z bytes ns p lt few is =
+    elim (cases_lt n 32) [
+      | inl less ↦ let ends : nat_lt n 32 ≡ true = lt-ltb n 32 less in rw ends (one_byte n z bytes ns less few is)
       | inr le ↦
-          let many : nat_lt n 128 ≡ false = le-ltb n 128 le in
-          let high : nat_lt (n % 128 + 128) 128 ≡ false = le-ltb (n % 128 + 128) 128 (omega arith) in
-          let whole : n % 128 + 128 - 128 + 128 * (n / 128) ≡ n = omega arith in
+          let many : nat_lt n 32 ≡ false = le-ltb n 32 le in
+          let goes_on : nat_lt (n % 32 + 224) 224 ≡ false = le-ltb (n % 32 + 224) 224 (omega arith) in
+          let whole : n % 32 + 224 - 224 + 32 * (n / 32) ≡ n = omega arith in
           let below : nat_lt n (2 ^ 64) ≡ true = lt-ltb n (2 ^ 64) lt in
-          rw (many, within_again room (n / 128) bytes ns (omega arith) (omega arith) is, high, whole, below) refl
+          rw (many, within_again room (n / 32) z bytes ns (omega arith) (omega arith) few is, goes_on, whole, below) refl
     ]
+
+pub zeros_more : (z : ℕ) (ns : List ℕ) → with_zeros (suc z) ns ≡ with_zeros z (0 ∷ ns)
+unfolding with_zeros
+zeros_more zero ns = refl
+zeros_more (suc z) ns = ap (λ (ms : List ℕ). 0 ∷ ms) (zeros_more z ns)
+
+from_step : (b : Bool) (n z m : ℕ) (ns : List ℕ) → (m == 0 && nat_lt z 6) ≡ b → n < 2 ^ 64 → z ≤ 6 → (z < 6 → numbers_in (bytes_from n (suc z) ns) ≡ Some (n ∷ with_zeros (suc z) ns)) → numbers_in (bytes_from m 0 ns) ≡ Some (m ∷ ns)
+    → numbers_in (bytes_from n z (m ∷ ns)) ≡ Some (n ∷ with_zeros z (m ∷ ns))
+unfolding bytes_from number_bytes
+from_step true n z m ns e lt few counted other =
+    let parts = and_parts (m == 0) (nat_lt z 6) e in
+    let is_zero : m ≡ 0 = eqb-true m 0 parts.0 in
+    let less : z < 6 = ltb-true z 6 parts.1 in
+    rw e (counted less ∙ ap (λ (ms : List ℕ). Some (n ∷ ms)) (zeros_more z ns ∙ ap (λ (k : ℕ). with_zeros z (k ∷ ns)) (sym is_zero)))
+from_step false n z m ns e lt few counted other = rw e (within_again n n z (bytes_from m 0 ns) (m ∷ ns) (omega arith) lt few other)
+
+from_again : (n z : ℕ) (ns : List ℕ) → n < 2 ^ 64 → z ≤ 6 → AllByRecursion (λ m. m < 2 ^ 64) ns → numbers_in (bytes_from n z ns) ≡ Some (n ∷ with_zeros z ns)
+unfolding bytes_from number_bytes numbers_in with_zeros
+from_again n z [] lt few h = ap numbers_in (sym (append-nil (number_within n n z))) ∙ within_again n n z [] [] (omega arith) lt few refl
+from_again n z (m ∷ ns) lt few h = from_step (m == 0 && nat_lt z 6) n z m ns refl lt few (λ less. from_again n (suc z) ns lt (omega arith) h.1) (from_again m 0 ns h.0 (omega arith) h.1)
 
 -- what numbers are written as is read as these numbers
-pub numbers_again : (ns : List ℕ) → AllByRecursion (λ n. n < 2 ^ 64) ns → numbers_in (flat_map leb128 ns) ≡ Some ns
-unfolding leb128 numbers_in
+pub numbers_again : (ns : List ℕ) → AllByRecursion (λ n. n < 2 ^ 64) ns → numbers_in (bytes_of ns) ≡ Some ns
+unfolding bytes_of numbers_in with_zeros
 numbers_again [] h = refl
-numbers_again (n ∷ ns) h = within_again n n (flat_map leb128 ns) ns (omega arith) h.0 (numbers_again ns h.1)
+numbers_again (n ∷ ns) h = from_again n 0 ns h.0 (omega arith) h.1
 
 -- ---- writing
 
 pub extends_more : (old into new ys : List ℕ) → Extends old into → new ≡ into ++ ys → Extends old new
 extends_more old into new ys h e = (h.0 ++ ys, e ∙ ap (λ (xs : List ℕ). xs ++ ys) h.1 ∙ append_assoc old h.0 ys)
 
-pub byte_more : (into new whole : List ℕ) (rest : ℕ) → 128 ≤ rest → new ≡ into ++ (rest % 128 + 128) ∷ [] → into ++ leb128 rest ≡ whole → new ++ leb128 (rest / 128) ≡ whole
-byte_more into new whole rest le e so_far =
-    ap (λ (xs : List ℕ). xs ++ leb128 (rest / 128)) e ∙ append_assoc into ((rest % 128 + 128) ∷ []) (leb128 (rest / 128)) ∙ ap (λ (xs : List ℕ). into ++ xs) (sym (first_byte rest le)) ∙ so_far
+pub extends_further : (old into new : List ℕ) → Extends old into → Extends into new → Extends old new
+extends_further old into new h k = extends_more old into new k.0 h k.1
 
-pub byte_last : (into new whole : List ℕ) (rest : ℕ) → rest < 128 → new ≡ into ++ rest ∷ [] → into ++ leb128 rest ≡ whole → new ≡ whole
-byte_last into new whole rest lt e so_far = e ∙ ap (λ (xs : List ℕ). into ++ xs) (sym (last_byte rest lt)) ∙ so_far
+pub byte_more : (into new whole : List ℕ) (rest z : ℕ) → 32 ≤ rest → new ≡ into ++ (rest % 32 + 224) ∷ [] → into ++ number_bytes rest z ≡ whole → new ++ number_bytes (rest / 32) z ≡ whole
+byte_more into new whole rest z le e so_far =
+    ap (λ (xs : List ℕ). xs ++ number_bytes (rest / 32) z) e ∙ append_assoc into ((rest % 32 + 224) ∷ []) (number_bytes (rest / 32) z) ∙ ap (λ (xs : List ℕ). into ++ xs) (sym (first_byte rest z le)) ∙ so_far
 
-pub number_more : (old into new ns : List ℕ) (i : ℕ) → i < length ns → into ≡ old ++ flat_map leb128 (take i ns) → new ≡ into ++ leb128 (get_or ns i 0) → new ≡ old ++ flat_map leb128 (take (i + 1) ns)
-number_more old into new ns i lt so_far e =
-    let n : ℕ = get_or ns i 0 in
-    let more : flat_map leb128 (take (i + 1) ns) ≡ flat_map leb128 (take i ns) ++ leb128 n =
-    ap (flat_map leb128) (take_more ns i 0 lt) ∙ flat_map-append leb128 (take i ns) (n ∷ []) ∙ ap (λ (xs : List ℕ). flat_map leb128 (take i ns) ++ xs) (append-nil (leb128 n)) in
-    e ∙ ap (λ (xs : List ℕ). xs ++ leb128 n) so_far ∙ append_assoc old (flat_map leb128 (take i ns)) (leb128 n) ∙ ap (λ (xs : List ℕ). old ++ xs) (sym more)
+pub byte_last : (into new whole : List ℕ) (rest z : ℕ) → rest < 32 → new ≡ into ++ (rest + 32 * z) ∷ [] → into ++ number_bytes rest z ≡ whole → new ≡ whole
+byte_last into new whole rest z lt e so_far = e ∙ ap (λ (xs : List ℕ). into ++ xs) (sym (last_byte rest z lt)) ∙ so_far
+
+pub no_bytes : (into ns : List ℕ) → length ns ≡ 0 → into ≡ into ++ bytes_of ns
+unfolding bytes_of
+no_bytes into ns none_left = let is : ns ≡ [] = nil_from_length ns none_left in rw is (sym (append-nil into))
+
+pub first_number : (into ns others : List ℕ) (n : ℕ) → ns ≡ n ∷ others → into ++ bytes_from n 0 others ≡ into ++ bytes_of ns
+unfolding bytes_of
+first_number into ns others n is = rw is refl
+
+pub all_written : (into new others : List ℕ) (n z i : ℕ) → length others ≤ i → new ≡ into ++ number_bytes n z → new ≡ into ++ bytes_from n z (drop i others)
+unfolding bytes_from
+all_written into new others n z i le e = rw (drop_all i others le) e
+
+cut_at : (ns : List ℕ) (i : ℕ) → i < length ns → drop i ns ≡ get_or ns i 0 ∷ drop (i + 1) ns
+cut_at ns i lt = let next : suc i ≡ i + 1 = omega arith in drop-cons ns i 0 lt ∙ ap (λ (j : ℕ). get_or ns i 0 ∷ drop j ns) next
+
+-- one zero more behind a number
+pub zero_more : (into whole ns : List ℕ) (n z i : ℕ) → i < length ns → (get_or ns i 0 == 0 && nat_lt z 6) ≡ true → into ++ bytes_from n z (drop i ns) ≡ whole → into ++ bytes_from n (z + 1) (drop (i + 1) ns) ≡ whole
+unfolding bytes_from
+zero_more into whole ns n z i lt counted so_far =
+    let cut = cut_at ns i lt in
+    let next : z + 1 ≡ suc z = omega arith in
+    let one : bytes_from n z (drop i ns) ≡ bytes_from n (z + 1) (drop (i + 1) ns) = rw (cut, counted, next) refl in
+    ap (λ (xs : List ℕ). into ++ xs) (sym one) ∙ so_far
+
+pub room_left : (m z : ℕ) → (m == 0 && nat_lt z 6) ≡ true → z + 1 ≤ 6
+room_left m z counted = let less = ltb-true z 6 (and_parts (m == 0) (nat_lt z 6) counted).1 in omega arith
+
+-- the next number, which is none of the zeros that are counted
+pub number_more : (into new whole ns : List ℕ) (n z i : ℕ) → i < length ns → (get_or ns i 0 == 0 && nat_lt z 6) ≡ false → new ≡ into ++ number_bytes n z → into ++ bytes_from n z (drop i ns) ≡ whole → new ++ bytes_from (get_or ns i 0) 0 (drop (i + 1) ns) ≡ whole
+unfolding bytes_from
+number_more into new whole ns n z i lt other e so_far =
+    let m : ℕ = get_or ns i 0 in
+    let cut = cut_at ns i lt in
+    let one : bytes_from n z (drop i ns) ≡ number_bytes n z ++ bytes_from m 0 (drop (i + 1) ns) = rw (cut, other) refl in
+    ap (λ (xs : List ℕ). xs ++ bytes_from m 0 (drop (i + 1) ns)) e ∙ append_assoc into (number_bytes n z) (bytes_from m 0 (drop (i + 1) ns)) ∙ ap (λ (xs : List ℕ). into ++ xs) (sym one) ∙ so_far
 
 -- ---- reading
 
@@ -94,28 +153,38 @@ refused false m ns e = refl
 turned : (ns : List ℕ) (n : ℕ) → reverse (ns ++ n ∷ []) ≡ n ∷ reverse ns
 turned ns n = reverse-append ns (n ∷ [])
 
-pub joins_last : (byte : ℕ) (old new : List ℕ) → byte < 128 → new ≡ old ++ byte ∷ [] → joined byte (reverse old) ≡ Some (reverse new)
+pub joins_last : (byte : ℕ) (old zeroed new : List ℕ) → byte < 224 → reverse zeroed ≡ with_zeros (byte / 32) (reverse old) → new ≡ zeroed ++ (byte % 32) ∷ [] → joined byte (reverse old) ≡ Some (reverse new)
 unfolding joined
-joins_last byte old new lt e = let few : nat_lt byte 128 ≡ true = lt-ltb byte 128 lt in rw (few, e, turned old byte) refl
+joins_last byte old zeroed new lt zeros e = let ends : nat_lt byte 224 ≡ true = lt-ltb byte 224 lt in rw (ends, e, turned zeroed (byte % 32), zeros) refl
 
-pub joins_nothing : (byte : ℕ) (old : List ℕ) → 128 ≤ byte → length old ≡ 0 → joined byte (reverse old) ≡ None
+pub zeros_so_far : (old into new : List ℕ) (i : ℕ) → reverse into ≡ with_zeros i (reverse old) → new ≡ into ++ 0 ∷ [] → reverse new ≡ with_zeros (i + 1) (reverse old)
+unfolding with_zeros
+zeros_so_far old into new i so_far e =
+    let next : suc i ≡ i + 1 = omega arith in
+    ap reverse e ∙ turned into 0 ∙ ap (λ (ns : List ℕ). 0 ∷ ns) so_far ∙ ap (λ (k : ℕ). with_zeros k (reverse old)) next
+
+pub no_zeros : (ns : List ℕ) → ns ≡ with_zeros 0 ns
+unfolding with_zeros
+no_zeros ns = refl
+
+pub joins_nothing : (byte : ℕ) (old : List ℕ) → 224 ≤ byte → length old ≡ 0 → joined byte (reverse old) ≡ None
 unfolding joined continued
 joins_nothing byte old le e =
-    let many : nat_lt byte 128 ≡ false = le-ltb byte 128 le in
+    let many : nat_lt byte 224 ≡ false = le-ltb byte 224 le in
     let none_left : old ≡ [] = nil_from_length old e in
     rw (many, none_left) refl
 
-pub joins_more : (byte high number : ℕ) (old left new : List ℕ) → 128 ≤ byte → old ≡ left ++ high ∷ [] → Some number ≡ cond (nat_lt (byte - 128 + 128 * high) (2 ^ 64)) (Some (byte - 128 + 128 * high)) None → new ≡ left ++ number ∷ [] → joined byte (reverse old) ≡ Some (reverse new)
+pub joins_more : (byte high number : ℕ) (old left new : List ℕ) → 224 ≤ byte → old ≡ left ++ high ∷ [] → Some number ≡ cond (nat_lt (byte - 224 + 32 * high) (2 ^ 64)) (Some (byte - 224 + 32 * high)) None → new ≡ left ++ number ∷ [] → joined byte (reverse old) ≡ Some (reverse new)
 unfolding joined continued
 joins_more byte high number old left new le was is now =
-    let many : nat_lt byte 128 ≡ false = le-ltb byte 128 le in
-    rw (many, was, turned left high, now, turned left number) (chosen (nat_lt (byte - 128 + 128 * high) (2 ^ 64)) number (byte - 128 + 128 * high) (reverse left) is)
+    let many : nat_lt byte 224 ≡ false = le-ltb byte 224 le in
+    rw (many, was, turned left high, now, turned left number) (chosen (nat_lt (byte - 224 + 32 * high) (2 ^ 64)) number (byte - 224 + 32 * high) (reverse left) is)
 
-pub joins_too_much : (byte high : ℕ) (old left : List ℕ) → 128 ≤ byte → old ≡ left ++ high ∷ [] → none ≡ cond (nat_lt (byte - 128 + 128 * high) (2 ^ 64)) (Some (byte - 128 + 128 * high)) none → joined byte (reverse old) ≡ None
+pub joins_too_much : (byte high : ℕ) (old left : List ℕ) → 224 ≤ byte → old ≡ left ++ high ∷ [] → none ≡ cond (nat_lt (byte - 224 + 32 * high) (2 ^ 64)) (Some (byte - 224 + 32 * high)) none → joined byte (reverse old) ≡ None
 unfolding joined continued
 joins_too_much byte high old left le was is =
-    let many : nat_lt byte 128 ≡ false = le-ltb byte 128 le in
-    rw (many, was, turned left high) (refused (nat_lt (byte - 128 + 128 * high) (2 ^ 64)) (byte - 128 + 128 * high) (reverse left) is)
+    let many : nat_lt byte 224 ≡ false = le-ltb byte 224 le in
+    rw (many, was, turned left high) (refused (nat_lt (byte - 224 + 32 * high) (2 ^ 64)) (byte - 224 + 32 * high) (reverse left) is)
 
 pub one_before : (bytes ns : List ℕ) (i : ℕ) (r : Option (List ℕ)) → 0 < i → i ≤ length bytes → numbers_in (drop i bytes) ≡ Some ns → joined (get_or bytes (i - 1) 0) ns ≡ r → numbers_in (drop (i - 1) bytes) ≡ r
 unfolding numbers_in

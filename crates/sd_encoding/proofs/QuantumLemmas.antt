@@ -1,5 +1,5 @@
 -- A quantum that passes the test is one that a thread may have.
-use Rattle.std.specs.Prelude.{◌≡◌, ℕ, Bool, true, false, ◌&&◌, nat_le, refl}
+use Rattle.std.specs.Prelude.{◌≡◌, ℕ, true, ◌&&◌, nat_le}
 use Rattle.std.proofs.lemmas.Bool.{leb-true, eqb-true, and_parts}
 use Rattle.sd_types.specs.ClassNumbers.{IsQuantum, IsLeft}
 use Rattle.sd_types.specs.declared.classes.Quantum.{Quantum}

@@ -1,15 +1,15 @@
 -- A state as bytes, and the state that bytes spell.
 use Rattle.std.specs.Prelude.{◌≡◌, ℕ, ◌<◌, ◌^◌, ◌==◌, List, length, Option, Some, None, if◌then◌else◌}
-use Rattle.std.specs.List.{All, flat_map}
+use Rattle.std.specs.List.{All}
 use Rattle.sd_state.specs.declared.states.State.{State}
 use Rattle.sd_encoding.specs.Numbers.{vector}
 use Rattle.sd_encoding.specs.Reading.{◌>>=◌, state_at}
 use Rattle.sd_encoding.specs.Fits.{FitsState}
-use Rattle.sd_encoding.specs.Bytes.{leb128, numbers_in}
+use Rattle.sd_encoding.specs.Bytes.{bytes_of, numbers_in}
 
--- the bytes of its numbers, one after another
+-- the bytes of its numbers
 unfoldable pub encoded : State → List ℕ
-encoded s = flat_map leb128 (vector s)
+encoded s = bytes_of (vector s)
 
 -- the state whose numbers the bytes spell, all of them
 unfoldable pub state_in : List ℕ → Option State

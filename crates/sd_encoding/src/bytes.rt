@@ -1,61 +1,97 @@
-//! Numbers as bytes: LEB128.
+//! Numbers as bytes: five bits of a number in each, and how many zeros stand behind it.
 
-ghost use Rattle.std.specs.Prelude.{◌≡◌, ◌<◌, ◌+◌, ◌*◌, ◌^◌, ◌++◌, Some, None, nat_lt, if◌then◌else◌, OnOk, IfOk, reverse};
-ghost use Rattle.std.specs.List.{flat_map};
+ghost use Rattle.std.specs.Prelude.{◌≡◌, ◌<◌, ◌≤◌, ◌+◌, ◌*◌, ◌^◌, ◌++◌, ◌==◌, ◌&&◌, Some, None, nat_lt, if◌then◌else◌, OnOk, IfOk, reverse};
 ghost use Rattle.std.specs.Option.{option_map};
-ghost use Rattle.sd_encoding.specs.Bytes.{Extends, leb128, joined, numbers_in};
+ghost use Rattle.sd_encoding.specs.Bytes.{Extends, number_bytes, bytes_of, with_zeros, joined, numbers_in};
 
 use std::alloc::{AllocError, Global};
 
-/// Writes the bytes of a number at the end.
-pub fn write_number(number: u64, into: &mut Vec<u8>) -> Result<(), AllocError>
-    ensures written { OnOk result (into.new.items ≡ into.old.items ++ leb128 number) }
+/// The most zeros behind a number that its last byte counts.
+const MOST_ZEROS: u8 = 6;
+
+/// What is added to a byte of a number that goes on in the next one.
+const GOES_ON: u8 = 224;
+
+/// Writes the bytes of a number with so many zeros behind it at the end.
+fn write_number(number: u64, zeros: u8, into: &mut Vec<u8>) -> Result<(), AllocError>
+    requires { zeros ≤ 6 }
+    ensures written { OnOk result (into.new.items ≡ into.old.items ++ number_bytes number zeros) }
     ensures kept { Extends into.old.items into.new.items }
 {
     let mut rest = number;
-    while rest >= 128 {
-        into.push((rest % 128) as u8 + 128)?;
-        rest /= 128;
+    while rest >= 32 {
+        into.push((rest % 32) as u8 + GOES_ON)?;
+        rest /= 32;
     }
-    into.push(rest as u8)?;
+    into.push(rest as u8 + 32 * zeros)?;
     Ok(())
 }
 
-/// Writes the bytes of each number at the end.
+/// The number is a zero more behind a number with so many, and its last byte has room for it.
+fn is_counted(number: u64, zeros: u8) -> bool
+    ensures { result ≡ (number == 0 && nat_lt zeros 6) }
+{
+    number == 0 && zeros < MOST_ZEROS
+}
+
+/// Writes the bytes of the numbers at the end.
 pub fn write_numbers(numbers: &[u64], into: &mut Vec<u8>) -> Result<(), AllocError>
-    ensures written { OnOk result (into.new.items ≡ into.old.items ++ flat_map leb128 numbers.now) }
+    ensures written { OnOk result (into.new.items ≡ into.old.items ++ bytes_of numbers.now) }
     ensures kept { Extends into.old.items into.new.items }
 {
-    for number in numbers {
-        write_number(*number, into)?;
+    let Some((first, others)) = numbers.split_first() else {
+        return Ok(());
+    };
+    let mut number = *first;
+    let mut zeros = 0;
+    for next in others {
+        if is_counted(*next, zeros) {
+            zeros += 1;
+            continue;
+        }
+        write_number(number, zeros, into)?;
+        number = *next;
+        zeros = 0;
     }
+    write_number(number, zeros, into)?;
     Ok(())
 }
 
-/// The number that has these low seven bits and these higher ones, if it is below 2^64.
+/// The number that has these low five bits and these higher ones, if it is below 2^64.
 fn combined(low: u64, high: u64) -> Option<u64>
-    requires { low < 128 }
-    ensures { result ≡ (if nat_lt (low + 128 * high) (2 ^ 64) then Some (low + 128 * high) else None) }
+    requires { low < 32 }
+    ensures { result ≡ (if nat_lt (low + 32 * high) (2 ^ 64) then Some (low + 32 * high) else None) }
 {
-    if high <= (u64::MAX - low) / 128 {
-        Some(low + 128 * high)
+    if high <= (u64::MAX - low) / 32 {
+        Some(low + 32 * high)
     } else {
         None
     }
+}
+
+/// Puts so many zeros before these numbers, of which the first stands last.
+fn put_zeros(zeros: u8, numbers: &mut Vec<u64>) -> Result<(), AllocError>
+    ensures { OnOk result (reverse numbers.new.items ≡ with_zeros zeros (reverse numbers.old.items)) }
+{
+    for _ in 0..zeros {
+        numbers.push(0)?;
+    }
+    Ok(())
 }
 
 /// Puts a byte before the bytes of these numbers, of which the first stands last. Whether they spell numbers then.
 fn join(byte: u8, numbers: &mut Vec<u64>) -> Result<bool, AllocError>
     ensures { IfOk result (λ spells. joined byte (reverse numbers.old.items) ≡ (if spells then Some (reverse numbers.new.items) else None)) }
 {
-    if byte < 128 {
-        numbers.push(u64::from(byte))?;
+    if byte < GOES_ON {
+        put_zeros(byte / 32, numbers)?;
+        numbers.push(u64::from(byte % 32))?;
         return Ok(true);
     }
     let Some(high) = numbers.pop() else {
         return Ok(false);
     };
-    let Some(number) = combined(u64::from(byte - 128), high) else {
+    let Some(number) = combined(u64::from(byte - GOES_ON), high) else {
         return Ok(false);
     };
     numbers.push(number)?;

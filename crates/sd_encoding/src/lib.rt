@@ -1,5 +1,5 @@
-//! A state as compact bytes, and back: its numbers, one after another, each in LEB128. With it a state with its rank for each key,
-//! so that states whose keys have the same order have the same bytes.
+//! A state as compact bytes, and back: its numbers, each with the zeros behind it. With it a state with its rank for each key, so
+//! that states whose keys have the same order have the same bytes.
 #![tactic(auto)]
 
 mod arrays;
@@ -18,6 +18,6 @@ mod ranks;
 mod states;
 mod threads;
 
-pub use bytes::{read_numbers, write_number};
+pub use bytes::{read_numbers, write_numbers};
 pub use encoding::{decode, encode, encodings_differ, states_are_read_again};
 pub use ranks::rank;

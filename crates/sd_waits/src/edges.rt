@@ -24,7 +24,7 @@ pub struct Edge {
     pub cpu: CpuId,
     pub tick: u32,
     pub effect: Effect,
-    pub to: usize,
+    pub to: u32,
 }
 
 /// The edges from state `i`.

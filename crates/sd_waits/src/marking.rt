@@ -45,7 +45,7 @@ impl Marking {
         match edge.effect {
             Effect::Ends => Ok(()),
             Effect::Opens | Effect::Passes => self.set(
-                edge.to,
+                edge.to as usize,
                 Label {
                     since: label.since,
                     before: i,
@@ -103,7 +103,7 @@ impl Marking {
     {
         let edge = opening.edge;
         self.set(
-            edge.to,
+            edge.to as usize,
             Label {
                 since: edge.tick,
                 before: opening.from,

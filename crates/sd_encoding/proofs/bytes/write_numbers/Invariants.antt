@@ -1,7 +1,10 @@
-use Rattle.std.proofs.Common.{◌≡◌, ◌++◌, take}
-use Rattle.std.specs.List.{flat_map}
-use Rattle.sd_encoding.specs.Bytes.{leb128}
+use Rattle.std.proofs.Common.{◌≡◌, ◌≤◌, ◌++◌, drop}
+use Rattle.sd_encoding.specs.Bytes.{Extends, bytes_from, bytes_of}
 use Rattle.sd_encoding.proofs.bytes.write_numbers.Given as goal
 
-abbrev pub invariant-loop-number : goal.invariant-loop-number
-invariant-loop-number l = l.into.items ≡ l.fn.into.items ++ flat_map leb128 (take l.number-index l.numbers)
+abbrev pub invariant-loop-next : goal.invariant-loop-next
+invariant-loop-next l = record {
+  written : l.into.items ++ bytes_from l.number l.zeros (drop l.next-index l.others) ≡ l.fn.into.items ++ bytes_of l.numbers;
+  kept : Extends l.fn.into.items l.into.items;
+  room : l.zeros ≤ 6;
+}
