@@ -19,6 +19,10 @@ use sd_steps::{apply, serial_next};
 use sd_types::{CpuId, Event, Work};
 use std::alloc::{AllocError, Global};
 
+/// The greatest number of a state that is expanded (this project's own): memory is taken to run out behind it, so that a step needs no
+/// more than eight bytes.
+const MOST_BEFORE: usize = 0xffff_ffff;
+
 impl Graph {
     /// Puts in a state that a turn leads to, where it is not there yet.
     fn add(
@@ -59,10 +63,14 @@ impl Graph {
         ensures grown { OnOk result (IsGrown work.now self.old self.new) }
         ensures leads { OnOk result ((x : StateOf) → IsAt (packed self.old) i x → Has (IsAmong (packed self.new)) (after work.now x 0 c event)) }
     {
+        if i > MOST_BEFORE {
+            return Err(AllocError);
+        }
         let mut state = self.state(alloc, work, i)?;
         apply(work, &mut state, 0, c, event);
         rank(alloc, &mut state)?;
-        self.add(alloc, work, &state, Step { before: i, cpu: c })
+        let before = i as u32;
+        self.add(alloc, work, &state, Step { before, cpu: c })
     }
 
     /// Puts in the state that the turn of processor `c` leads to from state number `i`, where it has one.

@@ -34,7 +34,8 @@ pub fn begin(alloc: Global, work: &Work) -> Result<Graph, AllocError>
 }
 
 /// The states to which the turns of the processors lead, in whatever order they act: all of them, or `most` and those that the
-/// last state expanded leads to. The time is that of expanding each state once.
+/// last state expanded leads to. The time is that of expanding each state once. Memory is taken to run out where 2^32 states are
+/// expanded and one more leads to a state.
 pub fn explore(alloc: Global, work: &Work, most: usize) -> Result<Graph, AllocError>
     ensures gathered { IfOk result (Gathers work.now) }
     ensures apart { IfOk result (λ g. AreApart (packed g)) }

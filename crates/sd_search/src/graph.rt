@@ -14,7 +14,7 @@ use std::alloc::{AllocError, Global};
 /// How a state was reached: from the state with a smaller number, by the turn of a processor.
 #[derive(Clone, Copy)]
 pub struct Step {
-    pub before: usize,
+    pub before: u32,
     pub cpu: CpuId,
 }
 
@@ -55,7 +55,7 @@ impl Graph {
         while at > 0 {
             let step = self.steps[at];
             cpus.push(step.cpu)?;
-            at = step.before;
+            at = step.before as usize;
         }
         cpus.reverse();
         Ok(cpus)
