@@ -13,6 +13,9 @@ use sd_types::{CpuId, ThreadId, Work};
 use sd_waits::Edge;
 use std::alloc::{AllocError, Global};
 
+/// The greatest number of a state that an edge has room for (this project's own): memory is taken to run out behind it.
+const MOST_NUMBER: usize = 0xffff_ffff;
+
 /// The turn of processor `c` goes behind those so far, where it has one.
 fn note(
     row: &mut Vec<Edge>,
@@ -24,11 +27,14 @@ fn note(
     ensures { OnOk result (row.new.items ≡ row.old.items ++ edges_of state.now c thread turn) }
 {
     if let Some(turn) = turn {
+        if turn.to > MOST_NUMBER {
+            return Err(AllocError);
+        }
         row.push(Edge {
             cpu: c,
             tick: cpu_of(state, c).count,
             effect: effect_of(thread, &turn.event),
-            to: turn.to,
+            to: turn.to as u32,
         })?;
     }
     Ok(())
@@ -52,10 +58,12 @@ fn row_of(
         let turn = graph.turn(alloc, work, i, &state, CpuId(c))?;
         note(&mut row, &state, CpuId(c), thread, turn)?;
     }
+    row.shrink_to_fit();
     Ok(row)
 }
 
-/// The turns from each state, of a search that expanded all, as edges with what they do to the waits of a thread.
+/// The turns from each state, of a search that expanded all, as edges with what they do to the waits of a thread. Memory is taken to
+/// run out where there are more than 2^32 states.
 pub fn rows(
     alloc: Global,
     work: &Work,

@@ -28,7 +28,7 @@ fn height_along(row: &[Edge], heights: &[u32]) -> u64
 {
     let mut height = 0;
     for edge in row {
-        height = higher(height, heights[edge.to]);
+        height = higher(height, heights[edge.to as usize]);
     }
     height
 }

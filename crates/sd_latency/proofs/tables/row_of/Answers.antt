@@ -1,4 +1,7 @@
+use Rattle.std.proofs.Common.{◌≡◌, List, sym, subst, arith}
+use Rattle.sd_waits.specs.declared.edges.Edge.{Edge}
 use Rattle.sd_search.specs.Graphs.{packed}
+use Rattle.sd_latency.specs.Tables.{HasTurns}
 use Rattle.sd_latency.proofs.RowLemmas.{turned_more}
 use Rattle.sd_latency.proofs.tables.row_of.Goals as goal
 
@@ -7,3 +10,14 @@ loop-c-preserved c =
     let w = c.args.work.now in
     let bs = packed c.args.graph.now in
     turned_more w bs c.args.thread c.args.i c.in_ok-state.state c.in_ok-state.ensures (record { 0 = c.loop-c.c }) c.loop-c.row.items c.note.new.row.items c.in_ok-turn.turn c.in_ok-turn.ensures c.in_ok-note.ensures c.loop-c.invariant
+
+pub returns : goal.returns
+returns c =
+    let w = c.args.work.now in
+    let bs = packed c.args.graph.now in
+    let t = c.args.thread in
+    let i = c.args.i in
+    let test = c.loop-c-test.false in
+    let end = c.loop-c.auto.c-end in
+    let all : c.loop-c.c ≡ w.cpus = omega (arith, test, end) in
+    subst (λ (row : List Edge). HasTurns w bs t i w.cpus row) (sym c.shrink_to_fit.ensures.items) (subst (λ n. HasTurns w bs t i n c.loop-c.row.items) all c.loop-c.invariant)
