@@ -1,2 +1,3 @@
 pub mod Kept
 pub mod RunningLemmas
+pub mod Finished

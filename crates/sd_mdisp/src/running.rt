@@ -205,8 +205,9 @@ pub fn sent_away<S: Store>(
     mark_over(x, d, m)
 }
 
-/// By entry `number` thread `t` leaves processor `c` for the back of the queue of its priority, its operation over.
-#[tactic(auto, using(crate::proofs::Kept::left_inside), unfolding(sd_machine::specs::Dispatching::yielded))]
+/// By entry `number` thread `t` leaves processor `c` for the back of the queue of its priority, its operation over. It is over before the thread
+/// leaves, since a running thread changes where it stands.
+#[tactic(auto, using(crate::proofs::Finished::runs_finished))]
 pub fn yielded<S: Store>(
     work: &Work,
     x: &mut S,
@@ -221,8 +222,8 @@ pub fn yielded<S: Store>(
 {
     let p = eff_of(x, t)?;
     let bound = bound_of(x, t)?;
-    left_for_queue(work, x, number, c, t, End::Back, p, bound)?;
-    finish_op(x, work, t)
+    finish_op(x, work, t)?;
+    left_for_queue(work, x, number, c, t, End::Back, p, bound)
 }
 
 /// By entry `number` thread `t` has ended, and leaves processor `c`.

@@ -13,8 +13,9 @@ use sd_mdisp::{woken, woken_priority};
 use sd_store::{Chore, Destination, Look, Store, finish_op};
 use sd_types::{ChanId, CpuId, Event, Put, ThreadId, Work};
 
-/// By entry `number` thread `t`, which runs on processor `c`, sleeps on channel `k`.
-#[tactic(auto, using(sd_mdisp::proofs::Kept::left_inside), unfolding(sd_machine::specs::Sleeping::fallen_asleep))]
+/// By entry `number` thread `t`, which runs on processor `c`, sleeps on channel `k`. Its operation is over before it leaves, since a running
+/// thread changes where it stands.
+#[tactic(auto, using(sd_mdisp::proofs::Finished::runs_finished, crate::proofs::Leaving::finished_chan))]
 pub fn fallen_asleep<S: Store>(
     work: &Work,
     x: &mut S,
@@ -28,8 +29,8 @@ pub fn fallen_asleep<S: Store>(
     ensures lack { LacksBy number S.part (S.shows x.old) (S.has x.old) result (λ s. CanAct work.now s t c × IsChan s k) (λ s. actor_part c ∷ cpu_part c ∷ sleepers_part k ∷ thread_part t ∷ []) }
     ensures has { S.has x.new ≡ S.has x.old }
 {
-    x.leave(number, c, t, Destination::SleepQueue(k))?;
-    finish_op(x, work, t)
+    finish_op(x, work, t)?;
+    x.leave(number, c, t, Destination::SleepQueue(k))
 }
 
 /// Thread `t` wakes the best that sleeps on channel `k`.

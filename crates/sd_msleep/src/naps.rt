@@ -40,8 +40,8 @@ fn nap_ticks(op: Option<Op>) -> u32
 }
 
 /// By entry `number` thread `t`, which runs on processor `c`, naps there until the processor has counted the ticks of its
-/// operation.
-#[tactic(auto, using(sd_mdisp::proofs::Kept::left_inside), unfolding(sd_machine::specs::Sleeping::napped))]
+/// operation, which is over before it leaves, since a running thread changes where it stands.
+#[tactic(auto, using(sd_mdisp::proofs::Finished::runs_finished))]
 pub fn napped<S: Store>(
     work: &Work,
     x: &mut S,
@@ -56,6 +56,6 @@ pub fn napped<S: Store>(
 {
     let ticks = nap_ticks(op_of(work, x, t)?);
     let due = x.ticks(c)?.saturating_add(ticks);
-    x.leave(number, c, t, Destination::Nap(due))?;
-    finish_op(x, work, t)
+    finish_op(x, work, t)?;
+    x.leave(number, c, t, Destination::Nap(due))
 }

@@ -3,10 +3,12 @@
 //! Source: Solaris Internals (`thread_create`, `cpu_t`); that threads are assigned round-robin to the processors of their set is this
 //! project's own.
 
-ghost use Rattle.std.specs.Prelude.{◌≡◌, ◌+◌, ◌≤◌, length, IsTrue, IfOk, map, replicate};
+ghost use Rattle.std.specs.Prelude.{◌≡◌, ◌+◌, ◌<◌, ◌≤◌, Some, length, slice_get, IsTrue, IfOk, map, replicate};
 ghost use Rattle.std.specs.List.{range_with_len};
 ghost use Rattle.sd_types.specs.Works.{class_fits};
 ghost use Rattle.sd_state.specs.Opening.{is_urgent, is_dealt, turn_of, dealt_cpu, first_cpu, first_place, first_body, first_thread, first_threads, count_of, first_count, first_cpu_state, open_list, opening};
+ghost use Rattle.sd_types.specs.declared.works.Work.{Work as WorkOf};
+ghost use Rattle.sd_opening.specs.Turns.{AreTurns};
 
 use arrayvec::ArrayVec;
 use sd_flat::ticks_at;
@@ -39,6 +41,52 @@ fn turn_of(work: &Work, p: SetId, t: usize) -> usize
         .count()
 }
 
+/// How many threads before one are assigned round-robin in each set: a workload has eight sets at most, and set 0 beside them.
+#[derive(Clone, Copy)]
+struct Turns {
+    dealt: [usize; 9],
+}
+
+impl Turns {
+    /// Before the first thread.
+    fn new() -> Turns
+        ensures { (w : WorkOf) → AreTurns w 0 result.dealt }
+    {
+        Turns { dealt: [0; 9] }
+    }
+
+    /// The turn of thread `t` in set `p`.
+    fn turn(&self, work: &Work, p: SetId, t: usize) -> usize
+        requires inside { t ≤ length work.now.threads }
+        requires turns { AreTurns work.now t self.now.dealt }
+        ensures { result ≡ turn_of work.now p.0 t }
+    {
+        let set = p.0 as usize;
+        if set < 9 {
+            self.dealt[set]
+        } else {
+            turn_of(work, p, t)
+        }
+    }
+
+    /// Thread `t` has had its turn.
+    #[tactic(auto, using(crate::proofs::TurnLemmas::urgent_passes, crate::proofs::TurnLemmas::other_passes, crate::proofs::TurnLemmas::turn_passes))]
+    fn pass(&mut self, work: &Work, t: usize, d: &ThreadDecl)
+        requires inside { t < length work.now.threads }
+        requires there { slice_get work.now.threads t ≡ Some d.now }
+        requires turns { AreTurns work.now t self.old.dealt }
+        ensures { AreTurns work.now (t + 1) self.new.dealt }
+    {
+        let set = d.set.0 as usize;
+        if is_urgent(d) {
+            return;
+        }
+        if set < 9 {
+            self.dealt[set] += 1;
+        }
+    }
+}
+
 fn dealt_cpu(cpus: &[CpuId], k: usize) -> CpuId
     ensures { result ≡ dealt_cpu cpus.now k }
 {
@@ -51,34 +99,38 @@ fn dealt_cpu(cpus: &[CpuId], k: usize) -> CpuId
 
 /// The processor on whose queue thread `t` stands; for an urgent one the least of its partition.
 #[tactic(auto, unfolding(sd_state::specs::Opening::first_cpu))]
-fn first_cpu(work: &Work, t: usize, d: &ThreadDecl) -> CpuId
-    requires { t ≤ length work.now.threads }
+fn first_cpu(work: &Work, turns: &Turns, t: usize, d: &ThreadDecl) -> CpuId
+    requires inside { t ≤ length work.now.threads }
+    requires turns { AreTurns work.now t turns.now.dealt }
     ensures { result ≡ first_cpu work.now t d.now }
 {
     let cpus = cpus_of_set(work, d.set);
     let turn = if is_urgent(d) {
         0
     } else {
-        turn_of(work, d.set, t)
+        turns.turn(work, d.set, t)
     };
     dealt_cpu(cpus.as_slice(), turn)
 }
 
-fn first_place(work: &Work, t: usize, d: &ThreadDecl) -> Place
-    requires { t ≤ length work.now.threads }
+/// The place of thread `t`, whose processor is `cpu`.
+fn first_place(work: &Work, t: usize, d: &ThreadDecl, cpu: CpuId) -> Place
+    requires inside { t ≤ length work.now.threads }
+    requires cpu { cpu ≡ first_cpu work.now t d.now }
     ensures { result ≡ first_place work.now t d.now }
 {
     let key = t as i64;
     if is_urgent(d) {
         Place::RealTime(d.set, key)
     } else {
-        Place::Queued(first_cpu(work, t, d), key)
+        Place::Queued(cpu, key)
     }
 }
 
-fn first_body(work: &Work, t: usize, d: &ThreadDecl) -> ThreadBody
-    requires inside { t ≤ length work.now.threads }
+/// The body of thread `t`, whose processor is `cpu`.
+fn first_body(work: &Work, t: usize, d: &ThreadDecl, cpu: CpuId) -> ThreadBody
     requires class { IsTrue (class_fits d.now.class d.now.cpupri) }
+    requires cpu { cpu ≡ first_cpu work.now t d.now }
     ensures { result ≡ first_body work.now t d.now }
 {
     ThreadBody {
@@ -88,7 +140,7 @@ fn first_body(work: &Work, t: usize, d: &ThreadDecl) -> ThreadBody
         op: 0,
         run_left: ticks_at(d.script.ops().get(0).copied()),
         back: false,
-        last: first_cpu(work, t, d),
+        last: cpu,
         left_at: None,
         looped: false,
         bound: None,
@@ -96,14 +148,16 @@ fn first_body(work: &Work, t: usize, d: &ThreadDecl) -> ThreadBody
 }
 
 #[tactic(auto, unfolding(sd_state::specs::Opening::first_thread))]
-fn first_thread(work: &Work, t: usize, d: &ThreadDecl) -> ThreadState
+fn first_thread(work: &Work, turns: &Turns, t: usize, d: &ThreadDecl) -> ThreadState
     requires inside { t ≤ length work.now.threads }
     requires class { IsTrue (class_fits d.now.class d.now.cpupri) }
+    requires turns { AreTurns work.now t turns.now.dealt }
     ensures { result ≡ first_thread work.now t d.now }
 {
+    let cpu = first_cpu(work, turns, t, d);
     ThreadState {
-        body: first_body(work, t, d),
-        place: first_place(work, t, d),
+        body: first_body(work, t, d, cpu),
+        place: first_place(work, t, d, cpu),
     }
 }
 
@@ -111,9 +165,11 @@ fn first_threads(alloc: Global, work: &Work) -> Result<Vec<ThreadState>, AllocEr
     ensures { IfOk result (λ v. v.items ≡ first_threads work.now 0 work.now.threads) }
 {
     let mut threads = Vec::new(alloc);
+    let mut turns = Turns::new();
     let decls = work.threads.items();
     for t in 0..decls.len() {
-        threads.push(first_thread(work, t, &decls[t]))?;
+        threads.push(first_thread(work, &turns, t, &decls[t]))?;
+        turns.pass(work, t, &decls[t]);
     }
     Ok(threads)
 }

@@ -1,2 +1,3 @@
 pub mod Sleepers
 pub mod Among
+pub mod Ends

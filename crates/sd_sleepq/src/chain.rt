@@ -5,7 +5,8 @@ ghost use Rattle.sd_boxq.specs.Order.{precedes, insert_ranked, find_id, drop_id,
 ghost use Rattle.sd_sleepq.specs.Among.{find_among, AreRanked, IsHolder};
 ghost use Rattle.sd_sleepq.specs.Sleepers.{IsOfChain, sleepers_of, with_sleepers, Leaves, SleepsThere, AreApart};
 
-use sd_boxq::{BoxQueue, Node, Ranked};
+use crate::queue::SleepQueue;
+use sd_boxq::{Node, Ranked};
 use sd_four::Four;
 use sd_types::ChanId;
 use std::marker::Model;
@@ -15,7 +16,7 @@ use std::marker::Model;
 #[derive(Drop)]
 pub struct SleepChain<T: Ranked> {
     chain: u8,
-    queues: Four<BoxQueue<T>>,
+    queues: Four<SleepQueue<T>>,
 }
 
 impl<T: Ranked> Model for SleepChain<T> {
@@ -31,7 +32,7 @@ impl<T: Ranked> Model for SleepChain<T> {
 }
 
 // The index of the first queue that has an item with this id.
-fn holder_of<T: Ranked>(queues: &Four<BoxQueue<T>>, id: u32) -> Option<usize>
+fn holder_of<T: Ranked>(queues: &Four<SleepQueue<T>>, id: u32) -> Option<usize>
     requires { length queues.now ≡ 4 }
     ensures { MatchOption result (find_among T.id id queues.now ≡ None) (IsHolder T.id id queues.now) }
 {
@@ -44,7 +45,7 @@ fn holder_of<T: Ranked>(queues: &Four<BoxQueue<T>>, id: u32) -> Option<usize>
 }
 
 // The first item whose key is smaller than `below`.
-fn first_below<T: Ranked>(queue: &BoxQueue<T>, below: i64) -> Option<&T>
+fn first_below<T: Ranked>(queue: &SleepQueue<T>, below: i64) -> Option<&T>
     ensures { option_copied result ≡ find_below T.key below queue.now }
 {
     for item in queue.items() {
@@ -64,10 +65,10 @@ impl<T: Ranked> SleepChain<T> {
         SleepChain {
             chain,
             queues: Four::new(
-                BoxQueue::new(),
-                BoxQueue::new(),
-                BoxQueue::new(),
-                BoxQueue::new(),
+                SleepQueue::new(),
+                SleepQueue::new(),
+                SleepQueue::new(),
+                SleepQueue::new(),
             ),
         }
     }

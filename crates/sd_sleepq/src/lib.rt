@@ -2,5 +2,6 @@
 #![tactic(auto)]
 
 mod chain;
+mod queue;
 
 pub use chain::SleepChain;
