@@ -288,6 +288,13 @@ impl CpuHome {
         self.nappers.first()
     }
 
+    /// The threads that have ended.
+    pub fn ended(&self) -> &BoxQueue<Record>
+        ensures { result.now ≡ self.now.ended }
+    {
+        &self.ended
+    }
+
     #[inline(always)]
     pub fn first_ended(&self) -> Option<&Record>
         ensures { option_copied result ≡ slice_get self.now.ended 0 }

@@ -1,9 +1,9 @@
 //! What a home tells and keeps beside the order of its threads.
 
-ghost use Rattle.std.specs.Prelude.{◌≡◌, ◌≤◌, ◌++◌, length, option_map, IfErr, IfOk};
+ghost use Rattle.std.specs.Prelude.{◌≡◌, ◌≤◌, [], ◌++◌, length, option_map, IfErr, IfOk, MatchOption};
 ghost use Rattle.std.specs.Option.{option_copied};
 ghost use Rattle.sd_boxq.specs.Order.{drop_id, find_below, find_first};
-ghost use Rattle.sd_shown.specs.declared.list_id.ListId.TheVariants.{Queues, Sleeps, Waits};
+ghost use Rattle.sd_shown.specs.declared.list_id.ListId.TheVariants.{Ends, Queues, Sleeps, Waits};
 ghost use Rattle.sd_shown.specs.Standing.{id_of, is_unbound, key_in, least_to_age, rank_of};
 ghost use Rattle.sd_types.specs.declared.numbers.Side.TheVariants.{Writer, Reader};
 ghost use Rattle.sd_turn.specs.Waiters.{highest};
@@ -11,6 +11,7 @@ ghost use Rattle.sd_homes.specs.Families.{counting, list_in, lock_in, locking, o
 
 use crate::home::Home;
 use crate::real_time::IsFull;
+use sd_boxq::BoxQueue;
 use sd_record::Record;
 use sd_state::LockState;
 use sd_store::CpuView;
@@ -34,6 +35,16 @@ impl Home {
     {
         match self {
             Home::Cpu(h) => h.get().next_to_age(u),
+            _ => None,
+        }
+    }
+
+    /// The threads that have ended on processor `c`. `None` only where there is none.
+    pub fn ended(&self, c: CpuId) -> Option<&BoxQueue<Record>>
+        ensures { MatchOption result (list_in self.now (Ends c) ≡ []) (λ threads. threads.now ≡ list_in self.now (Ends c)) }
+    {
+        match self {
+            Home::Cpu(h) => Some(h.get().ended()),
             _ => None,
         }
     }

@@ -1,3 +1,4 @@
+mod EndedLemmas
 mod ListLemmas
 mod NapLemmas
 mod PartLemmas

@@ -3,7 +3,8 @@
 use Rattle.std.specs.Prelude.{◌≡◌, ℕ, ◌<◌, ◌^◌, ℤ, pos, List, length, Option, Some, slice_get, ⊤}
 use Rattle.sd_types.specs.declared.works.Work.{Work}
 use Rattle.sd_state.specs.declared.states.State.{State}
-use Rattle.sd_state.specs.States.{cpu_of}
+use Rattle.sd_state.specs.declared.states.ThreadState.{ThreadState}
+use Rattle.sd_state.specs.States.{cpu_of, thread_of}
 use Rattle.sd_machine.specs.Runs.{IsReached}
 use Rattle.sd_shown.specs.declared.list_id.ListId.{ListId}
 use Rattle.sd_shown.specs.declared.list_id.ListId.TheVariants.{Naps}
@@ -33,3 +34,7 @@ pub record IsToldBy (hs : List (Option Home)) (s : State) : Type 0 where
 abbrev pub IsDue : ListId → ℤ → Type 0
 IsDue (Naps c) k = (due : ℕ) × (due < 2 ^ 32) × (k ≡ pos due)
 IsDue _ k = ⊤
+
+-- each thread that is told already, where its number says, is the state's
+abbrev pub AreTold : State → List (Option ThreadState) → Type 0
+AreTold s xs = (t : ℕ) (x : ThreadState) → slice_get xs t ≡ Some (Some x) → x ≡ thread_of s t

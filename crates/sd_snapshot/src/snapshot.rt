@@ -29,7 +29,7 @@ pub fn state_of(
     let chans = work.chans.items().len() as u16;
     let sets = work.sets.items().len() as u8 + 1;
     Ok(State {
-        threads: List::from_vec(threads_of(alloc, hand, threads)?),
+        threads: List::from_vec(threads_of(alloc, hand, threads, work.cpus)?),
         locks: List::from_vec(locks_of(alloc, hand, locks)?),
         cpus: List::from_vec(cpus_of(alloc, hand, actors)?),
         counts: List::from_vec(counts_of(alloc, hand, chans)?),

@@ -1,18 +1,18 @@
 //! The threads of a state, each with the place that its list and its key tell.
 
-ghost use Rattle.std.specs.Prelude.{◌≡◌, ◌<◌, length, IfOk};
+ghost use Rattle.std.specs.Prelude.{◌≡◌, ◌<◌, length, IfOk, IfSome};
 ghost use Rattle.sd_state.specs.declared.states.Place.{Place as PlaceOf};
 ghost use Rattle.sd_state.specs.declared.states.State.{State as StateOf};
 ghost use Rattle.sd_state.specs.States.{thread_of};
 ghost use Rattle.sd_shown.specs.Standing.{list_at, record_key};
 ghost use Rattle.sd_types.specs.declared.numbers.CpuId.{CpuId as CpuOf};
-ghost use Rattle.sd_snapshot.specs.Told.{IsDue, IsToldBy};
+ghost use Rattle.sd_snapshot.specs.Told.{AreTold, IsDue, IsToldBy};
 
 use sd_hand::Hand;
-use sd_record::copied_body;
+use sd_record::{Record, copied_body};
 use sd_shown::ListId;
 use sd_state::{Place, ThreadState};
-use sd_types::ThreadId;
+use sd_types::{CpuId, HomeId, ThreadId};
 use std::alloc::{AllocError, Global};
 
 /// The place of a thread that stands in this list with this key.
@@ -48,18 +48,102 @@ fn thread_of(hand: &Hand, t: ThreadId) -> ThreadState
     }
 }
 
-/// The threads in the order of their numbers, so many.
+/// The thread with this record, which has ended.
+fn ended(thread: &Record) -> ThreadState
+    ensures { result ≡ record { body = thread.now.body; place = PlaceOf.Ended } }
+{
+    ThreadState {
+        body: copied_body(&thread.body),
+        place: Place::Ended,
+    }
+}
+
+/// Tells those who have ended on processor `c`, each where its number says.
+fn tell_ended(hand: &Hand, c: CpuId, told: &mut Vec<Option<ThreadState>>)
+    ensures { (s : StateOf) → IsToldBy hand.now.slots s → AreTold s told.old.items → AreTold s told.new.items }
+{
+    let home = match hand.home(HomeId::Cpu(c)) {
+        Err(_) => return,
+        Ok(home) => home,
+    };
+    let threads = match home.ended(c) {
+        None => return,
+        Some(threads) => threads,
+    };
+    for thread in threads.items() {
+        let number = thread.id.0 as usize;
+        if number < told.len() {
+            told[number] = Some(ended(thread));
+        }
+    }
+}
+
+/// No thread is told yet, of so many.
+fn nothing_told(alloc: Global, many: u16) -> Result<Vec<Option<ThreadState>>, AllocError>
+    ensures { IfOk result (λ v. (s : StateOf) → AreTold s v.items) }
+{
+    let mut told = Vec::new(alloc);
+    for _ in 0..many {
+        told.push(None)?;
+    }
+    Ok(told)
+}
+
+/// Those who have ended on some processor, of so many threads and processors. Who ended is told from list to list, since the search for one
+/// of them passes all who ended after it.
+fn all_ended(
+    alloc: Global,
+    hand: &Hand,
+    many: u16,
+    cpus: u16,
+) -> Result<Vec<Option<ThreadState>>, AllocError>
+    ensures { IfOk result (λ v. (s : StateOf) → IsToldBy hand.now.slots s → AreTold s v.items) }
+{
+    let mut told = nothing_told(alloc, many)?;
+    for c in 0..cpus {
+        tell_ended(hand, CpuId(c), &mut told);
+    }
+    Ok(told)
+}
+
+/// What is told of the thread with this number, which is told no more from now on.
+fn take_told(told: &mut Vec<Option<ThreadState>>, number: usize) -> Option<ThreadState>
+    ensures thread { IfSome result (λ x. (s : StateOf) → AreTold s told.old.items → x ≡ thread_of s number) }
+    ensures others { (s : StateOf) → AreTold s told.old.items → AreTold s told.new.items }
+{
+    if number < told.len() {
+        told[number].take()
+    } else {
+        None
+    }
+}
+
+/// Thread `t`, which is one of the state's and may be told already.
+fn thread_told(hand: &Hand, t: ThreadId, told: Option<ThreadState>) -> ThreadState
+    requires { (s : StateOf) × IsToldBy hand.now.slots s × (t.0 < length s.threads) }
+    ensures { (s : StateOf) → IsToldBy hand.now.slots s → t.0 < length s.threads → IfSome told (λ x. x ≡ thread_of s t.0) → result ≡ thread_of s t.0 }
+{
+    match told {
+        None => thread_of(hand, t),
+        Some(thread) => thread,
+    }
+}
+
+/// The threads in the order of their numbers, so many, of so many processors.
 pub(crate) fn threads_of(
     alloc: Global,
     hand: &Hand,
     many: u16,
+    cpus: u16,
 ) -> Result<Vec<ThreadState>, AllocError>
     requires { (s : StateOf) × IsToldBy hand.now.slots s × (length s.threads ≡ many) }
     ensures { IfOk result (λ v. (s : StateOf) → IsToldBy hand.now.slots s → length s.threads ≡ many → v.items ≡ s.threads) }
 {
+    let mut ended = all_ended(alloc, hand, many, cpus)?;
     let mut threads = Vec::new(alloc);
     for t in 0..many {
-        threads.push(thread_of(hand, ThreadId(t)))?;
+        let told = take_told(&mut ended, t as usize);
+        threads.push(thread_told(hand, ThreadId(t), told))?;
     }
     Ok(threads)
 }
