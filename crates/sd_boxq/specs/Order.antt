@@ -14,6 +14,10 @@ insert_before p x (y ∷ ys) = if p y then (x ∷ (y ∷ ys)) else (y ∷ insert
 abbrev pub precedes : {X : Type 0} → (X → ℕ) → (X → ℤ) → X → X → Bool
 precedes rank key x y = nat_lt (rank y) (rank x) || ((rank x == rank y) && int_lt (key x) (key y))
 
+-- by key alone, whatever the ranks: the smaller key first
+abbrev pub precedes_by_key : {X : Type 0} → (X → ℤ) → X → X → Bool
+precedes_by_key key x y = int_lt (key x) (key y)
+
 -- by key and id, whatever the ranks: the smaller key first, and of equal keys the smaller id
 abbrev pub precedes_keyed : {X : Type 0} → (X → ℤ) → (X → ℕ) → X → X → Bool
 precedes_keyed key id x y = int_lt (key x) (key y) || (int_eq (key x) (key y) && nat_lt (id x) (id y))
@@ -21,6 +25,10 @@ precedes_keyed key id x y = int_lt (key x) (key y) || (int_eq (key x) (key y) &&
 -- x before the first item that it precedes by rank and key
 abbrev pub insert_ranked : {X : Type 0} → (X → ℕ) → (X → ℤ) → X → List X → List X
 insert_ranked rank key x ys = insert_before (precedes rank key x) x ys
+
+-- x before the first item that it precedes by key alone
+abbrev pub insert_by_key : {X : Type 0} → (X → ℤ) → X → List X → List X
+insert_by_key key x ys = insert_before (precedes_by_key key x) x ys
 
 -- x before the first item that it precedes by key and id
 abbrev pub insert_keyed : {X : Type 0} → (X → ℤ) → (X → ℕ) → X → List X → List X

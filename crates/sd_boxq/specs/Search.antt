@@ -3,13 +3,14 @@ use Rattle.std.specs.Prelude.{◌≡◌, ◌↔◌, ◌<◌, ℕ, suc, ℤ, Bool
 use Rattle.sd_boxq.specs.declared.nodes.cursor.Spot.{Spot}
 use Rattle.sd_boxq.specs.declared.search.Found.{Found}
 use Rattle.sd_boxq.specs.declared.search.Wanted.{Wanted}
-use Rattle.sd_boxq.specs.declared.search.Wanted.TheVariants.{BehindRanked, BehindKeyed, Id, Below}
+use Rattle.sd_boxq.specs.declared.search.Wanted.TheVariants.{BehindRanked, BehindKey, BehindKeyed, Id, Below}
 use Rattle.sd_boxq.specs.Links.{Link}
 use Rattle.sd_boxq.specs.Boxes.{LiesAt}
-use Rattle.sd_boxq.specs.Order.{precedes, precedes_keyed}
+use Rattle.sd_boxq.specs.Order.{precedes, precedes_by_key, precedes_keyed}
 
 abbrev pub is_wanted : {T : Type 0} → (T → ℕ) → (T → ℤ) → (T → ℕ) → Wanted T → T → Bool
 is_wanted rank key id (BehindRanked x) = precedes rank key x.now
+is_wanted rank key id (BehindKey x) = precedes_by_key key x.now
 is_wanted rank key id (BehindKeyed x) = precedes_keyed key id x.now
 is_wanted rank key id (Id n) = λ y. id y == n
 is_wanted rank key id (Below k) = λ y. int_lt (key y) k

@@ -2,7 +2,7 @@
 ghost use Rattle.std.specs.Prelude.{◌≡◌, ◌<◌, ◌^◌, ◌↔◌, IsTrue, MatchOption, MatchResult, ◌+◌, [], ◌∷◌, ◌++◌, length, slice_get, Some, IfSome};
 ghost use Rattle.std.specs.Option.{option_copied};
 ghost use Rattle.sd_boxq.specs.Search.{is_wanted};
-ghost use Rattle.sd_boxq.specs.Order.{find_first, drop_first, insert_ranked, insert_keyed, find_id, drop_id, find_below, drop_below, replace_id, IsAlike};
+ghost use Rattle.sd_boxq.specs.Order.{find_first, drop_first, insert_ranked, insert_by_key, insert_keyed, find_id, drop_id, find_below, drop_below, replace_id, IsAlike};
 
 use crate::node::Node;
 use crate::nodes::Nodes;
@@ -142,6 +142,17 @@ impl<T: Ranked> BoxQueue<T> {
         self.nodes.put(gap, block, item);
     }
 
+    /// Puts the box before the first item whose key is greater, and at the back where there is none. The ranks
+    /// are not looked at.
+    #[tactic(auto, using(crate::proofs::Counts::insert_counted))]
+    pub fn insert_by_key(&mut self, n: Node<T>)
+        ensures { self.new ≡ insert_by_key T.key n self.old }
+    {
+        let gap = self.nodes.gap(&Wanted::BehindKey(n.item()));
+        let (item, block) = n.into_parts();
+        self.nodes.put(gap, block, item);
+    }
+
     /// Puts the box before the first item whose key is greater, or whose key is equal and whose id is
     /// greater, and at the back where there is none. The ranks are not looked at.
     #[tactic(auto, using(crate::proofs::Counts::insert_counted))]
@@ -155,6 +166,7 @@ impl<T: Ranked> BoxQueue<T> {
 
     // Takes the box of the first wanted item. `None` exactly where there is none.
     #[tactic(auto, using(crate::proofs::Counts::find_counted, crate::proofs::Counts::drop_counted))]
+    #[inline(always)]
     fn take(&mut self, wanted: &Wanted<'_, T>) -> Option<Node<T>>
         ensures taken { result ≡ find_first (is_wanted T.rank T.key T.id wanted.now) self.old }
         ensures rest { self.new ≡ drop_first (is_wanted T.rank T.key T.id wanted.now) self.old }

@@ -16,6 +16,8 @@ use std_alloc::room::Vacant;
 pub(crate) enum Wanted<'a, T> {
     /// Those that this one precedes by rank and key.
     BehindRanked(&'a T),
+    /// Those with a greater key than this one.
+    BehindKey(&'a T),
     /// Those that this one precedes by key and id.
     BehindKeyed(&'a T),
     /// Those with this id.
@@ -25,11 +27,13 @@ pub(crate) enum Wanted<'a, T> {
 }
 
 impl<'a, T: Ranked> Wanted<'a, T> {
+    #[inline(always)]
     fn passes(&self, item: &T) -> bool
         ensures { result ≡ is_wanted T.rank T.key T.id self.now item.now }
     {
         match self {
             Wanted::BehindRanked(x) => precedes(*x, item),
+            Wanted::BehindKey(x) => x.key() < item.key(),
             Wanted::BehindKeyed(x) => precedes_keyed(*x, item),
             Wanted::Id(id) => item.id() == *id,
             Wanted::Below(key) => item.key() < *key,
@@ -56,6 +60,7 @@ pub(crate) struct Found<T> {
 
 impl<T: Ranked, A: Allocator> Nodes<T, A> {
     /// Where the first wanted item stands.
+    #[inline(always)]
     pub(crate) fn gap(&self, wanted: &Wanted<'_, T>) -> Gap<T>
         ensures index { index_behind result.before ≡ count_before (is_wanted T.rank T.key T.id wanted.now) self.now.items }
         ensures before { IsBefore (links_of self.now.blocks) result.before }

@@ -1,7 +1,8 @@
 -- The levels against the one list that they are.
-use Rattle.std.proofs.Common.{◌≡◌, ℕ, zero, suc, ◌+◌, ◌-◌, ◌<◌, ◌≤◌, Bool, true, false, nat_lt, nat_le, List, [], ◌∷◌, ◌++◌, length, set, drop, max, Option, Some, None, IfSome, slice_get, drop-cons, refl, sym, ap, ◌∙◌, arith, subst, length-set, ℤ}
+use Rattle.std.proofs.Common.{◌≡◌, ℕ, zero, suc, ◌+◌, ◌-◌, ◌<◌, ◌≤◌, Bool, true, false, nat_lt, nat_le, int_lt, List, [], ◌∷◌, ◌++◌, length, set, drop, max, Option, Some, None, IfSome, slice_get, drop-cons, refl, sym, ap, ◌∙◌, arith, subst, length-set, ℤ}
 use Rattle.std.proofs.lemmas.Bool.Decides.{nat_tests}
-use Rattle.sd_boxq.specs.Order.{insert_before, insert_ranked, precedes, find_id, drop_id, replace_id, IsAlike, IsNowhere}
+use Rattle.std.proofs.lemmas.Int.{ints}
+use Rattle.sd_boxq.specs.Order.{insert_before, insert_by_key, insert_ranked, precedes, find_id, drop_id, replace_id, IsAlike, IsNowhere}
 use Rattle.sd_dispq.specs.Levels.{all_of, level_at, HaveRank, IsLevelled, IsNextBusy, AreIdleFrom}
 use Rattle.sd_dispq.specs.Ranks.{put_front, put_back, IsByRank, greatest_rank, raised}
 
@@ -76,6 +77,14 @@ module _ {X : Type 0} (rank : X → ℕ) where
   HaveRank-insert : (q : X → Bool) (x : X) (r : ℕ) (l : List X) → rank x ≡ r → HaveRank rank r l → HaveRank rank r (insert_before q x l)
   HaveRank-insert q x r [] e h = (e, tt)
   HaveRank-insert q x r (y ∷ l) e h = grind (arith, HaveRank-insert q x r l e h.1)
+
+  -- where all have one rank, the key alone tells the place
+  pub ranked-by_key : (key : X → ℤ) (x : X) (l : List X) → HaveRank rank (rank x) l → insert_by_key key x l ≡ insert_ranked rank key x l
+  ranked-by_key key x [] h = refl
+  ranked-by_key key x (y ∷ l) h =
+      let alike : rank y ≡ rank x = h.0 in
+      let same : precedes rank key x y ≡ int_lt (key x) (key y) = grind (arith, nat_tests, ints) in
+      grind (arith, same, ranked-by_key key x l h.1)
 
   -- within a level
   front-level : (x : X) (l : List X) → HaveRank rank (rank x) l → put_front rank x l ≡ x ∷ l

@@ -1,10 +1,10 @@
 -- What each call makes of the levels and the greatest rank.
 use Rattle.std.proofs.Common.{◌≡◌, ℕ, zero, suc, ◌+◌, ◌<◌, List, [], ◌∷◌, ◌++◌, length, set, drop, Option, Some, None, slice_get, refl, sym, ap, ◌∙◌, arith, subst, length-set, ℤ, is_some, true, ◌≤◌, ◌≢◌, ◌⊎◌, inl, inr, IfSome}
-use Rattle.sd_boxq.specs.Order.{insert_ranked, find_id, drop_id, replace_id, IsAlike}
+use Rattle.sd_boxq.specs.Order.{insert_ranked, insert_by_key, find_id, drop_id, replace_id, IsAlike}
 use Rattle.std.proofs.lemmas.Bool.{cases_eq}
 use Rattle.sd_dispq.specs.Levels.{all_of, level_at, IsLevelled, IsHolder, IsNextBusy, AreIdleFrom}
 use Rattle.sd_dispq.specs.Ranks.{put_front, put_back, greatest_rank, raised}
-use Rattle.sd_dispq.proofs.LevelLemmas.{all_of-front, all_of-back, all_of-ranked, levelled-front, levelled-back, levelled-ranked, levelled-drop, greatest-front, greatest-back, greatest-ranked, first_there, found_there, found_nowhere, find-within, find-behind, to_next, levelled-replace, alike_there, alike_rank, greatest-replace}
+use Rattle.sd_dispq.proofs.LevelLemmas.{HaveRank-at, ranked-by_key, all_of-front, all_of-back, all_of-ranked, levelled-front, levelled-back, levelled-ranked, levelled-drop, greatest-front, greatest-back, greatest-ranked, first_there, found_there, found_nowhere, find-within, find-behind, to_next, levelled-replace, alike_there, alike_rank, greatest-replace}
 
 module _ {X : Type 0} (rank : X → ℕ) where
   abbrev pub Sound : List (List X) → Option ℕ → Type 0
@@ -35,6 +35,9 @@ module _ {X : Type 0} (rank : X → ℕ) where
 
     pub to_rank : (key : X → ℤ) → new ≡ set ls p (insert_ranked rank key x (level_at ls p)) → Sound new o' × (all_of new ≡ insert_ranked rank key x (all_of ls))
     to_rank key k = changed ls new o o' p (rank x) _ _ s k (levelled-ranked rank key x ls p s.1 at) (all_of-ranked rank key x ls p s.1 at) (greatest-ranked rank key x (all_of ls)) up
+
+    pub to_rank_by_key : (key : X → ℤ) → new ≡ set ls p (insert_by_key key x (level_at ls p)) → Sound new o' × (all_of new ≡ insert_ranked rank key x (all_of ls))
+    to_rank_by_key key k = to_rank key (k ∙ ap (set ls p) (ranked-by_key rank key x (level_at ls p) (HaveRank-at rank ls p (rank x) s.1 at)))
 
   small : (ls : List (List X)) (r : ℕ) → IsLevelled rank ls → Some r ≡ greatest_rank rank (all_of ls) → r < length ls
   small [] r s e = absurd cc

@@ -1,7 +1,7 @@
 //! The levels of a dispatch queue, with a bit for each that is set exactly where it is not empty.
 ghost use Rattle.std.specs.Prelude.{◌≡◌, ◌<◌, [], ◌∷◌, ◌++◌, length, set, drop, slice_get, replicate, IfOk, IfSome, MatchOption};
 ghost use Rattle.std.specs.Option.{option_copied};
-ghost use Rattle.sd_boxq.specs.Order.{insert_ranked, find_id, drop_id, replace_id, IsAlike};
+ghost use Rattle.sd_boxq.specs.Order.{insert_by_key, find_id, drop_id, replace_id, IsAlike};
 ghost use Rattle.sd_dispq.specs.Levels.{all_of, level_at, AreIdleFrom, IsLevelled, IsNextBusy};
 
 use crate::bitmap::Bitmap;
@@ -103,13 +103,13 @@ impl<T> Levels<T> {
 }
 
 impl<T: Ranked> Levels<T> {
-    /// Puts the box by rank and key into the level at this index.
-    pub(crate) fn insert_ranked(&mut self, index: usize, n: Node<T>)
+    /// Puts the box by its key into the level at this index.
+    pub(crate) fn insert_by_key(&mut self, index: usize, n: Node<T>)
         requires { index < 160 }
-        ensures { self.new ≡ set self.old index (insert_ranked T.rank T.key n (level_at self.old index)) }
+        ensures { self.new ≡ set self.old index (insert_by_key T.key n (level_at self.old index)) }
     {
         let queue = &mut self.queues[index];
-        queue.insert_ranked(n);
+        queue.insert_by_key(n);
         self.busy.set(index);
     }
 

@@ -101,13 +101,13 @@ impl<T: Ranked> DispQueue<T> {
     }
 
     /// Puts the box before the first item whose rank is smaller, or whose rank is equal and whose key is
-    /// greater, and at the back where there is none.
+    /// greater, and at the back where there is none. All items of its level have its rank, so that it goes there by its key.
     pub fn put_ranked(&mut self, n: Node<T>)
         requires { T.rank n < 160 }
         ensures { self.new ≡ insert_ranked T.rank T.key n self.old }
     {
         let rank = n.item().rank();
-        self.levels.insert_ranked(level_of(rank), n);
+        self.levels.insert_by_key(level_of(rank), n);
         self.greatest = raise(self.greatest, rank);
     }
 
