@@ -1,7 +1,7 @@
 -- The turn of a processor that has all homes, and whose plan reads nothing, or searches where nothing is queued.
-use Rattle.std.proofs.Common.{◌≡◌, ℕ, ◌<◌, true, ◌==◌, max, List, [], ◌∷◌, length, map, Option, Some, None, refl, sym, ap, ◌∙◌, subst, if◌then◌else◌}
+use Rattle.std.proofs.Common.{◌≡◌, ℕ, suc, ◌<◌, true, false, ◌==◌, arith, max, List, [], ◌∷◌, length, map, Option, Some, None, refl, sym, ap, ◌∙◌, subst, if◌then◌else◌}
 use Rattle.std.specs.List.{Contains, list_all}
-use Rattle.std.proofs.lemmas.Bool.{and_parts, eqb-true}
+use Rattle.std.proofs.lemmas.Bool.{and_parts, eq-eqb, eqb-true}
 use Rattle.sd_types.specs.declared.numbers.ChanId.{ChanId}
 use Rattle.sd_types.specs.declared.numbers.CpuId.{CpuId}
 use Rattle.sd_types.specs.declared.events.Event.{Event}
@@ -69,6 +69,18 @@ unfolding victim_for
 vain w s c hints inside is zeros read =
     ap (next w s c) (read ∙ sym (serial_of w s c Search is)) ∙ next_of w s c Search inside is
     ∙ ap (λ v. allowed w s c.0 (search_event s v)) (vain_among s (neighbours s c.0) zeros)
+
+-- what was read in a search, where there are no neighbours and where there are some
+pub none_read : (s : State) (cpus : List CpuId) (ns : List ℕ) → ns ≡ map (hint_shown s Queued) cpus → (length ns == 0) ≡ true → shown s (read_of cpus) ≡ None
+none_read s [] ns e z = refl
+none_read s (d ∷ ds) ns e z =
+    let many : length ns ≡ suc (length (map (hint_shown s Queued) ds)) = ap length e in
+    let none : length ns ≡ 0 = eqb-true (length ns) 0 z in
+    absurd (grind (arith, many, none))
+
+pub some_read : (s : State) (cpus : List CpuId) (h : Hints) → h.which ≡ Queued → h.numbers.items ≡ map (hint_shown s Queued) cpus → (length h.numbers.items == 0) ≡ false → shown s (read_of cpus) ≡ Some h
+some_read s [] h w e z = let yes : (length h.numbers.items == 0) ≡ true = eq-eqb (length h.numbers.items) 0 (ap length e) in absurd cc
+some_read s (d ∷ ds) h w e z = (λ j. Some (record { which = (sym w) j; numbers = record { items = (sym e) j } }))
 
 -- the turn, with the numbers that are read for it
 pub with_serial : (w : Work) (s : State) (n : ℕ) (c : CpuId) (hints : Option Hints) → hints ≡ serial_hints w s c → made n c hints (next w s c hints) ≡ turn w s n c

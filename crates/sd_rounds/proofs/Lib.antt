@@ -4,4 +4,6 @@ pub mod FinishLemmas
 pub mod OrderLemmas
 pub mod RoundLemmas
 pub mod SerialLemmas
+pub mod SightLemmas
+pub mod TickLemmas
 pub mod TurnLemmas

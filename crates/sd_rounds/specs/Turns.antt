@@ -7,8 +7,8 @@ use Rattle.sd_types.specs.declared.works.Work.{Work}
 use Rattle.sd_machine.specs.Runs.{turn}
 use Rattle.sd_world.specs.declared.plain.PlainWorld.{PlainWorld}
 use Rattle.sd_world.specs.Plain.{told}
-use Rattle.sd_rounds.specs.declared.turns.Alone.{Alone}
-use Rattle.sd_rounds.specs.declared.turns.Alone.TheVariants.{Turned, Left}
+use Rattle.sd_rounds.specs.declared.ticks.Alone.{Alone}
+use Rattle.sd_rounds.specs.declared.ticks.Alone.TheVariants.{Turned, Left}
 
 -- its turn; or nothing was done, or no memory was left
 abbrev pub ActsAlone : Work → PlainWorld → PlainWorld → Result Alone Stop → Type 0

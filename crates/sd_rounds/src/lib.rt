@@ -6,6 +6,8 @@
 mod laws;
 mod orders;
 mod rounds;
+mod sight;
+mod ticks;
 mod turns;
 
 pub use laws::one_serial;

@@ -3,10 +3,12 @@
 
 ghost use Rattle.std.specs.Prelude.{◌≡◌, ◌++◌, ◌<◌, ◌≤◌, ◌↔◌, ◌==◌, IfErr, IfSome, List, Option, length, map, vec_capacity, vec_len, true, [], IsErrOf, OnErr, OnOk};
 ghost use Rattle.std.specs.List.{list_all};
+ghost use Rattle.sd_types.specs.declared.events.Duty.TheVariants.{Nothing};
 ghost use Rattle.sd_types.specs.declared.events.Which.TheVariants.{Queued};
 ghost use Rattle.sd_types.specs.declared.numbers.CpuId.{CpuId as CpuIdOf};
 ghost use Rattle.sd_state.specs.declared.states.State.{State};
-ghost use Rattle.sd_machine.specs.declared.plans.Plan.TheVariants.{Search};
+ghost use Rattle.sd_machine.specs.declared.plans.Plan.TheVariants.{Make, Search};
+ghost use Rattle.sd_state.specs.States.{cpu_of};
 ghost use Rattle.sd_machine.specs.Choosing.{hint_shown, neighbours, read_of};
 ghost use Rattle.sd_machine.specs.Events.{allowed, next};
 ghost use Rattle.sd_machine.specs.Plans.{plan as plan_of};
@@ -14,23 +16,17 @@ ghost use Rattle.sd_machine.specs.Runs.{made, shown, turn};
 ghost use Rattle.sd_world.specs.Plain.{Stands, told};
 ghost use Rattle.sd_rounds.specs.Turns.{ActsAlone};
 
+use crate::sight::{Sight, see};
+use crate::ticks::{Alone, come_idle, come_tick, reserve};
 use arrayvec::ArrayVec;
 use sd_cpu::{OpenGate, attempt};
 use sd_machine::Plan;
 use sd_step::plan;
 use sd_store::Look;
-use sd_types::{CpuId, Event, Hints, Stop, Which, Work};
-use sd_world::{MOST_ENTRIES, PlainWorld, reserve_entry};
-
-/// What a processor has done that has all homes: its turn, or nothing.
-#[derive(Clone, Copy)]
-pub enum Alone {
-    Turned,
-    Left,
-}
+use sd_types::{CpuId, Event, Hints, SetId, Stop, Which, Work};
+use sd_world::{MOST_ENTRIES, PlainWorld};
 
 /// What the processor that acts is about to do, as far as the homes show it.
-#[inline(always)]
 fn find_plan(work: &Work, world: &PlainWorld) -> Option<Plan>
     requires { Stands work.now world.now }
     ensures { IfSome result (λ p. p ≡ plan_of work.now (told work.now world.now) world.now.acting.actor.cpu.0) }
@@ -39,19 +35,6 @@ fn find_plan(work: &Work, world: &PlainWorld) -> Option<Plan>
         Ok(plan) => Some(plan),
         Err(_) => None,
     }
-}
-
-/// Makes room for an entry. `Memory` where memory runs out, and no other error.
-#[inline(always)]
-fn reserve(work: &Work, world: &mut PlainWorld) -> Result<(), Stop>
-    requires stands { Stands work.now world.old }
-    requires few { length world.old.entries.items < MOST_ENTRIES }
-    ensures stands { Stands work.now world.new }
-    ensures same { (world.new.work ≡ world.old.work) × (world.new.acting ≡ world.old.acting) × (world.new.entries.items ≡ world.old.entries.items) }
-    ensures room { OnOk result (vec_len world.new.entries < vec_capacity world.new.entries) }
-    ensures stop { IfErr result (λ stop. stop ≡ Stop.Memory) }
-{
-    reserve_entry(&mut world.entries)
 }
 
 /// Makes the event, for which there is memory, where it may come now.
@@ -75,24 +58,26 @@ fn come(work: &Work, world: &mut PlainWorld, event: Event, hints: Option<Hints>)
     Ok(())
 }
 
-/// Reads the numbers that the neighbours of the processor that acts show of their queues. False where the homes do not show its
-/// neighbours.
+/// Reads the numbers that the neighbours of the processor that acts, which is one of this set, show of their queues. False where the
+/// homes do not show its neighbours.
 #[inline(always)]
-fn read_neighbours(work: &Work, world: &PlainWorld, numbers: &mut ArrayVec<u8, 64>) -> bool
+fn read_neighbours(
+    work: &Work,
+    world: &PlainWorld,
+    set: SetId,
+    numbers: &mut ArrayVec<u8, 64>,
+) -> bool
     requires stands { Stands work.now world.now }
+    requires set { set ≡ (cpu_of (told work.now world.now) world.now.acting.actor.cpu.0).set }
     requires empty { numbers.old.items ≡ [] }
     ensures { result ≡ true → numbers.new.items ≡ map (hint_shown (told work.now world.now) Queued) (neighbours (told work.now world.now) world.now.acting.actor.cpu.0) }
 {
-    let c = world.acting.actor.cpu;
-    match world.acting.cpu(c) {
+    match world.acting.open_cpus(set) {
         Err(_) => false,
-        Ok(view) => match world.acting.open_cpus(view.set) {
-            Err(_) => false,
-            Ok(cpus) => {
-                world.read_queues(work, c, cpus, numbers);
-                true
-            }
-        },
+        Ok(cpus) => {
+            world.read_queues(work, world.acting.actor.cpu, cpus, numbers);
+            true
+        }
     }
 }
 
@@ -104,25 +89,36 @@ fn none_queued(numbers: &[u8]) -> bool
     numbers.iter().all(|n| *n == 0)
 }
 
-/// The numbers that were read in a search. A processor without neighbours has read none.
+/// An idle tick after a search in which these numbers were read. A processor without neighbours has read none.
 #[inline(always)]
-fn search_hints(hints: Hints) -> Option<Hints>
-    ensures { (s : State) (cpus : List CpuIdOf) → hints.which ≡ Queued → hints.numbers.items ≡ map (hint_shown s Queued) cpus → result ≡ shown s (read_of cpus) }
+fn end_search(work: &Work, world: &mut PlainWorld, hints: Hints) -> Result<Alone, Stop>
+    requires stands { Stands work.now world.old }
+    requires work { world.old.work.now ≡ work.now }
+    requires few { length world.old.entries.items < MOST_ENTRIES }
+    requires duty { world.old.acting.actor.duty ≡ Nothing }
+    requires plan { Search ≡ plan_of work.now (told work.now world.old) world.old.acting.actor.cpu.0 }
+    requires which { hints.which ≡ Queued }
+    requires numbers { hints.numbers.items ≡ map (hint_shown (told work.now world.old) Queued) (neighbours (told work.now world.old) world.old.acting.actor.cpu.0) }
+    requires none { list_all (λ n. n == 0) hints.numbers.items ≡ true }
+    ensures stands { Stands work.now world.new }
+    ensures work { world.new.work.now ≡ work.now }
+    ensures acts { ActsAlone work.now world.old world.new result }
 {
     if hints.numbers.is_empty() {
-        None
-    } else {
-        Some(hints)
+        return come_idle(work, world, None);
     }
+    come_idle(work, world, Some(hints))
 }
 
-/// The turn of a processor that searches, where it finds nothing to steal.
+/// The turn of a processor that searches in this set, where it finds nothing to steal.
 #[inline(always)]
-fn search(work: &Work, world: &mut PlainWorld) -> Result<Alone, Stop>
+fn search(work: &Work, world: &mut PlainWorld, set: SetId) -> Result<Alone, Stop>
     requires stands { Stands work.now world.old }
     requires work { world.old.work.now ≡ work.now }
     requires few { length world.old.entries.items < MOST_ENTRIES }
     requires plan { Search ≡ plan_of work.now (told work.now world.old) world.old.acting.actor.cpu.0 }
+    requires set { set ≡ (cpu_of (told work.now world.old) world.old.acting.actor.cpu.0).set }
+    requires duty { world.old.acting.actor.duty ≡ Nothing }
     ensures stands { Stands work.now world.new }
     ensures work { world.new.work.now ≡ work.now }
     ensures acts { ActsAlone work.now world.old world.new result }
@@ -131,36 +127,31 @@ fn search(work: &Work, world: &mut PlainWorld) -> Result<Alone, Stop>
         which: Which::Queued,
         numbers: ArrayVec::new(),
     };
-    if !read_neighbours(work, world, &mut hints.numbers) {
+    if !read_neighbours(work, world, set, &mut hints.numbers) {
         return Ok(Alone::Left);
     }
     if !none_queued(hints.numbers.as_slice()) {
         return Ok(Alone::Left);
     }
-    match come(work, world, Event::Idle, search_hints(hints)) {
-        Ok(()) => Ok(Alone::Turned),
-        Err(stop) => Err(stop),
-    }
+    end_search(work, world, hints)
 }
 
-/// The turn of a processor with this plan, where it reads nothing of others, or searches and finds nothing to steal.
-#[inline(always)]
-fn follow(work: &Work, world: &mut PlainWorld, plan: Plan) -> Result<Alone, Stop>
+/// The turn of a processor that makes a plan, where this reads nothing of others.
+#[inline(never)]
+fn act_by_plan(work: &Work, world: &mut PlainWorld) -> Result<Alone, Stop>
     requires stands { Stands work.now world.old }
     requires work { world.old.work.now ≡ work.now }
     requires few { length world.old.entries.items < MOST_ENTRIES }
-    requires plan { plan ≡ plan_of work.now (told work.now world.old) world.old.acting.actor.cpu.0 }
     ensures stands { Stands work.now world.new }
     ensures work { world.new.work.now ≡ work.now }
     ensures acts { ActsAlone work.now world.old world.new result }
 {
-    match plan {
-        Plan::Make(event) => match come(work, world, event, None) {
+    match find_plan(work, world) {
+        Some(Plan::Make(event)) => match come(work, world, event, None) {
             Ok(()) => Ok(Alone::Turned),
             Err(stop) => Err(stop),
         },
-        Plan::Search => search(work, world),
-        Plan::Place(_, _) => Ok(Alone::Left),
+        _ => Ok(Alone::Left),
     }
 }
 
@@ -174,9 +165,10 @@ fn act_alone(work: &Work, world: &mut PlainWorld) -> Result<Alone, Stop>
     ensures work { world.new.work.now ≡ work.now }
     ensures acts { ActsAlone work.now world.old world.new result }
 {
-    match find_plan(work, world) {
-        Some(plan) => follow(work, world, plan),
-        None => Ok(Alone::Left),
+    match see(work, &world.acting) {
+        Sight::Runs(t) => come_tick(work, world, t),
+        Sight::Searches(set) => search(work, world, set),
+        Sight::Unclear => act_by_plan(work, world),
     }
 }
 

@@ -1,5 +1,6 @@
 use Rattle.std.proofs.Common.{length, map, filter, not, ◌==◌, ap, ◌∙◌}
 use Rattle.sd_types.specs.declared.events.Which.TheVariants.{Queued}
+use Rattle.sd_types.specs.declared.numbers.SetId.{SetId}
 use Rattle.sd_machine.specs.Choosing.{hint_shown, neighbours}
 use Rattle.sd_machine.specs.Threads.{open_of}
 use Rattle.sd_world.specs.Plain.{told}
@@ -12,16 +13,14 @@ read_queues-requires-clause-there c =
     let w = c.args.work.now in
     let x = c.args.world.now in
     let st = c.requires.stands in
-    open_there w x c.in-Ok.view.set.0 c.in-Ok-open_cpus.cpus.now st (c.in-Ok-open_cpus.ensures.value (length x.entries.items) (told w x) (P.shown w x st))
+    open_there w x c.args.set.0 c.in-Ok.cpus.now st (c.in-Ok.ensures.value (length x.entries.items) (told w x) (P.shown w x st))
 
-pub returns-in-Ok-open_cpus : goal.returns-in-Ok-open_cpus
+pub returns-in-Ok : goal.returns-in-Ok
 unfolding neighbours
-returns-in-Ok-open_cpus c =
+returns-in-Ok c =
     let w = c.args.work.now in
     let x = c.args.world.now in
     let s = told w x in
-    let n = length x.entries.items in
-    let shown = P.shown w x c.requires.stands in
     λ e. c.read_queues.ensures
     ∙ ap (λ cs. map (hint_shown s Queued) (filter (λ d. not (d.0 == x.acting.actor.cpu.0)) cs))
-    (c.in-Ok-open_cpus.ensures.value n s shown ∙ ap (λ v. open_of s v.set.0) (c.in-Ok.ensures.value n s shown))
+    (c.in-Ok.ensures.value (length x.entries.items) s (P.shown w x c.requires.stands) ∙ ap (λ (p : SetId). open_of s p.0) c.requires.set)

@@ -1,0 +1,105 @@
+-- What one look at the home of a processor tells of its plan.
+use Rattle.std.proofs.Common.{◌≡◌, ℕ, ◌==◌, ◌&&◌, ◌||◌, false, not, List, [], ◌∷◌, length, Some, None, option_map, slice_get, is_some, refl, sym, ap, ◌∙◌, if◌then◌else◌}
+use Rattle.std.proofs.lemmas.Bool.{eq-eqb}
+use Rattle.sd_types.specs.declared.events.Duty.TheVariants.{Nothing}
+use Rattle.sd_types.specs.declared.events.Event.TheVariants.{Tick}
+use Rattle.sd_types.specs.declared.bodies.ThreadBody.{ThreadBody}
+use Rattle.sd_types.specs.declared.numbers.HomeId.TheVariants.{Cpu}
+use Rattle.sd_types.specs.declared.scripts.Op.TheVariants.{Run}
+use Rattle.sd_types.specs.declared.works.Work.{Work}
+use Rattle.sd_state.specs.declared.states.CpuState.{CpuState}
+use Rattle.sd_state.specs.declared.states.State.{State}
+use Rattle.sd_state.specs.Operations.{op_of}
+use Rattle.sd_state.specs.States.{cpu_of, thread_of}
+use Rattle.sd_machine.specs.declared.plans.Plan.TheVariants.{Make, Search}
+use Rattle.sd_machine.specs.Dispatching.{dispatch_plan, leave_event, leave_plan}
+use Rattle.sd_machine.specs.Plans.{ageing_plan, ageing_plan_of, cpu_plan, cpu_plan_of, duty_plan, duty_plan_of, first_of, free_plan_of, nap_plan, op_plan, or_plan, plan, run_plan_of}
+use Rattle.sd_machine.specs.Sleeping.{napend_plan}
+use Rattle.sd_machine.specs.Threads.{best_ready, first_due, is_sys, runner}
+use Rattle.sd_record.specs.Records.{ThreadRecord}
+use Rattle.sd_boxq.specs.Order.{find_id}
+use Rattle.sd_shown.specs.declared.list_id.ListId.TheVariants.{Naps, Runs, Urgent}
+use Rattle.sd_shown.specs.Standing.{better, due_of_first, id_of, record_of}
+use Rattle.sd_homes.specs.declared.home.Home.{Home}
+use Rattle.sd_homes.specs.Families.{list_in, taken_from, view_in}
+use Rattle.sd_store.specs.declared.parts.CpuView.{CpuView}
+use Rattle.sd_store.specs.Parts.{view_of}
+use Rattle.sd_hand.specs.declared.acting.Acting.{Acting}
+use Rattle.sd_hand.specs.Acting.{IsShown}
+use Rattle.sd_hand.specs.Hands.{held}
+use Rattle.sd_hand.proofs.GuideLemmas.{stands_guessed}
+use Rattle.sd_hand.proofs.TellLemmas.{due_told, found_record, ready_told, runner_told, view_is}
+use Rattle.sd_rounds.specs.declared.sight.Sight.{Sight}
+use Rattle.sd_rounds.specs.declared.sight.Sight.TheVariants as sight
+use Rattle.sd_rounds.specs.Sights.{Sees, SeesQuiet, SeesRunner}
+
+-- a processor without a duty and without a nap that is over
+quiet_plan : (w : Work) (s : State) (c : ℕ) → (cpu_of s c).duty ≡ Nothing → first_due s c ≡ None → plan w s c ≡ cpu_plan w s c
+unfolding plan duty_plan nap_plan ageing_plan
+quiet_plan w s c duty due =
+    ap (λ d. or_plan (first_of (duty_plan_of w s d) (first_of (napend_plan w s (first_due s c)) (ageing_plan_of w s c d))) (cpu_plan w s c)) duty
+    ∙ ap (λ o. or_plan (first_of None (first_of (napend_plan w s o) None)) (cpu_plan w s c)) due
+
+-- with no mark the running thread stays
+stays : (c t : ℕ) (x : CpuState) (b : ThreadBody) → x.user ≡ false → x.kernel ≡ false → leave_plan c x t b ≡ None
+stays c t x b user kernel =
+    ap (λ k. if (k || (x.user && not (is_sys b.class) && (length b.held.items == 0))) then Some (Make (leave_event c t b b.bound)) else None) kernel
+    ∙ ap (λ u. if (u && not (is_sys b.class) && (length b.held.items == 0)) then Some (Make (leave_event c t b b.bound)) else None) user
+
+runs_on : (w : Work) (s : State) (c t n : ℕ) → runner s c ≡ Some t → (cpu_of s c).user ≡ false → (cpu_of s c).kernel ≡ false → op_of w t (thread_of s t).body ≡ Some (Run n)
+    → cpu_plan w s c ≡ Make (Tick (record { 0 = t }))
+unfolding cpu_plan op_plan
+runs_on w s c t n runs user kernel op =
+    ap (cpu_plan_of w s c) runs
+    ∙ (ap (run_plan_of w s t) (stays c t (cpu_of s c) (thread_of s t).body user kernel) ∙ ap (op_plan w s t) op)
+
+searches : (w : Work) (s : State) (c : ℕ) → runner s c ≡ None → (cpu_of s c).closing ≡ None → best_ready s c ≡ None → cpu_plan w s c ≡ Search
+unfolding cpu_plan
+searches w s c runs closing ready =
+    ap (cpu_plan_of w s c) runs
+    ∙ (ap (free_plan_of s c) closing ∙ ap (dispatch_plan s) ready)
+
+first_found : (r : ThreadRecord) (rs : List ThreadRecord) → slice_get rs 0 ≡ Some r → find_id id_of (id_of r) rs ≡ Some r
+first_found r [] e = absurd cc
+first_found r (q ∷ rs) e = let same : q ≡ r = cc in rw (ap (λ z. id_of z == id_of r) same ∙ eq-eqb (id_of r) (id_of r) refl) e
+
+module _ (w : Work) (x : Acting) (n : ℕ) (s : State) (h : Home) (sh : IsShown x n s) (duty : x.actor.duty ≡ Nothing) (at : held (Cpu x.actor.cpu) x.hand.slots ≡ Some h)
+    (due : due_of_first x.actor.count (slice_get (list_in h (Naps x.actor.cpu)) 0) ≡ None) (v : CpuView) (view : Some v ≡ view_in h) where
+  no_duty : (cpu_of s x.actor.cpu.0).duty ≡ Nothing
+  no_duty = sym sh.duty ∙ duty
+
+  none_due : first_due s x.actor.cpu.0 ≡ None
+  none_due = due_told x n s h sh x.actor.cpu x.actor.count at (sym sh.count) ∙ ap (option_map id_of) due
+
+  viewed : v ≡ view_of (cpu_of s x.actor.cpu.0)
+  viewed = view_is x n s x.actor.cpu v h sh at view
+
+  runner_body : (r : ThreadRecord) → slice_get (list_in h (Runs x.actor.cpu)) 0 ≡ Some r → (thread_of s r.id.0).body ≡ r.body
+  runner_body r e =
+      let there : taken_from r.id.0 (Runs x.actor.cpu) (held (Cpu x.actor.cpu) x.hand.slots) ≡ Some r = ap (taken_from r.id.0 (Runs x.actor.cpu)) at ∙ first_found r (list_in h (Runs x.actor.cpu)) e in
+      let stands = stands_guessed r.id.0 (Runs x.actor.cpu) x.hand.slots (ap is_some there) in
+      let same : Some r ≡ Some (record_of r.id.0 (thread_of s r.id.0)) = sym there ∙ found_record x n s sh r.id.0 (Runs x.actor.cpu) stands in
+      let is : r ≡ record_of r.id.0 (thread_of s r.id.0) = cc in
+      sym (ap (λ (q : ThreadRecord). q.body) is)
+
+  pub sees_runner : (r : ThreadRecord) (seen : Sight) → slice_get (list_in h (Runs x.actor.cpu)) 0 ≡ Some r → SeesRunner w v r seen → Sees w s x.actor.cpu.0 seen
+  sees_runner r (sight.Runs t) e f =
+      let (same, user, kernel, k, op) = f in
+      let runs : runner s x.actor.cpu.0 ≡ Some r.id.0 = runner_told x n s h sh x.actor.cpu at ∙ ap (option_map id_of) e in
+      let plans = runs_on w s x.actor.cpu.0 r.id.0 k runs (ap (λ (q : CpuView). q.user) (sym viewed) ∙ user) (ap (λ (q : CpuView). q.kernel) (sym viewed) ∙ kernel)
+      (ap (op_of w r.id.0) (runner_body r e) ∙ op) in
+      (no_duty, sym (quiet_plan w s x.actor.cpu.0 no_duty none_due ∙ plans ∙ ap (λ u. Make (Tick u)) (sym same)))
+  sees_runner r (sight.Searches set) e f = absurd f
+  sees_runner r sight.Unclear e f = tt
+
+  pub sees_quiet : (seen : Sight) → slice_get (list_in h (Runs x.actor.cpu)) 0 ≡ None → SeesQuiet x h v seen → Sees w s x.actor.cpu.0 seen
+  sees_quiet (sight.Runs t) e f = absurd f
+  sees_quiet (sight.Searches set) e f =
+      let (same, closing, queue, g, there, urgent) = f in
+      let runs : runner s x.actor.cpu.0 ≡ None = runner_told x n s h sh x.actor.cpu at ∙ ap (option_map id_of) e in
+      let is_set : (cpu_of s x.actor.cpu.0).set ≡ v.set = ap (λ (q : CpuView). q.set) (sym viewed) in
+      let ready : best_ready s x.actor.cpu.0 ≡ None =
+      ready_told x n s h sh x.actor.cpu v.set g at there is_set
+      ∙ (ap (λ o. option_map id_of (better o (slice_get (list_in g (Urgent v.set)) 0))) queue ∙ ap (option_map id_of) urgent) in
+      (no_duty, sym (quiet_plan w s x.actor.cpu.0 no_duty none_due ∙ searches w s x.actor.cpu.0 runs (ap (λ (q : CpuView). q.closing) (sym viewed) ∙ closing) ready), same ∙ sym is_set)
+  sees_quiet sight.Unclear e f = tt

@@ -1,0 +1,47 @@
+use Rattle.std.proofs.Common.{◌≡◌, ◌+◌, ◌∷◌, [], ◌++◌, None, length, refl, sym, ap, ◌∙◌, subst, inr, arith}
+use Rattle.std.specs.Prelude.{vec_len}
+use Rattle.std.proofs.lemmas.Bool.{false≢true}
+use Rattle.sd_types.specs.declared.events.Duty.TheVariants.{Nothing}
+use Rattle.sd_types.specs.declared.events.Event.TheVariants.{Tick as TickEvent}
+use Rattle.sd_state.specs.States.{cpu_of}
+use Rattle.sd_machine.specs.Dispatching.{ticked}
+use Rattle.sd_machine.specs.Runs.{IsReached}
+use Rattle.sd_hand.specs.Acting.{IsShown}
+use Rattle.sd_hand.specs.Later.{shown_later}
+use Rattle.sd_range.proofs.Range.{needs_reached}
+use Rattle.sd_world.specs.Entries.{led_to}
+use Rattle.sd_rounds.proofs.TickLemmas.{tick_is}
+use Rattle.sd_rounds.proofs.ticks.enter_tick.Goals as goal
+
+pub unreachable-requires : goal.unreachable-requires
+unreachable-requires c =
+    let w = c.args.work.now in
+    let can = c.requires.can in
+    let es = c.args.entries.now.items in
+    let x = c.args.acting.now in
+    let s = led_to w es in
+    let reached : IsReached w (length es) s = record { entries = es; run = can.run; many = refl; ends = refl } in
+    let needs = needs_reached w (length es) s x.actor.cpu None (TickEvent c.args.t) reached can.next in
+    let lack = c.in-Err.ensures.lack in
+    false≢true (sym lack.1 ∙ can.holds c.in-Err.field-0 (inr (lack.0 (length es) s can.shown (needs.1, needs.0.op))))
+
+pub returns : goal.returns
+returns c =
+    let w = c.args.work.now in
+    let can = c.requires.can in
+    let es = c.args.entries.now.items in
+    let x = c.args.acting.now in
+    let cpu = x.actor.cpu in
+    let s = led_to w es in
+    let many : vec_len c.args.entries.now ≡ length es = grind arith in
+    let e : length es ≡ c.len-number.result = sym many ∙ sym c.len-number.ensures in
+    let reached : IsReached w (length es) s = record { entries = es; run = can.run; many = refl; ends = refl } in
+    let needs = needs_reached w (length es) s cpu None (TickEvent c.args.t) reached can.next in
+    let duty : (cpu_of s cpu.0).duty ≡ Nothing = sym can.shown.duty ∙ c.requires.duty in
+    let made = c.in-Ok.ensures.value (length es) s can.shown (needs.1, needs.0.op) in
+    record {
+      shown = subst (IsShown c.ticked.new.x (length es + 1)) (tick_is w s (length es) cpu c.args.t duty) (shown_later c.ticked.new.x (length es) (ticked w s cpu.0 c.args.t.0) made);
+      has = c.in-Ok.ensures.has;
+      actors = refl;
+      entries = c.push_reserved.ensures.items ∙ ap (λ m. es ++ record { number = m; cpu = cpu; event = TickEvent c.args.t; hints = None } ∷ []) (sym e);
+    }

@@ -1,0 +1,41 @@
+-- What one look at the home of a processor tells of its next event.
+-- Source: this project's own.
+use Rattle.std.specs.Prelude.{◌≡◌, ℕ, ⊤, false, Some, None, slice_get}
+use Rattle.sd_types.specs.declared.works.Work.{Work}
+use Rattle.sd_types.specs.declared.events.Duty.TheVariants.{Nothing}
+use Rattle.sd_types.specs.declared.events.Event.TheVariants.{Tick}
+use Rattle.sd_types.specs.declared.numbers.HomeId.TheVariants.{RealTime}
+use Rattle.sd_types.specs.declared.scripts.Op.TheVariants.{Run}
+use Rattle.sd_state.specs.declared.states.State.{State}
+use Rattle.sd_state.specs.Operations.{op_of}
+use Rattle.sd_state.specs.States.{cpu_of}
+use Rattle.sd_machine.specs.declared.plans.Plan.TheVariants.{Make, Search}
+use Rattle.sd_machine.specs.Plans.{plan}
+use Rattle.sd_record.specs.Records.{ThreadRecord}
+use Rattle.sd_shown.specs.declared.list_id.ListId.TheVariants.{Queues, Urgent}
+use Rattle.sd_homes.specs.declared.home.Home.{Home}
+use Rattle.sd_homes.specs.Families.{list_in}
+use Rattle.sd_store.specs.declared.parts.CpuView.{CpuView}
+use Rattle.sd_hand.specs.declared.acting.Acting.{Acting}
+use Rattle.sd_hand.specs.Hands.{held}
+use Rattle.sd_rounds.specs.declared.sight.Sight.{Sight}
+use Rattle.sd_rounds.specs.declared.sight.Sight.TheVariants.{Runs, Searches, Unclear}
+
+-- what is seen of processor c, which has no duty, is its plan
+abbrev pub Sees : Work → State → ℕ → Sight → Type 0
+Sees w s c (Runs t) = ((cpu_of s c).duty ≡ Nothing) × (Make (Tick t) ≡ plan w s c)
+Sees w s c (Searches set) = ((cpu_of s c).duty ≡ Nothing) × (Search ≡ plan w s c) × (set ≡ (cpu_of s c).set)
+Sees w s c Unclear = ⊤
+
+-- of a thread that runs, on a processor with no mark, and whose operation is to run
+abbrev pub SeesRunner : Work → CpuView → ThreadRecord → Sight → Type 0
+SeesRunner w v r (Runs t) = (t ≡ r.id) × (v.user ≡ false) × (v.kernel ≡ false) × (n : ℕ) × (op_of w r.id.0 r.body ≡ Some (Run n))
+SeesRunner w v r (Searches set) = ⊥
+SeesRunner w v r Unclear = ⊤
+
+-- of a processor on which no thread runs, which is not closing: nobody stands in its queue, nor in that of its set
+abbrev pub SeesQuiet : Acting → Home → CpuView → Sight → Type 0
+SeesQuiet x h v (Runs t) = ⊥
+SeesQuiet x h v (Searches set) = (set ≡ v.set) × (v.closing ≡ None) × (slice_get (list_in h (Queues x.actor.cpu)) 0 ≡ None)
+    × (g : Home) × (held (RealTime v.set) x.hand.slots ≡ Some g) × (slice_get (list_in g (Urgent v.set)) 0 ≡ None)
+SeesQuiet x h v Unclear = ⊤

@@ -1,0 +1,122 @@
+//! What one look at the home of a processor tells of its next event, as in most turns: that its thread runs on, or that nothing is ready.
+
+ghost use Rattle.std.specs.Prelude.{◌≡◌, ℕ, ◌<◌, None, Some, false, true, length, slice_get};
+ghost use Rattle.std.specs.Option.{option_copied};
+ghost use Rattle.sd_types.specs.declared.events.Duty.TheVariants.{Nothing};
+ghost use Rattle.sd_types.specs.declared.numbers.HomeId.TheVariants.{Cpu, RealTime as UrgentHome};
+ghost use Rattle.sd_types.specs.declared.scripts.Op.TheVariants.{Run};
+ghost use Rattle.sd_state.specs.Operations.{op_of};
+ghost use Rattle.sd_state.specs.declared.states.State.{State as StateOf};
+ghost use Rattle.sd_shown.specs.declared.list_id.ListId.TheVariants.{Naps, Queues, Runs as RunsOn, Urgent};
+ghost use Rattle.sd_shown.specs.Standing.{due_of_first};
+ghost use Rattle.sd_homes.specs.Families.{list_in, view_in};
+ghost use Rattle.sd_hand.specs.Acting.{IsShown};
+ghost use Rattle.sd_hand.specs.Hands.{held};
+ghost use Rattle.sd_rounds.specs.Sights.{SeesQuiet, SeesRunner, Sees};
+
+use sd_hand::Acting;
+use sd_homes::{Home, is_over};
+use sd_record::Record;
+use sd_shown::ListId;
+use sd_store::CpuView;
+use sd_types::{CpuId, Duty, HomeId, Op, SetId, ThreadId, Work};
+
+/// What a processor is about to do, as far as one look tells it.
+#[derive(Clone, Copy)]
+pub enum Sight {
+    /// Its thread runs for a tick.
+    Runs(ThreadId),
+    /// Nothing is ready for it, so that it searches among the processors of its set.
+    Searches(SetId),
+    /// It has to make a plan.
+    Unclear,
+}
+
+/// The operation of the thread is to run.
+#[inline(always)]
+fn is_to_run(work: &Work, thread: &Record) -> bool
+    ensures { result ≡ true → (n : ℕ) × (op_of work.now thread.now.id.0 thread.now.body ≡ Some (Run n)) }
+{
+    match work.threads.items().get(thread.id.0 as usize) {
+        Some(decl) => matches!(
+            decl.script.ops().get(thread.body.op as usize),
+            Some(Op::Run(_))
+        ),
+        None => false,
+    }
+}
+
+/// The first nap is over at this count.
+#[inline(always)]
+fn is_due(napper: Option<&Record>, count: u32) -> bool
+    ensures { result ≡ false → due_of_first count (option_copied napper.entry) ≡ None }
+{
+    match napper {
+        None => false,
+        Some(thread) => is_over(thread, count),
+    }
+}
+
+/// What is seen of a thread that runs on a processor with these marks.
+#[inline(always)]
+fn see_runner(work: &Work, view: CpuView, thread: &Record) -> Sight
+    ensures { SeesRunner work.now view thread.now result }
+{
+    if view.user || view.kernel || !is_to_run(work, thread) {
+        return Sight::Unclear;
+    }
+    Sight::Runs(thread.id)
+}
+
+/// What is seen of a processor on which no thread runs.
+#[inline(always)]
+fn see_quiet(x: &Acting, home: &Home, view: CpuView) -> Sight
+    ensures { SeesQuiet x.now home.now view result }
+{
+    if view.closing.is_some() || home.first(ListId::Queues(x.actor.cpu)).is_some() {
+        return Sight::Unclear;
+    }
+    match x.hand.home(HomeId::RealTime(view.set)) {
+        Err(_) => Sight::Unclear,
+        Ok(urgent) => {
+            if urgent.first(ListId::Urgent(view.set)).is_some() {
+                return Sight::Unclear;
+            }
+            Sight::Searches(view.set)
+        }
+    }
+}
+
+/// What is seen of a processor without a duty, whose home this is.
+#[inline(always)]
+fn see_home(work: &Work, x: &Acting, home: &Home) -> Sight
+    requires duty { x.now.actor.duty ≡ Nothing }
+    requires home { held (Cpu x.now.actor.cpu) x.now.hand.slots ≡ Some home.now }
+    ensures { (n : ℕ) (s : StateOf) → IsShown x.now n s → Sees work.now s x.now.actor.cpu.0 result }
+{
+    let c = x.actor.cpu;
+    if is_due(home.first(ListId::Naps(c)), x.actor.count) {
+        return Sight::Unclear;
+    }
+    match home.view() {
+        None => Sight::Unclear,
+        Some(view) => match home.first(ListId::Runs(c)) {
+            Some(thread) => see_runner(work, view, thread),
+            None => see_quiet(x, home, view),
+        },
+    }
+}
+
+/// What is seen of the processor that acts.
+#[inline(always)]
+pub(crate) fn see(work: &Work, x: &Acting) -> Sight
+    ensures { (n : ℕ) (s : StateOf) → IsShown x.now n s → Sees work.now s x.now.actor.cpu.0 result }
+{
+    match x.actor.duty {
+        Duty::Nothing => match x.hand.home(HomeId::Cpu(x.actor.cpu)) {
+            Err(_) => Sight::Unclear,
+            Ok(home) => see_home(work, x, home),
+        },
+        _ => Sight::Unclear,
+    }
+}

@@ -1,0 +1,188 @@
+//! The entries of most turns: a thread runs for a tick, or a processor is idle for one. They are made as any entry is, but of an event that
+//! the compiler knows.
+
+ghost use Rattle.std.specs.Prelude.{◌≡◌, ◌++◌, ◌<◌, ◌∷◌, [], None, Option, Some, length, vec_capacity, vec_len, IfErr, OnOk};
+ghost use Rattle.sd_types.specs.declared.events.Duty.TheVariants.{Nothing};
+ghost use Rattle.sd_types.specs.declared.events.Event.TheVariants.{Idle as IdleEvent, Tick as TickEvent};
+ghost use Rattle.sd_machine.specs.Events.{allowed, next};
+ghost use Rattle.sd_machine.specs.Runs.{serial_hints};
+ghost use Rattle.sd_world.specs.Entries.{CanEnter, Enters};
+ghost use Rattle.sd_world.specs.Plain.{Stands, told};
+ghost use Rattle.sd_rounds.specs.Turns.{ActsAlone};
+
+use sd_hand::{Acting, Actor};
+use sd_mdisp::{idled, ticked};
+use sd_types::{Entry, Event, Hints, Stop, ThreadId, Work};
+use sd_world::{MOST_ENTRIES, PlainWorld, reserve_entry};
+
+/// What a processor has done that has all homes: its turn, or nothing.
+#[derive(Clone, Copy)]
+pub enum Alone {
+    Turned,
+    Left,
+}
+
+/// Makes room for an entry. `Memory` where memory runs out, and no other error.
+#[inline(always)]
+pub(crate) fn reserve(work: &Work, world: &mut PlainWorld) -> Result<(), Stop>
+    requires stands { Stands work.now world.old }
+    requires few { length world.old.entries.items < MOST_ENTRIES }
+    ensures stands { Stands work.now world.new }
+    ensures same { (world.new.work ≡ world.old.work) × (world.new.acting ≡ world.old.acting) × (world.new.entries.items ≡ world.old.entries.items) }
+    ensures room { OnOk result (vec_len world.new.entries < vec_capacity world.new.entries) }
+    ensures stop { IfErr result (λ stop. stop ≡ Stop.Memory) }
+{
+    reserve_entry(&mut world.entries)
+}
+
+/// The thread runs for a tick on the processor that acts, which has no duty.
+#[inline(always)]
+fn enter_tick(
+    work: &Work,
+    acting: &mut Acting,
+    actors: &mut Vec<Actor>,
+    entries: &mut Vec<Entry>,
+    t: ThreadId,
+)
+    requires can { CanEnter work.now acting.old actors.old.items entries.old.items (TickEvent t) None }
+    requires duty { acting.old.actor.duty ≡ Nothing }
+    requires room { vec_len entries.old < vec_capacity entries.old }
+    ensures { Enters work.now acting.old acting.new actors.old.items actors.new.items entries.old.items entries.new.items (TickEvent t) None }
+{
+    let number = entries.len() as u64;
+    let cpu = acting.actor.cpu;
+    match ticked(work, acting, cpu, t) {
+        Ok(()) => {}
+        Err(_) => unreachable!(),
+    }
+    actors[cpu.0 as usize] = acting.actor;
+    entries.push_reserved(Entry {
+        number,
+        cpu,
+        event: Event::Tick { t },
+        hints: None,
+    });
+}
+
+/// The processor that acts, which has no duty, is idle for a tick.
+#[inline(always)]
+fn enter_idle(
+    work: &Work,
+    acting: &mut Acting,
+    actors: &mut Vec<Actor>,
+    entries: &mut Vec<Entry>,
+    hints: Option<Hints>,
+)
+    requires can { CanEnter work.now acting.old actors.old.items entries.old.items IdleEvent hints }
+    requires duty { acting.old.actor.duty ≡ Nothing }
+    requires room { vec_len entries.old < vec_capacity entries.old }
+    ensures { Enters work.now acting.old acting.new actors.old.items actors.new.items entries.old.items entries.new.items IdleEvent hints }
+{
+    let number = entries.len() as u64;
+    let cpu = acting.actor.cpu;
+    match idled(work, acting, cpu) {
+        Ok(()) => {}
+        Err(_) => unreachable!(),
+    }
+    actors[cpu.0 as usize] = acting.actor;
+    entries.push_reserved(Entry {
+        number,
+        cpu,
+        event: Event::Idle,
+        hints,
+    });
+}
+
+/// The thread runs for a tick, for whose entry the log has room, on the processor that acts, which has no duty.
+#[inline(always)]
+fn make_tick(work: &Work, world: &mut PlainWorld, t: ThreadId)
+    requires stands { Stands work.now world.old }
+    requires duty { world.old.acting.actor.duty ≡ Nothing }
+    requires next { next work.now (told work.now world.old) world.old.acting.actor.cpu None ≡ Some (TickEvent t) }
+    requires room { vec_len world.old.entries < vec_capacity world.old.entries }
+    requires few { length world.old.entries.items < MOST_ENTRIES }
+    ensures stands { Stands work.now world.new }
+    ensures entries { world.new.entries.items ≡ world.old.entries.items
+        ++ record { number = length world.old.entries.items; cpu = world.old.acting.actor.cpu; event = TickEvent t; hints = None } ∷ [] }
+    ensures work { world.new.work ≡ world.old.work }
+{
+    enter_tick(
+        work,
+        &mut world.acting,
+        &mut world.actors,
+        &mut world.entries,
+        t,
+    );
+}
+
+/// The processor that acts, which has no duty, is idle for a tick, for whose entry the log has room.
+#[inline(always)]
+fn make_idle(work: &Work, world: &mut PlainWorld, hints: Option<Hints>)
+    requires stands { Stands work.now world.old }
+    requires duty { world.old.acting.actor.duty ≡ Nothing }
+    requires next { next work.now (told work.now world.old) world.old.acting.actor.cpu hints ≡ Some IdleEvent }
+    requires room { vec_len world.old.entries < vec_capacity world.old.entries }
+    requires few { length world.old.entries.items < MOST_ENTRIES }
+    ensures stands { Stands work.now world.new }
+    ensures entries { world.new.entries.items ≡ world.old.entries.items
+        ++ record { number = length world.old.entries.items; cpu = world.old.acting.actor.cpu; event = IdleEvent; hints = hints } ∷ [] }
+    ensures work { world.new.work ≡ world.old.work }
+{
+    enter_idle(
+        work,
+        &mut world.acting,
+        &mut world.actors,
+        &mut world.entries,
+        hints,
+    );
+}
+
+/// The thread runs for a tick, where one may come now, on the processor that acts, which has no duty.
+#[inline(always)]
+pub(crate) fn come_tick(work: &Work, world: &mut PlainWorld, t: ThreadId) -> Result<Alone, Stop>
+    requires stands { Stands work.now world.old }
+    requires work { world.old.work.now ≡ work.now }
+    requires few { length world.old.entries.items < MOST_ENTRIES }
+    requires duty { world.old.acting.actor.duty ≡ Nothing }
+    requires hints { serial_hints work.now (told work.now world.old) world.old.acting.actor.cpu ≡ None }
+    requires event { next work.now (told work.now world.old) world.old.acting.actor.cpu None ≡ allowed work.now (told work.now world.old) world.old.acting.actor.cpu.0 (TickEvent t) }
+    ensures stands { Stands work.now world.new }
+    ensures work { world.new.work.now ≡ work.now }
+    ensures acts { ActsAlone work.now world.old world.new result }
+{
+    if !world.may_tick(work) {
+        return Ok(Alone::Turned);
+    }
+    if let Err(stop) = reserve(work, world) {
+        return Err(stop);
+    }
+    make_tick(work, world, t);
+    Ok(Alone::Turned)
+}
+
+/// The processor that acts, which has no duty, is idle for a tick, where one may come now, after it has read these numbers.
+#[inline(always)]
+pub(crate) fn come_idle(
+    work: &Work,
+    world: &mut PlainWorld,
+    hints: Option<Hints>,
+) -> Result<Alone, Stop>
+    requires stands { Stands work.now world.old }
+    requires work { world.old.work.now ≡ work.now }
+    requires few { length world.old.entries.items < MOST_ENTRIES }
+    requires duty { world.old.acting.actor.duty ≡ Nothing }
+    requires hints { serial_hints work.now (told work.now world.old) world.old.acting.actor.cpu ≡ hints }
+    requires event { next work.now (told work.now world.old) world.old.acting.actor.cpu hints ≡ allowed work.now (told work.now world.old) world.old.acting.actor.cpu.0 IdleEvent }
+    ensures stands { Stands work.now world.new }
+    ensures work { world.new.work.now ≡ work.now }
+    ensures acts { ActsAlone work.now world.old world.new result }
+{
+    if !world.may_tick(work) {
+        return Ok(Alone::Turned);
+    }
+    if let Err(stop) = reserve(work, world) {
+        return Err(stop);
+    }
+    make_idle(work, world, hints);
+    Ok(Alone::Turned)
+}
