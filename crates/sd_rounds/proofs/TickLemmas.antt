@@ -8,6 +8,7 @@ use Rattle.sd_types.specs.declared.numbers.ThreadId.{ThreadId}
 use Rattle.sd_types.specs.declared.works.Work.{Work}
 use Rattle.sd_state.specs.declared.states.State.{State}
 use Rattle.sd_state.specs.States.{cpu_of}
+use Rattle.sd_machine.specs.Changes.{count_tick}
 use Rattle.sd_machine.specs.Dispatching.{idled, ticked}
 use Rattle.sd_machine.specs.Events.{after, drop_ageing, effect}
 use Rattle.sd_step.specs.Tasks.{task_dropped}
@@ -22,6 +23,6 @@ pub tick_is : (w : Work) (s : State) (n : ℕ) (c : CpuId) (t : ThreadId) → (c
 unfolding after effect
 tick_is w s n c t duty = ap (λ z. ticked w z c.0 t.0) (sym (kept s c (Tick t) duty))
 
-pub idle_is : (w : Work) (s : State) (n : ℕ) (c : CpuId) → (cpu_of s c.0).duty ≡ Nothing → idled w s c.0 ≡ after w s n c Idle
-unfolding after effect
-idle_is w s n c duty = ap (λ z. idled w z c.0) (sym (kept s c Idle duty))
+pub idle_is : (w : Work) (s : State) (n : ℕ) (c : CpuId) → (cpu_of s c.0).duty ≡ Nothing → count_tick w s c.0 ≡ after w s n c Idle
+unfolding after effect idled
+idle_is w s n c duty = ap (λ z. count_tick w z c.0) (sym (kept s c Idle duty))

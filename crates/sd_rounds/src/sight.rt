@@ -1,33 +1,35 @@
 //! What one look at the home of a processor tells of its next event, as in most turns: that its thread runs on, or that nothing is ready.
 
-ghost use Rattle.std.specs.Prelude.{◌≡◌, ℕ, ◌<◌, None, Some, false, true, length, slice_get};
+ghost use Rattle.std.specs.Prelude.{◌≡◌, ℕ, ◌≤◌, ◌==◌, [], None, Some, false, length, true};
+ghost use Rattle.std.specs.List.{list_all};
 ghost use Rattle.std.specs.Option.{option_copied};
 ghost use Rattle.sd_types.specs.declared.events.Duty.TheVariants.{Nothing};
-ghost use Rattle.sd_types.specs.declared.numbers.HomeId.TheVariants.{Cpu, RealTime as UrgentHome};
+ghost use Rattle.sd_types.specs.declared.events.Which.TheVariants.{Queued};
+ghost use Rattle.sd_types.specs.declared.numbers.HomeId.TheVariants.{Cpu};
 ghost use Rattle.sd_types.specs.declared.scripts.Op.TheVariants.{Run};
 ghost use Rattle.sd_state.specs.Operations.{op_of};
 ghost use Rattle.sd_state.specs.declared.states.State.{State as StateOf};
-ghost use Rattle.sd_shown.specs.declared.list_id.ListId.TheVariants.{Naps, Queues, Runs as RunsOn, Urgent};
+ghost use Rattle.sd_machine.specs.Choosing.{hint_shown};
 ghost use Rattle.sd_shown.specs.Standing.{due_of_first};
-ghost use Rattle.sd_homes.specs.Families.{list_in, view_in};
 ghost use Rattle.sd_hand.specs.Acting.{IsShown};
 ghost use Rattle.sd_hand.specs.Hands.{held};
-ghost use Rattle.sd_rounds.specs.Sights.{SeesQuiet, SeesRunner, Sees};
+ghost use Rattle.sd_rounds.specs.Sights.{AreRead, Sees, SeesQuiet, SeesRunner};
 
+use arrayvec::ArrayVec;
 use sd_hand::Acting;
 use sd_homes::{Home, is_over};
 use sd_record::Record;
 use sd_shown::ListId;
-use sd_store::CpuView;
-use sd_types::{CpuId, Duty, HomeId, Op, SetId, ThreadId, Work};
+use sd_store::{CpuView, Look};
+use sd_types::{CpuId, Duty, HomeId, Op, ThreadId, Work};
 
 /// What a processor is about to do, as far as one look tells it.
 #[derive(Clone, Copy)]
 pub enum Sight {
     /// Its thread runs for a tick.
     Runs(ThreadId),
-    /// Nothing is ready for it, so that it searches among the processors of its set.
-    Searches(SetId),
+    /// Nothing is ready for it, nor on the queue of a neighbour: it is idle for a tick.
+    Idles,
     /// It has to make a plan.
     Unclear,
 }
@@ -68,10 +70,41 @@ fn see_runner(work: &Work, view: CpuView, thread: &Record) -> Sight
     Sight::Runs(thread.id)
 }
 
-/// What is seen of a processor on which no thread runs.
+/// No thread on the queue of processor `d` may be stolen.
 #[inline(always)]
-fn see_quiet(x: &Acting, home: &Home, view: CpuView) -> Sight
-    ensures { SeesQuiet x.now home.now view result }
+fn has_none_to_steal(x: &Acting, d: CpuId) -> bool
+    ensures { result ≡ true → (n : ℕ) (s : StateOf) → IsShown x.now n s → hint_shown s Queued d ≡ 0 }
+{
+    match x.best_unbound(d) {
+        Ok(None) => true,
+        _ => false,
+    }
+}
+
+/// Reads the numbers that the others of these processors show of their queues, as long as they are 0. False where one is not.
+#[inline(always)]
+fn read_zeros(x: &Acting, cpus: &[CpuId], numbers: &mut ArrayVec<u8, 64>) -> bool
+    requires fits { length cpus.now ≤ 64 }
+    requires empty { numbers.old.items ≡ [] }
+    ensures shown { result ≡ true → AreRead x.now cpus.now numbers.new.items }
+    ensures zeros { list_all (λ k. k == 0) numbers.new.items ≡ true }
+{
+    for d in cpus {
+        if d.0 != x.actor.cpu.0 {
+            if !has_none_to_steal(x, *d) {
+                return false;
+            }
+            numbers.push(0);
+        }
+    }
+    true
+}
+
+/// What is seen of a processor on which no thread runs, and the numbers that it reads of its neighbours.
+#[inline(always)]
+fn see_quiet(x: &Acting, home: &Home, view: CpuView, numbers: &mut ArrayVec<u8, 64>) -> Sight
+    requires empty { numbers.old.items ≡ [] }
+    ensures { SeesQuiet x.now home.now view numbers.new.items result }
 {
     if view.closing.is_some() || home.first(ListId::Queues(x.actor.cpu)).is_some() {
         return Sight::Unclear;
@@ -82,17 +115,21 @@ fn see_quiet(x: &Acting, home: &Home, view: CpuView) -> Sight
             if urgent.first(ListId::Urgent(view.set)).is_some() {
                 return Sight::Unclear;
             }
-            Sight::Searches(view.set)
+            if !read_zeros(x, urgent.open_cpus(), numbers) {
+                return Sight::Unclear;
+            }
+            Sight::Idles
         }
     }
 }
 
-/// What is seen of a processor without a duty, whose home this is.
+/// What is seen of a processor without a duty, whose home this is, and the numbers that it reads of its neighbours.
 #[inline(always)]
-fn see_home(work: &Work, x: &Acting, home: &Home) -> Sight
+fn see_home(work: &Work, x: &Acting, home: &Home, numbers: &mut ArrayVec<u8, 64>) -> Sight
     requires duty { x.now.actor.duty ≡ Nothing }
     requires home { held (Cpu x.now.actor.cpu) x.now.hand.slots ≡ Some home.now }
-    ensures { (n : ℕ) (s : StateOf) → IsShown x.now n s → Sees work.now s x.now.actor.cpu.0 result }
+    requires empty { numbers.old.items ≡ [] }
+    ensures { (n : ℕ) (s : StateOf) → IsShown x.now n s → Sees work.now s x.now.actor.cpu.0 numbers.new.items result }
 {
     let c = x.actor.cpu;
     if is_due(home.first(ListId::Naps(c)), x.actor.count) {
@@ -102,20 +139,21 @@ fn see_home(work: &Work, x: &Acting, home: &Home) -> Sight
         None => Sight::Unclear,
         Some(view) => match home.first(ListId::Runs(c)) {
             Some(thread) => see_runner(work, view, thread),
-            None => see_quiet(x, home, view),
+            None => see_quiet(x, home, view, numbers),
         },
     }
 }
 
-/// What is seen of the processor that acts.
+/// What is seen of the processor that acts, and the numbers that it reads of its neighbours where it is idle.
 #[inline(always)]
-pub(crate) fn see(work: &Work, x: &Acting) -> Sight
-    ensures { (n : ℕ) (s : StateOf) → IsShown x.now n s → Sees work.now s x.now.actor.cpu.0 result }
+pub(crate) fn see(work: &Work, x: &Acting, numbers: &mut ArrayVec<u8, 64>) -> Sight
+    requires empty { numbers.old.items ≡ [] }
+    ensures { (n : ℕ) (s : StateOf) → IsShown x.now n s → Sees work.now s x.now.actor.cpu.0 numbers.new.items result }
 {
     match x.actor.duty {
         Duty::Nothing => match x.hand.home(HomeId::Cpu(x.actor.cpu)) {
             Err(_) => Sight::Unclear,
-            Ok(home) => see_home(work, x, home),
+            Ok(home) => see_home(work, x, home, numbers),
         },
         _ => Sight::Unclear,
     }

@@ -11,7 +11,8 @@ ghost use Rattle.sd_world.specs.Plain.{Stands, told};
 ghost use Rattle.sd_rounds.specs.Turns.{ActsAlone};
 
 use sd_hand::{Acting, Actor};
-use sd_mdisp::{idled, ticked};
+use sd_mdisp::ticked;
+use sd_store::Store;
 use sd_types::{Entry, Event, Hints, Stop, ThreadId, Work};
 use sd_world::{MOST_ENTRIES, PlainWorld, reserve_entry};
 
@@ -80,7 +81,7 @@ fn enter_idle(
 {
     let number = entries.len() as u64;
     let cpu = acting.actor.cpu;
-    match idled(work, acting, cpu) {
+    match acting.count_tick(work, cpu) {
         Ok(()) => {}
         Err(_) => unreachable!(),
     }

@@ -22,8 +22,7 @@ use arrayvec::ArrayVec;
 use sd_cpu::{OpenGate, attempt};
 use sd_machine::Plan;
 use sd_step::plan;
-use sd_store::Look;
-use sd_types::{CpuId, Event, Hints, SetId, Stop, Which, Work};
+use sd_types::{CpuId, Event, Hints, Stop, Which, Work};
 use sd_world::{MOST_ENTRIES, PlainWorld};
 
 /// What the processor that acts is about to do, as far as the homes show it.
@@ -58,37 +57,6 @@ fn come(work: &Work, world: &mut PlainWorld, event: Event, hints: Option<Hints>)
     Ok(())
 }
 
-/// Reads the numbers that the neighbours of the processor that acts, which is one of this set, show of their queues. False where the
-/// homes do not show its neighbours.
-#[inline(always)]
-fn read_neighbours(
-    work: &Work,
-    world: &PlainWorld,
-    set: SetId,
-    numbers: &mut ArrayVec<u8, 64>,
-) -> bool
-    requires stands { Stands work.now world.now }
-    requires set { set ≡ (cpu_of (told work.now world.now) world.now.acting.actor.cpu.0).set }
-    requires empty { numbers.old.items ≡ [] }
-    ensures { result ≡ true → numbers.new.items ≡ map (hint_shown (told work.now world.now) Queued) (neighbours (told work.now world.now) world.now.acting.actor.cpu.0) }
-{
-    match world.acting.open_cpus(set) {
-        Err(_) => false,
-        Ok(cpus) => {
-            world.read_queues(work, world.acting.actor.cpu, cpus, numbers);
-            true
-        }
-    }
-}
-
-/// No thread is on a queue that may be stolen.
-#[inline(always)]
-fn none_queued(numbers: &[u8]) -> bool
-    ensures { result ≡ list_all (λ n. n == 0) numbers.now }
-{
-    numbers.iter().all(|n| *n == 0)
-}
-
 /// An idle tick after a search in which these numbers were read. A processor without neighbours has read none.
 #[inline(always)]
 fn end_search(work: &Work, world: &mut PlainWorld, hints: Hints) -> Result<Alone, Stop>
@@ -108,32 +76,6 @@ fn end_search(work: &Work, world: &mut PlainWorld, hints: Hints) -> Result<Alone
         return come_idle(work, world, None);
     }
     come_idle(work, world, Some(hints))
-}
-
-/// The turn of a processor that searches in this set, where it finds nothing to steal.
-#[inline(always)]
-fn search(work: &Work, world: &mut PlainWorld, set: SetId) -> Result<Alone, Stop>
-    requires stands { Stands work.now world.old }
-    requires work { world.old.work.now ≡ work.now }
-    requires few { length world.old.entries.items < MOST_ENTRIES }
-    requires plan { Search ≡ plan_of work.now (told work.now world.old) world.old.acting.actor.cpu.0 }
-    requires set { set ≡ (cpu_of (told work.now world.old) world.old.acting.actor.cpu.0).set }
-    requires duty { world.old.acting.actor.duty ≡ Nothing }
-    ensures stands { Stands work.now world.new }
-    ensures work { world.new.work.now ≡ work.now }
-    ensures acts { ActsAlone work.now world.old world.new result }
-{
-    let mut hints = Hints {
-        which: Which::Queued,
-        numbers: ArrayVec::new(),
-    };
-    if !read_neighbours(work, world, set, &mut hints.numbers) {
-        return Ok(Alone::Left);
-    }
-    if !none_queued(hints.numbers.as_slice()) {
-        return Ok(Alone::Left);
-    }
-    end_search(work, world, hints)
 }
 
 /// The turn of a processor that makes a plan, where this reads nothing of others.
@@ -165,9 +107,13 @@ fn act_alone(work: &Work, world: &mut PlainWorld) -> Result<Alone, Stop>
     ensures work { world.new.work.now ≡ work.now }
     ensures acts { ActsAlone work.now world.old world.new result }
 {
-    match see(work, &world.acting) {
+    let mut hints = Hints {
+        which: Which::Queued,
+        numbers: ArrayVec::new(),
+    };
+    match see(work, &world.acting, &mut hints.numbers) {
         Sight::Runs(t) => come_tick(work, world, t),
-        Sight::Searches(set) => search(work, world, set),
+        Sight::Idles => end_search(work, world, hints),
         Sight::Unclear => act_by_plan(work, world),
     }
 }

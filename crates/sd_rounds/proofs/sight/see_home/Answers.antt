@@ -7,9 +7,9 @@ use Rattle.sd_rounds.proofs.sight.see_home.Goals as goal
 pub returns-in-Some-first : goal.returns-in-Some-first
 returns-in-Some-first c n s sh =
     sees_runner c.args.work.now c.args.x.now n s c.args.home.now sh c.requires.duty c.requires.home (ap (due_of_first c.args.x.now.actor.count) (sym c.first.ensures) ∙ c.is_due.ensures c.if-is_due.false) c.in-Some.view (sym c.in-Some.is ∙ c.view.ensures)
-    c.in-Some-first.thread.now c.see_runner.result (sym c.first-in-Some.ensures ∙ ap option_copied c.in-Some-first.is) c.see_runner.ensures
+    c.in-Some-first.thread.now c.args.numbers.now.items c.see_runner.result (sym c.first-in-Some.ensures ∙ ap option_copied c.in-Some-first.is) c.see_runner.ensures
 
 pub returns-in-None-first : goal.returns-in-None-first
 returns-in-None-first c n s sh =
     sees_quiet c.args.work.now c.args.x.now n s c.args.home.now sh c.requires.duty c.requires.home (ap (due_of_first c.args.x.now.actor.count) (sym c.first.ensures) ∙ c.is_due.ensures c.if-is_due.false) c.in-Some.view (sym c.in-Some.is ∙ c.view.ensures)
-    c.see_quiet.result (sym c.first-in-Some.ensures ∙ ap option_copied c.in-None-first.is) c.see_quiet.ensures
+    c.see_quiet.new.numbers.items c.see_quiet.result (sym c.first-in-Some.ensures ∙ ap option_copied c.in-None-first.is) c.see_quiet.ensures

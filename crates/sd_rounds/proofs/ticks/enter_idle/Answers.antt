@@ -4,7 +4,7 @@ use Rattle.std.proofs.lemmas.Bool.{false≢true}
 use Rattle.sd_types.specs.declared.events.Duty.TheVariants.{Nothing}
 use Rattle.sd_types.specs.declared.events.Event.TheVariants.{Idle as IdleEvent}
 use Rattle.sd_state.specs.States.{cpu_of}
-use Rattle.sd_machine.specs.Dispatching.{idled}
+use Rattle.sd_machine.specs.Changes.{count_tick}
 use Rattle.sd_machine.specs.Runs.{IsReached}
 use Rattle.sd_hand.specs.Acting.{IsShown}
 use Rattle.sd_hand.specs.Later.{shown_later}
@@ -40,7 +40,7 @@ returns c =
     let duty : (cpu_of s cpu.0).duty ≡ Nothing = sym can.shown.duty ∙ c.requires.duty in
     let made = c.in-Ok.ensures.value (length es) s can.shown needs in
     record {
-      shown = subst (IsShown c.idled.new.x (length es + 1)) (idle_is w s (length es) cpu duty) (shown_later c.idled.new.x (length es) (idled w s cpu.0) made);
+      shown = subst (IsShown c.count_tick.new.self (length es + 1)) (idle_is w s (length es) cpu duty) (shown_later c.count_tick.new.self (length es) (count_tick w s cpu.0) made);
       has = c.in-Ok.ensures.has;
       actors = refl;
       entries = c.push_reserved.ensures.items ∙ ap (λ m. es ++ record { number = m; cpu = cpu; event = IdleEvent; hints = c.args.hints } ∷ []) (sym e);

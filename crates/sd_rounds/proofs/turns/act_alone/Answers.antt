@@ -27,21 +27,27 @@ come_tick-requires-clause-event c =
     let s = told w x in
     makes_it w s x.acting.actor.cpu (Tick c.in-Runs.t) (P.cpu_inside w x c.requires.stands) (c.in-Runs.ensures (length x.entries.items) s (P.shown w x c.requires.stands)).1
 
-pub search-requires-clause-plan : goal.search-requires-clause-plan
-search-requires-clause-plan c =
-    let w = c.args.work.now in
-    let x = c.args.world.now in
-    (c.in-Searches.ensures (length x.entries.items) (told w x) (P.shown w x c.requires.stands)).1
-
-pub search-requires-clause-set : goal.search-requires-clause-set
-search-requires-clause-set c =
-    let w = c.args.work.now in
-    let x = c.args.world.now in
-    (c.in-Searches.ensures (length x.entries.items) (told w x) (P.shown w x c.requires.stands)).2
-
-pub search-requires-clause-duty : goal.search-requires-clause-duty
-search-requires-clause-duty c =
+pub end_search-requires-clause-duty : goal.end_search-requires-clause-duty
+end_search-requires-clause-duty c =
     let w = c.args.work.now in
     let x = c.args.world.now in
     let shown = P.shown w x c.requires.stands in
-    shown.duty ∙ (c.in-Searches.ensures (length x.entries.items) (told w x) shown).0
+    shown.duty ∙ (c.in-Idles.ensures (length x.entries.items) (told w x) shown).0
+
+pub end_search-requires-clause-plan : goal.end_search-requires-clause-plan
+end_search-requires-clause-plan c =
+    let w = c.args.work.now in
+    let x = c.args.world.now in
+    (c.in-Idles.ensures (length x.entries.items) (told w x) (P.shown w x c.requires.stands)).1
+
+pub end_search-requires-clause-numbers : goal.end_search-requires-clause-numbers
+end_search-requires-clause-numbers c =
+    let w = c.args.work.now in
+    let x = c.args.world.now in
+    (c.in-Idles.ensures (length x.entries.items) (told w x) (P.shown w x c.requires.stands)).2
+
+pub end_search-requires-clause-none : goal.end_search-requires-clause-none
+end_search-requires-clause-none c =
+    let w = c.args.work.now in
+    let x = c.args.world.now in
+    (c.in-Idles.ensures (length x.entries.items) (told w x) (P.shown w x c.requires.stands)).3
