@@ -1,6 +1,7 @@
 pub mod AloneLemmas
 pub mod CompleteLemmas
 pub mod FinishLemmas
+pub mod FloorLemmas
 pub mod OrderLemmas
 pub mod RoundLemmas
 pub mod SerialLemmas

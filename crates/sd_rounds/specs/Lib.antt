@@ -1,3 +1,4 @@
+pub mod Floors
 pub mod Orders
 pub mod Rounds
 pub mod Sights

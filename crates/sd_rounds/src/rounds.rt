@@ -40,8 +40,9 @@ fn run_round(work: &Work, world: &mut PlainWorld, order: &[CpuId]) -> Result<(),
     ensures long { IsErrOf result Stop.Full → MOST_ENTRIES ≤ length world.new.entries.items }
     ensures memory { IsErrOf result Stop.Memory → length world.new.entries.items < MOST_ENTRIES }
 {
+    let mut floor = 0;
     for c in order {
-        if let Err(stop) = take_turn(work, world, *c) {
+        if let Err(stop) = take_turn(work, world, &mut floor, *c) {
             return Err(stop);
         }
     }

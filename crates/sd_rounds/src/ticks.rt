@@ -4,10 +4,11 @@
 ghost use Rattle.std.specs.Prelude.{◌≡◌, ◌++◌, ◌<◌, ◌∷◌, [], None, Option, Some, length, vec_capacity, vec_len, IfErr, OnOk};
 ghost use Rattle.sd_types.specs.declared.events.Duty.TheVariants.{Nothing};
 ghost use Rattle.sd_types.specs.declared.events.Event.TheVariants.{Idle as IdleEvent, Tick as TickEvent};
-ghost use Rattle.sd_machine.specs.Events.{allowed, next};
+ghost use Rattle.sd_machine.specs.Events.{allowed, may_tick, next};
 ghost use Rattle.sd_machine.specs.Runs.{serial_hints};
 ghost use Rattle.sd_world.specs.Entries.{CanEnter, Enters};
 ghost use Rattle.sd_world.specs.Plain.{Stands, told};
+ghost use Rattle.sd_rounds.specs.Floors.{IsFloor};
 ghost use Rattle.sd_rounds.specs.Turns.{ActsAlone};
 
 use sd_hand::{Acting, Actor};
@@ -138,20 +139,47 @@ fn make_idle(work: &Work, world: &mut PlainWorld, hints: Option<Hints>)
     );
 }
 
+/// The processor that acts may tick. No processor's count is below the floor, so that one whose count is not above it asks no other; the
+/// count of another that may tick is the floor from then on.
+#[inline(always)]
+fn may_tick(work: &Work, world: &PlainWorld, floor: &mut u32) -> bool
+    requires stands { Stands work.now world.now }
+    requires least { IsFloor work.now (told work.now world.now) floor.old }
+    ensures may { result ≡ may_tick work.now (told work.now world.now) world.now.acting.actor.cpu.0 }
+    ensures least { IsFloor work.now (told work.now world.now) floor.new }
+{
+    let count = world.acting.actor.count;
+    if count <= *floor {
+        return count < work.limit;
+    }
+    let may = world.may_tick(work);
+    if may {
+        *floor = count;
+    }
+    may
+}
+
 /// The thread runs for a tick, where one may come now, on the processor that acts, which has no duty.
 #[inline(always)]
-pub(crate) fn come_tick(work: &Work, world: &mut PlainWorld, t: ThreadId) -> Result<Alone, Stop>
+pub(crate) fn come_tick(
+    work: &Work,
+    world: &mut PlainWorld,
+    floor: &mut u32,
+    t: ThreadId,
+) -> Result<Alone, Stop>
     requires stands { Stands work.now world.old }
     requires work { world.old.work.now ≡ work.now }
     requires few { length world.old.entries.items < MOST_ENTRIES }
+    requires least { IsFloor work.now (told work.now world.old) floor.old }
     requires duty { world.old.acting.actor.duty ≡ Nothing }
     requires hints { serial_hints work.now (told work.now world.old) world.old.acting.actor.cpu ≡ None }
     requires event { next work.now (told work.now world.old) world.old.acting.actor.cpu None ≡ allowed work.now (told work.now world.old) world.old.acting.actor.cpu.0 (TickEvent t) }
     ensures stands { Stands work.now world.new }
     ensures work { world.new.work.now ≡ work.now }
     ensures acts { ActsAlone work.now world.old world.new result }
+    ensures least { IsFloor work.now (told work.now world.old) floor.new }
 {
-    if !world.may_tick(work) {
+    if !may_tick(work, world, floor) {
         return Ok(Alone::Turned);
     }
     if let Err(stop) = reserve(work, world) {
@@ -166,19 +194,22 @@ pub(crate) fn come_tick(work: &Work, world: &mut PlainWorld, t: ThreadId) -> Res
 pub(crate) fn come_idle(
     work: &Work,
     world: &mut PlainWorld,
+    floor: &mut u32,
     hints: Option<Hints>,
 ) -> Result<Alone, Stop>
     requires stands { Stands work.now world.old }
     requires work { world.old.work.now ≡ work.now }
     requires few { length world.old.entries.items < MOST_ENTRIES }
+    requires least { IsFloor work.now (told work.now world.old) floor.old }
     requires duty { world.old.acting.actor.duty ≡ Nothing }
     requires hints { serial_hints work.now (told work.now world.old) world.old.acting.actor.cpu ≡ hints }
     requires event { next work.now (told work.now world.old) world.old.acting.actor.cpu hints ≡ allowed work.now (told work.now world.old) world.old.acting.actor.cpu.0 IdleEvent }
     ensures stands { Stands work.now world.new }
     ensures work { world.new.work.now ≡ work.now }
     ensures acts { ActsAlone work.now world.old world.new result }
+    ensures least { IsFloor work.now (told work.now world.old) floor.new }
 {
-    if !world.may_tick(work) {
+    if !may_tick(work, world, floor) {
         return Ok(Alone::Turned);
     }
     if let Err(stop) = reserve(work, world) {

@@ -14,6 +14,7 @@ ghost use Rattle.sd_machine.specs.Events.{allowed, next};
 ghost use Rattle.sd_machine.specs.Plans.{plan as plan_of};
 ghost use Rattle.sd_machine.specs.Runs.{made, shown, turn};
 ghost use Rattle.sd_world.specs.Plain.{Stands, told};
+ghost use Rattle.sd_rounds.specs.Floors.{IsFloor};
 ghost use Rattle.sd_rounds.specs.Turns.{ActsAlone};
 
 use crate::sight::{Sight, see};
@@ -59,8 +60,14 @@ fn come(work: &Work, world: &mut PlainWorld, event: Event, hints: Option<Hints>)
 
 /// An idle tick after a search in which these numbers were read. A processor without neighbours has read none.
 #[inline(always)]
-fn end_search(work: &Work, world: &mut PlainWorld, hints: Hints) -> Result<Alone, Stop>
+fn end_search(
+    work: &Work,
+    world: &mut PlainWorld,
+    floor: &mut u32,
+    hints: Hints,
+) -> Result<Alone, Stop>
     requires stands { Stands work.now world.old }
+    requires least { IsFloor work.now (told work.now world.old) floor.old }
     requires work { world.old.work.now ≡ work.now }
     requires few { length world.old.entries.items < MOST_ENTRIES }
     requires duty { world.old.acting.actor.duty ≡ Nothing }
@@ -71,11 +78,12 @@ fn end_search(work: &Work, world: &mut PlainWorld, hints: Hints) -> Result<Alone
     ensures stands { Stands work.now world.new }
     ensures work { world.new.work.now ≡ work.now }
     ensures acts { ActsAlone work.now world.old world.new result }
+    ensures least { IsFloor work.now (told work.now world.old) floor.new }
 {
     if hints.numbers.is_empty() {
-        return come_idle(work, world, None);
+        return come_idle(work, world, floor, None);
     }
-    come_idle(work, world, Some(hints))
+    come_idle(work, world, floor, Some(hints))
 }
 
 /// The turn of a processor that makes a plan, where this reads nothing of others.
@@ -99,21 +107,23 @@ fn act_by_plan(work: &Work, world: &mut PlainWorld) -> Result<Alone, Stop>
 
 /// The turn of the processor that acts, where it reads nothing of others, or searches and finds nothing to steal.
 #[inline(always)]
-fn act_alone(work: &Work, world: &mut PlainWorld) -> Result<Alone, Stop>
+fn act_alone(work: &Work, world: &mut PlainWorld, floor: &mut u32) -> Result<Alone, Stop>
     requires stands { Stands work.now world.old }
+    requires least { IsFloor work.now (told work.now world.old) floor.old }
     requires work { world.old.work.now ≡ work.now }
     requires few { length world.old.entries.items < MOST_ENTRIES }
     ensures stands { Stands work.now world.new }
     ensures work { world.new.work.now ≡ work.now }
     ensures acts { ActsAlone work.now world.old world.new result }
+    ensures least { IsFloor work.now (told work.now world.old) floor.new }
 {
     let mut hints = Hints {
         which: Which::Queued,
         numbers: ArrayVec::new(),
     };
     match see(work, &world.acting, &mut hints.numbers) {
-        Sight::Runs(t) => come_tick(work, world, t),
-        Sight::Idles => end_search(work, world, hints),
+        Sight::Runs(t) => come_tick(work, world, floor, t),
+        Sight::Idles => end_search(work, world, floor, hints),
         Sight::Unclear => act_by_plan(work, world),
     }
 }
@@ -135,26 +145,34 @@ fn attempt_turn(work: &Work, world: &mut PlainWorld) -> Result<(), Stop>
 }
 
 /// The turn of the processor that acts.
-fn act(work: &Work, world: &mut PlainWorld) -> Result<(), Stop>
+fn act(work: &Work, world: &mut PlainWorld, floor: &mut u32) -> Result<(), Stop>
     requires stands { Stands work.now world.old }
+    requires least { IsFloor work.now (told work.now world.old) floor.old }
     requires work { world.old.work.now ≡ work.now }
     requires few { length world.old.entries.items < MOST_ENTRIES }
     ensures stands { Stands work.now world.new }
     ensures work { world.new.work.now ≡ work.now }
     ensures entries { OnOk result (world.new.entries.items ≡ world.old.entries.items ++ turn work.now (told work.now world.old) (length world.old.entries.items) world.old.acting.actor.cpu) }
     ensures stop { IfErr result (λ stop. (stop ≡ Stop.Memory) × (world.new.entries.items ≡ world.old.entries.items)) }
+    ensures least { IsFloor work.now (told work.now world.old) floor.new }
 {
-    match act_alone(work, world) {
+    match act_alone(work, world, floor) {
         Err(stop) => Err(stop),
         Ok(Alone::Turned) => Ok(()),
         Ok(Alone::Left) => attempt_turn(work, world),
     }
 }
 
-/// The turn of processor `c`: it makes its entry, where it has one. `Full` exactly where the log holds 2^40 entries or more; so
+/// The turn of processor `c`: it makes its entry, where it has one. No processor's count is below the floor before it. `Full` exactly where the log holds 2^40 entries or more; so
 /// memory runs out only where it holds fewer, and the entries are then as they were.
-pub(crate) fn take_turn(work: &Work, world: &mut PlainWorld, c: CpuId) -> Result<(), Stop>
+pub(crate) fn take_turn(
+    work: &Work,
+    world: &mut PlainWorld,
+    floor: &mut u32,
+    c: CpuId,
+) -> Result<(), Stop>
     requires stands { Stands work.now world.old }
+    requires least { IsFloor work.now (told work.now world.old) floor.old }
     requires work { world.old.work.now ≡ work.now }
     ensures stands { Stands work.now world.new }
     ensures work { world.new.work.now ≡ work.now }
@@ -164,6 +182,7 @@ pub(crate) fn take_turn(work: &Work, world: &mut PlainWorld, c: CpuId) -> Result
     ensures full { IsErrOf result Stop.Full ↔ (MOST_ENTRIES ≤ length world.old.entries.items) }
     ensures memory { IsErrOf result Stop.Memory → length world.old.entries.items < MOST_ENTRIES }
     ensures kept { OnErr result (world.new.entries.items ≡ world.old.entries.items) }
+    ensures least { IsFloor work.now (told work.now world.old) floor.new }
 {
     if world.entries.len() >= MOST_ENTRIES {
         return Err(Stop::Full);
@@ -172,5 +191,5 @@ pub(crate) fn take_turn(work: &Work, world: &mut PlainWorld, c: CpuId) -> Result
         return Ok(());
     }
     world.act_as(work, c);
-    act(work, world)
+    act(work, world, floor)
 }

@@ -1,7 +1,9 @@
-use Rattle.std.proofs.Common.{length, get_or, ◌∙◌, arith}
+use Rattle.std.proofs.Common.{length, get_or, sym, ◌∙◌, arith, subst}
+use Rattle.sd_rounds.specs.Floors.{IsFloor}
+use Rattle.sd_rounds.proofs.FloorLemmas.{floor_kept}
 use Rattle.sd_machine.specs.Runs.{turn}
 use Rattle.sd_world.specs.Plain.{told}
-use Rattle.sd_world.proofs.PlainLemmas.{told_more}
+use Rattle.sd_world.proofs.PlainLemmas.{reached, told_more}
 use Rattle.sd_rounds.proofs.RoundLemmas.{grows, round_on, entries_over}
 use Rattle.sd_rounds.proofs.rounds.run_round.Goals as goal
 
@@ -22,6 +24,8 @@ loop-c-preserved c =
       grown = let more = grows t x.entries.items y.entries.items e.entries in
           let so_far = l.invariant.grown in
           omega arith;
+      least = subst (λ z. IsFloor w z c.take_turn.new.floor) (sym (told_more w x y t e.entries))
+          (floor_kept w (told w x) (length x.entries.items) (get_or order l.c-index (record { 0 = 0 })) c.take_turn.new.floor (reached w x l.invariant.stands) c.take_turn.ensures.least);
       begins = λ some. let so_far = l.invariant.grown in let room = e.begins in omega arith;
     }
 
