@@ -1,7 +1,7 @@
 use Rattle.std.proofs.Common.{◌≡◌, ◌≤◌, length, sym, ap, ◌∙◌, subst}
 use Rattle.std.specs.Prelude.{nat_lt}
 use Rattle.sd_state.specs.States.{cpu_of}
-use Rattle.sd_sound.proofs.Whole.{fit_reached}
+use Rattle.sd_invariants.proofs.Whole.{fit_reached}
 use Rattle.sd_world.specs.Plain.{told}
 use Rattle.sd_world.proofs.PlainLemmas as P
 use Rattle.sd_rounds.proofs.FloorLemmas.{at_floor, new_floor}
