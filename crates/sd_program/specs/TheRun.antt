@@ -47,8 +47,8 @@ pub record IsTheRun (w : Work) (mode : Mode) (es : List Entry) : Type 0 where
   pub limit : (c : ℕ) → c < w.cpus → (cpu_of (final_state w es) c).count ≡ w.limit
   -- in each of its states each thread stands in exactly one place, which is there, and at most one runs on a processor;
   pub places : (k : ℕ) → EachInOnePlace w (length (take k es)) (state_at w es k)
-  -- the homes on which the run went (dispatch queues, sleep queues, turnstiles) stood for it, all of them, and each thread stood in one
-  -- list of one of them;
+  -- there are homes (dispatch queues, sleep queues, turnstiles) that stand for it, all that it has, with each thread in one list of one of
+  -- them (that those in memory are such is what the worlds keep on which a run goes, `Stands` of sd_world);
   pub homes : (k : ℕ) → k ≤ length es → StandsInHomes k (state_at w es k)
   -- the place suits the thread's set, binding and priority, and processors are marked that have to look at their queues;
   pub belong : (k : ℕ) → ThreadsBelong w (state_at w es k)
