@@ -52,11 +52,6 @@ any_kept f p (x ∷ xs) = ap (λ b. p (f x) || b) (any_kept f p xs)
 pub sum_kept : {A B : Type 0} (f : A → B) (g : B → ℕ) (xs : List A) → sum_by (λ x. g (f x)) xs ≡ sum_by g (map f xs)
 sum_kept f g xs = sym (fold-map (λ n x. n + g x) f 0 xs)
 
--- whether the elements from an index on differ
-pub distinct-at : (xs : List ℕ) (i : ℕ) (d : ℕ) → i < length xs
-    → is_distinct (λ a b. nat_eq a b) (drop i xs) ≡ (not (list_any (λ b. nat_eq (get_or xs i d) b) (drop (i + 1) xs)) && is_distinct (λ a b. nat_eq a b) (drop (i + 1) xs))
-distinct-at xs i d h = ap (is_distinct (λ a b. nat_eq a b)) (drop_more xs i d h)
-
 -- numbers below a bound
 pub all-below : (n : ℕ) (cs : List ℕ) → list_any (λ c. leb n c) cs ≡ false → n ≤ 64 → All (λ c. c < 64) cs
 all-below n [] h most = λ k d l. absurd (omega arith)

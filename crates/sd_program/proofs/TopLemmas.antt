@@ -12,7 +12,6 @@ use Rattle.sd_types.specs.declared.events.Stop.TheVariants as stop
 use Rattle.sd_declare.specs.declared.causes.WorkCause.{WorkCause}
 use Rattle.sd_workload.specs.Accepted.{Accepted, FirstCause}
 use Rattle.sd_rounds.specs.declared.rounds.Finished.{Finished}
-use Rattle.sd_gen.specs.Generated.{generated}
 use Rattle.sd_program.specs.declared.forms.Form.{Form}
 use Rattle.sd_program.specs.declared.forms.Form.TheVariants.{Journal, Summary}
 use Rattle.sd_program.specs.declared.forms.Mode.{Mode}
@@ -36,11 +35,6 @@ use Rattle.sd_program.specs.Headline.{RanInput, CausedByInput, PrintsTables, Cau
 -- what the arguments ask for is one thing
 pub same_command : (arguments : List (List ℕ)) (j k : Command) → command_of arguments ≡ Some j → command_of arguments ≡ Some k → j ≡ k
 same_command arguments j k a b = same_Some j k (sym a ∙ b)
-
--- arguments that do not ask for threads ask for a run in rounds, where they ask for a run
-pub in_rounds_of : (arguments : List (List ℕ)) (form : Form) → command_of arguments ≡ Some (Run form) → command_of arguments ≢ Some (Run (Journal Threads)) → mode_of form ≢ Threads
-in_rounds_of arguments (Journal mode) known alone is = alone (known ∙ ap (λ (m : Mode). Some (Run (Journal m))) is)
-in_rounds_of arguments Summary known alone is = cc
 
 -- one argument does not ask for threads
 pub one_word_alone : (verb : List ℕ) → command_of (verb ∷ []) ≢ Some (Run (Journal Threads))
@@ -257,41 +251,16 @@ refused_of form input out WriteFault refused kept = absurd refused
 refused_of form input out Blocked refused kept = absurd refused
 refused_of form input out TooLong refused kept = absurd refused
 
-pub refused_tables : (input out : StreamChange) (a : Answer) → IsRefused input a → IsUntouched out → CausedByTables input out a
-refused_tables input out TooLarge refused kept = (refused, kept)
-refused_tables input out TooLargeToAudit refused kept = absurd refused
-refused_tables input out NoJournal refused kept = absurd refused
-refused_tables input out (NotAJournal fault) refused kept = absurd refused
-refused_tables input out (Refused line cause) refused kept = (refused, kept)
-refused_tables input out ReadFault refused kept = (refused, kept)
-refused_tables input out OutOfMemory refused kept = (refused, kept)
-refused_tables input out Done refused kept = absurd refused
-refused_tables input out Usage refused kept = absurd refused
-refused_tables input out WriteFault refused kept = absurd refused
-refused_tables input out Blocked refused kept = absurd refused
-refused_tables input out TooLong refused kept = absurd refused
-
 -- the tables were not written whole
 pub tables_unwritten : (input out : StreamChange) (w : Work) (e : Unwritten) → IsWorkload input w → Puts out.before out.after out.faults_before out.faults_after (tables_text w) (Err e)
     → (e ≡ unwritten.Memory → out.after ≡ out.before) → CausedByTables input out (unwritten_answer e)
 tables_unwritten input out w unwritten.Fault is p kept = (w, is, p.fault refl, p.part)
 tables_unwritten input out w unwritten.Memory is p kept = (at_most_of most_bytes input is.bytes is.read, record { bytes = kept refl; no_fault = p.no_fault (λ e. cc) })
 
--- nor the generated workload
-pub generated_unwritten : (out : StreamChange) (n : ℕ) (e : Unwritten) → Puts out.before out.after out.faults_before out.faults_after (generated n) (Err e)
-    → (e ≡ unwritten.Memory → out.after ≡ out.before) → CausedByNumber n out (unwritten_answer e)
-generated_unwritten out n unwritten.Fault p kept = (p.fault refl, p.part)
-generated_unwritten out n unwritten.Memory p kept = record { bytes = kept refl; no_fault = p.no_fault (λ e. cc) }
-
 pub tables_exit : (input out : StreamChange) (r : Result (Unit {0}) Answer) (a : Answer) → IsErrAnd r (λ y. y ≡ a) → CausedByTables input out a → CausedByTables input out (answer_of r)
 tables_exit input out r a exit caused =
     let x = err_from_is_err_and r exit in
     subst (λ s. CausedByTables input out (answer_of s)) (sym (x.1 ∙ ap Err x.2)) caused
-
-pub generated_exit : (out : StreamChange) (n : ℕ) (r : Result (Unit {0}) Answer) (a : Answer) → IsErrAnd r (λ y. y ≡ a) → CausedByNumber n out a → CausedByNumber n out (answer_of r)
-generated_exit out n r a exit caused =
-    let x = err_from_is_err_and r exit in
-    subst (λ s. CausedByNumber n out (answer_of s)) (sym (x.1 ∙ ap Err x.2)) caused
 
 pub caused_exit : (form : Form) (input out : StreamChange) (r : Result (Unit {0}) Answer) (a : Answer) → IsErrAnd r (λ y. y ≡ a) → CausedByInput form input out a
     → CausedByInput form input out (answer_of r)
@@ -328,11 +297,6 @@ pub unwritten_of : (w : Work) (form : Form) (out : StreamChange) (es : List Entr
 unwritten_of w form out es (Ok u) is p = tt
 unwritten_of w form out es (Err unwritten.Fault) is p = (p.fault refl, (es, is, p.part))
 unwritten_of w form out es (Err unwritten.Memory) is p = (p.no_fault (λ e. cc), inr (es, is, p.part))
-
--- it was written whole
-pub written_of : (w : Work) (form : Form) (out : StreamChange) (es : List Entry) → IsTheRun w (mode_of form) es
-    → Puts out.before out.after out.faults_before out.faults_after (text_of form w es) (Ok tt) → (P : List Entry → Type 0) → P es → Writes w form out P
-written_of w form out es is p P ends = (es, is, p.ok, p.no_fault (λ e. cc), ends)
 
 pub ran_exit : (w : Work) (form : Form) (out : StreamChange) (r : Result (Unit {0}) Answer) (a : Answer) → IsErrAnd r (λ y. y ≡ a) → Ran w form out a → Ran w form out (answer_of r)
 ran_exit w form out r a exit ran =
