@@ -69,9 +69,6 @@ last_or-append : (o : Option ℕ) (xs ys : List ℕ) → last_or o (xs ++ ys) �
 last_or-append o [] ys = refl
 last_or-append o (x ∷ xs) ys = last_or-append (Some x) xs ys
 
-pub EndsLine-nil : EndsLine []
-EndsLine-nil = refl
-
 pub EndsLine-append : (xs ys : List ℕ) → EndsLine xs → EndsLine ys → EndsLine (xs ++ ys)
 EndsLine-append xs ys p q = last_or-append (Some 10) xs ys ∙ ap (λ o. last_or o ys) p ∙ q
 

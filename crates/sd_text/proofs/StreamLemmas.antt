@@ -53,9 +53,3 @@ pub Appends-told : (old new : Option (List ℕ)) (held bytes : List ℕ) → App
 Appends-told None new held bytes h e = absurd (cc)
 Appends-told (Some xs) None held bytes h e = absurd h
 Appends-told (Some xs) (Some ys) held bytes h e = let f : xs ≡ held = cc in ap Some (h ∙ ap (λ l. l ++ bytes) f)
-
-pub Consumes-told : (old new : Option (List ℕ)) (left bytes : List ℕ) → Consumes old new bytes → old ≡ Some left
-    → (rest : List ℕ) × (new ≡ Some rest) × (left ≡ bytes ++ rest)
-Consumes-told None new left bytes h e = absurd (cc)
-Consumes-told (Some xs) None left bytes h e = absurd h
-Consumes-told (Some xs) (Some ys) left bytes h e = let f : left ≡ xs = cc in (ys, refl, f ∙ h)
