@@ -6,7 +6,7 @@ ghost use Rattle.sd_state.specs.Texts.{thread_name};
 ghost use Rattle.sd_machine.specs.Texts.{cycle_line, cycle_word, cycles_text, waited_name};
 
 use sd_cycles::cycles;
-use sd_event::{put_lock_name, put_thread_name};
+use sd_entry_writer::{put_lock_name, put_thread_name};
 use sd_state::{Place, State};
 use sd_types::Work;
 use std::alloc::{AllocError, Global};

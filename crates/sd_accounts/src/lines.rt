@@ -10,7 +10,7 @@ ghost use Rattle.sd_accounts.specs.Counters.{HasTaken, counted_cpu_line, counted
 use crate::accounts::Accounts;
 use crate::counters::{CpuCounts, ThreadCounts};
 use crate::cycle_lines::write_cycles;
-use sd_event::{put_chan_name, put_lock_name, put_thread_name};
+use sd_entry_writer::{put_chan_name, put_lock_name, put_thread_name};
 use sd_state::{Place, State};
 use sd_text::put_number;
 use sd_types::{ChanId, LockId, Work};

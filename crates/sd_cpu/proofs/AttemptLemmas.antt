@@ -21,8 +21,8 @@ use Rattle.sd_machine.specs.Events.{allowed, hints_fit, may_tick, next, plan_rea
 use Rattle.sd_machine.specs.Plans.{plan}
 use Rattle.sd_machine.specs.Runs.{serial_hints, shown}
 use Rattle.sd_invariants.proofs.Whole.{fit_reached}
-use Rattle.sd_mdisp.specs.declared.reading.Reading.{Reading}
-use Rattle.sd_mdisp.specs.Reading.{parts}
+use Rattle.sd_dispatcher.specs.declared.reading.Reading.{Reading}
+use Rattle.sd_dispatcher.specs.Reading.{parts}
 use Rattle.sd_hand.specs.declared.acting.Actor.{Actor}
 use Rattle.sd_world.specs.Worlds.{AllHinted, CanCommit, HasReserved, Holds, IsGood, Makes, MayStand, MayUse, Meaning, NoneBehind, ReadsCounts, Reserves, Rises, Stays, actor_of, after_run, most_entries, now}
 use Rattle.sd_types.specs.declared.events.Stop.{Stop}

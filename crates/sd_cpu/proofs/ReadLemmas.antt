@@ -12,8 +12,8 @@ use Rattle.sd_machine.specs.Choosing.{cpus_for, is_warm, is_settled, neighbours,
 use Rattle.sd_machine.specs.Events.{placed_thread, plan_reads}
 use Rattle.sd_machine.specs.Plans.{plan}
 use Rattle.sd_machine.specs.Runs.{IsReached}
-use Rattle.sd_mdisp.specs.declared.reading.Reading.{Reading}
-use Rattle.sd_mdisp.specs.Reading.{parts}
+use Rattle.sd_dispatcher.specs.declared.reading.Reading.{Reading}
+use Rattle.sd_dispatcher.specs.Reading.{parts}
 use Rattle.sd_range.proofs.Places.{cpus_there, inside_reached}
 use Rattle.sd_range.proofs.Range.{neighbours_there}
 use Rattle.sd_world.specs.Plain.{AreCpus}

@@ -20,7 +20,7 @@ use Rattle.sd_store.specs.declared.parts.Part.TheVariants as part
 use Rattle.sd_store.specs.Parts.{IsAmong}
 use Rattle.sd_store.specs.Words.{Lacks, LacksIf}
 use Rattle.sd_store.proofs.Among.{among_right}
-use Rattle.sd_mdisp.specs.Reading.{parts}
+use Rattle.sd_dispatcher.specs.Reading.{parts}
 use Rattle.sd_step.specs.Needed.{choice_parts, needed, plan_parts, read_parts, reads_parts}
 use Rattle.sd_step.specs.Touched.{after_parts}
 use Rattle.sd_hand.specs.declared.acting.Acting.{Acting}

@@ -14,8 +14,8 @@ use Rattle.sd_machine.specs.Events.{hints_fit, plan_reads, reads, wish}
 use Rattle.sd_machine.specs.Runs.{serial_hints}
 use Rattle.sd_machine.specs.Needs.{CanCount}
 use Rattle.sd_machine.specs.Plans.{plan}
-use Rattle.sd_mdisp.specs.declared.reading.Reading.{Reading}
-use Rattle.sd_mdisp.specs.Reading.{parts}
+use Rattle.sd_dispatcher.specs.declared.reading.Reading.{Reading}
+use Rattle.sd_dispatcher.specs.Reading.{parts}
 use Rattle.sd_store.specs.declared.parts.Part.{Part}
 use Rattle.sd_store.specs.declared.parts.Part.TheVariants as part
 use Rattle.sd_store.specs.Parts.{IsAmong}

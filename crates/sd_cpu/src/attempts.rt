@@ -9,7 +9,7 @@ ghost use Rattle.sd_cpu.specs.Seeking.{Comes, HoldsAll, HoldsToMake, HoldsToRead
 
 use crate::gate::Gate;
 use crate::seeking::{find_course, find_event, hold_all};
-use sd_mdisp::Reading;
+use sd_dispatcher::Reading;
 use sd_types::{CpuId, Event, Hints, Stop, Work};
 use sd_world::{Behind, World};
 

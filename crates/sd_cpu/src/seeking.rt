@@ -5,7 +5,7 @@ ghost use Rattle.sd_types.specs.declared.numbers.ChanId.{ChanId as ChanIdOf};
 ghost use Rattle.sd_state.specs.declared.states.State.{State as StateOf};
 ghost use Rattle.sd_machine.specs.Events.{hints_fit, plan_event, plan_reads};
 ghost use Rattle.sd_machine.specs.Needs.{CanCount};
-ghost use Rattle.sd_mdisp.specs.Reading.{parts};
+ghost use Rattle.sd_dispatcher.specs.Reading.{parts};
 ghost use Rattle.sd_step.specs.Needed.{choice_parts, read_parts, reads_parts};
 ghost use Rattle.sd_step.specs.Touched.{after_parts};
 ghost use Rattle.sd_store.specs.Words.{Lacks, LacksIf, TellsIf};
@@ -17,9 +17,9 @@ ghost use Rattle.sd_cpu.specs.Seeking.{CanFetch, Fetches, FindsCourse, FindsEven
 
 use crate::gate::Gate;
 use crate::touching::touched;
+use sd_dispatcher::Reading;
 use sd_hand::Acting;
 use sd_machine::Plan;
-use sd_mdisp::Reading;
 use sd_step::{plan, plan_event, plan_reads};
 use sd_store::Part;
 use sd_types::{Event, Hints, HomeId, ThreadId, Work};

@@ -7,17 +7,17 @@ ghost use Rattle.sd_store.specs.Keyless.{spot_of};
 ghost use Rattle.sd_hand.specs.Acting.{IsShown, has_part};
 ghost use Rattle.sd_store.specs.declared.parts.Part.TheVariants.{Home};
 ghost use Rattle.sd_store.specs.Parts.{bound_parts, chain_part, cpu_part, put_parts, ready_parts, real_time_part, sleepers_part, thread_part};
-ghost use Rattle.sd_mchain.specs.Passed.{willed_parts};
-ghost use Rattle.sd_mdisp.specs.Touched.{leaving_parts, put_parts_if, reordered_parts};
-ghost use Rattle.sd_mlock.specs.Released.{exited_parts, handed_parts};
-ghost use Rattle.sd_mprio.specs.Touched.{prio_parts};
-ghost use Rattle.sd_msleep.specs.Touched.{woken_parts};
-ghost use Rattle.sd_setop.specs.Touched.{bind_parts, rebound_parts};
+ghost use Rattle.sd_chain_walk.specs.Passed.{willed_parts};
+ghost use Rattle.sd_dispatcher.specs.Touched.{leaving_parts, put_parts_if, reordered_parts};
+ghost use Rattle.sd_locks.specs.Released.{exited_parts, handed_parts};
+ghost use Rattle.sd_priocntl.specs.Touched.{prio_parts};
+ghost use Rattle.sd_sleep.specs.Touched.{woken_parts};
+ghost use Rattle.sd_sets.specs.Touched.{bind_parts, rebound_parts};
 ghost use Rattle.sd_step.specs.Touched.{after_parts};
 ghost use Rattle.sd_cpu.specs.Has.{Has, HasIn, ShowsOne, running_cpu};
 
+use sd_dispatcher::bound_of;
 use sd_hand::Acting;
-use sd_mdisp::bound_of;
 use sd_store::{Look, Part, Spot, set_of};
 use sd_types::{
     BindAnswer, ChanId, CpuId, Event, HomeId, LockId, PrioAnswer, Put, SetId, ThreadId, Work,

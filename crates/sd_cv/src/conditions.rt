@@ -8,13 +8,13 @@ ghost use Rattle.sd_machine.specs.Needs.{CanAct, IsChan, IsLock};
 ghost use Rattle.sd_store.specs.Parts.{actor_part, chain_part, cpu_part, sleepers_part, thread_part};
 ghost use Rattle.sd_store.specs.Words.{DoesBy, LacksBy};
 
-use sd_mlock::released;
-use sd_msleep::fallen_asleep;
+use sd_locks::released;
+use sd_sleep::fallen_asleep;
 use sd_store::Store;
 use sd_types::{ChanId, CpuId, LockId, ThreadId, Work};
 
 /// By entry `number` thread `t`, which runs on processor `c`, gives up mutex `l` and falls asleep on channel `k`.
-#[tactic(auto, using(sd_mlock::proofs::GivenUp::released_length, sd_mlock::proofs::GivenUp::released_place, sd_mlock::proofs::GivenUp::released_counts, sd_mlock::proofs::GivenUp::released_inside), unfolding(sd_machine::specs::Conditions::cv_waited))]
+#[tactic(auto, using(sd_locks::proofs::GivenUp::released_length, sd_locks::proofs::GivenUp::released_place, sd_locks::proofs::GivenUp::released_counts, sd_locks::proofs::GivenUp::released_inside), unfolding(sd_machine::specs::Conditions::cv_waited))]
 pub fn cv_waited<S: Store>(
     work: &Work,
     x: &mut S,

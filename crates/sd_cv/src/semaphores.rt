@@ -1,5 +1,5 @@
 //! Semaphores: a thread takes one from the count, or sleeps where it is 0; one that gives hands it to the best sleeper, and
-//! counts up where nobody sleeps. To sleep there is to sleep on the channel (`sd_msleep`'s `fallen_asleep`).
+//! counts up where nobody sleeps. To sleep there is to sleep on the channel (`sd_sleep`'s `fallen_asleep`).
 //!
 //! Source: Solaris Internals (sema_p, sema_v); that a semaphore is handed over directly is this project's own.
 
@@ -9,9 +9,9 @@ ghost use Rattle.sd_machine.specs.Needs.{CanCount, CanFinish, IsChan};
 ghost use Rattle.sd_store.specs.Parts.{found_parts, number, put_parts, sleepers_part, thread_part};
 ghost use Rattle.sd_store.specs.Words.{Does, DoesBy, Lacks, LacksBy, LacksIf, Tells, TellsIf};
 
+use sd_dispatcher::woken_priority;
 use sd_machine::{Placement, Plan};
-use sd_mdisp::woken_priority;
-use sd_msleep::woke;
+use sd_sleep::woke;
 use sd_store::{Look, Sets, Store, finish_op};
 use sd_types::{ChanId, Event, Put, ThreadId, Work};
 

@@ -12,7 +12,7 @@ use crate::events::event_of;
 use crate::fitting::{entry_fits, may_read};
 use crate::words::{byte_in, cpu_in, is_word, number_in, word_at};
 use arrayvec::ArrayVec;
-use sd_event::write_entry;
+use sd_entry_writer::write_entry;
 use sd_types::{BindAnswer, Entry, Event, Hints, PrioAnswer, Put, ThreadId, Which, Work};
 use std::alloc::{AllocError, Global};
 

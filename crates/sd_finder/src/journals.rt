@@ -8,7 +8,7 @@ ghost use Rattle.sd_state.specs.Opening.{opening};
 ghost use Rattle.sd_state.specs.Texts.{accounts_text};
 
 use sd_accounts::Accounts;
-use sd_event::write_entry;
+use sd_entry_writer::write_entry;
 use sd_state::State;
 use sd_steps::replay;
 use sd_types::{Entry, Work};

@@ -19,8 +19,8 @@ use Rattle.sd_machine.specs.SetChanges.{bind_put, bind_to, bound_put, is_closing
 use Rattle.sd_machine.specs.Threads.{eff_of, has_ended, set_of}
 use Rattle.sd_shown.specs.Standing.{home_of, home_of_place}
 use Rattle.sd_footprint.proofs.Covers.{Cover}
-use Rattle.sd_mdisp.specs.Touched.{put_parts_if}
-use Rattle.sd_setop.specs.Touched.{bind_parts, runs_parts}
+use Rattle.sd_dispatcher.specs.Touched.{put_parts_if}
+use Rattle.sd_sets.specs.Touched.{bind_parts, runs_parts}
 use Rattle.sd_store.specs.Parts.{bound_parts, cpu_part, thread_part}
 
 -- the processor to which a thread is bound

@@ -25,7 +25,7 @@ use Rattle.sd_machine.specs.Requeueing.{requeue_plan}
 use Rattle.sd_machine.specs.Threads.{set_of}
 use Rattle.sd_shown.specs.Standing.{home_of, home_of_place}
 use Rattle.sd_footprint.specs.Homes.{IsOneOf, LiesIn}
-use Rattle.sd_mdisp.specs.Touched.{put_parts_if, reordered_parts}
+use Rattle.sd_dispatcher.specs.Touched.{put_parts_if, reordered_parts}
 use Rattle.sd_step.specs.Needed.{choice_parts, read_parts}
 use Rattle.sd_step.specs.Touched.{after_parts}
 use Rattle.sd_store.specs.declared.parts.Part.{Part}

@@ -48,10 +48,10 @@ use Rattle.sd_machine.specs.SetChanges.{assigned, called_back, cleared, joined, 
 use Rattle.sd_machine.specs.Sleeping.{fallen_asleep, napped, roused, roused_on, woke, woke_all, woken}
 use Rattle.sd_machine.specs.Threads.{best_sleeper, best_waiter, eff_of, greatest_waiting, has_waiters, lock_of, set_of}
 use Rattle.sd_machine.specs.Walking.{walk_ended, walked, willed}
-use Rattle.sd_mdisp.specs.Touched.{put_parts_if, reordered_parts}
-use Rattle.sd_mprio.specs.Touched.{prio_parts}
-use Rattle.sd_msleep.specs.Touched.{woken_parts}
-use Rattle.sd_setop.specs.Touched.{bind_parts, rebound_parts, runs_parts}
+use Rattle.sd_dispatcher.specs.Touched.{put_parts_if, reordered_parts}
+use Rattle.sd_priocntl.specs.Touched.{prio_parts}
+use Rattle.sd_sleep.specs.Touched.{woken_parts}
+use Rattle.sd_sets.specs.Touched.{bind_parts, rebound_parts, runs_parts}
 use Rattle.sd_step.specs.Touched.{after_parts, touched}
 use Rattle.sd_step.proofs.Dropped.{touched_dropped}
 use Rattle.sd_store.specs.declared.parts.Part.{Part}

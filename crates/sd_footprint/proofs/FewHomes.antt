@@ -48,7 +48,7 @@ use Rattle.sd_footprint.specs.Homes.{IsOneOf, NeedsFour, TakesFour}
 use Rattle.sd_step.specs.Needed.{choice_parts, cpu_parts, later_parts, needed, next_parts, op_parts, plan_parts, read_parts, reads_parts, run_parts, turn_parts}
 use Rattle.sd_step.specs.Tasks.{task_parts}
 use Rattle.sd_step.specs.Touched.{after_parts}
-use Rattle.sd_mlock.specs.Released.{handed_parts}
+use Rattle.sd_locks.specs.Released.{handed_parts}
 use Rattle.sd_frames.proofs.CauseLemmas.{Serves}
 use Rattle.sd_footprint.proofs.Bindings.{bind_cover, bound_home, unbind_cover}
 use Rattle.sd_footprint.proofs.Covers.{Cover, Turn, cover_behind, cover_each, cover_join, cover_more, cover_read, made, own_home, placing, put_cover, reordered_cover, requeueing}

@@ -22,11 +22,11 @@ use Rattle.sd_machine.specs.Runs.{IsReached}
 use Rattle.sd_footprint.specs.There.{PartsAreThere}
 use Rattle.sd_footprint.proofs.LooksThere.{needed_there, next_there, reads_there}
 use Rattle.sd_footprint.proofs.ThereLemmas.{AllThere, IsKnown, chain_there, cpu_inside, known_reached, ready_there, sleepers_there, there_each, there_join, thread_set}
-use Rattle.sd_mdisp.specs.Touched.{leaving_parts, put_parts_if, reordered_parts}
-use Rattle.sd_mprio.specs.Touched.{prio_parts}
-use Rattle.sd_msleep.specs.Touched.{woken_parts}
+use Rattle.sd_dispatcher.specs.Touched.{leaving_parts, put_parts_if, reordered_parts}
+use Rattle.sd_priocntl.specs.Touched.{prio_parts}
+use Rattle.sd_sleep.specs.Touched.{woken_parts}
 use Rattle.sd_range.proofs.Range.{needs_reached}
-use Rattle.sd_setop.specs.Touched.{bind_parts, rebound_parts, runs_parts}
+use Rattle.sd_sets.specs.Touched.{bind_parts, rebound_parts, runs_parts}
 use Rattle.sd_step.specs.Needed.{needed, next_parts, reads_parts}
 use Rattle.sd_step.specs.Touched.{after_parts, touched}
 use Rattle.sd_store.specs.Parts.{bound_parts, put_parts}

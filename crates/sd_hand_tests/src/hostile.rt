@@ -6,7 +6,7 @@ ghost use Rattle.sd_hostile.specs.Plan.{ArePossible};
 ghost use Rattle.sd_hand_tests.specs.Ready.{IsReady};
 
 use sd_cpu::{Attempted, Gate, OpenGate, Turned, attempt};
-use sd_event::write_entry;
+use sd_entry_writer::write_entry;
 use sd_hand::Hand;
 use sd_hostile::{HostileWorld, Trouble, What};
 use sd_shown::ListId;

@@ -2,10 +2,10 @@
 
 use arrayvec::ArrayVec;
 use sd_boxed::Boxed;
+use sd_dispatcher::{dispatched, done};
 use sd_four::Four;
 use sd_hand::{Acting, Actor, Hand};
 use sd_homes::{ChainHome, CpuHome, Home, RealTimeHome, SleepersHome, Traveller};
-use sd_mdisp::{dispatched, done};
 use sd_record::Record;
 use sd_shown::ListId;
 use sd_state::LockState;

@@ -7,8 +7,8 @@ ghost use Rattle.sd_hostile.specs.Hostile.{IsHostile, hint_in};
 use crate::hostile::HostileWorld;
 use crate::plan::What;
 use arrayvec::ArrayVec;
+use sd_dispatcher::Reading;
 use sd_hand::Acting;
-use sd_mdisp::Reading;
 use sd_types::{CpuId, Event, Hints, HomeId, Stop, ThreadId, Which, Work};
 use sd_world::{Behind, MOST_ENTRIES, Take, ThreadLock, World, reserve_entry};
 

@@ -2,7 +2,7 @@
 
 use crate::given::named;
 use arrayvec::ArrayVec;
-use sd_event::write_entry;
+use sd_entry_writer::write_entry;
 use sd_types::{
     AssignAnswer, BindAnswer, ChanId, CpuId, Denied, End, Entry, Event, Hints, LockId, PrioAnswer,
     Put, SetId, ThreadId, Which, Work,

@@ -2,7 +2,7 @@
 
 use crate::given::named;
 use sd_entry_reader::{Names, read_entry};
-use sd_event::write_entry;
+use sd_entry_writer::write_entry;
 use std::test::Fail;
 
 fn line_of_an_entry(i: u8) -> &'static str {

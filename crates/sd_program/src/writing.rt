@@ -12,7 +12,7 @@ ghost use Rattle.sd_answers.specs.StreamChanges.{Puts};
 use crate::forms::Form;
 use sd_accounts::Accounts;
 use sd_answers::{Unwritten, put_line, put_text};
-use sd_event::EntryLine;
+use sd_entry_writer::EntryLine;
 use sd_state::State;
 use sd_text::Sink;
 use sd_types::{Entry, Work};

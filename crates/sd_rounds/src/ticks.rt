@@ -11,8 +11,8 @@ ghost use Rattle.sd_world.specs.Plain.{Stands, told};
 ghost use Rattle.sd_rounds.specs.Floors.{IsFloor};
 ghost use Rattle.sd_rounds.specs.Turns.{ActsAlone};
 
+use sd_dispatcher::ticked;
 use sd_hand::{Acting, Actor};
-use sd_mdisp::ticked;
 use sd_store::Store;
 use sd_types::{Entry, Event, Hints, Stop, ThreadId, Work};
 use sd_world::{MOST_ENTRIES, PlainWorld, reserve_entry};

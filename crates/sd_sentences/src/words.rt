@@ -5,7 +5,7 @@ ghost use Rattle.std.specs.Prelude.{◌≡◌, ◌++◌, [], OnOk, codes};
 ghost use Rattle.sd_machine.specs.Texts.{set_name};
 ghost use Rattle.sd_sentences.specs.Words.{chan_then, change_words, cpu_then, lock_then, number_then, place_words, requeued_words, runnable_words, set_words, thread_then};
 
-use sd_event::{put_chan_name, put_lock_name, put_set_name, put_thread_name};
+use sd_entry_writer::{put_chan_name, put_lock_name, put_set_name, put_thread_name};
 use sd_text::put_number;
 use sd_types::{ChanId, CpuId, LockId, Put, SetId, ThreadId, Work};
 use std::alloc::AllocError;

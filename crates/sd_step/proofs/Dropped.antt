@@ -28,9 +28,9 @@ use Rattle.sd_machine.specs.Events.{drop_ageing, dropped_duty, keeps_ageing}
 use Rattle.sd_machine.specs.Needs.{CanAct, CanBeBound, CanBeChanged, CanBind, CanUnbind, IsBindPut, IsPrioPut, IsPutIf, IsWoken, Needs, RunsThere}
 use Rattle.sd_machine.specs.Sleeping.{nap_ticks}
 use Rattle.sd_machine.specs.Threads.{runner}
-use Rattle.sd_mdisp.specs.Touched.{reordered_parts}
-use Rattle.sd_mdisp.proofs.Kept.{kept_set}
-use Rattle.sd_mdisp.proofs.RunningLemmas.{same_ready}
+use Rattle.sd_dispatcher.specs.Touched.{reordered_parts}
+use Rattle.sd_dispatcher.proofs.Kept.{kept_set}
+use Rattle.sd_dispatcher.proofs.RunningLemmas.{same_ready}
 use Rattle.sd_step.specs.Tasks.{task_dropped}
 use Rattle.sd_step.specs.Touched.{touched}
 use Rattle.sd_store.specs.declared.parts.Part.{Part}

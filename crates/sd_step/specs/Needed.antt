@@ -15,7 +15,7 @@ use Rattle.sd_machine.specs.Choosing.{victim_for}
 use Rattle.sd_machine.specs.Events.{placed_thread}
 use Rattle.sd_machine.specs.Plans.{ageing_plan, duty_plan, first_of, nap_plan, plan}
 use Rattle.sd_machine.specs.Threads.{lock_of, runner, set_of, thread_id}
-use Rattle.sd_mdisp.specs.Touched.{victim_parts}
+use Rattle.sd_dispatcher.specs.Touched.{victim_parts}
 use Rattle.sd_step.specs.Tasks.{task_parts}
 use Rattle.sd_store.specs.declared.parts.Part.{Part}
 use Rattle.sd_store.specs.Keyless.{task_of}

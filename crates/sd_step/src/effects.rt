@@ -7,15 +7,15 @@ ghost use Rattle.sd_step.specs.Touched.{after_parts, touched};
 ghost use Rattle.sd_store.specs.Parts.{actor_part};
 ghost use Rattle.sd_store.specs.Words.{Does, DoesBy, Lacks, LacksBy};
 
+use sd_chain_walk::{walk_ended, willed};
 use sd_cv::{cv_waited, sema_counted, sema_handed, sema_taken};
-use sd_mchain::{walk_ended, willed};
-use sd_mdisp::{
+use sd_dispatcher::{
     dispatched, done, idled, preempted, sent_away, spun, stolen, ticked, woken, yielded,
 };
-use sd_mlock::{blocked, exited, granted, owned, passed, read, unblocked};
-use sd_mprio::{aged, reprioritised};
-use sd_msleep::{fallen_asleep, napped, roused, woke, woke_all};
-use sd_setop::{assigned, joined, moved, pbound};
+use sd_locks::{blocked, exited, granted, owned, passed, read, unblocked};
+use sd_priocntl::{aged, reprioritised};
+use sd_sets::{assigned, joined, moved, pbound};
+use sd_sleep::{fallen_asleep, napped, roused, woke, woke_all};
 use sd_store::{Chore, Sets, Store, Task};
 use sd_types::{CpuId, Event, Work};
 

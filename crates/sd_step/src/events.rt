@@ -8,17 +8,17 @@ ghost use Rattle.sd_machine.specs.Dispatching.{search_event};
 ghost use Rattle.sd_machine.specs.Events.{allowed, event_of, hints_fit, next, placed_thread, plan_event, plan_reads, reads, wish};
 ghost use Rattle.sd_machine.specs.Needs.{CanCount};
 ghost use Rattle.sd_state.specs.declared.states.State.{State};
-ghost use Rattle.sd_mdisp.specs.Reading.{parts};
-ghost use Rattle.sd_mdisp.specs.Touched.{victim_parts};
+ghost use Rattle.sd_dispatcher.specs.Reading.{parts};
+ghost use Rattle.sd_dispatcher.specs.Touched.{victim_parts};
 ghost use Rattle.sd_step.specs.Needed.{choice_parts, needed, next_parts, read_parts, reads_parts, turn_parts};
 ghost use Rattle.sd_store.specs.Parts.{ready_parts};
 ghost use Rattle.sd_store.specs.Words.{Lacks, LacksIf, Tells, TellsIf};
 
 use crate::plans::plan;
-use sd_machine::{Placement, Plan};
-use sd_mdisp::{
+use sd_dispatcher::{
     Reading, hints_fit, put_chosen, reads_for, reads_to_steal, search_event, victim_for,
 };
+use sd_machine::{Placement, Plan};
 use sd_store::{Clock, Look};
 use sd_types::{CpuId, Event, Hints, PrioAnswer, Put, ThreadId, Work};
 

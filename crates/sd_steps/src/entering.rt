@@ -10,9 +10,9 @@ ghost use Rattle.sd_steps.specs.Entering.{can_enter, can_steal, plan_enters};
 
 use crate::serial::plan_of;
 use arrayvec::ArrayVec;
+use sd_dispatcher::neighbours;
 use sd_flat::{may_tick, numbers_shown};
 use sd_machine::Plan;
-use sd_mdisp::neighbours;
 use sd_state::State;
 use sd_types::{CpuId, Which, Work};
 

@@ -6,12 +6,12 @@ ghost use Rattle.sd_state.specs.States.{thread_of};
 ghost use Rattle.sd_machine.specs.Events.{allowed, hints_fit, next, plan_event, plan_reads};
 ghost use Rattle.sd_machine.specs.Plans.{plan};
 ghost use Rattle.sd_machine.specs.Runs.{serial_hints, shown};
-ghost use Rattle.sd_mdisp.specs.Reading.{parts};
+ghost use Rattle.sd_dispatcher.specs.Reading.{parts};
 ghost use Rattle.sd_invariants.specs.Laws.{IsFit};
 
+use sd_dispatcher::Reading;
 use sd_flat::numbers_shown;
 use sd_machine::Plan;
-use sd_mdisp::Reading;
 use sd_state::State;
 use sd_step::{plan, plan_next, plan_reads};
 use sd_types::{CpuId, Event, Hints, Work};

@@ -7,7 +7,7 @@ ghost use Rattle.sd_story.specs.Selections.{tick_of};
 ghost use Rattle.sd_story.specs.Story.{cell, line_blanks, row, row_if, tick_blanks};
 
 use crate::selections::{Selection, is_told, tick_of};
-use sd_event::write_entry;
+use sd_entry_writer::write_entry;
 use sd_sentences::put_sentence;
 use sd_state::State;
 use sd_text::put_number;

@@ -7,8 +7,8 @@ ghost use Rattle.sd_table.specs.Whole.{IsSeatOf};
 
 use crate::tables::{close_two, open_two, work_from};
 use sd_cpu::{Attempted, OpenGate, Turned, attempt};
+use sd_dispatcher::Reading;
 use sd_hand::Acting;
-use sd_mdisp::Reading;
 use sd_steps::replay;
 use sd_table::{Seat, Shared};
 use sd_tlock::TableWorld;

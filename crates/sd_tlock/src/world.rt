@@ -10,8 +10,8 @@ ghost use Rattle.sd_tlock.specs.Tables.{Compares, IsTable, ReadsCount, the_work,
 
 use crate::threads::try_lock_thread;
 use arrayvec::ArrayVec;
+use sd_dispatcher::Reading;
 use sd_hand::Acting;
-use sd_mdisp::Reading;
 use sd_table::{Seat, Shared};
 use sd_types::{CpuId, Event, Hints, HomeId, Stop, ThreadId, Which, Work};
 use sd_world::{Behind, Take, ThreadLock, World};

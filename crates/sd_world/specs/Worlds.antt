@@ -18,7 +18,7 @@ use Rattle.sd_state.specs.States.{cpu_of}
 use Rattle.sd_machine.specs.Choosing.{hint_shown}
 use Rattle.sd_machine.specs.Events.{next, reads}
 use Rattle.sd_machine.specs.Runs.{IsRun, final}
-use Rattle.sd_mdisp.specs.declared.reading.Reading.{Reading}
+use Rattle.sd_dispatcher.specs.declared.reading.Reading.{Reading}
 use Rattle.sd_store.specs.declared.parts.Part.{Part}
 use Rattle.sd_store.specs.declared.parts.Part.TheVariants as part
 use Rattle.sd_store.specs.Parts.{IsAmong}

@@ -8,8 +8,8 @@ ghost use Rattle.sd_hand.specs.Acting.{IsShown, has_part};
 ghost use Rattle.sd_store.specs.Parts.{cpu_part, number, thread_part};
 ghost use Rattle.sd_world.specs.Plain.{StandsInRun, thread_shown};
 
+use sd_dispatcher::priority_of;
 use sd_hand::Acting;
-use sd_mdisp::priority_of;
 use sd_store::Look;
 use sd_types::{CpuId, ThreadId, Which};
 

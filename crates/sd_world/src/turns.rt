@@ -13,8 +13,8 @@ use crate::hints::shown_hint;
 use crate::plain::PlainWorld;
 use crate::world::{Behind, Take, ThreadLock, World};
 use arrayvec::ArrayVec;
+use sd_dispatcher::Reading;
 use sd_hand::{Acting, Actor};
-use sd_mdisp::Reading;
 use sd_types::{CpuId, Event, Hints, HomeId, Stop, ThreadId, Which, Work};
 
 /// The first processor that has counted less.

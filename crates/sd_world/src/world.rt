@@ -4,8 +4,8 @@ ghost use Rattle.std.specs.Prelude.{◌≡◌};
 ghost use Rattle.sd_world.specs.Plain.{AreCpus};
 ghost use Rattle.sd_world.specs.Worlds.{CanCommit, CanLock, CanTake, Commits, Finds, Gives, HasReserved, IsGood, Locks, Meaning, ReadsCounts, ReadsHints, Reserves, Takes};
 
+use sd_dispatcher::Reading;
 use sd_hand::Acting;
-use sd_mdisp::Reading;
 use sd_types::{CpuId, Event, Hints, HomeId, Stop, ThreadId, Work};
 
 /// Whether a home was taken, or who holds it.

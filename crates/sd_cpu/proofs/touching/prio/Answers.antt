@@ -1,6 +1,6 @@
 use Rattle.std.proofs.Common.{sym, subst}
 use Rattle.sd_store.specs.Parts.{actor_part, thread_part}
-use Rattle.sd_mprio.specs.Touched.{prio_parts}
+use Rattle.sd_priocntl.specs.Touched.{prio_parts}
 use Rattle.sd_cpu.specs.Has.{Has}
 use Rattle.sd_cpu.proofs.HasLemmas.{also, own}
 use Rattle.sd_cpu.proofs.touching.prio.Goals as goal

@@ -24,5 +24,5 @@ returns-clause-takes c =
     (λ first es ends had. (
       had.0,
       one_row w first.selection.now s es e first.told.items told _ ends had.1
-      (c.in_ok-put_row_if.ensures ∙ ap (λ (sel : Selection). told ++ row_if w sel s e) had.0),
+          (c.in_ok-put_row_if.ensures ∙ ap (λ (sel : Selection). told ++ row_if w sel s e) had.0),
     ))

@@ -1,0 +1,68 @@
+-- Where a thread runs for a tick, or leaves its processor: the parts that are ready, who runs, and the queue to which the
+-- thread goes.
+use Rattle.std.proofs.Common.{◌≡◌, ℕ, Bool, false, [], ◌∷◌, refl, sym, ap, ◌∙◌}
+use Rattle.std.specs.Prelude.{Option, Result, Ok, Err, IfOk, IfErr}
+use Rattle.sd_types.specs.declared.numbers.CpuId.{CpuId}
+use Rattle.sd_types.specs.declared.numbers.SetId.{SetId}
+use Rattle.sd_types.specs.declared.numbers.ThreadId.{ThreadId}
+use Rattle.sd_types.specs.declared.classes.ClassState.{ClassState}
+use Rattle.sd_types.specs.declared.events.End.{End}
+use Rattle.sd_types.specs.declared.works.Work.{Work}
+use Rattle.sd_state.specs.declared.states.Place.TheVariants.{Running}
+use Rattle.sd_state.specs.declared.states.State.{State}
+use Rattle.sd_state.specs.States.{thread_of, cpu_of}
+use Rattle.sd_rules.specs.ClassRules.{class_requeue}
+use Rattle.sd_machine.specs.Changes.{clear_marks, count_tick, counted, key_at, leave, run_tick, set_class}
+use Rattle.sd_machine.specs.Dispatching.{preempted}
+use Rattle.sd_machine.specs.Needs.{CanFinish, IsFree}
+use Rattle.sd_machine.specs.Threads.{eff_of, runner}
+use Rattle.sd_dispatcher.specs.Touched.{queue_for}
+use Rattle.sd_dispatcher.proofs.Kept.{class_place, kept_set}
+use Rattle.sd_store.specs.declared.parts.Part.{Part}
+use Rattle.sd_store.specs.Parts.{cpu_part, ready_parts, real_time_part}
+
+pub same_ready : (s r : State) (c : CpuId) → (cpu_of r c.0).set ≡ (cpu_of s c.0).set → ready_parts r c ≡ ready_parts s c
+same_ready s r c e = ap (λ (p : SetId). cpu_part c ∷ (real_time_part p ∷ [])) e
+
+pub ready_counted : (w : Work) (s : State) (c d : CpuId) → ready_parts (count_tick w s c.0) d ≡ ready_parts s d
+unfolding count_tick
+ready_counted w s c d = same_ready s (count_tick w s c.0) d (kept_set s c.0 d.0 (counted w (cpu_of s c.0)) refl)
+
+pub counted_finish : (w : Work) (s : State) (c : ℕ) (t : ThreadId) → CanFinish w s t → CanFinish w (count_tick w s c) t
+unfolding count_tick
+counted_finish w s c t here = here
+
+pub ready_ran : (w : Work) (s : State) (t : ℕ) (d : CpuId) → ready_parts (run_tick w s t) d ≡ ready_parts s d
+unfolding run_tick
+ready_ran w s t d = refl
+
+pub ready_classed : (s : State) (t : ℕ) (class : ClassState) (d : CpuId) → ready_parts (set_class s t class) d ≡ ready_parts s d
+unfolding set_class
+ready_classed s t class d = refl
+
+pub runs_classed : (s : State) (t : ThreadId) (class : ClassState) (c : CpuId) → (thread_of s t.0).place ≡ Running c → (thread_of (set_class s t.0 class) t.0).place ≡ Running c
+runs_classed s t class c runs = class_place s t.0 t.0 class ∙ runs
+
+-- a processor without marks runs what it ran
+pub free_unmarked : (s : State) (c d : CpuId) → IsFree s d → IsFree (clear_marks s c.0) d
+unfolding runner clear_marks
+free_unmarked s c d free = free
+
+-- of what was done, something else
+pub did : {A L : Type 0} (r : Result A L) (P Q : Type 0) → (P → Q) → IfOk r (λ _. P) → IfOk r (λ _. Q)
+did (Ok a) P Q f is = f is
+did (Err q) P Q f is = tt
+
+-- what was lacking afterwards was lacking before, of a store that has the same parts
+pub missed : {A L : Type 0} (r : Result A L) (part : L → Part) (before after : Part → Bool) (P Q : L → Type 0) → after ≡ before → ((q : L) → P q → Q q)
+    → IfErr r (λ q. P q × (after (part q) ≡ false)) → IfErr r (λ q. Q q × (before (part q) ≡ false))
+missed (Ok a) part before after P Q e f lack = tt
+missed (Err q) part before after P Q e f lack = (f q lack.0, sym (ap (λ (has : Part → Bool). has (part q)) e) ∙ lack.1)
+
+-- a thread that leaves for its queue by its priority and its binding
+pub left_preempted : (w : Work) (s : State) (n : ℕ) (c : CpuId) (t : ℕ) (end : End) (p : ℕ) (bound : Option CpuId) → p ≡ eff_of s t → bound ≡ (thread_of s t).body.bound
+    → leave (set_class s t (class_requeue (thread_of s t).body.back (thread_of s t).body.class)) c.0 t (queue_for w t c (key_at n end) p bound) ≡ preempted w s n c t end
+unfolding preempted
+left_preempted w s n c t end p bound e f =
+    let r = set_class s t (class_requeue (thread_of s t).body.back (thread_of s t).body.class) in
+    ap (λ (q : ℕ). leave r c.0 t (queue_for w t c (key_at n end) q bound)) e ∙ ap (λ (b : Option CpuId). leave r c.0 t (queue_for w t c (key_at n end) (eff_of s t) b)) f

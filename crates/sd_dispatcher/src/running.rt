@@ -1,0 +1,238 @@
+//! Threads that run on a processor and leave it: tick, spin, idle, dispatch, steal, preempt, away, yield, done.
+//!
+//! Source: Solaris Internals (clock_tick, disp, preempt, yield), ts_dptbl(4).
+
+ghost use Rattle.std.specs.Prelude.{◌≡◌, ◌<◌, ◌^◌, [], ◌∷◌, ⊤, option_copied, unwrap_or};
+ghost use Rattle.sd_machine.specs.Changes.{key_at, leave, set_class};
+ghost use Rattle.sd_rules.specs.ClassRules.{class_requeue};
+ghost use Rattle.sd_machine.specs.Threads.{set_of};
+ghost use Rattle.sd_machine.specs.Dispatching.{charge, class_counts, dispatched, done, idled, preempted, sent_away, spun, stolen, ticked, yielded};
+ghost use Rattle.sd_machine.specs.Needs.{CanFinish, CanTick, IsFree, RunsOn};
+ghost use Rattle.sd_state.specs.States.{no_body, thread_of};
+ghost use Rattle.sd_dispatcher.specs.Touched.{leaving_parts, queue_for};
+ghost use Rattle.sd_store.specs.Parts.{actor_part, cpu_part, ready_parts, real_time_part, thread_part};
+ghost use Rattle.sd_store.specs.Words.{Does, DoesBy, Lacks, LacksBy, LacksIf, Tells};
+
+use crate::bodies::{bound_of, class_of, eff_of};
+use crate::classes::{class_expires, class_requeue, ticked_class};
+use crate::marks::mark_over;
+use sd_store::{Destination, Look, Store, finish_op, run_tick, send_back, set_class, set_of};
+use sd_types::{CpuId, End, REAL_TIME_PRIORITY, ThreadBody, ThreadId, Work};
+
+/// Where the quantum has expired and something that is ready has at least the priority of thread `t`, the thread is to
+/// go to the back, and processor `c` is marked.
+#[tactic(auto, unfolding(sd_machine::specs::Dispatching::charge))]
+fn charge<S: Store>(
+    work: &Work,
+    x: &mut S,
+    c: CpuId,
+    t: ThreadId,
+    expired: bool,
+) -> Result<(), S::Lack>
+    ensures value { Does (S.shows x.old) (S.shows x.new) result (λ s. ⊤) (λ s. charge s c.0 t.0 expired) }
+    ensures lack { Lacks S.part (S.shows x.old) (S.has x.old) result (λ s. thread_part t ∷ ready_parts s c) }
+    ensures has { S.has x.new ≡ S.has x.old }
+{
+    if expired {
+        if let Some(best) = x.best_ready(c)? {
+            let m = eff_of(x, best)?;
+            if eff_of(x, t)? <= m {
+                send_back(x, work, t)?;
+                x.set_mark(c, m)?;
+            }
+        }
+    }
+    Ok(())
+}
+
+/// The class of thread `t` counts a tick.
+#[tactic(auto, using(crate::proofs::RunningLemmas::ready_classed))]
+#[inline(always)]
+fn class_counts<S: Store>(work: &Work, x: &mut S, c: CpuId, t: ThreadId) -> Result<(), S::Lack>
+    ensures value { Does (S.shows x.old) (S.shows x.new) result (λ s. ⊤) (λ s. class_counts work.now s c.0 t.0) }
+    ensures lack { Lacks S.part (S.shows x.old) (S.has x.old) result (λ s. thread_part t ∷ ready_parts s c) }
+    ensures has { S.has x.new ≡ S.has x.old }
+{
+    let class = class_of(x, t)?;
+    set_class(x, work, t, ticked_class(work, class))?;
+    charge(work, x, c, t, class_expires(&class))
+}
+
+/// Thread `t` runs for a tick on processor `c`.
+#[tactic(auto, using(crate::proofs::RunningLemmas::counted_finish, crate::proofs::RunningLemmas::ready_counted, crate::proofs::RunningLemmas::ready_ran), unfolding(sd_machine::specs::Dispatching::ticked))]
+#[inline(always)]
+pub fn ticked<S: Store>(work: &Work, x: &mut S, c: CpuId, t: ThreadId) -> Result<(), S::Lack>
+    ensures value { Does (S.shows x.old) (S.shows x.new) result (λ s. CanTick work.now s c × CanFinish work.now s t) (λ s. ticked work.now s c.0 t.0) }
+    ensures lack { LacksIf S.part (S.shows x.old) (S.has x.old) result (λ s. CanTick work.now s c × CanFinish work.now s t) (λ s. actor_part c ∷ thread_part t ∷ ready_parts s c) }
+    ensures has { S.has x.new ≡ S.has x.old }
+{
+    x.count_tick(work, c)?;
+    run_tick(x, work, t)?;
+    class_counts(work, x, c, t)
+}
+
+/// Thread `t` spins for a tick on processor `c`.
+#[tactic(auto, using(crate::proofs::RunningLemmas::ready_counted), unfolding(sd_machine::specs::Dispatching::spun))]
+pub fn spun<S: Store>(work: &Work, x: &mut S, c: CpuId, t: ThreadId) -> Result<(), S::Lack>
+    ensures value { Does (S.shows x.old) (S.shows x.new) result (λ s. CanTick work.now s c) (λ s. spun work.now s c.0 t.0) }
+    ensures lack { LacksIf S.part (S.shows x.old) (S.has x.old) result (λ s. CanTick work.now s c) (λ s. actor_part c ∷ thread_part t ∷ ready_parts s c) }
+    ensures has { S.has x.new ≡ S.has x.old }
+{
+    x.count_tick(work, c)?;
+    class_counts(work, x, c, t)
+}
+
+/// Processor `c` is idle for a tick.
+#[tactic(auto, unfolding(sd_machine::specs::Dispatching::idled))]
+pub fn idled<S: Store>(work: &Work, x: &mut S, c: CpuId) -> Result<(), S::Lack>
+    ensures value { Does (S.shows x.old) (S.shows x.new) result (λ s. CanTick work.now s c) (λ s. idled work.now s c.0) }
+    ensures lack { Lacks S.part (S.shows x.old) (S.has x.old) result (λ s. actor_part c ∷ []) }
+    ensures has { S.has x.new ≡ S.has x.old }
+{
+    x.count_tick(work, c)
+}
+
+/// Processor `c` takes thread `t` from its queue, and runs it.
+#[tactic(auto, using(crate::proofs::RunningLemmas::free_unmarked), unfolding(sd_machine::specs::Dispatching::dispatched))]
+pub fn dispatched<S: Store>(x: &mut S, c: CpuId, t: ThreadId) -> Result<(), S::Lack>
+    ensures value { Does (S.shows x.old) (S.shows x.new) result (λ s. IsFree s c) (λ s. dispatched s c t.0) }
+    ensures lack { Lacks S.part (S.shows x.old) (S.has x.old) result (λ s. thread_part t ∷ cpu_part c ∷ []) }
+    ensures has { S.has x.new ≡ S.has x.old }
+{
+    x.clear_marks(c)?;
+    x.run_on(t, c)
+}
+
+/// Processor `c` runs thread `t`, which it took from the queue of another one.
+#[tactic(auto, unfolding(sd_machine::specs::Dispatching::stolen))]
+pub fn stolen<S: Store>(x: &mut S, c: CpuId, t: ThreadId) -> Result<(), S::Lack>
+    ensures value { Does (S.shows x.old) (S.shows x.new) result (λ s. IsFree s c) (λ s. stolen s c t.0) }
+    ensures lack { Lacks S.part (S.shows x.old) (S.has x.old) result (λ s. thread_part t ∷ cpu_part c ∷ []) }
+    ensures has { S.has x.new ≡ S.has x.old }
+{
+    x.run_on(t, c)
+}
+
+/// By entry `number` thread `t` of priority `p`, which runs on processor `c`, leaves it for an end of its queue: of the
+/// real-time queue of its partition from priority 100 on, unless it is bound, and else of that processor's own.
+fn left_for_queue<S: Store>(
+    work: &Work,
+    x: &mut S,
+    number: u64,
+    c: CpuId,
+    t: ThreadId,
+    end: End,
+    p: u8,
+    bound: Option<CpuId>,
+) -> Result<(), S::Lack>
+    requires { number < 2 ^ 62 }
+    ensures value { DoesBy number (S.shows x.old) (S.shows x.new) result (λ s. RunsOn s t c) (λ s. leave s c.0 t.0 (queue_for work.now t.0 c (key_at number end) p bound)) }
+    ensures lack { LacksBy number S.part (S.shows x.old) (S.has x.old) result (λ s. RunsOn s t c) (λ s. actor_part c ∷ cpu_part c ∷ real_time_part (set_of work.now t.0) ∷ []) }
+    ensures has { S.has x.new ≡ S.has x.old }
+{
+    if p >= REAL_TIME_PRIORITY && bound.is_none() {
+        x.leave(number, c, t, Destination::RealTime(set_of(work, t), end))
+    } else {
+        x.leave(number, c, t, Destination::Queue(c, end))
+    }
+}
+
+fn back(body: Option<&ThreadBody>) -> bool
+    ensures { result ≡ (unwrap_or (option_copied body.entry) no_body).back }
+{
+    match body {
+        Some(body) => body.back,
+        None => false,
+    }
+}
+
+/// The quantum of thread `t` has expired.
+fn back_of<L: Look>(x: &L, t: ThreadId) -> Result<bool, L::Lack>
+    ensures value { Tells (L.shows x.now) result (λ s. (thread_of s t.0).body.back) }
+    ensures lack { Lacks L.part (L.shows x.now) (L.has x.now) result (λ s. thread_part t ∷ []) }
+{
+    let body = x.body(t)?;
+    Ok(back(body))
+}
+
+/// The class of thread `t` is queued again, at the back where its quantum has expired.
+fn requeued_class<S: Store>(work: &Work, x: &mut S, t: ThreadId) -> Result<(), S::Lack>
+    ensures value { Does (S.shows x.old) (S.shows x.new) result (λ s. ⊤) (λ s. set_class s t.0 (class_requeue (thread_of s t.0).body.back (thread_of s t.0).body.class)) }
+    ensures lack { Lacks S.part (S.shows x.old) (S.has x.old) result (λ s. thread_part t ∷ []) }
+    ensures has { S.has x.new ≡ S.has x.old }
+{
+    let class = class_requeue(back_of(x, t)?, class_of(x, t)?);
+    set_class(x, work, t, class)
+}
+
+/// By entry `number` thread `t` leaves processor `c` for an end of the queue of its priority.
+#[tactic(auto, using(crate::proofs::RunningLemmas::runs_classed), unfolding(sd_machine::specs::Dispatching::preempted))]
+pub fn preempted<S: Store>(
+    work: &Work,
+    x: &mut S,
+    number: u64,
+    c: CpuId,
+    t: ThreadId,
+    end: End,
+) -> Result<(), S::Lack>
+    requires { number < 2 ^ 62 }
+    ensures value { DoesBy number (S.shows x.old) (S.shows x.new) result (λ s. RunsOn s t c) (λ s. preempted work.now s number c t.0 end) }
+    ensures lack { LacksBy number S.part (S.shows x.old) (S.has x.old) result (λ s. RunsOn s t c) (λ s. leaving_parts work.now t c) }
+    ensures has { S.has x.new ≡ S.has x.old }
+{
+    let p = eff_of(x, t)?;
+    let bound = bound_of(x, t)?;
+    requeued_class(work, x, t)?;
+    left_for_queue(work, x, number, c, t, end, p, bound)
+}
+
+/// By entry `number` thread `t` leaves processor `c` for the back of the queue of the processor to which it is bound.
+#[tactic(auto, unfolding(sd_machine::specs::Dispatching::sent_away))]
+pub fn sent_away<S: Store>(
+    x: &mut S,
+    number: u64,
+    c: CpuId,
+    t: ThreadId,
+    d: CpuId,
+) -> Result<(), S::Lack>
+    requires { number < 2 ^ 62 }
+    ensures value { DoesBy number (S.shows x.old) (S.shows x.new) result (λ s. RunsOn s t c) (λ s. sent_away s number c t.0 d) }
+    ensures lack { LacksBy number S.part (S.shows x.old) (S.has x.old) result (λ s. RunsOn s t c) (λ s. actor_part c ∷ thread_part t ∷ cpu_part c ∷ cpu_part d ∷ []) }
+    ensures has { S.has x.new ≡ S.has x.old }
+{
+    let m = eff_of(x, t)?;
+    x.leave(number, c, t, Destination::Queue(d, End::Back))?;
+    mark_over(x, d, m)
+}
+
+/// By entry `number` thread `t` leaves processor `c` for the back of the queue of its priority, its operation over. It is over before the thread
+/// leaves, since a running thread changes where it stands.
+#[tactic(auto, using(crate::proofs::Finished::runs_finished))]
+pub fn yielded<S: Store>(
+    work: &Work,
+    x: &mut S,
+    number: u64,
+    c: CpuId,
+    t: ThreadId,
+) -> Result<(), S::Lack>
+    requires { number < 2 ^ 62 }
+    ensures value { DoesBy number (S.shows x.old) (S.shows x.new) result (λ s. RunsOn s t c × CanFinish work.now s t) (λ s. yielded work.now s number c t.0) }
+    ensures lack { LacksBy number S.part (S.shows x.old) (S.has x.old) result (λ s. RunsOn s t c × CanFinish work.now s t) (λ s. leaving_parts work.now t c) }
+    ensures has { S.has x.new ≡ S.has x.old }
+{
+    let p = eff_of(x, t)?;
+    let bound = bound_of(x, t)?;
+    finish_op(x, work, t)?;
+    left_for_queue(work, x, number, c, t, End::Back, p, bound)
+}
+
+/// By entry `number` thread `t` has ended, and leaves processor `c`.
+#[tactic(auto, unfolding(sd_machine::specs::Dispatching::done))]
+pub fn done<S: Store>(x: &mut S, number: u64, c: CpuId, t: ThreadId) -> Result<(), S::Lack>
+    requires { number < 2 ^ 62 }
+    ensures value { DoesBy number (S.shows x.old) (S.shows x.new) result (λ s. RunsOn s t c) (λ s. done s c t.0) }
+    ensures lack { LacksBy number S.part (S.shows x.old) (S.has x.old) result (λ s. RunsOn s t c) (λ s. actor_part c ∷ cpu_part c ∷ []) }
+    ensures has { S.has x.new ≡ S.has x.old }
+{
+    x.leave(number, c, t, Destination::Nowhere)
+}

@@ -1,0 +1,74 @@
+//! Time-sharing threads that have waited on a dispatch queue for another second.
+//!
+//! Source: ts_dptbl(4) (ts_maxwait, ts_lwait), Solaris Internals (ts_update).
+
+ghost use Rattle.std.specs.Prelude.{◌≡◌, ◌+◌, ◌<◌, ◌^◌, [], ◌∷◌, ⊤, option_map};
+ghost use Rattle.sd_machine.specs.Prioritising.{age_plan, aged, lifted};
+ghost use Rattle.sd_store.specs.Parts.{actor_part, cpu_part, found_parts, number, thread_part};
+ghost use Rattle.sd_store.specs.Words.{DoesBy, Lacks, LacksBy, Tells};
+
+use sd_dispatcher::{aged_class, class_of, eff_as, eff_of, put};
+use sd_machine::Plan;
+use sd_store::{Chore, Look, Store, set_class};
+use sd_types::{CpuId, Event, Put, ThreadId, Work};
+
+/// The thread that is next to be aged, if there is one.
+pub fn age_plan<L: Look>(
+    work: &Work,
+    x: &L,
+    next: Option<ThreadId>,
+) -> Result<Option<Plan>, L::Lack>
+    ensures value { Tells (L.shows x.now) result (λ s. age_plan work.now s (option_map number next)) }
+    ensures lack { Lacks L.part (L.shows x.now) (L.has x.now) result (λ s. found_parts next) }
+{
+    match next {
+        None => Ok(None),
+        Some(t) => {
+            let p = eff_as(&aged_class(work, class_of(x, t)?), x, t)?;
+            Ok(Some(Plan::Make(Event::Age { t, p })))
+        }
+    }
+}
+
+/// By entry `number` thread `t`, where its priority is no longer `old`, goes to the back of the queue of processor `c`, on
+/// which it stands.
+fn lifted<S: Store>(
+    work: &Work,
+    x: &mut S,
+    number: u64,
+    c: CpuId,
+    t: ThreadId,
+    old: u8,
+) -> Result<(), S::Lack>
+    requires { number < 2 ^ 62 }
+    ensures value { DoesBy number (S.shows x.old) (S.shows x.new) result (λ s. ⊤) (λ s. lifted work.now s number c t.0 old) }
+    ensures lack { LacksBy number S.part (S.shows x.old) (S.has x.old) result (λ s. ⊤) (λ s. thread_part t ∷ cpu_part c ∷ []) }
+    ensures has { S.has x.new ≡ S.has x.old }
+{
+    if eff_of(x, t)? != old {
+        put(work, x, number, t, Put::Cpu(c))?;
+    }
+    Ok(())
+}
+
+/// By entry `number` thread `t`, which is on the queue of processor `c`, has waited for another second. The next one to be
+/// looked at has a greater number.
+#[tactic(auto, unfolding(sd_machine::specs::Prioritising::aged))]
+pub fn aged<S: Store>(
+    work: &Work,
+    x: &mut S,
+    number: u64,
+    c: CpuId,
+    t: ThreadId,
+) -> Result<(), S::Lack>
+    requires { number < 2 ^ 62 }
+    ensures value { DoesBy number (S.shows x.old) (S.shows x.new) result (λ s. t.0 + 1 < 2 ^ 16) (λ s. aged work.now s number c t.0) }
+    ensures lack { LacksBy number S.part (S.shows x.old) (S.has x.old) result (λ s. ⊤) (λ s. thread_part t ∷ cpu_part c ∷ actor_part c ∷ []) }
+    ensures has { S.has x.new ≡ S.has x.old }
+{
+    let old = eff_of(x, t)?;
+    let class = aged_class(work, class_of(x, t)?);
+    set_class(x, work, t, class)?;
+    lifted(work, x, number, c, t, old)?;
+    x.set_duty(c, Chore::Age(ThreadId(t.0.saturating_add(1))))
+}
