@@ -1,18 +1,15 @@
 //! The turn of a processor in a run on one thread of the host. Where nothing has to be read of others, and where a search finds nothing
 //! to steal, a processor that has all homes makes its entry at once; every other turn is an attempt, as where homes are shared.
 
-ghost use Rattle.std.specs.Prelude.{◌≡◌, ◌++◌, ◌<◌, ◌≤◌, ◌↔◌, ◌==◌, IfErr, IfSome, List, Option, length, map, vec_capacity, vec_len, true, [], IsErrOf, OnErr, OnOk};
+ghost use Rattle.std.specs.Prelude.{◌≡◌, ◌++◌, ◌<◌, ◌≤◌, ◌↔◌, ◌==◌, IfErr, IfSome, Option, length, map, true, IsErrOf, OnErr, OnOk};
 ghost use Rattle.std.specs.List.{list_all};
 ghost use Rattle.sd_types.specs.declared.events.Duty.TheVariants.{Nothing};
 ghost use Rattle.sd_types.specs.declared.events.Which.TheVariants.{Queued};
-ghost use Rattle.sd_types.specs.declared.numbers.CpuId.{CpuId as CpuIdOf};
-ghost use Rattle.sd_state.specs.declared.states.State.{State};
 ghost use Rattle.sd_machine.specs.declared.plans.Plan.TheVariants.{Make, Search};
-ghost use Rattle.sd_state.specs.States.{cpu_of};
-ghost use Rattle.sd_machine.specs.Choosing.{hint_shown, neighbours, read_of};
+ghost use Rattle.sd_machine.specs.Choosing.{hint_shown, neighbours};
 ghost use Rattle.sd_machine.specs.Events.{allowed, next};
 ghost use Rattle.sd_machine.specs.Plans.{plan as plan_of};
-ghost use Rattle.sd_machine.specs.Runs.{made, shown, turn};
+ghost use Rattle.sd_machine.specs.Runs.{made, turn};
 ghost use Rattle.sd_world.specs.Plain.{Stands, told};
 ghost use Rattle.sd_rounds.specs.Floors.{IsFloor};
 ghost use Rattle.sd_rounds.specs.Turns.{ActsAlone};
