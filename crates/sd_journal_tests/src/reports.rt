@@ -71,7 +71,7 @@ fn history(alloc: Global) -> Result<History, AllocError> {
     for i in 0..8 {
         let (event, count, place) = made(i);
         if history.entries < 99 {
-            history = history.with(
+            history.add(
                 alloc,
                 &at_tick(alloc, place, count)?,
                 &entry(u64::from(i), event),

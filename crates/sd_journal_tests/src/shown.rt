@@ -41,21 +41,21 @@ fn a_thread_runs_for_a_tick(rt: HostRuntime) -> Result<(), Fail> {
     let mut history = History::new(alloc, &at_tick(alloc, Place::Queued(CpuId(0), 0), 0)?)?;
     let running = Place::Running(CpuId(0));
     if history.entries < 9 {
-        history = history.with(
+        history.add(
             alloc,
             &at_tick(alloc, running, 0)?,
             &entry(0, Event::Dispatch { t, p: 60 }),
         )?;
     }
     if history.entries < 9 {
-        history = history.with(
+        history.add(
             alloc,
             &at_tick(alloc, running, 1)?,
             &entry(1, Event::Tick { t }),
         )?;
     }
     if history.entries < 9 {
-        history = history.with(
+        history.add(
             alloc,
             &at_tick(alloc, Place::Ended, 1)?,
             &entry(2, Event::Done { t }),
