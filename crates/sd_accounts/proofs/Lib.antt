@@ -1,2 +1,4 @@
 pub mod CounterLemmas
+pub mod LapSteps
+pub mod StateGraphs
 pub mod TextLemmas

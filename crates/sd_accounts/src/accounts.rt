@@ -31,6 +31,7 @@ impl Accounts {
     }
 
     /// Takes in the next entry, in the same time however many there were.
+    #[inline(always)]
     pub fn add(&mut self, entry: &Entry)
         ensures { (w : WorkValue) (es : Items EntryValue) → length es < 2 ^ 48
             → HasTaken w es self.old → HasTaken w (es ++ entry.now ∷ []) self.new }

@@ -1,15 +1,15 @@
 //! The lines of the blocking cycles of a state.
 
-ghost use Rattle.std.specs.Prelude.{◌≡◌, ◌++◌, OnOk, OnErr, codes, flat_map, map};
+ghost use Rattle.std.specs.Prelude.{◌≡◌, ◌++◌, OnOk, codes, flat_map, map};
 ghost use Rattle.sd_state.specs.States.{thread_of};
 ghost use Rattle.sd_state.specs.Texts.{thread_name};
+ghost use Rattle.sd_machine.specs.LockGraph.{cycles_of};
 ghost use Rattle.sd_machine.specs.Texts.{cycle_line, cycle_word, cycles_text, waited_name};
 
-use sd_cycles::cycles;
-use sd_entry_writer::{put_lock_name, put_thread_name};
+use sd_entries::{put_lock_name, put_thread_name};
 use sd_state::{Place, State};
 use sd_types::Work;
-use std::alloc::{AllocError, Global};
+use std::alloc::AllocError;
 
 // The name of the lock for which a thread in this place waits.
 fn put_waited_name(work: &Work, place: Place, out: &mut Vec<u8>) -> Result<(), AllocError>
@@ -82,20 +82,17 @@ fn put_cycle_lines(
     Ok(())
 }
 
-/// Appends a line for each blocking cycle of the state, in order of their least threads: `cycle`, and from that thread on
-/// each thread's name and the name of the lock for which it waits. Where memory runs out, `out` is as it was.
+/// Puts a line for each blocking cycle of the state, which are these, in order of their least threads: `cycle`, and from that thread
+/// on each thread's name and the name of the lock for which it waits.
 #[tactic(auto, unfolding(sd_machine::specs::Texts::cycles_text))]
-pub fn write_cycles(
-    alloc: Global,
+pub(crate) fn put_cycles(
     work: &Work,
     s: &State,
+    cycles: &[Vec<usize>],
     out: &mut Vec<u8>,
 ) -> Result<(), AllocError>
-    ensures ok { OnOk result (out.new.items ≡ out.old.items ++ cycles_text work.now s.now) }
-    ensures err { OnErr result (out.new.items ≡ out.old.items) }
+    requires { map (λ v. v.items) cycles.now ≡ cycles_of s.now }
+    ensures { OnOk result (out.new.items ≡ out.old.items ++ cycles_text work.now s.now) }
 {
-    let cycles = cycles(alloc, s)?;
-    let mut text = Vec::new(alloc);
-    put_cycle_lines(work, s, &cycles, &mut text)?;
-    out.extend_from_slice(&text)
+    put_cycle_lines(work, s, cycles, out)
 }

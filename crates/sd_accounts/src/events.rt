@@ -54,9 +54,9 @@ pub(crate) fn is_wake_of(t: ThreadId, event: &Event) -> bool
             woken: Some((s, _)),
             ..
         } => s.0 == t.0,
-        Event::Unblock { s, .. } => s.0 == t.0,
-        Event::Grant { s, .. } => s.0 == t.0,
-        Event::SemaVWake { s, .. } => s.0 == t.0,
+        Event::Unblock { u, .. } => u.0 == t.0,
+        Event::Grant { u, .. } => u.0 == t.0,
+        Event::SemaVWake { u, .. } => u.0 == t.0,
         _ => false,
     }
 }
@@ -140,9 +140,9 @@ pub(crate) fn counted_thread(event: &Event) -> Option<ThreadId>
             woken: Some((s, _)),
             ..
         } => Some(*s),
-        Event::Unblock { s, .. } => Some(*s),
-        Event::Grant { s, .. } => Some(*s),
-        Event::SemaVWake { s, .. } => Some(*s),
+        Event::Unblock { u, .. } => Some(*u),
+        Event::Grant { u, .. } => Some(*u),
+        Event::SemaVWake { u, .. } => Some(*u),
         _ => None,
     }
 }

@@ -6,8 +6,11 @@ mod accounts;
 mod counters;
 mod cycle_lines;
 mod events;
+mod laps;
+mod laws;
 mod lines;
 mod summary;
 
 pub use accounts::Accounts;
-pub use cycle_lines::write_cycles;
+pub use laps::cycles;
+pub use laws::blocking_cycles_are_listed;

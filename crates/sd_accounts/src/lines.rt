@@ -1,16 +1,18 @@
 //! The lines of the accounts, behind the entries of a journal.
 
-ghost use Rattle.std.specs.Prelude.{◌≡◌, ◌++◌, OnOk, OnErr, List as Items, codes, decimal, slice_index_or};
+ghost use Rattle.std.specs.Prelude.{◌≡◌, ◌++◌, OnOk, OnErr, List as Items, codes, decimal, map, slice_index_or};
 ghost use Rattle.sd_types.specs.declared.events.Entry.{Entry as EntryValue};
 ghost use Rattle.sd_state.specs.States.{thread_of};
 ghost use Rattle.sd_state.specs.Texts.{accounts_text, chan_name, lock_name, state_text};
+ghost use Rattle.sd_machine.specs.LockGraph.{cycles_of};
 ghost use Rattle.sd_machine.specs.Texts.{cycles_text};
 ghost use Rattle.sd_accounts.specs.Counters.{HasTaken, counted_cpu_line, counted_cpus_text, counted_text, counted_thread_line, counted_threads_text, no_cpu_counts, no_thread_counts};
 
 use crate::accounts::Accounts;
 use crate::counters::{CpuCounts, ThreadCounts};
-use crate::cycle_lines::write_cycles;
-use sd_entry_writer::{put_chan_name, put_lock_name, put_thread_name};
+use crate::cycle_lines::put_cycles;
+use crate::laps::cycles;
+use sd_entries::{put_chan_name, put_lock_name, put_thread_name};
 use sd_state::{Place, State};
 use sd_text::put_number;
 use sd_types::{ChanId, LockId, Work};
@@ -162,8 +164,10 @@ fn write_counted(
     alloc: Global,
     work: &Work,
     s: &State,
+    cycles: &[Vec<usize>],
     out: &mut Vec<u8>,
 ) -> Result<(), AllocError>
+    requires { map (λ v. v.items) cycles.now ≡ cycles_of s.now }
     ensures ok { OnOk result (out.new.items ≡ out.old.items ++ (codes "accounts\n"
         ++ (counted_threads_text work.now accounts.now.threads s.now ++ counted_cpus_text work.now accounts.now.cpus)
         ++ cycles_text work.now s.now)) }
@@ -171,14 +175,32 @@ fn write_counted(
 {
     let mut text = Vec::new(alloc);
     put_accounts(accounts, work, s, &mut text)?;
-    write_cycles(alloc, work, s, &mut text)?;
+    put_cycles(work, s, cycles, &mut text)?;
     out.extend_from_slice(&text)
 }
 
 impl Accounts {
     /// Appends what a journal has behind its entries: the line `accounts`, a line for each thread with its counts and its
-    /// place in the state, a line for each processor, and a line for each blocking cycle of the state. Where memory runs
-    /// out, `out` is as it was.
+    /// place in the state, a line for each processor, and a line for each blocking cycle of the state, which are these. Where
+    /// memory runs out, `out` is as it was.
+    #[tactic(auto, using(crate::proofs::TextLemmas::accounts_same))]
+    pub fn write_accounts_with(
+        &self,
+        alloc: Global,
+        work: &Work,
+        s: &State,
+        cycles: &[Vec<usize>],
+        out: &mut Vec<u8>,
+    ) -> Result<(), AllocError>
+        requires { map (λ v. v.items) cycles.now ≡ cycles_of s.now }
+        ensures ok { OnOk result ((es : Items EntryValue) → HasTaken work.now es self.now
+            → out.new.items ≡ out.old.items ++ (accounts_text work.now es s.now ++ cycles_text work.now s.now)) }
+        ensures err { OnErr result (out.new.items ≡ out.old.items) }
+    {
+        write_counted(self, alloc, work, s, cycles, out)
+    }
+
+    /// The same, with the blocking cycles sought in the state.
     pub fn write_accounts(
         &self,
         alloc: Global,
@@ -190,6 +212,7 @@ impl Accounts {
             → out.new.items ≡ out.old.items ++ (accounts_text work.now es s.now ++ cycles_text work.now s.now)) }
         ensures err { OnErr result (out.new.items ≡ out.old.items) }
     {
-        write_counted(self, alloc, work, s, out)
+        let found = cycles(alloc, s)?;
+        self.write_accounts_with(alloc, work, s, &found, out)
     }
 }

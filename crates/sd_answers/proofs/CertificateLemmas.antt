@@ -17,7 +17,8 @@ use Rattle.sd_answers.specs.declared.answers.JournalFault.TheVariants as journal
 use Rattle.sd_answers.specs.declared.answers.Answer.{Answer}
 use Rattle.sd_answers.specs.declared.answers.Answer.TheVariants.{Done, Usage, TooLarge, TooLargeToAudit, NoJournal, Refused, ReadFault, WriteFault, OutOfMemory, Blocked, NotAJournal, TooLong}
 use Rattle.sd_answers.specs.Answers.{status_of, audit_answer, audit_fault}
-use Rattle.sd_answers.specs.Inputs.{most_certificate, HasRead, HasParts, IsCertificate, IsNoCertificate}
+use Rattle.sd_types.specs.Limits.{most_certificate}
+use Rattle.sd_answers.specs.Inputs.{HasRead, HasParts, IsCertificate, IsNoCertificate}
 use Rattle.sd_answers.specs.StreamChanges.{StreamChange}
 use Rattle.sd_answers.specs.Certificates.{IsJournalOf, HoldsJournal, IsFaulty, RefusesJournal, IsJudged, Writes, CausedByCertificate, Certifies, CompletesCertificate, RefusesFaulty, IsNone, RefusesCertificate}
 use Rattle.sd_answers.proofs.InputLemmas.{taken_within, taken_all, at_most_of, not_too_many, not_both}

@@ -20,7 +20,8 @@ use Rattle.sd_workload.specs.declared.fault.WorkFault.TheVariants as work
 use Rattle.sd_answers.specs.declared.answers.Answer.{Answer}
 use Rattle.sd_answers.specs.Answers.{read_answer, work_answer}
 use Rattle.sd_answers.specs.StreamChanges.{StreamChange, HasFault, HasNoFault}
-use Rattle.sd_answers.specs.Inputs.{most_bytes, HasAtMost, HasRead, IsRefused, IsReading}
+use Rattle.sd_types.specs.Limits.{most_bytes}
+use Rattle.sd_answers.specs.Inputs.{HasAtMost, HasRead, IsRefused, IsReading}
 
 -- what was taken is no more than there was
 pub taken_within : (a b : Option (List ℕ)) (bs xs : List ℕ) → Consumes a b bs → a ≡ Some xs → length bs ≤ length xs

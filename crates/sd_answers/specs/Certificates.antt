@@ -11,7 +11,9 @@ use Rattle.sd_answers.specs.declared.answers.JournalFault.{JournalFault}
 use Rattle.sd_answers.specs.declared.answers.Answer.{Answer}
 use Rattle.sd_answers.specs.declared.answers.Answer.TheVariants.{Done, TooLarge, TooLargeToAudit, NoJournal, Refused, ReadFault, WriteFault, OutOfMemory, NotAJournal}
 use Rattle.sd_answers.specs.Answers.{audit_fault}
-use Rattle.sd_answers.specs.Inputs.{most_bytes, most_certificate, IsCertificate, IsNoCertificate}
+use Rattle.sd_types.specs.Limits.{most_bytes}
+use Rattle.sd_types.specs.Limits.{most_certificate}
+use Rattle.sd_answers.specs.Inputs.{IsCertificate, IsNoCertificate}
 use Rattle.sd_answers.specs.StreamChanges.{StreamChange, HasFault, HasNoFault, IsUntouched, AppendsPart}
 
 -- the text is the journal of a complete run of the workload

@@ -5,6 +5,7 @@ use Rattle.std.specs.Io.KnownBytes.{Consumes, IsAtEnd}
 use Rattle.std.specs.declared.vec.Vec.{Vec}
 use Rattle.std.specs.declared.alloc.Global.{Global}
 use Rattle.sd_types.specs.declared.works.Work.{Work}
+use Rattle.sd_types.specs.Limits.{most_bytes, most_certificate}
 use Rattle.sd_declare.specs.declared.causes.WorkCause.{WorkCause}
 use Rattle.sd_workload.specs.Accepted.{Accepted, FirstCause}
 use Rattle.sd_answers.specs.Cuts.{HasNoJournal, IsCut}
@@ -12,14 +13,6 @@ use Rattle.sd_answers.specs.declared.answers.Answer.{Answer}
 use Rattle.sd_answers.specs.declared.answers.Answer.TheVariants.{TooLarge, TooLargeToAudit, NoJournal, Refused, ReadFault, OutOfMemory}
 use Rattle.sd_answers.specs.declared.inputs.Certificate.{Certificate}
 use Rattle.sd_answers.specs.StreamChanges.{StreamChange, HasFault, HasNoFault}
-
--- the most bytes that the text of a workload may have
-abbrev pub most_bytes : ℕ
-most_bytes = 1048576
-
--- and those of a certificate: a workload, the line `journal`, and the journal of a run
-abbrev pub most_certificate : ℕ
-most_certificate = 134217728
 
 -- the input was read to its end, without a fault, and has no more bytes than this
 pub record HasAtMost (most : ℕ) (input : StreamChange) : Type 0 where

@@ -8,7 +8,7 @@ ghost use Rattle.sd_answers.specs.Cuts.{HasNoJournal, IsCut};
 use crate::answers::Answer;
 use crate::cuts::find_cut;
 use sd_text::{Source, read_all, read_up_to};
-use sd_types::Work;
+use sd_types::{MOST_CERTIFICATE_BYTES, MOST_WORKLOAD_BYTES, Work};
 use sd_workload::read_work;
 use std::alloc::Global;
 
@@ -18,12 +18,6 @@ pub struct Certificate {
     pub work: Work,
     pub journal: Vec<u8>,
 }
-
-// The most bytes that a certificate may have.
-const MOST_CERTIFICATE: u64 = 134_217_728;
-
-// The most bytes that its workload may have.
-const MOST_BYTES: usize = 1_048_576;
 
 /// The workload that the input spells, or why there is none.
 pub fn read_input<S: Source>(alloc: Global, input: &mut S) -> Result<Work, Answer>
@@ -37,7 +31,7 @@ pub fn read_input<S: Source>(alloc: Global, input: &mut S) -> Result<Work, Answe
 fn read_bytes<S: Source>(alloc: Global, input: &mut S) -> Result<Vec<u8>, Answer>
     ensures { IsReadingBytes (change_of (S.remaining input.old) (S.remaining input.new) (S.fault_count input.old) (S.fault_count input.new)) result }
 {
-    match read_up_to(alloc, input, MOST_CERTIFICATE) {
+    match read_up_to(alloc, input, MOST_CERTIFICATE_BYTES) {
         Ok(bytes) => Ok(bytes),
         Err(fault) => Err(Answer::of_unread_certificate(fault)),
     }
@@ -51,7 +45,7 @@ pub fn read_certificate<S: Source>(alloc: Global, input: &mut S) -> Result<Certi
     let Some(cut) = find_cut(&bytes) else {
         return Err(Answer::NoJournal);
     };
-    if MOST_BYTES < cut.workload_end {
+    if MOST_WORKLOAD_BYTES < cut.workload_end {
         return Err(Answer::TooLarge);
     }
     let work = read_work(alloc, &bytes[..cut.workload_end])?;

@@ -16,7 +16,7 @@ use Rattle.sd_machine.specs.Events.{next}
 use Rattle.sd_machine.specs.Runs.{final, IsRun, IsRunFrom, IsComplete}
 use Rattle.sd_machine.specs.Texts.{entries_text, journal}
 use Rattle.sd_machine.proofs.RunLemmas.{IsRun-from, from-IsRun, IsRunFrom-front}
-use Rattle.sd_spelling.specs.Fitting.{IsSpelled}
+use Rattle.sd_entries.specs.Fitting.{IsSpelled}
 use Rattle.sd_audit.specs.declared.audits.AuditFault.{AuditFault}
 use Rattle.sd_audit.specs.declared.audits.AuditFault.TheVariants.{NotAnEntry, Illegal, Incomplete, Tail, Memory}
 use Rattle.sd_audit.specs.Audits.{entry_line, TellsRun, NoEntryNext, IsNotAnEntry, IsIllegal, IsIncomplete, IsOtherTail, IsFault, IsJournal, IsMemory, IsRunSoFar, tail_text, whole_lines, common_lines}

@@ -20,13 +20,13 @@ use Rattle.sd_text.proofs.LineLemmas.{lines_of-line, lines_of-text}
 use Rattle.sd_text.proofs.NumberLemmas.{own}
 use Rattle.sd_machine.specs.Runs.{final}
 use Rattle.sd_machine.specs.Texts.{entry_text, entries_text, cycles_text, journal}
-use Rattle.sd_spelling.specs.EntryWords.{entry_words, event_words, hint_words}
+use Rattle.sd_entries.specs.EntryWords.{entry_words, event_words, hint_words}
 use Rattle.sd_machine.specs.Texts.{cpu_text}
-use Rattle.sd_spelling.specs.Fitting.{IsSpelled, in_range, event_in_range, hints_in_range}
-use Rattle.sd_spelling.proofs.NameLemmas.{number_word}
-use Rattle.sd_spelling.proofs.SpellLemmas.{entry_spelled}
-use Rattle.sd_spelling.proofs.WordLemmas.{entry_is_line}
-use Rattle.sd_spelling.proofs.LineLemmas.{one_line}
+use Rattle.sd_entries.specs.Fitting.{IsSpelled, in_range, event_in_range, hints_in_range}
+use Rattle.sd_entries.proofs.NameLemmas.{number_word}
+use Rattle.sd_entries.proofs.SpellLemmas.{entry_spelled}
+use Rattle.sd_entries.proofs.WordLemmas.{entry_is_line}
+use Rattle.sd_entries.proofs.SpellingLemmas.{one_line}
 use Rattle.sd_audit.specs.Audits.{entry_line}
 use Rattle.sd_audit.proofs.ReadLemmas.{entry_line_is}
 

@@ -16,7 +16,7 @@ use Rattle.sd_machine.specs.Texts.{entry_text, entries_text}
 use Rattle.sd_machine.proofs.RunLemmas.{IsRun-nil, IsRun-append, IsRun-from, IsRunFrom-one, final-nil, final-push, last_number, last_step}
 use Rattle.sd_accounts.specs.declared.accounts.Accounts.{Accounts}
 use Rattle.sd_accounts.specs.Counters.{HasTaken}
-use Rattle.sd_spelling.specs.Fitting.{IsSpelled}
+use Rattle.sd_entries.specs.Fitting.{IsSpelled}
 use Rattle.sd_audit.specs.declared.audits.AuditFault.{AuditFault}
 use Rattle.sd_audit.specs.declared.audits.AuditFault.TheVariants.{NotAnEntry, Illegal, Incomplete, Tail, Memory}
 use Rattle.sd_audit.specs.Audits.{entry_line, IsTaken, IsLineFault, IsFault, IsRunSoFar}

@@ -15,7 +15,7 @@ use Rattle.sd_text.specs.Lines.{lines_of, is_newline}
 use Rattle.sd_machine.specs.Events.{next}
 use Rattle.sd_machine.specs.Runs.{final, IsRun, IsStep, IsComplete}
 use Rattle.sd_machine.specs.Texts.{entry_text, entries_text, cycles_text, journal}
-use Rattle.sd_spelling.specs.Fitting.{IsSpelled}
+use Rattle.sd_entries.specs.Fitting.{IsSpelled}
 use Rattle.sd_audit.specs.declared.audits.AuditFault.{AuditFault}
 use Rattle.sd_audit.specs.declared.audits.AuditFault.TheVariants.{NotAnEntry, Illegal, Incomplete, Tail, Memory}
 

@@ -37,10 +37,7 @@ pub(crate) fn take_line<C: Collector>(
     ensures takes { IfOk result (λ e. (first : C) → Takes names.now.work.now s.old e (λ es. C.became names.now.work.now es first collector.old) (λ es. C.became names.now.work.now es first collector.new)) }
     ensures fault { IfErr result (IsLineFault names.now.work.now s.old number line.now) }
 {
-    let Ok(found) = read_entry(alloc, names, line) else {
-        return Err(AuditFault::Memory { number });
-    };
-    let Some(entry) = found else {
+    let Some(entry) = read_entry(names, line) else {
         return Err(AuditFault::NotAnEntry {
             line: number as u32 + 1,
         });

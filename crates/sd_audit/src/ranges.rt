@@ -2,7 +2,7 @@
 
 ghost use Rattle.std.specs.Prelude.{◌≡◌, true, nat_lt, ◌^◌};
 ghost use Rattle.std.specs.List.{list_all};
-ghost use Rattle.sd_spelling.specs.Fitting.{event_in_range, hints_in_range, in_range, is_byte, prio_in_range};
+ghost use Rattle.sd_entries.specs.Fitting.{event_in_range, hints_in_range, in_range, is_byte, prio_in_range};
 
 use sd_types::{Entry, Event, Hints, PrioAnswer};
 
@@ -59,7 +59,7 @@ fn hints_in_range(hints: &Option<Hints>)
 }
 
 /// The numbers of an entry have as many bits as their types.
-#[tactic(auto, unfolding(sd_spelling::specs::Fitting::in_range))]
+#[tactic(auto, unfolding(sd_entries::specs::Fitting::in_range))]
 pub fn in_range(entry: &Entry)
     ensures { in_range entry.now ≡ true }
 {

@@ -5,7 +5,7 @@ use Rattle.std.proofs.lemmas.Int.{ints}
 use Prim.Native.Nat.{zero, suc}
 use Rattle.std.specs.Prelude.{int_lt, nat_lt, ◌==◌, ◌||◌}
 use Rattle.std.specs.List.{Contains}
-use Rattle.sd_boxq.specs.Order.{insert_before, precedes, precedes_keyed, insert_ranked, insert_keyed, find_first, drop_first, replace_first, find_id, replace_id, IsAlike, IsNowhere, IsEverywhere, IsInOrder, IsStrictlyInOrder, IsRanked, IsKeyed, IsStrictlyRanked, IsStrictlyKeyed, IsBest}
+use Rattle.sd_boxq.specs.Order.{insert_before, precedes, precedes_keyed, insert_ranked, insert_keyed, find_first, drop_first, replace_first, find_id, replace_id, IsAlike, IsNowhere, IsInOrder, IsRanked, IsKeyed, IsBest}
 
 -- nothing precedes what it stands behind, and to precede goes on
 pub record IsStrict {X : Type 0} (before : X → X → Bool) : Type 0 where
@@ -101,58 +101,6 @@ module _ {X : Type 0} (before : X → X → Bool) (s : IsStrict before) where
           let none : (p y && before y x) ≡ false = rw h refl in
           (found_within p x (y ∷ ys) e, best.1, (none, best.2))
 
--- ---- strictly in order
-module _ {X : Type 0} (before : X → X → Bool) (s : IsStrict before) where
-  never-back : (x : X) (ys : List X) → IsEverywhere (λ y. before x y) ys → IsNowhere (λ y. before y x) ys
-  never-back x [] e = tt
-  never-back x (y ∷ ys) e = (s.back x y e.0, never-back x ys e.1)
-
-  pub strictly-in_order : (ys : List X) → IsStrictlyInOrder before ys → IsInOrder before ys
-  strictly-in_order [] o = tt
-  strictly-in_order (y ∷ ys) o = (never-back y ys o.0, strictly-in_order ys o.1)
-
-  everywhere-drop_first : (p q : X → Bool) (ys : List X) → IsEverywhere q ys → IsEverywhere q (drop_first p ys)
-  everywhere-drop_first p q [] n = tt
-  everywhere-drop_first p q (y ∷ ys) n = grind (arith, everywhere-drop_first p q ys n.1)
-
-  pub strict-drop_first : (p : X → Bool) (ys : List X) → IsStrictlyInOrder before ys → IsStrictlyInOrder before (drop_first p ys)
-  strict-drop_first p [] o = tt
-  strict-drop_first p (y ∷ ys) o = by (p y) refl (strict-drop_first p ys o.1)
-    where
-      by : (b : Bool) → p y ≡ b → IsStrictlyInOrder before (drop_first p ys) → IsStrictlyInOrder before (drop_first p (y ∷ ys))
-      by true e r = rw e o.1
-      by false e r = rw e (everywhere-drop_first p (λ z. before y z) ys o.0, r)
-
-  pub strict-drop : (ys : List X) → IsStrictlyInOrder before ys → IsStrictlyInOrder before (drop 1 ys)
-  strict-drop [] o = tt
-  strict-drop (y ∷ ys) o = o.1
-
-  everywhere-insert : (q p : X → Bool) (x : X) (ys : List X) → p x ≡ true → IsEverywhere p ys → IsEverywhere p (insert_before q x ys)
-  everywhere-insert q p x [] e n = (e, tt)
-  everywhere-insert q p x (y ∷ ys) e n = grind (arith, everywhere-insert q p x ys e n.1)
-
-  -- what precedes an item precedes those that it precedes
-  onward : (x y : X) (ys : List X) → before x y ≡ true → IsEverywhere (λ z. before y z) ys → IsEverywhere (λ z. before x z || before z x) ys → IsEverywhere (λ z. before x z) ys
-  onward x y [] h n t = tt
-  onward x y (z ∷ ys) h n t = (one (before x z) refl, onward x y ys h n.1 t.1)
-    where
-      one : (b : Bool) → before x z ≡ b → before x z ≡ true
-      one true e = e
-      one false e =
-          let back : before z x ≡ true = rw e at t.0 in
-          let behind : before z y ≡ false = s.back y z n.0 in
-          let not_back : before z x ≡ false = s.past x y z h behind in
-          absurd cc
-
-  -- an item comes that is equal to none
-  pub strict-insert : (x : X) (ys : List X) → IsEverywhere (λ y. before x y || before y x) ys → IsStrictlyInOrder before ys → IsStrictlyInOrder before (insert_before (before x) x ys)
-  strict-insert x [] t o = (tt, tt)
-  strict-insert x (y ∷ ys) t o = by (before x y) refl (strict-insert x ys t.1 o.1)
-    where
-      by : (b : Bool) → before x y ≡ b → IsStrictlyInOrder before (insert_before (before x) x ys) → IsStrictlyInOrder before (insert_before (before x) x (y ∷ ys))
-      by true e r = rw e ((e, onward x y ys e o.0 t.1), o)
-      by false e r = let back : before y x ≡ true = rw e at t.0 in rw e (everywhere-insert (before x) (λ z. before y z) x ys back o.0, r)
-
 -- ---- an item makes room for one that stands in the order as it does
 module _ {X : Type 0} (before : X → X → Bool) where
   -- y stands to all items as x does
@@ -179,27 +127,6 @@ module _ {X : Type 0} (before : X → X → Bool) where
       by : (b : Bool) → p z ≡ b → (IfSome (find_first p ys) (λ x. StandsAs x y) → IsInOrder before ys → IsInOrder before (replace_first p y ys)) → IsInOrder before (replace_first p y (z ∷ ys))
       by true h r = let same : StandsAs z y = rw h at a in rw h (nowhere-as z y ys same o.0, o.1)
       by false h r = let same : IfSome (find_first p ys) (λ x. StandsAs x y) = rw h at a in rw h (nowhere-replace p z y ys same o.0, r same o.1)
-
-  everywhere-as : (x y : X) (ys : List X) → StandsAs x y → IsEverywhere (λ z. before x z) ys → IsEverywhere (λ z. before y z) ys
-  everywhere-as x y [] a n = tt
-  everywhere-as x y (z ∷ ys) a n = (sym (a z).1 ∙ n.0, everywhere-as x y ys a n.1)
-
-  everywhere-replace : (p : X → Bool) (w y : X) (ys : List X) → IfSome (find_first p ys) (λ x. StandsAs x y) → IsEverywhere (λ z. before w z) ys → IsEverywhere (λ z. before w z) (replace_first p y ys)
-  everywhere-replace p w y [] a n = tt
-  everywhere-replace p w y (z ∷ ys) a n = by (p z) refl (everywhere-replace p w y ys)
-    where
-      by : (b : Bool) → p z ≡ b → (IfSome (find_first p ys) (λ x. StandsAs x y) → IsEverywhere (λ z. before w z) ys → IsEverywhere (λ z. before w z) (replace_first p y ys))
-          → IsEverywhere (λ z. before w z) (replace_first p y (z ∷ ys))
-      by true h r = let same : StandsAs z y = rw h at a in rw h (sym (same w).0 ∙ n.0, n.1)
-      by false h r = let same : IfSome (find_first p ys) (λ x. StandsAs x y) = rw h at a in rw h (n.0, r same n.1)
-
-  pub strict-replace : (p : X → Bool) (y : X) (ys : List X) → IfSome (find_first p ys) (λ x. StandsAs x y) → IsStrictlyInOrder before ys → IsStrictlyInOrder before (replace_first p y ys)
-  strict-replace p y [] a o = tt
-  strict-replace p y (z ∷ ys) a o = by (p z) refl (strict-replace p y ys)
-    where
-      by : (b : Bool) → p z ≡ b → (IfSome (find_first p ys) (λ x. StandsAs x y) → IsStrictlyInOrder before ys → IsStrictlyInOrder before (replace_first p y ys)) → IsStrictlyInOrder before (replace_first p y (z ∷ ys))
-      by true h r = let same : StandsAs z y = rw h at a in rw h (everywhere-as z y ys same o.0, o.1)
-      by false h r = let same : IfSome (find_first p ys) (λ x. StandsAs x y) = rw h at a in rw h (everywhere-replace p z y ys same o.0, r same o.1)
 
 -- ---- by rank and key
 module _ {X : Type 0} (rank : X → ℕ) (key : X → ℤ) where
@@ -229,20 +156,6 @@ module _ {X : Type 0} (rank : X → ℕ) (key : X → ℤ) where
   pub IsRanked-replace : (id : X → ℕ) (n : ℕ) (y : X) (xs : List X) → IfSome (find_id id n xs) (λ x. IsAlike rank key id x y) → IsRanked rank key xs → IsRanked rank key (replace_id id n y xs)
   IsRanked-replace id n y xs a = in_order-replace (precedes rank key) (λ x. id x == n) y xs (alike_found id y (find_id id n xs) a)
 
-  pub IsStrictlyRanked-replace : (id : X → ℕ) (n : ℕ) (y : X) (xs : List X) → IfSome (find_id id n xs) (λ x. IsAlike rank key id x y) → IsStrictlyRanked rank key xs → IsStrictlyRanked rank key (replace_id id n y xs)
-  IsStrictlyRanked-replace id n y xs a = strict-replace (precedes rank key) (λ x. id x == n) y xs (alike_found id y (find_id id n xs) a)
-
--- ---- strictly by rank and key
-module _ {X : Type 0} (rank : X → ℕ) (key : X → ℤ) where
-  pub IsStrictlyRanked-ranked : (xs : List X) → IsStrictlyRanked rank key xs → IsRanked rank key xs
-  IsStrictlyRanked-ranked xs = strictly-in_order (precedes rank key) (precedes-strict rank key) xs
-
-  pub IsStrictlyRanked-insert : (x : X) (xs : List X) → IsEverywhere (λ y. precedes rank key x y || precedes rank key y x) xs → IsStrictlyRanked rank key xs → IsStrictlyRanked rank key (insert_ranked rank key x xs)
-  IsStrictlyRanked-insert x xs = strict-insert (precedes rank key) (precedes-strict rank key) x xs
-
-  pub IsStrictlyRanked-drop_first : (p : X → Bool) (xs : List X) → IsStrictlyRanked rank key xs → IsStrictlyRanked rank key (drop_first p xs)
-  IsStrictlyRanked-drop_first p xs = strict-drop_first (precedes rank key) (precedes-strict rank key) p xs
-
 -- ---- by key and id
 module _ {X : Type 0} (key : X → ℤ) (id : X → ℕ) where
   pub IsKeyed-insert : (x : X) (xs : List X) → IsKeyed key id xs → IsKeyed key id (insert_keyed key id x xs)
@@ -250,12 +163,3 @@ module _ {X : Type 0} (key : X → ℤ) (id : X → ℕ) where
 
   pub IsKeyed-drop_first : (p : X → Bool) (xs : List X) → IsKeyed key id xs → IsKeyed key id (drop_first p xs)
   IsKeyed-drop_first p xs = in_order-drop_first (precedes_keyed key id) (precedes_keyed-strict key id) p xs
-
-  pub IsStrictlyKeyed-keyed : (xs : List X) → IsStrictlyKeyed key id xs → IsKeyed key id xs
-  IsStrictlyKeyed-keyed xs = strictly-in_order (precedes_keyed key id) (precedes_keyed-strict key id) xs
-
-  pub IsStrictlyKeyed-insert : (x : X) (xs : List X) → IsEverywhere (λ y. precedes_keyed key id x y || precedes_keyed key id y x) xs → IsStrictlyKeyed key id xs → IsStrictlyKeyed key id (insert_keyed key id x xs)
-  IsStrictlyKeyed-insert x xs = strict-insert (precedes_keyed key id) (precedes_keyed-strict key id) x xs
-
-  pub IsStrictlyKeyed-drop_first : (p : X → Bool) (xs : List X) → IsStrictlyKeyed key id xs → IsStrictlyKeyed key id (drop_first p xs)
-  IsStrictlyKeyed-drop_first p xs = strict-drop_first (precedes_keyed key id) (precedes_keyed-strict key id) p xs

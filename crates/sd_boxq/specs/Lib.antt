@@ -1,7 +1,9 @@
-pub mod Order
-pub mod Lends
-pub mod Links
-pub mod Owned
 pub mod Boxes
 pub mod Left
+pub mod Lends
+pub mod LendsAt
+pub mod LendsValue
+pub mod Links
+pub mod Order
+pub mod Owned
 pub mod Search

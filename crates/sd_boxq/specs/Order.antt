@@ -81,16 +81,6 @@ abbrev pub IsInOrder : {X : Type 0} → (X → X → Bool) → List X → Type 0
 IsInOrder before [] = Unit {0}
 IsInOrder before (x ∷ xs) = IsNowhere (λ y. before y x) xs × IsInOrder before xs
 
--- each item passes the test
-abbrev pub IsEverywhere : {X : Type 0} → (X → Bool) → List X → Type 0
-IsEverywhere p [] = Unit {0}
-IsEverywhere p (x ∷ xs) = (p x ≡ true) × IsEverywhere p xs
-
--- each item precedes those behind it
-abbrev pub IsStrictlyInOrder : {X : Type 0} → (X → X → Bool) → List X → Type 0
-IsStrictlyInOrder before [] = Unit {0}
-IsStrictlyInOrder before (x ∷ xs) = IsEverywhere (λ y. before x y) xs × IsStrictlyInOrder before xs
-
 -- the order of dispatch queues, sleep queues and turnstiles
 abbrev pub IsRanked : {X : Type 0} → (X → ℕ) → (X → ℤ) → List X → Type 0
 IsRanked rank key xs = IsInOrder (precedes rank key) xs
@@ -98,13 +88,6 @@ IsRanked rank key xs = IsInOrder (precedes rank key) xs
 -- the order of nappers
 abbrev pub IsKeyed : {X : Type 0} → (X → ℤ) → (X → ℕ) → List X → Type 0
 IsKeyed key id xs = IsInOrder (precedes_keyed key id) xs
-
--- the same orders, and no two items have one rank and key, or one key and id
-abbrev pub IsStrictlyRanked : {X : Type 0} → (X → ℕ) → (X → ℤ) → List X → Type 0
-IsStrictlyRanked rank key xs = IsStrictlyInOrder (precedes rank key) xs
-
-abbrev pub IsStrictlyKeyed : {X : Type 0} → (X → ℤ) → (X → ℕ) → List X → Type 0
-IsStrictlyKeyed key id xs = IsStrictlyInOrder (precedes_keyed key id) xs
 
 -- x is one of the items and passes the test, and no item that passes it precedes x
 abbrev pub IsBest : {X : Type 0} → (X → Bool) → (X → X → Bool) → X → List X → Type 0

@@ -2,6 +2,10 @@
 //! takes memory.
 #![tactic(auto)]
 
+mod boxed;
+mod four;
+#[cfg(test)]
+mod four_tests;
 mod node;
 mod nodes;
 mod queue;
@@ -10,6 +14,8 @@ mod search;
 #[cfg(test)]
 mod tests;
 
+pub use boxed::Boxed;
+pub use four::Four;
 pub use node::Node;
 pub use nodes::items::Items;
 pub use queue::BoxQueue;

@@ -1,1 +1,15 @@
+pub mod BlockLemmas
+pub mod FormLemmas
 pub mod LineLemmas
+pub mod ListLemmas
+pub mod ObjectLemmas
+pub mod OpFormLemmas
+pub mod OpLemmas
+pub mod RangeLemmas
+pub mod ScriptLemmas
+pub mod ScriptsLemmas
+pub mod SetLemmas
+pub mod TakesLemmas
+pub mod TextLemmas
+pub mod ThreadLemmas
+pub mod WorkLemmas

@@ -1,3 +1,4 @@
 pub mod Blocks
 pub mod Canonical
 pub mod Lines
+pub mod Valid

@@ -8,7 +8,7 @@ ghost use Rattle.sd_machine.specs.Texts.{set_name};
 ghost use Rattle.sd_canonical.specs.Lines.{quantum_word};
 
 use itoa::Buffer;
-use sd_entry_writer::{put_chan_name, put_lock_name, put_set_name, put_thread_name};
+use sd_entries::{put_chan_name, put_lock_name, put_set_name, put_thread_name};
 use sd_text::put_number;
 use sd_types::{ChanId, LockId, Quantum, SetId, ThreadId, Work};
 use std::alloc::AllocError;

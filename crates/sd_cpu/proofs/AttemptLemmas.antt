@@ -24,7 +24,8 @@ use Rattle.sd_invariants.proofs.Whole.{fit_reached}
 use Rattle.sd_dispatcher.specs.declared.reading.Reading.{Reading}
 use Rattle.sd_dispatcher.specs.Reading.{parts}
 use Rattle.sd_hand.specs.declared.acting.Actor.{Actor}
-use Rattle.sd_world.specs.Worlds.{AllHinted, CanCommit, HasReserved, Holds, IsGood, Makes, MayStand, MayUse, Meaning, NoneBehind, ReadsCounts, Reserves, Rises, Stays, actor_of, after_run, most_entries, now}
+use Rattle.sd_types.specs.Limits.{most_entries}
+use Rattle.sd_world.specs.Worlds.{AllHinted, CanCommit, HasReserved, Holds, IsGood, Makes, MayStand, MayUse, Meaning, NoneBehind, ReadsCounts, Reserves, Rises, Stays, actor_of, after_run, now}
 use Rattle.sd_types.specs.declared.events.Stop.{Stop}
 use Rattle.sd_types.specs.declared.events.Stop.TheVariants.{Full, Memory}
 use Rattle.sd_store.specs.Parts.{IsAmong}

@@ -12,7 +12,7 @@ use Rattle.sd_store.specs.declared.parts.Part.{Part}
 use Rattle.sd_store.specs.Keyless.{spot_of}
 use Rattle.sd_store.specs.Parts.{IsAmong, actor_part, bound_parts, ready_parts, thread_part}
 use Rattle.sd_dispatcher.specs.Touched.{put_parts_if, reordered_parts}
-use Rattle.sd_sets.specs.Touched.{runs_parts}
+use Rattle.sd_priocntl.specs.SetsTouched.{runs_parts}
 use Rattle.sd_hand.specs.declared.acting.Acting.{Acting}
 use Rattle.sd_hand.specs.Acting.{has_part}
 use Rattle.sd_cpu.specs.Has.{Has, HasAll, running_cpu}

@@ -1,5 +1,5 @@
 -- What stays of a world from one call to the next.
-use Rattle.std.proofs.Common.{◌≡◌, ℕ, ◌<◌, ◌≤◌, Bool, true, false, List, [], ◌∷◌, ◌++◌, length, Option, Some, None, Result, Ok, Err, refl, sym, ap, ◌∙◌, subst, arith, append_assoc}
+use Rattle.std.proofs.Common.{◌≡◌, ℕ, ◌<◌, ◌≤◌, Bool, true, false, List, [], ◌∷◌, ◌++◌, length, Option, Some, None, Result, Ok, Err, refl, sym, ap, ◌∙◌, subst, arith}
 use Rattle.std.proofs.lemmas.Bool.{false≢true}
 use Rattle.sd_types.specs.Events.{ticks}
 use Rattle.sd_types.specs.declared.numbers.HomeId.{HomeId}
@@ -15,10 +15,11 @@ use Rattle.sd_homes.specs.Families.{home_id, same_home}
 use Rattle.sd_hand.specs.declared.acting.Actor.{Actor}
 use Rattle.sd_hand.specs.Acting.{IsShown}
 use Rattle.sd_hand.specs.Shown.{IsHome}
-use Rattle.sd_shown.specs.Standing.{look_of}
+use Rattle.sd_homes.specs.Standing.{look_of}
 use Rattle.sd_hand.specs.Hands.{AreApart, held}
 use Rattle.sd_hand.proofs.SlotLemmas.{same_home_self, same_home_true}
-use Rattle.sd_world.specs.Worlds.{Begins, Commits, Gains, IsGood, IsQuiet, MayStand, Meaning, ReadsCounts, Rises, Stays, actor_of, after_run, entry_of, most_entries, now, slots_of}
+use Rattle.sd_types.specs.Limits.{most_entries}
+use Rattle.sd_world.specs.Worlds.{Begins, Commits, Gains, IsGood, IsQuiet, MayStand, Meaning, ReadsCounts, Rises, Stays, actor_of, after_run, entry_of, now, slots_of}
 use Rattle.sd_world.proofs.WorldLemmas.{begins_then, quiet_same, quiet_then, stays_same, stays_then}
 use Rattle.sd_cpu.specs.declared.attempts.Attempted.{Attempted}
 use Rattle.sd_cpu.specs.declared.attempts.Turned.{Turned}

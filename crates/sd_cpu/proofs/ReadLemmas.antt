@@ -14,8 +14,8 @@ use Rattle.sd_machine.specs.Plans.{plan}
 use Rattle.sd_machine.specs.Runs.{IsReached}
 use Rattle.sd_dispatcher.specs.declared.reading.Reading.{Reading}
 use Rattle.sd_dispatcher.specs.Reading.{parts}
-use Rattle.sd_range.proofs.Places.{cpus_there, inside_reached}
-use Rattle.sd_range.proofs.Range.{neighbours_there}
+use Rattle.sd_invariants.proofs.Places.{cpus_there, inside_reached}
+use Rattle.sd_invariants.proofs.Range.{neighbours_there}
 use Rattle.sd_world.specs.Plain.{AreCpus}
 use Rattle.sd_world.specs.Worlds.{IsGood, Meaning, actor_of, now}
 use Rattle.sd_cpu.specs.Seeking.{IsCourse}

@@ -15,11 +15,11 @@ use Rattle.sd_store.specs.declared.parts.Part.TheVariants as part
 use Rattle.sd_store.specs.Parts.{IsAmong, actor_part}
 use Rattle.sd_step.specs.Needed.{needed, reads_parts}
 use Rattle.sd_step.specs.Touched.{after_parts}
-use Rattle.sd_shown.specs.Standing.{home_at, home_of, list_of}
+use Rattle.sd_homes.specs.Standing.{home_at, home_of, list_of}
 use Rattle.sd_homes.specs.declared.home.Home.{Home}
 use Rattle.sd_homes.specs.Families.{home_id, same_home}
 use Rattle.sd_hand.specs.Acting.{has_part}
-use Rattle.sd_hand.specs.Hands.{AreApart, IsHeld, IsIn, has_thread, held, how_many_held}
+use Rattle.sd_hand.specs.Hands.{AreApart, IsHeld, has_thread, held, how_many_held}
 use Rattle.sd_hand.proofs.GuideLemmas.{stands_guessed, held_in}
 use Rattle.sd_hand.proofs.MoveLemmas.{stands_at, taken}
 use Rattle.sd_hand.proofs.SlotLemmas.{same_home_self, same_home_true, stands_has}

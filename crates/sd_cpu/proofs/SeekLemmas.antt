@@ -78,10 +78,6 @@ can_count m h good may k = (fit_reached m.work (length h) (after_run m h) (reach
 pub shows_one : (m : Meaning) → IsGood m → ShowsOne m.acting
 shows_one m good = record { number = length m.seen; state = now m; shown = good.stands.shown }
 
--- a run to which the world may have come after a fetch is one to which it might have come before
-pub may_before : (m m' : Meaning) (p : Part) (h : List Entry) → IsGood m → Fetches m m' p true → MayStand m' h → MayStand m h
-may_before m m' p h good (x, is, g) = may_gain m m' x h good g
-
 -- what an event touches that may come is sought
 wished : (m : Meaning) (good : IsGood m) (e : Event) (hints : Option Hints) (q : Part) (h : List Entry) → MayStand m h → next m.work (after_run m h) (actor_of m) hints ≡ Some e
     → IsAmong q (after_parts m.work (after_run m h) (actor_of m) e) → IsAmong q (after_parts m.work (after_run m h) (actor_of m) (wish m.work (after_run m h) (actor_of m).0 hints))

@@ -13,7 +13,8 @@ use Rattle.sd_machine.specs.Choosing.{hint_shown}
 use Rattle.sd_dispatcher.specs.declared.reading.Reading.{Reading}
 use Rattle.sd_state.specs.States.{cpu_of}
 use Rattle.sd_hand.specs.Hands.{how_many_held}
-use Rattle.sd_world.specs.Worlds.{AllHinted, Begins, slots_of, Made, Meaning, NoneBehind, Rises, actor_of, after_run, most_entries, now}
+use Rattle.sd_types.specs.Limits.{most_entries}
+use Rattle.sd_world.specs.Worlds.{AllHinted, Begins, slots_of, Made, Meaning, NoneBehind, Rises, actor_of, after_run, now}
 use Rattle.sd_cpu.specs.declared.attempts.Turned.{Turned}
 use Rattle.sd_cpu.specs.declared.attempts.Turned.TheVariants.{Acted, Ticked, Behind, Finished}
 use Rattle.sd_cpu.specs.declared.attempts.Attempted.{Attempted}

@@ -1,3 +1,5 @@
 pub mod Attempts
 pub mod Has
+pub mod Phases
 pub mod Seeking
+pub mod Turns

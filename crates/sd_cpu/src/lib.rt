@@ -5,8 +5,12 @@
 
 mod attempts;
 mod gate;
+mod phases;
 mod seeking;
 mod touching;
+mod turns;
 
 pub use attempts::{Attempted, Turned, attempt};
 pub use gate::{Gate, OpenGate};
+pub use phases::{Phased, phase};
+pub use turns::turn;

@@ -7,12 +7,12 @@ ghost use Rattle.sd_store.specs.Keyless.{spot_of};
 ghost use Rattle.sd_hand.specs.Acting.{IsShown, has_part};
 ghost use Rattle.sd_store.specs.declared.parts.Part.TheVariants.{Home};
 ghost use Rattle.sd_store.specs.Parts.{bound_parts, chain_part, cpu_part, put_parts, ready_parts, real_time_part, sleepers_part, thread_part};
-ghost use Rattle.sd_chain_walk.specs.Passed.{willed_parts};
+ghost use Rattle.sd_locks.specs.Passed.{willed_parts};
 ghost use Rattle.sd_dispatcher.specs.Touched.{leaving_parts, put_parts_if, reordered_parts};
 ghost use Rattle.sd_locks.specs.Released.{exited_parts, handed_parts};
 ghost use Rattle.sd_priocntl.specs.Touched.{prio_parts};
 ghost use Rattle.sd_sleep.specs.Touched.{woken_parts};
-ghost use Rattle.sd_sets.specs.Touched.{bind_parts, rebound_parts};
+ghost use Rattle.sd_priocntl.specs.SetsTouched.{bind_parts, rebound_parts};
 ghost use Rattle.sd_step.specs.Touched.{after_parts};
 ghost use Rattle.sd_cpu.specs.Has.{Has, HasIn, ShowsOne, running_cpu};
 
@@ -402,19 +402,17 @@ pub(crate) fn touched(work: &Work, x: &Acting, c: CpuId, event: Event) -> Result
         Event::Block { t, l } => away(x, c, home_of_lock(l), t),
         Event::Will { l, o, at, .. } => willed(work, x, c, l, o, at),
         Event::Exit { t, l } => exited(x, c, t, l),
-        Event::Unblock { l, s: u, at } | Event::Grant { l, s: u, at } => {
-            handed(work, x, c, l, u, at)
-        }
+        Event::Unblock { l, u, at } | Event::Grant { l, u, at } => { handed(work, x, c, l, u, at) }
         Event::Passed { l } => chain(x, l),
-        Event::Prio { t, s: u, answer } => reprioritised(work, x, c, t, u, answer),
+        Event::Prio { t, u, answer } => reprioritised(work, x, c, t, u, answer),
         Event::CvWait { t, k, l } => cv_waits(x, c, t, k, l),
         Event::SemaP { t, k } | Event::SemaVCount { t, k, .. } => both(x, home_of_chan(k), t),
-        Event::SemaVWake { t, s: u, at, .. } => wakes(work, x, t, Some((u, at))),
+        Event::SemaVWake { t, u, at, .. } => wakes(work, x, t, Some((u, at))),
         Event::Assign { t, cpu: d, .. } => among_ready(x, t, d),
         Event::Joined { set } => joined(x, c, set),
         Event::Bind {
             t,
-            s: u,
+            u,
             cpu: d,
             answer,
         } => pbound(work, x, t, u, d, answer),

@@ -11,7 +11,7 @@ use Rattle.std.proofs.lemmas.Bool.{false≢true}
 use Rattle.std.proofs.lemmas.List.Elements.{All-cons}
 use Rattle.std.proofs.lemmas.Bool.Decides.{nat_tests}
 use Rattle.sd_types.specs.Works.{is_distinct, same_bytes}
-use Rattle.sd_names.proofs.PlaceLemmas.{place-map, position-map, any-map}
+use Rattle.sd_lines.proofs.PlaceLemmas.{place-map, position-map, any-map}
 use Rattle.sd_text.proofs.LineLemmas.{chosen}
 
 -- the index that was found, or else the length

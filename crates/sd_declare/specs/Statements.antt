@@ -12,6 +12,7 @@ use Rattle.sd_types.specs.declared.works.ChanKind.{ChanKind}
 use Rattle.sd_types.specs.declared.works.ChanKind.TheVariants as chan
 use Rattle.sd_types.specs.Partitions.{cpu_of_number}
 use Rattle.sd_types.specs.Works.{is_distinct, upri_fits}
+use Rattle.sd_types.specs.Limits.{most_objects, most_sets, most_threads}
 use Rattle.sd_lines.specs.declared.statements.TableClass.{TableClass}
 use Rattle.sd_lines.specs.declared.statements.TableClass.TheVariants as table
 use Rattle.sd_lines.specs.declared.threads.ThreadClass.{ThreadClass}
@@ -73,7 +74,7 @@ set_causes d name cpus = record no_causes {
   twice = is_set_name d name;
   range = list_any (is_beyond d) cpus;
   sets = not (list_any (is_beyond d) cpus) && is_taken d cpus;
-  limits = nat_le 8 (length d.sets);
+  limits = nat_le most_sets (length d.sets);
 }
 
 abbrev pub is_table_given : Declarations → TableClass → Bool
@@ -85,10 +86,10 @@ abbrev pub table_causes : Declarations → TableClass → Causes
 table_causes d class = record no_causes { twice = is_table_given d class }
 
 abbrev pub lock_causes : Declarations → Word → Causes
-lock_causes d name = record no_causes { twice = is_lock_name d name; limits = nat_le 256 (length d.locks) }
+lock_causes d name = record no_causes { twice = is_lock_name d name; limits = nat_le most_objects (length d.locks) }
 
 abbrev pub chan_causes : Declarations → Word → Causes
-chan_causes d name = record no_causes { twice = is_chan_name d name; limits = nat_le 256 (length d.chans) }
+chan_causes d name = record no_causes { twice = is_chan_name d name; limits = nat_le most_objects (length d.chans) }
 
 -- a semaphore counts as a channel
 abbrev pub sema_causes : Declarations → Word → ℕ → Causes
@@ -99,7 +100,7 @@ thread_causes d t = record no_causes {
   unknown = not (is_set d t.set);
   twice = is_thread_name d t.name;
   range = not (is_class t.class && nat_le t.uid 65535);
-  limits = nat_le 2048 (length d.threads);
+  limits = nat_le most_threads (length d.threads);
 }
 
 abbrev pub script_causes : Declarations → Word → Causes

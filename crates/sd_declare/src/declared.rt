@@ -3,7 +3,7 @@
 ghost use Rattle.std.specs.Prelude.{◌≡◌, ◌<◌, ◌≤◌, ◌^◌, length, map, sum_by, unwrap_or, option_map};
 
 use crate::scripted::Scripted;
-use sd_names::NameIndex;
+use sd_lines::NameIndex;
 use sd_types::{ChanKind, CpuId, List, LockKind, Name, ThreadDecl};
 use std::alloc::Global;
 

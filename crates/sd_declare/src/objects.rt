@@ -11,14 +11,8 @@ use crate::classes::{cpupri_of, is_class, parms_of};
 use crate::lookups::{chan_number, lock_number, set_of, thread_number};
 use crate::{Declared, Refusal, WorkCause};
 use sd_lines::ThreadLine;
-use sd_types::{ChanKind, List, LockKind, Name, Script, ThreadDecl};
+use sd_types::{ChanKind, List, LockKind, MOST_OBJECTS, MOST_THREADS, Name, Script, ThreadDecl};
 use std::alloc::{AllocError, Global};
-
-/// The most locks, and the most channels (this project's own).
-const MOST_OBJECTS: usize = 256;
-
-/// The most threads (this project's own).
-const MOST_THREADS: usize = 2048;
 
 // Declares a lock.
 fn put_lock(d: &mut Declared, name: Name, kind: LockKind) -> Result<(), AllocError>

@@ -14,11 +14,8 @@ ghost use Rattle.sd_declare.specs.Kept.{declarations, IsRefusal};
 
 use crate::lookups::{cpu_count, set_place};
 use crate::{Declared, Refusal, WorkCause};
-use sd_types::{CpuId, List, Name};
+use sd_types::{CpuId, List, MOST_SETS, Name};
 use std::alloc::{AllocError, Global};
-
-/// The most sets (this project's own).
-const MOST_SETS: usize = 8;
 
 // Whether one of the numbers is that of no processor.
 fn is_any_beyond(d: &Declared, cpus: &[u64]) -> bool

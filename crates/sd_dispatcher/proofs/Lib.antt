@@ -1,3 +1,4 @@
 pub mod Kept
 pub mod RunningLemmas
 pub mod Finished
+pub mod PriorityLemmas

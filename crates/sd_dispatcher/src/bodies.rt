@@ -18,16 +18,35 @@ use sd_types::{
     ClassState, CpuId, LockId, Op, SysState, ThreadBody, ThreadId, Work, greatest_willed,
 };
 
+/// The class state of a body.
+#[inline(always)]
+pub fn class_in(body: Option<&ThreadBody>) -> ClassState
+    ensures { result ≡ (unwrap_or (option_copied body.entry) no_body).class }
+{
+    match body {
+        Some(body) => body.class,
+        None => ClassState::Sys(SysState { pri: 60 }),
+    }
+}
+
+/// The processor to which the thread of a body is bound.
+#[inline(always)]
+pub fn bound_in(body: Option<&ThreadBody>) -> Option<CpuId>
+    ensures { result ≡ (unwrap_or (option_copied body.entry) no_body).bound }
+{
+    match body {
+        Some(body) => body.bound,
+        None => None,
+    }
+}
+
 /// The class state of thread `t`.
 #[inline(always)]
 pub fn class_of<L: Look>(x: &L, t: ThreadId) -> Result<ClassState, L::Lack>
     ensures value { Tells (L.shows x.now) result (λ s. (thread_of s t.0).body.class) }
     ensures lack { Lacks L.part (L.shows x.now) (L.has x.now) result (λ s. thread_part t ∷ []) }
 {
-    match x.body(t)? {
-        Some(body) => Ok(body.class),
-        None => Ok(ClassState::Sys(SysState { pri: 60 })),
-    }
+    Ok(class_in(x.body(t)?))
 }
 
 /// The processor to which thread `t` is bound.
@@ -36,10 +55,7 @@ pub fn bound_of<L: Look>(x: &L, t: ThreadId) -> Result<Option<CpuId>, L::Lack>
     ensures value { Tells (L.shows x.now) result (λ s. (thread_of s t.0).body.bound) }
     ensures lack { Lacks L.part (L.shows x.now) (L.has x.now) result (λ s. thread_part t ∷ []) }
 {
-    match x.body(t)? {
-        Some(body) => Ok(body.bound),
-        None => Ok(None),
-    }
+    Ok(bound_in(x.body(t)?))
 }
 
 /// The priorities that a thread inherits, one for each lock.
@@ -52,13 +68,30 @@ pub fn willed_numbers(body: Option<&ThreadBody>) -> &[(LockId, u8)]
     }
 }
 
+/// The effective priority of a body.
+#[inline(always)]
+pub fn effective_in(body: Option<&ThreadBody>) -> u8
+    ensures { result ≡ eff (unwrap_or (option_copied body.entry) no_body) }
+{
+    match body {
+        Some(body) => body.effective(),
+        None => 60,
+    }
+}
+
+/// The effective priority that a body would have in a class state.
+pub fn eff_in(class: &ClassState, body: Option<&ThreadBody>) -> u8
+    ensures { result ≡ eff_as class.now (unwrap_or (option_copied body.entry) no_body) }
+{
+    greatest_willed(class.base(), willed_numbers(body))
+}
+
 /// The effective priority that thread `t` would have in a class state.
 pub fn eff_as<L: Look>(class: &ClassState, x: &L, t: ThreadId) -> Result<u8, L::Lack>
     ensures value { Tells (L.shows x.now) result (λ s. eff_as class.now (thread_of s t.0).body) }
     ensures lack { Lacks L.part (L.shows x.now) (L.has x.now) result (λ s. thread_part t ∷ []) }
 {
-    let body = x.body(t)?;
-    Ok(greatest_willed(class.base(), willed_numbers(body)))
+    Ok(eff_in(class, x.body(t)?))
 }
 
 /// The effective priority of thread `t`.
@@ -67,10 +100,7 @@ pub fn eff_of<L: Look>(x: &L, t: ThreadId) -> Result<u8, L::Lack>
     ensures value { Tells (L.shows x.now) result (λ s. eff_of s t.0) }
     ensures lack { Lacks L.part (L.shows x.now) (L.has x.now) result (λ s. thread_part t ∷ []) }
 {
-    match x.body(t)? {
-        Some(body) => Ok(body.effective()),
-        None => Ok(60),
-    }
+    Ok(effective_in(x.body(t)?))
 }
 
 /// The effective priority of the thread that a look-up found.

@@ -2,21 +2,21 @@
 //!
 //! Source: Solaris Internals (cpu_choose, disp_getwork); hints, and the three ticks of warmth, are this project's own.
 
-ghost use Rattle.std.specs.Prelude.{◌≡◌, ◌≤◌, ◌==◌, ◌∷◌, [], IfOk, filter, length, not, replicate, ℕ};
+ghost use Rattle.std.specs.Prelude.{◌≡◌, ◌≤◌, ◌==◌, ◌∷◌, [], IfOk, filter, length, not, option_copied, replicate, unwrap_or, ℕ};
 ghost use Rattle.sd_rules.specs.Choices.{is_among};
 ghost use Rattle.sd_rules.specs.ChoiceFunctions.{chosen};
 ghost use Rattle.sd_machine.specs.Choosing.{choice, cpus_for, cpus_or_bound, is_recent, is_settled, is_warm, neighbours, numbers_read, put_chosen, put_on, victim_for};
 ghost use Rattle.sd_machine.specs.Threads.{set_of};
 ghost use Rattle.sd_state.specs.declared.states.State.{State};
-ghost use Rattle.sd_state.specs.States.{cpu_of, thread_of};
+ghost use Rattle.sd_state.specs.States.{cpu_of, no_body, thread_of};
 ghost use Rattle.sd_store.specs.Parts.{actor_part, cpu_part, ready_parts, real_time_part, thread_part};
-ghost use Rattle.sd_store.specs.Words.{Lacks, Tells, TellsIf};
+ghost use Rattle.sd_store.specs.Words.{Lacks, TellsIf};
 
-use crate::bodies::bound_of;
+use crate::bodies::{bound_in, bound_of};
 use arrayvec::ArrayVec;
-use sd_choose::{choose, victim};
+use sd_rules::{choose, victim};
 use sd_store::{Look, set_of};
-use sd_types::{CpuId, Hints, Put, REAL_TIME_PRIORITY, ThreadId, Work};
+use sd_types::{CpuId, Hints, Put, REAL_TIME_PRIORITY, ThreadBody, ThreadId, Work};
 
 fn copied(cpus: &[CpuId]) -> ArrayVec<CpuId, 64>
     requires { length cpus.now ≤ 64 }
@@ -48,39 +48,39 @@ fn cpus_or_bound(cpus: &[CpuId], bound: Option<CpuId>) -> ArrayVec<CpuId, 64>
     }
 }
 
-/// The processors on which thread `t` may run.
+/// The processors on which thread `t` may run, which is bound to this one, or to none.
 #[tactic(auto, unfolding(sd_machine::specs::Choosing::cpus_for))]
-pub(crate) fn cpus_for<L: Look>(
+fn cpus_in<L: Look>(
     work: &Work,
     x: &L,
     t: ThreadId,
+    bound: Option<CpuId>,
 ) -> Result<ArrayVec<CpuId, 64>, L::Lack>
-    ensures value { IfOk result (λ r. (n : ℕ) (s : State) → L.shows x.now n s → r.items ≡ cpus_for work.now s t.0) }
-    ensures lack { Lacks L.part (L.shows x.now) (L.has x.now) result (λ s. thread_part t ∷ real_time_part (set_of work.now t.0) ∷ []) }
+    ensures value { IfOk result (λ r. (n : ℕ) (s : State) → L.shows x.now n s → bound ≡ (thread_of s t.0).body.bound → r.items ≡ cpus_for work.now s t.0) }
+    ensures lack { Lacks L.part (L.shows x.now) (L.has x.now) result (λ s. real_time_part (set_of work.now t.0) ∷ []) }
 {
-    let bound = bound_of(x, t)?;
     Ok(cpus_or_bound(x.open_cpus(set_of(work, t))?, bound))
 }
 
-/// The processor on which thread `t` ran last.
-pub(crate) fn last_of<L: Look>(x: &L, t: ThreadId) -> Result<CpuId, L::Lack>
-    ensures value { Tells (L.shows x.now) result (λ s. (thread_of s t.0).body.last) }
-    ensures lack { Lacks L.part (L.shows x.now) (L.has x.now) result (λ s. thread_part t ∷ []) }
+/// The processor on which the thread of a body ran last.
+#[inline(always)]
+fn last_in(body: Option<&ThreadBody>) -> CpuId
+    ensures { result ≡ (unwrap_or (option_copied body.entry) no_body).last }
 {
-    match x.body(t)? {
-        Some(body) => Ok(body.last),
-        None => Ok(CpuId(0)),
+    match body {
+        Some(body) => body.last,
+        None => CpuId(0),
     }
 }
 
-/// The count of ticks that the last processor of thread `t` had when the thread left it.
-fn left_at<L: Look>(x: &L, t: ThreadId) -> Result<Option<u32>, L::Lack>
-    ensures value { Tells (L.shows x.now) result (λ s. (thread_of s t.0).body.left_at) }
-    ensures lack { Lacks L.part (L.shows x.now) (L.has x.now) result (λ s. thread_part t ∷ []) }
+/// The count of ticks that its last processor had when the thread left it.
+#[inline(always)]
+fn left_in(body: Option<&ThreadBody>) -> Option<u32>
+    ensures { result ≡ (unwrap_or (option_copied body.entry) no_body).left_at }
 {
-    match x.body(t)? {
-        Some(body) => Ok(body.left_at),
-        None => Ok(None),
+    match body {
+        Some(body) => body.left_at,
+        None => None,
     }
 }
 
@@ -94,13 +94,31 @@ fn is_recent(count: u32, left_at: Option<u32>) -> bool
     }
 }
 
-/// Thread `t` left its last processor a short time ago, as processor `c` counts.
-pub(crate) fn is_warm<L: Look>(x: &L, c: CpuId, t: ThreadId) -> Result<bool, L::Lack>
-    ensures value { Tells (L.shows x.now) result (λ s. is_warm s c.0 t.0) }
-    ensures lack { Lacks L.part (L.shows x.now) (L.has x.now) result (λ s. actor_part c ∷ thread_part t ∷ []) }
+/// What a choice for a thread goes by: the processors on which it may run, the one on which it ran last, and whether it left that one a short
+/// time ago.
+#[derive(Drop)]
+pub(crate) struct Choices {
+    pub cpus: ArrayVec<CpuId, 64>,
+    pub last: CpuId,
+    pub warm: bool,
+}
+
+/// What a choice for thread `t` goes by, as processor `c` counts. The thread is looked up once.
+pub(crate) fn choices_of<L: Look>(
+    work: &Work,
+    x: &L,
+    c: CpuId,
+    t: ThreadId,
+) -> Result<Choices, L::Lack>
+    ensures value { IfOk result (λ r. (n : ℕ) (s : State) → L.shows x.now n s → (r.cpus.items ≡ cpus_for work.now s t.0) × (r.last ≡ (thread_of s t.0).body.last) × (r.warm ≡ is_warm s c.0 t.0)) }
+    ensures lack { Lacks L.part (L.shows x.now) (L.has x.now) result (λ s. actor_part c ∷ thread_part t ∷ real_time_part (set_of work.now t.0) ∷ []) }
 {
-    let left_at = left_at(x, t)?;
-    Ok(is_recent(x.ticks(c)?, left_at))
+    let body = x.body(t)?;
+    let last = last_in(body);
+    let left_at = left_in(body);
+    let cpus = cpus_in(work, x, t, bound_in(body))?;
+    let warm = is_recent(x.ticks(c)?, left_at);
+    Ok(Choices { cpus, last, warm })
 }
 
 fn is_among(cpu: CpuId, cpus: &[CpuId]) -> bool
@@ -167,10 +185,8 @@ fn choice<L: Look>(
     ensures value { TellsIf (L.shows x.now) result (λ s. length (numbers_read (cpus_for work.now s t.0) hints.now) ≡ length (cpus_for work.now s t.0)) (λ s. choice work.now s c.0 t.0 hints.now) }
     ensures lack { Lacks L.part (L.shows x.now) (L.has x.now) result (λ s. actor_part c ∷ thread_part t ∷ real_time_part (set_of work.now t.0) ∷ []) }
 {
-    let cpus = cpus_for(work, x, t)?;
-    let last = last_of(x, t)?;
-    let warm = is_warm(x, c, t)?;
-    Ok(chosen(cpus.as_slice(), hints, last, warm))
+    let choices = choices_of(work, x, c, t)?;
+    Ok(chosen(choices.cpus.as_slice(), hints, choices.last, choices.warm))
 }
 
 /// The queue of a thread of priority `p` for which processor `x` was chosen.

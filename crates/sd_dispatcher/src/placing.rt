@@ -4,6 +4,7 @@
 
 ghost use Rattle.std.specs.Prelude.{◌≡◌, ◌<◌, ◌^◌, [], ⊤};
 ghost use Rattle.sd_machine.specs.Changes.{cpu_put, put, put_where};
+ghost use Rattle.sd_machine.specs.Threads.{eff_of};
 ghost use Rattle.sd_dispatcher.specs.Touched.{put_parts_if};
 ghost use Rattle.sd_store.specs.Parts.{put_parts};
 ghost use Rattle.sd_store.specs.Words.{DoesBy, LacksBy};
@@ -22,9 +23,27 @@ fn cpu_put(at: Put) -> CpuId
     }
 }
 
-/// Entry `number` makes thread `t` runnable: puts it at the back of the queue, and marks the chosen processor where a
+/// Entry `number` makes thread `t` of priority `m` runnable: puts it at the back of the queue, and marks the chosen processor where a
 /// thread of a smaller priority runs there.
 #[tactic(auto, unfolding(sd_machine::specs::Changes::put))]
+pub fn put_as<S: Store>(
+    work: &Work,
+    x: &mut S,
+    number: u64,
+    t: ThreadId,
+    m: u8,
+    at: Put,
+) -> Result<(), S::Lack>
+    requires { number < 2 ^ 62 }
+    ensures value { DoesBy number (S.shows x.old) (S.shows x.new) result (λ s. m ≡ eff_of s t.0) (λ s. put work.now s number t.0 at) }
+    ensures lack { LacksBy number S.part (S.shows x.old) (S.has x.old) result (λ s. ⊤) (λ s. put_parts work.now t at) }
+    ensures has { S.has x.new ≡ S.has x.old }
+{
+    x.enqueue(work, number, t, at)?;
+    mark_over(x, cpu_put(at), m)
+}
+
+/// The same of a thread of any priority.
 pub fn put<S: Store>(
     work: &Work,
     x: &mut S,
@@ -38,8 +57,7 @@ pub fn put<S: Store>(
     ensures has { S.has x.new ≡ S.has x.old }
 {
     let m = eff_of(x, t)?;
-    x.enqueue(work, number, t, at)?;
-    mark_over(x, cpu_put(at), m)
+    put_as(work, x, number, t, m, at)
 }
 
 /// The same where the thread moves at all.

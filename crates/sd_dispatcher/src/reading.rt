@@ -9,7 +9,7 @@ ghost use Rattle.sd_dispatcher.specs.Reading.{parts};
 ghost use Rattle.sd_store.specs.Parts.{actor_part, ready_parts, real_time_part, thread_part};
 ghost use Rattle.sd_store.specs.Words.{Lacks};
 
-use crate::choosing::{cpus_for, is_settled, is_warm, last_of, neighbours};
+use crate::choosing::{choices_of, is_settled, neighbours};
 use arrayvec::ArrayVec;
 use sd_store::Look;
 use sd_types::{CpuId, Hints, ThreadId, Which, Work};
@@ -46,10 +46,8 @@ pub fn reads_for<L: Look>(
     ensures value { IfOk result (λ r. (n : ℕ) (s : State) → L.shows x.now n s → option_map parts r ≡ reads_for work.now s c.0 t.0) }
     ensures lack { Lacks L.part (L.shows x.now) (L.has x.now) result (λ s. actor_part c ∷ thread_part t ∷ real_time_part (set_of work.now t.0) ∷ []) }
 {
-    let cpus = cpus_for(work, x, t)?;
-    let last = last_of(x, t)?;
-    let warm = is_warm(x, c, t)?;
-    Ok(read_for(cpus, last, warm))
+    let choices = choices_of(work, x, c, t)?;
+    Ok(read_for(choices.cpus, choices.last, choices.warm))
 }
 
 /// The queues of the neighbours are read, where there are any.

@@ -2,7 +2,7 @@
 //!
 //! Source: Solaris Internals (clock_tick, disp, preempt, yield), ts_dptbl(4).
 
-ghost use Rattle.std.specs.Prelude.{◌≡◌, ◌<◌, ◌^◌, [], ◌∷◌, ⊤, option_copied, unwrap_or};
+ghost use Rattle.std.specs.Prelude.{◌≡◌, ◌<◌, ◌^◌, [], ◌∷◌, ⊤, option_copied, true, unwrap_or};
 ghost use Rattle.sd_machine.specs.Changes.{key_at, leave, set_class};
 ghost use Rattle.sd_rules.specs.ClassRules.{class_requeue};
 ghost use Rattle.sd_machine.specs.Threads.{set_of};
@@ -19,28 +19,41 @@ use crate::marks::mark_over;
 use sd_store::{Destination, Look, Store, finish_op, run_tick, send_back, set_class, set_of};
 use sd_types::{CpuId, End, REAL_TIME_PRIORITY, ThreadBody, ThreadId, Work};
 
-/// Where the quantum has expired and something that is ready has at least the priority of thread `t`, the thread is to
-/// go to the back, and processor `c` is marked.
+/// The quantum of thread `t` has expired: where something that is ready has at least its priority, the thread is to go to the back, and
+/// processor `c` is marked.
 #[tactic(auto, unfolding(sd_machine::specs::Dispatching::charge))]
+#[inline(never)]
+fn expired<S: Store>(work: &Work, x: &mut S, c: CpuId, t: ThreadId) -> Result<(), S::Lack>
+    ensures value { Does (S.shows x.old) (S.shows x.new) result (λ s. ⊤) (λ s. charge s c.0 t.0 true) }
+    ensures lack { Lacks S.part (S.shows x.old) (S.has x.old) result (λ s. thread_part t ∷ ready_parts s c) }
+    ensures has { S.has x.new ≡ S.has x.old }
+{
+    if let Some(best) = x.best_ready(c)? {
+        let m = eff_of(x, best)?;
+        if eff_of(x, t)? <= m {
+            send_back(x, work, t)?;
+            x.set_mark(c, m)?;
+        }
+    }
+    Ok(())
+}
+
+/// The same where the quantum has expired. Most ticks end none, and go on at once.
+#[tactic(auto, unfolding(sd_machine::specs::Dispatching::charge))]
+#[inline(always)]
 fn charge<S: Store>(
     work: &Work,
     x: &mut S,
     c: CpuId,
     t: ThreadId,
-    expired: bool,
+    expires: bool,
 ) -> Result<(), S::Lack>
-    ensures value { Does (S.shows x.old) (S.shows x.new) result (λ s. ⊤) (λ s. charge s c.0 t.0 expired) }
+    ensures value { Does (S.shows x.old) (S.shows x.new) result (λ s. ⊤) (λ s. charge s c.0 t.0 expires) }
     ensures lack { Lacks S.part (S.shows x.old) (S.has x.old) result (λ s. thread_part t ∷ ready_parts s c) }
     ensures has { S.has x.new ≡ S.has x.old }
 {
-    if expired {
-        if let Some(best) = x.best_ready(c)? {
-            let m = eff_of(x, best)?;
-            if eff_of(x, t)? <= m {
-                send_back(x, work, t)?;
-                x.set_mark(c, m)?;
-            }
-        }
+    if expires {
+        return expired(work, x, c, t);
     }
     Ok(())
 }

@@ -7,9 +7,9 @@ ghost use Rattle.sd_machine.specs.Sleeping.{woken, woken_priority};
 ghost use Rattle.sd_store.specs.Parts.{put_parts, thread_part};
 ghost use Rattle.sd_store.specs.Words.{DoesBy, Lacks, LacksBy, Tells};
 
-use crate::bodies::{class_of, eff_as};
+use crate::bodies::{class_in, eff_in};
 use crate::classes::woken_class;
-use crate::placing::put;
+use crate::placing::put_as;
 use sd_store::{Look, Store, set_class};
 use sd_types::{Put, ThreadId, Work};
 
@@ -18,11 +18,13 @@ pub fn woken_priority<L: Look>(work: &Work, x: &L, t: ThreadId) -> Result<u8, L:
     ensures value { Tells (L.shows x.now) result (λ s. woken_priority work.now s t.0) }
     ensures lack { Lacks L.part (L.shows x.now) (L.has x.now) result (λ s. thread_part t ∷ []) }
 {
-    eff_as(&woken_class(work, class_of(x, t)?), x, t)
+    let body = x.body(t)?;
+    let class = woken_class(work, class_in(body));
+    Ok(eff_in(&class, body))
 }
 
-/// By entry `number` thread `t` wakes up and is made runnable.
-#[tactic(auto, unfolding(sd_machine::specs::Sleeping::woken))]
+/// By entry `number` thread `t` wakes up and is made runnable. Its priority is told by its body before the wakeup, which is looked up once.
+#[tactic(auto, using(crate::proofs::PriorityLemmas::woken_effective), unfolding(sd_machine::specs::Sleeping::woken))]
 pub fn woken<S: Store>(
     work: &Work,
     x: &mut S,
@@ -35,7 +37,9 @@ pub fn woken<S: Store>(
     ensures lack { LacksBy number S.part (S.shows x.old) (S.has x.old) result (λ s. ⊤) (λ s. put_parts work.now t at) }
     ensures has { S.has x.new ≡ S.has x.old }
 {
-    let class = class_of(x, t)?;
-    set_class(x, work, t, woken_class(work, class))?;
-    put(work, x, number, t, at)
+    let body = x.body(t)?;
+    let class = woken_class(work, class_in(body));
+    let m = eff_in(&class, body);
+    set_class(x, work, t, class)?;
+    put_as(work, x, number, t, m, at)
 }

@@ -1,8 +1,8 @@
 -- Bits of words.
 use Rattle.std.proofs.Common.{◌≡◌, ◌≢◌, ℕ, ◌+◌, ◌-◌, ◌*◌, ◌/◌, ◌%◌, ◌^◌, ◌<◌, ◌≤◌, ◌⊎◌, List, length, get_or, set, bit_and, bit_or, min, sym, ap, ◌∙◌, arith, inl, inr, w64}
 use Rattle.std.specs.Int.{bit_at, trailing_zeros}
-use Rattle.std.proofs.lemmas.List.{get_or-set_same, get_or-set_other, get_or_past}
-use Rattle.std.proofs.lemmas.Nat.Bits.{bit_at_set_same, bit_at_set_other, bit_at_clear_same, bit_at_clear_other, bit_at-trailing_zeros, bit_at-zero, bit_at_and, bit_at-lt, bit_at_mask_inside, bit_at_mask_below, ones_shl}
+use Rattle.std.proofs.lemmas.List.{get_or-set_same, get_or-set_other}
+use Rattle.std.proofs.lemmas.Nat.Bits.{bit_at_set_same, bit_at_set_other, bit_at_clear_same, bit_at_clear_other, bit_at-trailing_zeros, bit_at_and, bit_at-lt, bit_at_mask_inside, bit_at_mask_below, ones_shl}
 use Rattle.std.proofs.lemmas.Bool.{cases_eq}
 use Rattle.sd_dispq.specs.Bitmap.{bit_of, HasBit, IsNextSet}
 
@@ -68,22 +68,10 @@ masked_cleared w k i h b =
 abbrev pub AreZero : List ℕ → ℕ → ℕ → Type 0
 AreZero v m k = (i : ℕ) → m ≤ i → i < 64 * k → bit_of v i ≡ 0
 
-pub AreZero-start : (v : List ℕ) (m : ℕ) → AreZero v m (m / 64)
-AreZero-start v m i h b = absurd (omega arith)
-
 -- w is word k without its bits before m
 pub record IsFrom (v : List ℕ) (m k w : ℕ) : Type 0 where
   pub kept : (i : ℕ) → i < 64 → m ≤ 64 * k + i → bit_at w i ≡ bit_of v (64 * k + i)
   pub cleared : (i : ℕ) → i < 64 → 64 * k + i < m → bit_at w i ≡ 0
-
-pub AreZero-more : (v : List ℕ) (m k w : ℕ) → IsFrom v m k w → w ≡ 0 → AreZero v m k → AreZero v m (k + 1)
-AreZero-more v m k w f e z i h b = by (past_or_in i (64 * k))
-  where
-    by : (i < 64 * k) ⊎ (64 * k ≤ i) → bit_of v i ≡ 0
-    by (inl less) = z i h less
-    by (inr more) =
-        let same : 64 * k + i % 64 ≡ i = omega arith in
-        ap (bit_of v) (sym same) ∙ sym (f.kept (i % 64) (omega arith) (omega arith)) ∙ ap (λ x. bit_at x (i % 64)) e ∙ bit_at-zero (i % 64)
 
 pub next_set : (v : List ℕ) (m k w : ℕ) → k < 3 → IsFrom v m k w → AreZero v m k → w ≢ 0 → w < 2 ^ 64 → IsNextSet v m (64 * k + trailing_zeros w64 w)
 next_set v m k w h f z n b =
@@ -102,10 +90,3 @@ next_set v m k w h f z n b =
     before t s below i g l (inr more) =
         let same : 64 * k + i % 64 ≡ i = omega arith in
         ap (bit_of v) (sym same) ∙ sym (f.kept (i % 64) (omega arith) (omega arith)) ∙ below (i % 64) (omega arith)
-
-pub none_set : (v : List ℕ) (m k : ℕ) → length v ≡ 3 → 3 ≤ k → AreZero v m k → (i : ℕ) → m ≤ i → bit_of v i ≡ 0
-none_set v m k l h z i g = by (past_or_in (i / 64) 3)
-  where
-    by : (i / 64 < 3) ⊎ (3 ≤ i / 64) → bit_of v i ≡ 0
-    by (inl b) = z i g (omega arith)
-    by (inr b) = ap (λ w. bit_at w (i % 64)) (get_or_past v (i / 64) 0 (omega arith)) ∙ bit_at-zero (i % 64)

@@ -1,10 +1,10 @@
 -- Lists in order of rank and key.
-use Rattle.std.proofs.Common.{◌≡◌, ℕ, ℤ, ◌<ℤ◌, true, ◌==◌, nat_lt, nat_le, [], ◌∷◌, Some, refl, arith}
+use Rattle.std.proofs.Common.{◌≡◌, ℕ, ℤ, ◌<ℤ◌, ◌==◌, nat_lt, nat_le, [], ◌∷◌, refl, arith}
 use Rattle.std.proofs.lemmas.Bool.Decides.{nat_tests}
 use Rattle.std.proofs.lemmas.Int.{ints}
 use Rattle.sd_boxq.specs.Order.{precedes}
-use Rattle.sd_boxq.proofs.InOrder.{IsRanked-insert, IsRanked-drop, IsRanked-drop_first, IsRanked-replace, best_first}
-use Rattle.sd_dispq.specs.Laws.{BackIsRanked, FrontIsRanked, FirstIsBest, OrderIsKept}
+use Rattle.sd_boxq.proofs.InOrder.{IsRanked-insert, IsRanked-drop, IsRanked-drop_first, IsRanked-replace}
+use Rattle.sd_dispq.specs.Laws.{BackIsRanked, FrontIsRanked, OrderIsKept}
 
 module _ {X : Type 0} (rank : X → ℕ) (key : X → ℤ) where
   same_back : (x y : X) → key y <ℤ key x → precedes rank key x y ≡ nat_lt (rank y) (rank x)
@@ -20,9 +20,6 @@ module _ {X : Type 0} (rank : X → ℕ) (key : X → ℤ) where
   pub front_is_ranked : FrontIsRanked rank key
   front_is_ranked x [] k = refl
   front_is_ranked x (y ∷ xs) k = let same = same_front x y k.0 in grind (arith, same, front_is_ranked x xs k.1)
-
-  pub first_is_best : FirstIsBest rank key
-  first_is_best x xs r = best_first rank key (λ _. true) (x ∷ xs) (Some x) r refl
 
   pub order_is_kept : (id : X → ℕ) → OrderIsKept rank key id
   order_is_kept id = record {

@@ -14,7 +14,7 @@ use Rattle.sd_state.specs.declared.states.Place.{Place}
 use Rattle.sd_state.specs.declared.states.Place.TheVariants.{Queued, RealTime, Waiting, Asleep}
 use Rattle.sd_state.specs.declared.states.State.{State}
 use Rattle.sd_state.specs.declared.states.ThreadState.{ThreadState}
-use Rattle.sd_ordered.specs.Ranks.{rank, ranked, ranked_cpu, ranked_duty, ranked_place, ranked_thread}
+use Rattle.sd_encoding.specs.Ranks.{rank, ranked, ranked_cpu, ranked_duty, ranked_place, ranked_thread}
 use Rattle.sd_encoding.specs.Rewriting.{with_duties, with_places}
 
 pub no_places : (xs : List ThreadState) → with_places xs [] ≡ xs

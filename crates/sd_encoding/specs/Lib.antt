@@ -1,8 +1,11 @@
-pub mod Numbers
-pub mod Reading
-pub mod Fits
-pub mod Ranges
 pub mod Again
 pub mod Bytes
 pub mod Encoding
+pub mod Fits
+pub mod Numbers
+pub mod Order
+pub mod Ranges
+pub mod Ranks
+pub mod Reading
 pub mod Rewriting
+pub mod Shown

@@ -5,19 +5,25 @@
 mod arrays;
 mod bytes;
 mod classes;
+mod clock;
 mod duties;
 mod encoding;
 mod identities;
 mod items;
 mod locks;
+mod look;
+mod ordered;
 mod packed;
 mod places;
 mod plain;
 mod processors;
 mod ranks;
+mod sets;
 mod states;
+mod store;
 mod threads;
 
 pub use bytes::{read_numbers, write_numbers};
 pub use encoding::{decode, encode, encodings_differ, states_are_read_again};
+pub use ordered::Ordered;
 pub use ranks::rank;

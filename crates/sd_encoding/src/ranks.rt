@@ -3,8 +3,8 @@
 
 ghost use Rattle.std.specs.Prelude.{◌≡◌, ◌≤◌, Some, OnOk, OnErr, IfOk, length, map};
 ghost use Rattle.std.specs.List.{count_by};
-ghost use Rattle.sd_ordered.specs.Order.{is_below, key_at, key_in};
-ghost use Rattle.sd_ordered.specs.Ranks.{many_below, rank, ranked, ranked_duty, ranked_place};
+ghost use Rattle.sd_encoding.specs.Order.{is_below, key_at, key_in};
+ghost use Rattle.sd_encoding.specs.Ranks.{many_below, rank, ranked, ranked_duty, ranked_place};
 ghost use Rattle.sd_encoding.specs.Rewriting.{with_duties, with_places};
 
 use sd_state::{CpuState, Place, State, ThreadState};

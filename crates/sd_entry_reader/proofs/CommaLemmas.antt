@@ -5,7 +5,7 @@ use Rattle.std.proofs.lemmas.Bool.Decides.{nat_tests}
 use Rattle.std.proofs.lemmas.List.{take_rest, take_all}
 use Rattle.std.proofs.lemmas.List.Splits.{slice_split_first}
 use Rattle.std.proofs.lemmas.Option.{none-some, same_Some}
-use Rattle.sd_spelling.specs.Reading.{byte_in, is_comma, numbers_in}
+use Rattle.sd_entries.specs.Reading.{byte_in, is_comma, numbers_in}
 
 index_of : (b : Bool) (n k : ℕ) → Some k ≡ cond b (Some n) None → (b ≡ true) × (k ≡ n)
 index_of true n k e = (refl, same_Some k n e)

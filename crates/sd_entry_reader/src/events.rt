@@ -2,7 +2,7 @@
 
 ghost use Rattle.std.specs.Prelude.{◌≡◌};
 ghost use Rattle.sd_text.specs.Words.{words_of};
-ghost use Rattle.sd_spelling.specs.Reading.{answering_event, counted_or_woken, event_of, handing_event, locking_event, placing_event, preempting, running_event, semaphore_event, sleeping_event};
+ghost use Rattle.sd_entries.specs.Reading.{answering_event, counted_or_woken, event_of, handing_event, locking_event, placing_event, preempting, running_event, semaphore_event, sleeping_event};
 
 use crate::Names;
 use crate::lookups::{chan_at, lock_at, set_at, thread_at};
@@ -10,7 +10,7 @@ use crate::places::{assign_in, bind_in, end_in, prio_in, put_in, put_in_if, woke
 use crate::words::{byte_in, count_in, cpu_in, cpu_in_if, is_word, word_at};
 use sd_types::{ChanId, Event, Put, ThreadId};
 
-#[tactic(auto, unfolding(sd_spelling::specs::Reading::preempting))]
+#[tactic(auto, unfolding(sd_entries::specs::Reading::preempting))]
 fn preempting(names: &Names<'_>, line: &[u8]) -> Event
     ensures { result ≡ preempting names.now.work.now (words_of line.now) }
 {
@@ -29,16 +29,16 @@ fn preempting(names: &Names<'_>, line: &[u8]) -> Event
 }
 
 // A semaphore was raised, or its best sleeper woken.
-fn counted_or_woken(t: ThreadId, k: ChanId, s: ThreadId, count: u32, place: Option<Put>) -> Event
-    ensures { result ≡ counted_or_woken t k s count place }
+fn counted_or_woken(t: ThreadId, k: ChanId, u: ThreadId, count: u32, place: Option<Put>) -> Event
+    ensures { result ≡ counted_or_woken t k u count place }
 {
     match place {
         None => Event::SemaVCount { t, k, count },
-        Some(at) => Event::SemaVWake { t, k, s, at },
+        Some(at) => Event::SemaVWake { t, k, u, at },
     }
 }
 
-#[tactic(auto, unfolding(sd_spelling::specs::Reading::running_event))]
+#[tactic(auto, unfolding(sd_entries::specs::Reading::running_event))]
 fn running_event(names: &Names<'_>, k: &[u8], line: &[u8]) -> Option<Event>
     ensures { result ≡ running_event names.now.work.now k.now (words_of line.now) }
 {
@@ -80,7 +80,7 @@ fn running_event(names: &Names<'_>, k: &[u8], line: &[u8]) -> Option<Event>
     }
 }
 
-#[tactic(auto, unfolding(sd_spelling::specs::Reading::placing_event))]
+#[tactic(auto, unfolding(sd_entries::specs::Reading::placing_event))]
 fn placing_event(names: &Names<'_>, k: &[u8], line: &[u8]) -> Option<Event>
     ensures { result ≡ placing_event names.now.work.now k.now (words_of line.now) }
 {
@@ -105,7 +105,7 @@ fn placing_event(names: &Names<'_>, k: &[u8], line: &[u8]) -> Option<Event>
     }
 }
 
-#[tactic(auto, unfolding(sd_spelling::specs::Reading::sleeping_event))]
+#[tactic(auto, unfolding(sd_entries::specs::Reading::sleeping_event))]
 fn sleeping_event(names: &Names<'_>, k: &[u8], line: &[u8]) -> Option<Event>
     ensures { result ≡ sleeping_event names.now.work.now k.now (words_of line.now) }
 {
@@ -141,7 +141,7 @@ fn sleeping_event(names: &Names<'_>, k: &[u8], line: &[u8]) -> Option<Event>
     }
 }
 
-#[tactic(auto, unfolding(sd_spelling::specs::Reading::locking_event))]
+#[tactic(auto, unfolding(sd_entries::specs::Reading::locking_event))]
 fn locking_event(names: &Names<'_>, k: &[u8], line: &[u8]) -> Option<Event>
     ensures { result ≡ locking_event names.now.work.now k.now (words_of line.now) }
 {
@@ -175,7 +175,7 @@ fn locking_event(names: &Names<'_>, k: &[u8], line: &[u8]) -> Option<Event>
     }
 }
 
-#[tactic(auto, unfolding(sd_spelling::specs::Reading::handing_event))]
+#[tactic(auto, unfolding(sd_entries::specs::Reading::handing_event))]
 fn handing_event(names: &Names<'_>, k: &[u8], line: &[u8]) -> Option<Event>
     ensures { result ≡ handing_event names.now.work.now k.now (words_of line.now) }
 {
@@ -193,13 +193,13 @@ fn handing_event(names: &Names<'_>, k: &[u8], line: &[u8]) -> Option<Event>
     } else if is_word(k, b"unblock") {
         Some(Event::Unblock {
             l: lock_at(names, line, 3),
-            s: thread_at(names, line, 4),
+            u: thread_at(names, line, 4),
             at: put_in(word_at(line, 5), word_at(line, 6)),
         })
     } else if is_word(k, b"grant") {
         Some(Event::Grant {
             l: lock_at(names, line, 3),
-            s: thread_at(names, line, 4),
+            u: thread_at(names, line, 4),
             at: put_in(word_at(line, 5), word_at(line, 6)),
         })
     } else if is_word(k, b"passed") {
@@ -211,7 +211,7 @@ fn handing_event(names: &Names<'_>, k: &[u8], line: &[u8]) -> Option<Event>
     }
 }
 
-#[tactic(auto, unfolding(sd_spelling::specs::Reading::semaphore_event))]
+#[tactic(auto, unfolding(sd_entries::specs::Reading::semaphore_event))]
 fn semaphore_event(names: &Names<'_>, k: &[u8], line: &[u8]) -> Option<Event>
     ensures { result ≡ semaphore_event names.now.work.now k.now (words_of line.now) }
 {
@@ -244,14 +244,14 @@ fn semaphore_event(names: &Names<'_>, k: &[u8], line: &[u8]) -> Option<Event>
     }
 }
 
-#[tactic(auto, unfolding(sd_spelling::specs::Reading::answering_event))]
+#[tactic(auto, unfolding(sd_entries::specs::Reading::answering_event))]
 fn answering_event(names: &Names<'_>, k: &[u8], line: &[u8]) -> Option<Event>
     ensures { result ≡ answering_event names.now.work.now k.now (words_of line.now) }
 {
     if is_word(k, b"prio") {
         Some(Event::Prio {
             t: thread_at(names, line, 3),
-            s: thread_at(names, line, 4),
+            u: thread_at(names, line, 4),
             answer: prio_in(
                 word_at(line, 5),
                 word_at(line, 6),
@@ -272,7 +272,7 @@ fn answering_event(names: &Names<'_>, k: &[u8], line: &[u8]) -> Option<Event>
     } else if is_word(k, b"pbind") {
         Some(Event::Bind {
             t: thread_at(names, line, 3),
-            s: thread_at(names, line, 4),
+            u: thread_at(names, line, 4),
             cpu: cpu_in_if(word_at(line, 5)),
             answer: bind_in(
                 word_at(line, 6),
@@ -285,7 +285,7 @@ fn answering_event(names: &Names<'_>, k: &[u8], line: &[u8]) -> Option<Event>
 }
 
 /// The event of the line, where it is one's.
-#[tactic(auto, unfolding(sd_spelling::specs::Reading::event_of))]
+#[tactic(auto, unfolding(sd_entries::specs::Reading::event_of))]
 pub(crate) fn event_of(names: &Names<'_>, line: &[u8]) -> Event
     ensures { result ≡ event_of names.now.work.now (words_of line.now) }
 {

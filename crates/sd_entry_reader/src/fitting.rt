@@ -2,7 +2,7 @@
 
 ghost use Rattle.std.specs.Prelude.{◌≡◌};
 ghost use Rattle.std.specs.List.{list_all};
-ghost use Rattle.sd_spelling.specs.Fitting.{bind_fits, bind_reads, cpu_fits_if, entry_fits, event_fits, has_chan, has_cpu, has_lock, has_set, has_thread, hints_fit, is_byte, may_read, prio_fits, prio_reads, put_fits, put_fits_if, reads_if, same_which, woken_fits, woken_reads};
+ghost use Rattle.sd_entries.specs.Fitting.{bind_fits, bind_reads, cpu_fits_if, entry_fits, event_fits, has_chan, has_cpu, has_lock, has_set, has_thread, hints_fit, is_byte, may_read, prio_fits, prio_reads, put_fits, put_fits_if, reads_if, same_which, woken_fits, woken_reads};
 
 use sd_types::{
     BindAnswer, ChanId, CpuId, Entry, Event, Hints, LockId, PrioAnswer, Put, SetId, ThreadId,
@@ -93,7 +93,7 @@ fn bind_fits(work: &Work, answer: BindAnswer) -> bool
     }
 }
 
-#[tactic(auto, unfolding(sd_spelling::specs::Fitting::event_fits))]
+#[tactic(auto, unfolding(sd_entries::specs::Fitting::event_fits))]
 fn event_fits(work: &Work, event: &Event) -> bool
     ensures { result ≡ event_fits work.now event.now }
 {
@@ -123,21 +123,21 @@ fn event_fits(work: &Work, event: &Event) -> bool
             && put_fits_if(work, at),
         Event::End { l } => has_lock(work, l),
         Event::Exit { t, l } => has_thread(work, t) && has_lock(work, l),
-        Event::Unblock { l, s, at } => has_lock(work, l)
-            && has_thread(work, s)
+        Event::Unblock { l, u, at } => has_lock(work, l)
+            && has_thread(work, u)
             && put_fits(work, at),
-        Event::Grant { l, s, at } => has_lock(work, l) && has_thread(work, s) && put_fits(work, at),
+        Event::Grant { l, u, at } => has_lock(work, l) && has_thread(work, u) && put_fits(work, at),
         Event::Passed { l } => has_lock(work, l),
         Event::Age { t, .. } => has_thread(work, t),
-        Event::Prio { t, s, answer } => has_thread(work, t)
-            && has_thread(work, s)
+        Event::Prio { t, u, answer } => has_thread(work, t)
+            && has_thread(work, u)
             && prio_fits(work, answer),
         Event::CvWait { t, k, l } => has_thread(work, t) && has_chan(work, k) && has_lock(work, l),
         Event::SemaP { t, k } => has_thread(work, t) && has_chan(work, k),
         Event::SemaWait { t, k } => has_thread(work, t) && has_chan(work, k),
-        Event::SemaVWake { t, k, s, at } => has_thread(work, t)
+        Event::SemaVWake { t, k, u, at } => has_thread(work, t)
             && has_chan(work, k)
-            && has_thread(work, s)
+            && has_thread(work, u)
             && put_fits(work, at),
         Event::SemaVCount { t, k, .. } => has_thread(work, t) && has_chan(work, k),
         Event::Assign { t, cpu, set, .. } => has_thread(work, t)
@@ -145,8 +145,8 @@ fn event_fits(work: &Work, event: &Event) -> bool
             && has_set(work, set),
         Event::Move { t, at } => has_thread(work, t) && put_fits(work, at),
         Event::Joined { set } => has_set(work, set),
-        Event::Bind { t, s, cpu, answer } => has_thread(work, t)
-            && has_thread(work, s)
+        Event::Bind { t, u, cpu, answer } => has_thread(work, t)
+            && has_thread(work, u)
             && cpu_fits_if(work, cpu)
             && bind_fits(work, answer),
         Event::Away { t, cpu } => has_thread(work, t) && has_cpu(work, cpu),
@@ -236,7 +236,7 @@ fn hints_fit(may: Option<Which>, hints: &Option<Hints>) -> bool
 }
 
 /// Whether the entry has a line of its own.
-#[tactic(auto, unfolding(sd_spelling::specs::Fitting::entry_fits))]
+#[tactic(auto, unfolding(sd_entries::specs::Fitting::entry_fits))]
 pub(crate) fn entry_fits(work: &Work, entry: &Entry) -> bool
     ensures { result ≡ entry_fits work.now entry.now }
 {

@@ -3,7 +3,7 @@
 ghost use Rattle.std.specs.Prelude.{◌≡◌, map, IfOk, IsTrue};
 ghost use Rattle.sd_types.specs.Works.{is_distinct, same_bytes};
 
-use sd_names::NameIndex;
+use sd_lines::NameIndex;
 use sd_types::{ChanKind, LockKind, Name, ThreadDecl, Work};
 use std::alloc::{AllocError, Global};
 

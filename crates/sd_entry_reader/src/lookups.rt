@@ -4,7 +4,7 @@ ghost use Rattle.std.specs.Prelude.{◌≡◌, ◌≤◌, position};
 ghost use Rattle.std.specs.List.{position_or_len};
 ghost use Rattle.sd_types.specs.Works.{same_bytes};
 ghost use Rattle.sd_text.specs.Words.{words_of};
-ghost use Rattle.sd_spelling.specs.Reading.{at, chan_in, lock_in, set_in, thread_in};
+ghost use Rattle.sd_entries.specs.Reading.{at, chan_in, lock_in, set_in, thread_in};
 
 use crate::Names;
 use crate::words::{is_word, word_at};
@@ -43,28 +43,28 @@ fn set_index(sets: &[(Name, List<CpuId>)], word: &[u8]) -> Option<usize>
     sets.iter().position(|d| is_word(d.0.bytes(), word))
 }
 
-#[tactic(auto, unfolding(sd_spelling::specs::Reading::thread_in))]
+#[tactic(auto, unfolding(sd_entries::specs::Reading::thread_in))]
 fn thread_in(names: &Names<'_>, word: &[u8]) -> ThreadId
     ensures { result ≡ thread_in names.now.work.now word.now }
 {
     ThreadId(thread_number(names, word) as u16)
 }
 
-#[tactic(auto, unfolding(sd_spelling::specs::Reading::lock_in))]
+#[tactic(auto, unfolding(sd_entries::specs::Reading::lock_in))]
 fn lock_in(names: &Names<'_>, word: &[u8]) -> LockId
     ensures { result ≡ lock_in names.now.work.now word.now }
 {
     LockId(lock_number(names, word) as u16)
 }
 
-#[tactic(auto, unfolding(sd_spelling::specs::Reading::chan_in))]
+#[tactic(auto, unfolding(sd_entries::specs::Reading::chan_in))]
 fn chan_in(names: &Names<'_>, word: &[u8]) -> ChanId
     ensures { result ≡ chan_in names.now.work.now word.now }
 {
     ChanId(chan_number(names, word) as u16)
 }
 
-#[tactic(auto, using(crate::proofs::IndexLemmas::index_or_len, crate::proofs::IndexLemmas::index_within), unfolding(sd_spelling::specs::Reading::set_in))]
+#[tactic(auto, using(crate::proofs::IndexLemmas::index_or_len, crate::proofs::IndexLemmas::index_within), unfolding(sd_entries::specs::Reading::set_in))]
 fn set_in(work: &Work, word: &[u8]) -> SetId
     ensures { result ≡ set_in work.now word.now }
 {

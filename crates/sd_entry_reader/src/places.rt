@@ -1,12 +1,12 @@
 //! Ends of queues, places and answers, from their words.
 
 ghost use Rattle.std.specs.Prelude.{◌≡◌};
-ghost use Rattle.sd_spelling.specs.Reading.{assign_in, bind_in, denied_in, end_in, prio_in, put_in, put_in_if, woken_by};
+ghost use Rattle.sd_entries.specs.Reading.{assign_in, bind_in, denied_in, end_in, prio_in, put_in, put_in_if, woken_by};
 
 use crate::words::{byte_in, cpu_in, is_word};
 use sd_types::{AssignAnswer, BindAnswer, Denied, End, PrioAnswer, Put, ThreadId};
 
-#[tactic(auto, unfolding(sd_spelling::specs::Reading::end_in))]
+#[tactic(auto, unfolding(sd_entries::specs::Reading::end_in))]
 pub(crate) fn end_in(word: &[u8]) -> End
     ensures { result ≡ end_in word.now }
 {
@@ -18,7 +18,7 @@ pub(crate) fn end_in(word: &[u8]) -> End
 }
 
 /// Where a thread was put, from the two words.
-#[tactic(auto, unfolding(sd_spelling::specs::Reading::put_in))]
+#[tactic(auto, unfolding(sd_entries::specs::Reading::put_in))]
 pub(crate) fn put_in(word: &[u8], cpu: &[u8]) -> Put
     ensures { result ≡ put_in word.now cpu.now }
 {
@@ -30,7 +30,7 @@ pub(crate) fn put_in(word: &[u8], cpu: &[u8]) -> Put
 }
 
 /// The same, and none where the first word tells no place.
-#[tactic(auto, unfolding(sd_spelling::specs::Reading::put_in_if))]
+#[tactic(auto, unfolding(sd_entries::specs::Reading::put_in_if))]
 pub(crate) fn put_in_if(word: &[u8], cpu: &[u8]) -> Option<Put>
     ensures { result ≡ put_in_if word.now cpu.now }
 {
@@ -43,7 +43,7 @@ pub(crate) fn put_in_if(word: &[u8], cpu: &[u8]) -> Option<Put>
     }
 }
 
-#[tactic(auto, unfolding(sd_spelling::specs::Reading::denied_in))]
+#[tactic(auto, unfolding(sd_entries::specs::Reading::denied_in))]
 fn denied_in(word: &[u8]) -> Denied
     ensures { result ≡ denied_in word.now }
 {
@@ -57,7 +57,7 @@ fn denied_in(word: &[u8]) -> Denied
 }
 
 /// The answer of priocntl, from its word, the priority and the place.
-#[tactic(auto, unfolding(sd_spelling::specs::Reading::prio_in))]
+#[tactic(auto, unfolding(sd_entries::specs::Reading::prio_in))]
 pub(crate) fn prio_in(word: &[u8], p: &[u8], place: Option<Put>) -> PrioAnswer
     ensures { result ≡ prio_in word.now p.now place }
 {
@@ -71,7 +71,7 @@ pub(crate) fn prio_in(word: &[u8], p: &[u8], place: Option<Put>) -> PrioAnswer
     }
 }
 
-#[tactic(auto, unfolding(sd_spelling::specs::Reading::assign_in))]
+#[tactic(auto, unfolding(sd_entries::specs::Reading::assign_in))]
 pub(crate) fn assign_in(word: &[u8]) -> AssignAnswer
     ensures { result ≡ assign_in word.now }
 {
@@ -86,7 +86,7 @@ pub(crate) fn assign_in(word: &[u8]) -> AssignAnswer
     }
 }
 
-#[tactic(auto, unfolding(sd_spelling::specs::Reading::bind_in))]
+#[tactic(auto, unfolding(sd_entries::specs::Reading::bind_in))]
 pub(crate) fn bind_in(word: &[u8], place: Option<Put>) -> BindAnswer
     ensures { result ≡ bind_in word.now place }
 {

@@ -1,20 +1,19 @@
 //! The entry that a line tells.
 
-ghost use Rattle.std.specs.Prelude.{◌≡◌, ◌+◌, ◌≤◌, ◌++◌, ◌∷◌, [], ◌↔◌, IfNone, IfOk, IfSome, IsTrue, length, position};
+ghost use Rattle.std.specs.Prelude.{◌≡◌, ◌+◌, ◌≤◌, ◌++◌, ◌∷◌, [], ◌↔◌, IfNone, IfSome, IsTrue, length, position};
 ghost use Rattle.sd_types.specs.declared.events.Entry.{Entry as EntryValue};
 ghost use Rattle.sd_text.specs.Words.{words_of};
 ghost use Rattle.sd_machine.specs.Texts.{entry_text};
-ghost use Rattle.sd_spelling.specs.Fitting.{IsSpelled, entry_fits};
-ghost use Rattle.sd_spelling.specs.Reading.{bind_len, entry_of, event_len, hints_by, is_comma, numbers_in, prio_len, put_len, woken_len};
+ghost use Rattle.sd_entries.specs.Fitting.{IsSpelled, entry_fits};
+ghost use Rattle.sd_entries.specs.Reading.{at, bind_len, entry_of, event_len, hints_by, is_comma, numbers_in, prio_len, put_len, woken_len};
 
 use crate::Names;
 use crate::events::event_of;
 use crate::fitting::{entry_fits, may_read};
 use crate::words::{byte_in, cpu_in, is_word, number_in, word_at};
 use arrayvec::ArrayVec;
-use sd_entry_writer::write_entry;
+use sd_entries::EntryLine;
 use sd_types::{BindAnswer, Entry, Event, Hints, PrioAnswer, Put, ThreadId, Which, Work};
-use std::alloc::{AllocError, Global};
 
 fn put_len(place: Option<Put>) -> usize
     ensures len { result ≡ put_len place }
@@ -85,7 +84,7 @@ fn comma_index(bytes: &[u8]) -> Option<usize>
 }
 
 // The numbers that commas join, of 8 bits; at most the first 64.
-#[tactic(auto, unfolding(sd_spelling::specs::Reading::numbers_in))]
+#[tactic(auto, unfolding(sd_entries::specs::Reading::numbers_in))]
 fn numbers_in(word: &[u8]) -> ArrayVec<u8, 64>
     ensures { result.items ≡ numbers_in word.now }
 {
@@ -120,8 +119,19 @@ fn hints_by(may: Option<Which>, h: &[u8], numbers: &[u8]) -> Option<Hints>
     }
 }
 
+// The numbers that the words from place `i` on tell, where the event may have read any: only then are these words sought.
+fn hints_at(may: Option<Which>, line: &[u8], i: usize) -> Option<Hints>
+    requires { i ≤ 9 }
+    ensures { result ≡ hints_by may (at (words_of line.now) i) (at (words_of line.now) (i + 1)) }
+{
+    match may {
+        None => None,
+        may => hints_by(may, word_at(line, i), word_at(line, i + 1)),
+    }
+}
+
 // The entry of the line, where it is one's.
-#[tactic(auto, unfolding(sd_spelling::specs::Reading::entry_of))]
+#[tactic(auto, unfolding(sd_entries::specs::Reading::entry_of))]
 fn entry_of(names: &Names<'_>, line: &[u8]) -> Entry
     ensures { result ≡ entry_of names.now.work.now (words_of line.now) }
 {
@@ -131,19 +141,24 @@ fn entry_of(names: &Names<'_>, line: &[u8]) -> Entry
         number: number_in(word_at(line, 0)),
         cpu: cpu_in(word_at(line, 1)),
         event,
-        hints: hints_by(may_read(&event), word_at(line, i), word_at(line, i + 1)),
+        hints: hints_at(may_read(&event), line, i),
     }
 }
 
 // Whether the line is that of the entry, without its newline.
-fn is_line_of(alloc: Global, work: &Work, entry: &Entry, line: &[u8]) -> Result<bool, AllocError>
-    ensures { IfOk result (λ is. IsTrue is ↔ (entry_text work.now entry.now ≡ line.now ++ 10 ∷ [])) }
+fn is_line_of(work: &Work, entry: &Entry, line: &[u8]) -> bool
+    ensures { IsTrue result ↔ (entry_text work.now entry.now ≡ line.now ++ 10 ∷ []) }
 {
-    let mut text = Vec::new(alloc);
-    write_entry(alloc, work, entry, &mut text)?;
-    let mut whole = Vec::from_slice(alloc, line)?;
-    whole.push(b'\n')?;
-    Ok(is_same(&text, &whole))
+    let mut text = EntryLine::new();
+    is_with_newline(text.format(work, entry), line)
+}
+
+// Whether the text is the line with a newline behind it.
+fn is_with_newline(text: &[u8], line: &[u8]) -> bool
+    ensures { IsTrue result ↔ (text.now ≡ line.now ++ 10 ∷ []) }
+{
+    let len = line.len();
+    text.len() == len + 1 && text[len] == b'\n' && is_same(&text[..len], line)
 }
 
 fn is_same(text: &[u8], other: &[u8]) -> bool
@@ -154,19 +169,15 @@ fn is_same(text: &[u8], other: &[u8]) -> bool
 
 /// The entry that a line without its newline tells: some where the line is that of an entry whose numbers name what the
 /// workload has, and which has read numbers only where its event reads; and none exactly where it is that of no such entry.
-pub fn read_entry(
-    alloc: Global,
-    names: &Names<'_>,
-    line: &[u8],
-) -> Result<Option<Entry>, AllocError>
-    ensures some { IfOk result (λ found. IfSome found (λ e. IsTrue (entry_fits names.now.work.now e) × (entry_text names.now.work.now e ≡ line.now ++ 10 ∷ []))) }
-    ensures none { IfOk result (λ found. IfNone found ((e : EntryValue) → IsSpelled names.now.work.now e → entry_text names.now.work.now e ≡ line.now ++ 10 ∷ [] → ⊥)) }
+pub fn read_entry(names: &Names<'_>, line: &[u8]) -> Option<Entry>
+    ensures some { IfSome result (λ e. IsTrue (entry_fits names.now.work.now e) × (entry_text names.now.work.now e ≡ line.now ++ 10 ∷ [])) }
+    ensures none { IfNone result ((e : EntryValue) → IsSpelled names.now.work.now e → entry_text names.now.work.now e ≡ line.now ++ 10 ∷ [] → ⊥) }
 {
     let work = names.work;
     let entry = entry_of(names, line);
-    if entry_fits(work, &entry) && is_line_of(alloc, work, &entry, line)? {
-        Ok(Some(entry))
+    if entry_fits(work, &entry) && is_line_of(work, &entry, line) {
+        Some(entry)
     } else {
-        Ok(None)
+        None
     }
 }

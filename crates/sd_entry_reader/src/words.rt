@@ -3,7 +3,7 @@
 ghost use Rattle.std.specs.Prelude.{◌≡◌, ◌<◌, ◌^◌, IfSome};
 ghost use Rattle.sd_types.specs.Works.{same_bytes};
 ghost use Rattle.sd_text.specs.Words.{words_of};
-ghost use Rattle.sd_spelling.specs.Reading.{at, byte_in, count_in, cpu_in, cpu_in_if, digits_of, number_in};
+ghost use Rattle.sd_entries.specs.Reading.{at, byte_in, count_in, cpu_in, cpu_in_if, digits_of, number_in};
 
 use sd_text::next_word;
 use sd_types::CpuId;
@@ -32,7 +32,7 @@ pub(crate) fn is_word(word: &[u8], keyword: &[u8]) -> bool
     word == keyword
 }
 
-#[tactic(auto, unfolding(sd_spelling::specs::Reading::digits_of))]
+#[tactic(auto, unfolding(sd_entries::specs::Reading::digits_of))]
 fn digits_of(word: &[u8]) -> Option<u128>
     ensures value { result ≡ digits_of word.now }
     ensures bound { IfSome result (λ n. n < 10 ^ 20) }
@@ -51,7 +51,7 @@ fn digits_of(word: &[u8]) -> Option<u128>
 }
 
 /// The number of 64 bits that a word spells, 0 where it spells none.
-#[tactic(auto, unfolding(sd_spelling::specs::Reading::number_in))]
+#[tactic(auto, unfolding(sd_entries::specs::Reading::number_in))]
 pub(crate) fn number_in(word: &[u8]) -> u64
     ensures { result ≡ number_in word.now }
 {
@@ -61,14 +61,14 @@ pub(crate) fn number_in(word: &[u8]) -> u64
     }
 }
 
-#[tactic(auto, unfolding(sd_spelling::specs::Reading::byte_in))]
+#[tactic(auto, unfolding(sd_entries::specs::Reading::byte_in))]
 pub(crate) fn byte_in(word: &[u8]) -> u8
     ensures { result ≡ byte_in word.now }
 {
     number_in(word).min(255) as u8
 }
 
-#[tactic(auto, unfolding(sd_spelling::specs::Reading::count_in))]
+#[tactic(auto, unfolding(sd_entries::specs::Reading::count_in))]
 pub(crate) fn count_in(word: &[u8]) -> u32
     ensures { result ≡ count_in word.now }
 {
@@ -85,7 +85,7 @@ fn without_first(word: &[u8]) -> &[u8]
 }
 
 /// The processor whose number stands behind the first letter.
-#[tactic(auto, unfolding(sd_spelling::specs::Reading::cpu_in))]
+#[tactic(auto, unfolding(sd_entries::specs::Reading::cpu_in))]
 pub(crate) fn cpu_in(word: &[u8]) -> CpuId
     ensures { result ≡ cpu_in word.now }
 {
@@ -93,7 +93,7 @@ pub(crate) fn cpu_in(word: &[u8]) -> CpuId
 }
 
 /// The same, and none where the word is `-`.
-#[tactic(auto, unfolding(sd_spelling::specs::Reading::cpu_in_if))]
+#[tactic(auto, unfolding(sd_entries::specs::Reading::cpu_in_if))]
 pub(crate) fn cpu_in_if(word: &[u8]) -> Option<CpuId>
     ensures { result ≡ cpu_in_if word.now }
 {

@@ -18,11 +18,11 @@ use Rattle.sd_machine.specs.Events.{next}
 use Rattle.sd_machine.specs.Runs.{IsReached, IsStep, final, made, round, serial_hints, turn}
 use Rattle.sd_machine.proofs.RunLemmas.{IsRun-from}
 use Rattle.sd_invariants.proofs.Ready.{maker_inside}
-use Rattle.sd_ordered.proofs.NextLemmas.{next_same, serial_same}
-use Rattle.sd_ordered.proofs.SourceLemmas.{AreAlike}
-use Rattle.sd_ordered.proofs.TellLemmas.{count_same}
-use Rattle.sd_interleavings.specs.Spelled.{IsSpelled}
-use Rattle.sd_interleavings.proofs.RunLemmas.{alike}
+use Rattle.sd_encoding.proofs.NextLemmas.{next_same, serial_same}
+use Rattle.sd_encoding.proofs.SourceLemmas.{AreAlike}
+use Rattle.sd_encoding.proofs.TellLemmas.{count_same}
+use Rattle.sd_search.specs.Spelled.{IsSpelled}
+use Rattle.sd_search.proofs.RunLemmas.{alike}
 use Rattle.sd_search.specs.declared.graph.Step.{Step}
 use Rattle.sd_search.specs.Graphs.{IsAt, IsGathered}
 use Rattle.sd_search.proofs.FinalLemmas.{gathers_all}

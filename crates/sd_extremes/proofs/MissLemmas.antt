@@ -13,11 +13,11 @@ use Rattle.sd_state.specs.Opening.{opening}
 use Rattle.sd_state.specs.States.{thread_of}
 use Rattle.sd_machine.specs.Runs.{IsComplete, IsReached, final, round}
 use Rattle.sd_machine.specs.Threads.{has_ended}
-use Rattle.sd_ordered.proofs.AfterLemmas.{ended_same}
-use Rattle.sd_ordered.proofs.NextLemmas.{next_same}
-use Rattle.sd_ordered.proofs.SourceLemmas.{AreAlike}
-use Rattle.sd_interleavings.specs.Spelled.{IsSpelled}
-use Rattle.sd_interleavings.proofs.RunLemmas.{alike}
+use Rattle.sd_encoding.proofs.AfterLemmas.{ended_same}
+use Rattle.sd_encoding.proofs.NextLemmas.{next_same}
+use Rattle.sd_encoding.proofs.SourceLemmas.{AreAlike}
+use Rattle.sd_search.specs.Spelled.{IsSpelled}
+use Rattle.sd_search.proofs.RunLemmas.{alike}
 use Rattle.sd_search.specs.declared.graph.Step.{Step}
 use Rattle.sd_search.specs.Finals.{AreFinals}
 use Rattle.sd_search.specs.Graphs.{IsAt, IsGathered}

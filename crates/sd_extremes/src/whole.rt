@@ -8,11 +8,8 @@ ghost use Rattle.sd_invariants.specs.Laws.{IsFit};
 use sd_opening::opening;
 use sd_state::State;
 use sd_steps::{can_enter, make_entry};
-use sd_types::{CpuId, Entry, Work};
+use sd_types::{CpuId, Entry, MOST_ENTRIES, Work};
 use std::alloc::{AllocError, Global};
-
-/// The most entries of a run (this project's own): memory is taken to run out there.
-const MOST_ENTRIES: usize = 1 << 40;
 
 /// The entry of processor `c`, where it has one, goes behind those so far.
 fn go_on(

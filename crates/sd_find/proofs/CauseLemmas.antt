@@ -13,7 +13,8 @@ use Rattle.sd_answers.specs.declared.answers.Answer.TheVariants.{Usage, TooLarge
 use Rattle.sd_answers.specs.declared.writing.Unwritten.{Unwritten}
 use Rattle.sd_answers.specs.declared.writing.Unwritten.TheVariants as unwritten
 use Rattle.sd_answers.specs.Answers.{status_of, unwritten_answer}
-use Rattle.sd_answers.specs.Inputs.{most_bytes, HasTooMany, IsNoWorkload, IsRefused, IsWorkload}
+use Rattle.sd_types.specs.Limits.{most_bytes}
+use Rattle.sd_answers.specs.Inputs.{HasTooMany, IsNoWorkload, IsRefused, IsWorkload}
 use Rattle.sd_answers.specs.StreamChanges.{StreamChange, IsUntouched, Puts}
 use Rattle.sd_answers.proofs.InputLemmas.{at_most_of, not_both, not_too_many as within_most, taken_all, taken_within}
 use Rattle.sd_program.specs.Headline.{Refuses}

@@ -7,11 +7,11 @@ use Rattle.sd_state.specs.Opening.{opening}
 use Rattle.sd_machine.specs.Events.{after}
 use Rattle.sd_machine.specs.Runs.{IsComplete, IsRun, final}
 use Rattle.sd_machine.proofs.RunLemmas.{IsRun-from}
-use Rattle.sd_interleavings.specs.Closed.{IsFresh}
+use Rattle.sd_search.specs.Closed.{IsFresh}
 use Rattle.sd_search.specs.declared.questions.Question.{Question}
 use Rattle.sd_search.specs.Questions.{IsWitness}
-use Rattle.sd_certified.proofs.HintLemmas.{AreShown, all_spelled}
-use Rattle.sd_range.proofs.Induction.{opening_reached}
+use Rattle.sd_program.proofs.HintLemmas.{AreShown, all_spelled}
+use Rattle.sd_invariants.proofs.Induction.{opening_reached}
 use Rattle.sd_find.specs.Shown.{IsCertified, IsShown}
 
 fresh_shown : (w : Work) (s : State) (es : List Entry) → IsFresh w s es → AreShown w s es

@@ -20,8 +20,8 @@ use Rattle.sd_search.specs.declared.questions.Question.TheVariants.{Blocked, Stu
 use Rattle.sd_search.specs.Graphs.{packed}
 use Rattle.sd_search.specs.Questions.{is_left}
 use Rattle.sd_extremes.specs.declared.ends.Ending.{Ending}
-use Rattle.sd_latency.specs.declared.latency.Longest.{Longest}
-use Rattle.sd_latency.specs.declared.latency.Longest.TheVariants as longest
+use Rattle.sd_longest.specs.declared.latency.Longest.{Longest}
+use Rattle.sd_longest.specs.declared.latency.Longest.TheVariants as longest
 use Rattle.sd_answers.proofs.EndLemmas.{Closes, closes-behind, ends-behind}
 use Rattle.sd_program.proofs.ClosingLemmas.{accounts-ends, cycles-ends}
 use Rattle.sd_finder.specs.declared.forms.Aim.{Aim}

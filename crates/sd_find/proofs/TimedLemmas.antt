@@ -11,9 +11,9 @@ use Rattle.sd_answers.specs.declared.answers.Answer.TheVariants as answer
 use Rattle.sd_answers.specs.declared.answers.Answer.TheVariants.{Usage, TooLarge, TooLargeToAudit, NoJournal, Refused, ReadFault, WriteFault, OutOfMemory, Blocked, NotAJournal, TooLong}
 use Rattle.sd_answers.specs.Inputs.{IsWorkload}
 use Rattle.sd_answers.specs.StreamChanges.{StreamChange, HasNoFault, IsUntouched, TellsLine}
-use Rattle.sd_latency.specs.declared.latency.Longest.{Longest}
-use Rattle.sd_latency.specs.declared.latency.Longest.TheVariants as longest
-use Rattle.sd_latency.specs.Waits.{IsLongest, IsOpen}
+use Rattle.sd_longest.specs.declared.latency.Longest.{Longest}
+use Rattle.sd_longest.specs.declared.latency.Longest.TheVariants as longest
+use Rattle.sd_longest.specs.Waits.{IsLongest, IsOpen}
 use Rattle.sd_finder.specs.declared.forms.Aim.{Aim}
 use Rattle.sd_finder.specs.declared.forms.Aim.TheVariants.{Find, Count, Ends, Waits}
 use Rattle.sd_finder.specs.declared.timings.Timing.{Timing}

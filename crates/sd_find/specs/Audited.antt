@@ -7,7 +7,7 @@ use Rattle.sd_types.specs.declared.works.Work.{Work}
 use Rattle.sd_machine.specs.Texts.{journal}
 use Rattle.sd_search.specs.declared.questions.Question.{Question}
 use Rattle.sd_extremes.specs.declared.ends.Ending.{Ending}
-use Rattle.sd_answers.specs.Inputs.{most_certificate}
+use Rattle.sd_types.specs.Limits.{most_certificate}
 use Rattle.sd_answers.specs.StreamChanges.{StreamChange, HasFault}
 use Rattle.sd_program.specs.declared.forms.Command.TheVariants.{Audit}
 use Rattle.sd_program.specs.Audited.{HasWholeLines, certificate_of}

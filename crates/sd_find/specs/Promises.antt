@@ -16,9 +16,10 @@ use Rattle.sd_search.specs.Questions.{HasNoWitness, IsWitness, Meets}
 use Rattle.sd_extremes.specs.declared.ends.Ending.{Ending}
 use Rattle.sd_extremes.specs.Ends.{AreExtremes}
 use Rattle.sd_extremes.specs.WholeRuns.{IsFreshRun}
-use Rattle.sd_latency.specs.Waits.{IsLongestOf, IsWait}
+use Rattle.sd_longest.specs.Waits.{IsLongestOf, IsWait}
 use Rattle.sd_longest.specs.LongestRuns.{IsLongestRun}
-use Rattle.sd_answers.specs.Inputs.{most_bytes, IsWorkload}
+use Rattle.sd_types.specs.Limits.{most_bytes}
+use Rattle.sd_answers.specs.Inputs.{IsWorkload}
 use Rattle.sd_answers.specs.StreamChanges.{StreamChange, HasFault, HasNoFault, IsUntouched, TellsLine}
 use Rattle.sd_program.specs.Headline.{Refuses}
 use Rattle.sd_finder.specs.declared.forms.Aim.{Aim}

@@ -6,7 +6,8 @@ use Rattle.sd_types.specs.declared.works.Work.{Work}
 use Rattle.sd_answers.specs.declared.answers.Answer.{Answer}
 use Rattle.sd_answers.specs.declared.answers.Answer.TheVariants.{Usage, TooLarge, Refused, ReadFault, WriteFault, OutOfMemory}
 use Rattle.sd_answers.specs.Answers.{line_of, status_of}
-use Rattle.sd_answers.specs.Inputs.{most_bytes, HasAtMost, HasTooMany, IsNoWorkload, IsWorkload}
+use Rattle.sd_types.specs.Limits.{most_bytes}
+use Rattle.sd_answers.specs.Inputs.{HasAtMost, HasTooMany, IsNoWorkload, IsWorkload}
 use Rattle.sd_answers.specs.StreamChanges.{StreamChange, AppendsPart, HasFault, HasNoFault, IsUntouched, TellsLine}
 use Rattle.sd_finder.specs.declared.forms.Aim.{Aim}
 use Rattle.sd_finder.specs.declared.forms.Request.{Request}

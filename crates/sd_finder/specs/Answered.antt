@@ -10,10 +10,10 @@ use Rattle.sd_search.specs.declared.questions.Question.{Question}
 use Rattle.sd_search.specs.Finals.{AreFinals}
 use Rattle.sd_search.specs.Findings.{IsFair, IsFinding, IsShortest}
 use Rattle.sd_search.specs.Graphs.{AreApart, Gathers, HasEveryRun, packed}
-use Rattle.sd_latency.specs.declared.latency.Longest.{Longest}
-use Rattle.sd_latency.specs.declared.latency.Longest.TheVariants as longest
+use Rattle.sd_longest.specs.declared.latency.Longest.{Longest}
+use Rattle.sd_longest.specs.declared.latency.Longest.TheVariants as longest
 use Rattle.sd_longest.specs.LongestRuns.{IsLongestRun}
-use Rattle.sd_latency.specs.Waits.{IsLongest, IsOpen}
+use Rattle.sd_longest.specs.Waits.{IsLongest, IsOpen}
 use Rattle.sd_finder.specs.declared.forms.Aim.{Aim}
 use Rattle.sd_finder.specs.declared.forms.Aim.TheVariants.{Find, Count, Ends, Waits}
 use Rattle.sd_finder.specs.declared.timings.Timing.{Timing}

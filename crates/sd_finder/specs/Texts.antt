@@ -15,8 +15,8 @@ use Rattle.sd_search.specs.declared.findings.Finding.TheVariants.{Found, Never, 
 use Rattle.sd_search.specs.declared.questions.Question.{Question}
 use Rattle.sd_search.specs.declared.questions.Question.TheVariants.{Blocked, Stuck}
 use Rattle.sd_extremes.specs.declared.ends.Ending.{Ending}
-use Rattle.sd_latency.specs.declared.latency.Longest.{Longest}
-use Rattle.sd_latency.specs.declared.latency.Longest.TheVariants as longest
+use Rattle.sd_longest.specs.declared.latency.Longest.{Longest}
+use Rattle.sd_longest.specs.declared.latency.Longest.TheVariants as longest
 use Rattle.sd_finder.specs.declared.timings.Timing.{Timing}
 use Rattle.sd_finder.specs.declared.timings.Timing.TheVariants as timing
 use Rattle.sd_finder.specs.Lefts.{lefts_text}

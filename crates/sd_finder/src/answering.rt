@@ -1,6 +1,6 @@
 //! The search of a workload, and what is said of it.
 
-ghost use Rattle.std.specs.Prelude.{◌≡◌, ◌<◌, length, IfOk};
+ghost use Rattle.std.specs.Prelude.{◌≡◌, ◌<◌, ℕ, length, IfOk};
 ghost use Rattle.sd_search.specs.Graphs.{Gathers, packed};
 ghost use Rattle.sd_finder.specs.Answered.{IsAnswered, IsCounted, IsSearch, IsTimed, IsTimedByName, IsTold, IsWaited, IsWaitedByName, count_verdict, timing_verdict, verdict_of};
 
@@ -11,8 +11,7 @@ use crate::timings::{Timing, thread_named, timing_of};
 use crate::verdicts::{Told, Verdict};
 use crate::waiting::{longest_verdict, text_of_longest};
 use crate::watching::Watch;
-use sd_latency::longest_wait;
-use sd_longest::longest_run;
+use sd_longest::{longest_run, longest_wait};
 use sd_search::{Finding, Graph, Question, begin, explore_more};
 use sd_types::{ThreadId, Work};
 use std::alloc::{AllocError, Global};
@@ -74,6 +73,24 @@ fn count_verdict(all: bool) -> Verdict
     if all { Verdict::Done } else { Verdict::More }
 }
 
+/// The answer to a question, by the states that a search has found.
+fn answer_from(
+    alloc: Global,
+    work: &Work,
+    question: Question,
+    graph: &Graph,
+) -> Result<Told, AllocError>
+    requires { Gathers work.now graph.now }
+    ensures { IfOk result (λ told. (most : ℕ) → IsSearch work.now most graph.now → IsAnswered work.now question most told) }
+{
+    let finals = graph.finals(alloc, work)?;
+    let finding = graph.finding(alloc, work, &finals, question)?;
+    let many = graph.len();
+    let text = text_of_finding(alloc, work, question, &finding, many as u64)?;
+    let verdict = verdict_of(&finding);
+    Ok(Told { verdict, text })
+}
+
 /// The answer to a question.
 fn answer<W: Watch>(
     alloc: Global,
@@ -85,11 +102,20 @@ fn answer<W: Watch>(
     ensures { IfOk result (IsAnswered work.now question most) }
 {
     let graph = search(alloc, work, most, watch)?;
+    answer_from(alloc, work, question, &graph)
+}
+
+/// How many states a search has found, in how many of them runs end, and how many entries a run has at most.
+fn count_from(alloc: Global, work: &Work, graph: &Graph) -> Result<Told, AllocError>
+    requires { Gathers work.now graph.now }
+    ensures { IfOk result (λ told. (most : ℕ) → IsSearch work.now most graph.now → IsCounted work.now most told) }
+{
     let finals = graph.finals(alloc, work)?;
-    let finding = graph.finding(alloc, work, &finals, question)?;
     let many = graph.len();
-    let text = text_of_finding(alloc, work, question, &finding, many as u64)?;
-    let verdict = verdict_of(&finding);
+    let all = graph.is_closed();
+    let entries = longest_run(alloc, work, graph)?;
+    let text = text_of_count(alloc, all, many as u64, finals.len() as u64, entries)?;
+    let verdict = count_verdict(all);
     Ok(Told { verdict, text })
 }
 
@@ -98,13 +124,7 @@ fn count<W: Watch>(alloc: Global, work: &Work, most: u64, watch: &mut W) -> Resu
     ensures { IfOk result (IsCounted work.now most) }
 {
     let graph = search(alloc, work, most, watch)?;
-    let finals = graph.finals(alloc, work)?;
-    let many = graph.len();
-    let all = graph.is_closed();
-    let entries = longest_run(alloc, work, &graph)?;
-    let text = text_of_count(alloc, all, many as u64, finals.len() as u64, entries)?;
-    let verdict = count_verdict(all);
-    Ok(Told { verdict, text })
+    count_from(alloc, work, &graph)
 }
 
 fn timing_verdict(timing: &Timing) -> Verdict
@@ -115,6 +135,23 @@ fn timing_verdict(timing: &Timing) -> Verdict
         Timing::Never => Verdict::Never,
         Timing::More => Verdict::More,
     }
+}
+
+/// When the thread ends, by the states that a search has found.
+fn time_from(
+    alloc: Global,
+    work: &Work,
+    thread: ThreadId,
+    graph: &Graph,
+) -> Result<Told, AllocError>
+    requires { Gathers work.now graph.now }
+    ensures { IfOk result (λ told. (most : ℕ) → IsSearch work.now most graph.now → IsTimed work.now thread most told) }
+{
+    let timing = timing_of(alloc, work, graph, thread)?;
+    let many = graph.len();
+    let text = text_of_timing(alloc, work, thread, &timing, many as u64)?;
+    let verdict = timing_verdict(&timing);
+    Ok(Told { verdict, text })
 }
 
 /// When the thread ends.
@@ -128,11 +165,7 @@ fn time<W: Watch>(
     ensures { IfOk result (IsTimed work.now thread most) }
 {
     let graph = search(alloc, work, most, watch)?;
-    let timing = timing_of(alloc, work, &graph, thread)?;
-    let many = graph.len();
-    let text = text_of_timing(alloc, work, thread, &timing, many as u64)?;
-    let verdict = timing_verdict(&timing);
-    Ok(Told { verdict, text })
+    time_from(alloc, work, thread, &graph)
 }
 
 /// When the thread of this name ends. Where there is none nothing is searched, and the text is empty.
@@ -154,6 +187,23 @@ fn time_named<W: Watch>(
     }
 }
 
+/// How long the thread waits at most from a wakeup to its running, by the states that a search has found.
+fn wait_from(
+    alloc: Global,
+    work: &Work,
+    thread: ThreadId,
+    graph: &Graph,
+) -> Result<Told, AllocError>
+    requires { Gathers work.now graph.now }
+    ensures { IfOk result (λ told. (most : ℕ) → IsSearch work.now most graph.now → IsWaited work.now thread most told) }
+{
+    let longest = longest_wait(alloc, work, graph, thread)?;
+    let many = graph.len();
+    let text = text_of_longest(alloc, work, &longest, many as u64)?;
+    let verdict = longest_verdict(&longest);
+    Ok(Told { verdict, text })
+}
+
 /// How long the thread waits at most from a wakeup to its running.
 fn wait<W: Watch>(
     alloc: Global,
@@ -165,11 +215,7 @@ fn wait<W: Watch>(
     ensures { IfOk result (IsWaited work.now thread most) }
 {
     let graph = search(alloc, work, most, watch)?;
-    let longest = longest_wait(alloc, work, &graph, thread)?;
-    let many = graph.len();
-    let text = text_of_longest(alloc, work, &longest, many as u64)?;
-    let verdict = longest_verdict(&longest);
-    Ok(Told { verdict, text })
+    wait_from(alloc, work, thread, &graph)
 }
 
 /// How long the thread of this name does. Where there is none nothing is searched, and the text is empty.

@@ -8,14 +8,11 @@ ghost use Rattle.sd_state.specs.Opening.{opening};
 ghost use Rattle.sd_state.specs.Texts.{accounts_text};
 
 use sd_accounts::Accounts;
-use sd_entry_writer::write_entry;
+use sd_entries::write_entry;
 use sd_state::State;
 use sd_steps::replay;
-use sd_types::{Entry, Work};
+use sd_types::{Entry, MOST_ENTRIES, Work};
 use std::alloc::{AllocError, Global};
-
-/// The most entries of a run that is shown (this project's own): memory is taken to run out there.
-const MOST_ENTRIES: usize = 1 << 40;
 
 /// Appends the entries in order.
 #[tactic(auto, unfolding(sd_machine::specs::Texts::entries_text))]

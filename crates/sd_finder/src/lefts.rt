@@ -11,7 +11,7 @@ ghost use Rattle.sd_machine.specs.Threads.{lock_of, runs_somewhere};
 ghost use Rattle.sd_search.specs.Questions.{is_left};
 ghost use Rattle.sd_finder.specs.Lefts.{is_spin, left_line, lefts_text, line_if_left, lock_if, place_words, running_words, spun_for};
 
-use sd_entry_writer::{put_chan_name, put_lock_name, put_thread_name};
+use sd_entries::{put_chan_name, put_lock_name, put_thread_name};
 use sd_flat::place_of;
 use sd_state::{LockState, Place, State, ThreadState};
 use sd_types::{ChanId, LockId, Op, ThreadBody, ThreadId, Work};

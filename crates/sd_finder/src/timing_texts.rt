@@ -7,7 +7,7 @@ ghost use Rattle.sd_finder.specs.Timings.{AreShort};
 use crate::journals::write_journal;
 use crate::texts::{write_more, write_never, write_states};
 use crate::timings::Timing;
-use sd_entry_writer::put_thread_name;
+use sd_entries::put_thread_name;
 use sd_extremes::Ending;
 use sd_text::put_number;
 use sd_types::{ThreadId, Work};

@@ -6,8 +6,8 @@ ghost use Rattle.sd_search.specs.Graphs.{Gathers, packed};
 ghost use Rattle.sd_finder.specs.Timings.{IsInEvery, IsNamed, IsTiming};
 
 use sd_extremes::{Ending, Missed, When, run_without, when_ended};
-use sd_labels::thread_name;
 use sd_search::Graph;
+use sd_stretches::thread_name;
 use sd_types::{ThreadId, Work};
 use std::alloc::{AllocError, Global};
 

@@ -8,7 +8,7 @@ use crate::journals::write_journal;
 use crate::texts::{write_more, write_never, write_states};
 use crate::timing_texts::write_tick;
 use crate::verdicts::Verdict;
-use sd_latency::Longest;
+use sd_longest::Longest;
 use sd_types::{Entry, Work};
 use std::alloc::{AllocError, Global};
 

@@ -17,10 +17,10 @@ use Rattle.sd_state.specs.States.{thread_of}
 use Rattle.sd_machine.specs.Prioritising.{is_privileged, uid_of}
 use Rattle.sd_machine.specs.SetChanges.{bind_put, bind_to, bound_put, is_closing, is_misbound, unbound_put}
 use Rattle.sd_machine.specs.Threads.{eff_of, has_ended, set_of}
-use Rattle.sd_shown.specs.Standing.{home_of, home_of_place}
+use Rattle.sd_homes.specs.Standing.{home_of, home_of_place}
 use Rattle.sd_footprint.proofs.Covers.{Cover}
 use Rattle.sd_dispatcher.specs.Touched.{put_parts_if}
-use Rattle.sd_sets.specs.Touched.{bind_parts, runs_parts}
+use Rattle.sd_priocntl.specs.SetsTouched.{bind_parts, runs_parts}
 use Rattle.sd_store.specs.Parts.{bound_parts, cpu_part, thread_part}
 
 -- the processor to which a thread is bound

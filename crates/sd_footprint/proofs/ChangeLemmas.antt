@@ -30,7 +30,7 @@ use Rattle.sd_store.specs.declared.parts.Part.{Part}
 use Rattle.sd_store.specs.declared.parts.Part.TheVariants.{Actor, Thread}
 use Rattle.sd_store.specs.Parts.{IsAmong, put_parts, view_of}
 use Rattle.sd_footprint.specs.Changed.{ChangesOnly, HasHome, IsNamed, MovesWithin, RanThere, SameActor}
-use Rattle.sd_shown.specs.Standing.{home_of, home_of_place}
+use Rattle.sd_homes.specs.Standing.{home_of, home_of_place}
 use Rattle.sd_frames.proofs.Parts.{same_item, set_past}
 
 abbrev pub HasThread : List Part → ℕ → Type 0

@@ -23,7 +23,7 @@ use Rattle.sd_machine.specs.Choosing.{put_chosen}
 use Rattle.sd_machine.specs.Events.{event_of, placed_thread, plan_event}
 use Rattle.sd_machine.specs.Requeueing.{requeue_plan}
 use Rattle.sd_machine.specs.Threads.{set_of}
-use Rattle.sd_shown.specs.Standing.{home_of, home_of_place}
+use Rattle.sd_homes.specs.Standing.{home_of, home_of_place}
 use Rattle.sd_footprint.specs.Homes.{IsOneOf, LiesIn}
 use Rattle.sd_dispatcher.specs.Touched.{put_parts_if, reordered_parts}
 use Rattle.sd_step.specs.Needed.{choice_parts, read_parts}

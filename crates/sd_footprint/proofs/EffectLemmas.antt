@@ -51,13 +51,13 @@ use Rattle.sd_machine.specs.Walking.{walk_ended, walked, willed}
 use Rattle.sd_dispatcher.specs.Touched.{put_parts_if, reordered_parts}
 use Rattle.sd_priocntl.specs.Touched.{prio_parts}
 use Rattle.sd_sleep.specs.Touched.{woken_parts}
-use Rattle.sd_sets.specs.Touched.{bind_parts, rebound_parts, runs_parts}
+use Rattle.sd_priocntl.specs.SetsTouched.{bind_parts, rebound_parts, runs_parts}
 use Rattle.sd_step.specs.Touched.{after_parts, touched}
 use Rattle.sd_step.proofs.Dropped.{touched_dropped}
 use Rattle.sd_store.specs.declared.parts.Part.{Part}
 use Rattle.sd_store.specs.Parts.{IsAmong, bound_parts, put_parts}
 use Rattle.sd_footprint.specs.Changed.{ChangesOnly, HasHome, RanThere}
-use Rattle.sd_shown.specs.Standing.{home_of_place}
+use Rattle.sd_homes.specs.Standing.{home_of_place}
 use Rattle.sd_footprint.proofs.ChangeLemmas.{AreAmong, HasActor, HasCpu, HasThread, IsAway, changes_bind, changes_class, changes_close, changes_count, changes_duty, changes_either, changes_finish, changes_hold, changes_join, changes_kernel_mark, changes_leave, changes_leave_as, changes_let_go, changes_lock, changes_looped, changes_mark, changes_mark_over, changes_marks, changes_none, changes_number, changes_put, changes_remark, changes_run_on, changes_run_tick, changes_send_back, changes_then, changes_tick, changes_unbind}
 use Rattle.sd_frames.proofs.Parts.{same_item}
 

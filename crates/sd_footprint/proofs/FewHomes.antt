@@ -43,7 +43,7 @@ use Rattle.sd_machine.specs.SetChanges.{closing_plan}
 use Rattle.sd_machine.specs.Sleeping.{napend_plan, rouse_plan, wake_plan, woken_priority}
 use Rattle.sd_machine.specs.Threads.{best_queued, best_ready, best_sleeper, best_sleeper_below, best_unbound, best_waiter, count_of, eff_of, first_due, lock_of, next_to_age, priority_of, runner, set_of, thread_id}
 use Rattle.sd_machine.specs.Walking.{walk_plan}
-use Rattle.sd_shown.specs.Standing.{home_of}
+use Rattle.sd_homes.specs.Standing.{home_of}
 use Rattle.sd_footprint.specs.Homes.{IsOneOf, NeedsFour, TakesFour}
 use Rattle.sd_step.specs.Needed.{choice_parts, cpu_parts, later_parts, needed, next_parts, op_parts, plan_parts, read_parts, reads_parts, run_parts, turn_parts}
 use Rattle.sd_step.specs.Tasks.{task_parts}

@@ -51,7 +51,7 @@ use Rattle.sd_machine.specs.Threads.{best_queued, best_ready, best_sleeper, best
 use Rattle.sd_machine.specs.Walking.{walk_plan}
 use Rattle.sd_footprint.proofs.ThereLemmas.{AllThere, IsKnown, chain_there, cpu_inside, cpu_set, ready_there, sleepers_there, there_join, thread_set}
 use Rattle.sd_dispatcher.specs.Touched.{victim_parts}
-use Rattle.sd_range.proofs.Named.{assign_cpu, bind_cpu}
+use Rattle.sd_invariants.proofs.Named.{assign_cpu, bind_cpu}
 use Rattle.sd_invariants.specs.Laws.{is_in}
 use Rattle.sd_frames.proofs.Found.{due_found, queued_found, sleeper_below_found, sleeper_found, waiter_found}
 use Rattle.sd_invariants.proofs.Works.{declared, op_named}

@@ -15,14 +15,14 @@ use Rattle.sd_state.specs.States.{cpu_of, thread_of}
 use Rattle.sd_machine.specs.Runs.{IsReached}
 use Rattle.sd_machine.specs.Shapes.{FitsFully}
 use Rattle.sd_machine.specs.Threads.{lock_of, set_of}
-use Rattle.sd_shown.specs.declared.list_id.ListId.{ListId}
-use Rattle.sd_shown.specs.declared.list_id.ListId.TheVariants.{Runs, Queues, Urgent, Waits, Sleeps, Naps, Ends}
-use Rattle.sd_shown.specs.Numbers.{IsHomeOf, IsListOf}
-use Rattle.sd_shown.specs.Standing.{home_at, list_at, list_of}
+use Rattle.sd_homes.specs.declared.list_id.ListId.{ListId}
+use Rattle.sd_homes.specs.declared.list_id.ListId.TheVariants.{Runs, Queues, Urgent, Waits, Sleeps, Naps, Ends}
+use Rattle.sd_homes.specs.Numbers.{IsHomeOf, IsListOf}
+use Rattle.sd_homes.specs.Standing.{home_at, list_at, list_of}
 use Rattle.sd_footprint.specs.There.{IsThere, StandsThere}
-use Rattle.sd_range.specs.There.{CpusAreThere, ThreadsAreThere}
-use Rattle.sd_range.proofs.All.{cpus_law, threads_law}
-use Rattle.sd_range.proofs.Named.{set_of_there}
+use Rattle.sd_invariants.specs.There.{CpusAreThere, ThreadsAreThere}
+use Rattle.sd_invariants.proofs.All.{cpus_law, threads_law}
+use Rattle.sd_invariants.proofs.Named.{set_of_there}
 use Rattle.sd_invariants.specs.Laws.{OpenHold}
 use Rattle.sd_invariants.proofs.Whole.{is_fit, reached_whole}
 use Rattle.sd_store.specs.declared.parts.Part.{Part}

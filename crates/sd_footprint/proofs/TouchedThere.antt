@@ -25,8 +25,8 @@ use Rattle.sd_footprint.proofs.ThereLemmas.{AllThere, IsKnown, chain_there, cpu_
 use Rattle.sd_dispatcher.specs.Touched.{leaving_parts, put_parts_if, reordered_parts}
 use Rattle.sd_priocntl.specs.Touched.{prio_parts}
 use Rattle.sd_sleep.specs.Touched.{woken_parts}
-use Rattle.sd_range.proofs.Range.{needs_reached}
-use Rattle.sd_sets.specs.Touched.{bind_parts, rebound_parts, runs_parts}
+use Rattle.sd_invariants.proofs.Range.{needs_reached}
+use Rattle.sd_priocntl.specs.SetsTouched.{bind_parts, rebound_parts, runs_parts}
 use Rattle.sd_step.specs.Needed.{needed, next_parts, reads_parts}
 use Rattle.sd_step.specs.Touched.{after_parts, touched}
 use Rattle.sd_store.specs.Parts.{bound_parts, put_parts}

@@ -19,7 +19,7 @@ use Rattle.sd_store.specs.declared.parts.Part.{Part}
 use Rattle.sd_store.specs.declared.parts.Part.TheVariants.{Actor, Home, Thread}
 use Rattle.sd_store.specs.Parts.{IsAmong, view_of}
 use Rattle.sd_step.specs.Touched.{after_parts}
-use Rattle.sd_shown.specs.Standing.{home_of}
+use Rattle.sd_homes.specs.Standing.{home_of}
 
 -- the home of this number is one of the parts
 abbrev pub HasHome : List Part → HomeId → Type 0

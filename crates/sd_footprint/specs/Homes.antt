@@ -10,7 +10,7 @@ use Rattle.sd_state.specs.declared.states.State.{State}
 use Rattle.sd_state.specs.States.{thread_of}
 use Rattle.sd_machine.specs.Events.{wish}
 use Rattle.sd_machine.specs.Runs.{IsReached}
-use Rattle.sd_shown.specs.Standing.{home_of}
+use Rattle.sd_homes.specs.Standing.{home_of}
 use Rattle.sd_step.specs.Needed.{needed, next_parts, reads_parts}
 use Rattle.sd_step.specs.Touched.{after_parts}
 use Rattle.sd_store.specs.declared.parts.Part.{Part}

@@ -10,8 +10,8 @@ use Rattle.sd_state.specs.declared.states.ThreadState.{ThreadState}
 use Rattle.sd_state.specs.States.{thread_of}
 use Rattle.sd_machine.specs.Events.{next}
 use Rattle.sd_machine.specs.Runs.{IsReached}
-use Rattle.sd_shown.specs.Numbers.{IsHomeOf, IsListOf}
-use Rattle.sd_shown.specs.Standing.{home_of, list_of}
+use Rattle.sd_homes.specs.Numbers.{IsHomeOf, IsListOf}
+use Rattle.sd_homes.specs.Standing.{home_of, list_of}
 use Rattle.sd_step.specs.Needed.{needed, next_parts, reads_parts}
 use Rattle.sd_step.specs.Touched.{after_parts}
 use Rattle.sd_store.specs.declared.parts.Part.{Part}

@@ -30,7 +30,7 @@ use Rattle.sd_types.specs.declared.scripts.Request.{Request}
 use Rattle.sd_types.specs.declared.works.Work.{Work}
 use Rattle.sd_rules.specs.Choices.{is_among, IsBestByHints, IsVictim}
 use Rattle.sd_rules.specs.ChoiceFunctions.{chosen, victim_of}
-use Rattle.sd_choose.proofs.FunctionLemmas.{chosen_is, victim_is}
+use Rattle.sd_rules.proofs.FunctionLemmas.{chosen_is, victim_is}
 use Rattle.sd_types.specs.Events.{ticks}
 use Rattle.sd_rules.specs.ClassRules.{end_of}
 use Rattle.sd_machine.specs.declared.plans.Plan.{Plan}

@@ -1,7 +1,7 @@
 -- Whose operation each event ends.
 use Rattle.std.proofs.Common.{◌≡◌, ℕ, ◌+◌, ◌-◌, ◌<◌, Bool, true, false, length, Option, Some, None, refl, ap, ◌⊎◌, inl, inr}
 use Rattle.std.specs.Prelude.{⊤}
-use Rattle.sd_chains.proofs.Moves.{IsPut}
+use Rattle.sd_machine.proofs.Moves.{IsPut}
 use Rattle.sd_machine.proofs.ShapeLemmas.{IsShaped, then_shape, lock_shape, count_shape, hold_shape, set_duty_shape, count_tick_shape, leave_shape, put_where_shape, close_shape, woken_shape, released_shape, changed_on_shape, cleared_shape, rebound_shape}
 use Rattle.sd_frames.proofs.Parts.{same_item, put_item, put_same, same_put, put_is}
 use Rattle.sd_frames.proofs.Words.{all_same, then_same, lock_same, count_same, set_duty_same, count_tick_same, close_same, idled_same, walk_ended_same, joined_same, remark_same, cleared_same, called_back_same, release_from_same, passed_same, leave_same, put_where_same, class_counts_same, spun_same, dispatched_same, stolen_same, preempted_same, sent_away_same, done_same, woken_same, roused_same, blocked_same, unblocked_same, reordered_same, changed_on_same, aged_same, moved_same, Same, Moves, of_threads}

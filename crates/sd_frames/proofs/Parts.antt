@@ -2,7 +2,7 @@
 use Rattle.std.proofs.Common.{◌≡◌, ℕ, ◌<◌, ◌≤◌, List, [], ◌∷◌, length, get_or, set, ap, ◌∙◌, sym, subst, refl, inl, inr, arith, zero, suc}
 use Rattle.std.proofs.lemmas.Bool.{cases_eq, cases_lt}
 use Rattle.std.proofs.lemmas.List.{get_or-set_same, get_or-set_other}
-use Rattle.sd_chains.proofs.Moves.{IsPut, IsSame}
+use Rattle.sd_machine.proofs.Moves.{IsPut, IsSame}
 
 -- a part of a list, where one item is written
 pub put_item : {X Y : Type 0} (part : X → Y) (xs : List X) (d : X) (t : ℕ) (x : X) → t < length xs → IsPut t (part x) (λ u. part (get_or xs u d)) (λ u. part (get_or (set xs t x) u d))

@@ -1,6 +1,6 @@
 -- A part of each thread that an event leaves alone, for any part that does not look at what the event changes.
 use Rattle.std.proofs.Common.{◌≡◌, ℕ, ◌-◌, Bool, true, false, List, Option, Some, None, refl, ◌∙◌}
-use Rattle.sd_chains.proofs.Moves.{IsSame}
+use Rattle.sd_machine.proofs.Moves.{IsSame}
 use Rattle.sd_frames.proofs.Parts.{same_item}
 use Rattle.sd_types.specs.declared.numbers.ChanId.{ChanId}
 use Rattle.sd_types.specs.declared.numbers.CpuId.{CpuId}

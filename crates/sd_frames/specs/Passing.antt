@@ -3,7 +3,7 @@ use Rattle.std.specs.Prelude.{true, false, Option, Some, None}
 use Rattle.sd_types.specs.declared.numbers.LockId.{LockId}
 use Rattle.sd_types.specs.declared.events.Duty.{Duty}
 use Rattle.sd_types.specs.declared.events.Duty.TheVariants.{WakeMutex, GrantWriter, GrantReaders}
-use Rattle.sd_chains.specs.Holders as H
+use Rattle.sd_machine.specs.Holders as H
 
 -- which lock a duty passes on; to one waiter alone, where it has no reader
 abbrev pub pass_of : Duty → Option H.Pass

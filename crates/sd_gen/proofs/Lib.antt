@@ -1,1 +1,10 @@
+pub mod AcceptedLemmas
+pub mod AnswerLemmas
 pub mod DrawnLemmas
+pub mod DrawnOpLemmas
+pub mod DrawnScriptLemmas
+pub mod DrawnThreadLemmas
+pub mod DrawnWholeLemmas
+pub mod MadeLemmas
+pub mod PlainLemmas
+pub mod PlainLineLemmas

@@ -3,10 +3,14 @@
 //! Source: this project's own.
 #![tactic(auto)]
 
+mod laws;
 mod lines;
 mod parts;
 #[cfg(test)]
 mod tests;
 mod threads;
 
+pub use laws::{
+    accepted_texts_are_plain, generated_texts_are_accepted, texts_are_accepted_or_refused,
+};
 pub use threads::generate;

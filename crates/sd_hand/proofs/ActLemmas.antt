@@ -19,8 +19,8 @@ use Rattle.sd_store.specs.declared.parts.CpuView.{CpuView}
 use Rattle.sd_store.specs.declared.parts.Part.{Part}
 use Rattle.sd_store.specs.declared.parts.Part.TheVariants as part
 use Rattle.sd_store.specs.Parts.{view_of}
-use Rattle.sd_shown.specs.declared.list_id.ListId.{ListId}
-use Rattle.sd_shown.specs.Standing.{home_at, list_of, look_of, record_of, without, MayCome}
+use Rattle.sd_homes.specs.declared.list_id.ListId.{ListId}
+use Rattle.sd_homes.specs.Standing.{home_at, list_of, look_of, record_of, without, MayCome}
 use Rattle.sd_homes.specs.declared.home.Home.{Home}
 use Rattle.sd_homes.specs.declared.home.Home.TheVariants.{Cpu, RealTime, Chain, Sleepers}
 use Rattle.sd_homes.specs.Homes.{is_chan_of, is_of}
@@ -139,15 +139,6 @@ like_cpu s c z e f = record {
   duty = λ d. field_kept (λ w. w.duty) s c d z f;
   locks = refl;
   chans = refl;
-}
-
-pub like_trans : (s t u : State) → IsLike s t → IsLike t u → IsLike s u
-like_trans s t u a b = record {
-  cpus = b.cpus ∙ a.cpus;
-  count = λ c. b.count c ∙ a.count c;
-  duty = λ c. b.duty c ∙ a.duty c;
-  locks = b.locks ∙ a.locks;
-  chans = b.chans ∙ a.chans;
 }
 
 pub carried : (x y : Acting) (n m : ℕ) (s new : State) → y.actor ≡ x.actor → IsLike s new → AreApart y.hand.slots → ShowsState m new y.hand.slots → IsShown x n s → IsShown y m new

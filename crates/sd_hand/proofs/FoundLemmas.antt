@@ -5,12 +5,12 @@ use Rattle.std.proofs.lemmas.Bool.{cases_lt, eq-eqb, or_left, or_right}
 use Rattle.sd_types.specs.declared.numbers.Side.{Side}
 use Rattle.sd_types.specs.declared.numbers.Side.TheVariants.{Writer, Reader}
 use Rattle.sd_boxq.specs.Order.{find_first, find_id}
-use Rattle.sd_turn.specs.Waiters.{Waiters, find_among as find_waiter, find_in, nobody, on_side}
+use Rattle.sd_turnstile.specs.Waiters.{Waiters, find_among as find_waiter, find_in, nobody, on_side}
 use Rattle.sd_sleepq.specs.Among.{find_among as find_sleeper}
 use Rattle.sd_record.specs.Records.{ThreadRecord}
-use Rattle.sd_shown.specs.declared.list_id.ListId.{ListId}
-use Rattle.sd_shown.specs.declared.list_id.ListId.TheVariants.{Runs, Queues, Urgent, Waits, Sleeps, Naps, Ends}
-use Rattle.sd_shown.specs.Standing.{ages, better, due_of_first, earlier, id_of, least_to_age, rank_of}
+use Rattle.sd_homes.specs.declared.list_id.ListId.{ListId}
+use Rattle.sd_homes.specs.declared.list_id.ListId.TheVariants.{Runs, Queues, Urgent, Waits, Sleeps, Naps, Ends}
+use Rattle.sd_homes.specs.Standing.{ages, better, due_of_first, earlier, id_of, least_to_age, rank_of}
 use Rattle.sd_homes.specs.declared.home.Home.{Home}
 use Rattle.sd_homes.specs.declared.home.Home.TheVariants.{Cpu, RealTime, Chain, Sleepers}
 use Rattle.sd_homes.specs.Homes.{OfChain, OfCpu, OfSet, OfSleepers, is_chan_of, is_of, one}

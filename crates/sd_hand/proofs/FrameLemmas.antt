@@ -9,7 +9,7 @@ use Rattle.sd_state.specs.declared.states.State.{State}
 use Rattle.sd_state.specs.States.{thread_of, with_cpu}
 use Rattle.sd_machine.specs.Changes.{with_body}
 use Rattle.sd_machine.specs.Threads.{with_open}
-use Rattle.sd_shown.specs.Standing.{home_of, home_of_place, look_of}
+use Rattle.sd_homes.specs.Standing.{home_of, home_of_place, look_of}
 use Rattle.sd_homes.specs.declared.home.Home.{Home}
 use Rattle.sd_hand.specs.Frames.{IsNot, Stays}
 use Rattle.sd_hand.proofs.MoveLemmas.{frame_thread, of_state}

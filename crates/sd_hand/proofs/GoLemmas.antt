@@ -25,10 +25,10 @@ use Rattle.sd_store.specs.declared.changes.BodyChange.{BodyChange}
 use Rattle.sd_store.specs.declared.changes.BodyChange.TheVariants.{Class, FinishOp, Hold, Inherit, LetGo, Looped, RunTick, SendBack}
 use Rattle.sd_store.specs.declared.spots.Destination.{Destination}
 use Rattle.sd_store.specs.declared.spots.Destination.TheVariants as to
-use Rattle.sd_shown.specs.declared.list_id.ListId.{ListId}
-use Rattle.sd_shown.specs.declared.list_id.ListId.TheVariants.{Ends, Queues, Runs, Sleeps, Urgent, Waits}
-use Rattle.sd_shown.specs.Standing.{ByNumber, IsKeyFor, MayCome, id_of, list_at, look_of, stands}
-use Rattle.sd_shown.proofs.StandingLemmas.{runs_where_last, stands_own}
+use Rattle.sd_homes.specs.declared.list_id.ListId.{ListId}
+use Rattle.sd_homes.specs.declared.list_id.ListId.TheVariants.{Ends, Queues, Runs, Sleeps, Urgent, Waits}
+use Rattle.sd_homes.specs.Standing.{ByNumber, IsKeyFor, MayCome, id_of, list_at, look_of, stands}
+use Rattle.sd_homes.proofs.StandingLemmas.{runs_where_last, stands_own}
 use Rattle.sd_homes.specs.Bodies.{CanChangeThread}
 use Rattle.sd_homes.specs.declared.home.Home.{Home}
 use Rattle.sd_homes.specs.Families.{list_in}

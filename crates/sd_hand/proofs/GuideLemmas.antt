@@ -5,8 +5,8 @@ use Rattle.std.specs.Prelude.{slice_set}
 use Rattle.std.proofs.lemmas.List.{length-set, set-get_or}
 use Rattle.std.proofs.lemmas.Option.{slice_get-get_or}
 use Rattle.sd_types.specs.declared.numbers.HomeId.{HomeId}
-use Rattle.sd_shown.specs.declared.list_id.ListId.{ListId}
-use Rattle.sd_shown.specs.Standing.{home_at}
+use Rattle.sd_homes.specs.declared.list_id.ListId.{ListId}
+use Rattle.sd_homes.specs.Standing.{home_at}
 use Rattle.sd_homes.specs.declared.home.Home.{Home}
 use Rattle.sd_types.specs.declared.numbers.CpuId.{CpuId}
 use Rattle.sd_machine.specs.Changes.{with_cpu_in, without_cpu}
@@ -140,15 +140,9 @@ apart_set (Some z ∷ hs) (suc i) h g d a e keeps = (none_changed (home_id z) hs
 pub apart_changed : (hs : List (Option Home)) (i : ℕ) (h g : Home) (m : Option Home) → AreApart hs → m ≡ get_or hs i m → m ≡ Some h → home_id g ≡ home_id h → AreApart (slice_set hs i (Some g))
 apart_changed hs i h g m a e is keeps = apart_set hs i h g m a (sym e ∙ is) keeps
 
-pub apart_lost : (hs : List (Option Home)) (i : ℕ) (m : Option Home) → AreApart hs → m ≡ get_or hs i m → AreApart (slice_set hs i m)
-apart_lost hs i m a e = subst AreApart (sym (ap (set hs i) e ∙ set-get_or hs i m)) a
-
 -- the slots of a hand after a change of a home
 pub slots_changed : (hs : List (Option Home)) (i : ℕ) (h g : Home) (m : Option Home) → AreSlots hs → m ≡ get_or hs i m → m ≡ Some h → home_id g ≡ home_id h → AreSlots (slice_set hs i (Some g))
 slots_changed hs i h g m a e is keeps = record { apart = apart_changed hs i h g m a.apart e is keeps; four = subst (λ n. 4 ≤ n) (sym (length-set hs i (Some g))) a.four }
-
-pub slots_lost : (hs : List (Option Home)) (i : ℕ) (m : Option Home) → AreSlots hs → m ≡ get_or hs i m → AreSlots (slice_set hs i m)
-slots_lost hs i m a e = subst AreSlots (sym (ap (set hs i) e ∙ set-get_or hs i m)) a
 
 -- what was found is there
 pub found_some : {A : Type 0} (o : Option (Bor A)) → is_some (option_copied o) ≡ is_some o

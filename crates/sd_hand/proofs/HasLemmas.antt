@@ -6,14 +6,14 @@ use Rattle.sd_types.specs.declared.numbers.HomeId.{HomeId}
 use Rattle.sd_types.specs.declared.numbers.Side.{Side}
 use Rattle.sd_types.specs.declared.numbers.Side.TheVariants.{Writer, Reader}
 use Rattle.sd_boxq.specs.Order.{drop_id, find_id, insert_before, precedes, precedes_keyed}
-use Rattle.sd_turn.proofs.LeftLemmas.{none_dropped}
-use Rattle.sd_turn.specs.Waiters.{Waiters, find_among as find_waiter, find_in, nobody, on_side, with_side}
+use Rattle.sd_turnstile.proofs.LeftLemmas.{none_dropped}
+use Rattle.sd_turnstile.specs.Waiters.{Waiters, find_among as find_waiter, find_in, nobody, on_side, with_side}
 use Rattle.sd_sleepq.specs.Among.{find_among as find_sleeper}
 use Rattle.sd_record.specs.Records.{ThreadRecord}
-use Rattle.sd_shown.specs.declared.list_id.ListId.{ListId}
-use Rattle.sd_shown.specs.declared.list_id.ListId.TheVariants.{Runs, Queues, Urgent, Waits, Sleeps, Naps, Ends}
-use Rattle.sd_shown.specs.Standing.{home_at, id_of, insert_at, key_in, rank_of}
-use Rattle.sd_shown.proofs.ListLemmas.{find-dropped_other, find-inserted_other, found_id}
+use Rattle.sd_homes.specs.declared.list_id.ListId.{ListId}
+use Rattle.sd_homes.specs.declared.list_id.ListId.TheVariants.{Runs, Queues, Urgent, Waits, Sleeps, Naps, Ends}
+use Rattle.sd_homes.specs.Standing.{home_at, id_of, insert_at, key_in, rank_of}
+use Rattle.sd_homes.proofs.ListLemmas.{find-dropped_other, find-inserted_other, found_id}
 use Rattle.sd_homes.specs.declared.home.Home.{Home}
 use Rattle.sd_homes.specs.declared.home.Home.TheVariants.{Cpu, RealTime, Chain, Sleepers}
 use Rattle.sd_homes.specs.Homes.{OfChain, OfCpu, OfSet, OfSleepers, head_of, is_chan_of, is_of, one}

@@ -5,8 +5,8 @@ use Rattle.std.proofs.Common.{inl, inr, length-set}
 use Rattle.std.proofs.lemmas.Bool.{and_parts, ltb-true, lt-ltb, eqb-true, eq-eqb, cases_eq}
 use Rattle.sd_types.specs.declared.numbers.LockId.{LockId}
 use Rattle.sd_types.specs.declared.numbers.Side.{Side}
-use Rattle.sd_turn.specs.Waiters.{Blocked, IsOfChain, waiters_at, with_waiters, on_side}
-use Rattle.sd_turn.proofs.ChainLemmas.{are_apart}
+use Rattle.sd_turnstile.specs.Waiters.{Blocked, IsOfChain, waiters_at, with_waiters, on_side}
+use Rattle.sd_turnstile.proofs.ChainLemmas.{are_apart}
 use Rattle.sd_types.specs.declared.numbers.ChanId.{ChanId}
 use Rattle.sd_sleepq.specs.Sleepers.{Sleepers as Asleep, IsOfChain as IsChanOf}
 use Rattle.std.proofs.Common.{arith}
@@ -16,10 +16,10 @@ use Rattle.sd_boxq.specs.Order.{drop_id}
 use Rattle.sd_record.specs.Records.{ThreadRecord}
 use Rattle.sd_state.specs.declared.states.ThreadState.{ThreadState}
 use Rattle.sd_state.specs.declared.states.State.{State}
-use Rattle.sd_shown.specs.declared.list_id.ListId.{ListId}
-use Rattle.sd_shown.specs.declared.list_id.ListId.TheVariants.{Runs, Queues, Urgent, Waits, Sleeps, Naps, Ends}
-use Rattle.sd_shown.specs.Standing.{home_at, list_of, stands, id_of, insert_at, record_of, ByNumber, without, with_one, Lists, MayCome}
-use Rattle.sd_shown.proofs.StandingLemmas.{out, into, out_beside, into_beside, stands_own, stands_only, stands_elsewhere}
+use Rattle.sd_homes.specs.declared.list_id.ListId.{ListId}
+use Rattle.sd_homes.specs.declared.list_id.ListId.TheVariants.{Runs, Queues, Urgent, Waits, Sleeps, Naps, Ends}
+use Rattle.sd_homes.specs.Standing.{home_at, list_of, stands, id_of, insert_at, record_of, ByNumber, without, with_one, Lists, MayCome}
+use Rattle.sd_homes.proofs.StandingLemmas.{out, into, out_beside, into_beside, stands_own, stands_only, stands_elsewhere}
 use Rattle.sd_homes.specs.declared.home.Home.{Home}
 use Rattle.sd_homes.specs.declared.home.Home.TheVariants.{Cpu, RealTime, Chain, Sleepers}
 use Rattle.sd_homes.specs.Homes.{OfCpu, OfSet, OfChain, OfSleepers, is_chan_of, is_of, one, head_of}

@@ -15,11 +15,11 @@ use Rattle.sd_state.specs.declared.states.ThreadState.{ThreadState}
 use Rattle.sd_state.specs.declared.states.State.{State}
 use Rattle.sd_state.specs.States.{thread_of, with_thread, no_thread, is_running}
 use Rattle.sd_machine.specs.Threads.{runner}
-use Rattle.sd_shown.specs.declared.list_id.ListId.{ListId}
-use Rattle.sd_shown.specs.declared.list_id.ListId.TheVariants.{Runs, Queues, Naps, Ends, Urgent, Waits, Sleeps}
-use Rattle.sd_shown.specs.Standing.{home_at, list_of, stands, id_of, record_of, ByNumber, look_of, without, with_one, MayCome}
-use Rattle.sd_shown.proofs.StandingLemmas.{Stood, stood, shown, stands_own, stands_only, with_without, may_again}
-use Rattle.sd_shown.proofs.OthersShown.{look-with_thread}
+use Rattle.sd_homes.specs.declared.list_id.ListId.{ListId}
+use Rattle.sd_homes.specs.declared.list_id.ListId.TheVariants.{Runs, Queues, Naps, Ends, Urgent, Waits, Sleeps}
+use Rattle.sd_homes.specs.Standing.{home_at, list_of, stands, id_of, record_of, ByNumber, look_of, without, with_one, MayCome}
+use Rattle.sd_homes.proofs.StandingLemmas.{Stood, stood, shown, stands_own, stands_only, with_without, may_again}
+use Rattle.sd_homes.proofs.OthersShown.{look-with_thread}
 use Rattle.sd_homes.specs.declared.home.Home.{Home}
 use Rattle.sd_homes.specs.declared.home.Home.TheVariants.{Cpu, RealTime, Chain, Sleepers}
 use Rattle.sd_homes.specs.Homes.{is_chan_of, is_of}

@@ -13,14 +13,14 @@ use Rattle.sd_state.specs.declared.states.ThreadState.{ThreadState}
 use Rattle.sd_state.specs.declared.states.State.{State}
 use Rattle.sd_state.specs.States.{thread_of}
 use Rattle.sd_machine.specs.Threads.{same_side}
-use Rattle.sd_shown.specs.declared.list_id.ListId.{ListId}
-use Rattle.sd_shown.specs.declared.list_id.ListId.TheVariants.{Runs, Queues, Urgent, Waits, Sleeps, Naps, Ends}
-use Rattle.sd_shown.specs.Standing.{ByNumber, home_at, home_of, home_of_place, list_at, list_of, listed, look_of, record_of, stands, stands_at}
+use Rattle.sd_homes.specs.declared.list_id.ListId.{ListId}
+use Rattle.sd_homes.specs.declared.list_id.ListId.TheVariants.{Runs, Queues, Urgent, Waits, Sleeps, Naps, Ends}
+use Rattle.sd_homes.specs.Standing.{ByNumber, home_at, home_of, home_of_place, list_at, list_of, listed, look_of, record_of, stands, stands_at}
 use Rattle.sd_homes.specs.declared.home.Home.{Home}
 use Rattle.sd_homes.specs.Families.{home_id, list_in, same_home}
 use Rattle.sd_homes.specs.Kinds.{has_id}
 use Rattle.sd_hand.specs.Hands.{AreApart, IsHeld, IsIn, held}
-use Rattle.sd_shown.specs.Numbers.{IsHomeOf, IsListOf}
+use Rattle.sd_homes.specs.Numbers.{IsHomeOf, IsListOf}
 use Rattle.sd_hand.specs.OneHome.{AreAllHomes, how_often, lists_at, lists_with}
 use Rattle.sd_hand.specs.Shown.{IsHome, IsListThere}
 use Rattle.sd_hand.proofs.MoveLemmas.{at_look}

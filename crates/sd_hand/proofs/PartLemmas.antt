@@ -1,5 +1,5 @@
 -- What homes keep beside their threads changes, and the state with it.
-use Rattle.std.proofs.Common.{◌≡◌, ℕ, ◌/◌, ◌%◌, ◌<◌, ◌≤◌, zero, suc, Bool, true, false, List, [], ◌∷◌, length, get_or, set, Option, Some, ◌⊎◌, inl, inr, refl, sym, ap, ◌∙◌, subst, arith, length-set}
+use Rattle.std.proofs.Common.{◌≡◌, ℕ, ◌/◌, ◌%◌, ◌<◌, ◌≤◌, Bool, true, false, List, length, get_or, set, Option, Some, ◌⊎◌, inl, inr, refl, sym, ap, ◌∙◌, subst, arith, length-set}
 use Rattle.std.proofs.lemmas.Bool.{cases_eq, cases_lt}
 use Rattle.std.proofs.lemmas.List.{get_or-set_same, get_or-set_other}
 use Rattle.sd_types.specs.declared.numbers.ChanId.{ChanId}
@@ -16,9 +16,9 @@ use Rattle.sd_state.specs.States.{cpu_of, with_cpu, no_cpu}
 use Rattle.sd_machine.specs.Threads.{count_of, lock_of, no_cpus, open_of, with_count, with_lock, with_open}
 use Rattle.sd_store.specs.declared.parts.CpuView.{CpuView}
 use Rattle.sd_store.specs.Parts.{view_of}
-use Rattle.sd_shown.specs.declared.list_id.ListId.{ListId}
-use Rattle.sd_shown.specs.declared.list_id.ListId.TheVariants.{Runs, Urgent, Waits, Sleeps}
-use Rattle.sd_shown.specs.Standing.{look_of, ByNumber, Lists}
+use Rattle.sd_homes.specs.declared.list_id.ListId.{ListId}
+use Rattle.sd_homes.specs.declared.list_id.ListId.TheVariants.{Runs, Urgent, Waits, Sleeps}
+use Rattle.sd_homes.specs.Standing.{look_of, ByNumber, Lists}
 use Rattle.sd_homes.specs.declared.home.Home.{Home}
 use Rattle.sd_homes.specs.declared.home.Home.TheVariants.{Cpu, RealTime, Chain, Sleepers}
 use Rattle.sd_homes.specs.Homes.{OfCpu, OfChain, OfSet, OfSleepers, is_chan_of, is_of, with_counts, with_open_cpus, with_states, with_view}
@@ -100,11 +100,6 @@ viewed n s look c x v hs is shows =
     part_shows n s (with_cpu s c.0 x) look (id.Cpu c) (viewing v) hs (viewing_keeps v) (viewing_lists v) (cpu_beside s c x) (λ h at e. viewing_parts s c x v h e is) shows
 
 -- the homes keep neither the count of a processor nor its duty
-set-past : {X : Type 0} (xs : List X) (i : ℕ) (y : X) → length xs ≤ i → set xs i y ≡ xs
-set-past [] i y h = refl
-set-past (x ∷ xs) zero y h = absurd (omega arith)
-set-past (x ∷ xs) (suc i) y h = ap (λ zs. x ∷ zs) (set-past xs i y (omega arith))
-
 pub same_parts : (s : State) (c : ℕ) (x : CpuState) (h : Home) → view_of x ≡ view_of (cpu_of s c) → PartsShown s h → PartsShown (with_cpu s c x) h
 same_parts s c x (RealTime h) e p = p
 same_parts s c x (Chain h) e p = p

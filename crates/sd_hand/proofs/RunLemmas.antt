@@ -6,8 +6,8 @@ use Rattle.sd_types.specs.declared.numbers.CpuId.{CpuId}
 use Rattle.sd_types.specs.declared.numbers.HomeId.{HomeId}
 use Rattle.sd_types.specs.declared.numbers.HomeId.TheVariants as id
 use Rattle.sd_record.specs.Records.{ThreadRecord}
-use Rattle.sd_shown.specs.declared.list_id.ListId.TheVariants.{Runs}
-use Rattle.sd_shown.specs.Standing.{id_of, insert_at}
+use Rattle.sd_homes.specs.declared.list_id.ListId.TheVariants.{Runs}
+use Rattle.sd_homes.specs.Standing.{id_of, insert_at}
 use Rattle.sd_homes.specs.declared.home.Home.{Home}
 use Rattle.sd_homes.specs.declared.home.Home.TheVariants as home
 use Rattle.sd_homes.specs.Families.{IsWhole, home_id, list_in, putting, same_home, taken_from, taking}
@@ -54,18 +54,10 @@ runs_changed x hs t c i h g m P shown slot e is made =
     by (Some r) (q, came, same, can) =
         (q, slot_changed x hs (id.Cpu c) i h g m (λ z. putting q (Runs c) (taking t (Runs c) z)) shown slot e is came ∙ edit_twice (id.Cpu c) (putting q (Runs c)) (taking t (Runs c)) (taking_keeps t c) x.slots, same, can)
 
-pub runs_nowhere : (t : ℕ) (c : CpuId) (P : ThreadRecord → ThreadRecord → Type 0) (hs new : List (Option Home)) → held (id.Cpu c) hs ≡ None → new ≡ hs → RunsChanged t c P hs new
-runs_nowhere t c P hs new none same =
-    subst (λ o. MatchOption (taken_from t (Runs c) o) (new ≡ hs) (λ r. (q : ThreadRecord) × (new ≡ edit (id.Cpu c) (putting q (Runs c)) (edit (id.Cpu c) (taking t (Runs c)) hs)) × (q.id ≡ r.id) × P r q)) (sym none) same
-
 -- ---- what the change makes of the homes
 module _ (t : ℕ) (c : CpuId) (P : ThreadRecord → ThreadRecord → Type 0) (hs new : List (Option Home)) where
   abbrev pub Made : Option ThreadRecord → Type 0
   Made o = MatchOption o (new ≡ hs) (λ r. (q : ThreadRecord) × (new ≡ edit (id.Cpu c) (putting q (Runs c)) (edit (id.Cpu c) (taking t (Runs c)) hs)) × (q.id ≡ r.id) × P r q)
-
-  pub run_moved : (r : ThreadRecord) → RunsChanged t c P hs new → Some r ≡ taken_from t (Runs c) (held (id.Cpu c) hs)
-      → (q : ThreadRecord) × (new ≡ edit (id.Cpu c) (putting q (Runs c)) (edit (id.Cpu c) (taking t (Runs c)) hs)) × (q.id ≡ r.id) × P r q
-  run_moved r is e = subst Made (sym e) is
 
   pub run_held : (k : HomeId) → RunsChanged t c P hs new → is_some (held k new) ≡ is_some (held k hs)
   run_held k = by (taken_from t (Runs c) (held (id.Cpu c) hs))

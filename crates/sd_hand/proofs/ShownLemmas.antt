@@ -1,5 +1,5 @@
 -- What a hand with its processor shows.
-use Rattle.std.proofs.Common.{◌≡◌, ℕ, true, false, is_some, List, Option, Some, None, option_map, sym, ap, ◌∙◌, subst, inl, inr, ◌⊎◌}
+use Rattle.std.proofs.Common.{◌≡◌, ℕ, true, is_some, List, Option, Some, None, option_map, sym, ap, ◌∙◌, subst, inl, inr, ◌⊎◌}
 use Rattle.std.specs.Prelude.{Result, Ok, Err}
 use Rattle.sd_types.specs.declared.numbers.HomeId.{HomeId}
 use Rattle.sd_types.specs.declared.numbers.ThreadId.{ThreadId}
@@ -8,13 +8,13 @@ use Rattle.sd_store.specs.declared.parts.Part.{Part}
 use Rattle.sd_store.specs.declared.parts.Part.TheVariants as part
 use Rattle.sd_store.specs.Parts.{IsAmong, number}
 use Rattle.sd_store.specs.Words.{Finds, Lacks, Names, Tells}
-use Rattle.sd_shown.specs.declared.list_id.ListId.{ListId}
-use Rattle.sd_shown.specs.Standing.{home_at, look_of, Lists}
+use Rattle.sd_homes.specs.declared.list_id.ListId.{ListId}
+use Rattle.sd_homes.specs.Standing.{home_at, look_of, Lists}
 use Rattle.sd_homes.specs.declared.home.Home.{Home}
 use Rattle.sd_homes.specs.Families.{has, list_in}
 use Rattle.sd_hand.specs.declared.acting.Acting.{Acting}
 use Rattle.sd_hand.specs.Acting.{IsShown, has_part, the_part}
-use Rattle.sd_hand.specs.Hands.{Asks, AsksTwo, has_thread, held}
+use Rattle.sd_hand.specs.Hands.{Asks, AsksTwo, held}
 use Rattle.sd_hand.proofs.SlotLemmas.{held_has, held_id}
 
 pub list_shown : (x : Acting) (n : ℕ) (s : State) (sp : ListId) (h : Home) → IsShown x n s → held (home_at sp) x.hand.slots ≡ Some h → Lists n sp (list_in h sp) (look_of s)
@@ -62,8 +62,3 @@ module _ (x : Acting) where
     | inr b ↦ held_has j u.0 asks.1 x.hand.slots asks.3 b
   ]
   finds_two k j f (Err q) asks there = tt
-
-  -- a thread that no held home has
-  pub lacks_thread : (t : ThreadId) (q : Part) (parts : List Part) → (q ≡ part.Thread t) × (has_thread t.0 x.hand.slots ≡ false) → IsAmong (part.Thread t) parts
-      → ((n : ℕ) (s : State) → IsShown x n s → IsAmong q parts) × (has_part x q ≡ false)
-  lacks_thread t q parts e among = (λ n s sh. subst (λ p. IsAmong p parts) (sym e.0) among, ap (has_part x) e.0 ∙ e.1)

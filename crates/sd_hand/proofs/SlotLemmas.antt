@@ -7,7 +7,7 @@ use Rattle.sd_types.specs.declared.numbers.HomeId.TheVariants as id
 use Rattle.sd_homes.specs.declared.home.Home.{Home}
 use Rattle.sd_homes.specs.Families.{has, same_home, home_id}
 use Rattle.sd_hand.specs.Hands.{AreApart, AreTaken, HoldsMore, IsIn, StandsIn, StandsInSlot, held, edit, is_at, has_thread, slot_has, IsSlot, IsNoSlot}
-use Rattle.sd_shown.specs.declared.list_id.ListId.{ListId}
+use Rattle.sd_homes.specs.declared.list_id.ListId.{ListId}
 
 self : (n : ℕ) → (n == n) ≡ true
 self n = eq-eqb n n refl
@@ -37,11 +37,6 @@ are_taken (None ∷ hs) each = let no : false ≡ true = each 0 (omega arith) in
 are_taken (Some h ∷ hs) each = are_taken hs (λ j l. each (suc j) (omega arith))
 
 -- ---- what a slot has
-pub set_same : {X : Type 0} (xs : List X) (i : ℕ) (d y : X) → get_or xs i d ≡ y → set xs i y ≡ xs
-set_same [] i d y e = refl
-set_same (x ∷ xs) zero d y e = ap (λ z. z ∷ xs) (sym e)
-set_same (x ∷ xs) (suc i) d y e = ap (λ zs. x ∷ zs) (set_same xs i d y e)
-
 pub same_slot : (hs : List (Option Home)) (i : ℕ) (d : Option Home) (g h : Home) → get_or hs i d ≡ Some g → slice_get hs i ≡ Some (Some h) → g ≡ h
 same_slot [] i d g h e f = absurd cc
 same_slot (x ∷ hs) zero d g h e f = cc

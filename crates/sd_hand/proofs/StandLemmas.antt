@@ -1,5 +1,5 @@
 -- A thread that a held home has stands in one of its lists, and so in a home that is held.
-use Rattle.std.proofs.Common.{◌≡◌, ℕ, suc, ◌+◌, ◌*◌, ◌<◌, ◌/◌, ◌%◌, Bool, true, false, ◌||◌, ◌&&◌, ◌==◌, ◌⊎◌, is_some, inl, inr, List, [], ◌∷◌, length, get_or, Option, Some, None, refl, sym, ap, subst, arith}
+use Rattle.std.proofs.Common.{◌≡◌, ℕ, suc, ◌+◌, ◌*◌, ◌<◌, ◌/◌, ◌%◌, true, ◌||◌, ◌&&◌, ◌==◌, ◌⊎◌, is_some, inl, inr, List, [], ◌∷◌, length, get_or, Option, Some, None, refl, sym, ap, subst, arith}
 use Rattle.std.specs.Option.{option_or}
 use Rattle.std.proofs.lemmas.Bool.{eq-eqb, lt-ltb, or_cases}
 use Rattle.std.specs.Prelude.{nat_lt}
@@ -7,15 +7,15 @@ use Rattle.sd_types.specs.declared.numbers.HomeId.TheVariants as id
 use Rattle.sd_types.specs.declared.numbers.Side.{Side}
 use Rattle.sd_types.specs.declared.numbers.Side.TheVariants.{Writer, Reader}
 use Rattle.sd_boxq.specs.Order.{find_id}
-use Rattle.sd_turn.specs.Waiters.{Waiters, find_among as find_waiter, nobody, on_side}
+use Rattle.sd_turnstile.specs.Waiters.{Waiters, find_among as find_waiter, nobody, on_side}
 use Rattle.sd_sleepq.specs.Among.{find_among as find_sleeper}
 use Rattle.sd_record.specs.Records.{ThreadRecord}
 use Rattle.sd_state.specs.declared.states.State.{State}
 use Rattle.sd_state.specs.States.{thread_of}
-use Rattle.sd_shown.specs.Numbers.{IsHomeOf}
-use Rattle.sd_shown.specs.declared.list_id.ListId.{ListId}
-use Rattle.sd_shown.specs.declared.list_id.ListId.TheVariants.{Runs, Queues, Urgent, Waits, Sleeps, Naps, Ends}
-use Rattle.sd_shown.specs.Standing.{home_at, home_of, id_of}
+use Rattle.sd_homes.specs.Numbers.{IsHomeOf}
+use Rattle.sd_homes.specs.declared.list_id.ListId.{ListId}
+use Rattle.sd_homes.specs.declared.list_id.ListId.TheVariants.{Runs, Queues, Urgent, Waits, Sleeps, Naps, Ends}
+use Rattle.sd_homes.specs.Standing.{home_at, home_of, id_of}
 use Rattle.sd_homes.specs.declared.home.Home.{Home}
 use Rattle.sd_homes.specs.declared.home.Home.TheVariants.{Cpu, RealTime, Chain, Sleepers}
 use Rattle.sd_homes.specs.Homes.{is_chan_of, is_of, one}

@@ -1,7 +1,7 @@
 -- A thread keeps its number on its way.
 use Rattle.std.proofs.Common.{◌≡◌, refl}
 use Rattle.sd_record.specs.Records.{ThreadRecord}
-use Rattle.sd_shown.specs.Standing.{id_of}
+use Rattle.sd_homes.specs.Standing.{id_of}
 use Rattle.sd_hand.specs.declared.steps.Step.{Step}
 use Rattle.sd_hand.specs.declared.steps.Step.TheVariants.{Arrive, Depart, Move}
 use Rattle.sd_hand.specs.Steps.{stepped}

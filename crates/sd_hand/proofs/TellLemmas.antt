@@ -1,5 +1,5 @@
 -- What a hand tells of each state that it shows.
-use Rattle.std.proofs.Common.{◌≡◌, ℕ, ◌%◌, ◌<◌, ◌≤◌, ◌++◌, zero, suc, is_some, Bool, true, false, List, [], ◌∷◌, length, get_or, Option, Some, None, option_map, slice_get, refl, sym, ap, ◌∙◌, arith, ◌⊎◌, inl, inr}
+use Rattle.std.proofs.Common.{◌≡◌, ℕ, ◌%◌, ◌<◌, ◌≤◌, ◌++◌, is_some, Bool, true, false, List, [], ◌∷◌, length, Option, Some, None, option_map, slice_get, refl, sym, ap, ◌∙◌, arith, ◌⊎◌, inl, inr}
 use Rattle.std.specs.Prelude.{ℤ, nat_le}
 use Rattle.std.proofs.lemmas.Bool.{cases_lt, eq-eqb, le-ltb, lt-ltb}
 use Rattle.sd_types.specs.declared.numbers.CpuId.{CpuId}
@@ -11,7 +11,7 @@ use Rattle.sd_types.specs.declared.numbers.Side.TheVariants.{Writer, Reader}
 use Rattle.sd_types.specs.declared.numbers.ThreadId.{ThreadId}
 use Rattle.sd_types.specs.declared.numbers.HomeId.TheVariants as id
 use Rattle.sd_boxq.specs.Order.{drop_id, find_first, find_below}
-use Rattle.sd_turn.specs.Waiters.{highest}
+use Rattle.sd_turnstile.specs.Waiters.{highest}
 use Rattle.sd_record.specs.Records.{ThreadRecord}
 use Rattle.sd_state.specs.declared.states.LockState.TheVariants.{Free}
 use Rattle.sd_state.specs.declared.states.State.{State}
@@ -22,21 +22,21 @@ use Rattle.sd_types.specs.declared.events.Duty.{Duty}
 use Rattle.sd_types.specs.declared.events.Duty.TheVariants.{Age, GrantReaders, GrantWriter, Nothing, Rouse, WakeMutex, Walk}
 use Rattle.sd_machine.specs.Walking.{is_back}
 use Rattle.sd_store.specs.Keyless.{spot_of}
-use Rattle.sd_shown.specs.declared.list_id.ListId.{ListId}
+use Rattle.sd_homes.specs.declared.list_id.ListId.{ListId}
 use Rattle.sd_state.specs.declared.states.CpuState.{CpuState}
 use Rattle.sd_machine.specs.Changes.{marked}
 use Rattle.sd_machine.specs.Locking.{others_waiting}
 use Rattle.sd_machine.specs.Threads.{best_queued, best_ready, best_sleeper, best_sleeper_below, best_unbound, best_waiter, count_of, first_due, greatest_waiting, has_waiters, lock_of, next_to_age, open_of, runner}
 use Rattle.sd_store.specs.Parts.{view_of}
 use Rattle.sd_store.specs.declared.parts.CpuView.{CpuView}
-use Rattle.sd_shown.specs.declared.list_id.ListId.TheVariants.{Runs, Queues, Urgent, Naps, Waits, Sleeps}
-use Rattle.sd_shown.specs.Standing.{better, due_front, due_of_first, home_at, id_of, is_unbound, key_in, least_to_age, list_at, look_of, rank_of, record_key, record_of, Lists}
-use Rattle.sd_shown.proofs.AgeShown.{next_to_age_shown}
-use Rattle.sd_shown.proofs.LookShown.{runner_none, runner_some, best_queued_shown, best_unbound_shown, best_waiter_shown, best_sleeper_shown, best_sleeper_below_shown}
-use Rattle.sd_shown.proofs.NapShown.{first_due_shown}
-use Rattle.sd_shown.proofs.OthersShown.{others_shown}
-use Rattle.sd_shown.proofs.ReadyShown.{best_ready_shown}
-use Rattle.sd_shown.proofs.WaitShown.{greatest_shown, waiters_shown}
+use Rattle.sd_homes.specs.declared.list_id.ListId.TheVariants.{Runs, Queues, Urgent, Naps, Waits, Sleeps}
+use Rattle.sd_homes.specs.Standing.{better, due_front, due_of_first, home_at, id_of, is_unbound, key_in, least_to_age, list_at, look_of, rank_of, record_key, record_of, Lists}
+use Rattle.sd_homes.proofs.AgeShown.{next_to_age_shown}
+use Rattle.sd_homes.proofs.LookShown.{runner_none, runner_some, best_queued_shown, best_unbound_shown, best_waiter_shown, best_sleeper_shown, best_sleeper_below_shown}
+use Rattle.sd_homes.proofs.NapShown.{first_due_shown}
+use Rattle.sd_homes.proofs.OthersShown.{others_shown}
+use Rattle.sd_homes.proofs.ReadyShown.{best_ready_shown}
+use Rattle.sd_homes.proofs.WaitShown.{greatest_shown, waiters_shown}
 use Rattle.sd_homes.specs.declared.home.Home.{Home}
 use Rattle.sd_homes.specs.declared.home.Home.TheVariants.{Cpu, RealTime, Chain, Sleepers}
 use Rattle.sd_homes.specs.Homes.{is_chan_of, is_of, one}

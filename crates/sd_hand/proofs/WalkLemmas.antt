@@ -13,7 +13,7 @@ use Rattle.sd_state.specs.declared.states.State.{State}
 use Rattle.sd_state.specs.declared.states.ThreadState.{ThreadState}
 use Rattle.sd_machine.specs.Prioritising.{walk_from}
 use Rattle.sd_machine.specs.Walking.{next_walk}
-use Rattle.sd_shown.specs.Standing.{list_at, record_of}
+use Rattle.sd_homes.specs.Standing.{list_at, record_of}
 use Rattle.sd_hand.specs.Walking.{given, next_walk_at, walk_at}
 
 begun_at : (s : State) (c : CpuId) (t : ThreadId) (last : CpuId) (b : ThreadBody) (place : Place)

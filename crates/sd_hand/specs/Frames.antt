@@ -3,7 +3,7 @@
 use Rattle.std.specs.Prelude.{◌≢◌, ℕ}
 use Rattle.sd_types.specs.declared.numbers.HomeId.{HomeId}
 use Rattle.sd_state.specs.declared.states.State.{State}
-use Rattle.sd_shown.specs.Standing.{look_of}
+use Rattle.sd_homes.specs.Standing.{look_of}
 use Rattle.sd_homes.specs.declared.home.Home.{Home}
 use Rattle.sd_homes.specs.Families.{home_id}
 use Rattle.sd_hand.specs.Shown.{IsHome}

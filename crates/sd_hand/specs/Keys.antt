@@ -8,8 +8,8 @@ use Rattle.sd_types.specs.declared.events.Duty.TheVariants.{Walk}
 use Rattle.sd_record.specs.Records.{ThreadRecord}
 use Rattle.sd_store.specs.declared.spots.Spot.{Spot}
 use Rattle.sd_store.specs.declared.spots.Spot.TheVariants as spot
-use Rattle.sd_shown.specs.declared.list_id.ListId.{ListId}
-use Rattle.sd_shown.specs.declared.list_id.ListId.TheVariants.{Runs, Queues, Urgent, Waits, Sleeps, Naps, Ends}
+use Rattle.sd_homes.specs.declared.list_id.ListId.{ListId}
+use Rattle.sd_homes.specs.declared.list_id.ListId.TheVariants.{Runs, Queues, Urgent, Waits, Sleeps, Naps, Ends}
 
 abbrev pub spot_at : ListId → Spot
 spot_at (Runs c) = spot.Running c

@@ -3,8 +3,8 @@
 use Rattle.std.specs.Prelude.{ℕ, ◌+◌}
 use Rattle.std.proofs.Math.Nat.{le-add_right}
 use Rattle.sd_state.specs.declared.states.State.{State}
-use Rattle.sd_shown.specs.Standing.{look_of}
-use Rattle.sd_shown.proofs.StandingLemmas.{lists-more}
+use Rattle.sd_homes.specs.Standing.{look_of}
+use Rattle.sd_homes.proofs.StandingLemmas.{lists-more}
 use Rattle.sd_homes.specs.Families.{list_in}
 use Rattle.sd_hand.specs.declared.acting.Acting.{Acting}
 use Rattle.sd_hand.specs.Acting.{IsShown}

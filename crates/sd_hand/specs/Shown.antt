@@ -7,9 +7,9 @@ use Rattle.sd_state.specs.States.{cpu_of, thread_of}
 use Rattle.sd_machine.specs.Threads.{open_of, lock_of, count_of}
 use Rattle.sd_store.specs.Parts.{view_of}
 use Rattle.sd_types.specs.declared.numbers.HomeId.{HomeId}
-use Rattle.sd_shown.specs.declared.list_id.ListId.{ListId}
-use Rattle.sd_shown.specs.declared.list_id.ListId.TheVariants.{Waits, Sleeps}
-use Rattle.sd_shown.specs.Standing.{home_at, list_of, look_of, ByNumber, Lists}
+use Rattle.sd_homes.specs.declared.list_id.ListId.{ListId}
+use Rattle.sd_homes.specs.declared.list_id.ListId.TheVariants.{Waits, Sleeps}
+use Rattle.sd_homes.specs.Standing.{home_at, list_of, look_of, ByNumber, Lists}
 use Rattle.sd_homes.specs.declared.home.Home.{Home}
 use Rattle.sd_homes.specs.declared.home.Home.TheVariants.{Cpu, RealTime, Chain, Sleepers}
 use Rattle.sd_homes.specs.Homes.{is_chan_of, is_of}

@@ -13,9 +13,9 @@ use Rattle.sd_machine.specs.Threads.{set_of}
 use Rattle.sd_store.specs.declared.spots.Destination.{Destination}
 use Rattle.sd_store.specs.declared.spots.Destination.TheVariants as to
 use Rattle.sd_record.specs.Records.{ThreadRecord}
-use Rattle.sd_shown.specs.declared.list_id.ListId.{ListId}
-use Rattle.sd_shown.specs.declared.list_id.ListId.TheVariants.{Ends, Naps, Queues, Runs, Sleeps, Urgent, Waits}
-use Rattle.sd_shown.specs.Standing.{record_key}
+use Rattle.sd_homes.specs.declared.list_id.ListId.{ListId}
+use Rattle.sd_homes.specs.declared.list_id.ListId.TheVariants.{Ends, Naps, Queues, Runs, Sleeps, Urgent, Waits}
+use Rattle.sd_homes.specs.Standing.{record_key}
 use Rattle.sd_homes.specs.declared.home.Home.{Home}
 use Rattle.sd_homes.specs.Families.{putting, taken_from, taking}
 use Rattle.sd_homes.specs.Homes.{with_body_of, with_key}

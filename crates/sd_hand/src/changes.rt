@@ -11,7 +11,7 @@ ghost use Rattle.sd_machine.specs.Needs.{CanJoin};
 ghost use Rattle.sd_machine.specs.Threads.{open_of, with_open};
 ghost use Rattle.sd_store.specs.Parts.{actor_part, view_of};
 ghost use Rattle.sd_store.specs.Words.{Does, Keeps, Lacks};
-ghost use Rattle.sd_shown.specs.Standing.{home_at, list_of, look_of, record_of, without, MayCome};
+ghost use Rattle.sd_homes.specs.Standing.{home_at, list_of, look_of, record_of, without, MayCome};
 ghost use Rattle.sd_hand.specs.Acting.{IsShown, has_part, the_part};
 ghost use Rattle.sd_hand.specs.Hands.{HasRoom, IsHeld};
 ghost use Rattle.sd_hand.specs.Shown.{IsListThere, StandsAt};
@@ -19,8 +19,7 @@ ghost use Rattle.sd_hand.specs.Steps.{stepped};
 
 use crate::acting::Acting;
 use crate::steps::Step;
-use sd_homes::IsFull;
-use sd_shown::ListId;
+use sd_homes::{IsFull, ListId};
 use sd_store::{CpuView, Part};
 use sd_types::{CpuId, Duty, REAL_TIME_PRIORITY, SetId, ThreadId};
 

@@ -17,7 +17,7 @@ ghost use Rattle.sd_state.specs.States.{cpu_of, thread_of, with_cpu, with_thread
 ghost use Rattle.sd_machine.specs.Changes.{bind, close, join, leave, run_on, unbind, with_body, with_place};
 ghost use Rattle.sd_machine.specs.Threads.{with_count, with_lock, with_open};
 ghost use Rattle.sd_store.specs.Parts.{view_of};
-ghost use Rattle.sd_shown.specs.Standing.{home_of, home_of_place};
+ghost use Rattle.sd_homes.specs.Standing.{home_of, home_of_place};
 ghost use Rattle.sd_homes.specs.declared.home.Home.{Home as HomeOf};
 ghost use Rattle.sd_hand.specs.Frames.{IsNot, Stays};
 

@@ -3,7 +3,7 @@
 ghost use Rattle.std.specs.Prelude.{◌≡◌, slice_get};
 ghost use Rattle.std.specs.Option.{option_copied};
 
-use sd_shown::ListId;
+use sd_homes::ListId;
 use sd_types::{HomeId, ThreadId};
 use std::alloc::Global;
 

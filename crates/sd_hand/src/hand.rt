@@ -3,8 +3,7 @@
 ghost use Rattle.std.specs.Prelude.{◌≡◌, ◌⊎◌, ◌+◌, ◌<◌, ◌≤◌, ◌%◌, [], ◌∷◌, None, Some, false, length, slice_get, IfErr, IfNone, IfOk, IfSome, MatchOption};
 ghost use Rattle.std.specs.Option.{option_copied};
 ghost use Rattle.sd_types.specs.declared.numbers.HomeId.TheVariants.{Chain, Cpu, RealTime, Sleepers};
-ghost use Rattle.sd_shown.specs.Standing.{home_at};
-ghost use Rattle.sd_shown.specs.declared.list_id.ListId.TheVariants.{Runs};
+ghost use Rattle.sd_homes.specs.Standing.{home_at};
 ghost use Rattle.sd_homes.specs.declared.home.Home.{Home as HomeOf};
 ghost use Rattle.sd_homes.specs.Families.{IsWhole, counting, home_id, locking, open_in, opened, putting, shut, taken_from, taking, viewing};
 ghost use Rattle.sd_store.specs.Bodies.{changed};
@@ -14,9 +13,8 @@ ghost use Rattle.sd_hand.specs.Steps.{RunsChanged};
 ghost use Rattle.sd_hand.specs.Hands.{AreApart, AreSlots, AreTaken, Asks, HasNoRoom, HoldsMore, IsHeld, IsNoSlot, IsSlot, IsThere, Seeks, StandsIn, StandsInSlot, edit, has_thread, held, how_many_held, is_at, slot_has};
 
 use crate::guide::Guide;
-use sd_homes::{Home, IsFull, Traveller, home_at, same_home};
+use sd_homes::{Home, IsFull, ListId, Traveller, home_at, same_home};
 use sd_record::Record;
-use sd_shown::ListId;
 use sd_state::LockState;
 use sd_store::{BodyChange, CpuView, Part};
 use sd_types::{ChanId, CpuId, HomeId, LockId, SetId, ThreadId, Work, home_of_chan, home_of_lock};
@@ -279,6 +277,17 @@ impl Hand {
         self.where_found(t)
     }
 
+    /// The same, where the thread may well run on processor `c`.
+    #[inline(always)]
+    pub(crate) fn where_is_from(&self, c: CpuId, t: ThreadId) -> Result<ListId, Part>
+        ensures { Seeks t self.now.slots result (StandsIn t.0 self.now.slots) }
+    {
+        if self.find(t, ListId::Runs(c)).is_some() {
+            return Ok(ListId::Runs(c));
+        }
+        self.where_is(t)
+    }
+
     /// The thread, which is lacking where no held home has it.
     #[inline(always)]
     pub fn record(&self, t: ThreadId) -> Result<&Record, Part>
@@ -321,30 +330,32 @@ impl Hand {
         ensures { option_copied result ≡ taken_from t.0 at.now (held (home_at at.now) self.now.slots) }
     {
         match at {
-            ListId::Runs(c) => self.find_running(t, *c),
+            ListId::Runs(c) => self.find_in(t, HomeId::Cpu(*c), ListId::Runs(*c)),
             _ => self.find_listed(t, *at),
         }
     }
 
-    /// The thread, where it runs on processor `c`.
-    #[inline(always)]
-    fn find_running(&self, t: ThreadId, c: CpuId) -> Option<&Record>
-        ensures { option_copied result ≡ taken_from t.0 (Runs c) (held (Cpu c) self.now.slots) }
-    {
-        match self.slot_of(HomeId::Cpu(c)) {
-            None => None,
-            Some(i) => match &self.slots[i] {
-                None => None,
-                Some(home) => home.find(t, ListId::Runs(c)),
-            },
-        }
-    }
-
-    /// The same of any list.
+    /// The same of any list. The kind of the list is told anew in each arm, so that the compiler sees of which kind the home is.
     fn find_listed(&self, t: ThreadId, at: ListId) -> Option<&Record>
         ensures { option_copied result ≡ taken_from t.0 at (held (home_at at) self.now.slots) }
     {
-        match self.slot_of(home_at(at)) {
+        match at {
+            ListId::Runs(c) => self.find_in(t, HomeId::Cpu(c), ListId::Runs(c)),
+            ListId::Queues(c) => self.find_in(t, HomeId::Cpu(c), ListId::Queues(c)),
+            ListId::Naps(c) => self.find_in(t, HomeId::Cpu(c), ListId::Naps(c)),
+            ListId::Ends(c) => self.find_in(t, HomeId::Cpu(c), ListId::Ends(c)),
+            ListId::Urgent(p) => self.find_in(t, HomeId::RealTime(p), ListId::Urgent(p)),
+            ListId::Waits(l, side) => self.find_in(t, home_of_lock(l), ListId::Waits(l, side)),
+            ListId::Sleeps(k) => self.find_in(t, home_of_chan(k), ListId::Sleeps(k)),
+        }
+    }
+
+    /// The thread, where it stands in this list of this home.
+    #[inline(always)]
+    fn find_in(&self, t: ThreadId, k: HomeId, at: ListId) -> Option<&Record>
+        ensures { option_copied result ≡ taken_from t.0 at (held k self.now.slots) }
+    {
+        match self.slot_of(k) {
             None => None,
             Some(i) => match &self.slots[i] {
                 None => None,

@@ -4,8 +4,8 @@ ghost use Rattle.std.specs.Prelude.{◌≡◌, option_copied};
 ghost use Rattle.sd_hand.specs.Keys.{is_back_at, key_or_zero, spot_at};
 
 use crate::acting::Acting;
+use sd_homes::ListId;
 use sd_record::Record;
-use sd_shown::ListId;
 use sd_state::LockState;
 use sd_store::{CpuView, Look, Part, Spot, Task, task_of};
 use sd_types::{ChanId, CpuId, Duty, HomeId, LockId, SetId, Side, ThreadBody, ThreadId};

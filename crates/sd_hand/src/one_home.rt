@@ -3,9 +3,9 @@
 ghost use Rattle.std.specs.Prelude.{◌≡◌, ℕ, ◌<◌, ◌≤◌, List, Option, length};
 ghost use Rattle.sd_state.specs.declared.states.State.{State as StateOf};
 ghost use Rattle.sd_state.specs.States.{thread_of};
-ghost use Rattle.sd_shown.specs.Standing.{list_of};
+ghost use Rattle.sd_homes.specs.Standing.{list_of};
 ghost use Rattle.sd_homes.specs.declared.home.Home.{Home as HomeOf};
-ghost use Rattle.sd_shown.specs.Numbers.{IsListOf};
+ghost use Rattle.sd_homes.specs.Numbers.{IsListOf};
 ghost use Rattle.sd_hand.specs.OneHome.{AreAllHomes, lists_with};
 
 /// Where all homes of a state stand for it, each of its threads whose place is there stands in one list of one of them: none is

@@ -4,7 +4,7 @@ ghost use Rattle.std.specs.Prelude.{◌≡◌, ℕ, Some, is_some, true};
 ghost use Rattle.sd_types.specs.declared.numbers.HomeId.{HomeId as HomeIdOf};
 ghost use Rattle.sd_record.specs.Records.{ThreadRecord};
 ghost use Rattle.sd_store.specs.Bodies.{changed};
-ghost use Rattle.sd_shown.specs.Standing.{home_at};
+ghost use Rattle.sd_homes.specs.Standing.{home_at};
 ghost use Rattle.sd_homes.specs.Bodies.{CanChangeThread};
 ghost use Rattle.sd_homes.specs.Families.{putting, taken_from, taking};
 ghost use Rattle.sd_homes.specs.Homes.{with_body_of};
@@ -13,8 +13,7 @@ ghost use Rattle.sd_hand.specs.Shown.{IsListThere};
 ghost use Rattle.sd_hand.specs.Steps.{list_by, list_put, stepped};
 
 use crate::hand::Hand;
-use sd_homes::Traveller;
-use sd_shown::ListId;
+use sd_homes::{ListId, Traveller};
 use sd_state::Place;
 use sd_store::{BodyChange, Destination, set_of};
 use sd_types::{CpuId, Put, ThreadId, Work};

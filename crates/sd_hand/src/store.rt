@@ -5,8 +5,7 @@ use crate::changes::{marked, unmarked};
 use crate::steps::{Step, is_there, list_by, list_put};
 use crate::walks::{next_walk_at, walk_at};
 use sd_flat::duty_after;
-use sd_homes::home_at;
-use sd_shown::ListId;
+use sd_homes::{ListId, home_at};
 use sd_state::LockState;
 use sd_store::{BodyChange, Chore, Destination, Part, Store, duty_of, place_by, place_put, rouse};
 use sd_types::{ChanId, CpuId, LockId, Put, ThreadId, Work};
@@ -87,7 +86,7 @@ impl Store for Acting {
 
     #[inline(always)]
     fn change_body(&mut self, work: &Work, t: ThreadId, change: BodyChange) -> Result<(), Part> {
-        match self.hand.where_is(t) {
+        match self.hand.where_is_from(self.actor.cpu, t) {
             Err(q) => Err(q),
             Ok(at) => {
                 self.hand.change_at(work, t, at, change);

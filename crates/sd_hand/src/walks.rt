@@ -3,8 +3,8 @@
 ghost use Rattle.std.specs.Prelude.{◌≡◌, option_copied};
 ghost use Rattle.sd_hand.specs.Walking.{next_walk_at, walk_at};
 
+use sd_homes::ListId;
 use sd_record::Record;
-use sd_shown::ListId;
 use sd_types::{Duty, ThreadId};
 
 /// The walk that begins where the thread waits, which was found in this list.

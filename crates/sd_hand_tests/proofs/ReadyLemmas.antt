@@ -10,10 +10,10 @@ use Rattle.sd_cpu.specs.Attempts.{Answers, IsEmpty}
 use Rattle.sd_cpu.specs.declared.attempts.Attempted.{Attempted}
 use Rattle.sd_cpu.specs.declared.attempts.Attempted.TheVariants.{Made, Again}
 use Rattle.sd_cpu.specs.declared.attempts.Turned.TheVariants.{Acted, Ticked, Behind, Finished}
-use Rattle.sd_hostile.specs.declared.hostile.HostileWorld.{HostileWorld}
-use Rattle.sd_hostile.specs.declared.plan.Trouble.{Trouble}
-use Rattle.sd_hostile.specs.Hostile.{IsHostile, hostile_meaning}
-use Rattle.sd_hostile.specs.Plan.{ArePossible, IsPossible}
+use Rattle.sd_hand_tests.specs.declared.hostile_world.HostileWorld.{HostileWorld}
+use Rattle.sd_hand_tests.specs.declared.plan.Trouble.{Trouble}
+use Rattle.sd_hand_tests.specs.Hostile.{IsHostile, hostile_meaning}
+use Rattle.sd_hand_tests.specs.Plan.{ArePossible, IsPossible}
 use Rattle.sd_hand_tests.specs.Ready.{IsReady}
 
 same_work : (m m' : Meaning) (r : Result Attempted Stop) → Answers m m' r → m'.work ≡ m.work

@@ -1,1 +1,3 @@
+pub mod Hostile
+pub mod Plan
 pub mod Ready

@@ -1,7 +1,7 @@
 //! The homes of an initial state, given out and taken back: one processor, on whose queue one thread stands.
 
+use sd_homes::ListId;
 use sd_opening::opening;
-use sd_shown::ListId;
 use sd_types::{CpuId, HomeId, SetId};
 use sd_workload::read_work;
 use sd_world::Homes;

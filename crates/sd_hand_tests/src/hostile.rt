@@ -2,14 +2,14 @@
 //! without them.
 
 ghost use Rattle.std.specs.Prelude.{◌<◌, ◌^◌, IfOk, length};
-ghost use Rattle.sd_hostile.specs.Plan.{ArePossible};
+ghost use Rattle.sd_hand_tests.specs.Plan.{ArePossible};
 ghost use Rattle.sd_hand_tests.specs.Ready.{IsReady};
 
+use crate::{HostileWorld, Trouble, What};
 use sd_cpu::{Attempted, Gate, OpenGate, Turned, attempt};
-use sd_entry_writer::write_entry;
+use sd_entries::write_entry;
 use sd_hand::Hand;
-use sd_hostile::{HostileWorld, Trouble, What};
-use sd_shown::ListId;
+use sd_homes::ListId;
 use sd_types::{CpuId, HomeId, SetId, Work};
 use sd_workload::read_work;
 use sd_world::PlainWorld;

@@ -6,5 +6,11 @@
 mod all_homes;
 #[cfg(test)]
 mod hostile;
+mod hostile_world;
+mod plan;
 #[cfg(test)]
 mod tests;
+mod turns;
+
+pub use hostile_world::HostileWorld;
+pub use plan::{Trouble, What};

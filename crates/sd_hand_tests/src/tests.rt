@@ -1,13 +1,11 @@
 //! Two threads of the system class on one processor, worked out by hand.
 
 use arrayvec::ArrayVec;
-use sd_boxed::Boxed;
+use sd_boxq::{Boxed, Four};
 use sd_dispatcher::{dispatched, done};
-use sd_four::Four;
 use sd_hand::{Acting, Actor, Hand};
-use sd_homes::{ChainHome, CpuHome, Home, RealTimeHome, SleepersHome, Traveller};
+use sd_homes::{ChainHome, CpuHome, Home, ListId, RealTimeHome, SleepersHome, Traveller};
 use sd_record::Record;
-use sd_shown::ListId;
 use sd_state::LockState;
 use sd_store::{CpuView, Destination, Look, Part, Sets, Spot, Store};
 use sd_types::{

@@ -8,7 +8,7 @@ use Rattle.std.proofs.lemmas.Bool.{and_parts, ltb-true}
 use Rattle.sd_sleepq.specs.Sleepers.{Sleepers, sleepers_of, with_sleepers}
 use Rattle.sd_boxq.specs.Order.{find_id, drop_id, insert_ranked, precedes}
 use Rattle.sd_record.specs.Records.{ThreadRecord}
-use Rattle.sd_shown.specs.Standing.{id_of, key_in, rank_of}
+use Rattle.sd_homes.specs.Standing.{id_of, key_in, rank_of}
 
 pub length_dropped : {X : Type 0} (p : X → Bool) (xs : List X) → length (drop_first p xs) + how_many (find_first p xs) ≡ length xs
 length_dropped p [] = refl

@@ -1,4 +1,13 @@
 pub mod AgeLemmas
+pub mod AgeShown
+pub mod BestShown
 pub mod FirstLemmas
 pub mod Lengths
+pub mod ListLemmas
+pub mod LookShown
+pub mod NapShown
 pub mod NewestLemmas
+pub mod OthersShown
+pub mod ReadyShown
+pub mod StandingLemmas
+pub mod WaitShown

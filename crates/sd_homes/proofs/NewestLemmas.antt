@@ -6,7 +6,7 @@ use Rattle.sd_dispq.specs.Laws.{KeysBelow}
 use Rattle.sd_dispq.specs.Ranks.{put_back}
 use Rattle.sd_dispq.proofs.LawLemmas.{back_is_ranked}
 use Rattle.sd_record.specs.Records.{ThreadRecord}
-use Rattle.sd_shown.specs.Standing.{id_of, key_in, rank_of}
+use Rattle.sd_homes.specs.Standing.{id_of, key_in, rank_of}
 use Rattle.sd_homes.specs.Newest.{KeysAtMost}
 
 below : (k : ℤ) (x : ThreadRecord) (xs : List ThreadRecord) → k <ℤ x.key → KeysAtMost k xs → KeysBelow key_in x.key xs

@@ -10,8 +10,8 @@ use Rattle.sd_state.specs.declared.states.LockState.TheVariants.{Free}
 use Rattle.sd_boxq.specs.Order.{find_id, drop_id}
 use Rattle.sd_machine.specs.Changes.{with_cpu_in, without_cpu}
 use Rattle.sd_store.specs.declared.parts.CpuView.{CpuView}
-use Rattle.sd_shown.specs.declared.list_id.ListId.{ListId}
-use Rattle.sd_shown.specs.Standing.{id_of, insert_at}
+use Rattle.sd_homes.specs.declared.list_id.ListId.{ListId}
+use Rattle.sd_homes.specs.Standing.{id_of, insert_at}
 use Rattle.sd_homes.specs.declared.home.Home.{Home}
 use Rattle.sd_homes.specs.declared.home.Home.TheVariants.{Cpu, RealTime, Chain, Sleepers}
 use Rattle.sd_homes.specs.Homes.{is_chan_of, is_of, with_counts, with_open_cpus, with_states, with_view}
@@ -52,11 +52,6 @@ taken_from t from (Some h) = find_id id_of t (list_in h from)
 
 abbrev pub putting : ThreadRecord → ListId → Home → Home
 putting r at h = with_list h at (insert_at at r (list_in h at))
-
--- who stands there, as the home has it, if there is one
-abbrev pub list_from : ListId → Option Home → List ThreadRecord
-list_from sp None = []
-list_from sp (Some h) = list_in h sp
 
 -- it has the thread
 abbrev pub has : ℕ → Home → Bool

@@ -2,7 +2,7 @@
 -- Source: Solaris Internals (dispatch queues, turnstiles, sleep queues); that chains have four locks or channels each, whose
 -- numbers modulo 64 are the chain's, is this project's own.
 use Rattle.std.specs.Prelude.{ℕ, ◌+◌, ◌%◌, length, ℤ, Bool, ◌&&◌, ◌==◌, nat_lt, List, [], ◌∷◌, Option, Some, None}
-use Rattle.sd_turn.specs.Waiters.{Blocked, nobody}
+use Rattle.sd_turnstile.specs.Waiters.{Blocked, nobody}
 use Rattle.sd_sleepq.specs.Sleepers.{Sleepers}
 use Rattle.sd_state.specs.declared.states.LockState.{LockState}
 use Rattle.sd_state.specs.declared.states.LockState.TheVariants.{Free}

@@ -4,12 +4,12 @@ use Rattle.std.specs.Prelude.{◌≡◌, ℕ, Bool, true, ◌||◌, List, [], is
 use Rattle.sd_types.specs.declared.numbers.HomeId.{HomeId}
 use Rattle.sd_record.specs.Records.{ThreadRecord}
 use Rattle.sd_boxq.specs.Order.{find_id}
-use Rattle.sd_turn.specs.Waiters.{waiters_at, with_waiters, find_among as find_waiter}
+use Rattle.sd_turnstile.specs.Waiters.{waiters_at, with_waiters, find_among as find_waiter}
 use Rattle.sd_sleepq.specs.Among.{find_among as find_sleeper}
 use Rattle.sd_sleepq.specs.Sleepers.{sleepers_of, with_sleepers}
-use Rattle.sd_shown.specs.declared.list_id.ListId.{ListId}
-use Rattle.sd_shown.specs.declared.list_id.ListId.TheVariants.{Runs, Queues, Urgent, Waits, Sleeps, Naps, Ends}
-use Rattle.sd_shown.specs.Standing.{home_at, id_of}
+use Rattle.sd_homes.specs.declared.list_id.ListId.{ListId}
+use Rattle.sd_homes.specs.declared.list_id.ListId.TheVariants.{Runs, Queues, Urgent, Waits, Sleeps, Naps, Ends}
+use Rattle.sd_homes.specs.Standing.{home_at, id_of}
 use Rattle.sd_homes.specs.Homes.{OfCpu, OfSet, OfChain, OfSleepers, is_chan_of, with_asleep, is_of, with_turns, one, head_of, with_queue, with_running, with_nappers, with_ended, with_urgent}
 
 -- who stands there, as the home has it; a home has only its own

@@ -4,18 +4,18 @@ ghost use Rattle.std.specs.Prelude.{◌≡◌, ◌/◌, ◌<◌, true, false, ge
 ghost use Rattle.std.specs.Option.{option_copied};
 ghost use Rattle.sd_boxq.specs.Order.{find_id, drop_id, insert_ranked};
 ghost use Rattle.sd_state.specs.declared.states.LockState.TheVariants.{Free};
-ghost use Rattle.sd_turn.specs.Waiters.{highest_waiter, of_lock, waiters_at, with_waiters, without_id};
-ghost use Rattle.sd_shown.specs.Standing.{id_of, key_in, rank_of};
+ghost use Rattle.sd_turnstile.specs.Waiters.{highest_waiter, of_lock, waiters_at, with_waiters, without_id};
+ghost use Rattle.sd_homes.specs.Standing.{id_of, key_in, rank_of};
 ghost use Rattle.sd_types.specs.declared.numbers.HomeId.TheVariants.{Chain};
 ghost use Rattle.sd_homes.specs.Kinds.{IsListed, chain_has, chain_list};
 ghost use Rattle.sd_homes.specs.Homes.{OfChain, empty_chain, is_of, with_states, with_turns};
 
+use crate::ListId;
 use crate::traveller::Traveller;
-use sd_four::Four;
+use sd_boxq::Four;
 use sd_record::Record;
-use sd_shown::ListId;
 use sd_state::LockState;
-use sd_turn::TurnChain;
+use sd_turnstile::TurnChain;
 use sd_types::{LockId, Side, ThreadId};
 use std::marker::Model;
 

@@ -3,7 +3,7 @@
 ghost use Rattle.std.specs.Prelude.{◌≡◌, ◌∷◌, false, Some, option_map, slice_get, IfOk, MatchOption};
 ghost use Rattle.std.specs.Option.{option_copied};
 ghost use Rattle.sd_boxq.specs.Order.{find_first, find_id, drop_id, insert_ranked, insert_keyed};
-ghost use Rattle.sd_shown.specs.Standing.{id_of, ages, earlier, is_unbound, key_in, least_to_age, rank_of};
+ghost use Rattle.sd_homes.specs.Standing.{id_of, ages, earlier, is_unbound, key_in, least_to_age, rank_of};
 ghost use Rattle.sd_types.specs.declared.numbers.HomeId.TheVariants.{Cpu};
 ghost use Rattle.sd_record.specs.Records.{ThreadRecord};
 ghost use Rattle.sd_store.specs.Bodies.{changed};
@@ -11,15 +11,14 @@ ghost use Rattle.sd_homes.specs.Bodies.{CanChangeThread};
 ghost use Rattle.sd_homes.specs.Kinds.{IsListed, cpu_has, cpu_list};
 ghost use Rattle.sd_homes.specs.Homes.{OfCpu, empty_cpu, one, head_of, with_body_of, with_ended, with_nappers, with_queue, with_running, with_view};
 
-use crate::bodies;
 use crate::ready::ReadyQueue;
 use crate::traveller::{Traveller, equipped};
+use crate::{ListId, bodies};
 use sd_boxq::{BoxQueue, Node};
 use sd_dispq::DispQueue;
 use sd_record::Record;
-use sd_shown::ListId;
 use sd_store::{BodyChange, CpuView};
-use sd_turn::Rack;
+use sd_turnstile::Rack;
 use sd_types::{ClassState, CpuId, ThreadId, Work};
 use std::alloc::{AllocError, Global};
 use std::marker::Model;

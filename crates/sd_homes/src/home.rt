@@ -3,23 +3,23 @@
 ghost use Rattle.std.specs.Prelude.{◌≡◌, false, slice_get, MatchOption};
 ghost use Rattle.std.specs.Option.{option_copied};
 ghost use Rattle.sd_boxq.specs.Order.{find_id, drop_id};
-ghost use Rattle.sd_shown.specs.Standing.{home_at, id_of, insert_at};
+ghost use Rattle.sd_homes.specs.Standing.{home_at, id_of, insert_at};
 ghost use Rattle.sd_record.specs.Records.{ThreadRecord};
 ghost use Rattle.sd_store.specs.Bodies.{changed};
-ghost use Rattle.sd_shown.specs.declared.list_id.ListId.TheVariants.{Runs};
+ghost use Rattle.sd_homes.specs.declared.list_id.ListId.TheVariants.{Runs};
 ghost use Rattle.sd_homes.specs.Bodies.{CanChangeThread};
 ghost use Rattle.sd_homes.specs.Families.{IsWhole, has, home_id, list_in, putting, same_home, taking, with_list};
 ghost use Rattle.sd_homes.specs.Homes.{with_body_of};
 ghost use Rattle.sd_homes.specs.Kinds.{IsListed};
 
+use crate::ListId;
 use crate::chain::ChainHome;
 use crate::cpu::CpuHome;
 use crate::real_time::RealTimeHome;
 use crate::sleepers::SleepersHome;
 use crate::traveller::Traveller;
-use sd_boxed::Boxed;
+use sd_boxq::Boxed;
 use sd_record::Record;
-use sd_shown::ListId;
 use sd_store::BodyChange;
 use sd_types::{CpuId, HomeId, ThreadId, Work, home_of_chan, home_of_lock};
 

@@ -3,10 +3,10 @@
 ghost use Rattle.std.specs.Prelude.{◌≡◌, ◌≤◌, [], ◌++◌, length, option_map, IfErr, IfOk, MatchOption};
 ghost use Rattle.std.specs.Option.{option_copied};
 ghost use Rattle.sd_boxq.specs.Order.{drop_id, find_below, find_first};
-ghost use Rattle.sd_shown.specs.declared.list_id.ListId.TheVariants.{Ends, Queues, Sleeps, Waits};
-ghost use Rattle.sd_shown.specs.Standing.{id_of, is_unbound, key_in, least_to_age, rank_of};
+ghost use Rattle.sd_homes.specs.declared.list_id.ListId.TheVariants.{Ends, Queues, Sleeps, Waits};
+ghost use Rattle.sd_homes.specs.Standing.{id_of, is_unbound, key_in, least_to_age, rank_of};
 ghost use Rattle.sd_types.specs.declared.numbers.Side.TheVariants.{Writer, Reader};
-ghost use Rattle.sd_turn.specs.Waiters.{highest};
+ghost use Rattle.sd_turnstile.specs.Waiters.{highest};
 ghost use Rattle.sd_homes.specs.Families.{counting, list_in, lock_in, locking, open_in, opened, shut, tokens_in, view_in, viewing};
 
 use crate::home::Home;

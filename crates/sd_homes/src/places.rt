@@ -1,10 +1,10 @@
 //! The list and the key of a place.
 
 ghost use Rattle.std.specs.Prelude.{◌≡◌, int_le, pos};
-ghost use Rattle.sd_shown.specs.Standing.{list_at, record_key};
+ghost use Rattle.sd_homes.specs.Standing.{list_at, record_key};
 
+use crate::ListId;
 use sd_record::Record;
-use sd_shown::ListId;
 use sd_state::Place;
 use sd_types::CpuId;
 

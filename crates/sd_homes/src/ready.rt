@@ -2,7 +2,7 @@
 
 ghost use Rattle.std.specs.Prelude.{◌≡◌, ◌<◌, ◌≤ℤ◌, [], IfOk};
 ghost use Rattle.sd_boxq.specs.Order.{find_id, drop_id, insert_ranked};
-ghost use Rattle.sd_shown.specs.Standing.{id_of, key_in, rank_of};
+ghost use Rattle.sd_homes.specs.Standing.{id_of, key_in, rank_of};
 ghost use Rattle.sd_homes.specs.Newest.{KeysAtMost};
 
 use sd_boxq::Node;

@@ -4,18 +4,18 @@ ghost use Rattle.std.specs.Prelude.{◌≡◌, ◌≤◌, false, length, slice_g
 ghost use Rattle.std.specs.Option.{option_copied};
 ghost use Rattle.sd_boxq.specs.Order.{find_id, drop_id, insert_ranked};
 ghost use Rattle.sd_machine.specs.Changes.{with_cpu_in, without_cpu};
-ghost use Rattle.sd_shown.specs.Standing.{id_of, key_in, rank_of};
+ghost use Rattle.sd_homes.specs.Standing.{id_of, key_in, rank_of};
 ghost use Rattle.sd_types.specs.declared.numbers.HomeId.TheVariants.{RealTime};
 ghost use Rattle.sd_homes.specs.Kinds.{IsListed, set_has, set_list};
 ghost use Rattle.sd_homes.specs.Homes.{OfSet, empty_set, with_open_cpus, with_urgent};
 
+use crate::ListId;
 use crate::ready::ReadyQueue;
 use crate::traveller::{Traveller, equipped};
 use arrayvec::ArrayVec;
 use sd_flat::{with_cpu_in, without_cpu};
 use sd_record::Record;
-use sd_shown::ListId;
-use sd_turn::Rack;
+use sd_turnstile::Rack;
 use sd_types::{CpuId, SetId, ThreadId};
 use std::alloc::{AllocError, Global};
 use std::marker::Model;

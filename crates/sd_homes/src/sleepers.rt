@@ -4,17 +4,17 @@ ghost use Rattle.std.specs.Prelude.{◌≡◌, ◌+◌, ◌/◌, ◌<◌, true, 
 ghost use Rattle.std.specs.Option.{option_copied};
 ghost use Rattle.sd_boxq.specs.Order.{find_below, find_id, drop_id, insert_ranked};
 ghost use Rattle.sd_sleepq.specs.Sleepers.{sleepers_of, with_sleepers};
-ghost use Rattle.sd_shown.specs.Standing.{id_of, key_in, rank_of};
+ghost use Rattle.sd_homes.specs.Standing.{id_of, key_in, rank_of};
 ghost use Rattle.sd_types.specs.declared.numbers.HomeId.TheVariants.{Sleepers};
 ghost use Rattle.sd_homes.specs.Kinds.{IsListed, asleep_has, asleep_list};
 ghost use Rattle.sd_homes.specs.Homes.{OfSleepers, empty_sleepers, is_chan_of, with_asleep, with_counts};
 
+use crate::ListId;
 use crate::traveller::{Traveller, equipped};
-use sd_four::Four;
+use sd_boxq::Four;
 use sd_record::Record;
-use sd_shown::ListId;
 use sd_sleepq::SleepChain;
-use sd_turn::Rack;
+use sd_turnstile::Rack;
 use sd_types::{ChanId, ThreadId};
 use std::marker::Model;
 

@@ -2,9 +2,9 @@
 
 ghost use Rattle.std.specs.Prelude.{◌≡◌, ◌+◌, ◌<◌, IfOk};
 ghost use Rattle.sd_types.specs.Priorities.{eff};
-ghost use Rattle.sd_turn.specs.Waiters.{IsIdle};
+ghost use Rattle.sd_turnstile.specs.Waiters.{IsIdle};
 ghost use Rattle.sd_machine.specs.Bodies.{arrived, departed};
-ghost use Rattle.sd_shown.specs.Standing.{record_key};
+ghost use Rattle.sd_homes.specs.Standing.{record_key};
 ghost use Rattle.sd_store.specs.Bodies.{changed};
 ghost use Rattle.sd_homes.specs.Bodies.{CanChangeThread};
 ghost use Rattle.sd_homes.specs.Homes.{with_body_of, with_key};
@@ -15,7 +15,7 @@ use sd_boxq::Node;
 use sd_record::Record;
 use sd_state::Place;
 use sd_store::BodyChange;
-use sd_turn::{Rack, Turnstile};
+use sd_turnstile::{Rack, Turnstile};
 use sd_types::{CpuId, ThreadId, Work};
 use std::alloc::{AllocError, Global};
 use std::marker::Model;
@@ -29,7 +29,7 @@ pub struct Traveller {
 
 impl Model for Traveller {
     ghost use Rattle.sd_record.specs.Records.{ThreadRecord};
-    ghost use Rattle.sd_turn.specs.Waiters.{IsIdle};
+    ghost use Rattle.sd_turnstile.specs.Waiters.{IsIdle};
 
     ghost Value = { ThreadRecord };
 

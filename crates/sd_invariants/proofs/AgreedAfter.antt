@@ -16,10 +16,10 @@ use Rattle.sd_types.specs.declared.scripts.Op.{Op}
 use Rattle.sd_types.specs.declared.scripts.Op.TheVariants as op
 use Rattle.sd_types.specs.declared.works.Work.{Work}
 use Rattle.sd_types.specs.Scripts.{is_held, held_by, without_lock, op_fits}
-use Rattle.sd_chains.specs.Holders as H
-use Rattle.sd_chains.proofs.Moves.{none_some, put_cases}
-use Rattle.sd_chains.proofs.HolderLemmas.{count_one}
-use Rattle.sd_chains.proofs.Chains.{some_is}
+use Rattle.sd_machine.specs.Holders as H
+use Rattle.sd_machine.proofs.Moves.{none_some, put_cases}
+use Rattle.sd_machine.proofs.HolderLemmas.{count_one}
+use Rattle.sd_machine.proofs.Chains.{some_is}
 use Rattle.sd_frames.proofs.ReleaseLemmas.{Outcome, nobody_waits}
 use Rattle.sd_frames.proofs.PassLemmas.{drop_duties, Woken, unblock_outcome, Granted, grant_outcome, Passed, pass_outcome}
 use Rattle.sd_frames.proofs.PassLemmas.Woken.{more, last}

@@ -6,12 +6,12 @@ use Rattle.std.proofs.lemmas.Bool.Decides.{nat_tests}
 use Rattle.sd_types.specs.declared.numbers.LockId.{LockId}
 use Rattle.sd_types.specs.declared.numbers.Side.{Side}
 use Rattle.sd_types.specs.Scripts.{is_lock, is_held, without_lock}
-use Rattle.sd_chains.specs.Graphs as G
-use Rattle.sd_chains.specs.Holders as H
-use Rattle.sd_chains.proofs.Moves.{IsPut, none_some}
-use Rattle.sd_chains.proofs.Chains.{some_is}
-use Rattle.sd_chains.proofs.HolderLemmas.{count_same, count_one, IsAt, agreed_at}
-use Rattle.sd_chains.proofs.HolderLemmas.IsHeldAfter.{stays, comes, goes}
+use Rattle.sd_machine.specs.Graphs as G
+use Rattle.sd_machine.specs.Holders as H
+use Rattle.sd_machine.proofs.Moves.{IsPut, none_some}
+use Rattle.sd_machine.proofs.Chains.{some_is}
+use Rattle.sd_machine.proofs.HolderLemmas.{count_same, count_one, IsAt, agreed_at}
+use Rattle.sd_machine.proofs.HolderLemmas.IsHeldAfter.{stays, comes, goes}
 use Rattle.sd_state.specs.declared.states.Place.{Place}
 use Rattle.sd_state.specs.declared.states.Place.TheVariants.{Running, Queued, RealTime, Waiting, Asleep, Napping, Ended}
 use Rattle.sd_state.specs.declared.states.LockState.{LockState}

@@ -1,6 +1,6 @@
 -- A processor counts the threads that are bound to it.
 use Rattle.std.proofs.Common.{◌≡◌, ◌≢◌, ℕ, ◌+◌, ◌-◌, ◌<◌, Bool, true, false, ◌||◌, List, length, Option, Some, None, refl, ◌∙◌, sym, ap, subst, arith}
-use Rattle.sd_chains.specs.Holders as H
+use Rattle.sd_machine.specs.Holders as H
 use Rattle.sd_frames.proofs.Parts.{same_item, put_item}
 use Rattle.sd_frames.proofs.CpuWords as C
 use Rattle.sd_types.specs.declared.numbers.CpuId.{CpuId}
@@ -41,7 +41,7 @@ use Rattle.sd_machine.specs.Prioritising.{is_privileged, uid_of}
 use Rattle.sd_machine.specs.SetChanges.{is_misbound, is_closing, bind_to, bind_put}
 use Rattle.sd_machine.specs.Threads.{has_ended, set_of}
 use Rattle.sd_machine.proofs.ShapeLemmas.{IsShaped, set_duty_shape, pbound_shape, after_shape}
-use Rattle.sd_chains.proofs.HolderLemmas.{count_same, count_more}
+use Rattle.sd_machine.proofs.HolderLemmas.{count_same, count_more}
 use Rattle.sd_frames.proofs.Parts.{set_past}
 use Rattle.sd_frames.proofs.Words.{Same, then_same, set_duty_same, plain_same}
 use Rattle.sd_frames.proofs.HoldTable.{bound_part, bound_moves, bound_ops, Goes, owned_bound, read_bound, exited_bound, cv_waited_bound, granted_to_writer_bound, granted_to_reader_bound, willed_bound, pbound_bound, refused_bound}

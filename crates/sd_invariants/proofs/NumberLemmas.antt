@@ -20,7 +20,7 @@ use Rattle.sd_machine.specs.Threads.{best_waiter}
 use Rattle.sd_frames.specs.Causes.{IsCause}
 use Rattle.sd_invariants.specs.Holding.{lock_state}
 use Rattle.sd_frames.proofs.Found.{runner_found, waiter_found}
-use Rattle.sd_chains.proofs.Moves.{put_cases}
+use Rattle.sd_machine.proofs.Moves.{put_cases}
 use Rattle.std.proofs.Common.{◌++◌, ◌∷◌, [], max, get_or, set, suc}
 use Rattle.sd_types.specs.declared.events.Duty.{Duty}
 use Rattle.sd_types.specs.declared.events.Duty.TheVariants as duty

@@ -29,9 +29,9 @@ use Rattle.sd_machine.specs.Changes.{back_key, set_duty}
 use Rattle.sd_machine.specs.Locking.{kind_of, side_of, one_more, one_reader_more}
 use Rattle.sd_machine.specs.LockGraph.{wait_of}
 use Rattle.sd_machine.specs.Events.{after, drop_ageing, dropped_duty}
-use Rattle.sd_chains.specs.Graphs as G
-use Rattle.sd_chains.specs.Holders as H
-use Rattle.sd_chains.proofs.Moves.{put_cases}
+use Rattle.sd_machine.specs.Graphs as G
+use Rattle.sd_machine.specs.Holders as H
+use Rattle.sd_machine.proofs.Moves.{put_cases}
 use Rattle.sd_frames.specs.Causes.{IsCause}
 use Rattle.sd_frames.specs.Passing.{pass_of}
 use Rattle.sd_invariants.specs.Holding.{lock_state, DutyServes, IsReadWell, ReadsWell}

@@ -39,8 +39,8 @@ use Rattle.sd_machine.specs.Runs.{final, IsRunFrom, IsReached}
 use Rattle.sd_machine.proofs.OpeningLemmas.{opening_fits}
 use Rattle.sd_machine.proofs.RunLemmas.{IsRun-from}
 use Rattle.sd_machine.proofs.ShapeLemmas.{IsShaped, after_shape, after_fits}
-use Rattle.sd_chains.specs.Graphs as G
-use Rattle.sd_chains.specs.Holders as H
+use Rattle.sd_machine.specs.Graphs as G
+use Rattle.sd_machine.specs.Holders as H
 use Rattle.sd_frames.specs.Causes.{wants, IsCause}
 use Rattle.sd_frames.specs.Passing.{pass_of}
 use Rattle.sd_invariants.specs.Holding.{lock_state, table, Agreed, DutyServes}

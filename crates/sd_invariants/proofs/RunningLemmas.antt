@@ -25,7 +25,7 @@ use Rattle.sd_frames.specs.Causes.{IsCause}
 use Rattle.sd_frames.specs.Moves.{Step, put_step_if, woken_step, reordered_step, aged_step, prio_step, bind_step, step_of}
 use Rattle.sd_frames.specs.Moves.Step.{Stay, Go}
 use Rattle.sd_frames.proofs.PlaceTable.{Stepped}
-use Rattle.sd_chains.proofs.Moves.{put_cases}
+use Rattle.sd_machine.proofs.Moves.{put_cases}
 use Rattle.std.specs.List.{position_or_len}
 use Rattle.std.proofs.Common.{cond}
 use Rattle.std.proofs.lemmas.Bool.{eqb-true, false≢true}

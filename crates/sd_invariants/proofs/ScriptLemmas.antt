@@ -15,7 +15,7 @@ use Rattle.sd_frames.proofs.PlaceTable.{Stepped}
 use Rattle.sd_frames.proofs.Found.{runner_found, waiter_found}
 use Rattle.sd_frames.specs.Moves.{Step, put_step_if, woken_step, reordered_step, aged_step, prio_step, bind_step, step_of}
 use Rattle.sd_frames.specs.Moves.Step.{Stay, Go}
-use Rattle.sd_chains.proofs.Moves.{put_cases}
+use Rattle.sd_machine.proofs.Moves.{put_cases}
 use Rattle.std.proofs.lemmas.Bool.{cases_eq, eqb-true}
 use Rattle.sd_types.specs.declared.numbers.CpuId.{CpuId}
 use Rattle.sd_types.specs.declared.numbers.LockId.{LockId}

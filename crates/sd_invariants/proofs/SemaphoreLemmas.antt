@@ -31,7 +31,7 @@ use Rattle.sd_frames.proofs.OpTable.{op_part, Finished, ender, IsEnderThere, Ops
 use Rattle.sd_invariants.proofs.ScriptLemmas.{ender_in}
 use Rattle.sd_invariants.proofs.AgreedAfter.{IsReady}
 use Rattle.sd_invariants.proofs.Ready.{IsKept}
-use Rattle.sd_chains.proofs.Moves.{IsPut}
+use Rattle.sd_machine.proofs.Moves.{IsPut}
 
 -- a sum over the first numbers
 abbrev pub total : (ℕ → ℕ) → ℕ → ℕ

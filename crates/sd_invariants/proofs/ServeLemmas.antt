@@ -31,7 +31,7 @@ use Rattle.sd_machine.specs.Threads.{thread_id, lock_of, best_waiter, has_waiter
 use Rattle.sd_machine.specs.Changes.{back_key, set_duty, place_put}
 use Rattle.sd_machine.specs.Locking.{kind_of, side_of, blocked}
 use Rattle.sd_machine.specs.Events.{effect, after, drop_ageing, dropped_duty}
-use Rattle.sd_chains.specs.Holders as H
+use Rattle.sd_machine.specs.Holders as H
 use Rattle.sd_frames.specs.Causes.{Acts, IsCause}
 use Rattle.sd_frames.specs.Passing.{pass_of}
 use Rattle.sd_invariants.specs.Holding.{lock_state, table, Agreed, DutyServes, DutiesServe}
@@ -45,7 +45,7 @@ use Rattle.sd_frames.proofs.PlaceTable.{Stepped}
 use Rattle.sd_invariants.proofs.Movers.{ends_wait, mover_of}
 use Rattle.sd_invariants.proofs.Waiters.{Stays, quiet_stays, others_stay, side_waits, stays_has, stays_best}
 use Rattle.sd_invariants.proofs.Works.{declared, op_named}
-use Rattle.sd_chains.proofs.HolderLemmas.{count_one}
+use Rattle.sd_machine.proofs.HolderLemmas.{count_one}
 use Rattle.sd_types.specs.Scripts.{is_held, op_fits}
 use Rattle.sd_invariants.proofs.AgreedAfter.{IsReady, IsNext, holds_it}
 use Rattle.sd_invariants.proofs.AgreedEvents.{cause_pass}

@@ -38,7 +38,7 @@ use Rattle.sd_machine.specs.Locking.{others_waiting}
 use Rattle.sd_machine.specs.Needs.{IsThread, Runs, CanAct, CanNap, CanHold, CanInherit, CanReceive, CanBind, more_fits}
 use Rattle.sd_machine.specs.Sleeping.{nap_ticks}
 use Rattle.sd_machine.specs.Runs.{IsReached}
-use Rattle.sd_chains.specs.Holders as H
+use Rattle.sd_machine.specs.Holders as H
 use Rattle.sd_frames.specs.Causes.{Acts, wants, WakesBest, RousesBest}
 use Rattle.sd_invariants.specs.Holding.{lock_state, table}
 use Rattle.sd_invariants.specs.Laws.{CountsWithin, OpenHold, IsFit}

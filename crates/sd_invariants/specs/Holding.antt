@@ -8,8 +8,8 @@ use Rattle.sd_types.specs.declared.events.Duty.TheVariants.{WakeMutex, GrantWrit
 use Rattle.sd_types.specs.declared.works.Work.{Work}
 use Rattle.sd_types.specs.Scripts.{is_held}
 use Rattle.sd_types.specs.Works.{is_mutex, is_rwlock}
-use Rattle.sd_chains.specs.Graphs as G
-use Rattle.sd_chains.specs.Holders as H
+use Rattle.sd_machine.specs.Graphs as G
+use Rattle.sd_machine.specs.Holders as H
 use Rattle.sd_state.specs.declared.states.LockState.{LockState}
 use Rattle.sd_state.specs.declared.states.LockState.TheVariants.{Free, Owned, ReadHeld, Passing}
 use Rattle.sd_state.specs.declared.states.State.{State}

@@ -72,14 +72,14 @@ fn made(i: u8) -> (u16, Event) {
         ),
         9 => (0, Event::Rouse { k: K, woken: None }),
         10 => (1, Event::Napend { t: B, at: TO }),
-        11 => (1, Event::Unblock { l: M, s: A, at: TO }),
-        12 => (1, Event::Grant { l: W, s: B, at: TO }),
+        11 => (1, Event::Unblock { l: M, u: A, at: TO }),
+        12 => (1, Event::Grant { l: W, u: B, at: TO }),
         13 => (
             1,
             Event::SemaVWake {
                 t: A,
                 k: K,
-                s: B,
+                u: B,
                 at: TO,
             },
         ),

@@ -1,7 +1,7 @@
 //! Cycles of states that were drawn by hand.
 
 use crate::given::{in_place, state};
-use sd_cycles::cycles;
+use sd_accounts::cycles;
 use sd_state::{LockState, Place, State};
 use sd_types::{LockId, Side, ThreadId};
 use std::alloc::{AllocError, Global};

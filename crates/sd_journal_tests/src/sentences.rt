@@ -2,8 +2,8 @@
 
 use crate::given::in_place;
 use arrayvec::ArrayVec;
-use sd_sentences::put_sentence;
 use sd_state::{CpuState, LockState, Place, State, ThreadState};
+use sd_story::put_sentence;
 use sd_types::{
     AssignAnswer, BindAnswer, ChanId, ClassState, CpuId, Denied, Duty, End, Event, List, LockId,
     PrioAnswer, Put, SetId, Side, ThreadId, TsState, Work,
@@ -228,7 +228,7 @@ fn early(i: u8) -> (Event, &'static str) {
             Event::SemaVWake {
                 t: A,
                 k: Q,
-                s: B,
+                u: B,
                 at: TO,
             },
             "a gives to q, and the best that sleeps on it takes it: b is runnable on the queue of processor 1",
@@ -303,11 +303,11 @@ fn late(i: u8) -> (Event, &'static str) {
             "c gives up n, for which nobody waits",
         ),
         13 => (
-            Event::Unblock { l: M, s: B, at: TO },
+            Event::Unblock { l: M, u: B, at: TO },
             "processor 0 wakes the best that waits for m: b is runnable on the queue of processor 1",
         ),
         14 => (
-            Event::Grant { l: W, s: B, at: TO },
+            Event::Grant { l: W, u: B, at: TO },
             "processor 0 hands w over: b is runnable on the queue of processor 1",
         ),
         15 => (
@@ -321,7 +321,7 @@ fn late(i: u8) -> (Event, &'static str) {
         17 => (
             Event::Prio {
                 t: A,
-                s: C,
+                u: C,
                 answer: PrioAnswer::Changed { p: 24, at: None },
             },
             "a sets the class or priority of c, whose priority rises from 20 to 24",
@@ -329,7 +329,7 @@ fn late(i: u8) -> (Event, &'static str) {
         18 => (
             Event::Prio {
                 t: C,
-                s: A,
+                u: A,
                 answer: PrioAnswer::Refused(Denied::EPERM),
             },
             "c sets the class or priority of a: it may not (EPERM)",
@@ -363,7 +363,7 @@ fn late(i: u8) -> (Event, &'static str) {
         23 => (
             Event::Bind {
                 t: A,
-                s: B,
+                u: B,
                 cpu: Some(C1),
                 answer: BindAnswer::Changed { at: None },
             },
@@ -372,7 +372,7 @@ fn late(i: u8) -> (Event, &'static str) {
         _ => (
             Event::Bind {
                 t: A,
-                s: B,
+                u: B,
                 cpu: None,
                 answer: BindAnswer::ESRCH,
             },

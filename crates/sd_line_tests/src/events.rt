@@ -2,7 +2,7 @@
 
 use crate::given::named;
 use arrayvec::ArrayVec;
-use sd_entry_writer::write_entry;
+use sd_entries::write_entry;
 use sd_types::{
     AssignAnswer, BindAnswer, ChanId, CpuId, Denied, End, Entry, Event, Hints, LockId, PrioAnswer,
     Put, SetId, ThreadId, Which, Work,
@@ -131,8 +131,8 @@ fn plain_event(i: u8) -> (Event, &'static str) {
         ),
         23 => (Event::End { l: W }, "end w"),
         24 => (Event::Exit { t: A, l: M }, "exit a m"),
-        25 => (Event::Unblock { l: M, s: B, at: TO }, "unblock m b to c10"),
-        26 => (Event::Grant { l: W, s: B, at: RT }, "grant w b rt c0"),
+        25 => (Event::Unblock { l: M, u: B, at: TO }, "unblock m b to c10"),
+        26 => (Event::Grant { l: W, u: B, at: RT }, "grant w b rt c0"),
         27 => (Event::Passed { l: W }, "passed w"),
         _ => (Event::Age { t: A, p: 51 }, "age a 51"),
     }
@@ -162,7 +162,7 @@ fn answer(i: u8) -> (Event, &'static str) {
         0 => (
             Event::Prio {
                 t: A,
-                s: B,
+                u: B,
                 answer: PrioAnswer::Changed { p: 3, at: None },
             },
             "prio a b ok 3",
@@ -170,7 +170,7 @@ fn answer(i: u8) -> (Event, &'static str) {
         1 => (
             Event::Prio {
                 t: A,
-                s: B,
+                u: B,
                 answer: PrioAnswer::Changed {
                     p: 24,
                     at: Some(TO),
@@ -181,7 +181,7 @@ fn answer(i: u8) -> (Event, &'static str) {
         2 => (
             Event::Prio {
                 t: A,
-                s: B,
+                u: B,
                 answer: PrioAnswer::Refused(Denied::ESRCH),
             },
             "prio a b ESRCH",
@@ -189,7 +189,7 @@ fn answer(i: u8) -> (Event, &'static str) {
         3 => (
             Event::Prio {
                 t: A,
-                s: B,
+                u: B,
                 answer: PrioAnswer::Refused(Denied::EINVAL),
             },
             "prio a b EINVAL",
@@ -197,7 +197,7 @@ fn answer(i: u8) -> (Event, &'static str) {
         4 => (
             Event::Prio {
                 t: A,
-                s: B,
+                u: B,
                 answer: PrioAnswer::Refused(Denied::EPERM),
             },
             "prio a b EPERM",
@@ -209,7 +209,7 @@ fn answer(i: u8) -> (Event, &'static str) {
             Event::SemaVWake {
                 t: A,
                 k: Q,
-                s: B,
+                u: B,
                 at: TO,
             },
             "semav a q b to c10",
@@ -264,7 +264,7 @@ fn answer(i: u8) -> (Event, &'static str) {
         17 => (
             Event::Bind {
                 t: A,
-                s: B,
+                u: B,
                 cpu: Some(CpuId(1)),
                 answer: BindAnswer::Changed { at: None },
             },
@@ -273,7 +273,7 @@ fn answer(i: u8) -> (Event, &'static str) {
         18 => (
             Event::Bind {
                 t: A,
-                s: B,
+                u: B,
                 cpu: None,
                 answer: BindAnswer::Changed { at: Some(RT) },
             },
@@ -282,7 +282,7 @@ fn answer(i: u8) -> (Event, &'static str) {
         19 => (
             Event::Bind {
                 t: A,
-                s: B,
+                u: B,
                 cpu: None,
                 answer: BindAnswer::ESRCH,
             },
@@ -291,7 +291,7 @@ fn answer(i: u8) -> (Event, &'static str) {
         20 => (
             Event::Bind {
                 t: A,
-                s: B,
+                u: B,
                 cpu: None,
                 answer: BindAnswer::EINVAL,
             },
@@ -300,7 +300,7 @@ fn answer(i: u8) -> (Event, &'static str) {
         21 => (
             Event::Bind {
                 t: A,
-                s: B,
+                u: B,
                 cpu: Some(CpuId(10)),
                 answer: BindAnswer::EPERM,
             },
@@ -309,7 +309,7 @@ fn answer(i: u8) -> (Event, &'static str) {
         _ => (
             Event::Bind {
                 t: A,
-                s: B,
+                u: B,
                 cpu: Some(CpuId(1)),
                 answer: BindAnswer::EBUSY,
             },

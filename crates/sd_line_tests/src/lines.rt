@@ -1,8 +1,8 @@
 //! Lines that are of entries, and lines that are of none.
 
 use crate::given::named;
+use sd_entries::write_entry;
 use sd_entry_reader::{Names, read_entry};
-use sd_entry_writer::write_entry;
 use std::test::Fail;
 
 fn line_of_an_entry(i: u8) -> &'static str {
@@ -64,7 +64,7 @@ fn lines_of_entries(rt: HostRuntime) -> Result<(), Fail> {
     let names = Names::new(alloc, &work)?;
     for i in 0..21 {
         let line = line_of_an_entry(i);
-        let Some(entry) = read_entry(alloc, &names, line.as_bytes())? else {
+        let Some(entry) = read_entry(&names, line.as_bytes()) else {
             return Ok(assert!(rt; false, "{line}"));
         };
         let mut out = Vec::new(alloc);
@@ -85,10 +85,7 @@ fn lines_of_no_entry(rt: HostRuntime) -> Result<(), Fail> {
     let names = Names::new(alloc, &work)?;
     for i in 0..16 {
         let line = line_of_none(i);
-        assert!(rt;
-            read_entry(alloc, &names, line.as_bytes())?.is_none(),
-            "{line}"
-        );
+        assert!(rt; read_entry(&names, line.as_bytes()).is_none(), "{line}");
     }
     Ok(())
 }

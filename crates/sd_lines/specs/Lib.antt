@@ -1,3 +1,4 @@
+pub mod Keys
 pub mod Operations
 pub mod Said
 pub mod Statements

@@ -2,13 +2,18 @@
 //! Whether names are declared and numbers are in their ranges is judged by the crates above.
 #![tactic(auto)]
 
+mod index;
+mod key;
 mod names;
 mod operations;
 mod requests;
 mod statements;
+#[cfg(test)]
+mod tests;
 mod threads;
 mod words;
 
+pub use index::NameIndex;
 pub use names::is_word;
 pub use operations::{Operation, RequestLine, operation_of};
 pub use statements::{Statement, TableClass, statement_of};

@@ -1,4 +1,6 @@
 pub mod GivenUp
 pub mod Handed
+pub mod Looped
 pub mod Taken
 pub mod Waiting
+pub mod Walked

@@ -14,8 +14,8 @@ ghost use Rattle.sd_store.specs.Parts.{actor_part, chain_part, found_parts, numb
 ghost use Rattle.sd_store.specs.Words.{Does, DoesBy, Lacks, LacksBy, LacksIf, Tells};
 ghost use Rattle.sd_types.specs.declared.numbers.Side.TheVariants.{Writer};
 
+use crate::eff_as_with;
 use crate::entering::owned;
-use sd_chain_walk::eff_as_with;
 use sd_dispatcher::{class_of, eff_of, priority_of, woken, woken_class, woken_priority};
 use sd_machine::{Placement, Plan};
 use sd_state::LockState;
@@ -36,7 +36,7 @@ pub fn unblock_plan<L: Look>(
         None => Ok(None),
         Some(u) => {
             let p = woken_priority(work, x, u)?;
-            Ok(Some(Plan::Place(Placement::Unblock { l, s: u }, p)))
+            Ok(Some(Plan::Place(Placement::Unblock { l, u }, p)))
         }
     }
 }
@@ -88,7 +88,7 @@ pub fn grant_writer_plan<L: Look>(
         None => Ok(None),
         Some(u) => {
             let p = writer_priority(work, x, l, u)?;
-            Ok(Some(Plan::Place(Placement::Grant { l, s: u }, p)))
+            Ok(Some(Plan::Place(Placement::Grant { l, u }, p)))
         }
     }
 }
@@ -129,7 +129,7 @@ pub fn grant_reader_plan<L: Look>(
         Some(u) => {
             if may_read(x, l, u)? {
                 let p = woken_priority(work, x, u)?;
-                Ok(Plan::Place(Placement::Grant { l, s: u }, p))
+                Ok(Plan::Place(Placement::Grant { l, u }, p))
             } else {
                 Ok(Plan::Make(Event::Passed { l }))
             }

@@ -8,8 +8,12 @@
 
 mod entering;
 mod handing;
+mod inheriting;
 mod releasing;
+mod walking;
 
 pub use entering::{blocked, enter_event, owned, read, read_event, write_event};
 pub use handing::{grant_reader_plan, grant_writer_plan, granted, passed, unblock_plan, unblocked};
+pub use inheriting::eff_as_with;
 pub use releasing::{exited, released};
+pub use walking::{walk_ended, walk_plan, willed};

@@ -3,7 +3,7 @@ use Rattle.std.proofs.Common.{◌≡◌, ℕ, ◌+◌, ◌<◌, ◌≤◌, List,
 use Rattle.std.specs.Prelude.{slice_get, slice_index}
 use Rattle.std.proofs.lemmas.Bool.{cases_lt}
 use Rattle.std.proofs.lemmas.Option.{same_Some, slice_get_within}
-use Rattle.sd_waits.specs.declared.edges.Edge.{Edge}
+use Rattle.sd_longest.specs.declared.edges.Edge.{Edge}
 use Rattle.sd_longest.specs.Heights.{IsHeight}
 
 -- by the first n edges

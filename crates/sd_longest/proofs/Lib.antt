@@ -1,2 +1,15 @@
+pub mod CandidateLemmas
+pub mod EffectLemmas
 pub mod HeightLemmas
+pub mod LabelLemmas
+pub mod ListLemmas
+pub mod MarkLemmas
+pub mod NearLemmas
+pub mod OpeningLemmas
+pub mod ReportLemmas
+pub mod RowLemmas
 pub mod RunLemmas
+pub mod SettledLemmas
+pub mod TraceLemmas
+pub mod WaitWalkLemmas
+pub mod WalkLemmas

@@ -10,16 +10,16 @@ use Rattle.sd_state.specs.Opening.{opening}
 use Rattle.sd_machine.specs.Events.{after}
 use Rattle.sd_machine.specs.Runs.{IsRun, IsRunFrom, IsStep, serial_hints}
 use Rattle.sd_machine.proofs.RunLemmas.{IsRun-from}
-use Rattle.sd_range.proofs.Induction.{opening_reached}
-use Rattle.sd_interleavings.specs.Closed.{IsFresh}
+use Rattle.sd_invariants.proofs.Induction.{opening_reached}
+use Rattle.sd_search.specs.Closed.{IsFresh}
 use Rattle.sd_search.specs.declared.graph.Step.{Step}
 use Rattle.sd_search.specs.Graphs.{IsGathered}
 use Rattle.sd_search.proofs.TellLemmas.{inside_at}
-use Rattle.sd_waits.specs.declared.edges.Edge.{Edge}
-use Rattle.sd_latency.specs.Tables.{AreRows}
-use Rattle.sd_latency.proofs.NearLemmas.{IsNear}
-use Rattle.sd_latency.proofs.TraceLemmas.{stepped}
-use Rattle.sd_latency.proofs.WalkLemmas.{entry_of, taken}
+use Rattle.sd_longest.specs.declared.edges.Edge.{Edge}
+use Rattle.sd_longest.specs.Tables.{AreRows}
+use Rattle.sd_longest.proofs.NearLemmas.{IsNear}
+use Rattle.sd_longest.proofs.TraceLemmas.{stepped}
+use Rattle.sd_longest.proofs.WaitWalkLemmas.{entry_of, taken}
 use Rattle.sd_longest.specs.Heights.{AreHeights}
 use Rattle.sd_longest.specs.LongestRuns.{HasMost}
 

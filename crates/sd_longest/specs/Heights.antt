@@ -2,7 +2,7 @@
 -- state without edges has height 0, and each other one more than the highest state that an edge leads to.
 -- Source: longest ways in graphs without circles (Cormen, Leiserson, Rivest and Stein, "Introduction to Algorithms").
 use Rattle.std.specs.Prelude.{◌≡◌, ℕ, ◌+◌, ◌<◌, ◌≤◌, ◌⊎◌, List, length, slice_get, slice_index, Some}
-use Rattle.sd_waits.specs.declared.edges.Edge.{Edge}
+use Rattle.sd_longest.specs.declared.edges.Edge.{Edge}
 
 -- each of the edges leads to one of the first n states
 abbrev pub LeadBelow : List Edge → ℕ → Type 0

@@ -1,2 +1,11 @@
+pub mod Candidates
+pub mod Edges
+pub mod Effects
 pub mod Heights
+pub mod Labels
+pub mod Laws
 pub mod LongestRuns
+pub mod Marking
+pub mod Openings
+pub mod Tables
+pub mod Waits

@@ -2,10 +2,10 @@
 
 ghost use Rattle.std.specs.Prelude.{◌≡◌, ◌+◌, ◌<◌, ◌≤◌, ◌⊎◌, List, Some, length, slice_get, IsTrue, IfOk, IfSome};
 ghost use Rattle.sd_longest.specs.Heights.{AreHeights, IsHeight, LeadBelow};
-ghost use Rattle.sd_waits.specs.declared.edges.Edge.{Edge as EdgeOf};
-ghost use Rattle.sd_waits.specs.Edges.{LeadInside, rows_of};
+ghost use Rattle.sd_longest.specs.declared.edges.Edge.{Edge as EdgeOf};
+ghost use Rattle.sd_longest.specs.Edges.{LeadInside, rows_of};
 
-use sd_waits::{Edge, row_of};
+use crate::{Edge, row_of};
 use std::alloc::{AllocError, Global};
 
 /// The most rounds in which heights rise (this project's own): where they still do, nothing is said.

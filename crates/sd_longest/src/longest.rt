@@ -1,35 +1,157 @@
-//! How many entries a run has at most.
+//! The longest wait, and the walk along which it comes.
 
-ghost use Rattle.std.specs.Prelude.{◌≡◌, ◌<◌, length, slice_index, IfOk};
-ghost use Rattle.sd_longest.specs.LongestRuns.{IsLongestRun};
-ghost use Rattle.sd_search.specs.Graphs.{Gathers};
+ghost use Rattle.std.specs.Prelude.{◌≡◌, ◌+◌, ◌<◌, length, IfOk};
+ghost use Rattle.sd_longest.specs.Candidates.{IsBest, IsBestBelow, IsBestOf, IsBestWith, IsCandidate};
+ghost use Rattle.sd_longest.specs.Edges.{IsFound, IsLongest, LeadInside, rows_of};
+ghost use Rattle.sd_longest.specs.Labels.{IsLabelled, IsLabelling};
 
-use crate::heights::heights;
-use sd_latency::rows;
-use sd_search::Graph;
-use sd_types::{ThreadId, Work};
+use crate::edges::{Edge, Effect, row_of};
+use crate::labels::{Label, label_at};
+use crate::marking::labels;
+use sd_types::CpuId;
 use std::alloc::{AllocError, Global};
 
-fn first(heights: &[u32]) -> u32
-    requires { 0 < length heights.now }
-    ensures { result ≡ slice_index heights.now 0 }
-{
-    heights[0]
+/// A wait of so many ticks: from the state the turns of these processors, one after another, lead along it. The first opens it,
+/// and the last ends it.
+#[derive(Drop)]
+pub struct Wait {
+    pub ticks: u32,
+    pub from: usize,
+    pub cpus: Vec<CpuId>,
 }
 
-/// How many entries a run has at most, over all orders in which the processors can act, where each reads the numbers of the
-/// state, by the states that a search has found. None where not all states were reached, or where no such number was found. Each
-/// state is read once; what the turns do to the waits of a thread is noted and not looked at.
-pub fn longest_run(alloc: Global, work: &Work, graph: &Graph) -> Result<Option<u32>, AllocError>
-    requires { Gathers work.now graph.now }
-    ensures { IfOk result (IsLongestRun work.now) }
+/// The end of a wait of so many ticks: the turn of the processor in the state.
+#[derive(Clone, Copy)]
+pub(crate) struct Candidate {
+    pub ticks: u32,
+    pub state: usize,
+    pub cpu: CpuId,
+}
+
+/// The new one, where it is longer than the best so far.
+fn longer(best: Option<Candidate>, new: Candidate) -> Option<Candidate>
+    ensures { IsBest best new result }
 {
-    if !graph.is_closed() {
-        return Ok(None);
+    match best {
+        Some(old) => {
+            if old.ticks < new.ticks {
+                Some(new)
+            } else {
+                best
+            }
+        }
+        None => Some(new),
     }
-    let rows = rows(alloc, work, graph, ThreadId(0))?;
-    match heights(alloc, &rows)? {
-        Some(heights) => Ok(Some(first(&heights))),
+}
+
+/// The best with the wait of state `i` that the edge ends, where it does.
+fn look(best: Option<Candidate>, i: usize, label: Label, edge: Edge) -> Option<Candidate>
+    ensures { IsBestWith best i label edge edge.effect result }
+{
+    match edge.effect {
+        Effect::Ends => longer(
+            best,
+            Candidate {
+                ticks: edge.tick.saturating_sub(label.since),
+                state: i,
+                cpu: edge.cpu,
+            },
+        ),
+        Effect::Opens | Effect::Passes => best,
+    }
+}
+
+/// The best with those of the edges from state `i`.
+fn look_along(
+    rows: &[Vec<Edge>],
+    labels: &[Option<Label>],
+    i: usize,
+    label: Label,
+    so_far: Option<Candidate>,
+) -> Option<Candidate>
+    requires inside { i < length (rows_of rows.now) }
+    requires labelled { IsLabelled labels.now i label }
+    requires best { IsBestBelow (rows_of rows.now) labels.now i so_far }
+    ensures { IsBestBelow (rows_of rows.now) labels.now (i + 1) result }
+{
+    let mut best = so_far;
+    let row = row_of(rows, i);
+    for edge in row {
+        best = look(best, i, label, *edge);
+    }
+    best
+}
+
+/// The best with those of the edges from state `i`, where a wait may be open there.
+fn look_from(
+    rows: &[Vec<Edge>],
+    labels: &[Option<Label>],
+    i: usize,
+    so_far: Option<Candidate>,
+) -> Option<Candidate>
+    requires inside { i < length (rows_of rows.now) }
+    requires many { length labels.now ≡ length (rows_of rows.now) }
+    requires best { IsBestBelow (rows_of rows.now) labels.now i so_far }
+    ensures { IsBestBelow (rows_of rows.now) labels.now (i + 1) result }
+{
+    match labels[i] {
+        Some(label) => look_along(rows, labels, i, label, so_far),
+        None => so_far,
+    }
+}
+
+/// The end of the longest wait.
+fn best_of(rows: &[Vec<Edge>], labels: &[Option<Label>]) -> Option<Candidate>
+    requires { length labels.now ≡ length (rows_of rows.now) }
+    ensures { IsBestOf (rows_of rows.now) labels.now result }
+{
+    let mut best = None;
+    for i in 0..rows.len() {
+        best = look_from(rows, labels, i, best);
+    }
+    best
+}
+
+/// The wait that ends there, back to the edge that opened it.
+fn wait_to(
+    alloc: Global,
+    rows: &[Vec<Edge>],
+    labels: &[Option<Label>],
+    end: Candidate,
+) -> Result<Wait, AllocError>
+    requires labelling { IsLabelling (rows_of rows.now) labels.now }
+    requires candidate { IsCandidate (rows_of rows.now) labels.now end }
+    ensures found { IfOk result (IsFound (rows_of rows.now)) }
+    ensures ticks { IfOk result (λ w. w.ticks ≡ end.ticks) }
+{
+    let mut cpus = Vec::new(alloc);
+    cpus.push(end.cpu)?;
+    let mut label = label_at(labels, end.state);
+    while label.steps > 0 {
+        cpus.push(label.cpu)?;
+        label = label_at(labels, label.before);
+    }
+    cpus.push(label.cpu)?;
+    cpus.reverse();
+    Ok(Wait {
+        ticks: end.ticks,
+        from: label.before,
+        cpus,
+    })
+}
+
+/// The longest wait along the walks of the graph, None where none ends. The time is that of going over the edges three times, and
+/// of sorting those that open waits.
+pub fn longest_wait(alloc: Global, rows: &[Vec<Edge>]) -> Result<Option<Wait>, AllocError>
+    requires { LeadInside (rows_of rows.now) }
+    ensures { IfOk result (IsLongest (rows_of rows.now)) }
+{
+    let labels = labels(alloc, rows)?;
+    match best_of(rows, &labels) {
+        Some(end) => {
+            let wait = wait_to(alloc, rows, &labels, end)?;
+            Ok(Some(wait))
+        }
         None => Ok(None),
     }
 }

@@ -1,4 +1,11 @@
+pub mod Chains
+pub mod CycleLemmas
+pub mod Greatest
+pub mod HolderLemmas
+pub mod Moves
 pub mod OpeningLemmas
 pub mod RoundLemmas
 pub mod RunLemmas
 pub mod ShapeLemmas
+pub mod Steps
+pub mod WillMove

@@ -3,8 +3,12 @@ pub mod Bodies
 pub mod Changes
 pub mod Choosing
 pub mod Conditions
+pub mod Cycles
 pub mod Dispatching
 pub mod Events
+pub mod Graphs
+pub mod Holders
+pub mod Listing
 pub mod LockGraph
 pub mod Locking
 pub mod Needs

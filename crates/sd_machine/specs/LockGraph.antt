@@ -5,8 +5,8 @@ use Rattle.sd_types.specs.declared.events.Duty.{Duty}
 use Rattle.sd_types.specs.declared.events.Duty.TheVariants.{Walk}
 use Rattle.sd_types.specs.Priorities.{base_of, eff}
 use Rattle.sd_types.specs.Willed.{Numbers, number_for}
-use Rattle.sd_chains.specs.Graphs as G
-use Rattle.sd_chains.specs.Cycles.{cycles}
+use Rattle.sd_machine.specs.Graphs as G
+use Rattle.sd_machine.specs.Cycles.{cycles}
 use Rattle.sd_state.specs.declared.states.Place.{Place}
 use Rattle.sd_state.specs.declared.states.Place.TheVariants.{Waiting}
 use Rattle.sd_state.specs.declared.states.LockState.{LockState}

@@ -7,13 +7,13 @@ use sd_types::{ChanId, CpuId, Event, LockId, ThreadId};
 #[derive(Clone, Copy)]
 pub enum Placement {
     Napend { t: ThreadId },
-    Wake { t: ThreadId, k: ChanId, s: ThreadId },
-    Rouse { k: ChanId, s: ThreadId },
+    Wake { t: ThreadId, k: ChanId, u: ThreadId },
+    Rouse { k: ChanId, u: ThreadId },
     Will { l: LockId, o: ThreadId, p: u8 },
-    Unblock { l: LockId, s: ThreadId },
-    Grant { l: LockId, s: ThreadId },
-    Prio { t: ThreadId, s: ThreadId, p: u8 },
-    SemaVWake { t: ThreadId, k: ChanId, s: ThreadId },
+    Unblock { l: LockId, u: ThreadId },
+    Grant { l: LockId, u: ThreadId },
+    Prio { t: ThreadId, u: ThreadId, p: u8 },
+    SemaVWake { t: ThreadId, k: ChanId, u: ThreadId },
     Move { t: ThreadId },
 }
 

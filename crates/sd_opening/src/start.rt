@@ -13,7 +13,7 @@ ghost use Rattle.sd_opening.specs.Turns.{AreTurns};
 use arrayvec::ArrayVec;
 use sd_class::first_state;
 use sd_flat::ticks_at;
-use sd_part::{cpus_of_set, set_of_cpu};
+use sd_rules::{cpus_of_set, set_of_cpu};
 use sd_state::{CpuState, LockState, Place, State, ThreadState};
 use sd_types::{ChanKind, ClassParms, CpuId, Duty, List, SetId, ThreadBody, ThreadDecl, Work};
 use std::alloc::{AllocError, Global};

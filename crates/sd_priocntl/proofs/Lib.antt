@@ -1,3 +1,5 @@
-pub mod Moved
+pub mod Bound
+pub mod Closed
+pub mod OperationKept
 pub mod Walked
 pub mod WorkLemmas

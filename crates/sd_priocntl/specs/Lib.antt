@@ -1,1 +1,2 @@
+pub mod SetsTouched
 pub mod Touched

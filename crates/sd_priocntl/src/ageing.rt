@@ -4,10 +4,11 @@
 
 ghost use Rattle.std.specs.Prelude.{◌≡◌, ◌+◌, ◌<◌, ◌^◌, [], ◌∷◌, ⊤, option_map};
 ghost use Rattle.sd_machine.specs.Prioritising.{age_plan, aged, lifted};
+ghost use Rattle.sd_machine.specs.Threads.{eff_of};
 ghost use Rattle.sd_store.specs.Parts.{actor_part, cpu_part, found_parts, number, thread_part};
 ghost use Rattle.sd_store.specs.Words.{DoesBy, Lacks, LacksBy, Tells};
 
-use sd_dispatcher::{aged_class, class_of, eff_as, eff_of, put};
+use sd_dispatcher::{aged_class, class_in, eff_in, effective_in, put_as};
 use sd_machine::Plan;
 use sd_store::{Chore, Look, Store, set_class};
 use sd_types::{CpuId, Event, Put, ThreadId, Work};
@@ -24,14 +25,15 @@ pub fn age_plan<L: Look>(
     match next {
         None => Ok(None),
         Some(t) => {
-            let p = eff_as(&aged_class(work, class_of(x, t)?), x, t)?;
+            let body = x.body(t)?;
+            let p = eff_in(&aged_class(work, class_in(body)), body);
             Ok(Some(Plan::Make(Event::Age { t, p })))
         }
     }
 }
 
-/// By entry `number` thread `t`, where its priority is no longer `old`, goes to the back of the queue of processor `c`, on
-/// which it stands.
+/// By entry `number` thread `t` of priority `m`, where that is no longer `old`, goes to the back of the queue of processor `c`, on which it
+/// stands.
 fn lifted<S: Store>(
     work: &Work,
     x: &mut S,
@@ -39,21 +41,22 @@ fn lifted<S: Store>(
     c: CpuId,
     t: ThreadId,
     old: u8,
+    m: u8,
 ) -> Result<(), S::Lack>
     requires { number < 2 ^ 62 }
-    ensures value { DoesBy number (S.shows x.old) (S.shows x.new) result (λ s. ⊤) (λ s. lifted work.now s number c t.0 old) }
+    ensures value { DoesBy number (S.shows x.old) (S.shows x.new) result (λ s. m ≡ eff_of s t.0) (λ s. lifted work.now s number c t.0 old) }
     ensures lack { LacksBy number S.part (S.shows x.old) (S.has x.old) result (λ s. ⊤) (λ s. thread_part t ∷ cpu_part c ∷ []) }
     ensures has { S.has x.new ≡ S.has x.old }
 {
-    if eff_of(x, t)? != old {
-        put(work, x, number, t, Put::Cpu(c))?;
+    if m != old {
+        put_as(work, x, number, t, m, Put::Cpu(c))?;
     }
     Ok(())
 }
 
 /// By entry `number` thread `t`, which is on the queue of processor `c`, has waited for another second. The next one to be
-/// looked at has a greater number.
-#[tactic(auto, unfolding(sd_machine::specs::Prioritising::aged))]
+/// looked at has a greater number. Both priorities are told by its body before, which is looked up once: that may take a walk of the queue.
+#[tactic(auto, using(sd_dispatcher::proofs::PriorityLemmas::aged_effective), unfolding(sd_machine::specs::Prioritising::aged))]
 pub fn aged<S: Store>(
     work: &Work,
     x: &mut S,
@@ -66,9 +69,11 @@ pub fn aged<S: Store>(
     ensures lack { LacksBy number S.part (S.shows x.old) (S.has x.old) result (λ s. ⊤) (λ s. thread_part t ∷ cpu_part c ∷ actor_part c ∷ []) }
     ensures has { S.has x.new ≡ S.has x.old }
 {
-    let old = eff_of(x, t)?;
-    let class = aged_class(work, class_of(x, t)?);
+    let body = x.body(t)?;
+    let old = effective_in(body);
+    let class = aged_class(work, class_in(body));
+    let m = eff_in(&class, body);
     set_class(x, work, t, class)?;
-    lifted(work, x, number, c, t, old)?;
+    lifted(work, x, number, c, t, old, m)?;
     x.set_duty(c, Chore::Age(ThreadId(t.0.saturating_add(1))))
 }

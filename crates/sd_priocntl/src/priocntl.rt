@@ -34,18 +34,18 @@ fn change_plan<L: Look>(x: &L, t: ThreadId, u: ThreadId, p: u8) -> Result<Plan, 
         match requeue(x.spot(u)?, eff_of(x, u)?, p, bound_of(x, u)?) {
             Requeue::Stays => Plan::Make(Event::Prio {
                 t,
-                s: u,
+                u,
                 answer: PrioAnswer::Changed { p, at: None },
             }),
             Requeue::Behind(d) => Plan::Make(Event::Prio {
                 t,
-                s: u,
+                u,
                 answer: PrioAnswer::Changed {
                     p,
                     at: Some(Put::Cpu(d)),
                 },
             }),
-            Requeue::Anew => Plan::Place(Placement::Prio { t, s: u, p }, p),
+            Requeue::Anew => Plan::Place(Placement::Prio { t, u, p }, p),
         },
     )
 }
@@ -65,7 +65,7 @@ pub fn prio_plan<L: Look>(
     match answer {
         Err(denied) => Ok(Plan::Make(Event::Prio {
             t,
-            s: u,
+            u,
             answer: PrioAnswer::Refused(denied),
         })),
         Ok(parms) => {
@@ -177,7 +177,7 @@ fn changed_on<S: Store>(
 
 /// By entry `number` thread `t` has asked for other class parameters of thread `u`. Where it gets them, the thread moves
 /// where the event says; one that waits hands its new priority on.
-#[tactic(auto, using(crate::proofs::Moved::changed_inside, crate::proofs::Walked::keeps_waiting), unfolding(sd_machine::specs::Prioritising::reprioritised))]
+#[tactic(auto, using(crate::proofs::OperationKept::changed_inside, crate::proofs::Walked::keeps_waiting), unfolding(sd_machine::specs::Prioritising::reprioritised))]
 pub fn reprioritised<S: Store>(
     work: &Work,
     x: &mut S,

@@ -10,7 +10,9 @@ use Rattle.sd_machine.specs.Texts.{journal}
 use Rattle.sd_workload.specs.Accepted.{Accepted}
 use Rattle.sd_audit.specs.Audits.{IsJournal}
 use Rattle.sd_answers.specs.Certificates.{IsJournalOf, Certifies}
-use Rattle.sd_answers.specs.Inputs.{most_bytes, most_certificate, IsWorkload}
+use Rattle.sd_types.specs.Limits.{most_bytes}
+use Rattle.sd_types.specs.Limits.{most_certificate}
+use Rattle.sd_answers.specs.Inputs.{IsWorkload}
 use Rattle.sd_answers.specs.StreamChanges.{StreamChange}
 use Rattle.sd_answers.proofs.InputLemmas.{taken_all}
 use Rattle.sd_answers.proofs.WordLemmas.{no_journal_line}

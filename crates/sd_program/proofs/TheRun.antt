@@ -4,24 +4,24 @@ use Rattle.std.specs.List.{Contains}
 use Rattle.std.proofs.lemmas.List.{take-append-drop}
 use Rattle.sd_types.specs.declared.events.Entry.{Entry}
 use Rattle.sd_types.specs.declared.works.Work.{Work}
-use Rattle.sd_chains.specs.Cycles.{IsCycle}
-use Rattle.sd_chains.specs.Listing.{ListsCycles}
+use Rattle.sd_machine.specs.Cycles.{IsCycle}
+use Rattle.sd_machine.specs.Listing.{ListsCycles}
 use Rattle.sd_state.specs.Opening.{opening}
 use Rattle.sd_state.specs.declared.states.State.{State}
 use Rattle.sd_machine.specs.LockGraph.{graph, cycles_of}
 use Rattle.sd_machine.specs.Runs.{state_at, IsComplete, IsRun, IsReached}
 use Rattle.sd_machine.proofs.RunLemmas.{IsRun-from, from-IsRun, IsRunFrom-front}
-use Rattle.sd_range.proofs.Complete.{complete_at_limit}
-use Rattle.sd_belonging.proofs.All.{threads_belong}
-use Rattle.sd_belonging.proofs.Marks.{marks_stand}
-use Rattle.sd_belonging.proofs.OnePlace.{one_place}
-use Rattle.sd_inheritance.proofs.Runs.{cycles_law, maxima_law, without_law}
-use Rattle.sd_history.proofs.Runnable.{runnable_law}
+use Rattle.sd_invariants.proofs.Complete.{complete_at_limit}
+use Rattle.sd_laws.proofs.All.{threads_belong}
+use Rattle.sd_laws.proofs.Marks.{marks_stand}
+use Rattle.sd_laws.proofs.OnePlace.{one_place}
+use Rattle.sd_laws.proofs.Runs.{cycles_law, maxima_law, without_law}
+use Rattle.sd_laws.proofs.Runnable.{runnable_law}
 use Rattle.std.specs.List.{All}
-use Rattle.sd_certified.specs.Certified.{HasBytes}
-use Rattle.sd_certified.proofs.HintLemmas.{run_journal}
-use Rattle.sd_chains.proofs.CycleLemmas.{lists_cycles}
-use Rattle.sd_cycles.proofs.StateGraphs.{waits_inside}
+use Rattle.sd_program.specs.Certified.{HasBytes}
+use Rattle.sd_program.proofs.HintLemmas.{run_journal}
+use Rattle.sd_machine.proofs.CycleLemmas.{lists_cycles}
+use Rattle.sd_accounts.proofs.StateGraphs.{waits_inside}
 use Rattle.sd_program.specs.declared.forms.Mode.{Mode}
 use Rattle.sd_hand.specs.OneHome.{StandsInHomes}
 use Rattle.sd_program.specs.TheRun.{final_state, Goes, WokenAreRunnable, IsTheRun, IsOpen}

@@ -28,7 +28,8 @@ use Rattle.sd_answers.specs.StreamChanges.{StreamChange, HasFault, IsUntouched, 
 use Rattle.sd_program.specs.Forms.{command_of, mode_of, run_rising, text_of}
 use Rattle.sd_program.specs.RunAnswers.{IsLong, Writes, Ran}
 use Rattle.sd_program.specs.TheRun.{IsTheRun}
-use Rattle.sd_answers.specs.Inputs.{most_bytes, HasAtMost, HasTooMany, IsWorkload, IsNoWorkload, IsRefused}
+use Rattle.sd_types.specs.Limits.{most_bytes}
+use Rattle.sd_answers.specs.Inputs.{HasAtMost, HasTooMany, IsWorkload, IsNoWorkload, IsRefused}
 use Rattle.sd_answers.proofs.InputLemmas.{taken_within, taken_all, at_most_of, not_too_many as within_most, not_both}
 use Rattle.sd_program.specs.Headline.{RanInput, CausedByInput, PrintsTables, CausedByTables, CausedByNumber, CausedBy, Caused, Completes, CompletesTables, Refuses}
 

@@ -2,7 +2,7 @@
 -- what it printed. Source: this project's own.
 use Rattle.std.specs.Prelude.{◌≡◌, ℕ, ◌≤◌, List, [], ◌++◌, codes, length, Some, ◌⊎◌}
 use Rattle.sd_text.specs.Lines.{lines_of, text_of_lines}
-use Rattle.sd_answers.specs.Inputs.{most_certificate}
+use Rattle.sd_types.specs.Limits.{most_certificate}
 use Rattle.sd_answers.specs.StreamChanges.{StreamChange, HasFault}
 use Rattle.sd_program.specs.declared.forms.Mode.{Mode}
 use Rattle.sd_program.specs.declared.forms.Form.TheVariants.{Journal}

@@ -9,7 +9,8 @@ use Rattle.sd_answers.specs.declared.answers.Answer.{Answer}
 use Rattle.sd_answers.specs.declared.answers.Answer.TheVariants.{Done, Usage, TooLarge, Refused, ReadFault, WriteFault, OutOfMemory, Blocked, TooLong}
 use Rattle.sd_answers.specs.Answers.{status_of, line_of}
 use Rattle.sd_answers.specs.Certificates.{CompletesCertificate, RefusesCertificate, RefusesFaulty, RefusesJournal}
-use Rattle.sd_answers.specs.Inputs.{most_bytes, HasAtMost, HasTooMany, IsWorkload, IsNoWorkload}
+use Rattle.sd_types.specs.Limits.{most_bytes}
+use Rattle.sd_answers.specs.Inputs.{HasAtMost, HasTooMany, IsWorkload, IsNoWorkload}
 use Rattle.sd_answers.specs.StreamChanges.{StreamChange, HasFault, HasNoFault, IsUntouched, AppendsPart, TellsLine}
 use Rattle.sd_gen.specs.Generated.{generated}
 use Rattle.sd_program.specs.declared.forms.Form.{Form}

@@ -1,5 +1,6 @@
 pub mod AuditAnswers
 pub mod Audited
+pub mod Certified
 pub mod Forms
 pub mod Headline
 pub mod RunAnswers

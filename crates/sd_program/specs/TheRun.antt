@@ -3,7 +3,7 @@
 use Rattle.std.specs.Prelude.{◌≡◌, ⊤, ℕ, ◌<◌, ◌≤◌, true, List, [], ◌∷◌, ◌++◌, length, take}
 use Rattle.sd_types.specs.declared.events.Entry.{Entry}
 use Rattle.sd_types.specs.declared.works.Work.{Work}
-use Rattle.sd_chains.specs.Graphs.{IsChainMax}
+use Rattle.sd_machine.specs.Graphs.{IsChainMax}
 use Rattle.sd_state.specs.Accounts.{is_wake_of}
 use Rattle.sd_state.specs.Opening.{opening}
 use Rattle.sd_state.specs.declared.states.State.{State}
@@ -13,10 +13,10 @@ use Rattle.sd_machine.specs.Runs.{final, state_at, IsRun, IsComplete, IsSerial}
 use Rattle.sd_machine.specs.Texts.{journal}
 use Rattle.sd_machine.specs.Threads.{eff_of}
 use Rattle.sd_state.specs.Invariants.{MarksStand}
-use Rattle.sd_belonging.specs.Belonging.{EachInOnePlace, ThreadsBelong}
-use Rattle.sd_inheritance.specs.Laws.{NobodyWalks, PrioritiesAreMaxima}
+use Rattle.sd_laws.specs.Belonging.{EachInOnePlace, ThreadsBelong}
+use Rattle.sd_laws.specs.InheritanceLaws.{NobodyWalks, PrioritiesAreMaxima}
 use Rattle.sd_hand.specs.OneHome.{StandsInHomes}
-use Rattle.sd_history.specs.Laws.{NoneStops, runs_or_is_runnable}
+use Rattle.sd_laws.specs.HistoryLaws.{NoneStops, runs_or_is_runnable}
 use Rattle.sd_audit.specs.Audits.{IsJournal}
 use Rattle.sd_rounds.specs.Orders.{orders_of}
 use Rattle.sd_program.specs.declared.forms.Mode.{Mode}

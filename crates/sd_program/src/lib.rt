@@ -3,13 +3,20 @@
 #![tactic(auto)]
 
 mod audits;
+mod bytes;
 mod forms;
+mod journal_laws;
 mod laws;
 mod running;
 mod tables;
 mod top;
 mod writing;
 
+pub use bytes::numbers_are_bytes;
+pub use journal_laws::{
+    entries_are_spelled, journals_tell_entries, run_journals_are_journals,
+    serial_journals_are_journals,
+};
 pub use laws::runs_are_audited;
 use sd_answers::behind_name;
 pub use sd_cpu::{Gate, OpenGate};

@@ -1,6 +1,6 @@
 //! The run of an accepted workload, made and written.
 
-ghost use Rattle.std.specs.Prelude.{◌≡◌, ◌≢◌, ◌<◌, ◌≤◌, ◌^◌, ◌↔◌, [], length, IfOk, IsTrue, IsErrOf};
+ghost use Rattle.std.specs.Prelude.{◌≡◌, ◌≢◌, ◌<◌, ◌≤◌, ◌^◌, ◌↔◌, [], length, map, IfOk, IsTrue, IsErrOf};
 ghost use Rattle.sd_machine.specs.LockGraph.{cycles_of};
 ghost use Rattle.sd_machine.specs.Runs.{final};
 ghost use Rattle.sd_state.specs.Opening.{opening};
@@ -13,17 +13,17 @@ ghost use Rattle.sd_program.specs.TheRun.{IsTheRun};
 ghost use Rattle.sd_answers.specs.StreamChanges.{change_of};
 
 use crate::forms::{Form, Mode};
+use crate::numbers_are_bytes;
 use crate::writing::put_run;
+use sd_accounts::cycles;
 use sd_answers::Answer;
-use sd_certified::numbers_are_bytes;
 use sd_cpu::Gate;
-use sd_cycles::cycles;
 use sd_rounds::{Finished, run_rounds};
 use sd_state::State;
 use sd_text::Sink;
 use sd_threads::run_on_threads;
 use sd_types::{Stop, Work};
-use std::alloc::{AllocError, Global};
+use std::alloc::Global;
 use std::marker::Sync;
 use std::sync::Wait;
 use std::thread::Threads;
@@ -63,12 +63,12 @@ fn run_side_by_side<R: Threads + Wait + Sync, G: Gate + Sync>(
     }
 }
 
-/// Whether threads block each other in the state.
-fn is_blocked(alloc: Global, s: &State) -> Result<bool, AllocError>
-    ensures { IfOk result (λ b. IsTrue b ↔ (cycles_of s.now ≢ [])) }
+/// Whether threads block each other in the state, of which these are the blocking cycles.
+fn is_blocked(s: &State, found: &[Vec<usize>]) -> bool
+    requires { map (λ v. v.items) found.now ≡ cycles_of s.now }
+    ensures { IsTrue result ↔ (cycles_of s.now ≢ []) }
 {
-    let found = cycles(alloc, s)?;
-    Ok(found.len() > 0)
+    found.len() > 0
 }
 
 /// Writes what the form prints of this run, which is complete.
@@ -87,8 +87,9 @@ fn put_finished<K: Sink>(
         (answer_of result) }
     ensures never_falls { K.fault_count out.old ≤ K.fault_count out.new }
 {
-    let blocked = is_blocked(alloc, &run.state)?;
-    put_run(alloc, work, form, &run.entries, &run.state, out)?;
+    let found = cycles(alloc, &run.state)?;
+    put_run(alloc, work, form, &run.entries, &run.state, &found, out)?;
+    let blocked = is_blocked(&run.state, &found);
     if blocked {
         return Err(Answer::Blocked);
     }

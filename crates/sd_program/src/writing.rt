@@ -1,7 +1,8 @@
 //! Writing what is printed of a run: each line with its newline as one piece.
 
-ghost use Rattle.std.specs.Prelude.{◌≡◌, ◌++◌, ◌<◌, ◌^◌, length, IfOk};
+ghost use Rattle.std.specs.Prelude.{◌≡◌, ◌++◌, ◌<◌, ◌^◌, length, map, IfOk};
 ghost use Rattle.sd_accounts.specs.Counters.{HasTaken};
+ghost use Rattle.sd_machine.specs.LockGraph.{cycles_of};
 ghost use Rattle.sd_machine.specs.Runs.{final};
 ghost use Rattle.sd_machine.specs.Texts.{cycles_text, entries_text, entry_text, journal, summary};
 ghost use Rattle.sd_state.specs.Opening.{opening};
@@ -12,7 +13,7 @@ ghost use Rattle.sd_answers.specs.StreamChanges.{Puts};
 use crate::forms::Form;
 use sd_accounts::Accounts;
 use sd_answers::{Unwritten, put_line, put_text};
-use sd_entry_writer::EntryLine;
+use sd_entries::EntryLine;
 use sd_state::State;
 use sd_text::Sink;
 use sd_types::{Entry, Work};
@@ -55,21 +56,23 @@ fn counted(alloc: Global, work: &Work, entries: &[Entry]) -> Result<Accounts, Al
     Ok(accounts)
 }
 
-/// Writes the accounts of a run, and the blocking cycles of its final state.
+/// Writes the accounts of a run, and the blocking cycles of its final state, which are these.
 fn put_accounts<K: Sink>(
     alloc: Global,
     work: &Work,
     entries: &[Entry],
     s: &State,
+    cycles: &[Vec<usize>],
     out: &mut K,
 ) -> Result<(), Unwritten>
-    requires { length entries.now < 2 ^ 48 }
+    requires few { length entries.now < 2 ^ 48 }
+    requires cycles { map (λ v. v.items) cycles.now ≡ cycles_of s.now }
     ensures { Puts (K.contents out.old) (K.contents out.new) (K.fault_count out.old) (K.fault_count out.new)
         (accounts_text work.now entries.now s.now ++ cycles_text work.now s.now) result }
 {
     let accounts = counted(alloc, work, entries)?;
     let mut text = Vec::new(alloc);
-    accounts.write_accounts(alloc, work, s, &mut text)?;
+    accounts.write_accounts_with(alloc, work, s, cycles, &mut text)?;
     put_text(out, &text)
 }
 
@@ -80,15 +83,17 @@ fn put_journal<K: Sink>(
     work: &Work,
     entries: &[Entry],
     s: &State,
+    cycles: &[Vec<usize>],
     out: &mut K,
 ) -> Result<(), Unwritten>
     requires few { length entries.now < 2 ^ 48 }
+    requires cycles { map (λ v. v.items) cycles.now ≡ cycles_of s.now }
     requires state { s.now ≡ final work.now (opening work.now) entries.now }
     ensures { Puts (K.contents out.old) (K.contents out.new) (K.fault_count out.old) (K.fault_count out.new)
         (journal work.now entries.now) result }
 {
     put_entries(work, entries, out)?;
-    put_accounts(alloc, work, entries, s, out)
+    put_accounts(alloc, work, entries, s, cycles, out)
 }
 
 /// Writes the summary of a run.
@@ -111,22 +116,24 @@ fn put_summary<K: Sink>(
     put_text(out, &text)
 }
 
-/// Writes what the form prints of a run.
+/// Writes what the form prints of a run in whose final state these are the blocking cycles.
 pub(crate) fn put_run<K: Sink>(
     alloc: Global,
     work: &Work,
     form: Form,
     entries: &[Entry],
     s: &State,
+    cycles: &[Vec<usize>],
     out: &mut K,
 ) -> Result<(), Unwritten>
     requires few { length entries.now < 2 ^ 48 }
+    requires cycles { map (λ v. v.items) cycles.now ≡ cycles_of s.now }
     requires state { s.now ≡ final work.now (opening work.now) entries.now }
     ensures { Puts (K.contents out.old) (K.contents out.new) (K.fault_count out.old) (K.fault_count out.new)
         (text_of form work.now entries.now) result }
 {
     match form {
-        Form::Journal(_) => put_journal(alloc, work, entries, s, out),
+        Form::Journal(_) => put_journal(alloc, work, entries, s, cycles, out),
         Form::Summary => put_summary(alloc, work, entries, s, out),
     }
 }

@@ -5,7 +5,7 @@ use crate::items::{Made, Tag, node};
 use sd_boxq::BoxQueue;
 use sd_dispq::DispQueue;
 use sd_sleepq::SleepChain;
-use sd_turn::{TurnChain, Turnstile};
+use sd_turnstile::{TurnChain, Turnstile};
 use sd_types::{ChanId, LockId, Side};
 use std::alloc::{AllocError, Global};
 use std::io;

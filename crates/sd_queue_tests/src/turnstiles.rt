@@ -1,10 +1,10 @@
 //! Turnstiles: four locks of one chain, each with waiters on both sides, taken in turn.
 ghost use Rattle.std.specs.Prelude.{◌≡◌, ◌<◌, ◌^◌, IfOk};
-ghost use Rattle.sd_turn.specs.Waiters.{nobody, IsOfChain, of_lock, waiter_count};
+ghost use Rattle.sd_turnstile.specs.Waiters.{nobody, IsOfChain, of_lock, waiter_count};
 
 use crate::items::{Item, id_of, node, sent};
 use sd_boxq::{Node, Ranked};
-use sd_turn::{Rack, TurnChain, Turnstile};
+use sd_turnstile::{Rack, TurnChain, Turnstile};
 use sd_types::{LockId, Side};
 use std::alloc::AllocError;
 use std::test::Fail;

@@ -5,8 +5,8 @@ use Rattle.std.specs.List.{flat_map}
 use Rattle.std.proofs.lemmas.List.Folds.{list_all-append}
 use Rattle.sd_types.specs.declared.works.Work.{Work}
 use Rattle.sd_stretches.specs.declared.histories.History.{History}
-use Rattle.sd_labels.specs.Plain.{is_text_byte, IsText}
-use Rattle.sd_labels.proofs.TextLemmas.{chan-text, decimal-text, either-text, flat-text, lock-text, thread-text}
+use Rattle.sd_stretches.specs.Plain.{is_text_byte, IsText}
+use Rattle.sd_stretches.proofs.TextLemmas.{chan-text, decimal-text, either-text, flat-text, lock-text, thread-text}
 use Rattle.sd_statistics.specs.declared.activities.Activity.{Activity}
 use Rattle.sd_statistics.specs.declared.activities.Activity.TheVariants as activity
 use Rattle.sd_statistics.specs.declared.cpus.Deed.{Deed}

@@ -2,7 +2,7 @@
 -- Source: RFC 20 (the characters of ASCII).
 use Rattle.sd_types.specs.declared.works.Work.{Work}
 use Rattle.sd_stretches.specs.declared.histories.History.{History}
-use Rattle.sd_labels.specs.Plain.{IsText}
+use Rattle.sd_stretches.specs.Plain.{IsText}
 use Rattle.sd_report.specs.Tables.{report_text}
 
 abbrev pub ReportsArePlain : Type 0

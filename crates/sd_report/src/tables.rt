@@ -6,9 +6,8 @@ ghost use Rattle.sd_report.specs.Tables.{by_text, cpu_section, head_line, lock_s
 
 use crate::cells::{put_cell, put_left, put_right};
 use crate::words::{holder, measure_word, put_subject_name, row_object};
-use sd_labels::put_counted;
 use sd_statistics::{Row, Span, cpu_rows, lock_rows, task_rows, thread_rows, ticks_of};
-use sd_stretches::History;
+use sd_stretches::{History, put_counted};
 use sd_types::Work;
 use std::alloc::{AllocError, Global};
 

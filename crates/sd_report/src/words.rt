@@ -3,8 +3,8 @@
 ghost use Rattle.std.specs.Prelude.{◌≡◌, ◌++◌, OnOk};
 ghost use Rattle.sd_report.specs.Words.{activity_object, activity_word, deed_word, holder, measure_object, measure_word, row_object, subject_name, subject_word};
 
-use sd_labels::{chan_name, lock_name, thread_name};
 use sd_statistics::{Activity, Deed, Measure, Row, Subject};
+use sd_stretches::{chan_name, lock_name, thread_name};
 use sd_text::put_number;
 use sd_types::Work;
 use std::alloc::AllocError;

@@ -20,9 +20,9 @@ use Rattle.sd_machine.specs.Needs.{CanCount}
 use Rattle.sd_machine.specs.Plans.{plan}
 use Rattle.sd_machine.specs.Threads.{open_of}
 use Rattle.sd_machine.specs.Runs.{made, serial_hints, shown, turn}
-use Rattle.sd_part.proofs.PartitionLemmas.{names-from_Contains}
+use Rattle.sd_rules.proofs.PartitionLemmas.{names-from_Contains}
 use Rattle.sd_invariants.proofs.Whole.{fit_reached}
-use Rattle.sd_range.proofs.Places.{inside_reached}
+use Rattle.sd_invariants.proofs.Places.{inside_reached}
 use Rattle.sd_steps.proofs.EnteringLemmas.{serial_event}
 use Rattle.sd_hand.specs.Acting.{IsShown}
 use Rattle.sd_world.specs.declared.plain.PlainWorld.{PlainWorld}
@@ -69,6 +69,14 @@ unfolding victim_for
 vain w s c hints inside is zeros read =
     ap (next w s c) (read ∙ sym (serial_of w s c Search is)) ∙ next_of w s c Search inside is
     ∙ ap (λ v. allowed w s c.0 (search_event s v)) (vain_among s (neighbours s c.0) zeros)
+
+-- the event that comes next, with the numbers that are read for it
+pub will_make : (w : Work) (s : State) (c : CpuId) (e : Event) → c.0 < w.cpus → Make e ≡ plan w s c.0 → next w s c (serial_hints w s c) ≡ allowed w s c.0 e
+will_make w s c e inside is = next_of w s c (Make e) inside is
+
+pub will_idle : (w : Work) (s : State) (c : CpuId) → c.0 < w.cpus → Search ≡ plan w s c.0 → list_all (λ n. n == 0) (map (hint_shown s Queued) (neighbours s c.0)) ≡ true
+    → next w s c (serial_hints w s c) ≡ allowed w s c.0 Idle
+will_idle w s c inside is zeros = vain w s c (serial_hints w s c) inside is zeros (serial_of w s c Search is)
 
 -- what was read in a search, where there are no neighbours and where there are some
 pub none_read : (s : State) (cpus : List CpuId) (ns : List ℕ) → ns ≡ map (hint_shown s Queued) cpus → (length ns == 0) ≡ true → shown s (read_of cpus) ≡ None

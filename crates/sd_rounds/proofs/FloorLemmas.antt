@@ -13,7 +13,7 @@ use Rattle.sd_state.specs.declared.states.State.{State}
 use Rattle.sd_state.specs.States.{cpu_of, no_cpu}
 use Rattle.sd_machine.specs.Events.{after, may_tick, next}
 use Rattle.sd_machine.specs.Runs.{IsReached, final, made, serial_hints, turn}
-use Rattle.sd_ticks.proofs.Counts.{rise_law}
+use Rattle.sd_invariants.proofs.Counts.{rise_law}
 use Rattle.sd_rounds.specs.Floors.{IsFloor}
 
 at_least : (n : ℕ) (xs : List CpuState) → ((i : ℕ) → i < length xs → n ≤ (get_or xs i no_cpu).count) → list_all (λ x. nat_le n x.count) xs ≡ true

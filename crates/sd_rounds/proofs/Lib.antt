@@ -4,6 +4,7 @@ pub mod FinishLemmas
 pub mod FloorLemmas
 pub mod OrderLemmas
 pub mod RoundLemmas
+pub mod SearchedLemmas
 pub mod SerialLemmas
 pub mod SightLemmas
 pub mod TickLemmas

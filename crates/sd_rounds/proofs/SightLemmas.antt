@@ -1,16 +1,9 @@
 -- What one look at the home of a processor tells of its plan.
-use Rattle.std.proofs.Common.{◌≡◌, ℕ, ◌==◌, ◌&&◌, ◌||◌, false, not, List, [], ◌∷◌, length, Some, None, option_map, slice_get, is_some, refl, sym, ap, ◌∙◌, if◌then◌else◌, map, filter, take, get_or, ◌+◌, ◌<◌, ◌++◌, true, Option}
-use Rattle.std.specs.List.{list_all}
-use Rattle.std.proofs.lemmas.Bool.{eq-eqb, ne_eqb}
-use Rattle.std.proofs.lemmas.List.{append-nil, take_more}
-use Rattle.std.proofs.lemmas.List.Elements.{filter-append}
-use Rattle.std.proofs.lemmas.List.Folds.{list_all-append}
-use Rattle.std.proofs.lemmas.List.{map-append}
+use Rattle.std.proofs.Common.{◌≡◌, ℕ, ◌==◌, ◌&&◌, ◌||◌, false, not, List, [], ◌∷◌, length, Some, None, option_map, slice_get, is_some, refl, sym, ap, ◌∙◌, if◌then◌else◌, true, Option, subst}
+use Rattle.std.proofs.lemmas.Bool.{eq-eqb}
 use Rattle.sd_types.specs.declared.events.Duty.TheVariants.{Nothing}
 use Rattle.sd_types.specs.declared.events.Event.TheVariants.{Tick}
 use Rattle.sd_types.specs.declared.bodies.ThreadBody.{ThreadBody}
-use Rattle.sd_types.specs.declared.events.Which.TheVariants.{Queued}
-use Rattle.sd_types.specs.declared.numbers.CpuId.{CpuId}
 use Rattle.sd_types.specs.declared.numbers.SetId.{SetId}
 use Rattle.sd_types.specs.declared.numbers.HomeId.TheVariants.{Cpu}
 use Rattle.sd_types.specs.declared.scripts.Op.TheVariants.{Run}
@@ -24,11 +17,10 @@ use Rattle.sd_machine.specs.Dispatching.{dispatch_plan, leave_event, leave_plan}
 use Rattle.sd_machine.specs.Plans.{ageing_plan, ageing_plan_of, cpu_plan, cpu_plan_of, duty_plan, duty_plan_of, first_of, free_plan_of, nap_plan, op_plan, or_plan, plan, run_plan_of}
 use Rattle.sd_machine.specs.Sleeping.{napend_plan}
 use Rattle.sd_machine.specs.Threads.{best_ready, first_due, is_sys, open_of, runner}
-use Rattle.sd_machine.specs.Choosing.{hint_shown, neighbours}
 use Rattle.sd_record.specs.Records.{ThreadRecord}
 use Rattle.sd_boxq.specs.Order.{find_id}
-use Rattle.sd_shown.specs.declared.list_id.ListId.TheVariants.{Naps, Runs, Urgent}
-use Rattle.sd_shown.specs.Standing.{better, due_of_first, id_of, record_of}
+use Rattle.sd_homes.specs.declared.list_id.ListId.TheVariants.{Naps, Runs, Urgent}
+use Rattle.sd_homes.specs.Standing.{better, due_of_first, id_of, record_of}
 use Rattle.sd_homes.specs.declared.home.Home.{Home}
 use Rattle.sd_homes.specs.Families.{list_in, open_in, taken_from, view_in}
 use Rattle.sd_store.specs.declared.parts.CpuView.{CpuView}
@@ -40,7 +32,8 @@ use Rattle.sd_hand.proofs.GuideLemmas.{stands_guessed}
 use Rattle.sd_hand.proofs.TellLemmas.{due_told, found_record, open_told, ready_told, runner_told, view_is}
 use Rattle.sd_rounds.specs.declared.sight.Sight.{Sight}
 use Rattle.sd_rounds.specs.declared.sight.Sight.TheVariants as sight
-use Rattle.sd_rounds.specs.Sights.{AreRead, Sees, SeesQuiet, SeesRunner}
+use Rattle.sd_rounds.specs.Searched.{IsSearched, all_show_zero}
+use Rattle.sd_rounds.specs.Sights.{Sees, SeesQuiet, SeesRunner}
 
 -- a processor without a duty and without a nap that is over
 quiet_plan : (w : Work) (s : State) (c : ℕ) → (cpu_of s c).duty ≡ Nothing → first_due s c ≡ None → plan w s c ≡ cpu_plan w s c
@@ -72,40 +65,6 @@ first_found : (r : ThreadRecord) (rs : List ThreadRecord) → slice_get rs 0 ≡
 first_found r [] e = absurd cc
 first_found r (q ∷ rs) e = let same : q ≡ r = cc in rw (ap (λ z. id_of z == id_of r) same ∙ eq-eqb (id_of r) (id_of r) refl) e
 
--- ---- the numbers that are read, with one processor more
-abbrev but : ℕ → List CpuId → List CpuId
-but c cpus = filter (λ d. not (d.0 == c)) cpus
-
-abbrev cpu_at : List CpuId → ℕ → CpuId
-cpu_at cpus i = get_or cpus i (record { 0 = 0 })
-
-but_more : (c : ℕ) (cpus : List CpuId) (i : ℕ) → i < length cpus → but c (take (i + 1) cpus) ≡ but c (take i cpus) ++ but c (cpu_at cpus i ∷ [])
-but_more c cpus i inside = ap (but c) (take_more cpus i (record { 0 = 0 }) inside) ∙ filter-append (λ d. not (d.0 == c)) (take i cpus) (cpu_at cpus i ∷ [])
-
-but_other : (c : ℕ) (d : CpuId) → (d.0 ≡ c → ⊥) → but c (d ∷ []) ≡ d ∷ []
-but_other c d other = rw (ne_eqb d.0 c other) refl
-
-but_own : (c : ℕ) (d : CpuId) → d.0 ≡ c → but c (d ∷ []) ≡ []
-but_own c d own = rw (eq-eqb d.0 c own) refl
-
-module _ (x : Acting) (cpus : List CpuId) (i : ℕ) (ns : List ℕ) (inside : i < length cpus) (before : AreRead x (take i cpus) ns) where
-  pub read_other : ((cpu_at cpus i).0 ≡ x.actor.cpu.0 → ⊥) → ((n : ℕ) (s : State) → IsShown x n s → hint_shown s Queued (cpu_at cpus i) ≡ 0) → AreRead x (take (i + 1) cpus) (ns ++ 0 ∷ [])
-  read_other other zero n s sh =
-      let c = x.actor.cpu.0 in
-      ap (λ ms. ms ++ 0 ∷ []) (before n s sh)
-      ∙ (ap (λ k. map (hint_shown s Queued) (but c (take i cpus)) ++ k ∷ []) (sym (zero n s sh))
-      ∙ (sym (map-append (hint_shown s Queued) (but c (take i cpus)) (cpu_at cpus i ∷ []))
-      ∙ ap (map (hint_shown s Queued)) (ap (λ ds. but c (take i cpus) ++ ds) (sym (but_other c (cpu_at cpus i) other)) ∙ sym (but_more c cpus i inside))))
-
-  pub read_own : (cpu_at cpus i).0 ≡ x.actor.cpu.0 → AreRead x (take (i + 1) cpus) ns
-  read_own own n s sh =
-      let c = x.actor.cpu.0 in
-      before n s sh
-      ∙ ap (map (hint_shown s Queued)) (sym (append-nil (but c (take i cpus))) ∙ (ap (λ ds. but c (take i cpus) ++ ds) (sym (but_own c (cpu_at cpus i) own)) ∙ sym (but_more c cpus i inside)))
-
-pub zeros_more : (ns : List ℕ) → list_all (λ k. k == 0) ns ≡ true → list_all (λ k. k == 0) (ns ++ 0 ∷ []) ≡ true
-zeros_more ns zeros = list_all-append (λ k. k == 0) ns (0 ∷ []) ∙ ap (λ b. b && list_all (λ k. k == 0) (0 ∷ [])) zeros
-
 pub is_none : {A : Type 0} (o : Option A) → is_some o ≡ false → o ≡ None
 is_none None e = refl
 is_none (Some a) e = absurd cc
@@ -129,30 +88,32 @@ module _ (w : Work) (x : Acting) (n : ℕ) (s : State) (h : Home) (sh : IsShown 
       let is : r ≡ record_of r.id.0 (thread_of s r.id.0) = cc in
       sym (ap (λ (q : ThreadRecord). q.body) is)
 
-  pub sees_runner : (r : ThreadRecord) (ns : List ℕ) (seen : Sight) → slice_get (list_in h (Runs x.actor.cpu)) 0 ≡ Some r → SeesRunner w v r seen → Sees w s x.actor.cpu.0 ns seen
-  sees_runner r ns (sight.Runs t) e f =
+  pub sees_runner : (r : ThreadRecord) (seen : Sight) → slice_get (list_in h (Runs x.actor.cpu)) 0 ≡ Some r → SeesRunner w v r seen → Sees w s x.actor.cpu.0 seen
+  sees_runner r (sight.Runs t) e f =
       let (same, user, kernel, k, op) = f in
       let runs : runner s x.actor.cpu.0 ≡ Some r.id.0 = runner_told x n s h sh x.actor.cpu at ∙ ap (option_map id_of) e in
       let plans = runs_on w s x.actor.cpu.0 r.id.0 k runs (ap (λ (q : CpuView). q.user) (sym viewed) ∙ user) (ap (λ (q : CpuView). q.kernel) (sym viewed) ∙ kernel)
       (ap (op_of w r.id.0) (runner_body r e) ∙ op) in
       (no_duty, sym (quiet_plan w s x.actor.cpu.0 no_duty none_due ∙ plans ∙ ap (λ u. Make (Tick u)) (sym same)))
-  sees_runner r ns sight.Idles e f = absurd f
-  sees_runner r ns sight.Unclear e f = tt
+  sees_runner r (sight.Idles p many) e f = absurd f
+  sees_runner r sight.Unclear e f = tt
 
-  pub sees_quiet : (ns : List ℕ) (seen : Sight) → slice_get (list_in h (Runs x.actor.cpu)) 0 ≡ None → SeesQuiet x h v ns seen → Sees w s x.actor.cpu.0 ns seen
-  unfolding neighbours
-  sees_quiet ns (sight.Runs t) e f = absurd f
-  sees_quiet ns sight.Idles e f =
-      let (closing, queue, g, there, urgent, read, zeros) = f in
+  pub sees_quiet : (known : Option SetId) (seen : Sight) → slice_get (list_in h (Runs x.actor.cpu)) 0 ≡ None → SeesQuiet x h v known seen → IsSearched s known → Sees w s x.actor.cpu.0 seen
+  sees_quiet known (sight.Runs t) e f is = absurd f
+  sees_quiet known (sight.Idles p many) e f is =
+      let (its, closing, queue, g, there, urgent, zero, count, most) = f in
       let runs : runner s x.actor.cpu.0 ≡ None = runner_told x n s h sh x.actor.cpu at ∙ ap (option_map id_of) e in
       let is_set : (cpu_of s x.actor.cpu.0).set ≡ v.set = ap (λ (q : CpuView). q.set) (sym viewed) in
       let ready : best_ready s x.actor.cpu.0 ≡ None =
       ready_told x n s h sh x.actor.cpu v.set g at there is_set
       ∙ (ap (λ o. option_map id_of (better o (slice_get (list_in g (Urgent v.set)) 0))) queue ∙ ap (option_map id_of) urgent) in
-      let cpus : open_in g ≡ open_of s (cpu_of s x.actor.cpu.0).set.0 = sym (open_told x n s g sh v.set there) ∙ ap (λ (p : SetId). open_of s p.0) (sym is_set) in (
+      let opened : open_in g ≡ open_of s p.0 = sym (open_told x n s g sh v.set there) ∙ ap (λ (q : SetId). open_of s q.0) (sym its) in (
         no_duty,
         sym (quiet_plan w s x.actor.cpu.0 no_duty none_due ∙ searches w s x.actor.cpu.0 runs (ap (λ (q : CpuView). q.closing) (sym viewed) ∙ closing) ready),
-        read n s sh ∙ ap (λ cs. map (hint_shown s Queued) (filter (λ d. not (d.0 == x.actor.cpu.0)) cs)) cpus,
-        zeros,
+        its ∙ sym is_set,
+        ap (λ (q : CpuView). q.closing) (sym viewed) ∙ closing,
+        count ∙ ap length opened,
+        most,
+        subst (λ cs. all_show_zero s cs ≡ true) opened (zero n s sh is),
       )
-  sees_quiet ns sight.Unclear e f = tt
+  sees_quiet known sight.Unclear e f is = tt

@@ -1,5 +1,6 @@
 pub mod Floors
 pub mod Orders
 pub mod Rounds
+pub mod Searched
 pub mod Sights
 pub mod Turns

@@ -6,14 +6,15 @@ ghost use Rattle.sd_hand.specs.OneHome.{StandsInHomes};
 ghost use Rattle.sd_state.specs.Opening.{opening};
 ghost use Rattle.sd_rounds.specs.Orders.{orders_of};
 ghost use Rattle.sd_rounds.specs.Rounds.{IsLongRun, IsLongSerial};
+ghost use Rattle.sd_rounds.specs.Searched.{IsSearched};
 ghost use Rattle.sd_world.specs.Plain.{Stands, told};
 ghost use Rattle.sd_world.specs.Worlds.{Begins};
 
 use crate::orders::{Turns, first_generator, next_order, rising};
 use crate::turns::take_turn;
 use sd_state::State;
-use sd_types::{CpuId, Entry, Stop, Work};
-use sd_world::{MOST_ENTRIES, PlainWorld};
+use sd_types::{CpuId, Entry, MOST_ENTRIES, SetId, Stop, Work};
+use sd_world::PlainWorld;
 use std::alloc::Global;
 
 /// A whole run: its entries, and the state after them.
@@ -24,9 +25,15 @@ pub struct Finished {
 }
 
 /// One round: each processor of the order has a turn. `Full` only where the entries with those of this round
-/// are 2^40 or more. Memory runs out only where the log holds fewer.
-fn run_round(work: &Work, world: &mut PlainWorld, order: &[CpuId]) -> Result<(), Stop>
+/// are 2^40 or more. Memory runs out only where the log holds fewer. There is nothing to steal in the set that was searched, before and after.
+fn run_round(
+    work: &Work,
+    world: &mut PlainWorld,
+    searched: &mut Option<SetId>,
+    order: &[CpuId],
+) -> Result<(), Stop>
     requires stands { Stands work.now world.old }
+    requires searched { IsSearched (told work.now world.old) searched.old }
     requires work { world.old.work.now ≡ work.now }
     requires room { length world.old.entries.items ≤ MOST_ENTRIES }
     ensures stands { Stands work.now world.new }
@@ -39,10 +46,11 @@ fn run_round(work: &Work, world: &mut PlainWorld, order: &[CpuId]) -> Result<(),
         → MOST_ENTRIES ≤ length (world.old.entries.items ++ round work.now (told work.now world.old) (length world.old.entries.items) order.now) }
     ensures long { IsErrOf result Stop.Full → MOST_ENTRIES ≤ length world.new.entries.items }
     ensures memory { IsErrOf result Stop.Memory → length world.new.entries.items < MOST_ENTRIES }
+    ensures searched { IsSearched (told work.now world.new) searched.new }
 {
     let mut floor = 0;
     for c in order {
-        if let Err(stop) = take_turn(work, world, &mut floor, *c) {
+        if let Err(stop) = take_turn(work, world, &mut floor, searched, *c) {
             return Err(stop);
         }
     }
@@ -80,10 +88,11 @@ pub fn run_rounds(alloc: Global, work: &Work, turns: Turns) -> Result<Finished, 
         return Err(Stop::Memory);
     };
     let mut generator = first_generator(turns);
+    let mut searched = None;
     'rounds: loop {
         let before = world.entries.len();
         let order = next_order(work, &mut generator);
-        if let Err(stop) = run_round(work, &mut world, order.as_slice()) {
+        if let Err(stop) = run_round(work, &mut world, &mut searched, order.as_slice()) {
             return Err(stop);
         }
         if world.entries.len() == before {
@@ -111,9 +120,10 @@ pub fn run_to_end(alloc: Global, work: &Work, world: PlainWorld) -> Result<Finis
     }
     let mut world = world;
     let order = rising(work);
+    let mut searched = None;
     'rounds: loop {
         let so_far = world.entries.len();
-        if let Err(stop) = run_round(work, &mut world, order.as_slice()) {
+        if let Err(stop) = run_round(work, &mut world, &mut searched, order.as_slice()) {
             return Err(stop);
         }
         if world.entries.len() == so_far {

@@ -1,7 +1,6 @@
 //! What one look at the home of a processor tells of its next event, as in most turns: that its thread runs on, or that nothing is ready.
 
-ghost use Rattle.std.specs.Prelude.{◌≡◌, ℕ, ◌≤◌, ◌==◌, [], None, Some, false, length, true};
-ghost use Rattle.std.specs.List.{list_all};
+ghost use Rattle.std.specs.Prelude.{◌≡◌, ℕ, None, Some, false, true};
 ghost use Rattle.std.specs.Option.{option_copied};
 ghost use Rattle.sd_types.specs.declared.events.Duty.TheVariants.{Nothing};
 ghost use Rattle.sd_types.specs.declared.events.Which.TheVariants.{Queued};
@@ -10,26 +9,25 @@ ghost use Rattle.sd_types.specs.declared.scripts.Op.TheVariants.{Run};
 ghost use Rattle.sd_state.specs.Operations.{op_of};
 ghost use Rattle.sd_state.specs.declared.states.State.{State as StateOf};
 ghost use Rattle.sd_machine.specs.Choosing.{hint_shown};
-ghost use Rattle.sd_shown.specs.Standing.{due_of_first};
+ghost use Rattle.sd_homes.specs.Standing.{due_of_first};
 ghost use Rattle.sd_hand.specs.Acting.{IsShown};
 ghost use Rattle.sd_hand.specs.Hands.{held};
-ghost use Rattle.sd_rounds.specs.Sights.{AreRead, Sees, SeesQuiet, SeesRunner};
+ghost use Rattle.sd_rounds.specs.Searched.{IsSearched, all_show_zero};
+ghost use Rattle.sd_rounds.specs.Sights.{Sees, SeesQuiet, SeesRunner};
 
-use arrayvec::ArrayVec;
 use sd_hand::Acting;
-use sd_homes::{Home, is_over};
+use sd_homes::{Home, ListId, is_over};
 use sd_record::Record;
-use sd_shown::ListId;
 use sd_store::{CpuView, Look};
-use sd_types::{CpuId, Duty, HomeId, Op, ThreadId, Work};
+use sd_types::{CpuId, Duty, HomeId, Op, SetId, ThreadId, Work};
 
 /// What a processor is about to do, as far as one look tells it.
 #[derive(Clone, Copy)]
 pub enum Sight {
     /// Its thread runs for a tick.
     Runs(ThreadId),
-    /// Nothing is ready for it, nor on the queue of a neighbour: it is idle for a tick.
-    Idles,
+    /// Nothing is ready for it, nor on the queue of a neighbour in its set, which has so many open processors: it is idle for a tick.
+    Idles(SetId, usize),
     /// It has to make a plan.
     Unclear,
 }
@@ -81,30 +79,35 @@ fn has_none_to_steal(x: &Acting, d: CpuId) -> bool
     }
 }
 
-/// Reads the numbers that the others of these processors show of their queues, as long as they are 0. False where one is not.
+/// No thread on the queues of these processors may be stolen.
 #[inline(always)]
-fn read_zeros(x: &Acting, cpus: &[CpuId], numbers: &mut ArrayVec<u8, 64>) -> bool
-    requires fits { length cpus.now ≤ 64 }
-    requires empty { numbers.old.items ≡ [] }
-    ensures shown { result ≡ true → AreRead x.now cpus.now numbers.new.items }
-    ensures zeros { list_all (λ k. k == 0) numbers.new.items ≡ true }
+fn have_none_to_steal(x: &Acting, cpus: &[CpuId]) -> bool
+    ensures { result ≡ true → (n : ℕ) (s : StateOf) → IsShown x.now n s → all_show_zero s cpus.now ≡ true }
 {
     for d in cpus {
-        if d.0 != x.actor.cpu.0 {
-            if !has_none_to_steal(x, *d) {
-                return false;
-            }
-            numbers.push(0);
+        if !has_none_to_steal(x, *d) {
+            return false;
         }
     }
     true
 }
 
-/// What is seen of a processor on which no thread runs, and the numbers that it reads of its neighbours.
+/// This is the set in which a search has found nothing to steal.
 #[inline(always)]
-fn see_quiet(x: &Acting, home: &Home, view: CpuView, numbers: &mut ArrayVec<u8, 64>) -> Sight
-    requires empty { numbers.old.items ≡ [] }
-    ensures { SeesQuiet x.now home.now view numbers.new.items result }
+fn is_searched(searched: Option<SetId>, set: SetId) -> bool
+    ensures { result ≡ true → searched ≡ Some set }
+{
+    match searched {
+        None => false,
+        Some(p) => p.0 == set.0,
+    }
+}
+
+/// What is seen of a processor on which no thread runs. Where a search has found nothing to steal in its set, it looks at no neighbour.
+#[inline(always)]
+fn see_quiet(x: &Acting, home: &Home, view: CpuView, searched: Option<SetId>) -> Sight
+    requires home { held (Cpu x.now.actor.cpu) x.now.hand.slots ≡ Some home.now }
+    ensures { SeesQuiet x.now home.now view searched result }
 {
     if view.closing.is_some() || home.first(ListId::Queues(x.actor.cpu)).is_some() {
         return Sight::Unclear;
@@ -115,21 +118,21 @@ fn see_quiet(x: &Acting, home: &Home, view: CpuView, numbers: &mut ArrayVec<u8, 
             if urgent.first(ListId::Urgent(view.set)).is_some() {
                 return Sight::Unclear;
             }
-            if !read_zeros(x, urgent.open_cpus(), numbers) {
+            let cpus = urgent.open_cpus();
+            if !is_searched(searched, view.set) && !have_none_to_steal(x, cpus) {
                 return Sight::Unclear;
             }
-            Sight::Idles
+            Sight::Idles(view.set, cpus.len())
         }
     }
 }
 
-/// What is seen of a processor without a duty, whose home this is, and the numbers that it reads of its neighbours.
+/// What is seen of a processor without a duty, whose home this is.
 #[inline(always)]
-fn see_home(work: &Work, x: &Acting, home: &Home, numbers: &mut ArrayVec<u8, 64>) -> Sight
+fn see_home(work: &Work, x: &Acting, home: &Home, searched: Option<SetId>) -> Sight
     requires duty { x.now.actor.duty ≡ Nothing }
     requires home { held (Cpu x.now.actor.cpu) x.now.hand.slots ≡ Some home.now }
-    requires empty { numbers.old.items ≡ [] }
-    ensures { (n : ℕ) (s : StateOf) → IsShown x.now n s → Sees work.now s x.now.actor.cpu.0 numbers.new.items result }
+    ensures { (n : ℕ) (s : StateOf) → IsShown x.now n s → IsSearched s searched → Sees work.now s x.now.actor.cpu.0 result }
 {
     let c = x.actor.cpu;
     if is_due(home.first(ListId::Naps(c)), x.actor.count) {
@@ -139,21 +142,20 @@ fn see_home(work: &Work, x: &Acting, home: &Home, numbers: &mut ArrayVec<u8, 64>
         None => Sight::Unclear,
         Some(view) => match home.first(ListId::Runs(c)) {
             Some(thread) => see_runner(work, view, thread),
-            None => see_quiet(x, home, view, numbers),
+            None => see_quiet(x, home, view, searched),
         },
     }
 }
 
-/// What is seen of the processor that acts, and the numbers that it reads of its neighbours where it is idle.
+/// What is seen of the processor that acts.
 #[inline(always)]
-pub(crate) fn see(work: &Work, x: &Acting, numbers: &mut ArrayVec<u8, 64>) -> Sight
-    requires empty { numbers.old.items ≡ [] }
-    ensures { (n : ℕ) (s : StateOf) → IsShown x.now n s → Sees work.now s x.now.actor.cpu.0 numbers.new.items result }
+pub(crate) fn see(work: &Work, x: &Acting, searched: Option<SetId>) -> Sight
+    ensures { (n : ℕ) (s : StateOf) → IsShown x.now n s → IsSearched s searched → Sees work.now s x.now.actor.cpu.0 result }
 {
     match x.actor.duty {
         Duty::Nothing => match x.hand.home(HomeId::Cpu(x.actor.cpu)) {
             Err(_) => Sight::Unclear,
-            Ok(home) => see_home(work, x, home, numbers),
+            Ok(home) => see_home(work, x, home, searched),
         },
         _ => Sight::Unclear,
     }

@@ -14,8 +14,8 @@ ghost use Rattle.sd_rounds.specs.Turns.{ActsAlone};
 use sd_dispatcher::ticked;
 use sd_hand::{Acting, Actor};
 use sd_store::Store;
-use sd_types::{Entry, Event, Hints, Stop, ThreadId, Work};
-use sd_world::{MOST_ENTRIES, PlainWorld, reserve_entry};
+use sd_types::{Entry, Event, Hints, MOST_ENTRIES, Stop, ThreadId, Work};
+use sd_world::{PlainWorld, reserve_entry};
 
 /// What a processor has done that has all homes: its turn, or nothing.
 #[derive(Clone, Copy)]

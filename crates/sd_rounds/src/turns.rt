@@ -1,8 +1,7 @@
 //! The turn of a processor in a run on one thread of the host. Where nothing has to be read of others, and where a search finds nothing
 //! to steal, a processor that has all homes makes its entry at once; every other turn is an attempt, as where homes are shared.
 
-ghost use Rattle.std.specs.Prelude.{◌≡◌, ◌++◌, ◌<◌, ◌≤◌, ◌↔◌, ◌==◌, IfErr, IfSome, Option, length, map, true, IsErrOf, OnErr, OnOk};
-ghost use Rattle.std.specs.List.{list_all};
+ghost use Rattle.std.specs.Prelude.{◌≡◌, ◌++◌, ◌-◌, ◌<◌, ◌≤◌, ◌↔◌, IfErr, IfSome, Option, length, map, replicate, IsErrOf, OnErr, OnOk};
 ghost use Rattle.sd_types.specs.declared.events.Duty.TheVariants.{Nothing};
 ghost use Rattle.sd_types.specs.declared.events.Which.TheVariants.{Queued};
 ghost use Rattle.sd_machine.specs.declared.plans.Plan.TheVariants.{Make, Search};
@@ -12,6 +11,7 @@ ghost use Rattle.sd_machine.specs.Plans.{plan as plan_of};
 ghost use Rattle.sd_machine.specs.Runs.{made, turn};
 ghost use Rattle.sd_world.specs.Plain.{Stands, told};
 ghost use Rattle.sd_rounds.specs.Floors.{IsFloor};
+ghost use Rattle.sd_rounds.specs.Searched.{IsSearched};
 ghost use Rattle.sd_rounds.specs.Turns.{ActsAlone};
 
 use crate::sight::{Sight, see};
@@ -20,8 +20,8 @@ use arrayvec::ArrayVec;
 use sd_cpu::{OpenGate, attempt};
 use sd_machine::Plan;
 use sd_step::plan;
-use sd_types::{CpuId, Event, Hints, Stop, Which, Work};
-use sd_world::{MOST_ENTRIES, PlainWorld};
+use sd_types::{CpuId, Event, Hints, MOST_ENTRIES, SetId, Stop, Which, Work};
+use sd_world::PlainWorld;
 
 /// What the processor that acts is about to do, as far as the homes show it.
 fn find_plan(work: &Work, world: &PlainWorld) -> Option<Plan>
@@ -55,13 +55,25 @@ fn come(work: &Work, world: &mut PlainWorld, event: Event, hints: Option<Hints>)
     Ok(())
 }
 
-/// An idle tick after a search in which these numbers were read. A processor without neighbours has read none.
+/// So many zeros.
+#[inline(always)]
+fn zeros(count: usize) -> ArrayVec<u8, 64>
+    requires { count ≤ 64 }
+    ensures { result.items ≡ replicate count 0 }
+{
+    let mut numbers = ArrayVec::from_array_in((), [0; 64]);
+    numbers.truncate(count);
+    numbers
+}
+
+/// An idle tick after a search in a set with so many open processors, of which all others show 0. A processor without neighbours has read
+/// nothing.
 #[inline(always)]
 fn end_search(
     work: &Work,
     world: &mut PlainWorld,
     floor: &mut u32,
-    hints: Hints,
+    cpus: usize,
 ) -> Result<Alone, Stop>
     requires stands { Stands work.now world.old }
     requires least { IsFloor work.now (told work.now world.old) floor.old }
@@ -69,17 +81,20 @@ fn end_search(
     requires few { length world.old.entries.items < MOST_ENTRIES }
     requires duty { world.old.acting.actor.duty ≡ Nothing }
     requires plan { Search ≡ plan_of work.now (told work.now world.old) world.old.acting.actor.cpu.0 }
-    requires which { hints.which ≡ Queued }
-    requires numbers { hints.numbers.items ≡ map (hint_shown (told work.now world.old) Queued) (neighbours (told work.now world.old) world.old.acting.actor.cpu.0) }
-    requires none { list_all (λ n. n == 0) hints.numbers.items ≡ true }
+    requires fits { cpus ≤ 64 }
+    requires numbers { replicate (cpus - 1) 0 ≡ map (hint_shown (told work.now world.old) Queued) (neighbours (told work.now world.old) world.old.acting.actor.cpu.0) }
     ensures stands { Stands work.now world.new }
     ensures work { world.new.work.now ≡ work.now }
     ensures acts { ActsAlone work.now world.old world.new result }
     ensures least { IsFloor work.now (told work.now world.old) floor.new }
 {
-    if hints.numbers.is_empty() {
+    if cpus < 2 {
         return come_idle(work, world, floor, None);
     }
+    let hints = Hints {
+        which: Which::Queued,
+        numbers: zeros(cpus - 1),
+    };
     come_idle(work, world, floor, Some(hints))
 }
 
@@ -102,26 +117,36 @@ fn act_by_plan(work: &Work, world: &mut PlainWorld) -> Result<Alone, Stop>
     }
 }
 
-/// The turn of the processor that acts, where it reads nothing of others, or searches and finds nothing to steal.
+/// The turn of the processor that acts, where it reads nothing of others, or searches and finds nothing to steal. Then this is so in its
+/// set until an entry comes that is neither a tick of a thread nor an idle one.
 #[inline(always)]
-fn act_alone(work: &Work, world: &mut PlainWorld, floor: &mut u32) -> Result<Alone, Stop>
+fn act_alone(
+    work: &Work,
+    world: &mut PlainWorld,
+    floor: &mut u32,
+    searched: &mut Option<SetId>,
+) -> Result<Alone, Stop>
     requires stands { Stands work.now world.old }
     requires least { IsFloor work.now (told work.now world.old) floor.old }
+    requires searched { IsSearched (told work.now world.old) searched.old }
     requires work { world.old.work.now ≡ work.now }
     requires few { length world.old.entries.items < MOST_ENTRIES }
     ensures stands { Stands work.now world.new }
     ensures work { world.new.work.now ≡ work.now }
     ensures acts { ActsAlone work.now world.old world.new result }
     ensures least { IsFloor work.now (told work.now world.old) floor.new }
+    ensures searched { IsSearched (told work.now world.new) searched.new }
 {
-    let mut hints = Hints {
-        which: Which::Queued,
-        numbers: ArrayVec::new(),
-    };
-    match see(work, &world.acting, &mut hints.numbers) {
+    match see(work, &world.acting, *searched) {
         Sight::Runs(t) => come_tick(work, world, floor, t),
-        Sight::Idles => end_search(work, world, floor, hints),
-        Sight::Unclear => act_by_plan(work, world),
+        Sight::Idles(p, cpus) => {
+            *searched = Some(p);
+            end_search(work, world, floor, cpus)
+        }
+        Sight::Unclear => {
+            *searched = None;
+            act_by_plan(work, world)
+        }
     }
 }
 
@@ -142,9 +167,15 @@ fn attempt_turn(work: &Work, world: &mut PlainWorld) -> Result<(), Stop>
 }
 
 /// The turn of the processor that acts.
-fn act(work: &Work, world: &mut PlainWorld, floor: &mut u32) -> Result<(), Stop>
+fn act(
+    work: &Work,
+    world: &mut PlainWorld,
+    floor: &mut u32,
+    searched: &mut Option<SetId>,
+) -> Result<(), Stop>
     requires stands { Stands work.now world.old }
     requires least { IsFloor work.now (told work.now world.old) floor.old }
+    requires searched { IsSearched (told work.now world.old) searched.old }
     requires work { world.old.work.now ≡ work.now }
     requires few { length world.old.entries.items < MOST_ENTRIES }
     ensures stands { Stands work.now world.new }
@@ -152,24 +183,31 @@ fn act(work: &Work, world: &mut PlainWorld, floor: &mut u32) -> Result<(), Stop>
     ensures entries { OnOk result (world.new.entries.items ≡ world.old.entries.items ++ turn work.now (told work.now world.old) (length world.old.entries.items) world.old.acting.actor.cpu) }
     ensures stop { IfErr result (λ stop. (stop ≡ Stop.Memory) × (world.new.entries.items ≡ world.old.entries.items)) }
     ensures least { IsFloor work.now (told work.now world.old) floor.new }
+    ensures searched { IsSearched (told work.now world.new) searched.new }
 {
-    match act_alone(work, world, floor) {
+    match act_alone(work, world, floor, searched) {
         Err(stop) => Err(stop),
         Ok(Alone::Turned) => Ok(()),
-        Ok(Alone::Left) => attempt_turn(work, world),
+        Ok(Alone::Left) => {
+            *searched = None;
+            attempt_turn(work, world)
+        }
     }
 }
 
-/// The turn of processor `c`: it makes its entry, where it has one. No processor's count is below the floor before it. `Full` exactly where the log holds 2^40 entries or more; so
+/// The turn of processor `c`: it makes its entry, where it has one. No processor's count is below the floor before it, and there is nothing to steal in the
+/// set that was searched, after it too. `Full` exactly where the log holds 2^40 entries or more; so
 /// memory runs out only where it holds fewer, and the entries are then as they were.
 pub(crate) fn take_turn(
     work: &Work,
     world: &mut PlainWorld,
     floor: &mut u32,
+    searched: &mut Option<SetId>,
     c: CpuId,
 ) -> Result<(), Stop>
     requires stands { Stands work.now world.old }
     requires least { IsFloor work.now (told work.now world.old) floor.old }
+    requires searched { IsSearched (told work.now world.old) searched.old }
     requires work { world.old.work.now ≡ work.now }
     ensures stands { Stands work.now world.new }
     ensures work { world.new.work.now ≡ work.now }
@@ -180,6 +218,7 @@ pub(crate) fn take_turn(
     ensures memory { IsErrOf result Stop.Memory → length world.old.entries.items < MOST_ENTRIES }
     ensures kept { OnErr result (world.new.entries.items ≡ world.old.entries.items) }
     ensures least { IsFloor work.now (told work.now world.old) floor.new }
+    ensures searched { IsSearched (told work.now world.new) searched.new }
 {
     if world.entries.len() >= MOST_ENTRIES {
         return Err(Stop::Full);
@@ -188,5 +227,5 @@ pub(crate) fn take_turn(
         return Ok(());
     }
     world.act_as(work, c);
-    act(work, world, floor)
+    act(work, world, floor, searched)
 }

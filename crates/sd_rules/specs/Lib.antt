@@ -4,4 +4,6 @@ pub mod ClassRules
 pub mod ClassStates
 pub mod DefaultTables
 pub mod FirstStates
+pub mod Lists
+pub mod Orders
 pub mod Priocntl

@@ -6,6 +6,7 @@ use Rattle.sd_types.specs.declared.numbers.LockId.{LockId}
 use Rattle.sd_types.specs.declared.scripts.Op.{Op}
 use Rattle.sd_types.specs.declared.scripts.Op.TheVariants.{Enter, Read, Write, Exit, CvWait}
 use Rattle.sd_types.specs.Scripts.{is_held, held_by, enters, EachOpFits}
+use Rattle.sd_types.specs.Limits.{most_held, most_operations}
 use Rattle.sd_script.specs.declared.faults.ScriptFault.{ScriptFault}
 use Rattle.sd_script.specs.declared.faults.ScriptFault.TheVariants.{Unbalanced, TooManyHeld, HeldAtExit, TooLong, AlreadyHeld, Unpaired}
 
@@ -27,9 +28,9 @@ is_unbalanced held _ = false
 
 -- one of the operations that take a lock, while eight are held
 abbrev pub is_ninth : List LockId → Op → Bool
-is_ninth held (Enter l) = nat_le 8 (length held)
-is_ninth held (Read l) = nat_le 8 (length held)
-is_ninth held (Write l) = nat_le 8 (length held)
+is_ninth held (Enter l) = nat_le most_held (length held)
+is_ninth held (Read l) = nat_le most_held (length held)
+is_ninth held (Write l) = nat_le most_held (length held)
 is_ninth held _ = false
 
 -- one of the operations that take a lock, of a lock that is held
@@ -68,7 +69,7 @@ IsFreeBelow ops n = (i : ℕ) → i < n → fault_at ops i ≡ None
 
 -- it is the fault of operation number i, one of the first 256, and no operation before it has one
 abbrev pub IsFirstAt : List Op → ℕ → ScriptFault → Type 0
-IsFirstAt ops i fault = (i < 256) × (fault_at ops i ≡ Some fault) × IsFreeBelow ops i
+IsFirstAt ops i fault = (i < most_operations) × (fault_at ops i ≡ Some fault) × IsFreeBelow ops i
 
 -- the fault of a list
 abbrev pub IsFault : List Op → ScriptFault → Type 0
@@ -76,12 +77,12 @@ IsFault ops (Unbalanced op) = IsFirstAt ops op (Unbalanced op)
 IsFault ops (TooManyHeld op) = IsFirstAt ops op (TooManyHeld op)
 IsFault ops (AlreadyHeld op) = IsFirstAt ops op (AlreadyHeld op)
 IsFault ops (Unpaired op) = IsFirstAt ops op (Unpaired op)
-IsFault ops TooLong = (256 < length ops) × IsFreeBelow ops 256
-IsFault ops HeldAtExit = (length ops ≤ 256) × IsFreeBelow ops (length ops) × (0 < length (held_by ops))
+IsFault ops TooLong = (most_operations < length ops) × IsFreeBelow ops most_operations
+IsFault ops HeldAtExit = (length ops ≤ most_operations) × IsFreeBelow ops (length ops) × (0 < length (held_by ops))
 
 -- Each lock is released that was taken, none is taken twice, at most eight are held, a wait on a condition variable
 -- is followed by the entry of its mutex, none is held at the end, and there are at most 256 operations.
 pub record IsWellFormed (ops : List Op) : Type 0 where
   pub each_fits : EachOpFits ops
   pub released : length (held_by ops) ≡ 0
-  pub short : length ops ≤ 256
+  pub short : length ops ≤ most_operations

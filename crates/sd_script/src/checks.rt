@@ -7,13 +7,7 @@ ghost use Rattle.sd_script.specs.Faults.{IsFault, IsFreeBelow, IsWellFormed, op_
 
 use crate::ScriptFault;
 use arrayvec::ArrayVec;
-use sd_types::{List, LockId, Op, Script, without_lock};
-
-/// The most operations of a script (this project's own).
-const MOST_OPS: usize = 256;
-
-/// The most locks that a thread holds at once (this project's own).
-const MOST_HELD: usize = 8;
+use sd_types::{List, LockId, MOST_HELD, MOST_OPERATIONS, Op, Script, without_lock};
 
 /// The script of these operations, or what is wrong with them: the first operation at fault, and of several
 /// faults there the one with the least number. On a refusal the list is dropped.
@@ -33,7 +27,7 @@ fn check_ops(ops: &[Op]) -> Result<(), ScriptFault>
     ensures fault { IfErr result (IsFault ops.now) }
 {
     let held = held_after_all(ops)?;
-    if ops.len() > MOST_OPS {
+    if ops.len() > MOST_OPERATIONS {
         return Err(ScriptFault::TooLong);
     }
     if !held.is_empty() {
@@ -49,7 +43,7 @@ fn held_after_all(ops: &[Op]) -> Result<ArrayVec<LockId, 8>, ScriptFault>
     ensures fault { IfErr result (IsFault ops.now) }
 {
     let mut held = ArrayVec::new();
-    for i in 0..ops.len().min(MOST_OPS) {
+    for i in 0..ops.len().min(MOST_OPERATIONS) {
         if let Some(fault) = fault_of(i as u16, &held, ops[i], op_at(ops, i + 1)) {
             return Err(fault);
         }

@@ -30,10 +30,10 @@ use Rattle.sd_machine.specs.Sleeping.{nap_ticks}
 use Rattle.sd_machine.specs.Threads.{greatest_waiting, lock_of}
 use Rattle.sd_invariants.specs.Laws.{IsFit}
 use Rattle.sd_store.specs.declared.changes.BodyChange.TheVariants.{FinishOp, Hold, Inherit}
-use Rattle.sd_ordered.specs.Order.{IsSameOrder, key_at}
-use Rattle.sd_ordered.proofs.AlikeLemmas.{body_same, cpu_alike, cpus_many, key_or_zero, place_alike, place_rekeyed, place_with, threads_many}
-use Rattle.sd_ordered.proofs.CanLemmas.{bound_back, chan_back, change_back, free_back, join_back, lock_back, runs_back, tick_back}
-use Rattle.sd_ordered.proofs.TellLemmas.{count_of_same, count_same, greatest_same, lock_same, others_same}
+use Rattle.sd_encoding.specs.Order.{IsSameOrder, key_at}
+use Rattle.sd_encoding.proofs.AlikeLemmas.{body_same, cpu_alike, cpus_many, key_or_zero, place_alike, place_rekeyed, place_with, threads_many}
+use Rattle.sd_encoding.proofs.CanLemmas.{bound_back, chan_back, change_back, free_back, join_back, lock_back, runs_back, tick_back}
+use Rattle.sd_encoding.proofs.TellLemmas.{count_of_same, count_same, greatest_same, lock_same, others_same}
 
 pub turned : (x s : State) → IsSameOrder x s → IsSameOrder s x
 turned x s h = record { bare = sym h.bare; order = λ a b. sym (h.order a b) }

@@ -13,16 +13,16 @@ use Rattle.sd_state.specs.Opening.{opening}
 use Rattle.sd_machine.specs.Events.{after, next}
 use Rattle.sd_machine.specs.Runs.{IsReached, IsRun, IsRunFrom, final, round, serial_hints}
 use Rattle.sd_machine.proofs.RunLemmas.{IsRun-from}
-use Rattle.sd_range.proofs.Induction.{opening_reached, reached_more}
-use Rattle.sd_range.proofs.Range.{needs_reached}
-use Rattle.sd_ordered.specs.Order.{IsSameOrder, KeysFit}
-use Rattle.sd_ordered.proofs.AfterLemmas.{after_alike}
-use Rattle.sd_ordered.proofs.NextLemmas.{next_same, serial_same}
-use Rattle.sd_ordered.proofs.SourceLemmas.{AreAlike}
-use Rattle.sd_interleavings.specs.Closed.{IsFresh}
-use Rattle.sd_interleavings.specs.Spelled.{IsSpelled}
-use Rattle.sd_interleavings.proofs.OpeningKeys.{opening_keys}
-use Rattle.sd_interleavings.proofs.RunLemmas.{alike, joined}
+use Rattle.sd_invariants.proofs.Induction.{opening_reached, reached_more}
+use Rattle.sd_invariants.proofs.Range.{needs_reached}
+use Rattle.sd_encoding.specs.Order.{IsSameOrder, KeysFit}
+use Rattle.sd_encoding.proofs.AfterLemmas.{after_alike}
+use Rattle.sd_encoding.proofs.NextLemmas.{next_same, serial_same}
+use Rattle.sd_encoding.proofs.SourceLemmas.{AreAlike}
+use Rattle.sd_search.specs.Closed.{IsFresh}
+use Rattle.sd_search.specs.Spelled.{IsSpelled}
+use Rattle.sd_search.proofs.OpeningKeys.{opening_keys}
+use Rattle.sd_search.proofs.RunLemmas.{alike, joined}
 use Rattle.sd_search.specs.declared.graph.Step.{Step}
 use Rattle.sd_search.specs.declared.questions.Question.{Question}
 use Rattle.sd_search.specs.Graphs.{IsAt, IsDeep, IsGathered, IsSoon}

@@ -11,11 +11,11 @@ use Rattle.sd_types.specs.declared.works.Work.{Work}
 use Rattle.sd_state.specs.declared.states.State.{State}
 use Rattle.sd_state.specs.Opening.{opening}
 use Rattle.sd_machine.specs.Runs.{IsReached, final, round}
-use Rattle.sd_ordered.specs.Order.{KeysFit}
-use Rattle.sd_interleavings.specs.Closed.{IsClosed}
-use Rattle.sd_interleavings.specs.Spelled.{IsSpelled}
-use Rattle.sd_interleavings.proofs.RunLemmas.{alike, every_run}
-use Rattle.sd_ordered.proofs.RankLemmas.{ranked_same}
+use Rattle.sd_encoding.specs.Order.{KeysFit}
+use Rattle.sd_search.specs.Closed.{IsClosed}
+use Rattle.sd_search.specs.Spelled.{IsSpelled}
+use Rattle.sd_search.proofs.RunLemmas.{alike, every_run}
+use Rattle.sd_encoding.proofs.OrderRankLemmas.{ranked_same}
 use Rattle.sd_encoding.specs.Encoding.{encoded}
 use Rattle.sd_search.specs.declared.graph.Step.{Step}
 use Rattle.sd_search.specs.declared.questions.Question.{Question}

@@ -8,10 +8,10 @@ use Rattle.sd_types.specs.declared.numbers.CpuId.{CpuId}
 use Rattle.sd_types.specs.declared.works.Work.{Work}
 use Rattle.sd_state.specs.declared.states.State.{State}
 use Rattle.sd_machine.specs.Events.{after}
-use Rattle.sd_ordered.specs.Order.{KeysFit}
-use Rattle.sd_ordered.specs.Ranks.{ranked}
-use Rattle.sd_interleavings.specs.Closed.{Has}
-use Rattle.sd_interleavings.specs.Spelled.{IsTurn}
+use Rattle.sd_encoding.specs.Order.{KeysFit}
+use Rattle.sd_encoding.specs.Ranks.{ranked}
+use Rattle.sd_search.specs.Closed.{Has}
+use Rattle.sd_search.specs.Spelled.{IsTurn}
 use Rattle.sd_encoding.specs.Encoding.{IsHeld, encoded}
 use Rattle.sd_search.specs.declared.graph.Graph.{Graph}
 use Rattle.sd_search.specs.declared.graph.Step.{Step}

@@ -10,12 +10,12 @@ use Rattle.sd_state.specs.Opening.{opening}
 use Rattle.sd_machine.specs.Events.{after, next}
 use Rattle.sd_machine.specs.Runs.{IsReached, IsRunFrom, final}
 use Rattle.sd_machine.proofs.RunLemmas.{IsRun-from}
-use Rattle.sd_range.proofs.Induction.{opening_reached, reached_more}
-use Rattle.sd_range.proofs.Range.{needs_reached}
-use Rattle.sd_ordered.specs.Order.{IsSameOrder, KeysFit}
-use Rattle.sd_ordered.proofs.AfterLemmas.{after_alike}
-use Rattle.sd_interleavings.proofs.OpeningKeys.{opening_keys}
-use Rattle.sd_interleavings.proofs.RunLemmas.{alike}
+use Rattle.sd_invariants.proofs.Induction.{opening_reached, reached_more}
+use Rattle.sd_invariants.proofs.Range.{needs_reached}
+use Rattle.sd_encoding.specs.Order.{IsSameOrder, KeysFit}
+use Rattle.sd_encoding.proofs.AfterLemmas.{after_alike}
+use Rattle.sd_search.proofs.OpeningKeys.{opening_keys}
+use Rattle.sd_search.proofs.RunLemmas.{alike}
 
 pub self_same : (x : State) → IsSameOrder x x
 self_same x = record { bare = refl; order = λ a b. refl }

@@ -4,8 +4,11 @@ pub mod FinalLemmas
 pub mod GrowLemmas
 pub mod KeyLemmas
 pub mod LookLemmas
+pub mod OpeningKeys
 pub mod PathLemmas
 pub mod QuestionLemmas
+pub mod RunLemmas
+pub mod SpelledLemmas
 pub mod StoreLemmas
 pub mod TellLemmas
 pub mod TurnLemmas

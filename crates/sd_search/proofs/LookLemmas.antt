@@ -7,9 +7,9 @@ use Rattle.sd_types.specs.declared.works.Work.{Work}
 use Rattle.sd_state.specs.declared.states.State.{State}
 use Rattle.sd_machine.specs.Events.{after, next}
 use Rattle.sd_machine.specs.Runs.{serial_hints}
-use Rattle.sd_ordered.specs.Order.{IsSameOrder}
-use Rattle.sd_ordered.specs.Ranks.{ranked}
-use Rattle.sd_ordered.proofs.RankLemmas.{ranked_order, ranked_same}
+use Rattle.sd_encoding.specs.Order.{IsSameOrder}
+use Rattle.sd_encoding.specs.Ranks.{ranked}
+use Rattle.sd_encoding.proofs.OrderRankLemmas.{ranked_order, ranked_same}
 use Rattle.sd_encoding.specs.Encoding.{IsHeld, encoded}
 use Rattle.sd_search.specs.declared.graph.Step.{Step}
 use Rattle.sd_search.specs.Graphs.{IsAt, IsGathered}

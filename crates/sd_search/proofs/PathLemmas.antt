@@ -8,11 +8,11 @@ use Rattle.sd_types.specs.declared.works.Work.{Work}
 use Rattle.sd_state.specs.declared.states.State.{State}
 use Rattle.sd_state.specs.Opening.{opening}
 use Rattle.sd_machine.specs.Runs.{IsReached, final, round}
-use Rattle.sd_ordered.specs.Order.{IsSameOrder}
+use Rattle.sd_encoding.specs.Order.{IsSameOrder}
 use Rattle.sd_invariants.specs.Laws.{IsFit}
 use Rattle.sd_invariants.proofs.Whole.{fit_reached}
-use Rattle.sd_interleavings.specs.Spelled.{IsSpelled, IsTurn, Leads}
-use Rattle.sd_interleavings.proofs.SpelledLemmas.{spelled_law}
+use Rattle.sd_search.specs.Spelled.{IsSpelled, IsTurn, Leads}
+use Rattle.sd_search.proofs.SpelledLemmas.{spelled_law}
 use Rattle.sd_search.specs.declared.graph.Step.{Step}
 use Rattle.sd_search.specs.Graphs.{IsAt, IsGathered}
 use Rattle.sd_search.proofs.BackLemmas.{fit_back}

@@ -2,8 +2,8 @@
 use Rattle.std.proofs.Common.{◌≡◌, ℕ, zero, suc, ◌<◌, not, ◌&&◌, ◌++◌, length, refl, sym, ap, ◌∙◌, subst}
 use Rattle.std.specs.Prelude.{nat_lt}
 use Rattle.sd_types.specs.declared.works.Work.{Work}
-use Rattle.sd_chains.specs.Cycles.{ahead, cycles, cycles_below, joined, lap, none_or_one, owner_at}
-use Rattle.sd_chains.specs.Graphs.{Graph}
+use Rattle.sd_machine.specs.Cycles.{ahead, cycles, cycles_below, joined, lap, none_or_one, owner_at}
+use Rattle.sd_machine.specs.Graphs.{Graph}
 use Rattle.sd_state.specs.declared.states.Place.{Place}
 use Rattle.sd_state.specs.declared.states.Place.TheVariants.{Running, Queued, RealTime, Waiting, Asleep, Napping, Ended}
 use Rattle.sd_state.specs.declared.states.State.{State}
@@ -11,12 +11,12 @@ use Rattle.sd_state.specs.Operations.{script_of}
 use Rattle.sd_state.specs.States.{thread_of}
 use Rattle.sd_machine.specs.LockGraph.{cycles_of, graph, owner_of, wait_of}
 use Rattle.sd_machine.specs.Runs.{IsComplete}
-use Rattle.sd_ordered.specs.Order.{IsSameOrder}
-use Rattle.sd_ordered.proofs.AfterLemmas.{ended_same}
-use Rattle.sd_ordered.proofs.AlikeLemmas.{IsBlind, blind_place, body_same, place_alike, threads_many}
-use Rattle.sd_ordered.proofs.NextLemmas.{next_same}
-use Rattle.sd_ordered.proofs.SourceLemmas.{AreAlike}
-use Rattle.sd_ordered.proofs.TellLemmas.{lock_same}
+use Rattle.sd_encoding.specs.Order.{IsSameOrder}
+use Rattle.sd_encoding.proofs.AfterLemmas.{ended_same}
+use Rattle.sd_encoding.proofs.AlikeLemmas.{IsBlind, blind_place, body_same, place_alike, threads_many}
+use Rattle.sd_encoding.proofs.NextLemmas.{next_same}
+use Rattle.sd_encoding.proofs.SourceLemmas.{AreAlike}
+use Rattle.sd_encoding.proofs.TellLemmas.{lock_same}
 use Rattle.sd_search.specs.declared.questions.Question.{Question}
 use Rattle.sd_search.specs.declared.questions.Question.TheVariants.{Blocked, Stuck}
 use Rattle.sd_search.specs.Questions.{HasPart, IsBlocked, IsStuck, Meets, is_left}

@@ -19,14 +19,14 @@ items_of v = v.items
 abbrev same : List ℕ → Bytes → Bool
 same b k = pointwise nat_eq b k.items
 
-abbrev IsThere : List Bytes → List ℕ → Type 0
-IsThere ks b = (i : ℕ) × (slice_get (map items_of ks) i ≡ Some b)
+abbrev IsKept : List Bytes → List ℕ → Type 0
+IsKept ks b = (i : ℕ) × (slice_get (map items_of ks) i ≡ Some b)
 
-there : (b : List ℕ) (ks : List Bytes) → list_any (same b) ks ≡ true → IsThere ks b
+there : (b : List ℕ) (ks : List Bytes) → list_any (same b) ks ≡ true → IsKept ks b
 there b [] h = cc
 there b (k ∷ ks) h = by (same b k) refl (λ any. there b ks any) h
   where
-    by : (t : Bool) → same b k ≡ t → (list_any (same b) ks ≡ true → IsThere ks b) → (t || list_any (same b) ks) ≡ true → IsThere (k ∷ ks) b
+    by : (t : Bool) → same b k ≡ t → (list_any (same b) ks ≡ true → IsKept ks b) → (t || list_any (same b) ks) ≡ true → IsKept (k ∷ ks) b
     by true e rest any = (zero, ap (λ (xs : List ℕ). Some xs) (sym ((bytes_decides b k.items).0 e)))
     by false e rest any = let later = rest any in (suc later.0, later.1)
 

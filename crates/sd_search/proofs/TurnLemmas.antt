@@ -14,16 +14,16 @@ use Rattle.sd_machine.specs.Runs.{IsReached, serial_hints}
 use Rattle.sd_invariants.specs.Laws.{IsFit}
 use Rattle.sd_invariants.proofs.Ready.{maker_inside}
 use Rattle.sd_invariants.proofs.Whole.{fit_reached}
-use Rattle.sd_range.proofs.Induction.{opening_reached, reached_more}
-use Rattle.sd_range.proofs.Range.{needs_reached}
-use Rattle.sd_ordered.specs.Order.{IsSameOrder, KeysFit}
-use Rattle.sd_ordered.specs.Ranks.{ranked}
-use Rattle.sd_ordered.proofs.AfterLemmas.{after_alike}
-use Rattle.sd_ordered.proofs.NextLemmas.{next_same, serial_same}
-use Rattle.sd_ordered.proofs.RankLemmas.{ranked_fits, ranked_order, ranked_same}
-use Rattle.sd_ordered.proofs.SourceLemmas.{AreAlike}
-use Rattle.sd_interleavings.specs.Spelled.{IsTurn}
-use Rattle.sd_interleavings.proofs.RunLemmas.{alike}
+use Rattle.sd_invariants.proofs.Induction.{opening_reached, reached_more}
+use Rattle.sd_invariants.proofs.Range.{needs_reached}
+use Rattle.sd_encoding.specs.Order.{IsSameOrder, KeysFit}
+use Rattle.sd_encoding.specs.Ranks.{ranked}
+use Rattle.sd_encoding.proofs.AfterLemmas.{after_alike}
+use Rattle.sd_encoding.proofs.NextLemmas.{next_same, serial_same}
+use Rattle.sd_encoding.proofs.OrderRankLemmas.{ranked_fits, ranked_order, ranked_same}
+use Rattle.sd_encoding.proofs.SourceLemmas.{AreAlike}
+use Rattle.sd_search.specs.Spelled.{IsTurn}
+use Rattle.sd_search.proofs.RunLemmas.{alike}
 use Rattle.sd_encoding.specs.Encoding.{IsHeld, encoded}
 use Rattle.sd_search.specs.declared.graph.Step.{Step}
 use Rattle.sd_search.specs.Graphs.{IsAt, IsGathered, IsSoon, IsTurned}

@@ -9,7 +9,7 @@ use Rattle.sd_state.specs.Opening.{opening}
 use Rattle.sd_machine.specs.Runs.{IsReached, final, round, turn}
 use Rattle.sd_machine.proofs.RoundLemmas.{round-nil, round_more}
 use Rattle.sd_machine.proofs.RunLemmas.{final-nil}
-use Rattle.sd_range.proofs.Induction.{opening_reached}
+use Rattle.sd_invariants.proofs.Induction.{opening_reached}
 
 module _ (w : Work) where
   -- a turn that makes no entry leaves the state

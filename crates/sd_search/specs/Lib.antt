@@ -1,6 +1,9 @@
+pub mod Closed
 pub mod Finals
 pub mod Findings
 pub mod Graphs
+pub mod Laws
 pub mod Questions
+pub mod Spelled
 pub mod Stored
 pub mod Turns

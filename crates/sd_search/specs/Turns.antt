@@ -7,7 +7,7 @@ use Rattle.sd_types.specs.declared.works.Work.{Work}
 use Rattle.sd_state.specs.declared.states.State.{State}
 use Rattle.sd_machine.specs.Events.{after, next}
 use Rattle.sd_machine.specs.Runs.{serial_hints}
-use Rattle.sd_ordered.specs.Order.{IsSameOrder}
+use Rattle.sd_encoding.specs.Order.{IsSameOrder}
 use Rattle.sd_search.specs.declared.turning.Turn.{Turn}
 use Rattle.sd_search.specs.Graphs.{IsAt}
 

@@ -3,11 +3,11 @@
 ghost use Rattle.std.specs.Prelude.{◌≡◌, ◌+◌, ◌<◌, ◌≤◌, ◌⊎◌, ◌||◌, ℕ, Some, length, nat_le, IfOk, OnOk};
 ghost use Rattle.sd_machine.specs.Events.{after, next};
 ghost use Rattle.sd_machine.specs.Runs.{serial_hints};
-ghost use Rattle.sd_interleavings.specs.Closed.{Has};
-ghost use Rattle.sd_interleavings.specs.Spelled.{IsTurn};
+ghost use Rattle.sd_search.specs.Closed.{Has};
+ghost use Rattle.sd_search.specs.Spelled.{IsTurn};
 ghost use Rattle.sd_state.specs.declared.states.State.{State as StateOf};
 ghost use Rattle.sd_types.specs.declared.numbers.CpuId.{CpuId as CpuIdOf};
-ghost use Rattle.sd_ordered.specs.Ranks.{ranked};
+ghost use Rattle.sd_encoding.specs.Ranks.{ranked};
 ghost use Rattle.sd_search.specs.Graphs.{Gathers, IsAmong, IsAt, IsGrown, IsTurned, packed};
 
 use crate::graph::{Graph, Step};

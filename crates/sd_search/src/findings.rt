@@ -2,7 +2,7 @@
 
 ghost use Rattle.std.specs.Prelude.{◌≡◌, ◌<◌, List, length, IfOk};
 ghost use Rattle.sd_machine.specs.Runs.{round};
-ghost use Rattle.sd_interleavings.specs.Spelled.{IsSpelled};
+ghost use Rattle.sd_search.specs.Spelled.{IsSpelled};
 ghost use Rattle.sd_state.specs.Opening.{opening};
 ghost use Rattle.sd_state.specs.declared.states.State.{State as StateOf};
 ghost use Rattle.sd_types.specs.declared.numbers.CpuId.{CpuId as CpuIdOf};

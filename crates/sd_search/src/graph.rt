@@ -1,7 +1,7 @@
 //! What a search has gathered: packed states, and how each was reached.
 
 ghost use Rattle.std.specs.Prelude.{◌≡◌, ◌<◌, ℕ, length, IfOk, OnOk};
-ghost use Rattle.sd_interleavings.specs.Spelled.{IsSpelled, IsTurn};
+ghost use Rattle.sd_search.specs.Spelled.{IsSpelled, IsTurn};
 ghost use Rattle.sd_state.specs.declared.states.State.{State as StateOf};
 ghost use Rattle.sd_search.specs.Graphs.{Gathers, IsAt, IsDeep, packed, steps_of};
 

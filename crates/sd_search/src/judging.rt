@@ -6,7 +6,7 @@ ghost use Rattle.sd_search.specs.Questions.{HasPart, IsBlocked, IsStuck, is_left
 ghost use Rattle.sd_invariants.specs.Laws.{IsFit};
 
 use crate::questions::Question;
-use sd_cycles::cycles;
+use sd_accounts::cycles;
 use sd_flat::script_of;
 use sd_state::{Place, State, ThreadState};
 use sd_steps::can_enter;

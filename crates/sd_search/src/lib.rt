@@ -7,6 +7,7 @@ mod finals;
 mod findings;
 mod graph;
 mod judging;
+mod laws;
 mod packing;
 mod questions;
 mod store;
@@ -16,6 +17,10 @@ mod witnesses;
 pub use exploring::{begin, explore, explore_more};
 pub use findings::Finding;
 pub use graph::{Graph, Step};
+pub use laws::{
+    closed_sets_have_every_run, entries_keep_the_order, ranks_tell_the_order, turns_are_the_same,
+    turns_spell_a_run,
+};
 pub use questions::{Answer, Question};
 pub use turning::Turn;
 pub use witnesses::witness;

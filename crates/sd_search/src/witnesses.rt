@@ -7,11 +7,8 @@ ghost use Rattle.sd_state.specs.Opening.{opening};
 use sd_opening::opening;
 use sd_state::State;
 use sd_steps::make_entry;
-use sd_types::{CpuId, Entry, Work};
+use sd_types::{CpuId, Entry, MOST_ENTRIES, Work};
 use std::alloc::{AllocError, Global};
-
-/// The most entries of a witness (this project's own): memory is taken to run out there.
-const MOST_ENTRIES: usize = 1 << 40;
 
 /// The entry of processor `c`, where it has one, goes behind those so far.
 fn take_turn(

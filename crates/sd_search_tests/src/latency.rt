@@ -2,7 +2,7 @@
 
 ghost use Rattle.std.specs.Prelude.{◌<◌, ◌^◌, length};
 
-use sd_latency::{Longest, longest_wait};
+use sd_longest::{Longest, longest_wait};
 use sd_search::explore;
 use sd_types::{ThreadId, Work};
 use sd_workload::read_work;

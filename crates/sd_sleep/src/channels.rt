@@ -48,7 +48,7 @@ pub fn wake_plan<L: Look>(
         None => Ok(Plan::Make(Event::Wake { t, k, woken: None })),
         Some(u) => {
             let p = woken_priority(work, x, u)?;
-            Ok(Plan::Place(Placement::Wake { t, k, s: u }, p))
+            Ok(Plan::Place(Placement::Wake { t, k, u }, p))
         }
     }
 }
@@ -111,7 +111,7 @@ pub fn rouse_plan<L: Look>(
         None => Ok(Plan::Make(Event::Rouse { k, woken: None })),
         Some(u) => {
             let p = woken_priority(work, x, u)?;
-            Ok(Plan::Place(Placement::Rouse { k, s: u }, p))
+            Ok(Plan::Place(Placement::Rouse { k, u }, p))
         }
     }
 }

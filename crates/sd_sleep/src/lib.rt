@@ -5,7 +5,11 @@
 #![tactic(auto)]
 
 mod channels;
+mod conditions;
 mod naps;
+mod semaphores;
 
 pub use channels::{fallen_asleep, rouse_plan, roused, wake_plan, woke, woke_all};
+pub use conditions::cv_waited;
 pub use naps::{napend_plan, napped};
+pub use semaphores::{sema_counted, sema_handed, sema_p_event, sema_taken, sema_v_plan};

@@ -6,8 +6,7 @@ ghost use Rattle.sd_sleepq.specs.Among.{find_among, AreRanked, IsHolder};
 ghost use Rattle.sd_sleepq.specs.Sleepers.{IsOfChain, sleepers_of, with_sleepers, Leaves, SleepsThere, AreApart};
 
 use crate::queue::SleepQueue;
-use sd_boxq::{Node, Ranked};
-use sd_four::Four;
+use sd_boxq::{Four, Node, Ranked};
 use sd_types::ChanId;
 use std::marker::Model;
 

@@ -9,7 +9,7 @@ use std::marker::Model;
 
 /// A place in the order of rank and key.
 #[derive(Clone, Copy)]
-struct Place {
+struct OrderPlace {
     rank: u8,
     key: i64,
 }
@@ -21,7 +21,7 @@ struct Place {
 #[derive(Drop)]
 pub(crate) struct SleepQueue<T: Ranked> {
     boxes: BoxQueue<T>,
-    end: Place,
+    end: OrderPlace,
 }
 
 impl<T: Ranked> Model for SleepQueue<T> {
@@ -35,27 +35,27 @@ impl<T: Ranked> Model for SleepQueue<T> {
     ghost invariant = { λ q. EndsBy T.rank T.key q.end.rank q.end.key q.boxes };
 }
 
-impl Place {
+impl OrderPlace {
     /// The place before all others.
-    fn first() -> Place {
-        Place {
+    fn first() -> OrderPlace {
+        OrderPlace {
             rank: u8::MAX,
             key: i64::MIN,
         }
     }
 
-    fn of<T: Ranked>(item: &T) -> Place
+    fn of<T: Ranked>(item: &T) -> OrderPlace
         ensures rank { result.rank ≡ T.rank item.now }
         ensures key { result.key ≡ T.key item.now }
     {
-        Place {
+        OrderPlace {
             rank: item.rank(),
             key: item.key(),
         }
     }
 
     /// It does not precede the other place.
-    fn is_at_end(self, end: Place) -> bool
+    fn is_at_end(self, end: OrderPlace) -> bool
         ensures { result ≡ is_at_end end.rank end.key self.rank self.key }
     {
         self.rank < end.rank || self.rank == end.rank && end.key <= self.key
@@ -63,11 +63,11 @@ impl Place {
 }
 
 /// A place behind which nobody stands, once some may have left.
-fn end_of<T>(boxes: &BoxQueue<T>, end: Place) -> Place
+fn end_of<T>(boxes: &BoxQueue<T>, end: OrderPlace) -> OrderPlace
     ensures { (rank : T → ℕ) (key : T → ℤ) → EndsBy rank key end.rank end.key boxes.now → EndsBy rank key result.rank result.key boxes.now }
 {
     if boxes.is_empty() {
-        Place::first()
+        OrderPlace::first()
     } else {
         end
     }
@@ -80,7 +80,7 @@ impl<T: Ranked> SleepQueue<T> {
     {
         SleepQueue {
             boxes: BoxQueue::new(),
-            end: Place::first(),
+            end: OrderPlace::first(),
         }
     }
 
@@ -89,7 +89,7 @@ impl<T: Ranked> SleepQueue<T> {
     pub(crate) fn insert_ranked(&mut self, n: Node<T>)
         ensures { self.new ≡ insert_ranked T.rank T.key n self.old }
     {
-        let place = Place::of(n.item());
+        let place = OrderPlace::of(n.item());
         if place.is_at_end(self.end) {
             self.boxes.push_back(n);
             self.end = place;

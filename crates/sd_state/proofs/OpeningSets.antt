@@ -16,7 +16,7 @@ use Rattle.sd_state.specs.States.{cpu_of, no_cpu}
 use Rattle.sd_state.specs.Opening.{opening, first_thread, first_cpu, dealt_cpu, turn_of, is_urgent, first_cpu_state}
 use Rattle.sd_state.specs.Invariants.{IsInItsSet, IsThere}
 use Rattle.sd_state.proofs.Chosen.{places}
-use Rattle.sd_part.proofs.PartitionLemmas.{some_cpu, in_no_other}
+use Rattle.sd_rules.proofs.PartitionLemmas.{some_cpu, in_no_other}
 use Rattle.sd_state.proofs.Declared.{decl_set, decl_set_there, opening_at, opening_past}
 
 -- a processor of the initial state is in the set that the workload gives it

@@ -1,4 +1,10 @@
-pub mod SpanLemmas
-pub mod TickLemmas
+pub mod Charged
 pub mod DeedLemmas
+pub mod Follow
 pub mod JobLemmas
+pub mod Local
+pub mod SpanLemmas
+pub mod Steps
+pub mod Sums
+pub mod TickLemmas
+pub mod Turns

@@ -134,7 +134,7 @@ fn job_after(t: usize, next: Release, current: Option<Release>, x: &Happening) -
     match x.event {
         Event::SemaP { t: u, .. } if u.0 as usize == t => Some(next),
         Event::SemaWait { t: u, .. } if u.0 as usize == t => None,
-        Event::SemaVWake { s, .. } if s.0 as usize == t => Some(release_at(x)),
+        Event::SemaVWake { u, .. } if u.0 as usize == t => Some(release_at(x)),
         _ => current,
     }
 }

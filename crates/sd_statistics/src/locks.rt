@@ -21,7 +21,7 @@ fn taking(event: &Event) -> Option<ThreadId>
 {
     match *event {
         Event::Enter { t, .. } | Event::Read { t, .. } | Event::Write { t, .. } => Some(t),
-        Event::Grant { s, .. } => Some(s),
+        Event::Grant { u, .. } => Some(u),
         _ => None,
     }
 }

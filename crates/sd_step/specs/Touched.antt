@@ -6,12 +6,12 @@ use Rattle.sd_types.specs.declared.events.Event.{Event}
 use Rattle.sd_types.specs.declared.events.Event.TheVariants.{Tick, Spin, Idle, Dispatch, Steal, Preempt, Away, Yield, Done, Nap, Napend, Sleep, Wake, Wakeall, Rouse, Enter, Read, Write, Block, Will, End, Exit, Unblock, Grant, Passed, Age, Prio, CvWait, SemaP, SemaWait, SemaVWake, SemaVCount, Assign, Move, Joined, Bind}
 use Rattle.sd_types.specs.declared.works.Work.{Work}
 use Rattle.sd_state.specs.declared.states.State.{State}
-use Rattle.sd_chain_walk.specs.Passed.{willed_parts}
+use Rattle.sd_locks.specs.Passed.{willed_parts}
 use Rattle.sd_dispatcher.specs.Touched.{leaving_parts}
 use Rattle.sd_locks.specs.Released.{exited_parts, handed_parts}
 use Rattle.sd_priocntl.specs.Touched.{prio_parts}
 use Rattle.sd_sleep.specs.Touched.{woken_parts}
-use Rattle.sd_sets.specs.Touched.{bind_parts}
+use Rattle.sd_priocntl.specs.SetsTouched.{bind_parts}
 use Rattle.sd_store.specs.declared.parts.Part.{Part}
 use Rattle.sd_store.specs.Parts.{actor_part, chain_part, cpu_part, put_parts, ready_parts, real_time_part, sleepers_part, thread_part}
 

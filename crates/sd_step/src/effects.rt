@@ -7,15 +7,14 @@ ghost use Rattle.sd_step.specs.Touched.{after_parts, touched};
 ghost use Rattle.sd_store.specs.Parts.{actor_part};
 ghost use Rattle.sd_store.specs.Words.{Does, DoesBy, Lacks, LacksBy};
 
-use sd_chain_walk::{walk_ended, willed};
-use sd_cv::{cv_waited, sema_counted, sema_handed, sema_taken};
 use sd_dispatcher::{
     dispatched, done, idled, preempted, sent_away, spun, stolen, ticked, woken, yielded,
 };
-use sd_locks::{blocked, exited, granted, owned, passed, read, unblocked};
-use sd_priocntl::{aged, reprioritised};
-use sd_sets::{assigned, joined, moved, pbound};
-use sd_sleep::{fallen_asleep, napped, roused, woke, woke_all};
+use sd_locks::{blocked, exited, granted, owned, passed, read, unblocked, walk_ended, willed};
+use sd_priocntl::{aged, assigned, joined, moved, pbound, reprioritised};
+use sd_sleep::{
+    cv_waited, fallen_asleep, napped, roused, sema_counted, sema_handed, sema_taken, woke, woke_all,
+};
 use sd_store::{Chore, Sets, Store, Task};
 use sd_types::{CpuId, Event, Work};
 
@@ -82,15 +81,15 @@ fn effect<S: Sets>(
         Event::Will { l, o, at, .. } => willed(work, x, number, c, l, o, at),
         Event::End { .. } => walk_ended(x, c),
         Event::Exit { t, l } => exited(work, x, c, t, l),
-        Event::Unblock { l, s: u, at } => unblocked(work, x, number, c, l, u, at),
-        Event::Grant { l, s: u, at } => granted(work, x, number, c, l, u, at),
+        Event::Unblock { l, u, at } => unblocked(work, x, number, c, l, u, at),
+        Event::Grant { l, u, at } => granted(work, x, number, c, l, u, at),
         Event::Passed { l } => passed(x, c, l),
         Event::Age { t, .. } => aged(work, x, number, c, t),
-        Event::Prio { t, s: u, answer } => reprioritised(work, x, number, c, t, u, answer),
+        Event::Prio { t, u, answer } => reprioritised(work, x, number, c, t, u, answer),
         Event::CvWait { t, k, l } => cv_waited(work, x, number, c, t, k, l),
         Event::SemaP { t, k } => sema_taken(work, x, t, k),
         Event::SemaWait { t, k } => fallen_asleep(work, x, number, c, t, k),
-        Event::SemaVWake { t, s: u, at, .. } => sema_handed(work, x, number, t, u, at),
+        Event::SemaVWake { t, u, at, .. } => sema_handed(work, x, number, t, u, at),
         Event::SemaVCount { t, k, .. } => sema_counted(work, x, t, k),
         Event::Assign {
             t,
@@ -100,12 +99,7 @@ fn effect<S: Sets>(
         } => assigned(work, x, t, cpu, set, answer),
         Event::Move { t, at } => moved(work, x, number, t, at),
         Event::Joined { set } => joined(x, c, set),
-        Event::Bind {
-            t,
-            s: u,
-            cpu,
-            answer,
-        } => pbound(work, x, number, t, u, cpu, answer),
+        Event::Bind { t, u, cpu, answer } => pbound(work, x, number, t, u, cpu, answer),
     }
 }
 

@@ -28,14 +28,14 @@ fn event_of(placement: Placement, at: Put) -> Event
 {
     match placement {
         Placement::Napend { t } => Event::Napend { t, at },
-        Placement::Wake { t, k, s } => Event::Wake {
+        Placement::Wake { t, k, u } => Event::Wake {
             t,
             k,
-            woken: Some((s, at)),
+            woken: Some((u, at)),
         },
-        Placement::Rouse { k, s } => Event::Rouse {
+        Placement::Rouse { k, u } => Event::Rouse {
             k,
-            woken: Some((s, at)),
+            woken: Some((u, at)),
         },
         Placement::Will { l, o, p } => Event::Will {
             l,
@@ -43,14 +43,14 @@ fn event_of(placement: Placement, at: Put) -> Event
             p,
             at: Some(at),
         },
-        Placement::Unblock { l, s } => Event::Unblock { l, s, at },
-        Placement::Grant { l, s } => Event::Grant { l, s, at },
-        Placement::Prio { t, s, p } => Event::Prio {
+        Placement::Unblock { l, u } => Event::Unblock { l, u, at },
+        Placement::Grant { l, u } => Event::Grant { l, u, at },
+        Placement::Prio { t, u, p } => Event::Prio {
             t,
-            s,
+            u,
             answer: PrioAnswer::Changed { p, at: Some(at) },
         },
-        Placement::SemaVWake { t, k, s } => Event::SemaVWake { t, k, s, at },
+        Placement::SemaVWake { t, k, u } => Event::SemaVWake { t, k, u, at },
         Placement::Move { t } => Event::Move { t, at },
     }
 }
@@ -61,13 +61,13 @@ fn placed_thread(placement: Placement) -> ThreadId
 {
     match placement {
         Placement::Napend { t } => t,
-        Placement::Wake { s, .. } => s,
-        Placement::Rouse { s, .. } => s,
+        Placement::Wake { u, .. } => u,
+        Placement::Rouse { u, .. } => u,
         Placement::Will { o, .. } => o,
-        Placement::Unblock { s, .. } => s,
-        Placement::Grant { s, .. } => s,
-        Placement::Prio { s, .. } => s,
-        Placement::SemaVWake { s, .. } => s,
+        Placement::Unblock { u, .. } => u,
+        Placement::Grant { u, .. } => u,
+        Placement::Prio { u, .. } => u,
+        Placement::SemaVWake { u, .. } => u,
         Placement::Move { t } => t,
     }
 }

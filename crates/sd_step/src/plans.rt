@@ -18,16 +18,16 @@ ghost use Rattle.sd_store.specs.Keyless.{task_of};
 ghost use Rattle.sd_store.specs.Parts.{actor_part, cpu_part, ready_parts, thread_part};
 ghost use Rattle.sd_store.specs.Words.{Lacks, Tells, TellsIf};
 
-use sd_chain_walk::walk_plan;
-use sd_cv::{sema_p_event, sema_v_plan};
 use sd_dispatcher::{dispatch_plan, leave_plan};
 use sd_locks::{
-    enter_event, grant_reader_plan, grant_writer_plan, read_event, unblock_plan, write_event,
+    enter_event, grant_reader_plan, grant_writer_plan, read_event, unblock_plan, walk_plan,
+    write_event,
 };
 use sd_machine::Plan;
-use sd_priocntl::{age_plan, answer_to, prio_plan, wanted_op};
-use sd_sets::{assign_answer, bind_to, closing_plan};
-use sd_sleep::{napend_plan, rouse_plan, wake_plan};
+use sd_priocntl::{
+    age_plan, answer_to, assign_answer, bind_to, closing_plan, prio_plan, wanted_op,
+};
+use sd_sleep::{napend_plan, rouse_plan, sema_p_event, sema_v_plan, wake_plan};
 use sd_store::{Look, Task};
 use sd_types::{CpuId, Event, Op, SetId, Side, ThreadId, Work};
 
@@ -136,7 +136,7 @@ fn at_op<L: Look>(work: &Work, x: &L, t: ThreadId, op: Op) -> Result<Plan, L::La
         })),
         Op::Pbind(u, cpu) => Ok(Plan::Make(Event::Bind {
             t,
-            s: u,
+            u,
             cpu,
             answer: bind_to(work, x, t, u, cpu)?,
         })),

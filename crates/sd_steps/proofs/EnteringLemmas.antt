@@ -16,7 +16,7 @@ use Rattle.sd_types.specs.declared.works.Work.{Work}
 use Rattle.sd_types.specs.Events.{ticks}
 use Rattle.sd_rules.specs.Choices.{IsVictim}
 use Rattle.sd_rules.specs.ChoiceFunctions.{victim_of}
-use Rattle.sd_choose.proofs.FunctionLemmas.{victim_is}
+use Rattle.sd_rules.proofs.FunctionLemmas.{victim_is}
 use Rattle.sd_state.specs.declared.states.State.{State}
 use Rattle.sd_machine.specs.declared.plans.Plan.{Plan}
 use Rattle.sd_machine.specs.declared.plans.Plan.TheVariants.{Make, Place, Search}

@@ -114,22 +114,22 @@ pub(crate) fn same_event(a: &Event, b: &Event) -> bool
             matches!(b, Event::Will { l: m, o: w, p: r, at: z } if l.0 == m.0 && o.0 == w.0 && p == r && same_at(at, z)),
         Event::End { l } => matches!(b, Event::End { l: m } if l.0 == m.0),
         Event::Exit { t, l } => matches!(b, Event::Exit { t: u, l: m } if t.0 == u.0 && l.0 == m.0),
-        Event::Unblock { l, s, at } =>
-            matches!(b, Event::Unblock { l: m, s: v, at: z } if l.0 == m.0 && s.0 == v.0 && same_put(at, z)),
-        Event::Grant { l, s, at } =>
-            matches!(b, Event::Grant { l: m, s: v, at: z } if l.0 == m.0 && s.0 == v.0 && same_put(at, z)),
+        Event::Unblock { l, u, at } =>
+            matches!(b, Event::Unblock { l: m, u: v, at: z } if l.0 == m.0 && u.0 == v.0 && same_put(at, z)),
+        Event::Grant { l, u, at } =>
+            matches!(b, Event::Grant { l: m, u: v, at: z } if l.0 == m.0 && u.0 == v.0 && same_put(at, z)),
         Event::Passed { l } => matches!(b, Event::Passed { l: m } if l.0 == m.0),
         Event::Age { t, p } => matches!(b, Event::Age { t: u, p: r } if t.0 == u.0 && p == r),
-        Event::Prio { t, s, answer } =>
-            matches!(b, Event::Prio { t: u, s: v, answer: y } if t.0 == u.0 && s.0 == v.0 && same_prio(answer, y)),
+        Event::Prio { t, u, answer } =>
+            matches!(b, Event::Prio { t: x, u: v, answer: y } if t.0 == x.0 && u.0 == v.0 && same_prio(answer, y)),
         Event::CvWait { t, k, l } =>
             matches!(b, Event::CvWait { t: u, k: j, l: m } if t.0 == u.0 && k.0 == j.0 && l.0 == m.0),
         Event::SemaP { t, k } =>
             matches!(b, Event::SemaP { t: u, k: j } if t.0 == u.0 && k.0 == j.0),
         Event::SemaWait { t, k } =>
             matches!(b, Event::SemaWait { t: u, k: j } if t.0 == u.0 && k.0 == j.0),
-        Event::SemaVWake { t, k, s, at } =>
-            matches!(b, Event::SemaVWake { t: u, k: j, s: v, at: z } if t.0 == u.0 && k.0 == j.0 && s.0 == v.0 && same_put(at, z)),
+        Event::SemaVWake { t, k, u, at } =>
+            matches!(b, Event::SemaVWake { t: x, k: j, u: v, at: z } if t.0 == x.0 && k.0 == j.0 && u.0 == v.0 && same_put(at, z)),
         Event::SemaVCount { t, k, count } =>
             matches!(b, Event::SemaVCount { t: u, k: j, count: n } if t.0 == u.0 && k.0 == j.0 && count == n),
         Event::Assign {
@@ -142,8 +142,8 @@ pub(crate) fn same_event(a: &Event, b: &Event) -> bool
         Event::Move { t, at } =>
             matches!(b, Event::Move { t: u, at: z } if t.0 == u.0 && same_put(at, z)),
         Event::Joined { set } => matches!(b, Event::Joined { set: q } if set.0 == q.0),
-        Event::Bind { t, s, cpu, answer } =>
-            matches!(b, Event::Bind { t: u, s: v, cpu: d, answer: y } if t.0 == u.0 && s.0 == v.0 && same_cpu(cpu, d) && same_bind(answer, y)),
+        Event::Bind { t, u, cpu, answer } =>
+            matches!(b, Event::Bind { t: x, u: v, cpu: d, answer: y } if t.0 == x.0 && u.0 == v.0 && same_cpu(cpu, d) && same_bind(answer, y)),
         Event::Away { t, cpu } =>
             matches!(b, Event::Away { t: u, cpu: d } if t.0 == u.0 && cpu.0 == d.0),
     }

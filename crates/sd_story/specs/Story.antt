@@ -8,7 +8,7 @@ use Rattle.sd_state.specs.Opening.{opening}
 use Rattle.sd_machine.specs.Events.{after}
 use Rattle.sd_machine.specs.Runs.{final, IsComplete}
 use Rattle.sd_audit.specs.Audits.{entry_line, IsJournalOf}
-use Rattle.sd_sentences.specs.Sentences.{sentence}
+use Rattle.sd_story.specs.Sentences.{sentence}
 use Rattle.sd_story.specs.declared.selections.Selection.{Selection}
 use Rattle.sd_story.specs.Selections.{is_told, tick_of}
 

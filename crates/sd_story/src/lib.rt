@@ -2,9 +2,16 @@
 //! some ticks, or for those that name a thread. It is told of a journal while that is judged.
 #![tactic(auto)]
 
+mod locks;
+mod requests;
 mod rows;
+mod running;
 mod selections;
+mod sentences;
+mod sleeping;
 mod telling;
+mod words;
 
 pub use selections::{Selection, has_thread};
+pub use sentences::put_sentence;
 pub use telling::tell;

@@ -2,13 +2,13 @@
 
 ghost use Rattle.std.specs.Prelude.{◌≡◌, ◌≤◌, ◌++◌, OnOk, codes, decimal, length};
 ghost use Rattle.sd_audit.specs.Audits.{entry_line};
-ghost use Rattle.sd_sentences.specs.Sentences.{sentence};
+ghost use Rattle.sd_story.specs.Sentences.{sentence};
 ghost use Rattle.sd_story.specs.Selections.{tick_of};
 ghost use Rattle.sd_story.specs.Story.{cell, line_blanks, row, row_if, tick_blanks};
 
+use crate::put_sentence;
 use crate::selections::{Selection, is_told, tick_of};
-use sd_entry_writer::write_entry;
-use sd_sentences::put_sentence;
+use sd_entries::write_entry;
 use sd_state::State;
 use sd_text::put_number;
 use sd_types::{Entry, Work};

@@ -7,8 +7,8 @@ ghost use Rattle.sd_story.specs.Selections.{first_named, has_thread, is_named, i
 
 use arrayvec::ArrayVec;
 use sd_flat::cpu_of;
-use sd_labels::thread_name;
 use sd_state::State;
+use sd_stretches::thread_name;
 use sd_types::{Entry, Event, Put, ThreadDecl, ThreadId, Work};
 
 /// Which entries are told: those that are made at a tick from `from` to `to`, where the tick of an entry is the count of its
@@ -55,8 +55,8 @@ fn first_named(event: &Event) -> Option<ThreadId>
         Event::Will { o, .. } => Some(o),
         Event::End { .. } => None,
         Event::Exit { t, .. } => Some(t),
-        Event::Unblock { s, .. } => Some(s),
-        Event::Grant { s, .. } => Some(s),
+        Event::Unblock { u, .. } => Some(u),
+        Event::Grant { u, .. } => Some(u),
         Event::Passed { .. } => None,
         Event::Age { t, .. } => Some(t),
         Event::Prio { t, .. } => Some(t),
@@ -78,9 +78,9 @@ fn second_named(event: &Event) -> Option<ThreadId>
 {
     match *event {
         Event::Wake { woken, .. } => woken_thread(woken),
-        Event::Prio { s, .. } => Some(s),
-        Event::SemaVWake { s, .. } => Some(s),
-        Event::Bind { s, .. } => Some(s),
+        Event::Prio { u, .. } => Some(u),
+        Event::SemaVWake { u, .. } => Some(u),
+        Event::Bind { u, .. } => Some(u),
         _ => None,
     }
 }

@@ -1,7 +1,9 @@
-pub mod RangeLemmas
-pub mod HistoryLemmas
-pub mod RowLemmas
 pub mod ExactLemmas
+pub mod HistoryLemmas
 pub mod OrderLemmas
+pub mod PlainLemmas
+pub mod RangeLemmas
+pub mod RowLemmas
 pub mod SliceLemmas
 pub mod SpinLemmas
+pub mod TextLemmas

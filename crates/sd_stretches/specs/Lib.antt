@@ -1,7 +1,9 @@
-pub mod Sights
 pub mod Changes
-pub mod Histories
-pub mod Rows
-pub mod Spins
+pub mod Doings
 pub mod Exact
+pub mod Histories
 pub mod Order
+pub mod Plain
+pub mod Rows
+pub mod Sights
+pub mod Spins

@@ -308,9 +308,9 @@ pub fn woken_by(event: &Event) -> Option<ThreadId>
             woken: Some((s, _)),
             ..
         } => Some(s),
-        Event::Unblock { s, .. } => Some(s),
-        Event::Grant { s, .. } => Some(s),
-        Event::SemaVWake { s, .. } => Some(s),
+        Event::Unblock { u, .. } => Some(u),
+        Event::Grant { u, .. } => Some(u),
+        Event::SemaVWake { u, .. } => Some(u),
         _ => None,
     }
 }

@@ -4,17 +4,23 @@
 #![tactic(auto)]
 
 mod changes;
+mod doings;
 mod histories;
+mod label_laws;
 mod laws;
+mod names;
 mod rows;
 mod sights;
 mod spins;
 
 pub use changes::{HandOver, Happening, Load, Rank, Turn, Wakeup, woken_by};
+pub use doings::{put_counted, put_doing};
 pub use histories::History;
+pub use label_laws::names_need_no_escaping;
 pub use laws::{
     pieces_fill_stretches, slices_are_exact, stretches_are_exact, stretches_stand_in_order,
 };
+pub use names::{chan_name, lock_name, set_name, thread_name};
 pub use rows::{Level, Stretch, levels, slices, stretches};
 pub use sights::{Doing, Sight};
 pub use spins::{Track, pieces};

@@ -12,7 +12,8 @@ use Rattle.sd_state.specs.States.{cpu_of}
 use Rattle.sd_homes.specs.declared.home.Home.{Home}
 use Rattle.sd_table_rule.specs.declared.views.View.{View}
 use Rattle.sd_table_rule.specs.declared.views.View.TheVariants.{Works}
-use Rattle.sd_table_rule.specs.Ledgers.{by, most}
+use Rattle.sd_types.specs.Limits.{most_entries}
+use Rattle.sd_table_rule.specs.Ledgers.{by}
 use Rattle.sd_table_rule.specs.Places.{Stands, holds, home_count, now, place_home}
 use Rattle.sd_table_rule.specs.Plays.{Committed, Counted, Gave, Hinted, Looked, MayCommit, Published, Sees, Slot, Took, Wrote, desk_of}
 use Rattle.sd_table_rule.specs.Rule.{Kept}
@@ -81,7 +82,7 @@ module _ (w : Work) (o : Option Work) (about : o ≡ Some w) (slots id : ℕ) (m
       (writes_hint w slots id me (desk_of me.0) me.1 c which x whole inside fits x))
 
   pub draw : (i : ℕ) (ev e : Event) (hs hints : Option Hints) → i ≡ home_count w → ev ≡ e → hs ≡ hints → ((h : List Entry) → Sees w (desk_of me.0) h → MayCommit w (desk_of me.0) e hints h)
-      → length (by (desk_of me.0).cpu (desk_of me.0).seen) < most
+      → length (by (desk_of me.0).cpu (desk_of me.0).seen) < most_entries
       → Allows (Kept w) slots id me i (λ n. (n + 1) % 2 ^ 64) (λ n m. within o (λ v. Committed v ev hs (step slots i 1 0 M.none) me n m))
   draw i ev e hs hints is same_event same_hints may room =
       subst (λ j. Allows (Kept w) slots id me j (λ n. (n + 1) % 2 ^ 64) (λ n m. within o (λ v. Committed v ev hs (step slots j 1 0 M.none) me n m))) (sym is)

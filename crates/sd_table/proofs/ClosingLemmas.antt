@@ -22,7 +22,7 @@ use Rattle.sd_invariants.proofs.Whole.{fit_reached}
 use Rattle.sd_homes.specs.declared.home.Home.{Home}
 use Rattle.sd_hand.specs.Hands.{AreSlots, IsHeld, held}
 use Rattle.sd_hand.specs.OneHome.{AreAllHomes}
-use Rattle.sd_snapshot.specs.Told.{AreActorsOf, IsActorOf}
+use Rattle.sd_world.specs.Told.{AreActorsOf, IsActorOf}
 use Rattle.sd_world.specs.Homes.{ArePlaced, IsNumber, IsPlaced, index_of, sizes_of}
 use Rattle.sd_world.specs.declared.plain.PlainWorld.{PlainWorld}
 use Rattle.sd_world.specs.Plain.{Stands as StandsAsRun}

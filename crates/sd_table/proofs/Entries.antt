@@ -25,8 +25,8 @@ use Rattle.sd_store.specs.declared.parts.Part.{Part}
 use Rattle.sd_store.specs.declared.parts.Part.TheVariants as part
 use Rattle.sd_store.specs.Parts.{IsAmong}
 use Rattle.sd_step.specs.Touched.{after_parts}
-use Rattle.sd_shown.specs.Standing.{home_at, home_of, list_of}
-use Rattle.sd_shown.specs.Numbers.{IsHomeOf}
+use Rattle.sd_homes.specs.Standing.{home_at, home_of, list_of}
+use Rattle.sd_homes.specs.Numbers.{IsHomeOf}
 use Rattle.sd_homes.specs.declared.home.Home.{Home}
 use Rattle.sd_homes.specs.Families.{home_id}
 use Rattle.sd_hand.specs.declared.acting.Acting.{Acting}

@@ -20,7 +20,7 @@ use Rattle.sd_hand.specs.declared.acting.Actor.{Actor}
 use Rattle.sd_hand.specs.Acting.{IsShown}
 use Rattle.sd_hand.specs.Hands.{HoldsMore, IsHeld, held, how_many_held}
 use Rattle.sd_hand.specs.Shown.{IsHome}
-use Rattle.sd_shown.specs.Standing.{look_of}
+use Rattle.sd_homes.specs.Standing.{look_of}
 use Rattle.sd_hand.proofs.SlotLemmas.{held_id, same_home_self, same_home_true}
 use Rattle.sd_world.specs.Homes.{IsNumber, index_of}
 use Rattle.sd_world.specs.Worlds.{Begins, IsGood, MayStand}

@@ -27,10 +27,10 @@ use Rattle.sd_homes.specs.Families.{home_id}
 use Rattle.sd_hand.specs.Hands.{AreApart, HoldsMore, IsHeld, held, how_many_held}
 use Rattle.sd_hand.proofs.SlotLemmas.{held_id}
 use Rattle.sd_hand.specs.Shown.{IsHome}
-use Rattle.sd_shown.specs.Numbers.{IsHomeOf}
-use Rattle.sd_shown.specs.Standing.{look_of}
+use Rattle.sd_homes.specs.Numbers.{IsHomeOf}
+use Rattle.sd_homes.specs.Standing.{look_of}
 use Rattle.sd_hand.specs.declared.acting.Actor.{Actor}
-use Rattle.sd_snapshot.specs.Told.{AreActorsOf, IsActorOf}
+use Rattle.sd_world.specs.Told.{AreActorsOf, IsActorOf}
 use Rattle.sd_world.specs.Homes.{IsNumber, IsNumberAt, Sizes, index_of}
 use Rattle.sd_world.specs.Plain.{Stands as StandsAsRun, no_actor, told}
 use Rattle.sd_world.proofs.PlainLemmas.{reached as run_reached}

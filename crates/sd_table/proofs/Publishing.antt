@@ -19,8 +19,8 @@ use Rattle.sd_types.specs.declared.events.Which.TheVariants.{Running, Queued}
 use Rattle.sd_state.specs.States.{cpu_of}
 use Rattle.sd_machine.specs.Choosing.{hint_shown}
 use Rattle.sd_invariants.proofs.Whole.{fit_reached}
-use Rattle.sd_shown.specs.declared.list_id.ListId.{ListId}
-use Rattle.sd_shown.specs.Standing.{home_at}
+use Rattle.sd_homes.specs.declared.list_id.ListId.{ListId}
+use Rattle.sd_homes.specs.Standing.{home_at}
 use Rattle.sd_hand.specs.declared.acting.Acting.{Acting}
 use Rattle.sd_homes.specs.declared.home.Home.{Home}
 use Rattle.sd_hand.specs.Hands.{IsHeld, StandsIn, has_thread, held}

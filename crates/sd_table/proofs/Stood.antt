@@ -15,9 +15,9 @@ use Rattle.sd_machine.proofs.RunLemmas.{IsRun-from, IsRunFrom-take, from-IsRun}
 use Rattle.sd_record.specs.Records.{ThreadRecord}
 use Rattle.sd_invariants.proofs.Ready.{reached_ready}
 use Rattle.sd_store.specs.Parts.{view_of}
-use Rattle.sd_shown.specs.Numbers.{IsHomeOf}
-use Rattle.sd_shown.specs.Standing.{home_at, insert_at, list_of, record_of}
-use Rattle.sd_shown.specs.declared.list_id.ListId.{ListId}
+use Rattle.sd_homes.specs.Numbers.{IsHomeOf}
+use Rattle.sd_homes.specs.Standing.{home_at, insert_at, list_of, record_of}
+use Rattle.sd_homes.specs.declared.list_id.ListId.{ListId}
 use Rattle.sd_homes.specs.declared.home.Home.{Home}
 use Rattle.sd_homes.specs.declared.home.Home.TheVariants.{Cpu, RealTime}
 use Rattle.sd_homes.specs.Families.{home_id, list_in, putting}

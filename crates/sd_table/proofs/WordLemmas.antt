@@ -8,8 +8,8 @@ use Rattle.sd_types.specs.declared.works.Work.{Work}
 use Rattle.sd_state.specs.declared.states.State.{State}
 use Rattle.std.proofs.lemmas.Bool.{false≢true}
 use Rattle.sd_invariants.proofs.Whole.{fit_reached}
-use Rattle.sd_shown.specs.Standing.{home_at}
-use Rattle.sd_shown.specs.declared.list_id.ListId.{ListId}
+use Rattle.sd_homes.specs.Standing.{home_at}
+use Rattle.sd_homes.specs.declared.list_id.ListId.{ListId}
 use Rattle.sd_hand.specs.Hands.{StandsIn, has_thread}
 use Rattle.sd_hand.proofs.MoveLemmas.{stands_at, stands_held}
 use Rattle.sd_world.specs.Homes.{IsNumber, index_of}

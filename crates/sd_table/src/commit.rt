@@ -32,11 +32,11 @@ fn mover(event: Event) -> Option<ThreadId>
         | Event::CvWait { t, .. }
         | Event::SemaWait { t, .. }
         | Event::Move { t, .. } => Some(t),
-        Event::Unblock { s, .. }
-        | Event::Grant { s, .. }
-        | Event::Prio { s, .. }
-        | Event::SemaVWake { s, .. }
-        | Event::Bind { s, .. } => Some(s),
+        Event::Unblock { u, .. }
+        | Event::Grant { u, .. }
+        | Event::Prio { u, .. }
+        | Event::SemaVWake { u, .. }
+        | Event::Bind { u, .. } => Some(u),
         Event::Will { o, .. } => Some(o),
         Event::Wake { woken: Some(u), .. } | Event::Rouse { woken: Some(u), .. } => Some(u.0),
         _ => None,

@@ -3,7 +3,7 @@
 ghost use Rattle.std.specs.Prelude.{◌≡◌, ◌+◌, ◌<◌, [], length, IfOk, OnOk};
 ghost use Rattle.atomic_table.specs.Table.{opening as table_opening};
 ghost use Rattle.sd_hand.specs.Hands.{IsHeld};
-ghost use Rattle.sd_snapshot.specs.Told.{AreActorsOf, IsActorOf};
+ghost use Rattle.sd_world.specs.Told.{AreActorsOf, IsActorOf};
 ghost use Rattle.sd_types.specs.declared.numbers.HomeId.{HomeId as HomeIdOf};
 ghost use Rattle.sd_world.specs.Homes.{IsNumber};
 ghost use Rattle.sd_table_rule.specs.declared.views.View.TheVariants.{Maker};

@@ -7,7 +7,8 @@ ghost use Rattle.sd_types.specs.declared.events.Entry.{Entry as EntryOf};
 ghost use Rattle.sd_state.specs.States.{cpu_of};
 ghost use Rattle.sd_machine.specs.Choosing.{hint_shown};
 ghost use Rattle.sd_homes.specs.declared.home.Home.{Home as HomeOf};
-ghost use Rattle.sd_table_rule.specs.Ledgers.{by, most};
+ghost use Rattle.sd_types.specs.Limits.{most_entries};
+ghost use Rattle.sd_table_rule.specs.Ledgers.{by};
 ghost use Rattle.sd_table_rule.specs.Places.{Stands, holds, home_count, now, place_home};
 ghost use Rattle.sd_table_rule.specs.Plays.{Committed, Counted, Gave, Hinted, Looked, MayCommit, Published, Sees, Took, desk_of, writing};
 ghost use Rattle.sd_table_rule.specs.declared.views.View.TheVariants.{Works};
@@ -192,7 +193,7 @@ impl Shared {
         requires table { place.old.table_id ≡ id_of self.now }
         requires desk { IsDesk place.old.me }
         requires may { (h : List EntryOf) → Sees (work_of self.now) (desk_of place.old.me.0) h → MayCommit (work_of self.now) (desk_of place.old.me.0) event.now hints.now h }
-        requires room { length (by (desk_of place.old.me.0).cpu (desk_of place.old.me.0).seen) < most }
+        requires room { length (by (desk_of place.old.me.0).cpu (desk_of place.old.me.0).seen) < most_entries }
         ensures table { place.new.table_id ≡ place.old.table_id }
         ensures told { Committed (work_of self.now) event.now hints.now (step (id_of self.now).slots (home_count (work_of self.now)) 1 0 M.none) place.old.me result place.new.me }
     {

@@ -17,13 +17,13 @@ use Rattle.sd_machine.specs.Runs.{IsReached, IsRun, final}
 use Rattle.sd_machine.proofs.RunLemmas.{IsRun-from, IsRunFrom-front, final-push, from-IsRun, last_number, last_step}
 use Rattle.sd_machine.proofs.ShapeLemmas.{after_shape}
 use Rattle.sd_invariants.proofs.Whole.{fit_reached, reached_whole}
-use Rattle.sd_ticks.proofs.Counts.{rise_law}
+use Rattle.sd_invariants.proofs.Counts.{rise_law}
 use Rattle.sd_store.specs.declared.parts.Part.{Part}
 use Rattle.sd_store.specs.declared.parts.Part.TheVariants as part
 use Rattle.sd_store.specs.Parts.{IsAmong}
 use Rattle.sd_step.specs.Touched.{after_parts}
-use Rattle.sd_shown.specs.Numbers.{IsHomeOf}
-use Rattle.sd_shown.specs.Standing.{home_of, look_of}
+use Rattle.sd_homes.specs.Numbers.{IsHomeOf}
+use Rattle.sd_homes.specs.Standing.{home_of, look_of}
 use Rattle.sd_homes.specs.declared.home.Home.{Home}
 use Rattle.sd_homes.specs.Families.{home_id}
 use Rattle.sd_hand.specs.Shown.{IsHome}

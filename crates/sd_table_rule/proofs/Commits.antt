@@ -22,7 +22,8 @@ use Rattle.sd_machine.proofs.RunLemmas.{IsRunFrom-push, IsRun-from, from-IsRun}
 use Rattle.sd_table_rule.specs.declared.views.Desk.{Desk}
 use Rattle.sd_table_rule.specs.declared.views.View.{View}
 use Rattle.sd_table_rule.specs.declared.views.View.TheVariants.{Works}
-use Rattle.sd_table_rule.specs.Ledgers.{Named, by, most}
+use Rattle.sd_types.specs.Limits.{most_entries}
+use Rattle.sd_table_rule.specs.Ledgers.{Named, by}
 use Rattle.sd_table_rule.specs.Places.{Touches, holds, home_count, moved, now, place_home}
 use Rattle.sd_table_rule.specs.Rule.{Ledger, AtHome, Desked, Knows, Kept}
 use Rattle.sd_table_rule.specs.Plays.{Committed, MayCommit, Sees, Slot, committing, entry_as}
@@ -70,17 +71,17 @@ not_apart a b e = grind (arith, nat_tests)
 pub apart_if : (a b : ℕ) → not (a == b) ≡ true → a ≢ b
 apart_if a b e same = let q : (a == b) ≡ true = grind (arith, nat_tests) in absurd (false≢true (sym (ap not q) ∙ e))
 
-small_run : (n c : ℕ) → c ≤ 64 → n ≤ c * most → n + 1 < 2 ^ 64
+small_run : (n c : ℕ) → c ≤ 64 → n ≤ c * most_entries → n + 1 < 2 ^ 64
 small_run n c few many = omega arith
 
-small_number : (n c : ℕ) → c ≤ 64 → n ≤ c * most → n < 2 ^ 48
+small_number : (n c : ℕ) → c ≤ 64 → n ≤ c * most_entries → n < 2 ^ 48
 small_number n c few many = omega arith
 
 module _ (w : Work) where
   committed : (s : TS) (kept : Kept w s) (id : ℕ) (d : Desk) (ev : Event) (hints : Option Hints) → get_elem? s.views id ≡ M.some (Works d)
       → IsRun w (kept.ledger.history ++ entry_as (length kept.ledger.history) d.cpu ev hints ∷ [])
       → ((k : ℕ) → Touches w (now w kept.ledger.history) (cpu_of_number d.cpu) ev k → holds k d.held ≡ true)
-      → length (by d.cpu kept.ledger.history) < most
+      → length (by d.cpu kept.ledger.history) < most_entries
       → Kept w (record { words = set s.words (home_count w) (length kept.ledger.history + 1); homes = s.homes; views = set s.views id (Works (committing w d kept.ledger.history ev hints)) })
   committed s kept id d ev hints at run held room = record {
     ledger = l';
@@ -89,8 +90,8 @@ module _ (w : Work) where
     story = record {
       run = run;
       stamp = stamp_set w s.words kept.wide (length h + 1) ∙ (let z : length h + 1 ≡ length (h ++ e ∷ []) = omega (arith, length-append h (e ∷ [])) in z);
-      few = λ c. ⊎_elim (λ (q : e.cpu.0 ≡ c). (let m = by_mine c h e q in let r : length (by c h) < most = subst (λ x. length (by x h) < most) q room in subst (λ l. length l ≤ most) (sym m) (omega (arith, length-append (by c h) (e ∷ [])))))
-          (λ (n : e.cpu.0 ≢ c). subst (λ l. length l ≤ most) (sym (by_else c h e n)) (kept.story.few c))
+      few = λ c. ⊎_elim (λ (q : e.cpu.0 ≡ c). (let m = by_mine c h e q in let r : length (by c h) < most_entries = subst (λ x. length (by x h) < most_entries) q room in subst (λ l. length l ≤ most_entries) (sym m) (omega (arith, length-append (by c h) (e ∷ [])))))
+          (λ (n : e.cpu.0 ≢ c). subst (λ l. length l ≤ most_entries) (sym (by_else c h e n)) (kept.story.few c))
           (cases_eq e.cpu.0 c);
       some_made = kept.story.some_made;
       unmade = λ c r. let u = kept.story.unmade c r in let n : c ≢ d.cpu = λ q. (let z = mine.made in omega arith) in (by_else c h e (λ q. n (sym q)) ∙ u.0, u.1, put_else l.stray d.cpu strays c n ∙ u.2);
@@ -189,7 +190,7 @@ module _ (w : Work) where
               )
 
   pub commits : (slots id : ℕ) (me : Me Slot View) (d : Desk) (bs : List (ℕ × Slot)) (ev : Event) (hints : Option Hints) → me ≡ (Works d, bs)
-      → ((h : List Entry) → Sees w d h → MayCommit w d ev hints h) → length (by d.cpu d.seen) < most
+      → ((h : List Entry) → Sees w d h → MayCommit w d ev hints h) → length (by d.cpu d.seen) < most_entries
       → Allows (Kept w) slots id me (home_count w) (λ n. (n + 1) % 2 ^ 64) (Committed w ev hints (step slots (home_count w) 1 0 M.none) me)
   commits slots id me d bs ev hints is may room =
       subst (λ m. Allows (Kept w) slots id m (home_count w) (λ n. (n + 1) % 2 ^ 64) (Committed w ev hints (step slots (home_count w) 1 0 M.none) m)) (sym is)
@@ -197,7 +198,7 @@ module _ (w : Work) where
       let h = kept.ledger.history in
       let mine = desk_at w s kept id d at in
       let stamp = kept.story.stamp in
-      let many = run_bound w h most kept.story.run kept.story.few in
+      let many = run_bound w h most_entries kept.story.run kept.story.few in
       let few = w.most_cpus in
       let seen = sees w s kept id d at in
       let now_may = may h seen in
@@ -207,7 +208,7 @@ module _ (w : Work) where
         keeps,
         tt,
         subst (λ x. Kept w (record { words = set s.words (home_count w) x; homes = s.homes; views = set s.views id (Works (committing w d h ev hints)) })) (sym (ap (λ n. (n + 1) % 2 ^ 64) stamp ∙ fits))
-            (committed s kept id d ev hints at run now_may.touched (subst (λ l. length l < most) mine.since.mine room)),
+            (committed s kept id d ev hints at run now_may.touched (subst (λ l. length l < most_entries) mine.since.mine room)),
         (
           h,
           seen,

@@ -17,7 +17,8 @@ use Rattle.sd_homes.specs.declared.home.Home.{Home}
 use Rattle.sd_table_rule.specs.declared.views.Desk.{Desk}
 use Rattle.sd_table_rule.specs.declared.views.View.{View}
 use Rattle.sd_table_rule.specs.declared.views.View.TheVariants.{Maker, Works, Gathers, Spent}
-use Rattle.sd_table_rule.specs.Ledgers.{NamedBy, Since, by, most}
+use Rattle.sd_types.specs.Limits.{most_entries}
+use Rattle.sd_table_rule.specs.Ledgers.{NamedBy, Since, by}
 use Rattle.sd_table_rule.specs.Places.{Stands, holds, home_count, now, place_home}
 use Rattle.sd_table_rule.specs.Rule.{Ledger, AtHome, Desked, Gathered, Knows, Kept}
 use Rattle.sd_table_rule.specs.Plays.{Slot, new_desk}
@@ -87,7 +88,7 @@ module _ (w : Work) where
     ledger = l;
     wide = wide;
     deep = deep';
-    story = record { run = IsRun-nil w; stamp = stamp; few = λ c. subst (λ x. length x ≤ most) (sym (by-nil c)) (omega arith); some_made = (omega arith); unmade = λ c i. (by-nil c, refl, refl); stay = λ c g. refl };
+    story = record { run = IsRun-nil w; stamp = stamp; few = λ c. subst (λ x. length x ≤ most_entries) (sym (by-nil c)) (omega arith); some_made = (omega arith); unmade = λ c i. (by-nil c, refl, refl); stay = λ c g. refl };
     each_home = λ k i. subst (AtHome w l (map M.some xs) k) (sym (locks k)) (homes k i);
     named = record {
       each = λ t i. subst (λ n. NamedBy w (now w []) (lock_of w ws) (word_of w ws) l.stray t n) (sym (locks (place_home w (now w []) t))) (words t i);

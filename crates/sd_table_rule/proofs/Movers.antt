@@ -15,7 +15,7 @@ use Rattle.sd_types.specs.declared.events.PrioAnswer.TheVariants.{Changed, Refus
 use Rattle.sd_types.specs.declared.events.Put.{Put}
 use Rattle.sd_types.specs.declared.works.Work.{Work}
 use Rattle.sd_types.specs.Priorities.{eff_as}
-use Rattle.sd_chains.proofs.Moves.{put_cases}
+use Rattle.sd_machine.proofs.Moves.{put_cases}
 use Rattle.sd_state.specs.declared.states.Place.{Place}
 use Rattle.sd_state.specs.declared.states.Place.TheVariants as place
 use Rattle.sd_state.specs.declared.states.State.{State}
@@ -29,8 +29,8 @@ use Rattle.sd_frames.specs.Moves.{Step, aged_step, bind_step, prio_step, put_ste
 use Rattle.sd_invariants.proofs.Movers.{mover_there}
 use Rattle.sd_frames.proofs.PlaceTable.{Stepped, after_steps, step_needs}
 use Rattle.sd_invariants.proofs.Ready.{reached_ready, ready_cause}
-use Rattle.sd_range.proofs.Lasts.{brings, others_last}
-use Rattle.sd_shown.specs.Standing.{home_of, home_of_place}
+use Rattle.sd_invariants.proofs.Lasts.{brings, others_last}
+use Rattle.sd_homes.specs.Standing.{home_of, home_of_place}
 use Rattle.sd_world.specs.Homes.{index_of}
 use Rattle.sd_table_rule.specs.Movers.{IsMover}
 use Rattle.sd_table_rule.specs.Places.{now, place_home, sizes}

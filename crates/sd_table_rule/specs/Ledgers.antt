@@ -13,10 +13,6 @@ use Rattle.sd_table_rule.specs.Places.{Stands, holds, home_count, now, place_hom
 unfoldable pub by : ℕ → List Entry → List Entry
 by c h = filter (λ e. e.cpu.0 == c) h
 
--- a processor makes at most so many entries
-abbrev pub most : ℕ
-most = 2 ^ 40
-
 -- what processor c, with these homes, knew after the old history is so after the new one: each home that stood stands, its count and
 -- duty are the same, and it has made no entry since
 pub record Since (w : Work) (c : ℕ) (held : List ℕ) (old new : List Entry) : Type 0 where

@@ -14,7 +14,7 @@ use Rattle.sd_machine.specs.Runs.{final}
 use Rattle.sd_store.specs.declared.parts.Part.{Part}
 use Rattle.sd_store.specs.Parts.{IsAmong}
 use Rattle.sd_step.specs.Touched.{after_parts}
-use Rattle.sd_shown.specs.Standing.{home_of, look_of}
+use Rattle.sd_homes.specs.Standing.{home_of, look_of}
 use Rattle.sd_homes.specs.declared.home.Home.{Home}
 use Rattle.sd_hand.specs.Shown.{IsHome}
 use Rattle.sd_footprint.specs.Homes.{home_in}

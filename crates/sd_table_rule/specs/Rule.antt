@@ -13,7 +13,8 @@ use Rattle.sd_table_rule.specs.declared.views.Count.{Count}
 use Rattle.sd_table_rule.specs.declared.views.Desk.{Desk}
 use Rattle.sd_table_rule.specs.declared.views.View.{View}
 use Rattle.sd_table_rule.specs.declared.views.View.TheVariants.{Maker, Works, Gathers, Spent}
-use Rattle.sd_table_rule.specs.Ledgers.{Named, Since, by, most}
+use Rattle.sd_types.specs.Limits.{most_entries}
+use Rattle.sd_table_rule.specs.Ledgers.{Named, Since, by}
 use Rattle.sd_table_rule.specs.Places.{Apart, Stands, holds, home_count, now}
 use Rattle.sd_table_rule.specs.Words.{hint_at, lock_of, tick_of, word_count, word_of}
 
@@ -56,7 +57,7 @@ Knows w l lock j Spent = Unit {0}
 pub record Story (w : Work) (l : Ledger) (n : ℕ) : Type 0 where
   pub run : IsRun w l.history
   pub stamp : n ≡ length l.history
-  pub few : (c : ℕ) → length (by c l.history) ≤ most
+  pub few : (c : ℕ) → length (by c l.history) ≤ most_entries
   pub some_made : l.made ≤ w.cpus
   pub unmade : (c : ℕ) → l.made ≤ c → (by c l.history ≡ []) × (l.gone c ≡ false) × (l.stray c ≡ [])
   pub stay : (c : ℕ) → l.gone c ≡ true → l.stray c ≡ []

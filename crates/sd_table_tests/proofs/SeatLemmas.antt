@@ -21,7 +21,7 @@ use Rattle.sd_table_rule.proofs.Bridge.{reached}
 use Rattle.sd_table.specs.declared.seat.Seat.{Seat}
 use Rattle.sd_table.specs.Seats.{Fits, SeatStays, SeatTakes, desk, seat_meaning}
 use Rattle.sd_table.specs.Whole.{AreSeats, IsSeatOf}
-use Rattle.sd_tlock.specs.Locks.{SeatLocks}
+use Rattle.sd_threads.specs.Locks.{SeatLocks}
 use Rattle.sd_table_tests.specs.Sitting.{GoesOn, HasSought, HasTried, IsFreeAfter}
 
 none_held : (k : HomeId) (hs : List (Option Home)) → how_many_held hs ≡ 0 → held k hs ≡ None

@@ -9,12 +9,12 @@ use Rattle.sd_cpu.specs.Attempts.{Answers, IsEmpty, IsSameWorld}
 use Rattle.sd_cpu.specs.declared.attempts.Attempted.{Attempted}
 use Rattle.sd_cpu.specs.declared.attempts.Attempted.TheVariants.{Made, Again}
 use Rattle.sd_cpu.specs.declared.attempts.Turned.TheVariants.{Acted, Ticked, Behind, Finished}
-use Rattle.sd_phase.proofs.TurnLemmas.{world_refused}
+use Rattle.sd_cpu.proofs.TurnLemmas.{world_refused}
 use Rattle.sd_table.specs.declared.seat.Seat.{Seat}
 use Rattle.sd_table.specs.declared.shared.Shared.{Shared}
 use Rattle.sd_table.specs.Seats.{Fits, id_of, work_of}
-use Rattle.sd_tlock.specs.declared.world.TableWorld.{TableWorld}
-use Rattle.sd_tlock.specs.Tables.{IsTable, world_meaning}
+use Rattle.sd_threads.specs.declared.world.TableWorld.{TableWorld}
+use Rattle.sd_threads.specs.Tables.{IsTable, world_meaning}
 use Rattle.sd_table_tests.specs.Sitting.{IsFreeAfter, IsWorldAfter}
 
 pub same_world : (m m' : Meaning) (r : Result Attempted Stop) → Answers m m' r → IsSameWorld m m'

@@ -10,8 +10,8 @@ use Rattle.sd_world.specs.declared.world.ThreadLock.{ThreadLock}
 use Rattle.sd_world.specs.declared.world.ThreadLock.TheVariants as thread
 use Rattle.sd_table.specs.declared.seat.Seat.{Seat}
 use Rattle.sd_table.specs.Seats.{Fits, id_of, work_of}
-use Rattle.sd_tlock.specs.declared.world.TableWorld.{TableWorld}
-use Rattle.sd_tlock.specs.Tables.{IsTable}
+use Rattle.sd_threads.specs.declared.world.TableWorld.{TableWorld}
+use Rattle.sd_threads.specs.Tables.{IsTable}
 
 -- the seat goes on from another, as the seat of the same processor
 pub record GoesOn (t : TableId) (w : Work) (s s' : Seat) : Type 0 where

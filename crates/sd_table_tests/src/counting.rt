@@ -11,7 +11,7 @@ use sd_dispatcher::Reading;
 use sd_hand::Acting;
 use sd_steps::replay;
 use sd_table::{Seat, Shared};
-use sd_tlock::TableWorld;
+use sd_threads::TableWorld;
 use sd_types::{Event, Hints, HomeId, Stop, ThreadId, Work};
 use sd_world::{Behind, Take, ThreadLock, World};
 use std::marker::Sync;
@@ -45,7 +45,7 @@ impl<'a> World for CountedWorld<'a> {
     ghost use Rattle.sd_table.proofs.Fitting.{table_good};
     ghost use Rattle.sd_table.specs.Seats.{id_of, work_of};
     ghost use Rattle.sd_world.specs.Plain.{last_of};
-    ghost use Rattle.sd_tlock.specs.Tables.{IsTable, world_meaning};
+    ghost use Rattle.sd_threads.specs.Tables.{IsTable, world_meaning};
 
     ghost meaning = { λ x. world_meaning x.table };
 

@@ -8,12 +8,11 @@ ghost use Rattle.sd_table_tests.specs.Sitting.{IsFreeAfter};
 
 use crate::tables::{FOUR_THREADS, close_two, open_two, work_from};
 use crate::trying::{give_back, try_home};
-use sd_cpu::OpenGate;
-use sd_phase::turn;
+use sd_cpu::{OpenGate, turn};
 use sd_state::{Place, State};
 use sd_steps::replay;
 use sd_table::{Seat, Shared};
-use sd_tlock::TableWorld;
+use sd_threads::TableWorld;
 use sd_types::{Entry, Event, Work};
 use sd_world::Take;
 use std::alloc::Global;

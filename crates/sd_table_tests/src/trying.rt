@@ -9,7 +9,7 @@ ghost use Rattle.sd_table_tests.specs.Sitting.{HasSought, HasTried, IsFreeAfter}
 use crate::tables::{FOUR_THREADS, close_two, open_two, work_from};
 use sd_cpu::{OpenGate, attempt};
 use sd_table::{Seat, Shared};
-use sd_tlock::{TableWorld, try_lock_thread};
+use sd_threads::{TableWorld, try_lock_thread};
 use sd_types::{CpuId, Event, HomeId, ThreadId, Work};
 use sd_world::{Take, ThreadLock};
 use std::test::Fail;

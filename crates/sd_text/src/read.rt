@@ -5,6 +5,7 @@ ghost use Rattle.sd_text.specs.Faults.{HasRisen};
 ghost use Rattle.sd_text.specs.Reading.{TakesUpTo};
 
 use super::streams::Source;
+use sd_types::MOST_WORKLOAD_BYTES;
 use std::alloc::Global;
 use thiserror::Error;
 
@@ -21,9 +22,6 @@ pub enum ReadAllFault {
     #[error("out of memory")]
     Memory,
 }
-
-// The greatest input that `read_all` takes, in bytes.
-const GREATEST_INPUT: u64 = 1_048_576;
 
 // How many bytes one read asks for.
 const PIECE: usize = 4096;
@@ -46,7 +44,7 @@ pub fn read_all<S: Source>(alloc: Global, source: &mut S) -> Result<Vec<u8>, Rea
     // What was taken, whatever the result.
     ensures taken { TakesUpTo 1048576 (S.remaining source.old) (S.remaining source.new) result }
 {
-    read_up_to(alloc, source, GREATEST_INPUT)
+    read_up_to(alloc, source, MOST_WORKLOAD_BYTES as u64)
 }
 
 /// Reads on to the end of the source and keeps nothing, where memory ran out for an input that may have `left` bytes more:

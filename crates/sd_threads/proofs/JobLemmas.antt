@@ -14,14 +14,14 @@ use Rattle.sd_world.specs.Worlds.{Meaning, entry_of}
 use Rattle.sd_cpu.specs.Attempts.{IsEmpty, IsSameWorld, MakesOne, Refuses}
 use Rattle.sd_cpu.specs.declared.attempts.Turned.{Turned}
 use Rattle.sd_cpu.specs.declared.attempts.Turned.TheVariants.{Acted, Ticked, Behind, Finished}
-use Rattle.sd_phase.specs.declared.phases.Phased.{Phased}
-use Rattle.sd_phase.specs.Phases.{ActsOften, Ends, PhaseAnswers, Stops}
+use Rattle.sd_cpu.specs.declared.phases.Phased.{Phased}
+use Rattle.sd_cpu.specs.Phases.{ActsOften, Ends, PhaseAnswers, Stops}
 use Rattle.sd_table_rule.specs.Ledgers.{by}
 use Rattle.sd_table.specs.declared.seat.Seat.{Seat}
 use Rattle.sd_table.specs.Seats.{Fits, desk, id_of, work_of}
 use Rattle.sd_table.specs.Whole.{AreSeats, IsSeatOf}
-use Rattle.sd_tlock.specs.declared.world.TableWorld.{TableWorld}
-use Rattle.sd_tlock.specs.Tables.{IsTable, world_meaning}
+use Rattle.sd_threads.specs.declared.world.TableWorld.{TableWorld}
+use Rattle.sd_threads.specs.Tables.{IsTable, world_meaning}
 use Rattle.sd_threads.specs.declared.jobs.Job.{Job}
 use Rattle.sd_rounds.specs.Rounds.{IsLongRun}
 use Rattle.sd_threads.specs.Jobs.{AllTell, AreJobs, HasRested, HavePhased, IsFree, MadeAsLogged, Tells, WasStopped, seats_in}

@@ -1,1 +1,5 @@
+pub mod AsWorld
+pub mod Interlocking
 pub mod JobLemmas
+pub mod Listed
+pub mod Locking

@@ -6,7 +6,7 @@ use Rattle.sd_types.specs.declared.events.Stop.{Stop}
 use Rattle.sd_types.specs.declared.events.Stop.TheVariants.{Full}
 use Rattle.sd_types.specs.declared.works.Work.{Work}
 use Rattle.sd_hand.specs.Hands.{how_many_held}
-use Rattle.sd_phase.specs.declared.phases.Phased.{Phased}
+use Rattle.sd_cpu.specs.declared.phases.Phased.{Phased}
 use Rattle.sd_rounds.specs.Rounds.{IsLongRun}
 use Rattle.sd_table.specs.declared.seat.Seat.{Seat}
 use Rattle.sd_table.specs.Seats.{Fits}

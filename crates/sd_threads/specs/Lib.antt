@@ -1,1 +1,4 @@
+pub mod Interlocks
 pub mod Jobs
+pub mod Locks
+pub mod Tables

@@ -4,10 +4,9 @@ ghost use Rattle.std.specs.Prelude.{◌≡◌};
 ghost use Rattle.sd_table.specs.Seats.{id_of, work_of};
 ghost use Rattle.sd_threads.specs.Jobs.{HasPhased, IsFree};
 
-use sd_cpu::Gate;
-use sd_phase::{Phased, phase};
+use crate::TableWorld;
+use sd_cpu::{Gate, Phased, phase};
 use sd_table::{Seat, Shared};
-use sd_tlock::TableWorld;
 use sd_types::{Stop, Work};
 use std::sync::Wait;
 

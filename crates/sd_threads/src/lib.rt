@@ -4,8 +4,14 @@
 //! Source: this project's own.
 #![tactic(auto)]
 
+mod interlocks;
 mod jobs;
 mod phases;
 mod run;
+mod threads;
+mod world;
 
+pub use interlocks::{Interlock, try_interlock};
 pub use run::run_on_threads;
+pub use threads::try_lock_thread;
+pub use world::TableWorld;

@@ -8,7 +8,7 @@ use Rattle.sd_state.specs.Texts.{chan_name, lock_name, thread_name}
 use Rattle.sd_stretches.specs.declared.sights.Doing.{Doing}
 use Rattle.sd_stretches.specs.declared.sights.Doing.TheVariants.{Running, Spinning, Runnable, Waiting, Asleep, Napping, Ended}
 use Rattle.sd_stretches.specs.declared.rows.Stretch.{Stretch}
-use Rattle.sd_labels.specs.Doings.{doing_text}
+use Rattle.sd_stretches.specs.Doings.{doing_text}
 use Rattle.sd_timeline.specs.declared.layouts.Row.{Row}
 use Rattle.sd_timeline.specs.declared.layouts.Row.TheVariants.{Cpu, Thread}
 use Rattle.sd_timeline.specs.Layouts.{Layout, base, column, inside, top, width}

@@ -5,8 +5,7 @@ ghost use Rattle.sd_timeline.specs.Arrows.{arrow_start, drawn_hands, hand_path, 
 
 use crate::layouts::{Layout, Row};
 use crate::pieces::{put_path_end, put_path_start};
-use sd_labels::{put_counted, put_doing, thread_name};
-use sd_stretches::{Doing, HandOver, History, Wakeup};
+use sd_stretches::{Doing, HandOver, History, Wakeup, put_counted, put_doing, thread_name};
 use sd_types::Work;
 use std::alloc::{AllocError, Global};
 

@@ -5,8 +5,7 @@ ghost use Rattle.sd_timeline.specs.Bars.{bar_text, between, cpu_word, doing_clas
 
 use crate::layouts::{Layout, Row};
 use crate::pieces::{put_bar_end, put_bar_start, put_number_label, put_word_label};
-use sd_labels::{chan_name, lock_name, put_counted, put_doing, thread_name};
-use sd_stretches::{Doing, Stretch};
+use sd_stretches::{Doing, Stretch, chan_name, lock_name, put_counted, put_doing, thread_name};
 use sd_types::{CpuId, Work};
 use std::alloc::AllocError;
 

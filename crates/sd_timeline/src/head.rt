@@ -10,8 +10,8 @@ use crate::layouts::{Layout, Row};
 use crate::pieces::{
     put_attribute, put_label_end, put_label_start, put_line, put_number_label, put_word_label,
 };
-use sd_labels::{put_counted, set_name, thread_name};
-use sd_part::set_of_cpu;
+use sd_rules::set_of_cpu;
+use sd_stretches::{put_counted, set_name, thread_name};
 use sd_types::{CpuId, SetId, Work};
 use std::alloc::AllocError;
 

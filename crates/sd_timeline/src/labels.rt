@@ -7,8 +7,7 @@ use crate::bars::put_between;
 use crate::folds::Column;
 use crate::layouts::{Layout, Row};
 use crate::pieces::{put_bar_end, put_bar_start, put_number_label, put_word_label};
-use sd_labels::put_counted;
-use sd_stretches::{History, Level, levels};
+use sd_stretches::{History, Level, levels, put_counted};
 use sd_types::Work;
 use std::alloc::{AllocError, Global};
 

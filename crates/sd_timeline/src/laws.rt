@@ -10,7 +10,7 @@ pub fn folds_are_quiet()
     ensures { AllFoldsAreQuiet }
 {}
 
-/// The title of each bar and of each arrow needs no escaping, in the sense of `names_need_no_escaping` of `sd_labels`.
+/// The title of each bar and of each arrow needs no escaping, in the sense of `names_need_no_escaping` of `sd_stretches`.
 pub fn titles_need_no_escaping()
     ensures { TitlesNeedNoEscaping }
 {}

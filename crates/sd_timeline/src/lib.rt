@@ -1,7 +1,7 @@
 //! The timeline of a run: an SVG picture with a row for each processor and each thread. It is one file that needs no other,
 //! made of rectangles, lines and texts whose places are given by ticks and by numbers of rows.
 //!
-//! Names stand in it as they are, since none means anything in XML (`names_need_no_escaping` of `sd_labels`).
+//! Names stand in it as they are, since none means anything in XML (`names_need_no_escaping` of `sd_stretches`).
 #![tactic(auto)]
 
 mod arrows;

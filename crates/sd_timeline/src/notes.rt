@@ -7,8 +7,7 @@ ghost use Rattle.sd_timeline.specs.Notes.{assign_note, bind_note, bound_words, n
 
 use crate::layouts::{Layout, Row};
 use crate::pieces::{put_label_end, put_label_start};
-use sd_labels::{put_counted, set_name};
-use sd_stretches::Happening;
+use sd_stretches::{Happening, put_counted, set_name};
 use sd_types::{AssignAnswer, BindAnswer, CpuId, Event, SetId, ThreadId, Work};
 use std::alloc::AllocError;
 
@@ -147,7 +146,7 @@ fn put_note_of(
             set,
             out,
         ),
-        Event::Bind { s, cpu, answer, .. } => put_bind_note(layout, x.tick, s, cpu, answer, out),
+        Event::Bind { u, cpu, answer, .. } => put_bind_note(layout, x.tick, u, cpu, answer, out),
         _ => Ok(()),
     }
 }

@@ -18,7 +18,7 @@ use crate::legend::{Drawn, drawn_of, put_legend};
 use crate::moments::put_moments;
 use crate::notes::put_notes;
 use crate::rows::layout_of;
-use sd_cycles::cycles;
+use sd_accounts::cycles;
 use sd_state::State;
 use sd_stretches::{History, Stretch, Track, levels, pieces};
 use sd_types::{CpuId, Work};

@@ -4,7 +4,7 @@
 ghost use Rattle.std.specs.Prelude.{◌≡◌, ◌++◌, OnOk};
 ghost use Rattle.sd_timeline.specs.Pieces.{attribute, bar_end, bar_start, box_text, ends_text, grid_line, label_end, label_start, number_label, path_end, path_ends, path_start, word_label};
 
-use sd_labels::put_counted;
+use sd_stretches::put_counted;
 use sd_text::put_number;
 use std::alloc::AllocError;
 

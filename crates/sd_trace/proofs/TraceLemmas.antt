@@ -25,8 +25,8 @@ use Rattle.sd_stretches.specs.declared.histories.History.{History}
 use Rattle.sd_stretches.specs.declared.rows.Stretch.{Stretch}
 use Rattle.sd_stretches.specs.declared.spins.Track.TheVariants as track
 use Rattle.sd_stretches.specs.Spins.{pieces}
-use Rattle.sd_labels.specs.Plain.{is_text_byte, IsText}
-use Rattle.sd_labels.proofs.TextLemmas.{flat-text, decimal-text, lock-text, thread-text, set-text, doing-text}
+use Rattle.sd_stretches.specs.Plain.{is_text_byte, IsText}
+use Rattle.sd_stretches.proofs.TextLemmas.{flat-text, decimal-text, lock-text, thread-text, set-text, doing-text}
 use Rattle.sd_trace.specs.Words.{class_word, place_at, thread_number}
 use Rattle.sd_trace.specs.Slices.{about, class_argument, class_start, entry_arguments, length_of, priority_argument, run_name, run_slice, slice_kind, spin_words, state_slice, state_slices}
 use Rattle.sd_trace.specs.Flows.{arrow_end, arrow_from, arrow_start, end_kind, entry_argument, flow, hand_flow, load_argument, load_event, load_start, named, start_kind, track_at, wake_flow}

@@ -6,7 +6,7 @@ use Rattle.sd_state.specs.Texts.{lock_name, thread_name}
 use Rattle.sd_stretches.specs.declared.sights.Doing.{Doing}
 use Rattle.sd_stretches.specs.declared.sights.Doing.TheVariants.{Spinning}
 use Rattle.sd_stretches.specs.declared.rows.Stretch.{Stretch}
-use Rattle.sd_labels.specs.Doings.{doing_text}
+use Rattle.sd_stretches.specs.Doings.{doing_text}
 use Rattle.sd_trace.specs.Words.{class_word, cpu_number, micros, place_at}
 
 unfoldable pub class_start : List ℕ

@@ -4,8 +4,7 @@ ghost use Rattle.std.specs.Prelude.{◌≡◌, ◌++◌, OnOk, codes, decimal, f
 ghost use Rattle.sd_trace.specs.Flows.{arrow, arrow_end, arrow_start, end_kind, entry_argument, flow, hand_flow, load_argument, load_event, load_start, named, start_kind, track_at, wake_flow};
 
 use crate::words::{micros, put_place, thread_number};
-use sd_labels::put_counted;
-use sd_stretches::{HandOver, Load, Wakeup};
+use sd_stretches::{HandOver, Load, Wakeup, put_counted};
 use sd_types::Work;
 use std::alloc::AllocError;
 

@@ -2,7 +2,7 @@
 //! and each thread, flows for wakeups and inherited priority, marks of processor sets and bindings, and a counter of
 //! runnable threads.
 //!
-//! Names stand in it as they are, since none has to be escaped in JSON (`names_need_no_escaping` of `sd_labels`).
+//! Names stand in it as they are, since none has to be escaped in JSON (`names_need_no_escaping` of `sd_stretches`).
 #![tactic(auto)]
 
 mod flows;

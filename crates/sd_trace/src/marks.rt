@@ -8,8 +8,7 @@ ghost use Rattle.sd_trace.specs.Marks.{assign_mark, bind_mark, bound_mark, bound
 
 use crate::flows::{put_entry_argument, put_named};
 use crate::words::{cpu_number, put_place, thread_number};
-use sd_labels::{put_counted, set_name};
-use sd_stretches::Happening;
+use sd_stretches::{Happening, put_counted, set_name};
 use sd_types::{AssignAnswer, BindAnswer, CpuId, Event, SetId, ThreadId, Work};
 use std::alloc::AllocError;
 
@@ -126,7 +125,7 @@ fn put_mark(work: &Work, x: &Happening, out: &mut Vec<u8>) -> Result<(), AllocEr
             ..
         } => put_assign_mark(work, x, cpu, set, answer, out),
         Event::Joined { set } => put_set_mark(work, x, x.cpu, b"in ", set, out),
-        Event::Bind { s, cpu, answer, .. } => put_bind_mark(work, x, s, cpu, answer, out),
+        Event::Bind { u, cpu, answer, .. } => put_bind_mark(work, x, u, cpu, answer, out),
         _ => Ok(()),
     }
 }

@@ -5,8 +5,7 @@ ghost use Rattle.sd_state.specs.Texts.{thread_name};
 ghost use Rattle.sd_trace.specs.Slices.{about, class_argument, class_start, entry_arguments, length_of, priority_argument, run_name, run_slice, slice_kind, spin_words, state_slice, state_slices};
 
 use crate::words::{class_word, cpu_number, micros, put_place};
-use sd_labels::{lock_name, put_counted, put_doing, thread_name};
-use sd_stretches::{Doing, Stretch};
+use sd_stretches::{Doing, Stretch, lock_name, put_counted, put_doing, thread_name};
 use sd_types::Work;
 use std::alloc::AllocError;
 

@@ -8,8 +8,7 @@ use crate::flows::{put_hand_overs, put_loads, put_wakeups};
 use crate::marks::put_marks;
 use crate::slices::{put_run_slices, put_states};
 use crate::words::{cpu_number, thread_number};
-use sd_labels::{put_counted, thread_name};
-use sd_stretches::{History, Track, pieces};
+use sd_stretches::{History, Track, pieces, put_counted, thread_name};
 use sd_types::Work;
 use std::alloc::{AllocError, Global};
 

@@ -3,7 +3,7 @@
 ghost use Rattle.std.specs.Prelude.{◌≡◌, ◌++◌, OnOk};
 ghost use Rattle.sd_trace.specs.Words.{class_word, cpu_number, micros, place_at, thread_number};
 
-use sd_labels::put_counted;
+use sd_stretches::put_counted;
 use sd_types::{Class, Work};
 use std::alloc::AllocError;
 

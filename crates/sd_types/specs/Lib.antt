@@ -1,6 +1,7 @@
 pub mod ClassNumbers
 pub mod Events
 pub mod Lends
+pub mod Limits
 pub mod NameWords
 pub mod Partitions
 pub mod Priorities

@@ -184,12 +184,12 @@ pub enum Event {
     },
     Unblock {
         l: LockId,
-        s: ThreadId,
+        u: ThreadId,
         at: Put,
     },
     Grant {
         l: LockId,
-        s: ThreadId,
+        u: ThreadId,
         at: Put,
     },
     Passed {
@@ -201,7 +201,7 @@ pub enum Event {
     },
     Prio {
         t: ThreadId,
-        s: ThreadId,
+        u: ThreadId,
         answer: PrioAnswer,
     },
     CvWait {
@@ -220,7 +220,7 @@ pub enum Event {
     SemaVWake {
         t: ThreadId,
         k: ChanId,
-        s: ThreadId,
+        u: ThreadId,
         at: Put,
     },
     SemaVCount {
@@ -243,7 +243,7 @@ pub enum Event {
     },
     Bind {
         t: ThreadId,
-        s: ThreadId,
+        u: ThreadId,
         cpu: Option<CpuId>,
         answer: BindAnswer,
     },

@@ -8,6 +8,7 @@ mod bodies;
 mod classes;
 mod events;
 mod inheritance;
+mod limits;
 mod lists;
 mod names;
 mod numbers;
@@ -20,6 +21,10 @@ pub use bodies::ThreadBody;
 pub use classes::{Class, ClassParms, ClassState, FxState, Quantum, RtState, SysState, TsState};
 pub use events::{
     AssignAnswer, BindAnswer, Denied, Duty, End, Entry, Event, Hints, PrioAnswer, Put, Stop, Which,
+};
+pub use limits::{
+    MOST_CERTIFICATE_BYTES, MOST_ENTRIES, MOST_HELD, MOST_OBJECTS, MOST_OPERATIONS,
+    MOST_OPERATIONS_OF_ALL, MOST_PAIRS, MOST_SETS, MOST_THREADS, MOST_TICKS, MOST_WORKLOAD_BYTES,
 };
 pub use lists::List;
 pub use names::Name;

@@ -11,7 +11,7 @@ use Rattle.sd_state.specs.Opening.{opening}
 use Rattle.sd_machine.specs.Events.{after}
 use Rattle.sd_audit.specs.Audits.{entry_line}
 use Rattle.sd_stretches.specs.declared.histories.History.{History}
-use Rattle.sd_sentences.specs.Sentences.{sentence}
+use Rattle.sd_story.specs.Sentences.{sentence}
 use Rattle.sd_story.specs.declared.selections.Selection.{Selection}
 use Rattle.sd_story.specs.declared.selections.Selection.TheVariants.{Ticks, Thread}
 use Rattle.sd_story.specs.Selections.{has_thread, is_told, tick_of}

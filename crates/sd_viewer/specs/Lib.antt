@@ -4,3 +4,4 @@ pub mod Gathering
 pub mod Promises
 pub mod Starts
 pub mod Viewing
+pub mod Views

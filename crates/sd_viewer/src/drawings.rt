@@ -3,18 +3,18 @@
 ghost use Rattle.std.specs.Prelude.{◌≡◌, ◌<◌, ◌^◌, ℕ, IfOk, IfErr, length};
 ghost use Rattle.sd_state.specs.declared.states.State.{State as StateValue};
 ghost use Rattle.sd_audit.specs.Audits.{IsFault, IsJournal, IsMemory};
-ghost use Rattle.sd_viewer.specs.declared.drawings.Drawing.TheVariants.{Report, Sheet, Timeline, Trace};
 ghost use Rattle.sd_viewer.specs.Drawings.{IsDrawn};
+ghost use Rattle.sd_viewer.specs.Views.{drawing_of, view_text};
 
 use crate::frames::frame_of;
-use crate::gathering::gather;
+use crate::gathering::{Gathered, gather};
 use sd_audit::AuditFault;
 use sd_report::{report, sheet};
 use sd_story::{Selection, tell};
 use sd_timeline::timeline;
 use sd_trace::trace;
 use sd_types::Work;
-use std::alloc::Global;
+use std::alloc::{AllocError, Global};
 
 /// What is drawn of a run: the timeline of the ticks from `from` to `to`, the trace, a story of some of its entries, or its
 /// statistics, as a table or as comma-separated rows.
@@ -27,67 +27,38 @@ pub enum Drawing {
     Sheet,
 }
 
-fn draw_timeline(
-    alloc: Global,
-    work: &Work,
-    text: &[u8],
-    from: u32,
-    to: u32,
-) -> Result<Vec<u8>, AuditFault>
-    requires { length text.now < 2 ^ 31 }
-    ensures drawn { IfOk result (λ out. IsDrawn (Timeline from to) work.now text.now out.items) }
-    ensures fault { IfErr result (IsFault work.now text.now) }
-{
-    let gathered = gather(alloc, work, text)?;
-    let Ok(out) = timeline(
-        alloc,
-        work,
-        frame_of(work, from, to),
-        &gathered.history,
-        &gathered.end,
-    ) else {
-        return Err(AuditFault::Memory {
-            number: gathered.number,
-        });
-    };
-    Ok(out)
+/// A drawing that is made of the whole history of a run.
+#[derive(Clone, Copy)]
+enum View {
+    Timeline { from: u32, to: u32 },
+    Trace,
+    Report,
+    Sheet,
 }
 
-fn draw_trace(alloc: Global, work: &Work, text: &[u8]) -> Result<Vec<u8>, AuditFault>
-    requires { length text.now < 2 ^ 31 }
-    ensures drawn { IfOk result (λ out. IsDrawn Trace work.now text.now out.items) }
-    ensures fault { IfErr result (IsFault work.now text.now) }
+/// What the view shows of a run.
+fn view_text(alloc: Global, work: &Work, view: View, run: &Gathered) -> Result<Vec<u8>, AllocError>
+    ensures { IfOk result (λ out. out.items ≡ view_text view work.now run.now.history run.now.end) }
 {
-    let gathered = gather(alloc, work, text)?;
-    let Ok(out) = trace(alloc, work, &gathered.history) else {
-        return Err(AuditFault::Memory {
-            number: gathered.number,
-        });
-    };
-    Ok(out)
+    match view {
+        View::Timeline { from, to } => {
+            let frame = frame_of(work, from, to);
+            timeline(alloc, work, frame, &run.history, &run.end)
+        }
+        View::Trace => trace(alloc, work, &run.history),
+        View::Report => report(alloc, work, &run.history),
+        View::Sheet => sheet(alloc, work, &run.history),
+    }
 }
 
-fn draw_report(alloc: Global, work: &Work, text: &[u8]) -> Result<Vec<u8>, AuditFault>
+/// The view of the run whose journal the text is.
+fn draw_view(alloc: Global, work: &Work, text: &[u8], view: View) -> Result<Vec<u8>, AuditFault>
     requires { length text.now < 2 ^ 31 }
-    ensures drawn { IfOk result (λ out. IsDrawn Report work.now text.now out.items) }
+    ensures drawn { IfOk result (λ out. IsDrawn (drawing_of view) work.now text.now out.items) }
     ensures fault { IfErr result (IsFault work.now text.now) }
 {
     let gathered = gather(alloc, work, text)?;
-    let Ok(out) = report(alloc, work, &gathered.history) else {
-        return Err(AuditFault::Memory {
-            number: gathered.number,
-        });
-    };
-    Ok(out)
-}
-
-fn draw_sheet(alloc: Global, work: &Work, text: &[u8]) -> Result<Vec<u8>, AuditFault>
-    requires { length text.now < 2 ^ 31 }
-    ensures drawn { IfOk result (λ out. IsDrawn Sheet work.now text.now out.items) }
-    ensures fault { IfErr result (IsFault work.now text.now) }
-{
-    let gathered = gather(alloc, work, text)?;
-    let Ok(out) = sheet(alloc, work, &gathered.history) else {
+    let Ok(out) = view_text(alloc, work, view, &gathered) else {
         return Err(AuditFault::Memory {
             number: gathered.number,
         });
@@ -109,10 +80,16 @@ pub fn draw(
     ensures exact { IfErr result (λ fault. (s : StateValue) (n : ℕ) → IsJournal work.now text.now s n → IsMemory fault) }
 {
     match drawing {
-        Drawing::Timeline { from, to } => draw_timeline(alloc, work, text, *from, *to),
-        Drawing::Trace => draw_trace(alloc, work, text),
+        Drawing::Timeline { from, to } => {
+            let view = View::Timeline {
+                from: *from,
+                to: *to,
+            };
+            draw_view(alloc, work, text, view)
+        }
+        Drawing::Trace => draw_view(alloc, work, text, View::Trace),
         Drawing::Story(selection) => tell(alloc, work, text, selection),
-        Drawing::Report => draw_report(alloc, work, text),
-        Drawing::Sheet => draw_sheet(alloc, work, text),
+        Drawing::Report => draw_view(alloc, work, text, View::Report),
+        Drawing::Sheet => draw_view(alloc, work, text, View::Sheet),
     }
 }

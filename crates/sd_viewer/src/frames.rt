@@ -7,9 +7,9 @@ use sd_timeline::Frame;
 use sd_types::Work;
 
 // The most ticks and threads that one picture shows.
-const MOST_TICKS: u32 = 2000;
+const MOST_TICKS_SHOWN: u32 = 2000;
 
-pub(crate) const MOST_THREADS: usize = 100;
+pub(crate) const MOST_THREADS_SHOWN: usize = 100;
 
 fn first_tick(work: &Work, from: u32) -> u32
     ensures { result ≡ first_tick work.now from }
@@ -22,13 +22,13 @@ pub(crate) fn last_tick(work: &Work, from: u32, to: u32) -> u32
     ensures { result ≡ last_tick work.now from to }
 {
     to.min(work.limit)
-        .min(first_tick(work, from).saturating_add(MOST_TICKS))
+        .min(first_tick(work, from).saturating_add(MOST_TICKS_SHOWN))
 }
 
 fn rows(work: &Work) -> u16
     ensures { result ≡ rows work.now }
 {
-    work.threads.items().len().min(MOST_THREADS) as u16
+    work.threads.items().len().min(MOST_THREADS_SHOWN) as u16
 }
 
 /// The frame of the ticks from `from` to `to`: as far as the run goes, and of these the first 2,000, and the first 100 threads.

@@ -6,7 +6,7 @@ ghost use Rattle.sd_viewer.specs.Drawings.{asks_past, left_line, counted, end_li
 
 use crate::drawings::Drawing;
 use crate::forms::GREATEST_LIMIT;
-use crate::frames::{MOST_THREADS, last_tick};
+use crate::frames::{MOST_THREADS_SHOWN, last_tick};
 use sd_story::{Selection, has_thread};
 use sd_text::put_number;
 use sd_types::Work;
@@ -107,8 +107,8 @@ fn put_threads_line(work: &Work, out: &mut Vec<u8>) -> Result<(), AllocError>
     ensures { OnOk result (out.new.items ≡ out.old.items ++ threads_line work.now) }
 {
     let threads = work.threads.items().len();
-    if MOST_THREADS < threads {
-        put_threads_words((threads - MOST_THREADS) as u64, out)
+    if MOST_THREADS_SHOWN < threads {
+        put_threads_words((threads - MOST_THREADS_SHOWN) as u64, out)
     } else {
         Ok(())
     }

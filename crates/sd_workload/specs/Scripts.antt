@@ -4,6 +4,7 @@ use Rattle.std.specs.Prelude.{ℕ, List, [], ◌∷◌, ◌++◌, length, nat_lt
 use Rattle.sd_types.specs.declared.numbers.LockId.{LockId}
 use Rattle.sd_types.specs.declared.scripts.Op.{Op}
 use Rattle.sd_types.specs.Scripts.{held_by}
+use Rattle.sd_types.specs.Limits.{most_operations}
 use Rattle.sd_script.specs.declared.faults.ScriptFault.{ScriptFault}
 use Rattle.sd_script.specs.declared.faults.ScriptFault.TheVariants.{HeldAtExit, TooLong}
 use Rattle.sd_script.specs.Faults.{op_fault}
@@ -20,7 +21,7 @@ head (op ∷ ops) = Some op
 -- The fault of one more operation behind so many, behind which these locks are held, where this one follows it. A script has at
 -- most 256 operations, and that it is too long comes before each other fault of the operation that is too many.
 unfoldable pub fault_behind : ℕ → List LockId → Op → Option Op → Option ScriptFault
-fault_behind count held op after = cond (nat_lt count 256) (op_fault count held op after) (Some TooLong)
+fault_behind count held op after = cond (nat_lt count most_operations) (op_fault count held op after) (Some TooLong)
 
 abbrev pub more_fault : List Op → Op → Option Op → Option ScriptFault
 more_fault ops op after = fault_behind (length ops) (held_by ops) op after

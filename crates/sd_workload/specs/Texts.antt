@@ -5,6 +5,7 @@ use Rattle.std.specs.Prelude.{ℕ, ◌+◌, ◌*◌, Bool, false, ◌||◌, List
 use Rattle.sd_types.specs.declared.numbers.ThreadId.{ThreadId}
 use Rattle.sd_types.specs.declared.classes.ClassParms.TheVariants as parms
 use Rattle.sd_types.specs.declared.scripts.Op.{Op}
+use Rattle.sd_types.specs.Limits.{most_operations_of_all, most_pairs, most_ticks}
 use Rattle.sd_tables.specs.declared.fault.TableFault.TheVariants.{Rows}
 use Rattle.sd_tables.specs.TableText.{Format, word_lines, ts_format, fx_format, rt_format, line_fault, has_rows, rows_in}
 use Rattle.sd_lines.specs.declared.statements.TableClass.{TableClass}
@@ -124,8 +125,8 @@ block_after d (InScript t ops) line = cond (is_end line) Outside (InScript t (op
 -- the ticks of all processors, the pairs of a thread and a lock, and the operations of all scripts
 abbrev pub is_too_many : Declarations → Bool
 is_too_many d =
-    nat_lt 200000 (unwrap_or d.limit 0 * cpu_count d) || nat_lt 65536 (length d.threads * length d.locks)
-    || nat_lt 4096 (sum_by (λ t. length t.ops) d.threads)
+    nat_lt most_ticks (unwrap_or d.limit 0 * cpu_count d) || nat_lt most_pairs (length d.threads * length d.locks)
+    || nat_lt most_operations_of_all (sum_by (λ t. length t.ops) d.threads)
 
 abbrev pub end_causes : Declarations → Causes
 end_causes d = record no_causes { syntax = is_none d.limit; limits = is_too_many d }

@@ -15,17 +15,8 @@ use crate::scripts::take_script;
 use crate::tables::take_table;
 use crate::works::work;
 use sd_declare::{Declared, Opened, WorkCause};
-use sd_types::{ThreadDecl, Work};
+use sd_types::{MOST_OPERATIONS_OF_ALL, MOST_PAIRS, MOST_TICKS, ThreadDecl, Work};
 use std::alloc::{AllocError, Global};
-
-/// The most ticks of all processors (this project's own).
-const MOST_TICKS: u64 = 200_000;
-
-/// The most pairs of a thread and a lock (this project's own).
-const MOST_PAIRS: usize = 65_536;
-
-/// The most operations of all scripts (this project's own).
-const MOST_OPS_OF_ALL: usize = 4096;
 
 // Takes a line outside blocks, which has this number, and the block that it opens, and gives the place below.
 fn take_lines(
@@ -81,7 +72,7 @@ fn is_too_many(d: &Declared) -> bool
     let limit = u64::from(d.limit.unwrap_or(0));
     MOST_TICKS < limit * cpus
         || MOST_PAIRS < d.threads.len() * d.locks.len()
-        || MOST_OPS_OF_ALL < op_count(&d.threads)
+        || MOST_OPERATIONS_OF_ALL < op_count(&d.threads)
 }
 
 // Judges the end of the input, on the line after the last, and gives the limit.

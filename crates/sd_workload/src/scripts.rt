@@ -19,11 +19,8 @@ use arrayvec::ArrayVec;
 use sd_declare::{Declared, Refusal, WorkCause, op_of};
 use sd_lines::{has_words, is_end, operation_of};
 use sd_script::{ScriptFault, fault_of, take_or_release};
-use sd_types::{ChanId, List, LockId, Op, Script, ThreadId, without_lock};
+use sd_types::{ChanId, List, LockId, MOST_OPERATIONS, Op, Script, ThreadId, without_lock};
 use std::alloc::{AllocError, Global};
-
-/// The most operations of a script (this project's own).
-const MOST_OPS: usize = 256;
 
 /// A script so far: its operations, and the locks that are held behind them.
 #[derive(Drop)]
@@ -37,7 +34,7 @@ struct OpenScript {
 fn fault_behind(count: usize, held: &[LockId], op: Op, after: Option<Op>) -> Option<ScriptFault>
     ensures { result ≡ fault_behind count held.now op after }
 {
-    if MOST_OPS <= count {
+    if MOST_OPERATIONS <= count {
         return Some(ScriptFault::TooLong);
     }
     fault_of(count as u16, held, op, after)

@@ -8,7 +8,7 @@ use Rattle.sd_state.specs.declared.states.CpuState.{CpuState}
 use Rattle.sd_state.specs.declared.states.State.{State}
 use Rattle.sd_state.specs.States.{no_cpu}
 use Rattle.sd_hand.specs.declared.acting.Actor.{Actor}
-use Rattle.sd_snapshot.specs.Told.{AreActorsOf, IsActorOf}
+use Rattle.sd_world.specs.Told.{AreActorsOf, IsActorOf}
 
 -- those of so many processors
 pub record AreFirst (s : State) (c : ℕ) (actors : List Actor) : Type 0 where

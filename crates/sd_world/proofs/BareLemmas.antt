@@ -11,9 +11,9 @@ use Rattle.sd_state.specs.States.{cpu_of}
 use Rattle.sd_machine.specs.Threads.{count_of, lock_of, open_of}
 use Rattle.sd_record.specs.Records.{ThreadRecord}
 use Rattle.sd_store.specs.Parts.{view_of}
-use Rattle.sd_turn.specs.Waiters.{Waiters, nobody, on_side}
-use Rattle.sd_shown.specs.declared.list_id.ListId.{ListId}
-use Rattle.sd_shown.specs.declared.list_id.ListId.TheVariants.{Runs, Queues, Urgent, Waits, Sleeps, Naps, Ends}
+use Rattle.sd_turnstile.specs.Waiters.{Waiters, nobody, on_side}
+use Rattle.sd_homes.specs.declared.list_id.ListId.{ListId}
+use Rattle.sd_homes.specs.declared.list_id.ListId.TheVariants.{Runs, Queues, Urgent, Waits, Sleeps, Naps, Ends}
 use Rattle.sd_homes.specs.declared.home.Home.TheVariants.{Cpu, RealTime, Chain, Sleepers}
 use Rattle.sd_homes.specs.Homes.{OfChain, OfSleepers, empty_chain, empty_cpu, empty_set, empty_sleepers, is_chan_of, is_of, with_states}
 use Rattle.sd_homes.specs.Families.{list_in}

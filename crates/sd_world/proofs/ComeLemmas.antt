@@ -29,15 +29,15 @@ use Rattle.sd_invariants.proofs.FineLemmas.{sound_law}
 use Rattle.sd_invariants.proofs.KeyLemmas.{keys_differ_law, keys_within_law}
 use Rattle.sd_invariants.proofs.Ready.{kept_reached, reached_ready}
 use Rattle.sd_invariants.proofs.RunningLemmas.{one_kept, opening_one}
-use Rattle.sd_range.proofs.All.{threads_law}
+use Rattle.sd_invariants.proofs.All.{threads_law}
 use Rattle.sd_footprint.proofs.RanLast.{reached_ran}
-use Rattle.sd_shown.specs.declared.list_id.ListId.{ListId}
-use Rattle.sd_shown.specs.declared.list_id.ListId.TheVariants.{Runs, Queues, Urgent, Waits, Sleeps, Naps, Ends}
-use Rattle.sd_shown.specs.Standing.{IsArranged, IsFree, Lists, IsKeyFor, MayCome, home_at, insert_at, list_at, list_of, look_of, record_key, record_of, stands, stands_at, with_one}
+use Rattle.sd_homes.specs.declared.list_id.ListId.{ListId}
+use Rattle.sd_homes.specs.declared.list_id.ListId.TheVariants.{Runs, Queues, Urgent, Waits, Sleeps, Naps, Ends}
+use Rattle.sd_homes.specs.Standing.{IsArranged, IsFree, Lists, IsKeyFor, MayCome, home_at, insert_at, list_at, list_of, look_of, record_key, record_of, stands, stands_at, with_one}
 use Rattle.sd_homes.specs.declared.home.Home.{Home}
 use Rattle.sd_homes.specs.Families.{home_id, list_in, putting}
 use Rattle.sd_hand.specs.Hands.{IsHeld, edit, held}
-use Rattle.sd_shown.specs.Numbers.{IsHomeOf, IsListOf}
+use Rattle.sd_homes.specs.Numbers.{IsHomeOf, IsListOf}
 use Rattle.sd_hand.specs.OneHome.{AreAllHomes, lists_with}
 use Rattle.sd_hand.specs.Shown.{IsHome, IsListThere, Shows, ShowsState}
 use Rattle.sd_hand.proofs.OneLemmas.{stands_once}

@@ -15,9 +15,9 @@ use Rattle.sd_machine.proofs.ShapeLemmas.{IsShaped}
 use Rattle.sd_store.specs.declared.parts.Part.{Part}
 use Rattle.sd_store.specs.declared.parts.Part.TheVariants.{Home as HomePart, Thread}
 use Rattle.sd_store.specs.Parts.{view_of}
-use Rattle.sd_shown.specs.declared.list_id.ListId.{ListId}
-use Rattle.sd_shown.specs.Standing.{Lists, home_at, listed, look_of, stands}
-use Rattle.sd_shown.proofs.StandingLemmas.{lists-more, stands_elsewhere}
+use Rattle.sd_homes.specs.declared.list_id.ListId.{ListId}
+use Rattle.sd_homes.specs.Standing.{Lists, home_at, listed, look_of, stands}
+use Rattle.sd_homes.proofs.StandingLemmas.{lists-more, stands_elsewhere}
 use Rattle.sd_homes.specs.declared.home.Home.{Home}
 use Rattle.sd_homes.specs.declared.home.Home.TheVariants.{Cpu, RealTime, Chain, Sleepers}
 use Rattle.sd_homes.specs.Families.{home_id, list_in}
@@ -25,7 +25,7 @@ use Rattle.sd_hand.specs.Frames.{Stays}
 use Rattle.sd_hand.specs.Shown.{PartsShown}
 use Rattle.sd_footprint.specs.Changed.{ChangesOnly, HasHome, IsNamed, MovesWithin}
 use Rattle.sd_world.specs.Frames.{IsElsewhere}
-use Rattle.sd_shown.specs.Standing.{home_of}
+use Rattle.sd_homes.specs.Standing.{home_of}
 
 pub none_past : {X : Type 0} (xs : List X) (t : ℕ) → length xs ≤ t → slice_get xs t ≡ None
 none_past [] t past = refl

@@ -24,8 +24,8 @@ use Rattle.sd_store.specs.declared.parts.Part.{Part}
 use Rattle.sd_store.specs.declared.parts.Part.TheVariants as part
 use Rattle.sd_store.specs.Parts.{IsAmong, cpu_part}
 use Rattle.sd_step.specs.Touched.{after_parts}
-use Rattle.sd_shown.specs.Numbers.{IsHomeOf}
-use Rattle.sd_shown.specs.Standing.{home_at, home_of, list_of}
+use Rattle.sd_homes.specs.Numbers.{IsHomeOf}
+use Rattle.sd_homes.specs.Standing.{home_at, home_of, list_of}
 use Rattle.sd_homes.specs.declared.home.Home.{Home}
 use Rattle.sd_hand.specs.declared.acting.Acting.{Acting}
 use Rattle.sd_hand.specs.declared.acting.Actor.{Actor}
@@ -40,11 +40,11 @@ use Rattle.sd_footprint.specs.There.{IsThere, PartsAreThere, StandsThere}
 use Rattle.sd_footprint.proofs.ThereLemmas.{known_reached, stands_there}
 use Rattle.sd_footprint.proofs.TouchedThere.{parts_there}
 use Rattle.sd_footprint.proofs.RanLast.{reached_changes}
-use Rattle.sd_snapshot.specs.Told.{AreActorsOf, IsActorOf}
+use Rattle.sd_world.specs.Told.{AreActorsOf, IsActorOf}
 use Rattle.sd_world.specs.declared.plain.PlainWorld.{PlainWorld}
 use Rattle.sd_world.specs.Entries.{CanEnter}
 use Rattle.sd_world.specs.Plain.{HasStood, Stands, StandsInRun, told}
-use Rattle.sd_world.specs.Worlds.{most_entries}
+use Rattle.sd_types.specs.Limits.{most_entries}
 use Rattle.sd_world.proofs.ComeLemmas.{one_list}
 
 some_true : {A : Type 0} (o : Option A) (a : A) → o ≡ Some a → is_some o ≡ true

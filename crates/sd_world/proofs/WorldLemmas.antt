@@ -15,7 +15,7 @@ use Rattle.sd_machine.specs.Choosing.{hint_shown}
 use Rattle.sd_machine.specs.Runs.{IsRun, final}
 use Rattle.sd_invariants.proofs.Whole.{fit_reached}
 use Rattle.sd_hand.specs.OneHome.{AreAllHomes}
-use Rattle.sd_snapshot.specs.Told.{AreActorsOf, IsActorOf}
+use Rattle.sd_world.specs.Told.{AreActorsOf, IsActorOf}
 use Rattle.sd_footprint.specs.There.{IsThere}
 use Rattle.sd_world.specs.declared.plain.PlainWorld.{PlainWorld}
 use Rattle.sd_world.specs.declared.world.Behind.{Behind}

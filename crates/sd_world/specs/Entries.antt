@@ -15,7 +15,7 @@ use Rattle.sd_step.specs.Touched.{after_parts}
 use Rattle.sd_hand.specs.declared.acting.Acting.{Acting}
 use Rattle.sd_hand.specs.declared.acting.Actor.{Actor}
 use Rattle.sd_hand.specs.Acting.{IsShown, has_part}
-use Rattle.sd_world.specs.Worlds.{most_entries}
+use Rattle.sd_types.specs.Limits.{most_entries}
 
 -- the state to which these entries lead
 abbrev pub led_to : Work → List Entry → State

@@ -5,9 +5,9 @@ use Rattle.std.specs.Prelude.{◌≡◌, ℕ, ◌+◌, ◌<◌, nat_lt, List, []
 use Rattle.sd_types.specs.declared.numbers.HomeId.{HomeId}
 use Rattle.sd_types.specs.declared.numbers.HomeId.TheVariants as id
 use Rattle.sd_state.specs.declared.states.State.{State}
-use Rattle.sd_shown.specs.Standing.{ByNumber, look_of}
+use Rattle.sd_homes.specs.Standing.{ByNumber, look_of}
 use Rattle.sd_homes.specs.declared.home.Home.{Home}
-use Rattle.sd_shown.specs.declared.list_id.ListId.{ListId}
+use Rattle.sd_homes.specs.declared.list_id.ListId.{ListId}
 use Rattle.sd_homes.specs.Families.{home_id, list_in}
 use Rattle.sd_hand.specs.Hands.{IsHeld}
 use Rattle.sd_hand.specs.Shown.{PartsShown, Shows}

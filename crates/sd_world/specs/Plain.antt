@@ -14,7 +14,7 @@ use Rattle.sd_state.specs.States.{cpu_of}
 use Rattle.sd_machine.specs.Choosing.{hint_shown}
 use Rattle.sd_machine.specs.Threads.{best_unbound, runner}
 use Rattle.sd_hand.specs.OneHome.{AreAllHomes, StandsInHomes}
-use Rattle.sd_snapshot.specs.Told.{AreActorsOf, IsActorOf}
+use Rattle.sd_world.specs.Told.{AreActorsOf, IsActorOf}
 use Rattle.sd_types.specs.declared.events.Duty.TheVariants.{Nothing}
 use Rattle.sd_hand.specs.declared.acting.Acting.{Acting}
 use Rattle.sd_hand.specs.declared.acting.Actor.{Actor}

@@ -12,6 +12,7 @@ use Rattle.sd_types.specs.declared.events.Entry.{Entry}
 use Rattle.sd_types.specs.declared.events.Stop.{Stop}
 use Rattle.sd_types.specs.declared.events.Stop.TheVariants.{Full, Memory}
 use Rattle.sd_types.specs.declared.works.Work.{Work}
+use Rattle.sd_types.specs.Limits.{most_entries}
 use Rattle.sd_state.specs.declared.states.State.{State}
 use Rattle.sd_state.specs.Opening.{opening}
 use Rattle.sd_state.specs.States.{cpu_of}
@@ -23,9 +24,9 @@ use Rattle.sd_store.specs.declared.parts.Part.{Part}
 use Rattle.sd_store.specs.declared.parts.Part.TheVariants as part
 use Rattle.sd_store.specs.Parts.{IsAmong}
 use Rattle.sd_step.specs.Touched.{after_parts}
-use Rattle.sd_shown.specs.Numbers.{IsHomeOf}
+use Rattle.sd_homes.specs.Numbers.{IsHomeOf}
 use Rattle.sd_homes.specs.declared.home.Home.{Home}
-use Rattle.sd_shown.specs.declared.list_id.ListId.{ListId}
+use Rattle.sd_homes.specs.declared.list_id.ListId.{ListId}
 use Rattle.sd_homes.specs.Families.{has, home_id, list_in}
 use Rattle.sd_homes.specs.Kinds.{IsListed}
 use Rattle.sd_hand.specs.declared.acting.Acting.{Acting}
@@ -37,9 +38,6 @@ use Rattle.sd_world.specs.declared.world.Take.TheVariants.{Taken, Busy}
 use Rattle.sd_world.specs.declared.world.ThreadLock.{ThreadLock}
 use Rattle.sd_world.specs.declared.world.ThreadLock.TheVariants as thread
 use Rattle.sd_world.specs.declared.world.Behind.{Behind}
-
-abbrev pub most_entries : ℕ
-most_entries = 2 ^ 40
 
 -- which table it is, where it is one; the work; whether nobody else makes entries; whether it has all homes in its hand from the first; the processor that acts, with its
 -- hand; the entries that this world made, and the run that it has seen; room for entries; how often it was stopped, how often it read

@@ -9,9 +9,8 @@ ghost use Rattle.sd_world.specs.Homes.{IsBare, IsNumber, sizes_of};
 
 use crate::copies::copied;
 use arrayvec::ArrayVec;
-use sd_boxed::Boxed;
+use sd_boxq::{Boxed, Four};
 use sd_flat::cpu_of;
-use sd_four::Four;
 use sd_homes::{ChainHome, CpuHome, Home, RealTimeHome, SleepersHome};
 use sd_state::{CpuState, LockState, State};
 use sd_store::CpuView;

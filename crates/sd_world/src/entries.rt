@@ -6,10 +6,7 @@ ghost use Rattle.sd_world.specs.Worlds.{HasRoomFor};
 
 use sd_hand::{Acting, Actor};
 use sd_step::after;
-use sd_types::{Entry, Event, Hints, Stop, Work};
-
-/// A log that holds as many entries takes no more: 2^40.
-pub const MOST_ENTRIES: usize = 1_099_511_627_776;
+use sd_types::{Entry, Event, Hints, MOST_ENTRIES, Stop, Work};
 
 /// Makes room in the log for one entry. `Full` exactly where it has 2^40 entries or more.
 pub fn reserve_entry(entries: &mut Vec<Entry>) -> Result<(), Stop>

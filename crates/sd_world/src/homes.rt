@@ -3,7 +3,7 @@
 ghost use Rattle.std.specs.Prelude.{◌≡◌, ℕ, ◌≤◌, ◌<◌, ◌^◌, ◌⊎◌, None, length, IfErr, IfNone, IfOk, IfSome, MatchOption, OnOk};
 ghost use Rattle.sd_machine.specs.Runs.{IsReached};
 ghost use Rattle.sd_homes.specs.Families.{home_id, putting};
-ghost use Rattle.sd_shown.specs.Standing.{home_at, record_of};
+ghost use Rattle.sd_homes.specs.Standing.{home_at, record_of};
 ghost use Rattle.sd_hand.specs.Hands.{HoldsMore, IsHeld, edit, held};
 ghost use Rattle.sd_hand.specs.OneHome.{AreAllHomes, lists_with};
 ghost use Rattle.sd_hand.specs.Shown.{ShowsState};
@@ -13,9 +13,8 @@ ghost use Rattle.sd_world.specs.Homes.{AreAllThere, AreBare, IsNumber, IsNumberA
 use crate::bare::bare_home;
 use crate::copies::copied;
 use sd_hand::{Guide, Hand};
-use sd_homes::{Home, Traveller, home_at, list_at, record_key};
+use sd_homes::{Home, ListId, Traveller, home_at, list_at, record_key};
 use sd_record::Record;
-use sd_shown::ListId;
 use sd_state::{State, ThreadState};
 use sd_types::{CpuId, HomeId, SetId, ThreadBody, ThreadId, Work};
 use std::alloc::{AllocError, Global};

@@ -4,17 +4,16 @@
 ghost use Rattle.std.specs.Prelude.{◌≡◌, ◌≤◌, [], length, IfOk};
 ghost use Rattle.sd_machine.specs.Runs.{IsRun, final};
 ghost use Rattle.sd_state.specs.Opening.{opening};
-ghost use Rattle.sd_snapshot.specs.Told.{AreActorsOf, IsActorOf};
+ghost use Rattle.sd_world.specs.Told.{AreActorsOf, IsActorOf};
 ghost use Rattle.sd_world.specs.Plain.{HasStood, Stands, told};
 
 use crate::homes::Homes;
+use crate::state_of;
 use crate::world::Behind;
 use sd_flat::cpu_of;
 use sd_hand::{Acting, Actor};
-use sd_homes::list_at;
+use sd_homes::{ListId, list_at};
 use sd_opening::opening;
-use sd_shown::ListId;
-use sd_snapshot::state_of;
 use sd_state::State;
 use sd_types::{CpuId, Entry, Work};
 use std::alloc::{AllocError, Global};

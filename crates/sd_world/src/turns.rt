@@ -1,21 +1,20 @@
 //! A run on homes as a world: what a processor reads of others, and the entry that it makes.
 
-ghost use Rattle.std.specs.Prelude.{◌≡◌, ◌++◌, ◌<◌, ◌≤◌, ◌∷◌, ◌==◌, [], Some, filter, length, map, nat_le, not, vec_capacity, vec_len, MatchOption};
+ghost use Rattle.std.specs.Prelude.{◌≡◌, ◌++◌, ◌<◌, ◌≤◌, ◌∷◌, [], Some, length, map, nat_le, vec_capacity, vec_len, MatchOption};
 ghost use Rattle.std.specs.List.{list_all};
-ghost use Rattle.sd_types.specs.declared.events.Which.TheVariants.{Queued};
 ghost use Rattle.sd_machine.specs.Choosing.{hint_shown};
 ghost use Rattle.sd_machine.specs.Events.{may_tick, next};
 ghost use Rattle.sd_world.specs.Entries.{CanEnter, Enters};
 ghost use Rattle.sd_world.specs.Plain.{AreCpus, HasNoted, IsLess, NoneLess, Stands, told};
 
-use crate::entries::{MOST_ENTRIES, enter, reserve_entry};
+use crate::entries::{enter, reserve_entry};
 use crate::hints::shown_hint;
 use crate::plain::PlainWorld;
 use crate::world::{Behind, Take, ThreadLock, World};
 use arrayvec::ArrayVec;
 use sd_dispatcher::Reading;
 use sd_hand::{Acting, Actor};
-use sd_types::{CpuId, Event, Hints, HomeId, Stop, ThreadId, Which, Work};
+use sd_types::{CpuId, Event, Hints, HomeId, MOST_ENTRIES, Stop, ThreadId, Which, Work};
 
 /// The first processor that has counted less.
 fn first_behind(actors: &[Actor], count: u32) -> Option<Behind>
@@ -76,22 +75,6 @@ impl<'a> PlainWorld<'a> {
             numbers.push(self.hint(work, which, *d));
         }
         numbers
-    }
-
-    /// Appends the numbers that the others of these processors show of their queues, in the order of the processors.
-    #[inline(always)]
-    pub fn read_queues(&self, work: &Work, c: CpuId, cpus: &[CpuId], numbers: &mut ArrayVec<u8, 64>)
-        requires stands { Stands work.now self.now }
-        requires fits { length cpus.now ≤ 64 }
-        requires there { AreCpus work.now cpus.now }
-        requires empty { numbers.old.items ≡ [] }
-        ensures { numbers.new.items ≡ map (hint_shown (told work.now self.now) Queued) (filter (λ d. not (d.0 == c.0)) cpus.now) }
-    {
-        for d in cpus {
-            if d.0 != c.0 {
-                numbers.push(self.hint(work, Which::Queued, *d));
-            }
-        }
     }
 
     /// The processor that acts may tick: its count is below the limit, and no processor's is below it.

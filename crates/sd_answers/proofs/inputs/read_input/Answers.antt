@@ -2,7 +2,8 @@ use Rattle.std.proofs.Common.{◌≡◌, List, ℕ, Err, length, sym, ap, subst,
 use Rattle.std.specs.Io.KnownBytes.{Consumes}
 use Rattle.sd_answers.specs.Answers.{read_answer, work_answer}
 use Rattle.sd_answers.specs.StreamChanges.{change_of}
-use Rattle.sd_answers.specs.Inputs.{HasRead, most_bytes}
+use Rattle.sd_types.specs.Limits.{most_bytes}
+use Rattle.sd_answers.specs.Inputs.{HasRead}
 use Rattle.sd_answers.proofs.InputLemmas.{unread_of, unspelled_of, reading_exit}
 use Rattle.sd_answers.proofs.inputs.read_input.Goals as goal
 

@@ -1,7 +1,7 @@
 use Rattle.std.proofs.Common.{Err, sym, subst}
 use Rattle.sd_store.specs.Parts.{thread_part}
 use Rattle.sd_dispatcher.specs.Touched.{put_parts_if}
-use Rattle.sd_sets.specs.Touched.{bind_parts, rebound_parts}
+use Rattle.sd_priocntl.specs.SetsTouched.{bind_parts, rebound_parts}
 use Rattle.sd_cpu.specs.Has.{Has}
 use Rattle.sd_cpu.proofs.HasLemmas.{also, also_all, lacks_first}
 use Rattle.sd_cpu.proofs.touching.bind.Goals as goal

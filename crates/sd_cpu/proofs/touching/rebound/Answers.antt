@@ -2,7 +2,7 @@ use Rattle.std.proofs.Common.{Option, sym, subst}
 use Rattle.sd_types.specs.declared.numbers.CpuId.{CpuId}
 use Rattle.sd_state.specs.States.{thread_of}
 use Rattle.sd_store.specs.Parts.{bound_parts, cpu_part}
-use Rattle.sd_sets.specs.Touched.{rebound_parts}
+use Rattle.sd_priocntl.specs.SetsTouched.{rebound_parts}
 use Rattle.sd_cpu.specs.Has.{Has}
 use Rattle.sd_cpu.proofs.HasLemmas.{also, runs_is}
 use Rattle.sd_cpu.proofs.touching.rebound.Goals as goal

@@ -1,6 +1,6 @@
 use Rattle.std.proofs.Common.{◌≡◌, ◌≤◌, Some, take}
 use Rattle.std.specs.List.{count_by}
-use Rattle.sd_ordered.specs.Order.{is_below, key_in}
+use Rattle.sd_encoding.specs.Order.{is_below, key_in}
 use Rattle.sd_encoding.proofs.ranks.duties_below.Given as goal
 
 abbrev pub invariant-loop-cpu : goal.invariant-loop-cpu

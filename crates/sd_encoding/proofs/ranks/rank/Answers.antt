@@ -1,5 +1,5 @@
 use Rattle.std.proofs.Common.{◌≡◌, ◌∙◌, map}
-use Rattle.sd_ordered.specs.Ranks.{ranked_cpu, ranked_thread}
+use Rattle.sd_encoding.specs.Ranks.{ranked_cpu, ranked_thread}
 use Rattle.sd_encoding.proofs.RankLemmas.{with_ranks, places_ranked, duties_ranked}
 use Rattle.sd_encoding.proofs.ranks.rank.Goals as goal
 

@@ -1,7 +1,7 @@
 use Rattle.std.proofs.Common.{get_or, refl}
 use Rattle.sd_state.specs.States.{no_cpu}
 use Rattle.sd_state.specs.declared.states.CpuState.{CpuState}
-use Rattle.sd_ordered.specs.Ranks.{ranked_duty}
+use Rattle.sd_encoding.specs.Ranks.{ranked_duty}
 use Rattle.sd_encoding.proofs.RankLemmas.{mapped_more}
 use Rattle.sd_encoding.proofs.ranks.ranked_duties.Goals as goal
 

@@ -1,5 +1,5 @@
 use Rattle.std.proofs.Common.{◌≡◌, take, map}
-use Rattle.sd_ordered.specs.Ranks.{ranked_duty}
+use Rattle.sd_encoding.specs.Ranks.{ranked_duty}
 use Rattle.sd_encoding.proofs.ranks.ranked_duties.Given as goal
 
 abbrev pub invariant-loop-cpu : goal.invariant-loop-cpu

@@ -1,5 +1,5 @@
 use Rattle.sd_state.specs.declared.states.ThreadState.{ThreadState}
-use Rattle.sd_ordered.specs.Ranks.{ranked_place}
+use Rattle.sd_encoding.specs.Ranks.{ranked_place}
 use Rattle.sd_encoding.proofs.RankLemmas.{mapped_more}
 use Rattle.sd_encoding.proofs.ranks.ranked_places.Goals as goal
 

@@ -1,5 +1,5 @@
 use Rattle.std.proofs.Common.{◌≡◌, take, map}
-use Rattle.sd_ordered.specs.Ranks.{ranked_place}
+use Rattle.sd_encoding.specs.Ranks.{ranked_place}
 use Rattle.sd_encoding.proofs.ranks.ranked_places.Given as goal
 
 abbrev pub invariant-loop-thread : goal.invariant-loop-thread

@@ -1,6 +1,6 @@
 use Rattle.std.proofs.Common.{◌≡◌, ℕ, ◌+◌, ◌<◌, List, ◌++◌, length, map, drop, ap, ◌∙◌, arith}
 use Rattle.std.specs.List.{slice_split}
-use Rattle.sd_spelling.specs.Reading.{byte_in, is_comma}
+use Rattle.sd_entries.specs.Reading.{byte_in, is_comma}
 use Rattle.sd_entry_reader.proofs.CommaLemmas.{number_more, number_inside, number_last, numbers_full}
 use Rattle.sd_entry_reader.proofs.read.numbers_in.Goals as goal
 

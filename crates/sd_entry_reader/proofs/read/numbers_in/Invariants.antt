@@ -1,6 +1,6 @@
 use Rattle.std.proofs.Common.{◌≡◌, ◌-◌, ◌≤◌, ◌++◌, length, drop, map}
 use Rattle.std.specs.List.{slice_split}
-use Rattle.sd_spelling.specs.Reading.{byte_in, is_comma}
+use Rattle.sd_entries.specs.Reading.{byte_in, is_comma}
 use Rattle.sd_entry_reader.proofs.read.numbers_in.Given as goal
 
 -- the numbers so far and those of what is left are all

@@ -1,6 +1,6 @@
 use Rattle.std.proofs.Common.{◌≡◌, ◌-◌, drop}
 use Rattle.sd_text.specs.Words.{words_of}
-use Rattle.sd_spelling.specs.Reading.{at}
+use Rattle.sd_entries.specs.Reading.{at}
 use Rattle.sd_entry_reader.proofs.words.word_at.Given as goal
 
 -- the words that are left are those of the line

@@ -1,14 +1,7 @@
+use Rattle.sd_finder.specs.Answered.{IsAnswered, IsSearch}
+use Rattle.sd_finder.proofs.SaidLemmas.{said}
 use Rattle.sd_finder.proofs.answering.answer.Goals as goal
 
 pub returns : goal.returns
-returns g c = record {
-  graph = c.in_ok-graph.graph;
-  search = c.in_ok-graph.ensures;
-  finding = c.in_ok-finding.finding;
-  is = c.in_ok-finding.ensures.finding;
-  fair = c.in_ok-finding.ensures.fair;
-  shortest = c.in_ok-finding.ensures.shortest;
-  short = c.in_ok-text.ensures.short;
-  verdict = c.verdict_of-verdict.ensures;
-  written = rw c.len-many.ensures at c.in_ok-text.ensures.text;
-}
+returns g c =
+    said (λ m. IsSearch c.args.work.now m c.in_ok-graph.graph) (IsAnswered c.args.work.now c.args.question) c.answer_from.result c.args.most c.answer_from.ensures c.in_ok-graph.ensures

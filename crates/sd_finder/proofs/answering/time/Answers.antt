@@ -1,12 +1,7 @@
+use Rattle.sd_finder.specs.Answered.{IsTimed, IsSearch}
+use Rattle.sd_finder.proofs.SaidLemmas.{said}
 use Rattle.sd_finder.proofs.answering.time.Goals as goal
 
 pub returns : goal.returns
-returns g c = record {
-  graph = c.in_ok-graph.graph;
-  search = c.in_ok-graph.ensures;
-  timing = c.in_ok-timing.timing;
-  is = c.in_ok-timing.ensures;
-  short = c.in_ok-text.ensures.short;
-  verdict = c.timing_verdict-verdict.ensures;
-  written = rw c.len-many.ensures at c.in_ok-text.ensures.text;
-}
+returns g c =
+    said (λ m. IsSearch c.args.work.now m c.in_ok-graph.graph) (IsTimed c.args.work.now c.args.thread) c.time_from.result c.args.most c.time_from.ensures c.in_ok-graph.ensures

@@ -1,13 +1,7 @@
+use Rattle.sd_finder.specs.Answered.{IsWaited, IsSearch}
+use Rattle.sd_finder.proofs.SaidLemmas.{said}
 use Rattle.sd_finder.proofs.answering.wait.Goals as goal
 
 pub returns : goal.returns
-returns g c = record {
-  graph = c.in_ok-graph.graph;
-  search = c.in_ok-graph.ensures;
-  longest = c.in_ok-longest.longest;
-  is = c.in_ok-longest.ensures.longest;
-  left = c.in_ok-longest.ensures.open;
-  short = c.in_ok-text.ensures.short;
-  verdict = c.longest_verdict-verdict.ensures;
-  written = rw c.len-many.ensures at c.in_ok-text.ensures.text;
-}
+returns g c =
+    said (λ m. IsSearch c.args.work.now m c.in_ok-graph.graph) (IsWaited c.args.work.now c.args.thread) c.wait_from.result c.args.most c.wait_from.ensures c.in_ok-graph.ensures

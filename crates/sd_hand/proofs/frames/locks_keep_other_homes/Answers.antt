@@ -1,5 +1,5 @@
 use Rattle.sd_machine.specs.Threads.{with_count, with_lock}
-use Rattle.sd_shown.specs.Standing.{look_of}
+use Rattle.sd_homes.specs.Standing.{look_of}
 use Rattle.sd_hand.proofs.FrameLemmas.{open_stays}
 use Rattle.sd_hand.proofs.MoveLemmas.{of_state}
 use Rattle.sd_hand.proofs.PartLemmas.{count_beside, lock_beside}

@@ -2,7 +2,7 @@ use Rattle.std.proofs.Common.{refl}
 use Rattle.sd_state.specs.States.{cpu_of, with_cpu}
 use Rattle.sd_machine.specs.Changes.{bind, close, join, unbind, with_body}
 use Rattle.sd_machine.specs.Threads.{with_open}
-use Rattle.sd_shown.specs.Standing.{look_of}
+use Rattle.sd_homes.specs.Standing.{look_of}
 use Rattle.sd_hand.proofs.FrameLemmas.{body_stays, cpu_stays, open_stays}
 use Rattle.sd_hand.proofs.MoveLemmas.{of_state}
 use Rattle.sd_hand.proofs.PartLemmas.{same_parts}

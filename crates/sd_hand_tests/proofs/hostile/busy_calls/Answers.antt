@@ -1,5 +1,5 @@
 use Rattle.std.proofs.Common.{sym, subst}
-use Rattle.sd_hostile.specs.Plan.{ArePossible}
+use Rattle.sd_hand_tests.specs.Plan.{ArePossible}
 use Rattle.sd_hand_tests.proofs.ReadyLemmas.{possible_more}
 use Rattle.sd_hand_tests.proofs.hostile.busy_calls.Goals as goal
 

@@ -1,4 +1,4 @@
-use Rattle.sd_hostile.specs.Plan.{ArePossible}
+use Rattle.sd_hand_tests.specs.Plan.{ArePossible}
 use Rattle.sd_hand_tests.proofs.hostile.troubles.Given as goal
 
 abbrev pub invariant-loop-call : goal.invariant-loop-call

@@ -1,5 +1,5 @@
 use Rattle.std.proofs.Common.{◌≡◌, option_map}
-use Rattle.sd_shown.specs.Standing.{least_to_age}
+use Rattle.sd_homes.specs.Standing.{least_to_age}
 use Rattle.sd_homes.proofs.AgeLemmas.{lesser}
 use Rattle.sd_homes.proofs.cpu.least_to_age.Given as goal
 

@@ -1,8 +1,8 @@
 use Rattle.std.proofs.Common.{List, ◌∙◌, sym, subst, arith}
 use Rattle.std.proofs.lemmas.List.{length-map}
 use Rattle.std.proofs.lemmas.Option.{same_Some}
-use Rattle.sd_waits.specs.declared.edges.Edge.{Edge}
-use Rattle.sd_waits.specs.Edges.{IsEdge, rows_of}
+use Rattle.sd_longest.specs.declared.edges.Edge.{Edge}
+use Rattle.sd_longest.specs.Edges.{IsEdge, rows_of}
 use Rattle.sd_longest.specs.Heights.{IsHeight}
 use Rattle.sd_longest.proofs.heights.height_at.Goals as goal
 

@@ -1,7 +1,7 @@
 use Rattle.std.proofs.Common.{◌≡◌, ◌<◌, ℕ, List, Some}
 use Rattle.std.specs.Prelude.{slice_get, slice_index}
-use Rattle.sd_waits.specs.declared.edges.Edge.{Edge}
-use Rattle.sd_waits.specs.Edges.{rows_of}
+use Rattle.sd_longest.specs.declared.edges.Edge.{Edge}
+use Rattle.sd_longest.specs.Edges.{rows_of}
 use Rattle.sd_longest.specs.Heights.{IsHeight}
 use Rattle.sd_longest.proofs.heights.is_stable.Given as goal
 

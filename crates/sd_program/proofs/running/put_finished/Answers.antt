@@ -37,5 +37,5 @@ returns-clause-ran g c =
     let is = subst (λ (es : List Entry). IsTheRun w (mode_of c.args.form) es) (sym c.deref.ensures.value) c.requires.run in
     let p = c.in_ok-put_run.ensures in
     let ends = c.requires.state ∙ ap (final w (opening w)) (sym c.deref.ensures.value) in
-    let none = nothing_in (cycles_of c.args.run.now.state) (λ some. false≢true (sym c.if-blocked.false ∙ c.in_ok-blocked.ensures.1 some)) in
+    let none = nothing_in (cycles_of c.args.run.now.state) (λ some. false≢true (sym c.if-blocked.false ∙ c.is_blocked-blocked.ensures.1 some)) in
     (c.deref.result.now, is, p.ok, p.no_fault (λ e. cc), is_open w c.deref.result.now is.run (subst (λ (s : State). cycles_of s ≡ []) ends none))

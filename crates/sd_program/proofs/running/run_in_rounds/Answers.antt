@@ -10,7 +10,7 @@ use Rattle.sd_hand.specs.OneHome.{StandsInHomes}
 use Rattle.sd_rounds.specs.declared.orders.Turns.{Turns}
 use Rattle.sd_rounds.specs.declared.rounds.Finished.{Finished}
 use Rattle.sd_rounds.specs.Orders.{orders_of}
-use Rattle.sd_certified.proofs.HintLemmas.{serial_bytes}
+use Rattle.sd_program.proofs.HintLemmas.{serial_bytes}
 use Rattle.sd_program.specs.declared.forms.Mode.{Mode}
 use Rattle.sd_program.specs.declared.forms.Mode.TheVariants.{Rounds}
 use Rattle.sd_program.specs.RunAnswers.{IsLong}

@@ -3,7 +3,7 @@ use Rattle.std.specs.List.{All}
 use Rattle.sd_types.specs.declared.events.Entry.{Entry}
 use Rattle.std.proofs.Common.{List}
 use Rattle.sd_machine.specs.Runs.{IsComplete}
-use Rattle.sd_certified.specs.Certified.{HasBytes}
+use Rattle.sd_program.specs.Certified.{HasBytes}
 use Rattle.sd_program.specs.declared.forms.Mode.TheVariants.{Threads}
 use Rattle.sd_program.proofs.TheRun.{is_the_run}
 use Rattle.sd_program.proofs.running.run_side_by_side.Goals as goal

@@ -10,8 +10,8 @@ use Rattle.sd_program.proofs.writing.put_accounts.Goals as goal
 pub returns-in_err-accounts : goal.returns-in_err-accounts
 returns-in_err-accounts g c = Puts-exit _ _ _ _ _ _ _ c.from_residual.ensures.1 (Puts-memory _ _ _)
 
-pub returns-in_err-write_accounts : goal.returns-in_err-write_accounts
-returns-in_err-write_accounts g c = Puts-exit _ _ _ _ _ _ _ c.from_residual-in_err-write_accounts.ensures.1 (Puts-memory _ _ _)
+pub returns-in_err-write_accounts_with : goal.returns-in_err-write_accounts_with
+returns-in_err-write_accounts_with g c = Puts-exit _ _ _ _ _ _ _ c.from_residual-in_err-write_accounts_with.ensures.1 (Puts-memory _ _ _)
 
 pub put_text-requires : goal.put_text-requires
 put_text-requires g c =
@@ -19,5 +19,5 @@ put_text-requires g c =
     let es = c.args.entries.now in
     let s = c.args.s.now in
     let accounts = accounts_text w es s ++ cycles_text w s in
-    let text = c.deref.ensures.value ∙ c.in_ok-write_accounts.ensures.ok es c.in_ok-accounts.ensures ∙ ap (λ (xs : List ℕ). xs ++ accounts) c.new-text.ensures.items in
+    let text = c.deref.ensures.value ∙ c.in_ok-write_accounts_with.ensures.ok es c.in_ok-accounts.ensures ∙ ap (λ (xs : List ℕ). xs ++ accounts) c.new-text.ensures.items in
     subst EndsLine (sym text) (EndsLine-append (accounts_text w es s) (cycles_text w s) (accounts-ends w es s) (cycles-ends w s))

@@ -26,6 +26,7 @@ loop-c-preserved c =
           omega arith;
       least = subst (λ z. IsFloor w z c.take_turn.new.floor) (sym (told_more w x y t e.entries))
           (floor_kept w (told w x) (length x.entries.items) (get_or order l.c-index (record { 0 = 0 })) c.take_turn.new.floor (reached w x l.invariant.stands) c.take_turn.ensures.least);
+      searched = e.searched;
       begins = λ some. let so_far = l.invariant.grown in let room = e.begins in omega arith;
     }
 

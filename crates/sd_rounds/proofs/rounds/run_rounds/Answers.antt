@@ -25,6 +25,7 @@ rounds-init c =
       stands = c.in-Ok.ensures.stands;
       work = c.in-Ok.ensures.work;
       room = omega (arith, ap length none);
+      searched = tt;
     }
 
 pub returns-in-Err-clause-full : goal.returns-in-Err-clause-full
@@ -57,6 +58,7 @@ rounds-preserved c =
       stands = e.stands;
       work = e.work;
       room = e.room;
+      searched = e.searched;
     }
 
 -- the run that was made goes in rounds

@@ -1,8 +1,9 @@
 use Rattle.std.proofs.Common.{◌≡◌, ℕ, ◌-◌, ◌≤◌, length}
-use Rattle.sd_world.specs.Plain.{Stands}
-use Rattle.sd_world.specs.declared.entries.TheConstants.{MOST_ENTRIES}
+use Rattle.sd_types.specs.declared.limits.TheConstants.{MOST_ENTRIES}
+use Rattle.sd_world.specs.Plain.{Stands, told}
 use Rattle.sd_rounds.specs.Orders.{orders_of, generator_at}
 use Rattle.sd_rounds.specs.Rounds.{HasRounds}
+use Rattle.sd_rounds.specs.Searched.{IsSearched}
 use Rattle.sd_rounds.proofs.rounds.run_rounds.Given as goal
 
 abbrev pub invariant-rounds : goal.invariant-rounds
@@ -13,6 +14,7 @@ invariant-rounds l = record {
   stands : Stands l.work l.world;
   work : l.world.work.now ≡ l.work;
   room : length l.world.entries.items ≤ MOST_ENTRIES;
+  searched : IsSearched (told l.work l.world) l.searched;
 }
 
 -- each round that goes on adds an entry, and a log holds at most MOST_ENTRIES

@@ -1,7 +1,8 @@
 use Rattle.std.proofs.Common.{◌≡◌, ◌-◌, ◌≤◌, length}
-use Rattle.sd_world.specs.Plain.{Stands}
+use Rattle.sd_world.specs.Plain.{Stands, told}
 use Rattle.sd_world.specs.Worlds.{Begins}
-use Rattle.sd_world.specs.declared.entries.TheConstants.{MOST_ENTRIES}
+use Rattle.sd_types.specs.declared.limits.TheConstants.{MOST_ENTRIES}
+use Rattle.sd_rounds.specs.Searched.{IsSearched}
 use Rattle.sd_rounds.proofs.rounds.run_to_end.Given as goal
 
 abbrev pub invariant-rounds : goal.invariant-rounds
@@ -10,6 +11,7 @@ invariant-rounds l = record {
   work : l.world.work.now ≡ l.work;
   begins : Begins l.initial.world.entries.items l.world.entries.items;
   room : length l.world.entries.items ≤ MOST_ENTRIES;
+  searched : IsSearched (told l.work l.world) l.searched;
 }
 
 -- each round that goes on adds an entry, and a log holds at most MOST_ENTRIES

@@ -8,7 +8,7 @@ use Rattle.sd_machine.specs.Dispatching.{ticked}
 use Rattle.sd_machine.specs.Runs.{IsReached}
 use Rattle.sd_hand.specs.Acting.{IsShown}
 use Rattle.sd_hand.specs.Later.{shown_later}
-use Rattle.sd_range.proofs.Range.{needs_reached}
+use Rattle.sd_invariants.proofs.Range.{needs_reached}
 use Rattle.sd_world.specs.Entries.{led_to}
 use Rattle.sd_rounds.proofs.TickLemmas.{tick_is}
 use Rattle.sd_rounds.proofs.ticks.enter_tick.Goals as goal

@@ -1,9 +1,10 @@
-use Rattle.std.proofs.Common.{length, ◌∙◌}
-use Rattle.sd_types.specs.declared.events.Event.TheVariants.{Tick}
+use Rattle.std.proofs.Common.{◌-◌, Some, length, refl, ◌∙◌}
+use Rattle.sd_types.specs.declared.events.Event.TheVariants.{Idle, Tick}
 use Rattle.sd_machine.specs.declared.plans.Plan.TheVariants.{Make}
 use Rattle.sd_world.specs.Plain.{told}
 use Rattle.sd_world.proofs.PlainLemmas as P
-use Rattle.sd_rounds.proofs.AloneLemmas.{makes_it, serial_of}
+use Rattle.sd_rounds.proofs.AloneLemmas.{makes_it, serial_of, will_idle, will_make}
+use Rattle.sd_rounds.proofs.SearchedLemmas.{alone_searched, numbers_read, searched_after, zeros_read}
 use Rattle.sd_rounds.proofs.turns.act_alone.Goals as goal
 
 pub come_tick-requires-clause-duty : goal.come_tick-requires-clause-duty
@@ -11,43 +12,71 @@ come_tick-requires-clause-duty c =
     let w = c.args.work.now in
     let x = c.args.world.now in
     let shown = P.shown w x c.requires.stands in
-    shown.duty ∙ (c.in-Runs.ensures (length x.entries.items) (told w x) shown).0
+    shown.duty ∙ (c.in-Runs.ensures (length x.entries.items) (told w x) shown c.requires.searched).0
 
 pub come_tick-requires-clause-hints : goal.come_tick-requires-clause-hints
 come_tick-requires-clause-hints c =
     let w = c.args.work.now in
     let x = c.args.world.now in
     let s = told w x in
-    serial_of w s x.acting.actor.cpu (Make (Tick c.in-Runs.t)) (c.in-Runs.ensures (length x.entries.items) s (P.shown w x c.requires.stands)).1
+    serial_of w s x.acting.actor.cpu (Make (Tick c.in-Runs.t)) (c.in-Runs.ensures (length x.entries.items) s (P.shown w x c.requires.stands) c.requires.searched).1
 
 pub come_tick-requires-clause-event : goal.come_tick-requires-clause-event
 come_tick-requires-clause-event c =
     let w = c.args.work.now in
     let x = c.args.world.now in
     let s = told w x in
-    makes_it w s x.acting.actor.cpu (Tick c.in-Runs.t) (P.cpu_inside w x c.requires.stands) (c.in-Runs.ensures (length x.entries.items) s (P.shown w x c.requires.stands)).1
+    makes_it w s x.acting.actor.cpu (Tick c.in-Runs.t) (P.cpu_inside w x c.requires.stands) (c.in-Runs.ensures (length x.entries.items) s (P.shown w x c.requires.stands) c.requires.searched).1
 
 pub end_search-requires-clause-duty : goal.end_search-requires-clause-duty
 end_search-requires-clause-duty c =
     let w = c.args.work.now in
     let x = c.args.world.now in
     let shown = P.shown w x c.requires.stands in
-    shown.duty ∙ (c.in-Idles.ensures (length x.entries.items) (told w x) shown).0
+    shown.duty ∙ (c.in-Idles.ensures (length x.entries.items) (told w x) shown c.requires.searched).0
 
 pub end_search-requires-clause-plan : goal.end_search-requires-clause-plan
 end_search-requires-clause-plan c =
     let w = c.args.work.now in
     let x = c.args.world.now in
-    (c.in-Idles.ensures (length x.entries.items) (told w x) (P.shown w x c.requires.stands)).1
+    (c.in-Idles.ensures (length x.entries.items) (told w x) (P.shown w x c.requires.stands) c.requires.searched).1
+
+pub end_search-requires-clause-fits : goal.end_search-requires-clause-fits
+end_search-requires-clause-fits c =
+    let w = c.args.work.now in
+    let x = c.args.world.now in
+    (c.in-Idles.ensures (length x.entries.items) (told w x) (P.shown w x c.requires.stands) c.requires.searched).5
 
 pub end_search-requires-clause-numbers : goal.end_search-requires-clause-numbers
 end_search-requires-clause-numbers c =
     let w = c.args.work.now in
     let x = c.args.world.now in
-    (c.in-Idles.ensures (length x.entries.items) (told w x) (P.shown w x c.requires.stands)).2
+    let n = length x.entries.items in
+    let s = told w x in
+    let (duty, plan, its, opened, count, most, zero) = c.in-Idles.ensures n s (P.shown w x c.requires.stands) c.requires.searched in
+    numbers_read w n s x.acting.actor.cpu c.in-Idles.p c.in-Idles.cpus (P.reached w x c.requires.stands) (P.cpu_inside w x c.requires.stands) its opened count zero
 
-pub end_search-requires-clause-none : goal.end_search-requires-clause-none
-end_search-requires-clause-none c =
+pub returns-in-Runs-clause-searched : goal.returns-in-Runs-clause-searched
+returns-in-Runs-clause-searched c =
     let w = c.args.work.now in
     let x = c.args.world.now in
-    (c.in-Idles.ensures (length x.entries.items) (told w x) (P.shown w x c.requires.stands)).3
+    let s = told w x in
+    let known = c.args.searched.now in
+    let tick = Tick c.in-Runs.t in
+    let seen = c.in-Runs.ensures (length x.entries.items) s (P.shown w x c.requires.stands) c.requires.searched in
+    alone_searched w x c.come_tick.new.world tick known (λ z n d. searched_after w z n d tick tt tt tt refl refl known) (will_make w s x.acting.actor.cpu tick (P.cpu_inside w x c.requires.stands) seen.1) c.requires.searched
+    c.come_tick.result c.come_tick.ensures.acts
+
+pub returns-in-Idles-clause-searched : goal.returns-in-Idles-clause-searched
+returns-in-Idles-clause-searched c =
+    let w = c.args.work.now in
+    let x = c.args.world.now in
+    let s = told w x in
+    let known = Some c.in-Idles.p in
+    let n = length x.entries.items in
+    let cpu = x.acting.actor.cpu in
+    let inside = P.cpu_inside w x c.requires.stands in
+    let (duty, plan, its, opened, count, most, zero) = c.in-Idles.ensures n s (P.shown w x c.requires.stands) c.requires.searched in
+    let numbers = numbers_read w n s cpu c.in-Idles.p c.in-Idles.cpus (P.reached w x c.requires.stands) inside its opened count zero in
+    alone_searched w x c.end_search.new.world Idle known (λ z m d. searched_after w z m d Idle tt tt tt refl refl known)
+    (will_idle w s cpu inside plan (zeros_read (c.in-Idles.cpus - 1) s cpu.0 numbers)) zero c.end_search.result c.end_search.ensures.acts

@@ -5,7 +5,7 @@ use Rattle.sd_types.specs.declared.events.Hints.{Hints}
 use Rattle.sd_machine.specs.Events.{next}
 use Rattle.sd_machine.specs.Runs.{IsReached, final, made, serial_hints}
 use Rattle.sd_machine.proofs.RunLemmas.{final-one, final-nil}
-use Rattle.sd_range.proofs.Range.{needs_reached}
+use Rattle.sd_invariants.proofs.Range.{needs_reached}
 use Rattle.sd_invariants.proofs.Whole.{fit_reached}
 use Rattle.sd_steps.proofs.Needed.{no_maker}
 use Rattle.sd_steps.proofs.ReplayLemmas.{reached_more}

@@ -1,5 +1,5 @@
 use Rattle.std.proofs.Common.{◌+◌, Some, refl, sym, ap, ◌∙◌, subst}
-use Rattle.sd_range.proofs.Range.{needs_reached}
+use Rattle.sd_invariants.proofs.Range.{needs_reached}
 use Rattle.sd_invariants.proofs.Whole.{fit_reached}
 use Rattle.sd_state.specs.declared.states.State.{State}
 use Rattle.sd_types.specs.declared.events.Event.{Event}

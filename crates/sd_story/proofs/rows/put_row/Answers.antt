@@ -1,4 +1,4 @@
-use Rattle.sd_sentences.proofs.Appends.{append_four}
+use Rattle.sd_story.proofs.Appends.{append_four}
 use Rattle.sd_story.specs.Story.{row}
 use Rattle.sd_story.proofs.rows.put_row.Goals as goal
 

@@ -2,7 +2,7 @@ use Rattle.std.proofs.Common.{◌≡◌, sym, ap, ◌∙◌, subst}
 use Rattle.sd_hand.specs.Hands.{how_many_held}
 use Rattle.sd_table.specs.declared.seat.Seat.{Seat}
 use Rattle.sd_table.specs.Seats.{id_of, work_of}
-use Rattle.sd_tlock.specs.Tables.{world_meaning}
+use Rattle.sd_threads.specs.Tables.{world_meaning}
 use Rattle.sd_table_tests.specs.Sitting.{IsFreeAfter}
 use Rattle.sd_table_tests.proofs.SeatLemmas as S
 use Rattle.sd_table_tests.proofs.WorldLemmas as W

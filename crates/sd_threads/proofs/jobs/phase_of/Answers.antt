@@ -2,7 +2,7 @@ use Rattle.std.proofs.Common.{◌≡◌, length, refl, sym, ap, ◌∙◌, subst
 use Rattle.sd_hand.specs.Hands.{how_many_held}
 use Rattle.sd_table.specs.declared.seat.Seat.{Seat}
 use Rattle.sd_table.specs.Seats.{id_of, work_of}
-use Rattle.sd_tlock.specs.Tables.{world_meaning}
+use Rattle.sd_threads.specs.Tables.{world_meaning}
 use Rattle.sd_threads.specs.Jobs.{IsFree, MadeAsLogged}
 use Rattle.sd_threads.proofs.JobLemmas as J
 use Rattle.sd_threads.proofs.jobs.phase_of.Goals as goal

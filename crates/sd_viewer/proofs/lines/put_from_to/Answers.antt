@@ -1,4 +1,4 @@
-use Rattle.sd_sentences.proofs.Appends.{append_two}
+use Rattle.sd_story.proofs.Appends.{append_two}
 use Rattle.sd_viewer.specs.Drawings.{from_to}
 use Rattle.sd_viewer.proofs.lines.put_from_to.Goals as goal
 

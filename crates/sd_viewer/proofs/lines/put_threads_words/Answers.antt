@@ -1,4 +1,4 @@
-use Rattle.sd_sentences.proofs.Appends.{append_two}
+use Rattle.sd_story.proofs.Appends.{append_two}
 use Rattle.sd_viewer.specs.Drawings.{threads_words}
 use Rattle.sd_viewer.proofs.lines.put_threads_words.Goals as goal
 

@@ -1,4 +1,4 @@
-use Rattle.sd_sentences.proofs.Appends.{append_three}
+use Rattle.sd_story.proofs.Appends.{append_three}
 use Rattle.sd_viewer.specs.Drawings.{ticks_words}
 use Rattle.sd_viewer.proofs.lines.put_ticks_words.Goals as goal
 

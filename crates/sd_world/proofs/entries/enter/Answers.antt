@@ -4,7 +4,7 @@ use Rattle.std.proofs.lemmas.Bool.{false≢true}
 use Rattle.sd_machine.specs.Events.{after}
 use Rattle.sd_machine.specs.Runs.{IsReached}
 use Rattle.sd_hand.specs.Acting.{IsShown}
-use Rattle.sd_range.proofs.Range.{needs_reached}
+use Rattle.sd_invariants.proofs.Range.{needs_reached}
 use Rattle.sd_world.specs.Entries.{led_to}
 use Rattle.sd_world.proofs.entries.enter.Goals as goal
 

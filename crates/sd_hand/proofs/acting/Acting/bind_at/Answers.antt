@@ -1,7 +1,7 @@
 use Rattle.std.proofs.Common.{refl, sym, le_refl}
 use Rattle.sd_state.specs.declared.states.ThreadState.{ThreadState}
 use Rattle.sd_state.specs.States.{thread_of}
-use Rattle.sd_shown.specs.Standing.{record_of}
+use Rattle.sd_homes.specs.Standing.{record_of}
 use Rattle.sd_homes.specs.Homes.{with_body_of}
 use Rattle.sd_hand.specs.declared.acting.Acting.{Acting}
 use Rattle.sd_hand.proofs.ActLemmas.{move_carried, same_has}

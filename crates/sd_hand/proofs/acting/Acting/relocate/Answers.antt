@@ -1,6 +1,6 @@
 use Rattle.std.proofs.Common.{refl, sym}
 use Rattle.sd_state.specs.States.{thread_of}
-use Rattle.sd_shown.specs.Standing.{record_of}
+use Rattle.sd_homes.specs.Standing.{record_of}
 use Rattle.sd_hand.specs.Steps.{stepped}
 use Rattle.sd_hand.specs.declared.acting.Acting.{Acting}
 use Rattle.sd_hand.proofs.ActLemmas.{move_carried, same_has}

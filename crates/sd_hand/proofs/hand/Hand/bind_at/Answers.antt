@@ -1,5 +1,5 @@
 use Rattle.std.proofs.Common.{◌≡◌, Some, is_some, sym, ap, ◌∙◌, subst}
-use Rattle.sd_shown.specs.Standing.{home_at, id_of}
+use Rattle.sd_homes.specs.Standing.{home_at, id_of}
 use Rattle.sd_homes.specs.Families.{putting}
 use Rattle.sd_homes.specs.Homes.{with_body_of}
 use Rattle.sd_hand.specs.Hands.{AreApart, edit, has_thread, held}

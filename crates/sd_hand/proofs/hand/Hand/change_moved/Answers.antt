@@ -1,6 +1,6 @@
 use Rattle.std.proofs.Common.{◌≡◌, Some, is_some, sym, ap, ◌∙◌, subst}
 use Rattle.sd_store.specs.Bodies.{changed}
-use Rattle.sd_shown.specs.Standing.{home_at}
+use Rattle.sd_homes.specs.Standing.{home_at}
 use Rattle.sd_homes.specs.Bodies.{CanChangeThread}
 use Rattle.sd_homes.specs.Families.{putting}
 use Rattle.sd_homes.specs.Homes.{with_body_of}

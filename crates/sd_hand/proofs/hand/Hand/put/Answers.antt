@@ -1,6 +1,6 @@
 use Rattle.std.proofs.Common.{◌≡◌, Some, refl, ap, ◌∙◌, subst}
 use Rattle.std.specs.Prelude.{slice_set}
-use Rattle.sd_shown.specs.Standing.{insert_at}
+use Rattle.sd_homes.specs.Standing.{insert_at}
 use Rattle.sd_homes.specs.Families.{IsWhole, home_id, list_in, putting}
 use Rattle.sd_hand.specs.Hands.{HandSlots, edit, held}
 use Rattle.sd_hand.proofs.GuideLemmas.{slots_changed, same_held, slot_changed, slot_lost, slot_there}

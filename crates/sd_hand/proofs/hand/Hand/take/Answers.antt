@@ -1,7 +1,7 @@
 use Rattle.std.proofs.Common.{◌≡◌, Some, sym, ap, ◌∙◌, subst}
 use Rattle.std.specs.Prelude.{slice_set}
 use Rattle.sd_boxq.specs.Order.{drop_id}
-use Rattle.sd_shown.specs.Standing.{id_of}
+use Rattle.sd_homes.specs.Standing.{id_of}
 use Rattle.sd_homes.specs.Families.{home_id, list_in, taken_from, taking}
 use Rattle.sd_hand.specs.Hands.{edit, held}
 use Rattle.sd_hand.proofs.GuideLemmas.{slots_changed, held_here, slot_changed}

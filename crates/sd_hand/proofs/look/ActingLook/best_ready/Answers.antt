@@ -4,8 +4,8 @@ use Rattle.sd_types.specs.declared.numbers.SetId.{SetId}
 use Rattle.sd_state.specs.States.{cpu_of}
 use Rattle.sd_machine.specs.Threads.{best_ready}
 use Rattle.sd_store.specs.Parts.{number, ready_parts, real_time_part, view_of}
-use Rattle.sd_shown.specs.declared.list_id.ListId.TheVariants.{Queues, Urgent}
-use Rattle.sd_shown.specs.Standing.{better, id_of}
+use Rattle.sd_homes.specs.declared.list_id.ListId.TheVariants.{Queues, Urgent}
+use Rattle.sd_homes.specs.Standing.{better, id_of}
 use Rattle.sd_homes.specs.Families.{list_in}
 use Rattle.sd_hand.proofs.FoundLemmas.{better_there}
 use Rattle.sd_hand.proofs.ShownLemmas.{finds_two, lacks_two, names_two}

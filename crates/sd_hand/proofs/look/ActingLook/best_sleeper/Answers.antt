@@ -2,8 +2,8 @@ use Rattle.std.proofs.Common.{◌%◌, [], ◌∷◌, option_map, slice_get, inl
 use Rattle.sd_types.specs.declared.numbers.HomeId.TheVariants.{Sleepers}
 use Rattle.sd_machine.specs.Threads.{best_sleeper}
 use Rattle.sd_store.specs.Parts.{number, sleepers_part}
-use Rattle.sd_shown.specs.declared.list_id.ListId.TheVariants.{Sleeps}
-use Rattle.sd_shown.specs.Standing.{id_of}
+use Rattle.sd_homes.specs.declared.list_id.ListId.TheVariants.{Sleeps}
+use Rattle.sd_homes.specs.Standing.{id_of}
 use Rattle.sd_homes.specs.Families.{list_in}
 use Rattle.sd_hand.proofs.FoundLemmas.{first_there}
 use Rattle.sd_hand.proofs.ShownLemmas.{finds_by, lacks_by, names_by}

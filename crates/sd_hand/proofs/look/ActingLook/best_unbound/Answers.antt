@@ -3,8 +3,8 @@ use Rattle.sd_types.specs.declared.numbers.HomeId.TheVariants.{Cpu}
 use Rattle.sd_boxq.specs.Order.{find_first}
 use Rattle.sd_machine.specs.Threads.{best_unbound}
 use Rattle.sd_store.specs.Parts.{cpu_part, number}
-use Rattle.sd_shown.specs.declared.list_id.ListId.TheVariants.{Queues}
-use Rattle.sd_shown.specs.Standing.{id_of, is_unbound}
+use Rattle.sd_homes.specs.declared.list_id.ListId.TheVariants.{Queues}
+use Rattle.sd_homes.specs.Standing.{id_of, is_unbound}
 use Rattle.sd_homes.specs.Families.{list_in}
 use Rattle.sd_hand.proofs.FoundLemmas.{passing_there}
 use Rattle.sd_hand.proofs.ShownLemmas.{finds_by, lacks_by, names_by}

@@ -1,7 +1,7 @@
 use Rattle.std.proofs.Common.{◌≡◌, ap, ◌∙◌}
 use Rattle.sd_state.specs.States.{thread_of}
 use Rattle.sd_record.specs.Records.{ThreadRecord}
-use Rattle.sd_shown.specs.Standing.{record_of}
+use Rattle.sd_homes.specs.Standing.{record_of}
 use Rattle.sd_hand.proofs.TellLemmas.{found_record}
 use Rattle.sd_hand.proofs.look.ActingLook.body.Goals as goal
 

@@ -2,8 +2,8 @@ use Rattle.std.proofs.Common.{option_map, slice_get, sym, ap, ◌∙◌}
 use Rattle.sd_types.specs.declared.numbers.HomeId.TheVariants.{Cpu}
 use Rattle.sd_state.specs.States.{cpu_of}
 use Rattle.sd_machine.specs.Threads.{first_due}
-use Rattle.sd_shown.specs.declared.list_id.ListId.TheVariants.{Naps}
-use Rattle.sd_shown.specs.Standing.{due_of_first, id_of}
+use Rattle.sd_homes.specs.declared.list_id.ListId.TheVariants.{Naps}
+use Rattle.sd_homes.specs.Standing.{due_of_first, id_of}
 use Rattle.sd_homes.specs.Families.{list_in}
 use Rattle.sd_hand.proofs.FoundLemmas.{due_there}
 use Rattle.sd_hand.proofs.ShownLemmas.{finds_by, names_by}

@@ -5,8 +5,8 @@ use Rattle.sd_state.specs.States.{cpu_of}
 use Rattle.sd_machine.specs.Sleeping.{rouse_key}
 use Rattle.sd_machine.specs.Threads.{best_sleeper_below}
 use Rattle.sd_store.specs.Walks.{next_to_rouse}
-use Rattle.sd_shown.specs.declared.list_id.ListId.TheVariants.{Sleeps}
-use Rattle.sd_shown.specs.Standing.{id_of, key_in}
+use Rattle.sd_homes.specs.declared.list_id.ListId.TheVariants.{Sleeps}
+use Rattle.sd_homes.specs.Standing.{id_of, key_in}
 use Rattle.sd_homes.specs.Families.{list_in}
 use Rattle.sd_hand.proofs.FoundLemmas.{passing_there}
 use Rattle.sd_hand.proofs.ShownLemmas.{finds_by, names_by}

@@ -2,11 +2,11 @@ use Rattle.std.proofs.Common.{◌%◌, ◌++◌, [], ◌∷◌, inl, refl}
 use Rattle.sd_types.specs.declared.numbers.HomeId.TheVariants.{Chain}
 use Rattle.sd_types.specs.declared.numbers.Side.TheVariants.{Writer, Reader}
 use Rattle.sd_boxq.specs.Order.{drop_id}
-use Rattle.sd_turn.specs.Waiters.{highest}
+use Rattle.sd_turnstile.specs.Waiters.{highest}
 use Rattle.sd_machine.specs.Locking.{others_waiting}
 use Rattle.sd_store.specs.Parts.{chain_part}
-use Rattle.sd_shown.specs.declared.list_id.ListId.TheVariants.{Waits}
-use Rattle.sd_shown.specs.Standing.{id_of, rank_of}
+use Rattle.sd_homes.specs.declared.list_id.ListId.TheVariants.{Waits}
+use Rattle.sd_homes.specs.Standing.{id_of, rank_of}
 use Rattle.sd_homes.specs.Families.{list_in}
 use Rattle.sd_hand.proofs.ShownLemmas.{lacks_by, tells_by}
 use Rattle.sd_hand.proofs.TellLemmas.{others_told}

@@ -3,7 +3,7 @@ use Rattle.std.proofs.Math.Nat.{le-add_right}
 use Rattle.sd_state.specs.declared.states.ThreadState.{ThreadState}
 use Rattle.sd_state.specs.States.{thread_of}
 use Rattle.sd_machine.specs.Changes.{place_put}
-use Rattle.sd_shown.specs.Standing.{look_of, record_of, without, MayCome}
+use Rattle.sd_homes.specs.Standing.{look_of, record_of, without, MayCome}
 use Rattle.sd_homes.specs.Families.{list_in}
 use Rattle.sd_hand.specs.Hands.{IsHeld, IsRoom}
 use Rattle.sd_hand.specs.Shown.{IsListThere}

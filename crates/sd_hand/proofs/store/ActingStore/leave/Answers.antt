@@ -5,7 +5,7 @@ use Rattle.sd_state.specs.States.{cpu_of, thread_of, with_thread}
 use Rattle.sd_machine.specs.Bodies.{departed}
 use Rattle.sd_machine.specs.Changes.{leave}
 use Rattle.sd_store.specs.Keyless.{place_by}
-use Rattle.sd_shown.specs.Standing.{look_of, record_of, without, MayCome}
+use Rattle.sd_homes.specs.Standing.{look_of, record_of, without, MayCome}
 use Rattle.sd_homes.specs.Families.{list_in}
 use Rattle.sd_hand.specs.Hands.{IsHeld, IsRoom}
 use Rattle.sd_hand.specs.Shown.{IsListThere}

@@ -6,7 +6,7 @@ use Rattle.sd_machine.specs.Bodies.{arrived}
 use Rattle.sd_machine.specs.Changes.{run_on}
 use Rattle.sd_machine.specs.Threads.{runner}
 use Rattle.sd_store.specs.Parts.{number}
-use Rattle.sd_shown.specs.declared.list_id.ListId.TheVariants.{Runs}
+use Rattle.sd_homes.specs.declared.list_id.ListId.TheVariants.{Runs}
 use Rattle.sd_homes.specs.Families.{list_in}
 use Rattle.sd_hand.proofs.GoLemmas.{no_head}
 use Rattle.sd_hand.proofs.HasLemmas.{room_free}

@@ -2,7 +2,7 @@ use Rattle.std.proofs.Common.{not, slice_get, sym, ap, ◌∙◌}
 use Rattle.std.specs.Option.{is_none}
 use Rattle.sd_boxq.specs.Order.{find_first}
 use Rattle.sd_types.specs.declared.bodies.ThreadBody.{ThreadBody}
-use Rattle.sd_shown.specs.Standing.{is_unbound}
+use Rattle.sd_homes.specs.Standing.{is_unbound}
 use Rattle.sd_homes.specs.Homes.{OfCpu}
 use Rattle.sd_homes.proofs.FirstLemmas.{none_first, some_first}
 use Rattle.sd_homes.proofs.cpu.CpuHome.best_unbound.Goals as goal

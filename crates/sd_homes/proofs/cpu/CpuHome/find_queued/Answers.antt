@@ -1,7 +1,7 @@
 use Rattle.std.proofs.Common.{◌==◌, slice_get, sym, ap, ◌∙◌}
 use Rattle.std.proofs.lemmas.Bool.{eq-eqb}
 use Rattle.sd_boxq.specs.Order.{find_id}
-use Rattle.sd_shown.specs.Standing.{id_of}
+use Rattle.sd_homes.specs.Standing.{id_of}
 use Rattle.sd_homes.specs.Homes.{OfCpu}
 use Rattle.sd_homes.proofs.FirstLemmas.{none_first, some_first}
 use Rattle.sd_homes.proofs.cpu.CpuHome.find_queued.Goals as goal

@@ -2,10 +2,10 @@ use Rattle.std.proofs.Common.{◌≡◌, sym, ap, ◌∙◌, subst}
 use Rattle.std.proofs.lemmas.Result.{on_ok_weaker}
 use Rattle.sd_state.specs.declared.states.State.{State}
 use Rattle.sd_machine.specs.Events.{after}
-use Rattle.sd_interleavings.specs.Spelled.{IsTurn}
-use Rattle.sd_ordered.specs.Order.{IsSameOrder}
-use Rattle.sd_ordered.specs.Ranks.{ranked}
-use Rattle.sd_ordered.proofs.RankLemmas.{ranked_order}
+use Rattle.sd_search.specs.Spelled.{IsTurn}
+use Rattle.sd_encoding.specs.Order.{IsSameOrder}
+use Rattle.sd_encoding.specs.Ranks.{ranked}
+use Rattle.sd_encoding.proofs.OrderRankLemmas.{ranked_order}
 use Rattle.sd_search.specs.Graphs.{packed, steps_of}
 use Rattle.sd_search.proofs.PathLemmas.{fit_at}
 use Rattle.sd_search.proofs.TellLemmas.{at_same}

@@ -1,7 +1,7 @@
 use Rattle.std.proofs.Common.{◌≡◌, ap, ◌∙◌, subst}
 use Rattle.sd_state.specs.declared.states.State.{State}
 use Rattle.sd_machine.specs.Events.{after}
-use Rattle.sd_ordered.specs.Ranks.{ranked}
+use Rattle.sd_encoding.specs.Ranks.{ranked}
 use Rattle.sd_search.specs.Graphs.{packed, steps_of}
 use Rattle.sd_search.specs.Turns.{LeadsTo}
 use Rattle.sd_search.proofs.LookLemmas.{leads_there, never_missing}

@@ -2,7 +2,7 @@ use Rattle.std.proofs.Common.{◌≡◌, suc, ◌+◌, ◌<◌, [], ◌∷◌, l
 use Rattle.std.proofs.lemmas.List.{length-append, length-reverse}
 use Rattle.std.specs.Prelude.{reverse}
 use Rattle.sd_types.specs.declared.numbers.CpuId.{CpuId}
-use Rattle.sd_interleavings.specs.Spelled.{IsSpelled}
+use Rattle.sd_search.specs.Spelled.{IsSpelled}
 use Rattle.sd_search.specs.Graphs.{IsDeep, packed, steps_of}
 use Rattle.sd_search.proofs.PathLemmas as P
 use Rattle.sd_search.proofs.graph.Graph.path.Goals as goal

@@ -1,6 +1,6 @@
 use Rattle.std.proofs.Common.{sym, ◌∙◌}
 use Rattle.std.proofs.lemmas.Bool.{false≢true}
-use Rattle.sd_range.proofs.Range.{needs_reached}
+use Rattle.sd_invariants.proofs.Range.{needs_reached}
 use Rattle.sd_world.proofs.PlainLemmas.{same_actor}
 use Rattle.sd_table.proofs.seat.Seat.make.Goals as goal
 

@@ -1,5 +1,5 @@
 use Rattle.std.proofs.Common.{◌<◌, length, sym, ap, ◌∙◌, subst}
-use Rattle.sd_table_rule.specs.Ledgers.{most}
+use Rattle.sd_types.specs.Limits.{most_entries}
 use Rattle.sd_table.specs.Seats.{HasMade, MayMake, work_of}
 use Rattle.sd_table.proofs.Entries as E
 use Rattle.sd_table.proofs.shared.Shared.commit.Goals as goal
@@ -8,7 +8,7 @@ pub draw-number-requires-clause-may : goal.draw-number-requires-clause-may
 draw-number-requires-clause-may c = E.may_commit (work_of c.args.self.now) _ c.args.seat.now c.requires.fits c.args.event c.args.hints c.args.work.now c.requires.can
 
 pub draw-number-requires-clause-room : goal.draw-number-requires-clause-room
-draw-number-requires-clause-room c = subst (λ l. length l < most) c.requires.fits.log c.requires.can.room
+draw-number-requires-clause-room c = subst (λ l. length l < most_entries) c.requires.fits.log c.requires.can.room
 
 pub make-requires-clause-may : goal.make-requires-clause-may
 make-requires-clause-may c =

@@ -1,5 +1,5 @@
 use Rattle.std.proofs.Common.{[], sym, subst}
-use Rattle.sd_snapshot.specs.Told.{AreActorsOf}
+use Rattle.sd_world.specs.Told.{AreActorsOf}
 use Rattle.sd_table_rule.specs.Places.{now}
 use Rattle.sd_table.specs.Seats.{id_of}
 use Rattle.sd_table.specs.Whole.{AreSeats}

@@ -1,5 +1,5 @@
 use Rattle.std.proofs.Common.{◌≡◌, subst}
-use Rattle.sd_shown.specs.Standing.{insert_at}
+use Rattle.sd_homes.specs.Standing.{insert_at}
 use Rattle.sd_homes.specs.Families.{home_id, list_in, putting}
 use Rattle.sd_hand.specs.Hands.{edit}
 use Rattle.sd_hand.proofs.HomeLemmas.{keeps-with_list}

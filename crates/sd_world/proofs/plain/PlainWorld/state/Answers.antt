@@ -1,5 +1,5 @@
 use Rattle.std.proofs.Common.{length, sym, subst}
-use Rattle.sd_snapshot.specs.Told.{AreActorsOf}
+use Rattle.sd_world.specs.Told.{AreActorsOf}
 use Rattle.sd_world.specs.Plain.{told}
 use Rattle.sd_world.proofs.PlainLemmas.{reached, told_ok}
 use Rattle.sd_world.proofs.plain.PlainWorld.state.Goals as goal

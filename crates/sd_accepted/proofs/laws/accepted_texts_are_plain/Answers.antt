@@ -1,5 +1,0 @@
-use Rattle.sd_accepted.proofs.PlainLineLemmas.{accepted-plain}
-use Rattle.sd_accepted.proofs.laws.accepted_texts_are_plain.Goals as goal
-
-pub returns : goal.returns
-returns c = accepted-plain

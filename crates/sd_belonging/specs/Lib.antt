@@ -1,2 +1,0 @@
-pub mod Belonging
-pub mod Changes

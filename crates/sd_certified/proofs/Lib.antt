@@ -1,4 +1,0 @@
-pub mod EntryLemmas
-pub mod HintLemmas
-pub mod JournalLemmas
-pub mod PlanLemmas

@@ -1,4 +1,0 @@
-pub mod Cycles
-pub mod Graphs
-pub mod Holders
-pub mod Listing

@@ -1,8 +1,0 @@
-use Rattle.sd_choose.proofs.FunctionLemmas.{chosen_is, victim_is}
-use Rattle.sd_choose.proofs.laws.functions_choose.Goals as goal
-
-pub returns-clause-chosen : goal.returns-clause-chosen
-returns-clause-chosen c = chosen_is
-
-pub returns-clause-victim : goal.returns-clause-victim
-returns-clause-victim c = victim_is

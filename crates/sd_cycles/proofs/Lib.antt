@@ -1,2 +1,0 @@
-pub mod LapSteps
-pub mod StateGraphs

@@ -1,0 +1,9 @@
+pub mod CountingLemmas
+pub mod LineLemmas
+pub mod NameLemmas
+pub mod PlainLemmas
+pub mod ReadLemmas
+pub mod SpellLemmas
+pub mod SpellingLemmas
+pub mod TextLemmas
+pub mod WordLemmas

@@ -1,0 +1,17 @@
+use Rattle.std.proofs.Common.{◌/◌, ◌++◌, List, ℕ, take, sym, ap, ◌∙◌, arith}
+use Rattle.sd_entries.proofs.TextLemmas.{last_alone, last_behind}
+use Rattle.sd_entries.proofs.line.put_pair.Goals as goal
+
+pub returns-then-n-lt10-clause-text : goal.returns-then-n-lt10-clause-text
+returns-then-n-lt10-clause-text c =
+    c.put_last_digit.ensures.text ∙ ap (λ (ds : List ℕ). take c.args.from c.args.line.now ++ ds) (sym (last_alone c.args.n c.if-n-lt10.true))
+
+pub returns-clause-text : goal.returns-clause-text
+returns-clause-text c =
+    let n = c.args.n in
+    let text = take c.args.from c.args.line.now in
+    let hi = c.requires.small in
+    let lo = c.if-n-lt10.false in
+    c.put_last_digit-2.ensures.text
+    ∙ last_behind text _ n (omega (arith, lo)) (omega (arith, hi))
+    (c.put_last_digit-tens.ensures.text ∙ ap (λ (ds : List ℕ). text ++ ds) (sym (last_alone (n / 10) (omega (arith, hi)))))

@@ -1,0 +1,150 @@
+//! The line of an entry.
+
+ghost use Rattle.std.specs.Prelude.{◌≡◌, ◌+◌, ◌*◌, ◌≤◌, ◌++◌, ◌∷◌, OnOk, OnErr, codes, decimal, drop, length, slice_range, take};
+ghost use Rattle.std.specs.List.{flat_map};
+ghost use Rattle.sd_machine.specs.Texts.{entry_text, event_text, hints_text, numbers_text};
+
+use crate::counting::{NUMBER_END, put_entry_number};
+use crate::events::put_frequent_event;
+use crate::line::{Line, ROOM, put_byte, put_number, put_small, put_two};
+use sd_types::{CpuId, Entry, Hints, Work};
+use std::alloc::{AllocError, Global};
+
+// `,7`
+#[inline(always)]
+fn put_comma_number(n: u8, line: &mut Line, from: usize) -> usize
+    requires { from + 4 ≤ ROOM }
+    ensures text { take result line.new ≡ take from line.old ++ (44 ∷ decimal n) }
+    ensures within { result ≤ from + 4 }
+{
+    let from = put_byte(b',', line, from);
+    put_small(n, line, from)
+}
+
+// Each number with a comma before it.
+fn put_comma_numbers(numbers: &[u8], line: &mut Line, from: usize) -> usize
+    requires { from + 4 * length numbers.now ≤ ROOM }
+    ensures text { take result line.new ≡ take from line.old ++ flat_map (λ n. 44 ∷ decimal n) numbers.now }
+    ensures within { result ≤ from + 4 * length numbers.now }
+{
+    let mut end = from;
+    for number in numbers {
+        end = put_comma_number(*number, line, end);
+    }
+    end
+}
+
+// The numbers, joined by commas.
+fn put_numbers(numbers: &[u8], line: &mut Line, from: usize) -> usize
+    requires { from + 4 * length numbers.now ≤ ROOM }
+    ensures text { take result line.new ≡ take from line.old ++ numbers_text numbers.now }
+    ensures within { result ≤ from + 4 * length numbers.now }
+{
+    match numbers {
+        [] => from,
+        [first, rest @ ..] => {
+            let from = put_small(*first, line, from);
+            put_comma_numbers(rest, line, from)
+        }
+    }
+}
+
+#[inline(always)]
+fn put_hints(hints: &Option<Hints>, line: &mut Line, from: usize) -> usize
+    requires { from + 259 ≤ ROOM }
+    ensures text { take result line.new ≡ take from line.old ++ hints_text hints.now }
+    ensures within { result ≤ from + 259 }
+{
+    match hints {
+        None => from,
+        Some(hints) => {
+            let from = put_two(b' ', b'h', line, from);
+            let from = put_byte(b' ', line, from);
+            put_numbers(hints.numbers.as_slice(), line, from)
+        }
+    }
+}
+
+// ` c7 `: a processor, with a space before and behind it.
+#[inline(always)]
+fn put_spaced_cpu(c: CpuId, line: &mut Line, from: usize) -> usize
+    requires { from + 23 ≤ ROOM }
+    ensures text { take result line.new ≡ take from line.old ++ (codes " c" ++ decimal c.0 ++ codes " ") }
+    ensures within { result ≤ from + 23 }
+{
+    let from = put_two(b' ', b'c', line, from);
+    let from = put_number(u64::from(c.0), line, from);
+    put_byte(b' ', line, from)
+}
+
+// What follows the number of the entry.
+#[inline(always)]
+fn put_behind_number(work: &Work, entry: &Entry, line: &mut Line, from: usize) -> usize
+    requires { from + 383 ≤ ROOM }
+    ensures text { take result line.new ≡ take from line.old
+        ++ (codes " c" ++ decimal entry.now.cpu.0 ++ codes " " ++ event_text work.now entry.now.event ++ hints_text entry.now.hints ++ codes "\n") }
+    ensures within { result ≤ from + 383 }
+{
+    let from = put_spaced_cpu(entry.cpu, line, from);
+    let from = put_frequent_event(work, &entry.event, line, from);
+    let from = put_hints(&entry.hints, line, from);
+    put_byte(b'\n', line, from)
+}
+
+/// A buffer in which the lines of entries are made, one at a time. The digits of the last entry's number stay in it, so
+/// that those of the next one are counted up.
+#[derive(Drop)]
+pub struct EntryLine {
+    line: Line,
+    number: u64,
+    from: usize,
+    ghost begin: { from + length (decimal number) ≡ 20 },
+    ghost stand: { drop from (take 20 line) ≡ decimal number },
+}
+
+impl EntryLine {
+    /// A buffer with no entry's line.
+    pub fn new() -> EntryLine {
+        EntryLine {
+            line: [b'0'; ROOM],
+            number: 0,
+            from: NUMBER_END - 1,
+        }
+    }
+
+    // Puts the line of the entry, and returns where it ends.
+    #[tactic(auto, unfolding(sd_machine::specs::Texts::entry_text))]
+    #[inline(always)]
+    fn put_entry(&mut self, work: &Work, entry: &Entry) -> usize
+        ensures within { (self.new.from ≤ result) × (result ≤ ROOM) }
+        ensures text { slice_range self.new.line self.new.from result ≡ entry_text work.now entry.now }
+    {
+        self.from = put_entry_number(entry.number, self.number, &mut self.line, self.from);
+        self.number = entry.number;
+        put_behind_number(work, entry, &mut self.line, NUMBER_END)
+    }
+
+    /// The line of the entry, with its newline: its number, its processor, its event, and the numbers that it read,
+    /// where it read any. A number that the workload does not declare has no name there.
+    #[inline(always)]
+    pub fn format(&mut self, work: &Work, entry: &Entry) -> &[u8]
+        ensures { result.now ≡ entry_text work.now entry.now }
+    {
+        let to = self.put_entry(work, entry);
+        &self.line[self.from..to]
+    }
+}
+
+/// Appends the line of the entry, as `EntryLine` makes it. Where memory runs out, `out` is as it was.
+pub fn write_entry(
+    _alloc: Global,
+    work: &Work,
+    entry: &Entry,
+    out: &mut Vec<u8>,
+) -> Result<(), AllocError>
+    ensures ok { OnOk result (out.new.items ≡ out.old.items ++ entry_text work.now entry.now) }
+    ensures err { OnErr result (out.new.items ≡ out.old.items) }
+{
+    let mut line = EntryLine::new();
+    out.extend_from_slice(line.format(work, entry))
+}

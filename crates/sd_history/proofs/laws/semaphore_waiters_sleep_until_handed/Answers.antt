@@ -1,5 +1,0 @@
-use Rattle.sd_history.proofs.Handed.{handed_law}
-use Rattle.sd_history.proofs.laws.semaphore_waiters_sleep_until_handed.Goals as goal
-
-pub returns : goal.returns
-returns c = handed_law

@@ -1,5 +1,0 @@
-use Rattle.sd_history.proofs.Sleepers.{waiters_law}
-use Rattle.sd_history.proofs.laws.waiters_sleep_until_woken.Goals as goal
-
-pub returns : goal.returns
-returns c = waiters_law

@@ -1,4 +1,0 @@
-pub mod CallLemmas
-pub mod HostileLemmas
-pub mod PlanLemmas
-pub mod WholeLemmas

@@ -1,2 +1,0 @@
-pub mod Hostile
-pub mod Plan

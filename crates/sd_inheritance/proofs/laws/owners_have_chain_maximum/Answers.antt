@@ -1,5 +1,0 @@
-use Rattle.sd_inheritance.proofs.Runs.{maximum_law}
-use Rattle.sd_inheritance.proofs.laws.owners_have_chain_maximum.Goals as goal
-
-pub returns : goal.returns
-returns c = λ w n s reached. maximum_law w n s reached

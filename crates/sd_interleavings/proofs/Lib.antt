@@ -1,3 +1,0 @@
-pub mod OpeningKeys
-pub mod RunLemmas
-pub mod SpelledLemmas

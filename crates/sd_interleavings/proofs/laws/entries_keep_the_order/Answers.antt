@@ -1,5 +1,0 @@
-use Rattle.sd_interleavings.proofs.RunLemmas.{entries_law}
-use Rattle.sd_interleavings.proofs.laws.entries_keep_the_order.Goals as goal
-
-pub returns : goal.returns
-returns c = entries_law

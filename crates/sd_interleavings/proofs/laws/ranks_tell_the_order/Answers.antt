@@ -1,5 +1,0 @@
-use Rattle.sd_interleavings.proofs.RunLemmas.{ranks_law}
-use Rattle.sd_interleavings.proofs.laws.ranks_tell_the_order.Goals as goal
-
-pub returns : goal.returns
-returns c = ranks_law

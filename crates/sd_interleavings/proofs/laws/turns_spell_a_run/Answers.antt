@@ -1,5 +1,0 @@
-use Rattle.sd_interleavings.proofs.SpelledLemmas.{spelled_law}
-use Rattle.sd_interleavings.proofs.laws.turns_spell_a_run.Goals as goal
-
-pub returns : goal.returns
-returns c = spelled_law

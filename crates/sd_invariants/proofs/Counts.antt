@@ -1,0 +1,259 @@
+-- The counts of ticks: what each event makes of them.
+use Rattle.std.proofs.Common.{◌≡◌, ℕ, ◌+◌, ◌<◌, ◌≤◌, Bool, true, false, List, [], ◌∷◌, length, get_or, set, cond, Option, Some, None, refl, ◌∙◌, sym, ap, subst, arith}
+use Rattle.std.specs.Prelude.{◌&&◌, ◌==◌, if◌then◌else◌, nat_lt, nat_le}
+use Rattle.std.specs.List.{list_all, range_with_len}
+use Rattle.std.proofs.lemmas.Bool.{false≢true}
+use Rattle.std.proofs.lemmas.Bool.Decides.{nat_tests}
+use Rattle.std.proofs.lemmas.List.{length-set, get_or-set_same, get_or-set_other}
+use Rattle.std.proofs.lemmas.List.Folds.{list_all_at}
+use Rattle.std.proofs.lemmas.List.Sums.{sum_by-cons}
+use Rattle.sd_types.specs.declared.numbers.CpuId.{CpuId}
+use Rattle.sd_types.specs.declared.numbers.SetId.{SetId}
+use Rattle.sd_types.specs.declared.events.AssignAnswer.{AssignAnswer}
+use Rattle.sd_types.specs.declared.events.AssignAnswer.TheVariants as assign
+use Rattle.sd_types.specs.declared.events.BindAnswer.{BindAnswer}
+use Rattle.sd_types.specs.declared.events.BindAnswer.TheVariants as bind_answer
+use Rattle.sd_types.specs.declared.events.Entry.{Entry}
+use Rattle.sd_types.specs.declared.events.Event.{Event}
+use Rattle.sd_types.specs.declared.events.Event.TheVariants.{Tick, Spin, Idle, Assign, Joined, Bind}
+use Rattle.sd_types.specs.declared.works.Work.{Work}
+use Rattle.sd_types.specs.Events.{ticks}
+use Rattle.sd_state.specs.declared.states.CpuState.{CpuState}
+use Rattle.sd_state.specs.declared.states.State.{State}
+use Rattle.sd_state.specs.Accounts.{cpu_ticks}
+use Rattle.sd_state.specs.Opening.{opening}
+use Rattle.sd_state.specs.States.{no_cpu, thread_of, cpu_of}
+use Rattle.sd_state.proofs.BestLemmas.{and_right}
+use Rattle.sd_machine.specs.Changes.{counted, run_tick, count_tick, with_body, put_where, close, join, bind, unbind, set_duty}
+use Rattle.sd_machine.specs.Dispatching.{ticked, spun, idled}
+use Rattle.sd_machine.specs.Events.{may_tick, drop_ageing, effect, after}
+use Rattle.sd_machine.specs.Runs.{final, IsRunFrom}
+use Rattle.sd_machine.specs.SetChanges.{cleared, assigned, joined, rebound, pbound}
+use Rattle.sd_machine.specs.Threads.{runner}
+use Rattle.sd_machine.proofs.RunLemmas.{IsRun-from}
+use Rattle.sd_frames.specs.Causes.{IsCause}
+use Rattle.sd_invariants.specs.Laws.{HoldsWhenReached}
+use Rattle.sd_invariants.proofs.AgreedAfter.{IsReady}
+use Rattle.sd_frames.proofs.CpuWords as C
+use Rattle.sd_frames.proofs.PlainWords.{plain_keeps, drop_keeps}
+use Rattle.sd_invariants.proofs.Ready.{kept_reached, reached_ready, next_ready, opening_ready}
+use Rattle.sd_invariants.proofs.CountLemmas.{count_marks, counts_plain, close_counts, first_count}
+use Rattle.sd_invariants.specs.Ticks.{CountsStayClose, CountsRiseByTicks, CountsAreTicks}
+
+abbrev count_part : CpuState → ℕ
+count_part x = x.count
+
+abbrev SameCounts : State → State → Type 0
+SameCounts s r = C.Kept count_part s r
+
+-- one more where processor c takes a tick
+abbrev ones : Bool → ℕ
+ones b = if b then 1 else 0
+
+-- how each count rises by an entry of processor c, which takes a tick or does not
+record Rises (tick : Bool) (c : ℕ) (s r : State) : Type 0 where
+  each : (d : ℕ) → d < length s.cpus → (cpu_of r d).count ≡ (cpu_of s d).count + ones ((c == d) && tick)
+
+stay : (c : ℕ) (s r : State) → SameCounts s r → Rises false c s r
+stay c s r same = record { each = λ d inside. same.each d ∙ none (c == d) (cpu_of s d).count }
+  where
+    none : (b : Bool) (m : ℕ) → m ≡ m + ones (b && false)
+    none true m = omega arith
+    none false m = omega arith
+
+rises_then : (tick : Bool) (c : ℕ) (s r q : State) → Rises tick c s r → SameCounts r q → Rises tick c s q
+rises_then tick c s r q rises same = record { each = λ d inside. same.each d ∙ rises.each d inside }
+
+then_rises : (tick : Bool) (c : ℕ) (s r q : State) → SameCounts s r → length r.cpus ≡ length s.cpus → Rises tick c r q → Rises tick c s q
+then_rises tick c s r q same many rises = record {
+  each = λ d inside.
+      let there : d < length r.cpus = omega (arith, inside, many) in
+      rises.each d there ∙ ap (λ m. m + ones ((c == d) && tick)) (same.each d);
+}
+
+-- Ticks.
+
+count_rises : (w : Work) (s : State) (c : ℕ) → Rises true c s (count_tick w s c)
+unfolding count_tick
+count_rises w s c = record { each = λ d inside. by d inside (c == d) refl }
+  where
+    more : CpuState
+    more = counted w (cpu_of s c)
+
+    other : (d : ℕ) → (c == d) ≡ false → d ≡ c → ⊥
+    other d unlike same = grind (arith, nat_tests)
+
+    by : (d : ℕ) → d < length s.cpus → (b : Bool) → (c == d) ≡ b → (get_or (set s.cpus c more) d no_cpu).count ≡ (cpu_of s d).count + ones (b && true)
+    by d inside true is =
+        let same : c ≡ d = grind (arith, nat_tests) in
+        let here : c < length s.cpus = omega (arith, same, inside) in
+        subst (λ k. (get_or (set s.cpus c more) k no_cpu).count ≡ (cpu_of s k).count + 1) same (ap count_part (get_or-set_same s.cpus c more no_cpu here))
+    by d inside false is =
+        let at : (get_or (set s.cpus c more) d no_cpu).count ≡ (cpu_of s d).count = ap count_part (get_or-set_other s.cpus c d more no_cpu (other d is)) in
+        omega (arith, at)
+
+ticked_rises : (w : Work) (s : State) (c t : ℕ) → Rises true c s (ticked w s c t)
+unfolding ticked
+ticked_rises w s c t =
+    rises_then true c s (count_tick w s c) _ (count_rises w s c)
+    (C.then_kept count_part _ (run_tick w (count_tick w s c) t) _ (C.run_tick_kept count_part count_marks w _ t) (C.class_counts_kept count_part count_marks w _ c t))
+
+spun_rises : (w : Work) (s : State) (c t : ℕ) → Rises true c s (spun w s c t)
+unfolding spun
+spun_rises w s c t = rises_then true c s (count_tick w s c) _ (count_rises w s c) (C.class_counts_kept count_part count_marks w _ c t)
+
+idled_rises : (w : Work) (s : State) (c : ℕ) → Rises true c s (idled w s c)
+unfolding idled
+idled_rises w s c = count_rises w s c
+
+-- Changes of sets and bindings.
+
+joined_same : (s : State) (c : CpuId) (to : SetId) → SameCounts s (joined s c to)
+unfolding joined join
+joined_same s c to = C.then_kept count_part s _ _ (C.open_kept count_part s _ _) (C.written count_part _ c.0 _ refl)
+
+assigned_same : (w : Work) (s : State) (t : ℕ) (d : CpuId) (to : SetId) (answer : AssignAnswer) → SameCounts s (assigned w s t d to answer)
+unfolding assigned
+assigned_same w s t d to assign.Changed =
+    C.then_kept count_part s _ _ (close_counts s d to)
+    (C.then_kept count_part _ (cleared (close s d to) d (runner s d.0)) _ (C.cleared_kept count_part count_marks _ d _) (C.finish_op_kept count_part count_marks w _ t))
+assigned_same w s t d to assign.EPERM = C.finish_op_kept count_part count_marks w s t
+assigned_same w s t d to assign.EINVAL = C.finish_op_kept count_part count_marks w s t
+assigned_same w s t d to assign.EBUSY = C.finish_op_kept count_part count_marks w s t
+
+rebound_same : (s : State) (u : ℕ) (d b : Option CpuId) → SameCounts s (rebound s u d b)
+unfolding bind unbind
+rebound_same s u (Some d) b =
+    C.then_kept count_part s (bind s u d) _ (C.then_kept count_part s (with_body s u (record (thread_of s u).body { bound = Some d })) _ (C.thread_kept count_part s u _) (C.written count_part _ d.0 _ refl))
+    (C.called_back_kept count_part count_marks _ d _)
+rebound_same s u None (Some b) =
+    C.then_kept count_part s (with_body s u (record (thread_of s u).body { bound = None })) _ (C.thread_kept count_part s u _) (C.written count_part _ b.0 _ refl)
+rebound_same s u None None = C.same_kept count_part s
+
+pbound_same : (w : Work) (s : State) (n t u : ℕ) (d : Option CpuId) (answer : BindAnswer) → SameCounts s (pbound w s n t u d answer)
+unfolding pbound
+pbound_same w s n t u d (bind_answer.Changed at) =
+    C.then_kept count_part s (rebound s u d (thread_of s u).body.bound) _ (rebound_same s u d _)
+    (C.then_kept count_part _ (put_where w (rebound s u d (thread_of s u).body.bound) n u at) _ (C.put_where_kept count_part count_marks w _ n u at) (C.finish_op_kept count_part count_marks w _ t))
+pbound_same w s n t u d bind_answer.ESRCH = C.finish_op_kept count_part count_marks w s t
+pbound_same w s n t u d bind_answer.EINVAL = C.finish_op_kept count_part count_marks w s t
+pbound_same w s n t u d bind_answer.EPERM = C.finish_op_kept count_part count_marks w s t
+pbound_same w s n t u d bind_answer.EBUSY = C.finish_op_kept count_part count_marks w s t
+
+-- Each event.
+
+dropped_many : (s : State) (c : ℕ) (e : Event) → length (drop_ageing s c e).cpus ≡ length s.cpus
+unfolding drop_ageing set_duty
+dropped_many s c e = length-set s.cpus c _
+
+after_dropped : (tick : Bool) (s q : State) (c : ℕ) (e : Event) → Rises tick c (drop_ageing s c e) q → Rises tick c s q
+after_dropped tick s q c e rises = then_rises tick c s (drop_ageing s c e) q (drop_keeps count_part counts_plain s c e) (dropped_many s c e) rises
+
+after_rises : (w : Work) (s : State) (n : ℕ) (c : CpuId) (e : Event) → Rises (ticks e) c.0 s (after w s n c e)
+unfolding after effect
+after_rises w s n c (Tick t) = after_dropped true s _ c.0 (Tick t) (ticked_rises w (drop_ageing s c.0 (Tick t)) c.0 t.0)
+after_rises w s n c (Spin t l) = after_dropped true s _ c.0 (Spin t l) (spun_rises w (drop_ageing s c.0 (Spin t l)) c.0 t.0)
+after_rises w s n c Idle = after_dropped true s _ c.0 Idle (idled_rises w (drop_ageing s c.0 Idle) c.0)
+after_rises w s n c (Assign t d to answer) = after_dropped false s _ c.0 (Assign t d to answer) (stay c.0 _ _ (assigned_same w (drop_ageing s c.0 (Assign t d to answer)) t.0 d to answer))
+after_rises w s n c (Joined to) = after_dropped false s _ c.0 (Joined to) (stay c.0 _ _ (joined_same (drop_ageing s c.0 (Joined to)) c to))
+after_rises w s n c (Bind t u d answer) = after_dropped false s _ c.0 (Bind t u d answer) (stay c.0 _ _ (pbound_same w (drop_ageing s c.0 (Bind t u d answer)) n t.0 u.0 d answer))
+after_rises w s n c e = stay c.0 s (after w s n c e) (plain_keeps count_part counts_plain w s n c e refl)
+
+pub rise_law : CountsRiseByTicks
+rise_law = λ w n s c hints e reached makes d there.
+    let many : length s.cpus ≡ w.cpus = (reached_ready w n s reached).fits.cpus in
+    (after_rises w s n c e).each d (omega (arith, there, many))
+
+-- Counts stay close.
+
+-- a processor ticks only while no other has counted fewer
+tick_allowed : (w : Work) (s : State) (c : ℕ) (e : Event) → IsCause w s c e → ticks e ≡ true → may_tick w s c ≡ true
+tick_allowed w s c (Tick t) cause is = cause.1
+tick_allowed w s c (Spin t l) cause is = cause.1
+tick_allowed w s c Idle cause is = cause.2
+tick_allowed w s c e cause is = cc
+
+none_behind : (w : Work) (s : State) (c d : ℕ) → may_tick w s c ≡ true → d < length s.cpus → (cpu_of s c).count ≤ (cpu_of s d).count
+unfolding may_tick
+none_behind w s c d may inside = by (nat_le (cpu_of s c).count (cpu_of s d).count) refl
+  where
+    all : list_all (λ (x : CpuState). nat_le (cpu_of s c).count x.count) s.cpus ≡ true
+    all = and_right (nat_lt (cpu_of s c).count w.limit) _ may
+
+    by : (b : Bool) → nat_le (cpu_of s c).count (cpu_of s d).count ≡ b → (cpu_of s c).count ≤ (cpu_of s d).count
+    by true is = grind (arith, nat_tests)
+    by false is = absurd (false≢true (sym (list_all_at (λ (x : CpuState). nat_le (cpu_of s c).count x.count) s.cpus d no_cpu inside is) ∙ all))
+
+close_after : (w : Work) (s : State) (n : ℕ) (c : CpuId) (e : Event) → IsReady w s → IsCause w s c.0 e → CountsStayClose w s → CountsStayClose w (after w s n c e)
+close_after w s n c e ready cause close x y first second = by (ticks e) refl (after_rises w s n c e)
+  where
+    many : length s.cpus ≡ w.cpus
+    many = ready.fits.cpus
+
+    inside_x : x < length s.cpus
+    inside_x = omega (arith, many, first)
+
+    inside_y : y < length s.cpus
+    inside_y = omega (arith, many, second)
+
+    were : (cpu_of s x).count ≤ (cpu_of s y).count + 1
+    were = close x y first second
+
+    ahead : may_tick w s c.0 ≡ true → (b : Bool) → (c.0 == x) ≡ b → (cpu_of s x).count + ones (b && true) ≤ (cpu_of s y).count + 1
+    ahead may true is =
+        let same : c.0 ≡ x = grind (arith, nat_tests) in
+        let least : (cpu_of s x).count ≤ (cpu_of s y).count = subst (λ k. (cpu_of s k).count ≤ (cpu_of s y).count) same (none_behind w s c.0 y may inside_y) in
+        omega (arith, least)
+    ahead may false is = omega (arith, were)
+
+    by : (b : Bool) → ticks e ≡ b → Rises b c.0 s (after w s n c e) → (cpu_of (after w s n c e) x).count ≤ (cpu_of (after w s n c e) y).count + 1
+    by true is rises =
+        let here = rises.each x inside_x in
+        let there = rises.each y inside_y in
+        let bound = ahead (tick_allowed w s c.0 e cause is) (c.0 == x) refl in
+        omega (arith, here, there, bound)
+    by false is rises =
+        let here = rises.each x inside_x ∙ ap (λ k. (cpu_of s x).count + k) (no_tick (c.0 == x)) in
+        let there = rises.each y inside_y ∙ ap (λ k. (cpu_of s y).count + k) (no_tick (c.0 == y)) in
+        omega (arith, here, there, were)
+      where
+        no_tick : (b : Bool) → ones (b && false) ≡ 0
+        no_tick true = refl
+        no_tick false = refl
+
+opening_count : (w : Work) (c : ℕ) → (cpu_of (opening w) c).count ≡ 0
+unfolding opening
+opening_count w c = first_count w (range_with_len 0 w.cpus) c
+
+pub close_law : HoldsWhenReached CountsStayClose
+close_law = kept_reached CountsStayClose (record {
+  start = λ w c d first second. let none = opening_count w c in omega (arith, none);
+  step = λ w s n c e ready cause close. close_after w s n c e ready cause close;
+})
+
+-- The counts of a run.
+
+cpu_ticks_nil : (c : ℕ) → cpu_ticks c [] ≡ 0
+unfolding cpu_ticks
+cpu_ticks_nil c = refl
+
+cpu_ticks_cons : (c : ℕ) (x : Entry) (xs : List Entry) → cpu_ticks c (x ∷ xs) ≡ ones ((x.cpu.0 == c) && ticks x.event) + cpu_ticks c xs
+unfolding cpu_ticks
+cpu_ticks_cons c x xs = sum_by-cons (λ (e : Entry). cond ((e.cpu.0 == c) && ticks e.event) 1 0) x xs
+
+counted_from : (w : Work) (c : ℕ) (s : State) (n : ℕ) (es : List Entry) → IsReady w s → c < w.cpus → IsRunFrom w s n es → (cpu_of (final w s es) c).count ≡ (cpu_of s c).count + cpu_ticks c es
+unfolding final IsRunFrom
+counted_from w c s n [] ready inside run = let none = cpu_ticks_nil c in omega (arith, none)
+counted_from w c s n (x ∷ xs) ready inside (number, step, run) =
+    let r : State = after w s x.number x.cpu x.event in
+    let many : length s.cpus ≡ w.cpus = ready.fits.cpus in
+    let one : (cpu_of r c).count ≡ (cpu_of s c).count + ones ((x.cpu.0 == c) && ticks x.event) = (after_rises w s x.number x.cpu x.event).each c (omega (arith, inside, many)) in
+    let rest : (cpu_of (final w r xs) c).count ≡ (cpu_of r c).count + cpu_ticks c xs = counted_from w c r (n + 1) xs (next_ready w s x.number x.cpu x.hints x.event ready step) inside run in
+    let all = cpu_ticks_cons c x xs in
+    omega (arith, one, rest, all)
+
+pub ticks_law : CountsAreTicks
+ticks_law = λ w es c run inside.
+    let whole = counted_from w c (opening w) 0 es (opening_ready w) inside (IsRun-from w es run) in
+    let none = opening_count w c in
+    omega (arith, whole, none)

@@ -1,0 +1,424 @@
+-- The locks, channels and threads that duties name are there.
+use Rattle.std.proofs.Common.{◌≡◌, ℕ, zero, suc, ◌+◌, ◌-◌, ◌%◌, ◌<◌, ◌≤◌, Bool, true, false, ◌||◌, List, [], ◌∷◌, length, get_or, Option, Some, None, is_none, refl, sym, subst, inl, inr, arith}
+use Rattle.std.specs.Prelude.{⊤, if◌then◌else◌, is_some, int_lt, nat_lt, nat_le, ◌==◌, map, Result, Ok, Err, ◌&&◌}
+use Rattle.std.specs.Ordering.{int_eq}
+use Rattle.std.specs.List.{range_with_len}
+use Rattle.std.proofs.lemmas.Bool.{cases_lt}
+use Rattle.sd_types.specs.declared.numbers.ChanId.{ChanId}
+use Rattle.sd_types.specs.declared.numbers.CpuId.{CpuId}
+use Rattle.sd_types.specs.declared.numbers.LockId.{LockId}
+use Rattle.sd_types.specs.declared.numbers.SetId.{SetId}
+use Rattle.sd_types.specs.declared.numbers.Side.TheVariants.{Writer, Reader}
+use Rattle.sd_types.specs.declared.numbers.ThreadId.{ThreadId}
+use Rattle.sd_types.specs.declared.classes.ClassParms.{ClassParms}
+use Rattle.sd_types.specs.declared.events.AssignAnswer.{AssignAnswer}
+use Rattle.sd_types.specs.declared.events.AssignAnswer.TheVariants as assign
+use Rattle.sd_types.specs.declared.events.BindAnswer.{BindAnswer}
+use Rattle.sd_types.specs.declared.events.BindAnswer.TheVariants as bind_answer
+use Rattle.sd_types.specs.declared.events.Denied.{Denied}
+use Rattle.sd_types.specs.declared.events.Duty.{Duty}
+use Rattle.sd_types.specs.declared.events.Duty.TheVariants as duty
+use Rattle.sd_types.specs.declared.events.Event.{Event}
+use Rattle.sd_types.specs.declared.events.Event.TheVariants.{Tick, Spin, Idle, Dispatch, Steal, Preempt, Yield, Done, Nap, Napend, Sleep, Wake, Wakeall, Rouse, Enter, Read, Write, Block, Will, End as WalkEnd, Exit, Unblock, Grant, Passed, Age, Prio, CvWait, SemaP, SemaWait, SemaVWake, SemaVCount, Assign, Move, Joined, Bind, Away}
+use Rattle.sd_types.specs.declared.events.PrioAnswer.{PrioAnswer}
+use Rattle.sd_types.specs.declared.events.PrioAnswer.TheVariants.{Changed, Refused}
+use Rattle.sd_types.specs.declared.events.Put.{Put}
+use Rattle.sd_types.specs.declared.scripts.Op.{Op}
+use Rattle.sd_types.specs.declared.scripts.Op.TheVariants as op
+use Rattle.sd_types.specs.declared.works.Work.{Work}
+use Rattle.sd_types.specs.Works.{is_mutex}
+use Rattle.sd_machine.proofs.Moves.{put_cases}
+use Rattle.sd_state.specs.Invariants.{IsThere}
+use Rattle.sd_state.specs.declared.states.Place.{Place}
+use Rattle.sd_state.specs.declared.states.Place.TheVariants.{Running, Queued, RealTime, Waiting, Asleep, Napping, Ended}
+use Rattle.sd_state.specs.declared.states.LockState.{LockState}
+use Rattle.sd_state.specs.declared.states.LockState.TheVariants.{Free, Owned, ReadHeld, Passing}
+use Rattle.sd_state.specs.declared.states.CpuState.{CpuState}
+use Rattle.sd_state.specs.declared.states.State.{State}
+use Rattle.sd_state.specs.States.{no_cpu, thread_of, cpu_of, with_cpu}
+use Rattle.sd_state.specs.Operations.{op_of}
+use Rattle.sd_state.specs.Opening.{first_cpu_state, opening}
+use Rattle.sd_machine.specs.Threads.{thread_id, lock_of, with_lock, runner, best_waiter, best_sleeper, best_sleeper_below, eff_of, priority_of, has_waiters, greatest_waiting}
+use Rattle.sd_machine.specs.Bodies.{aged_class}
+use Rattle.sd_machine.specs.Changes.{back_key, with_body, run_tick, set_class, set_number, set_looped, set_duty, duty_after, counted, count_tick, put_where, close, join, bind, unbind}
+use Rattle.sd_machine.specs.Dispatching.{class_counts, ticked, spun, idled}
+use Rattle.sd_machine.specs.Sleeping.{woken, woke_all, roused_on, rouse_key, roused}
+use Rattle.sd_machine.specs.Locking.{kind_of, writer_first, after_reader, after_owner, free_or_passed, release_from, exited, unblocked_on, unblocked, granted, passed_on, passed}
+use Rattle.sd_machine.specs.Requeueing.{reordered}
+use Rattle.sd_machine.specs.Walking.{is_back, next_walk, walked, willed, walk_ended}
+use Rattle.sd_machine.specs.Prioritising.{answer_to, new_class, walk_from, changed_by, changed_on, reprioritised, lifted, aged}
+use Rattle.sd_machine.specs.Conditions.{cv_waited}
+use Rattle.sd_machine.specs.SetChanges.{cleared, assigned, joined, rebound, pbound}
+use Rattle.sd_machine.specs.Events.{keeps_ageing, dropped_duty, drop_ageing, effect, after}
+use Rattle.sd_machine.proofs.ShapeLemmas.{set_duty_shape}
+use Rattle.sd_frames.specs.Causes.{IsCause}
+use Rattle.sd_invariants.specs.Laws.{HoldsWhenReached}
+use Rattle.sd_frames.proofs.CpuWords as C
+use Rattle.sd_frames.proofs.LockTable as T
+use Rattle.sd_frames.proofs.LockTable.{duty_part, duty_marks}
+use Rattle.sd_frames.proofs.Found.{runner_found, age_found}
+use Rattle.sd_invariants.proofs.Movers.{owner_thread, prio_thread}
+use Rattle.sd_frames.proofs.Parts.{put_item, set_past}
+use Rattle.sd_invariants.proofs.Whole.{IsWhole, reached_whole}
+use Rattle.sd_invariants.proofs.Induction.{held_reached}
+use Rattle.sd_invariants.proofs.Named.{acts_named, sleep_chan, wants_lock}
+use Rattle.sd_invariants.proofs.Places.{PlacesAreThere, places_are_there}
+
+-- A duty to pass a lock on is left out: its lock is one that is being passed on.
+abbrev pub IsNamed : Work → Duty → Type 0
+IsNamed w (duty.Walk l seek k) = (l.0 < length w.locks) × (seek.0 < length w.threads)
+IsNamed w (duty.Rouse j below) = j.0 < length w.chans
+IsNamed w (duty.Age u) = u.0 ≤ length w.threads
+IsNamed w duty.Nothing = ⊤
+IsNamed w (duty.WakeMutex l) = ⊤
+IsNamed w (duty.GrantWriter l) = ⊤
+IsNamed w (duty.GrantReaders l) = ⊤
+
+abbrev pub DutiesNamed : Work → State → Type 0
+DutiesNamed w s = (c : ℕ) → IsNamed w (cpu_of s c).duty
+
+module _ (w : Work) where
+  named_kept : (s r : State) → C.Kept duty_part s r → DutiesNamed w s → DutiesNamed w r
+  named_kept s r a h d = subst (λ x. IsNamed w x) (sym (a.each d)) (h d)
+
+  named_put : (s r : State) (c : ℕ) (d : Duty) → T.DutyIs s r c d → IsNamed w d → DutiesNamed w s → DutiesNamed w r
+  named_put s r c d a is h e = elim (put_cases c d _ _ a.put e) [
+    | inl me ↦ subst (λ x. IsNamed w x) (sym me.1) is
+    | inr other ↦ subst (λ x. IsNamed w x) (sym other.1) (h e)
+  ]
+
+  named_written : (s : State) (c : ℕ) (x : CpuState) → IsNamed w x.duty → DutiesNamed w s → DutiesNamed w (with_cpu s c x)
+  named_written s c x is h d = elim (cases_lt c (length s.cpus)) [
+    | inl here ↦ named_put s (with_cpu s c x) c x.duty (record { put = put_item duty_part s.cpus no_cpu c x here }) is h d
+    | inr past ↦ subst (λ (xs : List CpuState). IsNamed w (get_or xs d no_cpu).duty) (sym (set_past s.cpus c x past)) (h d)
+  ]
+
+  named_duty : (s : State) (c : ℕ) (d : Duty) → IsNamed w d → DutiesNamed w s → DutiesNamed w (set_duty s c d)
+  unfolding set_duty
+  named_duty s c d is h = named_written s c (record (cpu_of s c) { duty = d }) is h
+
+  -- Ticks.
+
+  after_tick : (n : ℕ) (d : Duty) → IsNamed w d → IsNamed w (duty_after w n d)
+  after_tick n d is = elim ((n % w.hz) == 0) as (λ b. IsNamed w (if b then duty.Age (record { 0 = 0 }) else d)) [ true ↦ omega arith | false ↦ is ]
+
+  count_tick_named : (s : State) (c : ℕ) → DutiesNamed w s → DutiesNamed w (count_tick w s c)
+  unfolding count_tick
+  count_tick_named s c h = named_written s c (counted w (cpu_of s c)) (after_tick ((cpu_of s c).count + 1) (cpu_of s c).duty (h c)) h
+
+  class_counts_named : (s : State) (c t : ℕ) → DutiesNamed w s → DutiesNamed w (class_counts w s c t)
+  class_counts_named s c t h = named_kept s _ (C.class_counts_kept duty_part duty_marks w s c t) h
+
+  ticked_named : (s : State) (c t : ℕ) → DutiesNamed w s → DutiesNamed w (ticked w s c t)
+  unfolding ticked
+  ticked_named s c t h = class_counts_named (run_tick w (count_tick w s c) t) c t (named_kept (count_tick w s c) _ (C.run_tick_kept duty_part duty_marks w _ t) (count_tick_named s c h))
+
+  spun_named : (s : State) (c t : ℕ) → DutiesNamed w s → DutiesNamed w (spun w s c t)
+  unfolding spun
+  spun_named s c t h = class_counts_named (count_tick w s c) c t (count_tick_named s c h)
+
+  idled_named : (s : State) (c : ℕ) → DutiesNamed w s → DutiesNamed w (idled w s c)
+  unfolding idled
+  idled_named s c h = count_tick_named s c h
+
+  -- Sleepers.
+
+  woke_all_named : (s : State) (n : ℕ) (c : CpuId) (t : ℕ) (k : ChanId) → k.0 < length w.chans → DutiesNamed w s → DutiesNamed w (woke_all w s n c t k)
+  unfolding woke_all
+  woke_all_named s n c t k there h = named_kept (if is_none (best_sleeper s k.0) then s else set_duty s c.0 (duty.Rouse k (back_key n))) _ (C.finish_op_kept duty_part duty_marks w _ t) (by (is_none (best_sleeper s k.0)))
+    where
+      by : (b : Bool) → DutiesNamed w (if b then s else set_duty s c.0 (duty.Rouse k (back_key n)))
+      by true = h
+      by false = named_duty s c.0 (duty.Rouse k (back_key n)) there h
+
+  roused_named : (s : State) (n : ℕ) (c : CpuId) (k : ChanId) (u : Option (ThreadId × Put)) (d : Duty) → DutiesNamed w s → DutiesNamed w (roused w s n c k u d)
+  unfolding roused
+  roused_named s n c k None d h = named_duty s c.0 duty.Nothing tt h
+  roused_named s n c k (Some u) d h = by (best_sleeper_below (woken w s n u.0.0 u.1) k.0 (rouse_key d)) (named_kept s _ (T.woken_duties w s n u.0.0 u.1) h)
+    where
+      by : (o : Option ℕ) → DutiesNamed w (woken w s n u.0.0 u.1) → DutiesNamed w (roused_on (woken w s n u.0.0 u.1) c o)
+      by None g = named_duty _ c.0 duty.Nothing tt g
+      by (Some v) g = g
+
+  -- Walks.
+
+  next_named : (d : Duty) (o : ThreadId) (looped : Bool) (p : Place) → o.0 < length w.threads → IsThere w p → IsNamed w d → IsNamed w (next_walk d o looped p)
+  next_named (duty.Walk l seek key) o looped (Waiting m side k) inside there is = by (looped || ((seek.0 == o.0) && int_eq key k)) (int_lt key k)
+    where
+      by : (a b : Bool) → IsNamed w (if a then duty.Nothing else if b then duty.Walk m o k else duty.Walk m seek key)
+      by true b = tt
+      by false true = (there, inside)
+      by false false = (there, is.1)
+  next_named (duty.Walk l seek key) o looped (Running c) inside there is = tt
+  next_named (duty.Walk l seek key) o looped (Queued c k) inside there is = tt
+  next_named (duty.Walk l seek key) o looped (RealTime q k) inside there is = tt
+  next_named (duty.Walk l seek key) o looped (Asleep j k) inside there is = tt
+  next_named (duty.Walk l seek key) o looped (Napping c due) inside there is = tt
+  next_named (duty.Walk l seek key) o looped Ended inside there is = tt
+  next_named duty.Nothing o looped p inside there is = tt
+  next_named (duty.WakeMutex l) o looped p inside there is = tt
+  next_named (duty.GrantWriter l) o looped p inside there is = tt
+  next_named (duty.GrantReaders l) o looped p inside there is = tt
+  next_named (duty.Rouse k below) o looped p inside there is = tt
+  next_named (duty.Age u) o looped p inside there is = tt
+
+  willed_named : (s : State) (n : ℕ) (c : CpuId) (l : LockId) (o : ThreadId) (at : Option Put) → o.0 < length w.threads → IsThere w (thread_of s o.0).place → DutiesNamed w s → DutiesNamed w (willed w s n c l o at)
+  unfolding willed
+  willed_named s n c l o at inside there h =
+      let before : C.Kept duty_part s (set_looped (set_number s o.0 l (greatest_waiting l.0 s.threads)) o.0 ((thread_of s o.0).body.looped || is_back (cpu_of s c.0).duty o (thread_of s o.0).place)) =
+      C.then_kept duty_part s _ _ (C.set_number_kept duty_part duty_marks s o.0 l _) (C.set_looped_kept duty_part duty_marks _ o.0 _) in
+      named_kept (walked s c l o) _ (C.reordered_kept duty_part duty_marks w _ n o.0 _ at)
+      (named_duty _ c.0 (next_walk (cpu_of s c.0).duty o (thread_of s o.0).body.looped (thread_of s o.0).place)
+      (next_named (cpu_of s c.0).duty o (thread_of s o.0).body.looped (thread_of s o.0).place inside there (h c.0)) (named_kept s _ before h))
+
+  walk_ended_named : (s : State) (c : CpuId) → DutiesNamed w s → DutiesNamed w (walk_ended s c)
+  unfolding walk_ended
+  walk_ended_named s c h = named_duty s c.0 duty.Nothing tt h
+
+  walk_from_named : (s : State) (c : CpuId) (u : ThreadId) (p : Place) → u.0 < length w.threads → IsThere w p → DutiesNamed w s → DutiesNamed w (walk_from s c u p)
+  walk_from_named s c u (Waiting l side k) inside there h = named_duty s c.0 (duty.Walk l u k) (there, inside) h
+  walk_from_named s c u (Running d) inside there h = h
+  walk_from_named s c u (Queued d k) inside there h = h
+  walk_from_named s c u (RealTime q k) inside there h = h
+  walk_from_named s c u (Asleep j k) inside there h = h
+  walk_from_named s c u (Napping d k) inside there h = h
+  walk_from_named s c u Ended inside there h = h
+
+  changed_by_named : (s : State) (n : ℕ) (c : CpuId) (u : ThreadId) (at : Option Put) (r : Result ClassParms Denied) → u.0 < length w.threads → IsThere w (thread_of s u.0).place → DutiesNamed w s → DutiesNamed w (changed_by w s n c u at r)
+  changed_by_named s n c u at (Err d) inside there h = h
+  changed_by_named s n c u at (Ok parms) inside there h =
+      walk_from_named (reordered w (set_class s u.0 (new_class w s u.0 parms)) n u.0 (eff_of s u.0) at) c u (thread_of s u.0).place inside there
+      (named_kept s _ (C.then_kept duty_part s _ _ (C.set_class_kept duty_part duty_marks s u.0 (new_class w s u.0 parms)) (C.reordered_kept duty_part duty_marks w _ n u.0 (eff_of s u.0) at)) h)
+
+  changed_on_named : (s : State) (n : ℕ) (c : CpuId) (t : ℕ) (u : ThreadId) (at : Option Put) (o : Option Op) → u.0 < length w.threads → IsThere w (thread_of s u.0).place → DutiesNamed w s → DutiesNamed w (changed_on w s n c t u at o)
+  changed_on_named s n c t u at (Some (op.Prio v r)) inside there h = changed_by_named s n c u at (answer_to w s t u.0 r) inside there h
+  changed_on_named s n c t u at _ inside there h = h
+
+  reprioritised_named : (s : State) (n : ℕ) (c : CpuId) (t : ℕ) (u : ThreadId) (answer : PrioAnswer) → u.0 < length w.threads → IsThere w (thread_of s u.0).place → DutiesNamed w s → DutiesNamed w (reprioritised w s n c t u answer)
+  unfolding reprioritised
+  reprioritised_named s n c t u (Changed p at) inside there h =
+      named_kept (changed_on w s n c t u at (op_of w t (thread_of s t).body)) _ (C.finish_op_kept duty_part duty_marks w _ t) (changed_on_named s n c t u at (op_of w t (thread_of s t).body) inside there h)
+  reprioritised_named s n c t u (Refused d) inside there h = named_kept s _ (C.finish_op_kept duty_part duty_marks w s t) h
+
+  -- Ageing.
+
+  aged_named : (s : State) (n : ℕ) (c : CpuId) (t : ℕ) → t < length w.threads → DutiesNamed w s → DutiesNamed w (aged w s n c t)
+  unfolding aged
+  aged_named s n c t inside h =
+      named_duty (lifted w (set_class s t (aged_class w (thread_of s t).body.class)) n c t (eff_of s t)) c.0 (duty.Age (record { 0 = t + 1 })) (omega (arith, inside))
+      (named_kept s _ (C.then_kept duty_part s _ _ (C.set_class_kept duty_part duty_marks s t (aged_class w (thread_of s t).body.class)) (C.lifted_kept duty_part duty_marks w _ n c t (eff_of s t))) h)
+
+  -- Locks.
+
+  writer_named : (s : State) (l : LockId) (b : Bool) → IsNamed w (if b then duty.GrantWriter l else duty.GrantReaders l)
+  writer_named s l true = tt
+  writer_named s l false = tt
+
+  owner_named : (s : State) (l : LockId) → IsNamed w (after_owner w s l)
+  owner_named s l = by (is_mutex (kind_of w l)) (writer_first (priority_of s (best_waiter s l.0 Writer)) (priority_of s (best_waiter s l.0 Reader)))
+    where
+      by : (a b : Bool) → IsNamed w (if a then duty.WakeMutex l else if b then duty.GrantWriter l else duty.GrantReaders l)
+      by true b = tt
+      by false true = tt
+      by false false = tt
+
+  free_or_passed_named : (s : State) (c : CpuId) (l : LockId) (d : Duty) → IsNamed w d → DutiesNamed w s → DutiesNamed w (free_or_passed s c l d)
+  free_or_passed_named s c l d is h = by (has_waiters s l.0)
+    where
+      by : (b : Bool) → DutiesNamed w (if b then set_duty (with_lock s l.0 (Passing c 0)) c.0 d else with_lock s l.0 Free)
+      by true = named_duty (with_lock s l.0 (Passing c 0)) c.0 d is h
+      by false = h
+
+  release_named : (s : State) (c : CpuId) (l : LockId) (x : LockState) → DutiesNamed w s → DutiesNamed w (release_from w s c l x)
+  release_named s c l Free h = h
+  release_named s c l (Owned o) h = free_or_passed_named s c l (after_owner w s l) (owner_named s l) h
+  release_named s c l (ReadHeld n) h = by (nat_le n 1)
+    where
+      by : (b : Bool) → DutiesNamed w (if b then free_or_passed s c l (after_reader s l) else with_lock s l.0 (ReadHeld (n - 1)))
+      by true = free_or_passed_named s c l (after_reader s l) (writer_named s l (is_some (best_waiter s l.0 Writer))) h
+      by false = h
+  release_named s c l (Passing d r) h = h
+
+  exited_named : (s : State) (c : CpuId) (t : ℕ) (l : LockId) → DutiesNamed w s → DutiesNamed w (exited w s c t l)
+  exited_named s c t l h = named_kept (release_from w s c l (lock_of s l.0)) _ (T.exited_duties w s c t l) (release_named s c l (lock_of s l.0) h)
+
+  cv_waited_named : (s : State) (n : ℕ) (c : CpuId) (t : ℕ) (k : ChanId) (l : LockId) → DutiesNamed w s → DutiesNamed w (cv_waited w s n c t k l)
+  cv_waited_named s n c t k l h = named_kept (release_from w s c l (lock_of s l.0)) _ (T.cv_waited_duties w s n c t k l) (release_named s c l (lock_of s l.0) h)
+
+  unblocked_named : (s : State) (n : ℕ) (c : CpuId) (l : LockId) (u : ℕ) (at : Put) → DutiesNamed w s → DutiesNamed w (unblocked w s n c l u at)
+  unfolding unblocked
+  unblocked_named s n c l u at h = by (has_waiters (woken w s n u at) l.0) (named_kept s _ (T.woken_duties w s n u at) h)
+    where
+      by : (b : Bool) → DutiesNamed w (woken w s n u at) → DutiesNamed w (unblocked_on (woken w s n u at) c l b)
+      by true g = g
+      by false g = named_duty (with_lock (woken w s n u at) l.0 Free) c.0 duty.Nothing tt g
+
+  granted_named : (s : State) (n : ℕ) (c : CpuId) (l : LockId) (u : ℕ) (at : Put) (d : Duty) → c.0 < length s.cpus → DutiesNamed w s → DutiesNamed w (granted w s n c l u at d)
+  granted_named s n c l u at (duty.GrantWriter m) here h = named_put s _ c.0 duty.Nothing (T.granted_to_writer_duty w s n c l u at here) tt h
+  granted_named s n c l u at (duty.GrantReaders m) here h = named_kept s _ (T.granted_to_reader_duties w s n l u at) h
+  granted_named s n c l u at (duty.WakeMutex m) here h = named_kept s _ (T.granted_to_reader_duties w s n l u at) h
+  granted_named s n c l u at (duty.Walk m seek k) here h = named_kept s _ (T.granted_to_reader_duties w s n l u at) h
+  granted_named s n c l u at (duty.Rouse k below) here h = named_kept s _ (T.granted_to_reader_duties w s n l u at) h
+  granted_named s n c l u at (duty.Age v) here h = named_kept s _ (T.granted_to_reader_duties w s n l u at) h
+  granted_named s n c l u at duty.Nothing here h = named_kept s _ (T.granted_to_reader_duties w s n l u at) h
+
+  passed_on_named : (s : State) (c : CpuId) (l : LockId) (x : LockState) → DutiesNamed w s → DutiesNamed w (passed_on s c l x)
+  passed_on_named s c l (Passing d r) h = by (nat_lt 0 r) (is_some (best_waiter s l.0 Writer))
+    where
+      by : (a b : Bool) → DutiesNamed w (if a then set_duty (with_lock s l.0 (ReadHeld r)) c.0 duty.Nothing else if b then set_duty s c.0 (duty.GrantWriter l) else set_duty (with_lock s l.0 Free) c.0 duty.Nothing)
+      by true b = named_duty (with_lock s l.0 (ReadHeld r)) c.0 duty.Nothing tt h
+      by false true = named_duty s c.0 (duty.GrantWriter l) tt h
+      by false false = named_duty (with_lock s l.0 Free) c.0 duty.Nothing tt h
+  passed_on_named s c l Free h = named_duty s c.0 duty.Nothing tt h
+  passed_on_named s c l (Owned o) h = named_duty s c.0 duty.Nothing tt h
+  passed_on_named s c l (ReadHeld n) h = named_duty s c.0 duty.Nothing tt h
+
+  passed_named : (s : State) (c : CpuId) (l : LockId) → DutiesNamed w s → DutiesNamed w (passed s c l)
+  unfolding passed
+  passed_named s c l h = passed_on_named s c l (lock_of s l.0) h
+
+  -- Sets and bindings.
+
+  close_duties : (s : State) (d : CpuId) (to : SetId) → C.Kept duty_part s (close s d to)
+  unfolding close
+  close_duties s d to = C.then_kept duty_part s _ _ (C.open_kept duty_part s _ _) (C.written duty_part _ d.0 _ refl)
+
+  joined_duties : (s : State) (c : CpuId) (to : SetId) → C.Kept duty_part s (joined s c to)
+  unfolding joined join
+  joined_duties s c to = C.then_kept duty_part s _ _ (C.open_kept duty_part s _ _) (C.written duty_part _ c.0 _ refl)
+
+  assigned_duties : (s : State) (t : ℕ) (d : CpuId) (to : SetId) (answer : AssignAnswer) → C.Kept duty_part s (assigned w s t d to answer)
+  unfolding assigned
+  assigned_duties s t d to assign.Changed =
+      C.then_kept duty_part s _ _ (close_duties s d to) (C.then_kept duty_part _ (cleared (close s d to) d (runner s d.0)) _ (C.cleared_kept duty_part duty_marks _ d _) (C.finish_op_kept duty_part duty_marks w _ t))
+  assigned_duties s t d to assign.EPERM = C.finish_op_kept duty_part duty_marks w s t
+  assigned_duties s t d to assign.EINVAL = C.finish_op_kept duty_part duty_marks w s t
+  assigned_duties s t d to assign.EBUSY = C.finish_op_kept duty_part duty_marks w s t
+
+  bind_duties : (s : State) (t : ℕ) (d : CpuId) → C.Kept duty_part s (bind s t d)
+  unfolding bind
+  bind_duties s t d = C.then_kept duty_part s (with_body s t (record (thread_of s t).body { bound = Some d })) _ (C.thread_kept duty_part s t _) (C.written duty_part _ d.0 _ refl)
+
+  unbind_duties : (s : State) (t : ℕ) (b : CpuId) → C.Kept duty_part s (unbind s t b)
+  unfolding unbind
+  unbind_duties s t b = C.then_kept duty_part s (with_body s t (record (thread_of s t).body { bound = None })) _ (C.thread_kept duty_part s t _) (C.written duty_part _ b.0 _ refl)
+
+  rebound_duties : (s : State) (u : ℕ) (d b : Option CpuId) → C.Kept duty_part s (rebound s u d b)
+  rebound_duties s u (Some d) b = C.then_kept duty_part s _ _ (bind_duties s u d) (C.called_back_kept duty_part duty_marks _ d _)
+  rebound_duties s u None (Some b) = unbind_duties s u b
+  rebound_duties s u None None = C.same_kept duty_part s
+
+  pbound_duties : (s : State) (n t u : ℕ) (d : Option CpuId) (answer : BindAnswer) → C.Kept duty_part s (pbound w s n t u d answer)
+  unfolding pbound
+  pbound_duties s n t u d (bind_answer.Changed at) =
+      C.then_kept duty_part s (rebound s u d (thread_of s u).body.bound) _ (rebound_duties s u d _) (C.then_kept duty_part _ (put_where w (rebound s u d (thread_of s u).body.bound) n u at) _ (C.put_where_kept duty_part duty_marks w _ n u at) (C.finish_op_kept duty_part duty_marks w _ t))
+  pbound_duties s n t u d bind_answer.ESRCH = C.finish_op_kept duty_part duty_marks w s t
+  pbound_duties s n t u d bind_answer.EINVAL = C.finish_op_kept duty_part duty_marks w s t
+  pbound_duties s n t u d bind_answer.EPERM = C.finish_op_kept duty_part duty_marks w s t
+  pbound_duties s n t u d bind_answer.EBUSY = C.finish_op_kept duty_part duty_marks w s t
+
+  -- Each event.
+
+  -- what an event asks of the places of threads
+  abbrev Needs : (ℕ → Place) → Event → Type 0
+  Needs places (Wakeall t k) = k.0 < length w.chans
+  Needs places (Block t l) = (l.0 < length w.locks) × (t.0 < length w.threads)
+  Needs places (Will l o p at) = (o.0 < length w.threads) × IsThere w (places o.0)
+  Needs places (Age t p) = t.0 < length w.threads
+  Needs places (Prio t u answer) = (u.0 < length w.threads) × IsThere w (places u.0)
+  Needs places _ = ⊤
+
+  effect_named : (s : State) (n : ℕ) (c : CpuId) (e : Event) → c.0 < length s.cpus → Needs (λ t. (thread_of s t).place) e → DutiesNamed w s → DutiesNamed w (effect w s n c e)
+  unfolding effect
+  effect_named s n c (Tick t) here needs h = ticked_named s c.0 t.0 h
+  effect_named s n c (Spin t l) here needs h = spun_named s c.0 t.0 h
+  effect_named s n c Idle here needs h = idled_named s c.0 h
+  effect_named s n c (Wakeall t k) here needs h = woke_all_named s n c t.0 k needs h
+  effect_named s n c (Rouse k u) here needs h = roused_named s n c k u (cpu_of s c.0).duty h
+  effect_named s n c (Block t l) here needs h = named_put s _ c.0 (duty.Walk l (thread_id t.0) (back_key n)) (T.blocked_duty w s n c t.0 l here) needs h
+  effect_named s n c (Will l o p at) here needs h = willed_named s n c l o at needs.0 needs.1 h
+  effect_named s n c (WalkEnd l) here needs h = walk_ended_named s c h
+  effect_named s n c (Exit t l) here needs h = exited_named s c t.0 l h
+  effect_named s n c (Unblock l u at) here needs h = unblocked_named s n c l u.0 at h
+  effect_named s n c (Grant l u at) here needs h = granted_named s n c l u.0 at (cpu_of s c.0).duty here h
+  effect_named s n c (Passed l) here needs h = passed_named s c l h
+  effect_named s n c (Age t p) here needs h = aged_named s n c t.0 needs h
+  effect_named s n c (Prio t u answer) here needs h = reprioritised_named s n c t.0 u answer needs.0 needs.1 h
+  effect_named s n c (CvWait t k l) here needs h = cv_waited_named s n c t.0 k l h
+  effect_named s n c (Assign t d to answer) here needs h = named_kept s _ (assigned_duties s t.0 d to answer) h
+  effect_named s n c (Joined to) here needs h = named_kept s _ (joined_duties s c to) h
+  effect_named s n c (Bind t u d answer) here needs h = named_kept s _ (pbound_duties s n t.0 u.0 d answer) h
+  effect_named s n c (Dispatch t p) here needs h = named_kept s _ (C.dispatched_kept duty_part duty_marks s c t.0) h
+  effect_named s n c (Steal v t p) here needs h = named_kept s _ (C.stolen_kept duty_part duty_marks s c t.0) h
+  effect_named s n c (Preempt t end) here needs h = named_kept s _ (C.preempted_kept duty_part duty_marks w s n c t.0 end) h
+  effect_named s n c (Away t d) here needs h = named_kept s _ (C.sent_away_kept duty_part duty_marks s n c t.0 d) h
+  effect_named s n c (Yield t) here needs h = named_kept s _ (C.yielded_kept duty_part duty_marks w s n c t.0) h
+  effect_named s n c (Done t) here needs h = named_kept s _ (C.done_kept duty_part duty_marks s c t.0) h
+  effect_named s n c (Nap t) here needs h = named_kept s _ (C.napped_kept duty_part duty_marks w s c t.0) h
+  effect_named s n c (Napend t at) here needs h = named_kept s _ (C.woken_kept duty_part duty_marks w s n t.0 at) h
+  effect_named s n c (Sleep t k) here needs h = named_kept s _ (C.fallen_asleep_kept duty_part duty_marks w s n c t.0 k) h
+  effect_named s n c (Wake t k u) here needs h = named_kept s _ (C.woke_kept duty_part duty_marks w s n t.0 u) h
+  effect_named s n c (Enter t l) here needs h = named_kept s _ (C.owned_kept duty_part duty_marks w s t.0 l) h
+  effect_named s n c (Read t l) here needs h = named_kept s _ (C.read_kept duty_part duty_marks w s t.0 l) h
+  effect_named s n c (Write t l) here needs h = named_kept s _ (C.owned_kept duty_part duty_marks w s t.0 l) h
+  effect_named s n c (SemaP t k) here needs h = named_kept s _ (C.sema_taken_kept duty_part duty_marks w s t.0 k) h
+  effect_named s n c (SemaWait t k) here needs h = named_kept s _ (C.fallen_asleep_kept duty_part duty_marks w s n c t.0 k) h
+  effect_named s n c (SemaVWake t k u at) here needs h = named_kept s _ (C.sema_handed_kept duty_part duty_marks w s n t.0 u.0 at) h
+  effect_named s n c (SemaVCount t k m) here needs h = named_kept s _ (C.sema_counted_kept duty_part duty_marks w s t.0 k) h
+  effect_named s n c (Move t at) here needs h = named_kept s _ (C.moved_kept duty_part duty_marks w s n t.0 at) h
+
+  dropped_named : (e : Event) (d : Duty) → IsNamed w d → IsNamed w (dropped_duty e d)
+  dropped_named e (duty.Age u) is = elim (keeps_ageing e) as (λ b. IsNamed w (if b then duty.Age u else duty.Nothing)) [ true ↦ is | false ↦ tt ]
+  dropped_named e duty.Nothing is = tt
+  dropped_named e (duty.Walk l seek k) is = is
+  dropped_named e (duty.WakeMutex l) is = tt
+  dropped_named e (duty.GrantWriter l) is = tt
+  dropped_named e (duty.GrantReaders l) is = tt
+  dropped_named e (duty.Rouse k below) is = is
+
+  drop_named : (s : State) (c : ℕ) (e : Event) → DutiesNamed w s → DutiesNamed w (drop_ageing s c e)
+  unfolding drop_ageing
+  drop_named s c e h = named_duty s c (dropped_duty e (cpu_of s c).duty) (dropped_named e (cpu_of s c).duty (h c)) h
+
+  drop_there : (s : State) (c d : ℕ) (e : Event) → d < length s.cpus → d < length (drop_ageing s c e).cpus
+  unfolding drop_ageing
+  drop_there s c d e here = let many : length (set_duty s c (dropped_duty e (cpu_of s c).duty)).cpus ≡ length s.cpus = (set_duty_shape s c (dropped_duty e (cpu_of s c).duty)).cpus in omega (arith, here, many)
+
+  drop_needs : (s : State) (c : ℕ) (e : Event) → Needs (λ t. (thread_of s t).place) e → Needs (λ t. (thread_of (drop_ageing s c e) t).place) e
+  unfolding drop_ageing set_duty
+  drop_needs s c e needs = needs
+
+  after_named : (s : State) (n : ℕ) (c : CpuId) (e : Event) → c.0 < length s.cpus → Needs (λ t. (thread_of s t).place) e → DutiesNamed w s → DutiesNamed w (after w s n c e)
+  unfolding after
+  after_named s n c e here needs h = effect_named (drop_ageing s c.0 e) n c e (drop_there s c.0 c.0 e here) (drop_needs s c.0 e needs) (drop_named s c.0 e h)
+
+  module _ (s : State) (whole : IsWhole w s) (places : PlacesAreThere w s) where
+    thread_there : (t : ℕ) → t < length s.threads → t < length w.threads
+    thread_there t inside = let many = whole.ready.fits.threads in omega (arith, inside, many)
+
+    needs_of : (c : ℕ) (e : Event) → IsCause w s c e → Needs (λ t. (thread_of s t).place) e
+    needs_of c (Wakeall t k) cause = sleep_chan w k (acts_named w s c t.0 (op.WakeAll k) cause)
+    needs_of c (Block t l) cause = (wants_lock w s c t.0 l cause.0 cause.1, thread_there t.0 (runner_found s c t.0 cause.1.acts.runs).inside)
+    needs_of c (Will l o p at) cause = (thread_there o.0 (owner_thread s l o whole.ready.agreed cause.1), places o.0)
+    needs_of c (Age t p) cause = thread_there t.0 (age_found s c (cause.0).0 t.0 cause.2).inside
+    needs_of c (Prio t u answer) cause = (thread_there u.0 (prio_thread w s c t.0 u cause.0 whole.ready.fits cause.1), places u.0)
+    needs_of c _ cause = tt
+
+first_duties : (w : Work) (xs : List ℕ) (c : ℕ) → IsNamed w (get_or (map (first_cpu_state w) xs) c no_cpu).duty
+unfolding first_cpu_state
+first_duties w [] c = tt
+first_duties w (x ∷ xs) zero = tt
+first_duties w (x ∷ xs) (suc c) = first_duties w xs c
+
+opening_duties : (w : Work) → DutiesNamed w (opening w)
+unfolding opening
+opening_duties w c = first_duties w (range_with_len 0 w.cpus) c
+
+pub duties_named : HoldsWhenReached DutiesNamed
+duties_named = held_reached DutiesNamed (record {
+  start = opening_duties;
+  step = λ w s n c e reached here cause h.
+      let whole = reached_whole w n s reached in
+      let many : length s.cpus ≡ w.cpus = whole.ready.fits.cpus in
+      after_named w s n c e (omega (arith, here, many)) (needs_of w s whole (places_are_there w n s reached) c.0 e cause) h;
+})

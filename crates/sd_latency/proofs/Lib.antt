@@ -1,6 +1,0 @@
-pub mod EffectLemmas
-pub mod NearLemmas
-pub mod ReportLemmas
-pub mod RowLemmas
-pub mod TraceLemmas
-pub mod WalkLemmas

@@ -1,4 +1,0 @@
-pub mod Effects
-pub mod Laws
-pub mod Tables
-pub mod Waits

@@ -1,0 +1,249 @@
+-- A thread that is asleep stays so, at its place, after each event that does not wake it.
+use Rattle.std.proofs.Common.{◌≡◌, ◌≢◌, ℕ, ◌<◌, Bool, true, false, length, Option, Some, None, refl, sym, ap, ◌∙◌, subst, ◌⊎◌, inl, inr, arith}
+use Rattle.std.specs.Prelude.{⊤, if◌then◌else◌, ◌==◌, is_none, ℤ}
+use Rattle.std.proofs.lemmas.Bool.{false≢true, cases_lt}
+use Rattle.std.proofs.lemmas.Bool.Decides.{nat_tests}
+use Rattle.std.proofs.lemmas.List.{get_or_past}
+use Rattle.std.proofs.lemmas.Option.{same_Some}
+use Rattle.sd_types.specs.declared.numbers.ChanId.{ChanId}
+use Rattle.sd_types.specs.declared.numbers.CpuId.{CpuId}
+use Rattle.sd_types.specs.declared.numbers.ThreadId.{ThreadId}
+use Rattle.sd_types.specs.declared.events.BindAnswer.{BindAnswer}
+use Rattle.sd_types.specs.declared.events.BindAnswer.TheVariants as bind_answer
+use Rattle.sd_types.specs.declared.events.Event.{Event}
+use Rattle.sd_types.specs.declared.events.Event.TheVariants.{Dispatch, Steal, Preempt, Yield, Done, Nap, Napend, Sleep, Wake, Rouse, Block, Will, Unblock, Grant, Age, Prio, CvWait, SemaWait, SemaVWake, SemaVCount, Move, Bind, Away}
+use Rattle.sd_types.specs.declared.events.PrioAnswer.{PrioAnswer}
+use Rattle.sd_types.specs.declared.events.PrioAnswer.TheVariants.{Changed, Refused}
+use Rattle.sd_types.specs.declared.events.Put.{Put}
+use Rattle.sd_types.specs.declared.scripts.Request.{Request}
+use Rattle.sd_types.specs.declared.works.Work.{Work}
+use Rattle.sd_types.specs.Priorities.{eff_as}
+use Rattle.sd_machine.proofs.Moves.{put_cases}
+use Rattle.sd_machine.specs.declared.plans.Requeue.{Requeue}
+use Rattle.sd_machine.specs.declared.plans.Requeue.TheVariants.{Stays, Behind, Anew}
+use Rattle.sd_state.specs.declared.states.Place.{Place}
+use Rattle.sd_state.specs.declared.states.Place.TheVariants.{Running, Queued, RealTime, Waiting, Asleep, Napping, Ended}
+use Rattle.sd_state.specs.declared.states.ThreadState.{ThreadState}
+use Rattle.sd_state.specs.declared.states.State.{State}
+use Rattle.sd_state.specs.Opening.{opening}
+use Rattle.sd_state.specs.States.{no_thread, thread_of, cpu_of, is_running, is_queued, is_ready}
+use Rattle.sd_state.proofs.BestLemmas.{and_left}
+use Rattle.sd_machine.specs.Bodies.{aged_class}
+use Rattle.sd_machine.specs.Changes.{back_key}
+use Rattle.sd_machine.specs.Events.{after}
+use Rattle.sd_machine.specs.Requeueing.{requeue}
+use Rattle.sd_machine.specs.Runs.{final}
+use Rattle.sd_machine.specs.SetChanges.{bound_put, unbound_put, bind_put, bind_to}
+use Rattle.sd_machine.specs.Threads.{best_sleeper, is_asleep, is_ts, next_to_age, runner, eff_of}
+use Rattle.sd_frames.specs.Causes.{IsRequeuedAt, IsAnswered, IsCause}
+use Rattle.sd_invariants.specs.Laws.{woken_by}
+use Rattle.sd_frames.specs.Moves.{Step, put_step_if, reordered_step, aged_step, prio_step, bind_step, step_of}
+use Rattle.sd_frames.specs.Moves.Step.{Stay, Go}
+use Rattle.sd_invariants.proofs.AgreedAfter.{IsReady}
+use Rattle.sd_frames.proofs.Found.{runner_found, ready_found, queued_found, unbound_found, age_found}
+use Rattle.sd_invariants.proofs.Movers.{bind_put_is, kept_stays, behind_goes, anew_goes}
+use Rattle.sd_frames.proofs.PlaceTable.{Stepped}
+use Rattle.sd_frames.proofs.Searches.{sleeper_some}
+use Rattle.sd_laws.specs.HistoryLaws.{put_to_sleep, finds_nobody, SleepersSleepUntilWoken, WaitersSleepUntilWoken}
+use Rattle.sd_laws.proofs.Carried.{IsCarried, IsMet, carried_from, met_from, split}
+use Rattle.sd_laws.proofs.Runnable.{steps_after}
+
+abbrev pub sleeps : Place → Bool
+sleeps (Asleep k key) = true
+sleeps _ = false
+
+-- Places where no thread sleeps.
+
+pub running_awake : (c : ℕ) (p : Place) → is_running c p ≡ true → sleeps p ≡ false
+running_awake c (Running d) e = refl
+running_awake c (Queued d k) e = refl
+running_awake c (RealTime q k) e = refl
+running_awake c (Waiting l side k) e = refl
+running_awake c (Asleep j k) e = cc
+running_awake c (Napping d k) e = refl
+running_awake c Ended e = refl
+
+queued_awake : (c : ℕ) (p : Place) → is_queued c p ≡ true → sleeps p ≡ false
+queued_awake c (Running d) e = refl
+queued_awake c (Queued d k) e = refl
+queued_awake c (RealTime q k) e = refl
+queued_awake c (Waiting l side k) e = refl
+queued_awake c (Asleep j k) e = cc
+queued_awake c (Napping d k) e = refl
+queued_awake c Ended e = refl
+
+ready_awake : (c q : ℕ) (p : Place) → is_ready c q p ≡ true → sleeps p ≡ false
+ready_awake c q (Running d) e = refl
+ready_awake c q (Queued d k) e = refl
+ready_awake c q (RealTime r k) e = refl
+ready_awake c q (Waiting l side k) e = refl
+ready_awake c q (Asleep j k) e = cc
+ready_awake c q (Napping d k) e = refl
+ready_awake c q Ended e = refl
+
+-- who is requeued does not sleep
+
+requeued_awake : (p : Place) (old new : ℕ) (bound : Option CpuId) (r : Requeue) → requeue p old new bound ≡ r → r ≢ Stays → sleeps p ≡ false
+requeued_awake (Running d) old new bound r e goes = refl
+requeued_awake (Queued d k) old new bound r e goes = refl
+requeued_awake (RealTime q k) old new bound r e goes = refl
+requeued_awake (Waiting l side k) old new bound r e goes = refl
+requeued_awake (Asleep i k) old new bound r e goes = absurd (goes (sym e ∙ kept_stays (old == new)))
+requeued_awake (Napping d k) old new bound r e goes = refl
+requeued_awake Ended old new bound r e goes = refl
+
+requeued_at_awake : (w : Work) (s : State) (t p : ℕ) (at : Put) → IsRequeuedAt w s t p (Some at) → sleeps (thread_of s t).place ≡ false
+requeued_at_awake w s t p at (inl is) = requeued_awake (thread_of s t).place (eff_of s t) p (thread_of s t).body.bound (Behind is.0) is.1 (behind_goes is.0)
+requeued_at_awake w s t p at (inr is) = requeued_awake (thread_of s t).place (eff_of s t) p (thread_of s t).body.bound Anew is.0 anew_goes
+
+-- who is bound or set free and moves does not sleep
+
+bound_awake : (d : CpuId) (p : Place) (at : Put) → bound_put d p ≡ Some at → sleeps p ≡ false
+bound_awake d (Running x) at e = refl
+bound_awake d (Queued x k) at e = refl
+bound_awake d (RealTime q k) at e = refl
+bound_awake d (Waiting l side k) at e = refl
+bound_awake d (Asleep i k) at e = cc
+bound_awake d (Napping x k) at e = refl
+bound_awake d Ended at e = refl
+
+unbound_awake : (n : ℕ) (b : Option CpuId) (p : Place) (at : Put) → unbound_put n b p ≡ Some at → sleeps p ≡ false
+unbound_awake n b (Running x) at e = refl
+unbound_awake n b (Queued x k) at e = refl
+unbound_awake n b (RealTime q k) at e = refl
+unbound_awake n b (Waiting l side k) at e = refl
+unbound_awake n (Some b) (Asleep i k) at e = cc
+unbound_awake n None (Asleep i k) at e = cc
+unbound_awake n b (Napping x k) at e = refl
+unbound_awake n b Ended at e = refl
+
+bind_put_awake : (s : State) (u : ℕ) (d : Option CpuId) (at : Put) → bind_put s u d ≡ Some at → sleeps (thread_of s u).place ≡ false
+bind_put_awake s u (Some d) at e = bound_awake d (thread_of s u).place at e
+bind_put_awake s u None at e = unbound_awake (eff_of s u) (thread_of s u).body.bound (thread_of s u).place at e
+
+-- A step moves a thread that does not sleep, or the one that the event wakes.
+
+abbrev pub Rouses : State → Option ℕ → Step → Type 0
+Rouses s woken Stay = ⊤
+Rouses s woken (Go t place) = (woken ≡ Some t) ⊎ (sleeps (thread_of s t).place ≡ false)
+
+runner_rouses : (s : State) (woken : Option ℕ) (c t : ℕ) → runner s c ≡ Some t → (woken ≡ Some t) ⊎ (sleeps (thread_of s t).place ≡ false)
+runner_rouses s woken c t e = inr (running_awake c (thread_of s t).place (runner_found s c t e).stands)
+
+put_rouses : (w : Work) (s : State) (woken : Option ℕ) (n t p : ℕ) (at : Option Put) → IsRequeuedAt w s t p at → Rouses s woken (put_step_if w n t at)
+put_rouses w s woken n t p None is = tt
+put_rouses w s woken n t p (Some at) is = inr (requeued_at_awake w s t p at is)
+
+reordered_rouses : (w : Work) (s : State) (woken : Option ℕ) (n t p : ℕ) (at : Option Put) (place : Place) → IsRequeuedAt w s t p at → Rouses s woken (reordered_step w n t at place)
+reordered_rouses w s woken n t p at (Running x) is = tt
+reordered_rouses w s woken n t p at (Queued d k) is = put_rouses w s woken n t p at is
+reordered_rouses w s woken n t p at (RealTime q k) is = put_rouses w s woken n t p at is
+reordered_rouses w s woken n t p at (Waiting l side k) is = put_rouses w s woken n t p at is
+reordered_rouses w s woken n t p at (Asleep i k) is = put_rouses w s woken n t p at is
+reordered_rouses w s woken n t p at (Napping d k) is = put_rouses w s woken n t p at is
+reordered_rouses w s woken n t p at Ended is = put_rouses w s woken n t p at is
+
+aged_rouses : (w : Work) (s : State) (woken : Option ℕ) (n : ℕ) (c : CpuId) (u t : ℕ) → next_to_age s c.0 u ≡ Some t → Rouses s woken (aged_step w s n c t)
+aged_rouses w s woken n c u t e = elim (eff_as (aged_class w (thread_of s t).body.class) (thread_of s t).body == eff_of s t) as (λ b. Rouses s woken (if b then Stay else Go t (Queued c (back_key n)))) [
+  | true ↦ tt
+  | false ↦ inr (queued_awake c.0 (thread_of s t).place (and_left _ (is_ts (thread_of s t).body.class) (age_found s c.0 u t e).stands))
+]
+
+prio_rouses : (w : Work) (s : State) (woken : Option ℕ) (n c t : ℕ) (u : ThreadId) (r : Request) (answer : PrioAnswer) → IsAnswered w s c t u.0 r answer → Rouses s woken (prio_step w s n u answer)
+prio_rouses w s woken n c t u r (Changed p at) is = reordered_rouses w s woken n u.0 p at (thread_of s u.0).place is.3
+prio_rouses w s woken n c t u r (Refused denied) is = tt
+
+bind_rouses : (w : Work) (s : State) (woken : Option ℕ) (n t u : ℕ) (d : Option CpuId) (answer : BindAnswer) → answer ≡ bind_to w s t u d → Rouses s woken (bind_step w n u answer)
+bind_rouses w s woken n t u d (bind_answer.Changed None) is = tt
+bind_rouses w s woken n t u d (bind_answer.Changed (Some at)) is = inr (bind_put_awake s u d at (bind_put_is w s t u d (Some at) (sym is)))
+bind_rouses w s woken n t u d bind_answer.ESRCH is = tt
+bind_rouses w s woken n t u d bind_answer.EINVAL is = tt
+bind_rouses w s woken n t u d bind_answer.EPERM is = tt
+bind_rouses w s woken n t u d bind_answer.EBUSY is = tt
+
+rouses : (w : Work) (s : State) (n : ℕ) (c : CpuId) (e : Event) → IsCause w s c.0 e → Rouses s (woken_by e) (step_of w s n c e)
+rouses w s n c (Dispatch t p) cause = inr (ready_awake c.0 (cpu_of s c.0).set.0 (thread_of s t.0).place (ready_found s c.0 t.0 cause.1).stands)
+rouses w s n c (Steal v t p) cause = inr (queued_awake v.0 (thread_of s t.0).place (and_left _ (is_none (thread_of s t.0).body.bound) (unbound_found s v.0 t.0 cause.3).stands))
+rouses w s n c (Preempt t end) cause = runner_rouses s None c.0 t.0 cause.0.runs
+rouses w s n c (Away t d) cause = runner_rouses s None c.0 t.0 cause.0.runs
+rouses w s n c (Yield t) cause = runner_rouses s None c.0 t.0 cause.runs
+rouses w s n c (Done t) cause = runner_rouses s None c.0 t.0 cause.runs
+rouses w s n c (Nap t) cause = runner_rouses s None c.0 t.0 cause.1.runs
+rouses w s n c (Napend t at) cause = inl refl
+rouses w s n c (Sleep t k) cause = runner_rouses s None c.0 t.0 cause.runs
+rouses w s n c (Wake t k (Some u)) cause = inl refl
+rouses w s n c (Rouse k (Some u)) cause = inl refl
+rouses w s n c (Block t l) cause = runner_rouses s None c.0 t.0 cause.1.acts.runs
+rouses w s n c (Will l o p at) cause = reordered_rouses w s None n o.0 p at (thread_of s o.0).place cause.3
+rouses w s n c (Unblock l u at) cause = inl refl
+rouses w s n c (Grant l u at) cause = inl refl
+rouses w s n c (Age t p) cause = aged_rouses w s None n c (cause.0).0 t.0 cause.2
+rouses w s n c (Prio t u answer) cause = prio_rouses w s None n c.0 t.0 u cause.0 answer cause.2
+rouses w s n c (CvWait t k l) cause = runner_rouses s None c.0 t.0 cause.runs
+rouses w s n c (SemaWait t k) cause = runner_rouses s None c.0 t.0 cause.0.runs
+rouses w s n c (SemaVWake t k u at) cause = inl refl
+rouses w s n c (Move t at) cause = inr (queued_awake c.0 (thread_of s t.0).place (queued_found s c.0 t.0 cause.1).stands)
+rouses w s n c (Bind t u d answer) cause = bind_rouses w s None n t.0 u.0 d answer cause.1
+rouses w s n c e cause = tt
+
+asleep_kept : (s r : State) (u : ℕ) (woken : Option ℕ) (step : Step) → Rouses s woken step → Stepped step s r → woken ≢ Some u → sleeps (thread_of s u).place ≡ true → (thread_of r u).place ≡ (thread_of s u).place
+asleep_kept s r u woken Stay is a unwoken asleep = a u
+asleep_kept s r u woken (Go t place) is a unwoken asleep = elim (put_cases t place _ _ a u) [
+  | inl me ↦ elim is [
+    | inl wakes ↦ absurd (unwoken (wakes ∙ ap Some (sym me.0)))
+    | inr awake ↦ absurd (false≢true (sym awake ∙ ap (λ v. sleeps (thread_of s v).place) (sym me.0) ∙ asleep))
+  ]
+  | inr other ↦ other.1
+]
+
+-- a thread that sleeps stays where it is
+pub sleeper_kept : (w : Work) (s : State) (n : ℕ) (c : CpuId) (e : Event) (u : ℕ) → IsReady w s → IsCause w s c.0 e → woken_by e ≢ Some u → sleeps (thread_of s u).place ≡ true → (thread_of (after w s n c e) u).place ≡ (thread_of s u).place
+sleeper_kept w s n c e u ready cause unwoken asleep = asleep_kept s (after w s n c e) u (woken_by e) (step_of w s n c e) (rouses w s n c e cause) (steps_after w s n c e ready cause) unwoken asleep
+
+sleeper_carried : (w : Work) (u : ℕ) (k : ChanId) (key : ℤ) → IsCarried w (λ s. (thread_of s u).place ≡ Asleep k key) (λ e. woken_by e ≢ Some u)
+sleeper_carried w u k key = record { step = λ s n c e ready cause unwoken asleep. sleeper_kept w s n c e u ready cause unwoken (ap sleeps asleep) ∙ asleep }
+
+-- Where a thread sleeps, no wakeup of its channel finds nobody.
+
+asleep_inside : (s : State) (t : ℕ) → sleeps (thread_of s t).place ≡ true → t < length s.threads
+asleep_inside s t asleep = elim (cases_lt t (length s.threads)) [
+  | inl inside ↦ inside
+  | inr past ↦ absurd (false≢true (sym (ap (λ (x : ThreadState). sleeps x.place) (get_or_past s.threads t no_thread past)) ∙ asleep))
+]
+
+pub someone_asleep : (s : State) (t : ℕ) (k : ChanId) (key : ℤ) → (thread_of s t).place ≡ Asleep k key → best_sleeper s k.0 ≢ None
+someone_asleep s t k key asleep =
+    let same : (k.0 == k.0) ≡ true = grind (arith, nat_tests) in
+    sleeper_some s k.0 t (asleep_inside s t (ap sleeps asleep)) (ap (is_asleep k.0) asleep ∙ same)
+
+pub found : (w : Work) (u : ℕ) (k : ChanId) (key : ℤ) → IsMet w (λ s. (thread_of s u).place ≡ Asleep k key) (λ e. finds_nobody e ≢ Some k)
+found w u k key s c (Wake t j None) ready cause asleep = λ is. someone_asleep s u k key asleep (subst (λ (x : ChanId). best_sleeper s x.0 ≡ None) (same_Some j k is) cause.1)
+found w u k key s c (SemaVCount t j m) ready cause asleep = λ is. someone_asleep s u k key asleep (subst (λ (x : ChanId). best_sleeper s x.0 ≡ None) (same_Some j k is) cause.1)
+found w u k key s c _ ready cause asleep = λ is. cc
+
+-- The event puts the thread to sleep.
+
+fell : (s r : State) (n : ℕ) (x y : ThreadId × ChanId) → Stepped (Go x.0.0 (Asleep x.1 (back_key n))) s r → Some x ≡ Some y → (thread_of r y.0.0).place ≡ Asleep y.1 (back_key n)
+fell s r n x y a is = subst (λ (z : ThreadId × ChanId). (thread_of r z.0.0).place ≡ Asleep z.1 (back_key n)) (same_Some x y is) a.at
+
+pub falls : (w : Work) (s : State) (n : ℕ) (c : CpuId) (e : Event) (t : ThreadId) (k : ChanId) → IsReady w s → IsCause w s c.0 e → put_to_sleep e ≡ Some (t, k) → (thread_of (after w s n c e) t.0).place ≡ Asleep k (back_key n)
+falls w s n c (Sleep u j) t k ready cause is = fell s (after w s n c (Sleep u j)) n (u, j) (t, k) (steps_after w s n c (Sleep u j) ready cause) is
+falls w s n c (CvWait u j l) t k ready cause is = fell s (after w s n c (CvWait u j l)) n (u, j) (t, k) (steps_after w s n c (CvWait u j l) ready cause) is
+falls w s n c (SemaWait u j) t k ready cause is = fell s (after w s n c (SemaWait u j)) n (u, j) (t, k) (steps_after w s n c (SemaWait u j) ready cause) is
+falls w s n c _ t k ready cause is = cc
+
+pub sleepers_law : SleepersSleepUntilWoken
+sleepers_law = λ w es more e t k run puts unwoken.
+    let at = split w es more e run in
+    let r : State = after w (final w (opening w) es) e.number e.cpu e.event in
+    let asleep : (thread_of r t.0).place ≡ Asleep k (back_key e.number) = falls w (final w (opening w) es) e.number e.cpu e.event t k at.ready at.cause puts in
+    let stays = sleeper_carried w t.0 k (back_key e.number) in (
+      subst (λ x. (thread_of x t.0).place ≡ Asleep k (back_key e.number)) (sym at.ends)
+          (carried_from w (λ s. (thread_of s t.0).place ≡ Asleep k (back_key e.number)) (λ x. woken_by x ≢ Some t.0) stays r _ more at.there asleep at.rest unwoken),
+      met_from w (λ s. (thread_of s t.0).place ≡ Asleep k (back_key e.number)) (λ x. woken_by x ≢ Some t.0) stays (λ x. finds_nobody x ≢ Some k) (found w t.0 k (back_key e.number)) r _ more at.there asleep at.rest unwoken,
+    )
+
+pub waiters_law : WaitersSleepUntilWoken
+waiters_law = λ w es more e t k m run waits unwoken.
+    let (asleep, met) = sleepers_law w es more e t k run (ap put_to_sleep waits) unwoken in
+    (asleep, λ i d inside u is. met i d inside (ap finds_nobody is))

@@ -1,0 +1,4 @@
+pub mod Belonging
+pub mod Changes
+pub mod HistoryLaws
+pub mod InheritanceLaws

@@ -1,5 +1,0 @@
-use Rattle.sd_range.proofs.Bindings.{bound_are_counted}
-use Rattle.sd_range.proofs.laws.bindings_are_counted.Goals as goal
-
-pub returns : goal.returns
-returns c = bound_are_counted

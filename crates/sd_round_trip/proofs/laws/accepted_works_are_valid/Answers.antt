@@ -1,5 +1,0 @@
-use Rattle.sd_round_trip.proofs.RangeLemmas.{accepted-valid}
-use Rattle.sd_round_trip.proofs.laws.accepted_works_are_valid.Goals as goal
-
-pub returns : goal.returns
-returns c = accepted-valid

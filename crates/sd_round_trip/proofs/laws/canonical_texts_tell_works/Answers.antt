@@ -1,5 +1,0 @@
-use Rattle.sd_round_trip.proofs.WorkLemmas.{one-spelling}
-use Rattle.sd_round_trip.proofs.laws.canonical_texts_tell_works.Goals as goal
-
-pub returns : goal.returns
-returns c = one-spelling

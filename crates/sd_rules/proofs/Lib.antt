@@ -1,0 +1,3 @@
+pub mod ChoiceLemmas
+pub mod FunctionLemmas
+pub mod PartitionLemmas

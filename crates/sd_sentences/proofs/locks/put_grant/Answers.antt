@@ -1,7 +1,0 @@
-use Rattle.sd_sentences.proofs.Appends.{append_three}
-use Rattle.sd_sentences.specs.Locks.{grant_sentence}
-use Rattle.sd_sentences.proofs.locks.put_grant.Goals as goal
-
-pub returns : goal.returns
-unfolding grant_sentence
-returns c = append_three c.put_runnable.result _ _ _ _ _ _ _ c.in_ok-put_cpu.ensures c.in_ok-put_lock.ensures c.put_runnable.ensures

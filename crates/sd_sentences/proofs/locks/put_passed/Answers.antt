@@ -1,7 +1,0 @@
-use Rattle.sd_sentences.proofs.Appends.{append_two}
-use Rattle.sd_sentences.specs.Locks.{passed_sentence}
-use Rattle.sd_sentences.proofs.locks.put_passed.Goals as goal
-
-pub returns : goal.returns
-unfolding passed_sentence
-returns c = append_two c.put_lock.result _ _ _ _ _ c.in_ok-put_words.ensures c.put_lock.ensures

@@ -1,7 +1,0 @@
-use Rattle.sd_sentences.proofs.Appends.{append_four}
-use Rattle.sd_sentences.specs.Locks.{will_sentence}
-use Rattle.sd_sentences.proofs.locks.put_will.Goals as goal
-
-pub returns : goal.returns
-unfolding will_sentence
-returns c = append_four c.put_requeued.result _ _ _ _ _ _ _ _ _ c.in_ok-put_thread.ensures c.in_ok-put_lock.ensures c.in_ok-put_change_of.ensures c.put_requeued.ensures

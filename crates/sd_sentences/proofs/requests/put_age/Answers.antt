@@ -1,7 +1,0 @@
-use Rattle.sd_sentences.proofs.Appends.{append_two}
-use Rattle.sd_sentences.specs.Requests.{age_sentence}
-use Rattle.sd_sentences.proofs.requests.put_age.Goals as goal
-
-pub returns : goal.returns
-unfolding age_sentence
-returns c = append_two c.put_change_of.result _ _ _ _ _ c.in_ok-put_thread.ensures c.put_change_of.ensures

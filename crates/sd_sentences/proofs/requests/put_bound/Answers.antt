@@ -1,5 +1,0 @@
-use Rattle.sd_sentences.proofs.Appends.{append_three}
-use Rattle.sd_sentences.proofs.requests.put_bound.Goals as goal
-
-pub returns : goal.returns
-returns c = append_three c.put_cpu.result _ _ _ _ _ _ _ c.in_ok-put_thread.ensures c.in_ok-put_thread-2.ensures c.put_cpu.ensures

@@ -1,7 +1,0 @@
-use Rattle.sd_sentences.proofs.Appends.{append_three}
-use Rattle.sd_sentences.specs.Requests.{prio_sentence}
-use Rattle.sd_sentences.proofs.requests.put_prio.Goals as goal
-
-pub returns : goal.returns
-unfolding prio_sentence
-returns c = append_three c.put_answer.result _ _ _ _ _ _ _ c.in_ok-put_thread.ensures c.in_ok-put_thread-2.ensures c.put_answer.ensures

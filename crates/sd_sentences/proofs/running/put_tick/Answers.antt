@@ -1,7 +1,0 @@
-use Rattle.sd_sentences.proofs.Appends.{append_two}
-use Rattle.sd_sentences.specs.Running.{tick_sentence}
-use Rattle.sd_sentences.proofs.running.put_tick.Goals as goal
-
-pub returns : goal.returns
-unfolding tick_sentence
-returns c = append_two c.put_quantum_words.result _ _ _ _ _ c.in_ok-put_thread.ensures c.put_quantum_words.ensures

@@ -1,7 +1,0 @@
-use Rattle.sd_sentences.proofs.Appends.{append_three}
-use Rattle.sd_sentences.specs.Sleeping.{counted_sentence}
-use Rattle.sd_sentences.proofs.sleeping.put_counted.Goals as goal
-
-pub returns : goal.returns
-unfolding counted_sentence
-returns c = append_three c.put_new_count.result _ _ _ _ _ _ _ c.in_ok-put_thread.ensures c.in_ok-put_chan.ensures c.put_new_count.ensures

@@ -1,7 +1,0 @@
-use Rattle.sd_sentences.proofs.Appends.{append_two}
-use Rattle.sd_sentences.specs.Sleeping.{nap_sentence}
-use Rattle.sd_sentences.proofs.sleeping.put_nap.Goals as goal
-
-pub returns : goal.returns
-unfolding nap_sentence
-returns c = append_two c.put_nap_end.result _ _ _ _ _ c.in_ok-put_thread.ensures c.put_nap_end.ensures

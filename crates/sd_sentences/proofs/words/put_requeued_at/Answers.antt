@@ -1,5 +1,0 @@
-use Rattle.sd_sentences.proofs.Appends.{append_two}
-use Rattle.sd_sentences.proofs.words.put_requeued_at.Goals as goal
-
-pub returns : goal.returns
-returns c = append_two c.put_place.result _ _ _ _ _ c.in_ok-put_words.ensures c.put_place.ensures

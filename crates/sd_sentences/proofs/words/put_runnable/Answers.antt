@@ -1,7 +1,0 @@
-use Rattle.sd_sentences.proofs.Appends.{append_two}
-use Rattle.sd_sentences.specs.Words.{runnable_words}
-use Rattle.sd_sentences.proofs.words.put_runnable.Goals as goal
-
-pub returns : goal.returns
-unfolding runnable_words
-returns c = append_two c.put_place.result _ _ _ _ _ c.in_ok-put_thread.ensures c.put_place.ensures

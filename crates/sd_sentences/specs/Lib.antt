@@ -1,6 +1,0 @@
-pub mod Locks
-pub mod Requests
-pub mod Running
-pub mod Sentences
-pub mod Sleeping
-pub mod Words

@@ -1,9 +1,0 @@
-pub mod ListLemmas
-pub mod StandingLemmas
-pub mod BestShown
-pub mod LookShown
-pub mod ReadyShown
-pub mod NapShown
-pub mod WaitShown
-pub mod AgeShown
-pub mod OthersShown

@@ -1,6 +1,0 @@
-pub mod Local
-pub mod Turns
-pub mod Steps
-pub mod Follow
-pub mod Sums
-pub mod Charged

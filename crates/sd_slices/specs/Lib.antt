@@ -1,2 +1,0 @@
-pub mod Accounted
-pub mod Follow

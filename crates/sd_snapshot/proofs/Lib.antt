@@ -1,5 +1,0 @@
-mod EndedLemmas
-mod ListLemmas
-mod NapLemmas
-mod PartLemmas
-mod ThreadLemmas

@@ -1,4 +1,0 @@
-use Rattle.sd_snapshot.proofs.threads.all_ended.Goals as goal
-
-pub loop-c-preserved : goal.loop-c-preserved
-loop-c-preserved c s told = c.tell_ended.ensures s told (c.loop-c.invariant s told)

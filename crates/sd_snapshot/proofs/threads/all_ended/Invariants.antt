@@ -1,6 +1,0 @@
-use Rattle.sd_state.specs.declared.states.State.{State}
-use Rattle.sd_snapshot.specs.Told.{AreTold, IsToldBy}
-use Rattle.sd_snapshot.proofs.threads.all_ended.Given as goal
-
-abbrev pub invariant-loop-c : goal.invariant-loop-c
-invariant-loop-c l = (s : State) → IsToldBy l.hand.slots s → AreTold s l.told.items

@@ -1,6 +1,0 @@
-use Rattle.sd_state.specs.declared.states.State.{State}
-use Rattle.sd_snapshot.specs.Told.{AreTold}
-use Rattle.sd_snapshot.proofs.threads.nothing_told.Given as goal
-
-abbrev pub invariant-loop : goal.invariant-loop
-invariant-loop l = (s : State) → AreTold s l.told.items

@@ -1,6 +1,0 @@
-pub mod LineLemmas
-pub mod NameLemmas
-pub mod PlainLemmas
-pub mod ReadLemmas
-pub mod SpellLemmas
-pub mod WordLemmas

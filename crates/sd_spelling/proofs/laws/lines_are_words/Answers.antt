@@ -1,5 +1,0 @@
-use Rattle.sd_spelling.proofs.SpellLemmas.{entry_spelled}
-use Rattle.sd_spelling.proofs.laws.lines_are_words.Goals as goal
-
-pub returns : goal.returns
-returns c w e = entry_spelled w e

@@ -1,0 +1,7 @@
+use Rattle.sd_story.proofs.Appends.{append_two}
+use Rattle.sd_story.specs.Locks.{passed_sentence}
+use Rattle.sd_story.proofs.locks.put_passed.Goals as goal
+
+pub returns : goal.returns
+unfolding passed_sentence
+returns c = append_two c.put_lock.result _ _ _ _ _ c.in_ok-put_words.ensures c.put_lock.ensures

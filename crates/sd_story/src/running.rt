@@ -1,0 +1,195 @@
+//! Threads that run, spin, are dispatched and leave their processor.
+//!
+//! Source: Solaris Internals (dispatch queues, preemption, adaptive mutexes).
+
+ghost use Rattle.std.specs.Prelude.{◌≡◌, ◌++◌, OnOk, [], codes, if◌then◌else◌};
+ghost use Rattle.sd_state.specs.States.{thread_of};
+ghost use Rattle.sd_rules.specs.ClassRules.{quantum_expires, ts_expires};
+ghost use Rattle.sd_machine.specs.Threads.{lock_of};
+ghost use Rattle.sd_story.specs.Running.{away_sentence, dispatch_sentence, idle_sentence, preempt_sentence, quantum_words, spin_sentence, spin_words, steal_sentence, tick_sentence};
+ghost use Rattle.sd_story.specs.Words.{thread_then};
+
+use crate::words::{put_cpu, put_lock, put_priority, put_thread, put_words};
+use sd_state::{LockState, State};
+use sd_types::{ClassState, CpuId, End, LockId, Quantum, ThreadId, Work};
+use std::alloc::AllocError;
+
+// The next tick is the last of a quantum.
+fn quantum_expires(quantum: Quantum, left: u64) -> bool
+    ensures { result ≡ quantum_expires quantum left }
+{
+    match quantum {
+        Quantum::Inf => false,
+        _ => left <= 1,
+    }
+}
+
+fn expires(class: &ClassState) -> bool
+    ensures { (if result then codes ", the last of its quantum" else []) ≡ quantum_words class.now }
+{
+    match class {
+        ClassState::Ts(state) => state.left <= 1,
+        ClassState::Fx(state) => quantum_expires(state.quantum, state.left),
+        ClassState::Sys(_) => false,
+        ClassState::Rt(state) => quantum_expires(state.quantum, state.left),
+    }
+}
+
+fn quantum_words(class: &ClassState) -> &'static [u8]
+    ensures { result.now ≡ quantum_words class.now }
+{
+    if expires(class) {
+        b", the last of its quantum"
+    } else {
+        b""
+    }
+}
+
+// Whether the next tick of a thread is the last of its quantum.
+fn quantum_words_of(s: &State, t: ThreadId) -> &'static [u8]
+    ensures { result.now ≡ quantum_words (thread_of s.now t.0).body.class }
+{
+    match s.threads.items().get(t.0 as usize) {
+        Some(x) => quantum_words(&x.body.class),
+        None => b"",
+    }
+}
+
+fn put_quantum_words(s: &State, t: ThreadId, out: &mut Vec<u8>) -> Result<(), AllocError>
+    ensures { OnOk result (out.new.items ≡ out.old.items ++ quantum_words (thread_of s.now t.0).body.class) }
+{
+    put_words(quantum_words_of(s, t), out)
+}
+
+pub(crate) fn put_tick(
+    work: &Work,
+    s: &State,
+    t: ThreadId,
+    out: &mut Vec<u8>,
+) -> Result<(), AllocError>
+    ensures { OnOk result (out.new.items ≡ out.old.items ++ tick_sentence work.now s.now t) }
+{
+    put_thread(work, t, b" runs for a tick", out)?;
+    put_quantum_words(s, t, out)
+}
+
+/// The state of a lock; a number that is out of range reads a free one.
+pub(crate) fn lock_of(s: &State, l: LockId) -> LockState
+    ensures { result ≡ lock_of s.now l.0 }
+{
+    s.locks
+        .items()
+        .get(l.0 as usize)
+        .copied()
+        .unwrap_or(LockState::Free)
+}
+
+fn put_owner_runs(work: &Work, o: ThreadId, out: &mut Vec<u8>) -> Result<(), AllocError>
+    ensures { OnOk result (out.new.items ≡ out.old.items ++ (codes ": its owner " ++ thread_then work.now o (codes " runs"))) }
+{
+    put_words(b": its owner ", out)?;
+    put_thread(work, o, b" runs", out)
+}
+
+fn put_spin_words(work: &Work, lock: LockState, out: &mut Vec<u8>) -> Result<(), AllocError>
+    ensures { OnOk result (out.new.items ≡ out.old.items ++ spin_words work.now lock) }
+{
+    match lock {
+        LockState::Owned(o) => put_owner_runs(work, o, out),
+        LockState::Passing { .. } => put_words(b", which is being handed over", out),
+        _ => Ok(()),
+    }
+}
+
+// Why a thread spins for a lock.
+fn put_reason(work: &Work, s: &State, l: LockId, out: &mut Vec<u8>) -> Result<(), AllocError>
+    ensures { OnOk result (out.new.items ≡ out.old.items ++ spin_words work.now (lock_of s.now l.0)) }
+{
+    put_spin_words(work, lock_of(s, l), out)
+}
+
+pub(crate) fn put_spin(
+    work: &Work,
+    s: &State,
+    t: ThreadId,
+    l: LockId,
+    out: &mut Vec<u8>,
+) -> Result<(), AllocError>
+    ensures { OnOk result (out.new.items ≡ out.old.items ++ spin_sentence work.now s.now t l) }
+{
+    put_thread(work, t, b" spins for ", out)?;
+    put_lock(work, l, b"", out)?;
+    put_reason(work, s, l, out)
+}
+
+pub(crate) fn put_idle(c: CpuId, out: &mut Vec<u8>) -> Result<(), AllocError>
+    ensures { OnOk result (out.new.items ≡ out.old.items ++ idle_sentence c) }
+{
+    put_cpu(c, b" has nothing to run", out)
+}
+
+pub(crate) fn put_dispatch(
+    work: &Work,
+    c: CpuId,
+    t: ThreadId,
+    p: u8,
+    out: &mut Vec<u8>,
+) -> Result<(), AllocError>
+    ensures { OnOk result (out.new.items ≡ out.old.items ++ dispatch_sentence work.now c t p) }
+{
+    put_cpu(c, b" dispatches ", out)?;
+    put_thread(work, t, b" at priority ", out)?;
+    put_priority(p, b"", out)
+}
+
+pub(crate) fn put_steal(
+    work: &Work,
+    c: CpuId,
+    victim: CpuId,
+    t: ThreadId,
+    p: u8,
+    out: &mut Vec<u8>,
+) -> Result<(), AllocError>
+    ensures { OnOk result (out.new.items ≡ out.old.items ++ steal_sentence work.now c victim t p) }
+{
+    put_cpu(c, b" steals ", out)?;
+    put_thread(work, t, b" at priority ", out)?;
+    put_priority(p, b" from the queue of ", out)?;
+    put_cpu(victim, b"", out)
+}
+
+pub(crate) fn put_preempt(
+    work: &Work,
+    t: ThreadId,
+    end: End,
+    out: &mut Vec<u8>,
+) -> Result<(), AllocError>
+    ensures { OnOk result (out.new.items ≡ out.old.items ++ preempt_sentence work.now t end) }
+{
+    match end {
+        End::Front => put_thread(
+            work,
+            t,
+            b" is preempted, and goes to the front of its queue",
+            out,
+        ),
+        End::Back => put_thread(
+            work,
+            t,
+            b" is preempted at the end of its quantum, and goes to the back of its queue",
+            out,
+        ),
+    }
+}
+
+pub(crate) fn put_away(
+    work: &Work,
+    t: ThreadId,
+    cpu: CpuId,
+    out: &mut Vec<u8>,
+) -> Result<(), AllocError>
+    ensures { OnOk result (out.new.items ≡ out.old.items ++ away_sentence work.now t cpu) }
+{
+    put_thread(work, t, b" leaves for ", out)?;
+    put_cpu(cpu, b", to which it is bound", out)
+}

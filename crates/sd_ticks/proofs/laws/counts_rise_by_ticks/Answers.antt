@@ -1,5 +1,0 @@
-use Rattle.sd_ticks.proofs.Counts.{rise_law}
-use Rattle.sd_ticks.proofs.laws.counts_rise_by_ticks.Goals as goal
-
-pub returns : goal.returns
-returns c = rise_law

@@ -1,4 +1,0 @@
-pub mod AsWorld
-pub mod Interlocking
-pub mod Listed
-pub mod Locking

@@ -1,3 +1,0 @@
-pub mod Interlocks
-pub mod Locks
-pub mod Tables

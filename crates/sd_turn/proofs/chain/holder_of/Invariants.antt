@@ -1,8 +1,0 @@
-use Rattle.std.proofs.Common.{◌≡◌, drop}
-use Rattle.sd_turn.specs.Waiters.{find_among}
-use Rattle.sd_turn.specs.Serving.{all_served}
-use Rattle.sd_turn.proofs.chain.holder_of.Given as goal
-
-abbrev pub invariant-loop-index : goal.invariant-loop-index
-invariant-loop-index g l =
-    find_among g.T.Ranked.id l.id (all_served (drop l.index l.locks)) ≡ find_among g.T.Ranked.id l.id (all_served l.locks)
