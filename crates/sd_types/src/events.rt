@@ -99,7 +99,7 @@ pub enum BindAnswer {
 }
 
 /// An event of the machine. `p` is an effective priority after the event, `t` the acting thread,
-/// `s` another thread, `o` an owner, `l` a lock and `k` a channel.
+/// `u` another thread, `o` an owner, `l` a lock and `k` a channel.
 #[derive(Clone, Copy)]
 pub enum Event {
     Tick {
