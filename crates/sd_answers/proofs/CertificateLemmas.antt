@@ -20,7 +20,7 @@ use Rattle.sd_answers.specs.Answers.{status_of, audit_answer, audit_fault}
 use Rattle.sd_types.specs.Limits.{most_certificate}
 use Rattle.sd_answers.specs.Inputs.{HasRead, HasParts, IsCertificate, IsNoCertificate}
 use Rattle.sd_answers.specs.StreamChanges.{StreamChange}
-use Rattle.sd_answers.specs.Certificates.{IsJournalOf, HoldsJournal, IsFaulty, RefusesJournal, IsJudged, Writes, CausedByCertificate, Certifies, CompletesCertificate, RefusesFaulty, IsNone, RefusesCertificate}
+use Rattle.sd_answers.specs.Certificates.{IsLegalJournal, HoldsJournal, IsFaulty, RefusesJournal, IsJudged, Writes, CausedByCertificate, Certifies, CompletesCertificate, RefusesFaulty, IsNone, RefusesCertificate}
 use Rattle.sd_answers.proofs.InputLemmas.{taken_within, taken_all, at_most_of, not_too_many, not_both}
 
 -- ---- what is certified of the bytes of an input, and what was read of it
@@ -71,18 +71,18 @@ not_memory (journal.Incomplete cpu) e = e
 not_memory (journal.Tail line) e = e
 
 -- a text has no fault that is the journal of a run of the workload
-sound_text : (input : StreamChange) (bytes text : List ℕ) (fault : JournalFault) → input.before ≡ Some bytes → Certifies bytes text (IsJournalOf text) → IsFaulty input fault → ⊥
+sound_text : (input : StreamChange) (bytes text : List ℕ) (fault : JournalFault) → input.before ≡ Some bytes → Certifies bytes text (IsLegalJournal text) → IsFaulty input fault → ⊥
 sound_text input bytes text fault is cert f =
-    let j = its_property input bytes text (IsJournalOf text) is cert f.work f.text f.certificate in
+    let j = its_property input bytes text (IsLegalJournal text) is cert f.work f.text f.certificate in
     not_memory fault
     (no_fault f.work text j.0 j.1 (audit_fault fault) j.2
-    (subst (λ t. IsFault f.work t (audit_fault fault)) (its_text input bytes text (IsJournalOf text) is cert f.work f.text f.certificate) f.is))
+    (subst (λ t. IsFault f.work t (audit_fault fault)) (its_text input bytes text (IsLegalJournal text) is cert f.work f.text f.certificate) f.is))
 
 -- nor is one judged to be a journal that is none
-faulty_text : (input : StreamChange) (bytes text : List ℕ) → input.before ≡ Some bytes → Certifies bytes text (λ w. IsJournalOf text w → ⊥) → HoldsJournal input → ⊥
+faulty_text : (input : StreamChange) (bytes text : List ℕ) → input.before ≡ Some bytes → Certifies bytes text (λ w. IsLegalJournal text w → ⊥) → HoldsJournal input → ⊥
 faulty_text input bytes text is cert h =
-    its_property input bytes text (λ w. IsJournalOf text w → ⊥) is cert h.work h.text h.certificate
-    (subst (λ t. IsJournalOf t h.work) (its_text input bytes text (λ w. IsJournalOf text w → ⊥) is cert h.work h.text h.certificate) h.journal)
+    its_property input bytes text (λ w. IsLegalJournal text w → ⊥) is cert h.work h.text h.certificate
+    (subst (λ t. IsLegalJournal t h.work) (its_text input bytes text (λ w. IsLegalJournal text w → ⊥) is cert h.work h.text h.certificate) h.journal)
 
 no_certificate : (input : StreamChange) (bytes : List ℕ) → input.before ≡ Some bytes → IsNone bytes → (w : Work) (text : List ℕ) → IsCertificate input w text → ⊥
 no_certificate input bytes is (inl many) w text found =
@@ -146,10 +146,10 @@ module _ {X : Type 0} (Made : X → Type 0) (written : X → List ℕ) (input ou
 
   pub completes_of : (a : Answer) → CausedByCertificate Made written input out a → CompletesCertificate input out (status_of a)
   completes_of Done c = λ sound told bytes text is cert. inl refl
-  completes_of TooLarge c = λ sound told bytes text is cert. absurd (not_large input bytes text (IsJournalOf text) is cert c.0)
+  completes_of TooLarge c = λ sound told bytes text is cert. absurd (not_large input bytes text (IsLegalJournal text) is cert c.0)
   completes_of TooLargeToAudit c = λ sound told bytes text is cert. absurd (too_many_bytes input bytes c.0 is cert.many)
   completes_of NoJournal c = λ sound told bytes text is cert. absurd (no_journal input bytes cert.before text c.0 is cert.cut)
-  completes_of (Refused line cause) c = λ sound told bytes text is cert. absurd (not_fault input bytes text (IsJournalOf text) is cert line cause c.0)
+  completes_of (Refused line cause) c = λ sound told bytes text is cert. absurd (not_fault input bytes text (IsLegalJournal text) is cert line cause c.0)
   completes_of ReadFault c = λ sound told bytes text is cert. absurd (sound c.0)
   completes_of Usage c = absurd c
   completes_of Blocked c = absurd c
@@ -162,10 +162,10 @@ module _ {X : Type 0} (Made : X → Type 0) (written : X → List ℕ) (input ou
   module _ (held : (made : X) → Made made → HoldsJournal input) where
     pub refuses_faulty_of : (a : Answer) → CausedByCertificate Made written input out a → RefusesFaulty input (status_of a)
     refuses_faulty_of Done c = λ sound bytes text is cert. absurd (faulty_text input bytes text is cert (held c.0 c.1))
-    refuses_faulty_of TooLarge c = λ sound bytes text is cert. absurd (not_large input bytes text (λ w. IsJournalOf text w → ⊥) is cert c.0)
+    refuses_faulty_of TooLarge c = λ sound bytes text is cert. absurd (not_large input bytes text (λ w. IsLegalJournal text w → ⊥) is cert c.0)
     refuses_faulty_of TooLargeToAudit c = λ sound bytes text is cert. absurd (too_many_bytes input bytes c.0 is cert.many)
     refuses_faulty_of NoJournal c = λ sound bytes text is cert. absurd (no_journal input bytes cert.before text c.0 is cert.cut)
-    refuses_faulty_of (Refused line cause) c = λ sound bytes text is cert. absurd (not_fault input bytes text (λ w. IsJournalOf text w → ⊥) is cert line cause c.0)
+    refuses_faulty_of (Refused line cause) c = λ sound bytes text is cert. absurd (not_fault input bytes text (λ w. IsLegalJournal text w → ⊥) is cert line cause c.0)
     refuses_faulty_of ReadFault c = λ sound bytes text is cert. absurd (sound c.0)
     refuses_faulty_of Usage c = absurd c
     refuses_faulty_of Blocked c = absurd c

@@ -13,7 +13,7 @@ use Rattle.sd_text.specs.Reading.{TakesUpTo}
 use Rattle.sd_text.specs.declared.read.ReadAllFault.{ReadAllFault}
 use Rattle.sd_text.specs.declared.read.ReadAllFault.TheVariants as read
 use Rattle.sd_workload.specs.Accepted.{Accepted, FirstCause}
-use Rattle.sd_workload.specs.Places.{IsFault}
+use Rattle.sd_workload.specs.LineStarts.{IsFault}
 use Rattle.sd_workload.specs.Texts.{verdict_of}
 use Rattle.sd_workload.specs.declared.fault.WorkFault.{WorkFault}
 use Rattle.sd_workload.specs.declared.fault.WorkFault.TheVariants as work

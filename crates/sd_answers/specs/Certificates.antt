@@ -17,15 +17,15 @@ use Rattle.sd_answers.specs.Inputs.{IsCertificate, IsNoCertificate}
 use Rattle.sd_answers.specs.StreamChanges.{StreamChange, HasFault, HasNoFault, IsUntouched, AppendsPart}
 
 -- the text is the journal of a complete run of the workload
-abbrev pub IsJournalOf : List ℕ → Work → Type 0
-IsJournalOf text w = (s : State) × (n : ℕ) × IsJournal w text s n
+abbrev pub IsLegalJournal : List ℕ → Work → Type 0
+IsLegalJournal text w = (s : State) × (n : ℕ) × IsJournal w text s n
 
 -- the input is a workload and the journal of a complete run of it
 pub record HoldsJournal (input : StreamChange) : Type 0 where
   pub work : Work
   pub text : List ℕ
   pub certificate : IsCertificate input work text
-  pub journal : IsJournalOf text work
+  pub journal : IsLegalJournal text work
 
 -- the input is a workload and a text that is not the journal of a complete run of it: this is first at fault
 pub record IsFaulty (input : StreamChange) (fault : JournalFault) : Type 0 where
@@ -80,13 +80,13 @@ pub record Certifies (bytes text : List ℕ) (P : Work → Type 0) : Type 0 wher
 abbrev pub CompletesCertificate : StreamChange → StreamChange → ℕ → Type 0
 CompletesCertificate input out status =
     (HasFault input → ⊥) → (HasFault out → ⊥)
-    → (bytes text : List ℕ) → input.before ≡ Some bytes → Certifies bytes text (IsJournalOf text) → (status ≡ 0) ⊎ (status ≡ 5)
+    → (bytes text : List ℕ) → input.before ≡ Some bytes → Certifies bytes text (IsLegalJournal text) → (status ≡ 0) ⊎ (status ≡ 5)
 
 -- and one that is not is found not to be
 abbrev pub RefusesFaulty : StreamChange → ℕ → Type 0
 RefusesFaulty input status =
     (HasFault input → ⊥)
-    → (bytes text : List ℕ) → input.before ≡ Some bytes → Certifies bytes text (λ w. IsJournalOf text w → ⊥) → (status ≡ 7) ⊎ (status ≡ 5)
+    → (bytes text : List ℕ) → input.before ≡ Some bytes → Certifies bytes text (λ w. IsLegalJournal text w → ⊥) → (status ≡ 7) ⊎ (status ≡ 5)
 
 -- what is no certificate: it is too large, has no line `journal`, or what stands before this line is too large or no workload
 abbrev pub IsNone : List ℕ → Type 0

@@ -26,11 +26,11 @@ Runs workload text status = Writes (KeepsPromises (codes "run" ∷ [])) workload
 
 -- `dispview`, with this argument and on this certificate, wrote this text and returned this status
 abbrev pub Views : List ℕ → List ℕ → List ℕ → ℕ → Type 0
-Views word certificate text status = Writes (viewer.KeepsPromises (word ∷ [])) certificate text status
+Views word certificate text status = Writes (viewer.ShowsAsPromised (word ∷ [])) certificate text status
 
 -- `dispfind`, with these arguments and on this workload, wrote this text and returned this status
 abbrev pub Finds : List (List ℕ) → List ℕ → List ℕ → ℕ → Type 0
-Finds arguments workload text status = Writes (finder.KeepsPromises (asked arguments)) workload text status
+Finds arguments workload text status = Writes (finder.SearchesAsPromised (asked arguments)) workload text status
 
 -- a workload and a journal as one text
 abbrev pub certificate_of : List ℕ → List ℕ → List ℕ

@@ -4,7 +4,7 @@ use Rattle.std.specs.Prelude.{◌≡◌, ◌≢◌, ℕ, List, codes, Option, So
 use Rattle.sd_examples.specs.declared.verdicts.Verdict.{Verdict}
 use Rattle.sd_examples.specs.declared.verdicts.Verdict.TheVariants.{Same, NotRun, NotDrawn, OtherPicture, NotTraced, NotJson, OtherTrace}
 use Rattle.sd_examples.specs.Calls.{certificate_of}
-use Rattle.sd_examples.specs.Outcomes.{Draws, HasNoJournal, IsJournalOf, Refuses}
+use Rattle.sd_examples.specs.Outcomes.{Draws, EndsWithoutRun, IsPrintedRun, Refuses}
 use Rattle.sd_examples.specs.Traces.{Counts}
 
 -- what is said of the trace of a certificate, and of the one stored if there is one
@@ -25,9 +25,9 @@ SaysOfCertificate certificate picture trace v = Draws (codes "timeline") certifi
 
 -- of a workload and the journal of its run
 abbrev pub SaysOfRun : List ℕ → List ℕ → Option (List ℕ) → Verdict → Type 0
-SaysOfRun workload picture trace (NotRun status) = HasNoJournal workload status
+SaysOfRun workload picture trace (NotRun status) = EndsWithoutRun workload status
 SaysOfRun workload picture trace v =
-    (journal : List ℕ) × IsJournalOf workload journal × SaysOfCertificate (certificate_of workload journal) picture trace v
+    (journal : List ℕ) × IsPrintedRun workload journal × SaysOfCertificate (certificate_of workload journal) picture trace v
 
 -- What is said of a workload, its stored journal if there is one, its stored picture and its stored trace: the certificate is the
 -- workload with the stored journal, or with the journal of its run.

@@ -25,7 +25,7 @@ use Rattle.sd_finder.specs.declared.verdicts.Verdict.TheVariants.{Done, Found, N
 use Rattle.sd_finder.specs.Answered.{IsSearch, IsShort, count_verdict, verdict_of}
 use Rattle.sd_finder.specs.Forms.{request_of}
 use Rattle.sd_finder.specs.Texts.{count_text, finding_text}
-use Rattle.sd_find.specs.Promises.{CompletesSearch, CountSays, CountsStates, ExcludesRuns, FindSays, FindsRun, HasMany, Helps, KeepsPromises, LeavesOpen, RefusesName, ThreadSays}
+use Rattle.sd_find.specs.Promises.{CompletesSearch, CountSays, CountsStates, ExcludesRuns, FindSays, FindsRun, HasMany, Helps, SearchesAsPromised, LeavesOpen, RefusesName, ThreadSays}
 use Rattle.sd_find.specs.Seeking.{CausedBy, CausedByHelp, CausedBySearch, Says, ended_line, ended_status, verdict_status}
 use Rattle.sd_find.proofs.CauseLemmas.{completes, done_of, failed, found_of, more_of, never_of, refuses}
 use Rattle.sd_find.proofs.CutLemmas.{cut_off}
@@ -216,7 +216,7 @@ usage_of (Some (Search aim most)) input out ended c = (λ one. absurd (by ended 
     by (Err a) c one = let f = failed aim most input out a c in absurd (omega (arith, f.0, one))
 
 pub promises_of : (arguments : List (List ℕ)) (input out err : StreamChange) (ended : Result Verdict Answer) (status : ℕ) → status ≡ ended_status ended
-    → CausedBy (request_of arguments) input out ended → TellsLine err (ended_line ended) → KeepsPromises arguments input out err status
+    → CausedBy (request_of arguments) input out ended → TellsLine err (ended_line ended) → SearchesAsPromised arguments input out err status
 promises_of arguments input out err ended status is caused told =
     let asked = λ (aim : Aim) (most : ℕ) (known : request_of arguments ≡ Some (Search aim most)). subst (λ k. CausedBy k input out ended) known caused in
     let ending = λ (name : List ℕ). let aim : Aim = Ends (record { items = name }) in aim in

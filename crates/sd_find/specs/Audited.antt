@@ -17,7 +17,7 @@ use Rattle.sd_finder.specs.declared.forms.Aim.TheVariants.{Find, Ends, Waits}
 use Rattle.sd_finder.specs.declared.forms.Request.TheVariants.{Search}
 use Rattle.sd_finder.specs.Forms.{request_of}
 use Rattle.sd_finder.specs.Texts.{between_text, found_head, wait_text}
-use Rattle.sd_find.specs.Promises.{KeepsPromises}
+use Rattle.sd_find.specs.Promises.{SearchesAsPromised}
 
 -- each audit of the text, whose last line has its newline, the line `journal` and this journal has status 0, out of memory and faults aside
 abbrev pub IsFoundLegal : List ℕ → List ℕ → Type 0
@@ -40,7 +40,7 @@ pub record EndsWithJournal (q : Question) (text printed : List ℕ) : Type 0 whe
 abbrev pub WitnessesAreAudited : Type 0
 WitnessesAreAudited =
     (q : Question) (most : ℕ) (arguments : List (List ℕ)) (input out err : StreamChange) (status : ℕ) (text printed : List ℕ)
-    → KeepsPromises arguments input out err status → request_of arguments ≡ Some (Search (Find q) most) → status ≡ 9
+    → SearchesAsPromised arguments input out err status → request_of arguments ≡ Some (Search (Find q) most) → status ≡ 9
     → input.before ≡ Some text → out.before ≡ Some [] → out.after ≡ Some printed → HasWholeLines text
     → EndsWithJournal q text printed
 
@@ -60,7 +60,7 @@ pub record HasJournals (name text printed : List ℕ) : Type 0 where
 abbrev pub EndingsAreAudited : Type 0
 EndingsAreAudited =
     (name : List ℕ) (most : ℕ) (arguments : List (List ℕ)) (input out err : StreamChange) (status : ℕ) (text printed : List ℕ)
-    → KeepsPromises arguments input out err status → request_of arguments ≡ Some (Search (Ends (record { items = name })) most) → status ≡ 9
+    → SearchesAsPromised arguments input out err status → request_of arguments ≡ Some (Search (Ends (record { items = name })) most) → status ≡ 9
     → input.before ≡ Some text → out.before ≡ Some [] → out.after ≡ Some printed → HasWholeLines text
     → HasJournals name text printed
 
@@ -76,6 +76,6 @@ pub record HasWait (text printed : List ℕ) : Type 0 where
 abbrev pub WaitsAreAudited : Type 0
 WaitsAreAudited =
     (name : List ℕ) (most : ℕ) (arguments : List (List ℕ)) (input out err : StreamChange) (status : ℕ) (text printed : List ℕ)
-    → KeepsPromises arguments input out err status → request_of arguments ≡ Some (Search (Waits (record { items = name })) most) → status ≡ 9
+    → SearchesAsPromised arguments input out err status → request_of arguments ≡ Some (Search (Waits (record { items = name })) most) → status ≡ 9
     → input.before ≡ Some text → out.before ≡ Some [] → out.after ≡ Some printed → HasWholeLines text
     → HasWait text printed

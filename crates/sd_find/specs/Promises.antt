@@ -211,7 +211,7 @@ Helps input out status = IsUntouched input × (((status ≡ 0) × Appends out.be
 -- says that not all was searched. The other sides: an accepted workload is searched, faults and out of memory aside; an input that is too
 -- large or no accepted workload is refused with 2, and so is one that has no thread of the name. Where the forms are asked for they are
 -- written, and nothing is read. And status 1 comes exactly where the arguments are of none of the forms.
-pub record KeepsPromises (arguments : List (List ℕ)) (input out err : StreamChange) (status : ℕ) : Type 0 where
+pub record SearchesAsPromised (arguments : List (List ℕ)) (input out err : StreamChange) (status : ℕ) : Type 0 where
   pub answered : IsSought arguments input out err status
   pub finds : (q : Question) (most : ℕ) → request_of arguments ≡ Some (Search (Find q) most) → status ≡ 9 → FindsRun q most input out
   pub excludes : (q : Question) (most : ℕ) → request_of arguments ≡ Some (Search (Find q) most) → status ≡ 10 → ExcludesRuns q most input out

@@ -8,9 +8,9 @@ use Rattle.std.specs.declared.alloc.Global.{Global}
 use Rattle.sd_answers.specs.Starts.{StartsBy}
 use Rattle.sd_answers.specs.StreamChanges.{StreamChange}
 use Rattle.sd_find.specs.Asked.{asked}
-use Rattle.sd_find.specs.Promises.{KeepsPromises}
+use Rattle.sd_find.specs.Promises.{SearchesAsPromised}
 use Rattle.sd_find.specs.Seeking.{answer_line}
 
 -- arguments that were read are carried out, but for a last `--quiet`
 abbrev pub Starts : Result (Vec (String Global) Global) Error → StreamChange → StreamChange → StreamChange → ℕ → Type 0
-Starts = StartsBy (λ arguments. KeepsPromises (asked arguments)) answer_line
+Starts = StartsBy (λ arguments. SearchesAsPromised (asked arguments)) answer_line

@@ -4,7 +4,7 @@ ghost use Rattle.std.specs.Prelude.{◌≡◌, map, string_bytes, IsErrOf};
 ghost use Rattle.sd_answers.specs.StreamChanges.{Puts, TellsLine, change_of};
 ghost use Rattle.sd_answers.specs.declared.writing.Unwritten.TheVariants.{Memory};
 ghost use Rattle.sd_find.specs.Asked.{asked};
-ghost use Rattle.sd_find.specs.Promises.{KeepsPromises};
+ghost use Rattle.sd_find.specs.Promises.{SearchesAsPromised};
 ghost use Rattle.sd_find.specs.Seeking.{answer_line, ended_line, ended_status, verdict_line, verdict_status};
 ghost use Rattle.sd_find.specs.Starts.{Starts};
 
@@ -90,7 +90,7 @@ pub fn find<S: Source, K: Sink, E: Sink, P: Sink>(
     err: &mut E,
     progress: &mut Progress<P>,
 ) -> u8
-    ensures { KeepsPromises (asked (map string_bytes arguments.now))
+    ensures { SearchesAsPromised (asked (map string_bytes arguments.now))
         (change_of (S.remaining input.old) (S.remaining input.new) (S.fault_count input.old) (S.fault_count input.new))
         (change_of (K.contents out.old) (K.contents out.new) (K.fault_count out.old) (K.fault_count out.new))
         (change_of (E.contents err.old) (E.contents err.new) (E.fault_count err.old) (E.fault_count err.new))

@@ -9,7 +9,7 @@ use Rattle.sd_text.proofs.StreamLemmas.{Appends-told}
 use Rattle.sd_machine.specs.Texts.{journal}
 use Rattle.sd_workload.specs.Accepted.{Accepted}
 use Rattle.sd_audit.specs.Audits.{IsJournal}
-use Rattle.sd_answers.specs.Certificates.{IsJournalOf, Certifies}
+use Rattle.sd_answers.specs.Certificates.{IsLegalJournal, Certifies}
 use Rattle.sd_types.specs.Limits.{most_bytes}
 use Rattle.sd_types.specs.Limits.{most_certificate}
 use Rattle.sd_answers.specs.Inputs.{IsWorkload}
@@ -27,7 +27,7 @@ module _ (mode : Mode) (input out : StreamChange) (text printed : List ℕ) (is 
   printed_journal : (w : Work) (es : List Entry) → Appends out.before out.after (journal w es) → printed ≡ journal w es
   printed_journal w es appended = same_Some printed (journal w es) (sym holds ∙ Appends-told out.before out.after [] (journal w es) appended empty)
 
-  certified : (w : Work) (P : List Entry → Type 0) → IsWorkload input w → Writes w (Journal mode) out P → Certifies (certificate_of text printed) printed (IsJournalOf printed)
+  certified : (w : Work) (P : List Entry → Type 0) → IsWorkload input w → Writes w (Journal mode) out P → Certifies (certificate_of text printed) printed (IsLegalJournal printed)
   certified w P found (es, run, appended, none, ends) =
       let same = taken_all input.before input.after found.bytes text found.read.took found.read.to_end is in
       let accepted : Accepted text w = subst (λ (bs : List ℕ). Accepted bs w) same found.accepted in

@@ -21,7 +21,7 @@ use Rattle.sd_viewer.specs.declared.forms.Request.{Request}
 use Rattle.sd_viewer.specs.declared.forms.Request.TheVariants.{Help, Draw}
 use Rattle.sd_viewer.specs.Forms.{request_of}
 use Rattle.sd_viewer.proofs.ClosingLemmas.{left-ends}
-use Rattle.sd_viewer.specs.Promises.{Helps, KeepsPromises}
+use Rattle.sd_viewer.specs.Promises.{Helps, ShowsAsPromised}
 use Rattle.sd_viewer.specs.Viewing.{IsDrawnInput, IsDrawing, Draws, CausedByView, CausedByHelp, CausedBy, answer_line, help_text, viewed_answer, viewed_line}
 
 -- ---- the answer to a drawing
@@ -163,7 +163,7 @@ usage_of (Some Help) input out a line c =
 usage_of (Some (Draw d)) input out a line c = (λ one. absurd (not_usage (IsDrawnInput d input) (λ text. text) input out a (cause_of d input out line a c) one), λ none. cc)
 
 pub promises_of : (arguments : List (List ℕ)) (input out err : StreamChange) (a : Answer) (line : List ℕ) (status : ℕ) → status ≡ status_of a
-    → CausedBy (request_of arguments) input out a line → TellsLine err line → KeepsPromises arguments input out err status
+    → CausedBy (request_of arguments) input out a line → TellsLine err line → ShowsAsPromised arguments input out err status
 promises_of arguments input out err a line status is caused told =
     let asked = λ (d : Drawing) (known : request_of arguments ≡ Some (Draw d)). subst (λ k. CausedBy k input out a line) known caused in
     let helped = λ (known : request_of arguments ≡ Some Help). subst (λ k. CausedBy k input out a line) known caused in

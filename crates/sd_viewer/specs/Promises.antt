@@ -25,7 +25,7 @@ Helps input out status = IsUntouched input × (((status ≡ 0) × Appends out.be
 -- refused with 2; a text that is no such journal is refused with 7; faults aside, and out of memory but where the input is too large.
 -- Where the forms are asked for they are written, and nothing is read; the status is 0, or 4 where a write failed. And status 1
 -- comes exactly where the arguments are of none of the forms.
-pub record KeepsPromises (arguments : List (List ℕ)) (input out err : StreamChange) (status : ℕ) : Type 0 where
+pub record ShowsAsPromised (arguments : List (List ℕ)) (input out err : StreamChange) (status : ℕ) : Type 0 where
   pub answered : IsViewed arguments input out err status
   pub draws : (drawing : Drawing) → request_of arguments ≡ Some (Draw drawing) → status ≡ 0 → TellsDrawing drawing input out err
   pub faults : status ≡ 7 → RefusesJournal input out

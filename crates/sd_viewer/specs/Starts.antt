@@ -7,9 +7,9 @@ use Rattle.std.specs.declared.vec.Vec.{Vec}
 use Rattle.std.specs.declared.alloc.Global.{Global}
 use Rattle.sd_answers.specs.Starts.{StartsBy}
 use Rattle.sd_answers.specs.StreamChanges.{StreamChange}
-use Rattle.sd_viewer.specs.Promises.{KeepsPromises}
+use Rattle.sd_viewer.specs.Promises.{ShowsAsPromised}
 use Rattle.sd_viewer.specs.Viewing.{answer_line}
 
 -- arguments that were read are carried out
 abbrev pub Starts : Result (Vec (String Global) Global) Error → StreamChange → StreamChange → StreamChange → ℕ → Type 0
-Starts = StartsBy KeepsPromises answer_line
+Starts = StartsBy ShowsAsPromised answer_line

@@ -5,7 +5,7 @@ ghost use Rattle.sd_answers.specs.Answers.{status_of};
 ghost use Rattle.sd_answers.specs.StreamChanges.{Puts, TellsLine, change_of};
 ghost use Rattle.sd_answers.specs.declared.writing.Unwritten.TheVariants.{Memory};
 ghost use Rattle.sd_text.specs.Lines.{EndsLine};
-ghost use Rattle.sd_viewer.specs.Promises.{KeepsPromises};
+ghost use Rattle.sd_viewer.specs.Promises.{ShowsAsPromised};
 ghost use Rattle.sd_viewer.specs.Starts.{Starts};
 ghost use Rattle.sd_viewer.specs.Viewing.{answer_line, viewed_answer, viewed_line};
 
@@ -62,7 +62,7 @@ pub fn view<S: Source, K: Sink, E: Sink>(
     out: &mut K,
     err: &mut E,
 ) -> u8
-    ensures { KeepsPromises (map string_bytes arguments.now)
+    ensures { ShowsAsPromised (map string_bytes arguments.now)
         (change_of (S.remaining input.old) (S.remaining input.new) (S.fault_count input.old) (S.fault_count input.new))
         (change_of (K.contents out.old) (K.contents out.new) (K.fault_count out.old) (K.fault_count out.new))
         (change_of (E.contents err.old) (E.contents err.new) (E.fault_count err.old) (E.fault_count err.new))

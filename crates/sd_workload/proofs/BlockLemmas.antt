@@ -14,9 +14,9 @@ use Rattle.sd_declare.specs.declared.causes.WorkCause.TheVariants.{Table, Syntax
 use Rattle.sd_declare.specs.Declarations.{Declarations}
 use Rattle.sd_workload.specs.declared.fault.WorkFault.{WorkFault}
 use Rattle.sd_workload.specs.declared.fault.WorkFault.TheVariants.{At}
-use Rattle.sd_workload.specs.declared.places.Place.{Place}
+use Rattle.sd_workload.specs.declared.line_starts.LineStart.{LineStart}
 use Rattle.sd_workload.specs.declared.tables.TableBlock.{TableBlock}
-use Rattle.sd_workload.specs.Places.{lines_from, judged_from, IsFault}
+use Rattle.sd_workload.specs.LineStarts.{lines_from, judged_from, IsFault}
 use Rattle.sd_workload.specs.Tables.{Follows, IsBlock, line_of}
 use Rattle.sd_workload.specs.Texts.{Outside, InTable, format_of, with_table, Refuses, judged}
 use Rattle.sd_workload.proofs.TableLemmas.{table-fault, table-clean, table-closed, table-rows, table-open}
@@ -48,12 +48,12 @@ fault-bound class text fault n e (inl f) end =
 fault-bound class text fault n e (inr f) end =
     subst (λ (o : Option ℕ). IfSome o (λ line. (1 ≤ line) × (n + line ≤ e + 1))) (sym (ap line_of f.2)) tt
 
-start : (text : List ℕ) (at : Place) (block : TableBlock) (d : Declarations) (class : TableClass) (b : IsBlock text at block)
+start : (text : List ℕ) (at : LineStart) (block : TableBlock) (d : Declarations) (class : TableClass) (b : IsBlock text at block)
     → judged_from text at d (InTable class []) ≡ judged at.number d (InTable class []) (word_lines block.text.items ++ b.rest)
 start text at block d class b = ap (judged at.number d (InTable class [])) b.lines
 
 -- no line is at fault, up to the end of the block
-clean : (text : List ℕ) (at : Place) (block : TableBlock) (d : Declarations) (class : TableClass) (b : IsBlock text at block)
+clean : (text : List ℕ) (at : LineStart) (block : TableBlock) (d : Declarations) (class : TableClass) (b : IsBlock text at block)
     → ((i : ℕ) → i < length (word_lines block.text.items) → fault_at (format_of class).columns (word_lines block.text.items) i ≡ None)
     → judged_from text at d (InTable class []) ≡ judged block.end d (InTable class (word_lines block.text.items)) b.rest
 clean text at block d class b none =
@@ -61,30 +61,30 @@ clean text at block d class b none =
     ∙ table-clean at.number block.end d class (word_lines block.text.items) b.rest b.closes b.end none
 
 -- the end of the input in a block
-pub block-open : (text : List ℕ) (at : Place) (block : TableBlock) (d : Declarations) (class : TableClass) → IsBlock text at block
+pub block-open : (text : List ℕ) (at : LineStart) (block : TableBlock) (d : Declarations) (class : TableClass) → IsBlock text at block
     → ((i : ℕ) → i < length (word_lines block.text.items) → fault_at (format_of class).columns (word_lines block.text.items) i ≡ None)
     → block.below ≡ None → judged_from text at d (InTable class []) ≡ Refuses block.end Syntax
 block-open text at block d class b none below =
     clean text at block d class b none
-    ∙ table-open block.end d class (word_lines block.text.items) b.rest (subst (λ (o : Option Place). Follows text o b.rest) below b.follows)
+    ∙ table-open block.end d class (word_lines block.text.items) b.rest (subst (λ (o : Option LineStart). Follows text o b.rest) below b.follows)
 
 -- a block that gives a table
-pub block-done : (text : List ℕ) (at to : Place) (block : TableBlock) (d : Declarations) (class : TableClass) → IsBlock text at block
+pub block-done : (text : List ℕ) (at to : LineStart) (block : TableBlock) (d : Declarations) (class : TableClass) → IsBlock text at block
     → IsTableText (format_of class) block.text.items → block.below ≡ Some to
     → judged_from text at d (InTable class []) ≡ judged_from text to (with_table d class (word_lines block.text.items)) Outside
 block-done text at to block d class b given below =
-    let f = subst (λ (o : Option Place). Follows text o b.rest) below b.follows in
-    let number = subst (λ (o : Option Place). IfSome o (λ p. p.number ≡ block.end + 1)) below b.numbered in
+    let f = subst (λ (o : Option LineStart). Follows text o b.rest) below b.follows in
+    let number = subst (λ (o : Option LineStart). IfSome o (λ p. p.number ≡ block.end + 1)) below b.numbered in
     clean text at block d class b given.clean
     ∙ table-closed block.end to.number d class (word_lines block.text.items) b.rest (lines_from text to) f.0 f.1 f.2 number given.rows
 
-rows-closed : (text : List ℕ) (at : Place) (block : TableBlock) (d : Declarations) (class : TableClass) (o : Option Place) → IsBlock text at block
+rows-closed : (text : List ℕ) (at : LineStart) (block : TableBlock) (d : Declarations) (class : TableClass) (o : Option LineStart) → IsBlock text at block
     → IsRowsFault (format_of class) (word_lines block.text.items) (Rows (length (rows_in (word_lines block.text.items)))) → block.below ≡ o
     → (closed : Bool) → closed ≡ is_some block.below
     → (f : WorkFault) → (closed ≡ true → f ≡ At block.end (Table (Rows (length (rows_in (word_lines block.text.items)))))) → (closed ≡ false → f ≡ At block.end Syntax)
     → IsFault (judged_from text at d (InTable class [])) f
 rows-closed text at block d class (Some to) b r below closed tells f some none =
-    let g = subst (λ (o : Option Place). Follows text o b.rest) below b.follows in
+    let g = subst (λ (o : Option LineStart). Follows text o b.rest) below b.follows in
     let is : f ≡ At block.end (Table (Rows (length (rows_in (word_lines block.text.items))))) = some (tells ∙ ap is_some below) in
     subst (IsFault (judged_from text at d (InTable class []))) (sym is)
     (clean text at block d class b r.0
@@ -94,7 +94,7 @@ rows-closed text at block d class None b r below closed tells f some none =
     subst (IsFault (judged_from text at d (InTable class []))) (sym is) (block-open text at block d class b r.0 below)
 
 -- a block with a fault
-pub block-refused : (text : List ℕ) (at : Place) (block : TableBlock) (d : Declarations) (class : TableClass) (fault : TableFault) → IsBlock text at block
+pub block-refused : (text : List ℕ) (at : LineStart) (block : TableBlock) (d : Declarations) (class : TableClass) (fault : TableFault) → IsBlock text at block
     → IsTableFault (format_of class) block.text.items fault → (closed : Bool) → closed ≡ is_some block.below → (f : WorkFault)
     → IfSome (line_of fault) (λ line. f ≡ At (at.number + line - 1) (Table fault))
     → IfNone (line_of fault) (closed ≡ true → f ≡ At block.end (Table fault))

@@ -13,7 +13,7 @@ use Rattle.sd_declare.specs.Declarations.{Declarations}
 use Rattle.sd_declare.specs.Kept.{IsRefusal}
 use Rattle.sd_workload.specs.declared.fault.WorkFault.{WorkFault}
 use Rattle.sd_workload.specs.declared.fault.WorkFault.TheVariants.{At, Memory}
-use Rattle.sd_workload.specs.Places.{NoneAbove, IsFault, IsFaultAt, fault_of}
+use Rattle.sd_workload.specs.LineStarts.{NoneAbove, IsFault, IsFaultAt, fault_of}
 use Rattle.sd_workload.specs.Texts.{Block, Outside, ops_of, cause_of, declared_after, block_after, end_cause, Verdict, Accepts, Refuses, unless_refused, judged}
 
 pub judged-end : (n : ℕ) (d : Declarations) (b : Block) (lines : List Line) → lines ≡ []

@@ -13,7 +13,7 @@ use Rattle.sd_declare.specs.declared.causes.WorkCause.TheVariants.{Syntax, Scrip
 use Rattle.sd_declare.specs.Declarations.{Thread, Declarations}
 use Rattle.sd_declare.specs.Kept.{thread_kept}
 use Rattle.sd_workload.specs.declared.fault.WorkFault.{WorkFault}
-use Rattle.sd_workload.specs.Places.{IsFault, IsFaultAt}
+use Rattle.sd_workload.specs.LineStarts.{IsFault, IsFaultAt}
 use Rattle.sd_workload.specs.Scripts.{end_fault}
 use Rattle.sd_workload.specs.Texts.{Outside, InScript, unless_done, operation_cause, ops_of, with_script, no_thread, cause_of, declared_after, block_after, end_cause, Refuses, judged}
 use Rattle.sd_workload.proofs.JudgedLemmas.{judged-end, judged-on, fault-at}

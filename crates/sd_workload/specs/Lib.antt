@@ -1,6 +1,6 @@
 pub mod Accepted
 pub mod First
-pub mod Places
+pub mod LineStarts
 pub mod Scripts
 pub mod Sound
 pub mod Tables

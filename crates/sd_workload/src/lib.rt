@@ -3,8 +3,8 @@
 
 mod fault;
 mod laws;
+mod line_starts;
 mod lines;
-mod places;
 mod read;
 mod scripts;
 mod tables;

@@ -4,11 +4,11 @@ ghost use Rattle.std.specs.Prelude.{◌≡◌, None, length, OnOk, IfOk, IfErr};
 ghost use Rattle.sd_text.specs.Words.{words_of};
 ghost use Rattle.sd_declare.specs.Kept.{declarations};
 ghost use Rattle.sd_declare.specs.Opened.{IsOpenWithin};
-ghost use Rattle.sd_workload.specs.Places.{IsFaultAt};
+ghost use Rattle.sd_workload.specs.LineStarts.{IsFaultAt};
 ghost use Rattle.sd_workload.specs.Texts.{Outside, cause_of, declared_after, block_after, block_of};
 
 use crate::WorkFault;
-use crate::places::fault_at;
+use crate::line_starts::fault_at;
 use sd_declare::{Declared, Opened, WorkCause, take_statement};
 use sd_lines::{has_words, statement_of};
 use std::alloc::Global;

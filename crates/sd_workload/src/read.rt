@@ -4,13 +4,13 @@ ghost use Rattle.std.specs.Prelude.{◌≡◌, ◌+◌, ◌*◌, ◌<◌, ◌≤
 ghost use Rattle.sd_text.specs.Words.{words_of};
 ghost use Rattle.sd_declare.specs.Kept.{declarations};
 ghost use Rattle.sd_workload.specs.Accepted.{Accepted, FirstCause};
-ghost use Rattle.sd_workload.specs.Places.{judged_from, lines_from, IsFault, IsFaultAt};
+ghost use Rattle.sd_workload.specs.LineStarts.{judged_from, lines_from, IsFault, IsFaultAt};
 ghost use Rattle.sd_workload.specs.Tables.{IsBelow};
 ghost use Rattle.sd_workload.specs.Texts.{Outside, Accepts, is_too_many, end_cause, judged, verdict_of};
 
 use crate::WorkFault;
+use crate::line_starts::{LineStart, line_at};
 use crate::lines::take_line;
-use crate::places::{Place, line_at};
 use crate::scripts::take_script;
 use crate::tables::take_table;
 use crate::works::work;
@@ -25,8 +25,8 @@ fn take_lines(
     bytes: &[u8],
     line: &[u8],
     number: u32,
-    below: Place,
-) -> Result<Place, WorkFault>
+    below: LineStart,
+) -> Result<LineStart, WorkFault>
     requires text { length bytes.now < 2 ^ 31 }
     requires inside { 1 ≤ below.from }
     requires within { below.from ≤ length bytes.now + 1 }
@@ -106,7 +106,7 @@ fn declared(alloc: Global, bytes: &[u8]) -> Result<(Declared, u32, u32), WorkFau
     ensures limit { IfOk result (λ found. found.0.limit ≡ Some found.1) }
 {
     let mut d = Declared::new(alloc);
-    let mut at = Place { from: 0, number: 1 };
+    let mut at = LineStart { from: 0, number: 1 };
     'lines: while let Some((line, below)) = line_at(bytes, at) {
         at = take_lines(alloc, &mut d, bytes, line, at.number, below)?;
     }

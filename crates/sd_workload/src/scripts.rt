@@ -7,14 +7,14 @@ ghost use Rattle.sd_text.specs.Words.{words_of};
 ghost use Rattle.sd_declare.specs.declared.causes.WorkCause.TheVariants.{Script as Scripted};
 ghost use Rattle.sd_declare.specs.Kept.{declarations, IsRefusal};
 ghost use Rattle.sd_declare.specs.Operations.{ops_of_op};
-ghost use Rattle.sd_workload.specs.Places.{judged_from, IsFault, IsFaultAt};
+ghost use Rattle.sd_workload.specs.LineStarts.{judged_from, IsFault, IsFaultAt};
 ghost use Rattle.sd_workload.specs.Scripts.{fault_behind, ops_fault, end_fault};
 ghost use Rattle.sd_workload.specs.Tables.{IsBelow};
 ghost use Rattle.sd_workload.specs.Texts.{Outside, InScript, unless_done, operation_cause, ops_of, with_script};
 ghost use Rattle.sd_lines.specs.Operations.{operation_of};
 
 use crate::WorkFault;
-use crate::places::{Place, fault_at, line_at};
+use crate::line_starts::{LineStart, fault_at, line_at};
 use arrayvec::ArrayVec;
 use sd_declare::{Declared, Refusal, WorkCause, op_of};
 use sd_lines::{has_words, is_end, operation_of};
@@ -139,8 +139,8 @@ fn script_at(
     d: &Declared,
     thread: ThreadId,
     bytes: &[u8],
-    at: Place,
-) -> Result<(Script, Place), WorkFault>
+    at: LineStart,
+) -> Result<(Script, LineStart), WorkFault>
     requires text { length bytes.now < 2 ^ 31 }
     requires number { at.number ≤ at.from + 1 }
     ensures ok { IfOk result (λ found. judged_from bytes.now at (declarations d.now) (InScript thread [])
@@ -185,8 +185,8 @@ pub fn take_script(
     d: &mut Declared,
     thread: ThreadId,
     bytes: &[u8],
-    at: Place,
-) -> Result<Place, WorkFault>
+    at: LineStart,
+) -> Result<LineStart, WorkFault>
     requires text { length bytes.now < 2 ^ 31 }
     requires number { at.number ≤ at.from + 1 }
     requires thread { thread.0 < length d.old.threads.items }

@@ -3,12 +3,12 @@
 ghost use Rattle.std.specs.Prelude.{◌≡◌, [], ◌++◌, ◌∷◌, ◌+◌, ◌-◌, ◌<◌, ◌≤◌, ◌^◌, length, OnOk, IfOk, IfErr, IfSome, IfNone, true, false};
 ghost use Rattle.sd_tables.specs.TableText.{word_lines, IsTableText, IsTableFault, ts_format, fx_format, rt_format};
 ghost use Rattle.sd_declare.specs.Kept.{declarations};
-ghost use Rattle.sd_workload.specs.Places.{judged_from, IsFault};
+ghost use Rattle.sd_workload.specs.LineStarts.{judged_from, IsFault};
 ghost use Rattle.sd_workload.specs.Tables.{IsBlock, IsBelow, line_of};
 ghost use Rattle.sd_workload.specs.Texts.{Outside, InTable, format_of, with_table};
 
 use crate::WorkFault;
-use crate::places::{Place, line_at};
+use crate::line_starts::{LineStart, line_at};
 use sd_declare::{Declared, WorkCause};
 use sd_lines::{TableClass, is_end};
 use sd_tables::{ReadTableFault, TableFault, read_fx, read_rt, read_ts};
@@ -20,7 +20,7 @@ use std::alloc::{AllocError, Global};
 pub struct TableBlock {
     pub text: Vec<u8>,
     pub end: u32,
-    pub below: Option<Place>,
+    pub below: Option<LineStart>,
 }
 
 // Appends a line with its newline.
@@ -33,7 +33,7 @@ fn put_line(text: &mut Vec<u8>, line: &[u8]) -> Result<(), AllocError>
 }
 
 // The block whose lines begin at a place.
-fn block_at(alloc: Global, bytes: &[u8], at: Place) -> Result<TableBlock, AllocError>
+fn block_at(alloc: Global, bytes: &[u8], at: LineStart) -> Result<TableBlock, AllocError>
     requires text { length bytes.now < 2 ^ 31 }
     requires number { at.number ≤ at.from + 1 }
     requires inside { 1 ≤ at.from }
@@ -62,7 +62,7 @@ fn block_at(alloc: Global, bytes: &[u8], at: Place) -> Result<TableBlock, AllocE
 }
 
 // The same, where there is memory to keep its lines. No line above the block is at fault.
-fn kept_block(alloc: Global, bytes: &[u8], at: Place) -> Result<TableBlock, WorkFault>
+fn kept_block(alloc: Global, bytes: &[u8], at: LineStart) -> Result<TableBlock, WorkFault>
     requires text { length bytes.now < 2 ^ 31 }
     requires number { at.number ≤ at.from + 1 }
     requires inside { 1 ≤ at.from }
@@ -188,8 +188,8 @@ pub fn take_table(
     d: &mut Declared,
     class: TableClass,
     bytes: &[u8],
-    at: Place,
-) -> Result<Place, WorkFault>
+    at: LineStart,
+) -> Result<LineStart, WorkFault>
     requires text { length bytes.now < 2 ^ 31 }
     requires number { at.number ≤ at.from + 1 }
     requires inside { 1 ≤ at.from }

@@ -1,6 +1,6 @@
 use Rattle.std.proofs.Common.{◌≡◌, ◌+◌, ◌-◌, ◌≤◌, length}
 use Rattle.sd_declare.specs.Kept.{declarations}
-use Rattle.sd_workload.specs.Places.{judged_from}
+use Rattle.sd_workload.specs.LineStarts.{judged_from}
 use Rattle.sd_workload.specs.Texts.{Outside, verdict_of}
 use Rattle.sd_workload.proofs.read.declared.Given as goal
 

@@ -1,7 +1,7 @@
 use Rattle.std.proofs.Common.{◌≡◌, [], ◌∷◌, refl, sym, ap, ◌∙◌, rules}
 use Rattle.sd_text.specs.Words.{words_of}
 use Rattle.sd_declare.specs.Kept.{declarations}
-use Rattle.sd_workload.specs.Places.{lines_from, judged_from}
+use Rattle.sd_workload.specs.LineStarts.{lines_from, judged_from}
 use Rattle.sd_workload.specs.Texts.{Outside, InTable, InScript, block_of, judged}
 use Rattle.sd_workload.proofs.JudgedLemmas.{judged-on, fault-at, fault-along}
 use Rattle.sd_workload.proofs.read.take_lines.Goals.{In-Table, In-Script}

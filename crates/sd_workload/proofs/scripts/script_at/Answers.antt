@@ -4,7 +4,7 @@ use Rattle.sd_types.specs.Scripts.{EachOpFits}
 use Rattle.sd_text.specs.Words.{words_of}
 use Rattle.sd_declare.specs.Kept.{declarations}
 use Rattle.sd_lines.specs.Operations.{operation_of}
-use Rattle.sd_workload.specs.Places.{IsFault, fault_of, judged_from}
+use Rattle.sd_workload.specs.LineStarts.{IsFault, fault_of, judged_from}
 use Rattle.sd_workload.specs.Texts.{InScript, operation_cause, unless_done}
 use Rattle.sd_workload.proofs.JudgedLemmas.{fault-along, refusal-at}
 use Rattle.sd_workload.proofs.FitsLemmas.{line-more}

@@ -1,7 +1,7 @@
 use Rattle.std.proofs.Common.{◌≡◌, ◌+◌, ◌-◌, ◌≤◌, [], length}
 use Rattle.sd_types.specs.Scripts.{held_by, EachOpFits}
 use Rattle.sd_declare.specs.Kept.{declarations}
-use Rattle.sd_workload.specs.Places.{judged_from}
+use Rattle.sd_workload.specs.LineStarts.{judged_from}
 use Rattle.sd_workload.specs.Texts.{InScript}
 use Rattle.sd_workload.proofs.scripts.script_at.Given as goal
 

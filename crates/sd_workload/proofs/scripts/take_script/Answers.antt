@@ -1,6 +1,6 @@
 use Rattle.std.proofs.Common.{sym, subst}
 use Rattle.sd_declare.specs.Kept.{declarations}
-use Rattle.sd_workload.specs.Places.{NoneAbove, lines_from}
+use Rattle.sd_workload.specs.LineStarts.{NoneAbove, lines_from}
 use Rattle.sd_workload.specs.Texts.{Outside, with_script}
 use Rattle.sd_workload.proofs.JudgedLemmas.{none-above}
 use Rattle.sd_workload.proofs.scripts.take_script.Goals as goal

@@ -3,7 +3,7 @@ use Rattle.std.specs.List.{list_all}
 use Rattle.sd_tables.specs.TableText.{word_lines}
 use Rattle.sd_text.specs.Words.{words_of}
 use Rattle.sd_lines.specs.Words.{Line, is_end}
-use Rattle.sd_workload.specs.Places.{lines_from}
+use Rattle.sd_workload.specs.LineStarts.{lines_from}
 use Rattle.sd_workload.proofs.LineLemmas.{IsClosed, no-lines, closed-nil, is_line-first, closed-push, word_lines-push, all-push}
 use Rattle.sd_workload.proofs.tables.block_at.Goals as goal
 

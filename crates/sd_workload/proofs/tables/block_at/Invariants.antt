@@ -2,7 +2,7 @@ use Rattle.std.proofs.Common.{◌≡◌, ◌+◌, ◌-◌, ◌≤◌, ◌++◌, 
 use Rattle.std.specs.List.{list_all}
 use Rattle.sd_tables.specs.TableText.{word_lines}
 use Rattle.sd_lines.specs.Words.{is_end}
-use Rattle.sd_workload.specs.Places.{lines_from}
+use Rattle.sd_workload.specs.LineStarts.{lines_from}
 use Rattle.sd_workload.proofs.LineLemmas.{IsClosed}
 use Rattle.sd_workload.proofs.tables.block_at.Given as goal
 

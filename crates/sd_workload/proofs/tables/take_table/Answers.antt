@@ -2,7 +2,7 @@ use Rattle.std.proofs.Common.{List, [], ℕ, sym, ap, ◌∙◌, subst, rules}
 use Rattle.sd_tables.specs.TableText.{IsTableText, IsTableFault}
 use Rattle.sd_declare.specs.Declarations.{Declarations}
 use Rattle.sd_declare.specs.Kept.{declarations}
-use Rattle.sd_workload.specs.Places.{IsFault, judged_from, lines_from}
+use Rattle.sd_workload.specs.LineStarts.{IsFault, judged_from, lines_from}
 use Rattle.sd_workload.specs.Texts.{Outside, InTable, format_of}
 use Rattle.sd_workload.proofs.JudgedLemmas.{none-above}
 use Rattle.sd_workload.proofs.BlockLemmas.{fault-bound, block-open, block-done, block-refused}

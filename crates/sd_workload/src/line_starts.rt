@@ -1,9 +1,9 @@
-//! Places in a text, from line to line.
+//! Where the lines of a text begin, from line to line.
 
 ghost use Rattle.std.specs.Prelude.{◌≡◌, [], ◌∷◌, ◌+◌, ◌<◌, ◌≤◌, ◌^◌, length, drop, IfSome, IfNone};
 ghost use Rattle.sd_text.specs.Lines.{lines_of};
 ghost use Rattle.sd_text.specs.Words.{words_of};
-ghost use Rattle.sd_workload.specs.Places.{lines_from, fault_of};
+ghost use Rattle.sd_workload.specs.LineStarts.{lines_from, fault_of};
 ghost use Rattle.sd_workload.specs.Tables.{IsBelow};
 
 use crate::WorkFault;
@@ -12,13 +12,13 @@ use sd_text::next_line;
 
 /// Where a line begins, and its number, from 1.
 #[derive(Clone, Copy)]
-pub struct Place {
+pub struct LineStart {
     pub from: usize,
     pub number: u32,
 }
 
-/// The line at a place, and the place of the line below it.
-pub fn line_at(bytes: &[u8], at: Place) -> Option<(&[u8], Place)>
+/// The line that begins there, and where the line below it begins.
+pub fn line_at(bytes: &[u8], at: LineStart) -> Option<(&[u8], LineStart)>
     requires text { length bytes.now < 2 ^ 31 }
     requires number { at.number ≤ at.from + 1 }
     ensures none { IfNone result (lines_from bytes.now at ≡ []) }
@@ -29,7 +29,7 @@ pub fn line_at(bytes: &[u8], at: Place) -> Option<(&[u8], Place)>
     ensures below { IfSome result (λ p. IsBelow bytes.now at p.1) }
 {
     let (start, end) = next_line(bytes, at.from)?;
-    let below = Place {
+    let below = LineStart {
         from: end + 1,
         number: at.number + 1,
     };

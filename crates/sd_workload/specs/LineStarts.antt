@@ -9,15 +9,15 @@ use Rattle.sd_declare.specs.declared.causes.Refusal.TheVariants as refused
 use Rattle.sd_declare.specs.Declarations.{Declarations}
 use Rattle.sd_workload.specs.declared.fault.WorkFault.{WorkFault}
 use Rattle.sd_workload.specs.declared.fault.WorkFault.TheVariants.{At, Memory}
-use Rattle.sd_workload.specs.declared.places.Place.{Place}
+use Rattle.sd_workload.specs.declared.line_starts.LineStart.{LineStart}
 use Rattle.sd_workload.specs.Texts.{Block, Verdict, Accepts, Refuses, judged}
 
 -- the lines from a place on
-abbrev pub lines_from : List ℕ → Place → List Line
+abbrev pub lines_from : List ℕ → LineStart → List Line
 lines_from text at = word_lines (drop at.from text)
 
 -- what the rest of the text from a place on comes to
-abbrev pub judged_from : List ℕ → Place → Declarations → Block → Verdict
+abbrev pub judged_from : List ℕ → LineStart → Declarations → Block → Verdict
 judged_from text at d block = judged at.number d block (lines_from text at)
 
 -- no line above this one is at fault
