@@ -1,2 +1,3 @@
 pub mod CommaLemmas
 pub mod IndexLemmas
+pub mod PlaceLemmas

@@ -1,6 +1,7 @@
 //! The entry that a line of a journal tells.
 #![tactic(auto)]
 
+mod cutting;
 mod events;
 mod fitting;
 mod indexing;

@@ -3,11 +3,11 @@
 ghost use Rattle.std.specs.Prelude.{◌≡◌, ◌≤◌, position};
 ghost use Rattle.std.specs.List.{position_or_len};
 ghost use Rattle.sd_types.specs.Works.{same_bytes};
-ghost use Rattle.sd_text.specs.Words.{words_of};
 ghost use Rattle.sd_entries.specs.Reading.{at, chan_in, lock_in, set_in, thread_in};
 
 use crate::Names;
-use crate::words::{is_word, word_at};
+use crate::cutting::Words;
+use crate::words::is_word;
 use sd_types::{ChanId, CpuId, List, LockId, Name, SetId, ThreadId, Work};
 
 // The number of the thread of this name, or of the threads where none has it.
@@ -76,29 +76,33 @@ fn set_in(work: &Work, word: &[u8]) -> SetId
 }
 
 /// The thread that the word at this place names.
-pub(crate) fn thread_at(names: &Names<'_>, line: &[u8], i: usize) -> ThreadId
-    ensures { result ≡ thread_in names.now.work.now (at (words_of line.now) i) }
+pub(crate) fn thread_at(names: &Names<'_>, words: &Words<'_>, i: usize) -> ThreadId
+    requires { i ≤ 10 }
+    ensures { result ≡ thread_in names.now.work.now (at words.now i) }
 {
-    thread_in(names, word_at(line, i))
+    thread_in(names, words.word(i))
 }
 
 /// The lock that the word at this place names.
-pub(crate) fn lock_at(names: &Names<'_>, line: &[u8], i: usize) -> LockId
-    ensures { result ≡ lock_in names.now.work.now (at (words_of line.now) i) }
+pub(crate) fn lock_at(names: &Names<'_>, words: &Words<'_>, i: usize) -> LockId
+    requires { i ≤ 10 }
+    ensures { result ≡ lock_in names.now.work.now (at words.now i) }
 {
-    lock_in(names, word_at(line, i))
+    lock_in(names, words.word(i))
 }
 
 /// The channel that the word at this place names.
-pub(crate) fn chan_at(names: &Names<'_>, line: &[u8], i: usize) -> ChanId
-    ensures { result ≡ chan_in names.now.work.now (at (words_of line.now) i) }
+pub(crate) fn chan_at(names: &Names<'_>, words: &Words<'_>, i: usize) -> ChanId
+    requires { i ≤ 10 }
+    ensures { result ≡ chan_in names.now.work.now (at words.now i) }
 {
-    chan_in(names, word_at(line, i))
+    chan_in(names, words.word(i))
 }
 
 /// The set that the word at this place names.
-pub(crate) fn set_at(names: &Names<'_>, line: &[u8], i: usize) -> SetId
-    ensures { result ≡ set_in names.now.work.now (at (words_of line.now) i) }
+pub(crate) fn set_at(names: &Names<'_>, words: &Words<'_>, i: usize) -> SetId
+    requires { i ≤ 10 }
+    ensures { result ≡ set_in names.now.work.now (at words.now i) }
 {
-    set_in(names.work, word_at(line, i))
+    set_in(names.work, words.word(i))
 }

@@ -2,15 +2,15 @@
 
 ghost use Rattle.std.specs.Prelude.{◌≡◌, ◌+◌, ◌≤◌, ◌++◌, ◌∷◌, [], ◌↔◌, IfNone, IfSome, IsTrue, length, position};
 ghost use Rattle.sd_types.specs.declared.events.Entry.{Entry as EntryValue};
-ghost use Rattle.sd_text.specs.Words.{words_of};
 ghost use Rattle.sd_machine.specs.Texts.{entry_text};
 ghost use Rattle.sd_entries.specs.Fitting.{IsSpelled, entry_fits};
 ghost use Rattle.sd_entries.specs.Reading.{at, bind_len, entry_of, event_len, hints_by, is_comma, numbers_in, prio_len, put_len, woken_len};
 
 use crate::Names;
+use crate::cutting::Words;
 use crate::events::event_of;
 use crate::fitting::{entry_fits, may_read};
-use crate::words::{byte_in, cpu_in, is_word, number_in, word_at};
+use crate::words::{byte_in, cpu_in, is_word, number_in};
 use arrayvec::ArrayVec;
 use sd_entries::EntryLine;
 use sd_types::{BindAnswer, Entry, Event, Hints, PrioAnswer, Put, ThreadId, Which, Work};
@@ -119,29 +119,29 @@ fn hints_by(may: Option<Which>, h: &[u8], numbers: &[u8]) -> Option<Hints>
     }
 }
 
-// The numbers that the words from place `i` on tell, where the event may have read any: only then are these words sought.
-fn hints_at(may: Option<Which>, line: &[u8], i: usize) -> Option<Hints>
+// The numbers that the words from place `i` on tell, where the event may have read any: only then are these words looked at.
+fn hints_at(may: Option<Which>, words: &Words<'_>, i: usize) -> Option<Hints>
     requires { i ≤ 9 }
-    ensures { result ≡ hints_by may (at (words_of line.now) i) (at (words_of line.now) (i + 1)) }
+    ensures { result ≡ hints_by may (at words.now i) (at words.now (i + 1)) }
 {
     match may {
         None => None,
-        may => hints_by(may, word_at(line, i), word_at(line, i + 1)),
+        may => hints_by(may, words.word(i), words.word(i + 1)),
     }
 }
 
-// The entry of the line, where it is one's.
+// The entry of the words, where they are one's.
 #[tactic(auto, unfolding(sd_entries::specs::Reading::entry_of))]
-fn entry_of(names: &Names<'_>, line: &[u8]) -> Entry
-    ensures { result ≡ entry_of names.now.work.now (words_of line.now) }
+fn entry_of(names: &Names<'_>, words: &Words<'_>) -> Entry
+    ensures { result ≡ entry_of names.now.work.now words.now }
 {
-    let event = event_of(names, line);
+    let event = event_of(names, words);
     let i = 2 + event_len(&event);
     Entry {
-        number: number_in(word_at(line, 0)),
-        cpu: cpu_in(word_at(line, 1)),
+        number: number_in(words.word(0)),
+        cpu: cpu_in(words.word(1)),
         event,
-        hints: hints_at(may_read(&event), line, i),
+        hints: hints_at(may_read(&event), words, i),
     }
 }
 
@@ -174,7 +174,8 @@ pub fn read_entry(names: &Names<'_>, line: &[u8]) -> Option<Entry>
     ensures none { IfNone result ((e : EntryValue) → IsSpelled names.now.work.now e → entry_text names.now.work.now e ≡ line.now ++ 10 ∷ [] → ⊥) }
 {
     let work = names.work;
-    let entry = entry_of(names, line);
+    let words = Words::of(line);
+    let entry = entry_of(names, &words);
     if entry_fits(work, &entry) && is_line_of(work, &entry, line) {
         Some(entry)
     } else {

@@ -1,29 +1,10 @@
-//! The words of a line, by their places from 0, and the numbers that they spell.
+//! What a word is, and the numbers that it spells.
 
 ghost use Rattle.std.specs.Prelude.{◌≡◌, ◌<◌, ◌^◌, IfSome};
 ghost use Rattle.sd_types.specs.Works.{same_bytes};
-ghost use Rattle.sd_text.specs.Words.{words_of};
-ghost use Rattle.sd_entries.specs.Reading.{at, byte_in, count_in, cpu_in, cpu_in_if, digits_of, number_in};
+ghost use Rattle.sd_entries.specs.Reading.{byte_in, count_in, cpu_in, cpu_in_if, digits_of, number_in};
 
-use sd_text::next_word;
 use sd_types::CpuId;
-
-/// The word at this place, empty where there is none.
-pub(crate) fn word_at(line: &[u8], i: usize) -> &[u8]
-    ensures { result.now ≡ at (words_of line.now) i }
-{
-    let mut from = 0;
-    for _turn in 0..i {
-        match next_word(line, from) {
-            Some((_, end)) => from = end,
-            None => return b"",
-        }
-    }
-    match next_word(line, from) {
-        Some((start, end)) => &line[start..end],
-        None => b"",
-    }
-}
 
 /// Whether a word is this one.
 pub(crate) fn is_word(word: &[u8], keyword: &[u8]) -> bool
