@@ -3,7 +3,7 @@
 ghost use Rattle.std.specs.Prelude.{◌≡◌, ◌<◌, false, length, IfSome, IsTrue};
 ghost use Rattle.sd_types.specs.Scripts.{is_held};
 ghost use Rattle.sd_types.specs.Willed.{changed_number, with_lock, with_willed};
-ghost use Rattle.sd_store.specs.declared.changes.BodyChange.TheVariants.{FinishOp, RunTick};
+ghost use Rattle.sd_store.specs.declared.changes.BodyChange.TheVariants.{FinishOp, RunTick, Tick};
 ghost use Rattle.sd_store.specs.Bodies.{changed};
 ghost use Rattle.sd_homes.specs.Bodies.{CanChangeThread};
 ghost use Rattle.sd_homes.specs.Homes.{with_body_of};
@@ -11,7 +11,7 @@ ghost use Rattle.sd_homes.specs.Homes.{with_body_of};
 use sd_flat::script_of;
 use sd_record::Record;
 use sd_store::BodyChange;
-use sd_types::{LockId, ThreadBody, ThreadId, Work};
+use sd_types::{ClassState, LockId, ThreadBody, ThreadId, Work};
 
 /// Whether the thread holds the lock.
 fn is_held(l: LockId, body: &ThreadBody) -> bool
@@ -29,6 +29,15 @@ fn run_tick(work: &Work, t: ThreadId, r: &mut Record)
     if (r.body.op as usize) < script.len() {
         sd_flat::ran(script, &mut r.body);
     }
+}
+
+/// The same, and another class state.
+fn tick(work: &Work, t: ThreadId, class: ClassState, r: &mut Record)
+    ensures body { CanChangeThread work.now t.0 (Tick class) r.old.body → r.new ≡ with_body_of (changed work.now t.0 (Tick class) r.old.body) r.old }
+    ensures id { r.new.id ≡ r.old.id }
+{
+    run_tick(work, t, r);
+    r.body.class = class;
 }
 
 /// The operation is over, where the thread stands at one.
@@ -75,6 +84,7 @@ pub(crate) fn change(work: &Work, t: ThreadId, change: BodyChange, r: &mut Recor
 {
     match change {
         BodyChange::RunTick => run_tick(work, t, r),
+        BodyChange::Tick(class) => tick(work, t, class, r),
         BodyChange::FinishOp => finish_op(work, t, r),
         BodyChange::Class(class) => r.body.class = class,
         BodyChange::SendBack => r.body.back = true,

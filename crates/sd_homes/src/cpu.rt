@@ -1,6 +1,6 @@
 //! The home of a processor.
 
-ghost use Rattle.std.specs.Prelude.{◌≡◌, ◌∷◌, false, Some, option_map, slice_get, IfOk, MatchOption};
+ghost use Rattle.std.specs.Prelude.{◌≡◌, ◌∷◌, false, Some, is_some, option_map, slice_get, IfOk, MatchOption};
 ghost use Rattle.std.specs.Option.{option_copied};
 ghost use Rattle.sd_boxq.specs.Order.{find_first, find_id, drop_id, insert_ranked, insert_keyed};
 ghost use Rattle.sd_homes.specs.Standing.{id_of, ages, earlier, is_unbound, key_in, least_to_age, rank_of};
@@ -143,18 +143,22 @@ impl CpuHome {
         self.running = Some(node);
     }
 
-    /// The body of the running thread changes where it stands, if the thread has this number, where it can be changed so.
+    /// The body of the running thread changes where it stands, if the thread has this number, where it can be changed so. Tells whether
+    /// the thread has this number.
     #[inline(always)]
-    pub fn change_running(&mut self, work: &Work, t: ThreadId, change: BodyChange)
-        ensures { MatchOption (find_id id_of t.0 (one self.old.running)) (self.new ≡ self.old) (λ r. (q : ThreadRecord) × (self.new ≡ with_running (Some q) self.old) × (q.id ≡ r.id)
+    pub fn change_running(&mut self, work: &Work, t: ThreadId, change: BodyChange) -> bool
+        ensures runs { result ≡ is_some (find_id id_of t.0 (one self.old.running)) }
+        ensures changed { MatchOption (find_id id_of t.0 (one self.old.running)) (self.new ≡ self.old) (λ r. (q : ThreadRecord) × (self.new ≡ with_running (Some q) self.old) × (q.id ≡ r.id)
             × (CanChangeThread work.now t.0 change r.body → q ≡ with_body_of (changed work.now t.0 change r.body) r)) }
     {
         if let Some(node) = &mut self.running {
             if node.item().id.0 == t.0 {
                 let record = node.item_mut();
                 bodies::change(work, t, change, record);
+                return true;
             }
         }
+        false
     }
 
     /// Takes the first napper with this number.

@@ -1,6 +1,6 @@
 //! One home, of any kind.
 
-ghost use Rattle.std.specs.Prelude.{◌≡◌, false, slice_get, MatchOption};
+ghost use Rattle.std.specs.Prelude.{◌≡◌, false, is_some, slice_get, MatchOption};
 ghost use Rattle.std.specs.Option.{option_copied};
 ghost use Rattle.sd_boxq.specs.Order.{find_id, drop_id};
 ghost use Rattle.sd_homes.specs.Standing.{home_at, id_of, insert_at};
@@ -179,15 +179,17 @@ impl Home {
         }
     }
 
-    /// The body of the thread that runs here changes where it stands, if the thread has this number, where it can be changed so.
+    /// The body of the thread that runs here changes where it stands, if the thread has this number, where it can be changed so. Tells
+    /// whether it has.
     #[inline(always)]
-    pub fn change_running(&mut self, work: &Work, t: ThreadId, c: CpuId, change: BodyChange)
-        ensures { MatchOption (find_id id_of t.0 (list_in self.old (Runs c))) (self.new ≡ self.old) (λ r. (q : ThreadRecord) × (self.new ≡ putting q (Runs c) (taking t.0 (Runs c) self.old)) × (q.id ≡ r.id)
+    pub fn change_running(&mut self, work: &Work, t: ThreadId, c: CpuId, change: BodyChange) -> bool
+        ensures runs { result ≡ is_some (find_id id_of t.0 (list_in self.old (Runs c))) }
+        ensures changed { MatchOption (find_id id_of t.0 (list_in self.old (Runs c))) (self.new ≡ self.old) (λ r. (q : ThreadRecord) × (self.new ≡ putting q (Runs c) (taking t.0 (Runs c) self.old)) × (q.id ≡ r.id)
             × (CanChangeThread work.now t.0 change r.body → q ≡ with_body_of (changed work.now t.0 change r.body) r)) }
     {
         match self {
             Home::Cpu(h) => h.get_mut().change_running(work, t, change),
-            _ => {}
+            _ => false,
         }
     }
 

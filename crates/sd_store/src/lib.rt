@@ -21,5 +21,5 @@ pub use parts::{CpuView, Part};
 pub use sets::Sets;
 pub use spots::{Chore, Destination, Spot, Task};
 pub use store::{
-    Store, finish_op, hold, inherit, let_go, run_tick, send_back, set_class, set_looped,
+    Store, finish_op, hold, inherit, let_go, run_tick, send_back, set_class, set_looped, tick,
 };

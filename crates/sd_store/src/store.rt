@@ -137,6 +137,17 @@ pub fn run_tick<S: Store>(x: &mut S, work: &Work, t: ThreadId) -> Result<(), S::
     x.change_body(work, t, BodyChange::RunTick)
 }
 
+/// Thread `t` runs for a tick of its operation, and has this class state after it.
+#[inline(always)]
+pub fn tick<S: Store>(x: &mut S, work: &Work, t: ThreadId, class: ClassState) -> Result<(), S::Lack>
+    ensures value { Does (S.shows x.old) (S.shows x.new) result (λ s. CanFinish work.now s t) (λ s. set_class (run_tick work.now s t.0) t.0 class) }
+    ensures lack { Lacks S.part (S.shows x.old) (S.has x.old) result (λ s. thread_part t ∷ []) }
+    ensures kept { Keeps (S.shows x.old) (S.shows x.new) result }
+    ensures has { S.has x.new ≡ S.has x.old }
+{
+    x.change_body(work, t, BodyChange::Tick(class))
+}
+
 /// The operation at which thread `t` stands is over.
 #[inline(always)]
 #[tactic(auto, unfolding(sd_machine::specs::Changes::finish_op))]

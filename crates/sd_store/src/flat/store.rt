@@ -40,6 +40,10 @@ fn change(work: &Work, t: ThreadId, change: BodyChange, b: &mut ThreadBody)
 {
     match change {
         BodyChange::RunTick => sd_flat::ran(script_of(work, t), b),
+        BodyChange::Tick(class) => {
+            sd_flat::ran(script_of(work, t), b);
+            b.class = class;
+        }
         BodyChange::FinishOp => sd_flat::op_over(script_of(work, t), b),
         BodyChange::Class(class) => b.class = class,
         BodyChange::SendBack => b.back = true,
