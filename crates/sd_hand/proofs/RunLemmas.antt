@@ -88,3 +88,14 @@ module _ (t : ℕ) (c : CpuId) (P : ThreadRecord → ThreadRecord → Type 0) (h
           ap (has_thread u) made
           ∙ back_has u t (Runs c) r q hs e (ap (λ i. i.0) same ∙ taken_id t (Runs c) (held (id.Cpu c) hs) r e)
           (λ h f. whole_cpu h (held_id (id.Cpu c) h (edit (id.Cpu c) (taking t (Runs c)) hs) f))
+
+-- a change that is known
+pub run_moved : (t : ℕ) (c : CpuId) (Can : ThreadRecord → Type 0) (f : ThreadRecord → ThreadRecord) (hs new : List (Option Home)) → RunsChanged t c (λ r q. Can r → q ≡ f r) hs new
+    → (r : ThreadRecord) → Some r ≡ taken_from t (Runs c) (held (id.Cpu c) hs) → Can r → new ≡ edit (id.Cpu c) (putting (f r) (Runs c)) (edit (id.Cpu c) (taking t (Runs c)) hs)
+run_moved t c Can f hs new changed r = by (taken_from t (Runs c) (held (id.Cpu c) hs)) changed
+  where
+    by : (o : Option ThreadRecord) → Made t c (λ p q. Can p → q ≡ f p) hs new o → Some r ≡ o → Can r → new ≡ edit (id.Cpu c) (putting (f r) (Runs c)) (edit (id.Cpu c) (taking t (Runs c)) hs)
+    by None same e can = absurd cc
+    by (Some p) (q, made, same, is) e can =
+        let one : r ≡ p = cc in
+        made ∙ ap (λ z. edit (id.Cpu c) (putting z (Runs c)) (edit (id.Cpu c) (taking t (Runs c)) hs)) (is (subst Can one can) ∙ ap f (sym one))

@@ -1,6 +1,6 @@
 -- What becomes of a thread on its way from list to list.
 -- Source: this project's own; see `sd_machine`'s Changes.
-use Rattle.std.specs.Prelude.{◌≡◌, ℕ, List, Option, MatchOption}
+use Rattle.std.specs.Prelude.{◌≡◌, ℕ, List, Option, Some, MatchOption}
 use Rattle.sd_types.specs.declared.numbers.CpuId.{CpuId}
 use Rattle.sd_types.specs.declared.numbers.HomeId.TheVariants as id
 use Rattle.sd_types.specs.declared.numbers.ThreadId.{ThreadId}
@@ -10,16 +10,19 @@ use Rattle.sd_types.specs.declared.works.Work.{Work}
 use Rattle.sd_state.specs.declared.states.Place.TheVariants.{Running}
 use Rattle.sd_machine.specs.Bodies.{arrived, departed}
 use Rattle.sd_machine.specs.Threads.{set_of}
+use Rattle.sd_store.specs.declared.changes.BodyChange.{BodyChange}
 use Rattle.sd_store.specs.declared.spots.Destination.{Destination}
 use Rattle.sd_store.specs.declared.spots.Destination.TheVariants as to
+use Rattle.sd_store.specs.Bodies.{changed}
 use Rattle.sd_record.specs.Records.{ThreadRecord}
 use Rattle.sd_homes.specs.declared.list_id.ListId.{ListId}
 use Rattle.sd_homes.specs.declared.list_id.ListId.TheVariants.{Ends, Naps, Queues, Runs, Sleeps, Urgent, Waits}
-use Rattle.sd_homes.specs.Standing.{record_key}
+use Rattle.sd_homes.specs.Bodies.{CanChangeThread}
+use Rattle.sd_homes.specs.Standing.{home_at, record_key}
 use Rattle.sd_homes.specs.declared.home.Home.{Home}
 use Rattle.sd_homes.specs.Families.{putting, taken_from, taking}
 use Rattle.sd_homes.specs.Homes.{with_body_of, with_key}
-use Rattle.sd_hand.specs.Hands.{edit, held}
+use Rattle.sd_hand.specs.Hands.{StandsIn, edit, held}
 use Rattle.sd_hand.specs.declared.steps.Step.{Step}
 use Rattle.sd_hand.specs.declared.steps.Step.TheVariants.{Arrive, Depart, Move}
 
@@ -41,6 +44,13 @@ list_by c to.Nowhere = Ends c
 abbrev pub list_put : Work → ThreadId → Put → ListId
 list_put w t (Cpu x) = Queues x
 list_put w t (RealTime x) = Urgent (set_of w t.0)
+
+-- the body of thread t has changed where it stands, if it can be changed so
+pub record IsChanged (w : Work) (t : ThreadId) (change : BodyChange) (hs new : List (Option Home)) : Type 0 where
+  pub at : ListId
+  pub stands : StandsIn t.0 hs at
+  pub moved : (r : ThreadRecord) → Some r ≡ taken_from t.0 at (held (home_at at) hs) → CanChangeThread w t.0 change r.body
+      → new ≡ edit (home_at at) (putting (with_body_of (changed w t.0 change r.body) r) at) (edit (home_at at) (taking t.0 at) hs)
 
 -- the thread that runs on processor c, where it is t, becomes such a one where it stands
 abbrev pub RunsChanged : ℕ → CpuId → (ThreadRecord → ThreadRecord → Type 0) → List (Option Home) → List (Option Home) → Type 0

@@ -1,9 +1,10 @@
 //! The hand: the homes that a processor holds, or all homes of a run.
 
-ghost use Rattle.std.specs.Prelude.{◌≡◌, ◌⊎◌, ◌+◌, ◌<◌, ◌≤◌, ◌%◌, [], ◌∷◌, None, Some, false, length, slice_get, IfErr, IfNone, IfOk, IfSome, MatchOption};
+ghost use Rattle.std.specs.Prelude.{◌≡◌, ◌⊎◌, ◌+◌, ◌<◌, ◌≤◌, ◌%◌, [], ◌∷◌, None, Some, false, is_some, length, slice_get, IfErr, IfNone, IfOk, IfSome, MatchOption};
 ghost use Rattle.std.specs.Option.{option_copied};
 ghost use Rattle.sd_types.specs.declared.numbers.HomeId.TheVariants.{Chain, Cpu, RealTime, Sleepers};
 ghost use Rattle.sd_homes.specs.Standing.{home_at};
+ghost use Rattle.sd_homes.specs.declared.list_id.ListId.TheVariants.{Runs};
 ghost use Rattle.sd_homes.specs.declared.home.Home.{Home as HomeOf};
 ghost use Rattle.sd_homes.specs.Families.{IsWhole, counting, home_id, locking, open_in, opened, putting, shut, taken_from, taking, viewing};
 ghost use Rattle.sd_store.specs.Bodies.{changed};
@@ -277,17 +278,6 @@ impl Hand {
         self.where_found(t)
     }
 
-    /// The same, where the thread may well run on processor `c`.
-    #[inline(always)]
-    pub(crate) fn where_is_from(&self, c: CpuId, t: ThreadId) -> Result<ListId, Part>
-        ensures { Seeks t self.now.slots result (StandsIn t.0 self.now.slots) }
-    {
-        if self.find(t, ListId::Runs(c)).is_some() {
-            return Ok(ListId::Runs(c));
-        }
-        self.where_is(t)
-    }
-
     /// The thread, which is lacking where no held home has it.
     #[inline(always)]
     pub fn record(&self, t: ThreadId) -> Result<&Record, Part>
@@ -299,6 +289,17 @@ impl Hand {
             }
         }
         self.search(t)
+    }
+
+    /// The same, where the thread may well run on processor `c`.
+    #[inline(always)]
+    pub(crate) fn record_from(&self, c: CpuId, t: ThreadId) -> Result<&Record, Part>
+        ensures { Seeks t self.now.slots result (λ r. IsThere t.0 self.now.slots r.now) }
+    {
+        if let Some(record) = self.find(t, ListId::Runs(c)) {
+            return Ok(record);
+        }
+        self.record(t)
     }
 
     /// The same, by a search of all homes.
@@ -394,16 +395,25 @@ impl Hand {
         }
     }
 
-    /// The body of the thread that runs on processor `c` changes where it stands, if it is this thread, where it can be changed so.
+    /// The body of the thread that runs on processor `c` changes where it stands, if it is this thread, where it can be changed so. Tells
+    /// whether it is this thread.
     #[inline(always)]
-    pub(crate) fn change_running(&mut self, work: &Work, t: ThreadId, c: CpuId, change: BodyChange)
-        ensures { RunsChanged t.0 c (λ r q. CanChangeThread work.now t.0 change r.body → q ≡ with_body_of (changed work.now t.0 change r.body) r) self.old.slots self.new.slots }
+    pub(crate) fn change_running(
+        &mut self,
+        work: &Work,
+        t: ThreadId,
+        c: CpuId,
+        change: BodyChange,
+    ) -> bool
+        ensures runs { result ≡ is_some (taken_from t.0 (Runs c) (held (Cpu c) self.old.slots)) }
+        ensures changed { RunsChanged t.0 c (λ r q. CanChangeThread work.now t.0 change r.body → q ≡ with_body_of (changed work.now t.0 change r.body) r) self.old.slots self.new.slots }
     {
         if let Some(i) = self.slot_of(HomeId::Cpu(c)) {
             if let Some(home) = &mut self.slots[i] {
-                home.change_running(work, t, c, change);
+                return home.change_running(work, t, c, change);
             }
         }
+        false
     }
 
     /// Changes the marks, the set and the bindings of processor `c`.

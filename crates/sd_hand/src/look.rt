@@ -173,7 +173,7 @@ impl Look for Acting {
 
     #[inline(always)]
     fn body(&self, t: ThreadId) -> Result<Option<&ThreadBody>, Part> {
-        match self.hand.record(t) {
+        match self.hand.record_from(self.actor.cpu, t) {
             Err(q) => Err(q),
             Ok(thread) => {
                 let body: &ThreadBody = &thread.body;

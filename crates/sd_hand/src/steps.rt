@@ -1,6 +1,6 @@
 //! How a thread goes from list to list, and changes on the way or where it stands.
 
-ghost use Rattle.std.specs.Prelude.{◌≡◌, ℕ, Some, is_some, true};
+ghost use Rattle.std.specs.Prelude.{◌≡◌, ℕ, Some, is_some, true, IfErr};
 ghost use Rattle.sd_types.specs.declared.numbers.HomeId.{HomeId as HomeIdOf};
 ghost use Rattle.sd_record.specs.Records.{ThreadRecord};
 ghost use Rattle.sd_store.specs.Bodies.{changed};
@@ -8,14 +8,14 @@ ghost use Rattle.sd_homes.specs.Standing.{home_at};
 ghost use Rattle.sd_homes.specs.Bodies.{CanChangeThread};
 ghost use Rattle.sd_homes.specs.Families.{putting, taken_from, taking};
 ghost use Rattle.sd_homes.specs.Homes.{with_body_of};
-ghost use Rattle.sd_hand.specs.Hands.{AreApart, HasRoom, IsHeld, edit, has_thread, held};
+ghost use Rattle.sd_hand.specs.Hands.{AreApart, HasRoom, IsHeld, Seeks, edit, has_thread, held};
 ghost use Rattle.sd_hand.specs.Shown.{IsListThere};
-ghost use Rattle.sd_hand.specs.Steps.{list_by, list_put, stepped};
+ghost use Rattle.sd_hand.specs.Steps.{IsChanged, list_by, list_put, stepped};
 
 use crate::hand::Hand;
 use sd_homes::{ListId, Traveller};
 use sd_state::Place;
-use sd_store::{BodyChange, Destination, set_of};
+use sd_store::{BodyChange, Destination, Part, set_of};
 use sd_types::{CpuId, Put, ThreadId, Work};
 
 /// What becomes of a thread on its way: it runs on a processor, leaves one that has counted so many ticks for a place, or
@@ -74,8 +74,7 @@ impl Hand {
     }
 
     /// The body of thread `t`, which stands there, changes, where it can be changed so.
-    #[inline(always)]
-    pub(crate) fn change_at(&mut self, work: &Work, t: ThreadId, at: ListId, change: BodyChange)
+    fn change_at(&mut self, work: &Work, t: ThreadId, at: ListId, change: BodyChange)
         ensures moved { (r : ThreadRecord) → Some r ≡ taken_from t.0 at (held (home_at at) self.old.slots) → CanChangeThread work.now t.0 change r.body
             → self.new.slots ≡ edit (home_at at) (putting (with_body_of (changed work.now t.0 change r.body) r) at) (edit (home_at at) (taking t.0 at) self.old.slots) }
         ensures held { (k : HomeIdOf) → is_some (held k self.new.slots) ≡ is_some (held k self.old.slots) }
@@ -83,9 +82,50 @@ impl Hand {
         ensures has { (u : ℕ) → has_thread u self.new.slots ≡ has_thread u self.old.slots }
     {
         match at {
-            ListId::Runs(c) => self.change_running(work, t, c, change),
+            ListId::Runs(c) => {
+                self.change_running(work, t, c, change);
+            }
             _ => self.change_moved(work, t, at, change),
         }
+    }
+
+    /// The body of thread `t` changes, where it can be changed so. The thread is lacking where no held home has it.
+    #[inline(never)]
+    fn change_found(&mut self, work: &Work, t: ThreadId, change: BodyChange) -> Result<(), Part>
+        ensures changed { Seeks t self.old.slots result (λ _. IsChanged work.now t change self.old.slots self.new.slots) }
+        ensures kept { IfErr result (λ _. self.new.slots ≡ self.old.slots) }
+        ensures held { (k : HomeIdOf) → is_some (held k self.new.slots) ≡ is_some (held k self.old.slots) }
+        ensures apart { AreApart self.old.slots → AreApart self.new.slots }
+        ensures has { (u : ℕ) → has_thread u self.new.slots ≡ has_thread u self.old.slots }
+    {
+        match self.where_is(t) {
+            Err(q) => Err(q),
+            Ok(at) => {
+                self.change_at(work, t, at, change);
+                Ok(())
+            }
+        }
+    }
+
+    /// The same, where the thread may well run on processor `c`: then it is found and changed at once.
+    #[inline(always)]
+    pub(crate) fn change(
+        &mut self,
+        work: &Work,
+        c: CpuId,
+        t: ThreadId,
+        change: &BodyChange,
+    ) -> Result<(), Part>
+        ensures changed { Seeks t self.old.slots result (λ _. IsChanged work.now t change.now self.old.slots self.new.slots) }
+        ensures kept { IfErr result (λ _. self.new.slots ≡ self.old.slots) }
+        ensures held { (k : HomeIdOf) → is_some (held k self.new.slots) ≡ is_some (held k self.old.slots) }
+        ensures apart { AreApart self.old.slots → AreApart self.new.slots }
+        ensures has { (u : ℕ) → has_thread u self.new.slots ≡ has_thread u self.old.slots }
+    {
+        if self.change_running(work, t, c, *change) {
+            return Ok(());
+        }
+        self.change_found(work, t, *change)
     }
 
     /// Thread `t`, which stands there, is bound to a processor, or to none.

@@ -86,12 +86,9 @@ impl Store for Acting {
 
     #[inline(always)]
     fn change_body(&mut self, work: &Work, t: ThreadId, change: BodyChange) -> Result<(), Part> {
-        match self.hand.where_is_from(self.actor.cpu, t) {
+        match self.hand.change(work, self.actor.cpu, t, &change) {
             Err(q) => Err(q),
-            Ok(at) => {
-                self.hand.change_at(work, t, at, change);
-                Ok(())
-            }
+            Ok(()) => Ok(()),
         }
     }
 

@@ -9,14 +9,14 @@ use Rattle.sd_hand.proofs.hand.Hand.change_at.Goals as goal
 pub returns-in-Runs-clause-held : goal.returns-in-Runs-clause-held
 returns-in-Runs-clause-held c k =
     run_held c.args.t.0 c.in-Runs.c (λ (r : ThreadRecord) (q : ThreadRecord). CanChangeThread c.args.work.now c.args.t.0 c.args.change r.body → q ≡ with_body_of (changed c.args.work.now c.args.t.0 c.args.change r.body) r)
-    c.args.self.now.slots c.change_running.new.self.slots k c.change_running.ensures
+    c.args.self.now.slots c.change_running.new.self.slots k c.change_running.ensures.changed
 
 pub returns-in-Runs-clause-apart : goal.returns-in-Runs-clause-apart
 returns-in-Runs-clause-apart c =
     run_apart c.args.t.0 c.in-Runs.c (λ (r : ThreadRecord) (q : ThreadRecord). CanChangeThread c.args.work.now c.args.t.0 c.args.change r.body → q ≡ with_body_of (changed c.args.work.now c.args.t.0 c.args.change r.body) r)
-    c.args.self.now.slots c.change_running.new.self.slots c.change_running.ensures
+    c.args.self.now.slots c.change_running.new.self.slots c.change_running.ensures.changed
 
 pub returns-in-Runs-clause-has : goal.returns-in-Runs-clause-has
 returns-in-Runs-clause-has c u =
     run_has c.args.t.0 c.in-Runs.c (λ (r : ThreadRecord) (q : ThreadRecord). CanChangeThread c.args.work.now c.args.t.0 c.args.change r.body → q ≡ with_body_of (changed c.args.work.now c.args.t.0 c.args.change r.body) r)
-    c.args.self.now.slots c.change_running.new.self.slots u c.change_running.ensures
+    c.args.self.now.slots c.change_running.new.self.slots u c.change_running.ensures.changed
