@@ -1,6 +1,6 @@
 -- An operation is over before its thread leaves its processor: that gives the state that it gives when it is over afterwards.
-use Rattle.std.proofs.Common.{◌≡◌, ℕ, zero, suc, List, [], ◌∷◌, Option, refl, sym, ap, ◌∙◌}
-use Rattle.std.specs.Prelude.{slice_index_or, slice_set}
+use Rattle.std.proofs.Common.{◌≡◌, ℕ, List, Option, refl, sym, ap, ◌∙◌}
+use Rattle.std.specs.Prelude.{slice_set}
 use Rattle.sd_types.specs.declared.numbers.CpuId.{CpuId}
 use Rattle.sd_types.specs.declared.numbers.ThreadId.{ThreadId}
 use Rattle.sd_types.specs.declared.works.Work.{Work}
@@ -8,24 +8,15 @@ use Rattle.sd_state.specs.declared.states.Place.{Place}
 use Rattle.sd_state.specs.declared.states.Place.TheVariants.{Running}
 use Rattle.sd_state.specs.declared.states.State.{State}
 use Rattle.sd_state.specs.declared.states.ThreadState.{ThreadState}
-use Rattle.sd_state.specs.States.{cpu_of, no_thread, thread_of}
+use Rattle.sd_state.specs.States.{cpu_of, thread_of}
 use Rattle.sd_state.specs.Operations.{op_over, script_of}
 use Rattle.sd_machine.specs.Bodies.{departed}
 use Rattle.sd_machine.specs.Changes.{back_key, finish_op, leave, unmarked}
 use Rattle.sd_machine.specs.Dispatching.{yielded}
 use Rattle.sd_machine.specs.Threads.{eff_of}
+use Rattle.sd_store.proofs.TickLemmas.{twice}
 use Rattle.sd_dispatcher.specs.Touched.{queue_for}
 use Rattle.sd_dispatcher.proofs.Kept.{kept_place}
-
-abbrev read : List ThreadState → ℕ → ThreadState
-read xs t = slice_index_or xs t no_thread
-
--- one thread changes twice
-twice : (f g : ThreadState → ThreadState) (xs : List ThreadState) (t : ℕ)
-    → slice_set (slice_set xs t (f (read xs t))) t (g (read (slice_set xs t (f (read xs t))) t)) ≡ slice_set xs t (g (f (read xs t)))
-twice f g [] t = refl
-twice f g (x ∷ xs) zero = refl
-twice f g (x ∷ xs) (suc t) = ap (λ (ys : List ThreadState). x ∷ ys) (twice f g xs t)
 
 pub finished_left : (w : Work) (s : State) (c t : ℕ) (place : Place) → leave (finish_op w s t) c t place ≡ finish_op w (leave s c t place) t
 unfolding finish_op leave

@@ -26,6 +26,10 @@ kept_op s u t x same = grind (arith, common_steps)
 pub kept_place : (s : State) (u t : ℕ) (x : ThreadState) → x.place ≡ (thread_of s u).place → (thread_of (with_thread s u x) t).place ≡ (thread_of s t).place
 kept_place s u t x same = grind (arith, common_steps)
 
+-- a change of one thread that keeps its class state
+pub kept_class : (s : State) (u t : ℕ) (x : ThreadState) → x.body.class ≡ (thread_of s u).body.class → (thread_of (with_thread s u x) t).body.class ≡ (thread_of s t).body.class
+kept_class s u t x same = grind (arith, common_steps)
+
 -- a change of one processor that keeps its set
 pub kept_set : (s : State) (c d : ℕ) (x : CpuState) → x.set ≡ (cpu_of s c).set → (cpu_of (with_cpu s c x) d).set ≡ (cpu_of s d).set
 kept_set s c d x same = grind (arith, common_steps)

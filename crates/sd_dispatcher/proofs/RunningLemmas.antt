@@ -1,23 +1,27 @@
 -- Where a thread runs for a tick, or leaves its processor: the parts that are ready, who runs, and the queue to which the
 -- thread goes.
-use Rattle.std.proofs.Common.{◌≡◌, ℕ, Bool, false, [], ◌∷◌, refl, sym, ap, ◌∙◌}
-use Rattle.std.specs.Prelude.{Option, Result, Ok, Err, IfOk, IfErr}
+use Rattle.std.proofs.Common.{◌≡◌, ℕ, Bool, true, false, [], ◌∷◌, refl, sym, ap, ◌∙◌}
+use Rattle.std.specs.Prelude.{List, Option, Result, Ok, Err, IfOk, IfErr, nat_le}
 use Rattle.sd_types.specs.declared.numbers.CpuId.{CpuId}
 use Rattle.sd_types.specs.declared.numbers.SetId.{SetId}
 use Rattle.sd_types.specs.declared.numbers.ThreadId.{ThreadId}
+use Rattle.sd_types.specs.declared.bodies.ThreadBody.{ThreadBody}
 use Rattle.sd_types.specs.declared.classes.ClassState.{ClassState}
 use Rattle.sd_types.specs.declared.events.End.{End}
+use Rattle.sd_types.specs.declared.scripts.Op.{Op}
 use Rattle.sd_types.specs.declared.works.Work.{Work}
 use Rattle.sd_state.specs.declared.states.Place.TheVariants.{Running}
 use Rattle.sd_state.specs.declared.states.State.{State}
 use Rattle.sd_state.specs.States.{thread_of, cpu_of}
-use Rattle.sd_rules.specs.ClassRules.{class_requeue}
+use Rattle.sd_state.specs.Operations.{ran, script_of}
+use Rattle.sd_rules.specs.ClassRules.{class_expires, class_requeue}
+use Rattle.sd_machine.specs.Bodies.{ticked_class}
 use Rattle.sd_machine.specs.Changes.{clear_marks, count_tick, counted, key_at, leave, run_tick, set_class}
-use Rattle.sd_machine.specs.Dispatching.{preempted}
+use Rattle.sd_machine.specs.Dispatching.{charge, preempted, ticked}
 use Rattle.sd_machine.specs.Needs.{CanFinish, IsFree}
 use Rattle.sd_machine.specs.Threads.{eff_of, runner}
 use Rattle.sd_dispatcher.specs.Touched.{queue_for}
-use Rattle.sd_dispatcher.proofs.Kept.{class_place, kept_set}
+use Rattle.sd_dispatcher.proofs.Kept.{class_place, kept_class, kept_set}
 use Rattle.sd_store.specs.declared.parts.Part.{Part}
 use Rattle.sd_store.specs.Parts.{cpu_part, ready_parts, real_time_part}
 
@@ -32,13 +36,34 @@ pub counted_finish : (w : Work) (s : State) (c : ℕ) (t : ThreadId) → CanFini
 unfolding count_tick
 counted_finish w s c t here = here
 
-pub ready_ran : (w : Work) (s : State) (t : ℕ) (d : CpuId) → ready_parts (run_tick w s t) d ≡ ready_parts s d
-unfolding run_tick
-ready_ran w s t d = refl
-
 pub ready_classed : (s : State) (t : ℕ) (class : ClassState) (d : CpuId) → ready_parts (set_class s t class) d ≡ ready_parts s d
 unfolding set_class
 ready_classed s t class d = refl
+
+pub ready_ticked : (w : Work) (s : State) (c t : ℕ) (class : ClassState) (d : CpuId) → ready_parts (set_class (run_tick w (count_tick w s c) t) t class) d ≡ ready_parts s d
+unfolding count_tick run_tick set_class
+ready_ticked w s c t class d = same_ready s (count_tick w s c) d (kept_set s c d.0 (counted w (cpu_of s c)) refl)
+
+-- a tick of the operation leaves the class as it was
+ran_class : (ops : List Op) (b : ThreadBody) → (ran ops b).class ≡ b.class
+ran_class ops b = by (nat_le b.run_left 1) refl
+  where
+    by : (d : Bool) → nat_le b.run_left 1 ≡ d → (ran ops b).class ≡ b.class
+    by true e = rw e refl
+    by false e = rw e refl
+
+tick_class : (w : Work) (s : State) (t : ℕ) → (thread_of (run_tick w s t) t).body.class ≡ (thread_of s t).body.class
+unfolding run_tick
+tick_class w s t = kept_class s t t (record (thread_of s t) { body = ran (script_of w t) (thread_of s t).body }) (ran_class (script_of w t) (thread_of s t).body)
+
+-- a tick of which the class was read before
+pub ticked_by : (w : Work) (s : State) (c t : ℕ) (class next : ClassState) (expires : Bool) → class ≡ (thread_of (count_tick w s c) t).body.class → next ≡ ticked_class w class → expires ≡ class_expires class
+    → charge (set_class (run_tick w (count_tick w s c) t) t next) c t expires ≡ ticked w s c t
+unfolding ticked
+ticked_by w s c t class next expires e f g =
+    let r = run_tick w (count_tick w s c) t in
+    (λ i. charge (set_class r t (f i)) c t (g i))
+    ∙ ap (λ (k : ClassState). charge (set_class r t (ticked_class w k)) c t (class_expires k)) (e ∙ sym (tick_class w (count_tick w s c) t))
 
 pub runs_classed : (s : State) (t : ThreadId) (class : ClassState) (c : CpuId) → (thread_of s t.0).place ≡ Running c → (thread_of (set_class s t.0 class) t.0).place ≡ Running c
 runs_classed s t class c runs = class_place s t.0 t.0 class ∙ runs

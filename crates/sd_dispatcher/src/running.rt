@@ -16,7 +16,7 @@ ghost use Rattle.sd_store.specs.Words.{Does, DoesBy, Lacks, LacksBy, LacksIf, Te
 use crate::bodies::{bound_of, class_of, eff_of};
 use crate::classes::{class_expires, class_requeue, ticked_class};
 use crate::marks::mark_over;
-use sd_store::{Destination, Look, Store, finish_op, run_tick, send_back, set_class, set_of};
+use sd_store::{Destination, Look, Store, finish_op, send_back, set_class, set_of, tick};
 use sd_types::{CpuId, End, REAL_TIME_PRIORITY, ThreadBody, ThreadId, Work};
 
 /// The quantum of thread `t` has expired: where something that is ready has at least its priority, the thread is to go to the back, and
@@ -71,8 +71,8 @@ fn class_counts<S: Store>(work: &Work, x: &mut S, c: CpuId, t: ThreadId) -> Resu
     charge(work, x, c, t, class_expires(&class))
 }
 
-/// Thread `t` runs for a tick on processor `c`.
-#[tactic(auto, using(crate::proofs::RunningLemmas::counted_finish, crate::proofs::RunningLemmas::ready_counted, crate::proofs::RunningLemmas::ready_ran), unfolding(sd_machine::specs::Dispatching::ticked))]
+/// Thread `t` runs for a tick on processor `c`. Its class is read first: a tick of its operation leaves it as it was.
+#[tactic(auto, using(crate::proofs::RunningLemmas::counted_finish, crate::proofs::RunningLemmas::ready_ticked))]
 #[inline(always)]
 pub fn ticked<S: Store>(work: &Work, x: &mut S, c: CpuId, t: ThreadId) -> Result<(), S::Lack>
     ensures value { Does (S.shows x.old) (S.shows x.new) result (λ s. CanTick work.now s c × CanFinish work.now s t) (λ s. ticked work.now s c.0 t.0) }
@@ -80,8 +80,9 @@ pub fn ticked<S: Store>(work: &Work, x: &mut S, c: CpuId, t: ThreadId) -> Result
     ensures has { S.has x.new ≡ S.has x.old }
 {
     x.count_tick(work, c)?;
-    run_tick(x, work, t)?;
-    class_counts(work, x, c, t)
+    let class = class_of(x, t)?;
+    tick(x, work, t, ticked_class(work, class))?;
+    charge(work, x, c, t, class_expires(&class))
 }
 
 /// Thread `t` spins for a tick on processor `c`.

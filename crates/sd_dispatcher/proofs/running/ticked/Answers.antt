@@ -1,0 +1,13 @@
+use Rattle.std.proofs.Common.{subst}
+use Rattle.sd_dispatcher.proofs.RunningLemmas.{counted_finish, did, ticked_by}
+use Rattle.sd_dispatcher.proofs.running.ticked.Goals as goal
+
+pub returns-clause-value : goal.returns-clause-value
+returns-clause-value g c =
+    did c.charge.result _ _
+    (λ made. λ n s shows can.
+    let counted = c.in_ok-count_tick.ensures.value n s shows can.0 in
+    subst (λ r. g.S.Look.shows c.charge.new.x n r)
+    (ticked_by c.args.work.now s c.args.c.0 c.args.t.0 c.in_ok-class.class c.ticked_class.result c.class_expires.result (c.in_ok-class.ensures.value n _ counted) c.ticked_class.ensures c.class_expires.ensures)
+    (made n _ (c.in_ok-tick.ensures.value n _ counted (counted_finish c.args.work.now s c.args.c.0 c.args.t can.1)) tt))
+    c.charge.ensures.value
