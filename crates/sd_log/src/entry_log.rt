@@ -1,0 +1,81 @@
+//! The entries of a run in the order of their numbers. Contracts see them as a list of entries, and for how many more there is room.
+
+ghost use Rattle.std.specs.Prelude.{◌≡◌, ◌++◌, ◌<◌, ◌∷◌, [], Some, length, slice_get, OnOk};
+
+use crate::short::{ShortEntry, lengthen, shorten};
+use sd_types::{CpuId, Entry, Event, Hints};
+use std::alloc::{AllocError, Global};
+use std::marker::Model;
+
+/// The most bytes of numbers behind which there is room for those of one more entry: 64 below 2^32.
+const MOST_BYTES: usize = 4_294_967_232;
+
+/// Entries, of which the numbers are their places. The numbers that they read of processors lie one behind another in `bytes`.
+#[derive(Drop)]
+pub struct EntryLog {
+    short: Vec<ShortEntry>,
+    bytes: Vec<u8>,
+}
+
+impl Model for EntryLog {
+    ghost use Rattle.std.specs.Prelude.{length, vec_capacity, vec_len};
+    ghost use Rattle.sd_log.specs.Logged.{AreWithin, Logged, entries_from, room_in};
+
+    ghost Value = { Logged };
+
+    ghost view = { λ l. record {
+      items = entries_from l.bytes.items 0 l.short.items;
+      room = room_in (vec_len l.short) (vec_capacity l.short) (vec_len l.bytes) (vec_capacity l.bytes);
+    } };
+
+    ghost invariant = { λ l. AreWithin (length l.bytes.items) l.short.items };
+}
+
+impl EntryLog {
+    /// No entries.
+    pub fn new(alloc: Global) -> EntryLog
+        ensures items { result.items ≡ [] }
+    {
+        EntryLog {
+            short: Vec::new(alloc),
+            bytes: Vec::new(alloc),
+        }
+    }
+
+    /// How many entries there are.
+    pub fn len(&self) -> usize
+        ensures { result ≡ length self.now.items }
+    {
+        self.short.len()
+    }
+
+    /// Makes room for one entry more. `Err` only where memory runs out, or where the numbers that were read take 2^32 bytes.
+    pub fn reserve(&mut self) -> Result<(), AllocError>
+        ensures same { self.new.items ≡ self.old.items }
+        ensures room { OnOk result (0 < self.new.room) }
+    {
+        if self.bytes.len() > MOST_BYTES {
+            return Err(AllocError);
+        }
+        self.short.reserve(1)?;
+        self.bytes.reserve(64)?;
+        Ok(())
+    }
+
+    /// Puts an entry behind the others, for which there is room.
+    pub fn push_reserved(&mut self, cpu: CpuId, event: Event, hints: Option<Hints>)
+        requires room { 0 < self.old.room }
+        ensures items { self.new.items ≡ self.old.items ++ record { number = length self.old.items; cpu = cpu; event = event; hints = hints } ∷ [] }
+    {
+        let short = shorten(&mut self.bytes, cpu, event, &hints);
+        self.short.push_reserved(short);
+    }
+
+    /// The entry with this number.
+    pub fn entry(&self, number: usize) -> Entry
+        requires { number < length self.now.items }
+        ensures { slice_get self.now.items number ≡ Some result }
+    {
+        lengthen(&self.bytes, number, self.short[number])
+    }
+}

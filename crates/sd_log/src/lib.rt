@@ -1,0 +1,9 @@
+//! The entries of a run, each in 28 bytes and in one more for each number that it read of a processor.
+#![tactic(auto)]
+
+mod entry_log;
+mod short;
+#[cfg(test)]
+mod tests;
+
+pub use entry_log::EntryLog;
