@@ -108,8 +108,9 @@ fn run<G: Gate>(world: &mut HostileWorld, gate: &G, work: &Work)
 /// The text of the entries.
 fn entries_of(alloc: Global, work: &Work, world: &PlainWorld) -> Result<Vec<u8>, AllocError> {
     let mut out = Vec::new(alloc);
-    for entry in &world.entries {
-        write_entry(alloc, work, entry, &mut out)?;
+    for i in 0..world.entries.len() {
+        let entry = world.entries.entry(i);
+        write_entry(alloc, work, &entry, &mut out)?;
     }
     Ok(out)
 }

@@ -6,6 +6,7 @@ ghost use Rattle.sd_entries.specs.Fitting.{hints_in_range};
 ghost use Rattle.sd_program.specs.Certified.{HasBytes};
 
 use sd_audit::in_range;
+use sd_log::EntryLog;
 use sd_types::Entry;
 
 /// Those that were read for this entry have.
@@ -17,10 +18,11 @@ fn has_bytes(entry: &Entry)
 }
 
 /// The numbers that were read for these entries have 8 bits, and are at most 64 for each.
-pub fn numbers_are_bytes(entries: &[Entry])
-    ensures { All HasBytes entries.now }
+pub fn numbers_are_bytes(entries: &EntryLog)
+    ensures { All HasBytes entries.now.items }
 {
-    for entry in entries {
-        has_bytes(entry);
+    for i in 0..entries.len() {
+        let entry = entries.entry(i);
+        has_bytes(&entry);
     }
 }

@@ -14,6 +14,7 @@ use crate::forms::Form;
 use sd_accounts::Accounts;
 use sd_answers::{Unwritten, put_line, put_text};
 use sd_entries::EntryLine;
+use sd_log::EntryLog;
 use sd_state::State;
 use sd_text::Sink;
 use sd_types::{Entry, Work};
@@ -33,25 +34,27 @@ fn put_entry<K: Sink>(
 }
 
 /// Writes the entries in order.
-fn put_entries<K: Sink>(work: &Work, entries: &[Entry], out: &mut K) -> Result<(), Unwritten>
+fn put_entries<K: Sink>(work: &Work, entries: &EntryLog, out: &mut K) -> Result<(), Unwritten>
     ensures { Puts (K.contents out.old) (K.contents out.new) (K.fault_count out.old) (K.fault_count out.new)
-        (entries_text work.now entries.now) result }
+        (entries_text work.now entries.now.items) result }
 {
     let mut line = EntryLine::new();
-    for entry in entries {
-        put_entry(work, entry, &mut line, out)?;
+    for i in 0..entries.len() {
+        let entry = entries.entry(i);
+        put_entry(work, &entry, &mut line, out)?;
     }
     Ok(())
 }
 
 /// The accounts of the entries.
-fn counted(alloc: Global, work: &Work, entries: &[Entry]) -> Result<Accounts, AllocError>
-    requires { length entries.now < 2 ^ 48 }
-    ensures { IfOk result (λ a. HasTaken work.now entries.now a) }
+fn counted(alloc: Global, work: &Work, entries: &EntryLog) -> Result<Accounts, AllocError>
+    requires { length entries.now.items < 2 ^ 48 }
+    ensures { IfOk result (λ a. HasTaken work.now entries.now.items a) }
 {
     let mut accounts = Accounts::new(alloc, work)?;
-    for entry in entries {
-        accounts.add(entry);
+    for i in 0..entries.len() {
+        let entry = entries.entry(i);
+        accounts.add(&entry);
     }
     Ok(accounts)
 }
@@ -60,15 +63,15 @@ fn counted(alloc: Global, work: &Work, entries: &[Entry]) -> Result<Accounts, Al
 fn put_accounts<K: Sink>(
     alloc: Global,
     work: &Work,
-    entries: &[Entry],
+    entries: &EntryLog,
     s: &State,
     cycles: &[Vec<usize>],
     out: &mut K,
 ) -> Result<(), Unwritten>
-    requires few { length entries.now < 2 ^ 48 }
+    requires few { length entries.now.items < 2 ^ 48 }
     requires cycles { map (λ v. v.items) cycles.now ≡ cycles_of s.now }
     ensures { Puts (K.contents out.old) (K.contents out.new) (K.fault_count out.old) (K.fault_count out.new)
-        (accounts_text work.now entries.now s.now ++ cycles_text work.now s.now) result }
+        (accounts_text work.now entries.now.items s.now ++ cycles_text work.now s.now) result }
 {
     let accounts = counted(alloc, work, entries)?;
     let mut text = Vec::new(alloc);
@@ -81,16 +84,16 @@ fn put_accounts<K: Sink>(
 fn put_journal<K: Sink>(
     alloc: Global,
     work: &Work,
-    entries: &[Entry],
+    entries: &EntryLog,
     s: &State,
     cycles: &[Vec<usize>],
     out: &mut K,
 ) -> Result<(), Unwritten>
-    requires few { length entries.now < 2 ^ 48 }
+    requires few { length entries.now.items < 2 ^ 48 }
     requires cycles { map (λ v. v.items) cycles.now ≡ cycles_of s.now }
-    requires state { s.now ≡ final work.now (opening work.now) entries.now }
+    requires state { s.now ≡ final work.now (opening work.now) entries.now.items }
     ensures { Puts (K.contents out.old) (K.contents out.new) (K.fault_count out.old) (K.fault_count out.new)
-        (journal work.now entries.now) result }
+        (journal work.now entries.now.items) result }
 {
     put_entries(work, entries, out)?;
     put_accounts(alloc, work, entries, s, cycles, out)
@@ -101,14 +104,14 @@ fn put_journal<K: Sink>(
 fn put_summary<K: Sink>(
     alloc: Global,
     work: &Work,
-    entries: &[Entry],
+    entries: &EntryLog,
     s: &State,
     out: &mut K,
 ) -> Result<(), Unwritten>
-    requires few { length entries.now < 2 ^ 48 }
-    requires state { s.now ≡ final work.now (opening work.now) entries.now }
+    requires few { length entries.now.items < 2 ^ 48 }
+    requires state { s.now ≡ final work.now (opening work.now) entries.now.items }
     ensures { Puts (K.contents out.old) (K.contents out.new) (K.fault_count out.old) (K.fault_count out.new)
-        (summary work.now entries.now) result }
+        (summary work.now entries.now.items) result }
 {
     let accounts = counted(alloc, work, entries)?;
     let mut text = Vec::new(alloc);
@@ -121,16 +124,16 @@ pub(crate) fn put_run<K: Sink>(
     alloc: Global,
     work: &Work,
     form: Form,
-    entries: &[Entry],
+    entries: &EntryLog,
     s: &State,
     cycles: &[Vec<usize>],
     out: &mut K,
 ) -> Result<(), Unwritten>
-    requires few { length entries.now < 2 ^ 48 }
+    requires few { length entries.now.items < 2 ^ 48 }
     requires cycles { map (λ v. v.items) cycles.now ≡ cycles_of s.now }
-    requires state { s.now ≡ final work.now (opening work.now) entries.now }
+    requires state { s.now ≡ final work.now (opening work.now) entries.now.items }
     ensures { Puts (K.contents out.old) (K.contents out.new) (K.fault_count out.old) (K.fault_count out.new)
-        (text_of form work.now entries.now) result }
+        (text_of form work.now entries.now.items) result }
 {
     match form {
         Form::Journal(_) => put_journal(alloc, work, entries, s, cycles, out),

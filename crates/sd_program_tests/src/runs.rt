@@ -2,12 +2,14 @@
 
 ghost use Rattle.std.specs.Prelude.{◌≤◌};
 
+use sd_log::EntryLog;
 use sd_program::{OpenGate, dispsim, start};
 use sd_rounds::{Turns, run_rounds};
 use sd_steps::replay;
 use sd_text::{MemorySink, MemorySource, read_all};
+use sd_types::Entry;
 use sd_workload::read_work;
-use std::alloc::AllocError;
+use std::alloc::{AllocError, Global};
 use std::io;
 use std::io::ErrorKind;
 use std::marker::Sync;
@@ -398,6 +400,15 @@ fn arguments_that_were_read(rt: HostRuntime) -> Result<(), Fail> {
     Ok(())
 }
 
+/// The entries of a log, one by one.
+fn entries_of(alloc: Global, log: &EntryLog) -> Result<Vec<Entry>, AllocError> {
+    let mut entries = Vec::new(alloc);
+    for i in 0..log.len() {
+        entries.push(log.entry(i))?;
+    }
+    Ok(entries)
+}
+
 #[test]
 fn a_run_is_replayed(rt: HostRuntime) -> Result<(), Fail> {
     let alloc = rt.alloc();
@@ -407,8 +418,9 @@ fn a_run_is_replayed(rt: HostRuntime) -> Result<(), Fail> {
     let Ok(run) = run_rounds(alloc, &work, Turns::Rising) else {
         return Ok(assert!(rt; false, "no run"));
     };
-    assert_eq!(rt; run.entries.len(), 28);
-    assert!(rt; replay(alloc, &work, &run.entries).is_ok());
-    assert!(rt; replay(alloc, &work, &run.entries[1..]).is_err());
+    let entries = entries_of(alloc, &run.entries)?;
+    assert_eq!(rt; entries.len(), 28);
+    assert!(rt; replay(alloc, &work, &entries).is_ok());
+    assert!(rt; replay(alloc, &work, &entries[1..]).is_err());
     Ok(())
 }

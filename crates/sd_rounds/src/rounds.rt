@@ -12,8 +12,9 @@ ghost use Rattle.sd_world.specs.Worlds.{Begins};
 
 use crate::orders::{Turns, first_generator, next_order, rising};
 use crate::turns::take_turn;
+use sd_log::EntryLog;
 use sd_state::State;
-use sd_types::{CpuId, Entry, MOST_ENTRIES, SetId, Stop, Work};
+use sd_types::{CpuId, MOST_ENTRIES, SetId, Stop, Work};
 use sd_world::PlainWorld;
 use std::alloc::Global;
 
@@ -21,7 +22,7 @@ use std::alloc::Global;
 #[derive(Drop)]
 pub struct Finished {
     pub state: State,
-    pub entries: Vec<Entry>,
+    pub entries: EntryLog,
 }
 
 /// One round: each processor of the order has a turn. `Full` only where the entries with those of this round

@@ -1,7 +1,7 @@
 //! The entries of most turns: a thread runs for a tick, or a processor is idle for one. They are made as any entry is, but of an event that
 //! the compiler knows.
 
-ghost use Rattle.std.specs.Prelude.{◌≡◌, ◌++◌, ◌<◌, ◌∷◌, [], None, Option, Some, length, vec_capacity, vec_len, IfErr, OnOk};
+ghost use Rattle.std.specs.Prelude.{◌≡◌, ◌++◌, ◌<◌, ◌∷◌, [], None, Option, Some, length, IfErr, OnOk};
 ghost use Rattle.sd_types.specs.declared.events.Duty.TheVariants.{Nothing};
 ghost use Rattle.sd_types.specs.declared.events.Event.TheVariants.{Idle as IdleEvent, Tick as TickEvent};
 ghost use Rattle.sd_machine.specs.Events.{allowed, may_tick, next};
@@ -13,8 +13,9 @@ ghost use Rattle.sd_rounds.specs.Turns.{ActsAlone};
 
 use sd_dispatcher::ticked;
 use sd_hand::{Acting, Actor};
+use sd_log::EntryLog;
 use sd_store::Store;
-use sd_types::{Entry, Event, Hints, MOST_ENTRIES, Stop, ThreadId, Work};
+use sd_types::{Event, Hints, MOST_ENTRIES, Stop, ThreadId, Work};
 use sd_world::{PlainWorld, reserve_entry};
 
 /// What a processor has done that has all homes: its turn, or nothing.
@@ -31,7 +32,7 @@ pub(crate) fn reserve(work: &Work, world: &mut PlainWorld) -> Result<(), Stop>
     requires few { length world.old.entries.items < MOST_ENTRIES }
     ensures stands { Stands work.now world.new }
     ensures same { (world.new.work ≡ world.old.work) × (world.new.acting ≡ world.old.acting) × (world.new.entries.items ≡ world.old.entries.items) }
-    ensures room { OnOk result (vec_len world.new.entries < vec_capacity world.new.entries) }
+    ensures room { OnOk result (0 < world.new.entries.room) }
     ensures stop { IfErr result (λ stop. stop ≡ Stop.Memory) }
 {
     reserve_entry(&mut world.entries)
@@ -43,27 +44,21 @@ fn enter_tick(
     work: &Work,
     acting: &mut Acting,
     actors: &mut Vec<Actor>,
-    entries: &mut Vec<Entry>,
+    entries: &mut EntryLog,
     t: ThreadId,
 )
     requires can { CanEnter work.now acting.old actors.old.items entries.old.items (TickEvent t) None }
     requires duty { acting.old.actor.duty ≡ Nothing }
-    requires room { vec_len entries.old < vec_capacity entries.old }
+    requires room { 0 < entries.old.room }
     ensures { Enters work.now acting.old acting.new actors.old.items actors.new.items entries.old.items entries.new.items (TickEvent t) None }
 {
-    let number = entries.len() as u64;
     let cpu = acting.actor.cpu;
     match ticked(work, acting, cpu, t) {
         Ok(()) => {}
         Err(_) => unreachable!(),
     }
     actors[cpu.0 as usize] = acting.actor;
-    entries.push_reserved(Entry {
-        number,
-        cpu,
-        event: Event::Tick { t },
-        hints: None,
-    });
+    entries.push_reserved(cpu, Event::Tick { t }, None);
 }
 
 /// The processor that acts, which has no duty, is idle for a tick.
@@ -72,27 +67,21 @@ fn enter_idle(
     work: &Work,
     acting: &mut Acting,
     actors: &mut Vec<Actor>,
-    entries: &mut Vec<Entry>,
+    entries: &mut EntryLog,
     hints: Option<Hints>,
 )
     requires can { CanEnter work.now acting.old actors.old.items entries.old.items IdleEvent hints }
     requires duty { acting.old.actor.duty ≡ Nothing }
-    requires room { vec_len entries.old < vec_capacity entries.old }
+    requires room { 0 < entries.old.room }
     ensures { Enters work.now acting.old acting.new actors.old.items actors.new.items entries.old.items entries.new.items IdleEvent hints }
 {
-    let number = entries.len() as u64;
     let cpu = acting.actor.cpu;
     match acting.count_tick(work, cpu) {
         Ok(()) => {}
         Err(_) => unreachable!(),
     }
     actors[cpu.0 as usize] = acting.actor;
-    entries.push_reserved(Entry {
-        number,
-        cpu,
-        event: Event::Idle,
-        hints,
-    });
+    entries.push_reserved(cpu, Event::Idle, hints);
 }
 
 /// The thread runs for a tick, for whose entry the log has room, on the processor that acts, which has no duty.
@@ -101,7 +90,7 @@ fn make_tick(work: &Work, world: &mut PlainWorld, t: ThreadId)
     requires stands { Stands work.now world.old }
     requires duty { world.old.acting.actor.duty ≡ Nothing }
     requires next { next work.now (told work.now world.old) world.old.acting.actor.cpu None ≡ Some (TickEvent t) }
-    requires room { vec_len world.old.entries < vec_capacity world.old.entries }
+    requires room { 0 < world.old.entries.room }
     requires few { length world.old.entries.items < MOST_ENTRIES }
     ensures stands { Stands work.now world.new }
     ensures entries { world.new.entries.items ≡ world.old.entries.items
@@ -123,7 +112,7 @@ fn make_idle(work: &Work, world: &mut PlainWorld, hints: Option<Hints>)
     requires stands { Stands work.now world.old }
     requires duty { world.old.acting.actor.duty ≡ Nothing }
     requires next { next work.now (told work.now world.old) world.old.acting.actor.cpu hints ≡ Some IdleEvent }
-    requires room { vec_len world.old.entries < vec_capacity world.old.entries }
+    requires room { 0 < world.old.entries.room }
     requires few { length world.old.entries.items < MOST_ENTRIES }
     ensures stands { Stands work.now world.new }
     ensures entries { world.new.entries.items ≡ world.old.entries.items

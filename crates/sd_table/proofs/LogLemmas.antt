@@ -182,3 +182,11 @@ fills_last h left es f none = same es h f.many (λ i e at. f.lie i e at (omega (
         let here : x ≡ y = cc in
         let rest = same xs ys (omega arith) (λ i e at. each (suc i) e at) in
         λ j. here j ∷ rest j
+
+-- the entry that comes next has the number of its place
+pub number_next : (es done rest : List Entry) (x : Entry) → IsNumbered es → done ++ (x ∷ rest) ≡ es → x.number ≡ length done
+number_next es done rest x numbered e = numbered (length done) x (ap (λ l. slice_get l (length done)) (sym e) ∙ there done)
+  where
+    there : (xs : List Entry) → slice_get (xs ++ (x ∷ rest)) (length xs) ≡ Some x
+    there [] = refl
+    there (y ∷ xs) = there xs

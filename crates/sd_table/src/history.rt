@@ -1,10 +1,11 @@
-//! The logs of all processors, put together: the entries of a run in the order of their numbers.
+//! The logs of all processors, put together: the entries of a run in the order of their numbers, kept short.
 
 ghost use Rattle.std.specs.Prelude.{◌≡◌, ℕ, ◌<◌, List, length, IfOk, OnOk};
 ghost use Rattle.std.specs.List.{All};
 ghost use Rattle.sd_types.specs.declared.events.Entry.{Entry as EntryOf};
 ghost use Rattle.sd_table.specs.Logs.{AreIn, AreLogsOf, HasPut, IsNumbered};
 
+use sd_log::EntryLog;
 use sd_types::{CpuId, Entry, Event};
 use std::alloc::{AllocError, Global};
 
@@ -36,12 +37,8 @@ fn put(entries: &mut Vec<Entry>, mut log: Vec<Entry>)
     }
 }
 
-/// The entries of these logs, of which there are so many, in the order of their numbers. `Err` only where memory runs out.
-pub(crate) fn in_order(
-    alloc: Global,
-    count: usize,
-    mut logs: Vec<Vec<Entry>>,
-) -> Result<Vec<Entry>, AllocError>
+/// The entries of these logs, of which there are so many, each at the place of its number. `Err` only where memory runs out.
+fn merged(alloc: Global, count: usize, mut logs: Vec<Vec<Entry>>) -> Result<Vec<Entry>, AllocError>
     requires logs { (h : List EntryOf) × AreLogsOf h logs.items × (length h ≡ count) }
     ensures { IfOk result (λ v. (h : List EntryOf) → AreLogsOf h logs.items → length h ≡ count → v.items ≡ h) }
 {
@@ -50,4 +47,36 @@ pub(crate) fn in_order(
         put(&mut entries, log);
     }
     Ok(entries)
+}
+
+/// The same entries, kept short. `Err` only where memory runs out.
+fn shortened(alloc: Global, entries: Vec<Entry>) -> Result<EntryLog, AllocError>
+    requires { IsNumbered entries.items }
+    ensures { IfOk result (λ l. l.items ≡ entries.items) }
+{
+    let mut log = EntryLog::new(alloc);
+    for entry in entries {
+        let Entry {
+            cpu,
+            event,
+            hints,
+            ..
+        } = entry;
+        log.reserve()?;
+        log.push_reserved(cpu, event, hints);
+    }
+    Ok(log)
+}
+
+/// The entries of these logs, of which there are so many, in the order of their numbers. `Err` only where memory runs out.
+pub(crate) fn in_order(
+    alloc: Global,
+    count: usize,
+    logs: Vec<Vec<Entry>>,
+) -> Result<EntryLog, AllocError>
+    requires logs { (h : List EntryOf) × AreLogsOf h logs.items × (length h ≡ count) }
+    ensures { IfOk result (λ v. (h : List EntryOf) → AreLogsOf h logs.items → length h ≡ count → v.items ≡ h) }
+{
+    let entries = merged(alloc, count, logs)?;
+    shortened(alloc, entries)
 }

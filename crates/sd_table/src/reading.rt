@@ -1,14 +1,27 @@
 //! A processor reads what others show, and makes room for an entry.
 
-ghost use Rattle.std.specs.Prelude.{◌<◌};
-ghost use Rattle.sd_world.specs.Worlds.{HasReserved, Reserves};
+ghost use Rattle.std.specs.Prelude.{◌≡◌, ◌-◌, ◌<◌, vec_capacity, vec_len};
+ghost use Rattle.sd_world.specs.Worlds.{HasReserved, HasRoomFor, Reserves};
 ghost use Rattle.sd_table.specs.Seats.{Fits, SeatCounts, SeatHints, id_of, seat_meaning, work_of};
 
 use crate::seat::Seat;
 use crate::shared::Shared;
-use sd_types::{CpuId, Stop, Which};
-use sd_world::reserve_entry;
+use sd_types::{CpuId, Entry, MOST_ENTRIES, Stop, Which};
 use std::marker::Brand;
+
+/// Makes room in the log of a seat for one entry. `Full` exactly where it has 2^40 entries or more.
+fn reserve_entry(log: &mut Vec<Entry>) -> Result<(), Stop>
+    ensures same { log.new.items ≡ log.old.items }
+    ensures room { HasRoomFor log.old.items (vec_capacity log.new - vec_len log.new) result }
+{
+    if log.len() >= MOST_ENTRIES {
+        return Err(Stop::Full);
+    }
+    if log.reserve(1).is_err() {
+        return Err(Stop::Memory);
+    }
+    Ok(())
+}
 
 impl Shared {
     /// Room for one entry. `Full` exactly where the log holds 2^40 entries or more; `Memory` where memory runs out. Nothing changes but

@@ -4,6 +4,7 @@ ghost use Rattle.std.specs.Prelude.{◌≡◌, ◌<◌, ◌^◌, length, IfOk, O
 ghost use Rattle.sd_table.specs.Seats.{id_of, work_of};
 ghost use Rattle.sd_table.specs.Whole.{IsSeatOf};
 
+use sd_log::EntryLog;
 use sd_table::{Seat, Shared};
 use sd_types::{Entry, Work};
 use sd_workload::read_work;
@@ -49,6 +50,15 @@ pub(crate) fn open_two(alloc: Global, work: &Work) -> Result<(Shared, Seat, Seat
     Ok((shared, first, second))
 }
 
+/// The entries of a log, one by one.
+fn entries_of(alloc: Global, log: &EntryLog) -> Result<Vec<Entry>, AllocError> {
+    let mut entries = Vec::new(alloc);
+    for i in 0..log.len() {
+        entries.push(log.entry(i))?;
+    }
+    Ok(entries)
+}
+
 /// The entries of a table that nobody shares any more.
 pub(crate) fn close_two(
     alloc: Global,
@@ -66,5 +76,5 @@ pub(crate) fn close_two(
     seats.push(first)?;
     seats.push(second)?;
     let PlainWorld { entries, .. } = shared.close(alloc, work, seats)?;
-    Ok(entries)
+    entries_of(alloc, &entries)
 }

@@ -1,6 +1,6 @@
 -- A run that goes on homes, all of which one thread of the host has.
 -- Source: this project's own.
-use Rattle.std.specs.Prelude.{◌≡◌, ℕ, ◌-◌, ◌<◌, ◌≤◌, ◌==◌, nat_le, true, List, length, slice_get, Option, Some, None, vec_capacity, vec_len}
+use Rattle.std.specs.Prelude.{◌≡◌, ℕ, ◌<◌, ◌≤◌, ◌==◌, nat_le, true, List, length, slice_get, Option, Some, None}
 use Rattle.std.specs.List.{Contains}
 use Rattle.sd_types.specs.declared.events.Which.{Which}
 use Rattle.sd_types.specs.declared.events.Which.TheVariants.{Running as OfRunning, Queued as OfQueued}
@@ -92,7 +92,7 @@ plain_meaning x = record {
   acting = x.acting;
   log = x.entries.items;
   seen = x.entries.items;
-  spare = vec_capacity x.entries - vec_len x.entries;
+  spare = x.entries.room;
   stops = 0;
   reads = x.reads;
   last = last_of x.last;

@@ -1,22 +1,23 @@
 //! One entry more: what is done to the homes of a hand, to the counts and duties of the processors, and to the log.
 
-ghost use Rattle.std.specs.Prelude.{◌≡◌, ◌-◌, ◌<◌, vec_capacity, vec_len};
+ghost use Rattle.std.specs.Prelude.{◌≡◌, ◌<◌};
 ghost use Rattle.sd_world.specs.Entries.{CanEnter, Enters};
 ghost use Rattle.sd_world.specs.Worlds.{HasRoomFor};
 
 use sd_hand::{Acting, Actor};
+use sd_log::EntryLog;
 use sd_step::after;
-use sd_types::{Entry, Event, Hints, MOST_ENTRIES, Stop, Work};
+use sd_types::{Event, Hints, MOST_ENTRIES, Stop, Work};
 
 /// Makes room in the log for one entry. `Full` exactly where it has 2^40 entries or more.
-pub fn reserve_entry(entries: &mut Vec<Entry>) -> Result<(), Stop>
+pub fn reserve_entry(entries: &mut EntryLog) -> Result<(), Stop>
     ensures same { entries.new.items ≡ entries.old.items }
-    ensures room { HasRoomFor entries.old.items (vec_capacity entries.new - vec_len entries.new) result }
+    ensures room { HasRoomFor entries.old.items entries.new.room result }
 {
     if entries.len() >= MOST_ENTRIES {
         return Err(Stop::Full);
     }
-    if entries.reserve(1).is_err() {
+    if entries.reserve().is_err() {
         return Err(Stop::Memory);
     }
     Ok(())
@@ -28,12 +29,12 @@ pub fn enter(
     work: &Work,
     acting: &mut Acting,
     actors: &mut Vec<Actor>,
-    entries: &mut Vec<Entry>,
+    entries: &mut EntryLog,
     event: Event,
     hints: Option<Hints>,
 )
     requires can { CanEnter work.now acting.old actors.old.items entries.old.items event hints }
-    requires room { vec_len entries.old < vec_capacity entries.old }
+    requires room { 0 < entries.old.room }
     ensures { Enters work.now acting.old acting.new actors.old.items actors.new.items entries.old.items entries.new.items event hints }
 {
     let number = entries.len() as u64;
@@ -43,10 +44,5 @@ pub fn enter(
         Err(_) => unreachable!(),
     }
     actors[cpu.0 as usize] = acting.actor;
-    entries.push_reserved(Entry {
-        number,
-        cpu,
-        event,
-        hints,
-    });
+    entries.push_reserved(cpu, event, hints);
 }

@@ -13,9 +13,10 @@ use crate::world::Behind;
 use sd_flat::cpu_of;
 use sd_hand::{Acting, Actor};
 use sd_homes::{ListId, list_at};
+use sd_log::EntryLog;
 use sd_opening::opening;
 use sd_state::State;
-use sd_types::{CpuId, Entry, Work};
+use sd_types::{CpuId, Work};
 use std::alloc::{AllocError, Global};
 
 /// All homes of a run of this workload, the processor that acts, the count and the duty of each, and the entries that were made; how
@@ -25,7 +26,7 @@ pub struct PlainWorld<'a> {
     pub work: &'a Work,
     pub acting: Acting,
     pub actors: Vec<Actor>,
-    pub entries: Vec<Entry>,
+    pub entries: EntryLog,
     pub reads: u64,
     pub last: Option<Behind>,
 }
@@ -71,7 +72,7 @@ impl<'a> PlainWorld<'a> {
         alloc: Global,
         work: &'a Work,
         s: &State,
-        entries: Vec<Entry>,
+        entries: EntryLog,
     ) -> Result<PlainWorld<'a>, AllocError>
         requires run { IsRun work.now entries.items }
         requires state { s.now ≡ final work.now (opening work.now) entries.items }
@@ -104,7 +105,7 @@ impl<'a> PlainWorld<'a> {
         ensures entries { IfOk result (λ x. x.entries.items ≡ []) }
     {
         let s = opening(alloc, work)?;
-        PlainWorld::resume(alloc, work, &s, Vec::new(alloc))
+        PlainWorld::resume(alloc, work, &s, EntryLog::new(alloc))
     }
 
     /// The state to which the entries led, as the homes have it. `Err` only where memory runs out.

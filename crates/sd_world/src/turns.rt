@@ -1,6 +1,6 @@
 //! A run on homes as a world: what a processor reads of others, and the entry that it makes.
 
-ghost use Rattle.std.specs.Prelude.{◌≡◌, ◌++◌, ◌<◌, ◌≤◌, ◌∷◌, [], Some, length, map, nat_le, vec_capacity, vec_len, MatchOption};
+ghost use Rattle.std.specs.Prelude.{◌≡◌, ◌++◌, ◌<◌, ◌≤◌, ◌∷◌, [], Some, length, map, nat_le, MatchOption};
 ghost use Rattle.std.specs.List.{list_all};
 ghost use Rattle.sd_machine.specs.Choosing.{hint_shown};
 ghost use Rattle.sd_machine.specs.Events.{may_tick, next};
@@ -92,7 +92,7 @@ impl<'a> PlainWorld<'a> {
     pub fn make(&mut self, work: &Work, hints: Option<Hints>, event: Event)
         requires stands { Stands work.now self.old }
         requires next { next work.now (told work.now self.old) self.old.acting.actor.cpu hints ≡ Some event }
-        requires room { vec_len self.old.entries < vec_capacity self.old.entries }
+        requires room { 0 < self.old.entries.room }
         requires few { length self.old.entries.items < MOST_ENTRIES }
         ensures stands { Stands work.now self.new }
         ensures entries { self.new.entries.items ≡ self.old.entries.items
@@ -119,7 +119,7 @@ impl<'a> PlainWorld<'a> {
         hints: Option<Hints>,
     )
         requires can { CanEnter work.now acting.old self.old.actors.items self.old.entries.items event hints }
-        requires room { vec_len self.old.entries < vec_capacity self.old.entries }
+        requires room { 0 < self.old.entries.room }
         ensures enters { Enters work.now acting.old acting.new self.old.actors.items self.new.actors.items self.old.entries.items self.new.entries.items event hints }
         ensures rest { self.new ≡ record self.old { actors = self.new.actors; entries = self.new.entries } }
     {

@@ -4,5 +4,5 @@ use Rattle.sd_types.specs.declared.events.Entry.{Entry}
 use Rattle.sd_entries.specs.Fitting.{hints_in_range}
 use Rattle.sd_program.proofs.bytes.numbers_are_bytes.Given as goal
 
-abbrev pub invariant-loop-entry : goal.invariant-loop-entry
-invariant-loop-entry l = list_all (λ (e : Entry). hints_in_range e.hints) (take l.entry-index l.entries) ≡ true
+abbrev pub invariant-loop-i : goal.invariant-loop-i
+invariant-loop-i l = list_all (λ (e : Entry). hints_in_range e.hints) (take l.i l.entries.items) ≡ true

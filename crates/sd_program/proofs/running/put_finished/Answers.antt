@@ -22,9 +22,10 @@ returns-in_err-put_run-clause-ran g c =
     let out = change_of (held o) (held p) (faults o) (faults p) in
     let w = c.args.work.now in
     let unwritten = c.in_err-put_run.field-0.0 in
-    let is = subst (λ (es : List Entry). IsTheRun w (mode_of c.args.form) es) (sym c.deref.ensures.value) c.requires.run in
+    let es = c.args.run.now.entries.items in
+    let is = c.requires.run in
     ran_exit w c.args.form out c.from_residual-in_err-put_run.result (unwritten_answer unwritten) c.from_residual-in_err-put_run.ensures.1
-    (unwritten_of w c.args.form out c.deref.result.now (Err unwritten) is c.in_err-put_run.ensures)
+    (unwritten_of w c.args.form out es (Err unwritten) is c.in_err-put_run.ensures)
 
 -- a list of which it is not so that it has something
 nothing_in : (xs : List (List ℕ)) → (xs ≢ [] → ⊥) → xs ≡ []
@@ -34,8 +35,9 @@ nothing_in (x ∷ xs) none = absurd (none (λ e. cc))
 pub returns-clause-ran : goal.returns-clause-ran
 returns-clause-ran g c =
     let w = c.args.work.now in
-    let is = subst (λ (es : List Entry). IsTheRun w (mode_of c.args.form) es) (sym c.deref.ensures.value) c.requires.run in
+    let es = c.args.run.now.entries.items in
+    let is = c.requires.run in
     let p = c.in_ok-put_run.ensures in
-    let ends = c.requires.state ∙ ap (final w (opening w)) (sym c.deref.ensures.value) in
+    let ends = c.requires.state in
     let none = nothing_in (cycles_of c.args.run.now.state) (λ some. false≢true (sym c.if-blocked.false ∙ c.is_blocked-blocked.ensures.1 some)) in
-    (c.deref.result.now, is, p.ok, p.no_fault (λ e. cc), is_open w c.deref.result.now is.run (subst (λ (s : State). cycles_of s ≡ []) ends none))
+    (es, is, p.ok, p.no_fault (λ e. cc), is_open w es is.run (subst (λ (s : State). cycles_of s ≡ []) ends none))

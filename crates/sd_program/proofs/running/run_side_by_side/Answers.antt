@@ -13,5 +13,5 @@ returns-in-Ok-clause-run g c =
     let e = c.in-Ok.ensures in
     let w = c.args.work.now in
     let run = c.in-Ok.run' in
-    let bytes = subst (λ (es : List Entry). All HasBytes es) c.deref.ensures.value c.numbers_are_bytes.ensures in
+    let bytes = c.numbers_are_bytes.ensures in
     is_the_run w Threads run.entries.items e.short tt e.run (subst (IsComplete w) e.state e.complete) bytes e.homes

@@ -16,7 +16,7 @@ returns-in_err-write_accounts_with g c = Puts-exit _ _ _ _ _ _ _ c.from_residual
 pub put_text-requires : goal.put_text-requires
 put_text-requires g c =
     let w = c.args.work.now in
-    let es = c.args.entries.now in
+    let es = c.args.entries.now.items in
     let s = c.args.s.now in
     let accounts = accounts_text w es s ++ cycles_text w s in
     let text = c.deref.ensures.value ∙ c.in_ok-write_accounts_with.ensures.ok es c.in_ok-accounts.ensures ∙ ap (λ (xs : List ℕ). xs ++ accounts) c.new-text.ensures.items in

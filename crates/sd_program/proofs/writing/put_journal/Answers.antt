@@ -15,7 +15,7 @@ returns-in_err-put_entries g c =
     let o = c.args.out.now in
     let p = c.put_entries.new.out in
     let w = c.args.work.now in
-    let es = c.args.entries.now in
+    let es = c.args.entries.now.items in
     let s = final w (opening w) es in
     Puts-exit _ _ _ _ _ _ _ c.from_residual.ensures.1
     (Puts-err (held o) (held p) (held p) (faults o) (faults p) (faults p) (entries_text w es) (accounts_text w es s ++ cycles_text w s) _ c.in_err-put_entries.ensures)
@@ -29,7 +29,7 @@ returns g c =
     let p = c.put_entries.new.out in
     let q = c.put_accounts.new.out in
     let w = c.args.work.now in
-    let es = c.args.entries.now in
+    let es = c.args.entries.now.items in
     let s = final w (opening w) es in
     Puts-then (held o) (held p) (held q) (faults o) (faults p) (faults q) (entries_text w es) (accounts_text w es s ++ cycles_text w s) c.put_accounts.result c.in_ok-put_entries.ensures
     (subst (λ x. Puts (held p) (held q) (faults p) (faults q) (accounts_text w es x ++ cycles_text w x) c.put_accounts.result) c.requires.state c.put_accounts.ensures)

@@ -22,7 +22,7 @@ returns g c =
     let o = c.args.out.now in
     let p = c.put_text.new.out in
     let w = c.args.work.now in
-    let es = c.args.entries.now in
+    let es = c.args.entries.now.items in
     let text : c.deref.result.now ≡ summary_of es (final w (opening w) es) =
     c.deref.ensures.value ∙ c.in_ok-write_summary.ensures.ok w es c.in_ok-accounts.ensures
     ∙ ap (λ (xs : List ℕ). xs ++ summary_of es c.args.s.now) c.new-text.ensures.items ∙ ap (summary_of es) c.requires.state in
@@ -30,7 +30,7 @@ returns g c =
 
 pub put_text-requires : goal.put_text-requires
 put_text-requires g c =
-    let es = c.args.entries.now in
+    let es = c.args.entries.now.items in
     let s = c.args.s.now in
     let text =
     c.deref.ensures.value ∙ c.in_ok-write_summary.ensures.ok c.args.work.now es c.in_ok-accounts.ensures

@@ -1,5 +1,4 @@
 use Rattle.std.proofs.Common.{◌≡◌, ◌+◌, ◌∷◌, [], ◌++◌, length, refl, sym, ap, ◌∙◌, subst, inr, arith}
-use Rattle.std.specs.Prelude.{vec_len}
 use Rattle.std.proofs.lemmas.Bool.{false≢true}
 use Rattle.sd_types.specs.declared.events.Duty.TheVariants.{Nothing}
 use Rattle.sd_types.specs.declared.events.Event.TheVariants.{Idle as IdleEvent}
@@ -33,8 +32,6 @@ returns c =
     let x = c.args.acting.now in
     let cpu = x.actor.cpu in
     let s = led_to w es in
-    let many : vec_len c.args.entries.now ≡ length es = grind arith in
-    let e : length es ≡ c.len-number.result = sym many ∙ sym c.len-number.ensures in
     let reached : IsReached w (length es) s = record { entries = es; run = can.run; many = refl; ends = refl } in
     let needs = needs_reached w (length es) s cpu c.args.hints (IdleEvent) reached can.next in
     let duty : (cpu_of s cpu.0).duty ≡ Nothing = sym can.shown.duty ∙ c.requires.duty in
@@ -43,5 +40,5 @@ returns c =
       shown = subst (IsShown c.count_tick.new.self (length es + 1)) (idle_is w s (length es) cpu duty) (shown_later c.count_tick.new.self (length es) (count_tick w s cpu.0) made);
       has = c.in-Ok.ensures.has;
       actors = refl;
-      entries = c.push_reserved.ensures.items ∙ ap (λ m. es ++ record { number = m; cpu = cpu; event = IdleEvent; hints = c.args.hints } ∷ []) (sym e);
+      entries = c.push_reserved.ensures.items;
     }

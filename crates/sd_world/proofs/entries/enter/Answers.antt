@@ -1,5 +1,4 @@
 use Rattle.std.proofs.Common.{◌≡◌, ◌+◌, ◌∷◌, [], ◌++◌, length, refl, sym, ap, ◌∙◌, subst, arith}
-use Rattle.std.specs.Prelude.{vec_len}
 use Rattle.std.proofs.lemmas.Bool.{false≢true}
 use Rattle.sd_machine.specs.Events.{after}
 use Rattle.sd_machine.specs.Runs.{IsReached}
@@ -15,8 +14,7 @@ unreachable-requires c =
     let es = c.args.entries.now.items in
     let x = c.args.acting.now in
     let s = led_to w es in
-    let many : vec_len c.args.entries.now ≡ length es = grind arith in
-    let e : length es ≡ c.len-number.result = sym many ∙ sym c.len-number.ensures in
+    let e : length es ≡ c.len-number.result = sym c.len-number.ensures in
     let reached : IsReached w (length es) s = record { entries = es; run = can.run; many = refl; ends = refl } in
     let lack = c.in-Err.ensures.lack in
     false≢true (sym lack.1 ∙ can.holds c.in-Err.field-0 (lack.0 s (subst (λ m. IsShown x m s) e can.shown) (needs_reached w (length es) s x.actor.cpu c.args.hints c.args.event reached can.next)))
@@ -29,13 +27,12 @@ returns c =
     let x = c.args.acting.now in
     let cpu = x.actor.cpu in
     let s = led_to w es in
-    let many : vec_len c.args.entries.now ≡ length es = grind arith in
-    let e : length es ≡ c.len-number.result = sym many ∙ sym c.len-number.ensures in
+    let e : length es ≡ c.len-number.result = sym c.len-number.ensures in
     let reached : IsReached w (length es) s = record { entries = es; run = can.run; many = refl; ends = refl } in
     let made = c.in-Ok.ensures.value s (subst (λ m. IsShown x m s) e can.shown) (needs_reached w (length es) s cpu c.args.hints c.args.event reached can.next) in
     record {
       shown = subst (λ m. IsShown c.after.new.x (m + 1) (after w s m cpu c.args.event)) (sym e) made;
       has = c.in-Ok.ensures.has;
       actors = refl;
-      entries = c.push_reserved.ensures.items ∙ ap (λ m. es ++ record { number = m; cpu = cpu; event = c.args.event; hints = c.args.hints } ∷ []) (sym e);
+      entries = c.push_reserved.ensures.items;
     }

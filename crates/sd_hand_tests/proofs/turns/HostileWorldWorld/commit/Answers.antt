@@ -1,5 +1,4 @@
 use Rattle.std.proofs.Common.{◌≡◌, ◌++◌, ◌∷◌, [], length, refl, sym, ap, ◌∙◌, subst, arith}
-use Rattle.std.specs.Prelude.{vec_len}
 use Rattle.std.proofs.lemmas.List.{append-nil}
 use Rattle.sd_world.specs.declared.plain.PlainWorld.{PlainWorld}
 use Rattle.sd_world.specs.Entries.{CanEnter, Enters}
@@ -40,8 +39,7 @@ returns-clause-commits c =
     let es = x.inner.entries.items in
     let own = subst (λ v. CanCommit (hostile_meaning x) v c.args.event c.args.hints) can.work can in
     let made = subst (λ v. Enters v x.near near x.inner.actors.items i.actors.items x.inner.entries.items i.entries.items c.args.event c.args.hints) can.work c.enter_from.ensures.enters in
-    let many : vec_len x.inner.entries ≡ length es = grind arith in
-    let number : length es ≡ c.len-number.result = sym many ∙ sym c.len-number.ensures in
+    let number : length es ≡ c.len-number.result = sym c.len-number.ensures in
     let log = made.entries ∙ ap (λ k. es ++ record { number = k; cpu = x.near.actor.cpu; event = c.args.event; hints = c.args.hints } ∷ []) number in
     record {
       run = es;

@@ -20,8 +20,7 @@ returns-clause-stands c =
     let s = c.args.s.now in
     let es = c.args.entries.items in
     let actors = c.in_ok-actors.actors.items in
-    let many : vec_len c.args.entries ≡ length es = grind arith in
-    let number : c.len.result ≡ length es = c.len.ensures ∙ many in
+    let number : c.len.result ≡ length es = c.len.ensures in
     let first : slice_get actors 0 ≡ Some c.index-actor.result.now =
     slice_get-get_or actors 0 c.index-actor.result.now (some_cpus w s es c.requires.run c.requires.state actors c.in_ok-actors.ensures) ∙ ap Some (sym c.index-actor.ensures) in
     stands_begun w s es c.requires.run c.requires.state

@@ -1,5 +1,4 @@
 use Rattle.std.proofs.Common.{◌≡◌, ◌++◌, ◌∷◌, [], length, refl, sym, ap, ◌∙◌, subst, arith}
-use Rattle.std.specs.Prelude.{vec_len}
 use Rattle.std.proofs.lemmas.List.{append-nil}
 use Rattle.sd_types.specs.declared.works.Work.{Work}
 use Rattle.sd_world.specs.Plain.{Stands, last_of}
@@ -15,8 +14,7 @@ pub returns-clause-commits : goal.returns-clause-commits
 returns-clause-commits c =
     let x = c.args.self.now in
     let es = x.entries.items in
-    let many : vec_len x.entries ≡ length es = grind arith in
-    let number : length es ≡ c.len-number.result = sym many ∙ sym c.len-number.ensures in
+    let number : length es ≡ c.len-number.result = sym c.len-number.ensures in
     let log = c.make.ensures.entries ∙ ap (λ k. es ++ record { number = k; cpu = x.acting.actor.cpu; event = c.args.event; hints = c.args.hints } ∷ []) number in
     record {
       run = es;

@@ -2,7 +2,7 @@ use Rattle.std.proofs.Common.{◌≡◌, List, length}
 use Rattle.sd_types.specs.declared.events.Entry.{Entry}
 use Rattle.sd_table.specs.Logs.{AreLogsOf}
 use Rattle.sd_table.proofs.LogLemmas.{Filling}
-use Rattle.sd_table.proofs.history.in_order.Given as goal
+use Rattle.sd_table.proofs.history.merged.Given as goal
 
 abbrev pub invariant-logs : goal.invariant-logs
 invariant-logs l = (h : List Entry) → AreLogsOf h l.fn.logs.items → length h ≡ l.fn.count → Filling h l.logs.items l.entries.items
