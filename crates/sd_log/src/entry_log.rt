@@ -17,6 +17,16 @@ pub struct EntryLog {
     bytes: Vec<u8>,
 }
 
+/// An entry to be made another.
+pub fn blank() -> Entry {
+    Entry {
+        number: 0,
+        cpu: CpuId(0),
+        event: Event::Idle,
+        hints: None,
+    }
+}
+
 impl Model for EntryLog {
     ghost use Rattle.std.specs.Prelude.{length, vec_capacity, vec_len};
     ghost use Rattle.sd_log.specs.Logged.{AreWithin, Logged, entries_from, room_in};
@@ -76,6 +86,17 @@ impl EntryLog {
         requires { number < length self.now.items }
         ensures { slice_get self.now.items number ≡ Some result }
     {
-        lengthen(&self.bytes, number, self.short[number])
+        let mut entry = blank();
+        self.copy_to(number, &mut entry);
+        entry
+    }
+
+    /// Makes `entry` the one with this number. Whoever goes along the entries keeps one for all of them.
+    #[inline(always)]
+    pub fn copy_to(&self, number: usize, entry: &mut Entry)
+        requires { number < length self.now.items }
+        ensures { slice_get self.now.items number ≡ Some entry.new }
+    {
+        lengthen(&self.bytes, number, &self.short[number], entry);
     }
 }

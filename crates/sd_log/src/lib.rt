@@ -6,4 +6,4 @@ mod short;
 #[cfg(test)]
 mod tests;
 
-pub use entry_log::EntryLog;
+pub use entry_log::{EntryLog, blank};

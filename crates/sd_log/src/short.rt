@@ -1,6 +1,6 @@
 //! An entry without what its place tells, and without the numbers that it read: where those lie.
 
-ghost use Rattle.std.specs.Prelude.{◌≡◌, ◌++◌, ◌+◌, ◌<◌, ◌≤◌, ◌^◌, ℕ, length, slice_range, vec_capacity, vec_len};
+ghost use Rattle.std.specs.Prelude.{◌≡◌, ◌++◌, ◌+◌, ◌<◌, ◌≤◌, ◌^◌, ℕ, Some, length, slice_range, vec_capacity, vec_len};
 ghost use Rattle.sd_log.specs.Short.{IsWithin, entry_at, hints_with, numbers_of, reading_of};
 
 use arrayvec::ArrayVec;
@@ -40,32 +40,31 @@ fn reading_of(hints: &Option<Hints>) -> Reading
     }
 }
 
-/// These numbers.
-fn numbers_in(bytes: &[u8]) -> ArrayVec<u8, 64>
+/// These numbers, read of that kind, in place of others.
+#[inline(always)]
+fn set_numbers(hints: &mut Option<Hints>, which: Which, bytes: &[u8])
     requires { length bytes.now ≤ 64 }
-    ensures { result.items ≡ bytes.now }
+    ensures { hints.new ≡ Some (record { which = which; numbers = record { items = bytes.now } }) }
 {
     let mut numbers = ArrayVec::new();
-    for byte in bytes {
-        numbers.push(*byte);
+    match numbers.try_extend_from_slice(bytes) {
+        Ok(()) => {}
+        Err(_) => unreachable!(),
     }
-    numbers
+    *hints = Some(Hints { which, numbers });
 }
 
-/// What was read, with its numbers.
-fn hints_with(reading: Reading, bytes: &[u8]) -> Option<Hints>
+/// What was read, with its numbers, in place of what another entry read.
+#[inline(always)]
+fn set_hints(hints: &mut Option<Hints>, reading: Reading, bytes: &[u8])
     requires { length bytes.now ≤ 64 }
-    ensures { result ≡ hints_with reading bytes.now }
+    ensures { hints.new ≡ hints_with reading bytes.now }
 {
-    let which = match reading {
-        Reading::Nothing => return None,
-        Reading::Running => Which::Running,
-        Reading::Queued => Which::Queued,
-    };
-    Some(Hints {
-        which,
-        numbers: numbers_in(bytes),
-    })
+    match reading {
+        Reading::Nothing => *hints = None,
+        Reading::Running => set_numbers(hints, Which::Running, bytes),
+        Reading::Queued => set_numbers(hints, Which::Queued, bytes),
+    }
 }
 
 /// Puts the numbers that were read behind the others, where there is room.
@@ -111,17 +110,16 @@ pub(crate) fn shorten(
     }
 }
 
-/// The entry with this number.
-pub(crate) fn lengthen(bytes: &[u8], number: usize, short: ShortEntry) -> Entry
-    requires { IsWithin (length bytes.now) short }
-    ensures { result ≡ entry_at bytes.now number short }
+/// The entry with this number, in place of another.
+#[inline(always)]
+pub(crate) fn lengthen(bytes: &[u8], number: usize, short: &ShortEntry, entry: &mut Entry)
+    requires { IsWithin (length bytes.now) short.now }
+    ensures { entry.new ≡ entry_at bytes.now number short.now }
 {
     let from = short.from as usize;
     let read = &bytes[from..from + short.count as usize];
-    Entry {
-        number: number as u64,
-        cpu: short.cpu,
-        event: short.event,
-        hints: hints_with(short.reading, read),
-    }
+    entry.number = number as u64;
+    entry.cpu = short.cpu;
+    entry.event = short.event;
+    set_hints(&mut entry.hints, short.reading, read);
 }

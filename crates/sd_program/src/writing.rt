@@ -1,6 +1,7 @@
 //! Writing what is printed of a run: each line with its newline as one piece.
 
-ghost use Rattle.std.specs.Prelude.{◌≡◌, ◌++◌, ◌<◌, ◌^◌, length, map, IfOk};
+ghost use Rattle.std.specs.Prelude.{◌≡◌, ◌++◌, ◌<◌, ◌^◌, List, [], length, map, IfOk, OnOk};
+ghost use Rattle.sd_types.specs.declared.events.Entry.{Entry as EntryOf};
 ghost use Rattle.sd_accounts.specs.Counters.{HasTaken};
 ghost use Rattle.sd_machine.specs.LockGraph.{cycles_of};
 ghost use Rattle.sd_machine.specs.Runs.{final};
@@ -14,7 +15,7 @@ use crate::forms::Form;
 use sd_accounts::Accounts;
 use sd_answers::{Unwritten, put_line, put_text};
 use sd_entries::EntryLine;
-use sd_log::EntryLog;
+use sd_log::{EntryLog, blank};
 use sd_state::State;
 use sd_text::Sink;
 use sd_types::{Entry, Work};
@@ -33,15 +34,25 @@ fn put_entry<K: Sink>(
     put_line(out, line.format(work, entry))
 }
 
-/// Writes the entries in order.
-fn put_entries<K: Sink>(work: &Work, entries: &EntryLog, out: &mut K) -> Result<(), Unwritten>
-    ensures { Puts (K.contents out.old) (K.contents out.new) (K.fault_count out.old) (K.fault_count out.new)
+/// Writes the entries in order, and counts them in accounts that have none so far.
+fn put_entries<K: Sink>(
+    work: &Work,
+    entries: &EntryLog,
+    accounts: &mut Accounts,
+    out: &mut K,
+) -> Result<(), Unwritten>
+    requires few { length entries.now.items < 2 ^ 48 }
+    requires none { HasTaken work.now [] accounts.old }
+    ensures puts { Puts (K.contents out.old) (K.contents out.new) (K.fault_count out.old) (K.fault_count out.new)
         (entries_text work.now entries.now.items) result }
+    ensures counted { OnOk result (HasTaken work.now entries.now.items accounts.new) }
 {
     let mut line = EntryLine::new();
+    let mut entry = blank();
     for i in 0..entries.len() {
-        let entry = entries.entry(i);
+        entries.copy_to(i, &mut entry);
         put_entry(work, &entry, &mut line, out)?;
+        accounts.add(&entry);
     }
     Ok(())
 }
@@ -52,8 +63,9 @@ fn counted(alloc: Global, work: &Work, entries: &EntryLog) -> Result<Accounts, A
     ensures { IfOk result (λ a. HasTaken work.now entries.now.items a) }
 {
     let mut accounts = Accounts::new(alloc, work)?;
+    let mut entry = blank();
     for i in 0..entries.len() {
-        let entry = entries.entry(i);
+        entries.copy_to(i, &mut entry);
         accounts.add(&entry);
     }
     Ok(accounts)
@@ -63,17 +75,16 @@ fn counted(alloc: Global, work: &Work, entries: &EntryLog) -> Result<Accounts, A
 fn put_accounts<K: Sink>(
     alloc: Global,
     work: &Work,
-    entries: &EntryLog,
+    accounts: &Accounts,
     s: &State,
     cycles: &[Vec<usize>],
     out: &mut K,
 ) -> Result<(), Unwritten>
-    requires few { length entries.now.items < 2 ^ 48 }
+    requires taken { (es : List EntryOf) × HasTaken work.now es accounts.now }
     requires cycles { map (λ v. v.items) cycles.now ≡ cycles_of s.now }
-    ensures { Puts (K.contents out.old) (K.contents out.new) (K.fault_count out.old) (K.fault_count out.new)
-        (accounts_text work.now entries.now.items s.now ++ cycles_text work.now s.now) result }
+    ensures { (es : List EntryOf) → HasTaken work.now es accounts.now
+        → Puts (K.contents out.old) (K.contents out.new) (K.fault_count out.old) (K.fault_count out.new) (accounts_text work.now es s.now ++ cycles_text work.now s.now) result }
 {
-    let accounts = counted(alloc, work, entries)?;
     let mut text = Vec::new(alloc);
     accounts.write_accounts_with(alloc, work, s, cycles, &mut text)?;
     put_text(out, &text)
@@ -95,8 +106,9 @@ fn put_journal<K: Sink>(
     ensures { Puts (K.contents out.old) (K.contents out.new) (K.fault_count out.old) (K.fault_count out.new)
         (journal work.now entries.now.items) result }
 {
-    put_entries(work, entries, out)?;
-    put_accounts(alloc, work, entries, s, cycles, out)
+    let mut accounts = Accounts::new(alloc, work)?;
+    put_entries(work, entries, &mut accounts, out)?;
+    put_accounts(alloc, work, &accounts, s, cycles, out)
 }
 
 /// Writes the summary of a run.

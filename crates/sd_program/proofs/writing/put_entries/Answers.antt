@@ -1,33 +1,48 @@
-use Rattle.std.proofs.Common.{◌≡◌, ◌<◌, ◌≤◌, get_or, length, sym, subst}
+use Rattle.std.proofs.Common.{◌≡◌, ◌+◌, ◌<◌, ◌≤◌, List, [], ◌∷◌, ◌++◌, get_or, length, take, ap, sym, subst, ◌∙◌, arith}
+use Rattle.std.proofs.lemmas.List.{take_all, take_more, length-take-le}
 use Rattle.std.proofs.lemmas.Option.{get_or_from_slice_get}
+use Rattle.sd_types.specs.declared.events.Entry.{Entry}
+use Rattle.sd_accounts.specs.Counters.{HasTaken}
 use Rattle.sd_machine.specs.Texts.{entry_text, entries_text}
 use Rattle.sd_answers.proofs.PutLemmas.{Puts-nil, Puts-item, Puts-item_err, Puts-all, Puts-exit}
 use Rattle.sd_program.proofs.writing.put_entries.Goals as goal
 
 pub loop-i-init : goal.loop-i-init
-loop-i-init g c = Puts-nil _ _
+loop-i-init g c = (Puts-nil _ _, c.requires.none)
 
 pub loop-i-preserved : goal.loop-i-preserved
 loop-i-preserved g c =
+    let l = c.loop-i in
+    let w = c.args.work.now in
     let es = c.args.entries.now.items in
-    let i = c.loop-i.i in
-    let x = c.entry-entry.result in
-    let is = sym (get_or_from_slice_get es i x x c.entry-entry.ensures) in
-    let inside = subst (λ n. i < n) c.len.ensures c.loop-i-test.true in
-    Puts-item (entry_text c.args.work.now) _ _ _ _ _ _ es i x is inside c.loop-i.invariant c.in_ok-put_entry.ensures
+    let x = c.copy_to.new.entry in
+    let is = sym (get_or_from_slice_get es l.i x x c.copy_to.ensures) in
+    let inside = subst (λ n. l.i < n) c.len.ensures c.loop-i-test.true in
+    let so_far : length (take l.i es) ≡ l.i = length-take-le l.i es (omega (arith, inside)) in
+    let few : length (take l.i es) < 281474976710656 = (let h = c.requires.few in omega (arith, so_far, inside, h)) in
+    let one : take (l.i + 1) es ≡ take l.i es ++ x ∷ [] = take_more es l.i x inside ∙ ap (λ (y : Entry). take l.i es ++ y ∷ []) (sym is) in (
+      Puts-item (entry_text w) _ _ _ _ _ _ es l.i x is inside l.invariant.0 c.in_ok-put_entry.ensures,
+      subst (λ (xs : List Entry). HasTaken w xs c.add.new.self) (sym one) (c.add.ensures w (take l.i es) few l.invariant.1),
+    )
 
-pub returns-in_err-put_entry : goal.returns-in_err-put_entry
+pub returns-in_err-put_entry-clause-puts : goal.returns-in_err-put_entry-clause-puts
 unfolding entries_text
-returns-in_err-put_entry g c =
+returns-in_err-put_entry-clause-puts g c =
     let es = c.args.entries.now.items in
     let i = c.loop-i.i in
-    let x = c.entry-entry.result in
-    let is = sym (get_or_from_slice_get es i x x c.entry-entry.ensures) in
+    let x = c.copy_to.new.entry in
+    let is = sym (get_or_from_slice_get es i x x c.copy_to.ensures) in
     let inside = subst (λ n. i < n) c.len.ensures c.loop-i-test.true in
     Puts-exit _ _ _ _ _ _ _ c.from_residual.ensures.1
-    (Puts-item_err (entry_text c.args.work.now) _ _ _ _ _ _ es i x is _ inside c.loop-i.invariant c.in_err-put_entry.ensures)
+    (Puts-item_err (entry_text c.args.work.now) _ _ _ _ _ _ es i x is _ inside c.loop-i.invariant.0 c.in_err-put_entry.ensures)
 
-pub returns : goal.returns
+pub returns-clause-puts : goal.returns-clause-puts
 unfolding entries_text
-returns g c =
-    Puts-all (entry_text c.args.work.now) _ _ _ _ c.args.entries.now.items c.loop-i.i (subst (λ n. n ≤ c.loop-i.i) c.len.ensures c.loop-i-test.false) c.loop-i.invariant
+returns-clause-puts g c =
+    Puts-all (entry_text c.args.work.now) _ _ _ _ c.args.entries.now.items c.loop-i.i (subst (λ n. n ≤ c.loop-i.i) c.len.ensures c.loop-i-test.false) c.loop-i.invariant.0
+
+pub returns-clause-counted : goal.returns-clause-counted
+returns-clause-counted g c =
+    let es = c.args.entries.now.items in
+    let all = take_all c.loop-i.i es (subst (λ n. n ≤ c.loop-i.i) c.len.ensures c.loop-i-test.false) in
+    subst (λ (xs : List Entry). HasTaken c.args.work.now xs c.loop-i.accounts) all c.loop-i.invariant.1

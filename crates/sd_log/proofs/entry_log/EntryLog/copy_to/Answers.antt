@@ -4,7 +4,7 @@ use Rattle.sd_log.specs.declared.short.ShortEntry.{ShortEntry}
 use Rattle.sd_log.specs.Logged.{Logged}
 use Rattle.sd_log.specs.Short.{IsWithin, entry_at}
 use Rattle.sd_log.proofs.LogLemmas.{entries-at, entries-length}
-use Rattle.sd_log.proofs.entry_log.EntryLog.entry.Goals as goal
+use Rattle.sd_log.proofs.entry_log.EntryLog.copy_to.Goals as goal
 
 pub index-requires : goal.index-requires
 index-requires c =
