@@ -9,7 +9,7 @@ pub loop-entry-init : goal.loop-entry-init
 loop-entry-init c =
     let gives = c.into_iter-entry-iterator.ensures.into_iter_gives in
     let many : vec_len c.args.entries ≡ length c.args.entries.items = grind arith in
-    (refl, c.new.ensures.items, gives.1 ∙ (many ∙ sym (ap length gives.0)))
+    (refl, c.new-log.ensures.items, gives.1 ∙ (many ∙ sym (ap length gives.0)))
 
 pub loop-entry-preserved : goal.loop-entry-preserved
 loop-entry-preserved c =
