@@ -10,7 +10,7 @@ loop-i-preserved c =
     let l = c.loop-i in
     let es = c.args.entries.now.items in
     let x = c.copy_to.new.entry in
-    let inside = subst (λ n. l.i < n) c.len.ensures c.loop-i-test.true in
+    let inside = subst (λ n. l.i < n) c.len-i-end.ensures c.loop-i-test.true in
     let so_far : length (take l.i es) ≡ l.i = length-take-le l.i es (omega (arith, inside)) in
     let few : length (take l.i es) < 281474976710656 = (let h = c.requires in omega (arith, so_far, inside, h)) in
     let one : take (l.i + 1) es ≡ take l.i es ++ x ∷ [] =

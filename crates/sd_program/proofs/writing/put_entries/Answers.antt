@@ -17,7 +17,7 @@ loop-i-preserved g c =
     let es = c.args.entries.now.items in
     let x = c.copy_to.new.entry in
     let is = sym (get_or_from_slice_get es l.i x x c.copy_to.ensures) in
-    let inside = subst (λ n. l.i < n) c.len.ensures c.loop-i-test.true in
+    let inside = subst (λ n. l.i < n) c.len-i-end.ensures c.loop-i-test.true in
     let so_far : length (take l.i es) ≡ l.i = length-take-le l.i es (omega (arith, inside)) in
     let few : length (take l.i es) < 281474976710656 = (let h = c.requires.few in omega (arith, so_far, inside, h)) in
     let one : take (l.i + 1) es ≡ take l.i es ++ x ∷ [] = take_more es l.i x inside ∙ ap (λ (y : Entry). take l.i es ++ y ∷ []) (sym is) in (
@@ -32,17 +32,17 @@ returns-in_err-put_entry-clause-puts g c =
     let i = c.loop-i.i in
     let x = c.copy_to.new.entry in
     let is = sym (get_or_from_slice_get es i x x c.copy_to.ensures) in
-    let inside = subst (λ n. i < n) c.len.ensures c.loop-i-test.true in
+    let inside = subst (λ n. i < n) c.len-i-end.ensures c.loop-i-test.true in
     Puts-exit _ _ _ _ _ _ _ c.from_residual.ensures.1
     (Puts-item_err (entry_text c.args.work.now) _ _ _ _ _ _ es i x is _ inside c.loop-i.invariant.0 c.in_err-put_entry.ensures)
 
 pub returns-clause-puts : goal.returns-clause-puts
 unfolding entries_text
 returns-clause-puts g c =
-    Puts-all (entry_text c.args.work.now) _ _ _ _ c.args.entries.now.items c.loop-i.i (subst (λ n. n ≤ c.loop-i.i) c.len.ensures c.loop-i-test.false) c.loop-i.invariant.0
+    Puts-all (entry_text c.args.work.now) _ _ _ _ c.args.entries.now.items c.loop-i.i (subst (λ n. n ≤ c.loop-i.i) c.len-i-end.ensures c.loop-i-test.false) c.loop-i.invariant.0
 
 pub returns-clause-counted : goal.returns-clause-counted
 returns-clause-counted g c =
     let es = c.args.entries.now.items in
-    let all = take_all c.loop-i.i es (subst (λ n. n ≤ c.loop-i.i) c.len.ensures c.loop-i-test.false) in
+    let all = take_all c.loop-i.i es (subst (λ n. n ≤ c.loop-i.i) c.len-i-end.ensures c.loop-i-test.false) in
     subst (λ (xs : List Entry). HasTaken c.args.work.now xs c.loop-i.accounts) all c.loop-i.invariant.1
