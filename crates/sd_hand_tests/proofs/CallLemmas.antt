@@ -1,18 +1,17 @@
 -- What the calls of a world that follows a plan do to what it means.
 use Rattle.std.proofs.Common.{◌≡◌, ℕ, true, false, ◌==◌, List, [], ◌∷◌, is_some, map, MatchOption, Option, Some, None, refl, sym, ap, ◌∙◌, subst}
-use Rattle.std.specs.Prelude.{Vec, nat_le}
-use Rattle.std.specs.declared.alloc.Global.{Global}
+use Rattle.std.specs.Prelude.{nat_le}
 use Rattle.std.proofs.lemmas.Bool.{eq-eqb}
 use Rattle.std.proofs.lemmas.List.{append-nil}
 use Rattle.sd_types.specs.declared.numbers.CpuId.{CpuId}
 use Rattle.sd_types.specs.declared.numbers.HomeId.{HomeId}
 use Rattle.sd_types.specs.declared.numbers.ThreadId.{ThreadId}
-use Rattle.sd_types.specs.declared.events.Entry.{Entry}
 use Rattle.sd_types.specs.declared.events.Which.{Which}
 use Rattle.sd_state.specs.Opening.{opening}
 use Rattle.sd_state.specs.States.{cpu_of}
 use Rattle.sd_machine.specs.Choosing.{hint_shown}
 use Rattle.sd_machine.specs.Runs.{final}
+use Rattle.sd_log.specs.Logged.{Logged}
 use Rattle.sd_homes.specs.declared.home.Home.{Home}
 use Rattle.sd_homes.specs.Families.{home_id}
 use Rattle.sd_hand.specs.Hands.{held}
@@ -119,7 +118,7 @@ module _ (x : HostileWorld) (i : PlainWorld) (found : Option Behind) (e : i ≡ 
       again (Some b) f = record { less = f.less; rises = f.rises; last = f.last; there = f.there; own = f.own }
 
 -- ---- room was made for an entry
-module _ (x z : HostileWorld) (n : ℕ) (counts : z ≡ record x { calls = n }) (es : Vec Entry Global) (same : es.items ≡ z.inner.entries.items) where
+module _ (x z : HostileWorld) (n : ℕ) (counts : z ≡ record x { calls = n }) (es : Logged) (same : es.items ≡ z.inner.entries.items) where
   abbrev roomy : HostileWorld
   roomy = with_inner z (record z.inner { entries = es })
 
