@@ -11,7 +11,7 @@ use Rattle.sd_state.specs.declared.states.State.{State}
 use Rattle.sd_state.specs.Opening.{opening}
 use Rattle.sd_text.specs.Lines.{lines_of}
 use Rattle.sd_machine.specs.Events.{after}
-use Rattle.sd_machine.specs.Runs.{final, IsRun, IsStep, IsReached}
+use Rattle.sd_machine.specs.Runs.{final, IsRun, IsStep}
 use Rattle.sd_machine.specs.Texts.{entry_text, entries_text}
 use Rattle.sd_machine.proofs.RunLemmas.{IsRun-nil, IsRun-append, IsRun-from, IsRunFrom-one, final-nil, final-push, last_number, last_step}
 use Rattle.sd_accounts.specs.declared.accounts.Accounts.{Accounts}
@@ -43,9 +43,6 @@ read_start w text s a start none = record {
 -- nothing was read
 pub nothing_read : (w : Work) (text : List ℕ) → IsRunSoFar w text 0
 nothing_read w text = record { entries = []; rest = lines_of text; told = record { run = IsRun-nil w; spelled = All-nil (IsSpelled w); lines = refl }; counted = refl }
-
-pub reached : (w : Work) (text : List ℕ) (s : State) (a : Accounts) (number from : ℕ) → HasRead w text s a number from → IsReached w number s
-reached w text s a number from r = record { entries = r.entries; run = r.told.run; many = r.many; ends = sym r.ends }
 
 pub after_read : (w : Work) (text : List ℕ) (s : State) (a : Accounts) (number from : ℕ) (Has : List Entry → Type 0) → HasReadWith w text s a number from Has → IsAfter w number s Has
 after_read w text s a number from Has r = record { entries = r.0.entries; run = r.0.told.run; many = r.0.many; ends = r.0.ends; has = r.1 }

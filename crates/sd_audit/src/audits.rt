@@ -11,7 +11,7 @@ ghost use Rattle.sd_audit.specs.Reading.{HasRead, IsAtAccounts};
 use crate::collecting::{Collector, NoCollector};
 use crate::complete::first_to_enter;
 use crate::differences::first_difference;
-use crate::entries::{Place, take_entries};
+use crate::entries::{EntriesRead, take_entries};
 use sd_accounts::Accounts;
 use sd_entry_reader::Names;
 use sd_opening::opening;
@@ -43,7 +43,7 @@ fn check_tail(
     s: &State,
     accounts: &Accounts,
     text: &[u8],
-    at: Place,
+    at: EntriesRead,
 ) -> Result<(), AuditFault>
     requires text { length text.now < 2 ^ 31 }
     requires read { HasRead work.now text.now s.now accounts.now at.number at.from }
@@ -72,7 +72,7 @@ fn check_rest(
     s: &State,
     accounts: &Accounts,
     text: &[u8],
-    at: Place,
+    at: EntriesRead,
 ) -> Result<(), AuditFault>
     requires text { length text.now < 2 ^ 31 }
     requires read { HasRead work.now text.now s.now accounts.now at.number at.from }

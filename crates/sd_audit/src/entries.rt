@@ -17,7 +17,7 @@ use std::alloc::Global;
 
 /// How many entries were read, and where the line `accounts` begins.
 #[derive(Clone, Copy)]
-pub struct Place {
+pub struct EntriesRead {
     pub number: u64,
     pub from: usize,
 }
@@ -30,7 +30,7 @@ pub fn take_entries<C: Collector>(
     accounts: &mut Accounts,
     text: &[u8],
     collector: &mut C,
-) -> Result<Place, AuditFault>
+) -> Result<EntriesRead, AuditFault>
     requires text { length text.now < 2 ^ 31 }
     requires start { s.old ≡ opening names.now.work.now }
     requires none { HasTaken names.now.work.now [] accounts.old }
@@ -40,7 +40,7 @@ pub fn take_entries<C: Collector>(
     ensures bound { IfOk result (λ at. at.number ≤ at.from) }
     ensures fault { IfErr result (IsFault names.now.work.now text.now) }
 {
-    let mut at = Place { number: 0, from: 0 };
+    let mut at = EntriesRead { number: 0, from: 0 };
     'lines: while let Some((start, end)) = next_line(text, at.from) {
         let line = &text[start..end];
         if is_accounts(line) {
@@ -48,7 +48,7 @@ pub fn take_entries<C: Collector>(
         }
         let entry = take_line(alloc, names, s, line, at.number, collector)?;
         accounts.add(&entry);
-        at = Place {
+        at = EntriesRead {
             number: at.number + 1,
             from: end + 1,
         };

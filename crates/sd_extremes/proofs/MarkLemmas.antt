@@ -4,11 +4,9 @@ use Rattle.std.specs.Prelude.{nat_lt, if◌then◌else◌}
 use Rattle.std.proofs.lemmas.Bool.{cases_lt}
 use Rattle.std.proofs.lemmas.Bool.Decides.{nat_tests}
 use Rattle.std.proofs.lemmas.List.{append_assoc}
-use Rattle.std.proofs.lemmas.Option.{same_Some}
 use Rattle.sd_types.specs.declared.numbers.CpuId.{CpuId}
 use Rattle.sd_types.specs.declared.numbers.ThreadId.{ThreadId}
 use Rattle.sd_types.specs.declared.events.Entry.{Entry}
-use Rattle.sd_types.specs.declared.events.Event.{Event}
 use Rattle.sd_types.specs.declared.events.Event.TheVariants.{Done}
 use Rattle.sd_types.specs.declared.works.Work.{Work}
 use Rattle.sd_state.specs.declared.states.State.{State}
@@ -31,19 +29,11 @@ use Rattle.sd_search.proofs.TellLemmas.{at_same, inside_at}
 use Rattle.sd_extremes.specs.declared.marks.Mark.{Mark}
 use Rattle.sd_extremes.specs.declared.marks.Span.{Span}
 use Rattle.sd_extremes.specs.Ends.{EndsAt}
-use Rattle.sd_extremes.specs.Marks.{EndsNow, IsBefore, IsBelow, IsMark, IsSpan, Spans, earlier, ended_by, ended_if, later, with_mark}
+use Rattle.sd_extremes.specs.Marks.{EndsNow, IsBefore, IsBelow, IsMark, IsSpan, Spans, earlier, later, with_mark}
 use Rattle.sd_extremes.specs.WholeRuns.{GoesOn, IsFreshRun}
 use Rattle.sd_extremes.proofs.WholeLemmas.{fresh-amid, front_run, round-push, step-amid}
 
 -- ---- what an event ends
-
-by_event : (e : Event) (t : ThreadId) → ended_by e ≡ Some t → e ≡ Done t
-by_event (Done u) t is = ap (λ v. Done v) (same_Some u t is)
-by_event _ t is = cc
-
-pub is_done : (o : Option Event) (t : ThreadId) → ended_if o ≡ Some t → o ≡ Some (Done t)
-is_done (Some e) t is = ap (λ x. Some x) (by_event e t is)
-is_done None t is = cc
 
 -- ---- the first and the last of two marks
 

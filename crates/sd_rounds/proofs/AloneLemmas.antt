@@ -1,6 +1,6 @@
 -- The turn of a processor that has all homes, and whose plan reads nothing, or searches where nothing is queued.
-use Rattle.std.proofs.Common.{◌≡◌, ℕ, suc, ◌<◌, true, false, ◌==◌, arith, max, List, [], ◌∷◌, length, map, Option, Some, None, refl, sym, ap, ◌∙◌, subst, if◌then◌else◌}
-use Rattle.std.specs.List.{Contains, list_all}
+use Rattle.std.proofs.Common.{◌≡◌, ℕ, suc, ◌<◌, true, false, ◌==◌, arith, max, List, [], ◌∷◌, length, map, Option, Some, None, refl, sym, ap, ◌∙◌, if◌then◌else◌}
+use Rattle.std.specs.List.{list_all}
 use Rattle.std.proofs.lemmas.Bool.{and_parts, eq-eqb, eqb-true}
 use Rattle.sd_types.specs.declared.numbers.ChanId.{ChanId}
 use Rattle.sd_types.specs.declared.numbers.CpuId.{CpuId}
@@ -18,11 +18,8 @@ use Rattle.sd_machine.specs.Dispatching.{search_event}
 use Rattle.sd_machine.specs.Events.{allowed, next, plan_event, plan_reads, reads}
 use Rattle.sd_machine.specs.Needs.{CanCount}
 use Rattle.sd_machine.specs.Plans.{plan}
-use Rattle.sd_machine.specs.Threads.{open_of}
 use Rattle.sd_machine.specs.Runs.{made, serial_hints, shown, turn}
-use Rattle.sd_rules.proofs.PartitionLemmas.{names-from_Contains}
 use Rattle.sd_invariants.proofs.Whole.{fit_reached}
-use Rattle.sd_invariants.proofs.Places.{inside_reached}
 use Rattle.sd_steps.proofs.EnteringLemmas.{serial_event}
 use Rattle.sd_hand.specs.Acting.{IsShown}
 use Rattle.sd_world.specs.declared.plain.PlainWorld.{PlainWorld}
@@ -93,9 +90,3 @@ some_read s (d ∷ ds) h w e z = (λ j. Some (record { which = (sym w) j; number
 -- the turn, with the numbers that are read for it
 pub with_serial : (w : Work) (s : State) (n : ℕ) (c : CpuId) (hints : Option Hints) → hints ≡ serial_hints w s c → made n c hints (next w s c hints) ≡ turn w s n c
 with_serial w s n c hints e = ap (λ h. made n c h (next w s c h)) e
-
--- the open processors of a set are there
-pub open_there : (w : Work) (x : PlainWorld) (p : ℕ) (cpus : List CpuId) → Stands w x → cpus ≡ open_of (told w x) p → (d : CpuId) → Contains cpus d → d.0 < w.cpus
-open_there w x p cpus st is d has =
-    let inside = inside_reached w (length x.entries.items) (told w x) (P.reached w x st) in
-    (inside.opened.member p d.0 (names-from_Contains d (open_of (told w x) p) (subst (λ cs. Contains cs d) is has))).0

@@ -193,46 +193,11 @@ module _ (w : Work) (s : State) (c : CpuId) (d : Duty) where
   unfolding set_duty
   touched_left (Tick t) = ap (λ (ps : List Part). actor_part c ∷ (thread_part t ∷ ps)) (ready_left c)
   touched_left (Spin t l) = ap (λ (ps : List Part). actor_part c ∷ (thread_part t ∷ ps)) (ready_left c)
-  touched_left Idle = refl
-  touched_left (Dispatch t p) = refl
-  touched_left (Steal v t p) = refl
-  touched_left (Preempt t end) = refl
-  touched_left (Away t f) = refl
-  touched_left (Yield t) = refl
-  touched_left (Done t) = refl
-  touched_left (Nap t) = refl
-  touched_left (Napend t at) = refl
-  touched_left (Sleep t k) = refl
-  touched_left (Wake t k u) = refl
-  touched_left (Wakeall t k) = refl
-  touched_left (Rouse k u) = refl
-  touched_left (Enter t l) = refl
-  touched_left (Read t l) = refl
-  touched_left (Write t l) = refl
-  touched_left (Block t l) = refl
   touched_left (Will l o p at) = ap (λ (ps : List Part). actor_part c ∷ (chain_part l ∷ ps)) (reordered_left o at (thread_of s o.0).place)
-  touched_left (End l) = refl
   touched_left (Exit t l) = ap (λ (ps : List Part). actor_part c ∷ (chain_part l ∷ (thread_part t ∷ ps))) (ready_left c)
-  touched_left (Unblock l u at) = refl
-  touched_left (Grant l u at) = refl
-  touched_left (Passed l) = refl
-  touched_left (Age t p) = refl
   touched_left (Prio t u (Changed p at)) = ap (λ (ps : List Part). thread_part t ∷ (actor_part c ∷ (thread_part u ∷ ps))) (reordered_left u at (thread_of s u.0).place)
-  touched_left (Prio t u (Refused denied)) = refl
-  touched_left (CvWait t k l) = refl
-  touched_left (SemaP t k) = refl
-  touched_left (SemaWait t k) = refl
-  touched_left (SemaVWake t k u at) = refl
-  touched_left (SemaVCount t k m) = refl
   touched_left (Assign t f to answer) = ap (λ (ps : List Part). thread_part t ∷ ps) (ready_left f)
-  touched_left (Move t at) = refl
-  touched_left (Joined to) = refl
-  touched_left (Bind t u None (bind.Changed at)) = refl
-  touched_left (Bind t u (Some f) (bind.Changed at)) = refl
-  touched_left (Bind t u f bind.ESRCH) = refl
-  touched_left (Bind t u f bind.EINVAL) = refl
-  touched_left (Bind t u f bind.EPERM) = refl
-  touched_left (Bind t u f bind.EBUSY) = refl
+  touched_left _ = refl
 
 -- with the ageing dropped that is over
 pub needs_dropped : (w : Work) (s : State) (c : CpuId) (e : Event) → Needs w s c e → Needs w (drop_ageing s c.0 e) c e

@@ -5,12 +5,12 @@ ghost use Rattle.sd_types.specs.declared.numbers.ChanId.{ChanId as ChanIdOf};
 ghost use Rattle.sd_machine.specs.declared.plans.Plan.TheVariants.{Place};
 ghost use Rattle.sd_machine.specs.Choosing.{neighbours, put_chosen, read_of, reads_for, victim_for};
 ghost use Rattle.sd_machine.specs.Dispatching.{search_event};
-ghost use Rattle.sd_machine.specs.Events.{allowed, event_of, hints_fit, next, placed_thread, plan_event, plan_reads, reads, wish};
+ghost use Rattle.sd_machine.specs.Events.{allowed, event_of, hints_fit, next, placed_thread, plan_event, plan_reads, reads};
 ghost use Rattle.sd_machine.specs.Needs.{CanCount};
 ghost use Rattle.sd_state.specs.declared.states.State.{State};
 ghost use Rattle.sd_dispatcher.specs.Reading.{parts};
 ghost use Rattle.sd_dispatcher.specs.Touched.{victim_parts};
-ghost use Rattle.sd_step.specs.Needed.{choice_parts, needed, next_parts, read_parts, reads_parts, turn_parts};
+ghost use Rattle.sd_step.specs.Needed.{choice_parts, next_parts, read_parts, reads_parts, turn_parts};
 ghost use Rattle.sd_store.specs.Parts.{ready_parts};
 ghost use Rattle.sd_store.specs.Words.{Lacks, LacksIf, Tells, TellsIf};
 
@@ -142,17 +142,6 @@ pub fn plan_event<L: Look>(
         Plan::Place(placement, p) => place_event(work, x, c, hints, placement, p),
         Plan::Search => searched(x, c, hints),
     }
-}
-
-/// The one event that the order of its events gives to processor `c`, whether or not it may tick now, where it has read
-/// these numbers: exactly those that it reads in this state.
-#[tactic(auto, using(sd_store::proofs::Among::among_left, sd_store::proofs::Among::among_right), unfolding(sd_machine::specs::Events::wish, sd_machine::specs::Events::reads))]
-pub fn wish<L: Look>(work: &Work, x: &L, c: CpuId, hints: &Option<Hints>) -> Result<Event, L::Lack>
-    ensures value { TellsIf (L.shows x.now) result (λ s. ((k : ChanIdOf) → CanCount s k) × (hints_fit (reads work.now s c.0) hints.now ≡ true)) (λ s. wish work.now s c.0 hints.now) }
-    ensures lack { LacksIf L.part (L.shows x.now) (L.has x.now) result (λ s. ((k : ChanIdOf) → CanCount s k) × (hints_fit (reads work.now s c.0) hints.now ≡ true)) (λ s. needed work.now s c hints.now) }
-{
-    let plan = plan(work, x, c)?;
-    plan_event(work, x, c, hints, plan)
 }
 
 /// An event that processor `c` may make now: it may tick, where the event ticks.

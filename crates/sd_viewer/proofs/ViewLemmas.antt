@@ -22,7 +22,7 @@ use Rattle.sd_viewer.specs.declared.forms.Request.TheVariants.{Help, Draw}
 use Rattle.sd_viewer.specs.Forms.{request_of}
 use Rattle.sd_viewer.proofs.ClosingLemmas.{left-ends}
 use Rattle.sd_viewer.specs.Promises.{Helps, ShowsAsPromised}
-use Rattle.sd_viewer.specs.Viewing.{IsDrawnInput, IsDrawing, Draws, CausedByView, CausedByHelp, CausedBy, answer_line, help_text, viewed_answer, viewed_line}
+use Rattle.sd_viewer.specs.Viewing.{IsDrawnInput, IsDrawing, Draws, CausedByView, CausedByHelp, CausedBy, answer_line, viewed_answer, viewed_line}
 
 -- ---- the answer to a drawing
 
@@ -123,12 +123,6 @@ module _ (d : Drawing) (input out : StreamChange) (line : List ℕ) where
   refuses_faulty_view a c = refuses_faulty_of (IsDrawnInput d input) (λ text. text) input out held a (cause_of a c)
 
 -- ---- the forms
-
--- they were not written whole
-pub unwritten_help : (out : StreamChange) (e : Unwritten) → Puts out.before out.after out.faults_before out.faults_after help_text (Err e)
-    → (e ≡ unwritten.Memory → ⊥) → CausedByHelp out WriteFault
-unwritten_help out unwritten.Fault p none = (p.part, p.fault refl)
-unwritten_help out unwritten.Memory p none = absurd (none refl)
 
 helps_of : (input out : StreamChange) (a : Answer) → CausedByHelp out a → IsUntouched input → Helps input out (status_of a)
 helps_of input out Done c kept = (kept, inl (refl, c.0))

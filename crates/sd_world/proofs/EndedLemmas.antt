@@ -1,5 +1,5 @@
 -- Those who stand in the list of the ended threads of a processor have ended, and what is told of them is so.
-use Rattle.std.proofs.Common.{◌≡◌, ℕ, zero, suc, List, [], ◌∷◌, ◌++◌, ◌⊎◌, inl, inr, Option, Some, None, refl, sym, ap, ◌∙◌, slice_get, slice_set, slice_index_or, subst, length, IfSome, ◌<◌}
+use Rattle.std.proofs.Common.{◌≡◌, ℕ, zero, suc, List, [], ◌∷◌, ◌⊎◌, inl, inr, Option, Some, None, refl, sym, ap, ◌∙◌, slice_get, slice_set, slice_index_or, subst, length, IfSome, ◌<◌}
 use Rattle.std.proofs.lemmas.Option.{get_or_from_slice_get, slice_get-get_or}
 use Rattle.sd_types.specs.declared.numbers.CpuId.{CpuId}
 use Rattle.sd_types.specs.declared.numbers.HomeId.TheVariants as home
@@ -92,13 +92,3 @@ pub told_of : (xs : List (Option ThreadState)) (t : ℕ) (o : Option ThreadState
     → (s : State) → AreTold s xs → IfSome o (λ x. x ≡ thread_of s t)
 told_of xs t None is s told = tt
 told_of xs t (Some x) is s told = is s told
-
--- nobody is told yet
-pub one_untold : (s : State) (xs : List (Option ThreadState)) → AreTold s xs → AreTold s (xs ++ (None ∷ []))
-one_untold s xs told u x e = told u x (before xs u x e)
-  where
-    before : (ys : List (Option ThreadState)) (v : ℕ) (z : ThreadState) → slice_get (ys ++ (None ∷ [])) v ≡ Some (Some z) → slice_get ys v ≡ Some (Some z)
-    before [] zero z f = absurd cc
-    before [] (suc v) z f = absurd cc
-    before (y ∷ ys) zero z f = f
-    before (y ∷ ys) (suc v) z f = before ys v z f

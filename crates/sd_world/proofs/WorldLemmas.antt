@@ -1,5 +1,5 @@
 -- A run on homes as a world that nobody shares.
-use Rattle.std.proofs.Common.{◌≡◌, ℕ, ◌+◌, ◌-◌, ◌^◌, ◌<◌, ◌≤◌, Bool, true, false, List, [], ◌∷◌, ◌++◌, length, map, get_or, min, MatchOption, Option, Some, None, refl, sym, ap, ◌∙◌, subst, inl, inr, arith, append_assoc}
+use Rattle.std.proofs.Common.{◌≡◌, ◌+◌, ◌-◌, ◌<◌, ◌≤◌, true, List, [], ◌∷◌, ◌++◌, length, map, get_or, MatchOption, Option, Some, None, refl, sym, ap, ◌∙◌, subst, arith, append_assoc}
 use Rattle.std.specs.Prelude.{nat_le}
 use Rattle.std.proofs.lemmas.Bool.{eq-eqb}
 use Rattle.std.proofs.lemmas.Bool.Decides.{nat_tests}
@@ -89,13 +89,6 @@ all_hinted x kind (c ∷ cs) = (eq-eqb (hint_shown (told x.work.now x) kind c) (
 -- the same but for its notes
 stays_noted : (x y : PlainWorld) → y ≡ record x { reads = y.reads; last = y.last } → Stays (plain_meaning x) (plain_meaning y)
 stays_noted x y e = subst (λ z. Stays (plain_meaning x) (plain_meaning z)) (sym e) (record { table = refl; work = refl; alone = refl; all = refl; actor = refl; log = refl; begins = begins_same x.entries.items; still = λ t. refl; hinted = λ c which n h. h; counted = λ c n h. h })
-
-pub at_most : (a b : ℕ) → a < 2 ^ 64 → b ≡ min (a + 1) (2 ^ 64 - 1) → Rises a b
-at_most a b fits e = by (nat_le (a + 1) (2 ^ 64 - 1)) refl
-  where
-    by : (d : Bool) → nat_le (a + 1) (2 ^ 64 - 1) ≡ d → Rises a b
-    by true t = (let z : a < b = grind (arith, nat_tests) in let le : a ≤ b = omega (arith, z) in (le, inl z))
-    by false t = (let z : b ≡ 2 ^ 64 - 1 = grind (arith, nat_tests) in let le : a ≤ b = omega (arith, z, fits) in (le, inr z))
 
 pub reads_counts : (x y : PlainWorld) → y ≡ record x { reads = y.reads; last = y.last } → Rises x.reads y.reads → ReadsCounts (plain_meaning x) (plain_meaning y)
 reads_counts x y e rises = record { stays = stays_noted x y e; stops = refl; reads = rises.0; acting = ap (λ (z : PlainWorld). z.acting) e }

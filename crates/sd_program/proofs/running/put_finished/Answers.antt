@@ -1,13 +1,8 @@
-use Rattle.std.proofs.Common.{◌≡◌, ◌≢◌, List, ℕ, [], ◌∷◌, Err, refl, sym, ap, subst, ◌∙◌}
+use Rattle.std.proofs.Common.{◌≡◌, ◌≢◌, List, ℕ, [], ◌∷◌, Err, refl, sym, subst, ◌∙◌}
 use Rattle.std.proofs.lemmas.Bool.{false≢true}
-use Rattle.sd_types.specs.declared.events.Entry.{Entry}
 use Rattle.sd_state.specs.declared.states.State.{State}
-use Rattle.sd_state.specs.Opening.{opening}
 use Rattle.sd_machine.specs.LockGraph.{cycles_of}
-use Rattle.sd_machine.specs.Runs.{final}
 use Rattle.sd_answers.specs.Answers.{unwritten_answer}
-use Rattle.sd_program.specs.Forms.{mode_of}
-use Rattle.sd_program.specs.TheRun.{IsTheRun}
 use Rattle.sd_answers.specs.StreamChanges.{change_of}
 use Rattle.sd_program.proofs.TopLemmas.{unwritten_of, ran_exit}
 use Rattle.sd_program.proofs.TheRun.{is_open}

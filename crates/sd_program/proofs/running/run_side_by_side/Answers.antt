@@ -1,9 +1,5 @@
-use Rattle.std.proofs.Common.{length, sym, subst}
-use Rattle.std.specs.List.{All}
-use Rattle.sd_types.specs.declared.events.Entry.{Entry}
-use Rattle.std.proofs.Common.{List}
+use Rattle.std.proofs.Common.{subst}
 use Rattle.sd_machine.specs.Runs.{IsComplete}
-use Rattle.sd_program.specs.Certified.{HasBytes}
 use Rattle.sd_program.specs.declared.forms.Mode.TheVariants.{Threads}
 use Rattle.sd_program.proofs.TheRun.{is_the_run}
 use Rattle.sd_program.proofs.running.run_side_by_side.Goals as goal
