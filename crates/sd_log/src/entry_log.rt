@@ -59,7 +59,7 @@ impl EntryLog {
         self.short.len()
     }
 
-    /// Makes room for one entry more. `Err` only where memory runs out, or where the numbers that were read take 2^32 bytes.
+    /// Makes room for one entry more. `Err` only where memory runs out, or where fewer than 64 of 2^32 bytes are left for numbers.
     pub fn reserve(&mut self) -> Result<(), AllocError>
         ensures same { self.new.items ≡ self.old.items }
         ensures room { OnOk result (0 < self.new.room) }
