@@ -41,10 +41,6 @@ module _ (g : Graph) (first : ℕ) where
     unfolding lap
     lap_out e = sym (ap (λ n. option_map (λ ts. xs ++ ts) (lap g first n t)) e) ∙ so_far
 
-pub none_passed : (o : Option (List ℕ)) → option_map (λ ts. [] ++ ts) o ≡ o
-none_passed None = refl
-none_passed (Some ts) = refl
-
 pub cycles_more : (g : Graph) (count k : ℕ) → cycles_below g count (k + 1) ≡ cycles_below g count k ++ none_or_one (lap g k count k)
 unfolding cycles_below
 cycles_more g count k = ap (cycles_below g count) (let e : k + 1 ≡ suc k = omega arith in e)

@@ -89,11 +89,6 @@ module _ (text : List ℕ) (from end : ℕ) (r : HasPassed text from) (within : 
     parts = its_parts (eq-or-lt_of_le inside);
   }
 
--- no line was the word, up to the end
-pub none_passed : (text : List ℕ) (from : ℕ) → HasPassed text from → lines_of (drop from text) ≡ [] → HasNoJournal text
-none_passed text from r ended =
-    subst (λ (ls : List (List ℕ)). All IsOther ls) (sym (r.told ∙ ap (λ (ls : List (List ℕ)). r.lines ++ ls) ended ∙ append-nil r.lines)) r.none
-
 -- ---- a text is cut in one way
 
 only_line : lines_of (codes "journal") ≡ codes "journal" ∷ []

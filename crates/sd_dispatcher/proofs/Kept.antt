@@ -7,13 +7,11 @@ use Rattle.sd_types.specs.declared.classes.ClassState.{ClassState}
 use Rattle.sd_types.specs.declared.events.Put.{Put}
 use Rattle.sd_types.specs.declared.works.Work.{Work}
 use Rattle.sd_state.specs.declared.states.CpuState.{CpuState}
-use Rattle.sd_state.specs.declared.states.Place.{Place}
 use Rattle.sd_state.specs.declared.states.State.{State}
 use Rattle.sd_state.specs.declared.states.ThreadState.{ThreadState}
 use Rattle.sd_state.specs.States.{thread_of, cpu_of, no_thread, with_cpu, with_thread}
 use Rattle.sd_state.specs.Operations.{script_of}
-use Rattle.sd_machine.specs.Bodies.{departed}
-use Rattle.sd_machine.specs.Changes.{cpu_put, leave, mark_over, place_put, priority_or_zero, put, put_where, remark, rivals, runs_below, set_class, set_mark, with_place}
+use Rattle.sd_machine.specs.Changes.{cpu_put, mark_over, place_put, priority_or_zero, put, put_where, remark, rivals, runs_below, set_class, set_mark, with_place}
 use Rattle.sd_machine.specs.Threads.{best_ready, eff_of, priority_of, runner}
 
 -- One thread, one processor.
@@ -72,13 +70,6 @@ remark_threads s c = by (rivals (priority_of s (best_ready s c)) (priority_of s 
 -- each thread stands at the same operation
 abbrev pub Keeps : State → State → Type 0
 Keeps s r = (t : ℕ) → (thread_of r t).body.op ≡ (thread_of s t).body.op
-
--- a thread that leaves its processor stands at its operation
-pub left_inside : (w : Work) (s : State) (c u t : ℕ) (place : Place) → (thread_of s t).body.op < length (script_of w t)
-    → (thread_of (leave s c u place) t).body.op < length (script_of w t)
-unfolding leave
-left_inside w s c u t place here =
-    inside w s (leave s c u place) t (kept_op s u t (record { body = departed (cpu_of s c).count (thread_of s u).body; place = place }) refl) here
 
 pub class_op : (s : State) (u : ℕ) (class : ClassState) → Keeps s (set_class s u class)
 unfolding set_class

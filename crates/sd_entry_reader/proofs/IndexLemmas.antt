@@ -4,7 +4,7 @@ use Rattle.std.specs.Prelude.{unwrap_or}
 use Rattle.std.specs.List.{position_or_len, list_any}
 use Rattle.std.proofs.lemmas.Bool.Decides.{nat_tests}
 use Rattle.std.proofs.lemmas.Bool.{or_parts, and_parts, not-true}
-use Rattle.std.proofs.lemmas.List.{drop_more, map-append, take-append-drop, take_more}
+use Rattle.std.proofs.lemmas.List.{drop_more, map-append, take-append-drop}
 use Rattle.std.proofs.lemmas.List.Folds.{list_any-append}
 use Rattle.std.proofs.lemmas.List.Sums.{prefix_len-le-length}
 use Rattle.sd_types.specs.Works.{is_distinct, same_bytes}
@@ -52,8 +52,3 @@ module _ {X : Type 0} (name : X → List ℕ) (xs : List X) (i : ℕ) (x : X) (i
   name-new h =
       distinct-before same_bytes (map name (take i xs)) (name x) (map name (drop (i + 1) xs))
       (sym (ap (is_distinct same_bytes) split-named) ∙ h)
-
-  pub named-more : map name (take (i + 1) xs) ≡ map name (take i xs) ++ name x ∷ []
-  named-more =
-      ap (map name) (take_more xs i x inside ∙ ap (λ y. take i xs ++ y ∷ []) (sym is))
-      ∙ map-append name (take i xs) (x ∷ [])

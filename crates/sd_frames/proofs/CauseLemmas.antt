@@ -234,9 +234,6 @@ module _ (w : Work) (s : State) (c : ℕ) (h : Option Hints) where
 
   -- 5. No thread runs.
 
-  idle_caused : IsOpenIdle s c → best_ready s c ≡ None → (e : Event) → e ≡ event.Idle → (ticks e ≡ true → may_tick w s c ≡ true) → IsCause w s c e
-  idle_caused idle none e is m = subst (λ x. IsCause w s c x) (sym is) (idle, none, m (ap ticks is))
-
   steal_caused : IsOpenIdle s c → best_ready s c ≡ None → (v : CpuId) → Contains (neighbours s c) v → (o : Option ℕ) → best_unbound s v.0 ≡ o
       → (ticks (steal_event s v o) ≡ true → may_tick w s c ≡ true) → IsCause w s c (steal_event s v o)
   steal_caused idle none v near None e m = (idle, none, m refl)

@@ -482,10 +482,6 @@ granted_stepped : (w : Work) (s : State) (n : ℕ) (c : CpuId) (l : LockId) (u :
 granted_stepped w s n c l u at (duty.GrantWriter m) here = goes s _ u _ (granted_to_writer_moved w s n c l u at here)
 granted_stepped w s n c l u at _ here = goes s _ u _ (granted_to_reader_moved w s n l u at here)
 
--- a request whose operation is there
-abbrev pub IsAsked : Work → State → ℕ → Type 0
-IsAsked w s t = (u : ThreadId) × (r : Request) × (op_of w t (thread_of s t).body ≡ Some (op.Prio u r))
-
 reprioritised_stepped : (w : Work) (s : State) (n : ℕ) (c : CpuId) (t : ℕ) (u v : ThreadId) (r : Request) (answer : PrioAnswer) → op_of w t (thread_of s t).body ≡ Some (op.Prio v r)
     → ((p : ℕ) (at : Option Put) → answer ≡ Changed p at → (parms : ClassParms) × (answer_to w s t u.0 r ≡ Ok parms))
     → IsMoverThere s (prio_step w s n u answer) → Stepped (prio_step w s n u answer) s (reprioritised w s n c t u answer)

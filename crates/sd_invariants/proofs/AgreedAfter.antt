@@ -80,11 +80,6 @@ put_passes s r c d is = (λ e other. ap pass_of (is.put.others e other), ap pass
 duty_kept : (s r : State) → T.Duties s r → C.Kept pass_part s r
 duty_kept s r a = record { each = λ d. ap pass_of (a.each d) }
 
--- a dropped ageing leaves the locks, and every duty that is not ageing
-drop_locks : (s : State) (c : ℕ) (e : Event) → (drop_ageing s c e).locks ≡ s.locks
-unfolding drop_ageing set_duty
-drop_locks s c e = refl
-
 -- A lock that is not free is there.
 pub lock_inside : (s : State) (l : ℕ) → lock_of s l ≢ Free → l < length s.locks
 lock_inside s l busy = elim (cases_lt l (length s.locks)) [ inl h ↦ h | inr past ↦ absurd (busy (gone s.locks l past)) ]
@@ -311,9 +306,6 @@ module _ (w : Work) (s : State) (n : ℕ) (c : CpuId) (ready : IsReady w s) (c_i
   -- the duty that is no ageing is still there, and what it passes on
   passes0 : (e : Event) (d : Duty) → (cpu_of s c.0).duty ≡ d → dropped_duty e d ≡ d → (cpu_of (drop_ageing s c.0 e) c.0).duty ≡ d
   passes0 e d is same = (drop_duties s c.0 e (ap (λ x. dropped_duty e x) is ∙ same ∙ sym is)).each c.0 ∙ is
-
-  same_locks0 : (e : Event) → (drop_ageing s c.0 e).locks ≡ s.locks
-  same_locks0 e = drop_locks s c.0 e
 
   -- who is on its way from a waiter's place waits no more
   pub unblock_agreed : (l : LockId) (u : ThreadId) (at : Put) → (cpu_of s c.0).duty ≡ duty.WakeMutex l → u.0 < length s.threads

@@ -262,27 +262,6 @@ module _ (s r : State) (l : LockId) (c t : ℕ) (x : LockState) (agreed : Agreed
       still = λ d q other is on. absurd (no_other d q other is on);
     })
 
-    -- c goes on to pass it on, alone or not
-    pub agreed_passed_on : Same held_part s r → ((d : ℕ) → d ≢ c → (table r).passes d ≡ (table s).passes d) → (q : H.Pass) → (table r).passes c ≡ Some q → q.lock ≡ l.0 → (q.alone ≡ true → k ≡ 0)
-        → lock_state x ≡ H.Lock.Passing c k → Agreed r
-    agreed_passed_on held others q now on alone same = finish (record {
-      t_in = inside;
-      locks = λ m other. ap lock_state (at.locks.others m other);
-      holds = λ u m apart. same_holds held u m;
-      held = stays (same_holds held t l.0) (ap H.holders_of (lock_here ∙ same ∙ sym was_passing));
-      waits = at.waits;
-      owner = λ u is. let bad : H.Lock.Passing c k ≡ H.Lock.Owned u = sym same ∙ sym lock_here ∙ is in cc;
-      free = λ u is waits. let bad : H.Lock.Passing c k ≡ H.Lock.Free = sym same ∙ sym lock_here ∙ is in cc;
-      passes = others;
-      passed = one_pass;
-      now = λ z is. let one : q ≡ z = some_is q z (sym now ∙ is) in (ap (λ (y : H.Pass). y.lock) (sym one) ∙ on, (k, lock_here ∙ same, λ e. alone (ap (λ (y : H.Pass). y.alone) one ∙ e)));
-      by = λ d j is.
-          let both : H.Lock.Passing c k ≡ H.Lock.Passing d j = sym same ∙ sym lock_here ∙ is in
-          let who : c ≡ d = cc in
-          subst (λ v. (z : H.Pass) × ((table r).passes v ≡ Some z) × (z.lock ≡ l.0)) who (q, now, on);
-      still = λ d z other is at'. absurd (no_other d z other is at');
-    })
-
     -- t is given the lock as its owner
     pub agreed_owned : k ≡ 0 → Goes held_part s r t ((thread_of s t).body.held.items ++ l ∷ []) → ((d : ℕ) → d ≢ c → (table r).passes d ≡ (table s).passes d) → (table r).passes c ≡ None
         → (table s).holds t l.0 ≡ false → lock_state x ≡ H.Lock.Owned t → Agreed r

@@ -339,9 +339,6 @@ set_kernel_mark_alike s c busy = marked_alike s c (record (cpu_of s c) { kernel 
 pub busy_by : (s : State) (c r : ℕ) → runner s c ≡ Some r → IsBusy s c
 busy_by s c r e = record { who = r; runs = (runner_found s c r e).stands }
 
-none_below : (s : State) (m : ℕ) → runs_below m (priority_of s None) ≡ true → ⊥
-none_below s m e = cc
-
 pub mark_over_alike : (s : State) (x m : ℕ) → Alike s (mark_over s x m)
 unfolding mark_over
 mark_over_alike s x m = by (runner s x) refl

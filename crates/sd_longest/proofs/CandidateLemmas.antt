@@ -15,17 +15,11 @@ use Rattle.sd_longest.proofs.LabelLemmas.{open_there}
 use Rattle.sd_longest.proofs.ListLemmas.{one_more, one_there}
 
 module _ (rows : List (List Edge)) (labels : List (Option Label)) where
-  pub none_best : IsBestBelow rows labels 0 None
-  none_best = record { is = tt; each = λ i l e few. absurd (omega (arith, few)) }
-
   -- the best of the states before, and of the first q edges of a row
   pub record IsBestAlong (i : ℕ) (label : Label) (row : List Edge) (q : ℕ) (best : Option Candidate) : Type 0 where
     pub is : IsCandidateIf rows labels best
     pub before : (j : ℕ) (l : Label) (e : Edge) → j < i → IsLabelled labels j l → IsEdge rows j e → e.effect ≡ Ends → HasTicks best (e.tick - l.since)
     pub here : (p : ℕ) (e : Edge) → p < q → slice_get row p ≡ Some e → e.effect ≡ Ends → HasTicks best (e.tick - label.since)
-
-  pub along_first : (i : ℕ) (label : Label) (row : List Edge) (best : Option Candidate) → IsBestBelow rows labels i best → IsBestAlong i label row 0 best
-  along_first i label row best b = record { is = b.is; before = b.each; here = λ p e few. absurd (omega (arith, few)) }
 
   module _ (i : ℕ) (label : Label) (row : List Edge) (q : ℕ) (e : Edge) (row_at : slice_get rows i ≡ Some row) (at : slice_get row q ≡ Some e) (labelled : IsLabelled labels i label) where
     stays : (old new : Option Candidate) → new ≡ old → (e.effect ≡ Ends → ⊥) → IsBestAlong i label row q old → IsBestAlong i label row (q + 1) new
@@ -71,21 +65,6 @@ module _ (rows : List (List Edge)) (labels : List (Option Label)) where
           let is : label ≡ l = same_Some label l (one_there labels i j (Some label) (Some l) same labelled own) in
           let within = slice_get_within row at.place e there in
           subst (λ (x : Label). HasTicks best (e.tick - x.since)) is (b.here at.place e (omega (arith, within, all)) there ends)
-
-  -- a state with no label has no candidate
-  pub none_there : (i : ℕ) (best : Option Candidate) → slice_get labels i ≡ Some None → IsBestBelow rows labels i best → IsBestBelow rows labels (i + 1) best
-  none_there i best free b = record { is = b.is; each = λ j l e few own at ends. by j l e few own at ends (cases_lt j i) }
-    where
-      by : (j : ℕ) (l : Label) (e : Edge) → j < i + 1 → IsLabelled labels j l → IsEdge rows j e → e.effect ≡ Ends → (j < i) ⊎ (i ≤ j) → HasTicks best (e.tick - l.since)
-      by j l e few own at ends (inl less) = b.each j l e less own at ends
-      by j l e few own at ends (inr past) =
-          absurd (let other : None ≡ Some l = one_there labels i j None (Some l) (omega (arith, few, past)) free own in cc)
-
-  pub best_last : (n : ℕ) (best : Option Candidate) → length rows ≤ n → IsBestBelow rows labels n best → IsBestOf rows labels best
-  best_last n best all b = record {
-    is = b.is;
-    each = λ i l e own at ends. b.each i l e (let within = slice_get_within rows i at.row at.row_at in omega (arith, within, all)) own at ends;
-  }
 
   -- a wait has no more ticks than the best candidate
   pub no_longer : (best : Option Candidate) → IsLabelling rows labels → IsBestOf rows labels best → (i : ℕ) (a : Edge) (bs : List Edge) (c : Edge) → IsWait rows i a bs c → HasTicks best (c.tick - a.tick)

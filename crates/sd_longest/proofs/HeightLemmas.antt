@@ -12,9 +12,6 @@ pub record IsHeightSoFar (hs : List ℕ) (row : List Edge) (n k : ℕ) : Type 0 
   pub made : (k ≡ 0) ⊎ ((place : ℕ) × (e : Edge) × (slice_get row place ≡ Some e) × (k ≡ slice_index hs e.to + 1))
 
 module _ (hs : List ℕ) (row : List Edge) where
-  pub none_yet : IsHeightSoFar hs row 0 0
-  none_yet = record { above = λ place e less at. absurd (omega (arith, less)); made = inl (omega arith) }
-
   pub one_more : (n k m : ℕ) (e : Edge) → slice_get row n ≡ Some e → k ≤ m → slice_index hs e.to + 1 ≤ m → (m ≡ k) ⊎ (m ≡ slice_index hs e.to + 1)
       → IsHeightSoFar hs row n k → IsHeightSoFar hs row (n + 1) m
   one_more n k m e at least over one so_far = record { above = λ place f less there. by place f less there (cases_lt place n); made = made one so_far.made }

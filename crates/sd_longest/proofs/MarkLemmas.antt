@@ -37,9 +37,6 @@ sourced_kept rows old new kept i l (inr p) = inr (record {
   steps = p.steps;
 })
 
-pub keeps_all : (m : Marking) → Keeps m m
-keeps_all m = record { labels = λ i l at. at; order = λ p i at. at }
-
 pub keeps_twice : (a b c : Marking) → Keeps a b → Keeps b c → Keeps a c
 keeps_twice a b c x y = record { labels = λ i l at. y.labels i l (x.labels i l at); order = λ p i at. y.order p i (x.order p i at) }
 
@@ -210,9 +207,6 @@ module _ (rows : List (List Edge)) (k i : ℕ) (label : Label) (row : List Edge)
     pub done : new.done ≡ old.done
     pub own : IsLabelled new.labels.items i label
     pub here : (p : ℕ) (e : Edge) → p < q → slice_get row p ≡ Some e → HasPassed new.labels.items label e
-
-  pub expanding_first : (m : Marking) → IsMarking rows k m → IsLabelled m.labels.items i label → IsExpanding 0 m m
-  expanding_first m marking own = record { marking = marking; kept = keeps_all m; done = refl; own = own; here = λ p e few. absurd (omega (arith, few)) }
 
   -- the label has tick k
   pub since_there : (q : ℕ) (old now : Marking) → slice_get old.order.items old.done ≡ Some i → IsExpanding q old now → label.since ≡ k

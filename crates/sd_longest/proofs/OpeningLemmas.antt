@@ -15,20 +15,11 @@ use Rattle.sd_longest.specs.Openings.{AreOpenings, AreOpeningsBelow, HasMore, Is
 use Rattle.sd_longest.proofs.ListLemmas.{one_more, one_there}
 
 module _ (rows : List (List Edge)) where
-  pub none_below : (found : List Opening) → found ≡ [] → AreOpeningsBelow rows 0 found
-  none_below found none = record {
-    are = λ o there. absurd (let many = ap length none in let few = there.1 in omega (arith, many, few));
-    all = λ o few is. absurd (omega (arith, few));
-  }
-
   -- those from the states before, and those of the first q edges of a row
   pub record AreAlong (from : ℕ) (row : List Edge) (q : ℕ) (found : List Opening) : Type 0 where
     pub are : (o : Opening) → Contains found o → IsOpening rows o
     pub before : (o : Opening) → o.from < from → IsOpening rows o → Contains found o
     pub here : (p : ℕ) (e : Edge) → p < q → slice_get row p ≡ Some e → e.effect ≡ Opens → Contains found (record { from = from; edge = e })
-
-  pub along_first : (from : ℕ) (row : List Edge) (found : List Opening) → AreOpeningsBelow rows from found → AreAlong from row 0 found
-  along_first from row found a = record { are = a.are; before = a.all; here = λ p e few. absurd (omega (arith, few)) }
 
   module _ (from : ℕ) (row : List Edge) (q : ℕ) (e : Edge) (row_at : slice_get rows from ≡ Some row) (at : slice_get row q ≡ Some e) where
     stays : (old new : List Opening) → new ≡ old → (e.effect ≡ Opens → ⊥) → AreAlong from row q old → AreAlong from row (q + 1) new

@@ -1,7 +1,7 @@
 -- Chains of one graph.
-use Rattle.std.proofs.Common.{◌≡◌, ℕ, Option, Some, None, ℤ, refl, sym, ap, ◌∙◌, subst, arith}
+use Rattle.std.proofs.Common.{◌≡◌, ℕ, Some, ℤ, refl, sym, ap, ◌∙◌, subst}
 use Rattle.std.specs.Prelude.{◌≤ℤ◌}
-use Rattle.sd_machine.specs.Graphs.{Wait, Graph, IsAhead, IsBehind, InCycle, Reaches, IsGreatest, IsExact, IsChainMax}
+use Rattle.sd_machine.specs.Graphs.{Wait, Graph, IsAhead, IsBehind, InCycle, Reaches}
 use Rattle.sd_machine.specs.Graphs.IsBehind.{near, far}
 use Rattle.sd_machine.specs.Graphs.Reaches.{here, on}
 
@@ -41,13 +41,3 @@ reaches_on g k l s o w (on v is le ahead r) own waits less = on v is le ahead (r
 pub reaches_behind : (g : Graph) (k : ℤ) (l s o : ℕ) → Reaches g k l s → g.owner l ≡ Some o → IsBehind g o s
 reaches_behind g k l s o (here v is le at) own = near (v, is, ap g.owner at ∙ own)
 reaches_behind g k l s o (on v is le ahead r) own = far (v, is, ahead) (reaches_behind g k l _ o r own)
-
--- The numbers are determined.
-
-pub greatest_one : (g : Graph) (l n m : ℕ) → IsGreatest g l n → IsGreatest g l m → n ≡ m
-greatest_one g l n m a b =
-    let up = b.most a.got.0 a.got.1 in
-    let down = a.most b.got.0 b.got.1 in
-    let e = a.got.2 in
-    let f = b.got.2 in
-    omega arith

@@ -62,22 +62,6 @@ module _ (w : Work) where
       (subst (λ (t : List Entry). round w (final w s t) (n + length t) cs ≡ []) none rest)))
       k (omega arith)
 
-  -- the number at which a round begins does not matter for whether it is empty
-  pub empty_anywhere : (s : State) (n m : ℕ) (cs : List CpuId) → round w s n cs ≡ [] → round w s m cs ≡ []
-  unfolding round
-  empty_anywhere s n m [] e = refl
-  empty_anywhere s n m (c ∷ cs) e =
-      let none = no_turn s n c (serial_hints w s c) (next w s c (serial_hints w s c)) refl (nil_left (turn w s n c) _ e) in
-      let here : turn w s m c ≡ [] = ap (λ (o : Option Event). made m c (serial_hints w s c) o) none in
-      let there : turn w s n c ≡ [] = nil_left (turn w s n c) _ e in
-      let rest : round w s n cs ≡ [] =
-      subst (λ k. round w s k cs ≡ []) (let z : n + 0 ≡ n = omega arith in z)
-      (subst (λ x. round w x (n + 0) cs ≡ []) (final-nil w s)
-      (subst (λ (t : List Entry). round w (final w s t) (n + length t) cs ≡ []) there (nil_right (turn w s n c) _ e))) in
-      let next_rest : round w s m cs ≡ [] = empty_anywhere s n m cs rest in
-      subst (λ (t : List Entry). t ++ round w (final w s t) (m + length t) cs ≡ []) (sym here)
-      (subst (λ x. round w x (m + 0) cs ≡ []) (sym (final-nil w s)) (subst (λ k. round w s k cs ≡ []) (let z : m ≡ m + 0 = omega arith in z) next_rest))
-
   -- what was made, and what is left of the round from here
   pub round_more : (order : List CpuId) (i : ℕ) (d : CpuId) (s : State) (es : List Entry) → i < length order
       → (es ++ turn w s (length es) (get_or order i d)) ++ round w (final w s (turn w s (length es) (get_or order i d))) (length (es ++ turn w s (length es) (get_or order i d))) (drop (i + 1) order)
@@ -88,16 +72,6 @@ module _ (w : Work) where
       ∙ ap (λ k. es ++ (t ++ round w (final w s t) k (drop (i + 1) order))) (length-append es t)
       ∙ ap (λ (xs : List Entry). es ++ xs) (sym (round-cons s (length es) (get_or order i d) (drop (i + 1) order)))
       ∙ ap (λ (cs : List CpuId). es ++ round w s (length es) cs) (sym (drop_more order i d h))
-
-  pub final_more : (order : List CpuId) (i : ℕ) (d : CpuId) (s : State) (es : List Entry) → i < length order
-      → final w (final w s (turn w s (length es) (get_or order i d))) (round w (final w s (turn w s (length es) (get_or order i d))) (length (es ++ turn w s (length es) (get_or order i d))) (drop (i + 1) order))
-      ≡ final w s (round w s (length es) (drop i order))
-  final_more order i d s es h =
-      let t = turn w s (length es) (get_or order i d) in
-      ap (λ k. final w (final w s t) (round w (final w s t) k (drop (i + 1) order))) (length-append es t)
-      ∙ sym (final-append w s t (round w (final w s t) (length es + length t) (drop (i + 1) order)))
-      ∙ ap (final w s) (sym (round-cons s (length es) (get_or order i d) (drop (i + 1) order)))
-      ∙ ap (λ (cs : List CpuId). final w s (round w s (length es) cs)) (sym (drop_more order i d h))
 
   pub rounds-zero : (orders : ℕ → List CpuId) → rounds w orders 0 ≡ []
   unfolding rounds

@@ -28,11 +28,6 @@ module _ {X : Type 0} (rank : X → ℕ) (key : X → ℤ) where
 
 -- ---- the first queue that has an id
 module _ {X : Type 0} (id : X → ℕ) (n : ℕ) where
-  pub found_nowhere : (qs : List (List X)) → ((i : ℕ) → i < length qs → find_id id n (get_or qs i []) ≡ None) → find_among id n qs ≡ None
-  found_nowhere [] f = refl
-  found_nowhere (q ∷ qs) f =
-      let none : find_id id n q ≡ None = f 0 (omega arith) in rw none (found_nowhere qs (λ i h. f (suc i) (omega arith)))
-
   found : (qs : List (List X)) (i : ℕ) (x : X) → i < length qs → find_id id n (get_or qs i []) ≡ Some x
       → ((j : ℕ) → j < i → find_id id n (get_or qs j []) ≡ None) → find_among id n qs ≡ Some x
   found [] i x h e f = absurd (omega arith)

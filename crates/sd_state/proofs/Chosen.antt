@@ -13,7 +13,7 @@ use Rattle.sd_state.specs.declared.states.Place.TheVariants.{Running}
 use Rattle.sd_state.specs.declared.states.ThreadState.{ThreadState}
 use Rattle.sd_state.specs.declared.states.State.{State}
 use Rattle.sd_state.specs.States.{thread_of, cpu_of, no_thread, is_running, is_queued, is_ready, key_of}
-use Rattle.sd_state.specs.Best.{running, best_ready, best_by, leads_by, beats, goes_before, queue_rank}
+use Rattle.sd_state.specs.Best.{running, best_ready, best_by, beats, goes_before, queue_rank}
 use Rattle.sd_state.proofs.BestLemmas.{IsOrder, IsBestBelow, goes_ahead_by, best_taken, best_kept, best_by_is}
 use Rattle.sd_state.proofs.OrderLemmas.{beats_order}
 use Rattle.sd_state.specs.Invariants.{is_marked}
@@ -31,11 +31,6 @@ priorities s t = eff (thread_of s t).body
 abbrev pub marks : State → ℕ → Bool
 marks s c = is_marked (cpu_of s c)
 
--- the thread that runs is there
-pub runs_inside : (s : State) (c t : ℕ) → Runs s c t → t < length s.threads
-unfolding running
-runs_inside s c t r = (position-Some (λ (x : ThreadState). is_running c x.place) s.threads t no_thread r).0
-
 -- where no place is found, none passes
 pub position_fails : {X : Type 0} (p : X → Bool) (xs : List X) (d : X) → p d ≡ false → position p xs ≡ None → (k : ℕ) → p (get_or xs k d) ≡ false
 position_fails p xs d out none k = elim (cases_lt k (length xs)) [
@@ -49,11 +44,6 @@ position_fails p xs d out none k = elim (cases_lt k (length xs)) [
 pub runs_none : (s : State) (c : ℕ) → running c s.threads ≡ None → (u : ℕ) → is_running c (places s u) ≡ false
 unfolding running
 runs_none s c none u = position_fails (λ (x : ThreadState). is_running c x.place) s.threads no_thread refl none u
-
--- and where it has one, that one does
-pub runs_there : (s : State) (c t : ℕ) → Runs s c t → is_running c (places s t) ≡ true
-unfolding running
-runs_there s c t r = (position-Some (λ (x : ThreadState). is_running c x.place) s.threads t no_thread r).1
 
 -- the best of the first n
 best_below : {X : Type 0} (on : X → Bool) (beats : X → X → Bool) (d : X) → IsOrder beats → (xs : List X) (n : ℕ) → (o : Option ℕ) × IsBestBelow on beats d xs n o
@@ -88,11 +78,6 @@ module _ (s : State) (c p : ℕ) where
   unfolding best_ready
   none_ready e u ready =
       false≢true (sym (best_is (λ (x : ThreadState). is_ready c p x.place) beats no_thread beats_order s.threads None e u (ready_inside u ready)) ∙ ready)
-
-  -- the best is ready, and none that is ready has a greater priority
-  pub best_ready_is : (b : ℕ) → best_ready c p s.threads ≡ Some b → is_ready c p (places s b) ≡ true
-  unfolding best_ready
-  best_ready_is b e = (best_is (λ (x : ThreadState). is_ready c p x.place) beats no_thread beats_order s.threads (Some b) e).candidate
 
   pub best_greatest : (b u : ℕ) → best_ready c p s.threads ≡ Some b → is_ready c p (places s u) ≡ true → priorities s u ≤ priorities s b
   unfolding best_ready

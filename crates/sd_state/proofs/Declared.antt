@@ -1,11 +1,10 @@
 -- The declared threads of a valid workload, and where the initial state has each.
-use Rattle.std.proofs.Common.{◌≡◌, ℕ, zero, suc, ◌+◌, ◌<◌, ◌≤◌, true, ◌&&◌, leb, List, [], ◌∷◌, length, get_or, Option, Some, None, refl, sym, ap, ◌∙◌, arith}
+use Rattle.std.proofs.Common.{◌≡◌, ℕ, zero, suc, ◌+◌, ◌<◌, ◌≤◌, true, ◌&&◌, leb, List, [], ◌∷◌, length, get_or, Option, Some, None, sym, ap, ◌∙◌, arith}
 use Rattle.std.specs.Prelude.{slice_get, option_map, unwrap_or}
 use Rattle.std.proofs.lemmas.Bool.{and_parts, leb-true}
 use Rattle.std.proofs.lemmas.List.{get_or_past}
 use Rattle.std.proofs.lemmas.List.Sums.{AllPass-from_list_all}
 use Rattle.std.proofs.lemmas.Option.{get_or_from_slice_get}
-use Rattle.sd_types.specs.declared.numbers.SetId.{SetId}
 use Rattle.sd_types.specs.declared.works.ThreadDecl.{ThreadDecl}
 use Rattle.sd_types.specs.declared.works.Work.{Work}
 use Rattle.sd_types.specs.Works.{class_fits, thread_fits, declared_of}
@@ -49,13 +48,6 @@ module _ (w : Work) (t : ℕ) where
     decl_set_there =
         let front = and_parts (class_fits d.class d.cpupri && leb d.set.0 (length w.sets)) _ decl_fits in
         leb-true d.set.0 (length w.sets) (and_parts (class_fits d.class d.cpupri) (leb d.set.0 (length w.sets)) front.0).1
-
-  pub set_there : (thread_set w t).0 ≤ length w.sets
-  set_there = by (slice_get w.threads t) refl
-    where
-      by : (o : Option ThreadDecl) → slice_get w.threads t ≡ o → (thread_set w t).0 ≤ length w.sets
-      by None e = let zero_set : (thread_set w t).0 ≡ 0 = ap (λ (o : Option ThreadDecl). (let r : SetId = unwrap_or (option_map (λ x. x.set) o) (record { 0 = 0 }) in r).0) e in omega arith
-      by (Some d) e = let set = ap (λ (p : SetId). p.0) (decl_set d e) in let there = decl_set_there d e in omega arith
 
 first_thread_at : (w : Work) (k : ℕ) (ds : List ThreadDecl) (t : ℕ) (d : ThreadDecl) → slice_get ds t ≡ Some d → get_or (first_threads w k ds) t no_thread ≡ first_thread w (k + t) d
 first_thread_at w k [] t d e = cc

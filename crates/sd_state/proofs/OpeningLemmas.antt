@@ -3,13 +3,8 @@ use Rattle.std.proofs.Common.{◌≡◌, ℕ, suc, ◌+◌, List, [], ◌∷◌,
 use Rattle.std.proofs.lemmas.List.FromFn.{length-map-range_with_len}
 use Rattle.sd_types.specs.declared.works.ThreadDecl.{ThreadDecl}
 use Rattle.sd_types.specs.declared.works.Work.{Work}
-use Rattle.sd_state.specs.States.{FitsWork}
-use Rattle.sd_state.specs.Opening.{first_threads, first_cpu_state, opening}
+use Rattle.sd_state.specs.Opening.{first_threads}
 
 pub length-first_threads : (w : Work) (t : ℕ) (ds : List ThreadDecl) → length (first_threads w t ds) ≡ length ds
 length-first_threads w t [] = refl
 length-first_threads w t (d ∷ ds) = ap suc (length-first_threads w (t + 1) ds)
-
-pub opening_fits : (w : Work) → FitsWork w (opening w)
-unfolding opening
-opening_fits w = record { threads = length-first_threads w 0 w.threads; cpus = length-map-range_with_len (first_cpu_state w) 0 w.cpus }

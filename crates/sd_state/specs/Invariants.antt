@@ -75,18 +75,12 @@ IsInItsSet w s t (Queued c k) = (cpu_of s c.0).set ≡ thread_set w t
 IsInItsSet w s t (RealTime p k) = p ≡ thread_set w t
 IsInItsSet w s t _ = ⊤
 
-abbrev pub EachInItsSet : Work → State → Type 0
-EachInItsSet w s = (t : ℕ) → t < length s.threads → IsInItsSet w s t (thread_of s t).place
-
 -- of priority p and bound to a processor or to none, a thread on a real-time queue has at least priority 100 and is not
 -- bound, and one on a processor's own queue has a smaller one, or is bound to that processor
 abbrev pub SuitsQueue : ℕ → Option CpuId → Place → Type 0
 SuitsQueue p bound (Queued c k) = (p < 100) ⊎ (bound ≡ Some c)
 SuitsQueue p bound (RealTime q k) = (100 ≤ p) × (bound ≡ None)
 SuitsQueue p bound _ = ⊤
-
-abbrev pub QueuesSuit : State → Type 0
-QueuesSuit s = (t : ℕ) → t < length s.threads → SuitsQueue (eff (thread_of s t).body) (thread_of s t).body.bound (thread_of s t).place
 
 -- the place is one of a processor, a set, a lock or a channel of the workload
 abbrev pub IsThere : Work → Place → Type 0

@@ -1,6 +1,6 @@
 -- Reading and changing a state. A number that is out of range reads a thread that has ended and a processor that
 -- is idle, and changes nothing.
-use Rattle.std.specs.Prelude.{◌≡◌, ℕ, Bool, false, ◌||◌, [], length, ◌==◌, None, ℤ, pos, option_map, unwrap_or, slice_get, slice_index_or, slice_set}
+use Rattle.std.specs.Prelude.{◌≡◌, ℕ, Bool, false, ◌||◌, [], ◌==◌, None, ℤ, pos, option_map, unwrap_or, slice_get, slice_index_or, slice_set}
 use Rattle.sd_types.specs.declared.numbers.SetId.{SetId}
 use Rattle.sd_types.specs.declared.bodies.ThreadBody.{ThreadBody}
 use Rattle.sd_types.specs.declared.classes.ClassState.TheVariants.{Sys}
@@ -67,11 +67,6 @@ is_real_time p _ = false
 -- on the queue of processor c or on the real-time queue of partition p
 abbrev pub is_ready : ℕ → ℕ → Place → Bool
 is_ready c p place = is_queued c place || is_real_time p place
-
--- as many threads and processors as the workload has
-pub record FitsWork (w : Work) (s : State) : Type 0 where
-  pub threads : length s.threads ≡ length w.threads
-  pub cpus : length s.cpus ≡ w.cpus
 
 -- the set of a thread, as its workload declares it
 abbrev pub thread_set : Work → ℕ → SetId

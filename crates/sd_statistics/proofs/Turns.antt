@@ -85,11 +85,6 @@ module _ (c n end : ℕ) where
   NoneRuns [] = ⊤
   NoneRuns (x ∷ xs) = (runs_on c x.doing ≡ false) × NoneRuns xs
 
-  none_append : (xs ys : List Turn) → NoneRuns xs → NoneRuns ys → NoneRuns (xs ++ ys)
-  unfolding NoneRuns
-  none_append [] ys a b = b
-  none_append (x ∷ xs) ys (off, a) b = (off, none_append xs ys a b)
-
   slices_behind : (xs ys : List Turn) → NoneRuns xs → slices_of (xs ++ ys) ≡ slices_of ys
   unfolding NoneRuns
   slices_behind [] ys none = refl

@@ -1,14 +1,10 @@
 -- Loops over a list that go on with what follows its first element, and the first element that passes a test.
-use Rattle.std.proofs.Common.{◌≡◌, ℕ, ◌+◌, ◌<◌, Bool, true, List, [], ◌∷◌, ◌++◌, length, take, drop, get_or, Some, refl, sym, ap, ◌∙◌, append_assoc, arith}
-use Rattle.std.specs.Prelude.{filter, slice_get, if◌then◌else◌}
+use Rattle.std.proofs.Common.{◌≡◌, ℕ, ◌+◌, ◌<◌, Bool, true, List, [], ◌∷◌, ◌++◌, length, take, drop, get_or, Some, sym, ap, ◌∙◌, append_assoc, arith}
+use Rattle.std.specs.Prelude.{filter, if◌then◌else◌}
 use Rattle.std.proofs.lemmas.List.{append-nil, take-append-drop}
 use Rattle.std.proofs.lemmas.List.Elements.{filter-append}
 use Rattle.sd_stretches.specs.Rows.{next_of}
 use Rattle.sd_stretches.proofs.RangeLemmas.{filter_take_more}
-
-pub next_is : {A : Type 0} (xs : List A) → next_of xs ≡ slice_get xs 0
-next_is [] = refl
-next_is (y ∷ ys) = refl
 
 -- more is found: f makes a list from each element with what follows it
 pub found_more : {A B : Type 0} (f : List A → List B) (left rest : List A) (x : A) (ys found more all : List B) → f (x ∷ rest) ≡ ys ++ f rest → left ≡ x ∷ rest

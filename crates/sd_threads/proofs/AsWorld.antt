@@ -1,13 +1,10 @@
 -- What the calls of the table do to a seat, as what the calls of a world do to the world.
-use Rattle.std.proofs.Common.{◌≡◌, ◌⊎◌, ℕ, ◌+◌, ◌<◌, ◌≤◌, true, false, List, [], ◌∷◌, ◌++◌, length, Option, Some, None, refl, sym, ap, ◌∙◌, subst, inl, inr, ⊎_elim, arith}
+use Rattle.std.proofs.Common.{◌≡◌, ◌⊎◌, ℕ, ◌+◌, ◌<◌, ◌≤◌, true, false, List, [], ◌∷◌, ◌++◌, length, Option, refl, sym, ap, ◌∙◌, subst, inl, inr, ⊎_elim, arith}
 use Rattle.std.proofs.lemmas.Bool.{cases_lt, false≢true}
 use Rattle.atomic_table.specs.Seated.{TableId}
 use Rattle.sd_types.specs.declared.numbers.CpuId.{CpuId}
 use Rattle.sd_types.specs.declared.numbers.HomeId.{HomeId}
 use Rattle.sd_types.specs.declared.numbers.ThreadId.{ThreadId}
-use Rattle.sd_types.specs.declared.events.Entry.{Entry}
-use Rattle.sd_types.specs.declared.events.Event.{Event}
-use Rattle.sd_types.specs.declared.events.Hints.{Hints}
 use Rattle.sd_types.specs.declared.events.Which.{Which}
 use Rattle.sd_types.specs.declared.works.Work.{Work}
 use Rattle.sd_homes.specs.declared.home.Home.{Home}
@@ -15,17 +12,16 @@ use Rattle.sd_homes.specs.Families.{home_id}
 use Rattle.sd_hand.specs.declared.acting.Acting.{Acting}
 use Rattle.sd_hand.specs.Hands.{has_thread, held as held_in}
 use Rattle.sd_hand.proofs.SlotLemmas.{held_has}
-use Rattle.sd_world.specs.declared.world.Behind.{Behind}
-use Rattle.sd_world.specs.Worlds.{AllHinted, CanCommit, CanTake, Commits, Gains, IsBehind, IsListedIn, IsQuiet, IsStopped, MayStand, MayUse, Meaning, NoneBehind, ReadsCounts, Reserves, Rises, Stays}
+use Rattle.sd_world.specs.Worlds.{AllHinted, Gains, IsListedIn, IsQuiet, Meaning, ReadsCounts, Stays}
 use Rattle.sd_world.proofs.WorldLemmas.{stays_then}
 use Rattle.sd_table_rule.proofs.Bridge.{reached}
 use Rattle.sd_table.specs.declared.seat.Seat.{Seat}
 use Rattle.sd_invariants.proofs.Whole.{fit_reached}
 use Rattle.sd_table_rule.specs.Places.{now}
 use Rattle.sd_table_rule.specs.Words.{thread_count}
-use Rattle.sd_table.specs.Seats.{Fits, SeatCounts, SeatStays, desk, seat_meaning, table_meaning}
+use Rattle.sd_table.specs.Seats.{Fits, SeatStays, desk, seat_meaning, table_meaning}
 use Rattle.sd_threads.specs.Locks.{HasLocked}
-use Rattle.sd_threads.specs.Tables.{IsLevel, ReadsCount}
+use Rattle.sd_threads.specs.Tables.{IsLevel}
 
 module _ (w : Work) (s s' : Seat) where
   pub stays_as : (a b a' b' : ℕ) (l l' : Option (ℕ × ℕ)) → SeatStays w s s' → Stays (table_meaning w s a b l) (table_meaning w s' a' b' l')
@@ -39,22 +35,6 @@ module _ (w : Work) (s s' : Seat) where
     pub gains_as : (x : Home) → Gains (seat_meaning w s) (seat_meaning w s') x → Gains (table_meaning w s a b l) (table_meaning w s' a b l) x
     gains_as x g = record { stays = stays_as a b a b l l g.stays; quiet = quiet_as; more = g.more; count = g.count }
 
-    pub reserves_as : Reserves (seat_meaning w s) (seat_meaning w s') → Reserves (table_meaning w s a b l) (table_meaning w s' a b l)
-    reserves_as r = record { stays = stays_as a b a b l l r.stays; quiet = quiet_as; acting = r.acting }
-
-    pub commits_as : (n : ℕ) (e : Event) (hints : Option Hints) → Commits (seat_meaning w s) (seat_meaning w s') n e hints → Commits (table_meaning w s a b l) (table_meaning w s' a b l) n e hints
-    commits_as n e hints c =
-        let made = c.made in record {
-          run = c.run;
-          made = record { begins = made.begins; still = made.still; number = made.number; step = made.step; log = made.log; after = made.after; after_still = made.after_still };
-          quiet = quiet_as;
-          table = c.table;
-          work = c.work;
-          alone = c.alone;
-          all = c.all;
-          cpu = c.cpu;
-        }
-
     -- the home of a thread that was in no home of the hand was taken
     pub gains_locked : (t : ThreadId) (k : HomeId) → HasLocked w s s' t k → has_thread t.0 s.acting.hand.slots ≡ false → (x : Home) × (home_id x ≡ k) × IsListedIn t x × Gains (table_meaning w s a b l) (table_meaning w s' a b l) x
     gains_locked t k locked fresh = (
@@ -66,46 +46,6 @@ module _ (w : Work) (s s' : Seat) where
           (λ g. gains_as locked.home g)
           locked.gains,
     )
-
-  -- somebody was in the way
-  pub stopped_as : (a b a' : ℕ) (l : Option (ℕ × ℕ)) → SeatStays w s s' → s'.acting ≡ s.acting → Rises a a' → IsStopped (table_meaning w s a b l) (table_meaning w s' a' b l)
-  stopped_as a b a' l stays acting rises = record { stays = stays_as a b a' b l l stays; acting = acting; stops = rises }
-
-  -- the count of a processor was read
-  pub counts_as : (a b b' c n : ℕ) (l : Option (ℕ × ℕ)) → SeatCounts w s s' c n → Rises b b' → ReadsCount (table_meaning w s a b l) (table_meaning w s' a b' (Some (c, n))) c n
-  counts_as a b b' c n l x rises = record {
-    reads = record { stays = stays_as a b a b' l (Some (c, n)) x.stays; stops = refl; reads = rises.0; acting = x.acting };
-    rises = rises;
-    last = refl;
-    counted = x.counted;
-  }
-
-module _ (w : Work) (s : Seat) (a b : ℕ) (l : Option (ℕ × ℕ)) where
-  stands_as : (h : List Entry) → MayStand (seat_meaning w s) h → MayStand (table_meaning w s a b l) h
-  stands_as h x = record { run = x.run; begins = x.begins; still = x.still; shown = x.shown }
-
-  pub take_as : (k : HomeId) → CanTake (table_meaning w s a b l) k → CanTake (seat_meaning w s) k
-  take_as k c = record { room = c.room; there = c.there; fresh = c.fresh }
-
-  use_as : (hints : Option Hints) → MayUse (table_meaning w s a b l) hints → MayUse (seat_meaning w s) hints
-  use_as None u = tt
-  use_as (Some hs) u = (u.0, (λ h x. u.1 h (stands_as h x)), hinted_as hs.which u.0 hs.numbers.items u.2)
-    where
-      hinted_as : (which : Which) (cs : List CpuId) (ns : List ℕ) → AllHinted (table_meaning w s a b l) which cs ns → AllHinted (seat_meaning w s) which cs ns
-      hinted_as which [] [] x = tt
-      hinted_as which (c ∷ cs) (n ∷ ns) x = (x.0, hinted_as which cs ns x.1)
-      hinted_as which [] (n ∷ ns) x = x
-      hinted_as which (c ∷ cs) [] x = x
-
-  pub commit_as : (v : Work) (e : Event) (hints : Option Hints) → CanCommit (table_meaning w s a b l) v e hints → CanCommit (seat_meaning w s) v e hints
-  commit_as v e hints c = record {
-    work = c.work;
-    spare = c.spare;
-    room = c.room;
-    makes = λ h x. c.makes h (stands_as h x);
-    holds = λ h x. c.holds h (stands_as h x);
-    noted = use_as hints c.noted;
-  }
 
 -- ---- numbers that were read
 pub hinted_still : (m m' : Meaning) (which : Which) (cs : List CpuId) (ns : List ℕ) → ((c : ℕ) (k : Which) (n : ℕ) → m.hinted c k n ≡ true → m'.hinted c k n ≡ true) → AllHinted m which cs ns → AllHinted m' which cs ns

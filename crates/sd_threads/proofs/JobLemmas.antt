@@ -1,7 +1,6 @@
 -- Processors between two phases.
-use Rattle.std.proofs.Common.{◌≡◌, ℕ, zero, suc, ◌+◌, ◌^◌, ◌<◌, ◌≤◌, ◌⊎◌, Bool, true, false, inl, inr, length-append, Ok, List, [], ◌∷◌, ◌++◌, length, get_or, slice_get, Some, Result, Err, refl, sym, ap, ◌∙◌, subst, arith}
+use Rattle.std.proofs.Common.{◌≡◌, ℕ, zero, suc, ◌+◌, ◌^◌, ◌<◌, ◌≤◌, ◌⊎◌, Bool, true, false, length-append, Ok, List, [], ◌∷◌, ◌++◌, length, get_or, slice_get, Some, Result, Err, refl, sym, ap, ◌∙◌, subst, arith}
 use Rattle.std.specs.Prelude.{◌||◌, nat_lt, slice_index_or}
-use Rattle.std.proofs.lemmas.Bool.{cases_lt}
 use Rattle.std.proofs.lemmas.Bool.Decides.{nat_tests}
 use Rattle.std.proofs.lemmas.List.{get_or_default}
 use Rattle.atomic_table.specs.Seated.{TableId}
@@ -24,7 +23,7 @@ use Rattle.sd_threads.specs.declared.world.TableWorld.{TableWorld}
 use Rattle.sd_threads.specs.Tables.{IsTable, world_meaning}
 use Rattle.sd_threads.specs.declared.jobs.Job.{Job}
 use Rattle.sd_rounds.specs.Rounds.{IsLongRun}
-use Rattle.sd_threads.specs.Jobs.{AllTell, AreJobs, HasRested, HavePhased, IsFree, MadeAsLogged, Tells, WasStopped, seats_in}
+use Rattle.sd_threads.specs.Jobs.{AreJobs, HavePhased, IsFree, MadeAsLogged, WasStopped, seats_in}
 
 -- ---- a phase of one processor
 by_short : (c : ℕ) (h : List Entry) → length (by c h) ≤ length h
@@ -103,16 +102,6 @@ module _ (t : TableId) (w : Work) (js js' : List Job) (many : length js' ≡ len
 
   pub long_of : WasStopped js' Full → IsLongRun w
   long_of was = (phased was.index was.job (let i = was.inside in let z : was.index < length js = omega (arith, i, many) in z)).full (ap (λ (j : Job). j.outcome) (was.at was.job) ∙ was.stopped)
-
--- ---- whether they have acted
-pub one_told : (js : List Job) (n : ℕ) (b c : Bool) → AllTell js n b → n < length js → ((d : Job) → Tells (get_or js n d).outcome c) → AllTell js (n + 1) (b || c)
-one_told js n true c so_far inside here = record { index = so_far.index; inside = (let i = so_far.inside in omega (arith, i)); acted = so_far.acted }
-one_told js n false true so_far inside here = record { index = n; inside = omega arith; acted = here }
-one_told js n false false so_far inside here = λ i d below. at i d below (cases_lt i n)
-  where
-    at : (i : ℕ) (d : Job) → i < n + 1 → (i < n) ⊎ (n ≤ i) → HasRested (get_or js i d).outcome
-    at i d below (inl less) = so_far i d less
-    at i d below (inr most) = let same : n ≡ i = omega (arith, below, most) in subst (λ k. HasRested (get_or js k d).outcome) same (here d)
 
 -- the outcome of one of them says that it was refused
 pub stopped_at : (js : List Job) (i : ℕ) (d : Job) (stop : Stop) → i < length js → (get_or js i d).outcome ≡ Some (Err stop) → WasStopped js stop

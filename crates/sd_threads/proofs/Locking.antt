@@ -129,9 +129,6 @@ module _ (w : Work) (t : TableId) (s : Seat) (f : Fits t w s) where
     pub whole2 : m2 ≡ (Works d2, (i, Some x) ∷ lent (desk s).held)
     whole2 = view2 ∙ ap (λ m. (Works (looking (seeing (desk_of m.0) h2) n), m.1)) whole1
 
-    pub is_desk1 : IsDesk m1
-    is_desk1 = ap (λ m. m.0) view1 ∙ ap Works (sym desk1)
-
     pub is_desk2 : IsDesk m2
     is_desk2 = ap (λ m. m.0) whole2 ∙ ap Works (sym (ap (λ m. desk_of m.0) whole2))
 
