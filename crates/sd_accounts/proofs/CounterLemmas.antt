@@ -5,7 +5,7 @@ use Rattle.std.proofs.lemmas.List.{length-append}
 use Rattle.std.proofs.lemmas.List.Sums.{count_by-le-length, sum_by_push}
 use Rattle.std.proofs.lemmas.Option.{get_or_from_slice_get, none-some}
 use Rattle.sd_types.specs.declared.events.Event.{Event}
-use Rattle.sd_types.specs.declared.events.Event.TheVariants.{Tick, Spin, Idle, Dispatch, Steal, Preempt, Yield, Done, Nap, Napend, Sleep, Wake, Wakeall, Rouse, Enter, Read, Write, Block, Will, End as WalkEnd, Exit, Unblock, Grant, Passed, Age, Prio, CvWait, SemaP, SemaWait, SemaVWake, SemaVCount, Assign, Move, Joined, Bind, Away}
+use Rattle.sd_types.specs.declared.events.Event.TheVariants.{Tick, Spin, Dispatch, Steal, Preempt, Napend, Wake, Rouse, Unblock, Grant, SemaVWake, Away}
 use Rattle.sd_types.specs.declared.events.Entry.{Entry}
 use Rattle.sd_types.specs.declared.works.Work.{Work}
 use Rattle.sd_types.specs.Events.{ticks}
@@ -58,42 +58,17 @@ not_counted : (t : ℕ) (e : Event) → names t (counted_thread e) ≡ false
     → (is_tick_of t e ≡ false) × (is_dispatch_of t e ≡ false) × (is_preempt_of t e ≡ false) × (is_wake_of t e ≡ false)
 not_counted t (Tick u) h = (h, refl, refl, refl)
 not_counted t (Spin u l) h = (h, refl, refl, refl)
-not_counted t Idle h = (refl, refl, refl, refl)
 not_counted t (Dispatch u p) h = (refl, h, refl, refl)
 not_counted t (Steal v u p) h = (refl, h, refl, refl)
 not_counted t (Preempt u end) h = (refl, refl, h, refl)
-not_counted t (Yield u) h = (refl, refl, refl, refl)
-not_counted t (Done u) h = (refl, refl, refl, refl)
-not_counted t (Nap u) h = (refl, refl, refl, refl)
 not_counted t (Napend u at) h = (refl, refl, refl, h)
-not_counted t (Sleep u k) h = (refl, refl, refl, refl)
-not_counted t (Wake u k None) h = (refl, refl, refl, refl)
 not_counted t (Wake u k (Some (s, at))) h = (refl, refl, refl, h)
-not_counted t (Wakeall u k) h = (refl, refl, refl, refl)
-not_counted t (Rouse k None) h = (refl, refl, refl, refl)
 not_counted t (Rouse k (Some (s, at))) h = (refl, refl, refl, h)
-not_counted t (Enter u l) h = (refl, refl, refl, refl)
-not_counted t (Read u l) h = (refl, refl, refl, refl)
-not_counted t (Write u l) h = (refl, refl, refl, refl)
-not_counted t (Block u l) h = (refl, refl, refl, refl)
-not_counted t (Will l o p at) h = (refl, refl, refl, refl)
-not_counted t (WalkEnd l) h = (refl, refl, refl, refl)
-not_counted t (Exit u l) h = (refl, refl, refl, refl)
 not_counted t (Unblock l s at) h = (refl, refl, refl, h)
 not_counted t (Grant l s at) h = (refl, refl, refl, h)
-not_counted t (Passed l) h = (refl, refl, refl, refl)
-not_counted t (Age u p) h = (refl, refl, refl, refl)
-not_counted t (Prio u s answer) h = (refl, refl, refl, refl)
-not_counted t (CvWait u k l) h = (refl, refl, refl, refl)
-not_counted t (SemaP u k) h = (refl, refl, refl, refl)
-not_counted t (SemaWait u k) h = (refl, refl, refl, refl)
 not_counted t (SemaVWake u k s at) h = (refl, refl, refl, h)
-not_counted t (SemaVCount u k n) h = (refl, refl, refl, refl)
-not_counted t (Assign u d to answer) h = (refl, refl, refl, refl)
-not_counted t (Move u at) h = (refl, refl, refl, refl)
-not_counted t (Joined to) h = (refl, refl, refl, refl)
-not_counted t (Bind u s d answer) h = (refl, refl, refl, refl)
 not_counted t (Away u d) h = (refl, refl, h, refl)
+not_counted t e h = (refl, refl, refl, refl)
 
 thread_stays : (t : ℕ) (e : Event) (x : ThreadCounts) → names t (counted_thread e) ≡ false → thread_after t e x ≡ x
 unfolding thread_after

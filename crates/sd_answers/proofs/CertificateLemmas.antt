@@ -102,45 +102,23 @@ module _ {X : Type 0} (Made : X → Type 0) (written : X → List ℕ) (input ou
   pub writes_of : (a : Answer) → CausedByCertificate Made written input out a → status_of a ≡ 0 → Writes Made written out
   writes_of Done c s = c
   writes_of Usage c s = absurd c
-  writes_of TooLarge c s = absurd (omega arith)
-  writes_of TooLargeToAudit c s = absurd (omega arith)
-  writes_of NoJournal c s = absurd (omega arith)
-  writes_of (Refused line cause) c s = absurd (omega arith)
-  writes_of ReadFault c s = absurd (omega arith)
-  writes_of WriteFault c s = absurd (omega arith)
-  writes_of OutOfMemory c s = absurd (omega arith)
   writes_of Blocked c s = absurd c
-  writes_of (NotAJournal fault) c s = absurd (omega arith)
   writes_of TooLong c s = absurd c
+  writes_of a c s = absurd (omega arith)
 
   pub faulty_of : (a : Answer) → CausedByCertificate Made written input out a → status_of a ≡ 7 → RefusesJournal input out
   faulty_of (NotAJournal fault) c s = (fault, c.0, c.1)
-  faulty_of Done c s = absurd (omega arith)
   faulty_of Usage c s = absurd c
-  faulty_of TooLarge c s = absurd (omega arith)
-  faulty_of TooLargeToAudit c s = absurd (omega arith)
-  faulty_of NoJournal c s = absurd (omega arith)
-  faulty_of (Refused line cause) c s = absurd (omega arith)
-  faulty_of ReadFault c s = absurd (omega arith)
-  faulty_of WriteFault c s = absurd (omega arith)
-  faulty_of OutOfMemory c s = absurd (omega arith)
   faulty_of Blocked c s = absurd c
   faulty_of TooLong c s = absurd c
+  faulty_of a c s = absurd (omega arith)
 
   -- no arguments are refused where a certificate is judged
   pub not_usage : (a : Answer) → CausedByCertificate Made written input out a → status_of a ≡ 1 → ⊥
-  not_usage Done c s = absurd (omega arith)
   not_usage Usage c s = c
-  not_usage TooLarge c s = absurd (omega arith)
-  not_usage TooLargeToAudit c s = absurd (omega arith)
-  not_usage NoJournal c s = absurd (omega arith)
-  not_usage (Refused line cause) c s = absurd (omega arith)
-  not_usage ReadFault c s = absurd (omega arith)
-  not_usage WriteFault c s = absurd (omega arith)
-  not_usage OutOfMemory c s = absurd (omega arith)
   not_usage Blocked c s = c
-  not_usage (NotAJournal fault) c s = absurd (omega arith)
   not_usage TooLong c s = c
+  not_usage a c s = absurd (omega arith)
 
   -- ---- the other sides
 

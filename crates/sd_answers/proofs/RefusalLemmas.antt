@@ -2,7 +2,7 @@
 use Rattle.std.proofs.Common.{◌≡◌, ℕ, ◌≤◌, true, List, [], ◌++◌, length, Option, None, Some, refl, ap, ◌∙◌, arith, append-nil, length-append, lit≤}
 use Rattle.std.specs.Prelude.{codes, decimal}
 use Rattle.sd_declare.specs.declared.causes.WorkCause.{WorkCause}
-use Rattle.sd_declare.specs.declared.causes.WorkCause.TheVariants.{Syntax, Unknown, Twice, Range, Table, Script, Sets, Limits}
+use Rattle.sd_declare.specs.declared.causes.WorkCause.TheVariants.{Range, Table, Script}
 use Rattle.sd_script.specs.declared.faults.ScriptFault.{ScriptFault}
 use Rattle.sd_script.specs.declared.faults.ScriptFault.TheVariants as script
 use Rattle.sd_tables.specs.declared.fault.TableFault.{TableFault}
@@ -26,21 +26,12 @@ table-short (table.Resolution line) = (refl, lit≤ tt)
 
 script-short : (f : ScriptFault) → IsShort (script_words f)
 script-short (script.Unbalanced op) = (refl, lit≤ tt)
-script-short (script.TooManyHeld op) = (refl, lit≤ tt)
-script-short script.HeldAtExit = (refl, lit≤ tt)
-script-short script.TooLong = (refl, lit≤ tt)
-script-short (script.AlreadyHeld op) = (refl, lit≤ tt)
-script-short (script.Unpaired op) = (refl, lit≤ tt)
+script-short f = (refl, lit≤ tt)
 
 pub cause-short : (c : WorkCause) → IsShort (cause_words c)
-cause-short Syntax = (refl, lit≤ tt)
-cause-short Unknown = (refl, lit≤ tt)
-cause-short Twice = (refl, lit≤ tt)
-cause-short Range = (refl, lit≤ tt)
 cause-short (Table f) = table-short f
 cause-short (Script f) = script-short f
-cause-short Sets = (refl, lit≤ tt)
-cause-short Limits = (refl, lit≤ tt)
+cause-short c = (refl, lit≤ tt)
 
 digits-line : (n : Option ℕ) → is_line (digits_if n) ≡ true
 digits-line None = refl

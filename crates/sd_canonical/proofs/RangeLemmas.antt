@@ -14,7 +14,7 @@ use Rattle.sd_lines.specs.declared.statements.TableClass.{TableClass}
 use Rattle.sd_lines.specs.declared.statements.TableClass.TheVariants as table
 use Rattle.sd_lines.specs.Words.{Word, Line, is_end}
 use Rattle.sd_lines.specs.Threads.{Thread as ThreadLine}
-use Rattle.sd_lines.specs.Statements.{Statement, Cpus, Hz, Limit, Set, Table, Lock, Chan, Sema, Declare, Script, statement_of}
+use Rattle.sd_lines.specs.Statements.{Statement, Table, Chan, Sema, Declare, Script, statement_of}
 use Rattle.sd_declare.specs.declared.causes.WorkCause.{WorkCause}
 use Rattle.sd_declare.specs.declared.causes.WorkCause.TheVariants.{Syntax}
 use Rattle.sd_declare.specs.Causes.{least}
@@ -48,16 +48,12 @@ sema-kept : (d : Declarations) (name : Word) (n : ℕ) → least (sema_causes d 
 sema-kept d name n h = not-false _ (clear (sema_causes d name n) h).range
 
 statement-kept : (d : Declarations) (s : Statement) → least (statement_causes d s) ≡ None → InRange d → InRange (with_statement d s)
-statement-kept d (Cpus n) h r = record { uids = r.uids; counts = r.counts }
-statement-kept d (Hz n) h r = record { uids = r.uids; counts = r.counts }
-statement-kept d (Limit n) h r = record { uids = r.uids; counts = r.counts }
-statement-kept d (Set name cpus) h r = record { uids = r.uids; counts = r.counts }
 statement-kept d (Table class) h r = r
-statement-kept d (Lock k name) h r = record { uids = r.uids; counts = r.counts }
 statement-kept d (Chan name) h r = record { uids = r.uids; counts = all-push kind-fits d.chans (name, kind.Chan) r.counts refl }
 statement-kept d (Sema name n) h r = record { uids = r.uids; counts = all-push kind-fits d.chans (name, kind.Sema n) r.counts (sema-kept d name n h) }
 statement-kept d (Declare t) h r = record { uids = all-push user-fits d.threads (thread_of d t) r.uids (thread-kept d t h); counts = r.counts }
 statement-kept d (Script name) h r = r
+statement-kept d s h r = record { uids = r.uids; counts = r.counts }
 
 stated-kept : (d : Declarations) (o : Option Statement) → stated_cause d o ≡ None → InRange d → InRange (stated d o)
 stated-kept d None h r = absurd (none-some Syntax (sym h))

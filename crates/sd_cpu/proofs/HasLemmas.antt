@@ -49,30 +49,15 @@ module _ (x : Acting) where
 -- by where a thread runs
 pub reordered_is : (w : Work) (s : State) (t : ThreadId) (at : Option Put) (p : Place) (d : CpuId) → Some d ≡ running_cpu (spot_of p) → reordered_parts w s t at p ≡ thread_part t ∷ ready_parts s d
 reordered_is w s t at (place.Running c) d e = ap (λ z. thread_part t ∷ ready_parts s z) (let z : c ≡ d = cc in z)
-reordered_is w s t at (place.Queued c k) d e = cc
-reordered_is w s t at (place.RealTime p k) d e = cc
-reordered_is w s t at (place.Waiting l side k) d e = cc
-reordered_is w s t at (place.Asleep k j) d e = cc
-reordered_is w s t at (place.Napping c due) d e = cc
-reordered_is w s t at place.Ended d e = cc
+reordered_is w s t at p d e = cc
 
 pub reordered_not : (w : Work) (s : State) (t : ThreadId) (at : Option Put) (p : Place) → None ≡ running_cpu (spot_of p) → reordered_parts w s t at p ≡ thread_part t ∷ put_parts_if w t at
 reordered_not w s t at (place.Running c) e = cc
-reordered_not w s t at (place.Queued c k) e = refl
-reordered_not w s t at (place.RealTime p k) e = refl
-reordered_not w s t at (place.Waiting l side k) e = refl
-reordered_not w s t at (place.Asleep k j) e = refl
-reordered_not w s t at (place.Napping c due) e = refl
-reordered_not w s t at place.Ended e = refl
+reordered_not w s t at p e = refl
 
 pub runs_is : (p : Place) (o : Option CpuId) → o ≡ running_cpu (spot_of p) → runs_parts p ≡ bound_parts o
 runs_is (place.Running c) o e = ap bound_parts (sym e)
-runs_is (place.Queued c k) o e = ap bound_parts (sym e)
-runs_is (place.RealTime p k) o e = ap bound_parts (sym e)
-runs_is (place.Waiting l side k) o e = ap bound_parts (sym e)
-runs_is (place.Asleep k j) o e = ap bound_parts (sym e)
-runs_is (place.Napping c due) o e = ap bound_parts (sym e)
-runs_is place.Ended o e = ap bound_parts (sym e)
+runs_is p o e = ap bound_parts (sym e)
 
 -- nothing is lacking but what is not there
 pub no_lack : (x : Acting) (q p : Part) → IsAmong q (p ∷ []) → has_part x q ≡ false → has_part x p ≡ true → ⊥

@@ -26,7 +26,7 @@ use Rattle.sd_types.specs.declared.works.Work.{Work}
 use Rattle.sd_rules.specs.Priocntl.{entered, judged}
 use Rattle.sd_state.specs.declared.states.CpuState.{CpuState}
 use Rattle.sd_state.specs.declared.states.Place.{Place}
-use Rattle.sd_state.specs.declared.states.Place.TheVariants.{Running, Queued, RealTime, Waiting, Asleep, Napping, Ended}
+use Rattle.sd_state.specs.declared.states.Place.TheVariants.{Running, Waiting}
 use Rattle.sd_state.specs.declared.states.State.{State}
 use Rattle.sd_state.specs.States.{cpu_of, thread_of, with_cpu}
 use Rattle.sd_state.specs.Operations.{op_of}
@@ -40,11 +40,11 @@ use Rattle.sd_machine.specs.Sleeping.{rouse_key, roused, roused_on, woken}
 use Rattle.sd_machine.specs.Threads.{best_sleeper_below, eff_of, greatest_waiting, has_ended, priority_of, runner}
 use Rattle.sd_machine.specs.Walking.{is_back, walked, willed}
 use Rattle.sd_store.specs.declared.spots.Chore.TheVariants as chore
-use Rattle.sd_store.specs.Walks.{next_to_rouse, walk_begun, walk_gone_on}
+use Rattle.sd_store.specs.Walks.{next_to_rouse, walk_gone_on}
 use Rattle.sd_encoding.specs.Order.{OfThread, OfCpu, key_held, key_in}
 use Rattle.sd_encoding.specs.Order.{key_at as key_of_place}
 use Rattle.sd_encoding.proofs.AlikeLemmas.{IsBlind, blind_place, body_same, duty_with, key_or_zero, place_alike, place_with}
-use Rattle.sd_encoding.proofs.ChangeLemmas.{begun_alike, duty_alike_after, duty_step, gone_alike}
+use Rattle.sd_encoding.proofs.ChangeLemmas.{duty_alike_after, duty_step, gone_alike}
 use Rattle.sd_encoding.proofs.PassLemmas.{assigned_alike, cv_alike, exited_alike, granted_alike, joined_alike, moved_alike, owned_alike, passed_alike, pbound_alike, read_alike, sema_counted_alike, sema_handed_alike, sema_taken_alike, unblocked_alike, walk_ended_alike, woke_alike, woke_all_alike}
 use Rattle.sd_encoding.proofs.PutLemmas.{class_given, finish_alike, looped_alike, number_alike, reordered_alike, woken_alike}
 use Rattle.sd_encoding.proofs.RunLemmas.{aged_alike, asleep_alike, blocked_alike, dispatched_alike, done_alike, idled_alike, napped_alike, preempted_alike, sent_away_alike, spun_alike, stolen_alike, ticked_alike, yielded_alike}
@@ -120,12 +120,7 @@ roused_alike n m x s h w c k (Some u) =
 
 ended_blind : IsBlind has_ended
 ended_blind (Running c) = refl
-ended_blind (Queued c key) = refl
-ended_blind (RealTime p key) = refl
-ended_blind (Waiting l side key) = refl
-ended_blind (Asleep k key) = refl
-ended_blind (Napping c due) = refl
-ended_blind Ended = refl
+ended_blind _ = refl
 
 module _ (n m : ℕ) (x s : State) (h : AreAlike n m x s) where
   pub ended_same : (u : ℕ) → has_ended (thread_of x u).place ≡ has_ended (thread_of s u).place
@@ -171,12 +166,7 @@ module _ (n m : ℕ) (x s : State) (h : AreAlike n m x s) (w : Work) (c : CpuId)
       let begun : AreAlike n m (set_duty y c.0 (duty.Walk l u key)) (set_duty z c.0 (duty.Walk l u j)) =
       duty_step n m y z classed c.0 (duty.Walk l u key) (duty.Walk l u j) (From (OfThread u.0)) refl (sym (ap key_of_place here)) (sym (ap key_of_place there)) in
       rw (stays n (eff_of x u.0) y l side key here none, stays m (eff_of s u.0) z l side j there none) (alike_later n m (set_duty y c.0 (duty.Walk l u key)) (set_duty z c.0 (duty.Walk l u j)) begun)
-  begins (Running d) j px ps none = moved_on
-  begins (Queued d key) j px ps none = moved_on
-  begins (RealTime r key) j px ps none = moved_on
-  begins (Asleep k key) j px ps none = moved_on
-  begins (Napping d due) j px ps none = moved_on
-  begins Ended j px ps none = moved_on
+  begins q j px ps none = moved_on
 
   changed_to_alike : IsUnmoved (thread_of s u.0).place (Changed p at) → AreAlike (n + 1) (m + 1) (changed_to w x n c u at a) (changed_to w s m c u at b)
   unfolding y z

@@ -6,7 +6,7 @@ use Rattle.sd_types.specs.declared.events.Duty.{Duty}
 use Rattle.sd_types.specs.declared.events.Duty.TheVariants as duty
 use Rattle.sd_state.specs.declared.states.CpuState.{CpuState}
 use Rattle.sd_state.specs.declared.states.Place.{Place}
-use Rattle.sd_state.specs.declared.states.Place.TheVariants.{Running, Queued, RealTime, Waiting, Asleep, Napping, Ended}
+use Rattle.sd_state.specs.declared.states.Place.TheVariants.{Running, Queued, RealTime, Waiting, Asleep}
 use Rattle.sd_state.specs.declared.states.ThreadState.{ThreadState}
 use Rattle.sd_state.specs.declared.states.State.{State}
 use Rattle.sd_state.specs.States.{cpu_of, no_cpu, no_thread, thread_of}
@@ -51,21 +51,11 @@ blind_duty f blind p q e = sym (blind p) ∙ ap f e ∙ blind q
 
 pub spot_blind : IsBlind spot_of
 spot_blind (Running c) = refl
-spot_blind (Queued c key) = refl
-spot_blind (RealTime p key) = refl
-spot_blind (Waiting l side key) = refl
-spot_blind (Asleep k key) = refl
-spot_blind (Napping c due) = refl
-spot_blind Ended = refl
+spot_blind _ = refl
 
 pub task_blind : IsBlindTask task_of
 task_blind duty.Nothing = refl
-task_blind (duty.Walk l seek key) = refl
-task_blind (duty.WakeMutex l) = refl
-task_blind (duty.GrantWriter l) = refl
-task_blind (duty.GrantReaders l) = refl
-task_blind (duty.Rouse k below) = refl
-task_blind (duty.Age u) = refl
+task_blind _ = refl
 
 -- With another key.
 
@@ -87,39 +77,19 @@ key_or_zero (Some key) = key
 
 place_again : (p : Place) → p ≡ place_with (bare_place p) (key_or_zero (key_at p))
 place_again (Running c) = refl
-place_again (Queued c key) = refl
-place_again (RealTime p key) = refl
-place_again (Waiting l side key) = refl
-place_again (Asleep k key) = refl
-place_again (Napping c due) = refl
-place_again Ended = refl
+place_again p = refl
 
 place_twice : (p : Place) (j : ℤ) → place_with (bare_place p) j ≡ place_with p j
 place_twice (Running c) j = refl
-place_twice (Queued c key) j = refl
-place_twice (RealTime p key) j = refl
-place_twice (Waiting l side key) j = refl
-place_twice (Asleep k key) j = refl
-place_twice (Napping c due) j = refl
-place_twice Ended j = refl
+place_twice p j = refl
 
 duty_again : (d : Duty) → d ≡ duty_with (bare_duty d) (key_or_zero (key_in d))
 duty_again duty.Nothing = refl
-duty_again (duty.Walk l seek key) = refl
-duty_again (duty.WakeMutex l) = refl
-duty_again (duty.GrantWriter l) = refl
-duty_again (duty.GrantReaders l) = refl
-duty_again (duty.Rouse k below) = refl
-duty_again (duty.Age u) = refl
+duty_again d = refl
 
 duty_twice : (d : Duty) (j : ℤ) → duty_with (bare_duty d) j ≡ duty_with d j
 duty_twice duty.Nothing j = refl
-duty_twice (duty.Walk l seek key) j = refl
-duty_twice (duty.WakeMutex l) j = refl
-duty_twice (duty.GrantWriter l) j = refl
-duty_twice (duty.GrantReaders l) j = refl
-duty_twice (duty.Rouse k below) j = refl
-duty_twice (duty.Age u) j = refl
+duty_twice d j = refl
 
 -- the one is the other with a key of its own
 pub place_rekeyed : (p q : Place) → bare_place p ≡ bare_place q → q ≡ place_with p (key_or_zero (key_at q))
@@ -132,21 +102,11 @@ duty_rekeyed d e same = duty_again e ∙ ap (λ z. duty_with z (key_or_zero (key
 
 key_blind : IsBlind (λ place. is_some (key_at place))
 key_blind (Running c) = refl
-key_blind (Queued c key) = refl
-key_blind (RealTime p key) = refl
-key_blind (Waiting l side key) = refl
-key_blind (Asleep k key) = refl
-key_blind (Napping c due) = refl
-key_blind Ended = refl
+key_blind _ = refl
 
 key_blind_in : IsBlindTask (λ d. is_some (key_in d))
 key_blind_in duty.Nothing = refl
-key_blind_in (duty.Walk l seek key) = refl
-key_blind_in (duty.WakeMutex l) = refl
-key_blind_in (duty.GrantWriter l) = refl
-key_blind_in (duty.GrantReaders l) = refl
-key_blind_in (duty.Rouse k below) = refl
-key_blind_in (duty.Age u) = refl
+key_blind_in _ = refl
 
 pub there_alike : (x s : State) → bare x ≡ bare s → (a : Holder) → is_some (key_held x a) ≡ is_some (key_held s a)
 there_alike x s e (OfThread t) = blind_place (λ place. is_some (key_at place)) key_blind (thread_of x t).place (thread_of s t).place (place_alike x s e t)

@@ -46,10 +46,7 @@ use Rattle.sd_encoding.proofs.TellLemmas.{count_same, open_same, set_same}
 
 chore_key : (chore : Chore) → key_in (duty_of chore) ≡ None
 chore_key chore.Nothing = refl
-chore_key (chore.WakeMutex l) = refl
-chore_key (chore.GrantWriter l) = refl
-chore_key (chore.GrantReaders l) = refl
-chore_key (chore.Age u) = refl
+chore_key chore = refl
 
 bare_counted_by : (test : Bool) (d : Duty) → bare_duty (if test then duty.Age (record { 0 = 0 }) else d) ≡ (if test then duty.Age (record { 0 = 0 }) else bare_duty d)
 bare_counted_by true d = refl
@@ -83,32 +80,19 @@ to_source to.Nowhere = Gone
 to_key : (n : ℕ) (z : State) (c : CpuId) (at : Destination) → key_at (place_by n c at) ≡ key_from n z (to_source at)
 unfolding end_source
 to_key n z c (to.Queue d end.Back) = refl
-to_key n z c (to.Queue d end.Front) = refl
 to_key n z c (to.RealTime p end.Back) = refl
-to_key n z c (to.RealTime p end.Front) = refl
-to_key n z c (to.Turnstile l side) = refl
-to_key n z c (to.SleepQueue k) = refl
-to_key n z c (to.Nap due) = refl
-to_key n z c to.Nowhere = refl
+to_key n z c at = refl
 
 to_bare : (n m : ℕ) (c : CpuId) (at : Destination) → bare_place (place_by n c at) ≡ bare_place (place_by m c at)
 to_bare n m c (to.Queue d end) = refl
-to_bare n m c (to.RealTime p end) = refl
-to_bare n m c (to.Turnstile l side) = refl
-to_bare n m c (to.SleepQueue k) = refl
-to_bare n m c (to.Nap due) = refl
-to_bare n m c to.Nowhere = refl
+to_bare n m c at = refl
 
 back_sleeps : (n : ℕ) → int_lt (back_key n) (pos 0) ≡ false
 back_sleeps n = grind (arith, nat_tests, ints)
 
 to_sleeper : (n : ℕ) (c : CpuId) (at : Destination) → IsSleeperKey (place_by n c at)
-to_sleeper n c (to.Queue d end) = tt
-to_sleeper n c (to.RealTime p end) = tt
-to_sleeper n c (to.Turnstile l side) = tt
 to_sleeper n c (to.SleepQueue k) = back_sleeps n
-to_sleeper n c (to.Nap due) = tt
-to_sleeper n c to.Nowhere = tt
+to_sleeper n c at = tt
 
 since_later : (n m : ℕ) (b : Source) (x s : State) → AreAlike (since n b) (since m b) x s → AreAlike (n + 1) (m + 1) x s
 since_later n m Gone x s h = alike_later n m x s h
@@ -133,12 +117,7 @@ module _ (n m : ℕ) (x s : State) (h : AreAlike n m x s) where
   begun_from : (c : CpuId) (t : ThreadId) (p : Place) (j : ℤ) → key_at p ≡ key_held x (OfThread t.0) → key_at (place_with p j) ≡ key_held s (OfThread t.0)
       → AreAlike n m (walk_from x c t p) (walk_from s c t (place_with p j))
   begun_from c t (Waiting l side k) j e f = duty_step c.0 (duty.Walk l t k) (duty.Walk l t j) (From (OfThread t.0)) refl e f
-  begun_from c t (Running d) j e f = h
-  begun_from c t (Queued d k) j e f = h
-  begun_from c t (RealTime q k) j e f = h
-  begun_from c t (Asleep r k) j e f = h
-  begun_from c t (Napping d due) j e f = h
-  begun_from c t Ended j e f = h
+  begun_from c t p j e f = h
 
   pub begun_alike : (c : CpuId) (t : ThreadId) → AreAlike n m (walk_begun x c t) (walk_begun s c t)
   unfolding walk_begun

@@ -29,21 +29,11 @@ rank_held s (Some key) = Some (rank s key)
 
 place_key : (s : State) (p : Place) → key_at (ranked_place s p) ≡ rank_held s (key_at p)
 place_key s (Running c) = refl
-place_key s (Queued c key) = refl
-place_key s (RealTime p key) = refl
-place_key s (Waiting l side key) = refl
-place_key s (Asleep k key) = refl
-place_key s (Napping c due) = refl
-place_key s Ended = refl
+place_key s p = refl
 
 duty_key : (s : State) (d : Duty) → key_in (ranked_duty s d) ≡ rank_held s (key_in d)
 duty_key s duty.Nothing = refl
-duty_key s (duty.Walk l seek key) = refl
-duty_key s (duty.WakeMutex l) = refl
-duty_key s (duty.GrantWriter l) = refl
-duty_key s (duty.GrantReaders l) = refl
-duty_key s (duty.Rouse k below) = refl
-duty_key s (duty.Age u) = refl
+duty_key s d = refl
 
 thread_is : (s : State) (t : ℕ) → thread_of (ranked s) t ≡ ranked_thread s (thread_of s t)
 thread_is s t = get_or-map (ranked_thread s) s.threads t no_thread
@@ -120,21 +110,11 @@ module _ (s : State) where
 
 place_bare : (s : State) (p : Place) → bare_place (ranked_place s p) ≡ bare_place p
 place_bare s (Running c) = refl
-place_bare s (Queued c key) = refl
-place_bare s (RealTime p key) = refl
-place_bare s (Waiting l side key) = refl
-place_bare s (Asleep k key) = refl
-place_bare s (Napping c due) = refl
-place_bare s Ended = refl
+place_bare s p = refl
 
 duty_bare : (s : State) (d : Duty) → bare_duty (ranked_duty s d) ≡ bare_duty d
 duty_bare s duty.Nothing = refl
-duty_bare s (duty.Walk l seek key) = refl
-duty_bare s (duty.WakeMutex l) = refl
-duty_bare s (duty.GrantWriter l) = refl
-duty_bare s (duty.GrantReaders l) = refl
-duty_bare s (duty.Rouse k below) = refl
-duty_bare s (duty.Age u) = refl
+duty_bare s d = refl
 
 map_over : {X : Type 0} (f g : X → X) (xs : List X) → ((x : X) → f (g x) ≡ f x) → map f (map g xs) ≡ map f xs
 map_over f g [] h = refl
@@ -177,12 +157,7 @@ rank_fits n s small (Some key) =
 
 sleeper_rank : (s : State) (p : Place) → IsSleeperKey (ranked_place s p)
 sleeper_rank s (Asleep k key) = not_under (many_below s key)
-sleeper_rank s (Running c) = tt
-sleeper_rank s (Queued c key) = tt
-sleeper_rank s (RealTime p key) = tt
-sleeper_rank s (Waiting l side key) = tt
-sleeper_rank s (Napping c due) = tt
-sleeper_rank s Ended = tt
+sleeper_rank s p = tt
 
 pub ranked_fits : (n : ℕ) (s : State) → length s.threads + length s.cpus < 4096 + n → KeysFit n (ranked s)
 ranked_fits n s small = record {
@@ -215,11 +190,7 @@ module _ (x s : State) (h : IsSameOrder x s) where
   duty_ranked : (c : ℕ) (d : Duty) (j : ℤ) → (cpu_of x c).duty ≡ d → (cpu_of s c).duty ≡ duty_with d j → ranked_duty x d ≡ ranked_duty s (duty_with d j)
   duty_ranked c (duty.Walk l seek k) j e f = ap (duty.Walk l seek) (rank_same (OfCpu c) k j (ap key_in e) (ap key_in f))
   duty_ranked c (duty.Rouse r k) j e f = ap (duty.Rouse r) (rank_same (OfCpu c) k j (ap key_in e) (ap key_in f))
-  duty_ranked c duty.Nothing j e f = refl
-  duty_ranked c (duty.WakeMutex l) j e f = refl
-  duty_ranked c (duty.GrantWriter l) j e f = refl
-  duty_ranked c (duty.GrantReaders l) j e f = refl
-  duty_ranked c (duty.Age u) j e f = refl
+  duty_ranked c d j e f = refl
 
   thread_ranked : (t : ℕ) → ranked_thread x (thread_of x t) ≡ ranked_thread s (thread_of s t)
   thread_ranked t =

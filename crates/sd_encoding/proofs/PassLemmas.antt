@@ -19,7 +19,7 @@ use Rattle.sd_types.specs.Works.{is_mutex}
 use Rattle.sd_state.specs.declared.states.LockState.{LockState}
 use Rattle.sd_state.specs.declared.states.LockState.TheVariants.{Free, Owned, ReadHeld, Passing}
 use Rattle.sd_state.specs.declared.states.Place.{Place}
-use Rattle.sd_state.specs.declared.states.Place.TheVariants.{Running, Queued, RealTime, Waiting, Asleep, Napping, Ended}
+use Rattle.sd_state.specs.declared.states.Place.TheVariants.{Running}
 use Rattle.sd_state.specs.declared.states.State.{State}
 use Rattle.sd_state.specs.States.{cpu_of, thread_of}
 use Rattle.sd_machine.specs.Changes.{back_key, bind, set_duty, set_kernel_mark}
@@ -168,12 +168,7 @@ module _ (n m : ℕ) (x s : State) (h : AreAlike n m x s) where
 
   granted_by : (w : Work) (c : CpuId) (l : LockId) (u : ℕ) (at : Put) (d : Duty) (j : ℤ) → AreAlike (n + 1) (m + 1) (granted w x n c l u at d) (granted w s m c l u at (duty_with d j))
   granted_by w c l u at (duty.GrantWriter r) j = to_writer_alike w c l u at
-  granted_by w c l u at duty.Nothing j = to_reader_alike w l u at
-  granted_by w c l u at (duty.Walk r seek key) j = to_reader_alike w l u at
-  granted_by w c l u at (duty.WakeMutex r) j = to_reader_alike w l u at
-  granted_by w c l u at (duty.GrantReaders r) j = to_reader_alike w l u at
-  granted_by w c l u at (duty.Rouse k below) j = to_reader_alike w l u at
-  granted_by w c l u at (duty.Age v) j = to_reader_alike w l u at
+  granted_by w c l u at d j = to_reader_alike w l u at
 
   pub granted_alike : (w : Work) (c : CpuId) (l : LockId) (u : ℕ) (at : Put) → AreAlike (n + 1) (m + 1) (granted w x n c l u at (cpu_of x c.0).duty) (granted w s m c l u at (cpu_of s c.0).duty)
   granted_alike w c l u at =
@@ -213,12 +208,7 @@ cleared_by n m x s h d o p e = subst (λ z. AreAlike n m (cleared x d o) (cleare
 
 called_by : (n m : ℕ) (x s : State) → AreAlike n m x s → (d : CpuId) (p : Place) (j : ℤ) → AreAlike n m (called_back x d p) (called_back s d (place_with p j))
 called_by n m x s h d (Running c) j = if_alike n m x (set_kernel_mark x c.0) s (set_kernel_mark s c.0) (c.0 == d.0) (c.0 == d.0) refl h (kernel_alike n m x s h c.0)
-called_by n m x s h d (Queued c k) j = h
-called_by n m x s h d (RealTime p k) j = h
-called_by n m x s h d (Waiting l side k) j = h
-called_by n m x s h d (Asleep r k) j = h
-called_by n m x s h d (Napping c due) j = h
-called_by n m x s h d Ended j = h
+called_by n m x s h d _ j = h
 
 module _ (n m : ℕ) (x s : State) (h : AreAlike n m x s) where
   pub assigned_alike : (w : Work) (t : ℕ) (d : CpuId) (at : SetId) (answer : AssignAnswer) → AreAlike n m (assigned w x t d at answer) (assigned w s t d at answer)

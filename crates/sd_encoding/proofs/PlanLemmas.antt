@@ -55,30 +55,15 @@ use Rattle.sd_encoding.proofs.TellLemmas.{best_queued_same, best_ready_same, bes
 
 requeue_blind : (p : ℕ) (bound : Option CpuId) → IsBlind (λ place. requeue_at place p bound)
 requeue_blind p bound (Running c) = refl
-requeue_blind p bound (Queued c key) = refl
-requeue_blind p bound (RealTime q key) = refl
-requeue_blind p bound (Waiting l side key) = refl
-requeue_blind p bound (Asleep k key) = refl
-requeue_blind p bound (Napping c due) = refl
-requeue_blind p bound Ended = refl
+requeue_blind p bound _ = refl
 
 runs_blind : IsBlind runs_somewhere
 runs_blind (Running c) = refl
-runs_blind (Queued c key) = refl
-runs_blind (RealTime q key) = refl
-runs_blind (Waiting l side key) = refl
-runs_blind (Asleep k key) = refl
-runs_blind (Napping c due) = refl
-runs_blind Ended = refl
+runs_blind _ = refl
 
 bound_blind : (d : CpuId) → IsBlind (bound_put d)
 bound_blind d (Running c) = refl
-bound_blind d (Queued c key) = refl
-bound_blind d (RealTime q key) = refl
-bound_blind d (Waiting l side key) = refl
-bound_blind d (Asleep k key) = refl
-bound_blind d (Napping c due) = refl
-bound_blind d Ended = refl
+bound_blind d _ = refl
 
 unbound_blind : (p : ℕ) (bound : Option CpuId) → IsBlind (unbound_put p bound)
 unbound_blind p None place = refl
@@ -174,12 +159,7 @@ module _ (n m : ℕ) (x s : State) (h : AreAlike n m x s) where
 
   ageing_by : (w : Work) (c : ℕ) (d : Duty) (j : ℤ) → ageing_plan_of w x c d ≡ ageing_plan_of w s c (duty_with d j)
   ageing_by w c (duty.Age u) j = age_by w (next_to_age x c u.0) ∙ ap (age_plan w s) (next_to_age_same x s h.same c u.0)
-  ageing_by w c duty.Nothing j = refl
-  ageing_by w c (duty.Walk l seek key) j = refl
-  ageing_by w c (duty.WakeMutex l) j = refl
-  ageing_by w c (duty.GrantWriter l) j = refl
-  ageing_by w c (duty.GrantReaders l) j = refl
-  ageing_by w c (duty.Rouse k below) j = refl
+  ageing_by w c d j = refl
 
   ageing_plan_same : (w : Work) (c : ℕ) → ageing_plan w x c ≡ ageing_plan w s c
   unfolding ageing_plan

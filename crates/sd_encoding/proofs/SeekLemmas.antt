@@ -29,12 +29,6 @@ use Rattle.sd_encoding.proofs.TellLemmas.{asleep_blind, asleep_key, beats_same}
 -- a thread and a duty with other keys: the thread is one of those to be woken in both or in neither
 below_same : (k : ℕ) (p : Place) (d : Duty) (i j : ℤ) → is_below (key_at p) (key_in d) ≡ is_below (key_at (place_with p i)) (key_in (duty_with d j))
     → IsSleeperKey p → IsSleeperKey (place_with p i) → is_asleep_below k (rouse_key d) p ≡ is_asleep_below k (rouse_key (duty_with d j)) (place_with p i)
-below_same k (Running c) d i j e f g = refl
-below_same k (Queued c key) d i j e f g = refl
-below_same k (RealTime q key) d i j e f g = refl
-below_same k (Waiting l side key) d i j e f g = refl
-below_same k (Napping c due) d i j e f g = refl
-below_same k Ended d i j e f g = refl
 below_same k (Asleep m key) (duty.Rouse r below) i j e f g = ap (λ b. (m.0 == k) && b) e
 below_same k (Asleep m key) (duty.Walk l seek at) i j e f g = ap (λ b. (m.0 == k) && b) (f ∙ sym g)
 below_same k (Asleep m key) duty.Nothing i j e f g = ap (λ b. (m.0 == k) && b) (f ∙ sym g)
@@ -42,15 +36,11 @@ below_same k (Asleep m key) (duty.WakeMutex l) i j e f g = ap (λ b. (m.0 == k) 
 below_same k (Asleep m key) (duty.GrantWriter l) i j e f g = ap (λ b. (m.0 == k) && b) (f ∙ sym g)
 below_same k (Asleep m key) (duty.GrantReaders l) i j e f g = ap (λ b. (m.0 == k) && b) (f ∙ sym g)
 below_same k (Asleep m key) (duty.Age u) i j e f g = ap (λ b. (m.0 == k) && b) (f ∙ sym g)
+below_same k p d i j e f g = refl
 
 asleep_too : (k : ℕ) (below : ℤ) (p : Place) → is_asleep_below k below p ≡ true → is_asleep k p ≡ true
 asleep_too k below (Asleep m key) e = and_left (m.0 == k) (int_lt key below) e
-asleep_too k below (Running c) e = cc
-asleep_too k below (Queued c key) e = cc
-asleep_too k below (RealTime q key) e = cc
-asleep_too k below (Waiting l side key) e = cc
-asleep_too k below (Napping c due) e = cc
-asleep_too k below Ended e = cc
+asleep_too k below p e = cc
 
 -- Where a walk goes.
 

@@ -1,5 +1,5 @@
 -- What a look-up tells of states whose keys have the same order: the same of each.
-use Rattle.std.proofs.Common.{◌≡◌, ℕ, ◌+◌, ◌-◌, Bool, true, false, ◌&&◌, List, [], ◌∷◌, length, map, get_or, drop, set, int_lt, Some, is_none, option_map, refl, sym, ap, ◌∙◌}
+use Rattle.std.proofs.Common.{◌≡◌, ℕ, ◌+◌, ◌-◌, Bool, true, ◌&&◌, List, [], ◌∷◌, length, map, get_or, drop, set, int_lt, Some, is_none, option_map, refl, sym, ap, ◌∙◌}
 use Rattle.std.specs.Prelude.{nat_le, nat_lt}
 use Rattle.std.proofs.lemmas.List.{get_or-drop, length-drop, map-set}
 use Rattle.sd_types.specs.declared.numbers.LockId.{LockId}
@@ -8,7 +8,7 @@ use Rattle.sd_types.specs.declared.works.Work.{Work}
 use Rattle.sd_types.specs.Priorities.{eff}
 use Rattle.sd_state.specs.declared.states.CpuState.{CpuState}
 use Rattle.sd_state.specs.declared.states.Place.{Place}
-use Rattle.sd_state.specs.declared.states.Place.TheVariants.{Running, Queued, RealTime, Waiting, Asleep, Napping, Ended}
+use Rattle.sd_state.specs.declared.states.Place.TheVariants.{Running, Queued, RealTime, Waiting, Asleep, Ended}
 use Rattle.sd_state.specs.declared.states.ThreadState.{ThreadState}
 use Rattle.sd_state.specs.declared.states.State.{State}
 use Rattle.sd_state.specs.States.{cpu_of, is_queued, is_ready, is_running, key_of, no_cpu, no_thread, thread_of}
@@ -27,122 +27,58 @@ use Rattle.sd_encoding.proofs.ListLemmas.{best_same, position_same, all_same, an
 
 running_blind : (c : ℕ) → IsBlind (is_running c)
 running_blind c (Running d) = refl
-running_blind c (Queued d key) = refl
-running_blind c (RealTime p key) = refl
-running_blind c (Waiting l side key) = refl
-running_blind c (Asleep k key) = refl
-running_blind c (Napping d due) = refl
-running_blind c Ended = refl
+running_blind c _ = refl
 
 queued_blind : (c : ℕ) → IsBlind (is_queued c)
 queued_blind c (Running d) = refl
-queued_blind c (Queued d key) = refl
-queued_blind c (RealTime p key) = refl
-queued_blind c (Waiting l side key) = refl
-queued_blind c (Asleep k key) = refl
-queued_blind c (Napping d due) = refl
-queued_blind c Ended = refl
+queued_blind c _ = refl
 
 ready_blind : (c p : ℕ) → IsBlind (is_ready c p)
 ready_blind c p (Running d) = refl
-ready_blind c p (Queued d key) = refl
-ready_blind c p (RealTime q key) = refl
-ready_blind c p (Waiting l side key) = refl
-ready_blind c p (Asleep k key) = refl
-ready_blind c p (Napping d due) = refl
-ready_blind c p Ended = refl
+ready_blind c p _ = refl
 
 waiting_blind : (l : ℕ) → IsBlind (is_waiting l)
 waiting_blind l (Running d) = refl
-waiting_blind l (Queued d key) = refl
-waiting_blind l (RealTime q key) = refl
-waiting_blind l (Waiting m side key) = refl
-waiting_blind l (Asleep k key) = refl
-waiting_blind l (Napping d due) = refl
-waiting_blind l Ended = refl
+waiting_blind l _ = refl
 
 waiting_at_blind : (l : ℕ) (side : Side) → IsBlind (is_waiting_at l side)
 waiting_at_blind l side (Running d) = refl
-waiting_at_blind l side (Queued d key) = refl
-waiting_at_blind l side (RealTime q key) = refl
-waiting_at_blind l side (Waiting m other key) = refl
-waiting_at_blind l side (Asleep k key) = refl
-waiting_at_blind l side (Napping d due) = refl
-waiting_at_blind l side Ended = refl
+waiting_at_blind l side _ = refl
 
 pub asleep_blind : (k : ℕ) → IsBlind (is_asleep k)
 asleep_blind k (Running d) = refl
-asleep_blind k (Queued d key) = refl
-asleep_blind k (RealTime q key) = refl
-asleep_blind k (Waiting m other key) = refl
-asleep_blind k (Asleep j key) = refl
-asleep_blind k (Napping d due) = refl
-asleep_blind k Ended = refl
+asleep_blind k _ = refl
 
 due_blind : (c count : ℕ) → IsBlind (is_due c count)
 due_blind c count (Running d) = refl
-due_blind c count (Queued d key) = refl
-due_blind c count (RealTime q key) = refl
-due_blind c count (Waiting m other key) = refl
-due_blind c count (Asleep j key) = refl
-due_blind c count (Napping d due) = refl
-due_blind c count Ended = refl
+due_blind c count _ = refl
 
 due_of_blind : IsBlind due_of
 due_of_blind (Running d) = refl
-due_of_blind (Queued d key) = refl
-due_of_blind (RealTime q key) = refl
-due_of_blind (Waiting m other key) = refl
-due_of_blind (Asleep j key) = refl
-due_of_blind (Napping d due) = refl
-due_of_blind Ended = refl
+due_of_blind _ = refl
 
 rank_blind : IsBlind queue_rank
 rank_blind (Running d) = refl
-rank_blind (Queued d key) = refl
-rank_blind (RealTime q key) = refl
-rank_blind (Waiting m other key) = refl
-rank_blind (Asleep j key) = refl
-rank_blind (Napping d due) = refl
-rank_blind Ended = refl
+rank_blind _ = refl
 
 -- Who stands somewhere has a key there, and the order is that of keys.
 
 queued_key : (c : ℕ) (place : Place) → is_queued c place ≡ true → key_at place ≡ Some (key_of place)
 queued_key c (Queued d key) h = refl
-queued_key c (Running d) h = cc
-queued_key c (RealTime p key) h = cc
-queued_key c (Waiting l side key) h = cc
-queued_key c (Asleep k key) h = cc
-queued_key c (Napping d due) h = cc
-queued_key c Ended h = cc
+queued_key c place h = cc
 
 ready_key : (c p : ℕ) (place : Place) → is_ready c p place ≡ true → key_at place ≡ Some (key_of place)
 ready_key c p (Queued d key) h = refl
-ready_key c p (Running d) h = cc
 ready_key c p (RealTime q key) h = refl
-ready_key c p (Waiting l side key) h = cc
-ready_key c p (Asleep k key) h = cc
-ready_key c p (Napping d due) h = cc
-ready_key c p Ended h = cc
+ready_key c p place h = cc
 
 waiting_key : (l : ℕ) (side : Side) (place : Place) → is_waiting_at l side place ≡ true → key_at place ≡ Some (key_of place)
 waiting_key l side (Waiting m other key) h = refl
-waiting_key l side (Running d) h = cc
-waiting_key l side (Queued d key) h = cc
-waiting_key l side (RealTime q key) h = cc
-waiting_key l side (Asleep k key) h = cc
-waiting_key l side (Napping d due) h = cc
-waiting_key l side Ended h = cc
+waiting_key l side place h = cc
 
 pub asleep_key : (k : ℕ) (place : Place) → is_asleep k place ≡ true → key_at place ≡ Some (key_of place)
 asleep_key k (Asleep j key) h = refl
-asleep_key k (Running d) h = cc
-asleep_key k (Queued d key) h = cc
-asleep_key k (RealTime q key) h = cc
-asleep_key k (Waiting l side key) h = cc
-asleep_key k (Napping d due) h = cc
-asleep_key k Ended h = cc
+asleep_key k place h = cc
 
 -- a test of places that only those with a key pass
 abbrev pub HasKey : (Place → Bool) → Type 0

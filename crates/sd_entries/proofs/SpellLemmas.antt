@@ -5,11 +5,10 @@ use Rattle.std.specs.List.{join_with_byte}
 use Rattle.std.specs.Fmt.{decimal}
 use Rattle.std.proofs.lemmas.List.{append-nil}
 use Rattle.sd_types.specs.declared.events.Event.{Event}
-use Rattle.sd_types.specs.declared.events.Event.TheVariants.{Tick, Spin, Idle, Dispatch, Steal, Preempt, Yield, Done, Nap, Napend, Sleep, Wake, Wakeall, Rouse, Enter, Read, Write, Block, Will, End as WalkEnd, Exit, Unblock, Grant, Passed, Age, Prio, CvWait, SemaP, SemaWait, SemaVWake, SemaVCount, Assign, Move, Joined, Bind, Away}
-use Rattle.sd_types.specs.declared.events.End.TheVariants.{Front, Back}
-use Rattle.sd_types.specs.declared.events.Put.TheVariants.{Cpu, RealTime as OnRealTime}
+use Rattle.sd_types.specs.declared.events.Event.TheVariants.{Tick, Idle, Preempt, Yield, Done, Nap, Napend, Wake, Rouse, Will, End as WalkEnd, Unblock, Grant, Passed, Prio, SemaVWake, Assign, Move, Joined, Bind}
+use Rattle.sd_types.specs.declared.events.End.TheVariants.{Front}
+use Rattle.sd_types.specs.declared.events.Put.TheVariants.{Cpu}
 use Rattle.sd_types.specs.declared.events.Hints.{Hints}
-use Rattle.sd_types.specs.declared.events.Denied.TheVariants as denied
 use Rattle.sd_types.specs.declared.events.PrioAnswer.TheVariants as prio
 use Rattle.sd_types.specs.declared.events.AssignAnswer.TheVariants as assign
 use Rattle.sd_types.specs.declared.events.BindAnswer.TheVariants as bind
@@ -33,76 +32,32 @@ prio_pieces t u p q = ap (λ (text : List ℕ). codes "prio " ++ text) (two t u 
 
 event_spelled : (w : Work) (e : Event) → event_text w e ≡ join_with_byte 32 (event_words w e)
 event_spelled w (Tick t) = refl
-event_spelled w (Spin t l) = simp append_assoc
 event_spelled w Idle = refl
-event_spelled w (Dispatch t p) = simp append_assoc
-event_spelled w (Steal v t p) = simp append_assoc
 event_spelled w (Preempt t Front) = simp append_assoc
-event_spelled w (Preempt t Back) = simp append_assoc
 event_spelled w (Yield t) = refl
 event_spelled w (Done t) = refl
 event_spelled w (Nap t) = refl
 event_spelled w (Napend t (Cpu x)) = simp append_assoc
-event_spelled w (Napend t (OnRealTime x)) = simp append_assoc
-event_spelled w (Sleep t k) = simp append_assoc
-event_spelled w (Wake t k None) = simp append_assoc
 event_spelled w (Wake t k (Some (s, (Cpu x)))) = simp append_assoc
-event_spelled w (Wake t k (Some (s, (OnRealTime x)))) = simp append_assoc
-event_spelled w (Wakeall t k) = simp append_assoc
-event_spelled w (Rouse k None) = simp append_assoc
 event_spelled w (Rouse k (Some (s, (Cpu x)))) = simp append_assoc
-event_spelled w (Rouse k (Some (s, (OnRealTime x)))) = simp append_assoc
-event_spelled w (Enter t l) = simp append_assoc
-event_spelled w (Read t l) = simp append_assoc
-event_spelled w (Write t l) = simp append_assoc
-event_spelled w (Block t l) = simp append_assoc
 event_spelled w (Will l o p None) = append-nil (word_thread w (word_lock w (codes "will") l) o ++ codes " " ++ decimal p) ∙ simp append_assoc
 event_spelled w (Will l o p (Some (Cpu x))) = simp append_assoc
-event_spelled w (Will l o p (Some (OnRealTime x))) = simp append_assoc
 event_spelled w (WalkEnd l) = refl
-event_spelled w (Exit t l) = simp append_assoc
 event_spelled w (Unblock l u (Cpu x)) = simp append_assoc
-event_spelled w (Unblock l u (OnRealTime x)) = simp append_assoc
 event_spelled w (Grant l u (Cpu x)) = simp append_assoc
-event_spelled w (Grant l u (OnRealTime x)) = simp append_assoc
 event_spelled w (Passed l) = refl
-event_spelled w (Age t p) = simp append_assoc
 event_spelled w (Prio t u (prio.Changed p None)) =
     prio_pieces (thread_name w t.0) (thread_name w u.0) (decimal p) []
     ∙ ap (λ (text : List ℕ). codes "prio" ++ (32 ∷ (thread_name w t.0 ++ (32 ∷ (thread_name w u.0 ++ (32 ∷ (codes "ok" ++ (32 ∷ text)))))))) (append-nil (decimal p))
 event_spelled w (Prio t u (prio.Changed p (Some (Cpu x)))) = prio_pieces (thread_name w t.0) (thread_name w u.0) (decimal p) (put_text (Cpu x))
-event_spelled w (Prio t u (prio.Changed p (Some (OnRealTime x)))) = prio_pieces (thread_name w t.0) (thread_name w u.0) (decimal p) (put_text (OnRealTime x))
-event_spelled w (Prio t u (prio.Refused denied.ESRCH)) = simp append_assoc
-event_spelled w (Prio t u (prio.Refused denied.EINVAL)) = simp append_assoc
-event_spelled w (Prio t u (prio.Refused denied.EPERM)) = simp append_assoc
-event_spelled w (CvWait t k l) = simp append_assoc
-event_spelled w (SemaP t k) = simp append_assoc
-event_spelled w (SemaWait t k) = simp append_assoc
+event_spelled w (Prio t u (prio.Changed p (Some at))) = prio_pieces (thread_name w t.0) (thread_name w u.0) (decimal p) (put_text at)
 event_spelled w (SemaVWake t k u (Cpu x)) = simp append_assoc
-event_spelled w (SemaVWake t k u (OnRealTime x)) = simp append_assoc
-event_spelled w (SemaVCount t k n) = simp append_assoc
-event_spelled w (Assign t d to assign.Changed) = ap (λ (text : List ℕ). codes "assign " ++ text) (three (thread_name w t.0) (cpu_text d) (set_name w to.0) (assign_text assign.Changed))
-event_spelled w (Assign t d to assign.EPERM) = ap (λ (text : List ℕ). codes "assign " ++ text) (three (thread_name w t.0) (cpu_text d) (set_name w to.0) (assign_text assign.EPERM))
-event_spelled w (Assign t d to assign.EINVAL) = ap (λ (text : List ℕ). codes "assign " ++ text) (three (thread_name w t.0) (cpu_text d) (set_name w to.0) (assign_text assign.EINVAL))
-event_spelled w (Assign t d to assign.EBUSY) = ap (λ (text : List ℕ). codes "assign " ++ text) (three (thread_name w t.0) (cpu_text d) (set_name w to.0) (assign_text assign.EBUSY))
+event_spelled w (Assign t d to answer) = ap (λ (text : List ℕ). codes "assign " ++ text) (three (thread_name w t.0) (cpu_text d) (set_name w to.0) (assign_text answer))
 event_spelled w (Move t (Cpu x)) = simp append_assoc
-event_spelled w (Move t (OnRealTime x)) = simp append_assoc
 event_spelled w (Joined to) = refl
-event_spelled w (Bind t u None (bind.Changed None)) = ap (λ (text : List ℕ). codes "pbind " ++ text) (three (thread_name w t.0) (thread_name w u.0) (cpu_text_if None) (bind_text (bind.Changed None)))
-event_spelled w (Bind t u None (bind.Changed (Some (Cpu x)))) = ap (λ (text : List ℕ). codes "pbind " ++ text) (three (thread_name w t.0) (thread_name w u.0) (cpu_text_if None) (bind_text (bind.Changed (Some (Cpu x)))))
-event_spelled w (Bind t u None (bind.Changed (Some (OnRealTime x)))) = ap (λ (text : List ℕ). codes "pbind " ++ text) (three (thread_name w t.0) (thread_name w u.0) (cpu_text_if None) (bind_text (bind.Changed (Some (OnRealTime x)))))
-event_spelled w (Bind t u None bind.ESRCH) = ap (λ (text : List ℕ). codes "pbind " ++ text) (three (thread_name w t.0) (thread_name w u.0) (cpu_text_if None) (bind_text bind.ESRCH))
-event_spelled w (Bind t u None bind.EINVAL) = ap (λ (text : List ℕ). codes "pbind " ++ text) (three (thread_name w t.0) (thread_name w u.0) (cpu_text_if None) (bind_text bind.EINVAL))
-event_spelled w (Bind t u None bind.EPERM) = ap (λ (text : List ℕ). codes "pbind " ++ text) (three (thread_name w t.0) (thread_name w u.0) (cpu_text_if None) (bind_text bind.EPERM))
-event_spelled w (Bind t u None bind.EBUSY) = ap (λ (text : List ℕ). codes "pbind " ++ text) (three (thread_name w t.0) (thread_name w u.0) (cpu_text_if None) (bind_text bind.EBUSY))
-event_spelled w (Bind t u (Some d) (bind.Changed None)) = ap (λ (text : List ℕ). codes "pbind " ++ text) (three (thread_name w t.0) (thread_name w u.0) (cpu_text_if (Some d)) (bind_text (bind.Changed None)))
-event_spelled w (Bind t u (Some d) (bind.Changed (Some (Cpu x)))) = ap (λ (text : List ℕ). codes "pbind " ++ text) (three (thread_name w t.0) (thread_name w u.0) (cpu_text_if (Some d)) (bind_text (bind.Changed (Some (Cpu x)))))
-event_spelled w (Bind t u (Some d) (bind.Changed (Some (OnRealTime x)))) = ap (λ (text : List ℕ). codes "pbind " ++ text) (three (thread_name w t.0) (thread_name w u.0) (cpu_text_if (Some d)) (bind_text (bind.Changed (Some (OnRealTime x)))))
-event_spelled w (Bind t u (Some d) bind.ESRCH) = ap (λ (text : List ℕ). codes "pbind " ++ text) (three (thread_name w t.0) (thread_name w u.0) (cpu_text_if (Some d)) (bind_text bind.ESRCH))
-event_spelled w (Bind t u (Some d) bind.EINVAL) = ap (λ (text : List ℕ). codes "pbind " ++ text) (three (thread_name w t.0) (thread_name w u.0) (cpu_text_if (Some d)) (bind_text bind.EINVAL))
-event_spelled w (Bind t u (Some d) bind.EPERM) = ap (λ (text : List ℕ). codes "pbind " ++ text) (three (thread_name w t.0) (thread_name w u.0) (cpu_text_if (Some d)) (bind_text bind.EPERM))
-event_spelled w (Bind t u (Some d) bind.EBUSY) = ap (λ (text : List ℕ). codes "pbind " ++ text) (three (thread_name w t.0) (thread_name w u.0) (cpu_text_if (Some d)) (bind_text bind.EBUSY))
-event_spelled w (Away t d) = simp append_assoc
+event_spelled w (Bind t u d (bind.Changed (Some (Cpu x)))) = ap (λ (text : List ℕ). codes "pbind " ++ text) (three (thread_name w t.0) (thread_name w u.0) (cpu_text_if d) (bind_text (bind.Changed (Some (Cpu x)))))
+event_spelled w (Bind t u d answer) = ap (λ (text : List ℕ). codes "pbind " ++ text) (three (thread_name w t.0) (thread_name w u.0) (cpu_text_if d) (bind_text answer))
+event_spelled w e = simp append_assoc
 
 -- hints behind words
 join_hints : (x : List ℕ) (xs : List (List ℕ)) (hs : Option Hints) → join_with_byte 32 (x ∷ (xs ++ hint_words hs)) ≡ join_with_byte 32 (x ∷ xs) ++ hints_text hs

@@ -56,18 +56,11 @@ read_work input bytes work w found is accepted =
 module _ (aim : Aim) (most : ℕ) (input out : StreamChange) where
   -- the input is no workload
   pub unread : (a : Answer) → IsRefused input a → IsUntouched out → SaysNothing aim most input out a
-  unread answer.Done is kept = absurd is
-  unread Usage is kept = absurd is
   unread TooLarge is kept = (is, kept)
-  unread TooLargeToAudit is kept = absurd is
-  unread NoJournal is kept = absurd is
   unread (Refused line cause) is kept = (is, kept)
   unread ReadFault is kept = (is, kept)
-  unread WriteFault is kept = absurd is
   unread OutOfMemory is kept = (is, kept)
-  unread Blocked is kept = absurd is
-  unread (NotAJournal fault) is kept = absurd is
-  unread TooLong is kept = absurd is
+  unread a is kept = absurd is
 
   -- what is said was not written whole
   pub unwritten_told : (told : Told) (e : Unwritten) → IsToldOf aim most input told → (told.text.items ≡ [] → ⊥) → Puts out.before out.after out.faults_before out.faults_after told.text.items (Err e)
@@ -89,18 +82,12 @@ module _ (aim : Aim) (most : ℕ) (input out : StreamChange) where
 
   -- from 2 to 5, where nothing was said
   pub failed : (a : Answer) → SaysNothing aim most input out a → (2 ≤ status_of a) × (status_of a ≤ 5)
-  failed answer.Done c = absurd c
-  failed Usage c = absurd c
   failed TooLarge c = (omega arith, omega arith)
-  failed TooLargeToAudit c = absurd c
-  failed NoJournal c = absurd c
   failed (Refused line cause) c = (omega arith, omega arith)
   failed ReadFault c = (omega arith, omega arith)
   failed WriteFault c = (omega arith, omega arith)
   failed OutOfMemory c = (omega arith, omega arith)
-  failed Blocked c = absurd c
-  failed (NotAJournal fault) c = absurd c
-  failed TooLong c = absurd c
+  failed a c = absurd c
 
   pub done_of : (ended : Result Verdict Answer) → CausedBySearch aim most input out ended → ended_status ended ≡ 0 → Says aim most input out Done
   done_of (Ok Done) c is = c

@@ -10,7 +10,7 @@ use Rattle.sd_types.specs.declared.events.Which.{Which}
 use Rattle.sd_types.specs.declared.events.Which.TheVariants.{Running as OfRunning, Queued as OfQueued}
 use Rattle.sd_types.specs.Priorities.{eff}
 use Rattle.sd_state.specs.declared.states.Place.{Place}
-use Rattle.sd_state.specs.declared.states.Place.TheVariants.{Running, Queued, RealTime, Waiting, Asleep, Napping, Ended}
+use Rattle.sd_state.specs.declared.states.Place.TheVariants.{Running, Queued}
 use Rattle.sd_state.specs.declared.states.ThreadState.{ThreadState}
 use Rattle.sd_state.specs.declared.states.State.{State}
 use Rattle.sd_state.specs.States.{no_thread, is_running, is_queued}
@@ -34,12 +34,7 @@ is_at d (Some c) = c.0 == d
 
 running_on : (d : ℕ) (place : Place) → is_at d (running_at place) ≡ is_running d place
 running_on d (Running c) = refl
-running_on d (Queued c k) = refl
-running_on d (RealTime p k) = refl
-running_on d (Waiting l side k) = refl
-running_on d (Asleep k key) = refl
-running_on d (Napping c due) = refl
-running_on d Ended = refl
+running_on d place = refl
 
 and_false : (b : Bool) → (b && false) ≡ false
 and_false true = refl
@@ -52,12 +47,7 @@ and_true false = refl
 unbound_on : (d : ℕ) (place : Place) (bound : Option CpuId) → is_at d (unbound_at place bound) ≡ (is_queued d place && is_none bound)
 unbound_on d (Queued c k) None = sym (and_true (c.0 == d))
 unbound_on d (Queued c k) (Some e) = sym (and_false (c.0 == d))
-unbound_on d (Running c) bound = refl
-unbound_on d (RealTime p k) bound = refl
-unbound_on d (Waiting l side k) bound = refl
-unbound_on d (Asleep k key) bound = refl
-unbound_on d (Napping c due) bound = refl
-unbound_on d Ended bound = refl
+unbound_on d place bound = refl
 
 at_on : (which : Which) (d : ℕ) (x : ThreadState) → is_at d (shown_at which x) ≡ on which d x
 at_on OfRunning d x = running_on d x.place

@@ -16,7 +16,7 @@ use Rattle.sd_machine.specs.Runs.{IsReached}
 use Rattle.sd_machine.specs.Shapes.{FitsFully}
 use Rattle.sd_machine.specs.Threads.{lock_of, set_of}
 use Rattle.sd_homes.specs.declared.list_id.ListId.{ListId}
-use Rattle.sd_homes.specs.declared.list_id.ListId.TheVariants.{Runs, Queues, Urgent, Waits, Sleeps, Naps, Ends}
+use Rattle.sd_homes.specs.declared.list_id.ListId.TheVariants.{Waits, Sleeps}
 use Rattle.sd_homes.specs.Numbers.{IsHomeOf, IsListOf}
 use Rattle.sd_homes.specs.Standing.{home_at, list_at, list_of}
 use Rattle.sd_footprint.specs.There.{IsThere, StandsThere}
@@ -58,13 +58,9 @@ known_reached w n s reached =
 
 -- a list that is named after what is there is one of a home of the state
 home_there : (s : State) (sp : ListId) → IsListOf s sp → IsHomeOf s (home_at sp)
-home_there s (Runs c) there = there
-home_there s (Queues c) there = there
-home_there s (Urgent p) there = there
 home_there s (Waits l side) there = omega arith
 home_there s (Sleeps k) there = omega arith
-home_there s (Naps c) there = there
-home_there s (Ends c) there = there
+home_there s sp there = there
 
 module _ (w : Work) (s : State) (known : IsKnown w s) where
   pub cpu_inside : (d : CpuId) → d.0 < w.cpus → d.0 < length s.cpus

@@ -10,7 +10,7 @@ use Rattle.sd_frames.specs.Passing.{pass_of}
 use Rattle.sd_frames.proofs.Parts.{put_item, put_same, same_put}
 use Rattle.sd_frames.proofs.FieldWords as W
 use Rattle.sd_frames.proofs.Frames as F
-use Rattle.sd_frames.proofs.Frames.{IsFrame, KeepsCounts, KeepsSets, KeepsRest, Rest, rest_of}
+use Rattle.sd_frames.proofs.Frames.{IsFrame, KeepsRest, Rest, rest_of}
 use Rattle.sd_frames.proofs.CpuWords as C
 use Rattle.sd_types.specs.declared.numbers.ChanId.{ChanId}
 use Rattle.sd_types.specs.declared.numbers.CpuId.{CpuId}
@@ -192,20 +192,11 @@ duty_passes s c d same = C.written pass_part s c _ same
 pub free_passes : (d : Duty) → IsFree d → pass_of d ≡ None
 free_passes duty.Nothing f = refl
 free_passes (duty.Age u) f = refl
-free_passes (duty.Walk l seek k) f = absurd f
-free_passes (duty.WakeMutex l) f = absurd f
-free_passes (duty.GrantWriter l) f = absurd f
-free_passes (duty.GrantReaders l) f = absurd f
-free_passes (duty.Rouse k below) f = absurd f
+free_passes d f = absurd f
 
 dropped_passes : (e : Event) (d : Duty) → pass_of (dropped_duty e d) ≡ pass_of d
 dropped_passes e (duty.Age u) = elim (keeps_ageing e) as (λ b. pass_of (if b then duty.Age u else duty.Nothing) ≡ None) [ true ↦ refl | false ↦ refl ]
-dropped_passes e duty.Nothing = refl
-dropped_passes e (duty.Walk l seek k) = refl
-dropped_passes e (duty.WakeMutex l) = refl
-dropped_passes e (duty.GrantWriter l) = refl
-dropped_passes e (duty.GrantReaders l) = refl
-dropped_passes e (duty.Rouse k below) = refl
+dropped_passes e d = refl
 
 pub drop_passes : (s : State) (c : ℕ) (e : Event) → Passes s (drop_ageing s c e)
 unfolding drop_ageing
@@ -235,20 +226,11 @@ duty_served s c d same = C.written served_part s c _ same
 pub free_served : (d : Duty) → IsFree d → pass_duty d ≡ duty.Nothing
 free_served duty.Nothing f = refl
 free_served (duty.Age u) f = refl
-free_served (duty.Walk l seek k) f = absurd f
-free_served (duty.WakeMutex l) f = absurd f
-free_served (duty.GrantWriter l) f = absurd f
-free_served (duty.GrantReaders l) f = absurd f
-free_served (duty.Rouse k below) f = absurd f
+free_served d f = absurd f
 
 dropped_served : (e : Event) (d : Duty) → pass_duty (dropped_duty e d) ≡ pass_duty d
 dropped_served e (duty.Age u) = elim (keeps_ageing e) as (λ b. pass_duty (if b then duty.Age u else duty.Nothing) ≡ duty.Nothing) [ true ↦ refl | false ↦ refl ]
-dropped_served e duty.Nothing = refl
-dropped_served e (duty.Walk l seek k) = refl
-dropped_served e (duty.WakeMutex l) = refl
-dropped_served e (duty.GrantWriter l) = refl
-dropped_served e (duty.GrantReaders l) = refl
-dropped_served e (duty.Rouse k below) = refl
+dropped_served e d = refl
 
 pub drop_served : (s : State) (c : ℕ) (e : Event) → Served s (drop_ageing s c e)
 unfolding drop_ageing
@@ -333,12 +315,7 @@ aged_served w s n c t free =
 
 walk_from_served : (s : State) (c : CpuId) (u : ThreadId) (p : Place) → pass_duty (cpu_of s c.0).duty ≡ duty.Nothing → Served s (walk_from s c u p)
 walk_from_served s c u (Waiting l side k) free = duty_served s c.0 _ (sym free)
-walk_from_served s c u (Running d) free = C.same_kept served_part s
-walk_from_served s c u (Queued d k) free = C.same_kept served_part s
-walk_from_served s c u (RealTime q k) free = C.same_kept served_part s
-walk_from_served s c u (Asleep j k) free = C.same_kept served_part s
-walk_from_served s c u (Napping d k) free = C.same_kept served_part s
-walk_from_served s c u Ended free = C.same_kept served_part s
+walk_from_served s c u p free = C.same_kept served_part s
 
 changed_by_served : (w : Work) (s : State) (n : ℕ) (c : CpuId) (u : ThreadId) (at : Option Put) (r : Result ClassParms Denied) → pass_duty (cpu_of s c.0).duty ≡ duty.Nothing → Served s (changed_by w s n c u at r)
 changed_by_served w s n c u at (Err d) free = C.same_kept served_part s
@@ -450,12 +427,7 @@ quiet_served w s n c e quiet free =
 
 of_pass_duty : (d : Duty) → pass_of (pass_duty d) ≡ pass_of d
 of_pass_duty (duty.WakeMutex l) = refl
-of_pass_duty (duty.GrantWriter l) = refl
-of_pass_duty (duty.GrantReaders l) = refl
-of_pass_duty duty.Nothing = refl
-of_pass_duty (duty.Age u) = refl
-of_pass_duty (duty.Walk l seek k) = refl
-of_pass_duty (duty.Rouse k below) = refl
+of_pass_duty d = refl
 
 pub unserved : (d : Duty) → pass_of d ≡ None → pass_duty d ≡ duty.Nothing
 unserved (duty.WakeMutex l) e = cc

@@ -30,7 +30,7 @@ use Rattle.sd_frames.proofs.Searches.{has_waiters_at, waiter_none}
 use Rattle.std.proofs.lemmas.Bool.{false≢true}
 use Rattle.sd_machine.specs.Threads.{is_waiting, is_waiting_at}
 use Rattle.sd_state.specs.declared.states.Place.{Place}
-use Rattle.sd_state.specs.declared.states.Place.TheVariants.{Running, Queued, RealTime, Waiting, Asleep, Napping, Ended}
+use Rattle.sd_state.specs.declared.states.Place.TheVariants.{Waiting}
 
 -- the duty to pass on a lock that was given up in this state suits the lock
 pub record Suits (w : Work) (s : State) (l : LockId) (x : LockState) (d : Duty) : Type 0 where
@@ -54,12 +54,7 @@ pub data Outcome (w : Work) (s r : State) (c : ℕ) (l : LockId) (x : LockState)
 pub sides_wait : (l : ℕ) (p : Place) → is_waiting l p ≡ true → (is_waiting_at l Writer p ≡ true) ⊎ (is_waiting_at l Reader p ≡ true)
 sides_wait l (Waiting m Writer k) e = inl (rw e refl)
 sides_wait l (Waiting m Reader k) e = inr (rw e refl)
-sides_wait l (Running c) e = cc
-sides_wait l (Queued c k) e = cc
-sides_wait l (RealTime q k) e = cc
-sides_wait l (Asleep j k) e = cc
-sides_wait l (Napping c due) e = cc
-sides_wait l Ended e = cc
+sides_wait l p e = cc
 
 pub nobody_waits : (s : State) (l : ℕ) → best_waiter s l Writer ≡ None → best_waiter s l Reader ≡ None → has_waiters s l ≡ true → ⊥
 nobody_waits s l no_writer no_reader some =

@@ -51,16 +51,12 @@ use Rattle.sd_workload.proofs.LineLemmas.{all-push}
 -- ---- names in statements
 
 abbrev named : Statement → Bool
-named (Cpus n) = true
-named (Hz n) = true
-named (Limit n) = true
 named (Set name cpus) = is_name name
-named (Table class) = true
 named (Lock k name) = is_name name
 named (Chan name) = is_name name
 named (Sema name n) = is_name name
 named (Declare t) = is_name t.name
-named (Script name) = true
+named _ = true
 
 abbrev named-if : Option Statement → Bool
 named-if None = true
@@ -312,16 +308,9 @@ raw-nothing : Raw []
 raw-nothing = record { raw = []; single = refl; words = refl }
 
 opened-made : (d : Declarations) (s : Statement) → IsMadeBlock (block_of (opened_by d s))
-opened-made d (Cpus n) = tt
-opened-made d (Hz n) = tt
-opened-made d (Limit n) = tt
-opened-made d (Set name cs) = tt
 opened-made d (Table class) = raw-nothing
-opened-made d (Lock l name) = tt
-opened-made d (Chan name) = tt
-opened-made d (Sema name n) = tt
-opened-made d (Declare t) = tt
 opened-made d (Script name) = (no-ops, omega arith)
+opened-made d s = tt
 
 opened-if : (d : Declarations) (o : Option Statement) → IsMadeBlock (opened d o)
 opened-if d None = tt

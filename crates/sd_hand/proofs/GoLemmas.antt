@@ -64,12 +64,8 @@ put_room w t (OnRealTime x) rs = tt
 
 -- ---- a thread that leaves its processor
 pub left_list : (n : ℕ) (c : CpuId) (d : Destination) (last : CpuId) → last ≡ c → list_at last (place_by n c d) ≡ list_by c d
-left_list n c (to.Queue e end) last same = refl
-left_list n c (to.RealTime p end) last same = refl
-left_list n c (to.Turnstile l side) last same = refl
-left_list n c (to.SleepQueue k) last same = refl
-left_list n c (to.Nap due) last same = refl
 left_list n c to.Nowhere last same = ap Ends same
+left_list n c d last same = refl
 
 pub left_may : (n : ℕ) (c : CpuId) (d : Destination) (look : ByNumber) (b : ThreadBody) → MayCome n (n + 1) look (list_by c d) (record { body = b; place = place_by n c d })
 left_may n c (to.Queue e end) look b = key_is_new n end look (Queues e)
@@ -81,11 +77,7 @@ left_may n c to.Nowhere look b = tt
 
 pub left_room : (c : CpuId) (d : Destination) (rs : List ThreadRecord) → IsRoom (list_by c d) rs
 left_room c (to.Queue e end) rs = tt
-left_room c (to.RealTime p end) rs = tt
-left_room c (to.Turnstile l side) rs = tt
-left_room c (to.SleepQueue k) rs = tt
-left_room c (to.Nap due) rs = tt
-left_room c to.Nowhere rs = tt
+left_room c d rs = tt
 
 pub left_there : (s : State) (c : CpuId) (d : Destination) → length s.locks ≤ 256 → length s.counts ≤ 256 → IsDestination s d → IsListThere (list_by c d)
 left_there s c (to.Queue e end) locks chans there = tt
@@ -130,13 +122,7 @@ ran_last ops b = by (nat_le b.run_left 1) refl
 pub changed_last : (w : Work) (t : ℕ) (change : BodyChange) (b : ThreadBody) → (changed w t change b).last ≡ b.last
 changed_last w t RunTick b = ran_last (script_of w t) b
 changed_last w t (Tick class) b = ran_last (script_of w t) b
-changed_last w t FinishOp b = refl
-changed_last w t (Class class) b = refl
-changed_last w t SendBack b = refl
-changed_last w t (Hold l) b = refl
-changed_last w t (LetGo l) b = refl
-changed_last w t (Inherit l number) b = refl
-changed_last w t (Looped looped) b = refl
+changed_last w t change b = refl
 
 pub can_change : (w : Work) (s : State) (t : ThreadId) (change : BodyChange) → CanChange w t change s → CanChangeThread w t.0 change (thread_of s t.0).body
 can_change w s t RunTick can = can

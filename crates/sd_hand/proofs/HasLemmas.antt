@@ -188,12 +188,7 @@ free_after t from (Runs c) (Cpu h) room = free_taken t from h room
 free_after t from (Runs c) (RealTime h) room = refl
 free_after t from (Runs c) (Chain h) room = refl
 free_after t from (Runs c) (Sleepers h) room = refl
-free_after t from (Queues c) h room = tt
-free_after t from (Naps c) h room = tt
-free_after t from (Ends c) h room = tt
-free_after t from (Urgent p) h room = tt
-free_after t from (Waits l side) h room = tt
-free_after t from (Sleeps k) h room = tt
+free_after t from to h room = tt
 
 one_taken : (t : ℕ) (o : Option ThreadRecord) → has_id t (one o) ≡ true → one (head_of (drop_id id_of t (one o))) ≡ []
 one_taken t None e = absurd cc
@@ -208,12 +203,7 @@ back_room t (Runs c) (Cpu h) e = one_taken t h.running e
 back_room t (Runs c) (RealTime h) e = refl
 back_room t (Runs c) (Chain h) e = refl
 back_room t (Runs c) (Sleepers h) e = refl
-back_room t (Queues c) h e = tt
-back_room t (Naps c) h e = tt
-back_room t (Ends c) h e = tt
-back_room t (Urgent p) h e = tt
-back_room t (Waits l side) h e = tt
-back_room t (Sleeps k) h e = tt
+back_room t sp h e = tt
 
 pub room_free : (t : ℕ) (from to : ListId) (hs : List (Option Home)) → ((h : Home) → held (home_at to) hs ≡ Some h → IsRoom to (list_in h to)) → HasRoom t from to hs
 room_free t from to hs room h e = by (changed (home_at from) (home_at to) (taking t from) (keeps-with_list from (λ g. drop_id id_of t (list_in g from))) hs h e)

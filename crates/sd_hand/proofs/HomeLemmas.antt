@@ -226,21 +226,11 @@ fits-dropped t (Runs c) (Cpu h) e = one_dropped t h.running
 fits-dropped t (Runs c) (RealTime h) e = absurd cc
 fits-dropped t (Runs c) (Chain h) e = absurd cc
 fits-dropped t (Runs c) (Sleepers h) e = absurd cc
-fits-dropped t (Queues c) h e = tt
-fits-dropped t (Naps c) h e = tt
-fits-dropped t (Ends c) h e = tt
-fits-dropped t (Urgent p) h e = tt
-fits-dropped t (Waits l side) h e = tt
-fits-dropped t (Sleeps k) h e = tt
+fits-dropped t sp h e = tt
 
 pub fits-inserted : (r : ThreadRecord) (sp : ListId) (rs : List ThreadRecord) → Fits sp (insert_at sp r rs)
 fits-inserted r (Runs c) rs = refl
-fits-inserted r (Queues c) rs = tt
-fits-inserted r (Naps c) rs = tt
-fits-inserted r (Ends c) rs = tt
-fits-inserted r (Urgent p) rs = tt
-fits-inserted r (Waits l side) rs = tt
-fits-inserted r (Sleeps k) rs = tt
+fits-inserted r sp rs = tt
 
 -- nothing is taken from a lock that is not there
 gone_at : (t : ℕ) (h : OfChain) (l : LockId) (side : Side) → (l.0 < 256) ⊎ (drop_id id_of t (chain_list h (Waits l side)) ≡ [])

@@ -16,7 +16,7 @@ use Rattle.sd_state.specs.declared.states.State.{State}
 use Rattle.sd_state.specs.States.{thread_of, with_thread, no_thread, is_running}
 use Rattle.sd_machine.specs.Threads.{runner}
 use Rattle.sd_homes.specs.declared.list_id.ListId.{ListId}
-use Rattle.sd_homes.specs.declared.list_id.ListId.TheVariants.{Runs, Queues, Naps, Ends, Urgent, Waits, Sleeps}
+use Rattle.sd_homes.specs.declared.list_id.ListId.TheVariants.{Runs, Waits, Sleeps}
 use Rattle.sd_homes.specs.Standing.{home_at, list_of, stands, id_of, record_of, ByNumber, look_of, without, with_one, MayCome}
 use Rattle.sd_homes.proofs.StandingLemmas.{Stood, stood, shown, stands_own, stands_only, with_without, may_again}
 use Rattle.sd_homes.proofs.OthersShown.{look-with_thread}
@@ -141,11 +141,7 @@ sleeps_there (Sleepers h) k t e = by (is_chan_of h.sleepers k.0) refl
 pub listed_there : (h : Home) (sp : ListId) (t : ℕ) → has_id t (list_in h sp) ≡ true → IsListThere sp
 listed_there h (Waits l side) t e = waits_there h l side t e
 listed_there h (Sleeps k) t e = sleeps_there h k t e
-listed_there h (Runs c) t e = tt
-listed_there h (Queues c) t e = tt
-listed_there h (Naps c) t e = tt
-listed_there h (Ends c) t e = tt
-listed_there h (Urgent c) t e = tt
+listed_there h sp t e = tt
 
 -- ---- it comes back to where it stood, with another body
 pub comes_back : (n : ℕ) (s : State) (t : ℕ) (sp : ListId) (y : ThreadState) (hs : List (Option Home)) → ShowsState n s hs → StandsAt s t sp → IsHeld (home_at sp) hs

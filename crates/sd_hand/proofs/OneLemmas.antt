@@ -14,7 +14,7 @@ use Rattle.sd_state.specs.declared.states.State.{State}
 use Rattle.sd_state.specs.States.{thread_of}
 use Rattle.sd_machine.specs.Threads.{same_side}
 use Rattle.sd_homes.specs.declared.list_id.ListId.{ListId}
-use Rattle.sd_homes.specs.declared.list_id.ListId.TheVariants.{Runs, Queues, Urgent, Waits, Sleeps, Naps, Ends}
+use Rattle.sd_homes.specs.declared.list_id.ListId.TheVariants.{Waits, Sleeps}
 use Rattle.sd_homes.specs.Standing.{ByNumber, home_at, home_of, home_of_place, list_at, list_of, listed, look_of, record_of, stands, stands_at}
 use Rattle.sd_homes.specs.declared.home.Home.{Home}
 use Rattle.sd_homes.specs.Families.{home_id, list_in, same_home}
@@ -219,22 +219,14 @@ one_home t k (Some h ∷ hs) apart (g, is) each = by (same_home k (home_id h)) r
 
 -- ---- in all homes of a state
 home_there : (s : State) (sp : ListId) → IsListOf s sp → IsHomeOf s (home_at sp)
-home_there s (Runs c) there = there
-home_there s (Queues c) there = there
-home_there s (Urgent p) there = there
 home_there s (Waits l side) there = omega arith
 home_there s (Sleeps k) there = omega arith
-home_there s (Naps c) there = there
-home_there s (Ends c) there = there
+home_there s sp there = there
 
 small_there : (s : State) (sp : ListId) → length s.locks ≤ 256 → length s.counts ≤ 256 → IsListOf s sp → IsListThere sp
-small_there s (Runs c) locks chans there = tt
-small_there s (Queues c) locks chans there = tt
-small_there s (Urgent p) locks chans there = tt
 small_there s (Waits l side) locks chans there = omega (arith, locks, there)
 small_there s (Sleeps k) locks chans there = omega (arith, chans, there)
-small_there s (Naps c) locks chans there = tt
-small_there s (Ends c) locks chans there = tt
+small_there s sp locks chans there = tt
 
 module _ (n : ℕ) (s : State) (hs : List (Option Home)) (t : ℕ) (homes : AreAllHomes n s hs) where
   often : (h : Home) → IsIn h hs → how_often t h (lists_at (home_id h)) ≡ times (λ sp. in_list sp (look_of s t)) (lists_at (home_id h))

@@ -16,10 +16,10 @@ use Rattle.sd_record.specs.Records.{ThreadRecord}
 use Rattle.sd_state.specs.declared.states.LockState.TheVariants.{Free}
 use Rattle.sd_state.specs.declared.states.State.{State}
 use Rattle.sd_state.specs.declared.states.Place.{Place}
-use Rattle.sd_state.specs.declared.states.Place.TheVariants.{Running, Queued, RealTime as OnRealTime, Waiting, Asleep, Napping, Ended}
+use Rattle.sd_state.specs.declared.states.Place.TheVariants.{Running}
 use Rattle.sd_state.specs.States.{cpu_of, thread_of}
 use Rattle.sd_types.specs.declared.events.Duty.{Duty}
-use Rattle.sd_types.specs.declared.events.Duty.TheVariants.{Age, GrantReaders, GrantWriter, Nothing, Rouse, WakeMutex, Walk}
+use Rattle.sd_types.specs.declared.events.Duty.TheVariants.{Walk}
 use Rattle.sd_machine.specs.Walking.{is_back}
 use Rattle.sd_store.specs.Keyless.{spot_of}
 use Rattle.sd_homes.specs.declared.list_id.ListId.{ListId}
@@ -175,30 +175,15 @@ module _ (x : Acting) (n : ℕ) (s : State) (h : Home) (sh : IsShown x n s) wher
 -- ---- a thread that was found
 pub spot_by : (last : CpuId) (place : Place) → spot_at (list_at last place) ≡ spot_of place
 spot_by last (Running c) = refl
-spot_by last (Queued c k) = refl
-spot_by last (OnRealTime p k) = refl
-spot_by last (Waiting l side k) = refl
-spot_by last (Asleep j k) = refl
-spot_by last (Napping c due) = refl
-spot_by last Ended = refl
+spot_by last place = refl
 
 walk_back : (l : LockId) (seek : ThreadId) (key : ℤ) (o : ThreadId) (last : CpuId) (place : Place) → is_back_at (Walk l seek key) o (list_at last place) (record_key place) ≡ is_back (Walk l seek key) o place
 walk_back l seek key o last (Running c) = refl
-walk_back l seek key o last (Queued c k) = refl
-walk_back l seek key o last (OnRealTime p k) = refl
-walk_back l seek key o last (Waiting m side k) = refl
-walk_back l seek key o last (Asleep j k) = refl
-walk_back l seek key o last (Napping c due) = refl
-walk_back l seek key o last Ended = refl
+walk_back l seek key o last place = refl
 
 pub back_by : (d : Duty) (o : ThreadId) (last : CpuId) (place : Place) → is_back_at d o (list_at last place) (record_key place) ≡ is_back d o place
 back_by (Walk l seek key) o last place = walk_back l seek key o last place
-back_by Nothing o last place = refl
-back_by (WakeMutex l) o last place = refl
-back_by (GrantWriter l) o last place = refl
-back_by (GrantReaders l) o last place = refl
-back_by (Rouse k below) o last place = refl
-back_by (Age u) o last place = refl
+back_by d o last place = refl
 
 module _ (x : Acting) (n : ℕ) (s : State) (sh : IsShown x n s) (t : ℕ) (sp : ListId) (l : StandsIn t x.hand.slots sp) where
   pub found_at : StandsAt s t sp

@@ -3,12 +3,12 @@ use Rattle.std.proofs.Common.{◌≡◌, Some, refl}
 use Rattle.std.specs.Prelude.{ℤ}
 use Rattle.sd_types.specs.declared.bodies.ThreadBody.{ThreadBody}
 use Rattle.sd_types.specs.declared.events.Duty.{Duty}
-use Rattle.sd_types.specs.declared.events.Duty.TheVariants.{Age, GrantReaders, GrantWriter, Nothing, Rouse, WakeMutex, Walk}
+use Rattle.sd_types.specs.declared.events.Duty.TheVariants.{Walk}
 use Rattle.sd_types.specs.declared.numbers.CpuId.{CpuId}
 use Rattle.sd_types.specs.declared.numbers.LockId.{LockId}
 use Rattle.sd_types.specs.declared.numbers.ThreadId.{ThreadId}
 use Rattle.sd_state.specs.declared.states.Place.{Place}
-use Rattle.sd_state.specs.declared.states.Place.TheVariants.{Running, Queued, RealTime, Waiting, Asleep, Napping, Ended}
+use Rattle.sd_state.specs.declared.states.Place.TheVariants.{Running}
 use Rattle.sd_state.specs.declared.states.State.{State}
 use Rattle.sd_state.specs.declared.states.ThreadState.{ThreadState}
 use Rattle.sd_machine.specs.Prioritising.{walk_from}
@@ -19,12 +19,7 @@ use Rattle.sd_hand.specs.Walking.{given, next_walk_at, walk_at}
 begun_at : (s : State) (c : CpuId) (t : ThreadId) (last : CpuId) (b : ThreadBody) (place : Place)
     → given s c (walk_at t (list_at last place) (Some (record_of t.0 (record { body = b; place = place })))) ≡ walk_from s c t place
 begun_at s c t last b (Running d) = refl
-begun_at s c t last b (Queued d k) = refl
-begun_at s c t last b (RealTime p k) = refl
-begun_at s c t last b (Waiting l side k) = refl
-begun_at s c t last b (Asleep j k) = refl
-begun_at s c t last b (Napping d due) = refl
-begun_at s c t last b Ended = refl
+begun_at s c t last b place = refl
 
 pub begun_by : (s : State) (c : CpuId) (t : ThreadId) (x : ThreadState) → given s c (walk_at t (list_at x.body.last x.place) (Some (record_of t.0 x))) ≡ walk_from s c t x.place
 begun_by s c t x = begun_at s c t x.body.last x.body x.place
@@ -32,18 +27,8 @@ begun_by s c t x = begun_at s c t x.body.last x.body x.place
 walk_next : (l : LockId) (seek : ThreadId) (key : ℤ) (o : ThreadId) (last : CpuId) (b : ThreadBody) (place : Place)
     → next_walk_at (Walk l seek key) o (list_at last place) (Some (record_of o.0 (record { body = b; place = place }))) ≡ next_walk (Walk l seek key) o b.looped place
 walk_next l seek key o last b (Running d) = refl
-walk_next l seek key o last b (Queued d k) = refl
-walk_next l seek key o last b (RealTime p k) = refl
-walk_next l seek key o last b (Waiting m side k) = refl
-walk_next l seek key o last b (Asleep j k) = refl
-walk_next l seek key o last b (Napping d due) = refl
-walk_next l seek key o last b Ended = refl
+walk_next l seek key o last b place = refl
 
 pub next_by : (d : Duty) (o : ThreadId) (x : ThreadState) → next_walk_at d o (list_at x.body.last x.place) (Some (record_of o.0 x)) ≡ next_walk d o x.body.looped x.place
 next_by (Walk l seek key) o x = walk_next l seek key o x.body.last x.body x.place
-next_by Nothing o x = refl
-next_by (WakeMutex l) o x = refl
-next_by (GrantWriter l) o x = refl
-next_by (GrantReaders l) o x = refl
-next_by (Rouse k below) o x = refl
-next_by (Age u) o x = refl
+next_by d o x = refl

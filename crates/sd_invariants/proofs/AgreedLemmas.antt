@@ -13,7 +13,7 @@ use Rattle.sd_machine.proofs.Chains.{some_is}
 use Rattle.sd_machine.proofs.HolderLemmas.{count_same, count_one, IsAt, agreed_at}
 use Rattle.sd_machine.proofs.HolderLemmas.IsHeldAfter.{stays, comes, goes}
 use Rattle.sd_state.specs.declared.states.Place.{Place}
-use Rattle.sd_state.specs.declared.states.Place.TheVariants.{Running, Queued, RealTime, Waiting, Asleep, Napping, Ended}
+use Rattle.sd_state.specs.declared.states.Place.TheVariants.{Waiting}
 use Rattle.sd_state.specs.declared.states.LockState.{LockState}
 use Rattle.sd_state.specs.declared.states.LockState.TheVariants.{Free, Passing}
 use Rattle.sd_state.specs.declared.states.ThreadState.{ThreadState}
@@ -62,12 +62,7 @@ with_held_other l m (k ∷ ks) other = ap (λ b. eqb m k.0 || b) (with_held_othe
 
 pub waits_is : (p : Place) (m : ℕ) → option_map (λ (x : G.Wait). x.lock) (wait_of p) ≡ Some m → (l : LockId) × (side : Side) × (k : ℤ) × (p ≡ Waiting l side k) × (l.0 ≡ m)
 waits_is (Waiting l side k) m e = (l, side, k, refl, some_is l.0 m e)
-waits_is (Running c) m e = cc
-waits_is (Queued c k) m e = cc
-waits_is (RealTime q k) m e = cc
-waits_is (Asleep j k) m e = cc
-waits_is (Napping c due) m e = cc
-waits_is Ended m e = cc
+waits_is p m e = cc
 
 -- the lock for which a thread at a place waits
 abbrev pub wait_lock : Place → Option ℕ

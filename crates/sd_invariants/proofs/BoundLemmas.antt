@@ -13,7 +13,7 @@ use Rattle.sd_types.specs.declared.events.BindAnswer.TheVariants as bind_answer
 use Rattle.sd_types.specs.declared.events.Duty.{Duty}
 use Rattle.sd_types.specs.declared.events.Duty.TheVariants as duty
 use Rattle.sd_types.specs.declared.events.Event.{Event}
-use Rattle.sd_types.specs.declared.events.Event.TheVariants.{Tick, Spin, Idle, Rouse, Enter, Read, Write, Will, Exit, Grant, Age, CvWait, Assign, Joined, Bind}
+use Rattle.sd_types.specs.declared.events.Event.TheVariants.{Tick, Spin, Idle, Enter, Read, Write, Will, Exit, Grant, CvWait, Assign, Joined, Bind}
 use Rattle.sd_types.specs.declared.events.Put.{Put}
 use Rattle.sd_types.specs.declared.works.Work.{Work}
 use Rattle.std.specs.Prelude.{if◌then◌else◌, is_none, is_some, ◌==◌, not, ◌&&◌}
@@ -133,12 +133,7 @@ bound_dropped w s n c e a = then_same bound_part s (drop_ageing s c.0 e) _ (drop
 
 granted_bound : (w : Work) (s : State) (n : ℕ) (c : CpuId) (l : LockId) (u : ℕ) (at : Put) (d : Duty) → Same bound_part s (granted w s n c l u at d)
 granted_bound w s n c l u at (duty.GrantWriter m) = granted_to_writer_bound w s n c l u at
-granted_bound w s n c l u at (duty.GrantReaders m) = granted_to_reader_bound w s n l u at
-granted_bound w s n c l u at (duty.WakeMutex m) = granted_to_reader_bound w s n l u at
-granted_bound w s n c l u at (duty.Walk m seek k) = granted_to_reader_bound w s n l u at
-granted_bound w s n c l u at (duty.Rouse k below) = granted_to_reader_bound w s n l u at
-granted_bound w s n c l u at (duty.Age v) = granted_to_reader_bound w s n l u at
-granted_bound w s n c l u at duty.Nothing = granted_to_reader_bound w s n l u at
+granted_bound w s n c l u at d = granted_to_reader_bound w s n l u at
 
 pub threads_same : (w : Work) (s : State) (n : ℕ) (c : CpuId) (e : Event) → is_unbinding e ≡ true → Same bound_part s (after w s n c e)
 unfolding after effect

@@ -177,12 +177,7 @@ module _ (w : Work) where
 
   walk_from_named : (s : State) (c : CpuId) (u : ThreadId) (p : Place) → u.0 < length w.threads → IsThere w p → DutiesNamed w s → DutiesNamed w (walk_from s c u p)
   walk_from_named s c u (Waiting l side k) inside there h = named_duty s c.0 (duty.Walk l u k) (there, inside) h
-  walk_from_named s c u (Running d) inside there h = h
-  walk_from_named s c u (Queued d k) inside there h = h
-  walk_from_named s c u (RealTime q k) inside there h = h
-  walk_from_named s c u (Asleep j k) inside there h = h
-  walk_from_named s c u (Napping d k) inside there h = h
-  walk_from_named s c u Ended inside there h = h
+  walk_from_named s c u p inside there h = h
 
   changed_by_named : (s : State) (n : ℕ) (c : CpuId) (u : ThreadId) (at : Option Put) (r : Result ClassParms Denied) → u.0 < length w.threads → IsThere w (thread_of s u.0).place → DutiesNamed w s → DutiesNamed w (changed_by w s n c u at r)
   changed_by_named s n c u at (Err d) inside there h = h
@@ -255,12 +250,7 @@ module _ (w : Work) where
 
   granted_named : (s : State) (n : ℕ) (c : CpuId) (l : LockId) (u : ℕ) (at : Put) (d : Duty) → c.0 < length s.cpus → DutiesNamed w s → DutiesNamed w (granted w s n c l u at d)
   granted_named s n c l u at (duty.GrantWriter m) here h = named_put s _ c.0 duty.Nothing (T.granted_to_writer_duty w s n c l u at here) tt h
-  granted_named s n c l u at (duty.GrantReaders m) here h = named_kept s _ (T.granted_to_reader_duties w s n l u at) h
-  granted_named s n c l u at (duty.WakeMutex m) here h = named_kept s _ (T.granted_to_reader_duties w s n l u at) h
-  granted_named s n c l u at (duty.Walk m seek k) here h = named_kept s _ (T.granted_to_reader_duties w s n l u at) h
-  granted_named s n c l u at (duty.Rouse k below) here h = named_kept s _ (T.granted_to_reader_duties w s n l u at) h
-  granted_named s n c l u at (duty.Age v) here h = named_kept s _ (T.granted_to_reader_duties w s n l u at) h
-  granted_named s n c l u at duty.Nothing here h = named_kept s _ (T.granted_to_reader_duties w s n l u at) h
+  granted_named s n c l u at d here h = named_kept s _ (T.granted_to_reader_duties w s n l u at) h
 
   passed_on_named : (s : State) (c : CpuId) (l : LockId) (x : LockState) → DutiesNamed w s → DutiesNamed w (passed_on s c l x)
   passed_on_named s c l (Passing d r) h = by (nat_lt 0 r) (is_some (best_waiter s l.0 Writer))

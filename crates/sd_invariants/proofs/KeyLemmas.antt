@@ -15,7 +15,7 @@ use Rattle.sd_types.specs.declared.events.Put.TheVariants.{Cpu, RealTime as OnRe
 use Rattle.sd_types.specs.declared.works.Work.{Work}
 use Rattle.sd_types.specs.Priorities.{eff_as}
 use Rattle.sd_state.specs.declared.states.Place.{Place}
-use Rattle.sd_state.specs.declared.states.Place.TheVariants.{Running, Queued, RealTime, Waiting, Asleep, Napping, Ended}
+use Rattle.sd_state.specs.declared.states.Place.TheVariants.{Running, Queued, RealTime, Ended}
 use Rattle.sd_state.specs.declared.states.State.{State}
 use Rattle.sd_state.specs.States.{thread_of}
 use Rattle.sd_machine.specs.Changes.{back_key}
@@ -78,12 +78,7 @@ woken_new w n (Some u) = put_new w n u.0.0 u.1
 
 reordered_new : (w : Work) (n t : ℕ) (at : Option Put) (p : Place) → HasNew n (reordered_step w n t at p)
 reordered_new w n t at (Running x) = λ has. absurd (false≢true has)
-reordered_new w n t at (Queued d k) = put_if_new w n t at
-reordered_new w n t at (RealTime q k) = put_if_new w n t at
-reordered_new w n t at (Waiting l side k) = put_if_new w n t at
-reordered_new w n t at (Asleep j k) = put_if_new w n t at
-reordered_new w n t at (Napping d k) = put_if_new w n t at
-reordered_new w n t at Ended = put_if_new w n t at
+reordered_new w n t at p = put_if_new w n t at
 
 back_new : (n t : ℕ) (c : CpuId) → HasNew n (Go t (Queued c (back_key n)))
 back_new n t c has = inl refl

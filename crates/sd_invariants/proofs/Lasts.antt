@@ -307,12 +307,7 @@ pbound_last w s n t u d bind_answer.EBUSY = finish_op_last w s t
 
 granted_last : (w : Work) (s : State) (n : ℕ) (c : CpuId) (l : LockId) (u : ℕ) (at : Put) (d : Duty) → Lasts s (granted w s n c l u at d)
 granted_last w s n c l u at (duty.GrantWriter m) = granted_to_writer_last w s n c l u at
-granted_last w s n c l u at (duty.GrantReaders m) = granted_to_reader_last w s n l u at
-granted_last w s n c l u at (duty.WakeMutex m) = granted_to_reader_last w s n l u at
-granted_last w s n c l u at (duty.Walk m seek k) = granted_to_reader_last w s n l u at
-granted_last w s n c l u at (duty.Rouse k below) = granted_to_reader_last w s n l u at
-granted_last w s n c l u at (duty.Age v) = granted_to_reader_last w s n l u at
-granted_last w s n c l u at duty.Nothing = granted_to_reader_last w s n l u at
+granted_last w s n c l u at d = granted_to_reader_last w s n l u at
 
 -- Events that bring no thread to a processor.
 

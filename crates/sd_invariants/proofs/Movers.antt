@@ -22,7 +22,7 @@ use Rattle.sd_types.specs.Priorities.{eff_as}
 use Rattle.sd_machine.specs.declared.plans.Requeue.{Requeue}
 use Rattle.sd_machine.specs.declared.plans.Requeue.TheVariants.{Stays, Behind, Anew}
 use Rattle.sd_state.specs.declared.states.Place.{Place}
-use Rattle.sd_state.specs.declared.states.Place.TheVariants.{Running, Queued, RealTime, Waiting, Asleep, Napping, Ended}
+use Rattle.sd_state.specs.declared.states.Place.TheVariants.{Running, Queued, Waiting}
 use Rattle.sd_state.specs.declared.states.LockState.TheVariants.{Owned}
 use Rattle.sd_state.specs.declared.states.State.{State}
 use Rattle.sd_state.specs.States.{thread_of, cpu_of, is_queued, is_ready}
@@ -55,49 +55,24 @@ MoverIs s (Go t place) = IsMover s t
 -- Places where no thread waits for a lock.
 
 queued_away : (c : ℕ) (p : Place) → is_queued c p ≡ true → is_waiter p ≡ false
-queued_away c (Running d) e = refl
-queued_away c (Queued d k) e = refl
-queued_away c (RealTime q k) e = refl
 queued_away c (Waiting l side k) e = cc
-queued_away c (Asleep j k) e = refl
-queued_away c (Napping d k) e = refl
-queued_away c Ended e = refl
+queued_away c p e = refl
 
 ready_away : (c q : ℕ) (p : Place) → is_ready c q p ≡ true → is_waiter p ≡ false
-ready_away c q (Running d) e = refl
-ready_away c q (Queued d k) e = refl
-ready_away c q (RealTime r k) e = refl
 ready_away c q (Waiting l side k) e = cc
-ready_away c q (Asleep j k) e = refl
-ready_away c q (Napping d k) e = refl
-ready_away c q Ended e = refl
+ready_away c q p e = refl
 
 asleep_away : (j : ℕ) (p : Place) → is_asleep j p ≡ true → is_waiter p ≡ false
-asleep_away j (Running d) e = refl
-asleep_away j (Queued d k) e = refl
-asleep_away j (RealTime r k) e = refl
 asleep_away j (Waiting l side k) e = cc
-asleep_away j (Asleep i k) e = refl
-asleep_away j (Napping d k) e = refl
-asleep_away j Ended e = refl
+asleep_away j p e = refl
 
 below_away : (j : ℕ) (below : ℤ) (p : Place) → is_asleep_below j below p ≡ true → is_waiter p ≡ false
-below_away j below (Running d) e = refl
-below_away j below (Queued d k) e = refl
-below_away j below (RealTime r k) e = refl
 below_away j below (Waiting l side k) e = cc
-below_away j below (Asleep i k) e = refl
-below_away j below (Napping d k) e = refl
-below_away j below Ended e = refl
+below_away j below p e = refl
 
 due_away : (c n : ℕ) (p : Place) → is_due c n p ≡ true → is_waiter p ≡ false
-due_away c n (Running d) e = refl
-due_away c n (Queued d k) e = refl
-due_away c n (RealTime r k) e = refl
 due_away c n (Waiting l side k) e = cc
-due_away c n (Asleep i k) e = refl
-due_away c n (Napping d k) e = refl
-due_away c n Ended e = refl
+due_away c n p e = refl
 
 -- who is requeued waits for no lock
 
@@ -106,13 +81,8 @@ kept_stays true = refl
 kept_stays false = refl
 
 requeued_away : (p : Place) (old new : ℕ) (bound : Option CpuId) (r : Requeue) → requeue p old new bound ≡ r → r ≢ Stays → is_waiter p ≡ false
-requeued_away (Running d) old new bound r e goes = refl
-requeued_away (Queued d k) old new bound r e goes = refl
-requeued_away (RealTime q k) old new bound r e goes = refl
 requeued_away (Waiting l side k) old new bound r e goes = absurd (goes (sym e ∙ kept_stays (old == new)))
-requeued_away (Asleep i k) old new bound r e goes = refl
-requeued_away (Napping d k) old new bound r e goes = refl
-requeued_away Ended old new bound r e goes = refl
+requeued_away p old new bound r e goes = refl
 
 pub behind_goes : (d : CpuId) → Behind d ≢ Stays
 behind_goes d e = cc
@@ -130,33 +100,18 @@ put_mover w s n t p (Some at) inside is = record { inside = inside; away = reque
 
 reordered_mover : (w : Work) (s : State) (n t p : ℕ) (at : Option Put) (place : Place) → t < length s.threads → IsRequeuedAt w s t p at → MoverIs s (reordered_step w n t at place)
 reordered_mover w s n t p at (Running x) inside is = tt
-reordered_mover w s n t p at (Queued d k) inside is = put_mover w s n t p at inside is
-reordered_mover w s n t p at (RealTime q k) inside is = put_mover w s n t p at inside is
-reordered_mover w s n t p at (Waiting l side k) inside is = put_mover w s n t p at inside is
-reordered_mover w s n t p at (Asleep i k) inside is = put_mover w s n t p at inside is
-reordered_mover w s n t p at (Napping d k) inside is = put_mover w s n t p at inside is
-reordered_mover w s n t p at Ended inside is = put_mover w s n t p at inside is
+reordered_mover w s n t p at place inside is = put_mover w s n t p at inside is
 
 -- who is bound or set free
 
 bound_away : (d : CpuId) (p : Place) (at : Put) → bound_put d p ≡ Some at → is_waiter p ≡ false
-bound_away d (Running x) at e = refl
-bound_away d (Queued x k) at e = refl
-bound_away d (RealTime q k) at e = refl
 bound_away d (Waiting l side k) at e = cc
-bound_away d (Asleep i k) at e = refl
-bound_away d (Napping x k) at e = refl
-bound_away d Ended at e = refl
+bound_away d p at e = refl
 
 unbound_away : (n : ℕ) (b : Option CpuId) (p : Place) (at : Put) → unbound_put n b p ≡ Some at → is_waiter p ≡ false
-unbound_away n b (Running x) at e = refl
-unbound_away n b (Queued x k) at e = refl
-unbound_away n b (RealTime q k) at e = refl
 unbound_away n (Some b) (Waiting l side k) at e = cc
 unbound_away n None (Waiting l side k) at e = cc
-unbound_away n b (Asleep i k) at e = refl
-unbound_away n b (Napping x k) at e = refl
-unbound_away n b Ended at e = refl
+unbound_away n b p at e = refl
 
 bind_put_away : (s : State) (u : ℕ) (d : Option CpuId) (at : Put) → bind_put s u d ≡ Some at → is_waiter (thread_of s u).place ≡ false
 bind_put_away s u (Some d) at e = bound_away d (thread_of s u).place at e
@@ -176,12 +131,8 @@ bind_put_is w s t u d at e =
     answered (has_ended (thread_of s u).place) (is_misbound w s u (thread_of s u).body.bound d) (not (is_privileged w t) && not (uid_of w t == uid_of w u)) (is_closing s d) (bind_put s u d) at e
 
 bind_mover : (w : Work) (s : State) (n t u : ℕ) (d : Option CpuId) (answer : BindAnswer) → u < length s.threads → answer ≡ bind_to w s t u d → MoverIs s (bind_step w n u answer)
-bind_mover w s n t u d (bind_answer.Changed None) inside is = tt
 bind_mover w s n t u d (bind_answer.Changed (Some at)) inside is = record { inside = inside; away = bind_put_away s u d at (bind_put_is w s t u d (Some at) (sym is)) }
-bind_mover w s n t u d bind_answer.ESRCH inside is = tt
-bind_mover w s n t u d bind_answer.EINVAL inside is = tt
-bind_mover w s n t u d bind_answer.EPERM inside is = tt
-bind_mover w s n t u d bind_answer.EBUSY inside is = tt
+bind_mover w s n t u d answer inside is = tt
 
 -- The mover of each event.
 

@@ -96,19 +96,7 @@ pub wanted_lock : (w : Work) (t i : ℕ) (o : Op) (l : LockId) (side : Side) →
 wanted_lock w t i (op.Enter m) l side at wanted = subst (λ (x : LockId). x.0 < length w.locks) (ap (λ x. x.0) (same_Some (m, Writer) (l, side) wanted)) (enter_lock w m (op_named w t i (op.Enter m) at))
 wanted_lock w t i (op.Read m) l side at wanted = subst (λ (x : LockId). x.0 < length w.locks) (ap (λ x. x.0) (same_Some (m, Reader) (l, side) wanted)) (read_lock w m (op_named w t i (op.Read m) at))
 wanted_lock w t i (op.Write m) l side at wanted = subst (λ (x : LockId). x.0 < length w.locks) (ap (λ x. x.0) (same_Some (m, Writer) (l, side) wanted)) (read_lock w m (op_named w t i (op.Write m) at))
-wanted_lock w t i (op.Run n) l side at wanted = cc
-wanted_lock w t i op.Yield l side at wanted = cc
-wanted_lock w t i (op.Nap n) l side at wanted = cc
-wanted_lock w t i (op.Sleep k) l side at wanted = cc
-wanted_lock w t i (op.Wake k) l side at wanted = cc
-wanted_lock w t i (op.WakeAll k) l side at wanted = cc
-wanted_lock w t i (op.Exit m) l side at wanted = cc
-wanted_lock w t i (op.Prio u q) l side at wanted = cc
-wanted_lock w t i (op.CvWait k m) l side at wanted = cc
-wanted_lock w t i (op.SemaP k) l side at wanted = cc
-wanted_lock w t i (op.SemaV k) l side at wanted = cc
-wanted_lock w t i (op.Assign d to) l side at wanted = cc
-wanted_lock w t i (op.Pbind u d) l side at wanted = cc
+wanted_lock w t i o l side at wanted = cc
 
 -- the operation at which a thread acts is named by its script
 pub acts_named : (w : Work) (s : State) (c t : ℕ) (o : Op) → Acts w s c t (Some o) → op_names (declared w) o ≡ true

@@ -9,7 +9,7 @@ use Rattle.sd_types.specs.declared.numbers.ThreadId.{ThreadId}
 use Rattle.sd_types.specs.declared.numbers.Side.{Side}
 use Rattle.sd_types.specs.declared.numbers.Side.TheVariants.{Writer, Reader}
 use Rattle.sd_types.specs.declared.events.Event.{Event}
-use Rattle.sd_types.specs.declared.events.Event.TheVariants.{Rouse, Enter, Read, Write, Will, Exit, Grant, Age, CvWait, Bind}
+use Rattle.sd_types.specs.declared.events.Event.TheVariants.{Enter, Read, Write, Will, Exit, Grant, CvWait, Bind}
 use Rattle.sd_types.specs.declared.events.Put.{Put}
 use Rattle.sd_types.specs.declared.scripts.Op.TheVariants as op
 use Rattle.sd_types.specs.declared.works.Work.{Work}
@@ -60,12 +60,7 @@ drop_numbers s c e = set_duty_same numbers_part s c _
 
 granted_numbers : (w : Work) (s : State) (n : ℕ) (c : CpuId) (l : LockId) (u : ThreadId) (at : Put) (d : Duty) → u.0 < length s.threads → NumbersGo s (granted w s n c l u.0 at d) (Grant l u at)
 granted_numbers w s n c l u at (duty.GrantWriter m) here = inr (granted_to_writer_numbers w s n c l u.0 at here)
-granted_numbers w s n c l u at (duty.GrantReaders m) here = inl (granted_to_reader_numbers w s n l u.0 at)
-granted_numbers w s n c l u at (duty.WakeMutex m) here = inl (granted_to_reader_numbers w s n l u.0 at)
-granted_numbers w s n c l u at (duty.Walk m seek k) here = inl (granted_to_reader_numbers w s n l u.0 at)
-granted_numbers w s n c l u at (duty.Rouse j below) here = inl (granted_to_reader_numbers w s n l u.0 at)
-granted_numbers w s n c l u at (duty.Age v) here = inl (granted_to_reader_numbers w s n l u.0 at)
-granted_numbers w s n c l u at duty.Nothing here = inl (granted_to_reader_numbers w s n l u.0 at)
+granted_numbers w s n c l u at d here = inl (granted_to_reader_numbers w s n l u.0 at)
 
 -- whose inherited priorities an event changes, and in which state
 abbrev IsHolderThere : State → Event → Type 0

@@ -28,7 +28,7 @@ use Rattle.sd_rules.proofs.PartitionLemmas.{some_cpu, in_no_other, names-from_Co
 use Rattle.sd_machine.proofs.Moves.{put_cases}
 use Rattle.sd_state.specs.Invariants.{IsThere}
 use Rattle.sd_state.specs.declared.states.Place.{Place}
-use Rattle.sd_state.specs.declared.states.Place.TheVariants.{Running, Queued, RealTime, Waiting, Asleep, Napping, Ended}
+use Rattle.sd_state.specs.declared.states.Place.TheVariants.{Running, Queued, RealTime}
 use Rattle.sd_state.specs.declared.states.State.{State}
 use Rattle.sd_state.specs.States.{no_thread, thread_of}
 use Rattle.sd_state.specs.Opening.{dealt_cpu, turn_of, is_urgent, first_cpu, first_thread, first_threads, opening}
@@ -85,12 +85,7 @@ woken_there w n (Some u) there = place_put_there w n u.0.0 u.1 there
 
 reordered_there : (w : Work) (n t : ℕ) (at : Option Put) (place : Place) → IsPutInside w at → StepThere w (reordered_step w n t at place)
 reordered_there w n t at (Running x) there = tt
-reordered_there w n t at (Queued d k) there = put_if_there w n t at there
-reordered_there w n t at (RealTime q k) there = put_if_there w n t at there
-reordered_there w n t at (Waiting l side k) there = put_if_there w n t at there
-reordered_there w n t at (Asleep j k) there = put_if_there w n t at there
-reordered_there w n t at (Napping d k) there = put_if_there w n t at there
-reordered_there w n t at Ended there = put_if_there w n t at there
+reordered_there w n t at place there = put_if_there w n t at there
 
 -- Requeueing on the queue of the same processor.
 
@@ -110,11 +105,7 @@ never_stays false d e = cc
 behind_there : (w : Work) (place : Place) (old new : ℕ) (bound : Option CpuId) (d : CpuId) → IsThere w place → requeue place old new bound ≡ Behind d → d.0 < w.cpus
 behind_there w (Queued c k) old new bound d there e = subst (λ (x : CpuId). x.0 < w.cpus) (same_queue (old == new) (nat_lt new 100 || is_bound_to c bound) c d e) there
 behind_there w (RealTime q k) old new bound d there e = absurd (never_anew (old == new) d e)
-behind_there w (Running c) old new bound d there e = absurd (never_stays (old == new) d e)
-behind_there w (Waiting l side k) old new bound d there e = absurd (never_stays (old == new) d e)
-behind_there w (Asleep j k) old new bound d there e = absurd (never_stays (old == new) d e)
-behind_there w (Napping c due) old new bound d there e = absurd (never_stays (old == new) d e)
-behind_there w Ended old new bound d there e = absurd (never_stays (old == new) d e)
+behind_there w place old new bound d there e = absurd (never_stays (old == new) d e)
 
 -- Bindings.
 
@@ -128,11 +119,7 @@ bound_there w d (Queued c k) at there e = by (c.0 == d.0) e
     by true is = absurd (none_put at is)
     by false is = subst (λ p. (cpu_put p).0 < w.cpus) (same_Some (Cpu d) at is) there
 bound_there w d (RealTime q k) at there e = subst (λ p. (cpu_put p).0 < w.cpus) (same_Some (Cpu d) at e) there
-bound_there w d (Running c) at there e = absurd (none_put at e)
-bound_there w d (Waiting l side k) at there e = absurd (none_put at e)
-bound_there w d (Asleep j k) at there e = absurd (none_put at e)
-bound_there w d (Napping c due) at there e = absurd (none_put at e)
-bound_there w d Ended at there e = absurd (none_put at e)
+bound_there w d place at there e = absurd (none_put at e)
 
 unbound_there : (w : Work) (p : ℕ) (bound : Option CpuId) (place : Place) (at : Put) → IsBoundThere w bound → unbound_put p bound place ≡ Some at → (cpu_put at).0 < w.cpus
 unbound_there w p (Some b) (Queued c k) at there e = by (nat_le 100 p) e
@@ -140,19 +127,8 @@ unbound_there w p (Some b) (Queued c k) at there e = by (nat_le 100 p) e
     by : (v : Bool) → (if v then Some (OnRealTime b) else None) ≡ Some at → (cpu_put at).0 < w.cpus
     by true is = subst (λ q. (cpu_put q).0 < w.cpus) (same_Some (OnRealTime b) at is) there
     by false is = absurd (none_put at is)
-unbound_there w p (Some b) (RealTime q k) at there e = absurd (none_put at e)
-unbound_there w p (Some b) (Running c) at there e = absurd (none_put at e)
-unbound_there w p (Some b) (Waiting l side k) at there e = absurd (none_put at e)
-unbound_there w p (Some b) (Asleep j k) at there e = absurd (none_put at e)
-unbound_there w p (Some b) (Napping c due) at there e = absurd (none_put at e)
-unbound_there w p (Some b) Ended at there e = absurd (none_put at e)
 unbound_there w p None (Queued c k) at there e = absurd (none_put at e)
-unbound_there w p None (RealTime q k) at there e = absurd (none_put at e)
-unbound_there w p None (Running c) at there e = absurd (none_put at e)
-unbound_there w p None (Waiting l side k) at there e = absurd (none_put at e)
-unbound_there w p None (Asleep j k) at there e = absurd (none_put at e)
-unbound_there w p None (Napping c due) at there e = absurd (none_put at e)
-unbound_there w p None Ended at there e = absurd (none_put at e)
+unbound_there w p bound place at there e = absurd (none_put at e)
 
 -- the only item of a list
 pub only_item : (d x : CpuId) → Contains (d ∷ []) x → d ≡ x
@@ -217,12 +193,8 @@ module _ (w : Work) (s : State) (is : IsInside w s) where
   binding_inside u None at there e = unbound_there w (eff_of s u) (thread_of s u).body.bound (thread_of s u).place at (is.bounds u) e
 
   pub bind_inside : (t u : ℕ) (d : Option CpuId) (answer : BindAnswer) → IsBoundThere w d → answer ≡ bind_to w s t u d → IsBindInside answer
-  bind_inside t u d (bind_answer.Changed None) there e = tt
   bind_inside t u d (bind_answer.Changed (Some at)) there e = binding_inside u d at there (bind_put_is w s t u d (Some at) (sym e))
-  bind_inside t u d bind_answer.ESRCH there e = tt
-  bind_inside t u d bind_answer.EINVAL there e = tt
-  bind_inside t u d bind_answer.EPERM there e = tt
-  bind_inside t u d bind_answer.EBUSY there e = tt
+  bind_inside t u d answer there e = tt
 
   -- Where each event moves a thread.
 

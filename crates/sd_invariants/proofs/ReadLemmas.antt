@@ -20,7 +20,7 @@ use Rattle.sd_types.specs.Works.{is_rwlock}
 use Rattle.sd_state.specs.declared.states.LockState.{LockState}
 use Rattle.sd_state.specs.declared.states.LockState.TheVariants.{Free, Owned, ReadHeld, Passing}
 use Rattle.sd_state.specs.declared.states.Place.{Place}
-use Rattle.sd_state.specs.declared.states.Place.TheVariants.{Running, Queued, RealTime, Waiting, Asleep, Napping, Ended}
+use Rattle.sd_state.specs.declared.states.Place.TheVariants.{Waiting}
 use Rattle.sd_state.specs.declared.states.State.{State}
 use Rattle.sd_state.specs.States.{thread_of, cpu_of}
 use Rattle.sd_state.specs.Operations.{op_of}
@@ -86,12 +86,7 @@ reads_put w s r l x many inside locks same here reads = λ m n is. elim (put_cas
 -- who waits for a lock in the list waits for it in the table
 waits_in : (l : ℕ) (p : Place) → is_waiting l p ≡ true → option_map (λ (x : G.Wait). x.lock) (wait_of p) ≡ Some l
 waits_in l (Waiting m side k) on = ap Some (eqb-true m.0 l on)
-waits_in l (Running d) on = cc
-waits_in l (Queued d k) on = cc
-waits_in l (RealTime q k) on = cc
-waits_in l (Asleep j k) on = cc
-waits_in l (Napping d k) on = cc
-waits_in l Ended on = cc
+waits_in l p on = cc
 
 owned_unread : (o : ThreadId) (n : ℕ) → Owned o ≢ ReadHeld n
 owned_unread o n e = cc

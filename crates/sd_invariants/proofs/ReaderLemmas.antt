@@ -1,5 +1,5 @@
 -- In every state of every run a lock that readers hold has a reader.
-use Rattle.std.proofs.Common.{◌≡◌, ℕ, zero, suc, ◌+◌, ◌-◌, ◌<◌, ◌≤◌, Bool, true, false, List, [], ◌∷◌, length, get_or, set, replicate, Option, Some, None, refl, sym, ap, ◌∙◌, subst, arith}
+use Rattle.std.proofs.Common.{◌≡◌, ℕ, zero, suc, ◌+◌, ◌-◌, ◌<◌, ◌≤◌, Bool, true, false, List, [], ◌∷◌, length, get_or, set, replicate, refl, sym, ◌∙◌, subst, arith}
 use Rattle.std.specs.Prelude.{nat_le, nat_lt, is_some, if◌then◌else◌, ⊤}
 use Rattle.std.proofs.lemmas.Bool.Decides.{nat_tests}
 use Rattle.sd_types.specs.declared.numbers.CpuId.{CpuId}
@@ -8,7 +8,7 @@ use Rattle.sd_types.specs.declared.numbers.Side.TheVariants.{Writer}
 use Rattle.sd_types.specs.declared.events.Duty.{Duty}
 use Rattle.sd_types.specs.declared.events.Duty.TheVariants as duty
 use Rattle.sd_types.specs.declared.events.Event.{Event}
-use Rattle.sd_types.specs.declared.events.Event.TheVariants.{Rouse, Enter, Read, Write, Block, Exit, Unblock, Grant, Passed, Age, CvWait}
+use Rattle.sd_types.specs.declared.events.Event.TheVariants.{Enter, Read, Write, Block, Exit, Unblock, Grant, Passed, CvWait}
 use Rattle.sd_types.specs.declared.events.Put.{Put}
 use Rattle.sd_types.specs.declared.works.Work.{Work}
 use Rattle.sd_state.specs.declared.states.LockState.{LockState}
@@ -22,7 +22,6 @@ use Rattle.sd_machine.specs.Sleeping.{woken}
 use Rattle.sd_machine.specs.Locking.{one_more, one_reader_more, free_or_passed, after_owner, after_reader, release_from, unblocked, unblocked_on, granted, passed, passed_on}
 use Rattle.sd_machine.specs.Events.{drop_ageing, effect, after}
 use Rattle.sd_invariants.specs.Laws.{HoldsWhenReached}
-use Rattle.sd_frames.proofs.FieldWords as F
 use Rattle.sd_frames.proofs.LockTable as T
 use Rattle.sd_invariants.proofs.AgreedAfter.{enter_locks, write_locks, read_locks, block_locks}
 use Rattle.sd_invariants.proofs.Ready.{IsKept, kept_reached}
@@ -99,12 +98,7 @@ granted_read w s n c l u at d all = by d
 
     by : (x : Duty) → AreRead (granted w s n c l u at x).locks
     by (duty.GrantWriter m) = writer
-    by (duty.GrantReaders m) = reader
-    by (duty.WakeMutex m) = reader
-    by (duty.Walk m t k) = reader
-    by (duty.Rouse k b) = reader
-    by (duty.Age t) = reader
-    by duty.Nothing = reader
+    by x = reader
 
 passed_on_read : (s : State) (c : CpuId) (l : LockId) (x : LockState) → AreRead s.locks → AreRead (passed_on s c l x).locks
 passed_on_read s c l lock.Free all = duty_read s c.0 duty.Nothing all

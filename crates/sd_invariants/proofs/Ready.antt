@@ -76,19 +76,7 @@ reader_kind w t i (op.Read m) l at wanted =
     subst (λ x. is_rwlock (kind_of w x) ≡ true) same (subst (λ k. is_rwlock k ≡ true) (kind_is w m) (op_named w t i (op.Read m) at))
 reader_kind w t i (op.Enter m) l at wanted = absurd (unlike_sides (ap (λ x. x.1) (same_Some (m, Writer) (l, Reader) wanted)))
 reader_kind w t i (op.Write m) l at wanted = absurd (unlike_sides (ap (λ x. x.1) (same_Some (m, Writer) (l, Reader) wanted)))
-reader_kind w t i (op.Run n) l at wanted = cc
-reader_kind w t i op.Yield l at wanted = cc
-reader_kind w t i (op.Nap n) l at wanted = cc
-reader_kind w t i (op.Sleep k) l at wanted = cc
-reader_kind w t i (op.Wake k) l at wanted = cc
-reader_kind w t i (op.WakeAll k) l at wanted = cc
-reader_kind w t i (op.Exit m) l at wanted = cc
-reader_kind w t i (op.Prio u q) l at wanted = cc
-reader_kind w t i (op.CvWait k m) l at wanted = cc
-reader_kind w t i (op.SemaP k) l at wanted = cc
-reader_kind w t i (op.SemaV k) l at wanted = cc
-reader_kind w t i (op.Assign d to) l at wanted = cc
-reader_kind w t i (op.Pbind u d) l at wanted = cc
+reader_kind w t i o l at wanted = cc
 
 mutex_writer : (w : Work) (s : State) (l : LockId) → Scripted w s → is_mutex (kind_of w l) ≡ true → has_waiters s l.0 ≡ true → best_waiter s l.0 Writer ≢ None
 mutex_writer w s l scripted mutex some none =
@@ -104,11 +92,7 @@ mutex_writer w s l scripted mutex some none =
 pub serves_of : (w : Work) (s : State) (d : Duty) → Scripted w s → DutyServes w s d → Serves s d
 serves_of w s (duty.WakeMutex l) scripted is = mutex_writer w s l scripted is.0 is.1
 serves_of w s (duty.GrantWriter l) scripted is = is.1
-serves_of w s (duty.GrantReaders l) scripted is = tt
-serves_of w s duty.Nothing scripted is = tt
-serves_of w s (duty.Age u) scripted is = tt
-serves_of w s (duty.Walk l seek k) scripted is = tt
-serves_of w s (duty.Rouse k below) scripted is = tt
+serves_of w s d scripted is = tt
 
 -- what a processor may make has its cause
 pub ready_cause : (w : Work) (s : State) (c : CpuId) (h : Option Hints) (e : Event) → IsReady w s → next w s c h ≡ Some e → IsCause w s c.0 e
@@ -212,12 +196,7 @@ no_waiter Ended away l side k is = cc
 
 waits_for_none : (p : Place) → is_waiter p ≡ false → (l : ℕ) → option_map (λ (x : G.Wait). x.lock) (wait_of p) ≢ Some l
 waits_for_none (Waiting m side j) away l is = cc
-waits_for_none (Running c) away l is = cc
-waits_for_none (Queued c j) away l is = cc
-waits_for_none (RealTime q j) away l is = cc
-waits_for_none (Asleep i j) away l is = cc
-waits_for_none (Napping c due) away l is = cc
-waits_for_none Ended away l is = cc
+waits_for_none p away l is = cc
 
 opening_scripted : (w : Work) → Scripted w (opening w)
 opening_scripted w t inside =

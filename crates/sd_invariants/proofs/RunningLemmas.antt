@@ -15,7 +15,7 @@ use Rattle.sd_types.specs.declared.events.Put.TheVariants.{Cpu, RealTime as OnRe
 use Rattle.sd_types.specs.declared.works.Work.{Work}
 use Rattle.sd_types.specs.Priorities.{eff_as}
 use Rattle.sd_state.specs.declared.states.Place.{Place}
-use Rattle.sd_state.specs.declared.states.Place.TheVariants.{Running, Queued, RealTime, Waiting, Asleep, Napping, Ended}
+use Rattle.sd_state.specs.declared.states.Place.TheVariants.{Running, Queued, RealTime}
 use Rattle.sd_state.specs.declared.states.State.{State}
 use Rattle.sd_state.specs.States.{thread_of, is_running}
 use Rattle.sd_machine.specs.Changes.{back_key}
@@ -86,12 +86,7 @@ woken_starts w s n (Some u) = put_starts w s n u.0.0 u.1
 
 reordered_starts : (w : Work) (s : State) (n t : ℕ) (at : Option Put) (p : Place) → StartsWell s (reordered_step w n t at p)
 reordered_starts w s n t at (Running x) = tt
-reordered_starts w s n t at (Queued d k) = put_if_starts w s n t at
-reordered_starts w s n t at (RealTime q k) = put_if_starts w s n t at
-reordered_starts w s n t at (Waiting l side k) = put_if_starts w s n t at
-reordered_starts w s n t at (Asleep j k) = put_if_starts w s n t at
-reordered_starts w s n t at (Napping d k) = put_if_starts w s n t at
-reordered_starts w s n t at Ended = put_if_starts w s n t at
+reordered_starts w s n t at p = put_if_starts w s n t at
 
 queued_starts : (s : State) (c : CpuId) (k : ℤ) (x : ℕ) → is_running x (Queued c k) ≡ true → runner s x ≡ None
 queued_starts s c k x on = cc

@@ -36,7 +36,7 @@ use Rattle.sd_types.specs.declared.scripts.Op.TheVariants as op
 use Rattle.sd_types.specs.declared.works.Work.{Work}
 use Rattle.std.specs.Prelude.{if◌then◌else◌, is_none, nat_le, ◌==◌, ◌&&◌}
 use Rattle.sd_state.specs.declared.states.Place.{Place}
-use Rattle.sd_state.specs.declared.states.Place.TheVariants.{Running, Queued, RealTime, Waiting, Asleep, Napping, Ended}
+use Rattle.sd_state.specs.declared.states.Place.TheVariants.{Running, Queued, RealTime, Waiting}
 use Rattle.sd_state.specs.declared.states.State.{State}
 use Rattle.sd_state.specs.States.{thread_of, cpu_of, is_running}
 use Rattle.sd_state.specs.Operations.{script_of, op_of}
@@ -140,21 +140,11 @@ is_waiter _ = false
 
 not_waiter : (p : Place) (l : LockId) (side : Side) (k : ℤ) → is_waiter p ≡ false → p ≡ Waiting l side k → ⊥
 not_waiter (Waiting m other j) l side k e is = cc
-not_waiter (Running c) l side k e is = cc
-not_waiter (Queued c j) l side k e is = cc
-not_waiter (RealTime p j) l side k e is = cc
-not_waiter (Asleep j key) l side k e is = cc
-not_waiter (Napping c due) l side k e is = cc
-not_waiter Ended l side k e is = cc
+not_waiter p l side k e is = cc
 
 pub runs_no_waiter : (c : ℕ) (p : Place) → is_running c p ≡ true → is_waiter p ≡ false
 runs_no_waiter c (Running d) e = refl
-runs_no_waiter c (Queued d k) e = cc
-runs_no_waiter c (RealTime q k) e = cc
-runs_no_waiter c (Waiting l side k) e = cc
-runs_no_waiter c (Asleep j k) e = cc
-runs_no_waiter c (Napping d k) e = cc
-runs_no_waiter c Ended e = cc
+runs_no_waiter c p e = cc
 
 pub put_no_waiter : (w : Work) (n t : ℕ) (at : Put) → is_waiter (place_put w n t at) ≡ false
 put_no_waiter w n t (Cpu x) = refl
@@ -324,31 +314,14 @@ waits_here l side (Waiting m other k) e = (k, same m other k (and_left (m.0 == l
 
     same : (m : LockId) (other : Side) (k : ℤ) → (m.0 == l.0) ≡ true → same_side side other ≡ true → Waiting m other k ≡ Waiting l side k
     same m other k e f = let lock : ℕ → LockId = λ i. record { 0 = i } in ap (λ i. Waiting (lock i) other k) (eqb-true m.0 l.0 e) ∙ ap (λ x. Waiting l x k) (side_is side other f)
-waits_here l side (Running c) e = cc
-waits_here l side (Queued c k) e = cc
-waits_here l side (RealTime q k) e = cc
-waits_here l side (Asleep j k) e = cc
-waits_here l side (Napping c due) e = cc
-waits_here l side Ended e = cc
+waits_here l side p e = cc
 
 -- an operation that wants a lock takes it
 takes : (o : Op) (l : LockId) (side : Side) (held : List LockId) → wants o ≡ Some (l, side) → held_after held o ≡ held ++ l ∷ []
 takes (op.Enter m) l side held e = ap (λ x. held ++ x.0 ∷ []) (same_Some (m, Writer) (l, side) e)
 takes (op.Read m) l side held e = ap (λ x. held ++ x.0 ∷ []) (same_Some (m, Reader) (l, side) e)
 takes (op.Write m) l side held e = ap (λ x. held ++ x.0 ∷ []) (same_Some (m, Writer) (l, side) e)
-takes (op.Run n) l side held e = cc
-takes op.Yield l side held e = cc
-takes (op.Nap n) l side held e = cc
-takes (op.Sleep k) l side held e = cc
-takes (op.Wake k) l side held e = cc
-takes (op.WakeAll k) l side held e = cc
-takes (op.Exit m) l side held e = cc
-takes (op.Prio t q) l side held e = cc
-takes (op.CvWait k m) l side held e = cc
-takes (op.SemaP k) l side held e = cc
-takes (op.SemaV k) l side held e = cc
-takes (op.Assign d to) l side held e = cc
-takes (op.Pbind t d) l side held e = cc
+takes o l side held e = cc
 
 over_granted : (w : Work) (s r : State) (u : ℕ) (l : LockId) (side : Side) (p : Place) → IsScripted w s u → is_waiting_at l.0 side (thread_of s u).place ≡ true → Stepped (Go u p) s r → is_waiter p ≡ false
     → (thread_of r u).body.held.items ≡ (thread_of s u).body.held.items ++ l ∷ [] → IsOver w s r u
@@ -399,19 +372,7 @@ pub side_is : (o : Op) (l : LockId) (side : Side) → wants o ≡ Some (l, side)
 side_is (op.Enter m) l side e = ap (λ x. x.1) (same_Some (m, Writer) (l, side) e)
 side_is (op.Read m) l side e = ap (λ x. x.1) (same_Some (m, Reader) (l, side) e)
 side_is (op.Write m) l side e = ap (λ x. x.1) (same_Some (m, Writer) (l, side) e)
-side_is (op.Run n) l side e = cc
-side_is op.Yield l side e = cc
-side_is (op.Nap n) l side e = cc
-side_is (op.Sleep k) l side e = cc
-side_is (op.Wake k) l side e = cc
-side_is (op.WakeAll k) l side e = cc
-side_is (op.Exit m) l side e = cc
-side_is (op.Prio t q) l side e = cc
-side_is (op.CvWait k m) l side e = cc
-side_is (op.SemaP k) l side e = cc
-side_is (op.SemaV k) l side e = cc
-side_is (op.Assign d to) l side e = cc
-side_is (op.Pbind t d) l side e = cc
+side_is o l side e = cc
 
 module _ (w : Work) (s r : State) (n : ℕ) (c : CpuId) (u : ℕ) (before : IsScripted w s u) where
   quiet_scripted : (step : Step) → Stepped step s r → StepAway step → (thread_of r u).body.op ≡ (thread_of s u).body.op → (thread_of r u).body.held.items ≡ (thread_of s u).body.held.items → IsScripted w r u

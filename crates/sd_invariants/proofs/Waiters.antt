@@ -5,7 +5,7 @@ use Rattle.std.proofs.lemmas.Bool.{eqb-true}
 use Rattle.sd_types.specs.declared.numbers.LockId.{LockId}
 use Rattle.sd_types.specs.declared.numbers.Side.{Side}
 use Rattle.sd_state.specs.declared.states.Place.{Place}
-use Rattle.sd_state.specs.declared.states.Place.TheVariants.{Running, Queued, RealTime, Waiting, Asleep, Napping, Ended}
+use Rattle.sd_state.specs.declared.states.Place.TheVariants.{Waiting}
 use Rattle.sd_state.specs.declared.states.State.{State}
 use Rattle.sd_state.specs.States.{thread_of}
 use Rattle.sd_state.proofs.BestLemmas.{and_left}
@@ -29,31 +29,16 @@ pub record Waited (s r : State) (l : ℕ) : Type 0 where
 
 waits_away : (l : ℕ) (p : Place) → is_waiter p ≡ false → is_waiting l p ≡ true → ⊥
 waits_away l (Waiting m side k) away on = cc
-waits_away l (Running d) away on = cc
-waits_away l (Queued d k) away on = cc
-waits_away l (RealTime q k) away on = cc
-waits_away l (Asleep j k) away on = cc
-waits_away l (Napping d k) away on = cc
-waits_away l Ended away on = cc
+waits_away l p away on = cc
 
 -- a thread waits for one lock
 one_lock : (l m : ℕ) (p : Place) → is_waiting l p ≡ true → is_waiting m p ≡ true → m ≡ l
 one_lock l m (Waiting k side j) a b = sym (eqb-true k.0 m b) ∙ eqb-true k.0 l a
-one_lock l m (Running d) a b = cc
-one_lock l m (Queued d k) a b = cc
-one_lock l m (RealTime q k) a b = cc
-one_lock l m (Asleep j k) a b = cc
-one_lock l m (Napping d k) a b = cc
-one_lock l m Ended a b = cc
+one_lock l m p a b = cc
 
 pub side_waits : (l : ℕ) (side : Side) (p : Place) → is_waiting_at l side p ≡ true → is_waiting l p ≡ true
 side_waits l side (Waiting m other k) on = and_left (m.0 == l) (same_side side other) on
-side_waits l side (Running d) on = cc
-side_waits l side (Queued d k) on = cc
-side_waits l side (RealTime q k) on = cc
-side_waits l side (Asleep j k) on = cc
-side_waits l side (Napping d k) on = cc
-side_waits l side Ended on = cc
+side_waits l side p on = cc
 
 -- By the step.
 

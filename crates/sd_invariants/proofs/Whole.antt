@@ -25,7 +25,7 @@ use Rattle.sd_types.specs.Works.{span_fits, has_small_count}
 use Rattle.sd_state.specs.declared.states.LockState.{LockState}
 use Rattle.sd_state.specs.declared.states.LockState.TheVariants.{Free, Owned, ReadHeld, Passing}
 use Rattle.sd_state.specs.declared.states.Place.{Place}
-use Rattle.sd_state.specs.declared.states.Place.TheVariants.{Running, Queued, RealTime, Waiting, Asleep, Napping, Ended}
+use Rattle.sd_state.specs.declared.states.Place.TheVariants.{Running}
 use Rattle.sd_state.specs.declared.states.CpuState.{CpuState}
 use Rattle.sd_state.specs.declared.states.State.{State}
 use Rattle.sd_state.specs.States.{thread_of, cpu_of, no_cpu, is_running}
@@ -109,12 +109,7 @@ running_on c (Running d) e =
     let same : d.0 ≡ c.0 = grind (arith, nat_tests) in
     let at : ℕ → CpuId = λ n. record { 0 = n } in
     ap (λ n. Running (at n)) same
-running_on c (Queued d k) e = cc
-running_on c (RealTime q k) e = cc
-running_on c (Waiting l side k) e = cc
-running_on c (Asleep j k) e = cc
-running_on c (Napping d k) e = cc
-running_on c Ended e = cc
+running_on c p e = cc
 
 can_room : (l : LockId) (held : List LockId) → can_take l held ≡ true → length held < 8
 can_room l held can =

@@ -66,16 +66,4 @@ pub wanted_fits : (w : Work) (t i : ℕ) (o : Op) (l : LockId) (side : Side) →
 wanted_fits w t i (op.Enter m) l side e wanted = subst (λ x. can_take x (held_by (take i (script_of w t))) ≡ true) (ap (λ x. x.0) (same_Some (m, Writer) (l, side) wanted)) (op_balances w t i (op.Enter m) e)
 wanted_fits w t i (op.Read m) l side e wanted = subst (λ x. can_take x (held_by (take i (script_of w t))) ≡ true) (ap (λ x. x.0) (same_Some (m, Reader) (l, side) wanted)) (op_balances w t i (op.Read m) e)
 wanted_fits w t i (op.Write m) l side e wanted = subst (λ x. can_take x (held_by (take i (script_of w t))) ≡ true) (ap (λ x. x.0) (same_Some (m, Writer) (l, side) wanted)) (op_balances w t i (op.Write m) e)
-wanted_fits w t i (op.Run n) l side e wanted = cc
-wanted_fits w t i op.Yield l side e wanted = cc
-wanted_fits w t i (op.Nap n) l side e wanted = cc
-wanted_fits w t i (op.Sleep k) l side e wanted = cc
-wanted_fits w t i (op.Wake k) l side e wanted = cc
-wanted_fits w t i (op.WakeAll k) l side e wanted = cc
-wanted_fits w t i (op.Exit m) l side e wanted = cc
-wanted_fits w t i (op.Prio u q) l side e wanted = cc
-wanted_fits w t i (op.CvWait k m) l side e wanted = cc
-wanted_fits w t i (op.SemaP k) l side e wanted = cc
-wanted_fits w t i (op.SemaV k) l side e wanted = cc
-wanted_fits w t i (op.Assign d to) l side e wanted = cc
-wanted_fits w t i (op.Pbind u d) l side e wanted = cc
+wanted_fits w t i o l side e wanted = cc

@@ -108,19 +108,7 @@ wants_no_sema : (o : Op) (l : LockId) (side : Side) → wants o ≡ Some (l, sid
 wants_no_sema (op.Enter m) l side is = refl
 wants_no_sema (op.Write m) l side is = refl
 wants_no_sema (op.Read m) l side is = refl
-wants_no_sema (op.Run n) l side is = cc
-wants_no_sema op.Yield l side is = cc
-wants_no_sema (op.Nap n) l side is = cc
-wants_no_sema (op.Sleep k) l side is = cc
-wants_no_sema (op.Wake k) l side is = cc
-wants_no_sema (op.WakeAll k) l side is = cc
-wants_no_sema (op.Exit m) l side is = cc
-wants_no_sema (op.Prio u q) l side is = cc
-wants_no_sema (op.CvWait k m) l side is = cc
-wants_no_sema (op.SemaP k) l side is = cc
-wants_no_sema (op.SemaV k) l side is = cc
-wants_no_sema (op.Assign d to) l side is = cc
-wants_no_sema (op.Pbind u d) l side is = cc
+wants_no_sema o l side is = cc
 
 -- a thread of a state is one of the workload's
 pub in_work : (w : Work) (s : State) → IsReady w s → (t : ℕ) → t < length s.threads → t < length w.threads

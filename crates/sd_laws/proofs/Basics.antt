@@ -3,7 +3,7 @@ use Rattle.std.proofs.Common.{◌≡◌, ℕ, true, false, Option, Some, None, i
 use Rattle.std.proofs.lemmas.Bool.{eqb-true}
 use Rattle.sd_types.specs.declared.numbers.CpuId.{CpuId}
 use Rattle.sd_state.specs.declared.states.Place.{Place}
-use Rattle.sd_state.specs.declared.states.Place.TheVariants.{Running, Queued, RealTime, Waiting, Asleep, Napping, Ended}
+use Rattle.sd_state.specs.declared.states.Place.TheVariants.{Running, Queued}
 use Rattle.sd_state.specs.States.{is_running, is_queued}
 use Rattle.sd_invariants.specs.Laws.{is_runnable}
 
@@ -24,27 +24,12 @@ same_cpu c d e = ap (λ (n : ℕ). let r : CpuId = record { 0 = n } in r) e
 -- a thread runs on one processor
 pub runs_one : (p : Place) (c d : ℕ) → is_running c p ≡ true → is_running d p ≡ true → d ≡ c
 runs_one (Running k) c d a b = sym (eqb-true k.0 d b) ∙ eqb-true k.0 c a
-runs_one (Queued k key) c d a b = cc
-runs_one (RealTime q k) c d a b = cc
-runs_one (Waiting l side k) c d a b = cc
-runs_one (Asleep j k) c d a b = cc
-runs_one (Napping k due) c d a b = cc
-runs_one Ended c d a b = cc
+runs_one p c d a b = cc
 
 pub running_rests : (c : ℕ) (p : Place) → is_running c p ≡ true → is_runnable p ≡ false
 running_rests c (Running d) e = refl
-running_rests c (Queued d k) e = cc
-running_rests c (RealTime q k) e = cc
-running_rests c (Waiting l side k) e = cc
-running_rests c (Asleep j k) e = cc
-running_rests c (Napping d due) e = cc
-running_rests c Ended e = cc
+running_rests c p e = cc
 
 pub queued_runnable : (d : ℕ) (p : Place) → is_queued d p ≡ true → is_runnable p ≡ true
 queued_runnable d (Queued c k) e = refl
-queued_runnable d (Running c) e = cc
-queued_runnable d (RealTime q k) e = cc
-queued_runnable d (Waiting l side k) e = cc
-queued_runnable d (Asleep j k) e = cc
-queued_runnable d (Napping c due) e = cc
-queued_runnable d Ended e = cc
+queued_runnable d p e = cc

@@ -18,7 +18,7 @@ use Rattle.sd_types.specs.declared.works.Work.{Work}
 use Rattle.sd_machine.specs.Graphs as G
 use Rattle.sd_machine.proofs.Moves.{IsPut, put_cases}
 use Rattle.sd_state.specs.declared.states.Place.{Place}
-use Rattle.sd_state.specs.declared.states.Place.TheVariants.{Running, Queued, RealTime, Waiting, Asleep, Napping, Ended}
+use Rattle.sd_state.specs.declared.states.Place.TheVariants.{Waiting}
 use Rattle.sd_state.specs.declared.states.ThreadState.{ThreadState}
 use Rattle.sd_state.specs.declared.states.State.{State}
 use Rattle.sd_state.specs.States.{no_thread, thread_of, cpu_of}
@@ -78,12 +78,7 @@ begun u (Some v) = Some (record { lock = v.lock; seek = u.0; key = v.key })
 
 walk_from_walk : (s : State) (c : CpuId) (u : ThreadId) (p : Place) → c.0 < length s.cpus → walk_of (cpu_of s c.0).duty ≡ None → WalkIs s (walk_from s c u p) c.0 (begun u (wait_of p))
 walk_from_walk s c u (Waiting l side k) here free = duty_walk s _ c.0 (duty.Walk l u k) (T.set_duty_is s c.0 (duty.Walk l u k) here)
-walk_from_walk s c u (Running d) here free = record { put = same_is_put c.0 None (λ e. refl) free }
-walk_from_walk s c u (Queued d k) here free = record { put = same_is_put c.0 None (λ e. refl) free }
-walk_from_walk s c u (RealTime q k) here free = record { put = same_is_put c.0 None (λ e. refl) free }
-walk_from_walk s c u (Asleep j k) here free = record { put = same_is_put c.0 None (λ e. refl) free }
-walk_from_walk s c u (Napping d k) here free = record { put = same_is_put c.0 None (λ e. refl) free }
-walk_from_walk s c u Ended here free = record { put = same_is_put c.0 None (λ e. refl) free }
+walk_from_walk s c u p here free = record { put = same_is_put c.0 None (λ e. refl) free }
 
 changed_by_walk : (w : Work) (s : State) (n : ℕ) (c : CpuId) (u : ThreadId) (at : Option Put) (parms : ClassParms) → c.0 < length s.cpus → walk_of (cpu_of s c.0).duty ≡ None
     → WalkIs s (changed_by w s n c u at (Ok parms)) c.0 (begun u (wait_of (thread_of s u.0).place))

@@ -69,12 +69,7 @@ use Rattle.sd_laws.proofs.Words.{weighs_to, preempted_goes, yielded_goes, done_g
 -- a thread that stands where none runs
 off_by : (on : Place → Bool) → ((d : CpuId) → on (Running d) ≡ false) → (p : Place) → on p ≡ true → IsOff p
 off_by on none (Running d) e x = absurd (false≢true (sym (none d) ∙ e))
-off_by on none (Queued d k) e x = refl
-off_by on none (RealTime q k) e x = refl
-off_by on none (Waiting l side k) e x = refl
-off_by on none (Asleep j k) e x = refl
-off_by on none (Napping d due) e x = refl
-off_by on none Ended e x = refl
+off_by on none p e x = refl
 
 off_remarks : (s r : State) (t : ℕ) (x : Weight) → IsOff (thread_of s t).place → Remarks s r t x
 off_remarks s r t x off d u inside runs queued less = absurd (false≢true (sym (off d) ∙ runs))

@@ -79,12 +79,7 @@ on_waits l Ended (w, is, at) = absurd (none-some w is)
 
 pub waits_on : (l : ℕ) (p : Place) → is_waiting l p ≡ true → (w : G.Wait) × (wait_of p ≡ Some w) × (w.lock ≡ l)
 waits_on l (Waiting m side k) is = (record { lock = m.0; key = k }, refl, eqb-true m.0 l is)
-waits_on l (Running c) is = absurd (false≢true is)
-waits_on l (Queued c k) is = absurd (false≢true is)
-waits_on l (RealTime q k) is = absurd (false≢true is)
-waits_on l (Asleep j k) is = absurd (false≢true is)
-waits_on l (Napping c due) is = absurd (false≢true is)
-waits_on l Ended is = absurd (false≢true is)
+waits_on l p is = absurd (false≢true is)
 
 pub exact_waiting : (s : State) (l : ℕ) → G.IsExact (graph s) l (greatest_waiting l s.threads)
 exact_waiting s l = by (greatest_waiting l s.threads) (greatest_of l s.threads)

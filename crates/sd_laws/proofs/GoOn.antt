@@ -55,12 +55,7 @@ module _ (l : LockId) (seek : ThreadId) (key : ℤ) (o : ThreadId) where
 
   rests_next : (looped : Bool) (place : Place) → ((m : LockId) (side : Side) (k : ℤ) → place ≢ Waiting m side k) → next_walk (Walk l seek key) o looped place ≡ Nothing
   rests_next looped (Waiting m side k) away = absurd (away m side k refl)
-  rests_next looped (Running c) away = refl
-  rests_next looped (Queued c k) away = refl
-  rests_next looped (RealTime q k) away = refl
-  rests_next looped (Asleep j k) away = refl
-  rests_next looped (Napping c due) away = refl
-  rests_next looped Ended away = refl
+  rests_next looped place away = refl
 
   -- why a walk ends
   abbrev Ends : Bool → Place → Type 0

@@ -21,7 +21,7 @@ use Rattle.sd_types.specs.declared.works.ThreadDecl.{ThreadDecl}
 use Rattle.sd_types.specs.declared.works.Work.{Work}
 use Rattle.sd_types.specs.Works.{is_chan, is_mutex, is_sema}
 use Rattle.sd_state.specs.declared.states.Place.{Place}
-use Rattle.sd_state.specs.declared.states.Place.TheVariants.{Running, Queued, RealTime, Waiting, Asleep, Napping, Ended}
+use Rattle.sd_state.specs.declared.states.Place.TheVariants.{Asleep}
 use Rattle.sd_state.specs.declared.states.State.{State}
 use Rattle.sd_state.specs.Operations.{script_of}
 use Rattle.sd_state.specs.Opening.{first_thread, first_threads, opening}
@@ -135,12 +135,7 @@ hands_on k _ = false
 
 asleep_is : (k : ChanId) (p : Place) → is_asleep k.0 p ≡ true → (key : ℤ) × (p ≡ Asleep k key)
 asleep_is k (Asleep j key) is = (key, ap (λ (i : ChanId). Asleep i key) (sym (same_chan k j is)))
-asleep_is k (Running d) is = cc
-asleep_is k (Queued d key) is = cc
-asleep_is k (RealTime q key) is = cc
-asleep_is k (Waiting l side key) is = cc
-asleep_is k (Napping d due) is = cc
-asleep_is k Ended is = cc
+asleep_is k p is = cc
 
 is_at : (k : ChanId) (p : Place) (key : ℤ) → p ≡ Asleep k key → is_asleep k.0 p ≡ true
 is_at k p key is = ap (is_asleep k.0) is ∙ same_test k.0
@@ -191,12 +186,7 @@ module _ (w : Work) (s : State) (n : ℕ) (c : CpuId) (ready : IsReady w s) (rou
 
   awake_test : (p : Place) → sleeps p ≡ false → is_asleep k.0 p ≡ false
   awake_test (Asleep j key) awake = cc
-  awake_test (Running d) awake = refl
-  awake_test (Queued d key) awake = refl
-  awake_test (RealTime q key) awake = refl
-  awake_test (Waiting l side key) awake = refl
-  awake_test (Napping d due) awake = refl
-  awake_test Ended awake = refl
+  awake_test p awake = refl
 
   one_waits : (t : ThreadId) (j : ChanId) → IsCause w s c.0 (SemaWait t j) → (j.0 == k.0) ≡ true → SleepersGo (SemaWait t j)
   one_waits t j cause test =
@@ -292,12 +282,7 @@ opening_sleepers w k = zeros (λ u. ones (is_asleep k (thread_of (opening w) u).
   where
     awake_at_first : (p : Place) → sleeps p ≡ false → is_asleep k p ≡ false
     awake_at_first (Asleep j key) awake = cc
-    awake_at_first (Running d) awake = refl
-    awake_at_first (Queued d key) awake = refl
-    awake_at_first (RealTime q key) awake = refl
-    awake_at_first (Waiting l side key) awake = refl
-    awake_at_first (Napping d due) awake = refl
-    awake_at_first Ended awake = refl
+    awake_at_first p awake = refl
 
 opening_balance : (w : Work) → SemaphoresBalance w (opening w)
 opening_balance w = λ k sema.

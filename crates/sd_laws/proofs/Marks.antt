@@ -11,7 +11,7 @@ use Rattle.sd_types.specs.declared.events.Event.TheVariants.{Assign, Joined, Bin
 use Rattle.sd_types.specs.declared.events.Put.{Put}
 use Rattle.sd_types.specs.declared.works.Work.{Work}
 use Rattle.sd_state.specs.declared.states.Place.{Place}
-use Rattle.sd_state.specs.declared.states.Place.TheVariants.{Running, Queued, RealTime, Waiting, Asleep, Napping, Ended}
+use Rattle.sd_state.specs.declared.states.Place.TheVariants.{Running}
 use Rattle.sd_state.specs.declared.states.State.{State}
 use Rattle.sd_state.specs.States.{thread_of, cpu_of, is_running, is_queued}
 use Rattle.sd_state.specs.Opening.{opening}
@@ -191,22 +191,12 @@ module _ (s r : State) (one : Single s) (there : RunnersThere s) (marked : Marke
 
 bound_off : (d : CpuId) (p : Place) (a : Put) → bound_put d p ≡ Some a → IsOff p
 bound_off d (Running c) a e x = absurd (none_some a e)
-bound_off d (Queued c k) a e x = refl
-bound_off d (RealTime q k) a e x = refl
-bound_off d (Waiting l side k) a e x = refl
-bound_off d (Asleep j k) a e x = refl
-bound_off d (Napping c due) a e x = refl
-bound_off d Ended a e x = refl
+bound_off d p a e x = refl
 
 unbound_off : (m : ℕ) (b : Option CpuId) (p : Place) (a : Put) → unbound_put m b p ≡ Some a → IsOff p
 unbound_off m (Some b) (Running c) a e x = absurd (none_some a e)
 unbound_off m None (Running c) a e x = absurd (none_some a e)
-unbound_off m b (Queued c k) a e x = refl
-unbound_off m b (RealTime q k) a e x = refl
-unbound_off m b (Waiting l side k) a e x = refl
-unbound_off m b (Asleep j k) a e x = refl
-unbound_off m b (Napping c due) a e x = refl
-unbound_off m b Ended a e x = refl
+unbound_off m b p a e x = refl
 
 bind_off : (s : State) (u : ℕ) (d : Option CpuId) (a : Put) → bind_put s u d ≡ Some a → IsOff (thread_of s u).place
 bind_off s u (Some d) a e = bound_off d (thread_of s u).place a e
@@ -243,12 +233,7 @@ module _ (w : Work) (n : ℕ) (s : State) (reached : IsReached w n s) (marked : 
     where
       by : (p : Place) → (thread_of s v).place ≡ p → is_running d p ≡ true → d < length s.cpus
       by (Running x) is on = let same : x.0 ≡ d = eqb-true x.0 d on in let inside = runs_there w n s reached v x is in omega (arith, same, inside)
-      by (Queued x k) is on = cc
-      by (RealTime q k) is on = cc
-      by (Waiting l side k) is on = cc
-      by (Asleep j k) is on = cc
-      by (Napping x due) is on = cc
-      by Ended is on = cc
+      by p is on = cc
 
   settled : (m : ℕ) (e : Event) → keeps_sets e ≡ true → IsCause w s c.0 e → Marked (after w s m c e)
   settled m e is cause = outcome_marked s (after w s m c e) one there marked w c.0 (event_out w s (known w n s reached (threads_belong w n s reached)) m c inside e is cause)

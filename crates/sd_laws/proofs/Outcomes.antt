@@ -13,7 +13,7 @@ use Rattle.sd_types.specs.declared.works.Work.{Work}
 use Rattle.sd_types.specs.Priorities.{eff}
 use Rattle.sd_rules.proofs.PartitionLemmas.{names-from_Contains}
 use Rattle.sd_state.specs.declared.states.Place.{Place}
-use Rattle.sd_state.specs.declared.states.Place.TheVariants.{Running, Queued, RealTime, Waiting, Asleep, Napping, Ended}
+use Rattle.sd_state.specs.declared.states.Place.TheVariants.{Running, Queued, RealTime}
 use Rattle.sd_state.specs.declared.states.State.{State}
 use Rattle.sd_state.specs.States.{thread_of, cpu_of, is_running, is_queued, is_ready}
 use Rattle.sd_machine.specs.declared.plans.Requeue.TheVariants.{Stays, Behind, Anew}
@@ -125,11 +125,7 @@ stays_rests (RealTime q k) old p b e = by (old == p) refl e
     by : (a : Bool) → (old == p) ≡ a → (if a then Stays else Anew) ≡ Stays → (p ≡ old) ⊎ (is_runnable (RealTime q k) ≡ false)
     by true is f = inl (sym (eqb-true old p is))
     by false is f = cc
-stays_rests (Running c) old p b e = inr refl
-stays_rests (Waiting l side k) old p b e = inr refl
-stays_rests (Asleep j k) old p b e = inr refl
-stays_rests (Napping c due) old p b e = inr refl
-stays_rests Ended old p b e = inr refl
+stays_rests place old p b e = inr refl
 
 pub put_off : (w : Work) (n t : ℕ) (at : Put) → IsOff (place_put w n t at)
 put_off w n t (Cpu x) d = refl
@@ -183,11 +179,7 @@ module _ (w : Work) (s : State) (k : Known w s) where
           subst (λ (y : CpuId). ((cpu_of s y.0).set ≡ set_of w t) × MayQueue (heft x) bound y) same
           (home.0, elim home.1 [ inl low ↦ inl (low.0, test c bound tests low.0) | inr here ↦ inr here ])
       by (RealTime q key) home is = absurd (never_anew (eff_of s t == heft x) d is)
-      by (Running c) home is = absurd (never_stays (eff_of s t == heft x) d is)
-      by (Waiting l side key) home is = absurd (never_stays (eff_of s t == heft x) d is)
-      by (Asleep j key) home is = absurd (never_stays (eff_of s t == heft x) d is)
-      by (Napping c due) home is = absurd (never_stays (eff_of s t == heft x) d is)
-      by Ended home is = absurd (never_stays (eff_of s t == heft x) d is)
+      by place home is = absurd (never_stays (eff_of s t == heft x) d is)
 
   pub requeued_home : (n t : ℕ) (x : Weight) (at : Put) → IsRequeuedAt w s t (heft x) (Some at) → Home w s t x (place_put w n t at)
   requeued_home n t x at (inl (d, e, goes)) = subst (λ q. Home w s t x (place_put w n t q)) (sym goes) (behind_home n t x d e)
@@ -199,12 +191,7 @@ module _ (w : Work) (s : State) (k : Known w s) where
     where
       by : (place : Place) → BelongsAt s (set_of w t) (eff_of s t) (thread_of s t).body.bound place → is_running c.0 place ≡ true → ((cpu_of s c.0).set ≡ set_of w t) × MayRun s (thread_of s t).body.bound c
       by (Running d) home is = subst (λ (y : CpuId). ((cpu_of s y.0).set ≡ set_of w t) × MayRun s (thread_of s t).body.bound y) (same_cpu d c (eqb-true d.0 c.0 is)) home
-      by (Queued d key) home is = cc
-      by (RealTime q key) home is = cc
-      by (Waiting l side key) home is = cc
-      by (Asleep j key) home is = cc
-      by (Napping d due) home is = cc
-      by Ended home is = cc
+      by place home is = cc
 
   -- of a thread on the queue of a processor
   pub queued_at : (t : ℕ) (c : CpuId) → is_queued c.0 (thread_of s t).place ≡ true → ((cpu_of s c.0).set ≡ set_of w t) × MayQueue (eff_of s t) (thread_of s t).body.bound c
@@ -212,12 +199,7 @@ module _ (w : Work) (s : State) (k : Known w s) where
     where
       by : (place : Place) → BelongsAt s (set_of w t) (eff_of s t) (thread_of s t).body.bound place → is_queued c.0 place ≡ true → ((cpu_of s c.0).set ≡ set_of w t) × MayQueue (eff_of s t) (thread_of s t).body.bound c
       by (Queued d key) home is = subst (λ (y : CpuId). ((cpu_of s y.0).set ≡ set_of w t) × MayQueue (eff_of s t) (thread_of s t).body.bound y) (same_cpu d c (eqb-true d.0 c.0 is)) home
-      by (Running d) home is = cc
-      by (RealTime q key) home is = cc
-      by (Waiting l side key) home is = cc
-      by (Asleep j key) home is = cc
-      by (Napping d due) home is = cc
-      by Ended home is = cc
+      by place home is = cc
 
   bound_here : (b : Option CpuId) (p : ℕ) (c : CpuId) → MayQueue p b c → (d : CpuId) → b ≡ Some d → d.0 ≡ c.0
   bound_here b p c (inl low) d is = absurd (none_some d (sym low.0 ∙ is))
@@ -239,11 +221,7 @@ module _ (w : Work) (s : State) (k : Known w s) where
           let same : e ≡ c = same_cpu e c (eqb-true e.0 c.0 (left (e.0 == c.0) is)) in
           (ap (λ (y : CpuId). (cpu_of s y.0).set) (sym same) ∙ home.0, λ d at. bound_here bound (eff_of s t) e home.1 d at ∙ ap (λ (y : CpuId). y.0) same)
       by (RealTime q key) home is = (sym (same_set q (cpu_of s c.0).set (eqb-true q.0 (cpu_of s c.0).set.0 is)) ∙ home.2, λ d at. absurd (none_some d (sym home.1 ∙ at)))
-      by (Running d) home is = cc
-      by (Waiting l side key) home is = cc
-      by (Asleep j key) home is = cc
-      by (Napping d due) home is = cc
-      by Ended home is = cc
+      by place home is = cc
 
   -- a thread that leaves processor c for a queue
   pub queue_home : (t : ℕ) (c : CpuId) (key : ℤ) (x : Weight) → (cpu_of s c.0).set ≡ set_of w t → ((d : CpuId) → (thread_of s t).body.bound ≡ Some d → d.0 ≡ c.0) → heft x ≡ eff_of s t → Home w s t x (queue_place w t c key (thread_of s t).body)

@@ -17,7 +17,7 @@ use Rattle.sd_machine.proofs.Moves.{IsSame, IsQuiet, SameEff}
 use Rattle.sd_state.specs.declared.states.LockState.{LockState}
 use Rattle.sd_state.specs.declared.states.LockState.TheVariants.{Free, Owned, ReadHeld, Passing}
 use Rattle.sd_state.specs.declared.states.Place.{Place}
-use Rattle.sd_state.specs.declared.states.Place.TheVariants.{Running, Queued, RealTime, Waiting, Asleep, Napping, Ended}
+use Rattle.sd_state.specs.declared.states.Place.TheVariants.{Waiting}
 use Rattle.sd_state.specs.declared.states.State.{State}
 use Rattle.sd_state.specs.States.{thread_of, cpu_of, is_queued}
 use Rattle.sd_state.proofs.BestLemmas.{and_left}
@@ -72,13 +72,8 @@ pub seen_eff_but : (o : Option ℕ) (s r : State) (t : ℕ) (ws : Numbers) → B
 seen_eff_but o s r t ws b away numbers apart = λ u v is. same_eff s r u (seen_class o s r b away u v is) (numbers.put.others u (waits_apart r t u v apart is))
 
 queued_away : (c : ℕ) (p : Place) → is_queued c p ≡ true → is_waiter p ≡ false
-queued_away c (Queued d k) e = refl
-queued_away c (Running d) e = refl
-queued_away c (RealTime q k) e = refl
 queued_away c (Waiting l side k) e = cc
-queued_away c (Asleep j k) e = refl
-queued_away c (Napping d k) e = refl
-queued_away c Ended e = refl
+queued_away c p e = refl
 
 pub runs_away : (s : State) (c t : ℕ) → runner s c ≡ Some t → is_waiter (thread_of s t).place ≡ false
 runs_away s c t e = runs_no_waiter c (thread_of s t).place (runner_found s c t e).stands

@@ -166,12 +166,7 @@ module _ (Q : Duty → Type 0) (plain : (d : Duty) → is_rousing d ≡ false �
 
   walk_from_hold : (s : State) (c : CpuId) (u : ThreadId) (p : Place) → Hold s → Hold (walk_from s c u p)
   walk_from_hold s c u (Waiting l side k) h = set_plain s c.0 (duty.Walk l u k) refl h
-  walk_from_hold s c u (Running d) h = h
-  walk_from_hold s c u (Queued d k) h = h
-  walk_from_hold s c u (RealTime q k) h = h
-  walk_from_hold s c u (Asleep j k) h = h
-  walk_from_hold s c u (Napping d k) h = h
-  walk_from_hold s c u Ended h = h
+  walk_from_hold s c u p h = h
 
   changed_by_hold : (w : Work) (s : State) (n : ℕ) (c : CpuId) (u : ThreadId) (at : Option Put) (r : Result ClassParms Denied) → Hold s → Hold (changed_by w s n c u at r)
   changed_by_hold w s n c u at (Err d) h = h
@@ -344,12 +339,7 @@ module _ (Q : Duty → Type 0) (plain : (d : Duty) → is_rousing d ≡ false �
 
   dropped_hold : (e : Event) (d : Duty) → Q d → Q (dropped_duty e d)
   dropped_hold e (duty.Age u) is = elim (keeps_ageing e) as (λ b. Q (if b then duty.Age u else duty.Nothing)) [ true ↦ is | false ↦ plain duty.Nothing refl ]
-  dropped_hold e duty.Nothing is = is
-  dropped_hold e (duty.Walk l seek k) is = is
-  dropped_hold e (duty.WakeMutex l) is = is
-  dropped_hold e (duty.GrantWriter l) is = is
-  dropped_hold e (duty.GrantReaders l) is = is
-  dropped_hold e (duty.Rouse k below) is = is
+  dropped_hold e d is = is
 
   drop_hold : (s : State) (c : ℕ) (e : Event) → Hold s → Hold (drop_ageing s c e)
   unfolding drop_ageing

@@ -67,12 +67,7 @@ live_put_if u w n t (Some at) = λ same. live_put w n t at
 
 live_reordered : (u : ℕ) (w : Work) (n t : ℕ) (at : Option Put) (place : Place) → IsLiveStep u (reordered_step w n t at place)
 live_reordered u w n t at (Running x) = tt
-live_reordered u w n t at (Queued x k) = live_put_if u w n t at
-live_reordered u w n t at (RealTime x k) = live_put_if u w n t at
-live_reordered u w n t at (Waiting l side k) = live_put_if u w n t at
-live_reordered u w n t at (Asleep x k) = live_put_if u w n t at
-live_reordered u w n t at (Napping x k) = live_put_if u w n t at
-live_reordered u w n t at Ended = live_put_if u w n t at
+live_reordered u w n t at place = live_put_if u w n t at
 
 live_prio : (u : ℕ) (w : Work) (s : State) (n : ℕ) (v : ThreadId) (answer : PrioAnswer) → IsLiveStep u (prio_step w s n v answer)
 live_prio u w s n v (Changed p at) = live_reordered u w n v.0 at (thread_of s v.0).place

@@ -209,12 +209,7 @@ maximum_law w n s reached = λ o open_chain calm.
 -- where nobody walks, no walk stands anywhere
 walk_is : (d : Duty) (v : G.Walk) → walk_of d ≡ Some v → (l : LockId) × (seek : ThreadId) × (key : ℤ) × (d ≡ duty.Walk l seek key)
 walk_is (duty.Walk l seek key) v is = (l, seek, key, refl)
-walk_is duty.Nothing v is = absurd (none_some None v refl is)
-walk_is (duty.Age u) v is = absurd (none_some None v refl is)
-walk_is (duty.WakeMutex l) v is = absurd (none_some None v refl is)
-walk_is (duty.GrantWriter l) v is = absurd (none_some None v refl is)
-walk_is (duty.GrantReaders l) v is = absurd (none_some None v refl is)
-walk_is (duty.Rouse k below) v is = absurd (none_some None v refl is)
+walk_is d v is = absurd (none_some None v refl is)
 
 pub maxima_law : (w : Work) (n : ℕ) (s : State) → IsReached w n s → PrioritiesAreMaxima s
 maxima_law w n s reached = λ nobody o open_chain. maximum_law w n s reached o open_chain (λ u l over owns stands.

@@ -22,7 +22,7 @@ use Rattle.sd_machine.proofs.Moves.{put_cases}
 use Rattle.sd_machine.specs.declared.plans.Requeue.{Requeue}
 use Rattle.sd_machine.specs.declared.plans.Requeue.TheVariants.{Stays, Behind, Anew}
 use Rattle.sd_state.specs.declared.states.Place.{Place}
-use Rattle.sd_state.specs.declared.states.Place.TheVariants.{Running, Queued, RealTime, Waiting, Asleep, Napping, Ended}
+use Rattle.sd_state.specs.declared.states.Place.TheVariants.{Running, Queued, Asleep}
 use Rattle.sd_state.specs.declared.states.ThreadState.{ThreadState}
 use Rattle.sd_state.specs.declared.states.State.{State}
 use Rattle.sd_state.specs.Opening.{opening}
@@ -55,42 +55,22 @@ sleeps _ = false
 -- Places where no thread sleeps.
 
 pub running_awake : (c : ℕ) (p : Place) → is_running c p ≡ true → sleeps p ≡ false
-running_awake c (Running d) e = refl
-running_awake c (Queued d k) e = refl
-running_awake c (RealTime q k) e = refl
-running_awake c (Waiting l side k) e = refl
 running_awake c (Asleep j k) e = cc
-running_awake c (Napping d k) e = refl
-running_awake c Ended e = refl
+running_awake c p e = refl
 
 queued_awake : (c : ℕ) (p : Place) → is_queued c p ≡ true → sleeps p ≡ false
-queued_awake c (Running d) e = refl
-queued_awake c (Queued d k) e = refl
-queued_awake c (RealTime q k) e = refl
-queued_awake c (Waiting l side k) e = refl
 queued_awake c (Asleep j k) e = cc
-queued_awake c (Napping d k) e = refl
-queued_awake c Ended e = refl
+queued_awake c p e = refl
 
 ready_awake : (c q : ℕ) (p : Place) → is_ready c q p ≡ true → sleeps p ≡ false
-ready_awake c q (Running d) e = refl
-ready_awake c q (Queued d k) e = refl
-ready_awake c q (RealTime r k) e = refl
-ready_awake c q (Waiting l side k) e = refl
 ready_awake c q (Asleep j k) e = cc
-ready_awake c q (Napping d k) e = refl
-ready_awake c q Ended e = refl
+ready_awake c q p e = refl
 
 -- who is requeued does not sleep
 
 requeued_awake : (p : Place) (old new : ℕ) (bound : Option CpuId) (r : Requeue) → requeue p old new bound ≡ r → r ≢ Stays → sleeps p ≡ false
-requeued_awake (Running d) old new bound r e goes = refl
-requeued_awake (Queued d k) old new bound r e goes = refl
-requeued_awake (RealTime q k) old new bound r e goes = refl
-requeued_awake (Waiting l side k) old new bound r e goes = refl
 requeued_awake (Asleep i k) old new bound r e goes = absurd (goes (sym e ∙ kept_stays (old == new)))
-requeued_awake (Napping d k) old new bound r e goes = refl
-requeued_awake Ended old new bound r e goes = refl
+requeued_awake p old new bound r e goes = refl
 
 requeued_at_awake : (w : Work) (s : State) (t p : ℕ) (at : Put) → IsRequeuedAt w s t p (Some at) → sleeps (thread_of s t).place ≡ false
 requeued_at_awake w s t p at (inl is) = requeued_awake (thread_of s t).place (eff_of s t) p (thread_of s t).body.bound (Behind is.0) is.1 (behind_goes is.0)
@@ -99,23 +79,13 @@ requeued_at_awake w s t p at (inr is) = requeued_awake (thread_of s t).place (ef
 -- who is bound or set free and moves does not sleep
 
 bound_awake : (d : CpuId) (p : Place) (at : Put) → bound_put d p ≡ Some at → sleeps p ≡ false
-bound_awake d (Running x) at e = refl
-bound_awake d (Queued x k) at e = refl
-bound_awake d (RealTime q k) at e = refl
-bound_awake d (Waiting l side k) at e = refl
 bound_awake d (Asleep i k) at e = cc
-bound_awake d (Napping x k) at e = refl
-bound_awake d Ended at e = refl
+bound_awake d p at e = refl
 
 unbound_awake : (n : ℕ) (b : Option CpuId) (p : Place) (at : Put) → unbound_put n b p ≡ Some at → sleeps p ≡ false
-unbound_awake n b (Running x) at e = refl
-unbound_awake n b (Queued x k) at e = refl
-unbound_awake n b (RealTime q k) at e = refl
-unbound_awake n b (Waiting l side k) at e = refl
 unbound_awake n (Some b) (Asleep i k) at e = cc
 unbound_awake n None (Asleep i k) at e = cc
-unbound_awake n b (Napping x k) at e = refl
-unbound_awake n b Ended at e = refl
+unbound_awake n b p at e = refl
 
 bind_put_awake : (s : State) (u : ℕ) (d : Option CpuId) (at : Put) → bind_put s u d ≡ Some at → sleeps (thread_of s u).place ≡ false
 bind_put_awake s u (Some d) at e = bound_awake d (thread_of s u).place at e
@@ -136,12 +106,7 @@ put_rouses w s woken n t p (Some at) is = inr (requeued_at_awake w s t p at is)
 
 reordered_rouses : (w : Work) (s : State) (woken : Option ℕ) (n t p : ℕ) (at : Option Put) (place : Place) → IsRequeuedAt w s t p at → Rouses s woken (reordered_step w n t at place)
 reordered_rouses w s woken n t p at (Running x) is = tt
-reordered_rouses w s woken n t p at (Queued d k) is = put_rouses w s woken n t p at is
-reordered_rouses w s woken n t p at (RealTime q k) is = put_rouses w s woken n t p at is
-reordered_rouses w s woken n t p at (Waiting l side k) is = put_rouses w s woken n t p at is
-reordered_rouses w s woken n t p at (Asleep i k) is = put_rouses w s woken n t p at is
-reordered_rouses w s woken n t p at (Napping d k) is = put_rouses w s woken n t p at is
-reordered_rouses w s woken n t p at Ended is = put_rouses w s woken n t p at is
+reordered_rouses w s woken n t p at place is = put_rouses w s woken n t p at is
 
 aged_rouses : (w : Work) (s : State) (woken : Option ℕ) (n : ℕ) (c : CpuId) (u t : ℕ) → next_to_age s c.0 u ≡ Some t → Rouses s woken (aged_step w s n c t)
 aged_rouses w s woken n c u t e = elim (eff_as (aged_class w (thread_of s t).body.class) (thread_of s t).body == eff_of s t) as (λ b. Rouses s woken (if b then Stay else Go t (Queued c (back_key n)))) [
@@ -154,12 +119,8 @@ prio_rouses w s woken n c t u r (Changed p at) is = reordered_rouses w s woken n
 prio_rouses w s woken n c t u r (Refused denied) is = tt
 
 bind_rouses : (w : Work) (s : State) (woken : Option ℕ) (n t u : ℕ) (d : Option CpuId) (answer : BindAnswer) → answer ≡ bind_to w s t u d → Rouses s woken (bind_step w n u answer)
-bind_rouses w s woken n t u d (bind_answer.Changed None) is = tt
 bind_rouses w s woken n t u d (bind_answer.Changed (Some at)) is = inr (bind_put_awake s u d at (bind_put_is w s t u d (Some at) (sym is)))
-bind_rouses w s woken n t u d bind_answer.ESRCH is = tt
-bind_rouses w s woken n t u d bind_answer.EINVAL is = tt
-bind_rouses w s woken n t u d bind_answer.EPERM is = tt
-bind_rouses w s woken n t u d bind_answer.EBUSY is = tt
+bind_rouses w s woken n t u d answer is = tt
 
 rouses : (w : Work) (s : State) (n : ℕ) (c : CpuId) (e : Event) → IsCause w s c.0 e → Rouses s (woken_by e) (step_of w s n c e)
 rouses w s n c (Dispatch t p) cause = inr (ready_awake c.0 (cpu_of s c.0).set.0 (thread_of s t.0).place (ready_found s c.0 t.0 cause.1).stands)

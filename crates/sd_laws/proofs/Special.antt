@@ -11,7 +11,7 @@ use Rattle.sd_types.specs.declared.events.BindAnswer.TheVariants as bind_answer
 use Rattle.sd_types.specs.declared.events.Put.{Put}
 use Rattle.sd_types.specs.declared.works.Work.{Work}
 use Rattle.sd_state.specs.declared.states.Place.{Place}
-use Rattle.sd_state.specs.declared.states.Place.TheVariants.{Running, Queued, RealTime, Waiting, Asleep, Napping, Ended}
+use Rattle.sd_state.specs.declared.states.Place.TheVariants.{Running}
 use Rattle.sd_state.specs.declared.states.CpuState.{CpuState}
 use Rattle.sd_state.specs.declared.states.ThreadState.{ThreadState}
 use Rattle.sd_state.specs.declared.states.State.{State}
@@ -151,12 +151,7 @@ called_stands s d u (Running c) is = by (c.0 == d.0)
     by : (b : Bool) → Stands s (if b then s else set_kernel_mark s c.0)
     by true = same_stands s
     by false = alike_stands s _ (set_kernel_mark_alike s c.0 (record { who = u; runs = ap (is_running c.0) is ∙ same_id c.0 }))
-called_stands s d u (Queued c k) is = same_stands s
-called_stands s d u (RealTime q k) is = same_stands s
-called_stands s d u (Waiting l side k) is = same_stands s
-called_stands s d u (Asleep j k) is = same_stands s
-called_stands s d u (Napping c due) is = same_stands s
-called_stands s d u Ended is = same_stands s
+called_stands s d u place is = same_stands s
 
 pub rebound_stands : (s : State) (u : ℕ) (d b : Option CpuId) → Stands s (rebound s u d b)
 rebound_stands s u (Some d) b = then_stands s (bind s u d) _ (bind_stands s u d) (called_stands (bind s u d) d u (thread_of s u).place ((bind_stands s u d).places u))

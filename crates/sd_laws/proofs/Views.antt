@@ -14,7 +14,7 @@ use Rattle.sd_machine.proofs.Moves.{IsPut, IsSame, SameWilled, OthersWilled, put
 use Rattle.sd_state.specs.declared.states.LockState.{LockState}
 use Rattle.sd_state.specs.declared.states.LockState.TheVariants.{Free}
 use Rattle.sd_state.specs.declared.states.Place.{Place}
-use Rattle.sd_state.specs.declared.states.Place.TheVariants.{Running, Queued, RealTime, Waiting, Asleep, Napping, Ended}
+use Rattle.sd_state.specs.declared.states.Place.TheVariants.{Waiting}
 use Rattle.sd_state.specs.declared.states.State.{State}
 use Rattle.sd_state.specs.States.{thread_of}
 use Rattle.sd_machine.specs.Threads.{lock_of}
@@ -33,21 +33,11 @@ use Rattle.sd_frames.proofs.Words.{Same}
 
 pub no_wait : (p : Place) → is_waiter p ≡ false → wait_of p ≡ None
 no_wait (Waiting l side k) e = cc
-no_wait (Running c) e = refl
-no_wait (Queued c k) e = refl
-no_wait (RealTime q k) e = refl
-no_wait (Asleep j k) e = refl
-no_wait (Napping c due) e = refl
-no_wait Ended e = refl
+no_wait p e = refl
 
 pub wait_is : (p : Place) (v : G.Wait) → wait_of p ≡ Some v → is_waiter p ≡ true
 wait_is (Waiting l side k) v e = refl
-wait_is (Running c) v e = cc
-wait_is (Queued c k) v e = cc
-wait_is (RealTime q k) v e = cc
-wait_is (Asleep j k) v e = cc
-wait_is (Napping c due) v e = cc
-wait_is Ended v e = cc
+wait_is p v e = cc
 
 pub away_waits : (p : Place) (v : G.Wait) → is_waiter p ≡ false → wait_of p ≡ Some v → ⊥
 away_waits p v away is = false≢true (sym away ∙ wait_is p v is)

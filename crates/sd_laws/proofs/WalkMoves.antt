@@ -74,12 +74,7 @@ next_is g l seek key o looped Ended waits loop = ends_free waits refl
 
 closed_is : (g : G.Graph) (l : LockId) (seek : ThreadId) (key : ℤ) (o : ThreadId) (place : Place) → g.waits o.0 ≡ wait_of place → is_back (duty.Walk l seek key) o place ≡ true → IsClosed g (walk l seek key) o.0
 closed_is g l seek key o (Waiting m side k) waits back = (record { lock = m.0; key = k }, waits, grind (arith, nat_tests), int_eq_true key k (grind (arith, nat_tests)))
-closed_is g l seek key o (Running c) waits back = absurd (false≢true back)
-closed_is g l seek key o (Queued c k) waits back = absurd (false≢true back)
-closed_is g l seek key o (RealTime q k) waits back = absurd (false≢true back)
-closed_is g l seek key o (Asleep j k) waits back = absurd (false≢true back)
-closed_is g l seek key o (Napping c due) waits back = absurd (false≢true back)
-closed_is g l seek key o Ended waits back = absurd (false≢true back)
+closed_is g l seek key o place waits back = absurd (false≢true back)
 
 module _ (w : Work) (s : State) (n : ℕ) (c : CpuId) (ready : IsReady w s) where
   -- A walk is taken on.

@@ -64,22 +64,13 @@ then_duty s r c d a none free = C.then_kept walk_part s r _ a (duty_walks r c d 
 pub free_walks : (d : Duty) → IsFree d → walk_of d ≡ None
 free_walks duty.Nothing f = refl
 free_walks (duty.Age u) f = refl
-free_walks (duty.Walk l seek k) f = absurd f
-free_walks (duty.WakeMutex l) f = absurd f
-free_walks (duty.GrantWriter l) f = absurd f
-free_walks (duty.GrantReaders l) f = absurd f
-free_walks (duty.Rouse k below) f = absurd f
+free_walks d f = absurd f
 
 -- Dropped ageing.
 
 dropped_walks : (e : Event) (d : Duty) → walk_of (dropped_duty e d) ≡ walk_of d
 dropped_walks e (duty.Age u) = elim (keeps_ageing e) as (λ b. walk_of (if b then duty.Age u else duty.Nothing) ≡ None) [ true ↦ refl | false ↦ refl ]
-dropped_walks e duty.Nothing = refl
-dropped_walks e (duty.Walk l seek k) = refl
-dropped_walks e (duty.WakeMutex l) = refl
-dropped_walks e (duty.GrantWriter l) = refl
-dropped_walks e (duty.GrantReaders l) = refl
-dropped_walks e (duty.Rouse k below) = refl
+dropped_walks e d = refl
 
 pub drop_walks : (s : State) (c : ℕ) (e : Event) → Walks s (drop_ageing s c e)
 unfolding drop_ageing set_duty
@@ -252,15 +243,10 @@ effect_walks w s n c (Spin t l) keeps free = spun_walks w s c.0 t.0 free
 effect_walks w s n c Idle keeps free = idled_walks w s c.0 free
 effect_walks w s n c (Wakeall t k) keeps free = woke_all_walks w s n c t.0 k free
 effect_walks w s n c (Rouse k u) keeps free = roused_walks w s n c k u (cpu_of s c.0).duty free
-effect_walks w s n c (Block t l) keeps free = cc
-effect_walks w s n c (Will l o p at) keeps free = cc
-effect_walks w s n c (WalkEnd l) keeps free = cc
 effect_walks w s n c (Exit t l) keeps free = exited_walks w s c t.0 l free
 effect_walks w s n c (Unblock l u at) keeps free = unblocked_walks w s n c l u.0 at free
-effect_walks w s n c (Grant l u at) keeps free = cc
 effect_walks w s n c (Passed l) keeps free = passed_walks s c l free
 effect_walks w s n c (Age t p) keeps free = aged_walks w s n c t.0 free
-effect_walks w s n c (Prio t u answer) keeps free = cc
 effect_walks w s n c (CvWait t k l) keeps free = cv_waited_walks w s n c t.0 k l free
 effect_walks w s n c (Assign t d to answer) keeps free = assigned_walks w s t.0 d to answer
 effect_walks w s n c (Joined to) keeps free = joined_walks s c to
@@ -283,6 +269,7 @@ effect_walks w s n c (SemaWait t k) keeps free = C.fallen_asleep_kept walk_part 
 effect_walks w s n c (SemaVWake t k u at) keeps free = C.sema_handed_kept walk_part walk_marks w s n t.0 u.0 at
 effect_walks w s n c (SemaVCount t k m) keeps free = C.sema_counted_kept walk_part walk_marks w s t.0 k
 effect_walks w s n c (Move t at) keeps free = C.moved_kept walk_part walk_marks w s n t.0 at
+effect_walks w s n c e keeps free = cc
 
 pub after_walks : (w : Work) (s : State) (n : ℕ) (c : CpuId) (e : Event) → keeps_walks e ≡ true → walk_of (cpu_of s c.0).duty ≡ None → Walks s (after w s n c e)
 unfolding after

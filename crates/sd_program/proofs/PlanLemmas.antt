@@ -123,12 +123,7 @@ module _ (w : Work) (s : State) (c : ℕ) where
 
   ageing_told : (d : Duty) → IsToldIf w s (ageing_plan_of w s c d)
   ageing_told (duty.Age u) = age_told (next_to_age s c u.0)
-  ageing_told duty.Nothing = tt
-  ageing_told (duty.Walk l seek key) = tt
-  ageing_told (duty.WakeMutex l) = tt
-  ageing_told (duty.GrantWriter l) = tt
-  ageing_told (duty.GrantReaders l) = tt
-  ageing_told (duty.Rouse k below) = tt
+  ageing_told d = tt
 
   leave_told : (t : ℕ) (b : ThreadBody) (o : Option CpuId) → IsTold w s (leave_event c t b o)
   leave_told t b None = tt
@@ -238,14 +233,7 @@ module _ (w : Work) (s : State) (c : ℕ) where
 
   placed_told : (p : Placement) (at : Put) → IsTold w s (event_of p at)
   placed_told (placement.Napend t) at = tt
-  placed_told (placement.Wake t k u) at = tt
-  placed_told (placement.Rouse k u) at = tt
-  placed_told (placement.Will l o p) at = tt
-  placed_told (placement.Unblock l u) at = tt
-  placed_told (placement.Grant l u) at = tt
-  placed_told (placement.Prio t u p) at = tt
-  placed_told (placement.SemaVWake t k u) at = tt
-  placed_told (placement.Move t) at = tt
+  placed_told p at = tt
 
   event_told : (h : Option Hints) (p : Plan) → IsToldBy w s p → IsTold w s (plan_event w s c h p)
   event_told h (Make e) told = told
@@ -305,14 +293,7 @@ module _ (w : Work) (s : State) (c : ℕ) (h : Option Hints) where
 
   placed_reads : (p : Placement) (at : Put) → F.may_read (event_of p at) ≡ Some which.Running
   placed_reads (placement.Napend t) at = refl
-  placed_reads (placement.Wake t k u) at = refl
-  placed_reads (placement.Rouse k u) at = refl
-  placed_reads (placement.Will l o p) at = refl
-  placed_reads (placement.Unblock l u) at = refl
-  placed_reads (placement.Grant l u) at = refl
-  placed_reads (placement.Prio t u p) at = refl
-  placed_reads (placement.SemaVWake t k u) at = refl
-  placed_reads (placement.Move t) at = refl
+  placed_reads p at = refl
 
   event_read : (p : Plan) → ((t : ℕ) → 0 < length (cpus_for w s t)) → hints_fit (plan_reads w s c p) h ≡ true → F.hints_fit (F.may_read (plan_event w s c h p)) h ≡ true
   event_read (Make e) some fit = nothing_read h (F.may_read e) fit

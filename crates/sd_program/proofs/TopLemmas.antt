@@ -14,7 +14,6 @@ use Rattle.sd_workload.specs.Accepted.{Accepted, FirstCause}
 use Rattle.sd_rounds.specs.declared.rounds.Finished.{Finished}
 use Rattle.sd_program.specs.declared.forms.Form.{Form}
 use Rattle.sd_program.specs.declared.forms.Form.TheVariants.{Journal, Summary}
-use Rattle.sd_program.specs.declared.forms.Mode.{Mode}
 use Rattle.sd_program.specs.declared.forms.Mode.TheVariants.{Threads}
 use Rattle.sd_program.specs.declared.forms.Command.{Command}
 use Rattle.sd_program.specs.declared.forms.Command.TheVariants.{Run, Tables, Generate, Audit}
@@ -26,7 +25,7 @@ use Rattle.sd_answers.specs.declared.answers.Answer.TheVariants.{Done, Usage, To
 use Rattle.sd_answers.specs.Answers.{status_of, answer_of, stop_answer, unwritten_answer}
 use Rattle.sd_answers.specs.StreamChanges.{StreamChange, HasFault, IsUntouched, Puts}
 use Rattle.sd_program.specs.Forms.{command_of, mode_of, run_rising, text_of}
-use Rattle.sd_program.specs.RunAnswers.{IsLong, Writes, Ran}
+use Rattle.sd_program.specs.RunAnswers.{IsLong, Ran}
 use Rattle.sd_program.specs.TheRun.{IsTheRun}
 use Rattle.sd_types.specs.Limits.{most_bytes}
 use Rattle.sd_answers.specs.Inputs.{HasAtMost, HasTooMany, IsWorkload, IsNoWorkload, IsRefused}
@@ -52,76 +51,29 @@ one_word_alone verb is = by (same_bytes verb (codes "run")) (same_bytes verb (co
 -- what an answer for an input was caused by
 pub caused_of : (arguments : List (List ℕ)) (form : Form) (input out : StreamChange) (a : Answer) → command_of arguments ≡ Some (Run form) → CausedByInput form input out a → Caused arguments input out a
 caused_of arguments form input out Usage known c = absurd c
-caused_of arguments form input out Done known c = (Run form, known, c)
-caused_of arguments form input out TooLarge known c = (Run form, known, c)
 caused_of arguments form input out TooLargeToAudit known c = absurd c
 caused_of arguments form input out NoJournal known c = absurd c
 caused_of arguments form input out (NotAJournal fault) known c = absurd c
-caused_of arguments form input out (Refused line cause) known c = (Run form, known, c)
-caused_of arguments form input out ReadFault known c = (Run form, known, c)
-caused_of arguments form input out WriteFault known c = (Run form, known, c)
-caused_of arguments form input out OutOfMemory known c = (Run form, known, c)
-caused_of arguments form input out Blocked known c = (Run form, known, c)
-caused_of arguments form input out TooLong known c = (Run form, known, c)
+caused_of arguments form input out a known c = (Run form, known, c)
 
 -- status 0 is that of a run that was written whole and ends without a cycle
 pub headline_of : (arguments : List (List ℕ)) (form : Form) (input out : StreamChange) (a : Answer) → command_of arguments ≡ Some (Run form) → Caused arguments input out a → status_of a ≡ 0 → RanInput form input out Done
-headline_of arguments form input out Usage known c s = absurd (omega arith)
 headline_of arguments form input out Done known c s = subst (λ k. CausedBy k input out Done) (same_command arguments c.0 (Run form) c.1 known) c.2
-headline_of arguments form input out TooLarge known c s = absurd (omega arith)
-headline_of arguments form input out TooLargeToAudit known c s = absurd (omega arith)
-headline_of arguments form input out NoJournal known c s = absurd (omega arith)
-headline_of arguments form input out (NotAJournal fault) known c s = absurd (omega arith)
-headline_of arguments form input out (Refused line cause) known c s = absurd (omega arith)
-headline_of arguments form input out ReadFault known c s = absurd (omega arith)
-headline_of arguments form input out WriteFault known c s = absurd (omega arith)
-headline_of arguments form input out OutOfMemory known c s = absurd (omega arith)
-headline_of arguments form input out Blocked known c s = absurd (omega arith)
-headline_of arguments form input out TooLong known c s = absurd (omega arith)
+headline_of arguments form input out a known c s = absurd (omega arith)
 
 -- and status 6 with one
 pub blocked_of : (arguments : List (List ℕ)) (form : Form) (input out : StreamChange) (a : Answer) → command_of arguments ≡ Some (Run form) → Caused arguments input out a → status_of a ≡ 6 → RanInput form input out Blocked
-blocked_of arguments form input out Usage known c s = absurd (omega arith)
-blocked_of arguments form input out Done known c s = absurd (omega arith)
-blocked_of arguments form input out TooLarge known c s = absurd (omega arith)
-blocked_of arguments form input out TooLargeToAudit known c s = absurd (omega arith)
-blocked_of arguments form input out NoJournal known c s = absurd (omega arith)
-blocked_of arguments form input out (NotAJournal fault) known c s = absurd (omega arith)
-blocked_of arguments form input out (Refused line cause) known c s = absurd (omega arith)
-blocked_of arguments form input out ReadFault known c s = absurd (omega arith)
-blocked_of arguments form input out WriteFault known c s = absurd (omega arith)
-blocked_of arguments form input out OutOfMemory known c s = absurd (omega arith)
 blocked_of arguments form input out Blocked known c s = subst (λ k. CausedBy k input out Blocked) (same_command arguments c.0 (Run form) c.1 known) c.2
-blocked_of arguments form input out TooLong known c s = absurd (omega arith)
+blocked_of arguments form input out a known c s = absurd (omega arith)
 
 -- status 0 of the other commands
 pub tables_of : (arguments : List (List ℕ)) (input out : StreamChange) (a : Answer) → command_of arguments ≡ Some Tables → Caused arguments input out a → status_of a ≡ 0 → PrintsTables input out
-tables_of arguments input out Usage known c s = absurd (omega arith)
 tables_of arguments input out Done known c s = subst (λ k. CausedBy k input out Done) (same_command arguments c.0 Tables c.1 known) c.2
-tables_of arguments input out TooLarge known c s = absurd (omega arith)
-tables_of arguments input out TooLargeToAudit known c s = absurd (omega arith)
-tables_of arguments input out NoJournal known c s = absurd (omega arith)
-tables_of arguments input out (NotAJournal fault) known c s = absurd (omega arith)
-tables_of arguments input out (Refused line cause) known c s = absurd (omega arith)
-tables_of arguments input out ReadFault known c s = absurd (omega arith)
-tables_of arguments input out WriteFault known c s = absurd (omega arith)
-tables_of arguments input out OutOfMemory known c s = absurd (omega arith)
-tables_of arguments input out Blocked known c s = absurd (omega arith)
-tables_of arguments input out TooLong known c s = absurd (omega arith)
+tables_of arguments input out a known c s = absurd (omega arith)
 
 pub generates_of : (arguments : List (List ℕ)) (n : ℕ) (input out : StreamChange) (a : Answer) → command_of arguments ≡ Some (Generate n) → Caused arguments input out a → status_of a ≡ 0 → IsUntouched input × CausedByNumber n out Done
-generates_of arguments n input out Usage known c s = absurd (omega arith)
 generates_of arguments n input out Done known c s = subst (λ k. CausedBy k input out Done) (same_command arguments c.0 (Generate n) c.1 known) c.2
-generates_of arguments n input out TooLarge known c s = absurd (omega arith)
-generates_of arguments n input out TooLargeToAudit known c s = absurd (omega arith)
-generates_of arguments n input out NoJournal known c s = absurd (omega arith)
-generates_of arguments n input out (NotAJournal fault) known c s = absurd (omega arith)
-generates_of arguments n input out (Refused line cause) known c s = absurd (omega arith)
-generates_of arguments n input out ReadFault known c s = absurd (omega arith)
-generates_of arguments n input out WriteFault known c s = absurd (omega arith)
-generates_of arguments n input out OutOfMemory known c s = absurd (omega arith)
-generates_of arguments n input out Blocked known c s = absurd (omega arith)
-generates_of arguments n input out TooLong known c s = absurd (omega arith)
+generates_of arguments n input out a known c s = absurd (omega arith)
 
 pub some_command : (arguments : List (List ℕ)) (k : Command) → command_of arguments ≡ Some k → command_of arguments ≡ None → ⊥
 some_command arguments k some none = cc
@@ -224,33 +176,16 @@ refuses_tables_of arguments input out TooLong known c = λ sound bytes is. (λ m
 -- status 1 comes exactly where the arguments are of none of the forms
 pub usage_of : (arguments : List (List ℕ)) (input out : StreamChange) (a : Answer) → Caused arguments input out a → (status_of a ≡ 1) ↔ (command_of arguments ≡ None)
 usage_of arguments input out Usage c = (λ e. c.0, λ other. refl)
-usage_of arguments input out Done c = (λ e. absurd (omega arith), λ other. absurd (some_command arguments c.0 c.1 other))
-usage_of arguments input out TooLarge c = (λ e. absurd (omega arith), λ other. absurd (some_command arguments c.0 c.1 other))
-usage_of arguments input out TooLargeToAudit c = (λ e. absurd (omega arith), λ other. absurd (some_command arguments c.0 c.1 other))
-usage_of arguments input out NoJournal c = (λ e. absurd (omega arith), λ other. absurd (some_command arguments c.0 c.1 other))
-usage_of arguments input out (NotAJournal fault) c = (λ e. absurd (omega arith), λ other. absurd (some_command arguments c.0 c.1 other))
-usage_of arguments input out (Refused line cause) c = (λ e. absurd (omega arith), λ other. absurd (some_command arguments c.0 c.1 other))
-usage_of arguments input out ReadFault c = (λ e. absurd (omega arith), λ other. absurd (some_command arguments c.0 c.1 other))
-usage_of arguments input out WriteFault c = (λ e. absurd (omega arith), λ other. absurd (some_command arguments c.0 c.1 other))
-usage_of arguments input out OutOfMemory c = (λ e. absurd (omega arith), λ other. absurd (some_command arguments c.0 c.1 other))
-usage_of arguments input out Blocked c = (λ e. absurd (omega arith), λ other. absurd (some_command arguments c.0 c.1 other))
-usage_of arguments input out TooLong c = (λ e. absurd (omega arith), λ other. absurd (some_command arguments c.0 c.1 other))
+usage_of arguments input out a c = (λ e. absurd (omega arith), λ other. absurd (some_command arguments c.0 c.1 other))
 
 -- ---- the answer of the run of an input
 
 pub refused_of : (form : Form) (input out : StreamChange) (a : Answer) → IsRefused input a → IsUntouched out → CausedByInput form input out a
 refused_of form input out TooLarge refused kept = (refused, kept)
-refused_of form input out TooLargeToAudit refused kept = absurd refused
-refused_of form input out NoJournal refused kept = absurd refused
-refused_of form input out (NotAJournal fault) refused kept = absurd refused
 refused_of form input out (Refused line cause) refused kept = (refused, kept)
 refused_of form input out ReadFault refused kept = (refused, kept)
 refused_of form input out OutOfMemory refused kept = (refused, kept.no_fault, inl kept)
-refused_of form input out Done refused kept = absurd refused
-refused_of form input out Usage refused kept = absurd refused
-refused_of form input out WriteFault refused kept = absurd refused
-refused_of form input out Blocked refused kept = absurd refused
-refused_of form input out TooLong refused kept = absurd refused
+refused_of form input out a refused kept = absurd refused
 
 -- the tables were not written whole
 pub tables_unwritten : (input out : StreamChange) (w : Work) (e : Unwritten) → IsWorkload input w → Puts out.before out.after out.faults_before out.faults_after (tables_text w) (Err e)
@@ -275,13 +210,7 @@ run_of form input out w Blocked is r = (w, is, r)
 run_of form input out w WriteFault is r = (w, is, r)
 run_of form input out w OutOfMemory is r = (at_most_of most_bytes input is.bytes is.read, r.0, inr (w, is, r))
 run_of form input out w TooLong is r = (w, is, r)
-run_of form input out w Usage is r = absurd r
-run_of form input out w TooLarge is r = absurd r
-run_of form input out w TooLargeToAudit is r = absurd r
-run_of form input out w NoJournal is r = absurd r
-run_of form input out w (NotAJournal fault) is r = absurd r
-run_of form input out w (Refused line cause) is r = absurd r
-run_of form input out w ReadFault is r = absurd r
+run_of form input out w a is r = absurd r
 
 -- ---- the answer of the run of a workload
 

@@ -56,55 +56,25 @@ name-text w (subject.Task t k) = thread-text w t
 
 activity-text : (a : Activity) → IsText (activity_word a)
 activity-text activity.Running = refl
-activity-text activity.Spinning = refl
-activity-text activity.Runnable = refl
-activity-text activity.Waiting = refl
-activity-text activity.Asleep = refl
-activity-text activity.Napping = refl
-activity-text activity.Ended = refl
-activity-text (activity.SpinningFor l) = refl
-activity-text (activity.WaitingFor l) = refl
+activity-text a = refl
 
 deed-text : (d : Deed) → IsText (deed_word d)
 deed-text deed.Runs = refl
-deed-text deed.Spins = refl
-deed-text deed.Idles = refl
-deed-text deed.Dispatches = refl
-deed-text deed.Steals = refl
-deed-text deed.Preempts = refl
+deed-text d = refl
 
 measure-text : (m : Measure) → IsText (measure_word m)
 measure-text (measure.Does a) = activity-text a
-measure-text measure.Twice = refl
-measure-text measure.WakeupToRun = refl
-measure-text measure.Inherits = refl
 measure-text (measure.Makes d) = deed-text d
-measure-text measure.Held = refl
-measure-text measure.Contended = refl
-measure-text measure.HandsOn = refl
-measure-text measure.Responds = refl
+measure-text m = refl
 
 activity-object-text : (w : Work) (a : Activity) → IsText (activity_object w a)
-activity-object-text w activity.Running = refl
-activity-object-text w activity.Spinning = refl
-activity-object-text w activity.Runnable = refl
-activity-object-text w activity.Waiting = refl
-activity-object-text w activity.Asleep = refl
-activity-object-text w activity.Napping = refl
-activity-object-text w activity.Ended = refl
 activity-object-text w (activity.SpinningFor l) = lock-text w l.0
 activity-object-text w (activity.WaitingFor l) = lock-text w l.0
+activity-object-text w a = refl
 
 measure-object-text : (w : Work) (m : Measure) → IsText (measure_object w m)
 measure-object-text w (measure.Does a) = activity-object-text w a
-measure-object-text w measure.Twice = refl
-measure-object-text w measure.WakeupToRun = refl
-measure-object-text w measure.Inherits = refl
-measure-object-text w (measure.Makes d) = refl
-measure-object-text w measure.Held = refl
-measure-object-text w measure.Contended = refl
-measure-object-text w measure.HandsOn = refl
-measure-object-text w measure.Responds = refl
+measure-object-text w m = refl
 
 object-text : (w : Work) (s : Subject) (m : Measure) → IsText (object_by w s m)
 object-text w (subject.Thread t) m = measure-object-text w m

@@ -5,7 +5,7 @@ use Rattle.sd_types.specs.declared.works.Work.{Work}
 use Rattle.sd_machine.specs.Cycles.{ahead, cycles, cycles_below, joined, lap, none_or_one, owner_at}
 use Rattle.sd_machine.specs.Graphs.{Graph}
 use Rattle.sd_state.specs.declared.states.Place.{Place}
-use Rattle.sd_state.specs.declared.states.Place.TheVariants.{Running, Queued, RealTime, Waiting, Asleep, Napping, Ended}
+use Rattle.sd_state.specs.declared.states.Place.TheVariants.{Running, Waiting}
 use Rattle.sd_state.specs.declared.states.State.{State}
 use Rattle.sd_state.specs.Operations.{script_of}
 use Rattle.sd_state.specs.States.{thread_of}
@@ -25,22 +25,12 @@ use Rattle.sd_search.specs.Questions.{HasPart, IsBlocked, IsStuck, Meets, is_lef
 
 ahead_blind : (g : Graph) → IsBlind (λ p. owner_at g (wait_of p))
 ahead_blind g (Running c) = refl
-ahead_blind g (Queued c key) = refl
-ahead_blind g (RealTime p key) = refl
-ahead_blind g (Waiting l side key) = refl
-ahead_blind g (Asleep k key) = refl
-ahead_blind g (Napping c due) = refl
-ahead_blind g Ended = refl
+ahead_blind g _ = refl
 
 module _ (x s : State) (h : IsSameOrder x s) where
   owner_same : (p : Place) → owner_at (graph x) (wait_of p) ≡ owner_at (graph s) (wait_of p)
   owner_same (Waiting l side key) = ap owner_of (lock_same x s h l.0)
-  owner_same (Running c) = refl
-  owner_same (Queued c key) = refl
-  owner_same (RealTime p key) = refl
-  owner_same (Asleep k key) = refl
-  owner_same (Napping c due) = refl
-  owner_same Ended = refl
+  owner_same p = refl
 
   ahead_same : (t : ℕ) → ahead (graph x) t ≡ ahead (graph s) t
   ahead_same t =

@@ -66,40 +66,20 @@ use Rattle.sd_statistics.proofs.Sums.{is_on, run_share, shares, turn_at, all_run
 -- a thread that runs on a processor does so in its place
 runs_so : (p : Place) (c : CpuId) → doing_of p ≡ does.Running c → is_running c.0 p ≡ true
 runs_so (place.Running d) c h = let e : d.0 ≡ c.0 = cc in grind (arith, nat_tests, e)
-runs_so (place.Queued d k) c h = cc
-runs_so (place.RealTime q k) c h = cc
-runs_so (place.Waiting l side k) c h = cc
-runs_so (place.Asleep j k) c h = cc
-runs_so (place.Napping d k) c h = cc
-runs_so place.Ended c h = cc
+runs_so p c h = cc
 
 so_runs : (p : Place) (c : CpuId) → is_running c.0 p ≡ true → doing_of p ≡ does.Running c
 so_runs (place.Running d) c h = let e : d.0 ≡ c.0 = grind (arith, nat_tests) in ap (λ n. does.Running (record { 0 = n })) e
-so_runs (place.Queued d k) c h = cc
-so_runs (place.RealTime q k) c h = cc
-so_runs (place.Waiting l side k) c h = cc
-so_runs (place.Asleep j k) c h = cc
-so_runs (place.Napping d k) c h = cc
-so_runs place.Ended c h = cc
+so_runs p c h = cc
 
 stands_so : (p : Place) → ((c : CpuId) × (doing_of p ≡ does.Running c)) ⊎ (is_on (doing_of p) ≡ false)
 stands_so (place.Running d) = inl (d, refl)
-stands_so (place.Queued d k) = inr refl
-stands_so (place.RealTime q k) = inr refl
-stands_so (place.Waiting l side k) = inr refl
-stands_so (place.Asleep j k) = inr refl
-stands_so (place.Napping d k) = inr refl
-stands_so place.Ended = inr refl
+stands_so p = inr refl
 
 -- it runs on one processor
 one_place : (p : Place) (c d : ℕ) → is_running c p ≡ true → is_running d p ≡ true → c ≡ d
 one_place (place.Running e) c d a b = grind (arith, nat_tests)
-one_place (place.Queued e k) c d a b = cc
-one_place (place.RealTime q k) c d a b = cc
-one_place (place.Waiting l side k) c d a b = cc
-one_place (place.Asleep j k) c d a b = cc
-one_place (place.Napping e k) c d a b = cc
-one_place place.Ended c d a b = cc
+one_place p c d a b = cc
 
 -- ---- whose tick an event is
 

@@ -18,7 +18,7 @@ use Rattle.sd_types.specs.declared.events.Put.TheVariants.{Cpu, RealTime as OnRe
 use Rattle.sd_types.specs.declared.works.Work.{Work}
 use Rattle.sd_types.specs.Priorities.{eff, eff_as}
 use Rattle.sd_state.specs.declared.states.Place.{Place}
-use Rattle.sd_state.specs.declared.states.Place.TheVariants.{Running, Queued, RealTime, Waiting, Asleep, Napping, Ended}
+use Rattle.sd_state.specs.declared.states.Place.TheVariants.{Running, Queued, RealTime}
 use Rattle.sd_state.specs.declared.states.State.{State}
 use Rattle.sd_state.specs.States.{thread_of, cpu_of, is_running, is_queued, is_ready}
 use Rattle.sd_state.proofs.BestLemmas.{and_left}
@@ -46,66 +46,31 @@ Apart c p = (x : ℕ) → x ≢ c → is_running x p ≡ false
 
 running_apart : (c : ℕ) (p : Place) → is_running c p ≡ true → Apart c p
 running_apart c (Running d) on x other = grind (arith, nat_tests, other)
-running_apart c (Queued d k) on x other = refl
-running_apart c (RealTime q k) on x other = refl
-running_apart c (Waiting l side k) on x other = refl
-running_apart c (Asleep j k) on x other = refl
-running_apart c (Napping d k) on x other = refl
-running_apart c Ended on x other = refl
+running_apart c p on x other = refl
 
 queued_apart : (c d : ℕ) (p : Place) → is_queued d p ≡ true → Apart c p
 queued_apart c d (Running e) on x other = cc
-queued_apart c d (Queued e k) on x other = refl
-queued_apart c d (RealTime q k) on x other = refl
-queued_apart c d (Waiting l side k) on x other = refl
-queued_apart c d (Asleep j k) on x other = refl
-queued_apart c d (Napping e k) on x other = refl
-queued_apart c d Ended on x other = refl
+queued_apart c d p on x other = refl
 
 ready_apart : (c d q : ℕ) (p : Place) → is_ready d q p ≡ true → Apart c p
 ready_apart c d q (Running e) on x other = cc
-ready_apart c d q (Queued e k) on x other = refl
-ready_apart c d q (RealTime r k) on x other = refl
-ready_apart c d q (Waiting l side k) on x other = refl
-ready_apart c d q (Asleep j k) on x other = refl
-ready_apart c d q (Napping e k) on x other = refl
-ready_apart c d q Ended on x other = refl
+ready_apart c d q p on x other = refl
 
 asleep_apart : (c j : ℕ) (p : Place) → is_asleep j p ≡ true → Apart c p
 asleep_apart c j (Running e) on x other = cc
-asleep_apart c j (Queued e k) on x other = refl
-asleep_apart c j (RealTime r k) on x other = refl
-asleep_apart c j (Waiting l side k) on x other = refl
-asleep_apart c j (Asleep i k) on x other = refl
-asleep_apart c j (Napping e k) on x other = refl
-asleep_apart c j Ended on x other = refl
+asleep_apart c j p on x other = refl
 
 below_apart : (c j : ℕ) (below : ℤ) (p : Place) → is_asleep_below j below p ≡ true → Apart c p
 below_apart c j below (Running e) on x other = cc
-below_apart c j below (Queued e k) on x other = refl
-below_apart c j below (RealTime r k) on x other = refl
-below_apart c j below (Waiting l side k) on x other = refl
-below_apart c j below (Asleep i k) on x other = refl
-below_apart c j below (Napping e k) on x other = refl
-below_apart c j below Ended on x other = refl
+below_apart c j below p on x other = refl
 
 due_apart : (c d n : ℕ) (p : Place) → is_due d n p ≡ true → Apart c p
 due_apart c d n (Running e) on x other = cc
-due_apart c d n (Queued e k) on x other = refl
-due_apart c d n (RealTime r k) on x other = refl
-due_apart c d n (Waiting l side k) on x other = refl
-due_apart c d n (Asleep i k) on x other = refl
-due_apart c d n (Napping e k) on x other = refl
-due_apart c d n Ended on x other = refl
+due_apart c d n p on x other = refl
 
 waiting_apart : (c l : ℕ) (side : Side) (p : Place) → is_waiting_at l side p ≡ true → Apart c p
 waiting_apart c l side (Running e) on x other = cc
-waiting_apart c l side (Queued e k) on x other = refl
-waiting_apart c l side (RealTime r k) on x other = refl
-waiting_apart c l side (Waiting m s k) on x other = refl
-waiting_apart c l side (Asleep i k) on x other = refl
-waiting_apart c l side (Napping e k) on x other = refl
-waiting_apart c l side Ended on x other = refl
+waiting_apart c l side p on x other = refl
 
 put_apart : (w : Work) (n t c : ℕ) (at : Put) → Apart c (place_put w n t at)
 put_apart w n t c (Cpu d) x other = refl
@@ -141,12 +106,7 @@ put_if_local w s n c t (Some at) from = put_local w s n c t at from
 
 reordered_local : (w : Work) (s : State) (n c t : ℕ) (at : Option Put) (p : Place) → (thread_of s t).place ≡ p → Local s c (reordered_step w n t at p)
 reordered_local w s n c t at (Running d) is = tt
-reordered_local w s n c t at (Queued d k) is = put_if_local w s n c t at (λ x other. ap (is_running x) is)
-reordered_local w s n c t at (RealTime q k) is = put_if_local w s n c t at (λ x other. ap (is_running x) is)
-reordered_local w s n c t at (Waiting l side k) is = put_if_local w s n c t at (λ x other. ap (is_running x) is)
-reordered_local w s n c t at (Asleep j k) is = put_if_local w s n c t at (λ x other. ap (is_running x) is)
-reordered_local w s n c t at (Napping d k) is = put_if_local w s n c t at (λ x other. ap (is_running x) is)
-reordered_local w s n c t at Ended is = put_if_local w s n c t at (λ x other. ap (is_running x) is)
+reordered_local w s n c t at p is = put_if_local w s n c t at (λ x other. ap (is_running x) is)
 
 woken_local : (w : Work) (s : State) (n c k : ℕ) (u : Option (ThreadId × Put)) → WakesBest w s k u → Local s c (woken_step w n u)
 woken_local w s n c k None is = tt
@@ -171,34 +131,20 @@ prio_local w s n c u (Refused denied) = tt
 
 bound_apart : (c : ℕ) (d : CpuId) (p : Place) (at : Put) → bound_put d p ≡ Some at → Apart c p
 bound_apart c d (Running e) at is x other = cc
-bound_apart c d (Queued e k) at is x other = refl
-bound_apart c d (RealTime q k) at is x other = refl
-bound_apart c d (Waiting l side k) at is x other = refl
-bound_apart c d (Asleep j k) at is x other = refl
-bound_apart c d (Napping e k) at is x other = refl
-bound_apart c d Ended at is x other = refl
+bound_apart c d p at is x other = refl
 
 unbound_apart : (c n : ℕ) (b : Option CpuId) (p : Place) (at : Put) → unbound_put n b p ≡ Some at → Apart c p
 unbound_apart c n (Some b) (Running e) at is x other = cc
 unbound_apart c n None (Running e) at is x other = cc
-unbound_apart c n b (Queued e k) at is x other = refl
-unbound_apart c n b (RealTime q k) at is x other = refl
-unbound_apart c n b (Waiting l side k) at is x other = refl
-unbound_apart c n b (Asleep j k) at is x other = refl
-unbound_apart c n b (Napping e k) at is x other = refl
-unbound_apart c n b Ended at is x other = refl
+unbound_apart c n b p at is x other = refl
 
 bind_put_apart : (s : State) (c u : ℕ) (d : Option CpuId) (at : Put) → bind_put s u d ≡ Some at → Apart c (thread_of s u).place
 bind_put_apart s c u (Some d) at is = bound_apart c d (thread_of s u).place at is
 bind_put_apart s c u None at is = unbound_apart c (eff_of s u) (thread_of s u).body.bound (thread_of s u).place at is
 
 bind_local : (w : Work) (s : State) (n c t u : ℕ) (d : Option CpuId) (answer : BindAnswer) → answer ≡ bind_to w s t u d → Local s c (bind_step w n u answer)
-bind_local w s n c t u d (bind_answer.Changed None) is = tt
 bind_local w s n c t u d (bind_answer.Changed (Some at)) is = put_local w s n c u at (bind_put_apart s c u d at (bind_put_is w s t u d (Some at) (sym is)))
-bind_local w s n c t u d bind_answer.ESRCH is = tt
-bind_local w s n c t u d bind_answer.EINVAL is = tt
-bind_local w s n c t u d bind_answer.EPERM is = tt
-bind_local w s n c t u d bind_answer.EBUSY is = tt
+bind_local w s n c t u d answer is = tt
 
 -- from its own processor to a place where nobody runs
 stops : (s : State) (c t : ℕ) (place : Place) → runner s c ≡ Some t → Apart c place → Goes s c t place

@@ -4,7 +4,7 @@ use Rattle.std.specs.Prelude.{slice_get}
 use Rattle.sd_types.specs.declared.events.Entry.{Entry}
 use Rattle.sd_types.specs.declared.works.Work.{Work}
 use Rattle.sd_state.specs.declared.states.Place.{Place}
-use Rattle.sd_state.specs.declared.states.Place.TheVariants.{Running, Queued, RealTime, Waiting, Asleep, Napping, Ended}
+use Rattle.sd_state.specs.declared.states.Place.TheVariants.{Running}
 use Rattle.sd_state.specs.Opening.{opening}
 use Rattle.sd_state.specs.States.{is_running}
 use Rattle.sd_machine.specs.Events.{after}
@@ -15,12 +15,7 @@ use Rattle.sd_stretches.specs.Sights.{doing_of, runs_on}
 
 pub runs_place : (c : ℕ) (p : Place) → runs_on c (doing_of p) ≡ is_running c p
 runs_place c (Running d) = refl
-runs_place c (Queued d k) = refl
-runs_place c (RealTime q k) = refl
-runs_place c (Waiting l side k) = refl
-runs_place c (Asleep j k) = refl
-runs_place c (Napping d k) = refl
-runs_place c Ended = refl
+runs_place c p = refl
 
 -- the entry behind the first k
 entry_there : (es : List Entry) (k : ℕ) → k < length es → (e : Entry) × (slice_get es k ≡ Some e) × (take (suc k) es ≡ take k es ++ e ∷ [])

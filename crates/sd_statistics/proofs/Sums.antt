@@ -36,12 +36,7 @@ run_share x = if is_on x.doing then x.to - x.from else 0
 
 both_shares : (d : Doing) (n : ℕ) → (if is_of Running d then n else 0) + (if is_of Spinning d then n else 0) ≡ (if is_on d then n else 0)
 both_shares (does.Running c) n = omega arith
-both_shares (does.Spinning c l) n = omega arith
-both_shares does.Runnable n = omega arith
-both_shares (does.Waiting l) n = omega arith
-both_shares (does.Asleep k) n = omega arith
-both_shares does.Napping n = omega arith
-both_shares does.Ended n = omega arith
+both_shares d n = omega arith
 
 pub shares : (xs : List Stretch) → ticks_in Running xs + ticks_in Spinning xs ≡ sum_by run_share xs
 unfolding spans_of
@@ -123,12 +118,7 @@ cut_shares c (s ∷ ss) x on (a, b, rest) =
 
 whole : (d : Doing) (x : Stretch) (ss : List Spell) → is_on d ≡ false → pieces_by d x ss ≡ x ∷ []
 whole (does.Running c) x ss off = absurd (false≢true (sym off))
-whole (does.Spinning c l) x ss off = refl
-whole does.Runnable x ss off = refl
-whole (does.Waiting l) x ss off = refl
-whole (does.Asleep k) x ss off = refl
-whole does.Napping x ss off = refl
-whole does.Ended x ss off = refl
+whole d x ss off = refl
 
 -- ---- which spells belong to a stretch
 

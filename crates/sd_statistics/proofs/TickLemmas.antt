@@ -45,12 +45,7 @@ one_share : (d : Doing) (n : ℕ)
     → (if is_of Running d then n else 0) + (if is_of Spinning d then n else 0) + (if is_of Runnable d then n else 0) + (if is_of Waiting d then n else 0)
     + (if is_of Asleep d then n else 0) + (if is_of Napping d then n else 0) + (if is_of Ended d then n else 0) ≡ n
 one_share (doing.Running c) n = omega arith
-one_share (doing.Spinning c l) n = omega arith
-one_share doing.Runnable n = omega arith
-one_share (doing.Waiting l) n = omega arith
-one_share (doing.Asleep k) n = omega arith
-one_share doing.Napping n = omega arith
-one_share doing.Ended n = omega arith
+one_share d n = omega arith
 
 all_is_sum : (xs : List Stretch) → all_ticks xs ≡ sum_by stretch_ticks xs
 unfolding spans_of

@@ -12,7 +12,7 @@ use Rattle.sd_types.specs.declared.events.BindAnswer.TheVariants as bind
 use Rattle.sd_types.specs.declared.events.Duty.{Duty}
 use Rattle.sd_types.specs.declared.events.Duty.TheVariants as duty
 use Rattle.sd_types.specs.declared.events.Event.{Event}
-use Rattle.sd_types.specs.declared.events.Event.TheVariants.{Tick, Spin, Idle, Dispatch, Steal, Preempt, Away, Yield, Done, Nap, Napend, Sleep, Wake, Wakeall, Rouse, Enter, Read, Write, Block, Will, End, Exit, Unblock, Grant, Passed, Age, Prio, CvWait, SemaP, SemaWait, SemaVWake, SemaVCount, Assign, Move, Joined, Bind}
+use Rattle.sd_types.specs.declared.events.Event.TheVariants.{Tick, Spin, Idle, Steal, Preempt, Away, Yield, Done, Nap, Napend, Sleep, Wake, Wakeall, Rouse, Enter, Read, Write, Block, Will, Exit, Unblock, Grant, Age, Prio, CvWait, SemaP, SemaWait, SemaVWake, SemaVCount, Assign, Move, Bind}
 use Rattle.sd_types.specs.declared.events.PrioAnswer.{PrioAnswer}
 use Rattle.sd_types.specs.declared.events.PrioAnswer.TheVariants.{Changed, Refused}
 use Rattle.sd_types.specs.declared.events.Put.{Put}
@@ -142,7 +142,6 @@ module _ (w : Work) (s : State) (c : CpuId) (d : Duty) where
   needs_left (Tick t) n = (acts_left t n.0, tick_left n.1)
   needs_left (Spin t l) n = (record { thread = n.0.thread; place = n.0.place }, n.1, tick_left n.2)
   needs_left Idle n = tick_left n
-  needs_left (Dispatch t p) n = n
   needs_left (Steal v t p) n = (n.0, n.1, cpu_left v n.2)
   needs_left (Preempt t end) n = record { thread = n.thread; place = n.place }
   needs_left (Away t f) n = (record { thread = n.0.thread; place = n.0.place }, cpu_left f n.1)
@@ -159,12 +158,9 @@ module _ (w : Work) (s : State) (c : CpuId) (d : Duty) where
   needs_left (Write t l) n = (acts_left t n.0, n.1, record { room = n.2.room; apart = n.2.apart })
   needs_left (Block t l) n = (record { thread = n.0.thread; place = n.0.place }, n.1)
   needs_left (Will l o p at) n = (n.0, n.1, record { sound = n.2.sound; held = n.2.held; below = n.2.below }, put_left_if at n.3, runs_left o n.4)
-  needs_left (End l) n = n
   needs_left (Exit t l) n = (acts_left t n.0, n.1)
   needs_left (Unblock l u at) n = (n.0, n.1, cpu_left (cpu_put at) n.2)
   needs_left (Grant l u at) n = (n.0, cpu_left (cpu_put at) n.1, record { thread = n.2.thread; op = n.2.op; room = n.2.room; apart = n.2.apart; sound = n.2.sound; below = n.2.below; more = n.2.more })
-  needs_left (Passed l) n = n
-  needs_left (Age t p) n = n
   needs_left (Prio t u answer) n = (acts_left t n.0, changed_left t u answer n.1)
   needs_left (CvWait t k l) n = (acts_left t n.0, n.1, n.2)
   needs_left (SemaP t k) n = (acts_left t n.0, n.1)
@@ -173,8 +169,8 @@ module _ (w : Work) (s : State) (c : CpuId) (d : Duty) where
   needs_left (SemaVCount t k m) n = (acts_left t n.0, n.1, n.2)
   needs_left (Assign t f to answer) n = (acts_left t n.0, cpu_left f n.1, n.2, set_left (λ m. m < length s.open_cpus) f.0 n.3)
   needs_left (Move t at) n = (n.0, cpu_left (cpu_put at) n.1)
-  needs_left (Joined to) n = n
   needs_left (Bind t u f answer) n = (acts_left t n.0, bound_kept u f answer n.1)
+  needs_left e n = n
 
   ready_left : (e : CpuId) → ready_parts (set_duty s c.0 d) e ≡ ready_parts s e
   unfolding set_duty
@@ -182,12 +178,7 @@ module _ (w : Work) (s : State) (c : CpuId) (d : Duty) where
 
   reordered_left : (t : ThreadId) (at : Option Put) (p : Place) → reordered_parts w (set_duty s c.0 d) t at p ≡ reordered_parts w s t at p
   reordered_left t at (place.Running e) = ap (λ (ps : List Part). thread_part t ∷ ps) (ready_left e)
-  reordered_left t at (place.Queued e k) = refl
-  reordered_left t at (place.RealTime p k) = refl
-  reordered_left t at (place.Waiting l side k) = refl
-  reordered_left t at (place.Asleep j k) = refl
-  reordered_left t at (place.Napping e due) = refl
-  reordered_left t at place.Ended = refl
+  reordered_left t at p = refl
 
   pub touched_left : (e : Event) → touched w (set_duty s c.0 d) c e ≡ touched w s c e
   unfolding set_duty

@@ -23,13 +23,8 @@ use Rattle.sd_step.specs.Tasks.{task_ageing, task_parts, task_plan}
 
 by_task : (w : Work) (s : State) (c : CpuId) (d : Duty) → (cpu_of s c.0).duty ≡ d → duty_plan_of w s d ≡ task_plan w s c (task_of d)
 unfolding next_to_rouse
-by_task w s c duty.Nothing e = refl
-by_task w s c (duty.Walk l seek key) e = refl
-by_task w s c (duty.WakeMutex l) e = refl
-by_task w s c (duty.GrantWriter l) e = refl
-by_task w s c (duty.GrantReaders l) e = refl
 by_task w s c (duty.Rouse k below) e = sym (ap (λ (d : Duty). Some (rouse_plan w s k (best_sleeper_below s k.0 (rouse_key d)))) e)
-by_task w s c (duty.Age u) e = refl
+by_task w s c d e = refl
 
 pub duty_by_task : (w : Work) (s : State) (c : CpuId) → duty_plan w s c.0 ≡ task_plan w s c (task_of (cpu_of s c.0).duty)
 unfolding duty_plan
@@ -37,12 +32,7 @@ duty_by_task w s c = by_task w s c (cpu_of s c.0).duty refl
 
 ageing_by : (w : Work) (s : State) (c : CpuId) (d : Duty) → ageing_plan_of w s c.0 d ≡ task_ageing w s c (task_of d)
 ageing_by w s c duty.Nothing = refl
-ageing_by w s c (duty.Walk l seek key) = refl
-ageing_by w s c (duty.WakeMutex l) = refl
-ageing_by w s c (duty.GrantWriter l) = refl
-ageing_by w s c (duty.GrantReaders l) = refl
-ageing_by w s c (duty.Rouse k below) = refl
-ageing_by w s c (duty.Age u) = refl
+ageing_by w s c d = refl
 
 pub ageing_by_task : (w : Work) (s : State) (c : CpuId) → ageing_plan w s c.0 ≡ task_ageing w s c (task_of (cpu_of s c.0).duty)
 unfolding ageing_plan

@@ -154,14 +154,7 @@ search_leads s c hints fit e =
 
 plain : (p : Placement) (at : Put) → ticks (event_of p at) ≡ false
 plain (placement.Napend t) at = refl
-plain (placement.Wake t k u) at = refl
-plain (placement.Rouse k u) at = refl
-plain (placement.Will l o p) at = refl
-plain (placement.Unblock l u) at = refl
-plain (placement.Grant l u) at = refl
-plain (placement.Prio t u p) at = refl
-plain (placement.SemaVWake t k u) at = refl
-plain (placement.Move t) at = refl
+plain p at = refl
 
 given : (a b : Bool) (e : Event) → (a ≡ false) ⊎ (b ≡ true) → is_some (cond (not a || b) (Some e) None) ≡ true
 given false b e h = refl

@@ -27,57 +27,16 @@ use Rattle.sd_stretches.proofs.RangeLemmas.{flat_range_same}
 
 pub same_is : (x y : Doing) → same_doing x y ≡ true → x ≡ y
 same_is (Running c) (Running d) h = let e : c.0 ≡ d.0 = grind (arith, nat_tests) in ap (λ n. Running (record { 0 = n })) e
-same_is (Running c) (Spinning d m) h = cc
-same_is (Running c) Runnable h = cc
-same_is (Running c) (Waiting m) h = cc
-same_is (Running c) (Asleep j) h = cc
-same_is (Running c) Napping h = cc
-same_is (Running c) Ended h = cc
-same_is (Spinning c l) (Running d) h = cc
 same_is (Spinning c l) (Spinning d m) h =
     let e : c.0 ≡ d.0 = grind (arith, nat_tests) in
     let f : l.0 ≡ m.0 = grind (arith, nat_tests) in
     ap (λ n. Spinning (record { 0 = n }) l) e ∙ ap (λ n. Spinning d (record { 0 = n })) f
-same_is (Spinning c l) Runnable h = cc
-same_is (Spinning c l) (Waiting m) h = cc
-same_is (Spinning c l) (Asleep j) h = cc
-same_is (Spinning c l) Napping h = cc
-same_is (Spinning c l) Ended h = cc
-same_is Runnable (Running d) h = cc
-same_is Runnable (Spinning d m) h = cc
 same_is Runnable Runnable h = refl
-same_is Runnable (Waiting m) h = cc
-same_is Runnable (Asleep j) h = cc
-same_is Runnable Napping h = cc
-same_is Runnable Ended h = cc
-same_is (Waiting l) (Running d) h = cc
-same_is (Waiting l) (Spinning d m) h = cc
-same_is (Waiting l) Runnable h = cc
 same_is (Waiting l) (Waiting m) h = let e : l.0 ≡ m.0 = grind (arith, nat_tests) in ap (λ n. Waiting (record { 0 = n })) e
-same_is (Waiting l) (Asleep j) h = cc
-same_is (Waiting l) Napping h = cc
-same_is (Waiting l) Ended h = cc
-same_is (Asleep k) (Running d) h = cc
-same_is (Asleep k) (Spinning d m) h = cc
-same_is (Asleep k) Runnable h = cc
-same_is (Asleep k) (Waiting m) h = cc
 same_is (Asleep k) (Asleep j) h = let e : k.0 ≡ j.0 = grind (arith, nat_tests) in ap (λ n. Asleep (record { 0 = n })) e
-same_is (Asleep k) Napping h = cc
-same_is (Asleep k) Ended h = cc
-same_is Napping (Running d) h = cc
-same_is Napping (Spinning d m) h = cc
-same_is Napping Runnable h = cc
-same_is Napping (Waiting m) h = cc
-same_is Napping (Asleep j) h = cc
 same_is Napping Napping h = refl
-same_is Napping Ended h = cc
-same_is Ended (Running d) h = cc
-same_is Ended (Spinning d m) h = cc
-same_is Ended Runnable h = cc
-same_is Ended (Waiting m) h = cc
-same_is Ended (Asleep j) h = cc
-same_is Ended Napping h = cc
 same_is Ended Ended h = refl
+same_is x y h = cc
 
 pub same_self : (x : Doing) → same_doing x x ≡ true
 same_self (Running c) = grind (arith, nat_tests)

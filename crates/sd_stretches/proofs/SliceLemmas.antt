@@ -9,7 +9,7 @@ use Rattle.sd_state.specs.declared.states.Place.TheVariants as place
 use Rattle.sd_state.specs.States.{thread_of}
 use Rattle.sd_machine.specs.Runs.{state_at}
 use Rattle.sd_stretches.specs.declared.sights.Doing.{Doing}
-use Rattle.sd_stretches.specs.declared.sights.Doing.TheVariants.{Running, Spinning, Runnable, Waiting, Asleep, Napping, Ended}
+use Rattle.sd_stretches.specs.declared.sights.Doing.TheVariants.{Running}
 use Rattle.sd_stretches.specs.declared.rows.Stretch.{Stretch}
 use Rattle.sd_stretches.specs.declared.changes.Turn.{Turn}
 use Rattle.sd_stretches.specs.Sights.{doing_of, runs_on}
@@ -56,12 +56,7 @@ own_slices c t n end xs = swapped (λ x. x.thread == t) (λ x. runs_on c x.doing
 
 runs_is : (c : CpuId) (d : Doing) → runs_on c.0 d ≡ true → d ≡ Running c
 runs_is c (Running d) h = let e : d.0 ≡ c.0 = grind (arith, nat_tests) in ap (λ n. Running (record { 0 = n })) e
-runs_is c (Spinning d l) h = cc
-runs_is c Runnable h = cc
-runs_is c (Waiting l) h = cc
-runs_is c (Asleep k) h = cc
-runs_is c Napping h = cc
-runs_is c Ended h = cc
+runs_is c d h = cc
 
 runs_self : (c : CpuId) → runs_on c.0 (Running c) ≡ true
 runs_self c = grind (arith, nat_tests)
@@ -116,12 +111,7 @@ module _ (f : ℕ → Doing) (n : ℕ) (c : CpuId) where
 
 place_of : (x : Place) (c : CpuId) → doing_of x ≡ Running c → x ≡ place.Running c
 place_of (place.Running d) c is = cc
-place_of (place.Queued d k) c is = cc
-place_of (place.RealTime p k) c is = cc
-place_of (place.Waiting l side k) c is = cc
-place_of (place.Asleep k key) c is = cc
-place_of (place.Napping d due) c is = cc
-place_of place.Ended c is = cc
+place_of x c is = cc
 
 pub slices_exact : SlicesAreExact
 unfolding running

@@ -4,7 +4,7 @@ use Rattle.std.specs.Prelude.{nat_lt, max, min, if◌then◌else◌}
 use Rattle.std.proofs.lemmas.Bool.Decides.{nat_tests}
 use Rattle.sd_types.specs.declared.numbers.CpuId.{CpuId}
 use Rattle.sd_stretches.specs.declared.sights.Doing.{Doing}
-use Rattle.sd_stretches.specs.declared.sights.Doing.TheVariants.{Running, Spinning, Runnable, Waiting, Asleep, Napping, Ended}
+use Rattle.sd_stretches.specs.declared.sights.Doing.TheVariants.{Running}
 use Rattle.sd_stretches.specs.declared.rows.Stretch.{Stretch}
 use Rattle.sd_stretches.specs.declared.spins.Spell.{Spell}
 use Rattle.sd_stretches.specs.Spins.{before, cut, pieces_by, rest_after, spells_of, spun, Fills, PiecesFillStretches}
@@ -61,12 +61,7 @@ fills_cut c (s ∷ ss) x =
 
 fills_pieces : (d : Doing) (x : Stretch) (spells : List Spell) → Fills x.from x.to (pieces_by d x spells)
 fills_pieces (Running c) x spells = fills_cut c (spells_of spells) x
-fills_pieces (Spinning c l) x spells = (refl, refl)
-fills_pieces Runnable x spells = (refl, refl)
-fills_pieces (Waiting l) x spells = (refl, refl)
-fills_pieces (Asleep k) x spells = (refl, refl)
-fills_pieces Napping x spells = (refl, refl)
-fills_pieces Ended x spells = (refl, refl)
+fills_pieces d x spells = (refl, refl)
 
 pub pieces_fill : PiecesFillStretches
 pieces_fill x spells = fills_pieces x.doing x spells

@@ -42,12 +42,7 @@ put_goes w n t (Some at) u to e = cc
 
 reordered_goes : (w : Work) (n t : ℕ) (at : Option Put) (p : Place) (u : ℕ) (to : Place) → reordered_step w n t at p ≡ Step.Go u to → t ≡ u
 reordered_goes w n t at (place.Running c) u to e = absurd cc
-reordered_goes w n t at (place.Queued c k) u to e = put_goes w n t at u to e
-reordered_goes w n t at (place.RealTime p k) u to e = put_goes w n t at u to e
-reordered_goes w n t at (place.Waiting l side k) u to e = put_goes w n t at u to e
-reordered_goes w n t at (place.Asleep j k) u to e = put_goes w n t at u to e
-reordered_goes w n t at (place.Napping c due) u to e = put_goes w n t at u to e
-reordered_goes w n t at place.Ended u to e = put_goes w n t at u to e
+reordered_goes w n t at p u to e = put_goes w n t at u to e
 
 prio_goes : (w : Work) (s : State) (n : ℕ) (t : ThreadId) (answer : PrioAnswer) (u : ℕ) (to : Place) → prio_step w s n t answer ≡ Step.Go u to → t.0 ≡ u
 prio_goes w s n t (Changed p at) u to e = reordered_goes w n t.0 at (thread_of s t.0).place u to e

@@ -84,12 +84,7 @@ path-start-text class column heights h = simp (list_all-append is_text_byte, h, 
 
 class-text : (d : Doing) → IsText (doing_class d)
 class-text (Running c) = refl
-class-text (Spinning c l) = refl
-class-text Runnable = refl
-class-text (Waiting l) = refl
-class-text (Asleep k) = refl
-class-text Napping = refl
-class-text Ended = refl
+class-text d = refl
 
 bar-title : (w : Work) (x : Stretch) → IsPlain (stretch_title w x)
 unfolding stretch_title place_text times_text between
@@ -130,11 +125,7 @@ bar-text w f row x = either-text (eqb (width f x.from x.to) 0) [] (bar_text w f 
 run-text-by : (w : Work) (f : Layout) (x : Stretch) (d : Doing) → IsText (run_bar_by w f x d)
 run-text-by w f x (Running c) = bar-text w f (Cpu c.0) x
 run-text-by w f x (Spinning c l) = bar-text w f (Cpu c.0) x
-run-text-by w f x Runnable = refl
-run-text-by w f x (Waiting l) = refl
-run-text-by w f x (Asleep k) = refl
-run-text-by w f x Napping = refl
-run-text-by w f x Ended = refl
+run-text-by w f x d = refl
 
 run-text : (w : Work) (f : Layout) (x : Stretch) → IsText (run_bar w f x)
 run-text w f x = run-text-by w f x x.doing
@@ -246,12 +237,7 @@ moment-line-text w f row x =
 
 cpu-moment-text : (w : Work) (f : Layout) (x : Stretch) (d : Doing) → IsText (cpu_moment w f x d)
 cpu-moment-text w f x (Running c) = moment-line-text w f (Cpu c.0) x
-cpu-moment-text w f x (Spinning c l) = refl
-cpu-moment-text w f x Runnable = refl
-cpu-moment-text w f x (Waiting l) = refl
-cpu-moment-text w f x (Asleep k) = refl
-cpu-moment-text w f x Napping = refl
-cpu-moment-text w f x Ended = refl
+cpu-moment-text w f x d = refl
 
 thread-moment-text : (w : Work) (f : Layout) (x : Stretch) (row : Option ℕ) → IsText (thread_moment w f x row)
 thread-moment-text w f x None = refl
@@ -437,54 +423,15 @@ head-text w f =
 
 key-class-text : (k : Key) → IsText (class_of k)
 key-class-text key.Running = refl
-key-class-text key.Spinning = refl
-key-class-text key.Runnable = refl
-key-class-text key.Waiting = refl
-key-class-text key.Asleep = refl
-key-class-text key.Napping = refl
-key-class-text key.Ended = refl
-key-class-text key.Number = refl
-key-class-text key.Name = refl
-key-class-text key.Lock = refl
-key-class-text key.Moment = refl
-key-class-text key.Wake = refl
-key-class-text key.HandOver = refl
-key-class-text key.Own = refl
-key-class-text key.Inherited = refl
+key-class-text k = refl
 
 key-words-text : (k : Key) → IsText (words_of k)
 key-words-text key.Running = refl
-key-words-text key.Spinning = refl
-key-words-text key.Runnable = refl
-key-words-text key.Waiting = refl
-key-words-text key.Asleep = refl
-key-words-text key.Napping = refl
-key-words-text key.Ended = refl
-key-words-text key.Number = refl
-key-words-text key.Name = refl
-key-words-text key.Lock = refl
-key-words-text key.Moment = refl
-key-words-text key.Wake = refl
-key-words-text key.HandOver = refl
-key-words-text key.Own = refl
-key-words-text key.Inherited = refl
+key-words-text k = refl
 
 sample-text : (k : Key) → IsText (sample_of k)
 sample-text key.Running = refl
-sample-text key.Spinning = refl
-sample-text key.Runnable = refl
-sample-text key.Waiting = refl
-sample-text key.Asleep = refl
-sample-text key.Napping = refl
-sample-text key.Ended = refl
-sample-text key.Number = refl
-sample-text key.Name = refl
-sample-text key.Lock = refl
-sample-text key.Moment = refl
-sample-text key.Wake = refl
-sample-text key.HandOver = refl
-sample-text key.Own = refl
-sample-text key.Inherited = refl
+sample-text k = refl
 
 box-key-text : (class : List ℕ) (x y : ℕ) (words : List ℕ) → IsText class → IsText words → IsText (box_key class x y words)
 unfolding box_key

@@ -56,12 +56,7 @@ length-text w from to = simp decimal-text
 spin-words-text : (w : Work) (d : Doing) → IsText (spin_words w d)
 unfolding spin_words
 spin-words-text w (doing.Spinning c l) = simp (list_all-append is_text_byte, lock-text w l.0)
-spin-words-text w (doing.Running c) = refl
-spin-words-text w doing.Runnable = refl
-spin-words-text w (doing.Waiting l) = refl
-spin-words-text w (doing.Asleep k) = refl
-spin-words-text w doing.Napping = refl
-spin-words-text w doing.Ended = refl
+spin-words-text w d = refl
 
 run-text : (w : Work) (c : ℕ) (x : Stretch) → IsText (run_slice w c x)
 unfolding run_slice run_name slice_kind

@@ -9,7 +9,7 @@ use Rattle.sd_text.specs.Lines.{EndsLine}
 use Rattle.sd_state.specs.Opening.{opening}
 use Rattle.sd_machine.specs.Runs.{final}
 use Rattle.sd_answers.specs.declared.answers.Answer.{Answer}
-use Rattle.sd_answers.specs.declared.answers.Answer.TheVariants.{Done, Usage, TooLarge, TooLargeToAudit, NoJournal, Refused, ReadFault, WriteFault, OutOfMemory, Blocked, NotAJournal, TooLong}
+use Rattle.sd_answers.specs.declared.answers.Answer.TheVariants.{Done, Usage, WriteFault, Blocked, TooLong}
 use Rattle.sd_answers.specs.declared.writing.Unwritten.{Unwritten}
 use Rattle.sd_answers.specs.declared.writing.Unwritten.TheVariants as unwritten
 use Rattle.sd_answers.specs.Answers.{status_of, unwritten_answer}
@@ -30,16 +30,10 @@ use Rattle.sd_viewer.specs.Viewing.{IsDrawnInput, IsDrawing, Draws, CausedByView
 pub undrawn : (d : Drawing) (input out : StreamChange) (a : Answer) → IsDrawing d input (Err a) → IsUntouched out → CausedByView d input out a (answer_line a)
 undrawn d input out Done n kept = absurd n
 undrawn d input out Usage n kept = absurd n
-undrawn d input out TooLarge n kept = ((n, kept), refl)
-undrawn d input out TooLargeToAudit n kept = ((n, kept), refl)
-undrawn d input out NoJournal n kept = ((n, kept), refl)
-undrawn d input out (Refused line cause) n kept = ((n, kept), refl)
-undrawn d input out ReadFault n kept = ((n, kept), refl)
 undrawn d input out WriteFault n kept = absurd n
-undrawn d input out OutOfMemory n kept = ((n, kept), refl)
 undrawn d input out Blocked n kept = absurd n
-undrawn d input out (NotAJournal fault) n kept = ((n, kept), refl)
 undrawn d input out TooLong n kept = absurd n
+undrawn d input out a n kept = ((n, kept), refl)
 
 -- the drawing was not written whole
 pub unwritten_view : (d : Drawing) (input out : StreamChange) (text : List ℕ) (e : Unwritten) → IsDrawnInput d input text → Puts out.before out.after out.faults_before out.faults_after text (Err e)
@@ -71,31 +65,11 @@ module _ (d : Drawing) (input out : StreamChange) (line : List ℕ) where
   -- the cause without the line
   cause_of : (a : Answer) → CausedByView d input out a line → CausedByCertificate (IsDrawnInput d input) (λ text. text) input out a
   cause_of Done c = (c.0, c.1, c.2, c.3)
-  cause_of Usage c = c.0
-  cause_of TooLarge c = c.0
-  cause_of TooLargeToAudit c = c.0
-  cause_of NoJournal c = c.0
-  cause_of (Refused number cause) c = c.0
-  cause_of ReadFault c = c.0
-  cause_of WriteFault c = c.0
-  cause_of OutOfMemory c = c.0
-  cause_of Blocked c = c.0
-  cause_of (NotAJournal fault) c = c.0
-  cause_of TooLong c = c.0
+  cause_of a c = c.0
 
   draws_of : (a : Answer) → CausedByView d input out a line → status_of a ≡ 0 → Draws d input out line
   draws_of Done c s = c
-  draws_of Usage c s = absurd (omega arith)
-  draws_of TooLarge c s = absurd (omega arith)
-  draws_of TooLargeToAudit c s = absurd (omega arith)
-  draws_of NoJournal c s = absurd (omega arith)
-  draws_of (Refused number cause) c s = absurd (omega arith)
-  draws_of ReadFault c s = absurd (omega arith)
-  draws_of WriteFault c s = absurd (omega arith)
-  draws_of OutOfMemory c s = absurd (omega arith)
-  draws_of Blocked c s = absurd (omega arith)
-  draws_of (NotAJournal fault) c s = absurd (omega arith)
-  draws_of TooLong c s = absurd (omega arith)
+  draws_of a c s = absurd (omega arith)
 
   -- what is drawn is the run whose journal the input holds
   held : (text : List ℕ) → IsDrawnInput d input text → HoldsJournal input
@@ -126,17 +100,8 @@ module _ (d : Drawing) (input out : StreamChange) (line : List ℕ) where
 
 helps_of : (input out : StreamChange) (a : Answer) → CausedByHelp out a → IsUntouched input → Helps input out (status_of a)
 helps_of input out Done c kept = (kept, inl (refl, c.0))
-helps_of input out Usage c kept = absurd c
-helps_of input out TooLarge c kept = absurd c
-helps_of input out TooLargeToAudit c kept = absurd c
-helps_of input out NoJournal c kept = absurd c
-helps_of input out (Refused number cause) c kept = absurd c
-helps_of input out ReadFault c kept = absurd c
 helps_of input out WriteFault c kept = (kept, inr (refl, c.1))
-helps_of input out OutOfMemory c kept = absurd c
-helps_of input out Blocked c kept = absurd c
-helps_of input out (NotAJournal fault) c kept = absurd c
-helps_of input out TooLong c kept = absurd c
+helps_of input out a c kept = absurd c
 
 -- the status is 0 or 4
 no_help : {P : Type 0} (input out : StreamChange) (status n : ℕ) → Helps input out status → status ≡ n → (n ≡ 0 → ⊥) → (n ≡ 4 → ⊥) → P

@@ -1,5 +1,5 @@
 -- The operations of a line without causes name what is declared.
-use Rattle.std.proofs.Common.{◌≡◌, ℕ, ◌+◌, Bool, true, ◌&&◌, ltb, leb, List, ◌++◌, Option, Some, None, refl, ◌∙◌, arith, length}
+use Rattle.std.proofs.Common.{◌≡◌, ℕ, ◌+◌, true, ◌&&◌, ltb, leb, List, ◌++◌, Option, Some, None, refl, ◌∙◌, arith, length}
 use Rattle.std.proofs.lemmas.Bool.{and_from, and_parts, not-false}
 use Rattle.std.specs.Option.{option_map}
 use Rattle.std.specs.List.{list_all, slice_get}
@@ -9,15 +9,13 @@ use Rattle.std.proofs.lemmas.List.Folds.{list_all-append}
 use Rattle.sd_types.specs.declared.scripts.Op.{Op}
 use Rattle.sd_types.specs.declared.scripts.Op.TheVariants as op
 use Rattle.sd_types.specs.Partitions.{cpu_of_number}
-use Rattle.sd_types.specs.Works.{is_mutex, is_chan, bound_fits, request_fits, quantum_fits, short_fits, op_names}
+use Rattle.sd_types.specs.Works.{is_mutex, is_chan, bound_fits, request_fits, short_fits, op_names}
 use Rattle.sd_lines.specs.declared.operations.RequestLine.{RequestLine}
 use Rattle.sd_lines.specs.declared.operations.RequestLine.TheVariants.{Ts, Fx, Sys, Rt}
-use Rattle.sd_lines.specs.declared.words.QuantumWord.{QuantumWord}
-use Rattle.sd_lines.specs.declared.words.QuantumWord.TheVariants.{Def, Inf, Ticks}
 use Rattle.sd_lines.specs.Operations.{Operation, Run, Yield, Nap, Sleep, Wake, WakeAll, Enter, Read, Write, Exit, Prio, CvWait, SemaP, SemaV, Assign, Pbind}
 use Rattle.sd_declare.specs.Causes.{least}
 use Rattle.sd_declare.specs.Declarations.{Declarations, cpu_count, set_number}
-use Rattle.sd_declare.specs.Statements.{is_quantum, quantum_of}
+use Rattle.sd_declare.specs.Statements.{is_quantum}
 use Rattle.sd_declare.specs.Operations.{is_request, is_cpu_or_none, request_of, operation_causes, op_of, ops_of_op}
 use Rattle.sd_workload.specs.Sound.{named}
 use Rattle.sd_workload.proofs.ClearLemmas.{clear}
@@ -73,21 +71,8 @@ both-named : (d : Declarations) (o : Op) → op_names (named d) o ≡ true → l
 both-named d (op.CvWait k l) h =
     let p = and_parts (is_chan (slice_get (named d).chans k.0)) (is_mutex (slice_get (named d).locks l.0)) h in
     rw (p.0, p.1) refl
-both-named d (op.Run n) h = rw h refl
 both-named d op.Yield h = refl
-both-named d (op.Nap n) h = rw h refl
-both-named d (op.Sleep k) h = rw h refl
-both-named d (op.Wake k) h = rw h refl
-both-named d (op.WakeAll k) h = rw h refl
-both-named d (op.Enter l) h = rw h refl
-both-named d (op.Read l) h = rw h refl
-both-named d (op.Write l) h = rw h refl
-both-named d (op.Exit l) h = rw h refl
-both-named d (op.Prio t r) h = rw h refl
-both-named d (op.SemaP k) h = rw h refl
-both-named d (op.SemaV k) h = rw h refl
-both-named d (op.Assign c s) h = rw h refl
-both-named d (op.Pbind t c) h = rw h refl
+both-named d o h = rw h refl
 
 -- one more line of a script
 pub line-named : (d : Declarations) (ops : List Op) (o : Operation) → least (operation_causes d o) ≡ None → list_all (op_names (named d)) ops ≡ true

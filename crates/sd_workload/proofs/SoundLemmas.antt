@@ -13,16 +13,16 @@ use Rattle.sd_tables.specs.TableText.{Format, line_fault, fault_at, AreClean, ha
 use Rattle.sd_lines.specs.declared.statements.TableClass.{TableClass}
 use Rattle.sd_lines.specs.declared.statements.TableClass.TheVariants as table
 use Rattle.sd_lines.specs.Words.{Line, is_end, only_word}
-use Rattle.sd_lines.specs.Statements.{Statement, Cpus, Hz, Limit, Set, Table, Lock, Chan, Sema, Declare, Script, statement_of}
+use Rattle.sd_lines.specs.Statements.{Statement, Table, Script, statement_of}
 use Rattle.sd_lines.specs.Operations.{Operation, operation_of}
 use Rattle.sd_declare.specs.declared.causes.WorkCause.{WorkCause}
 use Rattle.sd_declare.specs.declared.causes.WorkCause.TheVariants as cause
 use Rattle.sd_declare.specs.Declarations.{Thread, Declarations, nothing}
 use Rattle.sd_declare.specs.Statements.{with_statement}
 use Rattle.sd_declare.specs.Opened.{opened_by}
-use Rattle.sd_workload.specs.Scripts.{first_of, end_fault}
+use Rattle.sd_workload.specs.Scripts.{end_fault}
 use Rattle.sd_workload.specs.Sound.{named, thread_is_sound, IsTableLines, AreThreads, IsSound, IsSoundBlock}
-use Rattle.sd_workload.specs.Texts.{Block, Outside, InTable, InScript, stated_cause, stated, block_of, opened, format_of, rows_cause, row_cause, with_table, operation_cause, script_cause, ops_of, with_script, no_thread, unless_done, cause_of, declared_after, block_after, end_cause, Verdict, Accepts, Refuses, unless_refused, judged}
+use Rattle.sd_workload.specs.Texts.{Block, Outside, InTable, InScript, stated_cause, stated, block_of, opened, format_of, rows_cause, row_cause, with_table, operation_cause, script_cause, ops_of, with_script, no_thread, unless_done, cause_of, declared_after, block_after, end_cause, Accepts, Refuses, unless_refused, judged}
 use Rattle.sd_workload.proofs.StatementLemmas.{statement-sound}
 use Rattle.sd_workload.proofs.OperationLemmas.{line-named}
 use Rattle.sd_workload.proofs.FitsLemmas.{none-mapped, parts}
@@ -39,16 +39,9 @@ no-line : (cols : Format) → AreClean cols.columns [] 0
 no-line cols = λ i h. absurd (omega arith)
 
 opens-sound : (d : Declarations) (s : Statement) → IsSoundBlock (with_statement d s) (block_of (opened_by d s))
-opens-sound d (Cpus n) = tt
-opens-sound d (Hz n) = tt
-opens-sound d (Limit n) = tt
-opens-sound d (Set name cs) = tt
 opens-sound d (Table class) = no-line (format_of class)
-opens-sound d (Lock kind name) = tt
-opens-sound d (Chan name) = tt
-opens-sound d (Sema name count) = tt
-opens-sound d (Declare t) = tt
 opens-sound d (Script name) = refl
+opens-sound d s = tt
 
 stated-sound : (d : Declarations) (s : Option Statement) → stated_cause d s ≡ None → IsSound d → IsBelow (stated d s) (opened d s)
 stated-sound d None none h = absurd (none-some cause.Syntax (sym none))

@@ -213,11 +213,7 @@ all_came n s hs shows = subst (λ look. Shows n s look hs) (below_all s) shows
 there_list : (w : Work) (last : CpuId) (p : Place) → IsThere w p → IsListThere (list_at last p)
 there_list w last (Waiting l side k) is = let most = w.most_locks in omega arith
 there_list w last (Asleep ch k) is = let most = w.most_chans in omega arith
-there_list w last (Running c) is = tt
-there_list w last (Queued c k) is = tt
-there_list w last (RealTime p k) is = tt
-there_list w last (Napping c due) is = tt
-there_list w last Ended is = tt
+there_list w last p is = tt
 
 pub reached_orderly : (w : Work) (n : ℕ) (s : State) → IsReached w n s → IsOrderly n s
 reached_orderly w n s reached = record {

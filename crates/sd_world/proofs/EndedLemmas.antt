@@ -5,7 +5,7 @@ use Rattle.sd_types.specs.declared.numbers.CpuId.{CpuId}
 use Rattle.sd_types.specs.declared.numbers.HomeId.TheVariants as home
 use Rattle.sd_record.specs.Records.{ThreadRecord}
 use Rattle.sd_state.specs.declared.states.Place.{Place}
-use Rattle.sd_state.specs.declared.states.Place.TheVariants.{Running, Queued, RealTime, Waiting, Asleep, Napping, Ended}
+use Rattle.sd_state.specs.declared.states.Place.TheVariants.{Ended}
 use Rattle.sd_state.specs.declared.states.State.{State}
 use Rattle.sd_state.specs.declared.states.ThreadState.{ThreadState}
 use Rattle.sd_state.specs.States.{no_thread, thread_of}
@@ -21,12 +21,7 @@ use Rattle.sd_world.specs.Told.{AreTold, IsToldBy}
 
 ended_place : (c last : CpuId) (place : Place) → Ends c ≡ list_at last place → place ≡ Ended
 ended_place c last Ended e = refl
-ended_place c last (Running d) e = absurd cc
-ended_place c last (Queued d k) e = absurd cc
-ended_place c last (RealTime p k) e = absurd cc
-ended_place c last (Waiting l side k) e = absurd cc
-ended_place c last (Asleep j k) e = absurd cc
-ended_place c last (Napping d due) e = absurd cc
+ended_place c last place e = absurd cc
 
 -- the state has each of these threads, as one that has ended
 abbrev pub HaveEnded : State → List ThreadRecord → Type 0

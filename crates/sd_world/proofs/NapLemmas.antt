@@ -8,7 +8,6 @@ use Rattle.sd_types.specs.declared.events.BindAnswer.{BindAnswer}
 use Rattle.sd_types.specs.declared.events.BindAnswer.TheVariants as bind_answer
 use Rattle.sd_types.specs.declared.events.Event.{Event}
 use Rattle.sd_types.specs.declared.events.Event.TheVariants.{Preempt, Yield, Nap, Napend, Wake, Rouse, Will, Unblock, Grant, Age, Prio, SemaVWake, Move, Bind}
-use Rattle.sd_types.specs.declared.events.Event.TheVariants as event
 use Rattle.sd_types.specs.declared.events.PrioAnswer.{PrioAnswer}
 use Rattle.sd_types.specs.declared.events.PrioAnswer.TheVariants.{Changed, Refused}
 use Rattle.sd_types.specs.declared.events.Put.{Put}
@@ -18,7 +17,7 @@ use Rattle.sd_types.specs.declared.works.Work.{Work}
 use Rattle.sd_types.specs.Priorities.{eff, eff_as}
 use Rattle.sd_machine.proofs.Moves.{put_cases}
 use Rattle.sd_state.specs.declared.states.Place.{Place}
-use Rattle.sd_state.specs.declared.states.Place.TheVariants.{Running, Queued, RealTime, Waiting, Asleep, Napping, Ended}
+use Rattle.sd_state.specs.declared.states.Place.TheVariants.{Running, Queued, RealTime, Napping}
 use Rattle.sd_state.specs.declared.states.State.{State}
 use Rattle.sd_state.specs.States.{no_thread, thread_of}
 use Rattle.sd_state.specs.Opening.{is_urgent, first_cpu, first_thread, first_threads, opening}
@@ -65,12 +64,7 @@ woken_fits w n (Some u) = put_fits w n u.0.0 u.1
 
 reordered_fits : (w : Work) (n t : ℕ) (at : Option Put) (place : Place) → StepFits (reordered_step w n t at place)
 reordered_fits w n t at (Running x) = tt
-reordered_fits w n t at (Queued d k) = put_if_fits w n t at
-reordered_fits w n t at (RealTime q k) = put_if_fits w n t at
-reordered_fits w n t at (Waiting l side k) = put_if_fits w n t at
-reordered_fits w n t at (Asleep j k) = put_if_fits w n t at
-reordered_fits w n t at (Napping d k) = put_if_fits w n t at
-reordered_fits w n t at Ended = put_if_fits w n t at
+reordered_fits w n t at place = put_if_fits w n t at
 
 aged_fits : (w : Work) (s : State) (n : ℕ) (c : CpuId) (t : ℕ) → StepFits (aged_step w s n c t)
 aged_fits w s n c t = elim (eff_as (aged_class w (thread_of s t).body.class) (thread_of s t).body == eff_of s t) as (λ b. StepFits (if b then Stay else Go t (Queued c (back_key n)))) [ true ↦ tt | false ↦ tt ]

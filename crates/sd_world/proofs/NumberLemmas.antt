@@ -16,18 +16,7 @@ same_number z (id.Cpu c) (id.Cpu d) a b e = ap (λ n. id.Cpu (record { 0 = n }))
 same_number z (id.RealTime p) (id.RealTime q) a b e = let same : p.0 ≡ q.0 = omega arith in ap (λ n. id.RealTime (record { 0 = n })) same
 same_number z (id.Chain i) (id.Chain j) a b e = let same : i ≡ j = omega arith in ap id.Chain same
 same_number z (id.Sleepers i) (id.Sleepers j) a b e = let same : i ≡ j = omega arith in ap id.Sleepers same
-same_number z (id.Cpu c) (id.RealTime q) a b e = absurd (omega arith)
-same_number z (id.Cpu c) (id.Chain j) a b e = absurd (omega arith)
-same_number z (id.Cpu c) (id.Sleepers j) a b e = absurd (omega arith)
-same_number z (id.RealTime p) (id.Cpu d) a b e = absurd (omega arith)
-same_number z (id.RealTime p) (id.Chain j) a b e = absurd (omega arith)
-same_number z (id.RealTime p) (id.Sleepers j) a b e = absurd (omega arith)
-same_number z (id.Chain i) (id.Cpu d) a b e = absurd (omega arith)
-same_number z (id.Chain i) (id.RealTime q) a b e = absurd (omega arith)
-same_number z (id.Chain i) (id.Sleepers j) a b e = absurd (omega arith)
-same_number z (id.Sleepers i) (id.Cpu d) a b e = absurd (omega arith)
-same_number z (id.Sleepers i) (id.RealTime q) a b e = absurd (omega arith)
-same_number z (id.Sleepers i) (id.Chain j) a b e = absurd (omega arith)
+same_number z k j a b e = absurd (omega arith)
 
 pub index_below : (z : Sizes) (k : HomeId) → IsNumber z k → index_of z k < how_many z
 index_below z (id.Cpu c) is = omega arith

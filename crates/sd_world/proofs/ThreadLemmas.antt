@@ -39,12 +39,7 @@ home_there w s last Ended fits l is = subst (λ m. last.0 < m) (sym fits.cpus) l
 -- the list and the key of a place
 due_at : (last : CpuId) (p : Place) → NapFits p → IsDue (list_at last p) (record_key p)
 due_at last (Napping c due) fits = (due, fits, refl)
-due_at last (Running c) fits = tt
-due_at last (Queued c k) fits = tt
-due_at last (RealTime p k) fits = tt
-due_at last (Waiting m side k) fits = tt
-due_at last (Asleep j k) fits = tt
-due_at last Ended fits = tt
+due_at last p fits = tt
 
 -- whatever place has this list and this key, it is this one
 abbrev pub IsPlaceAt : ListId → ℤ → Place → Type 0
