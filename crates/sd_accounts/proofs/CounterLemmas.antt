@@ -4,6 +4,7 @@ use Rattle.std.proofs.lemmas.Bool.{cases_Bool, eqb-true, eq-eqb, false≢true}
 use Rattle.std.proofs.lemmas.List.{length-append}
 use Rattle.std.proofs.lemmas.List.Sums.{count_by-le-length, sum_by_push}
 use Rattle.std.proofs.lemmas.Option.{get_or_from_slice_get, none-some}
+use Rattle.sd_basics.proofs.Lists.{get_set_other}
 use Rattle.sd_types.specs.declared.events.Event.{Event}
 use Rattle.sd_types.specs.declared.events.Event.TheVariants.{Tick, Spin, Dispatch, Steal, Preempt, Napend, Wake, Rouse, Unblock, Grant, SemaVWake, Away}
 use Rattle.sd_types.specs.declared.events.Entry.{Entry}
@@ -35,13 +36,6 @@ get_set_here (z ∷ zs) zero zero x y same got = refl
 get_set_here (z ∷ zs) zero (suc t) x y same got = absurd (omega arith)
 get_set_here (z ∷ zs) (suc u) zero x y same got = absurd (omega arith)
 get_set_here (z ∷ zs) (suc u) (suc t) x y same got = get_set_here zs u t x y (omega arith) got
-
-get_set_other : {X : Type 0} (xs : List X) (u t : ℕ) (y : X) → (u ≡ t → ⊥) → slice_get (set xs u y) t ≡ slice_get xs t
-get_set_other [] u t y other = refl
-get_set_other (z ∷ zs) zero zero y other = absurd (other refl)
-get_set_other (z ∷ zs) zero (suc t) y other = refl
-get_set_other (z ∷ zs) (suc u) zero y other = refl
-get_set_other (z ∷ zs) (suc u) (suc t) y other = get_set_other zs u t y (λ e. other (ap suc e))
 
 get_replicate : {X : Type 0} (n t : ℕ) (x : X) → t < n → slice_get (replicate n x) t ≡ Some x
 get_replicate zero t x inside = absurd (omega arith)

@@ -1,13 +1,13 @@
 -- The texts of counters are those of the entries that they have taken in.
-use Rattle.std.proofs.Common.{◌≡◌, ℕ, zero, suc, ◌+◌, ◌<◌, List, [], ◌∷◌, ◌++◌, length, map, append_assoc, refl, sym, ap, ◌∙◌, arith}
+use Rattle.std.proofs.Common.{◌≡◌, ℕ, ◌+◌, ◌<◌, List, [], ◌∷◌, ◌++◌, length, append_assoc, refl, ap, ◌∙◌, arith}
 use Rattle.std.specs.Prelude.{codes}
-use Rattle.std.specs.List.{flat_map, range_with_len}
 use Rattle.std.specs.Fmt.{decimal}
 use Rattle.std.proofs.lemmas.List.{append-nil}
 use Rattle.std.proofs.lemmas.List.Concat.{flat_map-append}
 use Rattle.std.proofs.lemmas.List.Folds.{flat_map-map}
 use Rattle.std.proofs.lemmas.List.FromFn.{map-range_with_len_more}
 use Rattle.std.proofs.lemmas.Option.{get_or_from_slice_get}
+use Rattle.sd_basics.proofs.Ranges.{flat_range_same}
 use Rattle.sd_types.specs.declared.events.Entry.{Entry}
 use Rattle.sd_types.specs.declared.works.Work.{Work}
 use Rattle.sd_state.specs.declared.states.State.{State}
@@ -16,21 +16,6 @@ use Rattle.sd_state.specs.Texts.{thread_name, state_text, thread_counts, thread_
 use Rattle.sd_machine.specs.Texts.{summary_of}
 use Rattle.sd_accounts.specs.declared.accounts.Accounts.{Accounts}
 use Rattle.sd_accounts.specs.Counters.{no_thread_counts, no_cpu_counts, thread_counts_of, cpu_counts_of, HasTaken, counted_text, counted_thread_line, counted_cpu_line, counted_threads_text, counted_cpus_text, counted_summary}
-
--- the lines of a range, and one more
-pub flat_range_more : (f : ℕ → List ℕ) (n : ℕ) → flat_map f (range_with_len 0 (n + 1)) ≡ flat_map f (range_with_len 0 n) ++ f n
-flat_range_more f n =
-    sym (flat_map-map (λ (line : List ℕ). line) f (range_with_len 0 (n + 1)))
-    ∙ ap (flat_map (λ (line : List ℕ). line)) (map-range_with_len_more f 0 n n (omega arith))
-    ∙ flat_map-append (λ (line : List ℕ). line) (map f (range_with_len 0 n)) (f n ∷ [])
-    ∙ ap (λ (text : List ℕ). flat_map (λ (line : List ℕ). line) (map f (range_with_len 0 n)) ++ text) (append-nil (f n))
-    ∙ ap (λ (text : List ℕ). text ++ f n) (flat_map-map (λ (line : List ℕ). line) f (range_with_len 0 n))
-
-flat_range_same : (f g : ℕ → List ℕ) (a n : ℕ) → ((t : ℕ) → t < a + n → f t ≡ g t) → flat_map f (range_with_len a n) ≡ flat_map g (range_with_len a n)
-flat_range_same f g a zero same = refl
-flat_range_same f g a (suc n) same =
-    ap (λ (text : List ℕ). text ++ flat_map f (range_with_len (a + 1) n)) (same a (omega arith))
-    ∙ ap (λ (text : List ℕ). g a ++ text) (flat_range_same f g (a + 1) n (λ t inside. same t (omega arith)))
 
 module _ (w : Work) (es : List Entry) (s : State) (a : Accounts) (h : HasTaken w es a) where
   thread_same : (t : ℕ) → t < length w.threads → counted_thread_line w a.threads s t ≡ thread_line w es s t

@@ -7,6 +7,7 @@ use Rattle.std.proofs.lemmas.Bool.{eq-eqb, and_parts, or_parts, not-true}
 use Rattle.std.proofs.lemmas.Bool.Decides.{nat_tests}
 use Rattle.std.proofs.lemmas.List.{map-append}
 use Rattle.std.proofs.lemmas.List.Folds.{list_any-append, list_all-append}
+use Rattle.sd_basics.proofs.Lists.{map-map}
 use Rattle.sd_types.specs.NameWords.{is_name}
 use Rattle.sd_types.specs.Works.{same_bytes, is_distinct}
 
@@ -76,10 +77,6 @@ place-map p f (x ∷ xs) = ap (λ n. cond (not (p (f x))) (1 + n) 0) (place-map 
 pub all-map : {X Y : Type 0} (p : Y → Bool) (f : X → Y) (xs : List X) → list_all p (map f xs) ≡ list_all (λ x. p (f x)) xs
 all-map p f [] = refl
 all-map p f (x ∷ xs) = ap (λ b. p (f x) && b) (all-map p f xs)
-
-pub map-map : {X Y Z : Type 0} (f : X → Y) (g : Y → Z) (xs : List X) → map g (map f xs) ≡ map (λ x. g (f x)) xs
-map-map f g [] = refl
-map-map f g (x ∷ xs) = ap (λ l. g (f x) ∷ l) (map-map f g xs)
 
 pub same-itself : (bs : List ℕ) → same_bytes bs bs ≡ true
 same-itself [] = refl

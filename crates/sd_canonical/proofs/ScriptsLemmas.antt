@@ -7,6 +7,7 @@ use Rattle.std.proofs.lemmas.Bool.Decides.{nat_tests}
 use Rattle.std.proofs.lemmas.List.{length-map, map-append}
 use Rattle.std.proofs.lemmas.List.Folds.{list_all-append}
 use Rattle.std.proofs.Math.Seq.{set-append_seam, get_or-append_seam}
+use Rattle.sd_basics.proofs.Lists.{map-map}
 use Rattle.sd_types.specs.declared.numbers.ThreadId.{ThreadId}
 use Rattle.sd_types.specs.declared.scripts.Op.{Op}
 use Rattle.sd_types.specs.declared.works.ThreadDecl.{ThreadDecl}
@@ -28,7 +29,7 @@ use Rattle.sd_canonical.proofs.FormLemmas.{script-form}
 use Rattle.sd_canonical.proofs.ThreadLemmas.{bare_kept}
 use Rattle.sd_canonical.proofs.OpLemmas.{declared_by, Names}
 use Rattle.sd_canonical.proofs.ScriptLemmas.{takes-body}
-use Rattle.sd_canonical.proofs.ListLemmas.{named-fresh, place-seam, any-map, map-map, same-itself}
+use Rattle.sd_canonical.proofs.ListLemmas.{named-fresh, place-seam, any-map, same-itself}
 
 -- ---- the declarations where the scripts of the first threads are given, and of no other
 

@@ -3,6 +3,7 @@ use Rattle.std.proofs.Common.{◌≡◌, ℕ, Bool, true, false, not, ◌&&◌, 
 use Rattle.std.specs.Prelude.{int_le, int_lt}
 use Rattle.std.proofs.lemmas.Int.{ints}
 use Rattle.std.proofs.lemmas.Bool.Decides.{nat_tests}
+use Rattle.sd_basics.proofs.Truths.{or_or_not}
 use Rattle.sd_types.specs.declared.classes.Class.{Class}
 use Rattle.sd_types.specs.declared.classes.Class.TheVariants as class
 use Rattle.sd_types.specs.declared.classes.ClassParms.{ClassParms}
@@ -70,18 +71,12 @@ not_raised class.Fx target r fit sys rt h =
 not_raised class.Sys target r fit sys rt h = cc
 not_raised class.Rt target r fit sys rt h = cc
 
-invalid_parts : (a b c : Bool) → (a || b || not c) ≡ false → (a ≡ false) × (c ≡ true)
-invalid_parts true b c h = cc
-invalid_parts false true c h = cc
-invalid_parts false false true h = (refl, refl)
-invalid_parts false false false h = cc
-
 pub limit : (uid owner : ℕ) (target : ClassParms) (r : Request)
     → IfOk (judged uid false (Some (owner, target)) r) (λ p. limit_of_parms p ≤ℤ greatest_limit target (class_of_parms p))
 unfolding judged is_forbidden is_invalid
 limit uid owner target r =
     granted (is_sys r.class || is_sys (class_of_parms target) || not (numbers_fit r.class r.limit r.pri)) _ (new_parms r.class r)
     (λ p. limit_of_parms p ≤ℤ greatest_limit target (class_of_parms p)) (λ valid allowed.
-    let v = invalid_parts (is_sys r.class) (is_sys (class_of_parms target)) (numbers_fit r.class r.limit r.pri) valid in
+    let v = or_or_not (is_sys r.class) (is_sys (class_of_parms target)) (numbers_fit r.class r.limit r.pri) valid in
     let a = none_of (not (nat_eq uid owner)) (is_rt r.class) (is_rt (class_of_parms target)) (int_lt (greatest_limit target r.class) r.limit) allowed in
     not_raised r.class target r v.1 v.0 a.1 a.3)

@@ -1,16 +1,15 @@
 -- Lists of what is kept, read as plain data.
-use Rattle.std.proofs.Common.{◌≡◌, ℕ, suc, ◌+◌, ◌<◌, ◌≤◌, Bool, true, false, not, ◌&&◌, ◌||◌, cond, ltb, leb, List, [], ◌∷◌, length, map, drop, get_or, Some, None, unwrap_or, refl, sym, ap, ◌∙◌, arith}
+use Rattle.std.proofs.Common.{◌≡◌, ℕ, suc, ◌+◌, ◌<◌, ◌≤◌, Bool, true, false, not, ◌&&◌, ◌||◌, cond, ltb, leb, List, [], ◌∷◌, length, map, unwrap_or, refl, sym, ap, ◌∙◌, arith}
 use Rattle.std.specs.List.{position, position_or_len, list_any, sum_by, slice_get, All}
-use Rattle.std.specs.Prelude.{nat_eq}
 use Rattle.std.specs.Option.{option_map}
-use Rattle.std.proofs.lemmas.List.{drop_more}
 use Rattle.std.proofs.lemmas.List.Folds.{fold-map}
 use Rattle.std.proofs.lemmas.List.Sums.{prefix_len-le-length}
 use Rattle.std.proofs.lemmas.Option.{slice_get-map}
 use Rattle.std.proofs.lemmas.Bool.{false≢true}
 use Rattle.std.proofs.lemmas.List.Elements.{All-cons}
 use Rattle.std.proofs.lemmas.Bool.Decides.{nat_tests}
-use Rattle.sd_types.specs.Works.{is_distinct, same_bytes}
+use Rattle.sd_basics.proofs.Lists.{map-map}
+use Rattle.sd_types.specs.Works.{same_bytes}
 use Rattle.sd_lines.proofs.PlaceLemmas.{place-map, position-map, any-map}
 use Rattle.sd_text.proofs.LineLemmas.{chosen}
 
@@ -36,10 +35,6 @@ none-placed p (x ∷ xs) h =
 
 pub place_within : {A B : Type 0} (f : A → B) (p : B → Bool) (xs : List A) → unwrap_or (position (λ x. p (f x)) xs) (length xs) ≤ length xs
 place_within f p xs = let e = or_length (λ x. p (f x)) xs in let le = prefix_len-le-length (λ x. not (p (f x))) xs in omega (arith, e, le)
-
-pub map-map : {A B C : Type 0} (f : A → B) (g : B → C) (xs : List A) → map g (map f xs) ≡ map (λ x. g (f x)) xs
-map-map f g [] = refl
-map-map f g (x ∷ xs) = ap (λ l. g (f x) ∷ l) (map-map f g xs)
 
 -- an element of what is shown twice
 pub get_kept : {A B C : Type 0} (f : A → B) (g : B → C) (xs : List A) (n : ℕ) → option_map (λ x. g (f x)) (slice_get xs n) ≡ slice_get (map g (map f xs)) n

@@ -2,6 +2,7 @@
 use Rattle.std.proofs.Common.{◌≡◌, ℕ, zero, suc, ◌+◌, ◌<◌, List, [], ◌∷◌, ◌++◌, length, set, drop, Option, Some, None, slice_get, refl, sym, ap, ◌∙◌, arith, subst, length-set, ℤ, is_some, true, ◌≤◌, ◌≢◌, ◌⊎◌, inl, inr, IfSome}
 use Rattle.sd_boxq.specs.Order.{insert_ranked, insert_by_key, find_id, drop_id, replace_id, IsAlike}
 use Rattle.std.proofs.lemmas.Bool.{cases_eq}
+use Rattle.sd_basics.proofs.Lists.{get_more}
 use Rattle.sd_dispq.specs.Levels.{all_of, level_at, IsLevelled, IsHolder, IsNextBusy, AreIdleFrom}
 use Rattle.sd_dispq.specs.Ranks.{put_front, put_back, greatest_rank, raised}
 use Rattle.sd_dispq.proofs.LevelLemmas.{HaveRank-at, ranked-by_key, all_of-front, all_of-back, all_of-ranked, levelled-front, levelled-back, levelled-ranked, levelled-drop, greatest-front, greatest-back, greatest-ranked, first_there, found_there, found_nowhere, find-within, find-behind, to_next, levelled-replace, alike_there, alike_rank, greatest-replace}
@@ -109,10 +110,6 @@ module _ {X : Type 0} (id : X → ℕ) (n : ℕ) (ls : List (List X)) (p : ℕ) 
   holder_is h = by_find (find_id id n (level_at ls p)) refl h
 
 -- ---- by index
-get-within : {X : Type 0} (l m : List X) (i : ℕ) (x : X) → slice_get l i ≡ Some x → slice_get (l ++ m) i ≡ Some x
-get-within [] m i x e = absurd cc
-get-within (y ∷ l) m zero x e = e
-get-within (y ∷ l) m (suc i) x e = get-within l m i x e
 
 get-behind : {X : Type 0} (l m : List X) (i k : ℕ) → i ≡ length l + k → slice_get (l ++ m) i ≡ slice_get m k
 get-behind [] m i k e = ap (slice_get m) (omega arith)
@@ -121,7 +118,7 @@ get-behind (y ∷ l) m (suc i) k e = get-behind l m i k (omega arith)
 
 module _ {X : Type 0} (ls : List (List X)) (m i : ℕ) (h : IsNextBusy ls m i) where
   pub seek_here : (left : ℕ) (x : X) → slice_get (level_at ls i) left ≡ Some x → slice_get (all_of (drop m ls)) left ≡ Some x
-  seek_here left x e = ap (λ xs. slice_get xs left) (to_next ls m i h) ∙ get-within (level_at ls i) (all_of (drop (i + 1) ls)) left x e
+  seek_here left x e = ap (λ xs. slice_get xs left) (to_next ls m i h) ∙ get_more (level_at ls i) (all_of (drop (i + 1) ls)) left x e
 
   pub seek_past : (left rest : ℕ) → left ≡ length (level_at ls i) + rest → slice_get (all_of (drop (i + 1) ls)) rest ≡ slice_get (all_of (drop m ls)) left
   seek_past left rest e =

@@ -1,5 +1,5 @@
 -- Ranks have the order of the keys, and states whose keys have the same order have the same ranks.
-use Rattle.std.proofs.Common.{◌≡◌, ℕ, ◌+◌, ◌<◌, ◌≤◌, true, false, List, [], ◌∷◌, length, map, ℤ, pos, negsuc, int_lt, Option, Some, None, refl, sym, ap, ◌∙◌, subst, arith, inl, inr}
+use Rattle.std.proofs.Common.{◌≡◌, ℕ, ◌+◌, ◌<◌, ◌≤◌, true, false, List, [], ◌∷◌, length, map, ℤ, pos, int_lt, Option, Some, None, refl, sym, ap, ◌∙◌, subst, arith, inl, inr}
 use Rattle.std.specs.Prelude.{IfSome}
 use Rattle.std.proofs.Math.ListN.{get_or-map}
 use Rattle.std.proofs.lemmas.Bool.{cases_Bool, cases_lt}
@@ -7,6 +7,7 @@ use Rattle.std.proofs.lemmas.Bool.Decides.{nat_tests}
 use Rattle.std.proofs.lemmas.Int.{ints}
 use Rattle.std.proofs.lemmas.List.{ext_get_or, get_or_past, length-map}
 use Rattle.std.proofs.lemmas.List.Sums.{count_by-le-length}
+use Rattle.sd_basics.proofs.Numbers.{int_not_below_itself, int_below_zero}
 use Rattle.sd_types.specs.declared.events.Duty.{Duty}
 use Rattle.sd_types.specs.declared.events.Duty.TheVariants as duty
 use Rattle.sd_state.specs.declared.states.CpuState.{CpuState}
@@ -54,9 +55,6 @@ past_below (Some i) k j h e = by i k j h e
     by : (i k j : ℤ) → int_lt j k ≡ false → int_lt i k ≡ true → int_lt i j ≡ true
     by i k j h e = grind (arith, nat_tests, ints)
 
-not_itself : (k : ℤ) → int_lt k k ≡ false
-not_itself k = grind (arith, nat_tests, ints)
-
 not_back : (k j : ℤ) → int_lt k j ≡ true → int_lt j k ≡ false
 not_back k j h = grind (arith, nat_tests, ints)
 
@@ -71,7 +69,7 @@ module _ (s : State) where
   more (OfThread t) k j e h = elim (cases_lt t (length s.threads)) [
     | inl inside ↦
         let threads = count_more no_thread (λ x. is_below (key_at x.place) (Some k)) (λ x. is_below (key_at x.place) (Some j)) s.threads t inside (λ i. past_below (key_at (thread_of s i).place) k j (not_back k j h))
-        (ap (λ o. is_below o (Some k)) e ∙ not_itself k) (ap (λ o. is_below o (Some j)) e ∙ h) in
+        (ap (λ o. is_below o (Some k)) e ∙ int_not_below_itself k) (ap (λ o. is_below o (Some j)) e ∙ h) in
         let cpus = count_less no_cpu (λ x. is_below (key_in x.duty) (Some k)) (λ x. is_below (key_in x.duty) (Some j)) s.cpus (λ i. past_below (key_in (cpu_of s i).duty) k j (not_back k j h)) in
         omega arith
     | inr past ↦
@@ -81,7 +79,7 @@ module _ (s : State) where
   more (OfCpu c) k j e h = elim (cases_lt c (length s.cpus)) [
     | inl inside ↦
         let cpus = count_more no_cpu (λ x. is_below (key_in x.duty) (Some k)) (λ x. is_below (key_in x.duty) (Some j)) s.cpus c inside (λ i. past_below (key_in (cpu_of s i).duty) k j (not_back k j h))
-        (ap (λ o. is_below o (Some k)) e ∙ not_itself k) (ap (λ o. is_below o (Some j)) e ∙ h) in
+        (ap (λ o. is_below o (Some k)) e ∙ int_not_below_itself k) (ap (λ o. is_below o (Some j)) e ∙ h) in
         let threads = count_less no_thread (λ x. is_below (key_at x.place) (Some k)) (λ x. is_below (key_at x.place) (Some j)) s.threads (λ i. past_below (key_at (thread_of s i).place) k j (not_back k j h)) in
         omega arith
     | inr past ↦
@@ -143,9 +141,6 @@ rank_small s key =
 back_above : (r n m : ℕ) → r < 4096 + n → n ≤ m → int_lt (pos r) (back_key m) ≡ true
 back_above r n m h l = grind (arith, nat_tests, ints)
 
-front_under : (r m : ℕ) → int_lt (negsuc m) (pos r) ≡ true
-front_under r m = grind (arith, nat_tests, ints)
-
 not_under : (r : ℕ) → int_lt (pos r) (pos 0) ≡ false
 not_under r = grind (arith, nat_tests, ints)
 
@@ -153,7 +148,7 @@ rank_fits : (n : ℕ) (s : State) → length s.threads + length s.cpus < 4096 + 
 rank_fits n s small None = tt
 rank_fits n s small (Some key) =
     let few : many_below s key < 4096 + n = (let r = rank_small s key in omega arith) in
-    record { back = λ m l. back_above (many_below s key) n m few l; front = λ m l. front_under (many_below s key) m }
+    record { back = λ m l. back_above (many_below s key) n m few l; front = λ m l. int_below_zero (many_below s key) m }
 
 sleeper_rank : (s : State) (p : Place) → IsSleeperKey (ranked_place s p)
 sleeper_rank s (Asleep k key) = not_under (many_below s key)

@@ -4,6 +4,7 @@ use Rattle.std.proofs.Common.{◌≡◌, ℕ, ◌+◌, true, false, ℤ, negsuc,
 use Rattle.std.specs.Prelude.{IfSome}
 use Rattle.std.proofs.lemmas.Bool.Decides.{nat_tests}
 use Rattle.std.proofs.lemmas.Int.{ints}
+use Rattle.sd_basics.proofs.Numbers.{int_not_below_itself}
 use Rattle.sd_state.specs.declared.states.State.{State}
 use Rattle.sd_machine.specs.Changes.{back_key}
 use Rattle.sd_encoding.specs.Order.{Holder, IsKeyBefore, IsSameOrder, KeysFit, is_below, key_held}
@@ -51,9 +52,6 @@ not_below_front : (n : ℕ) (key : Option ℤ) → IfSome key (IsKeyBefore n) �
 not_below_front n None h = refl
 not_below_front n (Some key) h = front_above n key (h.front n (le_refl n))
 
-itself : (key : ℤ) → int_lt key key ≡ false
-itself key = grind (arith, nat_tests, ints)
-
 front_back : (n : ℕ) → int_lt (negsuc n) (back_key n) ≡ true
 front_back n = grind (arith, nat_tests, ints)
 
@@ -73,12 +71,12 @@ order_from n m x s h (From a) Back = below_back n (key_held x a) (h.own.before a
 order_from n m x s h (From a) Front = not_below_front n (key_held x a) (h.own.before a) ∙ sym (not_below_front m (key_held s a) (h.keys.before a))
 order_from n m x s h Back Gone = refl
 order_from n m x s h Back (From b) = not_back_below n (key_held x b) (h.own.before b) ∙ sym (not_back_below m (key_held s b) (h.keys.before b))
-order_from n m x s h Back Back = itself (back_key n) ∙ sym (itself (back_key m))
+order_from n m x s h Back Back = int_not_below_itself (back_key n) ∙ sym (int_not_below_itself (back_key m))
 order_from n m x s h Back Front = not_back_front n ∙ sym (not_back_front m)
 order_from n m x s h Front Gone = refl
 order_from n m x s h Front (From b) = front_below n (key_held x b) (h.own.before b) ∙ there_alike x s h.same.bare b ∙ sym (front_below m (key_held s b) (h.keys.before b))
 order_from n m x s h Front Back = front_back n ∙ sym (front_back m)
-order_from n m x s h Front Front = itself (negsuc n) ∙ sym (itself (negsuc m))
+order_from n m x s h Front Front = int_not_below_itself (negsuc n) ∙ sym (int_not_below_itself (negsuc m))
 
 -- the entry after which there may be a key from there
 abbrev pub since : ℕ → Source → ℕ

@@ -2,6 +2,7 @@
 use Rattle.std.proofs.Common.{◌≡◌, ℕ, ◌+◌, ◌-◌, Bool, true, ◌&&◌, List, [], ◌∷◌, length, map, get_or, drop, set, int_lt, Some, is_none, option_map, refl, sym, ap, ◌∙◌}
 use Rattle.std.specs.Prelude.{nat_le, nat_lt}
 use Rattle.std.proofs.lemmas.List.{get_or-drop, length-drop, map-set}
+use Rattle.sd_basics.proofs.Truths.{and_left}
 use Rattle.sd_types.specs.declared.numbers.LockId.{LockId}
 use Rattle.sd_types.specs.declared.numbers.Side.{Side}
 use Rattle.sd_types.specs.declared.works.Work.{Work}
@@ -13,7 +14,6 @@ use Rattle.sd_state.specs.declared.states.ThreadState.{ThreadState}
 use Rattle.sd_state.specs.declared.states.State.{State}
 use Rattle.sd_state.specs.States.{cpu_of, is_queued, is_ready, is_running, key_of, no_cpu, no_thread, thread_of}
 use Rattle.sd_state.specs.Best.{beats, best_by, queue_rank}
-use Rattle.sd_state.proofs.BestLemmas.{and_left}
 use Rattle.sd_machine.specs.Threads.{best_queued, count_of, lock_of, open_of, best_ready, best_sleeper, best_unbound, best_waiter, due_of, first_due, greatest_waiting, has_waiters, is_asleep, is_due, is_ts, is_waiting, is_waiting_at, naps_less, next_to_age, runner}
 use Rattle.sd_machine.specs.Locking.{others_waiting}
 use Rattle.sd_machine.specs.Events.{may_tick}

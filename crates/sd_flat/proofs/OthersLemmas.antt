@@ -2,6 +2,7 @@
 use Rattle.std.proofs.Common.{◌≡◌, ℕ, zero, suc, ◌+◌, ◌<◌, true, false, List, [], ◌∷◌, get_or, set, Some, None, refl, ap, subst, arith, ◌==◌}
 use Rattle.std.specs.Prelude.{if◌then◌else◌}
 use Rattle.std.proofs.lemmas.Bool.Decides.{nat_tests}
+use Rattle.sd_basics.proofs.Numbers.{same_itself}
 use Rattle.sd_types.specs.Priorities.{eff}
 use Rattle.sd_state.specs.declared.states.ThreadState.{ThreadState}
 use Rattle.sd_state.specs.declared.states.Place.TheVariants.{Ended}
@@ -17,9 +18,6 @@ all_of l i (x ∷ xs) = ap (λ o. if is_waiting l x.place then Some (greater (ef
 unlike : (i j : ℕ) → i < j → (i == j) ≡ false
 unlike i j h = grind (arith, nat_tests)
 
-same : (i : ℕ) → (i == i) ≡ true
-same i = grind (arith, nat_tests)
-
 -- behind the one that is left out there is nobody to leave out
 behind : (l u i : ℕ) (xs : List ThreadState) → u < i → greatest_but l (Some u) i xs ≡ greatest_waiting l xs
 unfolding greatest_waiting
@@ -33,7 +31,7 @@ pub but_one : (l u i : ℕ) (xs : List ThreadState) → greatest_but l (Some (i 
 unfolding greatest_waiting
 but_one l u i [] = refl
 but_one l zero i (x ∷ xs) =
-    let here : (i == i + 0) ≡ true = subst (λ j. (i == j) ≡ true) (let e : i ≡ i + 0 = omega arith in e) (same i) in
+    let here : (i == i + 0) ≡ true = subst (λ j. (i == j) ≡ true) (let e : i ≡ i + 0 = omega arith in e) (same_itself i) in
     rw here (behind l (i + 0) (i + 1) xs (omega arith))
 but_one l (suc u) i (x ∷ xs) =
     let rest : greatest_but l (Some (i + 1 + u)) (i + 1) xs ≡ greatest_waiting l (set xs u (record (get_or xs u no_thread) { place = Ended })) = but_one l u (i + 1) xs in

@@ -3,6 +3,7 @@ use Rattle.std.proofs.Common.{◌≡◌, ℕ, ◌<◌, ◌≤◌, ◌%◌, ◌�
 use Rattle.std.specs.Prelude.{◌-◌, if◌then◌else◌, nat_le}
 use Rattle.std.proofs.lemmas.Bool.{cases_eq, cases_lt}
 use Rattle.std.proofs.lemmas.List.{get_or-set_same, get_or-set_other}
+use Rattle.sd_basics.proofs.Lists.{set_past}
 use Rattle.sd_types.specs.declared.bodies.ThreadBody.{ThreadBody}
 use Rattle.sd_types.specs.declared.classes.ClassState.{ClassState}
 use Rattle.sd_types.specs.declared.events.Duty.{Duty}
@@ -31,7 +32,7 @@ use Rattle.sd_store.specs.declared.parts.Part.TheVariants.{Actor, Thread}
 use Rattle.sd_store.specs.Parts.{IsAmong, put_parts, view_of}
 use Rattle.sd_footprint.specs.Changed.{ChangesOnly, HasHome, IsNamed, MovesWithin, RanThere, SameActor}
 use Rattle.sd_homes.specs.Standing.{home_of, home_of_place}
-use Rattle.sd_frames.proofs.Parts.{same_item, set_past}
+use Rattle.sd_frames.proofs.Parts.{same_item}
 
 abbrev pub HasThread : List Part → ℕ → Type 0
 HasThread ps t = IsAmong (Thread (record { 0 = t })) ps

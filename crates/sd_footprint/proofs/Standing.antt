@@ -2,6 +2,7 @@
 use Rattle.std.proofs.Common.{◌≡◌, ◌⊎◌, ℕ, ◌%◌, Bool, true, false, ◌&&◌, ◌||◌, Some, ap, inl, inr}
 use Rattle.std.specs.Prelude.{ℤ, ◌==◌, nat_le, int_lt, is_none}
 use Rattle.std.proofs.lemmas.Bool.{eqb-true}
+use Rattle.sd_basics.proofs.Truths.{and_left}
 use Rattle.sd_types.specs.declared.numbers.ChanId.{ChanId}
 use Rattle.sd_types.specs.declared.numbers.CpuId.{CpuId}
 use Rattle.sd_types.specs.declared.numbers.HomeId.TheVariants as home
@@ -16,10 +17,6 @@ use Rattle.sd_machine.specs.Threads.{best_queued, best_ready, best_sleeper, best
 use Rattle.sd_homes.specs.Standing.{home_of, home_of_place}
 use Rattle.sd_frames.proofs.Found.{age_found, due_found, queued_found, ready_found, runner_found, sleeper_below_found, sleeper_found, unbound_found, waiter_found}
 
-left : (a b : Bool) → (a && b) ≡ true → a ≡ true
-left true b e = cc
-left false b e = cc
-
 alone : (a : Bool) → (a || false) ≡ true → a ≡ true
 alone true e = cc
 alone false e = cc
@@ -28,7 +25,7 @@ same_cpu : (d c : CpuId) → d.0 ≡ c.0 → home.Cpu d ≡ home.Cpu c
 same_cpu d c e = ap (λ (n : ℕ). home.Cpu (record { 0 = n })) e
 
 waiting : (l : LockId) (side : Side) (p : Place) (last : CpuId) → is_waiting_at l.0 side p ≡ true → home_of_place p last ≡ home.Chain (l.0 % 64)
-waiting l side (Waiting m other key) last e = ap (λ (n : ℕ). home.Chain (n % 64)) (eqb-true m.0 l.0 (left (m.0 == l.0) (same_side side other) e))
+waiting l side (Waiting m other key) last e = ap (λ (n : ℕ). home.Chain (n % 64)) (eqb-true m.0 l.0 (and_left (m.0 == l.0) (same_side side other) e))
 waiting l side _ last e = cc
 
 asleep : (k : ChanId) (p : Place) (last : CpuId) → is_asleep k.0 p ≡ true → home_of_place p last ≡ home.Sleepers (k.0 % 64)
@@ -36,11 +33,11 @@ asleep k (Asleep j key) last e = ap (λ (n : ℕ). home.Sleepers (n % 64)) (eqb-
 asleep k _ last e = cc
 
 asleep_below : (k : ChanId) (below : ℤ) (p : Place) (last : CpuId) → is_asleep_below k.0 below p ≡ true → home_of_place p last ≡ home.Sleepers (k.0 % 64)
-asleep_below k below (Asleep j key) last e = ap (λ (n : ℕ). home.Sleepers (n % 64)) (eqb-true j.0 k.0 (left (j.0 == k.0) (int_lt key below) e))
+asleep_below k below (Asleep j key) last e = ap (λ (n : ℕ). home.Sleepers (n % 64)) (eqb-true j.0 k.0 (and_left (j.0 == k.0) (int_lt key below) e))
 asleep_below k below _ last e = cc
 
 due : (c : CpuId) (count : ℕ) (p : Place) (last : CpuId) → is_due c.0 count p ≡ true → home_of_place p last ≡ home.Cpu c
-due c count (Napping d over) last e = same_cpu d c (eqb-true d.0 c.0 (left (d.0 == c.0) (nat_le over count) e))
+due c count (Napping d over) last e = same_cpu d c (eqb-true d.0 c.0 (and_left (d.0 == c.0) (nat_le over count) e))
 due c count _ last e = cc
 
 queued : (c : CpuId) (p : Place) (last : CpuId) → is_queued c.0 p ≡ true → home_of_place p last ≡ home.Cpu c
@@ -72,7 +69,7 @@ pub queued_stands : (s : State) (c : CpuId) (t : ℕ) → best_queued s c.0 ≡ 
 queued_stands s c t e = queued c (thread_of s t).place _ (queued_found s c.0 t e).stands
 
 pub unbound_stands : (s : State) (c : CpuId) (t : ℕ) → best_unbound s c.0 ≡ Some t → home_of (thread_of s t) ≡ home.Cpu c
-unbound_stands s c t e = queued c (thread_of s t).place _ (left _ (is_none (thread_of s t).body.bound) (unbound_found s c.0 t e).stands)
+unbound_stands s c t e = queued c (thread_of s t).place _ (and_left _ (is_none (thread_of s t).body.bound) (unbound_found s c.0 t e).stands)
 
 pub runner_stands : (s : State) (c : CpuId) (t : ℕ) → runner s c.0 ≡ Some t → home_of (thread_of s t) ≡ home.Cpu c
 runner_stands s c t e = running c (thread_of s t).place _ (runner_found s c.0 t e).stands
@@ -81,4 +78,4 @@ pub ready_stands : (s : State) (c : CpuId) (t : ℕ) → best_ready s c.0 ≡ So
 ready_stands s c t e = ready c (cpu_of s c.0).set (thread_of s t).place _ (ready_found s c.0 t e).stands
 
 pub aged_stands : (s : State) (c : CpuId) (u t : ℕ) → next_to_age s c.0 u ≡ Some t → home_of (thread_of s t) ≡ home.Cpu c
-aged_stands s c u t e = queued c (thread_of s t).place _ (left _ (is_ts (thread_of s t).body.class) (age_found s c.0 u t e).stands)
+aged_stands s c u t e = queued c (thread_of s t).place _ (and_left _ (is_ts (thread_of s t).body.class) (age_found s c.0 u t e).stands)

@@ -1,10 +1,10 @@
 -- What is true of the class state of each thread, and kept by what the classes make of it, is kept by every event.
-use Rattle.std.proofs.Common.{◌≡◌, ℕ, ◌<◌, Bool, List, length, get_or, set, Some, None, refl, sym, ap, ◌∙◌, subst, inl, inr}
+use Rattle.std.proofs.Common.{◌≡◌, ℕ, ◌<◌, Bool, List, length, get_or, set, Some, None, sym, ap, ◌∙◌, subst, inl, inr}
 use Rattle.std.specs.Prelude.{⊤, ◌⊎◌, Ok}
 use Rattle.std.proofs.lemmas.Bool.{cases_lt, cases_eq}
-use Rattle.sd_machine.proofs.Moves.{IsPut}
-use Rattle.sd_frames.proofs.Frames.{IsFrame, KeepsLocks, KeepsCounts, KeepsTicks, KeepsSets, KeepsBindings, KeepsRest, Rest, rest_of, after_kept}
-use Rattle.sd_frames.proofs.Parts.{put_item, set_past}
+use Rattle.sd_basics.proofs.Lists.{set_past}
+use Rattle.sd_frames.proofs.Frames.{IsFrame, KeepsRest, Rest, rest_of, after_kept}
+use Rattle.sd_frames.proofs.Parts.{put_item}
 use Rattle.sd_types.specs.declared.numbers.CpuId.{CpuId}
 use Rattle.sd_types.specs.declared.numbers.SetId.{SetId}
 use Rattle.sd_types.specs.declared.classes.ClassParms.{ClassParms}

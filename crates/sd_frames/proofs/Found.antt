@@ -2,12 +2,12 @@
 use Rattle.std.proofs.Common.{◌≡◌, ℕ, zero, suc, ◌+◌, ◌<◌, Bool, true, ◌&&◌, List, [], ◌∷◌, length, get_or, drop, Option, Some, None, is_none, refl, ap, ◌∙◌, subst, arith}
 use Rattle.std.specs.Prelude.{position, option_map, ℤ}
 use Rattle.std.proofs.lemmas.List.Quantifiers.{position-Some}
+use Rattle.sd_basics.proofs.Truths.{and_left}
 use Rattle.sd_types.specs.declared.numbers.Side.{Side}
 use Rattle.sd_state.specs.declared.states.ThreadState.{ThreadState}
 use Rattle.sd_state.specs.declared.states.State.{State}
 use Rattle.sd_state.specs.States.{thread_of, cpu_of, no_thread, is_running, is_queued, is_ready}
 use Rattle.sd_state.specs.Best.{leads_by, best_by, beats}
-use Rattle.sd_state.proofs.BestLemmas.{and_left}
 use Rattle.sd_machine.specs.Threads.{is_ts, is_waiting_at, is_asleep, is_asleep_below, is_due, runner, best_ready, best_queued, best_unbound, best_waiter, best_sleeper, best_sleeper_below, naps_less, first_due, next_to_age}
 
 -- the number that a search gives is one of a thread that passes

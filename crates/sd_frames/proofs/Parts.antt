@@ -1,7 +1,8 @@
 -- A part of each thread, lock or processor as a function of its number, and how an event changes it.
-use Rattle.std.proofs.Common.{◌≡◌, ℕ, ◌<◌, ◌≤◌, List, [], ◌∷◌, length, get_or, set, ap, ◌∙◌, sym, subst, refl, inl, inr, arith, zero, suc}
+use Rattle.std.proofs.Common.{◌≡◌, ℕ, ◌<◌, ◌≤◌, List, [], ◌∷◌, length, get_or, set, ap, ◌∙◌, sym, subst, inl, inr}
 use Rattle.std.proofs.lemmas.Bool.{cases_eq, cases_lt}
 use Rattle.std.proofs.lemmas.List.{get_or-set_same, get_or-set_other}
+use Rattle.sd_basics.proofs.Lists.{set_past}
 use Rattle.sd_machine.proofs.Moves.{IsPut, IsSame}
 
 -- a part of a list, where one item is written
@@ -10,12 +11,6 @@ put_item part xs d t x here = record {
   at = ap part (get_or-set_same xs t x d here);
   others = λ u other. ap part (get_or-set_other xs t u x d other);
 }
-
--- nothing is written past the end
-pub set_past : {X : Type 0} (xs : List X) (t : ℕ) (x : X) → length xs ≤ t → set xs t x ≡ xs
-set_past [] t x past = refl
-set_past (y ∷ ys) zero x past = absurd (omega arith)
-set_past (y ∷ ys) (suc t) x past = ap (λ zs. y ∷ zs) (set_past ys t x (omega arith))
 
 -- where what is written has that part as it was, each has
 pub same_item : {X Y : Type 0} (part : X → Y) (xs : List X) (d : X) (t : ℕ) (x : X) → part x ≡ part (get_or xs t d) → IsSame (λ u. part (get_or xs u d)) (λ u. part (get_or (set xs t x) u d))

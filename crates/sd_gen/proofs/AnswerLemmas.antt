@@ -6,6 +6,7 @@ use Rattle.std.proofs.lemmas.Bool.{false≢true, and_parts}
 use Rattle.std.proofs.lemmas.Bool.Decides.{nat_tests}
 use Rattle.std.proofs.lemmas.List.{length-map}
 use Rattle.std.proofs.lemmas.List.Folds.{flat_map-map}
+use Rattle.sd_basics.proofs.Lists.{map-map}
 use Rattle.sd_types.specs.declared.numbers.CpuId.{CpuId}
 use Rattle.sd_types.specs.declared.names.Name.{Name}
 use Rattle.sd_types.specs.declared.tables.TsTable.{TsTable}
@@ -38,7 +39,7 @@ use Rattle.sd_workload.proofs.ClearLemmas.{clear}
 use Rattle.sd_workload.proofs.FirstLemmas.{either}
 use Rattle.sd_workload.proofs.SoundLemmas.{text-sound}
 use Rattle.sd_workload.proofs.WorkLemmas.{IsFew, few}
-use Rattle.sd_canonical.proofs.ListLemmas.{all-map, map-map}
+use Rattle.sd_canonical.proofs.ListLemmas.{all-map}
 use Rattle.sd_gen.proofs.MadeLemmas.{Each, IsThread, Raw, Made, IsMade, text-made}
 
 -- ---- names and threads

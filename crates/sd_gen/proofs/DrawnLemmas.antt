@@ -1,9 +1,7 @@
 -- Texts that are drawn one after another: what was appended, and what is left from here, are the whole.
-use Rattle.std.proofs.Common.{◌≡◌, ℕ, zero, suc, ◌+◌, ◌-◌, ◌<◌, ◌≤◌, List, [], ◌∷◌, ◌++◌, sym, ap, ◌∙◌, arith}
+use Rattle.std.proofs.Common.{◌≡◌, ℕ, suc, ◌+◌, ◌-◌, ◌<◌, ◌≤◌, List, [], ◌∷◌, ◌++◌, sym, ap, ◌∙◌, arith}
 use Rattle.std.proofs.lemmas.List.{append_assoc, append-nil}
 use Rattle.std.proofs.lemmas.List.Concat.{flat_map-append}
-use Rattle.std.specs.Prelude.{flat_map}
-use Rattle.std.specs.List.{range_with_len}
 use Rattle.rand_pcg.specs.Lcg.{Lcg}
 use Rattle.sd_gen.specs.Generated.{Drawn, drawn_from}
 
@@ -39,19 +37,3 @@ module _ (line : ℕ → Lcg → Drawn) where
 
   pub generator_over : (i : ℕ) (g last : Lcg) → 200 ≤ i → (drawn_from line (200 - i) i g).1 ≡ last → g ≡ last
   generator_over i g last h e = ap (λ (d : Drawn). d.1) (sym (all_over i g h)) ∙ e
-
-pub range_from : (a n : ℕ) → range_with_len a (suc n) ≡ range_with_len a n ++ (a + n) ∷ []
-range_from a zero = ap (λ k. k ∷ []) (let e : a ≡ a + 0 = omega arith in e)
-range_from a (suc n) =
-    ap (λ (xs : List ℕ). a ∷ xs) (range_from (a + 1) n)
-    ∙ ap (λ k. a ∷ (range_with_len (a + 1) n ++ k ∷ [])) (let e : a + 1 + n ≡ a + suc n = omega arith in e)
-
-range_more : (i : ℕ) → range_with_len 0 (i + 1) ≡ range_with_len 0 i ++ i ∷ []
-range_more i =
-    ap (range_with_len 0) (let e : i + 1 ≡ suc i = omega arith in e) ∙ range_from 0 i
-    ∙ ap (λ k. range_with_len 0 i ++ k ∷ []) (let e : 0 + i ≡ i = omega arith in e)
-
--- one line more of as many as there are numbers
-pub lines_more : (line : ℕ → List ℕ) (i : ℕ) → flat_map line (range_with_len 0 (i + 1)) ≡ flat_map line (range_with_len 0 i) ++ line i
-lines_more line i =
-    ap (flat_map line) (range_more i) ∙ flat_map-append line (range_with_len 0 i) (i ∷ []) ∙ ap (λ (xs : List ℕ). flat_map line (range_with_len 0 i) ++ xs) (append-nil (line i))

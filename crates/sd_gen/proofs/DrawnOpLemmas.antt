@@ -29,6 +29,7 @@ use Rattle.sd_canonical.proofs.OpLemmas.{Reads, unless-clear}
 use Rattle.sd_canonical.proofs.ScriptLemmas.{takes-op, one-alone, more-free}
 use Rattle.sd_canonical.proofs.ListLemmas.{place_of_name, name_at}
 use Rattle.sd_gen.proofs.AcceptedLemmas.{numbered, numbered-name, mutex-at, rwlock-at, the-locks, locks-named, locks-count}
+use Rattle.std.proofs.lemmas.Option.{slice_get-map}
 
 -- ---- locks by number
 
@@ -69,11 +70,6 @@ rwlock-lock a h = record {
 name-there : (l : ℕ) (name : Word) (kind : LockKind) → slice_get the-locks l ≡ Some (name, kind) → name_at (λ x. x.0) the-locks l ≡ name
 name-there l name kind e = ap (λ (o : Option (Word × LockKind)). unwrap_or (option_map (λ x. x.0) o) []) e
 
-get-map : {X Y : Type 0} (f : X → Y) (xs : List X) (i : ℕ) → slice_get (map f xs) i ≡ option_map f (slice_get xs i)
-get-map f [] i = refl
-get-map f (x ∷ xs) zero = refl
-get-map f (x ∷ xs) (suc i) = get-map f xs i
-
 module _ (d : Declarations) (e : d.locks ≡ the-locks) where
   lock-number : (l : ℕ) (name : Word) (kind : LockKind) → IsLockAt l name kind → lock_number d name ≡ l
   unfolding lock_number
@@ -87,7 +83,7 @@ module _ (d : Declarations) (e : d.locks ≡ the-locks) where
   lock-kind l name kind k =
       ap (slice_get (map (λ (x : Word × LockKind). x.1) d.locks)) (lock-number l name kind k)
       ∙ ap (λ (ls : List (Word × LockKind)). slice_get (map (λ (x : Word × LockKind). x.1) ls) l) e
-      ∙ get-map (λ (x : Word × LockKind). x.1) the-locks l ∙ ap (option_map (λ (x : Word × LockKind). x.1)) k.at
+      ∙ slice_get-map (λ (x : Word × LockKind). x.1) the-locks l ∙ ap (option_map (λ (x : Word × LockKind). x.1)) k.at
 
   lock-there : (l : ℕ) (name : Word) (kind : LockKind) → IsLockAt l name kind → lock_id d name ≡ record { 0 = l }
   lock-there l name kind k = rw (lock-number l name kind k) refl

@@ -9,6 +9,7 @@ use Rattle.std.proofs.lemmas.List.{length-map, map-append}
 use Rattle.std.proofs.lemmas.List.FromFn.{length-range_with_len}
 use Rattle.std.proofs.lemmas.List.Folds.{list_all-append}
 use Rattle.std.proofs.lemmas.Grind.{flat_map-append}
+use Rattle.sd_basics.proofs.Ranges.{range_suc}
 use Rattle.rand_pcg.specs.Lcg.{Lcg}
 use Rattle.sd_types.specs.declared.numbers.CpuId.{CpuId}
 use Rattle.sd_types.specs.declared.classes.ClassParms.{ClassParms}
@@ -24,7 +25,6 @@ use Rattle.sd_declare.specs.Statements.{statement_causes, thread_of}
 use Rattle.sd_workload.specs.Texts.{Outside}
 use Rattle.sd_workload.proofs.ClearLemmas.{IsClear}
 use Rattle.sd_gen.specs.Generated.{drawn, drawn_from, priorities, class_text, set_text, thread_text, thread_line}
-use Rattle.sd_gen.proofs.DrawnLemmas.{range_from}
 use Rattle.sd_canonical.specs.Lines.{class_words}
 use Rattle.sd_canonical.specs.Canonical.{spaced, line_text}
 use Rattle.sd_canonical.proofs.TextLemmas.{is_plain, are_plain, name-plain}
@@ -44,7 +44,7 @@ unfolding names-to
 names-push n =
     let e : n + 1 ≡ suc n = omega arith in
     let z : 0 + n ≡ n = omega arith in
-    ap (λ k. map (numbered 116) (range_with_len 0 k)) e ∙ ap (map (numbered 116)) (range_from 0 n) ∙ map-append (numbered 116) (range_with_len 0 n) ((0 + n) ∷ [])
+    ap (λ k. map (numbered 116) (range_with_len 0 k)) e ∙ ap (map (numbered 116)) (range_suc 0 n) ∙ map-append (numbered 116) (range_with_len 0 n) ((0 + n) ∷ [])
     ∙ ap (λ k. map (numbered 116) (range_with_len 0 n) ++ numbered 116 k ∷ []) z
 
 pub names-count : (n : ℕ) → length (names-to n) ≡ n

@@ -1,5 +1,5 @@
 -- Where threads go, and that they may come there.
-use Rattle.std.proofs.Common.{◌≡◌, ℕ, ◌+◌, ◌<◌, ◌≤◌, zero, suc, Bool, true, false, nat_le, List, [], ◌∷◌, length, get_or, Some, None, option_map, slice_get, refl, sym, ap, ◌∙◌, arith, ◌⊎◌, inl, inr}
+use Rattle.std.proofs.Common.{◌≡◌, ℕ, ◌+◌, ◌<◌, ◌≤◌, Bool, true, false, nat_le, List, [], ◌∷◌, length, Some, None, option_map, slice_get, refl, sym, ap, ◌∙◌, arith, ◌⊎◌, inl, inr}
 use Rattle.std.proofs.lemmas.Bool.{cases_lt}
 use Rattle.std.proofs.lemmas.Int.{ints}
 use Rattle.sd_types.specs.declared.bodies.ThreadBody.{ThreadBody}
@@ -39,6 +39,7 @@ use Rattle.sd_hand.specs.Shown.{IsListThere, StandsAt}
 use Rattle.sd_hand.specs.Steps.{list_by, list_put}
 use Rattle.sd_hand.proofs.MoveLemmas.{at_look}
 use Rattle.sd_hand.proofs.ShownLemmas.{list_shown}
+use Rattle.std.proofs.lemmas.List.{get_or_past}
 
 -- ---- a key that the entry brings
 pub key_is_new : (n : ℕ) (end : End) (look : ByNumber) (sp : ListId) → IsKeyFor n (n + 1) look sp (key_at n end)
@@ -87,18 +88,12 @@ left_there s c (to.SleepQueue k) locks chans there = omega arith
 left_there s c (to.Nap due) locks chans there = tt
 left_there s c to.Nowhere locks chans there = tt
 
--- who runs is there
-pub get_or-beyond : {X : Type 0} (xs : List X) (i : ℕ) (d : X) → length xs ≤ i → get_or xs i d ≡ d
-get_or-beyond [] i d h = refl
-get_or-beyond (x ∷ xs) zero d h = absurd (omega arith)
-get_or-beyond (x ∷ xs) (suc i) d h = get_or-beyond xs i d (omega arith)
-
 pub runs_at : (s : State) (t : ThreadId) (c : CpuId) → RunsOn s t c → StandsAt s t.0 (Runs c)
 runs_at s t c runs = record { inside = by (cases_lt t.0 (length s.threads)); list = ap (list_at (thread_of s t.0).body.last) runs }
   where
     by : (t.0 < length s.threads) ⊎ (length s.threads ≤ t.0) → t.0 < length s.threads
     by (inl inside) = inside
-    by (inr past) = let none = ap (λ (x : ThreadState). x.place) (get_or-beyond s.threads t.0 no_thread past) in absurd cc
+    by (inr past) = let none = ap (λ (x : ThreadState). x.place) (get_or_past s.threads t.0 no_thread past) in absurd cc
 
 pub runs_last : (x : Acting) (n : ℕ) (s : State) (t : ℕ) (c : CpuId) (h : Home) → IsShown x n s → StandsAt s t (Runs c) → held (id.Cpu c) x.hand.slots ≡ Some h → (thread_of s t).body.last ≡ c
 runs_last x n s t c h sh at e =

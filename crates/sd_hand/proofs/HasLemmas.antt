@@ -2,6 +2,7 @@
 use Rattle.std.proofs.Common.{◌≡◌, ℕ, ◌/◌, zero, suc, Bool, true, false, ◌==◌, ◌||◌, is_some, List, [], ◌∷◌, get_or, set, Option, Some, None, refl, sym, ap, ◌∙◌, subst, inl, inr, ◌⊎◌}
 use Rattle.std.specs.Option.{option_or}
 use Rattle.std.proofs.lemmas.Bool.{cases_eq, eq-eqb, ne_eqb}
+use Rattle.sd_basics.proofs.Lists.{some_of}
 use Rattle.sd_types.specs.declared.numbers.HomeId.{HomeId}
 use Rattle.sd_types.specs.declared.numbers.Side.{Side}
 use Rattle.sd_types.specs.declared.numbers.Side.TheVariants.{Writer, Reader}
@@ -140,13 +141,10 @@ putting_here r sp h at there whole =
     listed_has (id_of r) (putting r sp h) sp (ap (has_id (id_of r)) (list_here sp h rs at (fits-inserted r sp (list_in h sp)) whole (inl there)) ∙ come_here sp r (list_in h sp))
 
 -- ---- a thread goes from list to list
-pub some_held : (o : Option Home) → is_some o ≡ true → (h : Home) × (o ≡ Some h)
-some_held None e = absurd cc
-some_held (Some h) e = (h, refl)
 
 pub gone_held : (t : ℕ) (from : ListId) (k : HomeId) (hs : List (Option Home)) → IsHeld k hs → IsHeld k (edit (home_at from) (taking t from) hs)
 gone_held t from k hs (h, e) =
-    some_held (held k (edit (home_at from) (taking t from) hs))
+    some_of (held k (edit (home_at from) (taking t from) hs))
     (edit_held (home_at from) k (taking t from) (keeps-with_list from (λ g. drop_id id_of t (list_in g from))) hs ∙ ap is_some e)
 
 pub taken_has : (t : ℕ) (from : ListId) (hs : List (Option Home)) (o : Option Home) (r : ThreadRecord) → held (home_at from) hs ≡ o → Some r ≡ taken_from t from o → has_thread t hs ≡ true

@@ -2,6 +2,7 @@
 use Rattle.std.proofs.Common.{◌≡◌, ℕ, zero, suc, ◌<◌, Bool, true, false, ◌==◌, cond, ◌||◌, is_some, inl, inr, List, [], ◌∷◌, length, get_or, set, slice_get, Option, Some, None, option_map, refl, sym, ap, ◌∙◌, arith}
 use Rattle.std.specs.Prelude.{Result, Ok, Err, IfOk, IfErr}
 use Rattle.std.proofs.lemmas.Bool.{eqb-true, eq-eqb, or_left, or_right}
+use Rattle.sd_basics.proofs.Numbers.{same_itself}
 use Rattle.sd_types.specs.declared.numbers.HomeId.{HomeId}
 use Rattle.sd_types.specs.declared.numbers.HomeId.TheVariants as id
 use Rattle.sd_homes.specs.declared.home.Home.{Home}
@@ -9,14 +10,11 @@ use Rattle.sd_homes.specs.Families.{has, same_home, home_id}
 use Rattle.sd_hand.specs.Hands.{AreApart, AreTaken, HoldsMore, IsIn, StandsIn, StandsInSlot, held, edit, is_at, has_thread, slot_has, IsSlot, IsNoSlot}
 use Rattle.sd_homes.specs.declared.list_id.ListId.{ListId}
 
-self : (n : ℕ) → (n == n) ≡ true
-self n = eq-eqb n n refl
-
 pub same_home_self : (k : HomeId) → same_home k k ≡ true
-same_home_self (id.Cpu c) = self c.0
-same_home_self (id.RealTime p) = self p.0
-same_home_self (id.Chain i) = self i
-same_home_self (id.Sleepers i) = self i
+same_home_self (id.Cpu c) = same_itself c.0
+same_home_self (id.RealTime p) = same_itself p.0
+same_home_self (id.Chain i) = same_itself i
+same_home_self (id.Sleepers i) = same_itself i
 
 pub same_home_true : (a b : HomeId) → same_home a b ≡ true → a ≡ b
 same_home_true (id.Cpu c) (id.Cpu d) e = ap (λ n. id.Cpu (record { 0 = n })) (eqb-true c.0 d.0 e)

@@ -49,7 +49,7 @@ use Rattle.sd_hand.specs.Shown.{PartsShown, StandsAt}
 use Rattle.sd_hand.proofs.MoveLemmas.{stands_at, stands_held, taken}
 use Rattle.sd_hand.proofs.ShownLemmas.{list_shown}
 use Rattle.sd_hand.proofs.SlotLemmas.{held_id}
-use Rattle.sd_hand.proofs.GoLemmas.{get_or-beyond}
+use Rattle.std.proofs.lemmas.List.{get_or_past}
 
 one_runs : (n : ℕ) (s : State) (c : CpuId) (o : Option ThreadRecord) → Lists n (Runs c) (one o) (look_of s) → runner s c.0 ≡ option_map id_of (slice_get (one o) 0)
 one_runs n s c None l = runner_none n s c l
@@ -99,7 +99,7 @@ lock_by s l (Chain h) e p few = by (cases_lt l.0 256)
         rw yes (sym (p.2 l.0 yes))
     by (inr high) =
         let no : is_of h.turns l.0 ≡ false = rw (le-ltb l.0 256 high) refl in
-        rw no (get_or-beyond s.locks l.0 Free (omega arith))
+        rw no (get_or_past s.locks l.0 Free (omega arith))
 
 pub tokens_by : (s : State) (k : ChanId) (h : Home) → id.Sleepers (k.0 % 64) ≡ home_id h → PartsShown s h → length s.counts ≤ 256 → count_of s k.0 ≡ tokens_in k.0 h
 tokens_by s k (Cpu h) e p few = absurd cc
@@ -116,7 +116,7 @@ tokens_by s k (Sleepers h) e p few = by (cases_lt k.0 256)
         rw yes (sym (p.2 k.0 yes))
     by (inr high) =
         let no : is_chan_of h.sleepers k.0 ≡ false = rw (le-ltb k.0 256 high) refl in
-        rw no (get_or-beyond s.counts k.0 0 (omega arith))
+        rw no (get_or_past s.counts k.0 0 (omega arith))
 
 module _ (x : Acting) (n : ℕ) (s : State) (h : Home) (sh : IsShown x n s) where
   pub runner_told : (c : CpuId) → held (id.Cpu c) x.hand.slots ≡ Some h → runner s c.0 ≡ option_map id_of (slice_get (list_in h (Runs c)) 0)

@@ -3,6 +3,7 @@ use Rattle.std.proofs.Common.{◌≡◌, ℕ, ◌+◌, ◌<◌, ◌≤◌, ◌�
 use Rattle.std.specs.Prelude.{nat_le}
 use Rattle.std.proofs.lemmas.Bool.{false≢true}
 use Rattle.std.proofs.lemmas.Bool.Decides.{nat_tests}
+use Rattle.sd_basics.proofs.Lists.{some_of}
 use Rattle.sd_types.specs.declared.numbers.CpuId.{CpuId}
 use Rattle.sd_types.specs.declared.numbers.HomeId.{HomeId}
 use Rattle.sd_types.specs.declared.numbers.HomeId.TheVariants as home
@@ -33,7 +34,6 @@ use Rattle.sd_hand.proofs.CountLemmas.{as_many}
 use Rattle.sd_hand.proofs.MoveLemmas.{held_by}
 use Rattle.sd_hand.proofs.SlotLemmas.{held_id}
 use Rattle.sd_hand.proofs.StandLemmas.{home_held}
-use Rattle.sd_hand.proofs.HasLemmas.{some_held}
 use Rattle.sd_footprint.specs.Homes.{home_in}
 use Rattle.sd_footprint.proofs.RanLast.{reached_changes}
 use Rattle.sd_world.specs.Entries.{CanEnter, Enters}
@@ -192,7 +192,7 @@ held_none k hs rs h apart e is = let no : None ≡ Some h = sym (apart k is) ∙
 module _ (x : HostileWorld) (st : Stands (work_of x) (whole x)) where
   -- the home in which a part lies that the processor holds is one that it holds
   lies_near : (p : Part) (k : HomeId) → has_part x.near p ≡ true → home_in (state_of x) p ≡ Some k → IsHeld k (near_of x)
-  lies_near (part.Home j) k has e = subst (λ z. IsHeld z (near_of x)) (let z : j ≡ k = cc in z) (some_held (held j (near_of x)) has)
+  lies_near (part.Home j) k has e = subst (λ z. IsHeld z (near_of x)) (let z : j ≡ k = cc in z) (some_of (held j (near_of x)) has)
   lies_near (part.Thread t) k has e =
       subst (λ z. IsHeld z (near_of x)) (let z : home_of (thread_of (state_of x) t.0) ≡ k = cc in z)
       (home_held (many_of x) (state_of x) t.0 (near_of x) (near_shown x st).apart (near_shown x st).homes
@@ -234,10 +234,10 @@ module _ (x : HostileWorld) (near : Acting) (e : Event) (hints : Option Hints) (
   has p = ap (λ f. f p) made.has
 
   still_held : (k : HomeId) → IsHeld k near.hand.slots → IsHeld k (near_of x)
-  still_held k (g, f) = some_held (held k (near_of x)) (sym (has (part.Home k)) ∙ ap is_some f)
+  still_held k (g, f) = some_of (held k (near_of x)) (sym (has (part.Home k)) ∙ ap is_some f)
 
   was_held : (k : HomeId) → IsHeld k (near_of x) → IsHeld k near.hand.slots
-  was_held k (g, f) = some_held (held k near.hand.slots) (has (part.Home k) ∙ ap is_some f)
+  was_held k (g, f) = some_of (held k near.hand.slots) (has (part.Home k) ∙ ap is_some f)
 
   two_still : AreTwo near.hand.slots (others_of x)
   two_still k is_held = two x is.stands k (still_held k is_held)

@@ -4,6 +4,7 @@ use Rattle.std.proofs.lemmas.Bool.{and_parts, false_from_ne_true}
 use Rattle.std.proofs.lemmas.Bool.Decides.{nat_tests}
 use Rattle.std.proofs.lemmas.Int.{ints}
 use Rattle.std.proofs.lemmas.Option.{slice_get-get_or, slice_get_within, get_or_from_slice_get}
+use Rattle.sd_basics.proofs.Truths.{and_rest}
 use Rattle.sd_boxq.specs.Order.{find_id, find_first, precedes, IsBest}
 use Rattle.sd_boxq.proofs.InOrder.{best_first}
 use Rattle.sd_record.specs.Records.{ThreadRecord}
@@ -28,10 +29,6 @@ AreThose sp ok on = (t : ℕ) (x : ThreadState) → on x ≡ (stands sp x && ok 
 not_behind : (p q : ℕ) (k j : ℤ) → k ≢ j → (nat_lt q p || ((p == q) && int_lt k j)) ≡ false → (nat_lt p q || ((q == p) && int_lt j k)) ≡ true
 not_behind p q k j n e = grind (arith, nat_tests, ints)
 
-and_right_false : (a b : Bool) → a ≡ true → (a && b) ≡ false → b ≡ false
-and_right_false true b e f = f
-and_right_false false b e f = absurd cc
-
 module _ (n : ℕ) (sp : ListId) (rs : List ThreadRecord) (threads : List ThreadState) (l : Lists n sp rs (slice_get threads)) (q : IsQueue rank_of key_in n rs)
     (ok : ThreadRecord → Bool) (on : ThreadState → Bool) (ahead : ThreadState → ThreadState → Bool) (those : AreThose sp ok on) (order : IsOrderThere sp ahead) where
   candidate_found : (k : ℕ) (y : ThreadState) → slice_get threads k ≡ Some y → on y ≡ true → (find_id id_of k rs ≡ Some (record_of k y)) × (stands sp y ≡ true) × (ok (record_of k y) ≡ true)
@@ -52,7 +49,7 @@ module _ (n : ℕ) (sp : ListId) (rs : List ThreadRecord) (threads : List Thread
       let best : IsBest ok (precedes rank_of key_in) r rs = best_first rank_of key_in ok rs (Some r) q.ranked (sym e) in
       let unbeaten : (k : ℕ) → k < length threads → on (get_or threads k no_thread) ≡ true → precedes rank_of key_in (record_of k (get_or threads k no_thread)) r ≡ false =
       λ k h c. let y = candidate_found k (get_or threads k no_thread) (there k h) c in
-      and_right_false (ok (record_of k (get_or threads k no_thread))) _ y.2 (nowhere_found id_of (λ z. ok z && precedes rank_of key_in z r) k (record_of k (get_or threads k no_thread)) rs best.2 y.0) in
+      and_rest (ok (record_of k (get_or threads k no_thread))) _ y.2 (nowhere_found id_of (λ z. ok z && precedes rank_of key_in z r) k (record_of k (get_or threads k no_thread)) rs best.2 y.0) in
       record {
         inside = slice_get_within threads (id_of r) x s.there;
         candidate = rw here (those (id_of r) x ∙ rw (s.on, passes) refl);

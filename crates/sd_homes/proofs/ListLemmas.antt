@@ -2,12 +2,10 @@
 use Rattle.std.proofs.Common.{◌≡◌, ◌≢◌, ℕ, ◌+◌, ℤ, pos, negsuc, ◌≤◌, Bool, true, false, ◌==◌, List, [], ◌∷◌, Some, None, refl, sym, ap, ◌∙◌, subst, arith}
 use Rattle.std.proofs.lemmas.Bool.{eqb-true, eqb-false, eq-eqb, ne_eqb}
 use Rattle.std.proofs.lemmas.Int.{ints}
+use Rattle.sd_basics.proofs.Numbers.{same_itself}
 use Rattle.sd_boxq.specs.Order.{insert_before, insert_ranked, drop_first, find_first, find_id, drop_id, precedes, IsNowhere}
 use Rattle.sd_boxq.proofs.InOrder.{IsRanked-insert, IsRanked-drop_first}
 use Rattle.sd_homes.specs.Lists.{IdsDiffer, HasNoKey, KeysDiffer, IsKeyAfter, AreKeysAfter, IsQueue}
-
-self : (n : ℕ) → (n == n) ≡ true
-self n = eq-eqb n n refl
 
 module _ {X : Type 0} (id : X → ℕ) where
   pub find-dropped : (t : ℕ) (xs : List X) → IdsDiffer id xs → find_id id t (drop_id id t xs) ≡ None
@@ -35,12 +33,12 @@ module _ {X : Type 0} (id : X → ℕ) where
       by false e r = rw e (find-dropped_other (id x) t (eqb-false (id x) t e) xs ∙ d.0, r)
 
   pub find-inserted : (p : X → Bool) (x : X) (xs : List X) → find_id id (id x) xs ≡ None → find_id id (id x) (insert_before p x xs) ≡ Some x
-  find-inserted p x [] e = rw (self (id x)) refl
+  find-inserted p x [] e = rw (same_itself (id x)) refl
   find-inserted p x (y ∷ ys) e = by (p y) (id y == id x) refl refl (find-inserted p x ys)
     where
       by : (b c : Bool) → p y ≡ b → (id y == id x) ≡ c → (find_id id (id x) ys ≡ None → find_id id (id x) (insert_before p x ys) ≡ Some x)
           → find_id id (id x) (insert_before p x (y ∷ ys)) ≡ Some x
-      by true c h f r = rw (h, self (id x)) refl
+      by true c h f r = rw (h, same_itself (id x)) refl
       by false true h f r = let some = rw f at e in absurd cc
       by false false h f r = let none = rw f at e in rw (h, f) (r none)
 
@@ -198,7 +196,7 @@ module _ {X : Type 0} (id : X → ℕ) where
   pub no_key_from : (key : X → ℤ) (k : ℤ) (xs : List X) → IdsDiffer id xs → ((t : ℕ) (r : X) → find_id id t xs ≡ Some r → key r ≢ k) → HasNoKey key k xs
   no_key_from key k [] d h = tt
   no_key_from key k (x ∷ xs) d h =
-      (h (id x) x (rw (self (id x)) refl), no_key_from key k xs d.1 (λ t r e. h t r (by t r e (id x == t) refl)))
+      (h (id x) x (rw (same_itself (id x)) refl), no_key_from key k xs d.1 (λ t r e. h t r (by t r e (id x == t) refl)))
     where
       by : (t : ℕ) (r : X) → find_id id t xs ≡ Some r → (b : Bool) → (id x == t) ≡ b → find_id id t (x ∷ xs) ≡ Some r
       by t r e true f = let none = d.0 in let same = eqb-true (id x) t f in let is : find_id id t xs ≡ None = ap (λ k. find_id id k xs) (sym same) ∙ none in absurd cc
@@ -214,7 +212,7 @@ module _ {X : Type 0} (id : X → ℕ) where
       behind false f g = rw f g
 
       by : (b : Bool) → p x ≡ b → (find_first p xs ≡ Some r → find_id id (id r) xs ≡ Some r) → find_id id (id r) (x ∷ xs) ≡ Some r
-      by true f g = let is = rw f at e in let same : x ≡ r = cc in rw (ap (λ y. id y == id r) same ∙ self (id r)) is
+      by true f g = let is = rw f at e in let same : x ≡ r = cc in rw (ap (λ y. id y == id r) same ∙ same_itself (id r)) is
       by false f g = behind (id x == id r) refl (g (rw f at e))
 
   pub first_passes : (p : X → Bool) (r : X) (xs : List X) → find_first p xs ≡ Some r → p r ≡ true

@@ -1,6 +1,7 @@
 -- The greatest effective priority of the waiters of a lock but one.
-use Rattle.std.proofs.Common.{◌≡◌, ℕ, ◌<◌, ◌≤◌, Bool, true, false, ◌==◌, List, [], ◌∷◌, ◌++◌, length, set, Some, None, slice_get, zero, suc, refl, sym, ap, ◌∙◌, subst, arith, le_refl, inl, inr}
+use Rattle.std.proofs.Common.{◌≡◌, ℕ, ◌<◌, ◌≤◌, Bool, true, false, ◌==◌, List, [], ◌∷◌, ◌++◌, length, set, slice_get, zero, suc, refl, sym, ap, ◌∙◌, subst, le_refl, inl, inr}
 use Rattle.std.proofs.lemmas.Bool.{eqb-true, eqb-false, eq-eqb, cases_lt}
+use Rattle.sd_basics.proofs.Lists.{get_set, set_past}
 use Rattle.sd_types.specs.declared.numbers.LockId.{LockId}
 use Rattle.sd_types.specs.declared.numbers.Side.TheVariants.{Writer, Reader}
 use Rattle.sd_boxq.specs.Order.{drop_id}
@@ -16,12 +17,9 @@ use Rattle.sd_homes.specs.declared.list_id.ListId.TheVariants.{Waits}
 use Rattle.sd_homes.specs.Standing.{id_of, rank_of, stands, look_of, without, with_one, Lists}
 use Rattle.sd_homes.proofs.StandingLemmas.{out, into_beside, with_without}
 use Rattle.sd_homes.proofs.WaitShown.{greatest_shown}
+use Rattle.std.proofs.lemmas.Option.{slice_get_past}
 
 -- ---- the threads of a state with another one
-get-set_same : {X : Type 0} (xs : List X) (t : ℕ) (y : X) → t < length xs → slice_get (set xs t y) t ≡ Some y
-get-set_same [] t y h = absurd (omega arith)
-get-set_same (x ∷ xs) zero y h = refl
-get-set_same (x ∷ xs) (suc t) y h = get-set_same xs t y (omega arith)
 
 get-set_other : {X : Type 0} (xs : List X) (t u : ℕ) (y : X) → (u ≡ t → ⊥) → slice_get (set xs t y) u ≡ slice_get xs u
 get-set_other [] t u y n = refl
@@ -34,26 +32,17 @@ pub look-with_thread : (s : State) (t : ℕ) (y : ThreadState) → t < length s.
 look-with_thread s t y h i u = by (u == t) refl i
   where
     by : (b : Bool) → (u == t) ≡ b → look_of (with_thread s t y) u ≡ with_one t y (look_of s) u
-    by true e = let same = eqb-true u t e in rw e (ap (slice_get (set s.threads t y)) same ∙ get-set_same s.threads t y h)
+    by true e = let same = eqb-true u t e in rw e (ap (slice_get (set s.threads t y)) same ∙ get_set s.threads t y h)
     by false e = rw e (get-set_other s.threads t u y (eqb-false u t e))
 
 -- ---- where there is no such thread
-get-beyond : {X : Type 0} (xs : List X) (t : ℕ) → length xs ≤ t → slice_get xs t ≡ None
-get-beyond [] t h = refl
-get-beyond (x ∷ xs) zero h = absurd (omega arith)
-get-beyond (x ∷ xs) (suc t) h = get-beyond xs t (omega arith)
-
-set-beyond : {X : Type 0} (xs : List X) (t : ℕ) (y : X) → length xs ≤ t → set xs t y ≡ xs
-set-beyond [] t y h = refl
-set-beyond (x ∷ xs) zero y h = absurd (omega arith)
-set-beyond (x ∷ xs) (suc t) y h = ap (λ zs. x ∷ zs) (set-beyond xs t y (omega arith))
 
 without-beyond : (s : State) (t : ℕ) (y : ThreadState) → length s.threads ≤ t → without t (look_of s) ≡ look_of (with_thread s t y)
 without-beyond s t y h i u = by (u == t) refl i
   where
     by : (b : Bool) → (u == t) ≡ b → without t (look_of s) u ≡ look_of (with_thread s t y) u
-    by true e = let same = eqb-true u t e in rw e (sym (ap (λ xs. slice_get xs u) (set-beyond s.threads t y h) ∙ ap (slice_get s.threads) same ∙ get-beyond s.threads t h))
-    by false e = rw e (sym (ap (λ xs. slice_get xs u) (set-beyond s.threads t y h)))
+    by true e = let same = eqb-true u t e in rw e (sym (ap (λ xs. slice_get xs u) (set_past s.threads t y h) ∙ ap (slice_get s.threads) same ∙ slice_get_past s.threads t h))
+    by false e = rw e (sym (ap (λ xs. slice_get xs u) (set_past s.threads t y h)))
 
 -- ---- the list without one who now stands elsewhere
 pub less_one : (n : ℕ) (s : State) (t : ℕ) (y : ThreadState) (sp : ListId) (rs : List ThreadRecord) → stands sp y ≡ false → Lists n sp rs (look_of s)

@@ -1,6 +1,7 @@
 -- A thread leaves a list, or comes to one.
 use Rattle.std.proofs.Common.{◌≡◌, ◌≢◌, ℕ, ◌+◌, ℤ, pos, negsuc, ◌≤◌, Bool, true, false, ◌==◌, List, [], ◌∷◌, Option, Some, None, ◌⊎◌, inl, inr, refl, sym, ap, ◌∙◌, subst}
 use Rattle.std.proofs.lemmas.Bool.{eqb-true, eqb-false, eq-eqb, false_from_ne_true, and_parts}
+use Rattle.sd_basics.proofs.Numbers.{same_itself}
 use Rattle.sd_types.specs.declared.numbers.CpuId.{CpuId}
 use Rattle.sd_types.specs.declared.numbers.HomeId.{HomeId}
 use Rattle.sd_types.specs.declared.numbers.Side.{Side}
@@ -18,9 +19,6 @@ use Rattle.sd_homes.specs.Lists.{HasNoKey, IsQueue}
 use Rattle.sd_homes.specs.Standing.{list_at, list_of, stands_at, stands, home_at, record_key, record_of, id_of, rank_of, key_in, ByNumber, without, with_one, listed, IsRunner, IsArranged, Lists, insert_at, IsFree, IsKeyFor, MayCome}
 use Rattle.sd_homes.proofs.ListLemmas.{find-dropped, find-dropped_other, differ-dropped, find-inserted, find-inserted_other, differ-inserted, queue-dropped, queue-inserted, queue-more, back_is_new, front_is_new, no_key_from, found_apart, found_after}
 
-self : (n : ℕ) → (n == n) ≡ true
-self n = eq-eqb n n refl
-
 same_side_self : (side : Side) → same_side side side ≡ true
 same_side_self Writer = refl
 same_side_self Reader = refl
@@ -33,13 +31,13 @@ same_side_true Reader Writer e = absurd cc
 
 -- a thread stands where it stands, and nowhere else
 pub stands_own : (last : CpuId) (place : Place) → stands_at (list_at last place) last place ≡ true
-stands_own last (Running c) = self c.0
-stands_own last (Queued c k) = self c.0
-stands_own last (RealTime p k) = self p.0
-stands_own last (Waiting l side k) = rw (self l.0) (same_side_self side)
-stands_own last (Asleep j k) = self j.0
-stands_own last (Napping c due) = self c.0
-stands_own last Ended = self last.0
+stands_own last (Running c) = same_itself c.0
+stands_own last (Queued c k) = same_itself c.0
+stands_own last (RealTime p k) = same_itself p.0
+stands_own last (Waiting l side k) = rw (same_itself l.0) (same_side_self side)
+stands_own last (Asleep j k) = same_itself j.0
+stands_own last (Napping c due) = same_itself c.0
+stands_own last Ended = same_itself last.0
 
 pub stands_only : (sp : ListId) (last : CpuId) (place : Place) → stands_at sp last place ≡ true → sp ≡ list_at last place
 stands_only (Runs c) last (Running d) e = ap (λ n. Runs (record { 0 = n })) (sym (eqb-true d.0 c.0 e))
@@ -185,7 +183,7 @@ into_by n m sp p rs look t y e on l a = record {
 empty : (n : ℕ) (sp : ListId) (rs : List ThreadRecord) (look : ByNumber) → Lists n sp rs look → ((u : ℕ) (y : ThreadState) → look u ≡ Some y → stands sp y ≡ false) → rs ≡ []
 empty n sp [] look l none = refl
 empty n sp (r ∷ rs) look l none =
-    let s = stood n sp (r ∷ rs) look (id_of r) r l (rw (self (id_of r)) refl) in
+    let s = stood n sp (r ∷ rs) look (id_of r) r l (rw (same_itself (id_of r)) refl) in
     let off = none (id_of r) s.thread s.there in
     let on = s.on in
     absurd cc

@@ -1,7 +1,8 @@
 -- Locks agree with those who hold them, wait for them and pass them on, after each event.
 use Rattle.std.proofs.Common.{◌≡◌, ◌≢◌, ℕ, zero, suc, ◌+◌, ◌-◌, ◌<◌, ◌≤◌, true, false, not, List, [], ◌∷◌, ◌++◌, length, get_or, set, take, Option, Some, None, refl, sym, ap, ◌∙◌, inl, inr, ◌⊎◌, subst, arith}
-use Rattle.std.specs.Prelude.{ℤ, slice_get}
+use Rattle.std.specs.Prelude.{ℤ}
 use Rattle.std.proofs.lemmas.Bool.{cases_lt, false≢true, not-true}
+use Rattle.sd_basics.proofs.Truths.{and_left}
 use Rattle.sd_types.specs.declared.numbers.CpuId.{CpuId}
 use Rattle.sd_types.specs.declared.numbers.LockId.{LockId}
 use Rattle.sd_types.specs.declared.numbers.Side.{Side}
@@ -19,7 +20,6 @@ use Rattle.sd_types.specs.Scripts.{is_held, held_by, without_lock, op_fits}
 use Rattle.sd_machine.specs.Holders as H
 use Rattle.sd_machine.proofs.Moves.{none_some, put_cases}
 use Rattle.sd_machine.proofs.HolderLemmas.{count_one}
-use Rattle.sd_machine.proofs.Chains.{some_is}
 use Rattle.sd_frames.proofs.ReleaseLemmas.{Outcome, nobody_waits}
 use Rattle.sd_frames.proofs.PassLemmas.{drop_duties, Woken, unblock_outcome, Granted, grant_outcome, Passed, pass_outcome}
 use Rattle.sd_frames.proofs.PassLemmas.Woken.{more, last}
@@ -33,7 +33,6 @@ use Rattle.sd_state.specs.declared.states.State.{State}
 use Rattle.sd_state.specs.States.{thread_of, cpu_of}
 use Rattle.sd_machine.specs.Shapes.{FitsFully}
 use Rattle.sd_state.specs.Operations.{script_of, op_of}
-use Rattle.sd_state.proofs.BestLemmas.{and_left}
 use Rattle.sd_machine.specs.Threads.{thread_id, lock_of, best_waiter}
 use Rattle.sd_machine.specs.Changes.{back_key, set_duty}
 use Rattle.sd_machine.specs.Locking.{side_of, one_more, one_reader_more, blocked}
@@ -55,6 +54,7 @@ use Rattle.sd_frames.proofs.CpuWords as C
 use Rattle.sd_invariants.proofs.AgreedLemmas as A
 use Rattle.sd_frames.proofs.Searches.{waits_has}
 use Rattle.sd_invariants.proofs.Works.{op_balances, wanted_fits}
+use Rattle.std.proofs.lemmas.Option.{same_Some}
 
 -- What is known of the state before an event.
 pub record IsReady (w : Work) (s : State) : Type 0 where
@@ -97,12 +97,6 @@ not_free_held x n is free = let bad : ReadHeld n ≡ Free = sym is ∙ free in c
 
 pub not_free_passing : (x : LockState) (c k : ℕ) → lock_state x ≡ H.Lock.Passing c k → x ≢ Free
 not_free_passing x c k is free = let bad : H.Lock.Passing c k ≡ H.Lock.Free = sym is ∙ ap lock_state free in cc
-
--- An operation that takes a lock names one that is there.
-pub named_inside : {X : Type 0} (xs : List X) (i : ℕ) (x : X) → slice_get xs i ≡ Some x → i < length xs
-named_inside [] i x e = cc
-named_inside (y ∷ ys) zero x e = omega arith
-named_inside (y ∷ ys) (suc i) x e = let more = named_inside ys i x e in omega arith
 
 -- what the lock lists are after the events that take a lock
 pub enter_locks : (w : Work) (s : State) (n : ℕ) (c : CpuId) (t : ThreadId) (l : LockId) → T.LocksAre s (after w s n c (event.Enter t l)) (set s.locks l.0 (Owned (thread_id t.0)))
@@ -289,7 +283,7 @@ module _ (w : Work) (s : State) (n : ℕ) (c : CpuId) (ready : IsReady w s) wher
           let now : (table r).passes c.0 ≡ Some p = q.1 ∙ suits.passes in
           A.agreed_given s0 r l c.0 t.0 (Passing (record { 0 = c.0 }) 0) agreed at0 (at (Passing (record { 0 = c.0 }) 0) (kind_busy kind) are) held q.0 none (unpassed (forget kind)) holds0 (kind_count kind)
           (λ u e'. cc) (λ e' u on. cc)
-          (λ z e'. let same : p ≡ z = some_is p z (sym now ∙ e') in (ap (λ (y : H.Pass). y.lock) (sym same), (0, refl, λ a. refl)))
+          (λ z e'. let same : p ≡ z = same_Some p z (sym now ∙ e') in (ap (λ (y : H.Pass). y.lock) (sym same), (0, refl, λ a. refl)))
           (λ e' k bad. let who : c.0 ≡ e' = cc in subst (λ v. (z : H.Pass) × ((table r).passes v ≡ Some z) × (z.lock ≡ l.0)) who (p, now, refl))
       by (fewer m e' two are duties) =
           A.agreed_given s0 r l c.0 t.0 (ReadHeld (m - 1)) agreed at0 (at (ReadHeld (m - 1)) (not_free_held (lock_of s0 l.0) m (is ∙ e')) are) held (λ d other. kept_passes duties d) none (unpassed (inr (m, e'))) holds0

@@ -2,6 +2,7 @@
 use Rattle.std.proofs.Common.{◌≡◌, ℕ, ◌<◌, true, false, List, length, Option, Some, None, refl, ◌∙◌, sym, ap, arith, ◌⊎◌, inl, inr}
 use Rattle.std.specs.Prelude.{slice_get}
 use Rattle.std.proofs.lemmas.List.{length-map}
+use Rattle.sd_basics.proofs.Truths.{and_left}
 use Rattle.sd_types.specs.declared.numbers.Side.{Side}
 use Rattle.sd_types.specs.declared.numbers.Side.TheVariants.{Reader}
 use Rattle.sd_types.specs.declared.works.LockKind.{LockKind}
@@ -17,7 +18,7 @@ use Rattle.sd_frames.proofs.HoldTable.{held_part}
 use Rattle.sd_invariants.proofs.ScriptLemmas.{HeldGo, is_blocking, step_away, waits_here}
 use Rattle.sd_frames.proofs.LockTable.{is_lockless, free_passes, drop_passes, quiet_passes, quiet_locks}
 use Rattle.sd_invariants.proofs.AgreedLemmas.{agreed_quiet, waits_back}
-use Rattle.sd_invariants.proofs.AgreedAfter.{IsReady, IsNext, drop_agreed, named_inside, not_free_owned, not_free_held, enter_locks, write_locks, read_locks, block_locks, enter_passes, write_passes, read_passes, block_passes, owned_taken, read_taken, blocked_agreed, waiter_not_held, holds_it, given_up, unblock_agreed, grant_agreed, pass_agreed}
+use Rattle.sd_invariants.proofs.AgreedAfter.{IsReady, IsNext, drop_agreed, not_free_owned, not_free_held, enter_locks, write_locks, read_locks, block_locks, enter_passes, write_passes, read_passes, block_passes, owned_taken, read_taken, blocked_agreed, waiter_not_held, holds_it, given_up, unblock_agreed, grant_agreed, pass_agreed}
 use Rattle.sd_frames.proofs.ReleaseLemmas.{exit_outcome, cv_wait_outcome}
 use Rattle.sd_invariants.proofs.Works.{declared, op_named}
 use Rattle.sd_state.specs.States.{thread_of, cpu_of}
@@ -36,7 +37,7 @@ use Rattle.sd_types.specs.declared.scripts.Op.{Op}
 use Rattle.sd_types.specs.declared.scripts.Op.TheVariants as op
 use Rattle.sd_types.specs.declared.works.Work.{Work}
 use Rattle.sd_state.specs.declared.states.State.{State}
-use Rattle.sd_state.proofs.BestLemmas.{and_left}
+use Rattle.std.proofs.lemmas.Option.{slice_get_within}
 
 free_pass : (s : State) (c : ℕ) → IsFree (cpu_of s c).duty → pass_of (cpu_of s c).duty ≡ None
 free_pass s c free = free_passes (cpu_of s c).duty free
@@ -107,14 +108,14 @@ lock_named w s c t o fits acts l names =
       where
         by : (o : Option LockKind) → slice_get xs i ≡ o → is_mutex o ≡ true → i < length xs
         by None is e = cc
-        by (Some k) is e = named_inside xs i k is
+        by (Some k) is e = slice_get_within xs i k is
 
     rwlock_inside : (xs : List LockKind) (i : ℕ) → is_rwlock (slice_get xs i) ≡ true → i < length xs
     rwlock_inside xs i e = by (slice_get xs i) refl e
       where
         by : (o : Option LockKind) → slice_get xs i ≡ o → is_rwlock o ≡ true → i < length xs
         by None is e = cc
-        by (Some k) is e = named_inside xs i k is
+        by (Some k) is e = slice_get_within xs i k is
 
 module _ (w : Work) (s : State) (n : ℕ) (c : CpuId) (ready : IsReady w s) (c_in : c.0 < length s.cpus) where
   lockless_agreed : (e : Event) → is_lockless e ≡ true → IsCause w s c.0 e → IsNext w s (after w s n c e) n c e → Agreed (after w s n c e)

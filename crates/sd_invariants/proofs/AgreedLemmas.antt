@@ -9,7 +9,6 @@ use Rattle.sd_types.specs.Scripts.{is_lock, is_held, without_lock}
 use Rattle.sd_machine.specs.Graphs as G
 use Rattle.sd_machine.specs.Holders as H
 use Rattle.sd_machine.proofs.Moves.{IsPut, none_some}
-use Rattle.sd_machine.proofs.Chains.{some_is}
 use Rattle.sd_machine.proofs.HolderLemmas.{count_same, count_one, IsAt, agreed_at}
 use Rattle.sd_machine.proofs.HolderLemmas.IsHeldAfter.{stays, comes, goes}
 use Rattle.sd_state.specs.declared.states.Place.{Place}
@@ -30,6 +29,7 @@ use Rattle.sd_frames.proofs.PlaceTable.{Stepped}
 use Rattle.sd_invariants.proofs.ScriptLemmas.{StepAway, waits_after}
 use Rattle.sd_frames.proofs.LockTable.{pass_part, LocksAre}
 use Rattle.sd_frames.proofs.CpuWords as C
+use Rattle.std.proofs.lemmas.Option.{same_Some}
 
 -- Held locks.
 
@@ -61,7 +61,7 @@ with_held_other l m (k ∷ ks) other = ap (λ b. eqb m k.0 || b) (with_held_othe
 -- Who waits for what.
 
 pub waits_is : (p : Place) (m : ℕ) → option_map (λ (x : G.Wait). x.lock) (wait_of p) ≡ Some m → (l : LockId) × (side : Side) × (k : ℤ) × (p ≡ Waiting l side k) × (l.0 ≡ m)
-waits_is (Waiting l side k) m e = (l, side, k, refl, some_is l.0 m e)
+waits_is (Waiting l side k) m e = (l, side, k, refl, same_Some l.0 m e)
 waits_is p m e = cc
 
 -- the lock for which a thread at a place waits
@@ -69,7 +69,7 @@ abbrev pub wait_lock : Place → Option ℕ
 wait_lock p = option_map (λ (x : G.Wait). x.lock) (wait_of p)
 
 pub waits_lock : (p : Place) (l : LockId) (side : Side) (k : ℤ) (m : ℕ) → p ≡ Waiting l side k → wait_lock p ≡ Some m → l.0 ≡ m
-waits_lock p l side k m is e = some_is l.0 m (sym (ap wait_lock is) ∙ e)
+waits_lock p l side k m is e = same_Some l.0 m (sym (ap wait_lock is) ∙ e)
 
 pub waits_at : (s : State) (u m : ℕ) → (table s).waits u ≡ Some m → is_waiting m (thread_of s u).place ≡ true
 waits_at s u m e =
@@ -225,7 +225,7 @@ module _ (s r : State) (l : LockId) (c t : ℕ) (x : LockState) (agreed : Agreed
 
   module _ (p : H.Pass) (k : ℕ) (passing : (table s).passes c ≡ Some p) (its : p.lock ≡ l.0) (was_passing : lock_state (lock_of s l.0) ≡ H.Lock.Passing c k) where
     one_pass : (q : H.Pass) → (table s).passes c ≡ Some q → q.lock ≡ l.0
-    one_pass q is = ap (λ (y : H.Pass). y.lock) (sym (some_is p q (sym passing ∙ is))) ∙ its
+    one_pass q is = ap (λ (y : H.Pass). y.lock) (sym (same_Some p q (sym passing ∙ is))) ∙ its
 
     -- nobody else passes it on
     no_other : (d : ℕ) (q : H.Pass) → d ≢ c → (table s).passes d ≡ Some q → q.lock ≡ l.0 → ⊥
@@ -300,7 +300,7 @@ module _ (s r : State) (l : LockId) (c t : ℕ) (x : LockState) (agreed : Agreed
       passes = λ d other. passes.each d;
       passed = one_pass;
       now = λ q is.
-          let one : p ≡ q = some_is p q (sym passing ∙ sym (passes.each c) ∙ is) in
+          let one : p ≡ q = same_Some p q (sym passing ∙ sym (passes.each c) ∙ is) in
           (ap (λ (y : H.Pass). y.lock) (sym one) ∙ its, (k + 1, lock_here ∙ more, λ e. absurd (false≢true (sym many_readers ∙ ap (λ (y : H.Pass). y.alone) one ∙ e))));
       by = λ d j is.
           let both : H.Lock.Passing c (k + 1) ≡ H.Lock.Passing d j = sym more ∙ sym lock_here ∙ is in
@@ -356,7 +356,7 @@ module _ (s r : State) (l : LockId) (c : ℕ) (x : LockState) (agreed : Agreed s
       | inl same ↦ subst (λ v. (q : H.Pass) × ((table r).passes d ≡ Some q) × (q.lock ≡ v)) (sym same) (by d j (sym here ∙ ap (table r).lock (sym same) ∙ is))
       | inr other ↦
           let old = agreed.passing m d j (sym (there m other) ∙ is) in
-          (old.0, others d (λ mine. other (sym old.2 ∙ ap (λ (y : H.Pass). y.lock) (sym (some_is p old.0 (sym passing ∙ ap (table s).passes (sym mine) ∙ old.1))) ∙ its)) ∙ old.1, old.2)
+          (old.0, others d (λ mine. other (sym old.2 ∙ ap (λ (y : H.Pass). y.lock) (sym (same_Some p old.0 (sym passing ∙ ap (table s).passes (sym mine) ∙ old.1))) ∙ its)) ∙ old.1, old.2)
     ];
     passed = λ d q is. elim (cases_eq d c) [
       | inl mine ↦
@@ -397,7 +397,7 @@ module _ (s r : State) (l : LockId) (c : ℕ) (x : LockState) (agreed : Agreed s
   agreed_passed_on_any q now on alone same = agreed_any (ap H.holders_of same)
       (λ u bad. let b : H.Lock.Passing c k ≡ H.Lock.Owned u = sym same ∙ bad in cc)
       (λ bad u waits. let b : H.Lock.Passing c k ≡ H.Lock.Free = sym same ∙ bad in cc)
-      (λ z is. let one : q ≡ z = some_is q z (sym now ∙ is) in (ap (λ (y : H.Pass). y.lock) (sym one) ∙ on, (k, same, λ e. alone (ap (λ (y : H.Pass). y.alone) one ∙ e))))
+      (λ z is. let one : q ≡ z = same_Some q z (sym now ∙ is) in (ap (λ (y : H.Pass). y.lock) (sym one) ∙ on, (k, same, λ e. alone (ap (λ (y : H.Pass). y.alone) one ∙ e))))
       (λ d j is. let both : H.Lock.Passing c k ≡ H.Lock.Passing d j = sym same ∙ is in let who : c ≡ d = cc in subst (λ v. (z : H.Pass) × ((table r).passes v ≡ Some z) × (z.lock ≡ l.0)) who (q, now, on))
 
 -- the same list of locks is a write of what was there

@@ -2,13 +2,13 @@
 use Rattle.std.proofs.Common.{◌≡◌, ℕ, ◌+◌, ◌<◌, ◌≤◌, Bool, true, false, not, ◌&&◌, ◌||◌, cond, ℤ, pos, negsuc, Option, Some, None, refl, subst, arith}
 use Rattle.std.specs.Prelude.{⊤, Ok, Err, int_le}
 use Rattle.std.proofs.lemmas.Int.{ints}
+use Rattle.sd_basics.proofs.Truths.{and_left, and_right, or_or_not}
 use Rattle.sd_types.specs.declared.classes.Class.{Class}
 use Rattle.sd_types.specs.declared.classes.Class.TheVariants as class
 use Rattle.sd_types.specs.declared.classes.ClassParms.{ClassParms}
 use Rattle.sd_types.specs.declared.classes.ClassParms.TheVariants as parms
 use Rattle.sd_types.specs.declared.classes.ClassState.{ClassState}
 use Rattle.sd_types.specs.declared.classes.ClassState.TheVariants.{Ts, Fx, Sys, Rt}
-use Rattle.sd_types.specs.ClassNumbers.{TsNumbers}
 use Rattle.sd_types.specs.declared.events.Denied.TheVariants.{EINVAL, EPERM}
 use Rattle.sd_types.specs.declared.scripts.Request.{Request}
 use Rattle.sd_types.specs.declared.works.Work.{Work}
@@ -16,7 +16,6 @@ use Rattle.sd_types.specs.Priorities.{base_of, at_least_zero}
 use Rattle.sd_rules.specs.ClassRules.{fx_tick, fx_wake, rt_tick, rt_wake, class_requeue}
 use Rattle.sd_rules.specs.Priocntl.{is_sys, class_of_parms, from_zero_to, numbers_fit, is_invalid, is_forbidden, lowered, new_parms, judged, entered}
 use Rattle.sd_state.specs.declared.states.State.{State}
-use Rattle.sd_state.proofs.BestLemmas.{and_right, and_left}
 use Rattle.sd_machine.specs.Bodies.{ticked_class, woken_class, aged_class}
 use Rattle.sd_machine.specs.Prioritising.{answer_to, new_class, target_of, uid_of, is_privileged}
 
@@ -78,12 +77,6 @@ asked_below class.Fx r a e =
 asked_below class.Sys r a e = cc
 asked_below class.Rt r a e = let pri = fits_up 59 r.pri e in omega arith
 
-valid_parts : (a b c : Bool) → (a || b || not c) ≡ false → (a ≡ false) × (c ≡ true)
-valid_parts true b c e = cc
-valid_parts false true c e = cc
-valid_parts false false true e = (refl, refl)
-valid_parts false false false e = cc
-
 granted : (a b : Bool) (p q : ClassParms) → cond a (Err EINVAL) (cond b (Err EPERM) (Ok q)) ≡ Ok p → (a ≡ false) × (q ≡ p)
 granted true b p q e = cc
 granted false true p q e = cc
@@ -94,7 +87,7 @@ unfolding judged is_invalid
 judged_below uid privileged None r p e = cc
 judged_below uid privileged (Some target) r p e =
     let (valid, is) = granted (is_sys r.class || is_sys (class_of_parms target.1) || not (numbers_fit r.class r.limit r.pri)) (not privileged && is_forbidden uid target.0 target.1 r) p (new_parms r.class r) e in
-    let (class_ok, fits) = valid_parts (is_sys r.class) (is_sys (class_of_parms target.1)) (numbers_fit r.class r.limit r.pri) valid in
+    let (class_ok, fits) = or_or_not (is_sys r.class) (is_sys (class_of_parms target.1)) (numbers_fit r.class r.limit r.pri) valid in
     subst AreBelow is (asked_below r.class r class_ok fits)
 
 entered_below : (w : Work) (p : ClassParms) (old : ClassState) → AreBelow p → IsBelow (entered w.ts w.fx w.rt p old)

@@ -34,6 +34,7 @@ use Rattle.std.specs.List.{range_with_len}
 use Rattle.sd_state.specs.States.{with_cpu}
 use Rattle.std.proofs.lemmas.Bool.{cases_eq, cases_lt}
 use Rattle.std.proofs.lemmas.Bool.Decides.{nat_tests}
+use Rattle.sd_basics.proofs.Numbers.{same_itself}
 use Rattle.sd_types.specs.declared.works.ThreadDecl.{ThreadDecl}
 use Rattle.sd_state.specs.Opening.{first_cpu_state, first_thread, first_threads, opening}
 use Rattle.sd_machine.specs.Changes.{bind, unbind, put_where}
@@ -242,9 +243,6 @@ rest_numbers w s n t u at = then_numbers s (put_where w s n u at) _ (C.put_where
 refused_numbers : (w : Work) (s : State) (t : ℕ) → SameNumbers s (finish_op w s t)
 refused_numbers w s t = C.finish_op_kept number_part number_marks w s t
 
-pub same_id : (n : ℕ) → (n == n) ≡ true
-same_id n = grind (arith, nat_tests)
-
 other_id : (x : CpuId) (d : ℕ) → d ≢ x.0 → (x.0 == d) ≡ false
 other_id x d other = by (x.0 == d) refl
   where
@@ -264,7 +262,7 @@ more_threads s r u x many inside goes free d = elim (cases_eq d x.0) [
     is,
     ap (λ n. H.counted (λ t. is_bound_at d (bound_part (thread_of r t))) n) many
         ∙ count_more (λ t. is_bound_at d (bound_part (thread_of s t))) (λ t. is_bound_at d (bound_part (thread_of r t))) u (length s.threads) inside (ap (is_bound_at d) free)
-        (record { at = ap (is_bound_at d) goes.put.at ∙ subst (λ e. (x.0 == e) ≡ true) (sym is) (same_id x.0); others = λ t other. ap (is_bound_at d) (goes.put.others t other) }),
+        (record { at = ap (is_bound_at d) goes.put.at ∙ subst (λ e. (x.0 == e) ≡ true) (sym is) (same_itself x.0); others = λ t other. ap (is_bound_at d) (goes.put.others t other) }),
   )
   | inr other ↦ inr (
     other,
@@ -282,7 +280,7 @@ fewer_threads s r u x many inside goes was d = elim (cases_eq d x.0) [
   | inl is ↦ inl (
     is,
     count_more (λ t. is_bound_at d (bound_part (thread_of r t))) (λ t. is_bound_at d (bound_part (thread_of s t))) u (length s.threads) inside (ap (is_bound_at d) goes.put.at)
-        (record { at = ap (is_bound_at d) was ∙ subst (λ e. (x.0 == e) ≡ true) (sym is) (same_id x.0); others = λ t other. sym (ap (is_bound_at d) (goes.put.others t other)) })
+        (record { at = ap (is_bound_at d) was ∙ subst (λ e. (x.0 == e) ≡ true) (sym is) (same_itself x.0); others = λ t other. sym (ap (is_bound_at d) (goes.put.others t other)) })
         ∙ ap (λ n. suc (H.counted (λ t. is_bound_at d (bound_part (thread_of r t))) n)) (sym many),
   )
   | inr other ↦ inr (

@@ -6,6 +6,7 @@ use Rattle.std.specs.List.{list_all}
 use Rattle.std.proofs.lemmas.Bool.{cases_lt, false≢true, and_from}
 use Rattle.std.proofs.lemmas.Bool.Decides.{nat_tests}
 use Rattle.std.proofs.lemmas.List.{length-map}
+use Rattle.sd_basics.proofs.Numbers.{same_itself}
 use Rattle.sd_types.specs.declared.numbers.CpuId.{CpuId}
 use Rattle.sd_types.specs.declared.events.Event.{Event}
 use Rattle.sd_types.specs.declared.events.Which.{Which}
@@ -19,7 +20,6 @@ use Rattle.sd_machine.specs.Choosing.{hint_shown}
 use Rattle.sd_machine.specs.Events.{reads, same_which, hints_fit, wish, may_tick, allowed, next}
 use Rattle.sd_machine.specs.Runs.{IsComplete, shown}
 use Rattle.sd_invariants.proofs.Whole.{reached_whole}
-use Rattle.sd_invariants.proofs.BoundLemmas.{same_id}
 use Rattle.sd_invariants.specs.Complete.{CompleteRunsReachTheLimit}
 
 -- What the state shows of itself fits what is read.
@@ -31,7 +31,7 @@ same_kind which.Queued = refl
 shown_fit : (s : State) (r : Option (Which × List CpuId)) → hints_fit r (shown s r) ≡ true
 shown_fit s None = refl
 shown_fit s (Some r) = and_from (same_which r.0 r.0) (length (map (hint_shown s r.0) r.1) == length r.1) (same_kind r.0)
-    (subst (λ m. (m == length r.1) ≡ true) (sym (length-map r.1 (hint_shown s r.0))) (same_id (length r.1)))
+    (subst (λ m. (m == length r.1) ≡ true) (sym (length-map r.1 (hint_shown s r.0))) (same_itself (length r.1)))
 
 -- A processor that has no entry may not tick.
 

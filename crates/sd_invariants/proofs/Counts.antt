@@ -7,6 +7,7 @@ use Rattle.std.proofs.lemmas.Bool.Decides.{nat_tests}
 use Rattle.std.proofs.lemmas.List.{length-set, get_or-set_same, get_or-set_other}
 use Rattle.std.proofs.lemmas.List.Folds.{list_all_at}
 use Rattle.std.proofs.lemmas.List.Sums.{sum_by-cons}
+use Rattle.sd_basics.proofs.Truths.{and_right}
 use Rattle.sd_types.specs.declared.numbers.CpuId.{CpuId}
 use Rattle.sd_types.specs.declared.numbers.SetId.{SetId}
 use Rattle.sd_types.specs.declared.events.AssignAnswer.{AssignAnswer}
@@ -23,7 +24,6 @@ use Rattle.sd_state.specs.declared.states.State.{State}
 use Rattle.sd_state.specs.Accounts.{cpu_ticks}
 use Rattle.sd_state.specs.Opening.{opening}
 use Rattle.sd_state.specs.States.{no_cpu, thread_of, cpu_of}
-use Rattle.sd_state.proofs.BestLemmas.{and_right}
 use Rattle.sd_machine.specs.Changes.{counted, run_tick, count_tick, with_body, put_where, close, join, bind, unbind, set_duty}
 use Rattle.sd_machine.specs.Dispatching.{ticked, spun, idled}
 use Rattle.sd_machine.specs.Events.{may_tick, drop_ageing, effect, after}

@@ -4,6 +4,7 @@ use Rattle.std.specs.Prelude.{⊤, if◌then◌else◌, is_some, int_lt, nat_lt,
 use Rattle.std.specs.Ordering.{int_eq}
 use Rattle.std.specs.List.{range_with_len}
 use Rattle.std.proofs.lemmas.Bool.{cases_lt}
+use Rattle.sd_basics.proofs.Lists.{set_past}
 use Rattle.sd_types.specs.declared.numbers.ChanId.{ChanId}
 use Rattle.sd_types.specs.declared.numbers.CpuId.{CpuId}
 use Rattle.sd_types.specs.declared.numbers.LockId.{LockId}
@@ -58,7 +59,7 @@ use Rattle.sd_frames.proofs.LockTable as T
 use Rattle.sd_frames.proofs.LockTable.{duty_part, duty_marks}
 use Rattle.sd_frames.proofs.Found.{runner_found, age_found}
 use Rattle.sd_invariants.proofs.Movers.{owner_thread, prio_thread}
-use Rattle.sd_frames.proofs.Parts.{put_item, set_past}
+use Rattle.sd_frames.proofs.Parts.{put_item}
 use Rattle.sd_invariants.proofs.Whole.{IsWhole, reached_whole}
 use Rattle.sd_invariants.proofs.Induction.{held_reached}
 use Rattle.sd_invariants.proofs.Named.{acts_named, sleep_chan, wants_lock}

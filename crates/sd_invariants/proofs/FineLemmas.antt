@@ -3,6 +3,7 @@ use Rattle.std.proofs.Common.{◌≡◌, ℕ, zero, suc, ◌+◌, true, ◌&&◌
 use Rattle.std.specs.Prelude.{nat_le, ◌==◌}
 use Rattle.std.specs.List.{list_all}
 use Rattle.std.proofs.lemmas.Bool.Decides.{nat_tests}
+use Rattle.sd_basics.proofs.Truths.{and_left, and_right}
 use Rattle.sd_types.specs.declared.classes.ClassParms.{ClassParms}
 use Rattle.sd_types.specs.declared.classes.ClassParms.TheVariants as parms
 use Rattle.sd_types.specs.declared.works.ThreadDecl.{ThreadDecl}
@@ -10,7 +11,6 @@ use Rattle.sd_types.specs.declared.works.Work.{Work}
 use Rattle.sd_types.specs.Works.{class_fits, quantum_fits, thread_fits}
 use Rattle.sd_state.specs.States.{thread_of, no_thread}
 use Rattle.sd_state.specs.Opening.{first_class, first_thread, first_threads, opening}
-use Rattle.sd_state.proofs.BestLemmas.{and_right, and_left}
 use Rattle.sd_invariants.specs.Laws.{HoldsWhenReached, AreSound}
 use Rattle.sd_invariants.proofs.BaseLemmas.{IsBelow, tick_below, wake_below, age_below, requeue_below, new_below}
 use Rattle.sd_frames.proofs.ClassTable.{IsClosed, after_fit}

@@ -5,6 +5,8 @@ use Rattle.std.specs.Prelude.{if◌then◌else◌, Result, Ok, Err, nat_lt, nat_
 use Rattle.std.specs.List.{list_all}
 use Rattle.std.proofs.lemmas.Bool.{cases_lt, eq-eqb, false≢true}
 use Rattle.std.proofs.lemmas.List.{get_or-set_other}
+use Rattle.sd_basics.proofs.Lists.{set_past}
+use Rattle.sd_basics.proofs.Truths.{and_left, and_right}
 use Rattle.sd_types.specs.declared.numbers.ChanId.{ChanId}
 use Rattle.sd_types.specs.declared.numbers.CpuId.{CpuId}
 use Rattle.sd_types.specs.declared.numbers.LockId.{LockId}
@@ -40,7 +42,6 @@ use Rattle.sd_state.specs.declared.states.State.{State}
 use Rattle.sd_state.specs.States.{no_thread, thread_of, cpu_of, with_thread, with_cpu}
 use Rattle.sd_state.specs.Opening.{turn_of, is_urgent, first_cpu, first_thread, first_threads, opening}
 use Rattle.sd_state.specs.Operations.{script_of, op_of, op_over, ran}
-use Rattle.sd_state.proofs.BestLemmas.{and_right, and_left}
 use Rattle.sd_machine.specs.Threads.{thread_id, lock_of, with_lock, runner, best_sleeper, eff_of}
 use Rattle.sd_machine.specs.Bodies.{aged_class, departed, arrived}
 use Rattle.sd_machine.specs.Changes.{back_key, with_place, finish_op, run_tick, set_class, send_back, hold, let_go, set_number, set_looped, set_duty, count_tick, clear_marks, run_on, leave, place_put, put, put_where, close, bind, unbind}
@@ -54,7 +55,7 @@ use Rattle.sd_machine.specs.Conditions.{cv_waited, sema_taken, sema_counted, sem
 use Rattle.sd_machine.specs.SetChanges.{cleared, assigned, moved, rebound, pbound}
 use Rattle.sd_machine.specs.Events.{drop_ageing, effect, after}
 use Rattle.sd_invariants.specs.Laws.{HoldsWhenReached}
-use Rattle.sd_frames.proofs.Parts.{same_item, put_item, set_past}
+use Rattle.sd_frames.proofs.Parts.{same_item, put_item}
 use Rattle.sd_frames.proofs.Words.{Same, all_same, called_back_same, clear_marks_same, cleared_same, close_same, count_same, count_tick_same, idled_same, joined_same, lock_same, mark_over_same, passed_same, release_from_same, remark_same, roused_on_same, set_duty_same, set_mark_same, then_same, unblocked_on_same, walk_ended_same, walk_from_same}
 use Rattle.sd_frames.proofs.HoldTable.{body_same}
 use Rattle.sd_invariants.proofs.Works.{declared}

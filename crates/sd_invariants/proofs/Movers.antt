@@ -2,6 +2,7 @@
 use Rattle.std.proofs.Common.{◌≡◌, ◌≢◌, ℕ, ◌<◌, Bool, true, false, not, ◌&&◌, length, Option, Some, None, refl, sym, ap, ◌∙◌, arith, inl, inr}
 use Rattle.std.specs.Prelude.{⊤, nat_lt, ◌==◌, if◌then◌else◌, is_none, ℤ}
 use Rattle.std.proofs.lemmas.Bool.Decides.{nat_tests}
+use Rattle.sd_basics.proofs.Truths.{and_left}
 use Rattle.sd_types.specs.declared.numbers.CpuId.{CpuId}
 use Rattle.sd_types.specs.declared.numbers.LockId.{LockId}
 use Rattle.sd_types.specs.declared.numbers.ThreadId.{ThreadId}
@@ -26,7 +27,6 @@ use Rattle.sd_state.specs.declared.states.Place.TheVariants.{Running, Queued, Wa
 use Rattle.sd_state.specs.declared.states.LockState.TheVariants.{Owned}
 use Rattle.sd_state.specs.declared.states.State.{State}
 use Rattle.sd_state.specs.States.{thread_of, cpu_of, is_queued, is_ready}
-use Rattle.sd_state.proofs.BestLemmas.{and_left}
 use Rattle.sd_machine.specs.Shapes.{FitsFully}
 use Rattle.sd_machine.specs.Changes.{back_key}
 use Rattle.sd_machine.specs.Threads.{lock_of, eff_of, runner, next_to_age, is_ts, is_asleep, is_asleep_below, is_due, has_ended}

@@ -5,7 +5,9 @@ use Rattle.std.specs.List.{list_all}
 use Rattle.std.proofs.lemmas.Bool.{false≢true}
 use Rattle.std.proofs.lemmas.Bool.Decides.{nat_tests}
 use Rattle.std.proofs.lemmas.List.{length-map}
-use Rattle.std.proofs.lemmas.Option.{same_Some}
+use Rattle.std.proofs.lemmas.Option.{same_Some, slice_get_within}
+use Rattle.sd_basics.proofs.Lists.{all_at}
+use Rattle.sd_basics.proofs.Truths.{and_left, and_right}
 use Rattle.sd_types.specs.declared.names.Name.{Name}
 use Rattle.sd_types.specs.declared.numbers.ChanId.{ChanId}
 use Rattle.sd_types.specs.declared.numbers.CpuId.{CpuId}
@@ -24,11 +26,9 @@ use Rattle.sd_types.specs.Works.{is_mutex, is_rwlock, is_chan, is_sema, bound_fi
 use Rattle.sd_state.specs.declared.states.State.{State}
 use Rattle.sd_state.specs.Operations.{script_of}
 use Rattle.sd_state.specs.States.{thread_of}
-use Rattle.sd_state.proofs.BestLemmas.{and_right, and_left}
 use Rattle.sd_machine.specs.Threads.{set_of}
 use Rattle.sd_frames.specs.Causes.{Acts, Wants, wants}
-use Rattle.sd_invariants.proofs.AgreedAfter.{named_inside}
-use Rattle.sd_invariants.proofs.Works.{declared, all_at, op_named}
+use Rattle.sd_invariants.proofs.Works.{declared, op_named}
 
 -- What passes a test that nothing fails which is not there is there.
 
@@ -40,7 +40,7 @@ chan_inside w k test none passes =
   where
     by : (o : Option ChanKind) → slice_get (declared w).chans k.0 ≡ o → test o ≡ true → k.0 < length (declared w).chans
     by None at is = absurd (false≢true (sym none ∙ is))
-    by (Some x) at is = named_inside (declared w).chans k.0 x at
+    by (Some x) at is = slice_get_within (declared w).chans k.0 x at
 
 lock_inside : (w : Work) (l : LockId) (test : Option LockKind → Bool) → test None ≡ false → test (slice_get (declared w).locks l.0) ≡ true → l.0 < length w.locks
 lock_inside w l test none passes =
@@ -50,7 +50,7 @@ lock_inside w l test none passes =
   where
     by : (o : Option LockKind) → slice_get (declared w).locks l.0 ≡ o → test o ≡ true → l.0 < length (declared w).locks
     by None at is = absurd (false≢true (sym none ∙ is))
-    by (Some x) at is = named_inside (declared w).locks l.0 x at
+    by (Some x) at is = slice_get_within (declared w).locks l.0 x at
 
 -- Operations.
 

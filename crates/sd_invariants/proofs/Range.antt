@@ -2,7 +2,7 @@
 use Rattle.std.proofs.Common.{◌≡◌, ℕ, ◌+◌, ◌<◌, ◌≤◌, ◌^◌, Bool, true, false, not, ◌||◌, List, [], ◌∷◌, length, Option, Some, None, refl, ap, ◌∙◌, subst, inl, inr, arith}
 use Rattle.std.specs.Prelude.{filter, if◌then◌else◌, ◌==◌, IfSome, ℤ}
 use Rattle.std.specs.List.{Contains}
-use Rattle.std.proofs.lemmas.Bool.Decides.{nat_tests}
+use Rattle.sd_basics.proofs.Numbers.{same_itself}
 use Rattle.sd_types.specs.declared.numbers.ChanId.{ChanId}
 use Rattle.sd_types.specs.declared.numbers.CpuId.{CpuId}
 use Rattle.sd_types.specs.declared.numbers.LockId.{LockId}
@@ -133,14 +133,11 @@ module _ (w : Work) (s : State) (whole : IsWhole w s) (is : IsInside w s) (sets 
   runs_there : (t : ThreadId) → RunsThere s t
   runs_there t d e = cpu d (subst (λ p. IsThere w p) e (is.places t.0))
 
-  same_number : (d : ℕ) → (d == d) ≡ true
-  same_number d = grind (arith, nat_tests)
-
   counts_one : (u : ℕ) (o : Option CpuId) → (thread_of s u).body.bound ≡ o → u < length s.threads → IsBoundThere w o → IfSome o (λ b. (b.0 < length s.cpus) × (1 ≤ (cpu_of s b.0).bound))
   counts_one u None e inside there = tt
   counts_one u (Some b) e inside there =
       let here : b.0 < length s.cpus = cpu b there in
-      let one = count_one (λ t. is_bound_at b.0 (bound_part (thread_of s t))) u (length s.threads) inside (ap (is_bound_at b.0) e ∙ same_number b.0) in
+      let one = count_one (λ t. is_bound_at b.0 (bound_part (thread_of s t))) u (length s.threads) inside (ap (is_bound_at b.0) e ∙ same_itself b.0) in
       let all = whole.bound b.0 here in
       (here, omega (arith, one, all))
 

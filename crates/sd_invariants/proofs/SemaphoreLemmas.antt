@@ -13,6 +13,7 @@ use Rattle.sd_frames.specs.Causes.{IsCause}
 use Rattle.std.proofs.Common.{get_or, set, zero, suc, ◌+◌, ◌-◌, ◌≤◌}
 use Rattle.std.proofs.lemmas.Bool.{cases_eq, cases_lt}
 use Rattle.std.proofs.lemmas.List.{get_or-set_same, get_or-set_other}
+use Rattle.sd_basics.proofs.Lists.{set_past}
 use Rattle.sd_types.specs.declared.events.AssignAnswer.{AssignAnswer}
 use Rattle.sd_types.specs.declared.events.AssignAnswer.TheVariants as assign
 use Rattle.sd_types.specs.declared.numbers.SetId.{SetId}
@@ -23,7 +24,6 @@ use Rattle.sd_machine.specs.Conditions.{sema_taken, sema_counted}
 use Rattle.sd_machine.specs.SetChanges.{cleared, assigned, joined}
 use Rattle.sd_machine.specs.Events.{drop_ageing, effect, after}
 use Rattle.sd_machine.proofs.ShapeLemmas.{after_shape}
-use Rattle.sd_frames.proofs.Parts.{set_past}
 use Rattle.sd_frames.proofs.FieldWords as F
 use Rattle.sd_frames.proofs.SideFields.{is_side, after_keeps}
 use Rattle.sd_frames.proofs.Words.{Same}

@@ -1,8 +1,9 @@
 -- Each duty to pass on a lock goes on serving somebody, through each event.
 use Rattle.std.proofs.Common.{◌≡◌, ◌≢◌, ℕ, zero, suc, ◌<◌, Bool, true, false, List, [], ◌∷◌, length, Option, Some, refl, sym, ap, ◌∙◌, subst, arith, ◌⊎◌, inl, inr}
-use Rattle.std.specs.Prelude.{slice_get, option_map, map, nat_lt}
+use Rattle.std.specs.Prelude.{slice_get, map, nat_lt}
 use Rattle.std.proofs.lemmas.Bool.{cases_eq}
 use Rattle.std.proofs.lemmas.Bool.Decides.{nat_tests}
+use Rattle.sd_basics.proofs.Truths.{and_left, and_right}
 use Rattle.sd_types.specs.declared.numbers.ChanId.{ChanId}
 use Rattle.sd_types.specs.declared.numbers.CpuId.{CpuId}
 use Rattle.sd_types.specs.declared.numbers.LockId.{LockId}
@@ -26,7 +27,6 @@ use Rattle.sd_state.specs.declared.states.Place.TheVariants.{Waiting}
 use Rattle.sd_state.specs.declared.states.State.{State}
 use Rattle.sd_state.specs.States.{thread_of, cpu_of}
 use Rattle.sd_state.specs.Operations.{op_of}
-use Rattle.sd_state.proofs.BestLemmas.{and_right, and_left}
 use Rattle.sd_machine.specs.Threads.{thread_id, lock_of, best_waiter, has_waiters}
 use Rattle.sd_machine.specs.Changes.{back_key, set_duty, place_put}
 use Rattle.sd_machine.specs.Locking.{kind_of, side_of, blocked}
@@ -55,6 +55,7 @@ use Rattle.sd_frames.proofs.PassLemmas.{drop_duties, Woken, Granted, Passed as H
 use Rattle.sd_frames.proofs.PassLemmas.Woken.{more, last}
 use Rattle.sd_frames.proofs.PassLemmas.Granted.{to_writer, to_reader}
 use Rattle.sd_frames.proofs.PassLemmas.Passed.{to_readers, writer_next, to_nobody, otherwise}
+use Rattle.std.proofs.lemmas.Option.{slice_get-map}
 
 -- One duty.
 
@@ -120,13 +121,8 @@ kind_at (Mutex ∷ xs) zero inside other = cc
 kind_at (Rwlock ∷ xs) zero inside other = refl
 kind_at (x ∷ xs) (suc i) inside other = kind_at xs i (omega arith) other
 
-mapped : {X Y : Type 0} (f : X → Y) (xs : List X) (i : ℕ) → slice_get (map f xs) i ≡ option_map f (slice_get xs i)
-mapped f [] i = refl
-mapped f (x ∷ xs) zero = refl
-mapped f (x ∷ xs) (suc i) = mapped f xs i
-
 pub kind_is : (w : Work) (l : LockId) → slice_get (declared w).locks l.0 ≡ kind_of w l
-kind_is w l = mapped (λ d. d.1) w.locks l.0
+kind_is w l = slice_get-map (λ d. d.1) w.locks l.0
 
 pub not_mutex : (w : Work) (l : LockId) → l.0 < length (declared w).locks → is_mutex (kind_of w l) ≡ false → is_rwlock (kind_of w l) ≡ true
 not_mutex w l inside other = subst (λ k. is_rwlock k ≡ true) (kind_is w l) (kind_at (declared w).locks l.0 inside (ap is_mutex (kind_is w l) ∙ other))

@@ -6,6 +6,7 @@ use Rattle.std.proofs.lemmas.Bool.{cases_eq, cases_lt, eqb-false}
 use Rattle.std.proofs.lemmas.Bool.Decides.{nat_tests}
 use Rattle.std.proofs.lemmas.List.{get_or-set_same, get_or-set_other}
 use Rattle.std.proofs.lemmas.List.FromFn.{get_or-map-range_with_len}
+use Rattle.sd_basics.proofs.Lists.{set_past}
 use Rattle.arrayvec.specs.ArrayVec.{ArrayVec}
 use Rattle.sd_types.specs.declared.numbers.CpuId.{CpuId}
 use Rattle.sd_types.specs.declared.numbers.SetId.{SetId}
@@ -29,7 +30,7 @@ use Rattle.sd_machine.specs.SetChanges.{assign_answer, cleared, assigned, joined
 use Rattle.sd_machine.specs.Events.{drop_ageing, effect, after}
 use Rattle.sd_frames.specs.Causes.{IsCause}
 use Rattle.sd_invariants.specs.Laws.{HoldsWhenReached, OpenHold, IsRising}
-use Rattle.sd_frames.proofs.Parts.{put_item, set_past}
+use Rattle.sd_frames.proofs.Parts.{put_item}
 use Rattle.sd_frames.proofs.CpuWords as C
 use Rattle.sd_frames.proofs.FieldWords as F
 use Rattle.sd_frames.proofs.PlainWords.{drop_keeps}

@@ -6,6 +6,7 @@ use Rattle.std.specs.List.{list_all}
 use Rattle.std.proofs.lemmas.Bool.{cases_lt, not-true}
 use Rattle.std.proofs.lemmas.Bool.Decides.{nat_tests}
 use Rattle.std.proofs.lemmas.List.{get_or_past}
+use Rattle.sd_basics.proofs.Truths.{and_left, and_right}
 use Rattle.sd_types.specs.declared.numbers.CpuId.{CpuId}
 use Rattle.sd_types.specs.declared.numbers.LockId.{LockId}
 use Rattle.sd_types.specs.declared.numbers.ThreadId.{ThreadId}
@@ -32,7 +33,6 @@ use Rattle.sd_state.specs.States.{thread_of, cpu_of, no_cpu, is_running}
 use Rattle.sd_state.specs.Operations.{script_of, op_of}
 use Rattle.sd_state.specs.Opening.{first_count, opening}
 use Rattle.sd_state.specs.Opening.{count_of as first_count_of}
-use Rattle.sd_state.proofs.BestLemmas.{and_right, and_left}
 use Rattle.sd_machine.specs.Threads.{count_of, lock_of, runner, best_waiter, greatest_waiting}
 use Rattle.sd_machine.specs.Locking.{others_waiting}
 use Rattle.sd_machine.specs.Needs.{IsThread, Runs, CanAct, CanNap, CanHold, CanInherit, CanReceive, CanBind, more_fits}
@@ -45,7 +45,7 @@ use Rattle.sd_invariants.specs.Laws.{CountsWithin, OpenHold, IsFit}
 use Rattle.sd_frames.proofs.Found.{runner_found, waiter_found, sleeper_found, sleeper_below_found}
 use Rattle.sd_invariants.proofs.ScriptLemmas.{waits_here}
 use Rattle.sd_invariants.proofs.Works.{op_named, wanted_fits}
-use Rattle.sd_invariants.proofs.AgreedAfter.{IsReady, named_inside}
+use Rattle.sd_invariants.proofs.AgreedAfter.{IsReady}
 use Rattle.sd_invariants.proofs.NumberLemmas.{AreFine, fine_eff, waiting_below, others_below}
 use Rattle.sd_invariants.proofs.SemaphoreLemmas.{total, ops_over, CountsHold, holds_kept}
 use Rattle.sd_frames.proofs.HoldTable.{bound_part}
@@ -54,6 +54,7 @@ use Rattle.sd_invariants.proofs.OpenLemmas.{open_is_kept}
 use Rattle.sd_invariants.proofs.CountLemmas.{opening_counts, after_counts}
 use Rattle.sd_invariants.proofs.FineLemmas.{fine_reached}
 use Rattle.sd_invariants.proofs.Ready.{reached_ready, kept_reached}
+use Rattle.std.proofs.lemmas.Option.{slice_get_within}
 
 -- all that is known of a state of a run
 pub record IsWhole (w : Work) (s : State) : Type 0 where
@@ -207,7 +208,7 @@ module _ (w : Work) (s : State) (whole : IsWhole w s) where
       let holds = short_held u l found.inside (wanted_fits w u.0 (thread_of s u.0).body.op o l side stands wanted) in
       record {
         thread = found.inside;
-        op = named_inside (script_of w u.0) (thread_of s u.0).body.op o stands;
+        op = slice_get_within (script_of w u.0) (thread_of s u.0).body.op o stands;
         room = holds.room;
         apart = holds.apart;
         sound = (whole.fine u.0).sound;
@@ -231,7 +232,7 @@ module _ (w : Work) (s : State) (whole : IsWhole w s) where
     pub acts_on : (t : ThreadId) (o : Op) → Acts w s c.0 t.0 (Some o) → CanAct w s t c
     acts_on t o acts =
         let runs = runs_on t acts.runs in
-        record { thread = runs.thread; place = runs.place; op = named_inside (script_of w t.0) (thread_of s t.0).body.op o acts.stands }
+        record { thread = runs.thread; place = runs.place; op = slice_get_within (script_of w t.0) (thread_of s t.0).body.op o acts.stands }
 
     pub takes : (t : ThreadId) (o : Op) (l : LockId) (side : Side) → Acts w s c.0 t.0 (Some o) → wants o ≡ Some (l, side) → CanHold s t l
     takes t o l side acts wanted = short_held t l (runs_on t acts.runs).thread (wanted_fits w t.0 (thread_of s t.0).body.op o l side acts.stands wanted)

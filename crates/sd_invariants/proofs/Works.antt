@@ -1,11 +1,13 @@
 -- What a workload says of the operation at which a thread stands.
-use Rattle.std.proofs.Common.{◌≡◌, ℕ, zero, suc, ◌+◌, Bool, true, false, ◌&&◌, List, [], ◌∷◌, take, Option, Some, None, refl, sym, ap, subst}
+use Rattle.std.proofs.Common.{◌≡◌, ℕ, ◌+◌, true, ◌&&◌, [], ◌∷◌, take, Option, Some, None, refl, sym, ap, subst}
 use Rattle.std.specs.Prelude.{slice_get, option_map, unwrap_or}
 use Rattle.std.specs.List.{list_all}
 use Rattle.sd_types.specs.declared.numbers.LockId.{LockId}
 use Rattle.sd_types.specs.declared.numbers.Side.{Side}
 use Rattle.sd_types.specs.declared.numbers.Side.TheVariants.{Writer, Reader}
 use Rattle.std.proofs.lemmas.Option.{same_Some}
+use Rattle.sd_basics.proofs.Lists.{all_at}
+use Rattle.sd_basics.proofs.Truths.{and_right}
 use Rattle.sd_types.specs.declared.scripts.Op.{Op}
 use Rattle.sd_types.specs.declared.scripts.Op.TheVariants as op
 use Rattle.sd_types.specs.declared.works.ThreadDecl.{ThreadDecl}
@@ -13,24 +15,10 @@ use Rattle.sd_types.specs.declared.works.Work.{Work}
 use Rattle.sd_types.specs.Scripts.{held_by, can_take, op_fits}
 use Rattle.sd_types.specs.Works.{Declared, declared_of, op_names, thread_fits}
 use Rattle.sd_state.specs.Operations.{script_of}
-use Rattle.sd_state.proofs.BestLemmas.{and_right}
 use Rattle.sd_frames.specs.Causes.{wants}
 
 abbrev pub declared : Work → Declared
 declared w = declared_of w.cpus w.sets w.locks w.chans w.threads
-
-pub all_at : {X : Type 0} (p : X → Bool) (xs : List X) (i : ℕ) (x : X) → list_all p xs ≡ true → slice_get xs i ≡ Some x → p x ≡ true
-all_at p [] i x all e = cc
-all_at p (y ∷ ys) zero x all e = let is : y ≡ x = cc in subst (λ z. p z ≡ true) is (left (p y) _ all)
-  where
-    left : (a b : Bool) → (a && b) ≡ true → a ≡ true
-    left true b e = refl
-    left false b e = cc
-all_at p (y ∷ ys) (suc i) x all e = all_at p ys i x (right (p y) _ all) e
-  where
-    right : (a b : Bool) → (a && b) ≡ true → b ≡ true
-    right true b e = e
-    right false b e = cc
 
 -- an operation of a script that is there, of a declared thread
 record Declares (w : Work) (t i : ℕ) (o : Op) : Type 0 where

@@ -4,6 +4,8 @@ use Rattle.std.proofs.Common.{◌≡◌, ℕ, ◌-◌, ◌<◌, Bool, true, fals
 use Rattle.std.specs.Prelude.{if◌then◌else◌, is_some, nat_lt, nat_le}
 use Rattle.std.proofs.lemmas.Bool.{cases_eq, cases_lt}
 use Rattle.std.proofs.lemmas.List.{length-set, get_or-set_same, get_or-set_other}
+use Rattle.sd_basics.proofs.Lists.{set_past}
+use Rattle.sd_basics.proofs.Truths.{or_always}
 use Rattle.sd_types.specs.declared.numbers.CpuId.{CpuId}
 use Rattle.sd_types.specs.declared.numbers.LockId.{LockId}
 use Rattle.sd_types.specs.declared.numbers.Side.TheVariants.{Writer}
@@ -35,7 +37,7 @@ use Rattle.sd_machine.specs.Prioritising.{walk_from}
 use Rattle.sd_machine.specs.Events.{drop_ageing}
 use Rattle.sd_state.specs.Invariants.{is_marked}
 use Rattle.sd_machine.proofs.Moves.{IsSame, IsPut}
-use Rattle.sd_frames.proofs.Parts.{put_item, same_item, set_past, put_same, same_put}
+use Rattle.sd_frames.proofs.Parts.{put_item, same_item, put_same, same_put}
 use Rattle.sd_frames.proofs.Words.{of_threads}
 use Rattle.sd_frames.proofs.CpuWords.{of_cpus}
 use Rattle.sd_frames.proofs.PlaceTable.{place_part}
@@ -317,12 +319,8 @@ roused_on_calm s c (Some u) = all_calm s
 kernel_marked : (m : ℕ) (x : CpuState) → x.kernel ≡ true → (marked m x).kernel ≡ true
 kernel_marked m x e = elim (nat_le 100 m) as (λ b. (if b then record x { kernel = true } else record x { user = true }).kernel ≡ true) [ true ↦ refl | false ↦ e ]
 
-or_true : (a : Bool) → (a || true) ≡ true
-or_true true = refl
-or_true false = refl
-
 pub marked_is : (m : ℕ) (x : CpuState) → is_marked (marked m x) ≡ true
-marked_is m x = elim (nat_le 100 m) as (λ b. is_marked (if b then record x { kernel = true } else record x { user = true }) ≡ true) [ true ↦ or_true x.user | false ↦ refl ]
+marked_is m x = elim (nat_le 100 m) as (λ b. is_marked (if b then record x { kernel = true } else record x { user = true }) ≡ true) [ true ↦ or_always x.user | false ↦ refl ]
 
 marked_set : (m : ℕ) (x : CpuState) → set_part (marked m x) ≡ set_part x
 marked_set m x = elim (nat_le 100 m) as (λ b. set_part (if b then record x { kernel = true } else record x { user = true }) ≡ set_part x) [ true ↦ refl | false ↦ refl ]
@@ -333,7 +331,7 @@ set_mark_alike s c m busy = marked_alike s c (marked m (cpu_of s c)) (marked_set
 
 pub set_kernel_mark_alike : (s : State) (c : ℕ) → IsBusy s c → Alike s (set_kernel_mark s c)
 unfolding set_kernel_mark
-set_kernel_mark_alike s c busy = marked_alike s c (record (cpu_of s c) { kernel = true }) refl (λ e. refl) (λ e. or_true (cpu_of s c).user) busy
+set_kernel_mark_alike s c busy = marked_alike s c (record (cpu_of s c) { kernel = true }) refl (λ e. refl) (λ e. or_always (cpu_of s c).user) busy
 
 -- the runner that a search finds
 pub busy_by : (s : State) (c r : ℕ) → runner s c ≡ Some r → IsBusy s c

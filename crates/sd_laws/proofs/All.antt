@@ -31,13 +31,13 @@ use Rattle.sd_invariants.proofs.Named.{acts_named, assign_cpu}
 use Rattle.sd_invariants.proofs.Places.{threads_have_cpus}
 use Rattle.sd_invariants.proofs.All.{threads_law}
 use Rattle.sd_laws.specs.Belonging.{BelongsAt, ThreadsBelong}
-use Rattle.sd_laws.proofs.Basics.{none_some}
 use Rattle.sd_laws.proofs.Events.{keeps_sets, event_out}
 use Rattle.sd_laws.proofs.Goes.{Single}
 use Rattle.sd_laws.proofs.Homes.{outcome_belongs}
 use Rattle.sd_laws.proofs.OnePlace.{one_runs}
 use Rattle.sd_laws.proofs.Outcomes.{Known}
 use Rattle.sd_laws.proofs.Settle.{assigned_belongs, joined_belongs, bound_belongs}
+use Rattle.std.proofs.lemmas.Option.{none-some}
 
 -- What is known of a state of a run, if its threads belong to their places.
 
@@ -95,7 +95,7 @@ opening_belongs w t = record {
     | inl inside ↦ by (thread_of s t).place (opening_well w t).0 (opening_suits w t)
     | inr past ↦ subst (λ (x : ThreadState). BelongsAt s (set_of w t) (eff_of s t) (thread_of s t).body.bound x.place) (sym (get_or_past s.threads t no_thread past)) tt
   ];
-  bound = λ d is. absurd (none_some d (sym (first_free_at w t) ∙ is));
+  bound = λ d is. absurd (none-some d (sym (first_free_at w t) ∙ is));
 }
   where
     s : State
@@ -105,7 +105,7 @@ opening_belongs w t = record {
     by (Queued c k) own (inl low) = (own, inl (first_free_at w t, low))
     by (Queued c k) own (inr here) = (own, inr here)
     by (RealTime q k) own suits = (suits.0, suits.1, own)
-    by (Running c) own suits = (own, λ d is other. absurd (none_some d (sym (first_free_at w t) ∙ is)))
+    by (Running c) own suits = (own, λ d is other. absurd (none-some d (sym (first_free_at w t) ∙ is)))
     by (Waiting l side k) own suits = tt
     by (Asleep j k) own suits = tt
     by (Napping c due) own suits = tt

@@ -5,7 +5,9 @@ use Rattle.std.proofs.lemmas.Bool.{false≢true, cases_Bool, cases_eq, cases_lt}
 use Rattle.std.proofs.lemmas.Bool.Decides.{nat_tests}
 use Rattle.std.proofs.lemmas.List.{get_or_past, get_or-set_same, get_or-set_other, length-map}
 use Rattle.std.proofs.lemmas.List.Sums.{sum_by-cons}
-use Rattle.std.proofs.lemmas.Option.{same_Some}
+use Rattle.std.proofs.lemmas.Option.{same_Some, slice_get_within}
+use Rattle.sd_basics.proofs.Numbers.{same_itself}
+use Rattle.sd_basics.proofs.Truths.{and_left}
 use Rattle.sd_types.specs.declared.names.Name.{Name}
 use Rattle.sd_types.specs.declared.numbers.ChanId.{ChanId}
 use Rattle.sd_types.specs.declared.numbers.CpuId.{CpuId}
@@ -28,7 +30,6 @@ use Rattle.sd_state.specs.declared.states.Place.TheVariants.{Queued, RealTime, A
 use Rattle.sd_state.specs.declared.states.State.{State}
 use Rattle.sd_state.specs.Opening.{count_of as count_in, first_count, first_cpu, is_urgent, first_thread, first_threads, opening}
 use Rattle.sd_state.specs.States.{no_thread, thread_of}
-use Rattle.sd_state.proofs.BestLemmas.{and_left}
 use Rattle.sd_machine.specs.Accounts.{entries_of}
 use Rattle.sd_machine.specs.Changes.{back_key, finish_op, set_duty, close}
 use Rattle.sd_machine.specs.Conditions.{sema_taken, sema_counted}
@@ -41,7 +42,7 @@ use Rattle.sd_frames.specs.Causes.{IsCause}
 use Rattle.sd_invariants.specs.Laws.{HoldsWhenReached}
 use Rattle.sd_frames.specs.Moves.{Step, step_of}
 use Rattle.sd_frames.specs.Moves.Step.{Stay, Go}
-use Rattle.sd_invariants.proofs.AgreedAfter.{IsReady, named_inside}
+use Rattle.sd_invariants.proofs.AgreedAfter.{IsReady}
 use Rattle.sd_frames.proofs.FieldWords as F
 use Rattle.sd_frames.proofs.PlaceTable.{Stepped}
 use Rattle.sd_invariants.proofs.Ready.{kept_reached, next_ready, opening_ready, ready_cause}
@@ -89,9 +90,6 @@ positive_inside xs i some = elim (cases_lt i (length xs)) [
   | inr past ↦ absurd (let none : get_or xs i 0 ≡ 0 = get_or_past xs i 0 past in omega (arith, none, some))
 ]
 
-pub same_test : (i : ℕ) → (i == i) ≡ true
-same_test i = grind (arith, nat_tests)
-
 other_test : (i k : ℕ) → k ≢ i → (i == k) ≡ false
 other_test i k other = elim (cases_Bool (i == k)) [
   | inl is ↦ absurd (other (let same : i ≡ k = grind (arith, nat_tests) in sym same))
@@ -103,7 +101,7 @@ one_less xs i k some = elim (cases_eq k i) [
   | inl is ↦
       let at : get_or (set xs i (get_or xs i 0 - 1)) k 0 ≡ get_or xs i 0 - 1 = ap (λ v. get_or (set xs i (get_or xs i 0 - 1)) v 0) is ∙ get_or-set_same xs i (get_or xs i 0 - 1) 0 (positive_inside xs i some) in
       let old : get_or xs k 0 ≡ get_or xs i 0 = ap (λ v. get_or xs v 0) is in
-      let one : ones (i == k) ≡ 1 = ap ones (ap (λ v. i == v) is ∙ same_test i) in
+      let one : ones (i == k) ≡ 1 = ap ones (ap (λ v. i == v) is ∙ same_itself i) in
       omega (arith, at, old, one, some)
   | inr other ↦
       let at : get_or (set xs i (get_or xs i 0 - 1)) k 0 ≡ get_or xs k 0 = get_or-set_other xs i k (get_or xs i 0 - 1) 0 other in
@@ -116,7 +114,7 @@ one_more xs i k inside = elim (cases_eq k i) [
   | inl is ↦
       let at : get_or (set xs i (get_or xs i 0 + 1)) k 0 ≡ get_or xs i 0 + 1 = ap (λ v. get_or (set xs i (get_or xs i 0 + 1)) v 0) is ∙ get_or-set_same xs i (get_or xs i 0 + 1) 0 inside in
       let old : get_or xs k 0 ≡ get_or xs i 0 = ap (λ v. get_or xs v 0) is in
-      let one : ones (i == k) ≡ 1 = ap ones (ap (λ v. i == v) is ∙ same_test i) in
+      let one : ones (i == k) ≡ 1 = ap ones (ap (λ v. i == v) is ∙ same_itself i) in
       omega (arith, at, old, one)
   | inr other ↦
       let at : get_or (set xs i (get_or xs i 0 + 1)) k 0 ≡ get_or xs k 0 = get_or-set_other xs i k (get_or xs i 0 + 1) 0 other in
@@ -131,7 +129,7 @@ sema_inside w k sema = by (chan_kind w k) refl sema
     by : (o : Option ChanKind) → chan_kind w k ≡ o → is_sema o ≡ true → k < length w.chans
     by None at is = cc
     by (Some x) at is =
-        let inside = named_inside (map (λ (x : Name × ChanKind). x.1) w.chans) k x at in
+        let inside = slice_get_within (map (λ (x : Name × ChanKind). x.1) w.chans) k x at in
         let many = length-map w.chans (λ (x : Name × ChanKind). x.1) in
         omega (arith, inside, many)
 

@@ -1,8 +1,8 @@
 -- Who is bound to a processor is dispatched by it, and who is stolen is bound to none.
 use Rattle.std.proofs.Common.{is_none}
+use Rattle.sd_basics.proofs.Truths.{and_right}
 use Rattle.sd_types.specs.declared.events.Event.TheVariants.{Dispatch, Steal}
 use Rattle.sd_state.specs.States.{thread_of, is_queued}
-use Rattle.sd_state.proofs.BestLemmas.{and_right}
 use Rattle.sd_frames.proofs.Found.{ready_found, unbound_found}
 use Rattle.sd_invariants.proofs.Ready.{ready_cause, reached_ready}
 use Rattle.sd_laws.specs.Changes.{BoundAreDispatchedAtHome, StolenAreUnbound}

@@ -3,6 +3,8 @@ use Rattle.std.proofs.Common.{◌≡◌, ◌≢◌, ℕ, ◌+◌, ◌-◌, ◌<�
 use Rattle.std.specs.Prelude.{if◌then◌else◌, nat_lt, ◌==◌}
 use Rattle.std.proofs.lemmas.Bool.{cases_eq, eqb-true, false≢true, or_parts}
 use Rattle.std.proofs.lemmas.Bool.Decides.{nat_tests}
+use Rattle.sd_basics.proofs.Numbers.{same_itself}
+use Rattle.sd_basics.proofs.Truths.{and_left, and_right}
 use Rattle.sd_types.specs.declared.numbers.ChanId.{ChanId}
 use Rattle.sd_types.specs.declared.numbers.CpuId.{CpuId}
 use Rattle.sd_types.specs.declared.numbers.LockId.{LockId}
@@ -49,20 +51,19 @@ use Rattle.sd_machine.specs.SetChanges.{assigned, moved, pbound}
 use Rattle.sd_machine.specs.Events.{dropped_duty, drop_ageing, effect, after}
 use Rattle.sd_state.specs.Invariants.{is_marked}
 use Rattle.sd_state.proofs.Chosen.{running_not_queued}
-use Rattle.sd_state.proofs.BestLemmas.{and_right, and_left}
 use Rattle.sd_frames.specs.Causes.{Runs, IsPut as IsPutAt, IsRequeuedAt, WakesBest, RousesBest, IsAnswered, IsCause}
 use Rattle.sd_frames.proofs.Found.{runner_found, ready_found, queued_found, unbound_found, waiter_found, sleeper_found, sleeper_below_found, due_found, age_found}
 use Rattle.sd_invariants.proofs.Movers.{owner_thread, prio_thread}
 use Rattle.sd_frames.proofs.PassLemmas.{drop_duties}
-use Rattle.sd_invariants.proofs.BoundLemmas.{same_id}
 use Rattle.sd_laws.proofs.Alike.{Weight, weight_part, heft, Calm, Alike, Weighs, Weighed, all_calm, then_calm, calm_alike, then_alike, calm_weighs, weighs_calm, weighs_alike, weighed_alike, either_calm, lock_calm, count_calm, set_duty_calm, count_tick_calm, drop_calm, finish_op_calm, run_tick_calm, hold_calm, set_class_weighs, walk_from_calm, passed_on_calm, remark_alike, charge_alike}
 use Rattle.sd_laws.proofs.Goes.{All, Others, Goes, Puts, single_back, calm_goes, goes_alike, calm_puts, weighs_puts, puts_alike, puts_to, put_puts, woken_puts, dispatched_goes, stolen_goes, sent_away_puts}
-use Rattle.sd_laws.proofs.Basics.{none_of, none_some, runs_one, running_rests}
+use Rattle.sd_laws.proofs.Basics.{none_of, runs_one, running_rests}
 use Rattle.sd_laws.proofs.Calls.{some_ready, most_ready, charge_called, remark_called, tick_base, requeue_base, other_base}
 use Rattle.sd_laws.proofs.Joins.{nobody_runs}
 use Rattle.sd_laws.proofs.Outcomes.{Known, Home, IsOff, Rests, Remarks, Outcome, stays_rests, put_off, queue_off, queue_here, put_home, requeued_home, runs_at, queued_at, ready_at, queue_home, neighbour_set}
 use Rattle.sd_laws.proofs.Outcomes.Outcome.{alike, weighed, puts, leaves, comes}
 use Rattle.sd_laws.proofs.Words.{weighs_to, preempted_goes, yielded_goes, done_goes, napped_goes, asleep_goes, blocked_goes, released_weighs, cv_waited_goes, woken_weight, handed_puts, unblocked_puts, reader_puts, writer_puts, roused_puts, woke_puts_one, walked_weighs}
+use Rattle.std.proofs.lemmas.Option.{none-some}
 
 -- Places.
 
@@ -245,7 +246,7 @@ module _ (w : Work) (s : State) (k : Known w s) (n : ℕ) (c : CpuId) (c_in : c.
       here y is = fell (nat_lt (eff_of q t) (eff_of s t)) refl
         where
           runs : is_running y.0 (thread_of s t).place ≡ true
-          runs = ap (is_running y.0) is ∙ same_id y.0
+          runs = ap (is_running y.0) is ∙ same_itself y.0
 
           rests : Rests s t x
           rests = inr (running_rests y.0 (thread_of s t).place runs)
@@ -339,7 +340,7 @@ module _ (w : Work) (s : State) (k : Known w s) (n : ℕ) (c : CpuId) (c_in : c.
 
   -- who is preempted is bound here or nowhere
   preempt_bound : (b : Option CpuId) → (b ≡ None) ⊎ ((d : CpuId) × (b ≡ Some d) × (d.0 ≡ c.0)) → (d : CpuId) → b ≡ Some d → d.0 ≡ c.0
-  preempt_bound b (inl none) d is = absurd (none_some d (sym none ∙ is))
+  preempt_bound b (inl none) d is = absurd (none-some d (sym none ∙ is))
   preempt_bound b (inr (f, at, same)) d is = let e : d ≡ f = cc in ap (λ (y : CpuId). y.0) e ∙ same
 
   -- and so is who runs where the kernel's mark is not set
@@ -451,7 +452,7 @@ module _ (w : Work) (s : State) (k : Known w s) (n : ℕ) (c : CpuId) (c_in : c.
       let unbound = none_of (thread_of s t.0).body.bound (and_right (is_queued v.0 (thread_of s t.0).place) (is_none (thread_of s t.0).body.bound) found.stands) in
       comes t.0 c (weight_part (thread_of s t.0)) refl
       (calm_goes (Others c.0) s (drop_ageing s c.0 e) _ t.0 (Running c) _ (drop_calm s c.0 e) (stolen_goes (drop_ageing s c.0 e) c t.0 (in_drop e t.0 found.inside)))
-      (nobody cause.0.idle.nobody) (sym (neighbour_set w s k c.0 v cause.2) ∙ (queued_at w s k t.0 v queued).0) (λ d is. absurd (none_some d (sym unbound ∙ is)))
+      (nobody cause.0.idle.nobody) (sym (neighbour_set w s k c.0 v cause.2) ∙ (queued_at w s k t.0 v queued).0) (λ d is. absurd (none-some d (sym unbound ∙ is)))
       (λ u here. absurd (some_ready s c.0 u here cause.1)) (off_by (is_queued v.0) (λ d. refl) (thread_of s t.0).place queued)
 
   -- Each event.

@@ -4,7 +4,7 @@ use Rattle.std.specs.Prelude.{nat_lt}
 use Rattle.std.specs.List.{list_any}
 use Rattle.std.proofs.lemmas.Bool.{cases_Bool, cases_lt, eqb-true, eq-eqb, false≢true}
 use Rattle.std.proofs.lemmas.Bool.Decides.{nat_tests}
-use Rattle.std.proofs.lemmas.Option.{none-some}
+use Rattle.std.proofs.lemmas.Option.{none-some, same_Some}
 use Rattle.sd_types.specs.declared.numbers.LockId.{LockId}
 use Rattle.sd_types.specs.Priorities.{eff, base_of, greatest_willed}
 use Rattle.sd_types.specs.Scripts.{is_lock}
@@ -13,7 +13,6 @@ use Rattle.sd_types.specs.Works.{is_distinct}
 use Rattle.sd_types.proofs.PriorityLemmas.{greatest-base}
 use Rattle.sd_types.proofs.WilledLemmas.{for-here, for-later, lock_self}
 use Rattle.sd_machine.specs.Graphs as G
-use Rattle.sd_machine.proofs.Chains.{some_is}
 use Rattle.sd_state.specs.declared.states.Place.{Place}
 use Rattle.sd_state.specs.declared.states.Place.TheVariants.{Running, Queued, RealTime, Waiting, Asleep, Napping, Ended}
 use Rattle.sd_state.specs.declared.states.ThreadState.{ThreadState}
@@ -69,7 +68,7 @@ greatest_of l (x ∷ xs) = elim (cases_Bool (is_waiting l x.place)) [
 
 -- waiting, in both words
 pub on_waits : (l : ℕ) (p : Place) → (w : G.Wait) × (wait_of p ≡ Some w) × (w.lock ≡ l) → is_waiting l p ≡ true
-on_waits l (Waiting m side k) (w, is, at) = eq-eqb m.0 l (ap (λ (x : G.Wait). x.lock) (some_is _ w is) ∙ at)
+on_waits l (Waiting m side k) (w, is, at) = eq-eqb m.0 l (ap (λ (x : G.Wait). x.lock) (same_Some _ w is) ∙ at)
 on_waits l (Running c) (w, is, at) = absurd (none-some w is)
 on_waits l (Queued c k) (w, is, at) = absurd (none-some w is)
 on_waits l (RealTime q k) (w, is, at) = absurd (none-some w is)
@@ -96,7 +95,7 @@ exact_waiting s l = by (greatest_waiting l s.threads) (greatest_of l s.threads)
 willed_at_most : (n : ℕ) (ws : Numbers) (l : LockId) (k : ℕ) → number_for l ws ≡ Some k → k ≤ greatest_willed n ws
 willed_at_most n [] l k e = absurd (none-some k e)
 willed_at_most n (w ∷ ws) l k e = elim (cases_Bool (is_lock l w.0)) [
-  | inl h ↦ let is : w.1 ≡ k = some_is w.1 k (sym (for-here l w ws h) ∙ e) in omega (arith, is)
+  | inl h ↦ let is : w.1 ≡ k = same_Some w.1 k (sym (for-here l w ws h) ∙ e) in omega (arith, is)
   | inr h ↦ let r = willed_at_most n ws l k (sym (for-later l w ws h) ∙ e) in omega (arith, r)
 ]
 

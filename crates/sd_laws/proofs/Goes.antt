@@ -4,6 +4,7 @@ use Rattle.std.specs.Prelude.{⊤, if◌then◌else◌, nat_lt, ◌==◌}
 use Rattle.std.proofs.lemmas.Bool.{cases_eq, eqb-true, false≢true}
 use Rattle.std.proofs.lemmas.Bool.Decides.{nat_tests}
 use Rattle.std.proofs.lemmas.List.{length-set, get_or-set_same, get_or-set_other}
+use Rattle.sd_basics.proofs.Numbers.{same_itself}
 use Rattle.sd_types.specs.declared.numbers.CpuId.{CpuId}
 use Rattle.sd_types.specs.declared.classes.ClassState.{ClassState}
 use Rattle.sd_types.specs.declared.events.Put.{Put}
@@ -29,7 +30,6 @@ use Rattle.sd_frames.proofs.PlaceTable.{place_part}
 use Rattle.sd_frames.proofs.HoldTable.{bound_part}
 use Rattle.sd_invariants.proofs.OpenLemmas.{place_part as set_part}
 use Rattle.sd_frames.proofs.Found.{runner_found}
-use Rattle.sd_invariants.proofs.BoundLemmas.{same_id}
 use Rattle.sd_laws.proofs.Alike.{Weight, weight_part, heft, marks_part, IsBusy, Keeps, busy_on, Calm, Alike, Weighs, marked_is, mark_over_alike, set_class_weighs}
 use Rattle.sd_laws.proofs.Joins.{nobody_runs}
 
@@ -264,7 +264,7 @@ stolen_goes s c t inside = record {
   kernel = λ d other e. e;
   marks = λ d other e. e;
   fresh = λ d e. elim (cases_eq d c.0) [
-    | inl is ↦ inr (record { who = t; runs = ap (is_running d) moves.at ∙ subst (λ i. (c.0 == i) ≡ true) (sym is) (same_id c.0) })
+    | inl is ↦ inr (record { who = t; runs = ap (is_running d) moves.at ∙ subst (λ i. (c.0 == i) ≡ true) (sym is) (same_itself c.0) })
     | inr other ↦ inl (other, e)
   ];
 }

@@ -7,6 +7,8 @@ use Rattle.std.proofs.lemmas.Bool.{false≢true, cases_Bool, cases_lt}
 use Rattle.std.proofs.lemmas.Bool.Decides.{nat_tests}
 use Rattle.std.proofs.lemmas.List.Sums.{sum_by-cons}
 use Rattle.std.proofs.lemmas.Option.{same_Some}
+use Rattle.sd_basics.proofs.Numbers.{same_itself}
+use Rattle.sd_basics.proofs.Truths.{and_left, same_truth}
 use Rattle.sd_types.specs.declared.numbers.ChanId.{ChanId}
 use Rattle.sd_types.specs.declared.numbers.CpuId.{CpuId}
 use Rattle.sd_types.specs.declared.numbers.Side.TheVariants.{Writer, Reader}
@@ -26,7 +28,6 @@ use Rattle.sd_state.specs.declared.states.State.{State}
 use Rattle.sd_state.specs.Operations.{script_of}
 use Rattle.sd_state.specs.Opening.{first_thread, first_threads, opening}
 use Rattle.sd_state.specs.States.{no_thread, thread_of, cpu_of}
-use Rattle.sd_state.proofs.BestLemmas.{and_left}
 use Rattle.sd_machine.specs.Changes.{back_key, place_put}
 use Rattle.sd_machine.specs.Events.{after}
 use Rattle.sd_machine.specs.Runs.{final, IsReached}
@@ -42,7 +43,7 @@ use Rattle.sd_invariants.proofs.Works.{op_named}
 use Rattle.sd_laws.specs.HistoryLaws.{put_to_sleep, finds_nobody, chan_kind, declared_count, is_taken, is_counted_up, is_sema_p, is_sema_v, thread_numbers, ops_done, sleepers_on, SemaphoresBalance, SemaphoreWaitersSleepUntilHanded, SleepersWaitAtZero}
 use Rattle.sd_laws.proofs.Balance.{ends_one, grows, in_work, p_blind, v_blind, sums_above, sums_put}
 use Rattle.sd_laws.proofs.Carried.{IsCarried, carried_from, met_from, reached_at, split}
-use Rattle.sd_laws.proofs.Counts.{ones, zeros_law, count_goes, opening_count, opening_awake, fell_asleep, chan_no_sema, same_test}
+use Rattle.sd_laws.proofs.Counts.{ones, zeros_law, count_goes, opening_count, opening_awake, fell_asleep, chan_no_sema}
 use Rattle.sd_laws.proofs.Rousing.{RousingChans, rouses_chan, rousing_after, rousing_reached, opening_rousing}
 use Rattle.sd_laws.proofs.Runnable.{steps_after}
 use Rattle.sd_laws.proofs.Sleepers.{sleeps, found, falls, running_awake, sleeper_kept}
@@ -138,16 +139,11 @@ asleep_is k (Asleep j key) is = (key, ap (λ (i : ChanId). Asleep i key) (sym (s
 asleep_is k p is = cc
 
 is_at : (k : ChanId) (p : Place) (key : ℤ) → p ≡ Asleep k key → is_asleep k.0 p ≡ true
-is_at k p key is = ap (is_asleep k.0) is ∙ same_test k.0
-
-same_bool : (a b : Bool) → (a ≡ true → b ≡ true) → (b ≡ true → a ≡ true) → a ≡ b
-same_bool true b to from = sym (to refl)
-same_bool false true to from = from refl
-same_bool false false to from = refl
+is_at k p key is = ap (is_asleep k.0) is ∙ same_itself k.0
 
 -- what puts a thread to sleep on a semaphore waits for it
 waits_there : (w : Work) (s : State) (c : ℕ) (e : Event) (t : ThreadId) (k : ChanId) → is_sema (chan_kind w k.0) ≡ true → IsCause w s c e → put_to_sleep e ≡ Some (t, k) → waits_on k.0 e ≡ true
-waits_there w s c (SemaWait u j) t k sema cause is = subst (λ (i : ChanId). (j.0 == i.0) ≡ true) (ap (λ x. x.1) (same_Some (u, j) (t, k) is)) (same_test j.0)
+waits_there w s c (SemaWait u j) t k sema cause is = subst (λ (i : ChanId). (j.0 == i.0) ≡ true) (ap (λ x. x.1) (same_Some (u, j) (t, k) is)) (same_itself j.0)
 waits_there w s c (Sleep u j) t k sema cause is = absurd (no_sema w j k (op_named w u.0 (thread_of s u.0).body.op (op.Sleep j) cause.stands) sema (ap (λ x. x.1) (same_Some (u, j) (t, k) is)))
 waits_there w s c (CvWait u j l) t k sema cause is =
     absurd (no_sema w j k (and_left _ (is_mutex _) (op_named w u.0 (thread_of s u.0).body.op (op.CvWait j l) cause.stands)) sema (ap (λ x. x.1) (same_Some (u, j) (t, k) is)))
@@ -158,7 +154,7 @@ module _ (w : Work) (s : State) (n : ℕ) (c : CpuId) (ready : IsReady w s) (rou
   SleepersGo e = sleepers_on w (after w s n c e) k.0 + ones (hands_on k.0 e) ≡ sleepers_on w s k.0 + ones (waits_on k.0 e)
 
   same_asleep : (e : Event) → IsCause w s c.0 e → waits_on k.0 e ≡ false → hands_on k.0 e ≡ false → (u : ℕ) → is_asleep k.0 (thread_of (after w s n c e) u).place ≡ is_asleep k.0 (thread_of s u).place
-  same_asleep e cause unwaited unhanded u = same_bool (is_asleep k.0 (thread_of (after w s n c e) u).place) (is_asleep k.0 (thread_of s u).place) to from
+  same_asleep e cause unwaited unhanded u = same_truth (is_asleep k.0 (thread_of (after w s n c e) u).place) (is_asleep k.0 (thread_of s u).place) to from
     where
       to : is_asleep k.0 (thread_of (after w s n c e) u).place ≡ true → is_asleep k.0 (thread_of s u).place ≡ true
       to is =
@@ -173,7 +169,7 @@ module _ (w : Work) (s : State) (n : ℕ) (c : CpuId) (ready : IsReady w s) (rou
           let (key, asleep) = asleep_is k (thread_of s u).place is in
           let unwoken : woken_by e ≢ Some u = λ wakes.
           let hands = sema_woken w s c.0 k sema e u key cause rousing asleep wakes in
-          false≢true (sym unhanded ∙ ap (hands_on k.0) hands.2 ∙ same_test k.0) in
+          false≢true (sym unhanded ∙ ap (hands_on k.0) hands.2 ∙ same_itself k.0) in
           is_at k (thread_of (after w s n c e) u).place key (sleeper_kept w s n c e u ready cause unwoken (ap sleeps asleep) ∙ asleep)
 
   same_sleepers : (e : Event) → IsCause w s c.0 e → waits_on k.0 e ≡ false → hands_on k.0 e ≡ false → SleepersGo e

@@ -1,6 +1,7 @@
 -- Threads belong to their places behind each event that changes no set and no binding.
 use Rattle.std.proofs.Common.{◌≡◌, ℕ, true, false, Option, Some, sym, ap, ◌∙◌, subst, inl, inr, ◌⊎◌, arith}
 use Rattle.std.proofs.lemmas.Bool.{false≢true}
+use Rattle.sd_basics.proofs.Numbers.{same_itself}
 use Rattle.sd_types.specs.declared.numbers.CpuId.{CpuId}
 use Rattle.sd_types.specs.declared.numbers.SetId.{SetId}
 use Rattle.sd_types.specs.declared.works.Work.{Work}
@@ -13,7 +14,6 @@ use Rattle.sd_invariants.specs.Laws.{is_runnable}
 use Rattle.sd_machine.proofs.Moves.{IsSame, put_cases}
 use Rattle.sd_frames.proofs.CpuWords.{of_cpus}
 use Rattle.sd_invariants.proofs.OpenLemmas.{place_part as set_part}
-use Rattle.sd_invariants.proofs.BoundLemmas.{same_id}
 use Rattle.sd_laws.specs.Belonging.{MayQueue, BelongsAt, IsBoundInSet, Belongs, ThreadsBelong}
 use Rattle.sd_laws.proofs.Alike.{Weight, heft}
 use Rattle.sd_laws.proofs.Goes.{Single}
@@ -49,8 +49,8 @@ frame_belongs w s r t f home = record {
     by : (p : Place) → BelongsAt s set (eff_of s t) b p → (eff_of r t ≡ eff_of s t) ⊎ (is_runnable p ≡ false)
         → ((d : ℕ) → is_running d p ≡ true → ((cpu_of r d).set ≡ (cpu_of s d).set) × ((cpu_of s d).kernel ≡ true → (cpu_of r d).kernel ≡ true))
         → ((d : ℕ) → is_queued d p ≡ true → (cpu_of r d).set ≡ (cpu_of s d).set) → BelongsAt r set (eff_of r t) b p
-    by (Running c) at rests runs queued = let now = runs c.0 (same_id c.0) in (now.0 ∙ at.0, λ d is other. now.1 (at.1 d is other))
-    by (Queued c k) at (inl same) runs queued = (queued c.0 (same_id c.0) ∙ at.0, may c at.1 same)
+    by (Running c) at rests runs queued = let now = runs c.0 (same_itself c.0) in (now.0 ∙ at.0, λ d is other. now.1 (at.1 d is other))
+    by (Queued c k) at (inl same) runs queued = (queued c.0 (same_itself c.0) ∙ at.0, may c at.1 same)
     by (Queued c k) at (inr off) runs queued = cc
     by (RealTime q k) at (inl same) runs queued = ((let high = at.0 in omega (arith, high, same)), at.1, at.2)
     by (RealTime q k) at (inr off) runs queued = cc
@@ -61,7 +61,7 @@ frame_belongs w s r t f home = record {
 
 -- a thread that has gone to a place off the processors
 pub moved_belongs : (s r : State) (set : SetId) (p : ℕ) (b : Option CpuId) (place : Place) → ((d : ℕ) → (cpu_of r d).set ≡ (cpu_of s d).set) → IsOff place → BelongsAt s set p b place → BelongsAt r set p b place
-moved_belongs s r set p b (Running c) same off at = absurd (false≢true (sym (off c.0) ∙ same_id c.0))
+moved_belongs s r set p b (Running c) same off at = absurd (false≢true (sym (off c.0) ∙ same_itself c.0))
 moved_belongs s r set p b (Queued c k) same off at = (same c.0 ∙ at.0, at.1)
 moved_belongs s r set p b (RealTime q k) same off at = at
 moved_belongs s r set p b (Waiting l side k) same off at = tt

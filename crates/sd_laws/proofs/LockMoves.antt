@@ -2,6 +2,7 @@
 use Rattle.std.proofs.Common.{◌≡◌, ◌≢◌, ℕ, ◌-◌, ◌<◌, true, false, length, set, Option, Some, None, refl, sym, ap, ◌∙◌, subst, inl, inr}
 use Rattle.std.specs.Prelude.{option_map, List}
 use Rattle.std.proofs.lemmas.Bool.{cases_eq}
+use Rattle.sd_basics.proofs.Truths.{and_left}
 use Rattle.sd_types.specs.declared.numbers.ChanId.{ChanId}
 use Rattle.sd_types.specs.declared.numbers.CpuId.{CpuId}
 use Rattle.sd_types.specs.declared.numbers.LockId.{LockId}
@@ -21,7 +22,6 @@ use Rattle.sd_machine.specs.Graphs as G
 use Rattle.sd_machine.proofs.HolderLemmas.{owner_alone, free_unheld}
 use Rattle.sd_machine.proofs.Moves.{IsSame, IsPut, SameEff, IsQuiet, IsBlock, IsRelease, IsAcquire, IsLeave, none_some, unowned}
 use Rattle.sd_machine.proofs.Steps.{exact_stays}
-use Rattle.sd_machine.proofs.Chains.{some_is}
 use Rattle.sd_state.specs.declared.states.LockState.{LockState}
 use Rattle.sd_state.specs.declared.states.LockState.TheVariants.{Free, Owned, ReadHeld, Passing}
 use Rattle.sd_state.specs.declared.states.Place.TheVariants.{Ended}
@@ -29,7 +29,6 @@ use Rattle.sd_state.specs.declared.states.ThreadState.{ThreadState}
 use Rattle.sd_state.specs.declared.states.State.{State}
 use Rattle.sd_state.specs.States.{no_thread, thread_of, cpu_of, with_thread}
 use Rattle.sd_state.specs.Operations.{op_of}
-use Rattle.sd_state.proofs.BestLemmas.{and_left}
 use Rattle.sd_machine.specs.Threads.{thread_id, lock_of, best_waiter}
 use Rattle.sd_machine.specs.Changes.{back_key, place_put, set_duty}
 use Rattle.sd_machine.specs.Locking.{side_of, others_waiting, granted, granted_to_writer, granted_to_reader, one_reader_more}
@@ -62,6 +61,7 @@ use Rattle.sd_laws.proofs.Fields.{dropped_same}
 use Rattle.sd_laws.proofs.QuietMoves.{seen_eff, seen_eff_but, runs_away, steps, passed_unowned}
 use Rattle.sd_laws.proofs.Views.{no_wait, quiet_waits, leaves_waits, comes_waits, same_owners, put_owners, kept_owners, same_willed, its_willed, other_willed}
 use Rattle.sd_laws.proofs.WalkTable.{walk_part, walk_marks, Walks, drop_walks, after_walks, cause_walks}
+use Rattle.std.proofs.lemmas.Option.{same_Some}
 
 module _ (w : Work) (s : State) (n : ℕ) (c : CpuId) (ready : IsReady w s) where
   -- A thread blocks.
@@ -257,7 +257,7 @@ module _ (w : Work) (s : State) (n : ℕ) (c : CpuId) (ready : IsReady w s) wher
   waits_there : (l : LockId) (side : Side) (u : ℕ) → best_waiter s l.0 side ≡ Some u → (v : G.Wait) → wait_of (thread_of s u).place ≡ Some v → v.lock ≡ l.0
   waits_there l side u best v is =
       let (k, at) = waits_here l side (thread_of s u).place (waiter_found s l.0 side u best).stands in
-      ap (λ (x : G.Wait). x.lock) (some_is v (record { lock = l.0; key = k }) (sym is ∙ ap wait_of at))
+      ap (λ (x : G.Wait). x.lock) (same_Some v (record { lock = l.0; key = k }) (sym is ∙ ap wait_of at))
 
   -- it waits no more, and the lock is owned by nobody as before
   left_alone : (r : State) (l : LockId) (side : Side) (u : ℕ) → best_waiter s l.0 side ≡ Some u → owner_of (lock_of s l.0) ≡ None → IsPut u None (graph s).waits (graph r).waits

@@ -31,7 +31,7 @@ use Rattle.sd_invariants.proofs.Whole.{reached_whole}
 use Rattle.sd_invariants.proofs.Induction.{held_reached}
 use Rattle.sd_laws.proofs.Alike.{Weight, weight_part, heft, IsBusy}
 use Rattle.sd_laws.proofs.All.{runs_inside, single, known, runs_there, threads_belong}
-use Rattle.sd_laws.proofs.Basics.{none_some, runs_one, queued_runnable}
+use Rattle.sd_laws.proofs.Basics.{runs_one, queued_runnable}
 use Rattle.sd_laws.proofs.Events.{keeps_sets, event_out}
 use Rattle.sd_laws.proofs.Goes.{All, Single, Puts}
 use Rattle.sd_laws.proofs.OnePlace.{one_runs}
@@ -39,6 +39,7 @@ use Rattle.sd_laws.proofs.Outcomes.{IsOff, Outcome, put_off}
 use Rattle.sd_laws.proofs.Outcomes.Outcome.{alike, weighed, puts, leaves, comes}
 use Rattle.sd_laws.proofs.Settle.{drop_stands, bind_is}
 use Rattle.sd_laws.proofs.Special.{Stands, BindIs, alike_stands, then_stands, joined_stands, assigned_stands}
+use Rattle.std.proofs.lemmas.Option.{none-some}
 
 -- what is kept of the marks
 pub record Marked (s : State) : Type 0 where
@@ -190,12 +191,12 @@ module _ (s r : State) (one : Single s) (there : RunnersThere s) (marked : Marke
 -- A binding that puts a thread puts one that does not run.
 
 bound_off : (d : CpuId) (p : Place) (a : Put) → bound_put d p ≡ Some a → IsOff p
-bound_off d (Running c) a e x = absurd (none_some a e)
+bound_off d (Running c) a e x = absurd (none-some a e)
 bound_off d p a e x = refl
 
 unbound_off : (m : ℕ) (b : Option CpuId) (p : Place) (a : Put) → unbound_put m b p ≡ Some a → IsOff p
-unbound_off m (Some b) (Running c) a e x = absurd (none_some a e)
-unbound_off m None (Running c) a e x = absurd (none_some a e)
+unbound_off m (Some b) (Running c) a e x = absurd (none-some a e)
+unbound_off m None (Running c) a e x = absurd (none-some a e)
 unbound_off m b p a e x = refl
 
 bind_off : (s : State) (u : ℕ) (d : Option CpuId) (a : Put) → bind_put s u d ≡ Some a → IsOff (thread_of s u).place

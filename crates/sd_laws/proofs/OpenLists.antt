@@ -6,6 +6,8 @@ use Rattle.std.proofs.lemmas.Bool.{cases_eq, eq-eqb, eqb-true, false≢true, or_
 use Rattle.std.proofs.lemmas.Bool.Decides.{nat_tests}
 use Rattle.std.proofs.lemmas.List.{length-set}
 use Rattle.std.proofs.lemmas.List.FromFn.{get_or-map-range_with_len}
+use Rattle.sd_basics.proofs.Numbers.{same_itself}
+use Rattle.sd_basics.proofs.Truths.{and_left, and_right}
 use Rattle.arrayvec.specs.ArrayVec.{ArrayVec}
 use Rattle.sd_types.specs.declared.numbers.CpuId.{CpuId}
 use Rattle.sd_types.specs.declared.numbers.SetId.{SetId}
@@ -20,7 +22,6 @@ use Rattle.sd_state.specs.declared.states.CpuState.{CpuState}
 use Rattle.sd_state.specs.declared.states.State.{State}
 use Rattle.sd_state.specs.States.{no_cpu, cpu_of, with_cpu}
 use Rattle.sd_state.specs.Opening.{open_list, opening}
-use Rattle.sd_state.proofs.BestLemmas.{and_right, and_left}
 use Rattle.sd_state.proofs.OpeningSets.{opening_set}
 use Rattle.sd_machine.specs.Threads.{no_cpus, open_of, with_open, runner}
 use Rattle.sd_machine.specs.Changes.{with_cpu_in, without_cpu, close, join}
@@ -37,13 +38,13 @@ use Rattle.sd_frames.proofs.FieldWords as F
 use Rattle.sd_frames.proofs.PlainWords.{drop_keeps}
 use Rattle.sd_invariants.proofs.OpenLemmas.{place_part, place_marks, places_plain, SamePlaces, cpus_same, open_field, finish_open, open_same, other_place}
 use Rattle.sd_invariants.proofs.Whole.{reached_whole}
-use Rattle.sd_invariants.proofs.BoundLemmas.{same_id}
 use Rattle.sd_invariants.specs.There.{IsSetThere}
 use Rattle.sd_invariants.proofs.Induction.{held_reached}
 use Rattle.sd_invariants.proofs.Named.{acts_named, assign_cpu}
 use Rattle.sd_invariants.proofs.Sets.{SetsAreThere, sets_are_there, sets_are_open, open_written}
 use Rattle.sd_laws.specs.Belonging.{open_cpus, OpenListsAreExact}
-use Rattle.sd_laws.proofs.Basics.{none_of, none_some, same_cpu}
+use Rattle.sd_laws.proofs.Basics.{none_of, same_cpu}
+use Rattle.std.proofs.lemmas.Option.{none-some}
 
 -- Lists of processors.
 
@@ -58,11 +59,11 @@ still_in c d (x ∷ xs) other e = by (x.0 == d.0) (x.0 == c) refl refl (λ f. st
     by false false is here more f = or_right (x.0 == c) (is_in c (without_cpu d xs)) (more f)
 
 with_itself : (c : CpuId) (xs : List CpuId) → is_in c.0 (with_cpu_in c xs) ≡ true
-with_itself c [] = rw (same_id c.0) refl
+with_itself c [] = rw (same_itself c.0) refl
 with_itself c (x ∷ xs) = by (nat_lt c.0 x.0) (with_itself c xs)
   where
     by : (b : Bool) → is_in c.0 (with_cpu_in c xs) ≡ true → is_in c.0 (if b then (c ∷ (x ∷ xs)) else (x ∷ with_cpu_in c xs)) ≡ true
-    by true more = rw (same_id c.0) refl
+    by true more = rw (same_itself c.0) refl
     by false more = or_right (x.0 == c.0) (is_in c.0 (with_cpu_in c xs)) more
 
 with_others : (d : ℕ) (c : CpuId) (xs : List CpuId) → is_in d xs ≡ true → is_in d (with_cpu_in c xs) ≡ true
@@ -109,7 +110,7 @@ close_listed w s d to inside lists listed c here opened = by (open_written s p0 
     other : c ≢ d.0
     other e =
         let now : place_part (cpu_of (with_cpu wrote d.0 x) d.0) ≡ (x.set, Some to) = (put_item place_part s.cpus no_cpu d.0 x inside).at in
-        none_some to (sym opened ∙ ap (λ i. (cpu_of (with_cpu wrote d.0 x) i).closing) e ∙ ap (λ (y : SetId × Option SetId). y.1) now)
+        none-some to (sym opened ∙ ap (λ i. (cpu_of (with_cpu wrote d.0 x) i).closing) e ∙ ap (λ (y : SetId × Option SetId). y.1) now)
 
     same : place_part (cpu_of (with_cpu wrote d.0 x) c) ≡ place_part (cpu_of s c)
     same = other_place wrote d.0 x c other
@@ -209,7 +210,7 @@ opening_listed : (w : Work) → AreListed w (opening w)
 opening_listed w c here opened =
     subst (λ i. is_in c (open_of (opening w) i) ≡ true) (sym (opening_set w c here))
     (subst (λ xs. is_in c xs ≡ true) (sym (first_list w (set_of_cpu w c) (set-at_most w c)))
-    (names-passing w.cpus 0 c (λ d. set_of_cpu w d == set_of_cpu w c) (omega arith) (omega (arith, here)) (same_id (set_of_cpu w c))))
+    (names-passing w.cpus 0 c (λ d. set_of_cpu w d == set_of_cpu w c) (omega arith) (omega (arith, here)) (same_itself (set_of_cpu w c))))
 
 pub are_listed : HoldsWhenReached AreListed
 are_listed = held_reached AreListed (record {
@@ -227,7 +228,7 @@ in_later c d ds e = by (d.0 == c) refl e
     by false is e = inr e
 
 in_first : (d : CpuId) (ds : List CpuId) → is_in d.0 (d ∷ ds) ≡ true
-in_first d ds = rw (same_id d.0) refl
+in_first d ds = rw (same_itself d.0) refl
 
 rising_least : (n c : ℕ) (xs : List CpuId) → IsRising n xs → is_in c xs ≡ true → n ≤ c
 rising_least n c [] rises e = cc

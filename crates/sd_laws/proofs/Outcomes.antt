@@ -4,7 +4,7 @@ use Rattle.std.specs.Prelude.{if◌then◌else◌, filter, nat_lt, nat_le, ◌==
 use Rattle.std.specs.List.{Contains}
 use Rattle.std.proofs.lemmas.Bool.{eqb-true, or_right}
 use Rattle.std.proofs.lemmas.Bool.Decides.{nat_tests}
-use Rattle.std.proofs.lemmas.Option.{same_Some}
+use Rattle.std.proofs.lemmas.Option.{same_Some, none-some}
 use Rattle.sd_types.specs.declared.numbers.CpuId.{CpuId}
 use Rattle.sd_types.specs.declared.bodies.ThreadBody.{ThreadBody}
 use Rattle.sd_types.specs.declared.events.Put.{Put}
@@ -28,7 +28,7 @@ use Rattle.sd_invariants.specs.Laws.{is_in, is_runnable}
 use Rattle.sd_invariants.proofs.Whole.{IsWhole}
 use Rattle.sd_laws.specs.Belonging.{MayQueue, MayRun, BelongsAt, ThreadsBelong}
 use Rattle.sd_laws.proofs.Alike.{Weight, heft, Alike, Weighed}
-use Rattle.sd_laws.proofs.Basics.{none_some, same_cpu}
+use Rattle.sd_laws.proofs.Basics.{same_cpu}
 use Rattle.sd_laws.proofs.Goes.{All, Others, Goes, Single, Puts}
 use Rattle.sd_invariants.proofs.Places.{only_item, never_stays, never_anew}
 
@@ -202,7 +202,7 @@ module _ (w : Work) (s : State) (k : Known w s) where
       by place home is = cc
 
   bound_here : (b : Option CpuId) (p : ℕ) (c : CpuId) → MayQueue p b c → (d : CpuId) → b ≡ Some d → d.0 ≡ c.0
-  bound_here b p c (inl low) d is = absurd (none_some d (sym low.0 ∙ is))
+  bound_here b p c (inl low) d is = absurd (none-some d (sym low.0 ∙ is))
   bound_here b p c (inr here) d is = ap (λ (y : CpuId). y.0) (same_Some d c (sym is ∙ here))
 
   -- of one that is ready for a processor
@@ -220,7 +220,7 @@ module _ (w : Work) (s : State) (k : Known w s) where
       by (Queued e key) home is =
           let same : e ≡ c = same_cpu e c (eqb-true e.0 c.0 (left (e.0 == c.0) is)) in
           (ap (λ (y : CpuId). (cpu_of s y.0).set) (sym same) ∙ home.0, λ d at. bound_here bound (eff_of s t) e home.1 d at ∙ ap (λ (y : CpuId). y.0) same)
-      by (RealTime q key) home is = (sym (same_set q (cpu_of s c.0).set (eqb-true q.0 (cpu_of s c.0).set.0 is)) ∙ home.2, λ d at. absurd (none_some d (sym home.1 ∙ at)))
+      by (RealTime q key) home is = (sym (same_set q (cpu_of s c.0).set (eqb-true q.0 (cpu_of s c.0).set.0 is)) ∙ home.2, λ d at. absurd (none-some d (sym home.1 ∙ at)))
       by place home is = cc
 
   -- a thread that leaves processor c for a queue

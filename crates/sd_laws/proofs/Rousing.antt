@@ -5,6 +5,7 @@ use Rattle.std.specs.Prelude.{⊤, ℤ, if◌then◌else◌, is_none, is_some, i
 use Rattle.std.specs.Ordering.{int_eq}
 use Rattle.std.specs.List.{range_with_len}
 use Rattle.std.proofs.lemmas.Bool.{cases_lt}
+use Rattle.sd_basics.proofs.Lists.{set_past}
 use Rattle.sd_types.specs.declared.numbers.ChanId.{ChanId}
 use Rattle.sd_types.specs.declared.numbers.CpuId.{CpuId}
 use Rattle.sd_types.specs.declared.numbers.LockId.{LockId}
@@ -55,7 +56,7 @@ use Rattle.sd_invariants.specs.Laws.{HoldsWhenReached}
 use Rattle.sd_frames.proofs.CpuWords as C
 use Rattle.sd_frames.proofs.LockTable as T
 use Rattle.sd_frames.proofs.LockTable.{duty_part, duty_marks}
-use Rattle.sd_frames.proofs.Parts.{put_item, set_past}
+use Rattle.sd_frames.proofs.Parts.{put_item}
 use Rattle.sd_invariants.proofs.Ready.{kept_reached}
 use Rattle.sd_invariants.proofs.Works.{op_named}
 use Rattle.sd_laws.specs.HistoryLaws.{chan_kind}

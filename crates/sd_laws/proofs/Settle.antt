@@ -4,7 +4,8 @@ use Rattle.std.specs.Prelude.{if◌then◌else◌, nat_le, ◌==◌}
 use Rattle.std.proofs.lemmas.Bool.{cases_eq, cases_lt, eqb-true, false≢true}
 use Rattle.std.proofs.lemmas.Bool.Decides.{nat_tests}
 use Rattle.std.proofs.lemmas.List.{get_or_past}
-use Rattle.std.proofs.lemmas.Option.{same_Some}
+use Rattle.std.proofs.lemmas.Option.{same_Some, none-some}
+use Rattle.sd_basics.proofs.Numbers.{same_itself}
 use Rattle.sd_types.specs.declared.numbers.CpuId.{CpuId}
 use Rattle.sd_types.specs.declared.numbers.SetId.{SetId}
 use Rattle.sd_types.specs.declared.numbers.ThreadId.{ThreadId}
@@ -31,11 +32,11 @@ use Rattle.sd_frames.proofs.Words.{of_threads}
 use Rattle.sd_frames.proofs.HoldTable.{bound_part, pbound_bound}
 use Rattle.sd_invariants.proofs.OpenLemmas.{place_part as set_part, place_marks, places_plain, cpus_same, other_place}
 use Rattle.sd_frames.proofs.PlainWords.{drop_keeps}
-use Rattle.sd_invariants.proofs.BoundLemmas.{threads_same, same_id}
+use Rattle.sd_invariants.proofs.BoundLemmas.{threads_same}
 use Rattle.sd_invariants.proofs.Movers.{bind_put_is}
 use Rattle.sd_laws.specs.Belonging.{BelongsAt, Belongs, ThreadsBelong}
 use Rattle.sd_laws.proofs.Alike.{heft, calm_alike, drop_calm}
-use Rattle.sd_laws.proofs.Basics.{none_some, same_cpu}
+use Rattle.sd_laws.proofs.Basics.{same_cpu}
 use Rattle.sd_laws.proofs.Homes.{frame_belongs}
 use Rattle.sd_laws.proofs.Joins.{assigned_sets, drop_sets, nobody_runs, nobody_queued}
 use Rattle.sd_laws.proofs.Outcomes.{Known, queued_at, runs_at}
@@ -45,7 +46,7 @@ use Rattle.sd_laws.proofs.Special.{Stands, alike_stands, then_stands, joined_sta
 bound_inside : (s : State) (u : ℕ) (f : CpuId) → (thread_of s u).body.bound ≡ Some f → u < length s.threads
 bound_inside s u f is = elim (cases_lt u (length s.threads)) [
   | inl inside ↦ inside
-  | inr past ↦ absurd (none_some f (sym (ap (λ (x : ThreadState). x.body.bound) (get_or_past s.threads u no_thread past)) ∙ is))
+  | inr past ↦ absurd (none-some f (sym (ap (λ (x : ThreadState). x.body.bound) (get_or_past s.threads u no_thread past)) ∙ is))
 ]
 
 pub drop_stands : (s : State) (c : ℕ) (e : Event) → Stands s (drop_ageing s c e)
@@ -106,7 +107,7 @@ module _ (w : Work) (s : State) (k : Known w s) (n : ℕ) (c : CpuId) where
       stands_frame r u (then_stands s q r (drop_stands s c.0 e) (joined_stands q c to)) (bounds_same u)
       (λ x on. ap (λ (y : SetId × Option SetId). y.0) (others x (λ same. false≢true (sym (nobody_runs s c.0 cause.0.nobody u) ∙ subst (λ i. is_running i (thread_of s u).place ≡ true) same on))))
       (λ x on. ap (λ (y : SetId × Option SetId). y.0) (others x (λ same. false≢true (sym (nobody_queued s c.0 cause.2 u (queued_inside x on)) ∙ subst (λ i. is_queued i (thread_of s u).place ≡ true) same on))))
-      (λ f is. others f.0 (λ same. none_some to (sym ((k.homes u).bound f is).1 ∙ ap (λ i. (cpu_of s i).closing) same ∙ cause.1)))
+      (λ f is. others f.0 (λ same. none-some to (sym ((k.homes u).bound f is).1 ∙ ap (λ i. (cpu_of s i).closing) same ∙ cause.1)))
     where
       queued_inside : (x : ℕ) → is_queued x (thread_of s u).place ≡ true → u < length s.threads
       queued_inside x on = elim (cases_lt u (length s.threads)) [
@@ -202,11 +203,11 @@ module _ (w : Work) (s : State) (k : Known w s) (n : ℕ) (c : CpuId) where
         by : (p : Place) → (thread_of s u.0).place ≡ p → at ≡ bound_put f (thread_of s u.0).place → BelongsAt After (set_of w u.0) (eff_of After u.0) (thread_of After u.0).body.bound (thread_of After u.0).place
         by (Running x) stands to =
             let none : at ≡ None = to ∙ ap (bound_put f) stands in
-            stays (Running x) stands none (own x.0 ∙ (runs_at w s k u.0 x (ap (is_running x.0) stands ∙ same_id x.0)).0, λ y bound other. kernel x stands none (subst (λ (z : CpuId). z.0 ≢ x.0) (same_Some y f (sym bound)) other))
+            stays (Running x) stands none (own x.0 ∙ (runs_at w s k u.0 x (ap (is_running x.0) stands ∙ same_itself x.0)).0, λ y bound other. kernel x stands none (subst (λ (z : CpuId). z.0 ≢ x.0) (same_Some y f (sym bound)) other))
         by (Queued x key) stands to = queue (x.0 == f.0) refl (to ∙ ap (bound_put f) stands)
           where
             queue : (b : Bool) → (x.0 == f.0) ≡ b → at ≡ (if b then None else Some (Cpu f)) → BelongsAt After (set_of w u.0) (eff_of After u.0) (thread_of After u.0).body.bound (thread_of After u.0).place
-            queue true same h = stays (Queued x key) stands h (own x.0 ∙ (queued_at w s k u.0 x (ap (is_queued x.0) stands ∙ same_id x.0)).0, inr (ap Some (same_cpu f x (sym (eqb-true x.0 f.0 same)))))
+            queue true same h = stays (Queued x key) stands h (own x.0 ∙ (queued_at w s k u.0 x (ap (is_queued x.0) stands ∙ same_itself x.0)).0, inr (ap Some (same_cpu f x (sym (eqb-true x.0 f.0 same)))))
             queue false same h = goes h
         by (RealTime q key) stands to = goes (to ∙ ap (bound_put f) stands)
         by (Waiting l side key) stands to = stays (Waiting l side key) stands (to ∙ ap (bound_put f) stands) tt
@@ -218,7 +219,7 @@ module _ (w : Work) (s : State) (k : Known w s) (n : ℕ) (c : CpuId) where
     free_home : (b : CpuId) → d ≡ None → (thread_of s u.0).body.bound ≡ Some b → Belongs w After u.0
     free_home b is was = record {
       place = by (thread_of s u.0).place refl (sym put_is ∙ ap (bind_put s u.0) is ∙ ap (λ y. unbound_put (eff_of s u.0) y (thread_of s u.0).place) was);
-      bound = λ x bound. absurd (none_some x (sym (bounds_put.at ∙ is) ∙ bound));
+      bound = λ x bound. absurd (none-some x (sym (bounds_put.at ∙ is) ∙ bound));
     }
       where
         stays : (p : Place) → (thread_of s u.0).place ≡ p → at ≡ None → BelongsAt After (set_of w u.0) (eff_of s u.0) None p → BelongsAt After (set_of w u.0) (eff_of After u.0) (thread_of After u.0).body.bound (thread_of After u.0).place
@@ -226,15 +227,15 @@ module _ (w : Work) (s : State) (k : Known w s) (n : ℕ) (c : CpuId) where
 
         by : (p : Place) → (thread_of s u.0).place ≡ p → at ≡ unbound_put (eff_of s u.0) (Some b) (thread_of s u.0).place → BelongsAt After (set_of w u.0) (eff_of After u.0) (thread_of After u.0).body.bound (thread_of After u.0).place
         by (Running x) stands to =
-            stays (Running x) stands (to ∙ ap (unbound_put (eff_of s u.0) (Some b)) stands) (own x.0 ∙ (runs_at w s k u.0 x (ap (is_running x.0) stands ∙ same_id x.0)).0, λ y bound other. absurd (none_some y bound))
+            stays (Running x) stands (to ∙ ap (unbound_put (eff_of s u.0) (Some b)) stands) (own x.0 ∙ (runs_at w s k u.0 x (ap (is_running x.0) stands ∙ same_itself x.0)).0, λ y bound other. absurd (none-some y bound))
         by (Queued x key) stands to = queue (nat_le 100 (eff_of s u.0)) refl (to ∙ ap (unbound_put (eff_of s u.0) (Some b)) stands)
           where
             queue : (v : Bool) → nat_le 100 (eff_of s u.0) ≡ v → at ≡ (if v then Some (OnRealTime b) else None) → BelongsAt After (set_of w u.0) (eff_of After u.0) (thread_of After u.0).body.bound (thread_of After u.0).place
             queue true high h = its_place None (Some (OnRealTime b)) is h ((grind (arith, nat_tests)), refl, refl)
-            queue false low h = stays (Queued x key) stands h (own x.0 ∙ (queued_at w s k u.0 x (ap (is_queued x.0) stands ∙ same_id x.0)).0, inl (refl, (grind (arith, nat_tests))))
+            queue false low h = stays (Queued x key) stands h (own x.0 ∙ (queued_at w s k u.0 x (ap (is_queued x.0) stands ∙ same_itself x.0)).0, inl (refl, (grind (arith, nat_tests))))
         by (RealTime q key) stands to =
             let home : BelongsAt s (set_of w u.0) (eff_of s u.0) (thread_of s u.0).body.bound (RealTime q key) = subst (λ p. BelongsAt s (set_of w u.0) (eff_of s u.0) (thread_of s u.0).body.bound p) stands (k.homes u.0).place in
-            absurd (none_some b (sym home.1 ∙ was))
+            absurd (none-some b (sym home.1 ∙ was))
         by (Waiting l side key) stands to = stays (Waiting l side key) stands (to ∙ ap (unbound_put (eff_of s u.0) (Some b)) stands) tt
         by (Asleep j key) stands to = stays (Asleep j key) stands (to ∙ ap (unbound_put (eff_of s u.0) (Some b)) stands) tt
         by (Napping x due) stands to = stays (Napping x due) stands (to ∙ ap (unbound_put (eff_of s u.0) (Some b)) stands) tt

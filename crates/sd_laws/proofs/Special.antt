@@ -4,6 +4,7 @@ use Rattle.std.specs.Prelude.{if◌then◌else◌, is_some, nat_lt, ◌==◌}
 use Rattle.std.proofs.lemmas.Bool.{cases_eq, eqb-true, or_parts}
 use Rattle.std.proofs.lemmas.Bool.Decides.{nat_tests}
 use Rattle.std.proofs.lemmas.List.{length-set, get_or-set_same}
+use Rattle.sd_basics.proofs.Numbers.{same_itself}
 use Rattle.sd_types.specs.declared.numbers.CpuId.{CpuId}
 use Rattle.sd_types.specs.declared.numbers.SetId.{SetId}
 use Rattle.sd_types.specs.declared.events.AssignAnswer.TheVariants as assign
@@ -27,7 +28,7 @@ use Rattle.sd_frames.proofs.Parts.{same_item}
 use Rattle.sd_frames.proofs.Words.{of_threads}
 use Rattle.sd_frames.proofs.PlaceTable.{place_part}
 use Rattle.sd_frames.proofs.HoldTable.{bound_part}
-use Rattle.sd_invariants.proofs.BoundLemmas.{is_bound_at, bound_threads, same_id}
+use Rattle.sd_invariants.proofs.BoundLemmas.{is_bound_at, bound_threads}
 use Rattle.sd_laws.proofs.Alike.{weight_part, heft, marks_part, IsBusy, MoreMarks, more_same, Alike, all_calm, calm_alike, busy_by, set_kernel_mark_alike, finish_op_calm}
 use Rattle.sd_laws.proofs.Goes.{All, Puts, put_puts, puts_alike}
 
@@ -132,7 +133,7 @@ pub none_bound : (w : Work) (s : State) (t : ℕ) (d : CpuId) (to : SetId) → a
 none_bound w s t d to answer counts u inside f is same =
     let zero : nat_lt 0 (cpu_of s d.0).bound ≡ false = granted_assignment w s t d to answer in
     let none : (cpu_of s d.0).bound ≤ 0 = grind (arith, nat_tests) in
-    let one = count_one (λ v. is_bound_at d.0 (bound_part (thread_of s v))) u (length s.threads) inside (ap (is_bound_at d.0) is ∙ ap (λ i. i == d.0) same ∙ same_id d.0) in
+    let one = count_one (λ v. is_bound_at d.0 (bound_part (thread_of s v))) u (length s.threads) inside (ap (is_bound_at d.0) is ∙ ap (λ i. i == d.0) same ∙ same_itself d.0) in
     omega (arith, none, counts, one)
 
 -- Bindings.
@@ -150,7 +151,7 @@ called_stands s d u (Running c) is = by (c.0 == d.0)
   where
     by : (b : Bool) → Stands s (if b then s else set_kernel_mark s c.0)
     by true = same_stands s
-    by false = alike_stands s _ (set_kernel_mark_alike s c.0 (record { who = u; runs = ap (is_running c.0) is ∙ same_id c.0 }))
+    by false = alike_stands s _ (set_kernel_mark_alike s c.0 (record { who = u; runs = ap (is_running c.0) is ∙ same_itself c.0 }))
 called_stands s d u place is = same_stands s
 
 pub rebound_stands : (s : State) (u : ℕ) (d b : Option CpuId) → Stands s (rebound s u d b)

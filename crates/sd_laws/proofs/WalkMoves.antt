@@ -18,7 +18,6 @@ use Rattle.sd_types.specs.declared.works.Work.{Work}
 use Rattle.sd_types.specs.Willed.{changed_number}
 use Rattle.sd_machine.specs.Graphs as G
 use Rattle.sd_machine.proofs.Moves.{IsSame, IsPut, IsQuiet, IsEnd, IsRebase, none_some, put_cases}
-use Rattle.sd_machine.proofs.Chains.{some_is}
 use Rattle.sd_machine.proofs.WillMove.{IsNext, IsClosed, IsWill}
 use Rattle.sd_machine.proofs.WillMove.IsNext.{ends_free, ends_looped, ends_back, goes_anew, goes_same}
 use Rattle.sd_state.specs.declared.states.LockState.{LockState}
@@ -47,6 +46,7 @@ use Rattle.sd_laws.proofs.Exact.{exact_waiting}
 use Rattle.sd_laws.proofs.QuietMoves.{seen_eff, steps}
 use Rattle.sd_laws.proofs.Views.{quiet_waits, same_owners, same_willed, its_willed, other_willed, same_eff}
 use Rattle.sd_laws.proofs.WalkTable.{cause_walks}
+use Rattle.std.proofs.lemmas.Option.{same_Some}
 
 abbrev pub walk : LockId → ThreadId → ℤ → G.Walk
 walk l seek key = record { lock = l.0; seek = seek.0; key = key }
@@ -200,7 +200,7 @@ module _ (w : Work) (s : State) (n : ℕ) (c : CpuId) (ready : IsReady w s) wher
       walks = prio_walk w s n c t u u cause.0 p at cause.2.0 cause.1.stands cause.2.1 here idle
 
       others_eff : (v : ℕ) → v ≢ u.0 → (graph r).eff v ≡ (graph s).eff v
-      others_eff v other = same_eff s r v ((after_but w s n c (Prio t u (Changed p at))).each v (λ e. other (sym (some_is u.0 v e)))) (numbers.each v)
+      others_eff v other = same_eff s r v ((after_but w s n c (Prio t u (Changed p at))).each v (λ e. other (sym (same_Some u.0 v e)))) (numbers.each v)
 
       by : (x : Option G.Wait) → wait_of (thread_of s u.0).place ≡ x → IsChanged r u.0
       by None is = unseen (record {

@@ -5,8 +5,9 @@ use Rattle.std.specs.List.{position, position_or_len, list_any, list_all}
 use Rattle.std.specs.Cmp.Lexicographic.{pointwise, bytes_decides}
 use Rattle.std.proofs.Math.Seq.{take-append_seam}
 use Rattle.std.proofs.lemmas.List.{map-append}
-use Rattle.std.proofs.lemmas.Bool.{false≢true, and_parts, or_parts}
+use Rattle.std.proofs.lemmas.Bool.{false≢true, and_parts}
 use Rattle.std.proofs.lemmas.Bool.Decides.{nat_tests}
+use Rattle.sd_basics.proofs.Truths.{same_truth}
 use Rattle.sd_types.specs.Works.{same_bytes}
 use Rattle.sd_lines.specs.contracts.key.NameKeyPartialEq.TheImpl.{eq-value}
 use Rattle.sd_lines.specs.declared.key.NameKey.{NameKey}
@@ -63,15 +64,10 @@ module _ (k : NameKey) (own : is_key k ≡ true) where
       let bytes = bytes_same (padded (word_of k)) k.bytes p.1 in
       λ i. record { length = many i; bytes = bytes i }
 
-same_bool : (a b : Bool) → (a ≡ true → b ≡ true) → (b ≡ true → a ≡ true) → a ≡ b
-same_bool true b to from = sym (to refl)
-same_bool false true to from = from refl
-same_bool false false to from = refl
-
 -- a key is that of a word exactly where its word is that word
 keys_tell_words : (word : List ℕ) (k : NameKey) → is_key k ≡ true → same_key (key_of word) k ≡ same_bytes (word_of k) word
 keys_tell_words word k own =
-    same_bool (same_key (key_of word) k) (same_bytes (word_of k) word)
+    same_truth (same_key (key_of word) k) (same_bytes (word_of k) word)
     (λ h. bytes_are (word_of k) word (ap word_of (sym (key_same (key_of word) k h)) ∙ word_of_key word))
     (λ h. key_are (key_of word) k (ap key_of (sym (bytes_same (word_of k) word h)) ∙ key_of_word k own))
 

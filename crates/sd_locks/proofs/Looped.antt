@@ -1,6 +1,7 @@
 -- That a walk has come back to the owner stays so, and is noted where it is new.
 use Rattle.std.proofs.Common.{◌≡◌, ℕ, zero, suc, Bool, true, false, ◌||◌, List, [], ◌∷◌, Option, refl, sym, ap, ◌∙◌}
 use Rattle.std.specs.Prelude.{slice_index_or, slice_set}
+use Rattle.sd_basics.proofs.Truths.{or_always}
 use Rattle.sd_types.specs.Willed.{changed_number, with_willed}
 use Rattle.sd_types.specs.declared.numbers.CpuId.{CpuId}
 use Rattle.sd_types.specs.declared.numbers.LockId.{LockId}
@@ -37,10 +38,6 @@ as_it_was l n (x ∷ xs) zero = by x.body.looped refl
     by false e = rw e refl
 as_it_was l n (x ∷ xs) (suc t) = ap (λ (ys : List ThreadState). x ∷ ys) (as_it_was l n xs t)
 
-or_true : (b : Bool) → (b || true) ≡ true
-or_true true = refl
-or_true false = refl
-
 -- what the owner can inherit it still can when the walk has gone on
 pub gone_can : (s : State) (c : CpuId) (l : LockId) (o : ThreadId) (n : Option ℕ) → CanInherit s o l n → CanInherit (walk_gone_on s c o) o l n
 unfolding set_duty walk_gone_on
@@ -60,4 +57,4 @@ unfolding set_duty set_looped set_number walk_gone_on
 walked_back s c l o came =
     let n = greatest_waiting l.0 s.threads in
     ap (λ (b : Bool). record (walk_gone_on s c o) { threads = change (looping b) (change (numbered l n) s.threads o.0) o.0 })
-    (sym (or_true (thread_of s o.0).body.looped) ∙ ap (λ (b : Bool). (thread_of s o.0).body.looped || b) (sym came))
+    (sym (or_always (thread_of s o.0).body.looped) ∙ ap (λ (b : Bool). (thread_of s o.0).body.looped || b) (sym came))

@@ -6,22 +6,6 @@ use Rattle.std.proofs.lemmas.Bool.{cases_lt}
 use Rattle.std.proofs.lemmas.Option.{get_or_from_slice_get, same_Some, slice_get-get_or, slice_get_within}
 
 module _ {X : Type 0} where
-  pub get_more : (xs ys : List X) (i : ℕ) (x : X) → slice_get xs i ≡ Some x → slice_get (xs ++ ys) i ≡ Some x
-  get_more [] ys i x e = cc
-  get_more (y ∷ xs) ys zero x e = e
-  get_more (y ∷ xs) ys (suc i) x e = get_more xs ys i x e
-
-  pub get_last : (xs : List X) (y : X) → slice_get (xs ++ y ∷ []) (length xs) ≡ Some y
-  get_last [] y = refl
-  get_last (x ∷ xs) y = get_last xs y
-
-  -- it stood there before, or it is the last
-  pub get_cases : (xs : List X) (y z : X) (i : ℕ) → slice_get (xs ++ y ∷ []) i ≡ Some z → (slice_get xs i ≡ Some z) ⊎ ((i ≡ length xs) × (y ≡ z))
-  get_cases [] y z zero e = inr (refl, same_Some y z e)
-  get_cases [] y z (suc i) e = cc
-  get_cases (x ∷ xs) y z zero e = inl e
-  get_cases (x ∷ xs) y z (suc i) e = elim (get_cases xs y z i e) [ inl before ↦ inl before | inr last ↦ inr (ap suc last.0, last.1) ]
-
   pub set_here : (xs : List X) (i : ℕ) (y : X) → i < length xs → slice_get (slice_set xs i y) i ≡ Some y
   set_here [] i y inside = absurd (omega arith)
   set_here (x ∷ xs) zero y inside = refl

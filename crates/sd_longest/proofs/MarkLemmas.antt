@@ -5,6 +5,7 @@ use Rattle.std.proofs.lemmas.Bool.{cases_lt}
 use Rattle.std.proofs.lemmas.List.{length-append, length-set}
 use Rattle.std.proofs.lemmas.List.Sums.{sum_by-set}
 use Rattle.std.proofs.lemmas.Option.{get_or_from_slice_get, none-some, same_Some, slice_get_within}
+use Rattle.sd_basics.proofs.Lists.{get_more, get_last, get_cases}
 use Rattle.sd_longest.specs.declared.edges.Edge.{Edge}
 use Rattle.sd_longest.specs.declared.edges.Effect.{Effect}
 use Rattle.sd_longest.specs.declared.edges.Effect.TheVariants.{Opens, Ends, Passes}
@@ -13,7 +14,7 @@ use Rattle.sd_longest.specs.declared.marking.Marking.{Marking}
 use Rattle.sd_longest.specs.Edges.{IsEdge}
 use Rattle.sd_longest.specs.Labels.{HasLabel, IsLabelled, IsPassed, IsSourced}
 use Rattle.sd_longest.specs.Marking.{AreMarked, HasPassed, IsMarking, IsSame, Keeps, PassesOn, Sets, passed_on}
-use Rattle.sd_longest.proofs.ListLemmas.{get_cases, get_last, get_more, one_more, one_there, set_cases, set_here, set_other}
+use Rattle.sd_longest.proofs.ListLemmas.{one_more, one_there, set_cases, set_here, set_other}
 
 -- ---- labels that stay
 

@@ -7,6 +7,7 @@ use Rattle.std.proofs.lemmas.Bool.{cases_lt}
 use Rattle.std.proofs.lemmas.List.{append-nil, length-append, map-append}
 use Rattle.std.proofs.lemmas.List.Elements.{Contains-append_left, Contains-push, Contains-push_cases}
 use Rattle.std.proofs.lemmas.Option.{none-some, slice_get_within}
+use Rattle.sd_basics.proofs.Lists.{get_cases}
 use Rattle.sd_types.specs.declared.numbers.CpuId.{CpuId}
 use Rattle.sd_types.specs.declared.numbers.ThreadId.{ThreadId}
 use Rattle.sd_types.specs.declared.events.Event.{Event}
@@ -22,7 +23,7 @@ use Rattle.sd_search.proofs.TellLemmas.{at_same, inside_at}
 use Rattle.sd_search.proofs.TurnLemmas.{each_at}
 use Rattle.sd_longest.specs.declared.edges.Edge.{Edge}
 use Rattle.sd_longest.specs.Edges.{IsEdge, LeadInside, rows_of}
-use Rattle.sd_longest.proofs.ListLemmas.{contains_at, get_cases}
+use Rattle.sd_longest.proofs.ListLemmas.{contains_at}
 use Rattle.sd_longest.specs.Tables.{AreRows, HasTurns, IsTurnEdge, edge_of, edges_of}
 
 module _ (w : Work) (bs : List (List ℕ)) (t : ThreadId) where

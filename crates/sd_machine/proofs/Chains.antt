@@ -4,15 +4,13 @@ use Rattle.std.specs.Prelude.{◌≤ℤ◌}
 use Rattle.sd_machine.specs.Graphs.{Wait, Graph, IsAhead, IsBehind, InCycle, Reaches}
 use Rattle.sd_machine.specs.Graphs.IsBehind.{near, far}
 use Rattle.sd_machine.specs.Graphs.Reaches.{here, on}
-
-pub some_is : {A : Type 0} (x y : A) → Some x ≡ Some y → x ≡ y
-some_is x y e = cc
+use Rattle.std.proofs.lemmas.Option.{same_Some}
 
 -- one thread is ahead
 pub ahead_one : (g : Graph) (t u v : ℕ) → IsAhead g t u → IsAhead g t v → u ≡ v
 ahead_one g t u v (w, waits, owns) (x, waits', owns') =
-    let same : w ≡ x = some_is w x (sym waits ∙ waits') in
-    some_is u v (sym owns ∙ ap (λ (y : Wait). g.owner y.lock) same ∙ owns')
+    let same : w ≡ x = same_Some w x (sym waits ∙ waits') in
+    same_Some u v (sym owns ∙ ap (λ (y : Wait). g.owner y.lock) same ∙ owns')
 
 -- the chain behind o goes on behind the thread ahead of o
 pub behind_ahead : (g : Graph) (o u t : ℕ) → IsAhead g o u → IsBehind g o t → IsBehind g u t

@@ -10,9 +10,10 @@ use Rattle.sd_machine.specs.Graphs.{Wait, Graph, IsAhead, IsBehind, InCycle}
 use Rattle.sd_machine.specs.Graphs.IsBehind.{near, far}
 use Rattle.sd_machine.specs.Cycles.{owner_at, ahead, IsIn, AreApart, IsLinked, IsCycle, IsFromLeast, joined, lap, none_or_one, cycles_below, cycles, AreCycles}
 use Rattle.sd_machine.specs.Listing.{head_of, AreRising, ListsCycles}
-use Rattle.sd_machine.proofs.Chains.{some_is, ahead_one}
+use Rattle.sd_machine.proofs.Chains.{ahead_one}
 use Rattle.sd_machine.proofs.Moves.{none_some}
 use Rattle.sd_machine.proofs.Steps.{behind_waits, IsFrame}
+use Rattle.std.proofs.lemmas.Option.{same_Some}
 
 joined_is : (first t : ℕ) (o : Option ℕ) (f : ℕ → Option (List ℕ)) (ts : List ℕ) → joined first t o f ≡ Some ts
     → ((u : ℕ) × (o ≡ Some u) × (u ≡ first) × (ts ≡ t ∷ [])) ⊎ ((u : ℕ) × (xs : List ℕ) × (o ≡ Some u) × (first < u) × (f u ≡ Some xs) × (ts ≡ t ∷ xs))
@@ -22,11 +23,11 @@ joined_is first t (Some u) f ts e = tests (eqb u first) refl (ltb u first) refl 
     rest : first < u → (o : Option (List ℕ)) → f u ≡ o → option_map (λ xs. t ∷ xs) o ≡ Some ts
         → ((v : ℕ) × (Some u ≡ Some v) × (v ≡ first) × (ts ≡ t ∷ [])) ⊎ ((v : ℕ) × (xs : List ℕ) × (Some u ≡ Some v) × (first < v) × (f v ≡ Some xs) × (ts ≡ t ∷ xs))
     rest less None found e = absurd (none_some None ts refl e)
-    rest less (Some xs) found e = inr (u, xs, refl, less, found, sym (some_is (t ∷ xs) ts e))
+    rest less (Some xs) found e = inr (u, xs, refl, less, found, sym (same_Some (t ∷ xs) ts e))
 
     tests : (b : Bool) → eqb u first ≡ b → (c : Bool) → ltb u first ≡ c → cond b (Some (t ∷ [])) (cond c None (option_map (λ xs. t ∷ xs) (f u))) ≡ Some ts
         → ((v : ℕ) × (Some u ≡ Some v) × (v ≡ first) × (ts ≡ t ∷ [])) ⊎ ((v : ℕ) × (xs : List ℕ) × (Some u ≡ Some v) × (first < v) × (f v ≡ Some xs) × (ts ≡ t ∷ xs))
-    tests true same c d e = inl (u, refl, eqb-true u first same, sym (some_is (t ∷ []) ts e))
+    tests true same c d e = inl (u, refl, eqb-true u first same, sym (same_Some (t ∷ []) ts e))
     tests false same true less e = absurd (none_some None ts refl e)
     tests false same false less e = rest (grind (arith, nat_tests)) (f u) refl e
 

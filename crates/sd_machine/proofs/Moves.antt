@@ -5,9 +5,9 @@ use Rattle.std.proofs.lemmas.Int.{ints}
 use Rattle.std.specs.Prelude.{◌<ℤ◌}
 use Rattle.sd_machine.specs.Graphs.{Wait, Walk, Graph, IsOn, Stands, IsExact, IsLocal, Follows, IsSound}
 use Rattle.sd_machine.specs.Graphs.Reaches.{here}
-use Rattle.sd_machine.proofs.Chains.{some_is}
 use Rattle.sd_machine.proofs.Steps.{IsFine, IsStep}
 use Rattle.sd_machine.proofs.Steps.IsFine.{same, fresh, walked}
+use Rattle.std.proofs.lemmas.Option.{same_Some}
 
 -- one thread, lock or processor t gets x
 pub record IsPut {X : Type 0} (t : ℕ) (x : X) (f g : ℕ → X) : Type 0 where
@@ -162,7 +162,7 @@ module _ (g h : Graph) where
       willed = λ o l k is. b.owner l ∙ sound.local.owned o l k (sym (b.willed o l) ∙ is);
       fine = fine;
       walks = λ d v is. elim (put_cases c _ g.walks h.walks b.walks d) [
-        | inl here_is ↦ inr (begun v (some_is _ v (sym here_is.1 ∙ is)))
+        | inl here_is ↦ inr (begun v (same_Some _ v (sym here_is.1 ∙ is)))
         | inr other ↦ inl (sym other.1 ∙ is)
       ];
       looped = λ u is. inl (sym (b.looped u) ∙ is);
@@ -176,7 +176,7 @@ module _ (g h : Graph) where
 
         came : (u : ℕ) (w : Wait) → h.waits u ≡ Some w → (g.waits u ≡ Some w) ⊎ (w.key ≡ n)
         came u w is = elim (put_cases t _ g.waits h.waits b.waits u) [
-          | inl mine ↦ inr (ap (λ (x : Wait). x.key) (some_is w (record { lock = l; key = n }) (sym is ∙ mine.1)))
+          | inl mine ↦ inr (ap (λ (x : Wait). x.key) (same_Some w (record { lock = l; key = n }) (sym is ∙ mine.1)))
           | inr other ↦ inl (sym other.1 ∙ is)
         ]
 
@@ -187,7 +187,7 @@ module _ (g h : Graph) where
               (λ u. elim (put_cases t _ g.waits h.waits b.waits u) [
                 | inl mine ↦ inr (
                   (λ on. none_some (g.waits t) on.0 b.rests (ap g.waits (sym mine.0) ∙ on.1)),
-                  (λ on. other (sym on.2 ∙ ap (λ (x : Wait). x.lock) (some_is on.0 (record { lock = l; key = n }) (sym on.1 ∙ mine.1)))),
+                  (λ on. other (sym on.2 ∙ ap (λ (x : Wait). x.lock) (same_Some on.0 (record { lock = l; key = n }) (sym on.1 ∙ mine.1)))),
                 )
                 | inr apart ↦ inl apart.1
               ])
@@ -202,7 +202,7 @@ module _ (g h : Graph) where
     release_step o l r = record {
       frame = record {
         stays = λ t u w is own. r.waits t ∙ is;
-        owns = λ k u w own is. r.owner.others k (λ e. none_some (g.waits u) w (ap g.waits (some_is u o (sym own ∙ ap g.owner e ∙ r.own)) ∙ r.rests) is) ∙ own;
+        owns = λ k u w own is. r.owner.others k (λ e. none_some (g.waits u) w (ap g.waits (same_Some u o (sym own ∙ ap g.owner e ∙ r.own)) ∙ r.rests) is) ∙ own;
       };
       more = more;
       owned = λ k u w own is. was k u own;
@@ -210,7 +210,7 @@ module _ (g h : Graph) where
       willed = λ u k x is. elim (cases_eq k l) [
         | inl at ↦ elim (cases_eq u o) [
           | inl me ↦ absurd (none_some (h.willed u k) x (ap (λ y. h.willed y k) me ∙ ap (h.willed o) at ∙ r.gone) is)
-          | inr him ↦ absurd (him (some_is u o (sym (sound.local.owned u k x (sym (r.willed u k (λ e f. him e)) ∙ is)) ∙ ap g.owner at ∙ r.own)))
+          | inr him ↦ absurd (him (same_Some u o (sym (sound.local.owned u k x (sym (r.willed u k (λ e f. him e)) ∙ is)) ∙ ap g.owner at ∙ r.own)))
         ]
         | inr other ↦ r.owner.others k other ∙ sound.local.owned u k x (sym (r.willed u k (λ e f. other f)) ∙ is)
       ];
@@ -233,7 +233,7 @@ module _ (g h : Graph) where
       };
       more = more;
       owned = λ k u w own is. elim (put_cases l _ g.owner h.owner a.owner k) [
-        | inl new ↦ absurd (none_some (h.waits u) w (ap h.waits (some_is u t (sym own ∙ new.1)) ∙ a.waits.at) is)
+        | inl new ↦ absurd (none_some (h.waits u) w (ap h.waits (same_Some u t (sym own ∙ new.1)) ∙ a.waits.at) is)
         | inr old ↦ sym old.1 ∙ own
       ];
       came = λ u w is. elim (put_cases t _ g.waits h.waits a.waits u) [
@@ -248,7 +248,7 @@ module _ (g h : Graph) where
         | inr other ↦ a.owner.others k other ∙ sound.local.owned u k x (sym (a.willed u k (λ e f. other f)) ∙ is)
       ];
       fine = λ k u own. elim (put_cases l _ g.owner h.owner a.owner k) [
-        | inl new ↦ fresh (subst (λ y. IsExact h k (h.willed y k)) (sym (some_is u t (sym own ∙ new.1))) (subst (λ y. IsExact h y (h.willed t y)) (sym new.0) a.exact))
+        | inl new ↦ fresh (subst (λ y. IsExact h k (h.willed y k)) (sym (same_Some u t (sym own ∙ new.1))) (subst (λ y. IsExact h y (h.willed t y)) (sym new.0) a.exact))
         | inr old ↦ same_lock k u (sym old.1 ∙ own) (a.willed u k (λ e f. old.0 f))
             (λ v. elim (put_cases t _ g.waits h.waits a.waits v) [
               | inl me ↦ inr (
@@ -301,7 +301,7 @@ module _ (g h : Graph) where
       willed = λ o l k is. a.owner l ∙ sound.local.owned o l k (sym (a.willed o l) ∙ is);
       fine = λ l o own. same_lock l o (sym (a.owner l) ∙ own) (a.willed o l) (λ t. inl (a.waits t)) (λ t on. a.eff t on.0 on.1)
           (λ st. elim (put_cases c _ g.walks h.walks a.walks st.0) [
-            | inl mine ↦ absurd (none_some (g.owner l) o (ap g.owner (sym st.3 ∙ ap (λ (x : Walk). x.lock) (some_is st.1 v (sym st.2 ∙ ap g.walks mine.0 ∙ a.was))) ∙ a.free) (sym (a.owner l) ∙ own))
+            | inl mine ↦ absurd (none_some (g.owner l) o (ap g.owner (sym st.3 ∙ ap (λ (x : Walk). x.lock) (same_Some st.1 v (sym st.2 ∙ ap g.walks mine.0 ∙ a.was))) ∙ a.free) (sym (a.owner l) ∙ own))
             | inr other ↦ (st.0, st.1, other.1 ∙ st.2, st.3)
           ]);
       walks = λ d x is. elim (put_cases c _ g.walks h.walks a.walks d) [
@@ -321,11 +321,11 @@ module _ (g h : Graph) where
       fine = λ l o own. elim (cases_eq l w.lock) [
         | inl is ↦ walked (c, record { lock = w.lock; seek = t; key = w.key }, a.walks.at, sym is)
         | inr other ↦ same_lock l o (sym (a.owner l) ∙ own) (a.willed o l) (λ u. inl (a.waits u))
-            (λ u on. a.eff u on.0 (λ e. other (sym on.2 ∙ ap (λ (x : Wait). x.lock) (some_is on.0 w (sym on.1 ∙ a.waits u ∙ ap g.waits e ∙ a.waiting)))) on.1)
+            (λ u on. a.eff u on.0 (λ e. other (sym on.2 ∙ ap (λ (x : Wait). x.lock) (same_Some on.0 w (sym on.1 ∙ a.waits u ∙ ap g.waits e ∙ a.waiting)))) on.1)
             (stands_on (put_walks_stay c _ a.idle a.walks) l)
       ];
       walks = λ d v is. elim (put_cases c _ g.walks h.walks a.walks d) [
-        | inl mine ↦ inr (begun v (some_is _ v (sym mine.1 ∙ is)))
+        | inl mine ↦ inr (begun v (same_Some _ v (sym mine.1 ∙ is)))
         | inr other ↦ inl (sym other.1 ∙ is)
       ];
       looped = λ u is. inl (sym (a.looped u) ∙ is);

@@ -6,7 +6,7 @@ use Rattle.std.specs.Prelude.{◌<ℤ◌}
 use Rattle.sd_machine.specs.Graphs.{Wait, Walk, Graph, IsOn, IsAhead, IsBehind, InCycle, Stands, IsExact, Reaches, HasKey, Follows, IsSound}
 use Rattle.sd_machine.specs.Graphs.IsBehind.{near, far}
 use Rattle.sd_machine.specs.Graphs.Reaches.{here, on}
-use Rattle.sd_machine.proofs.Chains.{some_is}
+use Rattle.std.proofs.lemmas.Option.{same_Some}
 
 -- a thread behind another waits
 pub behind_waits : (g : Graph) (o t : ℕ) → IsBehind g o t → (w : Wait) × (g.waits t ≡ Some w)
@@ -44,7 +44,7 @@ module _ (g h : Graph) where
   pub key_stays : IsFrame → (k : ℤ) (l s o : ℕ) → Reaches g k l s → g.owner l ≡ Some o → HasKey g k s → HasKey h k s
   key_stays f k l s o r own (w, is, key) =
       let next = reaches_waits g k l s o r own in
-      let same : next.1.0 ≡ w = some_is next.1.0 w (sym next.1.1 ∙ is) in
+      let same : next.1.0 ≡ w = same_Some next.1.0 w (sym next.1.1 ∙ is) in
       (w, f.stays s next.0 w is (ap (λ (y : Wait). g.owner y.lock) (sym same) ∙ next.1.2), key)
 
   -- the lock and its waiters are as they were

@@ -6,10 +6,11 @@ use Rattle.std.specs.Prelude.{◌<ℤ◌, ◌≤ℤ◌}
 use Rattle.sd_machine.specs.Graphs.{Wait, Walk, Graph, InCycle, IsExact, Reaches, Follows, IsSound}
 use Rattle.sd_machine.specs.Graphs.IsBehind.{near}
 use Rattle.sd_machine.specs.Graphs.Reaches.{here}
-use Rattle.sd_machine.proofs.Chains.{some_is, cycle_ahead, reaches_on, reaches_behind}
+use Rattle.sd_machine.proofs.Chains.{cycle_ahead, reaches_on, reaches_behind}
 use Rattle.sd_machine.proofs.Steps.{IsFrame, IsFine, IsStep, cycle_stays, reaches_stays, key_stays, exact_stays}
 use Rattle.sd_machine.proofs.Steps.IsFine.{fresh, walked, cyclic}
 use Rattle.sd_machine.proofs.Moves.{IsSame, OthersWilled, none_some, same_lock}
+use Rattle.std.proofs.lemmas.Option.{same_Some}
 
 -- the next walk of v at an owner o, by what o waits on and whether it is looped
 pub data IsNext (g : Graph) (v : Walk) (o : ℕ) (next : Option Walk) : Type 0 where
@@ -64,7 +65,7 @@ module _ (g h : Graph) where
         by None is = away (λ w e. absurd (none_some (g.waits o) w is e))
         by (Some w) is = elim (cases_eq w.lock v.lock) [
           | inl at ↦ cyclic (stays_cyclic o (near (w, is, ap g.owner at ∙ a.own)))
-          | inr other ↦ away (λ x e. λ f. other (ap (λ (y : Wait). y.lock) (some_is w x (sym is ∙ e)) ∙ f))
+          | inr other ↦ away (λ x e. λ f. other (ap (λ (y : Wait). y.lock) (same_Some w x (sym is ∙ e)) ∙ f))
         ]
 
     -- at another lock, of u
@@ -74,7 +75,7 @@ module _ (g h : Graph) where
       fine_away away = same_lock g h l u own (a.willed u l (λ e f. other f)) (λ t. inl (a.waits t))
           (λ t on. a.eff t on.0 (λ e. away on.0 (ap g.waits (sym e) ∙ sym (a.waits t) ∙ on.1) on.2) on.1)
           (λ st. elim (cases_eq st.0 c) [
-            | inl mine ↦ absurd (other (sym st.3 ∙ ap (λ (x : Walk). x.lock) (some_is st.1 v (sym st.2 ∙ ap g.walks mine ∙ a.was))))
+            | inl mine ↦ absurd (other (sym st.3 ∙ ap (λ (x : Walk). x.lock) (same_Some st.1 v (sym st.2 ∙ ap g.walks mine ∙ a.was))))
             | inr apart ↦ (st.0, st.1, a.walks st.0 apart ∙ st.2, st.3)
           ])
 
@@ -85,7 +86,7 @@ module _ (g h : Graph) where
       by_lock : (w : Wait) → g.waits o ≡ Some w → (w.lock ≡ l → IsFine g h l u) → IsFine g h l u
       by_lock w is there = elim (cases_eq w.lock l) [
         | inl at ↦ there at
-        | inr apart ↦ fine_away (λ x e. λ f. apart (ap (λ (y : Wait). y.lock) (some_is w x (sym is ∙ e)) ∙ f))
+        | inr apart ↦ fine_away (λ x e. λ f. apart (ap (λ (y : Wait). y.lock) (same_Some w x (sym is ∙ e)) ∙ f))
       ]
 
       fine_there : IsNext g v o (h.walks c) → IsFine g h l u
@@ -97,7 +98,7 @@ module _ (g h : Graph) where
 
     fine : (l u : ℕ) → h.owner l ≡ Some u → IsFine g h l u
     fine l u own = elim (cases_eq l v.lock) [
-      | inl at ↦ subst (λ k. IsFine g h k u) (sym at) (subst (IsFine g h v.lock) (some_is o u (sym a.own ∙ ap g.owner (sym at) ∙ sym (a.owner l) ∙ own)) fine_here)
+      | inl at ↦ subst (λ k. IsFine g h k u) (sym at) (subst (IsFine g h v.lock) (same_Some o u (sym a.own ∙ ap g.owner (sym at) ∙ sym (a.owner l) ∙ own)) fine_here)
       | inr other ↦ fine_there l u (sym (a.owner l) ∙ own) other a.next
     ]
 
@@ -106,11 +107,11 @@ module _ (g h : Graph) where
     follows_next x is (ends_free e ends) = absurd (none_some (h.walks c) x ends is)
     follows_next x is (ends_looped w e looped ends) = absurd (none_some (h.walks c) x ends is)
     follows_next x is (ends_back w e seek key ends) = absurd (none_some (h.walks c) x ends is)
-    follows_next x is (goes_anew w e less goes_on) = subst (λ (y : Walk). Follows h y × (y.key <ℤ m)) (some_is _ x (sym goes_on ∙ is)) (
+    follows_next x is (goes_anew w e less goes_on) = subst (λ (y : Walk). Follows h y × (y.key <ℤ m)) (same_Some _ x (sym goes_on ∙ is)) (
       (λ u y own waits low. ((w, a.waits o ∙ e, refl), here w (a.waits o ∙ e) (omega (arith, ints)) refl)),
       (let low = sound.wait_keys o w e in omega (arith, ints)),
     )
-    follows_next x is (goes_same w e less goes_on) = subst (λ (y : Walk). Follows h y × (y.key <ℤ m)) (some_is _ x (sym goes_on ∙ is)) (
+    follows_next x is (goes_same w e less goes_on) = subst (λ (y : Walk). Follows h y × (y.key <ℤ m)) (same_Some _ x (sym goes_on ∙ is)) (
       (λ u y own waits low.
           let both = sound.follows c v a.was o w a.own e less in
           let reach = reaches_on g v.key v.lock v.seek o w both.1 a.own e less in

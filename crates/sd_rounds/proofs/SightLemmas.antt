@@ -65,10 +65,6 @@ first_found : (r : ThreadRecord) (rs : List ThreadRecord) → slice_get rs 0 ≡
 first_found r [] e = absurd cc
 first_found r (q ∷ rs) e = let same : q ≡ r = cc in rw (ap (λ z. id_of z == id_of r) same ∙ eq-eqb (id_of r) (id_of r) refl) e
 
-pub is_none : {A : Type 0} (o : Option A) → is_some o ≡ false → o ≡ None
-is_none None e = refl
-is_none (Some a) e = absurd cc
-
 module _ (w : Work) (x : Acting) (n : ℕ) (s : State) (h : Home) (sh : IsShown x n s) (duty : x.actor.duty ≡ Nothing) (at : held (Cpu x.actor.cpu) x.hand.slots ≡ Some h)
     (due : due_of_first x.actor.count (slice_get (list_in h (Naps x.actor.cpu)) 0) ≡ None) (v : CpuView) (view : Some v ≡ view_in h) where
   no_duty : (cpu_of s x.actor.cpu.0).duty ≡ Nothing

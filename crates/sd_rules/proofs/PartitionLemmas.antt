@@ -7,6 +7,8 @@ use Rattle.std.proofs.lemmas.List.{map-append}
 use Rattle.std.proofs.lemmas.List.Elements.{filter-append}
 use Rattle.std.proofs.lemmas.List.FromFn.{length-map-range_with_len, get_or-map-range_with_len, map-range_with_len_more}
 use Rattle.std.proofs.lemmas.Option.{slice_get_cases, same_Some}
+use Rattle.sd_basics.proofs.Ranges.{range_more}
+use Rattle.sd_basics.proofs.Lists.{all_at}
 use Rattle.sd_types.specs.declared.numbers.CpuId.{CpuId}
 use Rattle.sd_types.specs.declared.numbers.SetId.{SetId}
 use Rattle.sd_types.specs.declared.names.Name.{Name}
@@ -247,11 +249,6 @@ names-from_Contains c cpus (i, h, e) = names-at c cpus i h e
 
 -- ---- a workload's partitions
 
-list_all-at : {X : Type 0} (p : X → Bool) (xs : List X) (i : ℕ) (x : X) → list_all p xs ≡ true → slice_get xs i ≡ Some x → p x ≡ true
-list_all-at p [] i x h e = absurd cc
-list_all-at p (y ∷ ys) zero x h e = subst (λ z. p z ≡ true) (same_Some y x e) (grind (arith, nat_tests))
-list_all-at p (y ∷ ys) (suc i) x h e = let rest : list_all p ys ≡ true = grind (arith, nat_tests) in list_all-at p ys i x rest e
-
 -- a set that fits names one of the workload's processors
 first_named : (cpus : ℕ) (s : Name × List CpuId) → set_fits cpus s ≡ true → (c : ℕ) × (c < cpus) × (names c s.1 ≡ true)
 first_named cpus (name, []) h = absurd (false≢true h)
@@ -269,7 +266,7 @@ some_cpu w zero h =
     some_passes w.cpus 0 m.0 (λ c. set_of_cpu w c == 0) (omega arith) (omega arith) (eq-eqb _ 0 (set_naming-none m.0 1 w.sets m.2))
 some_cpu w (suc i) h = elim (slice_get_cases w.sets i).1 [
   | inl s ↦
-      let c = first_named w.cpus s.0 (list_all-at (set_fits w.cpus) w.sets i s.0 w.sets_fit s.2) in
+      let c = first_named w.cpus s.0 (all_at (set_fits w.cpus) w.sets i s.0 w.sets_fit s.2) in
       let e = set_naming-at c.0 1 i w.sets s.0 w.cpus_differ s.2 c.2 in
       some_passes w.cpus 0 c.0 (λ x. set_of_cpu w x == suc i) (omega arith) (omega arith) (eq-eqb _ (suc i) (omega arith))
   | inr past ↦ absurd (omega arith)
@@ -316,22 +313,13 @@ lists-at w p d h =
 
 -- ---- one more number
 
-range-suc : (a n : ℕ) → range_with_len a (suc n) ≡ range_with_len a n ++ (a + n) ∷ []
-range-suc a zero = rw add-zero refl
-range-suc a (suc n) =
-    let e : a + 1 + n ≡ a + suc n = omega arith in
-    ap (λ (xs : List ℕ). a ∷ xs) (range-suc (a + 1) n ∙ ap (λ (k : ℕ). range_with_len (a + 1) n ++ k ∷ []) e)
-
-range-more : (n : ℕ) → range_with_len 0 (n + 1) ≡ range_with_len 0 n ++ n ∷ []
-range-more n = rw add-one (range-suc 0 n ∙ ap (λ (k : ℕ). range_with_len 0 n ++ k ∷ []) (zero-add n))
-
 -- one more processor that is in the set
 pub passing-more_in : (n : ℕ) (p : ℕ → Bool) → p n ≡ true → map cpu_of_number (filter p (range_with_len 0 (n + 1))) ≡ map cpu_of_number (filter p (range_with_len 0 n)) ++ cpu_of_number n ∷ []
-passing-more_in n p h = rw (range-more n, filter-append, map-append, h) refl
+passing-more_in n p h = rw (range_more n, filter-append, map-append, h) refl
 
 -- and one that is not
 pub passing-more_out : (n : ℕ) (p : ℕ → Bool) → p n ≡ false → map cpu_of_number (filter p (range_with_len 0 (n + 1))) ≡ map cpu_of_number (filter p (range_with_len 0 n))
-passing-more_out n p h = rw (range-more n, filter-append, map-append, h, append-nil) refl
+passing-more_out n p h = rw (range_more n, filter-append, map-append, h, append-nil) refl
 
 -- one more set of a processor
 pub sets-more : (w : Work) (n : ℕ) (xs ys : List SetId) (s : SetId) → xs ≡ map (λ c. set_of_number (set_of_cpu w c)) (range_with_len 0 n) → s.0 ≡ set_of_cpu w n

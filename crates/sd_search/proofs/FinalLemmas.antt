@@ -5,6 +5,7 @@ use Rattle.std.specs.declared.alloc.Global.{Global}
 use Rattle.std.proofs.lemmas.Bool.{cases_lt}
 use Rattle.std.proofs.lemmas.List.{append-nil}
 use Rattle.std.proofs.lemmas.Option.{get_or_from_slice_get, slice_get-get_or, slice_get_within}
+use Rattle.sd_basics.proofs.Lists.{get_more, get_last, get_cases}
 use Rattle.sd_types.specs.declared.numbers.CpuId.{CpuId}
 use Rattle.sd_types.specs.declared.events.Entry.{Entry}
 use Rattle.sd_types.specs.declared.works.Work.{Work}
@@ -23,7 +24,6 @@ use Rattle.sd_search.specs.Finals.{AreFinals, Ends}
 use Rattle.sd_search.specs.Graphs.{AreApart, HasEveryRun, IsAmong, IsAt, IsGathered}
 use Rattle.sd_search.specs.Questions.{HasNoWitness, HasPart, IsWitness, Meets}
 use Rattle.sd_search.proofs.BackLemmas.{turned}
-use Rattle.sd_search.proofs.GrowLemmas.{get_cases, get_last, get_more}
 use Rattle.sd_search.proofs.KeyLemmas.{keys_reached}
 use Rattle.sd_search.proofs.QuestionLemmas.{meets_same}
 use Rattle.sd_search.proofs.TellLemmas.{inside_at}

@@ -1,9 +1,10 @@
 -- What is gathered when one more state is put in, and when one more is expanded.
-use Rattle.std.proofs.Common.{◌≡◌, ℕ, zero, suc, ◌+◌, ◌<◌, ◌≤◌, List, [], ◌∷◌, ◌++◌, length, Bool, true, false, Some, refl, sym, ap, ◌∙◌, subst, arith, inl, inr, ◌⊎◌}
+use Rattle.std.proofs.Common.{◌≡◌, ℕ, zero, suc, ◌+◌, ◌<◌, ◌≤◌, List, [], ◌∷◌, ◌++◌, length, Bool, true, false, Some, sym, ap, ◌∙◌, subst, arith, inl, inr, ◌⊎◌}
 use Rattle.std.specs.Prelude.{slice_get}
 use Rattle.std.proofs.lemmas.Bool.{cases_lt}
 use Rattle.std.proofs.lemmas.List.{length-append}
-use Rattle.std.proofs.lemmas.Option.{same_Some, slice_get_within}
+use Rattle.std.proofs.lemmas.Option.{slice_get_within}
+use Rattle.sd_basics.proofs.Lists.{get_more, get_last, get_cases}
 use Rattle.sd_types.specs.declared.numbers.CpuId.{CpuId}
 use Rattle.sd_types.specs.declared.works.Work.{Work}
 use Rattle.sd_state.specs.declared.states.State.{State}
@@ -22,21 +23,6 @@ use Rattle.sd_search.proofs.TellLemmas.{at_same, inside_at, told}
 -- ---- lists
 
 module _ {X : Type 0} where
-  pub get_more : (xs ys : List X) (i : ℕ) (x : X) → slice_get xs i ≡ Some x → slice_get (xs ++ ys) i ≡ Some x
-  get_more [] ys i x e = cc
-  get_more (y ∷ xs) ys zero x e = e
-  get_more (y ∷ xs) ys (suc i) x e = get_more xs ys i x e
-
-  pub get_last : (xs : List X) (y : X) → slice_get (xs ++ y ∷ []) (length xs) ≡ Some y
-  get_last [] y = refl
-  get_last (x ∷ xs) y = get_last xs y
-
-  -- it stood there before, or it is the last
-  pub get_cases : (xs : List X) (y z : X) (i : ℕ) → slice_get (xs ++ y ∷ []) i ≡ Some z → (slice_get xs i ≡ Some z) ⊎ ((i ≡ length xs) × (y ≡ z))
-  get_cases [] y z zero e = inr (refl, same_Some y z e)
-  get_cases [] y z (suc i) e = cc
-  get_cases (x ∷ xs) y z zero e = inl e
-  get_cases (x ∷ xs) y z (suc i) e = elim (get_cases xs y z i e) [ inl before ↦ inl before | inr last ↦ inr (ap suc last.0, last.1) ]
 
 -- ---- states that are kept
 

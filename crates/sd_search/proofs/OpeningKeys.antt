@@ -1,9 +1,10 @@
 -- The keys of the initial state are the numbers of the threads.
-use Rattle.std.proofs.Common.{◌≡◌, ℕ, zero, suc, ◌+◌, ◌<◌, ◌≤◌, Bool, true, false, List, [], ◌∷◌, length, map, get_or, pos, negsuc, int_lt, arith}
+use Rattle.std.proofs.Common.{◌≡◌, ℕ, zero, suc, ◌+◌, ◌<◌, ◌≤◌, Bool, true, false, List, [], ◌∷◌, length, map, get_or, pos, int_lt, arith}
 use Rattle.std.specs.Prelude.{IfSome, if◌then◌else◌}
 use Rattle.std.specs.List.{range_with_len}
 use Rattle.std.proofs.lemmas.Bool.Decides.{nat_tests}
 use Rattle.std.proofs.lemmas.Int.{ints}
+use Rattle.sd_basics.proofs.Numbers.{int_below_zero}
 use Rattle.sd_types.specs.declared.numbers.CpuId.{CpuId}
 use Rattle.sd_types.specs.declared.numbers.SetId.{SetId}
 use Rattle.sd_types.specs.declared.works.ThreadDecl.{ThreadDecl}
@@ -17,11 +18,8 @@ use Rattle.sd_encoding.specs.Order.{Holder, OfThread, OfCpu, IsKeyBefore, IsSlee
 first_back : (t m : ℕ) → t < 4096 → int_lt (pos t) (back_key m) ≡ true
 first_back t m h = grind (arith, nat_tests, ints)
 
-first_front : (t m : ℕ) → int_lt (negsuc m) (pos t) ≡ true
-first_front t m = grind (arith, nat_tests, ints)
-
 first_key : (t : ℕ) → t < 4096 → IsKeyBefore 0 (pos t)
-first_key t h = record { back = λ m l. first_back t m h; front = λ m l. first_front t m }
+first_key t h = record { back = λ m l. first_back t m h; front = λ m l. int_below_zero t m }
 
 place_fits : (test : Bool) (t : ℕ) (p : SetId) (c : CpuId) → t < 4096 → IfSome (key_at (if test then RealTime p (pos t) else Queued c (pos t))) (IsKeyBefore 0)
 place_fits true t p c h = first_key t h

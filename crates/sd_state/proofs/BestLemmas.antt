@@ -5,6 +5,7 @@ use Rattle.std.proofs.lemmas.List.Sums.{prefix_len_is}
 use Rattle.std.proofs.lemmas.List.Folds.{list_all_at}
 use Rattle.std.proofs.lemmas.Bool.{cases_Bool, cases_lt, false≢true}
 use Rattle.std.proofs.lemmas.Bool.Decides.{nat_tests}
+use Rattle.sd_basics.proofs.Truths.{and_left, and_right, and_rest}
 use Rattle.sd_state.specs.Best.{leads_by, best_by}
 
 -- beats is a strict order in which what does not beat another is no better than it
@@ -28,14 +29,6 @@ IsBestBelow on beats d xs n (Some b) = IsBest on beats d xs n b
 abbrev pub goes_ahead_by : {X : Type 0} → (X → Bool) → (X → X → Bool) → X → List X → Option ℕ → ℕ → Bool
 goes_ahead_by on beats d xs None i = on (get_or xs i d)
 goes_ahead_by on beats d xs (Some b) i = on (get_or xs i d) && beats (get_or xs i d) (get_or xs b d)
-
-pub and_left : (a b : Bool) → (a && b) ≡ true → a ≡ true
-and_left true b e = refl
-and_left false b e = cc
-
-pub and_right : (a b : Bool) → (a && b) ≡ true → b ≡ true
-and_right true b e = e
-and_right false b e = cc
 
 -- below i + 1 is below i, or i
 split_below : (k i : ℕ) → k < i + 1 → (k < i) ⊎ (k ≡ i)
@@ -64,10 +57,6 @@ best_taken on beats d order xs (Some b) i before ahead =
       first = λ k l c. order.back (get_or xs k d) (get_or xs i d) (get_or xs b d) wins (before.unbeaten k l c);
     }
 
-and_false : (a b : Bool) → a ≡ true → (a && b) ≡ false → b ≡ false
-and_false true b e f = f
-and_false false b e f = cc
-
 pub best_kept : {X : Type 0} (on : X → Bool) (beats : X → X → Bool) (d : X) (xs : List X) (o : Option ℕ) (i : ℕ)
     → IsBestBelow on beats d xs i o → goes_ahead_by on beats d xs o i ≡ false → IsBestBelow on beats d xs (i + 1) o
 best_kept on beats d xs None i before behind = λ k h. elim (split_below k i h) [ inl l ↦ before k l | inr e ↦ rw e behind ]
@@ -78,7 +67,7 @@ best_kept on beats d xs (Some b) i before behind =
       candidate = before.candidate;
       unbeaten = λ k h c. elim (split_below k i h) [
         | inl l ↦ before.unbeaten k l c
-        | inr e ↦ rw e (and_false (on (get_or xs i d)) _ (rw e at c) behind)
+        | inr e ↦ rw e (and_rest (on (get_or xs i d)) _ (rw e at c) behind)
       ];
       first = before.first;
     }

@@ -4,7 +4,7 @@ use Rattle.std.specs.Prelude.{slice_get, option_map, unwrap_or}
 use Rattle.std.proofs.lemmas.Bool.{and_parts, leb-true}
 use Rattle.std.proofs.lemmas.List.{get_or_past}
 use Rattle.std.proofs.lemmas.List.Sums.{AllPass-from_list_all}
-use Rattle.std.proofs.lemmas.Option.{get_or_from_slice_get}
+use Rattle.std.proofs.lemmas.Option.{get_or_from_slice_get, slice_get_within}
 use Rattle.sd_types.specs.declared.works.ThreadDecl.{ThreadDecl}
 use Rattle.sd_types.specs.declared.works.Work.{Work}
 use Rattle.sd_types.specs.Works.{class_fits, thread_fits, declared_of}
@@ -15,11 +15,6 @@ use Rattle.sd_state.specs.Opening.{opening, first_threads, first_thread}
 use Rattle.sd_state.proofs.OpeningLemmas.{length-first_threads}
 use Rattle.sd_state.proofs.Chosen.{places}
 
-slice_get-inside : {X : Type 0} (xs : List X) (i : ℕ) (x : X) → slice_get xs i ≡ Some x → i < length xs
-slice_get-inside [] i x e = cc
-slice_get-inside (y ∷ ys) zero x e = omega arith
-slice_get-inside (y ∷ ys) (suc i) x e = omega (arith, slice_get-inside ys i x e)
-
 slice_get-past : {X : Type 0} (xs : List X) (i : ℕ) → slice_get xs i ≡ None → length xs ≤ i
 slice_get-past [] i e = omega arith
 slice_get-past (y ∷ ys) zero e = cc
@@ -29,7 +24,7 @@ module _ (w : Work) (t : ℕ) where
   -- the thread that is declared with this number
   module _ (d : ThreadDecl) (is : slice_get w.threads t ≡ Some d) where
     pub decl_inside : t < length w.threads
-    decl_inside = slice_get-inside w.threads t d is
+    decl_inside = slice_get_within w.threads t d is
 
     pub decl_set : thread_set w t ≡ d.set
     decl_set = ap (λ (o : Option ThreadDecl). unwrap_or (option_map (λ x. x.set) o) (record { 0 = 0 })) is

@@ -1,6 +1,6 @@
 -- What a run says of the ticks of a thread: it begins and ceases to run by entries of its processor, whose count rises by the
 -- ticks that are the thread's in the accounts.
-use Rattle.std.proofs.Common.{◌≡◌, ◌≢◌, ℕ, zero, suc, ◌+◌, ◌-◌, ◌<◌, ◌≤◌, ◌⊎◌, Bool, true, false, cond, inl, inr, List, [], ◌∷◌, ◌++◌, length, take, drop, Option, Some, None, refl, sym, ap, subst, ◌∙◌, arith, add-one}
+use Rattle.std.proofs.Common.{◌≡◌, ◌≢◌, ℕ, zero, suc, ◌+◌, ◌-◌, ◌<◌, ◌≤◌, ◌⊎◌, true, false, cond, inl, inr, List, [], ◌∷◌, ◌++◌, length, take, drop, Option, Some, None, refl, sym, ap, subst, ◌∙◌, arith, add-one}
 use Rattle.std.specs.Prelude.{◌&&◌, ◌==◌, sum_by, slice_get, option_map, if◌then◌else◌}
 use Rattle.std.specs.List.{flat_map, range_with_len}
 use Rattle.std.proofs.lemmas.Bool.{cases_eq, cases_lt, cases_Bool, false≢true}
@@ -10,6 +10,8 @@ use Rattle.std.proofs.Math.Seq.{take-length}
 use Rattle.std.proofs.lemmas.Option.{slice_get-map, slice_get-get_or}
 use Rattle.std.proofs.lemmas.List.Concat.{flat_map-append}
 use Rattle.std.proofs.lemmas.List.Sums.{sum_by-cons}
+use Rattle.sd_basics.proofs.Ranges.{flat_range_same}
+use Rattle.sd_basics.proofs.Truths.{and_never}
 use Rattle.sd_types.specs.declared.numbers.CpuId.{CpuId}
 use Rattle.sd_types.specs.declared.numbers.LockId.{LockId}
 use Rattle.sd_types.specs.declared.numbers.ThreadId.{ThreadId}
@@ -54,7 +56,6 @@ use Rattle.sd_stretches.specs.Histories.{entry_before, moment, happenings_in, ov
 use Rattle.sd_stretches.specs.Rows.{own_turns, stretches, stretches_of}
 use Rattle.sd_stretches.specs.Spins.{cut_all, pieces, spell_by, spells_on}
 use Rattle.sd_stretches.proofs.ExactLemmas.{filter_flat, one_of, own_if, own_if_own, same_self, there}
-use Rattle.sd_stretches.proofs.RangeLemmas.{flat_range_same}
 use Rattle.sd_statistics.proofs.Local.{others_keep}
 use Rattle.sd_statistics.proofs.Steps.{made_by, many, reached, Made as Entered}
 use Rattle.sd_statistics.specs.Accounted.{RunningTicksAreAccounted}
@@ -82,10 +83,6 @@ one_place (place.Running e) c d a b = grind (arith, nat_tests)
 one_place p c d a b = cc
 
 -- ---- whose tick an event is
-
-and_none : (b : Bool) → (b && false) ≡ false
-and_none true = refl
-and_none false = refl
 
 abbrev charged : ℕ → Event → ℕ
 charged t e = if is_tick_of t e then 1 else 0
@@ -126,7 +123,7 @@ own_ticks : (w : Work) (s : State) (t c : ℕ) (e : CpuId) (ev : Event) → OneR
 own_ticks w s t c e (Tick u) one inside on cause = tick_by_runner s t c e.0 u.0 one inside on cause.0.1.runs
 own_ticks w s t c e (Spin u l) one inside on cause = tick_by_runner s t c e.0 u.0 one inside on cause.0.1.acts.runs
 own_ticks w s t c e Idle one inside on cause = idle_elsewhere s t c e.0 inside on cause.0.idle.nobody
-own_ticks w s t c e ev one inside on cause = and_none (e.0 == c)
+own_ticks w s t c e ev one inside on cause = and_never (e.0 == c)
 
 runs_apart : (s : State) (t e u : ℕ) → is_on (doing_of (thread_of s t).place) ≡ false → runner s e ≡ Some u → (u == t) ≡ false
 runs_apart s t e u off runs = elim (cases_eq u t) [

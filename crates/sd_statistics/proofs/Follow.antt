@@ -5,6 +5,7 @@ use Rattle.std.specs.List.{flat_map, range_with_len}
 use Rattle.std.proofs.lemmas.Bool.{cases_eq}
 use Rattle.std.proofs.lemmas.List.{length-map}
 use Rattle.std.proofs.lemmas.Option.{slice_get-map, slice_get-get_or}
+use Rattle.sd_basics.proofs.Ranges.{flat_range_same}
 use Rattle.sd_types.specs.declared.events.Entry.{Entry}
 use Rattle.sd_types.specs.declared.works.Work.{Work}
 use Rattle.sd_state.specs.declared.states.State.{State}
@@ -25,7 +26,6 @@ use Rattle.sd_stretches.specs.Sights.{runs_on, sight_of, sights_of}
 use Rattle.sd_stretches.specs.Changes.{turn_if, turns_between}
 use Rattle.sd_stretches.specs.Histories.{moment, sights_before, entry_before, tick_by, over, turns_in}
 use Rattle.sd_stretches.specs.Rows.{slices}
-use Rattle.sd_stretches.proofs.RangeLemmas.{flat_range_same}
 use Rattle.sd_statistics.specs.Follow.{FollowInTime, SlicesFollowInTime}
 use Rattle.sd_statistics.proofs.Local.{others_keep}
 use Rattle.sd_statistics.proofs.Steps.{made_by, many, reached, runs_place}

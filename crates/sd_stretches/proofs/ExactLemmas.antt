@@ -7,6 +7,7 @@ use Rattle.std.proofs.lemmas.Bool.Decides.{nat_tests}
 use Rattle.std.proofs.lemmas.List.{append-nil, length-map}
 use Rattle.std.proofs.lemmas.List.Elements.{filter-append}
 use Rattle.std.proofs.lemmas.Option.{slice_get-map, slice_get-get_or}
+use Rattle.sd_basics.proofs.Ranges.{flat_range_same}
 use Rattle.sd_types.specs.declared.events.Entry.{Entry}
 use Rattle.sd_types.specs.declared.works.Work.{Work}
 use Rattle.sd_state.specs.Opening.{opening}
@@ -23,7 +24,6 @@ use Rattle.sd_stretches.specs.Changes.{turn_from, turn_if, turns_between}
 use Rattle.sd_stretches.specs.Histories.{moment, sights_before, entry_before, tick_by, over, turns_in}
 use Rattle.sd_stretches.specs.Rows.{own_turns, stretch_to, next_of, stretches_of, stretches}
 use Rattle.sd_stretches.specs.Exact.{doing_at, AreExact, StretchesAreExact}
-use Rattle.sd_stretches.proofs.RangeLemmas.{flat_range_same}
 
 pub same_is : (x y : Doing) → same_doing x y ≡ true → x ≡ y
 same_is (Running c) (Running d) h = let e : c.0 ≡ d.0 = grind (arith, nat_tests) in ap (λ n. Running (record { 0 = n })) e

@@ -5,6 +5,7 @@ use Rattle.std.specs.List.{flat_map, range_with_len}
 use Rattle.std.proofs.lemmas.List.{take-append-le, take_all, length-append, append-nil, get_or_append_left}
 use Rattle.std.proofs.lemmas.Option.{slice_get-get_or}
 use Rattle.std.proofs.Math.Seq.{get_or-append_seam}
+use Rattle.sd_basics.proofs.Ranges.{flat_range_more, flat_range_same}
 use Rattle.sd_types.specs.declared.events.Entry.{Entry}
 use Rattle.sd_types.specs.declared.works.Work.{Work}
 use Rattle.sd_state.specs.declared.states.State.{State}
@@ -15,7 +16,6 @@ use Rattle.sd_stretches.specs.declared.histories.History.{History}
 use Rattle.sd_stretches.specs.Sights.{sights_of}
 use Rattle.sd_stretches.specs.Changes.{turns_between, ranks_between, load_if, hand_overs_of, happenings_of, wakeups_of}
 use Rattle.sd_stretches.specs.Histories.{Moment, moment, over, turns_in, ranks_in, loads_in, hand_overs_in, wakeups_in, happenings_in, IsHistory}
-use Rattle.sd_stretches.proofs.RangeLemmas.{flat_range_more, flat_range_same}
 
 module _ (w : Work) (es : List Entry) (e : Entry) where
   pub state_stays : (k : ℕ) → k ≤ length es → state_at w (es ++ e ∷ []) k ≡ state_at w es k

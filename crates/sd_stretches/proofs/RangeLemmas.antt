@@ -1,5 +1,5 @@
 -- Lists over a range of numbers, and one number more.
-use Rattle.std.proofs.Common.{◌≡◌, ℕ, zero, suc, ◌+◌, ◌<◌, Bool, List, [], ◌∷◌, ◌++◌, length, map, take, get_or, append_assoc, refl, sym, ap, ◌∙◌, arith}
+use Rattle.std.proofs.Common.{◌≡◌, ℕ, ◌+◌, ◌<◌, Bool, List, [], ◌∷◌, ◌++◌, length, map, take, get_or, append_assoc, sym, ap, ◌∙◌}
 use Rattle.std.specs.Prelude.{filter}
 use Rattle.std.specs.List.{flat_map, range_with_len}
 use Rattle.std.proofs.lemmas.List.{append-nil, map-append, take_more}
@@ -7,20 +7,7 @@ use Rattle.std.proofs.lemmas.List.Elements.{filter-append}
 use Rattle.std.proofs.lemmas.List.Concat.{flat_map-append}
 use Rattle.std.proofs.lemmas.List.Folds.{flat_map-map}
 use Rattle.std.proofs.lemmas.List.FromFn.{map-range_with_len_more}
-
-pub flat_range_more : {A : Type 0} (f : ℕ → List A) (n : ℕ) → flat_map f (range_with_len 0 (n + 1)) ≡ flat_map f (range_with_len 0 n) ++ f n
-flat_range_more {A} f n =
-    sym (flat_map-map (λ (line : List A). line) f (range_with_len 0 (n + 1)))
-    ∙ ap (flat_map (λ (line : List A). line)) (map-range_with_len_more f 0 n n (omega arith))
-    ∙ flat_map-append (λ (line : List A). line) (map f (range_with_len 0 n)) (f n ∷ [])
-    ∙ ap (λ (text : List A). flat_map (λ (line : List A). line) (map f (range_with_len 0 n)) ++ text) (append-nil (f n))
-    ∙ ap (λ (text : List A). text ++ f n) (flat_map-map (λ (line : List A). line) f (range_with_len 0 n))
-
-pub flat_range_same : {A : Type 0} (f g : ℕ → List A) (a n : ℕ) → ((t : ℕ) → t < a + n → f t ≡ g t) → flat_map f (range_with_len a n) ≡ flat_map g (range_with_len a n)
-flat_range_same f g a zero same = refl
-flat_range_same {A} f g a (suc n) same =
-    ap (λ (text : List A). text ++ flat_map f (range_with_len (a + 1) n)) (same a (omega arith))
-    ∙ ap (λ (text : List A). g a ++ text) (flat_range_same f g (a + 1) n (λ t inside. same t (omega arith)))
+use Rattle.sd_basics.proofs.Ranges.{flat_range_more}
 
 -- what a loop over a range has pushed, and one number more
 pub range_pushed : {A : Type 0} (f : ℕ → List A) (n : ℕ) (start out pushed : List A) → out ≡ start ++ flat_map f (range_with_len 0 n) → pushed ≡ out ++ f n

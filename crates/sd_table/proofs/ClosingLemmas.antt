@@ -5,6 +5,7 @@ use Rattle.std.specs.declared.alloc.Global.{Global}
 use Rattle.std.proofs.lemmas.Bool.{cases_eq, cases_lt}
 use Rattle.std.proofs.lemmas.List.{get_or-set_other, map-append}
 use Rattle.std.proofs.lemmas.Option.{get_or_from_slice_get, slice_get-map, slice_get_within}
+use Rattle.sd_basics.proofs.Lists.{get_last}
 use mathlib.Core.Option as M
 use lib.ListN.{get_elem?}
 use Rattle.atomic_table.specs.Seated.{TableId}
@@ -45,7 +46,7 @@ use Rattle.sd_table.specs.Intents.{gathers_more}
 use Rattle.sd_table.specs.Logs.{AreLogsOf}
 use Rattle.sd_table.specs.Seats.{Fits, desk, indices, lent}
 use Rattle.sd_table.specs.Whole.{AreLogged, AreSeats, HasEnded, IsGathered, IsSeatOf}
-use Rattle.sd_table.proofs.LogLemmas.{at_early, at_last, empty_by}
+use Rattle.sd_table.proofs.LogLemmas.{at_early, empty_by}
 use Rattle.sd_table.proofs.Stood.{has_stood}
 
 -- as many as there were
@@ -123,7 +124,7 @@ taken_next xs i out new x t at e = subst (Taken xs (i + 1)) (sym e) (record {
     by k y below is (inr behind) =
         let same : k ≡ i = omega (arith, below, behind) in
         let one : x ≡ y = M.some-injective x y (sym at ∙ (ap (get_elem? xs) (sym same) ∙ is)) in
-        ap (slice_get (out ++ x ∷ [])) (same ∙ sym t.many) ∙ (at_last out x ∙ ap Some one)
+        ap (slice_get (out ++ x ∷ [])) (same ∙ sym t.many) ∙ (get_last out x ∙ ap Some one)
 
 -- a place that was emptied
 pub emptied_rest : (fs gs : List Bool) (i n m : ℕ) → gs ≡ set fs i false → ((k : ℕ) → i ≤ k → k < n → get_or fs k false ≡ true) → m ≡ n → (k : ℕ) → i + 1 ≤ k → k < m → get_or gs k false ≡ true

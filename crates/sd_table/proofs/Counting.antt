@@ -1,5 +1,6 @@
 -- Two hands that hold the same homes hold as many.
 use Rattle.std.proofs.Common.{◌≡◌, ℕ, zero, suc, ◌+◌, Bool, true, false, is_some, List, [], ◌∷◌, set, slice_get, Option, Some, None, refl, sym, ap, ◌∙◌, subst}
+use Rattle.sd_basics.proofs.Lists.{none_of}
 use Rattle.sd_types.specs.declared.numbers.HomeId.{HomeId}
 use Rattle.sd_homes.specs.declared.home.Home.{Home}
 use Rattle.sd_homes.specs.Families.{home_id, same_home}
@@ -86,12 +87,8 @@ held_at k (Some g ∷ hs) e = by (same_home k (home_id g)) refl (held_at k hs)
     by true f r = (0, g, refl, sym (same_home_true k (home_id g) f))
     by false f r = let (i, h, there, is) = r (rw f at e) in (suc i, h, there, is)
 
-none_is : (o : Option Home) → is_some o ≡ false → o ≡ None
-none_is None e = refl
-none_is (Some h) e = absurd cc
-
 pub same_count : (hs gs : List (Option Home)) → AreApart hs → AreApart gs → ((k : HomeId) → is_some (held k hs) ≡ is_some (held k gs)) → how_many_held hs ≡ how_many_held gs
-same_count [] gs a b same = sym (none_held gs (λ k. none_is (held k gs) (sym (same k))))
+same_count [] gs a b same = sym (none_held gs (λ k. none_of (held k gs) (sym (same k))))
 same_count (None ∷ hs) gs a b same = same_count hs gs a b same
 same_count (Some h ∷ hs) gs a b same =
     let here : is_some (held (home_id h) (Some h ∷ hs)) ≡ true = rw (same_home_self (home_id h)) refl in

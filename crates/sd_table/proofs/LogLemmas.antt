@@ -5,17 +5,13 @@ use Rattle.std.specs.List.{All, Contains}
 use Rattle.std.specs.declared.alloc.Global.{Global}
 use Rattle.std.proofs.lemmas.Bool.{cases_eq}
 use Rattle.std.proofs.lemmas.Bool.Decides.{nat_tests}
-use Rattle.std.proofs.lemmas.List.{ext_get_or, get_or-set_same, get_or-set_other, length-set}
+use Rattle.std.proofs.lemmas.List.{get_or-set_same, get_or-set_other, length-set}
 use Rattle.std.proofs.lemmas.List.Elements.{All-contains, All-filter, All-from_get_or, Contains-push, Contains-push_cases, Contains-append_left}
 use Rattle.std.proofs.lemmas.Option.{get_or_from_slice_get, slice_get-get_or, slice_get_within}
+use Rattle.sd_basics.proofs.Lists.{get_last, get_set}
 use Rattle.sd_types.specs.declared.events.Entry.{Entry}
 use Rattle.sd_table_rule.specs.Ledgers.{by}
 use Rattle.sd_table.specs.Logs.{AreIn, AreLogsOf, HasPut, IsNumbered}
-
--- what stands in a list with one more at its end
-pub at_last : {X : Type 0} (xs : List X) (x : X) → slice_get (xs ++ x ∷ []) (length xs) ≡ Some x
-at_last [] x = refl
-at_last (y ∷ ys) x = at_last ys x
 
 pub at_early : {X : Type 0} (xs : List X) (x y : X) (i : ℕ) → slice_get xs i ≡ Some y → slice_get (xs ++ x ∷ []) i ≡ Some y
 at_early [] x y i e = absurd cc
@@ -23,9 +19,6 @@ at_early (z ∷ zs) x y zero e = e
 at_early (z ∷ zs) x y (suc i) e = at_early zs x y i e
 
 -- One place more is filled.
-
-slice_set_same : {X : Type 0} (xs : List X) (i : ℕ) (x : X) → i < length xs → slice_get (set xs i x) i ≡ Some x
-slice_set_same xs i x inside = slice_get-get_or (set xs i x) i x (subst (λ m. i < m) (sym (length-set xs i x)) inside) ∙ ap Some (get_or-set_same xs i x x inside)
 
 slice_set_other : {X : Type 0} (xs : List X) (i j : ℕ) (x y : X) → j ≢ i → slice_get xs j ≡ Some y → slice_get (set xs i x) j ≡ Some y
 slice_set_other xs i j x y apart at =
@@ -78,13 +71,13 @@ puts_next first es0 log rest es x p is = record {
     put_at h among i e at old (inl same) =
         let here : slice_get h x.number ≡ Some x = among x (p.among x mine) in
         let is_e : e ≡ x = some_same (slice_get h i) e x at (ap (slice_get h) same ∙ here) in
-        ap (slice_get (set es x.number x)) same ∙ (slice_set_same es x.number x number ∙ ap Some (sym is_e))
+        ap (slice_get (set es x.number x)) same ∙ (get_set es x.number x number ∙ ap Some (sym is_e))
     put_at h among i e at old (inr other) = slice_set_other es x.number i x e other old
 
     new_at : (h : List Entry) → IsNumbered h → (i : ℕ) (e : Entry) → slice_get h i ≡ Some e → x ≡ e → slice_get (set es x.number x) i ≡ Some e
     new_at h numbered i e at is_e =
         let place : x.number ≡ i = ap (λ (y : Entry). y.number) is_e ∙ numbered i e at in
-        ap (slice_get (set es x.number x)) (sym place) ∙ (slice_set_same es x.number x number ∙ ap Some is_e)
+        ap (slice_get (set es x.number x)) (sym place) ∙ (get_set es x.number x number ∙ ap Some is_e)
 
     next : (h : List Entry) → IsNumbered h → AreIn h first → (i : ℕ) (e : Entry) → slice_get h i ≡ Some e → (slice_get es i ≡ Some e) ⊎ Contains log e → (slice_get (set es x.number x) i ≡ Some e) ⊎ Contains rest e
     next h numbered among i e at (inl old) = inl (put_at h among i e at old (cases_eq i x.number))
@@ -146,7 +139,7 @@ fills_first h logs es are many = record {
 
 module _ (h : List Entry) (left rest : List (Vec Entry Global)) (log : Vec Entry Global) (es : List Entry) (f : Filling h left es) (is : left ≡ rest ++ log ∷ []) (numbered : IsNumbered h) where
   log_is : log.items ≡ by (length rest) h
-  log_is = f.logs (length rest) log (ap (λ l. slice_get l (length rest)) is ∙ at_last rest log)
+  log_is = f.logs (length rest) log (ap (λ l. slice_get l (length rest)) is ∙ get_last rest log)
 
   pub log_inside : AreIn h log.items
   log_inside = subst (AreIn h) (sym log_is) (log_in (length rest) h numbered)

@@ -8,6 +8,7 @@ use Rattle.std.proofs.lemmas.List.{length-replicate, get_or-append_right, get_or
 use Rattle.std.proofs.lemmas.List.Elements.{All-get_or}
 use Rattle.std.proofs.lemmas.Option.{slice_get-get_or}
 use Rattle.std.proofs.lemmas.List.FromFn.{get_or-map-range_with_len, length-map-range_with_len}
+use Rattle.sd_basics.proofs.Lists.{get_last}
 use mathlib.Core.Option as M
 use lib.ListN.{get_elem?}
 use Rattle.atomic_table.specs.Seated.{TableId}
@@ -48,7 +49,7 @@ use Rattle.sd_table.specs.declared.seat.Seat.{Seat}
 use Rattle.sd_table.specs.Seats.{AreNumbers, indices, is_counted}
 use Rattle.sd_table.specs.Whole.{AreFirstWords, AreHints, AreLaid, AreNew, AreSeats, HasLaid, IsSeatOf}
 use Rattle.sd_table.proofs.Fitting.{fits_as}
-use Rattle.sd_table.proofs.LogLemmas.{at_early, at_last}
+use Rattle.sd_table.proofs.LogLemmas.{at_early}
 
 -- Words.
 
@@ -168,7 +169,7 @@ lays_next z first now new i slots next k x l at is more e = record {
           at = (at.0 ∙ sym same, at.1);
           home = x;
           was = sym (l.left k at.1 (let q = at.0 in omega (arith, q))) ∙ (ap (λ n. held n now) (sym is) ∙ more.here);
-          there = ap (slice_get (slots ++ Some x ∷ [])) (same ∙ sym many) ∙ at_last slots (Some x);
+          there = ap (slice_get (slots ++ Some x ∷ [])) (same ∙ sym many) ∙ get_last slots (Some x);
         }
 
 pub left_there : (z : Sizes) (first now : List (Option Home)) (i : ℕ) (slots : List Slot) (k : HomeId) → Laying z first now i slots → IsNumberAt z i k → ((j : HomeId) → IsNumber z j → IsHeld j first) → held k now ≡ None → ⊥

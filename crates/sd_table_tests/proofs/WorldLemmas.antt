@@ -1,5 +1,5 @@
 -- The table as a world: after a call its seat is one of the same processor at the same table.
-use Rattle.std.proofs.Common.{◌≡◌, Some, Result, Ok, Err, refl, sym, ap, ◌∙◌, subst}
+use Rattle.std.proofs.Common.{◌≡◌, Result, Ok, Err, refl, sym, ap, ◌∙◌, subst}
 use Rattle.atomic_table.specs.Seated.{TableId}
 use Rattle.sd_types.specs.declared.events.Stop.{Stop}
 use Rattle.sd_types.specs.declared.works.Work.{Work}
@@ -16,6 +16,7 @@ use Rattle.sd_table.specs.Seats.{Fits, id_of, work_of}
 use Rattle.sd_threads.specs.declared.world.TableWorld.{TableWorld}
 use Rattle.sd_threads.specs.Tables.{IsTable, world_meaning}
 use Rattle.sd_table_tests.specs.Sitting.{IsFreeAfter, IsWorldAfter}
+use Rattle.std.proofs.lemmas.Option.{same_Some}
 
 pub same_world : (m m' : Meaning) (r : Result Attempted Stop) → Answers m m' r → IsSameWorld m m'
 same_world m m' (Ok (Made (Acted n))) a = a.world
@@ -24,9 +25,6 @@ same_world m m' (Ok (Made (Behind c n))) a = a.0.idles.world
 same_world m m' (Ok (Made Finished)) a = a.0.idles.world
 same_world m m' (Ok (Again passed)) a = a.idles.world
 same_world m m' (Err s) a = world_refused m m' s a
-
-some_id : (a b : TableId) → Some a ≡ Some b → a ≡ b
-some_id a b e = cc
 
 -- the world of a seat that holds no home
 pub world_new : (shared : Shared) (s : Seat) (x : TableWorld) → Fits (id_of shared) (work_of shared) s → how_many_held s.acting.hand.slots ≡ 0 → IsTable x → x.seat ≡ s → x.shared.now ≡ shared → IsWorldAfter (id_of shared) (work_of shared) s x
@@ -39,7 +37,7 @@ world_new shared s x fits free good seat table = record {
 
 pub world_after : (t : TableId) (w : Work) (s : Seat) (x y : TableWorld) → IsWorldAfter t w s x → IsTable y → IsEmpty (world_meaning y) → IsSameWorld (world_meaning x) (world_meaning y) → IsWorldAfter t w s y
 world_after t w s x y before good empty same =
-    let ids : id_of y.shared.now ≡ t = sym good.table ∙ (some_id y.seat.place.table_id x.seat.place.table_id same.table ∙ (before.good.table ∙ before.id)) in
+    let ids : id_of y.shared.now ≡ t = sym good.table ∙ (same_Some y.seat.place.table_id x.seat.place.table_id same.table ∙ (before.good.table ∙ before.id)) in
     let work : work_of y.shared.now ≡ w = same.work ∙ before.work in
     record {
       good = good;

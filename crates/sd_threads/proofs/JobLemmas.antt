@@ -24,6 +24,7 @@ use Rattle.sd_threads.specs.Tables.{IsTable, world_meaning}
 use Rattle.sd_threads.specs.declared.jobs.Job.{Job}
 use Rattle.sd_rounds.specs.Rounds.{IsLongRun}
 use Rattle.sd_threads.specs.Jobs.{AreJobs, HavePhased, IsFree, MadeAsLogged, WasStopped, seats_in}
+use Rattle.std.proofs.lemmas.Option.{same_Some}
 
 -- ---- a phase of one processor
 by_short : (c : ℕ) (h : List Entry) → length (by c h) ≤ length h
@@ -73,12 +74,9 @@ outcome_is a b e = cc
 
 -- x is the world before the phase, and y after it
 module _ (t : TableId) (w : Work) (x y : TableWorld) (table : id_of x.shared.now ≡ t) (work : work_of x.shared.now ≡ w) (before : IsTable x) (after : IsTable y) (same : IsSameWorld (world_meaning x) (world_meaning y)) where
-  some_id : (a b : TableId) → Some a ≡ Some b → a ≡ b
-  some_id a b e = cc
-
   pub fits_back : Fits t w y.seat
   fits_back =
-      let ids : id_of y.shared.now ≡ t = sym after.table ∙ (some_id y.seat.place.table_id x.seat.place.table_id same.table ∙ (before.table ∙ table)) in
+      let ids : id_of y.shared.now ≡ t = sym after.table ∙ (same_Some y.seat.place.table_id x.seat.place.table_id same.table ∙ (before.table ∙ table)) in
       subst (λ v. Fits t v y.seat) (same.work ∙ work) (subst (λ i. Fits i (work_of y.shared.now) y.seat) ids after)
 
   pub free_back : IsEmpty (world_meaning y) → IsFree t w y.seat

@@ -1,7 +1,8 @@
 -- A seat still fits after a try to take the home of a thread, and what the try says.
-use Rattle.std.proofs.Common.{◌≡◌, ◌≢◌, ℕ, ◌+◌, ◌<◌, true, false, List, [], ◌∷◌, length, is_some, Option, Some, None, refl, sym, ap, ◌∙◌, subst, inl, inr, arith}
+use Rattle.std.proofs.Common.{◌≡◌, ◌≢◌, ℕ, ◌+◌, ◌<◌, true, false, List, [], ◌∷◌, length, is_some, Some, None, refl, sym, ap, ◌∙◌, subst, inl, inr, arith}
 use Rattle.std.proofs.lemmas.Bool.{false≢true}
 use Rattle.std.proofs.lemmas.Bool.Decides.{nat_tests}
+use Rattle.sd_basics.proofs.Lists.{none_of}
 use Rattle.atomic_table.specs.Seated.{TableId}
 use Rattle.atomic_table.specs.Table.{Me, rest}
 use Rattle.sd_types.specs.declared.numbers.HomeId.{HomeId}
@@ -41,10 +42,6 @@ use Rattle.sd_threads.proofs.Listed.{listed_there}
 without_first : (k : ℕ) (ks : List ℕ) → without k (k ∷ ks) ≡ ks
 unfolding without
 without_first k ks = grind (arith, nat_tests)
-
-none_of : (o : Option Home) → is_some o ≡ false → o ≡ None
-none_of None e = refl
-none_of (Some x) e = absurd (false≢true (sym e))
 
 -- the thread stands in the home that its place names, where that is held
 listed_by : (w : Work) (t : TableId) (s : Seat) (u : ThreadId) (k : HomeId) (x : Home) → Fits t w s → IsNumber (sizes w) k → u.0 < thread_count w → place_home w (now w (desk s).seen) u.0 ≡ index_of (sizes w) k

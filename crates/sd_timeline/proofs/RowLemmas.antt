@@ -10,9 +10,9 @@ use Rattle.std.proofs.lemmas.List.FromFn.{get_or-range_with_len, length-range_wi
 use Rattle.std.proofs.lemmas.List.Sorted.{All-permutation, Contains-permutation, IsPermutation-filter_both, length_permutation}
 use Rattle.std.proofs.lemmas.Map.Keys.{IsDistinct-IsPermutation}
 use Rattle.std.proofs.Math.Seq.{take-append-add}
+use Rattle.sd_basics.proofs.Ranges.{range_more}
 use Rattle.sd_types.specs.declared.works.Work.{Work}
 use Rattle.sd_stretches.specs.declared.histories.History.{History}
-use Rattle.sd_stretches.proofs.RangeLemmas.{flat_range_more}
 use Rattle.sd_timeline.specs.declared.frames.Frame.{Frame}
 use Rattle.sd_timeline.specs.Rows.{ActingThreadsComeFirst, AllRowsAreOwn, acts, all_threads, ordered, rows_of}
 
@@ -49,10 +49,6 @@ distinct_take (suc n) (x ∷ xs) h = (all_take (λ y. eqb x y ≡ false) n xs h.
 flat_one : (xs : List ℕ) → flat_map (λ t. t ∷ []) xs ≡ xs
 flat_one [] = refl
 flat_one (x ∷ xs) = ap (λ ys. x ∷ ys) (flat_one xs)
-
-range_more : (n : ℕ) → range_with_len 0 (n + 1) ≡ range_with_len 0 n ++ n ∷ []
-range_more n =
-    sym (flat_one (range_with_len 0 (n + 1))) ∙ flat_range_more (λ t. t ∷ []) n ∙ ap (λ (xs : List ℕ). xs ++ n ∷ []) (flat_one (range_with_len 0 n))
 
 pub range_grown : (n : ℕ) (old new : List ℕ) → old ≡ range_with_len 0 n → new ≡ old ++ n ∷ [] → new ≡ range_with_len 0 (n + 1)
 range_grown n old new so_far more = more ∙ ap (λ (xs : List ℕ). xs ++ n ∷ []) so_far ∙ sym (range_more n)

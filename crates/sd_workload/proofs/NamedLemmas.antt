@@ -1,5 +1,5 @@
 -- What scripts name stays named when more is declared.
-use Rattle.std.proofs.Common.{◌≡◌, ℕ, zero, suc, ◌≤◌, Bool, true, ◌&&◌, leb, List, [], ◌∷◌, ◌++◌, length, Option, Some, None, refl}
+use Rattle.std.proofs.Common.{◌≡◌, ℕ, ◌≤◌, true, ◌&&◌, leb, List, [], ◌∷◌, ◌++◌, length, Option, Some, None, refl}
 use Rattle.std.proofs.lemmas.Bool.{and_parts, and_from}
 use Rattle.std.specs.List.{list_all, slice_get}
 use Rattle.std.proofs.lemmas.Option.{none-some}
@@ -20,11 +20,6 @@ pub record Extends (d e : Declared) : Type 0 where
   pub lock_count : length d.locks ≤ length e.locks
   pub locks : (i : ℕ) (x : LockKind) → slice_get d.locks i ≡ Some x → slice_get e.locks i ≡ Some x
   pub chans : (i : ℕ) (x : ChanKind) → slice_get d.chans i ≡ Some x → slice_get e.chans i ≡ Some x
-
-pub get-push : {X : Type 0} (xs ys : List X) (i : ℕ) (x : X) → slice_get xs i ≡ Some x → slice_get (xs ++ ys) i ≡ Some x
-get-push [] ys i x e = absurd (none-some x e)
-get-push (y ∷ xs) ys zero x e = e
-get-push (y ∷ xs) ys (suc i) x e = get-push xs ys i x e
 
 bound-more : (m n : ℕ) (c : Option CpuId) → m ≤ n → bound_fits m c ≡ true → bound_fits n c ≡ true
 bound-more m n None l h = refl

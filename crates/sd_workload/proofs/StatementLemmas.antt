@@ -9,6 +9,7 @@ use Rattle.std.proofs.lemmas.Int.{ints}
 use Rattle.std.proofs.lemmas.List.{map-append, nil_from_length, length-map}
 use Rattle.std.proofs.lemmas.List.Concat.{flat_map-append, length-flat_map}
 use Rattle.std.proofs.lemmas.List.Folds.{list_all-append, list_any-append}
+use Rattle.sd_basics.proofs.Lists.{get_more}
 use Rattle.sd_types.specs.declared.numbers.CpuId.{CpuId}
 use Rattle.sd_types.specs.declared.classes.ClassParms.TheVariants as parms
 use Rattle.sd_types.specs.declared.works.LockKind.{LockKind}
@@ -30,7 +31,7 @@ use Rattle.sd_declare.proofs.PlaceLemmas.{none-placed, any_kept}
 use Rattle.sd_workload.specs.Sound.{named, named_cpus, set_is_sound, thread_is_sound, AreSets, IsSound}
 use Rattle.sd_workload.proofs.ClearLemmas.{clear}
 use Rattle.sd_workload.proofs.NameLemmas.{distinct-push, distinct-more, named-push}
-use Rattle.sd_workload.proofs.NamedLemmas.{get-push, threads-more}
+use Rattle.sd_workload.proofs.NamedLemmas.{threads-more}
 use Rattle.sd_workload.proofs.LineLemmas.{all-push}
 
 -- ---- settings
@@ -161,7 +162,7 @@ set-sound d name cs none s =
 
 kinds-push : {X : Type 0} (xs : List (Word × X)) (y : Word × X) (i : ℕ) (x : X) → slice_get (map (λ z. z.1) xs) i ≡ Some x → slice_get (map (λ z. z.1) (xs ++ y ∷ [])) i ≡ Some x
 kinds-push {X} xs y i x e =
-    ap (λ l. slice_get l i) (map-append (λ (z : Word × X). z.1) xs (y ∷ [])) ∙ get-push (map (λ (z : Word × X). z.1) xs) (map (λ (z : Word × X). z.1) (y ∷ [])) i x e
+    ap (λ l. slice_get l i) (map-append (λ (z : Word × X). z.1) xs (y ∷ [])) ∙ get_more (map (λ (z : Word × X). z.1) xs) (map (λ (z : Word × X). z.1) (y ∷ [])) i x e
 
 kinds-count : {X : Type 0} (xs : List (Word × X)) (y : Word × X) → length (map (λ z. z.1) xs) ≤ length (map (λ z. z.1) (xs ++ y ∷ []))
 kinds-count {X} xs y =

@@ -7,6 +7,7 @@ use Rattle.std.proofs.lemmas.Bool.Decides.{nat_tests}
 use Rattle.std.proofs.lemmas.List.{length-map}
 use Rattle.std.proofs.lemmas.List.Folds.{list_all-map, flat_map-map}
 use Rattle.std.proofs.lemmas.List.FromFn.{length-map-range_with_len}
+use Rattle.sd_basics.proofs.Lists.{map-map}
 use Rattle.sd_types.specs.declared.numbers.CpuId.{CpuId}
 use Rattle.sd_types.specs.declared.names.Name.{Name}
 use Rattle.sd_types.specs.declared.works.LockKind.{LockKind}
@@ -18,7 +19,7 @@ use Rattle.sd_lines.specs.Words.{Word}
 use Rattle.sd_declare.specs.declared.declared.Declared.{Declared as Kept}
 use Rattle.sd_declare.specs.Declarations.{Thread, Declarations, cpu_count}
 use Rattle.sd_declare.specs.Kept.{set_kept, lock_kept, chan_kept, thread_kept, declarations}
-use Rattle.sd_declare.proofs.PlaceLemmas.{map-map, sum_kept}
+use Rattle.sd_declare.proofs.PlaceLemmas.{sum_kept}
 use Rattle.sd_workload.specs.Sound.{named, named_cpus, set_is_sound, thread_is_sound, IsSound}
 use Rattle.sd_workload.specs.Texts.{Outside, end_causes, end_cause}
 use Rattle.sd_workload.proofs.ClearLemmas.{clear}

@@ -1,8 +1,9 @@
 -- The counts and the duties of processors, as a list in the order of their numbers.
-use Rattle.std.proofs.Common.{◌≡◌, ℕ, ◌+◌, ◌<◌, ◌⊎◌, zero, suc, Bool, ◌&&◌, List, [], ◌∷◌, ◌++◌, length, get_or, slice_get, Some, refl, sym, ap, ◌∙◌, subst, inl, inr, arith, length-append}
+use Rattle.std.proofs.Common.{◌≡◌, ℕ, ◌+◌, ◌<◌, ◌⊎◌, suc, Bool, ◌&&◌, List, [], ◌∷◌, ◌++◌, length, get_or, slice_get, Some, refl, sym, ap, ◌∙◌, subst, inl, inr, arith, length-append}
 use Rattle.std.specs.Prelude.{nat_le}
 use Rattle.std.specs.List.{list_all}
 use Rattle.std.proofs.lemmas.Option.{get_or_from_slice_get, slice_get-get_or}
+use Rattle.sd_basics.proofs.Lists.{get_cases}
 use Rattle.sd_types.specs.declared.numbers.CpuId.{CpuId}
 use Rattle.sd_state.specs.declared.states.CpuState.{CpuState}
 use Rattle.sd_state.specs.declared.states.State.{State}
@@ -18,19 +19,10 @@ pub record AreFirst (s : State) (c : ℕ) (actors : List Actor) : Type 0 where
 pub none_first : (s : State) (actors : List Actor) → actors ≡ [] → AreFirst s 0 actors
 none_first s actors e = record { many = ap length e; each = λ i a at. let none = ap (λ xs. slice_get xs i) (sym e) ∙ at in absurd cc }
 
-at_push : {A : Type 0} (xs : List A) (a b : A) (i : ℕ) → slice_get (xs ++ a ∷ []) i ≡ Some b → (slice_get xs i ≡ Some b) ⊎ ((i ≡ length xs) × (a ≡ b))
-at_push [] a b zero e = inr (refl, cc)
-at_push [] a b (suc i) e = absurd cc
-at_push (x ∷ xs) a b zero e = inl e
-at_push (x ∷ xs) a b (suc i) e = elim (at_push xs a b i e) [
-  | inl before ↦ inl before
-  | inr here ↦ inr (ap suc here.0, here.1)
-]
-
 pub one_first : (s : State) (c : ℕ) (actors new : List Actor) (a : Actor) → AreFirst s c actors → IsActorOf s c a → new ≡ actors ++ a ∷ [] → AreFirst s (c + 1) new
 one_first s c actors new a first is pushed = subst (AreFirst s (c + 1)) (sym pushed) (record {
   many = length-append actors (a ∷ []) ∙ ap (λ n. n + 1) first.many;
-  each = λ i b at. by i b (at_push actors a b i at);
+  each = λ i b at. by i b (get_cases actors a b i at);
 })
   where
     by : (i : ℕ) (b : Actor) → (slice_get actors i ≡ Some b) ⊎ ((i ≡ length actors) × (a ≡ b)) → IsActorOf s i b

@@ -1,10 +1,12 @@
 -- The threads of a state come to its homes, one after another in the order of their numbers.
-use Rattle.std.proofs.Common.{◌≡◌, ◌≢◌, ℕ, ◌+◌, ◌++◌, is_some, ◌<◌, ◌≤◌, ◌⊎◌, zero, suc, Bool, true, false, ◌&&◌, List, [], ◌∷◌, length, get_or, Option, Some, None, refl, sym, ap, ◌∙◌, subst, inl, inr, arith, le_refl, slice_get}
+use Rattle.std.proofs.Common.{◌≡◌, ◌≢◌, ℕ, ◌+◌, ◌++◌, is_some, ◌<◌, ◌≤◌, ◌⊎◌, zero, suc, true, false, ◌&&◌, List, [], ◌∷◌, length, get_or, Option, Some, None, refl, sym, ap, ◌∙◌, subst, inl, inr, arith, le_refl, slice_get}
 use Rattle.std.specs.Prelude.{ℤ, pos, neg_ℤ, ◌≤ℤ◌, ◌<ℤ◌, ◌==◌, nat_lt}
 use Rattle.std.proofs.lemmas.Bool.{cases_eq, cases_lt, cases_Bool, eqb-true, false≢true, and_from}
 use Rattle.std.proofs.lemmas.Bool.Decides.{nat_tests}
 use Rattle.std.proofs.lemmas.List.{length-append}
-use Rattle.std.proofs.lemmas.Option.{slice_get-get_or, slice_get_within, get_or_from_slice_get}
+use Rattle.std.proofs.lemmas.Option.{slice_get-get_or, slice_get_within, get_or_from_slice_get, slice_get_past}
+use Rattle.sd_basics.proofs.Lists.{get_last}
+use Rattle.sd_basics.proofs.Truths.{and_left, and_right}
 use Rattle.sd_types.specs.declared.numbers.ChanId.{ChanId}
 use Rattle.sd_types.specs.declared.numbers.CpuId.{CpuId}
 use Rattle.sd_types.specs.declared.numbers.HomeId.{HomeId}
@@ -46,7 +48,6 @@ use Rattle.sd_hand.proofs.SlotLemmas.{edit_held, same_default}
 use Rattle.sd_footprint.specs.Changed.{RanThere}
 use Rattle.sd_world.specs.Homes.{AllHomes, AreBare, ArePlaced, HasBare, IsBare, IsNumber, IsNumberAt, IsPlaced, ShowsNone, Sizes, how_many, index_of, sizes_of, threads_below}
 use Rattle.sd_world.proofs.NumberLemmas.{held_slot, index_below, placed_apart, placed_only, slot_of_number}
-use Rattle.sd_world.proofs.OtherHomes.{none_past}
 
 -- what is known of the threads of a state
 pub record IsOrderly (n : ℕ) (s : State) : Type 0 where
@@ -90,7 +91,7 @@ below_all s = λ i u. by u (cases_lt u (length s.threads)) i
   where
     by : (u : ℕ) → (u < length s.threads) ⊎ (length s.threads ≤ u) → threads_below (length s.threads) s u ≡ look_of s u
     by u (inl inside) = let less : nat_lt u (length s.threads) ≡ true = grind (arith, nat_tests) in rw less refl
-    by u (inr past) = let no : nat_lt u (length s.threads) ≡ false = grind (arith, nat_tests) in rw no (sym (none_past s.threads u past))
+    by u (inr past) = let no : nat_lt u (length s.threads) ≡ false = grind (arith, nat_tests) in rw no (sym (slice_get_past s.threads u past))
 
 -- one of those below is one of the state's, with a smaller number
 record IsBelow (t : ℕ) (s : State) (u : ℕ) (y : ThreadState) : Type 0 where
@@ -109,14 +110,6 @@ of_below t s u y e = by (cases_lt u t)
     by (inr behind) = let no : nat_lt u t ≡ false = grind (arith, nat_tests) in let none = rw no at e in absurd cc
 
 -- Two threads in one list with keys are in one queue.
-
-first : (a b : Bool) → (a && b) ≡ true → a ≡ true
-first true b e = refl
-first false b e = absurd (false≢true e)
-
-second : (a b : Bool) → (a && b) ≡ true → b ≡ true
-second true b e = e
-second false b e = absurd (false≢true e)
 
 sides : (a b : Side) → same_waiting a b ≡ true → same_side a b ≡ true
 sides Writer Writer e = refl
@@ -140,7 +133,7 @@ urgent_with p k last _ e = absurd (false≢true e)
 
 waits_with : (l : LockId) (side : Side) (k : ℤ) (last : CpuId) (q : Place) → stands_at (Waits l side) last q ≡ true → InQueue (Waiting l side k) q
 waits_with l side k last (Waiting m other j) e =
-    (and_from (l.0 == m.0) (same_side side other) (turned m.0 l.0 (first (m.0 == l.0) (same_waiting side other) e)) (sides side other (second (m.0 == l.0) (same_waiting side other) e)), refl)
+    (and_from (l.0 == m.0) (same_side side other) (turned m.0 l.0 (and_left (m.0 == l.0) (same_waiting side other) e)) (sides side other (and_right (m.0 == l.0) (same_waiting side other) e)), refl)
 waits_with l side k last _ e = absurd (false≢true e)
 
 sleeps_with : (ch : ChanId) (k : ℤ) (last : CpuId) (q : Place) → stands_at (Sleeps ch) last q ≡ true → InQueue (Asleep ch k) q
@@ -369,10 +362,6 @@ append_left [] ys j h = absurd (omega arith)
 append_left (x ∷ xs) ys zero h = refl
 append_left (x ∷ xs) ys (suc j) h = append_left xs ys j (omega arith)
 
-append_last : {X : Type 0} (xs : List X) (y : X) → slice_get (xs ++ y ∷ []) (length xs) ≡ Some y
-append_last [] y = refl
-append_last (x ∷ xs) y = append_last xs y
-
 -- one home without threads more
 pub bare_more : (s : State) (i : ℕ) (old new : List (Option Home)) (k : HomeId) (h : Home) → AreBare s i old → IsNumberAt (sizes_of s) i k → home_id h ≡ k → IsBare s h → new ≡ old ++ Some h ∷ [] → AreBare s (i + 1) new
 bare_more s i old new k h are number id-is bare pushed = subst (AreBare s (i + 1)) (sym pushed) (record { many = many; each = λ j below. by j below (cases_lt j i) })
@@ -391,7 +380,7 @@ bare_more s i old new k h are number id-is bare pushed = subst (AreBare s (i + 1
         let last : j ≡ length old = omega arith in
         record {
           home = h;
-          there = ap (slice_get (old ++ Some h ∷ [])) last ∙ append_last old (Some h);
+          there = ap (slice_get (old ++ Some h ∷ [])) last ∙ get_last old (Some h);
           placed = record { number = subst (IsNumber (sizes_of s)) (sym id-is) number.1; index = ap (index_of (sizes_of s)) id-is ∙ (number.0 ∙ sym same) };
           bare = bare;
         }

@@ -1,15 +1,15 @@
 -- A home in which none of the parts lies that an event touches stands as it was.
-use Rattle.std.proofs.Common.{◌≡◌, ℕ, ◌+◌, ◌%◌, ◌<◌, ◌≤◌, ◌⊎◌, zero, suc, Bool, true, false, ◌&&◌, List, [], ◌∷◌, length, Some, None, refl, ap, ◌∙◌, sym, subst, inl, inr, arith, slice_get}
+use Rattle.std.proofs.Common.{◌≡◌, ℕ, ◌+◌, ◌%◌, ◌<◌, ◌≤◌, ◌⊎◌, true, false, ◌&&◌, List, [], ◌∷◌, length, Some, None, refl, ap, ◌∙◌, sym, subst, inl, inr, slice_get}
 use Rattle.std.specs.Prelude.{nat_lt}
 use Rattle.std.proofs.Math.Nat.{le-add_right}
 use Rattle.std.proofs.lemmas.Bool.{cases_lt, eqb-true}
-use Rattle.std.proofs.lemmas.Option.{slice_get-get_or}
+use Rattle.std.proofs.lemmas.Option.{slice_get-get_or, slice_get_past}
+use Rattle.sd_basics.proofs.Truths.{and_right}
 use Rattle.sd_types.specs.declared.numbers.HomeId.{HomeId}
 use Rattle.sd_types.specs.declared.numbers.HomeId.TheVariants as id
 use Rattle.sd_state.specs.declared.states.State.{State}
 use Rattle.sd_state.specs.declared.states.ThreadState.{ThreadState}
 use Rattle.sd_state.specs.States.{cpu_of, no_thread, thread_of}
-use Rattle.sd_state.proofs.BestLemmas.{and_right}
 use Rattle.sd_machine.specs.Threads.{count_of, lock_of, open_of}
 use Rattle.sd_machine.proofs.ShapeLemmas.{IsShaped}
 use Rattle.sd_store.specs.declared.parts.Part.{Part}
@@ -26,11 +26,6 @@ use Rattle.sd_hand.specs.Shown.{PartsShown}
 use Rattle.sd_footprint.specs.Changed.{ChangesOnly, HasHome, IsNamed, MovesWithin}
 use Rattle.sd_world.specs.Frames.{IsElsewhere}
 use Rattle.sd_homes.specs.Standing.{home_of}
-
-pub none_past : {X : Type 0} (xs : List X) (t : ℕ) → length xs ≤ t → slice_get xs t ≡ None
-none_past [] t past = refl
-none_past (x ∷ xs) zero past = absurd (omega arith)
-none_past (x ∷ xs) (suc t) past = none_past xs t (omega arith)
 
 -- the number of the home is none of the parts
 lies_elsewhere : (s : State) (ps : List Part) (h : Home) (k : HomeId) → IsElsewhere s ps h → HasHome ps k → k ≡ home_id h → ⊥
@@ -62,7 +57,7 @@ listed_same s new ps h sp t shape only apart at = by (cases_lt t (length s.threa
     by (inl inside) =
         ap (λ o. listed sp t o) (slice_get-get_or s.threads t no_thread inside) ∙ (goes (only.threads t)
         ∙ ap (λ o. listed sp t o) (sym (slice_get-get_or new.threads t no_thread (subst (λ k. t < k) (sym shape.threads) inside))))
-    by (inr past) = ap (λ o. listed sp t o) (none_past s.threads t past ∙ sym (none_past new.threads t (subst (λ k. k ≤ t) (sym shape.threads) past)))
+    by (inr past) = ap (λ o. listed sp t o) (slice_get_past s.threads t past ∙ sym (slice_get_past new.threads t (subst (λ k. k ≤ t) (sym shape.threads) past)))
 
 -- what is beside its threads
 kept_or : {X : Type 0} {Q : Type 0} (x y : X) → (y ≡ x) ⊎ Q → (Q → ⊥) → x ≡ y

@@ -1,10 +1,11 @@
 -- A run on homes, all of which are there: nothing that a processor needs is lacking, and what it makes is a step.
-use Rattle.std.proofs.Common.{◌≡◌, ◌≢◌, ℕ, ◌+◌, ◌<◌, ◌≤◌, ◌⊎◌, true, ◌==◌, List, [], ◌∷◌, ◌++◌, length, is_some, set, slice_get, take, Option, Some, None, Result, Ok, Err, refl, sym, ap, ◌∙◌, subst, inl, inr, arith, length-append}
+use Rattle.std.proofs.Common.{◌≡◌, ◌≢◌, ℕ, ◌+◌, ◌<◌, ◌≤◌, ◌⊎◌, true, ◌==◌, List, [], ◌∷◌, ◌++◌, length, is_some, set, slice_get, take, Option, Some, Result, Ok, Err, refl, sym, ap, ◌∙◌, subst, inl, inr, arith, length-append}
 use Rattle.std.specs.Prelude.{IfOk}
 use Rattle.std.proofs.lemmas.Bool.{cases_eq, cases_lt, eq-eqb, eqb-true}
 use Rattle.std.proofs.lemmas.List.{get_or-set_same, get_or-set_other, length-set, take-append-le}
 use Rattle.std.proofs.Math.Seq.{take-append_seam, take-length}
 use Rattle.std.proofs.lemmas.Option.{slice_get-get_or, slice_get_within, get_or_from_slice_get}
+use Rattle.sd_basics.proofs.Lists.{some_of}
 use Rattle.sd_types.specs.declared.numbers.CpuId.{CpuId}
 use Rattle.sd_types.specs.declared.numbers.HomeId.{HomeId}
 use Rattle.sd_types.specs.declared.numbers.HomeId.TheVariants as home
@@ -223,16 +224,12 @@ module _ (w : Work) (x y : PlainWorld) (e : Event) (hints : Option Hints) (st : 
   held_still : HasAsBefore → (k : HomeId) → is_some (held k y.acting.hand.slots) ≡ is_some (held k x.acting.hand.slots)
   held_still has k = has (part.Home k)
 
-  as_held : (o : Option Home) → is_some o ≡ true → (h : Home) × (o ≡ Some h)
-  as_held None e = absurd cc
-  as_held (Some h) e = (h, refl)
-
   all_still : IsShown y.acting (length x.entries.items + 1) new → HasAsBefore → AreAllHomes (length x.entries.items + 1) new y.acting.hand.slots
   all_still sh has = record {
     shown = sh.homes;
     apart = sh.apart;
-    all = λ k there. let (h, is) = st.all.all k (subst (λ z. z) (same_homes k) there) in as_held (held k y.acting.hand.slots) (held_still has k ∙ ap is_some is);
-    only = λ k there. let (h, is) = there in subst (λ z. z) (sym (same_homes k)) (st.all.only k (as_held (held k x.acting.hand.slots) (sym (held_still has k) ∙ ap is_some is)));
+    all = λ k there. let (h, is) = st.all.all k (subst (λ z. z) (same_homes k) there) in some_of (held k y.acting.hand.slots) (held_still has k ∙ ap is_some is);
+    only = λ k there. let (h, is) = there in subst (λ z. z) (sym (same_homes k)) (st.all.only k (some_of (held k x.acting.hand.slots) (sym (held_still has k) ∙ ap is_some is)));
     locks = sh.locks;
     chans = sh.chans;
   }

@@ -9,6 +9,7 @@ use Rattle.std.specs.List.{insert, remove}
 use denote.RawPtr.{Ptr}
 use Rattle.sd_boxq.specs.Links.{Link, links_of, has_some}
 use Rattle.sd_boxq.specs.Boxes.{LiesAt}
+use Rattle.std.proofs.lemmas.Option.{slice_get_within}
 
 pub parted : {X : Type 0} (i : ℕ) (xs : List X) → i < length xs → (front : List X) × (x : X) × (ys : List X) × (xs ≡ front ++ x ∷ ys) × (length front ≡ i)
 parted i [] p = absurd (omega arith)
@@ -53,14 +54,9 @@ single [] e = absurd (omega arith)
 single (x ∷ []) e = (x, refl)
 single (x ∷ y ∷ xs) e = absurd (omega arith)
 
-get_within : {X : Type 0} (xs : List X) (n : ℕ) (x : X) → slice_get xs n ≡ Some x → n < length xs
-get_within [] n x e = absurd cc
-get_within (y ∷ xs) zero x e = omega arith
-get_within (y ∷ xs) (suc n) x e = let on = get_within xs n x e in omega arith
-
 pub lies_within : {Z X : Type 0} (ns : List (Link × Z)) (xs : List X) (n : ℕ) (p : Ptr) → length xs ≡ length ns → LiesAt (links_of ns) n p → n < length xs
 lies_within ns xs n p e at =
-    let within = get_within (map (λ l. l.0) (links_of ns)) n p at in
+    let within = slice_get_within (map (λ l. l.0) (links_of ns)) n p at in
     let places = length-map (links_of ns) (λ l. l.0) in
     let links = length-map ns (λ k. k.0) in
     omega arith

@@ -1,7 +1,7 @@
 use Rattle.std.proofs.Common.{ℕ, List, ◌++◌, append_assoc, sym, ap, ◌∙◌}
 use Rattle.std.specs.List.{flat_map, range_with_len}
+use Rattle.sd_basics.proofs.Ranges.{flat_range_more}
 use Rattle.sd_accounts.specs.Counters.{counted_cpu_line}
-use Rattle.sd_accounts.proofs.TextLemmas.{flat_range_more}
 use Rattle.sd_accounts.proofs.lines.put_cpus.Goals as goal
 
 pub loop-c-preserved : goal.loop-c-preserved

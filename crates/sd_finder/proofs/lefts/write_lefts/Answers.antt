@@ -1,6 +1,6 @@
 use Rattle.std.proofs.Common.{ℕ, List, ◌++◌, append_assoc, sym, ap, ◌∙◌}
 use Rattle.std.specs.List.{flat_map, range_with_len}
-use Rattle.sd_accounts.proofs.TextLemmas.{flat_range_more}
+use Rattle.sd_basics.proofs.Ranges.{flat_range_more}
 use Rattle.sd_finder.specs.Lefts.{line_if_left}
 use Rattle.sd_finder.proofs.lefts.write_lefts.Goals as goal
 

@@ -1,5 +1,5 @@
 use Rattle.std.proofs.Common.{◌++◌, sym, ap, ◌∙◌}
-use Rattle.sd_stretches.proofs.RangeLemmas.{flat_range_more}
+use Rattle.sd_basics.proofs.Ranges.{flat_range_more}
 use Rattle.sd_statistics.specs.Jobs.{chan_part}
 use Rattle.sd_statistics.proofs.jobs.task_rows.Goals as goal
 

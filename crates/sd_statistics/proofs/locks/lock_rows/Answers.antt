@@ -1,5 +1,5 @@
 use Rattle.std.proofs.Common.{◌++◌, sym, ap, ◌∙◌}
-use Rattle.sd_stretches.proofs.RangeLemmas.{flat_range_more}
+use Rattle.sd_basics.proofs.Ranges.{flat_range_more}
 use Rattle.sd_statistics.specs.Locks.{lock_part}
 use Rattle.sd_statistics.proofs.locks.lock_rows.Goals as goal
 

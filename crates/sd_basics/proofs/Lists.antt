@@ -1,0 +1,64 @@
+-- What stands at a place of a list, by `slice_get`; tests of all elements; options.
+use Rattle.std.proofs.Common.{◌≡◌, ◌⊎◌, ℕ, zero, suc, ◌<◌, ◌≤◌, Bool, true, false, List, [], ◌∷◌, ◌++◌, length, map, set, Option, Some, None, refl, sym, ap, ◌∙◌, subst, inl, inr, arith}
+use Rattle.std.specs.Prelude.{slice_get}
+use Rattle.std.specs.List.{list_all}
+use Rattle.std.specs.Option.{is_some}
+use Rattle.std.proofs.lemmas.Bool.{false≢true}
+use Rattle.std.proofs.lemmas.List.{length-set, get_or-set_same}
+use Rattle.std.proofs.lemmas.List.Sums.{AllPass-from_list_all}
+use Rattle.std.proofs.lemmas.Option.{get_or_from_slice_get, same_Some, slice_get-get_or, slice_get_within}
+
+-- ---- options
+
+pub none_of : {X : Type 0} (o : Option X) → is_some o ≡ false → o ≡ None
+none_of None e = refl
+none_of (Some x) e = absurd (false≢true (sym e))
+
+pub some_of : {X : Type 0} (o : Option X) → is_some o ≡ true → (x : X) × (o ≡ Some x)
+some_of None e = absurd (false≢true e)
+some_of (Some x) e = (x, refl)
+
+-- ---- one more element
+
+pub get_more : {X : Type 0} (xs ys : List X) (i : ℕ) (x : X) → slice_get xs i ≡ Some x → slice_get (xs ++ ys) i ≡ Some x
+get_more [] ys i x e = cc
+get_more (y ∷ xs) ys zero x e = e
+get_more (y ∷ xs) ys (suc i) x e = get_more xs ys i x e
+
+pub get_last : {X : Type 0} (xs : List X) (y : X) → slice_get (xs ++ y ∷ []) (length xs) ≡ Some y
+get_last [] y = refl
+get_last (x ∷ xs) y = get_last xs y
+
+-- it stood there before, or it is the last
+pub get_cases : {X : Type 0} (xs : List X) (y z : X) (i : ℕ) → slice_get (xs ++ y ∷ []) i ≡ Some z → (slice_get xs i ≡ Some z) ⊎ ((i ≡ length xs) × (y ≡ z))
+get_cases [] y z zero e = inr (refl, same_Some y z e)
+get_cases [] y z (suc i) e = cc
+get_cases (x ∷ xs) y z zero e = inl e
+get_cases (x ∷ xs) y z (suc i) e = elim (get_cases xs y z i e) [ inl before ↦ inl before | inr last ↦ inr (ap suc last.0, last.1) ]
+
+-- ---- one element is written
+
+pub get_set : {X : Type 0} (xs : List X) (i : ℕ) (x : X) → i < length xs → slice_get (set xs i x) i ≡ Some x
+get_set xs i x inside = slice_get-get_or (set xs i x) i x (subst (λ m. i < m) (sym (length-set xs i x)) inside) ∙ ap Some (get_or-set_same xs i x x inside)
+
+pub get_set_other : {X : Type 0} (xs : List X) (i j : ℕ) (x : X) → (i ≡ j → ⊥) → slice_get (set xs i x) j ≡ slice_get xs j
+get_set_other [] i j x other = refl
+get_set_other (y ∷ ys) zero zero x other = absurd (other refl)
+get_set_other (y ∷ ys) zero (suc j) x other = refl
+get_set_other (y ∷ ys) (suc i) zero x other = refl
+get_set_other (y ∷ ys) (suc i) (suc j) x other = get_set_other ys i j x (λ e. other (ap suc e))
+
+-- nothing is written past the end
+pub set_past : {X : Type 0} (xs : List X) (i : ℕ) (x : X) → length xs ≤ i → set xs i x ≡ xs
+set_past [] i x past = refl
+set_past (y ∷ ys) zero x past = absurd (omega arith)
+set_past (y ∷ ys) (suc i) x past = ap (λ zs. y ∷ zs) (set_past ys i x (omega arith))
+
+-- ---- all elements
+
+pub all_at : {X : Type 0} (p : X → Bool) (xs : List X) (i : ℕ) (x : X) → list_all p xs ≡ true → slice_get xs i ≡ Some x → p x ≡ true
+all_at p xs i x all e = ap p (sym (get_or_from_slice_get xs i x x e)) ∙ AllPass-from_list_all p xs all i x (slice_get_within xs i x e)
+
+pub map-map : {X Y Z : Type 0} (f : X → Y) (g : Y → Z) (xs : List X) → map g (map f xs) ≡ map (λ x. g (f x)) xs
+map-map f g [] = refl
+map-map f g (x ∷ xs) = ap (λ ys. g (f x) ∷ ys) (map-map f g xs)

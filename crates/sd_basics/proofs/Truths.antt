@@ -1,0 +1,34 @@
+-- "And", "or" and "not" of truth values.
+use Rattle.std.proofs.Common.{◌≡◌, Bool, true, false, not, ◌&&◌, ◌||◌, refl, sym, ◌∙◌}
+use Rattle.std.proofs.lemmas.Bool.{false≢true}
+
+pub and_left : (a b : Bool) → (a && b) ≡ true → a ≡ true
+and_left true b e = refl
+and_left false b e = cc
+
+pub and_right : (a b : Bool) → (a && b) ≡ true → b ≡ true
+and_right true b e = e
+and_right false b e = cc
+
+pub and_rest : (a b : Bool) → a ≡ true → (a && b) ≡ false → b ≡ false
+and_rest true b e f = f
+and_rest false b e f = cc
+
+pub and_never : (b : Bool) → (b && false) ≡ false
+and_never true = refl
+and_never false = refl
+
+pub or_always : (a : Bool) → (a || true) ≡ true
+or_always true = refl
+or_always false = refl
+
+pub or_or_not : (a b c : Bool) → (a || b || not c) ≡ false → (a ≡ false) × (c ≡ true)
+or_or_not false false true e = (refl, refl)
+or_or_not false false false e = absurd (false≢true (sym e))
+or_or_not false true c e = absurd (false≢true (sym e))
+or_or_not true b c e = absurd (false≢true (sym e))
+
+pub same_truth : (a b : Bool) → (a ≡ true → b ≡ true) → (b ≡ true → a ≡ true) → a ≡ b
+same_truth true b there back = sym (there refl)
+same_truth false true there back = back refl
+same_truth false false there back = refl
