@@ -10,7 +10,8 @@ use Rattle.sd_tables.specs.declared.fault.TableFault.TheVariants as table
 use Rattle.sd_text.specs.Lines.{is_line, IsOneLine}
 use Rattle.sd_text.proofs.NumberLemmas.{decimal-line}
 use Rattle.sd_text.proofs.PieceLemmas.{one_line-append}
-use Rattle.sd_answers.specs.Refusals.{cause_number, cause_words, digits_if, journal_line, journal_number, refusal_line, script_words, table_words, words_after, words_before}
+use Rattle.sd_text.specs.Numbers.{digits_if}
+use Rattle.sd_answers.specs.Refusals.{cause_number, cause_words, journal_line, journal_number, refusal_line, script_words, table_words, words_after, words_before}
 use Rattle.sd_answers.specs.declared.answers.JournalFault.{JournalFault}
 use Rattle.sd_answers.specs.declared.answers.JournalFault.TheVariants.{NotAnEntry, Illegal, Incomplete, Tail}
 

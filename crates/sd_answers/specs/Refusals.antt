@@ -1,6 +1,7 @@
 -- The lines of a workload and of a journal that are refused.
 -- Source: this project's own.
 use Rattle.std.specs.Prelude.{ℕ, List, [], ◌++◌, codes, decimal, Option, Some, None}
+use Rattle.sd_text.specs.Numbers.{digits_if}
 use Rattle.sd_declare.specs.declared.causes.WorkCause.{WorkCause}
 use Rattle.sd_declare.specs.declared.causes.WorkCause.TheVariants.{Syntax, Unknown, Twice, Range, Table, Script, Sets, Limits}
 use Rattle.sd_script.specs.declared.faults.ScriptFault.{ScriptFault}
@@ -43,10 +44,6 @@ table_number _ = None
 abbrev pub cause_number : WorkCause → Option ℕ
 cause_number (Table fault) = table_number fault
 cause_number _ = None
-
-abbrev pub digits_if : Option ℕ → List ℕ
-digits_if None = []
-digits_if (Some n) = decimal n
 
 abbrev pub refusal_line : ℕ → WorkCause → List ℕ
 refusal_line line cause =

@@ -1,7 +1,8 @@
 //! The lines of a workload and of a journal that are refused, put together on the stack of constant words and of digits.
 
 ghost use Rattle.std.specs.Prelude.{◌≡◌, ◌≤◌, length, IsErrOf};
-ghost use Rattle.sd_answers.specs.Refusals.{cause_number, cause_words, digits_if, journal_line, journal_number, refusal_line, script_words, table_words, words_after, words_before};
+ghost use Rattle.sd_text.specs.Numbers.{digits_if};
+ghost use Rattle.sd_answers.specs.Refusals.{cause_number, cause_words, journal_line, journal_number, refusal_line, script_words, table_words, words_after, words_before};
 ghost use Rattle.sd_answers.specs.StreamChanges.{Puts};
 ghost use Rattle.sd_answers.specs.declared.writing.Unwritten.TheVariants.{Memory};
 

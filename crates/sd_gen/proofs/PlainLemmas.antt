@@ -17,7 +17,7 @@ use Rattle.sd_lines.specs.Words.{Word, Line, name_of, quantum_of, unless_dash, f
 use Rattle.sd_lines.specs.Threads.{ts_words, fx_words, sys_words, rt_words, class_words, uid_words, uid_option, priv_words, priv_option, set_words, set_option, options, thread_line}
 use Rattle.sd_lines.specs.Statements.{Cpus, Hz, Limit, Table, Lock, Chan, Declare, Script, table_class, set_line, sema_line, thread_statement, object_statement, setting_statement, statement_of}
 use Rattle.sd_canonical.proofs.BlockLemmas.{same-word}
-use Rattle.sd_gen.specs.Plain.{is_printable}
+use Rattle.sd_text.specs.Words.{is_printable}
 
 abbrev pub plain : Word → Bool
 plain word = list_all is_printable word

@@ -9,7 +9,7 @@ use Rattle.std.proofs.lemmas.Option.{none-some}
 use Rattle.sd_types.specs.declared.scripts.Op.{Op}
 use Rattle.sd_types.specs.declared.works.Work.{Work}
 use Rattle.sd_text.specs.Lines.{lines_of}
-use Rattle.sd_text.specs.Words.{is_blank, before_comment, runs_of, words_of}
+use Rattle.sd_text.specs.Words.{is_blank, before_comment, runs_of, words_of, is_printable}
 use Rattle.sd_text.specs.Numbers.{is_number, number_of, signed_of}
 use Rattle.sd_tables.specs.declared.columns.Column.{Column}
 use Rattle.sd_tables.specs.declared.fault.TableFault.{TableFault}
@@ -24,11 +24,10 @@ use Rattle.sd_declare.specs.declared.causes.WorkCause.TheVariants as cause
 use Rattle.sd_declare.specs.Declarations.{Declarations, nothing}
 use Rattle.sd_workload.specs.Accepted.{Accepted}
 use Rattle.sd_workload.specs.Scripts.{end_fault}
-use Rattle.sd_workload.specs.Texts.{Block, Outside, InTable, InScript, stated_cause, format_of, rows_cause, operation_cause, script_cause, unless_done, cause_of, declared_after, block_after, Verdict, Accepts, unless_refused, judged}
-use Rattle.sd_workload.proofs.FirstLemmas.{apart}
+use Rattle.sd_workload.specs.Texts.{Block, Outside, InTable, InScript, stated_cause, format_of, rows_cause, operation_cause, script_cause, unless_done, cause_of, declared_after, block_after, Accepts, judged}
 use Rattle.sd_workload.proofs.FitsLemmas.{none-mapped}
 use Rattle.sd_canonical.proofs.BlockLemmas.{same-word}
-use Rattle.sd_gen.specs.Plain.{is_printable, may_stand, is_plain_line}
+use Rattle.sd_gen.specs.Plain.{may_stand, is_plain_line}
 use Rattle.sd_gen.proofs.PlainLemmas.{plain, plains, Reads, read-mapped, read-weaker, read-chosen, read-keyword, leaves-then, first-leaves, only-plain, number-plain, is-number-plain, signed-plain, quantum-plain, name-plain, dash-plain, statement-plain}
 use Rattle.sd_gen.proofs.MadeLemmas.{unrefused}
 

@@ -1,10 +1,7 @@
 -- Which bytes may stand outside comments: blanks and printable ASCII. Source: this project's own.
-use Rattle.std.specs.Prelude.{ℕ, Bool, ◌&&◌, ◌||◌, List, nat_le}
+use Rattle.std.specs.Prelude.{ℕ, Bool, ◌&&◌, ◌||◌, List}
 use Rattle.std.specs.List.{list_all}
-use Rattle.sd_text.specs.Words.{is_blank, before_comment}
-
-abbrev pub is_printable : ℕ → Bool
-is_printable b = nat_le 32 b && nat_le b 126
+use Rattle.sd_text.specs.Words.{is_blank, before_comment, is_printable}
 
 abbrev pub may_stand : ℕ → Bool
 may_stand b = is_blank b || is_printable b

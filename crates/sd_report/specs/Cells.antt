@@ -17,8 +17,3 @@ right width text = blanks (width - length text) ++ text
 abbrev pub cell : Option ℕ → List ℕ
 cell None = codes "-"
 cell (Some n) = decimal n
-
--- a number in a record, and an empty text for none
-abbrev pub figure : Option ℕ → List ℕ
-figure None = []
-figure (Some n) = decimal n

@@ -11,7 +11,7 @@ use Rattle.sd_statistics.specs.Cpus.{cpu_rows}
 use Rattle.sd_statistics.specs.Jobs.{task_rows}
 use Rattle.sd_statistics.specs.Locks.{lock_rows}
 use Rattle.sd_statistics.specs.Threads.{thread_rows}
-use Rattle.sd_report.specs.Cells.{figure}
+use Rattle.sd_text.specs.Numbers.{digits_if}
 use Rattle.sd_report.specs.Words.{holder, measure_word, row_object, subject_name, subject_word}
 use Rattle.sd_report.specs.Tables.{longest_first, longest_last, longest_ticks}
 
@@ -25,12 +25,12 @@ word_fields w x = subject_word x.subject ∷ subject_name w x.subject ∷ measur
 
 -- its numbers
 abbrev pub number_fields : Row → List (List ℕ)
-number_fields x = figure x.figures.number ∷ figure x.figures.ticks ∷ figure x.figures.priority ∷ []
+number_fields x = digits_if x.figures.number ∷ digits_if x.figures.ticks ∷ digits_if x.figures.priority ∷ []
 
 -- how long the longest is, the first entry that was made in it and the one that ended it, and whose it is
 abbrev pub longest_fields : Work → Row → List (List ℕ)
 longest_fields w x =
-    figure (longest_ticks x.figures.longest) ∷ figure (longest_first x.figures.longest) ∷ figure (longest_last x.figures.longest) ∷ holder w x ∷ []
+    digits_if (longest_ticks x.figures.longest) ∷ digits_if (longest_first x.figures.longest) ∷ digits_if (longest_last x.figures.longest) ∷ holder w x ∷ []
 
 unfoldable pub sheet_row : Work → Row → List ℕ
 sheet_row w x = row_text default_writer (word_fields w x ++ number_fields x ++ longest_fields w x)

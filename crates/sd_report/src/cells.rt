@@ -1,7 +1,8 @@
 //! The cells of a table: texts with blanks to a width, and numbers that may be none.
 
 ghost use Rattle.std.specs.Prelude.{◌≡◌, ◌++◌, IfOk, OnOk, decimal};
-ghost use Rattle.sd_report.specs.Cells.{blanks, cell, figure, left, right};
+ghost use Rattle.sd_text.specs.Numbers.{digits_if};
+ghost use Rattle.sd_report.specs.Cells.{blanks, cell, left, right};
 
 use sd_text::put_number;
 use std::alloc::{AllocError, Global};
@@ -59,8 +60,8 @@ pub(crate) fn put_cell(
 }
 
 /// The digits of a number, and nothing for none.
-pub(crate) fn figure(alloc: Global, n: Option<u64>) -> Result<Vec<u8>, AllocError>
-    ensures { IfOk result (λ v. v.items ≡ figure n) }
+pub(crate) fn digits_if(alloc: Global, n: Option<u64>) -> Result<Vec<u8>, AllocError>
+    ensures { IfOk result (λ v. v.items ≡ digits_if n) }
 {
     let mut text = Vec::new(alloc);
     if let Some(n) = n {

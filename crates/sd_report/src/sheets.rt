@@ -5,10 +5,10 @@
 ghost use Rattle.std.specs.Prelude.{◌≡◌, ◌∷◌, [], ◌++◌, ℕ, IfOk, OnOk, List as Items};
 ghost use Rattle.csv.specs.Records.{fields_of};
 ghost use Rattle.csv.specs.Writing.{default_writer, row_text};
-ghost use Rattle.sd_report.specs.Cells.{figure};
+ghost use Rattle.sd_text.specs.Numbers.{digits_if};
 ghost use Rattle.sd_report.specs.Sheets.{HasFields, cpu_sheet, head_row, lock_sheet, longest_fields, number_fields, rows_text, sheet_row, sheet_text, task_sheet, thread_sheet, word_fields};
 
-use crate::cells::figure;
+use crate::cells::digits_if;
 use crate::tables::{longest_first, longest_last, longest_ticks};
 use crate::words::{holder, measure_word, put_subject_name, row_object, subject_word};
 use csv::{ByteRecord, Error, WriterBuilder};
@@ -63,9 +63,9 @@ fn push_words(
 }
 
 fn push_figure(alloc: Global, n: Option<u64>, fields: &mut ByteRecord) -> Result<(), AllocError>
-    ensures { OnOk result ((xs : Items (Items ℕ)) → HasFields fields.old xs → HasFields fields.new (xs ++ figure n ∷ [])) }
+    ensures { OnOk result ((xs : Items (Items ℕ)) → HasFields fields.old xs → HasFields fields.new (xs ++ digits_if n ∷ [])) }
 {
-    let text = figure(alloc, n)?;
+    let text = digits_if(alloc, n)?;
     push_field(&text, fields)
 }
 

@@ -1,16 +1,13 @@
 -- Which bytes mean only themselves in a JSON string, and in a text and an attribute of XML, and which whole texts are made of.
 -- Source: RFC 8259, section 7 (strings); XML 1.0, section 2.4 (character data and markup).
-use Rattle.std.specs.Prelude.{ℕ, Bool, not, ◌&&◌, ◌||◌, ◌==◌, nat_le, List, IsTrue}
+use Rattle.std.specs.Prelude.{ℕ, Bool, not, ◌&&◌, ◌||◌, ◌==◌, List, IsTrue}
 use Rattle.std.specs.List.{list_all}
 use Rattle.sd_types.specs.declared.works.Work.{Work}
+use Rattle.sd_text.specs.Words.{is_printable}
 use Rattle.sd_machine.specs.Texts.{set_name}
 use Rattle.sd_state.specs.Texts.{chan_name, lock_name, thread_name}
 use Rattle.sd_stretches.specs.declared.sights.Doing.{Doing}
 use Rattle.sd_stretches.specs.Doings.{doing_text}
-
--- printable ASCII
-abbrev pub is_printable : ℕ → Bool
-is_printable b = nat_le 32 b && nat_le b 126
 
 -- " & ' < > and the backslash
 abbrev pub is_mark : ℕ → Bool

@@ -1,10 +1,14 @@
 -- The words of a line (this project's own): the runs of other bytes between blanks, before a comment.
-use Rattle.std.specs.Prelude.{ℕ, Bool, not, List, [], ◌∷◌, ◌==◌, ◌||◌, ◌&&◌, IsTrue, if◌then◌else◌, filter, length, nat_lt, slice_index_or}
+use Rattle.std.specs.Prelude.{ℕ, Bool, not, List, [], ◌∷◌, ◌==◌, ◌||◌, ◌&&◌, IsTrue, if◌then◌else◌, filter, length, nat_le, nat_lt, slice_index_or}
 use Rattle.std.specs.List.{slice_split, list_all}
 
 -- space, tab or carriage return
 abbrev pub is_blank : ℕ → Bool
 is_blank byte = byte == 32 || byte == 9 || byte == 13
+
+-- printable ASCII
+abbrev pub is_printable : ℕ → Bool
+is_printable byte = nat_le 32 byte && nat_le byte 126
 
 -- `#`, which begins a comment wherever it stands, also inside a word; the comment runs to the end of the line
 abbrev pub is_comment : ℕ → Bool

@@ -1,6 +1,6 @@
 use Rattle.std.proofs.Common.{◌≤◌, List, ℕ, length, Option, sym, ap, subst, ◌∙◌}
 use Rattle.sd_text.specs.Lines.{IsOneLine}
-use Rattle.sd_answers.specs.Refusals.{digits_if}
+use Rattle.sd_text.specs.Numbers.{digits_if}
 use Rattle.sd_answers.specs.StreamChanges.{Puts}
 use Rattle.sd_answers.proofs.RefusalLemmas.{cause-short, refusal-one_line, refusal-same, refusal-length}
 use Rattle.sd_answers.proofs.refusals.put_refusal.Goals as goal
