@@ -14,6 +14,7 @@ use Rattle.sd_answers.specs.declared.answers.Answer.{Answer}
 use Rattle.sd_answers.specs.declared.answers.Answer.TheVariants as answer
 use Rattle.sd_answers.specs.declared.answers.Answer.TheVariants.{Usage, TooLarge, TooLargeToAudit, NoJournal, Refused, ReadFault, WriteFault, OutOfMemory, Blocked, NotAJournal, TooLong}
 use Rattle.sd_answers.specs.Inputs.{IsWorkload}
+use Rattle.sd_answers.specs.Starts.{WritesHelp}
 use Rattle.sd_answers.specs.StreamChanges.{StreamChange, HasNoFault, IsUntouched, TellsLine}
 use Rattle.sd_program.specs.Headline.{Refuses}
 use Rattle.sd_finder.specs.declared.forms.Aim.{Aim}
@@ -25,8 +26,8 @@ use Rattle.sd_finder.specs.declared.verdicts.Verdict.TheVariants.{Done, Found, N
 use Rattle.sd_finder.specs.Answered.{IsSearch, IsShort, count_verdict, verdict_of}
 use Rattle.sd_finder.specs.Forms.{request_of}
 use Rattle.sd_finder.specs.Texts.{count_text, finding_text}
-use Rattle.sd_find.specs.Promises.{CompletesSearch, CountSays, CountsStates, ExcludesRuns, FindSays, FindsRun, HasMany, Helps, SearchesAsPromised, LeavesOpen, RefusesName, ThreadSays}
-use Rattle.sd_find.specs.Seeking.{CausedBy, CausedByHelp, CausedBySearch, Says, ended_line, ended_status, verdict_status}
+use Rattle.sd_find.specs.Promises.{CompletesSearch, CountSays, CountsStates, ExcludesRuns, FindSays, FindsRun, HasMany, SearchesAsPromised, LeavesOpen, RefusesName, ThreadSays}
+use Rattle.sd_find.specs.Seeking.{CausedBy, CausedByHelp, CausedBySearch, Says, ended_line, ended_status, verdict_status, help_text}
 use Rattle.sd_find.proofs.CauseLemmas.{completes, done_of, failed, found_of, more_of, never_of, refuses}
 use Rattle.sd_find.proofs.CutLemmas.{cut_off}
 use Rattle.sd_find.proofs.ShownLemmas.{shown_of}
@@ -176,7 +177,7 @@ module _ (most : ℕ) (input out : StreamChange) where
 
 -- ---- the forms
 
-helps_of : (input out : StreamChange) (ended : Result Verdict Answer) → IsUntouched input → CausedByHelp out ended → Helps input out (ended_status ended)
+helps_of : (input out : StreamChange) (ended : Result Verdict Answer) → IsUntouched input → CausedByHelp out ended → WritesHelp help_text input out (ended_status ended)
 helps_of input out (Ok Done) kept c = (kept, inl (refl, c.0))
 helps_of input out (Ok Found) kept c = absurd c
 helps_of input out (Ok Never) kept c = absurd c
@@ -196,7 +197,7 @@ helps_of input out (Err (NotAJournal fault)) kept c = absurd c
 helps_of input out (Err TooLong) kept c = absurd c
 
 -- the status is 0 or 4
-no_help : (input out : StreamChange) (status : ℕ) → Helps input out status → status ≡ 1 → ⊥
+no_help : (input out : StreamChange) (status : ℕ) → WritesHelp help_text input out status → status ≡ 1 → ⊥
 no_help input out status h is = elim h.1 [
   | inl (s, a) ↦ absurd (omega (arith, s, is))
   | inr (s, a) ↦ absurd (omega (arith, s, is))
@@ -243,6 +244,6 @@ promises_of arguments input out err ended status is caused told =
       refuses = λ aim most known. subst (Refuses input) (sym is) (refuses aim most input out ended (asked aim most known));
       refuses_name = λ aim name most known named.
           subst (RefusesName name input out err) (sym is) (refuses_name aim name most input out named err ended (asked aim most known) told);
-      helps = λ known. subst (Helps input out) (sym is) (helps_of input out ended (helped known).0 (helped known).1);
+      helps = λ known. subst (WritesHelp help_text input out) (sym is) (helps_of input out ended (helped known).0 (helped known).1);
       usage = subst (λ s. (s ≡ 1) ↔ (request_of arguments ≡ None)) (sym is) (usage_of (request_of arguments) input out ended caused);
     }

@@ -20,6 +20,7 @@ use Rattle.sd_longest.specs.Waits.{IsLongestOf, IsWait}
 use Rattle.sd_longest.specs.LongestRuns.{IsLongestRun}
 use Rattle.sd_types.specs.Limits.{most_bytes}
 use Rattle.sd_answers.specs.Inputs.{IsWorkload}
+use Rattle.sd_answers.specs.Starts.{WritesHelp}
 use Rattle.sd_answers.specs.StreamChanges.{StreamChange, HasFault, HasNoFault, IsUntouched, TellsLine}
 use Rattle.sd_program.specs.Headline.{Refuses}
 use Rattle.sd_finder.specs.declared.forms.Aim.{Aim}
@@ -200,10 +201,6 @@ CountSays status = (status ≡ 0) ⊎ (status ≡ 11)
 abbrev pub ThreadSays : List ℕ → Work → ℕ → Type 0
 ThreadSays name w status = (t : ThreadId) → IsThread w name t → FindSays status
 
--- the forms were written, unless a write failed
-abbrev pub Helps : StreamChange → StreamChange → ℕ → Type 0
-Helps input out status = IsUntouched input × (((status ≡ 0) × Appends out.before out.after help_text) ⊎ ((status ≡ 4) × HasFault out))
-
 -- All that is promised of a call, from what it did to its streams: how it ended has its cause, its status and its line. Where a run is
 -- asked for, status 9 says that there is one, whose journal was written, and 10 that there is none. Where states are counted, status 0
 -- says that they are all. Where it is asked when a thread ends, 9 says when, with the journals of two runs, and 10 that it never does; where
@@ -228,5 +225,5 @@ pub record SearchesAsPromised (arguments : List (List ℕ)) (input out err : Str
   pub completes_thread : (aim : Aim) (name : List ℕ) (most : ℕ) → request_of arguments ≡ Some (Search aim most) → name_in aim ≡ Some name → CompletesSearch (ThreadSays name) input out status
   pub refuses : (aim : Aim) (most : ℕ) → request_of arguments ≡ Some (Search aim most) → Refuses input status
   pub refuses_name : (aim : Aim) (name : List ℕ) (most : ℕ) → request_of arguments ≡ Some (Search aim most) → name_in aim ≡ Some name → RefusesName name input out err status
-  pub helps : request_of arguments ≡ Some Help → Helps input out status
+  pub helps : request_of arguments ≡ Some Help → WritesHelp help_text input out status
   pub usage : (status ≡ 1) ↔ (request_of arguments ≡ None)

@@ -14,6 +14,7 @@ use Rattle.sd_answers.specs.declared.writing.Unwritten.{Unwritten}
 use Rattle.sd_answers.specs.declared.writing.Unwritten.TheVariants as unwritten
 use Rattle.sd_answers.specs.Answers.{status_of, unwritten_answer}
 use Rattle.sd_answers.specs.Certificates.{HoldsJournal, CausedByCertificate, CompletesCertificate, RefusesCertificate, RefusesFaulty, RefusesJournal}
+use Rattle.sd_answers.specs.Starts.{WritesHelp}
 use Rattle.sd_answers.specs.StreamChanges.{StreamChange, IsUntouched, Puts, TellsLine}
 use Rattle.sd_answers.proofs.CertificateLemmas.{completes_of, faulty_of, not_usage, refuses_certificate_of, refuses_faulty_of}
 use Rattle.sd_viewer.specs.declared.drawings.Drawing.{Drawing}
@@ -21,8 +22,8 @@ use Rattle.sd_viewer.specs.declared.forms.Request.{Request}
 use Rattle.sd_viewer.specs.declared.forms.Request.TheVariants.{Help, Draw}
 use Rattle.sd_viewer.specs.Forms.{request_of}
 use Rattle.sd_viewer.proofs.ClosingLemmas.{left-ends}
-use Rattle.sd_viewer.specs.Promises.{Helps, ShowsAsPromised}
-use Rattle.sd_viewer.specs.Viewing.{IsDrawnInput, IsDrawing, Draws, CausedByView, CausedByHelp, CausedBy, answer_line, viewed_answer, viewed_line}
+use Rattle.sd_viewer.specs.Promises.{ShowsAsPromised}
+use Rattle.sd_viewer.specs.Viewing.{IsDrawnInput, IsDrawing, Draws, CausedByView, CausedByHelp, CausedBy, answer_line, viewed_answer, viewed_line, help_text}
 
 -- ---- the answer to a drawing
 
@@ -98,13 +99,13 @@ module _ (d : Drawing) (input out : StreamChange) (line : List ℕ) where
 
 -- ---- the forms
 
-helps_of : (input out : StreamChange) (a : Answer) → CausedByHelp out a → IsUntouched input → Helps input out (status_of a)
+helps_of : (input out : StreamChange) (a : Answer) → CausedByHelp out a → IsUntouched input → WritesHelp help_text input out (status_of a)
 helps_of input out Done c kept = (kept, inl (refl, c.0))
 helps_of input out WriteFault c kept = (kept, inr (refl, c.1))
 helps_of input out a c kept = absurd c
 
 -- the status is 0 or 4
-no_help : {P : Type 0} (input out : StreamChange) (status n : ℕ) → Helps input out status → status ≡ n → (n ≡ 0 → ⊥) → (n ≡ 4 → ⊥) → P
+no_help : {P : Type 0} (input out : StreamChange) (status n : ℕ) → WritesHelp help_text input out status → status ≡ n → (n ≡ 0 → ⊥) → (n ≡ 4 → ⊥) → P
 no_help input out status n h is zero four = elim h.1 [
   | inl (s, a) ↦ absurd (zero (sym is ∙ s))
   | inr (s, a) ↦ absurd (four (sym is ∙ s))
@@ -133,6 +134,6 @@ promises_of arguments input out err a line status is caused told =
       completes = λ d known. subst (CompletesCertificate input out) (sym is) (completes_view d input out line a (asked d known));
       refuses = λ d known. subst (RefusesCertificate input) (sym is) (refuses_view d input out line a (asked d known));
       refuses_faulty = λ d known. subst (RefusesFaulty input) (sym is) (refuses_faulty_view d input out line a (asked d known));
-      helps = λ known. subst (Helps input out) (sym is) (helps_of input out a (helped known).0 (helped known).2);
+      helps = λ known. subst (WritesHelp help_text input out) (sym is) (helps_of input out a (helped known).0 (helped known).2);
       usage = subst (λ s. (s ≡ 1) ↔ (request_of arguments ≡ None)) (sym is) (usage_of (request_of arguments) input out a line caused);
     }

@@ -3,20 +3,16 @@
 -- Source: this project's own.
 use Rattle.std.specs.Prelude.{◌≡◌, ℕ, List, Some, None, ◌↔◌, ◌⊎◌}
 use Rattle.sd_answers.specs.Certificates.{CompletesCertificate, RefusesCertificate, RefusesFaulty, RefusesJournal}
-use Rattle.sd_answers.specs.StreamChanges.{StreamChange, HasFault, IsUntouched, TellsLine}
+use Rattle.sd_answers.specs.Starts.{WritesHelp}
+use Rattle.sd_answers.specs.StreamChanges.{StreamChange, TellsLine}
 use Rattle.sd_viewer.specs.declared.drawings.Drawing.{Drawing}
 use Rattle.sd_viewer.specs.declared.forms.Request.TheVariants.{Help, Draw}
 use Rattle.sd_viewer.specs.Forms.{request_of}
-use Rattle.std.specs.Io.KnownBytes.{Appends}
 use Rattle.sd_viewer.specs.Viewing.{Draws, IsViewed, help_text}
 
 -- the drawing was written whole, and its line was told
 abbrev pub TellsDrawing : Drawing → StreamChange → StreamChange → StreamChange → Type 0
 TellsDrawing drawing input out err = (line : List ℕ) × Draws drawing input out line × TellsLine err line
-
--- the forms were written, unless a write failed
-abbrev pub Helps : StreamChange → StreamChange → ℕ → Type 0
-Helps input out status = IsUntouched input × (((status ≡ 0) × Appends out.before out.after help_text) ⊎ ((status ≡ 4) × HasFault out))
 
 -- All that is promised of a call, from what it did to its streams: there is an answer with its cause, its status and its
 -- line; status 0 says that the drawing of the complete legal run whose journal the input holds was written, and status 7
@@ -32,5 +28,5 @@ pub record ShowsAsPromised (arguments : List (List ℕ)) (input out err : Stream
   pub completes : (drawing : Drawing) → request_of arguments ≡ Some (Draw drawing) → CompletesCertificate input out status
   pub refuses : (drawing : Drawing) → request_of arguments ≡ Some (Draw drawing) → RefusesCertificate input status
   pub refuses_faulty : (drawing : Drawing) → request_of arguments ≡ Some (Draw drawing) → RefusesFaulty input status
-  pub helps : request_of arguments ≡ Some Help → Helps input out status
+  pub helps : request_of arguments ≡ Some Help → WritesHelp help_text input out status
   pub usage : (status ≡ 1) ↔ (request_of arguments ≡ None)
