@@ -1,11 +1,11 @@
 //! What an event does to the waits of a thread that was woken.
 
 ghost use Rattle.std.specs.Prelude.{◌≡◌};
-ghost use Rattle.sd_longest.specs.Effects.{effect_of, is_thread};
+ghost use Rattle.sd_longest.specs.Effects.{effect_of};
 ghost use Rattle.sd_longest.specs.Waits.{run_by};
 
 use crate::Effect;
-use sd_stretches::woken_by;
+use sd_stretches::{is_that_thread, woken_by};
 use sd_types::{Event, ThreadId};
 
 /// The thread that an event makes run.
@@ -19,22 +19,13 @@ fn run_by(event: &Event) -> Option<ThreadId>
     }
 }
 
-fn is_thread(thread: ThreadId, other: Option<ThreadId>) -> bool
-    ensures { result ≡ is_thread thread other }
-{
-    match other {
-        Some(other) => other == thread,
-        None => false,
-    }
-}
-
 /// A wakeup of the thread opens a wait, its running ends each.
 pub(crate) fn effect_of(thread: ThreadId, event: &Event) -> Effect
     ensures { result ≡ effect_of thread event.now }
 {
-    if is_thread(thread, run_by(event)) {
+    if is_that_thread(thread, run_by(event)) {
         Effect::Ends
-    } else if is_thread(thread, woken_by(event)) {
+    } else if is_that_thread(thread, woken_by(event)) {
         Effect::Opens
     } else {
         Effect::Passes

@@ -1,22 +1,17 @@
 -- The time from each wakeup of a thread to its running.
 -- Source: Solaris Internals (dispatch latency); the measure in ticks is this project's own.
-use Rattle.std.specs.Prelude.{ℕ, ◌-◌, Bool, true, false, not, ◌&&◌, ◌==◌, nat_lt, List, [], ◌∷◌, filter, Option, Some, None, if◌then◌else◌}
+use Rattle.std.specs.Prelude.{ℕ, ◌-◌, Bool, not, ◌&&◌, ◌==◌, nat_lt, List, [], ◌∷◌, filter, Option, Some, None, if◌then◌else◌}
 use Rattle.std.specs.List.{flat_map}
 use Rattle.sd_stretches.specs.declared.changes.Wakeup.{Wakeup}
 use Rattle.sd_stretches.specs.declared.rows.Stretch.{Stretch}
-use Rattle.sd_stretches.specs.declared.sights.Doing.{Doing}
-use Rattle.sd_stretches.specs.declared.sights.Doing.TheVariants.{Running}
 use Rattle.sd_stretches.specs.Rows.{next_of}
+use Rattle.sd_stretches.specs.Sights.{runs_somewhere}
 use Rattle.sd_statistics.specs.declared.spans.Span.{Span}
 use Rattle.sd_statistics.specs.Spans.{state_after}
 
-abbrev pub runs : Doing → Bool
-runs (Running c) = true
-runs _ = false
-
 -- begins behind the entry, and the thread runs over it
 abbrev pub runs_after : ℕ → Stretch → Bool
-runs_after entry x = nat_lt entry x.first && runs x.doing
+runs_after entry x = nat_lt entry x.first && runs_somewhere x.doing
 
 abbrev pub first_run : ℕ → List Stretch → Option Stretch
 first_run entry own = next_of (filter (runs_after entry) own)

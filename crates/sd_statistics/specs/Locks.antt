@@ -14,6 +14,7 @@ use Rattle.sd_stretches.specs.declared.rows.Stretch.{Stretch}
 use Rattle.sd_stretches.specs.declared.spins.Track.TheVariants as track
 use Rattle.sd_stretches.specs.Rows.{next_of}
 use Rattle.sd_stretches.specs.Spins.{pieces}
+use Rattle.sd_stretches.specs.Changes.{is_that_thread}
 use Rattle.sd_statistics.specs.declared.activities.Activity.TheVariants.{Spinning, SpinningFor, Waiting, WaitingFor}
 use Rattle.sd_statistics.specs.declared.rows.Measure.{Measure}
 use Rattle.sd_statistics.specs.declared.rows.Measure.TheVariants.{Contended, Does, HandsOn, Held}
@@ -31,7 +32,7 @@ abbrev pub taking : Event → Option ThreadId
 taking (Enter t l) = Some t
 taking (Read t l) = Some t
 taking (Write t l) = Some t
-taking (Grant l s at) = Some s
+taking (Grant l u at) = Some u
 taking _ = None
 
 -- who gives a lock up
@@ -51,7 +52,7 @@ abbrev pub lock_of : Event → Option LockId
 lock_of (Enter t l) = Some l
 lock_of (Read t l) = Some l
 lock_of (Write t l) = Some l
-lock_of (Grant l s at) = Some l
+lock_of (Grant l u at) = Some l
 lock_of (Exit t l) = Some l
 lock_of (CvWait t k l) = Some l
 lock_of (Spin t l) = Some l
@@ -61,10 +62,6 @@ lock_of _ = None
 abbrev pub is_lock : ℕ → Option LockId → Bool
 is_lock l None = false
 is_lock l (Some m) = m.0 == l
-
-abbrev pub is_thread : ThreadId → Option ThreadId → Bool
-is_thread t None = false
-is_thread t (Some u) = u.0 == t.0
 
 abbrev pub is_about : ℕ → Happening → Bool
 is_about l x = is_lock l (lock_of x.event)
@@ -76,7 +73,7 @@ lock_entries l xs = filter (is_about l) xs
 -- Who holds the lock: from each entry that takes it up to the first behind it by which the thread gives it up, or the end of the run.
 
 abbrev pub gives : ThreadId → Happening → Bool
-gives t x = is_thread t (giving x.event)
+gives t x = is_that_thread t (giving x.event)
 
 abbrev pub hold_to : ℕ → ℕ → Happening → ThreadId → Option Happening → Span
 hold_to entries end x t None = record { thread = t.0; first = state_after x.entry; last = entries; from = x.tick; to = end }
@@ -94,13 +91,13 @@ holds_of entries end (x ∷ xs) = hold_by entries end x xs (taking x.event) ++ h
 -- When a taking is contended: the thread's entry of the lock before it says that it spins or waits for it.
 
 abbrev pub wants : ThreadId → Happening → Bool
-wants t x = is_thread t (taking x.event) || is_thread t (trying x.event)
+wants t x = is_that_thread t (taking x.event) || is_that_thread t (trying x.event)
 
 -- from the entry that found the lock taken up to the one that takes it
 abbrev pub wait_to : Happening → ThreadId → Option Happening → List Span
 wait_to x t None = []
 wait_to x t (Some y) =
-    if is_thread t (taking y.event) then record { thread = t.0; first = state_after x.entry; last = y.entry; from = x.tick; to = y.tick } ∷ [] else []
+    if is_that_thread t (taking y.event) then record { thread = t.0; first = state_after x.entry; last = y.entry; from = x.tick; to = y.tick } ∷ [] else []
 
 abbrev pub wait_by : Happening → List Happening → Option ThreadId → List Span
 wait_by x rest None = []

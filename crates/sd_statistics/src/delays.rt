@@ -3,22 +3,16 @@
 //! Source: Solaris Internals (dispatch latency); the measure in ticks is this project's own.
 
 ghost use Rattle.std.specs.Prelude.{◌≡◌, ◌++◌, IfOk, OnOk};
-ghost use Rattle.sd_statistics.specs.Delays.{delay_if, delay_to, delays_of, first_run, runs, runs_after};
+ghost use Rattle.sd_statistics.specs.Delays.{delay_if, delay_to, delays_of, first_run, runs_after};
 
 use crate::spans::{Span, state_after};
-use sd_stretches::{Doing, Stretch, Wakeup};
+use sd_stretches::{Stretch, Wakeup, runs_somewhere};
 use std::alloc::{AllocError, Global};
-
-fn runs(doing: Doing) -> bool
-    ensures { result ≡ runs doing }
-{
-    matches!(doing, Doing::Running(_))
-}
 
 fn runs_after(entry: u64, x: &Stretch) -> bool
     ensures { result ≡ runs_after entry x.now }
 {
-    entry < x.first && runs(x.doing)
+    entry < x.first && runs_somewhere(x.doing)
 }
 
 // The first stretch behind the entry over which the thread runs.

@@ -3,7 +3,7 @@
 //! Source: Solaris Internals (mutexes, readers-writer locks, turnstiles), lockstat(1M); the rows are this project's own.
 
 ghost use Rattle.std.specs.Prelude.{◌≡◌, ◌++◌, ◌∷◌, [], IfOk, OnOk, filter};
-ghost use Rattle.sd_statistics.specs.Locks.{all_pieces, contended_of, gives, giving, hand_overs, held_rows, hold_by, hold_to, holds_of, is_about, is_lock, is_thread, lock_count, lock_entries, lock_of, lock_part, lock_row, lock_rows, taking, trying, wait_by, wait_rows, wait_to, wants};
+ghost use Rattle.sd_statistics.specs.Locks.{all_pieces, contended_of, gives, giving, hand_overs, held_rows, hold_by, hold_to, holds_of, is_about, is_lock, lock_count, lock_entries, lock_of, lock_part, lock_row, lock_rows, taking, trying, wait_by, wait_rows, wait_to, wants};
 ghost use Rattle.sd_stretches.specs.Rows.{next_of};
 ghost use Rattle.sd_stretches.specs.Spins.{pieces};
 ghost use Rattle.sd_stretches.specs.declared.spins.Track.TheVariants as track;
@@ -11,7 +11,7 @@ ghost use Rattle.sd_stretches.specs.declared.spins.Track.TheVariants as track;
 use crate::activities::{Activity, spans_of};
 use crate::rows::{Measure, Row, Subject, all_of, count_figures, push_row};
 use crate::spans::{Span, state_after, summary_of};
-use sd_stretches::{HandOver, Happening, History, Stretch, Track, pieces};
+use sd_stretches::{HandOver, Happening, History, Stretch, Track, is_that_thread, pieces};
 use sd_types::{Event, LockId, ThreadId, Work};
 use std::alloc::{AllocError, Global};
 
@@ -67,15 +67,6 @@ fn is_lock(l: u16, lock: Option<LockId>) -> bool
     }
 }
 
-fn is_thread(t: ThreadId, thread: Option<ThreadId>) -> bool
-    ensures { result ≡ is_thread t thread }
-{
-    match thread {
-        Some(u) => u.0 == t.0,
-        None => false,
-    }
-}
-
 #[tactic(auto, unfolding(crate::specs::Locks::lock_entries))]
 fn push_own(l: u16, x: &Happening, own: &mut Vec<Happening>) -> Result<(), AllocError>
     ensures { OnOk result (own.new.items ≡ own.old.items ++ lock_entries l (x.now ∷ [])) }
@@ -105,7 +96,7 @@ fn lock_entries(
 fn gives(t: ThreadId, x: &Happening) -> bool
     ensures { result ≡ gives t x.now }
 {
-    is_thread(t, giving(&x.event))
+    is_that_thread(t, giving(&x.event))
 }
 
 // The first entry by which the thread gives the lock up.
@@ -174,7 +165,7 @@ fn holds_of(
 fn wants(t: ThreadId, x: &Happening) -> bool
     ensures { result ≡ wants t x.now }
 {
-    is_thread(t, taking(&x.event)) || is_thread(t, trying(&x.event))
+    is_that_thread(t, taking(&x.event)) || is_that_thread(t, trying(&x.event))
 }
 
 // The first entry by which the thread takes the lock, or spins or begins to wait for it.
@@ -200,7 +191,7 @@ fn push_wait_to(
     let Some(y) = next else {
         return Ok(());
     };
-    if is_thread(t, taking(&y.event)) {
+    if is_that_thread(t, taking(&y.event)) {
         out.push(Span {
             thread: t.0 as usize,
             first: state_after(x.entry),

@@ -92,13 +92,18 @@ hand_overs_of s (Some e) = option_to_list (hand_over_of s e)
 
 -- The entries that wake.
 
+-- there is a thread, and it is this one
+abbrev pub is_that_thread : ThreadId → Option ThreadId → Bool
+is_that_thread t None = false
+is_that_thread t (Some u) = u.0 == t.0
+
 abbrev pub woken_by : Event → Option ThreadId
 woken_by (Napend t at) = Some t
-woken_by (Wake t k (Some (s, at))) = Some s
-woken_by (Rouse k (Some (s, at))) = Some s
-woken_by (Unblock l s at) = Some s
-woken_by (Grant l s at) = Some s
-woken_by (SemaVWake t k s at) = Some s
+woken_by (Wake t k (Some (u, at))) = Some u
+woken_by (Rouse k (Some (u, at))) = Some u
+woken_by (Unblock l u at) = Some u
+woken_by (Grant l u at) = Some u
+woken_by (SemaVWake t k u at) = Some u
 woken_by _ = None
 
 -- the end of a nap is the clock's

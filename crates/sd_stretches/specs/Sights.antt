@@ -29,6 +29,11 @@ abbrev pub runs_on : ℕ → Doing → Bool
 runs_on c (Running d) = d.0 == c
 runs_on c _ = false
 
+-- it runs on some processor
+abbrev pub runs_somewhere : Doing → Bool
+runs_somewhere (Running c) = true
+runs_somewhere _ = false
+
 abbrev pub same_doing : Doing → Doing → Bool
 same_doing (Running c) (Running d) = c.0 == d.0
 same_doing (Spinning c l) (Spinning d m) = (c.0 == d.0) && (l.0 == m.0)

@@ -4,7 +4,7 @@
 
 ghost use Rattle.std.specs.Prelude.{◌≡◌, ◌++◌, OnOk, slice_get, None, Some};
 ghost use Rattle.sd_state.specs.States.{cpu_of};
-ghost use Rattle.sd_stretches.specs.Changes.{giver, giver_of, hand_over_of, hand_overs_of, happening_of, happenings_of, is_above_base, is_giver, is_inherited, is_priority, load_if, owner_of, rank_if, ranks_between, turn_if, turns_between, wakeup_of, wakeups_of, wanted_lock, woken_by, waker_of};
+ghost use Rattle.sd_stretches.specs.Changes.{giver, giver_of, hand_over_of, hand_overs_of, happening_of, happenings_of, is_above_base, is_giver, is_inherited, is_priority, is_that_thread, load_if, owner_of, rank_if, ranks_between, turn_if, turns_between, wakeup_of, wakeups_of, wanted_lock, woken_by, waker_of};
 
 use crate::sights::{Doing, Sight, runnable, same_doing, same_rank};
 use sd_flat::{greatest_waiting, runner};
@@ -294,6 +294,16 @@ pub(crate) fn push_hand_over(
     Ok(())
 }
 
+/// Whether there is a thread, and it is this one.
+pub fn is_that_thread(thread: ThreadId, other: Option<ThreadId>) -> bool
+    ensures { result ≡ is_that_thread thread other }
+{
+    match other {
+        Some(other) => other == thread,
+        None => false,
+    }
+}
+
 /// The thread that an event wakes.
 pub fn woken_by(event: &Event) -> Option<ThreadId>
     ensures { result ≡ woken_by event.now }
@@ -301,13 +311,13 @@ pub fn woken_by(event: &Event) -> Option<ThreadId>
     match *event {
         Event::Napend { t, .. } => Some(t),
         Event::Wake {
-            woken: Some((s, _)),
+            woken: Some((u, _)),
             ..
-        } => Some(s),
+        } => Some(u),
         Event::Rouse {
-            woken: Some((s, _)),
+            woken: Some((u, _)),
             ..
-        } => Some(s),
+        } => Some(u),
         Event::Unblock { u, .. } => Some(u),
         Event::Grant { u, .. } => Some(u),
         Event::SemaVWake { u, .. } => Some(u),

@@ -13,7 +13,7 @@ mod rows;
 mod sights;
 mod spins;
 
-pub use changes::{HandOver, Happening, Load, Rank, Turn, Wakeup, woken_by};
+pub use changes::{HandOver, Happening, Load, Rank, Turn, Wakeup, is_that_thread, woken_by};
 pub use doings::{put_counted, put_doing};
 pub use histories::History;
 pub use label_laws::names_need_no_escaping;
@@ -22,5 +22,5 @@ pub use laws::{
 };
 pub use names::{chan_name, lock_name, set_name, thread_name};
 pub use rows::{Level, Stretch, levels, slices, stretches};
-pub use sights::{Doing, Sight};
+pub use sights::{Doing, Sight, runs_somewhere};
 pub use spins::{Track, pieces};
