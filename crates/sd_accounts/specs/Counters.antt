@@ -68,11 +68,11 @@ counted_thread (Steal v t p) = Some t.0
 counted_thread (Preempt t end) = Some t.0
 counted_thread (Away t c) = Some t.0
 counted_thread (Napend t at) = Some t.0
-counted_thread (Wake t k (Some (s, at))) = Some s.0
-counted_thread (Rouse k (Some (s, at))) = Some s.0
-counted_thread (Unblock l s at) = Some s.0
-counted_thread (Grant l s at) = Some s.0
-counted_thread (SemaVWake t k s at) = Some s.0
+counted_thread (Wake t k (Some (u, at))) = Some u.0
+counted_thread (Rouse k (Some (u, at))) = Some u.0
+counted_thread (Unblock l u at) = Some u.0
+counted_thread (Grant l u at) = Some u.0
+counted_thread (SemaVWake t k u at) = Some u.0
 counted_thread _ = None
 
 abbrev pub counted_at : Option ℕ → Event → List ThreadCounts → List ThreadCounts

@@ -47,13 +47,13 @@ pub(crate) fn is_wake_of(t: ThreadId, event: &Event) -> bool
     match event {
         Event::Napend { t: u, .. } => u.0 == t.0,
         Event::Wake {
-            woken: Some((s, _)),
+            woken: Some((u, _)),
             ..
-        } => s.0 == t.0,
+        } => u.0 == t.0,
         Event::Rouse {
-            woken: Some((s, _)),
+            woken: Some((u, _)),
             ..
-        } => s.0 == t.0,
+        } => u.0 == t.0,
         Event::Unblock { u, .. } => u.0 == t.0,
         Event::Grant { u, .. } => u.0 == t.0,
         Event::SemaVWake { u, .. } => u.0 == t.0,
@@ -133,13 +133,13 @@ pub(crate) fn counted_thread(event: &Event) -> Option<ThreadId>
         Event::Away { t, .. } => Some(*t),
         Event::Napend { t, .. } => Some(*t),
         Event::Wake {
-            woken: Some((s, _)),
+            woken: Some((u, _)),
             ..
-        } => Some(*s),
+        } => Some(*u),
         Event::Rouse {
-            woken: Some((s, _)),
+            woken: Some((u, _)),
             ..
-        } => Some(*s),
+        } => Some(*u),
         Event::Unblock { u, .. } => Some(*u),
         Event::Grant { u, .. } => Some(*u),
         Event::SemaVWake { u, .. } => Some(*u),

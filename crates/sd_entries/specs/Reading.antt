@@ -157,8 +157,8 @@ handing_event w k ws =
     else None
 
 abbrev pub counted_or_woken : ThreadId → ChanId → ThreadId → ℕ → Option Put → Event
-counted_or_woken t k s n None = SemaVCount t k n
-counted_or_woken t k s n (Some place) = SemaVWake t k s place
+counted_or_woken t k u n None = SemaVCount t k n
+counted_or_woken t k u n (Some place) = SemaVWake t k u place
 
 unfoldable pub semaphore_event : Work → List ℕ → List (List ℕ) → Option Event
 semaphore_event w k ws =

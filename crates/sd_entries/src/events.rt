@@ -91,21 +91,21 @@ fn put_thread_place(
     put_place(at, line, from)
 }
 
-/// `word l s to c7`
+/// `word l u to c7`
 fn put_lock_place(
     work: &Work,
     word: &[u8],
     l: LockId,
-    s: ThreadId,
+    u: ThreadId,
     at: Put,
     line: &mut Line,
     from: usize,
 ) -> usize
     requires { from + length word.now + 59 ≤ ROOM }
-    ensures text { take result line.new ≡ take from line.old ++ (word_thread work.now (word_lock work.now word.now l) s ++ put_text at) }
+    ensures text { take result line.new ≡ take from line.old ++ (word_thread work.now (word_lock work.now word.now l) u ++ put_text at) }
     ensures within { result ≤ from + length word.now + 59 }
 {
-    let from = put_lock_thread(work, word, l, s, line, from);
+    let from = put_lock_thread(work, word, l, u, line, from);
     put_place(at, line, from)
 }
 
@@ -163,16 +163,16 @@ fn put_will(
 fn put_prio(
     work: &Work,
     t: ThreadId,
-    s: ThreadId,
+    u: ThreadId,
     answer: PrioAnswer,
     line: &mut Line,
     from: usize,
 ) -> usize
     requires { from + 70 ≤ ROOM }
-    ensures text { take result line.new ≡ take from line.old ++ (word_thread work.now (word_thread work.now (codes "prio") t) s ++ codes " " ++ prio_text answer) }
+    ensures text { take result line.new ≡ take from line.old ++ (word_thread work.now (word_thread work.now (codes "prio") t) u ++ codes " " ++ prio_text answer) }
     ensures within { result ≤ from + 70 }
 {
-    let from = put_two_threads(work, b"prio", t, s, line, from);
+    let from = put_two_threads(work, b"prio", t, u, line, from);
     let from = put_bytes(b" ", line, from);
     put_prio_answer(answer, line, from)
 }
@@ -197,17 +197,17 @@ fn put_sema_wake(
     work: &Work,
     t: ThreadId,
     k: ChanId,
-    s: ThreadId,
+    u: ThreadId,
     at: Put,
     line: &mut Line,
     from: usize,
 ) -> usize
     requires { from + 81 ≤ ROOM }
-    ensures text { take result line.new ≡ take from line.old ++ (word_thread work.now (word_chan work.now (word_thread work.now (codes "semav") t) k) s ++ put_text at) }
+    ensures text { take result line.new ≡ take from line.old ++ (word_thread work.now (word_chan work.now (word_thread work.now (codes "semav") t) k) u ++ put_text at) }
     ensures within { result ≤ from + 81 }
 {
     let from = put_thread_chan(work, b"semav", t, k, line, from);
-    let from = put_space_thread(work, s, line, from);
+    let from = put_space_thread(work, u, line, from);
     put_place(at, line, from)
 }
 
@@ -282,17 +282,17 @@ fn put_cpu_and_answer(cpu: Option<CpuId>, answer: BindAnswer, line: &mut Line, f
 fn put_bind(
     work: &Work,
     t: ThreadId,
-    s: ThreadId,
+    u: ThreadId,
     cpu: Option<CpuId>,
     answer: BindAnswer,
     line: &mut Line,
     from: usize,
 ) -> usize
     requires { from + 90 ≤ ROOM }
-    ensures text { take result line.new ≡ take from line.old ++ (word_thread work.now (word_thread work.now (codes "pbind") t) s ++ codes " " ++ cpu_text_if cpu ++ codes " " ++ bind_text answer) }
+    ensures text { take result line.new ≡ take from line.old ++ (word_thread work.now (word_thread work.now (codes "pbind") t) u ++ codes " " ++ cpu_text_if cpu ++ codes " " ++ bind_text answer) }
     ensures within { result ≤ from + 90 }
 {
-    let from = put_two_threads(work, b"pbind", t, s, line, from);
+    let from = put_two_threads(work, b"pbind", t, u, line, from);
     put_cpu_and_answer(cpu, answer, line, from)
 }
 

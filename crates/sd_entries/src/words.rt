@@ -150,38 +150,38 @@ pub(crate) fn put_thread_chan(
     put_space_chan(work, k, line, from)
 }
 
-/// `word t s`
+/// `word t u`
 pub(crate) fn put_two_threads(
     work: &Work,
     word: &[u8],
     t: ThreadId,
-    s: ThreadId,
+    u: ThreadId,
     line: &mut Line,
     from: usize,
 ) -> usize
     requires { from + length word.now + 34 ≤ ROOM }
-    ensures text { take result line.new ≡ take from line.old ++ word_thread work.now (word_thread work.now word.now t) s }
+    ensures text { take result line.new ≡ take from line.old ++ word_thread work.now (word_thread work.now word.now t) u }
     ensures within { result ≤ from + length word.now + 34 }
 {
     let from = put_word_thread(work, word, t, line, from);
-    put_space_thread(work, s, line, from)
+    put_space_thread(work, u, line, from)
 }
 
-/// `word l s`
+/// `word l u`
 pub(crate) fn put_lock_thread(
     work: &Work,
     word: &[u8],
     l: LockId,
-    s: ThreadId,
+    u: ThreadId,
     line: &mut Line,
     from: usize,
 ) -> usize
     requires { from + length word.now + 34 ≤ ROOM }
-    ensures text { take result line.new ≡ take from line.old ++ word_thread work.now (word_lock work.now word.now l) s }
+    ensures text { take result line.new ≡ take from line.old ++ word_thread work.now (word_lock work.now word.now l) u }
     ensures within { result ≤ from + length word.now + 34 }
 {
     let from = put_word_lock(work, word, l, line, from);
-    put_space_thread(work, s, line, from)
+    put_space_thread(work, u, line, from)
 }
 
 /// ` to c7` or ` rt c7`: where a thread was put.
@@ -217,16 +217,16 @@ pub(crate) fn put_place_if(at: Option<Put>, line: &mut Line, from: usize) -> usi
     }
 }
 
-fn put_woken_thread(work: &Work, s: ThreadId, at: Put, line: &mut Line, from: usize) -> usize
+fn put_woken_thread(work: &Work, u: ThreadId, at: Put, line: &mut Line, from: usize) -> usize
     requires { from + 41 ≤ ROOM }
-    ensures text { take result line.new ≡ take from line.old ++ (thread_name work.now s.0 ++ put_text at) }
+    ensures text { take result line.new ≡ take from line.old ++ (thread_name work.now u.0 ++ put_text at) }
     ensures within { result ≤ from + 41 }
 {
-    let from = put_bytes(thread_name(work, s.0 as usize), line, from);
+    let from = put_bytes(thread_name(work, u.0 as usize), line, from);
     put_place(at, line, from)
 }
 
-/// `s to c7`, or `none` where no thread was woken.
+/// `u to c7`, or `none` where no thread was woken.
 pub(crate) fn put_woken(
     work: &Work,
     woken: Option<(ThreadId, Put)>,
@@ -239,6 +239,6 @@ pub(crate) fn put_woken(
 {
     match woken {
         None => put_bytes(b"none", line, from),
-        Some((s, at)) => put_woken_thread(work, s, at, line, from),
+        Some((u, at)) => put_woken_thread(work, u, at, line, from),
     }
 }

@@ -62,7 +62,7 @@ fn woken_fits(work: &Work, woken: Option<(ThreadId, Put)>) -> bool
 {
     match woken {
         None => true,
-        Some((s, place)) => has_thread(work, s) && put_fits(work, place),
+        Some((u, place)) => has_thread(work, u) && put_fits(work, place),
     }
 }
 

@@ -104,11 +104,11 @@ pub(crate) fn bind_in(word: &[u8], place: Option<Put>) -> BindAnswer
 }
 
 /// The thread that was woken, where a place is told.
-pub(crate) fn woken_by(s: ThreadId, place: Option<Put>) -> Option<(ThreadId, Put)>
-    ensures { result ≡ woken_by s place }
+pub(crate) fn woken_by(u: ThreadId, place: Option<Put>) -> Option<(ThreadId, Put)>
+    ensures { result ≡ woken_by u place }
 {
     match place {
         None => None,
-        Some(place) => Some((s, place)),
+        Some(place) => Some((u, place)),
     }
 }

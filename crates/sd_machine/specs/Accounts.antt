@@ -23,9 +23,9 @@ abbrev pub is_wake : Event → Bool
 is_wake (Napend t at) = true
 is_wake (Wake t k (Some u)) = true
 is_wake (Rouse k (Some u)) = true
-is_wake (Unblock l s at) = true
-is_wake (Grant l s at) = true
-is_wake (SemaVWake t k s at) = true
+is_wake (Unblock l u at) = true
+is_wake (Grant l u at) = true
+is_wake (SemaVWake t k u at) = true
 is_wake _ = false
 
 abbrev pub is_block : Event → Bool

@@ -35,13 +35,13 @@ use Rattle.sd_machine.specs.Plans.{plan}
 
 abbrev pub event_of : Placement → Put → Event
 event_of (placement.Napend t) at = Napend t at
-event_of (placement.Wake t k s) at = Wake t k (Some (s, at))
-event_of (placement.Rouse k s) at = Rouse k (Some (s, at))
+event_of (placement.Wake t k u) at = Wake t k (Some (u, at))
+event_of (placement.Rouse k u) at = Rouse k (Some (u, at))
 event_of (placement.Will l o p) at = Will l o p (Some at)
-event_of (placement.Unblock l s) at = Unblock l s at
-event_of (placement.Grant l s) at = Grant l s at
-event_of (placement.Prio t s p) at = Prio t s (Changed p (Some at))
-event_of (placement.SemaVWake t k s) at = SemaVWake t k s at
+event_of (placement.Unblock l u) at = Unblock l u at
+event_of (placement.Grant l u) at = Grant l u at
+event_of (placement.Prio t u p) at = Prio t u (Changed p (Some at))
+event_of (placement.SemaVWake t k u) at = SemaVWake t k u at
 event_of (placement.Move t) at = Move t at
 
 -- the thread that is placed
@@ -50,10 +50,10 @@ placed_thread (placement.Napend t) = t.0
 placed_thread (placement.Wake t k s) = s.0
 placed_thread (placement.Rouse k s) = s.0
 placed_thread (placement.Will l o p) = o.0
-placed_thread (placement.Unblock l s) = s.0
-placed_thread (placement.Grant l s) = s.0
-placed_thread (placement.Prio t s p) = s.0
-placed_thread (placement.SemaVWake t k s) = s.0
+placed_thread (placement.Unblock l u) = u.0
+placed_thread (placement.Grant l u) = u.0
+placed_thread (placement.Prio t u p) = u.0
+placed_thread (placement.SemaVWake t k u) = u.0
 placed_thread (placement.Move t) = t.0
 
 -- What a processor reads before its event: which numbers, and of which processors, in rising order.

@@ -26,11 +26,11 @@ is_preempt_of t _ = false
 -- thread t is woken: made runnable after a nap, a sleep or a wait for a lock
 abbrev pub is_wake_of : ℕ → Event → Bool
 is_wake_of t (Napend u at) = u.0 == t
-is_wake_of t (Wake u k (Some (s, at))) = s.0 == t
-is_wake_of t (Rouse k (Some (s, at))) = s.0 == t
-is_wake_of t (Unblock l s at) = s.0 == t
-is_wake_of t (Grant l s at) = s.0 == t
-is_wake_of t (SemaVWake u k s at) = s.0 == t
+is_wake_of t (Wake v k (Some (u, at))) = u.0 == t
+is_wake_of t (Rouse k (Some (u, at))) = u.0 == t
+is_wake_of t (Unblock l u at) = u.0 == t
+is_wake_of t (Grant l u at) = u.0 == t
+is_wake_of t (SemaVWake v k u at) = u.0 == t
 is_wake_of t _ = false
 
 abbrev pub is_idle : Event → Bool

@@ -24,7 +24,7 @@ use Rattle.sd_statistics.specs.Spans.{state_after, summary_of}
 abbrev pub sema_of : Event → Option ChanId
 sema_of (SemaP t k) = Some k
 sema_of (SemaWait t k) = Some k
-sema_of (SemaVWake t k s at) = Some k
+sema_of (SemaVWake t k u at) = Some k
 sema_of (SemaVCount t k n) = Some k
 sema_of _ = None
 
@@ -67,7 +67,7 @@ taken_after taken _ = taken
 abbrev pub job_after : ℕ → Release → Option Release → Happening → Event → Option Release
 job_after t next current x (SemaP u k) = if u.0 == t then Some next else current
 job_after t next current x (SemaWait u k) = if u.0 == t then None else current
-job_after t next current x (SemaVWake u k s at) = if s.0 == t then Some (release_at x) else current
+job_after t next current x (SemaVWake v k u at) = if u.0 == t then Some (release_at x) else current
 job_after t next current x _ = current
 
 abbrev pub comes_back : ℕ → Event → Bool
