@@ -12,7 +12,7 @@ use Rattle.sd_types.specs.declared.works.LockKind.TheVariants.{Mutex, Rwlock}
 use Rattle.sd_types.specs.declared.works.ChanKind.{ChanKind}
 use Rattle.sd_types.specs.declared.works.ChanKind.TheVariants as kind
 use Rattle.sd_types.specs.NameWords.{is_name}
-use Rattle.sd_types.specs.Works.{same_bytes}
+use Rattle.sd_types.specs.Works.{same_bytes, has_small_count}
 use Rattle.sd_lines.specs.Words.{Word}
 use Rattle.sd_lines.specs.Statements.{Cpus, Hz, Limit, Lock, Chan, Sema}
 use Rattle.sd_declare.specs.Declarations.{Declarations, nothing, lock_number, chan_number}
@@ -23,7 +23,6 @@ use Rattle.sd_workload.specs.Texts.{Outside}
 use Rattle.sd_workload.proofs.ClearLemmas.{IsClear}
 use Rattle.sd_canonical.specs.Lines.{setting_line, lock_word, chan_words}
 use Rattle.sd_canonical.specs.Canonical.{line_text, lock_text, chan_text}
-use Rattle.sd_canonical.specs.Valid.{count_fits}
 use Rattle.sd_canonical.proofs.TextLemmas.{is_plain, are_plain, name-plain, number-plain}
 use Rattle.sd_canonical.proofs.TakesLemmas.{Takes, takes-nothing, takes-both, takes-line}
 use Rattle.sd_canonical.proofs.FormLemmas.{cpus-form, hz-form, limit-form, lock-form, chan-form, sema-form}
@@ -129,7 +128,7 @@ new-chan d kind name rest s =
       limits = under (length d.chans) 256 (omega arith);
     }
 
-takes-chan : (kind : ChanKind) (name : Word) (rest : List (Word × ChanKind)) (d : Declarations) → is_name name ≡ true → count_fits kind ≡ true → IsNamed (d.chans ++ (name, kind) ∷ rest)
+takes-chan : (kind : ChanKind) (name : Word) (rest : List (Word × ChanKind)) (d : Declarations) → is_name name ≡ true → has_small_count kind ≡ true → IsNamed (d.chans ++ (name, kind) ∷ rest)
     → Takes (line_text (chan_words name kind)) d Outside (with_chan d kind name) Outside
 takes-chan kind.Chan name rest d named fits s =
     let plain : are_plain (codes "chan" ∷ name ∷ []) ≡ true = rw (name-plain name named) refl in
@@ -141,12 +140,12 @@ takes-chan (kind.Sema n) name rest d named fits s =
     takes-line (codes "sema") (name ∷ decimal n ∷ []) (Sema name n) d plain (sema-form name n named (omega arith))
     (record { syntax = c.syntax; unknown = c.unknown; twice = c.twice; range = ap not fits; sets = c.sets; limits = c.limits })
 
-pub takes-chans : (chans : List (Name × ChanKind)) (d : Declarations) (all : List (Word × ChanKind)) → d.chans ++ map chan_kept chans ≡ all → list_all (λ k. count_fits k.1) chans ≡ true → IsNamed all
+pub takes-chans : (chans : List (Name × ChanKind)) (d : Declarations) (all : List (Word × ChanKind)) → d.chans ++ map chan_kept chans ≡ all → list_all (λ k. has_small_count k.1) chans ≡ true → IsNamed all
     → Takes (flat_map chan_text chans) d Outside (record d { chans = all }) Outside
 takes-chans [] d all e fits s =
     subst (λ (x : List (Word × ChanKind)). Takes [] d Outside (record d { chans = x }) Outside) (sym (append-nil d.chans) ∙ e) (takes-nothing d Outside)
 takes-chans (x ∷ xs) d all e fits s =
-    let p = and_parts (count_fits x.1) (list_all (λ (k : Name × ChanKind). count_fits k.1) xs) fits in
+    let p = and_parts (has_small_count x.1) (list_all (λ (k : Name × ChanKind). has_small_count k.1) xs) fits in
     let next : Declarations = with_chan d x.1 x.0.text.items in
     takes-both (chan_text x) (flat_map chan_text xs) d next (record d { chans = all }) Outside Outside Outside
     (takes-chan x.1 x.0.text.items (map chan_kept xs) d x.0.is_name p.0 (subst IsNamed (sym e) s))

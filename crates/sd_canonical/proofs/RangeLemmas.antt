@@ -26,14 +26,15 @@ use Rattle.sd_workload.specs.Texts.{Block, Outside, InTable, InScript, stated_ca
 use Rattle.sd_workload.proofs.ClearLemmas.{clear}
 use Rattle.sd_workload.proofs.FirstLemmas.{apart, same-accepted}
 use Rattle.sd_workload.proofs.LineLemmas.{all-push}
-use Rattle.sd_canonical.specs.Valid.{count_fits, IsValid}
+use Rattle.sd_types.specs.Works.{has_small_count}
+use Rattle.sd_canonical.specs.Valid.{IsValid}
 use Rattle.sd_canonical.proofs.ListLemmas.{all-map}
 
 abbrev user-fits : Thread → Bool
 user-fits t = leb t.uid 65535
 
 abbrev kind-fits : Word × ChanKind → Bool
-kind-fits k = count_fits k.1
+kind-fits k = has_small_count k.1
 
 record InRange (d : Declarations) : Type 0 where
   uids : list_all user-fits d.threads ≡ true

@@ -29,7 +29,8 @@ use Rattle.sd_state.specs.declared.states.State.{State}
 use Rattle.sd_state.specs.declared.states.ThreadState.{ThreadState}
 use Rattle.sd_encoding.specs.Numbers.{zigzag, natural, signed, truth, flag, optional, listed, cpu_id, thread_id, lock_id, chan_id, set_id, side, place, lock, duty, quantum, ts, fx, sys, rt, class, body, thread, cpu, inherited, open_list, vector}
 use Rattle.sd_encoding.specs.Reading.{number_at, below_at, unzigzag, signed_at, signed_byte_at, truth_at, optional_at, pair_at, items_at, listed_at, array_at, cpu_id_at, thread_id_at, lock_id_at, chan_id_at, set_id_at, side_at, place_at, lock_at, duty_at, quantum_at, ts_within, fx_within, sys_within, rt_within, ts_at, fx_at, sys_at, rt_at, class_at, body_at, thread_at, cpu_at, state_at}
-use Rattle.sd_encoding.specs.Fits.{FitsCpuId, FitsThreadId, FitsLockId, FitsChanId, FitsSetId, FitsInherited, FitsArray, FitsPlace, FitsLock, FitsDuty, FitsQuantum, FitsClass, FitsBody, FitsThread, FitsCpu, FitsState}
+use Rattle.sd_rules.specs.ClassStates.{IsClassState}
+use Rattle.sd_encoding.specs.Fits.{FitsCpuId, FitsThreadId, FitsLockId, FitsChanId, FitsSetId, FitsInherited, FitsArray, FitsPlace, FitsLock, FitsDuty, FitsQuantum, FitsBody, FitsThread, FitsCpu, FitsState}
 use Rattle.sd_encoding.specs.Ranges.{is_quantum, is_ts, is_fx, is_sys, is_rt}
 
 pub number_again : (n : ℕ) (rest : List ℕ) → number_at (natural n ++ rest) ≡ Some (n, rest)
@@ -233,7 +234,7 @@ rt_again s rest h =
       rt_is_within s h,
     ) refl
 
-pub class_again : (x : ClassState) (rest : List ℕ) → FitsClass x → class_at (class x ++ rest) ≡ Some (x, rest)
+pub class_again : (x : ClassState) (rest : List ℕ) → IsClassState x → class_at (class x ++ rest) ≡ Some (x, rest)
 unfolding class_at
 class_again (Ts s) rest h = rw (ts_again s rest h) refl
 class_again (Fx s) rest h = rw (fx_again s rest h) refl

@@ -2,10 +2,7 @@
 use Rattle.std.specs.Prelude.{ℕ, ◌<◌, ◌≤◌, ◌^◌, ⊤, length, IfSome}
 use Rattle.std.specs.List.{All}
 use Rattle.arrayvec.specs.ArrayVec.{ArrayVec}
-use Rattle.sd_types.specs.ClassNumbers.{IsTs, IsFx, IsSys, IsRt}
 use Rattle.sd_types.specs.declared.bodies.ThreadBody.{ThreadBody}
-use Rattle.sd_types.specs.declared.classes.ClassState.{ClassState}
-use Rattle.sd_types.specs.declared.classes.ClassState.TheVariants.{Ts, Fx, Sys, Rt}
 use Rattle.sd_types.specs.declared.classes.Quantum.{Quantum}
 use Rattle.sd_types.specs.declared.classes.Quantum.TheVariants.{Def, Inf, Ticks}
 use Rattle.sd_types.specs.declared.events.Duty.{Duty}
@@ -15,6 +12,7 @@ use Rattle.sd_types.specs.declared.numbers.CpuId.{CpuId}
 use Rattle.sd_types.specs.declared.numbers.LockId.{LockId}
 use Rattle.sd_types.specs.declared.numbers.SetId.{SetId}
 use Rattle.sd_types.specs.declared.numbers.ThreadId.{ThreadId}
+use Rattle.sd_rules.specs.ClassStates.{IsClassState}
 use Rattle.sd_state.specs.declared.states.CpuState.{CpuState}
 use Rattle.sd_state.specs.declared.states.LockState.{LockState}
 use Rattle.sd_state.specs.declared.states.LockState.TheVariants.{Free, Owned, ReadHeld, Passing}
@@ -75,14 +73,8 @@ FitsQuantum Def = ⊤
 FitsQuantum Inf = ⊤
 FitsQuantum (Ticks n) = n < 2 ^ 32
 
-abbrev pub FitsClass : ClassState → Type 0
-FitsClass (Ts s) = IsTs s
-FitsClass (Fx s) = IsFx s
-FitsClass (Sys s) = IsSys s
-FitsClass (Rt s) = IsRt s
-
 pub record FitsBody (b : ThreadBody) : Type 0 where
-  pub class : FitsClass b.class
+  pub class : IsClassState b.class
   pub willed : FitsArray 8 FitsInherited b.willed
   pub held : FitsArray 8 FitsLockId b.held
   pub op : b.op < 2 ^ 16

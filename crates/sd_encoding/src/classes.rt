@@ -256,12 +256,12 @@ impl Packed for RtState {
 impl Packed for ClassState {
     ghost use Rattle.sd_encoding.specs.Numbers.{class};
     ghost use Rattle.sd_encoding.specs.Reading.{class_at};
-    ghost use Rattle.sd_encoding.specs.Fits.{FitsClass};
+    ghost use Rattle.sd_rules.specs.ClassStates.{IsClassState};
     ghost use Rattle.sd_encoding.specs.Again.{class_again};
 
     ghost numbers_of = { class };
 
-    ghost fits = { FitsClass };
+    ghost fits = { IsClassState };
 
     ghost at = { class_at };
 

@@ -4,6 +4,7 @@ use Rattle.std.specs.Prelude.{ℕ, ◌≤◌}
 use Rattle.sd_types.specs.declared.classes.ClassState.{ClassState}
 use Rattle.sd_types.specs.declared.classes.ClassState.TheVariants.{Ts, Fx, Sys, Rt}
 use Rattle.sd_types.specs.ClassNumbers.{IsTs, IsFx, IsSys, IsRt}
+use Rattle.sd_types.specs.Priorities.{real_time_priority}
 
 abbrev pub IsClassState : ClassState → Type 0
 IsClassState (Ts s) = IsTs s
@@ -16,4 +17,4 @@ abbrev pub IsBaseOf : ClassState → ℕ → Type 0
 IsBaseOf (Ts s) base = base ≤ 59
 IsBaseOf (Fx s) base = base ≤ 60
 IsBaseOf (Sys s) base = (60 ≤ base) × (base ≤ 99)
-IsBaseOf (Rt s) base = (100 ≤ base) × (base ≤ 159)
+IsBaseOf (Rt s) base = (real_time_priority ≤ base) × (base ≤ 159)

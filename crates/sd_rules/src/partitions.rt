@@ -4,6 +4,7 @@ ghost use Rattle.std.specs.Prelude.{◌≡◌, ◌+◌, ◌<◌, ◌≤◌, ◌�
 ghost use Rattle.std.specs.List.{list_any};
 ghost use Rattle.sd_types.specs.declared.works.Work.{Work};
 ghost use Rattle.sd_types.specs.Partitions.{set_of_cpu, cpus_of_set};
+ghost use Rattle.sd_types.specs.Priorities.{real_time_priority};
 ghost use Rattle.sd_rules.specs.Lists.{is_rising, sets_of, lists_of};
 
 use arrayvec::ArrayVec;
@@ -72,7 +73,7 @@ impl Partitions {
     /// and not on the queue of one processor.
     pub fn belongs(&self, _p: SetId, pri: u8) -> bool
         requires { _p.0 < length self.now.cpus }
-        ensures { IsTrue result ↔ (100 ≤ pri) }
+        ensures { IsTrue result ↔ (real_time_priority ≤ pri) }
     {
         pri >= REAL_TIME_PRIORITY
     }

@@ -17,12 +17,16 @@ at_least_zero (negsuc n) = 0
 abbrev pub umdpri : TsNumbers → ℕ
 umdpri s = min (at_least_zero (pos s.cpupri +ℤ s.upri)) 59
 
+-- the least priority of a real-time thread
+abbrev pub real_time_priority : ℕ
+real_time_priority = 100
+
 -- the base priority
 abbrev pub base_of : ClassState → ℕ
 base_of (Ts s) = umdpri s
 base_of (Fx s) = s.pri
 base_of (Sys s) = s.pri
-base_of (Rt s) = 100 + s.pri
+base_of (Rt s) = real_time_priority + s.pri
 
 -- the greatest of a number and the inherited priorities
 abbrev pub greatest_willed : ℕ → List (LockId × ℕ) → ℕ
