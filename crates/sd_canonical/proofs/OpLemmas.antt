@@ -27,7 +27,8 @@ use Rattle.sd_types.specs.declared.works.ThreadDecl.{ThreadDecl}
 use Rattle.sd_types.specs.declared.works.Work.{Work}
 use Rattle.sd_types.specs.Partitions.{cpu_of_number}
 use Rattle.sd_types.specs.NameWords.{is_name}
-use Rattle.sd_types.specs.Works.{Declared, declared_of, same_bytes, is_mutex, is_rwlock, is_chan, is_sema, span_fits, short_fits, quantum_fits, is_def, unused_fit, request_fits, bound_fits, op_names}
+use Rattle.sd_types.specs.Works.{same_bytes, is_mutex, is_rwlock, is_chan, is_sema, span_fits, short_fits, quantum_fits, is_def, unused_fit, request_fits, bound_fits, op_names}
+use Rattle.sd_state.proofs.Declared.{declared}
 use Rattle.sd_lines.specs.Words.{Word, Line, is_end, only_word}
 use Rattle.sd_lines.specs.Operations.{Operation, Run, Yield, Nap, Sleep, Wake, WakeAll, Enter, Read, Write, Exit, Prio, CvWait, SemaP, SemaV, Assign, Pbind, operation_of}
 use Rattle.sd_state.specs.Texts.{thread_name, lock_name, chan_name}
@@ -45,9 +46,6 @@ use Rattle.sd_canonical.proofs.OpFormLemmas.{asked_said, IsAsked, request-plain,
 use Rattle.sd_canonical.proofs.ListLemmas.{place-map, place_of_name, name_at-name}
 
 -- what a workload declares, as far as its scripts name it
-abbrev pub declared_by : Work → Declared
-declared_by w = declared_of w.cpus w.sets w.locks w.chans w.threads
-
 -- the declarations have the names of the workload, and its processors
 pub record Names (w : Work) (d : Declarations) : Type 0 where
   pub cpus : cpu_count d ≡ w.cpus
@@ -422,7 +420,7 @@ module _ (w : Work) (d : Declarations) (n : Names w d) where
         clear = record { syntax = refl; unknown = thread-known w d n t inside; twice = refl; range = ap not (bound-known d c (ap (λ (x : ℕ). bound_fits x c) n.cpus ∙ p.1)); sets = refl; limits = refl };
       }
 
-  pub reads-op : (o : Op) → op_names (declared_by w) o ≡ true → IsRead w d o
+  pub reads-op : (o : Op) → op_names (declared w) o ≡ true → IsRead w d o
   reads-op (op.Run t) h = reads-run t h
   reads-op op.Yield h = reads-yield
   reads-op (op.Nap t) h = reads-nap t h

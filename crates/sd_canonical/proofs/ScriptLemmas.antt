@@ -29,7 +29,8 @@ use Rattle.sd_canonical.specs.Lines.{operation_line, operation_lines}
 use Rattle.sd_canonical.specs.Canonical.{line_text, lines_text}
 use Rattle.sd_canonical.proofs.TextLemmas.{line-again}
 use Rattle.sd_canonical.proofs.TakesLemmas.{Takes, takes-nothing, takes-both, none-clear}
-use Rattle.sd_canonical.proofs.OpLemmas.{declared_by, Names, said, Reads, reads-op}
+use Rattle.sd_state.proofs.Declared.{declared}
+use Rattle.sd_canonical.proofs.OpLemmas.{Names, said, Reads, reads-op}
 
 -- ---- where an operation stands
 
@@ -145,10 +146,10 @@ ahead true front (o ∷ back) = front ++ o ∷ []
 module _ (w : Work) (d : Declarations) (n : Names w d) (t : ThreadId) where
   -- what is shown of the operations that are left
   abbrev Rest : List Op → Type 0
-  Rest back = (entry : Bool) (front : List Op) → list_all (op_names (declared_by w)) back ≡ true → EachOpFits (front ++ back) → length (front ++ back) ≤ 256
+  Rest back = (entry : Bool) (front : List Op) → list_all (op_names (declared w)) back ≡ true → EachOpFits (front ++ back) → length (front ++ back) ≤ 256
       → Takes (lines_text (operation_lines w entry back)) d (InScript t (ahead entry front back)) d (InScript t (front ++ back))
 
-  takes-plain : (o : Op) (back front : List Op) → is_wait o ≡ false → op_names (declared_by w) o ≡ true → list_all (op_names (declared_by w)) back ≡ true
+  takes-plain : (o : Op) (back front : List Op) → is_wait o ≡ false → op_names (declared w) o ≡ true → list_all (op_names (declared w)) back ≡ true
       → EachOpFits (front ++ o ∷ back) → length (front ++ o ∷ back) ≤ 256 → Rest back
       → Takes (line_text (operation_line w o) ++ lines_text (operation_lines w false back)) d (InScript t front) d (InScript t (front ++ o ∷ back))
   takes-plain o back front single name names fits short rest =
@@ -162,7 +163,7 @@ module _ (w : Work) (d : Declarations) (n : Names w d) (t : ThreadId) where
       (rest false next names (subst EachOpFits (sym e) fits) (subst (λ (l : List Op). length l ≤ 256) (sym e) short)) in
       takes-both _ _ d d d (InScript t front) (InScript t next) (InScript t (front ++ o ∷ back)) here there
 
-  takes-wait : (k : ChanId) (l : LockId) (back more front : List Op) → back ≡ Enter l ∷ more → op_names (declared_by w) (CvWait k l) ≡ true → list_all (op_names (declared_by w)) back ≡ true
+  takes-wait : (k : ChanId) (l : LockId) (back more front : List Op) → back ≡ Enter l ∷ more → op_names (declared w) (CvWait k l) ≡ true → list_all (op_names (declared w)) back ≡ true
       → EachOpFits (front ++ CvWait k l ∷ back) → length (front ++ CvWait k l ∷ back) ≤ 256 → Rest back
       → Takes (line_text (operation_line w (CvWait k l)) ++ lines_text (operation_lines w true back)) d (InScript t front) d (InScript t (front ++ CvWait k l ∷ back))
   takes-wait k l back more front is name names fits short rest =
@@ -179,7 +180,7 @@ module _ (w : Work) (d : Declarations) (n : Names w d) (t : ThreadId) where
       (rest true next names (subst EachOpFits (sym e) fits) (subst (λ (x : List Op). length x ≤ 256) (sym e) short))) in
       takes-both _ _ d d d (InScript t front) (InScript t block) (InScript t (front ++ o ∷ back)) here there
 
-  takes-step : (o : Op) (back front : List Op) (b : Bool) → is_wait o ≡ b → op_names (declared_by w) o ≡ true → list_all (op_names (declared_by w)) back ≡ true
+  takes-step : (o : Op) (back front : List Op) (b : Bool) → is_wait o ≡ b → op_names (declared w) o ≡ true → list_all (op_names (declared w)) back ≡ true
       → EachOpFits (front ++ o ∷ back) → length (front ++ o ∷ back) ≤ 256 → Rest back
       → Takes (line_text (operation_line w o) ++ lines_text (operation_lines w b back)) d (InScript t front) d (InScript t (front ++ o ∷ back))
   takes-step o back front false single name names fits short rest = takes-plain o back front single name names fits short rest
@@ -190,24 +191,24 @@ module _ (w : Work) (d : Declarations) (n : Names w d) (t : ThreadId) where
       let here : op_fits (held_by front) (CvWait k l) (slice_get back 0) ≡ true = fits-here front back (CvWait k l) (subst (λ (x : Op). EachOpFits (front ++ x ∷ back)) p.2 fits) in
       let q = entered l back (and_parts (is_held l (held_by front)) (enters l (slice_get back 0)) here).1 in
       subst (λ (x : Op). Takes (line_text (operation_line w x) ++ lines_text (operation_lines w true back)) d (InScript t front) d (InScript t (front ++ x ∷ back))) (sym p.2)
-      (takes-wait k l back q.0 front q.1 (subst (λ (x : Op). op_names (declared_by w) x ≡ true) p.2 name) names
+      (takes-wait k l back q.0 front q.1 (subst (λ (x : Op). op_names (declared w) x ≡ true) p.2 name) names
       (subst (λ (x : Op). EachOpFits (front ++ x ∷ back)) p.2 fits) (subst (λ (x : Op). length (front ++ x ∷ back) ≤ 256) p.2 short) rest)
 
   takes-ops : (back : List Op) → Rest back
   takes-ops [] false front names fits short = subst (λ (x : List Op). Takes [] d (InScript t front) d (InScript t x)) (sym (append-nil front)) (takes-nothing d (InScript t front))
   takes-ops [] true front names fits short = subst (λ (x : List Op). Takes [] d (InScript t front) d (InScript t x)) (sym (append-nil front)) (takes-nothing d (InScript t front))
   takes-ops (o ∷ back) false front names fits short =
-      let p = and_parts (op_names (declared_by w) o) (list_all (op_names (declared_by w)) back) names in
+      let p = and_parts (op_names (declared w) o) (list_all (op_names (declared w)) back) names in
       takes-step o back front (is_wait o) refl p.0 p.1 fits short (takes-ops back)
   takes-ops (o ∷ back) true front names fits short =
-      let p = and_parts (op_names (declared_by w) o) (list_all (op_names (declared_by w)) back) names in
+      let p = and_parts (op_names (declared w) o) (list_all (op_names (declared w)) back) names in
       let next = front ++ o ∷ [] in
       let e : next ++ back ≡ front ++ o ∷ back = append_assoc front (o ∷ []) back in
       subst (λ (l : List Op). Takes (lines_text (operation_lines w false back)) d (InScript t next) d (InScript t l)) e
       (takes-ops back false next p.1 (subst EachOpFits (sym e) fits) (subst (λ (l : List Op). length l ≤ 256) (sym e) short))
 
   -- the operations and the line that closes the block
-  pub takes-body : (ops : List Op) → list_all (op_names (declared_by w)) ops ≡ true → EachOpFits ops → length ops ≤ 256 → length (held_by ops) ≡ 0
+  pub takes-body : (ops : List Op) → list_all (op_names (declared w)) ops ≡ true → EachOpFits ops → length ops ≤ 256 → length (held_by ops) ≡ 0
       → Takes (lines_text (operation_lines w false ops) ++ line_text (codes "end" ∷ [])) d (InScript t []) (with_script d t ops) Outside
   takes-body ops names fits short released =
       takes-both _ _ d d (with_script d t ops) (InScript t []) (InScript t ops) Outside

@@ -27,7 +27,8 @@ use Rattle.sd_canonical.proofs.TextLemmas.{are_plain, name-plain}
 use Rattle.sd_canonical.proofs.TakesLemmas.{Takes, takes-nothing, takes-both, takes-line}
 use Rattle.sd_canonical.proofs.FormLemmas.{script-form}
 use Rattle.sd_canonical.proofs.ThreadLemmas.{bare_kept}
-use Rattle.sd_canonical.proofs.OpLemmas.{declared_by, Names}
+use Rattle.sd_state.proofs.Declared.{declared}
+use Rattle.sd_canonical.proofs.OpLemmas.{Names}
 use Rattle.sd_canonical.proofs.ScriptLemmas.{takes-body}
 use Rattle.sd_canonical.proofs.ListLemmas.{named-fresh, place-seam, any-map, same-itself}
 
@@ -120,7 +121,7 @@ given-script w front back x d p =
     ∙ set-append_seam xs (bare_kept x) ys (thread_kept x) in
     ap (λ (ts : List Thread). record d { threads = ts; scripted = d.scripted ++ thread_id d (name-of x) ∷ [] }) e
 
-takes-script : (w : Work) (front back : List ThreadDecl) (x : ThreadDecl) (d : Declarations) → IsPart w front (x ∷ back) d → list_all (op_names (declared_by w)) x.script.ops ≡ true
+takes-script : (w : Work) (front back : List ThreadDecl) (x : ThreadDecl) (d : Declarations) → IsPart w front (x ∷ back) d → list_all (op_names (declared w)) x.script.ops ≡ true
     → 0 < length x.script.ops → Takes (script_text w x) d Outside (given d front back x) Outside
 takes-script w front back x d p names some =
     let name = name-of x in
@@ -186,7 +187,7 @@ given-all w front d p =
     let e : d.threads ≡ map thread_kept w.threads = p.threads ∙ append-nil (map thread_kept front) ∙ ap (map thread_kept) (sym (append-nil front) ∙ p.whole) in
     record { ids = d.scripted; takes = subst (λ (ts : List Thread). Takes [] d Outside (record d { threads = ts; scripted = d.scripted }) Outside) e (takes-nothing d Outside) }
 
-takes-next : (w : Work) (front back : List ThreadDecl) (x : ThreadDecl) (d : Declarations) → IsPart w front (x ∷ back) d → list_all (op_names (declared_by w)) x.script.ops ≡ true
+takes-next : (w : Work) (front back : List ThreadDecl) (x : ThreadDecl) (d : Declarations) → IsPart w front (x ∷ back) d → list_all (op_names (declared w)) x.script.ops ≡ true
     → (b : Bool) → ltb 0 (length x.script.ops) ≡ b
     → (IsPart w (front ++ x ∷ []) back (given d front back x) → AllGiven w (flat_map (script_text w) back) (given d front back x))
     → (IsPart w (front ++ x ∷ []) back d → AllGiven w (flat_map (script_text w) back) d)
@@ -207,11 +208,11 @@ takes-next w front back x d p names false none more same =
           (sym (script_text_none w x empty)) rest.takes;
     }
 
-pub takes-scripts : (w : Work) (back front : List ThreadDecl) (d : Declarations) → list_all (λ t. list_all (op_names (declared_by w)) t.script.ops) back ≡ true → IsPart w front back d
+pub takes-scripts : (w : Work) (back front : List ThreadDecl) (d : Declarations) → list_all (λ t. list_all (op_names (declared w)) t.script.ops) back ≡ true → IsPart w front back d
     → AllGiven w (flat_map (script_text w) back) d
 takes-scripts w [] front d names p = given-all w front d p
 takes-scripts w (x ∷ back) front d names p =
-    let h = and_parts (list_all (op_names (declared_by w)) x.script.ops) (list_all (λ (t : ThreadDecl). list_all (op_names (declared_by w)) t.script.ops) back) names in
+    let h = and_parts (list_all (op_names (declared w)) x.script.ops) (list_all (λ (t : ThreadDecl). list_all (op_names (declared w)) t.script.ops) back) names in
     takes-next w front back x d p h.0 (ltb 0 (length x.script.ops)) refl
     (λ q. takes-scripts w back (front ++ x ∷ []) (given d front back x) h.1 q)
     (λ q. takes-scripts w back (front ++ x ∷ []) d h.1 q)

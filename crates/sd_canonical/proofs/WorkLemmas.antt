@@ -39,7 +39,7 @@ use Rattle.sd_canonical.proofs.SetLemmas.{IsSets, takes-sets}
 use Rattle.sd_canonical.proofs.ObjectLemmas.{settled, takes-settings, IsNamed, takes-locks, takes-chans}
 use Rattle.sd_canonical.proofs.BlockLemmas.{takes-block}
 use Rattle.sd_canonical.proofs.ThreadLemmas.{bare_kept, IsThreads, takes-threads}
-use Rattle.sd_canonical.proofs.OpLemmas.{declared_by}
+use Rattle.sd_state.proofs.Declared.{declared}
 use Rattle.sd_canonical.proofs.ScriptsLemmas.{AllGiven, takes-scripts}
 
 -- ---- what a workload keeps, of what is kept of it
@@ -81,13 +81,13 @@ class-and-set w t = class_fits t.class t.cpupri && leb t.set.0 (length w.sets)
 
 classes-fit : (w : Work) → list_all (λ t. class_fits t.class t.cpupri && leb t.set.0 (length w.sets)) w.threads ≡ true
 classes-fit w =
-    all-more (thread_fits (declared_by w)) (class-and-set w) w.threads
-    (λ t h. (and_parts (class-and-set w t) (list_all (op_names (declared_by w)) t.script.ops) h).0) w.threads_fit
+    all-more (thread_fits (declared w)) (class-and-set w) w.threads
+    (λ t h. (and_parts (class-and-set w t) (list_all (op_names (declared w)) t.script.ops) h).0) w.threads_fit
 
-ops-fit : (w : Work) → list_all (λ t. list_all (op_names (declared_by w)) t.script.ops) w.threads ≡ true
+ops-fit : (w : Work) → list_all (λ t. list_all (op_names (declared w)) t.script.ops) w.threads ≡ true
 ops-fit w =
-    all-more (thread_fits (declared_by w)) (λ (t : ThreadDecl). list_all (op_names (declared_by w)) t.script.ops) w.threads
-    (λ t h. (and_parts (class-and-set w t) (list_all (op_names (declared_by w)) t.script.ops) h).1) w.threads_fit
+    all-more (thread_fits (declared w)) (λ (t : ThreadDecl). list_all (op_names (declared w)) t.script.ops) w.threads
+    (λ t h. (and_parts (class-and-set w t) (list_all (op_names (declared w)) t.script.ops) h).1) w.threads_fit
 
 -- ---- the tables
 

@@ -8,12 +8,11 @@ use Rattle.sd_state.specs.declared.states.Place.{Place}
 use Rattle.sd_state.specs.declared.states.Place.TheVariants.{Running}
 use Rattle.sd_state.specs.declared.states.State.{State}
 use Rattle.sd_state.specs.declared.states.ThreadState.{ThreadState}
-use Rattle.sd_state.specs.States.{cpu_of, thread_of}
+use Rattle.sd_state.specs.States.{cpu_of, thread_of, eff_of}
 use Rattle.sd_state.specs.Operations.{op_over, script_of}
 use Rattle.sd_machine.specs.Bodies.{departed}
 use Rattle.sd_machine.specs.Changes.{back_key, finish_op, leave, unmarked}
 use Rattle.sd_machine.specs.Dispatching.{yielded}
-use Rattle.sd_machine.specs.Threads.{eff_of}
 use Rattle.sd_store.proofs.TickLemmas.{twice}
 use Rattle.sd_dispatcher.specs.Touched.{queue_for}
 use Rattle.sd_dispatcher.proofs.Kept.{kept_place}

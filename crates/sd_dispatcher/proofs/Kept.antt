@@ -9,10 +9,10 @@ use Rattle.sd_types.specs.declared.works.Work.{Work}
 use Rattle.sd_state.specs.declared.states.CpuState.{CpuState}
 use Rattle.sd_state.specs.declared.states.State.{State}
 use Rattle.sd_state.specs.declared.states.ThreadState.{ThreadState}
-use Rattle.sd_state.specs.States.{thread_of, cpu_of, no_thread, with_cpu, with_thread}
+use Rattle.sd_state.specs.States.{thread_of, cpu_of, no_thread, with_cpu, with_thread, eff_of}
 use Rattle.sd_state.specs.Operations.{script_of}
 use Rattle.sd_machine.specs.Changes.{cpu_put, mark_over, place_put, priority_or_zero, put, put_where, remark, rivals, runs_below, set_class, set_mark, with_place}
-use Rattle.sd_machine.specs.Threads.{best_ready, eff_of, priority_of, runner}
+use Rattle.sd_machine.specs.Threads.{best_ready, priority_of, runner}
 
 -- One thread, one processor.
 

@@ -6,11 +6,10 @@ use Rattle.sd_types.specs.declared.works.Work.{Work}
 use Rattle.sd_types.specs.Priorities.{eff, eff_as}
 use Rattle.sd_state.specs.declared.states.State.{State}
 use Rattle.sd_state.specs.declared.states.ThreadState.{ThreadState}
-use Rattle.sd_state.specs.States.{no_body, no_thread, thread_of}
+use Rattle.sd_state.specs.States.{no_body, no_thread, thread_of, eff_of}
 use Rattle.sd_machine.specs.Bodies.{aged_class, woken_class}
 use Rattle.sd_machine.specs.Changes.{set_class}
 use Rattle.sd_machine.specs.Sleeping.{woken_priority}
-use Rattle.sd_machine.specs.Threads.{eff_of}
 
 abbrev read : List ThreadState → ℕ → ThreadState
 read xs t = slice_index_or xs t no_thread

@@ -12,14 +12,14 @@ use Rattle.sd_types.specs.declared.scripts.Op.{Op}
 use Rattle.sd_types.specs.declared.works.Work.{Work}
 use Rattle.sd_state.specs.declared.states.Place.TheVariants.{Running}
 use Rattle.sd_state.specs.declared.states.State.{State}
-use Rattle.sd_state.specs.States.{thread_of, cpu_of}
+use Rattle.sd_state.specs.States.{thread_of, cpu_of, eff_of}
 use Rattle.sd_state.specs.Operations.{ran, script_of}
 use Rattle.sd_rules.specs.ClassRules.{class_expires, class_requeue}
 use Rattle.sd_machine.specs.Bodies.{ticked_class}
 use Rattle.sd_machine.specs.Changes.{clear_marks, count_tick, counted, key_at, leave, run_tick, set_class}
 use Rattle.sd_machine.specs.Dispatching.{charge, preempted, ticked}
 use Rattle.sd_machine.specs.Needs.{CanFinish, IsFree}
-use Rattle.sd_machine.specs.Threads.{eff_of, runner}
+use Rattle.sd_machine.specs.Threads.{runner}
 use Rattle.sd_dispatcher.specs.Touched.{queue_for}
 use Rattle.sd_dispatcher.proofs.Kept.{class_place, kept_class, kept_set}
 use Rattle.sd_store.specs.declared.parts.Part.{Part}

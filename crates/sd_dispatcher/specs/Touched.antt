@@ -5,10 +5,11 @@ use Rattle.sd_types.specs.declared.numbers.CpuId.{CpuId}
 use Rattle.sd_types.specs.declared.numbers.ThreadId.{ThreadId}
 use Rattle.sd_types.specs.declared.events.Put.{Put}
 use Rattle.sd_types.specs.declared.works.Work.{Work}
+use Rattle.sd_types.specs.Priorities.{real_time_priority}
 use Rattle.sd_state.specs.declared.states.Place.{Place}
 use Rattle.sd_state.specs.declared.states.Place.TheVariants.{Running, Queued, RealTime}
 use Rattle.sd_state.specs.declared.states.State.{State}
-use Rattle.sd_machine.specs.Threads.{set_of}
+use Rattle.sd_state.specs.States.{set_of}
 use Rattle.sd_store.specs.declared.parts.Part.{Part}
 use Rattle.sd_store.specs.Parts.{actor_part, cpu_part, put_parts, ready_parts, real_time_part, thread_part}
 
@@ -27,7 +28,7 @@ leaving_parts w t c = thread_part t ∷ actor_part c ∷ cpu_part c ∷ real_tim
 
 -- the queue of a thread of priority p that has been on processor c: `queue_place` by priority and binding
 abbrev pub queue_for : Work → ℕ → CpuId → ℤ → ℕ → Option CpuId → Place
-queue_for w t c key p bound = if nat_le 100 p && is_none bound then RealTime (set_of w t) key else Queued c key
+queue_for w t c key p bound = if nat_le real_time_priority p && is_none bound then RealTime (set_of w t) key else Queued c key
 
 -- the processor from which a thread is stolen
 abbrev pub victim_parts : Option CpuId → List Part

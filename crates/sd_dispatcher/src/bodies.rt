@@ -3,10 +3,10 @@
 
 ghost use Rattle.std.specs.Prelude.{◌≡◌, [], ◌∷◌, IfOk, option_copied, option_map, unwrap_or};
 ghost use Rattle.sd_machine.specs.Prioritising.{is_privileged, uid_of};
-ghost use Rattle.sd_machine.specs.Threads.{eff_of, has_ended, priority_of};
+ghost use Rattle.sd_machine.specs.Threads.{has_ended, priority_of};
 ghost use Rattle.sd_state.specs.Operations.{op_of};
 ghost use Rattle.sd_state.specs.declared.states.Place.{Place};
-ghost use Rattle.sd_state.specs.States.{no_body, thread_of};
+ghost use Rattle.sd_state.specs.States.{no_body, thread_of, eff_of};
 ghost use Rattle.sd_store.specs.Keyless.{spot_of};
 ghost use Rattle.sd_store.specs.Parts.{found_parts, number, thread_part};
 ghost use Rattle.sd_store.specs.Words.{Lacks, Tells};

@@ -6,9 +6,8 @@ ghost use Rattle.std.specs.Prelude.{◌≡◌, ◌≤◌, ◌==◌, ◌∷◌, [
 ghost use Rattle.sd_rules.specs.Choices.{is_among};
 ghost use Rattle.sd_rules.specs.ChoiceFunctions.{chosen};
 ghost use Rattle.sd_machine.specs.Choosing.{choice, cpus_for, cpus_or_bound, is_recent, is_settled, is_warm, neighbours, numbers_read, put_chosen, put_on, victim_for};
-ghost use Rattle.sd_machine.specs.Threads.{set_of};
 ghost use Rattle.sd_state.specs.declared.states.State.{State};
-ghost use Rattle.sd_state.specs.States.{cpu_of, no_body, thread_of};
+ghost use Rattle.sd_state.specs.States.{cpu_of, no_body, thread_of, set_of};
 ghost use Rattle.sd_store.specs.Parts.{actor_part, cpu_part, ready_parts, real_time_part, thread_part};
 ghost use Rattle.sd_store.specs.Words.{Lacks, TellsIf};
 

@@ -4,7 +4,7 @@
 
 ghost use Rattle.std.specs.Prelude.{◌≡◌, ◌<◌, ◌^◌, [], ⊤};
 ghost use Rattle.sd_machine.specs.Changes.{cpu_put, put, put_where};
-ghost use Rattle.sd_machine.specs.Threads.{eff_of};
+ghost use Rattle.sd_state.specs.States.{eff_of};
 ghost use Rattle.sd_dispatcher.specs.Touched.{put_parts_if};
 ghost use Rattle.sd_store.specs.Parts.{put_parts};
 ghost use Rattle.sd_store.specs.Words.{DoesBy, LacksBy};

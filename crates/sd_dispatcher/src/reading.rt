@@ -3,7 +3,7 @@
 ghost use Rattle.std.specs.Prelude.{◌≡◌, ℕ, [], ◌∷◌, IfOk, option_map};
 ghost use Rattle.sd_machine.specs.Choosing.{neighbours, read_for, read_of, reads_for};
 ghost use Rattle.sd_machine.specs.Events.{hints_fit, same_which};
-ghost use Rattle.sd_machine.specs.Threads.{set_of};
+ghost use Rattle.sd_state.specs.States.{set_of};
 ghost use Rattle.sd_state.specs.declared.states.State.{State};
 ghost use Rattle.sd_dispatcher.specs.Reading.{parts};
 ghost use Rattle.sd_store.specs.Parts.{actor_part, ready_parts, real_time_part, thread_part};

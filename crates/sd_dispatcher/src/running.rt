@@ -5,10 +5,9 @@
 ghost use Rattle.std.specs.Prelude.{◌≡◌, ◌<◌, ◌^◌, [], ◌∷◌, ⊤, option_copied, true, unwrap_or};
 ghost use Rattle.sd_machine.specs.Changes.{key_at, leave, set_class};
 ghost use Rattle.sd_rules.specs.ClassRules.{class_requeue};
-ghost use Rattle.sd_machine.specs.Threads.{set_of};
 ghost use Rattle.sd_machine.specs.Dispatching.{charge, class_counts, dispatched, done, idled, preempted, sent_away, spun, stolen, ticked, yielded};
 ghost use Rattle.sd_machine.specs.Needs.{CanFinish, CanTick, IsFree, RunsOn};
-ghost use Rattle.sd_state.specs.States.{no_body, thread_of};
+ghost use Rattle.sd_state.specs.States.{no_body, thread_of, set_of};
 ghost use Rattle.sd_dispatcher.specs.Touched.{leaving_parts, queue_for};
 ghost use Rattle.sd_store.specs.Parts.{actor_part, cpu_part, ready_parts, real_time_part, thread_part};
 ghost use Rattle.sd_store.specs.Words.{Does, DoesBy, Lacks, LacksBy, LacksIf, Tells};

@@ -28,7 +28,7 @@ use Rattle.sd_state.specs.declared.states.CpuState.{CpuState}
 use Rattle.sd_state.specs.declared.states.Place.{Place}
 use Rattle.sd_state.specs.declared.states.Place.TheVariants.{Running, Waiting}
 use Rattle.sd_state.specs.declared.states.State.{State}
-use Rattle.sd_state.specs.States.{cpu_of, thread_of, with_cpu}
+use Rattle.sd_state.specs.States.{cpu_of, thread_of, with_cpu, eff_of}
 use Rattle.sd_state.specs.Operations.{op_of}
 use Rattle.sd_machine.specs.Bodies.{parms_of}
 use Rattle.sd_machine.specs.Changes.{cpu_put, mark_over, marked, put, put_where, runs_below, set_class, set_duty, set_looped, set_mark, set_number}
@@ -37,7 +37,7 @@ use Rattle.sd_machine.specs.Needs.{IsUnmoved, Needs}
 use Rattle.sd_machine.specs.Prioritising.{answer_to, changed_by, changed_on, changed_to, is_privileged, new_class, reprioritised, target_of, uid_of, walk_from}
 use Rattle.sd_machine.specs.Requeueing.{reordered, reordered_at}
 use Rattle.sd_machine.specs.Sleeping.{rouse_key, roused, roused_on, woken}
-use Rattle.sd_machine.specs.Threads.{best_sleeper_below, eff_of, greatest_waiting, has_ended, priority_of, runner}
+use Rattle.sd_machine.specs.Threads.{best_sleeper_below, greatest_waiting, has_ended, priority_of, runner}
 use Rattle.sd_machine.specs.Walking.{is_back, walked, willed}
 use Rattle.sd_store.specs.declared.spots.Chore.TheVariants as chore
 use Rattle.sd_store.specs.Walks.{next_to_rouse, walk_gone_on}

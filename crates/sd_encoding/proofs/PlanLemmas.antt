@@ -31,7 +31,7 @@ use Rattle.sd_state.specs.declared.states.LockState.TheVariants.{Free, Owned, Re
 use Rattle.sd_state.specs.declared.states.Place.{Place}
 use Rattle.sd_state.specs.declared.states.Place.TheVariants.{Running, Queued, RealTime, Waiting, Asleep, Napping, Ended}
 use Rattle.sd_state.specs.declared.states.State.{State}
-use Rattle.sd_state.specs.States.{cpu_of, thread_of}
+use Rattle.sd_state.specs.States.{cpu_of, thread_of, set_of, eff_of}
 use Rattle.sd_state.specs.Operations.{op_of}
 use Rattle.sd_machine.specs.Bodies.{aged_class, eff_as_with, woken_class}
 use Rattle.sd_machine.specs.Conditions.{sema_v_plan}
@@ -42,7 +42,7 @@ use Rattle.sd_machine.specs.Prioritising.{age_plan, answer_to, change_plan, is_p
 use Rattle.sd_machine.specs.Requeueing.{requeue, requeue_at, requeue_plan}
 use Rattle.sd_machine.specs.SetChanges.{assign_answer, bind_put, bind_to, bound_put, closing_plan, is_closing, is_misbound, unbound_put}
 use Rattle.sd_machine.specs.Sleeping.{napend_plan, rouse_key, rouse_plan, wake_plan, woken_priority}
-use Rattle.sd_machine.specs.Threads.{best_queued, best_ready, best_sleeper, best_sleeper_below, best_waiter, eff_of, first_due, lock_of, next_to_age, open_of, runner, runs_somewhere, set_of, thread_id}
+use Rattle.sd_machine.specs.Threads.{best_queued, best_ready, best_sleeper, best_sleeper_below, best_waiter, first_due, lock_of, next_to_age, open_of, runner, runs_somewhere, thread_id}
 use Rattle.sd_machine.specs.Walking.{inherited_priority, walk_plan, will_plan}
 use Rattle.sd_store.specs.Walks.{next_to_rouse}
 use Rattle.sd_encoding.specs.Order.{key_in}

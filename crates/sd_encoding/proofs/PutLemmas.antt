@@ -13,13 +13,13 @@ use Rattle.sd_types.specs.Willed.{changed_number, with_willed, with_lock as with
 use Rattle.sd_state.specs.declared.states.Place.{Place}
 use Rattle.sd_state.specs.declared.states.Place.TheVariants.{Running, Queued, RealTime, Waiting, Asleep, Napping, Ended}
 use Rattle.sd_state.specs.declared.states.State.{State}
-use Rattle.sd_state.specs.States.{thread_of}
+use Rattle.sd_state.specs.States.{thread_of, set_of, eff_of}
 use Rattle.sd_state.specs.Operations.{op_over, ran, script_of}
 use Rattle.sd_machine.specs.Bodies.{with_class, woken_class}
 use Rattle.sd_machine.specs.Changes.{cpu_put, finish_op, hold, key_at, leave, let_go, mark_over, place_put, priority_or_zero, put, put_where, queue_place, remark, rivals, run_tick, runs_below, send_back, set_class, set_looped, set_mark, set_number, with_place}
 use Rattle.sd_machine.specs.Requeueing.{reordered, reordered_at}
 use Rattle.sd_machine.specs.Sleeping.{woken}
-use Rattle.sd_machine.specs.Threads.{best_ready, eff_of, priority_of, runner, set_of}
+use Rattle.sd_machine.specs.Threads.{best_ready, priority_of, runner}
 use Rattle.sd_store.specs.declared.spots.Destination.{Destination}
 use Rattle.sd_store.specs.declared.spots.Destination.TheVariants as to
 use Rattle.sd_store.specs.Keyless.{place_by}

@@ -14,7 +14,7 @@ use Rattle.sd_rules.specs.ClassRules.{class_expires, class_requeue}
 use Rattle.sd_state.specs.declared.states.Place.TheVariants.{Waiting}
 use Rattle.sd_state.specs.declared.states.ThreadState.{ThreadState}
 use Rattle.sd_state.specs.declared.states.State.{State}
-use Rattle.sd_state.specs.States.{cpu_of, no_thread, thread_of}
+use Rattle.sd_state.specs.States.{cpu_of, no_thread, thread_of, eff_of}
 use Rattle.sd_state.specs.Operations.{op_of}
 use Rattle.sd_machine.specs.Bodies.{aged_class, departed, ticked_class}
 use Rattle.sd_machine.specs.Changes.{back_key, clear_marks, count_tick, leave, priority_or_zero, put, run_tick, send_back, set_class, set_mark}
@@ -22,7 +22,7 @@ use Rattle.sd_machine.specs.Dispatching.{charge, class_counts, dispatched, done,
 use Rattle.sd_machine.specs.Locking.{blocked, side_of}
 use Rattle.sd_machine.specs.Prioritising.{aged, lifted}
 use Rattle.sd_machine.specs.Sleeping.{fallen_asleep, nap_ticks, napped}
-use Rattle.sd_machine.specs.Threads.{best_ready, eff_of, priority_of}
+use Rattle.sd_machine.specs.Threads.{best_ready, priority_of}
 use Rattle.sd_store.specs.declared.spots.Destination.TheVariants as to
 use Rattle.sd_encoding.specs.Order.{OfThread}
 use Rattle.sd_encoding.specs.Order.{key_at as key_of_place}

@@ -9,9 +9,8 @@ use Rattle.sd_types.specs.declared.works.Work.{Work}
 use Rattle.sd_state.specs.declared.states.State.{State}
 use Rattle.sd_state.specs.Opening.{opening}
 use Rattle.sd_machine.specs.Events.{after, next}
-use Rattle.sd_machine.specs.Runs.{IsComplete, IsReached, IsRunFrom, IsStep, final, made, round, serial_hints, turn}
+use Rattle.sd_machine.specs.Runs.{IsComplete, IsReached, IsRunFrom, IsStep, final, made, round, serial_hints, turn, IsFresh}
 use Rattle.sd_machine.proofs.RunLemmas.{IsRun-append, IsRun-from, IsRun-nil, IsRunFrom-front, IsRunFrom-nil, IsRunFrom-one, IsRunFrom-rest, final-append, final-nil, from-IsRun}
-use Rattle.sd_search.specs.Closed.{IsFresh}
 use Rattle.sd_invariants.specs.Laws.{IsFit}
 use Rattle.sd_invariants.proofs.Whole.{fit_reached}
 use Rattle.sd_extremes.specs.WholeRuns.{BeginsWith, GoesOn, IsFreshRun, LeadsTo}

@@ -6,8 +6,7 @@ use Rattle.sd_types.specs.declared.events.Entry.{Entry}
 use Rattle.sd_types.specs.declared.works.Work.{Work}
 use Rattle.sd_state.specs.declared.states.State.{State}
 use Rattle.sd_state.specs.Opening.{opening}
-use Rattle.sd_machine.specs.Runs.{IsComplete, IsRun, final, round}
-use Rattle.sd_search.specs.Closed.{IsFresh}
+use Rattle.sd_machine.specs.Runs.{IsComplete, IsRun, final, round, IsFresh}
 
 -- the entries are a run in which each processor reads the numbers of the state
 pub record IsFreshRun (w : Work) (es : List Entry) : Type 0 where

@@ -2,28 +2,20 @@
 use Rattle.std.proofs.Common.{◌≤◌, ◌^◌, List, [], ◌∷◌, length, refl, arith}
 use Rattle.sd_types.specs.declared.events.Entry.{Entry}
 use Rattle.sd_types.specs.declared.works.Work.{Work}
-use Rattle.sd_state.specs.declared.states.State.{State}
 use Rattle.sd_state.specs.Opening.{opening}
-use Rattle.sd_machine.specs.Events.{after}
-use Rattle.sd_machine.specs.Runs.{IsComplete, IsRun, final}
+use Rattle.sd_machine.specs.Runs.{IsComplete, IsRun, final, IsFresh}
 use Rattle.sd_machine.proofs.RunLemmas.{IsRun-from}
-use Rattle.sd_search.specs.Closed.{IsFresh}
 use Rattle.sd_search.specs.declared.questions.Question.{Question}
 use Rattle.sd_search.specs.Questions.{IsWitness}
-use Rattle.sd_program.proofs.HintLemmas.{AreShown, all_spelled}
+use Rattle.sd_program.proofs.HintLemmas.{all_spelled}
 use Rattle.sd_invariants.proofs.Induction.{opening_reached}
 use Rattle.sd_find.specs.Shown.{IsCertified, IsShown}
-
-fresh_shown : (w : Work) (s : State) (es : List Entry) → IsFresh w s es → AreShown w s es
-unfolding IsFresh
-fresh_shown w s [] fresh = tt
-fresh_shown w s (e ∷ es) fresh = (fresh.0, fresh_shown w (after w s e.number e.cpu e.event) es fresh.1)
 
 pub certified_of : (w : Work) (es : List Entry) → IsRun w es → IsFresh w (opening w) es → IsComplete w (final w (opening w) es) → length es ≤ 2 ^ 40 → IsCertified w es
 certified_of w es run fresh complete short = record {
   entries = es;
   run = run;
-  spelled = all_spelled w 0 (opening w) es (opening_reached w) (IsRun-from w es run) (fresh_shown w (opening w) es fresh) (omega (arith, short));
+  spelled = all_spelled w 0 (opening w) es (opening_reached w) (IsRun-from w es run) fresh (omega (arith, short));
   complete = complete;
   whole = refl;
   many = refl;

@@ -2,8 +2,8 @@
 
 ghost use Rattle.std.specs.Prelude.{◌≡◌};
 ghost use Rattle.sd_flat.specs.Standings.{stands};
-ghost use Rattle.sd_machine.specs.Threads.{is_due, is_ts, is_waiting, same_side};
-ghost use Rattle.sd_state.specs.States.{is_queued, is_running};
+ghost use Rattle.sd_machine.specs.Threads.{is_due, is_ts, is_waiting};
+ghost use Rattle.sd_state.specs.States.{is_queued, is_running, same_side};
 
 use sd_state::{Place, ThreadState};
 use sd_types::{ChanId, ClassState, CpuId, LockId, SetId, Side};

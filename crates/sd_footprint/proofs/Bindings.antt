@@ -13,10 +13,10 @@ use Rattle.sd_types.specs.declared.works.Work.{Work}
 use Rattle.sd_state.specs.declared.states.Place.{Place}
 use Rattle.sd_state.specs.declared.states.Place.TheVariants.{Running, Queued, RealTime}
 use Rattle.sd_state.specs.declared.states.State.{State}
-use Rattle.sd_state.specs.States.{thread_of}
+use Rattle.sd_state.specs.States.{thread_of, set_of, eff_of}
 use Rattle.sd_machine.specs.Prioritising.{is_privileged, uid_of}
 use Rattle.sd_machine.specs.SetChanges.{bind_put, bind_to, bound_put, is_closing, is_misbound, unbound_put}
-use Rattle.sd_machine.specs.Threads.{eff_of, has_ended, set_of}
+use Rattle.sd_machine.specs.Threads.{has_ended}
 use Rattle.sd_homes.specs.Standing.{home_of, home_of_place}
 use Rattle.sd_footprint.proofs.Covers.{Cover}
 use Rattle.sd_dispatcher.specs.Touched.{put_parts_if}

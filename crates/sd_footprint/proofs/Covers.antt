@@ -12,7 +12,7 @@ use Rattle.sd_types.specs.declared.works.Work.{Work}
 use Rattle.sd_state.specs.declared.states.Place.{Place}
 use Rattle.sd_state.specs.declared.states.Place.TheVariants.{Running}
 use Rattle.sd_state.specs.declared.states.State.{State}
-use Rattle.sd_state.specs.States.{cpu_of, thread_of}
+use Rattle.sd_state.specs.States.{cpu_of, thread_of, set_of}
 use Rattle.sd_machine.specs.declared.plans.Placement.{Placement}
 use Rattle.sd_machine.specs.declared.plans.Plan.{Plan}
 use Rattle.sd_machine.specs.declared.plans.Plan.TheVariants.{Make, Place as PlaceIt, Search}
@@ -22,7 +22,6 @@ use Rattle.sd_machine.specs.Changes.{cpu_put}
 use Rattle.sd_machine.specs.Choosing.{put_chosen}
 use Rattle.sd_machine.specs.Events.{event_of, placed_thread, plan_event}
 use Rattle.sd_machine.specs.Requeueing.{requeue_plan}
-use Rattle.sd_machine.specs.Threads.{set_of}
 use Rattle.sd_homes.specs.Standing.{home_of, home_of_place}
 use Rattle.sd_footprint.specs.Homes.{IsOneOf, LiesIn}
 use Rattle.sd_dispatcher.specs.Touched.{put_parts_if, reordered_parts}

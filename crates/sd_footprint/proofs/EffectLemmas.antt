@@ -35,7 +35,7 @@ use Rattle.sd_state.specs.declared.states.Place.{Place}
 use Rattle.sd_state.specs.declared.states.Place.TheVariants.{Running, Queued, RealTime, Waiting, Ended}
 use Rattle.sd_state.specs.declared.states.State.{State}
 use Rattle.sd_state.specs.declared.states.ThreadState.{ThreadState}
-use Rattle.sd_state.specs.States.{cpu_of, no_thread, thread_of}
+use Rattle.sd_state.specs.States.{cpu_of, no_thread, thread_of, set_of, eff_of}
 use Rattle.sd_state.specs.Operations.{op_of}
 use Rattle.sd_machine.specs.Changes.{back_key, key_at, put_where, queue_place, set_class, set_duty, set_looped, set_number, with_body}
 use Rattle.sd_machine.specs.Conditions.{cv_waited, sema_counted, sema_handed, sema_taken}
@@ -46,7 +46,7 @@ use Rattle.sd_machine.specs.Prioritising.{aged, answer_to, changed_by, changed_o
 use Rattle.sd_machine.specs.Requeueing.{reordered, reordered_at}
 use Rattle.sd_machine.specs.SetChanges.{assigned, called_back, cleared, joined, moved, pbound, rebound}
 use Rattle.sd_machine.specs.Sleeping.{fallen_asleep, napped, roused, roused_on, woke, woke_all, woken}
-use Rattle.sd_machine.specs.Threads.{best_sleeper, best_waiter, eff_of, greatest_waiting, has_waiters, lock_of, set_of}
+use Rattle.sd_machine.specs.Threads.{best_sleeper, best_waiter, greatest_waiting, has_waiters, lock_of}
 use Rattle.sd_machine.specs.Walking.{walk_ended, walked, willed}
 use Rattle.sd_dispatcher.specs.Touched.{put_parts_if, reordered_parts}
 use Rattle.sd_priocntl.specs.Touched.{prio_parts}

@@ -26,7 +26,7 @@ use Rattle.sd_types.specs.declared.works.Work.{Work}
 use Rattle.sd_state.specs.declared.states.LockState.{LockState}
 use Rattle.sd_state.specs.declared.states.LockState.TheVariants.{Free, Owned, ReadHeld, Passing}
 use Rattle.sd_state.specs.declared.states.State.{State}
-use Rattle.sd_state.specs.States.{cpu_of, thread_of}
+use Rattle.sd_state.specs.States.{cpu_of, thread_of, set_of, eff_of}
 use Rattle.sd_state.specs.Operations.{op_of}
 use Rattle.sd_machine.specs.declared.plans.Placement.TheVariants as placement
 use Rattle.sd_machine.specs.declared.plans.Plan.{Plan}
@@ -41,7 +41,7 @@ use Rattle.sd_machine.specs.Plans.{ageing_plan, ageing_plan_of, cpu_plan, cpu_pl
 use Rattle.sd_machine.specs.Prioritising.{age_plan, answer_to, prio_plan}
 use Rattle.sd_machine.specs.SetChanges.{closing_plan}
 use Rattle.sd_machine.specs.Sleeping.{napend_plan, rouse_plan, wake_plan, woken_priority}
-use Rattle.sd_machine.specs.Threads.{best_queued, best_ready, best_sleeper, best_sleeper_below, best_unbound, best_waiter, count_of, eff_of, first_due, lock_of, next_to_age, priority_of, runner, set_of, thread_id}
+use Rattle.sd_machine.specs.Threads.{best_queued, best_ready, best_sleeper, best_sleeper_below, best_unbound, best_waiter, count_of, first_due, lock_of, next_to_age, priority_of, runner, thread_id}
 use Rattle.sd_machine.specs.Walking.{walk_plan}
 use Rattle.sd_homes.specs.Standing.{home_of}
 use Rattle.sd_footprint.specs.Homes.{IsOneOf, NeedsFour, TakesFour}

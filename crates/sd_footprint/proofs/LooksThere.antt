@@ -54,7 +54,8 @@ use Rattle.sd_dispatcher.specs.Touched.{victim_parts}
 use Rattle.sd_invariants.proofs.Named.{assign_cpu, bind_cpu}
 use Rattle.sd_invariants.specs.Laws.{is_in}
 use Rattle.sd_frames.proofs.Found.{due_found, queued_found, sleeper_below_found, sleeper_found, waiter_found}
-use Rattle.sd_invariants.proofs.Works.{declared, op_named}
+use Rattle.sd_state.proofs.Declared.{declared}
+use Rattle.sd_invariants.proofs.Works.{op_named}
 use Rattle.sd_step.specs.Needed.{choice_parts, cpu_parts, later_parts, needed, next_parts, op_parts, plan_parts, read_parts, reads_parts, run_parts, turn_parts}
 use Rattle.sd_step.specs.Tasks.{task_parts}
 use Rattle.sd_store.specs.declared.parts.Part.{Part}

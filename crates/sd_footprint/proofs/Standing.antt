@@ -12,8 +12,8 @@ use Rattle.sd_types.specs.declared.numbers.Side.{Side}
 use Rattle.sd_state.specs.declared.states.Place.{Place}
 use Rattle.sd_state.specs.declared.states.Place.TheVariants.{Running, Queued, RealTime, Waiting, Asleep, Napping}
 use Rattle.sd_state.specs.declared.states.State.{State}
-use Rattle.sd_state.specs.States.{thread_of, cpu_of, is_running, is_queued, is_ready}
-use Rattle.sd_machine.specs.Threads.{best_queued, best_ready, best_sleeper, best_sleeper_below, best_unbound, best_waiter, first_due, is_asleep, is_asleep_below, is_due, is_ts, is_waiting_at, next_to_age, runner, same_side}
+use Rattle.sd_state.specs.States.{thread_of, cpu_of, is_running, is_queued, is_ready, same_side}
+use Rattle.sd_machine.specs.Threads.{best_queued, best_ready, best_sleeper, best_sleeper_below, best_unbound, best_waiter, first_due, is_asleep, is_asleep_below, is_due, is_ts, is_waiting_at, next_to_age, runner}
 use Rattle.sd_homes.specs.Standing.{home_of, home_of_place}
 use Rattle.sd_frames.proofs.Found.{age_found, due_found, queued_found, ready_found, runner_found, sleeper_below_found, sleeper_found, unbound_found, waiter_found}
 

@@ -11,10 +11,10 @@ use Rattle.sd_state.specs.declared.states.LockState.TheVariants.{Owned}
 use Rattle.sd_state.specs.declared.states.Place.{Place}
 use Rattle.sd_state.specs.declared.states.Place.TheVariants.{Running, Queued, RealTime, Waiting, Asleep, Napping, Ended}
 use Rattle.sd_state.specs.declared.states.State.{State}
-use Rattle.sd_state.specs.States.{cpu_of, thread_of}
+use Rattle.sd_state.specs.States.{cpu_of, thread_of, set_of}
 use Rattle.sd_machine.specs.Runs.{IsReached}
 use Rattle.sd_machine.specs.Shapes.{FitsFully}
-use Rattle.sd_machine.specs.Threads.{lock_of, set_of}
+use Rattle.sd_machine.specs.Threads.{lock_of}
 use Rattle.sd_homes.specs.declared.list_id.ListId.{ListId}
 use Rattle.sd_homes.specs.declared.list_id.ListId.TheVariants.{Waits, Sleeps}
 use Rattle.sd_homes.specs.Numbers.{IsHomeOf, IsListOf}

@@ -41,9 +41,9 @@ use Rattle.sd_machine.specs.declared.plans.Requeue.TheVariants.{Stays, Behind, A
 use Rattle.sd_state.specs.declared.states.LockState.{LockState}
 use Rattle.sd_state.specs.declared.states.LockState.TheVariants.{Free, Owned, ReadHeld, Passing}
 use Rattle.sd_state.specs.declared.states.State.{State}
-use Rattle.sd_state.specs.States.{thread_of, cpu_of}
+use Rattle.sd_state.specs.States.{thread_of, cpu_of, eff_of}
 use Rattle.sd_state.specs.Operations.{op_of}
-use Rattle.sd_machine.specs.Threads.{thread_id, lock_of, count_of, runner, best_ready, best_queued, best_unbound, best_waiter, best_sleeper, best_sleeper_below, first_due, next_to_age, eff_of, priority_of}
+use Rattle.sd_machine.specs.Threads.{thread_id, lock_of, count_of, runner, best_ready, best_queued, best_unbound, best_waiter, best_sleeper, best_sleeper_below, first_due, next_to_age, priority_of}
 use Rattle.sd_types.specs.Priorities.{eff_as}
 use Rattle.sd_machine.specs.Changes.{cpu_put}
 use Rattle.sd_machine.specs.Choosing.{numbers_read, cpus_for, is_warm, is_settled, read_for, reads_for, choice, put_on, put_chosen, neighbours, read_of, victim_for}

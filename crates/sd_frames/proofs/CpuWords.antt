@@ -19,8 +19,8 @@ use Rattle.sd_state.specs.declared.states.LockState.{LockState}
 use Rattle.sd_state.specs.declared.states.CpuState.{CpuState}
 use Rattle.sd_state.specs.declared.states.ThreadState.{ThreadState}
 use Rattle.sd_state.specs.declared.states.State.{State}
-use Rattle.sd_state.specs.States.{no_cpu, thread_of, cpu_of, with_thread, with_cpu}
-use Rattle.sd_machine.specs.Threads.{with_lock, with_count, with_open, eff_of}
+use Rattle.sd_state.specs.States.{no_cpu, thread_of, cpu_of, with_thread, with_cpu, eff_of}
+use Rattle.sd_machine.specs.Threads.{with_lock, with_count, with_open}
 use Rattle.sd_machine.specs.Bodies.{departed}
 use Rattle.sd_machine.specs.Changes.{finish_op, run_tick, set_class, send_back, hold, let_go, set_number, set_looped, clear_marks, marked, set_mark, set_kernel_mark, mark_over, remark, run_on, leave, put, put_where}
 use Rattle.sd_machine.specs.Dispatching.{charge, class_counts, dispatched, stolen, preempted, sent_away, yielded, done}

@@ -13,7 +13,6 @@ use Rattle.sd_types.specs.declared.numbers.Side.TheVariants.{Writer}
 use Rattle.sd_types.specs.declared.numbers.ThreadId.{ThreadId}
 use Rattle.sd_types.specs.declared.bodies.ThreadBody.{ThreadBody}
 use Rattle.sd_types.specs.declared.classes.ClassParms.{ClassParms}
-use Rattle.sd_types.specs.declared.classes.ClassState.{ClassState}
 use Rattle.sd_types.specs.declared.events.AssignAnswer.{AssignAnswer}
 use Rattle.sd_types.specs.declared.events.AssignAnswer.TheVariants as assign
 use Rattle.sd_types.specs.declared.events.BindAnswer.{BindAnswer}
@@ -35,12 +34,11 @@ use Rattle.sd_state.specs.declared.states.Place.{Place}
 use Rattle.sd_state.specs.declared.states.Place.TheVariants.{Running, Waiting, Ended}
 use Rattle.sd_state.specs.declared.states.LockState.{LockState}
 use Rattle.sd_state.specs.declared.states.LockState.TheVariants.{Free, Owned, ReadHeld, Passing}
-use Rattle.sd_state.specs.declared.states.CpuState.{CpuState}
 use Rattle.sd_state.specs.declared.states.ThreadState.{ThreadState}
 use Rattle.sd_state.specs.declared.states.State.{State}
-use Rattle.sd_state.specs.States.{thread_of, cpu_of, with_thread, with_cpu}
+use Rattle.sd_state.specs.States.{thread_of, cpu_of, with_thread, with_cpu, eff_of}
 use Rattle.sd_state.specs.Operations.{script_of, op_of, op_over, ran}
-use Rattle.sd_machine.specs.Threads.{lock_of, with_lock, with_count, best_waiter, best_sleeper, eff_of, has_waiters}
+use Rattle.sd_machine.specs.Threads.{lock_of, with_lock, with_count, best_waiter, best_sleeper, has_waiters}
 use Rattle.sd_machine.specs.Bodies.{ticked_class, woken_class, aged_class}
 use Rattle.sd_rules.specs.ClassRules.{class_requeue}
 use Rattle.sd_machine.specs.Changes.{finish_op, run_tick, set_class, send_back, hold, let_go, set_number, set_looped, set_duty, count_tick, clear_marks, set_mark, set_kernel_mark, mark_over, remark, run_on, leave, put, put_where, close, join, bind, unbind}

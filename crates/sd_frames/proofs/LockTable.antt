@@ -40,9 +40,9 @@ use Rattle.sd_state.specs.declared.states.LockState.{LockState}
 use Rattle.sd_state.specs.declared.states.LockState.TheVariants.{Owned}
 use Rattle.sd_state.specs.declared.states.CpuState.{CpuState}
 use Rattle.sd_state.specs.declared.states.State.{State}
-use Rattle.sd_state.specs.States.{no_cpu, thread_of, cpu_of}
+use Rattle.sd_state.specs.States.{no_cpu, thread_of, cpu_of, eff_of}
 use Rattle.sd_state.specs.Operations.{op_of}
-use Rattle.sd_machine.specs.Threads.{thread_id, lock_of, with_lock, runner, best_sleeper, best_sleeper_below, eff_of, greatest_waiting}
+use Rattle.sd_machine.specs.Threads.{thread_id, lock_of, with_lock, runner, best_sleeper, best_sleeper_below, greatest_waiting}
 use Rattle.sd_machine.specs.Bodies.{aged_class}
 use Rattle.sd_machine.specs.Changes.{back_key, with_body, finish_op, run_tick, set_class, hold, let_go, set_number, set_looped, set_duty, duty_after, count_tick, leave, put_where, close, join, bind, unbind}
 use Rattle.sd_machine.specs.Dispatching.{class_counts, ticked, spun, idled}

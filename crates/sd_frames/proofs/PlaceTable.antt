@@ -43,9 +43,9 @@ use Rattle.sd_state.specs.declared.states.LockState.TheVariants.{Free, Owned, Re
 use Rattle.sd_state.specs.declared.states.CpuState.{CpuState}
 use Rattle.sd_state.specs.declared.states.ThreadState.{ThreadState}
 use Rattle.sd_state.specs.declared.states.State.{State}
-use Rattle.sd_state.specs.States.{no_thread, no_cpu, thread_of, cpu_of, with_thread}
+use Rattle.sd_state.specs.States.{no_thread, no_cpu, thread_of, cpu_of, with_thread, eff_of}
 use Rattle.sd_state.specs.Operations.{op_of}
-use Rattle.sd_machine.specs.Threads.{thread_id, lock_of, with_lock, with_count, best_waiter, best_sleeper, eff_of, has_waiters}
+use Rattle.sd_machine.specs.Threads.{thread_id, lock_of, with_lock, with_count, best_waiter, best_sleeper, has_waiters}
 use Rattle.sd_machine.specs.Bodies.{with_class, aged_class, departed}
 use Rattle.sd_machine.specs.Changes.{back_key, key_at, with_body, with_place, finish_op, run_tick, set_class, send_back, hold, let_go, set_number, set_looped, set_duty, count_tick, clear_marks, set_mark, set_kernel_mark, mark_over, remark, run_on, leave, queue_place, place_put, put, put_where, close, join, bind, unbind}
 use Rattle.sd_machine.specs.Dispatching.{charge, class_counts, ticked, spun, idled, dispatched, stolen, preempted, sent_away, yielded, done}

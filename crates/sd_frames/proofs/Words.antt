@@ -31,9 +31,9 @@ use Rattle.sd_state.specs.declared.states.LockState.{LockState}
 use Rattle.sd_state.specs.declared.states.LockState.TheVariants.{Free, Owned, ReadHeld, Passing}
 use Rattle.sd_state.specs.declared.states.ThreadState.{ThreadState}
 use Rattle.sd_state.specs.declared.states.State.{State}
-use Rattle.sd_state.specs.States.{no_thread, thread_of, cpu_of, with_thread}
+use Rattle.sd_state.specs.States.{no_thread, thread_of, cpu_of, with_thread, eff_of}
 use Rattle.sd_state.specs.Operations.{script_of, op_of, op_over, ran}
-use Rattle.sd_machine.specs.Threads.{lock_of, with_lock, with_count, runner, best_waiter, best_sleeper, eff_of, has_waiters}
+use Rattle.sd_machine.specs.Threads.{lock_of, with_lock, with_count, runner, best_waiter, best_sleeper, has_waiters}
 use Rattle.sd_machine.specs.Bodies.{with_class, aged_class, departed, arrived}
 use Rattle.sd_machine.specs.Changes.{back_key, with_place, finish_op, run_tick, set_class, send_back, set_duty, count_tick, clear_marks, set_mark, set_kernel_mark, mark_over, remark, run_on, leave, place_put, put, put_where, close, join}
 use Rattle.sd_machine.specs.Dispatching.{charge, class_counts, ticked, spun, idled, dispatched, stolen, preempted, sent_away, yielded, done}

@@ -14,9 +14,8 @@ use Rattle.sd_types.specs.Priorities.{eff_as}
 use Rattle.sd_state.specs.declared.states.Place.{Place}
 use Rattle.sd_state.specs.declared.states.Place.TheVariants.{Running, Queued, Waiting, Asleep, Napping, Ended}
 use Rattle.sd_state.specs.declared.states.State.{State}
-use Rattle.sd_state.specs.States.{thread_of, cpu_of}
+use Rattle.sd_state.specs.States.{thread_of, cpu_of, eff_of}
 use Rattle.sd_state.specs.Operations.{op_of}
-use Rattle.sd_machine.specs.Threads.{eff_of}
 use Rattle.sd_machine.specs.Bodies.{aged_class}
 use Rattle.sd_machine.specs.Changes.{back_key, key_at, queue_place, place_put}
 use Rattle.sd_machine.specs.Sleeping.{nap_ticks}

@@ -11,8 +11,7 @@ use Rattle.sd_state.specs.declared.states.Place.{Place}
 use Rattle.sd_state.specs.declared.states.Place.TheVariants.{Running, Queued, RealTime, Waiting, Asleep, Napping, Ended}
 use Rattle.sd_state.specs.declared.states.ThreadState.{ThreadState}
 use Rattle.sd_state.specs.declared.states.State.{State}
-use Rattle.sd_state.specs.States.{thread_of}
-use Rattle.sd_machine.specs.Threads.{same_side}
+use Rattle.sd_state.specs.States.{thread_of, same_side}
 use Rattle.sd_homes.specs.declared.list_id.ListId.{ListId}
 use Rattle.sd_homes.specs.declared.list_id.ListId.TheVariants.{Waits, Sleeps}
 use Rattle.sd_homes.specs.Standing.{ByNumber, home_at, home_of, home_of_place, list_at, list_of, listed, look_of, record_of, stands, stands_at}

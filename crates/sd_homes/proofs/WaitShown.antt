@@ -13,7 +13,8 @@ use Rattle.sd_state.specs.declared.states.Place.{Place}
 use Rattle.sd_state.specs.declared.states.Place.TheVariants.{Waiting}
 use Rattle.sd_state.specs.declared.states.ThreadState.{ThreadState}
 use Rattle.sd_state.specs.declared.states.State.{State}
-use Rattle.sd_machine.specs.Threads.{is_waiting, is_waiting_at, same_side, greater, greatest_waiting, has_waiters}
+use Rattle.sd_state.specs.States.{same_side}
+use Rattle.sd_machine.specs.Threads.{is_waiting, is_waiting_at, greater, greatest_waiting, has_waiters}
 use Rattle.sd_homes.specs.declared.list_id.ListId.TheVariants.{Waits}
 use Rattle.sd_homes.specs.Standing.{record_of, id_of, rank_of, look_of, Lists}
 use Rattle.sd_homes.specs.Lists.{IdsDiffer}

@@ -15,15 +15,17 @@ use Rattle.sd_frames.specs.Moves.{step_of}
 use Rattle.sd_frames.proofs.Words.{Same}
 use Rattle.sd_frames.proofs.Found.{runner_found, waiter_found}
 use Rattle.sd_frames.proofs.HoldTable.{held_part}
-use Rattle.sd_invariants.proofs.ScriptLemmas.{HeldGo, is_blocking, step_away, waits_here}
+use Rattle.sd_machine.specs.Accounts.{is_block}
+use Rattle.sd_invariants.proofs.ScriptLemmas.{HeldGo, step_away, waits_here}
 use Rattle.sd_frames.proofs.LockTable.{is_lockless, free_passes, drop_passes, quiet_passes, quiet_locks}
 use Rattle.sd_invariants.proofs.AgreedLemmas.{agreed_quiet, waits_back}
 use Rattle.sd_invariants.proofs.AgreedAfter.{IsReady, IsNext, drop_agreed, not_free_owned, not_free_held, enter_locks, write_locks, read_locks, block_locks, enter_passes, write_passes, read_passes, block_passes, owned_taken, read_taken, blocked_agreed, waiter_not_held, holds_it, given_up, unblock_agreed, grant_agreed, pass_agreed}
 use Rattle.sd_frames.proofs.ReleaseLemmas.{exit_outcome, cv_wait_outcome}
-use Rattle.sd_invariants.proofs.Works.{declared, op_named}
-use Rattle.sd_state.specs.States.{thread_of, cpu_of}
+use Rattle.sd_state.proofs.Declared.{declared}
+use Rattle.sd_invariants.proofs.Works.{op_named}
+use Rattle.sd_state.specs.States.{thread_of, cpu_of, eff_of}
 use Rattle.sd_machine.specs.Shapes.{FitsFully}
-use Rattle.sd_machine.specs.Threads.{lock_of, eff_of, best_waiter}
+use Rattle.sd_machine.specs.Threads.{lock_of, best_waiter}
 use Rattle.sd_machine.specs.Changes.{set_duty}
 use Rattle.sd_machine.specs.Events.{after, drop_ageing}
 use Rattle.sd_types.specs.declared.numbers.ChanId.{ChanId}
@@ -84,7 +86,7 @@ lockless_held s r (Passed l) quiet held = cc
 lockless_held s r (CvWait t k l) quiet held = cc
 lockless_held s r e quiet held = held
 
-pub lockless_away : (e : Event) → is_lockless e ≡ true → is_blocking e ≡ false
+pub lockless_away : (e : Event) → is_lockless e ≡ true → is_block e ≡ false
 lockless_away (Enter t l) quiet = cc
 lockless_away (Read t l) quiet = cc
 lockless_away (Write t l) quiet = cc

@@ -19,7 +19,7 @@ use Rattle.sd_types.specs.declared.works.Work.{Work}
 use Rattle.std.specs.Prelude.{if◌then◌else◌, is_none, is_some, ◌==◌, not, ◌&&◌}
 use Rattle.sd_state.specs.declared.states.CpuState.{CpuState}
 use Rattle.sd_state.specs.declared.states.State.{State}
-use Rattle.sd_state.specs.States.{no_thread, no_cpu, thread_of, cpu_of}
+use Rattle.sd_state.specs.States.{no_thread, no_cpu, thread_of, cpu_of, set_of}
 use Rattle.sd_machine.specs.Threads.{runner}
 use Rattle.sd_machine.specs.Changes.{with_body, finish_op, run_tick, set_duty, count_tick, put, put_where, close, join, bind, unbind}
 use Rattle.sd_machine.specs.Dispatching.{class_counts, ticked, spun, idled}
@@ -40,7 +40,7 @@ use Rattle.sd_state.specs.Opening.{first_cpu_state, first_thread, first_threads,
 use Rattle.sd_machine.specs.Changes.{bind, unbind, put_where}
 use Rattle.sd_machine.specs.Prioritising.{is_privileged, uid_of}
 use Rattle.sd_machine.specs.SetChanges.{is_misbound, is_closing, bind_to, bind_put}
-use Rattle.sd_machine.specs.Threads.{has_ended, set_of}
+use Rattle.sd_machine.specs.Threads.{has_ended}
 use Rattle.sd_machine.proofs.ShapeLemmas.{IsShaped, set_duty_shape, pbound_shape, after_shape}
 use Rattle.sd_machine.proofs.HolderLemmas.{count_same, count_more}
 use Rattle.sd_frames.proofs.Parts.{set_past}

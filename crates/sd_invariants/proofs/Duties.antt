@@ -36,10 +36,10 @@ use Rattle.sd_state.specs.declared.states.LockState.{LockState}
 use Rattle.sd_state.specs.declared.states.LockState.TheVariants.{Free, Owned, ReadHeld, Passing}
 use Rattle.sd_state.specs.declared.states.CpuState.{CpuState}
 use Rattle.sd_state.specs.declared.states.State.{State}
-use Rattle.sd_state.specs.States.{no_cpu, thread_of, cpu_of, with_cpu}
+use Rattle.sd_state.specs.States.{no_cpu, thread_of, cpu_of, with_cpu, eff_of}
 use Rattle.sd_state.specs.Operations.{op_of}
 use Rattle.sd_state.specs.Opening.{first_cpu_state, opening}
-use Rattle.sd_machine.specs.Threads.{thread_id, lock_of, with_lock, runner, best_waiter, best_sleeper, best_sleeper_below, eff_of, priority_of, has_waiters, greatest_waiting}
+use Rattle.sd_machine.specs.Threads.{thread_id, lock_of, with_lock, runner, best_waiter, best_sleeper, best_sleeper_below, priority_of, has_waiters, greatest_waiting}
 use Rattle.sd_machine.specs.Bodies.{aged_class}
 use Rattle.sd_machine.specs.Changes.{back_key, with_body, run_tick, set_class, set_number, set_looped, set_duty, duty_after, counted, count_tick, put_where, close, join, bind, unbind}
 use Rattle.sd_machine.specs.Dispatching.{class_counts, ticked, spun, idled}

@@ -16,7 +16,7 @@ use Rattle.sd_invariants.proofs.BaseLemmas.{IsBelow, tick_below, wake_below, age
 use Rattle.sd_frames.proofs.ClassTable.{IsClosed, after_fit}
 use Rattle.sd_invariants.proofs.NumberLemmas.{IsFine, AreFine, fine_eff, after_sound}
 use Rattle.sd_invariants.proofs.Ready.{IsKept, kept_reached}
-use Rattle.sd_invariants.proofs.Works.{declared}
+use Rattle.sd_state.proofs.Declared.{declared}
 
 first_below : (w : Work) (p : ClassParms) (level : ℕ) → class_fits p level ≡ true → IsBelow (first_class w p level)
 first_below w (parms.Ts limit upri) level fits = omega arith

@@ -17,16 +17,14 @@ use Rattle.sd_types.specs.Priorities.{eff_as}
 use Rattle.sd_state.specs.declared.states.Place.{Place}
 use Rattle.sd_state.specs.declared.states.Place.TheVariants.{Running, Queued, RealTime, Ended}
 use Rattle.sd_state.specs.declared.states.State.{State}
-use Rattle.sd_state.specs.States.{thread_of}
+use Rattle.sd_state.specs.States.{thread_of, set_of, eff_of}
 use Rattle.sd_machine.specs.Changes.{back_key}
-use Rattle.sd_machine.specs.Threads.{eff_of}
 use Rattle.sd_machine.specs.Bodies.{aged_class}
 use Rattle.sd_frames.specs.Moves.{Step, put_step, put_step_if, woken_step, reordered_step, aged_step, prio_step, bind_step, step_of}
 use Rattle.sd_frames.specs.Moves.Step.{Stay, Go}
 use Rattle.sd_frames.proofs.PlaceTable.{Stepped}
 use Rattle.sd_types.specs.declared.bodies.ThreadBody.{ThreadBody}
 use Rattle.sd_types.specs.Priorities.{eff}
-use Rattle.sd_machine.specs.Threads.{set_of}
 use Rattle.sd_machine.specs.Changes.{queue_place, key_at}
 use Rattle.sd_machine.specs.Events.{after}
 use Rattle.sd_state.specs.States.{key_of}

@@ -39,10 +39,10 @@ use Rattle.sd_state.specs.declared.states.LockState.TheVariants.{Owned}
 use Rattle.sd_state.specs.declared.states.CpuState.{CpuState}
 use Rattle.sd_state.specs.declared.states.ThreadState.{ThreadState}
 use Rattle.sd_state.specs.declared.states.State.{State}
-use Rattle.sd_state.specs.States.{no_thread, thread_of, cpu_of, with_thread, with_cpu}
+use Rattle.sd_state.specs.States.{no_thread, thread_of, cpu_of, with_thread, with_cpu, eff_of}
 use Rattle.sd_state.specs.Opening.{turn_of, is_urgent, first_cpu, first_thread, first_threads, opening}
 use Rattle.sd_state.specs.Operations.{script_of, op_of, op_over, ran}
-use Rattle.sd_machine.specs.Threads.{thread_id, lock_of, with_lock, runner, best_sleeper, eff_of}
+use Rattle.sd_machine.specs.Threads.{thread_id, lock_of, with_lock, runner, best_sleeper}
 use Rattle.sd_machine.specs.Bodies.{aged_class, departed, arrived}
 use Rattle.sd_machine.specs.Changes.{back_key, with_place, finish_op, run_tick, set_class, send_back, hold, let_go, set_number, set_looped, set_duty, count_tick, clear_marks, run_on, leave, place_put, put, put_where, close, bind, unbind}
 use Rattle.sd_machine.specs.Dispatching.{charge, class_counts, ticked, spun, dispatched, stolen, preempted, sent_away, yielded, done}
@@ -58,7 +58,7 @@ use Rattle.sd_invariants.specs.Laws.{HoldsWhenReached}
 use Rattle.sd_frames.proofs.Parts.{same_item, put_item}
 use Rattle.sd_frames.proofs.Words.{Same, all_same, called_back_same, clear_marks_same, cleared_same, close_same, count_same, count_tick_same, idled_same, joined_same, lock_same, mark_over_same, passed_same, release_from_same, remark_same, roused_on_same, set_duty_same, set_mark_same, then_same, unblocked_on_same, walk_ended_same, walk_from_same}
 use Rattle.sd_frames.proofs.HoldTable.{body_same}
-use Rattle.sd_invariants.proofs.Works.{declared}
+use Rattle.sd_state.proofs.Declared.{declared}
 use Rattle.sd_invariants.proofs.Induction.{held_reached}
 use Rattle.sd_invariants.proofs.Places.{first_cpu_there, decl_set}
 

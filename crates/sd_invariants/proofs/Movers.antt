@@ -26,10 +26,10 @@ use Rattle.sd_state.specs.declared.states.Place.{Place}
 use Rattle.sd_state.specs.declared.states.Place.TheVariants.{Running, Queued, Waiting}
 use Rattle.sd_state.specs.declared.states.LockState.TheVariants.{Owned}
 use Rattle.sd_state.specs.declared.states.State.{State}
-use Rattle.sd_state.specs.States.{thread_of, cpu_of, is_queued, is_ready}
+use Rattle.sd_state.specs.States.{thread_of, cpu_of, is_queued, is_ready, eff_of}
 use Rattle.sd_machine.specs.Shapes.{FitsFully}
 use Rattle.sd_machine.specs.Changes.{back_key}
-use Rattle.sd_machine.specs.Threads.{lock_of, eff_of, runner, next_to_age, is_ts, is_asleep, is_asleep_below, is_due, has_ended}
+use Rattle.sd_machine.specs.Threads.{lock_of, runner, next_to_age, is_ts, is_asleep, is_asleep_below, is_due, has_ended}
 use Rattle.sd_machine.specs.Bodies.{aged_class}
 use Rattle.sd_machine.specs.Prioritising.{is_privileged, uid_of}
 use Rattle.sd_machine.specs.Requeueing.{requeue}
@@ -41,7 +41,8 @@ use Rattle.sd_frames.specs.Moves.Step.{Stay, Go}
 use Rattle.sd_frames.proofs.Found.{runner_found, ready_found, queued_found, unbound_found, waiter_found, sleeper_found, sleeper_below_found, due_found, age_found}
 use Rattle.sd_frames.proofs.PlaceTable.{IsMoverThere}
 use Rattle.sd_invariants.proofs.ScriptLemmas.{is_waiter, runs_no_waiter}
-use Rattle.sd_invariants.proofs.Works.{declared, op_named}
+use Rattle.sd_state.proofs.Declared.{declared}
+use Rattle.sd_invariants.proofs.Works.{op_named}
 
 -- the thread is there and waits for no lock
 pub record IsMover (s : State) (t : ℕ) : Type 0 where

@@ -25,10 +25,10 @@ use Rattle.sd_types.specs.declared.works.Work.{Work}
 use Rattle.sd_types.specs.Works.{is_mutex, is_rwlock, is_chan, is_sema, bound_fits, op_names, class_fits, thread_fits}
 use Rattle.sd_state.specs.declared.states.State.{State}
 use Rattle.sd_state.specs.Operations.{script_of}
-use Rattle.sd_state.specs.States.{thread_of}
-use Rattle.sd_machine.specs.Threads.{set_of}
+use Rattle.sd_state.specs.States.{thread_of, set_of}
 use Rattle.sd_frames.specs.Causes.{Acts, Wants, wants}
-use Rattle.sd_invariants.proofs.Works.{declared, op_named}
+use Rattle.sd_invariants.proofs.Works.{op_named}
+use Rattle.sd_state.proofs.Declared.{declared}
 
 -- What passes a test that nothing fails which is not there is there.
 

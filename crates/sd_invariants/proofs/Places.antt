@@ -31,10 +31,10 @@ use Rattle.sd_state.specs.Invariants.{IsThere}
 use Rattle.sd_state.specs.declared.states.Place.{Place}
 use Rattle.sd_state.specs.declared.states.Place.TheVariants.{Running, Queued, RealTime}
 use Rattle.sd_state.specs.declared.states.State.{State}
-use Rattle.sd_state.specs.States.{no_thread, thread_of}
+use Rattle.sd_state.specs.States.{no_thread, thread_of, set_of, eff_of}
 use Rattle.sd_state.specs.Opening.{dealt_cpu, turn_of, is_urgent, first_cpu, first_thread, first_threads, opening}
 use Rattle.sd_machine.specs.declared.plans.Requeue.TheVariants.{Stays, Behind, Anew}
-use Rattle.sd_machine.specs.Threads.{open_of, set_of, eff_of}
+use Rattle.sd_machine.specs.Threads.{open_of}
 use Rattle.sd_machine.specs.Bodies.{aged_class}
 use Rattle.sd_machine.specs.Changes.{back_key, key_at, queue_place, place_put, cpu_put}
 use Rattle.sd_machine.specs.Choosing.{cpus_or_bound, cpus_for}
@@ -48,7 +48,7 @@ use Rattle.sd_frames.specs.Moves.Step.{Stay, Go}
 use Rattle.sd_invariants.proofs.Movers.{bind_put_is, mover_there}
 use Rattle.sd_frames.proofs.PlaceTable.{Stepped, after_steps, step_needs}
 use Rattle.sd_invariants.proofs.Whole.{reached_whole}
-use Rattle.sd_invariants.proofs.Works.{declared}
+use Rattle.sd_state.proofs.Declared.{declared}
 use Rattle.sd_invariants.specs.There.{IsBoundThere, SetsAreOpen, ThreadsHaveCpus}
 use Rattle.sd_invariants.proofs.Induction.{held_reached}
 use Rattle.sd_invariants.proofs.Named.{acts_named, sleep_chan, sema_chan, wait_chan, bind_cpu, wants_lock, set_of_there}

@@ -22,9 +22,9 @@ use Rattle.sd_state.specs.declared.states.LockState.TheVariants.{Free, Owned, Re
 use Rattle.sd_state.specs.declared.states.Place.{Place}
 use Rattle.sd_state.specs.declared.states.Place.TheVariants.{Waiting}
 use Rattle.sd_state.specs.declared.states.State.{State}
-use Rattle.sd_state.specs.States.{thread_of, cpu_of}
+use Rattle.sd_state.specs.States.{thread_of, cpu_of, eff_of}
 use Rattle.sd_state.specs.Operations.{op_of}
-use Rattle.sd_machine.specs.Threads.{thread_id, lock_of, is_waiting, is_waiting_at, best_waiter, has_waiters, eff_of}
+use Rattle.sd_machine.specs.Threads.{thread_id, lock_of, is_waiting, is_waiting_at, best_waiter, has_waiters}
 use Rattle.sd_machine.specs.Changes.{back_key, set_duty}
 use Rattle.sd_machine.specs.Locking.{kind_of, side_of, one_more, one_reader_more}
 use Rattle.sd_machine.specs.LockGraph.{wait_of}
@@ -40,7 +40,8 @@ use Rattle.sd_frames.proofs.LockTable as T
 use Rattle.sd_frames.proofs.LockTable.{is_lockless}
 use Rattle.sd_frames.proofs.Found.{runner_found}
 use Rattle.sd_frames.proofs.Searches.{has_waiters_at, waiter_some}
-use Rattle.sd_invariants.proofs.ScriptLemmas.{is_blocking, step_away, side_is}
+use Rattle.sd_machine.specs.Accounts.{is_block}
+use Rattle.sd_invariants.proofs.ScriptLemmas.{step_away, side_is}
 use Rattle.sd_invariants.proofs.Movers.{ends_wait}
 use Rattle.sd_invariants.proofs.Waiters.{Stays, Waited, away_waited, others_waited, stays_best, waited_has}
 use Rattle.sd_invariants.proofs.Works.{op_named}
@@ -111,7 +112,7 @@ waiting_writer l Writer k is = rw (same_number l.0) refl
 waiting_writer l Reader k is = cc
 
 module _ (w : Work) (s : State) (n : ℕ) (c : CpuId) (ready : IsReady w s) (c_in : c.0 < length s.cpus) where
-  same_all : (e : Event) → ends_wait e ≡ false → is_blocking e ≡ false → IsCause w s c.0 e → IsNext w s (after w s n c e) n c e → (l : ℕ) → Same s (after w s n c e) l
+  same_all : (e : Event) → ends_wait e ≡ false → is_block e ≡ false → IsCause w s c.0 e → IsNext w s (after w s n c e) n c e → (l : ℕ) → Same s (after w s n c e) l
   same_all e quiet away cause next l = record {
     stays = stays_all w s n c ready c_in e quiet cause next l;
     waited = away_waited (step_of w s n c e) s (after w s n c e) next.steps (step_away w s n c e away) l;
@@ -204,7 +205,7 @@ module _ (w : Work) (s : State) (n : ℕ) (c : CpuId) (ready : IsReady w s) (c_i
       gives_reads (drop_ageing s c.0 (CvWait t k l)) (after w s n c (CvWait t k l)) l (lock_of s l.0) next.shape.threads refl (same_all (CvWait t k l) refl refl cause next) refl (cv_wait_busy w s n c ready c_in t k l cause) (cv_wait_outcome w s n c t k l c_in)
 
   -- a wait ends
-  same_others : (e : Event) (u : ThreadId) (at : Put) (l : LockId) (side : Side) → step_of w s n c e ≡ put_step w n u.0 at → is_blocking e ≡ false → best_waiter s l.0 side ≡ Some u.0 → IsNext w s (after w s n c e) n c e → (m : ℕ) → m ≢ l.0 → Same s (after w s n c e) m
+  same_others : (e : Event) (u : ThreadId) (at : Put) (l : LockId) (side : Side) → step_of w s n c e ≡ put_step w n u.0 at → is_block e ≡ false → best_waiter s l.0 side ≡ Some u.0 → IsNext w s (after w s n c e) n c e → (m : ℕ) → m ≢ l.0 → Same s (after w s n c e) m
   same_others e u at l side is away best next m other = record {
     stays = wait_ends w s n c ready c_in e u at l side is best next m other;
     waited = away_waited (step_of w s n c e) s (after w s n c e) next.steps (step_away w s n c e away) m;
@@ -298,7 +299,7 @@ module _ (w : Work) (s : State) (n : ℕ) (c : CpuId) (ready : IsReady w s) (c_i
           no_such (ReadHeld m) is unlike = cc
           no_such (Passing d k) is unlike = unlike d k refl
 
-  owned_reads : (e : Event) (t : ThreadId) (l : LockId) → ends_wait e ≡ false → is_blocking e ≡ false → IsCause w s c.0 e → IsNext w s (after w s n c e) n c e → l.0 < length s.locks → (after w s n c e).locks ≡ set s.locks l.0 (Owned (thread_id t.0)) → ReadsWell w (after w s n c e)
+  owned_reads : (e : Event) (t : ThreadId) (l : LockId) → ends_wait e ≡ false → is_block e ≡ false → IsCause w s c.0 e → IsNext w s (after w s n c e) n c e → l.0 < length s.locks → (after w s n c e).locks ≡ set s.locks l.0 (Owned (thread_id t.0)) → ReadsWell w (after w s n c e)
   owned_reads e t l quiet away cause next inside locks =
       reads_put w s (after w s n c e) l (Owned (thread_id t.0)) next.shape.threads inside locks (λ m other. same_all e quiet away cause next m) (λ m is. absurd (owned_unread (thread_id t.0) m is)) ready.reads
 

@@ -17,9 +17,9 @@ use Rattle.sd_types.specs.Priorities.{eff_as}
 use Rattle.sd_state.specs.declared.states.Place.{Place}
 use Rattle.sd_state.specs.declared.states.Place.TheVariants.{Running, Queued, RealTime}
 use Rattle.sd_state.specs.declared.states.State.{State}
-use Rattle.sd_state.specs.States.{thread_of, is_running}
+use Rattle.sd_state.specs.States.{thread_of, is_running, set_of, eff_of}
 use Rattle.sd_machine.specs.Changes.{back_key}
-use Rattle.sd_machine.specs.Threads.{eff_of, runner}
+use Rattle.sd_machine.specs.Threads.{runner}
 use Rattle.sd_machine.specs.Bodies.{aged_class}
 use Rattle.sd_frames.specs.Causes.{IsCause}
 use Rattle.sd_frames.specs.Moves.{Step, put_step_if, woken_step, reordered_step, aged_step, prio_step, bind_step, step_of}
@@ -36,7 +36,6 @@ use Rattle.sd_state.specs.declared.states.ThreadState.{ThreadState}
 use Rattle.sd_state.specs.States.{no_thread}
 use Rattle.sd_state.specs.Opening.{first_cpu, is_urgent, first_thread, first_threads, opening}
 use Rattle.sd_types.specs.declared.works.ThreadDecl.{ThreadDecl}
-use Rattle.sd_machine.specs.Threads.{set_of}
 use Rattle.sd_machine.specs.Changes.{queue_place, place_put, key_at}
 use Rattle.sd_machine.specs.Events.{after}
 use Rattle.sd_machine.proofs.ShapeLemmas.{after_shape}

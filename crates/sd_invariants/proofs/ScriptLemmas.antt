@@ -15,6 +15,7 @@ use Rattle.sd_frames.proofs.PlaceTable.{Stepped}
 use Rattle.sd_frames.proofs.Found.{runner_found, waiter_found}
 use Rattle.sd_frames.specs.Moves.{Step, put_step_if, woken_step, reordered_step, aged_step, prio_step, bind_step, step_of}
 use Rattle.sd_frames.specs.Moves.Step.{Stay, Go}
+use Rattle.sd_machine.specs.Accounts.{is_block}
 use Rattle.sd_machine.proofs.Moves.{put_cases}
 use Rattle.std.proofs.lemmas.Bool.{cases_eq, eqb-true}
 use Rattle.sd_types.specs.declared.numbers.CpuId.{CpuId}
@@ -38,9 +39,9 @@ use Rattle.std.specs.Prelude.{if◌then◌else◌, is_none, nat_le, ◌==◌, �
 use Rattle.sd_state.specs.declared.states.Place.{Place}
 use Rattle.sd_state.specs.declared.states.Place.TheVariants.{Running, Queued, RealTime, Waiting}
 use Rattle.sd_state.specs.declared.states.State.{State}
-use Rattle.sd_state.specs.States.{thread_of, cpu_of, is_running}
+use Rattle.sd_state.specs.States.{thread_of, cpu_of, is_running, set_of, same_side, eff_of}
 use Rattle.sd_state.specs.Operations.{script_of, op_of}
-use Rattle.sd_machine.specs.Threads.{set_of, same_side, is_waiting_at, runner, eff_of}
+use Rattle.sd_machine.specs.Threads.{is_waiting_at, runner}
 use Rattle.sd_machine.specs.Bodies.{aged_class}
 use Rattle.sd_machine.specs.Changes.{back_key, queue_place, place_put}
 use Rattle.sd_machine.specs.Dispatching.{done}
@@ -222,11 +223,7 @@ bind_away w n u bind_answer.EINVAL = tt
 bind_away w n u bind_answer.EPERM = tt
 bind_away w n u bind_answer.EBUSY = tt
 
-abbrev pub is_blocking : Event → Bool
-is_blocking (Block t l) = true
-is_blocking _ = false
-
-pub step_away : (w : Work) (s : State) (n : ℕ) (c : CpuId) (e : Event) → is_blocking e ≡ false → StepAway (step_of w s n c e)
+pub step_away : (w : Work) (s : State) (n : ℕ) (c : CpuId) (e : Event) → is_block e ≡ false → StepAway (step_of w s n c e)
 step_away w s n c (Dispatch t p) quiet = refl
 step_away w s n c (Steal v t p) quiet = refl
 step_away w s n c (Preempt t end) quiet = queue_no_waiter w t.0 c _ (thread_of s t.0).body

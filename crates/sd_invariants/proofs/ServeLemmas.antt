@@ -44,7 +44,8 @@ use Rattle.sd_frames.proofs.Found.{runner_found, waiter_found}
 use Rattle.sd_frames.proofs.PlaceTable.{Stepped}
 use Rattle.sd_invariants.proofs.Movers.{ends_wait, mover_of}
 use Rattle.sd_invariants.proofs.Waiters.{Stays, quiet_stays, others_stay, side_waits, stays_has, stays_best}
-use Rattle.sd_invariants.proofs.Works.{declared, op_named}
+use Rattle.sd_state.proofs.Declared.{declared}
+use Rattle.sd_invariants.proofs.Works.{op_named}
 use Rattle.sd_machine.proofs.HolderLemmas.{count_one}
 use Rattle.sd_types.specs.Scripts.{is_held, op_fits}
 use Rattle.sd_invariants.proofs.AgreedAfter.{IsReady, IsNext, holds_it}

@@ -8,8 +8,8 @@ use Rattle.sd_types.specs.declared.numbers.Side.{Side}
 use Rattle.sd_state.specs.declared.states.Place.{Place}
 use Rattle.sd_state.specs.declared.states.Place.TheVariants.{Waiting}
 use Rattle.sd_state.specs.declared.states.State.{State}
-use Rattle.sd_state.specs.States.{thread_of}
-use Rattle.sd_machine.specs.Threads.{same_side, is_waiting, is_waiting_at, best_waiter, has_waiters}
+use Rattle.sd_state.specs.States.{thread_of, same_side}
+use Rattle.sd_machine.specs.Threads.{is_waiting, is_waiting_at, best_waiter, has_waiters}
 use Rattle.sd_frames.specs.Moves.{Step}
 use Rattle.sd_frames.specs.Moves.Step.{Stay, Go}
 use Rattle.sd_frames.proofs.Found.{waiter_found}

@@ -13,12 +13,10 @@ use Rattle.sd_types.specs.declared.scripts.Op.TheVariants as op
 use Rattle.sd_types.specs.declared.works.ThreadDecl.{ThreadDecl}
 use Rattle.sd_types.specs.declared.works.Work.{Work}
 use Rattle.sd_types.specs.Scripts.{held_by, can_take, op_fits}
-use Rattle.sd_types.specs.Works.{Declared, declared_of, op_names, thread_fits}
+use Rattle.sd_types.specs.Works.{op_names, thread_fits}
 use Rattle.sd_state.specs.Operations.{script_of}
+use Rattle.sd_state.proofs.Declared.{declared}
 use Rattle.sd_frames.specs.Causes.{wants}
-
-abbrev pub declared : Work → Declared
-declared w = declared_of w.cpus w.sets w.locks w.chans w.threads
 
 -- an operation of a script that is there, of a declared thread
 record Declares (w : Work) (t i : ℕ) (o : Op) : Type 0 where

@@ -25,9 +25,9 @@ use Rattle.sd_state.specs.declared.states.LockState.TheVariants.{Free, Owned, Re
 use Rattle.sd_state.specs.declared.states.CpuState.{CpuState}
 use Rattle.sd_state.specs.declared.states.ThreadState.{ThreadState}
 use Rattle.sd_state.specs.declared.states.State.{State}
-use Rattle.sd_state.specs.States.{no_thread, no_cpu, thread_of, cpu_of, with_thread, with_cpu, is_running}
+use Rattle.sd_state.specs.States.{no_thread, no_cpu, thread_of, cpu_of, with_thread, with_cpu, is_running, eff_of}
 use Rattle.sd_state.specs.Operations.{script_of, op_over, ran}
-use Rattle.sd_machine.specs.Threads.{with_lock, with_count, has_waiters, best_waiter, best_ready, priority_of, runner, eff_of}
+use Rattle.sd_machine.specs.Threads.{with_lock, with_count, has_waiters, best_waiter, best_ready, priority_of, runner}
 use Rattle.sd_machine.specs.Bodies.{with_class}
 use Rattle.sd_machine.specs.Changes.{with_body, finish_op, run_tick, set_class, send_back, hold, let_go, set_number, set_looped, set_duty, count_tick, marked, set_mark, set_kernel_mark, runs_below, mark_over, rivals, priority_or_zero, remark}
 use Rattle.sd_machine.specs.Dispatching.{is_rivalled, charge}

@@ -13,9 +13,8 @@ use Rattle.sd_state.specs.declared.states.Place.{Place}
 use Rattle.sd_state.specs.declared.states.Place.TheVariants.{Running, Queued, RealTime, Waiting, Asleep, Napping, Ended}
 use Rattle.sd_state.specs.declared.states.ThreadState.{ThreadState}
 use Rattle.sd_state.specs.declared.states.State.{State}
-use Rattle.sd_state.specs.States.{no_thread, thread_of, is_running}
+use Rattle.sd_state.specs.States.{no_thread, thread_of, is_running, set_of, eff_of}
 use Rattle.sd_state.specs.Opening.{opening}
-use Rattle.sd_machine.specs.Threads.{set_of, eff_of}
 use Rattle.sd_machine.specs.Events.{after}
 use Rattle.sd_machine.specs.Runs.{IsReached}
 use Rattle.sd_state.specs.Invariants.{OneRuns, IsThere, IsInItsSet, SuitsQueue}

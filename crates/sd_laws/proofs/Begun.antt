@@ -21,9 +21,9 @@ use Rattle.sd_state.specs.declared.states.Place.{Place}
 use Rattle.sd_state.specs.declared.states.Place.TheVariants.{Waiting}
 use Rattle.sd_state.specs.declared.states.ThreadState.{ThreadState}
 use Rattle.sd_state.specs.declared.states.State.{State}
-use Rattle.sd_state.specs.States.{no_thread, thread_of, cpu_of}
+use Rattle.sd_state.specs.States.{no_thread, thread_of, cpu_of, eff_of}
 use Rattle.sd_state.specs.Operations.{op_of}
-use Rattle.sd_machine.specs.Threads.{eff_of, greatest_waiting}
+use Rattle.sd_machine.specs.Threads.{greatest_waiting}
 use Rattle.sd_machine.specs.Changes.{back_key, set_class, set_number, set_looped, set_duty}
 use Rattle.sd_machine.specs.Requeueing.{reordered}
 use Rattle.sd_machine.specs.Walking.{is_back, next_walk, walked, willed, walk_ended}

@@ -30,9 +30,9 @@ use Rattle.sd_state.specs.declared.states.Place.{Place}
 use Rattle.sd_state.specs.declared.states.Place.TheVariants.{Running, Ended}
 use Rattle.sd_state.specs.declared.states.ThreadState.{ThreadState}
 use Rattle.sd_state.specs.declared.states.State.{State}
-use Rattle.sd_state.specs.States.{no_thread, thread_of, cpu_of, with_thread}
+use Rattle.sd_state.specs.States.{no_thread, thread_of, cpu_of, with_thread, eff_of}
 use Rattle.sd_state.specs.Operations.{script_of, op_of, op_over}
-use Rattle.sd_machine.specs.Threads.{thread_id, lock_of, with_lock, runner, best_sleeper, eff_of, greatest_waiting}
+use Rattle.sd_machine.specs.Threads.{thread_id, lock_of, with_lock, runner, best_sleeper, greatest_waiting}
 use Rattle.sd_machine.specs.Bodies.{aged_class, departed}
 use Rattle.sd_machine.specs.Changes.{back_key, with_place, finish_op, run_tick, set_class, send_back, hold, let_go, set_number, set_looped, set_duty, count_tick, clear_marks, run_on, leave, place_put, put, put_where, close, bind, unbind}
 use Rattle.sd_machine.specs.Dispatching.{charge, class_counts, ticked, spun, dispatched, stolen, preempted, sent_away, yielded, done}

@@ -35,9 +35,9 @@ use Rattle.sd_state.specs.declared.states.Place.{Place}
 use Rattle.sd_state.specs.declared.states.Place.TheVariants.{Running, Queued, RealTime, Waiting, Asleep, Napping, Ended}
 use Rattle.sd_state.specs.declared.states.LockState.TheVariants.{Owned}
 use Rattle.sd_state.specs.declared.states.State.{State}
-use Rattle.sd_state.specs.States.{thread_of, cpu_of, is_running, is_queued, is_ready}
+use Rattle.sd_state.specs.States.{thread_of, cpu_of, is_running, is_queued, is_ready, eff_of}
 use Rattle.sd_state.specs.Operations.{op_of}
-use Rattle.sd_machine.specs.Threads.{thread_id, runner, greatest_waiting, lock_of, with_lock, with_count, count_of, best_sleeper, eff_of, is_ts, is_waiting_at, is_asleep, is_asleep_below, is_due}
+use Rattle.sd_machine.specs.Threads.{thread_id, runner, greatest_waiting, lock_of, with_lock, with_count, count_of, best_sleeper, is_ts, is_waiting_at, is_asleep, is_asleep_below, is_due}
 use Rattle.sd_machine.specs.Bodies.{ticked_class, aged_class}
 use Rattle.sd_machine.specs.Changes.{back_key, key_at, queue_place, place_put, finish_op, run_tick, set_class, set_duty, count_tick, remark, put, put_where}
 use Rattle.sd_machine.specs.Dispatching.{must_leave, charge, class_counts, ticked, spun, idled}

@@ -15,8 +15,8 @@ use Rattle.sd_state.specs.declared.states.Place.TheVariants.{Running, Queued}
 use Rattle.sd_state.specs.declared.states.CpuState.{CpuState}
 use Rattle.sd_state.specs.declared.states.ThreadState.{ThreadState}
 use Rattle.sd_state.specs.declared.states.State.{State}
-use Rattle.sd_state.specs.States.{no_thread, no_cpu, thread_of, cpu_of, with_thread, with_cpu, is_running, is_queued}
-use Rattle.sd_machine.specs.Threads.{runner, priority_of, eff_of}
+use Rattle.sd_state.specs.States.{no_thread, no_cpu, thread_of, cpu_of, with_thread, with_cpu, is_running, is_queued, eff_of}
+use Rattle.sd_machine.specs.Threads.{runner, priority_of}
 use Rattle.sd_machine.specs.Bodies.{woken_class, departed, arrived}
 use Rattle.sd_machine.specs.Changes.{with_place, back_key, set_class, unmarked, clear_marks, marked, set_mark, runs_below, mark_over, run_on, leave, place_put, cpu_put, put}
 use Rattle.sd_machine.specs.Dispatching.{dispatched, stolen, sent_away}

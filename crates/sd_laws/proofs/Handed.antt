@@ -27,7 +27,7 @@ use Rattle.sd_state.specs.declared.states.Place.TheVariants.{Asleep}
 use Rattle.sd_state.specs.declared.states.State.{State}
 use Rattle.sd_state.specs.Operations.{script_of}
 use Rattle.sd_state.specs.Opening.{first_thread, first_threads, opening}
-use Rattle.sd_state.specs.States.{no_thread, thread_of, cpu_of}
+use Rattle.sd_state.specs.States.{no_thread, thread_of, cpu_of, thread_numbers}
 use Rattle.sd_machine.specs.Changes.{back_key, place_put}
 use Rattle.sd_machine.specs.Events.{after}
 use Rattle.sd_machine.specs.Runs.{final, IsReached}
@@ -40,7 +40,7 @@ use Rattle.sd_frames.proofs.Found.{runner_found, waiter_found, sleeper_found, sl
 use Rattle.sd_frames.proofs.PlaceTable.{Stepped}
 use Rattle.sd_invariants.proofs.Ready.{kept_reached}
 use Rattle.sd_invariants.proofs.Works.{op_named}
-use Rattle.sd_laws.specs.HistoryLaws.{put_to_sleep, finds_nobody, chan_kind, declared_count, is_taken, is_counted_up, is_sema_p, is_sema_v, thread_numbers, ops_done, sleepers_on, SemaphoresBalance, SemaphoreWaitersSleepUntilHanded, SleepersWaitAtZero}
+use Rattle.sd_laws.specs.HistoryLaws.{put_to_sleep, finds_nobody, chan_kind, declared_count, is_taken, is_counted_up, is_sema_p, is_sema_v, ops_done, sleepers_on, SemaphoresBalance, SemaphoreWaitersSleepUntilHanded, SleepersWaitAtZero}
 use Rattle.sd_laws.proofs.Balance.{ends_one, grows, in_work, p_blind, v_blind, sums_above, sums_put}
 use Rattle.sd_laws.proofs.Carried.{IsCarried, carried_from, met_from, reached_at, split}
 use Rattle.sd_laws.proofs.Counts.{ones, zeros_law, count_goes, opening_count, opening_awake, fell_asleep, chan_no_sema}

@@ -8,8 +8,7 @@ use Rattle.sd_types.specs.declared.works.Work.{Work}
 use Rattle.sd_state.specs.declared.states.Place.{Place}
 use Rattle.sd_state.specs.declared.states.Place.TheVariants.{Running, Queued, RealTime, Waiting, Asleep, Napping, Ended}
 use Rattle.sd_state.specs.declared.states.State.{State}
-use Rattle.sd_state.specs.States.{thread_of, cpu_of, is_running, is_queued}
-use Rattle.sd_machine.specs.Threads.{set_of, eff_of}
+use Rattle.sd_state.specs.States.{thread_of, cpu_of, is_running, is_queued, set_of, eff_of}
 use Rattle.sd_invariants.specs.Laws.{is_runnable}
 use Rattle.sd_machine.proofs.Moves.{IsSame, put_cases}
 use Rattle.sd_frames.proofs.CpuWords.{of_cpus}

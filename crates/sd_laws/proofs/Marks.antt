@@ -13,9 +13,8 @@ use Rattle.sd_types.specs.declared.works.Work.{Work}
 use Rattle.sd_state.specs.declared.states.Place.{Place}
 use Rattle.sd_state.specs.declared.states.Place.TheVariants.{Running}
 use Rattle.sd_state.specs.declared.states.State.{State}
-use Rattle.sd_state.specs.States.{thread_of, cpu_of, is_running, is_queued}
+use Rattle.sd_state.specs.States.{thread_of, cpu_of, is_running, is_queued, eff_of}
 use Rattle.sd_state.specs.Opening.{opening}
-use Rattle.sd_machine.specs.Threads.{eff_of}
 use Rattle.sd_machine.specs.Changes.{place_put}
 use Rattle.sd_machine.specs.SetChanges.{bound_put, unbound_put, bind_put}
 use Rattle.sd_machine.specs.Events.{effect, after}

@@ -15,9 +15,9 @@ use Rattle.sd_rules.proofs.PartitionLemmas.{names-from_Contains}
 use Rattle.sd_state.specs.declared.states.Place.{Place}
 use Rattle.sd_state.specs.declared.states.Place.TheVariants.{Running, Queued, RealTime}
 use Rattle.sd_state.specs.declared.states.State.{State}
-use Rattle.sd_state.specs.States.{thread_of, cpu_of, is_running, is_queued, is_ready}
+use Rattle.sd_state.specs.States.{thread_of, cpu_of, is_running, is_queued, is_ready, set_of, eff_of}
 use Rattle.sd_machine.specs.declared.plans.Requeue.TheVariants.{Stays, Behind, Anew}
-use Rattle.sd_machine.specs.Threads.{open_of, set_of, eff_of}
+use Rattle.sd_machine.specs.Threads.{open_of}
 use Rattle.sd_machine.specs.Changes.{back_key, queue_place, place_put}
 use Rattle.sd_machine.specs.Choosing.{cpus_or_bound, cpus_for, put_on, neighbours}
 use Rattle.sd_machine.specs.Requeueing.{is_bound_to, requeue}

@@ -38,7 +38,8 @@ use Rattle.sd_invariants.proofs.Movers.{ends_wait, mover_of, mover_there}
 use Rattle.sd_frames.proofs.PassLemmas.{Passed as WasPassed, pass_outcome}
 use Rattle.sd_frames.proofs.PassLemmas.Passed.{to_readers, writer_next, to_nobody, otherwise}
 use Rattle.sd_frames.proofs.PlaceTable.{Stepped, step_needs, after_steps}
-use Rattle.sd_invariants.proofs.ScriptLemmas.{is_waiter, runs_no_waiter, is_blocking, StepAway, step_away, away_after}
+use Rattle.sd_machine.specs.Accounts.{is_block}
+use Rattle.sd_invariants.proofs.ScriptLemmas.{is_waiter, runs_no_waiter, StepAway, step_away, away_after}
 use Rattle.sd_frames.proofs.Words.{Same, then_same, is_plain, plain_same}
 use Rattle.sd_laws.proofs.ClassThreads.{But, class_thread, after_but}
 use Rattle.sd_laws.proofs.Fields.{dropped_same}
@@ -106,11 +107,11 @@ module _ (w : Work) (s : State) (n : ℕ) (c : CpuId) (ready : IsReady w s) wher
   class_away (Prio t u answer) quiet cause = cc
   class_away _ quiet cause = tt
 
-  pub class_away_after : (e : Event) → spares_waiters e ≡ true → is_blocking e ≡ false → IsCause w s c.0 e → AwayAt (after w s n c e) (class_thread e)
+  pub class_away_after : (e : Event) → spares_waiters e ≡ true → is_block e ≡ false → IsCause w s c.0 e → AwayAt (after w s n c e) (class_thread e)
   class_away_after e quiet stays cause = away_later (class_thread e) (step_of w s n c e) s (after w s n c e) (steps e cause) (step_away w s n c e stays) (class_away e quiet cause)
 
   -- where the locks, the numbers, the loops and the walks stay
-  quiet_by : (e : Event) → spares_waiters e ≡ true → is_blocking e ≡ false → ends_wait e ≡ false → IsCause w s c.0 e → IsSame (graph s).owner (graph (after w s n c e)).owner
+  quiet_by : (e : Event) → spares_waiters e ≡ true → is_block e ≡ false → ends_wait e ≡ false → IsCause w s c.0 e → IsSame (graph s).owner (graph (after w s n c e)).owner
       → Same numbers_part s (after w s n c e) → Same looped_part s (after w s n c e) → Walks s (after w s n c e) → IsQuiet (graph s) (graph (after w s n c e))
   quiet_by e quiet stays going cause owners numbers looped walks = record {
     waits = quiet_waits (step_of w s n c e) s (after w s n c e) (steps e cause) (step_away w s n c e stays) (mover_of w s n c e going ready.fits ready.agreed cause);
@@ -122,7 +123,7 @@ module _ (w : Work) (s : State) (n : ℕ) (c : CpuId) (ready : IsReady w s) wher
   }
 
   -- an event that is none of locks and of bindings
-  pub plain_move : (e : Event) → spares_waiters e ≡ true → is_blocking e ≡ false → ends_wait e ≡ false → is_lockless e ≡ true → is_plain e ≡ true → keeps_walks e ≡ true → is_walking e ≡ false → IsCause w s c.0 e
+  pub plain_move : (e : Event) → spares_waiters e ≡ true → is_block e ≡ false → ends_wait e ≡ false → is_lockless e ≡ true → is_plain e ≡ true → keeps_walks e ≡ true → is_walking e ≡ false → IsCause w s c.0 e
       → IsQuiet (graph s) (graph (after w s n c e))
   plain_move e quiet stays going lockless plain keeps free cause = quiet_by e quiet stays going cause
       (same_owners s (after w s n c e) (quiet_locks w s n c e lockless))

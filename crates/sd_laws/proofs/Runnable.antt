@@ -21,12 +21,11 @@ use Rattle.sd_state.specs.declared.states.Place.{Place}
 use Rattle.sd_state.specs.declared.states.Place.TheVariants.{Running, Queued, RealTime, Waiting, Asleep, Napping, Ended}
 use Rattle.sd_state.specs.declared.states.State.{State}
 use Rattle.sd_state.specs.Opening.{opening}
-use Rattle.sd_state.specs.States.{thread_of}
+use Rattle.sd_state.specs.States.{thread_of, set_of, eff_of}
 use Rattle.sd_machine.specs.Bodies.{aged_class}
 use Rattle.sd_machine.specs.Changes.{back_key, queue_place, place_put}
 use Rattle.sd_machine.specs.Events.{after}
 use Rattle.sd_machine.specs.Runs.{final}
-use Rattle.sd_machine.specs.Threads.{set_of, eff_of}
 use Rattle.sd_frames.specs.Causes.{IsCause}
 use Rattle.sd_invariants.specs.Laws.{woken_by, is_runnable}
 use Rattle.sd_frames.specs.Moves.{Step, put_step_if, woken_step, reordered_step, aged_step, prio_step, bind_step, step_of}

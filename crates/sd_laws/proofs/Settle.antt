@@ -20,8 +20,8 @@ use Rattle.sd_state.specs.declared.states.Place.{Place}
 use Rattle.sd_state.specs.declared.states.Place.TheVariants.{Running, Queued, RealTime, Waiting, Asleep, Napping, Ended}
 use Rattle.sd_state.specs.declared.states.ThreadState.{ThreadState}
 use Rattle.sd_state.specs.declared.states.State.{State}
-use Rattle.sd_state.specs.States.{no_thread, thread_of, cpu_of, is_running, is_queued}
-use Rattle.sd_machine.specs.Threads.{open_of, with_open, runner, set_of, eff_of}
+use Rattle.sd_state.specs.States.{no_thread, thread_of, cpu_of, is_running, is_queued, set_of, eff_of}
+use Rattle.sd_machine.specs.Threads.{open_of, with_open, runner}
 use Rattle.sd_machine.specs.Changes.{with_cpu_in, without_cpu, set_duty, close, join}
 use Rattle.sd_machine.specs.SetChanges.{bound_put, unbound_put, bind_put, bind_to, cleared, assigned, joined, pbound}
 use Rattle.sd_machine.specs.Events.{drop_ageing, effect, after}

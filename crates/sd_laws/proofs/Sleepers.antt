@@ -27,14 +27,14 @@ use Rattle.sd_state.specs.declared.states.Place.TheVariants.{Running, Queued, As
 use Rattle.sd_state.specs.declared.states.ThreadState.{ThreadState}
 use Rattle.sd_state.specs.declared.states.State.{State}
 use Rattle.sd_state.specs.Opening.{opening}
-use Rattle.sd_state.specs.States.{no_thread, thread_of, cpu_of, is_running, is_queued, is_ready}
+use Rattle.sd_state.specs.States.{no_thread, thread_of, cpu_of, is_running, is_queued, is_ready, eff_of}
 use Rattle.sd_machine.specs.Bodies.{aged_class}
 use Rattle.sd_machine.specs.Changes.{back_key}
 use Rattle.sd_machine.specs.Events.{after}
 use Rattle.sd_machine.specs.Requeueing.{requeue}
 use Rattle.sd_machine.specs.Runs.{final}
 use Rattle.sd_machine.specs.SetChanges.{bound_put, unbound_put, bind_put, bind_to}
-use Rattle.sd_machine.specs.Threads.{best_sleeper, is_asleep, is_ts, next_to_age, runner, eff_of}
+use Rattle.sd_machine.specs.Threads.{best_sleeper, is_asleep, is_ts, next_to_age, runner}
 use Rattle.sd_frames.specs.Causes.{IsRequeuedAt, IsAnswered, IsCause}
 use Rattle.sd_invariants.specs.Laws.{woken_by}
 use Rattle.sd_frames.specs.Moves.{Step, put_step_if, reordered_step, aged_step, prio_step, bind_step, step_of}

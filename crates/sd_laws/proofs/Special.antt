@@ -16,9 +16,9 @@ use Rattle.sd_state.specs.declared.states.Place.TheVariants.{Running}
 use Rattle.sd_state.specs.declared.states.CpuState.{CpuState}
 use Rattle.sd_state.specs.declared.states.ThreadState.{ThreadState}
 use Rattle.sd_state.specs.declared.states.State.{State}
-use Rattle.sd_state.specs.States.{no_thread, no_cpu, thread_of, cpu_of, with_cpu, is_running}
+use Rattle.sd_state.specs.States.{no_thread, no_cpu, thread_of, cpu_of, with_cpu, is_running, set_of, eff_of}
 use Rattle.sd_state.proofs.OpeningSets.{same_set}
-use Rattle.sd_machine.specs.Threads.{open_of, with_open, runner, set_of, eff_of, has_ended}
+use Rattle.sd_machine.specs.Threads.{open_of, with_open, runner, has_ended}
 use Rattle.sd_machine.specs.Changes.{with_cpu_in, without_cpu, with_body, place_put, set_kernel_mark, put, put_where, close, join, bind, unbind}
 use Rattle.sd_machine.specs.Prioritising.{is_privileged, uid_of}
 use Rattle.sd_machine.specs.SetChanges.{assign_answer, cleared, assigned, joined, is_misbound, is_closing, bind_put, bind_to, called_back, rebound, pbound}

@@ -23,8 +23,8 @@ use Rattle.sd_state.specs.declared.states.LockState.{LockState}
 use Rattle.sd_state.specs.declared.states.LockState.TheVariants.{Free, Owned, ReadHeld, Passing}
 use Rattle.sd_state.specs.declared.states.CpuState.{CpuState}
 use Rattle.sd_state.specs.declared.states.State.{State}
-use Rattle.sd_state.specs.States.{thread_of, cpu_of}
-use Rattle.sd_machine.specs.Threads.{lock_of, with_lock, runner, best_waiter, best_sleeper, best_sleeper_below, priority_of, has_waiters, eff_of}
+use Rattle.sd_state.specs.States.{thread_of, cpu_of, eff_of}
+use Rattle.sd_machine.specs.Threads.{lock_of, with_lock, runner, best_waiter, best_sleeper, best_sleeper_below, priority_of, has_waiters}
 use Rattle.sd_machine.specs.Bodies.{aged_class}
 use Rattle.sd_machine.specs.Changes.{back_key, with_body, run_tick, set_class, set_duty, duty_after, count_tick, put_where, close, join, bind, unbind}
 use Rattle.sd_machine.specs.Dispatching.{ticked, spun, idled}

@@ -7,17 +7,18 @@ use Rattle.sd_types.specs.declared.numbers.CpuId.{CpuId}
 use Rattle.sd_types.specs.declared.numbers.SetId.{SetId}
 use Rattle.sd_types.specs.declared.works.Work.{Work}
 use Rattle.sd_types.specs.Partitions.{cpu_of_number}
+use Rattle.sd_types.specs.Priorities.{real_time_priority}
 use Rattle.sd_state.specs.declared.states.Place.{Place}
 use Rattle.sd_state.specs.declared.states.Place.TheVariants.{Running, Queued, RealTime}
 use Rattle.sd_state.specs.declared.states.State.{State}
-use Rattle.sd_state.specs.States.{thread_of, cpu_of}
-use Rattle.sd_machine.specs.Threads.{open_of, set_of, eff_of}
+use Rattle.sd_state.specs.States.{thread_of, cpu_of, set_of, eff_of}
+use Rattle.sd_machine.specs.Threads.{open_of}
 use Rattle.sd_state.specs.Invariants.{PlacesAreThere, OneRuns, KeysDiffer, KeysWithin}
 
 -- A thread of effective priority p, bound to a processor or to none, may stand on the queue of processor c: it is bound to c, or
 -- it is bound to none and below 100.
 abbrev pub MayQueue : ℕ → Option CpuId → CpuId → Type 0
-MayQueue p bound c = ((bound ≡ None) × (p < 100)) ⊎ (bound ≡ Some c)
+MayQueue p bound c = ((bound ≡ None) × (p < real_time_priority)) ⊎ (bound ≡ Some c)
 
 -- A thread may run on processor c: where it is bound to another one, the kernel's mark of c is set.
 abbrev pub MayRun : State → Option CpuId → CpuId → Type 0
@@ -26,7 +27,7 @@ MayRun s bound c = (d : CpuId) → bound ≡ Some d → d.0 ≢ c.0 → (cpu_of 
 -- A thread of this set, priority and binding belongs to the place: on a real-time queue, to that of its set, from priority 100
 -- on and bound to no processor; on a processor or its queue, to one of its set.
 abbrev pub BelongsAt : State → SetId → ℕ → Option CpuId → Place → Type 0
-BelongsAt s set p bound (RealTime q k) = (100 ≤ p) × (bound ≡ None) × (q ≡ set)
+BelongsAt s set p bound (RealTime q k) = (real_time_priority ≤ p) × (bound ≡ None) × (q ≡ set)
 BelongsAt s set p bound (Queued c k) = ((cpu_of s c.0).set ≡ set) × MayQueue p bound c
 BelongsAt s set p bound (Running c) = ((cpu_of s c.0).set ≡ set) × MayRun s bound c
 BelongsAt s set p bound _ = ⊤

@@ -1,8 +1,8 @@
 -- What is said of the entries of a run so far: of woken threads, of threads that sleep, and of the counts of semaphores.
 -- Source: Solaris Internals (sleep queues, cv_wait, cv_signal, sema_p, sema_v); that a semaphore is handed to its best
 -- sleeper directly is this project's own.
-use Rattle.std.specs.Prelude.{◌≡◌, ◌≢◌, ℕ, ◌+◌, ◌≤◌, Bool, true, false, List, ◌∷◌, ◌++◌, length, map, take, count_by, ◌==◌, slice_get, slice_index_or, ℤ, Option, Some, None, is_some}
-use Rattle.std.specs.List.{All, range_with_len, sum_by}
+use Rattle.std.specs.Prelude.{◌≡◌, ◌≢◌, ℕ, ◌+◌, ◌≤◌, Bool, true, false, List, ◌∷◌, ◌++◌, map, take, count_by, ◌==◌, slice_get, slice_index_or, ℤ, Option, Some, None, is_some}
+use Rattle.std.specs.List.{All, sum_by}
 use Rattle.sd_types.specs.declared.numbers.ChanId.{ChanId}
 use Rattle.sd_types.specs.declared.numbers.LockId.{LockId}
 use Rattle.sd_types.specs.declared.numbers.ThreadId.{ThreadId}
@@ -18,7 +18,7 @@ use Rattle.sd_types.specs.Works.{is_sema}
 use Rattle.sd_state.specs.declared.states.Place.{Place}
 use Rattle.sd_state.specs.declared.states.Place.TheVariants.{Running, Asleep}
 use Rattle.sd_state.specs.declared.states.State.{State}
-use Rattle.sd_state.specs.States.{thread_of}
+use Rattle.sd_state.specs.States.{thread_of, thread_numbers}
 use Rattle.sd_state.specs.Accounts.{is_wake_of}
 use Rattle.sd_state.specs.Operations.{script_of}
 use Rattle.sd_state.specs.Opening.{first_count, opening}
@@ -142,9 +142,6 @@ is_sema_p k _ = false
 abbrev pub is_sema_v : ℕ → Op → Bool
 is_sema_v k (SemaVOp j) = j.0 == k
 is_sema_v k _ = false
-
-abbrev pub thread_numbers : Work → List ℕ
-thread_numbers w = range_with_len 0 (length w.threads)
 
 -- how many operations that pass a test are over, of all scripts
 abbrev pub ops_done : (Op → Bool) → Work → State → ℕ

@@ -17,9 +17,9 @@ use Rattle.sd_machine.specs.Cycles.{IsCycle}
 use Rattle.sd_state.specs.declared.states.LockState.TheVariants.{Owned}
 use Rattle.sd_state.specs.declared.states.Place.TheVariants.{Waiting}
 use Rattle.sd_state.specs.declared.states.State.{State}
-use Rattle.sd_state.specs.States.{thread_of, cpu_of}
+use Rattle.sd_state.specs.States.{thread_of, cpu_of, eff_of}
 use Rattle.sd_state.specs.Opening.{opening}
-use Rattle.sd_machine.specs.Threads.{lock_of, eff_of}
+use Rattle.sd_machine.specs.Threads.{lock_of}
 use Rattle.sd_machine.specs.Changes.{back_key}
 use Rattle.sd_machine.specs.Events.{next, after}
 use Rattle.sd_machine.specs.LockGraph.{graph, cycles_of}

@@ -8,10 +8,9 @@ use Rattle.sd_types.specs.declared.works.Work.{Work}
 use Rattle.sd_state.specs.declared.states.State.{State}
 use Rattle.sd_state.specs.Opening.{opening}
 use Rattle.sd_machine.specs.Events.{after}
-use Rattle.sd_machine.specs.Runs.{IsRun, IsRunFrom, IsStep, serial_hints}
+use Rattle.sd_machine.specs.Runs.{IsRun, IsRunFrom, IsStep, serial_hints, IsFresh}
 use Rattle.sd_machine.proofs.RunLemmas.{IsRun-from}
 use Rattle.sd_invariants.proofs.Induction.{opening_reached}
-use Rattle.sd_search.specs.Closed.{IsFresh}
 use Rattle.sd_search.specs.declared.graph.Step.{Step}
 use Rattle.sd_search.specs.Graphs.{IsGathered}
 use Rattle.sd_search.proofs.TellLemmas.{inside_at}

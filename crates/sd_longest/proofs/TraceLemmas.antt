@@ -13,10 +13,9 @@ use Rattle.sd_state.specs.declared.states.State.{State}
 use Rattle.sd_state.specs.Opening.{opening}
 use Rattle.sd_state.specs.States.{cpu_of}
 use Rattle.sd_machine.specs.Events.{after, next}
-use Rattle.sd_machine.specs.Runs.{IsRunFrom, final, serial_hints}
+use Rattle.sd_machine.specs.Runs.{IsRunFrom, final, serial_hints, IsFresh}
 use Rattle.sd_machine.proofs.RunLemmas.{IsRun-from, IsRunFrom-rest, final-append, final-cons}
 use Rattle.sd_invariants.proofs.Ready.{maker_inside}
-use Rattle.sd_search.specs.Closed.{IsFresh}
 use Rattle.sd_search.specs.declared.graph.Step.{Step}
 use Rattle.sd_search.specs.Graphs.{IsAt, IsGathered}
 use Rattle.sd_search.specs.Turns.{LeadsTo}

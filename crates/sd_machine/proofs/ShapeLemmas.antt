@@ -33,10 +33,10 @@ use Rattle.sd_state.specs.declared.states.LockState.TheVariants.{Free, Owned, Re
 use Rattle.sd_state.specs.declared.states.CpuState.{CpuState}
 use Rattle.sd_state.specs.declared.states.ThreadState.{ThreadState}
 use Rattle.sd_state.specs.declared.states.State.{State}
-use Rattle.sd_state.specs.States.{thread_of, cpu_of, with_thread, with_cpu}
+use Rattle.sd_state.specs.States.{thread_of, cpu_of, with_thread, with_cpu, eff_of}
 use Rattle.sd_machine.specs.Shapes.{FitsFully}
 use Rattle.sd_state.specs.Operations.{op_of}
-use Rattle.sd_machine.specs.Threads.{lock_of, with_lock, with_count, with_open, best_waiter, best_sleeper, eff_of, has_waiters}
+use Rattle.sd_machine.specs.Threads.{lock_of, with_lock, with_count, with_open, best_waiter, best_sleeper, has_waiters}
 use Rattle.sd_machine.specs.Changes.{finish_op, run_tick, set_class, send_back, hold, let_go, set_number, set_looped, set_duty, count_tick, clear_marks, set_mark, set_kernel_mark, mark_over, remark, run_on, leave, put, put_where, close, join, bind, unbind}
 use Rattle.sd_machine.specs.Dispatching.{charge, class_counts, ticked, spun, idled, dispatched, stolen, preempted, sent_away, yielded, done}
 use Rattle.sd_machine.specs.Sleeping.{woken, napped, fallen_asleep, woke, woke_all, roused_on, roused}

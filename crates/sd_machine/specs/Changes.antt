@@ -13,14 +13,14 @@ use Rattle.sd_types.specs.declared.events.End.TheVariants.{Front, Back}
 use Rattle.sd_types.specs.declared.events.Put.{Put}
 use Rattle.sd_types.specs.declared.events.Put.TheVariants.{Cpu, RealTime as OnRealTime}
 use Rattle.sd_types.specs.declared.works.Work.{Work}
-use Rattle.sd_types.specs.Priorities.{eff}
+use Rattle.sd_types.specs.Priorities.{eff, real_time_priority}
 use Rattle.sd_state.specs.declared.states.Place.{Place}
 use Rattle.sd_state.specs.declared.states.Place.TheVariants.{Running, Queued, RealTime}
 use Rattle.sd_state.specs.declared.states.CpuState.{CpuState}
 use Rattle.sd_state.specs.declared.states.State.{State}
-use Rattle.sd_state.specs.States.{thread_of, cpu_of, with_thread, with_cpu}
+use Rattle.sd_state.specs.States.{thread_of, cpu_of, with_thread, with_cpu, set_of, eff_of}
 use Rattle.sd_state.specs.Operations.{script_of, op_over, ran}
-use Rattle.sd_machine.specs.Threads.{open_of, with_open, set_of, runner, best_ready, priority_of, eff_of}
+use Rattle.sd_machine.specs.Threads.{open_of, with_open, runner, best_ready, priority_of}
 use Rattle.sd_machine.specs.Bodies.{with_class, departed, arrived}
 use Rattle.sd_types.specs.Willed.{changed_number, with_willed, with_lock as with_held, released as without_held}
 
@@ -96,7 +96,7 @@ clear_marks s c = with_cpu s c (unmarked (cpu_of s c))
 
 -- marked for the sake of a thread of priority m: the kernel's mark from 100 on, else the user's
 abbrev pub marked : ℕ → CpuState → CpuState
-marked m x = if nat_le 100 m then record x { kernel = true } else record x { user = true }
+marked m x = if nat_le real_time_priority m then record x { kernel = true } else record x { user = true }
 
 unfoldable pub set_mark : State → ℕ → ℕ → State
 set_mark s c m = with_cpu s c (marked m (cpu_of s c))
@@ -142,7 +142,7 @@ leave s c t place =
 -- the queue of a thread that has been on processor c: the real-time queue of its partition from priority 100 on, unless
 -- it is bound, and else that processor's own
 abbrev pub queue_place : Work → ℕ → CpuId → ℤ → ThreadBody → Place
-queue_place w t c key b = if nat_le 100 (eff b) && is_none b.bound then RealTime (set_of w t) key else Queued c key
+queue_place w t c key b = if nat_le real_time_priority (eff b) && is_none b.bound then RealTime (set_of w t) key else Queued c key
 
 -- the place to which entry n puts a thread that is made runnable, and the processor that is chosen
 abbrev pub place_put : Work → ℕ → ℕ → Put → Place

@@ -21,9 +21,10 @@ use Rattle.sd_types.specs.declared.events.Put.TheVariants.{Cpu, RealTime as OnRe
 use Rattle.sd_types.specs.declared.works.Work.{Work}
 use Rattle.sd_rules.specs.Choices.{is_among}
 use Rattle.sd_rules.specs.ChoiceFunctions.{chosen, victim_of}
+use Rattle.sd_types.specs.Priorities.{real_time_priority}
 use Rattle.sd_state.specs.declared.states.State.{State}
-use Rattle.sd_state.specs.States.{thread_of, cpu_of}
-use Rattle.sd_machine.specs.Threads.{open_of, set_of, runner, best_unbound, priority_of}
+use Rattle.sd_state.specs.States.{thread_of, cpu_of, set_of}
+use Rattle.sd_machine.specs.Threads.{open_of, runner, best_unbound, priority_of}
 
 -- Hints: each processor shows two numbers, an effective priority plus 1, or 0 for none: that of its running thread, and
 -- that of the best on its queue that is bound to no processor.
@@ -77,7 +78,7 @@ choice w s c t hints = chosen (cpus_for w s t) (numbers_read (cpus_for w s t) hi
 
 -- the queue of a thread of this priority: the real-time queue of its partition from 100 on, unless it is bound
 abbrev pub put_on : ℕ → Option CpuId → CpuId → Put
-put_on p bound x = if nat_le 100 p && is_none bound then OnRealTime x else Cpu x
+put_on p bound x = if nat_le real_time_priority p && is_none bound then OnRealTime x else Cpu x
 
 unfoldable pub put_chosen : Work → State → ℕ → ℕ → ℕ → Option Hints → Put
 put_chosen w s c t p hints = put_on p (thread_of s t).body.bound (choice w s c t hints)

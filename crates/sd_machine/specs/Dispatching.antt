@@ -14,8 +14,8 @@ use Rattle.sd_machine.specs.declared.plans.Plan.TheVariants.{Make, Search}
 use Rattle.sd_state.specs.declared.states.Place.TheVariants.{Queued, Ended}
 use Rattle.sd_state.specs.declared.states.CpuState.{CpuState}
 use Rattle.sd_state.specs.declared.states.State.{State}
-use Rattle.sd_state.specs.States.{thread_of}
-use Rattle.sd_machine.specs.Threads.{thread_id, is_sys, best_ready, best_unbound, priority_of, eff_of}
+use Rattle.sd_state.specs.States.{thread_of, eff_of}
+use Rattle.sd_machine.specs.Threads.{thread_id, is_sys, best_ready, best_unbound, priority_of}
 use Rattle.sd_machine.specs.Bodies.{ticked_class}
 use Rattle.sd_machine.specs.Changes.{back_key, key_at, finish_op, run_tick, set_class, send_back, count_tick, clear_marks, set_mark, mark_over, priority_or_zero, run_on, leave, queue_place}
 

@@ -23,9 +23,9 @@ use Rattle.sd_machine.specs.declared.plans.Placement.TheVariants as placement
 use Rattle.sd_state.specs.declared.states.Place.{Place}
 use Rattle.sd_state.specs.declared.states.Place.TheVariants.{Waiting}
 use Rattle.sd_state.specs.declared.states.State.{State}
-use Rattle.sd_state.specs.States.{thread_of}
+use Rattle.sd_state.specs.States.{thread_of, eff_of}
 use Rattle.sd_state.specs.Operations.{op_of}
-use Rattle.sd_machine.specs.Threads.{thread_id, eff_of, has_ended}
+use Rattle.sd_machine.specs.Threads.{thread_id, has_ended}
 use Rattle.sd_machine.specs.Bodies.{parms_of, aged_class}
 use Rattle.sd_types.specs.Priorities.{eff_as}
 use Rattle.sd_machine.specs.Changes.{finish_op, set_class, set_duty, put}

@@ -19,11 +19,11 @@ use Rattle.sd_machine.specs.declared.plans.Plan.TheVariants.{Make, Place as Plac
 use Rattle.sd_machine.specs.declared.plans.Placement.{Placement}
 use Rattle.sd_machine.specs.declared.plans.Requeue.{Requeue}
 use Rattle.sd_machine.specs.declared.plans.Requeue.TheVariants.{Stays, Behind, Anew}
+use Rattle.sd_types.specs.Priorities.{real_time_priority}
 use Rattle.sd_state.specs.declared.states.Place.{Place}
 use Rattle.sd_state.specs.declared.states.Place.TheVariants.{Running, Queued, RealTime}
 use Rattle.sd_state.specs.declared.states.State.{State}
-use Rattle.sd_state.specs.States.{thread_of}
-use Rattle.sd_machine.specs.Threads.{eff_of}
+use Rattle.sd_state.specs.States.{thread_of, eff_of}
 use Rattle.sd_machine.specs.Changes.{put_where, remark}
 
 abbrev pub is_bound_to : CpuId → Option CpuId → Bool
@@ -32,7 +32,7 @@ is_bound_to d (Some e) = e.0 == d.0
 
 -- on a processor's queue it goes to the back of that one where its new priority is below 100, or it is bound there
 abbrev pub requeue_at : Place → ℕ → Option CpuId → Requeue
-requeue_at (Queued d k) p bound = if nat_lt p 100 || is_bound_to d bound then Behind d else Anew
+requeue_at (Queued d k) p bound = if nat_lt p real_time_priority || is_bound_to d bound then Behind d else Anew
 requeue_at (RealTime q k) p bound = Anew
 requeue_at _ p bound = Stays
 

@@ -19,6 +19,10 @@ unfoldable pub final : Work → State → List Entry → State
 final w s [] = s
 final w s (e ∷ es) = final w (after w s e.number e.cpu e.event) es
 
+-- the state to which these entries lead from the initial one
+abbrev pub final_state : Work → List Entry → State
+final_state w es = final w (opening w) es
+
 -- an entry with its own number is the step that its processor may make
 abbrev pub IsStep : Work → State → Entry → Type 0
 IsStep w s e = next w s e.cpu e.hints ≡ Some e.event
@@ -33,14 +37,14 @@ IsRun w es = IsRunFrom w (opening w) 0 es
 
 -- the state after the first k entries
 abbrev pub state_at : Work → List Entry → ℕ → State
-state_at w es k = final w (opening w) (take k es)
+state_at w es k = final_state w (take k es)
 
 -- a run of n entries leads to the state
 pub record IsReached (w : Work) (n : ℕ) (s : State) : Type 0 where
   pub entries : List Entry
   pub run : IsRun w entries
   pub many : length entries ≡ n
-  pub ends : final w (opening w) entries ≡ s
+  pub ends : final_state w entries ≡ s
 
 -- no processor can make an entry, whatever it reads
 abbrev pub IsComplete : Work → State → Type 0
@@ -56,6 +60,11 @@ shown s (Some r) = Some (record { which = r.0; numbers = record { items = map (h
 -- what a processor reads in a run that goes in rounds: the numbers of the state
 unfoldable pub serial_hints : Work → State → CpuId → Option Hints
 serial_hints w s c = shown s (reads w s c.0)
+
+-- the hints of each entry are the numbers of the state before it
+unfoldable pub IsFresh : Work → State → List Entry → Type 0
+IsFresh w s [] = ⊤
+IsFresh w s (e ∷ es) = (e.hints ≡ serial_hints w s e.cpu) × IsFresh w (after w s e.number e.cpu e.event) es
 
 abbrev pub made : ℕ → CpuId → Option Hints → Option Event → List Entry
 made n c hints None = []

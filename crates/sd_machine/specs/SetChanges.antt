@@ -15,11 +15,12 @@ use Rattle.sd_types.specs.declared.works.Work.{Work}
 use Rattle.sd_machine.specs.declared.plans.Plan.{Plan}
 use Rattle.sd_machine.specs.declared.plans.Plan.TheVariants.{Make, Place as PlaceIt}
 use Rattle.sd_machine.specs.declared.plans.Placement.TheVariants as placement
+use Rattle.sd_types.specs.Priorities.{real_time_priority}
 use Rattle.sd_state.specs.declared.states.Place.{Place}
 use Rattle.sd_state.specs.declared.states.Place.TheVariants.{Running, Queued, RealTime}
 use Rattle.sd_state.specs.declared.states.State.{State}
-use Rattle.sd_state.specs.States.{thread_of, cpu_of}
-use Rattle.sd_machine.specs.Threads.{thread_id, open_of, set_of, runner, eff_of, has_ended}
+use Rattle.sd_state.specs.States.{thread_of, cpu_of, set_of, eff_of}
+use Rattle.sd_machine.specs.Threads.{thread_id, open_of, runner, has_ended}
 use Rattle.sd_machine.specs.Changes.{finish_op, set_kernel_mark, put, put_where, close, join, bind, unbind}
 use Rattle.sd_machine.specs.Prioritising.{uid_of, is_privileged}
 
@@ -79,7 +80,7 @@ bound_put d (RealTime p k) = Some (Cpu d)
 bound_put d _ = None
 
 abbrev pub unbound_put : ℕ → Option CpuId → Place → Option Put
-unbound_put p (Some b) (Queued c k) = if nat_le 100 p then Some (OnRealTime b) else None
+unbound_put p (Some b) (Queued c k) = if nat_le real_time_priority p then Some (OnRealTime b) else None
 unbound_put p _ _ = None
 
 abbrev pub bind_put : State → ℕ → Option CpuId → Option Put

@@ -2,16 +2,13 @@
 -- and which thread is the best of those that run, are queued, wait, sleep or nap somewhere.
 -- Source: Solaris Internals (dispatch queues, turnstiles, sleep queues): the greatest effective priority goes first, and
 -- of these the thread that has stood longest, as the keys say (this project's own).
-use Rattle.std.specs.Prelude.{ℕ, ◌+◌, Bool, true, false, ◌&&◌, List, [], ◌∷◌, drop, max, nat_lt, nat_le, ◌==◌, ℤ, int_lt, Option, Some, None, is_none, option_map, unwrap_or, position, slice_get, slice_index_or, slice_set, if◌then◌else◌}
+use Rattle.std.specs.Prelude.{ℕ, ◌+◌, Bool, true, false, ◌&&◌, List, [], ◌∷◌, drop, max, nat_lt, nat_le, ◌==◌, ℤ, int_lt, Option, Some, None, is_none, option_map, position, slice_index_or, slice_set, if◌then◌else◌}
 use Rattle.std.specs.List.{list_any}
 use Rattle.sd_types.specs.declared.numbers.CpuId.{CpuId}
-use Rattle.sd_types.specs.declared.numbers.SetId.{SetId}
 use Rattle.sd_types.specs.declared.numbers.Side.{Side}
-use Rattle.sd_types.specs.declared.numbers.Side.TheVariants.{Writer, Reader}
 use Rattle.sd_types.specs.declared.numbers.ThreadId.{ThreadId}
 use Rattle.sd_types.specs.declared.classes.ClassState.{ClassState}
 use Rattle.sd_types.specs.declared.classes.ClassState.TheVariants.{Ts, Sys}
-use Rattle.sd_types.specs.declared.works.Work.{Work}
 use Rattle.sd_types.specs.Priorities.{eff}
 use Rattle.arrayvec.specs.ArrayVec.{ArrayVec}
 use Rattle.sd_state.specs.declared.states.Place.{Place}
@@ -20,7 +17,7 @@ use Rattle.sd_state.specs.declared.states.LockState.{LockState}
 use Rattle.sd_state.specs.declared.states.LockState.TheVariants.{Free}
 use Rattle.sd_state.specs.declared.states.ThreadState.{ThreadState}
 use Rattle.sd_state.specs.declared.states.State.{State}
-use Rattle.sd_state.specs.States.{thread_of, cpu_of, is_running, is_queued, is_ready}
+use Rattle.sd_state.specs.States.{cpu_of, is_running, is_queued, is_ready, same_side, eff_of}
 use Rattle.sd_state.specs.Best.{best_by, beats}
 
 abbrev pub thread_id : ℕ → ThreadId
@@ -51,10 +48,6 @@ open_of s p = (slice_index_or s.open_cpus p no_cpus).items
 abbrev pub with_open : State → ℕ → List CpuId → State
 with_open s p cpus = record s { open_cpus = slice_set s.open_cpus p (record { items = cpus }) }
 
--- the partition of a thread, which its declaration names
-abbrev pub set_of : Work → ℕ → SetId
-set_of w t = unwrap_or (option_map (λ d. d.set) (slice_get w.threads t)) (record { 0 = 0 })
-
 abbrev pub is_ts : ClassState → Bool
 is_ts (Ts s) = true
 is_ts _ = false
@@ -62,11 +55,6 @@ is_ts _ = false
 abbrev pub is_sys : ClassState → Bool
 is_sys (Sys s) = true
 is_sys _ = false
-
-abbrev pub same_side : Side → Side → Bool
-same_side Writer Writer = true
-same_side Reader Reader = true
-same_side _ _ = false
 
 -- waits for lock l, on either side, or on one side
 abbrev pub is_waiting : ℕ → Place → Bool
@@ -144,9 +132,6 @@ unfoldable pub next_to_age : State → ℕ → ℕ → Option ℕ
 next_to_age s c u = option_map (λ i. u + i) (position (λ x. is_queued c x.place && is_ts x.body.class) (drop u s.threads))
 
 -- Priorities of such threads.
-
-abbrev pub eff_of : State → ℕ → ℕ
-eff_of s t = eff (thread_of s t).body
 
 abbrev pub priority_of : State → Option ℕ → Option ℕ
 priority_of s None = None

@@ -36,8 +36,8 @@ use Rattle.sd_state.specs.declared.states.Place.TheVariants.{Waiting}
 use Rattle.sd_state.specs.declared.states.LockState.{LockState}
 use Rattle.sd_state.specs.declared.states.LockState.TheVariants.{Owned}
 use Rattle.sd_state.specs.declared.states.State.{State}
-use Rattle.sd_state.specs.States.{thread_of, cpu_of}
-use Rattle.sd_machine.specs.Threads.{eff_of, greatest_waiting}
+use Rattle.sd_state.specs.States.{thread_of, cpu_of, eff_of}
+use Rattle.sd_machine.specs.Threads.{greatest_waiting}
 use Rattle.sd_machine.specs.Bodies.{eff_as_with}
 use Rattle.sd_machine.specs.Changes.{set_number, set_looped, set_duty}
 use Rattle.sd_machine.specs.Requeueing.{requeue, requeue_plan, reordered}

@@ -13,12 +13,11 @@ use Rattle.sd_types.specs.declared.works.Work.{Work}
 use Rattle.sd_state.specs.declared.states.Place.{Place}
 use Rattle.sd_state.specs.declared.states.Place.TheVariants.{Running, Waiting}
 use Rattle.sd_state.specs.declared.states.State.{State}
-use Rattle.sd_state.specs.States.{thread_of}
+use Rattle.sd_state.specs.States.{thread_of, eff_of}
 use Rattle.sd_state.specs.Operations.{script_of}
 use Rattle.sd_machine.specs.Changes.{remark, set_class, set_duty}
 use Rattle.sd_machine.specs.Prioritising.{answer_to, changed_by, changed_on, changed_to, new_class, walk_from}
 use Rattle.sd_machine.specs.Requeueing.{reordered, reordered_at}
-use Rattle.sd_machine.specs.Threads.{eff_of}
 use Rattle.sd_dispatcher.proofs.Kept.{Keeps, class_op, inside, remark_threads, same_op, where_op}
 
 reordered_op : (w : Work) (s : State) (n u old : ℕ) (at : Option Put) → Keeps s (reordered w s n u old at)

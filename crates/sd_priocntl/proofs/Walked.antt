@@ -14,12 +14,11 @@ use Rattle.sd_state.specs.declared.states.Place.{Place}
 use Rattle.sd_state.specs.declared.states.Place.TheVariants.{Running, Queued, RealTime, Waiting, Asleep, Napping, Ended}
 use Rattle.sd_state.specs.declared.states.State.{State}
 use Rattle.sd_state.specs.declared.states.ThreadState.{ThreadState}
-use Rattle.sd_state.specs.States.{thread_of, with_thread}
+use Rattle.sd_state.specs.States.{thread_of, with_thread, eff_of}
 use Rattle.sd_machine.specs.Changes.{cpu_put, mark_over, place_put, put, put_where, remark, set_class, with_place}
 use Rattle.sd_machine.specs.Needs.{IsUnmoved}
 use Rattle.sd_machine.specs.Prioritising.{walk_from}
 use Rattle.sd_machine.specs.Requeueing.{reordered, reordered_at}
-use Rattle.sd_machine.specs.Threads.{eff_of}
 use Rattle.sd_dispatcher.specs.Touched.{reordered_parts}
 use Rattle.sd_dispatcher.proofs.Kept.{class_place, over_threads, remark_threads, same_place}
 use Rattle.sd_store.specs.declared.parts.Part.{Part}

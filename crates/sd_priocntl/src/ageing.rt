@@ -4,7 +4,7 @@
 
 ghost use Rattle.std.specs.Prelude.{◌≡◌, ◌+◌, ◌<◌, ◌^◌, [], ◌∷◌, ⊤, option_map};
 ghost use Rattle.sd_machine.specs.Prioritising.{age_plan, aged, lifted};
-ghost use Rattle.sd_machine.specs.Threads.{eff_of};
+ghost use Rattle.sd_state.specs.States.{eff_of};
 ghost use Rattle.sd_store.specs.Parts.{actor_part, cpu_part, found_parts, number, thread_part};
 ghost use Rattle.sd_store.specs.Words.{DoesBy, Lacks, LacksBy, Tells};
 

@@ -1,5 +1,5 @@
 -- What was printed of a run is the journal of a complete run, behind its workload.
-use Rattle.std.proofs.Common.{◌≡◌, ℕ, ◌≤◌, List, [], ◌++◌, length, Option, Some, refl, sym, ap, subst, ◌∙◌, inl, inr, arith}
+use Rattle.std.proofs.Common.{◌≡◌, ℕ, ◌≤◌, List, [], ◌++◌, length, Some, refl, sym, ap, subst, ◌∙◌, inl, inr, arith}
 use Rattle.std.specs.Prelude.{◌⊎◌}
 use Rattle.std.proofs.lemmas.Option.{same_Some}
 use Rattle.std.specs.Io.KnownBytes.{Appends}
@@ -10,7 +10,6 @@ use Rattle.sd_machine.specs.Texts.{journal}
 use Rattle.sd_workload.specs.Accepted.{Accepted}
 use Rattle.sd_audit.specs.Audits.{IsJournal}
 use Rattle.sd_answers.specs.Certificates.{IsLegalJournal, Certifies}
-use Rattle.sd_types.specs.Limits.{most_bytes}
 use Rattle.sd_types.specs.Limits.{most_certificate}
 use Rattle.sd_answers.specs.Inputs.{IsWorkload}
 use Rattle.sd_answers.specs.StreamChanges.{StreamChange}
@@ -19,7 +18,7 @@ use Rattle.sd_answers.proofs.WordLemmas.{no_journal_line}
 use Rattle.sd_program.specs.declared.forms.Mode.{Mode}
 use Rattle.sd_program.specs.declared.forms.Form.TheVariants.{Journal}
 use Rattle.sd_program.specs.RunAnswers.{Writes}
-use Rattle.sd_program.specs.TheRun.{final_state}
+use Rattle.sd_machine.specs.Runs.{final_state}
 use Rattle.sd_program.specs.Audited.{HasWholeLines, certificate_of, RunsAreAudited}
 
 module _ (mode : Mode) (input out : StreamChange) (text printed : List ℕ) (is : input.before ≡ Some text) (empty : out.before ≡ Some []) (holds : out.after ≡ Some printed)

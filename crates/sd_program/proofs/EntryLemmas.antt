@@ -23,12 +23,12 @@ use Rattle.sd_types.specs.Willed.{changed_number, with_number, without_number, w
 use Rattle.sd_types.proofs.PriorityLemmas.{greatest-below}
 use Rattle.sd_types.proofs.WilledLemmas.{sound-with, sound-without}
 use Rattle.sd_state.specs.declared.states.State.{State}
-use Rattle.sd_state.specs.States.{thread_of}
+use Rattle.sd_state.specs.States.{thread_of, eff_of}
 use Rattle.sd_machine.specs.Bodies.{aged_class}
 use Rattle.sd_machine.specs.Needs.{IsPut, IsPutIf, IsWoken, IsPrioPut, IsBindPut, CanInherit, Needs}
 use Rattle.sd_machine.specs.Prioritising.{new_class}
 use Rattle.sd_machine.specs.Shapes.{FitsFully}
-use Rattle.sd_machine.specs.Threads.{eff_of, greatest_waiting}
+use Rattle.sd_machine.specs.Threads.{greatest_waiting}
 use Rattle.sd_machine.specs.Walking.{inherited_priority}
 use Rattle.sd_machine.specs.Runs.{IsReached, IsStep}
 use Rattle.sd_frames.specs.Causes.{IsCause}

@@ -13,9 +13,9 @@ use Rattle.sd_types.specs.declared.events.Which.{Which}
 use Rattle.sd_types.specs.declared.events.Which.TheVariants as which
 use Rattle.sd_types.specs.declared.works.Work.{Work}
 use Rattle.sd_state.specs.declared.states.State.{State}
-use Rattle.sd_state.specs.States.{thread_of, cpu_of}
+use Rattle.sd_state.specs.States.{thread_of, cpu_of, set_of}
 use Rattle.sd_machine.specs.Events.{next}
-use Rattle.sd_machine.specs.Runs.{IsReached, IsStep}
+use Rattle.sd_machine.specs.Runs.{IsReached, IsStep, IsFresh}
 use Rattle.sd_invariants.proofs.NumberLemmas.{AreFine, fine_eff}
 use Rattle.sd_invariants.proofs.FineLemmas.{fine_reached}
 use Rattle.sd_entries.specs.Fitting.{is_byte, hints_in_range, IsSpelled}
@@ -23,7 +23,7 @@ use Rattle.sd_program.proofs.EntryLemmas.{spelled}
 use Rattle.sd_state.specs.Opening.{opening}
 use Rattle.sd_machine.specs.declared.plans.Plan.{Plan}
 use Rattle.sd_machine.specs.declared.plans.Plan.TheVariants.{Make, Place as PlaceIt, Search}
-use Rattle.sd_machine.specs.Threads.{open_of, set_of, runner, best_unbound, priority_of}
+use Rattle.sd_machine.specs.Threads.{open_of, runner, best_unbound, priority_of}
 use Rattle.sd_machine.specs.Choosing.{hint_of, hint_shown, cpus_or_bound, cpus_for, is_warm, is_settled, reads_for, neighbours, read_of}
 use Rattle.sd_machine.specs.Plans.{plan}
 use Rattle.sd_machine.specs.Events.{after, placed_thread, plan_reads, reads}
@@ -139,29 +139,25 @@ serial_ok w n s c reached = shown_ok s (plan_reads w s c.0 (plan w s c.0)) (fine
 
 -- ---- the entries of a run in rounds
 
--- each entry has the numbers that the state before it shows
-abbrev pub AreShown : Work → State → List Entry → Type 0
-AreShown w s [] = ⊤
-AreShown w s (e ∷ es) = (e.hints ≡ serial_hints w s e.cpu) × AreShown w (after w s e.number e.cpu e.event) es
-
-shown_append : (w : Work) (s : State) (xs ys : List Entry) → AreShown w s xs → AreShown w (final w s xs) ys → AreShown w s (xs ++ ys)
-unfolding final
+shown_append : (w : Work) (s : State) (xs ys : List Entry) → IsFresh w s xs → IsFresh w (final w s xs) ys → IsFresh w s (xs ++ ys)
+unfolding final IsFresh
 shown_append w s [] ys p q = q
 shown_append w s (e ∷ es) ys p q = (p.0, shown_append w (after w s e.number e.cpu e.event) es ys p.1 q)
 
-made_shown : (w : Work) (s : State) (n : ℕ) (c : CpuId) (o : Option Event) → AreShown w s (made n c (serial_hints w s c) o)
+made_shown : (w : Work) (s : State) (n : ℕ) (c : CpuId) (o : Option Event) → IsFresh w s (made n c (serial_hints w s c) o)
+unfolding IsFresh
 made_shown w s n c None = tt
 made_shown w s n c (Some e) = (refl, tt)
 
-round_shown : (w : Work) (s : State) (n : ℕ) (cs : List CpuId) → AreShown w s (round w s n cs)
-unfolding round
+round_shown : (w : Work) (s : State) (n : ℕ) (cs : List CpuId) → IsFresh w s (round w s n cs)
+unfolding round IsFresh
 round_shown w s n [] = tt
 round_shown w s n (c ∷ cs) =
     shown_append w s (turn w s n c) (round w (final w s (turn w s n c)) (n + length (turn w s n c)) cs)
     (made_shown w s n c (next w s c (serial_hints w s c))) (round_shown w (final w s (turn w s n c)) (n + length (turn w s n c)) cs)
 
-rounds_shown : (w : Work) (orders : ℕ → List CpuId) (k : ℕ) → AreShown w (opening w) (rounds w orders k)
-unfolding rounds
+rounds_shown : (w : Work) (orders : ℕ → List CpuId) (k : ℕ) → IsFresh w (opening w) (rounds w orders k)
+unfolding rounds IsFresh
 rounds_shown w orders zero = tt
 rounds_shown w orders (suc k) =
     let es = rounds w orders k in
@@ -179,8 +175,8 @@ reached_next w n s e r counted step = record {
 }
 
 -- numbers that states show are of 8 bits
-range_of_shown : (w : Work) (n : ℕ) (s : State) (es : List Entry) → IsReached w n s → IsRunFrom w s n es → AreShown w s es → All HasBytes es
-unfolding IsRunFrom
+range_of_shown : (w : Work) (n : ℕ) (s : State) (es : List Entry) → IsReached w n s → IsRunFrom w s n es → IsFresh w s es → All HasBytes es
+unfolding IsRunFrom IsFresh
 range_of_shown w n s [] reached run shown = All-nil HasBytes
 range_of_shown w n s (e ∷ es) reached run shown =
     All-cons HasBytes e es (ap hints_in_range shown.0 ∙ serial_ok w n s e.cpu reached)
@@ -196,14 +192,14 @@ run_spelled w n s (e ∷ es) reached run bytes few =
     (run_spelled w (n + 1) (after w s e.number e.cpu e.event) es (reached_next w n s e reached run.0 run.1) run.2 (All-tail HasBytes e es bytes) (omega (arith, few)))
 
 -- so has each that read what the states show
-pub all_spelled : (w : Work) (n : ℕ) (s : State) (es : List Entry) → IsReached w n s → IsRunFrom w s n es → AreShown w s es → n + length es < 2 ^ 64 → All (IsSpelled w) es
+pub all_spelled : (w : Work) (n : ℕ) (s : State) (es : List Entry) → IsReached w n s → IsRunFrom w s n es → IsFresh w s es → n + length es < 2 ^ 64 → All (IsSpelled w) es
 all_spelled w n s es reached run shown few = run_spelled w n s es reached run (range_of_shown w n s es reached run shown) few
 
 -- the numbers that are read in a run in rounds
 pub serial_bytes : (w : Work) (orders : ℕ → List CpuId) (es : List Entry) → IsSerial w orders es → IsRun w es → All HasBytes es
 serial_bytes w orders es serial run =
     range_of_shown w 0 (opening w) es (opening_reached w) (IsRun-from w es run)
-    (subst (λ (xs : List Entry). AreShown w (opening w) xs) (sym serial.entries) (rounds_shown w orders serial.count))
+    (subst (λ (xs : List Entry). IsFresh w (opening w) xs) (sym serial.entries) (rounds_shown w orders serial.count))
 
 -- ---- a run in rounds is a run
 

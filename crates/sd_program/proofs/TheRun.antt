@@ -9,7 +9,7 @@ use Rattle.sd_machine.specs.Listing.{ListsCycles}
 use Rattle.sd_state.specs.Opening.{opening}
 use Rattle.sd_state.specs.declared.states.State.{State}
 use Rattle.sd_machine.specs.LockGraph.{graph, cycles_of}
-use Rattle.sd_machine.specs.Runs.{state_at, IsComplete, IsRun, IsReached}
+use Rattle.sd_machine.specs.Runs.{state_at, IsComplete, IsRun, IsReached, final_state}
 use Rattle.sd_machine.proofs.RunLemmas.{IsRun-from, from-IsRun, IsRunFrom-front}
 use Rattle.sd_invariants.proofs.Complete.{complete_at_limit}
 use Rattle.sd_laws.proofs.All.{threads_belong}
@@ -24,7 +24,7 @@ use Rattle.sd_machine.proofs.CycleLemmas.{lists_cycles}
 use Rattle.sd_accounts.proofs.StateGraphs.{waits_inside}
 use Rattle.sd_program.specs.declared.forms.Mode.{Mode}
 use Rattle.sd_hand.specs.OneHome.{StandsInHomes}
-use Rattle.sd_program.specs.TheRun.{final_state, Goes, WokenAreRunnable, IsTheRun, IsOpen}
+use Rattle.sd_program.specs.TheRun.{Goes, WokenAreRunnable, IsTheRun, IsOpen}
 
 -- a run leads to its final state
 reached_end : (w : Work) (es : List Entry) → IsRun w es → IsReached w (length es) (final_state w es)

@@ -15,7 +15,8 @@ use Rattle.sd_program.specs.declared.forms.Form.{Form}
 use Rattle.sd_program.specs.declared.forms.Mode.{Mode}
 use Rattle.sd_program.specs.declared.forms.Mode.TheVariants.{Rounds, Threads}
 use Rattle.sd_program.specs.Forms.{mode_of, text_of}
-use Rattle.sd_program.specs.TheRun.{final_state, IsOpen, IsTheRun}
+use Rattle.sd_machine.specs.Runs.{final_state}
+use Rattle.sd_program.specs.TheRun.{IsOpen, IsTheRun}
 
 -- a prefix of the text of the run was written
 abbrev pub WritesPart : Work → Form → StreamChange → Type 0

@@ -5,13 +5,10 @@ use Rattle.sd_types.specs.declared.events.Entry.{Entry}
 use Rattle.sd_types.specs.declared.works.Work.{Work}
 use Rattle.sd_machine.specs.Graphs.{IsChainMax}
 use Rattle.sd_state.specs.Accounts.{is_wake_of}
-use Rattle.sd_state.specs.Opening.{opening}
-use Rattle.sd_state.specs.declared.states.State.{State}
-use Rattle.sd_state.specs.States.{thread_of, cpu_of}
+use Rattle.sd_state.specs.States.{thread_of, cpu_of, eff_of}
 use Rattle.sd_machine.specs.LockGraph.{graph, cycles_of}
-use Rattle.sd_machine.specs.Runs.{final, state_at, IsRun, IsComplete, IsSerial}
+use Rattle.sd_machine.specs.Runs.{state_at, IsRun, IsComplete, IsSerial, final_state}
 use Rattle.sd_machine.specs.Texts.{journal}
-use Rattle.sd_machine.specs.Threads.{eff_of}
 use Rattle.sd_state.specs.Invariants.{MarksStand}
 use Rattle.sd_laws.specs.Belonging.{EachInOnePlace, ThreadsBelong}
 use Rattle.sd_laws.specs.InheritanceLaws.{NobodyWalks, PrioritiesAreMaxima}
@@ -21,10 +18,6 @@ use Rattle.sd_audit.specs.Audits.{IsJournal}
 use Rattle.sd_rounds.specs.Orders.{orders_of}
 use Rattle.sd_program.specs.declared.forms.Mode.{Mode}
 use Rattle.sd_program.specs.declared.forms.Mode.TheVariants.{Rounds, Threads}
-
--- the state after the last entry
-abbrev pub final_state : Work → List Entry → State
-final_state w es = final w (opening w) es
 
 -- from an entry that the accounts count as a wake of a thread, as long as no entry stops it, the thread is on a dispatch
 -- queue or runs

@@ -8,7 +8,7 @@ use Rattle.sd_types.specs.declared.works.Work.{Work}
 use Rattle.sd_state.specs.declared.states.State.{State}
 use Rattle.sd_state.specs.Opening.{opening}
 use Rattle.sd_machine.specs.Events.{after, next}
-use Rattle.sd_machine.specs.Runs.{IsReached, IsRun, IsRunFrom, final, serial_hints}
+use Rattle.sd_machine.specs.Runs.{IsReached, IsRun, IsRunFrom, final, serial_hints, IsFresh}
 use Rattle.sd_machine.proofs.RunLemmas.{IsRun-from}
 use Rattle.sd_invariants.proofs.Induction.{opening_reached, reached_more}
 use Rattle.sd_invariants.proofs.Range.{needs_reached}
@@ -17,7 +17,7 @@ use Rattle.sd_encoding.proofs.AfterLemmas.{after_alike}
 use Rattle.sd_encoding.proofs.NextLemmas.{next_same, reads_same, serial_same}
 use Rattle.sd_encoding.proofs.OrderRankLemmas.{ranked_fits, ranked_order, ranked_same, same_ranked}
 use Rattle.sd_encoding.proofs.SourceLemmas.{AreAlike}
-use Rattle.sd_search.specs.Closed.{Has, IsClosed, IsFresh}
+use Rattle.sd_search.specs.Closed.{Has, IsClosed}
 use Rattle.sd_search.specs.Laws.{EntriesKeepTheOrder, RanksTellTheOrder, TurnsAreTheSame}
 use Rattle.sd_search.proofs.OpeningKeys.{opening_keys}
 

@@ -7,7 +7,7 @@ use Rattle.sd_types.specs.declared.works.Work.{Work}
 use Rattle.sd_state.specs.declared.states.State.{State}
 use Rattle.sd_state.specs.Opening.{opening}
 use Rattle.sd_machine.specs.Events.{after, next}
-use Rattle.sd_machine.specs.Runs.{IsReached, IsRunFrom, final, made, round, serial_hints, turn}
+use Rattle.sd_machine.specs.Runs.{IsReached, IsRunFrom, final, made, round, serial_hints, turn, IsFresh}
 use Rattle.sd_machine.proofs.RunLemmas.{from-IsRun}
 use Rattle.sd_invariants.proofs.Induction.{opening_reached, reached_more}
 use Rattle.sd_invariants.proofs.Range.{needs_reached}
@@ -15,7 +15,6 @@ use Rattle.sd_encoding.specs.Order.{IsSameOrder}
 use Rattle.sd_encoding.proofs.AfterLemmas.{after_alike}
 use Rattle.sd_encoding.proofs.NextLemmas.{next_same, serial_same}
 use Rattle.sd_encoding.proofs.SourceLemmas.{AreAlike}
-use Rattle.sd_search.specs.Closed.{IsFresh}
 use Rattle.sd_search.specs.Laws.{TurnsSpellARun}
 use Rattle.sd_search.specs.Spelled.{Leads}
 use Rattle.sd_search.proofs.OpeningKeys.{opening_keys}

@@ -1,9 +1,8 @@
 -- Sets of states that no interleaving of a workload leaves, up to the order of keys: what a search over all orders in which
 -- the processors of a workload can act has gathered when it ends.
 -- Source: this project's own.
-use Rattle.std.specs.Prelude.{◌≡◌, List, [], ◌∷◌, Some, ⊤}
+use Rattle.std.specs.Prelude.{◌≡◌, [], ◌∷◌, Some, ⊤}
 use Rattle.sd_types.specs.declared.numbers.CpuId.{CpuId}
-use Rattle.sd_types.specs.declared.events.Entry.{Entry}
 use Rattle.sd_types.specs.declared.events.Event.{Event}
 use Rattle.sd_types.specs.declared.works.Work.{Work}
 use Rattle.sd_state.specs.declared.states.State.{State}
@@ -11,11 +10,6 @@ use Rattle.sd_state.specs.Opening.{opening}
 use Rattle.sd_machine.specs.Events.{after, next}
 use Rattle.sd_machine.specs.Runs.{serial_hints}
 use Rattle.sd_encoding.specs.Order.{IsSameOrder, KeysFit}
-
--- the hints of each entry are the numbers of the state before it
-unfoldable pub IsFresh : Work → State → List Entry → Type 0
-IsFresh w s [] = ⊤
-IsFresh w s (e ∷ es) = (e.hints ≡ serial_hints w s e.cpu) × IsFresh w (after w s e.number e.cpu e.event) es
 
 -- a state of the set is the same but for its keys, which have the same order
 pub record Has (set : State → Type 0) (s : State) : Type 0 where

@@ -10,10 +10,10 @@ use Rattle.sd_types.specs.declared.works.Work.{Work}
 use Rattle.sd_state.specs.declared.states.State.{State}
 use Rattle.sd_state.specs.Opening.{opening}
 use Rattle.sd_machine.specs.Events.{after, next}
-use Rattle.sd_machine.specs.Runs.{IsRun, final, serial_hints}
+use Rattle.sd_machine.specs.Runs.{IsRun, final, serial_hints, IsFresh}
 use Rattle.sd_encoding.specs.Order.{IsSameOrder, KeysFit}
 use Rattle.sd_encoding.specs.Ranks.{ranked}
-use Rattle.sd_search.specs.Closed.{Has, IsFresh}
+use Rattle.sd_search.specs.Closed.{Has}
 use Rattle.sd_search.specs.Spelled.{IsTurn}
 use Rattle.sd_encoding.specs.Encoding.{IsHeld, encoded}
 use Rattle.sd_search.specs.declared.graph.Graph.{Graph}

@@ -10,10 +10,10 @@ use Rattle.sd_state.specs.declared.states.State.{State}
 use Rattle.sd_state.specs.Opening.{opening}
 use Rattle.sd_machine.specs.Events.{after, next, reads}
 use Rattle.sd_machine.specs.Needs.{Needs}
-use Rattle.sd_machine.specs.Runs.{IsRun, final, serial_hints}
+use Rattle.sd_machine.specs.Runs.{IsRun, final, serial_hints, IsFresh}
 use Rattle.sd_encoding.specs.Order.{IsSameOrder, KeysFit}
 use Rattle.sd_encoding.specs.Ranks.{ranked}
-use Rattle.sd_search.specs.Closed.{Has, IsClosed, IsFresh}
+use Rattle.sd_search.specs.Closed.{Has, IsClosed}
 use Rattle.sd_search.specs.Spelled.{IsSpelled, Leads}
 
 -- in states whose keys have the same order, a processor reads the same, is shown the same numbers and may make the same event

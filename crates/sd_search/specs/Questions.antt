@@ -9,9 +9,8 @@ use Rattle.sd_state.specs.Opening.{opening}
 use Rattle.sd_state.specs.Operations.{script_of}
 use Rattle.sd_state.specs.States.{thread_of}
 use Rattle.sd_machine.specs.LockGraph.{cycles_of}
-use Rattle.sd_machine.specs.Runs.{IsComplete, IsRun, final}
+use Rattle.sd_machine.specs.Runs.{IsComplete, IsRun, final, IsFresh}
 use Rattle.sd_machine.specs.Threads.{has_ended}
-use Rattle.sd_search.specs.Closed.{IsFresh}
 use Rattle.sd_search.specs.declared.questions.Question.{Question}
 use Rattle.sd_search.specs.declared.questions.Question.TheVariants.{Blocked, Stuck}
 

@@ -7,9 +7,8 @@ use Rattle.sd_types.specs.declared.works.Work.{Work}
 use Rattle.sd_state.specs.declared.states.State.{State}
 use Rattle.sd_state.specs.Opening.{opening}
 use Rattle.sd_machine.specs.Events.{after, next}
-use Rattle.sd_machine.specs.Runs.{IsRun, final, round, serial_hints}
+use Rattle.sd_machine.specs.Runs.{IsRun, final, round, serial_hints, IsFresh}
 use Rattle.sd_encoding.specs.Order.{IsSameOrder, KeysFit}
-use Rattle.sd_search.specs.Closed.{IsFresh}
 
 -- from x the turn of processor c leads to y, up to the order of keys
 pub record IsTurn (w : Work) (x : State) (c : CpuId) (y : State) : Type 0 where

@@ -7,12 +7,11 @@ use Rattle.std.proofs.lemmas.Bool.Decides.{nat_tests}
 use Rattle.std.proofs.lemmas.List.{get_or_past}
 use Rattle.std.proofs.lemmas.List.Sums.{prefix_len_passes}
 use Rattle.std.proofs.lemmas.List.Quantifiers.{position-Some}
-use Rattle.sd_types.specs.Priorities.{eff}
 use Rattle.sd_state.specs.declared.states.Place.{Place}
 use Rattle.sd_state.specs.declared.states.Place.TheVariants.{Running}
 use Rattle.sd_state.specs.declared.states.ThreadState.{ThreadState}
 use Rattle.sd_state.specs.declared.states.State.{State}
-use Rattle.sd_state.specs.States.{thread_of, cpu_of, no_thread, is_running, is_queued, is_ready, key_of}
+use Rattle.sd_state.specs.States.{thread_of, cpu_of, no_thread, is_running, is_queued, is_ready, key_of, eff_of}
 use Rattle.sd_state.specs.Best.{running, best_ready, best_by, beats, goes_before, queue_rank}
 use Rattle.sd_state.proofs.BestLemmas.{IsOrder, IsBestBelow, goes_ahead_by, best_taken, best_kept, best_by_is}
 use Rattle.sd_state.proofs.OrderLemmas.{beats_order}
@@ -24,9 +23,6 @@ Runs s c t = running c s.threads ≡ Some t
 
 abbrev pub places : State → ℕ → Place
 places s t = (thread_of s t).place
-
-abbrev pub priorities : State → ℕ → ℕ
-priorities s t = eff (thread_of s t).body
 
 abbrev pub marks : State → ℕ → Bool
 marks s c = is_marked (cpu_of s c)
@@ -79,10 +75,10 @@ module _ (s : State) (c p : ℕ) where
   none_ready e u ready =
       false≢true (sym (best_is (λ (x : ThreadState). is_ready c p x.place) beats no_thread beats_order s.threads None e u (ready_inside u ready)) ∙ ready)
 
-  pub best_greatest : (b u : ℕ) → best_ready c p s.threads ≡ Some b → is_ready c p (places s u) ≡ true → priorities s u ≤ priorities s b
+  pub best_greatest : (b u : ℕ) → best_ready c p s.threads ≡ Some b → is_ready c p (places s u) ≡ true → eff_of s u ≤ eff_of s b
   unfolding best_ready
   best_greatest b u e ready =
-      behind_no_better (priorities s u) (queue_rank (places s u)) (priorities s b) (queue_rank (places s b)) (key_of (places s u)) (key_of (places s b))
+      behind_no_better (eff_of s u) (queue_rank (places s u)) (eff_of s b) (queue_rank (places s b)) (key_of (places s u)) (key_of (places s b))
       ((best_is (λ (x : ThreadState). is_ready c p x.place) beats no_thread beats_order s.threads (Some b) e).unbeaten u (ready_inside u ready) ready)
 
 -- a thread that runs is on no queue

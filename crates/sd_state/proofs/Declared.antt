@@ -7,10 +7,10 @@ use Rattle.std.proofs.lemmas.List.Sums.{AllPass-from_list_all}
 use Rattle.std.proofs.lemmas.Option.{get_or_from_slice_get, slice_get_within}
 use Rattle.sd_types.specs.declared.works.ThreadDecl.{ThreadDecl}
 use Rattle.sd_types.specs.declared.works.Work.{Work}
-use Rattle.sd_types.specs.Works.{class_fits, thread_fits, declared_of}
+use Rattle.sd_types.specs.Works.{class_fits, thread_fits, declared_of, Declared}
 use Rattle.sd_state.specs.declared.states.Place.TheVariants.{Ended}
 use Rattle.sd_state.specs.declared.states.ThreadState.{ThreadState}
-use Rattle.sd_state.specs.States.{thread_of, no_thread, thread_set}
+use Rattle.sd_state.specs.States.{thread_of, no_thread, set_of}
 use Rattle.sd_state.specs.Opening.{opening, first_threads, first_thread}
 use Rattle.sd_state.proofs.OpeningLemmas.{length-first_threads}
 use Rattle.sd_state.proofs.Chosen.{places}
@@ -20,19 +20,23 @@ slice_get-past [] i e = omega arith
 slice_get-past (y ∷ ys) zero e = cc
 slice_get-past (y ∷ ys) (suc i) e = omega (arith, slice_get-past ys i e)
 
+-- what a workload declares, as far as scripts name it
+abbrev pub declared : Work → Declared
+declared w = declared_of w.cpus w.sets w.locks w.chans w.threads
+
 module _ (w : Work) (t : ℕ) where
   -- the thread that is declared with this number
   module _ (d : ThreadDecl) (is : slice_get w.threads t ≡ Some d) where
     pub decl_inside : t < length w.threads
     decl_inside = slice_get_within w.threads t d is
 
-    pub decl_set : thread_set w t ≡ d.set
+    pub decl_set : set_of w t ≡ d.set
     decl_set = ap (λ (o : Option ThreadDecl). unwrap_or (option_map (λ x. x.set) o) (record { 0 = 0 })) is
 
-    pub decl_fits : thread_fits (declared_of w.cpus w.sets w.locks w.chans w.threads) d ≡ true
+    pub decl_fits : thread_fits (declared w) d ≡ true
     decl_fits =
-        ap (thread_fits (declared_of w.cpus w.sets w.locks w.chans w.threads)) (sym (get_or_from_slice_get w.threads t d d is))
-        ∙ AllPass-from_list_all (thread_fits (declared_of w.cpus w.sets w.locks w.chans w.threads)) w.threads w.threads_fit t d decl_inside
+        ap (thread_fits (declared w)) (sym (get_or_from_slice_get w.threads t d d is))
+        ∙ AllPass-from_list_all (thread_fits (declared w)) w.threads w.threads_fit t d decl_inside
 
     pub decl_class_fits : class_fits d.class d.cpupri ≡ true
     decl_class_fits =

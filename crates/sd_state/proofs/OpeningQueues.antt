@@ -8,10 +8,10 @@ use Rattle.sd_types.specs.Priorities.{eff, base_of}
 use Rattle.sd_types.specs.Works.{class_fits}
 use Rattle.sd_state.specs.declared.states.Place.TheVariants.{Queued, RealTime}
 use Rattle.sd_state.specs.declared.states.ThreadState.{ThreadState}
-use Rattle.sd_state.specs.States.{thread_of}
+use Rattle.sd_state.specs.States.{thread_of, eff_of}
 use Rattle.sd_state.specs.Opening.{opening, first_thread, first_cpu, is_urgent, class_of}
 use Rattle.sd_state.specs.Invariants.{SuitsQueue}
-use Rattle.sd_state.proofs.Chosen.{places, priorities}
+use Rattle.sd_state.proofs.Chosen.{places}
 use Rattle.sd_state.proofs.ClassLemmas.{urgent_law}
 use Rattle.sd_state.proofs.Declared.{decl_class_fits, opening_at, opening_past}
 
@@ -24,9 +24,9 @@ first_suits w t d fits = by (is_urgent d) (urgent_law w d fits)
     by false e = inl (leb-false 100 (base_of (class_of w d)) (sym e))
 
 -- a thread of the initial state is queued as its priority asks
-pub opening_suits : (w : Work) (t : ℕ) → SuitsQueue (priorities (opening w) t) (thread_of (opening w) t).body.bound (places (opening w) t)
+pub opening_suits : (w : Work) (t : ℕ) → SuitsQueue (eff_of (opening w) t) (thread_of (opening w) t).body.bound (places (opening w) t)
 opening_suits w t = by (slice_get w.threads t) refl
   where
-    by : (o : Option ThreadDecl) → slice_get w.threads t ≡ o → SuitsQueue (priorities (opening w) t) (thread_of (opening w) t).body.bound (places (opening w) t)
-    by None e = subst (SuitsQueue (priorities (opening w) t) (thread_of (opening w) t).body.bound) (sym (opening_past w t e)) tt
+    by : (o : Option ThreadDecl) → slice_get w.threads t ≡ o → SuitsQueue (eff_of (opening w) t) (thread_of (opening w) t).body.bound (places (opening w) t)
+    by None e = subst (SuitsQueue (eff_of (opening w) t) (thread_of (opening w) t).body.bound) (sym (opening_past w t e)) tt
     by (Some d) e = subst (λ (x : ThreadState). SuitsQueue (eff x.body) x.body.bound x.place) (sym (opening_at w t d e)) (first_suits w (0 + t) d (decl_class_fits w t d e))

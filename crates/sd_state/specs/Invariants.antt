@@ -2,17 +2,15 @@
 -- Source: Solaris Internals (the dispatcher); the ranges of keys are this project's own.
 use Rattle.std.specs.Prelude.{◌≡◌, ℕ, ◌+◌, ◌<◌, Bool, true, false, ◌&&◌, ◌||◌, ◌==◌, nat_le, length, pos, neg_ℤ, ◌<ℤ◌, ◌≤ℤ◌, ◌≤◌, ◌⊎◌, Option, Some, None, ⊤}
 use Rattle.sd_types.specs.declared.numbers.CpuId.{CpuId}
-use Rattle.sd_types.specs.declared.numbers.Side.{Side}
-use Rattle.sd_types.specs.declared.numbers.Side.TheVariants.{Writer, Reader}
 use Rattle.sd_types.specs.declared.works.ThreadDecl.{ThreadDecl}
 use Rattle.sd_types.specs.declared.works.Work.{Work}
-use Rattle.sd_types.specs.Priorities.{base_of, eff}
+use Rattle.sd_types.specs.Priorities.{base_of, eff, real_time_priority}
 use Rattle.sd_types.specs.Works.{class_fits}
 use Rattle.sd_state.specs.declared.states.Place.{Place}
 use Rattle.sd_state.specs.declared.states.Place.TheVariants.{Running, Queued, RealTime, Waiting, Asleep, Napping, Ended}
 use Rattle.sd_state.specs.declared.states.CpuState.{CpuState}
 use Rattle.sd_state.specs.declared.states.State.{State}
-use Rattle.sd_state.specs.States.{thread_of, cpu_of, key_of, is_running, is_queued, thread_set}
+use Rattle.sd_state.specs.States.{thread_of, cpu_of, key_of, is_running, is_queued, set_of, same_side}
 use Rattle.sd_state.specs.Opening.{class_of, is_urgent}
 
 -- at most one thread runs on each processor
@@ -28,12 +26,6 @@ has_key (RealTime p k) = true
 has_key (Waiting l side k) = true
 has_key (Asleep ch k) = true
 has_key _ = false
-
-abbrev pub same_side : Side → Side → Bool
-same_side Writer Writer = true
-same_side Writer Reader = false
-same_side Reader Writer = false
-same_side Reader Reader = true
 
 -- two threads in these places are in one queue: the queue of a processor, the real-time queue of a partition,
 -- the waiters of a lock on one side, or the sleepers of a channel
@@ -70,16 +62,16 @@ pub record MarksStand (s : State) : Type 0 where
 
 -- a thread that runs, or is on a queue, does so in its own set
 abbrev pub IsInItsSet : Work → State → ℕ → Place → Type 0
-IsInItsSet w s t (Running c) = (cpu_of s c.0).set ≡ thread_set w t
-IsInItsSet w s t (Queued c k) = (cpu_of s c.0).set ≡ thread_set w t
-IsInItsSet w s t (RealTime p k) = p ≡ thread_set w t
+IsInItsSet w s t (Running c) = (cpu_of s c.0).set ≡ set_of w t
+IsInItsSet w s t (Queued c k) = (cpu_of s c.0).set ≡ set_of w t
+IsInItsSet w s t (RealTime p k) = p ≡ set_of w t
 IsInItsSet w s t _ = ⊤
 
 -- of priority p and bound to a processor or to none, a thread on a real-time queue has at least priority 100 and is not
 -- bound, and one on a processor's own queue has a smaller one, or is bound to that processor
 abbrev pub SuitsQueue : ℕ → Option CpuId → Place → Type 0
-SuitsQueue p bound (Queued c k) = (p < 100) ⊎ (bound ≡ Some c)
-SuitsQueue p bound (RealTime q k) = (100 ≤ p) × (bound ≡ None)
+SuitsQueue p bound (Queued c k) = (p < real_time_priority) ⊎ (bound ≡ Some c)
+SuitsQueue p bound (RealTime q k) = (real_time_priority ≤ p) × (bound ≡ None)
 SuitsQueue p bound _ = ⊤
 
 -- the place is one of a processor, a set, a lock or a channel of the workload
@@ -99,4 +91,4 @@ pub record PlacesAreThere (w : Work) (s : State) : Type 0 where
 
 -- the threads that stand on real-time queues in the initial state are those of priority 100 or more
 abbrev pub UrgentThreads : Type 0
-UrgentThreads = (w : Work) (d : ThreadDecl) → class_fits d.class d.cpupri ≡ true → is_urgent d ≡ nat_le 100 (base_of (class_of w d))
+UrgentThreads = (w : Work) (d : ThreadDecl) → class_fits d.class d.cpupri ≡ true → is_urgent d ≡ nat_le real_time_priority (base_of (class_of w d))

@@ -1,11 +1,15 @@
 -- Reading and changing a state. A number that is out of range reads a thread that has ended and a processor that
 -- is idle, and changes nothing.
-use Rattle.std.specs.Prelude.{◌≡◌, ℕ, Bool, false, ◌||◌, [], ◌==◌, None, ℤ, pos, option_map, unwrap_or, slice_get, slice_index_or, slice_set}
+use Rattle.std.specs.Prelude.{◌≡◌, ℕ, Bool, false, ◌||◌, [], ◌==◌, None, ℤ, pos, option_map, unwrap_or, slice_get, slice_index_or, slice_set, true, List}
+use Rattle.std.specs.List.{range_with_len}
 use Rattle.sd_types.specs.declared.numbers.SetId.{SetId}
+use Rattle.sd_types.specs.declared.numbers.Side.{Side}
+use Rattle.sd_types.specs.declared.numbers.Side.TheVariants.{Writer, Reader}
 use Rattle.sd_types.specs.declared.bodies.ThreadBody.{ThreadBody}
 use Rattle.sd_types.specs.declared.classes.ClassState.TheVariants.{Sys}
 use Rattle.sd_types.specs.declared.events.Duty.TheVariants.{Nothing}
 use Rattle.sd_types.specs.declared.works.Work.{Work}
+use Rattle.sd_types.specs.Priorities.{eff}
 use Rattle.sd_state.specs.declared.states.Place.{Place}
 use Rattle.sd_state.specs.declared.states.Place.TheVariants.{Running, Queued, RealTime, Waiting, Asleep, Ended}
 use Rattle.sd_state.specs.declared.states.ThreadState.{ThreadState}
@@ -38,11 +42,21 @@ thread_of s t = slice_index_or s.threads t no_thread
 abbrev pub cpu_of : State → ℕ → CpuState
 cpu_of s c = slice_index_or s.cpus c no_cpu
 
+-- the effective priority of a thread
+abbrev pub eff_of : State → ℕ → ℕ
+eff_of s t = eff (thread_of s t).body
+
 abbrev pub with_thread : State → ℕ → ThreadState → State
 with_thread s t x = record s { threads = slice_set s.threads t x }
 
 abbrev pub with_cpu : State → ℕ → CpuState → State
 with_cpu s c x = record s { cpus = slice_set s.cpus c x }
+
+abbrev pub same_side : Side → Side → Bool
+same_side Writer Writer = true
+same_side Writer Reader = false
+same_side Reader Writer = false
+same_side Reader Reader = true
 
 -- the key of a place, 0 where it has none
 abbrev pub key_of : Place → ℤ
@@ -68,6 +82,9 @@ is_real_time p _ = false
 abbrev pub is_ready : ℕ → ℕ → Place → Bool
 is_ready c p place = is_queued c place || is_real_time p place
 
--- the set of a thread, as its workload declares it
-abbrev pub thread_set : Work → ℕ → SetId
-thread_set w t = unwrap_or (option_map (λ d. d.set) (slice_get w.threads t)) (record { 0 = 0 })
+-- the partition of a thread, which its declaration names
+abbrev pub set_of : Work → ℕ → SetId
+set_of w t = unwrap_or (option_map (λ d. d.set) (slice_get w.threads t)) (record { 0 = 0 })
+
+abbrev pub thread_numbers : Work → List ℕ
+thread_numbers w = range_with_len 0 (length w.threads)

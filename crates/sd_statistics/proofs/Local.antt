@@ -21,12 +21,12 @@ use Rattle.sd_types.specs.Priorities.{eff, eff_as}
 use Rattle.sd_state.specs.declared.states.Place.{Place}
 use Rattle.sd_state.specs.declared.states.Place.TheVariants.{Running, Queued, RealTime}
 use Rattle.sd_state.specs.declared.states.State.{State}
-use Rattle.sd_state.specs.States.{thread_of, cpu_of, is_running, is_queued, is_ready}
+use Rattle.sd_state.specs.States.{thread_of, cpu_of, is_running, is_queued, is_ready, set_of, eff_of}
 use Rattle.sd_machine.specs.Bodies.{aged_class}
 use Rattle.sd_machine.specs.Changes.{back_key, key_at, place_put, queue_place}
 use Rattle.sd_machine.specs.Events.{after}
 use Rattle.sd_machine.specs.SetChanges.{bound_put, unbound_put, bind_put, bind_to}
-use Rattle.sd_machine.specs.Threads.{set_of, eff_of, runner, next_to_age, is_ts, is_asleep, is_asleep_below, is_due, is_waiting_at}
+use Rattle.sd_machine.specs.Threads.{runner, next_to_age, is_ts, is_asleep, is_asleep_below, is_due, is_waiting_at}
 use Rattle.sd_machine.proofs.Moves.{put_cases}
 use Rattle.sd_frames.specs.Causes.{WakesBest, RousesBest, IsCause}
 use Rattle.sd_frames.specs.Moves.{Step, put_step_if, woken_step, reordered_step, aged_step, prio_step, bind_step, step_of}

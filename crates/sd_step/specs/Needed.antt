@@ -7,14 +7,14 @@ use Rattle.sd_types.specs.declared.scripts.Op.{Op}
 use Rattle.sd_types.specs.declared.scripts.Op.TheVariants as op
 use Rattle.sd_types.specs.declared.works.Work.{Work}
 use Rattle.sd_state.specs.declared.states.State.{State}
-use Rattle.sd_state.specs.States.{thread_of, cpu_of}
+use Rattle.sd_state.specs.States.{thread_of, cpu_of, set_of}
 use Rattle.sd_state.specs.Operations.{op_of}
 use Rattle.sd_machine.specs.declared.plans.Plan.{Plan}
 use Rattle.sd_machine.specs.declared.plans.Plan.TheVariants.{Make, Place, Search}
 use Rattle.sd_machine.specs.Choosing.{victim_for}
 use Rattle.sd_machine.specs.Events.{placed_thread}
 use Rattle.sd_machine.specs.Plans.{ageing_plan, duty_plan, first_of, nap_plan, plan}
-use Rattle.sd_machine.specs.Threads.{lock_of, runner, set_of, thread_id}
+use Rattle.sd_machine.specs.Threads.{lock_of, runner, thread_id}
 use Rattle.sd_dispatcher.specs.Touched.{victim_parts}
 use Rattle.sd_step.specs.Tasks.{task_parts}
 use Rattle.sd_store.specs.declared.parts.Part.{Part}

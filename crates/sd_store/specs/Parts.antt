@@ -14,9 +14,8 @@ use Rattle.sd_state.specs.declared.states.CpuState.{CpuState}
 use Rattle.sd_state.specs.declared.states.LockState.{LockState}
 use Rattle.sd_state.specs.declared.states.LockState.TheVariants.{Owned}
 use Rattle.sd_state.specs.declared.states.State.{State}
-use Rattle.sd_state.specs.States.{cpu_of}
+use Rattle.sd_state.specs.States.{cpu_of, set_of}
 use Rattle.sd_machine.specs.Changes.{cpu_put}
-use Rattle.sd_machine.specs.Threads.{set_of}
 use Rattle.sd_store.specs.declared.parts.CpuView.{CpuView}
 use Rattle.sd_store.specs.declared.parts.Part.{Part}
 use Rattle.sd_store.specs.declared.parts.Part.TheVariants.{Home, Thread, Actor}

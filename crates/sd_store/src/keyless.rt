@@ -5,7 +5,7 @@ ghost use Rattle.std.specs.Prelude.{◌≡◌, ◌<◌, ◌^◌};
 ghost use Rattle.sd_types.specs.declared.events.Duty.TheVariants.{Rouse};
 ghost use Rattle.sd_machine.specs.Changes.{back_key, key_at, place_put};
 ghost use Rattle.sd_machine.specs.Sleeping.{rouse_key};
-ghost use Rattle.sd_machine.specs.Threads.{set_of};
+ghost use Rattle.sd_state.specs.States.{set_of};
 ghost use Rattle.sd_store.specs.Keyless.{duty_of, place_by, task_of};
 
 use crate::{Chore, Destination, Task};

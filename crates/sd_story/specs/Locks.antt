@@ -1,6 +1,6 @@
 -- Sentences on locks, and on the walk by which a waiter's priority passes to the owner. Each is said of the state before the entry.
 -- Source: Solaris Internals (adaptive mutexes, rwlocks, turnstiles, priority inheritance); the sentences are this project's own.
-use Rattle.std.specs.Prelude.{ℕ, List, [], ◌++◌, codes, nat_lt, Option, Some, None, if◌then◌else◌}
+use Rattle.std.specs.Prelude.{ℕ, List, [], ◌++◌, codes, nat_lt, Option, None, if◌then◌else◌}
 use Rattle.sd_types.specs.declared.numbers.CpuId.{CpuId}
 use Rattle.sd_types.specs.declared.numbers.ThreadId.{ThreadId}
 use Rattle.sd_types.specs.declared.numbers.LockId.{LockId}
@@ -9,9 +9,9 @@ use Rattle.sd_types.specs.declared.works.Work.{Work}
 use Rattle.sd_state.specs.declared.states.LockState.{LockState}
 use Rattle.sd_state.specs.declared.states.LockState.TheVariants.{Free, Owned, ReadHeld, Passing}
 use Rattle.sd_state.specs.declared.states.State.{State}
-use Rattle.sd_state.specs.States.{thread_of}
+use Rattle.sd_state.specs.States.{thread_of, eff_of}
 use Rattle.sd_machine.specs.Bodies.{eff_as_with}
-use Rattle.sd_machine.specs.Threads.{eff_of, greater, greatest_waiting, has_waiters, lock_of}
+use Rattle.sd_machine.specs.Threads.{greater, greatest_waiting, has_waiters, lock_of}
 use Rattle.sd_story.specs.Words.{thread_then, lock_then, cpu_then, number_then, requeued_words, runnable_words, change_words}
 
 unfoldable pub enter_sentence : Work → ThreadId → LockId → List ℕ

@@ -15,7 +15,7 @@ use Rattle.sd_types.specs.declared.events.BindAnswer.{BindAnswer}
 use Rattle.sd_types.specs.declared.events.BindAnswer.TheVariants as bind
 use Rattle.sd_types.specs.declared.works.Work.{Work}
 use Rattle.sd_state.specs.declared.states.State.{State}
-use Rattle.sd_machine.specs.Threads.{eff_of}
+use Rattle.sd_state.specs.States.{eff_of}
 use Rattle.sd_story.specs.Words.{thread_then, cpu_then, set_words, requeued_words, runnable_words, change_words}
 
 unfoldable pub age_sentence : Work → State → ThreadId → ℕ → List ℕ

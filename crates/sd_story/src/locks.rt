@@ -3,7 +3,8 @@
 //! Source: Solaris Internals (adaptive mutexes, rwlocks, turnstiles, priority inheritance).
 
 ghost use Rattle.std.specs.Prelude.{◌≡◌, ◌++◌, [], OnOk, codes};
-ghost use Rattle.sd_machine.specs.Threads.{eff_of, greater, lock_of};
+ghost use Rattle.sd_state.specs.States.{eff_of};
+ghost use Rattle.sd_machine.specs.Threads.{greater, lock_of};
 ghost use Rattle.sd_types.specs.Priorities.{greatest_willed};
 ghost use Rattle.sd_types.specs.Willed.{without_number};
 ghost use Rattle.sd_story.specs.Locks.{block_sentence, block_words, end_sentence, end_words, enter_sentence, exit_sentence, fall_words, grant_sentence, left_priority, passed_sentence, read_sentence, unblock_sentence, waiters_words, waiting_with, will_sentence, write_sentence};

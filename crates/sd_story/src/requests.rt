@@ -3,7 +3,7 @@
 //! Source: priocntl(2), psrset(1M), pbind(1M).
 
 ghost use Rattle.std.specs.Prelude.{◌≡◌, ◌++◌, [], OnOk, codes};
-ghost use Rattle.sd_machine.specs.Threads.{eff_of};
+ghost use Rattle.sd_state.specs.States.{eff_of};
 ghost use Rattle.sd_story.specs.Requests.{age_sentence, assign_sentence, assign_words, bind_sentence, bind_words, bound_sentence, denied_words, joined_sentence, move_sentence, prio_sentence, prio_words};
 ghost use Rattle.sd_story.specs.Words.{change_words, cpu_then, requeued_words, thread_then};
 

@@ -19,12 +19,11 @@ use Rattle.sd_machine.proofs.Moves.{put_cases}
 use Rattle.sd_state.specs.declared.states.Place.{Place}
 use Rattle.sd_state.specs.declared.states.Place.TheVariants as place
 use Rattle.sd_state.specs.declared.states.State.{State}
-use Rattle.sd_state.specs.States.{thread_of}
+use Rattle.sd_state.specs.States.{thread_of, eff_of}
 use Rattle.sd_machine.specs.Bodies.{aged_class}
 use Rattle.sd_machine.specs.Changes.{back_key}
 use Rattle.sd_machine.specs.Events.{after, next}
 use Rattle.sd_machine.specs.Runs.{IsReached, IsRun}
-use Rattle.sd_machine.specs.Threads.{eff_of}
 use Rattle.sd_frames.specs.Moves.{Step, aged_step, bind_step, prio_step, put_step_if, reordered_step, step_of}
 use Rattle.sd_invariants.proofs.Movers.{mover_there}
 use Rattle.sd_frames.proofs.PlaceTable.{Stepped, after_steps, step_needs}

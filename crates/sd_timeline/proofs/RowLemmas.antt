@@ -14,7 +14,8 @@ use Rattle.sd_basics.proofs.Ranges.{range_more}
 use Rattle.sd_types.specs.declared.works.Work.{Work}
 use Rattle.sd_stretches.specs.declared.histories.History.{History}
 use Rattle.sd_timeline.specs.declared.frames.Frame.{Frame}
-use Rattle.sd_timeline.specs.Rows.{ActingThreadsComeFirst, AllRowsAreOwn, acts, all_threads, ordered, rows_of}
+use Rattle.sd_state.specs.States.{thread_numbers}
+use Rattle.sd_timeline.specs.Rows.{ActingThreadsComeFirst, AllRowsAreOwn, acts, ordered, rows_of}
 
 -- ---- numbers in a row differ
 
@@ -81,7 +82,7 @@ threads : (w : Work) (f : Frame) (h : History) → All (λ t. t < length w.threa
 unfolding rows_of
 threads w f h =
     let n = length w.threads in
-    let all = all_threads w in
+    let all = thread_numbers w in
     let own = ordered (acts w f h) all in
     either_list (All (λ t. t < n)) (leb n f.threads) all (take f.threads own) (below n)
     (All-take (λ t. t < n) f.threads own (All-permutation (λ t. t < n) all own (permutes (acts w f h) all) (below n)))
@@ -90,7 +91,7 @@ distinct : (w : Work) (f : Frame) (h : History) → IsDistinct eqb (rows_of w f 
 unfolding rows_of
 distinct w f h =
     let n = length w.threads in
-    let all = all_threads w in
+    let all = thread_numbers w in
     let own = ordered (acts w f h) all in
     either_list (IsDistinct eqb) (leb n f.threads) all (take f.threads own) (distinct_range 0 n)
     (distinct_take f.threads own (IsDistinct-IsPermutation eqb same_way all own (permutes (acts w f h) all) (distinct_range 0 n)))
@@ -103,7 +104,7 @@ room : (w : Work) (f : Frame) (h : History) → length (rows_of w f h) ≡ min f
 unfolding rows_of
 room w f h =
     let n = length w.threads in
-    let all = all_threads w in
+    let all = thread_numbers w in
     let own = ordered (acts w f h) all in
     let many : length all ≡ n = length-range_with_len 0 n in
     room_by (leb n f.threads) n f.threads all own refl many (length_permutation all own (permutes (acts w f h) all) ∙ many)
@@ -172,7 +173,7 @@ pub acting_first : ActingThreadsComeFirst
 unfolding rows_of
 acting_first w f h t u inside bad good row =
     let n = length w.threads in
-    let all = all_threads w in
+    let all = thread_numbers w in
     let p = acts w f h in
     first_if (leb n f.threads) all (take f.threads (ordered p all)) t u (inside_all n u inside)
     (λ r. first_by p f.threads all t u bad good (inside_all n u inside) r (room_for f.threads (length (filter p all)))) row

@@ -1,24 +1,20 @@
 -- Which threads have a row, and in which order.
 -- Source: this project's own.
 use Rattle.std.specs.Prelude.{◌≡◌, ℕ, Bool, true, false, not, ◌&&◌, ◌||◌, ◌==◌, ◌<◌, nat_le, nat_lt, min, List, ◌++◌, length, filter, take, if◌then◌else◌}
-use Rattle.std.specs.List.{All, Contains, IsDistinct, list_any, range_with_len}
+use Rattle.std.specs.List.{All, Contains, IsDistinct, list_any}
 use Rattle.sd_types.specs.declared.works.Work.{Work}
-use Rattle.sd_stretches.specs.declared.sights.Doing.{Doing}
-use Rattle.sd_stretches.specs.declared.sights.Doing.TheVariants.{Running}
+use Rattle.sd_state.specs.States.{thread_numbers}
 use Rattle.sd_stretches.specs.declared.histories.History.{History}
 use Rattle.sd_stretches.specs.declared.rows.Stretch.{Stretch}
 use Rattle.sd_stretches.specs.Rows.{stretches}
+use Rattle.sd_stretches.specs.Sights.{runs_somewhere}
 use Rattle.sd_timeline.specs.declared.frames.Frame.{Frame}
 use Rattle.sd_timeline.specs.Folds.{folds, scale_of}
 use Rattle.sd_timeline.specs.Layouts.{Layout}
 
-abbrev pub has_run : Doing → Bool
-has_run (Running c) = true
-has_run _ = false
-
 -- the thread runs in the ticks that are drawn, or comes there from doing one thing to doing another
 abbrev pub runs_in : Frame → Stretch → Bool
-runs_in f x = has_run x.doing && (nat_le x.from f.to && nat_le f.from x.to)
+runs_in f x = runs_somewhere x.doing && (nat_le x.from f.to && nat_le f.from x.to)
 
 abbrev pub begins_in : Frame → Stretch → Bool
 begins_in f x = nat_lt 0 x.first && (nat_le f.from x.from && nat_le x.from f.to)
@@ -30,9 +26,6 @@ is_deed f x = runs_in f x || begins_in f x
 abbrev pub acts : Work → Frame → History → ℕ → Bool
 acts w f h t = list_any (is_deed f) (stretches t h.turns.items h.entries w.limit)
 
-abbrev pub all_threads : Work → List ℕ
-all_threads w = range_with_len 0 (length w.threads)
-
 -- those that are to stand first, and behind them the others, each in their order
 abbrev pub ordered : (ℕ → Bool) → List ℕ → List ℕ
 ordered first ts = filter first ts ++ filter (λ t. not (first t)) ts
@@ -41,7 +34,7 @@ ordered first ts = filter first ts ++ filter (λ t. not (first t)) ts
 -- behind them the others, as far as there is room.
 unfoldable pub rows_of : Work → Frame → History → List ℕ
 rows_of w f h =
-    if nat_le (length w.threads) f.threads then all_threads w else take f.threads (ordered (acts w f h) (all_threads w))
+    if nat_le (length w.threads) f.threads then thread_numbers w else take f.threads (ordered (acts w f h) (thread_numbers w))
 
 -- what is drawn of a run
 abbrev pub layout_of : Work → Frame → History → Layout

@@ -2,27 +2,21 @@
 
 ghost use Rattle.std.specs.Prelude.{◌≡◌, ◌++◌, ◌∷◌, [], IfOk, OnOk, filter, length, not, if◌then◌else◌};
 ghost use Rattle.std.specs.List.{list_any, range_with_len};
-ghost use Rattle.sd_timeline.specs.Rows.{acts, all_threads, begins_in, has_run, is_deed, layout_of, ordered, rows_of, runs_in};
+ghost use Rattle.sd_state.specs.States.{thread_numbers};
+ghost use Rattle.sd_timeline.specs.Rows.{acts, begins_in, is_deed, layout_of, ordered, rows_of, runs_in};
 
 use crate::folds::{folds, scale_of};
 use crate::frames::Frame;
 use crate::layouts::Layout;
-use sd_stretches::{Doing, History, Stretch, stretches};
+use sd_stretches::{History, Stretch, runs_somewhere, stretches};
 use sd_types::Work;
 use std::alloc::{AllocError, Global};
-
-/// It runs.
-pub(crate) fn has_run(doing: Doing) -> bool
-    ensures { result ≡ has_run doing }
-{
-    matches!(doing, Doing::Running(_))
-}
 
 // The thread runs in the ticks that are drawn.
 fn runs_in(frame: Frame, x: &Stretch) -> bool
     ensures { result ≡ runs_in frame x.now }
 {
-    has_run(x.doing) && x.from <= frame.to && frame.from <= x.to
+    runs_somewhere(x.doing) && x.from <= frame.to && frame.from <= x.to
 }
 
 // It comes there from doing one thing to doing another.
@@ -83,7 +77,7 @@ fn acting_first(
     frame: Frame,
     history: &History,
 ) -> Result<Vec<usize>, AllocError>
-    ensures { IfOk result (λ v. v.items ≡ ordered (acts work.now frame history.now) (all_threads work.now)) }
+    ensures { IfOk result (λ v. v.items ≡ ordered (acts work.now frame history.now) (thread_numbers work.now)) }
 {
     let mut first = Vec::new(alloc);
     let mut others = Vec::new(alloc);
@@ -95,8 +89,8 @@ fn acting_first(
     Ok(first)
 }
 
-fn all_threads(alloc: Global, work: &Work) -> Result<Vec<usize>, AllocError>
-    ensures { IfOk result (λ v. v.items ≡ all_threads work.now) }
+fn thread_numbers(alloc: Global, work: &Work) -> Result<Vec<usize>, AllocError>
+    ensures { IfOk result (λ v. v.items ≡ thread_numbers work.now) }
 {
     let mut threads = Vec::new(alloc);
     for t in 0..work.threads.items().len() {
@@ -117,7 +111,7 @@ fn rows_of(
 {
     let room = usize::from(frame.threads);
     if work.threads.items().len() <= room {
-        return all_threads(alloc, work);
+        return thread_numbers(alloc, work);
     }
     let mut rows = acting_first(alloc, work, frame, history)?;
     rows.truncate(room);

@@ -14,7 +14,6 @@ use Rattle.sd_types.specs.declared.numbers.HomeId.TheVariants as id
 use Rattle.sd_types.specs.declared.numbers.LockId.{LockId}
 use Rattle.sd_types.specs.declared.numbers.SetId.{SetId}
 use Rattle.sd_types.specs.declared.numbers.Side.{Side}
-use Rattle.sd_types.specs.declared.numbers.Side.TheVariants.{Writer, Reader}
 use Rattle.sd_types.specs.declared.works.Work.{Work}
 use Rattle.sd_types.specs.Willed.{IsSound}
 use Rattle.sd_record.specs.Records.{ThreadRecord}
@@ -22,11 +21,10 @@ use Rattle.sd_state.specs.declared.states.Place.{Place}
 use Rattle.sd_state.specs.declared.states.Place.TheVariants.{Running, Queued, RealTime, Waiting, Asleep, Napping, Ended}
 use Rattle.sd_state.specs.declared.states.State.{State}
 use Rattle.sd_state.specs.declared.states.ThreadState.{ThreadState}
-use Rattle.sd_state.specs.States.{is_running, key_of, no_thread, thread_of}
+use Rattle.sd_state.specs.States.{is_running, key_of, no_thread, thread_of, same_side}
 use Rattle.sd_machine.specs.Runs.{IsReached}
 use Rattle.sd_machine.specs.Shapes.{FitsFully}
-use Rattle.sd_machine.specs.Threads.{same_side as same_waiting}
-use Rattle.sd_state.specs.Invariants.{IsThere, KeysDiffer, KeysWithin, OneRuns, has_key, same_queue, same_side}
+use Rattle.sd_state.specs.Invariants.{IsThere, KeysDiffer, KeysWithin, OneRuns, has_key, same_queue}
 use Rattle.sd_invariants.proofs.FineLemmas.{sound_law}
 use Rattle.sd_invariants.proofs.KeyLemmas.{keys_differ_law, keys_within_law}
 use Rattle.sd_invariants.proofs.Ready.{kept_reached, reached_ready}
@@ -111,12 +109,6 @@ of_below t s u y e = by (cases_lt u t)
 
 -- Two threads in one list with keys are in one queue.
 
-sides : (a b : Side) → same_waiting a b ≡ true → same_side a b ≡ true
-sides Writer Writer e = refl
-sides Reader Reader e = refl
-sides Writer Reader e = absurd (false≢true e)
-sides Reader Writer e = absurd (false≢true e)
-
 turned : (a b : ℕ) → (a == b) ≡ true → (b == a) ≡ true
 turned a b e = let same : a ≡ b = eqb-true a b e in let back : (b == a) ≡ true = grind (arith, nat_tests) in back
 
@@ -133,7 +125,7 @@ urgent_with p k last _ e = absurd (false≢true e)
 
 waits_with : (l : LockId) (side : Side) (k : ℤ) (last : CpuId) (q : Place) → stands_at (Waits l side) last q ≡ true → InQueue (Waiting l side k) q
 waits_with l side k last (Waiting m other j) e =
-    (and_from (l.0 == m.0) (same_side side other) (turned m.0 l.0 (and_left (m.0 == l.0) (same_waiting side other) e)) (sides side other (and_right (m.0 == l.0) (same_waiting side other) e)), refl)
+    (and_from (l.0 == m.0) (same_side side other) (turned m.0 l.0 (and_left (m.0 == l.0) (same_side side other) e)) (and_right (m.0 == l.0) (same_side side other) e), refl)
 waits_with l side k last _ e = absurd (false≢true e)
 
 sleeps_with : (ch : ChanId) (k : ℤ) (last : CpuId) (q : Place) → stands_at (Sleeps ch) last q ≡ true → InQueue (Asleep ch k) q

@@ -19,9 +19,8 @@ use Rattle.sd_machine.proofs.Moves.{put_cases}
 use Rattle.sd_state.specs.declared.states.Place.{Place}
 use Rattle.sd_state.specs.declared.states.Place.TheVariants.{Running, Queued, RealTime, Napping}
 use Rattle.sd_state.specs.declared.states.State.{State}
-use Rattle.sd_state.specs.States.{no_thread, thread_of}
+use Rattle.sd_state.specs.States.{no_thread, thread_of, set_of, eff_of}
 use Rattle.sd_state.specs.Opening.{is_urgent, first_cpu, first_thread, first_threads, opening}
-use Rattle.sd_machine.specs.Threads.{eff_of, set_of}
 use Rattle.sd_machine.specs.Bodies.{aged_class}
 use Rattle.sd_machine.specs.Changes.{back_key, key_at, place_put, queue_place}
 use Rattle.sd_machine.specs.Events.{after}

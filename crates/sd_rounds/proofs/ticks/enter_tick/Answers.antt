@@ -4,11 +4,10 @@ use Rattle.sd_types.specs.declared.events.Duty.TheVariants.{Nothing}
 use Rattle.sd_types.specs.declared.events.Event.TheVariants.{Tick as TickEvent}
 use Rattle.sd_state.specs.States.{cpu_of}
 use Rattle.sd_machine.specs.Dispatching.{ticked}
-use Rattle.sd_machine.specs.Runs.{IsReached}
+use Rattle.sd_machine.specs.Runs.{IsReached, final_state}
 use Rattle.sd_hand.specs.Acting.{IsShown}
 use Rattle.sd_hand.specs.Later.{shown_later}
 use Rattle.sd_invariants.proofs.Range.{needs_reached}
-use Rattle.sd_world.specs.Entries.{led_to}
 use Rattle.sd_rounds.proofs.TickLemmas.{tick_is}
 use Rattle.sd_rounds.proofs.ticks.enter_tick.Goals as goal
 
@@ -18,7 +17,7 @@ unreachable-requires c =
     let can = c.requires.can in
     let es = c.args.entries.now.items in
     let x = c.args.acting.now in
-    let s = led_to w es in
+    let s = final_state w es in
     let reached : IsReached w (length es) s = record { entries = es; run = can.run; many = refl; ends = refl } in
     let needs = needs_reached w (length es) s x.actor.cpu None (TickEvent c.args.t) reached can.next in
     let lack = c.in-Err.ensures.lack in
@@ -31,7 +30,7 @@ returns c =
     let es = c.args.entries.now.items in
     let x = c.args.acting.now in
     let cpu = x.actor.cpu in
-    let s = led_to w es in
+    let s = final_state w es in
     let reached : IsReached w (length es) s = record { entries = es; run = can.run; many = refl; ends = refl } in
     let needs = needs_reached w (length es) s cpu None (TickEvent c.args.t) reached can.next in
     let duty : (cpu_of s cpu.0).duty ≡ Nothing = sym can.shown.duty ∙ c.requires.duty in

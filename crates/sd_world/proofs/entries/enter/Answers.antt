@@ -1,10 +1,9 @@
 use Rattle.std.proofs.Common.{◌≡◌, ◌+◌, length, refl, sym, ◌∙◌, subst}
 use Rattle.std.proofs.lemmas.Bool.{false≢true}
 use Rattle.sd_machine.specs.Events.{after}
-use Rattle.sd_machine.specs.Runs.{IsReached}
+use Rattle.sd_machine.specs.Runs.{IsReached, final_state}
 use Rattle.sd_hand.specs.Acting.{IsShown}
 use Rattle.sd_invariants.proofs.Range.{needs_reached}
-use Rattle.sd_world.specs.Entries.{led_to}
 use Rattle.sd_world.proofs.entries.enter.Goals as goal
 
 pub unreachable-requires : goal.unreachable-requires
@@ -13,7 +12,7 @@ unreachable-requires c =
     let can = c.requires.can in
     let es = c.args.entries.now.items in
     let x = c.args.acting.now in
-    let s = led_to w es in
+    let s = final_state w es in
     let e : length es ≡ c.len-number.result = sym c.len-number.ensures in
     let reached : IsReached w (length es) s = record { entries = es; run = can.run; many = refl; ends = refl } in
     let lack = c.in-Err.ensures.lack in
@@ -26,7 +25,7 @@ returns c =
     let es = c.args.entries.now.items in
     let x = c.args.acting.now in
     let cpu = x.actor.cpu in
-    let s = led_to w es in
+    let s = final_state w es in
     let e : length es ≡ c.len-number.result = sym c.len-number.ensures in
     let reached : IsReached w (length es) s = record { entries = es; run = can.run; many = refl; ends = refl } in
     let made = c.in-Ok.ensures.value s (subst (λ m. IsShown x m s) e can.shown) (needs_reached w (length es) s cpu c.args.hints c.args.event reached can.next) in
