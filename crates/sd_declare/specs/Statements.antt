@@ -12,7 +12,7 @@ use Rattle.sd_types.specs.declared.works.ChanKind.{ChanKind}
 use Rattle.sd_types.specs.declared.works.ChanKind.TheVariants as chan
 use Rattle.sd_types.specs.Partitions.{cpu_of_number}
 use Rattle.sd_types.specs.Works.{is_distinct, upri_fits}
-use Rattle.sd_types.specs.Limits.{most_objects, most_sets, most_threads}
+use Rattle.sd_types.specs.Limits.{greatest_limit, most_objects, most_processors, most_sets, most_threads}
 use Rattle.sd_lines.specs.declared.statements.TableClass.{TableClass}
 use Rattle.sd_lines.specs.declared.statements.TableClass.TheVariants as table
 use Rattle.sd_lines.specs.declared.threads.ThreadClass.{ThreadClass}
@@ -60,13 +60,13 @@ is_taken d cpus =
 -- The causes of each statement, each judged by itself; but whether a set takes processors that it may not take is
 -- judged where all its numbers are those of processors.
 abbrev pub cpus_causes : Declarations → ℕ → Causes
-cpus_causes d n = record no_causes { syntax = nat_lt 0 (length d.sets); twice = is_some d.cpus; range = not (nat_le 1 n && nat_le n 64) }
+cpus_causes d n = record no_causes { syntax = nat_lt 0 (length d.sets); twice = is_some d.cpus; range = not (nat_le 1 n && nat_le n most_processors) }
 
 abbrev pub hz_causes : Declarations → ℕ → Causes
 hz_causes d n = record no_causes { twice = is_some d.hz; range = not ((n == 100) || (n == 1000)) }
 
 abbrev pub limit_causes : Declarations → ℕ → Causes
-limit_causes d n = record no_causes { twice = is_some d.limit; range = not (nat_le 1 n && nat_le n 100000) }
+limit_causes d n = record no_causes { twice = is_some d.limit; range = not (nat_le 1 n && nat_le n greatest_limit) }
 
 abbrev pub set_causes : Declarations → Word → List ℕ → Causes
 set_causes d name cpus = record no_causes {

@@ -1,6 +1,7 @@
 //! What the lines so far declare.
 
 ghost use Rattle.std.specs.Prelude.{◌≡◌, ◌<◌, ◌≤◌, ◌^◌, length, map, sum_by, unwrap_or, option_map};
+ghost use Rattle.sd_types.specs.Limits.{most_objects, most_processors, most_sets, most_threads};
 
 use crate::scripted::Scripted;
 use sd_lines::NameIndex;
@@ -33,12 +34,12 @@ pub struct Declared {
     ghost fx_short: { unwrap_or (option_map (λ t. length t.items) fx) 0 < 2 ^ 31 },
     ghost rt_short: { unwrap_or (option_map (λ t. length t.items) rt) 0 < 2 ^ 31 },
     ghost some_cpu: { 1 ≤ unwrap_or cpus 1 },
-    ghost most_cpus: { unwrap_or cpus 1 ≤ 64 },
-    ghost most_sets: { length sets.items ≤ 8 },
-    ghost most_named: { sum_by (λ s. length s.1) sets.items ≤ 64 },
-    ghost most_locks: { length locks.items ≤ 256 },
-    ghost most_chans: { length chans.items ≤ 256 },
-    ghost most_threads: { length threads.items ≤ 2048 },
+    ghost most_cpus: { unwrap_or cpus 1 ≤ most_processors },
+    ghost most_sets: { length sets.items ≤ most_sets },
+    ghost most_named: { sum_by (λ s. length s.1) sets.items ≤ most_processors },
+    ghost most_locks: { length locks.items ≤ most_objects },
+    ghost most_chans: { length chans.items ≤ most_objects },
+    ghost most_threads: { length threads.items ≤ most_threads },
 }
 
 impl Declared {

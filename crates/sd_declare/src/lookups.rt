@@ -2,6 +2,7 @@
 
 ghost use Rattle.std.specs.Prelude.{◌≡◌, ◌+◌, ◌≤◌, ◌<◌, true, false, length, map, slice_get, position, IfSome, IfOk, IfErr, option_map};
 ghost use Rattle.sd_types.specs.Works.{same_bytes, is_mutex, is_rwlock, is_chan, is_sema};
+ghost use Rattle.sd_types.specs.Limits.{most_processors};
 ghost use Rattle.sd_lines.specs.Said.{word_of};
 ghost use Rattle.sd_declare.specs.Declarations.{lock_number, chan_number, set_place, thread_number, set_number, lock_kind, chan_kind, lock_id, chan_id, thread_id, set_id, is_lock_name, is_thread_name, is_set, cpu_count};
 ghost use Rattle.sd_declare.specs.Kept.{declarations};
@@ -16,7 +17,7 @@ use sd_types::{
 pub fn cpu_count(d: &Declared) -> u16
     ensures value { result ≡ cpu_count (declarations d.now) }
     ensures some { 1 ≤ result }
-    ensures most { result ≤ 64 }
+    ensures most { result ≤ most_processors }
 {
     d.cpus.unwrap_or(1)
 }

@@ -6,6 +6,7 @@ ghost use Rattle.sd_declare.specs.Causes.{least};
 ghost use Rattle.sd_declare.specs.Statements.{lock_causes, chan_causes, sema_causes, thread_causes, with_lock, with_chan, with_thread};
 ghost use Rattle.sd_declare.specs.Declarations.{is_chan_name, is_lock_name, is_thread_name};
 ghost use Rattle.sd_declare.specs.Kept.{declarations, thread_kept, IsRefusal};
+ghost use Rattle.sd_types.specs.Limits.{most_objects, most_threads};
 
 use crate::classes::{cpupri_of, is_class, parms_of};
 use crate::lookups::{chan_number, lock_number, set_of, thread_number};
@@ -17,7 +18,7 @@ use std::alloc::{AllocError, Global};
 // Declares a lock.
 fn put_lock(d: &mut Declared, name: Name, kind: LockKind) -> Result<(), AllocError>
     requires new { is_lock_name (declarations d.old) (word_of name) ≡ false }
-    requires room { length d.old.locks.items < 256 }
+    requires room { length d.old.locks.items < most_objects }
     ensures ok { OnOk result (declarations d.new ≡ with_lock (declarations d.old) kind (word_of name)) }
     ensures err { OnErr result (declarations d.new ≡ declarations d.old) }
 {
@@ -48,7 +49,7 @@ pub fn take_lock(d: &mut Declared, kind: LockKind, name: Name) -> Result<(), Ref
 // Declares a channel.
 fn put_chan(d: &mut Declared, name: Name, kind: ChanKind) -> Result<(), AllocError>
     requires new { is_chan_name (declarations d.old) (word_of name) ≡ false }
-    requires room { length d.old.chans.items < 256 }
+    requires room { length d.old.chans.items < most_objects }
     ensures ok { OnOk result (declarations d.new ≡ with_chan (declarations d.old) kind (word_of name)) }
     ensures err { OnErr result (declarations d.new ≡ declarations d.old) }
 {
@@ -107,7 +108,7 @@ fn no_script(alloc: Global) -> Script
 // Declares a thread.
 fn put_thread(d: &mut Declared, thread: ThreadDecl) -> Result<(), AllocError>
     requires new { is_thread_name (declarations d.old) (word_of thread.name) ≡ false }
-    requires room { length d.old.threads.items < 2048 }
+    requires room { length d.old.threads.items < most_threads }
     ensures ok { OnOk result (declarations d.new ≡ record (declarations d.old) { threads = (declarations d.old).threads ++ thread_kept thread ∷ [] }) }
     ensures err { OnErr result (declarations d.new ≡ declarations d.old) }
 {

@@ -15,7 +15,7 @@ use crate::lookups::{
 };
 use crate::{Declared, WorkCause};
 use sd_lines::{Operation, RequestLine};
-use sd_types::{Class, CpuId, Name, Op, Quantum, Request};
+use sd_types::{Class, CpuId, GREATEST_SPAN, Name, Op, Quantum, Request};
 
 // Ticks of a run or a nap: 1 to 100,000.
 fn span(n: u64) -> Result<u32, WorkCause>
@@ -23,7 +23,7 @@ fn span(n: u64) -> Result<u32, WorkCause>
     ensures err { IfErr result (λ cause. least (span_causes n) ≡ Some cause) }
     ensures value { IfOk result (λ ticks. ticks ≡ n) }
 {
-    if 1 <= n && n <= 100_000 {
+    if 1 <= n && n <= u64::from(GREATEST_SPAN) {
         Ok(n as u32)
     } else {
         Err(WorkCause::Range)

@@ -6,6 +6,7 @@ ghost use Rattle.std.specs.Prelude.{◌≡◌, ◌==◌, ◌+◌, ◌≤◌, ◌
 ghost use Rattle.std.specs.List.{list_any};
 ghost use Rattle.sd_types.specs.Works.{is_distinct};
 ghost use Rattle.sd_types.specs.Partitions.{cpu_of_number};
+ghost use Rattle.sd_types.specs.Limits.{most_processors, most_sets};
 ghost use Rattle.sd_lines.specs.Said.{word_of};
 ghost use Rattle.sd_declare.specs.Causes.{least};
 ghost use Rattle.sd_declare.specs.Declarations.{cpu_count, named_count};
@@ -27,7 +28,7 @@ fn is_any_beyond(d: &Declared, cpus: &[u64]) -> bool
 
 // The number of processors that sets name.
 fn named_count(sets: &[(Name, List<CpuId>)]) -> usize
-    requires { sum_by (λ s. length s.1) sets.now ≤ 64 }
+    requires { sum_by (λ s. length s.1) sets.now ≤ most_processors }
     ensures { result ≡ sum_by (λ s. length s.1) sets.now }
 {
     let mut count = 0;
@@ -87,7 +88,7 @@ fn contains(cpus: &[u64], cpu: u64) -> bool
 fn leaves_none(d: &Declared, more: usize) -> bool
     requires { more < 2 ^ 62 }
     ensures value { result ≡ nat_le (cpu_count (declarations d.now)) (named_count (declarations d.now) + more) }
-    ensures few { result ≡ false → sum_by (λ s. length s.1) d.now.sets.items + more ≤ 64 }
+    ensures few { result ≡ false → sum_by (λ s. length s.1) d.now.sets.items + more ≤ most_processors }
 {
     usize::from(cpu_count(d)) <= named_count(&d.sets) + more
 }
@@ -97,14 +98,14 @@ fn leaves_none(d: &Declared, more: usize) -> bool
 #[tactic(auto, unfolding(crate::specs::Statements::is_taken))]
 fn is_taken(d: &Declared, cpus: &[u64]) -> bool
     ensures value { result ≡ is_taken (declarations d.now) cpus.now }
-    ensures few { result ≡ false → sum_by (λ s. length s.1) d.now.sets.items + length cpus.now ≤ 64 }
+    ensures few { result ≡ false → sum_by (λ s. length s.1) d.now.sets.items + length cpus.now ≤ most_processors }
 {
     leaves_none(d, cpus.len()) || is_any_named(d, cpus) || !are_distinct(cpus)
 }
 
 // The processors of these numbers.
 fn cpu_ids(alloc: Global, cpus: &[u64]) -> Result<Vec<CpuId>, AllocError>
-    requires { All (λ c. c < 64) cpus.now }
+    requires { All (λ c. c < most_processors) cpus.now }
     ensures { IfOk result (λ ids. ids.items ≡ map cpu_of_number cpus.now) }
 {
     cpus.iter().map(|cpu| CpuId(*cpu as u16)).collect(alloc)
@@ -115,8 +116,8 @@ fn judge_set(d: &Declared, name: &Name, cpus: &[u64]) -> Result<(), WorkCause>
     ensures ok { OnOk result (least (set_causes (declarations d.now) (word_of name.now) cpus.now) ≡ None) }
     ensures err { IfErr result (λ cause. least (set_causes (declarations d.now) (word_of name.now) cpus.now) ≡ Some cause) }
     ensures beyond { OnOk result (list_any (is_beyond (declarations d.now)) cpus.now ≡ false) }
-    ensures few { OnOk result (sum_by (λ s. length s.1) d.now.sets.items + length cpus.now ≤ 64) }
-    ensures room { OnOk result (length d.now.sets.items < 8) }
+    ensures few { OnOk result (sum_by (λ s. length s.1) d.now.sets.items + length cpus.now ≤ most_processors) }
+    ensures room { OnOk result (length d.now.sets.items < most_sets) }
 {
     if cpus.is_empty() {
         return Err(WorkCause::Syntax);
@@ -138,8 +139,8 @@ fn judge_set(d: &Declared, name: &Name, cpus: &[u64]) -> Result<(), WorkCause>
 
 // Declares a set.
 fn put_set(d: &mut Declared, name: Name, ids: List<CpuId>) -> Result<(), Refusal>
-    requires few { sum_by (λ s. length s.1) d.old.sets.items + length ids ≤ 64 }
-    requires room { length d.old.sets.items < 8 }
+    requires few { sum_by (λ s. length s.1) d.old.sets.items + length ids ≤ most_processors }
+    requires room { length d.old.sets.items < most_sets }
     ensures ok { OnOk result (declarations d.new ≡ record (declarations d.old) { sets = (declarations d.old).sets ++ (word_of name, ids) ∷ [] }) }
     ensures err { IfErr result (λ refusal. refusal ≡ Refusal.Memory) }
     ensures kept { OnErr result (declarations d.new ≡ declarations d.old) }

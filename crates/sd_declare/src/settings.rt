@@ -6,6 +6,7 @@ ghost use Rattle.sd_declare.specs.Statements.{cpus_causes, hz_causes, limit_caus
 ghost use Rattle.sd_declare.specs.Kept.{declarations};
 
 use crate::{Declared, WorkCause};
+use sd_types::{GREATEST_LIMIT, MOST_PROCESSORS};
 
 /// `cpus N`: 1 to 64, before the first set.
 pub fn take_cpus(d: &mut Declared, n: u64) -> Result<(), WorkCause>
@@ -20,7 +21,7 @@ pub fn take_cpus(d: &mut Declared, n: u64) -> Result<(), WorkCause>
     if d.cpus.is_some() {
         return Err(WorkCause::Twice);
     }
-    if !(1 <= n && n <= 64) {
+    if !(1 <= n && n <= MOST_PROCESSORS as u64) {
         return Err(WorkCause::Range);
     }
     d.cpus = Some(n as u16);
@@ -54,7 +55,7 @@ pub fn take_limit(d: &mut Declared, n: u64) -> Result<(), WorkCause>
     if d.limit.is_some() {
         return Err(WorkCause::Twice);
     }
-    if !(1 <= n && n <= 100_000) {
+    if !(1 <= n && n <= u64::from(GREATEST_LIMIT)) {
         return Err(WorkCause::Range);
     }
     d.limit = Some(n as u32);

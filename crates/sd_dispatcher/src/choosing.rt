@@ -10,6 +10,7 @@ ghost use Rattle.sd_state.specs.declared.states.State.{State};
 ghost use Rattle.sd_state.specs.States.{cpu_of, no_body, thread_of, set_of};
 ghost use Rattle.sd_store.specs.Parts.{actor_part, cpu_part, ready_parts, real_time_part, thread_part};
 ghost use Rattle.sd_store.specs.Words.{Lacks, TellsIf};
+ghost use Rattle.sd_types.specs.Limits.{most_processors};
 
 use crate::bodies::{bound_in, bound_of};
 use arrayvec::ArrayVec;
@@ -18,7 +19,7 @@ use sd_store::{Look, set_of};
 use sd_types::{CpuId, Hints, Put, REAL_TIME_PRIORITY, ThreadBody, ThreadId, Work};
 
 fn copied(cpus: &[CpuId]) -> ArrayVec<CpuId, 64>
-    requires { length cpus.now ≤ 64 }
+    requires { length cpus.now ≤ most_processors }
     ensures { result.items ≡ cpus.now }
 {
     let mut copy = ArrayVec::new();
@@ -38,7 +39,7 @@ fn one(d: CpuId) -> ArrayVec<CpuId, 64>
 
 /// These processors, or the one to which a thread is bound.
 fn cpus_or_bound(cpus: &[CpuId], bound: Option<CpuId>) -> ArrayVec<CpuId, 64>
-    requires { length cpus.now ≤ 64 }
+    requires { length cpus.now ≤ most_processors }
     ensures { result.items ≡ cpus_or_bound cpus.now bound }
 {
     match bound {
@@ -135,7 +136,7 @@ pub(crate) fn is_settled(cpus: &[CpuId], last: CpuId, warm: bool) -> bool
 
 /// As many zeros as there are processors.
 fn zeros<'a>(cpus: &[CpuId], zeros: &'a [u8]) -> &'a [u8]
-    requires fits { length cpus.now ≤ 64 }
+    requires fits { length cpus.now ≤ most_processors }
     requires zeros { zeros.now ≡ replicate 64 0 }
     ensures { result.now ≡ replicate (length cpus.now) 0 }
 {
@@ -144,7 +145,7 @@ fn zeros<'a>(cpus: &[CpuId], zeros: &'a [u8]) -> &'a [u8]
 
 /// The numbers that were read of so many processors, 0 where nothing was read.
 fn numbers_read<'a>(cpus: &[CpuId], hints: &'a Option<Hints>, nothing: &'a [u8]) -> &'a [u8]
-    requires fits { length cpus.now ≤ 64 }
+    requires fits { length cpus.now ≤ most_processors }
     requires nothing { nothing.now ≡ replicate 64 0 }
     ensures { result.now ≡ numbers_read cpus.now hints.now }
 {
@@ -156,7 +157,7 @@ fn numbers_read<'a>(cpus: &[CpuId], hints: &'a Option<Hints>, nothing: &'a [u8])
 
 /// The processor of `cpus` to which a thread goes, with a number for each that was read.
 fn chosen(cpus: &[CpuId], hints: &Option<Hints>, last: CpuId, warm: bool) -> CpuId
-    requires { length cpus.now ≤ 64 }
+    requires { length cpus.now ≤ most_processors }
     ensures { length (numbers_read cpus.now hints.now) ≡ length cpus.now → result ≡ chosen cpus.now (numbers_read cpus.now hints.now) last warm }
 {
     if cpus.is_empty() {
@@ -219,7 +220,7 @@ pub fn put_chosen<L: Look>(
 
 /// The processors of a list without processor `c`.
 fn others(c: CpuId, cpus: &[CpuId]) -> ArrayVec<CpuId, 64>
-    requires { length cpus.now ≤ 64 }
+    requires { length cpus.now ≤ most_processors }
     ensures { result.items ≡ filter (λ d. not (d.0 == c.0)) cpus.now }
 {
     let mut others = ArrayVec::new();

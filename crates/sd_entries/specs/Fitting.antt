@@ -21,6 +21,7 @@ use Rattle.sd_types.specs.declared.events.BindAnswer.{BindAnswer}
 use Rattle.sd_types.specs.declared.events.BindAnswer.TheVariants as bind
 use Rattle.sd_types.specs.declared.events.Entry.{Entry}
 use Rattle.sd_types.specs.declared.works.Work.{Work}
+use Rattle.sd_types.specs.Limits.{most_processors}
 
 -- Each number names something that the workload has.
 
@@ -167,7 +168,7 @@ event_in_range _ = true
 
 abbrev pub hints_in_range : Option Hints → Bool
 hints_in_range None = true
-hints_in_range (Some h) = nat_le (length h.numbers.items) 64 && list_all is_byte h.numbers.items
+hints_in_range (Some h) = nat_le (length h.numbers.items) most_processors && list_all is_byte h.numbers.items
 
 unfoldable pub in_range : Entry → Bool
 in_range e = nat_lt e.number (2 ^ 64) && event_in_range e.event && hints_in_range e.hints

@@ -29,6 +29,7 @@ use Rattle.sd_types.specs.declared.events.BindAnswer.{BindAnswer}
 use Rattle.sd_types.specs.declared.events.BindAnswer.TheVariants as bind
 use Rattle.sd_types.specs.declared.events.Entry.{Entry}
 use Rattle.sd_types.specs.declared.works.Work.{Work}
+use Rattle.sd_types.specs.Limits.{most_processors}
 use Rattle.sd_entries.specs.Fitting.{may_read}
 
 -- a word of a line, by its place from 0
@@ -223,9 +224,9 @@ event_len _ = 1
 abbrev pub is_comma : ℕ → Bool
 is_comma b = b == 44
 
--- numbers joined by commas, of 8 bits and at most 64
+-- numbers joined by commas, of 8 bits and at most as many as there may be processors
 unfoldable pub numbers_in : List ℕ → List ℕ
-numbers_in word = take 64 (map byte_in (slice_split is_comma word))
+numbers_in word = take most_processors (map byte_in (slice_split is_comma word))
 
 abbrev pub hints_by : Option Which → List ℕ → List ℕ → Option Hints
 hints_by None h numbers = None

@@ -3,6 +3,7 @@
 ghost use Rattle.std.specs.Prelude.{◌≡◌, ◌≤◌, position};
 ghost use Rattle.std.specs.List.{position_or_len};
 ghost use Rattle.sd_types.specs.Works.{same_bytes};
+ghost use Rattle.sd_types.specs.Limits.{most_objects, most_threads};
 ghost use Rattle.sd_entries.specs.Reading.{at, chan_in, lock_in, set_in, thread_in};
 
 use crate::Names;
@@ -13,7 +14,7 @@ use sd_types::{ChanId, CpuId, List, LockId, Name, SetId, ThreadId, Work};
 // The number of the thread of this name, or of the threads where none has it.
 fn thread_number(names: &Names<'_>, word: &[u8]) -> usize
     ensures value { result ≡ position_or_len (λ d. same_bytes d.name.text.items word.now) names.now.work.now.threads }
-    ensures bound { result ≤ 2048 }
+    ensures bound { result ≤ most_threads }
 {
     let many = names.work.threads.items().len();
     names.threads.find(word).unwrap_or(many)
@@ -22,7 +23,7 @@ fn thread_number(names: &Names<'_>, word: &[u8]) -> usize
 // The number of the lock of this name, or of the locks where none has it.
 fn lock_number(names: &Names<'_>, word: &[u8]) -> usize
     ensures value { result ≡ position_or_len (λ d. same_bytes d.0.text.items word.now) names.now.work.now.locks }
-    ensures bound { result ≤ 256 }
+    ensures bound { result ≤ most_objects }
 {
     let many = names.work.locks.items().len();
     names.locks.find(word).unwrap_or(many)
@@ -31,7 +32,7 @@ fn lock_number(names: &Names<'_>, word: &[u8]) -> usize
 // The number of the channel of this name, or of the channels where none has it.
 fn chan_number(names: &Names<'_>, word: &[u8]) -> usize
     ensures value { result ≡ position_or_len (λ d. same_bytes d.0.text.items word.now) names.now.work.now.chans }
-    ensures bound { result ≤ 256 }
+    ensures bound { result ≤ most_objects }
 {
     let many = names.work.chans.items().len();
     names.chans.find(word).unwrap_or(many)

@@ -13,7 +13,9 @@ use crate::fitting::{entry_fits, may_read};
 use crate::words::{byte_in, cpu_in, is_word, number_in};
 use arrayvec::ArrayVec;
 use sd_entries::EntryLine;
-use sd_types::{BindAnswer, Entry, Event, Hints, PrioAnswer, Put, ThreadId, Which, Work};
+use sd_types::{
+    BindAnswer, Entry, Event, Hints, MOST_PROCESSORS, PrioAnswer, Put, ThreadId, Which, Work,
+};
 
 fn put_len(place: Option<Put>) -> usize
     ensures len { result ≡ put_len place }
@@ -83,14 +85,14 @@ fn comma_index(bytes: &[u8]) -> Option<usize>
     bytes.iter().position(|byte| *byte == b',')
 }
 
-// The numbers that commas join, of 8 bits; at most the first 64.
+// The numbers that commas join, of 8 bits; at most as many as there may be processors.
 #[tactic(auto, unfolding(sd_entries::specs::Reading::numbers_in))]
 fn numbers_in(word: &[u8]) -> ArrayVec<u8, 64>
     ensures { result.items ≡ numbers_in word.now }
 {
     let mut numbers = ArrayVec::new();
     let mut from = 0;
-    while numbers.len() < 64 {
+    while numbers.len() < MOST_PROCESSORS {
         match comma_index(&word[from..]) {
             Some(len) => {
                 numbers.push(byte_in(&word[from..from + len]));

@@ -1,8 +1,9 @@
 -- What stands behind an answer.
 -- Source: this project's own.
-use Rattle.std.specs.Prelude.{◌≡◌, ℕ, ◌≤◌, ◌^◌, Bool, true, false, List, [], length, Option, nat_le, ◌⊎◌, ⊤}
+use Rattle.std.specs.Prelude.{◌≡◌, ℕ, ◌≤◌, Bool, true, false, List, [], length, Option, nat_le, ◌⊎◌, ⊤}
 use Rattle.sd_types.specs.declared.numbers.ThreadId.{ThreadId}
 use Rattle.sd_types.specs.declared.works.Work.{Work}
+use Rattle.sd_types.specs.Limits.{most_entries}
 use Rattle.sd_search.specs.declared.findings.Finding.{Finding}
 use Rattle.sd_search.specs.declared.findings.Finding.TheVariants as finding
 use Rattle.sd_search.specs.declared.graph.Graph.{Graph}
@@ -38,7 +39,7 @@ verdict_of finding.More = More
 
 -- a run that is shown has no more than 2^40 entries
 abbrev pub IsShort : Finding → Type 0
-IsShort (finding.Found es) = length es.items ≤ 2 ^ 40
+IsShort (finding.Found es) = length es.items ≤ most_entries
 IsShort finding.Never = ⊤
 IsShort finding.More = ⊤
 
@@ -100,7 +101,7 @@ longest_verdict longest.Never = Never
 longest_verdict longest.More = More
 
 abbrev pub IsShortWait : Longest → Type 0
-IsShortWait (longest.Wait ticks es) = length es.items ≤ 2 ^ 40
+IsShortWait (longest.Wait ticks es) = length es.items ≤ most_entries
 IsShortWait _ = ⊤
 
 -- what is said is the text of the longest time from a wakeup of the thread to its running, after a search

@@ -1,10 +1,11 @@
 -- When a thread ends over every order in which the processors of a workload can act, as it is told: at which tick at the earliest
 -- and at the latest, and whether it does in every run that goes to its end.
 -- Source: best and worst case of a schedule (Liu, "Real-Time Systems"); the measure in ticks is this project's own.
-use Rattle.std.specs.Prelude.{◌≡◌, ℕ, ◌<◌, ◌≤◌, ◌^◌, Bool, true, false, List, length, Option, Some, None, ⊤}
+use Rattle.std.specs.Prelude.{◌≡◌, ℕ, ◌<◌, ◌≤◌, Bool, true, false, List, length, Option, Some, None, ⊤}
 use Rattle.sd_types.specs.declared.numbers.ThreadId.{ThreadId}
 use Rattle.sd_types.specs.declared.events.Entry.{Entry}
 use Rattle.sd_types.specs.declared.works.Work.{Work}
+use Rattle.sd_types.specs.Limits.{most_entries}
 use Rattle.sd_state.specs.Opening.{opening}
 use Rattle.sd_state.specs.States.{thread_of}
 use Rattle.sd_state.specs.Texts.{thread_name}
@@ -51,5 +52,5 @@ IsTiming w t g More = g.done < length (packed g)
 
 -- the runs that are shown have no more than 2^40 entries
 abbrev pub AreShort : Timing → Type 0
-AreShort (Between earliest latest in_every) = (length earliest.entries.items ≤ 2 ^ 40) × (length latest.entries.items ≤ 2 ^ 40)
+AreShort (Between earliest latest in_every) = (length earliest.entries.items ≤ most_entries) × (length latest.entries.items ≤ most_entries)
 AreShort _ = ⊤

@@ -6,6 +6,7 @@ ghost use Rattle.sd_machine.specs.Runs.{final};
 ghost use Rattle.sd_machine.specs.Texts.{cycles_text, entries_text, journal};
 ghost use Rattle.sd_state.specs.Opening.{opening};
 ghost use Rattle.sd_state.specs.Texts.{accounts_text};
+ghost use Rattle.sd_types.specs.Limits.{most_entries};
 
 use sd_accounts::Accounts;
 use sd_entries::write_entry;
@@ -80,7 +81,7 @@ pub(crate) fn write_journal(
     out: &mut Vec<u8>,
 ) -> Result<(), AllocError>
     ensures text { OnOk result (out.new.items ≡ out.old.items ++ journal work.now entries.now) }
-    ensures short { OnOk result (length entries.now ≤ 2 ^ 40) }
+    ensures short { OnOk result (length entries.now ≤ most_entries) }
 {
     if entries.len() > MOST_ENTRIES {
         return Err(AllocError);

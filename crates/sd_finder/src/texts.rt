@@ -1,8 +1,9 @@
 //! The text of an answer.
 
-ghost use Rattle.std.specs.Prelude.{◌≡◌, ◌++◌, ◌≤◌, ◌^◌, length, OnOk, IfOk};
+ghost use Rattle.std.specs.Prelude.{◌≡◌, ◌++◌, ◌≤◌, length, OnOk, IfOk};
 ghost use Rattle.sd_finder.specs.Answered.{IsShort};
 ghost use Rattle.sd_finder.specs.Texts.{all_line, count_text, entries_line, finding_text, found_text, left_text, more_text, never_text, states_line};
+ghost use Rattle.sd_types.specs.Limits.{most_entries};
 
 use crate::journals::{state_after, write_journal};
 use crate::lefts::write_lefts;
@@ -61,7 +62,7 @@ fn write_found(
     out: &mut Vec<u8>,
 ) -> Result<(), AllocError>
     ensures text { OnOk result (out.new.items ≡ out.old.items ++ found_text work.now question entries.now n) }
-    ensures short { OnOk result (length entries.now ≤ 2 ^ 40) }
+    ensures short { OnOk result (length entries.now ≤ most_entries) }
 {
     out.extend_from_slice(b"found\n")?;
     write_left(alloc, work, question, entries, out)?;

@@ -1,8 +1,9 @@
 //! The text of when a thread ends.
 
-ghost use Rattle.std.specs.Prelude.{◌≡◌, ◌++◌, ◌≤◌, ◌^◌, length, OnOk, IfOk};
+ghost use Rattle.std.specs.Prelude.{◌≡◌, ◌++◌, ◌≤◌, length, OnOk, IfOk};
 ghost use Rattle.sd_finder.specs.Texts.{between_text, earliest_head, every_words, thread_line, tick_line, timing_text};
 ghost use Rattle.sd_finder.specs.Timings.{AreShort};
+ghost use Rattle.sd_types.specs.Limits.{most_entries};
 
 use crate::journals::write_journal;
 use crate::texts::{write_more, write_never, write_states};
@@ -77,8 +78,8 @@ fn write_between(
     out: &mut Vec<u8>,
 ) -> Result<(), AllocError>
     ensures text { OnOk result (out.new.items ≡ out.old.items ++ between_text work.now thread in_every earliest.now latest.now n) }
-    ensures short_first { OnOk result (length earliest.now.entries.items ≤ 2 ^ 40) }
-    ensures short_last { OnOk result (length latest.now.entries.items ≤ 2 ^ 40) }
+    ensures short_first { OnOk result (length earliest.now.entries.items ≤ most_entries) }
+    ensures short_last { OnOk result (length latest.now.entries.items ≤ most_entries) }
 {
     write_earliest_head(work, thread, in_every, earliest, n, out)?;
     write_journal(alloc, work, &earliest.entries, out)?;

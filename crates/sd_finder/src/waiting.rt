@@ -1,8 +1,9 @@
 //! How long a thread waits at most from a wakeup to its running, and the text that says it.
 
-ghost use Rattle.std.specs.Prelude.{◌≡◌, ◌++◌, ◌≤◌, ◌^◌, length, OnOk, IfOk};
+ghost use Rattle.std.specs.Prelude.{◌≡◌, ◌++◌, ◌≤◌, length, OnOk, IfOk};
 ghost use Rattle.sd_finder.specs.Answered.{IsShortWait, longest_verdict};
 ghost use Rattle.sd_finder.specs.Texts.{longest_text, wait_head, wait_text};
+ghost use Rattle.sd_types.specs.Limits.{most_entries};
 
 use crate::journals::write_journal;
 use crate::texts::{write_more, write_never, write_states};
@@ -31,7 +32,7 @@ fn write_wait(
     out: &mut Vec<u8>,
 ) -> Result<(), AllocError>
     ensures text { OnOk result (out.new.items ≡ out.old.items ++ wait_text work.now ticks entries.now n) }
-    ensures short { OnOk result (length entries.now ≤ 2 ^ 40) }
+    ensures short { OnOk result (length entries.now ≤ most_entries) }
 {
     write_wait_head(ticks, n, out)?;
     write_journal(alloc, work, entries, out)

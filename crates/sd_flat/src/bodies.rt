@@ -4,9 +4,10 @@ ghost use Rattle.std.specs.Prelude.{◌≡◌, ◌<◌, ◌≤◌, None, IfSome,
 ghost use Rattle.sd_state.specs.Operations.{op_over, ran, ticks_at};
 ghost use Rattle.sd_types.specs.Scripts.{is_held};
 ghost use Rattle.sd_types.specs.Willed.{IsSound, changed_number, number_for, with_lock as with_held, with_number, with_willed};
+ghost use Rattle.sd_types.specs.Limits.{most_held, most_operations};
 
 use arrayvec::ArrayVec;
-use sd_types::{LockId, Op, ThreadBody};
+use sd_types::{LockId, MOST_HELD, Op, ThreadBody};
 
 /// The ticks that an operation has when it begins.
 pub fn ticks_at(op: Option<Op>) -> u32
@@ -20,7 +21,7 @@ pub fn ticks_at(op: Option<Op>) -> u32
 
 /// The operation is over, where there is one.
 pub fn op_over(ops: &[Op], b: &mut ThreadBody)
-    requires { length ops.now ≤ 256 }
+    requires { length ops.now ≤ most_operations }
     ensures { b.old.op < length ops.now → b.new ≡ op_over ops.now b.old }
 {
     if (b.op as usize) < ops.len() {
@@ -31,7 +32,7 @@ pub fn op_over(ops: &[Op], b: &mut ThreadBody)
 
 /// A tick of a run operation.
 pub fn ran(ops: &[Op], b: &mut ThreadBody)
-    requires { length ops.now ≤ 256 }
+    requires { length ops.now ≤ most_operations }
     ensures { b.old.op < length ops.now → b.new ≡ ran ops.now b.old }
 {
     if b.run_left <= 1 {
@@ -43,16 +44,16 @@ pub fn ran(ops: &[Op], b: &mut ThreadBody)
 
 /// It holds the lock, where there is room.
 pub fn hold(b: &mut ThreadBody, l: LockId)
-    ensures { length b.old.held.items < 8 → b.new ≡ with_held l b.old }
+    ensures { length b.old.held.items < most_held → b.new ≡ with_held l b.old }
 {
-    if b.held.len() < 8 {
+    if b.held.len() < MOST_HELD {
         b.take_lock(l);
     }
 }
 
 /// Makes `n` the number for the lock, where there is room.
 fn put_number(willed: &mut ArrayVec<(LockId, u8), 8>, l: LockId, n: u8)
-    ensures { (number_for l willed.old.items ≡ None → length willed.old.items < 8) → willed.new.items ≡ with_number l n willed.old.items }
+    ensures { (number_for l willed.old.items ≡ None → length willed.old.items < most_held) → willed.new.items ≡ with_number l n willed.old.items }
 {
     for index in 0..willed.len() {
         if l.0 == willed[index].0.0 {
@@ -60,7 +61,7 @@ fn put_number(willed: &mut ArrayVec<(LockId, u8), 8>, l: LockId, n: u8)
             return;
         }
     }
-    if willed.len() < 8 {
+    if willed.len() < MOST_HELD {
         willed.push((l, n));
     }
 }
@@ -70,7 +71,7 @@ pub fn inherit(b: &mut ThreadBody, l: LockId, number: Option<u8>)
     ensures { IsSound b.old → IsTrue (is_held l b.old.held.items) → IfSome number (λ n. n < 160) → b.new ≡ with_willed (changed_number l number b.old.willed.items) b.old }
 {
     let locks = b.held.len();
-    prove!(locks <= 8);
+    prove!(locks <= MOST_HELD);
     match number {
         None => b.waive(l),
         Some(n) => put_number(&mut b.willed, l, n),

@@ -3,6 +3,7 @@
 ghost use Rattle.std.specs.Prelude.{◌≡◌, ◌≤◌, length, nat_lt};
 ghost use Rattle.sd_state.specs.Operations.{script_of};
 ghost use Rattle.sd_state.specs.States.{cpu_of, thread_of};
+ghost use Rattle.sd_types.specs.Limits.{most_operations};
 
 use sd_state::{CpuState, Place, State};
 use sd_types::{CpuId, Duty, Op, SetId, ThreadId, Work};
@@ -40,7 +41,7 @@ pub fn is_thread(s: &State, t: ThreadId) -> bool
 /// The operations of a thread.
 pub fn script_of(work: &Work, t: ThreadId) -> &[Op]
     ensures value { result.now ≡ script_of work.now t.0 }
-    ensures short { length result.now ≤ 256 }
+    ensures short { length result.now ≤ most_operations }
 {
     match work.threads.items().get(t.0 as usize) {
         Some(decl) => decl.script.ops(),

@@ -4,11 +4,12 @@ ghost use Rattle.std.specs.Prelude.{◌≡◌, ◌∷◌, ◌++◌, ◌+◌, ◌
 ghost use Rattle.sd_machine.specs.Changes.{bind, close, join, unbind, with_cpu_in, without_cpu};
 ghost use Rattle.sd_machine.specs.Threads.{open_of};
 ghost use Rattle.sd_state.specs.States.{cpu_of};
+ghost use Rattle.sd_types.specs.Limits.{most_processors};
 
 use crate::reads::{cpu_of, is_cpu, is_thread};
 use arrayvec::ArrayVec;
 use sd_state::State;
-use sd_types::{CpuId, SetId, ThreadId};
+use sd_types::{CpuId, MOST_PROCESSORS, SetId, ThreadId};
 
 /// A rising list of processors without processor `c`.
 pub fn without_cpu(c: CpuId, cpus: &ArrayVec<CpuId, 64>) -> ArrayVec<CpuId, 64>
@@ -38,9 +39,9 @@ fn index_for(c: CpuId, cpus: &[CpuId]) -> usize
 
 /// A rising list of processors with processor `c`, where there is room.
 pub fn with_cpu_in(c: CpuId, cpus: &mut ArrayVec<CpuId, 64>)
-    ensures { length cpus.old.items < 64 → cpus.new.items ≡ with_cpu_in c cpus.old.items }
+    ensures { length cpus.old.items < most_processors → cpus.new.items ≡ with_cpu_in c cpus.old.items }
 {
-    if cpus.len() < 64 {
+    if cpus.len() < MOST_PROCESSORS {
         let index = index_for(c, cpus.as_slice());
         cpus.insert(index, c);
     }
@@ -64,7 +65,7 @@ pub fn close(s: &mut State, d: CpuId, to: SetId)
 /// Processor `c` is one of the open ones of a set, where that has room for it.
 #[tactic(auto, using(crate::proofs::Past::past), unfolding(sd_machine::specs::Changes::join))]
 pub fn join(s: &mut State, c: CpuId, set: SetId)
-    ensures { length (open_of s.old set.0) < 64 → s.new ≡ join s.old c set }
+    ensures { length (open_of s.old set.0) < most_processors → s.new ≡ join s.old c set }
 {
     if (set.0 as usize) < s.open_cpus.items().len() {
         with_cpu_in(c, &mut s.open_cpus.items_mut()[set.0 as usize]);

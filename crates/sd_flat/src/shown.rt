@@ -6,6 +6,7 @@ ghost use Rattle.sd_machine.specs.Choosing.{hint_of, hint_shown};
 ghost use Rattle.sd_machine.specs.Threads.{priority_of};
 ghost use Rattle.sd_flat.specs.Passes.{pass};
 ghost use Rattle.sd_state.specs.States.{thread_of};
+ghost use Rattle.sd_types.specs.Limits.{most_processors};
 
 use crate::passes::pass;
 use crate::scans::{best_unbound, runner};
@@ -66,7 +67,7 @@ fn number_at(numbers: &[u8], s: &State, which: Which, d: CpuId) -> u8
 
 /// The numbers that these processors show, in their order.
 pub fn numbers_shown(s: &State, which: Which, cpus: &[CpuId]) -> ArrayVec<u8, 64>
-    requires fits { length cpus.now ≤ 64 }
+    requires fits { length cpus.now ≤ most_processors }
     requires willed { (t : ℕ) → list_all (λ n. nat_lt n.1 160) (thread_of s.now t).body.willed.items ≡ true }
     ensures { result.items ≡ map (hint_shown s.now which) cpus.now }
 {

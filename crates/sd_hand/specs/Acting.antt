@@ -8,6 +8,7 @@ use Rattle.sd_store.specs.declared.parts.Part.TheVariants.{Home, Thread, Actor}
 use Rattle.sd_hand.specs.declared.acting.Acting.{Acting}
 use Rattle.sd_hand.specs.Hands.{AreApart, has_thread, held}
 use Rattle.sd_hand.specs.Shown.{ShowsState}
+use Rattle.sd_types.specs.Limits.{most_objects}
 
 -- it has the part
 abbrev pub has_part : Acting → Part → Bool
@@ -25,5 +26,5 @@ pub record IsShown (x : Acting) (n : ℕ) (s : State) : Type 0 where
   pub inside : x.actor.cpu.0 < length s.cpus
   pub count : x.actor.count ≡ (cpu_of s x.actor.cpu.0).count
   pub duty : x.actor.duty ≡ (cpu_of s x.actor.cpu.0).duty
-  pub locks : length s.locks ≤ 256
-  pub chans : length s.counts ≤ 256
+  pub locks : length s.locks ≤ most_objects
+  pub chans : length s.counts ≤ most_objects

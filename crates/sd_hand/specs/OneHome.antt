@@ -4,6 +4,7 @@ use Rattle.std.specs.Prelude.{◌≡◌, ℕ, ◌+◌, ◌<◌, ◌≤◌, lengt
 use Rattle.sd_types.specs.declared.numbers.HomeId.{HomeId}
 use Rattle.sd_types.specs.declared.numbers.HomeId.TheVariants as home
 use Rattle.sd_types.specs.declared.numbers.Side.TheVariants.{Writer, Reader}
+use Rattle.sd_types.specs.Limits.{most_objects}
 use Rattle.sd_state.specs.declared.states.State.{State}
 use Rattle.sd_homes.specs.Numbers.{IsHomeOf}
 use Rattle.sd_homes.specs.declared.list_id.ListId.{ListId}
@@ -20,8 +21,8 @@ pub record AreAllHomes (n : ℕ) (s : State) (hs : List (Option Home)) : Type 0 
   pub apart : AreApart hs
   pub all : (k : HomeId) → IsHomeOf s k → IsHeld k hs
   pub only : (k : HomeId) → IsHeld k hs → IsHomeOf s k
-  pub locks : length s.locks ≤ 256
-  pub chans : length s.counts ≤ 256
+  pub locks : length s.locks ≤ most_objects
+  pub chans : length s.counts ≤ most_objects
 
 -- the two sides of a lock
 abbrev pub sides_of : ℕ → List ListId → List ListId

@@ -7,6 +7,7 @@ use Rattle.sd_state.specs.States.{cpu_of, thread_of}
 use Rattle.sd_machine.specs.Threads.{open_of, lock_of, count_of}
 use Rattle.sd_store.specs.Parts.{view_of}
 use Rattle.sd_types.specs.declared.numbers.HomeId.{HomeId}
+use Rattle.sd_types.specs.Limits.{most_objects}
 use Rattle.sd_homes.specs.declared.list_id.ListId.{ListId}
 use Rattle.sd_homes.specs.declared.list_id.ListId.TheVariants.{Waits, Sleeps}
 use Rattle.sd_homes.specs.Standing.{home_at, list_of, look_of, ByNumber, Lists}
@@ -23,10 +24,10 @@ PartsShown s (RealTime h) = (h.open_cpus ≡ open_of s h.set.0) × (h.set.0 < le
 PartsShown s (Chain h) = (length h.turns.locks ≡ 4) × (length h.states ≡ 4) × ((l : ℕ) → is_of h.turns l ≡ true → get_or h.states (l / 64) Free ≡ lock_of s l)
 PartsShown s (Sleepers h) = (length h.sleepers.queues ≡ 4) × (length h.counts ≡ 4) × ((k : ℕ) → is_chan_of h.sleepers k ≡ true → get_or h.counts (k / 64) 0 ≡ count_of s k)
 
--- a lock or a channel of a chain has a number below 256
+-- a lock or a channel of a chain has a number below the most of them
 abbrev pub IsListThere : ListId → Type 0
-IsListThere (Waits l side) = l.0 < 256
-IsListThere (Sleeps k) = k.0 < 256
+IsListThere (Waits l side) = l.0 < most_objects
+IsListThere (Sleeps k) = k.0 < most_objects
 IsListThere _ = ⊤
 
 -- after n entries the home stands for its part of the state, of which it has these threads

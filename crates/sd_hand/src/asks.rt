@@ -4,6 +4,7 @@ ghost use Rattle.std.specs.Prelude.{◌≡◌, ◌≤◌, ◌%◌, ◌++◌, Som
 ghost use Rattle.std.specs.Option.{option_copied};
 ghost use Rattle.sd_types.specs.declared.numbers.HomeId.TheVariants.{Chain, Cpu, RealTime, Sleepers};
 ghost use Rattle.sd_types.specs.declared.numbers.Side.TheVariants.{Writer, Reader};
+ghost use Rattle.sd_types.specs.Limits.{most_processors};
 ghost use Rattle.sd_boxq.specs.Order.{drop_id, find_below, find_first};
 ghost use Rattle.sd_turnstile.specs.Waiters.{highest};
 ghost use Rattle.sd_record.specs.Records.{ThreadRecord};
@@ -169,7 +170,7 @@ impl Hand {
     #[inline(always)]
     pub(crate) fn open_cpus(&self, p: SetId) -> Result<&[CpuId], Part>
         ensures value { Asks (RealTime p) self.now.slots result (λ r. r.now) open_in }
-        ensures fits { IfOk result (λ r. length r.now ≤ 64) }
+        ensures fits { IfOk result (λ r. length r.now ≤ most_processors) }
     {
         match self.home(HomeId::RealTime(p)) {
             Err(q) => Err(q),

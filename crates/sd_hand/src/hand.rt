@@ -3,6 +3,7 @@
 ghost use Rattle.std.specs.Prelude.{◌≡◌, ◌⊎◌, ◌+◌, ◌<◌, ◌≤◌, ◌%◌, [], ◌∷◌, None, Some, false, is_some, length, slice_get, IfErr, IfNone, IfOk, IfSome, MatchOption};
 ghost use Rattle.std.specs.Option.{option_copied};
 ghost use Rattle.sd_types.specs.declared.numbers.HomeId.TheVariants.{Chain, Cpu, RealTime, Sleepers};
+ghost use Rattle.sd_types.specs.Limits.{most_processors};
 ghost use Rattle.sd_homes.specs.Standing.{home_at};
 ghost use Rattle.sd_homes.specs.declared.list_id.ListId.TheVariants.{Runs};
 ghost use Rattle.sd_homes.specs.declared.home.Home.{Home as HomeOf};
@@ -453,7 +454,7 @@ impl Hand {
     /// Processor `c` is one of the open ones of set `p` from now on, unless their list is full.
     pub fn open(&mut self, p: SetId, c: CpuId) -> Result<(), IsFull>
         ensures opened { IfOk result (λ _. self.new.slots ≡ edit (RealTime p) (opened c) self.old.slots) }
-        ensures full { IfErr result (λ _. (h : HomeOf) × (held (RealTime p) self.old.slots ≡ Some h) × (length (open_in h) ≡ 64) × (self.new.slots ≡ self.old.slots)) }
+        ensures full { IfErr result (λ _. (h : HomeOf) × (held (RealTime p) self.old.slots ≡ Some h) × (length (open_in h) ≡ most_processors) × (self.new.slots ≡ self.old.slots)) }
     {
         if let Some(i) = self.slot_of(HomeId::RealTime(p)) {
             if let Some(home) = &mut self.slots[i] {

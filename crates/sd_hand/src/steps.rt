@@ -16,7 +16,7 @@ use crate::hand::Hand;
 use sd_homes::{ListId, Traveller};
 use sd_state::Place;
 use sd_store::{BodyChange, Destination, Part, set_of};
-use sd_types::{CpuId, Put, ThreadId, Work};
+use sd_types::{CpuId, MOST_OBJECTS, Put, ThreadId, Work};
 
 /// What becomes of a thread on its way: it runs on a processor, leaves one that has counted so many ticks for a place, or
 /// goes to a place.
@@ -167,14 +167,14 @@ pub(crate) fn list_put(work: &Work, t: ThreadId, at: Put) -> ListId
     }
 }
 
-/// A lock or a channel of a chain has a number below 256.
+/// A lock or a channel of a chain has a number below the most of them.
 pub(crate) fn is_there(at: ListId) -> bool
     ensures yes { result ≡ true → IsListThere at }
     ensures no { IsListThere at → result ≡ true }
 {
     match at {
-        ListId::Waits(l, _) => l.0 < 256,
-        ListId::Sleeps(k) => k.0 < 256,
+        ListId::Waits(l, _) => (l.0 as usize) < MOST_OBJECTS,
+        ListId::Sleeps(k) => (k.0 as usize) < MOST_OBJECTS,
         _ => true,
     }
 }

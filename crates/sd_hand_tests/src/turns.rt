@@ -3,6 +3,7 @@
 ghost use Rattle.std.specs.Prelude.{◌≡◌, ◌≤◌, length, map};
 ghost use Rattle.sd_world.specs.Plain.{AreCpus};
 ghost use Rattle.sd_hand_tests.specs.Hostile.{IsHostile, hint_in};
+ghost use Rattle.sd_types.specs.Limits.{most_processors};
 
 use crate::hostile_world::HostileWorld;
 use crate::plan::What;
@@ -16,7 +17,7 @@ impl<'a> HostileWorld<'a> {
     /// The numbers that these processors show, in their order.
     fn numbers(&self, which: Which, cpus: &[CpuId]) -> ArrayVec<u8, 64>
         requires good { IsHostile self.now }
-        requires fits { length cpus.now ≤ 64 }
+        requires fits { length cpus.now ≤ most_processors }
         requires there { AreCpus self.now.inner.work.now cpus.now }
         ensures { result.items ≡ map (hint_in self.now which) cpus.now }
     {

@@ -2,6 +2,7 @@
 -- Source: this project's own.
 use Rattle.std.specs.Prelude.{◌≡◌, ◌≢◌, ℕ, ◌+◌, ℤ, pos, neg_ℤ, ◌≤ℤ◌, ◌<ℤ◌, List, [], ◌∷◌, None, ⊤}
 use Rattle.sd_boxq.specs.Order.{find_id, IsRanked}
+use Rattle.sd_state.specs.States.{first_back_key}
 
 -- no two items have one id
 abbrev pub IdsDiffer : {X : Type 0} → (X → ℕ) → List X → Type 0
@@ -21,7 +22,7 @@ KeysDiffer key (x ∷ xs) = HasNoKey key (key x) xs × KeysDiffer key xs
 -- a key that there may be after n entries
 pub record IsKeyAfter (n : ℕ) (k : ℤ) : Type 0 where
   pub least : neg_ℤ (pos n) ≤ℤ k
-  pub below : k <ℤ pos (4096 + n)
+  pub below : k <ℤ pos (first_back_key + n)
 
 abbrev pub AreKeysAfter : {X : Type 0} → (X → ℤ) → ℕ → List X → Type 0
 AreKeysAfter key n [] = ⊤

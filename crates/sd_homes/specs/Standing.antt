@@ -13,7 +13,7 @@ use Rattle.sd_state.specs.declared.states.Place.{Place}
 use Rattle.sd_state.specs.declared.states.Place.TheVariants.{Running, Queued, RealTime, Waiting, Asleep, Napping, Ended}
 use Rattle.sd_state.specs.declared.states.ThreadState.{ThreadState}
 use Rattle.sd_state.specs.declared.states.State.{State}
-use Rattle.sd_state.specs.States.{key_of, is_running, is_queued, is_real_time}
+use Rattle.sd_state.specs.States.{key_of, is_running, is_queued, is_real_time, first_back_key}
 use Rattle.sd_machine.specs.Threads.{is_waiting_at, is_asleep, has_ended}
 use Rattle.sd_homes.specs.declared.list_id.ListId.{ListId}
 use Rattle.sd_homes.specs.declared.list_id.ListId.TheVariants.{Runs, Queues, Urgent, Waits, Sleeps, Naps, Ends}
@@ -141,7 +141,7 @@ IsFree look sp k = (u : ℕ) (y : ThreadState) → look u ≡ Some y → stands 
 -- a key that a thread may have that comes to a queue after n entries, and that there may be after m
 pub record IsKeyFor (n m : ℕ) (look : ByNumber) (sp : ListId) (k : ℤ) : Type 0 where
   pub after : IsKeyAfter m k
-  pub free : (k ≡ pos (4096 + n)) ⊎ ((k ≡ negsuc n) ⊎ IsFree look sp k)
+  pub free : (k ≡ pos (first_back_key + n)) ⊎ ((k ≡ negsuc n) ⊎ IsFree look sp k)
 
 -- the thread may come there
 abbrev pub MayCome : ℕ → ℕ → ByNumber → ListId → ThreadState → Type 0

@@ -3,6 +3,7 @@
 ghost use Rattle.std.specs.Prelude.{◌≡◌, ◌<◌, false, length, IfSome, IsTrue};
 ghost use Rattle.sd_types.specs.Scripts.{is_held};
 ghost use Rattle.sd_types.specs.Willed.{changed_number, with_lock, with_willed};
+ghost use Rattle.sd_types.specs.Limits.{most_held};
 ghost use Rattle.sd_store.specs.declared.changes.BodyChange.TheVariants.{FinishOp, RunTick, Tick};
 ghost use Rattle.sd_store.specs.Bodies.{changed};
 ghost use Rattle.sd_homes.specs.Bodies.{CanChangeThread};
@@ -11,7 +12,7 @@ ghost use Rattle.sd_homes.specs.Homes.{with_body_of};
 use sd_flat::script_of;
 use sd_record::Record;
 use sd_store::BodyChange;
-use sd_types::{ClassState, LockId, ThreadBody, ThreadId, Work};
+use sd_types::{ClassState, LockId, MOST_HELD, ThreadBody, ThreadId, Work};
 
 /// Whether the thread holds the lock.
 fn is_held(l: LockId, body: &ThreadBody) -> bool
@@ -53,10 +54,10 @@ fn finish_op(work: &Work, t: ThreadId, r: &mut Record)
 
 /// Holds the lock, where it does not and has room.
 fn hold(l: LockId, r: &mut Record)
-    ensures body { length r.old.body.held.items < 8 → is_held l r.old.body.held.items ≡ false → r.new ≡ with_body_of (with_lock l r.old.body) r.old }
+    ensures body { length r.old.body.held.items < most_held → is_held l r.old.body.held.items ≡ false → r.new ≡ with_body_of (with_lock l r.old.body) r.old }
     ensures id { r.new.id ≡ r.old.id }
 {
-    if r.body.held.len() < 8 && !is_held(l, &r.body) {
+    if r.body.held.len() < MOST_HELD && !is_held(l, &r.body) {
         r.take_lock(l);
     }
 }

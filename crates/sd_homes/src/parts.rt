@@ -6,6 +6,7 @@ ghost use Rattle.sd_boxq.specs.Order.{drop_id, find_below, find_first};
 ghost use Rattle.sd_homes.specs.declared.list_id.ListId.TheVariants.{Ends, Queues, Sleeps, Waits};
 ghost use Rattle.sd_homes.specs.Standing.{id_of, is_unbound, key_in, least_to_age, rank_of};
 ghost use Rattle.sd_types.specs.declared.numbers.Side.TheVariants.{Writer, Reader};
+ghost use Rattle.sd_types.specs.Limits.{most_processors};
 ghost use Rattle.sd_turnstile.specs.Waiters.{highest};
 ghost use Rattle.sd_homes.specs.Families.{counting, list_in, lock_in, locking, open_in, opened, shut, tokens_in, view_in, viewing};
 
@@ -123,7 +124,7 @@ impl Home {
     #[inline(always)]
     pub fn open_cpus(&self) -> &[CpuId]
         ensures value { result.now ≡ open_in self.now }
-        ensures fits { length result.now ≤ 64 }
+        ensures fits { length result.now ≤ most_processors }
     {
         match self {
             Home::RealTime(h) => h.get().open_cpus(),
@@ -134,7 +135,7 @@ impl Home {
     /// Processor `c` is one of the open ones of a set from now on, unless their list is full.
     pub fn open(&mut self, c: CpuId) -> Result<(), IsFull>
         ensures opened { IfOk result (λ _. self.new ≡ opened c self.old) }
-        ensures full { IfErr result (λ _. (length (open_in self.old) ≡ 64) × (self.new ≡ self.old)) }
+        ensures full { IfErr result (λ _. (length (open_in self.old) ≡ most_processors) × (self.new ≡ self.old)) }
     {
         match self {
             Home::RealTime(h) => h.get_mut().open(c),

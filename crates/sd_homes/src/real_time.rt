@@ -6,6 +6,7 @@ ghost use Rattle.sd_boxq.specs.Order.{find_id, drop_id, insert_ranked};
 ghost use Rattle.sd_machine.specs.Changes.{with_cpu_in, without_cpu};
 ghost use Rattle.sd_homes.specs.Standing.{id_of, key_in, rank_of};
 ghost use Rattle.sd_types.specs.declared.numbers.HomeId.TheVariants.{RealTime};
+ghost use Rattle.sd_types.specs.Limits.{most_processors};
 ghost use Rattle.sd_homes.specs.Kinds.{IsListed, set_has, set_list};
 ghost use Rattle.sd_homes.specs.Homes.{OfSet, empty_set, with_open_cpus, with_urgent};
 
@@ -16,7 +17,7 @@ use arrayvec::ArrayVec;
 use sd_flat::{with_cpu_in, without_cpu};
 use sd_record::Record;
 use sd_turnstile::Rack;
-use sd_types::{CpuId, SetId, ThreadId};
+use sd_types::{CpuId, MOST_PROCESSORS, SetId, ThreadId};
 use std::alloc::{AllocError, Global};
 use std::marker::Model;
 
@@ -76,7 +77,7 @@ impl RealTimeHome {
     #[inline(always)]
     pub fn open_cpus(&self) -> &[CpuId]
         ensures value { result.now ≡ self.now.open_cpus }
-        ensures fits { length result.now ≤ 64 }
+        ensures fits { length result.now ≤ most_processors }
     {
         self.open_cpus.as_slice()
     }
@@ -84,9 +85,9 @@ impl RealTimeHome {
     /// Processor `c` is one of the open ones from now on, unless their list is full.
     pub fn open(&mut self, c: CpuId) -> Result<(), IsFull>
         ensures opened { IfOk result (λ _. self.new ≡ with_open_cpus (with_cpu_in c self.old.open_cpus) self.old) }
-        ensures full { IfErr result (λ _. (length self.old.open_cpus ≡ 64) × (self.new ≡ self.old)) }
+        ensures full { IfErr result (λ _. (length self.old.open_cpus ≡ most_processors) × (self.new ≡ self.old)) }
     {
-        if self.open_cpus.len() == 64 {
+        if self.open_cpus.len() == MOST_PROCESSORS {
             return Err(IsFull);
         }
         with_cpu_in(c, &mut self.open_cpus);

@@ -2,6 +2,7 @@
 -- Source: this project's own.
 use Rattle.std.specs.Prelude.{ℕ, ◌-◌, Bool, ◌&&◌, ◌==◌, nat_le, List, ◌++◌, length, take, replicate}
 use Rattle.sd_types.specs.Works.{same_bytes}
+use Rattle.sd_types.specs.Limits.{most_name_bytes}
 use Rattle.sd_lines.specs.declared.key.NameKey.{NameKey}
 
 -- 16 bytes: those of the word, and zeros behind them
@@ -16,4 +17,4 @@ word_of k = take k.length k.bytes
 
 -- it is the key of its word, which is short
 abbrev pub is_key : NameKey → Bool
-is_key k = nat_le k.length 16 && (length (word_of k) == k.length) && same_bytes (padded (word_of k)) k.bytes
+is_key k = nat_le k.length most_name_bytes && (length (word_of k) == k.length) && same_bytes (padded (word_of k)) k.bytes

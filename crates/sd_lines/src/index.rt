@@ -3,15 +3,14 @@
 ghost use Rattle.std.specs.Prelude.{◌≡◌, ◌≤◌, ◌<◌, [], ◌∷◌, ◌++◌, ℕ, List, map, length, position, false, IsTrue, IfSome, OnOk, OnErr};
 ghost use Rattle.std.specs.List.{list_all, list_any};
 ghost use Rattle.sd_types.specs.Works.{same_bytes};
+ghost use Rattle.sd_types.specs.Limits.{most_name_bytes};
 ghost use Rattle.sd_lines.specs.Keys.{is_key, word_of};
 
 use crate::key::NameKey;
 use indexmap::IndexSet;
+use sd_types::MOST_NAME_BYTES;
 use std::alloc::{AllocError, Global};
 use std::marker::Model;
-
-/// The most bytes of a name (this project's own).
-const MOST_BYTES: usize = 16;
 
 /// Names of at most 16 bytes that differ, each with its number: its place in the order in which they were put in.
 #[derive(Drop)]
@@ -43,7 +42,7 @@ impl NameIndex {
         ensures within { IfSome result (λ i. i < length self.now) }
     {
         let keys = &self.keys;
-        if MOST_BYTES < word.len() {
+        if MOST_NAME_BYTES < word.len() {
             return None;
         }
         keys.get_index_of(&NameKey::of(word))
@@ -51,7 +50,7 @@ impl NameIndex {
 
     /// Puts in one more name, which was not there.
     pub fn push(&mut self, name: &[u8]) -> Result<(), AllocError>
-        requires short { length name.now ≤ 16 }
+        requires short { length name.now ≤ most_name_bytes }
         requires new { list_any (λ other. same_bytes other name.now) self.old ≡ false }
         ensures ok { OnOk result (self.new ≡ self.old ++ name.now ∷ []) }
         ensures err { OnErr result (self.new ≡ self.old) }

@@ -1,6 +1,7 @@
 //! A name as plain bytes, which can be hashed and compared.
 
 ghost use Rattle.std.specs.Prelude.{◌≡◌, ◌≤◌, length};
+ghost use Rattle.sd_types.specs.Limits.{most_name_bytes};
 
 /// A name as plain bytes: how many it has, and these bytes with zeros behind them.
 #[derive(Clone, Copy, PartialEq, Eq, Hash)]
@@ -14,7 +15,7 @@ impl NameKey {
 
     /// The key of a word.
     pub(crate) fn of(word: &[u8]) -> NameKey
-        requires { length word.now ≤ 16 }
+        requires { length word.now ≤ most_name_bytes }
         ensures { result ≡ key_of word.now }
     {
         let mut bytes = [0; 16];

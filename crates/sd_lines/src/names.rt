@@ -6,7 +6,7 @@ ghost use Rattle.sd_types.specs.NameWords.{is_letter, is_name_byte, begins_with_
 ghost use Rattle.sd_types.specs.Works.{same_bytes};
 ghost use Rattle.sd_lines.specs.Words.{name_of};
 
-use sd_types::Name;
+use sd_types::{MOST_NAME_BYTES, Name};
 
 /// Whether a word is this one.
 pub fn is_word(word: &[u8], keyword: &[u8]) -> bool
@@ -45,7 +45,7 @@ fn are_name_bytes(word: &[u8]) -> bool
 fn is_name(word: &[u8]) -> bool
     ensures { result ≡ is_name word.now }
 {
-    begins_with_letter(word) && word.len() <= 16 && are_name_bytes(word)
+    begins_with_letter(word) && word.len() <= MOST_NAME_BYTES && are_name_bytes(word)
 }
 
 /// The name that a word spells.

@@ -8,7 +8,7 @@ use std::alloc::{AllocError, Global};
 use std::marker::Model;
 
 /// The most bytes of numbers behind which there is room for those of one more entry: 64 below 2^32.
-const MOST_BYTES: usize = 4_294_967_232;
+const MOST_NUMBER_BYTES: usize = 4_294_967_232;
 
 /// Entries, of which the numbers are their places. The numbers that they read of processors lie one behind another in `bytes`.
 #[derive(Drop)]
@@ -64,7 +64,7 @@ impl EntryLog {
         ensures same { self.new.items ≡ self.old.items }
         ensures room { OnOk result (0 < self.new.room) }
     {
-        if self.bytes.len() > MOST_BYTES {
+        if self.bytes.len() > MOST_NUMBER_BYTES {
             return Err(AllocError);
         }
         self.short.reserve(1)?;

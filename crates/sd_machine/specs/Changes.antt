@@ -18,7 +18,7 @@ use Rattle.sd_state.specs.declared.states.Place.{Place}
 use Rattle.sd_state.specs.declared.states.Place.TheVariants.{Running, Queued, RealTime}
 use Rattle.sd_state.specs.declared.states.CpuState.{CpuState}
 use Rattle.sd_state.specs.declared.states.State.{State}
-use Rattle.sd_state.specs.States.{thread_of, cpu_of, with_thread, with_cpu, set_of, eff_of}
+use Rattle.sd_state.specs.States.{thread_of, cpu_of, with_thread, with_cpu, set_of, eff_of, first_back_key}
 use Rattle.sd_state.specs.Operations.{script_of, op_over, ran}
 use Rattle.sd_machine.specs.Threads.{open_of, with_open, runner, best_ready, priority_of}
 use Rattle.sd_machine.specs.Bodies.{with_class, departed, arrived}
@@ -27,7 +27,7 @@ use Rattle.sd_types.specs.Willed.{changed_number, with_willed, with_lock as with
 -- Keys: that of a thread which entry n puts at an end of a queue, on a turnstile or on a sleep queue.
 
 abbrev pub back_key : ℕ → ℤ
-back_key n = pos (4096 + n)
+back_key n = pos (first_back_key + n)
 
 abbrev pub key_at : ℕ → End → ℤ
 key_at n Back = back_key n

@@ -19,6 +19,7 @@ use Rattle.sd_types.specs.declared.scripts.Request.{Request}
 use Rattle.sd_types.specs.declared.works.Work.{Work}
 use Rattle.sd_types.specs.Scripts.{is_held}
 use Rattle.sd_types.specs.Willed.{IsSound}
+use Rattle.sd_types.specs.Limits.{most_held, most_processors}
 use Rattle.sd_state.specs.declared.states.LockState.{LockState}
 use Rattle.sd_state.specs.declared.states.LockState.TheVariants.{ReadHeld, Passing}
 use Rattle.sd_state.specs.declared.states.Place.{Place}
@@ -99,7 +100,7 @@ CanNap w s t c = (cpu_of s c.0).count + nap_ticks (op_of w t.0 (thread_of s t.0)
 
 -- it can hold one lock more, and does not hold this one
 pub record CanHold (s : State) (t : ThreadId) (l : LockId) : Type 0 where
-  pub room : length (thread_of s t.0).body.held.items < 8
+  pub room : length (thread_of s t.0).body.held.items < most_held
   pub apart : is_held l (thread_of s t.0).body.held.items ≡ false
 
 -- it holds the lock, through which it is to inherit a priority, or none
@@ -118,7 +119,7 @@ more_fits _ = true
 pub record CanReceive (w : Work) (s : State) (u : ThreadId) (l : LockId) : Type 0 where
   pub thread : IsThread s u
   pub op : CanFinish w s u
-  pub room : length (thread_of s u.0).body.held.items < 8
+  pub room : length (thread_of s u.0).body.held.items < most_held
   pub apart : is_held l (thread_of s u.0).body.held.items ≡ false
   pub sound : IsSound (thread_of s u.0).body
   pub below : IfSome (others_waiting s l u.0) (λ n. n < 160)
@@ -130,7 +131,7 @@ CanCount s k = count_of s k.0 + 1 < 2 ^ 32
 
 -- one processor more can be listed
 abbrev pub CanJoin : State → SetId → Type 0
-CanJoin s p = length (open_of s p.0) < 64
+CanJoin s p = length (open_of s p.0) < most_processors
 
 -- Answers.
 

@@ -4,6 +4,7 @@ use Rattle.std.specs.Prelude.{◌≡◌, ℕ, ◌<◌, ◌^◌, List, length, Is
 use Rattle.std.specs.List.{All}
 use Rattle.sd_types.specs.declared.events.Entry.{Entry}
 use Rattle.sd_types.specs.declared.works.Work.{Work}
+use Rattle.sd_types.specs.Limits.{most_entries}
 use Rattle.sd_state.specs.declared.states.State.{State}
 use Rattle.sd_state.specs.Opening.{opening}
 use Rattle.sd_machine.specs.Runs.{final, IsComplete, IsReached, IsRun, IsSerial, IsStep}
@@ -23,11 +24,11 @@ HasBytes e = IsTrue (hints_in_range e.hints)
 
 abbrev pub RunJournalsAreJournals : Type 0
 RunJournalsAreJournals =
-    (w : Work) (es : List Entry) → IsRun w es → IsComplete w (final w (opening w) es) → All HasBytes es → length es < 2 ^ 40 → IsJournal w (journal w es) (final w (opening w) es) (length es)
+    (w : Work) (es : List Entry) → IsRun w es → IsComplete w (final w (opening w) es) → All HasBytes es → length es < most_entries → IsJournal w (journal w es) (final w (opening w) es) (length es)
 
 abbrev pub SerialJournalsAreJournals : Type 0
 SerialJournalsAreJournals =
-    (w : Work) (turns : Turns) (es : List Entry) → IsSerial w (orders_of w turns) es → length es < 2 ^ 40 → IsJournal w (journal w es) (final w (opening w) es) (length es)
+    (w : Work) (turns : Turns) (es : List Entry) → IsSerial w (orders_of w turns) es → length es < most_entries → IsJournal w (journal w es) (final w (opening w) es) (length es)
 
 -- a journal has the entries of one run alone: of entries that have lines of their own, no others have the same journal
 abbrev pub JournalsTellEntries : Type 0

@@ -1,6 +1,6 @@
 //! The run of an accepted workload, made and written.
 
-ghost use Rattle.std.specs.Prelude.{◌≡◌, ◌≢◌, ◌<◌, ◌≤◌, ◌^◌, ◌↔◌, [], length, map, IfOk, IsTrue, IsErrOf};
+ghost use Rattle.std.specs.Prelude.{◌≡◌, ◌≢◌, ◌<◌, ◌≤◌, ◌↔◌, [], length, map, IfOk, IsTrue, IsErrOf};
 ghost use Rattle.sd_machine.specs.LockGraph.{cycles_of};
 ghost use Rattle.sd_machine.specs.Runs.{final};
 ghost use Rattle.sd_state.specs.Opening.{opening};
@@ -11,6 +11,7 @@ ghost use Rattle.sd_program.specs.Forms.{mode_of};
 ghost use Rattle.sd_program.specs.RunAnswers.{IsLong, Ran};
 ghost use Rattle.sd_program.specs.TheRun.{IsTheRun};
 ghost use Rattle.sd_answers.specs.StreamChanges.{change_of};
+ghost use Rattle.sd_types.specs.Limits.{most_entries};
 
 use crate::forms::{Form, Mode};
 use crate::numbers_are_bytes;
@@ -33,7 +34,7 @@ fn run_in_rounds(alloc: Global, work: &Work, mode: Mode) -> Result<Finished, Sto
     requires { mode ≢ Threads }
     ensures run { IfOk result (λ r. IsTheRun work.now mode r.entries.items) }
     ensures state { IfOk result (λ r. r.state ≡ final work.now (opening work.now) r.entries.items) }
-    ensures short { IfOk result (λ r. length r.entries.items < 2 ^ 40) }
+    ensures short { IfOk result (λ r. length r.entries.items < most_entries) }
     ensures full { IsErrOf result Stop.Full → IsLong work.now mode }
 {
     match mode {
@@ -51,7 +52,7 @@ fn run_side_by_side<R: Threads + Wait + Sync, G: Gate + Sync>(
 ) -> Result<Finished, Stop>
     ensures run { IfOk result (λ r. IsTheRun work.now Threads r.entries.items) }
     ensures state { IfOk result (λ r. r.state ≡ final work.now (opening work.now) r.entries.items) }
-    ensures short { IfOk result (λ r. length r.entries.items < 2 ^ 40) }
+    ensures short { IfOk result (λ r. length r.entries.items < most_entries) }
     ensures full { IsErrOf result Stop.Full → IsLong work.now Threads }
 {
     match run_on_threads(rt, alloc, work, gate) {
@@ -81,7 +82,7 @@ fn put_finished<K: Sink>(
 ) -> Result<(), Answer>
     requires run { IsTheRun work.now (mode_of form) run.now.entries.items }
     requires state { run.now.state ≡ final work.now (opening work.now) run.now.entries.items }
-    requires short { length run.now.entries.items < 2 ^ 40 }
+    requires short { length run.now.entries.items < most_entries }
     ensures ran { Ran work.now form
         (change_of (K.contents out.old) (K.contents out.new) (K.fault_count out.old) (K.fault_count out.new))
         (answer_of result) }

@@ -4,6 +4,7 @@ ghost use Rattle.std.specs.Prelude.{◌≡◌, ◌<◌, false, IsTrue, IfOk, IfS
 ghost use Rattle.sd_types.specs.Priorities.{base_of, eff_as, eff};
 ghost use Rattle.sd_types.specs.Scripts.{is_held};
 ghost use Rattle.sd_types.specs.Willed.{eff_with, IsSound};
+ghost use Rattle.sd_types.specs.Limits.{most_held};
 
 use sd_boxq::Ranked;
 use sd_types::{ClassState, LockId, ThreadBody, ThreadId};
@@ -104,7 +105,7 @@ impl Record {
     /// Puts `l`, which the thread does not hold, at the end of the locks that it holds.
     pub fn take_lock(&mut self, l: LockId)
         requires not_held { is_held l self.old.body.held.items ≡ false }
-        requires room { length self.old.body.held.items < 8 }
+        requires room { length self.old.body.held.items < most_held }
         ensures { self.new ≡ lock_taken self.old l }
     {
         self.body.take_lock(l);

@@ -8,6 +8,7 @@ use Rattle.sd_types.specs.declared.numbers.CpuId.{CpuId}
 use Rattle.sd_types.specs.declared.numbers.HomeId.TheVariants.{RealTime}
 use Rattle.sd_types.specs.declared.numbers.SetId.{SetId}
 use Rattle.sd_types.specs.declared.scripts.Op.TheVariants.{Run}
+use Rattle.sd_types.specs.Limits.{most_processors}
 use Rattle.sd_state.specs.declared.states.State.{State}
 use Rattle.sd_state.specs.Operations.{op_of}
 use Rattle.sd_state.specs.States.{cpu_of}
@@ -31,7 +32,7 @@ use Rattle.sd_rounds.specs.declared.sight.Sight.TheVariants.{Runs, Idles, Unclea
 abbrev pub Sees : Work → State → ℕ → Sight → Type 0
 Sees w s c (Runs t) = ((cpu_of s c).duty ≡ Nothing) × (Make (Tick t) ≡ plan w s c)
 Sees w s c (Idles p many) =
-    ((cpu_of s c).duty ≡ Nothing) × (Search ≡ plan w s c) × (p ≡ (cpu_of s c).set) × ((cpu_of s c).closing ≡ None) × (many ≡ length (open_of s p.0)) × (many ≤ 64) × IsSearched s (Some p)
+    ((cpu_of s c).duty ≡ Nothing) × (Search ≡ plan w s c) × (p ≡ (cpu_of s c).set) × ((cpu_of s c).closing ≡ None) × (many ≡ length (open_of s p.0)) × (many ≤ most_processors) × IsSearched s (Some p)
 Sees w s c Unclear = ⊤
 
 -- of a thread that runs, on a processor with no mark, and whose operation is to run
@@ -48,5 +49,5 @@ ShowZero x known cpus = (n : ℕ) (s : State) → IsShown x n s → IsSearched s
 abbrev pub SeesQuiet : Acting → Home → CpuView → Option SetId → Sight → Type 0
 SeesQuiet x h v known (Runs t) = ⊥
 SeesQuiet x h v known (Idles p many) = (p ≡ v.set) × (v.closing ≡ None) × (slice_get (list_in h (Queues x.actor.cpu)) 0 ≡ None)
-    × (g : Home) × (held (RealTime v.set) x.hand.slots ≡ Some g) × (slice_get (list_in g (Urgent v.set)) 0 ≡ None) × ShowZero x known (open_in g) × (many ≡ length (open_in g)) × (many ≤ 64)
+    × (g : Home) × (held (RealTime v.set) x.hand.slots ≡ Some g) × (slice_get (list_in g (Urgent v.set)) 0 ≡ None) × ShowZero x known (open_in g) × (many ≡ length (open_in g)) × (many ≤ most_processors)
 SeesQuiet x h v known Unclear = ⊤

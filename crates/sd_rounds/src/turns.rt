@@ -4,6 +4,7 @@
 ghost use Rattle.std.specs.Prelude.{◌≡◌, ◌++◌, ◌-◌, ◌<◌, ◌≤◌, ◌↔◌, IfErr, IfSome, Option, length, map, replicate, IsErrOf, OnErr, OnOk};
 ghost use Rattle.sd_types.specs.declared.events.Duty.TheVariants.{Nothing};
 ghost use Rattle.sd_types.specs.declared.events.Which.TheVariants.{Queued};
+ghost use Rattle.sd_types.specs.Limits.{most_processors};
 ghost use Rattle.sd_machine.specs.declared.plans.Plan.TheVariants.{Make, Search};
 ghost use Rattle.sd_machine.specs.Choosing.{hint_shown, neighbours};
 ghost use Rattle.sd_machine.specs.Events.{allowed, next};
@@ -58,7 +59,7 @@ fn come(work: &Work, world: &mut PlainWorld, event: Event, hints: Option<Hints>)
 /// So many zeros.
 #[inline(always)]
 fn zeros(count: usize) -> ArrayVec<u8, 64>
-    requires { count ≤ 64 }
+    requires { count ≤ most_processors }
     ensures { result.items ≡ replicate count 0 }
 {
     let mut numbers = ArrayVec::from_array_in((), [0; 64]);
@@ -81,7 +82,7 @@ fn end_search(
     requires few { length world.old.entries.items < MOST_ENTRIES }
     requires duty { world.old.acting.actor.duty ≡ Nothing }
     requires plan { Search ≡ plan_of work.now (told work.now world.old) world.old.acting.actor.cpu.0 }
-    requires fits { cpus ≤ 64 }
+    requires fits { cpus ≤ most_processors }
     requires numbers { replicate (cpus - 1) 0 ≡ map (hint_shown (told work.now world.old) Queued) (neighbours (told work.now world.old) world.old.acting.actor.cpu.0) }
     ensures stands { Stands work.now world.new }
     ensures work { world.new.work.now ≡ work.now }

@@ -5,6 +5,7 @@ ghost use Rattle.std.specs.List.{list_all};
 ghost use Rattle.sd_types.specs.Works.{set_fits, set_cpus, same_cpu, same_bytes, is_distinct};
 ghost use Rattle.sd_types.specs.NameWords.{is_name};
 ghost use Rattle.sd_types.specs.Ticks.{ts_ticks_fit, fixed_ticks_fit};
+ghost use Rattle.sd_types.specs.Limits.{most_processors, most_sets};
 
 use crate::Partitions;
 use sd_types::{CpuId, FixedRow, FixedTable, List, Name, SetId, TsRow, TsTable, Work};
@@ -40,8 +41,8 @@ fn fixed_table(alloc: Global) -> Result<FixedTable, AllocError>
 /// A workload without threads.
 fn idle(alloc: Global, cpus: u16, sets: List<(Name, List<CpuId>)>) -> Result<Work, AllocError>
     requires some_cpu { 1 ≤ cpus }
-    requires most_cpus { cpus ≤ 64 }
-    requires most_sets { length sets ≤ 8 }
+    requires most_cpus { cpus ≤ most_processors }
+    requires most_sets { length sets ≤ most_sets }
     requires sets_fit { IsTrue (list_all (set_fits cpus) sets) }
     requires cpus_differ { IsTrue (is_distinct same_cpu (set_cpus sets)) }
     requires cpu_left { length (set_cpus sets) < cpus }
@@ -74,7 +75,7 @@ fn set(alloc: Global, name: &[u8], cpus: &[CpuId]) -> Result<(Name, List<CpuId>)
 /// Whether these are the sets of the first processors.
 fn has_sets(parts: &Partitions, sets: &[u8]) -> bool
     requires known { length sets.now ≤ length parts.now.sets }
-    requires few { length sets.now ≤ 64 }
+    requires few { length sets.now ≤ most_processors }
 {
     for (number, set) in sets.iter().enumerate() {
         if parts.of_cpu(CpuId(number as u16)).0 != *set {

@@ -2,6 +2,7 @@
 
 ghost use Rattle.std.specs.Prelude.{◌≡◌, ◌<◌, ◌↔◌, false, length, take, min, slice_get, Err, IsOk, IfOk, OnOk, IfErr};
 ghost use Rattle.sd_types.specs.Scripts.{is_held, held_after, held_by, enters};
+ghost use Rattle.sd_types.specs.Limits.{most_operations};
 ghost use Rattle.sd_script.specs.declared.faults.ScriptFault.{ScriptFault};
 ghost use Rattle.sd_script.specs.Faults.{IsFault, IsFreeBelow, IsWellFormed, op_fault, is_unbalanced, is_ninth, is_taken_again, is_unpaired};
 
@@ -38,8 +39,8 @@ fn check_ops(ops: &[Op]) -> Result<(), ScriptFault>
 
 /// The locks that are held after the first 256 operations, or the first fault of one of these.
 fn held_after_all(ops: &[Op]) -> Result<ArrayVec<LockId, 8>, ScriptFault>
-    ensures held { IfOk result (λ held. held.items ≡ held_by (take 256 ops.now)) }
-    ensures free { OnOk result (IsFreeBelow ops.now (min (length ops.now) 256)) }
+    ensures held { IfOk result (λ held. held.items ≡ held_by (take most_operations ops.now)) }
+    ensures free { OnOk result (IsFreeBelow ops.now (min (length ops.now) most_operations)) }
     ensures fault { IfErr result (IsFault ops.now) }
 {
     let mut held = ArrayVec::new();

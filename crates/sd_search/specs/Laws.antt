@@ -8,6 +8,7 @@ use Rattle.sd_types.specs.declared.events.Hints.{Hints}
 use Rattle.sd_types.specs.declared.works.Work.{Work}
 use Rattle.sd_state.specs.declared.states.State.{State}
 use Rattle.sd_state.specs.Opening.{opening}
+use Rattle.sd_state.specs.States.{first_back_key}
 use Rattle.sd_machine.specs.Events.{after, next, reads}
 use Rattle.sd_machine.specs.Needs.{Needs}
 use Rattle.sd_machine.specs.Runs.{IsRun, final, serial_hints, IsFresh}
@@ -35,7 +36,7 @@ EntriesKeepTheOrder =
 -- whose keys have the same order are those that are the same with ranks
 pub record IsToldByRanks (x s : State) : Type 0 where
   pub same : IsSameOrder (ranked s) s
-  pub fits : length s.threads + length s.cpus < 4096 → KeysFit 0 (ranked s)
+  pub fits : length s.threads + length s.cpus < first_back_key → KeysFit 0 (ranked s)
   pub to : IsSameOrder x s → ranked x ≡ ranked s
   pub from : ranked x ≡ ranked s → IsSameOrder x s
 

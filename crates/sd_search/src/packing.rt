@@ -9,14 +9,14 @@ use sd_state::State;
 use std::alloc::{AllocError, Global};
 
 /// The bytes for which there is room from the first (this project's own): most states of a search have fewer.
-const MOST_BYTES: usize = 512;
+const FIRST_ROOM: usize = 512;
 
 /// The bytes of a state, with no room beyond them.
 pub(crate) fn pack(alloc: Global, state: &State) -> Result<Vec<u8>, AllocError>
     ensures bytes { IfOk result (λ bytes. bytes.items ≡ encoded state.now) }
     ensures held { OnOk result (IsHeld state.now) }
 {
-    let mut bytes = Vec::with_capacity(alloc, MOST_BYTES)?;
+    let mut bytes = Vec::with_capacity(alloc, FIRST_ROOM)?;
     encode(alloc, state, &mut bytes)?;
     bytes.shrink_to_fit();
     Ok(bytes)

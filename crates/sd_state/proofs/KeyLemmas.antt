@@ -5,7 +5,7 @@ use Rattle.std.proofs.lemmas.Int.{ints}
 use Rattle.sd_types.specs.declared.works.Work.{Work}
 use Rattle.sd_state.specs.declared.states.Place.{Place}
 use Rattle.sd_state.specs.declared.states.Place.TheVariants.{Queued, RealTime, Waiting, Asleep}
-use Rattle.sd_state.specs.States.{key_of}
+use Rattle.sd_state.specs.States.{first_back_key, key_of}
 use Rattle.sd_state.specs.Opening.{opening}
 use Rattle.sd_state.specs.Invariants.{has_key, same_queue}
 use Rattle.sd_state.proofs.Chosen.{places}
@@ -28,11 +28,11 @@ IsChanged (Put t x) f g = IsPut t x f g
 -- a key that may be in use after n entries
 pub record IsWithin (n : ℕ) (k : ℤ) : Type 0 where
   pub least : neg_ℤ (pos n) ≤ℤ k
-  pub greatest : k <ℤ pos (4096 + n)
+  pub greatest : k <ℤ pos (first_back_key + n)
 
 -- a key that entry n gives
 abbrev pub IsNew : ℕ → ℤ → Type 0
-IsNew n k = (k ≡ pos (4096 + n)) ⊎ (k ≡ negsuc n)
+IsNew n k = (k ≡ pos (first_back_key + n)) ⊎ (k ≡ negsuc n)
 
 new_within : (n : ℕ) (k : ℤ) → IsNew n k → IsWithin (n + 1) k
 new_within n k (inl e) = record { least = omega (arith, ints); greatest = omega (arith, ints) }

@@ -10,7 +10,7 @@ use Rattle.sd_state.specs.declared.states.Place.{Place}
 use Rattle.sd_state.specs.declared.states.Place.TheVariants.{Running, Queued, RealTime, Waiting, Asleep, Napping, Ended}
 use Rattle.sd_state.specs.declared.states.CpuState.{CpuState}
 use Rattle.sd_state.specs.declared.states.State.{State}
-use Rattle.sd_state.specs.States.{thread_of, cpu_of, key_of, is_running, is_queued, set_of, same_side}
+use Rattle.sd_state.specs.States.{thread_of, cpu_of, key_of, is_running, is_queued, set_of, same_side, first_back_key}
 use Rattle.sd_state.specs.Opening.{class_of, is_urgent}
 
 -- at most one thread runs on each processor
@@ -42,11 +42,11 @@ KeysDiffer s =
     (t u : ℕ) → t < length s.threads → u < length s.threads
     → same_queue (thread_of s t).place (thread_of s u).place ≡ true → key_of (thread_of s t).place ≡ key_of (thread_of s u).place → t ≡ u
 
--- after n entries each key is at least -n and less than 4096 + n
+-- after n entries each key is at least -n and less than first_back_key + n
 abbrev pub KeysWithin : ℕ → State → Type 0
 KeysWithin n s =
     (t : ℕ) → t < length s.threads → has_key (thread_of s t).place ≡ true
-    → (neg_ℤ (pos n) ≤ℤ key_of (thread_of s t).place) × (key_of (thread_of s t).place <ℤ pos (4096 + n))
+    → (neg_ℤ (pos n) ≤ℤ key_of (thread_of s t).place) × (key_of (thread_of s t).place <ℤ pos (first_back_key + n))
 
 -- the user's mark or the kernel's is set
 abbrev pub is_marked : CpuState → Bool

@@ -59,6 +59,10 @@ same_side Reader Writer = false
 same_side Reader Reader = true
 
 -- the key of a place, 0 where it has none
+-- keys are not below it at the back of a queue, and below it where a run begins
+abbrev pub first_back_key : ℕ
+first_back_key = 4096
+
 abbrev pub key_of : Place → ℤ
 key_of (Queued c k) = k
 key_of (RealTime p k) = k

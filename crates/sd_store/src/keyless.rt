@@ -12,12 +12,15 @@ use crate::{Chore, Destination, Task};
 use sd_state::Place;
 use sd_types::{ChanId, CpuId, Duty, End, Put, SetId, ThreadId, Work};
 
+/// Keys are not below it at the back of a queue, and below it where a run begins.
+const FIRST_BACK_KEY: i64 = 4096;
+
 /// The key of a thread that entry `number` puts at the back of a queue.
 fn back_key(number: u64) -> i64
     requires { number < 2 ^ 62 }
     ensures { result ≡ back_key number }
 {
-    4096 + number as i64
+    FIRST_BACK_KEY + number as i64
 }
 
 /// The key of a thread that entry `number` puts at an end of a queue.

@@ -11,6 +11,7 @@ use sd_types::{ChanId, CpuId, LockId, SetId, Side, ThreadBody, ThreadId};
 /// No look-up tells a key. A number that is out of range reads what the definitions of the state say of it.
 pub trait Look {
     ghost use Rattle.std.specs.Prelude.{◌≡◌, ℕ, ◌+◌, ◌≤◌, Bool, true, [], ◌∷◌, length, IfOk, option_copied, unwrap_or};
+    ghost use Rattle.sd_types.specs.Limits.{most_processors};
     ghost use Rattle.sd_state.specs.declared.states.State.{State};
     ghost use Rattle.sd_state.specs.States.{cpu_of, no_body, thread_of};
     ghost use Rattle.sd_machine.specs.Threads.{best_queued, best_ready, best_sleeper, best_unbound, best_waiter, count_of, first_due, greatest_waiting, has_waiters, lock_of, next_to_age, open_of, runner};
@@ -144,7 +145,7 @@ pub trait Look {
     /// The open processors of set `p`, in rising order: at most 64.
     fn open_cpus(&self, p: SetId) -> Result<&[CpuId], Self::Lack>
         ensures value { IfOk result (λ r. (n : ℕ) (s : State) → shows self.now n s → r.now ≡ open_of s p.0) }
-        ensures fits { IfOk result (λ r. length r.now ≤ 64) }
+        ensures fits { IfOk result (λ r. length r.now ≤ most_processors) }
         ensures lack { Lacks part (shows self.now) (has self.now) result (λ s. real_time_part p ∷ []) };
 
     /// The body of thread `t`, None where there is no such thread.

@@ -3,6 +3,7 @@
 ghost use Rattle.std.specs.Prelude.{◌≡◌, ◌<◌, ◌≤◌, length};
 ghost use Rattle.sd_hand.specs.Hands.{how_many_held};
 ghost use Rattle.sd_types.specs.declared.events.Which.{Which as WhichOf};
+ghost use Rattle.sd_types.specs.Limits.{most_processors};
 ghost use Rattle.sd_world.specs.Plain.{AreCpus};
 ghost use Rattle.sd_world.specs.Worlds.{AllHinted, IsQuiet, ReadsCounts, Rises, Stays};
 ghost use Rattle.sd_table.specs.Seats.{Fits, id_of, work_of};
@@ -97,7 +98,7 @@ impl<'a> TableWorld<'a> {
     /// Reads the numbers that these processors show, in their order.
     fn numbers(&mut self, which: Which, cpus: &[CpuId]) -> ArrayVec<u8, 64>
         requires good { IsTable self.old }
-        requires fits { length cpus.now ≤ 64 }
+        requires fits { length cpus.now ≤ most_processors }
         requires there { AreCpus (the_work self.old) cpus.now }
         ensures good { IsTable self.new }
         ensures table { self.new.shared ≡ self.old.shared }

@@ -10,6 +10,14 @@ most_bytes = 1048576
 abbrev pub most_certificate : ℕ
 most_certificate = 134217728
 
+-- the most bytes of a name
+abbrev pub most_name_bytes : ℕ
+most_name_bytes = 16
+
+-- the most processors
+abbrev pub most_processors : ℕ
+most_processors = 64
+
 -- the most sets of processors that a workload declares
 abbrev pub most_sets : ℕ
 most_sets = 8
@@ -24,6 +32,14 @@ most_threads = 2048
 -- the most pairs of a thread and a lock
 abbrev pub most_pairs : ℕ
 most_pairs = 65536
+
+-- the most ticks of each processor: the greatest limit
+abbrev pub greatest_limit : ℕ
+greatest_limit = 100000
+
+-- the most ticks of one run, and of one nap
+abbrev pub greatest_span : ℕ
+greatest_span = 100000
 
 -- the most ticks of all processors together
 abbrev pub most_ticks : ℕ

@@ -1,6 +1,7 @@
 -- Which words are names. Source: this project's own.
 use Rattle.std.specs.Prelude.{ℕ, Bool, false, ◌&&◌, ◌||◌, List, [], ◌∷◌, length, nat_le, ◌==◌}
 use Rattle.std.specs.List.{list_all}
+use Rattle.sd_types.specs.Limits.{most_name_bytes}
 
 -- a to z
 abbrev pub is_letter : ℕ → Bool
@@ -15,4 +16,4 @@ begins_with_letter [] = false
 begins_with_letter (b ∷ bs) = is_letter b
 
 abbrev pub is_name : List ℕ → Bool
-is_name word = begins_with_letter word && nat_le (length word) 16 && list_all is_name_byte word
+is_name word = begins_with_letter word && nat_le (length word) most_name_bytes && list_all is_name_byte word

@@ -5,6 +5,7 @@ use Rattle.std.specs.List.{list_any}
 use Rattle.sd_types.specs.declared.numbers.LockId.{LockId}
 use Rattle.sd_types.specs.declared.scripts.Op.{Op}
 use Rattle.sd_types.specs.declared.scripts.Op.TheVariants.{Enter, Read, Write, Exit, CvWait}
+use Rattle.sd_types.specs.Limits.{most_held}
 
 abbrev pub is_lock : LockId → LockId → Bool
 is_lock l m = l.0 == m.0
@@ -35,7 +36,7 @@ enters l (Some (Enter m)) = is_lock l m
 enters l _ = false
 
 abbrev pub can_take : LockId → List LockId → Bool
-can_take l held = not (is_held l held) && nat_lt (length held) 8
+can_take l held = not (is_held l held) && nat_lt (length held) most_held
 
 -- an operation with the locks held before it and the operation after it
 abbrev pub op_fits : List LockId → Op → Option Op → Bool

@@ -17,6 +17,7 @@ use Rattle.sd_types.specs.declared.works.LockKind.TheVariants.{Mutex, Rwlock}
 use Rattle.sd_types.specs.declared.works.ChanKind.{ChanKind}
 use Rattle.sd_types.specs.declared.works.ChanKind.TheVariants.{Chan, Sema}
 use Rattle.sd_types.specs.declared.works.ThreadDecl.{ThreadDecl}
+use Rattle.sd_types.specs.Limits.{greatest_span}
 
 abbrev pub same_bytes : List ℕ → List ℕ → Bool
 same_bytes [] [] = true
@@ -79,7 +80,7 @@ is_sema None = false
 
 -- ticks of a run or a nap
 abbrev pub span_fits : ℕ → Bool
-span_fits n = nat_le 1 n && nat_le n 100000
+span_fits n = nat_le 1 n && nat_le n greatest_span
 
 abbrev pub quantum_fits : Quantum → Bool
 quantum_fits Def = true

@@ -4,11 +4,12 @@
 //! Source: Solaris Internals (turnstiles, priority inheritance).
 
 ghost use Rattle.std.specs.Prelude.{◌≡◌, ◌<◌, false, IsTrue, None, IfSome, length};
+ghost use Rattle.sd_types.specs.Limits.{most_held};
 ghost use Rattle.sd_types.specs.Priorities.{greatest_willed};
 ghost use Rattle.sd_types.specs.Scripts.{is_held};
 ghost use Rattle.sd_types.specs.Willed.{IsSound, number_for, with_number, without_number, with_willed, with_lock, released, eff_with};
 
-use crate::{LockId, ThreadBody, greatest_willed, without_lock};
+use crate::{LockId, MOST_HELD, ThreadBody, greatest_willed, without_lock};
 use arrayvec::ArrayVec;
 
 impl ThreadBody {
@@ -21,7 +22,7 @@ impl ThreadBody {
         ensures sound { IsSound self.new }
     {
         let locks = self.held.len();
-        prove!(locks <= 8);
+        prove!(locks <= MOST_HELD);
         set_number(&mut self.willed, l, pri);
     }
 
@@ -36,7 +37,7 @@ impl ThreadBody {
 
     /// Puts `l` at the end of the locks that the thread holds.
     pub fn take_lock(&mut self, l: LockId)
-        requires { length self.old.held.items < 8 }
+        requires { length self.old.held.items < most_held }
         ensures value { self.new ≡ with_lock l self.old }
         ensures sound { IsSound self.old → is_held l self.old.held.items ≡ false → IsSound self.new }
     {
@@ -73,7 +74,7 @@ impl ThreadBody {
 
 /// Makes `pri` the number for the lock.
 fn set_number(willed: &mut ArrayVec<(LockId, u8), 8>, l: LockId, pri: u8)
-    requires { number_for l willed.old.items ≡ None → length willed.old.items < 8 }
+    requires { number_for l willed.old.items ≡ None → length willed.old.items < most_held }
     ensures { willed.new.items ≡ with_number l pri willed.old.items }
 {
     for index in 0..willed.len() {

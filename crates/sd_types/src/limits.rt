@@ -6,6 +6,12 @@ pub const MOST_WORKLOAD_BYTES: usize = 1_048_576;
 /// The most bytes of a certificate: a workload, the line `journal`, and the journal of a run.
 pub const MOST_CERTIFICATE_BYTES: u64 = 134_217_728;
 
+/// The most bytes of a name.
+pub const MOST_NAME_BYTES: usize = 16;
+
+/// The most processors of a workload.
+pub const MOST_PROCESSORS: usize = 64;
+
 /// The most sets of processors that a workload declares.
 pub const MOST_SETS: usize = 8;
 
@@ -17,6 +23,12 @@ pub const MOST_THREADS: usize = 2048;
 
 /// The most pairs of a thread and a lock of a workload.
 pub const MOST_PAIRS: usize = 65_536;
+
+/// The greatest limit of a workload: the most ticks of each processor.
+pub const GREATEST_LIMIT: u32 = 100_000;
+
+/// The most ticks of one run, and of one nap.
+pub const GREATEST_SPAN: u32 = 100_000;
 
 /// The most ticks of all processors together: the limit of a workload times the number of its processors.
 pub const MOST_TICKS: u64 = 200_000;

@@ -1,6 +1,7 @@
 //! Scripts: the operations that a thread performs, one after another.
 
 ghost use Rattle.std.specs.Prelude.{◌≡◌, ◌≤◌, length};
+ghost use Rattle.sd_types.specs.Limits.{most_operations};
 ghost use Rattle.sd_types.specs.Scripts.{EachOpFits, held_by, without_lock};
 
 use crate::{ChanId, Class, CpuId, List, LockId, Quantum, SetId, ThreadId};
@@ -44,14 +45,14 @@ pub struct Script {
     pub ops: List<Op>,
     ghost each_fits: { EachOpFits ops },
     ghost released: { length (held_by ops) ≡ 0 },
-    ghost short: { length ops ≤ 256 },
+    ghost short: { length ops ≤ most_operations },
 }
 
 impl Script {
     pub fn from_ops(ops: List<Op>) -> Script
         requires each_fits { EachOpFits ops }
         requires released { length (held_by ops) ≡ 0 }
-        requires short { length ops ≤ 256 }
+        requires short { length ops ≤ most_operations }
         ensures { result.ops ≡ ops }
     {
         Script { ops }

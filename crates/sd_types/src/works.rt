@@ -4,6 +4,7 @@ ghost use Rattle.std.specs.Prelude.{◌≡◌, ◌*◌, ◌<◌, ◌≤◌, ◌|
 ghost use Rattle.std.specs.List.{list_all};
 ghost use Rattle.sd_types.specs.Works.{set_fits, set_cpus, same_cpu, same_bytes, is_distinct, thread_fits, declared_of, has_small_count};
 ghost use Rattle.sd_types.specs.Ticks.{ts_ticks_fit, fixed_ticks_fit};
+ghost use Rattle.sd_types.specs.Limits.{greatest_limit, most_objects, most_operations_of_all, most_pairs, most_processors, most_sets, most_threads, most_ticks};
 
 use crate::{ClassParms, CpuId, FixedTable, List, Name, Script, SetId, TsTable};
 
@@ -49,17 +50,17 @@ pub struct Work {
     pub chans: List<(Name, ChanKind)>,
     pub threads: List<ThreadDecl>,
     ghost some_cpu: { 1 ≤ cpus },
-    ghost most_cpus: { cpus ≤ 64 },
+    ghost most_cpus: { cpus ≤ most_processors },
     ghost known_hz: { IsTrue (hz == 100 || hz == 1000) },
     ghost some_limit: { 1 ≤ limit },
-    ghost most_limit: { limit ≤ 100000 },
-    ghost most_ticks: { limit * cpus ≤ 200000 },
-    ghost most_sets: { length sets ≤ 8 },
-    ghost most_locks: { length locks ≤ 256 },
-    ghost most_chans: { length chans ≤ 256 },
-    ghost most_threads: { length threads ≤ 2048 },
-    ghost most_pairs: { length threads * length locks ≤ 65536 },
-    ghost most_ops: { sum_by (λ t. length t.script.ops) threads ≤ 4096 },
+    ghost most_limit: { limit ≤ greatest_limit },
+    ghost most_ticks: { limit * cpus ≤ most_ticks },
+    ghost most_sets: { length sets ≤ most_sets },
+    ghost most_locks: { length locks ≤ most_objects },
+    ghost most_chans: { length chans ≤ most_objects },
+    ghost most_threads: { length threads ≤ most_threads },
+    ghost most_pairs: { length threads * length locks ≤ most_pairs },
+    ghost most_ops: { sum_by (λ t. length t.script.ops) threads ≤ most_operations_of_all },
     // each set names at least one processor
     ghost sets_fit: { IsTrue (list_all (set_fits cpus) sets) },
     // no processor is named twice

@@ -3,6 +3,7 @@
 use Rattle.std.specs.Prelude.{◌≡◌, ℕ, Bool, ◌&&◌, ◌+◌, ◌-◌, min, nat_lt, List, [], ◌++◌, length, codes, decimal, if◌then◌else◌}
 use Rattle.sd_types.specs.declared.events.Entry.{Entry}
 use Rattle.sd_types.specs.declared.works.Work.{Work}
+use Rattle.sd_types.specs.Limits.{greatest_limit}
 use Rattle.sd_state.specs.Opening.{opening}
 use Rattle.sd_machine.specs.Runs.{final, IsComplete}
 use Rattle.sd_stretches.specs.declared.histories.History.{History}
@@ -39,7 +40,7 @@ counted word n = word ++ decimal n
 
 -- the run ends before the last of the ticks that were asked for; the greatest number, beyond which no run goes, asks for all
 abbrev pub asks_past : Work → ℕ → Bool
-asks_past w to = nat_lt w.limit to && nat_lt to 100000
+asks_past w to = nat_lt w.limit to && nat_lt to greatest_limit
 
 unfoldable pub past_line : List ℕ → Work → List ℕ
 past_line form w = form ++ counted (codes ": the run ends at tick ") w.limit ++ codes "\n"

@@ -2,6 +2,7 @@
 -- Source: this project's own.
 use Rattle.std.specs.Prelude.{ℕ, ◌&&◌, nat_lt, nat_le, List, [], ◌∷◌, length, codes, Option, Some, None, option_map, if◌then◌else◌}
 use Rattle.sd_types.specs.Works.{same_bytes}
+use Rattle.sd_types.specs.Limits.{greatest_limit}
 use Rattle.sd_text.specs.Numbers.{number_of}
 use Rattle.sd_story.specs.declared.selections.Selection.TheVariants.{Ticks, Thread}
 use Rattle.sd_viewer.specs.declared.drawings.Drawing.{Drawing}
@@ -12,14 +13,14 @@ use Rattle.sd_viewer.specs.declared.forms.Request.TheVariants.{Help, Draw}
 -- no run has more ticks than 100,000
 abbrev pub verb_drawing : List ℕ → Option Drawing
 verb_drawing verb =
-    if same_bytes verb (codes "timeline") then Some (Timeline 0 100000) else if same_bytes verb (codes "trace") then Some Trace
-    else if same_bytes verb (codes "list") then Some (Story (Ticks 0 100000))
+    if same_bytes verb (codes "timeline") then Some (Timeline 0 greatest_limit) else if same_bytes verb (codes "trace") then Some Trace
+    else if same_bytes verb (codes "list") then Some (Story (Ticks 0 greatest_limit))
     else if same_bytes verb (codes "report") then Some Report else None
 
 -- from one number to a greater one, which no run goes beyond
 abbrev pub ticks_between : ℕ → Option ℕ → Option (ℕ × ℕ)
 ticks_between from None = None
-ticks_between from (Some to) = if nat_lt from to && nat_le to 100000 then Some (from, to) else None
+ticks_between from (Some to) = if nat_lt from to && nat_le to greatest_limit then Some (from, to) else None
 
 abbrev pub ticks_by : Option ℕ → List ℕ → Option (ℕ × ℕ)
 ticks_by None to = None

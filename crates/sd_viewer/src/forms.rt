@@ -9,6 +9,7 @@ use crate::drawings::Drawing;
 use arrayvec::ArrayVec;
 use sd_story::Selection;
 use sd_text::number;
+use sd_types::GREATEST_LIMIT;
 
 /// What is asked for: a drawing, or the forms of the arguments.
 #[derive(Drop)]
@@ -16,9 +17,6 @@ pub enum Request {
     Help,
     Draw(Drawing),
 }
-
-/// The greatest number of ticks of any run.
-pub(crate) const GREATEST_LIMIT: u32 = 100_000;
 
 fn is_word(text: &[u8], word: &[u8]) -> bool
     ensures { result ≡ same_bytes text.now word.now }
@@ -32,14 +30,14 @@ fn verb_drawing(verb: &[u8]) -> Option<Drawing>
     if is_word(verb, b"timeline") {
         Some(Drawing::Timeline {
             from: 0,
-            to: 100_000,
+            to: GREATEST_LIMIT,
         })
     } else if is_word(verb, b"trace") {
         Some(Drawing::Trace)
     } else if is_word(verb, b"list") {
         Some(Drawing::Story(Selection::Ticks {
             from: 0,
-            to: 100_000,
+            to: GREATEST_LIMIT,
         }))
     } else if is_word(verb, b"report") {
         Some(Drawing::Report)

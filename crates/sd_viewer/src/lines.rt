@@ -5,11 +5,10 @@ ghost use Rattle.sd_story.specs.Selections.{has_thread};
 ghost use Rattle.sd_viewer.specs.Drawings.{asks_past, left_line, counted, end_line, from_to, parts_line, past_line, story_line, threads_line, threads_words, ticks_line, ticks_words, timeline_line};
 
 use crate::drawings::Drawing;
-use crate::forms::GREATEST_LIMIT;
 use crate::frames::{MOST_THREADS_SHOWN, last_tick};
 use sd_story::{Selection, has_thread};
 use sd_text::put_number;
-use sd_types::Work;
+use sd_types::{GREATEST_LIMIT, Work};
 use std::alloc::{AllocError, Global};
 
 fn put_words(words: &[u8], out: &mut Vec<u8>) -> Result<(), AllocError>

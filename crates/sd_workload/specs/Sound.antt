@@ -4,6 +4,7 @@ use Rattle.std.specs.Prelude.{◌≡◌, ℕ, ◌<◌, ◌≤◌, Bool, true, �
 use Rattle.std.specs.List.{list_all}
 use Rattle.sd_types.specs.declared.numbers.CpuId.{CpuId}
 use Rattle.sd_types.specs.Works.{Declared, same_bytes, same_cpu, is_distinct, class_fits, op_names, has_small_count}
+use Rattle.sd_types.specs.Limits.{greatest_limit, most_processors}
 use Rattle.sd_tables.specs.TableText.{Format, AreClean, has_rows, ts_format, fx_format, rt_format}
 use Rattle.sd_lines.specs.Words.{Word, Line}
 use Rattle.sd_declare.specs.Declarations.{Thread, Declarations, cpu_count}
@@ -32,10 +33,10 @@ pub record IsTableLines (format : Format) (lines : List Line) : Type 0 where
 -- the settings, with their defaults
 pub record AreSettings (cpus hz : ℕ) (limit : Option ℕ) : Type 0 where
   pub cpus_some : 1 ≤ cpus
-  pub cpus_most : cpus ≤ 64
+  pub cpus_most : cpus ≤ most_processors
   pub known_hz : ((hz == 100) || (hz == 1000)) ≡ true
   pub limit_some : IfSome limit (λ n. 1 ≤ n)
-  pub limit_most : IfSome limit (λ n. n ≤ 100000)
+  pub limit_most : IfSome limit (λ n. n ≤ greatest_limit)
 
 -- so many processors in these sets
 pub record AreSets (cpus : ℕ) (sets : List (Word × List CpuId)) : Type 0 where

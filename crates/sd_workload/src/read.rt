@@ -7,6 +7,7 @@ ghost use Rattle.sd_workload.specs.Accepted.{Accepted, FirstCause};
 ghost use Rattle.sd_workload.specs.LineStarts.{judged_from, lines_from, IsFault, IsFaultAt};
 ghost use Rattle.sd_workload.specs.Tables.{IsBelow};
 ghost use Rattle.sd_workload.specs.Texts.{Outside, Accepts, is_too_many, end_cause, judged, verdict_of};
+ghost use Rattle.sd_types.specs.Limits.{most_threads};
 
 use crate::WorkFault;
 use crate::line_starts::{LineStart, line_at};
@@ -54,7 +55,7 @@ fn take_lines(
 
 // The number of operations in all scripts.
 fn op_count(threads: &[ThreadDecl]) -> usize
-    requires { length threads.now ≤ 2048 }
+    requires { length threads.now ≤ most_threads }
     ensures { result ≡ sum_by (λ t. length t.script.ops) threads.now }
 {
     let mut count = 0;

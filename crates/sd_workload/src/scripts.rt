@@ -2,6 +2,7 @@
 
 ghost use Rattle.std.specs.Prelude.{◌≡◌, [], None, Some, ◌++◌, ◌∷◌, ◌+◌, ◌<◌, ◌≤◌, ◌^◌, false, length, OnOk, IfOk, IfErr, option_map};
 ghost use Rattle.sd_types.specs.Scripts.{held_by, EachOpFits};
+ghost use Rattle.sd_types.specs.Limits.{most_operations};
 ghost use Rattle.sd_script.specs.Faults.{is_ninth};
 ghost use Rattle.sd_text.specs.Words.{words_of};
 ghost use Rattle.sd_declare.specs.declared.causes.WorkCause.TheVariants.{Script as Scripted};
@@ -119,7 +120,7 @@ fn take_operation(d: &Declared, script: &mut OpenScript, line: &[u8]) -> Result<
 fn closed(script: OpenScript, number: u32) -> Result<Script, WorkFault>
     requires held { script.held.items ≡ held_by script.ops.items }
     requires fits { EachOpFits script.ops.items }
-    requires short { length script.ops.items ≤ 256 }
+    requires short { length script.ops.items ≤ most_operations }
     ensures ok { OnOk result (end_fault script.ops.items ≡ None) }
     ensures err { IfErr result (IsFaultAt number (option_map Scripted (end_fault script.ops.items))) }
     ensures ops { IfOk result (λ s. s.ops ≡ script.ops.items) }

@@ -8,6 +8,7 @@ ghost use Rattle.sd_hand.specs.Hands.{HoldsMore, IsHeld, edit, held};
 ghost use Rattle.sd_hand.specs.OneHome.{AreAllHomes, lists_with};
 ghost use Rattle.sd_hand.specs.Shown.{ShowsState};
 ghost use Rattle.sd_types.specs.Willed.{IsSound};
+ghost use Rattle.sd_types.specs.Limits.{most_processors};
 ghost use Rattle.sd_world.specs.Homes.{AreAllThere, AreBare, IsNumber, IsNumberAt, ShowsNone, how_many, index_of, sizes_of};
 
 use crate::bare::bare_home;
@@ -40,7 +41,7 @@ impl Model for Homes {
 
 /// The number of the home in this slot.
 fn number_at(cpus: usize, sets: usize, i: usize) -> HomeId
-    requires few { (cpus ≤ 64) × (sets ≤ 256) }
+    requires few { (cpus ≤ most_processors) × (sets ≤ 256) }
     requires inside { i < how_many (record { cpus = cpus; sets = sets }) }
     ensures { IsNumberAt (record { cpus = cpus; sets = sets }) i result }
 {
@@ -57,7 +58,7 @@ fn number_at(cpus: usize, sets: usize, i: usize) -> HomeId
 
 /// A home for each number, without threads.
 fn bare_homes(alloc: Global, s: &State) -> Result<Vec<Option<Home>>, AllocError>
-    requires few { (length s.now.cpus ≤ 64) × (length s.now.open_cpus ≤ 256) }
+    requires few { (length s.now.cpus ≤ most_processors) × (length s.now.open_cpus ≤ 256) }
     ensures { IfOk result (λ v. AreBare s.now (how_many (sizes_of s.now)) v.items) }
 {
     let cpus = s.cpus.items().len();

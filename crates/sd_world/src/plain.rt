@@ -6,6 +6,7 @@ ghost use Rattle.sd_machine.specs.Runs.{IsRun, final};
 ghost use Rattle.sd_state.specs.Opening.{opening};
 ghost use Rattle.sd_world.specs.Told.{AreActorsOf, IsActorOf};
 ghost use Rattle.sd_world.specs.Plain.{HasStood, Stands, told};
+ghost use Rattle.sd_types.specs.Limits.{most_processors};
 
 use crate::homes::Homes;
 use crate::state_of;
@@ -54,7 +55,7 @@ fn actor_of(s: &State, c: CpuId) -> Actor
 
 /// The counts and the duties of a state.
 fn actors_of(alloc: Global, s: &State) -> Result<Vec<Actor>, AllocError>
-    requires few { length s.now.cpus ≤ 64 }
+    requires few { length s.now.cpus ≤ most_processors }
     ensures { IfOk result (λ v. AreActorsOf s.now v.items) }
 {
     let mut actors = Vec::new(alloc);

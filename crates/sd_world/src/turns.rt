@@ -6,6 +6,7 @@ ghost use Rattle.sd_machine.specs.Choosing.{hint_shown};
 ghost use Rattle.sd_machine.specs.Events.{may_tick, next};
 ghost use Rattle.sd_world.specs.Entries.{CanEnter, Enters};
 ghost use Rattle.sd_world.specs.Plain.{AreCpus, HasNoted, IsLess, NoneLess, Stands, told};
+ghost use Rattle.sd_types.specs.Limits.{most_processors};
 
 use crate::entries::{enter, reserve_entry};
 use crate::hints::shown_hint;
@@ -66,7 +67,7 @@ impl<'a> PlainWorld<'a> {
     /// The numbers that these processors show, in their order.
     fn numbers(&self, work: &Work, which: Which, cpus: &[CpuId]) -> ArrayVec<u8, 64>
         requires stands { Stands work.now self.now }
-        requires fits { length cpus.now ≤ 64 }
+        requires fits { length cpus.now ≤ most_processors }
         requires there { AreCpus work.now cpus.now }
         ensures { result.items ≡ map (hint_shown (told work.now self.now) which) cpus.now }
     {
