@@ -48,13 +48,13 @@ use Rattle.sd_stretches.specs.declared.changes.Turn.{Turn}
 use Rattle.sd_stretches.specs.declared.histories.History.{History}
 use Rattle.sd_stretches.specs.declared.sights.Doing.TheVariants as does
 use Rattle.sd_stretches.specs.declared.sights.Sight.{Sight}
-use Rattle.sd_stretches.specs.declared.spins.Spell.{Spell}
-use Rattle.sd_stretches.specs.declared.spins.Track.TheVariants as track
+use Rattle.sd_stretches.specs.declared.spin_pieces.Spell.{Spell}
+use Rattle.sd_stretches.specs.declared.spin_pieces.Track.TheVariants as track
 use Rattle.sd_stretches.specs.Sights.{doing_of, same_doing, sight_of, sights_of}
 use Rattle.sd_stretches.specs.Changes.{happening_of, happenings_of, turn_if, turns_between}
 use Rattle.sd_stretches.specs.Histories.{entry_before, moment, happenings_in, over, sights_before, tick_by, turns_in, IsHistory}
 use Rattle.sd_stretches.specs.Rows.{own_turns, stretches, stretches_of}
-use Rattle.sd_stretches.specs.Spins.{cut_all, pieces, spell_by, spells_on}
+use Rattle.sd_stretches.specs.SpinPieces.{cut_all, pieces, spell_by, spells_on}
 use Rattle.sd_stretches.proofs.ExactLemmas.{filter_flat, one_of, own_if, own_if_own, same_self, there}
 use Rattle.sd_statistics.proofs.Local.{others_keep}
 use Rattle.sd_statistics.proofs.Steps.{made_by, many, reached, Made as Entered}

@@ -13,11 +13,11 @@ use Rattle.sd_stretches.specs.declared.rows.Stretch.{Stretch}
 use Rattle.sd_stretches.specs.declared.sights.Doing.{Doing}
 use Rattle.sd_stretches.specs.declared.sights.Doing.TheVariants as does
 use Rattle.sd_stretches.specs.declared.sights.Sight.{Sight}
-use Rattle.sd_stretches.specs.declared.spins.Spell.{Spell}
+use Rattle.sd_stretches.specs.declared.spin_pieces.Spell.{Spell}
 use Rattle.sd_stretches.specs.Sights.{same_doing}
 use Rattle.sd_stretches.specs.Changes.{turn_from, turn_if}
 use Rattle.sd_stretches.specs.Rows.{stretch_from, stretches_of}
-use Rattle.sd_stretches.specs.Spins.{before, cut, cut_all, extended, goes_on, pieces_by, pieces_of, rest_after, spells_from, spells_of, spells_within, spun}
+use Rattle.sd_stretches.specs.SpinPieces.{before, cut, cut_all, extended, goes_on, pieces_by, pieces_of, rest_after, spells_from, spells_of, spells_within, spun}
 use Rattle.sd_stretches.proofs.ExactLemmas.{same_is}
 use Rattle.sd_statistics.specs.declared.activities.Activity.TheVariants.{Running, Spinning}
 use Rattle.sd_statistics.specs.Activities.{is_of, spans_of}

@@ -10,11 +10,11 @@ use Rattle.sd_stretches.specs.declared.histories.History.{History}
 use Rattle.sd_stretches.specs.declared.rows.Stretch.{Stretch}
 use Rattle.sd_stretches.specs.declared.sights.Doing.{Doing}
 use Rattle.sd_stretches.specs.declared.sights.Doing.TheVariants as doing
-use Rattle.sd_stretches.specs.declared.spins.Spell.{Spell}
-use Rattle.sd_stretches.specs.declared.spins.Track.TheVariants as track
+use Rattle.sd_stretches.specs.declared.spin_pieces.Spell.{Spell}
+use Rattle.sd_stretches.specs.declared.spin_pieces.Track.TheVariants as track
 use Rattle.sd_stretches.specs.Histories.{IsHistory}
 use Rattle.sd_stretches.specs.Rows.{own_turns, stretch_to, stretches, stretches_of}
-use Rattle.sd_stretches.specs.Spins.{cut_all, pieces, pieces_of, spells_on, spells_within, Fills}
+use Rattle.sd_stretches.specs.SpinPieces.{cut_all, pieces, pieces_of, spells_on, spells_within, Fills}
 use Rattle.sd_stretches.proofs.ExactLemmas.{begins_at_0}
 use Rattle.sd_stretches.proofs.SpinLemmas.{pieces_fill, fills_cons}
 use Rattle.sd_statistics.specs.declared.activities.Activity.{Activity}

@@ -7,9 +7,9 @@ use Rattle.sd_state.specs.Accounts.{thread_ticks}
 use Rattle.sd_state.specs.Opening.{opening}
 use Rattle.sd_machine.specs.Runs.{final, IsComplete, IsRun}
 use Rattle.sd_stretches.specs.declared.histories.History.{History}
-use Rattle.sd_stretches.specs.declared.spins.Track.TheVariants as track
+use Rattle.sd_stretches.specs.declared.spin_pieces.Track.TheVariants as track
 use Rattle.sd_stretches.specs.Histories.{IsHistory}
-use Rattle.sd_stretches.specs.Spins.{pieces}
+use Rattle.sd_stretches.specs.SpinPieces.{pieces}
 use Rattle.sd_statistics.specs.declared.activities.Activity.TheVariants.{Running, Spinning}
 use Rattle.sd_statistics.specs.Laws.{ticks_in}
 

@@ -11,10 +11,10 @@ use Rattle.sd_stretches.specs.declared.changes.HandOver.{HandOver}
 use Rattle.sd_stretches.specs.declared.changes.Happening.{Happening}
 use Rattle.sd_stretches.specs.declared.histories.History.{History}
 use Rattle.sd_stretches.specs.declared.rows.Stretch.{Stretch}
-use Rattle.sd_stretches.specs.declared.spins.Track.TheVariants as track
+use Rattle.sd_stretches.specs.declared.spin_pieces.Track.TheVariants as track
 use Rattle.sd_stretches.specs.Rows.{next_of}
-use Rattle.sd_stretches.specs.Spins.{pieces}
 use Rattle.sd_stretches.specs.Changes.{is_that_thread}
+use Rattle.sd_stretches.specs.SpinPieces.{pieces}
 use Rattle.sd_statistics.specs.declared.activities.Activity.TheVariants.{Spinning, SpinningFor, Waiting, WaitingFor}
 use Rattle.sd_statistics.specs.declared.rows.Measure.{Measure}
 use Rattle.sd_statistics.specs.declared.rows.Measure.TheVariants.{Contended, Does, HandsOn, Held}

@@ -5,8 +5,8 @@
 ghost use Rattle.std.specs.Prelude.{◌≡◌, ◌++◌, ◌∷◌, [], IfOk, OnOk, filter};
 ghost use Rattle.sd_statistics.specs.Locks.{all_pieces, contended_of, gives, giving, hand_overs, held_rows, hold_by, hold_to, holds_of, is_about, is_lock, lock_count, lock_entries, lock_of, lock_part, lock_row, lock_rows, taking, trying, wait_by, wait_rows, wait_to, wants};
 ghost use Rattle.sd_stretches.specs.Rows.{next_of};
-ghost use Rattle.sd_stretches.specs.Spins.{pieces};
-ghost use Rattle.sd_stretches.specs.declared.spins.Track.TheVariants as track;
+ghost use Rattle.sd_stretches.specs.SpinPieces.{pieces};
+ghost use Rattle.sd_stretches.specs.declared.spin_pieces.Track.TheVariants as track;
 
 use crate::activities::{Activity, spans_of};
 use crate::rows::{Measure, Row, Subject, all_of, count_figures, push_row};

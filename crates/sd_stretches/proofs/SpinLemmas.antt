@@ -6,8 +6,8 @@ use Rattle.sd_types.specs.declared.numbers.CpuId.{CpuId}
 use Rattle.sd_stretches.specs.declared.sights.Doing.{Doing}
 use Rattle.sd_stretches.specs.declared.sights.Doing.TheVariants.{Running}
 use Rattle.sd_stretches.specs.declared.rows.Stretch.{Stretch}
-use Rattle.sd_stretches.specs.declared.spins.Spell.{Spell}
-use Rattle.sd_stretches.specs.Spins.{before, cut, pieces_by, rest_after, spells_of, spun, Fills, PiecesFillStretches}
+use Rattle.sd_stretches.specs.declared.spin_pieces.Spell.{Spell}
+use Rattle.sd_stretches.specs.SpinPieces.{before, cut, pieces_by, rest_after, spells_of, spun, Fills, PiecesFillStretches}
 
 -- a piece behind which more follow
 pub cut_more : (c : CpuId) (x : Stretch) (s : Spell) (ss : List Spell) → nat_lt s.to x.to ≡ true → cut c x (s ∷ ss) ≡ (before x s ++ spun c x s ∷ []) ++ cut c (rest_after x s) ss

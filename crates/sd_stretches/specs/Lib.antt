@@ -6,4 +6,4 @@ pub mod Order
 pub mod Plain
 pub mod Rows
 pub mod Sights
-pub mod Spins
+pub mod SpinPieces

@@ -2,7 +2,7 @@
 
 ghost use Rattle.sd_stretches.specs.Exact.{SlicesAreExact, StretchesAreExact};
 ghost use Rattle.sd_stretches.specs.Order.{StretchesStandInOrder};
-ghost use Rattle.sd_stretches.specs.Spins.{PiecesFillStretches};
+ghost use Rattle.sd_stretches.specs.SpinPieces.{PiecesFillStretches};
 
 /// The stretches of each thread of a workload, over any entries, are exactly those of its place: they follow one another from
 /// the initial state to the last one, the place of the thread in each state of a stretch is that of the stretch, and

@@ -11,7 +11,7 @@ mod laws;
 mod names;
 mod rows;
 mod sights;
-mod spins;
+mod spin_pieces;
 
 pub use changes::{HandOver, Happening, Load, Rank, Turn, Wakeup, is_that_thread, woken_by};
 pub use doings::{put_counted, put_doing};
@@ -23,4 +23,4 @@ pub use laws::{
 pub use names::{chan_name, lock_name, set_name, thread_name};
 pub use rows::{Level, Stretch, levels, slices, stretches};
 pub use sights::{Doing, Sight, runs_somewhere};
-pub use spins::{Track, pieces};
+pub use spin_pieces::{Track, pieces};

@@ -26,9 +26,9 @@ use Rattle.sd_stretches.specs.declared.changes.Wakeup.{Wakeup}
 use Rattle.sd_stretches.specs.declared.histories.History.{History}
 use Rattle.sd_stretches.specs.declared.rows.Level.{Level}
 use Rattle.sd_stretches.specs.declared.rows.Stretch.{Stretch}
-use Rattle.sd_stretches.specs.declared.spins.Track.TheVariants as track
+use Rattle.sd_stretches.specs.declared.spin_pieces.Track.TheVariants as track
 use Rattle.sd_stretches.specs.Rows.{levels}
-use Rattle.sd_stretches.specs.Spins.{pieces}
+use Rattle.sd_stretches.specs.SpinPieces.{pieces}
 use Rattle.sd_stretches.specs.Plain.{is_plain_byte, is_text_byte, IsPlain, IsText}
 use Rattle.sd_stretches.proofs.PlainLemmas.{thread-plain, lock-plain, doing-plain, decimal-plain}
 use Rattle.sd_stretches.proofs.TextLemmas.{plain-text, flat-text, either-text, decimal-text, thread-text, lock-text, chan-text, set-text, append-text}

@@ -8,8 +8,8 @@ use Rattle.sd_stretches.specs.declared.sights.Doing.{Doing}
 use Rattle.sd_stretches.specs.declared.sights.Doing.TheVariants.{Running}
 use Rattle.sd_stretches.specs.declared.histories.History.{History}
 use Rattle.sd_stretches.specs.declared.rows.Stretch.{Stretch}
-use Rattle.sd_stretches.specs.declared.spins.Track.TheVariants as track
-use Rattle.sd_stretches.specs.Spins.{pieces}
+use Rattle.sd_stretches.specs.declared.spin_pieces.Track.TheVariants as track
+use Rattle.sd_stretches.specs.SpinPieces.{pieces}
 use Rattle.sd_timeline.specs.declared.layouts.Row.{Row}
 use Rattle.sd_timeline.specs.declared.layouts.Row.TheVariants.{Cpu, Thread}
 use Rattle.sd_timeline.specs.Layouts.{Layout, across, column, row_of, shows, width}

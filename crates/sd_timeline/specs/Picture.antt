@@ -9,9 +9,9 @@ use Rattle.sd_state.specs.declared.states.ThreadState.{ThreadState}
 use Rattle.sd_machine.specs.LockGraph.{cycles_of}
 use Rattle.sd_stretches.specs.declared.histories.History.{History}
 use Rattle.sd_stretches.specs.declared.rows.Stretch.{Stretch}
-use Rattle.sd_stretches.specs.declared.spins.Track.TheVariants as track
+use Rattle.sd_stretches.specs.declared.spin_pieces.Track.TheVariants as track
 use Rattle.sd_stretches.specs.Rows.{levels}
-use Rattle.sd_stretches.specs.Spins.{pieces}
+use Rattle.sd_stretches.specs.SpinPieces.{pieces}
 use Rattle.sd_timeline.specs.declared.layouts.Row.TheVariants.{Thread}
 use Rattle.sd_timeline.specs.declared.frames.Frame.{Frame}
 use Rattle.sd_timeline.specs.Layouts.{Layout, row_of}

@@ -23,8 +23,8 @@ use Rattle.sd_stretches.specs.declared.changes.Load.{Load}
 use Rattle.sd_stretches.specs.declared.changes.Wakeup.{Wakeup}
 use Rattle.sd_stretches.specs.declared.histories.History.{History}
 use Rattle.sd_stretches.specs.declared.rows.Stretch.{Stretch}
-use Rattle.sd_stretches.specs.declared.spins.Track.TheVariants as track
-use Rattle.sd_stretches.specs.Spins.{pieces}
+use Rattle.sd_stretches.specs.declared.spin_pieces.Track.TheVariants as track
+use Rattle.sd_stretches.specs.SpinPieces.{pieces}
 use Rattle.sd_stretches.specs.Plain.{is_text_byte, IsText}
 use Rattle.sd_stretches.proofs.TextLemmas.{flat-text, decimal-text, lock-text, thread-text, set-text, doing-text}
 use Rattle.sd_trace.specs.Words.{class_word, place_at, thread_number}

@@ -6,8 +6,8 @@ use Rattle.sd_types.specs.declared.works.Work.{Work}
 use Rattle.sd_state.specs.Texts.{thread_name}
 use Rattle.sd_stretches.specs.declared.histories.History.{History}
 use Rattle.sd_stretches.specs.declared.rows.Stretch.{Stretch}
-use Rattle.sd_stretches.specs.declared.spins.Track.TheVariants as track
-use Rattle.sd_stretches.specs.Spins.{pieces}
+use Rattle.sd_stretches.specs.declared.spin_pieces.Track.TheVariants as track
+use Rattle.sd_stretches.specs.SpinPieces.{pieces}
 use Rattle.sd_trace.specs.Words.{cpu_number, thread_number}
 use Rattle.sd_trace.specs.Slices.{run_slice, state_slices}
 use Rattle.sd_trace.specs.Flows.{hand_flow, load_event, wake_flow}

@@ -1,8 +1,8 @@
 use Rattle.std.proofs.Common.{ℕ, List, ◌++◌, sym, ap, ◌∙◌}
 use Rattle.sd_basics.proofs.Ranges.{flat_range_more}
 use Rattle.sd_stretches.specs.declared.rows.Stretch.{Stretch}
-use Rattle.sd_stretches.specs.declared.spins.Track.TheVariants as track
-use Rattle.sd_stretches.specs.Spins.{pieces}
+use Rattle.sd_stretches.specs.declared.spin_pieces.Track.TheVariants as track
+use Rattle.sd_stretches.specs.SpinPieces.{pieces}
 use Rattle.sd_statistics.proofs.locks.all_pieces.Goals as goal
 
 pub loop-t-preserved : goal.loop-t-preserved

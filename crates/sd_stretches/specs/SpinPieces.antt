@@ -10,9 +10,9 @@ use Rattle.sd_stretches.specs.declared.sights.Doing.TheVariants.{Running, Spinni
 use Rattle.sd_stretches.specs.declared.changes.Happening.{Happening}
 use Rattle.sd_stretches.specs.declared.histories.History.{History}
 use Rattle.sd_stretches.specs.declared.rows.Stretch.{Stretch}
-use Rattle.sd_stretches.specs.declared.spins.Spell.{Spell}
-use Rattle.sd_stretches.specs.declared.spins.Track.{Track}
-use Rattle.sd_stretches.specs.declared.spins.Track.TheVariants.{Cpu, Thread}
+use Rattle.sd_stretches.specs.declared.spin_pieces.Spell.{Spell}
+use Rattle.sd_stretches.specs.declared.spin_pieces.Track.{Track}
+use Rattle.sd_stretches.specs.declared.spin_pieces.Track.TheVariants.{Cpu, Thread}
 use Rattle.sd_stretches.specs.Rows.{slices, stretches}
 
 -- an entry of this processor and thread is of the track

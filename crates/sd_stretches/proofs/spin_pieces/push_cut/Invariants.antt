@@ -1,6 +1,6 @@
 use Rattle.std.proofs.Common.{◌≡◌, ◌++◌, length}
-use Rattle.sd_stretches.specs.Spins.{cut}
-use Rattle.sd_stretches.proofs.spins.push_cut.Given as goal
+use Rattle.sd_stretches.specs.SpinPieces.{cut}
+use Rattle.sd_stretches.proofs.spin_pieces.push_cut.Given as goal
 
 abbrev pub invariant-loop-s : goal.invariant-loop-s
 invariant-loop-s l = l.out.items ++ cut l.c l.rest l.left ≡ l.initial.out.items ++ cut l.c l.fn.x l.spells

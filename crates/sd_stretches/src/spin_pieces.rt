@@ -3,7 +3,7 @@
 //! Source: Solaris Internals (adaptive mutexes).
 
 ghost use Rattle.std.specs.Prelude.{◌≡◌, ◌++◌, ◌≤◌, IfOk, OnOk, length};
-ghost use Rattle.sd_stretches.specs.Spins.{before, cut, cut_all, extended, goes_on, is_on, piece_start, pieces, pieces_of, spell_by, spells_of, spells_on, spells_within, spun, rest_after, track_stretches};
+ghost use Rattle.sd_stretches.specs.SpinPieces.{before, cut, cut_all, extended, goes_on, is_on, piece_start, pieces, pieces_of, spell_by, spells_of, spells_on, spells_within, spun, rest_after, track_stretches};
 
 use crate::changes::Happening;
 use crate::histories::History;
@@ -58,7 +58,7 @@ fn push_spell(track: Track, x: &Happening, out: &mut Vec<Spell>) -> Result<(), A
 }
 
 // The ticks of a track that are spent spinning, one by one.
-#[tactic(auto, unfolding(crate::specs::Spins::spells_on))]
+#[tactic(auto, unfolding(crate::specs::SpinPieces::spells_on))]
 fn spells_on(
     alloc: Global,
     track: Track,
@@ -90,7 +90,7 @@ fn extended(x: Spell, y: Spell) -> Spell
 }
 
 // Those that follow one another in time, for one lock, as one.
-#[tactic(auto, unfolding(crate::specs::Spins::spells_of, crate::specs::Spins::spells_from))]
+#[tactic(auto, unfolding(crate::specs::SpinPieces::spells_of, crate::specs::SpinPieces::spells_from))]
 fn joined(alloc: Global, spells: &[Spell]) -> Result<Vec<Spell>, AllocError>
     ensures { IfOk result (λ v. v.items ≡ spells_of spells.now) }
 {
@@ -167,7 +167,7 @@ fn rest_after(x: Stretch, s: Spell) -> Stretch
 }
 
 // A stretch of processor `c`, cut at the spells.
-#[tactic(auto, unfolding(crate::specs::Spins::cut))]
+#[tactic(auto, unfolding(crate::specs::SpinPieces::cut))]
 fn push_cut(
     c: CpuId,
     x: Stretch,
@@ -213,7 +213,7 @@ fn push_pieces(
 }
 
 // All stretches, cut at the spells of each.
-#[tactic(auto, unfolding(crate::specs::Spins::cut_all))]
+#[tactic(auto, unfolding(crate::specs::SpinPieces::cut_all))]
 fn cut_all(alloc: Global, own: &[Stretch], spells: &[Spell]) -> Result<Vec<Stretch>, AllocError>
     ensures { IfOk result (λ v. v.items ≡ cut_all own.now spells.now) }
 {
@@ -245,7 +245,7 @@ fn track_stretches(
 
 /// The stretches of a thread, or the slices of a processor, in order, from the history of a run that ended at this tick; where a
 /// thread runs they are cut at the ticks that it spends spinning.
-#[tactic(auto, unfolding(crate::specs::Spins::pieces))]
+#[tactic(auto, unfolding(crate::specs::SpinPieces::pieces))]
 pub fn pieces(
     alloc: Global,
     track: Track,

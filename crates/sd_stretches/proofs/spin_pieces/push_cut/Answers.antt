@@ -3,9 +3,9 @@ use Rattle.std.specs.Prelude.{nat_lt}
 use Rattle.std.proofs.lemmas.Bool.Decides.{nat_tests}
 use Rattle.std.proofs.lemmas.List.{append-nil}
 use Rattle.sd_stretches.specs.declared.rows.Stretch.{Stretch}
-use Rattle.sd_stretches.specs.Spins.{before, cut, rest_after, spun}
+use Rattle.sd_stretches.specs.SpinPieces.{before, cut, rest_after, spun}
 use Rattle.sd_stretches.proofs.SpinLemmas.{cut_last, cut_more, pushed_two}
-use Rattle.sd_stretches.proofs.spins.push_cut.Goals as goal
+use Rattle.sd_stretches.proofs.spin_pieces.push_cut.Goals as goal
 
 pub loop-s-preserved : goal.loop-s-preserved
 loop-s-preserved c =
