@@ -3,10 +3,10 @@
 
 mod closing;
 mod commit;
-mod hints;
 mod history;
 mod indices;
 mod opening;
+mod publishing;
 mod reading;
 mod rule;
 mod seat;

@@ -10,7 +10,7 @@ use sd_types::{CpuId, Entry, MOST_ENTRIES, Stop, Which};
 use std::marker::Brand;
 
 /// Makes room in the log of a seat for one entry. `Full` exactly where it has 2^40 entries or more.
-fn reserve_entry(log: &mut Vec<Entry>) -> Result<(), Stop>
+fn reserve_seat_entry(log: &mut Vec<Entry>) -> Result<(), Stop>
     ensures same { log.new.items ≡ log.old.items }
     ensures room { HasRoomFor log.old.items (vec_capacity log.new - vec_len log.new) result }
 {
@@ -32,7 +32,7 @@ impl Shared {
         ensures same { Reserves (seat_meaning (work_of self.now) seat.old) (seat_meaning (work_of self.now) seat.new) }
         ensures room { HasReserved (seat_meaning (work_of self.now) seat.old) (seat_meaning (work_of self.now) seat.new) result }
     {
-        reserve_entry(&mut seat.log)
+        reserve_seat_entry(&mut seat.log)
     }
 
     /// Reads the count of a processor, as it published it: its count has reached that number.

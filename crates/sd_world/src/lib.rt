@@ -4,20 +4,20 @@
 mod bare;
 mod copies;
 mod entries;
-mod hints;
 mod homes;
 mod laws;
 mod parts;
 mod plain;
+mod showing;
 mod snapshot;
 mod threads;
 mod turns;
 mod world;
 
 pub use entries::{enter, reserve_entry};
-pub use hints::shown_hint;
 pub use homes::Homes;
 pub use laws::an_event_leaves_other_homes;
 pub use plain::PlainWorld;
+pub use showing::shown_hint;
 pub use snapshot::state_of;
 pub use world::{Behind, Take, ThreadLock, World};

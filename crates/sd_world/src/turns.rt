@@ -9,8 +9,8 @@ ghost use Rattle.sd_world.specs.Plain.{AreCpus, HasNoted, IsLess, NoneLess, Stan
 ghost use Rattle.sd_types.specs.Limits.{most_processors};
 
 use crate::entries::{enter, reserve_entry};
-use crate::hints::shown_hint;
 use crate::plain::PlainWorld;
+use crate::showing::shown_hint;
 use crate::world::{Behind, Take, ThreadLock, World};
 use arrayvec::ArrayVec;
 use sd_dispatcher::Reading;

@@ -1,7 +1,7 @@
 use Rattle.std.proofs.Common.{sym, ap, ◌∙◌}
 use Rattle.sd_world.specs.Plain.{thread_shown}
 use Rattle.sd_world.proofs.HintLemmas.{not_cpu}
-use Rattle.sd_world.proofs.hints.shown_by.Goals as goal
+use Rattle.sd_world.proofs.showing.shown_by.Goals as goal
 
 pub unreachable-requires : goal.unreachable-requires
 unreachable-requires c =

@@ -1,5 +1,5 @@
 use Rattle.sd_world.proofs.HintLemmas.{below_all, not_found}
-use Rattle.sd_world.proofs.hints.priority.Goals as goal
+use Rattle.sd_world.proofs.showing.priority.Goals as goal
 
 pub unreachable-requires : goal.unreachable-requires
 unreachable-requires c =
