@@ -17,7 +17,8 @@ use Rattle.sd_state.specs.declared.states.CpuState.{CpuState}
 use Rattle.sd_state.specs.declared.states.State.{State}
 use Rattle.sd_state.specs.States.{cpu_of, no_cpu}
 use Rattle.sd_machine.specs.declared.plans.Plan.{Plan}
-use Rattle.sd_machine.specs.Events.{allowed, hints_fit, may_tick, next, plan_reads, reads, same_which, wish}
+use Rattle.sd_machine.specs.Events.{allowed, may_tick, next, wish}
+use Rattle.sd_machine.specs.Hints.{hints_fit, plan_reads, reads, same_which}
 use Rattle.sd_machine.specs.Plans.{plan}
 use Rattle.sd_machine.specs.Runs.{serial_hints, shown}
 use Rattle.sd_invariants.proofs.Whole.{fit_reached}

@@ -8,8 +8,8 @@ use Rattle.sd_state.specs.declared.states.State.{State}
 use Rattle.sd_state.specs.States.{thread_of}
 use Rattle.sd_machine.specs.declared.plans.Plan.{Plan}
 use Rattle.sd_machine.specs.declared.plans.Plan.TheVariants.{Make, Place, Search}
-use Rattle.sd_machine.specs.Choosing.{cpus_for, is_warm, is_settled, neighbours, read_of, reads_for}
-use Rattle.sd_machine.specs.Events.{placed_thread, plan_reads}
+use Rattle.sd_machine.specs.Choosing.{cpus_for, is_warm, is_settled, neighbours}
+use Rattle.sd_machine.specs.Hints.{placed_thread, plan_reads, read_of, reads_for}
 use Rattle.sd_machine.specs.Plans.{plan}
 use Rattle.sd_machine.specs.Runs.{IsReached}
 use Rattle.sd_dispatcher.specs.declared.reading.Reading.{Reading}

@@ -11,7 +11,8 @@ use Rattle.sd_types.specs.declared.events.Hints.{Hints}
 use Rattle.sd_types.specs.declared.works.Work.{Work}
 use Rattle.sd_state.specs.declared.states.State.{State}
 use Rattle.sd_machine.specs.declared.plans.Plan.{Plan}
-use Rattle.sd_machine.specs.Events.{allowed, hints_fit, may_tick, next, plan_event, plan_reads, reads, wish}
+use Rattle.sd_machine.specs.Events.{allowed, may_tick, next, plan_event, wish}
+use Rattle.sd_machine.specs.Hints.{hints_fit, plan_reads, reads}
 use Rattle.sd_machine.specs.Needs.{CanCount}
 use Rattle.sd_machine.specs.Plans.{plan}
 use Rattle.sd_invariants.proofs.Whole.{fit_reached}

@@ -9,7 +9,7 @@ use Rattle.sd_types.specs.declared.events.Stop.{Stop}
 use Rattle.sd_types.specs.declared.events.Stop.TheVariants.{Full, Memory}
 use Rattle.sd_machine.specs.Events.{next, wish}
 use Rattle.sd_machine.specs.Runs.{serial_hints}
-use Rattle.sd_machine.specs.Choosing.{hint_shown}
+use Rattle.sd_machine.specs.Hints.{hint_shown}
 use Rattle.sd_dispatcher.specs.declared.reading.Reading.{Reading}
 use Rattle.sd_state.specs.States.{cpu_of}
 use Rattle.sd_hand.specs.Hands.{how_many_held}

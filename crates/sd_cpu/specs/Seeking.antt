@@ -10,7 +10,8 @@ use Rattle.sd_types.specs.declared.events.Hints.{Hints}
 use Rattle.sd_types.specs.declared.works.Work.{Work}
 use Rattle.sd_state.specs.declared.states.State.{State}
 use Rattle.sd_machine.specs.declared.plans.Plan.{Plan}
-use Rattle.sd_machine.specs.Events.{hints_fit, plan_reads, reads, wish}
+use Rattle.sd_machine.specs.Events.{wish}
+use Rattle.sd_machine.specs.Hints.{hints_fit, plan_reads, reads}
 use Rattle.sd_machine.specs.Runs.{serial_hints}
 use Rattle.sd_machine.specs.Needs.{CanCount}
 use Rattle.sd_machine.specs.Plans.{plan}

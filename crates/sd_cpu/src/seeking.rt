@@ -3,7 +3,8 @@
 ghost use Rattle.std.specs.Prelude.{◌≡◌, ℕ, true, IfOk, MatchOption, option_map};
 ghost use Rattle.sd_types.specs.declared.numbers.ChanId.{ChanId as ChanIdOf};
 ghost use Rattle.sd_state.specs.declared.states.State.{State as StateOf};
-ghost use Rattle.sd_machine.specs.Events.{hints_fit, plan_event, plan_reads};
+ghost use Rattle.sd_machine.specs.Events.{plan_event};
+ghost use Rattle.sd_machine.specs.Hints.{hints_fit, plan_reads};
 ghost use Rattle.sd_machine.specs.Needs.{CanCount};
 ghost use Rattle.sd_dispatcher.specs.Reading.{parts};
 ghost use Rattle.sd_step.specs.Needed.{choice_parts, read_parts, reads_parts};

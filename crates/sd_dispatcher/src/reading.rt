@@ -1,9 +1,9 @@
 //! What a processor reads of others before it puts a thread somewhere or steals one.
 
 ghost use Rattle.std.specs.Prelude.{◌≡◌, ℕ, [], ◌∷◌, IfOk, option_map};
-ghost use Rattle.sd_machine.specs.Choosing.{neighbours, read_for, read_of, reads_for};
-ghost use Rattle.sd_machine.specs.Events.{hints_fit, same_which};
+ghost use Rattle.sd_machine.specs.Choosing.{neighbours};
 ghost use Rattle.sd_state.specs.States.{set_of};
+ghost use Rattle.sd_machine.specs.Hints.{hints_fit, read_for, read_of, reads_for, same_which};
 ghost use Rattle.sd_state.specs.declared.states.State.{State};
 ghost use Rattle.sd_dispatcher.specs.Reading.{parts};
 ghost use Rattle.sd_store.specs.Parts.{actor_part, ready_parts, real_time_part, thread_part};
@@ -36,7 +36,7 @@ fn read_for(cpus: ArrayVec<CpuId, 64>, last: CpuId, warm: bool) -> Option<Readin
 }
 
 /// What processor `c` reads before it makes thread `t` runnable.
-#[tactic(auto, unfolding(sd_machine::specs::Choosing::reads_for))]
+#[tactic(auto, unfolding(sd_machine::specs::Hints::reads_for))]
 pub fn reads_for<L: Look>(
     work: &Work,
     x: &L,

@@ -14,9 +14,10 @@ use Rattle.sd_machine.specs.declared.plans.Plan.{Plan}
 use Rattle.sd_machine.specs.declared.plans.Plan.TheVariants.{Make, Place as PlaceIt, Search}
 use Rattle.sd_state.specs.declared.states.State.{State}
 use Rattle.sd_state.specs.States.{cpu_of, set_of}
-use Rattle.sd_machine.specs.Choosing.{choice, cpus_for, cpus_or_bound, hint_of, hint_shown, is_recent, is_warm, neighbours, numbers_read, put_chosen, put_on, read_for, read_of, reads_for, victim_for}
+use Rattle.sd_machine.specs.Choosing.{choice, cpus_for, cpus_or_bound, is_recent, is_warm, neighbours, numbers_read, put_chosen, put_on, victim_for}
 use Rattle.sd_machine.specs.Dispatching.{search_event, steal_event}
-use Rattle.sd_machine.specs.Events.{event_of, hints_fit, next, placed_thread, plan_event, plan_reads, reads, wish}
+use Rattle.sd_machine.specs.Events.{event_of, next, plan_event, wish}
+use Rattle.sd_machine.specs.Hints.{hint_of, hint_shown, hints_fit, placed_thread, plan_reads, read_for, read_of, reads, reads_for}
 use Rattle.sd_machine.specs.Plans.{plan}
 use Rattle.sd_machine.specs.Runs.{serial_hints, shown}
 use Rattle.sd_machine.specs.Threads.{best_unbound, open_of, runner, thread_id}

@@ -19,7 +19,7 @@ use Rattle.sd_state.specs.Best.{best_by, beats}
 use Rattle.sd_state.proofs.BestLemmas.{IsBestBelow, goes_ahead_by, best_taken, best_kept, best_by_is, position_is, position_none}
 use Rattle.sd_state.proofs.OrderLemmas.{beats_order}
 use Rattle.sd_machine.specs.Threads.{runner, best_unbound, priority_of}
-use Rattle.sd_machine.specs.Choosing.{hint_of, hint_shown}
+use Rattle.sd_machine.specs.Hints.{hint_of, hint_shown}
 use Rattle.sd_flat.specs.Passes.{running_at, unbound_at, shown_at, number_with, taken_at, pass}
 
 -- ---- the number of one processor

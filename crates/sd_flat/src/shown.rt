@@ -2,7 +2,7 @@
 
 ghost use Rattle.std.specs.Prelude.{◌≡◌, ◌<◌, ◌≤◌, ℕ, length, map, nat_lt, true, IfSome};
 ghost use Rattle.std.specs.List.{list_all};
-ghost use Rattle.sd_machine.specs.Choosing.{hint_of, hint_shown};
+ghost use Rattle.sd_machine.specs.Hints.{hint_of, hint_shown};
 ghost use Rattle.sd_machine.specs.Threads.{priority_of};
 ghost use Rattle.sd_flat.specs.Passes.{pass};
 ghost use Rattle.sd_state.specs.States.{thread_of};
@@ -40,7 +40,7 @@ fn hint_of(p: Option<u8>) -> u8
 
 /// The number that processor `d` shows, 0 to 160: the effective priority plus 1 of its running thread, or of the best on
 /// its queue that is bound to no processor; 0 for none. Inherited priorities are below 160.
-#[tactic(auto, unfolding(sd_machine::specs::Choosing::hint_shown))]
+#[tactic(auto, unfolding(sd_machine::specs::Hints::hint_shown))]
 pub fn hint_shown(s: &State, which: Which, d: CpuId) -> u8
     requires { (t : ℕ) → list_all (λ n. nat_lt n.1 160) (thread_of s.now t).body.willed.items ≡ true }
     ensures { result ≡ hint_shown s.now which d }

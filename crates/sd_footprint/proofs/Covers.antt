@@ -20,7 +20,8 @@ use Rattle.sd_machine.specs.declared.plans.Requeue.{Requeue}
 use Rattle.sd_machine.specs.declared.plans.Requeue.TheVariants.{Stays, Behind, Anew}
 use Rattle.sd_machine.specs.Changes.{cpu_put}
 use Rattle.sd_machine.specs.Choosing.{put_chosen}
-use Rattle.sd_machine.specs.Events.{event_of, placed_thread, plan_event}
+use Rattle.sd_machine.specs.Events.{event_of, plan_event}
+use Rattle.sd_machine.specs.Hints.{placed_thread}
 use Rattle.sd_machine.specs.Requeueing.{requeue_plan}
 use Rattle.sd_homes.specs.Standing.{home_of, home_of_place}
 use Rattle.sd_footprint.specs.Homes.{IsOneOf, LiesIn}

@@ -40,7 +40,7 @@ use Rattle.sd_machine.specs.declared.plans.Requeue.TheVariants.{Stays, Behind, A
 use Rattle.sd_machine.specs.Choosing.{neighbours, numbers_read, victim_for}
 use Rattle.sd_machine.specs.Conditions.{sema_v_plan}
 use Rattle.sd_machine.specs.Dispatching.{dispatch_plan, leave_event, must_leave}
-use Rattle.sd_machine.specs.Events.{placed_thread}
+use Rattle.sd_machine.specs.Hints.{placed_thread}
 use Rattle.sd_machine.specs.Locking.{grant_reader_plan, grant_writer_plan, is_eligible, unblock_plan}
 use Rattle.sd_machine.specs.Plans.{ageing_plan, ageing_plan_of, cpu_plan, cpu_plan_of, duty_plan, duty_plan_of, first_of, free_plan_of, nap_plan, op_plan, or_plan, plan, run_plan_of}
 use Rattle.sd_machine.specs.Prioritising.{age_plan, answer_to, prio_plan}

@@ -46,7 +46,7 @@ use Rattle.sd_state.specs.Operations.{op_of}
 use Rattle.sd_machine.specs.Threads.{thread_id, lock_of, count_of, runner, best_ready, best_queued, best_unbound, best_waiter, best_sleeper, best_sleeper_below, first_due, next_to_age, priority_of}
 use Rattle.sd_types.specs.Priorities.{eff_as}
 use Rattle.sd_machine.specs.Changes.{cpu_put}
-use Rattle.sd_machine.specs.Choosing.{numbers_read, cpus_for, is_warm, is_settled, read_for, reads_for, choice, put_on, put_chosen, neighbours, read_of, victim_for}
+use Rattle.sd_machine.specs.Choosing.{numbers_read, cpus_for, is_warm, is_settled, choice, put_on, put_chosen, neighbours, victim_for}
 use Rattle.sd_machine.specs.Dispatching.{must_leave, leave_event, dispatch_plan, steal_event, search_event}
 use Rattle.sd_machine.specs.Sleeping.{woken_priority, napend_plan, wake_plan, rouse_plan}
 use Rattle.sd_machine.specs.Locking.{owner_runs, enter_event, read_event, write_event, unblock_plan, writer_priority, grant_writer_plan, is_eligible, grant_reader_plan}
@@ -56,7 +56,8 @@ use Rattle.sd_machine.specs.Prioritising.{answer_to, new_class, change_plan, pri
 use Rattle.sd_machine.specs.Conditions.{sema_p_event, sema_v_plan}
 use Rattle.sd_machine.specs.SetChanges.{closing_plan}
 use Rattle.sd_machine.specs.Plans.{first_of, duty_plan_of, duty_plan, nap_plan, ageing_plan_of, ageing_plan, op_plan, run_plan_of, run_plan, free_plan_of, cpu_plan_of, cpu_plan, or_plan, plan}
-use Rattle.sd_machine.specs.Events.{plan_reads, reads, same_which, hints_fit, plan_event, wish, may_tick, allowed, next}
+use Rattle.sd_machine.specs.Events.{plan_event, wish, may_tick, allowed, next}
+use Rattle.sd_machine.specs.Hints.{hints_fit, plan_reads, read_for, read_of, reads, reads_for, same_which}
 use Rattle.sd_frames.specs.Causes.{IsFree, Runs, IsIdle, IsOpenIdle, Acts, Leaves, IsPut, IsCause}
 
 -- Choices.

@@ -9,7 +9,7 @@ use Rattle.sd_types.specs.declared.numbers.ThreadId.{ThreadId}
 use Rattle.sd_types.specs.declared.events.Which.{Which}
 use Rattle.sd_state.specs.Opening.{opening}
 use Rattle.sd_state.specs.States.{cpu_of}
-use Rattle.sd_machine.specs.Choosing.{hint_shown}
+use Rattle.sd_machine.specs.Hints.{hint_shown}
 use Rattle.sd_machine.specs.Runs.{final}
 use Rattle.sd_log.specs.Logged.{Logged}
 use Rattle.sd_homes.specs.declared.home.Home.{Home}

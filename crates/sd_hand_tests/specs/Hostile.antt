@@ -5,7 +5,7 @@ use Rattle.sd_types.specs.declared.numbers.CpuId.{CpuId}
 use Rattle.sd_types.specs.declared.numbers.HomeId.{HomeId}
 use Rattle.sd_types.specs.declared.numbers.ThreadId.{ThreadId}
 use Rattle.sd_types.specs.declared.events.Which.{Which}
-use Rattle.sd_machine.specs.Choosing.{hint_shown}
+use Rattle.sd_machine.specs.Hints.{hint_shown}
 use Rattle.sd_homes.specs.declared.home.Home.{Home}
 use Rattle.sd_homes.specs.Families.{home_id}
 use Rattle.sd_hand.specs.Hands.{HoldsMore, IsHeld, held, how_many_held}

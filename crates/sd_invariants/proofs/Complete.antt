@@ -16,8 +16,8 @@ use Rattle.sd_types.specs.Events.{ticks}
 use Rattle.sd_state.specs.declared.states.CpuState.{CpuState}
 use Rattle.sd_state.specs.declared.states.State.{State}
 use Rattle.sd_state.specs.States.{no_cpu, cpu_of}
-use Rattle.sd_machine.specs.Choosing.{hint_shown}
-use Rattle.sd_machine.specs.Events.{reads, same_which, hints_fit, wish, may_tick, allowed, next}
+use Rattle.sd_machine.specs.Events.{wish, may_tick, allowed, next}
+use Rattle.sd_machine.specs.Hints.{hint_shown, hints_fit, reads, same_which}
 use Rattle.sd_machine.specs.Runs.{IsComplete, shown}
 use Rattle.sd_invariants.proofs.Whole.{reached_whole}
 use Rattle.sd_invariants.specs.Complete.{CompleteRunsReachTheLimit}

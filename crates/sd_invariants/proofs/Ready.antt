@@ -34,7 +34,8 @@ use Rattle.sd_state.specs.Opening.{first_cpu, is_urgent, first_thread, first_thr
 use Rattle.sd_machine.specs.Threads.{lock_of, best_waiter, has_waiters}
 use Rattle.sd_machine.specs.Locking.{kind_of}
 use Rattle.sd_machine.specs.LockGraph.{wait_of}
-use Rattle.sd_machine.specs.Events.{next, after, allowed, wish, reads, hints_fit}
+use Rattle.sd_machine.specs.Events.{next, after, allowed, wish}
+use Rattle.sd_machine.specs.Hints.{hints_fit, reads}
 use Rattle.sd_machine.specs.Runs.{final, IsRunFrom, IsReached}
 use Rattle.sd_machine.proofs.OpeningLemmas.{opening_fits}
 use Rattle.sd_machine.proofs.RunLemmas.{IsRun-from}

@@ -1,5 +1,5 @@
--- On which processor a thread is put that is made runnable, what is read for that, and from which processor a thread
--- is stolen.
+-- On which processor a thread is put that is made runnable, and from which processor a thread is stolen, with the numbers that
+-- were read for that (Hints.antt).
 -- Source: Solaris Internals (cpu_choose, disp_getwork); hints, and the three ticks of warmth, are this project's own.
 --
 -- Why: what a thread used last may still be in the cache of the processor on which it ran, so it goes back there for a while; later
@@ -14,8 +14,6 @@
 use Rattle.std.specs.Prelude.{ℕ, ◌+◌, Bool, false, not, ◌&&◌, ◌||◌, List, [], ◌∷◌, length, filter, replicate, nat_le, ◌==◌, Option, Some, None, is_none, if◌then◌else◌}
 use Rattle.sd_types.specs.declared.numbers.CpuId.{CpuId}
 use Rattle.sd_types.specs.declared.events.Hints.{Hints}
-use Rattle.sd_types.specs.declared.events.Which.{Which}
-use Rattle.sd_types.specs.declared.events.Which.TheVariants.{Running as OfRunning, Queued as OfQueued}
 use Rattle.sd_types.specs.declared.events.Put.{Put}
 use Rattle.sd_types.specs.declared.events.Put.TheVariants.{Cpu, RealTime as OnRealTime}
 use Rattle.sd_types.specs.declared.works.Work.{Work}
@@ -24,18 +22,7 @@ use Rattle.sd_rules.specs.ChoiceFunctions.{chosen, victim_of}
 use Rattle.sd_types.specs.Priorities.{real_time_priority}
 use Rattle.sd_state.specs.declared.states.State.{State}
 use Rattle.sd_state.specs.States.{thread_of, cpu_of, set_of}
-use Rattle.sd_machine.specs.Threads.{open_of, runner, best_unbound, priority_of}
-
--- Hints: each processor shows two numbers, an effective priority plus 1, or 0 for none: that of its running thread, and
--- that of the best on its queue that is bound to no processor.
-
-abbrev pub hint_of : Option ℕ → ℕ
-hint_of None = 0
-hint_of (Some p) = p + 1
-
-unfoldable pub hint_shown : State → Which → CpuId → ℕ
-hint_shown s OfRunning d = hint_of (priority_of s (runner s d.0))
-hint_shown s OfQueued d = hint_of (priority_of s (best_unbound s d.0))
+use Rattle.sd_machine.specs.Threads.{open_of}
 
 -- the numbers that were read of so many processors; where nothing was read they are 0 and not looked at
 abbrev pub numbers_read : List CpuId → Option Hints → List ℕ
@@ -64,13 +51,6 @@ is_warm s c t = is_recent (cpu_of s c).count (thread_of s t).body.left_at
 abbrev pub is_settled : List CpuId → CpuId → Bool → Bool
 is_settled cpus last warm = (length cpus == 1) || (warm && is_among last cpus)
 
--- of which processors the running threads are read
-abbrev pub read_for : List CpuId → CpuId → Bool → Option (Which × List CpuId)
-read_for cpus last warm = if is_settled cpus last warm then None else Some (OfRunning, cpus)
-
-unfoldable pub reads_for : Work → State → ℕ → ℕ → Option (Which × List CpuId)
-reads_for w s c t = read_for (cpus_for w s t) (thread_of s t).body.last (is_warm s c t)
-
 -- the processor that is chosen: the last one while the thread is warm, else one with the least number; ties go to the
 -- last processor, then to the least number
 unfoldable pub choice : Work → State → ℕ → ℕ → Option Hints → CpuId
@@ -88,10 +68,6 @@ put_chosen w s c t p hints = put_on p (thread_of s t).body.bound (choice w s c t
 -- the other open processors of a processor's partition
 unfoldable pub neighbours : State → ℕ → List CpuId
 neighbours s c = filter (λ d. not (d.0 == c)) (open_of s (cpu_of s c).set.0)
-
-abbrev pub read_of : List CpuId → Option (Which × List CpuId)
-read_of [] = None
-read_of (d ∷ ds) = Some (OfQueued, d ∷ ds)
 
 -- the processor from which a thread would be stolen: that with the greatest number, the least of several, none where
 -- all are 0

@@ -1,14 +1,12 @@
 -- The one event that a processor may make, and the state after each.
 -- Source: Solaris Internals; hints, and that processors count their ticks together, are this project's own.
-use Rattle.std.specs.Prelude.{ℕ, Bool, true, false, not, ◌&&◌, ◌||◌, List, length, ◌==◌, nat_lt, nat_le, Option, Some, None, if◌then◌else◌}
+use Rattle.std.specs.Prelude.{ℕ, Bool, true, false, not, ◌&&◌, ◌||◌, nat_lt, nat_le, Option, Some, None, if◌then◌else◌}
 use Rattle.std.specs.List.{list_all}
 use Rattle.sd_types.specs.declared.numbers.CpuId.{CpuId}
 use Rattle.sd_types.specs.declared.events.Duty.{Duty}
 use Rattle.sd_types.specs.declared.events.Duty.TheVariants.{Nothing, Age as ToAge}
 use Rattle.sd_types.specs.declared.events.Hints.{Hints}
 use Rattle.sd_types.specs.declared.events.Put.{Put}
-use Rattle.sd_types.specs.declared.events.Which.{Which}
-use Rattle.sd_types.specs.declared.events.Which.TheVariants as which
 use Rattle.sd_types.specs.declared.events.PrioAnswer.TheVariants.{Changed}
 use Rattle.sd_types.specs.declared.events.Event.{Event}
 use Rattle.sd_types.specs.declared.events.Event.TheVariants.{Tick, Spin, Idle, Dispatch, Steal, Preempt, Yield, Done, Nap, Napend, Sleep, Wake, Wakeall, Rouse, Enter, Read, Write, Block, Will, End, Exit, Unblock, Grant, Passed, Age, Prio, CvWait, SemaP, SemaWait, SemaVWake, SemaVCount, Assign, Move, Joined, Bind, Away}
@@ -21,7 +19,8 @@ use Rattle.sd_machine.specs.declared.plans.Placement.TheVariants as placement
 use Rattle.sd_state.specs.declared.states.State.{State}
 use Rattle.sd_state.specs.States.{cpu_of}
 use Rattle.sd_machine.specs.Changes.{set_duty}
-use Rattle.sd_machine.specs.Choosing.{reads_for, put_chosen, neighbours, read_of, victim_for}
+use Rattle.sd_machine.specs.Choosing.{put_chosen, victim_for}
+use Rattle.sd_machine.specs.Hints.{hints_fit, placed_thread, reads}
 use Rattle.sd_machine.specs.Dispatching.{search_event, ticked, spun, idled, dispatched, stolen, preempted, sent_away, yielded, done}
 use Rattle.sd_machine.specs.Sleeping.{napped, woken, fallen_asleep, woke, woke_all, roused}
 use Rattle.sd_machine.specs.Locking.{owned, read, blocked, exited, unblocked, granted, passed}
@@ -43,40 +42,6 @@ event_of (placement.Grant l u) at = Grant l u at
 event_of (placement.Prio t u p) at = Prio t u (Changed p (Some at))
 event_of (placement.SemaVWake t k u) at = SemaVWake t k u at
 event_of (placement.Move t) at = Move t at
-
--- the thread that is placed
-abbrev pub placed_thread : Placement → ℕ
-placed_thread (placement.Napend t) = t.0
-placed_thread (placement.Wake t k s) = s.0
-placed_thread (placement.Rouse k s) = s.0
-placed_thread (placement.Will l o p) = o.0
-placed_thread (placement.Unblock l u) = u.0
-placed_thread (placement.Grant l u) = u.0
-placed_thread (placement.Prio t u p) = u.0
-placed_thread (placement.SemaVWake t k u) = u.0
-placed_thread (placement.Move t) = t.0
-
--- What a processor reads before its event: which numbers, and of which processors, in rising order.
-
-abbrev pub plan_reads : Work → State → ℕ → Plan → Option (Which × List CpuId)
-plan_reads w s c (Make event) = None
-plan_reads w s c (Place placement p) = reads_for w s c (placed_thread placement)
-plan_reads w s c Search = read_of (neighbours s c)
-
-unfoldable pub reads : Work → State → ℕ → Option (Which × List CpuId)
-reads w s c = plan_reads w s c (plan w s c)
-
-abbrev pub same_which : Which → Which → Bool
-same_which which.Running which.Running = true
-same_which which.Queued which.Queued = true
-same_which _ _ = false
-
--- hints are there exactly where something is read, of that kind and of so many processors
-abbrev pub hints_fit : Option (Which × List CpuId) → Option Hints → Bool
-hints_fit None None = true
-hints_fit None (Some h) = false
-hints_fit (Some r) None = false
-hints_fit (Some r) (Some h) = same_which r.0 h.which && (length h.numbers.items == length r.1)
 
 -- The event, with what was read.
 

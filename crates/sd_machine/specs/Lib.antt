@@ -7,6 +7,7 @@ pub mod Cycles
 pub mod Dispatching
 pub mod Events
 pub mod Graphs
+pub mod Hints
 pub mod Holders
 pub mod Listing
 pub mod LockGraph

@@ -10,8 +10,8 @@ use Rattle.sd_types.specs.declared.events.Entry.{Entry}
 use Rattle.sd_types.specs.declared.works.Work.{Work}
 use Rattle.sd_types.specs.Partitions.{cpu_of_number}
 use Rattle.sd_state.specs.declared.states.State.{State}
-use Rattle.sd_machine.specs.Choosing.{hint_shown}
-use Rattle.sd_machine.specs.Events.{reads, next, after}
+use Rattle.sd_machine.specs.Events.{next, after}
+use Rattle.sd_machine.specs.Hints.{hint_shown, reads}
 use Rattle.sd_state.specs.Opening.{opening}
 
 -- the state after these entries

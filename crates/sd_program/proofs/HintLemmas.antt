@@ -24,9 +24,10 @@ use Rattle.sd_state.specs.Opening.{opening}
 use Rattle.sd_machine.specs.declared.plans.Plan.{Plan}
 use Rattle.sd_machine.specs.declared.plans.Plan.TheVariants.{Make, Place as PlaceIt, Search}
 use Rattle.sd_machine.specs.Threads.{open_of, runner, best_unbound, priority_of}
-use Rattle.sd_machine.specs.Choosing.{hint_of, hint_shown, cpus_or_bound, cpus_for, is_warm, is_settled, reads_for, neighbours, read_of}
+use Rattle.sd_machine.specs.Choosing.{cpus_or_bound, cpus_for, is_warm, is_settled, neighbours}
 use Rattle.sd_machine.specs.Plans.{plan}
-use Rattle.sd_machine.specs.Events.{after, placed_thread, plan_reads, reads}
+use Rattle.sd_machine.specs.Events.{after}
+use Rattle.sd_machine.specs.Hints.{hint_of, hint_shown, placed_thread, plan_reads, read_of, reads, reads_for}
 use Rattle.sd_machine.specs.Runs.{final, IsComplete, IsRun, IsRunFrom, shown, serial_hints, made, turn, round, rounds, IsSerial}
 use Rattle.std.proofs.lemmas.List.{length-append}
 use Rattle.std.proofs.lemmas.List.Elements.{All-nil, All-cons, All-head, All-tail}

@@ -40,7 +40,7 @@ use Rattle.sd_state.specs.States.{thread_of, cpu_of, eff_of}
 use Rattle.sd_state.specs.Operations.{op_of}
 use Rattle.sd_machine.specs.Bodies.{aged_class}
 use Rattle.sd_machine.specs.Threads.{thread_id, lock_of, count_of, runner, best_ready, best_queued, best_unbound, best_waiter, best_sleeper, best_sleeper_below, first_due, next_to_age, priority_of}
-use Rattle.sd_machine.specs.Choosing.{cpus_for, is_warm, is_settled, reads_for, put_chosen, neighbours, read_of, victim_for}
+use Rattle.sd_machine.specs.Choosing.{cpus_for, is_warm, is_settled, put_chosen, neighbours, victim_for}
 use Rattle.sd_machine.specs.Dispatching.{must_leave, leave_event, dispatch_plan, steal_event, search_event}
 use Rattle.sd_machine.specs.Sleeping.{woken_priority, napend_plan, wake_plan, rouse_plan}
 use Rattle.sd_machine.specs.Locking.{owner_runs, enter_event, read_event, write_event, unblock_plan, grant_writer_plan, is_eligible, grant_reader_plan}
@@ -50,9 +50,10 @@ use Rattle.sd_machine.specs.Prioritising.{answer_to, new_class, prio_plan, age_p
 use Rattle.sd_machine.specs.Conditions.{sema_v_plan}
 use Rattle.sd_machine.specs.SetChanges.{closing_plan}
 use Rattle.sd_machine.specs.Plans.{first_of, duty_plan_of, duty_plan, nap_plan, ageing_plan_of, ageing_plan, op_plan, run_plan_of, run_plan, free_plan_of, cpu_plan_of, cpu_plan, or_plan, plan}
-use Rattle.sd_machine.specs.Events.{event_of, placed_thread, plan_reads, reads, hints_fit, plan_event, wish, may_tick, allowed, next}
+use Rattle.sd_machine.specs.Events.{event_of, plan_event, wish, may_tick, allowed, next}
+use Rattle.sd_machine.specs.Hints.{hints_fit, placed_thread, plan_reads, read_of, reads, reads_for}
 use Rattle.sd_types.specs.Events.{ticks}
-use Rattle.sd_machine.specs.Events as E
+use Rattle.sd_machine.specs.Hints as E
 use Rattle.sd_entries.specs.Fitting as F
 
 -- the priority that an event tells, where it is not in its cause

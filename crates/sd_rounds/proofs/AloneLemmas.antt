@@ -13,9 +13,10 @@ use Rattle.sd_rules.specs.ChoiceFunctions.{greatest_hint, least_number, victim_o
 use Rattle.sd_state.specs.declared.states.State.{State}
 use Rattle.sd_machine.specs.declared.plans.Plan.{Plan}
 use Rattle.sd_machine.specs.declared.plans.Plan.TheVariants.{Make, Search}
-use Rattle.sd_machine.specs.Choosing.{hint_shown, neighbours, numbers_read, read_of, victim_for}
+use Rattle.sd_machine.specs.Choosing.{neighbours, numbers_read, victim_for}
 use Rattle.sd_machine.specs.Dispatching.{search_event}
-use Rattle.sd_machine.specs.Events.{allowed, next, plan_event, plan_reads, reads}
+use Rattle.sd_machine.specs.Events.{allowed, next, plan_event}
+use Rattle.sd_machine.specs.Hints.{hint_shown, plan_reads, read_of, reads}
 use Rattle.sd_machine.specs.Needs.{CanCount}
 use Rattle.sd_machine.specs.Plans.{plan}
 use Rattle.sd_machine.specs.Runs.{made, serial_hints, shown, turn}

@@ -18,7 +18,8 @@ use Rattle.sd_state.specs.Best.{beats}
 use Rattle.sd_state.specs.Opening.{opening}
 use Rattle.sd_state.specs.States.{cpu_of, is_queued, no_thread, thread_of}
 use Rattle.sd_state.proofs.OrderLemmas.{beats_order}
-use Rattle.sd_machine.specs.Choosing.{hint_of, hint_shown, neighbours}
+use Rattle.sd_machine.specs.Choosing.{neighbours}
+use Rattle.sd_machine.specs.Hints.{hint_of, hint_shown}
 use Rattle.sd_machine.specs.Events.{after, allowed, may_tick, next}
 use Rattle.sd_machine.specs.Runs.{IsReached, final, made, serial_hints, turn}
 use Rattle.sd_machine.specs.Threads.{best_unbound, no_cpus, open_of, priority_of}

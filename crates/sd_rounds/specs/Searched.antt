@@ -6,7 +6,7 @@ use Rattle.sd_types.specs.declared.events.Which.TheVariants.{Queued}
 use Rattle.sd_types.specs.declared.numbers.CpuId.{CpuId}
 use Rattle.sd_types.specs.declared.numbers.SetId.{SetId}
 use Rattle.sd_state.specs.declared.states.State.{State}
-use Rattle.sd_machine.specs.Choosing.{hint_shown}
+use Rattle.sd_machine.specs.Hints.{hint_shown}
 use Rattle.sd_machine.specs.Threads.{open_of}
 
 -- each of these processors shows 0 of its queue

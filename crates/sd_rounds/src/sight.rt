@@ -8,7 +8,7 @@ ghost use Rattle.sd_types.specs.declared.numbers.HomeId.TheVariants.{Cpu};
 ghost use Rattle.sd_types.specs.declared.scripts.Op.TheVariants.{Run};
 ghost use Rattle.sd_state.specs.Operations.{op_of};
 ghost use Rattle.sd_state.specs.declared.states.State.{State as StateOf};
-ghost use Rattle.sd_machine.specs.Choosing.{hint_shown};
+ghost use Rattle.sd_machine.specs.Hints.{hint_shown};
 ghost use Rattle.sd_homes.specs.Standing.{due_of_first};
 ghost use Rattle.sd_hand.specs.Acting.{IsShown};
 ghost use Rattle.sd_hand.specs.Hands.{held};

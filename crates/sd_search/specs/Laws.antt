@@ -9,7 +9,8 @@ use Rattle.sd_types.specs.declared.works.Work.{Work}
 use Rattle.sd_state.specs.declared.states.State.{State}
 use Rattle.sd_state.specs.Opening.{opening}
 use Rattle.sd_state.specs.States.{first_back_key}
-use Rattle.sd_machine.specs.Events.{after, next, reads}
+use Rattle.sd_machine.specs.Events.{after, next}
+use Rattle.sd_machine.specs.Hints.{reads}
 use Rattle.sd_machine.specs.Needs.{Needs}
 use Rattle.sd_machine.specs.Runs.{IsRun, final, serial_hints, IsFresh}
 use Rattle.sd_encoding.specs.Order.{IsSameOrder, KeysFit}

@@ -12,7 +12,7 @@ use Rattle.sd_state.specs.Operations.{op_of}
 use Rattle.sd_machine.specs.declared.plans.Plan.{Plan}
 use Rattle.sd_machine.specs.declared.plans.Plan.TheVariants.{Make, Place, Search}
 use Rattle.sd_machine.specs.Choosing.{victim_for}
-use Rattle.sd_machine.specs.Events.{placed_thread}
+use Rattle.sd_machine.specs.Hints.{placed_thread}
 use Rattle.sd_machine.specs.Plans.{ageing_plan, duty_plan, first_of, nap_plan, plan}
 use Rattle.sd_machine.specs.Threads.{lock_of, runner, thread_id}
 use Rattle.sd_dispatcher.specs.Touched.{victim_parts}

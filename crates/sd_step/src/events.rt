@@ -3,9 +3,10 @@
 ghost use Rattle.std.specs.Prelude.{◌≡◌, ℕ, ◌++◌, IfOk, None, true, option_map, if◌then◌else◌};
 ghost use Rattle.sd_types.specs.declared.numbers.ChanId.{ChanId as ChanIdOf};
 ghost use Rattle.sd_machine.specs.declared.plans.Plan.TheVariants.{Place};
-ghost use Rattle.sd_machine.specs.Choosing.{neighbours, put_chosen, read_of, reads_for, victim_for};
+ghost use Rattle.sd_machine.specs.Choosing.{neighbours, put_chosen, victim_for};
 ghost use Rattle.sd_machine.specs.Dispatching.{search_event};
-ghost use Rattle.sd_machine.specs.Events.{allowed, event_of, hints_fit, next, placed_thread, plan_event, plan_reads, reads};
+ghost use Rattle.sd_machine.specs.Events.{allowed, event_of, next, plan_event};
+ghost use Rattle.sd_machine.specs.Hints.{hints_fit, placed_thread, plan_reads, read_of, reads, reads_for};
 ghost use Rattle.sd_machine.specs.Needs.{CanCount};
 ghost use Rattle.sd_state.specs.declared.states.State.{State};
 ghost use Rattle.sd_dispatcher.specs.Reading.{parts};
@@ -90,7 +91,7 @@ pub fn plan_reads<L: Look>(
 }
 
 /// What processor `c` reads before its event, None where it reads nothing.
-#[tactic(auto, using(sd_store::proofs::Among::among_left, sd_store::proofs::Among::among_right), unfolding(sd_machine::specs::Events::reads))]
+#[tactic(auto, using(sd_store::proofs::Among::among_left, sd_store::proofs::Among::among_right), unfolding(sd_machine::specs::Hints::reads))]
 pub fn reads<L: Look>(work: &Work, x: &L, c: CpuId) -> Result<Option<Reading>, L::Lack>
     ensures value { IfOk result (λ r. (n : ℕ) (s : State) → L.shows x.now n s → ((k : ChanIdOf) → CanCount s k) → option_map parts r ≡ reads work.now s c.0) }
     ensures lack { LacksIf L.part (L.shows x.now) (L.has x.now) result (λ s. (k : ChanIdOf) → CanCount s k) (λ s. reads_parts work.now s c) }
@@ -192,7 +193,7 @@ fn planned<L: Clock>(
 
 /// The one event that processor `c` may make, where it has read these numbers; None where it may make none, where there is
 /// no such processor, and where the numbers are not what it reads in this state.
-#[tactic(auto, using(sd_store::proofs::Among::among_left, sd_store::proofs::Among::among_right), unfolding(sd_machine::specs::Events::next, sd_machine::specs::Events::reads, sd_machine::specs::Events::wish))]
+#[tactic(auto, using(sd_store::proofs::Among::among_left, sd_store::proofs::Among::among_right), unfolding(sd_machine::specs::Events::next, sd_machine::specs::Hints::reads, sd_machine::specs::Events::wish))]
 pub fn next<L: Clock>(
     work: &Work,
     x: &L,

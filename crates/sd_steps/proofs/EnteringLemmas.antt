@@ -23,9 +23,10 @@ use Rattle.sd_machine.specs.declared.plans.Plan.TheVariants.{Make, Place, Search
 use Rattle.sd_machine.specs.declared.plans.Placement.{Placement}
 use Rattle.sd_machine.specs.declared.plans.Placement.TheVariants as placement
 use Rattle.sd_machine.specs.Threads.{best_unbound, priority_of}
-use Rattle.sd_machine.specs.Choosing.{hint_of, hint_shown, neighbours, numbers_read, put_chosen, read_of, victim_for}
+use Rattle.sd_machine.specs.Choosing.{neighbours, numbers_read, put_chosen, victim_for}
 use Rattle.sd_machine.specs.Dispatching.{search_event, steal_event}
-use Rattle.sd_machine.specs.Events.{allowed, event_of, hints_fit, may_tick, next, placed_thread, plan_event, plan_reads, reads, same_which, wish}
+use Rattle.sd_machine.specs.Events.{allowed, event_of, may_tick, next, plan_event, wish}
+use Rattle.sd_machine.specs.Hints.{hint_of, hint_shown, hints_fit, placed_thread, plan_reads, read_of, reads, same_which}
 use Rattle.sd_machine.specs.Plans.{plan}
 use Rattle.sd_machine.specs.Runs.{serial_hints, shown}
 use Rattle.sd_steps.specs.Entering.{can_enter, can_steal, plan_enters}

@@ -8,7 +8,8 @@ use Rattle.sd_types.specs.Events.{ticks}
 use Rattle.sd_state.specs.declared.states.State.{State}
 use Rattle.sd_machine.specs.declared.plans.Plan.{Plan}
 use Rattle.sd_machine.specs.declared.plans.Plan.TheVariants.{Make, Place, Search}
-use Rattle.sd_machine.specs.Choosing.{hint_shown, neighbours}
+use Rattle.sd_machine.specs.Choosing.{neighbours}
+use Rattle.sd_machine.specs.Hints.{hint_shown}
 use Rattle.sd_machine.specs.Events.{may_tick}
 use Rattle.sd_machine.specs.Plans.{plan}
 

@@ -3,7 +3,8 @@
 ghost use Rattle.std.specs.Prelude.{◌≡◌, ◌<◌, ℕ, nat_lt, option_map, true};
 ghost use Rattle.std.specs.List.{list_all};
 ghost use Rattle.sd_state.specs.States.{thread_of};
-ghost use Rattle.sd_machine.specs.Events.{allowed, hints_fit, next, plan_event, plan_reads};
+ghost use Rattle.sd_machine.specs.Events.{allowed, next, plan_event};
+ghost use Rattle.sd_machine.specs.Hints.{hints_fit, plan_reads};
 ghost use Rattle.sd_machine.specs.Plans.{plan};
 ghost use Rattle.sd_machine.specs.Runs.{serial_hints, shown};
 ghost use Rattle.sd_dispatcher.specs.Reading.{parts};
@@ -66,7 +67,7 @@ fn event_of(work: &Work, s: &State, c: CpuId, hints: &Option<Hints>, plan: Plan)
 
 /// The numbers that processor `c` reads in the state itself, and the event that it may make then, None where it may make
 /// none.
-#[tactic(auto, using(crate::proofs::EnteringLemmas::serial_event, crate::proofs::EnteringLemmas::shown_fit), unfolding(sd_machine::specs::Runs::serial_hints, sd_machine::specs::Events::reads))]
+#[tactic(auto, using(crate::proofs::EnteringLemmas::serial_event, crate::proofs::EnteringLemmas::shown_fit), unfolding(sd_machine::specs::Runs::serial_hints, sd_machine::specs::Hints::reads))]
 pub fn serial_next(work: &Work, s: &State, c: CpuId) -> (Option<Hints>, Option<Event>)
     requires fit { IsFit work.now s.now }
     requires cpu { c.0 < work.now.cpus }

@@ -18,7 +18,8 @@ use Rattle.sd_types.specs.declared.events.Which.{Which}
 use Rattle.sd_types.specs.declared.works.Work.{Work}
 use Rattle.sd_state.specs.declared.states.State.{State}
 use Rattle.sd_state.specs.States.{thread_of}
-use Rattle.sd_machine.specs.Events.{after, next, reads}
+use Rattle.sd_machine.specs.Events.{after, next}
+use Rattle.sd_machine.specs.Hints.{reads}
 use Rattle.sd_machine.specs.Runs.{IsReached, IsRun}
 use Rattle.sd_invariants.proofs.Whole.{fit_reached}
 use Rattle.sd_store.specs.declared.parts.Part.{Part}

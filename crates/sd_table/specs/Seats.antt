@@ -14,7 +14,7 @@ use Rattle.sd_types.specs.declared.events.Which.{Which}
 use Rattle.sd_types.specs.declared.works.Work.{Work}
 use Rattle.sd_state.specs.States.{cpu_of}
 use Rattle.sd_state.specs.declared.states.State.{State}
-use Rattle.sd_machine.specs.Choosing.{hint_shown}
+use Rattle.sd_machine.specs.Hints.{hint_shown}
 use Rattle.sd_machine.specs.Events.{after, next}
 use Rattle.sd_machine.specs.Runs.{IsReached, IsRun}
 use Rattle.sd_store.specs.declared.parts.Part.{Part}

@@ -5,7 +5,7 @@ ghost use mathlib.Core.Option as M;
 ghost use Rattle.atomic_table.specs.Table.{step, rest};
 ghost use Rattle.sd_types.specs.declared.events.Entry.{Entry as EntryOf};
 ghost use Rattle.sd_state.specs.States.{cpu_of};
-ghost use Rattle.sd_machine.specs.Choosing.{hint_shown};
+ghost use Rattle.sd_machine.specs.Hints.{hint_shown};
 ghost use Rattle.sd_homes.specs.declared.home.Home.{Home as HomeOf};
 ghost use Rattle.sd_types.specs.Limits.{most_entries};
 ghost use Rattle.sd_table_rule.specs.Ledgers.{by};

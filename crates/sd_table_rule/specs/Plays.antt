@@ -13,7 +13,8 @@ use Rattle.sd_types.specs.Partitions.{cpu_of_number}
 use Rattle.sd_state.specs.declared.states.State.{State}
 use Rattle.sd_state.specs.States.{cpu_of}
 use Rattle.sd_machine.specs.Runs.{IsRun}
-use Rattle.sd_machine.specs.Events.{next, reads}
+use Rattle.sd_machine.specs.Events.{next}
+use Rattle.sd_machine.specs.Hints.{reads}
 use Rattle.sd_homes.specs.declared.home.Home.{Home}
 use Rattle.sd_table_rule.specs.declared.views.Count.{Count}
 use Rattle.sd_table_rule.specs.declared.views.Note.{Note}

@@ -6,7 +6,7 @@ use Rattle.sd_types.specs.declared.numbers.ThreadId.{ThreadId}
 use Rattle.sd_types.specs.declared.events.Which.{Which}
 use Rattle.sd_types.specs.declared.events.Which.TheVariants.{Running, Queued}
 use Rattle.sd_state.specs.declared.states.State.{State}
-use Rattle.sd_machine.specs.Choosing.{hint_of, hint_shown}
+use Rattle.sd_machine.specs.Hints.{hint_of, hint_shown}
 use Rattle.sd_machine.specs.Threads.{priority_of}
 use Rattle.sd_invariants.proofs.FineLemmas.{sound_law}
 use Rattle.sd_store.specs.declared.parts.Part.{Part}

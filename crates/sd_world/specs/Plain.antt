@@ -11,7 +11,7 @@ use Rattle.sd_state.specs.declared.states.State.{State}
 use Rattle.sd_state.specs.Opening.{opening}
 use Rattle.sd_machine.specs.Runs.{IsReached, IsRun, final, state_at}
 use Rattle.sd_state.specs.States.{cpu_of}
-use Rattle.sd_machine.specs.Choosing.{hint_shown}
+use Rattle.sd_machine.specs.Hints.{hint_shown}
 use Rattle.sd_machine.specs.Threads.{best_unbound, runner}
 use Rattle.sd_hand.specs.OneHome.{AreAllHomes, StandsInHomes}
 use Rattle.sd_world.specs.Told.{AreActorsOf, IsActorOf}

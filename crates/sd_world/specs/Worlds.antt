@@ -16,8 +16,8 @@ use Rattle.sd_types.specs.Limits.{most_entries}
 use Rattle.sd_state.specs.declared.states.State.{State}
 use Rattle.sd_state.specs.Opening.{opening}
 use Rattle.sd_state.specs.States.{cpu_of}
-use Rattle.sd_machine.specs.Choosing.{hint_shown}
-use Rattle.sd_machine.specs.Events.{next, reads}
+use Rattle.sd_machine.specs.Events.{next}
+use Rattle.sd_machine.specs.Hints.{hint_shown, reads}
 use Rattle.sd_machine.specs.Runs.{IsRun, final}
 use Rattle.sd_dispatcher.specs.declared.reading.Reading.{Reading}
 use Rattle.sd_store.specs.declared.parts.Part.{Part}

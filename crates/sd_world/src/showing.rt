@@ -2,7 +2,7 @@
 
 ghost use Rattle.std.specs.Prelude.{◌≡◌, ℕ, ◌<◌, option_map, true, IfSome};
 ghost use Rattle.sd_state.specs.declared.states.State.{State as StateOf};
-ghost use Rattle.sd_machine.specs.Choosing.{hint_of, hint_shown};
+ghost use Rattle.sd_machine.specs.Hints.{hint_of, hint_shown};
 ghost use Rattle.sd_machine.specs.Threads.{priority_of};
 ghost use Rattle.sd_hand.specs.Acting.{IsShown, has_part};
 ghost use Rattle.sd_store.specs.Parts.{cpu_part, number, thread_part};

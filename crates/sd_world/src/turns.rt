@@ -2,7 +2,7 @@
 
 ghost use Rattle.std.specs.Prelude.{◌≡◌, ◌++◌, ◌<◌, ◌≤◌, ◌∷◌, [], Some, length, map, nat_le, MatchOption};
 ghost use Rattle.std.specs.List.{list_all};
-ghost use Rattle.sd_machine.specs.Choosing.{hint_shown};
+ghost use Rattle.sd_machine.specs.Hints.{hint_shown};
 ghost use Rattle.sd_machine.specs.Events.{may_tick, next};
 ghost use Rattle.sd_world.specs.Entries.{CanEnter, Enters};
 ghost use Rattle.sd_world.specs.Plain.{AreCpus, HasNoted, IsLess, NoneLess, Stands, told};

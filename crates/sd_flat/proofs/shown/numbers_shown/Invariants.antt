@@ -1,5 +1,5 @@
 use Rattle.std.proofs.Common.{◌≡◌, ◌≤◌, length, map, take}
-use Rattle.sd_machine.specs.Choosing.{hint_shown}
+use Rattle.sd_machine.specs.Hints.{hint_shown}
 use Rattle.sd_flat.proofs.shown.numbers_shown.Given as goal
 
 abbrev pub invariant-loop-d : goal.invariant-loop-d

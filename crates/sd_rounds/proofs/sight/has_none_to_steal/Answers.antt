@@ -1,5 +1,5 @@
 use Rattle.std.proofs.Common.{option_map, sym, ap, ◌∙◌}
-use Rattle.sd_machine.specs.Choosing.{hint_of, hint_shown}
+use Rattle.sd_machine.specs.Hints.{hint_of, hint_shown}
 use Rattle.sd_machine.specs.Threads.{priority_of}
 use Rattle.sd_store.specs.Parts.{number}
 use Rattle.sd_rounds.proofs.sight.has_none_to_steal.Goals as goal

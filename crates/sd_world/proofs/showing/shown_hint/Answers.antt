@@ -1,5 +1,5 @@
 use Rattle.std.proofs.Common.{ap, ◌∙◌}
-use Rattle.sd_machine.specs.Choosing.{hint_of}
+use Rattle.sd_machine.specs.Hints.{hint_of}
 use Rattle.sd_machine.specs.Threads.{priority_of}
 use Rattle.sd_world.proofs.HintLemmas.{hint_is}
 use Rattle.sd_world.proofs.showing.shown_hint.Goals as goal

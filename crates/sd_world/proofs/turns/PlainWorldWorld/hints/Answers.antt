@@ -1,5 +1,5 @@
 use Rattle.std.proofs.Common.{map, refl, sym, ap, ◌∙◌, subst}
-use Rattle.sd_machine.specs.Choosing.{hint_shown}
+use Rattle.sd_machine.specs.Hints.{hint_shown}
 use Rattle.sd_world.specs.Plain.{AreCpus, plain_meaning, told}
 use Rattle.sd_world.specs.Worlds.{AllHinted}
 use Rattle.sd_world.proofs.WorldLemmas.{all_hinted, quiet_same, stays_same}
