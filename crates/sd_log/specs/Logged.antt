@@ -3,6 +3,7 @@
 use Rattle.std.specs.Prelude.{ℕ, ◌+◌, ◌-◌, ◌/◌, ◌^◌, min, List, [], ◌∷◌}
 use Rattle.std.specs.List.{All}
 use Rattle.sd_types.specs.declared.events.Entry.{Entry}
+use Rattle.sd_types.specs.Limits.{most_processors}
 use Rattle.sd_log.specs.declared.short.ShortEntry.{ShortEntry}
 use Rattle.sd_log.specs.Short.{IsWithin, entry_at}
 
@@ -20,6 +21,6 @@ entries_from bytes n (x ∷ xs) = entry_at bytes n x ∷ entries_from bytes (n +
 abbrev pub AreWithin : ℕ → List ShortEntry → Type 0
 AreWithin many xs = All (IsWithin many) xs
 
--- room for entries, each of which takes a place and reads 64 numbers at most, of which there are 2^32 at most in all
+-- room for entries, each of which takes a place and reads a number of each processor at most, of which there are 2^32 at most in all
 abbrev pub room_in : (places of_places bytes of_bytes : ℕ) → ℕ
-room_in places of_places bytes of_bytes = min (of_places - places) ((min of_bytes (2 ^ 32) - bytes) / 64)
+room_in places of_places bytes of_bytes = min (of_places - places) ((min of_bytes (2 ^ 32) - bytes) / most_processors)

@@ -5,6 +5,7 @@ use Rattle.sd_types.specs.declared.events.Entry.{Entry}
 use Rattle.sd_types.specs.declared.events.Hints.{Hints}
 use Rattle.sd_types.specs.declared.events.Which.{Which}
 use Rattle.sd_types.specs.declared.events.Which.TheVariants.{Running as OfRunning, Queued as OfQueued}
+use Rattle.sd_types.specs.Limits.{most_processors}
 use Rattle.sd_log.specs.declared.short.Reading.{Reading}
 use Rattle.sd_log.specs.declared.short.Reading.TheVariants.{Nothing, Running, Queued}
 use Rattle.sd_log.specs.declared.short.ShortEntry.{ShortEntry}
@@ -29,10 +30,10 @@ hints_with Nothing ns = None
 hints_with Running ns = Some (record { which = OfRunning; numbers = record { items = ns } })
 hints_with Queued ns = Some (record { which = OfQueued; numbers = record { items = ns } })
 
--- its numbers lie among so many bytes, and are at most 64
+-- its numbers lie among so many bytes, and are at most those of all processors
 pub record IsWithin (many : ℕ) (x : ShortEntry) : Type 0 where
   pub inside : x.from + x.count ≤ many
-  pub fits : x.count ≤ 64
+  pub fits : x.count ≤ most_processors
 
 -- the entry, at this place
 abbrev pub entry_at : List ℕ → ℕ → ShortEntry → Entry

@@ -3,7 +3,7 @@
 ghost use Rattle.std.specs.Prelude.{◌≡◌, ◌++◌, ◌<◌, ◌∷◌, [], Some, length, slice_get, OnOk};
 
 use crate::short::{ShortEntry, lengthen, shorten};
-use sd_types::{CpuId, Entry, Event, Hints};
+use sd_types::{CpuId, Entry, Event, Hints, MOST_PROCESSORS};
 use std::alloc::{AllocError, Global};
 use std::marker::Model;
 
@@ -68,7 +68,7 @@ impl EntryLog {
             return Err(AllocError);
         }
         self.short.reserve(1)?;
-        self.bytes.reserve(64)?;
+        self.bytes.reserve(MOST_PROCESSORS)?;
         Ok(())
     }
 

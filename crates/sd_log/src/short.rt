@@ -2,6 +2,7 @@
 
 ghost use Rattle.std.specs.Prelude.{◌≡◌, ◌++◌, ◌+◌, ◌<◌, ◌≤◌, ◌^◌, ℕ, Some, length, slice_range, vec_capacity, vec_len};
 ghost use Rattle.sd_log.specs.Short.{IsWithin, entry_at, hints_with, numbers_of, reading_of};
+ghost use Rattle.sd_types.specs.Limits.{most_processors};
 
 use arrayvec::ArrayVec;
 use sd_types::{CpuId, Entry, Event, Hints, Which};
@@ -43,7 +44,7 @@ fn reading_of(hints: &Option<Hints>) -> Reading
 /// These numbers, read of that kind, in place of others.
 #[inline(always)]
 fn set_numbers(hints: &mut Option<Hints>, which: Which, bytes: &[u8])
-    requires { length bytes.now ≤ 64 }
+    requires { length bytes.now ≤ most_processors }
     ensures { hints.new ≡ Some (record { which = which; numbers = record { items = bytes.now } }) }
 {
     let mut numbers = ArrayVec::new();
@@ -57,7 +58,7 @@ fn set_numbers(hints: &mut Option<Hints>, which: Which, bytes: &[u8])
 /// What was read, with its numbers, in place of what another entry read.
 #[inline(always)]
 fn set_hints(hints: &mut Option<Hints>, reading: Reading, bytes: &[u8])
-    requires { length bytes.now ≤ 64 }
+    requires { length bytes.now ≤ most_processors }
     ensures { hints.new ≡ hints_with reading bytes.now }
 {
     match reading {
@@ -69,10 +70,10 @@ fn set_hints(hints: &mut Option<Hints>, reading: Reading, bytes: &[u8])
 
 /// Puts the numbers that were read behind the others, where there is room.
 fn put_numbers(bytes: &mut Vec<u8>, hints: &Option<Hints>) -> u8
-    requires { vec_len bytes.old + 64 ≤ vec_capacity bytes.old }
+    requires { vec_len bytes.old + most_processors ≤ vec_capacity bytes.old }
     ensures bytes { bytes.new.items ≡ bytes.old.items ++ numbers_of hints.now }
     ensures count { result ≡ length (numbers_of hints.now) }
-    ensures fits { result ≤ 64 }
+    ensures fits { result ≤ most_processors }
 {
     match hints {
         None => 0,
@@ -93,7 +94,7 @@ pub(crate) fn shorten(
     event: Event,
     hints: &Option<Hints>,
 ) -> ShortEntry
-    requires room { vec_len bytes.old + 64 ≤ vec_capacity bytes.old }
+    requires room { vec_len bytes.old + most_processors ≤ vec_capacity bytes.old }
     requires few { vec_len bytes.old < 2 ^ 32 }
     ensures bytes { bytes.new.items ≡ bytes.old.items ++ numbers_of hints.now }
     ensures within { IsWithin (length bytes.new.items) result }
