@@ -8,6 +8,7 @@ use Rattle.sd_basics.proofs.Lists.{get_set_other}
 use Rattle.sd_types.specs.declared.events.Event.{Event}
 use Rattle.sd_types.specs.declared.events.Event.TheVariants.{Tick, Spin, Dispatch, Steal, Preempt, Napend, Wake, Rouse, Unblock, Grant, SemaVWake, Away}
 use Rattle.sd_types.specs.declared.events.Entry.{Entry}
+use Rattle.sd_types.specs.declared.numbers.CpuId.{CpuId}
 use Rattle.sd_types.specs.declared.works.Work.{Work}
 use Rattle.sd_types.specs.Events.{ticks}
 use Rattle.sd_state.specs.Accounts.{is_tick_of, is_dispatch_of, is_preempt_of, is_wake_of, is_idle, thread_ticks, thread_dispatches, thread_preempts, thread_wakes, cpu_ticks, cpu_idle}
@@ -155,11 +156,12 @@ module _ (es : List Entry) (e : Entry) (few : length es < 2 ^ 48) where
     totals = totals ∙ ap (totals_after e.event) h.totals ∙ totals_taken;
   }
 
-  -- the same, where the event is known
-  pub taken_as : (w : Work) (v : Event) (a b : Accounts) → e.event ≡ v → b.threads ≡ threads_after v a.threads → b.cpus ≡ cpus_after e.cpu.0 v a.cpus
-      → b.totals ≡ totals_after v a.totals → HasTaken w es a → HasTaken w (es ++ e ∷ []) b
-  taken_as w v a b is threads cpus totals =
-      taken_more w a b (threads ∙ ap (λ u. threads_after u a.threads) (sym is)) (cpus ∙ ap (λ u. cpus_after e.cpu.0 u a.cpus) (sym is)) (totals ∙ ap (λ u. totals_after u a.totals) (sym is))
+  -- the same, where its processor and its event are known
+  pub taken_as : (w : Work) (c : CpuId) (v : Event) (a b : Accounts) → e.cpu ≡ c → e.event ≡ v → b.threads ≡ threads_after v a.threads
+      → b.cpus ≡ cpus_after c.0 v a.cpus → b.totals ≡ totals_after v a.totals → HasTaken w es a → HasTaken w (es ++ e ∷ []) b
+  taken_as w c v a b of is threads cpus totals =
+      taken_more w a b (threads ∙ ap (λ u. threads_after u a.threads) (sym is))
+      (cpus ∙ ap (λ (d : CpuId). cpus_after d.0 v a.cpus) (sym of) ∙ ap (λ u. cpus_after e.cpu.0 u a.cpus) (sym is)) (totals ∙ ap (λ u. totals_after u a.totals) (sym is))
 
 -- none is taken in at first
 pub taken_none : (w : Work) (a : Accounts) → a.threads ≡ replicate (length w.threads) no_thread_counts → a.cpus ≡ replicate w.cpus no_cpu_counts

@@ -36,10 +36,19 @@ impl Accounts {
         ensures { (w : WorkValue) (es : Items EntryValue) → length es < 2 ^ 48
             → HasTaken w es self.old → HasTaken w (es ++ entry.now ∷ []) self.new }
     {
-        match entry.event {
-            Event::Idle => self.count(entry.cpu, &Event::Idle),
-            Event::Tick { t } => self.count(entry.cpu, &Event::Tick { t }),
-            event => self.count(entry.cpu, &event),
+        self.add_event(entry.cpu, &entry.event);
+    }
+
+    /// Takes in the next entry, of which this is the processor and the event: nothing else of it is counted.
+    #[inline(always)]
+    pub fn add_event(&mut self, cpu: CpuId, event: &Event)
+        ensures { (w : WorkValue) (es : Items EntryValue) (e : EntryValue) → e.cpu ≡ cpu → e.event ≡ event.now → length es < 2 ^ 48
+            → HasTaken w es self.old → HasTaken w (es ++ e ∷ []) self.new }
+    {
+        match *event {
+            Event::Idle => self.count(cpu, &Event::Idle),
+            Event::Tick { t } => self.count(cpu, &Event::Tick { t }),
+            event => self.count(cpu, &event),
         }
     }
 

@@ -2,12 +2,14 @@
 
 ghost use Rattle.std.specs.Prelude.{◌≡◌, ◌+◌, ◌*◌, ◌≤◌, ◌++◌, ◌∷◌, OnOk, OnErr, codes, decimal, drop, length, slice_range, take};
 ghost use Rattle.std.specs.List.{flat_map};
+ghost use Rattle.sd_log.specs.Parts.{hints_of, whole};
 ghost use Rattle.sd_machine.specs.Texts.{entry_text, event_text, hints_text, numbers_text};
 
 use crate::counting::{NUMBER_END, put_entry_number};
 use crate::events::put_frequent_event;
 use crate::line::{Line, ROOM, put_byte, put_number, put_small, put_two};
-use sd_types::{CpuId, Entry, Hints, Work};
+use sd_log::Parts;
+use sd_types::{CpuId, Entry, Which, Work};
 use std::alloc::{AllocError, Global};
 
 // `,7`
@@ -49,18 +51,20 @@ fn put_numbers(numbers: &[u8], line: &mut Line, from: usize) -> usize
     }
 }
 
+// The numbers that were read, if any were.
 #[inline(always)]
-fn put_hints(hints: &Option<Hints>, line: &mut Line, from: usize) -> usize
-    requires { from + 259 ≤ ROOM }
-    ensures text { take result line.new ≡ take from line.old ++ hints_text hints.now }
+fn put_hints(which: Option<Which>, numbers: &[u8], line: &mut Line, from: usize) -> usize
+    requires few { length numbers.now ≤ 64 }
+    requires room { from + 259 ≤ ROOM }
+    ensures text { take result line.new ≡ take from line.old ++ hints_text (hints_of which numbers.now) }
     ensures within { result ≤ from + 259 }
 {
-    match hints {
+    match which {
         None => from,
-        Some(hints) => {
+        Some(_) => {
             let from = put_two(b' ', b'h', line, from);
             let from = put_byte(b' ', line, from);
-            put_numbers(hints.numbers.as_slice(), line, from)
+            put_numbers(numbers, line, from)
         }
     }
 }
@@ -79,15 +83,17 @@ fn put_spaced_cpu(c: CpuId, line: &mut Line, from: usize) -> usize
 
 // What follows the number of the entry.
 #[inline(always)]
-fn put_behind_number(work: &Work, entry: &Entry, line: &mut Line, from: usize) -> usize
-    requires { from + 383 ≤ ROOM }
+fn put_behind_number(work: &Work, parts: &Parts<'_>, line: &mut Line, from: usize) -> usize
+    requires few { length parts.now.numbers.now ≤ 64 }
+    requires room { from + 383 ≤ ROOM }
     ensures text { take result line.new ≡ take from line.old
-        ++ (codes " c" ++ decimal entry.now.cpu.0 ++ codes " " ++ event_text work.now entry.now.event ++ hints_text entry.now.hints ++ codes "\n") }
+        ++ (codes " c" ++ decimal parts.now.cpu.0 ++ codes " " ++ event_text work.now parts.now.event.now
+        ++ hints_text (hints_of parts.now.which parts.now.numbers.now) ++ codes "\n") }
     ensures within { result ≤ from + 383 }
 {
-    let from = put_spaced_cpu(entry.cpu, line, from);
-    let from = put_frequent_event(work, &entry.event, line, from);
-    let from = put_hints(&entry.hints, line, from);
+    let from = put_spaced_cpu(parts.cpu, line, from);
+    let from = put_frequent_event(work, parts.event, line, from);
+    let from = put_hints(parts.which, parts.numbers, line, from);
     put_byte(b'\n', line, from)
 }
 
@@ -112,26 +118,36 @@ impl EntryLine {
         }
     }
 
-    // Puts the line of the entry, and returns where it ends.
+    // Puts the line of the entry with these parts, and returns where it ends.
     #[tactic(auto, unfolding(sd_machine::specs::Texts::entry_text))]
     #[inline(always)]
-    fn put_entry(&mut self, work: &Work, entry: &Entry) -> usize
+    fn put_parts(&mut self, work: &Work, parts: &Parts<'_>) -> usize
+        requires few { length parts.now.numbers.now ≤ 64 }
         ensures within { (self.new.from ≤ result) × (result ≤ ROOM) }
-        ensures text { slice_range self.new.line self.new.from result ≡ entry_text work.now entry.now }
+        ensures text { slice_range self.new.line self.new.from result ≡ entry_text work.now (whole parts.now) }
     {
-        self.from = put_entry_number(entry.number, self.number, &mut self.line, self.from);
-        self.number = entry.number;
-        put_behind_number(work, entry, &mut self.line, NUMBER_END)
+        self.from = put_entry_number(parts.number, self.number, &mut self.line, self.from);
+        self.number = parts.number;
+        put_behind_number(work, parts, &mut self.line, NUMBER_END)
     }
 
-    /// The line of the entry, with its newline: its number, its processor, its event, and the numbers that it read,
-    /// where it read any. A number that the workload does not declare has no name there.
+    /// The line of the entry with these parts, with its newline: its number, its processor, its event, and the numbers that it
+    /// read, where it read any. A number that the workload does not declare has no name there.
+    #[inline(always)]
+    pub fn format_parts(&mut self, work: &Work, parts: &Parts<'_>) -> &[u8]
+        requires { length parts.now.numbers.now ≤ 64 }
+        ensures { result.now ≡ entry_text work.now (whole parts.now) }
+    {
+        let to = self.put_parts(work, parts);
+        &self.line[self.from..to]
+    }
+
+    /// The line of a whole entry.
     #[inline(always)]
     pub fn format(&mut self, work: &Work, entry: &Entry) -> &[u8]
         ensures { result.now ≡ entry_text work.now entry.now }
     {
-        let to = self.put_entry(work, entry);
-        &self.line[self.from..to]
+        self.format_parts(work, &Parts::of(entry))
     }
 }
 

@@ -4,7 +4,8 @@ use Rattle.std.proofs.lemmas.List.{take-append-le, drop-append-le}
 use Rattle.sd_types.specs.declared.events.Entry.{Entry}
 use Rattle.sd_log.specs.declared.short.ShortEntry.{ShortEntry}
 use Rattle.sd_log.specs.Logged.{AreWithin, entries_from}
-use Rattle.sd_log.specs.Short.{IsWithin, entry_at, hints_with}
+use Rattle.sd_log.specs.Parts.{hints_of}
+use Rattle.sd_log.specs.Short.{IsWithin, entry_at, kind_of}
 
 pub entries-length : (bytes : List ℕ) (n : ℕ) (xs : List ShortEntry) → length (entries_from bytes n xs) ≡ length xs
 unfolding entries_from
@@ -30,7 +31,7 @@ entry-grows bytes more n x within =
     let from : x.from ≤ length bytes = omega (arith, inside) in
     let left : x.count ≤ length (drop x.from bytes) = (let long = length-drop x.from bytes in omega (arith, inside, long)) in
     let same = ap (take x.count) (drop-append-le x.from bytes more from) ∙ take-append-le x.count (drop x.from bytes) more left in
-    ap (λ (ns : List ℕ). let e : Entry = record { number = n; cpu = x.cpu; event = x.event; hints = hints_with x.reading ns } in e) same
+    ap (λ (ns : List ℕ). let e : Entry = record { number = n; cpu = x.cpu; event = x.event; hints = hints_of (kind_of x.reading) ns } in e) same
 
 pub entries-grow : (bytes more : List ℕ) (n : ℕ) (xs : List ShortEntry) → AreWithin (length bytes) xs
     → entries_from (bytes ++ more) n xs ≡ entries_from bytes n xs

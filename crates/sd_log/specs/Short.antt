@@ -1,21 +1,17 @@
 -- An entry without its number and without the numbers that it read, which lie in a list of bytes.
 -- Source: this project's own.
-use Rattle.std.specs.Prelude.{ℕ, ◌+◌, ◌≤◌, List, [], take, drop, Option, None, Some}
+use Rattle.std.specs.Prelude.{ℕ, ◌+◌, ◌≤◌, List, take, drop, Option, None, Some}
 use Rattle.sd_types.specs.declared.events.Entry.{Entry}
 use Rattle.sd_types.specs.declared.events.Hints.{Hints}
 use Rattle.sd_types.specs.declared.events.Which.{Which}
 use Rattle.sd_types.specs.declared.events.Which.TheVariants.{Running as OfRunning, Queued as OfQueued}
 use Rattle.sd_types.specs.Limits.{most_processors}
+use Rattle.sd_log.specs.Parts.{hints_of}
 use Rattle.sd_log.specs.declared.short.Reading.{Reading}
 use Rattle.sd_log.specs.declared.short.Reading.TheVariants.{Nothing, Running, Queued}
 use Rattle.sd_log.specs.declared.short.ShortEntry.{ShortEntry}
 
--- the numbers that were read
-abbrev pub numbers_of : Option Hints → List ℕ
-numbers_of None = []
-numbers_of (Some hints) = hints.numbers.items
-
--- of what they are
+-- of which kind numbers are that were read
 abbrev pub reading_by : Which → Reading
 reading_by OfRunning = Running
 reading_by OfQueued = Queued
@@ -24,11 +20,10 @@ abbrev pub reading_of : Option Hints → Reading
 reading_of None = Nothing
 reading_of (Some hints) = reading_by hints.which
 
--- these numbers, if any were read
-abbrev pub hints_with : Reading → List ℕ → Option Hints
-hints_with Nothing ns = None
-hints_with Running ns = Some (record { which = OfRunning; numbers = record { items = ns } })
-hints_with Queued ns = Some (record { which = OfQueued; numbers = record { items = ns } })
+abbrev pub kind_of : Reading → Option Which
+kind_of Nothing = None
+kind_of Running = Some OfRunning
+kind_of Queued = Some OfQueued
 
 -- its numbers lie among so many bytes, and are at most those of all processors
 pub record IsWithin (many : ℕ) (x : ShortEntry) : Type 0 where
@@ -37,4 +32,4 @@ pub record IsWithin (many : ℕ) (x : ShortEntry) : Type 0 where
 
 -- the entry, at this place
 abbrev pub entry_at : List ℕ → ℕ → ShortEntry → Entry
-entry_at bytes i x = record { number = i; cpu = x.cpu; event = x.event; hints = hints_with x.reading (take x.count (drop x.from bytes)) }
+entry_at bytes i x = record { number = i; cpu = x.cpu; event = x.event; hints = hints_of (kind_of x.reading) (take x.count (drop x.from bytes)) }

@@ -1,8 +1,11 @@
 //! The entries of a run in the order of their numbers. Contracts see them as a list of entries, and for how many more there is room.
 
-ghost use Rattle.std.specs.Prelude.{◌≡◌, ◌++◌, ◌<◌, ◌∷◌, [], Some, length, slice_get, OnOk};
+ghost use Rattle.std.specs.Prelude.{◌≡◌, ◌++◌, ◌<◌, ◌≤◌, ◌∷◌, [], Some, length, slice_get, OnOk};
+ghost use Rattle.sd_types.specs.Limits.{most_processors};
+ghost use Rattle.sd_log.specs.Parts.{whole};
 
-use crate::short::{ShortEntry, lengthen, shorten};
+use crate::parts::Parts;
+use crate::short::{ShortEntry, parts_at, shorten};
 use sd_types::{CpuId, Entry, Event, Hints, MOST_PROCESSORS};
 use std::alloc::{AllocError, Global};
 use std::marker::Model;
@@ -15,16 +18,6 @@ const MOST_NUMBER_BYTES: usize = 4_294_967_232;
 pub struct EntryLog {
     short: Vec<ShortEntry>,
     bytes: Vec<u8>,
-}
-
-/// An entry to be made another.
-pub fn blank() -> Entry {
-    Entry {
-        number: 0,
-        cpu: CpuId(0),
-        event: Event::Idle,
-        hints: None,
-    }
 }
 
 impl Model for EntryLog {
@@ -81,22 +74,21 @@ impl EntryLog {
         self.short.push_reserved(short);
     }
 
+    /// The parts of the entry with this number.
+    #[inline(always)]
+    pub fn parts(&self, number: usize) -> Parts<'_>
+        requires { number < length self.now.items }
+        ensures whole { slice_get self.now.items number ≡ Some (whole result) }
+        ensures few { length result.numbers.now ≤ most_processors }
+    {
+        parts_at(&self.bytes, number, &self.short[number])
+    }
+
     /// The entry with this number.
     pub fn entry(&self, number: usize) -> Entry
         requires { number < length self.now.items }
         ensures { slice_get self.now.items number ≡ Some result }
     {
-        let mut entry = blank();
-        self.copy_to(number, &mut entry);
-        entry
-    }
-
-    /// Makes `entry` the one with this number. Whoever goes along the entries keeps one for all of them.
-    #[inline(always)]
-    pub fn copy_to(&self, number: usize, entry: &mut Entry)
-        requires { number < length self.now.items }
-        ensures { slice_get self.now.items number ≡ Some entry.new }
-    {
-        lengthen(&self.bytes, number, &self.short[number], entry);
+        self.parts(number).entry()
     }
 }

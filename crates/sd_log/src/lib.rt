@@ -2,8 +2,10 @@
 #![tactic(auto)]
 
 mod entry_log;
+mod parts;
 mod short;
 #[cfg(test)]
 mod tests;
 
-pub use entry_log::{EntryLog, blank};
+pub use entry_log::EntryLog;
+pub use parts::Parts;

@@ -1,11 +1,12 @@
 //! An entry without what its place tells, and without the numbers that it read: where those lie.
 
-ghost use Rattle.std.specs.Prelude.{◌≡◌, ◌++◌, ◌+◌, ◌<◌, ◌≤◌, ◌^◌, ℕ, Some, length, slice_range, vec_capacity, vec_len};
-ghost use Rattle.sd_log.specs.Short.{IsWithin, entry_at, hints_with, numbers_of, reading_of};
+ghost use Rattle.std.specs.Prelude.{◌≡◌, ◌++◌, ◌+◌, ◌<◌, ◌≤◌, ◌^◌, ℕ, length, slice_range, vec_capacity, vec_len};
+ghost use Rattle.sd_log.specs.Short.{IsWithin, entry_at, reading_of, kind_of};
 ghost use Rattle.sd_types.specs.Limits.{most_processors};
+ghost use Rattle.sd_log.specs.Parts.{numbers_of, whole};
 
-use arrayvec::ArrayVec;
-use sd_types::{CpuId, Entry, Event, Hints, Which};
+use crate::parts::{Parts, numbers_of};
+use sd_types::{CpuId, Event, Hints, Which};
 use std::mem::size_of;
 
 /// Which numbers of the processors an entry read, if any.
@@ -41,30 +42,15 @@ fn reading_of(hints: &Option<Hints>) -> Reading
     }
 }
 
-/// These numbers, read of that kind, in place of others.
+/// Of which kind the numbers are that were read.
 #[inline(always)]
-fn set_numbers(hints: &mut Option<Hints>, which: Which, bytes: &[u8])
-    requires { length bytes.now ≤ most_processors }
-    ensures { hints.new ≡ Some (record { which = which; numbers = record { items = bytes.now } }) }
-{
-    let mut numbers = ArrayVec::new();
-    match numbers.try_extend_from_slice(bytes) {
-        Ok(()) => {}
-        Err(_) => unreachable!(),
-    }
-    *hints = Some(Hints { which, numbers });
-}
-
-/// What was read, with its numbers, in place of what another entry read.
-#[inline(always)]
-fn set_hints(hints: &mut Option<Hints>, reading: Reading, bytes: &[u8])
-    requires { length bytes.now ≤ most_processors }
-    ensures { hints.new ≡ hints_with reading bytes.now }
+fn kind_of(reading: Reading) -> Option<Which>
+    ensures { result ≡ kind_of reading }
 {
     match reading {
-        Reading::Nothing => *hints = None,
-        Reading::Running => set_numbers(hints, Which::Running, bytes),
-        Reading::Queued => set_numbers(hints, Which::Queued, bytes),
+        Reading::Nothing => None,
+        Reading::Running => Some(Which::Running),
+        Reading::Queued => Some(Which::Queued),
     }
 }
 
@@ -75,15 +61,10 @@ fn put_numbers(bytes: &mut Vec<u8>, hints: &Option<Hints>) -> u8
     ensures count { result ≡ length (numbers_of hints.now) }
     ensures fits { result ≤ most_processors }
 {
-    match hints {
-        None => 0,
-        Some(hints) => {
-            let numbers = hints.numbers.as_slice();
-            match bytes.extend_from_slice(numbers) {
-                Ok(()) => numbers.len() as u8,
-                Err(_) => unreachable!(),
-            }
-        }
+    let numbers = numbers_of(hints);
+    match bytes.extend_from_slice(numbers) {
+        Ok(()) => numbers.len() as u8,
+        Err(_) => unreachable!(),
     }
 }
 
@@ -111,16 +92,19 @@ pub(crate) fn shorten(
     }
 }
 
-/// The entry with this number, in place of another.
+/// The parts of the entry with this number.
 #[inline(always)]
-pub(crate) fn lengthen(bytes: &[u8], number: usize, short: &ShortEntry, entry: &mut Entry)
+pub(crate) fn parts_at<'a>(bytes: &'a [u8], number: usize, short: &'a ShortEntry) -> Parts<'a>
     requires { IsWithin (length bytes.now) short.now }
-    ensures { entry.new ≡ entry_at bytes.now number short.now }
+    ensures whole { whole result ≡ entry_at bytes.now number short.now }
+    ensures few { length result.numbers.now ≤ most_processors }
 {
     let from = short.from as usize;
-    let read = &bytes[from..from + short.count as usize];
-    entry.number = number as u64;
-    entry.cpu = short.cpu;
-    entry.event = short.event;
-    set_hints(&mut entry.hints, short.reading, read);
+    Parts {
+        number: number as u64,
+        cpu: short.cpu,
+        event: &short.event,
+        which: kind_of(short.reading),
+        numbers: &bytes[from..from + short.count as usize],
+    }
 }

@@ -1,8 +1,9 @@
 //! Writing what is printed of a run: each line with its newline as one piece.
 
-ghost use Rattle.std.specs.Prelude.{◌≡◌, ◌++◌, ◌<◌, ◌^◌, List, [], length, map, IfOk, OnOk};
+ghost use Rattle.std.specs.Prelude.{◌≡◌, ◌++◌, ◌<◌, ◌≤◌, ◌^◌, List, [], length, map, IfOk, OnOk};
 ghost use Rattle.sd_types.specs.declared.events.Entry.{Entry as EntryOf};
 ghost use Rattle.sd_accounts.specs.Counters.{HasTaken};
+ghost use Rattle.sd_log.specs.Parts.{whole};
 ghost use Rattle.sd_machine.specs.LockGraph.{cycles_of};
 ghost use Rattle.sd_machine.specs.Runs.{final};
 ghost use Rattle.sd_machine.specs.Texts.{cycles_text, entries_text, entry_text, journal, summary};
@@ -15,23 +16,24 @@ use crate::forms::Form;
 use sd_accounts::Accounts;
 use sd_answers::{Unwritten, put_line, put_text};
 use sd_entries::EntryLine;
-use sd_log::{EntryLog, blank};
+use sd_log::{EntryLog, Parts};
 use sd_state::State;
 use sd_text::Sink;
-use sd_types::{Entry, Work};
+use sd_types::Work;
 use std::alloc::{AllocError, Global};
 
-/// Writes the line of an entry, which is made in the buffer.
+/// Writes the line of the entry with these parts, which is made in the buffer.
 fn put_entry<K: Sink>(
     work: &Work,
-    entry: &Entry,
+    parts: &Parts<'_>,
     line: &mut EntryLine,
     out: &mut K,
 ) -> Result<(), Unwritten>
+    requires { length parts.now.numbers.now ≤ 64 }
     ensures { Puts (K.contents out.old) (K.contents out.new) (K.fault_count out.old) (K.fault_count out.new)
-        (entry_text work.now entry.now) result }
+        (entry_text work.now (whole parts.now)) result }
 {
-    put_line(out, line.format(work, entry))
+    put_line(out, line.format_parts(work, parts))
 }
 
 /// Writes the entries in order, and counts them in accounts that have none so far.
@@ -48,11 +50,10 @@ fn put_entries<K: Sink>(
     ensures counted { OnOk result (HasTaken work.now entries.now.items accounts.new) }
 {
     let mut line = EntryLine::new();
-    let mut entry = blank();
     for i in 0..entries.len() {
-        entries.copy_to(i, &mut entry);
-        put_entry(work, &entry, &mut line, out)?;
-        accounts.add(&entry);
+        let parts = entries.parts(i);
+        put_entry(work, &parts, &mut line, out)?;
+        accounts.add_event(parts.cpu, parts.event);
     }
     Ok(())
 }
@@ -63,10 +64,9 @@ fn counted(alloc: Global, work: &Work, entries: &EntryLog) -> Result<Accounts, A
     ensures { IfOk result (λ a. HasTaken work.now entries.now.items a) }
 {
     let mut accounts = Accounts::new(alloc, work)?;
-    let mut entry = blank();
     for i in 0..entries.len() {
-        entries.copy_to(i, &mut entry);
-        accounts.add(&entry);
+        let parts = entries.parts(i);
+        accounts.add_event(parts.cpu, parts.event);
     }
     Ok(accounts)
 }

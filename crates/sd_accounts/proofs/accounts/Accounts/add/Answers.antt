@@ -1,15 +1,5 @@
 use Rattle.std.proofs.Common.{refl}
-use Rattle.sd_accounts.proofs.CounterLemmas.{taken_as}
 use Rattle.sd_accounts.proofs.accounts.Accounts.add.Goals as goal
 
-pub returns-in-Idle : goal.returns-in-Idle
-returns-in-Idle c w es few taken =
-    taken_as es c.args.entry.now few w _ c.args.self.now _ c.in-Idle.is c.count.ensures.threads c.count.ensures.cpus c.count.ensures.totals taken
-
-pub returns-in-Tick : goal.returns-in-Tick
-returns-in-Tick c w es few taken =
-    taken_as es c.args.entry.now few w _ c.args.self.now _ c.in-Tick.is c.count-in-Tick.ensures.threads c.count-in-Tick.ensures.cpus c.count-in-Tick.ensures.totals taken
-
-pub returns-in_default : goal.returns-in_default
-returns-in_default c w es few taken =
-    taken_as es c.args.entry.now few w _ c.args.self.now _ refl c.count-in_default.ensures.threads c.count-in_default.ensures.cpus c.count-in_default.ensures.totals taken
+pub returns : goal.returns
+returns c w es few taken = c.add_event.ensures w es c.args.entry.now refl refl few taken

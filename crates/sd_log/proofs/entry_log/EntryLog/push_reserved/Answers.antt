@@ -1,7 +1,8 @@
 use Rattle.std.proofs.Common.{◌≡◌, ◌+◌, ◌++◌, ◌∷◌, [], length, sym, ap, ◌∙◌, zero-add}
 use Rattle.sd_types.specs.declared.events.Entry.{Entry}
 use Rattle.sd_log.specs.Logged.{Logged, entries_from}
-use Rattle.sd_log.specs.Short.{entry_at, numbers_of}
+use Rattle.sd_log.specs.Parts.{numbers_of}
+use Rattle.sd_log.specs.Short.{entry_at}
 use Rattle.sd_log.proofs.LogLemmas.{entries-grow, entries-length, entries-push}
 use Rattle.sd_log.proofs.entry_log.EntryLog.push_reserved.Goals as goal
 

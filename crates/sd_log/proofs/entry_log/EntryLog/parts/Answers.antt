@@ -4,7 +4,7 @@ use Rattle.sd_log.specs.declared.short.ShortEntry.{ShortEntry}
 use Rattle.sd_log.specs.Logged.{Logged}
 use Rattle.sd_log.specs.Short.{IsWithin, entry_at}
 use Rattle.sd_log.proofs.LogLemmas.{entries-at, entries-length}
-use Rattle.sd_log.proofs.entry_log.EntryLog.copy_to.Goals as goal
+use Rattle.sd_log.proofs.entry_log.EntryLog.parts.Goals as goal
 
 pub index-requires : goal.index-requires
 index-requires c =
@@ -15,8 +15,8 @@ index-requires c =
     let inside = c.requires in
     omega (arith, many, same, view, inside)
 
-pub lengthen-requires : goal.lengthen-requires
-lengthen-requires c =
+pub parts_at-requires : goal.parts_at-requires
+parts_at-requires c =
     let bytes = c.self.inside.bytes.items in
     let xs = c.self.inside.short.items in
     let same = entries-length bytes 0 xs in
@@ -26,8 +26,8 @@ lengthen-requires c =
     subst (λ bs. IsWithin (length bs) c.index.result.now) (sym c.deref.ensures.value)
     (subst (IsWithin (length bytes)) (sym c.index.ensures) (c.self.invariant c.args.number c.index.result.now inside))
 
-pub returns : goal.returns
-returns c =
+pub returns-clause-whole : goal.returns-clause-whole
+returns-clause-whole c =
     let bytes = c.self.inside.bytes.items in
     let xs = c.self.inside.short.items in
     let i = c.args.number in
@@ -41,4 +41,4 @@ returns c =
     ∙ ap (λ (y : ShortEntry). Some (entry_at bytes (0 + i) y)) (sym c.index.ensures)
     ∙ ap (λ k. Some (entry_at bytes k x)) (zero-add i)
     ∙ ap (λ bs. Some (entry_at bs i x)) (sym c.deref.ensures.value)
-    ∙ ap Some (sym c.lengthen.ensures)
+    ∙ ap Some (sym c.parts_at.ensures.whole)

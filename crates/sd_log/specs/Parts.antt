@@ -1,0 +1,26 @@
+-- An entry by its parts.
+-- Source: this project's own.
+use Rattle.std.specs.Prelude.{ℕ, List, [], Option, None, Some}
+use Rattle.sd_types.specs.declared.events.Entry.{Entry}
+use Rattle.sd_types.specs.declared.events.Hints.{Hints}
+use Rattle.sd_types.specs.declared.events.Which.{Which}
+use Rattle.sd_log.specs.declared.parts.Parts.{Parts}
+
+-- the numbers that were read
+abbrev pub numbers_of : Option Hints → List ℕ
+numbers_of None = []
+numbers_of (Some hints) = hints.numbers.items
+
+-- of which kind they are
+abbrev pub which_of : Option Hints → Option Which
+which_of None = None
+which_of (Some hints) = Some hints.which
+
+-- these numbers, if any were read
+abbrev pub hints_of : Option Which → List ℕ → Option Hints
+hints_of None ns = None
+hints_of (Some which) ns = Some (record { which = which; numbers = record { items = ns } })
+
+-- the entry that these are the parts of
+abbrev pub whole : Parts → Entry
+whole p = record { number = p.number; cpu = p.cpu; event = p.event.now; hints = hints_of p.which p.numbers.now }
