@@ -10,7 +10,7 @@ use crate::events::put_frequent_event;
 use crate::line::{Line, ROOM, put_byte, put_number, put_small, put_two};
 use sd_log::Parts;
 use sd_types::{CpuId, Entry, Which, Work};
-use std::alloc::{AllocError, Global};
+use std::alloc::AllocError;
 
 // `,7`
 #[inline(always)]
@@ -149,18 +149,20 @@ impl EntryLine {
     {
         self.format_parts(work, &Parts::of(entry))
     }
+
+    /// Appends the line of an entry. Where memory runs out, `out` is as it was.
+    pub fn write(&mut self, work: &Work, entry: &Entry, out: &mut Vec<u8>) -> Result<(), AllocError>
+        ensures ok { OnOk result (out.new.items ≡ out.old.items ++ entry_text work.now entry.now) }
+        ensures err { OnErr result (out.new.items ≡ out.old.items) }
+    {
+        out.extend_from_slice(self.format(work, entry))
+    }
 }
 
-/// Appends the line of the entry, as `EntryLine` makes it. Where memory runs out, `out` is as it was.
-pub fn write_entry(
-    _alloc: Global,
-    work: &Work,
-    entry: &Entry,
-    out: &mut Vec<u8>,
-) -> Result<(), AllocError>
+/// Appends the line of one entry alone. Where memory runs out, `out` is as it was.
+pub fn write_entry(work: &Work, entry: &Entry, out: &mut Vec<u8>) -> Result<(), AllocError>
     ensures ok { OnOk result (out.new.items ≡ out.old.items ++ entry_text work.now entry.now) }
     ensures err { OnErr result (out.new.items ≡ out.old.items) }
 {
-    let mut line = EntryLine::new();
-    out.extend_from_slice(line.format(work, entry))
+    EntryLine::new().write(work, entry, out)
 }

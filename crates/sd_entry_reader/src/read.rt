@@ -147,11 +147,10 @@ fn entry_of(names: &Names<'_>, words: &Words<'_>) -> Entry
     }
 }
 
-// Whether the line is that of the entry, without its newline.
-fn is_line_of(work: &Work, entry: &Entry, line: &[u8]) -> bool
+// Whether the line is that of the entry, without its newline. That of the entry is made in the buffer.
+fn is_line_of(work: &Work, entry: &Entry, text: &mut EntryLine, line: &[u8]) -> bool
     ensures { IsTrue result ↔ (entry_text work.now entry.now ≡ line.now ++ 10 ∷ []) }
 {
-    let mut text = EntryLine::new();
     is_with_newline(text.format(work, entry), line)
 }
 
@@ -170,15 +169,16 @@ fn is_same(text: &[u8], other: &[u8]) -> bool
 }
 
 /// The entry that a line without its newline tells: some where the line is that of an entry whose numbers name what the
-/// workload has, and which has read numbers only where its event reads; and none exactly where it is that of no such entry.
-pub fn read_entry(names: &Names<'_>, line: &[u8]) -> Option<Entry>
+/// workload has, and which has read numbers only where its event reads; and none exactly where it is that of no such entry. In the
+/// buffer, which whoever reads a whole journal keeps, the line of an entry is made again.
+pub fn read_entry(names: &Names<'_>, text: &mut EntryLine, line: &[u8]) -> Option<Entry>
     ensures some { IfSome result (λ e. IsTrue (entry_fits names.now.work.now e) × (entry_text names.now.work.now e ≡ line.now ++ 10 ∷ [])) }
     ensures none { IfNone result ((e : EntryValue) → IsSpelled names.now.work.now e → entry_text names.now.work.now e ≡ line.now ++ 10 ∷ [] → ⊥) }
 {
     let work = names.work;
     let words = Words::of(line);
     let entry = entry_of(names, &words);
-    if entry_fits(work, &entry) && is_line_of(work, &entry, line) {
+    if entry_fits(work, &entry) && is_line_of(work, &entry, text, line) {
         Some(entry)
     } else {
         None

@@ -9,7 +9,7 @@ ghost use Rattle.sd_state.specs.Texts.{accounts_text};
 ghost use Rattle.sd_types.specs.Limits.{most_entries};
 
 use sd_accounts::Accounts;
-use sd_entries::write_entry;
+use sd_entries::EntryLine;
 use sd_state::State;
 use sd_steps::replay;
 use sd_types::{Entry, MOST_ENTRIES, Work};
@@ -17,16 +17,12 @@ use std::alloc::{AllocError, Global};
 
 /// Appends the entries in order.
 #[tactic(auto, unfolding(sd_machine::specs::Texts::entries_text))]
-fn write_entries(
-    alloc: Global,
-    work: &Work,
-    entries: &[Entry],
-    out: &mut Vec<u8>,
-) -> Result<(), AllocError>
+fn write_entries(work: &Work, entries: &[Entry], out: &mut Vec<u8>) -> Result<(), AllocError>
     ensures { OnOk result (out.new.items ≡ out.old.items ++ entries_text work.now entries.now) }
 {
+    let mut line = EntryLine::new();
     for entry in entries {
-        write_entry(alloc, work, entry, out)?;
+        line.write(work, entry, out)?;
     }
     Ok(())
 }
@@ -86,6 +82,6 @@ pub(crate) fn write_journal(
     if entries.len() > MOST_ENTRIES {
         return Err(AllocError);
     }
-    write_entries(alloc, work, entries, out)?;
+    write_entries(work, entries, out)?;
     write_accounts(alloc, work, entries, out)
 }

@@ -7,7 +7,7 @@ ghost use Rattle.sd_hand_tests.specs.Ready.{IsReady};
 
 use crate::{HostileWorld, Trouble, What};
 use sd_cpu::{Attempted, Gate, OpenGate, Turned, attempt};
-use sd_entries::write_entry;
+use sd_entries::EntryLine;
 use sd_hand::Hand;
 use sd_homes::ListId;
 use sd_types::{CpuId, HomeId, SetId, Work};
@@ -107,10 +107,11 @@ fn run<G: Gate>(world: &mut HostileWorld, gate: &G, work: &Work)
 
 /// The text of the entries.
 fn entries_of(alloc: Global, work: &Work, world: &PlainWorld) -> Result<Vec<u8>, AllocError> {
+    let mut line = EntryLine::new();
     let mut out = Vec::new(alloc);
     for i in 0..world.entries.len() {
         let entry = world.entries.entry(i);
-        write_entry(alloc, work, &entry, &mut out)?;
+        line.write(work, &entry, &mut out)?;
     }
     Ok(out)
 }

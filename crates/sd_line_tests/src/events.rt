@@ -28,7 +28,6 @@ const RT: Put = Put::RealTime(CpuId(0));
 
 /// The text of an entry after what stands in `out`.
 fn written(
-    alloc: Global,
     work: &Work,
     entry: (u64, u16, Event),
     hints: Option<Hints>,
@@ -40,7 +39,7 @@ fn written(
         event: entry.2,
         hints,
     };
-    write_entry(alloc, work, &entry, out)
+    write_entry(work, &entry, out)
 }
 
 fn hints(which: Which, list: &[u8]) -> Hints {
@@ -150,7 +149,7 @@ fn events_without_hints(rt: HostRuntime) -> Result<(), Fail> {
         line.extend_from_slice(text.as_bytes())?;
         line.push(b'\n')?;
         let mut out = Vec::new(alloc);
-        written(alloc, &work, (3, 10, event), None, &mut out)?;
+        written(&work, (3, 10, event), None, &mut out)?;
         assert_eq!(rt; out.as_slice(), line.as_slice(), "{text}");
     }
     Ok(())
@@ -330,7 +329,7 @@ fn answers_and_sets(rt: HostRuntime) -> Result<(), Fail> {
         line.extend_from_slice(text.as_bytes())?;
         line.push(b'\n')?;
         let mut out = Vec::new(alloc);
-        written(alloc, &work, (u64::MAX, 0, event), None, &mut out)?;
+        written(&work, (u64::MAX, 0, event), None, &mut out)?;
         assert_eq!(rt; out.as_slice(), line.as_slice(), "{text}");
     }
     Ok(())
@@ -349,15 +348,15 @@ fn numbers_that_were_read(rt: HostRuntime) -> Result<(), Fail> {
         p: 29,
     };
     let read = hints(Which::Queued, &[30]);
-    written(alloc, &work, (6, 2, steal), Some(read), &mut out)?;
+    written(&work, (6, 2, steal), Some(read), &mut out)?;
     let read = hints(Which::Queued, &[0, 160, 7]);
-    written(alloc, &work, (7, 3, Event::Idle), Some(read), &mut out)?;
+    written(&work, (7, 3, Event::Idle), Some(read), &mut out)?;
     let rouse = Event::Rouse {
         k: K,
         woken: Some((B, TO)),
     };
     let read = hints(Which::Running, &[0, 1]);
-    written(alloc, &work, (8, 0, rouse), Some(read), &mut out)?;
+    written(&work, (8, 0, rouse), Some(read), &mut out)?;
     assert_eq!(rt;
         out.as_slice(),
         b"5 c0 done a\n6 c2 steal c0 a 29 h 30\n7 c3 idle h 0,160,7\n8 c0 rouse k b to c10 h 0,1\n".as_slice()

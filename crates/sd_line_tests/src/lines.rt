@@ -1,7 +1,7 @@
 //! Lines that are of entries, and lines that are of none.
 
 use crate::given::named;
-use sd_entries::write_entry;
+use sd_entries::EntryLine;
 use sd_entry_reader::{Names, read_entry};
 use std::test::Fail;
 
@@ -62,13 +62,14 @@ fn lines_of_entries(rt: HostRuntime) -> Result<(), Fail> {
         return Ok(assert!(rt; false, "no work"));
     };
     let names = Names::new(alloc, &work)?;
+    let mut buffer = EntryLine::new();
     for i in 0..21 {
         let line = line_of_an_entry(i);
-        let Some(entry) = read_entry(&names, line.as_bytes()) else {
+        let Some(entry) = read_entry(&names, &mut buffer, line.as_bytes()) else {
             return Ok(assert!(rt; false, "{line}"));
         };
         let mut out = Vec::new(alloc);
-        write_entry(alloc, &work, &entry, &mut out)?;
+        buffer.write(&work, &entry, &mut out)?;
         let mut whole = Vec::from_slice(alloc, line.as_bytes())?;
         whole.push(b'\n')?;
         assert_eq!(rt; out.as_slice(), whole.as_slice(), "{line}");
@@ -83,9 +84,11 @@ fn lines_of_no_entry(rt: HostRuntime) -> Result<(), Fail> {
         return Ok(assert!(rt; false, "no work"));
     };
     let names = Names::new(alloc, &work)?;
+    let mut buffer = EntryLine::new();
     for i in 0..16 {
         let line = line_of_none(i);
-        assert!(rt; read_entry(&names, line.as_bytes()).is_none(), "{line}");
+        let entry = read_entry(&names, &mut buffer, line.as_bytes());
+        assert!(rt; entry.is_none(), "{line}");
     }
     Ok(())
 }

@@ -43,7 +43,7 @@ fn put_line(alloc: Global, work: &Work, entry: &Entry, out: &mut Vec<u8>) -> Res
     ensures { OnOk result (out.new.items ≡ out.old.items ++ cell line_blanks (entry_line work.now entry.now)) }
 {
     let mut line = Vec::new(alloc);
-    write_entry(alloc, work, entry, &mut line)?;
+    write_entry(work, entry, &mut line)?;
     let _newline = line.pop();
     put_cell(&line, b"                              ", out)
 }
