@@ -58,18 +58,38 @@ fn write_accounts(
     alloc: Global,
     work: &Work,
     entries: &[Entry],
+    state: &State,
     out: &mut Vec<u8>,
 ) -> Result<(), AllocError>
-    requires { length entries.now < 2 ^ 48 }
+    requires few { length entries.now < 2 ^ 48 }
+    requires last { state.now ≡ final work.now (opening work.now) entries.now }
     ensures { OnOk result (let s = final work.now (opening work.now) entries.now in out.new.items ≡ out.old.items ++ (accounts_text work.now entries.now s ++ cycles_text work.now s)) }
 {
-    let state = state_after(alloc, work, entries)?;
     let accounts = counted(alloc, work, entries)?;
-    accounts.write_accounts(alloc, work, &state, out)
+    accounts.write_accounts(alloc, work, state, out)
 }
 
-/// Appends the journal of a run: its entries, its accounts, the blocking cycles of its last state.
+/// Appends the journal of a run, of which this is the last state: its entries, its accounts, the blocking cycles of that state.
 #[tactic(auto, unfolding(sd_machine::specs::Texts::journal))]
+pub(crate) fn write_journal_with(
+    alloc: Global,
+    work: &Work,
+    entries: &[Entry],
+    state: &State,
+    out: &mut Vec<u8>,
+) -> Result<(), AllocError>
+    requires { state.now ≡ final work.now (opening work.now) entries.now }
+    ensures text { OnOk result (out.new.items ≡ out.old.items ++ journal work.now entries.now) }
+    ensures short { OnOk result (length entries.now ≤ 2 ^ 40) }
+{
+    if entries.len() > MOST_ENTRIES {
+        return Err(AllocError);
+    }
+    write_entries(work, entries, out)?;
+    write_accounts(alloc, work, entries, state, out)
+}
+
+/// The same, with the last state found by the entries.
 pub(crate) fn write_journal(
     alloc: Global,
     work: &Work,
@@ -79,9 +99,6 @@ pub(crate) fn write_journal(
     ensures text { OnOk result (out.new.items ≡ out.old.items ++ journal work.now entries.now) }
     ensures short { OnOk result (length entries.now ≤ most_entries) }
 {
-    if entries.len() > MOST_ENTRIES {
-        return Err(AllocError);
-    }
-    write_entries(work, entries, out)?;
-    write_accounts(alloc, work, entries, out)
+    let state = state_after(alloc, work, entries)?;
+    write_journal_with(alloc, work, entries, &state, out)
 }

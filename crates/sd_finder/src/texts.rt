@@ -1,13 +1,16 @@
 //! The text of an answer.
 
 ghost use Rattle.std.specs.Prelude.{◌≡◌, ◌++◌, ◌≤◌, length, OnOk, IfOk};
+ghost use Rattle.sd_machine.specs.Runs.{final};
+ghost use Rattle.sd_state.specs.Opening.{opening};
 ghost use Rattle.sd_finder.specs.Answered.{IsShort};
 ghost use Rattle.sd_finder.specs.Texts.{all_line, count_text, entries_line, finding_text, found_text, left_text, more_text, never_text, states_line};
 ghost use Rattle.sd_types.specs.Limits.{most_entries};
 
-use crate::journals::{state_after, write_journal};
+use crate::journals::{state_after, write_journal_with};
 use crate::lefts::write_lefts;
 use sd_search::{Finding, Question};
+use sd_state::State;
 use sd_text::put_number;
 use sd_types::{Entry, Work};
 use std::alloc::{AllocError, Global};
@@ -33,22 +36,20 @@ pub(crate) fn write_states(n: u64, out: &mut Vec<u8>) -> Result<(), AllocError>
     Ok(())
 }
 
-/// Appends what the threads do that have operations left, where that was asked for.
+/// Appends what the threads do that have operations left, where that was asked for. The state is the last one of the run.
 fn write_left(
-    alloc: Global,
     work: &Work,
     question: Question,
-    entries: &[Entry],
+    _entries: &[Entry],
+    state: &State,
     out: &mut Vec<u8>,
 ) -> Result<(), AllocError>
-    ensures { OnOk result (out.new.items ≡ out.old.items ++ left_text work.now question entries.now) }
+    requires { state.now ≡ final work.now (opening work.now) _entries.now }
+    ensures { OnOk result (out.new.items ≡ out.old.items ++ left_text work.now question _entries.now) }
 {
     match question {
         Question::Blocked => Ok(()),
-        Question::Stuck => {
-            let state = state_after(alloc, work, entries)?;
-            write_lefts(work, &state, out)
-        }
+        Question::Stuck => write_lefts(work, state, out),
     }
 }
 
@@ -64,10 +65,11 @@ fn write_found(
     ensures text { OnOk result (out.new.items ≡ out.old.items ++ found_text work.now question entries.now n) }
     ensures short { OnOk result (length entries.now ≤ most_entries) }
 {
+    let state = state_after(alloc, work, entries)?;
     out.extend_from_slice(b"found\n")?;
-    write_left(alloc, work, question, entries, out)?;
+    write_left(work, question, entries, &state, out)?;
     write_states(n, out)?;
-    write_journal(alloc, work, entries, out)
+    write_journal_with(alloc, work, entries, &state, out)
 }
 
 pub(crate) fn write_never(n: u64, out: &mut Vec<u8>) -> Result<(), AllocError>
