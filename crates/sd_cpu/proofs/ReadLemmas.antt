@@ -21,7 +21,7 @@ use Rattle.sd_world.specs.Worlds.{IsGood, Meaning, actor_of, now}
 use Rattle.sd_cpu.specs.Seeking.{IsCourse}
 use Rattle.sd_cpu.proofs.RoomLemmas.{reached_by}
 
-read_there : (w : Work) (n : ℕ) (s : State) (c : ℕ) → IsReached w n s → IfSome (plan_reads w s c (plan w s c)) (λ r. AreCpus w r.1)
+pub read_there : (w : Work) (n : ℕ) (s : State) (c : ℕ) → IsReached w n s → IfSome (plan_reads w s c (plan w s c)) (λ r. AreCpus w r.1)
 unfolding reads_for
 read_there w n s c reached = by (plan w s c)
   where
@@ -45,7 +45,7 @@ read_there w n s c reached = by (plan w s c)
     by Search = of_neighbours (neighbours s c) (λ d near. neighbours_there w n s c d reached near)
 
 -- the same of a reading
-reading_there : (w : Work) (o : Option Reading) (q : Option (Which × List CpuId)) → option_map parts o ≡ q → IfSome q (λ r. AreCpus w r.1) → IfSome o (λ r. AreCpus w r.cpus.items)
+pub reading_there : (w : Work) (o : Option Reading) (q : Option (Which × List CpuId)) → option_map parts o ≡ q → IfSome q (λ r. AreCpus w r.1) → IfSome o (λ r. AreCpus w r.cpus.items)
 reading_there w None q e there = tt
 reading_there w (Some r) q e there = subst (λ z. IfSome {T = Which × List CpuId} z (λ y. AreCpus w y.1)) (sym e) there
 

@@ -43,7 +43,7 @@ use Rattle.sd_machine.specs.SetChanges.{is_misbound, is_closing, bind_to, bind_p
 use Rattle.sd_machine.specs.Threads.{has_ended}
 use Rattle.sd_machine.proofs.ShapeLemmas.{IsShaped, set_duty_shape, pbound_shape, after_shape}
 use Rattle.sd_machine.proofs.HolderLemmas.{count_same, count_more}
-use Rattle.sd_frames.proofs.Parts.{set_past}
+use Rattle.sd_basics.proofs.Lists.{set_past}
 use Rattle.sd_frames.proofs.Words.{Same, then_same, set_duty_same, plain_same}
 use Rattle.sd_frames.proofs.HoldTable.{bound_part, bound_moves, bound_ops, Goes, owned_bound, read_bound, exited_bound, cv_waited_bound, granted_to_writer_bound, granted_to_reader_bound, willed_bound, pbound_bound, refused_bound}
 use Rattle.sd_invariants.proofs.Movers.{bind_thread}

@@ -31,7 +31,7 @@ use Rattle.std.proofs.Common.{get_or, ◌≤◌, inl, inr, zero, suc, [], ◌∷
 use Rattle.std.specs.Prelude.{map}
 use Rattle.sd_basics.proofs.Truths.{and_left}
 use Rattle.sd_state.specs.Opening.{first_cpu_state, opening}
-use Rattle.sd_frames.proofs.Parts.{set_past}
+use Rattle.sd_basics.proofs.Lists.{set_past}
 
 abbrev count_part : CpuState → ℕ
 count_part x = x.count

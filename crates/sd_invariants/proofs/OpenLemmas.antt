@@ -40,7 +40,7 @@ use Rattle.sd_state.specs.Opening.{first_cpu_state, open_list, opening}
 use Rattle.sd_machine.specs.Threads.{no_cpus, open_of, with_open}
 use Rattle.sd_machine.specs.Changes.{with_cpu_in, without_cpu}
 use Rattle.sd_state.specs.States.{with_cpu}
-use Rattle.sd_frames.proofs.Parts.{set_past}
+use Rattle.sd_basics.proofs.Lists.{set_past}
 use Rattle.sd_invariants.proofs.AgreedAfter.{IsReady}
 use Rattle.sd_invariants.proofs.Ready.{IsKept}
 

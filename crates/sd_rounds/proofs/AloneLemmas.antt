@@ -38,7 +38,7 @@ pub serial_of : (w : Work) (s : State) (c : CpuId) (p : Plan) → p ≡ plan w s
 unfolding serial_hints reads
 serial_of w s c p e = ap (λ q. shown s (plan_reads w s c.0 q)) (sym e)
 
-next_of : (w : Work) (s : State) (c : CpuId) (p : Plan) → c.0 < w.cpus → p ≡ plan w s c.0
+pub next_of : (w : Work) (s : State) (c : CpuId) (p : Plan) → c.0 < w.cpus → p ≡ plan w s c.0
     → next w s c (serial_hints w s c) ≡ allowed w s c.0 (plan_event w s c.0 (shown s (plan_reads w s c.0 p)) p)
 next_of w s c p inside e = serial_event w s c inside ∙ ap (λ q. allowed w s c.0 (plan_event w s c.0 (shown s (plan_reads w s c.0 q)) q)) (sym e)
 

@@ -1,17 +1,19 @@
-//! The turn of a processor in a run on one thread of the host. Where nothing has to be read of others, and where a search finds nothing
-//! to steal, a processor that has all homes makes its entry at once; every other turn is an attempt, as where homes are shared.
+//! The turn of a processor in a run on one thread of the host, which has all homes: by one look where a thread runs on or nothing is ready,
+//! and else by its plan and what it reads for that, each found once. Should its hand not show these, it makes an attempt, as where homes
+//! are shared.
 
-ghost use Rattle.std.specs.Prelude.{◌≡◌, ◌++◌, ◌-◌, ◌<◌, ◌≤◌, ◌↔◌, IfErr, IfSome, Option, length, map, replicate, IsErrOf, OnErr, OnOk};
+ghost use Rattle.std.specs.Prelude.{◌≡◌, ◌++◌, ◌-◌, ◌<◌, ◌≤◌, ◌↔◌, IfErr, IfSome, length, map, option_map, replicate, IsErrOf, OnErr, OnOk};
 ghost use Rattle.sd_types.specs.declared.events.Duty.TheVariants.{Nothing};
 ghost use Rattle.sd_types.specs.declared.events.Which.TheVariants.{Queued};
 ghost use Rattle.sd_types.specs.Limits.{most_processors};
-ghost use Rattle.sd_machine.specs.declared.plans.Plan.TheVariants.{Make, Search};
+ghost use Rattle.sd_machine.specs.declared.plans.Plan.TheVariants.{Search};
 ghost use Rattle.sd_machine.specs.Choosing.{neighbours};
-ghost use Rattle.sd_machine.specs.Hints.{hint_shown};
 ghost use Rattle.sd_machine.specs.Events.{allowed, next};
+ghost use Rattle.sd_machine.specs.Hints.{hint_shown, plan_reads as reads_of};
 ghost use Rattle.sd_machine.specs.Plans.{plan as plan_of};
-ghost use Rattle.sd_machine.specs.Runs.{made, turn};
-ghost use Rattle.sd_world.specs.Plain.{Stands, told};
+ghost use Rattle.sd_machine.specs.Runs.{made, serial_hints, shown, turn};
+ghost use Rattle.sd_dispatcher.specs.Reading.{parts};
+ghost use Rattle.sd_world.specs.Plain.{AreCpus, Stands, told};
 ghost use Rattle.sd_rounds.specs.Floors.{IsFloor};
 ghost use Rattle.sd_rounds.specs.Searched.{IsSearched};
 ghost use Rattle.sd_rounds.specs.Turns.{ActsAlone};
@@ -20,8 +22,9 @@ use crate::sight::{Sight, see};
 use crate::ticks::{Alone, come_idle, come_tick, reserve};
 use arrayvec::ArrayVec;
 use sd_cpu::{OpenGate, attempt};
+use sd_dispatcher::Reading;
 use sd_machine::Plan;
-use sd_step::plan;
+use sd_step::{plan, plan_event, plan_reads};
 use sd_types::{CpuId, Event, Hints, MOST_ENTRIES, SetId, Stop, Which, Work};
 use sd_world::PlainWorld;
 
@@ -100,7 +103,101 @@ fn end_search(
     come_idle(work, world, floor, Some(hints))
 }
 
-/// The turn of a processor that makes a plan, where this reads nothing of others.
+/// The numbers that the processor reads, as the state shows them.
+fn read(work: &Work, world: &PlainWorld, reading: &Option<Reading>) -> Option<Hints>
+    requires stands { Stands work.now world.now }
+    requires there { IfSome reading.now (λ r. AreCpus work.now r.cpus.items) }
+    ensures { result ≡ shown (told work.now world.now) (option_map parts reading.now) }
+{
+    match reading {
+        None => None,
+        Some(taken) => Some(Hints {
+            which: taken.which,
+            numbers: world.numbers(work, taken.which, taken.cpus.as_slice()),
+        }),
+    }
+}
+
+/// Makes the event to which the processor comes with the numbers of the state, where it may come now.
+#[inline(always)]
+fn come_alone(
+    work: &Work,
+    world: &mut PlainWorld,
+    event: Event,
+    hints: Option<Hints>,
+) -> Result<Alone, Stop>
+    requires stands { Stands work.now world.old }
+    requires work { world.old.work.now ≡ work.now }
+    requires few { length world.old.entries.items < MOST_ENTRIES }
+    requires hints { hints ≡ serial_hints work.now (told work.now world.old) world.old.acting.actor.cpu }
+    requires event { next work.now (told work.now world.old) world.old.acting.actor.cpu hints ≡ allowed work.now (told work.now world.old) world.old.acting.actor.cpu.0 event }
+    ensures stands { Stands work.now world.new }
+    ensures work { world.new.work.now ≡ work.now }
+    ensures acts { ActsAlone work.now world.old world.new result }
+{
+    match come(work, world, event, hints) {
+        Ok(()) => Ok(Alone::Turned),
+        Err(stop) => Err(stop),
+    }
+}
+
+/// The turn of a processor whose plan this is, and that reads these numbers for it.
+fn act_with(
+    work: &Work,
+    world: &mut PlainWorld,
+    plan: Plan,
+    reading: &Option<Reading>,
+) -> Result<Alone, Stop>
+    requires stands { Stands work.now world.old }
+    requires work { world.old.work.now ≡ work.now }
+    requires few { length world.old.entries.items < MOST_ENTRIES }
+    requires plan { plan ≡ plan_of work.now (told work.now world.old) world.old.acting.actor.cpu.0 }
+    requires reads { option_map parts reading.now ≡ reads_of work.now (told work.now world.old) world.old.acting.actor.cpu.0 plan }
+    ensures stands { Stands work.now world.new }
+    ensures work { world.new.work.now ≡ work.now }
+    ensures acts { ActsAlone work.now world.old world.new result }
+{
+    let hints = read(work, world, reading);
+    match plan_event(work, &world.acting, world.acting.actor.cpu, &hints, plan) {
+        Ok(event) => come_alone(work, world, event, hints),
+        Err(_) => Ok(Alone::Left),
+    }
+}
+
+/// The turn of a processor whose plan this is, and that reads for it what it has to.
+fn act_by_reading(work: &Work, world: &mut PlainWorld, plan: Plan) -> Result<Alone, Stop>
+    requires stands { Stands work.now world.old }
+    requires work { world.old.work.now ≡ work.now }
+    requires few { length world.old.entries.items < MOST_ENTRIES }
+    requires plan { plan ≡ plan_of work.now (told work.now world.old) world.old.acting.actor.cpu.0 }
+    ensures stands { Stands work.now world.new }
+    ensures work { world.new.work.now ≡ work.now }
+    ensures acts { ActsAlone work.now world.old world.new result }
+{
+    match plan_reads(work, &world.acting, world.acting.actor.cpu, plan) {
+        Ok(reading) => act_with(work, world, plan, &reading),
+        Err(_) => Ok(Alone::Left),
+    }
+}
+
+/// The turn of a processor whose plan this is. Most plans read nothing.
+#[inline(always)]
+fn act_on(work: &Work, world: &mut PlainWorld, plan: Plan) -> Result<Alone, Stop>
+    requires stands { Stands work.now world.old }
+    requires work { world.old.work.now ≡ work.now }
+    requires few { length world.old.entries.items < MOST_ENTRIES }
+    requires plan { plan ≡ plan_of work.now (told work.now world.old) world.old.acting.actor.cpu.0 }
+    ensures stands { Stands work.now world.new }
+    ensures work { world.new.work.now ≡ work.now }
+    ensures acts { ActsAlone work.now world.old world.new result }
+{
+    match plan {
+        Plan::Make(event) => come_alone(work, world, event, None),
+        _ => act_by_reading(work, world, plan),
+    }
+}
+
+/// The turn of a processor that makes a plan.
 #[inline(never)]
 fn act_by_plan(work: &Work, world: &mut PlainWorld) -> Result<Alone, Stop>
     requires stands { Stands work.now world.old }
@@ -111,15 +208,12 @@ fn act_by_plan(work: &Work, world: &mut PlainWorld) -> Result<Alone, Stop>
     ensures acts { ActsAlone work.now world.old world.new result }
 {
     match find_plan(work, world) {
-        Some(Plan::Make(event)) => match come(work, world, event, None) {
-            Ok(()) => Ok(Alone::Turned),
-            Err(stop) => Err(stop),
-        },
-        _ => Ok(Alone::Left),
+        Some(plan) => act_on(work, world, plan),
+        None => Ok(Alone::Left),
     }
 }
 
-/// The turn of the processor that acts, where it reads nothing of others, or searches and finds nothing to steal. Then this is so in its
+/// The turn of the processor that acts, by one look or by its plan. Where it searches and one look finds nothing to steal, this is so in its
 /// set until an entry comes that is neither a tick of a thread nor an idle one.
 #[inline(always)]
 fn act_alone(

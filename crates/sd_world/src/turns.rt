@@ -65,7 +65,7 @@ impl<'a> PlainWorld<'a> {
     }
 
     /// The numbers that these processors show, in their order.
-    fn numbers(&self, work: &Work, which: Which, cpus: &[CpuId]) -> ArrayVec<u8, 64>
+    pub fn numbers(&self, work: &Work, which: Which, cpus: &[CpuId]) -> ArrayVec<u8, 64>
         requires stands { Stands work.now self.now }
         requires fits { length cpus.now ≤ most_processors }
         requires there { AreCpus work.now cpus.now }
