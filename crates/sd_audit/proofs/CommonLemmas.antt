@@ -9,10 +9,7 @@ use Rattle.sd_text.specs.Lines.{is_newline}
 use Rattle.sd_audit.specs.Audits.{whole_lines, common_lines}
 use Rattle.sd_audit.specs.Differences.{newlines_before}
 use Rattle.sd_audit.proofs.DifferenceLemmas.{same_first, other_first, none_left, no_other}
-
-same_itself : (bs : List ℕ) → same_bytes bs bs ≡ true
-same_itself [] = refl
-same_itself (b ∷ bs) = rw (eq-eqb b b refl) (same_itself bs)
+use Rattle.sd_types.proofs.SameLemmas.{bytes_same_itself}
 
 -- no line is empty
 abbrev FirstSome : List (List ℕ) → Type 0
@@ -87,7 +84,7 @@ lines_step : (b : Bool) (x : ℕ) (ks ls : List (List ℕ)) (n : ℕ) → FirstS
     → cond b (1 + n) n ≡ common_lines (cond b ((x ∷ []) ∷ ks) (onto_first x ks)) (cond b ((x ∷ []) ∷ ls) (onto_first x ls))
 lines_step true x ks ls n p q some same =
     ap (λ (k : ℕ). 1 + k) same
-    ∙ sym (common_cons (x ∷ []) (x ∷ []) ks ls ∙ ap (λ b. cond b (1 + common_lines ks ls) 0) (same_itself (x ∷ [])))
+    ∙ sym (common_cons (x ∷ []) (x ∷ []) ks ls ∙ ap (λ b. cond b (1 + common_lines ks ls) 0) (bytes_same_itself (x ∷ [])))
 lines_step false x ks ls n p q some same = same ∙ sym (onto_both x ks ls p q some)
 
 on_lines : (x : ℕ) (xs ys : List ℕ) → (xs ≡ ys → ⊥) → newlines_before xs ys ≡ common_lines (whole_lines xs) (whole_lines ys)

@@ -21,6 +21,7 @@ use Rattle.sd_audit.specs.declared.audits.AuditFault.{AuditFault}
 use Rattle.sd_audit.specs.declared.audits.AuditFault.TheVariants.{NotAnEntry, Illegal, Incomplete, Tail, Memory}
 use Rattle.sd_audit.specs.Audits.{entry_line, TellsRun, NoEntryNext, IsNotAnEntry, IsIllegal, IsIncomplete, IsOtherTail, IsFault, IsJournal, IsMemory, IsRunSoFar, tail_text, whole_lines, common_lines}
 use Rattle.sd_audit.proofs.LineLemmas.{text_of, same_line, not_accounts, journal_lines}
+use Rattle.sd_types.proofs.SameLemmas.{same_cpu}
 
 pub head_same : (x y : List ℕ) (xs ys : List (List ℕ)) → x ∷ xs ≡ y ∷ ys → (x ≡ y) × (xs ≡ ys)
 head_same x y xs ys e = (cc, cc)
@@ -189,12 +190,6 @@ module _ (w : Work) where
       (j.ends ∙ ap (final w (opening w)) same ∙ sym k.ends, sym j.many ∙ ap length same ∙ k.many)
 
   -- ---- one fault
-
-  same_cpu : (c d : CpuId) → c.0 ≡ d.0 → c ≡ d
-  same_cpu c d same = ap cpu same
-    where
-      cpu : ℕ → CpuId
-      cpu n = record { 0 = n }
 
   not_less : (text : List ℕ) (c d : CpuId) (f : IsIncomplete w text c) (g : IsIncomplete w text d) → f.entries ≡ g.entries → c.0 < d.0 → ⊥
   not_less text c d f g same less =

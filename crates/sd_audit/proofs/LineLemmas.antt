@@ -17,13 +17,12 @@ use Rattle.sd_state.specs.Texts.{accounts_text, threads_text, cpus_text}
 use Rattle.sd_text.specs.Lines.{lines_of, is_line, text_of_lines}
 use Rattle.sd_text.specs.Words.{is_word}
 use Rattle.sd_text.proofs.LineLemmas.{lines_of-line, lines_of-text}
-use Rattle.sd_text.proofs.NumberLemmas.{own}
+use Rattle.sd_text.proofs.NumberLemmas.{own, is_word-decimal}
 use Rattle.sd_machine.specs.Runs.{final}
 use Rattle.sd_machine.specs.Texts.{entry_text, entries_text, cycles_text, journal}
 use Rattle.sd_entries.specs.EntryWords.{entry_words, event_words, hint_words}
 use Rattle.sd_machine.specs.Texts.{cpu_text}
 use Rattle.sd_entries.specs.Fitting.{IsSpelled, in_range, event_in_range, hints_in_range}
-use Rattle.sd_entries.proofs.NameLemmas.{number_word}
 use Rattle.sd_entries.proofs.SpellLemmas.{entry_spelled}
 use Rattle.sd_entries.proofs.WordLemmas.{entry_is_line}
 use Rattle.sd_entries.proofs.SpellingLemmas.{one_line}
@@ -71,7 +70,7 @@ not_accounts w e p same =
     let small = small_number e p.range in
     let rest = join_with_byte 32 (cpu_text e.cpu ∷ (event_words w e.event ++ hint_words e.hints)) in
     let begins : decimal e.number ++ (32 ∷ rest) ≡ codes "accounts" = sym (line_words w e ∙ ap (join_with_byte 32) (words_begin w e)) ∙ same in
-    no_digits (decimal e.number) (32 ∷ rest) (digits_decimal own e.number small) (number_word e.number small) begins
+    no_digits (decimal e.number) (32 ∷ rest) (digits_decimal own e.number small) (is_word-decimal e.number small) begins
 
 -- ---- the lines of a journal
 

@@ -1,5 +1,5 @@
 -- Lists whose elements differ, and the first place of a name.
-use Rattle.std.proofs.Common.{◌≡◌, ℕ, zero, suc, ◌+◌, ◌<◌, Bool, true, false, not, ◌&&◌, ◌||◌, cond, ltb, leb, List, [], ◌∷◌, ◌++◌, length, map, refl, sym, ap, ◌∙◌, arith}
+use Rattle.std.proofs.Common.{◌≡◌, ℕ, suc, ◌+◌, ◌<◌, Bool, true, false, not, ◌&&◌, ◌||◌, cond, ltb, leb, List, [], ◌∷◌, ◌++◌, length, map, refl, sym, ap, ◌∙◌, arith}
 use Rattle.std.specs.Prelude.{unwrap_or, slice_get}
 use Rattle.std.specs.Option.{option_map}
 use Rattle.std.specs.List.{list_any, list_all, position_or_len}
@@ -8,7 +8,6 @@ use Rattle.std.proofs.lemmas.Bool.Decides.{nat_tests}
 use Rattle.std.proofs.lemmas.List.{map-append}
 use Rattle.std.proofs.lemmas.List.Folds.{list_any-append, list_all-append}
 use Rattle.sd_basics.proofs.Lists.{map-map}
-use Rattle.sd_types.specs.NameWords.{is_name}
 use Rattle.sd_types.specs.Works.{same_bytes, is_distinct}
 
 -- ---- what holds of all elements
@@ -78,32 +77,7 @@ pub all-map : {X Y : Type 0} (p : Y → Bool) (f : X → Y) (xs : List X) → li
 all-map p f [] = refl
 all-map p f (x ∷ xs) = ap (λ b. p (f x) && b) (all-map p f xs)
 
-pub same-itself : (bs : List ℕ) → same_bytes bs bs ≡ true
-same-itself [] = refl
-same-itself (b ∷ bs) = rw (eq-eqb b b refl) (same-itself bs)
-
 -- ---- names of a list of things
 
 abbrev pub name_at : {X : Type 0} → (X → List ℕ) → List X → ℕ → List ℕ
 name_at name xs t = unwrap_or (option_map name (slice_get xs t)) []
-
-pub name_at-name : {X : Type 0} (name : X → List ℕ) → ((x : X) → is_name (name x) ≡ true) → (xs : List X) (t : ℕ) → t < length xs → is_name (name_at name xs t) ≡ true
-name_at-name name named [] t inside = absurd (omega arith)
-name_at-name name named (x ∷ xs) zero inside = named x
-name_at-name name named (x ∷ xs) (suc t) inside = name_at-name name named xs t (omega arith)
-
-none-passes : {X : Type 0} (name : X → List ℕ) (p : List ℕ → Bool) (xs : List X) (t : ℕ) → t < length xs → list_any p (map name xs) ≡ false → p (name_at name xs t) ≡ false
-none-passes name p [] t inside none = absurd (omega arith)
-none-passes name p (x ∷ xs) zero inside none = (or_parts _ _ none).0
-none-passes name p (x ∷ xs) (suc t) inside none = none-passes name p xs t (omega arith) (or_parts _ _ none).1
-
--- where names differ, the first thing of a name is the one that it names
-pub place_of_name : {X : Type 0} (name : X → List ℕ) (xs : List X) (t : ℕ) → t < length xs → is_distinct same_bytes (map name xs) ≡ true
-    → position_or_len (λ x. same_bytes (name x) (name_at name xs t)) xs ≡ t
-place_of_name name [] t inside distinct = absurd (omega arith)
-place_of_name name (x ∷ xs) zero inside distinct = rw (same-itself (name x)) refl
-place_of_name name (x ∷ xs) (suc t) inside distinct =
-    let p = and_parts _ _ distinct in
-    let other : same_bytes (name x) (name_at name xs t) ≡ false = none-passes name (same_bytes (name x)) xs t (omega arith) (not-true _ p.0) in
-    let rest : position_or_len (λ y. same_bytes (name y) (name_at name xs t)) xs ≡ t = place_of_name name xs t (omega arith) p.1 in
-    rw other (ap (λ k. 1 + k) rest ∙ (let e : 1 + t ≡ suc t = omega arith in e))

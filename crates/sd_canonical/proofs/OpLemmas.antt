@@ -43,7 +43,8 @@ use Rattle.sd_canonical.proofs.TextLemmas.{is_plain, are_plain, name-plain, numb
 use Rattle.sd_canonical.proofs.FormLemmas.{is_name_if}
 use Rattle.sd_canonical.proofs.ThreadLemmas.{said_at, set_said, set-number, set-name, quantum-back, is-quantum}
 use Rattle.sd_canonical.proofs.OpFormLemmas.{asked_said, IsAsked, request-plain, cpu_said, bound_small, set_word, run-form, nap-form, yield-form, enter-form, read-form, write-form, exit-form, cvwait-form, sleep-form, wake-form, wakeall-form, semap-form, semav-form, priocntl-form, assign-form, pbind-form}
-use Rattle.sd_canonical.proofs.ListLemmas.{place-map, place_of_name, name_at-name}
+use Rattle.sd_canonical.proofs.ListLemmas.{place-map}
+use Rattle.sd_entries.proofs.NameLemmas.{name_at_name, place_of_name}
 
 -- what a workload declares, as far as its scripts name it
 -- the declarations have the names of the workload, and its processors
@@ -95,13 +96,13 @@ thread-count w d n =
     sym (length-map d.threads (λ (x : Thread). x.name)) ∙ ap length n.threads ∙ length-map w.threads (λ (x : ThreadDecl). x.name.text.items)
 
 lock-name : (w : Work) (l : LockId) → l.0 < length w.locks → is_name (lock_name w l.0) ≡ true
-lock-name w l inside = name_at-name (λ x. x.0.text.items) (λ x. x.0.is_name) w.locks l.0 inside
+lock-name w l inside = name_at_name (λ x. x.0.text.items) (λ x. x.0.is_name) w.locks l.0 inside
 
 chan-name : (w : Work) (k : ChanId) → k.0 < length w.chans → is_name (chan_name w k.0) ≡ true
-chan-name w k inside = name_at-name (λ x. x.0.text.items) (λ x. x.0.is_name) w.chans k.0 inside
+chan-name w k inside = name_at_name (λ x. x.0.text.items) (λ x. x.0.is_name) w.chans k.0 inside
 
 thread-name : (w : Work) (t : ThreadId) → t.0 < length w.threads → is_name (thread_name w t.0) ≡ true
-thread-name w t inside = name_at-name (λ x. x.name.text.items) (λ x. x.name.is_name) w.threads t.0 inside
+thread-name w t inside = name_at_name (λ x. x.name.text.items) (λ x. x.name.is_name) w.threads t.0 inside
 
 -- ---- kinds
 

@@ -30,7 +30,8 @@ use Rattle.sd_canonical.proofs.ThreadLemmas.{bare_kept}
 use Rattle.sd_state.proofs.Declared.{declared}
 use Rattle.sd_canonical.proofs.OpLemmas.{Names}
 use Rattle.sd_canonical.proofs.ScriptLemmas.{takes-body}
-use Rattle.sd_canonical.proofs.ListLemmas.{named-fresh, place-seam, any-map, same-itself}
+use Rattle.sd_canonical.proofs.ListLemmas.{named-fresh, place-seam, any-map}
+use Rattle.sd_types.proofs.SameLemmas.{bytes_same_itself}
 
 -- ---- the declarations where the scripts of the first threads are given, and of no other
 
@@ -71,7 +72,7 @@ next-number w front back x d p =
     let new : list_any (λ (t : Thread). same_bytes t.name name) (map thread_kept front) ≡ false =
     any-map (λ (t : Thread). same_bytes t.name name) thread_kept front ∙ named-fresh name-of front back x differ in
     ap (position_or_len (λ (t : Thread). same_bytes t.name name)) p.threads
-    ∙ place-seam (λ (t : Thread). same_bytes t.name name) (map thread_kept front) (map bare_kept back) (bare_kept x) new (same-itself name)
+    ∙ place-seam (λ (t : Thread). same_bytes t.name name) (map thread_kept front) (map bare_kept back) (bare_kept x) new (bytes_same_itself name)
 
 pub none-given : (n : ℕ) (ids : List ThreadId) → are_before n ids ≡ true → list_any (λ t. eqb t.0 n) ids ≡ false
 none-given n [] h = refl

@@ -32,7 +32,8 @@ use Rattle.sd_canonical.specs.Canonical.{line_text, thread_text}
 use Rattle.sd_canonical.proofs.TextLemmas.{is_plain, are_plain, name-plain, number-plain, signed-plain, upri-short}
 use Rattle.sd_canonical.proofs.TakesLemmas.{Takes, takes-nothing, takes-both, takes-line}
 use Rattle.sd_canonical.proofs.FormLemmas.{class_said, quantum_said, quantum-small, set_words, is_name_if, options_said, thread-form}
-use Rattle.sd_canonical.proofs.ListLemmas.{under, not-under, named-fresh, none-before, place-map, place_of_name, name_at-name}
+use Rattle.sd_canonical.proofs.ListLemmas.{under, not-under, named-fresh, none-before, place-map}
+use Rattle.sd_entries.proofs.NameLemmas.{name_at_name, place_of_name}
 
 -- ---- the set of a thread
 
@@ -58,7 +59,7 @@ set-name_at : (w : Work) (n : ℕ) → n ≤ length w.sets → is_name_if (said_
 set-name_at w zero inside = refl
 set-name_at w (suc q) inside =
     let other : eqb (suc q) 0 ≡ false = grind (arith, nat_tests) in
-    rw other (name_at-name (λ s. s.0.text.items) (λ s. s.0.is_name) w.sets q (omega arith))
+    rw other (name_at_name (λ s. s.0.text.items) (λ s. s.0.is_name) w.sets q (omega arith))
 
 pub set-name : (w : Work) (p : SetId) → p.0 ≤ length w.sets → is_name_if (set_said w p) ≡ true
 set-name w p inside = set-name_at w p.0 inside

@@ -40,10 +40,7 @@ use Rattle.sd_cpu.specs.Attempts.{Acts, AreRead, Enters, Hinders, IsHindered, Ma
 use Rattle.sd_cpu.specs.Seeking.{Comes, FindsEvent, GivesUp, HoldsToMake, IsCourse, IsOnItsWay, IsReady, Looks}
 use Rattle.sd_cpu.proofs.MeaningLemmas.{enters_from, hindered, idles, idles_from, looks_same, looks_still, may_same, one_from, rises_then}
 use Rattle.sd_cpu.proofs.RoomLemmas.{reached_by}
-
-which_self : (a : Which) → same_which a a ≡ true
-which_self which.Running = refl
-which_self which.Queued = refl
+use Rattle.sd_invariants.proofs.Complete.{same_kind}
 
 hinted_length : (m : Meaning) (kind : Which) (cs : List CpuId) (ns : List ℕ) → AllHinted m kind cs ns → length ns ≡ length cs
 hinted_length m kind [] [] all = refl
@@ -63,7 +60,7 @@ read_fits m m' None None is = refl
 read_fits m m' None (Some hs) is = absurd is
 read_fits m m' (Some r) None is = absurd is
 read_fits m m' (Some r) (Some hs) is =
-    ap (λ b. b && (length hs.numbers.items == length r.cpus.items)) (ap (same_which r.which) is.0 ∙ which_self r.which)
+    ap (λ b. b && (length hs.numbers.items == length r.cpus.items)) (ap (same_which r.which) is.0 ∙ same_kind r.which)
     ∙ eq-eqb (length hs.numbers.items) (length r.cpus.items) (hinted_length m' r.which r.cpus.items hs.numbers.items is.1)
 
 -- where nobody else makes entries, they are those of the state

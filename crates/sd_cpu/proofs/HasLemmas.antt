@@ -16,20 +16,12 @@ use Rattle.sd_priocntl.specs.SetsTouched.{runs_parts}
 use Rattle.sd_hand.specs.declared.acting.Acting.{Acting}
 use Rattle.sd_hand.specs.Acting.{has_part}
 use Rattle.sd_cpu.specs.Has.{Has, HasAll, running_cpu}
+use Rattle.sd_store.proofs.Among.{among_right, among_left}
 
 module _ (x : Acting) where
   pub also : (r : Result Unit Part) (p : Part) (ps : List Part) → has_part x p ≡ true → Has x r ps → Has x r (p ∷ ps)
   also (Ok u) p ps here all = (here, all)
   also (Err q) p ps here all = (inr all.0, all.1)
-
-  among_more : (q : Part) (ps qs : List Part) → IsAmong q qs → IsAmong q (ps ++ qs)
-  among_more q [] qs is = is
-  among_more q (p ∷ ps) qs is = inr (among_more q ps qs is)
-
-  among_first : (q : Part) (ps qs : List Part) → IsAmong q ps → IsAmong q (ps ++ qs)
-  among_first q [] qs is = absurd is
-  among_first q (p ∷ ps) qs (inl is) = inl is
-  among_first q (p ∷ ps) qs (inr is) = inr (among_first q ps qs is)
 
   joined : (ps qs : List Part) → HasAll x ps → HasAll x qs → HasAll x (ps ++ qs)
   joined [] qs a b = b
@@ -37,10 +29,10 @@ module _ (x : Acting) where
 
   pub also_all : (r : Result Unit Part) (ps qs : List Part) → HasAll x ps → Has x r qs → Has x r (ps ++ qs)
   also_all (Ok u) ps qs a b = joined ps qs a b
-  also_all (Err q) ps qs a b = (among_more q ps qs b.0, b.1)
+  also_all (Err q) ps qs a b = (among_right q ps qs b.0, b.1)
 
   pub lacks_first : (q : Part) (ps qs : List Part) → Has x (Err q) ps → Has x (Err q) (ps ++ qs)
-  lacks_first q ps qs a = (among_first q ps qs a.0, a.1)
+  lacks_first q ps qs a = (among_left q ps qs a.0, a.1)
 
   -- the acting processor's count and duty
   pub own : (c : CpuId) → c ≡ x.actor.cpu → has_part x (actor_part c) ≡ true

@@ -1,7 +1,7 @@
 -- The state after an entry, of states whose keys have the same order: they have it again, whatever number the entry has in
 -- each.
 use Rattle.std.proofs.Common.{◌≡◌, ℕ, ◌+◌, ◌<◌, Bool, true, false, ◌||◌, length, ℤ, Option, Some, None, Result, Ok, Err, refl, sym, ap, arith, ◌∙◌, subst}
-use Rattle.std.specs.Prelude.{if◌then◌else◌, nat_le, ⊤}
+use Rattle.std.specs.Prelude.{if◌then◌else◌, ⊤}
 use Rattle.std.proofs.lemmas.Grind.{common_steps}
 use Rattle.sd_types.specs.declared.numbers.ChanId.{ChanId}
 use Rattle.sd_types.specs.declared.numbers.CpuId.{CpuId}
@@ -24,23 +24,22 @@ use Rattle.sd_types.specs.declared.scripts.Op.TheVariants as op
 use Rattle.sd_types.specs.declared.scripts.Request.{Request}
 use Rattle.sd_types.specs.declared.works.Work.{Work}
 use Rattle.sd_rules.specs.Priocntl.{entered, judged}
-use Rattle.sd_state.specs.declared.states.CpuState.{CpuState}
 use Rattle.sd_state.specs.declared.states.Place.{Place}
 use Rattle.sd_state.specs.declared.states.Place.TheVariants.{Running, Waiting}
 use Rattle.sd_state.specs.declared.states.State.{State}
-use Rattle.sd_state.specs.States.{cpu_of, thread_of, with_cpu, eff_of}
+use Rattle.sd_state.specs.States.{cpu_of, thread_of, eff_of}
 use Rattle.sd_state.specs.Operations.{op_of}
 use Rattle.sd_machine.specs.Bodies.{parms_of}
-use Rattle.sd_machine.specs.Changes.{cpu_put, mark_over, marked, put, put_where, runs_below, set_class, set_duty, set_looped, set_mark, set_number}
+use Rattle.sd_machine.specs.Changes.{put_where, set_class, set_duty, set_looped, set_number}
 use Rattle.sd_machine.specs.Events.{after, drop_ageing, dropped_duty, effect, keeps_ageing}
 use Rattle.sd_machine.specs.Needs.{IsUnmoved, Needs}
 use Rattle.sd_machine.specs.Prioritising.{answer_to, changed_by, changed_on, changed_to, is_privileged, new_class, reprioritised, target_of, uid_of, walk_from}
 use Rattle.sd_machine.specs.Requeueing.{reordered, reordered_at}
 use Rattle.sd_machine.specs.Sleeping.{rouse_key, roused, roused_on, woken}
-use Rattle.sd_machine.specs.Threads.{best_sleeper_below, greatest_waiting, has_ended, priority_of, runner}
+use Rattle.sd_machine.specs.Threads.{best_sleeper_below, greatest_waiting, has_ended}
 use Rattle.sd_machine.specs.Walking.{is_back, walked, willed}
 use Rattle.sd_store.specs.declared.spots.Chore.TheVariants as chore
-use Rattle.sd_store.specs.Walks.{next_to_rouse, walk_gone_on}
+use Rattle.sd_store.specs.Walks.{walk_gone_on}
 use Rattle.sd_encoding.specs.Order.{OfThread, OfCpu, key_held, key_in}
 use Rattle.sd_encoding.specs.Order.{key_at as key_of_place}
 use Rattle.sd_encoding.proofs.AlikeLemmas.{IsBlind, blind_place, body_same, duty_with, key_or_zero, place_alike, place_with}
@@ -52,6 +51,7 @@ use Rattle.sd_encoding.proofs.SeekLemmas.{duty_is, is_back_same, place_is, rouse
 use Rattle.sd_encoding.proofs.SourceLemmas.{AreAlike, From}
 use Rattle.sd_encoding.proofs.StepLemmas.{alike_later}
 use Rattle.sd_encoding.proofs.TellLemmas.{eff_same, greatest_same}
+use Rattle.sd_store.proofs.WokenDuties.{next_after_woken}
 
 -- Walks.
 
@@ -71,33 +71,6 @@ module _ (n m : ℕ) (x s : State) (h : AreAlike n m x s) where
 
 -- Sleepers that are woken one after another: the duty stays what it was.
 
-marked_duty : (p : ℕ) (y : CpuState) → (marked p y).duty ≡ y.duty
-marked_duty p y = by (nat_le 100 p) refl
-  where
-    by : (b : Bool) → nat_le 100 p ≡ b → (marked p y).duty ≡ y.duty
-    by true e = rw e refl
-    by false e = rw e refl
-
-duty_beside : (s : State) (d c : ℕ) (y : CpuState) → y.duty ≡ (cpu_of s d).duty → (cpu_of (with_cpu s d y) c).duty ≡ (cpu_of s c).duty
-duty_beside s d c y same = grind (arith, common_steps)
-
-over_duty : (s : State) (d p c : ℕ) → (cpu_of (mark_over s d p) c).duty ≡ (cpu_of s c).duty
-unfolding mark_over set_mark
-over_duty s d p c = by (runs_below p (priority_of s (runner s d))) refl
-  where
-    by : (b : Bool) → runs_below p (priority_of s (runner s d)) ≡ b → (cpu_of (mark_over s d p) c).duty ≡ (cpu_of s c).duty
-    by true e = rw e (duty_beside s d c (marked p (cpu_of s d)) (marked_duty p (cpu_of s d)))
-    by false e = rw e refl
-
-woken_duty : (w : Work) (s : State) (n u : ℕ) (at : Put) (c : ℕ) → (cpu_of (woken w s n u at) c).duty ≡ (cpu_of s c).duty
-unfolding woken put set_class
-woken_duty w s n u at c = over_duty _ (cpu_put at).0 _ c
-
-next_is : (w : Work) (s : State) (n u : ℕ) (at : Put) (c : CpuId) (k : ChanId)
-    → next_to_rouse (woken w s n u at) c k ≡ best_sleeper_below (woken w s n u at) k.0 (rouse_key (cpu_of s c.0).duty)
-unfolding next_to_rouse
-next_is w s n u at c k = ap (λ d. best_sleeper_below (woken w s n u at) k.0 (rouse_key d)) (woken_duty w s n u at c.0)
-
 roused_by : (n m : ℕ) (x s : State) → AreAlike n m x s → (c : CpuId) (o p : Option ℕ) → o ≡ p → AreAlike n m (roused_on x c o) (roused_on s c p)
 roused_by n m x s h c o p e = subst (λ z. AreAlike n m (roused_on x c o) (roused_on s c z)) e (by o)
   where
@@ -114,7 +87,7 @@ roused_alike n m x s h w c k (Some u) =
     let y = woken w x n u.0.0 u.1 in
     let z = woken w s m u.0.0 u.1 in
     roused_by (n + 1) (m + 1) y z up c (best_sleeper_below y k.0 (rouse_key (cpu_of x c.0).duty)) (best_sleeper_below z k.0 (rouse_key (cpu_of s c.0).duty))
-    (sym (next_is w x n u.0.0 u.1 c k) ∙ rouse_same (n + 1) (m + 1) y z up c k ∙ next_is w s m u.0.0 u.1 c k)
+    (sym (next_after_woken w x n u.0.0 u.1 c k) ∙ rouse_same (n + 1) (m + 1) y z up c k ∙ next_after_woken w s m u.0.0 u.1 c k)
 
 -- Class parameters. A thread that waits stays where it is, so that the walk which begins seeks it with its own key.
 

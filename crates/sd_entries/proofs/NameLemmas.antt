@@ -1,13 +1,11 @@
 -- Names and numbers as words: each is one word, and is read again.
-use Rattle.std.proofs.Common.{◌≡◌, ℕ, zero, suc, ◌+◌, ◌<◌, ◌≤◌, ◌^◌, Bool, true, false, not, ◌&&◌, ◌||◌, min, eqb, ltb, leb, List, [], ◌∷◌, length, map, slice_get, option_map, refl, sym, ap, ◌∙◌, arith}
+use Rattle.std.proofs.Common.{◌≡◌, ℕ, zero, suc, ◌+◌, ◌<◌, ◌≤◌, ◌^◌, Bool, true, false, not, ◌&&◌, ◌||◌, min, eqb, ltb, leb, List, [], ◌∷◌, length, map, slice_get, option_map, refl, ap, ◌∙◌, arith}
 use Rattle.std.specs.Prelude.{codes, unwrap_or}
 use Rattle.std.specs.List.{list_all, list_any, position_or_len}
 use Rattle.std.specs.Fmt.{decimal}
-use Rattle.std.specs.Str.{all_ascii_digits}
 use Rattle.std.specs.Str.Parse.{digits_value}
 use Rattle.std.proofs.lemmas.Bool.{false≢true, lt-ltb, le-leb, eq-eqb, and_parts, or_parts}
 use Rattle.std.proofs.lemmas.Bool.Decides.{nat_tests}
-use Rattle.std.proofs.lemmas.Str.Parse.{IsNumeralModel, numerals_by_value, tells_all_ascii_digits}
 use Rattle.std.proofs.lemmas.Fmt.{length-decimal-le, digits_decimal, digits_value-decimal}
 use Rattle.sd_types.specs.declared.numbers.CpuId.{CpuId}
 use Rattle.sd_types.specs.declared.numbers.ThreadId.{ThreadId}
@@ -23,6 +21,7 @@ use Rattle.sd_state.specs.Texts.{thread_name, lock_name, chan_name}
 use Rattle.sd_machine.specs.Texts.{set_name, cpu_text}
 use Rattle.sd_entries.specs.Fitting.{has_cpu, has_thread, has_lock, has_chan, has_set, is_byte}
 use Rattle.sd_entries.specs.Reading.{digits_of, number_in, thread_in, lock_in, chan_in, set_in, cpu_in, byte_in, count_in}
+use Rattle.sd_types.proofs.SameLemmas.{bytes_same_itself}
 
 -- ---- what is a word
 
@@ -51,29 +50,25 @@ module _ {X : Type 0} (name : X → List ℕ) where
   name_at_word named (x ∷ xs) zero inside = name_word (name x) (named x)
   name_at_word named (x ∷ xs) (suc t) inside = name_at_word named xs t (omega arith)
 
-  name_at_name : ((x : X) → is_name (name x) ≡ true) → (xs : List X) (t : ℕ) → t < length xs → is_name (name_at name xs t) ≡ true
+  pub name_at_name : ((x : X) → is_name (name x) ≡ true) → (xs : List X) (t : ℕ) → t < length xs → is_name (name_at name xs t) ≡ true
   name_at_name named [] t inside = absurd (omega arith)
   name_at_name named (x ∷ xs) zero inside = named x
   name_at_name named (x ∷ xs) (suc t) inside = name_at_name named xs t (omega arith)
 
-  none_passes : (p : List ℕ → Bool) (xs : List X) (t : ℕ) → t < length xs → list_any p (map name xs) ≡ false → p (name_at name xs t) ≡ false
+  pub none_passes : (p : List ℕ → Bool) (xs : List X) (t : ℕ) → t < length xs → list_any p (map name xs) ≡ false → p (name_at name xs t) ≡ false
   none_passes p [] t inside none = absurd (omega arith)
   none_passes p (x ∷ xs) zero inside none = (or_parts _ _ none).0
   none_passes p (x ∷ xs) (suc t) inside none = none_passes p xs t (omega arith) (or_parts _ _ none).1
-
-  same_itself : (bs : List ℕ) → same_bytes bs bs ≡ true
-  same_itself [] = refl
-  same_itself (b ∷ bs) = rw (eq-eqb b b refl) (same_itself bs)
 
   not_true : (a : Bool) → not a ≡ true → a ≡ false
   not_true true h = absurd (false≢true h)
   not_true false h = refl
 
   -- where names differ, the first thing of a name is the one that it names
-  place_of_name : (xs : List X) (t : ℕ) → t < length xs → is_distinct same_bytes (map name xs) ≡ true
+  pub place_of_name : (xs : List X) (t : ℕ) → t < length xs → is_distinct same_bytes (map name xs) ≡ true
       → position_or_len (λ x. same_bytes (name x) (name_at name xs t)) xs ≡ t
   place_of_name [] t inside distinct = absurd (omega arith)
-  place_of_name (x ∷ xs) zero inside distinct = rw (same_itself (name x)) refl
+  place_of_name (x ∷ xs) zero inside distinct = rw (bytes_same_itself (name x)) refl
   place_of_name (x ∷ xs) (suc t) inside distinct =
       let p = and_parts _ _ distinct in
       let other : same_bytes (name x) (name_at name xs t) ≡ false = none_passes (same_bytes (name x)) xs t (omega arith) (not_true _ p.0) in
@@ -89,9 +84,6 @@ number_read n h =
     let value : digits_value 10 (decimal n) ≡ n = digits_value-decimal own n h in
     let small : ltb n (2 ^ 64) ≡ true = lt-ltb _ _ h in
     rw (short, digits_decimal own n h, value, small) refl
-
-pub number_word : (n : ℕ) → n < 2 ^ 64 → is_word (decimal n) ≡ true
-number_word n h = is_word-decimal n h
 
 pub byte_word : (p : ℕ) → is_byte p ≡ true → is_word (decimal p) ≡ true
 byte_word p h = let small : p < 2 ^ 64 = grind (arith, nat_tests) in is_word-decimal p small

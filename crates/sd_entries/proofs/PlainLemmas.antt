@@ -14,18 +14,18 @@ use Rattle.sd_types.specs.declared.works.Work.{Work}
 use Rattle.sd_types.specs.NameWords.{is_letter, is_name_byte, is_name}
 use Rattle.sd_text.specs.Lines.{is_newline, is_line}
 use Rattle.sd_text.specs.Words.{is_word}
-use Rattle.sd_text.proofs.NumberLemmas.{is_line-decimal}
+use Rattle.sd_text.proofs.NumberLemmas.{is_line-decimal, is_word-decimal}
 use Rattle.sd_state.specs.Texts.{thread_name, lock_name, chan_name}
 use Rattle.sd_machine.specs.Texts.{set_name, cpu_text}
 use Rattle.sd_entries.specs.Fitting.{has_cpu, has_thread, has_lock, has_chan, has_set, is_byte}
-use Rattle.sd_entries.proofs.NameLemmas.{number_word, thread_word, lock_word, chan_word, set_word, cpu_word, cpu_small, byte_word, count_word}
+use Rattle.sd_entries.proofs.NameLemmas.{thread_word, lock_word, chan_word, set_word, cpu_word, cpu_small, byte_word, count_word}
 
 -- one word, in one line
 abbrev pub IsPlain : List ℕ → Type 0
 IsPlain x = (is_word x ≡ true) × (is_line x ≡ true)
 
 pub number_plain : (n : ℕ) → n < 2 ^ 64 → IsPlain (decimal n)
-number_plain n h = (number_word n h, is_line-decimal n h)
+number_plain n h = (is_word-decimal n h, is_line-decimal n h)
 
 pub byte_plain : (p : ℕ) → is_byte p ≡ true → IsPlain (decimal p)
 byte_plain p h = let small : p < 2 ^ 64 = grind (arith, nat_tests) in (byte_word p h, is_line-decimal p small)
@@ -36,7 +36,7 @@ count_plain n h = let less : n < 2 ^ 32 = grind (arith, nat_tests) in (count_wor
 no_newline : (b : ℕ) → is_name_byte b ≡ true → not (is_newline b) ≡ true
 no_newline b h = grind (arith, nat_tests)
 
-no_newlines : (bs : List ℕ) → list_all is_name_byte bs ≡ true → is_line bs ≡ true
+pub no_newlines : (bs : List ℕ) → list_all is_name_byte bs ≡ true → is_line bs ≡ true
 no_newlines [] h = refl
 no_newlines (b ∷ bs) h = let p = and_parts _ _ h in rw (no_newline b p.0) (no_newlines bs p.1)
 

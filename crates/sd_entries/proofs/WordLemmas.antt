@@ -147,7 +147,7 @@ numbers_word (n ∷ m ∷ ms) some h =
     let long = some_join (decimal n ++ codes ",") (numbers_text (m ∷ ms)) (some_join (decimal n) (codes ",") (some_number n p.0)) in
     and_from (ltb 0 (length (numbers_text (n ∷ m ∷ ms)))) (plain (numbers_text (n ∷ m ∷ ms))) long (plain_numbers (n ∷ m ∷ ms) h)
 
-line_join : (xs ys : List ℕ) → is_line xs ≡ true → is_line ys ≡ true → is_line (xs ++ ys) ≡ true
+pub line_join : (xs ys : List ℕ) → is_line xs ≡ true → is_line ys ≡ true → is_line (xs ++ ys) ≡ true
 line_join [] ys h k = k
 line_join (x ∷ xs) ys h k =
     let p = and_parts (not (is_newline x)) (is_line xs) h in

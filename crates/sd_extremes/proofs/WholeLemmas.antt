@@ -4,7 +4,6 @@ use Rattle.std.proofs.lemmas.List.{append-nil, append_assoc, length-append}
 use Rattle.sd_types.specs.declared.numbers.CpuId.{CpuId}
 use Rattle.sd_types.specs.declared.events.Entry.{Entry}
 use Rattle.sd_types.specs.declared.events.Event.{Event}
-use Rattle.sd_types.specs.declared.events.Hints.{Hints}
 use Rattle.sd_types.specs.declared.works.Work.{Work}
 use Rattle.sd_state.specs.declared.states.State.{State}
 use Rattle.sd_state.specs.Opening.{opening}
@@ -14,6 +13,7 @@ use Rattle.sd_machine.proofs.RunLemmas.{IsRun-append, IsRun-from, IsRun-nil, IsR
 use Rattle.sd_invariants.specs.Laws.{IsFit}
 use Rattle.sd_invariants.proofs.Whole.{fit_reached}
 use Rattle.sd_extremes.specs.WholeRuns.{BeginsWith, GoesOn, IsFreshRun, LeadsTo}
+use Rattle.sd_machine.proofs.RoundLemmas.{turn_run}
 
 module _ (w : Work) where
   -- ---- entries that show the numbers of the state
@@ -52,10 +52,6 @@ module _ (w : Work) where
 
   -- ---- one turn more
 
-  turn_run : (s : State) (n : ℕ) (c : CpuId) (h : Option Hints) (o : Option Event) → next w s c h ≡ o → IsRunFrom w s n (made n c h o)
-  turn_run s n c h None e = IsRunFrom-nil w s n
-  turn_run s n c h (Some x) e = IsRunFrom-one w s n (record { number = n; cpu = c; event = x; hints = h }) refl e
-
   turn_fresh : (s : State) (n : ℕ) (c : CpuId) (o : Option Event) → IsFresh w s (made n c (serial_hints w s c) o)
   unfolding IsFresh
   turn_fresh s n c None = tt
@@ -66,7 +62,7 @@ module _ (w : Work) where
       let s = final w (opening w) es in
       let more = turn w s (length es) c in
       record {
-        run = IsRun-append w es more r.run (turn_run s (length es) c (serial_hints w s c) (next w s c (serial_hints w s c)) refl);
+        run = IsRun-append w es more r.run (turn_run w s (length es) c (serial_hints w s c) (next w s c (serial_hints w s c)) refl);
         fresh = fresh-append (opening w) es more r.fresh (turn_fresh s (length es) c (next w s c (serial_hints w s c)));
       }
 

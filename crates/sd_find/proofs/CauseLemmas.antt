@@ -1,11 +1,10 @@
 -- How a call of `dispfind` ends has its cause: what is so of its streams for each answer, and the other sides of this.
-use Rattle.std.proofs.Common.{◌≡◌, ℕ, ◌<◌, ◌≤◌, List, [], length, Result, Ok, Err, Some, refl, sym, ap, subst, ◌∙◌, inl, inr, arith}
+use Rattle.std.proofs.Common.{◌≡◌, ℕ, ◌<◌, ◌≤◌, List, [], Result, Ok, Err, Some, refl, sym, ap, subst, ◌∙◌, inl, inr, arith}
 use Rattle.std.specs.Prelude.{◌⊎◌}
 use Rattle.std.specs.Result.{IsErrAnd}
 use Rattle.std.proofs.lemmas.Result.{err_from_is_err_and}
 use Rattle.sd_types.specs.declared.works.Work.{Work}
-use Rattle.sd_declare.specs.declared.causes.WorkCause.{WorkCause}
-use Rattle.sd_workload.specs.Accepted.{Accepted, FirstCause}
+use Rattle.sd_workload.specs.Accepted.{Accepted}
 use Rattle.sd_workload.proofs.OneLemmas.{one-work}
 use Rattle.sd_answers.specs.declared.answers.Answer.{Answer}
 use Rattle.sd_answers.specs.declared.answers.Answer.TheVariants as answer
@@ -14,9 +13,9 @@ use Rattle.sd_answers.specs.declared.writing.Unwritten.{Unwritten}
 use Rattle.sd_answers.specs.declared.writing.Unwritten.TheVariants as unwritten
 use Rattle.sd_answers.specs.Answers.{status_of, unwritten_answer}
 use Rattle.sd_types.specs.Limits.{most_bytes}
-use Rattle.sd_answers.specs.Inputs.{HasTooMany, IsNoWorkload, IsRefused, IsWorkload}
+use Rattle.sd_answers.specs.Inputs.{IsRefused, IsWorkload}
 use Rattle.sd_answers.specs.StreamChanges.{StreamChange, IsUntouched, Puts}
-use Rattle.sd_answers.proofs.InputLemmas.{at_most_of, not_both, not_too_many as within_most, taken_all, taken_within}
+use Rattle.sd_answers.proofs.InputLemmas.{at_most_of, not_too_many as within_most, taken_all}
 use Rattle.sd_program.specs.Headline.{Refuses}
 use Rattle.sd_finder.specs.declared.forms.Aim.{Aim}
 use Rattle.sd_finder.specs.declared.verdicts.Told.{Told}
@@ -24,27 +23,9 @@ use Rattle.sd_finder.specs.declared.verdicts.Verdict.{Verdict}
 use Rattle.sd_finder.specs.declared.verdicts.Verdict.TheVariants.{Done, Found, Never, More, NoThread}
 use Rattle.sd_find.specs.Promises.{CompletesSearch}
 use Rattle.sd_find.specs.Seeking.{CausedBySearch, IsToldOf, Says, SaysNothing, ended_status, verdict_status}
+use Rattle.sd_program.proofs.TopLemmas.{not_too_many, not_refused, no_workload}
 
 -- ---- an input that is too large, or no workload, is no accepted one
-
-pub too_many : (input : StreamChange) (bytes : List ℕ) → HasTooMany most_bytes input → input.before ≡ Some bytes → length bytes ≤ most_bytes → ⊥
-too_many input bytes many is short =
-    let within = taken_within input.before input.after many.bytes bytes many.took is in
-    let count = many.many in
-    absurd (omega arith)
-
-pub refused : (input : StreamChange) (bytes : List ℕ) (w : Work) (line : ℕ) (cause : WorkCause) → IsNoWorkload input line cause → input.before ≡ Some bytes → Accepted bytes w → ⊥
-refused input bytes w line cause none is accepted =
-    not_both bytes w line cause accepted
-    (subst (λ bs. FirstCause bs line cause) (taken_all input.before input.after none.bytes bytes none.read.took none.read.to_end is) none.first)
-
-no_workload : (input : StreamChange) (bytes : List ℕ) → input.before ≡ Some bytes → (most_bytes < length bytes) ⊎ ((w : Work) → Accepted bytes w → ⊥) → (w : Work) → IsWorkload input w → ⊥
-no_workload input bytes is (inl many) w found =
-    let all = taken_all input.before input.after found.bytes bytes found.read.took found.read.to_end is in
-    let bound = found.read.bound in
-    absurd (omega (arith, ap length all))
-no_workload input bytes is (inr none) w found =
-    none w (subst (λ bs. Accepted bs w) (taken_all input.before input.after found.bytes bytes found.read.took found.read.to_end is) found.accepted)
 
 -- the workload that was read is the one that the bytes spell
 pub read_work : (input : StreamChange) (bytes : List ℕ) (work w : Work) → IsWorkload input work → input.before ≡ Some bytes → Accepted bytes w → work ≡ w
@@ -128,10 +109,10 @@ module _ (aim : Aim) (most : ℕ) (input out : StreamChange) where
   completes Said said (Ok v) c = λ sound told bytes w is short accepted. inl (subst (λ x. Said x (verdict_status v)) (read_work input bytes c.of.work w c.of.workload is accepted) (said v c))
   completes Said said (Err answer.Done) c = absurd c
   completes Said said (Err Usage) c = absurd c
-  completes Said said (Err TooLarge) c = λ sound told bytes w is short accepted. absurd (too_many input bytes c.0 is short)
+  completes Said said (Err TooLarge) c = λ sound told bytes w is short accepted. absurd (not_too_many input bytes c.0 is short)
   completes Said said (Err TooLargeToAudit) c = absurd c
   completes Said said (Err NoJournal) c = absurd c
-  completes Said said (Err (Refused line cause)) c = λ sound told bytes w is short accepted. absurd (refused input bytes w line cause c.0 is accepted)
+  completes Said said (Err (Refused line cause)) c = λ sound told bytes w is short accepted. absurd (not_refused input bytes w line cause c.0 is accepted)
   completes Said said (Err ReadFault) c = λ sound told bytes w is short accepted. absurd (sound c.0)
   completes Said said (Err WriteFault) c = λ sound told bytes w is short accepted. absurd (told c.3)
   completes Said said (Err OutOfMemory) c = λ sound told bytes w is short accepted. inr refl

@@ -27,9 +27,10 @@ use Rattle.sd_finder.specs.Texts.{longest_text, timing_text}
 use Rattle.sd_finder.specs.Timings.{AreShort, HasNoThread, IsThread, IsTiming}
 use Rattle.sd_find.specs.Promises.{ExcludesEnds, ExcludesWaits, LeavesUntimed, MeasuresWait, RefusesName, ThreadSays, TimesThread}
 use Rattle.sd_find.specs.Seeking.{CausedBySearch, Says, ended_line, ended_status, verdict_status}
-use Rattle.sd_find.proofs.CauseLemmas.{read_work, refused, too_many}
+use Rattle.sd_find.proofs.CauseLemmas.{read_work}
 use Rattle.sd_find.proofs.CutLemmas.{cut_off}
 use Rattle.sd_find.proofs.ShownLemmas.{certified_of}
+use Rattle.sd_program.proofs.TopLemmas.{not_too_many, not_refused}
 
 -- ---- by what is known of the thread
 
@@ -288,10 +289,10 @@ module _ (aim : Aim) (name : List ℕ) (most : ℕ) (input out : StreamChange) (
         inl (lacking v c (subst (λ x. HasNoThread x name) (sym (read_work input bytes c.of.work w c.of.workload is accepted)) lacks) told)
     refuses_name (Err answer.Done) c told = absurd c
     refuses_name (Err Usage) c told = absurd c
-    refuses_name (Err TooLarge) c told = λ sound bytes w is short accepted lacks. absurd (too_many input bytes c.0 is short)
+    refuses_name (Err TooLarge) c told = λ sound bytes w is short accepted lacks. absurd (not_too_many input bytes c.0 is short)
     refuses_name (Err TooLargeToAudit) c told = absurd c
     refuses_name (Err NoJournal) c told = absurd c
-    refuses_name (Err (Refused line cause)) c told = λ sound bytes w is short accepted lacks. absurd (refused input bytes w line cause c.0 is accepted)
+    refuses_name (Err (Refused line cause)) c told = λ sound bytes w is short accepted lacks. absurd (not_refused input bytes w line cause c.0 is accepted)
     refuses_name (Err ReadFault) c told = λ sound bytes w is short accepted lacks. absurd (sound c.0)
     refuses_name (Err WriteFault) c told = λ sound bytes w is short accepted lacks. absurd (c.2 ((of_thread aim name most input out named).lacks c.1.work c.0 (subst (λ x. HasNoThread x name) (sym (read_work input bytes c.1.work w c.1.workload is accepted)) lacks) c.1.is).empty)
     refuses_name (Err OutOfMemory) c told = λ sound bytes w is short accepted lacks. inr refl

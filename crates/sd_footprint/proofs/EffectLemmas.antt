@@ -60,6 +60,7 @@ use Rattle.sd_footprint.specs.Changed.{ChangesOnly, HasHome, RanThere}
 use Rattle.sd_homes.specs.Standing.{home_of_place}
 use Rattle.sd_footprint.proofs.ChangeLemmas.{AreAmong, HasActor, HasCpu, HasThread, IsAway, changes_bind, changes_class, changes_close, changes_count, changes_duty, changes_either, changes_finish, changes_hold, changes_join, changes_kernel_mark, changes_leave, changes_leave_as, changes_let_go, changes_lock, changes_looped, changes_mark, changes_mark_over, changes_marks, changes_none, changes_number, changes_put, changes_remark, changes_run_on, changes_run_tick, changes_send_back, changes_then, changes_tick, changes_unbind}
 use Rattle.sd_frames.proofs.Parts.{same_item}
+use Rattle.sd_store.proofs.Among.{among_right, among_left}
 
 -- Threads that run on a processor and leave it.
 
@@ -350,15 +351,6 @@ changes_rebound ps s u (Some d) b at is all =
     changes_then ps s _ _ (changes_bind ps s u.0 d is (all _ (inl refl))) (changes_called ps _ d _ (λ p p_is. all p (inr p_is)))
 changes_rebound ps s u None (Some b) at is all = changes_unbind ps s u.0 b is (subst (λ (o : Option CpuId). AreAmong (bound_parts o) ps) (sym at) all _ (inl refl))
 changes_rebound ps s u None None at is all = changes_none ps s
-
-among_left : (p : Part) (xs ys : List Part) → IsAmong p xs → IsAmong p (xs ++ ys)
-among_left p (x ∷ xs) ys (inl e) = inl e
-among_left p (x ∷ xs) ys (inr later) = inr (among_left p xs ys later)
-among_left p [] ys none = absurd none
-
-among_right : (p : Part) (xs ys : List Part) → IsAmong p ys → IsAmong p (xs ++ ys)
-among_right p [] ys is = is
-among_right p (x ∷ xs) ys is = inr (among_right p xs ys is)
 
 changes_pbound : (ps : List Part) (w : Work) (s : State) (n t : ℕ) (u : ThreadId) (d : Option CpuId) (answer : BindAnswer) → HasThread ps t → AreAmong (bind_parts w s u d answer) ps → ChangesOnly ps s (pbound w s n t u.0 d answer)
 unfolding pbound

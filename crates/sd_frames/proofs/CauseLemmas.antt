@@ -1,5 +1,5 @@
 -- The event that the order of a processor's events gives has its cause in the state.
-use Rattle.std.proofs.Common.{◌≡◌, ◌≢◌, ℕ, suc, ◌<◌, Bool, true, false, not, ◌&&◌, ◌||◌, List, [], ◌∷◌, length, Option, Some, None, is_none, inl, inr, refl, sym, ap, ◌∙◌, subst, arith, ◌==◌}
+use Rattle.std.proofs.Common.{◌≡◌, ◌≢◌, ℕ, ◌<◌, Bool, true, false, not, ◌&&◌, ◌||◌, List, [], ◌∷◌, length, Option, Some, None, is_none, inl, inr, refl, sym, ap, ◌∙◌, subst, arith, ◌==◌}
 use Rattle.std.specs.Prelude.{⊤, ℤ, Result, Ok, Err, MatchBool, MatchOption, All, if◌then◌else◌, nat_lt, nat_le}
 use Rattle.std.specs.List.{Contains}
 use Rattle.std.proofs.lemmas.Bool.{false≢true, eqb-true}
@@ -59,16 +59,9 @@ use Rattle.sd_machine.specs.Plans.{first_of, duty_plan_of, duty_plan, nap_plan, 
 use Rattle.sd_machine.specs.Events.{plan_event, wish, may_tick, allowed, next}
 use Rattle.sd_machine.specs.Hints.{hints_fit, plan_reads, read_for, read_of, reads, reads_for, same_which}
 use Rattle.sd_frames.specs.Causes.{IsFree, Runs, IsIdle, IsOpenIdle, Acts, Leaves, IsPut, IsCause}
+use Rattle.sd_rules.proofs.ChoiceLemmas.{Contains-from_among}
 
 -- Choices.
-
-among_contains : (c : CpuId) (cpus : List CpuId) → is_among c cpus ≡ true → Contains cpus c
-among_contains c [] e = cc
-among_contains c (d ∷ ds) e = by (λ x. among_contains c ds x) (d.0 == c.0) refl
-  where
-    by : (is_among c ds ≡ true → Contains ds c) → (b : Bool) → (d.0 == c.0) ≡ b → Contains (d ∷ ds) c
-    by more true here = (0, omega arith, let cpu : ℕ → CpuId = λ n. record { 0 = n } in ap cpu (eqb-true d.0 c.0 here))
-    by more false here = let (k, inside, is) = more (rw here at e) in (suc k, omega arith, is)
 
 chosen_among : (cpus : List CpuId) (numbers : List ℕ) (last : CpuId) (warm : Bool) → 0 < length cpus → length numbers ≡ length cpus
     → Contains cpus (chosen cpus numbers last warm)
@@ -81,7 +74,7 @@ chosen_among cpus numbers last warm some same = by (warm && is_among last cpus) 
     by : (b : Bool) → (warm && is_among last cpus) ≡ b
         → MatchBool b (chosen cpus numbers last warm ≡ last) (IsBestByHints cpus numbers last (chosen cpus numbers last warm))
         → Contains cpus (chosen cpus numbers last warm)
-    by true e is = subst (λ x. Contains cpus x) (sym is) (among_contains last cpus (among warm (is_among last cpus) e))
+    by true e is = subst (λ x. Contains cpus x) (sym is) (Contains-from_among last cpus (among warm (is_among last cpus) e))
     by false e best =
         let (i, at, other) = best.busy.has in
         let inside = slice_get_within cpus i (chosen cpus numbers last warm) at in

@@ -13,5 +13,6 @@ pub mod PlaceTable
 pub mod PlainWords
 pub mod ReleaseLemmas
 pub mod Searches
+pub mod SetDuties
 pub mod SideFields
 pub mod Words

@@ -25,7 +25,7 @@ use Rattle.sd_machine.proofs.ShapeLemmas.{woken_shape, lock_shape, then_shape}
 use Rattle.sd_frames.proofs.Parts.{same_item}
 use Rattle.sd_frames.proofs.LockTable as T
 use Rattle.sd_frames.proofs.LockTable.{duty_part}
-use Rattle.sd_frames.proofs.ReleaseLemmas.{drop_shape}
+use Rattle.sd_frames.proofs.ReleaseLemmas.{drop_shape, set_duty_locks}
 use Rattle.sd_frames.proofs.CpuWords as C
 
 -- a duty that is no ageing stays where an ageing would be dropped
@@ -41,10 +41,6 @@ pub data Woken (s r : State) (c : ℕ) (l : LockId) : Type 0 where
 has_waiters_kept : (s : State) (l c : ℕ) (x : LockState) (d : Duty) → has_waiters (set_duty (with_lock s l x) c d) l ≡ has_waiters s l
 unfolding has_waiters set_duty
 has_waiters_kept s l c x d = refl
-
-set_duty_locks : (s : State) (c : ℕ) (d : Duty) → (set_duty s c d).locks ≡ s.locks
-unfolding set_duty
-set_duty_locks s c d = refl
 
 unblocked_outcome : (w : Work) (s : State) (n : ℕ) (c : CpuId) (l : LockId) (u : ℕ) (at : Put) → c.0 < length s.cpus → Woken s (unblocked w s n c l u at) c.0 l
 unfolding unblocked

@@ -102,7 +102,7 @@ suits_reader w s l n = by (best_waiter s l.0 Writer) refl
         some_none v e = cc
     by None e = record { alone = false; passes = refl; mutex = λ is. cc; writer = λ some is. cc; rwlock = λ is. inr (n, refl); one_of = inr (inr refl) }
 
-set_duty_locks : (s : State) (c : ℕ) (d : Duty) → (set_duty s c d).locks ≡ s.locks
+pub set_duty_locks : (s : State) (c : ℕ) (d : Duty) → (set_duty s c d).locks ≡ s.locks
 unfolding set_duty
 set_duty_locks s c d = refl
 

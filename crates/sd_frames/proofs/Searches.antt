@@ -1,30 +1,20 @@
 -- Where a search finds nobody, nobody stands there; and a lock has waiters exactly where somebody waits for it.
-use Rattle.std.proofs.Common.{◌≡◌, ◌≢◌, ℕ, zero, suc, ◌+◌, ◌<◌, Bool, true, false, ◌||◌, List, [], ◌∷◌, length, get_or, Option, Some, None, refl, sym, ◌∙◌, inl, inr, subst, arith}
+use Rattle.std.proofs.Common.{◌≡◌, ◌≢◌, ℕ, zero, suc, ◌+◌, ◌<◌, Bool, true, false, ◌||◌, List, [], ◌∷◌, length, get_or, None, refl, sym, ◌∙◌, subst, arith}
 use Rattle.std.specs.List.{list_any}
-use Rattle.std.proofs.lemmas.Bool.{cases_Bool, false≢true}
+use Rattle.std.proofs.lemmas.Bool.{false≢true}
 use Rattle.sd_types.specs.declared.numbers.Side.{Side}
 use Rattle.sd_state.specs.declared.states.ThreadState.{ThreadState}
 use Rattle.sd_state.specs.declared.states.State.{State}
 use Rattle.sd_state.specs.States.{thread_of, no_thread}
 use Rattle.sd_state.specs.Best.{best_by, beats}
 use Rattle.sd_machine.specs.Threads.{is_waiting, is_waiting_at, is_asleep, best_waiter, best_sleeper, has_waiters}
-use Rattle.sd_state.proofs.BestLemmas.{IsOrder, IsBestBelow, goes_ahead_by, best_taken, best_kept, best_by_is}
+use Rattle.sd_state.proofs.BestLemmas.{IsOrder, IsBestBelow, best_by_is}
 use Rattle.sd_state.proofs.OrderLemmas.{beats_order}
-
--- a scan comes to an end
-scanned : {X : Type 0} (on : X → Bool) (before : X → X → Bool) (d : X) → IsOrder before → (xs : List X) (n : ℕ) → (o : Option ℕ) × IsBestBelow on before d xs n o
-scanned on before d order xs zero = (None, λ k h. absurd (omega arith))
-scanned on before d order xs (suc n) = more (scanned on before d order xs n)
-  where
-    more : (o : Option ℕ) × IsBestBelow on before d xs n o → (o : Option ℕ) × IsBestBelow on before d xs (suc n) o
-    more (o, is) = elim (cases_Bool (goes_ahead_by on before d xs o n)) [
-      | inl yes_ ↦ (Some n, subst (λ m. IsBestBelow on before d xs m (Some n)) (let e : n + 1 ≡ suc n = omega arith in e) (best_taken on before d order xs o n is yes_))
-      | inr no_ ↦ (o, subst (λ m. IsBestBelow on before d xs m o) (let e : n + 1 ≡ suc n = omega arith in e) (best_kept on before d xs o n is no_))
-    ]
+use Rattle.sd_state.proofs.Chosen.{best_below}
 
 pub none_stands : {X : Type 0} (on : X → Bool) (before : X → X → Bool) (d : X) → IsOrder before → (xs : List X) → best_by on before xs ≡ None → (k : ℕ) → k < length xs → on (get_or xs k d) ≡ false
 none_stands on before d order xs none k inside =
-    let (o, is) = scanned on before d order xs (length xs) in
+    let (o, is) = best_below on before d order xs (length xs) in
     let gone : o ≡ None = best_by_is on before d xs o is ∙ none in
     (subst (λ q. IsBestBelow on before d xs (length xs) q) gone is) k inside
 

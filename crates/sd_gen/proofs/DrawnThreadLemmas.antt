@@ -31,8 +31,9 @@ use Rattle.sd_canonical.proofs.TextLemmas.{is_plain, are_plain, name-plain}
 use Rattle.sd_canonical.proofs.TakesLemmas.{Takes, takes-nothing, takes-both, takes-line}
 use Rattle.sd_canonical.proofs.FormLemmas.{class_said, class-form, set_words, is_name_if, options_said}
 use Rattle.sd_canonical.proofs.ThreadLemmas.{is-class, class-plain}
-use Rattle.sd_canonical.proofs.ListLemmas.{same-itself, under, not-under, none-before, any-map, place-map}
+use Rattle.sd_canonical.proofs.ListLemmas.{under, not-under, none-before, any-map, place-map}
 use Rattle.sd_gen.proofs.AcceptedLemmas.{numbered, numbered-name, other-number, the-sets}
+use Rattle.sd_types.proofs.SameLemmas.{bytes_same_itself}
 
 -- ---- the names of the first threads
 
@@ -83,7 +84,7 @@ place-in i n h inside most =
     place-map (λ m. same_bytes m (numbered 116 i)) (numbered 116) (range_with_len 0 n)
     ∙ place-range (λ j. same_bytes (numbered 116 j) (numbered 116 i)) 0 n i inside
     (λ j l. other-name i (0 + j) h (omega arith) (λ e. omega arith))
-    (let e : 0 + i ≡ i = omega arith in ap (λ k. same_bytes (numbered 116 k) (numbered 116 i)) e ∙ same-itself (numbered 116 i))
+    (let e : 0 + i ≡ i = omega arith in ap (λ k. same_bytes (numbered 116 k) (numbered 116 i)) e ∙ bytes_same_itself (numbered 116 i))
 
 pub name-place : (i : ℕ) → i < 200 → position_or_len (λ m. same_bytes m (numbered 116 i)) (names-to 200) ≡ i
 name-place i h = place-in i 200 h h (omega arith)

@@ -23,7 +23,7 @@ taken_full (None ∷ hs) t = absurd t
 taken_full (Some h ∷ hs) t = let rest = taken_full hs t in omega (arith, rest)
 
 -- ---- a home that lies in a slot
-lies_held : (h : Home) (hs : List (Option Home)) (i : ℕ) → slice_get hs i ≡ Some (Some h) → held (home_id h) hs ≡ None → ⊥
+pub lies_held : (h : Home) (hs : List (Option Home)) (i : ℕ) → slice_get hs i ≡ Some (Some h) → held (home_id h) hs ≡ None → ⊥
 lies_held h [] i e n = absurd cc
 lies_held h (None ∷ hs) zero e n = absurd cc
 lies_held h (Some g ∷ hs) zero e n =
@@ -37,7 +37,7 @@ lies_held h (Some g ∷ hs) (suc i) e n = by (same_home (home_id h) (home_id g))
     by true f r = let some = rw f at n in absurd cc
     by false f r = r (rw f at n)
 
-none_without : (k : HomeId) (hs : List (Option Home)) (i : ℕ) → held k hs ≡ None → held k (set hs i None) ≡ None
+pub none_without : (k : HomeId) (hs : List (Option Home)) (i : ℕ) → held k hs ≡ None → held k (set hs i None) ≡ None
 none_without k [] i n = refl
 none_without k (None ∷ hs) zero n = n
 none_without k (Some g ∷ hs) zero n = by (same_home k (home_id g)) refl
@@ -52,7 +52,7 @@ none_without k (Some g ∷ hs) (suc i) n = by (same_home k (home_id g)) refl (no
     by true f r = let some = rw f at n in absurd cc
     by false f r = rw f (r (rw f at n))
 
-apart_without : (hs : List (Option Home)) (i : ℕ) → AreApart hs → AreApart (set hs i None)
+pub apart_without : (hs : List (Option Home)) (i : ℕ) → AreApart hs → AreApart (set hs i None)
 apart_without [] i a = tt
 apart_without (None ∷ hs) zero a = a
 apart_without (Some g ∷ hs) zero a = a.1

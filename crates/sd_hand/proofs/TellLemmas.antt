@@ -208,10 +208,3 @@ marked_count m z = by (nat_le 100 m) refl
     by : (b : Bool) → nat_le 100 m ≡ b → (marked m z).count ≡ z.count
     by true e = rw e refl
     by false e = rw e refl
-
-pub marked_duty : (m : ℕ) (z : CpuState) → (marked m z).duty ≡ z.duty
-marked_duty m z = by (nat_le 100 m) refl
-  where
-    by : (b : Bool) → nat_le 100 m ≡ b → (marked m z).duty ≡ z.duty
-    by true e = rw e refl
-    by false e = rw e refl

@@ -2,11 +2,9 @@
 use Rattle.std.proofs.Common.{◌≡◌, ℕ, ◌<◌, true, false, List, length, Option, Some, None, refl, ◌∙◌, sym, ap, arith, ◌⊎◌, inl, inr}
 use Rattle.std.specs.Prelude.{slice_get}
 use Rattle.std.proofs.lemmas.List.{length-map}
-use Rattle.sd_basics.proofs.Truths.{and_left}
 use Rattle.sd_types.specs.declared.numbers.Side.{Side}
 use Rattle.sd_types.specs.declared.numbers.Side.TheVariants.{Reader}
 use Rattle.sd_types.specs.declared.works.LockKind.{LockKind}
-use Rattle.sd_types.specs.Scripts.{is_held, op_fits}
 use Rattle.sd_types.specs.Works.{Declared, op_names, is_mutex, is_rwlock}
 use Rattle.sd_frames.specs.Causes.{IsFree, Acts, IsCause}
 use Rattle.sd_frames.specs.Passing.{pass_of}
@@ -40,6 +38,7 @@ use Rattle.sd_types.specs.declared.scripts.Op.TheVariants as op
 use Rattle.sd_types.specs.declared.works.Work.{Work}
 use Rattle.sd_state.specs.declared.states.State.{State}
 use Rattle.std.proofs.lemmas.Option.{slice_get_within}
+use Rattle.sd_types.proofs.ScriptLemmas.{gives_exit, gives_wait}
 
 free_pass : (s : State) (c : ℕ) → IsFree (cpu_of s c).duty → pass_of (cpu_of s c).duty ≡ None
 free_pass s c free = free_passes (cpu_of s c).duty free
@@ -124,13 +123,6 @@ module _ (w : Work) (s : State) (n : ℕ) (c : CpuId) (ready : IsReady w s) (c_i
   lockless_agreed e quiet cause next =
       agreed_quiet s (after w s n c e) next.shape.threads (quiet_locks w s n c e quiet) (lockless_held s (after w s n c e) e quiet next.held) (quiet_passes w s n c e quiet (cause_pass w s c.0 e quiet cause))
       (λ u m is. waits_back (step_of w s n c e) s (after w s n c e) next.steps (step_away w s n c e (lockless_away e quiet)) u m is) ready.agreed
-
-  -- a lock that was given up
-  gives_exit : (l : LockId) (after : Option Op) (held : List LockId) → op_fits held (op.Exit l) after ≡ true → is_held l held ≡ true
-  gives_exit l after held e = e
-
-  gives_wait : (k : ChanId) (l : LockId) (after : Option Op) (held : List LockId) → op_fits held (op.CvWait k l) after ≡ true → is_held l held ≡ true
-  gives_wait k l after held e = and_left (is_held l held) _ e
 
   exit_agreed : (t : ThreadId) (l : LockId) → IsCause w s c.0 (Exit t l) → IsNext w s (after w s n c (Exit t l)) n c (Exit t l) → Agreed (after w s n c (Exit t l))
   unfolding drop_ageing set_duty

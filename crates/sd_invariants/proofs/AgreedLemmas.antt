@@ -30,6 +30,7 @@ use Rattle.sd_invariants.proofs.ScriptLemmas.{StepAway, waits_after}
 use Rattle.sd_frames.proofs.LockTable.{pass_part, LocksAre}
 use Rattle.sd_frames.proofs.CpuWords as C
 use Rattle.std.proofs.lemmas.Option.{same_Some}
+use Rattle.sd_types.proofs.ScriptLemmas.{held_last}
 
 -- Held locks.
 
@@ -49,10 +50,6 @@ without_other l m (k ∷ ks) other = elim (cases_Bool (is_lock l k)) [
       rw is (rw apart (without_other l m ks other))
   | inr away ↦ rw away (ap (λ b. eqb m k.0 || b) (without_other l m ks other))
 ]
-
-with_held_is : (l : LockId) (held : List LockId) → is_held l (held ++ l ∷ []) ≡ true
-with_held_is l [] = let same : eqb l.0 l.0 ≡ true = grind (arith, nat_tests) in rw same refl
-with_held_is l (m ∷ ms) = elim (is_lock l m) as (λ b. (b || is_held l (ms ++ l ∷ [])) ≡ true) [ true ↦ refl | false ↦ with_held_is l ms ]
 
 with_held_other : (l : LockId) (m : ℕ) (held : List LockId) → m ≢ l.0 → is_held (record { 0 = m }) (held ++ l ∷ []) ≡ is_held (record { 0 = m }) held
 with_held_other l m [] other = let apart : eqb m l.0 ≡ false = grind (arith, nat_tests) in rw apart refl
@@ -157,7 +154,7 @@ module _ (s r : State) (l : LockId) (c t : ℕ) (x : LockState) (agreed : Agreed
   })
     where
       now : (table r).holds t l.0 ≡ true
-      now = ap (λ (ys : List LockId). is_held l ys) held.put.at ∙ with_held_is l (thread_of s t).body.held.items
+      now = ap (λ (ys : List LockId). is_held l ys) held.put.at ∙ held_last l (thread_of s t).body.held.items
 
   -- t gives the lock up, and it is free or passed on by c
   pub agreed_given : Goes held_part s r t (without_lock l (thread_of s t).body.held.items) → ((d : ℕ) → d ≢ c → (table r).passes d ≡ (table s).passes d) → (table s).passes c ≡ None
@@ -282,7 +279,7 @@ module _ (s r : State) (l : LockId) (c t : ℕ) (x : LockState) (agreed : Agreed
     })
       where
         now : (table r).holds t l.0 ≡ true
-        now = ap (λ (ys : List LockId). is_held l ys) held.put.at ∙ with_held_is l (thread_of s t).body.held.items
+        now = ap (λ (ys : List LockId). is_held l ys) held.put.at ∙ held_last l (thread_of s t).body.held.items
 
     -- t is given the lock as one more of its readers
     pub agreed_joined : p.alone ≡ false → Goes held_part s r t ((thread_of s t).body.held.items ++ l ∷ []) → C.Kept pass_part s r → (table s).holds t l.0 ≡ false → lock_state x ≡ H.Lock.Passing c (k + 1) → Agreed r
@@ -310,7 +307,7 @@ module _ (s r : State) (l : LockId) (c t : ℕ) (x : LockState) (agreed : Agreed
     })
       where
         now : (table r).holds t l.0 ≡ true
-        now = ap (λ (ys : List LockId). is_held l ys) held.put.at ∙ with_held_is l (thread_of s t).body.held.items
+        now = ap (λ (ys : List LockId). is_held l ys) held.put.at ∙ held_last l (thread_of s t).body.held.items
 
 -- A thread comes to wait for a lock that is not free.
 pub agreed_waits : (s r : State) (l : ℕ) → length r.threads ≡ length s.threads → r.locks ≡ s.locks → Same held_part s r → C.Kept pass_part s r

@@ -34,6 +34,7 @@ use Rattle.std.specs.List.{range_with_len}
 use Rattle.sd_state.specs.States.{with_cpu}
 use Rattle.std.proofs.lemmas.Bool.{cases_eq, cases_lt}
 use Rattle.std.proofs.lemmas.Bool.Decides.{nat_tests}
+use Rattle.sd_basics.proofs.Lists.{set_past}
 use Rattle.sd_basics.proofs.Numbers.{same_itself}
 use Rattle.sd_types.specs.declared.works.ThreadDecl.{ThreadDecl}
 use Rattle.sd_state.specs.Opening.{first_cpu_state, first_thread, first_threads, opening}
@@ -43,7 +44,6 @@ use Rattle.sd_machine.specs.SetChanges.{is_misbound, is_closing, bind_to, bind_p
 use Rattle.sd_machine.specs.Threads.{has_ended}
 use Rattle.sd_machine.proofs.ShapeLemmas.{IsShaped, set_duty_shape, pbound_shape, after_shape}
 use Rattle.sd_machine.proofs.HolderLemmas.{count_same, count_more}
-use Rattle.sd_basics.proofs.Lists.{set_past}
 use Rattle.sd_frames.proofs.Words.{Same, then_same, set_duty_same, plain_same}
 use Rattle.sd_frames.proofs.HoldTable.{bound_part, bound_moves, bound_ops, Goes, owned_bound, read_bound, exited_bound, cv_waited_bound, granted_to_writer_bound, granted_to_reader_bound, willed_bound, pbound_bound, refused_bound}
 use Rattle.sd_invariants.proofs.Movers.{bind_thread}

@@ -24,11 +24,11 @@ use Rattle.sd_invariants.specs.Complete.{CompleteRunsReachTheLimit}
 
 -- What the state shows of itself fits what is read.
 
-same_kind : (k : Which) → same_which k k ≡ true
+pub same_kind : (k : Which) → same_which k k ≡ true
 same_kind which.Running = refl
 same_kind which.Queued = refl
 
-shown_fit : (s : State) (r : Option (Which × List CpuId)) → hints_fit r (shown s r) ≡ true
+pub shown_fit : (s : State) (r : Option (Which × List CpuId)) → hints_fit r (shown s r) ≡ true
 shown_fit s None = refl
 shown_fit s (Some r) = and_from (same_which r.0 r.0) (length (map (hint_shown s r.0) r.1) == length r.1) (same_kind r.0)
     (subst (λ m. (m == length r.1) ≡ true) (sym (length-map r.1 (hint_shown s r.0))) (same_itself (length r.1)))

@@ -29,9 +29,9 @@ use Rattle.std.proofs.lemmas.Bool.Decides.{nat_tests}
 use Rattle.std.proofs.lemmas.Bool.{cases_eq, cases_lt}
 use Rattle.std.proofs.Common.{get_or, ◌≤◌, inl, inr, zero, suc, [], ◌∷◌}
 use Rattle.std.specs.Prelude.{map}
+use Rattle.sd_basics.proofs.Lists.{set_past}
 use Rattle.sd_basics.proofs.Truths.{and_left}
 use Rattle.sd_state.specs.Opening.{first_cpu_state, opening}
-use Rattle.sd_basics.proofs.Lists.{set_past}
 
 abbrev count_part : CpuState → ℕ
 count_part x = x.count
@@ -92,11 +92,11 @@ join_counts : (s : State) (c : CpuId) (to : SetId) → SameCounts s (join s c to
 unfolding join
 join_counts s c to = C.then_kept count_part s _ _ (C.open_kept count_part s _ _) (C.written count_part _ c.0 _ refl)
 
-joined_counts : (s : State) (c : CpuId) (to : SetId) → SameCounts s (joined s c to)
+pub joined_counts : (s : State) (c : CpuId) (to : SetId) → SameCounts s (joined s c to)
 unfolding joined
 joined_counts s c to = join_counts s c to
 
-assigned_counts : (w : Work) (s : State) (t : ℕ) (d : CpuId) (to : SetId) (answer : AssignAnswer) → SameCounts s (assigned w s t d to answer)
+pub assigned_counts : (w : Work) (s : State) (t : ℕ) (d : CpuId) (to : SetId) (answer : AssignAnswer) → SameCounts s (assigned w s t d to answer)
 unfolding assigned
 assigned_counts w s t d to assign.Changed = C.then_kept count_part s _ _ (close_counts s d to) (C.then_kept count_part _ (cleared (close s d to) d (runner s d.0)) _ (C.cleared_kept count_part count_marks _ d _) (C.finish_op_kept count_part count_marks w _ t))
 assigned_counts w s t d to assign.EPERM = C.finish_op_kept count_part count_marks w s t
@@ -111,12 +111,12 @@ unbind_counts : (s : State) (t : ℕ) (b : CpuId) → SameCounts s (unbind s t b
 unfolding unbind
 unbind_counts s t b = C.then_kept count_part s (with_body s t (record (thread_of s t).body { bound = None })) _ (C.thread_kept count_part s t _) (C.written count_part _ b.0 _ refl)
 
-rebound_counts : (s : State) (u : ℕ) (d b : Option CpuId) → SameCounts s (rebound s u d b)
+pub rebound_counts : (s : State) (u : ℕ) (d b : Option CpuId) → SameCounts s (rebound s u d b)
 rebound_counts s u (Some d) b = C.then_kept count_part s _ _ (bind_counts s u d) (C.called_back_kept count_part count_marks _ d _)
 rebound_counts s u None (Some b) = unbind_counts s u b
 rebound_counts s u None None = C.same_kept count_part s
 
-pbound_counts : (w : Work) (s : State) (n t u : ℕ) (d : Option CpuId) (answer : BindAnswer) → SameCounts s (pbound w s n t u d answer)
+pub pbound_counts : (w : Work) (s : State) (n t u : ℕ) (d : Option CpuId) (answer : BindAnswer) → SameCounts s (pbound w s n t u d answer)
 unfolding pbound
 pbound_counts w s n t u d (bind_answer.Changed at) = C.then_kept count_part s (rebound s u d (thread_of s u).body.bound) _ (rebound_counts s u d _) (C.then_kept count_part _ (put_where w (rebound s u d (thread_of s u).body.bound) n u at) _ (C.put_where_kept count_part count_marks w _ n u at) (C.finish_op_kept count_part count_marks w _ t))
 pbound_counts w s n t u d bind_answer.ESRCH = C.finish_op_kept count_part count_marks w s t

@@ -1,5 +1,5 @@
 -- The counts of ticks: what each event makes of them.
-use Rattle.std.proofs.Common.{◌≡◌, ℕ, ◌+◌, ◌<◌, ◌≤◌, Bool, true, false, List, [], ◌∷◌, length, get_or, set, cond, Option, Some, None, refl, ◌∙◌, sym, ap, subst, arith}
+use Rattle.std.proofs.Common.{◌≡◌, ℕ, ◌+◌, ◌<◌, ◌≤◌, Bool, true, false, List, [], ◌∷◌, length, get_or, set, cond, refl, ◌∙◌, sym, ap, subst, arith}
 use Rattle.std.specs.Prelude.{◌&&◌, ◌==◌, if◌then◌else◌, nat_lt, nat_le}
 use Rattle.std.specs.List.{list_all, range_with_len}
 use Rattle.std.proofs.lemmas.Bool.{false≢true}
@@ -9,10 +9,7 @@ use Rattle.std.proofs.lemmas.List.Folds.{list_all_at}
 use Rattle.std.proofs.lemmas.List.Sums.{sum_by-cons}
 use Rattle.sd_basics.proofs.Truths.{and_right}
 use Rattle.sd_types.specs.declared.numbers.CpuId.{CpuId}
-use Rattle.sd_types.specs.declared.numbers.SetId.{SetId}
-use Rattle.sd_types.specs.declared.events.AssignAnswer.{AssignAnswer}
 use Rattle.sd_types.specs.declared.events.AssignAnswer.TheVariants as assign
-use Rattle.sd_types.specs.declared.events.BindAnswer.{BindAnswer}
 use Rattle.sd_types.specs.declared.events.BindAnswer.TheVariants as bind_answer
 use Rattle.sd_types.specs.declared.events.Entry.{Entry}
 use Rattle.sd_types.specs.declared.events.Event.{Event}
@@ -23,13 +20,11 @@ use Rattle.sd_state.specs.declared.states.CpuState.{CpuState}
 use Rattle.sd_state.specs.declared.states.State.{State}
 use Rattle.sd_state.specs.Accounts.{cpu_ticks}
 use Rattle.sd_state.specs.Opening.{opening}
-use Rattle.sd_state.specs.States.{no_cpu, thread_of, cpu_of}
-use Rattle.sd_machine.specs.Changes.{counted, run_tick, count_tick, with_body, put_where, close, join, bind, unbind, set_duty}
+use Rattle.sd_state.specs.States.{no_cpu, cpu_of}
+use Rattle.sd_machine.specs.Changes.{counted, run_tick, count_tick, close, set_duty}
 use Rattle.sd_machine.specs.Dispatching.{ticked, spun, idled}
 use Rattle.sd_machine.specs.Events.{may_tick, drop_ageing, effect, after}
 use Rattle.sd_machine.specs.Runs.{final, IsRunFrom}
-use Rattle.sd_machine.specs.SetChanges.{cleared, assigned, joined, rebound, pbound}
-use Rattle.sd_machine.specs.Threads.{runner}
 use Rattle.sd_machine.proofs.RunLemmas.{IsRun-from}
 use Rattle.sd_frames.specs.Causes.{IsCause}
 use Rattle.sd_invariants.specs.Laws.{HoldsWhenReached}
@@ -37,7 +32,7 @@ use Rattle.sd_invariants.proofs.AgreedAfter.{IsReady}
 use Rattle.sd_frames.proofs.CpuWords as C
 use Rattle.sd_frames.proofs.PlainWords.{plain_keeps, drop_keeps}
 use Rattle.sd_invariants.proofs.Ready.{kept_reached, reached_ready, next_ready, opening_ready}
-use Rattle.sd_invariants.proofs.CountLemmas.{count_marks, counts_plain, close_counts, first_count}
+use Rattle.sd_invariants.proofs.CountLemmas.{count_marks, counts_plain, first_count, joined_counts, assigned_counts, pbound_counts}
 use Rattle.sd_invariants.specs.Ticks.{CountsStayClose, CountsRiseByTicks, CountsAreTicks}
 
 abbrev count_part : CpuState → ℕ
@@ -108,38 +103,6 @@ idled_rises w s c = count_rises w s c
 
 -- Changes of sets and bindings.
 
-joined_same : (s : State) (c : CpuId) (to : SetId) → SameCounts s (joined s c to)
-unfolding joined join
-joined_same s c to = C.then_kept count_part s _ _ (C.open_kept count_part s _ _) (C.written count_part _ c.0 _ refl)
-
-assigned_same : (w : Work) (s : State) (t : ℕ) (d : CpuId) (to : SetId) (answer : AssignAnswer) → SameCounts s (assigned w s t d to answer)
-unfolding assigned
-assigned_same w s t d to assign.Changed =
-    C.then_kept count_part s _ _ (close_counts s d to)
-    (C.then_kept count_part _ (cleared (close s d to) d (runner s d.0)) _ (C.cleared_kept count_part count_marks _ d _) (C.finish_op_kept count_part count_marks w _ t))
-assigned_same w s t d to assign.EPERM = C.finish_op_kept count_part count_marks w s t
-assigned_same w s t d to assign.EINVAL = C.finish_op_kept count_part count_marks w s t
-assigned_same w s t d to assign.EBUSY = C.finish_op_kept count_part count_marks w s t
-
-rebound_same : (s : State) (u : ℕ) (d b : Option CpuId) → SameCounts s (rebound s u d b)
-unfolding bind unbind
-rebound_same s u (Some d) b =
-    C.then_kept count_part s (bind s u d) _ (C.then_kept count_part s (with_body s u (record (thread_of s u).body { bound = Some d })) _ (C.thread_kept count_part s u _) (C.written count_part _ d.0 _ refl))
-    (C.called_back_kept count_part count_marks _ d _)
-rebound_same s u None (Some b) =
-    C.then_kept count_part s (with_body s u (record (thread_of s u).body { bound = None })) _ (C.thread_kept count_part s u _) (C.written count_part _ b.0 _ refl)
-rebound_same s u None None = C.same_kept count_part s
-
-pbound_same : (w : Work) (s : State) (n t u : ℕ) (d : Option CpuId) (answer : BindAnswer) → SameCounts s (pbound w s n t u d answer)
-unfolding pbound
-pbound_same w s n t u d (bind_answer.Changed at) =
-    C.then_kept count_part s (rebound s u d (thread_of s u).body.bound) _ (rebound_same s u d _)
-    (C.then_kept count_part _ (put_where w (rebound s u d (thread_of s u).body.bound) n u at) _ (C.put_where_kept count_part count_marks w _ n u at) (C.finish_op_kept count_part count_marks w _ t))
-pbound_same w s n t u d bind_answer.ESRCH = C.finish_op_kept count_part count_marks w s t
-pbound_same w s n t u d bind_answer.EINVAL = C.finish_op_kept count_part count_marks w s t
-pbound_same w s n t u d bind_answer.EPERM = C.finish_op_kept count_part count_marks w s t
-pbound_same w s n t u d bind_answer.EBUSY = C.finish_op_kept count_part count_marks w s t
-
 -- Each event.
 
 dropped_many : (s : State) (c : ℕ) (e : Event) → length (drop_ageing s c e).cpus ≡ length s.cpus
@@ -154,9 +117,9 @@ unfolding after effect
 after_rises w s n c (Tick t) = after_dropped true s _ c.0 (Tick t) (ticked_rises w (drop_ageing s c.0 (Tick t)) c.0 t.0)
 after_rises w s n c (Spin t l) = after_dropped true s _ c.0 (Spin t l) (spun_rises w (drop_ageing s c.0 (Spin t l)) c.0 t.0)
 after_rises w s n c Idle = after_dropped true s _ c.0 Idle (idled_rises w (drop_ageing s c.0 Idle) c.0)
-after_rises w s n c (Assign t d to answer) = after_dropped false s _ c.0 (Assign t d to answer) (stay c.0 _ _ (assigned_same w (drop_ageing s c.0 (Assign t d to answer)) t.0 d to answer))
-after_rises w s n c (Joined to) = after_dropped false s _ c.0 (Joined to) (stay c.0 _ _ (joined_same (drop_ageing s c.0 (Joined to)) c to))
-after_rises w s n c (Bind t u d answer) = after_dropped false s _ c.0 (Bind t u d answer) (stay c.0 _ _ (pbound_same w (drop_ageing s c.0 (Bind t u d answer)) n t.0 u.0 d answer))
+after_rises w s n c (Assign t d to answer) = after_dropped false s _ c.0 (Assign t d to answer) (stay c.0 _ _ (assigned_counts w (drop_ageing s c.0 (Assign t d to answer)) t.0 d to answer))
+after_rises w s n c (Joined to) = after_dropped false s _ c.0 (Joined to) (stay c.0 _ _ (joined_counts (drop_ageing s c.0 (Joined to)) c to))
+after_rises w s n c (Bind t u d answer) = after_dropped false s _ c.0 (Bind t u d answer) (stay c.0 _ _ (pbound_counts w (drop_ageing s c.0 (Bind t u d answer)) n t.0 u.0 d answer))
 after_rises w s n c e = stay c.0 s (after w s n c e) (plain_keeps count_part counts_plain w s n c e refl)
 
 pub rise_law : CountsRiseByTicks

@@ -1,5 +1,5 @@
 -- The locks, channels and threads that duties name are there.
-use Rattle.std.proofs.Common.{◌≡◌, ℕ, zero, suc, ◌+◌, ◌-◌, ◌%◌, ◌<◌, ◌≤◌, Bool, true, false, ◌||◌, List, [], ◌∷◌, length, get_or, Option, Some, None, is_none, refl, sym, subst, inl, inr, arith}
+use Rattle.std.proofs.Common.{◌≡◌, ℕ, zero, suc, ◌+◌, ◌-◌, ◌%◌, ◌<◌, ◌≤◌, Bool, true, false, ◌||◌, List, [], ◌∷◌, length, get_or, Option, Some, None, is_none, sym, subst, inl, inr, arith}
 use Rattle.std.specs.Prelude.{⊤, if◌then◌else◌, is_some, int_lt, nat_lt, nat_le, ◌==◌, map, Result, Ok, Err, ◌&&◌}
 use Rattle.std.specs.Ordering.{int_eq}
 use Rattle.std.specs.List.{range_with_len}
@@ -8,13 +8,10 @@ use Rattle.sd_basics.proofs.Lists.{set_past}
 use Rattle.sd_types.specs.declared.numbers.ChanId.{ChanId}
 use Rattle.sd_types.specs.declared.numbers.CpuId.{CpuId}
 use Rattle.sd_types.specs.declared.numbers.LockId.{LockId}
-use Rattle.sd_types.specs.declared.numbers.SetId.{SetId}
 use Rattle.sd_types.specs.declared.numbers.Side.TheVariants.{Writer, Reader}
 use Rattle.sd_types.specs.declared.numbers.ThreadId.{ThreadId}
 use Rattle.sd_types.specs.declared.classes.ClassParms.{ClassParms}
-use Rattle.sd_types.specs.declared.events.AssignAnswer.{AssignAnswer}
 use Rattle.sd_types.specs.declared.events.AssignAnswer.TheVariants as assign
-use Rattle.sd_types.specs.declared.events.BindAnswer.{BindAnswer}
 use Rattle.sd_types.specs.declared.events.BindAnswer.TheVariants as bind_answer
 use Rattle.sd_types.specs.declared.events.Denied.{Denied}
 use Rattle.sd_types.specs.declared.events.Duty.{Duty}
@@ -39,9 +36,9 @@ use Rattle.sd_state.specs.declared.states.State.{State}
 use Rattle.sd_state.specs.States.{no_cpu, thread_of, cpu_of, with_cpu, eff_of}
 use Rattle.sd_state.specs.Operations.{op_of}
 use Rattle.sd_state.specs.Opening.{first_cpu_state, opening}
-use Rattle.sd_machine.specs.Threads.{thread_id, lock_of, with_lock, runner, best_waiter, best_sleeper, best_sleeper_below, priority_of, has_waiters, greatest_waiting}
+use Rattle.sd_machine.specs.Threads.{thread_id, lock_of, with_lock, best_waiter, best_sleeper, best_sleeper_below, priority_of, has_waiters, greatest_waiting}
 use Rattle.sd_machine.specs.Bodies.{aged_class}
-use Rattle.sd_machine.specs.Changes.{back_key, with_body, run_tick, set_class, set_number, set_looped, set_duty, duty_after, counted, count_tick, put_where, close, join, bind, unbind}
+use Rattle.sd_machine.specs.Changes.{back_key, run_tick, set_class, set_number, set_looped, set_duty, duty_after, counted, count_tick}
 use Rattle.sd_machine.specs.Dispatching.{class_counts, ticked, spun, idled}
 use Rattle.sd_machine.specs.Sleeping.{woken, woke_all, roused_on, rouse_key, roused}
 use Rattle.sd_machine.specs.Locking.{kind_of, writer_first, after_reader, after_owner, free_or_passed, release_from, exited, unblocked_on, unblocked, granted, passed_on, passed}
@@ -49,7 +46,6 @@ use Rattle.sd_machine.specs.Requeueing.{reordered}
 use Rattle.sd_machine.specs.Walking.{is_back, next_walk, walked, willed, walk_ended}
 use Rattle.sd_machine.specs.Prioritising.{answer_to, new_class, walk_from, changed_by, changed_on, reprioritised, lifted, aged}
 use Rattle.sd_machine.specs.Conditions.{cv_waited}
-use Rattle.sd_machine.specs.SetChanges.{cleared, assigned, joined, rebound, pbound}
 use Rattle.sd_machine.specs.Events.{keeps_ageing, dropped_duty, drop_ageing, effect, after}
 use Rattle.sd_machine.proofs.ShapeLemmas.{set_duty_shape}
 use Rattle.sd_frames.specs.Causes.{IsCause}
@@ -64,6 +60,7 @@ use Rattle.sd_invariants.proofs.Whole.{IsWhole, reached_whole}
 use Rattle.sd_invariants.proofs.Induction.{held_reached}
 use Rattle.sd_invariants.proofs.Named.{acts_named, sleep_chan, wants_lock}
 use Rattle.sd_invariants.proofs.Places.{PlacesAreThere, places_are_there}
+use Rattle.sd_frames.proofs.SetDuties.{joined_duties, assigned_duties, pbound_duties}
 
 -- A duty to pass a lock on is left out: its lock is one that is being passed on.
 abbrev pub IsNamed : Work → Duty → Type 0
@@ -270,44 +267,6 @@ module _ (w : Work) where
 
   -- Sets and bindings.
 
-  close_duties : (s : State) (d : CpuId) (to : SetId) → C.Kept duty_part s (close s d to)
-  unfolding close
-  close_duties s d to = C.then_kept duty_part s _ _ (C.open_kept duty_part s _ _) (C.written duty_part _ d.0 _ refl)
-
-  joined_duties : (s : State) (c : CpuId) (to : SetId) → C.Kept duty_part s (joined s c to)
-  unfolding joined join
-  joined_duties s c to = C.then_kept duty_part s _ _ (C.open_kept duty_part s _ _) (C.written duty_part _ c.0 _ refl)
-
-  assigned_duties : (s : State) (t : ℕ) (d : CpuId) (to : SetId) (answer : AssignAnswer) → C.Kept duty_part s (assigned w s t d to answer)
-  unfolding assigned
-  assigned_duties s t d to assign.Changed =
-      C.then_kept duty_part s _ _ (close_duties s d to) (C.then_kept duty_part _ (cleared (close s d to) d (runner s d.0)) _ (C.cleared_kept duty_part duty_marks _ d _) (C.finish_op_kept duty_part duty_marks w _ t))
-  assigned_duties s t d to assign.EPERM = C.finish_op_kept duty_part duty_marks w s t
-  assigned_duties s t d to assign.EINVAL = C.finish_op_kept duty_part duty_marks w s t
-  assigned_duties s t d to assign.EBUSY = C.finish_op_kept duty_part duty_marks w s t
-
-  bind_duties : (s : State) (t : ℕ) (d : CpuId) → C.Kept duty_part s (bind s t d)
-  unfolding bind
-  bind_duties s t d = C.then_kept duty_part s (with_body s t (record (thread_of s t).body { bound = Some d })) _ (C.thread_kept duty_part s t _) (C.written duty_part _ d.0 _ refl)
-
-  unbind_duties : (s : State) (t : ℕ) (b : CpuId) → C.Kept duty_part s (unbind s t b)
-  unfolding unbind
-  unbind_duties s t b = C.then_kept duty_part s (with_body s t (record (thread_of s t).body { bound = None })) _ (C.thread_kept duty_part s t _) (C.written duty_part _ b.0 _ refl)
-
-  rebound_duties : (s : State) (u : ℕ) (d b : Option CpuId) → C.Kept duty_part s (rebound s u d b)
-  rebound_duties s u (Some d) b = C.then_kept duty_part s _ _ (bind_duties s u d) (C.called_back_kept duty_part duty_marks _ d _)
-  rebound_duties s u None (Some b) = unbind_duties s u b
-  rebound_duties s u None None = C.same_kept duty_part s
-
-  pbound_duties : (s : State) (n t u : ℕ) (d : Option CpuId) (answer : BindAnswer) → C.Kept duty_part s (pbound w s n t u d answer)
-  unfolding pbound
-  pbound_duties s n t u d (bind_answer.Changed at) =
-      C.then_kept duty_part s (rebound s u d (thread_of s u).body.bound) _ (rebound_duties s u d _) (C.then_kept duty_part _ (put_where w (rebound s u d (thread_of s u).body.bound) n u at) _ (C.put_where_kept duty_part duty_marks w _ n u at) (C.finish_op_kept duty_part duty_marks w _ t))
-  pbound_duties s n t u d bind_answer.ESRCH = C.finish_op_kept duty_part duty_marks w s t
-  pbound_duties s n t u d bind_answer.EINVAL = C.finish_op_kept duty_part duty_marks w s t
-  pbound_duties s n t u d bind_answer.EPERM = C.finish_op_kept duty_part duty_marks w s t
-  pbound_duties s n t u d bind_answer.EBUSY = C.finish_op_kept duty_part duty_marks w s t
-
   -- Each event.
 
   -- what an event asks of the places of threads
@@ -336,9 +295,9 @@ module _ (w : Work) where
   effect_named s n c (Age t p) here needs h = aged_named s n c t.0 needs h
   effect_named s n c (Prio t u answer) here needs h = reprioritised_named s n c t.0 u answer needs.0 needs.1 h
   effect_named s n c (CvWait t k l) here needs h = cv_waited_named s n c t.0 k l h
-  effect_named s n c (Assign t d to answer) here needs h = named_kept s _ (assigned_duties s t.0 d to answer) h
+  effect_named s n c (Assign t d to answer) here needs h = named_kept s _ (assigned_duties w s t.0 d to answer) h
   effect_named s n c (Joined to) here needs h = named_kept s _ (joined_duties s c to) h
-  effect_named s n c (Bind t u d answer) here needs h = named_kept s _ (pbound_duties s n t.0 u.0 d answer) h
+  effect_named s n c (Bind t u d answer) here needs h = named_kept s _ (pbound_duties w s n t.0 u.0 d answer) h
   effect_named s n c (Dispatch t p) here needs h = named_kept s _ (C.dispatched_kept duty_part duty_marks s c t.0) h
   effect_named s n c (Steal v t p) here needs h = named_kept s _ (C.stolen_kept duty_part duty_marks s c t.0) h
   effect_named s n c (Preempt t end) here needs h = named_kept s _ (C.preempted_kept duty_part duty_marks w s n c t.0 end) h

@@ -55,7 +55,7 @@ MoverIs s (Go t place) = IsMover s t
 
 -- Places where no thread waits for a lock.
 
-queued_away : (c : ℕ) (p : Place) → is_queued c p ≡ true → is_waiter p ≡ false
+pub queued_away : (c : ℕ) (p : Place) → is_queued c p ≡ true → is_waiter p ≡ false
 queued_away c (Waiting l side k) e = cc
 queued_away c p e = refl
 

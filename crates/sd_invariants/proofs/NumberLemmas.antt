@@ -1,7 +1,6 @@
 -- What each event makes of inherited priorities, and that they stay below 160 and for different locks that are held.
 use Rattle.std.proofs.Common.{◌≡◌, ℕ, ◌<◌, Bool, true, false, ◌||◌, List, length, Option, Some, None, refl, sym, ap, ◌∙◌, subst, arith, ◌⊎◌, inl, inr}
-use Rattle.std.specs.Prelude.{⊤, nat_lt, ◌==◌, if◌then◌else◌}
-use Rattle.std.proofs.lemmas.Bool.Decides.{nat_tests}
+use Rattle.std.specs.Prelude.{⊤, ◌==◌, if◌then◌else◌}
 use Rattle.std.proofs.lemmas.Option.{same_Some}
 use Rattle.sd_types.specs.declared.numbers.CpuId.{CpuId}
 use Rattle.sd_types.specs.declared.numbers.LockId.{LockId}
@@ -26,12 +25,10 @@ use Rattle.sd_types.specs.declared.events.Duty.{Duty}
 use Rattle.sd_types.specs.declared.events.Duty.TheVariants as duty
 use Rattle.sd_types.specs.declared.bodies.ThreadBody.{ThreadBody}
 use Rattle.sd_types.specs.Priorities.{eff, base_of}
-use Rattle.sd_types.specs.Scripts.{is_lock, is_held, without_lock}
-use Rattle.sd_types.specs.Willed.{Numbers, changed_number, without_number, with_number, same_lock, IsSound}
-use Rattle.sd_types.specs.Works.{is_distinct}
-use Rattle.std.specs.List.{list_all}
+use Rattle.sd_types.specs.Scripts.{is_held, without_lock}
+use Rattle.sd_types.specs.Willed.{changed_number, without_number, with_number, IsSound}
 use Rattle.sd_types.proofs.PriorityLemmas.{greatest-below}
-use Rattle.sd_types.proofs.WilledLemmas.{sound-with, sound-without, sound-taken, sound-released}
+use Rattle.sd_types.proofs.WilledLemmas.{sound-with, sound-without, sound-taken, sound-released, sound_is}
 use Rattle.sd_state.specs.declared.states.ThreadState.{ThreadState}
 use Rattle.sd_state.specs.States.{no_thread}
 use Rattle.sd_machine.specs.Threads.{is_waiting, greatest_waiting, greater}
@@ -44,6 +41,7 @@ use Rattle.sd_frames.proofs.Words.{Same, plain_same, set_duty_same, then_same}
 use Rattle.sd_frames.proofs.HoldTable.{held_part, numbers_part, numbers_moves, numbers_ops, Goes, owned_numbers, read_numbers, exited_numbers, cv_waited_numbers, granted_to_writer_numbers, granted_to_reader_numbers, willed_numbers, pbound_numbers}
 use Rattle.sd_invariants.proofs.ScriptLemmas.{HeldGo, after_held, ender_in, waits_here}
 use Rattle.sd_invariants.proofs.AgreedAfter.{IsReady, not_held, waiter_not_held}
+use Rattle.sd_types.proofs.ScriptLemmas.{held_last}
 
 -- The changes.
 
@@ -89,28 +87,6 @@ after_numbers w s n c (Bind t u d answer) here = special_numbers w s n c (Bind t
 after_numbers w s n c e here = plain_same numbers_part numbers_moves numbers_ops w s n c e refl
 
 -- Soundness looks at the two lists alone.
-
-pub sound_is : (b d : ThreadBody) → d.willed.items ≡ b.willed.items → d.held.items ≡ b.held.items → IsSound b → IsSound d
-sound_is b d willed held is = record {
-  below = subst (λ (ws : Numbers). list_all (λ w. nat_lt w.1 160) ws ≡ true) (sym willed) is.below;
-  apart = subst (λ (ws : Numbers). is_distinct same_lock ws ≡ true) (sym willed) is.apart;
-  owned = subst (λ (ws : Numbers). list_all (λ w. is_held w.0 d.held.items) ws ≡ true) (sym willed) (subst (λ (ls : List LockId). list_all (λ w. is_held w.0 ls) b.willed.items ≡ true) (sym held) is.owned);
-  held_once = subst (λ (ls : List LockId). is_distinct is_lock ls ≡ true) (sym held) is.held_once;
-}
-
-lock_self : (l : LockId) → is_lock l l ≡ true
-lock_self l = self l.0
-  where
-    self : (n : ℕ) → (n == n) ≡ true
-    self n = grind (arith, nat_tests)
-
-held_last : (l : LockId) (ls : List LockId) → is_held l (ls ++ l ∷ []) ≡ true
-held_last l [] = rw (lock_self l) refl
-held_last l (m ∷ ls) = or_true (is_lock l m) (held_last l ls)
-  where
-    or_true : (a : Bool) {b : Bool} → b ≡ true → (a || b) ≡ true
-    or_true true e = refl
-    or_true false e = e
 
 -- each thread's inherited priorities are sound, and its base priority is below 160
 pub record IsFine (x : ThreadState) : Type 0 where

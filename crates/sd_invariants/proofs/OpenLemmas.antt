@@ -35,18 +35,18 @@ use Rattle.std.proofs.lemmas.Bool.{cases_eq, cases_lt, false≢true, eqb-true}
 use Rattle.std.proofs.lemmas.Bool.Decides.{nat_tests}
 use Rattle.std.proofs.lemmas.List.{get_or_past, get_or-set_same, get_or-set_other}
 use Rattle.std.proofs.lemmas.List.FromFn.{get_or-map-range_with_len, length-map-range_with_len}
+use Rattle.sd_basics.proofs.Lists.{set_past}
 use Rattle.sd_types.specs.Partitions.{set_of_cpu, cpu_of_number, cpus_of_set}
 use Rattle.sd_state.specs.Opening.{first_cpu_state, open_list, opening}
 use Rattle.sd_machine.specs.Threads.{no_cpus, open_of, with_open}
 use Rattle.sd_machine.specs.Changes.{with_cpu_in, without_cpu}
 use Rattle.sd_state.specs.States.{with_cpu}
-use Rattle.sd_basics.proofs.Lists.{set_past}
 use Rattle.sd_invariants.proofs.AgreedAfter.{IsReady}
 use Rattle.sd_invariants.proofs.Ready.{IsKept}
 
 -- Lists of processors.
 
-in_later : (c : ℕ) (d : CpuId) (ds : List CpuId) → is_in c (d ∷ ds) ≡ true → (d.0 ≡ c) ⊎ (is_in c ds ≡ true)
+pub in_later : (c : ℕ) (d : CpuId) (ds : List CpuId) → is_in c (d ∷ ds) ≡ true → (d.0 ≡ c) ⊎ (is_in c ds ≡ true)
 in_later c d ds e = by (d.0 == c) refl e
   where
     by : (b : Bool) → (d.0 == c) ≡ b → (b || is_in c ds) ≡ true → (d.0 ≡ c) ⊎ (is_in c ds ≡ true)
@@ -63,7 +63,7 @@ not_here c d ds e = by (d.0 == c) refl e
         self : d.0 ≡ c → (d.0 == c) ≡ true
         self same = grind (arith, nat_tests)
 
-rising_less : (n m : ℕ) (xs : List CpuId) → n ≤ m → IsRising m xs → IsRising n xs
+pub rising_less : (n m : ℕ) (xs : List CpuId) → n ≤ m → IsRising m xs → IsRising n xs
 rising_less n m [] le r = tt
 rising_less n m (x ∷ xs) le (a, r) = (omega (arith, le, a), r)
 
@@ -126,7 +126,7 @@ in_with x c (y ∷ ys) e = by (nat_lt c.0 y.0) (λ f. in_with x c ys f) e
     ]
 
 -- a rising list of numbers below m has no more than m of them
-rising_many : (n m : ℕ) (xs : List CpuId) → n ≤ m → IsRising n xs → ((c : ℕ) → is_in c xs ≡ true → c < m) → length xs + n ≤ m
+pub rising_many : (n m : ℕ) (xs : List CpuId) → n ≤ m → IsRising n xs → ((c : ℕ) → is_in c xs ≡ true → c < m) → length xs + n ≤ m
 rising_many n m [] le r below = omega (arith, le)
 rising_many n m (x ∷ xs) le (a, r) below =
     let here : x.0 < m = below x.0 (rw (self x.0) refl) in
@@ -434,7 +434,7 @@ open_kept w s n c e ready cause holds = same_hold w s (after w s n c e) (cpus_sa
 
 -- The initial state.
 
-range_rises : (q : ℕ → Bool) (n k : ℕ) → IsRising n (map cpu_of_number (filter q (range_with_len n k)))
+pub range_rises : (q : ℕ → Bool) (n k : ℕ) → IsRising n (map cpu_of_number (filter q (range_with_len n k)))
 range_rises q n zero = tt
 range_rises q n (suc k) = by (q n) (range_rises q (n + 1) k)
   where

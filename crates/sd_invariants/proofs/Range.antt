@@ -65,7 +65,7 @@ either : (a : Bool) {d : Bool} → d ≡ true → (a || d) ≡ true
 either true e = refl
 either false e = e
 
-in_filter : (p : CpuId → Bool) (c : ℕ) (xs : List CpuId) → is_in c (filter p xs) ≡ true → is_in c xs ≡ true
+pub in_filter : (p : CpuId → Bool) (c : ℕ) (xs : List CpuId) → is_in c (filter p xs) ≡ true → is_in c xs ≡ true
 in_filter p c [] e = e
 in_filter p c (x ∷ xs) e = by (p x) (λ f. in_filter p c xs f) e
   where

@@ -1,5 +1,5 @@
 -- At most one thread runs on each processor.
-use Rattle.std.proofs.Common.{◌≡◌, ℕ, ◌<◌, Bool, true, false, ◌&&◌, List, length, Option, Some, None, refl, sym, ap, ◌∙◌, subst, arith, inl, inr}
+use Rattle.std.proofs.Common.{◌≡◌, ℕ, ◌<◌, Bool, true, false, ◌&&◌, length, Option, Some, None, refl, sym, ap, ◌∙◌, subst, arith, inl, inr}
 use Rattle.std.specs.Prelude.{⊤, nat_lt, nat_le, ◌==◌, if◌then◌else◌, is_none, ℤ}
 use Rattle.std.proofs.lemmas.Bool.Decides.{nat_tests}
 use Rattle.sd_types.specs.declared.numbers.CpuId.{CpuId}
@@ -34,8 +34,7 @@ use Rattle.sd_types.specs.declared.bodies.ThreadBody.{ThreadBody}
 use Rattle.sd_types.specs.Priorities.{eff}
 use Rattle.sd_state.specs.declared.states.ThreadState.{ThreadState}
 use Rattle.sd_state.specs.States.{no_thread}
-use Rattle.sd_state.specs.Opening.{first_cpu, is_urgent, first_thread, first_threads, opening}
-use Rattle.sd_types.specs.declared.works.ThreadDecl.{ThreadDecl}
+use Rattle.sd_state.specs.Opening.{opening}
 use Rattle.sd_machine.specs.Changes.{queue_place, place_put, key_at}
 use Rattle.sd_machine.specs.Events.{after}
 use Rattle.sd_machine.proofs.ShapeLemmas.{after_shape}
@@ -43,8 +42,8 @@ use Rattle.sd_state.specs.Invariants.{OneRuns}
 use Rattle.sd_frames.proofs.PlaceTable.{after_steps, step_needs}
 use Rattle.sd_invariants.proofs.Movers.{mover_there}
 use Rattle.sd_invariants.proofs.AgreedAfter.{IsReady}
-use Rattle.std.specs.Prelude.{pos}
-use Rattle.std.proofs.Common.{get_or, [], ◌∷◌, zero, suc, ◌+◌}
+use Rattle.std.proofs.Common.{[], ◌∷◌, ◌+◌}
+use Rattle.sd_state.proofs.Openings.{none_running}
 
 -- where no runner is found, no thread runs
 nobody_runs : (s : State) (c : ℕ) → runner s c ≡ None → (t : ℕ) → t < length s.threads → is_running c (thread_of s t).place ≡ false
@@ -150,16 +149,6 @@ pub one_kept : (w : Work) (s : State) (n : ℕ) (c : CpuId) (e : Event) → IsRe
 one_kept w s n c e ready cause one =
     one_after (step_of w s n c e) s (after w s n c e) (after_shape w s n c e).threads (after_steps w s n c e (step_needs w s c.0 e cause) (mover_there w s n c e ready.fits ready.agreed cause)) (starts_well w s n c e cause) one
 
--- in the initial state none runs
-first_still : (w : Work) (t : ℕ) (d : ThreadDecl) (x : ℕ) → is_running x (first_thread w t d).place ≡ false
-unfolding first_thread
-first_still w t d x = elim (is_urgent d) as (λ b. is_running x (if b then RealTime d.set (pos t) else Queued (first_cpu w t d) (pos t)) ≡ false) [ true ↦ refl | false ↦ refl ]
-
-all_still : (w : Work) (k : ℕ) (ds : List ThreadDecl) (t x : ℕ) → is_running x (get_or (first_threads w k ds) t no_thread).place ≡ false
-all_still w k [] t x = refl
-all_still w k (d ∷ ds) zero x = first_still w k d x
-all_still w k (d ∷ ds) (suc t) x = all_still w (k + 1) ds t x
-
 pub opening_one : (w : Work) → OneRuns (opening w)
 unfolding opening
-opening_one w = λ t u c t_in u_in t_on u_on. absurd (false≢true (sym (all_still w 0 w.threads t c) ∙ t_on))
+opening_one w = λ t u c t_in u_in t_on u_on. absurd (false≢true (sym (none_running w 0 w.threads t c) ∙ t_on))

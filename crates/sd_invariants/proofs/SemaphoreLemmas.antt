@@ -149,7 +149,7 @@ pub joined_counts : (s : State) (c : CpuId) (to : SetId) → (joined s c to).cou
 unfolding joined join
 joined_counts s c to = refl
 
-assigned_counts : (w : Work) (s : State) (t : ℕ) (d : CpuId) (to : SetId) (answer : AssignAnswer) → (assigned w s t d to answer).counts ≡ s.counts
+pub assigned_counts : (w : Work) (s : State) (t : ℕ) (d : CpuId) (to : SetId) (answer : AssignAnswer) → (assigned w s t d to answer).counts ≡ s.counts
 unfolding assigned
 assigned_counts w s t d to assign.Changed =
     finish_counts w (cleared (close s d to) d (runner s d.0)) t ∙ (F.cleared_kept counts_field (λ s t x. refl) (λ s c x. refl) (close s d to) d (runner s d.0)).same ∙ closed

@@ -1,9 +1,9 @@
 -- Each duty to pass on a lock goes on serving somebody, through each event.
-use Rattle.std.proofs.Common.{◌≡◌, ◌≢◌, ℕ, zero, suc, ◌<◌, Bool, true, false, List, [], ◌∷◌, length, Option, Some, refl, sym, ap, ◌∙◌, subst, arith, ◌⊎◌, inl, inr}
+use Rattle.std.proofs.Common.{◌≡◌, ◌≢◌, ℕ, zero, suc, ◌<◌, Bool, true, false, List, [], ◌∷◌, length, Some, refl, sym, ap, ◌∙◌, subst, arith, ◌⊎◌, inl, inr}
 use Rattle.std.specs.Prelude.{slice_get, map, nat_lt}
 use Rattle.std.proofs.lemmas.Bool.{cases_eq}
 use Rattle.std.proofs.lemmas.Bool.Decides.{nat_tests}
-use Rattle.sd_basics.proofs.Truths.{and_left, and_right}
+use Rattle.sd_basics.proofs.Truths.{and_right}
 use Rattle.sd_types.specs.declared.numbers.ChanId.{ChanId}
 use Rattle.sd_types.specs.declared.numbers.CpuId.{CpuId}
 use Rattle.sd_types.specs.declared.numbers.LockId.{LockId}
@@ -15,7 +15,6 @@ use Rattle.sd_types.specs.declared.events.Duty.TheVariants as duty
 use Rattle.sd_types.specs.declared.events.Event.{Event}
 use Rattle.sd_types.specs.declared.events.Event.TheVariants.{Rouse, Enter, Read, Write, Block, Exit, Unblock, Grant, Passed, Age, CvWait}
 use Rattle.sd_types.specs.declared.events.Put.{Put}
-use Rattle.sd_types.specs.declared.scripts.Op.{Op}
 use Rattle.sd_types.specs.declared.scripts.Op.TheVariants as op
 use Rattle.sd_types.specs.declared.works.LockKind.{LockKind}
 use Rattle.sd_types.specs.declared.works.LockKind.TheVariants.{Mutex, Rwlock}
@@ -47,7 +46,6 @@ use Rattle.sd_invariants.proofs.Waiters.{Stays, quiet_stays, others_stay, side_w
 use Rattle.sd_state.proofs.Declared.{declared}
 use Rattle.sd_invariants.proofs.Works.{op_named}
 use Rattle.sd_machine.proofs.HolderLemmas.{count_one}
-use Rattle.sd_types.specs.Scripts.{is_held, op_fits}
 use Rattle.sd_invariants.proofs.AgreedAfter.{IsReady, IsNext, holds_it}
 use Rattle.sd_invariants.proofs.AgreedEvents.{cause_pass}
 use Rattle.sd_frames.proofs.ReleaseLemmas.{Suits, Outcome, exit_outcome, cv_wait_outcome}
@@ -57,6 +55,7 @@ use Rattle.sd_frames.proofs.PassLemmas.Woken.{more, last}
 use Rattle.sd_frames.proofs.PassLemmas.Granted.{to_writer, to_reader}
 use Rattle.sd_frames.proofs.PassLemmas.Passed.{to_readers, writer_next, to_nobody, otherwise}
 use Rattle.std.proofs.lemmas.Option.{slice_get-map}
+use Rattle.sd_types.proofs.ScriptLemmas.{gives_exit, gives_wait}
 
 -- One duty.
 
@@ -340,12 +339,6 @@ module _ (w : Work) (s : State) (n : ℕ) (c : CpuId) (ready : IsReady w s) (c_i
       let many = ready.agreed.holders l.0 in
       let none : H.holders_of ((table s).lock l.0) ≡ 0 = ap (λ y. H.holders_of (lock_state y)) free in
       omega arith
-
-  gives_exit : (l : LockId) (after : Option Op) (held : List LockId) → op_fits held (op.Exit l) after ≡ true → is_held l held ≡ true
-  gives_exit l after held e = e
-
-  gives_wait : (k : ChanId) (l : LockId) (after : Option Op) (held : List LockId) → op_fits held (op.CvWait k l) after ≡ true → is_held l held ≡ true
-  gives_wait k l after held e = and_left (is_held l held) _ e
 
   pub exit_busy : (t : ThreadId) (l : LockId) → IsCause w s c.0 (Exit t l) → lock_of s l.0 ≢ Free
   exit_busy t l acts = held_busy t.0 l (runner_found s c.0 t.0 acts.runs).inside (holds_it w s n c ready t.0 (op.Exit l) l acts (gives_exit l))

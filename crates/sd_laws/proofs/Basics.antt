@@ -1,7 +1,6 @@
 -- Small facts on numbers, tests, options and places.
-use Rattle.std.proofs.Common.{◌≡◌, ℕ, true, false, Option, Some, None, is_none, refl, sym, ap, ◌∙◌}
+use Rattle.std.proofs.Common.{◌≡◌, ℕ, true, false, Option, Some, None, is_none, refl, sym, ◌∙◌}
 use Rattle.std.proofs.lemmas.Bool.{eqb-true}
-use Rattle.sd_types.specs.declared.numbers.CpuId.{CpuId}
 use Rattle.sd_state.specs.declared.states.Place.{Place}
 use Rattle.sd_state.specs.declared.states.Place.TheVariants.{Running, Queued}
 use Rattle.sd_state.specs.States.{is_running, is_queued}
@@ -13,9 +12,6 @@ none_of None e = refl
 none_of (Some x) e = cc
 
 -- Numbers that are equal are of equal sets and processors.
-
-pub same_cpu : (c d : CpuId) → c.0 ≡ d.0 → c ≡ d
-same_cpu c d e = ap (λ (n : ℕ). let r : CpuId = record { 0 = n } in r) e
 
 -- Places.
 

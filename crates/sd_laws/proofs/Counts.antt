@@ -11,9 +11,7 @@ use Rattle.sd_basics.proofs.Truths.{and_left}
 use Rattle.sd_types.specs.declared.names.Name.{Name}
 use Rattle.sd_types.specs.declared.numbers.ChanId.{ChanId}
 use Rattle.sd_types.specs.declared.numbers.CpuId.{CpuId}
-use Rattle.sd_types.specs.declared.numbers.SetId.{SetId}
 use Rattle.sd_types.specs.declared.numbers.ThreadId.{ThreadId}
-use Rattle.sd_types.specs.declared.events.AssignAnswer.{AssignAnswer}
 use Rattle.sd_types.specs.declared.events.AssignAnswer.TheVariants as assign
 use Rattle.sd_types.specs.declared.events.Entry.{Entry}
 use Rattle.sd_types.specs.declared.events.Event.{Event}
@@ -31,12 +29,11 @@ use Rattle.sd_state.specs.declared.states.State.{State}
 use Rattle.sd_state.specs.Opening.{count_of as count_in, first_count, first_cpu, is_urgent, first_thread, first_threads, opening}
 use Rattle.sd_state.specs.States.{no_thread, thread_of}
 use Rattle.sd_machine.specs.Accounts.{entries_of}
-use Rattle.sd_machine.specs.Changes.{back_key, finish_op, set_duty, close}
+use Rattle.sd_machine.specs.Changes.{back_key, finish_op, set_duty}
 use Rattle.sd_machine.specs.Conditions.{sema_taken, sema_counted}
 use Rattle.sd_machine.specs.Events.{drop_ageing, effect, after}
 use Rattle.sd_machine.specs.Runs.{final, IsRunFrom}
-use Rattle.sd_machine.specs.SetChanges.{cleared, assigned}
-use Rattle.sd_machine.specs.Threads.{count_of, best_sleeper, runner}
+use Rattle.sd_machine.specs.Threads.{count_of, best_sleeper}
 use Rattle.sd_machine.proofs.RunLemmas.{IsRun-from}
 use Rattle.sd_frames.specs.Causes.{IsCause}
 use Rattle.sd_invariants.specs.Laws.{HoldsWhenReached}
@@ -48,7 +45,7 @@ use Rattle.sd_frames.proofs.PlaceTable.{Stepped}
 use Rattle.sd_invariants.proofs.Ready.{kept_reached, next_ready, opening_ready, ready_cause}
 use Rattle.sd_frames.proofs.SideFields.{after_keeps}
 use Rattle.sd_invariants.proofs.Works.{op_named}
-use Rattle.sd_invariants.proofs.SemaphoreLemmas.{finish_counts, close_counts, joined_counts}
+use Rattle.sd_invariants.proofs.SemaphoreLemmas.{joined_counts, assigned_counts}
 use Rattle.sd_laws.specs.HistoryLaws.{put_to_sleep, runs_or_is_runnable, is_taken, is_counted_up, declared_count, chan_kind, SemaphoresAreCounted, SleepersWaitAtZero}
 use Rattle.sd_laws.proofs.Runnable.{IsLiveStep, live_step, steps_after}
 use Rattle.sd_laws.proofs.Sleepers.{sleeps, someone_asleep}
@@ -62,14 +59,6 @@ abbrev CountsGo : State → State → Event → Type 0
 CountsGo s r (SemaP t k) = r.counts ≡ set s.counts k.0 (count_of s k.0 - 1)
 CountsGo s r (SemaVCount t k m) = r.counts ≡ set s.counts k.0 (count_of s k.0 + 1)
 CountsGo s r _ = r.counts ≡ s.counts
-
-assigned_counts : (w : Work) (s : State) (t : ℕ) (d : CpuId) (to : SetId) (answer : AssignAnswer) → (assigned w s t d to answer).counts ≡ s.counts
-unfolding assigned
-assigned_counts w s t d to assign.Changed =
-    finish_counts w (cleared (close s d to) d (runner s d.0)) t ∙ (F.cleared_kept counts_field (λ s t x. refl) (λ s c x. refl) (close s d to) d (runner s d.0)).same ∙ close_counts s d to
-assigned_counts w s t d to assign.EPERM = finish_counts w s t
-assigned_counts w s t d to assign.EINVAL = finish_counts w s t
-assigned_counts w s t d to assign.EBUSY = finish_counts w s t
 
 counts_after : (w : Work) (s : State) (n : ℕ) (c : CpuId) (e : Event) → CountsGo s (after w s n c e) e
 unfolding after effect drop_ageing set_duty sema_taken sema_counted finish_op

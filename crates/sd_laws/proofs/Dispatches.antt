@@ -7,8 +7,9 @@ use Rattle.sd_frames.proofs.Found.{ready_found, unbound_found}
 use Rattle.sd_invariants.proofs.Ready.{ready_cause, reached_ready}
 use Rattle.sd_laws.specs.Changes.{BoundAreDispatchedAtHome, StolenAreUnbound}
 use Rattle.sd_laws.proofs.All.{known, threads_belong}
-use Rattle.sd_laws.proofs.Basics.{none_of, same_cpu}
+use Rattle.sd_laws.proofs.Basics.{none_of}
 use Rattle.sd_laws.proofs.Outcomes.{ready_at}
+use Rattle.sd_types.proofs.SameLemmas.{same_cpu}
 
 pub dispatched_at_home : BoundAreDispatchedAtHome
 dispatched_at_home w n s c hints t p d reached makes bound =

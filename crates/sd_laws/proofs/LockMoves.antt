@@ -1,8 +1,7 @@
 -- Events that block a thread, take a lock, give one up or pass one on, as moves of the lock graph.
 use Rattle.std.proofs.Common.{◌≡◌, ◌≢◌, ℕ, ◌-◌, ◌<◌, true, false, length, set, Option, Some, None, refl, sym, ap, ◌∙◌, subst, inl, inr}
-use Rattle.std.specs.Prelude.{option_map, List}
+use Rattle.std.specs.Prelude.{option_map}
 use Rattle.std.proofs.lemmas.Bool.{cases_eq}
-use Rattle.sd_basics.proofs.Truths.{and_left}
 use Rattle.sd_types.specs.declared.numbers.ChanId.{ChanId}
 use Rattle.sd_types.specs.declared.numbers.CpuId.{CpuId}
 use Rattle.sd_types.specs.declared.numbers.LockId.{LockId}
@@ -12,11 +11,9 @@ use Rattle.sd_types.specs.declared.numbers.ThreadId.{ThreadId}
 use Rattle.sd_types.specs.declared.events.Duty.TheVariants as duty
 use Rattle.sd_types.specs.declared.events.Event.TheVariants.{Enter, Write, Block, Exit, Unblock, Grant, CvWait}
 use Rattle.sd_types.specs.declared.events.Put.{Put}
-use Rattle.sd_types.specs.declared.scripts.Op.{Op}
 use Rattle.sd_types.specs.declared.scripts.Op.TheVariants as op
 use Rattle.sd_types.specs.declared.works.Work.{Work}
 use Rattle.sd_types.specs.Priorities.{eff}
-use Rattle.sd_types.specs.Scripts.{is_held, op_fits}
 use Rattle.sd_types.specs.Willed.{without_number, changed_number}
 use Rattle.sd_machine.specs.Graphs as G
 use Rattle.sd_machine.proofs.HolderLemmas.{owner_alone, free_unheld}
@@ -62,6 +59,7 @@ use Rattle.sd_laws.proofs.QuietMoves.{seen_eff, seen_eff_but, runs_away, steps, 
 use Rattle.sd_laws.proofs.Views.{no_wait, quiet_waits, leaves_waits, comes_waits, same_owners, put_owners, kept_owners, same_willed, its_willed, other_willed}
 use Rattle.sd_laws.proofs.WalkTable.{walk_part, walk_marks, Walks, drop_walks, after_walks, cause_walks}
 use Rattle.std.proofs.lemmas.Option.{same_Some}
+use Rattle.sd_types.proofs.ScriptLemmas.{gives_exit, gives_wait}
 
 module _ (w : Work) (s : State) (n : ℕ) (c : CpuId) (ready : IsReady w s) where
   -- A thread blocks.
@@ -209,9 +207,6 @@ module _ (w : Work) (s : State) (n : ℕ) (c : CpuId) (ready : IsReady w s) wher
   unfolding drop_ageing set_duty
   exit_left t l here busy = left_of (drop_ageing s c.0 (Exit t l)) (after w s n c (Exit t l)) l (lock_of s l.0) refl refl busy (exit_outcome w s n c t l here)
 
-  gives_exit : (l : LockId) (next : Option Op) (held : List LockId) → op_fits held (op.Exit l) next ≡ true → is_held l held ≡ true
-  gives_exit l next held e = e
-
   pub exit_move : (t : ThreadId) (l : LockId) → c.0 < length s.cpus → G.IsLocal (graph s) → IsCause w s c.0 (Exit t l) → IsGivenUp (after w s n c (Exit t l)) t.0 l.0
   exit_move t l here local cause =
       let holds : (table s).holds t.0 l.0 ≡ true = holds_it w s n c ready t.0 (op.Exit l) l cause (gives_exit l) in
@@ -235,9 +230,6 @@ module _ (w : Work) (s : State) (n : ℕ) (c : CpuId) (ready : IsReady w s) wher
   cv_wait_left : (t : ThreadId) (k : ChanId) (l : LockId) → c.0 < length s.cpus → lock_of s l.0 ≢ Free → Left (after w s n c (CvWait t k l)) l.0
   unfolding drop_ageing set_duty
   cv_wait_left t k l here busy = left_of (drop_ageing s c.0 (CvWait t k l)) (after w s n c (CvWait t k l)) l (lock_of s l.0) refl refl busy (cv_wait_outcome w s n c t k l here)
-
-  gives_wait : (k : ChanId) (l : LockId) (next : Option Op) (held : List LockId) → op_fits held (op.CvWait k l) next ≡ true → is_held l held ≡ true
-  gives_wait k l next held e = and_left (is_held l held) _ e
 
   pub cv_wait_move : (t : ThreadId) (k : ChanId) (l : LockId) → c.0 < length s.cpus → G.IsLocal (graph s) → IsCause w s c.0 (CvWait t k l) → IsGivenUp (after w s n c (CvWait t k l)) t.0 l.0
   cv_wait_move t k l here local cause =

@@ -1,6 +1,6 @@
 -- The open list of a set is exact: each processor of the set that is not closing is in it.
-use Rattle.std.proofs.Common.{◌≡◌, ◌≢◌, ℕ, zero, suc, ◌+◌, ◌<◌, ◌≤◌, Bool, true, false, not, ◌&&◌, ◌||◌, List, [], ◌∷◌, length, get_or, Option, Some, None, refl, sym, ap, ◌∙◌, subst, inl, inr, ◌⊎◌, arith}
-use Rattle.std.specs.Prelude.{if◌then◌else◌, is_none, map, filter, nat_lt, ◌==◌, IfSome}
+use Rattle.std.proofs.Common.{◌≡◌, ◌≢◌, ℕ, ◌+◌, ◌<◌, ◌≤◌, Bool, true, false, not, ◌&&◌, ◌||◌, List, [], ◌∷◌, length, get_or, Option, Some, None, refl, sym, ap, ◌∙◌, subst, inl, inr, ◌⊎◌, arith}
+use Rattle.std.specs.Prelude.{if◌then◌else◌, is_none, map, nat_lt, ◌==◌, IfSome}
 use Rattle.std.specs.List.{range_with_len}
 use Rattle.std.proofs.lemmas.Bool.{cases_eq, eq-eqb, eqb-true, false≢true, or_right, and_from}
 use Rattle.std.proofs.lemmas.Bool.Decides.{nat_tests}
@@ -17,7 +17,7 @@ use Rattle.sd_types.specs.declared.events.Event.{Event}
 use Rattle.sd_types.specs.declared.events.Event.TheVariants.{Assign, Joined}
 use Rattle.sd_types.specs.declared.scripts.Op.TheVariants as op
 use Rattle.sd_types.specs.declared.works.Work.{Work}
-use Rattle.sd_types.specs.Partitions.{set_of_cpu, cpus_of_set, cpu_of_number}
+use Rattle.sd_types.specs.Partitions.{set_of_cpu, cpus_of_set}
 use Rattle.sd_state.specs.declared.states.CpuState.{CpuState}
 use Rattle.sd_state.specs.declared.states.State.{State}
 use Rattle.sd_state.specs.States.{no_cpu, cpu_of, with_cpu}
@@ -36,15 +36,16 @@ use Rattle.sd_frames.proofs.Parts.{put_item}
 use Rattle.sd_frames.proofs.CpuWords as C
 use Rattle.sd_frames.proofs.FieldWords as F
 use Rattle.sd_frames.proofs.PlainWords.{drop_keeps}
-use Rattle.sd_invariants.proofs.OpenLemmas.{place_part, place_marks, places_plain, SamePlaces, cpus_same, open_field, finish_open, open_same, other_place}
+use Rattle.sd_invariants.proofs.OpenLemmas.{place_part, place_marks, places_plain, SamePlaces, cpus_same, open_field, finish_open, open_same, other_place, in_later, range_rises}
 use Rattle.sd_invariants.proofs.Whole.{reached_whole}
 use Rattle.sd_invariants.specs.There.{IsSetThere}
 use Rattle.sd_invariants.proofs.Induction.{held_reached}
 use Rattle.sd_invariants.proofs.Named.{acts_named, assign_cpu}
 use Rattle.sd_invariants.proofs.Sets.{SetsAreThere, sets_are_there, sets_are_open, open_written}
 use Rattle.sd_laws.specs.Belonging.{open_cpus, OpenListsAreExact}
-use Rattle.sd_laws.proofs.Basics.{none_of, same_cpu}
+use Rattle.sd_laws.proofs.Basics.{none_of}
 use Rattle.std.proofs.lemmas.Option.{none-some}
+use Rattle.sd_types.proofs.SameLemmas.{same_cpu}
 
 -- Lists of processors.
 
@@ -220,14 +221,7 @@ are_listed = held_reached AreListed (record {
 
 -- Rising lists with the same members are equal.
 
-in_later : (c : ℕ) (d : CpuId) (ds : List CpuId) → is_in c (d ∷ ds) ≡ true → (d.0 ≡ c) ⊎ (is_in c ds ≡ true)
-in_later c d ds e = by (d.0 == c) refl e
-  where
-    by : (b : Bool) → (d.0 == c) ≡ b → (b || is_in c ds) ≡ true → (d.0 ≡ c) ⊎ (is_in c ds ≡ true)
-    by true is e = inl (grind (arith, nat_tests))
-    by false is e = inr e
-
-in_first : (d : CpuId) (ds : List CpuId) → is_in d.0 (d ∷ ds) ≡ true
+pub in_first : (d : CpuId) (ds : List CpuId) → is_in d.0 (d ∷ ds) ≡ true
 in_first d ds = rw (same_itself d.0) refl
 
 rising_least : (n c : ℕ) (xs : List CpuId) → IsRising n xs → is_in c xs ≡ true → n ≤ c
@@ -265,21 +259,9 @@ rising_equal n (x ∷ xs) (y ∷ ys) (least, a) (least', b) to from =
       | inr later ↦ later
     ]
 
-rising_more : (n m : ℕ) (xs : List CpuId) → n ≤ m → IsRising m xs → IsRising n xs
-rising_more n m [] le rises = tt
-rising_more n m (x ∷ xs) le (least, rises) = (omega (arith, le, least), rises)
-
-passing_rise : (q : ℕ → Bool) (n m : ℕ) → IsRising n (map cpu_of_number (filter q (range_with_len n m)))
-passing_rise q n zero = tt
-passing_rise q n (suc m) = by (q n) (passing_rise q (n + 1) m)
-  where
-    by : (b : Bool) → IsRising (n + 1) (map cpu_of_number (filter q (range_with_len (n + 1) m))) → IsRising n (map cpu_of_number (if b then (n ∷ filter q (range_with_len (n + 1) m)) else filter q (range_with_len (n + 1) m)))
-    by true rest = (omega arith, rest)
-    by false rest = rising_more n (n + 1) (map cpu_of_number (filter q (range_with_len (n + 1) m))) (omega arith) rest
-
 pub open_lists_are_exact : HoldsWhenReached OpenListsAreExact
 open_lists_are_exact w n s reached p there = record {
-  exact = rising_equal 0 (open_of s p) (open_cpus w s p) (holds.rising p) (passing_rise passes 0 w.cpus) to from;
+  exact = rising_equal 0 (open_of s p) (open_cpus w s p) (holds.rising p) (range_rises passes 0 w.cpus) to from;
   some = sets_are_open w n s reached p there;
 }
   where

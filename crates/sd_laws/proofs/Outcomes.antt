@@ -1,8 +1,8 @@
 -- What an event comes to, of where threads stand, of priorities and of marks; and that a thread which goes to a place belongs there.
-use Rattle.std.proofs.Common.{◌≡◌, ◌≢◌, ℕ, ◌<◌, ◌≤◌, Bool, true, false, not, ◌&&◌, ◌||◌, List, [], ◌∷◌, length, Option, Some, None, is_none, refl, sym, ap, ◌∙◌, subst, inl, inr, ◌⊎◌, arith, ℤ}
+use Rattle.std.proofs.Common.{◌≡◌, ◌≢◌, ℕ, ◌<◌, ◌≤◌, Bool, true, false, not, ◌&&◌, ◌||◌, [], ◌∷◌, length, Option, Some, None, is_none, refl, sym, ap, ◌∙◌, subst, inl, inr, ◌⊎◌, arith, ℤ}
 use Rattle.std.specs.Prelude.{if◌then◌else◌, filter, nat_lt, nat_le, ◌==◌}
 use Rattle.std.specs.List.{Contains}
-use Rattle.std.proofs.lemmas.Bool.{eqb-true, or_right}
+use Rattle.std.proofs.lemmas.Bool.{eqb-true}
 use Rattle.std.proofs.lemmas.Bool.Decides.{nat_tests}
 use Rattle.std.proofs.lemmas.Option.{same_Some, none-some}
 use Rattle.sd_types.specs.declared.numbers.CpuId.{CpuId}
@@ -28,9 +28,10 @@ use Rattle.sd_invariants.specs.Laws.{is_in, is_runnable}
 use Rattle.sd_invariants.proofs.Whole.{IsWhole}
 use Rattle.sd_laws.specs.Belonging.{MayQueue, MayRun, BelongsAt, ThreadsBelong}
 use Rattle.sd_laws.proofs.Alike.{Weight, heft, Alike, Weighed}
-use Rattle.sd_laws.proofs.Basics.{same_cpu}
 use Rattle.sd_laws.proofs.Goes.{All, Others, Goes, Single, Puts}
 use Rattle.sd_invariants.proofs.Places.{only_item, never_stays, never_anew}
+use Rattle.sd_types.proofs.SameLemmas.{same_cpu}
+use Rattle.sd_invariants.proofs.Range.{in_filter}
 
 -- what is known of a state of a run
 pub record Known (w : Work) (s : State) : Type 0 where
@@ -72,18 +73,6 @@ pub data Outcome (w : Work) (s r : State) (c : ℕ) : Type 0 where
   comes : (t : ℕ) (k : CpuId) (x : Weight) → k.0 ≡ c → Goes (Others c) s r t (Running k) x → ((u : ℕ) → is_running c (thread_of s u).place ≡ false)
       → (cpu_of s c).set ≡ set_of w t → ((d : CpuId) → (thread_of s t).body.bound ≡ Some d → d.0 ≡ c)
       → ((u : ℕ) → is_queued c (thread_of s u).place ≡ true → eff_of s u ≤ heft x) → IsOff (thread_of s t).place → Outcome w s r c
-
-in_filter : (p : CpuId → Bool) (c : ℕ) (xs : List CpuId) → is_in c (filter p xs) ≡ true → is_in c xs ≡ true
-in_filter p c [] e = cc
-in_filter p c (x ∷ xs) e = by (p x) (λ f. in_filter p c xs f) e
-  where
-    by : (b : Bool) → (is_in c (filter p xs) ≡ true → is_in c xs ≡ true) → is_in c (if b then (x ∷ filter p xs) else filter p xs) ≡ true → ((x.0 == c) || is_in c xs) ≡ true
-    by true more f = rest (x.0 == c) more f
-      where
-        rest : (h : Bool) → (is_in c (filter p xs) ≡ true → is_in c xs ≡ true) → (h || is_in c (filter p xs)) ≡ true → (h || is_in c xs) ≡ true
-        rest true more g = refl
-        rest false more g = more g
-    by false more f = or_right (x.0 == c) (is_in c xs) (more f)
 
 -- The queue that suits a thread.
 

@@ -17,10 +17,8 @@ use Rattle.sd_machine.specs.Holders as H
 use Rattle.sd_machine.proofs.Moves.{IsSame, IsQuiet, SameEff}
 use Rattle.sd_state.specs.declared.states.LockState.{LockState}
 use Rattle.sd_state.specs.declared.states.LockState.TheVariants.{Free, Owned, ReadHeld, Passing}
-use Rattle.sd_state.specs.declared.states.Place.{Place}
-use Rattle.sd_state.specs.declared.states.Place.TheVariants.{Waiting}
 use Rattle.sd_state.specs.declared.states.State.{State}
-use Rattle.sd_state.specs.States.{thread_of, cpu_of, is_queued}
+use Rattle.sd_state.specs.States.{thread_of, cpu_of}
 use Rattle.sd_machine.specs.Threads.{lock_of, is_ts, runner}
 use Rattle.sd_machine.specs.Changes.{set_duty}
 use Rattle.sd_machine.specs.Locking.{one_more}
@@ -34,7 +32,7 @@ use Rattle.sd_invariants.proofs.AgreedAfter.{IsReady, read_locks}
 use Rattle.sd_frames.proofs.Found.{runner_found, age_found}
 use Rattle.sd_frames.proofs.HoldTable.{numbers_part, numbers_moves, numbers_ops, looped_part, looped_moves, looped_ops, Goes, read_numbers, read_looped, pbound_numbers, pbound_looped}
 use Rattle.sd_frames.proofs.LockTable.{is_lockless, quiet_locks}
-use Rattle.sd_invariants.proofs.Movers.{ends_wait, mover_of, mover_there}
+use Rattle.sd_invariants.proofs.Movers.{ends_wait, mover_of, mover_there, queued_away}
 use Rattle.sd_frames.proofs.PassLemmas.{Passed as WasPassed, pass_outcome}
 use Rattle.sd_frames.proofs.PassLemmas.Passed.{to_readers, writer_next, to_nobody, otherwise}
 use Rattle.sd_frames.proofs.PlaceTable.{Stepped, step_needs, after_steps}
@@ -71,10 +69,6 @@ seen_eff o s r b away numbers = λ u v is. same_eff s r u (seen_class o s r b aw
 -- the numbers of a thread change that does not wait afterwards
 pub seen_eff_but : (o : Option ℕ) (s r : State) (t : ℕ) (ws : Numbers) → But o s r → AwayAt r o → Goes numbers_part s r t ws → is_waiter (thread_of r t).place ≡ false → SameEff (graph s) (graph r)
 seen_eff_but o s r t ws b away numbers apart = λ u v is. same_eff s r u (seen_class o s r b away u v is) (numbers.put.others u (waits_apart r t u v apart is))
-
-queued_away : (c : ℕ) (p : Place) → is_queued c p ≡ true → is_waiter p ≡ false
-queued_away c (Waiting l side k) e = cc
-queued_away c p e = refl
 
 pub runs_away : (s : State) (c t : ℕ) → runner s c ≡ Some t → is_waiter (thread_of s t).place ≡ false
 runs_away s c t e = runs_no_waiter c (thread_of s t).place (runner_found s c t e).stands

@@ -1,30 +1,19 @@
 -- A thread that has taken a lock which it did not hold, and ended its operation, inherits from its own locks alone.
-use Rattle.std.proofs.Common.{◌≡◌, ℕ, ◌<◌, true, false, length, List, [], ◌∷◌, ◌++◌, refl, sym, ap, ◌∙◌, subst, arith}
-use Rattle.std.proofs.lemmas.Bool.Decides.{nat_tests}
+use Rattle.std.proofs.Common.{◌≡◌, ℕ, ◌<◌, false, length, [], ◌∷◌, ◌++◌, refl, ap, ◌∙◌, arith}
 use Rattle.std.proofs.lemmas.List.{get_or-set_same, length-set}
-use Rattle.std.specs.List.{list_all}
-use Rattle.std.specs.Prelude.{IsTrue, nat_lt}
-use Rattle.sd_types.specs.declared.bodies.ThreadBody.{ThreadBody}
+use Rattle.std.specs.Prelude.{IsTrue}
 use Rattle.sd_types.specs.declared.numbers.LockId.{LockId}
 use Rattle.sd_types.specs.declared.works.Work.{Work}
-use Rattle.sd_types.specs.Scripts.{is_lock, is_held}
-use Rattle.sd_types.specs.Willed.{IsSound, Numbers, same_lock, with_lock as with_held}
-use Rattle.sd_types.specs.Works.{is_distinct}
-use Rattle.sd_types.proofs.WilledLemmas.{sound-taken}
+use Rattle.sd_types.specs.Scripts.{is_held}
+use Rattle.sd_types.specs.Willed.{IsSound, with_lock as with_held}
+use Rattle.sd_types.proofs.WilledLemmas.{sound-taken, sound_is}
 use Rattle.sd_state.specs.declared.states.State.{State}
 use Rattle.sd_state.specs.declared.states.ThreadState.{ThreadState}
 use Rattle.sd_state.specs.States.{no_thread, thread_of, with_thread}
 use Rattle.sd_state.specs.Operations.{script_of, op_over}
 use Rattle.sd_machine.specs.Changes.{finish_op, hold}
 use Rattle.sd_dispatcher.proofs.Kept.{kept_op, inside}
-
-sound_is : (b d : ThreadBody) → d.willed.items ≡ b.willed.items → d.held.items ≡ b.held.items → IsSound b → IsSound d
-sound_is b d willed held is = record {
-  below = subst (λ (ws : Numbers). list_all (λ w. nat_lt w.1 160) ws ≡ true) (sym willed) is.below;
-  apart = subst (λ (ws : Numbers). is_distinct same_lock ws ≡ true) (sym willed) is.apart;
-  owned = subst (λ (ws : Numbers). list_all (λ w. is_held w.0 d.held.items) ws ≡ true) (sym willed) (subst (λ (ls : List LockId). list_all (λ w. is_held w.0 ls) b.willed.items ≡ true) (sym held) is.owned);
-  held_once = subst (λ (ls : List LockId). is_distinct is_lock ls ≡ true) (sym held) is.held_once;
-}
+use Rattle.sd_types.proofs.ScriptLemmas.{held_last}
 
 pub held_inside : (w : Work) (s : State) (u : ℕ) (l : LockId) → (thread_of s u).body.op < length (script_of w u)
     → (thread_of (hold s u l) u).body.op < length (script_of w u)
@@ -61,9 +50,5 @@ pub taken_sound : (w : Work) (s : State) (l : LockId) (u : ℕ) → u < length s
 taken_sound w s l u here sound apart =
     sound_is (with_held l (thread_of s u).body) _ (taken_willed w s l u here) (taken_locks w s l u here) (sound-taken (thread_of s u).body l _ sound apart refl)
 
-push_held : (l : LockId) (xs : List LockId) → is_held l (xs ++ l ∷ []) ≡ true
-push_held l [] = grind (arith, nat_tests)
-push_held l (x ∷ xs) = let r = push_held l xs in grind (arith, nat_tests)
-
 pub taken_held : (w : Work) (s : State) (l : LockId) (u : ℕ) → u < length s.threads → IsTrue (is_held l (thread_of (finish_op w (hold s u l) u) u).body.held.items)
-taken_held w s l u here = ap (is_held l) (taken_locks w s l u here) ∙ push_held l (thread_of s u).body.held.items
+taken_held w s l u here = ap (is_held l) (taken_locks w s l u here) ∙ held_last l (thread_of s u).body.held.items

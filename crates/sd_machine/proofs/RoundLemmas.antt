@@ -29,7 +29,7 @@ module _ (w : Work) where
   unfolding round
   round-cons s n c cs = refl
 
-  turn_run : (s : State) (n : ℕ) (c : CpuId) (h : Option Hints) (o : Option Event) → next w s c h ≡ o → IsRunFrom w s n (made n c h o)
+  pub turn_run : (s : State) (n : ℕ) (c : CpuId) (h : Option Hints) (o : Option Event) → next w s c h ≡ o → IsRunFrom w s n (made n c h o)
   turn_run s n c h None e = IsRunFrom-nil w s n
   turn_run s n c h (Some x) e = IsRunFrom-one w s n (record { number = n; cpu = c; event = x; hints = h }) refl e
 

@@ -8,14 +8,13 @@ use Rattle.std.proofs.lemmas.Option.{same_Some}
 use Rattle.sd_types.specs.declared.numbers.CpuId.{CpuId}
 use Rattle.sd_types.specs.declared.events.Event.{Event}
 use Rattle.sd_types.specs.declared.events.Entry.{Entry}
-use Rattle.sd_types.specs.declared.events.Hints.{Hints}
 use Rattle.sd_types.specs.declared.events.Which.{Which}
 use Rattle.sd_types.specs.declared.events.Which.TheVariants as which
 use Rattle.sd_types.specs.declared.works.Work.{Work}
 use Rattle.sd_state.specs.declared.states.State.{State}
 use Rattle.sd_state.specs.States.{thread_of, cpu_of, set_of}
 use Rattle.sd_machine.specs.Events.{next}
-use Rattle.sd_machine.specs.Runs.{IsReached, IsStep, IsFresh}
+use Rattle.sd_machine.specs.Runs.{IsReached, IsFresh}
 use Rattle.sd_invariants.proofs.NumberLemmas.{AreFine, fine_eff}
 use Rattle.sd_invariants.proofs.FineLemmas.{fine_reached}
 use Rattle.sd_entries.specs.Fitting.{is_byte, hints_in_range, IsSpelled}
@@ -32,7 +31,7 @@ use Rattle.sd_machine.specs.Runs.{final, IsComplete, IsRun, IsRunFrom, shown, se
 use Rattle.std.proofs.lemmas.List.{length-append}
 use Rattle.std.proofs.lemmas.List.Elements.{All-nil, All-cons, All-head, All-tail}
 use Rattle.sd_machine.proofs.RunLemmas.{final-push, IsRun-nil, IsRun-append, IsRun-from, IsRunFrom-nil, IsRunFrom-one, IsRunFrom-append}
-use Rattle.sd_invariants.specs.Laws.{OpenHold, IsRising, is_in}
+use Rattle.sd_invariants.specs.Laws.{OpenHold, is_in}
 use Rattle.sd_invariants.proofs.Whole.{reached_whole}
 use Rattle.sd_machine.specs.Texts.{journal}
 use Rattle.sd_rounds.specs.declared.orders.Turns.{Turns}
@@ -40,7 +39,9 @@ use Rattle.sd_rounds.specs.Orders.{orders_of}
 use Rattle.sd_rounds.proofs.CompleteLemmas.{complete_of}
 use Rattle.sd_audit.specs.Audits.{IsJournal}
 use Rattle.sd_program.specs.Certified.{HasBytes}
-use Rattle.sd_invariants.proofs.Induction.{opening_reached}
+use Rattle.sd_invariants.proofs.Induction.{opening_reached, reached_more}
+use Rattle.sd_machine.proofs.RoundLemmas.{round_run}
+use Rattle.sd_invariants.proofs.OpenLemmas.{rising_many}
 
 -- ---- the numbers that processors show
 
@@ -59,9 +60,6 @@ all_low s a (d ∷ ds) fine = rw (shown_low s a d fine, all_low s a ds fine) ref
 
 -- ---- of at most 64 processors
 
-some_is_in : (d : CpuId) (ds : List CpuId) → is_in d.0 (d ∷ ds) ≡ true
-some_is_in d ds = let same : (d.0 == d.0) ≡ true = grind (arith, nat_tests) in rw same refl
-
 more_in : (c : ℕ) (d : CpuId) (ds : List CpuId) → is_in c ds ≡ true → is_in c (d ∷ ds) ≡ true
 more_in c d ds e = by (d.0 == c)
   where
@@ -69,18 +67,9 @@ more_in c d ds e = by (d.0 == c)
     by true = refl
     by false = e
 
--- a list that rises from n on and stays below m
-few : (n m : ℕ) (xs : List CpuId) → n ≤ m → IsRising n xs → ((c : ℕ) → is_in c xs ≡ true → c < m) → length xs + n ≤ m
-few n m [] le rising below = omega (arith, le)
-few n m (x ∷ xs) le rising below =
-    let here : x.0 < m = below x.0 (some_is_in x xs) in
-    let rest : length xs + (x.0 + 1) ≤ m = few (x.0 + 1) m xs (omega (arith, here)) rising.1 (λ c e. below c (more_in c x xs e)) in
-    let first = rising.0 in
-    omega (arith, rest, first)
-
 open_few : (w : Work) (s : State) (p : ℕ) → OpenHold w s → length (open_of s p) ≤ 64
 open_few w s p holds =
-    let many = few 0 w.cpus (open_of s p) (omega arith) (holds.rising p) (λ c e. (holds.member p c e).0) in
+    let many = rising_many 0 w.cpus (open_of s p) (omega arith) (holds.rising p) (λ c e. (holds.member p c e).0) in
     let most = w.most_cpus in
     omega (arith, many, most)
 
@@ -131,8 +120,8 @@ shown_ok s None fine short = refl
 shown_ok s (Some r) fine short =
     let most = short r refl in
     let many = map_many (hint_shown s r.0) r.1 in
-    let few : nat_le (length (map (hint_shown s r.0) r.1)) 64 ≡ true = grind (arith, nat_tests) in
-    rw (few, all_low s r.0 r.1 fine) refl
+    let rising_many : nat_le (length (map (hint_shown s r.0) r.1)) 64 ≡ true = grind (arith, nat_tests) in
+    rw (rising_many, all_low s r.0 r.1 fine) refl
 
 serial_ok : (w : Work) (n : ℕ) (s : State) (c : CpuId) → IsReached w n s → hints_in_range (serial_hints w s c) ≡ true
 unfolding serial_hints reads
@@ -165,32 +154,22 @@ rounds_shown w orders (suc k) =
     shown_append w (opening w) es (round w (final w (opening w) es) (length es) (orders k)) (rounds_shown w orders k)
     (round_shown w (final w (opening w) es) (length es) (orders k))
 
--- one entry more leads to the state after it
-reached_next : (w : Work) (n : ℕ) (s : State) (e : Entry) → IsReached w n s → e.number ≡ n → IsStep w s e → IsReached w (n + 1) (after w s e.number e.cpu e.event)
-reached_next w n s e r counted step = record {
-  entries = r.entries ++ e ∷ [];
-  run = IsRun-append w r.entries (e ∷ []) r.run
-      (IsRunFrom-one w (final w (opening w) r.entries) (length r.entries) e (counted ∙ sym r.many) (subst (λ x. IsStep w x e) (sym r.ends) step));
-  many = let many = r.many in let more = length-append r.entries (e ∷ []) in omega (arith, many, more);
-  ends = final-push w (opening w) r.entries e ∙ ap (λ (x : State). after w x e.number e.cpu e.event) r.ends;
-}
-
 -- numbers that states show are of 8 bits
 range_of_shown : (w : Work) (n : ℕ) (s : State) (es : List Entry) → IsReached w n s → IsRunFrom w s n es → IsFresh w s es → All HasBytes es
 unfolding IsRunFrom IsFresh
 range_of_shown w n s [] reached run shown = All-nil HasBytes
 range_of_shown w n s (e ∷ es) reached run shown =
     All-cons HasBytes e es (ap hints_in_range shown.0 ∙ serial_ok w n s e.cpu reached)
-    (range_of_shown w (n + 1) (after w s e.number e.cpu e.event) es (reached_next w n s e reached run.0 run.1) run.2 shown.1)
+    (range_of_shown w (n + 1) (after w s e.number e.cpu e.event) es (reached_more w n s e reached run.0 run.1) run.2 shown.1)
 
 -- each entry of a run has a line of its own, where the numbers that were read have 8 bits
 run_spelled : (w : Work) (n : ℕ) (s : State) (es : List Entry) → IsReached w n s → IsRunFrom w s n es → All HasBytes es → n + length es < 2 ^ 64 → All (IsSpelled w) es
 unfolding IsRunFrom
-run_spelled w n s [] reached run bytes few = All-nil (IsSpelled w)
-run_spelled w n s (e ∷ es) reached run bytes few =
-    let here = spelled w n s e reached run.1 (let at = run.0 in omega (arith, at, few)) (All-head HasBytes e es bytes) in
+run_spelled w n s [] reached run bytes rising_many = All-nil (IsSpelled w)
+run_spelled w n s (e ∷ es) reached run bytes rising_many =
+    let here = spelled w n s e reached run.1 (let at = run.0 in omega (arith, at, rising_many)) (All-head HasBytes e es bytes) in
     All-cons (IsSpelled w) e es here
-    (run_spelled w (n + 1) (after w s e.number e.cpu e.event) es (reached_next w n s e reached run.0 run.1) run.2 (All-tail HasBytes e es bytes) (omega (arith, few)))
+    (run_spelled w (n + 1) (after w s e.number e.cpu e.event) es (reached_more w n s e reached run.0 run.1) run.2 (All-tail HasBytes e es bytes) (omega (arith, rising_many)))
 
 -- so has each that read what the states show
 pub all_spelled : (w : Work) (n : ℕ) (s : State) (es : List Entry) → IsReached w n s → IsRunFrom w s n es → IsFresh w s es → n + length es < 2 ^ 64 → All (IsSpelled w) es
@@ -203,17 +182,6 @@ serial_bytes w orders es serial run =
     (subst (λ (xs : List Entry). IsFresh w (opening w) xs) (sym serial.entries) (rounds_shown w orders serial.count))
 
 -- ---- a run in rounds is a run
-
-made_run : (w : Work) (s : State) (n : ℕ) (c : CpuId) (h : Option Hints) (o : Option Event) → next w s c h ≡ o → IsRunFrom w s n (made n c h o)
-made_run w s n c h None is = IsRunFrom-nil w s n
-made_run w s n c h (Some e) is = IsRunFrom-one w s n (record { number = n; cpu = c; event = e; hints = h }) refl is
-
-round_run : (w : Work) (s : State) (n : ℕ) (cs : List CpuId) → IsRunFrom w s n (round w s n cs)
-unfolding round
-round_run w s n [] = IsRunFrom-nil w s n
-round_run w s n (c ∷ cs) =
-    IsRunFrom-append w s n (turn w s n c) (round w (final w s (turn w s n c)) (n + length (turn w s n c)) cs)
-    (made_run w s n c (serial_hints w s c) (next w s c (serial_hints w s c)) refl) (round_run w (final w s (turn w s n c)) (n + length (turn w s n c)) cs)
 
 rounds_run : (w : Work) (orders : ℕ → List CpuId) (k : ℕ) → IsRun w (rounds w orders k)
 unfolding rounds
@@ -228,10 +196,10 @@ serial_run w orders es serial = subst (λ (xs : List Entry). IsRun w xs) (sym se
 -- the journal of a complete run is one that the audit finds legal
 pub run_journal : (w : Work) (es : List Entry) → IsRun w es → IsComplete w (final w (opening w) es) → All HasBytes es → length es < 2 ^ 40
     → IsJournal w (journal w es) (final w (opening w) es) (length es)
-run_journal w es run complete bytes few = record {
+run_journal w es run complete bytes rising_many = record {
   entries = es;
   run = run;
-  spelled = run_spelled w 0 (opening w) es (opening_reached w) (IsRun-from w es run) bytes (omega (arith, few));
+  spelled = run_spelled w 0 (opening w) es (opening_reached w) (IsRun-from w es run) bytes (omega (arith, rising_many));
   complete = complete;
   whole = refl;
   many = refl;
@@ -240,6 +208,6 @@ run_journal w es run complete bytes few = record {
 
 pub serial_journal : (w : Work) (turns : Turns) (es : List Entry) → IsSerial w (orders_of w turns) es → length es < 2 ^ 40
     → IsJournal w (journal w es) (final w (opening w) es) (length es)
-serial_journal w turns es serial few =
+serial_journal w turns es serial rising_many =
     let run = serial_run w (orders_of w turns) es serial in
-    run_journal w es run (complete_of w turns es serial) (serial_bytes w (orders_of w turns) es serial run) few
+    run_journal w es run (complete_of w turns es serial) (serial_bytes w (orders_of w turns) es serial run) rising_many

@@ -1,5 +1,5 @@
 -- The line of an entry has one newline, at its end: neither a name nor a number has any.
-use Rattle.std.proofs.Common.{◌≡◌, ℕ, zero, suc, true, false, not, ◌&&◌, List, [], ◌∷◌, ◌++◌, length, leb, Option, Some, None, refl, ◌∙◌, arith}
+use Rattle.std.proofs.Common.{◌≡◌, ℕ, zero, suc, true, false, ◌&&◌, List, [], ◌∷◌, ◌++◌, length, leb, Option, Some, None, refl, ◌∙◌, arith}
 use Rattle.std.proofs.lemmas.Bool.{and_parts}
 use Rattle.std.specs.Prelude.{codes, decimal, option_map, unwrap_or, slice_get}
 use Rattle.std.specs.List.{list_all}
@@ -34,23 +34,16 @@ use Rattle.sd_text.proofs.PieceLemmas.{one_line-append, one_line-newline}
 use Rattle.sd_state.specs.Texts.{thread_name, lock_name, chan_name, end_text}
 use Rattle.sd_machine.specs.Texts.{set_name, cpu_text, put_text, put_text_if, woken_text, denied_text, prio_text, assign_text, bind_text, cpu_text_if, word_thread, word_lock, word_chan, event_text, numbers_text, hints_text, entry_text}
 use Rattle.sd_program.specs.AuditAnswers.{legal_text}
-
-line-join : (xs ys : List ℕ) → is_line xs ≡ true → is_line ys ≡ true → is_line (xs ++ ys) ≡ true
-line-join xs ys h k = list_all-append (λ byte. not (is_newline byte)) xs ys ∙ rw (h, k) refl
+use Rattle.sd_entries.proofs.WordLemmas.{line_join}
+use Rattle.sd_entries.proofs.PlainLemmas.{no_newlines}
 
 -- ---- names
 
 name-byte : (b : ℕ) → is_name_byte b ≡ true → is_newline b ≡ false
 name-byte b h = grind (arith, nat_tests)
 
-name-bytes : (bs : List ℕ) → list_all is_name_byte bs ≡ true → is_line bs ≡ true
-name-bytes [] h = refl
-name-bytes (b ∷ bs) h =
-    let p = and_parts (is_name_byte b) (list_all is_name_byte bs) h in
-    rw (name-byte b p.0) (name-bytes bs p.1)
-
 name-line : (x : Name) → is_line x.text.items ≡ true
-name-line x = name-bytes x.text.items (and_parts (begins_with_letter x.text.items && leb (length x.text.items) 16) (list_all is_name_byte x.text.items) x.is_name).1
+name-line x = no_newlines x.text.items (and_parts (begins_with_letter x.text.items && leb (length x.text.items) 16) (list_all is_name_byte x.text.items) x.is_name).1
 
 -- the name of what stands there, if anything does
 named-line : {X : Type 0} (of : X → Name) (o : Option X) → is_line (unwrap_or (option_map (λ x. (of x).text.items) o) []) ≡ true
@@ -63,8 +56,8 @@ cpu-line : (c : CpuId) → is_line (cpu_text c) ≡ true
 cpu-line c = decimal-line c.0
 
 put-line : (at : Put) → is_line (put_text at) ≡ true
-put-line (Cpu x) = line-join (codes " to ") (cpu_text x) refl (cpu-line x)
-put-line (RealTime x) = line-join (codes " rt ") (cpu_text x) refl (cpu-line x)
+put-line (Cpu x) = line_join (codes " to ") (cpu_text x) refl (cpu-line x)
+put-line (RealTime x) = line_join (codes " rt ") (cpu_text x) refl (cpu-line x)
 
 put_if-line : (at : Option Put) → is_line (put_text_if at) ≡ true
 put_if-line None = refl
@@ -84,7 +77,7 @@ denied-line denied.EINVAL = refl
 denied-line denied.EPERM = refl
 
 prio-line : (a : PrioAnswer) → is_line (prio_text a) ≡ true
-prio-line (prio.Changed p at) = line-join (codes "ok " ++ decimal p) (put_text_if at) (line-join (codes "ok ") (decimal p) refl (decimal-line p)) (put_if-line at)
+prio-line (prio.Changed p at) = line_join (codes "ok " ++ decimal p) (put_text_if at) (line_join (codes "ok ") (decimal p) refl (decimal-line p)) (put_if-line at)
 prio-line (prio.Refused d) = denied-line d
 
 assign-line : (a : AssignAnswer) → is_line (assign_text a) ≡ true
@@ -94,7 +87,7 @@ assign-line assign.EINVAL = refl
 assign-line assign.EBUSY = refl
 
 bind-line : (a : BindAnswer) → is_line (bind_text a) ≡ true
-bind-line (bind.Changed at) = line-join (codes "ok") (put_text_if at) refl (put_if-line at)
+bind-line (bind.Changed at) = line_join (codes "ok") (put_text_if at) refl (put_if-line at)
 bind-line bind.ESRCH = refl
 bind-line bind.EINVAL = refl
 bind-line bind.EPERM = refl
@@ -104,15 +97,15 @@ numbers-line : (ns : List ℕ) → is_line (numbers_text ns) ≡ true
 numbers-line [] = refl
 numbers-line (n ∷ []) = decimal-line n
 numbers-line (n ∷ m ∷ ms) =
-    line-join (decimal n ++ codes ",") (numbers_text (m ∷ ms)) (line-join (decimal n) (codes ",") (decimal-line n) refl) (numbers-line (m ∷ ms))
+    line_join (decimal n ++ codes ",") (numbers_text (m ∷ ms)) (line_join (decimal n) (codes ",") (decimal-line n) refl) (numbers-line (m ∷ ms))
 
 hints-line : (h : Option Hints) → is_line (hints_text h) ≡ true
 hints-line None = refl
-hints-line (Some h) = line-join (codes " h ") (numbers_text h.numbers.items) refl (numbers-line h.numbers.items)
+hints-line (Some h) = line_join (codes " h ") (numbers_text h.numbers.items) refl (numbers-line h.numbers.items)
 
 -- words with one more behind a blank
 spaced : (xs ys : List ℕ) → is_line xs ≡ true → is_line ys ≡ true → is_line (xs ++ codes " " ++ ys) ≡ true
-spaced xs ys h k = line-join (xs ++ codes " ") ys (line-join xs (codes " ") h refl) k
+spaced xs ys h k = line_join (xs ++ codes " ") ys (line_join xs (codes " ") h refl) k
 
 module _ (w : Work) where
   thread-line : (t : ℕ) → is_line (thread_name w t) ≡ true
@@ -133,7 +126,7 @@ module _ (w : Work) where
 
   woken-line : (u : Option (ThreadId × Put)) → is_line (woken_text w u) ≡ true
   woken-line None = refl
-  woken-line (Some u) = line-join (thread_name w u.0.0) (put_text u.1) (thread-line u.0.0) (put-line u.1)
+  woken-line (Some u) = line_join (thread_name w u.0.0) (put_text u.1) (thread-line u.0.0) (put-line u.1)
 
   event-line : (e : Event) → is_line (event_text w e) ≡ true
   event-line (Tick t) = on-thread (codes "tick") t refl
@@ -142,12 +135,12 @@ module _ (w : Work) where
   event-line (Dispatch t p) = spaced (word_thread w (codes "dispatch") t) (decimal p) (on-thread (codes "dispatch") t refl) (decimal-line p)
   event-line (Steal v t p) =
       let word = codes "steal " ++ cpu_text v in
-      spaced (word_thread w word t) (decimal p) (on-thread word t (line-join (codes "steal ") (cpu_text v) refl (cpu-line v))) (decimal-line p)
-  event-line (Preempt t end) = line-join (word_thread w (codes "preempt") t) (end_text end) (on-thread (codes "preempt") t refl) (end-line end)
+      spaced (word_thread w word t) (decimal p) (on-thread word t (line_join (codes "steal ") (cpu_text v) refl (cpu-line v))) (decimal-line p)
+  event-line (Preempt t end) = line_join (word_thread w (codes "preempt") t) (end_text end) (on-thread (codes "preempt") t refl) (end-line end)
   event-line (Yield t) = on-thread (codes "yield") t refl
   event-line (Done t) = on-thread (codes "done") t refl
   event-line (Nap t) = on-thread (codes "nap") t refl
-  event-line (Napend t at) = line-join (word_thread w (codes "napend") t) (put_text at) (on-thread (codes "napend") t refl) (put-line at)
+  event-line (Napend t at) = line_join (word_thread w (codes "napend") t) (put_text at) (on-thread (codes "napend") t refl) (put-line at)
   event-line (Sleep t k) = on-chan (word_thread w (codes "sleep") t) k (on-thread (codes "sleep") t refl)
   event-line (Wake t k u) =
       spaced (word_chan w (word_thread w (codes "wake") t) k) (woken_text w u) (on-chan (word_thread w (codes "wake") t) k (on-thread (codes "wake") t refl)) (woken-line u)
@@ -159,14 +152,14 @@ module _ (w : Work) where
   event-line (Block t l) = on-lock (word_thread w (codes "block") t) l (on-thread (codes "block") t refl)
   event-line (Will l o p at) =
       let word = word_thread w (word_lock w (codes "will") l) o in
-      line-join (word ++ codes " " ++ decimal p) (put_text_if at)
+      line_join (word ++ codes " " ++ decimal p) (put_text_if at)
       (spaced word (decimal p) (on-thread (word_lock w (codes "will") l) o (on-lock (codes "will") l refl)) (decimal-line p)) (put_if-line at)
   event-line (WalkEnd l) = on-lock (codes "end") l refl
   event-line (Exit t l) = on-lock (word_thread w (codes "exit") t) l (on-thread (codes "exit") t refl)
   event-line (Unblock l u at) =
-      line-join (word_thread w (word_lock w (codes "unblock") l) u) (put_text at) (on-thread (word_lock w (codes "unblock") l) u (on-lock (codes "unblock") l refl)) (put-line at)
+      line_join (word_thread w (word_lock w (codes "unblock") l) u) (put_text at) (on-thread (word_lock w (codes "unblock") l) u (on-lock (codes "unblock") l refl)) (put-line at)
   event-line (Grant l u at) =
-      line-join (word_thread w (word_lock w (codes "grant") l) u) (put_text at) (on-thread (word_lock w (codes "grant") l) u (on-lock (codes "grant") l refl)) (put-line at)
+      line_join (word_thread w (word_lock w (codes "grant") l) u) (put_text at) (on-thread (word_lock w (codes "grant") l) u (on-lock (codes "grant") l refl)) (put-line at)
   event-line (Passed l) = on-lock (codes "passed") l refl
   event-line (Age t p) = spaced (word_thread w (codes "age") t) (decimal p) (on-thread (codes "age") t refl) (decimal-line p)
   event-line (Prio t u answer) =
@@ -177,7 +170,7 @@ module _ (w : Work) where
   event-line (SemaWait t k) = on-chan (word_thread w (codes "semawait") t) k (on-thread (codes "semawait") t refl)
   event-line (SemaVWake t k u at) =
       let word = word_chan w (word_thread w (codes "semav") t) k in
-      line-join (word_thread w word u) (put_text at) (on-thread word u (on-chan (word_thread w (codes "semav") t) k (on-thread (codes "semav") t refl))) (put-line at)
+      line_join (word_thread w word u) (put_text at) (on-thread word u (on-chan (word_thread w (codes "semav") t) k (on-thread (codes "semav") t refl))) (put-line at)
   event-line (SemaVCount t k n) =
       let word = word_chan w (word_thread w (codes "semav") t) k in
       spaced word (decimal n) (on-chan (word_thread w (codes "semav") t) k (on-thread (codes "semav") t refl)) (decimal-line n)
@@ -186,15 +179,15 @@ module _ (w : Work) where
       let cpu = spaced word (cpu_text d) (on-thread (codes "assign") t refl) (cpu-line d) in
       spaced (word ++ codes " " ++ cpu_text d ++ codes " " ++ set_name w to.0) (assign_text answer)
       (spaced (word ++ codes " " ++ cpu_text d) (set_name w to.0) cpu (set-line to.0)) (assign-line answer)
-  event-line (Move t at) = line-join (word_thread w (codes "move") t) (put_text at) (on-thread (codes "move") t refl) (put-line at)
-  event-line (Joined to) = line-join (codes "joined ") (set_name w to.0) refl (set-line to.0)
+  event-line (Move t at) = line_join (word_thread w (codes "move") t) (put_text at) (on-thread (codes "move") t refl) (put-line at)
+  event-line (Joined to) = line_join (codes "joined ") (set_name w to.0) refl (set-line to.0)
   event-line (Bind t u d answer) =
       let word = word_thread w (word_thread w (codes "pbind") t) u in
       spaced (word ++ codes " " ++ cpu_text_if d) (bind_text answer)
       (spaced word (cpu_text_if d) (on-thread (word_thread w (codes "pbind") t) u (on-thread (codes "pbind") t refl)) (cpu_if-line d)) (bind-line answer)
   event-line (Away t d) =
       let word = word_thread w (codes "preempt") t in
-      line-join (word ++ codes " away ") (cpu_text d) (line-join word (codes " away ") (on-thread (codes "preempt") t refl) refl) (cpu-line d)
+      line_join (word ++ codes " away ") (cpu_text d) (line_join word (codes " away ") (on-thread (codes "preempt") t refl) refl) (cpu-line d)
 
   -- the line of an entry
   pub entry-one_line : (e : Entry) → IsOneLine (entry_text w e)
@@ -203,8 +196,8 @@ module _ (w : Work) where
       let number = decimal e.number in
       let cpu = number ++ codes " c" ++ decimal e.cpu.0 in
       let event = cpu ++ codes " " ++ event_text w e.event in
-      let at = line-join (number ++ codes " c") (decimal e.cpu.0) (line-join number (codes " c") (decimal-line e.number) refl) (decimal-line e.cpu.0) in
-      one_line-newline (event ++ hints_text e.hints) (line-join event (hints_text e.hints) (spaced cpu (event_text w e.event) at (event-line e.event)) (hints-line e.hints))
+      let at = line_join (number ++ codes " c") (decimal e.cpu.0) (line_join number (codes " c") (decimal-line e.number) refl) (decimal-line e.cpu.0) in
+      one_line-newline (event ++ hints_text e.hints) (line_join event (hints_text e.hints) (spaced cpu (event_text w e.event) at (event-line e.event)) (hints-line e.hints))
 
 -- the line of an audit
 pub legal-one_line : (n : ℕ) → IsOneLine (legal_text n)

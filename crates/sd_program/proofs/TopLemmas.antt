@@ -79,7 +79,7 @@ pub some_command : (arguments : List (List ℕ)) (k : Command) → command_of ar
 some_command arguments k some none = cc
 
 -- an input with too many bytes, and one that is no workload, are no accepted one
-not_too_many : (input : StreamChange) (bytes : List ℕ) → HasTooMany most_bytes input → input.before ≡ Some bytes → length bytes ≤ most_bytes → ⊥
+pub not_too_many : (input : StreamChange) (bytes : List ℕ) → HasTooMany most_bytes input → input.before ≡ Some bytes → length bytes ≤ most_bytes → ⊥
 not_too_many input bytes many is short =
     let within = taken_within input.before input.after many.bytes bytes many.took is in
     let count = many.many in

@@ -7,9 +7,7 @@ use Rattle.std.proofs.lemmas.Option.{slice_get-get_or, slice_get_within, get_or_
 use Rattle.sd_types.specs.declared.numbers.CpuId.{CpuId}
 use Rattle.sd_rules.specs.Choices.{is_among, HasHint, IsLeastBusy, IsBestByHints, IsChosen, IsVictim}
 use Rattle.sd_rules.specs.Orders.{is_less_busy, is_busier, no_cpu, IsBestByHintsAt, IsBusiestAt}
-
-same_cpu : (c d : CpuId) → c.0 ≡ d.0 → c ≡ d
-same_cpu c d e = let cpu : ℕ → CpuId = λ n. record { 0 = n } in ap cpu e
+use Rattle.sd_types.proofs.SameLemmas.{same_cpu}
 
 same_hint : (cpus : List CpuId) (hints : List ℕ) (c d : CpuId) (b : IsLeastBusy cpus hints c) (e : IsLeastBusy cpus hints d) → b.hint ≡ e.hint
 same_hint cpus hints c d b e = omega (arith, b.least d e.hint e.has, e.least c b.hint b.has)

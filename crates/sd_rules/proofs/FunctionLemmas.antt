@@ -7,9 +7,7 @@ use Rattle.sd_types.specs.declared.numbers.CpuId.{CpuId}
 use Rattle.sd_rules.specs.Choices.{is_among, HasHint, IsLeastBusy, IsBestByHints, IsChosen, IsVictim}
 use Rattle.sd_rules.proofs.ChoiceLemmas.{same_victim}
 use Rattle.sd_rules.specs.ChoiceFunctions.{least_hint, greatest_hint, with_hint, least_number, preferred, chosen, victim_of}
-
-same_cpu : (c d : CpuId) → c.0 ≡ d.0 → c ≡ d
-same_cpu c d e = let cpu : ℕ → CpuId = λ n. record { 0 = n } in ap cpu e
+use Rattle.sd_types.proofs.SameLemmas.{same_cpu}
 
 -- ---- hints
 

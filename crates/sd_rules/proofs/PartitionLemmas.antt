@@ -16,6 +16,7 @@ use Rattle.sd_types.specs.declared.works.Work.{Work}
 use Rattle.sd_types.specs.Works.{same_cpu, is_distinct, set_cpus, set_fits}
 use Rattle.sd_types.specs.Partitions.{set_naming, set_of_cpu, cpus_of_set, cpu_of_number}
 use Rattle.sd_rules.specs.Lists.{is_rising, is_partition, sets_of, lists_of, set_of_number}
+use Rattle.sd_types.proofs.SameLemmas.{same_cpu as same_number}
 
 abbrev names : ℕ → List CpuId → Bool
 names c cpus = list_any (λ d. d.0 == c) cpus
@@ -225,9 +226,6 @@ passing-named (suc n) a c p h = elim (cases_Bool (p a)) [
 ]
 
 -- ---- membership by index and by test
-
-same_number : (c d : CpuId) → c.0 ≡ d.0 → c ≡ d
-same_number c d e = ap cpu_of_number e
 
 pub Contains-from_names : (c : CpuId) (cpus : List CpuId) → names c.0 cpus ≡ true → Contains cpus c
 Contains-from_names c [] h = absurd (false≢true h)

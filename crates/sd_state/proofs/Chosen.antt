@@ -42,7 +42,7 @@ unfolding running
 runs_none s c none u = position_fails (λ (x : ThreadState). is_running c x.place) s.threads no_thread refl none u
 
 -- the best of the first n
-best_below : {X : Type 0} (on : X → Bool) (beats : X → X → Bool) (d : X) → IsOrder beats → (xs : List X) (n : ℕ) → (o : Option ℕ) × IsBestBelow on beats d xs n o
+pub best_below : {X : Type 0} (on : X → Bool) (beats : X → X → Bool) (d : X) → IsOrder beats → (xs : List X) (n : ℕ) → (o : Option ℕ) × IsBestBelow on beats d xs n o
 best_below on beats d order xs zero = (None, λ k h. absurd (omega arith))
 best_below on beats d order xs (suc n) =
     let before = best_below on beats d order xs n in

@@ -11,11 +11,11 @@ use Rattle.sd_state.specs.States.{no_thread, no_cpu, cpu_of, is_running, key_of,
 use Rattle.sd_state.specs.Opening.{first_thread, first_threads, first_cpu, first_cpu_state, is_urgent, opening}
 use Rattle.sd_state.specs.Invariants.{has_key, is_marked}
 
-first_not_running : (w : Work) (k : ℕ) (d : ThreadDecl) (c : ℕ) → is_running c (first_thread w k d).place ≡ false
+pub first_not_running : (w : Work) (k : ℕ) (d : ThreadDecl) (c : ℕ) → is_running c (first_thread w k d).place ≡ false
 unfolding first_thread
 first_not_running w k d c = elim (is_urgent d) as (λ v. is_running c (cond v (RealTime d.set (pos k)) (Queued (first_cpu w k d) (pos k))) ≡ false) [ true ↦ refl | false ↦ refl ]
 
-none_running : (w : Work) (k : ℕ) (ds : List ThreadDecl) (t c : ℕ) → is_running c (get_or (first_threads w k ds) t no_thread).place ≡ false
+pub none_running : (w : Work) (k : ℕ) (ds : List ThreadDecl) (t c : ℕ) → is_running c (get_or (first_threads w k ds) t no_thread).place ≡ false
 none_running w k [] t c = refl
 none_running w k (d ∷ ds) zero c = first_not_running w k d c
 none_running w k (d ∷ ds) (suc t) c = none_running w (k + 1) ds t c

@@ -3,15 +3,14 @@ use Rattle.std.proofs.Common.{◌≡◌, ℕ, zero, suc, ◌<◌, Bool, true, fa
 use Rattle.std.specs.Prelude.{slice_get, option_map, is_some, IsSome, nat_lt}
 use Rattle.std.specs.List.{list_any}
 use Rattle.std.proofs.lemmas.List.{length-map}
-use Rattle.std.proofs.lemmas.Bool.{eq-eqb, or_right, and_from, cases_Bool, or_parts}
+use Rattle.std.proofs.lemmas.Bool.{eq-eqb, or_right, cases_Bool, or_parts}
 use Rattle.std.proofs.lemmas.Bool.Decides.{nat_tests}
 use Rattle.std.proofs.lemmas.Option.{same_Some, slice_get-map, slice_get_within, get_or_from_slice_get}
 use Rattle.sd_types.specs.declared.numbers.CpuId.{CpuId}
 use Rattle.sd_types.specs.declared.events.Event.{Event}
 use Rattle.sd_types.specs.declared.events.Hints.{Hints}
 use Rattle.sd_types.specs.declared.events.Put.{Put}
-use Rattle.sd_types.specs.declared.events.Which.{Which}
-use Rattle.sd_types.specs.declared.events.Which.TheVariants.{Running, Queued}
+use Rattle.sd_types.specs.declared.events.Which.TheVariants.{Queued}
 use Rattle.sd_types.specs.declared.works.Work.{Work}
 use Rattle.sd_types.specs.Events.{ticks}
 use Rattle.sd_rules.specs.Choices.{IsVictim}
@@ -31,6 +30,7 @@ use Rattle.sd_machine.specs.Plans.{plan}
 use Rattle.sd_machine.specs.Runs.{serial_hints, shown}
 use Rattle.sd_steps.specs.Entering.{can_enter, can_steal, plan_enters}
 use Rattle.sd_step.proofs.NumberLemmas.{search_numbers}
+use Rattle.sd_invariants.proofs.Complete.{shown_fit}
 
 -- ---- lists
 
@@ -66,17 +66,6 @@ any_at (m ∷ ms) zero n at h =
 any_at (m ∷ ms) (suc i) n at h = or_right (nat_lt 0 m) (list_any (λ m. nat_lt 0 m) ms) (any_at ms i n at h)
 
 -- ---- the numbers of a state
-
-same_kind : (k : Which) → same_which k k ≡ true
-same_kind Running = refl
-same_kind Queued = refl
-
--- fit what is read
-pub shown_fit : (s : State) (r : Option (Which × List CpuId)) → hints_fit r (shown s r) ≡ true
-shown_fit s None = refl
-shown_fit s (Some r) =
-    and_from (same_which r.0 r.0) (length (map (hint_shown s r.0) r.1) == length r.1) (same_kind r.0)
-    (eq-eqb (length (map (hint_shown s r.0) r.1)) (length r.1) (length-map r.1 (hint_shown s r.0)))
 
 numbers_shown : (s : State) (cpus : List CpuId) → numbers_read cpus (shown s (read_of cpus)) ≡ map (hint_shown s Queued) cpus
 numbers_shown s [] = refl

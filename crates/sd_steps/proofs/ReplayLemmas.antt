@@ -54,17 +54,3 @@ reached_at w s es i h state run = record {
   many = length-take-le i es h;
   ends = sym state;
 }
-
--- a step leads from a state that a run of n entries reaches to one that a run of n + 1 entries reaches
-pub reached_more : (w : Work) (n : ℕ) (s : State) (e : Entry) → IsReached w n s → e.number ≡ n → IsStep w s e → IsReached w (n + 1) (after w s e.number e.cpu e.event)
-reached_more w n s e r number step = record {
-  entries = r.entries ++ e ∷ [];
-  run = from-IsRun w (r.entries ++ e ∷ [])
-      (IsRunFrom-push w (opening w) 0 r.entries e (IsRun-from w r.entries r.run) (let m = r.many in omega (arith, m, number)) (subst (λ (x : State). IsStep w x e) (sym r.ends) step));
-  many = length_push r.entries e ∙ ap (λ (m : ℕ). m + 1) r.many;
-  ends = final-push w (opening w) r.entries e ∙ ap (λ (x : State). after w x e.number e.cpu e.event) r.ends;
-}
-  where
-    length_push : (es : List Entry) (e : Entry) → length (es ++ e ∷ []) ≡ length es + 1
-    length_push [] e = omega arith
-    length_push (f ∷ es) e = let h = length_push es e in omega (arith, h)

@@ -7,6 +7,7 @@ use Rattle.sd_homes.specs.Families.{home_id, same_home}
 use Rattle.sd_hand.specs.Hands.{AreApart, HoldsMore, held, how_many_held}
 use Rattle.sd_hand.proofs.SlotLemmas.{holds_more, same_home_self, same_home_true}
 use Rattle.sd_world.proofs.GivenLemmas.{set_twice}
+use Rattle.sd_hand.proofs.CountLemmas.{lies_held, apart_without}
 
 emptied : (hs : List (Option Home)) (i : ℕ) (h : Home) → slice_get hs i ≡ Some (Some h) → slice_get (set hs i None) i ≡ Some None
 emptied [] i h e = absurd cc
@@ -18,42 +19,6 @@ back_again [] i h e = refl
 back_again (x ∷ hs) zero h e = let same : x ≡ Some h = cc in ap (λ o. o ∷ hs) (sym same)
 back_again (x ∷ hs) (suc i) h e = ap (λ ys. x ∷ ys) (back_again hs i h e)
 
-none_less : (k : HomeId) (hs : List (Option Home)) (i : ℕ) → held k hs ≡ None → held k (set hs i None) ≡ None
-none_less k [] i n = refl
-none_less k (None ∷ hs) zero n = n
-none_less k (Some h ∷ hs) zero n = by (same_home k (home_id h)) refl
-  where
-    by : (b : Bool) → same_home k (home_id h) ≡ b → held k hs ≡ None
-    by true f = let some = rw f at n in absurd cc
-    by false f = let rest = rw f at n in rest
-none_less k (None ∷ hs) (suc i) n = none_less k hs i n
-none_less k (Some h ∷ hs) (suc i) n = by (same_home k (home_id h)) refl (none_less k hs i)
-  where
-    by : (b : Bool) → same_home k (home_id h) ≡ b → (held k hs ≡ None → held k (set hs i None) ≡ None) → held k (Some h ∷ set hs i None) ≡ None
-    by true f r = let some = rw f at n in absurd cc
-    by false f r = rw f (r (rw f at n))
-
-apart_less : (hs : List (Option Home)) (i : ℕ) → AreApart hs → AreApart (set hs i None)
-apart_less [] i a = tt
-apart_less (None ∷ hs) zero a = a
-apart_less (Some h ∷ hs) zero a = a.1
-apart_less (None ∷ hs) (suc i) a = apart_less hs i a
-apart_less (Some h ∷ hs) (suc i) a = (none_less (home_id h) hs i a.0, apart_less hs i a.1)
-
-lies_there : (h : Home) (xs : List (Option Home)) (j : ℕ) → slice_get xs j ≡ Some (Some h) → held (home_id h) xs ≡ None → ⊥
-lies_there h [] j f n = absurd cc
-lies_there h (None ∷ xs) zero f n = absurd cc
-lies_there h (Some z ∷ xs) zero f n =
-    let same : z ≡ h = cc in
-    let yes : same_home (home_id h) (home_id z) ≡ true = ap (λ y. same_home (home_id h) (home_id y)) same ∙ same_home_self (home_id h) in
-    let some = rw yes at n in absurd cc
-lies_there h (None ∷ xs) (suc j) f n = lies_there h xs j f n
-lies_there h (Some z ∷ xs) (suc j) f n = step (same_home (home_id h) (home_id z)) refl (lies_there h xs j f)
-  where
-    step : (b : Bool) → same_home (home_id h) (home_id z) ≡ b → (held (home_id h) xs ≡ None → ⊥) → ⊥
-    step true q r = let some = rw q at n in absurd cc
-    step false q r = r (rw q at n)
-
 gone : (hs : List (Option Home)) (i : ℕ) (h : Home) → AreApart hs → slice_get hs i ≡ Some (Some h) → held (home_id h) (set hs i None) ≡ None
 gone [] i h a e = absurd cc
 gone (None ∷ hs) zero h a e = absurd cc
@@ -62,7 +27,7 @@ gone (None ∷ hs) (suc i) h a e = gone hs i h a e
 gone (Some g ∷ hs) (suc i) h a e = by (same_home (home_id h) (home_id g)) refl (gone hs i h a.1 e)
   where
     by : (b : Bool) → same_home (home_id h) (home_id g) ≡ b → held (home_id h) (set hs i None) ≡ None → held (home_id h) (Some g ∷ set hs i None) ≡ None
-    by true f r = absurd (lies_there h hs i e (ap (λ k. held k hs) (same_home_true (home_id h) (home_id g) f) ∙ a.0))
+    by true f r = absurd (lies_held h hs i e (ap (λ k. held k hs) (same_home_true (home_id h) (home_id g) f) ∙ a.0))
     by false f r = rw f r
 
 count_less : (hs : List (Option Home)) (i : ℕ) (h : Home) → slice_get hs i ≡ Some (Some h) → how_many_held hs ≡ how_many_held (set hs i None) + 1
@@ -93,7 +58,7 @@ same_count (None ∷ hs) gs a b same = same_count hs gs a b same
 same_count (Some h ∷ hs) gs a b same =
     let here : is_some (held (home_id h) (Some h ∷ hs)) ≡ true = rw (same_home_self (home_id h)) refl in
     let (i, g, there, is) = held_at (home_id h) gs (sym (same (home_id h)) ∙ here) in
-    let rest = same_count hs (set gs i None) a.1 (apart_less gs i b) (λ k. others k i g there is) in
+    let rest = same_count hs (set gs i None) a.1 (apart_without gs i b) (λ k. others k i g there is) in
     ap (λ n. n + 1) rest ∙ sym (count_less gs i g there)
   where
     others : (k : HomeId) (i : ℕ) (g : Home) → slice_get gs i ≡ Some (Some g) → home_id g ≡ home_id h → is_some (held k hs) ≡ is_some (held k (set gs i None))

@@ -3,7 +3,6 @@ use Rattle.std.proofs.Common.{◌≡◌, ◌≢◌, ◌⊎◌, ℕ, zero, suc, �
 use Rattle.std.specs.Prelude.{not, ◌==◌}
 use Rattle.std.specs.List.{range_with_len}
 use Rattle.std.proofs.lemmas.Bool.{false≢true}
-use Rattle.std.proofs.lemmas.Bool.Decides.{nat_tests}
 use Rattle.arrayvec.specs.ArrayVec.{ArrayVec}
 use Rattle.atomic_table.specs.Seated.{TableId}
 use Rattle.sd_types.specs.Partitions.{cpu_of_number}
@@ -49,13 +48,14 @@ use Rattle.sd_table_rule.specs.Plays.{AllNoted, HintsNoted, MayCommit, Sees, com
 use Rattle.sd_table_rule.proofs.Bridge.{moves, now_push, place_number, reached}
 use Rattle.sd_table_rule.proofs.Lists.{by_mine}
 use Rattle.sd_table_rule.proofs.Movers.{moves_mover}
-use Rattle.sd_table_rule.proofs.Since.{begins_then, reached_still}
+use Rattle.sd_table_rule.proofs.Since.{reached_still}
 use Rattle.sd_table_rule.proofs.Commits.{apart_if}
 use Rattle.sd_table.specs.declared.seat.Seat.{Seat}
 use Rattle.sd_table.specs.declared.seat.Held.{Held}
 use Rattle.sd_table.specs.Seats.{AreMoved, AreNumbers, Fits, FitsAs, HasMade, IsMoved, MayMake, Publishes, desk, indices, seat_meaning}
 use Rattle.sd_table.proofs.Counting.{same_count}
 use Rattle.sd_table.proofs.Fitting.{fits_as, may_stand}
+use Rattle.sd_world.proofs.WorldLemmas.{begins_then}
 
 -- Hints.
 

@@ -35,10 +35,11 @@ use Rattle.sd_table_rule.specs.Plays.{Sees, Slot, desk_of, giving, hinted, is_no
 use Rattle.sd_table_rule.specs.Words.{which_word}
 use Rattle.sd_table_rule.proofs.Bridge.{reached}
 use Rattle.sd_table_rule.proofs.Lists.{holds-cons_else, holds_here}
-use Rattle.sd_table_rule.proofs.Since.{begins_same, reached_still, since_same}
+use Rattle.sd_table_rule.proofs.Since.{reached_still, since_same}
 use Rattle.sd_table.specs.declared.seat.Held.{Held}
 use Rattle.sd_table.specs.declared.seat.Seat.{Seat}
 use Rattle.sd_table.specs.Seats.{AreNumbers, Fits, FitsAs, HasLast, Lifted, Lowered, Missed, SeatCounts, SeatHints, SeatStays, desk, indices, is_counted, lent, seat_meaning, table_meaning}
+use Rattle.sd_world.proofs.WorldLemmas.{begins_same}
 
 abbrev first_slot : List (ℕ × Slot) → Slot
 first_slot [] = None

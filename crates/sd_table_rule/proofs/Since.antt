@@ -1,5 +1,5 @@
 -- What a processor knows, when the history grows.
-use Rattle.std.proofs.Common.{◌≡◌, ◌≢◌, ℕ, ◌≤◌, true, List, [], ◌∷◌, ◌++◌, refl, sym, ap, ◌∙◌, subst, arith, append_assoc, append-nil}
+use Rattle.std.proofs.Common.{◌≡◌, ◌≢◌, ℕ, ◌≤◌, true, List, [], ◌∷◌, ◌++◌, refl, sym, ◌∙◌, subst, arith, append_assoc, append-nil}
 use Rattle.sd_types.specs.declared.events.Entry.{Entry}
 use Rattle.sd_types.specs.declared.works.Work.{Work}
 use Rattle.sd_state.specs.Opening.{opening}
@@ -11,12 +11,7 @@ use Rattle.sd_table_rule.specs.Ledgers.{Since}
 use Rattle.sd_table_rule.specs.Places.{Touches, holds, now}
 use Rattle.sd_table_rule.proofs.Bridge.{frame, others, rises}
 use Rattle.sd_table_rule.proofs.Lists.{by_else}
-
-pub begins_same : (h : List Entry) → Begins h h
-begins_same h = ([], sym (append-nil h))
-
-pub begins_then : (a b c : List Entry) → Begins a b → Begins b c → Begins a c
-begins_then a b c x y = (x.0 ++ y.0, y.1 ∙ (ap (λ l. l ++ y.0) x.1 ∙ append_assoc a x.0 y.0))
+use Rattle.sd_world.proofs.WorldLemmas.{begins_same, begins_then}
 
 module _ (w : Work) where
   pub since_same : (c : ℕ) (held : List ℕ) (h : List Entry) → Since w c held h h

@@ -1,2 +1,4 @@
 pub mod PriorityLemmas
+pub mod SameLemmas
+pub mod ScriptLemmas
 pub mod WilledLemmas

@@ -359,3 +359,12 @@ written l n ws ys zs i d h here same as_it_was e =
     ∙ set-split ws i (l, n) h
     ∙ ap (λ (xs : Numbers). take i ws ++ xs) (sym (with-at l n ws i d h found))
     ∙ sym e
+
+-- soundness looks at the two lists alone
+pub sound_is : (b d : ThreadBody) → d.willed.items ≡ b.willed.items → d.held.items ≡ b.held.items → IsSound b → IsSound d
+sound_is b d willed held is = record {
+  below = subst (λ (ws : Numbers). list_all (λ w. nat_lt w.1 160) ws ≡ true) (sym willed) is.below;
+  apart = subst (λ (ws : Numbers). is_distinct same_lock ws ≡ true) (sym willed) is.apart;
+  owned = subst (λ (ws : Numbers). list_all (λ w. is_held w.0 d.held.items) ws ≡ true) (sym willed) (subst (λ (ls : List LockId). list_all (λ w. is_held w.0 ls) b.willed.items ≡ true) (sym held) is.owned);
+  held_once = subst (λ (ls : List LockId). is_distinct is_lock ls ≡ true) (sym held) is.held_once;
+}

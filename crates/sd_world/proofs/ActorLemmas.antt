@@ -4,7 +4,6 @@ use Rattle.std.specs.Prelude.{nat_le}
 use Rattle.std.specs.List.{list_all}
 use Rattle.std.proofs.lemmas.Option.{get_or_from_slice_get, slice_get-get_or}
 use Rattle.sd_basics.proofs.Lists.{get_cases}
-use Rattle.sd_types.specs.declared.numbers.CpuId.{CpuId}
 use Rattle.sd_state.specs.declared.states.CpuState.{CpuState}
 use Rattle.sd_state.specs.declared.states.State.{State}
 use Rattle.sd_state.specs.States.{no_cpu}
@@ -50,6 +49,3 @@ all_counts s actors n are =
 -- the processor at an index
 pub at_index : (s : State) (actors : List Actor) (c : ℕ) (a : Actor) → AreActorsOf s actors → c < length actors → a ≡ get_or actors c a → slice_get actors c ≡ Some a
 at_index s actors c a are inside e = slice_get-get_or actors c a inside ∙ ap Some (sym e)
-
-pub same_cpu : (a b : CpuId) → a.0 ≡ b.0 → a ≡ b
-same_cpu a b e = ap (λ n. record { 0 = n }) e

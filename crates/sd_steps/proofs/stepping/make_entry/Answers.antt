@@ -1,15 +1,13 @@
-use Rattle.std.proofs.Common.{◌+◌, Option, refl, ap, sym, ◌∙◌, subst, arith}
+use Rattle.std.proofs.Common.{◌+◌, Option, refl, ap, sym, ◌∙◌, subst}
 use Rattle.sd_state.specs.declared.states.State.{State}
 use Rattle.sd_types.specs.declared.events.Event.{Event}
-use Rattle.sd_types.specs.declared.events.Hints.{Hints}
-use Rattle.sd_machine.specs.Events.{next}
 use Rattle.sd_machine.specs.Runs.{IsReached, final, made, serial_hints}
 use Rattle.sd_machine.proofs.RunLemmas.{final-one, final-nil}
 use Rattle.sd_invariants.proofs.Range.{needs_reached}
 use Rattle.sd_invariants.proofs.Whole.{fit_reached}
 use Rattle.sd_steps.proofs.Needed.{no_maker}
-use Rattle.sd_steps.proofs.ReplayLemmas.{reached_more}
 use Rattle.sd_steps.proofs.stepping.make_entry.Goals as goal
+use Rattle.sd_invariants.proofs.Induction.{reached_more}
 
 pub returns-then-c-work-clause-entry : goal.returns-then-c-work-clause-entry
 returns-then-c-work-clause-entry c =

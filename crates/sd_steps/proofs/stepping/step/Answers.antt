@@ -5,8 +5,8 @@ use Rattle.sd_state.specs.declared.states.State.{State}
 use Rattle.sd_types.specs.declared.events.Event.{Event}
 use Rattle.sd_machine.specs.Events.{after}
 use Rattle.sd_machine.specs.Runs.{IsReached}
-use Rattle.sd_steps.proofs.ReplayLemmas.{reached_more}
 use Rattle.sd_steps.proofs.stepping.step.Goals as goal
+use Rattle.sd_invariants.proofs.Induction.{reached_more}
 
 pub next_of-requires : goal.next_of-requires
 next_of-requires c = record { fit = fit_reached c.args.work.now c.args.entry.now.number c.args.s.now c.requires.reached }

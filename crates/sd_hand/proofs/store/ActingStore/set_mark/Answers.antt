@@ -1,7 +1,8 @@
 use Rattle.sd_state.specs.States.{cpu_of}
 use Rattle.sd_machine.specs.Changes.{marked, set_mark}
-use Rattle.sd_hand.proofs.TellLemmas.{marked_count, marked_duty, view_is}
+use Rattle.sd_hand.proofs.TellLemmas.{marked_count, view_is}
 use Rattle.sd_hand.proofs.store.ActingStore.set_mark.Goals as goal
+use Rattle.sd_store.proofs.WokenDuties.{marked_duty}
 
 pub returns-in-Ok-clause-value : goal.returns-in-Ok-clause-value
 unfolding set_mark

@@ -1,9 +1,10 @@
 use Rattle.std.proofs.Common.{◌≡◌, ◌<◌, length, sym, subst, arith}
 use Rattle.std.specs.Prelude.{slice_get, Some, vec_len}
 use Rattle.sd_world.specs.Plain.{told}
-use Rattle.sd_world.proofs.ActorLemmas.{at_index, same_cpu}
+use Rattle.sd_world.proofs.ActorLemmas.{at_index}
 use Rattle.sd_world.proofs.PlainLemmas.{acts_now, actor_inside}
 use Rattle.sd_world.proofs.plain.PlainWorld.act_as.Goals as goal
+use Rattle.sd_types.proofs.SameLemmas.{same_cpu}
 
 pub index-requires : goal.index-requires
 index-requires c =
