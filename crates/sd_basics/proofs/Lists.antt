@@ -48,12 +48,6 @@ get_set_other (y ∷ ys) zero (suc j) x other = refl
 get_set_other (y ∷ ys) (suc i) zero x other = refl
 get_set_other (y ∷ ys) (suc i) (suc j) x other = get_set_other ys i j x (λ e. other (ap suc e))
 
--- nothing is written past the end
-pub set_past : {X : Type 0} (xs : List X) (i : ℕ) (x : X) → length xs ≤ i → set xs i x ≡ xs
-set_past [] i x past = refl
-set_past (y ∷ ys) zero x past = absurd (omega arith)
-set_past (y ∷ ys) (suc i) x past = ap (λ zs. y ∷ zs) (set_past ys i x (omega arith))
-
 -- ---- all elements
 
 pub all_at : {X : Type 0} (p : X → Bool) (xs : List X) (i : ℕ) (x : X) → list_all p xs ≡ true → slice_get xs i ≡ Some x → p x ≡ true

@@ -2,7 +2,7 @@
 use Rattle.std.proofs.Common.{◌≡◌, ℕ, ◌<◌, Bool, List, length, get_or, set, Some, None, sym, ap, ◌∙◌, subst, inl, inr}
 use Rattle.std.specs.Prelude.{⊤, ◌⊎◌, Ok}
 use Rattle.std.proofs.lemmas.Bool.{cases_lt, cases_eq}
-use Rattle.sd_basics.proofs.Lists.{set_past}
+use Rattle.std.proofs.lemmas.List.{set_past}
 use Rattle.sd_frames.proofs.Frames.{IsFrame, KeepsRest, Rest, rest_of, after_kept}
 use Rattle.sd_frames.proofs.Parts.{put_item}
 use Rattle.sd_types.specs.declared.numbers.CpuId.{CpuId}

@@ -2,7 +2,7 @@
 use Rattle.std.proofs.Common.{◌≡◌, ℕ, ◌<◌, ◌≤◌, List, [], ◌∷◌, length, get_or, set, ap, ◌∙◌, sym, subst, inl, inr}
 use Rattle.std.proofs.lemmas.Bool.{cases_eq, cases_lt}
 use Rattle.std.proofs.lemmas.List.{get_or-set_same, get_or-set_other}
-use Rattle.sd_basics.proofs.Lists.{set_past}
+use Rattle.std.proofs.lemmas.List.{set_past}
 use Rattle.sd_machine.proofs.Moves.{IsPut, IsSame}
 
 -- a part of a list, where one item is written

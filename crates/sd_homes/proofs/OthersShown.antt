@@ -1,7 +1,8 @@
 -- The greatest effective priority of the waiters of a lock but one.
 use Rattle.std.proofs.Common.{◌≡◌, ℕ, ◌<◌, ◌≤◌, Bool, true, false, ◌==◌, List, [], ◌∷◌, ◌++◌, length, set, slice_get, zero, suc, refl, sym, ap, ◌∙◌, subst, le_refl, inl, inr}
 use Rattle.std.proofs.lemmas.Bool.{eqb-true, eqb-false, eq-eqb, cases_lt}
-use Rattle.sd_basics.proofs.Lists.{get_set, set_past}
+use Rattle.std.proofs.lemmas.List.{set_past}
+use Rattle.sd_basics.proofs.Lists.{get_set}
 use Rattle.sd_types.specs.declared.numbers.LockId.{LockId}
 use Rattle.sd_types.specs.declared.numbers.Side.TheVariants.{Writer, Reader}
 use Rattle.sd_boxq.specs.Order.{drop_id}

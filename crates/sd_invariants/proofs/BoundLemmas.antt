@@ -34,7 +34,7 @@ use Rattle.std.specs.List.{range_with_len}
 use Rattle.sd_state.specs.States.{with_cpu}
 use Rattle.std.proofs.lemmas.Bool.{cases_eq, cases_lt}
 use Rattle.std.proofs.lemmas.Bool.Decides.{nat_tests}
-use Rattle.sd_basics.proofs.Lists.{set_past}
+use Rattle.std.proofs.lemmas.List.{set_past}
 use Rattle.sd_basics.proofs.Numbers.{same_itself}
 use Rattle.sd_types.specs.declared.works.ThreadDecl.{ThreadDecl}
 use Rattle.sd_state.specs.Opening.{first_cpu_state, first_thread, first_threads, opening}

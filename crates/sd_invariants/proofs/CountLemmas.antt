@@ -29,7 +29,7 @@ use Rattle.std.proofs.lemmas.Bool.Decides.{nat_tests}
 use Rattle.std.proofs.lemmas.Bool.{cases_eq, cases_lt}
 use Rattle.std.proofs.Common.{get_or, ◌≤◌, inl, inr, zero, suc, [], ◌∷◌}
 use Rattle.std.specs.Prelude.{map}
-use Rattle.sd_basics.proofs.Lists.{set_past}
+use Rattle.std.proofs.lemmas.List.{set_past}
 use Rattle.sd_basics.proofs.Truths.{and_left}
 use Rattle.sd_state.specs.Opening.{first_cpu_state, opening}
 

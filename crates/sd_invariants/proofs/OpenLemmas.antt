@@ -35,7 +35,7 @@ use Rattle.std.proofs.lemmas.Bool.{cases_eq, cases_lt, false≢true, eqb-true}
 use Rattle.std.proofs.lemmas.Bool.Decides.{nat_tests}
 use Rattle.std.proofs.lemmas.List.{get_or_past, get_or-set_same, get_or-set_other}
 use Rattle.std.proofs.lemmas.List.FromFn.{get_or-map-range_with_len, length-map-range_with_len}
-use Rattle.sd_basics.proofs.Lists.{set_past}
+use Rattle.std.proofs.lemmas.List.{set_past}
 use Rattle.sd_types.specs.Partitions.{set_of_cpu, cpu_of_number, cpus_of_set}
 use Rattle.sd_state.specs.Opening.{first_cpu_state, open_list, opening}
 use Rattle.sd_machine.specs.Threads.{no_cpus, open_of, with_open}

@@ -31,7 +31,7 @@ use Rattle.sd_machine.specs.Runs.{final, IsComplete, IsRun, IsRunFrom, shown, se
 use Rattle.std.proofs.lemmas.List.{length-append}
 use Rattle.std.proofs.lemmas.List.Elements.{All-nil, All-cons, All-head, All-tail}
 use Rattle.sd_machine.proofs.RunLemmas.{final-push, IsRun-nil, IsRun-append, IsRun-from, IsRunFrom-nil, IsRunFrom-one, IsRunFrom-append}
-use Rattle.sd_invariants.specs.Laws.{OpenHold, is_in}
+use Rattle.sd_invariants.specs.Laws.{OpenHold}
 use Rattle.sd_invariants.proofs.Whole.{reached_whole}
 use Rattle.sd_machine.specs.Texts.{journal}
 use Rattle.sd_rounds.specs.declared.orders.Turns.{Turns}
@@ -59,13 +59,6 @@ all_low s a [] fine = refl
 all_low s a (d ∷ ds) fine = rw (shown_low s a d fine, all_low s a ds fine) refl
 
 -- ---- of at most 64 processors
-
-more_in : (c : ℕ) (d : CpuId) (ds : List CpuId) → is_in c ds ≡ true → is_in c (d ∷ ds) ≡ true
-more_in c d ds e = by (d.0 == c)
-  where
-    by : (b : Bool) → (b || is_in c ds) ≡ true
-    by true = refl
-    by false = e
 
 open_few : (w : Work) (s : State) (p : ℕ) → OpenHold w s → length (open_of s p) ≤ 64
 open_few w s p holds =
@@ -120,8 +113,8 @@ shown_ok s None fine short = refl
 shown_ok s (Some r) fine short =
     let most = short r refl in
     let many = map_many (hint_shown s r.0) r.1 in
-    let rising_many : nat_le (length (map (hint_shown s r.0) r.1)) 64 ≡ true = grind (arith, nat_tests) in
-    rw (rising_many, all_low s r.0 r.1 fine) refl
+    let few : nat_le (length (map (hint_shown s r.0) r.1)) 64 ≡ true = grind (arith, nat_tests) in
+    rw (few, all_low s r.0 r.1 fine) refl
 
 serial_ok : (w : Work) (n : ℕ) (s : State) (c : CpuId) → IsReached w n s → hints_in_range (serial_hints w s c) ≡ true
 unfolding serial_hints reads
@@ -165,11 +158,11 @@ range_of_shown w n s (e ∷ es) reached run shown =
 -- each entry of a run has a line of its own, where the numbers that were read have 8 bits
 run_spelled : (w : Work) (n : ℕ) (s : State) (es : List Entry) → IsReached w n s → IsRunFrom w s n es → All HasBytes es → n + length es < 2 ^ 64 → All (IsSpelled w) es
 unfolding IsRunFrom
-run_spelled w n s [] reached run bytes rising_many = All-nil (IsSpelled w)
-run_spelled w n s (e ∷ es) reached run bytes rising_many =
-    let here = spelled w n s e reached run.1 (let at = run.0 in omega (arith, at, rising_many)) (All-head HasBytes e es bytes) in
+run_spelled w n s [] reached run bytes few = All-nil (IsSpelled w)
+run_spelled w n s (e ∷ es) reached run bytes few =
+    let here = spelled w n s e reached run.1 (let at = run.0 in omega (arith, at, few)) (All-head HasBytes e es bytes) in
     All-cons (IsSpelled w) e es here
-    (run_spelled w (n + 1) (after w s e.number e.cpu e.event) es (reached_more w n s e reached run.0 run.1) run.2 (All-tail HasBytes e es bytes) (omega (arith, rising_many)))
+    (run_spelled w (n + 1) (after w s e.number e.cpu e.event) es (reached_more w n s e reached run.0 run.1) run.2 (All-tail HasBytes e es bytes) (omega (arith, few)))
 
 -- so has each that read what the states show
 pub all_spelled : (w : Work) (n : ℕ) (s : State) (es : List Entry) → IsReached w n s → IsRunFrom w s n es → IsFresh w s es → n + length es < 2 ^ 64 → All (IsSpelled w) es
@@ -196,10 +189,10 @@ serial_run w orders es serial = subst (λ (xs : List Entry). IsRun w xs) (sym se
 -- the journal of a complete run is one that the audit finds legal
 pub run_journal : (w : Work) (es : List Entry) → IsRun w es → IsComplete w (final w (opening w) es) → All HasBytes es → length es < 2 ^ 40
     → IsJournal w (journal w es) (final w (opening w) es) (length es)
-run_journal w es run complete bytes rising_many = record {
+run_journal w es run complete bytes few = record {
   entries = es;
   run = run;
-  spelled = run_spelled w 0 (opening w) es (opening_reached w) (IsRun-from w es run) bytes (omega (arith, rising_many));
+  spelled = run_spelled w 0 (opening w) es (opening_reached w) (IsRun-from w es run) bytes (omega (arith, few));
   complete = complete;
   whole = refl;
   many = refl;
@@ -208,6 +201,6 @@ run_journal w es run complete bytes rising_many = record {
 
 pub serial_journal : (w : Work) (turns : Turns) (es : List Entry) → IsSerial w (orders_of w turns) es → length es < 2 ^ 40
     → IsJournal w (journal w es) (final w (opening w) es) (length es)
-serial_journal w turns es serial rising_many =
+serial_journal w turns es serial few =
     let run = serial_run w (orders_of w turns) es serial in
-    run_journal w es run (complete_of w turns es serial) (serial_bytes w (orders_of w turns) es serial run) rising_many
+    run_journal w es run (complete_of w turns es serial) (serial_bytes w (orders_of w turns) es serial run) few

@@ -1,9 +1,8 @@
 -- The line of an entry has one newline, at its end: neither a name nor a number has any.
-use Rattle.std.proofs.Common.{◌≡◌, ℕ, zero, suc, true, false, ◌&&◌, List, [], ◌∷◌, ◌++◌, length, leb, Option, Some, None, refl, ◌∙◌, arith}
+use Rattle.std.proofs.Common.{◌≡◌, ℕ, zero, suc, true, ◌&&◌, List, [], ◌∷◌, ◌++◌, length, leb, Option, Some, None, refl, ◌∙◌}
 use Rattle.std.proofs.lemmas.Bool.{and_parts}
 use Rattle.std.specs.Prelude.{codes, decimal, option_map, unwrap_or, slice_get}
 use Rattle.std.specs.List.{list_all}
-use Rattle.std.proofs.lemmas.Bool.Decides.{nat_tests}
 use Rattle.std.proofs.lemmas.List.Folds.{list_all-append}
 use Rattle.sd_types.specs.declared.names.Name.{Name}
 use Rattle.sd_types.specs.declared.numbers.CpuId.{CpuId}
@@ -28,7 +27,7 @@ use Rattle.sd_types.specs.declared.events.BindAnswer.TheVariants as bind
 use Rattle.sd_types.specs.declared.events.Entry.{Entry}
 use Rattle.sd_types.specs.declared.works.Work.{Work}
 use Rattle.sd_types.specs.NameWords.{is_name_byte, begins_with_letter}
-use Rattle.sd_text.specs.Lines.{is_newline, is_line, IsOneLine}
+use Rattle.sd_text.specs.Lines.{is_line, IsOneLine}
 use Rattle.sd_text.proofs.NumberLemmas.{decimal-line}
 use Rattle.sd_text.proofs.PieceLemmas.{one_line-append, one_line-newline}
 use Rattle.sd_state.specs.Texts.{thread_name, lock_name, chan_name, end_text}
@@ -38,9 +37,6 @@ use Rattle.sd_entries.proofs.WordLemmas.{line_join}
 use Rattle.sd_entries.proofs.PlainLemmas.{no_newlines}
 
 -- ---- names
-
-name-byte : (b : ℕ) → is_name_byte b ≡ true → is_newline b ≡ false
-name-byte b h = grind (arith, nat_tests)
 
 name-line : (x : Name) → is_line x.text.items ≡ true
 name-line x = no_newlines x.text.items (and_parts (begins_with_letter x.text.items && leb (length x.text.items) 16) (list_all is_name_byte x.text.items) x.is_name).1

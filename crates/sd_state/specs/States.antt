@@ -1,6 +1,6 @@
 -- Reading and changing a state. A number that is out of range reads a thread that has ended and a processor that
 -- is idle, and changes nothing.
-use Rattle.std.specs.Prelude.{◌≡◌, ℕ, Bool, false, ◌||◌, [], ◌==◌, None, ℤ, pos, option_map, unwrap_or, slice_get, slice_index_or, slice_set, true, List}
+use Rattle.std.specs.Prelude.{◌≡◌, ℕ, Bool, false, ◌||◌, [], ◌==◌, None, ℤ, pos, option_map, unwrap_or, slice_get, slice_index_or, slice_set, true, List, length}
 use Rattle.std.specs.List.{range_with_len}
 use Rattle.sd_types.specs.declared.numbers.SetId.{SetId}
 use Rattle.sd_types.specs.declared.numbers.Side.{Side}

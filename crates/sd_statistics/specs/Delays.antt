@@ -5,13 +5,13 @@ use Rattle.std.specs.List.{flat_map}
 use Rattle.sd_stretches.specs.declared.changes.Wakeup.{Wakeup}
 use Rattle.sd_stretches.specs.declared.rows.Stretch.{Stretch}
 use Rattle.sd_stretches.specs.Rows.{next_of}
-use Rattle.sd_stretches.specs.Sights.{runs_somewhere}
+use Rattle.sd_stretches.specs.Sights.{does_run}
 use Rattle.sd_statistics.specs.declared.spans.Span.{Span}
 use Rattle.sd_statistics.specs.Spans.{state_after}
 
 -- begins behind the entry, and the thread runs over it
 abbrev pub runs_after : ℕ → Stretch → Bool
-runs_after entry x = nat_lt entry x.first && runs_somewhere x.doing
+runs_after entry x = nat_lt entry x.first && does_run x.doing
 
 abbrev pub first_run : ℕ → List Stretch → Option Stretch
 first_run entry own = next_of (filter (runs_after entry) own)

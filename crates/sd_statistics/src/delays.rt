@@ -6,13 +6,13 @@ ghost use Rattle.std.specs.Prelude.{◌≡◌, ◌++◌, IfOk, OnOk};
 ghost use Rattle.sd_statistics.specs.Delays.{delay_if, delay_to, delays_of, first_run, runs_after};
 
 use crate::spans::{Span, state_after};
-use sd_stretches::{Stretch, Wakeup, runs_somewhere};
+use sd_stretches::{Stretch, Wakeup, does_run};
 use std::alloc::{AllocError, Global};
 
 fn runs_after(entry: u64, x: &Stretch) -> bool
     ensures { result ≡ runs_after entry x.now }
 {
-    entry < x.first && runs_somewhere(x.doing)
+    entry < x.first && does_run(x.doing)
 }
 
 // The first stretch behind the entry over which the thread runs.

@@ -30,9 +30,9 @@ runs_on c (Running d) = d.0 == c
 runs_on c _ = false
 
 -- it runs on some processor
-abbrev pub runs_somewhere : Doing → Bool
-runs_somewhere (Running c) = true
-runs_somewhere _ = false
+abbrev pub does_run : Doing → Bool
+does_run (Running c) = true
+does_run _ = false
 
 abbrev pub same_doing : Doing → Doing → Bool
 same_doing (Running c) (Running d) = c.0 == d.0

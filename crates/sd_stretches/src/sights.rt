@@ -4,7 +4,7 @@
 
 ghost use Rattle.std.specs.Prelude.{◌≡◌, ◌==◌, map, IfOk};
 ghost use Rattle.sd_types.specs.Priorities.{base_of, eff};
-ghost use Rattle.sd_stretches.specs.Sights.{class_of, doing_of, runs_on, runs_somewhere, same_doing, same_rank, sight_of, sights_of, runnable, is_runnable};
+ghost use Rattle.sd_stretches.specs.Sights.{class_of, doing_of, runs_on, does_run, same_doing, same_rank, sight_of, sights_of, runnable, is_runnable};
 
 use sd_state::{Place, State, ThreadState};
 use sd_types::{ChanId, Class, ClassState, CpuId, LockId};
@@ -85,8 +85,8 @@ pub(crate) fn sights_of(alloc: Global, s: &State) -> Result<Vec<Sight>, AllocErr
 }
 
 /// Whether it runs on some processor.
-pub fn runs_somewhere(doing: Doing) -> bool
-    ensures { result ≡ runs_somewhere doing }
+pub fn does_run(doing: Doing) -> bool
+    ensures { result ≡ does_run doing }
 {
     matches!(doing, Doing::Running(_))
 }

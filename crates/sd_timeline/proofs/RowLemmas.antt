@@ -1,7 +1,7 @@
 -- Whose the rows of a picture are, and who comes first.
 use Rattle.std.proofs.Common.{◌≡◌, ℕ, zero, suc, ◌+◌, ◌<◌, ◌≤◌, Bool, true, false, cond, eqb, leb, List, [], ◌∷◌, ◌++◌, length, take, drop, get_or, refl, sym, ap, subst, ◌∙◌, arith, ◌⊎◌, inl, inr}
 use Rattle.std.specs.Prelude.{filter, not, min}
-use Rattle.std.specs.List.{All, AllByRecursion, Contains, IsDistinct, flat_map, range_with_len}
+use Rattle.std.specs.List.{All, AllByRecursion, Contains, IsDistinct, range_with_len}
 use Rattle.std.specs.List.Sorted.{IsPermutation}
 use Rattle.std.proofs.lemmas.Bool.Decides.{nat_tests}
 use Rattle.std.proofs.lemmas.List.{length-take, take-append-drop, take-append-le}
@@ -46,10 +46,6 @@ distinct_take (suc n) [] h = tt
 distinct_take (suc n) (x ∷ xs) h = (all_take (λ y. eqb x y ≡ false) n xs h.0, distinct_take n xs h.1)
 
 -- ---- a range, and one number more
-
-flat_one : (xs : List ℕ) → flat_map (λ t. t ∷ []) xs ≡ xs
-flat_one [] = refl
-flat_one (x ∷ xs) = ap (λ ys. x ∷ ys) (flat_one xs)
 
 pub range_grown : (n : ℕ) (old new : List ℕ) → old ≡ range_with_len 0 n → new ≡ old ++ n ∷ [] → new ≡ range_with_len 0 (n + 1)
 range_grown n old new so_far more = more ∙ ap (λ (xs : List ℕ). xs ++ n ∷ []) so_far ∙ sym (range_more n)

@@ -13,13 +13,13 @@ use Rattle.sd_stretches.specs.SpinPieces.{pieces}
 use Rattle.sd_timeline.specs.declared.layouts.Row.{Row}
 use Rattle.sd_timeline.specs.declared.layouts.Row.TheVariants.{Cpu, Thread}
 use Rattle.sd_timeline.specs.Layouts.{Layout, across, column, row_of, shows, width}
-use Rattle.sd_stretches.specs.Sights.{runs_somewhere}
+use Rattle.sd_stretches.specs.Sights.{does_run}
 use Rattle.sd_timeline.specs.Pieces.{path_start, path_end}
 use Rattle.sd_timeline.specs.Bars.{stretch_title}
 
 -- a thread runs, but takes no tick, and what is drawn shows when
 abbrev pub is_moment : Layout → Stretch → Bool
-is_moment f x = runs_somewhere x.doing && (x.from == x.to) && shows f x.from
+is_moment f x = does_run x.doing && (x.from == x.to) && shows f x.from
 
 -- it has a bar or a mark
 abbrev pub is_drawn : Layout → Stretch → Bool

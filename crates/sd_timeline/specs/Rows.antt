@@ -7,14 +7,14 @@ use Rattle.sd_state.specs.States.{thread_numbers}
 use Rattle.sd_stretches.specs.declared.histories.History.{History}
 use Rattle.sd_stretches.specs.declared.rows.Stretch.{Stretch}
 use Rattle.sd_stretches.specs.Rows.{stretches}
-use Rattle.sd_stretches.specs.Sights.{runs_somewhere}
+use Rattle.sd_stretches.specs.Sights.{does_run}
 use Rattle.sd_timeline.specs.declared.frames.Frame.{Frame}
 use Rattle.sd_timeline.specs.Folds.{folds, scale_of}
 use Rattle.sd_timeline.specs.Layouts.{Layout}
 
 -- the thread runs in the ticks that are drawn, or comes there from doing one thing to doing another
 abbrev pub runs_in : Frame → Stretch → Bool
-runs_in f x = runs_somewhere x.doing && (nat_le x.from f.to && nat_le f.from x.to)
+runs_in f x = does_run x.doing && (nat_le x.from f.to && nat_le f.from x.to)
 
 abbrev pub begins_in : Frame → Stretch → Bool
 begins_in f x = nat_lt 0 x.first && (nat_le f.from x.from && nat_le x.from f.to)

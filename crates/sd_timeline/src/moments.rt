@@ -7,7 +7,7 @@ ghost use Rattle.sd_timeline.specs.Moments.{cpu_moment, drawn_by, drawn_pieces, 
 use crate::bars::put_title;
 use crate::layouts::{Layout, Row};
 use crate::pieces::{put_path_end, put_path_start};
-use sd_stretches::{Doing, History, Stretch, Track, pieces, runs_somewhere};
+use sd_stretches::{Doing, History, Stretch, Track, does_run, pieces};
 use sd_types::Work;
 use std::alloc::{AllocError, Global};
 
@@ -15,7 +15,7 @@ use std::alloc::{AllocError, Global};
 pub(crate) fn is_moment(layout: &Layout, x: &Stretch) -> bool
     ensures { result ≡ is_moment layout.now x.now }
 {
-    runs_somewhere(x.doing) && x.from == x.to && layout.shows(x.from)
+    does_run(x.doing) && x.from == x.to && layout.shows(x.from)
 }
 
 // It has a bar or a mark.

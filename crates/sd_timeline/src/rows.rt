@@ -8,7 +8,7 @@ ghost use Rattle.sd_timeline.specs.Rows.{acts, begins_in, is_deed, layout_of, or
 use crate::folds::{folds, scale_of};
 use crate::frames::Frame;
 use crate::layouts::Layout;
-use sd_stretches::{History, Stretch, runs_somewhere, stretches};
+use sd_stretches::{History, Stretch, does_run, stretches};
 use sd_types::Work;
 use std::alloc::{AllocError, Global};
 
@@ -16,7 +16,7 @@ use std::alloc::{AllocError, Global};
 fn runs_in(frame: Frame, x: &Stretch) -> bool
     ensures { result ≡ runs_in frame x.now }
 {
-    runs_somewhere(x.doing) && x.from <= frame.to && frame.from <= x.to
+    does_run(x.doing) && x.from <= frame.to && frame.from <= x.to
 }
 
 // It comes there from doing one thing to doing another.

@@ -2,7 +2,7 @@ use Rattle.std.proofs.Common.{◌≡◌, IfSome, length, true, sym, ap, ◌∙�
 use Rattle.sd_machine.specs.Events.{allowed, next, plan_event}
 use Rattle.sd_machine.specs.Hints.{hints_fit, plan_reads}
 use Rattle.sd_machine.specs.Runs.{shown}
-use Rattle.sd_steps.proofs.EnteringLemmas.{shown_fit}
+use Rattle.sd_invariants.proofs.Complete.{shown_fit}
 use Rattle.sd_world.specs.Plain.{AreCpus, told}
 use Rattle.sd_world.proofs.PlainLemmas as P
 use Rattle.sd_cpu.proofs.ReadLemmas.{read_there, reading_there}
