@@ -47,7 +47,7 @@ begins : (x : ℕ) (xs : List ℕ) → Begins x (whole_lines (x ∷ xs))
 unfolding whole_lines
 begins x xs = begins_step (is_newline x) x (whole_lines xs)
 
-nil_cons : (l : List ℕ) (ls : List (List ℕ)) → [] ≡ l ∷ ls → ⊥
+pub nil_cons : (l : List ℕ) (ls : List (List ℕ)) → [] ≡ l ∷ ls → ⊥
 nil_cons l ls e = cc
 
 no_lines : (xs : List ℕ) → whole_lines xs ≡ [] → xs ≡ []

@@ -22,12 +22,10 @@ use Rattle.sd_audit.specs.declared.audits.AuditFault.TheVariants.{NotAnEntry, Il
 use Rattle.sd_audit.specs.Audits.{entry_line, TellsRun, NoEntryNext, IsNotAnEntry, IsIllegal, IsIncomplete, IsOtherTail, IsFault, IsJournal, IsMemory, IsRunSoFar, tail_text, whole_lines, common_lines}
 use Rattle.sd_audit.proofs.LineLemmas.{text_of, same_line, not_accounts, journal_lines}
 use Rattle.sd_types.proofs.SameLemmas.{same_cpu}
+use Rattle.sd_audit.proofs.CommonLemmas.{nil_cons}
 
 pub head_same : (x y : List ℕ) (xs ys : List (List ℕ)) → x ∷ xs ≡ y ∷ ys → (x ≡ y) × (xs ≡ ys)
 head_same x y xs ys e = (cc, cc)
-
-nil_cons : (y : List ℕ) (ys : List (List ℕ)) → [] ≡ y ∷ ys → ⊥
-nil_cons y ys e = cc
 
 -- the second list goes on where the first ends
 record Longer (w : Work) (es fs : List Entry) (xs : List (List ℕ)) : Type 0 where

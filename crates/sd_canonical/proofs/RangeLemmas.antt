@@ -100,7 +100,7 @@ line-kept d (InScript t ops) line h r = either (is_end line) (with_script d t op
 
 -- ---- texts
 
-unrefused : (n : ℕ) (c : Option WorkCause) (v : Verdict) (e : Declarations) → unless_refused n c v ≡ Accepts e → (c ≡ None) × (v ≡ Accepts e)
+pub unrefused : (n : ℕ) (c : Option WorkCause) (v : Verdict) (e : Declarations) → unless_refused n c v ≡ Accepts e → (c ≡ None) × (v ≡ Accepts e)
 unrefused n None v e h = (refl, h)
 unrefused n (Some cause) v e h = absurd (apart e n cause (sym h))
 

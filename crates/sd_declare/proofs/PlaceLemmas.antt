@@ -11,16 +11,11 @@ use Rattle.std.proofs.lemmas.Bool.Decides.{nat_tests}
 use Rattle.sd_basics.proofs.Lists.{map-map}
 use Rattle.sd_types.specs.Works.{same_bytes}
 use Rattle.sd_lines.proofs.PlaceLemmas.{place-map, position-map, any-map}
-use Rattle.sd_text.proofs.LineLemmas.{chosen}
-
--- the index that was found, or else the length
-or_length : {A : Type 0} (p : A → Bool) (xs : List A) → unwrap_or (position p xs) (length xs) ≡ position_or_len p xs
-or_length p xs =
-    chosen (ltb (position_or_len p xs) (length xs)) _ _ (λ past. let le = prefix_len-le-length (λ x. not (p x)) xs in grind (arith, nat_tests))
+use Rattle.sd_text.proofs.LineLemmas.{index_or_length}
 
 -- the place of the first that passes, among what is shown of a list
 pub place_kept : {A B : Type 0} (f : A → B) (p : B → Bool) (xs : List A) → unwrap_or (position (λ x. p (f x)) xs) (length xs) ≡ position_or_len p (map f xs)
-place_kept f p xs = or_length (λ x. p (f x)) xs ∙ sym (place-map f p xs)
+place_kept f p xs = index_or_length (λ x. p (f x)) xs ∙ sym (place-map f p xs)
 
 placed : (b : Bool) (n m : ℕ) → ltb (cond (not b) (1 + n) 0) (suc m) ≡ false → (b ≡ false) × (ltb n m ≡ false)
 placed true n m h = absurd (grind (arith, nat_tests))
@@ -34,7 +29,7 @@ none-placed p (x ∷ xs) h =
     rw (q.0) (none-placed p xs q.1)
 
 pub place_within : {A B : Type 0} (f : A → B) (p : B → Bool) (xs : List A) → unwrap_or (position (λ x. p (f x)) xs) (length xs) ≤ length xs
-place_within f p xs = let e = or_length (λ x. p (f x)) xs in let le = prefix_len-le-length (λ x. not (p (f x))) xs in omega (arith, e, le)
+place_within f p xs = let e = index_or_length (λ x. p (f x)) xs in let le = prefix_len-le-length (λ x. not (p (f x))) xs in omega (arith, e, le)
 
 -- an element of what is shown twice
 pub get_kept : {A B C : Type 0} (f : A → B) (g : B → C) (xs : List A) (n : ℕ) → option_map (λ x. g (f x)) (slice_get xs n) ≡ slice_get (map g (map f xs)) n

@@ -1,25 +1,16 @@
 -- The index that was found, or else the length; words further on; names that differ.
-use Rattle.std.proofs.Common.{◌≡◌, ℕ, ◌+◌, ◌<◌, ◌≤◌, Bool, true, false, not, ◌||◌, cond, ltb, List, [], ◌∷◌, ◌++◌, length, map, take, drop, get_or, Some, None, position, refl, sym, ap, ◌∙◌, arith}
+use Rattle.std.proofs.Common.{◌≡◌, ℕ, ◌+◌, ◌<◌, ◌≤◌, Bool, true, false, not, ◌||◌, List, [], ◌∷◌, ◌++◌, length, map, take, drop, get_or, position, refl, sym, ap, ◌∙◌}
 use Rattle.std.specs.Prelude.{unwrap_or}
 use Rattle.std.specs.List.{position_or_len, list_any}
-use Rattle.std.proofs.lemmas.Bool.Decides.{nat_tests}
 use Rattle.std.proofs.lemmas.Bool.{or_parts, and_parts, not-true}
 use Rattle.std.proofs.lemmas.List.{drop_more, map-append, take-append-drop}
 use Rattle.std.proofs.lemmas.List.Folds.{list_any-append}
 use Rattle.std.proofs.lemmas.List.Sums.{prefix_len-le-length}
 use Rattle.sd_types.specs.Works.{is_distinct, same_bytes}
 use Rattle.sd_lines.proofs.PlaceLemmas.{position-map}
+use Rattle.sd_text.proofs.LineLemmas.{index_or_length}
 
 module _ {X : Type 0} (p : X → Bool) (xs : List X) where
-  pub index_or_len : unwrap_or (position p xs) (length xs) ≡ position_or_len p xs
-  index_or_len = by (ltb (position_or_len p xs) (length xs)) refl
-    where
-      by : (b : Bool) → ltb (position_or_len p xs) (length xs) ≡ b → unwrap_or (cond b (Some (position_or_len p xs)) None) (length xs) ≡ position_or_len p xs
-      by true inside = refl
-      by false past =
-          let most : position_or_len p xs ≤ length xs = prefix_len-le-length (λ x. not (p x)) xs in
-          let least : length xs ≤ position_or_len p xs = grind (arith, nat_tests) in omega arith
-
   pub index_within : position_or_len p xs ≤ length xs
   index_within = prefix_len-le-length (λ x. not (p x)) xs
 
@@ -28,7 +19,7 @@ module _ {X : Type 0} (name : X → List ℕ) (xs : List X) (word : List ℕ) wh
   pub number-named : unwrap_or (position (λ n. same_bytes n word) (map name xs)) (length xs) ≡ position_or_len (λ x. same_bytes (name x) word) xs
   number-named =
       ap (λ o. unwrap_or o (length xs)) (position-map name (λ n. same_bytes n word) xs)
-      ∙ index_or_len (λ x. same_bytes (name x) word) xs
+      ∙ index_or_length (λ x. same_bytes (name x) word) xs
 
 -- ---- names that differ, one after another
 

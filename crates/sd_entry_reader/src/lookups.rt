@@ -65,7 +65,7 @@ fn chan_in(names: &Names<'_>, word: &[u8]) -> ChanId
     ChanId(chan_number(names, word) as u16)
 }
 
-#[tactic(auto, using(crate::proofs::IndexLemmas::index_or_len, crate::proofs::IndexLemmas::index_within), unfolding(sd_entries::specs::Reading::set_in))]
+#[tactic(auto, using(sd_text::proofs::LineLemmas::index_or_length, crate::proofs::IndexLemmas::index_within), unfolding(sd_entries::specs::Reading::set_in))]
 fn set_in(work: &Work, word: &[u8]) -> SetId
     ensures { result ≡ set_in work.now word.now }
 {

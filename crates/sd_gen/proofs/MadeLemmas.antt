@@ -42,11 +42,12 @@ use Rattle.sd_declare.specs.Declarations.{Thread, Declarations, nothing}
 use Rattle.sd_declare.specs.Statements.{statement_causes, set_causes, lock_causes, chan_causes, sema_causes, thread_causes, thread_of, with_statement}
 use Rattle.sd_declare.specs.Opened.{opened_by}
 use Rattle.sd_workload.specs.Scripts.{end_fault}
-use Rattle.sd_workload.specs.Texts.{Block, Outside, InTable, InScript, stated_cause, stated, opened, block_of, unless_done, operation_cause, ops_of, with_table, with_script, no_thread, cause_of, declared_after, block_after, end_cause, Verdict, Accepts, unless_refused, judged}
+use Rattle.sd_workload.specs.Texts.{Block, Outside, InTable, InScript, stated_cause, stated, opened, block_of, unless_done, operation_cause, ops_of, with_table, with_script, no_thread, cause_of, declared_after, block_after, end_cause, Accepts, unless_refused, judged}
 use Rattle.sd_workload.proofs.ClearLemmas.{clear}
 use Rattle.sd_workload.proofs.FirstLemmas.{apart, same-accepted}
 use Rattle.sd_workload.proofs.FitsLemmas.{line-more}
 use Rattle.sd_workload.proofs.LineLemmas.{all-push}
+use Rattle.sd_canonical.proofs.RangeLemmas.{unrefused}
 
 -- ---- names in statements
 
@@ -421,10 +422,6 @@ unfolding cause_of declared_after block_after
 line-below d Outside line l h m k = record { declared = outside-made d (words_of line) h m; block = opened-if d (statement_of (words_of line)) }
 line-below d (InTable class above) line l h m k = table-below d class above line (is_end (words_of line)) l k m
 line-below d (InScript t ops) line l h m k = script-below d t ops (words_of line) (is_end (words_of line)) refl h k.0 k.1 m
-
-pub unrefused : (n : ℕ) (c : Option WorkCause) (v : Verdict) (e : Declarations) → unless_refused n c v ≡ Accepts e → (c ≡ None) × (v ≡ Accepts e)
-unrefused n None v e h = (refl, h)
-unrefused n (Some x) v e h = absurd (apart e n x (sym h))
 
 -- what is declared, and that the end of the input is at no fault
 pub record IsMade (d : Declarations) : Type 0 where

@@ -29,7 +29,7 @@ use Rattle.sd_workload.proofs.FitsLemmas.{none-mapped}
 use Rattle.sd_canonical.proofs.BlockLemmas.{same-word}
 use Rattle.sd_gen.specs.Plain.{may_stand, is_plain_line}
 use Rattle.sd_gen.proofs.PlainLemmas.{plain, plains, Reads, read-mapped, read-weaker, read-chosen, read-keyword, leaves-then, first-leaves, only-plain, number-plain, is-number-plain, signed-plain, quantum-plain, name-plain, dash-plain, statement-plain}
-use Rattle.sd_gen.proofs.MadeLemmas.{unrefused}
+use Rattle.sd_canonical.proofs.RangeLemmas.{unrefused}
 
 -- ---- operations
 

@@ -9,7 +9,7 @@ use Rattle.sd_state.specs.declared.states.State.{State}
 use Rattle.sd_state.specs.Opening.{opening}
 use Rattle.sd_machine.specs.Events.{after}
 use Rattle.sd_machine.specs.Runs.{IsRun, IsRunFrom, IsStep, serial_hints, IsFresh}
-use Rattle.sd_machine.proofs.RunLemmas.{IsRun-from}
+use Rattle.sd_machine.proofs.RunLemmas.{IsRun-from, from-IsRun}
 use Rattle.sd_invariants.proofs.Induction.{opening_reached}
 use Rattle.sd_search.specs.declared.graph.Step.{Step}
 use Rattle.sd_search.specs.Graphs.{IsGathered}
@@ -41,10 +41,6 @@ one_entry w n k s e number step shown rest = record {
   fresh = (shown, rest.fresh);
   many = ap suc rest.many;
 }
-
-is_run : (w : Work) (es : List Entry) → IsRunFrom w (opening w) 0 es → IsRun w es
-unfolding IsRun
-is_run w es run = run
 
 module _ (w : Work) (bs : List (List ℕ)) (steps : List Step) (done : ℕ) (g : IsGathered w bs steps done) (t : ThreadId) (rows : List (List Edge)) (a : AreRows w bs t (length bs) rows) (hs : List ℕ) (heights : AreHeights rows hs) where
   bounded : (n : ℕ) (s : State) (i : ℕ) (es : List Entry) → IsNear w bs n s i → IsRunFrom w s n es → IsFresh w s es → length es ≤ slice_index hs i
@@ -81,7 +77,7 @@ module _ (w : Work) (bs : List (List ℕ)) (steps : List Step) (done : ℕ) (g :
       let long = reached (slice_index hs 0) 0 (opening w) 0 start refl in
       record {
         entries = long.entries;
-        run = record { run = is_run w long.entries long.run; fresh = long.fresh };
+        run = record { run = from-IsRun w long.entries long.run; fresh = long.fresh };
         many = long.many;
         most = λ es r. bounded 0 (opening w) 0 es start (IsRun-from w es r.run) r.fresh;
       }

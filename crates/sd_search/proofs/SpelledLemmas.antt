@@ -19,10 +19,7 @@ use Rattle.sd_search.specs.Laws.{TurnsSpellARun}
 use Rattle.sd_search.specs.Spelled.{Leads}
 use Rattle.sd_search.proofs.OpeningKeys.{opening_keys}
 use Rattle.sd_search.proofs.RunLemmas.{alike, joined}
-
--- the other way round
-pub turned : (x s : State) → IsSameOrder x s → IsSameOrder s x
-turned x s h = record { bare = sym h.bare; order = λ a b. sym (h.order a b) }
+use Rattle.sd_search.proofs.BackLemmas.{turned}
 
 -- what the run from s is: the entries es lead there
 record Ends (w : Work) (n : ℕ) (s : State) (es : List Entry) (cs : List CpuId) (y : State) : Type 0 where

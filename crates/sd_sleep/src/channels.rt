@@ -117,7 +117,7 @@ pub fn rouse_plan<L: Look>(
 }
 
 /// By entry `number` processor `c` has woken a sleeper of channel `k`, or there was none. Its duty is over with the last.
-#[tactic(auto, using(crate::proofs::Woken::next_after_woken), unfolding(sd_machine::specs::Sleeping::roused))]
+#[tactic(auto, using(sd_store::proofs::WokenDuties::next_after_woken), unfolding(sd_machine::specs::Sleeping::roused))]
 pub fn roused<S: Store>(
     work: &Work,
     x: &mut S,

@@ -51,11 +51,11 @@ use Rattle.sd_stretches.specs.declared.sights.Sight.{Sight}
 use Rattle.sd_stretches.specs.declared.spin_pieces.Spell.{Spell}
 use Rattle.sd_stretches.specs.declared.spin_pieces.Track.TheVariants as track
 use Rattle.sd_stretches.specs.Sights.{doing_of, same_doing, sight_of, sights_of}
-use Rattle.sd_stretches.specs.Changes.{happening_of, happenings_of, turn_if, turns_between}
+use Rattle.sd_stretches.specs.Changes.{happening_of, happenings_of, turn_if}
 use Rattle.sd_stretches.specs.Histories.{entry_before, moment, happenings_in, over, sights_before, tick_by, turns_in, IsHistory}
 use Rattle.sd_stretches.specs.Rows.{own_turns, stretches, stretches_of}
 use Rattle.sd_stretches.specs.SpinPieces.{cut_all, pieces, spell_by, spells_on}
-use Rattle.sd_stretches.proofs.ExactLemmas.{filter_flat, one_of, own_if, own_if_own, same_self, there}
+use Rattle.sd_stretches.proofs.ExactLemmas.{filter_flat, same_self, there, own_between, seen_inside}
 use Rattle.sd_statistics.proofs.Local.{others_keep}
 use Rattle.sd_statistics.proofs.Steps.{made_by, many, reached, Made as Entered}
 use Rattle.sd_statistics.specs.Accounted.{RunningTicksAreAccounted}
@@ -309,24 +309,11 @@ module _ (w : Work) (es : List Entry) (t : ℕ) (run : IsRun w es) (here : t < l
 
   -- The turns of the thread, state after state.
 
-  seen_inside : (k : ℕ) → t < length (sights_of (state_at w es k))
-  unfolding sights_of
-  seen_inside k = let many = length-map (state_at w es k).threads sight_of in let inside = there w es t here k in omega (arith, many, inside)
-
   seen_now : (k : ℕ) → slice_get (sights_of (state_at w es k)) t ≡ Some (view k)
   unfolding sights_of
   seen_now k =
       slice_get-map sight_of (state_at w es k).threads t
       ∙ ap (option_map sight_of) (slice_get-get_or (state_at w es k).threads t no_thread (there w es t here k))
-
-  own_between : (first tick : ℕ) (old new : List Sight) → t < length new
-      → own_turns t (turns_between old new first tick) ≡ turn_if t first tick (slice_get old t) (slice_get new t)
-  unfolding turns_between
-  own_between first tick old new inside =
-      filter_flat (λ (x : Turn). x.thread == t) (λ u. turn_if u first tick (slice_get old u) (slice_get new u)) (range_with_len 0 (length new))
-      ∙ one_of (λ u. own_turns t (turn_if u first tick (slice_get old u) (slice_get new u))) t 0 (length new)
-      (λ u other. own_if t u first tick (slice_get old u) (slice_get new u) (grind (arith, nat_tests, other))) (omega arith) (omega (arith, inside))
-      ∙ own_if_own t first tick (slice_get old t) (slice_get new t) (grind (arith, nat_tests))
 
   abbrev turn : ℕ → List Turn
   turn k = turn_at (length es) w.limit t view ticked count spin charge k
@@ -334,9 +321,9 @@ module _ (w : Work) (es : List Entry) (t : ℕ) (run : IsRun w es) (here : t < l
   own_at : (k : ℕ) → own_turns t (turns_in (moment w es k)) ≡ turn k
   unfolding moment turn_at
   own_at zero =
-      own_between 0 (ticked 0) (sights_before w es 0) (sights_of (state_at w es 0)) (seen_inside 0) ∙ ap (turn_if t 0 (ticked 0) None) (seen_now 0)
+      own_between t 0 (ticked 0) (sights_before w es 0) (sights_of (state_at w es 0)) (seen_inside w es t here 0) ∙ ap (turn_if t 0 (ticked 0) None) (seen_now 0)
   own_at (suc k) =
-      own_between (suc k) (ticked (suc k)) (sights_of (state_at w es k)) (sights_of (state_at w es (suc k))) (seen_inside (suc k))
+      own_between t (suc k) (ticked (suc k)) (sights_of (state_at w es k)) (sights_of (state_at w es (suc k))) (seen_inside w es t here (suc k))
       ∙ ap (λ o. turn_if t (suc k) (ticked (suc k)) o (slice_get (sights_of (state_at w es (suc k))) t)) (seen_now k)
       ∙ ap (turn_if t (suc k) (ticked (suc k)) (Some (view k))) (seen_now (suc k))
 

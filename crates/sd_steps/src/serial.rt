@@ -67,7 +67,7 @@ fn event_of(work: &Work, s: &State, c: CpuId, hints: &Option<Hints>, plan: Plan)
 
 /// The numbers that processor `c` reads in the state itself, and the event that it may make then, None where it may make
 /// none.
-#[tactic(auto, using(crate::proofs::EnteringLemmas::serial_event, crate::proofs::EnteringLemmas::shown_fit), unfolding(sd_machine::specs::Runs::serial_hints, sd_machine::specs::Hints::reads))]
+#[tactic(auto, using(crate::proofs::EnteringLemmas::serial_event, sd_invariants::proofs::Complete::shown_fit), unfolding(sd_machine::specs::Runs::serial_hints, sd_machine::specs::Hints::reads))]
 pub fn serial_next(work: &Work, s: &State, c: CpuId) -> (Option<Hints>, Option<Event>)
     requires fit { IsFit work.now s.now }
     requires cpu { c.0 < work.now.cpus }

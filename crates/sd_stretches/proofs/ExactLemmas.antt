@@ -50,7 +50,7 @@ same_self Ended = refl
 differ : (x y : Doing) → same_doing x y ≡ false → x ≢ y
 differ x y other same = false≢true (sym other ∙ ap (same_doing x) (sym same) ∙ same_self x)
 
-stretch_doing : (n end : ℕ) (x : Turn) (next : Option Turn) → (stretch_to n end x next).doing ≡ x.doing
+pub stretch_doing : (n end : ℕ) (x : Turn) (next : Option Turn) → (stretch_to n end x next).doing ≡ x.doing
 stretch_doing n end x None = refl
 stretch_doing n end x (Some y) = refl
 
@@ -164,7 +164,7 @@ own_if_own t first tick (Some y) (Some x) own = elim (cases_Bool (same_doing y.d
   | inr differs ↦ rw differs (own_one t (turn_from t first tick x) own)
 ]
 
-own_between : (t first tick : ℕ) (old new : List Sight) → t < length new
+pub own_between : (t first tick : ℕ) (old new : List Sight) → t < length new
     → own_turns t (turns_between old new first tick) ≡ turn_if t first tick (slice_get old t) (slice_get new t)
 unfolding turns_between
 own_between t first tick old new inside =
@@ -187,7 +187,7 @@ module _ (w : Work) (es : List Entry) (t : ℕ) (here : t < length w.threads) wh
   unfolding sights_of sight_at
   seen k = slice_get-map sight_of (state_at w es k).threads t ∙ ap (option_map sight_of) (slice_get-get_or (state_at w es k).threads t no_thread (there k))
 
-  seen_inside : (k : ℕ) → t < length (sights_of (state_at w es k))
+  pub seen_inside : (k : ℕ) → t < length (sights_of (state_at w es k))
   unfolding sights_of
   seen_inside k = let many = length-map (state_at w es k).threads sight_of in let inside = there k in omega (arith, many, inside)
 

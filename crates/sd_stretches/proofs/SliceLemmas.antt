@@ -1,5 +1,5 @@
 -- The slices of a processor are exactly its running threads.
-use Rattle.std.proofs.Common.{◌≡◌, ℕ, ◌+◌, ◌≤◌, ◌⊎◌, Bool, true, false, inl, inr, List, [], ◌∷◌, ◌++◌, length, Option, Some, None, refl, sym, ap, subst, ◌∙◌, arith}
+use Rattle.std.proofs.Common.{◌≡◌, ℕ, ◌+◌, ◌≤◌, ◌⊎◌, Bool, true, false, inl, inr, List, [], ◌∷◌, ◌++◌, length, Option, refl, sym, ap, subst, ◌∙◌, arith}
 use Rattle.std.specs.Prelude.{filter, nat_le, ◌==◌, if◌then◌else◌}
 use Rattle.std.proofs.lemmas.Bool.{cases_Bool}
 use Rattle.std.proofs.lemmas.Bool.Decides.{nat_tests}
@@ -16,19 +16,15 @@ use Rattle.sd_stretches.specs.Sights.{doing_of, runs_on}
 use Rattle.sd_stretches.specs.Histories.{over, turns_in}
 use Rattle.sd_stretches.specs.Rows.{all_stretches, next_of, own_stretches, own_turns, slices, stretch_to, stretches}
 use Rattle.sd_stretches.specs.Exact.{doing_at, AreExact, Covers, SlicesAreExact}
-use Rattle.sd_stretches.proofs.ExactLemmas.{are_exact}
+use Rattle.sd_stretches.proofs.ExactLemmas.{are_exact, stretch_doing}
 use Rattle.sd_stretches.proofs.OrderLemmas.{owned}
 
 -- One turn more.
 
-to_doing : (n end : ℕ) (x : Turn) (next : Option Turn) → (stretch_to n end x next).doing ≡ x.doing
-to_doing n end x None = refl
-to_doing n end x (Some y) = refl
-
 pub slices_cons : (c n end : ℕ) (x : Turn) (xs : List Turn)
     → slices c (x ∷ xs) n end ≡ (if runs_on c x.doing then stretch_to n end x (next_of (own_turns x.thread xs)) ∷ [] else []) ++ slices c xs n end
 unfolding slices all_stretches
-slices_cons c n end x xs = by (runs_on c x.doing) (ap (runs_on c) (to_doing n end x next))
+slices_cons c n end x xs = by (runs_on c x.doing) (ap (runs_on c) (stretch_doing n end x next))
   where
     next : Option Turn
     next = next_of (own_turns x.thread xs)

@@ -22,10 +22,5 @@ pub use laws::{
 };
 pub use names::{chan_name, lock_name, set_name, thread_name};
 pub use rows::{Level, Stretch, levels, slices, stretches};
-<<<<<<< ours
-pub use sights::{Doing, Sight, runs_somewhere};
-pub use spin_pieces::{Track, pieces};
-=======
 pub use sights::{Doing, Sight, does_run};
-pub use spins::{Track, pieces};
->>>>>>> theirs
+pub use spin_pieces::{Track, pieces};

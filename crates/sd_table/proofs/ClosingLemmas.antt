@@ -37,7 +37,6 @@ use Rattle.sd_table_rule.specs.Places.{Stands, home_count, now, sizes}
 use Rattle.sd_table_rule.specs.Plays.{Slot}
 use Rattle.sd_table_rule.specs.Rule.{Kept}
 use Rattle.sd_table_rule.proofs.Bridge.{reached}
-use Rattle.sd_table_rule.proofs.Length.{next_cpu}
 use Rattle.sd_table_rule.proofs.Making.{closes, gathers}
 use Rattle.sd_table.specs.declared.closing.Ended.{Ended}
 use Rattle.sd_table.specs.declared.closing.Gathered.{Gathered}
@@ -48,6 +47,7 @@ use Rattle.sd_table.specs.Seats.{Fits, desk, indices, lent}
 use Rattle.sd_table.specs.Whole.{AreLogged, AreSeats, HasEnded, IsGathered, IsSeatOf}
 use Rattle.sd_table.proofs.LogLemmas.{at_early, empty_by}
 use Rattle.sd_table.proofs.Stood.{has_stood}
+use Rattle.sd_invariants.proofs.Ready.{maker_inside}
 
 -- as many as there were
 long_map : {X Y : Type 0} (f : X → Y) (xs : List X) → length (map f xs) ≡ length xs
@@ -173,7 +173,7 @@ unfolding IsRunFrom
 run_each w s n [] run i e at = absurd cc
 run_each w s n (x ∷ xs) (a, b, r) zero e at =
     let is : x ≡ e = cc in
-    (ap (λ (y : Entry). y.number) (sym is) ∙ (let z : x.number ≡ n + 0 = omega (arith, a) in z), subst (λ (y : Entry). y.cpu.0 < w.cpus) is (next_cpu w s x.cpu x.hints x.event b))
+    (ap (λ (y : Entry). y.number) (sym is) ∙ (let z : x.number ≡ n + 0 = omega (arith, a) in z), subst (λ (y : Entry). y.cpu.0 < w.cpus) is (maker_inside w s x.cpu x.hints x.event b))
 run_each w s n (x ∷ xs) (a, b, r) (suc i) e at =
     let q = run_each w (after w s x.number x.cpu x.event) (n + 1) xs r i e at in
     ((let z = q.0 in omega (arith, z)), q.1)

@@ -3,6 +3,7 @@ use Rattle.std.proofs.Common.{◌≡◌, ◌≢◌, ◌⊎◌, ℕ, zero, suc, �
 use Rattle.std.specs.Prelude.{not, ◌==◌}
 use Rattle.std.specs.List.{range_with_len}
 use Rattle.std.proofs.lemmas.Bool.{false≢true}
+use Rattle.sd_basics.proofs.Lists.{some_of}
 use Rattle.arrayvec.specs.ArrayVec.{ArrayVec}
 use Rattle.atomic_table.specs.Seated.{TableId}
 use Rattle.sd_types.specs.Partitions.{cpu_of_number}
@@ -96,10 +97,6 @@ home_there w s (id.Sleepers i) cpus sets is = is
 none_some : (o : Option ThreadId) (u : ThreadId) → o ≡ None → o ≡ Some u → ⊥
 none_some o u a b = let z : None ≡ Some u = sym a ∙ b in absurd cc
 
-as_held : (k : HomeId) (o : Option Home) → is_some o ≡ true → (h : Home) × (o ≡ Some h)
-as_held k None e = absurd (false≢true e)
-as_held k (Some h) e = (h, refl)
-
 module _ (w : Work) (t : TableId) (s : Seat) (f : Fits t w s) where
   pub cpu_is : cpu_of_number (desk s).cpu ≡ s.acting.actor.cpu
   cpu_is = λ i. record { 0 = f.cpu i }
@@ -125,7 +122,7 @@ module _ (w : Work) (t : TableId) (s : Seat) (f : Fits t w s) where
   touched_held h e k sh run has is =
       let among = subst (λ c. IsAmong is.part (after_parts w (now w h) c e)) cpu_is is.among in
       let some = held_of h sh run is.part is.home (has is.part among) is.there in
-      let number = f.numbers is.home (as_held is.home (held is.home s.acting.hand.slots) some) in
+      let number = f.numbers is.home (some_of (held is.home s.acting.hand.slots) some) in
       subst (λ i. holds i (desk s).held ≡ true) is.index (f.held is.home number ∙ some)
 
   pub may_commit : (e : Event) (hints : Option Hints) (v : Work) → CanCommit (seat_meaning w s) v e hints → (h : List Entry) → Sees w (desk s) h → MayCommit w (desk s) e hints h
@@ -189,7 +186,7 @@ module _ (w : Work) (t : TableId) (s : Seat) (f : Fits t w s) where
       each = subst (λ (o : ArrayVec Held). AreNumbers w (reverse o.items)) (sym order) f.each;
       count = ap (λ (o : ArrayVec Held). length o.items) order ∙ (f.count ∙ same_count s.acting.hand.slots s1.acting.hand.slots f.shown.apart shown.apart held_still);
       apart = f.apart;
-      numbers = λ k is. f.numbers k (as_held k (held k s.acting.hand.slots) (held_still k ∙ ap is_some is.1));
+      numbers = λ k is. f.numbers k (some_of (held k s.acting.hand.slots) (held_still k ∙ ap is_some is.1));
       held = λ k is. f.held k is ∙ held_still k;
       run = run_whole;
       shown = shown;
@@ -206,7 +203,7 @@ module _ (w : Work) (t : TableId) (s : Seat) (f : Fits t w s) where
         let some : is_some (held (home_of (thread_of new u)) s1.acting.hand.slots) ≡ true = sym (held_still (home_of (thread_of new u))) ∙ (sym (f.held (home_of (thread_of new u)) number) ∙ here) in
         let at = list_of (thread_of new u) in
         let there : u < length new.threads = (let a = (fit_reached w (length whole) new (reached w whole run_whole)).fits.threads in omega (arith, a, inside)) in
-        let is = taken (length whole) new u at s1.acting.hand.slots (record { inside = there; list = refl }) shown.homes (as_held (home_at at) (held (home_at at) s1.acting.hand.slots) some) in
+        let is = taken (length whole) new u at s1.acting.hand.slots (record { inside = there; list = refl }) shown.homes (some_of (held (home_at at) s1.acting.hand.slots) some) in
         stands_has u s1.acting.hand.slots at (stands_guessed u at s1.acting.hand.slots (ap is_some is))
 
     -- a thread that moved stands in the hand

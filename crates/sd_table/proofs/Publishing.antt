@@ -1,9 +1,10 @@
 -- What a seat publishes after an entry.
-use Rattle.std.proofs.Common.{◌≡◌, ℕ, zero, suc, ◌+◌, ◌-◌, ◌<◌, ◌≤◌, ◌⊎◌, Bool, true, false, List, [], ◌∷◌, ◌++◌, append_assoc, length, get_or, reverse, is_some, MatchOption, Option, Some, None, refl, sym, ap, ◌∙◌, subst, inl, inr, arith}
+use Rattle.std.proofs.Common.{◌≡◌, ℕ, zero, suc, ◌+◌, ◌-◌, ◌<◌, ◌≤◌, ◌⊎◌, Bool, true, false, List, [], ◌∷◌, ◌++◌, append_assoc, length, get_or, reverse, is_some, MatchOption, Option, refl, sym, ap, ◌∙◌, subst, inl, inr, arith}
 use Rattle.std.specs.Prelude.{◌&&◌, ◌||◌, ◌==◌}
 use Rattle.std.proofs.lemmas.Bool.{cases_lt, false≢true}
 use Rattle.std.proofs.lemmas.Bool.Decides.{nat_tests}
 use Rattle.std.proofs.lemmas.List.{get_or-reverse, get_or_default, length-reverse}
+use Rattle.sd_basics.proofs.Lists.{some_of}
 use Rattle.arrayvec.specs.ArrayVec.{ArrayVec}
 use Rattle.atomic_table.specs.Seated.{TableId}
 use Rattle.atomic_table.specs.Table.{Me}
@@ -22,7 +23,6 @@ use Rattle.sd_invariants.proofs.Whole.{fit_reached}
 use Rattle.sd_homes.specs.declared.list_id.ListId.{ListId}
 use Rattle.sd_homes.specs.Standing.{home_at}
 use Rattle.sd_hand.specs.declared.acting.Acting.{Acting}
-use Rattle.sd_homes.specs.declared.home.Home.{Home}
 use Rattle.sd_hand.specs.Hands.{IsHeld, StandsIn, has_thread, held}
 use Rattle.sd_hand.proofs.MoveLemmas.{stands_at, stands_held}
 use Rattle.sd_world.specs.Homes.{IsNumber, index_of}
@@ -144,10 +144,6 @@ module _ (w : Work) where
   number_in (y ∷ ys) zero d inside are = are.0
   number_in (y ∷ ys) (suc j) d inside are = number_in ys j d (omega (arith, inside)) are.1
 
-  as_held : (k : HomeId) (o : Option Home) → is_some o ≡ true → (h : Home) × (o ≡ Some h)
-  as_held k None e = absurd (false≢true e)
-  as_held k (Some h) e = (h, refl)
-
   pub order_held : (t : TableId) (s : Seat) → Fits t w s → (i : ℕ) (d : Held) → i < length s.order.items → IsHeld (get_or s.order.items i d).0 s.acting.hand.slots
   order_held t s f i d inside =
       let xs = s.order.items in
@@ -158,7 +154,7 @@ module _ (w : Work) where
       let k = (get_or xs i d).0 in
       let number : IsNumber (sizes w) k = subst (λ (h : Held). IsNumber (sizes w) h.0) same (number_in (reverse xs) j d long f.each) in
       let here : holds (index_of (sizes w) k) (desk s).held ≡ true = ap (holds (index_of (sizes w) k)) f.order ∙ subst (λ (h : Held). holds (index_of (sizes w) h.0) (indices w (reverse xs)) ≡ true) same (holds_indices (reverse xs) j d long) in
-      as_held k (held k s.acting.hand.slots) (sym (f.held k number) ∙ here)
+      some_of (held k s.acting.hand.slots) (sym (f.held k number) ∙ here)
 
   pub in_run : (t : TableId) (s : Seat) → Fits t w s → StandsInRun s.acting
   in_run t s f = record { work = w; number = length (desk s).seen; state = now w (desk s).seen; reached = reached w (desk s).seen f.run; shown = f.shown }

@@ -36,7 +36,7 @@ use Rattle.sd_world.specs.Homes.{IsNumber, index_of}
 use Rattle.sd_world.proofs.NumberLemmas.{index_below}
 use Rattle.sd_world.proofs.OtherHomes.{other_home}
 use Rattle.sd_table_rule.specs.Places.{Stands, Touches, home_count, now, place_home, sizes}
-use Rattle.sd_table_rule.proofs.Length.{next_cpu}
+use Rattle.sd_invariants.proofs.Ready.{maker_inside}
 
 module _ (w : Work) where
   pub reached : (h : List Entry) → IsRun w h → IsReached w (length h) (now w h)
@@ -137,7 +137,7 @@ module _ (w : Work) where
       by (inl same) = (sym same.0, sym same.1)
       by (inr among) =
           let step = step_of h e run in
-          let inside = next_cpu w (now w h) e.cpu e.hints e.event step in
+          let inside = maker_inside w (now w h) e.cpu e.hints e.event step in
           let there = parts_there w (length h) (now w h) e.cpu e.hints (reached h (run_before h e run)) inside in
           absurd (other (ap (λ (c : CpuId). c.0) (there.touching e.event step (part.Actor (record { 0 = d })) among)))
 
@@ -152,7 +152,7 @@ module _ (w : Work) where
       own : d ≡ e.cpu.0 → (cpu_of (now w h) d).count ≤ (cpu_of (now w (h ++ e ∷ [])) d).count
       own is =
           let step = step_of h e run in
-          let inside : d < w.cpus = subst (λ c. c < w.cpus) (sym is) (next_cpu w (now w h) e.cpu e.hints e.event step) in
+          let inside : d < w.cpus = subst (λ c. c < w.cpus) (sym is) (maker_inside w (now w h) e.cpu e.hints e.event step) in
           let rise = rise_law w (length h) (now w h) e.cpu e.hints e.event (reached h (run_before h e run)) step d inside in
           subst (λ s. (cpu_of (now w h) d).count ≤ (cpu_of s d).count) (sym (now_push h e run)) (more ((e.cpu.0 == d) && ticks e.event) _ (cpu_of (now w h) d).count rise)
 

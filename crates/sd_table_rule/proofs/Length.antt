@@ -1,17 +1,16 @@
 -- A run has no more entries than its processors can make.
 use Rattle.std.proofs.Common.{◌≡◌, ℕ, zero, suc, ◌+◌, ◌*◌, ◌<◌, ◌≤◌, Bool, true, false, ltb, cond, List, [], ◌∷◌, length, filter, Option, Some, None, refl, sym, ap, subst, arith}
-use Rattle.std.specs.Prelude.{nat_lt, ◌&&◌, if◌then◌else◌}
+use Rattle.std.specs.Prelude.{◌&&◌, if◌then◌else◌}
 use Rattle.std.proofs.lemmas.Bool.Decides.{nat_tests}
-use Rattle.sd_types.specs.declared.numbers.CpuId.{CpuId}
 use Rattle.sd_types.specs.declared.events.Event.{Event}
-use Rattle.sd_types.specs.declared.events.Hints.{Hints}
 use Rattle.sd_types.specs.declared.events.Entry.{Entry}
 use Rattle.sd_types.specs.declared.works.Work.{Work}
 use Rattle.sd_state.specs.declared.states.State.{State}
 use Rattle.sd_state.specs.Opening.{opening}
-use Rattle.sd_machine.specs.Events.{next, after}
+use Rattle.sd_machine.specs.Events.{after}
 use Rattle.sd_machine.specs.Runs.{IsRunFrom, IsRun}
 use Rattle.sd_table_rule.specs.Ledgers.{by}
+use Rattle.sd_invariants.proofs.Ready.{maker_inside}
 
 -- the entries of the processors below c
 below : ℕ → List Entry → List Entry
@@ -35,15 +34,11 @@ and_first : (a b : Bool) (x y : Option Event) (e : Event) → (if a && b then x 
 and_first true b x y e h = refl
 and_first false b x y e h = absurd (cc)
 
-pub next_cpu : (w : Work) (s : State) (c : CpuId) (hints : Option Hints) (e : Event) → next w s c hints ≡ Some e → c.0 < w.cpus
-unfolding next
-next_cpu w s c hints e h = let a : nat_lt c.0 w.cpus ≡ true = and_first _ _ _ None e h in grind (arith, nat_tests)
-
 all_below : (w : Work) (s : State) (n : ℕ) (h : List Entry) → IsRunFrom w s n h → below w.cpus h ≡ h
 unfolding below IsRunFrom
 all_below w s n [] r = refl
 all_below w s n (e ∷ es) (a, b, r) =
-    let i = next_cpu w s e.cpu e.hints e.event b in
+    let i = maker_inside w s e.cpu e.hints e.event b in
     let q = all_below w (after w s e.number e.cpu e.event) (n + 1) es r in
     let t : ltb e.cpu.0 w.cpus ≡ true = grind (arith, nat_tests) in
     subst (λ b. cond b (e ∷ below w.cpus es) (below w.cpus es) ≡ e ∷ es) (sym t) (ap (λ l. e ∷ l) q)

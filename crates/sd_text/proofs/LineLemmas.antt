@@ -12,7 +12,7 @@ chosen true n m h = refl
 chosen false n m h = sym (h refl)
 
 -- the index that was found, or else the length
-pub index_or_length : (p : ℕ → Bool) (xs : List ℕ) → unwrap_or (position p xs) (length xs) ≡ position_or_len p xs
+pub index_or_length : {A : Type 0} (p : A → Bool) (xs : List A) → unwrap_or (position p xs) (length xs) ≡ position_or_len p xs
 index_or_length p xs =
     chosen (ltb (position_or_len p xs) (length xs)) _ _ (λ past. let le = prefix_len-le-length (λ x. not (p x)) xs in grind (arith, nat_tests))
 
