@@ -101,8 +101,6 @@ idled_rises : (w : Work) (s : State) (c : ℕ) → Rises true c s (idled w s c)
 unfolding idled
 idled_rises w s c = count_rises w s c
 
--- Changes of sets and bindings.
-
 -- Each event.
 
 dropped_many : (s : State) (c : ℕ) (e : Event) → length (drop_ageing s c e).cpus ≡ length s.cpus

@@ -11,8 +11,6 @@ pub none_of : {X : Type 0} (o : Option X) → is_none o ≡ true → o ≡ None
 none_of None e = refl
 none_of (Some x) e = cc
 
--- Numbers that are equal are of equal sets and processors.
-
 -- Places.
 
 -- a thread runs on one processor

@@ -20,10 +20,6 @@ use Rattle.sd_search.specs.Graphs.{IsAmong, IsAt, IsExpanded, IsGathered, IsGrow
 use Rattle.sd_search.specs.Stored.{IsInserted}
 use Rattle.sd_search.proofs.TellLemmas.{at_same, inside_at, told}
 
--- ---- lists
-
-module _ {X : Type 0} where
-
 -- ---- states that are kept
 
 abbrev pub AreKept : List (List ℕ) → List (List ℕ) → Type 0
