@@ -1,13 +1,11 @@
 -- What the one state tells is told of each that is shown.
-use Rattle.std.proofs.Common.{◌≡◌, ℕ, ◌+◌, Bool, List, Result, Ok, Err, Option, option_map, refl, sym, ◌∙◌, subst}
+use Rattle.std.proofs.Common.{◌≡◌, ℕ, ◌+◌, Result, Ok, Err, Option, option_map, refl, sym, ◌∙◌, subst}
 use Rattle.std.specs.Prelude.{IfOk}
 use Rattle.sd_types.specs.declared.numbers.ThreadId.{ThreadId}
 use Rattle.sd_state.specs.declared.states.State.{State}
-use Rattle.sd_store.specs.declared.flat.look.Never.{Never}
-use Rattle.sd_store.specs.declared.parts.Part.{Part}
 use Rattle.sd_store.specs.Parts.{number}
 use Rattle.sd_store.specs.Flat.{IsState}
-use Rattle.sd_store.specs.Words.{Does, DoesBy, Keeps, Lacks, Names, Tells}
+use Rattle.sd_store.specs.Words.{Does, DoesBy, Names, Tells}
 use Rattle.sd_encoding.specs.declared.ordered.Ordered.{Ordered}
 use Rattle.sd_encoding.specs.Shown.{IsShown}
 use Rattle.sd_encoding.proofs.SourceLemmas.{AreAlike}

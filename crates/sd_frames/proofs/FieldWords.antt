@@ -2,13 +2,12 @@
 -- processors, stays through every event that does not write it.
 use Rattle.std.proofs.Common.{◌≡◌, ℕ, Bool, true, false, Option, Some, None, refl, ◌∙◌}
 use Rattle.sd_frames.proofs.Frames as F
-use Rattle.sd_frames.proofs.Frames.{IsFrame, KeepsLocks, KeepsCounts, KeepsTicks, KeepsBindings, KeepsRest, Rest, rest_of}
+use Rattle.sd_frames.proofs.Frames.{IsFrame, KeepsRest, Rest, rest_of}
 use Rattle.sd_types.specs.declared.numbers.CpuId.{CpuId}
 use Rattle.sd_types.specs.declared.classes.ClassState.{ClassState}
 use Rattle.sd_types.specs.declared.events.Event.{Event}
 use Rattle.sd_types.specs.declared.works.Work.{Work}
 use Rattle.sd_state.specs.declared.states.CpuState.{CpuState}
-use Rattle.sd_state.specs.declared.states.LockState.{LockState}
 use Rattle.sd_state.specs.declared.states.ThreadState.{ThreadState}
 use Rattle.sd_state.specs.declared.states.State.{State}
 use Rattle.sd_state.specs.States.{with_thread, with_cpu}

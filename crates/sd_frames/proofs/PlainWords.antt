@@ -1,6 +1,6 @@
 -- A part of each processor that looks neither at its marks nor at its duty stays through every event that is no tick and
 -- no change of sets and bindings.
-use Rattle.std.proofs.Common.{◌≡◌, ℕ, Bool, true, false, refl}
+use Rattle.std.proofs.Common.{◌≡◌, ℕ, Bool, true, false}
 use Rattle.sd_frames.proofs.CpuWords as C
 use Rattle.sd_frames.proofs.Frames as F
 use Rattle.sd_frames.proofs.Frames.{IsFrame, KeepsRest, Rest, rest_of}

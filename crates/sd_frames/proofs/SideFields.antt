@@ -3,7 +3,7 @@
 use Rattle.std.proofs.Common.{◌≡◌, ℕ, Bool, true, false, refl}
 use Rattle.sd_frames.proofs.FieldWords as W
 use Rattle.sd_frames.proofs.Frames as F
-use Rattle.sd_frames.proofs.Frames.{KeepsLocks, KeepsRest, Rest, rest_of}
+use Rattle.sd_frames.proofs.Frames.{KeepsRest, Rest, rest_of}
 use Rattle.sd_types.specs.declared.numbers.CpuId.{CpuId}
 use Rattle.sd_types.specs.declared.events.Event.{Event}
 use Rattle.sd_types.specs.declared.works.Work.{Work}

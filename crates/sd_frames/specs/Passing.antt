@@ -1,6 +1,5 @@
 -- Which lock a processor passes on, by its duty.
 use Rattle.std.specs.Prelude.{true, false, Option, Some, None}
-use Rattle.sd_types.specs.declared.numbers.LockId.{LockId}
 use Rattle.sd_types.specs.declared.events.Duty.{Duty}
 use Rattle.sd_types.specs.declared.events.Duty.TheVariants.{WakeMutex, GrantWriter, GrantReaders}
 use Rattle.sd_machine.specs.Holders as H

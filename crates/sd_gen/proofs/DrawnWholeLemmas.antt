@@ -1,9 +1,8 @@
 -- Each generated workload is accepted.
 use Rattle.std.proofs.Common.{◌≡◌, ℕ, zero, suc, ◌+◌, ◌*◌, ◌<◌, ◌≤◌, true, false, not, ltb, leb, set, get_or, List, [], ◌∷◌, length, map, Option, Some, None, refl, sym, ap, ◌∙◌, subst, arith, append-nil}
-use Rattle.std.specs.Prelude.{codes, nat_lt, unwrap_or, is_none}
+use Rattle.std.specs.Prelude.{codes, unwrap_or, is_none}
 use Rattle.std.specs.List.{list_all, position_or_len, sum_by}
 use Rattle.std.proofs.lemmas.Bool.{lt-ltb, leb-true, le-leb, and_parts}
-use Rattle.std.proofs.lemmas.Bool.Decides.{nat_tests}
 use Rattle.std.proofs.lemmas.List.Folds.{list_all-append}
 use Rattle.std.proofs.lemmas.List.Sums.{sum_by-cons}
 use Rattle.rand_pcg.specs.Lcg.{Lcg}

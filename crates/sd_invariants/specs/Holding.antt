@@ -1,6 +1,6 @@
 -- The locks of a state against who holds them, who waits for them and which processor passes them on.
 -- Source: Solaris Internals (mutexes, rwlocks, turnstiles).
-use Rattle.std.specs.Prelude.{◌≡◌, ◌≢◌, ℕ, true, false, length, Option, Some, None, option_map, ⊤}
+use Rattle.std.specs.Prelude.{◌≡◌, ◌≢◌, ℕ, true, length, None, option_map, ⊤}
 use Rattle.sd_types.specs.declared.numbers.LockId.{LockId}
 use Rattle.sd_types.specs.declared.numbers.Side.TheVariants.{Writer}
 use Rattle.sd_types.specs.declared.events.Duty.{Duty}

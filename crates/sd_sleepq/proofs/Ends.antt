@@ -1,9 +1,9 @@
 -- A place behind which no item stands, as items come and leave.
-use Rattle.std.proofs.Common.{◌≡◌, ℕ, ℤ, Bool, true, false, List, [], ◌∷◌, ◌++◌, refl, sym, ap, subst, arith}
+use Rattle.std.proofs.Common.{◌≡◌, ℕ, ℤ, Bool, true, false, List, [], ◌∷◌, ◌++◌, refl, ap, arith}
 use Rattle.std.proofs.lemmas.Bool.Decides.{nat_tests}
 use Rattle.std.proofs.lemmas.Int.{ints}
 use Rattle.sd_sleepq.specs.Ends.{is_at_end, is_behind, EndsBy}
-use Rattle.sd_boxq.specs.Order.{IsNowhere, drop_first, insert_before, insert_ranked, precedes}
+use Rattle.sd_boxq.specs.Order.{drop_first, insert_before, insert_ranked, precedes}
 
 module _ {X : Type 0} (rank : X → ℕ) (key : X → ℤ) where
   passed : (r : ℕ) (k : ℤ) (x y : X) → is_at_end r k (rank x) (key x) ≡ true → is_behind rank key r k y ≡ false → precedes rank key x y ≡ false

@@ -18,7 +18,6 @@ use Rattle.sd_world.specs.declared.plain.PlainWorld.{PlainWorld}
 use Rattle.sd_world.proofs.PlainLemmas.{has_stander, reached as run_reached, stood}
 use Rattle.sd_table_rule.specs.Places.{place_home, sizes}
 use Rattle.sd_table_rule.proofs.Bridge.{is_number}
-use Rattle.sd_table.specs.Whole.{AreHints}
 
 -- so many words of threads
 abbrev pub Placing : Work → State → List ℕ → ℕ → List ℕ → Type 0

@@ -9,8 +9,8 @@ use Rattle.sd_text.specs.Numbers.{number_of}
 use Rattle.sd_tables.specs.declared.columns.Column.{Column}
 use Rattle.sd_tables.specs.declared.fault.TableFault.{TableFault}
 use Rattle.sd_tables.specs.declared.sheet.Sheet.{Sheet}
-use Rattle.sd_tables.specs.TableText.{Line, is_res_word, is_res_line, is_row_line, is_unit, is_within, numbers_of, res_of_line, row_fault, line_fault, fault_at, AreClean, IsLineFault, units_in, rows_in}
-use Rattle.sd_tables.specs.Sheets.{StandsFor, TakesLine, rows_of}
+use Rattle.sd_tables.specs.TableText.{Line, is_res_word, is_res_line, is_row_line, is_unit, res_of_line, line_fault, fault_at, AreClean, IsLineFault, units_in}
+use Rattle.sd_tables.specs.Sheets.{StandsFor, TakesLine}
 
 filter_none-step : {X : Type 0} (b : Bool) (x : X) (xs ys : List X) (rest : Bool) → (b || rest) ≡ false → (rest ≡ false → ys ≡ []) → cond b (x ∷ ys) ys ≡ []
 filter_none-step true x xs ys rest h more = cc

@@ -1,6 +1,6 @@
 -- The columns of a picture, and where ticks lie.
 use Rattle.std.proofs.Common.{◌≡◌, ℕ, zero, suc, ◌+◌, ◌-◌, ◌<◌, ◌≤◌, Bool, true, false, List, [], ◌∷◌, ◌++◌, refl, sym, ap, subst, ◌∙◌, arith, inl, inr}
-use Rattle.std.specs.Prelude.{◌||◌, ◌==◌, filter, min, nat_lt, if◌then◌else◌}
+use Rattle.std.specs.Prelude.{◌||◌, ◌==◌, filter, nat_lt, if◌then◌else◌}
 use Rattle.std.specs.List.{All, flat_map, range_with_len}
 use Rattle.std.proofs.lemmas.Bool.{cases_Bool, cases_eq, false≢true}
 use Rattle.std.proofs.lemmas.Bool.Decides.{nat_tests}
@@ -9,7 +9,7 @@ use Rattle.std.proofs.lemmas.List.Concat.{flat_map-append}
 use Rattle.std.proofs.lemmas.List.Elements.{All-append, All-cons, All-nil, filter-append}
 use Rattle.sd_timeline.specs.declared.folds.Column.{Column}
 use Rattle.sd_timeline.specs.declared.frames.Frame.{Frame}
-use Rattle.sd_timeline.specs.Folds.{AllFoldsAreQuiet, are_few, changes_in, columns, columns_from, columns_if, columns_of, few_of, fold_if, fold_of, folds, folds_from, folds_of, is_change, is_fold, is_gap, is_wide, long, one_by_one, part, place_from, single, stop_at, stops_of, ticks_of}
+use Rattle.sd_timeline.specs.Folds.{AllFoldsAreQuiet, are_few, changes_in, columns, columns_from, columns_if, columns_of, few_of, fold_if, fold_of, folds, folds_from, folds_of, is_change, is_fold, is_gap, is_wide, one_by_one, part, single, stop_at, stops_of, ticks_of}
 
 -- ---- where ticks lie
 

@@ -1,8 +1,6 @@
 use Rattle.std.proofs.Common.{◌≡◌, ℕ, ◌<◌, ◌≤◌, ◌^◌, length, Ok, Err, Result, sym, subst}
 use Rattle.std.specs.Prelude.{IfOk}
-use Rattle.std.specs.Result.{IsErrOf}
 use Rattle.sd_types.specs.declared.events.Stop.{Stop}
-use Rattle.sd_types.specs.declared.events.Stop.TheVariants.{Full}
 use Rattle.sd_types.specs.declared.works.Work.{Work}
 use Rattle.sd_state.specs.Opening.{opening}
 use Rattle.sd_machine.specs.Runs.{final, IsComplete, IsRun, IsSerial, state_at}

@@ -1,6 +1,5 @@
-use Rattle.std.proofs.Common.{sym, ap, subst}
+use Rattle.std.proofs.Common.{sym, subst}
 use Rattle.sd_answers.specs.declared.answers.Answer.{Answer}
-use Rattle.sd_answers.specs.Answers.{answer_of}
 use Rattle.sd_answers.specs.StreamChanges.{change_of}
 use Rattle.sd_program.specs.declared.forms.Form.TheVariants.{Journal}
 use Rattle.sd_program.specs.declared.forms.Mode.TheVariants.{Threads}
