@@ -1,7 +1,5 @@
 -- Lists whose elements differ, and the first place of a name.
 use Rattle.std.proofs.Common.{◌≡◌, ℕ, suc, ◌+◌, ◌<◌, Bool, true, false, not, ◌&&◌, ◌||◌, cond, ltb, leb, List, [], ◌∷◌, ◌++◌, length, map, refl, sym, ap, ◌∙◌, arith}
-use Rattle.std.specs.Prelude.{unwrap_or, slice_get}
-use Rattle.std.specs.Option.{option_map}
 use Rattle.std.specs.List.{list_any, list_all, position_or_len}
 use Rattle.std.proofs.lemmas.Bool.{eq-eqb, and_parts, or_parts, not-true}
 use Rattle.std.proofs.lemmas.Bool.Decides.{nat_tests}
@@ -78,6 +76,3 @@ all-map p f [] = refl
 all-map p f (x ∷ xs) = ap (λ b. p (f x) && b) (all-map p f xs)
 
 -- ---- names of a list of things
-
-abbrev pub name_at : {X : Type 0} → (X → List ℕ) → List X → ℕ → List ℕ
-name_at name xs t = unwrap_or (option_map name (slice_get xs t)) []

@@ -41,7 +41,7 @@ name_word (b ∷ bs) h =
 
 -- ---- names of a list of things
 
-abbrev name_at : {X : Type 0} → (X → List ℕ) → List X → ℕ → List ℕ
+abbrev pub name_at : {X : Type 0} → (X → List ℕ) → List X → ℕ → List ℕ
 name_at name xs t = unwrap_or (option_map name (slice_get xs t)) []
 
 module _ {X : Type 0} (name : X → List ℕ) where

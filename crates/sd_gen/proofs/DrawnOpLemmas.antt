@@ -27,10 +27,9 @@ use Rattle.sd_canonical.proofs.TakesLemmas.{Takes, takes-both}
 use Rattle.sd_canonical.proofs.OpFormLemmas.{run-form, nap-form, enter-form, read-form, write-form, exit-form}
 use Rattle.sd_canonical.proofs.OpLemmas.{Reads, unless-clear}
 use Rattle.sd_canonical.proofs.ScriptLemmas.{takes-op, one-alone, more-free}
-use Rattle.sd_canonical.proofs.ListLemmas.{name_at}
 use Rattle.sd_gen.proofs.AcceptedLemmas.{numbered, numbered-name, mutex-at, rwlock-at, the-locks, locks-named, locks-count}
 use Rattle.std.proofs.lemmas.Option.{slice_get-map}
-use Rattle.sd_entries.proofs.NameLemmas.{place_of_name}
+use Rattle.sd_entries.proofs.NameLemmas.{place_of_name, name_at}
 
 -- ---- locks by number
 

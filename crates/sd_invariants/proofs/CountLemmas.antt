@@ -33,7 +33,7 @@ use Rattle.std.proofs.lemmas.List.{set_past}
 use Rattle.sd_basics.proofs.Truths.{and_left}
 use Rattle.sd_state.specs.Opening.{first_cpu_state, opening}
 
-abbrev count_part : CpuState → ℕ
+abbrev pub count_part : CpuState → ℕ
 count_part x = x.count
 
 pub count_marks : C.Markless count_part
@@ -42,7 +42,7 @@ count_marks = record { marks = λ x u k. refl }
 pub counts_plain : Plain count_part
 counts_plain = record { marks = count_marks; duty = λ x d. refl }
 
-abbrev SameCounts : State → State → Type 0
+abbrev pub SameCounts : State → State → Type 0
 SameCounts s r = C.Kept count_part s r
 
 -- each count is as it was, or at most one more than a count that was below the limit

@@ -32,14 +32,8 @@ use Rattle.sd_invariants.proofs.AgreedAfter.{IsReady}
 use Rattle.sd_frames.proofs.CpuWords as C
 use Rattle.sd_frames.proofs.PlainWords.{plain_keeps, drop_keeps}
 use Rattle.sd_invariants.proofs.Ready.{kept_reached, reached_ready, next_ready, opening_ready}
-use Rattle.sd_invariants.proofs.CountLemmas.{count_marks, counts_plain, first_count, joined_counts, assigned_counts, pbound_counts}
+use Rattle.sd_invariants.proofs.CountLemmas.{count_marks, counts_plain, first_count, joined_counts, assigned_counts, pbound_counts, SameCounts, count_part}
 use Rattle.sd_invariants.specs.Ticks.{CountsStayClose, CountsRiseByTicks, CountsAreTicks}
-
-abbrev count_part : CpuState → ℕ
-count_part x = x.count
-
-abbrev SameCounts : State → State → Type 0
-SameCounts s r = C.Kept count_part s r
 
 -- one more where processor c takes a tick
 abbrev ones : Bool → ℕ

@@ -150,7 +150,7 @@ record IsFirst (x : ThreadState) : Type 0 where
   held : x.body.held.items ≡ []
   away : is_waiter x.place ≡ false
 
-pub first_is : (w : Work) (t : ℕ) (d : ThreadDecl) → IsFirst (first_thread w t d)
+first_is : (w : Work) (t : ℕ) (d : ThreadDecl) → IsFirst (first_thread w t d)
 unfolding first_thread
 first_is w t d = record {
   op = refl;
@@ -158,12 +158,12 @@ first_is w t d = record {
   away = elim (is_urgent d) as (λ b. is_waiter (if b then RealTime d.set (pos t) else Queued (first_cpu w t d) (pos t)) ≡ false) [ true ↦ refl | false ↦ refl ];
 }
 
-pub first_at : (w : Work) (k : ℕ) (ds : List ThreadDecl) (t : ℕ) → IsFirst (get_or (first_threads w k ds) t no_thread)
+first_at : (w : Work) (k : ℕ) (ds : List ThreadDecl) (t : ℕ) → IsFirst (get_or (first_threads w k ds) t no_thread)
 first_at w k [] t = record { op = refl; held = refl; away = refl }
 first_at w k (d ∷ ds) zero = first_is w k d
 first_at w k (d ∷ ds) (suc t) = first_at w (k + 1) ds t
 
-pub opening_thread : (w : Work) (t : ℕ) → IsFirst (thread_of (opening w) t)
+opening_thread : (w : Work) (t : ℕ) → IsFirst (thread_of (opening w) t)
 unfolding opening
 opening_thread w t = first_at w 0 w.threads t
 

@@ -1,7 +1,7 @@
 -- Each event is a move of the lock graph, so what holds of lock graphs holds in every state of every run, and blocking cycles
 -- stay.
-use Rattle.std.proofs.Common.{◌≡◌, ℕ, zero, suc, ◌+◌, ◌<◌, false, List, [], ◌∷◌, ◌++◌, length, get_or, replicate, Option, Some, None, refl, sym, ap, ◌∙◌, subst, inl, inr, arith}
-use Rattle.std.specs.Prelude.{◌<ℤ◌, ℤ, map, if◌then◌else◌}
+use Rattle.std.proofs.Common.{◌≡◌, ℕ, zero, suc, ◌+◌, ◌<◌, true, false, List, [], ◌∷◌, ◌++◌, length, get_or, replicate, Option, Some, None, refl, sym, ap, ◌∙◌, subst, inl, inr, arith}
+use Rattle.std.specs.Prelude.{◌<ℤ◌, ℤ, pos, map, if◌then◌else◌}
 use Rattle.std.specs.List.{range_with_len, Contains}
 use Rattle.std.proofs.lemmas.Bool.{cases_lt}
 use Rattle.std.proofs.lemmas.Int.{ints}
@@ -15,6 +15,7 @@ use Rattle.sd_types.specs.declared.events.Entry.{Entry}
 use Rattle.sd_types.specs.declared.events.Event.{Event}
 use Rattle.sd_types.specs.declared.events.Event.TheVariants.{Enter, Read, Write, Block, Will, End as WalkEnd, Exit, Unblock, Grant, Passed, Prio, CvWait, Bind}
 use Rattle.sd_types.specs.declared.events.Hints.{Hints}
+use Rattle.sd_types.specs.declared.works.ThreadDecl.{ThreadDecl}
 use Rattle.sd_types.specs.declared.works.Work.{Work}
 use Rattle.sd_types.specs.Willed.{Numbers}
 use Rattle.sd_machine.specs.Graphs as G
@@ -27,8 +28,9 @@ use Rattle.sd_machine.proofs.WillMove.{will_step}
 use Rattle.sd_state.specs.declared.states.ThreadState.{ThreadState}
 use Rattle.sd_state.specs.declared.states.State.{State}
 use Rattle.sd_state.specs.declared.states.LockState.TheVariants.{Free}
+use Rattle.sd_state.specs.declared.states.Place.TheVariants.{Queued, RealTime}
 use Rattle.sd_state.specs.States.{no_thread, no_cpu, thread_of, cpu_of}
-use Rattle.sd_state.specs.Opening.{first_cpu_state, opening}
+use Rattle.sd_state.specs.Opening.{first_cpu, is_urgent, first_thread, first_threads, first_cpu_state, opening}
 use Rattle.sd_machine.specs.Threads.{lock_of}
 use Rattle.sd_machine.specs.Changes.{back_key}
 use Rattle.sd_machine.specs.LockGraph.{wait_of, owner_of, walk_of, number_at, graph, cycles_of}
@@ -38,7 +40,7 @@ use Rattle.sd_machine.proofs.RunLemmas.{final-append, IsRun-from, from-IsRun, Is
 use Rattle.sd_frames.specs.Causes.{IsCause}
 use Rattle.sd_invariants.proofs.AgreedAfter.{IsReady}
 use Rattle.sd_invariants.proofs.FineLemmas.{fine_reached}
-use Rattle.sd_invariants.proofs.Ready.{ready_cause, maker_inside, next_ready, opening_ready, opening_thread}
+use Rattle.sd_invariants.proofs.Ready.{ready_cause, maker_inside, next_ready, opening_ready}
 use Rattle.sd_laws.specs.InheritanceLaws.{InheritanceIsLocal, WalksLeadOn, OwnersHaveChainMaximum, PrioritiesAreMaxima, CyclesStay, CyclicThreadsStay, MaximaWithoutCycles}
 use Rattle.sd_laws.proofs.Exact.{is_eff}
 use Rattle.sd_laws.proofs.LockMoves.{IsGivenUp, IsGiven, block_move, enter_move, write_move, exit_move, cv_wait_move, unblock_move, grant_move}
@@ -137,6 +139,23 @@ record IsFirst (x : ThreadState) : Type 0 where
   numbers : x.body.willed.items ≡ []
   looped : x.body.looped ≡ false
 
+first_is : (w : Work) (t : ℕ) (d : ThreadDecl) → IsFirst (first_thread w t d)
+unfolding first_thread
+first_is w t d = record {
+  away = elim (is_urgent d) as (λ b. wait_of (if b then RealTime d.set (pos t) else Queued (first_cpu w t d) (pos t)) ≡ None) [ true ↦ refl | false ↦ refl ];
+  numbers = refl;
+  looped = refl;
+}
+
+first_at : (w : Work) (k : ℕ) (ds : List ThreadDecl) (t : ℕ) → IsFirst (get_or (first_threads w k ds) t no_thread)
+first_at w k [] t = record { away = refl; numbers = refl; looped = refl }
+first_at w k (d ∷ ds) zero = first_is w k d
+first_at w k (d ∷ ds) (suc t) = first_at w (k + 1) ds t
+
+opening_first : (w : Work) (t : ℕ) → IsFirst (thread_of (opening w) t)
+unfolding opening
+opening_first w t = first_at w 0 w.threads t
+
 all_free : (k l : ℕ) → owner_of (get_or (replicate k Free) l Free) ≡ None
 all_free zero l = refl
 all_free (suc k) zero = refl
@@ -159,7 +178,7 @@ opening_walk w c = idle_at w (range_with_len 0 w.cpus) c
 opening_chained : (w : Work) → IsChained w 0 (opening w)
 opening_chained w = record {
   ready = opening_ready w;
-  sound = empty_sound (back_key 0) (graph (opening w)) (λ t. (opening_thread w t).away) (opening_owner w) (λ o l. ap (λ (ws : Numbers). number_at ws l) (opening_thread w o).numbers) (opening_walk w) (λ t. (opening_thread w t).looped);
+  sound = empty_sound (back_key 0) (graph (opening w)) (λ t. (opening_first w t).away) (opening_owner w) (λ o l. ap (λ (ws : Numbers). number_at ws l) (opening_first w o).numbers) (opening_walk w) (λ t. (opening_first w t).looped);
 }
 
 pub reached_chained : (w : Work) (n : ℕ) (s : State) → IsReached w n s → IsChained w n s
