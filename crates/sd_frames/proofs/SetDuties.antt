@@ -1,6 +1,5 @@
 -- What joining and leaving a set, and binding, leave of the duties of processors.
-use Rattle.std.proofs.Common.{◌≡◌, ℕ, ◌+◌, ◌-◌, ◌%◌, ◌||◌, ◌&&◌, [], ◌∷◌, Option, Some, None, refl}
-use Rattle.std.specs.Prelude.{⊤, if◌then◌else◌, ◌==◌}
+use Rattle.std.proofs.Common.{ℕ, Option, Some, None, refl}
 use Rattle.sd_types.specs.declared.numbers.CpuId.{CpuId}
 use Rattle.sd_types.specs.declared.numbers.SetId.{SetId}
 use Rattle.sd_types.specs.declared.events.AssignAnswer.{AssignAnswer}
@@ -28,9 +27,7 @@ pub assigned_duties : (w : Work) (s : State) (t : ℕ) (d : CpuId) (to : SetId) 
 unfolding assigned
 assigned_duties w s t d to assign.Changed =
     C.then_kept duty_part s _ _ (close_duties s d to) (C.then_kept duty_part _ (cleared (close s d to) d (runner s d.0)) _ (C.cleared_kept duty_part duty_marks _ d _) (C.finish_op_kept duty_part duty_marks w _ t))
-assigned_duties w s t d to assign.EPERM = C.finish_op_kept duty_part duty_marks w s t
-assigned_duties w s t d to assign.EINVAL = C.finish_op_kept duty_part duty_marks w s t
-assigned_duties w s t d to assign.EBUSY = C.finish_op_kept duty_part duty_marks w s t
+assigned_duties w s t d to answer = C.finish_op_kept duty_part duty_marks w s t
 
 pub bind_duties : (s : State) (t : ℕ) (d : CpuId) → C.Kept duty_part s (bind s t d)
 unfolding bind
@@ -50,7 +47,4 @@ unfolding pbound
 pbound_duties w s n t u d (bind_answer.Changed at) =
     C.then_kept duty_part s (rebound s u d (thread_of s u).body.bound) _ (rebound_duties s u d _)
     (C.then_kept duty_part _ (put_where w (rebound s u d (thread_of s u).body.bound) n u at) _ (C.put_where_kept duty_part duty_marks w _ n u at) (C.finish_op_kept duty_part duty_marks w _ t))
-pbound_duties w s n t u d bind_answer.ESRCH = C.finish_op_kept duty_part duty_marks w s t
-pbound_duties w s n t u d bind_answer.EINVAL = C.finish_op_kept duty_part duty_marks w s t
-pbound_duties w s n t u d bind_answer.EPERM = C.finish_op_kept duty_part duty_marks w s t
-pbound_duties w s n t u d bind_answer.EBUSY = C.finish_op_kept duty_part duty_marks w s t
+pbound_duties w s n t u d answer = C.finish_op_kept duty_part duty_marks w s t
