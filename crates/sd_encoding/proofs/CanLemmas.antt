@@ -16,7 +16,7 @@ use Rattle.sd_state.specs.States.{cpu_of, thread_of}
 use Rattle.sd_state.specs.Operations.{script_of}
 use Rattle.sd_machine.specs.Needs.{CanJoin, CanTick, IsChan, IsFree, IsLock, RunsOn}
 use Rattle.sd_store.specs.declared.changes.BodyChange.{BodyChange}
-use Rattle.sd_store.specs.declared.changes.BodyChange.TheVariants.{RunTick, Tick, FinishOp, Class, SendBack, Hold, LetGo, Inherit, Looped}
+use Rattle.sd_store.specs.declared.changes.BodyChange.TheVariants.{Tick, FinishOp, Class, SendBack, Hold, LetGo, Inherit, Looped}
 use Rattle.sd_store.specs.declared.spots.Destination.{Destination}
 use Rattle.sd_store.specs.declared.spots.Destination.TheVariants as to
 use Rattle.sd_store.specs.Bodies.{CanChange}
@@ -60,7 +60,6 @@ module _ (x s : State) (h : IsSameOrder x s) where
   body_back t = sym (body_same x s h.bare t)
 
   pub change_back : (w : Work) (t : ThreadId) (change : BodyChange) → CanChange w t change s → CanChange w t change x
-  change_back w t RunTick can = subst (λ (b : ThreadBody). b.op < length (script_of w t.0)) (body_back t.0) can
   change_back w t (Tick class) can = subst (λ (b : ThreadBody). b.op < length (script_of w t.0)) (body_back t.0) can
   change_back w t FinishOp can = subst (λ (b : ThreadBody). b.op < length (script_of w t.0)) (body_back t.0) can
   change_back w t (Hold l) can = record {

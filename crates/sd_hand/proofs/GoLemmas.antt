@@ -22,7 +22,7 @@ use Rattle.sd_machine.specs.Needs.{RunsOn}
 use Rattle.sd_store.specs.Bodies.{CanChange, changed}
 use Rattle.sd_store.specs.Keyless.{IsDestination, place_by}
 use Rattle.sd_store.specs.declared.changes.BodyChange.{BodyChange}
-use Rattle.sd_store.specs.declared.changes.BodyChange.TheVariants.{Class, FinishOp, Hold, Inherit, LetGo, Looped, RunTick, SendBack, Tick}
+use Rattle.sd_store.specs.declared.changes.BodyChange.TheVariants.{Class, FinishOp, Hold, Inherit, LetGo, Looped, SendBack, Tick}
 use Rattle.sd_store.specs.declared.spots.Destination.{Destination}
 use Rattle.sd_store.specs.declared.spots.Destination.TheVariants as to
 use Rattle.sd_homes.specs.declared.list_id.ListId.{ListId}
@@ -115,12 +115,10 @@ ran_last ops b = by (nat_le b.run_left 1) refl
     by false e = rw e refl
 
 pub changed_last : (w : Work) (t : ℕ) (change : BodyChange) (b : ThreadBody) → (changed w t change b).last ≡ b.last
-changed_last w t RunTick b = ran_last (script_of w t) b
 changed_last w t (Tick class) b = ran_last (script_of w t) b
 changed_last w t change b = refl
 
 pub can_change : (w : Work) (s : State) (t : ThreadId) (change : BodyChange) → CanChange w t change s → CanChangeThread w t.0 change (thread_of s t.0).body
-can_change w s t RunTick can = can
 can_change w s t (Tick class) can = can
 can_change w s t FinishOp can = can
 can_change w s t (Class class) can = tt

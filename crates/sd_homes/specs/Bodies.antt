@@ -7,10 +7,9 @@ use Rattle.sd_types.specs.Scripts.{is_held}
 use Rattle.sd_types.specs.Limits.{most_held}
 use Rattle.sd_state.specs.Operations.{script_of}
 use Rattle.sd_store.specs.declared.changes.BodyChange.{BodyChange}
-use Rattle.sd_store.specs.declared.changes.BodyChange.TheVariants.{RunTick, Tick, FinishOp, Class, SendBack, Hold, LetGo, Inherit, Looped}
+use Rattle.sd_store.specs.declared.changes.BodyChange.TheVariants.{Tick, FinishOp, Class, SendBack, Hold, LetGo, Inherit, Looped}
 
 abbrev pub CanChangeThread : Work → ℕ → BodyChange → ThreadBody → Type 0
-CanChangeThread w t RunTick b = b.op < length (script_of w t)
 CanChangeThread w t (Tick class) b = b.op < length (script_of w t)
 CanChangeThread w t FinishOp b = b.op < length (script_of w t)
 CanChangeThread w t (Class class) b = ⊤

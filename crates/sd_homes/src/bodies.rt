@@ -4,7 +4,8 @@ ghost use Rattle.std.specs.Prelude.{◌≡◌, ◌<◌, false, length, IfSome, I
 ghost use Rattle.sd_types.specs.Scripts.{is_held};
 ghost use Rattle.sd_types.specs.Willed.{changed_number, with_lock, with_willed};
 ghost use Rattle.sd_types.specs.Limits.{most_held};
-ghost use Rattle.sd_store.specs.declared.changes.BodyChange.TheVariants.{FinishOp, RunTick, Tick};
+ghost use Rattle.sd_store.specs.declared.changes.BodyChange.TheVariants.{FinishOp, Tick};
+ghost use Rattle.sd_state.specs.Operations.{ran, script_of};
 ghost use Rattle.sd_store.specs.Bodies.{changed};
 ghost use Rattle.sd_homes.specs.Bodies.{CanChangeThread};
 ghost use Rattle.sd_homes.specs.Homes.{with_body_of};
@@ -23,7 +24,7 @@ fn is_held(l: LockId, body: &ThreadBody) -> bool
 
 /// A tick of a run operation, where the thread stands at an operation.
 fn run_tick(work: &Work, t: ThreadId, r: &mut Record)
-    ensures body { CanChangeThread work.now t.0 RunTick r.old.body → r.new ≡ with_body_of (changed work.now t.0 RunTick r.old.body) r.old }
+    ensures body { r.old.body.op < length (script_of work.now t.0) → r.new ≡ with_body_of (ran (script_of work.now t.0) r.old.body) r.old }
     ensures id { r.new.id ≡ r.old.id }
 {
     let script = script_of(work, t);
@@ -32,7 +33,7 @@ fn run_tick(work: &Work, t: ThreadId, r: &mut Record)
     }
 }
 
-/// The same, and another class state.
+/// The same, with the class state after it.
 fn tick(work: &Work, t: ThreadId, class: ClassState, r: &mut Record)
     ensures body { CanChangeThread work.now t.0 (Tick class) r.old.body → r.new ≡ with_body_of (changed work.now t.0 (Tick class) r.old.body) r.old }
     ensures id { r.new.id ≡ r.old.id }
@@ -84,7 +85,6 @@ pub(crate) fn change(work: &Work, t: ThreadId, change: BodyChange, r: &mut Recor
     ensures id { r.new.id ≡ r.old.id }
 {
     match change {
-        BodyChange::RunTick => run_tick(work, t, r),
         BodyChange::Tick(class) => tick(work, t, class, r),
         BodyChange::FinishOp => finish_op(work, t, r),
         BodyChange::Class(class) => r.body.class = class,

@@ -11,7 +11,7 @@ use Rattle.sd_store.specs.declared.flat.look.Never.{Never}
 use Rattle.sd_store.specs.declared.parts.Part.{Part}
 use Rattle.sd_store.specs.Parts.{actor_part}
 use Rattle.sd_store.specs.declared.changes.BodyChange.{BodyChange}
-use Rattle.sd_store.specs.declared.changes.BodyChange.TheVariants.{RunTick, Tick, FinishOp, Hold, Inherit}
+use Rattle.sd_store.specs.declared.changes.BodyChange.TheVariants.{Tick, FinishOp, Hold, Inherit}
 use Rattle.sd_state.specs.declared.states.State.{State}
 
 -- it stands for itself alone, where the numbers of the threads fit their type
@@ -21,7 +21,6 @@ pub record IsState (x s : State) : Type 0 where
 
 -- what a change asks of a body
 abbrev pub CanChangeBody : Work → ℕ → BodyChange → ThreadBody → Type 0
-CanChangeBody w t RunTick b = b.op < length (script_of w t)
 CanChangeBody w t (Tick class) b = b.op < length (script_of w t)
 CanChangeBody w t FinishOp b = b.op < length (script_of w t)
 CanChangeBody w t (Hold l) b = length b.held.items < most_held

@@ -20,6 +20,4 @@ pub use look::Look;
 pub use parts::{CpuView, Part};
 pub use sets::Sets;
 pub use spots::{Chore, Destination, Spot, Task};
-pub use store::{
-    Store, finish_op, hold, inherit, let_go, run_tick, send_back, set_class, set_looped, tick,
-};
+pub use store::{Store, finish_op, hold, inherit, let_go, send_back, set_class, set_looped, tick};

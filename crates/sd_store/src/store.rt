@@ -125,18 +125,6 @@ pub trait Store: Look {
         ensures has { Self.has self.new ≡ Self.has self.old };
 }
 
-/// Thread `t` runs for a tick of its operation.
-#[inline(always)]
-#[tactic(auto, unfolding(sd_machine::specs::Changes::run_tick))]
-pub fn run_tick<S: Store>(x: &mut S, work: &Work, t: ThreadId) -> Result<(), S::Lack>
-    ensures value { Does (S.shows x.old) (S.shows x.new) result (λ s. CanFinish work.now s t) (λ s. run_tick work.now s t.0) }
-    ensures lack { Lacks S.part (S.shows x.old) (S.has x.old) result (λ s. thread_part t ∷ []) }
-    ensures kept { Keeps (S.shows x.old) (S.shows x.new) result }
-    ensures has { S.has x.new ≡ S.has x.old }
-{
-    x.change_body(work, t, BodyChange::RunTick)
-}
-
 /// Thread `t` runs for a tick of its operation, and has this class state after it.
 #[inline(always)]
 pub fn tick<S: Store>(x: &mut S, work: &Work, t: ThreadId, class: ClassState) -> Result<(), S::Lack>

@@ -39,7 +39,6 @@ fn change(work: &Work, t: ThreadId, change: BodyChange, b: &mut ThreadBody)
     ensures { CanChangeBody work.now t.0 change b.old → b.new ≡ changed work.now t.0 change b.old }
 {
     match change {
-        BodyChange::RunTick => sd_flat::ran(script_of(work, t), b),
         BodyChange::Tick(class) => {
             sd_flat::ran(script_of(work, t), b);
             b.class = class;
