@@ -36,7 +36,7 @@ use Rattle.sd_hand.specs.Acting.{has_part}
 use Rattle.sd_world.proofs.WorldLemmas.{begins_same, begins_then}
 use Rattle.sd_cpu.specs.declared.attempts.Turned.{Turned}
 use Rattle.sd_cpu.specs.declared.attempts.Turned.TheVariants.{Acted, Ticked, Behind, Finished}
-use Rattle.sd_cpu.specs.Attempts.{Acts, AreRead, Enters, Hinders, IsHindered, MayNotTick, MayTick, Refuses, Turns}
+use Rattle.sd_cpu.specs.Attempts.{Acts, AreRead, Enters, Hinders, IsHindered, MayNotTick, MayTick, Refuses, AttemptTakesTurn}
 use Rattle.sd_cpu.specs.Seeking.{Comes, FindsEvent, GivesUp, HoldsToMake, IsCourse, IsOnItsWay, IsReady, Looks}
 use Rattle.sd_cpu.proofs.MeaningLemmas.{enters_from, hindered, idles, idles_from, looks_same, looks_still, may_same, one_from, rises_then}
 use Rattle.sd_cpu.proofs.RoomLemmas.{reached_by}
@@ -279,7 +279,7 @@ rests m m' e hints good comes t counts not =
       none = λ alone. subst (λ h. next m.work (now m) (actor_of m) h ≡ None) (comes.given alone) (next_not m.work (now m) (actor_of m) hints would (not alone));
     }
 
-pub hinders : (m m' : Meaning) (e : Event) (hints : Option Hints) (t : Turned) → IsGood m → Comes m e hints → ticks e ≡ true → ReadsCounts m m' → Hinders m m' (Some t) → Turns m m' t
+pub hinders : (m m' : Meaning) (e : Event) (hints : Option Hints) (t : Turned) → IsGood m → Comes m e hints → ticks e ≡ true → ReadsCounts m m' → Hinders m m' (Some t) → AttemptTakesTurn m m' t
 hinders m m' e hints (Acted n) good comes is counts h = absurd h
 hinders m m' e hints (Ticked n) good comes is counts h = absurd h
 hinders m m' e hints (Behind c n) good comes is counts h =
@@ -299,7 +299,7 @@ rests_from m m' m'' s x = record {
       ∙ ap (λ h. next m'.work (after_run m' h) (actor_of m') (serial_hints m'.work (after_run m' h) (actor_of m'))) (sym (s.still alone)) ∙ x.none (s.alone ∙ alone);
 }
 
-turns_from : (m m' m'' : Meaning) (t : Turned) → Looks m m' → Turns m' m'' t → Turns m m'' t
+turns_from : (m m' m'' : Meaning) (t : Turned) → Looks m m' → AttemptTakesTurn m' m'' t → AttemptTakesTurn m m'' t
 turns_from m m' m'' (Acted n) l x = one_from m m' m'' n false l.stays x
 turns_from m m' m'' (Ticked n) l x = one_from m m' m'' n true l.stays x
 turns_from m m' m'' (Behind c n) l x = (

@@ -24,7 +24,7 @@ use Rattle.sd_world.proofs.WorldLemmas.{begins_then, quiet_same, quiet_then, sta
 use Rattle.sd_cpu.specs.declared.attempts.Attempted.{Attempted}
 use Rattle.sd_cpu.specs.declared.attempts.Turned.{Turned}
 use Rattle.sd_cpu.specs.declared.attempts.Turned.TheVariants.{Acted, Ticked, Behind, Finished}
-use Rattle.sd_cpu.specs.Attempts.{Acts, Attempts, Enters, Idles, IsHindered, IsSameWorld, MakesOne, MayNotTick, Refuses, Turns, attempted_of, turn_of}
+use Rattle.sd_cpu.specs.Attempts.{Acts, Attempts, Enters, Idles, IsHindered, IsSameWorld, MakesOne, MayNotTick, Refuses, AttemptTakesTurn, attempted_of, turn_of}
 use Rattle.sd_types.specs.declared.events.Stop.{Stop}
 use Rattle.sd_types.specs.declared.events.Stop.TheVariants.{Full, Memory}
 use Rattle.sd_cpu.specs.Seeking.{GivesUp, Looks}
@@ -178,7 +178,7 @@ one_then m m' m'' n b x s =
 rests_then : (m m' m'' : Meaning) → MayNotTick m m' → Stays m' m'' → MayNotTick m m''
 rests_then m m' m'' x s = record { idles = idles_then m m' m'' x.idles s; run = x.run; after = x.after; before = begins_then x.run m'.seen m''.seen x.before s.begins; hints = x.hints; wish = x.wish; none = x.none }
 
-pub turns_then : (m m' m'' : Meaning) (t : Turned) → Turns m m' t → Stays m' m'' → IsQuiet m' m'' → Turns m m'' t
+pub turns_then : (m m' m'' : Meaning) (t : Turned) → AttemptTakesTurn m m' t → Stays m' m'' → IsQuiet m' m'' → AttemptTakesTurn m m'' t
 turns_then m m' m'' (Acted n) x s q = one_then m m' m'' n false x s
 turns_then m m' m'' (Ticked n) x s q = one_then m m' m'' n true x s
 turns_then m m' m'' (Behind c n) x s q = (rests_then m m' m'' x.0 s, x.1, x.2, subst (λ k. Rises m.reads k) (sym q.reads) x.3, q.last ∙ x.4)

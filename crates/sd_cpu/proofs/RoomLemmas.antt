@@ -24,7 +24,7 @@ use Rattle.sd_hand.proofs.GuideLemmas.{stands_guessed, held_in}
 use Rattle.sd_hand.proofs.MoveLemmas.{stands_at, taken}
 use Rattle.sd_hand.proofs.SlotLemmas.{same_home_self, same_home_true, stands_has}
 use Rattle.sd_footprint.specs.Homes.{IsOneOf, LiesIn, TakesFour, home_in}
-use Rattle.sd_footprint.specs.There.{IsThere}
+use Rattle.sd_footprint.specs.There.{IsPartThere}
 use Rattle.sd_footprint.proofs.FewHomes.{takes_four}
 use Rattle.sd_footprint.proofs.TouchedThere.{parts_there}
 use Rattle.sd_world.specs.Worlds.{Gains, IsGood, MayStand, Meaning, actor_of, after_run, now, slots_of}
@@ -100,7 +100,7 @@ module _ (m : Meaning) (good : IsGood m) (h : List Entry) (may : MayStand m h) w
       stands_has t (slots_of m) at (stands_guessed t at (slots_of m) (ap is_some e))
 
   -- the home is not held in which a part lies that is lacking
-  not_held : (p : Part) (k : HomeId) → IsThere (after_run m h) (actor_of m) p → home_in (after_run m h) p ≡ Some k → has_part m.acting p ≡ false → held k (slots_of m) ≡ None
+  not_held : (p : Part) (k : HomeId) → IsPartThere (after_run m h) (actor_of m) p → home_in (after_run m h) p ≡ Some k → has_part m.acting p ≡ false → held k (slots_of m) ≡ None
   not_held (part.Home j) k there lies lacks = subst (λ z. held z (slots_of m) ≡ None) (let z : j ≡ k = cc in z) (by (held j (slots_of m)) lacks)
     where
       by : (o : Option Home) → is_some o ≡ false → o ≡ None
@@ -123,7 +123,7 @@ module _ (m : Meaning) (good : IsGood m) (h : List Entry) (may : MayStand m h) w
   lies_in : (p : Part) (k : HomeId) (hs : List HomeId) → home_in (after_run m h) p ≡ Some k → IsOneOf (home_in (after_run m h) p) hs → IsOneOf (Some k) hs
   lies_in p k hs e one = subst (λ o. IsOneOf o hs) e one
 
-  some_home : (p : Part) → (p ≡ actor_part (actor_of m) → ⊥) → IsThere (after_run m h) (actor_of m) p → (k : HomeId) × (home_in (after_run m h) p ≡ Some k)
+  some_home : (p : Part) → (p ≡ actor_part (actor_of m) → ⊥) → IsPartThere (after_run m h) (actor_of m) p → (k : HomeId) × (home_in (after_run m h) p ≡ Some k)
   some_home (part.Home k) other there = (k, refl)
   some_home (part.Thread t) other there = (home_of (thread_of (after_run m h) t.0), refl)
   some_home (part.Actor d) other there = absurd (other (ap part.Actor there))
@@ -139,7 +139,7 @@ module _ (m : Meaning) (good : IsGood m) (h : List Entry) (may : MayStand m h) w
   lies_by (part.Actor d) k hs e is = absurd (let z : None ≡ Some k = e in cc)
   lies_by p k hs e (inr one) = lies_in p k hs e one
 
-  pub room : (hints : Option Hints) (p : Part) → m.all ≡ false → HoldsToMake m hints → IsSought m.work (after_run m h) (actor_of m) hints p → IsThere (after_run m h) (actor_of m) p → has_part m.acting p ≡ false
+  pub room : (hints : Option Hints) (p : Part) → m.all ≡ false → HoldsToMake m hints → IsSought m.work (after_run m h) (actor_of m) hints p → IsPartThere (after_run m h) (actor_of m) p → has_part m.acting p ≡ false
       → how_many_held (slots_of m) < 4
   room hints p few holds sought there lacks =
       let s = after_run m h in
@@ -154,18 +154,18 @@ module _ (m : Meaning) (good : IsGood m) (h : List Entry) (may : MayStand m h) w
       omega (arith, less, most)
 
   -- what is sought is there
-  pub there_to_read : (p : Part) → IsAmong p (reads_parts m.work (after_run m h) (actor_of m)) → IsThere (after_run m h) (actor_of m) p
+  pub there_to_read : (p : Part) → IsAmong p (reads_parts m.work (after_run m h) (actor_of m)) → IsPartThere (after_run m h) (actor_of m) p
   there_to_read p among = (parts_there m.work (length h) (after_run m h) (actor_of m) None reached_by good.cpu).reading p among
 
-  pub there_to_wish : (hints : Option Hints) (p : Part) → IsAmong p (needed m.work (after_run m h) (actor_of m) hints) → IsThere (after_run m h) (actor_of m) p
+  pub there_to_wish : (hints : Option Hints) (p : Part) → IsAmong p (needed m.work (after_run m h) (actor_of m) hints) → IsPartThere (after_run m h) (actor_of m) p
   there_to_wish hints p among = (parts_there m.work (length h) (after_run m h) (actor_of m) hints reached_by good.cpu).wishing p among
 
   pub there_to_make : (hints : Option Hints) (e : Event) (p : Part) → next m.work (after_run m h) (actor_of m) hints ≡ Some e → IsAmong p (after_parts m.work (after_run m h) (actor_of m) e)
-      → IsThere (after_run m h) (actor_of m) p
+      → IsPartThere (after_run m h) (actor_of m) p
   there_to_make hints e p makes among = (parts_there m.work (length h) (after_run m h) (actor_of m) hints reached_by good.cpu).touching e makes p among
 
 -- what is lacking of what is sought can be fetched
-pub can_fetch : (m : Meaning) (good : IsGood m) (hints : Option Hints) (p : Part) → HoldsToMake m hints → IsSought m.work (now m) (actor_of m) hints p → IsThere (now m) (actor_of m) p → has_part m.acting p ≡ false
+pub can_fetch : (m : Meaning) (good : IsGood m) (hints : Option Hints) (p : Part) → HoldsToMake m hints → IsSought m.work (now m) (actor_of m) hints p → IsPartThere (now m) (actor_of m) p → has_part m.acting p ≡ false
     → CanFetch m p
 can_fetch m good hints p holds sought there lacks = by p sought there lacks (few m.all refl)
   where
@@ -173,7 +173,7 @@ can_fetch m good hints p holds sought there lacks = by p sought there lacks (few
     few true e = absurd (false≢true (sym lacks ∙ good.everything e m.seen good.stands p there))
     few false e = room m good m.seen good.stands hints p e holds sought there lacks
 
-    by : (q : Part) → IsSought m.work (now m) (actor_of m) hints q → IsThere (now m) (actor_of m) q → has_part m.acting q ≡ false → how_many_held (slots_of m) < 4 → CanFetch m q
+    by : (q : Part) → IsSought m.work (now m) (actor_of m) hints q → IsPartThere (now m) (actor_of m) q → has_part m.acting q ≡ false → how_many_held (slots_of m) < 4 → CanFetch m q
     by (part.Home k) s there lacks less = record { room = less; there = there; fresh = lacks }
     by (part.Thread t) s there lacks less = record { room = less; there = there; fresh = lacks }
     by (part.Actor d) s there lacks less = not_actor m good m.seen good.stands (part.Actor d) (ap part.Actor there) lacks

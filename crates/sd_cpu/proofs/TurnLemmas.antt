@@ -9,7 +9,7 @@ use Rattle.sd_hand.specs.declared.acting.Actor.{Actor}
 use Rattle.sd_types.specs.Limits.{most_entries}
 use Rattle.sd_world.specs.Worlds.{Begins, Meaning, actor_of, after_run, entry_of}
 use Rattle.sd_world.proofs.WorldLemmas.{begins_same, begins_then}
-use Rattle.sd_cpu.specs.Attempts.{Idles, IsSameWorld, MakesOne, MayNotTick, Refuses, Turns}
+use Rattle.sd_cpu.specs.Attempts.{Idles, IsSameWorld, MakesOne, MayNotTick, Refuses, AttemptTakesTurn}
 use Rattle.sd_cpu.specs.declared.attempts.Turned.{Turned}
 use Rattle.sd_cpu.specs.declared.attempts.Turned.TheVariants.{Acted, Ticked, Behind, Finished}
 use Rattle.sd_cpu.proofs.MeaningLemmas.{world_then}
@@ -71,7 +71,7 @@ module _ (m m' m'' : Meaning) (i : Idles m m') where
         (subst (λ h. next m'.work (after_run m' h) (actor_of m') (serial_hints m'.work (after_run m' h) (actor_of m')) ≡ None) (i.still t) (x.none (i.world.alone ∙ t))));
   }
 
-  pub turn_after : (t : Turned) → Turns m' m'' t → TakesTurn m m'' t
+  pub turn_after : (t : Turned) → AttemptTakesTurn m' m'' t → TakesTurn m m'' t
   turn_after (Acted n) x = one_after n false x
   turn_after (Ticked n) x = one_after n true x
   turn_after (Behind c n) x = (

@@ -56,11 +56,11 @@ pub record MayNotTick (m m' : Meaning) : Type 0 where
   pub wish : ticks (wish m.work (after_run m run) (actor_of m).0 hints) ≡ true
   pub none : m.alone ≡ true → next m.work (now m) (actor_of m) (serial_hints m.work (now m) (actor_of m)) ≡ None
 
-abbrev pub Turns : Meaning → Meaning → Turned → Type 0
-Turns m m' (Acted n) = MakesOne m m' n false
-Turns m m' (Ticked n) = MakesOne m m' n true
-Turns m m' (Behind c n) = MayNotTick m m' × (m.acting.actor.count < m.work.limit) × (n < m.acting.actor.count) × Rises m.reads m'.reads × (m'.last ≡ Some (c.0, n))
-Turns m m' Finished = MayNotTick m m' × (m.work.limit ≤ m.acting.actor.count)
+abbrev pub AttemptTakesTurn : Meaning → Meaning → Turned → Type 0
+AttemptTakesTurn m m' (Acted n) = MakesOne m m' n false
+AttemptTakesTurn m m' (Ticked n) = MakesOne m m' n true
+AttemptTakesTurn m m' (Behind c n) = MayNotTick m m' × (m.acting.actor.count < m.work.limit) × (n < m.acting.actor.count) × Rises m.reads m'.reads × (m'.last ≡ Some (c.0, n))
+AttemptTakesTurn m m' Finished = MayNotTick m m' × (m.work.limit ≤ m.acting.actor.count)
 
 -- somebody was in the way
 pub record IsHindered (m m' : Meaning) : Type 0 where
@@ -86,12 +86,12 @@ turn_of (Ok None) b = Ok None
 turn_of (Err s) b = Err s
 
 abbrev pub Acts : Meaning → Meaning → Result (Option Turned) Stop → Type 0
-Acts m m' (Ok (Some t)) = Turns m m' t
+Acts m m' (Ok (Some t)) = AttemptTakesTurn m m' t
 Acts m m' (Ok None) = IsHindered m m'
 Acts m m' (Err s) = Refuses m m' s
 
 abbrev pub Attempts : Meaning → Meaning → Attempted → Type 0
-Attempts m m' (attempted.Made t) = Turns m m' t
+Attempts m m' (attempted.Made t) = AttemptTakesTurn m m' t
 Attempts m m' (attempted.Again passed) = IsHindered m m'
 
 -- the turn was made, or is to be repeated

@@ -18,7 +18,7 @@ use Rattle.sd_rules.specs.ClassRules.{class_expires, class_requeue}
 use Rattle.sd_machine.specs.Bodies.{ticked_class}
 use Rattle.sd_machine.specs.Changes.{clear_marks, count_tick, counted, key_at, leave, run_tick, set_class}
 use Rattle.sd_machine.specs.Dispatching.{charge, preempted, ticked}
-use Rattle.sd_machine.specs.Needs.{CanFinish, IsFree}
+use Rattle.sd_machine.specs.Needs.{CanFinish, RunsNobody}
 use Rattle.sd_machine.specs.Threads.{runner}
 use Rattle.sd_dispatcher.specs.Touched.{queue_for}
 use Rattle.sd_dispatcher.proofs.Kept.{class_place, kept_class, kept_set}
@@ -69,7 +69,7 @@ pub runs_classed : (s : State) (t : ThreadId) (class : ClassState) (c : CpuId) �
 runs_classed s t class c runs = class_place s t.0 t.0 class ∙ runs
 
 -- a processor without marks runs what it ran
-pub free_unmarked : (s : State) (c d : CpuId) → IsFree s d → IsFree (clear_marks s c.0) d
+pub free_unmarked : (s : State) (c d : CpuId) → RunsNobody s d → RunsNobody (clear_marks s c.0) d
 unfolding runner clear_marks
 free_unmarked s c d free = free
 

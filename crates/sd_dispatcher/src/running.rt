@@ -6,7 +6,7 @@ ghost use Rattle.std.specs.Prelude.{◌≡◌, ◌<◌, ◌^◌, [], ◌∷◌, 
 ghost use Rattle.sd_machine.specs.Changes.{key_at, leave, set_class};
 ghost use Rattle.sd_rules.specs.ClassRules.{class_requeue};
 ghost use Rattle.sd_machine.specs.Dispatching.{charge, class_counts, dispatched, done, idled, preempted, sent_away, spun, stolen, ticked, yielded};
-ghost use Rattle.sd_machine.specs.Needs.{CanFinish, CanTick, IsFree, RunsOn};
+ghost use Rattle.sd_machine.specs.Needs.{CanFinish, CanTick, RunsNobody, RunsOn};
 ghost use Rattle.sd_state.specs.States.{no_body, thread_of, set_of};
 ghost use Rattle.sd_dispatcher.specs.Touched.{leaving_parts, queue_for};
 ghost use Rattle.sd_store.specs.Parts.{actor_part, cpu_part, ready_parts, real_time_part, thread_part};
@@ -108,7 +108,7 @@ pub fn idled<S: Store>(work: &Work, x: &mut S, c: CpuId) -> Result<(), S::Lack>
 /// Processor `c` takes thread `t` from its queue, and runs it.
 #[tactic(auto, using(crate::proofs::RunningLemmas::free_unmarked), unfolding(sd_machine::specs::Dispatching::dispatched))]
 pub fn dispatched<S: Store>(x: &mut S, c: CpuId, t: ThreadId) -> Result<(), S::Lack>
-    ensures value { Does (S.shows x.old) (S.shows x.new) result (λ s. IsFree s c) (λ s. dispatched s c t.0) }
+    ensures value { Does (S.shows x.old) (S.shows x.new) result (λ s. RunsNobody s c) (λ s. dispatched s c t.0) }
     ensures lack { Lacks S.part (S.shows x.old) (S.has x.old) result (λ s. thread_part t ∷ cpu_part c ∷ []) }
     ensures has { S.has x.new ≡ S.has x.old }
 {
@@ -119,7 +119,7 @@ pub fn dispatched<S: Store>(x: &mut S, c: CpuId, t: ThreadId) -> Result<(), S::L
 /// Processor `c` runs thread `t`, which it took from the queue of another one.
 #[tactic(auto, unfolding(sd_machine::specs::Dispatching::stolen))]
 pub fn stolen<S: Store>(x: &mut S, c: CpuId, t: ThreadId) -> Result<(), S::Lack>
-    ensures value { Does (S.shows x.old) (S.shows x.new) result (λ s. IsFree s c) (λ s. stolen s c t.0) }
+    ensures value { Does (S.shows x.old) (S.shows x.new) result (λ s. RunsNobody s c) (λ s. stolen s c t.0) }
     ensures lack { Lacks S.part (S.shows x.old) (S.has x.old) result (λ s. thread_part t ∷ cpu_part c ∷ []) }
     ensures has { S.has x.new ≡ S.has x.old }
 {

@@ -9,12 +9,12 @@ use Rattle.sd_types.specs.declared.numbers.SetId.{SetId}
 use Rattle.sd_types.specs.declared.numbers.ThreadId.{ThreadId}
 use Rattle.sd_types.specs.declared.works.Work.{Work}
 use Rattle.sd_types.specs.Scripts.{is_held}
-use Rattle.sd_types.specs.Willed.{IsSound}
+use Rattle.sd_types.specs.Willed.{InheritsSoundly}
 use Rattle.sd_state.specs.declared.states.CpuState.{CpuState}
 use Rattle.sd_state.specs.declared.states.State.{State}
 use Rattle.sd_state.specs.States.{cpu_of, thread_of}
 use Rattle.sd_state.specs.Operations.{script_of}
-use Rattle.sd_machine.specs.Needs.{CanJoin, CanTick, IsChan, IsFree, IsLock, RunsOn}
+use Rattle.sd_machine.specs.Needs.{CanJoin, CanTick, IsChan, RunsNobody, IsLock, RunsOn}
 use Rattle.sd_store.specs.declared.changes.BodyChange.{BodyChange}
 use Rattle.sd_store.specs.declared.changes.BodyChange.TheVariants.{Tick, FinishOp, Class, SendBack, Hold, LetGo, Inherit, Looped}
 use Rattle.sd_store.specs.declared.spots.Destination.{Destination}
@@ -29,7 +29,7 @@ module _ (x s : State) (h : IsSameOrder x s) where
   pub tick_back : (w : Work) (c : CpuId) → CanTick w s c → CanTick w x c
   tick_back w c can = subst (λ m. m < w.limit) (sym (count_same x s h c.0)) can
 
-  pub free_back : (c : CpuId) → IsFree s c → IsFree x c
+  pub free_back : (c : CpuId) → RunsNobody s c → RunsNobody x c
   free_back c free = runner_same x s h c.0 ∙ free
 
   pub runs_back : (t : ThreadId) (c : CpuId) → RunsOn s t c → RunsOn x t c
@@ -67,7 +67,7 @@ module _ (x s : State) (h : IsSameOrder x s) where
     apart = subst (λ (b : ThreadBody). is_held l b.held.items ≡ false) (body_back t.0) can.apart;
   }
   change_back w t (Inherit l number) can = record {
-    sound = subst IsSound (body_back t.0) can.sound;
+    sound = subst InheritsSoundly (body_back t.0) can.sound;
     held = subst (λ (b : ThreadBody). IsTrue (is_held l b.held.items)) (body_back t.0) can.held;
     below = can.below;
   }

@@ -24,7 +24,7 @@ use Rattle.sd_types.specs.declared.events.Entry.{Entry}
 use Rattle.sd_types.specs.declared.works.Work.{Work}
 use Rattle.sd_machine.specs.Texts.{numbers_text, cpu_text}
 use Rattle.sd_entries.specs.EntryWords.{event_words, hint_words, entry_words}
-use Rattle.sd_entries.specs.Fitting.{has_cpu, is_byte, event_fits, event_in_range, may_read, same_which, hints_fit, hints_in_range, entry_fits, in_range, IsSpelled}
+use Rattle.sd_entries.specs.Fitting.{has_cpu, is_byte, event_fits, event_in_range, may_read, is_allowed_which, are_allowed_hints, hints_in_range, entry_fits, in_range, IsSpelled}
 use Rattle.sd_entries.specs.Reading.{at, cpu_in_if, byte_in, end_in, put_in, put_in_if, denied_in, prio_in, assign_in, bind_in, running_event, preempting, placing_event, sleeping_event, locking_event, handing_event, semaphore_event, answering_event, event_of, event_len, is_comma, numbers_in, hints_by, entry_of}
 use Rattle.sd_entries.proofs.NameLemmas.{number_read, thread_read, lock_read, chan_read, set_read, cpu_read, byte_read, count_read}
 use Rattle.sd_text.proofs.NumberLemmas.{own}
@@ -141,21 +141,21 @@ numbers_read ns some few h =
     let most : length ns ≤ 64 = grind (arith, nat_tests) in
     ap (take 64) (parts_read ns some h) ∙ take_all 64 ns most
 
-same_which_is : (x may : Which) → same_which x (Some may) ≡ true → x ≡ may
+same_which_is : (x may : Which) → is_allowed_which x (Some may) ≡ true → x ≡ may
 same_which_is Running Running h = refl
 same_which_is Running Queued h = absurd (false≢true h)
 same_which_is Queued Running h = absurd (false≢true h)
 same_which_is Queued Queued h = refl
 
-none_which : (x : Which) → same_which x None ≡ true → ⊥
+none_which : (x : Which) → is_allowed_which x None ≡ true → ⊥
 none_which Running h = false≢true h
 none_which Queued h = false≢true h
 
-no_hints : (hs : Option Hints) → hints_fit None hs ≡ true → None ≡ hs
+no_hints : (hs : Option Hints) → are_allowed_hints None hs ≡ true → None ≡ hs
 no_hints None h = refl
 no_hints (Some x) h = absurd (none_which x.which (and_parts _ _ h).0)
 
-hints_read : (which : Which) (hs : Option Hints) → hints_fit (Some which) hs ≡ true → hints_in_range hs ≡ true → hints_by (Some which) (at (hint_words hs) 0) (at (hint_words hs) 1) ≡ hs
+hints_read : (which : Which) (hs : Option Hints) → are_allowed_hints (Some which) hs ≡ true → hints_in_range hs ≡ true → hints_by (Some which) (at (hint_words hs) 0) (at (hint_words hs) 1) ≡ hs
 hints_read which None h r = refl
 hints_read which (Some x) h r =
     let p = and_parts _ _ h in
@@ -164,7 +164,7 @@ hints_read which (Some x) h r =
     let read = numbers_read x.numbers.items p.1 q.0 q.1 in
     rw (read, ← same) refl
 
-hints_back : (w : Work) (first second : List ℕ) (e : Event) (hs : Option Hints) → hints_fit (may_read e) hs ≡ true → hints_in_range hs ≡ true
+hints_back : (w : Work) (first second : List ℕ) (e : Event) (hs : Option Hints) → are_allowed_hints (may_read e) hs ≡ true → hints_in_range hs ≡ true
     → hints_by (may_read e) (at (first ∷ second ∷ (event_words w e ++ hint_words hs)) (2 + event_len e)) (at (first ∷ second ∷ (event_words w e ++ hint_words hs)) (2 + event_len e + 1)) ≡ hs
 hints_back w first second Idle hs h r = hints_read Queued hs h r
 hints_back w first second (Steal v t p) hs h r = hints_read Queued hs h r
@@ -196,7 +196,7 @@ hints_back w first second e hs h r = no_hints hs h
 pub entry_back : (w : Work) (e : Entry) → IsSpelled w e → entry_of w (entry_words w e) ≡ e
 unfolding entry_words entry_fits in_range entry_of
 entry_back w e h =
-    let p = and_parts (has_cpu w e.cpu && event_fits w e.event) (hints_fit (may_read e.event) e.hints) h.fits in
+    let p = and_parts (has_cpu w e.cpu && event_fits w e.event) (are_allowed_hints (may_read e.event) e.hints) h.fits in
     let q = and_parts (has_cpu w e.cpu) (event_fits w e.event) p.0 in
     let r = and_parts (nat_lt e.number (2 ^ 64) && event_in_range e.event) (hints_in_range e.hints) h.range in
     let s = and_parts (nat_lt e.number (2 ^ 64)) (event_in_range e.event) r.0 in

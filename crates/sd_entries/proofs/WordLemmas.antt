@@ -21,7 +21,7 @@ use Rattle.sd_text.specs.Lines.{is_newline, is_line}
 use Rattle.sd_text.specs.Words.{ends_word, is_word}
 use Rattle.sd_machine.specs.Texts.{numbers_text}
 use Rattle.sd_entries.specs.EntryWords.{event_words, hint_words, entry_words}
-use Rattle.sd_entries.specs.Fitting.{has_cpu, is_byte, event_fits, event_in_range, may_read, hints_fit, hints_in_range, entry_fits, in_range, IsSpelled}
+use Rattle.sd_entries.specs.Fitting.{has_cpu, is_byte, event_fits, event_in_range, may_read, are_allowed_hints, hints_in_range, entry_fits, in_range, IsSpelled}
 use Rattle.sd_entries.proofs.NameLemmas.{byte_word}
 use Rattle.sd_entries.proofs.PlainLemmas.{IsPlain, number_plain, thread_plain, lock_plain, chan_plain, set_plain, cpu_plain, byte_plain, count_plain}
 
@@ -160,14 +160,14 @@ numbers_line (n ∷ m ∷ ms) h =
     let p = and_parts (is_byte n) (list_all is_byte (m ∷ ms)) h in
     line_join (decimal n ++ codes ",") (numbers_text (m ∷ ms)) (line_join (decimal n) (codes ",") (byte_plain n p.0).1 refl) (numbers_line (m ∷ ms) p.1)
 
-hints_are_words : (may : Option Which) (hs : Option Hints) → hints_fit may hs ≡ true → hints_in_range hs ≡ true → AreWords (hint_words hs)
+hints_are_words : (may : Option Which) (hs : Option Hints) → are_allowed_hints may hs ≡ true → hints_in_range hs ≡ true → AreWords (hint_words hs)
 hints_are_words may None h r = tt
 hints_are_words may (Some x) h r = ((refl, refl), ((numbers_word x.numbers.items (and_parts _ _ h).1 (and_parts _ _ r).1, numbers_line x.numbers.items (and_parts _ _ r).1), tt))
 
 every_word : (w : Work) (e : Entry) → IsSpelled w e → AreWords (entry_words w e)
 unfolding entry_words entry_fits in_range
 every_word w e h =
-    let p = and_parts (has_cpu w e.cpu && event_fits w e.event) (hints_fit (may_read e.event) e.hints) h.fits in
+    let p = and_parts (has_cpu w e.cpu && event_fits w e.event) (are_allowed_hints (may_read e.event) e.hints) h.fits in
     let q = and_parts (has_cpu w e.cpu) (event_fits w e.event) p.0 in
     let r = and_parts (nat_lt e.number (2 ^ 64) && event_in_range e.event) (hints_in_range e.hints) h.range in
     let s = and_parts (nat_lt e.number (2 ^ 64)) (event_in_range e.event) r.0 in

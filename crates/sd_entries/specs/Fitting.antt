@@ -135,17 +135,17 @@ may_read (Move t at) = Some Running
 may_read (Bind t u d answer) = bind_reads answer
 may_read _ = None
 
-abbrev pub same_which : Which → Option Which → Bool
-same_which Running (Some Running) = true
-same_which Queued (Some Queued) = true
-same_which _ _ = false
+abbrev pub is_allowed_which : Which → Option Which → Bool
+is_allowed_which Running (Some Running) = true
+is_allowed_which Queued (Some Queued) = true
+is_allowed_which _ _ = false
 
-abbrev pub hints_fit : Option Which → Option Hints → Bool
-hints_fit may None = true
-hints_fit may (Some h) = same_which h.which may && nat_lt 0 (length h.numbers.items)
+abbrev pub are_allowed_hints : Option Which → Option Hints → Bool
+are_allowed_hints may None = true
+are_allowed_hints may (Some h) = is_allowed_which h.which may && nat_lt 0 (length h.numbers.items)
 
 unfoldable pub entry_fits : Work → Entry → Bool
-entry_fits w e = has_cpu w e.cpu && event_fits w e.event && hints_fit (may_read e.event) e.hints
+entry_fits w e = has_cpu w e.cpu && event_fits w e.event && are_allowed_hints (may_read e.event) e.hints
 
 -- Numbers have as many bits as their types.
 

@@ -2,7 +2,7 @@
 
 ghost use Rattle.std.specs.Prelude.{◌≡◌};
 ghost use Rattle.std.specs.List.{list_all};
-ghost use Rattle.sd_entries.specs.Fitting.{bind_fits, bind_reads, cpu_fits_if, entry_fits, event_fits, has_chan, has_cpu, has_lock, has_set, has_thread, hints_fit, is_byte, may_read, prio_fits, prio_reads, put_fits, put_fits_if, reads_if, same_which, woken_fits, woken_reads};
+ghost use Rattle.sd_entries.specs.Fitting.{bind_fits, bind_reads, cpu_fits_if, entry_fits, event_fits, has_chan, has_cpu, has_lock, has_set, has_thread, are_allowed_hints, is_byte, may_read, prio_fits, prio_reads, put_fits, put_fits_if, reads_if, is_allowed_which, woken_fits, woken_reads};
 
 use sd_types::{
     BindAnswer, ChanId, CpuId, Entry, Event, Hints, LockId, PrioAnswer, Put, SetId, ThreadId,
@@ -210,8 +210,8 @@ pub(crate) fn may_read(event: &Event) -> Option<Which>
     }
 }
 
-fn same_which(which: Which, may: Option<Which>) -> bool
-    ensures { result ≡ same_which which may }
+fn is_allowed_which(which: Which, may: Option<Which>) -> bool
+    ensures { result ≡ is_allowed_which which may }
 {
     match (which, may) {
         (Which::Running, Some(Which::Running)) => true,
@@ -221,13 +221,13 @@ fn same_which(which: Which, may: Option<Which>) -> bool
 }
 
 fn numbers_fit(may: Option<Which>, hints: &Hints) -> bool
-    ensures { result ≡ hints_fit may (Rattle.std.specs.Prelude.Some hints.now) }
+    ensures { result ≡ are_allowed_hints may (Rattle.std.specs.Prelude.Some hints.now) }
 {
-    same_which(hints.which, may) && !hints.numbers.as_slice().is_empty()
+    is_allowed_which(hints.which, may) && !hints.numbers.as_slice().is_empty()
 }
 
-fn hints_fit(may: Option<Which>, hints: &Option<Hints>) -> bool
-    ensures { result ≡ hints_fit may hints.now }
+fn are_allowed_hints(may: Option<Which>, hints: &Option<Hints>) -> bool
+    ensures { result ≡ are_allowed_hints may hints.now }
 {
     match hints {
         None => true,
@@ -242,5 +242,5 @@ pub(crate) fn entry_fits(work: &Work, entry: &Entry) -> bool
 {
     has_cpu(work, entry.cpu)
         && event_fits(work, &entry.event)
-        && hints_fit(may_read(&entry.event), &entry.hints)
+        && are_allowed_hints(may_read(&entry.event), &entry.hints)
 }

@@ -44,6 +44,6 @@ IsWhen w t Never = (es : List Entry) (k : ℕ) → IsFreshRun w es → EndsAt w 
 IsWhen w t More = ⊤
 
 -- nothing is said only where not all was searched
-abbrev pub IsOpen : Graph → When → Type 0
-IsOpen g More = g.done < length (packed g)
-IsOpen g _ = ⊤
+abbrev pub IsOpenWhen : Graph → When → Type 0
+IsOpenWhen g More = g.done < length (packed g)
+IsOpenWhen g _ = ⊤

@@ -1,7 +1,7 @@
 //! When a thread ends, at the earliest and at the latest.
 
 ghost use Rattle.std.specs.Prelude.{◌≡◌, length, IfOk};
-ghost use Rattle.sd_extremes.specs.Ends.{IsEnding, IsOpen, IsWhen};
+ghost use Rattle.sd_extremes.specs.Ends.{IsEnding, IsOpenWhen, IsWhen};
 ghost use Rattle.sd_extremes.specs.Marks.{IsMark};
 ghost use Rattle.sd_search.specs.Graphs.{Gathers, packed};
 
@@ -65,7 +65,7 @@ pub fn when_ended(
 ) -> Result<When, AllocError>
     requires gathered { Gathers work.now graph.now }
     ensures when { IfOk result (IsWhen work.now thread) }
-    ensures open { IfOk result (IsOpen graph.now) }
+    ensures open { IfOk result (IsOpenWhen graph.now) }
 {
     if !graph.is_closed() {
         return Ok(When::More);

@@ -27,7 +27,7 @@ use Rattle.sd_finder.specs.Answered.{IsSearch, IsShort, count_verdict, verdict_o
 use Rattle.sd_finder.specs.Forms.{request_of}
 use Rattle.sd_finder.specs.Texts.{count_text, finding_text}
 use Rattle.sd_find.specs.Promises.{CompletesSearch, CountSays, CountsStates, ExcludesRuns, FindSays, FindsRun, HasMany, SearchesAsPromised, LeavesOpen, RefusesName, ThreadSays}
-use Rattle.sd_find.specs.Seeking.{CausedBy, CausedByHelp, CausedBySearch, Says, ended_line, ended_status, verdict_status, help_text}
+use Rattle.sd_find.specs.Seeking.{CausedByFindRequest, CausedByFindHelp, CausedBySearch, Says, ended_line, ended_status, verdict_status, help_text}
 use Rattle.sd_find.proofs.CauseLemmas.{completes, done_of, failed, found_of, more_of, never_of, refuses}
 use Rattle.sd_find.proofs.CutLemmas.{cut_off}
 use Rattle.sd_find.proofs.ShownLemmas.{shown_of}
@@ -177,7 +177,7 @@ module _ (most : ℕ) (input out : StreamChange) where
 
 -- ---- the forms
 
-helps_of : (input out : StreamChange) (ended : Result Verdict Answer) → IsUntouched input → CausedByHelp out ended → WritesHelp help_text input out (ended_status ended)
+helps_of : (input out : StreamChange) (ended : Result Verdict Answer) → IsUntouched input → CausedByFindHelp out ended → WritesHelp help_text input out (ended_status ended)
 helps_of input out (Ok Done) kept c = (kept, inl (refl, c.0))
 helps_of input out (Ok Found) kept c = absurd c
 helps_of input out (Ok Never) kept c = absurd c
@@ -203,7 +203,7 @@ no_help input out status h is = elim h.1 [
   | inr (s, a) ↦ absurd (omega (arith, s, is))
 ]
 
-usage_of : (k : Option Request) (input out : StreamChange) (ended : Result Verdict Answer) → CausedBy k input out ended → (ended_status ended ≡ 1) ↔ (k ≡ None)
+usage_of : (k : Option Request) (input out : StreamChange) (ended : Result Verdict Answer) → CausedByFindRequest k input out ended → (ended_status ended ≡ 1) ↔ (k ≡ None)
 usage_of None input out ended c = (λ one. refl, λ none. ap ended_status c.0)
 usage_of (Some Help) input out ended c = (λ one. absurd (no_help input out (ended_status ended) (helps_of input out ended c.0 c.1) one), λ none. cc)
 usage_of (Some (Search aim most)) input out ended c = (λ one. absurd (by ended c one), λ none. cc)
@@ -217,12 +217,12 @@ usage_of (Some (Search aim most)) input out ended c = (λ one. absurd (by ended 
     by (Err a) c one = let f = failed aim most input out a c in absurd (omega (arith, f.0, one))
 
 pub promises_of : (arguments : List (List ℕ)) (input out err : StreamChange) (ended : Result Verdict Answer) (status : ℕ) → status ≡ ended_status ended
-    → CausedBy (request_of arguments) input out ended → TellsLine err (ended_line ended) → SearchesAsPromised arguments input out err status
+    → CausedByFindRequest (request_of arguments) input out ended → TellsLine err (ended_line ended) → SearchesAsPromised arguments input out err status
 promises_of arguments input out err ended status is caused told =
-    let asked = λ (aim : Aim) (most : ℕ) (known : request_of arguments ≡ Some (Search aim most)). subst (λ k. CausedBy k input out ended) known caused in
+    let asked = λ (aim : Aim) (most : ℕ) (known : request_of arguments ≡ Some (Search aim most)). subst (λ k. CausedByFindRequest k input out ended) known caused in
     let ending = λ (name : List ℕ). let aim : Aim = Ends (record { items = name }) in aim in
     let waiting = λ (name : List ℕ). let aim : Aim = Waits (record { items = name }) in aim in
-    let helped = λ (known : request_of arguments ≡ Some Help). subst (λ k. CausedBy k input out ended) known caused in
+    let helped = λ (known : request_of arguments ≡ Some Help). subst (λ k. CausedByFindRequest k input out ended) known caused in
     record {
       answered = record { ended = ended; exit = is; caused = caused; told = told };
       finds = λ q most known nine. finds_of q most input out (found_of (Find q) most input out ended (asked (Find q) most known) (sym is ∙ nine));

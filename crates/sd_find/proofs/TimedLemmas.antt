@@ -13,7 +13,7 @@ use Rattle.sd_answers.specs.Inputs.{IsWorkload}
 use Rattle.sd_answers.specs.StreamChanges.{StreamChange, HasNoFault, IsUntouched, TellsLine}
 use Rattle.sd_longest.specs.declared.latency.Longest.{Longest}
 use Rattle.sd_longest.specs.declared.latency.Longest.TheVariants as longest
-use Rattle.sd_longest.specs.Waits.{IsLongest, IsOpen}
+use Rattle.sd_longest.specs.Waits.{IsLongest, IsOpenLongest}
 use Rattle.sd_finder.specs.declared.forms.Aim.{Aim}
 use Rattle.sd_finder.specs.declared.forms.Aim.TheVariants.{Find, Count, Ends, Waits}
 use Rattle.sd_finder.specs.declared.timings.Timing.{Timing}
@@ -142,7 +142,7 @@ module _ (name : List ℕ) (most : ℕ) (input out : StreamChange) (w : Work) (w
     no_wait_by (longest.Wait ticks es) is text v = absurd (let e = v in cc)
     no_wait_by longest.More is text v = absurd (let e = v in cc)
 
-    no_measure_by : (x : Longest) → IsOpen g x → Appends out.before out.after (longest_text w x (length (packed g))) → longest_verdict x ≡ More → LeavesUntimed name most input out
+    no_measure_by : (x : Longest) → IsOpenLongest g x → Appends out.before out.after (longest_text w x (length (packed g))) → longest_verdict x ≡ More → LeavesUntimed name most input out
     no_measure_by longest.More less text v = record {
       work = w;
       workload = workload;

@@ -89,19 +89,19 @@ CausedBySearch aim most input out (Ok verdict) = Says aim most input out verdict
 CausedBySearch aim most input out (Err answer) = SaysNothing aim most input out answer
 
 -- where the forms are asked for: they were written whole, or a write failed
-abbrev pub CausedByHelp : StreamChange → Result Verdict Answer → Type 0
-CausedByHelp out (Ok Done) = Appends out.before out.after help_text × HasNoFault out
-CausedByHelp out (Err WriteFault) = AppendsPart out.before out.after help_text × HasFault out
-CausedByHelp out _ = ⊥
+abbrev pub CausedByFindHelp : StreamChange → Result Verdict Answer → Type 0
+CausedByFindHelp out (Ok Done) = Appends out.before out.after help_text × HasNoFault out
+CausedByFindHelp out (Err WriteFault) = AppendsPart out.before out.after help_text × HasFault out
+CausedByFindHelp out _ = ⊥
 
-abbrev pub CausedBy : Option Request → StreamChange → StreamChange → Result Verdict Answer → Type 0
-CausedBy None input out ended = (ended ≡ Err Usage) × IsUntouched input × IsUntouched out
-CausedBy (Some Help) input out ended = IsUntouched input × CausedByHelp out ended
-CausedBy (Some (Search aim most)) input out ended = CausedBySearch aim most input out ended
+abbrev pub CausedByFindRequest : Option Request → StreamChange → StreamChange → Result Verdict Answer → Type 0
+CausedByFindRequest None input out ended = (ended ≡ Err Usage) × IsUntouched input × IsUntouched out
+CausedByFindRequest (Some Help) input out ended = IsUntouched input × CausedByFindHelp out ended
+CausedByFindRequest (Some (Search aim most)) input out ended = CausedBySearch aim most input out ended
 
 -- how the call ended has its cause, its status and its line
 pub record IsSought (arguments : List (List ℕ)) (input out err : StreamChange) (status : ℕ) : Type 0 where
   pub ended : Result Verdict Answer
   pub exit : status ≡ ended_status ended
-  pub caused : CausedBy (request_of arguments) input out ended
+  pub caused : CausedByFindRequest (request_of arguments) input out ended
   pub told : TellsLine err (ended_line ended)

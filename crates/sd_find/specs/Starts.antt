@@ -12,5 +12,5 @@ use Rattle.sd_find.specs.Promises.{SearchesAsPromised}
 use Rattle.sd_find.specs.Seeking.{answer_line}
 
 -- arguments that were read are carried out, but for a last `--quiet`
-abbrev pub Starts : Result (Vec (String Global) Global) Error → StreamChange → StreamChange → StreamChange → ℕ → Type 0
-Starts = StartsBy (λ arguments. SearchesAsPromised (asked arguments)) answer_line
+abbrev pub DispfindStarts : Result (Vec (String Global) Global) Error → StreamChange → StreamChange → StreamChange → ℕ → Type 0
+DispfindStarts = StartsBy (λ arguments. SearchesAsPromised (asked arguments)) answer_line

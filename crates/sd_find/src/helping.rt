@@ -1,7 +1,7 @@
 //! The forms of the arguments, in a few lines.
 
 ghost use Rattle.sd_answers.specs.StreamChanges.{change_of};
-ghost use Rattle.sd_find.specs.Seeking.{CausedByHelp};
+ghost use Rattle.sd_find.specs.Seeking.{CausedByFindHelp};
 
 use sd_answers::{Answer, put_text};
 use sd_finder::Verdict;
@@ -25,7 +25,7 @@ Of ends two journals stand behind the lines earliest and latest
 
 /// Writes the forms.
 pub(crate) fn put_help<K: Sink>(out: &mut K) -> Result<Verdict, Answer>
-    ensures { CausedByHelp (change_of (K.contents out.old) (K.contents out.new) (K.fault_count out.old) (K.fault_count out.new)) result }
+    ensures { CausedByFindHelp (change_of (K.contents out.old) (K.contents out.new) (K.fault_count out.old) (K.fault_count out.new)) result }
 {
     match put_text(out, HELP) {
         Ok(()) => Ok(Verdict::Done),

@@ -6,7 +6,7 @@ ghost use Rattle.sd_answers.specs.declared.writing.Unwritten.TheVariants.{Memory
 ghost use Rattle.sd_find.specs.Asked.{asked};
 ghost use Rattle.sd_find.specs.Promises.{SearchesAsPromised};
 ghost use Rattle.sd_find.specs.Seeking.{answer_line, ended_line, ended_status, verdict_line, verdict_status};
-ghost use Rattle.sd_find.specs.Starts.{Starts};
+ghost use Rattle.sd_find.specs.Starts.{DispfindStarts};
 
 use crate::helping::put_help;
 use crate::progress::Progress;
@@ -117,7 +117,7 @@ pub fn start<S: Source, K: Sink, E: Sink, P: Sink>(
     err: &mut E,
     progress: &mut Progress<P>,
 ) -> u8
-    ensures { Starts arguments
+    ensures { DispfindStarts arguments
         (change_of (S.remaining input.old) (S.remaining input.new) (S.fault_count input.old) (S.fault_count input.new))
         (change_of (K.contents out.old) (K.contents out.new) (K.fault_count out.old) (K.fault_count out.new))
         (change_of (E.contents err.old) (E.contents err.new) (E.fault_count err.old) (E.fault_count err.new))

@@ -14,7 +14,7 @@ use Rattle.sd_search.specs.Graphs.{AreApart, Gathers, HasEveryRun, packed}
 use Rattle.sd_longest.specs.declared.latency.Longest.{Longest}
 use Rattle.sd_longest.specs.declared.latency.Longest.TheVariants as longest
 use Rattle.sd_longest.specs.LongestRuns.{IsLongestRun}
-use Rattle.sd_longest.specs.Waits.{IsLongest, IsOpen}
+use Rattle.sd_longest.specs.Waits.{IsLongest, IsOpenLongest}
 use Rattle.sd_finder.specs.declared.forms.Aim.{Aim}
 use Rattle.sd_finder.specs.declared.forms.Aim.TheVariants.{Find, Count, Ends, Waits}
 use Rattle.sd_finder.specs.declared.timings.Timing.{Timing}
@@ -110,7 +110,7 @@ pub record IsWaited (w : Work) (t : ThreadId) (most : ℕ) (told : Told) : Type 
   pub search : IsSearch w most graph
   pub longest : Longest
   pub is : IsLongest w t longest
-  pub left : IsOpen graph longest
+  pub left : IsOpenLongest graph longest
   pub short : IsShortWait longest
   pub verdict : told.verdict ≡ longest_verdict longest
   pub written : told.text.items ≡ longest_text w longest (length (packed graph))

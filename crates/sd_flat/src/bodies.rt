@@ -3,7 +3,7 @@
 ghost use Rattle.std.specs.Prelude.{◌≡◌, ◌<◌, ◌≤◌, None, IfSome, IsTrue, length};
 ghost use Rattle.sd_state.specs.Operations.{op_over, ran, ticks_at};
 ghost use Rattle.sd_types.specs.Scripts.{is_held};
-ghost use Rattle.sd_types.specs.Willed.{IsSound, changed_number, number_for, with_lock as with_held, with_number, with_willed};
+ghost use Rattle.sd_types.specs.Willed.{InheritsSoundly, changed_number, number_for, with_lock as with_held, with_number, with_willed};
 ghost use Rattle.sd_types.specs.Limits.{most_held, most_operations};
 
 use arrayvec::ArrayVec;
@@ -68,7 +68,7 @@ fn put_number(willed: &mut ArrayVec<(LockId, u8), 8>, l: LockId, n: u8)
 
 /// A thread that is sound and holds the lock inherits this priority through it, or none.
 pub fn inherit(b: &mut ThreadBody, l: LockId, number: Option<u8>)
-    ensures { IsSound b.old → IsTrue (is_held l b.old.held.items) → IfSome number (λ n. n < 160) → b.new ≡ with_willed (changed_number l number b.old.willed.items) b.old }
+    ensures { InheritsSoundly b.old → IsTrue (is_held l b.old.held.items) → IfSome number (λ n. n < 160) → b.new ≡ with_willed (changed_number l number b.old.willed.items) b.old }
 {
     let locks = b.held.len();
     prove!(locks <= MOST_HELD);

@@ -6,7 +6,7 @@ use Rattle.sd_types.specs.declared.numbers.LockId.{LockId}
 use Rattle.sd_types.specs.declared.numbers.SetId.{SetId}
 use Rattle.sd_types.specs.declared.numbers.ThreadId.{ThreadId}
 use Rattle.sd_types.specs.declared.works.Work.{Work}
-use Rattle.sd_state.specs.Invariants.{IsThere as IsPlaceThere}
+use Rattle.sd_state.specs.Invariants.{IsPlaceThere}
 use Rattle.sd_state.specs.declared.states.LockState.TheVariants.{Owned}
 use Rattle.sd_state.specs.declared.states.Place.{Place}
 use Rattle.sd_state.specs.declared.states.Place.TheVariants.{Running, Queued, RealTime, Waiting, Asleep, Napping, Ended}
@@ -19,7 +19,7 @@ use Rattle.sd_homes.specs.declared.list_id.ListId.{ListId}
 use Rattle.sd_homes.specs.declared.list_id.ListId.TheVariants.{Waits, Sleeps}
 use Rattle.sd_homes.specs.Numbers.{IsHomeOf, IsListOf}
 use Rattle.sd_homes.specs.Standing.{home_at, list_at, list_of}
-use Rattle.sd_footprint.specs.There.{IsThere, StandsThere}
+use Rattle.sd_footprint.specs.There.{IsPartThere, StandsThere}
 use Rattle.sd_invariants.specs.There.{CpusAreThere, ThreadsAreThere}
 use Rattle.sd_invariants.proofs.All.{cpus_law, threads_law}
 use Rattle.sd_invariants.proofs.Named.{set_of_there}
@@ -31,11 +31,11 @@ use Rattle.sd_store.specs.Parts.{IsAmong, ready_parts}
 -- each of the parts is there
 abbrev pub AllThere : State → CpuId → List Part → Type 0
 AllThere s c [] = Unit {0}
-AllThere s c (p ∷ ps) = IsThere s c p × AllThere s c ps
+AllThere s c (p ∷ ps) = IsPartThere s c p × AllThere s c ps
 
-pub there_each : (s : State) (c : CpuId) (ps : List Part) → AllThere s c ps → (p : Part) → IsAmong p ps → IsThere s c p
+pub there_each : (s : State) (c : CpuId) (ps : List Part) → AllThere s c ps → (p : Part) → IsAmong p ps → IsPartThere s c p
 there_each s c [] there p among = absurd among
-there_each s c (q ∷ qs) there p (inl e) = subst (λ (x : Part). IsThere s c x) (sym e) there.0
+there_each s c (q ∷ qs) there p (inl e) = subst (λ (x : Part). IsPartThere s c x) (sym e) there.0
 there_each s c (q ∷ qs) there p (inr later) = there_each s c qs there.1 p later
 
 pub there_join : (s : State) (c : CpuId) (ps qs : List Part) → AllThere s c ps → AllThere s c qs → AllThere s c (ps ++ qs)

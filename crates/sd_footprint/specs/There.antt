@@ -19,18 +19,18 @@ use Rattle.sd_store.specs.declared.parts.Part.TheVariants.{Home, Thread, Actor}
 use Rattle.sd_store.specs.Parts.{IsAmong}
 
 -- the part is there: its home is one of the state's, its thread one of its threads; of the counts and duties it is processor c's own
-abbrev pub IsThere : State → CpuId → Part → Type 0
-IsThere s c (Home k) = IsHomeOf s k
-IsThere s c (Thread t) = t.0 < length s.threads
-IsThere s c (Actor d) = d ≡ c
+abbrev pub IsPartThere : State → CpuId → Part → Type 0
+IsPartThere s c (Home k) = IsHomeOf s k
+IsPartThere s c (Thread t) = t.0 < length s.threads
+IsPartThere s c (Actor d) = d ≡ c
 
 -- each part is there that processor c looks at to find what it reads, its event, and whether it may make it; and that the event touches
 -- which it may make
 pub record PartsAreThere (w : Work) (s : State) (c : CpuId) (hints : Option Hints) : Type 0 where
-  pub reading : (p : Part) → IsAmong p (reads_parts w s c) → IsThere s c p
-  pub wishing : (p : Part) → IsAmong p (needed w s c hints) → IsThere s c p
-  pub making : (p : Part) → IsAmong p (next_parts w s c hints) → IsThere s c p
-  pub touching : (e : Event) → next w s c hints ≡ Some e → (p : Part) → IsAmong p (after_parts w s c e) → IsThere s c p
+  pub reading : (p : Part) → IsAmong p (reads_parts w s c) → IsPartThere s c p
+  pub wishing : (p : Part) → IsAmong p (needed w s c hints) → IsPartThere s c p
+  pub making : (p : Part) → IsAmong p (next_parts w s c hints) → IsPartThere s c p
+  pub touching : (e : Event) → next w s c hints ≡ Some e → (p : Part) → IsAmong p (after_parts w s c e) → IsPartThere s c p
 
 -- in every state of every run, for each processor of the workload, whatever it has read
 abbrev pub PartsOfTurnsAreThere : Type 0

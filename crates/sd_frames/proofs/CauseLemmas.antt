@@ -58,7 +58,7 @@ use Rattle.sd_machine.specs.SetChanges.{closing_plan}
 use Rattle.sd_machine.specs.Plans.{first_of, duty_plan_of, duty_plan, nap_plan, ageing_plan_of, ageing_plan, op_plan, run_plan_of, run_plan, free_plan_of, cpu_plan_of, cpu_plan, or_plan, plan}
 use Rattle.sd_machine.specs.Events.{plan_event, wish, may_tick, allowed, next}
 use Rattle.sd_machine.specs.Hints.{hints_fit, plan_reads, read_for, read_of, reads, reads_for, same_which}
-use Rattle.sd_frames.specs.Causes.{IsFree, Runs, IsIdle, IsOpenIdle, Acts, Leaves, IsPut, IsCause}
+use Rattle.sd_frames.specs.Causes.{GivesWay, Runs, IsIdle, IsOpenIdle, Acts, Leaves, IsPut, IsCause}
 use Rattle.sd_rules.proofs.ChoiceLemmas.{Contains-from_among}
 
 -- Choices.
@@ -193,7 +193,7 @@ module _ (w : Work) (s : State) (c : ℕ) (h : Option Hints) where
   grant_gives l None some e = some refl
   grant_gives l (Some u) some e = cc
 
-  no_duty : (d : Duty) → Serves s d → duty_plan_of w s d ≡ None → IsFree d
+  no_duty : (d : Duty) → Serves s d → duty_plan_of w s d ≡ None → GivesWay d
   no_duty duty.Nothing serves e = tt
   no_duty (duty.Walk l seek key) serves e = cc
   no_duty (duty.WakeMutex l) serves e = unblock_gives l (best_waiter s l.0 Writer) serves e
@@ -204,7 +204,7 @@ module _ (w : Work) (s : State) (c : ℕ) (h : Option Hints) where
 
   -- 2. and 3. Naps and ageing.
 
-  nap_caused : IsFree (cpu_of s c).duty → (o : Option ℕ) → first_due s c ≡ o → CausedIf w s c h (napend_plan w s o)
+  nap_caused : GivesWay (cpu_of s c).duty → (o : Option ℕ) → first_due s c ≡ o → CausedIf w s c h (napend_plan w s o)
   nap_caused free None e = tt
   nap_caused free (Some t) e = λ m fit. (e, put_is w s c t (woken_priority w s t) h fit, free)
 
@@ -348,7 +348,7 @@ module _ (w : Work) (s : State) (c : ℕ) (h : Option Hints) where
 
   -- Of all six.
 
-  run_caused : IsFree (cpu_of s c).duty → (t : ℕ) → Runs s c t → Caused w s c h (run_plan w s c t)
+  run_caused : GivesWay (cpu_of s c).duty → (t : ℕ) → Runs s c t → Caused w s c h (run_plan w s c t)
   run_caused free t runs = by (must_leave (cpu_of s c) (thread_of s t).body) refl
     where
       by : (b : Bool) → must_leave (cpu_of s c) (thread_of s t).body ≡ b
@@ -356,7 +356,7 @@ module _ (w : Work) (s : State) (c : ℕ) (h : Option Hints) where
       by true e = leave_caused t (record { runs = runs; free = free; leaves = e }) (thread_of s t).body.bound refl
       by false e = op_caused t (op_of w t (thread_of s t).body) (record { runs = runs; free = free; stays = e; stands = refl })
 
-  cpu_caused : IsFree (cpu_of s c).duty → (o : Option ℕ) → runner s c ≡ o → Caused w s c h (cpu_plan_of w s c o)
+  cpu_caused : GivesWay (cpu_of s c).duty → (o : Option ℕ) → runner s c ≡ o → Caused w s c h (cpu_plan_of w s c o)
   cpu_caused free None e = free_caused (record { nobody = e; free = free }) (cpu_of s c).closing refl
   cpu_caused free (Some t) e = run_caused free t e
 
@@ -364,7 +364,7 @@ module _ (w : Work) (s : State) (c : ℕ) (h : Option Hints) where
   unfolding plan cpu_plan duty_plan nap_plan ageing_plan
   plan_caused serves = by (duty_plan_of w s (cpu_of s c).duty) refl (duty_caused (cpu_of s c).duty refl)
     where
-      later : IsFree (cpu_of s c).duty → (o q : Option Plan) → CausedIf w s c h o → CausedIf w s c h q → Caused w s c h (or_plan (first_of o q) (cpu_plan_of w s c (runner s c)))
+      later : GivesWay (cpu_of s c).duty → (o q : Option Plan) → CausedIf w s c h o → CausedIf w s c h q → Caused w s c h (or_plan (first_of o q) (cpu_plan_of w s c (runner s c)))
       later free None None a b = cpu_caused free (runner s c) refl
       later free None (Some q) a b = b
       later free (Some o) q a b = a

@@ -5,7 +5,7 @@ use Rattle.std.specs.Ordering.{int_eq}
 use Rattle.sd_machine.specs.Holders as H
 use Rattle.sd_machine.proofs.Moves.{IsPut}
 use Rattle.sd_machine.proofs.ShapeLemmas.{IsShaped, then_shape, lock_shape, finish_op_shape, hold_shape, set_number_shape, leave_shape, woken_shape}
-use Rattle.sd_frames.specs.Causes.{IsFree}
+use Rattle.sd_frames.specs.Causes.{GivesWay}
 use Rattle.sd_frames.specs.Passing.{pass_of}
 use Rattle.sd_frames.proofs.Parts.{put_item, put_same, same_put}
 use Rattle.sd_frames.proofs.FieldWords as W
@@ -189,7 +189,7 @@ pub duty_passes : (s : State) (c : ℕ) (d : Duty) → pass_of d ≡ pass_of (cp
 unfolding set_duty
 duty_passes s c d same = C.written pass_part s c _ same
 
-pub free_passes : (d : Duty) → IsFree d → pass_of d ≡ None
+pub free_passes : (d : Duty) → GivesWay d → pass_of d ≡ None
 free_passes duty.Nothing f = refl
 free_passes (duty.Age u) f = refl
 free_passes d f = absurd f
@@ -223,7 +223,7 @@ pub duty_served : (s : State) (c : ℕ) (d : Duty) → pass_duty d ≡ pass_duty
 unfolding set_duty
 duty_served s c d same = C.written served_part s c _ same
 
-pub free_served : (d : Duty) → IsFree d → pass_duty d ≡ duty.Nothing
+pub free_served : (d : Duty) → GivesWay d → pass_duty d ≡ duty.Nothing
 free_served duty.Nothing f = refl
 free_served (duty.Age u) f = refl
 free_served d f = absurd f

@@ -39,10 +39,10 @@ use Rattle.sd_machine.specs.SetChanges.{assign_answer, bind_to}
 use Rattle.sd_machine.specs.Events.{may_tick}
 
 -- no duty but the ageing of the queue, which gives way
-abbrev pub IsFree : Duty → Type 0
-IsFree duty.Nothing = ⊤
-IsFree (duty.Age u) = ⊤
-IsFree _ = ⊥
+abbrev pub GivesWay : Duty → Type 0
+GivesWay duty.Nothing = ⊤
+GivesWay (duty.Age u) = ⊤
+GivesWay _ = ⊥
 
 -- thread t runs on processor c
 abbrev pub Runs : State → ℕ → ℕ → Type 0
@@ -51,7 +51,7 @@ Runs s c t = runner s c ≡ Some t
 -- no thread runs on processor c, which has no duty
 pub record IsIdle (s : State) (c : ℕ) : Type 0 where
   pub nobody : runner s c ≡ None
-  pub free : IsFree (cpu_of s c).duty
+  pub free : GivesWay (cpu_of s c).duty
 
 -- and it is not closing
 pub record IsOpenIdle (s : State) (c : ℕ) : Type 0 where
@@ -61,13 +61,13 @@ pub record IsOpenIdle (s : State) (c : ℕ) : Type 0 where
 -- thread t runs on processor c, and does not have to leave; this is its operation
 pub record Acts (w : Work) (s : State) (c t : ℕ) (o : Option Op) : Type 0 where
   pub runs : Runs s c t
-  pub free : IsFree (cpu_of s c).duty
+  pub free : GivesWay (cpu_of s c).duty
   pub stays : must_leave (cpu_of s c) (thread_of s t).body ≡ false
   pub stands : op_of w t (thread_of s t).body ≡ o
 
 pub record Leaves (s : State) (c t : ℕ) : Type 0 where
   pub runs : Runs s c t
-  pub free : IsFree (cpu_of s c).duty
+  pub free : GivesWay (cpu_of s c).duty
   pub leaves : must_leave (cpu_of s c) (thread_of s t).body ≡ true
 
 -- thread t, of priority p after the event, is put on the queue that suits it, of a processor on which it may run
@@ -132,7 +132,7 @@ IsCause w s c (Away t d) = Leaves s c t.0 × ((thread_of s t.0).body.bound ≡ S
 IsCause w s c (Yield t) = Acts w s c t.0 (Some op.Yield)
 IsCause w s c (Done t) = Acts w s c t.0 None
 IsCause w s c (Nap t) = (n : ℕ) × Acts w s c t.0 (Some (op.Nap n))
-IsCause w s c (Napend t at) = (first_due s c ≡ Some t.0) × IsPut w s t.0 (woken_priority w s t.0) at × IsFree (cpu_of s c).duty
+IsCause w s c (Napend t at) = (first_due s c ≡ Some t.0) × IsPut w s t.0 (woken_priority w s t.0) at × GivesWay (cpu_of s c).duty
 IsCause w s c (Sleep t k) = Acts w s c t.0 (Some (op.Sleep k))
 IsCause w s c (Wake t k u) = Acts w s c t.0 (Some (op.Wake k)) × WakesBest w s k.0 u
 IsCause w s c (Wakeall t k) = Acts w s c t.0 (Some (op.WakeAll k))

@@ -33,7 +33,7 @@ use Rattle.sd_declare.specs.Declarations.{Thread, Declarations, cpu_count}
 use Rattle.sd_declare.specs.Kept.{set_kept, lock_kept, chan_kept, thread_kept}
 use Rattle.sd_declare.proofs.PlaceLemmas.{sum_kept}
 use Rattle.sd_workload.specs.Accepted.{hz_of, IsTs, IsFx, IsRt, IsWork, Accepted, FirstCause}
-use Rattle.sd_workload.specs.Sound.{named, named_cpus, set_is_sound, thread_is_sound, IsTableLines, IsSound}
+use Rattle.sd_workload.specs.Sound.{named, named_cpus, set_is_sound, thread_is_sound, IsTableLines, AreSoundDeclarations}
 use Rattle.sd_workload.specs.Texts.{Outside, Accepts, end_causes, end_cause, verdict_of}
 use Rattle.sd_workload.proofs.ClearLemmas.{clear}
 use Rattle.sd_workload.proofs.FirstLemmas.{either}
@@ -189,7 +189,7 @@ module _ (d : Declarations) (sets : List (Name × List CpuId)) (locks : List (Na
   abbrev here : Declarations
   here = kept d sets locks chans threads
 
-  make-work : IsSound here → Made here → IsFew here → IsLimit here → WorkAs here
+  make-work : AreSoundDeclarations here → Made here → IsFew here → IsLimit here → WorkAs here
   make-work s m f l =
       let some : 1 ≤ hz_of here = known-some (hz_of here) s.settings.known_hz in
       let ts = ts-made here.ts (hz_of here) some m.ts s.tables.ts_lines in
@@ -240,7 +240,7 @@ module _ (d : Declarations) (sets : List (Name × List CpuId)) (locks : List (Na
         is = record { cpus = refl; hz = refl; limit = l.is; sets = refl; locks = refl; chans = refl; threads = refl; ts = ts.is; fx = fx.is; rt = rt.is };
       }
 
-work-as : (d : Declarations) → IsSound d → IsMade d → WorkAs d
+work-as : (d : Declarations) → AreSoundDeclarations d → IsMade d → WorkAs d
 work-as d s m =
     let made = m.declared in
     let sets = names-of d.sets made.sets in
@@ -253,7 +253,7 @@ work-as d s m =
     ∙ ap (λ (x : List (Word × ChanKind)). record d { chans = x; threads = map thread_kept threads.threads }) chans.same
     ∙ ap (λ (x : List Thread). record d { threads = x }) threads.same in
     subst WorkAs e
-    (make-work d sets.things locks.things chans.things threads.threads (subst IsSound (sym e) s) (subst Made (sym e) made) (subst IsFew (sym e) (few d m.end)) (subst IsLimit (sym e) (limit-of d m.end)))
+    (make-work d sets.things locks.things chans.things threads.threads (subst AreSoundDeclarations (sym e) s) (subst Made (sym e) made) (subst IsFew (sym e) (few d m.end)) (subst IsLimit (sym e) (limit-of d m.end)))
 
 pub accepted-work : (text : List ℕ) (d : Declarations) → verdict_of text ≡ Accepts d → (w : Work) × Accepted text w
 accepted-work text d h =

@@ -59,9 +59,9 @@ locking_has : (u l : ℕ) (x : LockState) (h : Home) → has u (locking l x h) �
 locking_has u l x (Cpu h) = refl
 locking_has u l x (RealTime h) = refl
 locking_has u l x (Sleepers h) = refl
-locking_has u l x (Chain h) = by (is_of h.turns l) refl
+locking_has u l x (Chain h) = by (is_of h.turnstiles l) refl
   where
-    by : (b : Bool) → is_of h.turns l ≡ b → has u (locking l x (Chain h)) ≡ has u (Chain h)
+    by : (b : Bool) → is_of h.turnstiles l ≡ b → has u (locking l x (Chain h)) ≡ has u (Chain h)
     by true e = rw e refl
     by false e = rw e refl
 

@@ -73,10 +73,10 @@ set_listed t h (Urgent p) e = e
 set_listed t h _ e = absurd cc
 
 chain_listed : (t : ℕ) (h : OfChain) (sp : ListId) → has_id t (chain_list h sp) ≡ true → chain_has t h ≡ true
-chain_listed t h (Waits l side) e = by (is_of h.turns l.0) refl
+chain_listed t h (Waits l side) e = by (is_of h.turnstiles l.0) refl
   where
-    by : (b : Bool) → is_of h.turns l.0 ≡ b → chain_has t h ≡ true
-    by true f = waiter_there t (l.0 / 64) side h.turns.locks (rw f at e)
+    by : (b : Bool) → is_of h.turnstiles l.0 ≡ b → chain_has t h ≡ true
+    by true f = waiter_there t (l.0 / 64) side h.turnstiles.locks (rw f at e)
     by false f = let no = rw f at e in absurd cc
 chain_listed t h _ e = absurd cc
 

@@ -65,10 +65,10 @@ set_same u (Urgent p) h rs e = e
 set_same u _ h rs e = refl
 
 chain_same : (u : ℕ) (sp : ListId) (h : OfChain) (rs : List ThreadRecord) → has_id u rs ≡ has_id u (chain_list h sp) → chain_has u (with_chain_list h sp rs) ≡ chain_has u h
-chain_same u (Waits l side) h rs e = by (is_of h.turns l.0) refl
+chain_same u (Waits l side) h rs e = by (is_of h.turnstiles l.0) refl
   where
-    by : (b : Bool) → is_of h.turns l.0 ≡ b → chain_has u (with_chain_list h (Waits l side) rs) ≡ chain_has u h
-    by true f = rw f (waiter_set u (l.0 / 64) side rs h.turns.locks (rw f at e))
+    by : (b : Bool) → is_of h.turnstiles l.0 ≡ b → chain_has u (with_chain_list h (Waits l side) rs) ≡ chain_has u h
+    by true f = rw f (waiter_set u (l.0 / 64) side rs h.turnstiles.locks (rw f at e))
     by false f = rw f refl
 chain_same u _ h rs e = refl
 

@@ -38,14 +38,14 @@ keeps_set : (sp : ListId) (h : OfSet) (rs : List ThreadRecord) → (with_set_lis
 keeps_set (Urgent p) h rs = refl
 keeps_set _ h rs = refl
 
-keeps_chain_at : (h : OfChain) (l : LockId) (side : Side) (rs : List ThreadRecord) → (with_chain_list h (Waits l side) rs).turns.chain ≡ h.turns.chain
-keeps_chain_at h l side rs = by (is_of h.turns l.0) refl
+keeps_chain_at : (h : OfChain) (l : LockId) (side : Side) (rs : List ThreadRecord) → (with_chain_list h (Waits l side) rs).turnstiles.chain ≡ h.turnstiles.chain
+keeps_chain_at h l side rs = by (is_of h.turnstiles l.0) refl
   where
-    by : (b : Bool) → is_of h.turns l.0 ≡ b → (with_chain_list h (Waits l side) rs).turns.chain ≡ h.turns.chain
+    by : (b : Bool) → is_of h.turnstiles l.0 ≡ b → (with_chain_list h (Waits l side) rs).turnstiles.chain ≡ h.turnstiles.chain
     by true e = rw e refl
     by false e = rw e refl
 
-keeps_chain : (sp : ListId) (h : OfChain) (rs : List ThreadRecord) → (with_chain_list h sp rs).turns.chain ≡ h.turns.chain
+keeps_chain : (sp : ListId) (h : OfChain) (rs : List ThreadRecord) → (with_chain_list h sp rs).turnstiles.chain ≡ h.turnstiles.chain
 keeps_chain (Waits l side) h rs = keeps_chain_at h l side rs
 keeps_chain _ h rs = refl
 
@@ -92,16 +92,16 @@ set_here _ h rs e = absurd cc
 pub of_chain : (c : Blocked ThreadRecord) (l : ℕ) → is_of c l ≡ true → IsOfChain c l
 of_chain c l e = let parts = and_parts (nat_lt l 256) ((l % 64) == c.chain) e in (ltb-true l 256 parts.0, eqb-true (l % 64) c.chain parts.1)
 
-chain_here : (sp : ListId) (h : OfChain) (rs : List ThreadRecord) → home_at sp ≡ id.Chain h.turns.chain → length h.turns.locks ≡ 4
+chain_here : (sp : ListId) (h : OfChain) (rs : List ThreadRecord) → home_at sp ≡ id.Chain h.turnstiles.chain → length h.turnstiles.locks ≡ 4
     → IsListThere sp ⊎ (rs ≡ []) → chain_list (with_chain_list h sp rs) sp ≡ rs
-chain_here (Waits l side) h rs e four there = by (is_of h.turns l.0) refl there
+chain_here (Waits l side) h rs e four there = by (is_of h.turnstiles l.0) refl there
   where
-    by : (b : Bool) → is_of h.turns l.0 ≡ b → (l.0 < 256) ⊎ (rs ≡ []) → chain_list (with_chain_list h (Waits l side) rs) (Waits l side) ≡ rs
-    by true f o = rw (f, f) ((are_apart h.turns four).here l.0 side rs (of_chain h.turns l.0 f))
+    by : (b : Bool) → is_of h.turnstiles l.0 ≡ b → (l.0 < 256) ⊎ (rs ≡ []) → chain_list (with_chain_list h (Waits l side) rs) (Waits l side) ≡ rs
+    by true f o = rw (f, f) ((are_apart h.turnstiles four).here l.0 side rs (of_chain h.turnstiles l.0 f))
     by false f (inr none) = rw (f, f) (sym none)
     by false f (inl low) =
-        let chain : l.0 % 64 ≡ h.turns.chain = cc in
-        let yes : is_of h.turns l.0 ≡ true = rw (lt-ltb l.0 256 low, eq-eqb (l.0 % 64) h.turns.chain chain) refl in
+        let chain : l.0 % 64 ≡ h.turnstiles.chain = cc in
+        let yes : is_of h.turnstiles l.0 ≡ true = rw (lt-ltb l.0 256 low, eq-eqb (l.0 % 64) h.turnstiles.chain chain) refl in
         absurd cc
 chain_here _ h rs e four there = absurd cc
 
@@ -150,14 +150,14 @@ lock_other c l m side o rs four a b n = elim (cases_eq m.0 l.0) [
   | inr y ↦ ap (λ w. on_side w o) (sym ((are_apart c four).other_locks l.0 m.0 side rs a b y))
 ]
 
-chain_other_list : (sp other : ListId) (h : OfChain) (rs : List ThreadRecord) → length h.turns.locks ≡ 4 → (other ≡ sp → ⊥)
+chain_other_list : (sp other : ListId) (h : OfChain) (rs : List ThreadRecord) → length h.turnstiles.locks ≡ 4 → (other ≡ sp → ⊥)
     → chain_list h other ≡ chain_list (with_chain_list h sp rs) other
-chain_other_list (Waits l side) (Waits m o) h rs four n = by (is_of h.turns l.0) (is_of h.turns m.0) refl refl
+chain_other_list (Waits l side) (Waits m o) h rs four n = by (is_of h.turnstiles l.0) (is_of h.turnstiles m.0) refl refl
   where
-    by : (a b : Bool) → is_of h.turns l.0 ≡ a → is_of h.turns m.0 ≡ b → chain_list h (Waits m o) ≡ chain_list (with_chain_list h (Waits l side) rs) (Waits m o)
+    by : (a b : Bool) → is_of h.turnstiles l.0 ≡ a → is_of h.turnstiles m.0 ≡ b → chain_list h (Waits m o) ≡ chain_list (with_chain_list h (Waits l side) rs) (Waits m o)
     by false b e f = rw e refl
     by true false e f = rw (e, f) refl
-    by true true e f = rw (e, f) (lock_other h.turns l m side o rs four (of_chain h.turns l.0 e) (of_chain h.turns m.0 f) n)
+    by true true e f = rw (e, f) (lock_other h.turnstiles l m side o rs four (of_chain h.turnstiles l.0 e) (of_chain h.turnstiles m.0 f) n)
 chain_other_list (Waits l side) _ h rs four n = refl
 chain_other_list _ _ h rs four n = refl
 
@@ -192,10 +192,10 @@ set_parts_kept s (Urgent q) h rs p = p
 set_parts_kept s _ h rs p = p
 
 chain_parts_kept : (s : State) (sp : ListId) (h : OfChain) (rs : List ThreadRecord) → PartsShown s (Chain h) → PartsShown s (Chain (with_chain_list h sp rs))
-chain_parts_kept s (Waits l side) h rs p = by (is_of h.turns l.0) refl
+chain_parts_kept s (Waits l side) h rs p = by (is_of h.turnstiles l.0) refl
   where
-    by : (b : Bool) → is_of h.turns l.0 ≡ b → PartsShown s (Chain (with_chain_list h (Waits l side) rs))
-    by true e = rw e (length-set h.turns.locks (l.0 / 64) _ ∙ p.0, p.1, p.2)
+    by : (b : Bool) → is_of h.turnstiles l.0 ≡ b → PartsShown s (Chain (with_chain_list h (Waits l side) rs))
+    by true e = rw e (length-set h.turnstiles.locks (l.0 / 64) _ ∙ p.0, p.1, p.2)
     by false e = rw e p
 chain_parts_kept s _ h rs p = p
 
@@ -234,10 +234,10 @@ fits-inserted r sp rs = tt
 
 -- nothing is taken from a lock that is not there
 gone_at : (t : ℕ) (h : OfChain) (l : LockId) (side : Side) → (l.0 < 256) ⊎ (drop_id id_of t (chain_list h (Waits l side)) ≡ [])
-gone_at t h l side = by (is_of h.turns l.0) refl
+gone_at t h l side = by (is_of h.turnstiles l.0) refl
   where
-    by : (b : Bool) → is_of h.turns l.0 ≡ b → (l.0 < 256) ⊎ (drop_id id_of t (chain_list h (Waits l side)) ≡ [])
-    by true e = inl (of_chain h.turns l.0 e).0
+    by : (b : Bool) → is_of h.turnstiles l.0 ≡ b → (l.0 < 256) ⊎ (drop_id id_of t (chain_list h (Waits l side)) ≡ [])
+    by true e = inl (of_chain h.turnstiles l.0 e).0
     by false e = inr (rw e refl)
 
 gone_asleep : (t : ℕ) (h : OfSleepers) (k : ChanId) → (k.0 < 256) ⊎ (drop_id id_of t (asleep_list h (Sleeps k)) ≡ [])

@@ -122,10 +122,10 @@ waits_there : (h : Home) (l : LockId) (side : Side) (t : ℕ) → has_id t (list
 waits_there (Cpu h) l side t e = absurd cc
 waits_there (RealTime h) l side t e = absurd cc
 waits_there (Sleepers h) l side t e = absurd cc
-waits_there (Chain h) l side t e = by (is_of h.turns l.0) refl
+waits_there (Chain h) l side t e = by (is_of h.turnstiles l.0) refl
   where
-    by : (b : Bool) → is_of h.turns l.0 ≡ b → l.0 < 256
-    by true f = (of_chain h.turns l.0 f).0
+    by : (b : Bool) → is_of h.turnstiles l.0 ≡ b → l.0 < 256
+    by true f = (of_chain h.turnstiles l.0 f).0
     by false f = let none = rw f at e in absurd cc
 
 sleeps_there : (h : Home) (k : ChanId) (t : ℕ) → has_id t (list_in h (Sleeps k)) ≡ true → k.0 < 256

@@ -121,9 +121,9 @@ pub locking_keeps : (l : ℕ) (x : LockState) → KeepsId (locking l x)
 locking_keeps l x (RealTime h) = refl
 locking_keeps l x (Cpu h) = refl
 locking_keeps l x (Sleepers h) = refl
-locking_keeps l x (Chain h) = by (is_of h.turns l) refl
+locking_keeps l x (Chain h) = by (is_of h.turnstiles l) refl
   where
-    by : (b : Bool) → is_of h.turns l ≡ b → home_id (locking l x (Chain h)) ≡ id.Chain h.turns.chain
+    by : (b : Bool) → is_of h.turnstiles l ≡ b → home_id (locking l x (Chain h)) ≡ id.Chain h.turnstiles.chain
     by true e = rw e refl
     by false e = rw e refl
 
@@ -135,9 +135,9 @@ locking_lists : (l : ℕ) (x : LockState) (h : Home) (sp : ListId) → list_in (
 locking_lists l x (RealTime h) sp = refl
 locking_lists l x (Cpu h) sp = refl
 locking_lists l x (Sleepers h) sp = refl
-locking_lists l x (Chain h) sp = by (is_of h.turns l) refl
+locking_lists l x (Chain h) sp = by (is_of h.turnstiles l) refl
   where
-    by : (b : Bool) → is_of h.turns l ≡ b → list_in (locking l x (Chain h)) sp ≡ chain_list h sp
+    by : (b : Bool) → is_of h.turnstiles l ≡ b → list_in (locking l x (Chain h)) sp ≡ chain_list h sp
     by true e = rw e (states_lists (set h.states (l / 64) x) h sp)
     by false e = rw e refl
 
@@ -152,29 +152,29 @@ pub lock_beside : (s : State) (l : LockId) (x : LockState) (h : Home) → (home_
 lock_beside s l x (Cpu h) n p = p
 lock_beside s l x (Sleepers h) n p = p
 lock_beside s l x (RealTime h) n p = p
-lock_beside s l x (Chain h) n p = (p.0, p.1, λ m of. p.2 m of ∙ sym (lock_other s l.0 m x (λ e. n (ap id.Chain (sym (of_chain h.turns m of).1 ∙ ap (λ k. k % 64) e)))))
+lock_beside s l x (Chain h) n p = (p.0, p.1, λ m of. p.2 m of ∙ sym (lock_other s l.0 m x (λ e. n (ap id.Chain (sym (of_chain h.turnstiles m of).1 ∙ ap (λ k. k % 64) e)))))
 
 chain_here : (s : State) (l : LockId) (x : LockState) (h : Home) → home_id h ≡ id.Chain (l.0 % 64) → l.0 < length s.locks → PartsShown s h → PartsShown (with_lock s l.0 x) (locking l.0 x h)
 chain_here s l x (Cpu h) e inside p = absurd cc
 chain_here s l x (Sleepers h) e inside p = absurd cc
 chain_here s l x (RealTime h) e inside p = absurd cc
-chain_here s l x (Chain h) e inside p = by (is_of h.turns l.0) refl
+chain_here s l x (Chain h) e inside p = by (is_of h.turnstiles l.0) refl
   where
-    one : (m : ℕ) → is_of h.turns l.0 ≡ true → is_of h.turns m ≡ true → (m ≡ l.0) ⊎ (m ≡ l.0 → ⊥) → get_or (set h.states (l.0 / 64) x) (m / 64) Free ≡ lock_of (with_lock s l.0 x) m
+    one : (m : ℕ) → is_of h.turnstiles l.0 ≡ true → is_of h.turnstiles m ≡ true → (m ≡ l.0) ⊎ (m ≡ l.0 → ⊥) → get_or (set h.states (l.0 / 64) x) (m / 64) Free ≡ lock_of (with_lock s l.0 x) m
     one m f g (inl same) =
-        let low = (of_chain h.turns l.0 f).0 in
+        let low = (of_chain h.turnstiles l.0 f).0 in
         let four = p.1 in
         let within : l.0 / 64 < length h.states = omega arith in
         rw same (get_or-set_same h.states (l.0 / 64) x Free within ∙ sym (lock_here s l.0 x inside))
     one m f g (inr n) =
-        let a = (of_chain h.turns l.0 f).1 in
-        let b = (of_chain h.turns m g).1 in
+        let a = (of_chain h.turnstiles l.0 f).1 in
+        let b = (of_chain h.turnstiles m g).1 in
         let apart : m / 64 ≡ l.0 / 64 → ⊥ = λ e. n (omega arith) in
         get_or-set_other h.states (l.0 / 64) (m / 64) x Free apart ∙ p.2 m g ∙ sym (lock_other s l.0 m x n)
 
-    by : (b : Bool) → is_of h.turns l.0 ≡ b → PartsShown (with_lock s l.0 x) (locking l.0 x (Chain h))
+    by : (b : Bool) → is_of h.turnstiles l.0 ≡ b → PartsShown (with_lock s l.0 x) (locking l.0 x (Chain h))
     by true f = rw f (p.0, length-set h.states (l.0 / 64) x ∙ p.1, λ m g. one m f g (cases_eq m l.0))
-    by false f = rw f (p.0, p.1, λ m g. p.2 m g ∙ sym (lock_other s l.0 m x (λ e. let yes = ap (is_of h.turns) (sym e) ∙ g in absurd cc)))
+    by false f = rw f (p.0, p.1, λ m g. p.2 m g ∙ sym (lock_other s l.0 m x (λ e. let yes = ap (is_of h.turnstiles) (sym e) ∙ g in absurd cc)))
 
 pub locked : (n : ℕ) (s : State) (l : LockId) (x : LockState) (hs : List (Option Home)) → l.0 < length s.locks → ShowsState n s hs
     → ShowsState n (with_lock s l.0 x) (edit (id.Chain (l.0 % 64)) (locking l.0 x) hs)

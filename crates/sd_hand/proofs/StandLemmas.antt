@@ -88,12 +88,12 @@ has_listed s t (Cpu h) parts there e = by (or_cases (has_id t (one h.running)) _
     by (inr f) = second (or_cases (has_id t h.queue) (has_id t h.nappers || has_id t h.ended) f)
 has_listed s t (RealTime h) parts there e = (Urgent h.set, record { home = refl; found = e; there = e })
 has_listed s t (Chain h) parts there e =
-    let at = waits_at t h.turns.locks e in
+    let at = waits_at t h.turnstiles.locks e in
     let few : at.index < 4 = subst (λ n. at.index < n) parts.0 at.inside in
-    let l = h.turns.chain + 64 * at.index in
-    let (a, b, c) = numbered h.turns.chain at.index there few in
-    let own : is_of h.turns l ≡ true = is_numbered h.turns.chain at.index there few in
-    let here : has_id t (on_side (get_or h.turns.locks (l / 64) nobody) at.side) ≡ true = subst (λ n. has_id t (on_side (get_or h.turns.locks n nobody) at.side) ≡ true) (sym c) at.here in
+    let l = h.turnstiles.chain + 64 * at.index in
+    let (a, b, c) = numbered h.turnstiles.chain at.index there few in
+    let own : is_of h.turnstiles l ≡ true = is_numbered h.turnstiles.chain at.index there few in
+    let here : has_id t (on_side (get_or h.turnstiles.locks (l / 64) nobody) at.side) ≡ true = subst (λ n. has_id t (on_side (get_or h.turnstiles.locks n nobody) at.side) ≡ true) (sym c) at.here in
     (Waits (record { 0 = l }) at.side, record { home = ap id.Chain b; found = rw own here; there = e })
 has_listed s t (Sleepers h) parts there e =
     let (i, inside, is) = sleeps_at t h.sleepers.queues e in

@@ -90,15 +90,15 @@ lock_by s l (RealTime h) e p few = absurd cc
 lock_by s l (Sleepers h) e p few = absurd cc
 lock_by s l (Chain h) e p few = by (cases_lt l.0 256)
   where
-    chain : l.0 % 64 ≡ h.turns.chain
+    chain : l.0 % 64 ≡ h.turnstiles.chain
     chain = cc
 
     by : (l.0 < 256) ⊎ (256 ≤ l.0) → lock_of s l.0 ≡ lock_in l.0 (Chain h)
     by (inl low) =
-        let yes : is_of h.turns l.0 ≡ true = rw (lt-ltb l.0 256 low, eq-eqb (l.0 % 64) h.turns.chain chain) refl in
+        let yes : is_of h.turnstiles l.0 ≡ true = rw (lt-ltb l.0 256 low, eq-eqb (l.0 % 64) h.turnstiles.chain chain) refl in
         rw yes (sym (p.2 l.0 yes))
     by (inr high) =
-        let no : is_of h.turns l.0 ≡ false = rw (le-ltb l.0 256 high) refl in
+        let no : is_of h.turnstiles l.0 ≡ false = rw (le-ltb l.0 256 high) refl in
         rw no (get_or_past s.locks l.0 Free (omega arith))
 
 pub tokens_by : (s : State) (k : ChanId) (h : Home) → id.Sleepers (k.0 % 64) ≡ home_id h → PartsShown s h → length s.counts ≤ 256 → count_of s k.0 ≡ tokens_in k.0 h

@@ -103,8 +103,8 @@ pub record StandsIn (t : ℕ) (hs : List (Option Home)) (sp : ListId) : Type 0 w
   pub listed : IsListed t (home_id home) (list_in home) (has t home) sp
 
 -- this is the thread, which stands in a list of one of them
-abbrev pub IsThere : ℕ → List (Option Home) → ThreadRecord → Type 0
-IsThere t hs r = (sp : ListId) × StandsIn t hs sp × (Some r ≡ taken_from t sp (held (home_at sp) hs))
+abbrev pub IsThreadHeld : ℕ → List (Option Home) → ThreadRecord → Type 0
+IsThreadHeld t hs r = (sp : ListId) × StandsIn t hs sp × (Some r ≡ taken_from t sp (held (home_at sp) hs))
 
 -- the home of this number was asked, or is lacking
 abbrev pub Asks : {A B : Type 0} → HomeId → List (Option Home) → Result A Part → (A → B) → (Home → B) → Type 0

@@ -21,7 +21,7 @@ use Rattle.sd_hand.specs.Hands.{held}
 abbrev pub PartsShown : State → Home → Type 0
 PartsShown s (Cpu h) = (h.view ≡ view_of (cpu_of s h.cpu.0)) × (h.cpu.0 < length s.cpus)
 PartsShown s (RealTime h) = (h.open_cpus ≡ open_of s h.set.0) × (h.set.0 < length s.open_cpus)
-PartsShown s (Chain h) = (length h.turns.locks ≡ 4) × (length h.states ≡ 4) × ((l : ℕ) → is_of h.turns l ≡ true → get_or h.states (l / 64) Free ≡ lock_of s l)
+PartsShown s (Chain h) = (length h.turnstiles.locks ≡ 4) × (length h.states ≡ 4) × ((l : ℕ) → is_of h.turnstiles l ≡ true → get_or h.states (l / 64) Free ≡ lock_of s l)
 PartsShown s (Sleepers h) = (length h.sleepers.queues ≡ 4) × (length h.counts ≡ 4) × ((k : ℕ) → is_chan_of h.sleepers k ≡ true → get_or h.counts (k / 64) 0 ≡ count_of s k)
 
 -- a lock or a channel of a chain has a number below the most of them

@@ -12,7 +12,7 @@ ghost use Rattle.sd_store.specs.Bodies.{changed};
 ghost use Rattle.sd_homes.specs.Bodies.{CanChangeThread};
 ghost use Rattle.sd_homes.specs.Homes.{with_body_of};
 ghost use Rattle.sd_hand.specs.Steps.{RunsChanged};
-ghost use Rattle.sd_hand.specs.Hands.{AreApart, AreSlots, AreTaken, Asks, HasNoRoom, HoldsMore, IsHeld, IsNoSlot, IsSlot, IsThere, Seeks, StandsIn, StandsInSlot, edit, has_thread, held, how_many_held, is_at, slot_has};
+ghost use Rattle.sd_hand.specs.Hands.{AreApart, AreSlots, AreTaken, Asks, HasNoRoom, HoldsMore, IsHeld, IsNoSlot, IsSlot, IsThreadHeld, Seeks, StandsIn, StandsInSlot, edit, has_thread, held, how_many_held, is_at, slot_has};
 
 use crate::guide::Guide;
 use sd_homes::{Home, IsFull, ListId, Traveller, home_at, same_home};
@@ -282,7 +282,7 @@ impl Hand {
     /// The thread, which is lacking where no held home has it.
     #[inline(always)]
     pub fn record(&self, t: ThreadId) -> Result<&Record, Part>
-        ensures { Seeks t self.now.slots result (λ r. IsThere t.0 self.now.slots r.now) }
+        ensures { Seeks t self.now.slots result (λ r. IsThreadHeld t.0 self.now.slots r.now) }
     {
         if let Some(at) = self.guide.list(t) {
             if let Some(record) = self.find_at(t, at) {
@@ -295,7 +295,7 @@ impl Hand {
     /// The same, where the thread may well run on processor `c`.
     #[inline(always)]
     pub(crate) fn record_from(&self, c: CpuId, t: ThreadId) -> Result<&Record, Part>
-        ensures { Seeks t self.now.slots result (λ r. IsThere t.0 self.now.slots r.now) }
+        ensures { Seeks t self.now.slots result (λ r. IsThreadHeld t.0 self.now.slots r.now) }
     {
         if let Some(record) = self.find(t, ListId::Runs(c)) {
             return Ok(record);
@@ -306,7 +306,7 @@ impl Hand {
     /// The same, by a search of all homes.
     #[inline(never)]
     fn search(&self, t: ThreadId) -> Result<&Record, Part>
-        ensures { Seeks t self.now.slots result (λ r. IsThere t.0 self.now.slots r.now) }
+        ensures { Seeks t self.now.slots result (λ r. IsThreadHeld t.0 self.now.slots r.now) }
     {
         let _slots = &self.slots;
         match self.where_found(t) {

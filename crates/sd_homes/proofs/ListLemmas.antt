@@ -5,7 +5,7 @@ use Rattle.std.proofs.lemmas.Int.{ints}
 use Rattle.sd_basics.proofs.Numbers.{same_itself}
 use Rattle.sd_boxq.specs.Order.{insert_before, insert_ranked, drop_first, find_first, find_id, drop_id, precedes, IsNowhere}
 use Rattle.sd_boxq.proofs.InOrder.{IsRanked-insert, IsRanked-drop_first}
-use Rattle.sd_homes.specs.Lists.{IdsDiffer, HasNoKey, KeysDiffer, IsKeyAfter, AreKeysAfter, IsQueue}
+use Rattle.sd_homes.specs.Lists.{IdsDiffer, HasNoKey, KeysOfItemsDiffer, IsKeyAfter, AreKeysAfter, IsQueue}
 
 module _ {X : Type 0} (id : X → ℕ) where
   pub find-dropped : (t : ℕ) (xs : List X) → IdsDiffer id xs → find_id id t (drop_id id t xs) ≡ None
@@ -71,11 +71,11 @@ module _ {X : Type 0} (key : X → ℤ) where
       by true e r = rw e h.1
       by false e r = rw e (h.0, r)
 
-  pub keys-dropped : (p : X → Bool) (xs : List X) → KeysDiffer key xs → KeysDiffer key (drop_first p xs)
+  pub keys-dropped : (p : X → Bool) (xs : List X) → KeysOfItemsDiffer key xs → KeysOfItemsDiffer key (drop_first p xs)
   keys-dropped p [] d = tt
   keys-dropped p (x ∷ xs) d = by (p x) refl (keys-dropped p xs d.1)
     where
-      by : (b : Bool) → p x ≡ b → KeysDiffer key (drop_first p xs) → KeysDiffer key (drop_first p (x ∷ xs))
+      by : (b : Bool) → p x ≡ b → KeysOfItemsDiffer key (drop_first p xs) → KeysOfItemsDiffer key (drop_first p (x ∷ xs))
       by true e r = rw e d.1
       by false e r = rw e (no_key-dropped (key x) p xs d.0, r)
 
@@ -95,11 +95,11 @@ module _ {X : Type 0} (key : X → ℤ) where
       by true e r = rw e (n, h)
       by false e r = rw e (h.0, r)
 
-  pub keys-inserted : (p : X → Bool) (x : X) (xs : List X) → HasNoKey key (key x) xs → KeysDiffer key xs → KeysDiffer key (insert_before p x xs)
+  pub keys-inserted : (p : X → Bool) (x : X) (xs : List X) → HasNoKey key (key x) xs → KeysOfItemsDiffer key xs → KeysOfItemsDiffer key (insert_before p x xs)
   keys-inserted p x [] n d = (tt, tt)
   keys-inserted p x (y ∷ ys) n d = by (p y) refl (keys-inserted p x ys n.1 d.1)
     where
-      by : (b : Bool) → p y ≡ b → KeysDiffer key (insert_before p x ys) → KeysDiffer key (insert_before p x (y ∷ ys))
+      by : (b : Bool) → p y ≡ b → KeysOfItemsDiffer key (insert_before p x ys) → KeysOfItemsDiffer key (insert_before p x (y ∷ ys))
       by true e r = rw e (n, d)
       by false e r = rw e (no_key-inserted (key y) p x ys (λ f. n.0 (sym f)) d.0, r)
 
@@ -173,7 +173,7 @@ module _ {X : Type 0} (id : X → ℕ) where
       by false f g = g (rw f at e)
 
   -- of two items with different ids
-  pub found_apart : (key : X → ℤ) (t u : ℕ) (r q : X) (xs : List X) → KeysDiffer key xs → find_id id t xs ≡ Some r → find_id id u xs ≡ Some q → (t ≡ u → ⊥) → key r ≢ key q
+  pub found_apart : (key : X → ℤ) (t u : ℕ) (r q : X) (xs : List X) → KeysOfItemsDiffer key xs → find_id id t xs ≡ Some r → find_id id u xs ≡ Some q → (t ≡ u → ⊥) → key r ≢ key q
   found_apart key t u r q [] d e f n = absurd cc
   found_apart key t u r q (x ∷ xs) d e f n = by (id x == t) (id x == u) refl refl (found_apart key t u r q xs d.1)
     where

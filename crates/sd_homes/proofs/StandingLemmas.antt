@@ -16,7 +16,7 @@ use Rattle.sd_state.specs.States.{same_side}
 use Rattle.sd_homes.specs.declared.list_id.ListId.{ListId}
 use Rattle.sd_homes.specs.declared.list_id.ListId.TheVariants.{Runs, Queues, Urgent, Waits, Sleeps, Naps, Ends}
 use Rattle.sd_homes.specs.Lists.{HasNoKey, IsQueue}
-use Rattle.sd_homes.specs.Standing.{list_at, list_of, stands_at, stands, home_at, record_key, record_of, id_of, rank_of, key_in, ByNumber, without, with_one, listed, IsRunner, IsArranged, Lists, insert_at, IsFree, IsKeyFor, MayCome}
+use Rattle.sd_homes.specs.Standing.{list_at, list_of, stands_at, stands, home_at, record_key, record_of, id_of, rank_of, key_in, ByNumber, without, with_one, listed, IsRunner, IsArranged, Lists, insert_at, IsUnusedKey, IsKeyFor, MayCome}
 use Rattle.sd_homes.proofs.ListLemmas.{find-dropped, find-dropped_other, differ-dropped, find-inserted, find-inserted_other, differ-inserted, queue-dropped, queue-inserted, queue-more, back_is_new, front_is_new, no_key_from, found_apart, found_after}
 
 same_side_self : (side : Side) → same_side side side ≡ true
@@ -152,7 +152,7 @@ out n sp rs look t l = record {
 
 -- ---- it comes
 no_key : (n m : ℕ) (sp : ListId) (rs : List ThreadRecord) (look : ByNumber) (k : ℤ) → Lists n sp rs look → IsQueue rank_of key_in n rs
-    → (k ≡ pos (4096 + n)) ⊎ ((k ≡ negsuc n) ⊎ IsFree look sp k) → HasNoKey key_in k rs
+    → (k ≡ pos (4096 + n)) ⊎ ((k ≡ negsuc n) ⊎ IsUnusedKey look sp k) → HasNoKey key_in k rs
 no_key n m sp rs look k l q (inl e) = rw e (back_is_new key_in n rs q.after)
 no_key n m sp rs look k l q (inr (inl e)) = rw e (front_is_new key_in n rs q.after)
 no_key n m sp rs look k l q (inr (inr free)) =
@@ -204,7 +204,7 @@ into n m (Runs c) rs look t y h e on k l =
 
 -- the key that a thread had when it left a queue is free there
 pub left_free : (n : ℕ) (sp : ListId) (rs : List ThreadRecord) (look : ByNumber) (t : ℕ) (x : ThreadState) → Lists n sp rs look → IsQueue rank_of key_in n rs
-    → look t ≡ Some x → stands sp x ≡ true → IsFree (without t look) sp (record_key x.place)
+    → look t ≡ Some x → stands sp x ≡ true → IsUnusedKey (without t look) sp (record_key x.place)
 left_free n sp rs look t x l q e on u y f g = by (u == t) refl
   where
     by : (b : Bool) → (u == t) ≡ b → record_key y.place ≢ record_key x.place

@@ -27,7 +27,7 @@ same_home _ _ = false
 abbrev pub home_id : Home → HomeId
 home_id (Cpu h) = id.Cpu h.cpu
 home_id (RealTime h) = id.RealTime h.set
-home_id (Chain h) = id.Chain h.turns.chain
+home_id (Chain h) = id.Chain h.turnstiles.chain
 home_id (Sleepers h) = id.Sleepers h.sleepers.chain
 
 abbrev pub list_in : Home → ListId → List ThreadRecord
@@ -95,13 +95,13 @@ shut c h = opening (without_cpu c (open_in h)) h
 
 -- the state of a lock of a chain; another lock is free
 abbrev pub lock_in : ℕ → Home → LockState
-lock_in l (Chain h) = if is_of h.turns l then get_or h.states (l / 64) Free else Free
+lock_in l (Chain h) = if is_of h.turnstiles l then get_or h.states (l / 64) Free else Free
 lock_in l (Cpu h) = Free
 lock_in l (RealTime h) = Free
 lock_in l (Sleepers h) = Free
 
 abbrev pub locking : ℕ → LockState → Home → Home
-locking l x (Chain h) = Chain (if is_of h.turns l then with_states (set h.states (l / 64) x) h else h)
+locking l x (Chain h) = Chain (if is_of h.turnstiles l then with_states (set h.states (l / 64) x) h else h)
 locking l x (Cpu h) = Cpu h
 locking l x (RealTime h) = RealTime h
 locking l x (Sleepers h) = Sleepers h
@@ -123,5 +123,5 @@ counting k n (Chain h) = Chain h
 abbrev pub IsWhole : Home → Type 0
 IsWhole (Cpu h) = ⊤
 IsWhole (RealTime h) = ⊤
-IsWhole (Chain h) = length h.turns.locks ≡ 4
+IsWhole (Chain h) = length h.turnstiles.locks ≡ 4
 IsWhole (Sleepers h) = length h.sleepers.queues ≡ 4

@@ -69,15 +69,15 @@ how_many (Some x) = 1
 
 -- a chain of turnstiles, and the states of its locks
 pub record OfChain : Type 0 where
-  pub turns : Blocked ThreadRecord
+  pub turnstiles : Blocked ThreadRecord
   pub states : List LockState
 
 -- the lock is one of this chain
 abbrev pub is_of : Blocked ThreadRecord → ℕ → Bool
 is_of c l = nat_lt l 256 && ((l % 64) == c.chain)
 
-abbrev pub with_turns : Blocked ThreadRecord → OfChain → OfChain
-with_turns c h = record h { turns = c }
+abbrev pub with_turnstiles : Blocked ThreadRecord → OfChain → OfChain
+with_turnstiles c h = record h { turnstiles = c }
 
 abbrev pub with_states : List LockState → OfChain → OfChain
 with_states xs h = record h { states = xs }
@@ -111,7 +111,7 @@ abbrev pub empty_set : SetId → List CpuId → OfSet
 empty_set p cpus = record { set = p; queue = []; open_cpus = cpus }
 
 abbrev pub empty_chain : ℕ → OfChain
-empty_chain i = record { turns = record { chain = i; locks = nobody ∷ nobody ∷ nobody ∷ nobody ∷ [] }; states = Free ∷ Free ∷ Free ∷ Free ∷ [] }
+empty_chain i = record { turnstiles = record { chain = i; locks = nobody ∷ nobody ∷ nobody ∷ nobody ∷ [] }; states = Free ∷ Free ∷ Free ∷ Free ∷ [] }
 
 abbrev pub empty_sleepers : ℕ → List ℕ → OfSleepers
 empty_sleepers i counts = record { sleepers = record { chain = i; queues = [] ∷ [] ∷ [] ∷ [] ∷ [] }; counts = counts }

@@ -10,7 +10,7 @@ use Rattle.sd_sleepq.specs.Sleepers.{sleepers_of, with_sleepers}
 use Rattle.sd_homes.specs.declared.list_id.ListId.{ListId}
 use Rattle.sd_homes.specs.declared.list_id.ListId.TheVariants.{Runs, Queues, Urgent, Waits, Sleeps, Naps, Ends}
 use Rattle.sd_homes.specs.Standing.{home_at, id_of}
-use Rattle.sd_homes.specs.Homes.{OfCpu, OfSet, OfChain, OfSleepers, is_chan_of, with_asleep, is_of, with_turns, one, head_of, with_queue, with_running, with_nappers, with_ended, with_urgent}
+use Rattle.sd_homes.specs.Homes.{OfCpu, OfSet, OfChain, OfSleepers, is_chan_of, with_asleep, is_of, with_turnstiles, one, head_of, with_queue, with_running, with_nappers, with_ended, with_urgent}
 
 -- who stands there, as the home has it; a home has only its own
 abbrev pub cpu_list : OfCpu → ListId → List ThreadRecord
@@ -25,7 +25,7 @@ set_list h (Urgent p) = h.queue
 set_list h _ = []
 
 abbrev pub chain_list : OfChain → ListId → List ThreadRecord
-chain_list h (Waits l side) = if is_of h.turns l.0 then waiters_at h.turns l.0 side else []
+chain_list h (Waits l side) = if is_of h.turnstiles l.0 then waiters_at h.turnstiles l.0 side else []
 chain_list h _ = []
 
 abbrev pub asleep_list : OfSleepers → ListId → List ThreadRecord
@@ -46,7 +46,7 @@ with_set_list h (Urgent p) rs = with_urgent rs h
 with_set_list h _ rs = h
 
 abbrev pub with_chain_list : OfChain → ListId → List ThreadRecord → OfChain
-with_chain_list h (Waits l side) rs = if is_of h.turns l.0 then with_turns (with_waiters h.turns l.0 side rs) h else h
+with_chain_list h (Waits l side) rs = if is_of h.turnstiles l.0 then with_turnstiles (with_waiters h.turnstiles l.0 side rs) h else h
 with_chain_list h _ rs = h
 
 abbrev pub with_asleep_list : OfSleepers → ListId → List ThreadRecord → OfSleepers
@@ -65,7 +65,7 @@ abbrev pub set_has : ℕ → OfSet → Bool
 set_has t h = has_id t h.queue
 
 abbrev pub chain_has : ℕ → OfChain → Bool
-chain_has t h = is_some (find_waiter id_of t h.turns.locks)
+chain_has t h = is_some (find_waiter id_of t h.turnstiles.locks)
 
 abbrev pub asleep_has : ℕ → OfSleepers → Bool
 asleep_has t h = is_some (find_sleeper id_of t h.sleepers.queues)

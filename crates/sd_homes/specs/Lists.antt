@@ -15,9 +15,9 @@ HasNoKey key k [] = ⊤
 HasNoKey key k (x ∷ xs) = (key x ≢ k) × HasNoKey key k xs
 
 -- no two items have one key
-abbrev pub KeysDiffer : {X : Type 0} → (X → ℤ) → List X → Type 0
-KeysDiffer key [] = ⊤
-KeysDiffer key (x ∷ xs) = HasNoKey key (key x) xs × KeysDiffer key xs
+abbrev pub KeysOfItemsDiffer : {X : Type 0} → (X → ℤ) → List X → Type 0
+KeysOfItemsDiffer key [] = ⊤
+KeysOfItemsDiffer key (x ∷ xs) = HasNoKey key (key x) xs × KeysOfItemsDiffer key xs
 
 -- a key that there may be after n entries
 pub record IsKeyAfter (n : ℕ) (k : ℤ) : Type 0 where
@@ -31,5 +31,5 @@ AreKeysAfter key n (x ∷ xs) = IsKeyAfter n (key x) × AreKeysAfter key n xs
 -- a queue of a state after n entries: in order of rank and key, each key once, and each such a key
 pub record IsQueue {X : Type 0} (rank : X → ℕ) (key : X → ℤ) (n : ℕ) (xs : List X) : Type 0 where
   pub ranked : IsRanked rank key xs
-  pub apart : KeysDiffer key xs
+  pub apart : KeysOfItemsDiffer key xs
   pub after : AreKeysAfter key n xs

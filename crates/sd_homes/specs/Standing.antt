@@ -135,13 +135,13 @@ insert_at (Runs c) r rs = r ∷ []
 insert_at (Ends c) r rs = r ∷ rs
 
 -- no thread that stands there has this key
-abbrev pub IsFree : ByNumber → ListId → ℤ → Type 0
-IsFree look sp k = (u : ℕ) (y : ThreadState) → look u ≡ Some y → stands sp y ≡ true → record_key y.place ≢ k
+abbrev pub IsUnusedKey : ByNumber → ListId → ℤ → Type 0
+IsUnusedKey look sp k = (u : ℕ) (y : ThreadState) → look u ≡ Some y → stands sp y ≡ true → record_key y.place ≢ k
 
 -- a key that a thread may have that comes to a queue after n entries, and that there may be after m
 pub record IsKeyFor (n m : ℕ) (look : ByNumber) (sp : ListId) (k : ℤ) : Type 0 where
   pub after : IsKeyAfter m k
-  pub free : (k ≡ pos (first_back_key + n)) ⊎ ((k ≡ negsuc n) ⊎ IsFree look sp k)
+  pub free : (k ≡ pos (first_back_key + n)) ⊎ ((k ≡ negsuc n) ⊎ IsUnusedKey look sp k)
 
 -- the thread may come there
 abbrev pub MayCome : ℕ → ℕ → ByNumber → ListId → ThreadState → Type 0

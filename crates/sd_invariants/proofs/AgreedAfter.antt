@@ -38,7 +38,7 @@ use Rattle.sd_machine.specs.Changes.{back_key, set_duty}
 use Rattle.sd_machine.specs.Locking.{side_of, one_more, one_reader_more, blocked}
 use Rattle.sd_machine.specs.Events.{effect, after, drop_ageing, dropped_duty}
 use Rattle.sd_machine.proofs.ShapeLemmas.{IsShaped}
-use Rattle.sd_frames.specs.Causes.{IsFree, Acts, wants}
+use Rattle.sd_frames.specs.Causes.{GivesWay, Acts, wants}
 use Rattle.sd_frames.specs.Passing.{pass_of}
 use Rattle.sd_invariants.specs.Holding.{lock_state, table, Agreed, DutiesServe, ReadsWell}
 use Rattle.sd_frames.specs.Moves.{step_of}
@@ -70,7 +70,7 @@ pub record IsNext (w : Work) (s r : State) (n : ℕ) (c : CpuId) (e : Event) : T
   pub held : HeldGo s r e
   pub shape : IsShaped s r
 
-no_pass : (s : State) (c : ℕ) → IsFree (cpu_of s c).duty → (table s).passes c ≡ None
+no_pass : (s : State) (c : ℕ) → GivesWay (cpu_of s c).duty → (table s).passes c ≡ None
 no_pass s c free = T.free_passes (cpu_of s c).duty free
 
 -- the passes of a duty that one processor alone has anew
@@ -222,7 +222,7 @@ module _ (w : Work) (s : State) (n : ℕ) (c : CpuId) (ready : IsReady w s) wher
       ap (λ (xs : List LockId). is_held l xs) (ready.scripted t inside).held ∙ gives _ _ (op_balances w t (thread_of s t).body.op o acts.stands)
 
   -- a hold of the lock is given up
-  pub given_up : (s0 r : State) (e : Event) (t : ThreadId) (l : LockId) (x : LockState) → IsFree (cpu_of s c.0).duty → t.0 < length s.threads → (table s).holds t.0 l.0 ≡ true
+  pub given_up : (s0 r : State) (e : Event) (t : ThreadId) (l : LockId) (x : LockState) → GivesWay (cpu_of s c.0).duty → t.0 < length s.threads → (table s).holds t.0 l.0 ≡ true
       → Agreed s0 → length s0.threads ≡ length s.threads → s0.locks ≡ s.locks → ((u m : ℕ) → (table s0).holds u m ≡ (table s).holds u m) → ((u m : ℕ) → (table s).waits u ≡ Some m → (table s0).waits u ≡ Some m)
       → C.Kept pass_part s s0 → lock_of s0 l.0 ≡ x
       → IsNext w s r n c e → StepAway (step_of w s n c e) → Goes held_part s0 r t.0 (without_lock l (thread_of s0 t.0).body.held.items) → length r.threads ≡ length s0.threads

@@ -6,7 +6,7 @@ use Rattle.sd_types.specs.declared.numbers.Side.{Side}
 use Rattle.sd_types.specs.declared.numbers.Side.TheVariants.{Reader}
 use Rattle.sd_types.specs.declared.works.LockKind.{LockKind}
 use Rattle.sd_types.specs.Works.{Declared, op_names, is_mutex, is_rwlock}
-use Rattle.sd_frames.specs.Causes.{IsFree, Acts, IsCause}
+use Rattle.sd_frames.specs.Causes.{GivesWay, Acts, IsCause}
 use Rattle.sd_frames.specs.Passing.{pass_of}
 use Rattle.sd_invariants.specs.Holding.{table, Agreed}
 use Rattle.sd_frames.specs.Moves.{step_of}
@@ -40,7 +40,7 @@ use Rattle.sd_state.specs.declared.states.State.{State}
 use Rattle.std.proofs.lemmas.Option.{slice_get_within}
 use Rattle.sd_types.proofs.ScriptLemmas.{gives_exit, gives_wait}
 
-free_pass : (s : State) (c : ℕ) → IsFree (cpu_of s c).duty → pass_of (cpu_of s c).duty ≡ None
+free_pass : (s : State) (c : ℕ) → GivesWay (cpu_of s c).duty → pass_of (cpu_of s c).duty ≡ None
 free_pass s c free = free_passes (cpu_of s c).duty free
 
 -- an event that is none of locks comes where the processor passes none on

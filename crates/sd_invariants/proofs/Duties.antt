@@ -26,7 +26,7 @@ use Rattle.sd_types.specs.declared.scripts.Op.TheVariants as op
 use Rattle.sd_types.specs.declared.works.Work.{Work}
 use Rattle.sd_types.specs.Works.{is_mutex}
 use Rattle.sd_machine.proofs.Moves.{put_cases}
-use Rattle.sd_state.specs.Invariants.{IsThere}
+use Rattle.sd_state.specs.Invariants.{IsPlaceThere}
 use Rattle.sd_state.specs.declared.states.Place.{Place}
 use Rattle.sd_state.specs.declared.states.Place.TheVariants.{Running, Queued, RealTime, Waiting, Asleep, Napping, Ended}
 use Rattle.sd_state.specs.declared.states.LockState.{LockState}
@@ -140,7 +140,7 @@ module _ (w : Work) where
 
   -- Walks.
 
-  next_named : (d : Duty) (o : ThreadId) (looped : Bool) (p : Place) → o.0 < length w.threads → IsThere w p → IsNamed w d → IsNamed w (next_walk d o looped p)
+  next_named : (d : Duty) (o : ThreadId) (looped : Bool) (p : Place) → o.0 < length w.threads → IsPlaceThere w p → IsNamed w d → IsNamed w (next_walk d o looped p)
   next_named (duty.Walk l seek key) o looped (Waiting m side k) inside there is = by (looped || ((seek.0 == o.0) && int_eq key k)) (int_lt key k)
     where
       by : (a b : Bool) → IsNamed w (if a then duty.Nothing else if b then duty.Walk m o k else duty.Walk m seek key)
@@ -160,7 +160,7 @@ module _ (w : Work) where
   next_named (duty.Rouse k below) o looped p inside there is = tt
   next_named (duty.Age u) o looped p inside there is = tt
 
-  willed_named : (s : State) (n : ℕ) (c : CpuId) (l : LockId) (o : ThreadId) (at : Option Put) → o.0 < length w.threads → IsThere w (thread_of s o.0).place → DutiesNamed w s → DutiesNamed w (willed w s n c l o at)
+  willed_named : (s : State) (n : ℕ) (c : CpuId) (l : LockId) (o : ThreadId) (at : Option Put) → o.0 < length w.threads → IsPlaceThere w (thread_of s o.0).place → DutiesNamed w s → DutiesNamed w (willed w s n c l o at)
   unfolding willed
   willed_named s n c l o at inside there h =
       let before : C.Kept duty_part s (set_looped (set_number s o.0 l (greatest_waiting l.0 s.threads)) o.0 ((thread_of s o.0).body.looped || is_back (cpu_of s c.0).duty o (thread_of s o.0).place)) =
@@ -173,21 +173,21 @@ module _ (w : Work) where
   unfolding walk_ended
   walk_ended_named s c h = named_duty s c.0 duty.Nothing tt h
 
-  walk_from_named : (s : State) (c : CpuId) (u : ThreadId) (p : Place) → u.0 < length w.threads → IsThere w p → DutiesNamed w s → DutiesNamed w (walk_from s c u p)
+  walk_from_named : (s : State) (c : CpuId) (u : ThreadId) (p : Place) → u.0 < length w.threads → IsPlaceThere w p → DutiesNamed w s → DutiesNamed w (walk_from s c u p)
   walk_from_named s c u (Waiting l side k) inside there h = named_duty s c.0 (duty.Walk l u k) (there, inside) h
   walk_from_named s c u p inside there h = h
 
-  changed_by_named : (s : State) (n : ℕ) (c : CpuId) (u : ThreadId) (at : Option Put) (r : Result ClassParms Denied) → u.0 < length w.threads → IsThere w (thread_of s u.0).place → DutiesNamed w s → DutiesNamed w (changed_by w s n c u at r)
+  changed_by_named : (s : State) (n : ℕ) (c : CpuId) (u : ThreadId) (at : Option Put) (r : Result ClassParms Denied) → u.0 < length w.threads → IsPlaceThere w (thread_of s u.0).place → DutiesNamed w s → DutiesNamed w (changed_by w s n c u at r)
   changed_by_named s n c u at (Err d) inside there h = h
   changed_by_named s n c u at (Ok parms) inside there h =
       walk_from_named (reordered w (set_class s u.0 (new_class w s u.0 parms)) n u.0 (eff_of s u.0) at) c u (thread_of s u.0).place inside there
       (named_kept s _ (C.then_kept duty_part s _ _ (C.set_class_kept duty_part duty_marks s u.0 (new_class w s u.0 parms)) (C.reordered_kept duty_part duty_marks w _ n u.0 (eff_of s u.0) at)) h)
 
-  changed_on_named : (s : State) (n : ℕ) (c : CpuId) (t : ℕ) (u : ThreadId) (at : Option Put) (o : Option Op) → u.0 < length w.threads → IsThere w (thread_of s u.0).place → DutiesNamed w s → DutiesNamed w (changed_on w s n c t u at o)
+  changed_on_named : (s : State) (n : ℕ) (c : CpuId) (t : ℕ) (u : ThreadId) (at : Option Put) (o : Option Op) → u.0 < length w.threads → IsPlaceThere w (thread_of s u.0).place → DutiesNamed w s → DutiesNamed w (changed_on w s n c t u at o)
   changed_on_named s n c t u at (Some (op.Prio v r)) inside there h = changed_by_named s n c u at (answer_to w s t u.0 r) inside there h
   changed_on_named s n c t u at _ inside there h = h
 
-  reprioritised_named : (s : State) (n : ℕ) (c : CpuId) (t : ℕ) (u : ThreadId) (answer : PrioAnswer) → u.0 < length w.threads → IsThere w (thread_of s u.0).place → DutiesNamed w s → DutiesNamed w (reprioritised w s n c t u answer)
+  reprioritised_named : (s : State) (n : ℕ) (c : CpuId) (t : ℕ) (u : ThreadId) (answer : PrioAnswer) → u.0 < length w.threads → IsPlaceThere w (thread_of s u.0).place → DutiesNamed w s → DutiesNamed w (reprioritised w s n c t u answer)
   unfolding reprioritised
   reprioritised_named s n c t u (Changed p at) inside there h =
       named_kept (changed_on w s n c t u at (op_of w t (thread_of s t).body)) _ (C.finish_op_kept duty_part duty_marks w _ t) (changed_on_named s n c t u at (op_of w t (thread_of s t).body) inside there h)
@@ -273,9 +273,9 @@ module _ (w : Work) where
   abbrev Needs : (ℕ → Place) → Event → Type 0
   Needs places (Wakeall t k) = k.0 < length w.chans
   Needs places (Block t l) = (l.0 < length w.locks) × (t.0 < length w.threads)
-  Needs places (Will l o p at) = (o.0 < length w.threads) × IsThere w (places o.0)
+  Needs places (Will l o p at) = (o.0 < length w.threads) × IsPlaceThere w (places o.0)
   Needs places (Age t p) = t.0 < length w.threads
-  Needs places (Prio t u answer) = (u.0 < length w.threads) × IsThere w (places u.0)
+  Needs places (Prio t u answer) = (u.0 < length w.threads) × IsPlaceThere w (places u.0)
   Needs places _ = ⊤
 
   effect_named : (s : State) (n : ℕ) (c : CpuId) (e : Event) → c.0 < length s.cpus → Needs (λ t. (thread_of s t).place) e → DutiesNamed w s → DutiesNamed w (effect w s n c e)

@@ -40,7 +40,7 @@ use Rattle.sd_state.specs.declared.states.CpuState.{CpuState}
 use Rattle.sd_state.specs.declared.states.ThreadState.{ThreadState}
 use Rattle.sd_state.specs.declared.states.State.{State}
 use Rattle.sd_state.specs.States.{no_thread, thread_of, cpu_of, with_thread, with_cpu, eff_of}
-use Rattle.sd_state.specs.Opening.{turn_of, is_urgent, first_cpu, first_thread, first_threads, opening}
+use Rattle.sd_state.specs.Opening.{dealt_before, is_urgent, first_cpu, first_thread, first_threads, opening}
 use Rattle.sd_state.specs.Operations.{script_of, op_of, op_over, ran}
 use Rattle.sd_machine.specs.Threads.{thread_id, lock_of, with_lock, runner, best_sleeper}
 use Rattle.sd_machine.specs.Bodies.{aged_class, departed, arrived}
@@ -403,7 +403,7 @@ after_there w s n c e here h = effect_there w (drop_ageing s c.0 e) n c e here (
 
 first_last : (w : Work) (t : ℕ) (d : ThreadDecl) → d.set.0 ≤ length w.sets → (first_thread w t d).body.last.0 < w.cpus
 unfolding first_thread first_cpu
-first_last w t d there = first_cpu_there w d (if is_urgent d then 0 else turn_of w d.set.0 t) there
+first_last w t d there = first_cpu_there w d (if is_urgent d then 0 else dealt_before w d.set.0 t) there
 
 all_last : (w : Work) (k : ℕ) (ds : List ThreadDecl) → list_all (thread_fits (declared w)) ds ≡ true → (t : ℕ) → (get_or (first_threads w k ds) t no_thread).body.last.0 < w.cpus
 all_last w k [] fits t = let some = w.some_cpu in omega (arith, some)

@@ -26,7 +26,7 @@ use Rattle.sd_types.specs.declared.events.Duty.TheVariants as duty
 use Rattle.sd_types.specs.declared.bodies.ThreadBody.{ThreadBody}
 use Rattle.sd_types.specs.Priorities.{eff, base_of}
 use Rattle.sd_types.specs.Scripts.{is_held, without_lock}
-use Rattle.sd_types.specs.Willed.{changed_number, without_number, with_number, IsSound}
+use Rattle.sd_types.specs.Willed.{changed_number, without_number, with_number, InheritsSoundly}
 use Rattle.sd_types.proofs.PriorityLemmas.{greatest-below}
 use Rattle.sd_types.proofs.WilledLemmas.{sound-with, sound-without, sound-taken, sound-released, sound_is}
 use Rattle.sd_state.specs.declared.states.ThreadState.{ThreadState}
@@ -90,7 +90,7 @@ after_numbers w s n c e here = plain_same numbers_part numbers_moves numbers_ops
 
 -- each thread's inherited priorities are sound, and its base priority is below 160
 pub record IsFine (x : ThreadState) : Type 0 where
-  pub sound : IsSound x.body
+  pub sound : InheritsSoundly x.body
   pub base : IsBelow x.body.class
 
 abbrev pub AreFine : State → Type 0
@@ -121,44 +121,44 @@ others_below s l u n fine e =
     waiting_below l.0 (set s.threads u (record (thread_of s u) { place = Ended }))
     (λ k. subst (λ (b : ThreadBody). eff b < 160) (sym (same_item (λ (x : ThreadState). x.body) s.threads no_thread u (record (thread_of s u) { place = Ended }) refl k)) (fine_eff (thread_of s k) (fine k))) n e
 
-changed_sound : (b : ThreadBody) (l : LockId) (o : Option ℕ) → IsSound b → is_held l b.held.items ≡ true → ((n : ℕ) → o ≡ Some n → n < 160) → IsSound (record b { willed = record { items = changed_number l o b.willed.items } })
+changed_sound : (b : ThreadBody) (l : LockId) (o : Option ℕ) → InheritsSoundly b → is_held l b.held.items ≡ true → ((n : ℕ) → o ≡ Some n → n < 160) → InheritsSoundly (record b { willed = record { items = changed_number l o b.willed.items } })
 changed_sound b l None sound held below = sound-without b l (without_number l b.willed.items) sound refl
 changed_sound b l (Some n) sound held below = sound-with b l n (with_number l n b.willed.items) sound held (below n refl) refl
 
 module _ (w : Work) (s : State) (n : ℕ) (c : CpuId) (ready : IsReady w s) (fine : AreFine s) where
-  quiet_sound : (r : State) → Same numbers_part s r → Same held_part s r → (u : ℕ) → IsSound (thread_of r u).body
+  quiet_sound : (r : State) → Same numbers_part s r → Same held_part s r → (u : ℕ) → InheritsSoundly (thread_of r u).body
   quiet_sound r numbers held u = sound_is (thread_of s u).body (thread_of r u).body (numbers.each u) (held.each u) (fine u).sound
 
-  taken_sound : (r : State) (t : ℕ) (l : LockId) → Same numbers_part s r → Goes held_part s r t ((thread_of s t).body.held.items ++ l ∷ []) → is_held l (thread_of s t).body.held.items ≡ false → (u : ℕ) → IsSound (thread_of r u).body
+  taken_sound : (r : State) (t : ℕ) (l : LockId) → Same numbers_part s r → Goes held_part s r t ((thread_of s t).body.held.items ++ l ∷ []) → is_held l (thread_of s t).body.held.items ≡ false → (u : ℕ) → InheritsSoundly (thread_of r u).body
   taken_sound r t l numbers held not_there u = elim (put_cases t _ _ _ held.put u) [
-    | inl me ↦ subst (λ v. IsSound (thread_of r v).body) (sym me.0)
+    | inl me ↦ subst (λ v. InheritsSoundly (thread_of r v).body) (sym me.0)
         (sound_is (record (thread_of s t).body { held = record { items = (thread_of s t).body.held.items ++ l ∷ [] } }) (thread_of r t).body (numbers.each t) held.put.at
         (sound-taken (thread_of s t).body l ((thread_of s t).body.held.items ++ l ∷ []) (fine t).sound not_there refl))
     | inr other ↦ sound_is (thread_of s u).body (thread_of r u).body (numbers.each u) other.1 (fine u).sound
   ]
 
-  given_sound : (r : State) (t : ℕ) (l : LockId) → Goes numbers_part s r t (without_number l (thread_of s t).body.willed.items) → Goes held_part s r t (without_lock l (thread_of s t).body.held.items) → (u : ℕ) → IsSound (thread_of r u).body
+  given_sound : (r : State) (t : ℕ) (l : LockId) → Goes numbers_part s r t (without_number l (thread_of s t).body.willed.items) → Goes held_part s r t (without_lock l (thread_of s t).body.held.items) → (u : ℕ) → InheritsSoundly (thread_of r u).body
   given_sound r t l numbers held u = elim (put_cases t _ _ _ held.put u) [
-    | inl me ↦ subst (λ v. IsSound (thread_of r v).body) (sym me.0)
+    | inl me ↦ subst (λ v. InheritsSoundly (thread_of r v).body) (sym me.0)
         (sound_is (record (thread_of s t).body { willed = record { items = without_number l (thread_of s t).body.willed.items }; held = record { items = without_lock l (thread_of s t).body.held.items } }) (thread_of r t).body numbers.put.at held.put.at
         (sound-released (thread_of s t).body l (without_number l (thread_of s t).body.willed.items) (without_lock l (thread_of s t).body.held.items) (fine t).sound refl refl))
     | inr other ↦ sound_is (thread_of s u).body (thread_of r u).body (numbers.put.others u other.0) other.1 (fine u).sound
   ]
 
-  willed_sound : (r : State) (o : ℕ) (l : LockId) → Goes numbers_part s r o (changed_number l (greatest_waiting l.0 s.threads) (thread_of s o).body.willed.items) → Same held_part s r → is_held l (thread_of s o).body.held.items ≡ true → (u : ℕ) → IsSound (thread_of r u).body
+  willed_sound : (r : State) (o : ℕ) (l : LockId) → Goes numbers_part s r o (changed_number l (greatest_waiting l.0 s.threads) (thread_of s o).body.willed.items) → Same held_part s r → is_held l (thread_of s o).body.held.items ≡ true → (u : ℕ) → InheritsSoundly (thread_of r u).body
   willed_sound r o l numbers held holds u = elim (put_cases o _ _ _ numbers.put u) [
-    | inl me ↦ subst (λ v. IsSound (thread_of r v).body) (sym me.0)
+    | inl me ↦ subst (λ v. InheritsSoundly (thread_of r v).body) (sym me.0)
         (sound_is (record (thread_of s o).body { willed = record { items = changed_number l (greatest_waiting l.0 s.threads) (thread_of s o).body.willed.items } }) (thread_of r o).body numbers.put.at (held.each o)
         (changed_sound (thread_of s o).body l (greatest_waiting l.0 s.threads) (fine o).sound holds (λ m e. waiting_below l.0 s.threads (λ k. fine_eff (thread_of s k) (fine k)) m e)))
     | inr other ↦ sound_is (thread_of s u).body (thread_of r u).body other.1 (held.each u) (fine u).sound
   ]
 
   granted_sound : (r : State) (t : ℕ) (l : LockId) → Goes numbers_part s r t (changed_number l (others_waiting s l t) (thread_of s t).body.willed.items) → Goes held_part s r t ((thread_of s t).body.held.items ++ l ∷ [])
-      → is_held l (thread_of s t).body.held.items ≡ false → (u : ℕ) → IsSound (thread_of r u).body
+      → is_held l (thread_of s t).body.held.items ≡ false → (u : ℕ) → InheritsSoundly (thread_of r u).body
   granted_sound r t l numbers held not_there u = elim (put_cases t _ _ _ held.put u) [
     | inl me ↦
         let took : ThreadBody = record (thread_of s t).body { held = record { items = (thread_of s t).body.held.items ++ l ∷ [] } } in
-        subst (λ v. IsSound (thread_of r v).body) (sym me.0)
+        subst (λ v. InheritsSoundly (thread_of r v).body) (sym me.0)
         (sound_is (record took { willed = record { items = changed_number l (others_waiting s l t) took.willed.items } }) (thread_of r t).body numbers.put.at held.put.at
         (changed_sound took l (others_waiting s l t) (sound-taken (thread_of s t).body l ((thread_of s t).body.held.items ++ l ∷ []) (fine t).sound not_there refl) (held_last l (thread_of s t).body.held.items) (λ m e. others_below s l t m fine e)))
     | inr other ↦ sound_is (thread_of s u).body (thread_of r u).body (numbers.put.others u other.0) other.1 (fine u).sound
@@ -178,7 +178,7 @@ module _ (w : Work) (s : State) (n : ℕ) (c : CpuId) (ready : IsReady w s) (fin
       let (k, is) = waits_here l side (thread_of s u).place found.stands in
       waiter_not_held w s n c ready u l side k found.inside is
 
-  sound_after : (e : Event) → IsCause w s c.0 e → NumbersGo s (after w s n c e) e → HeldGo s (after w s n c e) e → (u : ℕ) → IsSound (thread_of (after w s n c e) u).body
+  sound_after : (e : Event) → IsCause w s c.0 e → NumbersGo s (after w s n c e) e → HeldGo s (after w s n c e) e → (u : ℕ) → InheritsSoundly (thread_of (after w s n c e) u).body
   sound_after (Enter t l) cause numbers held u = taken_sound (after w s n c (Enter t l)) t.0 l numbers held (not_held w s n c ready t.0 (op.Enter l) l Writer cause.0 refl) u
   sound_after (Read t l) cause numbers held u = taken_sound (after w s n c (Read t l)) t.0 l numbers held (not_held w s n c ready t.0 (op.Read l) l Reader cause.0 refl) u
   sound_after (Write t l) cause numbers held u = taken_sound (after w s n c (Write t l)) t.0 l numbers held (not_held w s n c ready t.0 (op.Write l) l Writer cause.0 refl) u
@@ -191,5 +191,5 @@ module _ (w : Work) (s : State) (n : ℕ) (c : CpuId) (ready : IsReady w s) (fin
   sound_after (Grant l v at) (inr cause) (inr numbers) held u = granted_sound (after w s n c (Grant l v at)) v.0 l numbers held (not_held_yet l Reader v.0 cause.1) u
   sound_after e cause numbers held u = quiet_sound (after w s n c e) numbers held u
 
-  pub after_sound : (e : Event) → IsCause w s c.0 e → (u : ℕ) → IsSound (thread_of (after w s n c e) u).body
+  pub after_sound : (e : Event) → IsCause w s c.0 e → (u : ℕ) → InheritsSoundly (thread_of (after w s n c e) u).body
   after_sound e cause u = sound_after e cause (after_numbers w s n c e (holder_there e cause)) (after_held w s n c e (ender_in w s c.0 e cause)) u

@@ -27,12 +27,12 @@ use Rattle.sd_types.specs.Priorities.{eff, eff_as}
 use Rattle.sd_types.specs.Works.{op_names, class_fits, thread_fits}
 use Rattle.sd_rules.proofs.PartitionLemmas.{some_cpu, in_no_other, names-from_Contains}
 use Rattle.sd_machine.proofs.Moves.{put_cases}
-use Rattle.sd_state.specs.Invariants.{IsThere}
+use Rattle.sd_state.specs.Invariants.{IsPlaceThere}
 use Rattle.sd_state.specs.declared.states.Place.{Place}
 use Rattle.sd_state.specs.declared.states.Place.TheVariants.{Running, Queued, RealTime}
 use Rattle.sd_state.specs.declared.states.State.{State}
 use Rattle.sd_state.specs.States.{no_thread, thread_of, set_of, eff_of}
-use Rattle.sd_state.specs.Opening.{dealt_cpu, turn_of, is_urgent, first_cpu, first_thread, first_threads, opening}
+use Rattle.sd_state.specs.Opening.{dealt_cpu, dealt_before, is_urgent, first_cpu, first_thread, first_threads, opening}
 use Rattle.sd_machine.specs.declared.plans.Requeue.TheVariants.{Stays, Behind, Anew}
 use Rattle.sd_machine.specs.Threads.{open_of}
 use Rattle.sd_machine.specs.Bodies.{aged_class}
@@ -56,7 +56,7 @@ use Rattle.sd_invariants.proofs.Sets.{sets_are_open}
 use Rattle.sd_invariants.proofs.Bindings.{BoundsAreThere, bounds_are_there}
 
 abbrev pub PlacesAreThere : Work → State → Type 0
-PlacesAreThere w s = (t : ℕ) → IsThere w (thread_of s t).place
+PlacesAreThere w s = (t : ℕ) → IsPlaceThere w (thread_of s t).place
 
 -- where there is a put, its processor is there
 abbrev pub IsPutInside : Work → Option Put → Type 0
@@ -66,9 +66,9 @@ IsPutInside w at = IfSome at (λ p. (cpu_put p).0 < w.cpus)
 
 abbrev StepThere : Work → Step → Type 0
 StepThere w Stay = ⊤
-StepThere w (Go t place) = IsThere w place
+StepThere w (Go t place) = IsPlaceThere w place
 
-place_put_there : (w : Work) (n t : ℕ) (at : Put) → (cpu_put at).0 < w.cpus → IsThere w (place_put w n t at)
+place_put_there : (w : Work) (n t : ℕ) (at : Put) → (cpu_put at).0 < w.cpus → IsPlaceThere w (place_put w n t at)
 place_put_there w n t (Cpu x) there = there
 place_put_there w n t (OnRealTime x) there = set_of_there w t
 
@@ -76,8 +76,8 @@ put_if_there : (w : Work) (n t : ℕ) (at : Option Put) → IsPutInside w at →
 put_if_there w n t None there = tt
 put_if_there w n t (Some at) there = place_put_there w n t at there
 
-queue_there : (w : Work) (t : ℕ) (c : CpuId) (key : ℤ) (b : ThreadBody) → c.0 < w.cpus → IsThere w (queue_place w t c key b)
-queue_there w t c key b here = elim (nat_le 100 (eff b) && is_none b.bound) as (λ v. IsThere w (if v then RealTime (set_of w t) key else Queued c key)) [ true ↦ set_of_there w t | false ↦ here ]
+queue_there : (w : Work) (t : ℕ) (c : CpuId) (key : ℤ) (b : ThreadBody) → c.0 < w.cpus → IsPlaceThere w (queue_place w t c key b)
+queue_there w t c key b here = elim (nat_le 100 (eff b) && is_none b.bound) as (λ v. IsPlaceThere w (if v then RealTime (set_of w t) key else Queued c key)) [ true ↦ set_of_there w t | false ↦ here ]
 
 woken_there : (w : Work) (n : ℕ) (u : Option (ThreadId × Put)) → IfSome u (λ x. (cpu_put x.1).0 < w.cpus) → StepThere w (woken_step w n u)
 woken_there w n None there = tt
@@ -102,7 +102,7 @@ pub never_stays : (a : Bool) (d : CpuId) → (if a then Stays else Stays) ≡ Be
 never_stays true d e = cc
 never_stays false d e = cc
 
-behind_there : (w : Work) (place : Place) (old new : ℕ) (bound : Option CpuId) (d : CpuId) → IsThere w place → requeue place old new bound ≡ Behind d → d.0 < w.cpus
+behind_there : (w : Work) (place : Place) (old new : ℕ) (bound : Option CpuId) (d : CpuId) → IsPlaceThere w place → requeue place old new bound ≡ Behind d → d.0 < w.cpus
 behind_there w (Queued c k) old new bound d there e = subst (λ (x : CpuId). x.0 < w.cpus) (same_queue (old == new) (nat_lt new 100 || is_bound_to c bound) c d e) there
 behind_there w (RealTime q k) old new bound d there e = absurd (never_anew (old == new) d e)
 behind_there w place old new bound d there e = absurd (never_stays (old == new) d e)
@@ -239,10 +239,10 @@ module _ (w : Work) (s : State) (is : IsInside w s) where
     step_there e cause = tt
 
 stepped_there : (w : Work) (s r : State) (step : Step) → Stepped step s r → StepThere w step → PlacesAreThere w s → PlacesAreThere w r
-stepped_there w s r Stay same there places t = subst (λ p. IsThere w p) (sym (same t)) (places t)
+stepped_there w s r Stay same there places t = subst (λ p. IsPlaceThere w p) (sym (same t)) (places t)
 stepped_there w s r (Go u place) put there places t = elim (put_cases u place _ _ put t) [
-  | inl me ↦ subst (λ p. IsThere w p) (sym me.1) there
-  | inr other ↦ subst (λ p. IsThere w p) (sym other.1) (places t)
+  | inl me ↦ subst (λ p. IsPlaceThere w p) (sym me.1) there
+  | inr other ↦ subst (λ p. IsPlaceThere w p) (sym other.1) (places t)
 ]
 
 -- The initial state.
@@ -256,20 +256,20 @@ first_cpu_there w d k there =
     let one = get_or cpus (k % length cpus) none in
     (in_no_other w one d.set.0 (k % length cpus, inside, get_or_default cpus (k % length cpus) one none inside)).0
 
-first_there : (w : Work) (t : ℕ) (d : ThreadDecl) → d.set.0 ≤ length w.sets → IsThere w (first_thread w t d).place
+first_there : (w : Work) (t : ℕ) (d : ThreadDecl) → d.set.0 ≤ length w.sets → IsPlaceThere w (first_thread w t d).place
 unfolding first_thread first_cpu
 first_there w t d there = by (is_urgent d)
   where
-    by : (v : Bool) → IsThere w (if v then RealTime d.set (pos t) else Queued (dealt_cpu (cpus_of_set w d.set.0) (if v then 0 else turn_of w d.set.0 t)) (pos t))
+    by : (v : Bool) → IsPlaceThere w (if v then RealTime d.set (pos t) else Queued (dealt_cpu (cpus_of_set w d.set.0) (if v then 0 else dealt_before w d.set.0 t)) (pos t))
     by true = there
-    by false = first_cpu_there w d (turn_of w d.set.0 t) there
+    by false = first_cpu_there w d (dealt_before w d.set.0 t) there
 
 pub decl_set : (w : Work) (d : ThreadDecl) → thread_fits (declared w) d ≡ true → d.set.0 ≤ length w.sets
 decl_set w d fits =
     let test : nat_le d.set.0 (length w.sets) ≡ true = and_right (class_fits d.class d.cpupri) _ (and_left _ (list_all (op_names (declared w)) d.script.ops) fits) in
     grind (arith, nat_tests)
 
-all_there : (w : Work) (k : ℕ) (ds : List ThreadDecl) → list_all (thread_fits (declared w)) ds ≡ true → (t : ℕ) → IsThere w (get_or (first_threads w k ds) t no_thread).place
+all_there : (w : Work) (k : ℕ) (ds : List ThreadDecl) → list_all (thread_fits (declared w)) ds ≡ true → (t : ℕ) → IsPlaceThere w (get_or (first_threads w k ds) t no_thread).place
 all_there w k [] fits t = tt
 all_there w k (d ∷ ds) fits zero = first_there w k d (decl_set w d (and_left (thread_fits (declared w) d) (list_all (thread_fits (declared w)) ds) fits))
 all_there w k (d ∷ ds) fits (suc t) = all_there w (k + 1) ds (and_right (thread_fits (declared w) d) _ fits) t

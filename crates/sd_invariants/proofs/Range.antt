@@ -26,7 +26,7 @@ use Rattle.sd_types.specs.declared.works.Work.{Work}
 use Rattle.sd_rules.proofs.PartitionLemmas.{names-from_Contains}
 use Rattle.sd_machine.specs.Holders as H
 use Rattle.sd_machine.proofs.HolderLemmas.{count_one}
-use Rattle.sd_state.specs.Invariants.{IsThere}
+use Rattle.sd_state.specs.Invariants.{IsPlaceThere}
 use Rattle.sd_state.specs.declared.states.Place.{Place}
 use Rattle.sd_state.specs.declared.states.Place.TheVariants.{Running, Queued, RealTime, Waiting, Asleep, Napping, Ended}
 use Rattle.sd_state.specs.declared.states.State.{State}
@@ -131,7 +131,7 @@ module _ (w : Work) (s : State) (whole : IsWhole w s) (is : IsInside w s) (sets 
       lock_inside s p.lock (not_free_passing (lock_of s p.lock) c its.0 its.1)
 
   runs_there : (t : ThreadId) → RunsThere s t
-  runs_there t d e = cpu d (subst (λ p. IsThere w p) e (is.places t.0))
+  runs_there t d e = cpu d (subst (λ p. IsPlaceThere w p) e (is.places t.0))
 
   counts_one : (u : ℕ) (o : Option CpuId) → (thread_of s u).body.bound ≡ o → u < length s.threads → IsBoundThere w o → IfSome o (λ b. (b.0 < length s.cpus) × (1 ≤ (cpu_of s b.0).bound))
   counts_one u None e inside there = tt

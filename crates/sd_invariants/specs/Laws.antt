@@ -11,7 +11,7 @@ use Rattle.sd_types.specs.declared.events.Event.TheVariants.{Napend, Wake, Rouse
 use Rattle.sd_types.specs.declared.events.Hints.{Hints}
 use Rattle.sd_types.specs.declared.works.Work.{Work}
 use Rattle.sd_types.specs.Priorities.{eff}
-use Rattle.sd_types.specs.Willed.{IsSound}
+use Rattle.sd_types.specs.Willed.{InheritsSoundly}
 use Rattle.sd_state.specs.declared.states.LockState.TheVariants.{Owned}
 use Rattle.sd_state.specs.declared.states.Place.{Place}
 use Rattle.sd_state.specs.declared.states.Place.TheVariants.{Queued, RealTime}
@@ -61,7 +61,7 @@ WokenAreRunnable =
 
 -- each thread inherits priorities below 160, one for each of some locks that it holds, and its own is below 160
 abbrev pub AreSound : State → Type 0
-AreSound s = (t : ℕ) → IsSound (thread_of s t).body × (eff (thread_of s t).body < 160)
+AreSound s = (t : ℕ) → InheritsSoundly (thread_of s t).body × (eff (thread_of s t).body < 160)
 
 -- the processor is in the list
 abbrev pub is_in : ℕ → List CpuId → Bool

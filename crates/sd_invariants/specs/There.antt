@@ -19,7 +19,7 @@ use Rattle.sd_machine.specs.Threads.{lock_of, open_of}
 use Rattle.sd_machine.specs.Choosing.{cpus_for}
 use Rattle.sd_machine.specs.Requeueing.{is_bound_to}
 use Rattle.sd_machine.specs.Holders.{counted}
-use Rattle.sd_state.specs.Invariants.{IsThere}
+use Rattle.sd_state.specs.Invariants.{IsPlaceThere}
 
 -- a set is the default partition, of number 0, or one of the declared sets
 abbrev pub IsSetThere : Work → SetId → Type 0
@@ -45,7 +45,7 @@ abbrev pub IsBoundThere : Work → Option CpuId → Type 0
 IsBoundThere w bound = IfSome bound (λ d. d.0 < w.cpus)
 
 pub record IsThreadThere (w : Work) (x : ThreadState) : Type 0 where
-  pub place : IsThere w x.place
+  pub place : IsPlaceThere w x.place
   pub last : x.body.last.0 < w.cpus
   pub bound : IsBoundThere w x.body.bound
   pub held : (l : LockId) → is_held l x.body.held.items ≡ true → l.0 < length w.locks

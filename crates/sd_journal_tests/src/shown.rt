@@ -61,7 +61,7 @@ fn a_thread_runs_for_a_tick(rt: HostRuntime) -> Result<(), Fail> {
             &entry(2, Event::Done { t }),
         )?;
     }
-    let own = stretches(alloc, &history.turns, 0, history.entries, 5)?;
+    let own = stretches(alloc, &history.onsets, 0, history.entries, 5)?;
     let rows: [(u64, u64, u32, u32); 3] = [(0, 0, 0, 0), (1, 2, 0, 1), (3, 3, 1, 5)];
     assert!(rt; own.len() == 3);
     for (x, row) in own.iter().zip(&rows) {

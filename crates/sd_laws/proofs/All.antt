@@ -17,7 +17,7 @@ use Rattle.sd_state.specs.States.{no_thread, thread_of, is_running, set_of, eff_
 use Rattle.sd_state.specs.Opening.{opening}
 use Rattle.sd_machine.specs.Events.{after}
 use Rattle.sd_machine.specs.Runs.{IsReached}
-use Rattle.sd_state.specs.Invariants.{OneRuns, IsThere, IsInItsSet, SuitsQueue}
+use Rattle.sd_state.specs.Invariants.{OneRuns, IsPlaceThere, IsInItsSet, SuitsQueue}
 use Rattle.sd_state.proofs.OpeningQueues.{opening_suits}
 use Rattle.sd_state.proofs.OpeningSets.{opening_well}
 use Rattle.sd_frames.specs.Causes.{IsCause}
@@ -60,7 +60,7 @@ known w n s reached homes = record {
 -- the processor on which a thread runs is there
 pub runs_there : (w : Work) (n : ℕ) (s : State) → IsReached w n s → (u : ℕ) (x : CpuId) → (thread_of s u).place ≡ Running x → x.0 < length s.cpus
 runs_there w n s reached u x is =
-    let there : x.0 < w.cpus = subst (λ p. IsThere w p) is (threads_law w n s reached u).place in
+    let there : x.0 < w.cpus = subst (λ p. IsPlaceThere w p) is (threads_law w n s reached u).place in
     let many = (reached_whole w n s reached).ready.fits.cpus in
     omega (arith, there, many)
 

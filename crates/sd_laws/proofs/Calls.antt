@@ -13,7 +13,7 @@ use Rattle.sd_types.specs.Willed.{Numbers}
 use Rattle.sd_rules.specs.ClassRules.{class_expires, class_requeue, ts_tick, fx_tick, rt_tick}
 use Rattle.sd_state.specs.declared.states.State.{State}
 use Rattle.sd_state.specs.States.{no_cpu, thread_of, cpu_of, is_running, is_queued, is_real_time, is_ready, eff_of}
-use Rattle.sd_state.specs.Best.{best_ready as best_of}
+use Rattle.sd_state.specs.Best.{best_ready_among as best_of}
 use Rattle.sd_machine.specs.Threads.{runner, best_ready, priority_of}
 use Rattle.sd_machine.specs.Bodies.{ticked_class}
 use Rattle.sd_machine.specs.Changes.{send_back, marked, set_mark, rivals, priority_or_zero, remark}

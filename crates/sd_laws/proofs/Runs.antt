@@ -53,7 +53,7 @@ use Rattle.sd_laws.proofs.WalkMoves.IsChanged.{waits_on, unseen}
 abbrev pub Steps : ℕ → State → State → Type 0
 Steps n s r = IsGraphStep (graph s) (graph r) (back_key n) (back_key (n + 1))
 
-module _ (w : Work) (s : State) (n : ℕ) (c : CpuId) (ready : IsReady w s) (here : c.0 < length s.cpus) (sound : G.IsSound (back_key n) (graph s)) where
+module _ (w : Work) (s : State) (n : ℕ) (c : CpuId) (ready : IsReady w s) (here : c.0 < length s.cpus) (sound : G.IsSoundGraph (back_key n) (graph s)) where
   more : back_key n <ℤ back_key (n + 1)
   more = omega (arith, ints)
 
@@ -92,7 +92,7 @@ module _ (w : Work) (s : State) (n : ℕ) (c : CpuId) (ready : IsReady w s) (her
 -- what is carried from state to state: what is known of it, and what holds of its lock graph
 pub record IsChained (w : Work) (n : ℕ) (s : State) : Type 0 where
   pub ready : IsReady w s
-  pub sound : G.IsSound (back_key n) (graph s)
+  pub sound : G.IsSoundGraph (back_key n) (graph s)
 
 -- what an entry of a run does to the lock graph
 entry_step : (w : Work) (s : State) (n : ℕ) (c : CpuId) (h : Option Hints) (e : Event) → IsChained w n s → next w s c h ≡ Some e → Steps n s (after w s n c e)

@@ -35,7 +35,7 @@ use Rattle.sd_machine.specs.Conditions.{cv_waited}
 use Rattle.sd_machine.specs.SetChanges.{cleared, assigned, joined, rebound, pbound}
 use Rattle.sd_machine.specs.LockGraph.{walk_of}
 use Rattle.sd_machine.specs.Events.{keeps_ageing, dropped_duty, drop_ageing, effect, after}
-use Rattle.sd_frames.specs.Causes.{IsFree, IsCause}
+use Rattle.sd_frames.specs.Causes.{GivesWay, IsCause}
 use Rattle.sd_frames.proofs.CpuWords as C
 use Rattle.sd_frames.proofs.LockTable as T
 use Rattle.sd_frames.proofs.LockTable.{duty_part}
@@ -61,7 +61,7 @@ duty_walks s c d none free = C.written walk_part s c _ (none ∙ sym free)
 then_duty : (s r : State) (c : ℕ) (d : Duty) → Walks s r → walk_of d ≡ None → walk_of (cpu_of s c).duty ≡ None → Walks s (set_duty r c d)
 then_duty s r c d a none free = C.then_kept walk_part s r _ a (duty_walks r c d none (a.each c ∙ free))
 
-pub free_walks : (d : Duty) → IsFree d → walk_of d ≡ None
+pub free_walks : (d : Duty) → GivesWay d → walk_of d ≡ None
 free_walks duty.Nothing f = refl
 free_walks (duty.Age u) f = refl
 free_walks d f = absurd f

@@ -12,7 +12,7 @@ use Rattle.sd_types.specs.declared.events.Event.TheVariants as event
 use Rattle.sd_types.specs.declared.events.Hints.{Hints}
 use Rattle.sd_types.specs.declared.events.Put.{Put}
 use Rattle.sd_types.specs.declared.works.Work.{Work}
-use Rattle.sd_machine.specs.Graphs.{InCycle, IsLocal, IsSound, IsChainMax, IsCalm}
+use Rattle.sd_machine.specs.Graphs.{InCycle, IsLocal, IsSoundGraph, IsChainMax, IsCalm}
 use Rattle.sd_machine.specs.Cycles.{IsCycle}
 use Rattle.sd_state.specs.declared.states.LockState.TheVariants.{Owned}
 use Rattle.sd_state.specs.declared.states.Place.TheVariants.{Waiting}
@@ -34,7 +34,7 @@ InheritanceIsLocal s = IsLocal (graph s)
 -- the thread that it seeks, which still waits with the walk's key; a looped thread is in a blocking cycle; the key of each
 -- waiter and of each walk is less than 4096 + n
 abbrev pub WalksLeadOn : ℕ → State → Type 0
-WalksLeadOn n s = IsSound (back_key n) (graph s)
+WalksLeadOn n s = IsSoundGraph (back_key n) (graph s)
 
 -- the effective priority of a thread that is in no blocking cycle is the maximum of the base priorities of itself and of all
 -- threads blocked behind it, where no walk stands at a lock that it or one of them owns

@@ -5,7 +5,7 @@ use Rattle.std.specs.Prelude.{IsTrue}
 use Rattle.sd_types.specs.declared.numbers.LockId.{LockId}
 use Rattle.sd_types.specs.declared.works.Work.{Work}
 use Rattle.sd_types.specs.Scripts.{is_held}
-use Rattle.sd_types.specs.Willed.{IsSound, with_lock as with_held}
+use Rattle.sd_types.specs.Willed.{InheritsSoundly, with_lock as with_held}
 use Rattle.sd_types.proofs.WilledLemmas.{sound-taken, sound_is}
 use Rattle.sd_state.specs.declared.states.State.{State}
 use Rattle.sd_state.specs.declared.states.ThreadState.{ThreadState}
@@ -45,8 +45,8 @@ taken_locks w s l u here =
     let second = thread_set once u (record (thread_of once u) { body = op_over (script_of w u) (thread_of once u).body }) (omega (arith, many, here)) in
     ap (λ (x : ThreadState). x.body.held.items) second ∙ ap (λ (x : ThreadState). x.body.held.items) first
 
-pub taken_sound : (w : Work) (s : State) (l : LockId) (u : ℕ) → u < length s.threads → IsSound (thread_of s u).body → is_held l (thread_of s u).body.held.items ≡ false
-    → IsSound (thread_of (finish_op w (hold s u l) u) u).body
+pub taken_sound : (w : Work) (s : State) (l : LockId) (u : ℕ) → u < length s.threads → InheritsSoundly (thread_of s u).body → is_held l (thread_of s u).body.held.items ≡ false
+    → InheritsSoundly (thread_of (finish_op w (hold s u l) u) u).body
 taken_sound w s l u here sound apart =
     sound_is (with_held l (thread_of s u).body) _ (taken_willed w s l u here) (taken_locks w s l u here) (sound-taken (thread_of s u).body l _ sound apart refl)
 

@@ -63,6 +63,6 @@ IsLongest w t Never = (fs : List Entry) (n : ℕ) → IsFreshRun w fs → IsWait
 IsLongest w t More = ⊤
 
 -- nothing is said only where not all was searched
-abbrev pub IsOpen : Graph → Longest → Type 0
-IsOpen g More = g.done < length (packed g)
-IsOpen g _ = ⊤
+abbrev pub IsOpenLongest : Graph → Longest → Type 0
+IsOpenLongest g More = g.done < length (packed g)
+IsOpenLongest g _ = ⊤

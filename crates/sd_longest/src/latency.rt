@@ -2,7 +2,7 @@
 
 ghost use Rattle.std.specs.Prelude.{◌≡◌, ◌++◌, ◌≤◌, length, IfOk, OnOk};
 ghost use Rattle.sd_longest.specs.Tables.{AreRows};
-ghost use Rattle.sd_longest.specs.Waits.{IsLongest, IsLongWait, IsOpen};
+ghost use Rattle.sd_longest.specs.Waits.{IsLongest, IsLongWait, IsOpenLongest};
 ghost use Rattle.sd_search.specs.Graphs.{Gathers, packed};
 ghost use Rattle.sd_longest.specs.Edges.{IsFound, rows_of};
 
@@ -63,7 +63,7 @@ pub fn longest_wait(
 ) -> Result<Longest, AllocError>
     requires gathered { Gathers work.now graph.now }
     ensures longest { IfOk result (IsLongest work.now thread) }
-    ensures open { IfOk result (IsOpen graph.now) }
+    ensures open { IfOk result (IsOpenLongest graph.now) }
 {
     if !graph.is_closed() {
         return Ok(Longest::More);

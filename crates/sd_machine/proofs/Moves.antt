@@ -3,7 +3,7 @@ use Rattle.std.proofs.Common.{◌≡◌, ◌≢◌, ℕ, Option, Some, None, ℤ
 use Rattle.std.proofs.lemmas.Bool.{cases_eq}
 use Rattle.std.proofs.lemmas.Int.{ints}
 use Rattle.std.specs.Prelude.{◌<ℤ◌}
-use Rattle.sd_machine.specs.Graphs.{Wait, Walk, Graph, IsOn, Stands, IsExact, IsLocal, Follows, IsSound}
+use Rattle.sd_machine.specs.Graphs.{Wait, Walk, Graph, IsOn, Stands, IsExact, IsLocal, Follows, IsSoundGraph}
 use Rattle.sd_machine.specs.Graphs.Reaches.{here}
 use Rattle.sd_machine.proofs.Steps.{IsFine, IsStep}
 use Rattle.sd_machine.proofs.Steps.IsFine.{same, fresh, walked}
@@ -137,7 +137,7 @@ module _ (g h : Graph) where
     pub looped : IsSame g.looped h.looped
     pub eff : (u : ℕ) (x : Wait) → u ≢ t → h.waits u ≡ Some x → h.eff u ≡ g.eff u
 
-  module _ (n m : ℤ) (more : n <ℤ m) (sound : IsSound n g) where
+  module _ (n m : ℤ) (more : n <ℤ m) (sound : IsSoundGraph n g) where
     pub quiet_step : IsQuiet → IsStep g h n m
     quiet_step q = record {
       frame = record { stays = λ t o w is own. q.waits t ∙ is; owns = λ l o w own is. q.owner l ∙ own };

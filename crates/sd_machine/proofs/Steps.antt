@@ -3,7 +3,7 @@ use Rattle.std.proofs.Common.{◌≡◌, ℕ, true, false, Option, Some, None, �
 use Rattle.std.proofs.lemmas.Bool.{false≢true}
 use Rattle.std.proofs.lemmas.Int.{ints}
 use Rattle.std.specs.Prelude.{◌<ℤ◌}
-use Rattle.sd_machine.specs.Graphs.{Wait, Walk, Graph, IsOn, IsAhead, IsBehind, InCycle, Stands, IsExact, Reaches, HasKey, Follows, IsSound}
+use Rattle.sd_machine.specs.Graphs.{Wait, Walk, Graph, IsOn, IsAhead, IsBehind, InCycle, Stands, IsExact, Reaches, HasKey, Follows, IsSoundGraph}
 use Rattle.sd_machine.specs.Graphs.IsBehind.{near, far}
 use Rattle.sd_machine.specs.Graphs.Reaches.{here, on}
 use Rattle.std.proofs.lemmas.Option.{same_Some}
@@ -84,7 +84,7 @@ module _ (g h : Graph) where
       pub walks : (c : ℕ) (v : Walk) → h.walks c ≡ Some v → (g.walks c ≡ Some v) ⊎ (Follows h v × (v.key <ℤ m))
       pub looped : (t : ℕ) → h.looped t ≡ true → (g.looped t ≡ true) ⊎ InCycle h t
 
-    module _ (sound : IsSound n g) (step : IsStep) where
+    module _ (sound : IsSoundGraph n g) (step : IsStep) where
       exact_kept : (l o : ℕ) → IsFine l o → (InCycle h o → ⊥) → (Stands h l → ⊥) → IsExact h l (h.willed o l)
       exact_kept l o (same s) open_chain free =
           subst (IsExact h l) (sym s.willed)
@@ -102,7 +102,7 @@ module _ (g h : Graph) where
         | inr new ↦ let low = sound.walk_keys c v at in let e : w.key ≡ n = new in absurd (omega (arith, ints))
       ]
 
-      pub step_sound : IsSound m h
+      pub step_sound : IsSoundGraph m h
       step_sound = record {
         local = record { owned = step.willed; exact = λ l o own. exact_kept l o (step.fine l o own) };
         follows = λ c v at. elim (step.walks c v at) [ inl old ↦ follows_kept c v old | inr new ↦ new.0 ];
@@ -113,7 +113,7 @@ module _ (g h : Graph) where
 
 -- nothing waits, is owned or walks in the initial state
 pub empty_sound : (n : ℤ) (g : Graph) → ((t : ℕ) → g.waits t ≡ None) → ((l : ℕ) → g.owner l ≡ None) → ((o l : ℕ) → g.willed o l ≡ None) → ((c : ℕ) → g.walks c ≡ None)
-    → ((t : ℕ) → g.looped t ≡ false) → IsSound n g
+    → ((t : ℕ) → g.looped t ≡ false) → IsSoundGraph n g
 empty_sound n g waits owner willed walks looped = record {
   local = record {
     owned = λ o l k is. let bad : None ≡ Some k = sym (willed o l) ∙ is in absurd (cc);

@@ -3,7 +3,7 @@ use Rattle.std.proofs.Common.{◌≡◌, ◌≢◌, ℕ, true, Option, Some, Non
 use Rattle.std.proofs.lemmas.Bool.{cases_eq}
 use Rattle.std.proofs.lemmas.Int.{ints}
 use Rattle.std.specs.Prelude.{◌<ℤ◌, ◌≤ℤ◌}
-use Rattle.sd_machine.specs.Graphs.{Wait, Walk, Graph, InCycle, IsExact, Reaches, Follows, IsSound}
+use Rattle.sd_machine.specs.Graphs.{Wait, Walk, Graph, InCycle, IsExact, Reaches, Follows, IsSoundGraph}
 use Rattle.sd_machine.specs.Graphs.IsBehind.{near}
 use Rattle.sd_machine.specs.Graphs.Reaches.{here}
 use Rattle.sd_machine.proofs.Chains.{cycle_ahead, reaches_on, reaches_behind}
@@ -25,7 +25,7 @@ abbrev pub IsClosed : Graph → Walk → ℕ → Type 0
 IsClosed g v o = (w : Wait) × (g.waits o ≡ Some w) × (v.seek ≡ o) × (v.key ≡ w.key)
 
 -- a walk that is back has found a cycle
-pub closed_cycle : (n : ℤ) (g : Graph) (c : ℕ) (v : Walk) (o : ℕ) → IsSound n g → g.walks c ≡ Some v → g.owner v.lock ≡ Some o → IsClosed g v o → InCycle g o
+pub closed_cycle : (n : ℤ) (g : Graph) (c : ℕ) (v : Walk) (o : ℕ) → IsSoundGraph n g → g.walks c ≡ Some v → g.owner v.lock ≡ Some o → IsClosed g v o → InCycle g o
 closed_cycle n g c v o sound is own (w, waits, seek, key) =
     let reach = (sound.follows c v is o w own waits (let e : v.key ≡ w.key = key in omega (arith, ints))).1 in
     reaches_behind g v.key v.lock o o (subst (Reaches g v.key v.lock) seek reach) own
@@ -43,7 +43,7 @@ module _ (g h : Graph) where
     pub owner : IsSame g.owner h.owner
     pub eff : (u : ℕ) (x : Wait) → u ≢ o → h.waits u ≡ Some x → h.eff u ≡ g.eff u
 
-  module _ (n m : ℤ) (more : n <ℤ m) (sound : IsSound n g) (c : ℕ) (v : Walk) (o : ℕ) (a : IsWill c v o) where
+  module _ (n m : ℤ) (more : n <ℤ m) (sound : IsSoundGraph n g) (c : ℕ) (v : Walk) (o : ℕ) (a : IsWill c v o) where
     frame : IsFrame g h
     frame = record { stays = λ t u w is own. a.waits t ∙ is; owns = λ l u w own is. a.owner l ∙ own }
 

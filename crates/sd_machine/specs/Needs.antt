@@ -18,7 +18,7 @@ use Rattle.sd_types.specs.declared.scripts.Op.TheVariants as op
 use Rattle.sd_types.specs.declared.scripts.Request.{Request}
 use Rattle.sd_types.specs.declared.works.Work.{Work}
 use Rattle.sd_types.specs.Scripts.{is_held}
-use Rattle.sd_types.specs.Willed.{IsSound}
+use Rattle.sd_types.specs.Willed.{InheritsSoundly}
 use Rattle.sd_types.specs.Limits.{most_held, most_processors}
 use Rattle.sd_state.specs.declared.states.LockState.{LockState}
 use Rattle.sd_state.specs.declared.states.LockState.TheVariants.{ReadHeld, Passing}
@@ -71,8 +71,8 @@ abbrev pub RunsOn : State → ThreadId → CpuId → Type 0
 RunsOn s t c = (thread_of s t.0).place ≡ Running c
 
 -- no thread runs on the processor
-abbrev pub IsFree : State → CpuId → Type 0
-IsFree s c = runner s c.0 ≡ None
+abbrev pub RunsNobody : State → CpuId → Type 0
+RunsNobody s c = runner s c.0 ≡ None
 
 -- the thread is there and runs on the processor
 pub record Runs (s : State) (t : ThreadId) (c : CpuId) : Type 0 where
@@ -105,7 +105,7 @@ pub record CanHold (s : State) (t : ThreadId) (l : LockId) : Type 0 where
 
 -- it holds the lock, through which it is to inherit a priority, or none
 pub record CanInherit (s : State) (o : ThreadId) (l : LockId) (number : Option ℕ) : Type 0 where
-  pub sound : IsSound (thread_of s o.0).body
+  pub sound : InheritsSoundly (thread_of s o.0).body
   pub held : IsTrue (is_held l (thread_of s o.0).body.held.items)
   pub below : IfSome number (λ n. n < 160)
 
@@ -121,7 +121,7 @@ pub record CanReceive (w : Work) (s : State) (u : ThreadId) (l : LockId) : Type 
   pub op : CanFinish w s u
   pub room : length (thread_of s u.0).body.held.items < most_held
   pub apart : is_held l (thread_of s u.0).body.held.items ≡ false
-  pub sound : IsSound (thread_of s u.0).body
+  pub sound : InheritsSoundly (thread_of s u.0).body
   pub below : IfSome (others_waiting s l u.0) (λ n. n < 160)
   pub more : more_fits (lock_of s l.0) ≡ true
 
@@ -182,8 +182,8 @@ abbrev pub Needs : Work → State → CpuId → Event → Type 0
 Needs w s c (Tick t) = CanAct w s t c × CanTick w s c
 Needs w s c (Spin t l) = Runs s t c × IsLock s l × CanTick w s c
 Needs w s c Idle = CanTick w s c
-Needs w s c (Dispatch t p) = IsThread s t × IsFree s c
-Needs w s c (Steal v t p) = IsThread s t × IsFree s c × IsCpu s v
+Needs w s c (Dispatch t p) = IsThread s t × RunsNobody s c
+Needs w s c (Steal v t p) = IsThread s t × RunsNobody s c × IsCpu s v
 Needs w s c (Preempt t end) = Runs s t c
 Needs w s c (Away t d) = Runs s t c × IsCpu s d
 Needs w s c (Yield t) = CanAct w s t c

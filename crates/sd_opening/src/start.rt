@@ -6,9 +6,9 @@
 ghost use Rattle.std.specs.Prelude.{◌≡◌, ◌+◌, ◌<◌, ◌≤◌, Some, length, slice_get, IsTrue, IfOk, map, replicate};
 ghost use Rattle.std.specs.List.{range_with_len};
 ghost use Rattle.sd_types.specs.Works.{class_fits};
-ghost use Rattle.sd_state.specs.Opening.{is_urgent, is_dealt, turn_of, dealt_cpu, first_cpu, first_place, first_body, first_thread, first_threads, count_of, first_count, first_cpu_state, open_list, opening};
+ghost use Rattle.sd_state.specs.Opening.{is_urgent, is_dealt, dealt_before, dealt_cpu, first_cpu, first_place, first_body, first_thread, first_threads, count_of, first_count, first_cpu_state, open_list, opening};
 ghost use Rattle.sd_types.specs.declared.works.Work.{Work as WorkOf};
-ghost use Rattle.sd_opening.specs.Turns.{AreTurns};
+ghost use Rattle.sd_opening.specs.Dealt.{AreDealt};
 
 use arrayvec::ArrayVec;
 use sd_class::first_state;
@@ -31,9 +31,9 @@ fn is_dealt(p: SetId, d: &ThreadDecl) -> bool
 }
 
 /// How many of the threads before thread `t` are assigned round-robin in set `p`.
-fn turn_of(work: &Work, p: SetId, t: usize) -> usize
+fn dealt_before(work: &Work, p: SetId, t: usize) -> usize
     requires { t ≤ length work.now.threads }
-    ensures { result ≡ turn_of work.now p.0 t }
+    ensures { result ≡ dealt_before work.now p.0 t }
 {
     work.threads.items()[..t]
         .iter()
@@ -43,39 +43,39 @@ fn turn_of(work: &Work, p: SetId, t: usize) -> usize
 
 /// How many threads before one are assigned round-robin in each set: a workload has eight sets at most, and set 0 beside them.
 #[derive(Clone, Copy)]
-struct Turns {
+struct Dealing {
     dealt: [usize; 9],
 }
 
-impl Turns {
+impl Dealing {
     /// Before the first thread.
-    fn new() -> Turns
-        ensures { (w : WorkOf) → AreTurns w 0 result.dealt }
+    fn new() -> Dealing
+        ensures { (w : WorkOf) → AreDealt w 0 result.dealt }
     {
-        Turns { dealt: [0; 9] }
+        Dealing { dealt: [0; 9] }
     }
 
     /// The turn of thread `t` in set `p`.
-    fn turn(&self, work: &Work, p: SetId, t: usize) -> usize
+    fn before(&self, work: &Work, p: SetId, t: usize) -> usize
         requires inside { t ≤ length work.now.threads }
-        requires turns { AreTurns work.now t self.now.dealt }
-        ensures { result ≡ turn_of work.now p.0 t }
+        requires dealing { AreDealt work.now t self.now.dealt }
+        ensures { result ≡ dealt_before work.now p.0 t }
     {
         let set = p.0 as usize;
         if set < 9 {
             self.dealt[set]
         } else {
-            turn_of(work, p, t)
+            dealt_before(work, p, t)
         }
     }
 
     /// Thread `t` has had its turn.
-    #[tactic(auto, using(crate::proofs::TurnLemmas::urgent_passes, crate::proofs::TurnLemmas::other_passes, crate::proofs::TurnLemmas::turn_passes))]
+    #[tactic(auto, using(crate::proofs::DealtLemmas::urgent_passes, crate::proofs::DealtLemmas::other_passes, crate::proofs::DealtLemmas::dealt_passes))]
     fn pass(&mut self, work: &Work, t: usize, d: &ThreadDecl)
         requires inside { t < length work.now.threads }
         requires there { slice_get work.now.threads t ≡ Some d.now }
-        requires turns { AreTurns work.now t self.old.dealt }
-        ensures { AreTurns work.now (t + 1) self.new.dealt }
+        requires dealing { AreDealt work.now t self.old.dealt }
+        ensures { AreDealt work.now (t + 1) self.new.dealt }
     {
         let set = d.set.0 as usize;
         if is_urgent(d) {
@@ -99,16 +99,16 @@ fn dealt_cpu(cpus: &[CpuId], k: usize) -> CpuId
 
 /// The processor on whose queue thread `t` stands; for an urgent one the least of its partition.
 #[tactic(auto, unfolding(sd_state::specs::Opening::first_cpu))]
-fn first_cpu(work: &Work, turns: &Turns, t: usize, d: &ThreadDecl) -> CpuId
+fn first_cpu(work: &Work, dealing: &Dealing, t: usize, d: &ThreadDecl) -> CpuId
     requires inside { t ≤ length work.now.threads }
-    requires turns { AreTurns work.now t turns.now.dealt }
+    requires dealing { AreDealt work.now t dealing.now.dealt }
     ensures { result ≡ first_cpu work.now t d.now }
 {
     let cpus = cpus_of_set(work, d.set);
     let turn = if is_urgent(d) {
         0
     } else {
-        turns.turn(work, d.set, t)
+        dealing.before(work, d.set, t)
     };
     dealt_cpu(cpus.as_slice(), turn)
 }
@@ -148,13 +148,13 @@ fn first_body(work: &Work, t: usize, d: &ThreadDecl, cpu: CpuId) -> ThreadBody
 }
 
 #[tactic(auto, unfolding(sd_state::specs::Opening::first_thread))]
-fn first_thread(work: &Work, turns: &Turns, t: usize, d: &ThreadDecl) -> ThreadState
+fn first_thread(work: &Work, dealing: &Dealing, t: usize, d: &ThreadDecl) -> ThreadState
     requires inside { t ≤ length work.now.threads }
     requires class { IsTrue (class_fits d.now.class d.now.cpupri) }
-    requires turns { AreTurns work.now t turns.now.dealt }
+    requires dealing { AreDealt work.now t dealing.now.dealt }
     ensures { result ≡ first_thread work.now t d.now }
 {
-    let cpu = first_cpu(work, turns, t, d);
+    let cpu = first_cpu(work, dealing, t, d);
     ThreadState {
         body: first_body(work, t, d, cpu),
         place: first_place(work, t, d, cpu),
@@ -165,11 +165,11 @@ fn first_threads(alloc: Global, work: &Work) -> Result<Vec<ThreadState>, AllocEr
     ensures { IfOk result (λ v. v.items ≡ first_threads work.now 0 work.now.threads) }
 {
     let mut threads = Vec::new(alloc);
-    let mut turns = Turns::new();
+    let mut dealing = Dealing::new();
     let decls = work.threads.items();
     for t in 0..decls.len() {
-        threads.push(first_thread(work, &turns, t, &decls[t]))?;
-        turns.pass(work, t, &decls[t]);
+        threads.push(first_thread(work, &dealing, t, &decls[t]))?;
+        dealing.pass(work, t, &decls[t]);
     }
     Ok(threads)
 }

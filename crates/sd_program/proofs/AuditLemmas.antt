@@ -8,24 +8,24 @@ use Rattle.sd_answers.specs.StreamChanges.{StreamChange}
 use Rattle.sd_answers.proofs.CertificateLemmas.{completes_of, faulty_of, refuses_certificate_of, refuses_faulty_of, writes_of}
 use Rattle.sd_program.specs.declared.forms.Command.TheVariants.{Audit}
 use Rattle.sd_program.specs.Forms.{command_of}
-use Rattle.sd_program.specs.Headline.{CausedBy, Caused}
+use Rattle.sd_program.specs.Headline.{CausedByCommand, Caused}
 use Rattle.sd_program.specs.AuditAnswers.{legal_text, IsLegal, CertifiesInput, CausedByAudit}
 use Rattle.sd_program.proofs.TopLemmas.{same_command, some_command}
 
 -- the answer to `audit` has its cause
 pub audit_of : (arguments : List (List ℕ)) (input out : StreamChange) (a : Answer) → command_of arguments ≡ Some Audit → Caused arguments input out a → CausedByAudit input out a
 audit_of arguments input out Usage known c = absurd (some_command arguments Audit known c.0)
-audit_of arguments input out Done known c = subst (λ k. CausedBy k input out Done) (same_command arguments c.0 Audit c.1 known) c.2
-audit_of arguments input out TooLarge known c = subst (λ k. CausedBy k input out TooLarge) (same_command arguments c.0 Audit c.1 known) c.2
-audit_of arguments input out TooLargeToAudit known c = subst (λ k. CausedBy k input out TooLargeToAudit) (same_command arguments c.0 Audit c.1 known) c.2
-audit_of arguments input out NoJournal known c = subst (λ k. CausedBy k input out NoJournal) (same_command arguments c.0 Audit c.1 known) c.2
-audit_of arguments input out (Refused line cause) known c = subst (λ k. CausedBy k input out (Refused line cause)) (same_command arguments c.0 Audit c.1 known) c.2
-audit_of arguments input out ReadFault known c = subst (λ k. CausedBy k input out ReadFault) (same_command arguments c.0 Audit c.1 known) c.2
-audit_of arguments input out WriteFault known c = subst (λ k. CausedBy k input out WriteFault) (same_command arguments c.0 Audit c.1 known) c.2
-audit_of arguments input out OutOfMemory known c = subst (λ k. CausedBy k input out OutOfMemory) (same_command arguments c.0 Audit c.1 known) c.2
-audit_of arguments input out Blocked known c = subst (λ k. CausedBy k input out Blocked) (same_command arguments c.0 Audit c.1 known) c.2
-audit_of arguments input out (NotAJournal fault) known c = subst (λ k. CausedBy k input out (NotAJournal fault)) (same_command arguments c.0 Audit c.1 known) c.2
-audit_of arguments input out TooLong known c = subst (λ k. CausedBy k input out TooLong) (same_command arguments c.0 Audit c.1 known) c.2
+audit_of arguments input out Done known c = subst (λ k. CausedByCommand k input out Done) (same_command arguments c.0 Audit c.1 known) c.2
+audit_of arguments input out TooLarge known c = subst (λ k. CausedByCommand k input out TooLarge) (same_command arguments c.0 Audit c.1 known) c.2
+audit_of arguments input out TooLargeToAudit known c = subst (λ k. CausedByCommand k input out TooLargeToAudit) (same_command arguments c.0 Audit c.1 known) c.2
+audit_of arguments input out NoJournal known c = subst (λ k. CausedByCommand k input out NoJournal) (same_command arguments c.0 Audit c.1 known) c.2
+audit_of arguments input out (Refused line cause) known c = subst (λ k. CausedByCommand k input out (Refused line cause)) (same_command arguments c.0 Audit c.1 known) c.2
+audit_of arguments input out ReadFault known c = subst (λ k. CausedByCommand k input out ReadFault) (same_command arguments c.0 Audit c.1 known) c.2
+audit_of arguments input out WriteFault known c = subst (λ k. CausedByCommand k input out WriteFault) (same_command arguments c.0 Audit c.1 known) c.2
+audit_of arguments input out OutOfMemory known c = subst (λ k. CausedByCommand k input out OutOfMemory) (same_command arguments c.0 Audit c.1 known) c.2
+audit_of arguments input out Blocked known c = subst (λ k. CausedByCommand k input out Blocked) (same_command arguments c.0 Audit c.1 known) c.2
+audit_of arguments input out (NotAJournal fault) known c = subst (λ k. CausedByCommand k input out (NotAJournal fault)) (same_command arguments c.0 Audit c.1 known) c.2
+audit_of arguments input out TooLong known c = subst (λ k. CausedByCommand k input out TooLong) (same_command arguments c.0 Audit c.1 known) c.2
 
 -- what is found legal is the journal of a run
 held : (input : StreamChange) (n : ℕ) → IsLegal input n → HoldsJournal input

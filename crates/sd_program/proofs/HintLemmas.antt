@@ -34,7 +34,7 @@ use Rattle.sd_machine.proofs.RunLemmas.{final-push, IsRun-nil, IsRun-append, IsR
 use Rattle.sd_invariants.specs.Laws.{OpenHold}
 use Rattle.sd_invariants.proofs.Whole.{reached_whole}
 use Rattle.sd_machine.specs.Texts.{journal}
-use Rattle.sd_rounds.specs.declared.orders.Turns.{Turns}
+use Rattle.sd_rounds.specs.declared.orders.RoundOrder.{RoundOrder}
 use Rattle.sd_rounds.specs.Orders.{orders_of}
 use Rattle.sd_rounds.proofs.CompleteLemmas.{complete_of}
 use Rattle.sd_audit.specs.Audits.{IsJournal}
@@ -199,7 +199,7 @@ run_journal w es run complete bytes few = record {
   ends = refl;
 }
 
-pub serial_journal : (w : Work) (turns : Turns) (es : List Entry) → IsSerial w (orders_of w turns) es → length es < 2 ^ 40
+pub serial_journal : (w : Work) (turns : RoundOrder) (es : List Entry) → IsSerial w (orders_of w turns) es → length es < 2 ^ 40
     → IsJournal w (journal w es) (final w (opening w) es) (length es)
 serial_journal w turns es serial few =
     let run = serial_run w (orders_of w turns) es serial in

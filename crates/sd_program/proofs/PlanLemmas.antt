@@ -243,11 +243,11 @@ module _ (w : Work) (s : State) (c : ℕ) where
 
 -- ---- what was read
 
-nothing_read : (h : Option Hints) (may : Option Which) → hints_fit None h ≡ true → F.hints_fit may h ≡ true
+nothing_read : (h : Option Hints) (may : Option Which) → hints_fit None h ≡ true → F.are_allowed_hints may h ≡ true
 nothing_read None may fit = refl
 nothing_read (Some h) may fit = cc
 
-some_read : (cpus : List CpuId) (h : Hints) (a : Which) → a ≡ h.which → 0 < length cpus → hints_fit (Some (a, cpus)) (Some h) ≡ true → F.hints_fit (Some a) (Some h) ≡ true
+some_read : (cpus : List CpuId) (h : Hints) (a : Which) → a ≡ h.which → 0 < length cpus → hints_fit (Some (a, cpus)) (Some h) ≡ true → F.are_allowed_hints (Some a) (Some h) ≡ true
 some_read cpus h which.Running is some fit =
     let same = eqb-true (length h.numbers.items) (length cpus) (rw (sym is) at fit) in
     let more : nat_lt 0 (length h.numbers.items) ≡ true = grind (arith, nat_tests) in
@@ -267,20 +267,20 @@ kind_of a cpus h fit = by a h.which fit
     by which.Running which.Queued e = cc
     by which.Queued which.Running e = cc
 
-kind_read : (a : Which) (cpus : List CpuId) (h : Option Hints) → 0 < length cpus → hints_fit (Some (a, cpus)) h ≡ true → F.hints_fit (Some a) h ≡ true
+kind_read : (a : Which) (cpus : List CpuId) (h : Option Hints) → 0 < length cpus → hints_fit (Some (a, cpus)) h ≡ true → F.are_allowed_hints (Some a) h ≡ true
 kind_read a cpus None some fit = refl
 kind_read a cpus (Some h) some fit = some_read cpus h a (kind_of a cpus h fit) some fit
 
 module _ (w : Work) (s : State) (c : ℕ) (h : Option Hints) where
-  place_read : (t : ℕ) → 0 < length (cpus_for w s t) → hints_fit (reads_for w s c t) h ≡ true → F.hints_fit (Some which.Running) h ≡ true
+  place_read : (t : ℕ) → 0 < length (cpus_for w s t) → hints_fit (reads_for w s c t) h ≡ true → F.are_allowed_hints (Some which.Running) h ≡ true
   unfolding reads_for
   place_read t some = by (is_settled (cpus_for w s t) (thread_of s t).body.last (is_warm s c t))
     where
-      by : (b : Bool) → hints_fit (if b then None else Some (which.Running, cpus_for w s t)) h ≡ true → F.hints_fit (Some which.Running) h ≡ true
+      by : (b : Bool) → hints_fit (if b then None else Some (which.Running, cpus_for w s t)) h ≡ true → F.are_allowed_hints (Some which.Running) h ≡ true
       by true fit = nothing_read h (Some which.Running) fit
       by false fit = kind_read which.Running (cpus_for w s t) h some fit
 
-  search_read : (cpus : List CpuId) → hints_fit (read_of cpus) h ≡ true → F.hints_fit (Some which.Queued) h ≡ true
+  search_read : (cpus : List CpuId) → hints_fit (read_of cpus) h ≡ true → F.are_allowed_hints (Some which.Queued) h ≡ true
   search_read [] fit = nothing_read h (Some which.Queued) fit
   search_read (d ∷ ds) fit = kind_read which.Queued (d ∷ ds) h (omega arith) fit
 
@@ -296,11 +296,11 @@ module _ (w : Work) (s : State) (c : ℕ) (h : Option Hints) where
   placed_reads (placement.Napend t) at = refl
   placed_reads p at = refl
 
-  event_read : (p : Plan) → ((t : ℕ) → 0 < length (cpus_for w s t)) → hints_fit (plan_reads w s c p) h ≡ true → F.hints_fit (F.may_read (plan_event w s c h p)) h ≡ true
+  event_read : (p : Plan) → ((t : ℕ) → 0 < length (cpus_for w s t)) → hints_fit (plan_reads w s c p) h ≡ true → F.are_allowed_hints (F.may_read (plan_event w s c h p)) h ≡ true
   event_read (Make e) some fit = nothing_read h (F.may_read e) fit
   event_read (PlaceIt p n) some fit =
-      subst (λ m. F.hints_fit m h ≡ true) (sym (placed_reads p (put_chosen w s c (placed_thread p) n h))) (place_read (placed_thread p) (some (placed_thread p)) fit)
-  event_read Search some fit = subst (λ m. F.hints_fit m h ≡ true) (sym (search_reads (victim_for s c h))) (search_read (neighbours s c) fit)
+      subst (λ m. F.are_allowed_hints m h ≡ true) (sym (placed_reads p (put_chosen w s c (placed_thread p) n h))) (place_read (placed_thread p) (some (placed_thread p)) fit)
+  event_read Search some fit = subst (λ m. F.are_allowed_hints m h ≡ true) (sym (search_reads (victim_for s c h))) (search_read (neighbours s c) fit)
 
 -- ---- the event that a processor may make
 
@@ -329,7 +329,7 @@ planned w s c h e is = by (nat_lt c.0 w.cpus && hints_fit (plan_reads w s c.0 (p
 pub tells : (w : Work) (s : State) (c : CpuId) (h : Option Hints) (e : Event) → next w s c h ≡ Some e → IsTold w s e
 tells w s c h e may = let p = planned w s c h e may in subst (IsTold w s) p.is (event_told w s c.0 h (plan w s c.0) (plan_told w s c.0))
 
-pub reads_rightly : (w : Work) (s : State) (c : CpuId) (h : Option Hints) (e : Event) → ((t : ℕ) → 0 < length (cpus_for w s t)) → next w s c h ≡ Some e → F.hints_fit (F.may_read e) h ≡ true
+pub reads_rightly : (w : Work) (s : State) (c : CpuId) (h : Option Hints) (e : Event) → ((t : ℕ) → 0 < length (cpus_for w s t)) → next w s c h ≡ Some e → F.are_allowed_hints (F.may_read e) h ≡ true
 reads_rightly w s c h e some may =
     let p = planned w s c h e may in
-    subst (λ x. F.hints_fit (F.may_read x) h ≡ true) p.is (event_read w s c.0 h (plan w s c.0) some p.fit)
+    subst (λ x. F.are_allowed_hints (F.may_read x) h ≡ true) p.is (event_read w s c.0 h (plan w s c.0) some p.fit)

@@ -24,7 +24,7 @@ use Rattle.sd_machine.proofs.CycleLemmas.{lists_cycles}
 use Rattle.sd_accounts.proofs.StateGraphs.{waits_inside}
 use Rattle.sd_program.specs.declared.forms.Mode.{Mode}
 use Rattle.sd_hand.specs.OneHome.{StandsInHomes}
-use Rattle.sd_program.specs.TheRun.{Goes, WokenAreRunnable, IsTheRun, IsOpen}
+use Rattle.sd_program.specs.TheRun.{Goes, WokenStayRunnableIn, IsTheRun, IsCycleFree}
 
 -- a run leads to its final state
 reached_end : (w : Work) (es : List Entry) → IsRun w es → IsReached w (length es) (final_state w es)
@@ -41,7 +41,7 @@ reached_at : (w : Work) (es : List Entry) (k : ℕ) → IsRun w es → IsReached
 reached_at w es k run = reached_end w (take k es) (run_front w (take k es) (drop k es) (run_split w es k run))
 
 -- woken threads, on the way
-woken_on : (w : Work) (es : List Entry) → IsRun w es → WokenAreRunnable w es
+woken_on : (w : Work) (es : List Entry) → IsRun w es → WokenStayRunnableIn w es
 woken_on w es run before more rest e t is wakes none =
     let parts : before ++ e ∷ (more ++ rest) ≡ (before ++ e ∷ more) ++ rest = sym (append_assoc before (e ∷ more) rest) in
     runnable_law w before more e t (run_front w (before ++ e ∷ more) rest (subst (λ (xs : List Entry). IsRun w xs) (is ∙ parts) run)) wakes none
@@ -84,7 +84,7 @@ no_cycle s r stay none = by (cycles_of s) refl
 final_split : (w : Work) (es : List Entry) (k : ℕ) → final_state w (take k es ++ drop k es) ≡ final_state w es
 final_split w es k = ap (final_state w) (take-append-drop k es)
 
-pub is_open : (w : Work) (es : List Entry) → IsRun w es → cycles_of (final_state w es) ≡ [] → IsOpen w es
+pub is_open : (w : Work) (es : List Entry) → IsRun w es → cycles_of (final_state w es) ≡ [] → IsCycleFree w es
 is_open w es run none = record {
   cycles = λ k.
       no_cycle (state_at w es k) (final_state w (take k es ++ drop k es)) (λ ts is. cycles_law w (take k es) (drop k es) ts (run_split w es k run) is)

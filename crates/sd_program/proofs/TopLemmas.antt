@@ -30,7 +30,7 @@ use Rattle.sd_program.specs.TheRun.{IsTheRun}
 use Rattle.sd_types.specs.Limits.{most_bytes}
 use Rattle.sd_answers.specs.Inputs.{HasAtMost, HasTooMany, IsWorkload, IsNoWorkload, IsRefused}
 use Rattle.sd_answers.proofs.InputLemmas.{taken_within, taken_all, at_most_of, not_too_many as within_most, not_both}
-use Rattle.sd_program.specs.Headline.{RanInput, CausedByInput, PrintsTables, CausedByTables, CausedByNumber, CausedBy, Caused, Completes, CompletesTables, Refuses}
+use Rattle.sd_program.specs.Headline.{RanInput, CausedByInput, PrintsTables, CausedByTables, CausedByNumber, CausedByCommand, Caused, Completes, CompletesTables, Refuses}
 
 -- what the arguments ask for is one thing
 pub same_command : (arguments : List (List ℕ)) (j k : Command) → command_of arguments ≡ Some j → command_of arguments ≡ Some k → j ≡ k
@@ -58,21 +58,21 @@ caused_of arguments form input out a known c = (Run form, known, c)
 
 -- status 0 is that of a run that was written whole and ends without a cycle
 pub headline_of : (arguments : List (List ℕ)) (form : Form) (input out : StreamChange) (a : Answer) → command_of arguments ≡ Some (Run form) → Caused arguments input out a → status_of a ≡ 0 → RanInput form input out Done
-headline_of arguments form input out Done known c s = subst (λ k. CausedBy k input out Done) (same_command arguments c.0 (Run form) c.1 known) c.2
+headline_of arguments form input out Done known c s = subst (λ k. CausedByCommand k input out Done) (same_command arguments c.0 (Run form) c.1 known) c.2
 headline_of arguments form input out a known c s = absurd (omega arith)
 
 -- and status 6 with one
 pub blocked_of : (arguments : List (List ℕ)) (form : Form) (input out : StreamChange) (a : Answer) → command_of arguments ≡ Some (Run form) → Caused arguments input out a → status_of a ≡ 6 → RanInput form input out Blocked
-blocked_of arguments form input out Blocked known c s = subst (λ k. CausedBy k input out Blocked) (same_command arguments c.0 (Run form) c.1 known) c.2
+blocked_of arguments form input out Blocked known c s = subst (λ k. CausedByCommand k input out Blocked) (same_command arguments c.0 (Run form) c.1 known) c.2
 blocked_of arguments form input out a known c s = absurd (omega arith)
 
 -- status 0 of the other commands
 pub tables_of : (arguments : List (List ℕ)) (input out : StreamChange) (a : Answer) → command_of arguments ≡ Some Tables → Caused arguments input out a → status_of a ≡ 0 → PrintsTables input out
-tables_of arguments input out Done known c s = subst (λ k. CausedBy k input out Done) (same_command arguments c.0 Tables c.1 known) c.2
+tables_of arguments input out Done known c s = subst (λ k. CausedByCommand k input out Done) (same_command arguments c.0 Tables c.1 known) c.2
 tables_of arguments input out a known c s = absurd (omega arith)
 
 pub generates_of : (arguments : List (List ℕ)) (n : ℕ) (input out : StreamChange) (a : Answer) → command_of arguments ≡ Some (Generate n) → Caused arguments input out a → status_of a ≡ 0 → IsUntouched input × CausedByNumber n out Done
-generates_of arguments n input out Done known c s = subst (λ k. CausedBy k input out Done) (same_command arguments c.0 (Generate n) c.1 known) c.2
+generates_of arguments n input out Done known c s = subst (λ k. CausedByCommand k input out Done) (same_command arguments c.0 (Generate n) c.1 known) c.2
 generates_of arguments n input out a known c s = absurd (omega arith)
 
 pub some_command : (arguments : List (List ℕ)) (k : Command) → command_of arguments ≡ Some k → command_of arguments ≡ None → ⊥
@@ -93,13 +93,13 @@ not_refused input bytes w line cause none is accepted =
 pub completes_of : (arguments : List (List ℕ)) (form : Form) (input out : StreamChange) (a : Answer) → command_of arguments ≡ Some (Run form) → Caused arguments input out a → Completes form input out (status_of a)
 completes_of arguments form input out Done known c = λ sound told bytes w is short accepted. inl refl
 completes_of arguments form input out Usage known c = λ sound told bytes w is short accepted. absurd (some_command arguments (Run form) known c.0)
-completes_of arguments form input out TooLarge known c = λ sound told bytes w is short accepted. absurd (not_too_many input bytes (subst (λ k. CausedBy k input out TooLarge) (same_command arguments c.0 (Run form) c.1 known) c.2).0 is short)
-completes_of arguments form input out TooLargeToAudit known c = λ sound told bytes w is short accepted. absurd (subst (λ k. CausedBy k input out TooLargeToAudit) (same_command arguments c.0 (Run form) c.1 known) c.2)
-completes_of arguments form input out NoJournal known c = λ sound told bytes w is short accepted. absurd (subst (λ k. CausedBy k input out NoJournal) (same_command arguments c.0 (Run form) c.1 known) c.2)
-completes_of arguments form input out (NotAJournal fault) known c = λ sound told bytes w is short accepted. absurd (subst (λ k. CausedBy k input out (NotAJournal fault)) (same_command arguments c.0 (Run form) c.1 known) c.2)
-completes_of arguments form input out (Refused line cause) known c = λ sound told bytes w is short accepted. absurd (not_refused input bytes w line cause (subst (λ k. CausedBy k input out (Refused line cause)) (same_command arguments c.0 (Run form) c.1 known) c.2).0 is accepted)
-completes_of arguments form input out ReadFault known c = λ sound told bytes w is short accepted. absurd (sound (subst (λ k. CausedBy k input out ReadFault) (same_command arguments c.0 (Run form) c.1 known) c.2).0)
-completes_of arguments form input out WriteFault known c = λ sound told bytes w is short accepted. absurd (told (subst (λ k. CausedBy k input out WriteFault) (same_command arguments c.0 (Run form) c.1 known) c.2).2.0)
+completes_of arguments form input out TooLarge known c = λ sound told bytes w is short accepted. absurd (not_too_many input bytes (subst (λ k. CausedByCommand k input out TooLarge) (same_command arguments c.0 (Run form) c.1 known) c.2).0 is short)
+completes_of arguments form input out TooLargeToAudit known c = λ sound told bytes w is short accepted. absurd (subst (λ k. CausedByCommand k input out TooLargeToAudit) (same_command arguments c.0 (Run form) c.1 known) c.2)
+completes_of arguments form input out NoJournal known c = λ sound told bytes w is short accepted. absurd (subst (λ k. CausedByCommand k input out NoJournal) (same_command arguments c.0 (Run form) c.1 known) c.2)
+completes_of arguments form input out (NotAJournal fault) known c = λ sound told bytes w is short accepted. absurd (subst (λ k. CausedByCommand k input out (NotAJournal fault)) (same_command arguments c.0 (Run form) c.1 known) c.2)
+completes_of arguments form input out (Refused line cause) known c = λ sound told bytes w is short accepted. absurd (not_refused input bytes w line cause (subst (λ k. CausedByCommand k input out (Refused line cause)) (same_command arguments c.0 (Run form) c.1 known) c.2).0 is accepted)
+completes_of arguments form input out ReadFault known c = λ sound told bytes w is short accepted. absurd (sound (subst (λ k. CausedByCommand k input out ReadFault) (same_command arguments c.0 (Run form) c.1 known) c.2).0)
+completes_of arguments form input out WriteFault known c = λ sound told bytes w is short accepted. absurd (told (subst (λ k. CausedByCommand k input out WriteFault) (same_command arguments c.0 (Run form) c.1 known) c.2).2.0)
 completes_of arguments form input out OutOfMemory known c = λ sound told bytes w is short accepted. inr (inr (inl refl))
 completes_of arguments form input out Blocked known c = λ sound told bytes w is short accepted. inr (inl refl)
 completes_of arguments form input out TooLong known c = λ sound told bytes w is short accepted. inr (inr (inr refl))
@@ -107,30 +107,30 @@ completes_of arguments form input out TooLong known c = λ sound told bytes w is
 pub completes_tables_of : (arguments : List (List ℕ)) (input out : StreamChange) (a : Answer) → command_of arguments ≡ Some Tables → Caused arguments input out a → CompletesTables input out (status_of a)
 completes_tables_of arguments input out Done known c = λ sound told bytes w is short accepted. inl refl
 completes_tables_of arguments input out Usage known c = λ sound told bytes w is short accepted. absurd (some_command arguments Tables known c.0)
-completes_tables_of arguments input out TooLarge known c = λ sound told bytes w is short accepted. absurd (not_too_many input bytes (subst (λ k. CausedBy k input out TooLarge) (same_command arguments c.0 Tables c.1 known) c.2).0 is short)
-completes_tables_of arguments input out TooLargeToAudit known c = λ sound told bytes w is short accepted. absurd (subst (λ k. CausedBy k input out TooLargeToAudit) (same_command arguments c.0 Tables c.1 known) c.2)
-completes_tables_of arguments input out NoJournal known c = λ sound told bytes w is short accepted. absurd (subst (λ k. CausedBy k input out NoJournal) (same_command arguments c.0 Tables c.1 known) c.2)
-completes_tables_of arguments input out (NotAJournal fault) known c = λ sound told bytes w is short accepted. absurd (subst (λ k. CausedBy k input out (NotAJournal fault)) (same_command arguments c.0 Tables c.1 known) c.2)
-completes_tables_of arguments input out (Refused line cause) known c = λ sound told bytes w is short accepted. absurd (not_refused input bytes w line cause (subst (λ k. CausedBy k input out (Refused line cause)) (same_command arguments c.0 Tables c.1 known) c.2).0 is accepted)
-completes_tables_of arguments input out ReadFault known c = λ sound told bytes w is short accepted. absurd (sound (subst (λ k. CausedBy k input out ReadFault) (same_command arguments c.0 Tables c.1 known) c.2).0)
-completes_tables_of arguments input out WriteFault known c = λ sound told bytes w is short accepted. absurd (told (subst (λ k. CausedBy k input out WriteFault) (same_command arguments c.0 Tables c.1 known) c.2).2)
+completes_tables_of arguments input out TooLarge known c = λ sound told bytes w is short accepted. absurd (not_too_many input bytes (subst (λ k. CausedByCommand k input out TooLarge) (same_command arguments c.0 Tables c.1 known) c.2).0 is short)
+completes_tables_of arguments input out TooLargeToAudit known c = λ sound told bytes w is short accepted. absurd (subst (λ k. CausedByCommand k input out TooLargeToAudit) (same_command arguments c.0 Tables c.1 known) c.2)
+completes_tables_of arguments input out NoJournal known c = λ sound told bytes w is short accepted. absurd (subst (λ k. CausedByCommand k input out NoJournal) (same_command arguments c.0 Tables c.1 known) c.2)
+completes_tables_of arguments input out (NotAJournal fault) known c = λ sound told bytes w is short accepted. absurd (subst (λ k. CausedByCommand k input out (NotAJournal fault)) (same_command arguments c.0 Tables c.1 known) c.2)
+completes_tables_of arguments input out (Refused line cause) known c = λ sound told bytes w is short accepted. absurd (not_refused input bytes w line cause (subst (λ k. CausedByCommand k input out (Refused line cause)) (same_command arguments c.0 Tables c.1 known) c.2).0 is accepted)
+completes_tables_of arguments input out ReadFault known c = λ sound told bytes w is short accepted. absurd (sound (subst (λ k. CausedByCommand k input out ReadFault) (same_command arguments c.0 Tables c.1 known) c.2).0)
+completes_tables_of arguments input out WriteFault known c = λ sound told bytes w is short accepted. absurd (told (subst (λ k. CausedByCommand k input out WriteFault) (same_command arguments c.0 Tables c.1 known) c.2).2)
 completes_tables_of arguments input out OutOfMemory known c = λ sound told bytes w is short accepted. inr refl
-completes_tables_of arguments input out Blocked known c = λ sound told bytes w is short accepted. absurd (subst (λ k. CausedBy k input out Blocked) (same_command arguments c.0 Tables c.1 known) c.2)
-completes_tables_of arguments input out TooLong known c = λ sound told bytes w is short accepted. absurd (subst (λ k. CausedBy k input out TooLong) (same_command arguments c.0 Tables c.1 known) c.2)
+completes_tables_of arguments input out Blocked known c = λ sound told bytes w is short accepted. absurd (subst (λ k. CausedByCommand k input out Blocked) (same_command arguments c.0 Tables c.1 known) c.2)
+completes_tables_of arguments input out TooLong known c = λ sound told bytes w is short accepted. absurd (subst (λ k. CausedByCommand k input out TooLong) (same_command arguments c.0 Tables c.1 known) c.2)
 
 pub completes_generated_of : (arguments : List (List ℕ)) (n : ℕ) (input out : StreamChange) (a : Answer) → command_of arguments ≡ Some (Generate n) → Caused arguments input out a → (HasFault out → ⊥) → (status_of a ≡ 0) ⊎ (status_of a ≡ 5)
 completes_generated_of arguments n input out Done known c = λ told. inl refl
 completes_generated_of arguments n input out Usage known c = λ told. absurd (some_command arguments (Generate n) known c.0)
-completes_generated_of arguments n input out TooLarge known c = λ told. absurd (subst (λ k. CausedBy k input out TooLarge) (same_command arguments c.0 (Generate n) c.1 known) c.2).1
-completes_generated_of arguments n input out TooLargeToAudit known c = λ told. absurd (subst (λ k. CausedBy k input out TooLargeToAudit) (same_command arguments c.0 (Generate n) c.1 known) c.2).1
-completes_generated_of arguments n input out NoJournal known c = λ told. absurd (subst (λ k. CausedBy k input out NoJournal) (same_command arguments c.0 (Generate n) c.1 known) c.2).1
-completes_generated_of arguments n input out (NotAJournal fault) known c = λ told. absurd (subst (λ k. CausedBy k input out (NotAJournal fault)) (same_command arguments c.0 (Generate n) c.1 known) c.2).1
-completes_generated_of arguments n input out (Refused line cause) known c = λ told. absurd (subst (λ k. CausedBy k input out (Refused line cause)) (same_command arguments c.0 (Generate n) c.1 known) c.2).1
-completes_generated_of arguments n input out ReadFault known c = λ told. absurd (subst (λ k. CausedBy k input out ReadFault) (same_command arguments c.0 (Generate n) c.1 known) c.2).1
-completes_generated_of arguments n input out WriteFault known c = λ told. absurd (told (subst (λ k. CausedBy k input out WriteFault) (same_command arguments c.0 (Generate n) c.1 known) c.2).1.0)
+completes_generated_of arguments n input out TooLarge known c = λ told. absurd (subst (λ k. CausedByCommand k input out TooLarge) (same_command arguments c.0 (Generate n) c.1 known) c.2).1
+completes_generated_of arguments n input out TooLargeToAudit known c = λ told. absurd (subst (λ k. CausedByCommand k input out TooLargeToAudit) (same_command arguments c.0 (Generate n) c.1 known) c.2).1
+completes_generated_of arguments n input out NoJournal known c = λ told. absurd (subst (λ k. CausedByCommand k input out NoJournal) (same_command arguments c.0 (Generate n) c.1 known) c.2).1
+completes_generated_of arguments n input out (NotAJournal fault) known c = λ told. absurd (subst (λ k. CausedByCommand k input out (NotAJournal fault)) (same_command arguments c.0 (Generate n) c.1 known) c.2).1
+completes_generated_of arguments n input out (Refused line cause) known c = λ told. absurd (subst (λ k. CausedByCommand k input out (Refused line cause)) (same_command arguments c.0 (Generate n) c.1 known) c.2).1
+completes_generated_of arguments n input out ReadFault known c = λ told. absurd (subst (λ k. CausedByCommand k input out ReadFault) (same_command arguments c.0 (Generate n) c.1 known) c.2).1
+completes_generated_of arguments n input out WriteFault known c = λ told. absurd (told (subst (λ k. CausedByCommand k input out WriteFault) (same_command arguments c.0 (Generate n) c.1 known) c.2).1.0)
 completes_generated_of arguments n input out OutOfMemory known c = λ told. inr refl
-completes_generated_of arguments n input out Blocked known c = λ told. absurd (subst (λ k. CausedBy k input out Blocked) (same_command arguments c.0 (Generate n) c.1 known) c.2).1
-completes_generated_of arguments n input out TooLong known c = λ told. absurd (subst (λ k. CausedBy k input out TooLong) (same_command arguments c.0 (Generate n) c.1 known) c.2).1
+completes_generated_of arguments n input out Blocked known c = λ told. absurd (subst (λ k. CausedByCommand k input out Blocked) (same_command arguments c.0 (Generate n) c.1 known) c.2).1
+completes_generated_of arguments n input out TooLong known c = λ told. absurd (subst (λ k. CausedByCommand k input out TooLong) (same_command arguments c.0 (Generate n) c.1 known) c.2).1
 
 -- an input that is too large, or no workload, is no accepted one
 pub no_workload : (input : StreamChange) (bytes : List ℕ) → input.before ≡ Some bytes → (most_bytes < length bytes) ⊎ ((w : Work) → Accepted bytes w → ⊥) → (w : Work) → IsWorkload input w → ⊥
@@ -146,32 +146,32 @@ too_many_for : (input : StreamChange) (bytes : List ℕ) → HasAtMost most_byte
 too_many_for input bytes few is many = let within = within_most most_bytes input bytes few is in absurd (omega arith)
 
 pub refuses_of : (arguments : List (List ℕ)) (form : Form) (input out : StreamChange) (a : Answer) → command_of arguments ≡ Some (Run form) → Caused arguments input out a → Refuses input (status_of a)
-refuses_of arguments form input out Done known c = λ sound bytes is. (λ many. let d = subst (λ k. CausedBy k input out Done) (same_command arguments c.0 (Run form) c.1 known) c.2 in absurd (no_workload input bytes is (inl many) d.0 d.1), λ none. let d = subst (λ k. CausedBy k input out Done) (same_command arguments c.0 (Run form) c.1 known) c.2 in absurd (no_workload input bytes is (inr none) d.0 d.1))
+refuses_of arguments form input out Done known c = λ sound bytes is. (λ many. let d = subst (λ k. CausedByCommand k input out Done) (same_command arguments c.0 (Run form) c.1 known) c.2 in absurd (no_workload input bytes is (inl many) d.0 d.1), λ none. let d = subst (λ k. CausedByCommand k input out Done) (same_command arguments c.0 (Run form) c.1 known) c.2 in absurd (no_workload input bytes is (inr none) d.0 d.1))
 refuses_of arguments form input out Usage known c = λ sound bytes is. (λ many. absurd (some_command arguments (Run form) known c.0), λ none. absurd (some_command arguments (Run form) known c.0))
 refuses_of arguments form input out TooLarge known c = λ sound bytes is. (λ many. refl, λ none. inl refl)
-refuses_of arguments form input out TooLargeToAudit known c = λ sound bytes is. (λ many. absurd (subst (λ k. CausedBy k input out TooLargeToAudit) (same_command arguments c.0 (Run form) c.1 known) c.2), λ none. absurd (subst (λ k. CausedBy k input out TooLargeToAudit) (same_command arguments c.0 (Run form) c.1 known) c.2))
-refuses_of arguments form input out NoJournal known c = λ sound bytes is. (λ many. absurd (subst (λ k. CausedBy k input out NoJournal) (same_command arguments c.0 (Run form) c.1 known) c.2), λ none. absurd (subst (λ k. CausedBy k input out NoJournal) (same_command arguments c.0 (Run form) c.1 known) c.2))
-refuses_of arguments form input out (NotAJournal fault) known c = λ sound bytes is. (λ many. absurd (subst (λ k. CausedBy k input out (NotAJournal fault)) (same_command arguments c.0 (Run form) c.1 known) c.2), λ none. absurd (subst (λ k. CausedBy k input out (NotAJournal fault)) (same_command arguments c.0 (Run form) c.1 known) c.2))
+refuses_of arguments form input out TooLargeToAudit known c = λ sound bytes is. (λ many. absurd (subst (λ k. CausedByCommand k input out TooLargeToAudit) (same_command arguments c.0 (Run form) c.1 known) c.2), λ none. absurd (subst (λ k. CausedByCommand k input out TooLargeToAudit) (same_command arguments c.0 (Run form) c.1 known) c.2))
+refuses_of arguments form input out NoJournal known c = λ sound bytes is. (λ many. absurd (subst (λ k. CausedByCommand k input out NoJournal) (same_command arguments c.0 (Run form) c.1 known) c.2), λ none. absurd (subst (λ k. CausedByCommand k input out NoJournal) (same_command arguments c.0 (Run form) c.1 known) c.2))
+refuses_of arguments form input out (NotAJournal fault) known c = λ sound bytes is. (λ many. absurd (subst (λ k. CausedByCommand k input out (NotAJournal fault)) (same_command arguments c.0 (Run form) c.1 known) c.2), λ none. absurd (subst (λ k. CausedByCommand k input out (NotAJournal fault)) (same_command arguments c.0 (Run form) c.1 known) c.2))
 refuses_of arguments form input out (Refused line cause) known c = λ sound bytes is. (λ many. refl, λ none. inl refl)
-refuses_of arguments form input out ReadFault known c = λ sound bytes is. (λ many. absurd (sound (subst (λ k. CausedBy k input out ReadFault) (same_command arguments c.0 (Run form) c.1 known) c.2).0), λ none. absurd (sound (subst (λ k. CausedBy k input out ReadFault) (same_command arguments c.0 (Run form) c.1 known) c.2).0))
-refuses_of arguments form input out WriteFault known c = λ sound bytes is. (λ many. let d = subst (λ k. CausedBy k input out WriteFault) (same_command arguments c.0 (Run form) c.1 known) c.2 in absurd (no_workload input bytes is (inl many) d.0 d.1), λ none. let d = subst (λ k. CausedBy k input out WriteFault) (same_command arguments c.0 (Run form) c.1 known) c.2 in absurd (no_workload input bytes is (inr none) d.0 d.1))
-refuses_of arguments form input out OutOfMemory known c = λ sound bytes is. (λ many. let d = subst (λ k. CausedBy k input out OutOfMemory) (same_command arguments c.0 (Run form) c.1 known) c.2 in too_many_for input bytes d.0 is many, λ none. inr refl)
-refuses_of arguments form input out Blocked known c = λ sound bytes is. (λ many. let d = subst (λ k. CausedBy k input out Blocked) (same_command arguments c.0 (Run form) c.1 known) c.2 in absurd (no_workload input bytes is (inl many) d.0 d.1), λ none. let d = subst (λ k. CausedBy k input out Blocked) (same_command arguments c.0 (Run form) c.1 known) c.2 in absurd (no_workload input bytes is (inr none) d.0 d.1))
-refuses_of arguments form input out TooLong known c = λ sound bytes is. (λ many. let d = subst (λ k. CausedBy k input out TooLong) (same_command arguments c.0 (Run form) c.1 known) c.2 in absurd (no_workload input bytes is (inl many) d.0 d.1), λ none. let d = subst (λ k. CausedBy k input out TooLong) (same_command arguments c.0 (Run form) c.1 known) c.2 in absurd (no_workload input bytes is (inr none) d.0 d.1))
+refuses_of arguments form input out ReadFault known c = λ sound bytes is. (λ many. absurd (sound (subst (λ k. CausedByCommand k input out ReadFault) (same_command arguments c.0 (Run form) c.1 known) c.2).0), λ none. absurd (sound (subst (λ k. CausedByCommand k input out ReadFault) (same_command arguments c.0 (Run form) c.1 known) c.2).0))
+refuses_of arguments form input out WriteFault known c = λ sound bytes is. (λ many. let d = subst (λ k. CausedByCommand k input out WriteFault) (same_command arguments c.0 (Run form) c.1 known) c.2 in absurd (no_workload input bytes is (inl many) d.0 d.1), λ none. let d = subst (λ k. CausedByCommand k input out WriteFault) (same_command arguments c.0 (Run form) c.1 known) c.2 in absurd (no_workload input bytes is (inr none) d.0 d.1))
+refuses_of arguments form input out OutOfMemory known c = λ sound bytes is. (λ many. let d = subst (λ k. CausedByCommand k input out OutOfMemory) (same_command arguments c.0 (Run form) c.1 known) c.2 in too_many_for input bytes d.0 is many, λ none. inr refl)
+refuses_of arguments form input out Blocked known c = λ sound bytes is. (λ many. let d = subst (λ k. CausedByCommand k input out Blocked) (same_command arguments c.0 (Run form) c.1 known) c.2 in absurd (no_workload input bytes is (inl many) d.0 d.1), λ none. let d = subst (λ k. CausedByCommand k input out Blocked) (same_command arguments c.0 (Run form) c.1 known) c.2 in absurd (no_workload input bytes is (inr none) d.0 d.1))
+refuses_of arguments form input out TooLong known c = λ sound bytes is. (λ many. let d = subst (λ k. CausedByCommand k input out TooLong) (same_command arguments c.0 (Run form) c.1 known) c.2 in absurd (no_workload input bytes is (inl many) d.0 d.1), λ none. let d = subst (λ k. CausedByCommand k input out TooLong) (same_command arguments c.0 (Run form) c.1 known) c.2 in absurd (no_workload input bytes is (inr none) d.0 d.1))
 
 pub refuses_tables_of : (arguments : List (List ℕ)) (input out : StreamChange) (a : Answer) → command_of arguments ≡ Some Tables → Caused arguments input out a → Refuses input (status_of a)
-refuses_tables_of arguments input out Done known c = λ sound bytes is. (λ many. let d = subst (λ k. CausedBy k input out Done) (same_command arguments c.0 Tables c.1 known) c.2 in absurd (no_workload input bytes is (inl many) d.0 d.1), λ none. let d = subst (λ k. CausedBy k input out Done) (same_command arguments c.0 Tables c.1 known) c.2 in absurd (no_workload input bytes is (inr none) d.0 d.1))
+refuses_tables_of arguments input out Done known c = λ sound bytes is. (λ many. let d = subst (λ k. CausedByCommand k input out Done) (same_command arguments c.0 Tables c.1 known) c.2 in absurd (no_workload input bytes is (inl many) d.0 d.1), λ none. let d = subst (λ k. CausedByCommand k input out Done) (same_command arguments c.0 Tables c.1 known) c.2 in absurd (no_workload input bytes is (inr none) d.0 d.1))
 refuses_tables_of arguments input out Usage known c = λ sound bytes is. (λ many. absurd (some_command arguments Tables known c.0), λ none. absurd (some_command arguments Tables known c.0))
 refuses_tables_of arguments input out TooLarge known c = λ sound bytes is. (λ many. refl, λ none. inl refl)
-refuses_tables_of arguments input out TooLargeToAudit known c = λ sound bytes is. (λ many. absurd (subst (λ k. CausedBy k input out TooLargeToAudit) (same_command arguments c.0 Tables c.1 known) c.2), λ none. absurd (subst (λ k. CausedBy k input out TooLargeToAudit) (same_command arguments c.0 Tables c.1 known) c.2))
-refuses_tables_of arguments input out NoJournal known c = λ sound bytes is. (λ many. absurd (subst (λ k. CausedBy k input out NoJournal) (same_command arguments c.0 Tables c.1 known) c.2), λ none. absurd (subst (λ k. CausedBy k input out NoJournal) (same_command arguments c.0 Tables c.1 known) c.2))
-refuses_tables_of arguments input out (NotAJournal fault) known c = λ sound bytes is. (λ many. absurd (subst (λ k. CausedBy k input out (NotAJournal fault)) (same_command arguments c.0 Tables c.1 known) c.2), λ none. absurd (subst (λ k. CausedBy k input out (NotAJournal fault)) (same_command arguments c.0 Tables c.1 known) c.2))
+refuses_tables_of arguments input out TooLargeToAudit known c = λ sound bytes is. (λ many. absurd (subst (λ k. CausedByCommand k input out TooLargeToAudit) (same_command arguments c.0 Tables c.1 known) c.2), λ none. absurd (subst (λ k. CausedByCommand k input out TooLargeToAudit) (same_command arguments c.0 Tables c.1 known) c.2))
+refuses_tables_of arguments input out NoJournal known c = λ sound bytes is. (λ many. absurd (subst (λ k. CausedByCommand k input out NoJournal) (same_command arguments c.0 Tables c.1 known) c.2), λ none. absurd (subst (λ k. CausedByCommand k input out NoJournal) (same_command arguments c.0 Tables c.1 known) c.2))
+refuses_tables_of arguments input out (NotAJournal fault) known c = λ sound bytes is. (λ many. absurd (subst (λ k. CausedByCommand k input out (NotAJournal fault)) (same_command arguments c.0 Tables c.1 known) c.2), λ none. absurd (subst (λ k. CausedByCommand k input out (NotAJournal fault)) (same_command arguments c.0 Tables c.1 known) c.2))
 refuses_tables_of arguments input out (Refused line cause) known c = λ sound bytes is. (λ many. refl, λ none. inl refl)
-refuses_tables_of arguments input out ReadFault known c = λ sound bytes is. (λ many. absurd (sound (subst (λ k. CausedBy k input out ReadFault) (same_command arguments c.0 Tables c.1 known) c.2).0), λ none. absurd (sound (subst (λ k. CausedBy k input out ReadFault) (same_command arguments c.0 Tables c.1 known) c.2).0))
-refuses_tables_of arguments input out WriteFault known c = λ sound bytes is. (λ many. let d = subst (λ k. CausedBy k input out WriteFault) (same_command arguments c.0 Tables c.1 known) c.2 in absurd (no_workload input bytes is (inl many) d.0 d.1), λ none. let d = subst (λ k. CausedBy k input out WriteFault) (same_command arguments c.0 Tables c.1 known) c.2 in absurd (no_workload input bytes is (inr none) d.0 d.1))
-refuses_tables_of arguments input out OutOfMemory known c = λ sound bytes is. (λ many. let d = subst (λ k. CausedBy k input out OutOfMemory) (same_command arguments c.0 Tables c.1 known) c.2 in too_many_for input bytes d.0 is many, λ none. inr refl)
-refuses_tables_of arguments input out Blocked known c = λ sound bytes is. (λ many. absurd (subst (λ k. CausedBy k input out Blocked) (same_command arguments c.0 Tables c.1 known) c.2), λ none. absurd (subst (λ k. CausedBy k input out Blocked) (same_command arguments c.0 Tables c.1 known) c.2))
-refuses_tables_of arguments input out TooLong known c = λ sound bytes is. (λ many. absurd (subst (λ k. CausedBy k input out TooLong) (same_command arguments c.0 Tables c.1 known) c.2), λ none. absurd (subst (λ k. CausedBy k input out TooLong) (same_command arguments c.0 Tables c.1 known) c.2))
+refuses_tables_of arguments input out ReadFault known c = λ sound bytes is. (λ many. absurd (sound (subst (λ k. CausedByCommand k input out ReadFault) (same_command arguments c.0 Tables c.1 known) c.2).0), λ none. absurd (sound (subst (λ k. CausedByCommand k input out ReadFault) (same_command arguments c.0 Tables c.1 known) c.2).0))
+refuses_tables_of arguments input out WriteFault known c = λ sound bytes is. (λ many. let d = subst (λ k. CausedByCommand k input out WriteFault) (same_command arguments c.0 Tables c.1 known) c.2 in absurd (no_workload input bytes is (inl many) d.0 d.1), λ none. let d = subst (λ k. CausedByCommand k input out WriteFault) (same_command arguments c.0 Tables c.1 known) c.2 in absurd (no_workload input bytes is (inr none) d.0 d.1))
+refuses_tables_of arguments input out OutOfMemory known c = λ sound bytes is. (λ many. let d = subst (λ k. CausedByCommand k input out OutOfMemory) (same_command arguments c.0 Tables c.1 known) c.2 in too_many_for input bytes d.0 is many, λ none. inr refl)
+refuses_tables_of arguments input out Blocked known c = λ sound bytes is. (λ many. absurd (subst (λ k. CausedByCommand k input out Blocked) (same_command arguments c.0 Tables c.1 known) c.2), λ none. absurd (subst (λ k. CausedByCommand k input out Blocked) (same_command arguments c.0 Tables c.1 known) c.2))
+refuses_tables_of arguments input out TooLong known c = λ sound bytes is. (λ many. absurd (subst (λ k. CausedByCommand k input out TooLong) (same_command arguments c.0 Tables c.1 known) c.2), λ none. absurd (subst (λ k. CausedByCommand k input out TooLong) (same_command arguments c.0 Tables c.1 known) c.2))
 
 -- status 1 comes exactly where the arguments are of none of the forms
 pub usage_of : (arguments : List (List ℕ)) (input out : StreamChange) (a : Answer) → Caused arguments input out a → (status_of a ≡ 1) ↔ (command_of arguments ≡ None)

@@ -9,7 +9,7 @@ use Rattle.sd_state.specs.declared.states.State.{State}
 use Rattle.sd_state.specs.Opening.{opening}
 use Rattle.sd_machine.specs.Runs.{final, IsComplete, IsReached, IsRun, IsSerial, IsStep}
 use Rattle.sd_machine.specs.Texts.{journal}
-use Rattle.sd_rounds.specs.declared.orders.Turns.{Turns}
+use Rattle.sd_rounds.specs.declared.orders.RoundOrder.{RoundOrder}
 use Rattle.sd_rounds.specs.Orders.{orders_of}
 use Rattle.sd_entries.specs.Fitting.{hints_in_range, IsSpelled}
 use Rattle.sd_audit.specs.Audits.{IsJournal}
@@ -28,7 +28,7 @@ RunJournalsAreJournals =
 
 abbrev pub SerialJournalsAreJournals : Type 0
 SerialJournalsAreJournals =
-    (w : Work) (turns : Turns) (es : List Entry) → IsSerial w (orders_of w turns) es → length es < most_entries → IsJournal w (journal w es) (final w (opening w) es) (length es)
+    (w : Work) (turns : RoundOrder) (es : List Entry) → IsSerial w (orders_of w turns) es → length es < most_entries → IsJournal w (journal w es) (final w (opening w) es) (length es)
 
 -- a journal has the entries of one run alone: of entries that have lines of their own, no others have the same journal
 abbrev pub JournalsTellEntries : Type 0

@@ -5,7 +5,7 @@ use Rattle.sd_types.specs.declared.events.Entry.{Entry}
 use Rattle.sd_types.specs.declared.works.Work.{Work}
 use Rattle.sd_types.specs.Works.{same_bytes}
 use Rattle.sd_text.specs.Numbers.{number_of}
-use Rattle.sd_rounds.specs.declared.orders.Turns.TheVariants.{Rising, Drawn}
+use Rattle.sd_rounds.specs.declared.orders.RoundOrder.TheVariants.{Rising, Drawn}
 use Rattle.sd_machine.specs.Texts.{journal, summary}
 use Rattle.sd_program.specs.declared.forms.Mode.{Mode}
 use Rattle.sd_program.specs.declared.forms.Mode.TheVariants.{Rounds, Threads}

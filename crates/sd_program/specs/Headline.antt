@@ -58,16 +58,16 @@ CausedByNumber n out WriteFault = HasFault out × AppendsPart out.before out.aft
 CausedByNumber n out OutOfMemory = IsUntouched out
 CausedByNumber n out _ = ⊥
 
-abbrev pub CausedBy : Command → StreamChange → StreamChange → Answer → Type 0
-CausedBy (Run form) input out a = CausedByInput form input out a
-CausedBy Tables input out a = CausedByTables input out a
-CausedBy (Generate n) input out a = IsUntouched input × CausedByNumber n out a
-CausedBy Audit input out a = CausedByAudit input out a
+abbrev pub CausedByCommand : Command → StreamChange → StreamChange → Answer → Type 0
+CausedByCommand (Run form) input out a = CausedByInput form input out a
+CausedByCommand Tables input out a = CausedByTables input out a
+CausedByCommand (Generate n) input out a = IsUntouched input × CausedByNumber n out a
+CausedByCommand Audit input out a = CausedByAudit input out a
 
 -- an answer and its cause
 abbrev pub Caused : List (List ℕ) → StreamChange → StreamChange → Answer → Type 0
 Caused arguments input out Usage = (command_of arguments ≡ None) × IsUntouched input × IsUntouched out
-Caused arguments input out a = (command : Command) × (command_of arguments ≡ Some command) × CausedBy command input out a
+Caused arguments input out a = (command : Command) × (command_of arguments ≡ Some command) × CausedByCommand command input out a
 
 -- the answer's line was written to the error output, whole where no fault was counted, and else a prefix of it
 abbrev pub Tells : StreamChange → Answer → Type 0

@@ -16,7 +16,7 @@ use Rattle.sd_program.specs.declared.forms.Mode.{Mode}
 use Rattle.sd_program.specs.declared.forms.Mode.TheVariants.{Rounds, Threads}
 use Rattle.sd_program.specs.Forms.{mode_of, text_of}
 use Rattle.sd_machine.specs.Runs.{final_state}
-use Rattle.sd_program.specs.TheRun.{IsOpen, IsTheRun}
+use Rattle.sd_program.specs.TheRun.{IsCycleFree, IsTheRun}
 
 -- a prefix of the text of the run was written
 abbrev pub WritesPart : Work → Form → StreamChange → Type 0
@@ -38,7 +38,7 @@ IsLong w Threads = IsLongRun w
 
 -- the answer for an accepted workload, and what it left of the output
 abbrev pub Ran : Work → Form → StreamChange → Answer → Type 0
-Ran w form out Done = Writes w form out (IsOpen w)
+Ran w form out Done = Writes w form out (IsCycleFree w)
 Ran w form out Blocked = Writes w form out (HasCycle w)
 Ran w form out WriteFault = HasFault out × WritesPart w form out
 Ran w form out OutOfMemory = HasNoFault out × (IsUntouched out ⊎ WritesPart w form out)

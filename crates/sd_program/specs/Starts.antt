@@ -11,5 +11,5 @@ use Rattle.sd_answers.specs.StreamChanges.{StreamChange}
 use Rattle.sd_program.specs.Headline.{KeepsPromises}
 
 -- arguments that were read are carried out
-abbrev pub Starts : Result (Vec (String Global) Global) Error → StreamChange → StreamChange → StreamChange → ℕ → Type 0
-Starts = StartsBy KeepsPromises line_of
+abbrev pub DispsimStarts : Result (Vec (String Global) Global) Error → StreamChange → StreamChange → StreamChange → ℕ → Type 0
+DispsimStarts = StartsBy KeepsPromises line_of

@@ -21,8 +21,8 @@ use Rattle.sd_program.specs.declared.forms.Mode.TheVariants.{Rounds, Threads}
 
 -- from an entry that the accounts count as a wake of a thread, as long as no entry stops it, the thread is on a dispatch
 -- queue or runs
-abbrev pub WokenAreRunnable : Work → List Entry → Type 0
-WokenAreRunnable w es =
+abbrev pub WokenStayRunnableIn : Work → List Entry → Type 0
+WokenStayRunnableIn w es =
     (before more rest : List Entry) (e : Entry) (t : ℕ) → es ≡ before ++ e ∷ (more ++ rest) → is_wake_of t e.event ≡ true → NoneStops t more
     → runs_or_is_runnable (thread_of (final_state w (before ++ e ∷ more)) t).place ≡ true
 
@@ -47,7 +47,7 @@ pub record IsTheRun (w : Work) (mode : Mode) (es : List Entry) : Type 0 where
   pub belong : (k : ℕ) → ThreadsBelong w (state_at w es k)
   pub marks : (k : ℕ) → MarksStand (state_at w es k)
   -- a woken thread is on a dispatch queue or runs, until it stops again;
-  pub woken : WokenAreRunnable w es
+  pub woken : WokenStayRunnableIn w es
   -- where no processor walks along a chain of owners, the effective priority of each thread that is in no blocking cycle is
   -- the maximum of the base priorities of itself and of all threads blocked behind it;
   pub priorities : (k : ℕ) → PrioritiesAreMaxima (state_at w es k)
@@ -56,6 +56,6 @@ pub record IsTheRun (w : Work) (mode : Mode) (es : List Entry) : Type 0 where
 
 -- No state of the run has a blocking cycle. So where no processor walks along a chain of owners, the effective priority of
 -- every thread is the maximum of the base priorities of itself and of all threads blocked behind it.
-pub record IsOpen (w : Work) (es : List Entry) : Type 0 where
+pub record IsCycleFree (w : Work) (es : List Entry) : Type 0 where
   pub cycles : (k : ℕ) → cycles_of (state_at w es k) ≡ []
   pub maxima : (k : ℕ) → NobodyWalks (state_at w es k) → (o : ℕ) → IsChainMax (graph (state_at w es k)) o (eff_of (state_at w es k) o)

@@ -7,14 +7,14 @@ ghost use Rattle.sd_program.specs.declared.forms.Mode.TheVariants.{Threads};
 ghost use Rattle.sd_program.specs.Forms.{command_of, drawn_command, generate_command, mode_of, pair_command, seed_command, verb_command};
 ghost use Rattle.sd_types.specs.Works.{same_bytes};
 
-use sd_rounds::Turns;
+use sd_rounds::RoundOrder;
 use sd_text::number;
 
 /// How the processors of a run act.
 #[derive(Clone, Copy)]
 pub enum Mode {
     /// In rounds, in which they take these turns.
-    Rounds(Turns),
+    Rounds(RoundOrder),
     /// Side by side, on threads of the host.
     Threads,
 }
@@ -48,12 +48,12 @@ impl Form {
     {
         match self {
             Form::Journal(mode) => mode,
-            Form::Summary => Mode::Rounds(Turns::Rising),
+            Form::Summary => Mode::Rounds(RoundOrder::Rising),
         }
     }
 }
 
-const RUN_RISING: Command = Command::Run(Form::Journal(Mode::Rounds(Turns::Rising)));
+const RUN_RISING: Command = Command::Run(Form::Journal(Mode::Rounds(RoundOrder::Rising)));
 
 const RUN_ON_THREADS: Command = Command::Run(Form::Journal(Mode::Threads));
 
@@ -95,7 +95,7 @@ fn drawn_command(seed: u64) -> Option<Command>
     ensures { result ≡ drawn_command seed }
 {
     if seed <= 4_294_967_295 {
-        let turns = Turns::Drawn { seed: seed as u32 };
+        let turns = RoundOrder::Drawn { seed: seed as u32 };
         Some(Command::Run(Form::Journal(Mode::Rounds(turns))))
     } else {
         None

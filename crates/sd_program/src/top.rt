@@ -7,7 +7,7 @@ ghost use Rattle.sd_program.specs.declared.forms.Form.TheVariants.{Journal};
 ghost use Rattle.sd_program.specs.declared.forms.Mode.TheVariants.{Threads};
 ghost use Rattle.sd_program.specs.Forms.{command_of, mode_of};
 ghost use Rattle.sd_program.specs.Headline.{CausedByInput, CausedByNumber, CausedByTables, Caused, Tells, KeepsPromises};
-ghost use Rattle.sd_program.specs.Starts.{Starts};
+ghost use Rattle.sd_program.specs.Starts.{DispsimStarts};
 ghost use Rattle.sd_answers.specs.StreamChanges.{change_of};
 
 use crate::audits::audit_input;
@@ -195,7 +195,7 @@ pub fn start<R: Threads + Wait + Sync, S: Source, K: Sink, E: Sink, G: Gate + Sy
     err: &mut E,
     gate: &G,
 ) -> u8
-    ensures { Starts arguments
+    ensures { DispsimStarts arguments
         (change_of (S.remaining input.old) (S.remaining input.new) (S.fault_count input.old) (S.fault_count input.new))
         (change_of (K.contents out.old) (K.contents out.new) (K.fault_count out.old) (K.fault_count out.new))
         (change_of (E.contents err.old) (E.contents err.new) (E.fault_count err.old) (E.fault_count err.new))

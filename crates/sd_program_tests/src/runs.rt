@@ -4,7 +4,7 @@ ghost use Rattle.std.specs.Prelude.{◌≤◌};
 
 use sd_log::EntryLog;
 use sd_program::{OpenGate, dispsim, start};
-use sd_rounds::{Turns, run_rounds};
+use sd_rounds::{RoundOrder, run_rounds};
 use sd_steps::replay;
 use sd_text::{MemorySink, MemorySource, read_all};
 use sd_types::Entry;
@@ -415,7 +415,7 @@ fn a_run_is_replayed(rt: HostRuntime) -> Result<(), Fail> {
     let Ok(work) = read_work(alloc, EXPIRY.as_bytes()) else {
         return Ok(assert!(rt; false, "no work"));
     };
-    let Ok(run) = run_rounds(alloc, &work, Turns::Rising) else {
+    let Ok(run) = run_rounds(alloc, &work, RoundOrder::Rising) else {
         return Ok(assert!(rt; false, "no run"));
     };
     let entries = entries_of(alloc, &run.entries)?;

@@ -5,7 +5,7 @@ use crate::items::{Made, Tag, node};
 use sd_boxq::BoxQueue;
 use sd_dispq::DispQueue;
 use sd_sleepq::SleepChain;
-use sd_turnstile::{TurnChain, Turnstile};
+use sd_turnstile::{Turnstile, TurnstileChain};
 use sd_types::{ChanId, LockId, Side};
 use std::alloc::{AllocError, Global};
 use std::io;
@@ -194,7 +194,7 @@ pub fn measure_waiters<T: Made + Drop>(
     clock: &impl Clock,
     alloc: Global,
 ) -> io::Result<[Measured; 2]> {
-    let mut chain: TurnChain<T> = TurnChain::new(0);
+    let mut chain: TurnstileChain<T> = TurnstileChain::new(0);
     for id in 0..STANDING {
         let waiter = node(alloc, standing(STANDING - 1 - id))?;
         chain.block(LockId(64), Side::Writer, waiter, Turnstile::new(alloc)?);

@@ -4,7 +4,7 @@ ghost use Rattle.sd_turnstile.specs.Waiters.{nobody, IsOfChain, of_lock, waiter_
 
 use crate::items::{Item, id_of, node, sent};
 use sd_boxq::{Node, Ranked};
-use sd_turnstile::{Rack, TurnChain, Turnstile};
+use sd_turnstile::{Rack, Turnstile, TurnstileChain};
 use sd_types::{LockId, Side};
 use std::alloc::AllocError;
 use std::test::Fail;
@@ -49,7 +49,7 @@ const WAITERS: [(u16, bool, u8, i64, u32); 9] = [
 
 #[test]
 fn blocks_and_takes(rt: HostRuntime) -> Result<(), Fail> {
-    let mut chain = TurnChain::new(5);
+    let mut chain = TurnstileChain::new(5);
     for (lock, writes, rank, key, id) in WAITERS {
         assert!(rt; lock < 256 && lock % 64 == 5);
         let own = turnstile(&rt)?;
@@ -92,7 +92,7 @@ fn blocks_and_takes(rt: HostRuntime) -> Result<(), Fail> {
     Ok(())
 }
 
-fn counted(chain: &TurnChain<Item>, lock: u16) -> usize
+fn counted(chain: &TurnstileChain<Item>, lock: u16) -> usize
     requires of_chain { IsOfChain chain.now lock }
     requires count { waiter_count (of_lock chain.now lock) < 2 ^ 32 }
     ensures { result ≡ waiter_count (of_lock chain.now lock) }
@@ -102,7 +102,7 @@ fn counted(chain: &TurnChain<Item>, lock: u16) -> usize
 
 #[test]
 fn counts_several_waiters(rt: HostRuntime) -> Result<(), Fail> {
-    let mut chain = TurnChain::new(0);
+    let mut chain = TurnstileChain::new(0);
     assert_eq!(rt; counted(&chain, 64), 0);
     // Equal ranks and keys: the earlier waiter is the better one.
     chain.block(
@@ -142,7 +142,7 @@ fn counts_several_waiters(rt: HostRuntime) -> Result<(), Fail> {
 
 #[test]
 fn is_empty_at_first(rt: HostRuntime) -> Result<(), Fail> {
-    let mut chain: TurnChain<Item> = TurnChain::new(63);
+    let mut chain: TurnstileChain<Item> = TurnstileChain::new(63);
     for lock in [63, 127, 191, 255] {
         assert!(rt; lock < 256 && lock % 64 == 63);
         assert_eq!(rt; chain.greatest(LockId(lock)), None);
@@ -170,7 +170,7 @@ fn racks(rt: HostRuntime) -> Result<(), Fail> {
     Ok(())
 }
 
-fn chain_is_sent<T: Ranked + Send>(chain: TurnChain<T>) -> TurnChain<T>
+fn chain_is_sent<T: Ranked + Send>(chain: TurnstileChain<T>) -> TurnstileChain<T>
     ensures { result ≡ chain }
 {
     sent(chain)
@@ -194,7 +194,7 @@ fn is_send(rt: HostRuntime) -> Result<(), Fail> {
     let mut rack = Rack::new();
     rack.put(turnstile_is_sent(turnstile(&rt)?));
     let own = rack_is_sent(rack).take().ok_or("no turnstile")?;
-    let mut chain = TurnChain::new(9);
+    let mut chain = TurnstileChain::new(9);
     chain.block(LockId(9), Side::Writer, node(&rt, 10, 1, 5)?, own);
     assert_eq!(rt; left(chain_is_sent(chain).take(5)), (9, true));
     Ok(())

@@ -3,7 +3,7 @@
 ghost use Rattle.std.specs.Prelude.{◌≡◌, ◌<◌, false, IsTrue, IfOk, IfSome, length};
 ghost use Rattle.sd_types.specs.Priorities.{base_of, eff_as, eff};
 ghost use Rattle.sd_types.specs.Scripts.{is_held};
-ghost use Rattle.sd_types.specs.Willed.{eff_with, IsSound};
+ghost use Rattle.sd_types.specs.Willed.{eff_with, InheritsSoundly};
 ghost use Rattle.sd_types.specs.Limits.{most_held};
 
 use sd_boxq::Ranked;
@@ -24,14 +24,14 @@ pub struct Record {
 }
 
 impl Model for Record {
-    ghost use Rattle.sd_types.specs.Willed.{IsSound};
+    ghost use Rattle.sd_types.specs.Willed.{InheritsSoundly};
     ghost use Rattle.sd_record.specs.Records.{ThreadRecord};
 
     ghost Value = { ThreadRecord };
 
     ghost view = { λ r. record { id = r.id; body = r.body.value; key = r.key } };
 
-    ghost invariant = { λ r. IsSound r.body.value };
+    ghost invariant = { λ r. InheritsSoundly r.body.value };
 }
 
 impl Record {
@@ -44,7 +44,7 @@ impl Record {
         body: ThreadBody,
         key: i64,
     ) -> Result<Record, AllocError>
-        requires { IsSound body }
+        requires { InheritsSoundly body }
         ensures { IfOk result (λ r. r ≡ record { id = id; body = body; key = key }) }
     {
         match Box::new(alloc, body) {

@@ -15,7 +15,7 @@ use Rattle.sd_machine.specs.Runs.{final, round_after, serial_hints, IsComplete, 
 use Rattle.sd_machine.proofs.RoundLemmas.{empty_round}
 use Rattle.sd_steps.specs.Entering.{can_enter, plan_enters}
 use Rattle.sd_steps.proofs.EnteringLemmas.{enters_some, enters_none}
-use Rattle.sd_rounds.specs.declared.orders.Turns.{Turns}
+use Rattle.sd_rounds.specs.declared.orders.RoundOrder.{RoundOrder}
 use Rattle.sd_rounds.specs.Orders.{orders_of}
 use Rattle.sd_rounds.proofs.OrderLemmas.{first, order_in}
 
@@ -28,7 +28,7 @@ enters_inside w s c e =
 some_none : (o : Option Event) → IsSome o → o ≡ None → ⊥
 some_none o some none = cc
 
-module _ (w : Work) (turns : Turns) (k : ℕ) (es : List Entry) (none : round_after w (orders_of w turns k) es ≡ []) where
+module _ (w : Work) (turns : RoundOrder) (k : ℕ) (es : List Entry) (none : round_after w (orders_of w turns k) es ≡ []) where
   none_here : (c : CpuId) → c.0 < w.cpus → next w (final w (opening w) es) c (serial_hints w (final w (opening w) es) c) ≡ None
   none_here c here =
       let at = order_in w turns k c here in
@@ -42,5 +42,5 @@ module _ (w : Work) (turns : Turns) (k : ℕ) (es : List Entry) (none : round_af
       by true e = absurd (some_none _ (enters_some w (final w (opening w) es) c e) (none_here c (enters_inside w (final w (opening w) es) c e)))
       by false e = enters_none w (final w (opening w) es) c hints e
 
-pub complete_of : (w : Work) (turns : Turns) (es : List Entry) → IsSerial w (orders_of w turns) es → IsComplete w (final w (opening w) es)
+pub complete_of : (w : Work) (turns : RoundOrder) (es : List Entry) → IsSerial w (orders_of w turns) es → IsComplete w (final w (opening w) es)
 complete_of w turns es r = complete_after w turns r.count es r.ends

@@ -7,8 +7,8 @@ use Rattle.rand_pcg.specs.Pcg.{multiplier_64, pcg32}
 use Rattle.sd_types.specs.declared.numbers.CpuId.{CpuId}
 use Rattle.sd_types.specs.declared.works.Work.{Work}
 use Rattle.sd_machine.specs.Runs.{rising}
-use Rattle.sd_rounds.specs.declared.orders.Turns.{Turns}
-use Rattle.sd_rounds.specs.declared.orders.Turns.TheVariants.{Rising, Drawn}
+use Rattle.sd_rounds.specs.declared.orders.RoundOrder.{RoundOrder}
+use Rattle.sd_rounds.specs.declared.orders.RoundOrder.TheVariants.{Rising, Drawn}
 
 -- from the item at this index down to that at index 1, each is exchanged with one that is drawn among those up to it
 unfoldable pub shuffled : ℕ → Lcg → List CpuId → List CpuId × Lcg
@@ -25,12 +25,12 @@ generator w seed zero = started 64 multiplier_64 seed (increment_of 64 1)
 generator w seed (suc k) = (drawn_from (rising w) (generator w seed k)).1
 
 -- the order of each round
-abbrev pub orders_of : Work → Turns → ℕ → List CpuId
+abbrev pub orders_of : Work → RoundOrder → ℕ → List CpuId
 orders_of w Rising k = rising w
 orders_of w (Drawn seed) k = (drawn_from (rising w) (generator w seed k)).0
 
 -- where no order is drawn there is no generator
-abbrev pub generator_at : Work → Turns → ℕ → Option Lcg
+abbrev pub generator_at : Work → RoundOrder → ℕ → Option Lcg
 generator_at w Rising k = None
 generator_at w (Drawn seed) k = Some (generator w seed k)
 

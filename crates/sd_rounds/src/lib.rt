@@ -11,5 +11,5 @@ mod ticks;
 mod turns;
 
 pub use laws::one_serial;
-pub use orders::Turns;
+pub use orders::RoundOrder;
 pub use rounds::{Finished, run_rounds, run_to_end};

@@ -13,19 +13,19 @@ use sd_types::{CpuId, Work};
 /// How the processors take turns: in each round in rising order, or in an order that is drawn by a generator which
 /// begins with this seed.
 #[derive(Clone, Copy)]
-pub enum Turns {
+pub enum RoundOrder {
     Rising,
     Drawn { seed: u32 },
 }
 
 /// The generator with which a run begins, where orders are drawn.
 #[tactic(auto, unfolding(crate::specs::Orders::generator))]
-pub(crate) fn first_generator(turns: Turns) -> Option<Lcg64Xsh32>
+pub(crate) fn first_generator(turns: RoundOrder) -> Option<Lcg64Xsh32>
     ensures { (work : Work) → result ≡ generator_at work turns 0 }
 {
     match turns {
-        Turns::Rising => None,
-        Turns::Drawn { seed } => Some(Lcg64Xsh32::new(u64::from(seed), 1)),
+        RoundOrder::Rising => None,
+        RoundOrder::Drawn { seed } => Some(Lcg64Xsh32::new(u64::from(seed), 1)),
     }
 }
 

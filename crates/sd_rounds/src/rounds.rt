@@ -10,7 +10,7 @@ ghost use Rattle.sd_rounds.specs.Searched.{IsSearched};
 ghost use Rattle.sd_world.specs.Plain.{Stands, told};
 ghost use Rattle.sd_world.specs.Worlds.{Begins};
 
-use crate::orders::{Turns, first_generator, next_order, rising};
+use crate::orders::{RoundOrder, first_generator, next_order, rising};
 use crate::turns::take_turn;
 use sd_log::EntryLog;
 use sd_state::State;
@@ -75,7 +75,7 @@ fn finish(alloc: Global, work: &Work, world: PlainWorld) -> Result<Finished, Sto
 /// The run of the workload that goes in rounds, in which the processors take turns so. `Full` only where it has 2^40
 /// entries or more, and then it is never returned whole: what `Memory` may stand for instead of a run or of `Full` is
 /// only that memory ran out.
-pub fn run_rounds(alloc: Global, work: &Work, turns: Turns) -> Result<Finished, Stop>
+pub fn run_rounds(alloc: Global, work: &Work, turns: RoundOrder) -> Result<Finished, Stop>
     ensures serial { IfOk result (λ r. IsSerial work.now (orders_of work.now turns) r.entries.items) }
     ensures run { IfOk result (λ r. IsRun work.now r.entries.items) }
     ensures complete { IfOk result (λ r. IsComplete work.now r.state) }

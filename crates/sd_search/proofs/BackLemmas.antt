@@ -17,7 +17,7 @@ use Rattle.sd_types.specs.declared.events.PrioAnswer.TheVariants.{Changed, Refus
 use Rattle.sd_types.specs.declared.events.Put.{Put}
 use Rattle.sd_types.specs.declared.scripts.Op.TheVariants as op
 use Rattle.sd_types.specs.declared.works.Work.{Work}
-use Rattle.sd_types.specs.Willed.{IsSound}
+use Rattle.sd_types.specs.Willed.{InheritsSoundly}
 use Rattle.sd_state.specs.declared.states.CpuState.{CpuState}
 use Rattle.sd_state.specs.declared.states.Place.{Place}
 use Rattle.sd_state.specs.declared.states.Place.TheVariants.{Running, Queued, RealTime, Waiting, Asleep, Napping, Ended}
@@ -108,7 +108,7 @@ module _ (x s : State) (h : IsSameOrder x s) where
         op = finish_back w u can.op;
         room = held.room;
         apart = held.apart;
-        sound = subst IsSound (body u.0) can.sound;
+        sound = subst InheritsSoundly (body u.0) can.sound;
         below = subst (λ (o : Option ℕ). IfSome o (λ n. n < 160)) (sym (others_same x s h l u.0)) can.below;
         more = more_back l can.more;
       }

@@ -32,9 +32,9 @@ IsAnswer w q bs Never = HasNoWitness w q
 IsAnswer w q bs More = (i : ℕ) (x : State) → IsAt bs i x → Meets w q x → ⊥
 
 -- `More` is the answer only where not all was searched
-abbrev pub IsOpen : Graph → Answer → Type 0
-IsOpen g More = g.done < length (packed g)
-IsOpen g _ = ⊤
+abbrev pub IsOpenAnswer : Graph → Answer → Type 0
+IsOpenAnswer g More = g.done < length (packed g)
+IsOpenAnswer g _ = ⊤
 
 -- no state with a smaller number than the one that was found meets the question
 abbrev pub IsFirst : Work → Question → List (List ℕ) → Answer → Type 0

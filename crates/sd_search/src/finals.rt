@@ -2,7 +2,7 @@
 
 ghost use Rattle.std.specs.Prelude.{◌≡◌, ◌↔◌, ◌<◌, [], ◌∷◌, ◌++◌, length, if◌then◌else◌, IsTrue, IfOk, OnOk};
 ghost use Rattle.sd_state.specs.declared.states.State.{State as StateOf};
-ghost use Rattle.sd_search.specs.Finals.{AreFinals, Ends, IsAnswer, IsFirst, IsOpen};
+ghost use Rattle.sd_search.specs.Finals.{AreFinals, Ends, IsAnswer, IsFirst, IsOpenAnswer};
 ghost use Rattle.sd_search.specs.Graphs.{Gathers, IsAt, packed};
 ghost use Rattle.sd_search.specs.Questions.{HasPart};
 
@@ -73,7 +73,7 @@ impl Graph {
         requires gathered { Gathers work.now self.now }
         requires finals { AreFinals work.now (packed self.now) (length (packed self.now)) finals.now }
         ensures answer { IfOk result (IsAnswer work.now question (packed self.now)) }
-        ensures open { IfOk result (IsOpen self.now) }
+        ensures open { IfOk result (IsOpenAnswer self.now) }
         ensures first { IfOk result (IsFirst work.now question (packed self.now)) }
     {
         for i in finals {

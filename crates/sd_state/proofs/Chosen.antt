@@ -12,7 +12,7 @@ use Rattle.sd_state.specs.declared.states.Place.TheVariants.{Running}
 use Rattle.sd_state.specs.declared.states.ThreadState.{ThreadState}
 use Rattle.sd_state.specs.declared.states.State.{State}
 use Rattle.sd_state.specs.States.{thread_of, cpu_of, no_thread, is_running, is_queued, is_ready, key_of, eff_of}
-use Rattle.sd_state.specs.Best.{running, best_ready, best_by, beats, goes_before, queue_rank}
+use Rattle.sd_state.specs.Best.{running, best_ready_among, best_by, beats, goes_before, queue_rank}
 use Rattle.sd_state.proofs.BestLemmas.{IsOrder, IsBestBelow, goes_ahead_by, best_taken, best_kept, best_by_is}
 use Rattle.sd_state.proofs.OrderLemmas.{beats_order}
 use Rattle.sd_state.specs.Invariants.{is_marked}
@@ -70,13 +70,13 @@ module _ (s : State) (c p : ℕ) where
   ]
 
   -- where there is no best, none is ready
-  pub none_ready : best_ready c p s.threads ≡ None → (u : ℕ) → is_ready c p (places s u) ≡ true → ⊥
-  unfolding best_ready
+  pub none_ready : best_ready_among c p s.threads ≡ None → (u : ℕ) → is_ready c p (places s u) ≡ true → ⊥
+  unfolding best_ready_among
   none_ready e u ready =
       false≢true (sym (best_is (λ (x : ThreadState). is_ready c p x.place) beats no_thread beats_order s.threads None e u (ready_inside u ready)) ∙ ready)
 
-  pub best_greatest : (b u : ℕ) → best_ready c p s.threads ≡ Some b → is_ready c p (places s u) ≡ true → eff_of s u ≤ eff_of s b
-  unfolding best_ready
+  pub best_greatest : (b u : ℕ) → best_ready_among c p s.threads ≡ Some b → is_ready c p (places s u) ≡ true → eff_of s u ≤ eff_of s b
+  unfolding best_ready_among
   best_greatest b u e ready =
       behind_no_better (eff_of s u) (queue_rank (places s u)) (eff_of s b) (queue_rank (places s b)) (key_of (places s u)) (key_of (places s b))
       ((best_is (λ (x : ThreadState). is_ready c p x.place) beats no_thread beats_order s.threads (Some b) e).unbeaten u (ready_inside u ready) ready)

@@ -13,8 +13,8 @@ use Rattle.sd_state.specs.declared.states.Place.TheVariants.{Queued, RealTime}
 use Rattle.sd_state.specs.declared.states.ThreadState.{ThreadState}
 use Rattle.sd_state.specs.declared.states.CpuState.{CpuState}
 use Rattle.sd_state.specs.States.{cpu_of, no_cpu}
-use Rattle.sd_state.specs.Opening.{opening, first_thread, first_cpu, dealt_cpu, turn_of, is_urgent, first_cpu_state}
-use Rattle.sd_state.specs.Invariants.{IsInItsSet, IsThere}
+use Rattle.sd_state.specs.Opening.{opening, first_thread, first_cpu, dealt_cpu, dealt_before, is_urgent, first_cpu_state}
+use Rattle.sd_state.specs.Invariants.{IsInItsSet, IsPlaceThere}
 use Rattle.sd_state.proofs.Chosen.{places}
 use Rattle.sd_rules.proofs.PartitionLemmas.{some_cpu, in_no_other}
 use Rattle.sd_state.proofs.Declared.{decl_set, decl_set_there, opening_at, opening_past}
@@ -39,19 +39,19 @@ module _ (w : Work) (t : ℕ) (d : ThreadDecl) (is : slice_get w.threads t ≡ S
       let member = in_no_other w one d.set.0 (k % length cpus, inside, get_or_default cpus (k % length cpus) one none inside) in
       (member.0, same_set _ d.set (opening_set w (dealt_cpu (cpus_of_set w d.set.0) k).0 member.0 ∙ member.1))
 
-  first_well : (k : ℕ) → IsInItsSet w (opening w) t (first_thread w k d).place × IsThere w (first_thread w k d).place
+  first_well : (k : ℕ) → IsInItsSet w (opening w) t (first_thread w k d).place × IsPlaceThere w (first_thread w k d).place
   unfolding first_thread first_cpu
   first_well k = by (is_urgent d)
     where
-      by : (v : Bool) → IsInItsSet w (opening w) t (cond v (RealTime d.set (pos k)) (Queued (dealt_cpu (cpus_of_set w d.set.0) (cond v 0 (turn_of w d.set.0 k))) (pos k)))
-          × IsThere w (cond v (RealTime d.set (pos k)) (Queued (dealt_cpu (cpus_of_set w d.set.0) (cond v 0 (turn_of w d.set.0 k))) (pos k)))
+      by : (v : Bool) → IsInItsSet w (opening w) t (cond v (RealTime d.set (pos k)) (Queued (dealt_cpu (cpus_of_set w d.set.0) (cond v 0 (dealt_before w d.set.0 k))) (pos k)))
+          × IsPlaceThere w (cond v (RealTime d.set (pos k)) (Queued (dealt_cpu (cpus_of_set w d.set.0) (cond v 0 (dealt_before w d.set.0 k))) (pos k)))
       by true = (sym (decl_set w t d is), decl_set_there w t d is)
-      by false = let cpu = first_cpu_well (turn_of w d.set.0 k) in (cpu.1 ∙ sym (decl_set w t d is), cpu.0)
+      by false = let cpu = first_cpu_well (dealt_before w d.set.0 k) in (cpu.1 ∙ sym (decl_set w t d is), cpu.0)
 
 -- a thread of the initial state stands in its set, in a place that is there
-pub opening_well : (w : Work) (t : ℕ) → IsInItsSet w (opening w) t (places (opening w) t) × IsThere w (places (opening w) t)
+pub opening_well : (w : Work) (t : ℕ) → IsInItsSet w (opening w) t (places (opening w) t) × IsPlaceThere w (places (opening w) t)
 opening_well w t = by (slice_get w.threads t) refl
   where
-    by : (o : Option ThreadDecl) → slice_get w.threads t ≡ o → IsInItsSet w (opening w) t (places (opening w) t) × IsThere w (places (opening w) t)
-    by None e = subst (λ p. IsInItsSet w (opening w) t p × IsThere w p) (sym (opening_past w t e)) (tt, tt)
-    by (Some d) e = subst (λ p. IsInItsSet w (opening w) t p × IsThere w p) (sym (ap (λ (x : ThreadState). x.place) (opening_at w t d e))) (first_well w t d e (0 + t))
+    by : (o : Option ThreadDecl) → slice_get w.threads t ≡ o → IsInItsSet w (opening w) t (places (opening w) t) × IsPlaceThere w (places (opening w) t)
+    by None e = subst (λ p. IsInItsSet w (opening w) t p × IsPlaceThere w p) (sym (opening_past w t e)) (tt, tt)
+    by (Some d) e = subst (λ p. IsInItsSet w (opening w) t p × IsPlaceThere w p) (sym (ap (λ (x : ThreadState). x.place) (opening_at w t d e))) (first_well w t d e (0 + t))

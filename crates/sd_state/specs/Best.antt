@@ -29,8 +29,8 @@ abbrev pub beats : ThreadState → ThreadState → Bool
 beats x y = goes_before (eff x.body) (queue_rank x.place) (key_of x.place) (eff y.body) (queue_rank y.place) (key_of y.place)
 
 -- the number of the best thread on the queue of processor c and the real-time queue of partition p
-unfoldable pub best_ready : ℕ → ℕ → List ThreadState → Option ℕ
-best_ready c p threads = best_by (λ x. is_ready c p x.place) beats threads
+unfoldable pub best_ready_among : ℕ → ℕ → List ThreadState → Option ℕ
+best_ready_among c p threads = best_by (λ x. is_ready c p x.place) beats threads
 
 -- the number of the thread that runs on processor c
 unfoldable pub running : ℕ → List ThreadState → Option ℕ

@@ -75,19 +75,19 @@ SuitsQueue p bound (RealTime q k) = (real_time_priority ≤ p) × (bound ≡ Non
 SuitsQueue p bound _ = ⊤
 
 -- the place is one of a processor, a set, a lock or a channel of the workload
-abbrev pub IsThere : Work → Place → Type 0
-IsThere w (Running c) = c.0 < w.cpus
-IsThere w (Queued c k) = c.0 < w.cpus
-IsThere w (RealTime p k) = p.0 ≤ length w.sets
-IsThere w (Waiting l side k) = l.0 < length w.locks
-IsThere w (Asleep ch k) = ch.0 < length w.chans
-IsThere w (Napping c due) = c.0 < w.cpus
-IsThere w Ended = ⊤
+abbrev pub IsPlaceThere : Work → Place → Type 0
+IsPlaceThere w (Running c) = c.0 < w.cpus
+IsPlaceThere w (Queued c k) = c.0 < w.cpus
+IsPlaceThere w (RealTime p k) = p.0 ≤ length w.sets
+IsPlaceThere w (Waiting l side k) = l.0 < length w.locks
+IsPlaceThere w (Asleep ch k) = ch.0 < length w.chans
+IsPlaceThere w (Napping c due) = c.0 < w.cpus
+IsPlaceThere w Ended = ⊤
 
 -- as many threads as the workload declares, each in one place that is there
 pub record PlacesAreThere (w : Work) (s : State) : Type 0 where
   pub threads : length s.threads ≡ length w.threads
-  pub each : (t : ℕ) → t < length w.threads → IsThere w (thread_of s t).place
+  pub each : (t : ℕ) → t < length w.threads → IsPlaceThere w (thread_of s t).place
 
 -- the threads that stand on real-time queues in the initial state are those of priority 100 or more
 abbrev pub UrgentThreads : Type 0

@@ -44,8 +44,8 @@ abbrev pub is_dealt : ℕ → ThreadDecl → Bool
 is_dealt p d = (d.set.0 == p) && not (is_urgent d)
 
 -- how many of the threads before t are assigned round-robin in set p
-abbrev pub turn_of : Work → ℕ → ℕ → ℕ
-turn_of w p t = count_by (is_dealt p) (take t w.threads)
+abbrev pub dealt_before : Work → ℕ → ℕ → ℕ
+dealt_before w p t = count_by (is_dealt p) (take t w.threads)
 
 -- the k-th of the processors of a set, taken round and round
 abbrev pub dealt_cpu : List CpuId → ℕ → CpuId
@@ -53,7 +53,7 @@ dealt_cpu cpus k = slice_index_or cpus (k % length cpus) (record { 0 = 0 })
 
 -- the processor on whose queue thread t stands; for an urgent one the least of its partition
 unfoldable pub first_cpu : Work → ℕ → ThreadDecl → CpuId
-first_cpu w t d = dealt_cpu (cpus_of_set w d.set.0) (if is_urgent d then 0 else turn_of w d.set.0 t)
+first_cpu w t d = dealt_cpu (cpus_of_set w d.set.0) (if is_urgent d then 0 else dealt_before w d.set.0 t)
 
 abbrev pub first_place : Work → ℕ → ThreadDecl → Place
 first_place w t d = if is_urgent d then RealTime d.set (pos t) else Queued (first_cpu w t d) (pos t)

@@ -44,23 +44,23 @@ use Rattle.sd_invariants.proofs.RunningLemmas.{opening_one, one_kept}
 use Rattle.sd_invariants.proofs.Complete.{complete_at_limit}
 use Rattle.sd_invariants.proofs.Counts.{rise_law}
 use Rattle.sd_stretches.specs.declared.changes.Happening.{Happening}
-use Rattle.sd_stretches.specs.declared.changes.Turn.{Turn}
+use Rattle.sd_stretches.specs.declared.changes.Onset.{Onset}
 use Rattle.sd_stretches.specs.declared.histories.History.{History}
 use Rattle.sd_stretches.specs.declared.sights.Doing.TheVariants as does
 use Rattle.sd_stretches.specs.declared.sights.Sight.{Sight}
 use Rattle.sd_stretches.specs.declared.spin_pieces.Spell.{Spell}
 use Rattle.sd_stretches.specs.declared.spin_pieces.Track.TheVariants as track
 use Rattle.sd_stretches.specs.Sights.{doing_of, same_doing, sight_of, sights_of}
-use Rattle.sd_stretches.specs.Changes.{happening_of, happenings_of, turn_if}
-use Rattle.sd_stretches.specs.Histories.{entry_before, moment, happenings_in, over, sights_before, tick_by, turns_in, IsHistory}
-use Rattle.sd_stretches.specs.Rows.{own_turns, stretches, stretches_of}
+use Rattle.sd_stretches.specs.Changes.{happening_of, happenings_of, onset_if}
+use Rattle.sd_stretches.specs.Histories.{entry_before, moment, happenings_in, over, sights_before, tick_by, onsets_in, IsHistory}
+use Rattle.sd_stretches.specs.Rows.{own_onsets, stretches, stretches_of}
 use Rattle.sd_stretches.specs.SpinPieces.{cut_all, pieces, spell_by, spells_on}
 use Rattle.sd_stretches.proofs.ExactLemmas.{filter_flat, same_self, there, own_between, seen_inside}
 use Rattle.sd_statistics.proofs.Local.{others_keep}
 use Rattle.sd_statistics.proofs.Steps.{made_by, many, reached, Made as Entered}
 use Rattle.sd_statistics.specs.Accounted.{RunningTicksAreAccounted}
 use Rattle.sd_statistics.proofs.DeedLemmas.{drop_get}
-use Rattle.sd_statistics.proofs.Sums.{is_on, run_share, shares, turn_at, all_run, Made, Spins, Stands}
+use Rattle.sd_statistics.proofs.Sums.{is_on, run_share, shares, onset_at, all_run, Made, Spins, Stands}
 
 -- ---- places
 
@@ -245,18 +245,18 @@ module _ (w : Work) (es : List Entry) (t : ℕ) (run : IsRun w es) (here : t < l
         let next = so_runs (thread_of (state_at w es (suc k)) t).place c (kept_elsewhere c.0 other ∙ on) in
         ap (λ d. same_doing d (view (suc k)).doing) now ∙ ap (same_doing (does.Running c)) next ∙ same_self (does.Running c)
 
-    at_turn : (c : CpuId) → (c.0 ≢ e.cpu.0 → is_running c.0 (thread_of s t).place ≡ true) → same_doing (view k).doing (view (suc k)).doing ≡ false
+    at_onset : (c : CpuId) → (c.0 ≢ e.cpu.0 → is_running c.0 (thread_of s t).place ≡ true) → same_doing (view k).doing (view (suc k)).doing ≡ false
         → ticked (suc k) ≡ count c (suc k)
-    at_turn c on changes = elim (cases_eq c.0 e.cpu.0) [
+    at_onset c on changes = elim (cases_eq c.0 e.cpu.0) [
       | inl same ↦ ticked_here ∙ ap (λ d. (cpu_of (state_at w es (suc k)) d).count) (sym same)
       | inr other ↦ absurd (false≢true (sym changes ∙ both_sides c other (on other)))
     ]
 
     ends : (c : CpuId) → (view k).doing ≡ does.Running c → same_doing (view k).doing (view (suc k)).doing ≡ false → ticked (suc k) ≡ count c (suc k)
-    ends c on changes = at_turn c (λ other. runs_so (thread_of s t).place c on) changes
+    ends c on changes = at_onset c (λ other. runs_so (thread_of s t).place c on) changes
 
     begins : (c : CpuId) → (view (suc k)).doing ≡ does.Running c → same_doing (view k).doing (view (suc k)).doing ≡ false → ticked (suc k) ≡ count c (suc k)
-    begins c on changes = at_turn c (λ other. sym (kept_elsewhere c.0 other) ∙ runs_so (thread_of (state_at w es (suc k)) t).place c on) changes
+    begins c on changes = at_onset c (λ other. sym (kept_elsewhere c.0 other) ∙ runs_so (thread_of (state_at w es (suc k)) t).place c on) changes
 
     abbrev Spun : Type 0
     Spun = Spins (length es) w.limit t view ticked count spin charge k
@@ -307,7 +307,7 @@ module _ (w : Work) (es : List Entry) (t : ℕ) (run : IsRun w es) (here : t < l
     entered : Made (length es) w.limit t view ticked count spin charge k
     entered = record { running = running; resting = resting; begins = begins; ends = ends; spins = spins_by e.event refl cause }
 
-  -- The turns of the thread, state after state.
+  -- The onsets of the thread, state after state.
 
   seen_now : (k : ℕ) → slice_get (sights_of (state_at w es k)) t ≡ Some (view k)
   unfolding sights_of
@@ -315,23 +315,23 @@ module _ (w : Work) (es : List Entry) (t : ℕ) (run : IsRun w es) (here : t < l
       slice_get-map sight_of (state_at w es k).threads t
       ∙ ap (option_map sight_of) (slice_get-get_or (state_at w es k).threads t no_thread (there w es t here k))
 
-  abbrev turn : ℕ → List Turn
-  turn k = turn_at (length es) w.limit t view ticked count spin charge k
+  abbrev onset : ℕ → List Onset
+  onset k = onset_at (length es) w.limit t view ticked count spin charge k
 
-  own_at : (k : ℕ) → own_turns t (turns_in (moment w es k)) ≡ turn k
-  unfolding moment turn_at
+  own_at : (k : ℕ) → own_onsets t (onsets_in (moment w es k)) ≡ onset k
+  unfolding moment onset_at
   own_at zero =
-      own_between t 0 (ticked 0) (sights_before w es 0) (sights_of (state_at w es 0)) (seen_inside w es t here 0) ∙ ap (turn_if t 0 (ticked 0) None) (seen_now 0)
+      own_between t 0 (ticked 0) (sights_before w es 0) (sights_of (state_at w es 0)) (seen_inside w es t here 0) ∙ ap (onset_if t 0 (ticked 0) None) (seen_now 0)
   own_at (suc k) =
       own_between t (suc k) (ticked (suc k)) (sights_of (state_at w es k)) (sights_of (state_at w es (suc k))) (seen_inside w es t here (suc k))
-      ∙ ap (λ o. turn_if t (suc k) (ticked (suc k)) o (slice_get (sights_of (state_at w es (suc k))) t)) (seen_now k)
-      ∙ ap (turn_if t (suc k) (ticked (suc k)) (Some (view k))) (seen_now (suc k))
+      ∙ ap (λ o. onset_if t (suc k) (ticked (suc k)) o (slice_get (sights_of (state_at w es (suc k))) t)) (seen_now k)
+      ∙ ap (onset_if t (suc k) (ticked (suc k)) (Some (view k))) (seen_now (suc k))
 
-  own_over : own_turns t (over turns_in w es) ≡ flat_map turn (range_with_len 0 (length es + 1))
+  own_over : own_onsets t (over onsets_in w es) ≡ flat_map onset (range_with_len 0 (length es + 1))
   unfolding over
   own_over =
-      filter_flat (λ (x : Turn). x.thread == t) (λ k. turns_in (moment w es k)) (range_with_len 0 (length es + 1))
-      ∙ flat_range_same (λ k. own_turns t (turns_in (moment w es k))) turn 0 (length es + 1) (λ k inside. own_at k)
+      filter_flat (λ (x : Onset). x.thread == t) (λ k. onsets_in (moment w es k)) (range_with_len 0 (length es + 1))
+      ∙ flat_range_same (λ k. own_onsets t (onsets_in (moment w es k))) onset 0 (length es + 1) (λ k inside. own_at k)
 
   -- The ticks that it spends spinning.
 
@@ -382,9 +382,9 @@ module _ (w : Work) (es : List Entry) (t : ℕ) (run : IsRun w es) (here : t < l
       → sum_by run_share (pieces (track.Thread t) h w.limit) ≡ thread_ticks t es
   unfolding pieces stretches
   accounted h complete is =
-      ap (λ xs. sum_by run_share (cut_all (stretches_of h.entries w.limit xs) (spells_on (track.Thread t) h.happenings.items))) (ap (own_turns t) is.turns ∙ own_over)
-      ∙ ap (λ n. sum_by run_share (cut_all (stretches_of n w.limit (flat_map turn (range_with_len 0 (length es + 1)))) (spells_on (track.Thread t) h.happenings.items))) is.entries
-      ∙ ap (λ ss. sum_by run_share (cut_all (stretches_of (length es) w.limit (flat_map turn (range_with_len 0 (length es + 1)))) ss))
+      ap (λ xs. sum_by run_share (cut_all (stretches_of h.entries w.limit xs) (spells_on (track.Thread t) h.happenings.items))) (ap (own_onsets t) is.onsets ∙ own_over)
+      ∙ ap (λ n. sum_by run_share (cut_all (stretches_of n w.limit (flat_map onset (range_with_len 0 (length es + 1)))) (spells_on (track.Thread t) h.happenings.items))) is.entries
+      ∙ ap (λ ss. sum_by run_share (cut_all (stretches_of (length es) w.limit (flat_map onset (range_with_len 0 (length es + 1)))) ss))
       (ap (spells_on (track.Thread t)) is.happenings ∙ spells_over)
       ∙ all_run (length es) w.limit t view ticked count spin charge entered stands (ends_full complete) still refl
       ∙ charges_from 0 (length es) (omega arith)

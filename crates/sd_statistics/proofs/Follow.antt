@@ -23,13 +23,13 @@ use Rattle.sd_invariants.proofs.RunningLemmas.{opening_one, one_kept}
 use Rattle.sd_invariants.proofs.Counts.{rise_law}
 use Rattle.sd_stretches.specs.declared.sights.Sight.{Sight}
 use Rattle.sd_stretches.specs.Sights.{runs_on, sight_of, sights_of}
-use Rattle.sd_stretches.specs.Changes.{turn_if, turns_between}
-use Rattle.sd_stretches.specs.Histories.{moment, sights_before, entry_before, tick_by, over, turns_in}
+use Rattle.sd_stretches.specs.Changes.{onset_if, onsets_between}
+use Rattle.sd_stretches.specs.Histories.{moment, sights_before, entry_before, tick_by, over, onsets_in}
 use Rattle.sd_stretches.specs.Rows.{slices}
 use Rattle.sd_statistics.specs.Follow.{FollowInTime, SlicesFollowInTime}
 use Rattle.sd_statistics.proofs.Local.{others_keep}
 use Rattle.sd_statistics.proofs.Steps.{made_by, many, reached, runs_place}
-use Rattle.sd_statistics.proofs.Turns.{all_follow, row, turn_in}
+use Rattle.sd_statistics.proofs.Onsets.{all_follow, row, onset_in}
 
 module _ (w : Work) (es : List Entry) (c : ℕ) (run : IsRun w es) (here : c < w.cpus) where
   view : ℕ → ℕ → Sight
@@ -87,7 +87,7 @@ module _ (w : Work) (es : List Entry) (c : ℕ) (run : IsRun w es) (here : c < w
             inl (runs_place c (thread_of s t).place ∙ sym (ap (λ (r : State). is_running c (thread_of r t).place) m.state ∙ kept) ∙ sym (runs_place c (thread_of (state_at w es (suc k)) t).place))
       ]
 
-  -- The turns of a run are those of the rows of its states.
+  -- The onsets of a run are those of the rows of its states.
 
   seen : (k t : ℕ) → t < length w.threads → slice_get (sights_of (state_at w es k)) t ≡ Some (view k t)
   unfolding sights_of view
@@ -95,31 +95,31 @@ module _ (w : Work) (es : List Entry) (c : ℕ) (run : IsRun w es) (here : c < w
       let as_many = many w es run k in
       slice_get-map sight_of (state_at w es k).threads t ∙ ap (option_map sight_of) (slice_get-get_or (state_at w es k).threads t no_thread (omega (arith, as_many, inside)))
 
-  turn_is : (k t : ℕ) → t < length w.threads
-      → turn_if t k (tick_at k) (slice_get (sights_before w es k) t) (slice_get (sights_of (state_at w es k)) t) ≡ turn_in c (length es) w.limit view (length w.threads) tick_at k t
-  unfolding turn_in
-  turn_is zero t inside = ap (turn_if t 0 (tick_at 0) None) (seen 0 t inside)
-  turn_is (suc k) t inside =
-      ap (λ o. turn_if t (suc k) (tick_at (suc k)) o (slice_get (sights_of (state_at w es (suc k))) t)) (seen k t inside)
-      ∙ ap (turn_if t (suc k) (tick_at (suc k)) (Some (view k t))) (seen (suc k) t inside)
+  onset_is : (k t : ℕ) → t < length w.threads
+      → onset_if t k (tick_at k) (slice_get (sights_before w es k) t) (slice_get (sights_of (state_at w es k)) t) ≡ onset_in c (length es) w.limit view (length w.threads) tick_at k t
+  unfolding onset_in
+  onset_is zero t inside = ap (onset_if t 0 (tick_at 0) None) (seen 0 t inside)
+  onset_is (suc k) t inside =
+      ap (λ o. onset_if t (suc k) (tick_at (suc k)) o (slice_get (sights_of (state_at w es (suc k))) t)) (seen k t inside)
+      ∙ ap (onset_if t (suc k) (tick_at (suc k)) (Some (view k t))) (seen (suc k) t inside)
 
   seen_many : (k : ℕ) → length (sights_of (state_at w es k)) ≡ length w.threads
   unfolding sights_of
   seen_many k = length-map (state_at w es k).threads sight_of ∙ many w es run k
 
-  row_is : (k : ℕ) → turns_in (moment w es k) ≡ row c (length es) w.limit view (length w.threads) tick_at k
-  unfolding moment turns_between row tick_at
+  row_is : (k : ℕ) → onsets_in (moment w es k) ≡ row c (length es) w.limit view (length w.threads) tick_at k
+  unfolding moment onsets_between row tick_at
   row_is k =
       let as_many : length (sights_of (state_at w es k)) ≡ length w.threads = seen_many k in
-      ap (λ n. flat_map (λ t. turn_if t k (tick_at k) (slice_get (sights_before w es k) t) (slice_get (sights_of (state_at w es k)) t)) (range_with_len 0 n)) as_many
-      ∙ flat_range_same (λ t. turn_if t k (tick_at k) (slice_get (sights_before w es k) t) (slice_get (sights_of (state_at w es k)) t)) (turn_in c (length es) w.limit view (length w.threads) tick_at k) 0 (length w.threads)
-      (λ t inside. turn_is k t (omega (arith, inside)))
+      ap (λ n. flat_map (λ t. onset_if t k (tick_at k) (slice_get (sights_before w es k) t) (slice_get (sights_of (state_at w es k)) t)) (range_with_len 0 n)) as_many
+      ∙ flat_range_same (λ t. onset_if t k (tick_at k) (slice_get (sights_before w es k) t) (slice_get (sights_of (state_at w es k)) t)) (onset_in c (length es) w.limit view (length w.threads) tick_at k) 0 (length w.threads)
+      (λ t inside. onset_is k t (omega (arith, inside)))
 
-  pub follow : FollowInTime (slices c (over turns_in w es) (length es) w.limit)
+  pub follow : FollowInTime (slices c (over onsets_in w es) (length es) w.limit)
   unfolding over
   follow =
-      let all : flat_map (λ k. turns_in (moment w es k)) (range_with_len 0 (length es + 1)) ≡ flat_map (row c (length es) w.limit view (length w.threads) tick_at) (range_with_len 0 (length es + 1))
-      = flat_range_same (λ k. turns_in (moment w es k)) (row c (length es) w.limit view (length w.threads) tick_at) 0 (length es + 1) (λ k inside. row_is k) in
+      let all : flat_map (λ k. onsets_in (moment w es k)) (range_with_len 0 (length es + 1)) ≡ flat_map (row c (length es) w.limit view (length w.threads) tick_at) (range_with_len 0 (length es + 1))
+      = flat_range_same (λ k. onsets_in (moment w es k)) (row c (length es) w.limit view (length w.threads) tick_at) 0 (length es + 1) (λ k inside. row_is k) in
       subst (λ xs. FollowInTime (slices c xs (length es) w.limit)) (sym all)
       (all_follow c (length es) w.limit view (length w.threads) tick_at count_at still (λ k inside. one k) (λ k inside. made_here k inside) (λ k inside. more k inside) (λ k inside. within k))
 

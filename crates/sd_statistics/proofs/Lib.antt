@@ -7,4 +7,4 @@ pub mod SpanLemmas
 pub mod Steps
 pub mod Sums
 pub mod TickLemmas
-pub mod Turns
+pub mod Onsets

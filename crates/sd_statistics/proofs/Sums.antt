@@ -1,4 +1,4 @@
--- The ticks over which a thread runs and spins, of lists alone: its turns, and the ticks that it spends spinning, state after state.
+-- The ticks over which a thread runs and spins, of lists alone: its onsets, and the ticks that it spends spinning, state after state.
 use Rattle.std.proofs.Common.{◌≡◌, ℕ, zero, suc, ◌+◌, ◌-◌, ◌<◌, ◌≤◌, ◌⊎◌, Bool, true, false, cond, inl, inr, List, [], ◌∷◌, ◌++◌, length, take, drop, Some, None, append_assoc, refl, sym, ap, subst, ◌∙◌, arith, add-one}
 use Rattle.std.specs.Prelude.{⊤, sum_by, nat_lt, take_while, if◌then◌else◌}
 use Rattle.std.specs.List.{flat_map, range_with_len}
@@ -8,14 +8,14 @@ use Rattle.std.proofs.lemmas.List.{append-nil}
 use Rattle.std.proofs.lemmas.List.Sums.{sum_by-append, sum_by-cons, take_while-cons}
 use Rattle.std.proofs.Math.Seq.{take-append_seam, drop-append_seam}
 use Rattle.sd_types.specs.declared.numbers.CpuId.{CpuId}
-use Rattle.sd_stretches.specs.declared.changes.Turn.{Turn}
+use Rattle.sd_stretches.specs.declared.changes.Onset.{Onset}
 use Rattle.sd_stretches.specs.declared.rows.Stretch.{Stretch}
 use Rattle.sd_stretches.specs.declared.sights.Doing.{Doing}
 use Rattle.sd_stretches.specs.declared.sights.Doing.TheVariants as does
 use Rattle.sd_stretches.specs.declared.sights.Sight.{Sight}
 use Rattle.sd_stretches.specs.declared.spin_pieces.Spell.{Spell}
 use Rattle.sd_stretches.specs.Sights.{same_doing}
-use Rattle.sd_stretches.specs.Changes.{turn_from, turn_if}
+use Rattle.sd_stretches.specs.Changes.{onset_from, onset_if}
 use Rattle.sd_stretches.specs.Rows.{stretch_from, stretches_of}
 use Rattle.sd_stretches.specs.SpinPieces.{before, cut, cut_all, extended, goes_on, pieces_by, pieces_of, rest_after, spells_from, spells_of, spells_within, spun}
 use Rattle.sd_stretches.proofs.ExactLemmas.{same_is}
@@ -171,9 +171,9 @@ same_cpu : (c d : CpuId) → does.Running c ≡ does.Running d → c ≡ d
 same_cpu c d h = cc
 
 module _ (n end t : ℕ) (g : ℕ → Sight) (ticks : ℕ → ℕ) (count : CpuId → ℕ → ℕ) (spin : ℕ → List Spell) (d : ℕ → ℕ) where
-  unfoldable pub turn_at : ℕ → List Turn
-  turn_at zero = turn_if t 0 (ticks 0) None (Some (g 0))
-  turn_at (suc k) = turn_if t (suc k) (ticks (suc k)) (Some (g k)) (Some (g (suc k)))
+  unfoldable pub onset_at : ℕ → List Onset
+  onset_at zero = onset_if t 0 (ticks 0) None (Some (g 0))
+  onset_at (suc k) = onset_if t (suc k) (ticks (suc k)) (Some (g k)) (Some (g (suc k)))
 
   abbrev pub stays_at : ℕ → Bool
   stays_at k = same_doing (g k).doing (g (suc k)).doing
@@ -201,8 +201,8 @@ module _ (n end t : ℕ) (g : ℕ → Sight) (ticks : ℕ → ℕ) (count : CpuI
   abbrev pub Stands : ℕ → Type 0
   Stands k = ((c : CpuId) × ((g k).doing ≡ does.Running c)) ⊎ (is_on (g k).doing ≡ false)
 
-  turns : ℕ → ℕ → List Turn
-  turns m a = flat_map turn_at (range_with_len (suc a) m)
+  onsets : ℕ → ℕ → List Onset
+  onsets m a = flat_map onset_at (range_with_len (suc a) m)
 
   spells : ℕ → ℕ → List Spell
   spells m a = flat_map spin (range_with_len (suc a) m)
@@ -210,15 +210,15 @@ module _ (n end t : ℕ) (g : ℕ → Sight) (ticks : ℕ → ℕ) (count : CpuI
   sums : ℕ → ℕ → ℕ
   sums m a = sum_by d (range_with_len (suc a) m)
 
-  -- The stretch that is open in state a: it began with turn x, these spells lie in it so far, and so many ticks.
-  record Open (a : ℕ) (x : Turn) (held : List Spell) (v : ℕ) : Type 0 where
+  -- The stretch that is open in state a: it began with onset x, these spells lie in it so far, and so many ticks.
+  record Open (a : ℕ) (x : Onset) (held : List Spell) (v : ℕ) : Type 0 where
     doing : x.doing ≡ (g a).doing
     below : Below a held
     on : (c : CpuId) → (g a).doing ≡ does.Running c → Ordered x.tick (count c a) held × (count c a ≡ x.tick + v)
     off : is_on (g a).doing ≡ false → (held ≡ []) × (v ≡ 0)
 
   -- what a stretch adds that ends in state a, at this tick
-  closes : (a to : ℕ) (x : Turn) (held tail : List Spell) (v e : ℕ) → Stands a → Open a x held v → HeadFrom a tail
+  closes : (a to : ℕ) (x : Onset) (held tail : List Spell) (v e : ℕ) → Stands a → Open a x held v → HeadFrom a tail
       → ((c : CpuId) → (g a).doing ≡ does.Running c → count c a + e ≡ to) → (is_on (g a).doing ≡ false → e ≡ 0)
       → sum_by run_share (pieces_of (stretch_from x a to) (take (spells_within (held ++ tail) a) (held ++ tail))) ≡ v + e
   closes a to x held tail v e (inl (c, on)) o head at rests =
@@ -241,14 +241,14 @@ module _ (n end t : ℕ) (g : ℕ → Sight) (ticks : ℕ → ℕ) (count : CpuI
       let all : sum_by run_share (X ∷ []) ≡ v + e = omega (arith, one, own, none, more) in
       ap (λ ss. sum_by run_share (pieces_of X ss)) (taken a held tail o.below head) ∙ ap (sum_by run_share) (whole x.doing X held not) ∙ all
 
-  kept_below : (a : ℕ) (x : Turn) (held : List Spell) (v : ℕ) → Open a x held v → (spin (suc a) ≡ []) ⊎ Spins a → Below (suc a) (held ++ spin (suc a))
+  kept_below : (a : ℕ) (x : Onset) (held : List Spell) (v : ℕ) → Open a x held v → (spin (suc a) ≡ []) ⊎ Spins a → Below (suc a) (held ++ spin (suc a))
   kept_below a x held v o (inl none) =
       subst (λ ss. Below (suc a) (held ++ ss)) (sym none) (subst (Below (suc a)) (sym (append-nil held)) (below_more a (suc a) held (omega arith) o.below))
   kept_below a x held v o (inr s) =
       let first = s.first in
       subst (λ ss. Below (suc a) (held ++ ss)) (sym s.is) (below_push (suc a) held s.spell (omega (arith, first)) (below_more a (suc a) held (omega arith) o.below))
 
-  kept_order : (a : ℕ) (x : Turn) (held : List Spell) (v : ℕ) (c : CpuId) → Open a x held v → (g a).doing ≡ does.Running c → count c (suc a) ≡ count c a + d (suc a)
+  kept_order : (a : ℕ) (x : Onset) (held : List Spell) (v : ℕ) (c : CpuId) → Open a x held v → (g a).doing ≡ does.Running c → count c (suc a) ≡ count c a + d (suc a)
       → (spin (suc a) ≡ []) ⊎ Spins a → Ordered x.tick (count c (suc a)) (held ++ spin (suc a))
   kept_order a x held v c o on more (inl none) =
       subst (λ ss. Ordered x.tick (count c (suc a)) (held ++ ss)) (sym none) (subst (Ordered x.tick (count c (suc a))) (sym (append-nil held))
@@ -265,7 +265,7 @@ module _ (n end t : ℕ) (g : ℕ → Sight) (ticks : ℕ → ℕ) (count : CpuI
   kept_none a off (inr s) = absurd (false≢true (sym off ∙ ap is_on s.on))
 
   -- the thread does the same in the next state
-  goes_further : (a : ℕ) (x : Turn) (held : List Spell) (v : ℕ) → Made a → stays_at a ≡ true → Open a x held v → Open (suc a) x (held ++ spin (suc a)) (v + d (suc a))
+  goes_further : (a : ℕ) (x : Onset) (held : List Spell) (v : ℕ) → Made a → stays_at a ≡ true → Open a x held v → Open (suc a) x (held ++ spin (suc a)) (v + d (suc a))
   goes_further a x held v made stays o =
       let same : (g a).doing ≡ (g (suc a)).doing = same_is (g a).doing (g (suc a)).doing stays in
       record {
@@ -284,8 +284,8 @@ module _ (n end t : ℕ) (g : ℕ → Sight) (ticks : ℕ → ℕ) (count : CpuI
             (ap (λ ss. ss ++ spin (suc a)) were.0 ∙ kept_none a off made.spins, omega (arith, rests, value));
       }
 
-  abbrev begun : ℕ → Turn
-  begun k = turn_from t k (ticks k) (g k)
+  abbrev begun : ℕ → Onset
+  begun k = onset_from t k (ticks k) (g k)
 
   -- the thread does another thing in the next state
   begins_anew : (a : ℕ) → Made a → stays_at a ≡ false → Open (suc a) (begun (suc a)) [] 0
@@ -304,9 +304,9 @@ module _ (n end t : ℕ) (g : ℕ → Sight) (ticks : ℕ → ℕ) (count : CpuI
   unfolding spells
   later m a = ap (λ b. spin (suc a) ++ flat_map spin (range_with_len b m)) (add-one (suc a))
 
-  later_turns : (m a : ℕ) → turns (suc m) a ≡ turn_at (suc a) ++ turns m (suc a)
-  unfolding turns
-  later_turns m a = ap (λ b. turn_at (suc a) ++ flat_map turn_at (range_with_len b m)) (add-one (suc a))
+  later_onsets : (m a : ℕ) → onsets (suc m) a ≡ onset_at (suc a) ++ onsets m (suc a)
+  unfolding onsets
+  later_onsets m a = ap (λ b. onset_at (suc a) ++ flat_map onset_at (range_with_len b m)) (add-one (suc a))
 
   later_sums : (m a : ℕ) → sums (suc m) a ≡ d (suc a) + sums m (suc a)
   unfolding sums
@@ -323,10 +323,10 @@ module _ (n end t : ℕ) (g : ℕ → Sight) (ticks : ℕ → ℕ) (count : CpuI
     heads (suc m) a all =
         subst (HeadFrom a) (sym (later m a)) (head_by a (spells m (suc a)) (made a (omega (arith, all))).spins (heads m (suc a) (omega (arith, all))))
 
-    run_from : ℕ → ℕ → Turn → List Spell → ℕ
-    run_from m a x held = sum_by run_share (cut_all (stretches_of n end (x ∷ turns m a)) (held ++ spells m a))
+    run_from : ℕ → ℕ → Onset → List Spell → ℕ
+    run_from m a x held = sum_by run_share (cut_all (stretches_of n end (x ∷ onsets m a)) (held ++ spells m a))
 
-    at_end : (a : ℕ) (x : Turn) (held : List Spell) (v : ℕ) → a ≡ n → Open a x held v
+    at_end : (a : ℕ) (x : Onset) (held : List Spell) (v : ℕ) → a ≡ n → Open a x held v
         → sum_by run_share (pieces_of (stretch_from x a end) (take (spells_within (held ++ []) a) (held ++ [])) ++ []) ≡ v + 0
     at_end a x held v is o =
         ap (sum_by run_share) (append-nil (pieces_of (stretch_from x a end) (take (spells_within (held ++ []) a) (held ++ []))))
@@ -334,34 +334,34 @@ module _ (n end t : ℕ) (g : ℕ → Sight) (ticks : ℕ → ℕ) (count : CpuI
         (λ c on. let full = last c (ap (λ k. (g k).doing) (sym is) ∙ on) in let here : count c a ≡ count c n = ap (count c) is in omega (arith, full, here)) (λ off. refl)
 
     -- the thread does the same in the next state, or another thing
-    further : (m a : ℕ) (x : Turn) (held : List Spell) (v : ℕ) → stays_at a ≡ true
+    further : (m a : ℕ) (x : Onset) (held : List Spell) (v : ℕ) → stays_at a ≡ true
         → run_from m (suc a) x (held ++ spin (suc a)) ≡ v + d (suc a) + sums m (suc a) → run_from (suc m) a x held ≡ v + sums (suc m) a
-    unfolding run_from turn_at
+    unfolding run_from onset_at
     further m a x held v stays rest =
-        let none : turn_at (suc a) ≡ [] = ap (λ b. if b then [] else (begun (suc a) ∷ [])) stays in
-        let same : turns (suc m) a ≡ turns m (suc a) = later_turns m a ∙ ap (λ ts. ts ++ turns m (suc a)) none in
+        let none : onset_at (suc a) ≡ [] = ap (λ b. if b then [] else (begun (suc a) ∷ [])) stays in
+        let same : onsets (suc m) a ≡ onsets m (suc a) = later_onsets m a ∙ ap (λ ts. ts ++ onsets m (suc a)) none in
         let moved : held ++ spells (suc m) a ≡ (held ++ spin (suc a)) ++ spells m (suc a)
         = ap (λ ss. held ++ ss) (later m a) ∙ sym (append_assoc held (spin (suc a)) (spells m (suc a))) in
         let sum = later_sums m a in
         let last : v + d (suc a) + sums m (suc a) ≡ v + sums (suc m) a = omega (arith, sum) in
         ap (λ ts. sum_by run_share (cut_all (stretches_of n end (x ∷ ts)) (held ++ spells (suc m) a))) same
-        ∙ ap (λ ss. sum_by run_share (cut_all (stretches_of n end (x ∷ turns m (suc a))) ss)) moved
+        ∙ ap (λ ss. sum_by run_share (cut_all (stretches_of n end (x ∷ onsets m (suc a))) ss)) moved
         ∙ rest ∙ last
 
-    anew : (m a : ℕ) (x : Turn) (held : List Spell) (v : ℕ) → suc a + m ≡ n → Made a → stays_at a ≡ false → Open a x held v
+    anew : (m a : ℕ) (x : Onset) (held : List Spell) (v : ℕ) → suc a + m ≡ n → Made a → stays_at a ≡ false → Open a x held v
         → run_from m (suc a) (begun (suc a)) [] ≡ 0 + sums m (suc a) → run_from (suc m) a x held ≡ v + sums (suc m) a
-    unfolding run_from turn_at stretches_of cut_all
+    unfolding run_from onset_at stretches_of cut_all
     anew m a x held v next here changes o rest =
-        let y : Turn = begun (suc a) in
-        let one : turn_at (suc a) ≡ y ∷ [] = ap (λ b. if b then [] else (y ∷ [])) changes in
-        let more : turns (suc m) a ≡ y ∷ turns m (suc a) = later_turns m a ∙ ap (λ ts. ts ++ turns m (suc a)) one in
+        let y : Onset = begun (suc a) in
+        let one : onset_at (suc a) ≡ y ∷ [] = ap (λ b. if b then [] else (y ∷ [])) changes in
+        let more : onsets (suc m) a ≡ y ∷ onsets m (suc a) = later_onsets m a ∙ ap (λ ts. ts ++ onsets m (suc a)) one in
         let none : spin (suc a) ≡ [] = no_spin a changes here.spins in
         let tail : spells (suc m) a ≡ spells m (suc a) = later m a ∙ ap (λ ss. ss ++ spells m (suc a)) none in
         let head : HeadFrom a (spells m (suc a)) = head_more a (suc a) (spells m (suc a)) (omega arith) (heads m (suc a) next) in
         let back : suc a - 1 ≡ a = omega arith in
         let ss : List Spell = held ++ spells m (suc a) in
         let first : Stretch = stretch_from x a (ticks (suc a)) in
-        let ys : List Stretch = stretches_of n end (y ∷ turns m (suc a)) in
+        let ys : List Stretch = stretches_of n end (y ∷ onsets m (suc a)) in
         let closed : sum_by run_share (pieces_of first (take (spells_within ss a) ss)) ≡ v + d (suc a)
         = closes a (ticks (suc a)) x held (spells m (suc a)) v (d (suc a)) (stands a) o head
         (λ c on. let at = here.ends c on changes in let rise = here.running c on in omega (arith, at, rise)) here.resting in
@@ -377,8 +377,8 @@ module _ (n end t : ℕ) (g : ℕ → Sight) (ticks : ℕ → ℕ) (count : CpuI
         ∙ ap (λ k. v + d (suc a) + k) rest
         ∙ last
 
-    all_from : (m a : ℕ) (x : Turn) (held : List Spell) (v : ℕ) → a + m ≡ n → Open a x held v → run_from m a x held ≡ v + sums m a
-    unfolding run_from turns spells sums stretches_of cut_all
+    all_from : (m a : ℕ) (x : Onset) (held : List Spell) (v : ℕ) → a + m ≡ n → Open a x held v → run_from m a x held ≡ v + sums m a
+    unfolding run_from onsets spells sums stretches_of cut_all
     all_from zero a x held v all o =
         let is : a ≡ n = omega (arith, all) in
         ap (λ k. sum_by run_share (pieces_of (stretch_from x k end) (take (spells_within (held ++ []) k) (held ++ [])) ++ [])) (sym is) ∙ at_end a x held v is o
@@ -392,8 +392,8 @@ module _ (n end t : ℕ) (g : ℕ → Sight) (ticks : ℕ → ℕ) (count : CpuI
 
     -- from the first state on, in which the thread does not run
     pub all_run : is_on (g 0).doing ≡ false → spin 0 ≡ []
-        → sum_by run_share (cut_all (stretches_of n end (flat_map turn_at (range_with_len 0 (n + 1)))) (flat_map spin (range_with_len 0 (n + 1)))) ≡ sum_by d (range_with_len 1 n)
-    unfolding run_from turns spells sums turn_at
+        → sum_by run_share (cut_all (stretches_of n end (flat_map onset_at (range_with_len 0 (n + 1)))) (flat_map spin (range_with_len 0 (n + 1)))) ≡ sum_by d (range_with_len 1 n)
+    unfolding run_from onsets spells sums onset_at
     all_run still none =
         let start : Open 0 (begun 0) [] 0 = record {
           doing = refl;
@@ -403,6 +403,6 @@ module _ (n end t : ℕ) (g : ℕ → Sight) (ticks : ℕ → ℕ) (count : CpuI
         } in
         let whole_sum = all_from n 0 (begun 0) [] 0 (omega arith) start in
         let last : 0 + sums n 0 ≡ sum_by d (range_with_len 1 n) = omega arith in
-        ap (λ k. sum_by run_share (cut_all (stretches_of n end (flat_map turn_at (range_with_len 0 k))) (flat_map spin (range_with_len 0 k)))) (add-one n)
-        ∙ ap (λ ss. sum_by run_share (cut_all (stretches_of n end (begun 0 ∷ turns n 0)) (ss ++ spells n 0))) none
+        ap (λ k. sum_by run_share (cut_all (stretches_of n end (flat_map onset_at (range_with_len 0 k))) (flat_map spin (range_with_len 0 k)))) (add-one n)
+        ∙ ap (λ ss. sum_by run_share (cut_all (stretches_of n end (begun 0 ∷ onsets n 0)) (ss ++ spells n 0))) none
         ∙ whole_sum ∙ last

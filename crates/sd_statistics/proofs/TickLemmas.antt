@@ -5,7 +5,7 @@ use Rattle.std.proofs.lemmas.List.{append-nil}
 use Rattle.std.proofs.lemmas.List.Sums.{sum_by-append, sum_by-cons}
 use Rattle.sd_types.specs.declared.events.Entry.{Entry}
 use Rattle.sd_types.specs.declared.works.Work.{Work}
-use Rattle.sd_stretches.specs.declared.changes.Turn.{Turn}
+use Rattle.sd_stretches.specs.declared.changes.Onset.{Onset}
 use Rattle.sd_stretches.specs.declared.histories.History.{History}
 use Rattle.sd_stretches.specs.declared.rows.Stretch.{Stretch}
 use Rattle.sd_stretches.specs.declared.sights.Doing.{Doing}
@@ -13,7 +13,7 @@ use Rattle.sd_stretches.specs.declared.sights.Doing.TheVariants as doing
 use Rattle.sd_stretches.specs.declared.spin_pieces.Spell.{Spell}
 use Rattle.sd_stretches.specs.declared.spin_pieces.Track.TheVariants as track
 use Rattle.sd_stretches.specs.Histories.{IsHistory}
-use Rattle.sd_stretches.specs.Rows.{own_turns, stretch_to, stretches, stretches_of}
+use Rattle.sd_stretches.specs.Rows.{own_onsets, stretch_to, stretches, stretches_of}
 use Rattle.sd_stretches.specs.SpinPieces.{cut_all, pieces, pieces_of, spells_on, spells_within, Fills}
 use Rattle.sd_stretches.proofs.ExactLemmas.{begins_at_0}
 use Rattle.sd_stretches.proofs.SpinLemmas.{pieces_fill, fills_cons}
@@ -96,24 +96,24 @@ fills_cut a b (x ∷ y ∷ ys) spells fills =
     subst (λ n. Fills n b (own ++ cut_all (y ∷ ys) ahead)) fills.0
     (fills_append x.from x.to b own (cut_all (y ∷ ys) ahead) (pieces_fill x (take (spells_within spells x.last) spells)) (fills_cut x.to b (y ∷ ys) ahead fills.1))
 
-fills_turns : (entries end : ℕ) (x : Turn) (xs : List Turn) → Fills x.tick end (stretches_of entries end (x ∷ xs))
+fills_onsets : (entries end : ℕ) (x : Onset) (xs : List Onset) → Fills x.tick end (stretches_of entries end (x ∷ xs))
 unfolding stretches_of
-fills_turns entries end x [] = (refl, refl)
-fills_turns entries end x (y ∷ ys) =
-    fills_cons x.tick end (stretch_to entries end x (Some y)) (stretches_of entries end (y ∷ ys)) refl (fills_turns entries end y ys)
+fills_onsets entries end x [] = (refl, refl)
+fills_onsets entries end x (y ∷ ys) =
+    fills_cons x.tick end (stretch_to entries end x (Some y)) (stretches_of entries end (y ∷ ys)) refl (fills_onsets entries end y ys)
 
 module _ (w : Work) (es : List Entry) (h : History) (is : IsHistory w es h) (t end : ℕ) (here : t < length w.threads) where
-  fills_run : Fills 0 end (stretches t h.turns.items h.entries end)
+  fills_run : Fills 0 end (stretches t h.onsets.items h.entries end)
   unfolding stretches
   fills_run =
       let begins = begins_at_0 w es t here in
-      let own : own_turns t h.turns.items ≡ begins.0 ∷ begins.1 = ap (own_turns t) is.turns ∙ begins.2 in
-      subst (λ n. Fills n end (stretches_of h.entries end (own_turns t h.turns.items))) begins.3
-      (subst (λ xs. Fills begins.0.tick end (stretches_of h.entries end xs)) (sym own) (fills_turns h.entries end begins.0 begins.1))
+      let own : own_onsets t h.onsets.items ≡ begins.0 ∷ begins.1 = ap (own_onsets t) is.onsets ∙ begins.2 in
+      subst (λ n. Fills n end (stretches_of h.entries end (own_onsets t h.onsets.items))) begins.3
+      (subst (λ xs. Fills begins.0.tick end (stretches_of h.entries end xs)) (sym own) (fills_onsets h.entries end begins.0 begins.1))
 
   pub fills_pieces : Fills 0 end (pieces (track.Thread t) h end)
   unfolding pieces
-  fills_pieces = fills_cut 0 end (stretches t h.turns.items h.entries end) (spells_on (track.Thread t) h.happenings.items) fills_run
+  fills_pieces = fills_cut 0 end (stretches t h.onsets.items h.entries end) (spells_on (track.Thread t) h.happenings.items) fills_run
 
 pub ticks_add : TicksAddUp
 ticks_add w es h is t end here =

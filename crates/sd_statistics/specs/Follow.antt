@@ -12,7 +12,7 @@ use Rattle.sd_state.specs.States.{thread_of, is_running}
 use Rattle.sd_machine.specs.Events.{next, after}
 use Rattle.sd_machine.specs.Runs.{IsReached, IsRun}
 use Rattle.sd_stretches.specs.declared.rows.Stretch.{Stretch}
-use Rattle.sd_stretches.specs.Histories.{over, turns_in}
+use Rattle.sd_stretches.specs.Histories.{over, onsets_in}
 use Rattle.sd_stretches.specs.Rows.{slices}
 
 -- a step of processor c leaves each thread on another processor d there, and brings none to it
@@ -29,4 +29,4 @@ FollowInTime (x ∷ y ∷ ys) = (x.from ≤ x.to) × (x.last < y.first) × (x.to
 
 -- the slices of a processor in a run, which ends with the last tick of the workload
 abbrev pub SlicesFollowInTime : Type 0
-SlicesFollowInTime = (w : Work) (es : List Entry) (c : ℕ) → IsRun w es → c < w.cpus → FollowInTime (slices c (over turns_in w es) (length es) w.limit)
+SlicesFollowInTime = (w : Work) (es : List Entry) (c : ℕ) → IsRun w es → c < w.cpus → FollowInTime (slices c (over onsets_in w es) (length es) w.limit)

@@ -57,7 +57,7 @@ inherited_row t own =
     })
 
 unfoldable pub other_rows : Work → History → ℕ → List Row
-other_rows w h t = delay_row t (stretches t h.turns.items h.entries w.limit) h.wakeups.items ++ inherited_row t (levels t h.ranks.items w.limit)
+other_rows w h t = delay_row t (stretches t h.onsets.items h.entries w.limit) h.wakeups.items ++ inherited_row t (levels t h.ranks.items w.limit)
 
 unfoldable pub thread_part : Work → History → ℕ → List Row
 thread_part w h t = doing_rows w t (pieces (track.Thread t) h w.limit) ++ other_rows w h t

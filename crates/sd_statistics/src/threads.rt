@@ -170,7 +170,7 @@ fn push_others(
 ) -> Result<(), AllocError>
     ensures { OnOk result (out.new.items ≡ out.old.items ++ other_rows work.now history.now t) }
 {
-    let own = stretches(alloc, &history.turns, t, history.entries, work.limit)?;
+    let own = stretches(alloc, &history.onsets, t, history.entries, work.limit)?;
     push_delay_row(alloc, t, &own, &history.wakeups, out)?;
     let own = levels(alloc, &history.ranks, t, work.limit)?;
     push_inherited(t, &own, out)

@@ -4,7 +4,7 @@ use Rattle.std.specs.Prelude.{◌≡◌, ℕ, ◌<◌, ◌≤◌, length, IfSome
 use Rattle.sd_types.specs.declared.bodies.ThreadBody.{ThreadBody}
 use Rattle.sd_types.specs.declared.works.Work.{Work}
 use Rattle.sd_types.specs.Scripts.{is_held}
-use Rattle.sd_types.specs.Willed.{IsSound}
+use Rattle.sd_types.specs.Willed.{InheritsSoundly}
 use Rattle.sd_types.specs.Limits.{most_held}
 use Rattle.sd_state.specs.Operations.{script_of}
 use Rattle.sd_store.specs.declared.flat.look.Never.{Never}
@@ -24,7 +24,7 @@ abbrev pub CanChangeBody : Work → ℕ → BodyChange → ThreadBody → Type 0
 CanChangeBody w t (Tick class) b = b.op < length (script_of w t)
 CanChangeBody w t FinishOp b = b.op < length (script_of w t)
 CanChangeBody w t (Hold l) b = length b.held.items < most_held
-CanChangeBody w t (Inherit l number) b = IsSound b × IsTrue (is_held l b.held.items) × IfSome number (λ n. n < 160)
+CanChangeBody w t (Inherit l number) b = InheritsSoundly b × IsTrue (is_held l b.held.items) × IfSome number (λ n. n < 160)
 CanChangeBody w t _ b = ⊤
 
 -- what is lacking, which never is

@@ -18,7 +18,7 @@ pub trait Store: Look {
     ghost use Rattle.sd_types.specs.declared.events.Duty.TheVariants.{Rouse};
     ghost use Rattle.sd_state.specs.States.{thread_of};
     ghost use Rattle.sd_machine.specs.Changes.{back_key, clear_marks, count_tick, leave, place_put, run_on, set_duty, set_mark, with_body, with_place};
-    ghost use Rattle.sd_machine.specs.Needs.{CanTick, IsFree, IsLock, RunsOn};
+    ghost use Rattle.sd_machine.specs.Needs.{CanTick, RunsNobody, IsLock, RunsOn};
     ghost use Rattle.sd_machine.specs.Threads.{with_lock};
     ghost use Rattle.sd_store.specs.Bodies.{CanChange, changed};
     ghost use Rattle.sd_store.specs.Keyless.{IsDestination, duty_of, place_by};
@@ -90,7 +90,7 @@ pub trait Store: Look {
 
     /// Thread `t` runs on processor `c`, on which none runs.
     fn run_on(&mut self, t: ThreadId, c: CpuId) -> Result<(), Self::Lack>
-        ensures value { Does (Self.shows self.old) (Self.shows self.new) result (λ s. IsFree s c) (λ s. run_on s t.0 c) }
+        ensures value { Does (Self.shows self.old) (Self.shows self.new) result (λ s. RunsNobody s c) (λ s. run_on s t.0 c) }
         ensures lack { Lacks Self.part (Self.shows self.old) (Self.has self.old) result (λ s. thread_part t ∷ cpu_part c ∷ []) }
         ensures kept { Keeps (Self.shows self.old) (Self.shows self.new) result }
         ensures has { Self.has self.new ≡ Self.has self.old };

@@ -14,8 +14,8 @@ use Rattle.sd_machine.specs.Runs.{final, state_at}
 use Rattle.sd_state.specs.States.{cpu_of}
 use Rattle.sd_stretches.specs.declared.histories.History.{History}
 use Rattle.sd_stretches.specs.Sights.{sights_of}
-use Rattle.sd_stretches.specs.Changes.{turns_between, ranks_between, load_if, hand_overs_of, happenings_of, wakeups_of}
-use Rattle.sd_stretches.specs.Histories.{Moment, moment, over, turns_in, ranks_in, loads_in, hand_overs_in, wakeups_in, happenings_in, IsHistory}
+use Rattle.sd_stretches.specs.Changes.{onsets_between, ranks_between, load_if, hand_overs_of, happenings_of, wakeups_of}
+use Rattle.sd_stretches.specs.Histories.{Moment, moment, over, onsets_in, ranks_in, loads_in, hand_overs_in, wakeups_in, happenings_in, IsHistory}
 
 module _ (w : Work) (es : List Entry) (e : Entry) where
   pub state_stays : (k : ℕ) → k ≤ length es → state_at w (es ++ e ∷ []) k ≡ state_at w es k
@@ -77,11 +77,11 @@ over_none f w = append-nil (f (record { first = 0; earlier = []; state = final w
     ∙ ap f (ap (λ (s : State). record { first = 0; earlier = []; state = s; entry = None }) (final_none w))
 
 -- the history of no entry, and of one entry more
-pub history_none : (w : Work) (s : State) (h : History) → s ≡ opening w → h.turns.items ≡ turns_between [] (sights_of s) 0 0 → h.ranks.items ≡ ranks_between [] (sights_of s) 0 0
+pub history_none : (w : Work) (s : State) (h : History) → s ≡ opening w → h.onsets.items ≡ onsets_between [] (sights_of s) 0 0 → h.ranks.items ≡ ranks_between [] (sights_of s) 0 0
     → h.loads.items ≡ load_if [] (sights_of s) 0 0 → h.hand_overs.items ≡ [] → h.wakeups.items ≡ [] → h.happenings.items ≡ [] → h.sights.items ≡ sights_of s → h.entries ≡ 0
     → IsHistory w [] h
-history_none w s h start turns ranks loads hand_overs wakeups happenings sights entries = record {
-  turns = turns ∙ rw start (sym (over_none turns_in w));
+history_none w s h start onsets ranks loads hand_overs wakeups happenings sights entries = record {
+  onsets = onsets ∙ rw start (sym (over_none onsets_in w));
   ranks = ranks ∙ rw start (sym (over_none ranks_in w));
   loads = loads ∙ rw start (sym (over_none loads_in w));
   hand_overs = hand_overs ∙ sym (over_none hand_overs_in w);
@@ -92,7 +92,7 @@ history_none w s h start turns ranks loads hand_overs wakeups happenings sights 
 }
 
 pub history_more : (w : Work) (es : List Entry) (e : Entry) (s : State) (old new : History) → s ≡ final w (opening w) (es ++ e ∷ []) → IsHistory w es old
-    → new.turns.items ≡ old.turns.items ++ turns_between old.sights.items (sights_of s) (old.entries + 1) (cpu_of s e.cpu.0).count
+    → new.onsets.items ≡ old.onsets.items ++ onsets_between old.sights.items (sights_of s) (old.entries + 1) (cpu_of s e.cpu.0).count
     → new.ranks.items ≡ old.ranks.items ++ ranks_between old.sights.items (sights_of s) (old.entries + 1) (cpu_of s e.cpu.0).count
     → new.loads.items ≡ old.loads.items ++ load_if old.sights.items (sights_of s) (old.entries + 1) (cpu_of s e.cpu.0).count
     → new.hand_overs.items ≡ old.hand_overs.items ++ hand_overs_of s (Some e)
@@ -101,17 +101,17 @@ pub history_more : (w : Work) (es : List Entry) (e : Entry) (s : State) (old new
     → new.sights.items ≡ sights_of s → new.entries ≡ old.entries + 1
     → IsHistory w (es ++ e ∷ []) new
 unfolding last_moment
-history_more w es e s old new state h turns ranks loads hand_overs wakeups happenings sights entries =
+history_more w es e s old new state h onsets ranks loads hand_overs wakeups happenings sights entries =
     let o = h.sights in
     let n = h.entries in
-    let t = h.turns in
+    let t = h.onsets in
     let r = h.ranks in
     let l = h.loads in
     let g = h.hand_overs in
     let k = h.wakeups in
     let p = h.happenings in
     record {
-      turns = turns ∙ rw (t, o, n, state) (sym (over_more w es e turns_in));
+      onsets = onsets ∙ rw (t, o, n, state) (sym (over_more w es e onsets_in));
       ranks = ranks ∙ rw (r, o, n, state) (sym (over_more w es e ranks_in));
       loads = loads ∙ rw (l, o, n, state) (sym (over_more w es e loads_in));
       hand_overs = hand_overs ∙ rw (g, state) (sym (over_more w es e hand_overs_in));

@@ -8,40 +8,40 @@ use Rattle.std.proofs.lemmas.Bool.Decides.{nat_tests}
 use Rattle.sd_types.specs.declared.events.Entry.{Entry}
 use Rattle.sd_types.specs.declared.works.Work.{Work}
 use Rattle.sd_stretches.specs.declared.sights.Sight.{Sight}
-use Rattle.sd_stretches.specs.declared.changes.Turn.{Turn}
+use Rattle.sd_stretches.specs.declared.changes.Onset.{Onset}
 use Rattle.sd_stretches.specs.declared.rows.Stretch.{Stretch}
 use Rattle.sd_stretches.specs.Sights.{same_doing, sights_of}
-use Rattle.sd_stretches.specs.Changes.{turn_if, turns_between}
-use Rattle.sd_stretches.specs.Histories.{moment, tick_of, over, turns_in}
-use Rattle.sd_stretches.specs.Rows.{all_stretches, next_of, own_stretches, own_turns, stretch_to, stretches, stretches_of}
+use Rattle.sd_stretches.specs.Changes.{onset_if, onsets_between}
+use Rattle.sd_stretches.specs.Histories.{moment, tick_of, over, onsets_in}
+use Rattle.sd_stretches.specs.Rows.{all_stretches, next_of, own_stretches, own_onsets, stretch_to, stretches, stretches_of}
 use Rattle.sd_stretches.specs.Order.{StretchesStandInOrder}
 
 -- Those of each thread are its own.
 
-to_thread : (n end : ℕ) (x : Turn) (next : Option Turn) → (stretch_to n end x next).thread ≡ x.thread
+to_thread : (n end : ℕ) (x : Onset) (next : Option Onset) → (stretch_to n end x next).thread ≡ x.thread
 to_thread n end x None = refl
 to_thread n end x (Some y) = refl
 
-pub to_first : (n end : ℕ) (x : Turn) (next : Option Turn) → (stretch_to n end x next).first ≡ x.first
+pub to_first : (n end : ℕ) (x : Onset) (next : Option Onset) → (stretch_to n end x next).first ≡ x.first
 to_first n end x None = refl
 to_first n end x (Some y) = refl
 
-pub owned : (t n end : ℕ) (xs : List Turn) → own_stretches t (all_stretches xs n end) ≡ stretches_of n end (own_turns t xs)
+pub owned : (t n end : ℕ) (xs : List Onset) → own_stretches t (all_stretches xs n end) ≡ stretches_of n end (own_onsets t xs)
 unfolding all_stretches stretches_of
 owned t n end [] = refl
 owned t n end (x ∷ xs) = elim (cases_Bool (x.thread == t)) [
   | inl own ↦
       let same : x.thread ≡ t = grind (arith, nat_tests) in
-      let s : Stretch = stretch_to n end x (next_of (own_turns x.thread xs)) in
-      ap (λ b. if b then s ∷ own_stretches t (all_stretches xs n end) else own_stretches t (all_stretches xs n end)) (ap (λ u. u == t) (to_thread n end x (next_of (own_turns x.thread xs))) ∙ own)
-      ∙ ap (λ u. stretch_to n end x (next_of (own_turns u xs)) ∷ own_stretches t (all_stretches xs n end)) same
-      ∙ ap (λ ys. stretch_to n end x (next_of (own_turns t xs)) ∷ ys) (owned t n end xs)
-      ∙ sym (ap (λ b. stretches_of n end (if b then x ∷ own_turns t xs else own_turns t xs)) own)
+      let s : Stretch = stretch_to n end x (next_of (own_onsets x.thread xs)) in
+      ap (λ b. if b then s ∷ own_stretches t (all_stretches xs n end) else own_stretches t (all_stretches xs n end)) (ap (λ u. u == t) (to_thread n end x (next_of (own_onsets x.thread xs))) ∙ own)
+      ∙ ap (λ u. stretch_to n end x (next_of (own_onsets u xs)) ∷ own_stretches t (all_stretches xs n end)) same
+      ∙ ap (λ ys. stretch_to n end x (next_of (own_onsets t xs)) ∷ ys) (owned t n end xs)
+      ∙ sym (ap (λ b. stretches_of n end (if b then x ∷ own_onsets t xs else own_onsets t xs)) own)
   | inr other ↦
-      let s : Stretch = stretch_to n end x (next_of (own_turns x.thread xs)) in
-      ap (λ b. if b then s ∷ own_stretches t (all_stretches xs n end) else own_stretches t (all_stretches xs n end)) (ap (λ u. u == t) (to_thread n end x (next_of (own_turns x.thread xs))) ∙ other)
+      let s : Stretch = stretch_to n end x (next_of (own_onsets x.thread xs)) in
+      ap (λ b. if b then s ∷ own_stretches t (all_stretches xs n end) else own_stretches t (all_stretches xs n end)) (ap (λ u. u == t) (to_thread n end x (next_of (own_onsets x.thread xs))) ∙ other)
       ∙ owned t n end xs
-      ∙ sym (ap (λ b. stretches_of n end (if b then x ∷ own_turns t xs else own_turns t xs)) other)
+      ∙ sym (ap (λ b. stretches_of n end (if b then x ∷ own_onsets t xs else own_onsets t xs)) other)
 ]
 
 -- Numbers that do not fall, from one on.
@@ -96,16 +96,16 @@ module _ {X : Type 0} (n : X → ℕ) where
   non_decreasing k (x ∷ xs) (from, rises) (suc i) zero d before inside = absurd (omega (arith, before))
   non_decreasing k (x ∷ xs) (from, rises) (suc i) (suc j) d before inside = non_decreasing (n x) xs rises i j d (omega (arith, before)) (omega (arith, inside))
 
--- The turns of a run stand in the order of the entries that began them.
+-- The onsets of a run stand in the order of the entries that began them.
 
-turn_first : Turn → ℕ
-turn_first x = x.first
+onset_first : Onset → ℕ
+onset_first x = x.first
 
 stretch_first : Stretch → ℕ
 stretch_first x = x.first
 
-if_first : (t k tick : ℕ) (old new : Option Sight) → AllAre turn_first k (turn_if t k tick old new)
-unfolding AllAre turn_first
+if_first : (t k tick : ℕ) (old new : Option Sight) → AllAre onset_first k (onset_if t k tick old new)
+unfolding AllAre onset_first
 if_first t k tick old None = tt
 if_first t k tick None (Some x) = (refl, tt)
 if_first t k tick (Some y) (Some x) = elim (cases_Bool (same_doing y.doing x.doing)) [
@@ -113,25 +113,25 @@ if_first t k tick (Some y) (Some x) = elim (cases_Bool (same_doing y.doing x.doi
   | inr differs ↦ rw differs (refl, tt)
 ]
 
-turns_rise : (w : Work) (es : List Entry) → RisesFrom turn_first 0 (over turns_in w es)
-unfolding over turns_between moment
-turns_rise w es =
-    range_rises turn_first (λ k. turns_in (moment w es k)) 0 (length es + 1)
+onsets_rise : (w : Work) (es : List Entry) → RisesFrom onset_first 0 (over onsets_in w es)
+unfolding over onsets_between moment
+onsets_rise w es =
+    range_rises onset_first (λ k. onsets_in (moment w es k)) 0 (length es + 1)
     (λ k.
     let m = moment w es k in
-    are_flat turn_first (λ t. turn_if t k (tick_of m) (slice_get m.earlier t) (slice_get (sights_of m.state) t)) k 0 (length (sights_of m.state))
+    are_flat onset_first (λ t. onset_if t k (tick_of m) (slice_get m.earlier t) (slice_get (sights_of m.state) t)) k 0 (length (sights_of m.state))
     (λ t. if_first t k (tick_of m) (slice_get m.earlier t) (slice_get (sights_of m.state) t)))
 
-stretches_rise : (n end k : ℕ) (xs : List Turn) → RisesFrom turn_first k xs → RisesFrom stretch_first k (all_stretches xs n end)
-unfolding RisesFrom all_stretches turn_first stretch_first
+stretches_rise : (n end k : ℕ) (xs : List Onset) → RisesFrom onset_first k xs → RisesFrom stretch_first k (all_stretches xs n end)
+unfolding RisesFrom all_stretches onset_first stretch_first
 stretches_rise n end k [] rises = tt
 stretches_rise n end k (x ∷ xs) (from, rises) =
-    let same : (stretch_to n end x (next_of (own_turns x.thread xs))).first ≡ x.first = to_first n end x (next_of (own_turns x.thread xs)) in
+    let same : (stretch_to n end x (next_of (own_onsets x.thread xs))).first ≡ x.first = to_first n end x (next_of (own_onsets x.thread xs)) in
     (omega (arith, from, same), subst (λ j. RisesFrom stretch_first j (all_stretches xs n end)) (sym same) (stretches_rise n end x.first xs rises))
 
 pub in_order : StretchesStandInOrder
 unfolding stretches stretch_first
 in_order = record {
   own = λ xs t entries end. owned t entries end xs;
-  ordered = λ w es end. non_decreasing stretch_first 0 (all_stretches (over turns_in w es) (length es) end) (stretches_rise (length es) end 0 (over turns_in w es) (turns_rise w es));
+  ordered = λ w es end. non_decreasing stretch_first 0 (all_stretches (over onsets_in w es) (length es) end) (stretches_rise (length es) end 0 (over onsets_in w es) (onsets_rise w es));
 }

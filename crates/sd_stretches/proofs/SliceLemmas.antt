@@ -11,23 +11,23 @@ use Rattle.sd_machine.specs.Runs.{state_at}
 use Rattle.sd_stretches.specs.declared.sights.Doing.{Doing}
 use Rattle.sd_stretches.specs.declared.sights.Doing.TheVariants.{Running}
 use Rattle.sd_stretches.specs.declared.rows.Stretch.{Stretch}
-use Rattle.sd_stretches.specs.declared.changes.Turn.{Turn}
+use Rattle.sd_stretches.specs.declared.changes.Onset.{Onset}
 use Rattle.sd_stretches.specs.Sights.{doing_of, runs_on}
-use Rattle.sd_stretches.specs.Histories.{over, turns_in}
-use Rattle.sd_stretches.specs.Rows.{all_stretches, next_of, own_stretches, own_turns, slices, stretch_to, stretches}
+use Rattle.sd_stretches.specs.Histories.{over, onsets_in}
+use Rattle.sd_stretches.specs.Rows.{all_stretches, next_of, own_stretches, own_onsets, slices, stretch_to, stretches}
 use Rattle.sd_stretches.specs.Exact.{doing_at, AreExact, Covers, SlicesAreExact}
 use Rattle.sd_stretches.proofs.ExactLemmas.{are_exact, stretch_doing}
 use Rattle.sd_stretches.proofs.OrderLemmas.{owned}
 
--- One turn more.
+-- One onset more.
 
-pub slices_cons : (c n end : ℕ) (x : Turn) (xs : List Turn)
-    → slices c (x ∷ xs) n end ≡ (if runs_on c x.doing then stretch_to n end x (next_of (own_turns x.thread xs)) ∷ [] else []) ++ slices c xs n end
+pub slices_cons : (c n end : ℕ) (x : Onset) (xs : List Onset)
+    → slices c (x ∷ xs) n end ≡ (if runs_on c x.doing then stretch_to n end x (next_of (own_onsets x.thread xs)) ∷ [] else []) ++ slices c xs n end
 unfolding slices all_stretches
 slices_cons c n end x xs = by (runs_on c x.doing) (ap (runs_on c) (stretch_doing n end x next))
   where
-    next : Option Turn
-    next = next_of (own_turns x.thread xs)
+    next : Option Onset
+    next = next_of (own_onsets x.thread xs)
 
     by : (b : Bool) → runs_on c (stretch_to n end x next).doing ≡ b
         → (if runs_on c (stretch_to n end x next).doing then stretch_to n end x next ∷ slices c xs n end else slices c xs n end) ≡ (if b then stretch_to n end x next ∷ [] else []) ++ slices c xs n end
@@ -46,7 +46,7 @@ swapped p q (x ∷ xs) = by (p x) (q x) refl refl (swapped p q xs)
     by false true first second same = rw (second, first) same
     by false false first second same = rw (first, second) same
 
-own_slices : (c t n end : ℕ) (xs : List Turn) → own_stretches t (slices c xs n end) ≡ filter (λ x. runs_on c x.doing) (stretches t xs n end)
+own_slices : (c t n end : ℕ) (xs : List Onset) → own_stretches t (slices c xs n end) ≡ filter (λ x. runs_on c x.doing) (stretches t xs n end)
 unfolding slices stretches
 own_slices c t n end xs = swapped (λ x. x.thread == t) (λ x. runs_on c x.doing) (all_stretches xs n end) ∙ ap (filter (λ x. runs_on c x.doing)) (owned t n end xs)
 
@@ -114,8 +114,8 @@ unfolding running
 slices_exact w es t end j c here inside =
     let f = doing_at w es t in
     let n = length es in
-    let xs = stretches t (over turns_in w es) n end in
-    let own = own_slices c.0 t n end (over turns_in w es) in
+    let xs = stretches t (over onsets_in w es) n end in
+    let own = own_slices c.0 t n end (over onsets_in w es) in
     let exact = are_exact w es t end here in (
       λ told. place_of (thread_of (state_at w es j) t).place c (covered f n c xs 0 j exact (subst (λ ys. Covers ys j) own told)),
       λ runs. subst (λ ys. Covers ys j) (sym own) (covers f n c xs 0 j exact (omega arith) inside (ap doing_of runs)),

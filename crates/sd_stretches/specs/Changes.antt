@@ -16,7 +16,7 @@ use Rattle.sd_state.specs.declared.states.State.{State}
 use Rattle.sd_state.specs.States.{cpu_of}
 use Rattle.sd_machine.specs.Threads.{greatest_waiting, is_waiting, runner}
 use Rattle.sd_stretches.specs.declared.sights.Sight.{Sight}
-use Rattle.sd_stretches.specs.declared.changes.Turn.{Turn}
+use Rattle.sd_stretches.specs.declared.changes.Onset.{Onset}
 use Rattle.sd_stretches.specs.declared.changes.Rank.{Rank}
 use Rattle.sd_stretches.specs.declared.changes.Load.{Load}
 use Rattle.sd_stretches.specs.declared.changes.HandOver.{HandOver}
@@ -24,18 +24,18 @@ use Rattle.sd_stretches.specs.declared.changes.Wakeup.{Wakeup}
 use Rattle.sd_stretches.specs.declared.changes.Happening.{Happening}
 use Rattle.sd_stretches.specs.Sights.{same_doing, same_rank, runnable}
 
-abbrev pub turn_from : ℕ → ℕ → ℕ → Sight → Turn
-turn_from t first tick x = record { thread = t; first = first; tick = tick; doing = x.doing; class = x.class; priority = x.priority }
+abbrev pub onset_from : ℕ → ℕ → ℕ → Sight → Onset
+onset_from t first tick x = record { thread = t; first = first; tick = tick; doing = x.doing; class = x.class; priority = x.priority }
 
 -- what thread t does from a state on, where it is another thing than in the state before; at the start it is always
-abbrev pub turn_if : ℕ → ℕ → ℕ → Option Sight → Option Sight → List Turn
-turn_if t first tick old None = []
-turn_if t first tick None (Some x) = turn_from t first tick x ∷ []
-turn_if t first tick (Some y) (Some x) = if same_doing y.doing x.doing then [] else turn_from t first tick x ∷ []
+abbrev pub onset_if : ℕ → ℕ → ℕ → Option Sight → Option Sight → List Onset
+onset_if t first tick old None = []
+onset_if t first tick None (Some x) = onset_from t first tick x ∷ []
+onset_if t first tick (Some y) (Some x) = if same_doing y.doing x.doing then [] else onset_from t first tick x ∷ []
 
 -- of each thread, from the sights of a state and of the one before it
-unfoldable pub turns_between : List Sight → List Sight → ℕ → ℕ → List Turn
-turns_between old new first tick = flat_map (λ t. turn_if t first tick (slice_get old t) (slice_get new t)) (range_with_len 0 (length new))
+unfoldable pub onsets_between : List Sight → List Sight → ℕ → ℕ → List Onset
+onsets_between old new first tick = flat_map (λ t. onset_if t first tick (slice_get old t) (slice_get new t)) (range_with_len 0 (length new))
 
 abbrev pub rank_from : ℕ → ℕ → ℕ → Sight → Rank
 rank_from t first tick x = record { thread = t; first = first; tick = tick; priority = x.priority; inherited = x.inherited }

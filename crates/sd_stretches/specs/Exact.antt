@@ -11,7 +11,7 @@ use Rattle.sd_machine.specs.Runs.{state_at}
 use Rattle.sd_stretches.specs.declared.sights.Doing.{Doing}
 use Rattle.sd_stretches.specs.declared.rows.Stretch.{Stretch}
 use Rattle.sd_stretches.specs.Sights.{doing_of}
-use Rattle.sd_stretches.specs.Histories.{over, turns_in}
+use Rattle.sd_stretches.specs.Histories.{over, onsets_in}
 use Rattle.sd_stretches.specs.Rows.{own_stretches, slices, stretches}
 
 -- what thread t does in the state that k entries made
@@ -28,7 +28,7 @@ AreExact f n k (x ∷ y ∷ ys) =
 abbrev pub StretchesAreExact : Type 0
 StretchesAreExact =
     (w : Work) (es : List Entry) (t end : ℕ) → t < length w.threads
-    → AreExact (doing_at w es t) (length es) 0 (stretches t (over turns_in w es) (length es) end)
+    → AreExact (doing_at w es t) (length es) 0 (stretches t (over onsets_in w es) (length es) end)
 
 -- one of the stretches covers state j
 abbrev pub Covers : List Stretch → ℕ → Type 0
@@ -39,4 +39,4 @@ Covers (x ∷ xs) j = ((x.first ≤ j) × (j ≤ x.last)) ⊎ Covers xs j
 abbrev pub SlicesAreExact : Type 0
 SlicesAreExact =
     (w : Work) (es : List Entry) (t end j : ℕ) (c : CpuId) → t < length w.threads → j ≤ length es
-    → Covers (own_stretches t (slices c.0 (over turns_in w es) (length es) end)) j ↔ ((thread_of (state_at w es j) t).place ≡ place.Running c)
+    → Covers (own_stretches t (slices c.0 (over onsets_in w es) (length es) end)) j ↔ ((thread_of (state_at w es j) t).place ≡ place.Running c)

@@ -9,7 +9,7 @@ use Rattle.sd_state.specs.States.{cpu_of}
 use Rattle.sd_state.specs.Opening.{opening}
 use Rattle.sd_machine.specs.Runs.{final, state_at}
 use Rattle.sd_stretches.specs.declared.sights.Sight.{Sight}
-use Rattle.sd_stretches.specs.declared.changes.Turn.{Turn}
+use Rattle.sd_stretches.specs.declared.changes.Onset.{Onset}
 use Rattle.sd_stretches.specs.declared.changes.Rank.{Rank}
 use Rattle.sd_stretches.specs.declared.changes.Load.{Load}
 use Rattle.sd_stretches.specs.declared.changes.HandOver.{HandOver}
@@ -17,7 +17,7 @@ use Rattle.sd_stretches.specs.declared.changes.Wakeup.{Wakeup}
 use Rattle.sd_stretches.specs.declared.changes.Happening.{Happening}
 use Rattle.sd_stretches.specs.declared.histories.History.{History}
 use Rattle.sd_stretches.specs.Sights.{sights_of}
-use Rattle.sd_stretches.specs.Changes.{turns_between, ranks_between, load_if, hand_overs_of, happenings_of, wakeups_of}
+use Rattle.sd_stretches.specs.Changes.{onsets_between, ranks_between, load_if, hand_overs_of, happenings_of, wakeups_of}
 
 -- a state of a run, by the number of entries that made it: what was seen in the state before it, and the entry between
 pub record Moment : Type 0 where
@@ -45,8 +45,8 @@ tick_by s (Some e) = (cpu_of s e.cpu.0).count
 abbrev pub tick_of : Moment → ℕ
 tick_of m = tick_by m.state m.entry
 
-abbrev pub turns_in : Moment → List Turn
-turns_in m = turns_between m.earlier (sights_of m.state) m.first (tick_of m)
+abbrev pub onsets_in : Moment → List Onset
+onsets_in m = onsets_between m.earlier (sights_of m.state) m.first (tick_of m)
 
 abbrev pub ranks_in : Moment → List Rank
 ranks_in m = ranks_between m.earlier (sights_of m.state) m.first (tick_of m)
@@ -69,7 +69,7 @@ over f w es = flat_map (λ k. f (moment w es k)) (range_with_len 0 (length es + 
 
 -- these are the lists of these entries
 pub record IsHistory (w : Work) (es : List Entry) (h : History) : Type 0 where
-  pub turns : h.turns.items ≡ over turns_in w es
+  pub onsets : h.onsets.items ≡ over onsets_in w es
   pub ranks : h.ranks.items ≡ over ranks_in w es
   pub loads : h.loads.items ≡ over loads_in w es
   pub hand_overs : h.hand_overs.items ≡ over hand_overs_in w es

@@ -91,8 +91,8 @@ cut_all (x ∷ xs) spells =
     pieces_of x (take (spells_within spells x.last) spells) ++ cut_all xs (drop (spells_within spells x.last) spells)
 
 abbrev pub track_stretches : Track → History → ℕ → List Stretch
-track_stretches (Cpu c) h end = slices c h.turns.items h.entries end
-track_stretches (Thread t) h end = stretches t h.turns.items h.entries end
+track_stretches (Cpu c) h end = slices c h.onsets.items h.entries end
+track_stretches (Thread t) h end = stretches t h.onsets.items h.entries end
 
 -- the stretches of a thread, or the slices of a processor, cut at the ticks that are spent spinning
 unfoldable pub pieces : Track → History → ℕ → List Stretch

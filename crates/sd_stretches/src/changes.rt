@@ -4,7 +4,7 @@
 
 ghost use Rattle.std.specs.Prelude.{◌≡◌, ◌++◌, OnOk, slice_get, None, Some};
 ghost use Rattle.sd_state.specs.States.{cpu_of};
-ghost use Rattle.sd_stretches.specs.Changes.{giver, giver_of, hand_over_of, hand_overs_of, happening_of, happenings_of, is_above_base, is_giver, is_inherited, is_priority, is_that_thread, load_if, owner_of, rank_if, ranks_between, turn_if, turns_between, wakeup_of, wakeups_of, wanted_lock, woken_by, waker_of};
+ghost use Rattle.sd_stretches.specs.Changes.{giver, giver_of, hand_over_of, hand_overs_of, happening_of, happenings_of, is_above_base, is_giver, is_inherited, is_priority, is_that_thread, load_if, owner_of, rank_if, ranks_between, onset_if, onsets_between, wakeup_of, wakeups_of, wanted_lock, woken_by, waker_of};
 
 use crate::sights::{Doing, Sight, runnable, same_doing, same_rank};
 use sd_flat::{greatest_waiting, runner};
@@ -16,7 +16,7 @@ use std::alloc::AllocError;
 /// from the start. `tick` is then the count of the processor that made the entry. Class and effective priority are those of
 /// that state.
 #[derive(Clone, Copy)]
-pub struct Turn {
+pub struct Onset {
     pub thread: usize,
     pub first: u64,
     pub tick: u32,
@@ -87,15 +87,15 @@ fn sight_at(sights: &[Sight], t: usize) -> Option<Sight>
     }
 }
 
-fn push_turn(
+fn push_onset(
     t: usize,
     first: u64,
     tick: u32,
     old: Option<Sight>,
     new: Option<Sight>,
-    out: &mut Vec<Turn>,
+    out: &mut Vec<Onset>,
 ) -> Result<(), AllocError>
-    ensures { OnOk result (out.new.items ≡ out.old.items ++ turn_if t first tick old new) }
+    ensures { OnOk result (out.new.items ≡ out.old.items ++ onset_if t first tick old new) }
 {
     let Some(x) = new else {
         return Ok(());
@@ -105,7 +105,7 @@ fn push_turn(
             return Ok(());
         }
     }
-    out.push(Turn {
+    out.push(Onset {
         thread: t,
         first,
         tick,
@@ -117,18 +117,18 @@ fn push_turn(
 }
 
 /// Appends what each thread does from a state on, where it did not do it in the state before.
-#[tactic(auto, unfolding(crate::specs::Changes::turns_between))]
-pub(crate) fn push_turns(
+#[tactic(auto, unfolding(crate::specs::Changes::onsets_between))]
+pub(crate) fn push_onsets(
     old: &[Sight],
     new: &[Sight],
     first: u64,
     tick: u32,
-    out: &mut Vec<Turn>,
+    out: &mut Vec<Onset>,
 ) -> Result<(), AllocError>
-    ensures { OnOk result (out.new.items ≡ out.old.items ++ turns_between old.now new.now first tick) }
+    ensures { OnOk result (out.new.items ≡ out.old.items ++ onsets_between old.now new.now first tick) }
 {
     for t in 0..new.len() {
-        push_turn(t, first, tick, sight_at(old, t), sight_at(new, t), out)?;
+        push_onset(t, first, tick, sight_at(old, t), sight_at(new, t), out)?;
     }
     Ok(())
 }

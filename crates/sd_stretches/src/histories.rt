@@ -5,13 +5,13 @@ ghost use Rattle.sd_types.specs.declared.events.Entry.{Entry as EntryValue};
 ghost use Rattle.sd_types.specs.declared.works.Work.{Work as WorkValue};
 ghost use Rattle.sd_state.specs.Opening.{opening};
 ghost use Rattle.sd_machine.specs.Runs.{final};
-ghost use Rattle.sd_stretches.specs.Changes.{load_if, ranks_between, turns_between};
+ghost use Rattle.sd_stretches.specs.Changes.{load_if, ranks_between, onsets_between};
 ghost use Rattle.sd_stretches.specs.Histories.{IsHistory};
 ghost use Rattle.sd_stretches.specs.Sights.{sights_of};
 
 use crate::changes::{
-    HandOver, Happening, Load, Rank, Turn, Wakeup, count_of, push_hand_over, push_happening,
-    push_load, push_ranks, push_turns, push_wakeup,
+    HandOver, Happening, Load, Onset, Rank, Wakeup, count_of, push_hand_over, push_happening,
+    push_load, push_onsets, push_ranks, push_wakeup,
 };
 use crate::sights::{Sight, sights_of};
 use sd_state::State;
@@ -23,7 +23,7 @@ use std::alloc::{AllocError, Global};
 /// history is said by `IsHistory`.
 #[derive(Drop)]
 pub struct History {
-    pub turns: Vec<Turn>,
+    pub onsets: Vec<Onset>,
     pub ranks: Vec<Rank>,
     pub loads: Vec<Load>,
     pub hand_overs: Vec<HandOver>,
@@ -36,7 +36,7 @@ pub struct History {
 impl History {
     // Nothing is taken in yet, not even the initial state.
     fn empty(alloc: Global) -> History
-        ensures turns { result.turns.items ≡ [] }
+        ensures onsets { result.onsets.items ≡ [] }
         ensures ranks { result.ranks.items ≡ [] }
         ensures loads { result.loads.items ≡ [] }
         ensures hand_overs { result.hand_overs.items ≡ [] }
@@ -46,7 +46,7 @@ impl History {
         ensures entries { result.entries ≡ 0 }
     {
         History {
-            turns: Vec::new(alloc),
+            onsets: Vec::new(alloc),
             ranks: Vec::new(alloc),
             loads: Vec::new(alloc),
             hand_overs: Vec::new(alloc),
@@ -59,7 +59,7 @@ impl History {
 
     // Takes in what is seen in the next state.
     fn see(&mut self, alloc: Global, s: &State, first: u64, tick: u32) -> Result<(), AllocError>
-        ensures turns { OnOk result (self.new.turns.items ≡ self.old.turns.items ++ turns_between self.old.sights.items (sights_of s.now) first tick) }
+        ensures onsets { OnOk result (self.new.onsets.items ≡ self.old.onsets.items ++ onsets_between self.old.sights.items (sights_of s.now) first tick) }
         ensures ranks { OnOk result (self.new.ranks.items ≡ self.old.ranks.items ++ ranks_between self.old.sights.items (sights_of s.now) first tick) }
         ensures loads { OnOk result (self.new.loads.items ≡ self.old.loads.items ++ load_if self.old.sights.items (sights_of s.now) first tick) }
         ensures sights { OnOk result (self.new.sights.items ≡ sights_of s.now) }
@@ -69,7 +69,7 @@ impl History {
         ensures happenings { self.new.happenings ≡ self.old.happenings }
     {
         let sights = sights_of(alloc, s)?;
-        push_turns(&self.sights, &sights, first, tick, &mut self.turns)?;
+        push_onsets(&self.sights, &sights, first, tick, &mut self.onsets)?;
         push_ranks(&self.sights, &sights, first, tick, &mut self.ranks)?;
         push_load(&self.sights, &sights, first, tick, &mut self.loads)?;
         self.sights = sights;

@@ -13,7 +13,7 @@ mod rows;
 mod sights;
 mod spin_pieces;
 
-pub use changes::{HandOver, Happening, Load, Rank, Turn, Wakeup, is_that_thread, woken_by};
+pub use changes::{HandOver, Happening, Load, Onset, Rank, Wakeup, is_that_thread, woken_by};
 pub use doings::{put_counted, put_doing};
 pub use histories::History;
 pub use label_laws::names_need_no_escaping;

@@ -2,9 +2,9 @@
 
 ghost use Rattle.std.specs.Prelude.{◌≡◌, ◌++◌, ◌==◌, ◌∷◌, [], IfOk, OnOk, filter, if◌then◌else◌};
 ghost use Rattle.sd_stretches.specs.Sights.{runs_on};
-ghost use Rattle.sd_stretches.specs.Rows.{level_to, levels, next_of, own_ranks, own_turns, slices, stretch_to, stretches};
+ghost use Rattle.sd_stretches.specs.Rows.{level_to, levels, next_of, own_ranks, own_onsets, slices, stretch_to, stretches};
 
-use crate::changes::{Rank, Turn};
+use crate::changes::{Onset, Rank};
 use crate::sights::{Doing, runs_on};
 use sd_types::Class;
 use std::alloc::{AllocError, Global};
@@ -25,9 +25,9 @@ pub struct Stretch {
     pub priority: u8,
 }
 
-// The turn, where it is of the thread.
-fn push_own(x: Turn, t: usize, own: &mut Vec<Turn>) -> Result<(), AllocError>
-    ensures { OnOk result (own.new.items ≡ own.old.items ++ own_turns t (x ∷ [])) }
+// The onset, where it is of the thread.
+fn push_own(x: Onset, t: usize, own: &mut Vec<Onset>) -> Result<(), AllocError>
+    ensures { OnOk result (own.new.items ≡ own.old.items ++ own_onsets t (x ∷ [])) }
 {
     if x.thread == t {
         own.push(x)?;
@@ -36,23 +36,23 @@ fn push_own(x: Turn, t: usize, own: &mut Vec<Turn>) -> Result<(), AllocError>
 }
 
 // Those of one thread.
-fn own_turns(alloc: Global, turns: &[Turn], t: usize) -> Result<Vec<Turn>, AllocError>
-    ensures { IfOk result (λ v. v.items ≡ own_turns t turns.now) }
+fn own_onsets(alloc: Global, onsets: &[Onset], t: usize) -> Result<Vec<Onset>, AllocError>
+    ensures { IfOk result (λ v. v.items ≡ own_onsets t onsets.now) }
 {
     let mut own = Vec::new(alloc);
-    for x in turns {
+    for x in onsets {
         push_own(*x, t, &mut own)?;
     }
     Ok(own)
 }
 
-fn first_turn(turns: &[Turn]) -> Option<Turn>
-    ensures { result ≡ next_of turns.now }
+fn first_onset(onsets: &[Onset]) -> Option<Onset>
+    ensures { result ≡ next_of onsets.now }
 {
-    turns.first().copied()
+    onsets.first().copied()
 }
 
-fn stretch_to(entries: u64, end: u32, x: Turn, next: Option<Turn>) -> Stretch
+fn stretch_to(entries: u64, end: u32, x: Onset, next: Option<Onset>) -> Stretch
     ensures { result ≡ stretch_to entries end x next }
 {
     let (last, to) = match next {
@@ -71,32 +71,32 @@ fn stretch_to(entries: u64, end: u32, x: Turn, next: Option<Turn>) -> Stretch
     }
 }
 
-/// The stretches of a thread in order, from the turns of a run of so many entries, which ended at this tick.
+/// The stretches of a thread in order, from the onsets of a run of so many entries, which ended at this tick.
 #[tactic(auto, unfolding(crate::specs::Rows::stretches))]
 pub fn stretches(
     alloc: Global,
-    turns: &[Turn],
+    onsets: &[Onset],
     t: usize,
     entries: u64,
     end: u32,
 ) -> Result<Vec<Stretch>, AllocError>
-    ensures { IfOk result (λ v. v.items ≡ stretches t turns.now entries end) }
+    ensures { IfOk result (λ v. v.items ≡ stretches t onsets.now entries end) }
 {
-    let own = own_turns(alloc, turns, t)?;
+    let own = own_onsets(alloc, onsets, t)?;
     let mut found = Vec::new(alloc);
-    let mut left: &[Turn] = &own;
+    let mut left: &[Onset] = &own;
     while let Some((x, rest)) = left.split_first() {
-        found.push(stretch_to(entries, end, *x, first_turn(rest)))?;
+        found.push(stretch_to(entries, end, *x, first_onset(rest)))?;
         left = rest;
     }
     Ok(found)
 }
 
-// The first turn of the thread.
-fn next_turn(turns: &[Turn], t: usize) -> Option<Turn>
-    ensures { result ≡ next_of (own_turns t turns.now) }
+// The first onset of the thread.
+fn next_onset(onsets: &[Onset], t: usize) -> Option<Onset>
+    ensures { result ≡ next_of (own_onsets t onsets.now) }
 {
-    for x in turns {
+    for x in onsets {
         if x.thread == t {
             return Some(*x);
         }
@@ -104,39 +104,39 @@ fn next_turn(turns: &[Turn], t: usize) -> Option<Turn>
     None
 }
 
-// The stretch that begins with the turn, where it is one over which the thread runs on the processor; the rest are the turns
+// The stretch that begins with the onset, where it is one over which the thread runs on the processor; the rest are the onsets
 // that follow.
 fn push_slice(
-    x: Turn,
-    rest: &[Turn],
+    x: Onset,
+    rest: &[Onset],
     c: u16,
     entries: u64,
     end: u32,
     found: &mut Vec<Stretch>,
 ) -> Result<(), AllocError>
     ensures { OnOk result (found.new.items ≡ found.old.items
-        ++ (if runs_on c x.doing then stretch_to entries end x (next_of (own_turns x.thread rest.now)) ∷ [] else [])) }
+        ++ (if runs_on c x.doing then stretch_to entries end x (next_of (own_onsets x.thread rest.now)) ∷ [] else [])) }
 {
     if runs_on(c, x.doing) {
-        found.push(stretch_to(entries, end, x, next_turn(rest, x.thread)))?;
+        found.push(stretch_to(entries, end, x, next_onset(rest, x.thread)))?;
     }
     Ok(())
 }
 
-/// The slices of a processor, the stretches over which a thread runs on it, in the order in which they begin: from the turns of
+/// The slices of a processor, the stretches over which a thread runs on it, in the order in which they begin: from the onsets of
 /// a run of so many entries, which ended at this tick.
 #[tactic(auto, unfolding(crate::specs::Rows::slices))]
 pub fn slices(
     alloc: Global,
-    turns: &[Turn],
+    onsets: &[Onset],
     c: u16,
     entries: u64,
     end: u32,
 ) -> Result<Vec<Stretch>, AllocError>
-    ensures { IfOk result (λ v. v.items ≡ slices c turns.now entries end) }
+    ensures { IfOk result (λ v. v.items ≡ slices c onsets.now entries end) }
 {
     let mut found = Vec::new(alloc);
-    let mut left = turns;
+    let mut left = onsets;
     while let Some((x, rest)) = left.split_first() {
         push_slice(*x, rest, c, entries, end, &mut found)?;
         left = rest;

@@ -238,8 +238,8 @@ fn track_stretches(
     ensures { IfOk result (λ v. v.items ≡ track_stretches track history.now end) }
 {
     match track {
-        Track::Cpu(c) => slices(alloc, &history.turns, c, history.entries, end),
-        Track::Thread(t) => stretches(alloc, &history.turns, t, history.entries, end),
+        Track::Cpu(c) => slices(alloc, &history.onsets, c, history.entries, end),
+        Track::Thread(t) => stretches(alloc, &history.onsets, t, history.entries, end),
     }
 }
 

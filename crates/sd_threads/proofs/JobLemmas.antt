@@ -23,7 +23,7 @@ use Rattle.sd_threads.specs.declared.world.TableWorld.{TableWorld}
 use Rattle.sd_threads.specs.Tables.{IsTable, world_meaning}
 use Rattle.sd_threads.specs.declared.jobs.Job.{Job}
 use Rattle.sd_rounds.specs.Rounds.{IsLongRun}
-use Rattle.sd_threads.specs.Jobs.{AreJobs, HavePhased, IsFree, MadeAsLogged, WasStopped, seats_in}
+use Rattle.sd_threads.specs.Jobs.{AreJobs, HavePhased, IsEmptyHanded, MadeAsLogged, WasStopped, seats_in}
 use Rattle.std.proofs.lemmas.Option.{same_Some}
 
 -- ---- a phase of one processor
@@ -79,7 +79,7 @@ module _ (t : TableId) (w : Work) (x y : TableWorld) (table : id_of x.shared.now
       let ids : id_of y.shared.now ≡ t = sym after.table ∙ (same_Some y.seat.place.table_id x.seat.place.table_id same.table ∙ (before.table ∙ table)) in
       subst (λ v. Fits t v y.seat) (same.work ∙ work) (subst (λ i. Fits i (work_of y.shared.now) y.seat) ids after)
 
-  pub free_back : IsEmpty (world_meaning y) → IsFree t w y.seat
+  pub free_back : IsEmpty (world_meaning y) → IsEmptyHanded t w y.seat
   free_back empty = record { fits = fits_back; free = empty refl }
 
   pub full_long : (r : Result Phased Stop) → r ≡ Err Full → PhaseAnswers (world_meaning x) (world_meaning y) r → IsLongRun w

@@ -13,7 +13,7 @@ use Rattle.sd_table.specs.Seats.{Fits}
 use Rattle.sd_threads.specs.declared.jobs.Job.{Job}
 
 -- the seat fits the table, and its processor holds no home
-pub record IsFree (t : TableId) (w : Work) (s : Seat) : Type 0 where
+pub record IsEmptyHanded (t : TableId) (w : Work) (s : Seat) : Type 0 where
   pub fits : Fits t w s
   pub free : how_many_held s.acting.hand.slots ≡ 0
 
@@ -24,7 +24,7 @@ MadeAsLogged before after (Err stop) = ⊤
 
 -- the processor had a phase: it holds no home again, and was refused for its length only where a run is that long
 pub record HasPhased (t : TableId) (w : Work) (j j' : Job) : Type 0 where
-  pub free : IsFree t w j'.seat
+  pub free : IsEmptyHanded t w j'.seat
   pub cpu : j'.seat.acting.actor.cpu ≡ j.seat.acting.actor.cpu
   pub answer : Result Phased Stop
   pub answered : j'.outcome ≡ Some answer
@@ -37,7 +37,7 @@ HavePhased t w js js' = (i : ℕ) (d : Job) → i < length js → HasPhased t w 
 -- one processor after another, in rising order
 pub record AreJobs (t : TableId) (w : Work) (js : List Job) : Type 0 where
   pub many : length js ≡ w.cpus
-  pub free : (i : ℕ) (d : Job) → i < length js → IsFree t w (slice_index_or js i d).seat
+  pub free : (i : ℕ) (d : Job) → i < length js → IsEmptyHanded t w (slice_index_or js i d).seat
   pub cpus : (i : ℕ) (d : Job) → i < length js → (slice_index_or js i d).seat.acting.actor.cpu.0 ≡ i
 
 -- one of them was refused

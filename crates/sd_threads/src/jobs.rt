@@ -2,7 +2,7 @@
 
 ghost use Rattle.std.specs.Prelude.{◌≡◌};
 ghost use Rattle.sd_table.specs.Seats.{id_of, work_of};
-ghost use Rattle.sd_threads.specs.Jobs.{HasPhased, IsFree};
+ghost use Rattle.sd_threads.specs.Jobs.{HasPhased, IsEmptyHanded};
 
 use crate::TableWorld;
 use sd_cpu::{Gate, Phased, phase};
@@ -27,7 +27,7 @@ pub(crate) fn phase_of<R: Wait, G: Gate>(
     job: Job,
 ) -> Job
     requires work { work.now ≡ work_of shared.now }
-    requires free { IsFree (id_of shared.now) work.now job.seat }
+    requires free { IsEmptyHanded (id_of shared.now) work.now job.seat }
     ensures phased { HasPhased (id_of shared.now) work.now job result }
 {
     let Job {

@@ -4,7 +4,7 @@ ghost use Rattle.std.specs.Prelude.{◌≡◌, length, Some, Err, IfErr, IfOk, I
 ghost use Rattle.std.specs.List.{All};
 ghost use Rattle.sd_rounds.specs.Rounds.{IsLongRun};
 ghost use Rattle.sd_table.specs.Seats.{id_of, work_of};
-ghost use Rattle.sd_threads.specs.Jobs.{AllTell, AreAtRest, AreJobs, HasPhased, HavePhased, IsFree, Tells, WasStopped};
+ghost use Rattle.sd_threads.specs.Jobs.{AllTell, AreAtRest, AreJobs, HasPhased, HavePhased, IsEmptyHanded, Tells, WasStopped};
 
 use crate::jobs::{Job, phase_of};
 use sd_cpu::Gate;
@@ -25,7 +25,7 @@ fn run_phase<R: Threads + Wait + Sync, G: Gate + Sync>(
     jobs: Vec<Job>,
 ) -> Result<Vec<Job>, AllocError>
     requires work { work.now ≡ work_of shared.now }
-    requires free { All (λ j. IsFree (id_of shared.now) work.now j.seat) jobs.items }
+    requires free { All (λ j. IsEmptyHanded (id_of shared.now) work.now j.seat) jobs.items }
     ensures many { IfOk result (λ v. length v.items ≡ length jobs.items) }
     ensures phased { IfOk result (λ v. HavePhased (id_of shared.now) work.now jobs.items v.items) }
 {
@@ -33,7 +33,7 @@ fn run_phase<R: Threads + Wait + Sync, G: Gate + Sync>(
         rt,
         jobs,
         &|job: Job| -> Job
-            requires { (work.now ≡ work_of shared.now) × IsFree (id_of shared.now) work.now job.seat }
+            requires { (work.now ≡ work_of shared.now) × IsEmptyHanded (id_of shared.now) work.now job.seat }
             ensures { HasPhased (id_of shared.entry.now) work.entry.now job result }
         { phase_of(rt, gate, shared, work, job) },
     )

@@ -6,7 +6,7 @@ use Rattle.sd_types.specs.declared.events.Event.{Event}
 use Rattle.sd_types.specs.declared.events.Event.TheVariants.{Tick, Spin, Idle}
 use Rattle.sd_stretches.specs.declared.changes.Happening.{Happening}
 use Rattle.sd_stretches.specs.declared.changes.Rank.{Rank}
-use Rattle.sd_stretches.specs.declared.changes.Turn.{Turn}
+use Rattle.sd_stretches.specs.declared.changes.Onset.{Onset}
 use Rattle.sd_stretches.specs.declared.histories.History.{History}
 use Rattle.sd_timeline.specs.declared.folds.Column.{Column}
 use Rattle.sd_timeline.specs.declared.frames.Frame.{Frame}
@@ -16,8 +16,8 @@ use Rattle.sd_timeline.specs.declared.frames.Frame.{Frame}
 abbrev pub change_if : Frame → ℕ → List ℕ
 change_if f tick = if nat_le f.from tick && nat_le tick f.to then tick ∷ [] else []
 
-abbrev pub turned_in : Frame → Turn → List ℕ
-turned_in f x = change_if f x.tick
+abbrev pub onset_in : Frame → Onset → List ℕ
+onset_in f x = change_if f x.tick
 
 abbrev pub ranked_in : Frame → Rank → List ℕ
 ranked_in f x = change_if f x.tick
@@ -35,7 +35,7 @@ changed_in f x = changed_by f x x.event
 -- at which of the ticks that were asked for what a thread does changes, or its priority, or anything else by an entry
 unfoldable pub changes_in : Frame → History → List ℕ
 changes_in f h =
-    flat_map (turned_in f) h.turns.items ++ flat_map (ranked_in f) h.ranks.items ++ flat_map (changed_in f) h.happenings.items
+    flat_map (onset_in f) h.onsets.items ++ flat_map (ranked_in f) h.ranks.items ++ flat_map (changed_in f) h.happenings.items
 
 abbrev pub is_change : List ℕ → ℕ → Bool
 is_change changes tick = list_any (λ c. c == tick) changes

@@ -24,7 +24,7 @@ is_deed f x = runs_in f x || begins_in f x
 
 -- does something in the ticks that are drawn
 abbrev pub acts : Work → Frame → History → ℕ → Bool
-acts w f h t = list_any (is_deed f) (stretches t h.turns.items h.entries w.limit)
+acts w f h t = list_any (is_deed f) (stretches t h.onsets.items h.entries w.limit)
 
 -- those that are to stand first, and behind them the others, each in their order
 abbrev pub ordered : (ℕ → Bool) → List ℕ → List ℕ

@@ -2,10 +2,10 @@
 
 ghost use Rattle.std.specs.Prelude.{◌≡◌, ◌≤◌, ◌<◌, ◌^◌, ◌++◌, IfOk, OnOk, flat_map, length};
 ghost use Rattle.std.specs.List.{range_with_len};
-ghost use Rattle.sd_timeline.specs.Folds.{change_if, changed_by, changed_in, changes_in, fits_page, fold_if, folds, folds_from, folds_of, is_change, is_gap, is_wide, long, many, place_from, ranked_in, scale_of, stop_at, stops_of, turned_in};
+ghost use Rattle.sd_timeline.specs.Folds.{change_if, changed_by, changed_in, changes_in, fits_page, fold_if, folds, folds_from, folds_of, is_change, is_gap, is_wide, long, many, place_from, ranked_in, scale_of, stop_at, stops_of, onset_in};
 
 use crate::frames::Frame;
-use sd_stretches::{Happening, History, Rank, Turn};
+use sd_stretches::{Happening, History, Onset, Rank};
 use sd_types::Event;
 use std::alloc::{AllocError, Global};
 
@@ -42,10 +42,10 @@ fn push_change(frame: Frame, tick: u32, changes: &mut Vec<u32>) -> Result<(), Al
 }
 
 // What threads do changes.
-fn push_turns(frame: Frame, turns: &[Turn], changes: &mut Vec<u32>) -> Result<(), AllocError>
-    ensures { OnOk result (changes.new.items ≡ changes.old.items ++ flat_map (turned_in frame) turns.now) }
+fn push_onsets(frame: Frame, onsets: &[Onset], changes: &mut Vec<u32>) -> Result<(), AllocError>
+    ensures { OnOk result (changes.new.items ≡ changes.old.items ++ flat_map (onset_in frame) onsets.now) }
 {
-    for x in turns {
+    for x in onsets {
         push_change(frame, x.tick, changes)?;
     }
     Ok(())
@@ -95,7 +95,7 @@ fn changes_in(alloc: Global, frame: Frame, history: &History) -> Result<Vec<u32>
     ensures { IfOk result (λ v. v.items ≡ changes_in frame history.now) }
 {
     let mut changes = Vec::new(alloc);
-    push_turns(frame, &history.turns, &mut changes)?;
+    push_onsets(frame, &history.onsets, &mut changes)?;
     push_ranks(frame, &history.ranks, &mut changes)?;
     push_happenings(frame, &history.happenings, &mut changes)?;
     Ok(changes)

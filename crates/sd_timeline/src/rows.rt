@@ -48,7 +48,7 @@ fn acts(
 ) -> Result<bool, AllocError>
     ensures { IfOk result (λ b. b ≡ acts work.now frame history.now t) }
 {
-    let own = stretches(alloc, &history.turns, t, history.entries, work.limit)?;
+    let own = stretches(alloc, &history.onsets, t, history.entries, work.limit)?;
     Ok(any_deed(frame, &own))
 }
 

@@ -18,13 +18,13 @@ use std::marker::Model;
 /// The chain has as many turnstiles as waiters: the first waiter's serves its lock, later ones are free,
 /// and each waiter that leaves takes one along (this project's own).
 #[derive(Drop)]
-pub struct TurnChain<T: Ranked> {
+pub struct TurnstileChain<T: Ranked> {
     chain: u8,
     locks: Four<Option<Turnstile<T>>>,
     free: Rack<T>,
 }
 
-impl<T: Ranked> Model for TurnChain<T> {
+impl<T: Ranked> Model for TurnstileChain<T> {
     ghost use Rattle.std.specs.Prelude.{◌≡◌, ◌<◌, ◌+◌, length};
     ghost use Rattle.sd_turnstile.specs.Waiters.{Blocked};
     ghost use Rattle.sd_turnstile.specs.Serving.{all_served, AreServed, all_held, all_waiting};
@@ -51,13 +51,13 @@ fn holder_of<T: Ranked>(locks: &Four<Option<Turnstile<T>>>, id: u32) -> Option<(
     None
 }
 
-impl<T: Ranked> TurnChain<T> {
+impl<T: Ranked> TurnstileChain<T> {
     /// A chain of this number, without waiters.
-    pub fn new(chain: u8) -> TurnChain<T>
+    pub fn new(chain: u8) -> TurnstileChain<T>
         requires { chain < 64 }
         ensures { result ≡ record { chain = chain; locks = nobody ∷ nobody ∷ nobody ∷ nobody ∷ [] } }
     {
-        TurnChain {
+        TurnstileChain {
             chain,
             locks: Four::new(None, None, None, None),
             free: Rack::new(),

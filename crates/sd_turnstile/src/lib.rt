@@ -6,6 +6,6 @@ mod rack;
 mod serving;
 mod turnstile;
 
-pub use chain::TurnChain;
+pub use chain::TurnstileChain;
 pub use rack::Rack;
 pub use turnstile::Turnstile;

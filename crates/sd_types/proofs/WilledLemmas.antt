@@ -11,7 +11,7 @@ use Rattle.sd_types.specs.declared.bodies.ThreadBody.{ThreadBody}
 use Rattle.sd_types.specs.Scripts.{is_lock, is_held, without_lock}
 use Rattle.sd_types.specs.Works.{is_distinct}
 use Rattle.sd_types.specs.Priorities.{base_of, greatest_willed}
-use Rattle.sd_types.specs.Willed.{Numbers, number_for, with_number, without_number, same_lock, eff_with, IsSound}
+use Rattle.sd_types.specs.Willed.{Numbers, number_for, with_number, without_number, same_lock, eff_with, InheritsSoundly}
 
 -- the definitions at the first number
 with-here : (l : LockId) (n : ℕ) (w : LockId × ℕ) (ws : Numbers) → is_lock l w.0 ≡ true → with_number l n (w ∷ ws) ≡ (l, n) ∷ ws
@@ -142,8 +142,8 @@ distinct-filter same q (x ∷ xs) h =
     let a = any-filter (same x) q xs none in
     grind (arith, nat_tests)
 
-pub sound-with : (b : ThreadBody) (l : LockId) (n : ℕ) (ws : Numbers) → IsSound b → is_held l b.held.items ≡ true → n < 160 → ws ≡ with_number l n b.willed.items
-    → IsSound (record b { willed = record { items = ws } })
+pub sound-with : (b : ThreadBody) (l : LockId) (n : ℕ) (ws : Numbers) → InheritsSoundly b → is_held l b.held.items ≡ true → n < 160 → ws ≡ with_number l n b.willed.items
+    → InheritsSoundly (record b { willed = record { items = ws } })
 sound-with b l n ws s held small e =
     let low : nat_lt n 160 ≡ true = grind (arith, nat_tests) in
     record {
@@ -153,7 +153,7 @@ sound-with b l n ws s held small e =
       held_once = s.held_once;
     }
 
-pub sound-without : (b : ThreadBody) (l : LockId) (ws : Numbers) → IsSound b → ws ≡ without_number l b.willed.items → IsSound (record b { willed = record { items = ws } })
+pub sound-without : (b : ThreadBody) (l : LockId) (ws : Numbers) → InheritsSoundly b → ws ≡ without_number l b.willed.items → InheritsSoundly (record b { willed = record { items = ws } })
 sound-without b l ws s e = record {
   below = rw e (list_all-filter (λ w. nat_lt w.1 160) (λ w. not (is_lock l w.0)) b.willed.items s.below);
   apart = rw e (distinct-filter same_lock (λ w. not (is_lock l w.0)) b.willed.items s.apart);
@@ -161,7 +161,7 @@ sound-without b l ws s e = record {
   held_once = s.held_once;
 }
 
-pub below-without : (b : ThreadBody) (l : LockId) (ws : Numbers) → IsSound b → ws ≡ without_number l b.willed.items → list_all (λ w. nat_lt w.1 160) ws ≡ true
+pub below-without : (b : ThreadBody) (l : LockId) (ws : Numbers) → InheritsSoundly b → ws ≡ without_number l b.willed.items → list_all (λ w. nat_lt w.1 160) ws ≡ true
 below-without b l ws s e = rw e (list_all-filter (λ w. nat_lt w.1 160) (λ w. not (is_lock l w.0)) b.willed.items s.below)
 
 -- ---- a lock that is taken
@@ -201,7 +201,7 @@ distinct-push l (m ∷ ms) new h =
     let a = any-push m l ms other none in
     grind (arith, nat_tests)
 
-pub sound-taken : (b : ThreadBody) (l : LockId) (ls : List LockId) → IsSound b → is_held l b.held.items ≡ false → ls ≡ b.held.items ++ l ∷ [] → IsSound (record b { held = record { items = ls } })
+pub sound-taken : (b : ThreadBody) (l : LockId) (ls : List LockId) → InheritsSoundly b → is_held l b.held.items ≡ false → ls ≡ b.held.items ++ l ∷ [] → InheritsSoundly (record b { held = record { items = ls } })
 sound-taken b l ls s new e = record {
   below = s.below;
   apart = s.apart;
@@ -232,8 +232,8 @@ all-released l held (w ∷ ws) h =
       | inr stays ↦ let first = held-without l w.0 held stays here in rw (without-later l w ws stays) (grind (arith, nat_tests))
     ]
 
-pub sound-released : (b : ThreadBody) (l : LockId) (ws : Numbers) (ls : List LockId) → IsSound b → ws ≡ without_number l b.willed.items → ls ≡ without_lock l b.held.items
-    → IsSound (record b { willed = record { items = ws }; held = record { items = ls } })
+pub sound-released : (b : ThreadBody) (l : LockId) (ws : Numbers) (ls : List LockId) → InheritsSoundly b → ws ≡ without_number l b.willed.items → ls ≡ without_lock l b.held.items
+    → InheritsSoundly (record b { willed = record { items = ws }; held = record { items = ls } })
 sound-released b l ws ls s e f = record {
   below = below-without b l ws s e;
   apart = rw e (distinct-filter same_lock (λ w. not (is_lock l w.0)) b.willed.items s.apart);
@@ -267,7 +267,7 @@ greatest-with n p l (w ∷ ws) h =
           omega (arith, greatest-with n p l ws rest)
     ]
 
-pub with-one : (b : ThreadBody) (l : LockId) (base g p : ℕ) (ws : Numbers) → IsSound b → base ≡ base_of b.class → ws ≡ without_number l b.willed.items
+pub with-one : (b : ThreadBody) (l : LockId) (base g p : ℕ) (ws : Numbers) → InheritsSoundly b → base ≡ base_of b.class → ws ≡ without_number l b.willed.items
     → g ≡ greatest_willed base ws → max g p ≡ eff_with l (Some p) b
 with-one b l base g p ws s first rest e =
     let parts = greatest-with (base_of b.class) p l b.willed.items s.apart in
@@ -323,7 +323,7 @@ none-any l n (w ∷ ws) h = elim (cases_Bool (is_lock l w.0)) [
 ]
 
 -- a held lock without a number has room for one
-pub room : (b : ThreadBody) (l : LockId) (most : ℕ) → IsSound b → is_held l b.held.items ≡ true → length b.held.items ≤ most → number_for l b.willed.items ≡ None
+pub room : (b : ThreadBody) (l : LockId) (most : ℕ) → InheritsSoundly b → is_held l b.held.items ≡ true → length b.held.items ≤ most → number_for l b.willed.items ≡ None
     → length b.willed.items < most
 room b l most s held short none =
     let apart = s.apart in
@@ -361,7 +361,7 @@ written l n ws ys zs i d h here same as_it_was e =
     ∙ sym e
 
 -- soundness looks at the two lists alone
-pub sound_is : (b d : ThreadBody) → d.willed.items ≡ b.willed.items → d.held.items ≡ b.held.items → IsSound b → IsSound d
+pub sound_is : (b d : ThreadBody) → d.willed.items ≡ b.willed.items → d.held.items ≡ b.held.items → InheritsSoundly b → InheritsSoundly d
 sound_is b d willed held is = record {
   below = subst (λ (ws : Numbers). list_all (λ w. nat_lt w.1 160) ws ≡ true) (sym willed) is.below;
   apart = subst (λ (ws : Numbers). is_distinct same_lock ws ≡ true) (sym willed) is.apart;

@@ -52,7 +52,7 @@ abbrev pub same_lock : LockId × ℕ → LockId × ℕ → Bool
 same_lock v w = is_lock v.0 w.0
 
 -- inherited priorities are below 160 and for different locks that the thread holds, and no lock is held twice
-pub record IsSound (b : ThreadBody) : Type 0 where
+pub record InheritsSoundly (b : ThreadBody) : Type 0 where
   pub below : list_all (λ w. nat_lt w.1 160) b.willed.items ≡ true
   pub apart : is_distinct same_lock b.willed.items ≡ true
   pub owned : list_all (λ w. is_held w.0 b.held.items) b.willed.items ≡ true

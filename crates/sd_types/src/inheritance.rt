@@ -7,7 +7,7 @@ ghost use Rattle.std.specs.Prelude.{◌≡◌, ◌<◌, false, IsTrue, None, IfS
 ghost use Rattle.sd_types.specs.Limits.{most_held};
 ghost use Rattle.sd_types.specs.Priorities.{greatest_willed};
 ghost use Rattle.sd_types.specs.Scripts.{is_held};
-ghost use Rattle.sd_types.specs.Willed.{IsSound, number_for, with_number, without_number, with_willed, with_lock, released, eff_with};
+ghost use Rattle.sd_types.specs.Willed.{InheritsSoundly, number_for, with_number, without_number, with_willed, with_lock, released, eff_with};
 
 use crate::{LockId, MOST_HELD, ThreadBody, greatest_willed, without_lock};
 use arrayvec::ArrayVec;
@@ -15,11 +15,11 @@ use arrayvec::ArrayVec;
 impl ThreadBody {
     /// Makes `pri` (0 to 159) the priority that the thread, which holds `l`, inherits from the waiters of `l`.
     pub fn inherit(&mut self, l: LockId, pri: u8)
-        requires sound { IsSound self.old }
+        requires sound { InheritsSoundly self.old }
         requires held { IsTrue (is_held l self.old.held.items) }
         requires below { pri < 160 }
         ensures value { self.new ≡ with_willed (with_number l pri self.old.willed.items) self.old }
-        ensures sound { IsSound self.new }
+        ensures sound { InheritsSoundly self.new }
     {
         let locks = self.held.len();
         prove!(locks <= MOST_HELD);
@@ -29,7 +29,7 @@ impl ThreadBody {
     /// Removes the priority that is inherited from the waiters of `l`, if there is one.
     pub fn waive(&mut self, l: LockId)
         ensures value { self.new ≡ with_willed (without_number l self.old.willed.items) self.old }
-        ensures sound { IsSound self.old → IsSound self.new }
+        ensures sound { InheritsSoundly self.old → InheritsSoundly self.new }
     {
         let rest = without_number(l, &self.willed);
         self.willed = rest;
@@ -39,7 +39,7 @@ impl ThreadBody {
     pub fn take_lock(&mut self, l: LockId)
         requires { length self.old.held.items < most_held }
         ensures value { self.new ≡ with_lock l self.old }
-        ensures sound { IsSound self.old → is_held l self.old.held.items ≡ false → IsSound self.new }
+        ensures sound { InheritsSoundly self.old → is_held l self.old.held.items ≡ false → InheritsSoundly self.new }
     {
         self.held.push(l);
     }
@@ -48,7 +48,7 @@ impl ThreadBody {
     /// The other locks keep their order.
     pub fn release_lock(&mut self, l: LockId)
         ensures value { self.new ≡ released l self.old }
-        ensures sound { IsSound self.old → IsSound self.new }
+        ensures sound { InheritsSoundly self.old → InheritsSoundly self.new }
     {
         let numbers = without_number(l, &self.willed);
         let locks = without_lock(l, &self.held);
@@ -59,7 +59,7 @@ impl ThreadBody {
     /// The effective priority that the thread would have if `pri` were the priority that it inherits from the waiters
     /// of `l`, or with none from them.
     pub fn effective_with(&self, l: LockId, pri: Option<u8>) -> u8
-        requires { IsSound self.now }
+        requires { InheritsSoundly self.now }
         ensures value { result ≡ eff_with l pri self.now }
         ensures below { IfSome pri (λ n. n < 160) → result < 160 }
     {

@@ -23,7 +23,7 @@ use Rattle.sd_viewer.specs.declared.forms.Request.TheVariants.{Help, Draw}
 use Rattle.sd_viewer.specs.Forms.{request_of}
 use Rattle.sd_viewer.proofs.ClosingLemmas.{left-ends}
 use Rattle.sd_viewer.specs.Promises.{ShowsAsPromised}
-use Rattle.sd_viewer.specs.Viewing.{IsDrawnInput, IsDrawing, Draws, CausedByView, CausedByHelp, CausedBy, answer_line, viewed_answer, viewed_line, help_text}
+use Rattle.sd_viewer.specs.Viewing.{IsDrawnInput, IsDrawing, Draws, CausedByView, CausedByViewHelp, CausedByViewRequest, answer_line, viewed_answer, viewed_line, help_text}
 
 -- ---- the answer to a drawing
 
@@ -99,7 +99,7 @@ module _ (d : Drawing) (input out : StreamChange) (line : List ℕ) where
 
 -- ---- the forms
 
-helps_of : (input out : StreamChange) (a : Answer) → CausedByHelp out a → IsUntouched input → WritesHelp help_text input out (status_of a)
+helps_of : (input out : StreamChange) (a : Answer) → CausedByViewHelp out a → IsUntouched input → WritesHelp help_text input out (status_of a)
 helps_of input out Done c kept = (kept, inl (refl, c.0))
 helps_of input out WriteFault c kept = (kept, inr (refl, c.1))
 helps_of input out a c kept = absurd c
@@ -111,22 +111,22 @@ no_help input out status n h is zero four = elim h.1 [
   | inr (s, a) ↦ absurd (four (sym is ∙ s))
 ]
 
-faults_of : (k : Option Request) (input out : StreamChange) (a : Answer) (line : List ℕ) → CausedBy k input out a line → status_of a ≡ 7 → RefusesJournal input out
+faults_of : (k : Option Request) (input out : StreamChange) (a : Answer) (line : List ℕ) → CausedByViewRequest k input out a line → status_of a ≡ 7 → RefusesJournal input out
 faults_of None input out a line c s = absurd (omega (arith, ap status_of c.0))
 faults_of (Some Help) input out a line c s = no_help input out (status_of a) 7 (helps_of input out a c.0 c.2) s (λ e. omega arith) (λ e. omega arith)
 faults_of (Some (Draw d)) input out a line c s = faulty_of (IsDrawnInput d input) (λ text. text) input out a (cause_of d input out line a c) s
 
-usage_of : (k : Option Request) (input out : StreamChange) (a : Answer) (line : List ℕ) → CausedBy k input out a line → (status_of a ≡ 1) ↔ (k ≡ None)
+usage_of : (k : Option Request) (input out : StreamChange) (a : Answer) (line : List ℕ) → CausedByViewRequest k input out a line → (status_of a ≡ 1) ↔ (k ≡ None)
 usage_of None input out a line c = (λ one. refl, λ none. ap status_of c.0)
 usage_of (Some Help) input out a line c =
     (λ one. no_help input out (status_of a) 1 (helps_of input out a c.0 c.2) one (λ e. omega arith) (λ e. omega arith), λ none. cc)
 usage_of (Some (Draw d)) input out a line c = (λ one. absurd (not_usage (IsDrawnInput d input) (λ text. text) input out a (cause_of d input out line a c) one), λ none. cc)
 
 pub promises_of : (arguments : List (List ℕ)) (input out err : StreamChange) (a : Answer) (line : List ℕ) (status : ℕ) → status ≡ status_of a
-    → CausedBy (request_of arguments) input out a line → TellsLine err line → ShowsAsPromised arguments input out err status
+    → CausedByViewRequest (request_of arguments) input out a line → TellsLine err line → ShowsAsPromised arguments input out err status
 promises_of arguments input out err a line status is caused told =
-    let asked = λ (d : Drawing) (known : request_of arguments ≡ Some (Draw d)). subst (λ k. CausedBy k input out a line) known caused in
-    let helped = λ (known : request_of arguments ≡ Some Help). subst (λ k. CausedBy k input out a line) known caused in
+    let asked = λ (d : Drawing) (known : request_of arguments ≡ Some (Draw d)). subst (λ k. CausedByViewRequest k input out a line) known caused in
+    let helped = λ (known : request_of arguments ≡ Some Help). subst (λ k. CausedByViewRequest k input out a line) known caused in
     record {
       answered = record { answer = a; line = line; exit = is; caused = caused; told = told };
       draws = λ d known zero. (line, draws_of d input out line a (asked d known) (sym is ∙ zero), told);

@@ -11,5 +11,5 @@ use Rattle.sd_viewer.specs.Promises.{ShowsAsPromised}
 use Rattle.sd_viewer.specs.Viewing.{answer_line}
 
 -- arguments that were read are carried out
-abbrev pub Starts : Result (Vec (String Global) Global) Error → StreamChange → StreamChange → StreamChange → ℕ → Type 0
-Starts = StartsBy ShowsAsPromised answer_line
+abbrev pub DispviewStarts : Result (Vec (String Global) Global) Error → StreamChange → StreamChange → StreamChange → ℕ → Type 0
+DispviewStarts = StartsBy ShowsAsPromised answer_line

@@ -62,15 +62,15 @@ CausedByView drawing input out Done line = Draws drawing input out line
 CausedByView drawing input out a line = CausedByCertificate (IsDrawnInput drawing input) (λ text. text) input out a × (line ≡ answer_line a)
 
 -- where the forms are asked for: they were written whole, or a write failed
-abbrev pub CausedByHelp : StreamChange → Answer → Type 0
-CausedByHelp out Done = Appends out.before out.after help_text × HasNoFault out
-CausedByHelp out WriteFault = AppendsPart out.before out.after help_text × HasFault out
-CausedByHelp out _ = ⊥
+abbrev pub CausedByViewHelp : StreamChange → Answer → Type 0
+CausedByViewHelp out Done = Appends out.before out.after help_text × HasNoFault out
+CausedByViewHelp out WriteFault = AppendsPart out.before out.after help_text × HasFault out
+CausedByViewHelp out _ = ⊥
 
-abbrev pub CausedBy : Option Request → StreamChange → StreamChange → Answer → List ℕ → Type 0
-CausedBy None input out a line = (a ≡ Usage) × (line ≡ answer_line a) × IsUntouched input × IsUntouched out
-CausedBy (Some Help) input out a line = CausedByHelp out a × (line ≡ answer_line a) × IsUntouched input
-CausedBy (Some (Draw drawing)) input out a line = CausedByView drawing input out a line
+abbrev pub CausedByViewRequest : Option Request → StreamChange → StreamChange → Answer → List ℕ → Type 0
+CausedByViewRequest None input out a line = (a ≡ Usage) × (line ≡ answer_line a) × IsUntouched input × IsUntouched out
+CausedByViewRequest (Some Help) input out a line = CausedByViewHelp out a × (line ≡ answer_line a) × IsUntouched input
+CausedByViewRequest (Some (Draw drawing)) input out a line = CausedByView drawing input out a line
 
 -- the answer where a drawing was written, with what is said of it, or where none was
 abbrev pub viewed_answer : Result (Vec ℕ Global) Answer → Answer
@@ -86,5 +86,5 @@ pub record IsViewed (arguments : List (List ℕ)) (input out err : StreamChange)
   pub answer : Answer
   pub line : List ℕ
   pub exit : status ≡ status_of answer
-  pub caused : CausedBy (request_of arguments) input out answer line
+  pub caused : CausedByViewRequest (request_of arguments) input out answer line
   pub told : TellsLine err line

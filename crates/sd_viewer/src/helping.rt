@@ -2,7 +2,7 @@
 
 ghost use Rattle.std.specs.Prelude.{◌≡◌};
 ghost use Rattle.sd_answers.specs.StreamChanges.{change_of};
-ghost use Rattle.sd_viewer.specs.Viewing.{CausedByHelp, answer_line, viewed_answer, viewed_line};
+ghost use Rattle.sd_viewer.specs.Viewing.{CausedByViewHelp, answer_line, viewed_answer, viewed_line};
 
 use sd_answers::{Answer, put_text};
 use sd_text::Sink;
@@ -23,7 +23,7 @@ report --csv      the same for a spreadsheet (CSV)
 
 /// Writes the forms. There is nothing more to say.
 pub(crate) fn put_help<K: Sink>(alloc: Global, out: &mut K) -> Result<Vec<u8>, Answer>
-    ensures caused { CausedByHelp (change_of (K.contents out.old) (K.contents out.new) (K.fault_count out.old) (K.fault_count out.new)) (viewed_answer result) }
+    ensures caused { CausedByViewHelp (change_of (K.contents out.old) (K.contents out.new) (K.fault_count out.old) (K.fault_count out.new)) (viewed_answer result) }
     ensures line { viewed_line result ≡ answer_line (viewed_answer result) }
 {
     match put_text(out, HELP) {

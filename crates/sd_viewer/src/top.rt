@@ -6,7 +6,7 @@ ghost use Rattle.sd_answers.specs.StreamChanges.{Puts, TellsLine, change_of};
 ghost use Rattle.sd_answers.specs.declared.writing.Unwritten.TheVariants.{Memory};
 ghost use Rattle.sd_text.specs.Lines.{EndsLine};
 ghost use Rattle.sd_viewer.specs.Promises.{ShowsAsPromised};
-ghost use Rattle.sd_viewer.specs.Starts.{Starts};
+ghost use Rattle.sd_viewer.specs.Starts.{DispviewStarts};
 ghost use Rattle.sd_viewer.specs.Viewing.{answer_line, viewed_answer, viewed_line};
 
 use crate::forms::{Request, request_of};
@@ -84,7 +84,7 @@ pub fn start<S: Source, K: Sink, E: Sink>(
     out: &mut K,
     err: &mut E,
 ) -> u8
-    ensures { Starts arguments
+    ensures { DispviewStarts arguments
         (change_of (S.remaining input.old) (S.remaining input.new) (S.fault_count input.old) (S.fault_count input.new))
         (change_of (K.contents out.old) (K.contents out.new) (K.fault_count out.old) (K.fault_count out.new))
         (change_of (E.contents err.old) (E.contents err.new) (E.fault_count err.old) (E.fault_count err.new))

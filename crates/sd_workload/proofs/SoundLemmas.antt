@@ -21,7 +21,7 @@ use Rattle.sd_declare.specs.Declarations.{Thread, Declarations, nothing}
 use Rattle.sd_declare.specs.Statements.{with_statement}
 use Rattle.sd_declare.specs.Opened.{opened_by}
 use Rattle.sd_workload.specs.Scripts.{end_fault}
-use Rattle.sd_workload.specs.Sound.{named, thread_is_sound, IsTableLines, AreThreads, IsSound, IsSoundBlock}
+use Rattle.sd_workload.specs.Sound.{named, thread_is_sound, IsTableLines, AreThreads, AreSoundDeclarations, IsSoundBlock}
 use Rattle.sd_workload.specs.Texts.{Block, Outside, InTable, InScript, stated_cause, stated, block_of, opened, format_of, rows_cause, row_cause, with_table, operation_cause, script_cause, ops_of, with_script, no_thread, unless_done, cause_of, declared_after, block_after, end_cause, Accepts, Refuses, unless_refused, judged}
 use Rattle.sd_workload.proofs.StatementLemmas.{statement-sound}
 use Rattle.sd_workload.proofs.OperationLemmas.{line-named}
@@ -30,7 +30,7 @@ use Rattle.sd_workload.proofs.FirstLemmas.{same-accepted}
 
 -- the declarations and the block below a line
 record IsBelow (d : Declarations) (b : Block) : Type 0 where
-  declared : IsSound d
+  declared : AreSoundDeclarations d
   block : IsSoundBlock d b
 
 -- ---- lines outside blocks
@@ -43,11 +43,11 @@ opens-sound d (Table class) = no-line (format_of class)
 opens-sound d (Script name) = refl
 opens-sound d s = tt
 
-stated-sound : (d : Declarations) (s : Option Statement) → stated_cause d s ≡ None → IsSound d → IsBelow (stated d s) (opened d s)
+stated-sound : (d : Declarations) (s : Option Statement) → stated_cause d s ≡ None → AreSoundDeclarations d → IsBelow (stated d s) (opened d s)
 stated-sound d None none h = absurd (none-some cause.Syntax (sym none))
 stated-sound d (Some s) none h = record { declared = statement-sound d s none h; block = opens-sound d s }
 
-outside-sound : (d : Declarations) (line : Line) → unless_done line (stated_cause d (statement_of line)) ≡ None → IsSound d
+outside-sound : (d : Declarations) (line : Line) → unless_done line (stated_cause d (statement_of line)) ≡ None → AreSoundDeclarations d
     → IsBelow (stated d (statement_of line)) (opened d (statement_of line))
 unfolding statement_of
 outside-sound d [] none h = record { declared = h; block = tt }
@@ -75,7 +75,7 @@ rows-right format above true e none = e
 rows-right format above false e none =
     absurd (none-some (cause.Table (Rows (length (rows_in above)))) (sym none ∙ ap (λ b. cond b None (Some (cause.Table (Rows (length (rows_in above)))))) e))
 
-table-sound : (d : Declarations) (class : TableClass) (lines : List Line) → IsTableLines (format_of class) lines → IsSound d → IsSound (with_table d class lines)
+table-sound : (d : Declarations) (class : TableClass) (lines : List Line) → IsTableLines (format_of class) lines → AreSoundDeclarations d → AreSoundDeclarations (with_table d class lines)
 table-sound d table.Ts lines given h = record {
   settings = h.settings;
   sets = h.sets;
@@ -109,7 +109,7 @@ table-sound d table.Rt lines given h = record {
 
 inside-sound : (d : Declarations) (class : TableClass) (above : List Line) (line : Line) (b : Bool) → is_end line ≡ b
     → cond b (rows_cause (format_of class) above) (row_cause (format_of class) above line) ≡ None
-    → IsSound d → AreClean (format_of class).columns above (length above)
+    → AreSoundDeclarations d → AreClean (format_of class).columns above (length above)
     → IsBelow (cond b (with_table d class above) d) (cond b Outside (InTable class (above ++ line ∷ [])))
 inside-sound d class above line true e none h clean = record {
   declared = table-sound d class above (record { clean = clean; rows = rows-right (format_of class) above (has_rows (format_of class) above) refl none }) h;
@@ -137,7 +137,7 @@ all-set p [] i d f keeps h = refl
 all-set p (x ∷ xs) zero d f keeps h = let q = and_parts (p x) (list_all p xs) h in rw (keeps x q.0, q.1) refl
 all-set p (x ∷ xs) (suc i) d f keeps h = let q = and_parts (p x) (list_all p xs) h in rw (q.0, all-set p xs i d f keeps q.1) refl
 
-script-sound : (d : Declarations) (t : ThreadId) (ops : List Op) → IsSound d → list_all (op_names (named d)) ops ≡ true → IsSound (with_script d t ops)
+script-sound : (d : Declarations) (t : ThreadId) (ops : List Op) → AreSoundDeclarations d → list_all (op_names (named d)) ops ≡ true → AreSoundDeclarations (with_script d t ops)
 script-sound d t ops h named_ops =
     let count : length (set d.threads t.0 (record (get_or d.threads t.0 no_thread) { ops = ops })) ≡ length d.threads = length-set d.threads t.0 (record (get_or d.threads t.0 no_thread) { ops = ops }) in
     record {
@@ -167,13 +167,13 @@ ops-sound d ops (Some o) none h = line-named d ops o (parts _ _ none).0 h
 
 scripted-sound : (d : Declarations) (t : ThreadId) (ops : List Op) (line : Line) (b : Bool) → is_end line ≡ b
     → cond b (option_map cause.Script (end_fault ops)) (operation_cause d ops (operation_of line)) ≡ None
-    → IsSound d → list_all (op_names (named d)) ops ≡ true
+    → AreSoundDeclarations d → list_all (op_names (named d)) ops ≡ true
     → IsBelow (cond b (with_script d t ops) d) (cond b Outside (InScript t (ops ++ ops_of d (operation_of line))))
 scripted-sound d t ops line true e none h named_ops = record { declared = script-sound d t ops h named_ops; block = tt }
 scripted-sound d t ops line false e none h named_ops = record { declared = h; block = ops-sound d ops (operation_of line) none named_ops }
 
 in-script-sound : (d : Declarations) (t : ThreadId) (ops : List Op) (line : Line) → unless_done line (script_cause d ops line) ≡ None
-    → IsSound d → list_all (op_names (named d)) ops ≡ true
+    → AreSoundDeclarations d → list_all (op_names (named d)) ops ≡ true
     → IsBelow (cond (is_end line) (with_script d t ops) d) (cond (is_end line) Outside (InScript t (ops ++ ops_of d (operation_of line))))
 unfolding operation_of only_word
 in-script-sound d t ops [] none h named_ops = record { declared = h; block = ap (list_all (op_names (named d))) (append-nil ops) ∙ named_ops }
@@ -182,7 +182,7 @@ in-script-sound d t ops (word ∷ words) none h named_ops =
 
 -- ---- lines
 
-line-sound : (d : Declarations) (b : Block) (line : Line) → cause_of d b line ≡ None → IsSound d → IsSoundBlock d b
+line-sound : (d : Declarations) (b : Block) (line : Line) → cause_of d b line ≡ None → AreSoundDeclarations d → IsSoundBlock d b
     → IsBelow (declared_after d b line) (block_after d b line)
 unfolding cause_of declared_after block_after
 line-sound d Outside line none h k = outside-sound d line none h
@@ -192,12 +192,12 @@ line-sound d (InScript t ops) line none h k = in-script-sound d t ops line none 
 apart-from : (n : ℕ) (c : WorkCause) (e : Declarations) → Refuses n c ≡ Accepts e → ⊥
 apart-from n c e h = cc
 
-end-sound : (o : Option WorkCause) (n : ℕ) (d e : Declarations) → unless_refused n o (Accepts d) ≡ Accepts e → IsSound d → IsSound e
-end-sound None n d e h s = subst IsSound (same-accepted d e h) s
+end-sound : (o : Option WorkCause) (n : ℕ) (d e : Declarations) → unless_refused n o (Accepts d) ≡ Accepts e → AreSoundDeclarations d → AreSoundDeclarations e
+end-sound None n d e h s = subst AreSoundDeclarations (same-accepted d e h) s
 end-sound (Some c) n d e h s = absurd (apart-from n c e h)
 
 -- what lines without a fault declare, below sound declarations
-lines-sound : (lines : List Line) (n : ℕ) (d e : Declarations) (b : Block) → judged n d b lines ≡ Accepts e → IsSound d → IsSoundBlock d b → IsSound e
+lines-sound : (lines : List Line) (n : ℕ) (d e : Declarations) (b : Block) → judged n d b lines ≡ Accepts e → AreSoundDeclarations d → IsSoundBlock d b → AreSoundDeclarations e
 unfolding judged
 lines-sound [] n d e b h s k = end-sound (end_cause d b) n d e h s
 lines-sound (line ∷ lines) n d e b h s k =
@@ -205,14 +205,14 @@ lines-sound (line ∷ lines) n d e b h s k =
     lines-sound lines (n + 1) (declared_after d b line) e (block_after d b line) g below.declared below.block)
   where
     by : (o : Option WorkCause) → cause_of d b line ≡ o
-        → (IsBelow (declared_after d b line) (block_after d b line) → judged (n + 1) (declared_after d b line) (block_after d b line) lines ≡ Accepts e → IsSound e) → IsSound e
+        → (IsBelow (declared_after d b line) (block_after d b line) → judged (n + 1) (declared_after d b line) (block_after d b line) lines ≡ Accepts e → AreSoundDeclarations e) → AreSoundDeclarations e
     by None is more =
         more (line-sound d b line is s k)
         (sym (ap (λ x. unless_refused n x (judged (n + 1) (declared_after d b line) (block_after d b line) lines)) is) ∙ h)
     by (Some c) is more =
         let f : Refuses n c ≡ Accepts e = sym (ap (λ x. unless_refused n x (judged (n + 1) (declared_after d b line) (block_after d b line) lines)) is) ∙ h in absurd (apart-from n c e f)
 
-nothing-sound : IsSound nothing
+nothing-sound : AreSoundDeclarations nothing
 nothing-sound = record {
   settings = record { cpus_some = omega arith; cpus_most = omega arith; known_hz = refl; limit_some = tt; limit_most = tt };
   sets = record { fit = refl; differ = refl; left = omega arith };
@@ -225,5 +225,5 @@ nothing-sound = record {
 }
 
 -- what a text declares that is accepted
-pub text-sound : (lines : List Line) (e : Declarations) → judged 1 nothing Outside lines ≡ Accepts e → IsSound e
+pub text-sound : (lines : List Line) (e : Declarations) → judged 1 nothing Outside lines ≡ Accepts e → AreSoundDeclarations e
 text-sound lines e h = lines-sound lines 1 nothing e Outside h nothing-sound tt

@@ -28,7 +28,7 @@ use Rattle.sd_declare.specs.Causes.{least}
 use Rattle.sd_declare.specs.Declarations.{Thread, Declarations, cpu_count, lock_number, chan_number, set_place, thread_number, named_count, set_number}
 use Rattle.sd_declare.specs.Statements.{is_quantum, is_class, is_beyond, is_named, is_taken, cpus_causes, hz_causes, limit_causes, set_causes, lock_causes, chan_causes, sema_causes, thread_causes, statement_causes, quantum_of, parms_of, cpupri_of, thread_of, with_set, with_lock, with_chan, with_thread, with_statement}
 use Rattle.sd_declare.proofs.PlaceLemmas.{none-placed, any_kept}
-use Rattle.sd_workload.specs.Sound.{named, named_cpus, set_is_sound, thread_is_sound, AreSets, IsSound}
+use Rattle.sd_workload.specs.Sound.{named, named_cpus, set_is_sound, thread_is_sound, AreSets, AreSoundDeclarations}
 use Rattle.sd_workload.proofs.ClearLemmas.{clear}
 use Rattle.sd_workload.proofs.NameLemmas.{distinct-push, distinct-more, named-push}
 use Rattle.sd_workload.proofs.NamedLemmas.{threads-more}
@@ -46,7 +46,7 @@ within a n b h = let p = and_parts (leb a n) (leb n b) (not-false _ h) in (grind
 none-there : {X : Type 0} (xs : List X) → ltb 0 (length xs) ≡ false → xs ≡ []
 none-there xs h = nil_from_length xs (grind (arith, nat_tests))
 
-cpus-sound : (d : Declarations) (n : ℕ) → least (cpus_causes d n) ≡ None → IsSound d → IsSound (record d { cpus = Some n })
+cpus-sound : (d : Declarations) (n : ℕ) → least (cpus_causes d n) ≡ None → AreSoundDeclarations d → AreSoundDeclarations (record d { cpus = Some n })
 cpus-sound d n none s =
     let c = clear (cpus_causes d n) none in
     let r = within 1 n 64 c.range in
@@ -64,7 +64,7 @@ cpus-sound d n none s =
       tables = s.tables;
     }
 
-hz-sound : (d : Declarations) (n : ℕ) → least (hz_causes d n) ≡ None → IsSound d → IsSound (record d { hz = Some n })
+hz-sound : (d : Declarations) (n : ℕ) → least (hz_causes d n) ≡ None → AreSoundDeclarations d → AreSoundDeclarations (record d { hz = Some n })
 hz-sound d n none s = record {
   settings = record {
     cpus_some = s.settings.cpus_some;
@@ -82,7 +82,7 @@ hz-sound d n none s = record {
   tables = s.tables;
 }
 
-limit-sound : (d : Declarations) (n : ℕ) → least (limit_causes d n) ≡ None → IsSound d → IsSound (record d { limit = Some n })
+limit-sound : (d : Declarations) (n : ℕ) → least (limit_causes d n) ≡ None → AreSoundDeclarations d → AreSoundDeclarations (record d { limit = Some n })
 limit-sound d n none s =
     let r = within 1 n 100000 (clear (limit_causes d n) none).range in
     record {
@@ -124,7 +124,7 @@ cpus-append sets name cs = flat_map-append (λ (s : Word × List CpuId). s.1) se
 some-cpus : (cs : List ℕ) → nat_eq (length cs) 0 ≡ false → ltb 0 (length (map cpu_of_number cs)) ≡ true
 some-cpus cs h = let e = length-map cs cpu_of_number in grind (arith, nat_tests)
 
-set-sound : (d : Declarations) (name : Word) (cs : List ℕ) → least (set_causes d name cs) ≡ None → IsSound d → IsSound (with_set d name cs)
+set-sound : (d : Declarations) (name : Word) (cs : List ℕ) → least (set_causes d name cs) ≡ None → AreSoundDeclarations d → AreSoundDeclarations (with_set d name cs)
 unfolding set_place is_taken
 set-sound d name cs none s =
     let c = clear (set_causes d name cs) none in
@@ -168,7 +168,7 @@ kinds-count : {X : Type 0} (xs : List (Word × X)) (y : Word × X) → length (m
 kinds-count {X} xs y =
     omega (arith, length-map xs (λ (z : Word × X). z.1), length-map (xs ++ y ∷ []) (λ (z : Word × X). z.1), length-append xs (y ∷ []))
 
-lock-sound : (d : Declarations) (kind : LockKind) (name : Word) → least (lock_causes d name) ≡ None → IsSound d → IsSound (with_lock d kind name)
+lock-sound : (d : Declarations) (kind : LockKind) (name : Word) → least (lock_causes d name) ≡ None → AreSoundDeclarations d → AreSoundDeclarations (with_lock d kind name)
 unfolding lock_number
 lock-sound d kind name none s = record {
   settings = s.settings;
@@ -182,7 +182,7 @@ lock-sound d kind name none s = record {
   tables = s.tables;
 }
 
-chan-new : (d : Declarations) (kind : ChanKind) (name : Word) → ltb (chan_number d name) (length d.chans) ≡ false → has_small_count kind ≡ true → IsSound d → IsSound (with_chan d kind name)
+chan-new : (d : Declarations) (kind : ChanKind) (name : Word) → ltb (chan_number d name) (length d.chans) ≡ false → has_small_count kind ≡ true → AreSoundDeclarations d → AreSoundDeclarations (with_chan d kind name)
 unfolding chan_number
 chan-new d kind name new small s = record {
   settings = s.settings;
@@ -221,7 +221,7 @@ class-fits (Rt pri q) h =
     let p = and_parts (leb pri 59) (is_quantum q) h in
     rw (p.0, quantum-fits q p.1) refl
 
-thread-sound : (d : Declarations) (t : ThreadLine) → least (thread_causes d t) ≡ None → IsSound d → IsSound (with_thread d t)
+thread-sound : (d : Declarations) (t : ThreadLine) → least (thread_causes d t) ≡ None → AreSoundDeclarations d → AreSoundDeclarations (with_thread d t)
 unfolding thread_number
 thread-sound d t none s =
     let c = clear (thread_causes d t) none in
@@ -249,7 +249,7 @@ thread-sound d t none s =
     under : (a b : ℕ) → ltb a (b + 1) ≡ true → leb a b ≡ true
     under a b h = grind (arith, nat_tests)
 
-pub statement-sound : (d : Declarations) (s : Statement) → least (statement_causes d s) ≡ None → IsSound d → IsSound (with_statement d s)
+pub statement-sound : (d : Declarations) (s : Statement) → least (statement_causes d s) ≡ None → AreSoundDeclarations d → AreSoundDeclarations (with_statement d s)
 statement-sound d (Cpus n) none s = cpus-sound d n none s
 statement-sound d (Hz n) none s = hz-sound d n none s
 statement-sound d (Limit n) none s = limit-sound d n none s

@@ -20,7 +20,7 @@ use Rattle.sd_declare.specs.declared.declared.Declared.{Declared as Kept}
 use Rattle.sd_declare.specs.Declarations.{Thread, Declarations, cpu_count}
 use Rattle.sd_declare.specs.Kept.{set_kept, lock_kept, chan_kept, thread_kept, declarations}
 use Rattle.sd_declare.proofs.PlaceLemmas.{sum_kept}
-use Rattle.sd_workload.specs.Sound.{named, named_cpus, set_is_sound, thread_is_sound, IsSound}
+use Rattle.sd_workload.specs.Sound.{named, named_cpus, set_is_sound, thread_is_sound, AreSoundDeclarations}
 use Rattle.sd_workload.specs.Texts.{Outside, end_causes, end_cause}
 use Rattle.sd_workload.proofs.ClearLemmas.{clear}
 
@@ -62,7 +62,7 @@ pub most-ops : (k : Kept) (threads : List ThreadDecl) → IsFew (declarations k)
 most-ops k threads h t =
     rw t (subst (λ (n : ℕ). n ≤ 4096) (sym (sum_kept thread_kept (λ (x : Thread). length x.ops) k.threads.items)) h.ops)
 
-pub sets-fit : (k : Kept) (cpus : ℕ) (sets : List (Name × List CpuId)) → IsSound (declarations k) → cpus ≡ cpu_count (declarations k) → sets ≡ k.sets.items
+pub sets-fit : (k : Kept) (cpus : ℕ) (sets : List (Name × List CpuId)) → AreSoundDeclarations (declarations k) → cpus ≡ cpu_count (declarations k) → sets ≡ k.sets.items
     → list_all (set_fits cpus) sets ≡ true
 sets-fit k cpus sets s e h =
     rw (e, h) (sym (list_all-map (set_is_sound (cpu_count (declarations k))) set_kept k.sets.items) ∙ s.sets.fit)
@@ -70,27 +70,27 @@ sets-fit k cpus sets s e h =
 cpus-same : (sets : List (Name × List CpuId)) → named_cpus (map set_kept sets) ≡ set_cpus sets
 cpus-same sets = flat_map-map (λ (s : Word × List CpuId). s.1) set_kept sets
 
-pub cpus-differ : (k : Kept) (sets : List (Name × List CpuId)) → IsSound (declarations k) → sets ≡ k.sets.items → is_distinct same_cpu (set_cpus sets) ≡ true
+pub cpus-differ : (k : Kept) (sets : List (Name × List CpuId)) → AreSoundDeclarations (declarations k) → sets ≡ k.sets.items → is_distinct same_cpu (set_cpus sets) ≡ true
 cpus-differ k sets s h = rw h (ap (is_distinct same_cpu) (sym (cpus-same k.sets.items)) ∙ s.sets.differ)
 
-pub cpu-left : (k : Kept) (cpus : ℕ) (sets : List (Name × List CpuId)) → IsSound (declarations k) → cpus ≡ cpu_count (declarations k) → sets ≡ k.sets.items
+pub cpu-left : (k : Kept) (cpus : ℕ) (sets : List (Name × List CpuId)) → AreSoundDeclarations (declarations k) → cpus ≡ cpu_count (declarations k) → sets ≡ k.sets.items
     → length (set_cpus sets) < cpus
 cpu-left k cpus sets s e h =
     rw (e, h) (subst (λ (l : List CpuId). length l < cpu_count (declarations k)) (cpus-same k.sets.items) s.sets.left)
 
-pub set-names : (k : Kept) (sets : List (Name × List CpuId)) → IsSound (declarations k) → sets ≡ k.sets.items → is_distinct same_bytes (map (λ s. s.0.text.items) sets) ≡ true
+pub set-names : (k : Kept) (sets : List (Name × List CpuId)) → AreSoundDeclarations (declarations k) → sets ≡ k.sets.items → is_distinct same_bytes (map (λ s. s.0.text.items) sets) ≡ true
 set-names k sets s h = rw h (ap (is_distinct same_bytes) (sym (map-map set_kept (λ (x : Word × List CpuId). x.0) k.sets.items)) ∙ s.set_names)
 
-pub lock-names : (k : Kept) (locks : List (Name × LockKind)) → IsSound (declarations k) → locks ≡ k.locks.items → is_distinct same_bytes (map (λ l. l.0.text.items) locks) ≡ true
+pub lock-names : (k : Kept) (locks : List (Name × LockKind)) → AreSoundDeclarations (declarations k) → locks ≡ k.locks.items → is_distinct same_bytes (map (λ l. l.0.text.items) locks) ≡ true
 lock-names k locks s h = rw h (ap (is_distinct same_bytes) (sym (map-map lock_kept (λ (x : Word × LockKind). x.0) k.locks.items)) ∙ s.lock_names)
 
-pub chan-names : (k : Kept) (chans : List (Name × ChanKind)) → IsSound (declarations k) → chans ≡ k.chans.items → is_distinct same_bytes (map (λ l. l.0.text.items) chans) ≡ true
+pub chan-names : (k : Kept) (chans : List (Name × ChanKind)) → AreSoundDeclarations (declarations k) → chans ≡ k.chans.items → is_distinct same_bytes (map (λ l. l.0.text.items) chans) ≡ true
 chan-names k chans s h = rw h (ap (is_distinct same_bytes) (sym (map-map chan_kept (λ (x : Word × ChanKind). x.0) k.chans.items)) ∙ s.chan_names)
 
-pub small-counts : (k : Kept) (chans : List (Name × ChanKind)) → IsSound (declarations k) → chans ≡ k.chans.items → list_all (λ c. has_small_count c.1) chans ≡ true
+pub small-counts : (k : Kept) (chans : List (Name × ChanKind)) → AreSoundDeclarations (declarations k) → chans ≡ k.chans.items → list_all (λ c. has_small_count c.1) chans ≡ true
 small-counts k chans s h = rw h (sym (list_all-map (λ (x : Word × ChanKind). has_small_count x.1) chan_kept k.chans.items) ∙ s.counts)
 
-pub thread-names : (k : Kept) (threads : List ThreadDecl) → IsSound (declarations k) → threads ≡ k.threads.items → is_distinct same_bytes (map (λ t. t.name.text.items) threads) ≡ true
+pub thread-names : (k : Kept) (threads : List ThreadDecl) → AreSoundDeclarations (declarations k) → threads ≡ k.threads.items → is_distinct same_bytes (map (λ t. t.name.text.items) threads) ≡ true
 thread-names k threads s h = rw h (ap (is_distinct same_bytes) (sym (map-map thread_kept (λ (x : Thread). x.name) k.threads.items)) ∙ s.threads.names)
 
 named-same : (k : Kept) → named (declarations k) ≡ declared_of (cpu_count (declarations k)) k.sets.items k.locks.items k.chans.items k.threads.items
@@ -103,7 +103,7 @@ named-same k =
     ∙ ap (λ (n : ℕ). record (declared_of cpus k.sets.items k.locks.items k.chans.items k.threads.items) { threads = n }) (length-map k.threads.items thread_kept)
 
 pub threads-fit : (k : Kept) (cpus : ℕ) (sets : List (Name × List CpuId)) (locks : List (Name × LockKind)) (chans : List (Name × ChanKind)) (threads : List ThreadDecl)
-    → IsSound (declarations k) → cpus ≡ cpu_count (declarations k) → sets ≡ k.sets.items → locks ≡ k.locks.items → chans ≡ k.chans.items → threads ≡ k.threads.items
+    → AreSoundDeclarations (declarations k) → cpus ≡ cpu_count (declarations k) → sets ≡ k.sets.items → locks ≡ k.locks.items → chans ≡ k.chans.items → threads ≡ k.threads.items
     → list_all (thread_fits (declared_of cpus sets locks chans threads)) threads ≡ true
 threads-fit k cpus sets locks chans threads s e ss ls cs ts =
     rw (e, ss, ls, cs, ts)

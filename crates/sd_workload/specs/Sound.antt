@@ -57,7 +57,7 @@ pub record AreTables (ts fx rt : Option (List Line)) : Type 0 where
   pub fx_lines : IfSome fx (IsTableLines fx_format)
   pub rt_lines : IfSome rt (IsTableLines rt_format)
 
-pub record IsSound (d : Declarations) : Type 0 where
+pub record AreSoundDeclarations (d : Declarations) : Type 0 where
   pub settings : AreSettings (cpu_count d) (hz_of d) d.limit
   pub sets : AreSets (cpu_count d) d.sets
   pub set_names : AreNamed d.sets

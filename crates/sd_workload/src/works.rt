@@ -5,7 +5,7 @@ ghost use Rattle.sd_types.specs.Ticks.{ts_ticks_fit, fixed_ticks_fit};
 ghost use Rattle.sd_tables.specs.TableText.{IsTableText, ts_format, fx_format, rt_format};
 ghost use Rattle.sd_declare.specs.Kept.{declarations, lines_in};
 ghost use Rattle.sd_workload.specs.Accepted.{IsTs, IsFx, IsRt, IsWork};
-ghost use Rattle.sd_workload.specs.Sound.{IsSound};
+ghost use Rattle.sd_workload.specs.Sound.{AreSoundDeclarations};
 ghost use Rattle.sd_workload.specs.Texts.{Outside, end_cause};
 
 use sd_declare::Declared;
@@ -73,7 +73,7 @@ fn rt_table(alloc: Global, text: &Option<Vec<u8>>, hz: u32) -> Result<FixedTable
 
 /// The workload that is declared, with the defaults of what is not.
 pub fn work(alloc: Global, d: Declared, limit: u32) -> Result<Work, AllocError>
-    requires sound { IsSound (declarations d) }
+    requires sound { AreSoundDeclarations (declarations d) }
     requires limit { d.limit ≡ Some limit }
     requires end { end_cause (declarations d) Outside ≡ None }
     ensures { IfOk result (IsWork (declarations d)) }

@@ -83,13 +83,13 @@ chain_bare : (s : State) (i : ℕ) → i < 64 → IsBare s (Chain (chain_with s 
 unfolding chain_with four_locks
 chain_bare s i small = record {
   lists = none;
-  parts = (refl, refl, λ l is. let of = of_chain (chain_with s i).turns l is in quarter (lock_of s) Free i l small of.0 of.1);
+  parts = (refl, refl, λ l is. let of = of_chain (chain_with s i).turnstiles l is in quarter (lock_of s) Free i l small of.0 of.1);
 }
   where
     none : (sp : ListId) → list_in (Chain (chain_with s i)) sp ≡ []
-    none (Waits l side) = by (is_of (chain_with s i).turns l.0) refl
+    none (Waits l side) = by (is_of (chain_with s i).turnstiles l.0) refl
       where
-        by : (b : Bool) → is_of (chain_with s i).turns l.0 ≡ b → list_in (Chain (chain_with s i)) (Waits l side) ≡ []
+        by : (b : Bool) → is_of (chain_with s i).turnstiles l.0 ≡ b → list_in (Chain (chain_with s i)) (Waits l side) ≡ []
         by true e = rw e (no_waiters (l.0 / 64) side)
         by false e = rw e refl
     none _ = refl

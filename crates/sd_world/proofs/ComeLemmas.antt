@@ -15,7 +15,7 @@ use Rattle.sd_types.specs.declared.numbers.LockId.{LockId}
 use Rattle.sd_types.specs.declared.numbers.SetId.{SetId}
 use Rattle.sd_types.specs.declared.numbers.Side.{Side}
 use Rattle.sd_types.specs.declared.works.Work.{Work}
-use Rattle.sd_types.specs.Willed.{IsSound}
+use Rattle.sd_types.specs.Willed.{InheritsSoundly}
 use Rattle.sd_record.specs.Records.{ThreadRecord}
 use Rattle.sd_state.specs.declared.states.Place.{Place}
 use Rattle.sd_state.specs.declared.states.Place.TheVariants.{Running, Queued, RealTime, Waiting, Asleep, Napping, Ended}
@@ -24,7 +24,7 @@ use Rattle.sd_state.specs.declared.states.ThreadState.{ThreadState}
 use Rattle.sd_state.specs.States.{is_running, key_of, no_thread, thread_of, same_side}
 use Rattle.sd_machine.specs.Runs.{IsReached}
 use Rattle.sd_machine.specs.Shapes.{FitsFully}
-use Rattle.sd_state.specs.Invariants.{IsThere, KeysDiffer, KeysWithin, OneRuns, has_key, same_queue}
+use Rattle.sd_state.specs.Invariants.{IsPlaceThere, KeysDiffer, KeysWithin, OneRuns, has_key, same_queue}
 use Rattle.sd_invariants.proofs.FineLemmas.{sound_law}
 use Rattle.sd_invariants.proofs.KeyLemmas.{keys_differ_law, keys_within_law}
 use Rattle.sd_invariants.proofs.Ready.{kept_reached, reached_ready}
@@ -33,7 +33,7 @@ use Rattle.sd_invariants.proofs.All.{threads_law}
 use Rattle.sd_footprint.proofs.RanLast.{reached_ran}
 use Rattle.sd_homes.specs.declared.list_id.ListId.{ListId}
 use Rattle.sd_homes.specs.declared.list_id.ListId.TheVariants.{Runs, Queues, Urgent, Waits, Sleeps, Naps, Ends}
-use Rattle.sd_homes.specs.Standing.{IsArranged, IsFree, Lists, IsKeyFor, MayCome, home_at, insert_at, list_at, list_of, look_of, record_key, record_of, stands, stands_at, with_one}
+use Rattle.sd_homes.specs.Standing.{IsArranged, IsUnusedKey, Lists, IsKeyFor, MayCome, home_at, insert_at, list_at, list_of, look_of, record_key, record_of, stands, stands_at, with_one}
 use Rattle.sd_homes.specs.declared.home.Home.{Home}
 use Rattle.sd_homes.specs.Families.{home_id, list_in, putting}
 use Rattle.sd_hand.specs.Hands.{IsHeld, edit, held}
@@ -134,7 +134,7 @@ sleeps_with ch k last _ e = absurd (false≢true e)
 
 -- the keys of those below differ from that of thread t in one queue with it
 free_by : (n t : ℕ) (s : State) (p : Place) (sp : ListId) → IsOrderly n s → t < length s.threads → (thread_of s t).place ≡ p
-    → ((last : CpuId) (q : Place) → stands_at sp last q ≡ true → InQueue p q) → IsFree (threads_below t s) sp (key_of p)
+    → ((last : CpuId) (q : Place) → stands_at sp last q ≡ true → InQueue p q) → IsUnusedKey (threads_below t s) sp (key_of p)
 free_by n t s p sp orderly inside is queue u y e on same =
     let b = of_below t s u y e in
     let (together, key) = queue y.body.last y.place on in
@@ -195,7 +195,7 @@ all_came n s hs shows = subst (λ look. Shows n s look hs) (below_all s) shows
 
 -- In every state of every run.
 
-there_list : (w : Work) (last : CpuId) (p : Place) → IsThere w p → IsListThere (list_at last p)
+there_list : (w : Work) (last : CpuId) (p : Place) → IsPlaceThere w p → IsListThere (list_at last p)
 there_list w last (Waiting l side k) is = let most = w.most_locks in omega arith
 there_list w last (Asleep ch k) is = let most = w.most_chans in omega arith
 there_list w last p is = tt
@@ -283,7 +283,7 @@ all_homes w n s z hs reached sizes placed all shows = record {
     of_number (id.Chain i) is = is
     of_number (id.Sleepers i) is = is
 
-list_there : (w : Work) (s : State) (last : CpuId) (p : Place) → FitsFully w s → last.0 < w.cpus → IsThere w p → IsListOf s (list_at last p)
+list_there : (w : Work) (s : State) (last : CpuId) (p : Place) → FitsFully w s → last.0 < w.cpus → IsPlaceThere w p → IsListOf s (list_at last p)
 list_there w s last (Running c) fits l is = subst (λ m. c.0 < m) (sym fits.cpus) is
 list_there w s last (Queued c k) fits l is = subst (λ m. c.0 < m) (sym fits.cpus) is
 list_there w s last (RealTime p k) fits l is = let sets = fits.sets in omega arith
@@ -309,8 +309,8 @@ few_threads w n s xs t reached is inside =
 pub thread_at : (s : State) (xs : List ThreadState) (t : ℕ) (x : ThreadState) → xs ≡ s.threads → t < length xs → x ≡ get_or xs t x → x ≡ thread_of s t
 thread_at s xs t x is inside e = e ∙ (same_default xs t x no_thread inside ∙ ap (λ ys. get_or ys t no_thread) is)
 
-pub sound_at : (w : Work) (n : ℕ) (s : State) (xs : List ThreadState) (t : ℕ) (x : ThreadState) → IsReached w n s → xs ≡ s.threads → t < length xs → x ≡ get_or xs t x → IsSound x.body
-sound_at w n s xs t x reached is inside e = subst (λ (y : ThreadState). IsSound y.body) (sym (thread_at s xs t x is inside e)) (sound_law w n s reached t).0
+pub sound_at : (w : Work) (n : ℕ) (s : State) (xs : List ThreadState) (t : ℕ) (x : ThreadState) → IsReached w n s → xs ≡ s.threads → t < length xs → x ≡ get_or xs t x → InheritsSoundly x.body
+sound_at w n s xs t x reached is inside e = subst (λ (y : ThreadState). InheritsSoundly y.body) (sym (thread_at s xs t x is inside e)) (sound_law w n s reached t).0
 
 -- so many threads of the state stand in the homes, none of which is given out
 pub record Settling (n : ℕ) (s : State) (t : ℕ) (first now : AllHomes) : Type 0 where

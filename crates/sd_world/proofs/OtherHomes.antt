@@ -70,7 +70,7 @@ parts_same s new ps (Cpu h) shape only apart p =
 parts_same s new ps (RealTime h) shape only apart p =
     (p.0 ∙ kept_or (open_of s h.set.0) _ (only.sets h.set.0) (λ is. lies_elsewhere s ps (RealTime h) _ apart is refl), subst (λ k. h.set.0 < k) (sym shape.sets) p.1)
 parts_same s new ps (Chain h) shape only apart p =
-    (p.0, p.1, λ l is. p.2 l is ∙ kept_or (lock_of s l) _ (only.locks l) (λ there. lies_elsewhere s ps (Chain h) _ apart there (ap id.Chain (eqb-true (l % 64) h.turns.chain (and_right (nat_lt l 256) _ is)))))
+    (p.0, p.1, λ l is. p.2 l is ∙ kept_or (lock_of s l) _ (only.locks l) (λ there. lies_elsewhere s ps (Chain h) _ apart there (ap id.Chain (eqb-true (l % 64) h.turnstiles.chain (and_right (nat_lt l 256) _ is)))))
 parts_same s new ps (Sleepers h) shape only apart p =
     (p.0, p.1, λ k is. p.2 k is ∙ kept_or (count_of s k) _ (only.chans k) (λ there. lies_elsewhere s ps (Sleepers h) _ apart there (ap id.Sleepers (eqb-true (k % 64) h.sleepers.chain (and_right (nat_lt k 256) _ is)))))
 

@@ -37,7 +37,7 @@ use Rattle.sd_hand.proofs.GuideLemmas.{stands_guessed}
 use Rattle.sd_hand.proofs.MoveLemmas.{taken}
 use Rattle.sd_hand.proofs.SlotLemmas.{stands_has}
 use Rattle.sd_footprint.specs.Changed.{SameActor}
-use Rattle.sd_footprint.specs.There.{IsThere, PartsAreThere, StandsThere}
+use Rattle.sd_footprint.specs.There.{IsPartThere, PartsAreThere, StandsThere}
 use Rattle.sd_footprint.proofs.ThereLemmas.{known_reached, stands_there}
 use Rattle.sd_footprint.proofs.TouchedThere.{parts_there}
 use Rattle.sd_footprint.proofs.RanLast.{reached_changes}
@@ -95,7 +95,7 @@ module _ (w : Work) (x : PlainWorld) (st : Stands w x) where
   pub stood : (t : ℕ) → StandsThere (told w x) (thread_of (told w x) t)
   stood t = stands_there w (told w x) (known_reached w (length x.entries.items) (told w x) reached) t
 
-  pub has_there : (p : Part) → IsThere (told w x) x.acting.actor.cpu p → has_part x.acting p ≡ true
+  pub has_there : (p : Part) → IsPartThere (told w x) x.acting.actor.cpu p → has_part x.acting p ≡ true
   has_there (part.Home k) there = has_home k there
   has_there (part.Thread t) there = has_stander t.0 there (stood t.0).home
   has_there (part.Actor d) there = eq-eqb d.0 x.acting.actor.cpu.0 (ap (λ (c : CpuId). c.0) there)

@@ -5,7 +5,7 @@ use Rattle.sd_types.specs.declared.numbers.CpuId.{CpuId}
 use Rattle.sd_types.specs.declared.bodies.ThreadBody.{ThreadBody}
 use Rattle.sd_types.specs.declared.works.Work.{Work}
 use Rattle.sd_record.specs.Records.{ThreadRecord}
-use Rattle.sd_state.specs.Invariants.{IsThere}
+use Rattle.sd_state.specs.Invariants.{IsPlaceThere}
 use Rattle.sd_state.specs.declared.states.Place.{Place}
 use Rattle.sd_state.specs.declared.states.Place.TheVariants.{Running, Queued, RealTime, Waiting, Asleep, Napping, Ended}
 use Rattle.sd_state.specs.declared.states.State.{State}
@@ -27,7 +27,7 @@ use Rattle.sd_world.specs.Told.{IsDue, IsToldBy}
 use Rattle.sd_world.proofs.NapLemmas.{NapFits, naps_fit}
 
 -- the home of a place is one of the state's
-home_there : (w : Work) (s : State) (last : CpuId) (p : Place) → FitsFully w s → last.0 < w.cpus → IsThere w p → IsHomeOf s (home_at (list_at last p))
+home_there : (w : Work) (s : State) (last : CpuId) (p : Place) → FitsFully w s → last.0 < w.cpus → IsPlaceThere w p → IsHomeOf s (home_at (list_at last p))
 home_there w s last (Running c) fits l is = subst (λ m. c.0 < m) (sym fits.cpus) is
 home_there w s last (Queued c k) fits l is = subst (λ m. c.0 < m) (sym fits.cpus) is
 home_there w s last (RealTime p k) fits l is = let sets = fits.sets in omega arith

@@ -16,7 +16,7 @@ use Rattle.sd_machine.specs.Runs.{IsRun, final}
 use Rattle.sd_invariants.proofs.Whole.{fit_reached}
 use Rattle.sd_hand.specs.OneHome.{AreAllHomes}
 use Rattle.sd_world.specs.Told.{AreActorsOf, IsActorOf}
-use Rattle.sd_footprint.specs.There.{IsThere}
+use Rattle.sd_footprint.specs.There.{IsPartThere}
 use Rattle.sd_world.specs.declared.plain.PlainWorld.{PlainWorld}
 use Rattle.sd_world.specs.declared.world.Behind.{Behind}
 use Rattle.sd_world.specs.Plain.{HasStood, IsLess, IsPlain, NoneLess, Stands, last_of, plain_meaning, told}
@@ -58,7 +58,7 @@ plain_good x st = record {
   good = record {
     stands = record { run = st.run; begins = begins_same x.entries.items; still = λ e. refl; shown = shown x.work.now x st };
     cpu = cpu_inside x.work.now x st;
-    everything = λ e h may p there. has_there x.work.now x st p (subst (λ l. IsThere (after_run (plain_meaning x) l) x.acting.actor.cpu p) (may.still refl) there);
+    everything = λ e h may p there. has_there x.work.now x st p (subst (λ l. IsPartThere (after_run (plain_meaning x) l) x.acting.actor.cpu p) (may.still refl) there);
     reached = λ d n is h may. subst (λ l. n ≤ (cpu_of (after_run (plain_meaning x) l) d).count) (sym (may.still refl)) (let z : nat_le n (cpu_of (told x.work.now x) d).count ≡ true = is in grind (arith, nat_tests));
   };
 }

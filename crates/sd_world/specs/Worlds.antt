@@ -32,7 +32,7 @@ use Rattle.sd_homes.specs.Kinds.{IsListed}
 use Rattle.sd_hand.specs.declared.acting.Acting.{Acting}
 use Rattle.sd_hand.specs.Acting.{IsShown, has_part}
 use Rattle.sd_hand.specs.Hands.{HoldsMore, has_thread, how_many_held}
-use Rattle.sd_footprint.specs.There.{IsThere}
+use Rattle.sd_footprint.specs.There.{IsPartThere}
 use Rattle.sd_world.specs.declared.world.Take.{Take}
 use Rattle.sd_world.specs.declared.world.Take.TheVariants.{Taken, Busy}
 use Rattle.sd_world.specs.declared.world.ThreadLock.{ThreadLock}
@@ -86,7 +86,7 @@ pub record MayStand (m : Meaning) (h : List Entry) : Type 0 where
 pub record IsGood (m : Meaning) : Type 0 where
   pub stands : MayStand m m.seen
   pub cpu : (actor_of m).0 < m.work.cpus
-  pub everything : m.all ≡ true → (h : List Entry) → MayStand m h → (p : Part) → IsThere (after_run m h) (actor_of m) p → has_part m.acting p ≡ true
+  pub everything : m.all ≡ true → (h : List Entry) → MayStand m h → (p : Part) → IsPartThere (after_run m h) (actor_of m) p → has_part m.acting p ≡ true
   pub reached : (d n : ℕ) → m.counted d n ≡ true → (h : List Entry) → MayStand m h → n ≤ (cpu_of (after_run m h) d).count
 
 -- it did not fall, and it rose or stands at the greatest number

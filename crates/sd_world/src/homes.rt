@@ -7,7 +7,7 @@ ghost use Rattle.sd_homes.specs.Standing.{home_at, record_of};
 ghost use Rattle.sd_hand.specs.Hands.{HoldsMore, IsHeld, edit, held};
 ghost use Rattle.sd_hand.specs.OneHome.{AreAllHomes, lists_with};
 ghost use Rattle.sd_hand.specs.Shown.{ShowsState};
-ghost use Rattle.sd_types.specs.Willed.{IsSound};
+ghost use Rattle.sd_types.specs.Willed.{InheritsSoundly};
 ghost use Rattle.sd_types.specs.Limits.{most_processors};
 ghost use Rattle.sd_world.specs.Homes.{AreAllThere, AreBare, IsNumber, IsNumberAt, ShowsNone, how_many, index_of, sizes_of};
 
@@ -91,7 +91,7 @@ fn body_of(x: &ThreadState) -> ThreadBody
 /// Thread `t` with a turnstile of its own, on its way to its home.
 fn traveller_of(alloc: Global, t: usize, x: &ThreadState) -> Result<Traveller, AllocError>
     requires number { t < 2 ^ 16 }
-    requires sound { IsSound x.now.body }
+    requires sound { InheritsSoundly x.now.body }
     ensures { IfOk result (λ r. r ≡ record_of t x.now) }
 {
     let record = Record::new(alloc, ThreadId(t as u16), body_of(x), record_key(x.place))?;

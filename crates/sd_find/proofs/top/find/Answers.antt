@@ -7,7 +7,7 @@ use Rattle.sd_finder.specs.declared.forms.Request.{Request}
 use Rattle.sd_finder.specs.declared.verdicts.Verdict.{Verdict}
 use Rattle.sd_finder.specs.Forms.{request_of}
 use Rattle.sd_find.specs.Asked.{asked}
-use Rattle.sd_find.specs.Seeking.{CausedBy}
+use Rattle.sd_find.specs.Seeking.{CausedByFindRequest}
 use Rattle.sd_find.proofs.FindLemmas.{promises_of}
 use Rattle.sd_find.proofs.top.find.Goals as goal
 
@@ -29,7 +29,7 @@ returns-in-Some-Search g c =
     let out = change_of (held o) (held p) (written o) (written p) in
     promises_of (asked (map string_bytes c.args.arguments.now)) input out (change_of (shown e) (shown f) (failed e) (failed f)) c.seek_watched-ended.result c.report-in-Some-Search.result
     c.report-in-Some-Search.ensures.status
-    (subst (λ k. CausedBy k input out c.seek_watched-ended.result) (sym (ap request_of (sym c.asked.ensures) ∙ sym c.request_of.ensures ∙ c.in-Some-Search.is ∙ ap (λ (r : Request). Some r) c.in-Some-Search.field-0-is)) c.seek_watched-ended.ensures) c.report-in-Some-Search.ensures.told
+    (subst (λ k. CausedByFindRequest k input out c.seek_watched-ended.result) (sym (ap request_of (sym c.asked.ensures) ∙ sym c.request_of.ensures ∙ c.in-Some-Search.is ∙ ap (λ (r : Request). Some r) c.in-Some-Search.field-0-is)) c.seek_watched-ended.ensures) c.report-in-Some-Search.ensures.told
 
 pub returns-in-Some-Help : goal.returns-in-Some-Help
 returns-in-Some-Help g c =
@@ -47,7 +47,7 @@ returns-in-Some-Help g c =
     let out = change_of (held o) (held p) (written o) (written p) in
     promises_of (asked (map string_bytes c.args.arguments.now)) input out (change_of (shown e) (shown f) (failed e) (failed f)) c.put_help.result c.report.result
     c.report.ensures.status
-    (subst (λ k. CausedBy k input out c.put_help.result) (sym (ap request_of (sym c.asked.ensures) ∙ sym c.request_of.ensures ∙ c.in-Some-Help.is ∙ ap (λ (r : Request). Some r) c.in-Some-Help.field-0-is)) (record { bytes = refl; no_fault = refl }, c.put_help.ensures)) c.report.ensures.told
+    (subst (λ k. CausedByFindRequest k input out c.put_help.result) (sym (ap request_of (sym c.asked.ensures) ∙ sym c.request_of.ensures ∙ c.in-Some-Help.is ∙ ap (λ (r : Request). Some r) c.in-Some-Help.field-0-is)) (record { bytes = refl; no_fault = refl }, c.put_help.ensures)) c.report.ensures.told
 
 pub returns-in-None : goal.returns-in-None
 returns-in-None g c =
@@ -63,5 +63,5 @@ returns-in-None g c =
     let out = change_of held held written written in
     let usage : Result Verdict Answer = Err Usage in
     promises_of (asked (map string_bytes c.args.arguments.now)) input out (change_of (shown e) (shown f) (failed e) (failed f)) usage c.report-in-None.result c.report-in-None.ensures.status
-    (subst (λ k. CausedBy k input out usage) (sym (ap request_of (sym c.asked.ensures) ∙ sym c.request_of.ensures ∙ c.in-None.is))
+    (subst (λ k. CausedByFindRequest k input out usage) (sym (ap request_of (sym c.asked.ensures) ∙ sym c.request_of.ensures ∙ c.in-None.is))
     (refl, record { bytes = refl; no_fault = refl }, record { bytes = refl; no_fault = refl })) c.report-in-None.ensures.told

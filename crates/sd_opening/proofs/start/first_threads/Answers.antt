@@ -5,7 +5,7 @@ use Rattle.sd_opening.proofs.start.first_threads.Goals as goal
 
 pub loop-t-init : goal.loop-t-init
 loop-t-init c =
-    (ap (λ xs. xs ++ first_threads c.args.work.now 0 c.items-decls.result.now) c.new-threads.ensures.items, c.new-turns.ensures c.args.work.now)
+    (ap (λ xs. xs ++ first_threads c.args.work.now 0 c.items-decls.result.now) c.new-threads.ensures.items, c.new-dealing.ensures c.args.work.now)
 
 pub pass-requires-clause-there : goal.pass-requires-clause-there
 pass-requires-clause-there c =

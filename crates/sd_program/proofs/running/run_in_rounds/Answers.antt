@@ -5,7 +5,7 @@ use Rattle.sd_types.specs.declared.works.Work.{Work}
 use Rattle.sd_state.specs.Opening.{opening}
 use Rattle.sd_machine.specs.Runs.{final, IsComplete, IsRun, IsSerial, state_at}
 use Rattle.sd_hand.specs.OneHome.{StandsInHomes}
-use Rattle.sd_rounds.specs.declared.orders.Turns.{Turns}
+use Rattle.sd_rounds.specs.declared.orders.RoundOrder.{RoundOrder}
 use Rattle.sd_rounds.specs.declared.rounds.Finished.{Finished}
 use Rattle.sd_rounds.specs.Orders.{orders_of}
 use Rattle.sd_program.proofs.HintLemmas.{serial_bytes}
@@ -16,7 +16,7 @@ use Rattle.sd_program.specs.TheRun.{IsTheRun}
 use Rattle.sd_program.proofs.TheRun.{is_the_run}
 use Rattle.sd_program.proofs.running.run_in_rounds.Goals as goal
 
-run_ok : (w : Work) (turns : Turns) (r : Result Finished Stop) → IfOk r (λ x. length x.entries.items < 2 ^ 40)
+run_ok : (w : Work) (turns : RoundOrder) (r : Result Finished Stop) → IfOk r (λ x. length x.entries.items < 2 ^ 40)
     → IfOk r (λ x. IsSerial w (orders_of w turns) x.entries.items) → IfOk r (λ x. IsRun w x.entries.items) → IfOk r (λ x. IsComplete w x.state)
     → IfOk r (λ x. x.state ≡ final w (opening w) x.entries.items)
     → IfOk r (λ x. (k : ℕ) → k ≤ length x.entries.items → StandsInHomes k (state_at w x.entries.items k)) → IfOk r (λ x. IsTheRun w (Rounds turns) x.entries.items)

@@ -6,7 +6,7 @@ use Rattle.sd_machine.specs.Runs.{final, rising, round, state_at, IsComplete}
 use Rattle.sd_hand.specs.OneHome.{StandsInHomes}
 use Rattle.sd_world.specs.Plain.{told}
 use Rattle.sd_world.proofs.PlainLemmas.{all_stood}
-use Rattle.sd_rounds.specs.declared.orders.Turns.TheVariants.{Rising}
+use Rattle.sd_rounds.specs.declared.orders.RoundOrder.TheVariants.{Rising}
 use Rattle.sd_rounds.proofs.CompleteLemmas.{complete_after}
 use Rattle.sd_rounds.proofs.FinishLemmas.{finished, finished_complete}
 use Rattle.sd_rounds.proofs.OrderLemmas.{order_length}

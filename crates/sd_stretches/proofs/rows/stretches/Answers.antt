@@ -10,7 +10,7 @@ pub loop-x-preserved : goal.loop-x-preserved
 unfolding stretches_of
 loop-x-preserved c =
     let now : c.loop-x.left.now ≡ c.in-Some.x.now ∷ c.in-Some.rest.now = (rw c.in-Some.is at c.split_first.ensures.cases).0 in
-    let made : c.stretch_to.result ≡ stretch_to c.args.entries c.args.end c.in-Some.x.now (next_of c.in-Some.rest.now) = c.stretch_to.ensures ∙ ap (stretch_to c.args.entries c.args.end c.in-Some.x.now) c.first_turn.ensures in
+    let made : c.stretch_to.result ≡ stretch_to c.args.entries c.args.end c.in-Some.x.now (next_of c.in-Some.rest.now) = c.stretch_to.ensures ∙ ap (stretch_to c.args.entries c.args.end c.in-Some.x.now) c.first_onset.ensures in
     found_more (stretches_of c.args.entries c.args.end) c.loop-x.left.now c.in-Some.rest.now c.in-Some.x.now (c.stretch_to.result ∷ []) c.loop-x.found.items _ _
     (ap (λ y. y ∷ stretches_of c.args.entries c.args.end c.in-Some.rest.now) (sym made)) now c.loop-x.invariant c.in_ok-push.ensures.items
 

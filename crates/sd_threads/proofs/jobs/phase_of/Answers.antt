@@ -3,7 +3,7 @@ use Rattle.sd_hand.specs.Hands.{how_many_held}
 use Rattle.sd_table.specs.declared.seat.Seat.{Seat}
 use Rattle.sd_table.specs.Seats.{id_of, work_of}
 use Rattle.sd_threads.specs.Tables.{world_meaning}
-use Rattle.sd_threads.specs.Jobs.{IsFree, MadeAsLogged}
+use Rattle.sd_threads.specs.Jobs.{IsEmptyHanded, MadeAsLogged}
 use Rattle.sd_threads.proofs.JobLemmas as J
 use Rattle.sd_threads.proofs.jobs.phase_of.Goals as goal
 
@@ -26,7 +26,7 @@ returns g c =
     let made = J.made_as_logged (world_meaning x) (world_meaning y) c.phase-outcome.result e.answers in
     record {
       phased = record {
-        free = subst (IsFree t w) (sym same) (J.free_back t w x y table work c.new-world.ensures.good e.good e.world e.empty);
+        free = subst (IsEmptyHanded t w) (sym same) (J.free_back t w x y table work c.new-world.ensures.good e.good e.world e.empty);
         cpu = ap (λ (s : Seat). s.acting.actor.cpu) same ∙ (e.world.cpu ∙ ap (λ (s : Seat). s.acting.actor.cpu) c.new-world.ensures.seat);
         answer = c.phase-outcome.result;
         answered = refl;

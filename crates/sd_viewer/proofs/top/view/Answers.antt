@@ -2,7 +2,7 @@ use Rattle.std.proofs.Common.{Some, map, refl, sym, ap, subst, ◌∙◌}
 use Rattle.std.specs.Prelude.{string_bytes}
 use Rattle.sd_answers.specs.declared.answers.Answer.TheVariants.{Usage}
 use Rattle.sd_answers.specs.StreamChanges.{change_of}
-use Rattle.sd_viewer.specs.Viewing.{CausedBy, answer_line, viewed_answer, viewed_line}
+use Rattle.sd_viewer.specs.Viewing.{CausedByViewRequest, answer_line, viewed_answer, viewed_line}
 use Rattle.sd_viewer.specs.declared.forms.Request.{Request}
 use Rattle.sd_viewer.proofs.ViewLemmas.{helped-ends, promises_of, said-ends}
 use Rattle.sd_viewer.proofs.top.view.Goals as goal
@@ -26,7 +26,7 @@ returns-in-Some-Draw g c =
     let answer = viewed_answer c.view_input.result in
     let line = viewed_line c.view_input.result in
     promises_of (map string_bytes c.args.arguments.now) input out (change_of (shown e) (shown f) (failed e) (failed f)) answer line c.tell-in-Some-Draw.result c.tell-in-Some-Draw.ensures.status
-    (subst (λ k. CausedBy k input out answer line) (sym (sym c.request_of.ensures ∙ c.in-Some-Draw.is ∙ ap (λ (r : Request). Some r) c.in-Some-Draw.field-0-is)) c.view_input.ensures) c.tell-in-Some-Draw.ensures.told
+    (subst (λ k. CausedByViewRequest k input out answer line) (sym (sym c.request_of.ensures ∙ c.in-Some-Draw.is ∙ ap (λ (r : Request). Some r) c.in-Some-Draw.field-0-is)) c.view_input.ensures) c.tell-in-Some-Draw.ensures.told
 
 pub returns-in-None : goal.returns-in-None
 returns-in-None g c =
@@ -41,7 +41,7 @@ returns-in-None g c =
     let input = change_of left left read read in
     let out = change_of held held written written in
     promises_of (map string_bytes c.args.arguments.now) input out (change_of (shown e) (shown f) (failed e) (failed f)) Usage (answer_line Usage) c.tell-in-None.result c.tell-in-None.ensures.status
-    (subst (λ k. CausedBy k input out Usage (answer_line Usage)) (sym (sym c.request_of.ensures ∙ c.in-None.is))
+    (subst (λ k. CausedByViewRequest k input out Usage (answer_line Usage)) (sym (sym c.request_of.ensures ∙ c.in-None.is))
     (refl, refl, record { bytes = refl; no_fault = refl }, record { bytes = refl; no_fault = refl })) c.tell-in-None.ensures.told
 
 pub tell-requires : goal.tell-requires

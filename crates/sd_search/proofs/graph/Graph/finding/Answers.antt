@@ -1,7 +1,7 @@
 use Rattle.std.proofs.Common.{length, subst}
 use Rattle.sd_search.specs.declared.questions.Answer.{Answer}
 use Rattle.sd_search.specs.declared.questions.Answer.TheVariants.{Found}
-use Rattle.sd_search.specs.Finals.{IsAnswer, IsFirst, IsOpen}
+use Rattle.sd_search.specs.Finals.{IsAnswer, IsFirst, IsOpenAnswer}
 use Rattle.sd_search.specs.Graphs.{packed, steps_of}
 use Rattle.sd_search.proofs.DepthLemmas.{none_shorter}
 use Rattle.sd_search.proofs.FinalLemmas.{found_witness}
@@ -31,6 +31,6 @@ returns-in_ok-entries-in-Found-clause-shortest c =
 pub returns-in-More-clause-fair : goal.returns-in-More-clause-fair
 returns-in-More-clause-fair c =
     let g = c.args.self.now in (
-      subst (λ (a : Answer). IsOpen g a) c.in-More.is c.in_ok-index.ensures.open,
+      subst (λ (a : Answer). IsOpenAnswer g a) c.in-More.is c.in_ok-index.ensures.open,
       subst (λ (a : Answer). IsAnswer c.args.work.now c.args.question (packed g) a) c.in-More.is c.in_ok-index.ensures.answer,
     )

@@ -6,5 +6,5 @@ returns c w start =
     let e = c.empty-history.ensures in
     let h = c.in_ok-see.ensures in
     history_none w c.args.s.now c.see.new.self start
-    (rw (e.turns, e.sights) at h.turns) (rw (e.ranks, e.sights) at h.ranks) (rw (e.loads, e.sights) at h.loads)
+    (rw (e.onsets, e.sights) at h.onsets) (rw (e.ranks, e.sights) at h.ranks) (rw (e.loads, e.sights) at h.loads)
     (rw h.hand_overs e.hand_overs) (rw h.wakeups e.wakeups) (rw h.happenings e.happenings) h.sights h.entries

@@ -1,8 +1,0 @@
--- How many threads before one are assigned round-robin in each of the sets 0 to 8.
--- Source: this project's own.
-use Rattle.std.specs.Prelude.{◌≡◌, ℕ, ◌<◌, List, get_or}
-use Rattle.sd_types.specs.declared.works.Work.{Work}
-use Rattle.sd_state.specs.Opening.{turn_of}
-
-abbrev pub AreTurns : Work → ℕ → List ℕ → Type 0
-AreTurns w t ns = (p : ℕ) → p < 9 → get_or ns p 0 ≡ turn_of w p t

@@ -1,0 +1,23 @@
+use Rattle.std.proofs.Common.{sym, ap, ◌∙◌, ◌<◌, ◌/◌, arith}
+use Rattle.sd_turnstile.specs.Waiters.{highest_waiter, without_id}
+use Rattle.sd_turnstile.specs.Serving.{served}
+use Rattle.sd_turnstile.proofs.ChainLemmas.{lock_is, renamed, ranked_at}
+use Rattle.sd_turnstile.proofs.chain.TurnstileChain.greatest_but.Goals as goal
+
+pub greatest_but-requires : goal.greatest_but-requires
+greatest_but-requires g c =
+    let m = c.requires.0 in
+    let within : c.args.l.0 / 64 < 4 = omega arith in
+    let there = renamed c.self.inside.locks (c.args.l.0 / 64) _ _ c.in-Some.is c.at.ensures in
+    let both = ranked_at g.T.Ranked.rank g.T.Ranked.key c.self.inside.chain c.self.inside.locks c.self.inside.free (c.args.l.0 / 64) _ c.self.invariant there within in
+    record { writers = both.0; readers = both.1 }
+
+pub returns-in-None : goal.returns-in-None
+returns-in-None g c =
+    let lock = lock_is c.self.inside.chain c.self.inside.locks c.args.self.now c.args.l.0 c.at.result.now c.self.view_is c.at.ensures c.requires.0 c.self.invariant.1 ∙ ap served c.in-None.is in
+    sym (ap (λ w. highest_waiter g.T.Ranked.rank (without_id g.T.Ranked.id c.args.id w)) lock)
+
+pub returns-in-Some : goal.returns-in-Some
+returns-in-Some g c =
+    let lock = lock_is c.self.inside.chain c.self.inside.locks c.args.self.now c.args.l.0 c.at.result.now c.self.view_is c.at.ensures c.requires.0 c.self.invariant.1 ∙ ap served c.in-Some.is in
+    c.greatest_but.ensures ∙ ap (λ w. highest_waiter g.T.Ranked.rank (without_id g.T.Ranked.id c.args.id w)) (sym lock)
