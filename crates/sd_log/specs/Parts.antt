@@ -1,9 +1,10 @@
 -- An entry by its parts.
 -- Source: this project's own.
-use Rattle.std.specs.Prelude.{ℕ, List, [], Option, None, Some}
+use Rattle.std.specs.Prelude.{ℕ, zero, suc, List, [], replicate, Option, None, Some}
 use Rattle.sd_types.specs.declared.events.Entry.{Entry}
 use Rattle.sd_types.specs.declared.events.Hints.{Hints}
 use Rattle.sd_types.specs.declared.events.Which.{Which}
+use Rattle.sd_types.specs.declared.events.Which.TheVariants.{Queued}
 use Rattle.sd_log.specs.declared.parts.Parts.{Parts}
 
 -- the numbers that were read
@@ -20,6 +21,11 @@ which_of (Some hints) = Some hints.which
 abbrev pub hints_of : Option Which → List ℕ → Option Hints
 hints_of None ns = None
 hints_of (Some which) ns = Some (record { which = which; numbers = record { items = ns } })
+
+-- what a processor reads of the queues of so many others where nobody may be stolen from them; nothing where there are none
+abbrev pub zeros_read : ℕ → Option Hints
+zeros_read zero = None
+zeros_read (suc n) = Some (record { which = Queued; numbers = record { items = replicate (suc n) 0 } })
 
 -- the entry that these are the parts of
 abbrev pub whole : Parts → Entry

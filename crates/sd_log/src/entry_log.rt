@@ -1,11 +1,12 @@
 //! The entries of a run in the order of their numbers. Contracts see them as a list of entries, and for how many more there is room.
 
-ghost use Rattle.std.specs.Prelude.{◌≡◌, ◌++◌, ◌<◌, ◌≤◌, ◌∷◌, [], Some, length, slice_get, OnOk};
+ghost use Rattle.std.specs.Prelude.{◌≡◌, ◌++◌, ◌<◌, ◌≤◌, ◌∷◌, [], Some, length, slice_get, true, OnOk};
+ghost use Rattle.sd_types.specs.declared.events.Event.TheVariants.{Idle};
 ghost use Rattle.sd_types.specs.Limits.{most_processors};
-ghost use Rattle.sd_log.specs.Parts.{whole};
+ghost use Rattle.sd_log.specs.Parts.{whole, zeros_read};
 
 use crate::parts::Parts;
-use crate::short::{ShortEntry, parts_at, shorten};
+use crate::short::{ShortEntry, idle, parts_at, shorten};
 use sd_types::{CpuId, Entry, Event, Hints, MOST_PROCESSORS};
 use std::alloc::{AllocError, Global};
 use std::marker::Model;
@@ -52,8 +53,19 @@ impl EntryLog {
         self.short.len()
     }
 
-    /// Makes room for one entry more. `Err` only where memory runs out, or where fewer than 64 of 2^32 bytes are left for numbers.
-    pub fn reserve(&mut self) -> Result<(), AllocError>
+    /// There is room for one entry more.
+    #[inline(always)]
+    fn has_room(&self) -> bool
+        ensures { result ≡ true → 0 < self.now.room }
+    {
+        self.short.len() < self.short.capacity()
+            && self.bytes.len() <= MOST_NUMBER_BYTES
+            && self.bytes.capacity() - self.bytes.len() >= MOST_PROCESSORS
+    }
+
+    /// Makes room for one entry more, where there is none.
+    #[inline(never)]
+    fn grow(&mut self) -> Result<(), AllocError>
         ensures same { self.new.items ≡ self.old.items }
         ensures room { OnOk result (0 < self.new.room) }
     {
@@ -65,6 +77,18 @@ impl EntryLog {
         Ok(())
     }
 
+    /// Makes room for one entry more. `Err` only where memory runs out, or where fewer than 64 of 2^32 bytes are left for numbers.
+    #[inline(always)]
+    pub fn reserve(&mut self) -> Result<(), AllocError>
+        ensures same { self.new.items ≡ self.old.items }
+        ensures room { OnOk result (0 < self.new.room) }
+    {
+        if self.has_room() {
+            return Ok(());
+        }
+        self.grow()
+    }
+
     /// Puts an entry behind the others, for which there is room.
     pub fn push_reserved(&mut self, cpu: CpuId, event: Event, hints: Option<Hints>)
         requires room { 0 < self.old.room }
@@ -72,6 +96,16 @@ impl EntryLog {
     {
         let short = shorten(&mut self.bytes, cpu, event, &hints);
         self.short.push_reserved(short);
+    }
+
+    /// Puts an idle tick behind the others, for which there is room: the processor has read so many zeros of queues, or nothing.
+    #[inline(always)]
+    pub fn push_idle(&mut self, cpu: CpuId, count: usize)
+        requires room { 0 < self.old.room }
+        requires few { count ≤ most_processors }
+        ensures items { self.new.items ≡ self.old.items ++ record { number = length self.old.items; cpu = cpu; event = Idle; hints = zeros_read count } ∷ [] }
+    {
+        self.short.push_reserved(idle(cpu, count));
     }
 
     /// The parts of the entry with this number.

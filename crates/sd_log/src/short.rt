@@ -1,9 +1,10 @@
 //! An entry without what its place tells, and without the numbers that it read: where those lie.
 
-ghost use Rattle.std.specs.Prelude.{◌≡◌, ◌++◌, ◌+◌, ◌<◌, ◌≤◌, ◌^◌, ℕ, length, slice_range, vec_capacity, vec_len};
-ghost use Rattle.sd_log.specs.Short.{IsWithin, entry_at, reading_of, kind_of};
+ghost use Rattle.std.specs.Prelude.{◌≡◌, ◌++◌, ◌+◌, ◌<◌, ◌≤◌, ◌^◌, ℕ, List, drop, length, replicate, take, vec_capacity, vec_len};
+ghost use Rattle.sd_types.specs.declared.events.Event.TheVariants.{Idle};
 ghost use Rattle.sd_types.specs.Limits.{most_processors};
-ghost use Rattle.sd_log.specs.Parts.{numbers_of, whole};
+ghost use Rattle.sd_log.specs.Parts.{numbers_of, whole, zeros_read};
+ghost use Rattle.sd_log.specs.Short.{IsWithin, entry_at, kind_of, numbers_at, reading_of};
 
 use crate::parts::{Parts, numbers_of};
 use sd_types::{CpuId, Event, Hints, Which};
@@ -15,9 +16,11 @@ pub(crate) enum Reading {
     Nothing,
     Running,
     Queued,
+    /// Of queues, and each is 0: as most often. They take no bytes.
+    Zeros,
 }
 
-/// An entry: its number is its place, and the numbers that it read are so many bytes from `from` on.
+/// An entry: its number is its place, and the numbers that it read are so many bytes from `from` on, or so many zeros.
 #[derive(Clone, Copy)]
 pub(crate) struct ShortEntry {
     pub(crate) event: Event,
@@ -28,6 +31,9 @@ pub(crate) struct ShortEntry {
 }
 
 const _: () = prove!(size_of::<ShortEntry>() == 28);
+
+/// As many zeros as an entry can read.
+static ZEROS: [u8; 64] = [0; 64];
 
 /// What was read.
 fn reading_of(hints: &Option<Hints>) -> Reading
@@ -51,6 +57,61 @@ fn kind_of(reading: Reading) -> Option<Which>
         Reading::Nothing => None,
         Reading::Running => Some(Which::Running),
         Reading::Queued => Some(Which::Queued),
+        Reading::Zeros => Some(Which::Queued),
+    }
+}
+
+/// An idle tick after so many zeros were read of queues.
+#[inline(always)]
+pub(crate) fn idle(cpu: CpuId, count: usize) -> ShortEntry
+    requires { count ≤ most_processors }
+    ensures within { (many : ℕ) → IsWithin many result }
+    ensures entry { (bytes : List ℕ) (i : ℕ) → entry_at bytes i result ≡ record { number = i; cpu = cpu; event = Idle; hints = zeros_read count } }
+{
+    let reading = if count == 0 {
+        Reading::Nothing
+    } else {
+        Reading::Zeros
+    };
+    ShortEntry {
+        event: Event::Idle,
+        from: 0,
+        cpu,
+        count: count as u8,
+        reading,
+    }
+}
+
+/// So many bytes from `from` on.
+#[inline(always)]
+fn bytes_at(bytes: &[u8], from: u32, count: u8) -> &[u8]
+    requires { from + count ≤ length bytes.now }
+    ensures { result.now ≡ take count (drop from bytes.now) }
+{
+    let from = from as usize;
+    &bytes[from..from + count as usize]
+}
+
+/// So many zeros.
+#[inline(always)]
+fn zeros(count: u8) -> &'static [u8]
+    requires { count ≤ most_processors }
+    ensures { result.now ≡ replicate count 0 }
+{
+    &ZEROS[..count as usize]
+}
+
+/// The numbers that were read.
+#[inline(always)]
+fn numbers_at<'a>(bytes: &'a [u8], short: &ShortEntry) -> &'a [u8]
+    requires { IsWithin (length bytes.now) short.now }
+    ensures { result.now ≡ numbers_at bytes.now short.now.reading short.now.from short.now.count }
+{
+    match short.reading {
+        Reading::Nothing => bytes_at(bytes, short.from, short.count),
+        Reading::Running => bytes_at(bytes, short.from, short.count),
+        Reading::Queued => bytes_at(bytes, short.from, short.count),
+        Reading::Zeros => zeros(short.count),
     }
 }
 
@@ -99,12 +160,11 @@ pub(crate) fn parts_at<'a>(bytes: &'a [u8], number: usize, short: &'a ShortEntry
     ensures whole { whole result ≡ entry_at bytes.now number short.now }
     ensures few { length result.numbers.now ≤ most_processors }
 {
-    let from = short.from as usize;
     Parts {
         number: number as u64,
         cpu: short.cpu,
         event: &short.event,
         which: kind_of(short.reading),
-        numbers: &bytes[from..from + short.count as usize],
+        numbers: numbers_at(bytes, short),
     }
 }

@@ -40,13 +40,20 @@ fn entries_come_out_as_they_went_in(rt: HostRuntime) -> Result<(), Fail> {
     log.push_reserved(CpuId(5), Event::Idle, all(Which::Running, 100));
     log.reserve()?;
     log.push_reserved(CpuId(0), Event::Idle, two(Which::Running, 255, 0));
-    assert_eq!(rt; log.len(), 4);
+    log.reserve()?;
+    log.push_idle(CpuId(2), 7);
+    log.reserve()?;
+    log.push_idle(CpuId(1), 0);
+    assert_eq!(rt; log.len(), 6);
     assert!(rt; is_idle_after(&log.entry(0), 3, Which::Queued, &[7, 8]));
     let tick = log.entry(1);
     assert!(rt; tick.number == 1 && tick.cpu.0 == 63 && tick.hints.is_none());
     assert!(rt; matches!(tick.event, Event::Tick { t: ThreadId(9) }));
     assert!(rt; is_idle_after(&log.entry(2), 5, Which::Running, &[100; 64]));
     assert!(rt; is_idle_after(&log.entry(3), 0, Which::Running, &[255, 0]));
+    assert!(rt; is_idle_after(&log.entry(4), 2, Which::Queued, &[0; 7]));
+    let last = log.entry(5);
+    assert!(rt; last.number == 5 && last.cpu.0 == 1 && last.hints.is_none());
     Ok(())
 }
 

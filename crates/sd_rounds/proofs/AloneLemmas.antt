@@ -1,7 +1,7 @@
 -- The turn of a processor that has all homes, and whose plan reads nothing, or searches where nothing is queued.
-use Rattle.std.proofs.Common.{◌≡◌, ℕ, suc, ◌<◌, true, false, ◌==◌, arith, max, List, [], ◌∷◌, length, map, Option, Some, None, refl, sym, ap, ◌∙◌, if◌then◌else◌}
+use Rattle.std.proofs.Common.{◌≡◌, ℕ, zero, suc, ◌<◌, true, ◌==◌, max, List, [], ◌∷◌, length, map, replicate, Option, Some, None, refl, sym, ap, ◌∙◌, if◌then◌else◌}
 use Rattle.std.specs.List.{list_all}
-use Rattle.std.proofs.lemmas.Bool.{and_parts, eq-eqb, eqb-true}
+use Rattle.std.proofs.lemmas.Bool.{and_parts, eqb-true}
 use Rattle.sd_types.specs.declared.numbers.ChanId.{ChanId}
 use Rattle.sd_types.specs.declared.numbers.CpuId.{CpuId}
 use Rattle.sd_types.specs.declared.events.Event.{Event}
@@ -11,6 +11,7 @@ use Rattle.sd_types.specs.declared.events.Which.TheVariants.{Queued}
 use Rattle.sd_types.specs.declared.works.Work.{Work}
 use Rattle.sd_rules.specs.ChoiceFunctions.{greatest_hint, least_number, victim_of, with_hint}
 use Rattle.sd_state.specs.declared.states.State.{State}
+use Rattle.sd_log.specs.Parts.{zeros_read}
 use Rattle.sd_machine.specs.declared.plans.Plan.{Plan}
 use Rattle.sd_machine.specs.declared.plans.Plan.TheVariants.{Make, Search}
 use Rattle.sd_machine.specs.Choosing.{neighbours, numbers_read, victim_for}
@@ -76,17 +77,12 @@ pub will_idle : (w : Work) (s : State) (c : CpuId) → c.0 < w.cpus → Search �
     → next w s c (serial_hints w s c) ≡ allowed w s c.0 Idle
 will_idle w s c inside is zeros = vain w s c (serial_hints w s c) inside is zeros (serial_of w s c Search is)
 
--- what was read in a search, where there are no neighbours and where there are some
-pub none_read : (s : State) (cpus : List CpuId) (ns : List ℕ) → ns ≡ map (hint_shown s Queued) cpus → (length ns == 0) ≡ true → shown s (read_of cpus) ≡ None
-none_read s [] ns e z = refl
-none_read s (d ∷ ds) ns e z =
-    let many : length ns ≡ suc (length (map (hint_shown s Queued) ds)) = ap length e in
-    let none : length ns ≡ 0 = eqb-true (length ns) 0 z in
-    absurd (grind (arith, many, none))
-
-pub some_read : (s : State) (cpus : List CpuId) (h : Hints) → h.which ≡ Queued → h.numbers.items ≡ map (hint_shown s Queued) cpus → (length h.numbers.items == 0) ≡ false → shown s (read_of cpus) ≡ Some h
-some_read s [] h w e z = let yes : (length h.numbers.items == 0) ≡ true = eq-eqb (length h.numbers.items) 0 (ap length e) in absurd cc
-some_read s (d ∷ ds) h w e z = (λ j. Some (record { which = (sym w) j; numbers = record { items = (sym e) j } }))
+-- what was read in a search in which all show 0
+pub all_zero : (s : State) (cpus : List CpuId) (n : ℕ) → replicate n 0 ≡ map (hint_shown s Queued) cpus → shown s (read_of cpus) ≡ zeros_read n
+all_zero s [] zero e = refl
+all_zero s [] (suc n) e = cc
+all_zero s (d ∷ ds) zero e = cc
+all_zero s (d ∷ ds) (suc n) e = ap (λ (ns : List ℕ). let h : Hints = record { which = Queued; numbers = record { items = ns } } in Some h) (sym e)
 
 -- the turn, with the numbers that are read for it
 pub with_serial : (w : Work) (s : State) (n : ℕ) (c : CpuId) (hints : Option Hints) → hints ≡ serial_hints w s c → made n c hints (next w s c hints) ≡ turn w s n c

@@ -182,5 +182,5 @@ numbers_read w n s c p many reached inside its opened count none =
     let left : many - 1 ≡ length (but c.0 cpus) = omega (arith, more, whole) in
     ap (λ k. replicate k 0) left ∙ sym (zeros_are s c.0 cpus (subst (λ cs. all_show_zero s cs ≡ true) same none))
 
-pub zeros_read : (many : ℕ) (s : State) (c : ℕ) → replicate many 0 ≡ map (hint_shown s Queued) (neighbours s c) → list_all (λ k. k == 0) (map (hint_shown s Queued) (neighbours s c)) ≡ true
-zeros_read many s c read = ap (list_all (λ k. k == 0)) (sym read) ∙ all_zero many
+pub none_to_steal : (many : ℕ) (s : State) (c : ℕ) → replicate many 0 ≡ map (hint_shown s Queued) (neighbours s c) → list_all (λ k. k == 0) (map (hint_shown s Queued) (neighbours s c)) ≡ true
+none_to_steal many s c read = ap (list_all (λ k. k == 0)) (sym read) ∙ all_zero many

@@ -1,11 +1,13 @@
 //! The entries of most turns: a thread runs for a tick, or a processor is idle for one. They are made as any entry is, but of an event that
 //! the compiler knows.
 
-ghost use Rattle.std.specs.Prelude.{◌≡◌, ◌++◌, ◌<◌, ◌∷◌, [], None, Option, Some, length, IfErr, OnOk};
+ghost use Rattle.std.specs.Prelude.{◌≡◌, ◌++◌, ◌<◌, ◌≤◌, ◌∷◌, [], None, Option, Some, length, IfErr, OnOk};
 ghost use Rattle.sd_types.specs.declared.events.Duty.TheVariants.{Nothing};
 ghost use Rattle.sd_types.specs.declared.events.Event.TheVariants.{Idle as IdleEvent, Tick as TickEvent};
 ghost use Rattle.sd_machine.specs.Events.{allowed, may_tick, next};
 ghost use Rattle.sd_machine.specs.Runs.{serial_hints};
+ghost use Rattle.sd_types.specs.Limits.{most_processors};
+ghost use Rattle.sd_log.specs.Parts.{zeros_read};
 ghost use Rattle.sd_world.specs.Entries.{CanEnter, Enters};
 ghost use Rattle.sd_world.specs.Plain.{Stands, told};
 ghost use Rattle.sd_rounds.specs.Floors.{IsFloor};
@@ -15,7 +17,7 @@ use sd_dispatcher::ticked;
 use sd_hand::{Acting, Actor};
 use sd_log::EntryLog;
 use sd_store::Store;
-use sd_types::{Event, Hints, MOST_ENTRIES, Stop, ThreadId, Work};
+use sd_types::{Event, MOST_ENTRIES, Stop, ThreadId, Work};
 use sd_world::{PlainWorld, reserve_entry};
 
 /// What a processor has done that has all homes: its turn, or nothing.
@@ -61,19 +63,20 @@ fn enter_tick(
     entries.push_reserved(cpu, Event::Tick { t }, None);
 }
 
-/// The processor that acts, which has no duty, is idle for a tick.
+/// The processor that acts, which has no duty, is idle for a tick, after it has read so many zeros.
 #[inline(always)]
 fn enter_idle(
     work: &Work,
     acting: &mut Acting,
     actors: &mut Vec<Actor>,
     entries: &mut EntryLog,
-    hints: Option<Hints>,
+    zeros: usize,
 )
-    requires can { CanEnter work.now acting.old actors.old.items entries.old.items IdleEvent hints }
+    requires can { CanEnter work.now acting.old actors.old.items entries.old.items IdleEvent (zeros_read zeros) }
     requires duty { acting.old.actor.duty ≡ Nothing }
     requires room { 0 < entries.old.room }
-    ensures { Enters work.now acting.old acting.new actors.old.items actors.new.items entries.old.items entries.new.items IdleEvent hints }
+    requires fits { zeros ≤ most_processors }
+    ensures { Enters work.now acting.old acting.new actors.old.items actors.new.items entries.old.items entries.new.items IdleEvent (zeros_read zeros) }
 {
     let cpu = acting.actor.cpu;
     match acting.count_tick(work, cpu) {
@@ -81,7 +84,7 @@ fn enter_idle(
         Err(_) => unreachable!(),
     }
     actors[cpu.0 as usize] = acting.actor;
-    entries.push_reserved(cpu, Event::Idle, hints);
+    entries.push_idle(cpu, zeros);
 }
 
 /// The thread runs for a tick, for whose entry the log has room, on the processor that acts, which has no duty.
@@ -106,17 +109,18 @@ fn make_tick(work: &Work, world: &mut PlainWorld, t: ThreadId)
     );
 }
 
-/// The processor that acts, which has no duty, is idle for a tick, for whose entry the log has room.
+/// The processor that acts, which has no duty, is idle for a tick, after it has read so many zeros. The log has room for its entry.
 #[inline(always)]
-fn make_idle(work: &Work, world: &mut PlainWorld, hints: Option<Hints>)
+fn make_idle(work: &Work, world: &mut PlainWorld, zeros: usize)
     requires stands { Stands work.now world.old }
     requires duty { world.old.acting.actor.duty ≡ Nothing }
-    requires next { next work.now (told work.now world.old) world.old.acting.actor.cpu hints ≡ Some IdleEvent }
+    requires fits { zeros ≤ most_processors }
+    requires next { next work.now (told work.now world.old) world.old.acting.actor.cpu (zeros_read zeros) ≡ Some IdleEvent }
     requires room { 0 < world.old.entries.room }
     requires few { length world.old.entries.items < MOST_ENTRIES }
     ensures stands { Stands work.now world.new }
     ensures entries { world.new.entries.items ≡ world.old.entries.items
-        ++ record { number = length world.old.entries.items; cpu = world.old.acting.actor.cpu; event = IdleEvent; hints = hints } ∷ [] }
+        ++ record { number = length world.old.entries.items; cpu = world.old.acting.actor.cpu; event = IdleEvent; hints = zeros_read zeros } ∷ [] }
     ensures work { world.new.work ≡ world.old.work }
 {
     enter_idle(
@@ -124,7 +128,7 @@ fn make_idle(work: &Work, world: &mut PlainWorld, hints: Option<Hints>)
         &mut world.acting,
         &mut world.actors,
         &mut world.entries,
-        hints,
+        zeros,
     );
 }
 
@@ -178,21 +182,22 @@ pub(crate) fn come_tick(
     Ok(Alone::Turned)
 }
 
-/// The processor that acts, which has no duty, is idle for a tick, where one may come now, after it has read these numbers.
+/// The processor that acts, which has no duty, is idle for a tick, where one may come now, after it has read so many zeros.
 #[inline(always)]
 pub(crate) fn come_idle(
     work: &Work,
     world: &mut PlainWorld,
     floor: &mut u32,
-    hints: Option<Hints>,
+    zeros: usize,
 ) -> Result<Alone, Stop>
     requires stands { Stands work.now world.old }
     requires work { world.old.work.now ≡ work.now }
     requires few { length world.old.entries.items < MOST_ENTRIES }
     requires least { IsFloor work.now (told work.now world.old) floor.old }
     requires duty { world.old.acting.actor.duty ≡ Nothing }
-    requires hints { serial_hints work.now (told work.now world.old) world.old.acting.actor.cpu ≡ hints }
-    requires event { next work.now (told work.now world.old) world.old.acting.actor.cpu hints ≡ allowed work.now (told work.now world.old) world.old.acting.actor.cpu.0 IdleEvent }
+    requires fits { zeros ≤ most_processors }
+    requires hints { serial_hints work.now (told work.now world.old) world.old.acting.actor.cpu ≡ zeros_read zeros }
+    requires event { next work.now (told work.now world.old) world.old.acting.actor.cpu (zeros_read zeros) ≡ allowed work.now (told work.now world.old) world.old.acting.actor.cpu.0 IdleEvent }
     ensures stands { Stands work.now world.new }
     ensures work { world.new.work.now ≡ work.now }
     ensures acts { ActsAlone work.now world.old world.new result }
@@ -204,6 +209,6 @@ pub(crate) fn come_idle(
     if let Err(stop) = reserve(work, world) {
         return Err(stop);
     }
-    make_idle(work, world, hints);
+    make_idle(work, world, zeros);
     Ok(Alone::Turned)
 }

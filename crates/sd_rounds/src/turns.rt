@@ -20,7 +20,6 @@ ghost use Rattle.sd_rounds.specs.Turns.{ActsAlone};
 
 use crate::sight::{Sight, see};
 use crate::ticks::{Alone, come_idle, come_tick, reserve};
-use arrayvec::ArrayVec;
 use sd_cpu::{OpenGate, attempt};
 use sd_dispatcher::Reading;
 use sd_machine::Plan;
@@ -60,17 +59,6 @@ fn come(work: &Work, world: &mut PlainWorld, event: Event, hints: Option<Hints>)
     Ok(())
 }
 
-/// So many zeros.
-#[inline(always)]
-fn zeros(count: usize) -> ArrayVec<u8, 64>
-    requires { count ≤ most_processors }
-    ensures { result.items ≡ replicate count 0 }
-{
-    let mut numbers = ArrayVec::from_array_in((), [0; 64]);
-    numbers.truncate(count);
-    numbers
-}
-
 /// An idle tick after a search in a set with so many open processors, of which all others show 0. A processor without neighbours has read
 /// nothing.
 #[inline(always)]
@@ -93,14 +81,7 @@ fn end_search(
     ensures acts { ActsAlone work.now world.old world.new result }
     ensures least { IsFloor work.now (told work.now world.old) floor.new }
 {
-    if cpus < 2 {
-        return come_idle(work, world, floor, None);
-    }
-    let hints = Hints {
-        which: Which::Queued,
-        numbers: zeros(cpus - 1),
-    };
-    come_idle(work, world, floor, Some(hints))
+    come_idle(work, world, floor, cpus.saturating_sub(1))
 }
 
 /// The numbers that the processor reads, as the state shows them.

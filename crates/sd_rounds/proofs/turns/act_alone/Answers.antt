@@ -4,7 +4,7 @@ use Rattle.sd_machine.specs.declared.plans.Plan.TheVariants.{Make}
 use Rattle.sd_world.specs.Plain.{told}
 use Rattle.sd_world.proofs.PlainLemmas as P
 use Rattle.sd_rounds.proofs.AloneLemmas.{makes_it, serial_of, will_idle, will_make}
-use Rattle.sd_rounds.proofs.SearchedLemmas.{alone_searched, numbers_read, searched_after, zeros_read}
+use Rattle.sd_rounds.proofs.SearchedLemmas.{alone_searched, numbers_read, searched_after, none_to_steal}
 use Rattle.sd_rounds.proofs.turns.act_alone.Goals as goal
 
 pub come_tick-requires-clause-duty : goal.come_tick-requires-clause-duty
@@ -79,4 +79,4 @@ returns-in-Idles-clause-searched c =
     let (duty, plan, its, opened, count, most, zero) = c.in-Idles.ensures n s (P.shown w x c.requires.stands) c.requires.searched in
     let numbers = numbers_read w n s cpu c.in-Idles.p c.in-Idles.cpus (P.reached w x c.requires.stands) inside its opened count zero in
     alone_searched w x c.end_search.new.world Idle known (λ z m d. searched_after w z m d Idle tt tt tt refl refl known)
-    (will_idle w s cpu inside plan (zeros_read (c.in-Idles.cpus - 1) s cpu.0 numbers)) zero c.end_search.result c.end_search.ensures.acts
+    (will_idle w s cpu inside plan (none_to_steal (c.in-Idles.cpus - 1) s cpu.0 numbers)) zero c.end_search.result c.end_search.ensures.acts
