@@ -1,6 +1,7 @@
 //! The judgement of a whole text.
 
-ghost use Rattle.std.specs.Prelude.{◌≡◌, [], ℕ, ◌+◌, ◌<◌, ◌≤◌, ◌^◌, IfOk, IfErr, OnOk, length, drop};
+ghost use Rattle.std.specs.Prelude.{◌≡◌, [], ℕ, ◌+◌, ◌<◌, ◌≤◌, ◌^◌, IfOk, IfErr, OnOk, length, map, drop};
+ghost use Rattle.sd_machine.specs.LockGraph.{cycles_of};
 ghost use Rattle.sd_machine.specs.Runs.{IsComplete};
 ghost use Rattle.sd_state.specs.declared.states.State.{State as StateValue};
 ghost use Rattle.sd_state.specs.Opening.{opening as opening_of};
@@ -12,7 +13,7 @@ use crate::collecting::{Collector, NoCollector};
 use crate::complete::first_to_enter;
 use crate::differences::first_difference;
 use crate::entries::{EntriesRead, take_entries};
-use sd_accounts::Accounts;
+use sd_accounts::{Accounts, cycles};
 use sd_entry_reader::Names;
 use sd_opening::opening;
 use sd_state::State;
@@ -36,7 +37,15 @@ pub enum AuditFault {
     Memory { number: u64 },
 }
 
-/// Judges what stands from the line `accounts` on.
+/// A complete run as its journal tells it: its last state, how many entries it has, and the blocking cycles of that state.
+#[derive(Drop)]
+pub struct Judged {
+    pub end: State,
+    pub number: u64,
+    pub cycles: Vec<Vec<usize>>,
+}
+
+/// Judges what stands from the line `accounts` on, where these are the blocking cycles of the state.
 fn check_tail(
     alloc: Global,
     work: &Work,
@@ -44,7 +53,9 @@ fn check_tail(
     accounts: &Accounts,
     text: &[u8],
     at: EntriesRead,
+    cycles: &[Vec<usize>],
 ) -> Result<(), AuditFault>
+    requires cycles { map (λ v. v.items) cycles.now ≡ cycles_of s.now }
     requires text { length text.now < 2 ^ 31 }
     requires read { HasRead work.now text.now s.now accounts.now at.number at.from }
     requires accounts { IsAtAccounts text.now at.from }
@@ -54,7 +65,7 @@ fn check_tail(
     ensures fault { IfErr result (IsFault work.now text.now) }
 {
     let mut tail = Vec::new(alloc);
-    let Ok(()) = accounts.write_accounts(alloc, work, s, &mut tail) else {
+    let Ok(()) = accounts.write_accounts_with(alloc, work, s, cycles, &mut tail) else {
         return Err(AuditFault::Memory { number: at.number });
     };
     match first_difference(&text[at.from..], &tail) {
@@ -65,7 +76,32 @@ fn check_tail(
     }
 }
 
-/// Judges what stands behind the entries of a run.
+/// Judges what stands from the line `accounts` on, and tells the blocking cycles of the state.
+fn check_end(
+    alloc: Global,
+    work: &Work,
+    s: &State,
+    accounts: &Accounts,
+    text: &[u8],
+    at: EntriesRead,
+) -> Result<Vec<Vec<usize>>, AuditFault>
+    requires text { length text.now < 2 ^ 31 }
+    requires read { HasRead work.now text.now s.now accounts.now at.number at.from }
+    requires accounts { IsAtAccounts text.now at.from }
+    requires complete { IsComplete work.now s.now }
+    requires bound { at.number ≤ at.from }
+    ensures journal { OnOk result (IsJournal work.now text.now s.now at.number) }
+    ensures cycles { IfOk result (λ found. map (λ v. v.items) found.items ≡ cycles_of s.now) }
+    ensures fault { IfErr result (IsFault work.now text.now) }
+{
+    let Ok(found) = cycles(alloc, s) else {
+        return Err(AuditFault::Memory { number: at.number });
+    };
+    check_tail(alloc, work, s, accounts, text, at, &found)?;
+    Ok(found)
+}
+
+/// Judges what stands behind the entries of a run, and tells the blocking cycles of the state.
 fn check_rest(
     alloc: Global,
     work: &Work,
@@ -73,17 +109,18 @@ fn check_rest(
     accounts: &Accounts,
     text: &[u8],
     at: EntriesRead,
-) -> Result<(), AuditFault>
+) -> Result<Vec<Vec<usize>>, AuditFault>
     requires text { length text.now < 2 ^ 31 }
     requires read { HasRead work.now text.now s.now accounts.now at.number at.from }
     requires accounts { IsAtAccounts text.now at.from }
     requires bound { at.number ≤ at.from }
     ensures journal { OnOk result (IsJournal work.now text.now s.now at.number) }
+    ensures cycles { IfOk result (λ found. map (λ v. v.items) found.items ≡ cycles_of s.now) }
     ensures fault { IfErr result (IsFault work.now text.now) }
 {
     match first_to_enter(work, s, at.number) {
         Some(cpu) => Err(AuditFault::Incomplete { cpu }),
-        None => check_tail(alloc, work, s, accounts, text, at),
+        None => check_end(alloc, work, s, accounts, text, at),
     }
 }
 
@@ -94,11 +131,12 @@ fn judge<C: Collector>(
     text: &[u8],
     opening: State,
     collector: &mut C,
-) -> Result<(State, u64), AuditFault>
+) -> Result<Judged, AuditFault>
     requires text { length text.now < 2 ^ 31 }
     requires start { opening ≡ opening_of names.now.work.now }
     requires empty { C.became names.now.work.now [] collector.old collector.old }
-    ensures journal { IfOk result (λ found. IsJournalWith names.now.work.now text.now found.0 found.1 (λ es. C.became names.now.work.now es collector.old collector.new)) }
+    ensures journal { IfOk result (λ run. IsJournalWith names.now.work.now text.now run.end run.number (λ es. C.became names.now.work.now es collector.old collector.new)) }
+    ensures cycles { IfOk result (λ run. map (λ v. v.items) run.cycles.items ≡ cycles_of run.end) }
     ensures fault { IfErr result (IsFault names.now.work.now text.now) }
 {
     let work = names.work;
@@ -107,8 +145,12 @@ fn judge<C: Collector>(
     };
     let mut s = opening;
     let at = take_entries(alloc, names, &mut s, &mut accounts, text, collector)?;
-    check_rest(alloc, work, &s, &accounts, text, at)?;
-    Ok((s, at.number))
+    let found = check_rest(alloc, work, &s, &accounts, text, at)?;
+    Ok(Judged {
+        end: s,
+        number: at.number,
+        cycles: found,
+    })
 }
 
 /// As `audit`, from the initial state. A collector makes the entries, and where the text is the journal of a complete run it has become
@@ -119,11 +161,12 @@ pub fn audit_collecting<C: Collector>(
     text: &[u8],
     opening: State,
     collector: &mut C,
-) -> Result<(State, u64), AuditFault>
+) -> Result<Judged, AuditFault>
     requires text { length text.now < 2 ^ 31 }
     requires start { opening ≡ opening_of work.now }
     requires empty { C.became work.now [] collector.old collector.old }
-    ensures journal { IfOk result (λ found. IsJournalWith work.now text.now found.0 found.1 (λ es. C.became work.now es collector.old collector.new)) }
+    ensures journal { IfOk result (λ run. IsJournalWith work.now text.now run.end run.number (λ es. C.became work.now es collector.old collector.new)) }
+    ensures cycles { IfOk result (λ run. map (λ v. v.items) run.cycles.items ≡ cycles_of run.end) }
     ensures fault { IfErr result (IsFault work.now text.now) }
     ensures exact { IfErr result (λ fault. (s : StateValue) (n : ℕ) → IsJournal work.now text.now s n → IsMemory fault) }
 {
@@ -144,5 +187,6 @@ pub fn audit(alloc: Global, work: &Work, text: &[u8]) -> Result<(State, u64), Au
     let Ok(s) = opening(alloc, work) else {
         return Err(AuditFault::Memory { number: 0 });
     };
-    audit_collecting(alloc, work, text, s, &mut NoCollector)
+    let Judged { end, number, .. } = audit_collecting(alloc, work, text, s, &mut NoCollector)?;
+    Ok((end, number))
 }

@@ -11,7 +11,7 @@ mod laws;
 mod lines;
 mod ranges;
 
-pub use audits::{AuditFault, audit, audit_collecting};
+pub use audits::{AuditFault, Judged, audit, audit_collecting};
 pub use collecting::Collector;
 pub use laws::{journals_have_no_fault, texts_have_one_fault};
 pub use ranges::in_range;

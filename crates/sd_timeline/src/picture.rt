@@ -18,7 +18,6 @@ use crate::legend::{Drawn, drawn_of, put_legend};
 use crate::moments::put_moments;
 use crate::notes::put_notes;
 use crate::rows::layout_of;
-use sd_accounts::cycles;
 use sd_state::State;
 use sd_stretches::{History, Stretch, Track, levels, pieces};
 use sd_types::{CpuId, Work};
@@ -118,21 +117,21 @@ fn put_cycles(layout: &Layout, found: &[Vec<usize>], out: &mut Vec<u8>) -> Resul
     Ok(())
 }
 
-// The marks of threads that block each other in the last state, where the end of the run is drawn.
+// The marks of threads that block each other in the last state, whose cycles these are, where the end of the run is drawn.
 fn put_deadlocks(
-    alloc: Global,
     work: &Work,
     layout: &Layout,
     s: &State,
+    cycles: &[Vec<usize>],
     out: &mut Vec<u8>,
 ) -> Result<(), AllocError>
+    requires { map (λ v. v.items) cycles.now ≡ cycles_of s.now }
     ensures { OnOk result (out.new.items ≡ out.old.items ++ marks_text work.now layout.now s.now) }
 {
     if layout.to < work.limit {
         return Ok(());
     }
-    let found = cycles(alloc, s)?;
-    put_cycles(layout, &found, out)
+    put_cycles(layout, cycles, out)
 }
 
 // The arrows.
@@ -176,14 +175,16 @@ fn put_rows(
     history: &History,
     pieces: &[Stretch],
     s: &State,
+    cycles: &[Vec<usize>],
     out: &mut Vec<u8>,
 ) -> Result<(), AllocError>
+    requires { map (λ v. v.items) cycles.now ≡ cycles_of s.now }
     ensures { OnOk result (out.new.items ≡ out.old.items ++ rows_text work.now layout.now history.now pieces.now s.now) }
 {
     put_threads(alloc, work, layout, history, s, out)?;
     put_moments(work, layout, pieces, out)?;
     put_notes(work, layout, &history.happenings, out)?;
-    put_deadlocks(alloc, work, layout, s, out)?;
+    put_deadlocks(work, layout, s, cycles, out)?;
     put_gaps(layout, &layout.folds, out)
 }
 
@@ -195,28 +196,41 @@ fn laid_out(
     layout: &Layout,
     history: &History,
     s: &State,
+    cycles: &[Vec<usize>],
     drawn: &Drawn,
 ) -> Result<Vec<u8>, AllocError>
+    requires { map (λ v. v.items) cycles.now ≡ cycles_of s.now }
     ensures { IfOk result (λ text. text.items ≡ laid_out work.now layout.now history.now s.now drawn.now) }
 {
     let mut text = Vec::new(alloc);
     put_ground(alloc, work, layout, history, drawn, &mut text)?;
-    put_rows(alloc, work, layout, history, &drawn.pieces, s, &mut text)?;
+    put_rows(
+        alloc,
+        work,
+        layout,
+        history,
+        &drawn.pieces,
+        s,
+        cycles,
+        &mut text,
+    )?;
     text.extend_from_slice(b"</svg>\n")?;
     Ok(text)
 }
 
-/// The picture of a run of the workload, of which this is the history and the last state, as far as the frame goes.
+/// The picture of a run of the workload, of which this is the history and the last state with its blocking cycles, as far as the frame goes.
 pub fn timeline(
     alloc: Global,
     work: &Work,
     frame: Frame,
     history: &History,
     s: &State,
+    cycles: &[Vec<usize>],
 ) -> Result<Vec<u8>, AllocError>
+    requires { map (λ v. v.items) cycles.now ≡ cycles_of s.now }
     ensures { IfOk result (λ text. text.items ≡ timeline_text work.now frame history.now s.now) }
 {
     let layout = layout_of(alloc, work, frame, history)?;
     let drawn = drawn_of(alloc, work, &layout, history)?;
-    laid_out(alloc, work, &layout, history, s, &drawn)
+    laid_out(alloc, work, &layout, history, s, cycles, &drawn)
 }

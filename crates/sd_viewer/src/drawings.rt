@@ -1,7 +1,8 @@
 //! The drawings.
 
-ghost use Rattle.std.specs.Prelude.{◌≡◌, ◌<◌, ◌^◌, ℕ, IfOk, IfErr, length};
+ghost use Rattle.std.specs.Prelude.{◌≡◌, ◌<◌, ◌^◌, ℕ, IfOk, IfErr, length, map};
 ghost use Rattle.sd_state.specs.declared.states.State.{State as StateValue};
+ghost use Rattle.sd_machine.specs.LockGraph.{cycles_of};
 ghost use Rattle.sd_audit.specs.Audits.{IsFault, IsJournal, IsMemory};
 ghost use Rattle.sd_viewer.specs.Drawings.{IsDrawn};
 ghost use Rattle.sd_viewer.specs.Views.{drawing_of, view_text};
@@ -38,12 +39,13 @@ enum View {
 
 /// What the view shows of a run.
 fn view_text(alloc: Global, work: &Work, view: View, run: &Gathered) -> Result<Vec<u8>, AllocError>
+    requires { map (λ v. v.items) run.now.cycles.items ≡ cycles_of run.now.end }
     ensures { IfOk result (λ out. out.items ≡ view_text view work.now run.now.history run.now.end) }
 {
     match view {
         View::Timeline { from, to } => {
             let frame = frame_of(work, from, to);
-            timeline(alloc, work, frame, &run.history, &run.end)
+            timeline(alloc, work, frame, &run.history, &run.end, &run.cycles)
         }
         View::Trace => trace(alloc, work, &run.history),
         View::Report => report(alloc, work, &run.history),

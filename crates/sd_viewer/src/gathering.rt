@@ -5,7 +5,7 @@ ghost use Rattle.sd_audit.specs.Audits.{IsFault};
 ghost use Rattle.sd_stretches.specs.Histories.{IsHistory};
 ghost use Rattle.sd_viewer.specs.Gathering.{IsGathered};
 
-use sd_audit::{AuditFault, Collector, audit_collecting};
+use sd_audit::{AuditFault, Collector, Judged, audit_collecting};
 use sd_opening::opening;
 use sd_state::State;
 use sd_steps::step;
@@ -36,11 +36,12 @@ impl Collector for Historian {
     }
 }
 
-/// A complete legal run, as pictures and reports need it: its history, its final state, and how many entries it has.
+/// A complete legal run, as pictures and reports need it: its history, its final state with its blocking cycles, and how many entries it has.
 #[derive(Drop)]
 pub(crate) struct Gathered {
     pub(crate) history: History,
     pub(crate) end: State,
+    pub(crate) cycles: Vec<Vec<usize>>,
     pub(crate) number: u64,
 }
 
@@ -57,10 +58,15 @@ pub(crate) fn gather(alloc: Global, work: &Work, text: &[u8]) -> Result<Gathered
         return Err(AuditFault::Memory { number: 0 });
     };
     let mut historian = Historian(history);
-    let (end, number) = audit_collecting(alloc, work, text, s, &mut historian)?;
+    let Judged {
+        end,
+        number,
+        cycles,
+    } = audit_collecting(alloc, work, text, s, &mut historian)?;
     Ok(Gathered {
         history: historian.0,
         end,
+        cycles,
         number,
     })
 }

@@ -17,6 +17,6 @@ returns g c =
     let r = c.judge.result in
     let named = c.in-Ok.ensures in
     let after = c.judge.new.collector in
-    let journal = subst (λ (w : Work). IfOk r (λ found. IsJournalWith w text found.0 found.1 (λ (es : List Entry). g.C.Collector.became w es c.args.collector.now after))) named c.judge.ensures.journal in
+    let journal = subst (λ (w : Work). IfOk r (λ found. IsJournalWith w text found.end found.number (λ (es : List Entry). g.C.Collector.became w es c.args.collector.now after))) named c.judge.ensures.journal in
     let fault = subst (λ (w : Work). IfErr r (IsFault w text)) named c.judge.ensures.fault in
-    record { journal = journal; fault = fault; exact = refused_rightly c.args.work.now text r fault }
+    record { journal = journal; cycles = c.judge.ensures.cycles; fault = fault; exact = refused_rightly c.args.work.now text r fault }

@@ -6,8 +6,8 @@ use Rattle.sd_steps.proofs.EnteringLemmas.{enters_some, enters_none}
 use Rattle.sd_audit.specs.Audits.{entry_line}
 use Rattle.sd_audit.proofs.audits.check_rest.Goals as goal
 
-pub check_tail-requires-clause-complete : goal.check_tail-requires-clause-complete
-check_tail-requires-clause-complete c = λ d hints. enters_none c.args.work.now c.args.s.now d hints (c.in-None.ensures.none d)
+pub check_end-requires-clause-complete : goal.check_end-requires-clause-complete
+check_end-requires-clause-complete c = λ d hints. enters_none c.args.work.now c.args.s.now d hints (c.in-None.ensures.none d)
 
 pub returns-in-Some-clause-fault : goal.returns-in-Some-clause-fault
 returns-in-Some-clause-fault c =

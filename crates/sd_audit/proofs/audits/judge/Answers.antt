@@ -15,7 +15,7 @@ returns-clause-journal g c =
     let s = c.take_entries.new.s in
     let at = c.in_ok-at.at in
     let read = c.in_ok-at.ensures.read in
-    let journal = c.in_ok-check_rest.ensures.journal in
+    let journal = c.in_ok-found.ensures.journal in
     let same = entries_read w text s at.number read.0.entries _
     (record { run = read.0.told.run; spelled = read.0.told.spelled; lines = read.0.told.lines ∙ ap (λ ls. map (entry_line w) read.0.entries ++ ls) c.in_ok-at.ensures.accounts.lines })
     journal in
