@@ -1,3 +1,0 @@
-pub mod PictureLemmas
-pub mod RowLemmas
-pub mod FoldLemmas

@@ -32,11 +32,11 @@ use Rattle.sd_stretches.specs.SpinPieces.{pieces}
 use Rattle.sd_stretches.specs.Plain.{is_plain_byte, is_text_byte, IsPlain, IsText}
 use Rattle.sd_stretches.proofs.PlainLemmas.{thread-plain, lock-plain, doing-plain, decimal-plain}
 use Rattle.sd_stretches.proofs.TextLemmas.{plain-text, flat-text, either-text, decimal-text, thread-text, lock-text, chan-text, set-text, append-text}
-use Rattle.sd_timeline.specs.declared.layouts.Row.{Row}
-use Rattle.sd_timeline.specs.declared.layouts.Row.TheVariants.{Cpu, Thread}
-use Rattle.sd_timeline.specs.declared.folds.Column.{Column}
-use Rattle.sd_timeline.specs.declared.frames.Frame.{Frame}
-use Rattle.sd_timeline.specs.Layouts.{Layout, above, across, axes, axis_base, base, beside, bottom, column, depth, floor, inside, is_clear, over, row_of, shifted, shown, shows, step, top, under, width}
+use Rattle.sd_layout.specs.declared.layouts.Row.{Row}
+use Rattle.sd_layout.specs.declared.layouts.Row.TheVariants.{Cpu, Thread}
+use Rattle.sd_layout.specs.declared.folds.Column.{Column}
+use Rattle.sd_layout.specs.declared.frames.Frame.{Frame}
+use Rattle.sd_layout.specs.Layouts.{Layout, above, across, axes, axis_base, base, beside, bottom, column, depth, floor, inside, is_clear, over, row_of, shifted, shown, shows, step, top, under, width}
 use Rattle.sd_timeline.specs.declared.legend.Key.{Key}
 use Rattle.sd_timeline.specs.declared.legend.Key.TheVariants as key
 use Rattle.sd_timeline.specs.declared.legend.Shape.{Shape}
@@ -50,7 +50,7 @@ use Rattle.sd_timeline.specs.Moments.{cpu_moment, is_moment, moment_line, moment
 use Rattle.sd_timeline.specs.Notes.{assign_note, bind_note, bound_words, note_by, note_text, set_note, set_words, thread_note}
 use Rattle.sd_timeline.specs.Head.{axis, bound_label, counts_text, cpu_head, dark_colours, description, file_title, fold_marks, hatch, head, heading, hint, inner_number, letters, light_colours, lines, mark, mark_if, measures, opened, page, rowless, rowless_text, set_label, size, small_letters, start, style, thin_lines, thread_head, ticks_text, view_box}
 use Rattle.sd_timeline.specs.Picture.{bound_of, ground_text, laid_out, marks_text, own_row, row_text, rows_text, thread_text, timeline_text}
-use Rattle.sd_timeline.specs.Rows.{layout_of}
+use Rattle.sd_layout.specs.Rows.{layout_of}
 use Rattle.sd_timeline.specs.Plain.{HasPlainTitles}
 
 -- ---- pieces

@@ -8,8 +8,8 @@ use Rattle.sd_stretches.specs.declared.changes.HandOver.{HandOver}
 use Rattle.sd_stretches.specs.declared.changes.Wakeup.{Wakeup}
 use Rattle.sd_stretches.specs.declared.histories.History.{History}
 use Rattle.sd_stretches.specs.Doings.{doing_text}
-use Rattle.sd_timeline.specs.declared.layouts.Row.TheVariants.{Thread}
-use Rattle.sd_timeline.specs.Layouts.{Layout, column, floor, row_of, shifted, shows, top}
+use Rattle.sd_layout.specs.declared.layouts.Row.TheVariants.{Thread}
+use Rattle.sd_layout.specs.Layouts.{Layout, column, floor, row_of, shifted, shows, top}
 use Rattle.sd_timeline.specs.Pieces.{path_start, path_end}
 
 -- who waits for what

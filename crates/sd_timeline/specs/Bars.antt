@@ -9,9 +9,9 @@ use Rattle.sd_stretches.specs.declared.sights.Doing.{Doing}
 use Rattle.sd_stretches.specs.declared.sights.Doing.TheVariants.{Running, Spinning, Runnable, Waiting, Asleep, Napping, Ended}
 use Rattle.sd_stretches.specs.declared.rows.Stretch.{Stretch}
 use Rattle.sd_stretches.specs.Doings.{doing_text}
-use Rattle.sd_timeline.specs.declared.layouts.Row.{Row}
-use Rattle.sd_timeline.specs.declared.layouts.Row.TheVariants.{Cpu, Thread}
-use Rattle.sd_timeline.specs.Layouts.{Layout, base, column, inside, top, width}
+use Rattle.sd_layout.specs.declared.layouts.Row.{Row}
+use Rattle.sd_layout.specs.declared.layouts.Row.TheVariants.{Cpu, Thread}
+use Rattle.sd_layout.specs.Layouts.{Layout, base, column, inside, top, width}
 use Rattle.sd_timeline.specs.Pieces.{bar_start, bar_end, word_label, number_label}
 
 abbrev pub doing_class : Doing → List ℕ

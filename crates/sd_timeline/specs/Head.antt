@@ -7,9 +7,9 @@ use Rattle.sd_types.specs.declared.works.Work.{Work}
 use Rattle.sd_types.specs.Partitions.{set_of_cpu}
 use Rattle.sd_machine.specs.Texts.{set_name}
 use Rattle.sd_state.specs.Texts.{thread_name}
-use Rattle.sd_timeline.specs.declared.folds.Column.{Column}
-use Rattle.sd_timeline.specs.declared.layouts.Row.TheVariants.{Cpu, Thread}
-use Rattle.sd_timeline.specs.Layouts.{Layout, axes, axis_base, base, bottom, column, floor, is_clear, shown, step, total_width, under}
+use Rattle.sd_layout.specs.declared.folds.Column.{Column}
+use Rattle.sd_layout.specs.declared.layouts.Row.TheVariants.{Cpu, Thread}
+use Rattle.sd_layout.specs.Layouts.{Layout, axes, axis_base, base, bottom, column, floor, is_clear, shown, step, total_width, under}
 use Rattle.sd_timeline.specs.Pieces.{attribute, grid_line, label_start, label_end, number_label, word_label}
 
 unfoldable pub view_box : ℕ → ℕ → List ℕ

@@ -6,12 +6,12 @@ use Rattle.sd_types.specs.declared.works.Work.{Work}
 use Rattle.sd_stretches.specs.declared.histories.History.{History}
 use Rattle.sd_stretches.specs.declared.rows.Level.{Level}
 use Rattle.sd_stretches.specs.Rows.{levels}
-use Rattle.sd_timeline.specs.declared.folds.Column.{Column}
-use Rattle.sd_timeline.specs.declared.layouts.Row.TheVariants.{Thread}
-use Rattle.sd_timeline.specs.Layouts.{Layout, above, base, beside, column, depth, inside, over, row_of, width}
+use Rattle.sd_layout.specs.declared.folds.Column.{Column}
+use Rattle.sd_layout.specs.declared.layouts.Row.TheVariants.{Thread}
+use Rattle.sd_layout.specs.Layouts.{Layout, above, base, beside, column, depth, inside, over, row_of, width}
 use Rattle.sd_timeline.specs.Pieces.{bar_end, bar_start, word_label, number_label}
 use Rattle.sd_timeline.specs.Bars.{between}
-use Rattle.sd_timeline.specs.Folds.{many}
+use Rattle.sd_layout.specs.Folds.{many}
 
 abbrev pub own_level : Layout → ℕ → Level → List ℕ
 own_level f t x = number_label (codes "own") (beside f x.from) (above f t) [] x.priority

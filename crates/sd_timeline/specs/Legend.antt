@@ -14,7 +14,7 @@ use Rattle.sd_timeline.specs.declared.legend.Key.{Key}
 use Rattle.sd_timeline.specs.declared.legend.Key.TheVariants.{Running, Spinning, Runnable, Waiting, Asleep, Napping, Ended, Number, Name, Lock, Moment, Wake, HandOver as GivesOn, Own, Inherited}
 use Rattle.sd_timeline.specs.declared.legend.Shape.{Shape}
 use Rattle.sd_timeline.specs.declared.legend.Shape.TheVariants.{Box, Sample, Line, Word}
-use Rattle.sd_timeline.specs.Layouts.{Layout, width}
+use Rattle.sd_layout.specs.Layouts.{Layout, width}
 use Rattle.sd_timeline.specs.Arrows.{drawn_hands, has_row, is_drawn_wake}
 use Rattle.sd_timeline.specs.Bars.{fits, has_name, has_number}
 use Rattle.sd_timeline.specs.Labels.{labelled}

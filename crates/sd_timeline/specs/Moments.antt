@@ -10,9 +10,9 @@ use Rattle.sd_stretches.specs.declared.histories.History.{History}
 use Rattle.sd_stretches.specs.declared.rows.Stretch.{Stretch}
 use Rattle.sd_stretches.specs.declared.spin_pieces.Track.TheVariants as track
 use Rattle.sd_stretches.specs.SpinPieces.{pieces}
-use Rattle.sd_timeline.specs.declared.layouts.Row.{Row}
-use Rattle.sd_timeline.specs.declared.layouts.Row.TheVariants.{Cpu, Thread}
-use Rattle.sd_timeline.specs.Layouts.{Layout, across, column, row_of, shows, width}
+use Rattle.sd_layout.specs.declared.layouts.Row.{Row}
+use Rattle.sd_layout.specs.declared.layouts.Row.TheVariants.{Cpu, Thread}
+use Rattle.sd_layout.specs.Layouts.{Layout, across, column, row_of, shows, width}
 use Rattle.sd_stretches.specs.Sights.{does_run}
 use Rattle.sd_timeline.specs.Pieces.{path_start, path_end}
 use Rattle.sd_timeline.specs.Bars.{stretch_title}

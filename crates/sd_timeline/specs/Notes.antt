@@ -13,8 +13,8 @@ use Rattle.sd_types.specs.declared.events.Event.TheVariants.{Assign, Bind, Joine
 use Rattle.sd_types.specs.declared.works.Work.{Work}
 use Rattle.sd_machine.specs.Texts.{set_name}
 use Rattle.sd_stretches.specs.declared.changes.Happening.{Happening}
-use Rattle.sd_timeline.specs.declared.layouts.Row.TheVariants.{Cpu, Thread}
-use Rattle.sd_timeline.specs.Layouts.{Layout, column, row_of, shows, under}
+use Rattle.sd_layout.specs.declared.layouts.Row.TheVariants.{Cpu, Thread}
+use Rattle.sd_layout.specs.Layouts.{Layout, column, row_of, shows, under}
 use Rattle.sd_timeline.specs.Pieces.{label_start, label_end}
 
 -- a word and the name of a set

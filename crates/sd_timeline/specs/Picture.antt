@@ -12,10 +12,10 @@ use Rattle.sd_stretches.specs.declared.rows.Stretch.{Stretch}
 use Rattle.sd_stretches.specs.declared.spin_pieces.Track.TheVariants as track
 use Rattle.sd_stretches.specs.Rows.{levels}
 use Rattle.sd_stretches.specs.SpinPieces.{pieces}
-use Rattle.sd_timeline.specs.declared.layouts.Row.TheVariants.{Thread}
-use Rattle.sd_timeline.specs.declared.frames.Frame.{Frame}
-use Rattle.sd_timeline.specs.Layouts.{Layout, row_of}
-use Rattle.sd_timeline.specs.Rows.{layout_of}
+use Rattle.sd_layout.specs.declared.layouts.Row.TheVariants.{Thread}
+use Rattle.sd_layout.specs.declared.frames.Frame.{Frame}
+use Rattle.sd_layout.specs.Layouts.{Layout, row_of}
+use Rattle.sd_layout.specs.Rows.{layout_of}
 use Rattle.sd_timeline.specs.Bars.{run_bar, stretch_bar}
 use Rattle.sd_timeline.specs.Arrows.{hand_texts, wake_text}
 use Rattle.sd_timeline.specs.Labels.{fold_text, level_text, mark_text}

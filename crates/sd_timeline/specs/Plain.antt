@@ -8,7 +8,7 @@ use Rattle.sd_stretches.specs.declared.changes.Wakeup.{Wakeup}
 use Rattle.sd_stretches.specs.declared.histories.History.{History}
 use Rattle.sd_stretches.specs.declared.rows.Stretch.{Stretch}
 use Rattle.sd_stretches.specs.Plain.{IsPlain, IsText}
-use Rattle.sd_timeline.specs.declared.frames.Frame.{Frame}
+use Rattle.sd_layout.specs.declared.frames.Frame.{Frame}
 use Rattle.sd_timeline.specs.Bars.{stretch_title}
 use Rattle.sd_timeline.specs.Arrows.{hand_title, wake_title}
 use Rattle.sd_timeline.specs.Picture.{timeline_text}

@@ -3,8 +3,8 @@
 ghost use Rattle.std.specs.Prelude.{◌≡◌, ◌++◌, ◌∷◌, [], IfOk, OnOk, flat_map, if◌then◌else◌};
 ghost use Rattle.sd_timeline.specs.Arrows.{arrow_start, drawn_hands, hand_path, hand_rows, hand_text, hand_texts, hand_title, has_row, has_row_if, heights, is_drawn_hand, is_drawn_wake, nth_at, waiter_text, wake_by, wake_path, wake_rows, wake_text, wake_title};
 
-use crate::layouts::{Layout, Row};
 use crate::pieces::{put_path_end, put_path_start};
+use sd_layout::{Layout, Row};
 use sd_stretches::{Doing, HandOver, History, Wakeup, put_counted, put_doing, thread_name};
 use sd_types::Work;
 use std::alloc::{AllocError, Global};

@@ -3,8 +3,8 @@
 ghost use Rattle.std.specs.Prelude.{◌≡◌, ◌++◌, OnOk, flat_map};
 ghost use Rattle.sd_timeline.specs.Bars.{bar_text, between, cpu_word, doing_class, fits, has_name, has_number, on_bar, place_text, run_bar, stretch_bar, stretch_title, times_text, word_text};
 
-use crate::layouts::{Layout, Row};
 use crate::pieces::{put_bar_end, put_bar_start, put_number_label, put_word_label};
+use sd_layout::{Layout, Row};
 use sd_stretches::{Doing, Stretch, chan_name, lock_name, put_counted, put_doing, thread_name};
 use sd_types::{CpuId, Work};
 use std::alloc::AllocError;

@@ -2,14 +2,13 @@
 
 ghost use Rattle.std.specs.Prelude.{◌≡◌, ◌+◌, ◌++◌, ◌<◌, ◌≤◌, ◌^◌, OnOk, codes, decimal, flat_map};
 ghost use Rattle.std.specs.List.{range_with_len};
-ghost use Rattle.sd_timeline.specs.Layouts.{axes, shown};
+ghost use Rattle.sd_layout.specs.Layouts.{axes, shown};
 ghost use Rattle.sd_timeline.specs.Head.{axis, bound_label, counts_text, cpu_head, dark_colours, description, file_title, fold_marks, hatch, head, heading, hint, inner_number, letters, light_colours, lines, mark, mark_if, measures, opened, page, rowless, rowless_text, set_label, size, small_letters, start, style, thin_lines, thread_head, ticks_text, view_box};
 
-use crate::folds::Column;
-use crate::layouts::{Layout, Row};
 use crate::pieces::{
     put_attribute, put_label_end, put_label_start, put_line, put_number_label, put_word_label,
 };
+use sd_layout::{Column, Layout, Row};
 use sd_rules::set_of_cpu;
 use sd_stretches::{put_counted, set_name, thread_name};
 use sd_types::{CpuId, SetId, Work};

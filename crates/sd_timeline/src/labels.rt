@@ -4,9 +4,8 @@ ghost use Rattle.std.specs.Prelude.{◌≡◌, ◌++◌, ◌∷◌, [], IfOk, On
 ghost use Rattle.sd_timeline.specs.Labels.{fold_text, fold_title, has_room, inherited_level, inherited_word, labelled, labelled_by, level_area, level_label, level_text, level_title, many_text, mark_text, own_level, some_level};
 
 use crate::bars::put_between;
-use crate::folds::Column;
-use crate::layouts::{Layout, Row};
 use crate::pieces::{put_bar_end, put_bar_start, put_number_label, put_word_label};
+use sd_layout::{Column, Layout, Row};
 use sd_stretches::{History, Level, levels, put_counted};
 use sd_types::Work;
 use std::alloc::{AllocError, Global};

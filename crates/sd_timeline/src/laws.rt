@@ -1,28 +1,10 @@
-//! Laws of pictures and of what is shown in them, with nothing to run.
+//! Laws of the texts of pictures, with nothing to run.
 
-ghost use Rattle.sd_timeline.specs.Folds.{AllFoldsAreQuiet};
-ghost use Rattle.sd_timeline.specs.Rows.{ActingThreadsComeFirst, AllRowsAreOwn};
 ghost use Rattle.sd_timeline.specs.Plain.{TimelinesArePlain, TitlesNeedNoEscaping};
-
-/// Each tick that was asked for is in one column of the picture, in order; the columns of more than one tick are those that are folded,
-/// and nothing changes in them: neither what a thread does nor its priority, nor anything else by an entry.
-pub fn folds_are_quiet()
-    ensures { AllFoldsAreQuiet }
-{}
 
 /// The title of each bar and of each arrow needs no escaping, in the sense of `names_need_no_escaping` of `sd_stretches`.
 pub fn titles_need_no_escaping()
     ensures { TitlesNeedNoEscaping }
-{}
-
-/// In every picture each row of a thread is of a thread of its own, and there are as many as there is room for, or threads.
-pub fn rows_are_own()
-    ensures { AllRowsAreOwn }
-{}
-
-/// Where not all threads have a row, none that does nothing in the ticks that are drawn has one while one that acts there has none.
-pub fn acting_threads_come_first()
-    ensures { ActingThreadsComeFirst }
 {}
 
 /// Every picture is of newlines and printable ASCII, without a backslash, so that it is UTF-8, which XML reads where a text

@@ -9,9 +9,9 @@ ghost use Rattle.sd_timeline.specs.Legend.{Drawn as DrawnValue, box_key, class_o
 use crate::arrows::{drawn_hands, has_row, is_drawn_wake};
 use crate::bars::{fits, has_name, has_number};
 use crate::labels::labelled;
-use crate::layouts::Layout;
 use crate::moments::{drawn_pieces, is_moment};
 use crate::pieces::{put_bar_end, put_bar_start, put_path_end, put_path_start, put_word_label};
+use sd_layout::Layout;
 use sd_stretches::{Doing, HandOver, History, Level, Stretch, Wakeup, thread_name};
 use sd_types::Work;
 use std::alloc::{AllocError, Global};

@@ -6,22 +6,14 @@
 
 mod arrows;
 mod bars;
-mod folds;
-mod frames;
 mod head;
 mod labels;
 mod laws;
-mod layouts;
 mod legend;
 mod moments;
 mod notes;
 mod picture;
 mod pieces;
-mod rows;
 
-pub use frames::Frame;
-pub use laws::{
-    acting_threads_come_first, folds_are_quiet, rows_are_own, timelines_are_plain,
-    titles_need_no_escaping,
-};
+pub use laws::{timelines_are_plain, titles_need_no_escaping};
 pub use picture::timeline;

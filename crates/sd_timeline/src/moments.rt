@@ -5,8 +5,8 @@ ghost use Rattle.std.specs.List.{range_with_len};
 ghost use Rattle.sd_timeline.specs.Moments.{cpu_moment, drawn_by, drawn_pieces, is_drawn, is_moment, moment_line, moment_lines, moment_text, thread_moment};
 
 use crate::bars::put_title;
-use crate::layouts::{Layout, Row};
 use crate::pieces::{put_path_end, put_path_start};
+use sd_layout::{Layout, Row};
 use sd_stretches::{Doing, History, Stretch, Track, does_run, pieces};
 use sd_types::Work;
 use std::alloc::{AllocError, Global};

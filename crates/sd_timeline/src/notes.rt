@@ -5,8 +5,8 @@
 ghost use Rattle.std.specs.Prelude.{◌≡◌, ◌++◌, OnOk, flat_map};
 ghost use Rattle.sd_timeline.specs.Notes.{assign_note, bind_note, bound_words, note_by, note_text, set_note, set_words, thread_note};
 
-use crate::layouts::{Layout, Row};
 use crate::pieces::{put_label_end, put_label_start};
+use sd_layout::{Layout, Row};
 use sd_stretches::{Happening, put_counted, set_name};
 use sd_types::{AssignAnswer, BindAnswer, CpuId, Event, SetId, ThreadId, Work};
 use std::alloc::AllocError;

@@ -16,11 +16,11 @@ use Rattle.sd_story.specs.declared.selections.Selection.{Selection}
 use Rattle.sd_story.specs.declared.selections.Selection.TheVariants.{Ticks, Thread}
 use Rattle.sd_story.specs.Selections.{has_thread, is_told, tick_of}
 use Rattle.sd_story.specs.Story.{cell, heading, line_blanks, row, row_if, rows_from, story, tick_blanks}
-use Rattle.sd_timeline.specs.declared.frames.Frame.{Frame}
-use Rattle.sd_timeline.specs.Layouts.{Layout}
+use Rattle.sd_layout.specs.declared.frames.Frame.{Frame}
+use Rattle.sd_layout.specs.Layouts.{Layout}
 use Rattle.sd_timeline.specs.Legend.{Drawn, drawn_of}
 use Rattle.sd_timeline.specs.Picture.{ground_text, laid_out, rows_text, timeline_text}
-use Rattle.sd_timeline.specs.Rows.{layout_of}
+use Rattle.sd_layout.specs.Rows.{layout_of}
 use Rattle.sd_trace.specs.Flows.{hand_flow, load_event, wake_flow}
 use Rattle.sd_trace.specs.Marks.{mark_text}
 use Rattle.sd_trace.specs.Tracks.{all_tracks, trace_text}

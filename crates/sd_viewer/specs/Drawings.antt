@@ -9,7 +9,7 @@ use Rattle.sd_machine.specs.Runs.{final, IsComplete}
 use Rattle.sd_stretches.specs.declared.histories.History.{History}
 use Rattle.sd_stretches.specs.Histories.{IsHistory}
 use Rattle.sd_audit.specs.Audits.{IsJournalOf}
-use Rattle.sd_timeline.specs.declared.frames.Frame.{Frame}
+use Rattle.sd_layout.specs.declared.frames.Frame.{Frame}
 use Rattle.sd_timeline.specs.Picture.{timeline_text}
 use Rattle.sd_trace.specs.Tracks.{trace_text}
 use Rattle.sd_report.specs.Sheets.{sheet_text}

@@ -3,7 +3,7 @@
 ghost use Rattle.std.specs.Prelude.{◌≡◌};
 ghost use Rattle.sd_viewer.specs.Drawings.{first_tick, frame_of, last_tick, rows};
 
-use sd_timeline::Frame;
+use sd_layout::Frame;
 use sd_types::Work;
 
 // The most ticks and threads that one picture shows.

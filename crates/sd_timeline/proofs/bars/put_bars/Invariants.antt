@@ -1,6 +1,6 @@
 use Rattle.std.proofs.Common.{◌≡◌, ◌++◌, take}
 use Rattle.std.specs.List.{flat_map}
-use Rattle.sd_timeline.specs.declared.layouts.Row.TheVariants.{Thread}
+use Rattle.sd_layout.specs.declared.layouts.Row.TheVariants.{Thread}
 use Rattle.sd_timeline.specs.Bars.{stretch_bar}
 use Rattle.sd_timeline.proofs.bars.put_bars.Given as goal
 

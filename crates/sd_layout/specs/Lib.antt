@@ -1,0 +1,3 @@
+pub mod Folds
+pub mod Layouts
+pub mod Rows

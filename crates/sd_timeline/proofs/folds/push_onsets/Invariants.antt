@@ -1,7 +1,0 @@
-use Rattle.std.proofs.Common.{◌≡◌, ◌++◌, take}
-use Rattle.std.specs.List.{flat_map}
-use Rattle.sd_timeline.specs.Folds.{onset_in}
-use Rattle.sd_timeline.proofs.folds.push_onsets.Given as goal
-
-abbrev pub invariant-loop-x : goal.invariant-loop-x
-invariant-loop-x l = l.changes.items ≡ l.initial.changes.items ++ flat_map (onset_in l.frame) (take l.x-index l.onsets)

@@ -1,5 +1,0 @@
-use Rattle.sd_timeline.proofs.RowLemmas.{acting_first}
-use Rattle.sd_timeline.proofs.laws.acting_threads_come_first.Goals as goal
-
-pub returns : goal.returns
-returns c = acting_first

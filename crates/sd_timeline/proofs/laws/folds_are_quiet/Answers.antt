@@ -1,5 +1,0 @@
-use Rattle.sd_timeline.proofs.FoldLemmas.{quiet_folds}
-use Rattle.sd_timeline.proofs.laws.folds_are_quiet.Goals as goal
-
-pub returns : goal.returns
-returns c = quiet_folds

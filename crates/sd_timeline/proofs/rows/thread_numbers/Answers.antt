@@ -1,5 +1,0 @@
-use Rattle.sd_timeline.proofs.RowLemmas.{range_grown}
-use Rattle.sd_timeline.proofs.rows.thread_numbers.Goals as goal
-
-pub loop-t-preserved : goal.loop-t-preserved
-loop-t-preserved c = range_grown c.loop-t.t _ _ c.loop-t.invariant c.in_ok-push.ensures.items
