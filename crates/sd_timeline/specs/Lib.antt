@@ -1,0 +1,10 @@
+pub mod Pieces
+pub mod Bars
+pub mod Arrows
+pub mod Labels
+pub mod Legend
+pub mod Moments
+pub mod Notes
+pub mod Head
+pub mod Picture
+pub mod Plain

@@ -16,6 +16,6 @@ returns-in-None c = ap (λ o. shown (told c.args.work.now c.args.world.now) (opt
 pub returns-in-Some : goal.returns-in-Some
 returns-in-Some c =
     let s = told c.args.work.now c.args.world.now in
-    let r = c.in-Some.taken.now in
+    let r = c.in-Some.taken in
     let items : c.numbers.result.items ≡ map (hint_shown s r.which) r.cpus.items = c.numbers.ensures ∙ ap (map (hint_shown s r.which)) c.as_slice.ensures.value in
     ap (λ ns. let h : Hints = record { which = r.which; numbers = record { items = ns } } in Some h) items ∙ ap (λ o. shown s (option_map parts o)) (sym c.in-Some.is)

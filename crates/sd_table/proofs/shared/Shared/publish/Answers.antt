@@ -1,5 +1,5 @@
 use Rattle.sd_table.specs.Seats.{HasWritten, work_of}
-use Rattle.sd_table.proofs.Publishing as P
+use Rattle.sd_table.proofs.PublishingLemmas as P
 use Rattle.sd_table.proofs.shared.Shared.publish.Goals as goal
 
 wrote : (c : goal.After-publish_count) → HasWritten c.publish_mover.new.seat c.publish_count.new.seat

@@ -3,7 +3,7 @@ use Rattle.sd_table_rule.specs.Places.{now}
 use Rattle.sd_table.specs.declared.seat.Seat.{Seat}
 use Rattle.sd_table.specs.Seats.{HasWritten, desk, work_of}
 use Rattle.sd_table.proofs.Fitting.{shown_since}
-use Rattle.sd_table.proofs.Publishing as P
+use Rattle.sd_table.proofs.PublishingLemmas as P
 use Rattle.sd_table.proofs.shared.Shared.publish_hint.Goals as goal
 
 pub shown_hint-hint-requires : goal.shown_hint-hint-requires

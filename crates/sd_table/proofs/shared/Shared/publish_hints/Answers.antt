@@ -4,7 +4,7 @@ use Rattle.sd_types.specs.declared.numbers.HomeId.TheVariants.{Cpu}
 use Rattle.sd_hand.specs.Hands.{IsHeld}
 use Rattle.sd_table.specs.declared.seat.Held.{Held}
 use Rattle.sd_table.specs.Seats.{ShowsHints, id_of, work_of}
-use Rattle.sd_table.proofs.Publishing as P
+use Rattle.sd_table.proofs.PublishingLemmas as P
 use Rattle.sd_table.proofs.shared.Shared.publish_hints.Goals as goal
 
 pub loop-i-init : goal.loop-i-init

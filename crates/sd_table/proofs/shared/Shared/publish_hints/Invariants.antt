@@ -1,5 +1,5 @@
 use Rattle.sd_table.specs.Seats.{id_of, work_of}
-use Rattle.sd_table.proofs.Publishing.{Showing}
+use Rattle.sd_table.proofs.PublishingLemmas.{Showing}
 use Rattle.sd_table.proofs.shared.Shared.publish_hints.Given as goal
 
 abbrev pub invariant-loop-i : goal.invariant-loop-i

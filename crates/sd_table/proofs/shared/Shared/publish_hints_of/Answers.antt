@@ -3,7 +3,7 @@ use Rattle.sd_types.specs.declared.events.Which.TheVariants.{Running}
 use Rattle.sd_types.specs.declared.numbers.HomeId.TheVariants.{Cpu}
 use Rattle.sd_hand.specs.Hands.{IsHeld}
 use Rattle.sd_table.specs.Seats.{ShowsHints, work_of}
-use Rattle.sd_table.proofs.Publishing as P
+use Rattle.sd_table.proofs.PublishingLemmas as P
 use Rattle.sd_table.proofs.shared.Shared.publish_hints_of.Goals as goal
 
 pub publish_hint-requires-clause-held : goal.publish_hint-requires-clause-held

@@ -2,7 +2,7 @@ use Rattle.std.proofs.Common.{refl, sym, ap, ◌∙◌, subst}
 use Rattle.sd_world.specs.Homes.{IsNumber, index_of}
 use Rattle.sd_table_rule.specs.Places.{holds, sizes}
 use Rattle.sd_table.specs.Seats.{desk, work_of}
-use Rattle.sd_table.proofs.Publishing as P
+use Rattle.sd_table.proofs.PublishingLemmas as P
 use Rattle.sd_table.proofs.shared.Shared.publish_thread.Goals as goal
 
 pub index-index-requires : goal.index-index-requires
