@@ -1,6 +1,6 @@
 -- The forms in which the program writes the names of sets and lists of numbers.
 use Rattle.std.proofs.Common.{◌≡◌, ℕ, zero, suc, ◌-◌, ◌+◌, ◌/◌, ◌%◌, ◌<◌, ◌≤◌, List, [], ◌∷◌, ◌++◌, length, get_or, drop, sym, ap, ◌∙◌, append_assoc, arith}
-use Rattle.std.specs.Prelude.{codes, option_map, unwrap_or, slice_get}
+use Rattle.std.specs.Prelude.{codes, option_map, replicate, unwrap_or, slice_get}
 use Rattle.std.proofs.lemmas.List.{append-nil}
 use Rattle.std.proofs.lemmas.Fmt.{decimal_digit, decimal_step}
 use Rattle.std.specs.Fmt.{decimal}
@@ -33,3 +33,29 @@ last_alone n small = decimal_digit n small ∙ ap (λ d. (48 + d) ∷ []) (let s
 pub last_behind : (text behind : List ℕ) (n : ℕ) → 10 ≤ n → n < 256 → behind ≡ text ++ decimal (n / 10) → behind ++ (48 + n % 10) ∷ [] ≡ text ++ decimal n
 last_behind text behind n some small is =
     rw is (append_assoc text (decimal (n / 10)) ((48 + n % 10) ∷ []) ∙ ap (λ (ds : List ℕ). text ++ ds) (sym (decimal_step n some (omega arith))))
+
+-- ---- zeros
+
+zero_digit : decimal 0 ≡ 48 ∷ []
+zero_digit = decimal_digit 0 (omega arith)
+
+zeros_more : (count : ℕ) → flat_map (λ m. 44 ∷ decimal m) (replicate (suc count) 0) ≡ flat_map (λ m. 44 ∷ decimal m) (replicate count 0) ++ 44 ∷ 48 ∷ []
+zeros_more zero = ap (λ (ds : List ℕ). (44 ∷ ds) ++ []) zero_digit
+zeros_more (suc count) =
+    ap (λ (text : List ℕ). (44 ∷ decimal 0) ++ text) (zeros_more count)
+    ∙ sym (append_assoc (44 ∷ decimal 0) (flat_map (λ m. 44 ∷ decimal m) (replicate count 0)) (44 ∷ 48 ∷ []))
+
+-- one more zero behind so many with a comma before each
+pub zeros_on : (count : ℕ) → flat_map (λ m. 44 ∷ decimal m) (replicate (count + 1) 0) ≡ flat_map (λ m. 44 ∷ decimal m) (replicate count 0) ++ 44 ∷ 48 ∷ []
+zeros_on count =
+    let next : count + 1 ≡ suc count = omega arith in
+    ap (λ k. flat_map (λ m. 44 ∷ decimal m) (replicate k 0)) next ∙ zeros_more count
+
+zeros_before : (count : ℕ) → numbers_text (replicate (suc count) 0) ≡ 48 ∷ flat_map (λ m. 44 ∷ decimal m) (replicate count 0)
+zeros_before count = numbers_by_commas 0 (replicate count 0) ∙ ap (λ (ds : List ℕ). ds ++ flat_map (λ m. 44 ∷ decimal m) (replicate count 0)) zero_digit
+
+-- zeros joined by commas are a zero, and the others with a comma before each
+pub zeros_from_first : (count : ℕ) → 1 ≤ count → numbers_text (replicate count 0) ≡ 48 ∷ flat_map (λ m. 44 ∷ decimal m) (replicate (count - 1) 0)
+zeros_from_first count some =
+    let is : count ≡ suc (count - 1) = omega (arith, some) in
+    ap (λ k. numbers_text (replicate k 0)) is ∙ zeros_before (count - 1)

@@ -1,14 +1,15 @@
 //! The line of an entry.
 
-ghost use Rattle.std.specs.Prelude.{◌≡◌, ◌+◌, ◌*◌, ◌≤◌, ◌++◌, ◌∷◌, OnOk, OnErr, codes, decimal, drop, length, slice_range, take};
+ghost use Rattle.std.specs.Prelude.{◌≡◌, ◌+◌, ◌*◌, ◌≤◌, ◌++◌, ◌∷◌, OnOk, OnErr, codes, decimal, drop, length, replicate, slice_range, take};
 ghost use Rattle.std.specs.List.{flat_map};
-ghost use Rattle.sd_log.specs.Parts.{hints_of, whole};
+ghost use Rattle.sd_types.specs.Limits.{most_processors};
+ghost use Rattle.sd_log.specs.Parts.{hints_of, listed, whole};
 ghost use Rattle.sd_machine.specs.Texts.{entry_text, event_text, hints_text, numbers_text};
 
 use crate::counting::{NUMBER_END, put_entry_number};
 use crate::events::put_frequent_event;
 use crate::line::{Line, ROOM, put_byte, put_number, put_small, put_two};
-use sd_log::Parts;
+use sd_log::{Numbers, Parts};
 use sd_types::{CpuId, Entry, Which, Work};
 use std::alloc::AllocError;
 
@@ -51,12 +52,53 @@ fn put_numbers(numbers: &[u8], line: &mut Line, from: usize) -> usize
     }
 }
 
+// `,0` so many times.
+#[inline(always)]
+fn put_comma_zeros(count: usize, line: &mut Line, from: usize) -> usize
+    requires { from + 2 * count ≤ ROOM }
+    ensures text { take result line.new ≡ take from line.old ++ flat_map (λ n. 44 ∷ decimal n) (replicate count 0) }
+    ensures end { result ≡ from + 2 * count }
+{
+    let mut end = from;
+    for _ in 0..count {
+        end = put_two(b',', b'0', line, end);
+    }
+    end
+}
+
+// So many zeros, joined by commas.
+#[inline(always)]
+fn put_zeros(count: usize, line: &mut Line, from: usize) -> usize
+    requires { from + 2 * count ≤ ROOM }
+    ensures text { take result line.new ≡ take from line.old ++ numbers_text (replicate count 0) }
+    ensures within { result ≤ from + 2 * count }
+{
+    if count == 0 {
+        return from;
+    }
+    let from = put_byte(b'0', line, from);
+    put_comma_zeros(count - 1, line, from)
+}
+
+// The numbers, wherever they lie, joined by commas.
+#[inline(always)]
+fn put_listed(numbers: Numbers<'_>, line: &mut Line, from: usize) -> usize
+    requires { from + 4 * length (listed numbers) ≤ ROOM }
+    ensures text { take result line.new ≡ take from line.old ++ numbers_text (listed numbers.entry) }
+    ensures within { result ≤ from + 4 * length (listed numbers.entry) }
+{
+    match numbers {
+        Numbers::Bytes(bytes) => put_numbers(bytes, line, from),
+        Numbers::Zeros(count) => put_zeros(count, line, from),
+    }
+}
+
 // The numbers that were read, if any were.
 #[inline(always)]
-fn put_hints(which: Option<Which>, numbers: &[u8], line: &mut Line, from: usize) -> usize
-    requires few { length numbers.now ≤ 64 }
+fn put_hints(which: Option<Which>, numbers: Numbers<'_>, line: &mut Line, from: usize) -> usize
+    requires few { length (listed numbers) ≤ most_processors }
     requires room { from + 259 ≤ ROOM }
-    ensures text { take result line.new ≡ take from line.old ++ hints_text (hints_of which numbers.now) }
+    ensures text { take result line.new ≡ take from line.old ++ hints_text (hints_of which (listed numbers.entry)) }
     ensures within { result ≤ from + 259 }
 {
     match which {
@@ -64,7 +106,7 @@ fn put_hints(which: Option<Which>, numbers: &[u8], line: &mut Line, from: usize)
         Some(_) => {
             let from = put_two(b' ', b'h', line, from);
             let from = put_byte(b' ', line, from);
-            put_numbers(numbers, line, from)
+            put_listed(numbers, line, from)
         }
     }
 }
@@ -84,11 +126,11 @@ fn put_spaced_cpu(c: CpuId, line: &mut Line, from: usize) -> usize
 // What follows the number of the entry.
 #[inline(always)]
 fn put_behind_number(work: &Work, parts: &Parts<'_>, line: &mut Line, from: usize) -> usize
-    requires few { length parts.now.numbers.now ≤ 64 }
+    requires few { length (listed parts.now.numbers) ≤ most_processors }
     requires room { from + 383 ≤ ROOM }
     ensures text { take result line.new ≡ take from line.old
         ++ (codes " c" ++ decimal parts.now.cpu.0 ++ codes " " ++ event_text work.now parts.now.event.now
-        ++ hints_text (hints_of parts.now.which parts.now.numbers.now) ++ codes "\n") }
+        ++ hints_text (hints_of parts.now.which (listed parts.now.numbers)) ++ codes "\n") }
     ensures within { result ≤ from + 383 }
 {
     let from = put_spaced_cpu(parts.cpu, line, from);
@@ -122,7 +164,7 @@ impl EntryLine {
     #[tactic(auto, unfolding(sd_machine::specs::Texts::entry_text))]
     #[inline(always)]
     fn put_parts(&mut self, work: &Work, parts: &Parts<'_>) -> usize
-        requires few { length parts.now.numbers.now ≤ 64 }
+        requires few { length (listed parts.now.numbers) ≤ most_processors }
         ensures within { (self.new.from ≤ result) × (result ≤ ROOM) }
         ensures text { slice_range self.new.line self.new.from result ≡ entry_text work.now (whole parts.now) }
     {
@@ -135,7 +177,7 @@ impl EntryLine {
     /// read, where it read any. A number that the workload does not declare has no name there.
     #[inline(always)]
     pub fn format_parts(&mut self, work: &Work, parts: &Parts<'_>) -> &[u8]
-        requires { length parts.now.numbers.now ≤ 64 }
+        requires { length (listed parts.now.numbers) ≤ most_processors }
         ensures { result.now ≡ entry_text work.now (whole parts.now) }
     {
         let to = self.put_parts(work, parts);

@@ -5,6 +5,8 @@ use Rattle.sd_types.specs.declared.events.Entry.{Entry}
 use Rattle.sd_types.specs.declared.events.Hints.{Hints}
 use Rattle.sd_types.specs.declared.events.Which.{Which}
 use Rattle.sd_types.specs.declared.events.Which.TheVariants.{Queued}
+use Rattle.sd_log.specs.declared.parts.Numbers.{Numbers}
+use Rattle.sd_log.specs.declared.parts.Numbers.TheVariants.{Bytes, Zeros}
 use Rattle.sd_log.specs.declared.parts.Parts.{Parts}
 
 -- the numbers that were read
@@ -27,6 +29,11 @@ abbrev pub zeros_read : ℕ → Option Hints
 zeros_read zero = None
 zeros_read (suc n) = Some (record { which = Queued; numbers = record { items = replicate (suc n) 0 } })
 
+-- the numbers, wherever they lie
+abbrev pub listed : Numbers → List ℕ
+listed (Bytes bytes) = bytes.now
+listed (Zeros count) = replicate count 0
+
 -- the entry that these are the parts of
 abbrev pub whole : Parts → Entry
-whole p = record { number = p.number; cpu = p.cpu; event = p.event.now; hints = hints_of p.which p.numbers.now }
+whole p = record { number = p.number; cpu = p.cpu; event = p.event.now; hints = hints_of p.which (listed p.numbers) }

@@ -3,7 +3,7 @@
 ghost use Rattle.std.specs.Prelude.{◌≡◌, ◌++◌, ◌<◌, ◌≤◌, ◌∷◌, [], Some, length, slice_get, true, OnOk};
 ghost use Rattle.sd_types.specs.declared.events.Event.TheVariants.{Idle};
 ghost use Rattle.sd_types.specs.Limits.{most_processors};
-ghost use Rattle.sd_log.specs.Parts.{whole, zeros_read};
+ghost use Rattle.sd_log.specs.Parts.{listed, whole, zeros_read};
 
 use crate::parts::Parts;
 use crate::short::{ShortEntry, idle, parts_at, shorten};
@@ -113,7 +113,7 @@ impl EntryLog {
     pub fn parts(&self, number: usize) -> Parts<'_>
         requires { number < length self.now.items }
         ensures whole { slice_get self.now.items number ≡ Some (whole result) }
-        ensures few { length result.numbers.now ≤ most_processors }
+        ensures few { length (listed result.numbers) ≤ most_processors }
     {
         parts_at(&self.bytes, number, &self.short[number])
     }

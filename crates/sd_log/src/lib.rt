@@ -8,4 +8,4 @@ mod short;
 mod tests;
 
 pub use entry_log::EntryLog;
-pub use parts::Parts;
+pub use parts::{Numbers, Parts};

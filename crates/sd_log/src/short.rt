@@ -1,12 +1,12 @@
 //! An entry without what its place tells, and without the numbers that it read: where those lie.
 
-ghost use Rattle.std.specs.Prelude.{◌≡◌, ◌++◌, ◌+◌, ◌<◌, ◌≤◌, ◌^◌, ℕ, List, drop, length, replicate, take, vec_capacity, vec_len};
+ghost use Rattle.std.specs.Prelude.{◌≡◌, ◌++◌, ◌+◌, ◌<◌, ◌≤◌, ◌^◌, ℕ, List, drop, length, take, vec_capacity, vec_len};
 ghost use Rattle.sd_types.specs.declared.events.Event.TheVariants.{Idle};
 ghost use Rattle.sd_types.specs.Limits.{most_processors};
-ghost use Rattle.sd_log.specs.Parts.{numbers_of, whole, zeros_read};
+ghost use Rattle.sd_log.specs.Parts.{listed, numbers_of, whole, zeros_read};
 ghost use Rattle.sd_log.specs.Short.{IsWithin, entry_at, kind_of, numbers_at, reading_of};
 
-use crate::parts::{Parts, numbers_of};
+use crate::parts::{Numbers, Parts, numbers_of};
 use sd_types::{CpuId, Event, Hints, Which};
 use std::mem::size_of;
 
@@ -31,9 +31,6 @@ pub(crate) struct ShortEntry {
 }
 
 const _: () = prove!(size_of::<ShortEntry>() == 28);
-
-/// As many zeros as an entry can read.
-static ZEROS: [u8; 64] = [0; 64];
 
 /// What was read.
 fn reading_of(hints: &Option<Hints>) -> Reading
@@ -92,26 +89,17 @@ fn bytes_at(bytes: &[u8], from: u32, count: u8) -> &[u8]
     &bytes[from..from + count as usize]
 }
 
-/// So many zeros.
-#[inline(always)]
-fn zeros(count: u8) -> &'static [u8]
-    requires { count ≤ most_processors }
-    ensures { result.now ≡ replicate count 0 }
-{
-    &ZEROS[..count as usize]
-}
-
 /// The numbers that were read.
 #[inline(always)]
-fn numbers_at<'a>(bytes: &'a [u8], short: &ShortEntry) -> &'a [u8]
+fn numbers_at<'a>(bytes: &'a [u8], short: &ShortEntry) -> Numbers<'a>
     requires { IsWithin (length bytes.now) short.now }
-    ensures { result.now ≡ numbers_at bytes.now short.now.reading short.now.from short.now.count }
+    ensures { listed result ≡ numbers_at bytes.now short.now.reading short.now.from short.now.count }
 {
     match short.reading {
-        Reading::Nothing => bytes_at(bytes, short.from, short.count),
-        Reading::Running => bytes_at(bytes, short.from, short.count),
-        Reading::Queued => bytes_at(bytes, short.from, short.count),
-        Reading::Zeros => zeros(short.count),
+        Reading::Nothing => Numbers::Bytes(bytes_at(bytes, short.from, short.count)),
+        Reading::Running => Numbers::Bytes(bytes_at(bytes, short.from, short.count)),
+        Reading::Queued => Numbers::Bytes(bytes_at(bytes, short.from, short.count)),
+        Reading::Zeros => Numbers::Zeros(short.count as usize),
     }
 }
 
@@ -158,7 +146,7 @@ pub(crate) fn shorten(
 pub(crate) fn parts_at<'a>(bytes: &'a [u8], number: usize, short: &'a ShortEntry) -> Parts<'a>
     requires { IsWithin (length bytes.now) short.now }
     ensures whole { whole result ≡ entry_at bytes.now number short.now }
-    ensures few { length result.numbers.now ≤ most_processors }
+    ensures few { length (listed result.numbers) ≤ most_processors }
 {
     Parts {
         number: number as u64,

@@ -2,8 +2,9 @@
 
 ghost use Rattle.std.specs.Prelude.{◌≡◌, ◌++◌, ◌<◌, ◌≤◌, ◌^◌, List, [], length, map, IfOk, OnOk};
 ghost use Rattle.sd_types.specs.declared.events.Entry.{Entry as EntryOf};
+ghost use Rattle.sd_types.specs.Limits.{most_processors};
 ghost use Rattle.sd_accounts.specs.Counters.{HasTaken};
-ghost use Rattle.sd_log.specs.Parts.{whole};
+ghost use Rattle.sd_log.specs.Parts.{listed, whole};
 ghost use Rattle.sd_machine.specs.LockGraph.{cycles_of};
 ghost use Rattle.sd_machine.specs.Runs.{final};
 ghost use Rattle.sd_machine.specs.Texts.{cycles_text, entries_text, entry_text, journal, summary};
@@ -29,7 +30,7 @@ fn put_entry<K: Sink>(
     line: &mut EntryLine,
     out: &mut K,
 ) -> Result<(), Unwritten>
-    requires { length parts.now.numbers.now ≤ 64 }
+    requires { length (listed parts.now.numbers) ≤ most_processors }
     ensures { Puts (K.contents out.old) (K.contents out.new) (K.fault_count out.old) (K.fault_count out.new)
         (entry_text work.now (whole parts.now)) result }
 {

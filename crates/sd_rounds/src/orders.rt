@@ -1,6 +1,6 @@
 //! The order in which the processors have their turns in each round.
 
-ghost use Rattle.std.specs.Prelude.{◌≡◌, ◌-◌, length};
+ghost use Rattle.std.specs.Prelude.{◌≡◌, ◌-◌, None, length};
 ghost use Rattle.sd_machine.specs.Runs.{rising};
 ghost use Rattle.sd_rounds.specs.Orders.{generator_at, next_order, shuffled};
 ghost use Rattle.sd_types.specs.declared.works.Work.{Work};
@@ -53,14 +53,19 @@ fn shuffle(generator: &mut Lcg64Xsh32, order: &mut [CpuId])
     }
 }
 
-/// The order of the next round.
-pub(crate) fn next_order(work: &Work, generator: &mut Option<Lcg64Xsh32>) -> ArrayVec<CpuId, 64>
-    ensures order { result.items ≡ (next_order (rising work.now) generator.old).0 }
+/// Draws the order of the next round, where orders are drawn. Where none is, the order stays as it is: rising.
+pub(crate) fn draw_order(
+    work: &Work,
+    generator: &mut Option<Lcg64Xsh32>,
+    order: &mut ArrayVec<CpuId, 64>,
+)
+    requires rising { generator.old ≡ None → order.old.items ≡ rising work.now }
+    ensures order { order.new.items ≡ (next_order (rising work.now) generator.old).0 }
     ensures generator { generator.new ≡ (next_order (rising work.now) generator.old).1 }
+    ensures rising { generator.new ≡ None → order.new.items ≡ rising work.now }
 {
-    let mut order = rising(work);
     if let Some(generator) = generator {
+        *order = rising(work);
         shuffle(generator, order.as_mut_slice());
     }
-    order
 }

@@ -10,7 +10,7 @@ ghost use Rattle.sd_rounds.specs.Searched.{IsSearched};
 ghost use Rattle.sd_world.specs.Plain.{Stands, told};
 ghost use Rattle.sd_world.specs.Worlds.{Begins};
 
-use crate::orders::{RoundOrder, first_generator, next_order, rising};
+use crate::orders::{RoundOrder, draw_order, first_generator, rising};
 use crate::turns::take_turn;
 use sd_log::EntryLog;
 use sd_state::State;
@@ -89,10 +89,11 @@ pub fn run_rounds(alloc: Global, work: &Work, turns: RoundOrder) -> Result<Finis
         return Err(Stop::Memory);
     };
     let mut generator = first_generator(turns);
+    let mut order = rising(work);
     let mut searched = None;
     'rounds: loop {
         let before = world.entries.len();
-        let order = next_order(work, &mut generator);
+        draw_order(work, &mut generator, &mut order);
         if let Err(stop) = run_round(work, &mut world, &mut searched, order.as_slice()) {
             return Err(stop);
         }

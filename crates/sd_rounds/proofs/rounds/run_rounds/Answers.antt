@@ -22,6 +22,7 @@ rounds-init c =
       count = 0;
       rounds = no_rounds w (orders_of w c.args.turns) c.in-Ok.world.entries.items none;
       generator = c.first_generator-generator.ensures w;
+      steady = λ none. c.rising-order.ensures;
       stands = c.in-Ok.ensures.stands;
       work = c.in-Ok.ensures.work;
       room = omega (arith, ap length none);
@@ -33,7 +34,7 @@ returns-in-Err-clause-full c = λ x.
     let w = c.args.work.now in
     let r = c.rounds in
     let order = orders_of w c.args.turns r.invariant.count in
-    let is : c.as_slice.result.now ≡ order = c.as_slice.ensures.value ∙ c.next_order-order.ensures.order
+    let is : c.as_slice.result.now ≡ order = c.as_slice.ensures.value ∙ c.draw_order.ensures.order
     ∙ ap (λ (g : Option Lcg). (next_order (rising w) g).0) r.invariant.generator ∙ order_next w c.args.turns r.invariant.count in
     let is_full : c.in-Err.stop ≡ Full = cc in
     let at_round : IsErrOf {T = Unit {0}} (Err c.in-Err.stop) Full = ap Err is_full in
@@ -46,7 +47,7 @@ rounds-preserved c =
     let w = c.args.work.now in
     let r = c.rounds in
     let order = orders_of w c.args.turns r.invariant.count in
-    let is : c.as_slice.result.now ≡ order = c.as_slice.ensures.value ∙ c.next_order-order.ensures.order
+    let is : c.as_slice.result.now ≡ order = c.as_slice.ensures.value ∙ c.draw_order.ensures.order
     ∙ ap (λ (g : Option Lcg). (next_order (rising w) g).0) r.invariant.generator ∙ order_next w c.args.turns r.invariant.count in
     let e = c.in_default-run_round.ensures in
     let made = e.entries ∙ ap (λ (o : List CpuId). r.world.entries.items ++ round w (told w r.world) (length r.world.entries.items) o) is in
@@ -54,7 +55,8 @@ rounds-preserved c =
       count = suc r.invariant.count;
       rounds = one_round_more w (orders_of w c.args.turns) r.invariant.count (told w r.world) r.world.entries.items c.run_round.new.world.entries.items r.invariant.rounds refl made
           (λ same. c.if-len-before.false (let h : c.len.result ≡ c.len-before.result = omega (arith, same) in h));
-      generator = c.next_order-order.ensures.generator ∙ ap (λ (g : Option Lcg). (next_order (rising w) g).1) r.invariant.generator ∙ generator_next w c.args.turns r.invariant.count;
+      generator = c.draw_order.ensures.generator ∙ ap (λ (g : Option Lcg). (next_order (rising w) g).1) r.invariant.generator ∙ generator_next w c.args.turns r.invariant.count;
+      steady = c.draw_order.ensures.rising;
       stands = e.stands;
       work = e.work;
       room = e.room;
@@ -67,7 +69,7 @@ made_serial c =
     let w = c.args.work.now in
     let r = c.rounds in
     let order = orders_of w c.args.turns r.invariant.count in
-    let is : c.as_slice.result.now ≡ order = c.as_slice.ensures.value ∙ c.next_order-order.ensures.order
+    let is : c.as_slice.result.now ≡ order = c.as_slice.ensures.value ∙ c.draw_order.ensures.order
     ∙ ap (λ (g : Option Lcg). (next_order (rising w) g).0) r.invariant.generator ∙ order_next w c.args.turns r.invariant.count in
     let e = c.in_default-run_round.ensures in
     let made = e.entries ∙ ap (λ (o : List CpuId). r.world.entries.items ++ round w (told w r.world) (length r.world.entries.items) o) is in
@@ -79,7 +81,7 @@ made_short c =
     let w = c.args.work.now in
     let r = c.rounds in
     let order = orders_of w c.args.turns r.invariant.count in
-    let is : c.as_slice.result.now ≡ order = c.as_slice.ensures.value ∙ c.next_order-order.ensures.order
+    let is : c.as_slice.result.now ≡ order = c.as_slice.ensures.value ∙ c.draw_order.ensures.order
     ∙ ap (λ (g : Option Lcg). (next_order (rising w) g).0) r.invariant.generator ∙ order_next w c.args.turns r.invariant.count in
     let e = c.in_default-run_round.ensures in
     let some = w.some_cpu in

@@ -1,5 +1,6 @@
-use Rattle.std.proofs.Common.{◌≡◌, ℕ, ◌-◌, ◌≤◌, length}
+use Rattle.std.proofs.Common.{◌≡◌, ℕ, ◌-◌, ◌≤◌, length, None}
 use Rattle.sd_types.specs.declared.limits.TheConstants.{MOST_ENTRIES}
+use Rattle.sd_machine.specs.Runs.{rising}
 use Rattle.sd_world.specs.Plain.{Stands, told}
 use Rattle.sd_rounds.specs.Orders.{orders_of, generator_at}
 use Rattle.sd_rounds.specs.Rounds.{HasRounds}
@@ -11,6 +12,7 @@ invariant-rounds l = record {
   count : ℕ;
   rounds : HasRounds l.work (orders_of l.work l.fn.turns) count l.world.entries.items;
   generator : l.generator ≡ generator_at l.work l.fn.turns count;
+  steady : l.generator ≡ None → l.order.items ≡ rising l.work;
   stands : Stands l.work l.world;
   work : l.world.work.now ≡ l.work;
   room : length l.world.entries.items ≤ MOST_ENTRIES;

@@ -1,5 +1,5 @@
 use Rattle.std.proofs.lemmas.List.{take-replicate}
-use Rattle.sd_log.proofs.short.zeros.Goals as goal
+use Rattle.sd_log.proofs.parts.zeros.Goals as goal
 
 pub returns : goal.returns
 returns c = take-replicate c.args.count 64 0 c.requires
