@@ -8,6 +8,7 @@ ghost use Rattle.sd_rules.specs.ChoiceFunctions.{chosen};
 ghost use Rattle.sd_machine.specs.Choosing.{choice, cpus_for, cpus_or_bound, is_recent, is_settled, is_warm, neighbours, numbers_read, put_chosen, put_on, victim_for};
 ghost use Rattle.sd_state.specs.declared.states.State.{State};
 ghost use Rattle.sd_state.specs.States.{cpu_of, no_body, thread_of, set_of};
+ghost use Rattle.sd_dispatcher.specs.Allowed.{allowed};
 ghost use Rattle.sd_store.specs.Parts.{actor_part, cpu_part, ready_parts, real_time_part, thread_part};
 ghost use Rattle.sd_store.specs.Words.{Lacks, TellsIf};
 ghost use Rattle.sd_types.specs.Limits.{most_processors};
@@ -18,48 +19,47 @@ use sd_rules::{choose, victim};
 use sd_store::{Look, set_of};
 use sd_types::{CpuId, Hints, Put, REAL_TIME_PRIORITY, ThreadBody, ThreadId, Work};
 
-fn copied(cpus: &[CpuId]) -> ArrayVec<CpuId, 64>
+/// These processors, in a list of their own.
+pub(crate) fn copied(cpus: &[CpuId]) -> ArrayVec<CpuId, 64>
     requires { length cpus.now ≤ most_processors }
     ensures { result.items ≡ cpus.now }
 {
     let mut copy = ArrayVec::new();
-    for c in cpus {
-        copy.push(*c);
+    match copy.try_extend_from_slice(cpus) {
+        Ok(()) => copy,
+        Err(_) => unreachable!(),
     }
-    copy
 }
 
-fn one(d: CpuId) -> ArrayVec<CpuId, 64>
-    ensures { result.items ≡ d ∷ [] }
-{
-    let mut cpus = ArrayVec::new();
-    cpus.push(d);
-    cpus
+/// The processors on which a thread may run: the open ones of its set, or the one to which it is bound.
+#[derive(Clone, Copy)]
+pub(crate) enum Allowed<'a> {
+    Open(&'a [CpuId]),
+    Bound([CpuId; 1]),
 }
 
-/// These processors, or the one to which a thread is bound.
-fn cpus_or_bound(cpus: &[CpuId], bound: Option<CpuId>) -> ArrayVec<CpuId, 64>
-    requires { length cpus.now ≤ most_processors }
-    ensures { result.items ≡ cpus_or_bound cpus.now bound }
+impl Allowed<'_> {
+    /// The list of them.
+    #[inline(always)]
+    pub(crate) fn as_slice(&self) -> &[CpuId]
+        ensures { result.now ≡ allowed self.now }
+    {
+        match self {
+            Allowed::Open(cpus) => cpus,
+            Allowed::Bound(one) => one,
+        }
+    }
+}
+
+/// The open processors of a set, or the one to which a thread is bound.
+#[inline(always)]
+fn cpus_or_bound(cpus: &[CpuId], bound: Option<CpuId>) -> Allowed<'_>
+    ensures { allowed result ≡ cpus_or_bound cpus.now bound }
 {
     match bound {
-        None => copied(cpus),
-        Some(d) => one(d),
+        None => Allowed::Open(cpus),
+        Some(d) => Allowed::Bound([d]),
     }
-}
-
-/// The processors on which thread `t` may run, which is bound to this one, or to none.
-#[tactic(auto, unfolding(sd_machine::specs::Choosing::cpus_for))]
-fn cpus_in<L: Look>(
-    work: &Work,
-    x: &L,
-    t: ThreadId,
-    bound: Option<CpuId>,
-) -> Result<ArrayVec<CpuId, 64>, L::Lack>
-    ensures value { IfOk result (λ r. (n : ℕ) (s : State) → L.shows x.now n s → bound ≡ (thread_of s t.0).body.bound → r.items ≡ cpus_for work.now s t.0) }
-    ensures lack { Lacks L.part (L.shows x.now) (L.has x.now) result (λ s. real_time_part (set_of work.now t.0) ∷ []) }
-{
-    Ok(cpus_or_bound(x.open_cpus(set_of(work, t))?, bound))
 }
 
 /// The processor on which the thread of a body ran last.
@@ -96,27 +96,30 @@ fn is_recent(count: u32, left_at: Option<u32>) -> bool
 
 /// What a choice for a thread goes by: the processors on which it may run, the one on which it ran last, and whether it left that one a short
 /// time ago.
-#[derive(Drop)]
-pub(crate) struct Choices {
-    pub cpus: ArrayVec<CpuId, 64>,
+#[derive(Clone, Copy)]
+pub(crate) struct Choices<'a> {
+    pub cpus: Allowed<'a>,
     pub last: CpuId,
     pub warm: bool,
 }
 
 /// What a choice for thread `t` goes by, as processor `c` counts. The thread is looked up once.
-pub(crate) fn choices_of<L: Look>(
+#[tactic(auto, unfolding(sd_machine::specs::Choosing::cpus_for))]
+pub(crate) fn choices_of<'a, L: Look>(
     work: &Work,
-    x: &L,
+    x: &'a L,
     c: CpuId,
     t: ThreadId,
-) -> Result<Choices, L::Lack>
-    ensures value { IfOk result (λ r. (n : ℕ) (s : State) → L.shows x.now n s → (r.cpus.items ≡ cpus_for work.now s t.0) × (r.last ≡ (thread_of s t.0).body.last) × (r.warm ≡ is_warm s c.0 t.0)) }
+) -> Result<Choices<'a>, L::Lack>
+    ensures few { IfOk result (λ r. length (allowed r.cpus) ≤ most_processors) }
+    ensures value { IfOk result (λ r. (n : ℕ) (s : State) → L.shows x.now n s → (allowed r.cpus ≡ cpus_for work.now s t.0) × (r.last ≡ (thread_of s t.0).body.last) × (r.warm ≡ is_warm s c.0 t.0)) }
     ensures lack { Lacks L.part (L.shows x.now) (L.has x.now) result (λ s. actor_part c ∷ thread_part t ∷ real_time_part (set_of work.now t.0) ∷ []) }
 {
     let body = x.body(t)?;
     let last = last_in(body);
     let left_at = left_in(body);
-    let cpus = cpus_in(work, x, t, bound_in(body))?;
+    let bound = bound_in(body);
+    let cpus = cpus_or_bound(x.open_cpus(set_of(work, t))?, bound);
     let warm = is_recent(x.ticks(c)?, left_at);
     Ok(Choices { cpus, last, warm })
 }

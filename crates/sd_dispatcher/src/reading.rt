@@ -1,6 +1,7 @@
 //! What a processor reads of others before it puts a thread somewhere or steals one.
 
-ghost use Rattle.std.specs.Prelude.{◌≡◌, ℕ, [], ◌∷◌, IfOk, option_map};
+ghost use Rattle.std.specs.Prelude.{◌≡◌, ◌≤◌, ℕ, [], ◌∷◌, IfOk, length, option_map};
+ghost use Rattle.sd_types.specs.Limits.{most_processors};
 ghost use Rattle.sd_machine.specs.Choosing.{neighbours};
 ghost use Rattle.sd_state.specs.States.{set_of};
 ghost use Rattle.sd_machine.specs.Hints.{hints_fit, read_for, read_of, reads_for, same_which};
@@ -9,7 +10,7 @@ ghost use Rattle.sd_dispatcher.specs.Reading.{parts};
 ghost use Rattle.sd_store.specs.Parts.{actor_part, ready_parts, real_time_part, thread_part};
 ghost use Rattle.sd_store.specs.Words.{Lacks};
 
-use crate::choosing::{choices_of, is_settled, neighbours};
+use crate::choosing::{choices_of, copied, is_settled, neighbours};
 use arrayvec::ArrayVec;
 use sd_store::Look;
 use sd_types::{CpuId, Hints, ThreadId, Which, Work};
@@ -22,15 +23,16 @@ pub struct Reading {
 }
 
 /// The running threads of these processors are read, unless the choice is settled.
-fn read_for(cpus: ArrayVec<CpuId, 64>, last: CpuId, warm: bool) -> Option<Reading>
-    ensures { option_map parts result ≡ read_for cpus.items last warm }
+fn read_for(cpus: &[CpuId], last: CpuId, warm: bool) -> Option<Reading>
+    requires { length cpus.now ≤ most_processors }
+    ensures { option_map parts result ≡ read_for cpus.now last warm }
 {
-    if is_settled(cpus.as_slice(), last, warm) {
+    if is_settled(cpus, last, warm) {
         None
     } else {
         Some(Reading {
             which: Which::Running,
-            cpus,
+            cpus: copied(cpus),
         })
     }
 }
@@ -47,7 +49,7 @@ pub fn reads_for<L: Look>(
     ensures lack { Lacks L.part (L.shows x.now) (L.has x.now) result (λ s. actor_part c ∷ thread_part t ∷ real_time_part (set_of work.now t.0) ∷ []) }
 {
     let choices = choices_of(work, x, c, t)?;
-    Ok(read_for(choices.cpus, choices.last, choices.warm))
+    Ok(read_for(choices.cpus.as_slice(), choices.last, choices.warm))
 }
 
 /// The queues of the neighbours are read, where there are any.

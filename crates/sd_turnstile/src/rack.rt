@@ -3,13 +3,13 @@ ghost use Rattle.std.specs.Prelude.{◌≡◌, ◌+◌, ◌<◌, ◌^◌, MatchO
 ghost use Rattle.sd_turnstile.specs.Waiters.{IsIdle};
 
 use crate::turnstile::{Sides, Turnstile};
-use sd_boxq::BoxQueue;
+use sd_boxq::{BoxQueue, Boxed};
 use std::marker::Model;
 
 /// A list of spare turnstiles, whose queues are empty. Contracts see it as their number.
 #[derive(Drop)]
 pub struct Rack<T> {
-    spares: BoxQueue<Sides<T>>,
+    spares: BoxQueue<Boxed<Sides<T>>>,
     // How many there are, modulo 2^64, so that no count has to fit.
     count: usize,
 }

@@ -4,7 +4,7 @@ ghost use Rattle.std.specs.Option.{option_copied, option_map};
 ghost use Rattle.sd_boxq.specs.Order.{insert_ranked, find_id, drop_id, IsRanked};
 ghost use Rattle.sd_turnstile.specs.Waiters.{nobody, IsIdle, on_side, with_side, waiter_count, find_in, higher, highest_waiter, without_id};
 
-use sd_boxq::{BoxQueue, Node, Ranked};
+use sd_boxq::{BoxQueue, Boxed, Node, Ranked};
 use sd_types::Side;
 use std::alloc::{AllocError, Global};
 use std::marker::Model;
@@ -24,10 +24,11 @@ impl<T> Model for Sides<T> {
     ghost view = { λ s. record { writers = s.writers; readers = s.readers } };
 }
 
-/// The queue of the writers and the queue of the readers that wait for one lock, in one box.
+/// The queue of the writers and the queue of the readers that wait for one lock. They lie behind a box of their own, so that a turnstile goes
+/// from place to place by its addresses.
 #[derive(Drop)]
 pub struct Turnstile<T> {
-    sides: Node<Sides<T>>,
+    sides: Node<Boxed<Sides<T>>>,
 }
 
 impl<T> Model for Turnstile<T> {
@@ -135,13 +136,14 @@ impl<T> Turnstile<T> {
         T: Drop,
         ensures { IfOk result (λ t. t ≡ nobody) }
     {
-        let sides = Node::node(
+        let sides = Boxed::new(
             alloc,
             Sides {
                 writers: BoxQueue::new(),
                 readers: BoxQueue::new(),
             },
         )?;
+        let sides = Node::node(alloc, sides)?;
         Ok(Turnstile { sides })
     }
 
@@ -149,14 +151,14 @@ impl<T> Turnstile<T> {
     pub(crate) fn is_idle(&self) -> bool
         ensures { IsTrue result ↔ IsIdle self.now }
     {
-        self.sides.item().is_idle()
+        self.sides.item().get().is_idle()
     }
 
     /// The first waiter at a side.
     pub(crate) fn first(&self, side: Side) -> Option<&T>
         ensures { option_copied result ≡ slice_get (on_side self.now side) 0 }
     {
-        self.sides.item().first(side)
+        self.sides.item().get().first(side)
     }
 
     /// Takes the first waiter at a side.
@@ -164,7 +166,7 @@ impl<T> Turnstile<T> {
         ensures taken { result ≡ slice_get (on_side self.old side) 0 }
         ensures rest { self.new ≡ with_side self.old side (drop 1 (on_side self.old side)) }
     {
-        let sides = self.sides.item_mut();
+        let sides = self.sides.item_mut().get_mut();
         sides.pop(side)
     }
 
@@ -173,11 +175,11 @@ impl<T> Turnstile<T> {
         requires { waiter_count self.now < 2 ^ 32 }
         ensures { result ≡ waiter_count self.now }
     {
-        self.sides.item().len()
+        self.sides.item().get().len()
     }
 
     /// The box of the two queues.
-    pub(crate) fn into_sides(self) -> Node<Sides<T>>
+    pub(crate) fn into_sides(self) -> Node<Boxed<Sides<T>>>
         ensures { result ≡ self }
     {
         let Turnstile { sides } = self;
@@ -185,7 +187,7 @@ impl<T> Turnstile<T> {
     }
 
     /// A turnstile of this box.
-    pub(crate) fn from_sides(sides: Node<Sides<T>>) -> Turnstile<T>
+    pub(crate) fn from_sides(sides: Node<Boxed<Sides<T>>>) -> Turnstile<T>
         ensures { result ≡ sides }
     {
         Turnstile { sides }
@@ -197,7 +199,7 @@ impl<T: Ranked> Turnstile<T> {
     pub(crate) fn insert(&mut self, side: Side, n: Node<T>)
         ensures { self.new ≡ with_side self.old side (insert_ranked T.rank T.key n (on_side self.old side)) }
     {
-        let sides = self.sides.item_mut();
+        let sides = self.sides.item_mut().get_mut();
         sides.insert(side, n);
     }
 
@@ -206,7 +208,7 @@ impl<T: Ranked> Turnstile<T> {
         ensures taken { result ≡ find_id T.id id (on_side self.old side) }
         ensures rest { self.new ≡ with_side self.old side (drop_id T.id id (on_side self.old side)) }
     {
-        let sides = self.sides.item_mut();
+        let sides = self.sides.item_mut().get_mut();
         sides.take_first(side, id)
     }
 
@@ -214,7 +216,7 @@ impl<T: Ranked> Turnstile<T> {
     pub(crate) fn find(&self, side: Side, id: u32) -> Option<&T>
         ensures { option_copied result ≡ find_id T.id id (on_side self.now side) }
     {
-        self.sides.item().find(side, id)
+        self.sides.item().get().find(side, id)
     }
 
     /// The greatest rank of the waiters.
@@ -253,7 +255,7 @@ impl<T: Ranked> Turnstile<T> {
     fn rank_of_first_but(&self, side: Side, id: u32) -> Option<u8>
         ensures { result ≡ option_map T.rank (slice_get (drop_id T.id id (on_side self.now side)) 0) }
     {
-        match self.sides.item().first_but(side, id) {
+        match self.sides.item().get().first_but(side, id) {
             None => None,
             Some(item) => Some(item.rank()),
         }
