@@ -19,6 +19,7 @@ pub fn fx_global(s: &FxState) -> u8
 /// A tick of the running thread: `left` falls by one, unless the quantum is infinite. Returns true exactly where the
 /// quantum has expired; `left` is then the full quantum again.
 #[tactic(auto, unfolding(sd_rules::specs::ClassRules::fx_tick))]
+#[inline(always)]
 pub fn fx_tick(s: &mut FxState, t: &FixedTable) -> bool
     ensures state { s.new ≡ fx_tick t.now s.old }
     ensures expired { result ≡ quantum_expires s.old.quantum s.old.left }

@@ -21,6 +21,7 @@ pub fn rt_global(s: &RtState) -> u8
 /// A tick of the running thread: `left` falls by one, unless the quantum is infinite. Returns true exactly where the
 /// quantum has expired; `left` is then the full quantum again.
 #[tactic(auto, unfolding(sd_rules::specs::ClassRules::rt_tick))]
+#[inline(always)]
 pub fn rt_tick(s: &mut RtState, t: &FixedTable) -> bool
     ensures state { s.new ≡ rt_tick t.now s.old }
     ensures expired { result ≡ quantum_expires s.old.quantum s.old.left }

@@ -23,7 +23,7 @@ pub use choosing::{neighbours, put_chosen, victim_for};
 pub use classes::{aged_class, class_expires, class_requeue, ticked_class, woken_class};
 pub use dispatching::{dispatch_plan, leave_plan, search_event};
 pub use marks::{mark_over, remark};
-pub use placing::{put, put_as, put_where};
+pub use placing::{put, put_where, put_with};
 pub use reading::{Reading, hints_fit, reads_for, reads_to_steal};
 pub use requeueing::{reordered, requeue};
 pub use running::{dispatched, done, idled, preempted, sent_away, spun, stolen, ticked, yielded};

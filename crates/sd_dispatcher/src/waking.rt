@@ -9,8 +9,8 @@ ghost use Rattle.sd_store.specs.Words.{DoesBy, Lacks, LacksBy, Tells};
 
 use crate::bodies::{class_in, eff_in};
 use crate::classes::woken_class;
-use crate::placing::put_as;
-use sd_store::{Look, Store, set_class};
+use crate::placing::put_with;
+use sd_store::{Look, Store};
 use sd_types::{Put, ThreadId, Work};
 
 /// The effective priority of a thread after its wakeup.
@@ -40,6 +40,5 @@ pub fn woken<S: Store>(
     let body = x.body(t)?;
     let class = woken_class(work, class_in(body));
     let m = eff_in(&class, body);
-    set_class(x, work, t, class)?;
-    put_as(work, x, number, t, m, at)
+    put_with(work, x, number, t, class, m, at)
 }

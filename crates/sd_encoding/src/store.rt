@@ -4,7 +4,7 @@
 use crate::Ordered;
 use sd_state::LockState;
 use sd_store::{BodyChange, Chore, Destination, Never, Store};
-use sd_types::{ChanId, CpuId, LockId, Put, ThreadId, Work};
+use sd_types::{ChanId, ClassState, CpuId, LockId, Put, ThreadId, Work};
 
 impl Store for Ordered {
     fn set_duty(&mut self, c: CpuId, chore: Chore) -> Result<(), Never> {
@@ -49,6 +49,19 @@ impl Store for Ordered {
 
     fn enqueue(&mut self, work: &Work, number: u64, t: ThreadId, at: Put) -> Result<(), Never> {
         self.state.enqueue(work, number, t, at)
+    }
+
+    #[tactic(auto, unfolding(sd_machine::specs::Changes::set_class))]
+    fn enqueue_as(
+        &mut self,
+        work: &Work,
+        number: u64,
+        t: ThreadId,
+        class: ClassState,
+        at: Put,
+    ) -> Result<(), Never> {
+        self.change_body(work, t, BodyChange::Class(class))?;
+        self.enqueue(work, number, t, at)
     }
 
     fn set_lock(&mut self, l: LockId, lock: LockState) -> Result<(), Never> {

@@ -28,7 +28,7 @@ pub(crate) fn put_entry_number(n: u64, before: u64, line: &mut Line, from: usize
     ensures begin { result + length (decimal n) ≡ 20 }
     ensures stand { drop result (take 20 line.new) ≡ decimal n }
 {
-    if before < n && n - before == 1 && line[NUMBER_END - 1] < b'9' {
+    if n > 0 && n - 1 == before && line[NUMBER_END - 1] < b'9' {
         raise_last_digit(line);
         return from;
     }

@@ -2,6 +2,7 @@
 use Rattle.std.proofs.Common.{◌≡◌, ℕ, ◌+◌, ◌<◌, ◌≤◌, Bool, true, false, nat_le, List, [], ◌∷◌, length, Some, None, option_map, slice_get, refl, sym, ap, ◌∙◌, arith, ◌⊎◌, inl, inr}
 use Rattle.std.proofs.lemmas.Bool.{cases_lt}
 use Rattle.std.proofs.lemmas.Int.{ints}
+use Rattle.sd_types.specs.declared.classes.ClassState.{ClassState}
 use Rattle.sd_types.specs.declared.bodies.ThreadBody.{ThreadBody}
 use Rattle.sd_types.specs.declared.events.End.{End}
 use Rattle.sd_types.specs.declared.events.End.TheVariants.{Front, Back}
@@ -13,11 +14,13 @@ use Rattle.sd_types.specs.declared.numbers.ThreadId.{ThreadId}
 use Rattle.sd_types.specs.declared.scripts.Op.{Op}
 use Rattle.sd_types.specs.declared.works.Work.{Work}
 use Rattle.sd_record.specs.Records.{ThreadRecord}
+use Rattle.sd_state.specs.declared.states.Place.{Place}
 use Rattle.sd_state.specs.declared.states.State.{State}
 use Rattle.sd_state.specs.declared.states.ThreadState.{ThreadState}
 use Rattle.sd_state.specs.Operations.{ran, script_of}
-use Rattle.sd_state.specs.States.{no_thread, thread_of}
-use Rattle.sd_machine.specs.Changes.{key_at, place_put}
+use Rattle.sd_state.specs.States.{no_thread, thread_of, with_thread}
+use Rattle.sd_machine.specs.Bodies.{with_class}
+use Rattle.sd_machine.specs.Changes.{key_at, place_put, set_class, with_place}
 use Rattle.sd_machine.specs.Needs.{RunsOn}
 use Rattle.sd_store.specs.Bodies.{CanChange, changed}
 use Rattle.sd_store.specs.Keyless.{IsDestination, place_by}
@@ -39,7 +42,7 @@ use Rattle.sd_hand.specs.Shown.{IsListThere, StandsAt}
 use Rattle.sd_hand.specs.Steps.{list_by, list_put}
 use Rattle.sd_hand.proofs.MoveLemmas.{at_look}
 use Rattle.sd_hand.proofs.ShownLemmas.{list_shown}
-use Rattle.std.proofs.lemmas.List.{get_or_past}
+use Rattle.std.proofs.lemmas.List.{get_or_past, get_or-set_same, set-set}
 
 -- ---- a key that the entry brings
 pub key_is_new : (n : ℕ) (end : End) (look : ByNumber) (sp : ListId) → IsKeyFor n (n + 1) look sp (key_at n end)
@@ -62,6 +65,16 @@ put_there w t (OnRealTime x) = tt
 pub put_room : (w : Work) (t : ThreadId) (at : Put) (rs : List ThreadRecord) → IsRoom (list_put w t at) rs
 put_room w t (OnCpu x) rs = tt
 put_room w t (OnRealTime x) rs = tt
+
+-- a thread of the state gets a class state, and then a place: as by one change
+pub moved_as : (s : State) (t : ℕ) (class : ClassState) (place : Place) → t < length s.threads
+    → with_thread s t (record { body = with_class (thread_of s t).body class; place = place }) ≡ with_place (set_class s t class) t place
+unfolding set_class
+moved_as s t class place inside =
+    let y : ThreadState = record (thread_of s t) { body = with_class (thread_of s t).body class } in
+    let there : thread_of (with_thread s t y) t ≡ y = get_or-set_same s.threads t y no_thread inside in
+    ap (λ (xs : List ThreadState). record s { threads = xs }) (sym (set-set s.threads t y (record y { place = place })))
+    ∙ ap (λ (x : ThreadState). with_thread (with_thread s t y) t (record x { place = place })) (sym there)
 
 -- ---- a thread that leaves its processor
 pub left_list : (n : ℕ) (c : CpuId) (d : Destination) (last : CpuId) → last ≡ c → list_at last (place_by n c d) ≡ list_by c d

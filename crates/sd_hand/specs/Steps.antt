@@ -8,7 +8,8 @@ use Rattle.sd_types.specs.declared.events.Put.{Put}
 use Rattle.sd_types.specs.declared.events.Put.TheVariants.{Cpu, RealTime}
 use Rattle.sd_types.specs.declared.works.Work.{Work}
 use Rattle.sd_state.specs.declared.states.Place.TheVariants.{Running}
-use Rattle.sd_machine.specs.Bodies.{arrived, departed}
+use Rattle.sd_machine.specs.Bodies.{arrived, departed, with_class}
+
 use Rattle.sd_state.specs.States.{set_of}
 use Rattle.sd_store.specs.declared.changes.BodyChange.{BodyChange}
 use Rattle.sd_store.specs.declared.spots.Destination.{Destination}
@@ -24,12 +25,13 @@ use Rattle.sd_homes.specs.Families.{putting, taken_from, taking}
 use Rattle.sd_homes.specs.Homes.{with_body_of, with_key}
 use Rattle.sd_hand.specs.Hands.{StandsIn, edit, held}
 use Rattle.sd_hand.specs.declared.steps.Step.{Step}
-use Rattle.sd_hand.specs.declared.steps.Step.TheVariants.{Arrive, Depart, Move}
+use Rattle.sd_hand.specs.declared.steps.Step.TheVariants.{Arrive, Depart, Move, MoveAs}
 
 abbrev pub stepped : Step → ThreadRecord → ThreadRecord
 stepped (Arrive c) r = with_key (record_key (Running c)) (with_body_of (arrived c r.body) r)
 stepped (Depart count place) r = with_key (record_key place) (with_body_of (departed count r.body) r)
 stepped (Move place) r = with_key (record_key place) r
+stepped (MoveAs class place) r = with_key (record_key place) (with_body_of (with_class r.body class) r)
 
 -- the list to which a thread goes that leaves processor c
 abbrev pub list_by : CpuId → Destination → ListId

@@ -16,15 +16,16 @@ use crate::hand::Hand;
 use sd_homes::{ListId, Traveller};
 use sd_state::Place;
 use sd_store::{BodyChange, Destination, Part, set_of};
-use sd_types::{CpuId, MOST_OBJECTS, Put, ThreadId, Work};
+use sd_types::{ClassState, CpuId, MOST_OBJECTS, Put, ThreadId, Work};
 
-/// What becomes of a thread on its way: it runs on a processor, leaves one that has counted so many ticks for a place, or
-/// goes to a place.
+/// What becomes of a thread on its way: it runs on a processor, leaves one that has counted so many ticks for a place,
+/// goes to a place, or goes there with another class state.
 #[derive(Clone, Copy)]
 pub enum Step {
     Arrive(CpuId),
     Depart(u32, Place),
     Move(Place),
+    MoveAs(ClassState, Place),
 }
 
 fn take_step(traveller: &mut Traveller, step: Step)
@@ -40,6 +41,10 @@ fn take_step(traveller: &mut Traveller, step: Step)
             traveller.set_place(place);
         }
         Step::Move(place) => traveller.set_place(place),
+        Step::MoveAs(class, place) => {
+            traveller.set_class(class);
+            traveller.set_place(place);
+        }
     }
 }
 

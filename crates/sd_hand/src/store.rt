@@ -8,7 +8,7 @@ use sd_flat::duty_after;
 use sd_homes::{ListId, home_at};
 use sd_state::LockState;
 use sd_store::{BodyChange, Chore, Destination, Part, Store, duty_of, place_by, place_put, rouse};
-use sd_types::{ChanId, CpuId, LockId, Put, ThreadId, Work};
+use sd_types::{ChanId, ClassState, CpuId, LockId, Put, ThreadId, Work};
 
 impl Store for Acting {
     fn set_duty(&mut self, c: CpuId, chore: Chore) -> Result<(), Part> {
@@ -141,6 +141,29 @@ impl Store for Acting {
             Ok(_) => {
                 let place = place_put(work, number, t, at);
                 self.relocate(t, from, Step::Move(place), to);
+                Ok(())
+            }
+        }
+    }
+
+    fn enqueue_as(
+        &mut self,
+        work: &Work,
+        number: u64,
+        t: ThreadId,
+        class: ClassState,
+        at: Put,
+    ) -> Result<(), Part> {
+        let from = match self.hand.where_is(t) {
+            Err(q) => return Err(q),
+            Ok(from) => from,
+        };
+        let queue = list_put(work, t, at);
+        match self.hand.home(home_at(queue)) {
+            Err(q) => Err(q),
+            Ok(_) => {
+                let place = place_put(work, number, t, at);
+                self.relocate(t, from, Step::MoveAs(class, place), queue);
                 Ok(())
             }
         }

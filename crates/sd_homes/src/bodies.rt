@@ -34,6 +34,7 @@ fn run_tick(work: &Work, t: ThreadId, r: &mut Record)
 }
 
 /// The same, with the class state after it.
+#[inline(always)]
 fn tick(work: &Work, t: ThreadId, class: ClassState, r: &mut Record)
     ensures body { CanChangeThread work.now t.0 (Tick class) r.old.body → r.new ≡ with_body_of (changed work.now t.0 (Tick class) r.old.body) r.old }
     ensures id { r.new.id ≡ r.old.id }

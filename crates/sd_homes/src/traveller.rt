@@ -3,7 +3,7 @@
 ghost use Rattle.std.specs.Prelude.{◌≡◌, ◌+◌, ◌<◌, IfOk};
 ghost use Rattle.sd_types.specs.Priorities.{eff};
 ghost use Rattle.sd_turnstile.specs.Waiters.{IsIdle};
-ghost use Rattle.sd_machine.specs.Bodies.{arrived, departed};
+ghost use Rattle.sd_machine.specs.Bodies.{arrived, departed, with_class};
 ghost use Rattle.sd_homes.specs.Standing.{record_key};
 ghost use Rattle.sd_store.specs.Bodies.{changed};
 ghost use Rattle.sd_homes.specs.Bodies.{CanChangeThread};
@@ -16,7 +16,7 @@ use sd_record::Record;
 use sd_state::Place;
 use sd_store::BodyChange;
 use sd_turnstile::{Rack, Turnstile};
-use sd_types::{CpuId, ThreadId, Work};
+use sd_types::{ClassState, CpuId, ThreadId, Work};
 use std::alloc::{AllocError, Global};
 use std::marker::Model;
 
@@ -138,6 +138,15 @@ impl Traveller {
     {
         let record = self.node.item_mut();
         bodies::change(work, t, change, record);
+    }
+
+    /// It has this class state.
+    #[inline(always)]
+    pub fn set_class(&mut self, class: ClassState)
+        ensures { self.new ≡ with_body_of (with_class self.old.body class) self.old }
+    {
+        let record = self.node.item_mut();
+        record.body.class = class;
     }
 
     /// It is bound to a processor, or to none.

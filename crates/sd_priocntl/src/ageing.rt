@@ -3,15 +3,16 @@
 //! Source: ts_dptbl(4) (ts_maxwait, ts_lwait), Solaris Internals (ts_update).
 
 ghost use Rattle.std.specs.Prelude.{◌≡◌, ◌+◌, ◌<◌, ◌^◌, [], ◌∷◌, ⊤, option_map};
+ghost use Rattle.sd_machine.specs.Changes.{set_class};
 ghost use Rattle.sd_machine.specs.Prioritising.{age_plan, aged, lifted};
 ghost use Rattle.sd_state.specs.States.{eff_of};
 ghost use Rattle.sd_store.specs.Parts.{actor_part, cpu_part, found_parts, number, thread_part};
 ghost use Rattle.sd_store.specs.Words.{DoesBy, Lacks, LacksBy, Tells};
 
-use sd_dispatcher::{aged_class, class_in, eff_in, effective_in, put_as};
+use sd_dispatcher::{aged_class, class_in, eff_in, effective_in, put_with};
 use sd_machine::Plan;
 use sd_store::{Chore, Look, Store, set_class};
-use sd_types::{CpuId, Event, Put, ThreadId, Work};
+use sd_types::{ClassState, CpuId, Event, Put, ThreadId, Work};
 
 /// The thread that is next to be aged, if there is one.
 pub fn age_plan<L: Look>(
@@ -32,26 +33,28 @@ pub fn age_plan<L: Look>(
     }
 }
 
-/// By entry `number` thread `t` of priority `m`, where that is no longer `old`, goes to the back of the queue of processor `c`, on which it
-/// stands.
+/// By entry `number` thread `t` has this class state, and with it the priority `m`. Where that is no longer `old`, it goes to the back of the
+/// queue of processor `c`, on which it stands.
 fn lifted<S: Store>(
     work: &Work,
     x: &mut S,
     number: u64,
     c: CpuId,
     t: ThreadId,
+    class: ClassState,
     old: u8,
     m: u8,
 ) -> Result<(), S::Lack>
     requires { number < 2 ^ 62 }
-    ensures value { DoesBy number (S.shows x.old) (S.shows x.new) result (λ s. m ≡ eff_of s t.0) (λ s. lifted work.now s number c t.0 old) }
+    ensures value { DoesBy number (S.shows x.old) (S.shows x.new) result (λ s. m ≡ eff_of (set_class s t.0 class) t.0) (λ s. lifted work.now (set_class s t.0 class) number c t.0 old) }
     ensures lack { LacksBy number S.part (S.shows x.old) (S.has x.old) result (λ s. ⊤) (λ s. thread_part t ∷ cpu_part c ∷ []) }
     ensures has { S.has x.new ≡ S.has x.old }
 {
-    if m != old {
-        put_as(work, x, number, t, m, Put::Cpu(c))?;
+    if m == old {
+        set_class(x, work, t, class)
+    } else {
+        put_with(work, x, number, t, class, m, Put::Cpu(c))
     }
-    Ok(())
 }
 
 /// By entry `number` thread `t`, which is on the queue of processor `c`, has waited for another second. The next one to be
@@ -73,7 +76,6 @@ pub fn aged<S: Store>(
     let old = effective_in(body);
     let class = aged_class(work, class_in(body));
     let m = eff_in(&class, body);
-    set_class(x, work, t, class)?;
-    lifted(work, x, number, c, t, old, m)?;
+    lifted(work, x, number, c, t, class, old, m)?;
     x.set_duty(c, Chore::Age(ThreadId(t.0.saturating_add(1))))
 }

@@ -17,7 +17,7 @@ pub trait Store: Look {
     ghost use Rattle.std.specs.Prelude.{◌≡◌, ◌<◌, ◌^◌, [], ◌∷◌, ⊤};
     ghost use Rattle.sd_types.specs.declared.events.Duty.TheVariants.{Rouse};
     ghost use Rattle.sd_state.specs.States.{thread_of};
-    ghost use Rattle.sd_machine.specs.Changes.{back_key, clear_marks, count_tick, leave, place_put, run_on, set_duty, set_mark, with_body, with_place};
+    ghost use Rattle.sd_machine.specs.Changes.{back_key, clear_marks, count_tick, leave, place_put, run_on, set_class, set_duty, set_mark, with_body, with_place};
     ghost use Rattle.sd_machine.specs.Needs.{CanTick, RunsNobody, IsLock, RunsOn};
     ghost use Rattle.sd_machine.specs.Threads.{with_lock};
     ghost use Rattle.sd_store.specs.Bodies.{CanChange, changed};
@@ -113,6 +113,21 @@ pub trait Store: Look {
     fn enqueue(&mut self, work: &Work, number: u64, t: ThreadId, at: Put) -> Result<(), Self::Lack>
         requires { number < 2 ^ 62 }
         ensures value { DoesBy number (Self.shows self.old) (Self.shows self.new) result (λ s. ⊤) (λ s. with_place s t.0 (place_put work.now number t.0 at)) }
+        ensures lack { Lacks Self.part (Self.shows self.old) (Self.has self.old) result (λ s. put_parts work.now t at) }
+        ensures kept { Keeps (Self.shows self.old) (Self.shows self.new) result }
+        ensures has { Self.has self.new ≡ Self.has self.old };
+
+    /// By entry `number` thread `t` has this class state, and goes to the back of a dispatch queue.
+    fn enqueue_as(
+        &mut self,
+        work: &Work,
+        number: u64,
+        t: ThreadId,
+        class: ClassState,
+        at: Put,
+    ) -> Result<(), Self::Lack>
+        requires { number < 2 ^ 62 }
+        ensures value { DoesBy number (Self.shows self.old) (Self.shows self.new) result (λ s. ⊤) (λ s. with_place (set_class s t.0 class) t.0 (place_put work.now number t.0 at)) }
         ensures lack { Lacks Self.part (Self.shows self.old) (Self.has self.old) result (λ s. put_parts work.now t at) }
         ensures kept { Keeps (Self.shows self.old) (Self.shows self.new) result }
         ensures has { Self.has self.new ≡ Self.has self.old };

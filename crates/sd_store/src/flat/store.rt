@@ -10,7 +10,7 @@ use crate::keyless::{duty_of, place_by, place_put, rouse};
 use crate::{BodyChange, Chore, Destination, Store};
 use sd_flat::{cpu_of, is_looped, is_thread, place_of, script_of};
 use sd_state::{LockState, Place, State};
-use sd_types::{ChanId, CpuId, Duty, LockId, Put, ThreadBody, ThreadId, Work};
+use sd_types::{ChanId, ClassState, CpuId, Duty, LockId, Put, ThreadBody, ThreadId, Work};
 
 /// Where the walk goes from the owner `o`, which is looped or not, at a place.
 fn next_walk(duty: Duty, o: ThreadId, looped: bool, place: Place) -> Duty
@@ -133,6 +133,19 @@ impl Store for State {
     fn enqueue(&mut self, work: &Work, number: u64, t: ThreadId, at: Put) -> Result<(), Never> {
         sd_flat::move_to(self, t, place_put(work, number, t, at));
         Ok(())
+    }
+
+    #[tactic(auto, unfolding(sd_machine::specs::Changes::set_class))]
+    fn enqueue_as(
+        &mut self,
+        work: &Work,
+        number: u64,
+        t: ThreadId,
+        class: ClassState,
+        at: Put,
+    ) -> Result<(), Never> {
+        self.change_body(work, t, BodyChange::Class(class))?;
+        self.enqueue(work, number, t, at)
     }
 
     fn set_lock(&mut self, l: LockId, lock: LockState) -> Result<(), Never> {

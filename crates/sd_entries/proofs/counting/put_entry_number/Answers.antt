@@ -6,8 +6,8 @@ use Rattle.sd_entries.proofs.counting.put_entry_number.Goals as goal
 
 pub returns-then-line-lt57-clause-begin : goal.returns-then-line-lt57-clause-begin
 returns-then-line-lt57-clause-begin c =
-    let above = c.if-before-n.true in
-    let one = c.if-n-before-eq1.true in
+    let above = c.if-n-gt0.true in
+    let one = c.if-n-before.true in
     let e : c.args.before + 1 ≡ c.args.n = omega (arith, above, one) in
     let long : 20 ≤ length c.args.line.now = search rules in
     let fits = c.ranges.n.fits in
@@ -16,8 +16,8 @@ returns-then-line-lt57-clause-begin c =
 
 pub returns-then-line-lt57-clause-stand : goal.returns-then-line-lt57-clause-stand
 returns-then-line-lt57-clause-stand c =
-    let above = c.if-before-n.true in
-    let one = c.if-n-before-eq1.true in
+    let above = c.if-n-gt0.true in
+    let one = c.if-n-before.true in
     let e : c.args.before + 1 ≡ c.args.n = omega (arith, above, one) in
     let long : 20 ≤ length c.args.line.now = search rules in
     let fits = c.ranges.n.fits in
