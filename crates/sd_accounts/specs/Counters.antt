@@ -1,7 +1,7 @@
 -- The running counters of the accounts: what an entry adds to them, of which entries they are the counts, and the texts
 -- that are made of them.
 -- Source: this project's own.
-use Rattle.std.specs.Prelude.{◌≡◌, ℕ, ◌+◌, ◌<◌, min, Bool, true, List, ◌++◌, length, flat_map, count_by, codes, decimal, Option, Some, None, slice_get, slice_set, slice_index_or, if◌then◌else◌}
+use Rattle.std.specs.Prelude.{◌≡◌, ℕ, ◌+◌, ◌%◌, ◌^◌, ◌<◌, Bool, true, List, ◌++◌, length, flat_map, count_by, codes, decimal, Option, Some, None, slice_get, slice_set, slice_index_or, if◌then◌else◌}
 use Rattle.std.specs.List.{range_with_len}
 use Rattle.sd_types.specs.declared.events.Event.{Event}
 use Rattle.sd_types.specs.declared.events.Event.TheVariants.{Tick, Spin, Dispatch, Steal, Preempt, Away, Napend, Wake, Rouse, Unblock, Grant, SemaVWake}
@@ -20,9 +20,9 @@ use Rattle.sd_accounts.specs.declared.counters.CpuCounts.{CpuCounts}
 use Rattle.sd_accounts.specs.declared.counters.Totals.{Totals}
 use Rattle.sd_accounts.specs.declared.accounts.Accounts.{Accounts}
 
--- a count after an entry that counts or does not; it stays at the greatest number of 64 bits
+-- a count of 64 bits after an entry that counts or does not
 abbrev pub more : Bool → ℕ → ℕ
-more counts n = if counts then min (n + 1) 18446744073709551615 else n
+more counts n = if counts then (n + 1) % 2 ^ 64 else n
 
 abbrev pub no_thread_counts : ThreadCounts
 no_thread_counts = record { ticks = 0; dispatches = 0; preempts = 0; wakes = 0 }

@@ -1,5 +1,5 @@
-//! The counters of threads, processors and of the whole run, and what an entry adds to them. A counter stays at the
-//! greatest number of 64 bits; no run is so long.
+//! The counters of threads, processors and of the whole run, and what an entry adds to them. A counter has 64 bits; no run
+//! has so many entries.
 
 ghost use Rattle.std.specs.Prelude.{◌≡◌, ◌<◌, length, slice_index_or, slice_set, true};
 ghost use Rattle.sd_accounts.specs.Counters.{cpu_after, cpus_after, more, no_cpu_counts, no_thread_counts, thread_after, threads_after, totals_after};
@@ -72,7 +72,7 @@ impl Totals {
 fn more(counts: bool, n: u64) -> u64
     ensures { result ≡ more counts n }
 {
-    if counts { n.saturating_add(1) } else { n }
+    if counts { n.wrapping_add(1) } else { n }
 }
 
 #[tactic(auto, unfolding(crate::specs::Counters::thread_after))]

@@ -18,7 +18,7 @@ use sd_hand::{Acting, Actor};
 use sd_log::EntryLog;
 use sd_store::Store;
 use sd_types::{Event, MOST_ENTRIES, Stop, ThreadId, Work};
-use sd_world::{PlainWorld, reserve_entry};
+use sd_world::PlainWorld;
 
 /// What a processor has done that has all homes: its turn, or nothing.
 #[derive(Clone, Copy)]
@@ -37,7 +37,10 @@ pub(crate) fn reserve(work: &Work, world: &mut PlainWorld) -> Result<(), Stop>
     ensures room { OnOk result (0 < world.new.entries.room) }
     ensures stop { IfErr result (λ stop. stop ≡ Stop.Memory) }
 {
-    reserve_entry(&mut world.entries)
+    match world.entries.reserve() {
+        Ok(()) => Ok(()),
+        Err(_) => Err(Stop::Memory),
+    }
 }
 
 /// The thread runs for a tick on the processor that acts, which has no duty.
