@@ -9,7 +9,6 @@ use Rattle.sd_types.specs.declared.events.Put.TheVariants.{Cpu, RealTime}
 use Rattle.sd_types.specs.declared.works.Work.{Work}
 use Rattle.sd_state.specs.declared.states.Place.TheVariants.{Running}
 use Rattle.sd_machine.specs.Bodies.{arrived, departed, with_class}
-
 use Rattle.sd_state.specs.States.{set_of}
 use Rattle.sd_store.specs.declared.changes.BodyChange.{BodyChange}
 use Rattle.sd_store.specs.declared.spots.Destination.{Destination}

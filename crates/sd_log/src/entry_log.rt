@@ -90,11 +90,11 @@ impl EntryLog {
     }
 
     /// Puts an entry behind the others, for which there is room.
-    pub fn push_reserved(&mut self, cpu: CpuId, event: Event, hints: Option<Hints>)
+    pub fn push_reserved(&mut self, cpu: CpuId, event: Event, hints: &Option<Hints>)
         requires room { 0 < self.old.room }
-        ensures items { self.new.items ≡ self.old.items ++ record { number = length self.old.items; cpu = cpu; event = event; hints = hints } ∷ [] }
+        ensures items { self.new.items ≡ self.old.items ++ record { number = length self.old.items; cpu = cpu; event = event; hints = hints.now } ∷ [] }
     {
-        let short = shorten(&mut self.bytes, cpu, event, &hints);
+        let short = shorten(&mut self.bytes, cpu, event, hints);
         self.short.push_reserved(short);
     }
 

@@ -33,13 +33,13 @@ fn entries_come_out_as_they_went_in(rt: HostRuntime) -> Result<(), Fail> {
     let mut log = EntryLog::new(rt.alloc());
     assert_eq!(rt; log.len(), 0);
     log.reserve()?;
-    log.push_reserved(CpuId(3), Event::Idle, two(Which::Queued, 7, 8));
+    log.push_reserved(CpuId(3), Event::Idle, &two(Which::Queued, 7, 8));
     log.reserve()?;
-    log.push_reserved(CpuId(63), Event::Tick { t: ThreadId(9) }, None);
+    log.push_reserved(CpuId(63), Event::Tick { t: ThreadId(9) }, &None);
     log.reserve()?;
-    log.push_reserved(CpuId(5), Event::Idle, all(Which::Running, 100));
+    log.push_reserved(CpuId(5), Event::Idle, &all(Which::Running, 100));
     log.reserve()?;
-    log.push_reserved(CpuId(0), Event::Idle, two(Which::Running, 255, 0));
+    log.push_reserved(CpuId(0), Event::Idle, &two(Which::Running, 255, 0));
     log.reserve()?;
     log.push_idle(CpuId(2), 7);
     log.reserve()?;
@@ -65,7 +65,7 @@ fn many_entries_find_room(rt: HostRuntime) -> Result<(), Fail> {
         log.push_reserved(
             CpuId(k),
             Event::Idle,
-            two(Which::Queued, (k % 200) as u8, 1),
+            &two(Which::Queued, (k % 200) as u8, 1),
         );
     }
     assert_eq!(rt; log.len(), 2000);

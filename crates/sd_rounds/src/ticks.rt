@@ -63,7 +63,7 @@ fn enter_tick(
         Err(_) => unreachable!(),
     }
     actors[cpu.0 as usize] = acting.actor;
-    entries.push_reserved(cpu, Event::Tick { t }, None);
+    entries.push_reserved(cpu, Event::Tick { t }, &None);
 }
 
 /// The processor that acts, which has no duty, is idle for a tick, after it has read so many zeros.

@@ -63,7 +63,7 @@ fn shortened(alloc: Global, entries: Vec<Entry>) -> Result<EntryLog, AllocError>
             ..
         } = entry;
         log.reserve()?;
-        log.push_reserved(cpu, event, hints);
+        log.push_reserved(cpu, event, &hints);
     }
     Ok(log)
 }

@@ -44,5 +44,5 @@ pub fn enter(
         Err(_) => unreachable!(),
     }
     actors[cpu.0 as usize] = acting.actor;
-    entries.push_reserved(cpu, event, hints);
+    entries.push_reserved(cpu, event, &hints);
 }
