@@ -1,5 +1,5 @@
 -- "And", "or" and "not" of truth values.
-use Rattle.std.proofs.Common.{◌≡◌, Bool, true, false, not, ◌&&◌, ◌||◌, refl, sym, ◌∙◌}
+use Rattle.std.proofs.Common.{◌≡◌, Bool, true, false, not, ◌&&◌, ◌||◌, refl, sym}
 use Rattle.std.proofs.lemmas.Bool.{false≢true}
 
 pub and_left : (a b : Bool) → (a && b) ≡ true → a ≡ true
@@ -18,9 +18,17 @@ pub and_never : (b : Bool) → (b && false) ≡ false
 and_never true = refl
 and_never false = refl
 
+pub and_always : (b : Bool) → (b && true) ≡ b
+and_always true = refl
+and_always false = refl
+
 pub or_always : (a : Bool) → (a || true) ≡ true
 or_always true = refl
 or_always false = refl
+
+pub or_never : (a : Bool) → (a || false) ≡ true → a ≡ true
+or_never true e = refl
+or_never false e = e
 
 pub or_or_not : (a b c : Bool) → (a || b || not c) ≡ false → (a ≡ false) × (c ≡ true)
 or_or_not false false true e = (refl, refl)

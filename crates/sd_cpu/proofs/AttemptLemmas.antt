@@ -5,13 +5,13 @@ use Rattle.std.specs.List.{list_all}
 use Rattle.std.proofs.lemmas.Bool.{cases_eq, eq-eqb}
 use Rattle.std.proofs.lemmas.Bool.Decides.{nat_tests}
 use Rattle.std.proofs.lemmas.Option.{get_or_from_slice_get, slice_get_within}
+use Rattle.sd_basics.proofs.Truths.{and_never}
 use Rattle.sd_types.specs.Events.{ticks}
 use Rattle.sd_types.specs.declared.numbers.CpuId.{CpuId}
 use Rattle.sd_types.specs.declared.events.Entry.{Entry}
 use Rattle.sd_types.specs.declared.events.Event.{Event}
 use Rattle.sd_types.specs.declared.events.Hints.{Hints}
 use Rattle.sd_types.specs.declared.events.Which.{Which}
-use Rattle.sd_types.specs.declared.events.Which.TheVariants as which
 use Rattle.sd_types.specs.declared.works.Work.{Work}
 use Rattle.sd_state.specs.declared.states.CpuState.{CpuState}
 use Rattle.sd_state.specs.declared.states.State.{State}
@@ -167,11 +167,7 @@ not_all n [] i inside less = absurd (omega (arith, inside))
 not_all n (x ∷ cs) zero inside less =
     let no : nat_le n x.count ≡ false = grind (arith, nat_tests) in
     ap (λ b. b && list_all (λ (y : CpuState). nat_le n y.count) cs) no
-not_all n (x ∷ cs) (suc i) inside less = ap (λ b. nat_le n x.count && b) (not_all n cs i (omega (arith, inside)) less) ∙ none (nat_le n x.count)
-  where
-    none : (b : Bool) → (b && false) ≡ false
-    none true = refl
-    none false = refl
+not_all n (x ∷ cs) (suc i) inside less = ap (λ b. nat_le n x.count && b) (not_all n cs i (omega (arith, inside)) less) ∙ and_never (nat_le n x.count)
 
 pub another_behind : (m : Meaning) (h : List Entry) (d : ℕ) → IsGood m → MayStand m h → d < m.work.cpus → (cpu_of (after_run m h) d).count < m.acting.actor.count → may_tick m.work (after_run m h) (actor_of m).0 ≡ false
 unfolding may_tick
@@ -179,11 +175,7 @@ another_behind m h d good may there less =
     let own = own_count m h may in
     let many = (fit_reached m.work (length h) (after_run m h) (reached_by m good h may)).fits.cpus in
     ap (λ k. nat_lt k m.work.limit && list_all (λ (x : CpuState). nat_le k x.count) (after_run m h).cpus) own
-    ∙ ap (λ b. nat_lt m.acting.actor.count m.work.limit && b) (not_all m.acting.actor.count (after_run m h).cpus d (omega (arith, there, many)) less) ∙ none (nat_lt m.acting.actor.count m.work.limit)
-  where
-    none : (b : Bool) → (b && false) ≡ false
-    none true = refl
-    none false = refl
+    ∙ ap (λ b. nat_lt m.acting.actor.count m.work.limit && b) (not_all m.acting.actor.count (after_run m h).cpus d (omega (arith, there, many)) less) ∙ and_never (nat_lt m.acting.actor.count m.work.limit)
 
 -- what was found is so wherever the world may have come since
 same_state : (m m' : Meaning) (h : List Entry) → Stays m m' → {A : Type 0} (f : Work → State → CpuId → A) → f m.work (after_run m h) (actor_of m) ≡ f m'.work (after_run m' h) (actor_of m')

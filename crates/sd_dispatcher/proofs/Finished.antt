@@ -13,9 +13,9 @@ use Rattle.sd_state.specs.Operations.{op_over, script_of}
 use Rattle.sd_machine.specs.Bodies.{departed}
 use Rattle.sd_machine.specs.Changes.{back_key, finish_op, leave, unmarked}
 use Rattle.sd_machine.specs.Dispatching.{yielded}
+use Rattle.sd_machine.proofs.PlaceLemmas.{kept_place}
 use Rattle.sd_store.proofs.TickLemmas.{twice}
 use Rattle.sd_dispatcher.specs.Touched.{queue_for}
-use Rattle.sd_dispatcher.proofs.Kept.{kept_place}
 
 pub finished_left : (w : Work) (s : State) (c t : ℕ) (place : Place) → leave (finish_op w s t) c t place ≡ finish_op w (leave s c t place) t
 unfolding finish_op leave

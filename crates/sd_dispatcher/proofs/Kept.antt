@@ -20,10 +20,6 @@ use Rattle.sd_machine.specs.Threads.{best_ready, priority_of, runner}
 pub kept_op : (s : State) (u t : ℕ) (x : ThreadState) → x.body.op ≡ (thread_of s u).body.op → (thread_of (with_thread s u x) t).body.op ≡ (thread_of s t).body.op
 kept_op s u t x same = grind (arith, common_steps)
 
--- a change of one thread that keeps its place
-pub kept_place : (s : State) (u t : ℕ) (x : ThreadState) → x.place ≡ (thread_of s u).place → (thread_of (with_thread s u x) t).place ≡ (thread_of s t).place
-kept_place s u t x same = grind (arith, common_steps)
-
 -- a change of one thread that keeps its class state
 pub kept_class : (s : State) (u t : ℕ) (x : ThreadState) → x.body.class ≡ (thread_of s u).body.class → (thread_of (with_thread s u x) t).body.class ≡ (thread_of s t).body.class
 kept_class s u t x same = grind (arith, common_steps)
@@ -74,10 +70,6 @@ Keeps s r = (t : ℕ) → (thread_of r t).body.op ≡ (thread_of s t).body.op
 pub class_op : (s : State) (u : ℕ) (class : ClassState) → Keeps s (set_class s u class)
 unfolding set_class
 class_op s u class t = kept_op s u t _ refl
-
-pub class_place : (s : State) (u t : ℕ) (class : ClassState) → (thread_of (set_class s u class) t).place ≡ (thread_of s t).place
-unfolding set_class
-class_place s u t class = kept_place s u t (record (thread_of s u) { body = record (thread_of s u).body { class = class } }) refl
 
 pub put_op : (w : Work) (s : State) (n u : ℕ) (at : Put) → Keeps s (put w s n u at)
 unfolding put

@@ -1,18 +1,16 @@
 -- The priority of a thread in another class state is told by its body before: of one that has woken up, and of one that was aged.
 use Rattle.std.proofs.Common.{◌≡◌, ℕ, zero, suc, List, [], ◌∷◌, refl, sym, ap}
-use Rattle.std.specs.Prelude.{slice_index_or, slice_set}
+use Rattle.std.specs.Prelude.{slice_set}
 use Rattle.sd_types.specs.declared.classes.ClassState.{ClassState}
 use Rattle.sd_types.specs.declared.works.Work.{Work}
 use Rattle.sd_types.specs.Priorities.{eff, eff_as}
 use Rattle.sd_state.specs.declared.states.State.{State}
 use Rattle.sd_state.specs.declared.states.ThreadState.{ThreadState}
-use Rattle.sd_state.specs.States.{no_body, no_thread, thread_of, eff_of}
+use Rattle.sd_state.specs.States.{no_body, thread_of, eff_of}
 use Rattle.sd_machine.specs.Bodies.{aged_class, woken_class}
 use Rattle.sd_machine.specs.Changes.{set_class}
 use Rattle.sd_machine.specs.Sleeping.{woken_priority}
-
-abbrev read : List ThreadState → ℕ → ThreadState
-read xs t = slice_index_or xs t no_thread
+use Rattle.sd_store.proofs.TickLemmas.{read}
 
 abbrev classed : (ClassState → ClassState) → ThreadState → ThreadState
 classed f x = record x { body = record x.body { class = f x.body.class } }

@@ -1,7 +1,7 @@
 -- Where a thread runs for a tick, or leaves its processor: the parts that are ready, who runs, and the queue to which the
 -- thread goes.
 use Rattle.std.proofs.Common.{◌≡◌, ℕ, Bool, true, false, [], ◌∷◌, refl, sym, ap, ◌∙◌}
-use Rattle.std.specs.Prelude.{List, Option, Result, Ok, Err, IfOk, IfErr, nat_le}
+use Rattle.std.specs.Prelude.{List, Option, Result, Ok, Err, IfErr, nat_le}
 use Rattle.sd_types.specs.declared.numbers.CpuId.{CpuId}
 use Rattle.sd_types.specs.declared.numbers.SetId.{SetId}
 use Rattle.sd_types.specs.declared.numbers.ThreadId.{ThreadId}
@@ -20,8 +20,9 @@ use Rattle.sd_machine.specs.Changes.{clear_marks, count_tick, counted, key_at, l
 use Rattle.sd_machine.specs.Dispatching.{charge, preempted, ticked}
 use Rattle.sd_machine.specs.Needs.{CanFinish, RunsNobody}
 use Rattle.sd_machine.specs.Threads.{runner}
+use Rattle.sd_machine.proofs.PlaceLemmas.{class_place}
 use Rattle.sd_dispatcher.specs.Touched.{queue_for}
-use Rattle.sd_dispatcher.proofs.Kept.{class_place, kept_class, kept_set}
+use Rattle.sd_dispatcher.proofs.Kept.{kept_class, kept_set}
 use Rattle.sd_store.specs.declared.parts.Part.{Part}
 use Rattle.sd_store.specs.Parts.{cpu_part, ready_parts, real_time_part}
 
@@ -72,11 +73,6 @@ runs_classed s t class c runs = class_place s t.0 t.0 class ∙ runs
 pub free_unmarked : (s : State) (c d : CpuId) → RunsNobody s d → RunsNobody (clear_marks s c.0) d
 unfolding runner clear_marks
 free_unmarked s c d free = free
-
--- of what was done, something else
-pub did : {A L : Type 0} (r : Result A L) (P Q : Type 0) → (P → Q) → IfOk r (λ _. P) → IfOk r (λ _. Q)
-did (Ok a) P Q f is = f is
-did (Err q) P Q f is = tt
 
 -- what was lacking afterwards was lacking before, of a store that has the same parts
 pub missed : {A L : Type 0} (r : Result A L) (part : L → Part) (before after : Part → Bool) (P Q : L → Type 0) → after ≡ before → ((q : L) → P q → Q q)

@@ -1,8 +1,7 @@
 -- The state after an entry, of states whose keys have the same order: they have it again, whatever number the entry has in
 -- each.
-use Rattle.std.proofs.Common.{◌≡◌, ℕ, ◌+◌, ◌<◌, Bool, true, false, ◌||◌, length, ℤ, Option, Some, None, Result, Ok, Err, refl, sym, ap, arith, ◌∙◌, subst}
+use Rattle.std.proofs.Common.{◌≡◌, ℕ, ◌+◌, ◌<◌, Bool, true, false, ◌||◌, length, ℤ, Option, Some, None, Result, Ok, Err, refl, sym, ap, ◌∙◌, subst}
 use Rattle.std.specs.Prelude.{if◌then◌else◌, ⊤}
-use Rattle.std.proofs.lemmas.Grind.{common_steps}
 use Rattle.sd_types.specs.declared.numbers.ChanId.{ChanId}
 use Rattle.sd_types.specs.declared.numbers.CpuId.{CpuId}
 use Rattle.sd_types.specs.declared.numbers.LockId.{LockId}
@@ -38,6 +37,7 @@ use Rattle.sd_machine.specs.Requeueing.{reordered, reordered_at}
 use Rattle.sd_machine.specs.Sleeping.{rouse_key, roused, roused_on, woken}
 use Rattle.sd_machine.specs.Threads.{best_sleeper_below, greatest_waiting, has_ended}
 use Rattle.sd_machine.specs.Walking.{is_back, walked, willed}
+use Rattle.sd_machine.proofs.PlaceLemmas.{class_place}
 use Rattle.sd_store.specs.declared.spots.Chore.TheVariants as chore
 use Rattle.sd_store.specs.Walks.{walk_gone_on}
 use Rattle.sd_encoding.specs.Order.{OfThread, OfCpu, key_held, key_in}
@@ -105,10 +105,6 @@ module _ (n m : ℕ) (x s : State) (h : AreAlike n m x s) where
   pub answer_same : (w : Work) (t u : ℕ) (r : Request) → answer_to w x t u r ≡ answer_to w s t u r
   answer_same w t u r i = judged (uid_of w t) (is_privileged w t) (target_same w u i) r
 
-place_after_class : (s : State) (u : ℕ) (class : ClassState) → (thread_of (set_class s u class) u).place ≡ (thread_of s u).place
-unfolding set_class
-place_after_class s u class = grind (arith, common_steps)
-
 -- Thread u is given another class state, and a walk begins where it waits.
 module _ (n m : ℕ) (x s : State) (h : AreAlike n m x s) (w : Work) (c : CpuId) (u : ThreadId) (p : ℕ) (at : Option Put) (a b : ClassState) (e : a ≡ b) where
   y : State
@@ -134,8 +130,8 @@ module _ (n m : ℕ) (x s : State) (h : AreAlike n m x s) (w : Work) (c : CpuId)
       → AreAlike (n + 1) (m + 1) (walk_from (reordered w y n u.0 (eff_of x u.0) at) c u q) (walk_from (reordered w z m u.0 (eff_of s u.0) at) c u (place_with q j))
   unfolding y z
   begins (Waiting l side key) j px ps none =
-      let here : (thread_of y u.0).place ≡ Waiting l side key = place_after_class x u.0 a ∙ px in
-      let there : (thread_of z u.0).place ≡ Waiting l side j = place_after_class s u.0 b ∙ ps in
+      let here : (thread_of y u.0).place ≡ Waiting l side key = class_place x u.0 u.0 a ∙ px in
+      let there : (thread_of z u.0).place ≡ Waiting l side j = class_place s u.0 u.0 b ∙ ps in
       let begun : AreAlike n m (set_duty y c.0 (duty.Walk l u key)) (set_duty z c.0 (duty.Walk l u j)) =
       duty_step n m y z classed c.0 (duty.Walk l u key) (duty.Walk l u j) (From (OfThread u.0)) refl (sym (ap key_of_place here)) (sym (ap key_of_place there)) in
       rw (stays n (eff_of x u.0) y l side key here none, stays m (eff_of s u.0) z l side j there none) (alike_later n m (set_duty y c.0 (duty.Walk l u key)) (set_duty z c.0 (duty.Walk l u j)) begun)

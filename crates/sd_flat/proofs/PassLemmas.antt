@@ -5,7 +5,7 @@ use Rattle.std.specs.Prelude.{nat_lt}
 use Rattle.std.proofs.lemmas.List.{get_or-replicate, length-replicate}
 use Rattle.std.proofs.lemmas.Bool.{cases_Bool, cases_eq, eq-eqb}
 use Rattle.std.proofs.lemmas.Bool.Decides.{nat_tests}
-use Rattle.sd_basics.proofs.Truths.{and_never}
+use Rattle.sd_basics.proofs.Truths.{and_never, and_always}
 use Rattle.sd_types.specs.declared.numbers.CpuId.{CpuId}
 use Rattle.sd_types.specs.declared.events.Which.{Which}
 use Rattle.sd_types.specs.declared.events.Which.TheVariants.{Running as OfRunning, Queued as OfQueued}
@@ -37,12 +37,8 @@ running_on : (d : ℕ) (place : Place) → is_at d (running_at place) ≡ is_run
 running_on d (Running c) = refl
 running_on d place = refl
 
-and_true : (b : Bool) → (b && true) ≡ b
-and_true true = refl
-and_true false = refl
-
 unbound_on : (d : ℕ) (place : Place) (bound : Option CpuId) → is_at d (unbound_at place bound) ≡ (is_queued d place && is_none bound)
-unbound_on d (Queued c k) None = sym (and_true (c.0 == d))
+unbound_on d (Queued c k) None = sym (and_always (c.0 == d))
 unbound_on d (Queued c k) (Some e) = sym (and_never (c.0 == d))
 unbound_on d place bound = refl
 

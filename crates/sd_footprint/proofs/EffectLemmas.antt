@@ -1,10 +1,9 @@
 -- What each event leaves as it was: all that is not among the parts that it touches.
-use Rattle.std.proofs.Common.{◌≡◌, ℕ, ◌%◌, Bool, true, false, ◌&&◌, List, [], ◌∷◌, ◌++◌, Option, Some, None, is_none, is_some, refl, ◌∙◌, sym, subst, inl, inr}
+use Rattle.std.proofs.Common.{◌≡◌, ℕ, ◌%◌, Bool, true, false, ◌&&◌, List, Option, Some, None, is_none, is_some, refl, sym, subst, inl, inr}
 use Rattle.std.specs.Prelude.{ℤ, if◌then◌else◌, Result, Ok, Err, nat_le, nat_lt, ◌==◌}
 use Rattle.sd_types.specs.Priorities.{eff}
 use Rattle.sd_types.specs.declared.bodies.ThreadBody.{ThreadBody}
 use Rattle.sd_types.specs.declared.classes.ClassParms.{ClassParms}
-use Rattle.sd_types.specs.declared.classes.ClassState.{ClassState}
 use Rattle.sd_types.specs.declared.events.AssignAnswer.{AssignAnswer}
 use Rattle.sd_types.specs.declared.events.AssignAnswer.TheVariants as assign
 use Rattle.sd_types.specs.declared.events.BindAnswer.{BindAnswer}
@@ -34,10 +33,9 @@ use Rattle.sd_state.specs.declared.states.LockState.TheVariants.{Free, Owned, Re
 use Rattle.sd_state.specs.declared.states.Place.{Place}
 use Rattle.sd_state.specs.declared.states.Place.TheVariants.{Running, Queued, RealTime, Waiting, Ended}
 use Rattle.sd_state.specs.declared.states.State.{State}
-use Rattle.sd_state.specs.declared.states.ThreadState.{ThreadState}
-use Rattle.sd_state.specs.States.{cpu_of, no_thread, thread_of, set_of, eff_of}
+use Rattle.sd_state.specs.States.{cpu_of, thread_of, set_of, eff_of}
 use Rattle.sd_state.specs.Operations.{op_of}
-use Rattle.sd_machine.specs.Changes.{back_key, key_at, put_where, queue_place, set_class, set_duty, set_looped, set_number, with_body}
+use Rattle.sd_machine.specs.Changes.{back_key, key_at, put_where, queue_place, set_duty}
 use Rattle.sd_machine.specs.Conditions.{cv_waited, sema_counted, sema_handed, sema_taken}
 use Rattle.sd_machine.specs.Dispatching.{charge, class_counts, dispatched, done, idled, preempted, sent_away, spun, stolen, ticked, yielded}
 use Rattle.sd_machine.specs.Events.{after, drop_ageing, effect}
@@ -46,8 +44,9 @@ use Rattle.sd_machine.specs.Prioritising.{aged, answer_to, changed_by, changed_o
 use Rattle.sd_machine.specs.Requeueing.{reordered, reordered_at}
 use Rattle.sd_machine.specs.SetChanges.{assigned, called_back, cleared, joined, moved, pbound, rebound}
 use Rattle.sd_machine.specs.Sleeping.{fallen_asleep, napped, roused, roused_on, woke, woke_all, woken}
-use Rattle.sd_machine.specs.Threads.{best_sleeper, best_waiter, greatest_waiting, has_waiters, lock_of}
+use Rattle.sd_machine.specs.Threads.{best_sleeper, best_waiter, has_waiters, lock_of}
 use Rattle.sd_machine.specs.Walking.{walk_ended, walked, willed}
+use Rattle.sd_machine.proofs.PlaceLemmas.{class_place}
 use Rattle.sd_dispatcher.specs.Touched.{put_parts_if, reordered_parts}
 use Rattle.sd_priocntl.specs.Touched.{prio_parts}
 use Rattle.sd_sleep.specs.Touched.{woken_parts}
@@ -59,8 +58,8 @@ use Rattle.sd_store.specs.Parts.{IsAmong, bound_parts, put_parts}
 use Rattle.sd_footprint.specs.Changed.{ChangesOnly, HasHome, RanThere}
 use Rattle.sd_homes.specs.Standing.{home_of_place}
 use Rattle.sd_footprint.proofs.ChangeLemmas.{AreAmong, HasActor, HasCpu, HasThread, IsAway, changes_bind, changes_class, changes_close, changes_count, changes_duty, changes_either, changes_finish, changes_hold, changes_join, changes_kernel_mark, changes_leave, changes_leave_as, changes_let_go, changes_lock, changes_looped, changes_mark, changes_mark_over, changes_marks, changes_none, changes_number, changes_put, changes_remark, changes_run_on, changes_run_tick, changes_send_back, changes_then, changes_tick, changes_unbind}
-use Rattle.sd_frames.proofs.Parts.{same_item}
 use Rattle.sd_store.proofs.Among.{among_right, among_left}
+use Rattle.sd_locks.proofs.Walked.{place_kept}
 
 -- Threads that run on a processor and leave it.
 
@@ -240,17 +239,6 @@ unfolding reordered
 changes_reordered ps w first s n t old at same all =
     changes_reordered_at ps w first s n t old at (thread_of s t.0).place (subst (λ (p : Place). AreAmong (reordered_parts w first t at p) ps) (sym same) all)
 
-body_place : (s : State) (t : ℕ) (b : ThreadBody) → (thread_of (with_body s t b) t).place ≡ (thread_of s t).place
-body_place s t b = same_item (λ (x : ThreadState). x.place) s.threads no_thread t (record (thread_of s t) { body = b }) refl t
-
-walked_place : (s : State) (c : CpuId) (l : LockId) (o : ThreadId) → (thread_of (walked s c l o) o.0).place ≡ (thread_of s o.0).place
-unfolding set_number set_looped set_duty
-walked_place s c l o = body_place (set_number s o.0 l (greatest_waiting l.0 s.threads)) o.0 _ ∙ body_place s o.0 _
-
-class_place : (s : State) (t : ℕ) (class : ClassState) → (thread_of (set_class s t class) t).place ≡ (thread_of s t).place
-unfolding set_class
-class_place s t class = body_place s t _
-
 changes_walked : (ps : List Part) (s : State) (c : CpuId) (l : LockId) (o : ThreadId) → HasActor ps c.0 → HasThread ps o.0 → ChangesOnly ps s (walked s c l o)
 changes_walked ps s c l o actor is =
     changes_then ps s _ _ (changes_number ps s o.0 l _ is) (changes_then ps _ _ _ (changes_looped ps _ o.0 _ is) (changes_duty ps _ c.0 _ actor))
@@ -263,7 +251,7 @@ reordered_thread ps w s t at _ all = all _ (inl refl)
 changes_willed : (ps : List Part) (w : Work) (s : State) (n : ℕ) (c : CpuId) (l : LockId) (o : ThreadId) (at : Option Put) → HasActor ps c.0 → AreAmong (reordered_parts w s o at (thread_of s o.0).place) ps → ChangesOnly ps s (willed w s n c l o at)
 unfolding willed
 changes_willed ps w s n c l o at actor all =
-    changes_then ps s _ _ (changes_walked ps s c l o actor (reordered_thread ps w s o at (thread_of s o.0).place all)) (changes_reordered ps w s _ n o _ at (walked_place s c l o) all)
+    changes_then ps s _ _ (changes_walked ps s c l o actor (reordered_thread ps w s o at (thread_of s o.0).place all)) (changes_reordered ps w s _ n o _ at (place_kept s c l o) all)
 
 changes_walk_ended : (ps : List Part) (s : State) (c : CpuId) → HasActor ps c.0 → ChangesOnly ps s (walk_ended s c)
 unfolding walk_ended
@@ -277,7 +265,7 @@ changes_by : (ps : List Part) (w : Work) (s : State) (n : ℕ) (c : CpuId) (u : 
 changes_by ps w s n c u at (Err d) actor all = changes_none ps s
 changes_by ps w s n c u at (Ok parms) actor all =
     changes_then ps s _ _ (changes_class ps s u.0 _ (reordered_thread ps w s u at (thread_of s u.0).place all))
-    (changes_then ps _ _ _ (changes_reordered ps w s _ n u _ at (class_place s u.0 _) all) (changes_walk_from ps _ c u _ actor))
+    (changes_then ps _ _ _ (changes_reordered ps w s _ n u _ at (class_place s u.0 u.0 _) all) (changes_walk_from ps _ c u _ actor))
 
 changes_on : (ps : List Part) (w : Work) (s : State) (n : ℕ) (c : CpuId) (t : ℕ) (u : ThreadId) (at : Option Put) (o : Option Op) → HasActor ps c.0 → AreAmong (reordered_parts w s u at (thread_of s u.0).place) ps → ChangesOnly ps s (changed_on w s n c t u at o)
 changes_on ps w s n c t u at (Some (op.Prio v r)) actor all = changes_by ps w s n c u at (answer_to w s t u.0 r) actor all

@@ -1,8 +1,8 @@
 -- The thread that a search finds stands in the home where the search looks.
-use Rattle.std.proofs.Common.{◌≡◌, ◌⊎◌, ℕ, ◌%◌, Bool, true, false, ◌&&◌, ◌||◌, Some, ap, inl, inr}
+use Rattle.std.proofs.Common.{◌≡◌, ◌⊎◌, ℕ, ◌%◌, true, Some, ap, inl, inr}
 use Rattle.std.specs.Prelude.{ℤ, ◌==◌, nat_le, int_lt, is_none}
 use Rattle.std.proofs.lemmas.Bool.{eqb-true}
-use Rattle.sd_basics.proofs.Truths.{and_left}
+use Rattle.sd_basics.proofs.Truths.{and_left, or_never}
 use Rattle.sd_types.specs.declared.numbers.ChanId.{ChanId}
 use Rattle.sd_types.specs.declared.numbers.CpuId.{CpuId}
 use Rattle.sd_types.specs.declared.numbers.HomeId.TheVariants as home
@@ -16,10 +16,6 @@ use Rattle.sd_state.specs.States.{thread_of, cpu_of, is_running, is_queued, is_r
 use Rattle.sd_machine.specs.Threads.{best_queued, best_ready, best_sleeper, best_sleeper_below, best_unbound, best_waiter, first_due, is_asleep, is_asleep_below, is_due, is_ts, is_waiting_at, next_to_age, runner}
 use Rattle.sd_homes.specs.Standing.{home_of, home_of_place}
 use Rattle.sd_frames.proofs.Found.{age_found, due_found, queued_found, ready_found, runner_found, sleeper_below_found, sleeper_found, unbound_found, waiter_found}
-
-alone : (a : Bool) → (a || false) ≡ true → a ≡ true
-alone true e = cc
-alone false e = cc
 
 same_cpu : (d c : CpuId) → d.0 ≡ c.0 → home.Cpu d ≡ home.Cpu c
 same_cpu d c e = ap (λ (n : ℕ). home.Cpu (record { 0 = n })) e
@@ -49,7 +45,7 @@ running c (Running d) last e = same_cpu d c (eqb-true d.0 c.0 e)
 running c _ last e = cc
 
 ready : (c : CpuId) (q : SetId) (p : Place) (last : CpuId) → is_ready c.0 q.0 p ≡ true → (home_of_place p last ≡ home.Cpu c) ⊎ (home_of_place p last ≡ home.RealTime q)
-ready c q (Queued d key) last e = inl (same_cpu d c (eqb-true d.0 c.0 (alone (d.0 == c.0) e)))
+ready c q (Queued d key) last e = inl (same_cpu d c (eqb-true d.0 c.0 (or_never (d.0 == c.0) e)))
 ready c q (RealTime p key) last e = inr (ap (λ (n : ℕ). home.RealTime (record { 0 = n })) (eqb-true p.0 q.0 e))
 ready c q _ last e = cc
 

@@ -15,10 +15,9 @@ use Rattle.sd_state.specs.States.{cpu_of, thread_of, set_of}
 use Rattle.sd_machine.specs.Runs.{IsReached}
 use Rattle.sd_machine.specs.Shapes.{FitsFully}
 use Rattle.sd_machine.specs.Threads.{lock_of}
-use Rattle.sd_homes.specs.declared.list_id.ListId.{ListId}
-use Rattle.sd_homes.specs.declared.list_id.ListId.TheVariants.{Waits, Sleeps}
-use Rattle.sd_homes.specs.Numbers.{IsHomeOf, IsListOf}
-use Rattle.sd_homes.specs.Standing.{home_at, list_at, list_of}
+use Rattle.sd_homes.specs.Numbers.{IsListOf}
+use Rattle.sd_homes.specs.Standing.{list_at, list_of}
+use Rattle.sd_homes.proofs.NumberLemmas.{home_of_list}
 use Rattle.sd_footprint.specs.There.{IsPartThere, StandsThere}
 use Rattle.sd_invariants.specs.There.{CpusAreThere, ThreadsAreThere}
 use Rattle.sd_invariants.proofs.All.{cpus_law, threads_law}
@@ -56,11 +55,15 @@ known_reached w n s reached =
     let fit = is_fit w s whole in
     record { fits = fit.fits; owners = fit.owners; threads = threads_law w n s reached; cpus = cpus_law w n s reached; opened = whole.opened }
 
--- a list that is named after what is there is one of a home of the state
-home_there : (s : State) (sp : ListId) → IsListOf s sp → IsHomeOf s (home_at sp)
-home_there s (Waits l side) there = omega arith
-home_there s (Sleeps k) there = omega arith
-home_there s sp there = there
+-- the list of a place that is there is named after what is there
+pub list_there : (w : Work) (s : State) (last : CpuId) (p : Place) → FitsFully w s → last.0 < w.cpus → IsPlaceThere w p → IsListOf s (list_at last p)
+list_there w s last (Running c) fits ran there = subst (λ m. c.0 < m) (sym fits.cpus) there
+list_there w s last (Queued c k) fits ran there = subst (λ m. c.0 < m) (sym fits.cpus) there
+list_there w s last (RealTime p k) fits ran there = let sets = fits.sets in omega arith
+list_there w s last (Waiting l side k) fits ran there = subst (λ m. l.0 < m) (sym fits.locks) there
+list_there w s last (Asleep j k) fits ran there = subst (λ m. j.0 < m) (sym fits.chans) there
+list_there w s last (Napping c due) fits ran there = subst (λ m. c.0 < m) (sym fits.cpus) there
+list_there w s last Ended fits ran there = subst (λ m. last.0 < m) (sym fits.cpus) ran
 
 module _ (w : Work) (s : State) (known : IsKnown w s) where
   pub cpu_inside : (d : CpuId) → d.0 < w.cpus → d.0 < length s.cpus
@@ -76,20 +79,11 @@ module _ (w : Work) (s : State) (known : IsKnown w s) where
   pub thread_set : (t : ℕ) → (set_of w t).0 < length s.open_cpus
   thread_set t = set_inside (set_of w t) (set_of_there w t)
 
-  list_there : (last : CpuId) (place : Place) → last.0 < w.cpus → IsPlaceThere w place → IsListOf s (list_at last place)
-  list_there last (Running c) ran there = cpu_inside c there
-  list_there last (Queued c k) ran there = cpu_inside c there
-  list_there last (RealTime p k) ran there = set_inside p there
-  list_there last (Waiting l side k) ran there = let many = known.fits.locks in omega (arith, there, many)
-  list_there last (Asleep j k) ran there = let many = known.fits.chans in omega (arith, there, many)
-  list_there last (Napping c due) ran there = cpu_inside c there
-  list_there last Ended ran there = cpu_inside last ran
-
   pub stands_there : (t : ℕ) → StandsThere s (thread_of s t)
   stands_there t =
       let its = known.threads t in
-      let list = list_there (thread_of s t).body.last (thread_of s t).place its.last its.place in
-      record { home = home_there s (list_of (thread_of s t)) list; list = list; last = cpu_inside (thread_of s t).body.last its.last }
+      let list = list_there w s (thread_of s t).body.last (thread_of s t).place known.fits its.last its.place in
+      record { home = home_of_list s (list_of (thread_of s t)) list; list = list; last = cpu_inside (thread_of s t).body.last its.last }
 
   module _ (c : CpuId) where
     pub ready_there : (d : CpuId) → d.0 < length s.cpus → AllThere s c (ready_parts s d)

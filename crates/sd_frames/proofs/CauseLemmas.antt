@@ -1,12 +1,12 @@
 -- The event that the order of a processor's events gives has its cause in the state.
-use Rattle.std.proofs.Common.{◌≡◌, ◌≢◌, ℕ, ◌<◌, Bool, true, false, not, ◌&&◌, ◌||◌, List, [], ◌∷◌, length, Option, Some, None, is_none, inl, inr, refl, sym, ap, ◌∙◌, subst, arith, ◌==◌}
+use Rattle.std.proofs.Common.{◌≡◌, ◌≢◌, ℕ, ◌<◌, Bool, true, false, not, ◌&&◌, ◌||◌, List, length, Option, Some, None, is_none, inl, inr, refl, sym, ap, ◌∙◌, subst, arith, ◌==◌}
 use Rattle.std.specs.Prelude.{⊤, ℤ, Result, Ok, Err, MatchBool, MatchOption, All, if◌then◌else◌, nat_lt, nat_le}
 use Rattle.std.specs.List.{Contains}
 use Rattle.std.proofs.lemmas.Bool.{false≢true, eqb-true}
 use Rattle.std.proofs.lemmas.Bool.Decides.{nat_tests}
-use Rattle.std.proofs.lemmas.List.{length-replicate}
 use Rattle.std.proofs.lemmas.List.Elements.{Contains-get_or}
 use Rattle.std.proofs.lemmas.Option.{same_Some, slice_get_within, get_or_from_slice_get}
+use Rattle.sd_basics.proofs.Truths.{and_right}
 use Rattle.sd_types.specs.declared.numbers.CpuId.{CpuId}
 use Rattle.sd_types.specs.declared.numbers.ChanId.{ChanId}
 use Rattle.sd_types.specs.declared.numbers.LockId.{LockId}
@@ -22,8 +22,6 @@ use Rattle.sd_types.specs.declared.events.Event.TheVariants as event
 use Rattle.sd_types.specs.declared.events.PrioAnswer.TheVariants.{Changed}
 use Rattle.sd_types.specs.declared.events.Hints.{Hints}
 use Rattle.sd_types.specs.declared.events.Put.TheVariants.{Cpu, RealTime as OnRealTime}
-use Rattle.sd_types.specs.declared.events.Which.{Which}
-use Rattle.sd_types.specs.declared.events.Which.TheVariants as which
 use Rattle.sd_types.specs.declared.scripts.Op.{Op}
 use Rattle.sd_types.specs.declared.scripts.Op.TheVariants as op
 use Rattle.sd_types.specs.declared.scripts.Request.{Request}
@@ -46,7 +44,7 @@ use Rattle.sd_state.specs.Operations.{op_of}
 use Rattle.sd_machine.specs.Threads.{thread_id, lock_of, count_of, runner, best_ready, best_queued, best_unbound, best_waiter, best_sleeper, best_sleeper_below, first_due, next_to_age, priority_of}
 use Rattle.sd_types.specs.Priorities.{eff_as}
 use Rattle.sd_machine.specs.Changes.{cpu_put}
-use Rattle.sd_machine.specs.Choosing.{numbers_read, cpus_for, is_warm, is_settled, choice, put_on, put_chosen, neighbours, victim_for}
+use Rattle.sd_machine.specs.Choosing.{numbers_read, cpus_for, is_warm, choice, put_on, put_chosen, neighbours, victim_for}
 use Rattle.sd_machine.specs.Dispatching.{must_leave, leave_event, dispatch_plan, steal_event, search_event}
 use Rattle.sd_machine.specs.Sleeping.{woken_priority, napend_plan, wake_plan, rouse_plan}
 use Rattle.sd_machine.specs.Locking.{owner_runs, enter_event, read_event, write_event, unblock_plan, writer_priority, grant_writer_plan, is_eligible, grant_reader_plan}
@@ -57,7 +55,8 @@ use Rattle.sd_machine.specs.Conditions.{sema_p_event, sema_v_plan}
 use Rattle.sd_machine.specs.SetChanges.{closing_plan}
 use Rattle.sd_machine.specs.Plans.{first_of, duty_plan_of, duty_plan, nap_plan, ageing_plan_of, ageing_plan, op_plan, run_plan_of, run_plan, free_plan_of, cpu_plan_of, cpu_plan, or_plan, plan}
 use Rattle.sd_machine.specs.Events.{plan_event, wish, may_tick, allowed, next}
-use Rattle.sd_machine.specs.Hints.{hints_fit, plan_reads, read_for, read_of, reads, reads_for, same_which}
+use Rattle.sd_machine.specs.Hints.{hints_fit, plan_reads, read_of, reads, reads_for}
+use Rattle.sd_machine.proofs.NumberLemmas.{placed_numbers, search_numbers}
 use Rattle.sd_frames.specs.Causes.{GivesWay, Runs, IsIdle, IsOpenIdle, Acts, Leaves, IsPut, IsCause}
 use Rattle.sd_rules.proofs.ChoiceLemmas.{Contains-from_among}
 
@@ -67,30 +66,14 @@ chosen_among : (cpus : List CpuId) (numbers : List ℕ) (last : CpuId) (warm : B
     → Contains cpus (chosen cpus numbers last warm)
 chosen_among cpus numbers last warm some same = by (warm && is_among last cpus) refl (chosen_is cpus numbers last warm some (sym same))
   where
-    among : (a b : Bool) → (a && b) ≡ true → b ≡ true
-    among true b e = e
-    among false b e = cc
-
     by : (b : Bool) → (warm && is_among last cpus) ≡ b
         → MatchBool b (chosen cpus numbers last warm ≡ last) (IsBestByHints cpus numbers last (chosen cpus numbers last warm))
         → Contains cpus (chosen cpus numbers last warm)
-    by true e is = subst (λ x. Contains cpus x) (sym is) (Contains-from_among last cpus (among warm (is_among last cpus) e))
+    by true e is = subst (λ x. Contains cpus x) (sym is) (Contains-from_among last cpus (and_right warm (is_among last cpus) e))
     by false e best =
         let (i, at, other) = best.busy.has in
         let inside = slice_get_within cpus i (chosen cpus numbers last warm) at in
         subst (λ x. Contains cpus x) (get_or_from_slice_get cpus i (chosen cpus numbers last warm) last at) (Contains-get_or cpus i last inside)
-
-fit_length : (cpus : List CpuId) (b : Bool) (w : Which) (h : Hints) → hints_fit (if b then None else Some (w, cpus)) (Some h) ≡ true → length h.numbers.items ≡ length cpus
-fit_length cpus true w h e = cc
-fit_length cpus false w h e = eqb-true (length h.numbers.items) (length cpus) (right (same_which w h.which) _ e)
-  where
-    right : (a b : Bool) → (a && b) ≡ true → b ≡ true
-    right true b e = e
-    right false b e = cc
-
-numbers_length : (cpus : List CpuId) (last : CpuId) (warm : Bool) (h : Option Hints) → hints_fit (read_for cpus last warm) h ≡ true → length (numbers_read cpus h) ≡ length cpus
-numbers_length cpus last warm None e = length-replicate (length cpus) 0
-numbers_length cpus last warm (Some h) e = fit_length cpus (is_settled cpus last warm) which.Running h e
 
 cpu_on : (p : ℕ) (b : Option CpuId) (x : CpuId) → cpu_put (put_on p b x) ≡ x
 cpu_on p b x = elim (nat_le 100 p && is_none b) as (λ v. cpu_put (if v then OnRealTime x else Cpu x) ≡ x) [ true ↦ refl | false ↦ refl ]
@@ -99,7 +82,7 @@ choice_among : (w : Work) (s : State) (c t : ℕ) (h : Option Hints) → hints_f
 unfolding reads_for choice
 choice_among w s c t h fit some =
     chosen_among (cpus_for w s t) (numbers_read (cpus_for w s t) h) (thread_of s t).body.last (is_warm s c t) some
-    (numbers_length (cpus_for w s t) (thread_of s t).body.last (is_warm s c t) h fit)
+    (placed_numbers w s c t h fit)
 
 put_is : (w : Work) (s : State) (c t p : ℕ) (h : Option Hints) → hints_fit (reads_for w s c t) h ≡ true → IsPut w s t p (put_chosen w s c t p h)
 unfolding put_chosen
@@ -109,11 +92,6 @@ put_is w s c t p h fit =
       suits = ap (λ x. put_on p (thread_of s t).body.bound x) (sym at);
       chosen = λ some. subst (λ x. Contains (cpus_for w s t) x) (sym at) (choice_among w s c t h fit some);
     }
-
-read_length : (cpus : List CpuId) (h : Option Hints) → hints_fit (read_of cpus) h ≡ true → length cpus ≡ length (numbers_read cpus h)
-read_length cpus None e = sym (length-replicate (length cpus) 0)
-read_length [] (Some h) e = cc
-read_length (d ∷ ds) (Some h) e = sym (fit_length (d ∷ ds) false which.Queued h e)
 
 -- Plans.
 
@@ -237,7 +215,7 @@ module _ (w : Work) (s : State) (c : ℕ) (h : Option Hints) where
   unfolding victim_for
   victim_near fit v e =
       in_list (neighbours s c) (numbers_read (neighbours s c) h)
-      (victim_is (neighbours s c) (numbers_read (neighbours s c) h) (read_length (neighbours s c) h fit)) e
+      (victim_is (neighbours s c) (numbers_read (neighbours s c) h) (sym (search_numbers (neighbours s c) h fit))) e
     where
       in_list : (cpus : List CpuId) (numbers : List ℕ) → MatchOption (victim_of cpus numbers) (All (λ hint. hint ≡ 0) numbers) (IsVictim cpus numbers) → victim_of cpus numbers ≡ Some v → Contains cpus v
       in_list cpus numbers is at =
@@ -381,10 +359,6 @@ pub cause_of : (w : Work) (s : State) (c : CpuId) (h : Option Hints) (e : Event)
 unfolding next wish reads
 cause_of w s c h e serves is = by (nat_lt c.0 w.cpus && hints_fit (plan_reads w s c.0 (plan w s c.0)) h) refl is
   where
-    right : (a b : Bool) → (a && b) ≡ true → b ≡ true
-    right true b e = e
-    right false b e = cc
-
     ticked : (a b : Bool) → (not a || b) ≡ true → a ≡ true → b ≡ true
     ticked true b e is = e
     ticked false b e is = cc
@@ -396,5 +370,5 @@ cause_of w s c h e serves is = by (nat_lt c.0 w.cpus && hints_fit (plan_reads w 
 
     by : (b : Bool) → (nat_lt c.0 w.cpus && hints_fit (plan_reads w s c.0 (plan w s c.0)) h) ≡ b
         → (if b then allowed w s c.0 (plan_event w s c.0 h (plan w s c.0)) else None) ≡ Some e → IsCause w s c.0 e
-    by true ok at = inner (right (nat_lt c.0 w.cpus) _ ok) (not (ticks (plan_event w s c.0 h (plan w s c.0))) || may_tick w s c.0) refl at
+    by true ok at = inner (and_right (nat_lt c.0 w.cpus) _ ok) (not (ticks (plan_event w s c.0 h (plan w s c.0))) || may_tick w s c.0) refl at
     by false ok at = cc

@@ -1,16 +1,16 @@
 -- Where a search finds nobody, nobody stands there; and a lock has waiters exactly where somebody waits for it.
-use Rattle.std.proofs.Common.{◌≡◌, ◌≢◌, ℕ, zero, suc, ◌+◌, ◌<◌, Bool, true, false, ◌||◌, List, [], ◌∷◌, length, get_or, None, refl, sym, ◌∙◌, subst, arith}
+use Rattle.std.proofs.Common.{◌≡◌, ◌≢◌, ℕ, zero, suc, ◌<◌, Bool, true, false, ◌||◌, List, [], ◌∷◌, length, get_or, None, refl, sym, ◌∙◌, subst, arith}
 use Rattle.std.specs.List.{list_any}
 use Rattle.std.proofs.lemmas.Bool.{false≢true}
 use Rattle.sd_types.specs.declared.numbers.Side.{Side}
 use Rattle.sd_state.specs.declared.states.ThreadState.{ThreadState}
 use Rattle.sd_state.specs.declared.states.State.{State}
-use Rattle.sd_state.specs.States.{thread_of, no_thread}
-use Rattle.sd_state.specs.Best.{best_by, beats}
-use Rattle.sd_machine.specs.Threads.{is_waiting, is_waiting_at, is_asleep, best_waiter, best_sleeper, has_waiters}
+use Rattle.sd_state.specs.States.{thread_of, no_thread, is_running}
+use Rattle.sd_state.specs.Best.{best_by, beats, running}
+use Rattle.sd_machine.specs.Threads.{is_waiting, is_waiting_at, is_asleep, best_waiter, best_sleeper, has_waiters, runner}
 use Rattle.sd_state.proofs.BestLemmas.{IsOrder, IsBestBelow, best_by_is}
 use Rattle.sd_state.proofs.OrderLemmas.{beats_order}
-use Rattle.sd_state.proofs.Chosen.{best_below}
+use Rattle.sd_state.proofs.Chosen.{best_below, runs_none}
 
 pub none_stands : {X : Type 0} (on : X → Bool) (before : X → X → Bool) (d : X) → IsOrder before → (xs : List X) → best_by on before xs ≡ None → (k : ℕ) → k < length xs → on (get_or xs k d) ≡ false
 none_stands on before d order xs none k inside =
@@ -57,3 +57,7 @@ has_waiters_at s l e = any_at (λ (x : ThreadState). is_waiting l x.place) s.thr
 pub waits_has : (s : State) (l t : ℕ) → t < length s.threads → is_waiting l (thread_of s t).place ≡ true → has_waiters s l ≡ true
 unfolding has_waiters
 waits_has s l t inside e = at_any (λ (x : ThreadState). is_waiting l x.place) s.threads no_thread t inside e
+
+pub nobody_runs : (s : State) (c : ℕ) → runner s c ≡ None → (t : ℕ) → is_running c (thread_of s t).place ≡ false
+unfolding runner running
+nobody_runs s c none t = runs_none s c none t

@@ -124,6 +124,11 @@ any_held h hs i e = by (held (home_id h) hs) refl
     by None n = absurd (lies_held h hs i e n)
     by (Some g) n = (g, n)
 
+pub none_held : (k : HomeId) (hs : List (Option Home)) → how_many_held hs ≡ 0 → held k hs ≡ None
+none_held k [] e = refl
+none_held k (None ∷ hs) e = none_held k hs e
+none_held k (Some h ∷ hs) e = absurd (omega (arith, e))
+
 pub none_counted : (hs : List (Option Home)) → ((j : ℕ) → j < length hs → is_some (get_or hs j None) ≡ false) → how_many_held hs ≡ 0
 none_counted [] none = refl
 none_counted (None ∷ hs) none = none_counted hs (λ j l. none (suc j) (omega arith))

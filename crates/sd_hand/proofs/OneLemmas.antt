@@ -20,6 +20,7 @@ use Rattle.sd_homes.specs.Families.{home_id, list_in, same_home}
 use Rattle.sd_homes.specs.Kinds.{has_id}
 use Rattle.sd_hand.specs.Hands.{AreApart, IsHeld, IsIn, held}
 use Rattle.sd_homes.specs.Numbers.{IsHomeOf, IsListOf}
+use Rattle.sd_homes.proofs.NumberLemmas.{home_of_list}
 use Rattle.sd_hand.specs.OneHome.{AreAllHomes, how_often, lists_at, lists_with}
 use Rattle.sd_hand.specs.Shown.{IsHome, IsListThere}
 use Rattle.sd_hand.proofs.MoveLemmas.{at_look}
@@ -217,11 +218,6 @@ one_home t k (Some h ∷ hs) apart (g, is) each = by (same_home k (home_id h)) r
         omega (arith, here, rest)
 
 -- ---- in all homes of a state
-home_there : (s : State) (sp : ListId) → IsListOf s sp → IsHomeOf s (home_at sp)
-home_there s (Waits l side) there = omega arith
-home_there s (Sleeps k) there = omega arith
-home_there s sp there = there
-
 small_there : (s : State) (sp : ListId) → length s.locks ≤ 256 → length s.counts ≤ 256 → IsListOf s sp → IsListThere sp
 small_there s (Waits l side) locks chans there = omega (arith, locks, there)
 small_there s (Sleeps k) locks chans there = omega (arith, chans, there)
@@ -238,7 +234,7 @@ module _ (n : ℕ) (s : State) (hs : List (Option Home)) (t : ℕ) (homes : AreA
   stands_once inside there =
       let x = thread_of s t in
       let small = small_there s (list_of x) homes.locks homes.chans there in
-      one_home t (home_of x) hs homes.apart (homes.all (home_of x) (home_there s (list_of x) there))
+      one_home t (home_of x) hs homes.apart (homes.all (home_of x) (home_of_list s (list_of x) there))
       (λ h i. let k = homes.only (home_id h) (h, apart_held h hs homes.apart i) in
       often h i ∙ ap (λ o. times (λ sp. in_list sp o) (lists_at (home_id h))) (at_look s t inside) ∙ one_list s (home_id h) x.body.last x.place k small)
 

@@ -1,7 +1,7 @@
 -- The homes of a hand.
-use Rattle.std.proofs.Common.{◌≡◌, ℕ, zero, suc, ◌<◌, Bool, true, false, ◌==◌, cond, ◌||◌, is_some, inl, inr, List, [], ◌∷◌, length, get_or, set, slice_get, Option, Some, None, option_map, refl, sym, ap, ◌∙◌, arith}
+use Rattle.std.proofs.Common.{◌≡◌, ℕ, zero, suc, ◌<◌, Bool, true, false, cond, ◌||◌, is_some, inl, inr, List, [], ◌∷◌, length, get_or, set, slice_get, Option, Some, None, option_map, refl, sym, ap, ◌∙◌, arith}
 use Rattle.std.specs.Prelude.{Result, Ok, Err, IfOk, IfErr}
-use Rattle.std.proofs.lemmas.Bool.{eqb-true, eq-eqb, or_left, or_right}
+use Rattle.std.proofs.lemmas.Bool.{eqb-true, or_left, or_right}
 use Rattle.sd_basics.proofs.Numbers.{same_itself}
 use Rattle.sd_types.specs.declared.numbers.HomeId.{HomeId}
 use Rattle.sd_types.specs.declared.numbers.HomeId.TheVariants as id
@@ -41,14 +41,6 @@ same_slot (x ∷ hs) zero d g h e f = cc
 same_slot (x ∷ hs) (suc i) d g h e f = same_slot hs i d g h e f
 
 -- ---- what was done, or refused
-pub done : {A L : Type 0} (r : Result A L) (P Q : Type 0) → (P → Q) → IfOk r (λ _. P) → IfOk r (λ _. Q)
-done (Ok a) P Q f is = f is
-done (Err q) P Q f is = tt
-
-pub refused : {A L : Type 0} (r : Result A L) (P Q : Type 0) → (P → Q) → IfErr r (λ _. P) → IfErr r (λ _. Q)
-refused (Ok a) P Q f is = tt
-refused (Err q) P Q f is = f is
-
 pub either : {A L : Type 0} (r : Result A L) (P R Q : Type 0) → (P → Q) → (R → Q) → IfOk r (λ _. P) → IfErr r (λ _. R) → Q
 either (Ok a) P R Q f g made kept = f made
 either (Err q) P R Q f g made kept = g kept

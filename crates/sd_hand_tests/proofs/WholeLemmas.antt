@@ -132,12 +132,6 @@ all_same n s hs rs same apart all = record {
   chans = all.chans;
 }
 
--- ---- a hand that holds nothing
-pub none_held : (k : HomeId) (hs : List (Option Home)) → how_many_held hs ≡ 0 → held k hs ≡ None
-none_held k [] e = refl
-none_held k (None ∷ hs) e = none_held k hs e
-none_held k (Some h ∷ hs) e = absurd (omega (arith, e))
-
 -- ---- no more are held than there are slots
 pub most_held : (hs : List (Option Home)) → how_many_held hs ≤ length hs
 most_held [] = omega arith

@@ -7,6 +7,7 @@ pub mod ListLemmas
 pub mod LookShown
 pub mod NapShown
 pub mod NewestLemmas
+pub mod NumberLemmas
 pub mod OthersShown
 pub mod ReadyShown
 pub mod StandingLemmas

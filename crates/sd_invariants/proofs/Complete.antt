@@ -7,6 +7,7 @@ use Rattle.std.proofs.lemmas.Bool.{cases_lt, false≢true, and_from}
 use Rattle.std.proofs.lemmas.Bool.Decides.{nat_tests}
 use Rattle.std.proofs.lemmas.List.{length-map}
 use Rattle.sd_basics.proofs.Numbers.{same_itself}
+use Rattle.sd_basics.proofs.Truths.{and_right}
 use Rattle.sd_types.specs.declared.numbers.CpuId.{CpuId}
 use Rattle.sd_types.specs.declared.events.Event.{Event}
 use Rattle.sd_types.specs.declared.events.Which.{Which}
@@ -97,11 +98,7 @@ least_at (x ∷ xs) m zero inside all = by (nat_le m x.count) refl all
     by : (b : Bool) → nat_le m x.count ≡ b → (b && list_all (λ (x : CpuState). nat_le m x.count) xs) ≡ true → m ≤ x.count
     by true is rest = grind (arith, nat_tests)
     by false is rest = cc
-least_at (x ∷ xs) m (suc c) inside all = least_at xs m c (omega (arith, inside)) (right (nat_le m x.count) _ all)
-  where
-    right : (a b : Bool) → (a && b) ≡ true → b ≡ true
-    right true b e = e
-    right false b e = cc
+least_at (x ∷ xs) m (suc c) inside all = least_at xs m c (omega (arith, inside)) (and_right (nat_le m x.count) _ all)
 
 at_limit : (w : Work) (s : State) (c : ℕ) → may_tick w s c ≡ false → list_all (λ (x : CpuState). nat_le (cpu_of s c).count x.count) s.cpus ≡ true → w.limit ≤ (cpu_of s c).count
 unfolding may_tick

@@ -34,13 +34,14 @@ use Rattle.sd_machine.specs.Bodies.{aged_class}
 use Rattle.sd_machine.specs.Prioritising.{is_privileged, uid_of}
 use Rattle.sd_machine.specs.Requeueing.{requeue}
 use Rattle.sd_machine.specs.SetChanges.{bound_put, unbound_put, bind_put, bind_to, is_misbound, is_closing}
+use Rattle.sd_machine.proofs.PlaceLemmas.{is_waiter}
 use Rattle.sd_frames.specs.Causes.{Acts, WakesBest, RousesBest, IsRequeuedAt, IsAnswered, IsCause}
 use Rattle.sd_invariants.specs.Holding.{lock_state, Agreed}
 use Rattle.sd_frames.specs.Moves.{Step, put_step_if, woken_step, reordered_step, aged_step, prio_step, bind_step, step_of}
 use Rattle.sd_frames.specs.Moves.Step.{Stay, Go}
 use Rattle.sd_frames.proofs.Found.{runner_found, ready_found, queued_found, unbound_found, waiter_found, sleeper_found, sleeper_below_found, due_found, age_found}
 use Rattle.sd_frames.proofs.PlaceTable.{IsMoverThere}
-use Rattle.sd_invariants.proofs.ScriptLemmas.{is_waiter, runs_no_waiter}
+use Rattle.sd_invariants.proofs.ScriptLemmas.{runs_no_waiter}
 use Rattle.sd_state.proofs.Declared.{declared}
 use Rattle.sd_invariants.proofs.Works.{op_named}
 

@@ -31,7 +31,7 @@ use Rattle.sd_frames.proofs.SideFields.{after_keeps}
 use Rattle.std.proofs.Common.{get_or, ◌≤◌, inl, inr, ◌⊎◌, zero, suc, [], ◌∷◌, ◌||◌}
 use Rattle.std.specs.Prelude.{map, filter}
 use Rattle.std.specs.List.{range_with_len}
-use Rattle.std.proofs.lemmas.Bool.{cases_eq, cases_lt, false≢true, eqb-true}
+use Rattle.std.proofs.lemmas.Bool.{cases_eq, cases_lt, false≢true, eqb-true, eq-eqb, or_right}
 use Rattle.std.proofs.lemmas.Bool.Decides.{nat_tests}
 use Rattle.std.proofs.lemmas.List.{get_or_past, get_or-set_same, get_or-set_other}
 use Rattle.std.proofs.lemmas.List.FromFn.{get_or-map-range_with_len, length-map-range_with_len}
@@ -93,52 +93,31 @@ in_without : (x : ℕ) (c : CpuId) (xs : List CpuId) → is_in x (without_cpu c 
 in_without x c [] e = cc
 in_without x c (y ∷ ys) e = by (y.0 == c.0) refl (λ f. in_without x c ys f) e
   where
-    or_true : (b : Bool) {d : Bool} → d ≡ true → (b || d) ≡ true
-    or_true true e = refl
-    or_true false e = e
-
-    self : (a d : ℕ) → a ≡ d → (a == d) ≡ true
-    self a d same = grind (arith, nat_tests)
-
     by : (b : Bool) → (y.0 == c.0) ≡ b → (is_in x (without_cpu c ys) ≡ true → (x ≢ c.0) × (is_in x ys ≡ true)) → is_in x (if not b then (y ∷ without_cpu c ys) else without_cpu c ys) ≡ true → (x ≢ c.0) × (is_in x (y ∷ ys) ≡ true)
-    by true is more e = let (a, d) = more e in (a, or_true (y.0 == x) d)
+    by true is more e = let (a, d) = more e in (a, or_right (y.0 == x) _ d)
     by false is more e = elim (in_later x y (without_cpu c ys) e) [
-      | inl here ↦ ((λ same. false≢true (sym is ∙ self y.0 c.0 (here ∙ same))), rw (self y.0 x here) refl)
-      | inr rest ↦ let (a, d) = more rest in (a, or_true (y.0 == x) d)
+      | inl here ↦ ((λ same. false≢true (sym is ∙ eq-eqb y.0 c.0 (here ∙ same))), rw (eq-eqb y.0 x here) refl)
+      | inr rest ↦ let (a, d) = more rest in (a, or_right (y.0 == x) _ d)
     ]
 
 in_with : (x : ℕ) (c : CpuId) (xs : List CpuId) → is_in x (with_cpu_in c xs) ≡ true → (x ≡ c.0) ⊎ (is_in x xs ≡ true)
 in_with x c [] e = elim (in_later x c [] e) [ inl here ↦ inl (sym here) | inr rest ↦ absurd (false≢true rest) ]
 in_with x c (y ∷ ys) e = by (nat_lt c.0 y.0) (λ f. in_with x c ys f) e
   where
-    or_true : (b : Bool) {d : Bool} → d ≡ true → (b || d) ≡ true
-    or_true true e = refl
-    or_true false e = e
-
-    self : (a d : ℕ) → a ≡ d → (a == d) ≡ true
-    self a d same = grind (arith, nat_tests)
-
     by : (b : Bool) → (is_in x (with_cpu_in c ys) ≡ true → (x ≡ c.0) ⊎ (is_in x ys ≡ true)) → is_in x (if b then (c ∷ (y ∷ ys)) else (y ∷ with_cpu_in c ys)) ≡ true → (x ≡ c.0) ⊎ (is_in x (y ∷ ys) ≡ true)
     by true more e = elim (in_later x c (y ∷ ys) e) [ inl here ↦ inl (sym here) | inr rest ↦ inr rest ]
     by false more e = elim (in_later x y (with_cpu_in c ys) e) [
-      | inl here ↦ inr (rw (self y.0 x here) refl)
-      | inr rest ↦ elim (more rest) [ inl a ↦ inl a | inr d ↦ inr (or_true (y.0 == x) d) ]
+      | inl here ↦ inr (rw (eq-eqb y.0 x here) refl)
+      | inr rest ↦ elim (more rest) [ inl a ↦ inl a | inr d ↦ inr (or_right (y.0 == x) _ d) ]
     ]
 
 -- a rising list of numbers below m has no more than m of them
 pub rising_many : (n m : ℕ) (xs : List CpuId) → n ≤ m → IsRising n xs → ((c : ℕ) → is_in c xs ≡ true → c < m) → length xs + n ≤ m
 rising_many n m [] le r below = omega (arith, le)
 rising_many n m (x ∷ xs) le (a, r) below =
-    let here : x.0 < m = below x.0 (rw (self x.0) refl) in
-    let rest : length xs + (x.0 + 1) ≤ m = rising_many (x.0 + 1) m xs (omega (arith, here)) r (λ c e. below c (or_true (x.0 == c) e)) in
+    let here : x.0 < m = below x.0 (rw (eq-eqb x.0 x.0 refl) refl) in
+    let rest : length xs + (x.0 + 1) ≤ m = rising_many (x.0 + 1) m xs (omega (arith, here)) r (λ c e. below c (or_right (x.0 == c) _ e)) in
     omega (arith, rest, a)
-  where
-    self : (d : ℕ) → (d == d) ≡ true
-    self d = grind (arith, nat_tests)
-
-    or_true : (b : Bool) {d : Bool} → d ≡ true → (b || d) ≡ true
-    or_true true e = refl
-    or_true false e = e
 
 with_length : (c : CpuId) (xs : List CpuId) → length (with_cpu_in c xs) ≡ length xs + 1
 with_length c [] = refl

@@ -2,6 +2,7 @@
 use Rattle.std.proofs.Common.{◌≡◌, ℕ, ◌+◌, ◌<◌, ◌≤◌, ◌^◌, Bool, true, false, not, ◌||◌, List, [], ◌∷◌, length, Option, Some, None, refl, ap, ◌∙◌, subst, inl, inr, arith}
 use Rattle.std.specs.Prelude.{filter, if◌then◌else◌, ◌==◌, IfSome, ℤ}
 use Rattle.std.specs.List.{Contains}
+use Rattle.std.proofs.lemmas.Bool.{or_right}
 use Rattle.sd_basics.proofs.Numbers.{same_itself}
 use Rattle.sd_types.specs.declared.numbers.ChanId.{ChanId}
 use Rattle.sd_types.specs.declared.numbers.CpuId.{CpuId}
@@ -37,6 +38,7 @@ use Rattle.sd_machine.specs.Choosing.{neighbours}
 use Rattle.sd_machine.specs.Events.{next}
 use Rattle.sd_machine.specs.Needs.{IsThread, IsLock, IsChan, IsCpu, IsSet, IsPut, IsPutIf, IsWoken, RunsThere, Runs, CanAct, IsPrioPut, IsUnmoved, IsBindPut, CanUnbind, CanBeChanged, CanBeBound, Needs}
 use Rattle.sd_machine.specs.Runs.{IsReached}
+use Rattle.sd_machine.proofs.PlaceLemmas.{is_waiter}
 use Rattle.sd_frames.specs.Causes.{Acts, WakesBest, RousesBest, IsRequeuedAt, IsAnswered, IsCause}
 use Rattle.sd_frames.specs.Passing.{pass_of}
 use Rattle.sd_invariants.specs.Laws.{is_in}
@@ -48,7 +50,6 @@ use Rattle.sd_frames.proofs.HoldTable.{bound_part}
 use Rattle.sd_invariants.proofs.Movers.{owner_thread, prio_thread, bind_thread, requeued_at_away}
 use Rattle.sd_invariants.proofs.OpenLemmas.{join_room}
 use Rattle.sd_invariants.proofs.Ready.{ready_cause, maker_inside}
-use Rattle.sd_invariants.proofs.ScriptLemmas.{is_waiter}
 use Rattle.sd_invariants.proofs.Whole.{IsWhole, reached_whole, threads_most, is_fit, one_more, binds, woken_there, roused_there, receives, inherits, runs_on, acts_on, takes, naps}
 use Rattle.sd_invariants.specs.There.{IsSetThere, IsBoundThere}
 use Rattle.sd_invariants.proofs.Named.{acts_named, sleep_chan, sema_chan, enter_lock, read_lock, exit_lock, wait_chan, wait_lock, assign_cpu, assign_set, bind_cpu, wants_lock}
@@ -61,17 +62,13 @@ later : (a : Bool) {b d : Bool} → (b ≡ true → d ≡ true) → (a || b) ≡
 later true f e = refl
 later false f e = f e
 
-either : (a : Bool) {d : Bool} → d ≡ true → (a || d) ≡ true
-either true e = refl
-either false e = e
-
 pub in_filter : (p : CpuId → Bool) (c : ℕ) (xs : List CpuId) → is_in c (filter p xs) ≡ true → is_in c xs ≡ true
 in_filter p c [] e = e
 in_filter p c (x ∷ xs) e = by (p x) (λ f. in_filter p c xs f) e
   where
     by : (a : Bool) → (is_in c (filter p xs) ≡ true → is_in c xs ≡ true) → is_in c (if a then (x ∷ filter p xs) else filter p xs) ≡ true → is_in c (x ∷ xs) ≡ true
     by true more is = later (x.0 == c) more is
-    by false more is = either (x.0 == c) (more is)
+    by false more is = or_right (x.0 == c) _ (more is)
 
 -- A thread that waits for a lock goes on waiting where its priority changes.
 

@@ -42,6 +42,7 @@ use Rattle.sd_machine.proofs.RunLemmas.{IsRun-from}
 use Rattle.sd_machine.proofs.ShapeLemmas.{IsShaped, after_shape, after_fits}
 use Rattle.sd_machine.specs.Graphs as G
 use Rattle.sd_machine.specs.Holders as H
+use Rattle.sd_machine.proofs.PlaceLemmas.{is_waiter}
 use Rattle.sd_frames.specs.Causes.{wants, IsCause}
 use Rattle.sd_frames.specs.Passing.{pass_of}
 use Rattle.sd_invariants.specs.Holding.{lock_state, table, Agreed, DutyServes}
@@ -53,7 +54,7 @@ use Rattle.sd_frames.proofs.Searches.{has_waiters_at, waiter_none}
 use Rattle.sd_frames.proofs.ReleaseLemmas.{sides_wait}
 use Rattle.sd_frames.proofs.OpTable.{ender, IsEnderThere, after_ops}
 use Rattle.sd_frames.proofs.PlaceTable.{Stepped, after_steps, step_needs}
-use Rattle.sd_invariants.proofs.ScriptLemmas.{HeldGo, is_waiter, waits_here, ender_in, after_held, scripted_by}
+use Rattle.sd_invariants.proofs.ScriptLemmas.{HeldGo, waits_here, ender_in, after_held, scripted_by}
 use Rattle.sd_invariants.proofs.Movers.{mover_there}
 use Rattle.sd_invariants.proofs.Works.{op_named}
 use Rattle.sd_invariants.proofs.AgreedAfter.{IsReady, IsNext}

@@ -1,10 +1,9 @@
 -- A thread's place in its script through each event.
-use Rattle.std.proofs.Common.{◌≡◌, ◌≢◌, ℕ, zero, suc, ◌+◌, ◌<◌, ◌≤◌, Bool, true, false, List, [], ◌∷◌, ◌++◌, length, take, Option, Some, None, refl, ◌∙◌, sym, ap, subst, arith, inl, inr}
+use Rattle.std.proofs.Common.{◌≡◌, ◌≢◌, ℕ, zero, suc, ◌+◌, ◌<◌, ◌≤◌, true, false, List, [], ◌∷◌, ◌++◌, length, take, Option, Some, None, refl, ◌∙◌, sym, ap, subst, arith, inl, inr}
 use Rattle.std.specs.Prelude.{⊤, ℤ, fold, slice_get}
 use Rattle.std.proofs.lemmas.Option.{slice_get_within, same_Some}
 use Rattle.sd_types.specs.declared.numbers.Side.{Side}
 use Rattle.sd_types.specs.declared.numbers.Side.TheVariants.{Reader}
-use Rattle.sd_types.specs.declared.events.Put.TheVariants.{Cpu, RealTime as OnRealTime}
 use Rattle.sd_types.specs.Priorities.{eff, eff_as}
 use Rattle.sd_types.specs.Scripts.{without_lock, held_after, held_by}
 use Rattle.sd_frames.specs.Causes.{wants, Acts, IsCause}
@@ -36,6 +35,7 @@ use Rattle.sd_types.specs.declared.scripts.Op.{Op}
 use Rattle.sd_types.specs.declared.scripts.Op.TheVariants as op
 use Rattle.sd_types.specs.declared.works.Work.{Work}
 use Rattle.std.specs.Prelude.{if◌then◌else◌, is_none, nat_le, ◌==◌, ◌&&◌}
+use Rattle.sd_basics.proofs.Truths.{and_left, and_right}
 use Rattle.sd_state.specs.declared.states.Place.{Place}
 use Rattle.sd_state.specs.declared.states.Place.TheVariants.{Running, Queued, RealTime, Waiting}
 use Rattle.sd_state.specs.declared.states.State.{State}
@@ -47,6 +47,7 @@ use Rattle.sd_machine.specs.Changes.{back_key, queue_place, place_put}
 use Rattle.sd_machine.specs.Dispatching.{done}
 use Rattle.sd_machine.specs.Locking.{side_of, granted}
 use Rattle.sd_machine.specs.Events.{drop_ageing, effect, after}
+use Rattle.sd_machine.proofs.PlaceLemmas.{is_waiter, put_no_waiter}
 use Rattle.sd_frames.proofs.Words.{then_same, set_duty_same, idled_same, walk_ended_same, joined_same, passed_same, spun_same, dispatched_same, stolen_same, preempted_same, sent_away_same, done_same, woken_same, roused_same, blocked_same, unblocked_same, aged_same, moved_same, ticked_same, yielded_same, napped_same, fallen_asleep_same, woke_same, woke_all_same, reprioritised_same, sema_taken_same, sema_counted_same, sema_handed_same, assigned_same, Same}
 
 -- What becomes of the locks that are held.
@@ -135,9 +136,6 @@ held_by_one : (ops : List Op) (i : ℕ) (o : Op) → slice_get ops i ≡ Some o 
 held_by_one ops i o e = ap (λ xs. fold held_after [] xs) (take_one ops i o e) ∙ fold_append (take i ops) (o ∷ []) []
 
 -- A thread that waits.
-abbrev pub is_waiter : Place → Bool
-is_waiter (Waiting l side k) = true
-is_waiter _ = false
 
 not_waiter : (p : Place) (l : LockId) (side : Side) (k : ℤ) → is_waiter p ≡ false → p ≡ Waiting l side k → ⊥
 not_waiter (Waiting m other j) l side k e is = cc
@@ -146,10 +144,6 @@ not_waiter p l side k e is = cc
 pub runs_no_waiter : (c : ℕ) (p : Place) → is_running c p ≡ true → is_waiter p ≡ false
 runs_no_waiter c (Running d) e = refl
 runs_no_waiter c p e = cc
-
-pub put_no_waiter : (w : Work) (n t : ℕ) (at : Put) → is_waiter (place_put w n t at) ≡ false
-put_no_waiter w n t (Cpu x) = refl
-put_no_waiter w n t (OnRealTime x) = refl
 
 pub queue_no_waiter : (w : Work) (t : ℕ) (c : CpuId) (k : ℤ) (b : ThreadBody) → is_waiter (queue_place w t c k b) ≡ false
 queue_no_waiter w t c k b = elim (nat_le 100 (eff b) && is_none b.bound) as (λ v. is_waiter (if v then RealTime (set_of w t) k else Queued c k) ≡ false) [ true ↦ refl | false ↦ refl ]
@@ -295,14 +289,6 @@ over_running w s r c t step o acts a away held = record {
 pub waits_here : (l : LockId) (side : Side) (p : Place) → is_waiting_at l.0 side p ≡ true → (k : ℤ) × (p ≡ Waiting l side k)
 waits_here l side (Waiting m other k) e = (k, same m other k (and_left (m.0 == l.0) _ e) (and_right (m.0 == l.0) _ e))
   where
-    and_left : (a b : Bool) → (a && b) ≡ true → a ≡ true
-    and_left true b e = refl
-    and_left false b e = cc
-
-    and_right : (a b : Bool) → (a && b) ≡ true → b ≡ true
-    and_right true b e = e
-    and_right false b e = cc
-
     side_is : (x y : Side) → same_side x y ≡ true → y ≡ x
     side_is Writer Writer e = refl
     side_is Reader Reader e = refl

@@ -108,7 +108,7 @@ more_over s r e many here a = same_more s r many a
 
 -- Counts.
 
-abbrev counts_field : State → List ℕ
+abbrev pub counts_field : State → List ℕ
 counts_field s = s.counts
 
 lower_count : (xs : List ℕ) (i j n : ℕ) → n ≤ get_or xs i 0 → get_or (set xs i n) j 0 ≤ get_or xs j 0

@@ -15,9 +15,10 @@ use Rattle.sd_frames.specs.Moves.Step.{Stay, Go}
 use Rattle.sd_frames.proofs.Found.{waiter_found}
 use Rattle.sd_frames.proofs.Searches.{has_waiters_at, waits_has, waiter_some}
 use Rattle.sd_frames.proofs.PlaceTable.{Stepped}
-use Rattle.sd_invariants.proofs.ScriptLemmas.{is_waiter, StepAway}
+use Rattle.sd_invariants.proofs.ScriptLemmas.{StepAway}
 use Rattle.sd_invariants.proofs.Movers.{MoverIs}
 use Rattle.sd_machine.proofs.Moves.{put_cases}
+use Rattle.sd_machine.proofs.PlaceLemmas.{is_waiter}
 
 -- who waits for the lock goes on waiting
 pub record Stays (s r : State) (l : ℕ) : Type 0 where

@@ -21,9 +21,9 @@ use Rattle.sd_machine.specs.Dispatching.{is_rivalled, charge}
 use Rattle.sd_state.specs.Invariants.{is_marked}
 use Rattle.sd_state.proofs.Chosen.{none_ready, best_greatest}
 use Rattle.sd_frames.proofs.Found.{runner_found}
+use Rattle.sd_frames.proofs.Searches.{nobody_runs}
 use Rattle.sd_laws.proofs.Alike.{marked_is}
 use Rattle.sd_laws.proofs.Goes.{Single}
-use Rattle.sd_laws.proofs.Joins.{nobody_runs}
 
 -- the best that is ready, as the laws of the first machine speak of it
 ready_is : (s : State) (c : ℕ) → best_ready s c ≡ best_of c (cpu_of s c).set.0 s.threads

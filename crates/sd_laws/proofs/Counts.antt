@@ -12,7 +12,6 @@ use Rattle.sd_types.specs.declared.names.Name.{Name}
 use Rattle.sd_types.specs.declared.numbers.ChanId.{ChanId}
 use Rattle.sd_types.specs.declared.numbers.CpuId.{CpuId}
 use Rattle.sd_types.specs.declared.numbers.ThreadId.{ThreadId}
-use Rattle.sd_types.specs.declared.events.AssignAnswer.TheVariants as assign
 use Rattle.sd_types.specs.declared.events.Entry.{Entry}
 use Rattle.sd_types.specs.declared.events.Event.{Event}
 use Rattle.sd_types.specs.declared.events.Event.TheVariants.{Done, Nap, Sleep, Block, CvWait, SemaP, SemaWait, SemaVCount, Assign, Joined}
@@ -40,20 +39,16 @@ use Rattle.sd_invariants.specs.Laws.{HoldsWhenReached}
 use Rattle.sd_frames.specs.Moves.{Step, step_of}
 use Rattle.sd_frames.specs.Moves.Step.{Stay, Go}
 use Rattle.sd_invariants.proofs.AgreedAfter.{IsReady}
-use Rattle.sd_frames.proofs.FieldWords as F
 use Rattle.sd_frames.proofs.PlaceTable.{Stepped}
 use Rattle.sd_invariants.proofs.Ready.{kept_reached, next_ready, opening_ready, ready_cause}
 use Rattle.sd_frames.proofs.SideFields.{after_keeps}
 use Rattle.sd_invariants.proofs.Works.{op_named}
-use Rattle.sd_invariants.proofs.SemaphoreLemmas.{joined_counts, assigned_counts}
+use Rattle.sd_invariants.proofs.SemaphoreLemmas.{assigned_counts, counts_field, joined_counts}
 use Rattle.sd_laws.specs.HistoryLaws.{put_to_sleep, runs_or_is_runnable, is_taken, is_counted_up, declared_count, chan_kind, SemaphoresAreCounted, SleepersWaitAtZero}
 use Rattle.sd_laws.proofs.Runnable.{IsLiveStep, live_step, steps_after}
 use Rattle.sd_laws.proofs.Sleepers.{sleeps, someone_asleep}
 
 -- What an event makes of the counts.
-
-abbrev counts_field : State → List ℕ
-counts_field s = s.counts
 
 abbrev CountsGo : State → State → Event → Type 0
 CountsGo s r (SemaP t k) = r.counts ≡ set s.counts k.0 (count_of s k.0 - 1)

@@ -55,11 +55,11 @@ use Rattle.sd_frames.specs.Causes.{Runs, IsPut as IsPutAt, IsRequeuedAt, WakesBe
 use Rattle.sd_frames.proofs.Found.{runner_found, ready_found, queued_found, unbound_found, waiter_found, sleeper_found, sleeper_below_found, due_found, age_found}
 use Rattle.sd_invariants.proofs.Movers.{owner_thread, prio_thread}
 use Rattle.sd_frames.proofs.PassLemmas.{drop_duties}
+use Rattle.sd_frames.proofs.Searches.{nobody_runs}
 use Rattle.sd_laws.proofs.Alike.{Weight, weight_part, heft, Calm, Alike, Weighs, Weighed, all_calm, then_calm, calm_alike, then_alike, calm_weighs, weighs_calm, weighs_alike, weighed_alike, either_calm, lock_calm, count_calm, set_duty_calm, count_tick_calm, drop_calm, finish_op_calm, run_tick_calm, hold_calm, set_class_weighs, walk_from_calm, passed_on_calm, remark_alike, charge_alike}
 use Rattle.sd_laws.proofs.Goes.{All, Others, Goes, Puts, single_back, calm_goes, goes_alike, calm_puts, weighs_puts, puts_alike, puts_to, put_puts, woken_puts, dispatched_goes, stolen_goes, sent_away_puts}
 use Rattle.sd_laws.proofs.Basics.{none_of, runs_one, running_rests}
 use Rattle.sd_laws.proofs.Calls.{some_ready, most_ready, charge_called, remark_called, tick_base, requeue_base, other_base}
-use Rattle.sd_laws.proofs.Joins.{nobody_runs}
 use Rattle.sd_laws.proofs.Outcomes.{Known, Home, IsOff, Rests, Remarks, Outcome, stays_rests, put_off, queue_off, queue_here, put_home, requeued_home, runs_at, queued_at, ready_at, queue_home, neighbour_set}
 use Rattle.sd_laws.proofs.Outcomes.Outcome.{alike, weighed, puts, leaves, comes}
 use Rattle.sd_laws.proofs.Words.{weighs_to, preempted_goes, yielded_goes, done_goes, napped_goes, asleep_goes, blocked_goes, released_weighs, cv_waited_goes, woken_weight, handed_puts, unblocked_puts, reader_puts, writer_puts, roused_puts, woke_puts_one, walked_weighs}

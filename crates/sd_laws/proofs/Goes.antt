@@ -30,8 +30,8 @@ use Rattle.sd_frames.proofs.PlaceTable.{place_part}
 use Rattle.sd_frames.proofs.HoldTable.{bound_part}
 use Rattle.sd_invariants.proofs.OpenLemmas.{place_part as set_part}
 use Rattle.sd_frames.proofs.Found.{runner_found}
+use Rattle.sd_frames.proofs.Searches.{nobody_runs}
 use Rattle.sd_laws.proofs.Alike.{Weight, weight_part, heft, marks_part, IsBusy, Keeps, busy_on, Calm, Alike, Weighs, marked_is, mark_over_alike, set_class_weighs}
-use Rattle.sd_laws.proofs.Joins.{nobody_runs}
 
 -- the processors whose marks stay: all, or all but one
 abbrev pub All : ℕ → Type 0

@@ -11,29 +11,23 @@ use Rattle.sd_types.specs.declared.works.Work.{Work}
 use Rattle.sd_state.specs.declared.states.CpuState.{CpuState}
 use Rattle.sd_state.specs.declared.states.ThreadState.{ThreadState}
 use Rattle.sd_state.specs.declared.states.State.{State}
-use Rattle.sd_state.specs.States.{no_thread, no_cpu, thread_of, cpu_of, is_running, is_queued}
-use Rattle.sd_state.specs.Best.{running, beats}
+use Rattle.sd_state.specs.States.{no_thread, no_cpu, thread_of, cpu_of, is_queued}
+use Rattle.sd_state.specs.Best.{beats}
 use Rattle.sd_state.proofs.OrderLemmas.{beats_order}
 use Rattle.sd_machine.specs.Threads.{open_of, with_open, runner, best_queued}
 use Rattle.sd_machine.specs.Changes.{with_cpu_in, close, join}
 use Rattle.sd_machine.specs.SetChanges.{cleared, assigned, joined}
 use Rattle.sd_machine.specs.Events.{drop_ageing, effect, after}
-use Rattle.sd_state.proofs.Chosen.{runs_none}
 use Rattle.sd_frames.specs.Causes.{IsCause}
 use Rattle.sd_frames.proofs.Parts.{same_item}
 use Rattle.sd_frames.proofs.CpuWords as C
 use Rattle.sd_frames.proofs.PlainWords.{drop_keeps}
 use Rattle.sd_invariants.proofs.OpenLemmas.{place_part, place_marks, places_plain, SamePlaces, cpus_same, other_place}
 use Rattle.sd_invariants.proofs.Ready.{ready_cause, reached_ready}
-use Rattle.sd_frames.proofs.Searches.{none_stands}
+use Rattle.sd_frames.proofs.Searches.{none_stands, nobody_runs}
 use Rattle.sd_laws.specs.Changes.{IsEmpty, IsJoining, SetsChangeByJoining}
 
--- where no thread is found, none runs
-pub nobody_runs : (s : State) (c : ℕ) → runner s c ≡ None → (t : ℕ) → is_running c (thread_of s t).place ≡ false
-unfolding runner running
-nobody_runs s c none t = runs_none s c none t
-
--- and none is queued
+-- where no best is found, none is queued
 pub nobody_queued : (s : State) (c : ℕ) → best_queued s c ≡ None → (t : ℕ) → t < length s.threads → is_queued c (thread_of s t).place ≡ false
 unfolding best_queued
 nobody_queued s c none t inside = none_stands (λ (x : ThreadState). is_queued c x.place) beats no_thread beats_order s.threads none t inside

@@ -31,6 +31,7 @@ use Rattle.sd_machine.specs.Changes.{back_key, place_put, set_duty}
 use Rattle.sd_machine.specs.Locking.{side_of, others_waiting, granted, granted_to_writer, granted_to_reader, one_reader_more}
 use Rattle.sd_machine.specs.LockGraph.{wait_of, owner_of, walk_of, graph}
 use Rattle.sd_machine.specs.Events.{dropped_duty, drop_ageing, effect, after}
+use Rattle.sd_machine.proofs.PlaceLemmas.{is_waiter, put_no_waiter}
 use Rattle.sd_frames.specs.Causes.{IsCause}
 use Rattle.sd_frames.specs.Passing.{pass_of}
 use Rattle.sd_invariants.specs.Holding.{lock_state, table}
@@ -48,7 +49,7 @@ use Rattle.sd_frames.proofs.PassLemmas.Woken.{more, last}
 use Rattle.sd_frames.proofs.PlaceTable.{Stepped}
 use Rattle.sd_frames.proofs.ReleaseLemmas.{Outcome, drop_shape, exit_outcome, cv_wait_outcome}
 use Rattle.sd_frames.proofs.ReleaseLemmas.Outcome.{freed, passed_on, fewer, left, nothing}
-use Rattle.sd_invariants.proofs.ScriptLemmas.{is_waiter, waits_here, put_no_waiter, away_after}
+use Rattle.sd_invariants.proofs.ScriptLemmas.{waits_here, away_after}
 use Rattle.sd_invariants.proofs.Movers.{mover_of}
 use Rattle.sd_frames.proofs.Words.{Same, then_same, plain_same}
 use Rattle.sd_laws.proofs.Begun.{duty_walk, walks_then, none_walks, block_walk}

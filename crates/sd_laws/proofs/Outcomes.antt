@@ -1,10 +1,11 @@
 -- What an event comes to, of where threads stand, of priorities and of marks; and that a thread which goes to a place belongs there.
-use Rattle.std.proofs.Common.{◌≡◌, ◌≢◌, ℕ, ◌<◌, ◌≤◌, Bool, true, false, not, ◌&&◌, ◌||◌, [], ◌∷◌, length, Option, Some, None, is_none, refl, sym, ap, ◌∙◌, subst, inl, inr, ◌⊎◌, arith, ℤ}
+use Rattle.std.proofs.Common.{◌≡◌, ◌≢◌, ℕ, ◌<◌, ◌≤◌, Bool, true, false, not, ◌&&◌, ◌||◌, length, Option, Some, None, is_none, refl, sym, ap, ◌∙◌, subst, inl, inr, ◌⊎◌, arith, ℤ}
 use Rattle.std.specs.Prelude.{if◌then◌else◌, filter, nat_lt, nat_le, ◌==◌}
 use Rattle.std.specs.List.{Contains}
 use Rattle.std.proofs.lemmas.Bool.{eqb-true}
 use Rattle.std.proofs.lemmas.Bool.Decides.{nat_tests}
 use Rattle.std.proofs.lemmas.Option.{same_Some, none-some}
+use Rattle.sd_basics.proofs.Truths.{or_never}
 use Rattle.sd_types.specs.declared.numbers.CpuId.{CpuId}
 use Rattle.sd_types.specs.declared.bodies.ThreadBody.{ThreadBody}
 use Rattle.sd_types.specs.declared.events.Put.{Put}
@@ -201,13 +202,9 @@ module _ (w : Work) (s : State) (k : Known w s) where
       bound : Option CpuId
       bound = (thread_of s t).body.bound
 
-      left : (a : Bool) → (a || false) ≡ true → a ≡ true
-      left true e = refl
-      left false e = e
-
       by : (place : Place) → BelongsAt s (set_of w t) (eff_of s t) bound place → is_ready c.0 (cpu_of s c.0).set.0 place ≡ true → ((cpu_of s c.0).set ≡ set_of w t) × ((d : CpuId) → bound ≡ Some d → d.0 ≡ c.0)
       by (Queued e key) home is =
-          let same : e ≡ c = same_cpu e c (eqb-true e.0 c.0 (left (e.0 == c.0) is)) in
+          let same : e ≡ c = same_cpu e c (eqb-true e.0 c.0 (or_never (e.0 == c.0) is)) in
           (ap (λ (y : CpuId). (cpu_of s y.0).set) (sym same) ∙ home.0, λ d at. bound_here bound (eff_of s t) e home.1 d at ∙ ap (λ (y : CpuId). y.0) same)
       by (RealTime q key) home is = (sym (same_set q (cpu_of s c.0).set (eqb-true q.0 (cpu_of s c.0).set.0 is)) ∙ home.2, λ d at. absurd (none-some d (sym home.1 ∙ at)))
       by place home is = cc

@@ -37,7 +37,8 @@ use Rattle.sd_frames.proofs.PassLemmas.{Passed as WasPassed, pass_outcome}
 use Rattle.sd_frames.proofs.PassLemmas.Passed.{to_readers, writer_next, to_nobody, otherwise}
 use Rattle.sd_frames.proofs.PlaceTable.{Stepped, step_needs, after_steps}
 use Rattle.sd_machine.specs.Accounts.{is_block}
-use Rattle.sd_invariants.proofs.ScriptLemmas.{is_waiter, runs_no_waiter, StepAway, step_away, away_after}
+use Rattle.sd_machine.proofs.PlaceLemmas.{is_waiter}
+use Rattle.sd_invariants.proofs.ScriptLemmas.{runs_no_waiter, StepAway, step_away, away_after}
 use Rattle.sd_frames.proofs.Words.{Same, then_same, is_plain, plain_same}
 use Rattle.sd_laws.proofs.ClassThreads.{But, class_thread, after_but}
 use Rattle.sd_laws.proofs.Fields.{dropped_same}

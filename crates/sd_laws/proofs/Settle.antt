@@ -32,12 +32,13 @@ use Rattle.sd_frames.proofs.Words.{of_threads}
 use Rattle.sd_frames.proofs.HoldTable.{bound_part, pbound_bound}
 use Rattle.sd_invariants.proofs.OpenLemmas.{place_part as set_part, place_marks, places_plain, cpus_same, other_place}
 use Rattle.sd_frames.proofs.PlainWords.{drop_keeps}
+use Rattle.sd_frames.proofs.Searches.{nobody_runs}
 use Rattle.sd_invariants.proofs.BoundLemmas.{threads_same}
 use Rattle.sd_invariants.proofs.Movers.{bind_put_is}
 use Rattle.sd_laws.specs.Belonging.{BelongsAt, Belongs, ThreadsBelong}
 use Rattle.sd_laws.proofs.Alike.{heft, calm_alike, drop_calm}
 use Rattle.sd_laws.proofs.Homes.{frame_belongs}
-use Rattle.sd_laws.proofs.Joins.{assigned_sets, drop_sets, nobody_runs, nobody_queued}
+use Rattle.sd_laws.proofs.Joins.{assigned_sets, drop_sets, nobody_queued}
 use Rattle.sd_laws.proofs.Outcomes.{Known, queued_at, runs_at}
 use Rattle.sd_laws.proofs.Special.{Stands, alike_stands, then_stands, joined_stands, assigned_stands, none_bound, IsBindable, bindable, unbindable, BindIs, pbound_is, place_bound, bind_place, bind_others, bind_eff, bind_kernel, pbound_kernel}
 use Rattle.sd_types.proofs.SameLemmas.{same_cpu}

@@ -19,6 +19,7 @@ use Rattle.sd_state.specs.declared.states.State.{State}
 use Rattle.sd_state.specs.States.{thread_of}
 use Rattle.sd_machine.specs.Threads.{lock_of}
 use Rattle.sd_machine.specs.LockGraph.{wait_of, owner_of, number_at, graph}
+use Rattle.sd_machine.proofs.PlaceLemmas.{is_waiter}
 use Rattle.sd_frames.specs.Moves.{Step}
 use Rattle.sd_frames.specs.Moves.Step.{Stay, Go}
 use Rattle.sd_invariants.proofs.AgreedLemmas.{locks_put}
@@ -26,7 +27,7 @@ use Rattle.sd_frames.proofs.HoldTable.{numbers_part, Goes}
 use Rattle.sd_invariants.proofs.Movers.{MoverIs}
 use Rattle.sd_frames.proofs.Parts.{same_item}
 use Rattle.sd_frames.proofs.PlaceTable.{Stepped}
-use Rattle.sd_invariants.proofs.ScriptLemmas.{is_waiter, StepAway}
+use Rattle.sd_invariants.proofs.ScriptLemmas.{StepAway}
 use Rattle.sd_frames.proofs.Words.{Same}
 
 -- Who waits.

@@ -17,7 +17,8 @@ use Rattle.sd_state.specs.Operations.{script_of}
 use Rattle.sd_machine.specs.Changes.{finish_op, let_go, set_duty}
 use Rattle.sd_machine.specs.Threads.{lock_of, has_waiters}
 use Rattle.sd_machine.specs.Locking.{release_from, released, free_or_passed}
-use Rattle.sd_dispatcher.proofs.Kept.{inside, kept_op, kept_place, kept_set, same_op, same_place}
+use Rattle.sd_machine.proofs.PlaceLemmas.{kept_place}
+use Rattle.sd_dispatcher.proofs.Kept.{inside, kept_op, kept_set, same_op, same_place}
 
 -- the threads, the counts of semaphores and the sets of the processors stay
 record Stays (s r : State) : Type 0 where

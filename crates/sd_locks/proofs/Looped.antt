@@ -1,6 +1,6 @@
 -- That a walk has come back to the owner stays so, and is noted where it is new.
 use Rattle.std.proofs.Common.{◌≡◌, ℕ, zero, suc, Bool, true, false, ◌||◌, List, [], ◌∷◌, Option, refl, sym, ap, ◌∙◌}
-use Rattle.std.specs.Prelude.{slice_index_or, slice_set}
+use Rattle.std.specs.Prelude.{slice_set}
 use Rattle.sd_basics.proofs.Truths.{or_always}
 use Rattle.sd_types.specs.Willed.{changed_number, with_willed}
 use Rattle.sd_types.specs.declared.numbers.CpuId.{CpuId}
@@ -8,15 +8,13 @@ use Rattle.sd_types.specs.declared.numbers.LockId.{LockId}
 use Rattle.sd_types.specs.declared.numbers.ThreadId.{ThreadId}
 use Rattle.sd_state.specs.declared.states.State.{State}
 use Rattle.sd_state.specs.declared.states.ThreadState.{ThreadState}
-use Rattle.sd_state.specs.States.{cpu_of, no_thread, thread_of}
+use Rattle.sd_state.specs.States.{cpu_of, thread_of}
 use Rattle.sd_machine.specs.Changes.{set_duty, set_looped, set_number}
 use Rattle.sd_machine.specs.Needs.{CanInherit}
 use Rattle.sd_machine.specs.Threads.{greatest_waiting}
 use Rattle.sd_machine.specs.Walking.{is_back, walked}
 use Rattle.sd_store.specs.Walks.{walk_gone_on}
-
-abbrev read : List ThreadState → ℕ → ThreadState
-read xs t = slice_index_or xs t no_thread
+use Rattle.sd_store.proofs.TickLemmas.{read}
 
 abbrev numbered : LockId → Option ℕ → ThreadState → ThreadState
 numbered l n x = record x { body = with_willed (changed_number l n x.body.willed.items) x.body }

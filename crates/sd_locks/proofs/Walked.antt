@@ -12,11 +12,12 @@ use Rattle.sd_state.specs.declared.states.State.{State}
 use Rattle.sd_state.specs.States.{cpu_of, thread_of}
 use Rattle.sd_machine.specs.Changes.{set_duty, set_looped, set_number}
 use Rattle.sd_machine.specs.Walking.{walked}
+use Rattle.sd_machine.proofs.PlaceLemmas.{kept_place}
 use Rattle.sd_dispatcher.specs.Touched.{reordered_parts}
-use Rattle.sd_dispatcher.proofs.Kept.{kept_place, kept_set}
+use Rattle.sd_dispatcher.proofs.Kept.{kept_set}
 use Rattle.sd_store.specs.Parts.{cpu_part, real_time_part, thread_part}
 
-place_kept : (s : State) (c : CpuId) (l : LockId) (o : ThreadId) → (thread_of (walked s c l o) o.0).place ≡ (thread_of s o.0).place
+pub place_kept : (s : State) (c : CpuId) (l : LockId) (o : ThreadId) → (thread_of (walked s c l o) o.0).place ≡ (thread_of s o.0).place
 unfolding set_duty set_looped set_number
 place_kept s c l o = kept_place (set_number s o.0 l _) o.0 o.0 _ refl ∙ kept_place s o.0 o.0 _ refl
 

@@ -3,7 +3,9 @@ pub mod CycleLemmas
 pub mod Greatest
 pub mod HolderLemmas
 pub mod Moves
+pub mod NumberLemmas
 pub mod OpeningLemmas
+pub mod PlaceLemmas
 pub mod RoundLemmas
 pub mod RunLemmas
 pub mod ShapeLemmas

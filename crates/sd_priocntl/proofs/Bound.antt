@@ -13,7 +13,8 @@ use Rattle.sd_state.specs.Operations.{script_of}
 use Rattle.sd_machine.specs.Changes.{bind, put_where, set_kernel_mark, unbind}
 use Rattle.sd_machine.specs.Needs.{CanBind}
 use Rattle.sd_machine.specs.SetChanges.{called_back, rebound}
-use Rattle.sd_dispatcher.proofs.Kept.{Keeps, inside, kept_op, kept_place, where_op}
+use Rattle.sd_machine.proofs.PlaceLemmas.{kept_place}
+use Rattle.sd_dispatcher.proofs.Kept.{Keeps, inside, kept_op, where_op}
 
 -- Operations.
 

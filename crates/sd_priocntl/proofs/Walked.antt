@@ -8,7 +8,6 @@ use Rattle.sd_types.specs.declared.numbers.ThreadId.{ThreadId}
 use Rattle.sd_types.specs.declared.classes.ClassState.{ClassState}
 use Rattle.sd_types.specs.declared.events.PrioAnswer.TheVariants.{Changed}
 use Rattle.sd_types.specs.declared.events.Put.{Put}
-use Rattle.sd_types.specs.declared.events.Put.TheVariants.{Cpu, RealTime as OnRealTime}
 use Rattle.sd_types.specs.declared.works.Work.{Work}
 use Rattle.sd_state.specs.declared.states.Place.{Place}
 use Rattle.sd_state.specs.declared.states.Place.TheVariants.{Running, Queued, RealTime, Waiting, Asleep, Napping, Ended}
@@ -19,8 +18,9 @@ use Rattle.sd_machine.specs.Changes.{cpu_put, mark_over, place_put, put, put_whe
 use Rattle.sd_machine.specs.Needs.{IsUnmoved}
 use Rattle.sd_machine.specs.Prioritising.{walk_from}
 use Rattle.sd_machine.specs.Requeueing.{reordered, reordered_at}
+use Rattle.sd_machine.proofs.PlaceLemmas.{class_place, is_waiter, put_no_waiter}
 use Rattle.sd_dispatcher.specs.Touched.{reordered_parts}
-use Rattle.sd_dispatcher.proofs.Kept.{class_place, over_threads, remark_threads, same_place}
+use Rattle.sd_dispatcher.proofs.Kept.{over_threads, remark_threads, same_place}
 use Rattle.sd_store.specs.declared.parts.Part.{Part}
 use Rattle.sd_store.specs.Parts.{IsAmong, thread_part}
 use Rattle.sd_store.specs.Walks.{walk_begun}
@@ -29,16 +29,8 @@ use Rattle.sd_priocntl.specs.Touched.{KeepsWaiting}
 
 -- Places.
 
-abbrev is_waiter : Place → Bool
-is_waiter (Waiting l side k) = true
-is_waiter _ = false
-
 apart_at : (s : State) (u : ℕ) (x : ThreadState) → is_waiter x.place ≡ false → is_waiter (thread_of s u).place ≡ false → is_waiter (thread_of (with_thread s u x) u).place ≡ false
 apart_at s u x new old = grind (arith, common_steps)
-
-put_apart : (w : Work) (n u : ℕ) (at : Put) → is_waiter (place_put w n u at) ≡ false
-put_apart w n u (Cpu x) = refl
-put_apart w n u (OnRealTime x) = refl
 
 apart_by : (p q : Place) → p ≡ q → is_waiter q ≡ false → is_waiter p ≡ false
 apart_by p q e h = ap is_waiter e ∙ h
@@ -49,7 +41,7 @@ where_apart w s n u None h = h
 where_apart w s n u (Some at) h =
     let r = with_place s u (place_put w n u at) in
     apart_by _ _ (same_place r (mark_over r (cpu_put at).0 (eff_of s u)) u (over_threads r (cpu_put at).0 (eff_of s u)))
-    (apart_at s u (record (thread_of s u) { place = place_put w n u at }) (put_apart w n u at) h)
+    (apart_at s u (record (thread_of s u) { place = place_put w n u at }) (put_no_waiter w n u at) h)
 
 reordered_apart : (w : Work) (s : State) (n u old : ℕ) (at : Option Put) → is_waiter (thread_of s u).place ≡ false → is_waiter (thread_of (reordered w s n u old at) u).place ≡ false
 unfolding reordered

@@ -4,6 +4,7 @@ use Rattle.std.specs.Prelude.{⊤, Result, Ok, Err, if◌then◌else◌, nat_lt,
 use Rattle.std.proofs.lemmas.Bool.{eqb-true}
 use Rattle.std.proofs.lemmas.Bool.Decides.{nat_tests}
 use Rattle.std.proofs.lemmas.Option.{same_Some}
+use Rattle.sd_basics.proofs.Truths.{and_right}
 use Rattle.sd_types.specs.declared.numbers.CpuId.{CpuId}
 use Rattle.sd_types.specs.declared.numbers.ChanId.{ChanId}
 use Rattle.sd_types.specs.declared.numbers.LockId.{LockId}
@@ -313,17 +314,13 @@ planned : (w : Work) (s : State) (c : CpuId) (h : Option Hints) (e : Event) → 
 unfolding next wish reads
 planned w s c h e is = by (nat_lt c.0 w.cpus && hints_fit (plan_reads w s c.0 (plan w s c.0)) h) refl is
   where
-    right : (a b : Bool) → (a && b) ≡ true → b ≡ true
-    right true b e = e
-    right false b e = cc
-
     inner : (b : Bool) → (if b then Some (plan_event w s c.0 h (plan w s c.0)) else None) ≡ Some e → plan_event w s c.0 h (plan w s c.0) ≡ e
     inner true at = same_Some (plan_event w s c.0 h (plan w s c.0)) e at
     inner false at = cc
 
     by : (b : Bool) → (nat_lt c.0 w.cpus && hints_fit (plan_reads w s c.0 (plan w s c.0)) h) ≡ b
         → (if b then allowed w s c.0 (plan_event w s c.0 h (plan w s c.0)) else None) ≡ Some e → IsPlanned w s c.0 h e
-    by true ok at = record { fit = right (nat_lt c.0 w.cpus) _ ok; is = inner (not (ticks (plan_event w s c.0 h (plan w s c.0))) || may_tick w s c.0) at }
+    by true ok at = record { fit = and_right (nat_lt c.0 w.cpus) _ ok; is = inner (not (ticks (plan_event w s c.0 h (plan w s c.0))) || may_tick w s c.0) at }
     by false ok at = cc
 
 pub tells : (w : Work) (s : State) (c : CpuId) (h : Option Hints) (e : Event) → next w s c h ≡ Some e → IsTold w s e

@@ -4,6 +4,7 @@ use Rattle.std.specs.Prelude.{nat_le, nat_lt}
 use Rattle.std.specs.List.{list_all}
 use Rattle.std.proofs.lemmas.Bool.{and_parts}
 use Rattle.std.proofs.lemmas.Bool.Decides.{nat_tests}
+use Rattle.sd_basics.proofs.Truths.{and_always}
 use Rattle.sd_types.specs.declared.events.Event.{Event}
 use Rattle.sd_types.specs.declared.numbers.CpuId.{CpuId}
 use Rattle.sd_types.specs.declared.works.Work.{Work}
@@ -36,11 +37,7 @@ module _ (w : Work) (s : State) (many : length s.cpus ≡ w.cpus) where
   unfolding may_tick
   at_floor c floor is low =
       let all = at_least (cpu_of s c).count s.cpus (λ i inside. let below = is i (subst (λ m. i < m) many inside) in omega (arith, low, below)) in
-      ap (λ b. nat_lt (cpu_of s c).count w.limit && b) all ∙ and_true (nat_lt (cpu_of s c).count w.limit)
-    where
-      and_true : (b : Bool) → (b && true) ≡ b
-      and_true true = refl
-      and_true false = refl
+      ap (λ b. nat_lt (cpu_of s c).count w.limit && b) all ∙ and_always (nat_lt (cpu_of s c).count w.limit)
 
   -- the count of one that may tick is below no other
   pub new_floor : (c : ℕ) → may_tick w s c ≡ true → IsFloor w s (cpu_of s c).count

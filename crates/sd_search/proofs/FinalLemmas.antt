@@ -1,10 +1,11 @@
 -- The states in which runs end, and what an answer rests on.
 use Rattle.std.proofs.Common.{◌≡◌, ℕ, zero, suc, ◌+◌, ◌<◌, ◌≤◌, Bool, true, false, List, [], ◌∷◌, ◌++◌, length, Some, Result, Ok, Err, get_or, refl, sym, ap, ◌∙◌, subst, arith, inl, inr, ◌⊎◌, add-one}
-use Rattle.std.specs.Prelude.{◌↔◌, if◌then◌else◌, slice_get, IfOk, IsTrue, Vec}
+use Rattle.std.specs.Prelude.{◌↔◌, if◌then◌else◌, slice_get, IfOk, IsTrue, Vec, nat_le}
 use Rattle.std.specs.declared.alloc.Global.{Global}
 use Rattle.std.proofs.lemmas.Bool.{cases_lt}
 use Rattle.std.proofs.lemmas.List.{append-nil}
 use Rattle.std.proofs.lemmas.Option.{get_or_from_slice_get, slice_get-get_or, slice_get_within}
+use Rattle.std.proofs.lemmas.Bool.Decides.{nat_tests}
 use Rattle.sd_basics.proofs.Lists.{get_more, get_last, get_cases}
 use Rattle.sd_types.specs.declared.numbers.CpuId.{CpuId}
 use Rattle.sd_types.specs.declared.events.Entry.{Entry}
@@ -21,12 +22,13 @@ use Rattle.sd_encoding.specs.Encoding.{encoded}
 use Rattle.sd_search.specs.declared.graph.Step.{Step}
 use Rattle.sd_search.specs.declared.questions.Question.{Question}
 use Rattle.sd_search.specs.Finals.{AreFinals, Ends}
-use Rattle.sd_search.specs.Graphs.{AreApart, HasEveryRun, IsAmong, IsAt, IsGathered}
+use Rattle.sd_search.specs.Graphs.{AreApart, HasEveryRun, IsAmong, IsAt, IsGathered, packed}
 use Rattle.sd_search.specs.Questions.{HasNoWitness, HasPart, IsWitness, Meets}
 use Rattle.sd_search.proofs.BackLemmas.{turned}
 use Rattle.sd_search.proofs.KeyLemmas.{keys_reached}
 use Rattle.sd_search.proofs.QuestionLemmas.{meets_same}
 use Rattle.sd_search.proofs.TellLemmas.{inside_at}
+use Rattle.sd_search.specs.declared.graph.Graph.{Graph}
 
 module _ (w : Work) (bs : List (List ℕ)) where
   -- one more, where a run ends there
@@ -173,3 +175,7 @@ pub spelled_entries : {E : Type 0} (w : Work) (bs : List (List ℕ)) (i : ℕ) (
     → IfOk r (λ v. (x : State) → IsAt bs i x → (es : List CpuId) × IsSpelled w es x × (v.items ≡ round w (opening w) 0 es))
 spelled_entries w bs i cs ds (Ok v) spelled same is = λ x at. (cs, spelled x at, is ∙ ap (round w (opening w) 0) same)
 spelled_entries w bs i cs ds (Err e) spelled same is = tt
+
+-- all states of a graph are done where none is behind those that are
+pub all_done : (g : Graph) (b : Bool) → b ≡ nat_le (length (packed g)) g.done → b ≡ true → length (packed g) ≤ g.done
+all_done g b is e = let test : nat_le (length (packed g)) g.done ≡ true = sym is ∙ e in grind (arith, nat_tests, test)

@@ -5,7 +5,7 @@ use Rattle.std.specs.Prelude.{◌&&◌, ◌==◌, sum_by, slice_get, option_map,
 use Rattle.std.specs.List.{flat_map, range_with_len}
 use Rattle.std.proofs.lemmas.Bool.{cases_eq, cases_lt, cases_Bool, false≢true}
 use Rattle.std.proofs.lemmas.Bool.Decides.{nat_tests}
-use Rattle.std.proofs.lemmas.List.{drop_all, length-map, length-take-le}
+use Rattle.std.proofs.lemmas.List.{drop_all, length-take-le}
 use Rattle.std.proofs.Math.Seq.{take-length}
 use Rattle.std.proofs.lemmas.Option.{slice_get-map, slice_get-get_or}
 use Rattle.std.proofs.lemmas.List.Concat.{flat_map-append}
@@ -23,7 +23,6 @@ use Rattle.sd_types.specs.Events.{ticks}
 use Rattle.sd_state.specs.declared.states.Place.{Place}
 use Rattle.sd_state.specs.declared.states.Place.TheVariants as place
 use Rattle.sd_state.specs.declared.states.State.{State}
-use Rattle.sd_state.specs.declared.states.ThreadState.{ThreadState}
 use Rattle.sd_state.specs.Accounts.{is_tick_of, thread_ticks}
 use Rattle.sd_state.specs.Opening.{opening}
 use Rattle.sd_state.specs.States.{no_thread, thread_of, cpu_of, is_running}
@@ -32,13 +31,13 @@ use Rattle.sd_machine.specs.Runs.{final, state_at, IsComplete, IsRun}
 use Rattle.sd_machine.specs.Threads.{runner}
 use Rattle.sd_machine.proofs.RunLemmas.{final-nil}
 use Rattle.sd_state.specs.Invariants.{OneRuns}
-use Rattle.sd_state.proofs.Chosen.{position_fails}
 use Rattle.sd_state.proofs.Openings.{opening_runs_none}
 use Rattle.sd_frames.specs.Causes.{IsCause}
 use Rattle.sd_invariants.proofs.AgreedAfter.{IsReady}
 use Rattle.sd_frames.proofs.Found.{runner_found}
 use Rattle.sd_invariants.proofs.Movers.{mover_there}
 use Rattle.sd_frames.proofs.PlaceTable.{after_steps, step_needs}
+use Rattle.sd_frames.proofs.Searches.{nobody_runs}
 use Rattle.sd_invariants.proofs.Ready.{kept_reached, maker_inside, ready_cause, reached_ready}
 use Rattle.sd_invariants.proofs.RunningLemmas.{opening_one, one_kept}
 use Rattle.sd_invariants.proofs.Complete.{complete_at_limit}
@@ -106,10 +105,6 @@ tick_by_runner s t c e u one inside on runs = elim (cases_eq e c) [
         | inr apart ↦ grind (arith, nat_tests, apart)
       ])
 ]
-
-nobody_runs : (s : State) (c : ℕ) → runner s c ≡ None → (u : ℕ) → is_running c (thread_of s u).place ≡ false
-unfolding runner
-nobody_runs s c none u = position_fails (λ (x : ThreadState). is_running c x.place) s.threads no_thread refl none u
 
 idle_elsewhere : (s : State) (t c e : ℕ) → t < length s.threads → is_running c (thread_of s t).place ≡ true → runner s e ≡ None → ((e == c) && true) ≡ false
 idle_elsewhere s t c e inside on nobody = elim (cases_eq e c) [

@@ -101,7 +101,7 @@ pub fn reads<L: Look>(work: &Work, x: &L, c: CpuId) -> Result<Option<Reading>, L
 }
 
 /// A placement with the put that processor `c` chooses by the numbers that it read.
-#[tactic(auto, using(crate::proofs::NumberLemmas::placed_numbers))]
+#[tactic(auto, using(sd_machine::proofs::NumberLemmas::placed_numbers))]
 fn place_event<L: Look>(
     work: &Work,
     x: &L,
@@ -118,7 +118,7 @@ fn place_event<L: Look>(
 }
 
 /// What processor `c` comes to in a search by the numbers that it read.
-#[tactic(auto, using(crate::proofs::NumberLemmas::search_numbers, sd_store::proofs::Among::among_left, sd_store::proofs::Among::among_right))]
+#[tactic(auto, using(sd_machine::proofs::NumberLemmas::search_numbers, sd_store::proofs::Among::among_left, sd_store::proofs::Among::among_right))]
 fn searched<L: Look>(x: &L, c: CpuId, hints: &Option<Hints>) -> Result<Event, L::Lack>
     ensures value { TellsIf (L.shows x.now) result (λ s. hints_fit (read_of (neighbours s c.0)) hints.now ≡ true) (λ s. search_event s (victim_for s c.0 hints.now)) }
     ensures lack { LacksIf L.part (L.shows x.now) (L.has x.now) result (λ s. hints_fit (read_of (neighbours s c.0)) hints.now ≡ true) (λ s. ready_parts s c ++ victim_parts (victim_for s c.0 hints.now)) }

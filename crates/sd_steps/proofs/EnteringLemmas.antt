@@ -1,9 +1,9 @@
 -- A processor that has an event for any numbers that it may read has one for those of the state itself.
-use Rattle.std.proofs.Common.{◌≡◌, ℕ, zero, suc, ◌<◌, Bool, true, false, not, ◌&&◌, ◌||◌, cond, List, [], ◌∷◌, map, length, Option, Some, None, All, MatchOption, get_or, ◌⊎◌, inl, inr, refl, sym, ap, ◌∙◌, subst, arith, ◌==◌}
+use Rattle.std.proofs.Common.{◌≡◌, ℕ, zero, suc, ◌<◌, Bool, true, false, not, ◌&&◌, ◌||◌, cond, List, [], ◌∷◌, map, length, Option, Some, None, All, MatchOption, get_or, ◌⊎◌, inl, inr, refl, sym, ap, ◌∙◌, subst, arith}
 use Rattle.std.specs.Prelude.{slice_get, option_map, is_some, IsSome, nat_lt}
 use Rattle.std.specs.List.{list_any}
 use Rattle.std.proofs.lemmas.List.{length-map}
-use Rattle.std.proofs.lemmas.Bool.{eq-eqb, or_right, cases_Bool, or_parts}
+use Rattle.std.proofs.lemmas.Bool.{or_right, cases_Bool, or_parts}
 use Rattle.std.proofs.lemmas.Bool.Decides.{nat_tests}
 use Rattle.std.proofs.lemmas.Option.{same_Some, slice_get-map, slice_get_within, get_or_from_slice_get}
 use Rattle.sd_types.specs.declared.numbers.CpuId.{CpuId}
@@ -25,11 +25,11 @@ use Rattle.sd_machine.specs.Threads.{best_unbound, priority_of}
 use Rattle.sd_machine.specs.Choosing.{neighbours, numbers_read, put_chosen, victim_for}
 use Rattle.sd_machine.specs.Dispatching.{search_event, steal_event}
 use Rattle.sd_machine.specs.Events.{allowed, event_of, may_tick, next, plan_event, wish}
-use Rattle.sd_machine.specs.Hints.{hint_of, hint_shown, hints_fit, placed_thread, plan_reads, read_of, reads, same_which}
+use Rattle.sd_machine.specs.Hints.{hint_of, hint_shown, hints_fit, placed_thread, plan_reads, read_of, reads}
 use Rattle.sd_machine.specs.Plans.{plan}
 use Rattle.sd_machine.specs.Runs.{serial_hints, shown}
+use Rattle.sd_machine.proofs.NumberLemmas.{search_numbers}
 use Rattle.sd_steps.specs.Entering.{can_enter, can_steal, plan_enters}
-use Rattle.sd_step.proofs.NumberLemmas.{search_numbers}
 use Rattle.sd_invariants.proofs.Complete.{shown_fit}
 
 -- ---- lists

@@ -6,6 +6,7 @@ use Rattle.std.proofs.lemmas.Bool.Decides.{nat_tests}
 use Rattle.std.proofs.lemmas.Grind.{common_steps}
 use Rattle.atomic_table.specs.Table.{rest}
 use Rattle.arrayvec.specs.ArrayVec.{ArrayVec}
+use Rattle.sd_basics.proofs.Truths.{or_always}
 use Rattle.atomic_table.specs.Seated.{TableId}
 use Rattle.sd_types.specs.declared.numbers.HomeId.{HomeId}
 use Rattle.sd_types.specs.declared.events.Entry.{Entry}
@@ -391,11 +392,7 @@ module _ (w : Work) where
       ∙ (let a = eq-eqb c c refl in let b = eq-eqb n n refl in let k = eq-eqb (which_word which) (which_word which) refl in grind (arith))
 
   noted_there : (x : Note) (xs : List Note) (c : ℕ) (which : Which) (n : ℕ) → is_noted xs c which n ≡ true → is_noted (x ∷ xs) c which n ≡ true
-  noted_there x xs c which n e = noted_cons x xs c which n ∙ (ap (λ b. is_note c which n x || b) e ∙ or_true (is_note c which n x))
-    where
-      or_true : (b : Bool) → (b || true) ≡ true
-      or_true true = refl
-      or_true false = refl
+  noted_there x xs c which n e = noted_cons x xs c which n ∙ (ap (λ b. is_note c which n x || b) e ∙ or_always (is_note c which n x))
 
   pub sees_same : (t : TableId) (ts : List ℕ) (d : Desk) (s : Seat) → FitsAs t w ts d s → Sees w d d.seen
   sees_same t ts d s f = record { run = f.run; since = since_same w d.cpu d.held d.seen }

@@ -15,7 +15,6 @@ use Rattle.sd_machine.proofs.RunLemmas.{IsRun-from, IsRunFrom-take, from-IsRun}
 use Rattle.sd_record.specs.Records.{ThreadRecord}
 use Rattle.sd_invariants.proofs.Ready.{reached_ready}
 use Rattle.sd_store.specs.Parts.{view_of}
-use Rattle.sd_homes.specs.Numbers.{IsHomeOf}
 use Rattle.sd_homes.specs.Standing.{home_at, insert_at, list_of, record_of}
 use Rattle.sd_homes.specs.declared.list_id.ListId.{ListId}
 use Rattle.sd_homes.specs.declared.home.Home.{Home}
@@ -29,7 +28,7 @@ use Rattle.sd_hand.proofs.SlotLemmas.{apart-edit, edit_held}
 use Rattle.sd_world.specs.Homes.{AllHomes, AreBare, IsBare, IsNumber, IsNumberAt, Sizes, how_many, sizes_of}
 use Rattle.sd_world.specs.Plain.{HasStood}
 use Rattle.sd_world.proofs.BareLemmas.{chain_is_bare, cpu_is_bare, set_is_bare, sleepers_are_bare}
-use Rattle.sd_world.proofs.ComeLemmas.{Settling, bare_more, bare_none, bare_placed, one_list, settles_first, settles_last, settles_next, shows_none}
+use Rattle.sd_world.proofs.ComeLemmas.{Settling, bare_more, bare_none, bare_placed, one_list, settles_first, settles_last, settles_next, shows_none, home_of_number, number_of_home}
 use Rattle.sd_world.proofs.NumberLemmas.{placed_apart, placed_only}
 
 -- the home of an index
@@ -69,18 +68,6 @@ module _ (s : State) where
 
   abbrev first : List (Option Home) → AllHomes
   first slots = record { sizes = sizes_of s; slots = slots }
-
-  home_of_number : (k : HomeId) → IsNumber (sizes_of s) k → IsHomeOf s k
-  home_of_number (id.Cpu c) is = is
-  home_of_number (id.RealTime p) is = is
-  home_of_number (id.Chain i) is = is
-  home_of_number (id.Sleepers i) is = is
-
-  number_of_home : (k : HomeId) → IsHomeOf s k → IsNumber (sizes_of s) k
-  number_of_home (id.Cpu c) is = is
-  number_of_home (id.RealTime p) is = is
-  number_of_home (id.Chain i) is = is
-  number_of_home (id.Sleepers i) is = is
 
   as_held : (k : HomeId) (hs : List (Option Home)) → is_some (held k hs) ≡ true → IsHeld k hs
   as_held k hs e = by (held k hs) refl e
@@ -124,8 +111,8 @@ module _ (s : State) where
   all_of w n slots reached are c = record {
     shown = settles_last n s (length s.threads) (first slots) c.homes refl c.settling;
     apart = c.apart;
-    all = λ k is. c.settling.all k (subst (λ z. IsNumber z k) (sym c.settling.sizes) (number_of_home k is));
-    only = λ k is. home_of_number k (placed_only (sizes_of s) slots k (bare_placed s slots are) (as_held k slots (sym (c.same k) ∙ ap is_some is.1)));
+    all = λ k is. c.settling.all k (subst (λ z. IsNumber z k) (sym c.settling.sizes) (number_of_home s k is));
+    only = λ k is. home_of_number s k (placed_only (sizes_of s) slots k (bare_placed s slots are) (as_held k slots (sym (c.same k) ∙ ap is_some is.1)));
     locks = (let fits = (reached_ready w n s reached).fits.locks in let most = w.most_locks in omega (arith, fits, most));
     chans = (let fits = (reached_ready w n s reached).fits.chans in let most = w.most_chans in omega (arith, fits, most));
   }

@@ -1,5 +1,5 @@
 -- A seat that holds no home may take one, and after a call it is a seat of its processor still.
-use Rattle.std.proofs.Common.{◌≡◌, ℕ, ◌<◌, List, [], ◌∷◌, ◌++◌, length, slice_get, is_some, Option, Some, None, refl, ap, ◌∙◌, ⊎_elim, arith}
+use Rattle.std.proofs.Common.{◌≡◌, ℕ, ◌<◌, List, [], ◌∷◌, ◌++◌, length, slice_get, is_some, ap, ◌∙◌, ⊎_elim, arith}
 use Rattle.atomic_table.specs.Seated.{TableId}
 use Rattle.sd_types.specs.declared.numbers.CpuId.{CpuId}
 use Rattle.sd_types.specs.declared.numbers.HomeId.{HomeId}
@@ -7,10 +7,10 @@ use Rattle.sd_types.specs.declared.numbers.HomeId.TheVariants as id
 use Rattle.sd_types.specs.declared.numbers.ThreadId.{ThreadId}
 use Rattle.sd_types.specs.declared.works.Work.{Work}
 use Rattle.sd_invariants.proofs.Whole.{fit_reached}
-use Rattle.sd_homes.specs.declared.home.Home.{Home}
 use Rattle.sd_hand.specs.declared.acting.Acting.{Acting}
 use Rattle.sd_hand.specs.declared.acting.Actor.{Actor}
-use Rattle.sd_hand.specs.Hands.{held, how_many_held}
+use Rattle.sd_hand.specs.Hands.{how_many_held}
+use Rattle.sd_hand.proofs.CountLemmas.{none_held}
 use Rattle.sd_world.specs.declared.world.Take.{Take}
 use Rattle.sd_world.specs.declared.world.Take.TheVariants as take
 use Rattle.sd_world.specs.declared.world.ThreadLock.{ThreadLock}
@@ -23,11 +23,6 @@ use Rattle.sd_table.specs.Seats.{Fits, SeatStays, SeatTakes, desk, seat_meaning}
 use Rattle.sd_table.specs.Whole.{AreSeats, IsSeatOf}
 use Rattle.sd_threads.specs.Locks.{SeatLocks}
 use Rattle.sd_table_tests.specs.Sitting.{GoesOn, HasSought, HasTried, IsFreeAfter}
-
-none_held : (k : HomeId) (hs : List (Option Home)) → how_many_held hs ≡ 0 → held k hs ≡ None
-none_held k [] e = refl
-none_held k (None ∷ hs) e = none_held k hs e
-none_held k (Some h ∷ hs) e = absurd (omega (arith, e))
 
 module _ (t : TableId) (w : Work) where
   -- the home of processor 0

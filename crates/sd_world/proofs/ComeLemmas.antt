@@ -1,5 +1,5 @@
 -- The threads of a state come to its homes, one after another in the order of their numbers.
-use Rattle.std.proofs.Common.{◌≡◌, ◌≢◌, ℕ, ◌+◌, ◌++◌, is_some, ◌<◌, ◌≤◌, ◌⊎◌, zero, suc, true, false, ◌&&◌, List, [], ◌∷◌, length, get_or, Option, Some, None, refl, sym, ap, ◌∙◌, subst, inl, inr, arith, le_refl, slice_get}
+use Rattle.std.proofs.Common.{◌≡◌, ◌≢◌, ℕ, ◌+◌, ◌++◌, is_some, ◌<◌, ◌≤◌, ◌⊎◌, zero, suc, true, false, List, [], ◌∷◌, length, get_or, Option, Some, None, refl, sym, ap, ◌∙◌, subst, inl, inr, arith, le_refl, slice_get}
 use Rattle.std.specs.Prelude.{ℤ, pos, neg_ℤ, ◌≤ℤ◌, ◌<ℤ◌, ◌==◌, nat_lt}
 use Rattle.std.proofs.lemmas.Bool.{cases_eq, cases_lt, cases_Bool, eqb-true, false≢true, and_from}
 use Rattle.std.proofs.lemmas.Bool.Decides.{nat_tests}
@@ -23,7 +23,6 @@ use Rattle.sd_state.specs.declared.states.State.{State}
 use Rattle.sd_state.specs.declared.states.ThreadState.{ThreadState}
 use Rattle.sd_state.specs.States.{is_running, key_of, no_thread, thread_of, same_side}
 use Rattle.sd_machine.specs.Runs.{IsReached}
-use Rattle.sd_machine.specs.Shapes.{FitsFully}
 use Rattle.sd_state.specs.Invariants.{IsPlaceThere, KeysDiffer, KeysWithin, OneRuns, has_key, same_queue}
 use Rattle.sd_invariants.proofs.FineLemmas.{sound_law}
 use Rattle.sd_invariants.proofs.KeyLemmas.{keys_differ_law, keys_within_law}
@@ -37,13 +36,14 @@ use Rattle.sd_homes.specs.Standing.{IsArranged, IsUnusedKey, Lists, IsKeyFor, Ma
 use Rattle.sd_homes.specs.declared.home.Home.{Home}
 use Rattle.sd_homes.specs.Families.{home_id, list_in, putting}
 use Rattle.sd_hand.specs.Hands.{IsHeld, edit, held}
-use Rattle.sd_homes.specs.Numbers.{IsHomeOf, IsListOf}
+use Rattle.sd_homes.specs.Numbers.{IsHomeOf}
 use Rattle.sd_hand.specs.OneHome.{AreAllHomes, lists_with}
 use Rattle.sd_hand.specs.Shown.{IsHome, IsListThere, Shows, ShowsState}
 use Rattle.sd_hand.proofs.OneLemmas.{stands_once}
 use Rattle.sd_hand.proofs.HomeLemmas.{keeps-with_list, put_shows}
 use Rattle.sd_hand.proofs.SlotLemmas.{edit_held, same_default}
 use Rattle.sd_footprint.specs.Changed.{RanThere}
+use Rattle.sd_footprint.proofs.ThereLemmas.{list_there}
 use Rattle.sd_world.specs.Homes.{AllHomes, AreBare, ArePlaced, HasBare, IsBare, IsNumber, IsNumberAt, IsPlaced, ShowsNone, Sizes, how_many, index_of, sizes_of, threads_below}
 use Rattle.sd_world.proofs.NumberLemmas.{held_slot, index_below, placed_apart, placed_only, slot_of_number}
 
@@ -259,38 +259,30 @@ bare_all s slots are k number =
     let slot = slot_of_number (sizes_of s) slots k at.home (bare_placed s slots are) number at.there in
     (slot.home, slot.first)
 
+-- a home of the state is one of its numbers
+pub number_of_home : (s : State) (k : HomeId) → IsHomeOf s k → IsNumber (sizes_of s) k
+number_of_home s (id.Cpu c) is = is
+number_of_home s (id.RealTime p) is = is
+number_of_home s (id.Chain i) is = is
+number_of_home s (id.Sleepers i) is = is
+
+pub home_of_number : (s : State) (k : HomeId) → IsNumber (sizes_of s) k → IsHomeOf s k
+home_of_number s (id.Cpu c) is = is
+home_of_number s (id.RealTime p) is = is
+home_of_number s (id.Chain i) is = is
+home_of_number s (id.Sleepers i) is = is
+
 -- all homes of a state of a run, in which its threads have come to stand
 
 pub all_homes : (w : Work) (n : ℕ) (s : State) (z : Sizes) (hs : List (Option Home)) → IsReached w n s → z ≡ sizes_of s → ArePlaced z hs → ((k : HomeId) → IsNumber z k → IsHeld k hs) → ShowsState n s hs → AreAllHomes n s hs
 all_homes w n s z hs reached sizes placed all shows = record {
   shown = shows;
   apart = placed_apart z hs placed;
-  all = λ k is. all k (subst (λ y. IsNumber y k) (sym sizes) (number k is));
-  only = λ k is. of_number k (subst (λ y. IsNumber y k) sizes (placed_only z hs k placed is));
+  all = λ k is. all k (subst (λ y. IsNumber y k) (sym sizes) (number_of_home s k is));
+  only = λ k is. home_of_number s k (subst (λ y. IsNumber y k) sizes (placed_only z hs k placed is));
   locks = (let fits = (reached_ready w n s reached).fits.locks in let most = w.most_locks in omega arith);
   chans = (let fits = (reached_ready w n s reached).fits.chans in let most = w.most_chans in omega arith);
 }
-  where
-    number : (k : HomeId) → IsHomeOf s k → IsNumber (sizes_of s) k
-    number (id.Cpu c) is = is
-    number (id.RealTime p) is = is
-    number (id.Chain i) is = is
-    number (id.Sleepers i) is = is
-
-    of_number : (k : HomeId) → IsNumber (sizes_of s) k → IsHomeOf s k
-    of_number (id.Cpu c) is = is
-    of_number (id.RealTime p) is = is
-    of_number (id.Chain i) is = is
-    of_number (id.Sleepers i) is = is
-
-list_there : (w : Work) (s : State) (last : CpuId) (p : Place) → FitsFully w s → last.0 < w.cpus → IsPlaceThere w p → IsListOf s (list_at last p)
-list_there w s last (Running c) fits l is = subst (λ m. c.0 < m) (sym fits.cpus) is
-list_there w s last (Queued c k) fits l is = subst (λ m. c.0 < m) (sym fits.cpus) is
-list_there w s last (RealTime p k) fits l is = let sets = fits.sets in omega arith
-list_there w s last (Waiting m side k) fits l is = subst (λ n. m.0 < n) (sym fits.locks) is
-list_there w s last (Asleep ch k) fits l is = subst (λ m. ch.0 < m) (sym fits.chans) is
-list_there w s last (Napping c due) fits l is = subst (λ m. c.0 < m) (sym fits.cpus) is
-list_there w s last Ended fits l is = subst (λ m. last.0 < m) (sym fits.cpus) l
 
 pub one_list : (w : Work) (n : ℕ) (s : State) (hs : List (Option Home)) → IsReached w n s → AreAllHomes n s hs → (t : ℕ) → t < length s.threads → lists_with t hs ≡ 1
 one_list w n s hs reached all t inside =

@@ -1,16 +1,13 @@
 -- Each thread of a state stands in one of its homes, and what is found there is that thread.
-use Rattle.std.proofs.Common.{◌≡◌, ℕ, ◌<◌, true, is_some, List, Option, Some, None, refl, sym, ap, ◌∙◌, subst, arith}
+use Rattle.std.proofs.Common.{◌≡◌, ℕ, ◌<◌, true, is_some, List, Option, Some, None, refl, sym, ap, ◌∙◌, subst}
 use Rattle.std.specs.Prelude.{ℤ, length}
 use Rattle.sd_types.specs.declared.numbers.CpuId.{CpuId}
 use Rattle.sd_types.specs.declared.bodies.ThreadBody.{ThreadBody}
-use Rattle.sd_types.specs.declared.works.Work.{Work}
 use Rattle.sd_record.specs.Records.{ThreadRecord}
-use Rattle.sd_state.specs.Invariants.{IsPlaceThere}
 use Rattle.sd_state.specs.declared.states.Place.{Place}
-use Rattle.sd_state.specs.declared.states.Place.TheVariants.{Running, Queued, RealTime, Waiting, Asleep, Napping, Ended}
+use Rattle.sd_state.specs.declared.states.Place.TheVariants.{Napping}
 use Rattle.sd_state.specs.declared.states.State.{State}
 use Rattle.sd_state.specs.States.{thread_of}
-use Rattle.sd_machine.specs.Shapes.{FitsFully}
 use Rattle.sd_invariants.proofs.Ready.{reached_ready}
 use Rattle.sd_invariants.proofs.All.{threads_law}
 use Rattle.sd_homes.specs.declared.list_id.ListId.{ListId}
@@ -18,23 +15,14 @@ use Rattle.sd_homes.specs.Standing.{home_at, home_of, list_at, list_of, record_k
 use Rattle.sd_homes.specs.declared.home.Home.{Home}
 use Rattle.sd_homes.specs.Families.{taken_from}
 use Rattle.sd_hand.specs.Hands.{StandsIn, has_thread, held}
-use Rattle.sd_homes.specs.Numbers.{IsHomeOf}
+use Rattle.sd_homes.proofs.NumberLemmas.{home_of_list}
 use Rattle.sd_hand.specs.Shown.{StandsAt}
 use Rattle.sd_hand.proofs.FoundLemmas.{listed_has}
 use Rattle.sd_hand.proofs.MoveLemmas.{is_taken, not_none, stands_at, stands_held, taken}
 use Rattle.sd_hand.proofs.SlotLemmas.{held_has}
 use Rattle.sd_world.specs.Told.{IsDue, IsToldBy}
 use Rattle.sd_world.proofs.NapLemmas.{NapFits, naps_fit}
-
--- the home of a place is one of the state's
-home_there : (w : Work) (s : State) (last : CpuId) (p : Place) → FitsFully w s → last.0 < w.cpus → IsPlaceThere w p → IsHomeOf s (home_at (list_at last p))
-home_there w s last (Running c) fits l is = subst (λ m. c.0 < m) (sym fits.cpus) is
-home_there w s last (Queued c k) fits l is = subst (λ m. c.0 < m) (sym fits.cpus) is
-home_there w s last (RealTime p k) fits l is = let sets = fits.sets in omega arith
-home_there w s last (Waiting m side k) fits l is = omega arith
-home_there w s last (Asleep j k) fits l is = omega arith
-home_there w s last (Napping c due) fits l is = subst (λ m. c.0 < m) (sym fits.cpus) is
-home_there w s last Ended fits l is = subst (λ m. last.0 < m) (sym fits.cpus) l
+use Rattle.sd_footprint.proofs.ThereLemmas.{list_there}
 
 -- the list and the key of a place
 due_at : (last : CpuId) (p : Place) → NapFits p → IsDue (list_at last p) (record_key p)
@@ -50,7 +38,7 @@ module _ (hs : List (Option Home)) (s : State) (t : ℕ) (told : IsToldBy hs s) 
   stands_somewhere inside =
       let x = thread_of s t in
       let there = threads_law told.work told.number s told.reached t in
-      let (h, is) = told.homes.all (home_of x) (home_there told.work s x.body.last x.place (reached_ready told.work told.number s told.reached).fits there.last there.place) in
+      let (h, is) = told.homes.all (home_of x) (home_of_list s (list_of x) (list_there told.work s x.body.last x.place (reached_ready told.work told.number s told.reached).fits there.last there.place)) in
       let found = taken told.number s t (list_of x) hs (record { inside = inside; list = refl }) told.homes.shown (h, is) in
       held_has (home_of x) t h hs is (listed_has t h (list_of x) (ap is_some (sym (ap (taken_from t (list_of x)) is) ∙ found)))
 

@@ -1,12 +1,13 @@
 use Rattle.std.proofs.Common.{◌+◌, inr, subst}
+use Rattle.sd_basics.proofs.Results.{done}
 use Rattle.sd_state.specs.States.{thread_of}
 use Rattle.sd_rules.specs.ClassRules.{class_requeue}
-use Rattle.sd_dispatcher.proofs.RunningLemmas.{did, left_preempted, missed, runs_classed}
+use Rattle.sd_dispatcher.proofs.RunningLemmas.{left_preempted, missed, runs_classed}
 use Rattle.sd_dispatcher.proofs.running.preempted.Goals as goal
 
 pub returns-clause-value : goal.returns-clause-value
 returns-clause-value g c =
-    did c.left_for_queue.result _ _
+    done c.left_for_queue.result _ _
     (λ made. λ s shows runs. subst (λ r. g.S.Look.shows c.left_for_queue.new.x (c.args.number + 1) r)
     (left_preempted c.args.work.now s c.args.number c.args.c c.args.t.0 c.args.end _ _ (c.in_ok-p.ensures.value c.args.number s shows) (c.in_ok-bound.ensures.value c.args.number s shows))
     (made _ (c.in_ok-requeued_class.ensures.value c.args.number s shows tt) (runs_classed s c.args.t (class_requeue (thread_of s c.args.t.0).body.back (thread_of s c.args.t.0).body.class) c.args.c runs)))

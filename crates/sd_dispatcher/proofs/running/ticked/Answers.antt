@@ -1,10 +1,11 @@
 use Rattle.std.proofs.Common.{subst}
-use Rattle.sd_dispatcher.proofs.RunningLemmas.{counted_finish, did, ticked_by}
+use Rattle.sd_basics.proofs.Results.{done}
+use Rattle.sd_dispatcher.proofs.RunningLemmas.{counted_finish, ticked_by}
 use Rattle.sd_dispatcher.proofs.running.ticked.Goals as goal
 
 pub returns-clause-value : goal.returns-clause-value
 returns-clause-value g c =
-    did c.charge.result _ _
+    done c.charge.result _ _
     (λ made. λ n s shows can.
     let counted = c.in_ok-count_tick.ensures.value n s shows can.0 in
     subst (λ r. g.S.Look.shows c.charge.new.x n r)

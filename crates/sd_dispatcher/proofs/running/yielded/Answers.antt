@@ -1,11 +1,12 @@
 use Rattle.std.proofs.Common.{◌+◌, inr, subst}
+use Rattle.sd_basics.proofs.Results.{done}
 use Rattle.sd_dispatcher.proofs.Finished.{left_yielded, runs_finished}
-use Rattle.sd_dispatcher.proofs.RunningLemmas.{did, missed}
+use Rattle.sd_dispatcher.proofs.RunningLemmas.{missed}
 use Rattle.sd_dispatcher.proofs.running.yielded.Goals as goal
 
 pub returns-clause-value : goal.returns-clause-value
 returns-clause-value g c =
-    did c.left_for_queue.result _ _
+    done c.left_for_queue.result _ _
     (λ made. λ s shows can. subst (λ r. g.S.Look.shows c.left_for_queue.new.x (c.args.number + 1) r)
     (left_yielded c.args.work.now s c.args.number c.args.c c.args.t.0 _ _ (c.in_ok-p.ensures.value c.args.number s shows) (c.in_ok-bound.ensures.value c.args.number s shows))
     (made _ (c.in_ok-finish_op.ensures.value c.args.number s shows can.1) (runs_finished c.args.work.now s c.args.t c.args.c can.0)))

@@ -1,15 +1,10 @@
-use Rattle.std.proofs.Common.{◌≡◌, ◌≤◌, Bool, true, length, Option, None, sym, ◌∙◌, subst, arith}
-use Rattle.std.specs.Prelude.{nat_le}
-use Rattle.std.proofs.lemmas.Bool.Decides.{nat_tests}
-use Rattle.sd_search.specs.declared.graph.Graph.{Graph}
+use Rattle.std.proofs.Common.{length, Option, None, subst, arith}
 use Rattle.sd_search.specs.Graphs.{packed, steps_of}
+use Rattle.sd_search.proofs.FinalLemmas.{all_done}
 use Rattle.sd_extremes.specs.declared.marks.Span.{Span}
 use Rattle.sd_extremes.specs.Marks.{IsBelow, IsSpan, Spans}
 use Rattle.sd_extremes.proofs.MarkLemmas.{all_between, never}
 use Rattle.sd_extremes.proofs.ends.when_ended.Goals as goal
-
-all_done : (g : Graph) (b : Bool) → b ≡ nat_le (length (packed g)) g.done → b ≡ true → length (packed g) ≤ g.done
-all_done g b is e = let test : nat_le (length (packed g)) g.done ≡ true = sym is ∙ e in grind (arith, nat_tests, test)
 
 pub returns-in_ok-latest-in-Some-clause-when : goal.returns-in_ok-latest-in-Some-clause-when
 returns-in_ok-latest-in-Some-clause-when c =

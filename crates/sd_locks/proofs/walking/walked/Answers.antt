@@ -1,15 +1,16 @@
 use Rattle.std.proofs.Common.{true, inr, sym, ap, ◌∙◌, subst}
+use Rattle.sd_basics.proofs.Results.{done}
 use Rattle.sd_machine.specs.Changes.{set_looped, set_number}
 use Rattle.sd_machine.specs.Needs.{CanInherit}
 use Rattle.sd_machine.specs.Threads.{greatest_waiting}
 use Rattle.sd_store.specs.Walks.{walk_gone_on}
-use Rattle.sd_dispatcher.proofs.RunningLemmas.{did, missed}
+use Rattle.sd_dispatcher.proofs.RunningLemmas.{missed}
 use Rattle.sd_locks.proofs.Looped.{gone_can, walked_back, walked_on}
 use Rattle.sd_locks.proofs.walking.walked.Goals as goal
 
 pub returns-then-not-back-clause-value : goal.returns-then-not-back-clause-value
 returns-then-not-back-clause-value g c =
-    did c.inherit.result _ _
+    done c.inherit.result _ _
     (λ made. λ n s shows can.
     let gone = walk_gone_on s c.args.c c.args.o in
     let same = c.in_ok-number.ensures.value n s shows in
@@ -21,7 +22,7 @@ returns-then-not-back-clause-value g c =
 
 pub returns-clause-value : goal.returns-clause-value
 returns-clause-value g c =
-    did c.set_looped.result _ _
+    done c.set_looped.result _ _
     (λ made. λ n s shows can.
     let gone = walk_gone_on s c.args.c c.args.o in
     let same = c.in_ok-number.ensures.value n s shows in

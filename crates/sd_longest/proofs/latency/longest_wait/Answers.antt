@@ -1,9 +1,8 @@
-use Rattle.std.proofs.Common.{◌≡◌, ◌≤◌, Bool, true, length, List, Option, None, Some, sym, ◌∙◌, subst, arith}
-use Rattle.std.specs.Prelude.{nat_le, Vec}
+use Rattle.std.proofs.Common.{length, List, Option, None, Some, sym, subst, arith}
+use Rattle.std.specs.Prelude.{Vec}
 use Rattle.std.specs.declared.alloc.Global.{Global}
-use Rattle.std.proofs.lemmas.Bool.Decides.{nat_tests}
-use Rattle.sd_search.specs.declared.graph.Graph.{Graph}
 use Rattle.sd_search.specs.Graphs.{packed, steps_of}
+use Rattle.sd_search.proofs.FinalLemmas.{all_done}
 use Rattle.sd_longest.specs.declared.edges.Edge.{Edge}
 use Rattle.sd_longest.specs.declared.longest.Wait.{Wait}
 use Rattle.sd_longest.specs.Edges.{IsLongest, rows_of}
@@ -11,9 +10,6 @@ use Rattle.sd_longest.specs.Tables.{AreRows}
 use Rattle.sd_longest.proofs.RowLemmas.{lead_inside}
 use Rattle.sd_longest.proofs.TraceLemmas.{walk_of}
 use Rattle.sd_longest.proofs.latency.longest_wait.Goals as goal
-
-all_done : (g : Graph) (b : Bool) → b ≡ nat_le (length (packed g)) g.done → b ≡ true → length (packed g) ≤ g.done
-all_done g b is e = let test : nat_le (length (packed g)) g.done ≡ true = sym is ∙ e in grind (arith, nat_tests, test)
 
 pub longest_wait-requires : goal.longest_wait-requires
 longest_wait-requires c =

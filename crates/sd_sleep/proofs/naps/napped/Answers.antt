@@ -1,15 +1,15 @@
 use Rattle.std.proofs.Common.{◌≡◌, ◌+◌, ap, ◌∙◌, subst, arith}
+use Rattle.sd_basics.proofs.Results.{done}
 use Rattle.sd_state.specs.States.{cpu_of, thread_of}
 use Rattle.sd_state.specs.Operations.{op_of}
 use Rattle.sd_machine.specs.Sleeping.{nap_ticks}
 use Rattle.sd_dispatcher.proofs.Finished.{runs_finished}
-use Rattle.sd_dispatcher.proofs.RunningLemmas.{did}
 use Rattle.sd_sleep.proofs.Leaving.{left_napping}
 use Rattle.sd_sleep.proofs.naps.napped.Goals as goal
 
 pub returns-clause-value : goal.returns-clause-value
 returns-clause-value g c =
-    did c.leave.result _ _
+    done c.leave.result _ _
     (λ made. λ s shows can.
     let count : c.in_ok-ticks.field-0 ≡ (cpu_of s c.args.c.0).count = c.in_ok-ticks.ensures.value c.args.number s shows in
     let ticks : c.nap_ticks-ticks.result ≡ nap_ticks (op_of c.args.work.now c.args.t.0 (thread_of s c.args.t.0).body) =

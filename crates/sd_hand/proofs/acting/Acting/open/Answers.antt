@@ -1,4 +1,5 @@
 use Rattle.std.proofs.Common.{◌∙◌, length, refl, sym, ap, subst, arith}
+use Rattle.sd_basics.proofs.Results.{done, refused}
 use Rattle.sd_types.specs.declared.numbers.HomeId.TheVariants.{RealTime}
 use Rattle.sd_machine.specs.Changes.{with_cpu_in}
 use Rattle.sd_machine.specs.Threads.{with_open}
@@ -6,7 +7,7 @@ use Rattle.sd_homes.specs.Families.{open_in, opened, opening}
 use Rattle.sd_hand.specs.Acting.{IsShown}
 use Rattle.sd_hand.specs.declared.acting.Acting.{Acting}
 use Rattle.sd_hand.proofs.ActLemmas.{actor_has, open_carried, opened_has}
-use Rattle.sd_hand.proofs.SlotLemmas.{done, edit_same, either, refused}
+use Rattle.sd_hand.proofs.SlotLemmas.{edit_same, either}
 use Rattle.sd_hand.proofs.TellLemmas.{open_told}
 use Rattle.sd_hand.proofs.acting.Acting.open.Goals as goal
 

@@ -1,8 +1,9 @@
 use Rattle.std.proofs.Common.{◌≡◌, ap, ◌∙◌}
+use Rattle.sd_basics.proofs.Results.{done, refused}
 use Rattle.sd_types.specs.declared.numbers.HomeId.TheVariants.{RealTime}
 use Rattle.sd_homes.specs.Families.{home_id, opened}
 use Rattle.sd_hand.proofs.GuideLemmas.{slots_changed, held_here, kept_here, opened_keeps, slot_changed, slot_lost}
-use Rattle.sd_hand.proofs.SlotLemmas.{done, either, refused}
+use Rattle.sd_hand.proofs.SlotLemmas.{either}
 use Rattle.sd_hand.proofs.hand.Hand.open.Goals as goal
 
 pub invariant_of-self : goal.invariant_of-self
