@@ -2,13 +2,14 @@
 use Rattle.std.proofs.Common.{◌≡◌, ℕ, ◌/◌, zero, suc, Bool, true, false, ◌==◌, ◌||◌, is_some, List, [], ◌∷◌, get_or, set, Option, Some, None, refl, sym, ap, ◌∙◌, subst, inl, inr, ◌⊎◌}
 use Rattle.std.specs.Option.{option_or}
 use Rattle.std.proofs.lemmas.Bool.{cases_eq, eq-eqb, ne_eqb}
+use Rattle.std.proofs.lemmas.List.{set-get_or}
 use Rattle.sd_basics.proofs.Lists.{some_of}
 use Rattle.sd_types.specs.declared.numbers.HomeId.{HomeId}
 use Rattle.sd_types.specs.declared.numbers.Side.{Side}
 use Rattle.sd_types.specs.declared.numbers.Side.TheVariants.{Writer, Reader}
 use Rattle.sd_boxq.specs.Order.{drop_id, find_id, insert_before, precedes, precedes_keyed}
 use Rattle.sd_turnstile.proofs.LeftLemmas.{none_dropped}
-use Rattle.sd_turnstile.specs.Waiters.{Waiters, find_among as find_waiter, find_in, nobody, on_side, with_side}
+use Rattle.sd_turnstile.specs.Waiters.{Waiters, find_among as find_waiter, find_in, nobody, on_side, with_side, of_lock}
 use Rattle.sd_sleepq.specs.Among.{find_among as find_sleeper}
 use Rattle.sd_record.specs.Records.{ThreadRecord}
 use Rattle.sd_homes.specs.declared.list_id.ListId.{ListId}
@@ -19,7 +20,7 @@ use Rattle.sd_homes.specs.declared.home.Home.{Home}
 use Rattle.sd_homes.specs.declared.home.Home.TheVariants.{Cpu, RealTime, Chain, Sleepers}
 use Rattle.sd_homes.specs.Homes.{OfChain, OfCpu, OfSet, OfSleepers, head_of, is_chan_of, is_of, one}
 use Rattle.sd_homes.specs.Kinds.{asleep_has, asleep_list, chain_has, chain_list, cpu_has, cpu_list, has_id, set_has, set_list, with_asleep_list, with_chain_list, with_cpu_list, with_set_list}
-use Rattle.sd_homes.specs.Families.{IsWhole, has, home_id, list_in, putting, taken_from, taking, with_list}
+use Rattle.sd_homes.specs.Families.{IsWhole, has, home_id, list_in, putting, taken_from, taking, with_list, same_home}
 use Rattle.sd_hand.specs.Hands.{AreApart, HasRoom, IsHeld, IsRoom, edit, has_thread, held}
 use Rattle.sd_hand.specs.Shown.{IsListThere}
 use Rattle.sd_hand.proofs.SlotLemmas.{Changed, Made, Other, apart-edit, changed, edit_has, edit_held, edit_made, held_has, held_id}
@@ -100,6 +101,60 @@ taking_none u t sp h at none =
 -- nothing is taken
 pub none_taken : (u t : ℕ) (sp : ListId) (hs : List (Option Home)) → None ≡ taken_from t sp (held (home_at sp) hs) → has_thread u (edit (home_at sp) (taking t sp) hs) ≡ has_thread u hs
 none_taken u t sp hs none = edit_has u (home_at sp) (taking t sp) hs (λ h e. taking_none u t sp h (held_id (home_at sp) h hs e) (sym (ap (taken_from t sp) e) ∙ sym none))
+
+-- ---- where nobody is taken, all stays as it was
+head_one : (o : Option ThreadRecord) → head_of (one o) ≡ o
+head_one (Some r) = refl
+head_one None = refl
+
+cpu_list_again : (sp : ListId) (h : OfCpu) → with_cpu_list h sp (cpu_list h sp) ≡ h
+cpu_list_again (Runs c) h = ap (λ (o : Option ThreadRecord). record h { running = o }) (head_one h.running)
+cpu_list_again sp h = refl
+
+set_list_again : (sp : ListId) (h : OfSet) → with_set_list h sp (set_list h sp) ≡ h
+set_list_again (Urgent p) h = refl
+set_list_again sp h = refl
+
+side_again : (w : Waiters ThreadRecord) (side : Side) → with_side w side (on_side w side) ≡ w
+side_again w Writer = refl
+side_again w Reader = refl
+
+chain_list_again : (sp : ListId) (h : OfChain) → with_chain_list h sp (chain_list h sp) ≡ h
+chain_list_again (Waits l side) h = by (is_of h.turnstiles l.0) refl
+  where
+    by : (b : Bool) → is_of h.turnstiles l.0 ≡ b → with_chain_list h (Waits l side) (chain_list h (Waits l side)) ≡ h
+    by true e = rw e
+        (ap (λ (ws : List (Waiters ThreadRecord)). record h { turnstiles = record h.turnstiles { locks = ws } })
+        (ap (set h.turnstiles.locks (l.0 / 64)) (side_again (of_lock h.turnstiles l.0) side) ∙ set-get_or h.turnstiles.locks (l.0 / 64) nobody))
+    by false e = rw e refl
+chain_list_again sp h = refl
+
+asleep_list_again : (sp : ListId) (h : OfSleepers) → with_asleep_list h sp (asleep_list h sp) ≡ h
+asleep_list_again (Sleeps k) h = by (is_chan_of h.sleepers k.0) refl
+  where
+    by : (b : Bool) → is_chan_of h.sleepers k.0 ≡ b → with_asleep_list h (Sleeps k) (asleep_list h (Sleeps k)) ≡ h
+    by true e = rw e
+        (ap (λ (qs : List (List ThreadRecord)). record h { sleepers = record h.sleepers { queues = qs } }) (set-get_or h.sleepers.queues (k.0 / 64) []))
+    by false e = rw e refl
+asleep_list_again sp h = refl
+
+list_again : (sp : ListId) (h : Home) → with_list h sp (list_in h sp) ≡ h
+list_again sp (Cpu h) = ap Cpu (cpu_list_again sp h)
+list_again sp (RealTime h) = ap RealTime (set_list_again sp h)
+list_again sp (Chain h) = ap Chain (chain_list_again sp h)
+list_again sp (Sleepers h) = ap Sleepers (asleep_list_again sp h)
+
+pub untaken : (t : ℕ) (sp : ListId) (hs : List (Option Home)) → None ≡ taken_from t sp (held (home_at sp) hs) → edit (home_at sp) (taking t sp) hs ≡ hs
+untaken t sp [] none = refl
+untaken t sp (None ∷ hs) none = ap (λ (xs : List (Option Home)). None ∷ xs) (untaken t sp hs none)
+untaken t sp (Some h ∷ hs) none = by (same_home (home_at sp) (home_id h)) refl (untaken t sp hs)
+  where
+    by : (b : Bool) → same_home (home_at sp) (home_id h) ≡ b → (None ≡ taken_from t sp (held (home_at sp) hs) → edit (home_at sp) (taking t sp) hs ≡ hs)
+        → edit (home_at sp) (taking t sp) (Some h ∷ hs) ≡ Some h ∷ hs
+    by true e more =
+        let gone : None ≡ find_id id_of t (list_in h sp) = rw e at none in
+        rw e (ap (λ (g : Home). Some g ∷ hs) (ap (with_list h sp) (none_dropped (λ r. id_of r == t) (list_in h sp) (sym gone)) ∙ list_again sp h))
+    by false e more = rw e (ap (λ (xs : List (Option Home)). Some h ∷ xs) (more (rw e at none)))
 
 -- ---- a thread comes
 inserted_here : (p : ThreadRecord → Bool) (r : ThreadRecord) (rs : List ThreadRecord) → has_id (id_of r) (insert_before p r rs) ≡ true

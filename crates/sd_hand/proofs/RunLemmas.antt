@@ -59,6 +59,13 @@ module _ (t : ℕ) (c : CpuId) (P : ThreadRecord → ThreadRecord → Type 0) (h
   abbrev pub Made : Option ThreadRecord → Type 0
   Made o = MatchOption o (new ≡ hs) (λ r. (q : ThreadRecord) × (new ≡ edit (id.Cpu c) (putting q (Runs c)) (edit (id.Cpu c) (taking t (Runs c)) hs)) × (q.id ≡ r.id) × P r q)
 
+  pub run_untouched : RunsChanged t c P hs new → is_some (taken_from t (Runs c) (held (id.Cpu c) hs)) ≡ false → new ≡ hs
+  run_untouched = by (taken_from t (Runs c) (held (id.Cpu c) hs))
+    where
+      by : (o : Option ThreadRecord) → Made o → is_some o ≡ false → new ≡ hs
+      by None same none = same
+      by (Some r) made none = absurd cc
+
   pub run_held : (k : HomeId) → RunsChanged t c P hs new → is_some (held k new) ≡ is_some (held k hs)
   run_held k = by (taken_from t (Runs c) (held (id.Cpu c) hs))
     where

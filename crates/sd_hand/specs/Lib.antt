@@ -1,5 +1,6 @@
 pub mod Acting
 pub mod Frames
+pub mod Going
 pub mod Hands
 pub mod Keys
 pub mod Later

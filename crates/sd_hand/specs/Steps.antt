@@ -1,7 +1,8 @@
 -- What becomes of a thread on its way from list to list.
 -- Source: this project's own; see `sd_machine`'s Changes.
-use Rattle.std.specs.Prelude.{◌≡◌, ℕ, List, Option, Some, MatchOption}
+use Rattle.std.specs.Prelude.{◌≡◌, ℕ, List, Option, Some, is_some, MatchOption}
 use Rattle.sd_types.specs.declared.numbers.CpuId.{CpuId}
+use Rattle.sd_types.specs.declared.numbers.HomeId.{HomeId}
 use Rattle.sd_types.specs.declared.numbers.HomeId.TheVariants as id
 use Rattle.sd_types.specs.declared.numbers.ThreadId.{ThreadId}
 use Rattle.sd_types.specs.declared.events.Put.{Put}
@@ -22,7 +23,8 @@ use Rattle.sd_homes.specs.Standing.{home_at, record_key}
 use Rattle.sd_homes.specs.declared.home.Home.{Home}
 use Rattle.sd_homes.specs.Families.{putting, taken_from, taking}
 use Rattle.sd_homes.specs.Homes.{with_body_of, with_key}
-use Rattle.sd_hand.specs.Hands.{StandsIn, edit, held}
+use Rattle.sd_hand.specs.Hands.{AreApart, HasRoom, IsHeld, StandsIn, edit, has_thread, held}
+use Rattle.sd_hand.specs.Shown.{IsListThere}
 use Rattle.sd_hand.specs.declared.steps.Step.{Step}
 use Rattle.sd_hand.specs.declared.steps.Step.TheVariants.{Arrive, Depart, Move, MoveAs}
 
@@ -46,12 +48,28 @@ abbrev pub list_put : Work → ThreadId → Put → ListId
 list_put w t (Cpu x) = Queues x
 list_put w t (RealTime x) = Urgent (set_of w t.0)
 
+-- thread t, which stands in a list of these homes, has gone from there to another list, where that is one of a home that is held and has room
+pub record HasGone (t : ThreadId) (step : Step) (to : ListId) (hs new : List (Option Home)) (from : ListId) : Type 0 where
+  pub stands : StandsIn t.0 hs from
+  pub moved : (r : ThreadRecord) → Some r ≡ taken_from t.0 from (held (home_at from) hs)
+      → new ≡ edit (home_at to) (putting (stepped step r) to) (edit (home_at from) (taking t.0 from) hs)
+  pub homes : (k : HomeId) → is_some (held k new) ≡ is_some (held k hs)
+  pub apart : AreApart hs → AreApart new
+  pub threads : IsHeld (home_at to) hs → IsListThere to → HasRoom t.0 from to hs → (u : ℕ) → has_thread u new ≡ has_thread u hs
+
 -- the body of thread t has changed where it stands, if it can be changed so
 pub record IsChanged (w : Work) (t : ThreadId) (change : BodyChange) (hs new : List (Option Home)) : Type 0 where
   pub at : ListId
   pub stands : StandsIn t.0 hs at
   pub moved : (r : ThreadRecord) → Some r ≡ taken_from t.0 at (held (home_at at) hs) → CanChangeThread w t.0 change r.body
       → new ≡ edit (home_at at) (putting (with_body_of (changed w t.0 change r.body) r) at) (edit (home_at at) (taking t.0 at) hs)
+
+-- it has, among homes that are the same, with the same threads
+pub record HasChanged (w : Work) (t : ThreadId) (change : BodyChange) (hs new : List (Option Home)) : Type 0 where
+  pub changed : IsChanged w t change hs new
+  pub homes : (k : HomeId) → is_some (held k new) ≡ is_some (held k hs)
+  pub apart : AreApart hs → AreApart new
+  pub threads : (u : ℕ) → has_thread u new ≡ has_thread u hs
 
 -- the thread that runs on processor c, where it is t, becomes such a one where it stands
 abbrev pub RunsChanged : ℕ → CpuId → (ThreadRecord → ThreadRecord → Type 0) → List (Option Home) → List (Option Home) → Type 0

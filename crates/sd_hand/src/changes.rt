@@ -11,9 +11,11 @@ ghost use Rattle.sd_machine.specs.Needs.{CanJoin};
 ghost use Rattle.sd_machine.specs.Threads.{open_of, with_open};
 ghost use Rattle.sd_store.specs.Parts.{actor_part, view_of};
 ghost use Rattle.sd_store.specs.Words.{Does, Keeps, Lacks};
+ghost use Rattle.sd_homes.specs.declared.list_id.ListId.{ListId as ListIdOf};
 ghost use Rattle.sd_homes.specs.Standing.{home_at, list_of, look_of, record_of, without, MayCome};
 ghost use Rattle.sd_hand.specs.Acting.{IsShown, has_part, the_part};
-ghost use Rattle.sd_hand.specs.Hands.{HasRoom, IsHeld};
+ghost use Rattle.sd_hand.specs.Going.{GoesFor};
+ghost use Rattle.sd_hand.specs.Hands.{HasRoom, IsHeld, Seeks};
 ghost use Rattle.sd_hand.specs.Shown.{IsListThere, StandsAt};
 ghost use Rattle.sd_hand.specs.Steps.{stepped};
 
@@ -55,7 +57,7 @@ impl Acting {
         self.set_view(c, unmarked(view));
     }
 
-    /// Thread `t`, which stands there, goes to another list, and changes on the way.
+    /// Thread `t`, if it stands there, goes to another list, and changes on the way.
     pub(crate) fn relocate(&mut self, t: ThreadId, from: ListId, step: Step, to: ListId)
         ensures value { (n m : ℕ) (s : StateOf) (z : ThreadStateOf) → IsShown self.old n s → n ≤ m → StandsAt s t.0 from → IsHeld (home_at from) self.old.hand.slots
             → list_of z ≡ to → record_of t.0 z ≡ stepped step (record_of t.0 (thread_of s t.0)) → MayCome n m (without t.0 (look_of s)) to z → IsListThere to
@@ -63,6 +65,19 @@ impl Acting {
         ensures has { IsHeld (home_at to) self.old.hand.slots → IsListThere to → HasRoom t.0 from to self.old.hand.slots → has_part self.new ≡ has_part self.old }
     {
         self.hand.relocate(t, from, step, to);
+    }
+
+    /// Thread `t` goes from the list in which it stands to another one, and changes on the way. It is lacking where no held home has it; then
+    /// all stays as it was.
+    pub(crate) fn relocate_found(&mut self, t: ThreadId, step: Step, to: ListId) -> Result<(), Part>
+        ensures value { Seeks t self.old.hand.slots result (λ _. GoesFor self.old self.new t step to) }
+        ensures has { IfOk result (λ _. IsHeld (home_at to) self.old.hand.slots → IsListThere to → ((from : ListIdOf) → HasRoom t.0 from to self.old.hand.slots) → has_part self.new ≡ has_part self.old) }
+        ensures kept { IfErr result (λ _. self.new ≡ self.old) }
+    {
+        match self.hand.relocate_found(t, &step, to) {
+            Err(q) => Err(q),
+            Ok(_) => Ok(()),
+        }
     }
 
     /// Processor `d` is no more one of the open ones of set `p`.

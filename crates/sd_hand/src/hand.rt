@@ -255,9 +255,15 @@ impl Hand {
         }
     }
 
+    /// The list in which the thread may well stand.
+    #[inline(always)]
+    pub(crate) fn guide_of(&self, t: ThreadId) -> Option<ListId> {
+        self.guide.list(t).copied()
+    }
+
     /// The list in which the thread stands, by a search of all homes.
     #[inline(never)]
-    fn where_found(&self, t: ThreadId) -> Result<ListId, Part>
+    pub(crate) fn where_found(&self, t: ThreadId) -> Result<ListId, Part>
         ensures { Seeks t self.now.slots result (StandsIn t.0 self.now.slots) }
     {
         match where_in(&self.slots, t) {

@@ -1,6 +1,6 @@
 //! How a thread goes from list to list, and changes on the way or where it stands.
 
-ghost use Rattle.std.specs.Prelude.{◌≡◌, ℕ, Some, is_some, true, IfErr};
+ghost use Rattle.std.specs.Prelude.{◌≡◌, ℕ, Some, false, is_some, true, IfErr};
 ghost use Rattle.sd_types.specs.declared.numbers.HomeId.{HomeId as HomeIdOf};
 ghost use Rattle.sd_record.specs.Records.{ThreadRecord};
 ghost use Rattle.sd_store.specs.Bodies.{changed};
@@ -10,7 +10,7 @@ ghost use Rattle.sd_homes.specs.Families.{putting, taken_from, taking};
 ghost use Rattle.sd_homes.specs.Homes.{with_body_of};
 ghost use Rattle.sd_hand.specs.Hands.{AreApart, HasRoom, IsHeld, Seeks, edit, has_thread, held};
 ghost use Rattle.sd_hand.specs.Shown.{IsListThere};
-ghost use Rattle.sd_hand.specs.Steps.{IsChanged, list_by, list_put, stepped};
+ghost use Rattle.sd_hand.specs.Steps.{HasChanged, HasGone, IsChanged, list_by, list_put, stepped};
 
 use crate::hand::Hand;
 use sd_homes::{ListId, Traveller};
@@ -49,8 +49,11 @@ fn take_step(traveller: &mut Traveller, step: Step)
 }
 
 impl Hand {
-    /// Thread `t`, which stands there, goes to another list, and changes on the way.
-    pub(crate) fn relocate(&mut self, t: ThreadId, from: ListId, step: Step, to: ListId)
+    /// Thread `t`, if it stands there, goes to another list, and changes on the way. Tells whether it stands there; where it does not, all
+    /// stays as it was.
+    pub(crate) fn relocate(&mut self, t: ThreadId, from: ListId, step: Step, to: ListId) -> bool
+        ensures stood { result ≡ is_some (taken_from t.0 from (held (home_at from) self.old.slots)) }
+        ensures untouched { result ≡ false → self.new.slots ≡ self.old.slots }
         ensures moved { (r : ThreadRecord) → Some r ≡ taken_from t.0 from (held (home_at from) self.old.slots)
             → self.new.slots ≡ edit (home_at to) (putting (stepped step r) to) (edit (home_at from) (taking t.0 from) self.old.slots) }
         ensures held { (k : HomeIdOf) → is_some (held k self.new.slots) ≡ is_some (held k self.old.slots) }
@@ -58,28 +61,76 @@ impl Hand {
         ensures has { IsHeld (home_at to) self.old.slots → IsListThere to → HasRoom t.0 from to self.old.slots
             → (u : ℕ) → has_thread u self.new.slots ≡ has_thread u self.old.slots }
     {
-        if let Some(mut traveller) = self.take(t, from) {
-            take_step(&mut traveller, step);
-            self.put(traveller, to);
+        match self.take(t, from) {
+            None => false,
+            Some(mut traveller) => {
+                take_step(&mut traveller, step);
+                self.put(traveller, to);
+                true
+            }
         }
     }
 
-    /// The body of thread `t`, which stands there, changes on a way out of its list and back into it.
-    fn change_moved(&mut self, work: &Work, t: ThreadId, at: ListId, change: BodyChange)
+    /// The same from wherever the thread stands, which is told, by a search of all homes.
+    #[inline(never)]
+    fn relocate_searched(&mut self, t: ThreadId, step: Step, to: ListId) -> Result<ListId, Part>
+        ensures gone { Seeks t self.old.slots result (HasGone t step to self.old.slots self.new.slots) }
+        ensures kept { IfErr result (λ _. self.new.slots ≡ self.old.slots) }
+    {
+        match self.where_found(t) {
+            Err(q) => Err(q),
+            Ok(from) => {
+                self.relocate(t, from, step, to);
+                Ok(from)
+            }
+        }
+    }
+
+    /// Thread `t` goes from the list in which it stands, which is told, to another one, and changes on the way. The thread is lacking where no
+    /// held home has it.
+    pub(crate) fn relocate_found(
+        &mut self,
+        t: ThreadId,
+        step: &Step,
+        to: ListId,
+    ) -> Result<ListId, Part>
+        ensures gone { Seeks t self.old.slots result (HasGone t step.now to self.old.slots self.new.slots) }
+        ensures kept { IfErr result (λ _. self.new.slots ≡ self.old.slots) }
+    {
+        if let Some(at) = self.guide_of(t) {
+            if self.relocate(t, at, *step, to) {
+                return Ok(at);
+            }
+        }
+        self.relocate_searched(t, *step, to)
+    }
+
+    /// The body of thread `t`, if it stands there, changes on a way out of its list and back into it. Tells whether it stands there; where it
+    /// does not, all stays as it was.
+    fn change_moved(&mut self, work: &Work, t: ThreadId, at: ListId, change: BodyChange) -> bool
+        ensures stood { result ≡ is_some (taken_from t.0 at (held (home_at at) self.old.slots)) }
+        ensures untouched { result ≡ false → self.new.slots ≡ self.old.slots }
         ensures moved { (r : ThreadRecord) → Some r ≡ taken_from t.0 at (held (home_at at) self.old.slots) → CanChangeThread work.now t.0 change r.body
             → self.new.slots ≡ edit (home_at at) (putting (with_body_of (changed work.now t.0 change r.body) r) at) (edit (home_at at) (taking t.0 at) self.old.slots) }
         ensures held { (k : HomeIdOf) → is_some (held k self.new.slots) ≡ is_some (held k self.old.slots) }
         ensures apart { AreApart self.old.slots → AreApart self.new.slots }
         ensures has { (u : ℕ) → has_thread u self.new.slots ≡ has_thread u self.old.slots }
     {
-        if let Some(mut traveller) = self.take(t, at) {
-            traveller.change(work, t, change);
-            self.put(traveller, at);
+        match self.take(t, at) {
+            None => false,
+            Some(mut traveller) => {
+                traveller.change(work, t, change);
+                self.put(traveller, at);
+                true
+            }
         }
     }
 
-    /// The body of thread `t`, which stands there, changes, where it can be changed so.
-    fn change_at(&mut self, work: &Work, t: ThreadId, at: ListId, change: BodyChange)
+    /// The body of thread `t`, if it stands there, changes, where it can be changed so. Tells whether it stands there; where it does not, all
+    /// stays as it was.
+    fn change_at(&mut self, work: &Work, t: ThreadId, at: ListId, change: BodyChange) -> bool
+        ensures stood { result ≡ is_some (taken_from t.0 at (held (home_at at) self.old.slots)) }
+        ensures untouched { result ≡ false → self.new.slots ≡ self.old.slots }
         ensures moved { (r : ThreadRecord) → Some r ≡ taken_from t.0 at (held (home_at at) self.old.slots) → CanChangeThread work.now t.0 change r.body
             → self.new.slots ≡ edit (home_at at) (putting (with_body_of (changed work.now t.0 change r.body) r) at) (edit (home_at at) (taking t.0 at) self.old.slots) }
         ensures held { (k : HomeIdOf) → is_some (held k self.new.slots) ≡ is_some (held k self.old.slots) }
@@ -87,29 +138,38 @@ impl Hand {
         ensures has { (u : ℕ) → has_thread u self.new.slots ≡ has_thread u self.old.slots }
     {
         match at {
-            ListId::Runs(c) => {
-                self.change_running(work, t, c, change);
-            }
+            ListId::Runs(c) => self.change_running(work, t, c, change),
             _ => self.change_moved(work, t, at, change),
         }
     }
 
-    /// The body of thread `t` changes, where it can be changed so. The thread is lacking where no held home has it.
+    /// The body of thread `t` changes, where it can be changed so, by a search of all homes. The thread is lacking where no held home has it.
     #[inline(never)]
-    fn change_found(&mut self, work: &Work, t: ThreadId, change: BodyChange) -> Result<(), Part>
-        ensures changed { Seeks t self.old.slots result (λ _. IsChanged work.now t change self.old.slots self.new.slots) }
+    fn change_searched(&mut self, work: &Work, t: ThreadId, change: BodyChange) -> Result<(), Part>
+        ensures changed { Seeks t self.old.slots result (λ _. HasChanged work.now t change self.old.slots self.new.slots) }
         ensures kept { IfErr result (λ _. self.new.slots ≡ self.old.slots) }
-        ensures held { (k : HomeIdOf) → is_some (held k self.new.slots) ≡ is_some (held k self.old.slots) }
-        ensures apart { AreApart self.old.slots → AreApart self.new.slots }
-        ensures has { (u : ℕ) → has_thread u self.new.slots ≡ has_thread u self.old.slots }
     {
-        match self.where_is(t) {
+        match self.where_found(t) {
             Err(q) => Err(q),
             Ok(at) => {
                 self.change_at(work, t, at, change);
                 Ok(())
             }
         }
+    }
+
+    /// The same, where the thread may well stand where it came last.
+    #[inline(never)]
+    fn change_found(&mut self, work: &Work, t: ThreadId, change: &BodyChange) -> Result<(), Part>
+        ensures changed { Seeks t self.old.slots result (λ _. HasChanged work.now t change.now self.old.slots self.new.slots) }
+        ensures kept { IfErr result (λ _. self.new.slots ≡ self.old.slots) }
+    {
+        if let Some(at) = self.guide_of(t) {
+            if self.change_at(work, t, at, *change) {
+                return Ok(());
+            }
+        }
+        self.change_searched(work, t, *change)
     }
 
     /// The same, where the thread may well run on processor `c`: then it is found and changed at once.
@@ -121,16 +181,13 @@ impl Hand {
         t: ThreadId,
         change: &BodyChange,
     ) -> Result<(), Part>
-        ensures changed { Seeks t self.old.slots result (λ _. IsChanged work.now t change.now self.old.slots self.new.slots) }
+        ensures changed { Seeks t self.old.slots result (λ _. HasChanged work.now t change.now self.old.slots self.new.slots) }
         ensures kept { IfErr result (λ _. self.new.slots ≡ self.old.slots) }
-        ensures held { (k : HomeIdOf) → is_some (held k self.new.slots) ≡ is_some (held k self.old.slots) }
-        ensures apart { AreApart self.old.slots → AreApart self.new.slots }
-        ensures has { (u : ℕ) → has_thread u self.new.slots ≡ has_thread u self.old.slots }
     {
         if self.change_running(work, t, c, *change) {
             return Ok(());
         }
-        self.change_found(work, t, *change)
+        self.change_found(work, t, change)
     }
 
     /// Thread `t`, which stands there, is bound to a processor, or to none.

@@ -93,18 +93,14 @@ impl Store for Acting {
     }
 
     fn run_on(&mut self, t: ThreadId, c: CpuId) -> Result<(), Part> {
-        let from = match self.hand.where_is(t) {
-            Err(q) => return Err(q),
-            Ok(from) => from,
-        };
         match self.hand.first(ListId::Runs(c)) {
             Err(q) => Err(q),
             // None of the states that are shown asks for this.
             Ok(Some(_other)) => Ok(()),
-            Ok(None) => {
-                self.relocate(t, from, Step::Arrive(c), ListId::Runs(c));
-                Ok(())
-            }
+            Ok(None) => match self.relocate_found(t, Step::Arrive(c), ListId::Runs(c)) {
+                Err(q) => Err(q),
+                Ok(()) => Ok(()),
+            },
         }
     }
 
@@ -131,17 +127,15 @@ impl Store for Acting {
     }
 
     fn enqueue(&mut self, work: &Work, number: u64, t: ThreadId, at: Put) -> Result<(), Part> {
-        let from = match self.hand.where_is(t) {
-            Err(q) => return Err(q),
-            Ok(from) => from,
-        };
         let to = list_put(work, t, at);
         match self.hand.home(home_at(to)) {
             Err(q) => Err(q),
             Ok(_) => {
                 let place = place_put(work, number, t, at);
-                self.relocate(t, from, Step::Move(place), to);
-                Ok(())
+                match self.relocate_found(t, Step::Move(place), to) {
+                    Err(q) => Err(q),
+                    Ok(()) => Ok(()),
+                }
             }
         }
     }
@@ -154,17 +148,15 @@ impl Store for Acting {
         class: ClassState,
         at: Put,
     ) -> Result<(), Part> {
-        let from = match self.hand.where_is(t) {
-            Err(q) => return Err(q),
-            Ok(from) => from,
-        };
         let queue = list_put(work, t, at);
         match self.hand.home(home_at(queue)) {
             Err(q) => Err(q),
             Ok(_) => {
                 let place = place_put(work, number, t, at);
-                self.relocate(t, from, Step::MoveAs(class, place), queue);
-                Ok(())
+                match self.relocate_found(t, Step::MoveAs(class, place), queue) {
+                    Err(q) => Err(q),
+                    Ok(()) => Ok(()),
+                }
             }
         }
     }

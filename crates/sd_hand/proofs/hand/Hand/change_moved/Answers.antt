@@ -5,7 +5,7 @@ use Rattle.sd_homes.specs.Bodies.{CanChangeThread}
 use Rattle.sd_homes.specs.Families.{putting}
 use Rattle.sd_homes.specs.Homes.{with_body_of}
 use Rattle.sd_hand.specs.Hands.{AreApart, edit, has_thread, held}
-use Rattle.sd_hand.proofs.HasLemmas.{back_has, left_apart, left_held, none_taken, taken_id, went_apart, went_held}
+use Rattle.sd_hand.proofs.HasLemmas.{back_has, left_apart, left_held, none_taken, taken_id, untaken, went_apart, went_held}
 use Rattle.sd_hand.proofs.hand.Hand.change_moved.Goals as goal
 
 pub returns-in-Some-clause-moved : goal.returns-in-Some-clause-moved
@@ -15,24 +15,24 @@ returns-in-Some-clause-moved c r e can =
     let now = c.change.ensures.body (subst (λ z. CanChangeThread c.args.work.now c.args.t.0 c.args.change z.body) (sym same) can) in
     c.put.ensures.rest ∙ (λ i. edit (home_at c.args.at) (putting ((now ∙ ap (λ z. with_body_of (changed c.args.work.now c.args.t.0 c.args.change z.body) z) same) i) c.args.at) (c.take.ensures.rest i))
 
-pub returns-in_default-clause-moved : goal.returns-in_default-clause-moved
-returns-in_default-clause-moved c r e can = let none = sym c.in_default.is ∙ c.take.ensures.taken ∙ sym e in absurd cc
+pub returns-in-None-clause-moved : goal.returns-in-None-clause-moved
+returns-in-None-clause-moved c r e can = let none = sym c.in-None.is ∙ c.take.ensures.taken ∙ sym e in absurd cc
 
 pub returns-in-Some-clause-held : goal.returns-in-Some-clause-held
 returns-in-Some-clause-held c k =
     ap (λ hs. is_some (held k hs)) (c.put.ensures.rest ∙ ap (edit (home_at c.args.at) (putting c.change.new.self c.args.at)) c.take.ensures.rest)
     ∙ went_held k c.args.t.0 c.args.at c.args.at c.change.new.self c.args.self.now.slots
 
-pub returns-in_default-clause-held : goal.returns-in_default-clause-held
-returns-in_default-clause-held c k = ap (λ hs. is_some (held k hs)) c.take.ensures.rest ∙ left_held k c.args.t.0 c.args.at c.args.self.now.slots
+pub returns-in-None-clause-held : goal.returns-in-None-clause-held
+returns-in-None-clause-held c k = ap (λ hs. is_some (held k hs)) c.take.ensures.rest ∙ left_held k c.args.t.0 c.args.at c.args.self.now.slots
 
 pub returns-in-Some-clause-apart : goal.returns-in-Some-clause-apart
 returns-in-Some-clause-apart c a =
     subst AreApart (sym (c.put.ensures.rest ∙ ap (edit (home_at c.args.at) (putting c.change.new.self c.args.at)) c.take.ensures.rest))
     (went_apart c.args.t.0 c.args.at c.args.at c.change.new.self c.args.self.now.slots a)
 
-pub returns-in_default-clause-apart : goal.returns-in_default-clause-apart
-returns-in_default-clause-apart c a = subst AreApart (sym c.take.ensures.rest) (left_apart c.args.t.0 c.args.at c.args.self.now.slots a)
+pub returns-in-None-clause-apart : goal.returns-in-None-clause-apart
+returns-in-None-clause-apart c a = subst AreApart (sym c.take.ensures.rest) (left_apart c.args.t.0 c.args.at c.args.self.now.slots a)
 
 pub returns-in-Some-clause-has : goal.returns-in-Some-clause-has
 returns-in-Some-clause-has c u =
@@ -42,6 +42,9 @@ returns-in-Some-clause-has c u =
     ap (has_thread u) (c.put.ensures.rest ∙ ap (edit (home_at c.args.at) (putting c.change.new.self c.args.at)) c.take.ensures.rest)
     ∙ back_has u c.args.t.0 c.args.at old c.change.new.self c.args.self.now.slots taken id (λ h e. c.put.ensures.whole h (ap (held (home_at c.args.at)) c.take.ensures.rest ∙ e))
 
-pub returns-in_default-clause-has : goal.returns-in_default-clause-has
-returns-in_default-clause-has c u =
-    ap (has_thread u) c.take.ensures.rest ∙ none_taken u c.args.t.0 c.args.at c.args.self.now.slots (sym c.in_default.is ∙ c.take.ensures.taken)
+pub returns-in-None-clause-has : goal.returns-in-None-clause-has
+returns-in-None-clause-has c u =
+    ap (has_thread u) c.take.ensures.rest ∙ none_taken u c.args.t.0 c.args.at c.args.self.now.slots (sym c.in-None.is ∙ c.take.ensures.taken)
+
+pub returns-in-None-clause-untouched : goal.returns-in-None-clause-untouched
+returns-in-None-clause-untouched c gone = c.take.ensures.rest ∙ untaken c.args.t.0 c.args.at c.args.self.now.slots (sym c.in-None.is ∙ c.take.ensures.taken)

@@ -8,10 +8,12 @@ use Rattle.sd_machine.specs.Threads.{runner}
 use Rattle.sd_store.specs.Parts.{number}
 use Rattle.sd_homes.specs.declared.list_id.ListId.TheVariants.{Runs}
 use Rattle.sd_homes.specs.Families.{list_in}
+use Rattle.sd_hand.specs.declared.acting.Acting.{Acting}
+use Rattle.sd_hand.specs.Acting.{IsShown}
 use Rattle.sd_hand.proofs.GoLemmas.{no_head}
 use Rattle.sd_hand.proofs.HasLemmas.{room_free}
 use Rattle.sd_hand.proofs.MoveLemmas.{unseen}
-use Rattle.sd_hand.proofs.TellLemmas.{found_at, found_held, runner_told}
+use Rattle.sd_hand.proofs.TellLemmas.{runner_told}
 use Rattle.sd_hand.proofs.store.ActingStore.run_on.Goals as goal
 
 pub returns-in-Ok-Some-clause-value : goal.returns-in-Ok-Some-clause-value
@@ -22,23 +24,23 @@ returns-in-Ok-Some-clause-value c n s sh free =
     let none : Some c.in-Ok-Some._other.0 ≡ None = some ∙ free in
     absurd cc
 
-pub returns-in-Ok-None-clause-value : goal.returns-in-Ok-None-clause-value
+pub returns-in-Ok-clause-value : goal.returns-in-Ok-clause-value
 unfolding run_on
-returns-in-Ok-None-clause-value c n s sh free =
-    let x = c.args.self.now in
+returns-in-Ok-clause-value c n s sh free =
     let t = c.args.t.0 in
-    let from = c.in-Ok.from in
     let z : ThreadState = record { body = arrived c.args.c (thread_of s t).body; place = Running c.args.c } in
-    c.relocate.ensures.value n n s z sh (le_refl n) (found_at x n s sh t from c.in-Ok.ensures) (found_held x n s sh t from c.in-Ok.ensures) refl refl
-    (refl, unseen s c.args.c t free) tt
+    c.in-Ok.ensures.value.shown n n s z sh (le_refl n) refl refl (refl, unseen s c.args.c t free) tt
 
-pub returns-in-Ok-None-clause-has : goal.returns-in-Ok-None-clause-has
-returns-in-Ok-None-clause-has c =
+pub returns-in-Ok-clause-has : goal.returns-in-Ok-clause-has
+returns-in-Ok-clause-has c =
     let a = c.in-Ok-None.ensures in
     let slots = c.args.self.now.hand.slots in
     let none : list_in a.0 (Runs c.args.c) ≡ [] = no_head (list_in a.0 (Runs c.args.c)) (ap (option_map number) (sym c.in-Ok-None.field-0-is) ∙ a.2) in
-    c.relocate.ensures.has (a.0, a.1) tt
-    (room_free c.args.t.0 c.in-Ok.from (Runs c.args.c) slots (λ h e.
+    c.in-Ok.ensures.has (a.0, a.1) tt
+    (λ from. room_free c.args.t.0 from (Runs c.args.c) slots (λ h e.
     let both : Some a.0 ≡ Some h = sym a.1 ∙ e in
     let same : a.0 ≡ h = cc in
     subst (λ g. list_in g (Runs c.args.c) ≡ []) same none))
+
+pub returns-in-Err-relocate_found-clause-kept : goal.returns-in-Err-relocate_found-clause-kept
+returns-in-Err-relocate_found-clause-kept c n s sh = subst (λ (y : Acting). IsShown y n s) (sym c.in-Err-relocate_found.ensures.kept) sh
