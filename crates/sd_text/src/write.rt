@@ -25,7 +25,10 @@ pub fn write_piece<K: Sink>(sink: &mut K, piece: &[u8]) -> Result<(), WriteFault
     ensures risen { OnErr result (HasRisen (K.fault_count sink.old) (K.fault_count sink.new)) }
     ensures part { OnErr result ((n : ℕ) × (n < length piece.now) × Appends (K.contents sink.old) (K.contents sink.new) (take n piece.now)) }
 {
-    let mut at = 0;
+    let Ok(first) = sink.write(piece) else {
+        return Err(WriteFault);
+    };
+    let mut at = first;
     while at < piece.len() {
         let Ok(count) = sink.write(&piece[at..]) else {
             return Err(WriteFault);
