@@ -199,8 +199,8 @@ run_journal w es run complete bytes few = record {
   ends = refl;
 }
 
-pub serial_journal : (w : Work) (turns : RoundOrder) (es : List Entry) → IsSerial w (orders_of w turns) es → length es < 2 ^ 40
+pub serial_journal : (w : Work) (orders : RoundOrder) (es : List Entry) → IsSerial w (orders_of w orders) es → length es < 2 ^ 40
     → IsJournal w (journal w es) (final w (opening w) es) (length es)
-serial_journal w turns es serial few =
-    let run = serial_run w (orders_of w turns) es serial in
-    run_journal w es run (complete_of w turns es serial) (serial_bytes w (orders_of w turns) es serial run) few
+serial_journal w orders es serial few =
+    let run = serial_run w (orders_of w orders) es serial in
+    run_journal w es run (complete_of w orders es serial) (serial_bytes w (orders_of w orders) es serial run) few

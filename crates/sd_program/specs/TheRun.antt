@@ -28,7 +28,7 @@ WokenStayRunnableIn w es =
 
 -- the run goes in rounds in which the processors take these turns; or, on threads of the host, in any order
 abbrev pub Goes : Work → Mode → List Entry → Type 0
-Goes w (Rounds turns) es = IsSerial w (orders_of w turns) es
+Goes w (Rounds orders) es = IsSerial w (orders_of w orders) es
 Goes w Threads es = ⊤
 
 -- The entries are those of a run in which the processors act so: a complete legal run, at whose end each processor has

@@ -95,8 +95,8 @@ fn drawn_command(seed: u64) -> Option<Command>
     ensures { result ≡ drawn_command seed }
 {
     if seed <= 4_294_967_295 {
-        let turns = RoundOrder::Drawn { seed: seed as u32 };
-        Some(Command::Run(Form::Journal(Mode::Rounds(turns))))
+        let orders = RoundOrder::Drawn { seed: seed as u32 };
+        Some(Command::Run(Form::Journal(Mode::Rounds(orders))))
     } else {
         None
     }

@@ -38,7 +38,7 @@ fn run_in_rounds(alloc: Global, work: &Work, mode: Mode) -> Result<Finished, Sto
     ensures full { IsErrOf result Stop.Full → IsLong work.now mode }
 {
     match mode {
-        Mode::Rounds(turns) => run_rounds(alloc, work, turns),
+        Mode::Rounds(orders) => run_rounds(alloc, work, orders),
         Mode::Threads => unreachable!(),
     }
 }

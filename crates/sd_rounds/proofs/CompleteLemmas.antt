@@ -28,12 +28,12 @@ enters_inside w s c e =
 some_none : (o : Option Event) → IsSome o → o ≡ None → ⊥
 some_none o some none = cc
 
-module _ (w : Work) (turns : RoundOrder) (k : ℕ) (es : List Entry) (none : round_after w (orders_of w turns k) es ≡ []) where
+module _ (w : Work) (orders : RoundOrder) (k : ℕ) (es : List Entry) (none : round_after w (orders_of w orders k) es ≡ []) where
   none_here : (c : CpuId) → c.0 < w.cpus → next w (final w (opening w) es) c (serial_hints w (final w (opening w) es) c) ≡ None
   none_here c here =
-      let at = order_in w turns k c here in
+      let at = order_in w orders k c here in
       subst (λ d. next w (final w (opening w) es) d (serial_hints w (final w (opening w) es) d) ≡ None) at.is
-      (empty_round w first (final w (opening w) es) (length es) (orders_of w turns k) none at.place at.inside)
+      (empty_round w first (final w (opening w) es) (length es) (orders_of w orders k) none at.place at.inside)
 
   pub complete_after : IsComplete w (final w (opening w) es)
   complete_after c hints = by (can_enter w (final w (opening w) es) c) refl
@@ -42,5 +42,5 @@ module _ (w : Work) (turns : RoundOrder) (k : ℕ) (es : List Entry) (none : rou
       by true e = absurd (some_none _ (enters_some w (final w (opening w) es) c e) (none_here c (enters_inside w (final w (opening w) es) c e)))
       by false e = enters_none w (final w (opening w) es) c hints e
 
-pub complete_of : (w : Work) (turns : RoundOrder) (es : List Entry) → IsSerial w (orders_of w turns) es → IsComplete w (final w (opening w) es)
-complete_of w turns es r = complete_after w turns r.count es r.ends
+pub complete_of : (w : Work) (orders : RoundOrder) (es : List Entry) → IsSerial w (orders_of w orders) es → IsComplete w (final w (opening w) es)
+complete_of w orders es r = complete_after w orders r.count es r.ends

@@ -17,11 +17,11 @@ use Rattle.sd_rounds.specs.Orders.{shuffled, generator, orders_of, generator_at,
 
 -- The order of the next round, and the generator after it.
 
-pub order_next : (w : Work) (turns : RoundOrder) (k : ℕ) → (next_order (rising w) (generator_at w turns k)).0 ≡ orders_of w turns k
+pub order_next : (w : Work) (orders : RoundOrder) (k : ℕ) → (next_order (rising w) (generator_at w orders k)).0 ≡ orders_of w orders k
 order_next w Rising k = refl
 order_next w (Drawn seed) k = refl
 
-pub generator_next : (w : Work) (turns : RoundOrder) (k : ℕ) → (next_order (rising w) (generator_at w turns k)).1 ≡ generator_at w turns (suc k)
+pub generator_next : (w : Work) (orders : RoundOrder) (k : ℕ) → (next_order (rising w) (generator_at w orders k)).1 ≡ generator_at w orders (suc k)
 unfolding generator
 generator_next w Rising k = refl
 generator_next w (Drawn seed) k = refl
@@ -107,11 +107,11 @@ rising_in w c here = record {
 
 -- Of every round.
 
-pub order_length : (w : Work) (turns : RoundOrder) (k : ℕ) → length (orders_of w turns k) ≡ w.cpus
+pub order_length : (w : Work) (orders : RoundOrder) (k : ℕ) → length (orders_of w orders k) ≡ w.cpus
 order_length w Rising k = length-rising w
 order_length w (Drawn seed) k = shuffled_length (length (rising w) - 1) (generator w seed k) (rising w) ∙ length-rising w
 
-pub order_in : (w : Work) (turns : RoundOrder) (k : ℕ) (c : CpuId) → c.0 < w.cpus → IsIn c (orders_of w turns k)
+pub order_in : (w : Work) (orders : RoundOrder) (k : ℕ) (c : CpuId) → c.0 < w.cpus → IsIn c (orders_of w orders k)
 order_in w Rising k c here = rising_in w c here
 order_in w (Drawn seed) k c here =
     shuffled_in c (length (rising w) - 1) (generator w seed k) (rising w) (omega arith) (rising_in w c here)

@@ -20,10 +20,10 @@ pub enum RoundOrder {
 
 /// The generator with which a run begins, where orders are drawn.
 #[tactic(auto, unfolding(crate::specs::Orders::generator))]
-pub(crate) fn first_generator(turns: RoundOrder) -> Option<Lcg64Xsh32>
-    ensures { (work : Work) → result ≡ generator_at work turns 0 }
+pub(crate) fn first_generator(orders: RoundOrder) -> Option<Lcg64Xsh32>
+    ensures { (work : Work) → result ≡ generator_at work orders 0 }
 {
-    match turns {
+    match orders {
         RoundOrder::Rising => None,
         RoundOrder::Drawn { seed } => Some(Lcg64Xsh32::new(u64::from(seed), 1)),
     }

@@ -75,20 +75,20 @@ fn finish(alloc: Global, work: &Work, world: PlainWorld) -> Result<Finished, Sto
 /// The run of the workload that goes in rounds, in which the processors take turns so. `Full` only where it has 2^40
 /// entries or more, and then it is never returned whole: what `Memory` may stand for instead of a run or of `Full` is
 /// only that memory ran out.
-pub fn run_rounds(alloc: Global, work: &Work, turns: RoundOrder) -> Result<Finished, Stop>
-    ensures serial { IfOk result (λ r. IsSerial work.now (orders_of work.now turns) r.entries.items) }
+pub fn run_rounds(alloc: Global, work: &Work, orders: RoundOrder) -> Result<Finished, Stop>
+    ensures serial { IfOk result (λ r. IsSerial work.now (orders_of work.now orders) r.entries.items) }
     ensures run { IfOk result (λ r. IsRun work.now r.entries.items) }
     ensures complete { IfOk result (λ r. IsComplete work.now r.state) }
     ensures state { IfOk result (λ r. r.state ≡ final work.now (opening work.now) r.entries.items) }
     ensures homes { IfOk result (λ r. (k : ℕ) → k ≤ length r.entries.items → StandsInHomes k (state_at work.now r.entries.items k)) }
     ensures short { IfOk result (λ r. length r.entries.items < MOST_ENTRIES) }
-    ensures full { IsErrOf result Stop.Full → IsLongSerial work.now (orders_of work.now turns) }
-    ensures no_longer { OnOk result (IsLongSerial work.now (orders_of work.now turns) → ⊥) }
+    ensures full { IsErrOf result Stop.Full → IsLongSerial work.now (orders_of work.now orders) }
+    ensures no_longer { OnOk result (IsLongSerial work.now (orders_of work.now orders) → ⊥) }
 {
     let Ok(mut world) = PlainWorld::new(alloc, work) else {
         return Err(Stop::Memory);
     };
-    let mut generator = first_generator(turns);
+    let mut generator = first_generator(orders);
     let mut order = rising(work);
     let mut searched = None;
     'rounds: loop {

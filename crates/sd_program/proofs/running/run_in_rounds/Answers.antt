@@ -16,14 +16,14 @@ use Rattle.sd_program.specs.TheRun.{IsTheRun}
 use Rattle.sd_program.proofs.TheRun.{is_the_run}
 use Rattle.sd_program.proofs.running.run_in_rounds.Goals as goal
 
-run_ok : (w : Work) (turns : RoundOrder) (r : Result Finished Stop) → IfOk r (λ x. length x.entries.items < 2 ^ 40)
-    → IfOk r (λ x. IsSerial w (orders_of w turns) x.entries.items) → IfOk r (λ x. IsRun w x.entries.items) → IfOk r (λ x. IsComplete w x.state)
+run_ok : (w : Work) (orders : RoundOrder) (r : Result Finished Stop) → IfOk r (λ x. length x.entries.items < 2 ^ 40)
+    → IfOk r (λ x. IsSerial w (orders_of w orders) x.entries.items) → IfOk r (λ x. IsRun w x.entries.items) → IfOk r (λ x. IsComplete w x.state)
     → IfOk r (λ x. x.state ≡ final w (opening w) x.entries.items)
-    → IfOk r (λ x. (k : ℕ) → k ≤ length x.entries.items → StandsInHomes k (state_at w x.entries.items k)) → IfOk r (λ x. IsTheRun w (Rounds turns) x.entries.items)
-run_ok w turns (Ok x) short serial run complete state homes =
+    → IfOk r (λ x. (k : ℕ) → k ≤ length x.entries.items → StandsInHomes k (state_at w x.entries.items k)) → IfOk r (λ x. IsTheRun w (Rounds orders) x.entries.items)
+run_ok w orders (Ok x) short serial run complete state homes =
     let es = x.entries.items in
-    is_the_run w (Rounds turns) es short serial run (subst (IsComplete w) state complete) (serial_bytes w (orders_of w turns) es serial run) homes
-run_ok w turns (Err stop) short serial run complete state homes = tt
+    is_the_run w (Rounds orders) es short serial run (subst (IsComplete w) state complete) (serial_bytes w (orders_of w orders) es serial run) homes
+run_ok w orders (Err stop) short serial run complete state homes = tt
 
 pub returns-clause-run : goal.returns-clause-run
 returns-clause-run c =
@@ -31,7 +31,7 @@ returns-clause-run c =
     let w = c.args.work.now in
     let r = c.run_rounds.result in
     subst (λ (m : Mode). IfOk r (λ x. IsTheRun w m x.entries.items)) (sym c.in-Rounds.is)
-    (run_ok w c.in-Rounds.turns r e.short e.serial e.run e.complete e.state e.homes)
+    (run_ok w c.in-Rounds.orders r e.short e.serial e.run e.complete e.state e.homes)
 
 pub returns-clause-full : goal.returns-clause-full
 returns-clause-full c full =

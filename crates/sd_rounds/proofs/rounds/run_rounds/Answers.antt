@@ -20,7 +20,7 @@ rounds-init c =
     let none = c.in-Ok.ensures.entries in
     record {
       count = 0;
-      rounds = no_rounds w (orders_of w c.args.turns) c.in-Ok.world.entries.items none;
+      rounds = no_rounds w (orders_of w c.args.orders) c.in-Ok.world.entries.items none;
       generator = c.first_generator-generator.ensures w;
       steady = λ none. c.rising-order.ensures;
       stands = c.in-Ok.ensures.stands;
@@ -33,29 +33,29 @@ pub returns-in-Err-clause-full : goal.returns-in-Err-clause-full
 returns-in-Err-clause-full c = λ x.
     let w = c.args.work.now in
     let r = c.rounds in
-    let order = orders_of w c.args.turns r.invariant.count in
+    let order = orders_of w c.args.orders r.invariant.count in
     let is : c.as_slice.result.now ≡ order = c.as_slice.ensures.value ∙ c.draw_order.ensures.order
-    ∙ ap (λ (g : Option Lcg). (next_order (rising w) g).0) r.invariant.generator ∙ order_next w c.args.turns r.invariant.count in
+    ∙ ap (λ (g : Option Lcg). (next_order (rising w) g).0) r.invariant.generator ∙ order_next w c.args.orders r.invariant.count in
     let is_full : c.in-Err.stop ≡ Full = cc in
     let at_round : IsErrOf {T = Unit {0}} (Err c.in-Err.stop) Full = ap Err is_full in
     let many = c.in-Err.ensures.full at_round in
-    long_serial w (orders_of w c.args.turns) r.invariant.count (told w r.world) r.world.entries.items r.invariant.rounds refl
+    long_serial w (orders_of w c.args.orders) r.invariant.count (told w r.world) r.world.entries.items r.invariant.rounds refl
     (subst (λ (o : List CpuId). 2 ^ 40 ≤ length (r.world.entries.items ++ round w (told w r.world) (length r.world.entries.items) o)) is many)
 
 pub rounds-preserved : goal.rounds-preserved
 rounds-preserved c =
     let w = c.args.work.now in
     let r = c.rounds in
-    let order = orders_of w c.args.turns r.invariant.count in
+    let order = orders_of w c.args.orders r.invariant.count in
     let is : c.as_slice.result.now ≡ order = c.as_slice.ensures.value ∙ c.draw_order.ensures.order
-    ∙ ap (λ (g : Option Lcg). (next_order (rising w) g).0) r.invariant.generator ∙ order_next w c.args.turns r.invariant.count in
+    ∙ ap (λ (g : Option Lcg). (next_order (rising w) g).0) r.invariant.generator ∙ order_next w c.args.orders r.invariant.count in
     let e = c.in_default-run_round.ensures in
     let made = e.entries ∙ ap (λ (o : List CpuId). r.world.entries.items ++ round w (told w r.world) (length r.world.entries.items) o) is in
     record {
       count = suc r.invariant.count;
-      rounds = one_round_more w (orders_of w c.args.turns) r.invariant.count (told w r.world) r.world.entries.items c.run_round.new.world.entries.items r.invariant.rounds refl made
+      rounds = one_round_more w (orders_of w c.args.orders) r.invariant.count (told w r.world) r.world.entries.items c.run_round.new.world.entries.items r.invariant.rounds refl made
           (λ same. c.if-len-before.false (let h : c.len.result ≡ c.len-before.result = omega (arith, same) in h));
-      generator = c.draw_order.ensures.generator ∙ ap (λ (g : Option Lcg). (next_order (rising w) g).1) r.invariant.generator ∙ generator_next w c.args.turns r.invariant.count;
+      generator = c.draw_order.ensures.generator ∙ ap (λ (g : Option Lcg). (next_order (rising w) g).1) r.invariant.generator ∙ generator_next w c.args.orders r.invariant.count;
       steady = c.draw_order.ensures.rising;
       stands = e.stands;
       work = e.work;
@@ -64,34 +64,34 @@ rounds-preserved c =
     }
 
 -- the run that was made goes in rounds
-made_serial : (c : goal.After-finish) → IsSerial c.args.work.now (orders_of c.args.work.now c.args.turns) c.run_round.new.world.entries.items
+made_serial : (c : goal.After-finish) → IsSerial c.args.work.now (orders_of c.args.work.now c.args.orders) c.run_round.new.world.entries.items
 made_serial c =
     let w = c.args.work.now in
     let r = c.rounds in
-    let order = orders_of w c.args.turns r.invariant.count in
+    let order = orders_of w c.args.orders r.invariant.count in
     let is : c.as_slice.result.now ≡ order = c.as_slice.ensures.value ∙ c.draw_order.ensures.order
-    ∙ ap (λ (g : Option Lcg). (next_order (rising w) g).0) r.invariant.generator ∙ order_next w c.args.turns r.invariant.count in
+    ∙ ap (λ (g : Option Lcg). (next_order (rising w) g).0) r.invariant.generator ∙ order_next w c.args.orders r.invariant.count in
     let e = c.in_default-run_round.ensures in
     let made = e.entries ∙ ap (λ (o : List CpuId). r.world.entries.items ++ round w (told w r.world) (length r.world.entries.items) o) is in
-    is_over w (orders_of w c.args.turns) r.invariant.count (told w r.world) r.world.entries.items c.run_round.new.world.entries.items r.invariant.rounds refl made
+    is_over w (orders_of w c.args.orders) r.invariant.count (told w r.world) r.world.entries.items c.run_round.new.world.entries.items r.invariant.rounds refl made
     (let same = c.if-len-before.true in omega (arith, same))
 
 made_short : (c : goal.After-finish) → length c.run_round.new.world.entries.items < 2 ^ 40
 made_short c =
     let w = c.args.work.now in
     let r = c.rounds in
-    let order = orders_of w c.args.turns r.invariant.count in
+    let order = orders_of w c.args.orders r.invariant.count in
     let is : c.as_slice.result.now ≡ order = c.as_slice.ensures.value ∙ c.draw_order.ensures.order
-    ∙ ap (λ (g : Option Lcg). (next_order (rising w) g).0) r.invariant.generator ∙ order_next w c.args.turns r.invariant.count in
+    ∙ ap (λ (g : Option Lcg). (next_order (rising w) g).0) r.invariant.generator ∙ order_next w c.args.orders r.invariant.count in
     let e = c.in_default-run_round.ensures in
     let some = w.some_cpu in
-    let many : length c.as_slice.result.now ≡ w.cpus = ap length is ∙ order_length w c.args.turns r.invariant.count in
+    let many : length c.as_slice.result.now ≡ w.cpus = ap length is ∙ order_length w c.args.orders r.invariant.count in
     let few = e.begins (let h : 0 < length c.as_slice.result.now = omega (arith, some, many) in h) in
     let same = c.if-len-before.true in
     omega (arith, few, same)
 
 pub returns-clause-serial : goal.returns-clause-serial
-returns-clause-serial c = finished c.finish.result c.run_round.new.world.entries.items (IsSerial c.args.work.now (orders_of c.args.work.now c.args.turns)) c.finish.ensures.entries (made_serial c)
+returns-clause-serial c = finished c.finish.result c.run_round.new.world.entries.items (IsSerial c.args.work.now (orders_of c.args.work.now c.args.orders)) c.finish.ensures.entries (made_serial c)
 
 pub returns-clause-run : goal.returns-clause-run
 returns-clause-run c = finished c.finish.result c.run_round.new.world.entries.items (IsRun c.args.work.now) c.finish.ensures.entries c.in_default-run_round.ensures.stands.run
@@ -102,7 +102,7 @@ returns-clause-state c = finished_state c.args.work.now c.finish.result c.run_ro
 pub returns-clause-complete : goal.returns-clause-complete
 returns-clause-complete c =
     let w = c.args.work.now in
-    finished_complete w c.finish.result (told w c.run_round.new.world) c.finish.ensures.state (complete_of w c.args.turns c.run_round.new.world.entries.items (made_serial c))
+    finished_complete w c.finish.result (told w c.run_round.new.world) c.finish.ensures.state (complete_of w c.args.orders c.run_round.new.world.entries.items (made_serial c))
 
 pub returns-clause-homes : goal.returns-clause-homes
 returns-clause-homes c =
@@ -118,4 +118,4 @@ returns-clause-full c = not_full c.finish.result c.finish.ensures.memory
 
 pub returns-clause-no_longer : goal.returns-clause-no_longer
 returns-clause-no_longer c =
-    whenever c.finish.result (no_longer c.args.work.now (orders_of c.args.work.now c.args.turns) c.run_round.new.world.entries.items (made_serial c) (made_short c))
+    whenever c.finish.result (no_longer c.args.work.now (orders_of c.args.work.now c.args.orders) c.run_round.new.world.entries.items (made_serial c) (made_short c))

@@ -10,8 +10,8 @@ use Rattle.sd_rounds.proofs.rounds.run_rounds.Given as goal
 abbrev pub invariant-rounds : goal.invariant-rounds
 invariant-rounds l = record {
   count : ℕ;
-  rounds : HasRounds l.work (orders_of l.work l.fn.turns) count l.world.entries.items;
-  generator : l.generator ≡ generator_at l.work l.fn.turns count;
+  rounds : HasRounds l.work (orders_of l.work l.fn.orders) count l.world.entries.items;
+  generator : l.generator ≡ generator_at l.work l.fn.orders count;
   steady : l.generator ≡ None → l.order.items ≡ rising l.work;
   stands : Stands l.work l.world;
   work : l.world.work.now ≡ l.work;
