@@ -1,5 +1,5 @@
 -- What one look at the home of a processor tells of its plan.
-use Rattle.std.proofs.Common.{◌≡◌, ℕ, ◌==◌, ◌&&◌, ◌||◌, false, not, List, [], ◌∷◌, length, Some, None, option_map, slice_get, is_some, refl, sym, ap, ◌∙◌, if◌then◌else◌, true, Option, subst}
+use Rattle.std.proofs.Common.{◌≡◌, ◌⊎◌, inl, inr, ℕ, ◌==◌, ◌&&◌, ◌||◌, false, not, List, [], ◌∷◌, length, Some, None, option_map, slice_get, is_some, refl, sym, ap, ◌∙◌, if◌then◌else◌, true, Option, subst}
 use Rattle.std.proofs.lemmas.Bool.{eq-eqb}
 use Rattle.sd_types.specs.declared.events.Duty.TheVariants.{Nothing}
 use Rattle.sd_types.specs.declared.events.Event.TheVariants.{Tick}
@@ -16,10 +16,10 @@ use Rattle.sd_machine.specs.declared.plans.Plan.TheVariants.{Make, Search}
 use Rattle.sd_machine.specs.Dispatching.{dispatch_plan, leave_event, leave_plan}
 use Rattle.sd_machine.specs.Plans.{ageing_plan, ageing_plan_of, cpu_plan, cpu_plan_of, duty_plan, duty_plan_of, first_of, free_plan_of, nap_plan, op_plan, or_plan, plan, run_plan_of}
 use Rattle.sd_machine.specs.Sleeping.{napend_plan}
-use Rattle.sd_machine.specs.Threads.{best_ready, first_due, is_sys, open_of, runner}
+use Rattle.sd_machine.specs.Threads.{best_queued, best_ready, first_due, is_sys, open_of, runner}
 use Rattle.sd_record.specs.Records.{ThreadRecord}
 use Rattle.sd_boxq.specs.Order.{find_id}
-use Rattle.sd_homes.specs.declared.list_id.ListId.TheVariants.{Naps, Runs, Urgent}
+use Rattle.sd_homes.specs.declared.list_id.ListId.TheVariants.{Naps, Queues, Runs, Urgent}
 use Rattle.sd_homes.specs.Standing.{better, due_of_first, id_of, record_of}
 use Rattle.sd_homes.specs.declared.home.Home.{Home}
 use Rattle.sd_homes.specs.Families.{list_in, open_in, taken_from, view_in}
@@ -29,11 +29,13 @@ use Rattle.sd_hand.specs.declared.acting.Acting.{Acting}
 use Rattle.sd_hand.specs.Acting.{IsShown}
 use Rattle.sd_hand.specs.Hands.{held}
 use Rattle.sd_hand.proofs.GuideLemmas.{stands_guessed}
-use Rattle.sd_hand.proofs.TellLemmas.{due_told, found_record, open_told, ready_told, runner_told, view_is}
+use Rattle.sd_hand.proofs.TellLemmas.{due_told, found_record, open_told, queued_told, ready_told, runner_told, view_is}
 use Rattle.sd_rounds.specs.declared.sight.Sight.{Sight}
 use Rattle.sd_rounds.specs.declared.sight.Sight.TheVariants as sight
-use Rattle.sd_rounds.specs.Searched.{IsSearched, all_show_zero}
-use Rattle.sd_rounds.specs.Sights.{Sees, SeesQuiet, SeesRunner}
+use Rattle.sd_rounds.specs.Searched.{HasNothing, HasNoUrgent, IsSearched, all_show_zero}
+use Rattle.sd_rounds.specs.declared.sight.Searched.{Searched}
+use Rattle.sd_rounds.specs.Sights.{FindsNothing, Sees, SeesQuiet, SeesRunner}
+use Rattle.sd_rounds.proofs.SearchedLemmas.{none_ready, none_urgent}
 
 -- a processor without a duty and without a nap that is over
 quiet_plan : (w : Work) (s : State) (c : ℕ) → (cpu_of s c).duty ≡ Nothing → first_due s c ≡ None → plan w s c ≡ cpu_plan w s c
@@ -91,25 +93,47 @@ module _ (w : Work) (x : Acting) (n : ℕ) (s : State) (h : Home) (sh : IsShown 
       let plans = runs_on w s x.actor.cpu.0 r.id.0 k runs (ap (λ (q : CpuView). q.user) (sym viewed) ∙ user) (ap (λ (q : CpuView). q.kernel) (sym viewed) ∙ kernel)
       (ap (op_of w r.id.0) (runner_body r e) ∙ op) in
       (no_duty, sym (quiet_plan w s x.actor.cpu.0 no_duty none_due ∙ plans ∙ ap (λ u. Make (Tick u)) (sym same)))
-  sees_runner r (sight.Idles p many) e f = absurd f
+  sees_runner r (sight.Idles found) e f = absurd f
   sees_runner r sight.Unclear e f = tt
 
-  pub sees_quiet : (known : Option SetId) (seen : Sight) → slice_get (list_in h (Runs x.actor.cpu)) 0 ≡ None → SeesQuiet x h v known seen → IsSearched s known → Sees w s x.actor.cpu.0 seen
+  module _ (found : Searched) (its : found.set ≡ v.set) (queue : slice_get (list_in h (Queues x.actor.cpu)) 0 ≡ None) where
+    is_set : (cpu_of s x.actor.cpu.0).set ≡ found.set
+    is_set = ap (λ (q : CpuView). q.set) (sym viewed) ∙ sym its
+
+    queued : best_queued s x.actor.cpu.0 ≡ None
+    queued = queued_told x n s h sh x.actor.cpu at ∙ ap (option_map id_of) queue
+
+    -- what a search finds of the state
+    nothing_found : FindsNothing x found → HasNothing s found
+    nothing_found f =
+        let ready : best_ready s x.actor.cpu.0 ≡ None =
+        ready_told x n s h sh x.actor.cpu found.set f.home at f.there is_set
+        ∙ (ap (λ o. option_map id_of (better o (slice_get (list_in f.home (Urgent found.set)) 0))) queue ∙ ap (option_map id_of) f.urgent) in
+        let opened : open_in f.home ≡ open_of s found.set.0 = sym (open_told x n s f.home sh found.set f.there) in
+        record {
+          zero = subst (λ cs. all_show_zero s cs ≡ true) opened (f.zero n s sh);
+          urgent = subst (λ (q : SetId). HasNoUrgent s q.0) is_set (none_urgent s x.actor.cpu.0 ready);
+          count = f.count ∙ ap length opened;
+          most = f.most;
+        }
+
+    nothing : (known : Option Searched) → IsSearched s known → (known ≡ Some found) ⊎ FindsNothing x found → HasNothing s found
+    nothing known is (inl same) = subst (IsSearched s) same is
+    nothing known is (inr f) = nothing_found f
+
+    ready : HasNothing s found → best_ready s x.actor.cpu.0 ≡ None
+    ready none = none_ready s x.actor.cpu.0 found.set is_set queued none.urgent
+
+  pub sees_quiet : (known : Option Searched) (seen : Sight) → slice_get (list_in h (Runs x.actor.cpu)) 0 ≡ None → SeesQuiet x h v known seen → IsSearched s known → Sees w s x.actor.cpu.0 seen
   sees_quiet known (sight.Runs t) e f is = absurd f
-  sees_quiet known (sight.Idles p many) e f is =
-      let (its, closing, queue, g, there, urgent, zero, count, most) = f in
+  sees_quiet known (sight.Idles found) e f is =
+      let (its, closing, queue, known_or_found) = f in
       let runs : runner s x.actor.cpu.0 ≡ None = runner_told x n s h sh x.actor.cpu at ∙ ap (option_map id_of) e in
-      let is_set : (cpu_of s x.actor.cpu.0).set ≡ v.set = ap (λ (q : CpuView). q.set) (sym viewed) in
-      let ready : best_ready s x.actor.cpu.0 ≡ None =
-      ready_told x n s h sh x.actor.cpu v.set g at there is_set
-      ∙ (ap (λ o. option_map id_of (better o (slice_get (list_in g (Urgent v.set)) 0))) queue ∙ ap (option_map id_of) urgent) in
-      let opened : open_in g ≡ open_of s p.0 = sym (open_told x n s g sh v.set there) ∙ ap (λ (q : SetId). open_of s q.0) (sym its) in (
+      let none = nothing found its queue known is known_or_found in (
         no_duty,
-        sym (quiet_plan w s x.actor.cpu.0 no_duty none_due ∙ searches w s x.actor.cpu.0 runs (ap (λ (q : CpuView). q.closing) (sym viewed) ∙ closing) ready),
-        its ∙ sym is_set,
+        sym (quiet_plan w s x.actor.cpu.0 no_duty none_due ∙ searches w s x.actor.cpu.0 runs (ap (λ (q : CpuView). q.closing) (sym viewed) ∙ closing) (ready found its queue none)),
+        sym (is_set found its queue),
         ap (λ (q : CpuView). q.closing) (sym viewed) ∙ closing,
-        count ∙ ap length opened,
-        most,
-        subst (λ cs. all_show_zero s cs ≡ true) opened (zero n s sh is),
+        none,
       )
   sees_quiet known sight.Unclear e f is = tt

@@ -1,12 +1,10 @@
 -- What one look at the home of a processor tells of its next event.
 -- Source: this project's own.
-use Rattle.std.specs.Prelude.{◌≡◌, ℕ, ◌≤◌, ⊤, true, false, List, length, Option, Some, None, slice_get}
+use Rattle.std.specs.Prelude.{◌≡◌, ◌⊎◌, ℕ, ◌≤◌, ⊤, true, false, length, Option, Some, None, slice_get}
 use Rattle.sd_types.specs.declared.works.Work.{Work}
 use Rattle.sd_types.specs.declared.events.Duty.TheVariants.{Nothing}
 use Rattle.sd_types.specs.declared.events.Event.TheVariants.{Tick}
-use Rattle.sd_types.specs.declared.numbers.CpuId.{CpuId}
 use Rattle.sd_types.specs.declared.numbers.HomeId.TheVariants.{RealTime}
-use Rattle.sd_types.specs.declared.numbers.SetId.{SetId}
 use Rattle.sd_types.specs.declared.scripts.Op.TheVariants.{Run}
 use Rattle.sd_types.specs.Limits.{most_processors}
 use Rattle.sd_state.specs.declared.states.State.{State}
@@ -14,7 +12,6 @@ use Rattle.sd_state.specs.Operations.{op_of}
 use Rattle.sd_state.specs.States.{cpu_of}
 use Rattle.sd_machine.specs.declared.plans.Plan.TheVariants.{Make, Search}
 use Rattle.sd_machine.specs.Plans.{plan}
-use Rattle.sd_machine.specs.Threads.{open_of}
 use Rattle.sd_record.specs.Records.{ThreadRecord}
 use Rattle.sd_homes.specs.declared.list_id.ListId.TheVariants.{Queues, Urgent}
 use Rattle.sd_homes.specs.declared.home.Home.{Home}
@@ -23,31 +20,38 @@ use Rattle.sd_store.specs.declared.parts.CpuView.{CpuView}
 use Rattle.sd_hand.specs.declared.acting.Acting.{Acting}
 use Rattle.sd_hand.specs.Acting.{IsShown}
 use Rattle.sd_hand.specs.Hands.{held}
-use Rattle.sd_rounds.specs.Searched.{IsSearched, all_show_zero}
+use Rattle.sd_rounds.specs.Searched.{HasNothing, all_show_zero}
+use Rattle.sd_rounds.specs.declared.sight.Searched.{Searched}
 use Rattle.sd_rounds.specs.declared.sight.Sight.{Sight}
 use Rattle.sd_rounds.specs.declared.sight.Sight.TheVariants.{Runs, Idles, Unclear}
 
--- what is seen of processor c, which has no duty, is its plan; and where it searches, in a set with so many open processors, itself one of
--- them, there is nothing to steal
+-- what is seen of processor c, which has no duty, is its plan; and where it searches, itself one of the open processors of its set, there is
+-- nothing in that
 abbrev pub Sees : Work → State → ℕ → Sight → Type 0
 Sees w s c (Runs t) = ((cpu_of s c).duty ≡ Nothing) × (Make (Tick t) ≡ plan w s c)
-Sees w s c (Idles p many) =
-    ((cpu_of s c).duty ≡ Nothing) × (Search ≡ plan w s c) × (p ≡ (cpu_of s c).set) × ((cpu_of s c).closing ≡ None) × (many ≡ length (open_of s p.0)) × (many ≤ most_processors) × IsSearched s (Some p)
+Sees w s c (Idles found) =
+    ((cpu_of s c).duty ≡ Nothing) × (Search ≡ plan w s c) × (found.set ≡ (cpu_of s c).set) × ((cpu_of s c).closing ≡ None) × HasNothing s found
 Sees w s c Unclear = ⊤
 
 -- of a thread that runs, on a processor with no mark, and whose operation is to run
 abbrev pub SeesRunner : Work → CpuView → ThreadRecord → Sight → Type 0
 SeesRunner w v r (Runs t) = (t ≡ r.id) × (v.user ≡ false) × (v.kernel ≡ false) × (n : ℕ) × (op_of w r.id.0 r.body ≡ Some (Run n))
-SeesRunner w v r (Idles p many) = ⊥
+SeesRunner w v r (Idles found) = ⊥
 SeesRunner w v r Unclear = ⊤
 
--- these processors show 0 of their queues, where what is known of a search is so
-abbrev pub ShowZero : Acting → Option SetId → List CpuId → Type 0
-ShowZero x known cpus = (n : ℕ) (s : State) → IsShown x n s → IsSearched s known → all_show_zero s cpus ≡ true
+-- a search finds nothing in the set of this home
+pub record FindsNothing (x : Acting) (found : Searched) : Type 0 where
+  pub home : Home
+  pub there : held (RealTime found.set) x.hand.slots ≡ Some home
+  pub urgent : slice_get (list_in home (Urgent found.set)) 0 ≡ None
+  pub zero : (n : ℕ) (s : State) → IsShown x n s → all_show_zero s (open_in home) ≡ true
+  pub count : found.cpus ≡ length (open_in home)
+  pub most : found.cpus ≤ most_processors
 
--- of a processor on which no thread runs, which is not closing: nobody stands in its queue, nor in that of its set
-abbrev pub SeesQuiet : Acting → Home → CpuView → Option SetId → Sight → Type 0
+-- of a processor on which no thread runs, which is not closing: nobody stands in its queue, and there is nothing in its set, as is known or
+-- as a search finds
+abbrev pub SeesQuiet : Acting → Home → CpuView → Option Searched → Sight → Type 0
 SeesQuiet x h v known (Runs t) = ⊥
-SeesQuiet x h v known (Idles p many) = (p ≡ v.set) × (v.closing ≡ None) × (slice_get (list_in h (Queues x.actor.cpu)) 0 ≡ None)
-    × (g : Home) × (held (RealTime v.set) x.hand.slots ≡ Some g) × (slice_get (list_in g (Urgent v.set)) 0 ≡ None) × ShowZero x known (open_in g) × (many ≡ length (open_in g)) × (many ≤ most_processors)
+SeesQuiet x h v known (Idles found) =
+    (found.set ≡ v.set) × (v.closing ≡ None) × (slice_get (list_in h (Queues x.actor.cpu)) 0 ≡ None) × ((known ≡ Some found) ⊎ FindsNothing x found)
 SeesQuiet x h v known Unclear = ⊤

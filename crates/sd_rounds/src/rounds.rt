@@ -11,10 +11,11 @@ ghost use Rattle.sd_world.specs.Plain.{Stands, told};
 ghost use Rattle.sd_world.specs.Worlds.{Begins};
 
 use crate::orders::{RoundOrder, draw_order, first_generator, rising};
+use crate::sight::Searched;
 use crate::turns::take_turn;
 use sd_log::EntryLog;
 use sd_state::State;
-use sd_types::{CpuId, MOST_ENTRIES, SetId, Stop, Work};
+use sd_types::{CpuId, MOST_ENTRIES, Stop, Work};
 use sd_world::PlainWorld;
 use std::alloc::Global;
 
@@ -30,7 +31,7 @@ pub struct Finished {
 fn run_round(
     work: &Work,
     world: &mut PlainWorld,
-    searched: &mut Option<SetId>,
+    searched: &mut Option<Searched>,
     order: &[CpuId],
 ) -> Result<(), Stop>
     requires stands { Stands work.now world.old }

@@ -1,6 +1,6 @@
 //! What one look at the home of a processor tells of its next event, as in most turns: that its thread runs on, or that nothing is ready.
 
-ghost use Rattle.std.specs.Prelude.{◌≡◌, ℕ, None, Some, false, true};
+ghost use Rattle.std.specs.Prelude.{◌≡◌, ℕ, None, Some, false, true, IfSome};
 ghost use Rattle.std.specs.Option.{option_copied};
 ghost use Rattle.sd_types.specs.declared.events.Duty.TheVariants.{Nothing};
 ghost use Rattle.sd_types.specs.declared.events.Which.TheVariants.{Queued};
@@ -13,7 +13,7 @@ ghost use Rattle.sd_homes.specs.Standing.{due_of_first};
 ghost use Rattle.sd_hand.specs.Acting.{IsShown};
 ghost use Rattle.sd_hand.specs.Hands.{held};
 ghost use Rattle.sd_rounds.specs.Searched.{IsSearched, all_show_zero};
-ghost use Rattle.sd_rounds.specs.Sights.{Sees, SeesQuiet, SeesRunner};
+ghost use Rattle.sd_rounds.specs.Sights.{FindsNothing, Sees, SeesQuiet, SeesRunner};
 
 use sd_hand::Acting;
 use sd_homes::{Home, ListId, is_over};
@@ -21,13 +21,20 @@ use sd_record::Record;
 use sd_store::{CpuView, Look};
 use sd_types::{CpuId, Duty, HomeId, Op, SetId, ThreadId, Work};
 
+/// A set in which a search finds nothing, and how many open processors it has.
+#[derive(Clone, Copy)]
+pub struct Searched {
+    pub set: SetId,
+    pub cpus: usize,
+}
+
 /// What a processor is about to do, as far as one look tells it.
 #[derive(Clone, Copy)]
 pub enum Sight {
     /// Its thread runs for a tick.
     Runs(ThreadId),
-    /// Nothing is ready for it, nor on the queue of a neighbour in its set, which has so many open processors: it is idle for a tick.
-    Idles(SetId, usize),
+    /// Nothing is ready for it, nor on the queue of a neighbour in its set: it is idle for a tick.
+    Idles(Searched),
     /// It has to make a plan.
     Unclear,
 }
@@ -92,44 +99,58 @@ fn have_none_to_steal(x: &Acting, cpus: &[CpuId]) -> bool
     true
 }
 
-/// This is the set in which a search has found nothing to steal.
+/// What is known of a search in this set.
 #[inline(always)]
-fn is_searched(searched: Option<SetId>, set: SetId) -> bool
-    ensures { result ≡ true → searched ≡ Some set }
+fn known_of(searched: Option<Searched>, set: SetId) -> Option<Searched>
+    ensures { IfSome result (λ found. (searched ≡ Some found) × (found.set ≡ set)) }
 {
     match searched {
-        None => false,
-        Some(p) => p.0 == set.0,
+        Some(found) if found.set.0 == set.0 => Some(found),
+        _ => None,
     }
 }
 
-/// What is seen of a processor on which no thread runs. Where a search has found nothing to steal in its set, it looks at no neighbour.
+/// A search in this set, where it finds nothing.
 #[inline(always)]
-fn see_quiet(x: &Acting, home: &Home, view: CpuView, searched: Option<SetId>) -> Sight
+fn search(x: &Acting, set: SetId) -> Option<Searched>
+    ensures { IfSome result (λ found. (found.set ≡ set) × FindsNothing x.now found) }
+{
+    match x.hand.home(HomeId::RealTime(set)) {
+        Err(_) => None,
+        Ok(urgent) => {
+            let open = urgent.open_cpus();
+            if urgent.first(ListId::Urgent(set)).is_some() || !have_none_to_steal(x, open) {
+                return None;
+            }
+            Some(Searched {
+                set,
+                cpus: open.len(),
+            })
+        }
+    }
+}
+
+/// What is seen of a processor on which no thread runs. Where it is known that there is nothing in its set, it looks at no other home.
+#[inline(always)]
+fn see_quiet(x: &Acting, home: &Home, view: CpuView, searched: Option<Searched>) -> Sight
     requires home { held (Cpu x.now.actor.cpu) x.now.hand.slots ≡ Some home.now }
     ensures { SeesQuiet x.now home.now view searched result }
 {
     if view.closing.is_some() || home.first(ListId::Queues(x.actor.cpu)).is_some() {
         return Sight::Unclear;
     }
-    match x.hand.home(HomeId::RealTime(view.set)) {
-        Err(_) => Sight::Unclear,
-        Ok(urgent) => {
-            if urgent.first(ListId::Urgent(view.set)).is_some() {
-                return Sight::Unclear;
-            }
-            let cpus = urgent.open_cpus();
-            if !is_searched(searched, view.set) && !have_none_to_steal(x, cpus) {
-                return Sight::Unclear;
-            }
-            Sight::Idles(view.set, cpus.len())
-        }
+    if let Some(found) = known_of(searched, view.set) {
+        return Sight::Idles(found);
+    }
+    match search(x, view.set) {
+        None => Sight::Unclear,
+        Some(found) => Sight::Idles(found),
     }
 }
 
 /// What is seen of a processor without a duty, whose home this is.
 #[inline(always)]
-fn see_home(work: &Work, x: &Acting, home: &Home, searched: Option<SetId>) -> Sight
+fn see_home(work: &Work, x: &Acting, home: &Home, searched: Option<Searched>) -> Sight
     requires duty { x.now.actor.duty ≡ Nothing }
     requires home { held (Cpu x.now.actor.cpu) x.now.hand.slots ≡ Some home.now }
     ensures { (n : ℕ) (s : StateOf) → IsShown x.now n s → IsSearched s searched → Sees work.now s x.now.actor.cpu.0 result }
@@ -149,7 +170,7 @@ fn see_home(work: &Work, x: &Acting, home: &Home, searched: Option<SetId>) -> Si
 
 /// What is seen of the processor that acts.
 #[inline(always)]
-pub(crate) fn see(work: &Work, x: &Acting, searched: Option<SetId>) -> Sight
+pub(crate) fn see(work: &Work, x: &Acting, searched: Option<Searched>) -> Sight
     ensures { (n : ℕ) (s : StateOf) → IsShown x.now n s → IsSearched s searched → Sees work.now s x.now.actor.cpu.0 result }
 {
     match x.actor.duty {

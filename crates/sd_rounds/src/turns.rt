@@ -18,13 +18,13 @@ ghost use Rattle.sd_rounds.specs.Floors.{IsFloor};
 ghost use Rattle.sd_rounds.specs.Searched.{IsSearched};
 ghost use Rattle.sd_rounds.specs.Turns.{ActsAlone};
 
-use crate::sight::{Sight, see};
+use crate::sight::{Searched, Sight, see};
 use crate::ticks::{Alone, come_idle, come_tick, reserve};
 use sd_cpu::{OpenGate, attempt};
 use sd_dispatcher::Reading;
 use sd_machine::Plan;
 use sd_step::{plan, plan_event, plan_reads};
-use sd_types::{CpuId, Event, Hints, MOST_ENTRIES, SetId, Stop, Which, Work};
+use sd_types::{CpuId, Event, Hints, MOST_ENTRIES, Stop, Which, Work};
 use sd_world::PlainWorld;
 
 /// What the processor that acts is about to do, as far as the homes show it.
@@ -201,7 +201,7 @@ fn act_alone(
     work: &Work,
     world: &mut PlainWorld,
     floor: &mut u32,
-    searched: &mut Option<SetId>,
+    searched: &mut Option<Searched>,
 ) -> Result<Alone, Stop>
     requires stands { Stands work.now world.old }
     requires least { IsFloor work.now (told work.now world.old) floor.old }
@@ -216,9 +216,9 @@ fn act_alone(
 {
     match see(work, &world.acting, *searched) {
         Sight::Runs(t) => come_tick(work, world, floor, t),
-        Sight::Idles(p, cpus) => {
-            *searched = Some(p);
-            end_search(work, world, floor, cpus)
+        Sight::Idles(found) => {
+            *searched = Some(found);
+            end_search(work, world, floor, found.cpus)
         }
         Sight::Unclear => {
             *searched = None;
@@ -248,7 +248,7 @@ fn act(
     work: &Work,
     world: &mut PlainWorld,
     floor: &mut u32,
-    searched: &mut Option<SetId>,
+    searched: &mut Option<Searched>,
 ) -> Result<(), Stop>
     requires stands { Stands work.now world.old }
     requires least { IsFloor work.now (told work.now world.old) floor.old }
@@ -279,7 +279,7 @@ pub(crate) fn take_turn(
     work: &Work,
     world: &mut PlainWorld,
     floor: &mut u32,
-    searched: &mut Option<SetId>,
+    searched: &mut Option<Searched>,
     c: CpuId,
 ) -> Result<(), Stop>
     requires stands { Stands work.now world.old }

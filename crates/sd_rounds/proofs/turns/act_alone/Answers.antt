@@ -45,7 +45,7 @@ pub end_search-requires-clause-fits : goal.end_search-requires-clause-fits
 end_search-requires-clause-fits c =
     let w = c.args.work.now in
     let x = c.args.world.now in
-    (c.in-Idles.ensures (length x.entries.items) (told w x) (P.shown w x c.requires.stands) c.requires.searched).5
+    (c.in-Idles.ensures (length x.entries.items) (told w x) (P.shown w x c.requires.stands) c.requires.searched).4.most
 
 pub end_search-requires-clause-numbers : goal.end_search-requires-clause-numbers
 end_search-requires-clause-numbers c =
@@ -53,8 +53,8 @@ end_search-requires-clause-numbers c =
     let x = c.args.world.now in
     let n = length x.entries.items in
     let s = told w x in
-    let (duty, plan, its, opened, count, most, zero) = c.in-Idles.ensures n s (P.shown w x c.requires.stands) c.requires.searched in
-    numbers_read w n s x.acting.actor.cpu c.in-Idles.p c.in-Idles.cpus (P.reached w x c.requires.stands) (P.cpu_inside w x c.requires.stands) its opened count zero
+    let (duty, plan, its, opened, none) = c.in-Idles.ensures n s (P.shown w x c.requires.stands) c.requires.searched in
+    numbers_read w n s x.acting.actor.cpu c.in-Idles.found (P.reached w x c.requires.stands) (P.cpu_inside w x c.requires.stands) its opened none
 
 pub returns-in-Runs-clause-searched : goal.returns-in-Runs-clause-searched
 returns-in-Runs-clause-searched c =
@@ -72,11 +72,11 @@ returns-in-Idles-clause-searched c =
     let w = c.args.work.now in
     let x = c.args.world.now in
     let s = told w x in
-    let known = Some c.in-Idles.p in
+    let known = Some c.in-Idles.found in
     let n = length x.entries.items in
     let cpu = x.acting.actor.cpu in
     let inside = P.cpu_inside w x c.requires.stands in
-    let (duty, plan, its, opened, count, most, zero) = c.in-Idles.ensures n s (P.shown w x c.requires.stands) c.requires.searched in
-    let numbers = numbers_read w n s cpu c.in-Idles.p c.in-Idles.cpus (P.reached w x c.requires.stands) inside its opened count zero in
+    let (duty, plan, its, opened, none) = c.in-Idles.ensures n s (P.shown w x c.requires.stands) c.requires.searched in
+    let numbers = numbers_read w n s cpu c.in-Idles.found (P.reached w x c.requires.stands) inside its opened none in
     alone_searched w x c.end_search.new.world Idle known (λ z m d. searched_after w z m d Idle tt tt tt refl refl known)
-    (will_idle w s cpu inside plan (none_to_steal (c.in-Idles.cpus - 1) s cpu.0 numbers)) zero c.end_search.result c.end_search.ensures.acts
+    (will_idle w s cpu inside plan (none_to_steal (c.in-Idles.found.cpus - 1) s cpu.0 numbers)) none c.end_search.result c.end_search.ensures.acts
