@@ -1,5 +1,4 @@
 -- What follows from what was done, or refused.
-use Rattle.std.proofs.Common.{tt}
 use Rattle.std.specs.Prelude.{Result, Ok, Err, IfOk, IfErr}
 
 pub done : {A L : Type 0} (r : Result A L) (P Q : Type 0) → (P → Q) → IfOk r (λ _. P) → IfOk r (λ _. Q)
