@@ -30,7 +30,7 @@ use Rattle.sd_hand.specs.declared.acting.Actor.{Actor}
 use Rattle.sd_hand.specs.Acting.{IsShown, has_part}
 use Rattle.sd_hand.specs.Hands.{AreApart, HandSlots, HasNoRoom, IsHeld, StandsIn, has_thread, held, how_many_held}
 use Rattle.sd_hand.specs.Shown.{IsHome, ShowsState}
-use Rattle.sd_hand.proofs.CountLemmas.{as_many}
+use Rattle.sd_hand.proofs.CountLemmas.{as_many, none_held}
 use Rattle.sd_hand.proofs.MoveLemmas.{held_by}
 use Rattle.sd_hand.proofs.SlotLemmas.{held_id}
 use Rattle.sd_hand.proofs.StandLemmas.{home_held}
@@ -46,7 +46,7 @@ use Rattle.sd_world.proofs.WorldLemmas.{begins_same}
 use Rattle.sd_hand_tests.specs.declared.hostile_world.HostileWorld.{HostileWorld}
 use Rattle.sd_hand_tests.specs.Hostile.{HasHome, IsHostile, Moves, hostile_meaning, whole}
 use Rattle.sd_hand_tests.specs.Plan.{ArePossible}
-use Rattle.sd_hand_tests.proofs.WholeLemmas.{AreTwo, all_same, apart_empty, apart_left, apart_right, apart_two, apart_whole, has_both, held_both, left_held, most_held, none_held, others_held, right_held, same_whole, two_after, two_before, first_of}
+use Rattle.sd_hand_tests.proofs.WholeLemmas.{AreTwo, all_same, apart_empty, apart_left, apart_right, apart_two, apart_whole, has_both, held_both, left_held, most_held, others_held, right_held, same_whole, two_after, two_before, first_of}
 
 abbrev pub near_of : HostileWorld → List (Option Home)
 near_of x = x.near.hand.slots
