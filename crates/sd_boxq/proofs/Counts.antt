@@ -1,9 +1,11 @@
 -- What is done at the index of the first item that passes a test, and behind the last item.
-use Rattle.std.proofs.Common.{◌≡◌, ℕ, Bool, true, false, List, [], ◌∷◌, ◌++◌, None, length, slice_get, slice_set, refl, ap, arith}
+use Rattle.std.proofs.Common.{◌≡◌, ℕ, Bool, true, false, List, [], ◌∷◌, ◌++◌, None, length, slice_get, slice_set, refl, sym, ap, ◌∙◌, arith}
+use Rattle.std.specs.Prelude.{ℤ}
 use Prim.Native.Nat.{zero, suc}
 use Rattle.std.specs.List.{insert, remove}
 use Rattle.sd_boxq.specs.Boxes.{count_before}
-use Rattle.sd_boxq.specs.Order.{insert_before, find_first, drop_first, replace_first}
+use Rattle.sd_boxq.specs.Search.{precedes_by}
+use Rattle.sd_boxq.specs.Order.{precedes, insert_before, insert_ranked, find_first, drop_first, replace_first}
 
 -- ---- behind the last item
 pub insert_end : {X : Type 0} (xs : List X) (k : ℕ) (x : X) → k ≡ length xs → insert xs k x ≡ xs ++ x ∷ []
@@ -61,3 +63,9 @@ module _ {X : Type 0} (p : X → Bool) where
       by : (b : Bool) → p y ≡ b → replace_first p x xs ≡ slice_set xs (count_before p xs) x → replace_first p x (y ∷ xs) ≡ slice_set (y ∷ xs) (count_before p (y ∷ xs)) x
       by true e r = rw e refl
       by false e r = rw e (ap (λ l. y ∷ l) r)
+
+-- where the rank and the key of x are read before the search
+pub ranked_counted : {X : Type 0} (rank : X → ℕ) (key : X → ℤ) (r : ℕ) (k : ℤ) (x : X) (xs : List X) → r ≡ rank x → k ≡ key x
+    → insert_ranked rank key x xs ≡ insert xs (count_before (precedes_by rank key r k) xs) x
+ranked_counted rank key r k x xs same_rank same_key =
+    insert_counted (precedes rank key x) x xs ∙ sym (λ i. insert xs (count_before (precedes_by rank key (same_rank i) (same_key i)) xs) x)

@@ -1,11 +1,9 @@
 -- How a search goes through the boxes of a queue, and what it has seen where it ends.
-use Rattle.std.proofs.Common.{◌≡◌, ℕ, ◌+◌, ◌<◌, ◌≤◌, Bool, true, false, List, [], ◌∷◌, Option, Some, None, length, drop, slice_get, refl, sym, subst, ap, ◌∙◌, arith}
+use Rattle.std.proofs.Common.{◌≡◌, ℕ, ◌+◌, ◌<◌, ◌≤◌, Bool, true, false, List, [], ◌∷◌, Some, length, drop, slice_get, refl, sym, subst, ap, ◌∙◌, arith}
 use Prim.Native.Nat.{zero, suc}
 use lib.ListN.{length-map}
 use Rattle.std.specs.Prelude.{map, not, IsTrue, ◌↔◌}
-use Rattle.std.specs.Option.{is_some}
-use Rattle.std.specs.Iterator.{YieldsFirstBy}
-use Rattle.sd_boxq.specs.Links.{Link}
+use Rattle.sd_boxq.specs.Links.{Link, has_some}
 use Rattle.sd_boxq.specs.Boxes.{BoxOf, boxes_from, items_in, LiesAt, count_before}
 
 -- ---- the boxes as a list
@@ -38,11 +36,6 @@ drop_cons (suc k) [] x ys e = absurd cc
 drop_cons zero (z ∷ xs) x ys e = let n = ap length e in (cc, cc, omega arith)
 drop_cons (suc k) (z ∷ xs) x ys e = let on = drop_cons k xs x ys e in let n = on.2 in (on.0, on.1, omega arith)
 
-drop_none : {X : Type 0} (k : ℕ) (xs : List X) → drop k xs ≡ [] → k ≤ length xs → length xs ≡ k
-drop_none k [] e w = omega arith
-drop_none zero (z ∷ xs) e w = absurd cc
-drop_none (suc k) (z ∷ xs) e w = let on = drop_none k xs e (omega arith) in omega arith
-
 -- a search of the items xs, whose boxes have the links ls, has passed k of them, and has the boxes bs left
 pub record Searched {T : Type 0} (p : T → Bool) (ls : List Link) (xs : List T) (k : ℕ) (bs : List (BoxOf T)) : Type 0 where
   pub here : bs ≡ boxes_from k (drop k ls) (drop k xs)
@@ -51,8 +44,12 @@ pub record Searched {T : Type 0} (p : T → Bool) (ls : List Link) (xs : List T)
   pub within : k ≤ length xs
 
 module _ {T : Type 0} (p : T → Bool) (ls : List Link) (xs : List T) where
-  pub search_starts : items_in (boxes_from 0 ls xs) ≡ xs → Searched p ls xs 0 (boxes_from 0 ls xs)
-  search_starts e = record { here = refl; items = e; count = omega arith; within = omega arith }
+  pub search_starts : (i : ℕ) (ms : List Link) (ys : List T) → i ≡ 0 → ms ≡ ls → ys ≡ xs → length ys ≡ length ms → Searched p ls xs 0 (boxes_from i ms ys)
+  search_starts i ms ys first links items e =
+      let n = ap length links in
+      let m = ap length items in
+      let whole : boxes_from i ms ys ≡ boxes_from 0 ls xs = λ j. boxes_from (first j) (links j) (items j) in
+      subst (λ bs. Searched p ls xs 0 bs) (sym whole) (record { here = refl; items = boxes_items 0 ls xs (omega arith); count = omega arith; within = omega arith })
 
   -- the first box that is left
   pub search_sees : (k : ℕ) (b : BoxOf T) (bs : List (BoxOf T)) → Searched p ls xs k (b ∷ bs)
@@ -75,13 +72,13 @@ module _ {T : Type 0} (p : T → Bool) (ls : List Link) (xs : List T) where
         on_items.1 ∙ ap (λ d. Some d.2) (sym c.6),
       )
 
-  pub search_passes : (k : ℕ) (b : BoxOf T) (bs : List (BoxOf T)) → Searched p ls xs k (b ∷ bs) → p b.2 ≡ false → Searched p ls xs (suc k) bs
+  pub search_passes : (k : ℕ) (b : BoxOf T) (bs : List (BoxOf T)) → Searched p ls xs k (b ∷ bs) → false ≡ p b.2 → Searched p ls xs (suc k) bs
   search_passes k b bs s f =
       let c = boxes_cons k (drop k ls) (drop k xs) b bs (sym s.here) in
       let on_links = drop_cons k ls c.0 c.1 c.4 in
       let on_items = drop_cons k xs c.2 c.3 c.5 in
       let same : b.2 ≡ c.2 = ap (λ d. d.2) c.6 in
-      let fails : p c.2 ≡ false = ap p (sym same) ∙ f in
+      let fails : p c.2 ≡ false = ap p (sym same) ∙ sym f in
       let behind : count_before p (c.2 ∷ c.3) ≡ suc (count_before p c.3) = rw fails refl in
       let counted = s.count ∙ ap (λ ys. k + count_before p ys) c.5 ∙ ap (λ n. k + n) behind in
       let many = on_items.2 in
@@ -95,26 +92,12 @@ module _ {T : Type 0} (p : T → Bool) (ls : List Link) (xs : List T) where
         within = omega arith;
       }
 
-  pub search_finds : (k : ℕ) (b : BoxOf T) (bs : List (BoxOf T)) → Searched p ls xs k (b ∷ bs) → p b.2 ≡ true → count_before p xs ≡ k
-  search_finds k b bs s t =
-      let c = boxes_cons k (drop k ls) (drop k xs) b bs (sym s.here) in
-      let same : b.2 ≡ c.2 = ap (λ d. d.2) c.6 in
-      let passes : p c.2 ≡ true = ap p (sym same) ∙ t in
-      let first : count_before p (c.2 ∷ c.3) ≡ 0 = rw passes refl in
-      let counted = s.count ∙ ap (λ ys. k + count_before p ys) c.5 ∙ ap (λ n. k + n) first in
-      omega arith
-
-  pub search_ends : (k : ℕ) → Searched p ls xs k [] → (count_before p xs ≡ k) × (length xs ≡ k)
-  search_ends k s =
-      let none : drop k xs ≡ [] = sym s.items in
-      let counted = s.count ∙ ap (λ ys. k + count_before p ys) none in
-      let whole = drop_none k xs none s.within in
-      (omega arith, whole)
-
--- the next step of the boxes tells whether the one before was the last
-pub last_is : {T Y : Type 0} (view : Y → BoxOf T) (bs next : List (BoxOf T)) (r : Option Y) (last : Bool) (k n : ℕ) → YieldsFirstBy view (λ s. s) bs r next
-    → is_some r ≡ not last → n ≡ suc k + length bs → IsTrue last ↔ (suc k ≡ n)
-last_is view bs next None true k n s e w = let none = ap length s.0 in ((λ t. omega arith), (λ q. refl))
-last_is view bs next None false k n s e w = absurd cc
-last_is view bs next (Some y) true k n s e w = absurd cc
-last_is view bs next (Some y) false k n s e w = let some = ap length s in ((λ t. absurd cc), (λ q. absurd (omega arith)))
+-- whether boxes follow tells whether the one before was the last
+pub last_is : {T : Type 0} (i : ℕ) (ls : List Link) (xs : List T) (more : Bool) (k n : ℕ) → length xs ≡ length ls → more ≡ has_some xs
+    → n ≡ suc k + length (boxes_from i ls xs) → IsTrue (not more) ↔ (suc k ≡ n)
+last_is i [] [] true k n e m w = absurd cc
+last_is i [] [] false k n e m w = ((λ t. omega arith), (λ q. refl))
+last_is i [] (x ∷ xs) more k n e m w = absurd (omega arith)
+last_is i (l ∷ ls) [] more k n e m w = absurd (omega arith)
+last_is i (l ∷ ls) (x ∷ xs) true k n e m w = ((λ t. absurd cc), (λ q. absurd (omega arith)))
+last_is i (l ∷ ls) (x ∷ xs) false k n e m w = absurd cc

@@ -1,15 +1,19 @@
 -- Which items a search looks for, and what it finds.
-use Rattle.std.specs.Prelude.{◌≡◌, ◌↔◌, ◌<◌, ℕ, suc, ℤ, Bool, IsTrue, ◌==◌, int_lt, List, length, Option, Some, None}
+use Rattle.std.specs.Prelude.{◌≡◌, ◌↔◌, ◌<◌, ℕ, suc, ℤ, Bool, IsTrue, ◌==◌, ◌&&◌, ◌||◌, nat_lt, int_lt, List, length, Option, Some, None}
 use Rattle.sd_boxq.specs.declared.nodes.cursor.Spot.{Spot}
 use Rattle.sd_boxq.specs.declared.search.Found.{Found}
 use Rattle.sd_boxq.specs.declared.search.Wanted.{Wanted}
 use Rattle.sd_boxq.specs.declared.search.Wanted.TheVariants.{BehindRanked, BehindKey, BehindKeyed, Id, Below}
 use Rattle.sd_boxq.specs.Links.{Link}
 use Rattle.sd_boxq.specs.Boxes.{LiesAt}
-use Rattle.sd_boxq.specs.Order.{precedes, precedes_by_key, precedes_keyed}
+use Rattle.sd_boxq.specs.Order.{precedes_by_key, precedes_keyed}
+
+-- an item of the rank r and the key k precedes y by them
+abbrev pub precedes_by : {T : Type 0} → (T → ℕ) → (T → ℤ) → ℕ → ℤ → T → Bool
+precedes_by rank key r k y = nat_lt (rank y) r || ((r == rank y) && int_lt k (key y))
 
 abbrev pub is_wanted : {T : Type 0} → (T → ℕ) → (T → ℤ) → (T → ℕ) → Wanted T → T → Bool
-is_wanted rank key id (BehindRanked x) = precedes rank key x.now
+is_wanted rank key id (BehindRanked r k) = precedes_by rank key r k
 is_wanted rank key id (BehindKey x) = precedes_by_key key x.now
 is_wanted rank key id (BehindKeyed x) = precedes_keyed key id x.now
 is_wanted rank key id (Id n) = λ y. id y == n

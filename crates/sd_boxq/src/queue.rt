@@ -133,11 +133,13 @@ impl<T> BoxQueue<T> {
 impl<T: Ranked> BoxQueue<T> {
     /// Puts the box before the first item whose rank is smaller, or whose rank is equal and whose key is
     /// greater, and at the back where there is none.
-    #[tactic(auto, using(crate::proofs::Counts::insert_counted))]
+    #[tactic(auto, using(crate::proofs::Counts::ranked_counted))]
     pub fn insert_ranked(&mut self, n: Node<T>)
         ensures { self.new ≡ insert_ranked T.rank T.key n self.old }
     {
-        let gap = self.nodes.gap(&Wanted::BehindRanked(n.item()));
+        let rank = n.item().rank();
+        let key = n.item().key();
+        let gap = self.nodes.gap(&Wanted::BehindRanked(rank, key));
         let (item, block) = n.into_parts();
         self.nodes.put(gap, block, item);
     }
@@ -197,12 +199,7 @@ impl<T: Ranked> BoxQueue<T> {
     pub fn find(&self, id: u32) -> Option<&T>
         ensures { option_copied result ≡ find_id T.id id self.now }
     {
-        for item in self.items() {
-            if item.id() == id {
-                return Some(item);
-            }
-        }
-        None
+        self.nodes.find(id)
     }
 
     /// Puts `item` at the index of the first item with this id, which is returned. `None` exactly where

@@ -1,6 +1,7 @@
 //! What an item tells of itself, by which queues order and find it.
 ghost use Rattle.std.specs.Prelude.{◌≡◌, ℕ, ℤ};
-ghost use Rattle.sd_boxq.specs.Order.{precedes, precedes_keyed};
+ghost use Rattle.sd_boxq.specs.Order.{precedes_keyed};
+ghost use Rattle.sd_boxq.specs.Search.{precedes_by};
 
 /// An item with a rank, a key and an id.
 ///
@@ -26,11 +27,13 @@ pub trait Ranked {
         ensures { result ≡ id self.now };
 }
 
-/// The greater rank first, and of equal ranks the smaller key.
-pub(crate) fn precedes<T: Ranked>(x: &T, y: &T) -> bool
-    ensures { result ≡ precedes T.rank T.key x.now y.now }
+/// Whether an item of this rank and key precedes `y`: the greater rank first, and of equal ranks the smaller key.
+#[inline(always)]
+pub(crate) fn precedes<T: Ranked>(rank: u8, key: i64, y: &T) -> bool
+    ensures { result ≡ precedes_by T.rank T.key rank key y.now }
 {
-    y.rank() < x.rank() || x.rank() == y.rank() && x.key() < y.key()
+    let other = y.rank();
+    other < rank || rank == other && key < y.key()
 }
 
 /// The smaller key first, and of equal keys the smaller id.

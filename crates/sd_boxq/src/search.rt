@@ -1,6 +1,8 @@
 //! Where in a queue the first item stands that passes a test, and what is done there.
 ghost use Rattle.std.specs.Prelude.{◌≡◌, [], ◌∷◌, ◌++◌, MatchOption, option_map, slice_get, slice_set};
 ghost use Rattle.std.specs.List.{insert, remove};
+ghost use Rattle.std.specs.Option.{option_copied};
+ghost use Rattle.sd_boxq.specs.Order.{find_id};
 ghost use Rattle.sd_boxq.specs.Links.{links_of};
 ghost use Rattle.sd_boxq.specs.Boxes.{count_before};
 ghost use Rattle.sd_boxq.specs.Search.{is_wanted, index_behind, IsBefore, IsFound};
@@ -14,8 +16,9 @@ use std_alloc::room::Vacant;
 /// Which items are looked for.
 #[derive(Drop)]
 pub(crate) enum Wanted<'a, T> {
-    /// Those that this one precedes by rank and key.
-    BehindRanked(&'a T),
+    /// Those that an item of this rank and key precedes. The two are read before the search and not at each box, since an
+    /// item may have to work its rank out.
+    BehindRanked(u8, i64),
     /// Those with a greater key than this one.
     BehindKey(&'a T),
     /// Those that this one precedes by key and id.
@@ -32,7 +35,7 @@ impl<'a, T: Ranked> Wanted<'a, T> {
         ensures { result ≡ is_wanted T.rank T.key T.id self.now item.now }
     {
         match self {
-            Wanted::BehindRanked(x) => precedes(*x, item),
+            Wanted::BehindRanked(rank, key) => precedes(*rank, *key, item),
             Wanted::BehindKey(x) => x.key() < item.key(),
             Wanted::BehindKeyed(x) => precedes_keyed(*x, item),
             Wanted::Id(id) => item.id() == *id,
@@ -59,7 +62,8 @@ pub(crate) struct Found<T> {
 }
 
 impl<T: Ranked, A: Allocator> Nodes<T, A> {
-    /// Where the first wanted item stands.
+    /// Where the first wanted item stands. The search steps from box to box itself, since the compiled loop over an iterator
+    /// takes more instructions at each box: it keeps and tests once more whether there is a box to give.
     #[inline(always)]
     pub(crate) fn gap(&self, wanted: &Wanted<'_, T>) -> Gap<T>
         ensures index { index_behind result.before ≡ count_before (is_wanted T.rank T.key T.id wanted.now) self.now.items }
@@ -67,21 +71,44 @@ impl<T: Ranked, A: Allocator> Nodes<T, A> {
         ensures found { IsFound (links_of self.now.blocks) self.now.items (index_behind result.before) result.found }
     {
         let mut before = None;
-        let mut boxes = self.boxes();
-        while let Some((spot, item)) = boxes.next() {
+        let mut more = self.is_any();
+        let mut rest = self.cursor();
+        while more {
+            let (spot, item, follows, behind) = rest.step();
             if wanted.passes(item) {
-                let is_last = boxes.next().is_none();
                 return Gap {
                     before,
-                    found: Some(Found { spot, is_last }),
+                    found: Some(Found {
+                        spot,
+                        is_last: !follows,
+                    }),
                 };
             }
             before = Some(spot);
+            more = follows;
+            rest = behind;
         }
         Gap {
             before,
             found: None,
         }
+    }
+
+    /// The first item with this id. `None` exactly where there is none. It steps from box to box as `gap` does.
+    pub(crate) fn find(&self, id: u32) -> Option<&T>
+        ensures { option_copied result ≡ find_id T.id id self.now.items }
+    {
+        let mut more = self.is_any();
+        let mut rest = self.cursor();
+        while more {
+            let (_, item, follows, behind) = rest.step();
+            if item.id() == id {
+                return Some(item);
+            }
+            more = follows;
+            rest = behind;
+        }
+        None
     }
 }
 
