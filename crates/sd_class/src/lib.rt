@@ -5,6 +5,7 @@
 #![tactic(auto)]
 
 mod changes;
+mod classes;
 mod fixed_priority;
 mod laws;
 mod permissions;
@@ -14,6 +15,9 @@ mod system;
 mod time_sharing;
 
 pub use changes::{enter, first_state};
+pub use classes::{
+    aged_class, class_expires, class_requeue, tick_class, ticked_class, woken_class,
+};
 pub use fixed_priority::{fx_global, fx_tick, fx_wake};
 pub use laws::{base_priorities_in_range, callers_without_privilege};
 pub use permissions::{Target, Who, judge};

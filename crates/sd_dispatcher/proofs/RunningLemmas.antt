@@ -58,13 +58,13 @@ unfolding run_tick
 tick_class w s t = kept_class s t t (record (thread_of s t) { body = ran (script_of w t) (thread_of s t).body }) (ran_class (script_of w t) (thread_of s t).body)
 
 -- a tick of which the class was read before
-pub ticked_by : (w : Work) (s : State) (c t : ℕ) (class next : ClassState) (expires : Bool) → class ≡ (thread_of (count_tick w s c) t).body.class → next ≡ ticked_class w class → expires ≡ class_expires class
-    → charge (set_class (run_tick w (count_tick w s c) t) t next) c t expires ≡ ticked w s c t
+pub ticked_by : (w : Work) (s : State) (c t : ℕ) (expires : Bool) → expires ≡ class_expires (thread_of (count_tick w s c) t).body.class
+    → charge (set_class (run_tick w (count_tick w s c) t) t (ticked_class w (thread_of (count_tick w s c) t).body.class)) c t expires ≡ ticked w s c t
 unfolding ticked
-ticked_by w s c t class next expires e f g =
+ticked_by w s c t expires e =
     let r = run_tick w (count_tick w s c) t in
-    (λ i. charge (set_class r t (f i)) c t (g i))
-    ∙ ap (λ (k : ClassState). charge (set_class r t (ticked_class w k)) c t (class_expires k)) (e ∙ sym (tick_class w (count_tick w s c) t))
+    ap (λ (b : Bool). charge (set_class r t (ticked_class w (thread_of (count_tick w s c) t).body.class)) c t b) e
+    ∙ ap (λ (k : ClassState). charge (set_class r t (ticked_class w k)) c t (class_expires k)) (sym (tick_class w (count_tick w s c) t))
 
 pub runs_classed : (s : State) (t : ThreadId) (class : ClassState) (c : CpuId) → (thread_of s t.0).place ≡ Running c → (thread_of (set_class s t.0 class) t.0).place ≡ Running c
 runs_classed s t class c runs = class_place s t.0 t.0 class ∙ runs

@@ -4,6 +4,7 @@
 ghost use Rattle.std.specs.Prelude.{◌≡◌, [], ◌∷◌, IfOk, option_copied, option_map, unwrap_or};
 ghost use Rattle.sd_machine.specs.Prioritising.{is_privileged, uid_of};
 ghost use Rattle.sd_machine.specs.Threads.{has_ended, priority_of};
+ghost use Rattle.sd_rules.specs.ClassRules.{class_expires};
 ghost use Rattle.sd_state.specs.Operations.{op_of};
 ghost use Rattle.sd_state.specs.declared.states.Place.{Place};
 ghost use Rattle.sd_state.specs.States.{no_body, thread_of, eff_of};
@@ -13,6 +14,7 @@ ghost use Rattle.sd_store.specs.Words.{Lacks, Tells};
 ghost use Rattle.sd_types.specs.declared.bodies.ThreadBody.{ThreadBody as ThreadBodyOf};
 ghost use Rattle.sd_types.specs.Priorities.{eff, eff_as};
 
+use sd_class::class_expires;
 use sd_store::{Look, Spot};
 use sd_types::{
     ClassState, CpuId, LockId, Op, SysState, ThreadBody, ThreadId, Work, greatest_willed,
@@ -26,6 +28,17 @@ pub fn class_in(body: Option<&ThreadBody>) -> ClassState
     match body {
         Some(body) => body.class,
         None => ClassState::Sys(SysState { pri: 60 }),
+    }
+}
+
+/// The next tick ends the quantum of the thread of a body.
+#[inline(always)]
+fn expires_in(body: Option<&ThreadBody>) -> bool
+    ensures { result ≡ class_expires (unwrap_or (option_copied body.entry) no_body).class }
+{
+    match body {
+        Some(body) => class_expires(&body.class),
+        None => false,
     }
 }
 
@@ -47,6 +60,15 @@ pub fn class_of<L: Look>(x: &L, t: ThreadId) -> Result<ClassState, L::Lack>
     ensures lack { Lacks L.part (L.shows x.now) (L.has x.now) result (λ s. thread_part t ∷ []) }
 {
     Ok(class_in(x.body(t)?))
+}
+
+/// The next tick ends the quantum of thread `t`.
+#[inline(always)]
+pub fn expires_of<L: Look>(x: &L, t: ThreadId) -> Result<bool, L::Lack>
+    ensures value { Tells (L.shows x.now) result (λ s. class_expires (thread_of s t.0).body.class) }
+    ensures lack { Lacks L.part (L.shows x.now) (L.has x.now) result (λ s. thread_part t ∷ []) }
+{
+    Ok(expires_in(x.body(t)?))
 }
 
 /// The processor to which thread `t` is bound.

@@ -6,7 +6,6 @@
 
 mod bodies;
 mod choosing;
-mod classes;
 mod dispatching;
 mod marks;
 mod placing;
@@ -16,11 +15,10 @@ mod running;
 mod waking;
 
 pub use bodies::{
-    bound_in, bound_of, class_in, class_of, eff_as, eff_in, eff_of, effective_in, has_ended,
-    is_privileged, op_of, priority_of, uid_of, willed_numbers,
+    bound_in, bound_of, class_in, class_of, eff_as, eff_in, eff_of, effective_in, expires_of,
+    has_ended, is_privileged, op_of, priority_of, uid_of, willed_numbers,
 };
 pub use choosing::{neighbours, put_chosen, victim_for};
-pub use classes::{aged_class, class_expires, class_requeue, ticked_class, woken_class};
 pub use dispatching::{dispatch_plan, leave_plan, search_event};
 pub use marks::{mark_over, remark};
 pub use placing::{put, put_where, put_with};

@@ -12,9 +12,9 @@ ghost use Rattle.sd_dispatcher.specs.Touched.{leaving_parts, queue_for};
 ghost use Rattle.sd_store.specs.Parts.{actor_part, cpu_part, ready_parts, real_time_part, thread_part};
 ghost use Rattle.sd_store.specs.Words.{Does, DoesBy, Lacks, LacksBy, LacksIf, Tells};
 
-use crate::bodies::{bound_of, class_of, eff_of};
-use crate::classes::{class_expires, class_requeue, ticked_class};
+use crate::bodies::{bound_of, class_of, eff_of, expires_of};
 use crate::marks::mark_over;
+use sd_class::{class_expires, class_requeue, ticked_class};
 use sd_store::{Destination, Look, Store, finish_op, send_back, set_class, set_of, tick};
 use sd_types::{CpuId, End, REAL_TIME_PRIORITY, ThreadBody, ThreadId, Work};
 
@@ -70,7 +70,7 @@ fn class_counts<S: Store>(work: &Work, x: &mut S, c: CpuId, t: ThreadId) -> Resu
     charge(work, x, c, t, class_expires(&class))
 }
 
-/// Thread `t` runs for a tick on processor `c`. Its class is read first: a tick of its operation leaves it as it was.
+/// Thread `t` runs for a tick on processor `c`. Whether that ends its quantum is read first.
 #[tactic(auto, using(crate::proofs::RunningLemmas::counted_finish, crate::proofs::RunningLemmas::ready_ticked))]
 #[inline(always)]
 pub fn ticked<S: Store>(work: &Work, x: &mut S, c: CpuId, t: ThreadId) -> Result<(), S::Lack>
@@ -79,9 +79,9 @@ pub fn ticked<S: Store>(work: &Work, x: &mut S, c: CpuId, t: ThreadId) -> Result
     ensures has { S.has x.new ≡ S.has x.old }
 {
     x.count_tick(work, c)?;
-    let class = class_of(x, t)?;
-    tick(x, work, t, ticked_class(work, class))?;
-    charge(work, x, c, t, class_expires(&class))
+    let expires = expires_of(x, t)?;
+    tick(x, work, t)?;
+    charge(work, x, c, t, expires)
 }
 
 /// Thread `t` spins for a tick on processor `c`.

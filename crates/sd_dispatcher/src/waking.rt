@@ -8,8 +8,8 @@ ghost use Rattle.sd_store.specs.Parts.{put_parts, thread_part};
 ghost use Rattle.sd_store.specs.Words.{DoesBy, Lacks, LacksBy, Tells};
 
 use crate::bodies::{class_in, eff_in};
-use crate::classes::woken_class;
 use crate::placing::put_with;
+use sd_class::woken_class;
 use sd_store::{Look, Store};
 use sd_types::{Put, ThreadId, Work};
 

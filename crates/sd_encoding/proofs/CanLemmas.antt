@@ -60,7 +60,7 @@ module _ (x s : State) (h : IsSameOrder x s) where
   body_back t = sym (body_same x s h.bare t)
 
   pub change_back : (w : Work) (t : ThreadId) (change : BodyChange) → CanChange w t change s → CanChange w t change x
-  change_back w t (Tick class) can = subst (λ (b : ThreadBody). b.op < length (script_of w t.0)) (body_back t.0) can
+  change_back w t Tick can = subst (λ (b : ThreadBody). b.op < length (script_of w t.0)) (body_back t.0) can
   change_back w t FinishOp can = subst (λ (b : ThreadBody). b.op < length (script_of w t.0)) (body_back t.0) can
   change_back w t (Hold l) can = record {
     room = subst (λ (b : ThreadBody). length b.held.items < 8) (body_back t.0) can.room;

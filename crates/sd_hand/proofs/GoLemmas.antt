@@ -128,11 +128,11 @@ ran_last ops b = by (nat_le b.run_left 1) refl
     by false e = rw e refl
 
 pub changed_last : (w : Work) (t : ℕ) (change : BodyChange) (b : ThreadBody) → (changed w t change b).last ≡ b.last
-changed_last w t (Tick class) b = ran_last (script_of w t) b
+changed_last w t Tick b = ran_last (script_of w t) b
 changed_last w t change b = refl
 
 pub can_change : (w : Work) (s : State) (t : ThreadId) (change : BodyChange) → CanChange w t change s → CanChangeThread w t.0 change (thread_of s t.0).body
-can_change w s t (Tick class) can = can
+can_change w s t Tick can = can
 can_change w s t FinishOp can = can
 can_change w s t (Class class) can = tt
 can_change w s t SendBack can = tt

@@ -10,7 +10,7 @@ use Rattle.sd_store.specs.declared.changes.BodyChange.{BodyChange}
 use Rattle.sd_store.specs.declared.changes.BodyChange.TheVariants.{Tick, FinishOp, Class, SendBack, Hold, LetGo, Inherit, Looped}
 
 abbrev pub CanChangeThread : Work → ℕ → BodyChange → ThreadBody → Type 0
-CanChangeThread w t (Tick class) b = b.op < length (script_of w t)
+CanChangeThread w t Tick b = b.op < length (script_of w t)
 CanChangeThread w t FinishOp b = b.op < length (script_of w t)
 CanChangeThread w t (Class class) b = ⊤
 CanChangeThread w t SendBack b = ⊤

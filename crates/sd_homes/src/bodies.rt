@@ -10,10 +10,11 @@ ghost use Rattle.sd_store.specs.Bodies.{changed};
 ghost use Rattle.sd_homes.specs.Bodies.{CanChangeThread};
 ghost use Rattle.sd_homes.specs.Homes.{with_body_of};
 
+use sd_class::tick_class;
 use sd_flat::script_of;
 use sd_record::Record;
 use sd_store::BodyChange;
-use sd_types::{ClassState, LockId, MOST_HELD, ThreadBody, ThreadId, Work};
+use sd_types::{LockId, MOST_HELD, ThreadBody, ThreadId, Work};
 
 /// Whether the thread holds the lock.
 fn is_held(l: LockId, body: &ThreadBody) -> bool
@@ -33,14 +34,14 @@ fn run_tick(work: &Work, t: ThreadId, r: &mut Record)
     }
 }
 
-/// The same, with the class state after it.
+/// The same, which the class counts.
 #[inline(always)]
-fn tick(work: &Work, t: ThreadId, class: ClassState, r: &mut Record)
-    ensures body { CanChangeThread work.now t.0 (Tick class) r.old.body → r.new ≡ with_body_of (changed work.now t.0 (Tick class) r.old.body) r.old }
+fn tick(work: &Work, t: ThreadId, r: &mut Record)
+    ensures body { CanChangeThread work.now t.0 Tick r.old.body → r.new ≡ with_body_of (changed work.now t.0 Tick r.old.body) r.old }
     ensures id { r.new.id ≡ r.old.id }
 {
+    tick_class(work, &mut r.body.class);
     run_tick(work, t, r);
-    r.body.class = class;
 }
 
 /// The operation is over, where the thread stands at one.
@@ -86,7 +87,7 @@ pub(crate) fn change(work: &Work, t: ThreadId, change: BodyChange, r: &mut Recor
     ensures id { r.new.id ≡ r.old.id }
 {
     match change {
-        BodyChange::Tick(class) => tick(work, t, class, r),
+        BodyChange::Tick => tick(work, t, r),
         BodyChange::FinishOp => finish_op(work, t, r),
         BodyChange::Class(class) => r.body.class = class,
         BodyChange::SendBack => r.body.back = true,

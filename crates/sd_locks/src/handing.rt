@@ -16,7 +16,8 @@ ghost use Rattle.sd_types.specs.declared.numbers.Side.TheVariants.{Writer};
 
 use crate::eff_as_with;
 use crate::entering::owned;
-use sd_dispatcher::{class_of, eff_of, priority_of, woken, woken_class, woken_priority};
+use sd_class::woken_class;
+use sd_dispatcher::{class_of, eff_of, priority_of, woken, woken_priority};
 use sd_machine::{Placement, Plan};
 use sd_state::LockState;
 use sd_store::{Chore, Look, Store, Task, finish_op, hold, inherit};

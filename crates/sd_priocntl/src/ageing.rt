@@ -9,7 +9,8 @@ ghost use Rattle.sd_state.specs.States.{eff_of};
 ghost use Rattle.sd_store.specs.Parts.{actor_part, cpu_part, found_parts, number, thread_part};
 ghost use Rattle.sd_store.specs.Words.{DoesBy, Lacks, LacksBy, Tells};
 
-use sd_dispatcher::{aged_class, class_in, eff_in, effective_in, put_with};
+use sd_class::aged_class;
+use sd_dispatcher::{class_in, eff_in, effective_in, put_with};
 use sd_machine::Plan;
 use sd_store::{Chore, Look, Store, set_class};
 use sd_types::{ClassState, CpuId, Event, Put, ThreadId, Work};

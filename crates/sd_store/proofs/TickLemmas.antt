@@ -8,7 +8,7 @@ use Rattle.sd_state.specs.declared.states.State.{State}
 use Rattle.sd_state.specs.declared.states.ThreadState.{ThreadState}
 use Rattle.sd_state.specs.States.{no_thread, thread_of}
 use Rattle.sd_state.specs.Operations.{ran, script_of}
-use Rattle.sd_machine.specs.Bodies.{with_class}
+use Rattle.sd_machine.specs.Bodies.{ticked_class, with_class}
 use Rattle.sd_machine.specs.Changes.{run_tick, set_class, with_body}
 use Rattle.sd_machine.specs.Needs.{CanFinish}
 use Rattle.sd_store.specs.Words.{Does}
@@ -32,8 +32,9 @@ ticked_once w s t class =
     ap (λ (xs : List ThreadState). record s { threads = xs }) (twice runs classed s.threads t)
 
 -- what one change does, two do
-pub does_ticked : {A L : Type 0} (shows shows' : ℕ → State → Type 0) (r : Result A L) (w : Work) (t : ThreadId) (class : ClassState)
-    → Does shows shows' r (λ s. CanFinish w s t) (λ s. with_body s t.0 (with_class (ran (script_of w t.0) (thread_of s t.0).body) class))
-    → Does shows shows' r (λ s. CanFinish w s t) (λ s. set_class (run_tick w s t.0) t.0 class)
-does_ticked shows shows' (Ok a) w t class does = λ n s shown can. subst (λ (q : State). shows' n q) (sym (ticked_once w s t.0 class)) (does n s shown can)
-does_ticked shows shows' (Err q) w t class does = tt
+pub does_ticked : {A L : Type 0} (shows shows' : ℕ → State → Type 0) (r : Result A L) (w : Work) (t : ThreadId)
+    → Does shows shows' r (λ s. CanFinish w s t) (λ s. with_body s t.0 (with_class (ran (script_of w t.0) (thread_of s t.0).body) (ticked_class w (thread_of s t.0).body.class)))
+    → Does shows shows' r (λ s. CanFinish w s t) (λ s. set_class (run_tick w s t.0) t.0 (ticked_class w (thread_of s t.0).body.class))
+does_ticked shows shows' (Ok a) w t does =
+    λ n s shown can. subst (λ (q : State). shows' n q) (sym (ticked_once w s t.0 (ticked_class w (thread_of s t.0).body.class))) (does n s shown can)
+does_ticked shows shows' (Err q) w t does = tt

@@ -21,7 +21,7 @@ pub record IsState (x s : State) : Type 0 where
 
 -- what a change asks of a body
 abbrev pub CanChangeBody : Work → ℕ → BodyChange → ThreadBody → Type 0
-CanChangeBody w t (Tick class) b = b.op < length (script_of w t)
+CanChangeBody w t Tick b = b.op < length (script_of w t)
 CanChangeBody w t FinishOp b = b.op < length (script_of w t)
 CanChangeBody w t (Hold l) b = length b.held.items < most_held
 CanChangeBody w t (Inherit l number) b = InheritsSoundly b × IsTrue (is_held l b.held.items) × IfSome number (λ n. n < 160)

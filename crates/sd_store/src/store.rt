@@ -1,6 +1,8 @@
 //! Changing a state: the steps of which the events are composed.
 
 ghost use Rattle.std.specs.Prelude.{◌≡◌, [], ◌∷◌, ⊤};
+ghost use Rattle.sd_state.specs.States.{thread_of};
+ghost use Rattle.sd_machine.specs.Bodies.{ticked_class};
 ghost use Rattle.sd_machine.specs.Changes.{finish_op, hold, let_go, run_tick, send_back, set_class, set_looped, set_number};
 ghost use Rattle.sd_machine.specs.Needs.{CanFinish, CanHold, CanInherit};
 ghost use Rattle.sd_store.specs.Parts.{thread_part};
@@ -140,15 +142,15 @@ pub trait Store: Look {
         ensures has { Self.has self.new ≡ Self.has self.old };
 }
 
-/// Thread `t` runs for a tick of its operation, and has this class state after it.
+/// Thread `t` runs for a tick of its operation, which its class counts.
 #[inline(always)]
-pub fn tick<S: Store>(x: &mut S, work: &Work, t: ThreadId, class: ClassState) -> Result<(), S::Lack>
-    ensures value { Does (S.shows x.old) (S.shows x.new) result (λ s. CanFinish work.now s t) (λ s. set_class (run_tick work.now s t.0) t.0 class) }
+pub fn tick<S: Store>(x: &mut S, work: &Work, t: ThreadId) -> Result<(), S::Lack>
+    ensures value { Does (S.shows x.old) (S.shows x.new) result (λ s. CanFinish work.now s t) (λ s. set_class (run_tick work.now s t.0) t.0 (ticked_class work.now (thread_of s t.0).body.class)) }
     ensures lack { Lacks S.part (S.shows x.old) (S.has x.old) result (λ s. thread_part t ∷ []) }
     ensures kept { Keeps (S.shows x.old) (S.shows x.new) result }
     ensures has { S.has x.new ≡ S.has x.old }
 {
-    x.change_body(work, t, BodyChange::Tick(class))
+    x.change_body(work, t, BodyChange::Tick)
 }
 
 /// The operation at which thread `t` stands is over.

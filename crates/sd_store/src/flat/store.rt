@@ -8,6 +8,7 @@ ghost use Rattle.sd_store.specs.Flat.{CanChangeBody};
 use crate::flat::Never;
 use crate::keyless::{duty_of, place_by, place_put, rouse};
 use crate::{BodyChange, Chore, Destination, Store};
+use sd_class::tick_class;
 use sd_flat::{cpu_of, is_looped, is_thread, place_of, script_of};
 use sd_state::{LockState, Place, State};
 use sd_types::{ChanId, ClassState, CpuId, Duty, LockId, Put, ThreadBody, ThreadId, Work};
@@ -39,9 +40,9 @@ fn change(work: &Work, t: ThreadId, change: BodyChange, b: &mut ThreadBody)
     ensures { CanChangeBody work.now t.0 change b.old → b.new ≡ changed work.now t.0 change b.old }
 {
     match change {
-        BodyChange::Tick(class) => {
+        BodyChange::Tick => {
+            tick_class(work, &mut b.class);
             sd_flat::ran(script_of(work, t), b);
-            b.class = class;
         }
         BodyChange::FinishOp => sd_flat::op_over(script_of(work, t), b),
         BodyChange::Class(class) => b.class = class,

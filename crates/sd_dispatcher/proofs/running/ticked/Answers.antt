@@ -9,6 +9,6 @@ returns-clause-value g c =
     (λ made. λ n s shows can.
     let counted = c.in_ok-count_tick.ensures.value n s shows can.0 in
     subst (λ r. g.S.Look.shows c.charge.new.x n r)
-    (ticked_by c.args.work.now s c.args.c.0 c.args.t.0 c.in_ok-class.class c.ticked_class.result c.class_expires.result (c.in_ok-class.ensures.value n _ counted) c.ticked_class.ensures c.class_expires.ensures)
+    (ticked_by c.args.work.now s c.args.c.0 c.args.t.0 c.in_ok-expires.expires (c.in_ok-expires.ensures.value n _ counted))
     (made n _ (c.in_ok-tick.ensures.value n _ counted (counted_finish c.args.work.now s c.args.c.0 c.args.t can.1)) tt))
     c.charge.ensures.value

@@ -5,29 +5,37 @@ ghost use Rattle.std.specs.Prelude.{◌≡◌};
 ghost use Rattle.sd_machine.specs.Bodies.{aged_class, ticked_class, woken_class};
 ghost use Rattle.sd_rules.specs.ClassRules.{class_expires, class_requeue, quantum_expires};
 
-use sd_class::{fx_tick, fx_wake, rt_tick, rt_wake, ts_requeue, ts_second, ts_tick, ts_wake};
+use crate::fixed_priority::{fx_tick, fx_wake};
+use crate::real_time::{rt_tick, rt_wake};
+use crate::time_sharing::{ts_requeue, ts_second, ts_tick, ts_wake};
 use sd_types::{ClassState, Quantum, Work};
 
-/// The class state after a tick of the running thread.
+/// Changes the class state of the running thread as a tick does, where it lies.
 #[inline(always)]
+pub fn tick_class(work: &Work, class: &mut ClassState)
+    ensures { class.new ≡ ticked_class work.now class.old }
+{
+    match class {
+        ClassState::Ts(s) => {
+            ts_tick(s, &work.ts);
+        }
+        ClassState::Fx(s) => {
+            fx_tick(s, &work.fx);
+        }
+        ClassState::Sys(_) => {}
+        ClassState::Rt(s) => {
+            rt_tick(s, &work.rt);
+        }
+    }
+}
+
+/// The class state after a tick of the running thread.
 pub fn ticked_class(work: &Work, class: ClassState) -> ClassState
     ensures { result ≡ ticked_class work.now class }
 {
-    match class {
-        ClassState::Ts(mut s) => {
-            ts_tick(&mut s, &work.ts);
-            ClassState::Ts(s)
-        }
-        ClassState::Fx(mut s) => {
-            fx_tick(&mut s, &work.fx);
-            ClassState::Fx(s)
-        }
-        ClassState::Sys(s) => ClassState::Sys(s),
-        ClassState::Rt(mut s) => {
-            rt_tick(&mut s, &work.rt);
-            ClassState::Rt(s)
-        }
-    }
+    let mut next = class;
+    tick_class(work, &mut next);
+    next
 }
 
 /// The class state after a wakeup, from a nap, a sleep queue or a turnstile.
@@ -77,6 +85,7 @@ pub fn class_requeue(expired: bool, class: ClassState) -> ClassState
     }
 }
 
+#[inline(always)]
 fn quantum_expires(quantum: Quantum, left: u64) -> bool
     ensures { result ≡ quantum_expires quantum left }
 {
@@ -87,6 +96,7 @@ fn quantum_expires(quantum: Quantum, left: u64) -> bool
 }
 
 /// The next tick ends the quantum.
+#[inline(always)]
 pub fn class_expires(class: &ClassState) -> bool
     ensures { result ≡ class_expires class.now }
 {
