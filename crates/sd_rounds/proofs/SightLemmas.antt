@@ -34,7 +34,7 @@ use Rattle.sd_rounds.specs.declared.sight.Sight.{Sight}
 use Rattle.sd_rounds.specs.declared.sight.Sight.TheVariants as sight
 use Rattle.sd_rounds.specs.Searched.{HasNothing, HasNoUrgent, IsSearched, all_show_zero}
 use Rattle.sd_rounds.specs.declared.sight.Searched.{Searched}
-use Rattle.sd_rounds.specs.Sights.{FindsNothing, Sees, SeesQuiet, SeesRunner}
+use Rattle.sd_rounds.specs.Sights.{FindsNothing, Sees, SeesQuiet, SeesRunner, noted}
 use Rattle.sd_rounds.proofs.SearchedLemmas.{none_ready, none_urgent}
 
 -- a processor without a duty and without a nap that is over
@@ -66,6 +66,12 @@ searches w s c runs closing ready =
 first_found : (r : ThreadRecord) (rs : List ThreadRecord) → slice_get rs 0 ≡ Some r → find_id id_of (id_of r) rs ≡ Some r
 first_found r [] e = absurd cc
 first_found r (q ∷ rs) e = let same : q ≡ r = cc in rw (ap (λ z. id_of z == id_of r) same ∙ eq-eqb (id_of r) (id_of r) refl) e
+
+-- a look at a thread that runs tells nothing of a search
+pub runner_noted : (w : Work) (v : CpuView) (r : ThreadRecord) (known : Option Searched) (seen : Sight) → SeesRunner w v r seen → known ≡ noted known seen
+runner_noted w v r known (sight.Runs t) f = refl
+runner_noted w v r known (sight.Idles found) f = absurd f
+runner_noted w v r known sight.Unclear f = refl
 
 module _ (w : Work) (x : Acting) (n : ℕ) (s : State) (h : Home) (sh : IsShown x n s) (duty : x.actor.duty ≡ Nothing) (at : held (Cpu x.actor.cpu) x.hand.slots ≡ Some h)
     (due : due_of_first x.actor.count (slice_get (list_in h (Naps x.actor.cpu)) 0) ≡ None) (v : CpuView) (view : Some v ≡ view_in h) where

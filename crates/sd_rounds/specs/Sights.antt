@@ -55,3 +55,9 @@ SeesQuiet x h v known (Runs t) = ⊥
 SeesQuiet x h v known (Idles found) =
     (found.set ≡ v.set) × (v.closing ≡ None) × (slice_get (list_in h (Queues x.actor.cpu)) 0 ≡ None) × ((known ≡ Some found) ⊎ FindsNothing x found)
 SeesQuiet x h v known Unclear = ⊤
+
+-- what is known of a search after this look
+abbrev pub noted : Option Searched → Sight → Option Searched
+noted known (Runs t) = known
+noted known (Idles found) = Some found
+noted known Unclear = known

@@ -13,7 +13,7 @@ ghost use Rattle.sd_homes.specs.Standing.{due_of_first};
 ghost use Rattle.sd_hand.specs.Acting.{IsShown};
 ghost use Rattle.sd_hand.specs.Hands.{held};
 ghost use Rattle.sd_rounds.specs.Searched.{IsSearched, all_show_zero};
-ghost use Rattle.sd_rounds.specs.Sights.{FindsNothing, Sees, SeesQuiet, SeesRunner};
+ghost use Rattle.sd_rounds.specs.Sights.{FindsNothing, Sees, SeesQuiet, SeesRunner, noted};
 
 use sd_hand::Acting;
 use sd_homes::{Home, ListId, is_over};
@@ -130,30 +130,36 @@ fn search(x: &Acting, set: SetId) -> Option<Searched>
     }
 }
 
-/// What is seen of a processor on which no thread runs. Where it is known that there is nothing in its set, it looks at no other home.
+/// What is seen of a processor on which no thread runs. Where it is known that there is nothing in its set, it looks at no other home, and
+/// where it finds nothing, that is known from now on.
 #[inline(always)]
-fn see_quiet(x: &Acting, home: &Home, view: CpuView, searched: Option<Searched>) -> Sight
+fn see_quiet(x: &Acting, home: &Home, view: CpuView, searched: &mut Option<Searched>) -> Sight
     requires home { held (Cpu x.now.actor.cpu) x.now.hand.slots ≡ Some home.now }
-    ensures { SeesQuiet x.now home.now view searched result }
+    ensures seen { SeesQuiet x.now home.now view searched.old result }
+    ensures noted { searched.new ≡ noted searched.old result }
 {
     if view.closing.is_some() || home.first(ListId::Queues(x.actor.cpu)).is_some() {
         return Sight::Unclear;
     }
-    if let Some(found) = known_of(searched, view.set) {
+    if let Some(found) = known_of(*searched, view.set) {
         return Sight::Idles(found);
     }
     match search(x, view.set) {
         None => Sight::Unclear,
-        Some(found) => Sight::Idles(found),
+        Some(found) => {
+            *searched = Some(found);
+            Sight::Idles(found)
+        }
     }
 }
 
 /// What is seen of a processor without a duty, whose home this is.
 #[inline(always)]
-fn see_home(work: &Work, x: &Acting, home: &Home, searched: Option<Searched>) -> Sight
+fn see_home(work: &Work, x: &Acting, home: &Home, searched: &mut Option<Searched>) -> Sight
     requires duty { x.now.actor.duty ≡ Nothing }
     requires home { held (Cpu x.now.actor.cpu) x.now.hand.slots ≡ Some home.now }
-    ensures { (n : ℕ) (s : StateOf) → IsShown x.now n s → IsSearched s searched → Sees work.now s x.now.actor.cpu.0 result }
+    ensures seen { (n : ℕ) (s : StateOf) → IsShown x.now n s → IsSearched s searched.old → Sees work.now s x.now.actor.cpu.0 result }
+    ensures noted { searched.new ≡ noted searched.old result }
 {
     let c = x.actor.cpu;
     if is_due(home.first(ListId::Naps(c)), x.actor.count) {
@@ -168,10 +174,11 @@ fn see_home(work: &Work, x: &Acting, home: &Home, searched: Option<Searched>) ->
     }
 }
 
-/// What is seen of the processor that acts.
+/// What is seen of the processor that acts. Where nothing is ready in its set, that is known from now on.
 #[inline(always)]
-pub(crate) fn see(work: &Work, x: &Acting, searched: Option<Searched>) -> Sight
-    ensures { (n : ℕ) (s : StateOf) → IsShown x.now n s → IsSearched s searched → Sees work.now s x.now.actor.cpu.0 result }
+pub(crate) fn see(work: &Work, x: &Acting, searched: &mut Option<Searched>) -> Sight
+    ensures seen { (n : ℕ) (s : StateOf) → IsShown x.now n s → IsSearched s searched.old → Sees work.now s x.now.actor.cpu.0 result }
+    ensures noted { searched.new ≡ noted searched.old result }
 {
     match x.actor.duty {
         Duty::Nothing => match x.hand.home(HomeId::Cpu(x.actor.cpu)) {

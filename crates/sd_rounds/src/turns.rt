@@ -214,12 +214,9 @@ fn act_alone(
     ensures least { IsFloor work.now (told work.now world.old) floor.new }
     ensures searched { IsSearched (told work.now world.new) searched.new }
 {
-    match see(work, &world.acting, *searched) {
+    match see(work, &world.acting, searched) {
         Sight::Runs(t) => come_tick(work, world, floor, t),
-        Sight::Idles(found) => {
-            *searched = Some(found);
-            end_search(work, world, floor, found.cpus)
-        }
+        Sight::Idles(found) => end_search(work, world, floor, found.cpus),
         Sight::Unclear => {
             *searched = None;
             act_by_plan(work, world)
