@@ -48,22 +48,3 @@ impl<T> Boxed<T> {
         &mut self.value
     }
 }
-
-#[cfg(test)]
-mod tests {
-    use super::*;
-    use std::test::Fail;
-
-    fn sent<T: Send>(value: T) -> T {
-        value
-    }
-
-    #[test]
-    fn is_read_and_changed(rt: HostRuntime) -> Result<(), Fail> {
-        let mut boxed = sent(Boxed::new(rt.alloc(), 7u8)?);
-        assert_eq!(rt; *boxed.get(), 7);
-        *boxed.get_mut() = 9;
-        assert_eq!(rt; *boxed.get(), 9);
-        Ok(())
-    }
-}

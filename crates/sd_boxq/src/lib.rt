@@ -4,15 +4,11 @@
 
 mod boxed;
 mod four;
-#[cfg(test)]
-mod four_tests;
 mod node;
 mod nodes;
 mod queue;
 mod ranked;
 mod search;
-#[cfg(test)]
-mod tests;
 
 pub use boxed::Boxed;
 pub use four::Four;

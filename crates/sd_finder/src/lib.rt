@@ -17,6 +17,3 @@ pub use forms::{Aim, Request, request_of};
 pub use timings::Timing;
 pub use verdicts::{Told, Verdict};
 pub use watching::{Unwatched, Watch};
-
-#[cfg(test)]
-mod tests;

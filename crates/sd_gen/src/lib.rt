@@ -6,8 +6,6 @@
 mod laws;
 mod lines;
 mod parts;
-#[cfg(test)]
-mod tests;
 mod threads;
 
 pub use laws::{

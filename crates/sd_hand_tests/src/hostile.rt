@@ -116,13 +116,15 @@ fn entries_of(alloc: Global, work: &Work, world: &PlainWorld) -> Result<Vec<u8>,
     Ok(out)
 }
 
-/// The entries of the run of this workload with these troubles, and how often somebody was in the way.
-fn journal<G: Gate>(
-    alloc: Global,
-    text: &[u8],
-    plan: Vec<Trouble>,
-    gate: &G,
-) -> Result<(Vec<u8>, u64), Fail>
+/// The entries of a run, and how often somebody was in the way. (A pair of these took three minutes to prove.)
+#[derive(Drop)]
+struct Told {
+    text: Vec<u8>,
+    stops: u64,
+}
+
+/// The run of this workload with these troubles.
+fn journal<G: Gate>(alloc: Global, text: &[u8], plan: Vec<Trouble>, gate: &G) -> Result<Told, Fail>
     requires few { length text.now < 2 ^ 31 }
     requires possible { ArePossible plan.items }
 {
@@ -133,8 +135,8 @@ fn journal<G: Gate>(
     let mut world = HostileWorld::new(alloc, inner, plan)?;
     run(&mut world, gate, &work);
     let stops = world.stops;
-    let out = entries_of(alloc, &work, &world.into_inner())?;
-    Ok((out, stops))
+    let text = entries_of(alloc, &work, &world.into_inner())?;
+    Ok(Told { text, stops })
 }
 
 /// Busy at every second call up to 200.
@@ -172,9 +174,9 @@ fn the_homes_of_a_run_are_given_out_one_by_one(rt: HostRuntime) -> Result<(), Fa
         passes: Cell::new(0),
         right: Cell::new(true),
     };
-    let (out, stops) = journal(alloc, YIELD.as_bytes(), Vec::new(alloc), &gate)?;
-    assert!(rt; out.as_slice() == YIELD_ENTRIES.as_bytes());
-    assert_eq!(rt; stops, 0);
+    let told = journal(alloc, YIELD.as_bytes(), Vec::new(alloc), &gate)?;
+    assert!(rt; told.text.as_slice() == YIELD_ENTRIES.as_bytes());
+    assert_eq!(rt; told.stops, 0);
     assert_eq!(rt; gate.passes.get(), 9);
     assert!(rt; gate.right.get());
     Ok(())
@@ -183,8 +185,8 @@ fn the_homes_of_a_run_are_given_out_one_by_one(rt: HostRuntime) -> Result<(), Fa
 #[test]
 fn a_chain_of_three_mutexes_among_troubles(rt: HostRuntime) -> Result<(), Fail> {
     let alloc = rt.alloc();
-    let (out, stops) = journal(alloc, CHAIN.as_bytes(), troubles(alloc)?, &OpenGate)?;
-    assert!(rt; out.as_slice() == CHAIN_ENTRIES.as_bytes());
-    assert!(rt; stops > 0);
+    let told = journal(alloc, CHAIN.as_bytes(), troubles(alloc)?, &OpenGate)?;
+    assert!(rt; told.text.as_slice() == CHAIN_ENTRIES.as_bytes());
+    assert!(rt; told.stops > 0);
     Ok(())
 }

@@ -8,8 +8,6 @@ mod names;
 mod operations;
 mod requests;
 mod statements;
-#[cfg(test)]
-mod tests;
 mod threads;
 mod words;
 

@@ -67,65 +67,6 @@ fn levels(rt: HostRuntime) -> Result<(), Fail> {
     Ok(())
 }
 
-#[test]
-fn take_lowers_the_maximum(rt: HostRuntime) -> Result<(), Fail> {
-    let mut queue = DispQueue::new(rt.alloc())?;
-    for (rank, id) in [(100, 1), (100, 2), (7, 3)] {
-        assert!(rt; rank < 160);
-        queue.put_back(node(&rt, rank, 0, id)?);
-    }
-    for (id, rest) in [(2, Some(100)), (1, Some(7)), (4, Some(7)), (3, None)] {
-        assert_eq!(rt; taken(queue.take(id)), if id == 4 { 0 } else { id });
-        assert_eq!(rt; queue.max(), rest);
-    }
-    Ok(())
-}
-
-#[test]
-fn equal_keys_stand_as_they_came(rt: HostRuntime) -> Result<(), Fail> {
-    let mut queue = DispQueue::new(rt.alloc())?;
-    for (rank, key, id) in [
-        (30, 5, 1),
-        (30, 5, 2),
-        (30, -5, 3),
-        (40, 9, 4),
-        (30, 6, 5),
-        (30, 5, 6),
-        (40, 9, 7),
-        (30, -5, 8),
-    ] {
-        assert!(rt; rank < 160);
-        queue.put_ranked(node(&rt, rank, key, id)?);
-    }
-    assert_eq!(rt; ids(&queue), [4, 7, 3, 8, 1, 2, 6, 5, 0]);
-    Ok(())
-}
-
-#[test]
-fn is_empty_at_first(rt: HostRuntime) -> Result<(), Fail> {
-    let mut queue: DispQueue<Item> = DispQueue::new(rt.alloc())?;
-    assert_eq!(rt; queue.len(), 0);
-    assert_eq!(rt; queue.max(), None);
-    assert!(rt; queue.best().is_none());
-    assert!(rt; queue.find(0).is_none());
-    assert!(rt; queue.item(0).is_none());
-    assert!(rt; queue.items().next().is_none());
-    assert!(rt; queue.take(0).is_none());
-    assert!(rt; queue.take_best().is_none());
-    assert_eq!(rt; marked(&mut queue, 0), None);
-    Ok(())
-}
-
-#[test]
-fn counts(rt: HostRuntime) -> Result<(), Fail> {
-    let mut queue = DispQueue::new(rt.alloc())?;
-    queue.put_back(node(&rt, 159, 0, 1)?);
-    queue.put_back(node(&rt, 0, 0, 2)?);
-    queue.put_back(node(&rt, 159, 0, 3)?);
-    assert_eq!(rt; queue.len(), 3);
-    Ok(())
-}
-
 // Puts a marked item in place of the one with this id, and returns the mark of that one.
 fn marked(queue: &mut DispQueue<Item>, id: u32) -> Option<u8> {
     let item = match queue.find(id) {

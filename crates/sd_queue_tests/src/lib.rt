@@ -1,6 +1,8 @@
-//! Tests of dispatch queues, of chains of sleep queues and of chains of turnstiles.
+//! Tests of queues of boxes, of dispatch queues, of chains of sleep queues and of chains of turnstiles.
 #![tactic(auto)]
 
+#[cfg(test)]
+mod box_queues;
 #[cfg(test)]
 mod dispatch_queues;
 #[cfg(test)]

@@ -49,29 +49,6 @@ fn sleeps_and_wakes(rt: HostRuntime) -> Result<(), Fail> {
     Ok(())
 }
 
-#[test]
-fn is_found_by_id_on_a_channel_with_others(rt: HostRuntime) -> Result<(), Fail> {
-    let mut chain = SleepChain::new(63);
-    for (key, id) in [(1, 1), (2, 2), (3, 3)] {
-        chain.sleep(ChanId(255), node(&rt, 10, key, id)?);
-    }
-    assert_eq!(rt; woken(chain.take(2)), 255);
-    assert_eq!(rt; woken(chain.take(2)), 0);
-    assert_eq!(rt; taken(chain.take_best(ChanId(255), 4)), 1);
-    assert_eq!(rt; taken(chain.take_best(ChanId(255), 4)), 3);
-    Ok(())
-}
-
-#[test]
-fn is_empty_at_first(rt: HostRuntime) -> Result<(), Fail> {
-    let mut chain: SleepChain<Item> = SleepChain::new(0);
-    assert!(rt; chain.find(0).is_none());
-    assert!(rt; chain.take(0).is_none());
-    assert!(rt; chain.best(ChanId(64), i64::MAX).is_none());
-    assert!(rt; chain.take_best(ChanId(64), i64::MAX).is_none());
-    Ok(())
-}
-
 fn chain_is_sent<T: Ranked + Send>(chain: SleepChain<T>) -> SleepChain<T>
     ensures { result ≡ chain }
 {

@@ -1,6 +1,6 @@
 //! Turnstiles: four locks of one chain, each with waiters on both sides, taken in turn.
-ghost use Rattle.std.specs.Prelude.{◌≡◌, ◌<◌, ◌^◌, IfOk};
-ghost use Rattle.sd_turnstile.specs.Waiters.{nobody, IsOfChain, of_lock, waiter_count};
+ghost use Rattle.std.specs.Prelude.{◌≡◌, IfOk};
+ghost use Rattle.sd_turnstile.specs.Waiters.{nobody};
 
 use crate::items::{Item, id_of, node, sent};
 use sd_boxq::{Node, Ranked};
@@ -89,68 +89,6 @@ fn blocks_and_takes(rt: HostRuntime) -> Result<(), Fail> {
     ] {
         assert_eq!(rt; left(chain.take(id)), home);
     }
-    Ok(())
-}
-
-fn counted(chain: &TurnstileChain<Item>, lock: u16) -> usize
-    requires of_chain { IsOfChain chain.now lock }
-    requires count { waiter_count (of_lock chain.now lock) < 2 ^ 32 }
-    ensures { result ≡ waiter_count (of_lock chain.now lock) }
-{
-    chain.waiters(LockId(lock))
-}
-
-#[test]
-fn counts_several_waiters(rt: HostRuntime) -> Result<(), Fail> {
-    let mut chain = TurnstileChain::new(0);
-    assert_eq!(rt; counted(&chain, 64), 0);
-    // Equal ranks and keys: the earlier waiter is the better one.
-    chain.block(
-        LockId(64),
-        Side::Reader,
-        node(&rt, 10, 1, 1)?,
-        turnstile(&rt)?,
-    );
-    chain.block(
-        LockId(64),
-        Side::Reader,
-        node(&rt, 10, 1, 2)?,
-        turnstile(&rt)?,
-    );
-    chain.block(
-        LockId(64),
-        Side::Writer,
-        node(&rt, 10, 0, 3)?,
-        turnstile(&rt)?,
-    );
-    chain.block(
-        LockId(128),
-        Side::Writer,
-        node(&rt, 10, 1, 4)?,
-        turnstile(&rt)?,
-    );
-    assert_eq!(rt; counted(&chain, 0), 0);
-    assert_eq!(rt; counted(&chain, 64), 3);
-    assert_eq!(rt; counted(&chain, 128), 1);
-    assert_eq!(rt; best(chain.take_best(LockId(64), Side::Reader)), 1);
-    assert_eq!(rt; best(chain.take_best(LockId(64), Side::Reader)), 2);
-    assert_eq!(rt; best(chain.take_best(LockId(64), Side::Writer)), 3);
-    assert_eq!(rt; chain.greatest(LockId(64)), None);
-    assert_eq!(rt; chain.greatest(LockId(128)), Some(10));
-    Ok(())
-}
-
-#[test]
-fn is_empty_at_first(rt: HostRuntime) -> Result<(), Fail> {
-    let mut chain: TurnstileChain<Item> = TurnstileChain::new(63);
-    for lock in [63, 127, 191, 255] {
-        assert!(rt; lock < 256 && lock % 64 == 63);
-        assert_eq!(rt; chain.greatest(LockId(lock)), None);
-        assert!(rt; chain.best(LockId(lock), Side::Reader).is_none());
-        assert!(rt; chain.take_best(LockId(lock), Side::Writer).is_none());
-    }
-    assert!(rt; chain.find(0).is_none());
-    assert!(rt; chain.take(0).is_none());
     Ok(())
 }
 

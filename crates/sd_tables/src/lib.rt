@@ -19,6 +19,3 @@ pub use laws::{
 };
 pub use read::{read_fx, read_rt, read_ts};
 pub use write::{write_fixed, write_ts};
-
-#[cfg(test)]
-mod tests;

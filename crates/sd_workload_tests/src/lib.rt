@@ -11,4 +11,6 @@ mod lines;
 #[cfg(test)]
 mod spellings;
 #[cfg(test)]
+mod tables;
+#[cfg(test)]
 mod workloads;

@@ -1,7 +1,9 @@
 //! What no clause says: that the definitions take and refuse the lines that they should, and that reading succeeds
 //! where memory is left. The lines were judged by hand.
 
-use sd_lines::{Statement, ThreadClass, ThreadLine, is_word, operation_of, statement_of};
+use sd_lines::{
+    NameIndex, Statement, ThreadClass, ThreadLine, is_word, operation_of, statement_of,
+};
 use std::test::Fail;
 
 // Lines between bars: each form, blanks around and between words, comments, names that are keywords, ten digits.
@@ -69,5 +71,17 @@ fn a_thread_is_read(rt: HostRuntime) -> Result<(), Fail> {
         _ => false,
     };
     assert!(rt; is_right);
+    Ok(())
+}
+
+#[test]
+fn a_name_is_put_in(rt: HostRuntime) -> Result<(), Fail> {
+    let mut names = NameIndex::new(rt.alloc());
+    assert!(rt; names.find(b"mutex_of_16bytes").is_none());
+    names.push(b"mutex_of_16bytes")?;
+    assert!(rt; names.find(b"mutex_of_16bytes") == Some(0));
+    assert!(rt; names.find(b"mutex_of_16byte").is_none());
+    assert!(rt; names.find(b"mutex_of_17_bytes").is_none());
+    assert!(rt; names.find(b"").is_none());
     Ok(())
 }

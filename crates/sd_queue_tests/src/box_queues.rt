@@ -1,7 +1,7 @@
-//! Orders by hand, both ends, freeing, and a long queue.
+//! Queues of boxes: orders by hand, both ends, freeing, and a long queue; four values, and a value in a box of its own.
 ghost use Rattle.std.specs.Prelude.{◌≡◌, ◌<◌, ◌^◌, ℕ, IfOk, length, pos};
 
-use crate::{BoxQueue, Node, Ranked};
+use sd_boxq::{BoxQueue, Boxed, Four, Node, Ranked};
 use std::alloc::AllocError;
 use std::rc::Rc;
 use std::test::Fail;
@@ -78,31 +78,6 @@ fn orders(rt: HostRuntime) -> Result<(), Fail> {
     assert_eq!(rt; taken(keyed.take_below(-7)), 0);
     assert_eq!(rt; taken(keyed.take_first(3)), 3);
     assert_eq!(rt; ids(&keyed), [4, 5, 2, 0, 0]);
-    Ok(())
-}
-
-#[test]
-fn ends(rt: HostRuntime) -> Result<(), Fail> {
-    let mut queue = BoxQueue::new();
-    assert!(rt; queue.is_empty());
-    assert_eq!(rt; taken(queue.take_first(1)), 0);
-    queue.push_back(node(&rt, 1, 0, 2)?);
-    queue.push_back(node(&rt, 2, 0, 3)?);
-    queue.push_front(node(&rt, 3, 0, 1)?);
-    queue.push_back(node(&rt, 4, 0, 2)?);
-    assert_eq!(rt; ids(&queue), [1, 2, 3, 2, 0]);
-    // The first of the two with id 2, which has rank 1.
-    let mut first = queue.take_first(2).ok_or("no item")?;
-    assert_eq!(rt; first.item().rank, 1);
-    first.item_mut().id = 7;
-    queue.push_back(first);
-    assert_eq!(rt; ids(&queue), [1, 3, 2, 7, 0]);
-    assert_eq!(rt; id_of(queue.first()), 1);
-    assert_eq!(rt; taken(queue.pop_front()), 1);
-    assert_eq!(rt; taken(queue.pop_front()), 3);
-    assert_eq!(rt; taken(queue.pop_front()), 2);
-    assert_eq!(rt; taken(queue.pop_front()), 7);
-    assert_eq!(rt; taken(queue.pop_front()), 0);
     Ok(())
 }
 
@@ -253,5 +228,27 @@ fn is_send(rt: HostRuntime) -> Result<(), Fail> {
     let mut queue = sent(BoxQueue::new());
     queue.push_back(sent(node(&rt, 1, 0, 5)?));
     assert_eq!(rt; taken(sent(queue).pop_front()), 5);
+    Ok(())
+}
+
+// Each of four values is read and changed by its number.
+#[test]
+fn reads_and_changes(rt: HostRuntime) -> Result<(), Fail> {
+    let mut four = Four::new(10u8, 20, 30, 40);
+    assert_eq!(rt; *four.at(0), 10);
+    assert_eq!(rt; *four.at(3), 40);
+    *four.at_mut(2) = 7;
+    assert_eq!(rt; *four.at(1), 20);
+    assert_eq!(rt; *four.at(2), 7);
+    assert_eq!(rt; *four.at(3), 40);
+    Ok(())
+}
+
+#[test]
+fn is_read_and_changed(rt: HostRuntime) -> Result<(), Fail> {
+    let mut boxed = sent(Boxed::new(rt.alloc(), 7u8)?);
+    assert_eq!(rt; *boxed.get(), 7);
+    *boxed.get_mut() = 9;
+    assert_eq!(rt; *boxed.get(), 9);
     Ok(())
 }

@@ -1,6 +1,6 @@
 use Rattle.std.proofs.Common.{refl}
 use Rattle.sd_boxq.proofs.InOrder.{found_alike}
-use Rattle.sd_boxq.proofs.tests.replace.Goals as goal
+use Rattle.sd_queue_tests.proofs.box_queues.replace.Goals as goal
 
 -- the items of this type have one rank and key
 pub replace-requires : goal.replace-requires

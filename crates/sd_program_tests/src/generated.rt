@@ -1,6 +1,6 @@
 //! The generated workload of 7, by its size and some of its lines.
 
-use crate::generate;
+use sd_gen::generate;
 use std::test::Fail;
 
 #[test]

@@ -2,8 +2,7 @@
 
 ghost use Rattle.std.specs.Prelude.{◌≤◌};
 
-use crate::ticks::ticks;
-use crate::{
+use sd_tables::{
     ReadTableFault, TableFault, default_fx, default_rt, default_ts, read_fx, read_rt, read_ts,
     write_fixed, write_ts,
 };
@@ -272,22 +271,4 @@ fn the_default_fixed_priority_table(rt: HostRuntime) -> Result<(), Fail> {
     let written = written_file(rt.alloc())?;
     assert!(rt; out.as_slice() == written.as_slice());
     Ok(())
-}
-
-#[test]
-fn conversion(rt: HostRuntime) {
-    let cases = [
-        (25, 100, 1_000, 3),
-        (10_000, 100, 1_000_000, 1),
-        (10_001, 100, 1_000_000, 2),
-        (25, 1_000, 1_000, 25),
-        (10_001, 1_000, 1_000_000, 11),
-        (1, 1_000, 1_000_000, 1),
-    ];
-    for (quantum, hz, res, want) in cases {
-        assert!(rt;
-            1 <= quantum && quantum <= 1_000_000_000 && 1 <= hz && 1 <= res && res <= 1_000_000_000
-        );
-        assert_eq!(rt; ticks(quantum, hz, res), want);
-    }
 }
