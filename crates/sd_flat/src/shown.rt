@@ -9,7 +9,7 @@ ghost use Rattle.sd_state.specs.States.{thread_of};
 ghost use Rattle.sd_types.specs.Limits.{most_processors};
 
 use crate::passes::pass;
-use crate::scans::{best_unbound, runner};
+use crate::scans::{index_of_best_unbound, index_of_runner};
 use arrayvec::ArrayVec;
 use sd_state::State;
 use sd_types::{CpuId, Which};
@@ -46,8 +46,8 @@ pub fn hint_shown(s: &State, which: Which, d: CpuId) -> u8
     ensures { result ≡ hint_shown s.now which d }
 {
     match which {
-        Which::Running => hint_of(priority_of(s, runner(s, d))),
-        Which::Queued => hint_of(priority_of(s, best_unbound(s, d))),
+        Which::Running => hint_of(priority_of(s, index_of_runner(s, d))),
+        Which::Queued => hint_of(priority_of(s, index_of_best_unbound(s, d))),
     }
 }
 

@@ -20,7 +20,8 @@ pub enum Standing {
     AsleepBelow(ChanId, i64),
 }
 
-pub(crate) fn is_running(c: CpuId, place: &Place) -> bool
+/// A thread in this place runs on processor `c`.
+pub fn is_running(c: CpuId, place: &Place) -> bool
     ensures { result ≡ is_running c.0 place.now }
 {
     match place {

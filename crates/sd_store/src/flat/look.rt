@@ -1,10 +1,10 @@
 //! Looking at a state that is one value.
 
-ghost use Rattle.std.specs.Prelude.{◌≡◌, ◌<◌, IfSome, option_map};
+ghost use Rattle.std.specs.Prelude.{◌≡◌};
 ghost use Rattle.sd_machine.specs.Walking.{is_back};
 ghost use Rattle.sd_state.specs.States.{thread_of};
 ghost use Rattle.sd_store.specs.Keyless.{spot_of};
-ghost use Rattle.sd_store.specs.Parts.{number, view_of};
+ghost use Rattle.sd_store.specs.Parts.{view_of};
 
 use crate::keyless::{rouse_key, task_of};
 use crate::{CpuView, Look, Spot, Task};
@@ -52,16 +52,6 @@ fn is_back(duty: Duty, o: ThreadId, place: Place) -> bool
     }
 }
 
-/// The thread of an index that a scan found.
-fn thread_at(index: Option<usize>) -> Option<ThreadId>
-    ensures { IfSome index (λ t. t < 65536) → option_map number result ≡ index }
-{
-    match index {
-        Some(t) if t < 65536 => Some(ThreadId(t as u16)),
-        _ => None,
-    }
-}
-
 impl Look for State {
     ghost use Rattle.std.specs.Prelude.{true};
     ghost use Rattle.sd_store.specs.Flat.{IsState, no_part};
@@ -78,41 +68,41 @@ impl Look for State {
 
     #[inline(always)]
     fn runner(&self, c: CpuId) -> Result<Option<ThreadId>, Never> {
-        Ok(thread_at(sd_flat::runner(self, c)))
+        Ok(sd_flat::runner(self, c))
     }
 
     fn best_ready(&self, c: CpuId) -> Result<Option<ThreadId>, Never> {
-        Ok(thread_at(sd_flat::best_ready(self, c)))
+        Ok(sd_flat::best_ready(self, c))
     }
 
     fn best_queued(&self, c: CpuId) -> Result<Option<ThreadId>, Never> {
-        Ok(thread_at(sd_flat::best_queued(self, c)))
+        Ok(sd_flat::best_queued(self, c))
     }
 
     fn best_unbound(&self, c: CpuId) -> Result<Option<ThreadId>, Never> {
-        Ok(thread_at(sd_flat::best_unbound(self, c)))
+        Ok(sd_flat::best_unbound(self, c))
     }
 
     fn first_due(&self, c: CpuId) -> Result<Option<ThreadId>, Never> {
-        Ok(thread_at(sd_flat::first_due(self, c)))
+        Ok(sd_flat::first_due(self, c))
     }
 
     fn next_to_age(&self, c: CpuId, u: ThreadId) -> Result<Option<ThreadId>, Never> {
-        Ok(thread_at(sd_flat::next_to_age(self, c, u)))
+        Ok(sd_flat::next_to_age(self, c, u))
     }
 
     fn best_waiter(&self, l: LockId, side: Side) -> Result<Option<ThreadId>, Never> {
-        Ok(thread_at(sd_flat::best_waiter(self, l, side)))
+        Ok(sd_flat::best_waiter(self, l, side))
     }
 
     fn best_sleeper(&self, k: ChanId) -> Result<Option<ThreadId>, Never> {
-        Ok(thread_at(sd_flat::best_sleeper(self, k)))
+        Ok(sd_flat::best_sleeper(self, k))
     }
 
     #[tactic(auto, unfolding(crate::specs::Walks::next_to_rouse))]
     fn next_to_rouse(&self, c: CpuId, k: ChanId) -> Result<Option<ThreadId>, Never> {
         let below = rouse_key(cpu_of(self, c).duty);
-        Ok(thread_at(sd_flat::best_sleeper_below(self, k, below)))
+        Ok(sd_flat::best_sleeper_below(self, k, below))
     }
 
     fn has_waiters(&self, l: LockId) -> Result<bool, Never> {

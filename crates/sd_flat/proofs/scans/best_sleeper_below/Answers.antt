@@ -9,6 +9,6 @@ use Rattle.sd_flat.proofs.scans.best_sleeper_below.Goals as goal
 
 pub returns-clause-value : goal.returns-clause-value
 unfolding best_sleeper_below best_standing
-returns-clause-value c =
-    c.best_standing.ensures.value ∙ ap (λ (z : ℤ). best_standing (standing.AsleepBelow c.args.k z) c.items.result.now) (to_z-of_z w64 c.args.below c.ranges.below)
+returns-clause-value c small =
+    c.thread_at.ensures.value small ∙ c.best_standing.ensures.value ∙ ap (λ (z : ℤ). best_standing (standing.AsleepBelow c.args.k z) c.items.result.now) (to_z-of_z w64 c.args.below c.ranges.below)
     ∙ ap (λ (xs : List ThreadState). best_standing (standing.AsleepBelow c.args.k c.args.below) xs) c.items.ensures
