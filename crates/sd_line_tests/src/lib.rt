@@ -1,5 +1,5 @@
-//! Tests of the lines of a journal, written and read, over a workload that is read from a text. All expected values were
-//! written by hand.
+//! Tests of the lines of a journal, written and read, over a workload that is read from a text, and of the log that keeps entries. All
+//! expected values were written by hand.
 #![tactic(auto)]
 
 #[cfg(test)]
@@ -8,3 +8,5 @@ mod events;
 mod given;
 #[cfg(test)]
 mod lines;
+#[cfg(test)]
+mod logs;

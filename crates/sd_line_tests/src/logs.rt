@@ -1,7 +1,7 @@
 //! Entries go in and come out: that there is room where there is memory, and a number that was read at the edge of what others read.
 
-use crate::EntryLog;
 use arrayvec::ArrayVec;
+use sd_log::EntryLog;
 use sd_types::{CpuId, Entry, Event, Hints, ThreadId, Which};
 use std::test::Fail;
 

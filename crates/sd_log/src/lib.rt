@@ -4,8 +4,6 @@
 mod entry_log;
 mod parts;
 mod short;
-#[cfg(test)]
-mod tests;
 
 pub use entry_log::EntryLog;
 pub use parts::{Numbers, Parts};

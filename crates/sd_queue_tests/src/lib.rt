@@ -1,4 +1,5 @@
-//! Tests of queues of boxes, of dispatch queues, of chains of sleep queues and of chains of turnstiles.
+//! Tests of queues of boxes, of dispatch queues, of chains of sleep queues and of chains of turnstiles, and of the records of threads that
+//! stand on them.
 #![tactic(auto)]
 
 #[cfg(test)]
@@ -7,6 +8,8 @@ mod box_queues;
 mod dispatch_queues;
 #[cfg(test)]
 mod items;
+#[cfg(test)]
+mod records;
 #[cfg(test)]
 mod sleep_queues;
 #[cfg(test)]

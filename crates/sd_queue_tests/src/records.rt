@@ -2,9 +2,9 @@
 
 ghost use Rattle.std.specs.Prelude.{◌≡◌, ◌≤◌, ◌∷◌, [], IfOk, pos, negsuc, ◌≤ℤ◌};
 
-use crate::Record;
 use arrayvec::ArrayVec;
 use sd_boxq::{BoxQueue, Node, Ranked};
+use sd_record::Record;
 use sd_types::{
     ClassState, CpuId, FxState, LockId, Quantum, RtState, SysState, ThreadBody, ThreadId, TsState,
 };

@@ -5,8 +5,6 @@
 mod copies;
 mod laws;
 mod record;
-#[cfg(test)]
-mod tests;
 
 pub use copies::copied_body;
 pub use laws::{effective_is_greatest, numbers_are_apart};

@@ -4,8 +4,6 @@
 mod checks;
 mod faults;
 mod laws;
-#[cfg(test)]
-mod tests;
 
 pub use checks::{check, fault_of, take_or_release};
 pub use faults::ScriptFault;

@@ -21,6 +21,3 @@ pub use read::{ReadAllFault, read_all, read_up_to};
 pub use streams::{Failed, Sink, Source};
 pub use words::next_word;
 pub use write::{WriteFault, write_piece};
-
-#[cfg(test)]
-mod tests;

@@ -1,5 +1,5 @@
-//! Tests of the texts of workloads: their lines, what is declared, whole workloads and their canonical spellings. All cases were
-//! worked out by hand.
+//! Tests of the texts of workloads: how bytes come and go, lines, scripts, what is declared, whole workloads and their canonical spellings.
+//! All cases were worked out by hand.
 #![tactic(auto)]
 
 #[cfg(test)]
@@ -9,7 +9,11 @@ mod declared;
 #[cfg(test)]
 mod lines;
 #[cfg(test)]
+mod scripts;
+#[cfg(test)]
 mod spellings;
+#[cfg(test)]
+mod streams;
 #[cfg(test)]
 mod tables;
 #[cfg(test)]

@@ -1,6 +1,6 @@
 //! Lists at each edge, judged by hand.
 
-use crate::{ScriptFault, check};
+use sd_script::{ScriptFault, check};
 use sd_types::{ChanId, LockId, Op};
 use std::alloc::{AllocError, Global};
 use std::test::Fail;

@@ -2,7 +2,10 @@
 //! and writers, and the cases of failing ends and of texts, whose results were worked out by hand.
 ghost use Rattle.std.specs.Prelude.{◌≤◌};
 
-use super::*;
+use sd_text::{
+    Failed, MemorySink, MemorySource, ReadAllFault, Sink, Source, StdSink, StdSource, WriteFault,
+    next_line, next_word, number, put_number, read_all, read_up_to, signed, write_piece,
+};
 use std::alloc::{AllocError, Global};
 use std::io;
 use std::io::{ErrorKind, Read, Write};
