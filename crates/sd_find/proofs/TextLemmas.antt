@@ -65,16 +65,16 @@ line_if-ends w s t = by (is_left w t (thread_of s t))
     by true = left_line-ends w s t
     by false = refl
 
-left-ends : (w : Work) (q : Question) (es : List Entry) → EndsLine (left_text w q es)
+left-ends : (w : Work) (q : Question) (s : State) → EndsLine (left_text w q s)
 unfolding lefts_text
-left-ends w Blocked es = refl
-left-ends w Stuck es =
-    let s = final w (opening w) es in
+left-ends w Blocked s = refl
+left-ends w Stuck s =
     EndsLine-flat_map (line_if_left w s) (line_if-ends w s) (range_with_len 0 (length s.threads))
 
 head-ends : (w : Work) (q : Question) (es : List Entry) (n : ℕ) → EndsLine (found_head w q es n)
 head-ends w q es n =
-    EndsLine-append (codes "found\n") (left_text w q es ++ states_line n) refl (EndsLine-append (left_text w q es) (states_line n) (left-ends w q es) (states-closes n (Some 10)))
+    let s = final w (opening w) es in
+    EndsLine-append (codes "found\n") (left_text w q s ++ states_line n) refl (EndsLine-append (left_text w q s) (states_line n) (left-ends w q s) (states-closes n (Some 10)))
 
 finding-ends : (w : Work) (q : Question) (f : Finding) (n : ℕ) → EndsLine (finding_text w q f n)
 finding-ends w q (Found es) n = EndsLine-append (found_head w q es.items n) (journal w es.items) (head-ends w q es.items n) (journal-ends w es.items)

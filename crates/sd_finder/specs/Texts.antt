@@ -7,6 +7,7 @@ use Rattle.sd_types.specs.declared.numbers.ThreadId.{ThreadId}
 use Rattle.sd_types.specs.declared.events.Entry.{Entry}
 use Rattle.sd_types.specs.declared.works.Work.{Work}
 use Rattle.sd_state.specs.Opening.{opening}
+use Rattle.sd_state.specs.declared.states.State.{State}
 use Rattle.sd_state.specs.Texts.{thread_name}
 use Rattle.sd_machine.specs.Runs.{final}
 use Rattle.sd_machine.specs.Texts.{journal}
@@ -25,13 +26,13 @@ abbrev pub states_line : ℕ → List ℕ
 states_line n = codes "states " ++ (decimal n ++ codes "\n")
 
 -- of a run that is stuck, a line for each thread that has operations left
-abbrev pub left_text : Work → Question → List Entry → List ℕ
-left_text w Blocked es = []
-left_text w Stuck es = lefts_text w (final w (opening w) es)
+abbrev pub left_text : Work → Question → State → List ℕ
+left_text w Blocked s = []
+left_text w Stuck s = lefts_text w s
 
 -- what stands in front of the journal
 abbrev pub found_head : Work → Question → List Entry → ℕ → List ℕ
-found_head w q es n = codes "found\n" ++ (left_text w q es ++ states_line n)
+found_head w q es n = codes "found\n" ++ (left_text w q (final w (opening w) es) ++ states_line n)
 
 abbrev pub found_text : Work → Question → List Entry → ℕ → List ℕ
 found_text w q es n = found_head w q es n ++ journal w es

@@ -36,16 +36,14 @@ pub(crate) fn write_states(n: u64, out: &mut Vec<u8>) -> Result<(), AllocError>
     Ok(())
 }
 
-/// Appends what the threads do that have operations left, where that was asked for. The state is the last one of the run.
+/// Appends what the threads do in this state that have operations left, where that was asked for.
 fn write_left(
     work: &Work,
     question: Question,
-    _entries: &[Entry],
     state: &State,
     out: &mut Vec<u8>,
 ) -> Result<(), AllocError>
-    requires { state.now ≡ final work.now (opening work.now) _entries.now }
-    ensures { OnOk result (out.new.items ≡ out.old.items ++ left_text work.now question _entries.now) }
+    ensures { OnOk result (out.new.items ≡ out.old.items ++ left_text work.now question state.now) }
 {
     match question {
         Question::Blocked => Ok(()),
@@ -67,7 +65,7 @@ fn write_found(
 {
     let state = state_after(alloc, work, entries)?;
     out.extend_from_slice(b"found\n")?;
-    write_left(work, question, entries, &state, out)?;
+    write_left(work, question, &state, out)?;
     write_states(n, out)?;
     write_journal_with(alloc, work, entries, &state, out)
 }
