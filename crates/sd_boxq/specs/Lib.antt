@@ -1,5 +1,4 @@
 pub mod Boxes
-pub mod Left
 pub mod Lends
 pub mod LendsAt
 pub mod LendsValue

@@ -14,5 +14,6 @@ pub use boxed::Boxed;
 pub use four::Four;
 pub use node::Node;
 pub use nodes::items::Items;
+pub use nodes::walk::Walk;
 pub use queue::BoxQueue;
 pub use ranked::Ranked;

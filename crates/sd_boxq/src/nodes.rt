@@ -9,6 +9,7 @@ use std::marker::{Model, Send, Sync};
 pub(crate) mod cursor;
 pub(crate) mod items;
 pub(crate) mod links;
+pub(crate) mod walk;
 
 /// One box. `next` of the last box means nothing, and `more` says whether another box follows.
 pub struct Cell<T, A> {

@@ -7,6 +7,7 @@ ghost use Rattle.sd_boxq.specs.Order.{find_first, drop_first, insert_ranked, ins
 use crate::node::Node;
 use crate::nodes::Nodes;
 use crate::nodes::items::Items;
+use crate::nodes::walk::Walk;
 use crate::ranked::Ranked;
 use crate::search::Wanted;
 use std::alloc::Global;
@@ -127,6 +128,13 @@ impl<T> BoxQueue<T> {
         ensures { result ≡ self.now }
     {
         self.nodes.items()
+    }
+
+    /// A walk along the items from the first one on.
+    pub fn walk(&self) -> Walk<'_, T>
+        ensures { result ≡ self.now }
+    {
+        self.nodes.walk()
     }
 }
 

@@ -4,6 +4,7 @@ ghost use Rattle.std.specs.Iterator.{YieldsFirstRef, item_count};
 ghost use Rattle.sd_dispq.specs.Levels.{all_of};
 
 use crate::levels::Levels;
+use sd_boxq::Walk;
 use std::iter::{FusedIterator, Iterator};
 use std::marker::Model;
 
@@ -12,7 +13,7 @@ use std::marker::Model;
 struct Rest<'a, T> {
     levels: &'a Levels<T>,
     from: usize,
-    here: sd_boxq::Items<'a, T>,
+    here: Walk<'a, T>,
 }
 
 impl<'a, T> Model for Rest<'a, T> {
@@ -29,24 +30,19 @@ impl<'a, T> Rest<'a, T> {
     fn step(self) -> Option<(&'a T, Rest<'a, T>)>
         ensures { MatchOption result (self.entry ≡ []) (λ r. self.entry ≡ r.0.now ∷ r.1) }
     {
-        let Rest {
-            levels,
-            from,
-            mut here,
-        } = self;
-        if let Some(item) = here.next() {
+        let Rest { levels, from, here } = self;
+        if let Some((item, here)) = here.step() {
             return Some((item, Rest { levels, from, here }));
         }
         match levels.next_busy(from) {
             None => None,
-            Some(index) => {
-                let from = index + 1;
-                let mut here = levels.level(index).items();
-                match here.next() {
-                    None => None,
-                    Some(item) => Some((item, Rest { levels, from, here })),
+            Some(index) => match levels.level(index).walk().step() {
+                None => None,
+                Some((item, here)) => {
+                    let from = index + 1;
+                    Some((item, Rest { levels, from, here }))
                 }
-            }
+            },
         }
     }
 }
@@ -77,7 +73,7 @@ impl<T> Levels<T> {
         let rest = Rest {
             levels: self,
             from: 1,
-            here: self.level(0).items(),
+            here: self.level(0).walk(),
         };
         Items { rest: Some(rest) }
     }

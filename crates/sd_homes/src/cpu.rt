@@ -1,6 +1,6 @@
 //! The home of a processor.
 
-ghost use Rattle.std.specs.Prelude.{◌≡◌, ◌∷◌, false, Some, is_some, option_map, slice_get, IfOk, MatchOption};
+ghost use Rattle.std.specs.Prelude.{◌≡◌, ◌∷◌, false, None, Some, is_some, option_map, slice_get, IfOk, MatchOption};
 ghost use Rattle.std.specs.Option.{option_copied};
 ghost use Rattle.sd_boxq.specs.Order.{find_first, find_id, drop_id, insert_ranked, insert_keyed};
 ghost use Rattle.sd_homes.specs.Standing.{id_of, ages, earlier, is_unbound, key_in, least_to_age, rank_of};
@@ -15,7 +15,7 @@ use crate::ready::ReadyQueue;
 use crate::traveller::{Traveller, equipped};
 use crate::{ListId, bodies};
 use sd_boxq::{BoxQueue, Node};
-use sd_dispq::DispQueue;
+use sd_dispq::{DispQueue, Items};
 use sd_record::Record;
 use sd_store::{BodyChange, CpuView};
 use sd_turnstile::Rack;
@@ -244,6 +244,7 @@ impl CpuHome {
         }
     }
 
+    #[inline(never)]
     pub fn find_napper(&self, t: ThreadId) -> Option<&Record>
         ensures { option_copied result ≡ find_id id_of t.0 self.now.nappers }
     {
@@ -349,24 +350,48 @@ fn ages(u: ThreadId, thread: &Record) -> bool
     u.0 <= thread.id.0 && matches!(thread.body.class, ClassState::Ts(_))
 }
 
-/// The lesser of a number and another one, where there is one.
-fn earlier(t: ThreadId, least: Option<ThreadId>) -> ThreadId
-    ensures { result.0 ≡ earlier t.0 (option_map (λ u. u.0) least) }
+/// The number of the first time-sharing thread with this number or a greater one, and the threads behind it.
+fn first_to_age(
+    mut threads: Items<'_, Record>,
+    u: ThreadId,
+) -> Option<(ThreadId, Items<'_, Record>)>
+    ensures { MatchOption result (least_to_age u.0 threads.entry ≡ None) (λ r. least_to_age u.0 threads.entry ≡ Some (earlier r.0.0 (least_to_age u.0 r.1))) }
 {
-    match least {
-        Some(other) if other.0 <= t.0 => other,
-        _ => t,
+    while let Some(thread) = threads.next() {
+        if ages(u, thread) {
+            return Some((thread.id, threads));
+        }
     }
+    None
 }
 
-fn least_to_age(queue: &DispQueue<Record>, u: ThreadId) -> Option<ThreadId>
-    ensures { option_map (λ t. t.0) result ≡ least_to_age u.0 queue.now }
+/// The least of a number and those, from `u` on, of the time-sharing threads. None is less than `u`, so that the search ends there; and a
+/// number is compared before the class is read, which lies elsewhere.
+#[tactic(auto, using(crate::proofs::AgeLemmas::from_least, crate::proofs::AgeLemmas::least_stays, crate::proofs::AgeLemmas::least_comes, crate::proofs::AgeLemmas::least_ends))]
+fn earliest(threads: Items<'_, Record>, u: ThreadId, t: ThreadId) -> ThreadId
+    ensures { result.0 ≡ earlier t.0 (least_to_age u.0 threads.entry) }
 {
-    let mut least = None;
-    for thread in queue.items() {
-        if ages(u, thread) {
-            least = Some(earlier(thread.id, least));
+    if t.0 == u.0 {
+        return u;
+    }
+    let mut least = t;
+    for thread in threads {
+        if thread.id.0 < least.0 && ages(u, thread) {
+            if thread.id.0 == u.0 {
+                return u;
+            }
+            least = thread.id;
         }
     }
     least
+}
+
+#[inline(never)]
+fn least_to_age(queue: &DispQueue<Record>, u: ThreadId) -> Option<ThreadId>
+    ensures { option_map (λ t. t.0) result ≡ least_to_age u.0 queue.now }
+{
+    match first_to_age(queue.items(), u) {
+        None => None,
+        Some((first, rest)) => Some(earliest(rest, u, first)),
+    }
 }
