@@ -37,6 +37,10 @@ pub counted_finish : (w : Work) (s : State) (c : ℕ) (t : ThreadId) → CanFini
 unfolding count_tick
 counted_finish w s c t here = here
 
+pub counted_class : (w : Work) (s : State) (c t : ℕ) (expires : Bool) → expires ≡ class_expires (thread_of s t).body.class → expires ≡ class_expires (thread_of (count_tick w s c) t).body.class
+unfolding count_tick
+counted_class w s c t expires here = here
+
 pub ready_classed : (s : State) (t : ℕ) (class : ClassState) (d : CpuId) → ready_parts (set_class s t class) d ≡ ready_parts s d
 unfolding set_class
 ready_classed s t class d = refl

@@ -64,7 +64,7 @@ pub fn class_of<L: Look>(x: &L, t: ThreadId) -> Result<ClassState, L::Lack>
 
 /// The next tick ends the quantum of thread `t`.
 #[inline(always)]
-pub fn expires_of<L: Look>(x: &L, t: ThreadId) -> Result<bool, L::Lack>
+pub(crate) fn expires_of<L: Look>(x: &L, t: ThreadId) -> Result<bool, L::Lack>
     ensures value { Tells (L.shows x.now) result (λ s. class_expires (thread_of s t.0).body.class) }
     ensures lack { Lacks L.part (L.shows x.now) (L.has x.now) result (λ s. thread_part t ∷ []) }
 {

@@ -15,8 +15,8 @@ mod running;
 mod waking;
 
 pub use bodies::{
-    bound_in, bound_of, class_in, class_of, eff_as, eff_in, eff_of, effective_in, expires_of,
-    has_ended, is_privileged, op_of, priority_of, uid_of, willed_numbers,
+    bound_in, bound_of, class_in, class_of, eff_as, eff_in, eff_of, effective_in, has_ended,
+    is_privileged, op_of, priority_of, uid_of, willed_numbers,
 };
 pub use choosing::{neighbours, put_chosen, victim_for};
 pub use dispatching::{dispatch_plan, leave_plan, search_event};
@@ -24,5 +24,7 @@ pub use marks::{mark_over, remark};
 pub use placing::{put, put_where, put_with};
 pub use reading::{Reading, hints_fit, reads_for, reads_to_steal};
 pub use requeueing::{reordered, requeue};
-pub use running::{dispatched, done, idled, preempted, sent_away, spun, stolen, ticked, yielded};
+pub use running::{
+    dispatched, done, idled, preempted, sent_away, spun, stolen, ticked, ticked_as, yielded,
+};
 pub use waking::{woken, woken_priority};

@@ -4,7 +4,7 @@
 
 ghost use Rattle.std.specs.Prelude.{◌≡◌, ◌<◌, ◌^◌, [], ◌∷◌, ⊤, option_copied, true, unwrap_or};
 ghost use Rattle.sd_machine.specs.Changes.{key_at, leave, set_class};
-ghost use Rattle.sd_rules.specs.ClassRules.{class_requeue};
+ghost use Rattle.sd_rules.specs.ClassRules.{class_expires, class_requeue};
 ghost use Rattle.sd_machine.specs.Dispatching.{charge, class_counts, dispatched, done, idled, preempted, sent_away, spun, stolen, ticked, yielded};
 ghost use Rattle.sd_machine.specs.Needs.{CanFinish, CanTick, RunsNobody, RunsOn};
 ghost use Rattle.sd_state.specs.States.{no_body, thread_of, set_of};
@@ -52,7 +52,11 @@ fn charge<S: Store>(
     ensures has { S.has x.new ≡ S.has x.old }
 {
     if expires {
-        return expired(work, x, c, t);
+        // Told anew, so that a tick that ends no quantum makes no place for the answer of the call.
+        return match expired(work, x, c, t) {
+            Err(lack) => Err(lack),
+            Ok(()) => Ok(()),
+        };
     }
     Ok(())
 }
@@ -70,18 +74,34 @@ fn class_counts<S: Store>(work: &Work, x: &mut S, c: CpuId, t: ThreadId) -> Resu
     charge(work, x, c, t, class_expires(&class))
 }
 
-/// Thread `t` runs for a tick on processor `c`. Whether that ends its quantum is read first.
+/// Thread `t` runs for a tick on processor `c`, of which it was seen before whether that ends its quantum.
 #[tactic(auto, using(crate::proofs::RunningLemmas::counted_finish, crate::proofs::RunningLemmas::ready_ticked))]
+#[inline(always)]
+pub fn ticked_as<S: Store>(
+    work: &Work,
+    x: &mut S,
+    c: CpuId,
+    t: ThreadId,
+    expires: bool,
+) -> Result<(), S::Lack>
+    ensures value { Does (S.shows x.old) (S.shows x.new) result (λ s. CanTick work.now s c × CanFinish work.now s t × (expires ≡ class_expires (thread_of s t.0).body.class)) (λ s. ticked work.now s c.0 t.0) }
+    ensures lack { LacksIf S.part (S.shows x.old) (S.has x.old) result (λ s. CanTick work.now s c × CanFinish work.now s t × (expires ≡ class_expires (thread_of s t.0).body.class)) (λ s. actor_part c ∷ thread_part t ∷ ready_parts s c) }
+    ensures has { S.has x.new ≡ S.has x.old }
+{
+    x.count_tick(work, c)?;
+    tick(x, work, t)?;
+    charge(work, x, c, t, expires)
+}
+
+/// Thread `t` runs for a tick on processor `c`. Whether that ends its quantum is read first.
 #[inline(always)]
 pub fn ticked<S: Store>(work: &Work, x: &mut S, c: CpuId, t: ThreadId) -> Result<(), S::Lack>
     ensures value { Does (S.shows x.old) (S.shows x.new) result (λ s. CanTick work.now s c × CanFinish work.now s t) (λ s. ticked work.now s c.0 t.0) }
     ensures lack { LacksIf S.part (S.shows x.old) (S.has x.old) result (λ s. CanTick work.now s c × CanFinish work.now s t) (λ s. actor_part c ∷ thread_part t ∷ ready_parts s c) }
     ensures has { S.has x.new ≡ S.has x.old }
 {
-    x.count_tick(work, c)?;
     let expires = expires_of(x, t)?;
-    tick(x, work, t)?;
-    charge(work, x, c, t, expires)
+    ticked_as(work, x, c, t, expires)
 }
 
 /// Thread `t` spins for a tick on processor `c`.

@@ -116,7 +116,7 @@ fn entries_of(alloc: Global, work: &Work, world: &PlainWorld) -> Result<Vec<u8>,
     Ok(out)
 }
 
-/// The entries of a run, and how often somebody was in the way. (A pair of these took three minutes to prove.)
+/// The entries of a run, and how often somebody was in the way. (A struct, since a pair that is dropped takes long to prove.)
 #[derive(Drop)]
 struct Told {
     text: Vec<u8>,

@@ -31,85 +31,81 @@ fn in_places(alloc: Global, first: Place, second: Place) -> Result<State, AllocE
     Ok(state(alloc, threads, locks, Vec::new(alloc)))
 }
 
-/// Events of each kind that counts, and the processors that make them.
-fn made(i: u8) -> (u16, Event) {
-    match i {
-        0 => (0, Event::Dispatch { t: A, p: 60 }),
-        1 => (0, Event::Tick { t: A }),
-        2 => (1, Event::Idle),
-        3 => (
-            1,
-            Event::Steal {
-                victim: CpuId(0),
-                t: B,
-                p: 60,
-            },
-        ),
-        4 => (1, Event::Spin { t: B, l: M }),
-        5 => (1, Event::Sleep { t: B, k: K }),
-        6 => (
-            0,
-            Event::Wake {
-                t: A,
-                k: K,
-                woken: Some((B, TO)),
-            },
-        ),
-        7 => (
-            0,
-            Event::Wake {
-                t: A,
-                k: K,
-                woken: None,
-            },
-        ),
-        8 => (
-            0,
-            Event::Rouse {
-                k: K,
-                woken: Some((B, TO)),
-            },
-        ),
-        9 => (0, Event::Rouse { k: K, woken: None }),
-        10 => (1, Event::Napend { t: B, at: TO }),
-        11 => (1, Event::Unblock { l: M, u: A, at: TO }),
-        12 => (1, Event::Grant { l: W, u: B, at: TO }),
-        13 => (
-            1,
-            Event::SemaVWake {
-                t: A,
-                k: K,
-                u: B,
-                at: TO,
-            },
-        ),
-        14 => (
-            0,
-            Event::Preempt {
-                t: A,
-                end: End::Back,
-            },
-        ),
-        15 => (
-            0,
-            Event::Away {
-                t: A,
-                cpu: CpuId(1),
-            },
-        ),
-        16 => (0, Event::Block { t: A, l: M }),
-        17 => (
-            0,
-            Event::Will {
-                l: M,
-                o: B,
-                p: 60,
-                at: None,
-            },
-        ),
-        18 => (1, Event::Idle),
-        _ => (1, Event::Tick { t: B }),
-    }
+/// Counts an entry of this processor.
+fn count(accounts: &mut Accounts, number: u64, cpu: u16, event: Event) {
+    accounts.add(&Entry {
+        number,
+        cpu: CpuId(cpu),
+        event,
+        hints: None,
+    });
+}
+
+/// Counts an event of each kind that counts but wakeups and what locks do.
+fn count_running(accounts: &mut Accounts) {
+    count(accounts, 0, 0, Event::Dispatch { t: A, p: 60 });
+    count(accounts, 1, 0, Event::Tick { t: A });
+    count(accounts, 2, 1, Event::Idle);
+    let victim = CpuId(0);
+    count(
+        accounts,
+        3,
+        1,
+        Event::Steal {
+            victim,
+            t: B,
+            p: 60,
+        },
+    );
+    count(accounts, 4, 1, Event::Spin { t: B, l: M });
+}
+
+/// Counts a sleep, and wakeups of one thread and of none.
+fn count_sleeping(accounts: &mut Accounts) {
+    let woken = Some((B, TO));
+    count(accounts, 5, 1, Event::Sleep { t: B, k: K });
+    count(accounts, 6, 0, Event::Wake { t: A, k: K, woken });
+    let none = Event::Wake {
+        t: A,
+        k: K,
+        woken: None,
+    };
+    count(accounts, 7, 0, none);
+    count(accounts, 8, 0, Event::Rouse { k: K, woken });
+    count(accounts, 9, 0, Event::Rouse { k: K, woken: None });
+}
+
+/// Counts the other events by which a thread becomes runnable.
+fn count_waking(accounts: &mut Accounts) {
+    let at = TO;
+    count(accounts, 10, 1, Event::Napend { t: B, at });
+    count(accounts, 11, 1, Event::Unblock { l: M, u: A, at });
+    count(accounts, 12, 1, Event::Grant { l: W, u: B, at });
+    let given = Event::SemaVWake {
+        t: A,
+        k: K,
+        u: B,
+        at,
+    };
+    count(accounts, 13, 1, given);
+}
+
+/// Counts preemptions and a block with its walk, and two ticks of the other processor.
+fn count_leaving(accounts: &mut Accounts) {
+    let end = End::Back;
+    count(accounts, 14, 0, Event::Preempt { t: A, end });
+    let cpu = CpuId(1);
+    count(accounts, 15, 0, Event::Away { t: A, cpu });
+    count(accounts, 16, 0, Event::Block { t: A, l: M });
+    let will = Event::Will {
+        l: M,
+        o: B,
+        p: 60,
+        at: None,
+    };
+    count(accounts, 17, 0, will);
+    count(accounts, 18, 1, Event::Idle);
+    count(accounts, 19, 1, Event::Tick { t: B });
 }
 
 const TEXT: &[u8] =
@@ -118,65 +114,109 @@ const TEXT: &[u8] =
 const SUMMARY: &[u8] =
     b"entries 20\nticks 5\nidle 2\ndispatches 2\nsteals 1\npreempts 2\nwakes 6\nblocks 1\nwills 1\nended 1\n";
 
+/// The accounts have this text where the threads stand in these places.
+fn has_text(
+    alloc: Global,
+    accounts: &Accounts,
+    work: &Work,
+    s: &State,
+    text: &[u8],
+) -> Result<bool, AllocError> {
+    let mut out = Vec::new(alloc);
+    accounts.write_accounts(alloc, work, s, &mut out)?;
+    Ok(out.as_slice() == text)
+}
+
+/// The summary of the accounts is this where the threads stand in these places.
+fn has_summary(
+    alloc: Global,
+    accounts: &Accounts,
+    s: &State,
+    text: &[u8],
+) -> Result<bool, AllocError> {
+    let mut out = Vec::new(alloc);
+    accounts.write_summary(alloc, s, &mut out)?;
+    Ok(out.as_slice() == text)
+}
+
+/// The accounts of the twenty entries.
+fn counted(alloc: Global, work: &Work) -> Result<Accounts, AllocError> {
+    let mut accounts = Accounts::new(alloc, work)?;
+    count_running(&mut accounts);
+    count_sleeping(&mut accounts);
+    count_waking(&mut accounts);
+    count_leaving(&mut accounts);
+    Ok(accounts)
+}
+
+/// The accounts where each thread waits for the other.
+fn is_cycle_told(alloc: Global, accounts: &Accounts, work: &Work) -> Result<bool, AllocError> {
+    let first = Place::Waiting(M, Side::Writer, 0);
+    let blocked = in_places(alloc, first, Place::Waiting(W, Side::Reader, 1))?;
+    has_text(alloc, accounts, work, &blocked, TEXT)
+}
+
+/// The summary where one thread has ended.
+fn is_end_told(alloc: Global, accounts: &Accounts) -> Result<bool, AllocError> {
+    let ended = in_places(alloc, Place::Ended, Place::Napping(CpuId(0), 7))?;
+    has_summary(alloc, accounts, &ended, SUMMARY)
+}
+
 #[test]
 fn a_run_with_a_cycle(rt: HostRuntime) -> Result<(), Fail> {
     let alloc = rt.alloc();
     let Ok(work) = read_work(alloc, SMALL) else {
         return Ok(assert!(rt; false, "no work"));
     };
-    let mut accounts = Accounts::new(alloc, &work)?;
-    for number in 0..20 {
-        let (cpu, event) = made(number);
-        accounts.add(&Entry {
-            number: u64::from(number),
-            cpu: CpuId(cpu),
-            event,
-            hints: None,
-        });
-    }
-    let blocked = in_places(
-        alloc,
-        Place::Waiting(M, Side::Writer, 0),
-        Place::Waiting(W, Side::Reader, 1),
-    )?;
-    let mut out = Vec::new(alloc);
-    accounts.write_accounts(alloc, &work, &blocked, &mut out)?;
-    assert_eq!(rt; out.as_slice(), TEXT);
-    let ended = in_places(alloc, Place::Ended, Place::Napping(CpuId(0), 7))?;
-    let mut out = Vec::new(alloc);
-    accounts.write_summary(alloc, &ended, &mut out)?;
-    assert_eq!(rt; out.as_slice(), SUMMARY);
+    let accounts = counted(alloc, &work)?;
+    assert!(rt; is_cycle_told(alloc, &accounts, &work)?);
+    assert!(rt; is_end_told(alloc, &accounts)?);
     Ok(())
 }
 
-/// The accounts of no entry, where thread a stands in this place.
-fn text_of(alloc: Global, work: &Work, place: Place) -> Result<Vec<u8>, AllocError> {
-    let accounts = Accounts::new(alloc, work)?;
-    let s = in_places(alloc, place, Place::Ended)?;
-    let mut out = Vec::new(alloc);
-    accounts.write_accounts(alloc, work, &s, &mut out)?;
-    Ok(out)
+/// A place of thread a, and the accounts of no entry where it stands there.
+#[derive(Clone, Copy)]
+struct Placed {
+    place: Place,
+    text: &'static [u8],
 }
 
-/// The same, worked out by hand but for the word of the place.
-fn wanted(alloc: Global, word: &str) -> Result<Vec<u8>, AllocError> {
-    let mut text = Vec::new(alloc);
-    text.extend_from_slice(b"accounts\nthread a ticks 0 dispatches 0 preempts 0 wakes 0 ")?;
-    text.extend_from_slice(word.as_bytes())?;
-    text.extend_from_slice(b"\nthread b ticks 0 dispatches 0 preempts 0 wakes 0 ended\n")?;
-    text.extend_from_slice(b"cpu 0 ticks 0 idle 0\ncpu 1 ticks 0 idle 0\n")?;
-    Ok(text)
-}
+const PLACES: [Placed; 6] = [
+    Placed {
+        place: Place::Running(CpuId(1)),
+        text: b"accounts\nthread a ticks 0 dispatches 0 preempts 0 wakes 0 running\nthread b ticks 0 dispatches 0 preempts 0 wakes 0 ended\ncpu 0 ticks 0 idle 0\ncpu 1 ticks 0 idle 0\n",
+    },
+    Placed {
+        place: Place::Queued(CpuId(0), 4),
+        text: b"accounts\nthread a ticks 0 dispatches 0 preempts 0 wakes 0 queued\nthread b ticks 0 dispatches 0 preempts 0 wakes 0 ended\ncpu 0 ticks 0 idle 0\ncpu 1 ticks 0 idle 0\n",
+    },
+    Placed {
+        place: Place::RealTime(SetId(0), 4),
+        text: b"accounts\nthread a ticks 0 dispatches 0 preempts 0 wakes 0 queued\nthread b ticks 0 dispatches 0 preempts 0 wakes 0 ended\ncpu 0 ticks 0 idle 0\ncpu 1 ticks 0 idle 0\n",
+    },
+    Placed {
+        place: Place::Asleep(K, 4),
+        text: b"accounts\nthread a ticks 0 dispatches 0 preempts 0 wakes 0 asleep k\nthread b ticks 0 dispatches 0 preempts 0 wakes 0 ended\ncpu 0 ticks 0 idle 0\ncpu 1 ticks 0 idle 0\n",
+    },
+    Placed {
+        place: Place::Napping(CpuId(1), 9),
+        text: b"accounts\nthread a ticks 0 dispatches 0 preempts 0 wakes 0 napping\nthread b ticks 0 dispatches 0 preempts 0 wakes 0 ended\ncpu 0 ticks 0 idle 0\ncpu 1 ticks 0 idle 0\n",
+    },
+    Placed {
+        place: Place::Ended,
+        text: b"accounts\nthread a ticks 0 dispatches 0 preempts 0 wakes 0 ended\nthread b ticks 0 dispatches 0 preempts 0 wakes 0 ended\ncpu 0 ticks 0 idle 0\ncpu 1 ticks 0 idle 0\n",
+    },
+];
 
-fn place_and_word(i: u8) -> (Place, &'static str) {
-    match i {
-        0 => (Place::Running(CpuId(1)), "running"),
-        1 => (Place::Queued(CpuId(0), 4), "queued"),
-        2 => (Place::RealTime(SetId(0), 4), "queued"),
-        3 => (Place::Asleep(K, 4), "asleep k"),
-        4 => (Place::Napping(CpuId(1), 9), "napping"),
-        _ => (Place::Ended, "ended"),
-    }
+/// The accounts, which have counted nothing, have this text where thread a stands in this place and b has ended.
+fn is_placed(
+    alloc: Global,
+    accounts: &Accounts,
+    work: &Work,
+    row: &Placed,
+) -> Result<bool, AllocError> {
+    let s = in_places(alloc, row.place, Place::Ended)?;
+    has_text(alloc, accounts, work, &s, row.text)
 }
 
 #[test]
@@ -185,11 +225,10 @@ fn places_of_threads(rt: HostRuntime) -> Result<(), Fail> {
     let Ok(work) = read_work(alloc, SMALL) else {
         return Ok(assert!(rt; false, "no work"));
     };
-    for i in 0..6 {
-        let (place, word) = place_and_word(i);
-        let text = text_of(alloc, &work, place)?;
-        let want = wanted(alloc, word)?;
-        assert_eq!(rt; text.as_slice(), want.as_slice(), "{word}");
+    let accounts = Accounts::new(alloc, &work)?;
+    for (index, row) in PLACES.iter().enumerate() {
+        let told = is_placed(alloc, &accounts, &work, row)?;
+        assert!(rt; told, "place {index}");
     }
     Ok(())
 }

@@ -36,13 +36,69 @@ const TOO_LITTLE: &[u8] =
 const NO_NEWLINE: &[u8] =
     b"0 c0 dispatch a 29\n1 c0 tick a\n2 c0 tick a\n3 c0 tick a\n4 c0 done a\n5 c0 idle\n6 c0 idle\naccounts";
 
-// How many entries a journal has, or its fault.
-fn verdict(alloc: Global, work: &Work, text: &[u8]) -> Result<u64, AuditFault>
+/// A text that is no journal of the run, and what is at fault.
+#[derive(Clone, Copy)]
+struct Faulty {
+    text: &'static [u8],
+    fault: AuditFault,
+}
+
+const REFUSED: [Faulty; 9] = [
+    Faulty {
+        text: OTHER_EVENT,
+        fault: AuditFault::Illegal { number: 4 },
+    },
+    Faulty {
+        text: OTHER_NUMBER,
+        fault: AuditFault::Illegal { number: 1 },
+    },
+    Faulty {
+        text: NO_LAST_ENTRY,
+        fault: AuditFault::Incomplete { cpu: CpuId(0) },
+    },
+    Faulty {
+        text: OTHER_COUNT,
+        fault: AuditFault::Tail { line: 9 },
+    },
+    Faulty {
+        text: NO_ENTRY,
+        fault: AuditFault::NotAnEntry { line: 1 },
+    },
+    Faulty {
+        text: NO_ACCOUNTS,
+        fault: AuditFault::NotAnEntry { line: 3 },
+    },
+    Faulty {
+        text: TOO_MUCH,
+        fault: AuditFault::Tail { line: 11 },
+    },
+    Faulty {
+        text: TOO_LITTLE,
+        fault: AuditFault::Tail { line: 10 },
+    },
+    Faulty {
+        text: NO_NEWLINE,
+        fault: AuditFault::Tail { line: 8 },
+    },
+];
+
+/// The text is the journal of a complete run of so many entries.
+fn is_legal(alloc: Global, work: &Work, text: &[u8], count: u64) -> bool
     requires { length text.now < 2 ^ 31 }
 {
     match audit(alloc, work, text) {
-        Ok((_, number)) => Ok(number),
-        Err(fault) => Err(fault),
+        Ok((_, number)) => number == count,
+        Err(_) => false,
+    }
+}
+
+/// The text is none, and this is at fault.
+fn is_refused(alloc: Global, work: &Work, text: &[u8], fault: AuditFault) -> bool
+    requires { length text.now < 2 ^ 31 }
+{
+    match audit(alloc, work, text) {
+        Ok(_) => false,
+        Err(found) => found == fault,
     }
 }
 
@@ -52,21 +108,11 @@ fn journals_judged(rt: HostRuntime) -> Result<(), Fail> {
     let Ok(work) = read_work(alloc, WORK) else {
         return Ok(assert!(rt; false, "no work"));
     };
-    let rows = [
-        (JOURNAL, Ok(7)),
-        (OTHER_EVENT, Err(AuditFault::Illegal { number: 4 })),
-        (OTHER_NUMBER, Err(AuditFault::Illegal { number: 1 })),
-        (NO_LAST_ENTRY, Err(AuditFault::Incomplete { cpu: CpuId(0) })),
-        (OTHER_COUNT, Err(AuditFault::Tail { line: 9 })),
-        (NO_ENTRY, Err(AuditFault::NotAnEntry { line: 1 })),
-        (NO_ACCOUNTS, Err(AuditFault::NotAnEntry { line: 3 })),
-        (TOO_MUCH, Err(AuditFault::Tail { line: 11 })),
-        (TOO_LITTLE, Err(AuditFault::Tail { line: 10 })),
-        (NO_NEWLINE, Err(AuditFault::Tail { line: 8 })),
-    ];
-    for (text, want) in rows {
-        assert!(rt; text.len() < 1000);
-        assert!(rt; verdict(alloc, &work, text) == want, "at {text:?}");
+    assert!(rt; is_legal(alloc, &work, JOURNAL, 7));
+    for (index, row) in REFUSED.iter().enumerate() {
+        assert!(rt; row.text.len() < 1000);
+        let refused = is_refused(alloc, &work, row.text, row.fault);
+        assert!(rt; refused, "text {index}");
     }
     Ok(())
 }

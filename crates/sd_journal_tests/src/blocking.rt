@@ -30,51 +30,76 @@ fn blocked(
     Ok(state(alloc, threads, locks, Vec::new(alloc)))
 }
 
-/// The cycles one after the other, each behind its length.
-fn told(alloc: Global, found: &[Vec<usize>]) -> Result<Vec<usize>, AllocError> {
-    let mut told = Vec::new(alloc);
-    for cycle in found {
-        told.push(cycle.len())?;
-        told.extend_from_slice(cycle)?;
+/// The cycles found are these.
+fn are_cycles(found: &[Vec<usize>], want: &[&[usize]]) -> bool {
+    if found.len() != want.len() {
+        return false;
     }
-    Ok(told)
+    for i in 0..want.len() {
+        if found[i].as_slice() != want[i] {
+            return false;
+        }
+    }
+    true
+}
+
+/// The lock for which each thread waits, the owner of each lock, and the cycles.
+#[derive(Clone, Copy)]
+struct Case {
+    waits: &'static [Option<u16>],
+    owners: &'static [Option<u16>],
+    cycles: &'static [&'static [usize]],
+}
+
+const CASES: [Case; 6] = [
+    Case {
+        waits: &[],
+        owners: &[],
+        cycles: &[],
+    },
+    // a chain that ends at a thread that does not wait, and one that ends at readers
+    Case {
+        waits: &[Some(0), Some(1), None, Some(2)],
+        owners: &[Some(1), Some(2), None],
+        cycles: &[],
+    },
+    Case {
+        waits: &[Some(0), Some(1)],
+        owners: &[Some(1), Some(0)],
+        cycles: &[&[0, 1]],
+    },
+    // not in the order of the numbers
+    Case {
+        waits: &[Some(0), Some(2), Some(1)],
+        owners: &[Some(2), Some(1), Some(0)],
+        cycles: &[&[0, 2, 1]],
+    },
+    // two cycles, and a thread behind the first
+    Case {
+        waits: &[None, Some(1), Some(0), Some(2), Some(1), Some(3)],
+        owners: &[Some(1), Some(2), Some(5), Some(3)],
+        cycles: &[&[1, 2], &[3, 5]],
+    },
+    // a thread before all others of the chain on which it waits
+    Case {
+        waits: &[Some(0), Some(1), Some(2)],
+        owners: &[Some(1), Some(2), Some(1)],
+        cycles: &[&[1, 2]],
+    },
+];
+
+/// Those cycles are found in that state.
+fn is_found(alloc: Global, case: &Case) -> Result<bool, AllocError> {
+    let s = blocked(alloc, case.waits, case.owners)?;
+    let found = cycles(alloc, &s)?;
+    Ok(are_cycles(&found, case.cycles))
 }
 
 #[test]
 fn cycles_and_chains(rt: HostRuntime) -> Result<(), Fail> {
-    // The lock for which each thread waits, the owner of each lock, and the cycles, each behind its length.
-    let cases: [(&[Option<u16>], &[Option<u16>], &[usize]); 6] = [
-        (&[], &[], &[]),
-        // a chain that ends at a thread that does not wait, and one that ends at readers
-        (
-            &[Some(0), Some(1), None, Some(2)],
-            &[Some(1), Some(2), None],
-            &[],
-        ),
-        (&[Some(0), Some(1)], &[Some(1), Some(0)], &[2, 0, 1]),
-        // not in the order of the numbers
-        (
-            &[Some(0), Some(2), Some(1)],
-            &[Some(2), Some(1), Some(0)],
-            &[3, 0, 2, 1],
-        ),
-        // two cycles, and a thread behind the first
-        (
-            &[None, Some(1), Some(0), Some(2), Some(1), Some(3)],
-            &[Some(1), Some(2), Some(5), Some(3)],
-            &[2, 1, 2, 2, 3, 5],
-        ),
-        // a thread before all others of the chain on which it waits
-        (
-            &[Some(0), Some(1), Some(2)],
-            &[Some(1), Some(2), Some(1)],
-            &[2, 1, 2],
-        ),
-    ];
-    for (index, (waits, owners, want)) in cases.iter().enumerate() {
-        let found = cycles(rt.alloc(), &blocked(rt.alloc(), waits, owners)?)?;
-        let told = told(rt.alloc(), &found)?;
-        assert_eq!(rt; told.as_slice(), *want, "case {index}");
+    for (index, case) in CASES.iter().enumerate() {
+        let found = is_found(rt.alloc(), case)?;
+        assert!(rt; found, "case {index}");
     }
     Ok(())
 }

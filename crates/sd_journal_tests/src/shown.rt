@@ -7,12 +7,9 @@ use sd_types::{CpuId, Duty, Entry, Event, SetId, ThreadId};
 use std::alloc::{AllocError, Global};
 use std::test::Fail;
 
-/// A state of one processor and one thread.
-pub(crate) fn at_tick(alloc: Global, place: Place, count: u32) -> Result<State, AllocError> {
-    let mut threads = Vec::new(alloc);
-    threads.push(in_place(place))?;
-    let mut cpus = Vec::new(alloc);
-    cpus.push(CpuState {
+/// A processor of the default partition that has counted so many ticks.
+fn cpu_at(count: u32) -> CpuState {
+    CpuState {
         count,
         user: false,
         kernel: false,
@@ -20,7 +17,13 @@ pub(crate) fn at_tick(alloc: Global, place: Place, count: u32) -> Result<State, 
         set: SetId(0),
         closing: None,
         bound: 0,
-    })?;
+    }
+}
+
+/// A state of one processor and one thread.
+pub(crate) fn at_tick(alloc: Global, place: Place, count: u32) -> Result<State, AllocError> {
+    let threads = Vec::from_array(alloc, [in_place(place)])?;
+    let cpus = Vec::from_array(alloc, [cpu_at(count)])?;
     Ok(state(alloc, threads, Vec::new(alloc), cpus))
 }
 

@@ -26,20 +26,50 @@ const TO: Put = Put::Cpu(CpuId(10));
 
 const RT: Put = Put::RealTime(CpuId(0));
 
-/// The text of an entry after what stands in `out`.
-fn written(
+/// Whether that is the line: these words, the text and a newline.
+fn is_line(line: &[u8], words: &[u8], text: &[u8]) -> bool {
+    match line.split_last() {
+        Some((last, rest)) => {
+            *last == b'\n'
+                && rest.starts_with(words)
+                && rest.ends_with(text)
+                && rest.len() == words.len() + text.len()
+        }
+        None => false,
+    }
+}
+
+/// The line of the entry is that.
+fn is_written(
+    alloc: Global,
     work: &Work,
-    entry: (u64, u16, Event),
-    hints: Option<Hints>,
-    out: &mut Vec<u8>,
-) -> Result<(), AllocError> {
-    let entry = Entry {
-        number: entry.0,
-        cpu: CpuId(entry.1),
-        event: entry.2,
-        hints,
-    };
-    write_entry(work, &entry, out)
+    entry: &Entry,
+    words: &[u8],
+    text: &[u8],
+) -> Result<bool, AllocError> {
+    let mut out = Vec::new(alloc);
+    write_entry(work, entry, &mut out)?;
+    Ok(is_line(&out, words, text))
+}
+
+/// An entry of processor 10 that has read no numbers.
+fn third(event: Event) -> Entry {
+    Entry {
+        number: 3,
+        cpu: CpuId(10),
+        event,
+        hints: None,
+    }
+}
+
+/// The entry of the greatest number, of processor 0, that has read no numbers.
+fn last(event: Event) -> Entry {
+    Entry {
+        number: u64::MAX,
+        cpu: CpuId(0),
+        event,
+        hints: None,
+    }
 }
 
 fn hints(which: Which, list: &[u8]) -> Hints {
@@ -145,12 +175,8 @@ fn events_without_hints(rt: HostRuntime) -> Result<(), Fail> {
     };
     for i in 0..29 {
         let (event, text) = plain_event(i);
-        let mut line = Vec::from_slice(alloc, b"3 c10 ")?;
-        line.extend_from_slice(text.as_bytes())?;
-        line.push(b'\n')?;
-        let mut out = Vec::new(alloc);
-        written(&work, (3, 10, event), None, &mut out)?;
-        assert_eq!(rt; out.as_slice(), line.as_slice(), "{text}");
+        let same = is_written(alloc, &work, &third(event), b"3 c10 ", text.as_bytes())?;
+        assert!(rt; same, "{text}");
     }
     Ok(())
 }
@@ -325,15 +351,44 @@ fn answers_and_sets(rt: HostRuntime) -> Result<(), Fail> {
     };
     for i in 0..23 {
         let (event, text) = answer(i);
-        let mut line = Vec::from_slice(alloc, b"18446744073709551615 c0 ")?;
-        line.extend_from_slice(text.as_bytes())?;
-        line.push(b'\n')?;
-        let mut out = Vec::new(alloc);
-        written(&work, (u64::MAX, 0, event), None, &mut out)?;
-        assert_eq!(rt; out.as_slice(), line.as_slice(), "{text}");
+        let words = b"18446744073709551615 c0 ";
+        let same = is_written(alloc, &work, &last(event), words, text.as_bytes())?;
+        assert!(rt; same, "{text}");
     }
     Ok(())
 }
+
+/// An entry that has read these numbers.
+fn read(number: u64, cpu: u16, event: Event, which: Which, list: &[u8]) -> Entry {
+    Entry {
+        number,
+        cpu: CpuId(cpu),
+        event,
+        hints: Some(hints(which, list)),
+    }
+}
+
+/// A text to which the lines of three entries that have read numbers were written.
+fn three(alloc: Global, work: &Work) -> Result<Vec<u8>, AllocError> {
+    let mut out = Vec::from_slice(alloc, b"5 c0 done a\n")?;
+    let steal = Event::Steal {
+        victim: CpuId(0),
+        t: A,
+        p: 29,
+    };
+    write_entry(work, &read(6, 2, steal, Which::Queued, &[30]), &mut out)?;
+    let idle = read(7, 3, Event::Idle, Which::Queued, &[0, 160, 7]);
+    write_entry(work, &idle, &mut out)?;
+    let rouse = Event::Rouse {
+        k: K,
+        woken: Some((B, TO)),
+    };
+    write_entry(work, &read(8, 0, rouse, Which::Running, &[0, 1]), &mut out)?;
+    Ok(out)
+}
+
+const THREE: &[u8] =
+    b"5 c0 done a\n6 c2 steal c0 a 29 h 30\n7 c3 idle h 0,160,7\n8 c0 rouse k b to c10 h 0,1\n";
 
 #[test]
 fn numbers_that_were_read(rt: HostRuntime) -> Result<(), Fail> {
@@ -341,25 +396,7 @@ fn numbers_that_were_read(rt: HostRuntime) -> Result<(), Fail> {
     let Some(work) = named(alloc) else {
         return Ok(assert!(rt; false, "no work"));
     };
-    let mut out = Vec::from_slice(alloc, b"5 c0 done a\n")?;
-    let steal = Event::Steal {
-        victim: CpuId(0),
-        t: A,
-        p: 29,
-    };
-    let read = hints(Which::Queued, &[30]);
-    written(&work, (6, 2, steal), Some(read), &mut out)?;
-    let read = hints(Which::Queued, &[0, 160, 7]);
-    written(&work, (7, 3, Event::Idle), Some(read), &mut out)?;
-    let rouse = Event::Rouse {
-        k: K,
-        woken: Some((B, TO)),
-    };
-    let read = hints(Which::Running, &[0, 1]);
-    written(&work, (8, 0, rouse), Some(read), &mut out)?;
-    assert_eq!(rt;
-        out.as_slice(),
-        b"5 c0 done a\n6 c2 steal c0 a 29 h 30\n7 c3 idle h 0,160,7\n8 c0 rouse k b to c10 h 0,1\n".as_slice()
-    );
+    let out = three(alloc, &work)?;
+    assert!(rt; out.as_slice() == THREE);
     Ok(())
 }

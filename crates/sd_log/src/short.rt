@@ -103,7 +103,7 @@ fn numbers_at<'a>(bytes: &'a [u8], short: &ShortEntry) -> Numbers<'a>
     }
 }
 
-/// Puts the numbers that were read behind the others, where there is room.
+/// Puts the numbers that were read behind the others, where there is room. Most entries read none.
 fn put_numbers(bytes: &mut Vec<u8>, hints: &Option<Hints>) -> u8
     requires { vec_len bytes.old + most_processors ≤ vec_capacity bytes.old }
     ensures bytes { bytes.new.items ≡ bytes.old.items ++ numbers_of hints.now }
@@ -111,6 +111,9 @@ fn put_numbers(bytes: &mut Vec<u8>, hints: &Option<Hints>) -> u8
     ensures fits { result ≤ most_processors }
 {
     let numbers = numbers_of(hints);
+    if numbers.is_empty() {
+        return 0;
+    }
     match bytes.extend_from_slice(numbers) {
         Ok(()) => numbers.len() as u8,
         Err(_) => unreachable!(),

@@ -1,7 +1,7 @@
 //! The three programs from their start: the status, the output and the error output that the arguments of each kind are answered
 //! with, as one table. The journals and the ticks were worked out by hand.
 
-use crate::runs::{Called, SMALLEST, SMALLEST_JOURNAL, USAGE};
+use crate::runs::{Called, SMALLEST, SMALLEST_JOURNAL, USAGE, has};
 use sd_find::Progress;
 use sd_program::OpenGate;
 use sd_text::{MemorySink, MemorySource};
@@ -83,7 +83,10 @@ fn arguments<R: AllocGlobal>(rt: &R, words: Option<&str>) -> io::Result<Vec<Stri
     Ok(texts)
 }
 
-fn call_of<R: Threads + Wait + Sync + AllocGlobal>(rt: &R, row: Row) -> Result<Called, AllocError> {
+fn call_of<R: Threads + Wait + Sync + AllocGlobal>(
+    rt: &R,
+    row: &Row,
+) -> Result<Called, AllocError> {
     let alloc = rt.alloc();
     let bytes = Vec::from_slice(alloc, row.input.as_bytes())?;
     let mut input = MemorySource::new(bytes, 7, Vec::new(alloc));
@@ -108,6 +111,15 @@ fn call_of<R: Threads + Wait + Sync + AllocGlobal>(rt: &R, row: Row) -> Result<C
         }
     };
     Ok(Called { status, out, err })
+}
+
+/// The call answers as it is to.
+fn is_answered<R: Threads + Wait + Sync + AllocGlobal>(
+    rt: &R,
+    row: &Row,
+) -> Result<bool, AllocError> {
+    let called = call_of(rt, row)?;
+    Ok(has(&called, row.status, row.out.as_bytes(), row.err.as_bytes()))
 }
 
 #[test]
@@ -165,12 +177,9 @@ fn calls_of_each_program(rt: HostRuntime) -> Result<(), Fail> {
         ),
         asked(Dispfind, None, "", 1, "", FIND_USAGE),
     ];
-    for row in rows {
-        let called = call_of(&rt, row)?;
-        let words = row.words.unwrap_or("no text");
-        assert_eq!(rt; called.status, row.status, "{words}");
-        assert_eq!(rt; called.out.bytes(), row.out.as_bytes(), "{words}");
-        assert_eq!(rt; called.err.bytes(), row.err.as_bytes(), "{words}");
+    for row in &rows {
+        let answered = is_answered(&rt, row)?;
+        assert!(rt; answered, "{}", row.words.unwrap_or("no text"));
     }
     Ok(())
 }

@@ -1,6 +1,6 @@
 //! Each read and each write failing in turn, in a run, an audit and a story of the smallest run.
 
-use crate::runs::{CERTIFICATE, Called, SMALLEST, SMALLEST_JOURNAL, call};
+use crate::runs::{CERTIFICATE, Called, SMALLEST, SMALLEST_JOURNAL, call, has};
 use sd_text::{MemorySink, MemorySource};
 use sd_viewer::view;
 use std::alloc::{AllocError, Global};
@@ -80,11 +80,6 @@ fn call_form<R: Threads + Wait + Sync + AllocGlobal>(
     } else {
         call(rt, form.words, input, 1, reads, room, writes, 200)
     }
-}
-
-/// Whether a call ended with this status, and its streams hold these bytes.
-fn has(called: &Called, status: u8, out: &[u8], err: &[u8]) -> bool {
-    called.status == status && called.out.bytes() == out && called.err.bytes() == err
 }
 
 /// Whether all went well.

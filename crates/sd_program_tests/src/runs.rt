@@ -87,6 +87,11 @@ pub(crate) struct Called {
     pub(crate) err: MemorySink,
 }
 
+/// Whether a call ended with this status, and its streams hold these bytes.
+pub(crate) fn has(called: &Called, status: u8, out: &[u8], err: &[u8]) -> bool {
+    called.status == status && called.out.bytes() == out && called.err.bytes() == err
+}
+
 /// A call over streams in memory: the reads named in `reads` and the writes named in `writes` fail, counted from 1. The error
 /// output has room for `err_room` bytes.
 pub(crate) fn call<R: Threads + Wait + Sync + AllocGlobal>(
@@ -125,34 +130,52 @@ pub(crate) fn call<R: Threads + Wait + Sync + AllocGlobal>(
     Ok(Called { status, out, err })
 }
 
+/// A workload and the journal of its run.
+#[derive(Clone, Copy)]
+struct Worked {
+    input: &'static str,
+    journal: &'static str,
+}
+
+const fn run_of(input: &'static str, journal: &'static str) -> Worked {
+    Worked { input, journal }
+}
+
+/// The run of the workload ends well, and prints this journal.
+fn is_run<R: Threads + Wait + Sync + AllocGlobal>(
+    rt: &R,
+    row: &Worked,
+) -> Result<bool, AllocError> {
+    let called = call(rt, "run", row.input.as_bytes(), 7, &[], 4096, &[], 200)?;
+    Ok(has(&called, 0, row.journal.as_bytes(), b""))
+}
+
 #[test]
 fn worked_runs(rt: HostRuntime) -> Result<(), Fail> {
     let rows = [
-        (SMALLEST, SMALLEST_JOURNAL),
-        (
+        run_of(SMALLEST, SMALLEST_JOURNAL),
+        run_of(
             "limit 2\n",
             "0 c0 idle\n1 c0 idle\naccounts\ncpu 0 ticks 2 idle 2\n",
         ),
-        (
+        run_of(
             EXPIRY,
             "0 c0 dispatch a 0\n1 c0 tick a\n2 c0 tick a\n3 c0 tick a\n4 c0 tick a\n5 c0 tick a\n6 c0 tick a\n7 c0 tick a\n8 c0 tick a\n9 c0 tick a\n10 c0 tick a\n11 c0 tick a\n12 c0 tick a\n13 c0 tick a\n14 c0 tick a\n15 c0 tick a\n16 c0 tick a\n17 c0 tick a\n18 c0 tick a\n19 c0 tick a\n20 c0 tick a\n21 c0 preempt a back\n22 c0 dispatch b 0\n23 c0 tick b\n24 c0 done b\n25 c0 dispatch a 0\n26 c0 done a\n27 c0 idle\naccounts\nthread a ticks 20 dispatches 2 preempts 1 wakes 0 ended\nthread b ticks 1 dispatches 1 preempts 0 wakes 0 ended\ncpu 0 ticks 22 idle 1\n",
         ),
-        (
+        run_of(
             "limit 1\nthread a ts 5 0 -60\nscript a\nrun 1\nend\n",
             "0 c0 dispatch a 0\n1 c0 tick a\n2 c0 done a\naccounts\nthread a ticks 1 dispatches 1 preempts 0 wakes 0 ended\ncpu 0 ticks 1 idle 0\n",
         ),
-        (CHAIN_OF_THREE, CHAIN_OF_THREE_JOURNAL),
-        (WALK_DOWNWARDS, WALK_DOWNWARDS_JOURNAL),
-        (READER_BEHIND_WRITER, READER_BEHIND_WRITER_JOURNAL),
-        (BROADCAST, BROADCAST_JOURNAL),
-        (BOUND, BOUND_JOURNAL),
-        (NOBODY_ASLEEP, NOBODY_ASLEEP_JOURNAL),
+        run_of(CHAIN_OF_THREE, CHAIN_OF_THREE_JOURNAL),
+        run_of(WALK_DOWNWARDS, WALK_DOWNWARDS_JOURNAL),
+        run_of(READER_BEHIND_WRITER, READER_BEHIND_WRITER_JOURNAL),
+        run_of(BROADCAST, BROADCAST_JOURNAL),
+        run_of(BOUND, BOUND_JOURNAL),
+        run_of(NOBODY_ASLEEP, NOBODY_ASLEEP_JOURNAL),
     ];
-    for (input, journal) in rows {
-        let called = call(&rt, "run", input.as_bytes(), 7, &[], 4096, &[], 200)?;
-        assert_eq!(rt; called.status, 0, "{input}");
-        assert_eq!(rt; called.out.bytes(), journal.as_bytes(), "{input}");
-        assert_eq!(rt; called.err.bytes(), b"".as_slice(), "{input}");
+    for row in &rows {
+        let run = is_run(&rt, row)?;
+        assert!(rt; run, "{}", row.input);
     }
     Ok(())
 }
@@ -170,16 +193,59 @@ const CLOSED_CHAIN: &str =
 const CLOSED_CHAIN_JOURNAL: &str =
     "0 c0 dispatch a 10\n1 c0 enter a p\n2 c0 nap a\n3 c0 dispatch b 10\n4 c0 enter b q\n5 c0 nap b\n6 c0 dispatch d 5\n7 c0 nap d\n8 c0 idle\n9 c0 napend a to c0\n10 c0 napend b to c0\n11 c0 dispatch a 10\n12 c0 block a q\n13 c0 will q b 10\n14 c0 dispatch b 10\n15 c0 block b p\n16 c0 will p a 10\n17 c0 will q b 10\n18 c0 idle\n19 c0 napend d to c0\n20 c0 dispatch d 5\n21 c0 block d p\n22 c0 will p a 10\n23 c0 will q b 10\n24 c0 idle\naccounts\nthread a ticks 0 dispatches 2 preempts 0 wakes 1 waiting q\nthread b ticks 0 dispatches 2 preempts 0 wakes 1 waiting p\nthread d ticks 0 dispatches 2 preempts 0 wakes 1 waiting p\ncpu 0 ticks 3 idle 3\ncycle a q b p\n";
 
+/// A call: the arguments, the input, the reads that fail, the room of the output and the writes that fail; and what it is to
+/// answer: the status, the output and the error output.
+#[derive(Clone, Copy)]
+struct Case {
+    arguments: &'static str,
+    input: &'static str,
+    reads: &'static [u64],
+    room: usize,
+    writes: &'static [u64],
+    status: u8,
+    out: &'static str,
+    err: &'static str,
+}
+
+const fn asked(
+    arguments: &'static str,
+    input: &'static str,
+    reads: &'static [u64],
+    room: usize,
+    writes: &'static [u64],
+    status: u8,
+    out: &'static str,
+    err: &'static str,
+) -> Case {
+    Case {
+        arguments,
+        input,
+        reads,
+        room,
+        writes,
+        status,
+        out,
+        err,
+    }
+}
+
+/// The call answers as it is to.
+fn is_answered<R: Threads + Wait + Sync + AllocGlobal>(
+    rt: &R,
+    x: &Case,
+) -> Result<bool, AllocError> {
+    let input = x.input.as_bytes();
+    let called = call(rt, x.arguments, input, 4, x.reads, x.room, x.writes, 200)?;
+    Ok(has(&called, x.status, x.out.as_bytes(), x.err.as_bytes()))
+}
+
 #[test]
 fn refusals_and_failing_streams(rt: HostRuntime) -> Result<(), Fail> {
-    let alloc = rt.alloc();
-    // The arguments, the input, the reads that fail, the room of the output and the writes that fail; then the status,
-    // the output and the error output.
-    let cases: [(&str, &str, &[u64], usize, &[u64], u8, &str, &str); 22] = [
-        ("", SMALLEST, &[], 4096, &[], 1, "", USAGE),
-        ("run fast", SMALLEST, &[], 4096, &[], 1, "", USAGE),
-        ("fast", SMALLEST, &[1], 4096, &[1], 1, "", USAGE),
-        (
+    let cases = [
+        asked("", SMALLEST, &[], 4096, &[], 1, "", USAGE),
+        asked("run fast", SMALLEST, &[], 4096, &[], 1, "", USAGE),
+        asked("fast", SMALLEST, &[1], 4096, &[1], 1, "", USAGE),
+        asked(
             "run",
             "",
             &[],
@@ -189,7 +255,7 @@ fn refusals_and_failing_streams(rt: HostRuntime) -> Result<(), Fail> {
             "",
             "refused: line 1: syntax\n",
         ),
-        (
+        asked(
             "run",
             "limit 100001\n",
             &[],
@@ -199,7 +265,7 @@ fn refusals_and_failing_streams(rt: HostRuntime) -> Result<(), Fail> {
             "",
             "refused: line 1: range\n",
         ),
-        (
+        asked(
             "tables",
             "limit 1\nthread a rt 60 def\n",
             &[],
@@ -209,7 +275,7 @@ fn refusals_and_failing_streams(rt: HostRuntime) -> Result<(), Fail> {
             "",
             "refused: line 2: range\n",
         ),
-        (
+        asked(
             "run --seed 7",
             SMALLEST,
             &[],
@@ -219,8 +285,8 @@ fn refusals_and_failing_streams(rt: HostRuntime) -> Result<(), Fail> {
             SMALLEST_JOURNAL,
             "",
         ),
-        ("sum", SMALLEST, &[], 4096, &[], 0, SUMMARY, ""),
-        (
+        asked("sum", SMALLEST, &[], 4096, &[], 0, SUMMARY, ""),
+        asked(
             "run",
             CLOSED_CHAIN,
             &[],
@@ -230,11 +296,11 @@ fn refusals_and_failing_streams(rt: HostRuntime) -> Result<(), Fail> {
             CLOSED_CHAIN_JOURNAL,
             "blocking cycle\n",
         ),
-        ("run", SMALLEST, &[2], 4096, &[], 3, "", "read fault\n"),
+        asked("run", SMALLEST, &[2], 4096, &[], 3, "", "read fault\n"),
         // The read that fails is the one behind the last byte.
-        ("run", SMALLEST, &[13], 4096, &[], 3, "", "read fault\n"),
-        ("audit", CERTIFICATE, &[1], 4096, &[], 3, "", "read fault\n"),
-        (
+        asked("run", SMALLEST, &[13], 4096, &[], 3, "", "read fault\n"),
+        asked("audit", CERTIFICATE, &[1], 4096, &[], 3, "", "read fault\n"),
+        asked(
             "run",
             SMALLEST,
             &[],
@@ -244,9 +310,9 @@ fn refusals_and_failing_streams(rt: HostRuntime) -> Result<(), Fail> {
             "0 c0 dispatch a 29\n",
             "write fault\n",
         ),
-        ("run", SMALLEST, &[], 5, &[], 4, "0 c0 ", "write fault\n"),
-        ("audit", CERTIFICATE, &[], 4096, &[], 0, "legal 7\n", ""),
-        (
+        asked("run", SMALLEST, &[], 5, &[], 4, "0 c0 ", "write fault\n"),
+        asked("audit", CERTIFICATE, &[], 4096, &[], 0, "legal 7\n", ""),
+        asked(
             "audit",
             SMALLEST,
             &[],
@@ -256,7 +322,7 @@ fn refusals_and_failing_streams(rt: HostRuntime) -> Result<(), Fail> {
             "",
             "refused: no journal\n",
         ),
-        (
+        asked(
             "audit",
             "limit 100001\njournal\n",
             &[],
@@ -266,7 +332,7 @@ fn refusals_and_failing_streams(rt: HostRuntime) -> Result<(), Fail> {
             "",
             "refused: line 1: range\n",
         ),
-        (
+        asked(
             "audit",
             "limit 1\njournal\n",
             &[],
@@ -276,7 +342,7 @@ fn refusals_and_failing_streams(rt: HostRuntime) -> Result<(), Fail> {
             "",
             "journal: line 1: not an entry\n",
         ),
-        (
+        asked(
             "audit",
             "limit 1\njournal\n1 c0 idle\n",
             &[],
@@ -286,7 +352,7 @@ fn refusals_and_failing_streams(rt: HostRuntime) -> Result<(), Fail> {
             "",
             "journal: entry 0: illegal\n",
         ),
-        (
+        asked(
             "audit",
             "limit 1\njournal\naccounts\n",
             &[],
@@ -296,7 +362,7 @@ fn refusals_and_failing_streams(rt: HostRuntime) -> Result<(), Fail> {
             "",
             "journal: incomplete: c0\n",
         ),
-        (
+        asked(
             "audit",
             "limit 1\njournal\n0 c0 idle\naccounts\ncpu 0 ticks 1 idle 0\n",
             &[],
@@ -306,7 +372,7 @@ fn refusals_and_failing_streams(rt: HostRuntime) -> Result<(), Fail> {
             "",
             "journal: line 3: accounts\n",
         ),
-        (
+        asked(
             "audit",
             CERTIFICATE,
             &[],
@@ -317,20 +383,9 @@ fn refusals_and_failing_streams(rt: HostRuntime) -> Result<(), Fail> {
             "write fault\n",
         ),
     ];
-    for (arguments, input, reads, room, writes, status, out, err) in cases {
-        let called = call(
-            &rt,
-            arguments,
-            input.as_bytes(),
-            4,
-            reads,
-            room,
-            writes,
-            200,
-        )?;
-        assert_eq!(rt; called.status, status, "{input}");
-        assert_eq!(rt; called.out.bytes(), out.as_bytes(), "{input}");
-        assert_eq!(rt; called.err.bytes(), err.as_bytes(), "{input}");
+    for case in &cases {
+        let answered = is_answered(&rt, case)?;
+        assert!(rt; answered, "{} of {}", case.arguments, case.input);
     }
     Ok(())
 }
@@ -346,30 +401,42 @@ fn an_input_too_large(rt: HostRuntime) -> Result<(), Fail> {
     Ok(())
 }
 
+/// The smallest workload, seven bytes a read.
+fn smallest(alloc: Global) -> Result<MemorySource, AllocError> {
+    let bytes = Vec::from_slice(alloc, SMALLEST.as_bytes())?;
+    Ok(MemorySource::new(bytes, 7, Vec::new(alloc)))
+}
+
+/// A start over the smallest workload.
+fn started<R: Threads + Wait + Sync + AllocGlobal>(
+    rt: &R,
+    arguments: io::Result<Vec<String>>,
+    input: &mut MemorySource,
+) -> Result<Called, AllocError> {
+    let alloc = rt.alloc();
+    let mut out = MemorySink::new(alloc, 4096, Vec::new(alloc))?;
+    let mut err = MemorySink::new(alloc, 200, Vec::new(alloc))?;
+    let status = start(rt, alloc, arguments, input, &mut out, &mut err, &OpenGate);
+    Ok(Called { status, out, err })
+}
+
+/// Arguments that could not be read are answered so, and nothing is read of the input.
+fn is_unread<R: Threads + Wait + Sync + AllocGlobal>(
+    rt: &R,
+    kind: ErrorKind,
+    status: u8,
+    line: &str,
+) -> Result<bool, Fail> {
+    let mut input = smallest(rt.alloc())?;
+    let called = started(rt, Err(io::Error::from(kind)), &mut input)?;
+    let left = read_all(rt.alloc(), &mut input)?;
+    Ok(has(&called, status, b"", line.as_bytes()) && left.as_slice() == SMALLEST.as_bytes())
+}
+
 #[test]
 fn arguments_that_were_not_read(rt: HostRuntime) -> Result<(), Fail> {
-    let alloc = rt.alloc();
-    for (kind, status, line) in [
-        (ErrorKind::OutOfMemory, 5, "out of memory\n"),
-        (ErrorKind::InvalidData, 1, USAGE),
-    ] {
-        let mut input = MemorySource::new(
-            Vec::from_slice(alloc, SMALLEST.as_bytes())?,
-            7,
-            Vec::new(alloc),
-        );
-        let mut out = MemorySink::new(alloc, 4096, Vec::new(alloc))?;
-        let mut err = MemorySink::new(alloc, 200, Vec::new(alloc))?;
-        let unread = Err(io::Error::from(kind));
-        let returned = start(
-            &rt, alloc, unread, &mut input, &mut out, &mut err, &OpenGate,
-        );
-        assert_eq!(rt; returned, status);
-        assert_eq!(rt; out.bytes(), b"".as_slice());
-        assert_eq!(rt; err.bytes(), line.as_bytes());
-        let left = read_all(alloc, &mut input)?;
-        assert_eq!(rt; left.as_slice(), SMALLEST.as_bytes());
-    }
+    assert!(rt; is_unread(&rt, ErrorKind::OutOfMemory, 5, "out of memory\n")?);
+    assert!(rt; is_unread(&rt, ErrorKind::InvalidData, 1, USAGE)?);
     Ok(())
 }
 
@@ -378,25 +445,8 @@ fn arguments_that_were_read(rt: HostRuntime) -> Result<(), Fail> {
     let alloc = rt.alloc();
     let mut arguments = Vec::new(alloc);
     arguments.push(String::from_str(alloc, "run")?)?;
-    let mut input = MemorySource::new(
-        Vec::from_slice(alloc, SMALLEST.as_bytes())?,
-        7,
-        Vec::new(alloc),
-    );
-    let mut out = MemorySink::new(alloc, 4096, Vec::new(alloc))?;
-    let mut err = MemorySink::new(alloc, 200, Vec::new(alloc))?;
-    let returned = start(
-        &rt,
-        alloc,
-        Ok(arguments),
-        &mut input,
-        &mut out,
-        &mut err,
-        &OpenGate,
-    );
-    assert_eq!(rt; returned, 0);
-    assert_eq!(rt; out.bytes(), SMALLEST_JOURNAL.as_bytes());
-    assert_eq!(rt; err.bytes(), b"".as_slice());
+    let called = started(&rt, Ok(arguments), &mut smallest(alloc)?)?;
+    assert!(rt; has(&called, 0, SMALLEST_JOURNAL.as_bytes(), b""));
     Ok(())
 }
 
