@@ -31,6 +31,7 @@ status_of WriteFault = 4
 status_of OutOfMemory = 5
 status_of Blocked = 6
 status_of (NotAJournal fault) = 7
+-- the run has 2^40 entries or more
 status_of TooLong = 8
 
 abbrev pub line_of : Answer → List ℕ

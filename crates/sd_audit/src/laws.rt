@@ -6,7 +6,7 @@ ghost use Rattle.sd_state.specs.declared.states.State.{State};
 ghost use Rattle.sd_audit.specs.declared.audits.AuditFault.{AuditFault};
 ghost use Rattle.sd_audit.specs.Audits.{IsFault, IsJournal, IsMemory};
 
-/// A text that is the journal of a complete run has no fault but want of memory, and it is the journal of one run alone.
+/// A text that is the journal of a complete run has no fault but want of memory, and it tells one final state and one number of entries.
 pub fn journals_have_no_fault()
     ensures fault { (w : Work) (text : List ℕ) (s : State) (n : ℕ) (fault : AuditFault) → IsJournal w text s n → IsFault w text fault → IsMemory fault }
     ensures one { (w : Work) (text : List ℕ) (s t : State) (n m : ℕ) → IsJournal w text s n → IsJournal w text t m → (s ≡ t) × (n ≡ m) }

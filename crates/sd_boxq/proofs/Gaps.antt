@@ -13,10 +13,6 @@ boxes_items i [] (x ∷ xs) e = absurd (omega arith)
 boxes_items i (l ∷ ls) [] e = refl
 boxes_items i (l ∷ ls) (x ∷ xs) e = ap (λ ys. x ∷ ys) (boxes_items (suc i) ls xs (omega arith))
 
-pub boxes_none : {T : Type 0} (i : ℕ) (ls : List Link) → boxes_from {T = T} i ls [] ≡ []
-boxes_none i [] = refl
-boxes_none i (l ∷ ls) = refl
-
 boxes_cons : {T : Type 0} (i : ℕ) (ls : List Link) (xs : List T) (b : BoxOf T) (bs : List (BoxOf T)) → boxes_from i ls xs ≡ b ∷ bs
     → (l : Link) × (lr : List Link) × (x : T) × (xr : List T) × (ls ≡ l ∷ lr) × (xs ≡ x ∷ xr) × (b ≡ (l.0, i, x)) × (bs ≡ boxes_from (suc i) lr xr)
 boxes_cons i [] xs b bs e = absurd cc

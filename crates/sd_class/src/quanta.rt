@@ -1,4 +1,6 @@
-//! Quanta that may be infinite, as threads of the fixed-priority and the real-time class have them.
+//! Quanta that may be infinite, as threads of the fixed-priority and the real-time class have them: where one expires, a full quantum begins. What
+//! the expiry makes of the priority of a time-sharing thread is in `time_sharing.rt`; where a thread stands then, and which processor is marked,
+//! is the dispatcher's (`charge` in the definitions of dispatching).
 
 ghost use Rattle.std.specs.Prelude.{◌≡◌};
 ghost use Rattle.sd_types.specs.ClassNumbers.{IsQuantum, IsLeft};

@@ -1,4 +1,6 @@
-//! Threads that wake up.
+//! Threads that wake up: a woken thread gets the class state that its class gives for a wakeup, and stands at the back of a dispatch queue. On
+//! which processor is chosen before, by what others show (`choosing.rt`); the queue is that processor's, or the real-time queue of its partition, and
+//! the processor is marked where a thread of a smaller priority runs there (`placing.rt`, `marks.rt`).
 //!
 //! Source: Solaris Internals (setrun, the wakeup of each scheduling class).
 

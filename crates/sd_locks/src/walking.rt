@@ -1,5 +1,6 @@
 //! The walk: at each lock the owner is to inherit the greatest priority of the waiters (will), and where it waits itself the
-//! walk goes on at the lock that it waits for; at a lock that nobody owns the walk is over (end).
+//! walk goes on at the lock that it waits for; at a lock that nobody owns the walk is over (end). It is over too at an owner that does
+//! not wait, at the thread that it seeks, where the chain is closed, and at one where another walk found that before.
 //!
 //! Source: Solaris Internals (turnstiles: priority inheritance, turnstile_pi_inherit).
 
