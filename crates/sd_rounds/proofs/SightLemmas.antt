@@ -5,6 +5,7 @@ use Rattle.sd_types.specs.declared.events.Duty.TheVariants.{Nothing}
 use Rattle.sd_types.specs.declared.events.Event.TheVariants.{Tick}
 use Rattle.sd_types.specs.declared.bodies.ThreadBody.{ThreadBody}
 use Rattle.sd_types.specs.declared.numbers.SetId.{SetId}
+use Rattle.sd_types.specs.declared.numbers.ThreadId.{ThreadId}
 use Rattle.sd_types.specs.declared.numbers.HomeId.TheVariants.{Cpu}
 use Rattle.sd_types.specs.declared.scripts.Op.TheVariants.{Run}
 use Rattle.sd_types.specs.declared.works.Work.{Work}
@@ -18,6 +19,7 @@ use Rattle.sd_machine.specs.Plans.{ageing_plan, ageing_plan_of, cpu_plan, cpu_pl
 use Rattle.sd_machine.specs.Sleeping.{napend_plan}
 use Rattle.sd_machine.specs.Threads.{best_queued, best_ready, first_due, is_sys, open_of, runner}
 use Rattle.sd_record.specs.Records.{ThreadRecord}
+use Rattle.sd_rules.specs.ClassRules.{class_expires}
 use Rattle.sd_boxq.specs.Order.{find_id}
 use Rattle.sd_homes.specs.declared.list_id.ListId.TheVariants.{Naps, Queues, Runs, Urgent}
 use Rattle.sd_homes.specs.Standing.{better, due_of_first, id_of, record_of}
@@ -69,7 +71,7 @@ first_found r (q ∷ rs) e = let same : q ≡ r = cc in rw (ap (λ z. id_of z ==
 
 -- a look at a thread that runs tells nothing of a search
 pub runner_noted : (w : Work) (v : CpuView) (r : ThreadRecord) (known : Option Searched) (seen : Sight) → SeesRunner w v r seen → known ≡ noted known seen
-runner_noted w v r known (sight.Runs t) f = refl
+runner_noted w v r known (sight.Runs t expires) f = refl
 runner_noted w v r known (sight.Idles found) f = absurd f
 runner_noted w v r known sight.Unclear f = refl
 
@@ -93,12 +95,16 @@ module _ (w : Work) (x : Acting) (n : ℕ) (s : State) (h : Home) (sh : IsShown 
       sym (ap (λ (q : ThreadRecord). q.body) is)
 
   pub sees_runner : (r : ThreadRecord) (seen : Sight) → slice_get (list_in h (Runs x.actor.cpu)) 0 ≡ Some r → SeesRunner w v r seen → Sees w s x.actor.cpu.0 seen
-  sees_runner r (sight.Runs t) e f =
-      let (same, user, kernel, k, op) = f in
+  sees_runner r (sight.Runs t expires) e f =
+      let (same, user, kernel, ends, k, op) = f in
       let runs : runner s x.actor.cpu.0 ≡ Some r.id.0 = runner_told x n s h sh x.actor.cpu at ∙ ap (option_map id_of) e in
       let plans = runs_on w s x.actor.cpu.0 r.id.0 k runs (ap (λ (q : CpuView). q.user) (sym viewed) ∙ user) (ap (λ (q : CpuView). q.kernel) (sym viewed) ∙ kernel)
       (ap (op_of w r.id.0) (runner_body r e) ∙ op) in
-      (no_duty, sym (quiet_plan w s x.actor.cpu.0 no_duty none_due ∙ plans ∙ ap (λ u. Make (Tick u)) (sym same)))
+      let body : r.body ≡ (thread_of s r.id.0).body = sym (runner_body r e) in (
+        no_duty,
+        sym (quiet_plan w s x.actor.cpu.0 no_duty none_due ∙ plans ∙ ap (λ u. Make (Tick u)) (sym same)),
+        ends ∙ ap (λ (b : ThreadBody). class_expires b.class) body ∙ ap (λ (u : ThreadId). class_expires (thread_of s u.0).body.class) (sym same),
+      )
   sees_runner r (sight.Idles found) e f = absurd f
   sees_runner r sight.Unclear e f = tt
 
@@ -131,7 +137,7 @@ module _ (w : Work) (x : Acting) (n : ℕ) (s : State) (h : Home) (sh : IsShown 
     ready none = none_ready s x.actor.cpu.0 found.set is_set queued none.urgent
 
   pub sees_quiet : (known : Option Searched) (seen : Sight) → slice_get (list_in h (Runs x.actor.cpu)) 0 ≡ None → SeesQuiet x h v known seen → IsSearched s known → Sees w s x.actor.cpu.0 seen
-  sees_quiet known (sight.Runs t) e f is = absurd f
+  sees_quiet known (sight.Runs t expires) e f is = absurd f
   sees_quiet known (sight.Idles found) e f is =
       let (its, closing, queue, known_or_found) = f in
       let runs : runner s x.actor.cpu.0 ≡ None = runner_told x n s h sh x.actor.cpu at ∙ ap (option_map id_of) e in

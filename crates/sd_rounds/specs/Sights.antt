@@ -9,7 +9,8 @@ use Rattle.sd_types.specs.declared.scripts.Op.TheVariants.{Run}
 use Rattle.sd_types.specs.Limits.{most_processors}
 use Rattle.sd_state.specs.declared.states.State.{State}
 use Rattle.sd_state.specs.Operations.{op_of}
-use Rattle.sd_state.specs.States.{cpu_of}
+use Rattle.sd_state.specs.States.{cpu_of, thread_of}
+use Rattle.sd_rules.specs.ClassRules.{class_expires}
 use Rattle.sd_machine.specs.declared.plans.Plan.TheVariants.{Make, Search}
 use Rattle.sd_machine.specs.Plans.{plan}
 use Rattle.sd_record.specs.Records.{ThreadRecord}
@@ -25,17 +26,17 @@ use Rattle.sd_rounds.specs.declared.sight.Searched.{Searched}
 use Rattle.sd_rounds.specs.declared.sight.Sight.{Sight}
 use Rattle.sd_rounds.specs.declared.sight.Sight.TheVariants.{Runs, Idles, Unclear}
 
--- what is seen of processor c, which has no duty, is its plan; and where it searches, itself one of the open processors of its set, there is
+-- what is seen of processor c, which has no duty, is its plan, and whether its tick ends the quantum of its thread; and where it searches, itself one of the open processors of its set, there is
 -- nothing in that
 abbrev pub Sees : Work → State → ℕ → Sight → Type 0
-Sees w s c (Runs t) = ((cpu_of s c).duty ≡ Nothing) × (Make (Tick t) ≡ plan w s c)
+Sees w s c (Runs t expires) = ((cpu_of s c).duty ≡ Nothing) × (Make (Tick t) ≡ plan w s c) × (expires ≡ class_expires (thread_of s t.0).body.class)
 Sees w s c (Idles found) =
     ((cpu_of s c).duty ≡ Nothing) × (Search ≡ plan w s c) × (found.set ≡ (cpu_of s c).set) × ((cpu_of s c).closing ≡ None) × HasNothing s found
 Sees w s c Unclear = ⊤
 
 -- of a thread that runs, on a processor with no mark, and whose operation is to run
 abbrev pub SeesRunner : Work → CpuView → ThreadRecord → Sight → Type 0
-SeesRunner w v r (Runs t) = (t ≡ r.id) × (v.user ≡ false) × (v.kernel ≡ false) × (n : ℕ) × (op_of w r.id.0 r.body ≡ Some (Run n))
+SeesRunner w v r (Runs t expires) = (t ≡ r.id) × (v.user ≡ false) × (v.kernel ≡ false) × (expires ≡ class_expires r.body.class) × (n : ℕ) × (op_of w r.id.0 r.body ≡ Some (Run n))
 SeesRunner w v r (Idles found) = ⊥
 SeesRunner w v r Unclear = ⊤
 
@@ -51,13 +52,13 @@ pub record FindsNothing (x : Acting) (found : Searched) : Type 0 where
 -- of a processor on which no thread runs, which is not closing: nobody stands in its queue, and there is nothing in its set, as is known or
 -- as a search finds
 abbrev pub SeesQuiet : Acting → Home → CpuView → Option Searched → Sight → Type 0
-SeesQuiet x h v known (Runs t) = ⊥
+SeesQuiet x h v known (Runs t expires) = ⊥
 SeesQuiet x h v known (Idles found) =
     (found.set ≡ v.set) × (v.closing ≡ None) × (slice_get (list_in h (Queues x.actor.cpu)) 0 ≡ None) × ((known ≡ Some found) ⊎ FindsNothing x found)
 SeesQuiet x h v known Unclear = ⊤
 
 -- what is known of a search after this look
 abbrev pub noted : Option Searched → Sight → Option Searched
-noted known (Runs t) = known
+noted known (Runs t expires) = known
 noted known (Idles found) = Some found
 noted known Unclear = known

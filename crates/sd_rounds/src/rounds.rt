@@ -4,6 +4,7 @@ ghost use Rattle.std.specs.Prelude.{◌≡◌, ◌++◌, ◌<◌, ◌≤◌, ℕ
 ghost use Rattle.sd_machine.specs.Runs.{final, round, state_at, IsComplete, IsRun, IsSerial};
 ghost use Rattle.sd_hand.specs.OneHome.{StandsInHomes};
 ghost use Rattle.sd_state.specs.Opening.{opening};
+ghost use Rattle.sd_rounds.specs.Floors.{IsFloor};
 ghost use Rattle.sd_rounds.specs.Orders.{orders_of};
 ghost use Rattle.sd_rounds.specs.Rounds.{IsLongRun, IsLongSerial};
 ghost use Rattle.sd_rounds.specs.Searched.{IsSearched};
@@ -27,14 +28,17 @@ pub struct Finished {
 }
 
 /// One round: each processor of the order has a turn. `Full` only where the entries with those of this round
-/// are 2^40 or more. Memory runs out only where the log holds fewer. There is nothing to steal in the set that was searched, before and after.
+/// are 2^40 or more. Memory runs out only where the log holds fewer. No processor's count is below the floor, and there is nothing to steal in the
+/// set that was searched, before and after.
 fn run_round(
     work: &Work,
     world: &mut PlainWorld,
+    floor: &mut u32,
     searched: &mut Option<Searched>,
     order: &[CpuId],
 ) -> Result<(), Stop>
     requires stands { Stands work.now world.old }
+    requires least { IsFloor work.now (told work.now world.old) floor.old }
     requires searched { IsSearched (told work.now world.old) searched.old }
     requires work { world.old.work.now ≡ work.now }
     requires room { length world.old.entries.items ≤ MOST_ENTRIES }
@@ -48,11 +52,11 @@ fn run_round(
         → MOST_ENTRIES ≤ length (world.old.entries.items ++ round work.now (told work.now world.old) (length world.old.entries.items) order.now) }
     ensures long { IsErrOf result Stop.Full → MOST_ENTRIES ≤ length world.new.entries.items }
     ensures memory { IsErrOf result Stop.Memory → length world.new.entries.items < MOST_ENTRIES }
+    ensures least { OnOk result (IsFloor work.now (told work.now world.new) floor.new) }
     ensures searched { IsSearched (told work.now world.new) searched.new }
 {
-    let mut floor = 0;
     for c in order {
-        if let Err(stop) = take_turn(work, world, &mut floor, searched, *c) {
+        if let Err(stop) = take_turn(work, world, floor, searched, *c) {
             return Err(stop);
         }
     }
@@ -91,11 +95,18 @@ pub fn run_rounds(alloc: Global, work: &Work, orders: RoundOrder) -> Result<Fini
     };
     let mut generator = first_generator(orders);
     let mut order = rising(work);
+    let mut floor = 0;
     let mut searched = None;
     'rounds: loop {
         let before = world.entries.len();
         draw_order(work, &mut generator, &mut order);
-        if let Err(stop) = run_round(work, &mut world, &mut searched, order.as_slice()) {
+        if let Err(stop) = run_round(
+            work,
+            &mut world,
+            &mut floor,
+            &mut searched,
+            order.as_slice(),
+        ) {
             return Err(stop);
         }
         if world.entries.len() == before {
@@ -123,10 +134,17 @@ pub fn run_to_end(alloc: Global, work: &Work, world: PlainWorld) -> Result<Finis
     }
     let mut world = world;
     let order = rising(work);
+    let mut floor = 0;
     let mut searched = None;
     'rounds: loop {
         let so_far = world.entries.len();
-        if let Err(stop) = run_round(work, &mut world, &mut searched, order.as_slice()) {
+        if let Err(stop) = run_round(
+            work,
+            &mut world,
+            &mut floor,
+            &mut searched,
+            order.as_slice(),
+        ) {
             return Err(stop);
         }
         if world.entries.len() == so_far {

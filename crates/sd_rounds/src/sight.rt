@@ -15,6 +15,7 @@ ghost use Rattle.sd_hand.specs.Hands.{held};
 ghost use Rattle.sd_rounds.specs.Searched.{IsSearched, all_show_zero};
 ghost use Rattle.sd_rounds.specs.Sights.{FindsNothing, Sees, SeesQuiet, SeesRunner, noted};
 
+use sd_class::class_expires;
 use sd_hand::Acting;
 use sd_homes::{Home, ListId, is_over};
 use sd_record::Record;
@@ -31,8 +32,8 @@ pub struct Searched {
 /// What a processor is about to do, as far as one look tells it.
 #[derive(Clone, Copy)]
 pub enum Sight {
-    /// Its thread runs for a tick.
-    Runs(ThreadId),
+    /// Its thread runs for a tick, which ends its quantum or does not.
+    Runs { t: ThreadId, expires: bool },
     /// Nothing is ready for it, nor on the queue of a neighbour in its set: it is idle for a tick.
     Idles(Searched),
     /// It has to make a plan.
@@ -72,7 +73,10 @@ fn see_runner(work: &Work, view: CpuView, thread: &Record) -> Sight
     if view.user || view.kernel || !is_to_run(work, thread) {
         return Sight::Unclear;
     }
-    Sight::Runs(thread.id)
+    Sight::Runs {
+        t: thread.id,
+        expires: class_expires(&thread.body.class),
+    }
 }
 
 /// No thread on the queue of processor `d` may be stolen.

@@ -5,7 +5,9 @@ ghost use Rattle.std.specs.Prelude.{◌≡◌, ◌++◌, ◌<◌, ◌≤◌, ◌
 ghost use Rattle.sd_types.specs.declared.events.Duty.TheVariants.{Nothing};
 ghost use Rattle.sd_types.specs.declared.events.Event.TheVariants.{Idle as IdleEvent, Tick as TickEvent};
 ghost use Rattle.sd_machine.specs.Events.{allowed, may_tick, next};
-ghost use Rattle.sd_machine.specs.Runs.{serial_hints};
+ghost use Rattle.sd_machine.specs.Runs.{final_state, serial_hints};
+ghost use Rattle.sd_rules.specs.ClassRules.{class_expires};
+ghost use Rattle.sd_state.specs.States.{thread_of};
 ghost use Rattle.sd_types.specs.Limits.{most_processors};
 ghost use Rattle.sd_log.specs.Parts.{zeros_read};
 ghost use Rattle.sd_world.specs.Entries.{CanEnter, Enters};
@@ -13,7 +15,7 @@ ghost use Rattle.sd_world.specs.Plain.{Stands, told};
 ghost use Rattle.sd_rounds.specs.Floors.{IsFloor};
 ghost use Rattle.sd_rounds.specs.Turns.{ActsAlone};
 
-use sd_dispatcher::ticked;
+use sd_dispatcher::ticked_as;
 use sd_hand::{Acting, Actor};
 use sd_log::EntryLog;
 use sd_store::Store;
@@ -43,7 +45,7 @@ pub(crate) fn reserve(work: &Work, world: &mut PlainWorld) -> Result<(), Stop>
     }
 }
 
-/// The thread runs for a tick on the processor that acts, which has no duty.
+/// The thread runs for a tick on the processor that acts, which has no duty. It was seen before whether that ends its quantum.
 #[inline(always)]
 fn enter_tick(
     work: &Work,
@@ -51,14 +53,16 @@ fn enter_tick(
     actors: &mut Vec<Actor>,
     entries: &mut EntryLog,
     t: ThreadId,
+    expires: bool,
 )
     requires can { CanEnter work.now acting.old actors.old.items entries.old.items (TickEvent t) None }
     requires duty { acting.old.actor.duty ≡ Nothing }
+    requires expires { expires ≡ class_expires (thread_of (final_state work.now entries.old.items) t.0).body.class }
     requires room { 0 < entries.old.room }
     ensures { Enters work.now acting.old acting.new actors.old.items actors.new.items entries.old.items entries.new.items (TickEvent t) None }
 {
     let cpu = acting.actor.cpu;
-    match ticked(work, acting, cpu, t) {
+    match ticked_as(work, acting, cpu, t, expires) {
         Ok(()) => {}
         Err(_) => unreachable!(),
     }
@@ -92,10 +96,11 @@ fn enter_idle(
 
 /// The thread runs for a tick, for whose entry the log has room, on the processor that acts, which has no duty.
 #[inline(always)]
-fn make_tick(work: &Work, world: &mut PlainWorld, t: ThreadId)
+fn make_tick(work: &Work, world: &mut PlainWorld, t: ThreadId, expires: bool)
     requires stands { Stands work.now world.old }
     requires duty { world.old.acting.actor.duty ≡ Nothing }
     requires next { next work.now (told work.now world.old) world.old.acting.actor.cpu None ≡ Some (TickEvent t) }
+    requires expires { expires ≡ class_expires (thread_of (told work.now world.old) t.0).body.class }
     requires room { 0 < world.old.entries.room }
     requires few { length world.old.entries.items < MOST_ENTRIES }
     ensures stands { Stands work.now world.new }
@@ -109,6 +114,7 @@ fn make_tick(work: &Work, world: &mut PlainWorld, t: ThreadId)
         &mut world.actors,
         &mut world.entries,
         t,
+        expires,
     );
 }
 
@@ -162,6 +168,7 @@ pub(crate) fn come_tick(
     world: &mut PlainWorld,
     floor: &mut u32,
     t: ThreadId,
+    expires: bool,
 ) -> Result<Alone, Stop>
     requires stands { Stands work.now world.old }
     requires work { world.old.work.now ≡ work.now }
@@ -170,6 +177,7 @@ pub(crate) fn come_tick(
     requires duty { world.old.acting.actor.duty ≡ Nothing }
     requires hints { serial_hints work.now (told work.now world.old) world.old.acting.actor.cpu ≡ None }
     requires event { next work.now (told work.now world.old) world.old.acting.actor.cpu None ≡ allowed work.now (told work.now world.old) world.old.acting.actor.cpu.0 (TickEvent t) }
+    requires expires { expires ≡ class_expires (thread_of (told work.now world.old) t.0).body.class }
     ensures stands { Stands work.now world.new }
     ensures work { world.new.work.now ≡ work.now }
     ensures acts { ActsAlone work.now world.old world.new result }
@@ -181,7 +189,7 @@ pub(crate) fn come_tick(
     if let Err(stop) = reserve(work, world) {
         return Err(stop);
     }
-    make_tick(work, world, t);
+    make_tick(work, world, t, expires);
     Ok(Alone::Turned)
 }
 

@@ -215,7 +215,7 @@ fn act_alone(
     ensures searched { IsSearched (told work.now world.new) searched.new }
 {
     match see(work, &world.acting, searched) {
-        Sight::Runs(t) => come_tick(work, world, floor, t),
+        Sight::Runs { t, expires } => come_tick(work, world, floor, t, expires),
         Sight::Idles(found) => end_search(work, world, floor, found.cpus),
         Sight::Unclear => {
             *searched = None;

@@ -26,6 +26,7 @@ rounds-init c =
       stands = c.in-Ok.ensures.stands;
       work = c.in-Ok.ensures.work;
       room = omega (arith, ap length none);
+      least = λ d there. omega arith;
       searched = tt;
     }
 
@@ -60,6 +61,7 @@ rounds-preserved c =
       stands = e.stands;
       work = e.work;
       room = e.room;
+      least = e.least;
       searched = e.searched;
     }
 

@@ -4,6 +4,7 @@ use Rattle.sd_machine.specs.Runs.{rising}
 use Rattle.sd_world.specs.Plain.{Stands, told}
 use Rattle.sd_rounds.specs.Orders.{orders_of, generator_at}
 use Rattle.sd_rounds.specs.Rounds.{HasRounds}
+use Rattle.sd_rounds.specs.Floors.{IsFloor}
 use Rattle.sd_rounds.specs.Searched.{IsSearched}
 use Rattle.sd_rounds.proofs.rounds.run_rounds.Given as goal
 
@@ -16,6 +17,7 @@ invariant-rounds l = record {
   stands : Stands l.work l.world;
   work : l.world.work.now ≡ l.work;
   room : length l.world.entries.items ≤ MOST_ENTRIES;
+  least : IsFloor l.work (told l.work l.world) l.floor;
   searched : IsSearched (told l.work l.world) l.searched;
 }
 

@@ -2,6 +2,7 @@ use Rattle.std.proofs.Common.{◌≡◌, ◌-◌, ◌≤◌, length}
 use Rattle.sd_world.specs.Plain.{Stands, told}
 use Rattle.sd_world.specs.Worlds.{Begins}
 use Rattle.sd_types.specs.declared.limits.TheConstants.{MOST_ENTRIES}
+use Rattle.sd_rounds.specs.Floors.{IsFloor}
 use Rattle.sd_rounds.specs.Searched.{IsSearched}
 use Rattle.sd_rounds.proofs.rounds.run_to_end.Given as goal
 
@@ -11,6 +12,7 @@ invariant-rounds l = record {
   work : l.world.work.now ≡ l.work;
   begins : Begins l.initial.world.entries.items l.world.entries.items;
   room : length l.world.entries.items ≤ MOST_ENTRIES;
+  least : IsFloor l.work (told l.work l.world) l.floor;
   searched : IsSearched (told l.work l.world) l.searched;
 }
 

@@ -21,7 +21,7 @@ unreachable-requires c =
     let reached : IsReached w (length es) s = record { entries = es; run = can.run; many = refl; ends = refl } in
     let needs = needs_reached w (length es) s x.actor.cpu None (TickEvent c.args.t) reached can.next in
     let lack = c.in-Err.ensures.lack in
-    false≢true (sym lack.1 ∙ can.holds c.in-Err.field-0 (inr (lack.0 (length es) s can.shown (needs.1, needs.0.op))))
+    false≢true (sym lack.1 ∙ can.holds c.in-Err.field-0 (inr (lack.0 (length es) s can.shown (needs.1, needs.0.op, c.requires.expires))))
 
 pub returns : goal.returns
 returns c =
@@ -34,9 +34,9 @@ returns c =
     let reached : IsReached w (length es) s = record { entries = es; run = can.run; many = refl; ends = refl } in
     let needs = needs_reached w (length es) s cpu None (TickEvent c.args.t) reached can.next in
     let duty : (cpu_of s cpu.0).duty ≡ Nothing = sym can.shown.duty ∙ c.requires.duty in
-    let made = c.in-Ok.ensures.value (length es) s can.shown (needs.1, needs.0.op) in
+    let made = c.in-Ok.ensures.value (length es) s can.shown (needs.1, needs.0.op, c.requires.expires) in
     record {
-      shown = subst (IsShown c.ticked.new.x (length es + 1)) (tick_is w s (length es) cpu c.args.t duty) (shown_later c.ticked.new.x (length es) (ticked w s cpu.0 c.args.t.0) made);
+      shown = subst (IsShown c.ticked_as.new.x (length es + 1)) (tick_is w s (length es) cpu c.args.t duty) (shown_later c.ticked_as.new.x (length es) (ticked w s cpu.0 c.args.t.0) made);
       has = c.in-Ok.ensures.has;
       actors = refl;
       entries = c.push_reserved.ensures.items;

@@ -29,6 +29,12 @@ come_tick-requires-clause-event c =
     let s = told w x in
     makes_it w s x.acting.actor.cpu (Tick c.in-Runs.t) (P.cpu_inside w x c.requires.stands) (c.in-Runs.ensures.seen (length x.entries.items) s (P.shown w x c.requires.stands) c.requires.searched).1
 
+pub come_tick-requires-clause-expires : goal.come_tick-requires-clause-expires
+come_tick-requires-clause-expires c =
+    let w = c.args.work.now in
+    let x = c.args.world.now in
+    (c.in-Runs.ensures.seen (length x.entries.items) (told w x) (P.shown w x c.requires.stands) c.requires.searched).2
+
 pub end_search-requires-clause-duty : goal.end_search-requires-clause-duty
 end_search-requires-clause-duty c =
     let w = c.args.work.now in
