@@ -28,6 +28,7 @@ fn end_word(end: End) -> &'static [u8]
 }
 
 /// `word t 59`
+#[inline(always)]
 fn put_thread_number(
     work: &Work,
     word: &[u8],

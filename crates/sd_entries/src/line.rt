@@ -23,6 +23,34 @@ pub(crate) fn put_bytes(bytes: &[u8], line: &mut Line, from: usize) -> usize
     end
 }
 
+/// So many bytes. The number is known where the code is made, so that they are moved at once.
+#[inline(always)]
+fn put_array<const N: usize>(bytes: &[u8], line: &mut Line, from: usize) -> usize
+    requires long { length bytes.now ≡ N }
+    requires room { from + N ≤ ROOM }
+    ensures text { take result line.new ≡ take from line.old ++ bytes.now }
+    ensures end { result ≡ from + length bytes.now }
+{
+    let end = from + N;
+    line[from..end].copy_from_slice(&bytes[..N]);
+    end
+}
+
+/// The bytes of a name, most of which have two to four.
+#[inline(always)]
+pub(crate) fn put_name(name: &[u8], line: &mut Line, from: usize) -> usize
+    requires { from + length name.now ≤ ROOM }
+    ensures text { take result line.new ≡ take from line.old ++ name.now }
+    ensures end { result ≡ from + length name.now }
+{
+    match name.len() {
+        2 => put_array::<2>(name, line, from),
+        3 => put_array::<3>(name, line, from),
+        4 => put_array::<4>(name, line, from),
+        _ => put_bytes(name, line, from),
+    }
+}
+
 /// A byte.
 #[inline(always)]
 pub(crate) fn put_byte(byte: u8, line: &mut Line, from: usize) -> usize

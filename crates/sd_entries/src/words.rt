@@ -4,7 +4,7 @@ ghost use Rattle.std.specs.Prelude.{◌≡◌, ◌+◌, ◌≤◌, ◌++◌, len
 ghost use Rattle.sd_state.specs.Texts.{chan_name, lock_name, thread_name};
 ghost use Rattle.sd_machine.specs.Texts.{cpu_text, put_text, put_text_if, woken_text, word_chan, word_lock, word_thread};
 
-use crate::line::{Line, ROOM, put_bytes, put_number, put_small};
+use crate::line::{Line, ROOM, put_bytes, put_name, put_number, put_small};
 use crate::names::{chan_name, lock_name, thread_name};
 use sd_types::{ChanId, CpuId, LockId, Put, ThreadId, Work};
 
@@ -39,13 +39,14 @@ pub(crate) fn put_cpu(c: CpuId, line: &mut Line, from: usize) -> usize
 }
 
 /// ` t`
+#[inline(always)]
 pub(crate) fn put_space_thread(work: &Work, t: ThreadId, line: &mut Line, from: usize) -> usize
     requires { from + 17 ≤ ROOM }
     ensures text { take result line.new ≡ take from line.old ++ (codes " " ++ thread_name work.now t.0) }
     ensures within { result ≤ from + 17 }
 {
     let from = put_bytes(b" ", line, from);
-    put_bytes(thread_name(work, t.0 as usize), line, from)
+    put_name(thread_name(work, t.0 as usize), line, from)
 }
 
 /// ` l`
@@ -69,6 +70,7 @@ pub(crate) fn put_space_chan(work: &Work, k: ChanId, line: &mut Line, from: usiz
 }
 
 /// `word t`
+#[inline(always)]
 pub(crate) fn put_word_thread(
     work: &Work,
     word: &[u8],
