@@ -76,6 +76,18 @@ fn rt_class(pri: u8) -> ClassState
     })
 }
 
+/// The base of a new record is its effective priority and its rank too.
+fn has_base(alloc: Global, class: ClassState, base: u8) -> Result<bool, AllocError> {
+    let thread = holder(alloc, class)?;
+    Ok(
+        thread.base() == base
+            && thread.effective() == base
+            && thread.rank() == base
+            && thread.id() == 7
+            && thread.key() == -5,
+    )
+}
+
 #[test]
 fn bases(rt: HostRuntime) -> Result<(), Fail> {
     let cases = [
@@ -94,45 +106,57 @@ fn bases(rt: HostRuntime) -> Result<(), Fail> {
         (rt_class(0), 100),
         (rt_class(59), 159),
     ];
-    for (class, base) in cases {
-        let record = holder(rt.alloc(), class)?;
-        assert_eq!(rt; record.base(), base);
-        assert_eq!(rt; record.effective(), base);
-        assert_eq!(rt; record.rank(), base);
-        assert_eq!(rt; record.id(), 7);
-        assert_eq!(rt; record.key(), -5);
+    for case in &cases {
+        let (class, base) = case;
+        let is_so = has_base(rt.alloc(), *class, *base)?;
+        assert!(rt; is_so, "base {base}");
     }
     Ok(())
 }
 
+/// The effective priority after each of these steps, of a thread that holds the locks 1, 2 and 3.
+fn inheriting(thread: &mut Record) -> [u8; 5]
+    requires { thread.old.body.held.items ≡ record { 0 = 1 } ∷ record { 0 = 2 } ∷ record { 0 = 3 } ∷ [] }
+    ensures { thread.new.body.held.items ≡ thread.old.body.held.items }
+{
+    thread.inherit(LockId(1), 20);
+    let first = thread.effective();
+    thread.inherit(LockId(2), 40);
+    let second = thread.effective();
+    thread.inherit(LockId(3), 35);
+    let third = thread.effective();
+    // instead of the number that there was, also of a greater one
+    thread.inherit(LockId(2), 30);
+    let replaced = thread.effective();
+    thread.inherit(LockId(1), 159);
+    [first, second, third, replaced, thread.effective()]
+}
+
+fn waiving(thread: &mut Record) -> [u8; 4] {
+    thread.waive(LockId(1));
+    let first = thread.effective();
+    // nothing is removed where there is no number
+    thread.waive(LockId(1));
+    thread.waive(LockId(9));
+    let same = thread.effective();
+    thread.waive(LockId(3));
+    let third = thread.effective();
+    thread.waive(LockId(2));
+    [first, same, third, thread.effective()]
+}
+
 #[test]
 fn inheritance(rt: HostRuntime) -> Result<(), Fail> {
-    let mut record = holder(rt.alloc(), ts(29, 0))?;
-    record.inherit(LockId(1), 20);
-    assert_eq!(rt; record.effective(), 29);
-    record.inherit(LockId(2), 40);
-    assert_eq!(rt; record.effective(), 40);
-    record.inherit(LockId(3), 35);
-    assert_eq!(rt; record.effective(), 40);
-    // instead of the number that there was, also of a greater one
-    record.inherit(LockId(2), 30);
-    assert_eq!(rt; record.effective(), 35);
-    assert_eq!(rt; record.body.willed.len(), 3);
-    record.inherit(LockId(1), 159);
-    assert_eq!(rt; record.effective(), 159);
-    assert_eq!(rt; record.base(), 29);
-    record.waive(LockId(1));
-    assert_eq!(rt; record.effective(), 35);
-    // nothing is removed where there is no number
-    record.waive(LockId(1));
-    record.waive(LockId(9));
-    assert_eq!(rt; record.effective(), 35);
-    assert_eq!(rt; record.body.willed.len(), 2);
-    record.waive(LockId(3));
-    assert_eq!(rt; record.effective(), 30);
-    record.waive(LockId(2));
-    assert_eq!(rt; record.effective(), 29);
-    assert_eq!(rt; record.body.held.len(), 3);
+    let mut thread = holder(rt.alloc(), ts(29, 0))?;
+    let inherited = inheriting(&mut thread);
+    let numbers = thread.body.willed.len();
+    let base = thread.base();
+    let waived = waiving(&mut thread);
+    let held = thread.body.held.len();
+    assert_eq!(rt; inherited.as_slice(), &[29, 40, 40, 35, 159][..]);
+    assert!(rt; numbers == 3 && base == 29);
+    assert_eq!(rt; waived.as_slice(), &[35, 35, 30, 29][..]);
+    assert_eq!(rt; held, 3);
     Ok(())
 }
 
@@ -143,16 +167,13 @@ fn sent<T: Send>(value: T) -> T {
 
 #[test]
 fn another_thread_may_have_a_record(rt: HostRuntime) -> Result<(), Fail> {
-    let record = sent(holder(rt.alloc(), ts(29, 0))?);
-    assert_eq!(rt; record.id(), 7);
+    let thread = sent(holder(rt.alloc(), ts(29, 0))?);
+    assert_eq!(rt; thread.id(), 7);
     Ok(())
 }
 
-#[test]
-fn priorities_that_would_be(rt: HostRuntime) -> Result<(), Fail> {
-    let mut record = holder(rt.alloc(), ts(29, 0))?;
-    record.inherit(LockId(1), 40);
-    record.inherit(LockId(2), 20);
+/// The effective priority that the thread would have in each of these class states.
+fn would_be_in(thread: &Record) -> bool {
     // the class state, and the effective priority in it
     let classes = [
         (ts(10, 0), 40),
@@ -161,9 +182,17 @@ fn priorities_that_would_be(rt: HostRuntime) -> Result<(), Fail> {
         (sys(60), 60),
         (rt_class(3), 103),
     ];
-    for (class, effective) in classes {
-        assert_eq!(rt; record.effective_as(&class), effective);
+    for case in &classes {
+        let (class, effective) = case;
+        if thread.effective_as(class) != *effective {
+            return false;
+        }
     }
+    true
+}
+
+/// The effective priority that the thread would have with each of these numbers.
+fn would_be_with(thread: &Record) -> bool {
     // the lock, its number, and the effective priority with it
     let numbers = [
         (1, Some(50), 50),
@@ -178,20 +207,28 @@ fn priorities_that_would_be(rt: HostRuntime) -> Result<(), Fail> {
         (9, Some(120), 120),
         (9, None, 40),
     ];
-    for (lock, number, effective) in numbers {
-        assert_eq!(rt;
-            record.effective_with(LockId(lock), number),
-            effective,
-            "lock {lock}"
-        );
+    for case in &numbers {
+        let (lock, number, effective) = case;
+        if thread.effective_with(LockId(*lock), *number) != *effective {
+            return false;
+        }
     }
-    assert_eq!(rt; record.effective(), 40);
+    true
+}
+
+#[test]
+fn priorities_that_would_be(rt: HostRuntime) -> Result<(), Fail> {
+    let mut thread = holder(rt.alloc(), ts(29, 0))?;
+    thread.inherit(LockId(1), 40);
+    thread.inherit(LockId(2), 20);
+    assert!(rt; would_be_in(&thread) && would_be_with(&thread));
+    assert_eq!(rt; thread.effective(), 40);
     Ok(())
 }
 
 /// Whether the record holds exactly these locks, in this order.
-fn holds(record: &Record, locks: &[u16]) -> bool {
-    let held = record.body.held.as_slice();
+fn holds(thread: &Record, locks: &[u16]) -> bool {
+    let held = thread.body.held.as_slice();
     held.len() == locks.len()
         && held
             .iter()
@@ -199,41 +236,66 @@ fn holds(record: &Record, locks: &[u16]) -> bool {
             .all(|(lock, number)| lock.0 == *number)
 }
 
+/// A thread that holds the locks 1, 2 and 3 takes another one, and inherits through it.
+fn takes_one_more(thread: &mut Record) -> bool
+    requires { thread.old.body.held.items ≡ record { 0 = 1 } ∷ record { 0 = 2 } ∷ record { 0 = 3 } ∷ [] }
+{
+    thread.inherit(LockId(1), 40);
+    thread.inherit(LockId(3), 50);
+    thread.take_lock(LockId(0));
+    let is_taken = holds(thread, &[1, 2, 3, 0]);
+    thread.inherit(LockId(0), 90);
+    is_taken && thread.effective() == 90
+}
+
+/// The number goes with the lock, and the others keep their order.
+fn releases(thread: &mut Record) -> bool {
+    thread.release_lock(LockId(3));
+    let three = holds(thread, &[1, 2, 0]) && thread.effective() == 90;
+    thread.release_lock(LockId(0));
+    let two = holds(thread, &[1, 2]) && thread.effective() == 40;
+    // one without a number, and one that is not held
+    thread.release_lock(LockId(2));
+    thread.release_lock(LockId(9));
+    let one = holds(thread, &[1]) && thread.effective() == 40;
+    thread.release_lock(LockId(1));
+    three && two && one && holds(thread, &[]) && thread.effective() == 29
+}
+
 #[test]
 fn locks(rt: HostRuntime) -> Result<(), Fail> {
-    let mut record = holder(rt.alloc(), ts(29, 0))?;
-    record.inherit(LockId(1), 40);
-    record.inherit(LockId(3), 50);
-    record.take_lock(LockId(0));
-    assert!(rt; holds(&record, &[1, 2, 3, 0]));
-    record.inherit(LockId(0), 90);
-    assert_eq!(rt; record.effective(), 90);
-    // the number goes with the lock, and the others keep their order
-    record.release_lock(LockId(3));
-    assert!(rt; holds(&record, &[1, 2, 0]));
-    assert_eq!(rt; record.effective(), 90);
-    record.release_lock(LockId(0));
-    assert!(rt; holds(&record, &[1, 2]));
-    assert_eq!(rt; record.effective(), 40);
-    // one without a number, and one that is not held
-    record.release_lock(LockId(2));
-    record.release_lock(LockId(9));
-    assert!(rt; holds(&record, &[1]));
-    assert_eq!(rt; record.effective(), 40);
-    record.release_lock(LockId(1));
-    assert!(rt; holds(&record, &[]));
-    assert_eq!(rt; record.effective(), 29);
+    let mut thread = holder(rt.alloc(), ts(29, 0))?;
+    let is_taken = takes_one_more(&mut thread);
+    let is_released = releases(&mut thread);
+    assert!(rt; is_taken && is_released);
     Ok(())
+}
+
+/// Puts a new record of this class into the queue.
+fn queue_up(
+    alloc: Global,
+    queue: &mut BoxQueue<Record>,
+    class: ClassState,
+) -> Result<(), AllocError> {
+    queue.insert_ranked(Node::node(alloc, holder(alloc, class)?)?);
+    Ok(())
+}
+
+/// The base of the record at this place.
+fn base_at(queue: &BoxQueue<Record>, index: usize) -> Option<u8> {
+    match queue.item(index) {
+        Some(thread) => Some(thread.base()),
+        None => None,
+    }
 }
 
 #[test]
 fn a_queue_of_records(rt: HostRuntime) -> Result<(), Fail> {
     let mut queue = BoxQueue::new();
-    queue.insert_ranked(Node::node(rt.alloc(), holder(rt.alloc(), fx(10))?)?);
-    queue.insert_ranked(Node::node(rt.alloc(), holder(rt.alloc(), rt_class(0))?)?);
-    queue.insert_ranked(Node::node(rt.alloc(), holder(rt.alloc(), fx(30))?)?);
-    for (index, base) in [(0, 100), (1, 30), (2, 10)] {
-        assert_eq!(rt; queue.item(index).map(|record| record.base()), Some(base));
-    }
+    queue_up(rt.alloc(), &mut queue, fx(10))?;
+    queue_up(rt.alloc(), &mut queue, rt_class(0))?;
+    queue_up(rt.alloc(), &mut queue, fx(30))?;
+    let bases = [base_at(&queue, 0), base_at(&queue, 1), base_at(&queue, 2)];
+    assert_eq!(rt; bases.as_slice(), &[Some(100), Some(30), Some(10)][..]);
     Ok(())
 }
