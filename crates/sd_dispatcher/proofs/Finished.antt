@@ -3,7 +3,9 @@ use Rattle.std.proofs.Common.{◌≡◌, ℕ, List, Option, refl, sym, ap, ◌�
 use Rattle.std.specs.Prelude.{slice_set}
 use Rattle.sd_types.specs.declared.numbers.CpuId.{CpuId}
 use Rattle.sd_types.specs.declared.numbers.ThreadId.{ThreadId}
+use Rattle.sd_types.specs.declared.bodies.ThreadBody.{ThreadBody}
 use Rattle.sd_types.specs.declared.works.Work.{Work}
+use Rattle.sd_types.specs.Priorities.{eff}
 use Rattle.sd_state.specs.declared.states.Place.{Place}
 use Rattle.sd_state.specs.declared.states.Place.TheVariants.{Running}
 use Rattle.sd_state.specs.declared.states.State.{State}
@@ -29,11 +31,12 @@ pub runs_finished : (w : Work) (s : State) (t : ThreadId) (c : CpuId) → (threa
 unfolding finish_op
 runs_finished w s t c runs = kept_place s t.0 t.0 (record (thread_of s t.0) { body = op_over (script_of w t.0) (thread_of s t.0).body }) refl ∙ runs
 
--- a thread that leaves for its queue by its priority and its binding
-pub left_yielded : (w : Work) (s : State) (n : ℕ) (c : CpuId) (t p : ℕ) (bound : Option CpuId) → p ≡ eff_of s t → bound ≡ (thread_of s t).body.bound
-    → leave (finish_op w s t) c.0 t (queue_for w t c (back_key n) p bound) ≡ yielded w s n c t
+-- a thread that leaves for its queue by what its body was before
+pub left_yielded : (w : Work) (s : State) (n : ℕ) (c : CpuId) (t : ℕ) (b : ThreadBody) (p : ℕ) (bound : Option CpuId)
+    → b ≡ (thread_of s t).body → p ≡ eff b → bound ≡ b.bound → leave (finish_op w s t) c.0 t (queue_for w t c (back_key n) p bound) ≡ yielded w s n c t
 unfolding yielded
-left_yielded w s n c t p bound e f =
+left_yielded w s n c t b p bound is e f =
     let r = finish_op w s t in
-    ap (λ (q : ℕ). leave r c.0 t (queue_for w t c (back_key n) q bound)) e ∙ ap (λ (b : Option CpuId). leave r c.0 t (queue_for w t c (back_key n) (eff_of s t) b)) f
+    ap (λ (q : ℕ). leave r c.0 t (queue_for w t c (back_key n) q bound)) e ∙ ap (λ (o : Option CpuId). leave r c.0 t (queue_for w t c (back_key n) (eff b) o)) f
+    ∙ ap (λ (x : ThreadBody). leave r c.0 t (queue_for w t c (back_key n) (eff x) x.bound)) is
     ∙ finished_left w s c.0 t (queue_for w t c (back_key n) (eff_of s t) (thread_of s t).body.bound)

@@ -10,9 +10,10 @@ use Rattle.sd_types.specs.declared.classes.ClassState.{ClassState}
 use Rattle.sd_types.specs.declared.events.End.{End}
 use Rattle.sd_types.specs.declared.scripts.Op.{Op}
 use Rattle.sd_types.specs.declared.works.Work.{Work}
+use Rattle.sd_types.specs.Priorities.{eff}
 use Rattle.sd_state.specs.declared.states.Place.TheVariants.{Running}
 use Rattle.sd_state.specs.declared.states.State.{State}
-use Rattle.sd_state.specs.States.{thread_of, cpu_of, eff_of}
+use Rattle.sd_state.specs.States.{thread_of, cpu_of}
 use Rattle.sd_state.specs.Operations.{ran, script_of}
 use Rattle.sd_rules.specs.ClassRules.{class_expires, class_requeue}
 use Rattle.sd_machine.specs.Bodies.{ticked_class}
@@ -84,10 +85,13 @@ pub missed : {A L : Type 0} (r : Result A L) (part : L → Part) (before after :
 missed (Ok a) part before after P Q e f lack = tt
 missed (Err q) part before after P Q e f lack = (f q lack.0, sym (ap (λ (has : Part → Bool). has (part q)) e) ∙ lack.1)
 
--- a thread that leaves for its queue by its priority and its binding
-pub left_preempted : (w : Work) (s : State) (n : ℕ) (c : CpuId) (t : ℕ) (end : End) (p : ℕ) (bound : Option CpuId) → p ≡ eff_of s t → bound ≡ (thread_of s t).body.bound
-    → leave (set_class s t (class_requeue (thread_of s t).body.back (thread_of s t).body.class)) c.0 t (queue_for w t c (key_at n end) p bound) ≡ preempted w s n c t end
+-- a thread that leaves for its queue by what its body was before
+pub left_preempted : (w : Work) (s : State) (n : ℕ) (c : CpuId) (t : ℕ) (end : End) (b : ThreadBody) (p : ℕ) (bound : Option CpuId) (class : ClassState)
+    → b ≡ (thread_of s t).body → p ≡ eff b → bound ≡ b.bound → class ≡ class_requeue b.back b.class
+    → leave (set_class s t class) c.0 t (queue_for w t c (key_at n end) p bound) ≡ preempted w s n c t end
 unfolding preempted
-left_preempted w s n c t end p bound e f =
-    let r = set_class s t (class_requeue (thread_of s t).body.back (thread_of s t).body.class) in
-    ap (λ (q : ℕ). leave r c.0 t (queue_for w t c (key_at n end) q bound)) e ∙ ap (λ (b : Option CpuId). leave r c.0 t (queue_for w t c (key_at n end) (eff_of s t) b)) f
+left_preempted w s n c t end b p bound class is e f g =
+    ap (λ (k : ClassState). leave (set_class s t k) c.0 t (queue_for w t c (key_at n end) p bound)) g
+    ∙ ap (λ (q : ℕ). leave (set_class s t (class_requeue b.back b.class)) c.0 t (queue_for w t c (key_at n end) q bound)) e
+    ∙ ap (λ (o : Option CpuId). leave (set_class s t (class_requeue b.back b.class)) c.0 t (queue_for w t c (key_at n end) (eff b) o)) f
+    ∙ ap (λ (x : ThreadBody). leave (set_class s t (class_requeue x.back x.class)) c.0 t (queue_for w t c (key_at n end) (eff x) x.bound)) is

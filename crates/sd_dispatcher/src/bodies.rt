@@ -164,9 +164,9 @@ pub fn is_privileged(work: &Work, t: ThreadId) -> bool
     }
 }
 
-/// The operation of thread `t` with a number, None after the last.
+/// The operation at which thread `t` of a body stands, None after the last. It is one of its script, whatever the store shows.
 #[inline(always)]
-fn op_at(work: &Work, t: ThreadId, body: Option<&ThreadBody>) -> Option<Op>
+pub fn op_in(work: &Work, t: ThreadId, body: Option<&ThreadBody>) -> Option<Op>
     ensures { result ≡ op_of work.now t.0 (unwrap_or (option_copied body.entry) no_body) }
 {
     let op = match body {
@@ -187,5 +187,5 @@ pub fn op_of<L: Look>(work: &Work, x: &L, t: ThreadId) -> Result<Option<Op>, L::
     ensures own { IfOk result (λ op. (b : ThreadBodyOf) × (op ≡ op_of work.now t.0 b)) }
 {
     let body = x.body(t)?;
-    Ok(op_at(work, t, body))
+    Ok(op_in(work, t, body))
 }

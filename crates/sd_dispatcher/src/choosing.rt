@@ -2,18 +2,21 @@
 //!
 //! Source: Solaris Internals (cpu_choose, disp_getwork); hints, and the three ticks of warmth, are this project's own.
 
-ghost use Rattle.std.specs.Prelude.{◌≡◌, ◌≤◌, ◌==◌, ◌∷◌, [], IfOk, filter, length, not, option_copied, replicate, unwrap_or, ℕ};
+ghost use Rattle.std.specs.Prelude.{◌≡◌, ◌≤◌, ◌==◌, ◌∷◌, [], Bool, IfOk, None, false, filter, length, not, option_copied, option_map, replicate, true, unwrap_or, ℕ};
 ghost use Rattle.sd_rules.specs.Choices.{is_among};
-ghost use Rattle.sd_rules.specs.ChoiceFunctions.{chosen};
-ghost use Rattle.sd_machine.specs.Choosing.{choice, cpus_for, cpus_or_bound, is_recent, is_settled, is_warm, neighbours, numbers_read, put_chosen, put_on, victim_for};
+ghost use Rattle.sd_rules.specs.ChoiceFunctions.{chosen, victim_of};
+ghost use Rattle.sd_machine.specs.Choosing.{cpus_for, cpus_or_bound, is_recent, is_settled, is_warm, neighbours, numbers_read, put_chosen, put_on, victim_for};
+ghost use Rattle.sd_machine.specs.Hints.{hints_fit, read_of, reads_for};
 ghost use Rattle.sd_state.specs.declared.states.State.{State};
 ghost use Rattle.sd_state.specs.States.{cpu_of, no_body, thread_of, set_of};
 ghost use Rattle.sd_dispatcher.specs.Allowed.{allowed};
+ghost use Rattle.sd_dispatcher.specs.Reading.{parts};
 ghost use Rattle.sd_store.specs.Parts.{actor_part, cpu_part, ready_parts, real_time_part, thread_part};
 ghost use Rattle.sd_store.specs.Words.{Lacks, TellsIf};
 ghost use Rattle.sd_types.specs.Limits.{most_processors};
 
-use crate::bodies::{bound_in, bound_of};
+use crate::bodies::bound_in;
+use crate::reading::Reading;
 use arrayvec::ArrayVec;
 use sd_rules::{choose, victim};
 use sd_store::{Look, set_of};
@@ -94,11 +97,12 @@ fn is_recent(count: u32, left_at: Option<u32>) -> bool
     }
 }
 
-/// What a choice for a thread goes by: the processors on which it may run, the one on which it ran last, and whether it left that one a short
-/// time ago.
+/// What a choice for a thread goes by: the processors on which it may run, the one to which it is bound, the one on which it ran last, and
+/// whether it left that one a short time ago.
 #[derive(Clone, Copy)]
 pub(crate) struct Choices<'a> {
     pub cpus: Allowed<'a>,
+    pub bound: Option<CpuId>,
     pub last: CpuId,
     pub warm: bool,
 }
@@ -112,7 +116,7 @@ pub(crate) fn choices_of<'a, L: Look>(
     t: ThreadId,
 ) -> Result<Choices<'a>, L::Lack>
     ensures few { IfOk result (λ r. length (allowed r.cpus) ≤ most_processors) }
-    ensures value { IfOk result (λ r. (n : ℕ) (s : State) → L.shows x.now n s → (allowed r.cpus ≡ cpus_for work.now s t.0) × (r.last ≡ (thread_of s t.0).body.last) × (r.warm ≡ is_warm s c.0 t.0)) }
+    ensures value { IfOk result (λ r. (n : ℕ) (s : State) → L.shows x.now n s → (allowed r.cpus ≡ cpus_for work.now s t.0) × (r.bound ≡ (thread_of s t.0).body.bound) × (r.last ≡ (thread_of s t.0).body.last) × (r.warm ≡ is_warm s c.0 t.0)) }
     ensures lack { Lacks L.part (L.shows x.now) (L.has x.now) result (λ s. actor_part c ∷ thread_part t ∷ real_time_part (set_of work.now t.0) ∷ []) }
 {
     let body = x.body(t)?;
@@ -121,7 +125,12 @@ pub(crate) fn choices_of<'a, L: Look>(
     let bound = bound_in(body);
     let cpus = cpus_or_bound(x.open_cpus(set_of(work, t))?, bound);
     let warm = is_recent(x.ticks(c)?, left_at);
-    Ok(Choices { cpus, last, warm })
+    Ok(Choices {
+        cpus,
+        bound,
+        last,
+        warm,
+    })
 }
 
 fn is_among(cpu: CpuId, cpus: &[CpuId]) -> bool
@@ -175,23 +184,6 @@ fn chosen(cpus: &[CpuId], hints: &Option<Hints>, last: CpuId, warm: bool) -> Cpu
     }
 }
 
-/// The processor that processor `c` chooses for thread `t`: its last one while it is warm, else one with the least
-/// number; ties go to the last processor, then to the least number.
-#[tactic(auto, unfolding(sd_machine::specs::Choosing::choice))]
-fn choice<L: Look>(
-    work: &Work,
-    x: &L,
-    c: CpuId,
-    t: ThreadId,
-    hints: &Option<Hints>,
-) -> Result<CpuId, L::Lack>
-    ensures value { TellsIf (L.shows x.now) result (λ s. length (numbers_read (cpus_for work.now s t.0) hints.now) ≡ length (cpus_for work.now s t.0)) (λ s. choice work.now s c.0 t.0 hints.now) }
-    ensures lack { Lacks L.part (L.shows x.now) (L.has x.now) result (λ s. actor_part c ∷ thread_part t ∷ real_time_part (set_of work.now t.0) ∷ []) }
-{
-    let choices = choices_of(work, x, c, t)?;
-    Ok(chosen(choices.cpus.as_slice(), hints, choices.last, choices.warm))
-}
-
 /// The queue of a thread of priority `p` for which processor `x` was chosen.
 fn put_on(p: u8, bound: Option<CpuId>, x: CpuId) -> Put
     ensures { result ≡ put_on p bound x }
@@ -205,7 +197,7 @@ fn put_on(p: u8, bound: Option<CpuId>, x: CpuId) -> Put
 
 /// Where processor `c` puts thread `t`, which has the effective priority `p` then, where a number was read for each
 /// processor on which the thread may run, or none was.
-#[tactic(auto, unfolding(sd_machine::specs::Choosing::put_chosen))]
+#[tactic(auto, unfolding(sd_machine::specs::Choosing::choice, sd_machine::specs::Choosing::put_chosen))]
 pub fn put_chosen<L: Look>(
     work: &Work,
     x: &L,
@@ -217,8 +209,69 @@ pub fn put_chosen<L: Look>(
     ensures value { TellsIf (L.shows x.now) result (λ s. length (numbers_read (cpus_for work.now s t.0) hints.now) ≡ length (cpus_for work.now s t.0)) (λ s. put_chosen work.now s c.0 t.0 p hints.now) }
     ensures lack { Lacks L.part (L.shows x.now) (L.has x.now) result (λ s. actor_part c ∷ thread_part t ∷ real_time_part (set_of work.now t.0) ∷ []) }
 {
-    let bound = bound_of(x, t)?;
-    Ok(put_on(p, bound, choice(work, x, c, t, hints)?))
+    let choices = choices_of(work, x, c, t)?;
+    let cpu = chosen(choices.cpus.as_slice(), hints, choices.last, choices.warm);
+    Ok(put_on(p, choices.bound, cpu))
+}
+
+/// The processor of `cpus` to which a thread goes where that is settled before anything is read: the only one, and else the one on which it ran
+/// last, and which it left a short time ago.
+#[tactic(auto, using(crate::proofs::ReadLemmas::last_chosen))]
+fn settled(cpus: &[CpuId], last: CpuId) -> CpuId
+    ensures { (warm : Bool) → is_settled cpus.now last warm ≡ true → result ≡ chosen cpus.now (numbers_read cpus.now None) last warm }
+{
+    if cpus.len() == 1 { cpus[0] } else { last }
+}
+
+/// Where thread `t` of priority `p` is put, where its choice is settled before anything is read.
+#[tactic(auto, unfolding(sd_machine::specs::Choosing::choice, sd_machine::specs::Choosing::cpus_for, sd_machine::specs::Choosing::put_chosen))]
+fn put_settled<L: Look>(work: &Work, x: &L, t: ThreadId, p: u8) -> Result<Put, L::Lack>
+    ensures value { IfOk result (λ r. (n : ℕ) (s : State) (c : ℕ) → L.shows x.now n s → is_settled (cpus_for work.now s t.0) (thread_of s t.0).body.last (is_warm s c t.0) ≡ true → r ≡ put_chosen work.now s c t.0 p None) }
+    ensures lack { Lacks L.part (L.shows x.now) (L.has x.now) result (λ s. thread_part t ∷ real_time_part (set_of work.now t.0) ∷ []) }
+{
+    let body = x.body(t)?;
+    let last = last_in(body);
+    let bound = bound_in(body);
+    let cpus = cpus_or_bound(x.open_cpus(set_of(work, t))?, bound);
+    Ok(put_on(p, bound, settled(cpus.as_slice(), last)))
+}
+
+/// Where thread `t` of priority `p` is put, by a number for each of the processors on which it may run. It left its last one a while ago.
+fn put_by_numbers<L: Look>(
+    x: &L,
+    t: ThreadId,
+    p: u8,
+    cpus: &[CpuId],
+    hints: &Option<Hints>,
+) -> Result<Put, L::Lack>
+    requires { length cpus.now ≤ most_processors }
+    ensures value { TellsIf (L.shows x.now) result (λ s. length (numbers_read cpus.now hints.now) ≡ length cpus.now) (λ s. put_on p (thread_of s t.0).body.bound (chosen cpus.now (numbers_read cpus.now hints.now) (thread_of s t.0).body.last false)) }
+    ensures lack { Lacks L.part (L.shows x.now) (L.has x.now) result (λ s. thread_part t ∷ []) }
+{
+    let body = x.body(t)?;
+    let last = last_in(body);
+    let bound = bound_in(body);
+    Ok(put_on(p, bound, chosen(cpus, hints, last, false)))
+}
+
+/// Where processor `c` puts thread `t`, which has the effective priority `p` then, by what was found that it reads for this and by the numbers
+/// that it read. What it reads tells whether the choice is settled, and the processors on which the thread may run where it is not.
+pub fn put_read<L: Look>(
+    work: &Work,
+    x: &L,
+    c: CpuId,
+    t: ThreadId,
+    p: u8,
+    reading: &Option<Reading>,
+    hints: &Option<Hints>,
+) -> Result<Put, L::Lack>
+    ensures value { TellsIf (L.shows x.now) result (λ s. (option_map parts reading.now ≡ reads_for work.now s c.0 t.0) × (hints_fit (reads_for work.now s c.0 t.0) hints.now ≡ true)) (λ s. put_chosen work.now s c.0 t.0 p hints.now) }
+    ensures lack { Lacks L.part (L.shows x.now) (L.has x.now) result (λ s. actor_part c ∷ thread_part t ∷ real_time_part (set_of work.now t.0) ∷ []) }
+{
+    match reading {
+        None => put_settled(work, x, t, p),
+        Some(reading) => put_by_numbers(x, t, p, reading.cpus.as_slice(), hints),
+    }
 }
 
 /// The processors of a list without processor `c`.
@@ -245,6 +298,20 @@ pub fn neighbours<L: Look>(x: &L, c: CpuId) -> Result<ArrayVec<CpuId, 64>, L::La
     Ok(others(c, x.open_cpus(set)?))
 }
 
+/// The processor of `cpus` with the greatest number, the least of several, none where all are 0.
+fn victim_among(cpus: &[CpuId], hints: &Option<Hints>) -> Option<CpuId>
+    requires { length cpus.now ≤ most_processors }
+    ensures { length (numbers_read cpus.now hints.now) ≡ length cpus.now → result ≡ victim_of cpus.now (numbers_read cpus.now hints.now) }
+{
+    let nothing = [0; 64];
+    let numbers = numbers_read(cpus, hints, &nothing);
+    if numbers.len() == cpus.len() {
+        victim(cpus, numbers)
+    } else {
+        None
+    }
+}
+
 /// The processor from which processor `c` would steal a thread: that with the greatest number, the least of several,
 /// none where all are 0; where a number was read for each neighbour, or none was.
 #[tactic(auto, unfolding(sd_machine::specs::Choosing::victim_for))]
@@ -253,11 +320,15 @@ pub fn victim_for<L: Look>(x: &L, c: CpuId, hints: &Option<Hints>) -> Result<Opt
     ensures lack { Lacks L.part (L.shows x.now) (L.has x.now) result (λ s. ready_parts s c) }
 {
     let cpus = neighbours(x, c)?;
-    let nothing = [0; 64];
-    let numbers = numbers_read(cpus.as_slice(), hints, &nothing);
-    if numbers.len() == cpus.len() {
-        Ok(victim(cpus.as_slice(), numbers))
-    } else {
-        Ok(None)
+    Ok(victim_among(cpus.as_slice(), hints))
+}
+
+/// The same by what was found that processor `c` reads for its search: the list of its neighbours, where it has any.
+pub fn victim_read(reading: &Option<Reading>, hints: &Option<Hints>) -> Option<CpuId>
+    ensures { (s : State) (c : ℕ) → option_map parts reading.now ≡ read_of (neighbours s c) → hints_fit (read_of (neighbours s c)) hints.now ≡ true → result ≡ victim_for s c hints.now }
+{
+    match reading {
+        None => None,
+        Some(reading) => victim_among(reading.cpus.as_slice(), hints),
     }
 }

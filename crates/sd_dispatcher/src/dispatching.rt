@@ -74,6 +74,18 @@ fn leave_event(c: CpuId, t: ThreadId, body: Option<&ThreadBody>) -> Event
     }
 }
 
+/// The running thread `t` of a body leaves processor `c` where it has to.
+#[inline(always)]
+pub fn leave_in(view: &CpuView, c: CpuId, t: ThreadId, body: Option<&ThreadBody>) -> Option<Plan>
+    ensures { (x : CpuState) → view.now ≡ view_of x → result ≡ leave_plan c.0 x t.0 (unwrap_or (option_copied body.entry) no_body) }
+{
+    if must_leave(view, body) {
+        Some(Plan::Make(leave_event(c, t, body)))
+    } else {
+        None
+    }
+}
+
 /// The running thread `t` leaves processor `c` where it has to.
 pub fn leave_plan<L: Look>(x: &L, c: CpuId, t: ThreadId) -> Result<Option<Plan>, L::Lack>
     ensures value { Tells (L.shows x.now) result (λ s. leave_plan c.0 (cpu_of s c.0) t.0 (thread_of s t.0).body) }
@@ -81,11 +93,7 @@ pub fn leave_plan<L: Look>(x: &L, c: CpuId, t: ThreadId) -> Result<Option<Plan>,
 {
     let view = x.cpu(c)?;
     let body = x.body(t)?;
-    if must_leave(&view, body) {
-        Ok(Some(Plan::Make(leave_event(c, t, body))))
-    } else {
-        Ok(None)
-    }
+    Ok(leave_in(&view, c, t, body))
 }
 
 /// The best that is ready is dispatched; where nothing is, a search begins.

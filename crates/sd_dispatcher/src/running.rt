@@ -4,18 +4,18 @@
 
 ghost use Rattle.std.specs.Prelude.{◌≡◌, ◌<◌, ◌^◌, [], ◌∷◌, ⊤, option_copied, true, unwrap_or};
 ghost use Rattle.sd_machine.specs.Changes.{key_at, leave, set_class};
-ghost use Rattle.sd_rules.specs.ClassRules.{class_expires, class_requeue};
+ghost use Rattle.sd_rules.specs.ClassRules.{class_expires};
 ghost use Rattle.sd_machine.specs.Dispatching.{charge, class_counts, dispatched, done, idled, preempted, sent_away, spun, stolen, ticked, yielded};
 ghost use Rattle.sd_machine.specs.Needs.{CanFinish, CanTick, RunsNobody, RunsOn};
 ghost use Rattle.sd_state.specs.States.{no_body, thread_of, set_of};
 ghost use Rattle.sd_dispatcher.specs.Touched.{leaving_parts, queue_for};
 ghost use Rattle.sd_store.specs.Parts.{actor_part, cpu_part, ready_parts, real_time_part, thread_part};
-ghost use Rattle.sd_store.specs.Words.{Does, DoesBy, Lacks, LacksBy, LacksIf, Tells};
+ghost use Rattle.sd_store.specs.Words.{Does, DoesBy, Lacks, LacksBy, LacksIf};
 
-use crate::bodies::{bound_of, class_of, eff_of, expires_of};
+use crate::bodies::{bound_in, class_in, class_of, eff_of, effective_in, expires_of};
 use crate::marks::mark_over;
 use sd_class::{class_expires, class_requeue, ticked_class};
-use sd_store::{Destination, Look, Store, finish_op, send_back, set_class, set_of, tick};
+use sd_store::{Destination, Store, finish_op, send_back, set_class, set_of, tick};
 use sd_types::{CpuId, End, REAL_TIME_PRIORITY, ThreadBody, ThreadId, Work};
 
 /// The quantum of thread `t` has expired: where something that is ready has at least its priority, the thread is to go to the back, and
@@ -170,6 +170,8 @@ fn left_for_queue<S: Store>(
     }
 }
 
+/// The quantum of the thread of a body has expired.
+#[inline(always)]
 fn back(body: Option<&ThreadBody>) -> bool
     ensures { result ≡ (unwrap_or (option_copied body.entry) no_body).back }
 {
@@ -179,26 +181,8 @@ fn back(body: Option<&ThreadBody>) -> bool
     }
 }
 
-/// The quantum of thread `t` has expired.
-fn back_of<L: Look>(x: &L, t: ThreadId) -> Result<bool, L::Lack>
-    ensures value { Tells (L.shows x.now) result (λ s. (thread_of s t.0).body.back) }
-    ensures lack { Lacks L.part (L.shows x.now) (L.has x.now) result (λ s. thread_part t ∷ []) }
-{
-    let body = x.body(t)?;
-    Ok(back(body))
-}
-
-/// The class of thread `t` is queued again, at the back where its quantum has expired.
-fn requeued_class<S: Store>(work: &Work, x: &mut S, t: ThreadId) -> Result<(), S::Lack>
-    ensures value { Does (S.shows x.old) (S.shows x.new) result (λ s. ⊤) (λ s. set_class s t.0 (class_requeue (thread_of s t.0).body.back (thread_of s t.0).body.class)) }
-    ensures lack { Lacks S.part (S.shows x.old) (S.has x.old) result (λ s. thread_part t ∷ []) }
-    ensures has { S.has x.new ≡ S.has x.old }
-{
-    let class = class_requeue(back_of(x, t)?, class_of(x, t)?);
-    set_class(x, work, t, class)
-}
-
-/// By entry `number` thread `t` leaves processor `c` for an end of the queue of its priority.
+/// By entry `number` thread `t` leaves processor `c` for an end of the queue of its priority. Its class is queued again, at the back where its
+/// quantum has expired. All that goes by the thread as it was is told by its body before, which is looked up once.
 #[tactic(auto, using(crate::proofs::RunningLemmas::runs_classed), unfolding(sd_machine::specs::Dispatching::preempted))]
 pub fn preempted<S: Store>(
     work: &Work,
@@ -213,9 +197,11 @@ pub fn preempted<S: Store>(
     ensures lack { LacksBy number S.part (S.shows x.old) (S.has x.old) result (λ s. RunsOn s t c) (λ s. leaving_parts work.now t c) }
     ensures has { S.has x.new ≡ S.has x.old }
 {
-    let p = eff_of(x, t)?;
-    let bound = bound_of(x, t)?;
-    requeued_class(work, x, t)?;
+    let body = x.body(t)?;
+    let p = effective_in(body);
+    let bound = bound_in(body);
+    let class = class_requeue(back(body), class_in(body));
+    set_class(x, work, t, class)?;
     left_for_queue(work, x, number, c, t, end, p, bound)
 }
 
@@ -253,8 +239,9 @@ pub fn yielded<S: Store>(
     ensures lack { LacksBy number S.part (S.shows x.old) (S.has x.old) result (λ s. RunsOn s t c × CanFinish work.now s t) (λ s. leaving_parts work.now t c) }
     ensures has { S.has x.new ≡ S.has x.old }
 {
-    let p = eff_of(x, t)?;
-    let bound = bound_of(x, t)?;
+    let body = x.body(t)?;
+    let p = effective_in(body);
+    let bound = bound_in(body);
     finish_op(x, work, t)?;
     left_for_queue(work, x, number, c, t, End::Back, p, bound)
 }

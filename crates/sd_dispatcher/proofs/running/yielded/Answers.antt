@@ -8,7 +8,7 @@ pub returns-clause-value : goal.returns-clause-value
 returns-clause-value g c =
     done c.left_for_queue.result _ _
     (λ made. λ s shows can. subst (λ r. g.S.Look.shows c.left_for_queue.new.x (c.args.number + 1) r)
-    (left_yielded c.args.work.now s c.args.number c.args.c c.args.t.0 _ _ (c.in_ok-p.ensures.value c.args.number s shows) (c.in_ok-bound.ensures.value c.args.number s shows))
+    (left_yielded c.args.work.now s c.args.number c.args.c c.args.t.0 _ _ _ (c.in_ok-body.ensures.value c.args.number s shows) c.effective_in-p.ensures c.bound_in-bound.ensures)
     (made _ (c.in_ok-finish_op.ensures.value c.args.number s shows can.1) (runs_finished c.args.work.now s c.args.t c.args.c can.0)))
     c.left_for_queue.ensures.value
 
