@@ -17,7 +17,8 @@ ghost use Rattle.sd_store.specs.Words.{Lacks, LacksIf, Tells, TellsIf};
 
 use crate::plans::plan;
 use sd_dispatcher::{
-    Reading, hints_fit, put_chosen, reads_for, reads_to_steal, search_event, victim_for,
+    Reading, hints_fit, put_chosen, put_read, reads_for, reads_to_steal, search_event, victim_for,
+    victim_read,
 };
 use sd_machine::{Placement, Plan};
 use sd_store::{Clock, Look};
@@ -142,6 +143,45 @@ pub fn plan_event<L: Look>(
         Plan::Make(event) => Ok(event),
         Plan::Place(placement, p) => place_event(work, x, c, hints, placement, p),
         Plan::Search => searched(x, c, hints),
+    }
+}
+
+/// A placement with the put that processor `c` chooses by what was found that it reads for it, and by the numbers that it read.
+fn place_event_read<L: Look>(
+    work: &Work,
+    x: &L,
+    c: CpuId,
+    reading: &Option<Reading>,
+    hints: &Option<Hints>,
+    placement: Placement,
+    p: u8,
+) -> Result<Event, L::Lack>
+    ensures value { TellsIf (L.shows x.now) result (λ s. (option_map parts reading.now ≡ reads_for work.now s c.0 (placed_thread placement)) × (hints_fit (reads_for work.now s c.0 (placed_thread placement)) hints.now ≡ true)) (λ s. event_of placement (put_chosen work.now s c.0 (placed_thread placement) p hints.now)) }
+    ensures lack { Lacks L.part (L.shows x.now) (L.has x.now) result (λ s. read_parts work.now s c (Place placement p)) }
+{
+    let t = placed_thread(placement);
+    let at = put_read(work, x, c, t, p, reading, hints)?;
+    Ok(event_of(placement, at))
+}
+
+/// The event of a plan by what was found that is read for it, whether or not it may come now, with the numbers that were read. So the
+/// processors of a choice are listed once, where they are read.
+#[tactic(auto, using(sd_store::proofs::Among::among_left, sd_store::proofs::Among::among_right))]
+pub fn plan_event_read<L: Look>(
+    work: &Work,
+    x: &L,
+    c: CpuId,
+    reading: &Option<Reading>,
+    hints: &Option<Hints>,
+    plan: Plan,
+) -> Result<Event, L::Lack>
+    ensures value { TellsIf (L.shows x.now) result (λ s. (option_map parts reading.now ≡ plan_reads work.now s c.0 plan) × (hints_fit (plan_reads work.now s c.0 plan) hints.now ≡ true)) (λ s. plan_event work.now s c.0 hints.now plan) }
+    ensures lack { LacksIf L.part (L.shows x.now) (L.has x.now) result (λ s. (option_map parts reading.now ≡ plan_reads work.now s c.0 plan) × (hints_fit (plan_reads work.now s c.0 plan) hints.now ≡ true)) (λ s. choice_parts work.now s c hints.now plan) }
+{
+    match plan {
+        Plan::Make(event) => Ok(event),
+        Plan::Place(placement, p) => place_event_read(work, x, c, reading, hints, placement, p),
+        Plan::Search => search_event(x, victim_read(reading, hints)),
     }
 }
 

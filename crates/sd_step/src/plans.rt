@@ -2,14 +2,14 @@
 //!
 //! Source: Solaris Internals (swtch, the clock's tick, preemption); this order is this project's own.
 
-ghost use Rattle.std.specs.Prelude.{◌≡◌, [], ◌∷◌, Some, IsTrue};
+ghost use Rattle.std.specs.Prelude.{◌≡◌, [], ◌∷◌, Some, IsTrue, option_copied, unwrap_or};
 ghost use Rattle.sd_types.specs.declared.numbers.ChanId.{ChanId as ChanIdOf};
 ghost use Rattle.sd_types.specs.declared.numbers.ThreadId.{ThreadId as ThreadIdOf};
 ghost use Rattle.sd_types.specs.declared.scripts.Op.TheVariants.{Prio};
 ghost use Rattle.sd_types.specs.declared.scripts.Request.{Request};
 ghost use Rattle.sd_types.specs.Works.{quantum_fits};
 ghost use Rattle.sd_state.specs.Operations.{op_of};
-ghost use Rattle.sd_state.specs.States.{cpu_of, thread_of};
+ghost use Rattle.sd_state.specs.States.{cpu_of, no_body, thread_of};
 ghost use Rattle.sd_machine.specs.Needs.{CanCount};
 ghost use Rattle.sd_machine.specs.Plans.{ageing_plan, cpu_plan, duty_plan, first_of, free_plan_of, nap_plan, op_plan, plan, run_plan};
 ghost use Rattle.sd_step.specs.Needed.{cpu_parts, op_parts, plan_parts};
@@ -18,18 +18,16 @@ ghost use Rattle.sd_store.specs.Keyless.{task_of};
 ghost use Rattle.sd_store.specs.Parts.{actor_part, cpu_part, ready_parts, thread_part};
 ghost use Rattle.sd_store.specs.Words.{Lacks, Tells, TellsIf};
 
-use sd_dispatcher::{dispatch_plan, leave_plan};
+use sd_dispatcher::{dispatch_plan, leave_in, op_in};
 use sd_locks::{
     enter_event, grant_reader_plan, grant_writer_plan, read_event, unblock_plan, walk_plan,
     write_event,
 };
 use sd_machine::Plan;
-use sd_priocntl::{
-    age_plan, answer_to, assign_answer, bind_to, closing_plan, prio_plan, wanted_op,
-};
+use sd_priocntl::{age_plan, answer_to, assign_answer, bind_to, closing_plan, prio_plan};
 use sd_sleep::{napend_plan, rouse_plan, sema_p_event, sema_v_plan, wake_plan};
 use sd_store::{Look, Task};
-use sd_types::{CpuId, Event, Op, SetId, Side, ThreadId, Work};
+use sd_types::{CpuId, Event, Op, SetId, Side, ThreadBody, ThreadId, Work};
 
 /// What processor `c` does by a duty.
 fn task_plan<L: Look>(work: &Work, x: &L, c: CpuId, task: Task) -> Result<Option<Plan>, L::Lack>
@@ -156,13 +154,24 @@ fn op_plan<L: Look>(work: &Work, x: &L, t: ThreadId, op: Option<Op>) -> Result<P
     }
 }
 
-/// What processor `c` does on which thread `t` runs: the thread leaves where it has to, and else does its operation.
+/// The operation at which thread `t` of a body stands, None after the last. A request names a quantum that is in its range.
+#[inline(always)]
+fn wanted_in(work: &Work, t: ThreadId, body: Option<&ThreadBody>) -> Option<Op>
+    ensures value { result ≡ op_of work.now t.0 (unwrap_or (option_copied body.entry) no_body) }
+    ensures quantum { (u : ThreadIdOf) (r : Request) → result ≡ Some (Prio u r) → IsTrue (quantum_fits r.quantum) }
+{
+    op_in(work, t, body)
+}
+
+/// What processor `c` does on which thread `t` runs, which is looked up once: the thread leaves where it has to, and else does its operation.
 fn run_plan<L: Look>(work: &Work, x: &L, c: CpuId, t: ThreadId) -> Result<Plan, L::Lack>
     ensures value { TellsIf (L.shows x.now) result (λ s. (k : ChanIdOf) → CanCount s k) (λ s. run_plan work.now s c.0 t.0) }
     ensures lack { Lacks L.part (L.shows x.now) (L.has x.now) result (λ s. thread_part t ∷ cpu_part c ∷ op_parts s (op_of work.now t.0 (thread_of s t.0).body)) }
 {
-    match leave_plan(x, c, t)? {
-        None => op_plan(work, x, t, wanted_op(work, x, t)?),
+    let view = x.cpu(c)?;
+    let body = x.body(t)?;
+    match leave_in(&view, c, t, body) {
+        None => op_plan(work, x, t, wanted_in(work, t, body)),
         Some(plan) => Ok(plan),
     }
 }
