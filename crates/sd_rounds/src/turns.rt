@@ -23,7 +23,7 @@ use crate::ticks::{Alone, come_idle, come_tick, reserve};
 use sd_cpu::{OpenGate, attempt};
 use sd_dispatcher::Reading;
 use sd_machine::Plan;
-use sd_step::{plan, plan_event, plan_reads};
+use sd_step::{plan, plan_event_read, plan_reads};
 use sd_types::{CpuId, Event, Hints, MOST_ENTRIES, Stop, Which, Work};
 use sd_world::PlainWorld;
 
@@ -139,7 +139,14 @@ fn act_with(
     ensures acts { ActsAlone work.now world.old world.new result }
 {
     let hints = read(work, world, reading);
-    match plan_event(work, &world.acting, world.acting.actor.cpu, &hints, plan) {
+    match plan_event_read(
+        work,
+        &world.acting,
+        world.acting.actor.cpu,
+        reading,
+        &hints,
+        plan,
+    ) {
         Ok(event) => come_alone(work, world, event, hints),
         Err(_) => Ok(Alone::Left),
     }

@@ -37,4 +37,4 @@ come_alone-requires-clause-event c =
     let fit : hints_fit (plan_reads w s cpu.0 p) c.read-hints.result ≡ true = ap (hints_fit (plan_reads w s cpu.0 p)) as_shown ∙ shown_fit s (plan_reads w s cpu.0 p) in
     ap (next w s cpu) (as_shown ∙ sym (serial_of w s cpu p c.requires.plan)) ∙ next_of w s cpu p (P.cpu_inside w x st) c.requires.plan
     ∙ ap (λ h. allowed w s cpu.0 (plan_event w s cpu.0 h p)) (sym as_shown)
-    ∙ ap (allowed w s cpu.0) (sym (c.in-Ok.ensures.value (length x.entries.items) s (P.shown w x st) fit))
+    ∙ ap (allowed w s cpu.0) (sym (c.in-Ok.ensures.value (length x.entries.items) s (P.shown w x st) (c.requires.reads, fit)))
