@@ -1,6 +1,6 @@
 -- What contracts see of the entries of a run.
 -- Source: this project's own.
-use Rattle.std.specs.Prelude.{ℕ, ◌+◌, ◌-◌, ◌/◌, ◌^◌, min, List, [], ◌∷◌}
+use Rattle.std.specs.Prelude.{ℕ, ◌+◌, ◌*◌, ◌≤◌, ◌^◌, List, [], ◌∷◌}
 use Rattle.std.specs.List.{All}
 use Rattle.sd_types.specs.declared.events.Entry.{Entry}
 use Rattle.sd_types.specs.Limits.{most_processors}
@@ -21,6 +21,8 @@ entries_from bytes n (x ∷ xs) = entry_at bytes n x ∷ entries_from bytes (n +
 abbrev pub AreWithin : ℕ → List ShortEntry → Type 0
 AreWithin many xs = All (IsWithin many) xs
 
--- room for entries, each of which takes a place and reads a number of each processor at most, of which there are 2^32 at most in all
-abbrev pub room_in : (places of_places bytes of_bytes : ℕ) → ℕ
-room_in places of_places bytes of_bytes = min (of_places - places) ((min of_bytes (2 ^ 32) - bytes) / most_processors)
+-- there is room for so many entries, each of which takes a place and reads a number of each processor at most, of which there are 2^32 at most in all
+pub record HasRoom (room places of_places bytes of_bytes : ℕ) : Type 0 where
+  pub placed : places + room ≤ of_places
+  pub listed : bytes + room * most_processors ≤ of_bytes
+  pub few : bytes + room * most_processors ≤ 2 ^ 32

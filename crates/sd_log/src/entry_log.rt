@@ -11,28 +11,34 @@ use sd_types::{CpuId, Entry, Event, Hints, MOST_PROCESSORS};
 use std::alloc::{AllocError, Global};
 use std::marker::Model;
 
-/// The most bytes of numbers behind which there is room for those of one more entry: 64 below 2^32.
-const MOST_NUMBER_BYTES: usize = 4_294_967_232;
+/// The most bytes of numbers: their places have 32 bits.
+const MOST_NUMBER_BYTES: usize = 1 << 32;
 
-/// Entries, of which the numbers are their places. The numbers that they read of processors lie one behind another in `bytes`.
+/// For so many bytes of numbers room is made at once, so that few entries make room: for those of 64 entries.
+const NUMBER_BYTES_AT_ONCE: usize = 64 * MOST_PROCESSORS;
+
+/// Entries, of which the numbers are their places. The numbers that they read of processors lie one behind another in `bytes`. For `room` entries
+/// more there surely is room in both, so that before an entry one number is asked and no capacity.
 #[derive(Drop)]
 pub struct EntryLog {
     short: Vec<ShortEntry>,
     bytes: Vec<u8>,
+    room: usize,
 }
 
 impl Model for EntryLog {
     ghost use Rattle.std.specs.Prelude.{length, vec_capacity, vec_len};
-    ghost use Rattle.sd_log.specs.Logged.{AreWithin, Logged, entries_from, room_in};
+    ghost use Rattle.sd_log.specs.Logged.{AreWithin, HasRoom, Logged, entries_from};
 
     ghost Value = { Logged };
 
     ghost view = { λ l. record {
       items = entries_from l.bytes.items 0 l.short.items;
-      room = room_in (vec_len l.short) (vec_capacity l.short) (vec_len l.bytes) (vec_capacity l.bytes);
+      room = l.room;
     } };
 
-    ghost invariant = { λ l. AreWithin (length l.bytes.items) l.short.items };
+    ghost invariant = { λ l. AreWithin (length l.bytes.items) l.short.items
+        × HasRoom l.room (vec_len l.short) (vec_capacity l.short) (vec_len l.bytes) (vec_capacity l.bytes) };
 }
 
 impl EntryLog {
@@ -43,6 +49,7 @@ impl EntryLog {
         EntryLog {
             short: Vec::new(alloc),
             bytes: Vec::new(alloc),
+            room: 0,
         }
     }
 
@@ -53,27 +60,21 @@ impl EntryLog {
         self.short.len()
     }
 
-    /// There is room for one entry more.
-    #[inline(always)]
-    fn has_room(&self) -> bool
-        ensures { result ≡ true → 0 < self.now.room }
-    {
-        self.short.len() < self.short.capacity()
-            && self.bytes.len() <= MOST_NUMBER_BYTES
-            && self.bytes.capacity() - self.bytes.len() >= MOST_PROCESSORS
-    }
-
-    /// Makes room for one entry more, where there is none.
+    /// Makes room for one entry more, where there is none, and mostly for many more.
     #[inline(never)]
     fn grow(&mut self) -> Result<(), AllocError>
         ensures same { self.new.items ≡ self.old.items }
         ensures room { OnOk result (0 < self.new.room) }
     {
-        if self.bytes.len() > MOST_NUMBER_BYTES {
+        let left = MOST_NUMBER_BYTES - self.bytes.len();
+        if left < MOST_PROCESSORS {
             return Err(AllocError);
         }
         self.short.reserve(1)?;
-        self.bytes.reserve(MOST_PROCESSORS)?;
+        self.bytes.reserve(left.min(NUMBER_BYTES_AT_ONCE))?;
+        let places = self.short.capacity() - self.short.len();
+        let bytes = self.bytes.capacity().min(MOST_NUMBER_BYTES) - self.bytes.len();
+        self.room = places.min(bytes / MOST_PROCESSORS);
         Ok(())
     }
 
@@ -83,7 +84,7 @@ impl EntryLog {
         ensures same { self.new.items ≡ self.old.items }
         ensures room { OnOk result (0 < self.new.room) }
     {
-        if self.has_room() {
+        if self.room > 0 {
             return Ok(());
         }
         self.grow()
@@ -96,6 +97,7 @@ impl EntryLog {
     {
         let short = shorten(&mut self.bytes, cpu, event, hints);
         self.short.push_reserved(short);
+        self.room -= 1;
     }
 
     /// Puts an idle tick behind the others, for which there is room: the processor has read so many zeros of queues, or nothing.
@@ -106,6 +108,7 @@ impl EntryLog {
         ensures items { self.new.items ≡ self.old.items ++ record { number = length self.old.items; cpu = cpu; event = Idle; hints = zeros_read count } ∷ [] }
     {
         self.short.push_reserved(idle(cpu, count));
+        self.room -= 1;
     }
 
     /// The parts of the entry with this number.

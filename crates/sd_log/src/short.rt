@@ -107,6 +107,8 @@ fn numbers_at<'a>(bytes: &'a [u8], short: &ShortEntry) -> Numbers<'a>
 fn put_numbers(bytes: &mut Vec<u8>, hints: &Option<Hints>) -> u8
     requires { vec_len bytes.old + most_processors ≤ vec_capacity bytes.old }
     ensures bytes { bytes.new.items ≡ bytes.old.items ++ numbers_of hints.now }
+    ensures len { vec_len bytes.new ≡ vec_len bytes.old + result }
+    ensures capacity { vec_capacity bytes.old ≤ vec_capacity bytes.new }
     ensures count { result ≡ length (numbers_of hints.now) }
     ensures fits { result ≤ most_processors }
 {
@@ -130,6 +132,8 @@ pub(crate) fn shorten(
     requires room { vec_len bytes.old + most_processors ≤ vec_capacity bytes.old }
     requires few { vec_len bytes.old < 2 ^ 32 }
     ensures bytes { bytes.new.items ≡ bytes.old.items ++ numbers_of hints.now }
+    ensures len { vec_len bytes.new ≤ vec_len bytes.old + most_processors }
+    ensures capacity { vec_capacity bytes.old ≤ vec_capacity bytes.new }
     ensures within { IsWithin (length bytes.new.items) result }
     ensures entry { (i : ℕ) → entry_at bytes.new.items i result ≡ record { number = i; cpu = cpu; event = event; hints = hints.now } }
 {

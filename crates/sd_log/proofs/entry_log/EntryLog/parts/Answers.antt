@@ -24,7 +24,7 @@ parts_at-requires c =
     let asked = c.requires in
     let inside : c.args.number < length xs = omega (arith, same, view, asked) in
     subst (λ bs. IsWithin (length bs) c.index.result.now) (sym c.deref.ensures.value)
-    (subst (IsWithin (length bytes)) (sym c.index.ensures) (c.self.invariant c.args.number c.index.result.now inside))
+    (subst (IsWithin (length bytes)) (sym c.index.ensures) (c.self.invariant.0 c.args.number c.index.result.now inside))
 
 pub returns-clause-whole : goal.returns-clause-whole
 returns-clause-whole c =

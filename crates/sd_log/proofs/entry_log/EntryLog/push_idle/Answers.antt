@@ -1,4 +1,4 @@
-use Rattle.std.proofs.Common.{◌≡◌, ◌+◌, ◌++◌, ◌∷◌, [], length, sym, ap, ◌∙◌, subst, zero-add}
+use Rattle.std.proofs.Common.{◌≡◌, ◌+◌, ◌++◌, ◌∷◌, [], length, sym, ap, ◌∙◌, subst, zero-add, arith}
 use Rattle.std.proofs.lemmas.List.Elements.{All-append, All-cons, All-nil}
 use Rattle.sd_types.specs.declared.events.Entry.{Entry}
 use Rattle.sd_types.specs.declared.events.Event.TheVariants.{Idle}
@@ -13,8 +13,10 @@ invariant_of-self c =
     let bytes = c.self.inside.bytes.items in
     let xs = c.self.inside.short.items in
     let within = IsWithin (length bytes) in
+    let items =
     subst (AreWithin (length bytes)) (sym c.push_reserved.ensures.items)
-    (All-append within xs (c.idle.result ∷ []) c.self.invariant (All-cons within c.idle.result [] (c.idle.ensures.within (length bytes)) (All-nil within)))
+    (All-append within xs (c.idle.result ∷ []) c.self.invariant.0 (All-cons within c.idle.result [] (c.idle.ensures.within (length bytes)) (All-nil within))) in
+    (items, grind (arith, c.self.invariant.1))
 
 pub returns : goal.returns
 returns c =

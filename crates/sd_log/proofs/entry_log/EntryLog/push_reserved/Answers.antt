@@ -14,7 +14,7 @@ returns c =
     let x = c.shorten-short.result in
     let same = ap (λ (v : Logged). v.items) c.self.view_is in
     let number : 0 + length xs ≡ length c.args.self.now.items = zero-add (length xs) ∙ sym (entries-length bytes 0 xs) ∙ ap length same in
-    let before = ap (λ b. entries_from b 0 xs) c.shorten-short.ensures.bytes ∙ entries-grow bytes (numbers_of c.args.hints.now) 0 xs c.self.invariant ∙ same in
+    let before = ap (λ b. entries_from b 0 xs) c.shorten-short.ensures.bytes ∙ entries-grow bytes (numbers_of c.args.hints.now) 0 xs c.self.invariant.0 ∙ same in
     let last =
     c.shorten-short.ensures.entry (0 + length xs)
     ∙ ap (λ k. let e : Entry = record { number = k; cpu = c.args.cpu; event = c.args.event; hints = c.args.hints.now } in e) number in
