@@ -1,5 +1,5 @@
 -- Where a set shows nothing to steal, it shows nothing after an entry that puts nobody on a queue; and the numbers that are read in it.
-use Rattle.std.proofs.Common.{◌≡◌, ℕ, zero, suc, ◌+◌, ◌-◌, ◌==◌, ◌<◌, Bool, true, false, ◌&&◌, List, [], ◌∷◌, ◌++◌, length, Option, Some, None, is_none, Result, Ok, Err, refl, sym, ap, ◌∙◌, subst, arith, inl, inr, not, if◌then◌else◌, map, filter, replicate}
+use Rattle.std.proofs.Common.{◌≡◌, ℕ, zero, suc, ◌+◌, ◌-◌, ◌==◌, ◌<◌, Bool, true, false, ◌&&◌, List, [], ◌∷◌, ◌++◌, length, Option, Some, None, is_none, refl, sym, ap, ◌∙◌, subst, arith, inl, inr, not, if◌then◌else◌, map, filter, replicate}
 use Rattle.std.specs.Prelude.{◌||◌, slice_index_or, ⊤}
 use Rattle.std.specs.List.{list_all}
 use Rattle.std.proofs.lemmas.Bool.{and_parts, eq-eqb, eqb-true, false≢true, ne_eqb, or_from, or_parts}
@@ -7,7 +7,6 @@ use Rattle.std.proofs.lemmas.List.Folds.{list_all-append}
 use Rattle.sd_types.specs.declared.numbers.CpuId.{CpuId}
 use Rattle.sd_types.specs.declared.numbers.SetId.{SetId}
 use Rattle.sd_types.specs.declared.events.Event.{Event}
-use Rattle.sd_types.specs.declared.events.Stop.{Stop}
 use Rattle.sd_types.specs.declared.events.Which.TheVariants.{Queued}
 use Rattle.sd_types.specs.declared.works.Work.{Work}
 use Rattle.sd_types.specs.Events.{ticks}
@@ -39,11 +38,8 @@ use Rattle.sd_laws.proofs.OpenLists.{are_listed}
 use Rattle.sd_world.specs.declared.plain.PlainWorld.{PlainWorld}
 use Rattle.sd_world.specs.Plain.{told}
 use Rattle.sd_world.proofs.PlainLemmas.{told_more}
-use Rattle.sd_rounds.specs.declared.ticks.Alone.{Alone}
-use Rattle.sd_rounds.specs.declared.ticks.Alone.TheVariants.{Turned, Left}
 use Rattle.sd_rounds.specs.Searched.{HasNothing, HasNoUrgent, IsSearched, all_show_zero}
 use Rattle.sd_rounds.specs.declared.sight.Searched.{Searched}
-use Rattle.sd_rounds.specs.Turns.{ActsAlone}
 
 -- it stands on the queue of processor d and is bound to none
 abbrev may_be_stolen : ℕ → ThreadState → Bool
@@ -157,10 +153,12 @@ module _ (w : Work) (x y : PlainWorld) (e : Event) (known : Option Searched)
           let same = its_event (not (ticks e) || may_tick w (told w x) x.acting.actor.cpu.0) e event (sym will ∙ f) in
           subst (λ v. IsSearched (after w (told w x) (length x.entries.items) x.acting.actor.cpu v) known) same (kept (told w x) (length x.entries.items) x.acting.actor.cpu is)
 
-  pub alone_searched : (r : Result Alone Stop) → ActsAlone w x y r → IsSearched (told w y) known
-  alone_searched (Ok Turned) acts = subst (λ s. IsSearched s known) (sym (told_more w x y (turn w (told w x) (length x.entries.items) x.acting.actor.cpu) acts)) turn_searched
-  alone_searched (Ok Left) acts = subst (λ z. IsSearched (told w z) known) (sym acts) is
-  alone_searched (Err stop) acts = subst (λ es. IsSearched (final w (opening w) es) known) (sym acts.1) is
+  pub turned_searched : y.entries.items ≡ x.entries.items ++ turn w (told w x) (length x.entries.items) x.acting.actor.cpu → IsSearched (told w y) known
+  turned_searched entries = subst (λ s. IsSearched s known) (sym (told_more w x y (turn w (told w x) (length x.entries.items) x.acting.actor.cpu) entries)) turn_searched
+
+-- no entry was made
+pub kept_searched : (w : Work) (x y : PlainWorld) (known : Option Searched) → IsSearched (told w x) known → y.entries.items ≡ x.entries.items → IsSearched (told w y) known
+kept_searched w x y known is same = subst (λ es. IsSearched (final w (opening w) es) known) (sym same) is
 
 pub zero_more : (s : State) (cpus : List CpuId) (d : CpuId) → all_show_zero s cpus ≡ true → hint_shown s Queued d ≡ 0 → all_show_zero s (cpus ++ d ∷ []) ≡ true
 zero_more s cpus d before none =

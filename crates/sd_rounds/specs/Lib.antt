@@ -3,4 +3,3 @@ pub mod Orders
 pub mod Rounds
 pub mod Searched
 pub mod Sights
-pub mod Turns

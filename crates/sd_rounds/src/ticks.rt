@@ -5,7 +5,7 @@ ghost use Rattle.std.specs.Prelude.{◌≡◌, ◌++◌, ◌<◌, ◌≤◌, ◌
 ghost use Rattle.sd_types.specs.declared.events.Duty.TheVariants.{Nothing};
 ghost use Rattle.sd_types.specs.declared.events.Event.TheVariants.{Idle as IdleEvent, Tick as TickEvent};
 ghost use Rattle.sd_machine.specs.Events.{allowed, may_tick, next};
-ghost use Rattle.sd_machine.specs.Runs.{final_state, serial_hints};
+ghost use Rattle.sd_machine.specs.Runs.{final_state, serial_hints, turn};
 ghost use Rattle.sd_rules.specs.ClassRules.{class_expires};
 ghost use Rattle.sd_state.specs.States.{thread_of};
 ghost use Rattle.sd_types.specs.Limits.{most_processors};
@@ -13,7 +13,6 @@ ghost use Rattle.sd_log.specs.Parts.{zeros_read};
 ghost use Rattle.sd_world.specs.Entries.{CanEnter, Enters};
 ghost use Rattle.sd_world.specs.Plain.{Stands, told};
 ghost use Rattle.sd_rounds.specs.Floors.{IsFloor};
-ghost use Rattle.sd_rounds.specs.Turns.{ActsAlone};
 
 use sd_dispatcher::ticked_as;
 use sd_hand::{Acting, Actor};
@@ -21,13 +20,6 @@ use sd_log::EntryLog;
 use sd_store::Store;
 use sd_types::{Event, MOST_ENTRIES, Stop, ThreadId, Work};
 use sd_world::PlainWorld;
-
-/// What a processor has done that has all homes: its turn, or nothing.
-#[derive(Clone, Copy)]
-pub enum Alone {
-    Turned,
-    Left,
-}
 
 /// Makes room for an entry. `Memory` where memory runs out, and no other error.
 #[inline(always)]
@@ -169,7 +161,7 @@ pub(crate) fn come_tick(
     floor: &mut u32,
     t: ThreadId,
     expires: bool,
-) -> Result<Alone, Stop>
+) -> Result<(), Stop>
     requires stands { Stands work.now world.old }
     requires work { world.old.work.now ≡ work.now }
     requires few { length world.old.entries.items < MOST_ENTRIES }
@@ -180,17 +172,18 @@ pub(crate) fn come_tick(
     requires expires { expires ≡ class_expires (thread_of (told work.now world.old) t.0).body.class }
     ensures stands { Stands work.now world.new }
     ensures work { world.new.work.now ≡ work.now }
-    ensures acts { ActsAlone work.now world.old world.new result }
+    ensures entries { OnOk result (world.new.entries.items ≡ world.old.entries.items ++ turn work.now (told work.now world.old) (length world.old.entries.items) world.old.acting.actor.cpu) }
+    ensures stop { IfErr result (λ stop. (stop ≡ Stop.Memory) × (world.new.entries.items ≡ world.old.entries.items)) }
     ensures least { IsFloor work.now (told work.now world.old) floor.new }
 {
     if !may_tick(work, world, floor) {
-        return Ok(Alone::Turned);
+        return Ok(());
     }
     if let Err(stop) = reserve(work, world) {
         return Err(stop);
     }
     make_tick(work, world, t, expires);
-    Ok(Alone::Turned)
+    Ok(())
 }
 
 /// The processor that acts, which has no duty, is idle for a tick, where one may come now, after it has read so many zeros.
@@ -200,7 +193,7 @@ pub(crate) fn come_idle(
     world: &mut PlainWorld,
     floor: &mut u32,
     zeros: usize,
-) -> Result<Alone, Stop>
+) -> Result<(), Stop>
     requires stands { Stands work.now world.old }
     requires work { world.old.work.now ≡ work.now }
     requires few { length world.old.entries.items < MOST_ENTRIES }
@@ -211,15 +204,16 @@ pub(crate) fn come_idle(
     requires event { next work.now (told work.now world.old) world.old.acting.actor.cpu (zeros_read zeros) ≡ allowed work.now (told work.now world.old) world.old.acting.actor.cpu.0 IdleEvent }
     ensures stands { Stands work.now world.new }
     ensures work { world.new.work.now ≡ work.now }
-    ensures acts { ActsAlone work.now world.old world.new result }
+    ensures entries { OnOk result (world.new.entries.items ≡ world.old.entries.items ++ turn work.now (told work.now world.old) (length world.old.entries.items) world.old.acting.actor.cpu) }
+    ensures stop { IfErr result (λ stop. (stop ≡ Stop.Memory) × (world.new.entries.items ≡ world.old.entries.items)) }
     ensures least { IsFloor work.now (told work.now world.old) floor.new }
 {
     if !may_tick(work, world, floor) {
-        return Ok(Alone::Turned);
+        return Ok(());
     }
     if let Err(stop) = reserve(work, world) {
         return Err(stop);
     }
     make_idle(work, world, zeros);
-    Ok(Alone::Turned)
+    Ok(())
 }

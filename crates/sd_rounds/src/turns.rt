@@ -16,10 +16,9 @@ ghost use Rattle.sd_dispatcher.specs.Reading.{parts};
 ghost use Rattle.sd_world.specs.Plain.{AreCpus, Stands, told};
 ghost use Rattle.sd_rounds.specs.Floors.{IsFloor};
 ghost use Rattle.sd_rounds.specs.Searched.{IsSearched};
-ghost use Rattle.sd_rounds.specs.Turns.{ActsAlone};
 
 use crate::sight::{Searched, Sight, see};
-use crate::ticks::{Alone, come_idle, come_tick, reserve};
+use crate::ticks::{come_idle, come_tick, reserve};
 use sd_cpu::{OpenGate, attempt};
 use sd_dispatcher::Reading;
 use sd_machine::Plan;
@@ -62,12 +61,7 @@ fn come(work: &Work, world: &mut PlainWorld, event: Event, hints: Option<Hints>)
 /// An idle tick after a search in a set with so many open processors, of which all others show 0. A processor without neighbours has read
 /// nothing.
 #[inline(always)]
-fn end_search(
-    work: &Work,
-    world: &mut PlainWorld,
-    floor: &mut u32,
-    cpus: usize,
-) -> Result<Alone, Stop>
+fn end_search(work: &Work, world: &mut PlainWorld, floor: &mut u32, cpus: usize) -> Result<(), Stop>
     requires stands { Stands work.now world.old }
     requires least { IsFloor work.now (told work.now world.old) floor.old }
     requires work { world.old.work.now ≡ work.now }
@@ -78,10 +72,28 @@ fn end_search(
     requires numbers { replicate (cpus - 1) 0 ≡ map (hint_shown (told work.now world.old) Queued) (neighbours (told work.now world.old) world.old.acting.actor.cpu.0) }
     ensures stands { Stands work.now world.new }
     ensures work { world.new.work.now ≡ work.now }
-    ensures acts { ActsAlone work.now world.old world.new result }
+    ensures entries { OnOk result (world.new.entries.items ≡ world.old.entries.items ++ turn work.now (told work.now world.old) (length world.old.entries.items) world.old.acting.actor.cpu) }
+    ensures stop { IfErr result (λ stop. (stop ≡ Stop.Memory) × (world.new.entries.items ≡ world.old.entries.items)) }
     ensures least { IsFloor work.now (told work.now world.old) floor.new }
 {
     come_idle(work, world, floor, cpus.saturating_sub(1))
+}
+
+/// The turn of the processor that acts, by an attempt: where its hand does not show its plan, or what it reads for that.
+#[inline(never)]
+fn attempt_turn(work: &Work, world: &mut PlainWorld) -> Result<(), Stop>
+    requires stands { Stands work.now world.old }
+    requires work { world.old.work.now ≡ work.now }
+    requires few { length world.old.entries.items < MOST_ENTRIES }
+    ensures stands { Stands work.now world.new }
+    ensures work { world.new.work.now ≡ work.now }
+    ensures entries { OnOk result (world.new.entries.items ≡ world.old.entries.items ++ turn work.now (told work.now world.old) (length world.old.entries.items) world.old.acting.actor.cpu) }
+    ensures stop { IfErr result (λ stop. (stop ≡ Stop.Memory) × (world.new.entries.items ≡ world.old.entries.items)) }
+{
+    match attempt(world, &OpenGate, work, 0, false) {
+        Ok(_) => Ok(()),
+        Err(stop) => Err(stop),
+    }
 }
 
 /// The numbers that the processor reads, as the state shows them.
@@ -106,7 +118,7 @@ fn come_alone(
     world: &mut PlainWorld,
     event: Event,
     hints: Option<Hints>,
-) -> Result<Alone, Stop>
+) -> Result<(), Stop>
     requires stands { Stands work.now world.old }
     requires work { world.old.work.now ≡ work.now }
     requires few { length world.old.entries.items < MOST_ENTRIES }
@@ -114,12 +126,11 @@ fn come_alone(
     requires event { next work.now (told work.now world.old) world.old.acting.actor.cpu hints ≡ allowed work.now (told work.now world.old) world.old.acting.actor.cpu.0 event }
     ensures stands { Stands work.now world.new }
     ensures work { world.new.work.now ≡ work.now }
-    ensures acts { ActsAlone work.now world.old world.new result }
+    ensures entries { OnOk result (world.new.entries.items ≡ world.old.entries.items ++ turn work.now (told work.now world.old) (length world.old.entries.items) world.old.acting.actor.cpu) }
+    ensures stop { IfErr result (λ stop. (stop ≡ Stop.Memory) × (world.new.entries.items ≡ world.old.entries.items)) }
 {
-    match come(work, world, event, hints) {
-        Ok(()) => Ok(Alone::Turned),
-        Err(stop) => Err(stop),
-    }
+    come(work, world, event, hints)?;
+    Ok(())
 }
 
 /// The turn of a processor whose plan this is, and that reads these numbers for it.
@@ -128,7 +139,7 @@ fn act_with(
     world: &mut PlainWorld,
     plan: Plan,
     reading: &Option<Reading>,
-) -> Result<Alone, Stop>
+) -> Result<(), Stop>
     requires stands { Stands work.now world.old }
     requires work { world.old.work.now ≡ work.now }
     requires few { length world.old.entries.items < MOST_ENTRIES }
@@ -136,7 +147,8 @@ fn act_with(
     requires reads { option_map parts reading.now ≡ reads_of work.now (told work.now world.old) world.old.acting.actor.cpu.0 plan }
     ensures stands { Stands work.now world.new }
     ensures work { world.new.work.now ≡ work.now }
-    ensures acts { ActsAlone work.now world.old world.new result }
+    ensures entries { OnOk result (world.new.entries.items ≡ world.old.entries.items ++ turn work.now (told work.now world.old) (length world.old.entries.items) world.old.acting.actor.cpu) }
+    ensures stop { IfErr result (λ stop. (stop ≡ Stop.Memory) × (world.new.entries.items ≡ world.old.entries.items)) }
 {
     let hints = read(work, world, reading);
     match plan_event_read(
@@ -148,36 +160,38 @@ fn act_with(
         plan,
     ) {
         Ok(event) => come_alone(work, world, event, hints),
-        Err(_) => Ok(Alone::Left),
+        Err(_) => attempt_turn(work, world),
     }
 }
 
 /// The turn of a processor whose plan this is, and that reads for it what it has to.
-fn act_by_reading(work: &Work, world: &mut PlainWorld, plan: Plan) -> Result<Alone, Stop>
+fn act_by_reading(work: &Work, world: &mut PlainWorld, plan: Plan) -> Result<(), Stop>
     requires stands { Stands work.now world.old }
     requires work { world.old.work.now ≡ work.now }
     requires few { length world.old.entries.items < MOST_ENTRIES }
     requires plan { plan ≡ plan_of work.now (told work.now world.old) world.old.acting.actor.cpu.0 }
     ensures stands { Stands work.now world.new }
     ensures work { world.new.work.now ≡ work.now }
-    ensures acts { ActsAlone work.now world.old world.new result }
+    ensures entries { OnOk result (world.new.entries.items ≡ world.old.entries.items ++ turn work.now (told work.now world.old) (length world.old.entries.items) world.old.acting.actor.cpu) }
+    ensures stop { IfErr result (λ stop. (stop ≡ Stop.Memory) × (world.new.entries.items ≡ world.old.entries.items)) }
 {
     match plan_reads(work, &world.acting, world.acting.actor.cpu, plan) {
         Ok(reading) => act_with(work, world, plan, &reading),
-        Err(_) => Ok(Alone::Left),
+        Err(_) => attempt_turn(work, world),
     }
 }
 
 /// The turn of a processor whose plan this is. Most plans read nothing.
 #[inline(always)]
-fn act_on(work: &Work, world: &mut PlainWorld, plan: Plan) -> Result<Alone, Stop>
+fn act_on(work: &Work, world: &mut PlainWorld, plan: Plan) -> Result<(), Stop>
     requires stands { Stands work.now world.old }
     requires work { world.old.work.now ≡ work.now }
     requires few { length world.old.entries.items < MOST_ENTRIES }
     requires plan { plan ≡ plan_of work.now (told work.now world.old) world.old.acting.actor.cpu.0 }
     ensures stands { Stands work.now world.new }
     ensures work { world.new.work.now ≡ work.now }
-    ensures acts { ActsAlone work.now world.old world.new result }
+    ensures entries { OnOk result (world.new.entries.items ≡ world.old.entries.items ++ turn work.now (told work.now world.old) (length world.old.entries.items) world.old.acting.actor.cpu) }
+    ensures stop { IfErr result (λ stop. (stop ≡ Stop.Memory) × (world.new.entries.items ≡ world.old.entries.items)) }
 {
     match plan {
         Plan::Make(event) => come_alone(work, world, event, None),
@@ -187,52 +201,7 @@ fn act_on(work: &Work, world: &mut PlainWorld, plan: Plan) -> Result<Alone, Stop
 
 /// The turn of a processor that makes a plan.
 #[inline(never)]
-fn act_by_plan(work: &Work, world: &mut PlainWorld) -> Result<Alone, Stop>
-    requires stands { Stands work.now world.old }
-    requires work { world.old.work.now ≡ work.now }
-    requires few { length world.old.entries.items < MOST_ENTRIES }
-    ensures stands { Stands work.now world.new }
-    ensures work { world.new.work.now ≡ work.now }
-    ensures acts { ActsAlone work.now world.old world.new result }
-{
-    match find_plan(work, world) {
-        Some(plan) => act_on(work, world, plan),
-        None => Ok(Alone::Left),
-    }
-}
-
-/// The turn of the processor that acts, by one look or by its plan. Where it searches and one look finds nothing to steal, this is so in its
-/// set until an entry comes that is neither a tick of a thread nor an idle one.
-#[inline(always)]
-fn act_alone(
-    work: &Work,
-    world: &mut PlainWorld,
-    floor: &mut u32,
-    searched: &mut Option<Searched>,
-) -> Result<Alone, Stop>
-    requires stands { Stands work.now world.old }
-    requires least { IsFloor work.now (told work.now world.old) floor.old }
-    requires searched { IsSearched (told work.now world.old) searched.old }
-    requires work { world.old.work.now ≡ work.now }
-    requires few { length world.old.entries.items < MOST_ENTRIES }
-    ensures stands { Stands work.now world.new }
-    ensures work { world.new.work.now ≡ work.now }
-    ensures acts { ActsAlone work.now world.old world.new result }
-    ensures least { IsFloor work.now (told work.now world.old) floor.new }
-    ensures searched { IsSearched (told work.now world.new) searched.new }
-{
-    match see(work, &world.acting, searched) {
-        Sight::Runs { t, expires } => come_tick(work, world, floor, t, expires),
-        Sight::Idles(found) => end_search(work, world, floor, found.cpus),
-        Sight::Unclear => {
-            *searched = None;
-            act_by_plan(work, world)
-        }
-    }
-}
-
-/// The turn of the processor that acts, by an attempt.
-fn attempt_turn(work: &Work, world: &mut PlainWorld) -> Result<(), Stop>
+fn act_by_plan(work: &Work, world: &mut PlainWorld) -> Result<(), Stop>
     requires stands { Stands work.now world.old }
     requires work { world.old.work.now ≡ work.now }
     requires few { length world.old.entries.items < MOST_ENTRIES }
@@ -241,13 +210,15 @@ fn attempt_turn(work: &Work, world: &mut PlainWorld) -> Result<(), Stop>
     ensures entries { OnOk result (world.new.entries.items ≡ world.old.entries.items ++ turn work.now (told work.now world.old) (length world.old.entries.items) world.old.acting.actor.cpu) }
     ensures stop { IfErr result (λ stop. (stop ≡ Stop.Memory) × (world.new.entries.items ≡ world.old.entries.items)) }
 {
-    match attempt(world, &OpenGate, work, 0, false) {
-        Ok(_) => Ok(()),
-        Err(stop) => Err(stop),
+    match find_plan(work, world) {
+        Some(plan) => act_on(work, world, plan),
+        None => attempt_turn(work, world),
     }
 }
 
-/// The turn of the processor that acts.
+/// The turn of the processor that acts, by one look or by its plan. Where it searches and one look finds nothing to steal, this is so in its
+/// set until an entry comes that is neither a tick of a thread nor an idle one. Each look answers on its own, so that the compiler sees that
+/// most turns end well, and asks nothing after them.
 fn act(
     work: &Work,
     world: &mut PlainWorld,
@@ -266,12 +237,18 @@ fn act(
     ensures least { IsFloor work.now (told work.now world.old) floor.new }
     ensures searched { IsSearched (told work.now world.new) searched.new }
 {
-    match act_alone(work, world, floor, searched) {
-        Err(stop) => Err(stop),
-        Ok(Alone::Turned) => Ok(()),
-        Ok(Alone::Left) => {
+    match see(work, &world.acting, searched) {
+        Sight::Runs { t, expires } => {
+            come_tick(work, world, floor, t, expires)?;
+            Ok(())
+        }
+        Sight::Idles(found) => {
+            end_search(work, world, floor, found.cpus)?;
+            Ok(())
+        }
+        Sight::Unclear => {
             *searched = None;
-            attempt_turn(work, world)
+            act_by_plan(work, world)
         }
     }
 }

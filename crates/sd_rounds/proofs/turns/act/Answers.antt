@@ -5,8 +5,8 @@ use Rattle.sd_world.specs.Plain.{told}
 use Rattle.sd_world.proofs.PlainLemmas as P
 use Rattle.sd_rounds.specs.Searched.{IsSearched}
 use Rattle.sd_rounds.proofs.AloneLemmas.{makes_it, serial_of, will_idle, will_make}
-use Rattle.sd_rounds.proofs.SearchedLemmas.{alone_searched, numbers_read, searched_after, none_to_steal}
-use Rattle.sd_rounds.proofs.turns.act_alone.Goals as goal
+use Rattle.sd_rounds.proofs.SearchedLemmas.{kept_searched, numbers_read, searched_after, none_to_steal, turned_searched}
+use Rattle.sd_rounds.proofs.turns.act.Goals as goal
 
 pub come_tick-requires-clause-duty : goal.come_tick-requires-clause-duty
 come_tick-requires-clause-duty c =
@@ -63,8 +63,8 @@ end_search-requires-clause-numbers c =
     let (duty, plan, its, opened, none) = c.in-Idles.ensures.seen n s (P.shown w x c.requires.stands) c.requires.searched in
     numbers_read w n s x.acting.actor.cpu c.in-Idles.found (P.reached w x c.requires.stands) (P.cpu_inside w x c.requires.stands) its opened none
 
-pub returns-in-Runs-clause-searched : goal.returns-in-Runs-clause-searched
-returns-in-Runs-clause-searched c =
+pub returns-in_ok-come_tick-in-Runs-clause-searched : goal.returns-in_ok-come_tick-in-Runs-clause-searched
+returns-in_ok-come_tick-in-Runs-clause-searched c =
     let w = c.args.work.now in
     let x = c.args.world.now in
     let s = told w x in
@@ -72,11 +72,17 @@ returns-in-Runs-clause-searched c =
     let tick = Tick c.in-Runs.t in
     let seen = c.in-Runs.ensures.seen (length x.entries.items) s (P.shown w x c.requires.stands) c.requires.searched in
     subst (IsSearched (told w c.come_tick.new.world)) (sym c.in-Runs.ensures.noted)
-    (alone_searched w x c.come_tick.new.world tick known (λ z n d. searched_after w z n d tick tt tt tt refl refl known) (will_make w s x.acting.actor.cpu tick (P.cpu_inside w x c.requires.stands) seen.1) c.requires.searched
-    c.come_tick.result c.come_tick.ensures.acts)
+    (turned_searched w x c.come_tick.new.world tick known (λ z n d. searched_after w z n d tick tt tt tt refl refl known) (will_make w s x.acting.actor.cpu tick (P.cpu_inside w x c.requires.stands) seen.1) c.requires.searched
+    c.in_ok-come_tick-in-Runs.ensures.entries)
 
-pub returns-in-Idles-clause-searched : goal.returns-in-Idles-clause-searched
-returns-in-Idles-clause-searched c =
+pub returns-in_err-come_tick-in-Runs-clause-searched : goal.returns-in_err-come_tick-in-Runs-clause-searched
+returns-in_err-come_tick-in-Runs-clause-searched c =
+    let w = c.args.work.now in
+    subst (IsSearched (told w c.come_tick.new.world)) (sym c.in-Runs.ensures.noted)
+    (kept_searched w c.args.world.now c.come_tick.new.world c.args.searched.now c.requires.searched c.in_err-come_tick-in-Runs.ensures.stop.1)
+
+pub returns-in_ok-end_search-in-Idles-clause-searched : goal.returns-in_ok-end_search-in-Idles-clause-searched
+returns-in_ok-end_search-in-Idles-clause-searched c =
     let w = c.args.work.now in
     let x = c.args.world.now in
     let s = told w x in
@@ -87,5 +93,13 @@ returns-in-Idles-clause-searched c =
     let (duty, plan, its, opened, none) = c.in-Idles.ensures.seen n s (P.shown w x c.requires.stands) c.requires.searched in
     let numbers = numbers_read w n s cpu c.in-Idles.found (P.reached w x c.requires.stands) inside its opened none in
     subst (IsSearched (told w c.end_search.new.world)) (sym c.in-Idles.ensures.noted)
-    (alone_searched w x c.end_search.new.world Idle known (λ z m d. searched_after w z m d Idle tt tt tt refl refl known)
-    (will_idle w s cpu inside plan (none_to_steal (c.in-Idles.found.cpus - 1) s cpu.0 numbers)) none c.end_search.result c.end_search.ensures.acts)
+    (turned_searched w x c.end_search.new.world Idle known (λ z m d. searched_after w z m d Idle tt tt tt refl refl known)
+    (will_idle w s cpu inside plan (none_to_steal (c.in-Idles.found.cpus - 1) s cpu.0 numbers)) none c.in_ok-end_search-in-Idles.ensures.entries)
+
+pub returns-in_err-end_search-in-Idles-clause-searched : goal.returns-in_err-end_search-in-Idles-clause-searched
+returns-in_err-end_search-in-Idles-clause-searched c =
+    let w = c.args.work.now in
+    let x = c.args.world.now in
+    let (duty, plan, its, opened, none) = c.in-Idles.ensures.seen (length x.entries.items) (told w x) (P.shown w x c.requires.stands) c.requires.searched in
+    subst (IsSearched (told w c.end_search.new.world)) (sym c.in-Idles.ensures.noted)
+    (kept_searched w x c.end_search.new.world (Some c.in-Idles.found) none c.in_err-end_search-in-Idles.ensures.stop.1)
