@@ -33,7 +33,6 @@ pub(crate) struct ShortEntry {
 const _: () = prove!(size_of::<ShortEntry>() == 28);
 
 /// What was read.
-#[inline(always)]
 fn reading_of(hints: &Option<Hints>) -> Reading
     ensures { result ≡ reading_of hints.now }
 {
@@ -105,7 +104,6 @@ fn numbers_at<'a>(bytes: &'a [u8], short: &ShortEntry) -> Numbers<'a>
 }
 
 /// Puts the numbers that were read behind the others, where there is room. Most entries read none.
-#[inline(always)]
 fn put_numbers(bytes: &mut Vec<u8>, hints: &Option<Hints>) -> u8
     requires { vec_len bytes.old + most_processors ≤ vec_capacity bytes.old }
     ensures bytes { bytes.new.items ≡ bytes.old.items ++ numbers_of hints.now }
@@ -125,7 +123,6 @@ fn put_numbers(bytes: &mut Vec<u8>, hints: &Option<Hints>) -> u8
 }
 
 /// The entry, whose numbers are put behind the others, where there is room.
-#[inline(always)]
 pub(crate) fn shorten(
     bytes: &mut Vec<u8>,
     cpu: CpuId,
