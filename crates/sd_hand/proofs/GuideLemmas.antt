@@ -2,7 +2,7 @@
 use Rattle.std.proofs.Common.{◌≡◌, ℕ, zero, suc, ◌<◌, Bool, true, false, is_some, inl, inr, List, [], ◌∷◌, length, get_or, set, slice_get, Option, Some, None, refl, sym, ap, ◌∙◌, subst, arith, Bor, ◌≤◌}
 use Rattle.std.specs.Option.{option_copied}
 use Rattle.std.specs.Prelude.{slice_set}
-use Rattle.std.proofs.lemmas.List.{length-set, set-get_or}
+use Rattle.std.proofs.lemmas.List.{set-get_or}
 use Rattle.std.proofs.lemmas.Option.{slice_get-get_or}
 use Rattle.sd_types.specs.declared.numbers.HomeId.{HomeId}
 use Rattle.sd_homes.specs.declared.list_id.ListId.{ListId}
@@ -11,7 +11,7 @@ use Rattle.sd_homes.specs.declared.home.Home.{Home}
 use Rattle.sd_types.specs.declared.numbers.CpuId.{CpuId}
 use Rattle.sd_machine.specs.Changes.{with_cpu_in, without_cpu}
 use Rattle.sd_homes.specs.Families.{home_id, open_in, opened, same_home, shut, taken_from}
-use Rattle.sd_hand.specs.Hands.{AreApart, AreSlots, HandSlots, HoldsMore, IsIn, IsSlot, StandsIn, edit, held, is_at}
+use Rattle.sd_hand.specs.Hands.{AreApart, HandSlots, HoldsMore, IsIn, IsSlot, StandsIn, edit, held, is_at}
 use Rattle.sd_hand.proofs.SlotLemmas.{held_id, holds_more, same_home_true, same_slot, slot_at}
 use Rattle.sd_hand.proofs.FoundLemmas.{listed_has}
 use Rattle.sd_hand.proofs.PartLemmas.{opening_keeps}
@@ -139,10 +139,6 @@ apart_set (Some z ∷ hs) (suc i) h g d a e keeps = (none_changed (home_id z) hs
 
 pub apart_changed : (hs : List (Option Home)) (i : ℕ) (h g : Home) (m : Option Home) → AreApart hs → m ≡ get_or hs i m → m ≡ Some h → home_id g ≡ home_id h → AreApart (slice_set hs i (Some g))
 apart_changed hs i h g m a e is keeps = apart_set hs i h g m a (sym e ∙ is) keeps
-
--- the slots of a hand after a change of a home
-pub slots_changed : (hs : List (Option Home)) (i : ℕ) (h g : Home) (m : Option Home) → AreSlots hs → m ≡ get_or hs i m → m ≡ Some h → home_id g ≡ home_id h → AreSlots (slice_set hs i (Some g))
-slots_changed hs i h g m a e is keeps = record { apart = apart_changed hs i h g m a.apart e is keeps; four = subst (λ n. 4 ≤ n) (sym (length-set hs i (Some g))) a.four }
 
 -- what was found is there
 pub found_some : {A : Type 0} (o : Option (Bor A)) → is_some (option_copied o) ≡ is_some o

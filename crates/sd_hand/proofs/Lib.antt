@@ -8,7 +8,9 @@ pub mod HasLemmas
 pub mod HomeLemmas
 pub mod MoveLemmas
 pub mod OneLemmas
+pub mod OrderLemmas
 pub mod PartLemmas
+pub mod RankLemmas
 pub mod RunLemmas
 pub mod ShownLemmas
 pub mod SlotLemmas

@@ -5,6 +5,7 @@ pub mod Hands
 pub mod Keys
 pub mod Later
 pub mod OneHome
+pub mod Orders
 pub mod Shown
 pub mod Steps
 pub mod Walking

@@ -50,6 +50,17 @@ fn due(napper: Option<&Record>, count: u32) -> Option<ThreadId>
     }
 }
 
+/// The effective priority of a thread that was found.
+#[inline(always)]
+fn priority_of(found: Option<&Record>) -> Option<u8>
+    ensures { result ≡ option_map rank_of (option_copied found.entry) }
+{
+    match found {
+        None => None,
+        Some(thread) => Some(thread.effective()),
+    }
+}
+
 impl Hand {
     /// The first of those who stand there.
     #[inline(always)]
@@ -70,6 +81,28 @@ impl Hand {
         match self.home(HomeId::Cpu(c)) {
             Err(q) => Err(q),
             Ok(home) => Ok(number_of(home.best_unbound(c))),
+        }
+    }
+
+    /// The effective priority of the first of those who stand there.
+    #[inline(always)]
+    pub(crate) fn first_priority(&self, at: ListId) -> Result<Option<u8>, Part>
+        ensures { Asks (home_at at) self.now.slots result (λ p. p) (λ h. option_map rank_of (slice_get (list_in h at) 0)) }
+    {
+        match self.home(home_at(at)) {
+            Err(q) => Err(q),
+            Ok(home) => Ok(priority_of(home.first(at))),
+        }
+    }
+
+    /// The effective priority of the best on the queue of processor `c` that is bound to no processor.
+    #[inline(always)]
+    pub(crate) fn unbound_priority(&self, c: CpuId) -> Result<Option<u8>, Part>
+        ensures { Asks (Cpu c) self.now.slots result (λ p. p) (λ h. option_map rank_of (find_first is_unbound (list_in h (Queues c)))) }
+    {
+        match self.home(HomeId::Cpu(c)) {
+            Err(q) => Err(q),
+            Ok(home) => Ok(priority_of(home.best_unbound(c))),
         }
     }
 

@@ -32,16 +32,14 @@ impl Guide {
         Guide { cpus, sets, lists }
     }
 
-    /// The slot in which the home of this number lies, where they lie in this order.
-    #[inline(always)]
-    pub(crate) fn slot(&self, k: HomeId) -> usize {
-        let chains = self.cpus.saturating_add(self.sets);
-        match k {
-            HomeId::Cpu(c) => c.0 as usize,
-            HomeId::RealTime(p) => self.cpus.saturating_add(p.0 as usize),
-            HomeId::Chain(i) => chains.saturating_add(i as usize),
-            HomeId::Sleepers(i) => chains.saturating_add(64 + i as usize),
-        }
+    /// How many processors there are.
+    pub(crate) fn cpus(&self) -> usize {
+        self.cpus
+    }
+
+    /// How many sets there are.
+    pub(crate) fn sets(&self) -> usize {
+        self.sets
     }
 
     /// The list to which the thread came last.

@@ -1,6 +1,6 @@
 //! The hand: the homes that a processor holds, or all homes of a run.
 
-ghost use Rattle.std.specs.Prelude.{◌≡◌, ◌⊎◌, ◌+◌, ◌<◌, ◌≤◌, ◌%◌, [], ◌∷◌, None, Some, false, is_some, length, slice_get, IfErr, IfNone, IfOk, IfSome, MatchOption};
+ghost use Rattle.std.specs.Prelude.{◌≡◌, ◌⊎◌, ◌+◌, ◌<◌, ◌≤◌, ◌%◌, [], ◌∷◌, None, Some, false, is_some, length, slice_get, true, IfErr, IfNone, IfOk, IfSome, MatchOption};
 ghost use Rattle.std.specs.Option.{option_copied};
 ghost use Rattle.sd_types.specs.declared.numbers.HomeId.TheVariants.{Chain, Cpu, RealTime, Sleepers};
 ghost use Rattle.sd_types.specs.Limits.{most_processors};
@@ -15,6 +15,8 @@ ghost use Rattle.sd_hand.specs.Steps.{RunsChanged};
 ghost use Rattle.sd_hand.specs.Hands.{AreApart, AreSlots, AreTaken, Asks, HasNoRoom, HoldsMore, IsHeld, IsNoSlot, IsSlot, IsThreadHeld, Seeks, StandsIn, StandsInSlot, edit, has_thread, held, how_many_held, is_at, slot_has};
 
 use crate::guide::Guide;
+use crate::order::Order;
+use crate::ordering::order_of;
 use sd_homes::{Home, IsFull, ListId, Traveller, home_at, same_home};
 use sd_record::Record;
 use sd_state::LockState;
@@ -23,25 +25,28 @@ use sd_types::{ChanId, CpuId, HomeId, LockId, SetId, ThreadId, Work, home_of_cha
 use std::alloc::{AllocError, Global};
 use std::marker::Model;
 
-/// Homes of different numbers, each in a slot, and where to look first. Contracts see the slots.
+/// Homes of different numbers, each in a slot, how many of them lie in the order of their numbers, and where to look for a thread first.
+/// Contracts see the slots.
 #[derive(Drop)]
 pub struct Hand {
     slots: Vec<Option<Home>>,
+    order: Order,
     guide: Guide,
 }
 
 impl Model for Hand {
-    ghost use Rattle.sd_hand.specs.Hands.{AreSlots, HandSlots};
+    ghost use Rattle.sd_hand.specs.Hands.{HandSlots};
+    ghost use Rattle.sd_hand.specs.Orders.{AreOrdered};
 
     ghost Value = { HandSlots };
 
     ghost view = { λ h. record { slots = h.slots.items } };
 
-    ghost invariant = { λ h. AreSlots h.slots.items };
+    ghost invariant = { λ h. AreOrdered h.order h.slots.items };
 }
 
 #[inline(always)]
-fn is_at(k: HomeId, slot: &Option<Home>) -> bool
+pub(crate) fn is_at(k: HomeId, slot: &Option<Home>) -> bool
     ensures { result ≡ is_at k slot.now }
 {
     match slot {
@@ -64,19 +69,6 @@ fn search_in(slots: &[Option<Home>], k: HomeId) -> Option<usize>
     None
 }
 
-/// The slot in which a home with this number lies; the guess is looked at first.
-#[inline(always)]
-fn slot_in(slots: &[Option<Home>], guess: usize, k: HomeId) -> Option<usize>
-    requires apart { AreApart slots.now }
-    ensures inside { IfSome result (λ i. i < length slots.now) }
-    ensures slot { MatchOption result (IsNoSlot k slots.now) (IsSlot k slots.now) }
-{
-    if guess < slots.len() && is_at(k, &slots[guess]) {
-        return Some(guess);
-    }
-    search_in(slots, k)
-}
-
 /// The slot in which the home of a processor lies, from the first slot on.
 #[inline(never)]
 fn search_cpu_in(slots: &[Option<Home>], c: CpuId) -> Option<usize>
@@ -84,20 +76,6 @@ fn search_cpu_in(slots: &[Option<Home>], c: CpuId) -> Option<usize>
     ensures slot { MatchOption result (IsNoSlot (Cpu c) slots.now) (IsSlot (Cpu c) slots.now) }
 {
     search_in(slots, HomeId::Cpu(c))
-}
-
-/// The same, with a guess that is looked at first. The number of the home goes nowhere else, so that the compiler sees where a home was
-/// looked up before.
-#[inline(always)]
-fn cpu_slot_in(slots: &[Option<Home>], guess: usize, c: CpuId) -> Option<usize>
-    requires apart { AreApart slots.now }
-    ensures inside { IfSome result (λ i. i < length slots.now) }
-    ensures slot { MatchOption result (IsNoSlot (Cpu c) slots.now) (IsSlot (Cpu c) slots.now) }
-{
-    if guess < slots.len() && is_at(HomeId::Cpu(c), &slots[guess]) {
-        return Some(guess);
-    }
-    search_cpu_in(slots, c)
 }
 
 /// The slot in which the home of a real-time queue lies, from the first slot on.
@@ -109,17 +87,37 @@ fn search_real_time_in(slots: &[Option<Home>], p: SetId) -> Option<usize>
     search_in(slots, HomeId::RealTime(p))
 }
 
-/// The same, with a guess that is looked at first.
-#[inline(always)]
-fn real_time_slot_in(slots: &[Option<Home>], guess: usize, p: SetId) -> Option<usize>
-    requires apart { AreApart slots.now }
+/// The slot in which a chain of turnstiles lies, from the first slot on.
+#[inline(never)]
+fn search_chain_in(slots: &[Option<Home>], n: u8) -> Option<usize>
     ensures inside { IfSome result (λ i. i < length slots.now) }
-    ensures slot { MatchOption result (IsNoSlot (RealTime p) slots.now) (IsSlot (RealTime p) slots.now) }
+    ensures slot { MatchOption result (IsNoSlot (Chain n) slots.now) (IsSlot (Chain n) slots.now) }
 {
-    if guess < slots.len() && is_at(HomeId::RealTime(p), &slots[guess]) {
-        return Some(guess);
+    search_in(slots, HomeId::Chain(n))
+}
+
+/// The slot in which a chain of sleep queues lies, from the first slot on.
+#[inline(never)]
+fn search_sleepers_in(slots: &[Option<Home>], n: u8) -> Option<usize>
+    ensures inside { IfSome result (λ i. i < length slots.now) }
+    ensures slot { MatchOption result (IsNoSlot (Sleepers n) slots.now) (IsSlot (Sleepers n) slots.now) }
+{
+    search_in(slots, HomeId::Sleepers(n))
+}
+
+/// Whether the home is of the kind that has such numbers. Where it is known to be, that is said where the home was found, so that the compiler
+/// asks no more of which kind it is; it sees that where the number, which it knows, is looked at before the home.
+#[inline(always)]
+fn is_of_kind(k: HomeId, home: &Home) -> bool
+    ensures { home_id home.now ≡ k → result ≡ true }
+{
+    match (k, home) {
+        (HomeId::Cpu(_), Home::Cpu(_)) => true,
+        (HomeId::RealTime(_), Home::RealTime(_)) => true,
+        (HomeId::Chain(_), Home::Chain(_)) => true,
+        (HomeId::Sleepers(_), Home::Sleepers(_)) => true,
+        _ => false,
     }
-    search_real_time_in(slots, p)
 }
 
 /// The list of a home in which the thread stands.
@@ -186,7 +184,12 @@ impl Hand {
         requires slots { AreSlots slots.items }
         ensures { result.slots ≡ slots.items }
     {
-        Hand { slots, guide }
+        let order = order_of(&slots, guide.cpus(), guide.sets());
+        Hand {
+            slots,
+            order,
+            guide,
+        }
     }
 
     /// Takes a home, unless one with its number is held or a home lies in each slot: then it is given back.
@@ -216,7 +219,10 @@ impl Hand {
     {
         match self.slot_of(k) {
             None => None,
-            Some(i) => self.slots[i].take(),
+            Some(i) => {
+                self.order = Order::none();
+                self.slots[i].take()
+            }
         }
     }
 
@@ -227,17 +233,65 @@ impl Hand {
         any_in(&self.slots)
     }
 
+    /// The slot in which the home of a processor lies.
+    #[inline(always)]
+    fn slot_of_cpu(&self, c: CpuId) -> Option<usize>
+        ensures inside { IfSome result (λ i. i < length self.now.slots) }
+        ensures slot { MatchOption result (IsNoSlot (Cpu c) self.now.slots) (IsSlot (Cpu c) self.now.slots) }
+    {
+        match self.order.slot_of_cpu(c) {
+            Some(i) => Some(i),
+            None => search_cpu_in(&self.slots, c),
+        }
+    }
+
+    /// The slot in which the home of a real-time queue lies.
+    #[inline(always)]
+    fn slot_of_real_time(&self, p: SetId) -> Option<usize>
+        ensures inside { IfSome result (λ i. i < length self.now.slots) }
+        ensures slot { MatchOption result (IsNoSlot (RealTime p) self.now.slots) (IsSlot (RealTime p) self.now.slots) }
+    {
+        match self.order.slot_of_real_time(p) {
+            Some(i) => Some(i),
+            None => search_real_time_in(&self.slots, p),
+        }
+    }
+
+    /// The slot in which a chain of turnstiles lies.
+    #[inline(always)]
+    fn slot_of_chain(&self, n: u8) -> Option<usize>
+        ensures inside { IfSome result (λ i. i < length self.now.slots) }
+        ensures slot { MatchOption result (IsNoSlot (Chain n) self.now.slots) (IsSlot (Chain n) self.now.slots) }
+    {
+        match self.order.slot_of_chain(n) {
+            Some(i) => Some(i),
+            None => search_chain_in(&self.slots, n),
+        }
+    }
+
+    /// The slot in which a chain of sleep queues lies.
+    #[inline(always)]
+    fn slot_of_sleepers(&self, n: u8) -> Option<usize>
+        ensures inside { IfSome result (λ i. i < length self.now.slots) }
+        ensures slot { MatchOption result (IsNoSlot (Sleepers n) self.now.slots) (IsSlot (Sleepers n) self.now.slots) }
+    {
+        match self.order.slot_of_sleepers(n) {
+            Some(i) => Some(i),
+            None => search_sleepers_in(&self.slots, n),
+        }
+    }
+
     /// The slot in which the home with this number lies.
     #[inline(always)]
     fn slot_of(&self, k: HomeId) -> Option<usize>
         ensures inside { IfSome result (λ i. i < length self.now.slots) }
         ensures slot { MatchOption result (IsNoSlot k self.now.slots) (IsSlot k self.now.slots) }
     {
-        let guess = self.guide.slot(k);
         match k {
-            HomeId::Cpu(c) => cpu_slot_in(&self.slots, guess, c),
-            HomeId::RealTime(p) => real_time_slot_in(&self.slots, guess, p),
-            _ => slot_in(&self.slots, guess, k),
+            HomeId::Cpu(c) => self.slot_of_cpu(c),
+            HomeId::RealTime(p) => self.slot_of_real_time(p),
+            HomeId::Chain(n) => self.slot_of_chain(n),
+            HomeId::Sleepers(n) => self.slot_of_sleepers(n),
         }
     }
 
@@ -249,8 +303,13 @@ impl Hand {
         match self.slot_of(k) {
             None => Err(Part::Home(k)),
             Some(i) => match &self.slots[i] {
-                None => Err(Part::Home(k)),
-                Some(home) => Ok(home),
+                None => unreachable!(),
+                Some(home) => {
+                    if !is_of_kind(k, home) {
+                        unreachable!()
+                    }
+                    Ok(home)
+                }
             },
         }
     }
@@ -363,12 +422,9 @@ impl Hand {
     fn find_in(&self, t: ThreadId, k: HomeId, at: ListId) -> Option<&Record>
         ensures { option_copied result ≡ taken_from t.0 at (held k self.now.slots) }
     {
-        match self.slot_of(k) {
-            None => None,
-            Some(i) => match &self.slots[i] {
-                None => None,
-                Some(home) => home.find(t, at),
-            },
+        match self.home(k) {
+            Err(_) => None,
+            Ok(home) => home.find(t, at),
         }
     }
 
@@ -379,8 +435,9 @@ impl Hand {
         ensures rest { self.new.slots ≡ edit (home_at from) (taking t.0 from) self.old.slots }
     {
         if let Some(i) = self.slot_of(home_at(from)) {
-            if let Some(home) = &mut self.slots[i] {
-                return home.take(t, from);
+            match &mut self.slots[i] {
+                None => unreachable!(),
+                Some(home) => return home.take(t, from),
             }
         }
         None
@@ -395,9 +452,12 @@ impl Hand {
     {
         self.guide.note(t.id(), at);
         if let Some(i) = self.slot_of(home_at(at)) {
-            if let Some(home) = &mut self.slots[i] {
-                home.is_whole();
-                home.put(t, at);
+            match &mut self.slots[i] {
+                None => unreachable!(),
+                Some(home) => {
+                    home.is_whole();
+                    home.put(t, at);
+                }
             }
         }
     }
@@ -416,8 +476,14 @@ impl Hand {
         ensures changed { RunsChanged t.0 c (λ r q. CanChangeThread work.now t.0 change r.body → q ≡ with_body_of (changed work.now t.0 change r.body) r) self.old.slots self.new.slots }
     {
         if let Some(i) = self.slot_of(HomeId::Cpu(c)) {
-            if let Some(home) = &mut self.slots[i] {
-                return home.change_running(work, t, c, change);
+            match &mut self.slots[i] {
+                None => unreachable!(),
+                Some(home) => {
+                    if !is_of_kind(HomeId::Cpu(c), home) {
+                        unreachable!()
+                    }
+                    return home.change_running(work, t, c, change);
+                }
             }
         }
         false
@@ -429,8 +495,14 @@ impl Hand {
         ensures { self.new.slots ≡ edit (Cpu c) (viewing view) self.old.slots }
     {
         if let Some(i) = self.slot_of(HomeId::Cpu(c)) {
-            if let Some(home) = &mut self.slots[i] {
-                home.set_view(view);
+            match &mut self.slots[i] {
+                None => unreachable!(),
+                Some(home) => {
+                    if !is_of_kind(HomeId::Cpu(c), home) {
+                        unreachable!()
+                    }
+                    home.set_view(view);
+                }
             }
         }
     }
@@ -440,8 +512,14 @@ impl Hand {
         ensures { self.new.slots ≡ edit (Chain (l.0 % 64)) (locking l.0 x) self.old.slots }
     {
         if let Some(i) = self.slot_of(home_of_lock(l)) {
-            if let Some(home) = &mut self.slots[i] {
-                home.set_lock(l, x);
+            match &mut self.slots[i] {
+                None => unreachable!(),
+                Some(home) => {
+                    if !is_of_kind(home_of_lock(l), home) {
+                        unreachable!()
+                    }
+                    home.set_lock(l, x);
+                }
             }
         }
     }

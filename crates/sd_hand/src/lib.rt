@@ -10,6 +10,8 @@ mod guide;
 mod hand;
 mod look;
 mod one_home;
+mod order;
+mod ordering;
 mod sets;
 mod steps;
 mod store;

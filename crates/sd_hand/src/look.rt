@@ -1,6 +1,10 @@
 //! Looking at a state by a hand.
 
-ghost use Rattle.std.specs.Prelude.{◌≡◌, option_copied};
+ghost use Rattle.std.specs.Prelude.{◌≡◌, [], ◌∷◌, option_copied};
+ghost use Rattle.sd_machine.specs.Threads.{best_unbound, priority_of, runner};
+ghost use Rattle.sd_store.specs.Parts.{cpu_part};
+ghost use Rattle.sd_store.specs.Words.{Lacks, Tells};
+ghost use Rattle.sd_hand.specs.Acting.{IsShown, has_part, the_part};
 ghost use Rattle.sd_hand.specs.Keys.{is_back_at, key_or_zero, spot_at};
 
 use crate::acting::Acting;
@@ -35,6 +39,32 @@ fn is_back_at(duty: Duty, o: ThreadId, at: ListId, found: Option<&Record>) -> bo
         }
         (Duty::Walk { seek, key, .. }, ListId::Waits(_, _), None) => seek.0 == o.0 && key == 0,
         _ => false,
+    }
+}
+
+impl Acting {
+    /// The effective priority of the thread that runs on processor `c`, read where the thread stands.
+    #[inline(always)]
+    pub fn running_priority(&self, c: CpuId) -> Result<Option<u8>, Part>
+        ensures value { Tells (IsShown self.now) result (λ s. priority_of s (runner s c.0)) }
+        ensures lack { Lacks the_part (IsShown self.now) (has_part self.now) result (λ s. cpu_part c ∷ []) }
+    {
+        match self.hand.first_priority(ListId::Runs(c)) {
+            Err(q) => Err(q),
+            Ok(p) => Ok(p),
+        }
+    }
+
+    /// The effective priority of the best on the queue of processor `c` that is bound to no processor, read where the thread stands.
+    #[inline(always)]
+    pub fn unbound_priority(&self, c: CpuId) -> Result<Option<u8>, Part>
+        ensures value { Tells (IsShown self.now) result (λ s. priority_of s (best_unbound s c.0)) }
+        ensures lack { Lacks the_part (IsShown self.now) (has_part self.now) result (λ s. cpu_part c ∷ []) }
+    {
+        match self.hand.unbound_priority(c) {
+            Err(q) => Err(q),
+            Ok(p) => Ok(p),
+        }
     }
 }
 

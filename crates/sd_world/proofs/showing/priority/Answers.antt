@@ -1,16 +1,34 @@
-use Rattle.sd_world.proofs.HintLemmas.{below_all, not_found}
+use Rattle.std.proofs.Common.{sym, ap, ◌∙◌}
+use Rattle.sd_types.specs.declared.events.Which.TheVariants.{Running, Queued}
+use Rattle.sd_machine.specs.Threads.{priority_of}
+use Rattle.sd_world.specs.Plain.{thread_shown}
+use Rattle.sd_world.proofs.HintLemmas.{below_shown, not_cpu}
 use Rattle.sd_world.proofs.showing.priority.Goals as goal
 
 pub unreachable-requires : goal.unreachable-requires
 unreachable-requires c =
     let st = c.requires.stands in
     let lack = c.in-Err.ensures.lack in
-    not_found c.args.x.now c.args.found c.in-Err.field-0 c.requires.found (lack.0 st.number st.state st.shown) lack.1
+    not_cpu c.args.x.now c.args.d c.in-Err.field-0 c.requires.home (lack.0 st.number st.state st.shown) lack.1
 
-pub returns-clause-value : goal.returns-clause-value
-returns-clause-value c = c.in-Ok.ensures.value
-
-pub returns-clause-below : goal.returns-clause-below
-returns-clause-below c =
+pub unreachable-requires-in-Err-unbound_priority : goal.unreachable-requires-in-Err-unbound_priority
+unreachable-requires-in-Err-unbound_priority c =
     let st = c.requires.stands in
-    below_all c.args.x.now st c.in-Ok.p c.args.found (c.in-Ok.ensures.value st.number st.state st.shown)
+    let lack = c.in-Err-unbound_priority.ensures.lack in
+    not_cpu c.args.x.now c.args.d c.in-Err-unbound_priority.field-0 c.requires.home (lack.0 st.number st.state st.shown) lack.1
+
+pub returns-in-Ok-clause-value : goal.returns-in-Ok-clause-value
+returns-in-Ok-clause-value c n s sh = c.in-Ok.ensures.value n s sh ∙ ap (λ z. priority_of s (thread_shown s z c.args.d)) (sym c.in-Running.is)
+
+pub returns-in-Ok-unbound_priority-clause-value : goal.returns-in-Ok-unbound_priority-clause-value
+returns-in-Ok-unbound_priority-clause-value c n s sh = c.in-Ok-unbound_priority.ensures.value n s sh ∙ ap (λ z. priority_of s (thread_shown s z c.args.d)) (sym c.in-Queued.is)
+
+pub returns-in-Ok-clause-below : goal.returns-in-Ok-clause-below
+returns-in-Ok-clause-below c =
+    let st = c.requires.stands in
+    below_shown c.args.x.now st Running c.args.d c.in-Ok.p (c.in-Ok.ensures.value st.number st.state st.shown)
+
+pub returns-in-Ok-unbound_priority-clause-below : goal.returns-in-Ok-unbound_priority-clause-below
+returns-in-Ok-unbound_priority-clause-below c =
+    let st = c.requires.stands in
+    below_shown c.args.x.now st Queued c.args.d c.in-Ok-unbound_priority.p (c.in-Ok-unbound_priority.ensures.value st.number st.state st.shown)

@@ -1,7 +1,8 @@
 use Rattle.std.proofs.Common.{ap, ◌∙◌}
 use Rattle.sd_types.specs.declared.numbers.HomeId.TheVariants.{RealTime}
 use Rattle.sd_homes.specs.Families.{home_id, shut}
-use Rattle.sd_hand.proofs.GuideLemmas.{slots_changed, shut_keeps, slot_changed, slot_lost}
+use Rattle.sd_hand.proofs.GuideLemmas.{shut_keeps, slot_changed, slot_lost}
+use Rattle.sd_hand.proofs.OrderLemmas.{slots_changed}
 use Rattle.sd_hand.proofs.hand.Hand.close.Goals as goal
 
 pub invariant_of-self : goal.invariant_of-self

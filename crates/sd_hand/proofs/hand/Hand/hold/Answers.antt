@@ -4,6 +4,7 @@ use Rattle.sd_homes.specs.Families.{home_id}
 use Rattle.sd_hand.specs.Hands.{AreTaken, HandSlots, held}
 use Rattle.sd_hand.proofs.CountLemmas.{full, held_more}
 use Rattle.sd_hand.proofs.GuideLemmas.{holds_shown}
+use Rattle.sd_hand.proofs.OrderLemmas.{order_filled, slots_of}
 use Rattle.sd_hand.proofs.SlotLemmas.{holds_more}
 use Rattle.sd_hand.proofs.hand.Hand.hold.Goals as goal
 
@@ -15,6 +16,7 @@ invariant_of-self c =
     record {
       apart = (holds_more c.args.home hs c.in-Some-free_in.i free (ap (λ (x : HandSlots). held (home_id c.args.home) x.slots) c.self.view_is ∙ none)).apart c.self.invariant.apart;
       four = subst (λ n. 4 ≤ n) (sym (length-set hs c.in-Some-free_in.i (Some c.args.home))) c.self.invariant.four;
+      order = order_filled c.self.inside.order hs c.in-Some-free_in.i c.args.home c.self.invariant.order free;
     }
 
 pub returns-in-Some-free_in-clause-held : goal.returns-in-Some-free_in-clause-held
@@ -28,4 +30,4 @@ returns-in-Some-free_in-clause-count c =
 
 pub returns-in-None-free_in-clause-refused : goal.returns-in-None-free_in-clause-refused
 returns-in-None-free_in-clause-refused c =
-    (refl, refl, inr (full c.args.self.now c.self.inside.slots.items c.self.view_is c.self.invariant (subst AreTaken c.deref.ensures.value c.in-None-free_in.ensures)))
+    (refl, refl, inr (full c.args.self.now c.self.inside.slots.items c.self.view_is (slots_of c.self.inside.slots.items c.self.invariant) (subst AreTaken c.deref.ensures.value c.in-None-free_in.ensures)))

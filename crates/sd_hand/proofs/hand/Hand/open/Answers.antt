@@ -2,7 +2,8 @@ use Rattle.std.proofs.Common.{◌≡◌, ap, ◌∙◌}
 use Rattle.sd_basics.proofs.Results.{done, refused}
 use Rattle.sd_types.specs.declared.numbers.HomeId.TheVariants.{RealTime}
 use Rattle.sd_homes.specs.Families.{home_id, opened}
-use Rattle.sd_hand.proofs.GuideLemmas.{slots_changed, held_here, kept_here, opened_keeps, slot_changed, slot_lost}
+use Rattle.sd_hand.proofs.GuideLemmas.{held_here, kept_here, opened_keeps, slot_changed, slot_lost}
+use Rattle.sd_hand.proofs.OrderLemmas.{slots_changed}
 use Rattle.sd_hand.proofs.SlotLemmas.{either}
 use Rattle.sd_hand.proofs.hand.Hand.open.Goals as goal
 

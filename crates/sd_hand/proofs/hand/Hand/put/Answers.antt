@@ -3,7 +3,8 @@ use Rattle.std.specs.Prelude.{slice_set}
 use Rattle.sd_homes.specs.Standing.{insert_at}
 use Rattle.sd_homes.specs.Families.{IsWhole, home_id, list_in, putting}
 use Rattle.sd_hand.specs.Hands.{HandSlots, edit, held}
-use Rattle.sd_hand.proofs.GuideLemmas.{slots_changed, same_held, slot_changed, slot_lost, slot_there}
+use Rattle.sd_hand.proofs.GuideLemmas.{same_held, slot_changed}
+use Rattle.sd_hand.proofs.OrderLemmas.{slots_changed}
 use Rattle.sd_hand.proofs.HomeLemmas.{keeps-with_list}
 use Rattle.sd_hand.proofs.hand.Hand.put.Goals as goal
 
@@ -24,13 +25,3 @@ returns-in-Some-index_mut-clause-whole c h e =
     (same_held (record { slots = c.self.inside.slots.items }) c.self.inside.slots.items c.home_at.result c.in-Some.i c.in-Some-index_mut.home h c.index_mut.result.now refl c.in-Some.ensures.slot c.index_mut.ensures.value c.in-Some-index_mut.is
     (ap (λ (x : HandSlots). held c.home_at.result x.slots) c.self.view_is ∙ (ap (λ k. held k c.args.self.now.slots) c.home_at.ensures ∙ e)))
     c.is_whole.ensures
-
-pub returns-in_default-index_mut-clause-rest : goal.returns-in_default-index_mut-clause-rest
-returns-in_default-index_mut-clause-rest c =
-    subst (λ k. slice_set c.self.inside.slots.items c.in-Some.i c.index_mut.result.now ≡ edit k (putting c.args.t c.args.at) c.args.self.now.slots) c.home_at.ensures
-    (slot_lost (record { slots = c.self.inside.slots.items }) c.self.inside.slots.items c.home_at.result c.in-Some.i c.index_mut.result.now (putting c.args.t c.args.at) refl c.in-Some.ensures.slot c.index_mut.ensures.value c.in_default-index_mut.is
-    ∙ ap (λ (x : HandSlots). edit c.home_at.result (putting c.args.t c.args.at) x.slots) c.self.view_is)
-
-pub returns-in_default-index_mut-clause-whole : goal.returns-in_default-index_mut-clause-whole
-returns-in_default-index_mut-clause-whole c h e =
-    absurd (slot_there (record { slots = c.self.inside.slots.items }) c.self.inside.slots.items c.home_at.result c.in-Some.i c.index_mut.result.now refl c.in-Some.ensures.slot c.index_mut.ensures.value c.in_default-index_mut.is)

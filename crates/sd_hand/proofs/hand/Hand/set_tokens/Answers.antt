@@ -3,7 +3,8 @@ use Rattle.std.specs.Prelude.{slice_set}
 use Rattle.sd_homes.specs.Families.{counting, home_id}
 use Rattle.sd_hand.proofs.PartLemmas.{counting_keeps}
 use Rattle.sd_hand.specs.Hands.{edit}
-use Rattle.sd_hand.proofs.GuideLemmas.{slots_changed, slot_changed, slot_lost}
+use Rattle.sd_hand.proofs.GuideLemmas.{slot_changed, slot_lost}
+use Rattle.sd_hand.proofs.OrderLemmas.{slots_changed}
 use Rattle.sd_hand.proofs.hand.Hand.set_tokens.Goals as goal
 
 pub invariant_of-self : goal.invariant_of-self

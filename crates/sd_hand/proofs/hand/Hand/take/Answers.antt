@@ -4,7 +4,8 @@ use Rattle.sd_boxq.specs.Order.{drop_id}
 use Rattle.sd_homes.specs.Standing.{id_of}
 use Rattle.sd_homes.specs.Families.{home_id, list_in, taken_from, taking}
 use Rattle.sd_hand.specs.Hands.{edit, held}
-use Rattle.sd_hand.proofs.GuideLemmas.{slots_changed, held_here, slot_changed}
+use Rattle.sd_hand.proofs.GuideLemmas.{held_here, slot_changed}
+use Rattle.sd_hand.proofs.OrderLemmas.{slots_changed}
 use Rattle.sd_hand.proofs.HomeLemmas.{keeps-with_list}
 use Rattle.sd_hand.proofs.hand.Hand.take.Goals as goal
 

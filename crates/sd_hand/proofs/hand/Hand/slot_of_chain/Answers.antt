@@ -1,0 +1,11 @@
+use Rattle.sd_hand.specs.declared.ordering.Kind.TheVariants.{Chain}
+use Rattle.sd_hand.proofs.OrderLemmas.{lies}
+use Rattle.sd_hand.proofs.hand.Hand.slot_of_chain.Goals as goal
+
+pub returns-in-Some-clause-inside : goal.returns-in-Some-clause-inside
+returns-in-Some-clause-inside c =
+    (lies c.args.self.now c.self.inside.slots.items Chain c.self.inside.order.first_chain c.self.inside.order.chains c.args.n c.in-Some.i c.self.view_is c.self.invariant.apart c.self.invariant.order.chains c.in-Some.ensures.1 c.in-Some.ensures.0).inside
+
+pub returns-in-Some-clause-slot : goal.returns-in-Some-clause-slot
+returns-in-Some-clause-slot c =
+    (lies c.args.self.now c.self.inside.slots.items Chain c.self.inside.order.first_chain c.self.inside.order.chains c.args.n c.in-Some.i c.self.view_is c.self.invariant.apart c.self.invariant.order.chains c.in-Some.ensures.1 c.in-Some.ensures.0).slot
