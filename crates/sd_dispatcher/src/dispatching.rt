@@ -3,15 +3,15 @@
 //! Source: Solaris Internals (disp, preempt, disp_getwork); that a thread which holds a lock is in the kernel is this
 //! project's own.
 
-ghost use Rattle.std.specs.Prelude.{◌≡◌, [], ◌∷◌, ◌==◌, ◌&&◌, not, length, option_copied, option_map, unwrap_or};
+ghost use Rattle.std.specs.Prelude.{◌≡◌, ◌==◌, ◌&&◌, not, length, option_copied, option_map, unwrap_or};
 ghost use Rattle.sd_machine.specs.Dispatching.{dispatch_plan, leave_event, leave_plan, must_leave, search_event, steal_event};
 ghost use Rattle.sd_machine.specs.Threads.{is_sys};
 ghost use Rattle.sd_state.specs.declared.states.CpuState.{CpuState};
-ghost use Rattle.sd_state.specs.States.{cpu_of, no_body, thread_of};
+ghost use Rattle.sd_state.specs.States.{no_body};
 ghost use Rattle.sd_dispatcher.specs.Touched.{victim_parts};
 ghost use Rattle.sd_types.specs.declared.bodies.ThreadBody.{ThreadBody as ThreadBodyOf};
 ghost use Rattle.sd_rules.specs.ClassRules.{end_of};
-ghost use Rattle.sd_store.specs.Parts.{cpu_part, found_parts, number, thread_part, view_of};
+ghost use Rattle.sd_store.specs.Parts.{found_parts, number, view_of};
 ghost use Rattle.sd_store.specs.Words.{Lacks, Tells};
 
 use crate::bodies::eff_of;
@@ -84,16 +84,6 @@ pub fn leave_in(view: &CpuView, c: CpuId, t: ThreadId, body: Option<&ThreadBody>
     } else {
         None
     }
-}
-
-/// The running thread `t` leaves processor `c` where it has to.
-pub fn leave_plan<L: Look>(x: &L, c: CpuId, t: ThreadId) -> Result<Option<Plan>, L::Lack>
-    ensures value { Tells (L.shows x.now) result (λ s. leave_plan c.0 (cpu_of s c.0) t.0 (thread_of s t.0).body) }
-    ensures lack { Lacks L.part (L.shows x.now) (L.has x.now) result (λ s. cpu_part c ∷ thread_part t ∷ []) }
-{
-    let view = x.cpu(c)?;
-    let body = x.body(t)?;
-    Ok(leave_in(&view, c, t, body))
 }
 
 /// The best that is ready is dispatched; where nothing is, a search begins.

@@ -19,7 +19,7 @@ pub use bodies::{
     is_privileged, op_in, op_of, priority_of, uid_of, willed_numbers,
 };
 pub use choosing::{neighbours, put_chosen, put_read, victim_for, victim_read};
-pub use dispatching::{dispatch_plan, leave_in, leave_plan, search_event};
+pub use dispatching::{dispatch_plan, leave_in, search_event};
 pub use marks::{mark_over, remark};
 pub use placing::{put, put_where, put_with};
 pub use reading::{Reading, hints_fit, reads_for, reads_to_steal};

@@ -13,5 +13,5 @@ mod targets;
 pub use ageing::{age_plan, aged};
 pub use assigning::{assign_answer, assigned, closing_plan, joined, moved};
 pub use binding::{bind_to, pbound};
-pub use priocntl::{prio_plan, reprioritised, wanted_op};
+pub use priocntl::{prio_plan, reprioritised};
 pub use targets::answer_to;

@@ -140,7 +140,7 @@ fn changed_by<S: Store>(
 
 /// The operation at which thread `t` stands, None after the last. A request names a quantum that is in its range.
 #[inline(always)]
-pub fn wanted_op<L: Look>(work: &Work, x: &L, t: ThreadId) -> Result<Option<Op>, L::Lack>
+fn wanted_op<L: Look>(work: &Work, x: &L, t: ThreadId) -> Result<Option<Op>, L::Lack>
     ensures value { Tells (L.shows x.now) result (λ s. op_of work.now t.0 (thread_of s t.0).body) }
     ensures lack { Lacks L.part (L.shows x.now) (L.has x.now) result (λ s. thread_part t ∷ []) }
     ensures quantum { IfOk result (λ op. (u : ThreadId) (r : Request) → op ≡ Some (Prio u r) → IsTrue (quantum_fits r.quantum)) }
