@@ -2,6 +2,7 @@
 
 ghost use Rattle.std.specs.Prelude.{◌≡◌, ◌≤◌, ◌∷◌, [], IfOk, pos, negsuc, ◌≤ℤ◌};
 
+use crate::items::sent;
 use arrayvec::ArrayVec;
 use sd_boxq::{BoxQueue, Node, Ranked};
 use sd_record::Record;
@@ -145,30 +146,32 @@ fn waiving(thread: &mut Record) -> [u8; 4] {
     [first, same, third, thread.effective()]
 }
 
+/// The thread inherits, and waives what it inherited, through locks that it goes on holding.
+fn inherits(thread: &mut Record) -> bool
+    requires { thread.old.body.held.items ≡ record { 0 = 1 } ∷ record { 0 = 2 } ∷ record { 0 = 3 } ∷ [] }
+{
+    let inherited = inheriting(thread);
+    let three = thread.body.willed.len() == 3 && thread.base() == 29;
+    let waived = waiving(thread);
+    inherited.as_slice() == &[29, 40, 40, 35, 159][..]
+        && three
+        && waived.as_slice() == &[35, 35, 30, 29][..]
+        && thread.body.held.len() == 3
+}
+
 #[test]
 fn inheritance(rt: HostRuntime) -> Result<(), Fail> {
     let mut thread = holder(rt.alloc(), ts(29, 0))?;
-    let inherited = inheriting(&mut thread);
-    let numbers = thread.body.willed.len();
-    let base = thread.base();
-    let waived = waiving(&mut thread);
-    let held = thread.body.held.len();
-    assert_eq!(rt; inherited.as_slice(), &[29, 40, 40, 35, 159][..]);
-    assert!(rt; numbers == 3 && base == 29);
-    assert_eq!(rt; waived.as_slice(), &[35, 35, 30, 29][..]);
-    assert_eq!(rt; held, 3);
+    let is_so = inherits(&mut thread);
+    assert!(rt; is_so);
     Ok(())
-}
-
-/// What crosses threads crosses here.
-fn sent<T: Send>(value: T) -> T {
-    value
 }
 
 #[test]
 fn another_thread_may_have_a_record(rt: HostRuntime) -> Result<(), Fail> {
     let thread = sent(holder(rt.alloc(), ts(29, 0))?);
-    assert_eq!(rt; thread.id(), 7);
+    let is_seven = thread.id() == 7;
+    assert!(rt; is_seven);
     Ok(())
 }
 
@@ -216,13 +219,20 @@ fn would_be_with(thread: &Record) -> bool {
     true
 }
 
+/// The thread has a number for two of its locks.
+fn would_be(thread: &mut Record) -> bool
+    requires { thread.old.body.held.items ≡ record { 0 = 1 } ∷ record { 0 = 2 } ∷ record { 0 = 3 } ∷ [] }
+{
+    thread.inherit(LockId(1), 40);
+    thread.inherit(LockId(2), 20);
+    would_be_in(thread) && would_be_with(thread) && thread.effective() == 40
+}
+
 #[test]
 fn priorities_that_would_be(rt: HostRuntime) -> Result<(), Fail> {
     let mut thread = holder(rt.alloc(), ts(29, 0))?;
-    thread.inherit(LockId(1), 40);
-    thread.inherit(LockId(2), 20);
-    assert!(rt; would_be_in(&thread) && would_be_with(&thread));
-    assert_eq!(rt; thread.effective(), 40);
+    let is_so = would_be(&mut thread);
+    assert!(rt; is_so);
     Ok(())
 }
 
@@ -289,13 +299,21 @@ fn base_at(queue: &BoxQueue<Record>, index: usize) -> Option<u8> {
     }
 }
 
+fn queue_up_three(alloc: Global, queue: &mut BoxQueue<Record>) -> Result<(), AllocError> {
+    queue_up(alloc, queue, fx(10))?;
+    queue_up(alloc, queue, rt_class(0))?;
+    queue_up(alloc, queue, fx(30))
+}
+
+fn is_ranked(queue: &BoxQueue<Record>) -> bool {
+    base_at(queue, 0) == Some(100) && base_at(queue, 1) == Some(30) && base_at(queue, 2) == Some(10)
+}
+
 #[test]
 fn a_queue_of_records(rt: HostRuntime) -> Result<(), Fail> {
     let mut queue = BoxQueue::new();
-    queue_up(rt.alloc(), &mut queue, fx(10))?;
-    queue_up(rt.alloc(), &mut queue, rt_class(0))?;
-    queue_up(rt.alloc(), &mut queue, fx(30))?;
-    let bases = [base_at(&queue, 0), base_at(&queue, 1), base_at(&queue, 2)];
-    assert_eq!(rt; bases.as_slice(), &[Some(100), Some(30), Some(10)][..]);
+    queue_up_three(rt.alloc(), &mut queue)?;
+    let is_so = is_ranked(&queue);
+    assert!(rt; is_so);
     Ok(())
 }

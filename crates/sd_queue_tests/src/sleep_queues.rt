@@ -5,6 +5,7 @@ use crate::items::{Item, id_of, node, sent, taken};
 use sd_boxq::{Node, Ranked};
 use sd_sleepq::SleepChain;
 use sd_types::ChanId;
+use std::alloc::AllocError;
 use std::test::Fail;
 
 // The channel on which the taken one slept, and 0 where there was none.
@@ -26,26 +27,81 @@ const SLEEPERS: [(u16, u8, i64, u32); 7] = [
     (67, 40, -3, 7),
 ];
 
+// Whether all of them could be put to sleep on channels of this chain.
+fn sleep_all(rt: &HostRuntime, chain: &mut SleepChain<Item>) -> Result<bool, AllocError> {
+    for row in &SLEEPERS {
+        let (channel, rank, key, id) = *row;
+        if channel >= 256 || channel % 64 != u16::from(chain.number()) {
+            return Ok(false);
+        }
+        chain.sleep(ChanId(channel), node(rt, rank, key, id)?);
+    }
+    Ok(true)
+}
+
+// Whether what is found of each id has the id beside it, with 0 for none.
+fn are_found(chain: &SleepChain<Item>, rows: &[(u32, u32)]) -> bool {
+    for row in rows {
+        let (id, found) = *row;
+        if id_of(chain.find(id)) != found {
+            return false;
+        }
+    }
+    true
+}
+
+// Whether these are the best on channel 67 with keys below these.
+fn are_best(chain: &SleepChain<Item>, rows: &[(i64, u32)]) -> bool {
+    for row in rows {
+        let (below, id) = *row;
+        if chain.number() != 3 || id_of(chain.best(ChanId(67), below)) != id {
+            return false;
+        }
+    }
+    true
+}
+
+// Whether these are the best on channel 67, as each of them is taken.
+fn leave_in_turn(chain: &mut SleepChain<Item>, rows: &[(i64, u32)]) -> bool {
+    for row in rows {
+        let (below, id) = *row;
+        if chain.number() != 3 || taken(chain.take_best(ChanId(67), below)) != id {
+            return false;
+        }
+    }
+    true
+}
+
+// Whether each of these ids is taken from this channel.
+fn are_woken(chain: &mut SleepChain<Item>, rows: &[(u32, u16)]) -> bool {
+    for row in rows {
+        let (id, channel) = *row;
+        if woken(chain.take(id)) != channel {
+            return false;
+        }
+    }
+    true
+}
+
+fn is_asleep(chain: &SleepChain<Item>) -> bool {
+    are_found(chain, &[(1, 1), (4, 4), (5, 5), (6, 6), (7, 7), (8, 0)])
+        // Channel 67 has 5, 2, 6 and 7: the greater rank first, and of the equal keys the earlier sleeper.
+        && are_best(chain, &[(21, 5), (20, 2), (9, 2), (8, 7), (-2, 7), (-3, 0)])
+}
+
+fn is_woken(chain: &mut SleepChain<Item>) -> bool {
+    leave_in_turn(
+        chain,
+        &[(-3, 0), (8, 7), (20, 2), (21, 5), (8, 0), (9, 6), (100, 0)],
+    ) && are_woken(chain, &[(6, 0), (3, 131), (3, 0), (4, 195), (1, 3), (1, 0)])
+}
+
 #[test]
 fn sleeps_and_wakes(rt: HostRuntime) -> Result<(), Fail> {
     let mut chain = SleepChain::new(3);
-    for (channel, rank, key, id) in SLEEPERS {
-        assert!(rt; channel < 256 && channel % 64 == 3);
-        chain.sleep(ChanId(channel), node(&rt, rank, key, id)?);
-    }
-    for (id, found) in [(1, 1), (4, 4), (5, 5), (6, 6), (7, 7), (8, 0)] {
-        assert_eq!(rt; id_of(chain.find(id)), found);
-    }
-    // Channel 67 has 5, 2, 6 and 7: the greater rank first, and of the equal keys the earlier sleeper.
-    for (below, id) in [(21, 5), (20, 2), (9, 2), (8, 7), (-2, 7), (-3, 0)] {
-        assert_eq!(rt; id_of(chain.best(ChanId(67), below)), id);
-    }
-    for (below, id) in [(-3, 0), (8, 7), (20, 2), (21, 5), (8, 0), (9, 6), (100, 0)] {
-        assert_eq!(rt; taken(chain.take_best(ChanId(67), below)), id);
-    }
-    for (id, channel) in [(6, 0), (3, 131), (3, 0), (4, 195), (1, 3), (1, 0)] {
-        assert_eq!(rt; woken(chain.take(id)), channel);
-    }
+    let all = sleep_all(&rt, &mut chain)?;
+    let is_so = all && is_asleep(&chain) && is_woken(&mut chain);
+    assert!(rt; is_so);
     Ok(())
 }
 
@@ -56,10 +112,15 @@ fn chain_is_sent<T: Ranked + Send>(chain: SleepChain<T>) -> SleepChain<T>
 }
 
 // What goes to another thread.
+fn sends(rt: &HostRuntime) -> Result<bool, AllocError> {
+    let mut chain = SleepChain::new(1);
+    chain.sleep(ChanId(65), node(rt, 10, 1, 5)?);
+    let mut chain = chain_is_sent(chain);
+    Ok(woken(chain.take(5)) == 65)
+}
+
 #[test]
 fn is_send(rt: HostRuntime) -> Result<(), Fail> {
-    let mut chain = SleepChain::new(1);
-    chain.sleep(ChanId(65), node(&rt, 10, 1, 5)?);
-    assert_eq!(rt; woken(chain_is_sent(chain).take(5)), 65);
+    assert!(rt; sends(&rt)?);
     Ok(())
 }

@@ -1,6 +1,6 @@
 //! Turnstiles: four locks of one chain, each with waiters on both sides, taken in turn.
-ghost use Rattle.std.specs.Prelude.{◌≡◌, IfOk};
-ghost use Rattle.sd_turnstile.specs.Waiters.{nobody};
+ghost use Rattle.std.specs.Prelude.{◌≡◌, IfOk, IsTrue};
+ghost use Rattle.sd_turnstile.specs.Waiters.{nobody, IsIdle, IsOfChain};
 
 use crate::items::{Item, id_of, node, sent};
 use sd_boxq::{Node, Ranked};
@@ -47,64 +47,143 @@ const WAITERS: [(u16, bool, u8, i64, u32); 9] = [
     (197, true, 60, 8, 8),
 ];
 
+// Whether this is a lock of that chain.
+fn is_of(chain: &TurnstileChain<Item>, lock: u16) -> bool
+    ensures { IsTrue result → IsOfChain chain.now lock }
+{
+    lock < 256 && lock % 64 == u16::from(chain.number())
+}
+
+// Whether all of them could wait for locks of this chain.
+fn block_all(rt: &HostRuntime, chain: &mut TurnstileChain<Item>) -> Result<bool, AllocError> {
+    for row in &WAITERS {
+        let (lock, writes, rank, key, id) = *row;
+        if !is_of(chain, lock) {
+            return Ok(false);
+        }
+        let own = turnstile(rt)?;
+        chain.block(LockId(lock), side(writes), node(rt, rank, key, id)?, own);
+    }
+    Ok(true)
+}
+
+// Whether these are the greatest ranks of the waiters for these locks.
+fn are_greatest(chain: &TurnstileChain<Item>, rows: &[(u16, u8)]) -> bool {
+    for row in rows {
+        let (lock, rank) = *row;
+        if !is_of(chain, lock) || chain.greatest(LockId(lock)) != Some(rank) {
+            return false;
+        }
+    }
+    true
+}
+
+// Whether these are the best for lock 133 on these sides.
+fn are_best(chain: &TurnstileChain<Item>, rows: &[(Side, u32)]) -> bool {
+    for row in rows {
+        let (side, id) = *row;
+        if !is_of(chain, 133) || id_of(chain.best(LockId(133), side)) != id {
+            return false;
+        }
+    }
+    true
+}
+
+// Whether these are taken in turn as the best for these locks, with 0 for none.
+fn leave_in_turn(chain: &mut TurnstileChain<Item>, rows: &[(u16, bool, u32)]) -> bool {
+    for row in rows {
+        let (lock, writes, id) = *row;
+        if !is_of(chain, lock) || best(chain.take_best(LockId(lock), side(writes))) != id {
+            return false;
+        }
+    }
+    true
+}
+
+// Whether each of these ids is taken from this lock and side.
+fn leave_from(chain: &mut TurnstileChain<Item>, rows: &[(u32, u16, bool)]) -> bool {
+    for row in rows {
+        let (id, lock, writes) = *row;
+        let (left_lock, left_writes) = left(chain.take(id));
+        if left_lock != lock || left_writes != writes {
+            return false;
+        }
+    }
+    true
+}
+
+fn is_blocked(chain: &TurnstileChain<Item>) -> bool {
+    are_greatest(chain, &[(5, 30), (69, 20), (133, 40), (197, 60)])
+        && id_of(chain.find(7)) == 7
+        && id_of(chain.find(10)) == 0
+        && are_best(chain, &[(Side::Writer, 6), (Side::Reader, 9)])
+}
+
+// The lock, whether as a writer, and the id.
+const BEST: [(u16, bool, u32); 7] = [
+    (5, true, 1),
+    (5, true, 0),
+    (133, true, 6),
+    (5, false, 2),
+    (133, true, 5),
+    (133, true, 0),
+    (133, false, 9),
+];
+
+// The id, the lock, and whether as a writer.
+const HOMES: [(u32, u16, bool); 5] = [
+    (3, 69, false),
+    (3, 0, false),
+    (8, 197, true),
+    (7, 197, false),
+    (4, 69, true),
+];
+
 #[test]
 fn blocks_and_takes(rt: HostRuntime) -> Result<(), Fail> {
     let mut chain = TurnstileChain::new(5);
-    for (lock, writes, rank, key, id) in WAITERS {
-        assert!(rt; lock < 256 && lock % 64 == 5);
-        let own = turnstile(&rt)?;
-        chain.block(LockId(lock), side(writes), node(&rt, rank, key, id)?, own);
-    }
-    for (lock, rank) in [
-        (5, Some(30)),
-        (69, Some(20)),
-        (133, Some(40)),
-        (197, Some(60)),
-    ] {
-        assert!(rt; lock < 256 && lock % 64 == 5);
-        assert_eq!(rt; chain.greatest(LockId(lock)), rank);
-    }
-    assert_eq!(rt; id_of(chain.find(7)), 7);
-    assert_eq!(rt; id_of(chain.find(10)), 0);
-    assert_eq!(rt; id_of(chain.best(LockId(133), Side::Writer)), 6);
-    assert_eq!(rt; id_of(chain.best(LockId(133), Side::Reader)), 9);
-    for (lock, writes, id) in [
-        (5, true, 1),
-        (5, true, 0),
-        (133, true, 6),
-        (5, false, 2),
-        (133, true, 5),
-        (133, true, 0),
-        (133, false, 9),
-    ] {
-        assert!(rt; lock < 256 && lock % 64 == 5);
-        assert_eq!(rt; best(chain.take_best(LockId(lock), side(writes))), id);
-    }
-    for (id, home) in [
-        (3, (69, false)),
-        (3, (0, false)),
-        (8, (197, true)),
-        (7, (197, false)),
-        (4, (69, true)),
-    ] {
-        assert_eq!(rt; left(chain.take(id)), home);
-    }
+    let all = block_all(&rt, &mut chain)?;
+    let is_so = all
+        && is_blocked(&chain)
+        && leave_in_turn(&mut chain, &BEST)
+        && leave_from(&mut chain, &HOMES);
+    assert!(rt; is_so);
     Ok(())
+}
+
+fn gives_one(rack: &mut Rack<Item>) -> bool {
+    rack.take().is_some()
+}
+
+// What an empty rack has and gives.
+fn is_empty(rack: &mut Rack<Item>) -> bool
+    requires { rack.old ≡ 0 }
+    ensures { rack.new ≡ 0 }
+{
+    let has_none = rack.len() == 0;
+    match rack.take() {
+        None => has_none,
+        Some(_turnstile) => false,
+    }
+}
+
+fn put_three(rt: &HostRuntime, rack: &mut Rack<Item>) -> Result<bool, AllocError>
+    requires { rack.old ≡ 0 }
+{
+    rack.put(turnstile(rt)?);
+    rack.put(turnstile(rt)?);
+    rack.put(turnstile(rt)?);
+    Ok(rack.len() == 3)
 }
 
 #[test]
 fn racks(rt: HostRuntime) -> Result<(), Fail> {
     let mut rack = Rack::new();
-    assert_eq!(rt; rack.len(), 0);
-    assert!(rt; rack.take().is_none());
-    for _ in 0..3usize {
-        rack.put(turnstile(&rt)?);
-    }
-    assert_eq!(rt; rack.len(), 3);
-    for _ in 0..3usize {
-        assert!(rt; rack.take().is_some());
-    }
-    assert!(rt; rack.take().is_none());
+    let none = is_empty(&mut rack);
+    let three = put_three(&rt, &mut rack)?;
+    let all = gives_one(&mut rack) && gives_one(&mut rack) && gives_one(&mut rack);
+    let no_more = !gives_one(&mut rack);
+    assert!(rt; none && three && all && no_more);
     Ok(())
 }
 
@@ -126,14 +205,29 @@ fn turnstile_is_sent<T: Send>(turnstile: Turnstile<T>) -> Turnstile<T>
     sent(turnstile)
 }
 
+fn sends_a_chain(rt: &HostRuntime, own: Turnstile<Item>) -> Result<bool, AllocError>
+    requires { IsIdle own }
+{
+    let mut chain = TurnstileChain::new(9);
+    chain.block(LockId(9), Side::Writer, node(rt, 10, 1, 5)?, own);
+    let mut chain = chain_is_sent(chain);
+    let (lock, writes) = left(chain.take(5));
+    Ok(lock == 9 && writes)
+}
+
 // What goes to another thread.
+fn sends(rt: &HostRuntime) -> Result<bool, AllocError> {
+    let mut rack = Rack::new();
+    rack.put(turnstile_is_sent(turnstile(rt)?));
+    let mut rack = rack_is_sent(rack);
+    match rack.take() {
+        Some(own) => sends_a_chain(rt, own),
+        None => Ok(false),
+    }
+}
+
 #[test]
 fn is_send(rt: HostRuntime) -> Result<(), Fail> {
-    let mut rack = Rack::new();
-    rack.put(turnstile_is_sent(turnstile(&rt)?));
-    let own = rack_is_sent(rack).take().ok_or("no turnstile")?;
-    let mut chain = TurnstileChain::new(9);
-    chain.block(LockId(9), Side::Writer, node(&rt, 10, 1, 5)?, own);
-    assert_eq!(rt; left(chain_is_sent(chain).take(5)), (9, true));
+    assert!(rt; sends(&rt)?);
     Ok(())
 }
