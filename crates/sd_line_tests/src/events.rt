@@ -1,6 +1,6 @@
 //! A line of each event, written by hand.
 
-use crate::given::named;
+use crate::given::{Texts, wrong_text};
 use arrayvec::ArrayVec;
 use sd_entries::write_entry;
 use sd_types::{
@@ -167,17 +167,21 @@ fn plain_event(i: u8) -> (Event, &'static str) {
     }
 }
 
-#[test]
-fn events_without_hints(rt: HostRuntime) -> Result<(), Fail> {
-    let alloc = rt.alloc();
-    let Some(work) = named(alloc) else {
-        return Ok(assert!(rt; false, "no work"));
-    };
+/// The text of the first plain event whose line is another.
+pub(crate) fn wrong_event(alloc: Global, work: &Work) -> Result<Option<&'static str>, AllocError> {
     for i in 0..29 {
         let (event, text) = plain_event(i);
-        let same = is_written(alloc, &work, &third(event), b"3 c10 ", text.as_bytes())?;
-        assert!(rt; same, "{text}");
+        if !is_written(alloc, work, &third(event), b"3 c10 ", text.as_bytes())? {
+            return Ok(Some(text));
+        }
     }
+    Ok(None)
+}
+
+#[test]
+fn events_without_hints(rt: HostRuntime) -> Result<(), Fail> {
+    let wrong = wrong_text(rt.alloc(), Texts::PlainEvents)?;
+    assert!(rt; wrong.is_none(), "{wrong:?}");
     Ok(())
 }
 
@@ -343,18 +347,22 @@ fn answer(i: u8) -> (Event, &'static str) {
     }
 }
 
-#[test]
-fn answers_and_sets(rt: HostRuntime) -> Result<(), Fail> {
-    let alloc = rt.alloc();
-    let Some(work) = named(alloc) else {
-        return Ok(assert!(rt; false, "no work"));
-    };
+/// The text of the first answer whose line is another.
+pub(crate) fn wrong_answer(alloc: Global, work: &Work) -> Result<Option<&'static str>, AllocError> {
+    let words = b"18446744073709551615 c0 ";
     for i in 0..23 {
         let (event, text) = answer(i);
-        let words = b"18446744073709551615 c0 ";
-        let same = is_written(alloc, &work, &last(event), words, text.as_bytes())?;
-        assert!(rt; same, "{text}");
+        if !is_written(alloc, work, &last(event), words, text.as_bytes())? {
+            return Ok(Some(text));
+        }
     }
+    Ok(None)
+}
+
+#[test]
+fn answers_and_sets(rt: HostRuntime) -> Result<(), Fail> {
+    let wrong = wrong_text(rt.alloc(), Texts::Answers)?;
+    assert!(rt; wrong.is_none(), "{wrong:?}");
     Ok(())
 }
 
@@ -368,23 +376,35 @@ fn read(number: u64, cpu: u16, event: Event, which: Which, list: &[u8]) -> Entry
     }
 }
 
-/// A text to which the lines of three entries that have read numbers were written.
-fn three(alloc: Global, work: &Work) -> Result<Vec<u8>, AllocError> {
-    let mut out = Vec::from_slice(alloc, b"5 c0 done a\n")?;
+/// Writes the lines of three entries that have read numbers.
+fn write_three(work: &Work, out: &mut Vec<u8>) -> Result<(), AllocError> {
     let steal = Event::Steal {
         victim: CpuId(0),
         t: A,
         p: 29,
     };
-    write_entry(work, &read(6, 2, steal, Which::Queued, &[30]), &mut out)?;
+    write_entry(work, &read(6, 2, steal, Which::Queued, &[30]), out)?;
     let idle = read(7, 3, Event::Idle, Which::Queued, &[0, 160, 7]);
-    write_entry(work, &idle, &mut out)?;
+    write_entry(work, &idle, out)?;
     let rouse = Event::Rouse {
         k: K,
         woken: Some((B, TO)),
     };
-    write_entry(work, &read(8, 0, rouse, Which::Running, &[0, 1]), &mut out)?;
-    Ok(out)
+    write_entry(work, &read(8, 0, rouse, Which::Running, &[0, 1]), out)
+}
+
+/// What is wrong with the lines of those entries, which are written behind what the text had.
+pub(crate) fn wrong_numbers(
+    alloc: Global,
+    work: &Work,
+) -> Result<Option<&'static str>, AllocError> {
+    let mut out = Vec::from_slice(alloc, b"5 c0 done a\n")?;
+    write_three(work, &mut out)?;
+    if out.as_slice() == THREE {
+        Ok(None)
+    } else {
+        Ok(Some("the lines of three entries"))
+    }
 }
 
 const THREE: &[u8] =
@@ -392,11 +412,7 @@ const THREE: &[u8] =
 
 #[test]
 fn numbers_that_were_read(rt: HostRuntime) -> Result<(), Fail> {
-    let alloc = rt.alloc();
-    let Some(work) = named(alloc) else {
-        return Ok(assert!(rt; false, "no work"));
-    };
-    let out = three(alloc, &work)?;
-    assert!(rt; out.as_slice() == THREE);
+    let wrong = wrong_text(rt.alloc(), Texts::Numbers)?;
+    assert!(rt; wrong.is_none(), "{wrong:?}");
     Ok(())
 }

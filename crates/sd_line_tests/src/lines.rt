@@ -1,8 +1,9 @@
 //! Lines that are of entries, and lines that are of none.
 
-use crate::given::named;
+use crate::given::{Texts, wrong_text};
 use sd_entries::EntryLine;
 use sd_entry_reader::{Names, read_entry};
+use sd_types::Work;
 use std::alloc::{AllocError, Global};
 use std::test::Fail;
 
@@ -81,34 +82,47 @@ fn is_read_and_written(
     }
 }
 
-#[test]
-fn lines_of_entries(rt: HostRuntime) -> Result<(), Fail> {
-    let alloc = rt.alloc();
-    let Some(work) = named(alloc) else {
-        return Ok(assert!(rt; false, "no work"));
-    };
-    let names = Names::new(alloc, &work)?;
+/// The first line of an entry that is not read and written again as it was.
+pub(crate) fn wrong_line(alloc: Global, work: &Work) -> Result<Option<&'static str>, AllocError> {
+    let names = Names::new(alloc, work)?;
     let mut buffer = EntryLine::new();
     for i in 0..21 {
         let line = line_of_an_entry(i);
-        let same = is_read_and_written(alloc, &names, &mut buffer, line.as_bytes())?;
-        assert!(rt; same, "{line}");
+        if !is_read_and_written(alloc, &names, &mut buffer, line.as_bytes())? {
+            return Ok(Some(line));
+        }
     }
+    Ok(None)
+}
+
+#[test]
+fn lines_of_entries(rt: HostRuntime) -> Result<(), Fail> {
+    let wrong = wrong_text(rt.alloc(), Texts::Lines)?;
+    assert!(rt; wrong.is_none(), "{wrong:?}");
     Ok(())
+}
+
+/// The line is that of no entry.
+fn is_of_none(names: &Names<'_>, buffer: &mut EntryLine, line: &[u8]) -> bool {
+    read_entry(names, buffer, line).is_none()
+}
+
+/// The first line of none that is read as an entry.
+pub(crate) fn line_read(alloc: Global, work: &Work) -> Result<Option<&'static str>, AllocError> {
+    let names = Names::new(alloc, work)?;
+    let mut buffer = EntryLine::new();
+    for i in 0..16 {
+        let line = line_of_none(i);
+        if !is_of_none(&names, &mut buffer, line.as_bytes()) {
+            return Ok(Some(line));
+        }
+    }
+    Ok(None)
 }
 
 #[test]
 fn lines_of_no_entry(rt: HostRuntime) -> Result<(), Fail> {
-    let alloc = rt.alloc();
-    let Some(work) = named(alloc) else {
-        return Ok(assert!(rt; false, "no work"));
-    };
-    let names = Names::new(alloc, &work)?;
-    let mut buffer = EntryLine::new();
-    for i in 0..16 {
-        let line = line_of_none(i);
-        let entry = read_entry(&names, &mut buffer, line.as_bytes());
-        assert!(rt; entry.is_none(), "{line}");
-    }
+    let wrong = wrong_text(rt.alloc(), Texts::OtherLines)?;
+    assert!(rt; wrong.is_none(), "{wrong:?}");
     Ok(())
 }

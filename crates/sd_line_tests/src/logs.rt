@@ -3,6 +3,7 @@
 use arrayvec::ArrayVec;
 use sd_log::EntryLog;
 use sd_types::{CpuId, Entry, Event, Hints, ThreadId, Which};
+use std::alloc::AllocError;
 use std::test::Fail;
 
 /// These two numbers were read.
@@ -28,48 +29,81 @@ fn is_idle_after(entry: &Entry, cpu: u16, which: Which, numbers: &[u8]) -> bool 
     entry.cpu.0 == cpu && matches!(entry.event, Event::Idle) && hints.which == which && same
 }
 
-#[test]
-fn entries_come_out_as_they_went_in(rt: HostRuntime) -> Result<(), Fail> {
-    let mut log = EntryLog::new(rt.alloc());
-    assert_eq!(rt; log.len(), 0);
+/// Puts an entry in that read these numbers.
+fn put(log: &mut EntryLog, cpu: u16, event: Event, hints: Option<Hints>) -> Result<(), AllocError> {
     log.reserve()?;
-    log.push_reserved(CpuId(3), Event::Idle, &two(Which::Queued, 7, 8));
-    log.reserve()?;
-    log.push_reserved(CpuId(63), Event::Tick { t: ThreadId(9) }, &None);
-    log.reserve()?;
-    log.push_reserved(CpuId(5), Event::Idle, &all(Which::Running, 100));
-    log.reserve()?;
-    log.push_reserved(CpuId(0), Event::Idle, &two(Which::Running, 255, 0));
+    log.push_reserved(CpuId(cpu), event, &hints);
+    Ok(())
+}
+
+fn put_six(log: &mut EntryLog) -> Result<(), AllocError> {
+    put(log, 3, Event::Idle, two(Which::Queued, 7, 8))?;
+    put(log, 63, Event::Tick { t: ThreadId(9) }, None)?;
+    put(log, 5, Event::Idle, all(Which::Running, 100))?;
+    put(log, 0, Event::Idle, two(Which::Running, 255, 0))?;
     log.reserve()?;
     log.push_idle(CpuId(2), 7);
     log.reserve()?;
     log.push_idle(CpuId(1), 0);
-    assert_eq!(rt; log.len(), 6);
-    assert!(rt; is_idle_after(&log.entry(0), 3, Which::Queued, &[7, 8]));
-    let tick = log.entry(1);
-    assert!(rt; tick.number == 1 && tick.cpu.0 == 63 && tick.hints.is_none());
-    assert!(rt; matches!(tick.event, Event::Tick { t: ThreadId(9) }));
-    assert!(rt; is_idle_after(&log.entry(2), 5, Which::Running, &[100; 64]));
-    assert!(rt; is_idle_after(&log.entry(3), 0, Which::Running, &[255, 0]));
-    assert!(rt; is_idle_after(&log.entry(4), 2, Which::Queued, &[0; 7]));
-    let last = log.entry(5);
-    assert!(rt; last.number == 5 && last.cpu.0 == 1 && last.hints.is_none());
     Ok(())
+}
+
+/// Whether the entry is the second: a tick of thread 9 that read no numbers.
+fn is_tick(entry: &Entry) -> bool {
+    entry.number == 1
+        && entry.cpu.0 == 63
+        && entry.hints.is_none()
+        && matches!(entry.event, Event::Tick { t: ThreadId(9) })
+}
+
+/// Whether the entry is the last: it read no numbers.
+fn is_sixth(entry: &Entry) -> bool {
+    entry.number == 5 && entry.cpu.0 == 1 && entry.hints.is_none()
+}
+
+/// Whether the log has the six entries.
+fn has_six(log: &EntryLog) -> bool {
+    if log.len() != 6 {
+        return false;
+    }
+    let early = is_idle_after(&log.entry(0), 3, Which::Queued, &[7, 8]) && is_tick(&log.entry(1));
+    let middle = is_idle_after(&log.entry(2), 5, Which::Running, &[100; 64])
+        && is_idle_after(&log.entry(3), 0, Which::Running, &[255, 0]);
+    let late = is_idle_after(&log.entry(4), 2, Which::Queued, &[0; 7]) && is_sixth(&log.entry(5));
+    early && middle && late
+}
+
+#[test]
+fn entries_come_out_as_they_went_in(rt: HostRuntime) -> Result<(), Fail> {
+    let mut log = EntryLog::new(rt.alloc());
+    let is_empty = log.len() == 0;
+    put_six(&mut log)?;
+    let is_so = is_empty && has_six(&log);
+    assert!(rt; is_so);
+    Ok(())
+}
+
+fn put_many(log: &mut EntryLog) -> Result<(), AllocError> {
+    for k in 0..2000u16 {
+        put(log, k, Event::Idle, two(Which::Queued, (k % 200) as u8, 1))?;
+    }
+    Ok(())
+}
+
+/// Whether the log has 2000 entries, of which this is the last.
+fn has_many(log: &EntryLog) -> bool {
+    if log.len() != 2000 {
+        return false;
+    }
+    let last = log.entry(1999);
+    last.number == 1999 && is_idle_after(&last, 1999, Which::Queued, &[199, 1])
 }
 
 #[test]
 fn many_entries_find_room(rt: HostRuntime) -> Result<(), Fail> {
     let mut log = EntryLog::new(rt.alloc());
-    for k in 0..2000u16 {
-        log.reserve()?;
-        log.push_reserved(
-            CpuId(k),
-            Event::Idle,
-            &two(Which::Queued, (k % 200) as u8, 1),
-        );
-    }
-    assert_eq!(rt; log.len(), 2000);
-    let last = log.entry(log.len() - 1);
-    assert!(rt; last.number == 1999 && is_idle_after(&last, 1999, Which::Queued, &[199, 1]));
+    put_many(&mut log)?;
+    let is_so = has_many(&log);
+    assert!(rt; is_so);
     Ok(())
 }
