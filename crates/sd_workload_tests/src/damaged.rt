@@ -85,24 +85,30 @@ fn is_commented(front: &[u8]) -> bool {
     }
 }
 
+// How many prefixes of a text are accepted, or the length of one that is refused elsewhere than on its last line or the next.
+fn accepted_prefixes(alloc: Global, text: &[u8]) -> Result<u32, usize>
+    requires { length text.now < 1000 }
+{
+    let mut count: u32 = 0;
+    for end in 0..=text.len() {
+        let line = line_behind(&text[..end]);
+        match judge(alloc, &text[..end]) {
+            Verdict::Accepted => count = count.saturating_add(1),
+            Verdict::Refused { line: at } if line <= at && at <= line + 1 => {}
+            _ => return Err(end),
+        }
+    }
+    Ok(count)
+}
+
 #[test]
 fn prefixes_are_judged(rt: HostRuntime) {
-    for (text, accepted) in [(HANDED_OVER, 20), (REQUESTS, 16), (TABLE, 4)] {
-        assert!(rt; text.len() < 1000);
-        let mut count: u32 = 0;
-        for end in 0..=text.len() {
-            let line = line_behind(&text[..end]);
-            match judge(rt.alloc(), &text[..end]) {
-                Verdict::Accepted => count = count.saturating_add(1),
-                Verdict::Refused { line: at } => assert!(rt;
-                    line <= at && at <= line + 1,
-                    "{end}: {at}"
-                ),
-                Verdict::Neither => assert!(rt; false, "{end}"),
-            }
-        }
-        assert_eq!(rt; count, accepted);
-    }
+    let handed_over = accepted_prefixes(rt.alloc(), HANDED_OVER);
+    assert!(rt; handed_over == Ok(20), "{handed_over:?}");
+    let requests = accepted_prefixes(rt.alloc(), REQUESTS);
+    assert!(rt; requests == Ok(16), "{requests:?}");
+    let table = accepted_prefixes(rt.alloc(), TABLE);
+    assert!(rt; table == Ok(4), "{table:?}");
 }
 
 // The text with this byte in place of the one at this index.
@@ -134,22 +140,31 @@ fn accepted_with(alloc: Global, text: &[u8], byte: u8) -> Result<Result<u32, usi
     Ok(Ok(count))
 }
 
+const REPLACED: [(&[u8], u8, u32); 9] = [
+    (HANDED_OVER, 0, 0),
+    (HANDED_OVER, 255, 0),
+    (HANDED_OVER, b'#', 11),
+    (REQUESTS, 0, 0),
+    (REQUESTS, 255, 0),
+    (REQUESTS, b'#', 17),
+    (TABLE, 0, 62),
+    (TABLE, 255, 62),
+    (TABLE, b'#', 200),
+];
+
+fn is_counted(alloc: Global, text: &[u8], byte: u8, accepted: u32) -> Result<bool, AllocError> {
+    if 1000 <= text.len() {
+        return Ok(false);
+    }
+    Ok(accepted_with(alloc, text, byte)? == Ok(accepted))
+}
+
 #[test]
 fn replaced_bytes_are_judged(rt: HostRuntime) -> Result<(), Fail> {
-    for (text, byte, accepted) in [
-        (HANDED_OVER, 0, 0),
-        (HANDED_OVER, 255, 0),
-        (HANDED_OVER, b'#', 11),
-        (REQUESTS, 0, 0),
-        (REQUESTS, 255, 0),
-        (REQUESTS, b'#', 17),
-        (TABLE, 0, 62),
-        (TABLE, 255, 62),
-        (TABLE, b'#', 200),
-    ] {
-        assert!(rt; text.len() < 1000);
-        let found = accepted_with(rt.alloc(), text, byte)?;
-        assert_eq!(rt; found, Ok(accepted), "{byte}");
+    for (index, row) in REPLACED.iter().enumerate() {
+        let (text, byte, accepted) = *row;
+        let is_so = is_counted(rt.alloc(), text, byte, accepted)?;
+        assert!(rt; is_so, "row {index}");
     }
     Ok(())
 }

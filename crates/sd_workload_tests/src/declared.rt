@@ -10,17 +10,29 @@ fn take(alloc: Global, d: &mut Declared, line: &[u8]) -> Result<Opened, Refusal>
     take_statement(alloc, d, statement)
 }
 
+// The first of the lines between bars that is not taken.
+fn wrong_line(alloc: Global, d: &mut Declared, lines: &[u8]) -> Option<usize> {
+    for (index, line) in lines.split(|byte| *byte == b'|').enumerate() {
+        if take(alloc, d, line).is_err() {
+            return Some(index);
+        }
+    }
+    None
+}
+
+fn has_all(d: &Declared) -> bool {
+    let numbers = d.cpus == Some(3) && d.hz == Some(1000) && d.limit == Some(7);
+    let names = d.sets.len() == 1 && d.locks.len() == 2 && d.chans.len() == 2;
+    numbers && names && d.threads.len() == 1
+}
+
+const LINES: &[u8] =
+    b"cpus 3|hz 1000|limit 7|set s 1 2|table ts|mutex m|rwlock w|chan k|sema p 1|thread a rt 5 inf in s|script a";
+
 #[test]
 fn lines_are_taken(rt: HostRuntime) {
     let mut d = Declared::new(rt.alloc());
-    for line in b"cpus 3|hz 1000|limit 7|set s 1 2|table ts|mutex m|rwlock w|chan k|sema p 1|thread a rt 5 inf in s|script a".split(
-        |byte| *byte == b'|',
-    ) {
-        assert!(rt; take(rt.alloc(), &mut d, line).is_ok(), "at {line:?}");
-    }
-    assert_eq!(rt; (d.cpus, d.hz, d.limit), (Some(3), Some(1000), Some(7)));
-    assert_eq!(rt;
-        (d.sets.len(), d.locks.len(), d.chans.len(), d.threads.len()),
-        (1, 2, 2, 1)
-    );
+    let wrong = wrong_line(rt.alloc(), &mut d, LINES);
+    let is_whole = has_all(&d);
+    assert!(rt; wrong.is_none() && is_whole, "line {wrong:?}");
 }

@@ -4,6 +4,7 @@
 use sd_lines::{
     NameIndex, Statement, ThreadClass, ThreadLine, is_word, operation_of, statement_of,
 };
+use std::alloc::{AllocError, Global};
 use std::test::Fail;
 
 // Lines between bars: each form, blanks around and between words, comments, names that are keywords, ten digits.
@@ -21,24 +22,44 @@ const OPERATIONS: &[u8] =
 const NO_OPERATIONS: &[u8] =
     b"|end|end a|run|run -1|run 1 1|yield 1|nap|sleep|sleep 1|enter zz zz|enter M|exit|priocntl a ts 0|priocntl a ts 0 0 0|priocntl a fx 0 0|priocntl a rt 5|priocntl a sys 60 def|cvwait k|cvwait k m m|assign - -|assign 1|pbind a|pbind - a|pbind a -1|limit 1|semap";
 
-#[test]
-fn statements_are_read(rt: HostRuntime) -> Result<(), Fail> {
-    for (lines, has_form) in [(STATEMENTS, true), (NO_STATEMENTS, false)] {
-        for line in lines.split(|byte| *byte == b'|') {
-            let found = statement_of(rt.alloc(), line)?;
-            assert_eq!(rt; found.is_some(), has_form, "at {line:?}");
+// The first of the lines between bars that has a form and should not, or the other way round.
+fn wrong_statement(
+    alloc: Global,
+    lines: &[u8],
+    has_form: bool,
+) -> Result<Option<usize>, AllocError> {
+    for (index, line) in lines.split(|byte| *byte == b'|').enumerate() {
+        if statement_of(alloc, line)?.is_some() != has_form {
+            return Ok(Some(index));
         }
     }
+    Ok(None)
+}
+
+fn wrong_operation(lines: &[u8], has_form: bool) -> Option<usize> {
+    for (index, line) in lines.split(|byte| *byte == b'|').enumerate() {
+        if operation_of(line).is_some() != has_form {
+            return Some(index);
+        }
+    }
+    None
+}
+
+#[test]
+fn statements_are_read(rt: HostRuntime) -> Result<(), Fail> {
+    let some = wrong_statement(rt.alloc(), STATEMENTS, true)?;
+    assert!(rt; some.is_none(), "statement {some:?}");
+    let none = wrong_statement(rt.alloc(), NO_STATEMENTS, false)?;
+    assert!(rt; none.is_none(), "no statement {none:?}");
     Ok(())
 }
 
 #[test]
 fn operations_are_read(rt: HostRuntime) {
-    for (lines, has_form) in [(OPERATIONS, true), (NO_OPERATIONS, false)] {
-        for line in lines.split(|byte| *byte == b'|') {
-            assert_eq!(rt; operation_of(line).is_some(), has_form, "at {line:?}");
-        }
-    }
+    let some = wrong_operation(OPERATIONS, true);
+    assert!(rt; some.is_none(), "operation {some:?}");
+    let none = wrong_operation(NO_OPERATIONS, false);
+    assert!(rt; none.is_none(), "no operation {none:?}");
 }
 
 // `a`, of TS with these numbers and options.
@@ -62,26 +83,34 @@ fn is_expected(thread: &ThreadLine) -> bool {
         && thread.options.privileged
 }
 
-#[test]
-fn a_thread_is_read(rt: HostRuntime) -> Result<(), Fail> {
-    let line = b"thread a ts 5 -10 60 uid 7 priv in s";
-    let found = statement_of(rt.alloc(), line)?.ok_or("no form")?;
-    let is_right = match &found {
-        Statement::Declare(thread) => is_expected(thread),
+fn is_thread(alloc: Global, line: &[u8]) -> Result<bool, AllocError> {
+    let found = statement_of(alloc, line)?;
+    let is_so = match &found {
+        Some(Statement::Declare(thread)) => is_expected(thread),
         _ => false,
     };
-    assert!(rt; is_right);
+    Ok(is_so)
+}
+
+#[test]
+fn a_thread_is_read(rt: HostRuntime) -> Result<(), Fail> {
+    assert!(rt; is_thread(rt.alloc(), b"thread a ts 5 -10 60 uid 7 priv in s")?);
     Ok(())
+}
+
+fn has_one_name(names: &NameIndex) -> bool {
+    names.find(b"mutex_of_16bytes") == Some(0)
+        && names.find(b"mutex_of_16byte").is_none()
+        && names.find(b"mutex_of_17_bytes").is_none()
+        && names.find(b"").is_none()
 }
 
 #[test]
 fn a_name_is_put_in(rt: HostRuntime) -> Result<(), Fail> {
     let mut names = NameIndex::new(rt.alloc());
-    assert!(rt; names.find(b"mutex_of_16bytes").is_none());
+    let none = names.find(b"mutex_of_16bytes").is_none();
     names.push(b"mutex_of_16bytes")?;
-    assert!(rt; names.find(b"mutex_of_16bytes") == Some(0));
-    assert!(rt; names.find(b"mutex_of_16byte").is_none());
-    assert!(rt; names.find(b"mutex_of_17_bytes").is_none());
-    assert!(rt; names.find(b"").is_none());
+    let is_so = none && has_one_name(&names);
+    assert!(rt; is_so);
     Ok(())
 }

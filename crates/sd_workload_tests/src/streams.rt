@@ -21,84 +21,112 @@ fn input_in(alloc: Global, chunk: usize, failing: u64) -> Result<MemorySource, A
     Ok(MemorySource::new(bytes, chunk, vec![in alloc; failing]?))
 }
 
+// Whether all is read where the ninth read would fail, and else nothing and one fault is counted.
+fn is_read_or_fails(source: &mut MemorySource, alloc: Global, failing: u64) -> bool {
+    match read_all(alloc, source) {
+        Ok(bytes) => failing == 9 && bytes.as_slice() == INPUT && source.faults() == 0,
+        Err(fault) => { failing < 9 && fault == ReadAllFault::ReadFault && source.faults() == 1 }
+    }
+}
+
+// With chunk 4 the seventh read gives the last bytes, and the eighth finds the end.
+fn fails_at(alloc: Global, failing: u64) -> Result<bool, AllocError> {
+    let mut source = input_in(alloc, 4, failing)?;
+    Ok(is_read_or_fails(&mut source, alloc, failing))
+}
+
+// The read after the last byte is the one that sees the end.
+fn fails_at_the_end(alloc: Global) -> Result<bool, AllocError> {
+    let mut source = input_in(alloc, 1, 28)?;
+    Ok(read_all(alloc, &mut source).err() == Some(ReadAllFault::ReadFault))
+}
+
 #[test]
 fn each_read_fails_in_turn(rt: HostRuntime) -> Result<(), Fail> {
-    // With chunk 4 the seventh read gives the last bytes, and the eighth finds the end.
     for failing in 1..=9 {
-        let mut source = input_in(rt.alloc(), 4, failing)?;
-        match read_all(rt.alloc(), &mut source) {
-            Ok(bytes) => {
-                assert_eq!(rt; failing, 9);
-                assert_eq!(rt; bytes.as_slice(), INPUT);
-                assert_eq!(rt; source.faults(), 0);
-            }
-            Err(fault) => {
-                assert!(rt; failing < 9);
-                assert_eq!(rt; fault, ReadAllFault::ReadFault);
-                assert_eq!(rt; source.faults(), 1);
-            }
-        }
+        let is_so = fails_at(rt.alloc(), failing)?;
+        assert!(rt; is_so, "read {failing}");
     }
-    // The read after the last byte is the one that sees the end.
-    let mut source = input_in(rt.alloc(), 1, 28)?;
-    assert_eq!(rt;
-        read_all(rt.alloc(), &mut source).err(),
-        Some(ReadAllFault::ReadFault)
-    );
+    assert!(rt; fails_at_the_end(rt.alloc())?);
     Ok(())
+}
+
+fn is_limited(alloc: Global, most: u64, fault: Option<ReadAllFault>) -> Result<bool, AllocError>
+    requires { most ≤ 1048576 }
+{
+    let mut source = input_in(alloc, 64, 0)?;
+    Ok(read_up_to(alloc, &mut source, most).err() == fault)
+}
+
+fn long_input(alloc: Global, len: usize) -> Result<MemorySource, AllocError> {
+    let bytes = vec![in alloc; b'#'; len]?;
+    Ok(MemorySource::new(bytes, 100_000, vec![in alloc]?))
+}
+
+fn is_long(alloc: Global, len: usize, fault: Option<ReadAllFault>) -> Result<bool, AllocError> {
+    let mut source = long_input(alloc, len)?;
+    Ok(read_all(alloc, &mut source).err() == fault)
 }
 
 #[test]
 fn an_input_has_at_most_the_limit(rt: HostRuntime) -> Result<(), Fail> {
-    for (most, fault) in [(27, None), (26, Some(ReadAllFault::TooLarge))] {
-        let mut source = input_in(rt.alloc(), 64, 0)?;
-        assert_eq!(rt; read_up_to(rt.alloc(), &mut source, most).err(), fault);
-    }
-    for (len, fault) in [(1_048_576, None), (1_048_577, Some(ReadAllFault::TooLarge))] {
-        let bytes = vec![in rt.alloc(); b'#'; len]?;
-        let mut source = MemorySource::new(bytes, 100_000, vec![in rt.alloc()]?);
-        assert_eq!(rt; read_all(rt.alloc(), &mut source).err(), fault);
-    }
+    let too_large = Some(ReadAllFault::TooLarge);
+    assert!(rt; is_limited(rt.alloc(), 27, None)?);
+    assert!(rt; is_limited(rt.alloc(), 26, too_large)?);
+    assert!(rt; is_long(rt.alloc(), 1_048_576, None)?);
+    assert!(rt; is_long(rt.alloc(), 1_048_577, too_large)?);
     Ok(())
+}
+
+fn has_text(alloc: Global, fault: ReadAllFault, text: &str) -> Result<bool, AllocError> {
+    Ok(format!(in alloc; "{fault}")?.as_str() == text)
 }
 
 #[test]
 fn faults_have_their_texts(rt: HostRuntime) -> Result<(), Fail> {
-    for (fault, text) in [
-        (ReadAllFault::ReadFault, "read fault"),
-        (ReadAllFault::TooLarge, "input too large"),
-        (ReadAllFault::Memory, "out of memory"),
-    ] {
-        assert_eq!(rt; format!(in rt.alloc(); "{fault}")?.as_str(), text);
-    }
-    assert_eq!(rt;
-        format!(in rt.alloc(); "{WriteFault}")?.as_str(),
-        "write fault"
-    );
-    assert_eq!(rt;
-        format!(in rt.alloc(); "{Failed}")?.as_str(),
-        "a read or a write failed"
-    );
+    let alloc = rt.alloc();
+    assert!(rt; has_text(alloc, ReadAllFault::ReadFault, "read fault")?);
+    assert!(rt; has_text(alloc, ReadAllFault::TooLarge, "input too large")?);
+    assert!(rt; has_text(alloc, ReadAllFault::Memory, "out of memory")?);
+    assert!(rt; format!(in alloc; "{WriteFault}")?.as_str() == "write fault");
+    assert!(rt; format!(in alloc; "{Failed}")?.as_str() == "a read or a write failed");
     Ok(())
 }
 
+// Whether two pieces are written, and what the sink holds then.
+fn takes(sink: &mut MemorySink, is_written: bool, held: &[u8]) -> bool {
+    let first = write_piece(sink, b"0 c0 dispatch a 29\n");
+    let both = first.is_ok() && write_piece(sink, b"1 c0 tick a\n").is_ok();
+    both == is_written && sink.bytes() == held && (sink.faults() == 0) == is_written
+}
+
+fn is_taken(
+    alloc: Global,
+    room: usize,
+    failing: u64,
+    is_written: bool,
+    held: &[u8],
+) -> Result<bool, AllocError> {
+    let mut sink = MemorySink::new(alloc, room, vec![in alloc; failing]?)?;
+    Ok(takes(&mut sink, is_written, held))
+}
+
+// The room, the write that fails, whether the two pieces were written, and what the sink holds then.
+const SINKS: [(usize, u64, bool, &[u8]); 6] = [
+    (40, 0, true, b"0 c0 dispatch a 29\n1 c0 tick a\n"),
+    (40, 2, false, b"0 c0 dispatch a 29\n"),
+    (40, 1, false, b""),
+    (5, 0, false, b"0 c0 "),
+    (3, 9, false, b"0 c"),
+    (0, 0, false, b""),
+];
+
 #[test]
 fn a_sink_holds_what_it_took(rt: HostRuntime) -> Result<(), Fail> {
-    // The room, the write that fails, whether the two pieces were written, and what the sink holds then.
-    for (room, failing, is_written, held) in [
-        (40, 0, true, &b"0 c0 dispatch a 29\n1 c0 tick a\n"[..]),
-        (40, 2, false, &b"0 c0 dispatch a 29\n"[..]),
-        (40, 1, false, &b""[..]),
-        (5, 0, false, &b"0 c0 "[..]),
-        (3, 9, false, &b"0 c"[..]),
-        (0, 0, false, &b""[..]),
-    ] {
-        let mut sink = MemorySink::new(rt.alloc(), room, vec![in rt.alloc(); failing]?)?;
-        let first = write_piece(&mut sink, b"0 c0 dispatch a 29\n");
-        let both = first.is_ok() && write_piece(&mut sink, b"1 c0 tick a\n").is_ok();
-        assert_eq!(rt; both, is_written);
-        assert_eq!(rt; sink.bytes(), held);
-        assert_eq!(rt; sink.faults() == 0, is_written);
+    for (index, row) in SINKS.iter().enumerate() {
+        let (room, failing, is_written, held) = *row;
+        let is_so = is_taken(rt.alloc(), room, failing, is_written, held)?;
+        assert!(rt; is_so, "sink {index}");
     }
     Ok(())
 }
@@ -141,79 +169,128 @@ impl Write for Narrow {
     }
 }
 
+fn reads_whole(alloc: Global) -> bool {
+    let mut whole = StdSource::new(INPUT);
+    match read_all(alloc, &mut whole) {
+        Ok(bytes) => bytes.as_slice() == INPUT && whole.faults() == 0,
+        Err(_) => false,
+    }
+}
+
+fn reads_until_it_halts(alloc: Global) -> bool {
+    let mut halting = StdSource::new(Halting { reads: 0 });
+    let fault = read_all(alloc, &mut halting).err();
+    fault == Some(ReadAllFault::ReadFault) && halting.faults() == 1
+}
+
+fn writes_while_there_is_room(narrow: &mut StdSink<Narrow>) -> bool {
+    let is_written = write_piece(narrow, b"abc\n") == Ok(()) && narrow.faults() == 0;
+    // One byte is taken, and then none.
+    let one_fault = write_piece(narrow, b"d\n") == Err(WriteFault) && narrow.faults() == 1;
+    let two_faults = narrow.write(b"\n") == Err(Failed) && narrow.faults() == 2;
+    is_written && one_fault && two_faults
+}
+
 #[test]
 fn adapters_count_faults(rt: HostRuntime) -> Result<(), Fail> {
-    let mut whole = StdSource::new(INPUT);
-    assert_eq!(rt; read_all(rt.alloc(), &mut whole)?.as_slice(), INPUT);
-    assert_eq!(rt; whole.faults(), 0);
-
-    let mut halting = StdSource::new(Halting { reads: 0 });
-    assert_eq!(rt;
-        read_all(rt.alloc(), &mut halting).err(),
-        Some(ReadAllFault::ReadFault)
-    );
-    assert_eq!(rt; halting.faults(), 1);
-
+    assert!(rt; reads_whole(rt.alloc()));
+    assert!(rt; reads_until_it_halts(rt.alloc()));
     let mut narrow = StdSink::new(Narrow { room: 5 });
-    assert_eq!(rt; write_piece(&mut narrow, b"abc\n"), Ok(()));
-    assert_eq!(rt; narrow.faults(), 0);
-    // One byte is taken, and then none.
-    assert_eq!(rt; write_piece(&mut narrow, b"d\n"), Err(WriteFault));
-    assert_eq!(rt; narrow.faults(), 1);
-    assert_eq!(rt; narrow.write(b"\n"), Err(Failed));
-    assert_eq!(rt; narrow.faults(), 2);
+    let is_written = writes_while_there_is_room(&mut narrow);
+    assert!(rt; is_written);
     Ok(())
+}
+
+// A text, where the search begins, and from where to where the line or word is that is found.
+type Found = (&'static [u8], usize, Option<(usize, usize)>);
+
+const FOUND_LINES: [Found; 7] = [
+    (b"", 0, None),
+    (b"a", 0, Some((0, 1))),
+    (b"a\n", 0, Some((0, 1))),
+    (b"a\n", 2, None),
+    (b"\n\nb", 1, Some((1, 1))),
+    (b"ab\ncd", 3, Some((3, 5))),
+    (b"ab\ncd", 6, None),
+];
+
+const FOUND_WORDS: [Found; 6] = [
+    (b" \tlimit 5#x\r", 0, Some((2, 7))),
+    (b" \tlimit 5#x\r", 7, Some((8, 9))),
+    (b" \tlimit 5#x\r", 9, None),
+    (b"# a", 0, None),
+    (b" \r\t", 0, None),
+    (b"a\x0b\x80", 0, Some((0, 3))),
+];
+
+fn wrong_line(rows: &[Found]) -> Option<usize> {
+    for (index, row) in rows.iter().enumerate() {
+        let (text, from, line) = *row;
+        if next_line(text, from) != line {
+            return Some(index);
+        }
+    }
+    None
+}
+
+fn wrong_word(rows: &[Found]) -> Option<usize> {
+    for (index, row) in rows.iter().enumerate() {
+        let (text, from, word) = *row;
+        if next_word(text, from) != word {
+            return Some(index);
+        }
+    }
+    None
 }
 
 #[test]
 fn lines_and_words_are_found(rt: HostRuntime) {
-    for (text, from, line) in [
-        (&b""[..], 0, None),
-        (&b"a"[..], 0, Some((0, 1))),
-        (&b"a\n"[..], 0, Some((0, 1))),
-        (&b"a\n"[..], 2, None),
-        (&b"\n\nb"[..], 1, Some((1, 1))),
-        (&b"ab\ncd"[..], 3, Some((3, 5))),
-        (&b"ab\ncd"[..], 6, None),
-    ] {
-        assert_eq!(rt; next_line(text, from), line);
+    let line = wrong_line(&FOUND_LINES);
+    assert!(rt; line.is_none(), "line {line:?}");
+    let word = wrong_word(&FOUND_WORDS);
+    assert!(rt; word.is_none(), "word {word:?}");
+}
+
+// A word, its value, and its value where a minus may stand before it.
+const NUMBERS: [(&[u8], Option<u64>, Option<i64>); 13] = [
+    (b"0", Some(0), Some(0)),
+    (b"0000000007", Some(7), Some(7)),
+    (b"00000000007", None, None),
+    (b"9999999999", Some(9_999_999_999), Some(9_999_999_999)),
+    (b"", None, None),
+    (b"-", None, None),
+    (b"-0", None, Some(0)),
+    (b"-32768", None, Some(-32768)),
+    (b"-9999999999", None, Some(-9_999_999_999)),
+    (b"-10000000000", None, None),
+    (b"--1", None, None),
+    (b"+1", None, None),
+    (b"1x", None, None),
+];
+
+fn wrong_number() -> Option<usize> {
+    for (index, row) in NUMBERS.iter().enumerate() {
+        let (word, value, signed_value) = *row;
+        if number(word) != value || signed(word) != signed_value {
+            return Some(index);
+        }
     }
-    for (text, from, word) in [
-        (&b" \tlimit 5#x\r"[..], 0, Some((2, 7))),
-        (&b" \tlimit 5#x\r"[..], 7, Some((8, 9))),
-        (&b" \tlimit 5#x\r"[..], 9, None),
-        (&b"# a"[..], 0, None),
-        (&b" \r\t"[..], 0, None),
-        (&b"a\x0b\x80"[..], 0, Some((0, 3))),
-    ] {
-        assert_eq!(rt; next_word(text, from), word);
-    }
+    None
+}
+
+fn put_three(text: &mut Vec<u8>) -> Result<(), AllocError> {
+    put_number(text, 0)?;
+    put_number(text, u64::MAX)?;
+    put_number(text, 29)
 }
 
 #[test]
 fn numbers_have_at_most_ten_digits(rt: HostRuntime) -> Result<(), Fail> {
-    for (word, value, signed_value) in [
-        (&b"0"[..], Some(0), Some(0)),
-        (&b"0000000007"[..], Some(7), Some(7)),
-        (&b"00000000007"[..], None, None),
-        (&b"9999999999"[..], Some(9_999_999_999), Some(9_999_999_999)),
-        (&b""[..], None, None),
-        (&b"-"[..], None, None),
-        (&b"-0"[..], None, Some(0)),
-        (&b"-32768"[..], None, Some(-32768)),
-        (&b"-9999999999"[..], None, Some(-9_999_999_999)),
-        (&b"-10000000000"[..], None, None),
-        (&b"--1"[..], None, None),
-        (&b"+1"[..], None, None),
-        (&b"1x"[..], None, None),
-    ] {
-        assert_eq!(rt; number(word), value);
-        assert_eq!(rt; signed(word), signed_value);
-    }
+    let wrong = wrong_number();
+    assert!(rt; wrong.is_none(), "number {wrong:?}");
     let mut text = vec![in rt.alloc()]?;
-    put_number(&mut text, 0)?;
-    put_number(&mut text, u64::MAX)?;
-    put_number(&mut text, 29)?;
-    assert_eq!(rt; text.as_slice(), &b"01844674407370955161529"[..]);
+    put_three(&mut text)?;
+    let is_so = text.as_slice() == b"01844674407370955161529".as_slice();
+    assert!(rt; is_so);
     Ok(())
 }

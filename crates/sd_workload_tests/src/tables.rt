@@ -7,8 +7,8 @@ use sd_tables::{
     write_fixed, write_ts,
 };
 use sd_text::put_number;
+use sd_types::{FixedTable, TsTable};
 use std::alloc::{AllocError, Global};
-use std::process::Abort;
 use std::test::Fail;
 
 const HZ: u32 = 100;
@@ -29,119 +29,143 @@ fn resolution(line: u32) -> TableFault {
     TableFault::Resolution { line }
 }
 
-fn rt_fault(rt: &impl Abort, alloc: Global, text: &[u8]) -> Option<ReadTableFault> {
-    assert!(rt; text.len() < 10_000);
-    read_rt(alloc, text, HZ).err()
+fn rt_fault(alloc: Global, text: &[u8]) -> Option<ReadTableFault> {
+    if text.len() < 10_000 {
+        read_rt(alloc, text, HZ).err()
+    } else {
+        None
+    }
 }
 
-fn ts_fault(rt: &impl Abort, alloc: Global, text: &[u8]) -> Option<ReadTableFault> {
-    assert!(rt; text.len() < 10_000);
-    read_ts(alloc, text, HZ).err()
+fn ts_fault(alloc: Global, text: &[u8]) -> Option<ReadTableFault> {
+    if text.len() < 10_000 {
+        read_ts(alloc, text, HZ).err()
+    } else {
+        None
+    }
+}
+
+/// The texts of the fault of a table, and of one that is read.
+fn has_text(alloc: Global, fault: TableFault, text: &str) -> Result<bool, AllocError> {
+    let unread = ReadTableFault::Table(fault);
+    let own = format!(in alloc; "{fault}")?.as_str() == text;
+    Ok(own && format!(in alloc; "{unread}")?.as_str() == text)
 }
 
 #[test]
 fn faults_have_their_texts(rt: HostRuntime) -> Result<(), Fail> {
-    for (fault, text) in [
-        (not_a_number(3), "not a number"),
-        (range(1, 4), "range in column 4"),
-        (rows(59), "rows: 59"),
-        (resolution(2), "resolution"),
-    ] {
-        assert_eq!(rt; format!(in rt.alloc(); "{fault}")?.as_str(), text);
-        let unread = ReadTableFault::Table(fault);
-        assert_eq!(rt; format!(in rt.alloc(); "{unread}")?.as_str(), text);
-    }
+    let alloc = rt.alloc();
+    assert!(rt; has_text(alloc, not_a_number(3), "not a number")?);
+    assert!(rt; has_text(alloc, range(1, 4), "range in column 4")?);
+    assert!(rt; has_text(alloc, rows(59), "rows: 59")?);
+    assert!(rt; has_text(alloc, resolution(2), "resolution")?);
     let memory = ReadTableFault::Memory;
-    assert_eq!(rt;
-        format!(in rt.alloc(); "{memory}")?.as_str(),
-        "out of memory"
-    );
+    assert!(rt; format!(in alloc; "{memory}")?.as_str() == "out of memory");
     Ok(())
 }
 
+/// The first text that has another fault as a table of quanta.
+fn wrong_rt(alloc: Global, cases: &[(&str, TableFault)]) -> Option<usize> {
+    for (index, case) in cases.iter().enumerate() {
+        let (text, fault) = *case;
+        if rt_fault(alloc, text.as_bytes()) != Some(ReadTableFault::Table(fault)) {
+            return Some(index);
+        }
+    }
+    None
+}
+
+/// The first text that has another fault as a table of the time-sharing class.
+fn wrong_ts(alloc: Global, cases: &[(&str, TableFault)]) -> Option<usize> {
+    for (index, case) in cases.iter().enumerate() {
+        let (text, fault) = *case;
+        if ts_fault(alloc, text.as_bytes()) != Some(ReadTableFault::Table(fault)) {
+            return Some(index);
+        }
+    }
+    None
+}
+
+const ROWS: [(&str, TableFault); 20] = [
+    ("", TableFault::Rows { found: 0 }),
+    ("\n\n", TableFault::Rows { found: 0 }),
+    ("# only a comment", TableFault::Rows { found: 0 }),
+    ("5", TableFault::Rows { found: 1 }),
+    ("\n5\n\n  # between\n6\n", TableFault::Rows { found: 2 }),
+    ("5 # 0", TableFault::Rows { found: 1 }),
+    ("5#0", TableFault::Rows { found: 1 }),
+    ("\t5 \r\n", TableFault::Rows { found: 1 }),
+    ("0", TableFault::Range { line: 1, column: 1 }),
+    ("1000000000", TableFault::Rows { found: 1 }),
+    ("1000000001", TableFault::Range { line: 1, column: 1 }),
+    ("9999999999", TableFault::Range { line: 1, column: 1 }),
+    ("10000000000", TableFault::NotANumber { line: 1 }),
+    ("0000000001", TableFault::Rows { found: 1 }),
+    ("00000000001", TableFault::NotANumber { line: 1 }),
+    ("-5", TableFault::NotANumber { line: 1 }),
+    ("5x", TableFault::NotANumber { line: 1 }),
+    ("5 6", TableFault::NotANumber { line: 1 }),
+    ("end end", TableFault::NotANumber { line: 1 }),
+    ("5\n6 7\n0\n", TableFault::NotANumber { line: 2 }),
+];
+
 #[test]
 fn faults_of_rows(rt: HostRuntime) {
-    let cases = [
-        ("", rows(0)),
-        ("\n\n", rows(0)),
-        ("# only a comment", rows(0)),
-        ("5", rows(1)),
-        ("\n5\n\n  # between\n6\n", rows(2)),
-        ("5 # 0", rows(1)),
-        ("5#0", rows(1)),
-        ("\t5 \r\n", rows(1)),
-        ("0", range(1, 1)),
-        ("1000000000", rows(1)),
-        ("1000000001", range(1, 1)),
-        ("9999999999", range(1, 1)),
-        ("10000000000", not_a_number(1)),
-        ("0000000001", rows(1)),
-        ("00000000001", not_a_number(1)),
-        ("-5", not_a_number(1)),
-        ("5x", not_a_number(1)),
-        ("5 6", not_a_number(1)),
-        ("end end", not_a_number(1)),
-        ("5\n6 7\n0\n", not_a_number(2)),
-    ];
-    for (text, fault) in cases {
-        assert!(rt;
-            rt_fault(&rt, rt.alloc(), text.as_bytes()) == Some(ReadTableFault::Table(fault)),
-            "at {text:?}"
-        );
-    }
+    let wrong = wrong_rt(rt.alloc(), &ROWS);
+    assert!(rt; wrong.is_none(), "text {wrong:?}");
 }
+
+const RES_LINES: [(&str, TableFault); 18] = [
+    ("RES=5", TableFault::Rows { found: 0 }),
+    ("RES=5 # five", TableFault::Rows { found: 0 }),
+    ("RES=5#five", TableFault::Rows { found: 0 }),
+    ("RES=1000000000\n7\n", TableFault::Rows { found: 1 }),
+    ("RES=0000000005", TableFault::Rows { found: 0 }),
+    ("RES=", TableFault::Resolution { line: 1 }),
+    ("RES= 5", TableFault::Resolution { line: 1 }),
+    ("RES=0", TableFault::Resolution { line: 1 }),
+    ("RES=1000000001", TableFault::Resolution { line: 1 }),
+    ("RES=00000000005", TableFault::Resolution { line: 1 }),
+    ("RES=5x", TableFault::Resolution { line: 1 }),
+    ("RES=5 6", TableFault::Resolution { line: 1 }),
+    ("RES=5\nRES=6", TableFault::Resolution { line: 2 }),
+    ("5\nRES=5", TableFault::Resolution { line: 2 }),
+    ("5\nRES=x", TableFault::Resolution { line: 2 }),
+    ("res=5", TableFault::NotANumber { line: 1 }),
+    ("RES =5", TableFault::NotANumber { line: 1 }),
+    ("0\nRES=0", TableFault::Range { line: 1, column: 1 }),
+];
 
 #[test]
 fn faults_of_res_lines(rt: HostRuntime) {
-    let cases = [
-        ("RES=5", rows(0)),
-        ("RES=5 # five", rows(0)),
-        ("RES=5#five", rows(0)),
-        ("RES=1000000000\n7\n", rows(1)),
-        ("RES=0000000005", rows(0)),
-        ("RES=", resolution(1)),
-        ("RES= 5", resolution(1)),
-        ("RES=0", resolution(1)),
-        ("RES=1000000001", resolution(1)),
-        ("RES=00000000005", resolution(1)),
-        ("RES=5x", resolution(1)),
-        ("RES=5 6", resolution(1)),
-        ("RES=5\nRES=6", resolution(2)),
-        ("5\nRES=5", resolution(2)),
-        ("5\nRES=x", resolution(2)),
-        ("res=5", not_a_number(1)),
-        ("RES =5", not_a_number(1)),
-        ("0\nRES=0", range(1, 1)),
-    ];
-    for (text, fault) in cases {
-        assert!(rt;
-            rt_fault(&rt, rt.alloc(), text.as_bytes()) == Some(ReadTableFault::Table(fault)),
-            "at {text:?}"
-        );
-    }
+    let wrong = wrong_rt(rt.alloc(), &RES_LINES);
+    assert!(rt; wrong.is_none(), "text {wrong:?}");
 }
+
+const TIME_SHARING_ROWS: [(&str, TableFault); 11] = [
+    ("1 0 0 0 0", TableFault::Rows { found: 1 }),
+    (
+        "1000000000 59 59 32767 59 # 0",
+        TableFault::Rows { found: 1 },
+    ),
+    ("0 60 60 32768 60", TableFault::Range { line: 1, column: 1 }),
+    ("1 60 60 32768 60", TableFault::Range { line: 1, column: 2 }),
+    ("1 0 60 0 0", TableFault::Range { line: 1, column: 3 }),
+    ("1 0 0 32768 0", TableFault::Range { line: 1, column: 4 }),
+    ("1 0 0 0 60", TableFault::Range { line: 1, column: 5 }),
+    ("0 0 60 x 0", TableFault::NotANumber { line: 1 }),
+    ("1 0 0 0", TableFault::NotANumber { line: 1 }),
+    ("1 0 0 0 0 0", TableFault::NotANumber { line: 1 }),
+    (
+        "1 0 0 0 0\n0 0 0 0 0",
+        TableFault::Range { line: 2, column: 1 },
+    ),
+];
 
 #[test]
 fn faults_of_time_sharing_tables(rt: HostRuntime) {
-    let cases = [
-        ("1 0 0 0 0", rows(1)),
-        ("1000000000 59 59 32767 59 # 0", rows(1)),
-        ("0 60 60 32768 60", range(1, 1)),
-        ("1 60 60 32768 60", range(1, 2)),
-        ("1 0 60 0 0", range(1, 3)),
-        ("1 0 0 32768 0", range(1, 4)),
-        ("1 0 0 0 60", range(1, 5)),
-        ("0 0 60 x 0", not_a_number(1)),
-        ("1 0 0 0", not_a_number(1)),
-        ("1 0 0 0 0 0", not_a_number(1)),
-        ("1 0 0 0 0\n0 0 0 0 0", range(2, 1)),
-    ];
-    for (text, fault) in cases {
-        assert!(rt;
-            ts_fault(&rt, rt.alloc(), text.as_bytes()) == Some(ReadTableFault::Table(fault)),
-            "at {text:?}"
-        );
-    }
+    let wrong = wrong_ts(rt.alloc(), &TIME_SHARING_ROWS);
+    assert!(rt; wrong.is_none(), "text {wrong:?}");
 }
 
 // The quanta of the default real-time table, in tens of levels.
@@ -178,19 +202,51 @@ fn written_file(alloc: Global) -> Result<Vec<u8>, AllocError> {
     Ok(text)
 }
 
+fn has_sixty_rows(table: &FixedTable) -> bool {
+    table.rows() == 60 && table.row(0).ticks == 100 && table.row(59).ticks == 10
+}
+
+// Whether the table is written so.
+fn is_written(alloc: Global, table: &FixedTable, text: &[u8]) -> Result<bool, AllocError> {
+    let mut out = Vec::new(alloc);
+    write_fixed(alloc, table, &mut out)?;
+    Ok(out.as_slice() == text)
+}
+
+// The text is read as the default table of the real-time class.
+fn is_default_rt(alloc: Global, text: &[u8], written: &[u8]) -> Result<bool, AllocError> {
+    if 10_000 <= text.len() {
+        return Ok(false);
+    }
+    match read_rt(alloc, text, HZ) {
+        Ok(table) => {
+            let is_so = has_sixty_rows(&table);
+            Ok(is_written(alloc, &table, written)? && is_so)
+        }
+        Err(_) => Ok(false),
+    }
+}
+
+fn whole_is_read(alloc: Global, written: &[u8]) -> Result<bool, AllocError> {
+    let whole = dispadmin_file(alloc, 60)?;
+    is_default_rt(alloc, &whole, written)
+}
+
+fn short_is_refused(alloc: Global) -> Result<bool, AllocError> {
+    let short = dispadmin_file(alloc, 59)?;
+    Ok(rt_fault(alloc, &short) == Some(ReadTableFault::Table(rows(59))))
+}
+
+fn default_is_written(alloc: Global, written: &[u8]) -> Result<bool, AllocError> {
+    let table = default_rt(alloc, HZ)?;
+    is_written(alloc, &table, written)
+}
+
 #[test]
 fn dispadmin_files(rt: HostRuntime) -> Result<(), Fail> {
-    let whole = dispadmin_file(rt.alloc(), 60)?;
-    assert!(rt; whole.len() < 10_000);
-    let table = read_rt(rt.alloc(), &whole, HZ)?;
-    assert!(rt; table.rows() == 60 && table.row(0).ticks == 100 && table.row(59).ticks == 10);
-    let mut out = Vec::new(rt.alloc());
-    write_fixed(rt.alloc(), &table, &mut out)?;
     let written = written_file(rt.alloc())?;
-    assert!(rt; out.as_slice() == written.as_slice());
-
-    let short = dispadmin_file(rt.alloc(), 59)?;
-    assert!(rt; rt_fault(&rt, rt.alloc(), &short) == Some(ReadTableFault::Table(rows(59))));
+    let whole = whole_is_read(rt.alloc(), &written)?;
+    assert!(rt; whole && short_is_refused(rt.alloc())?);
     Ok(())
 }
 
@@ -212,63 +268,107 @@ const TIME_SHARING: [(u8, u64, u64, u8, u8, u32, u8); 13] = [
     (59, 20, 2, 49, 55, 32_000, 55),
 ];
 
+fn is_time_sharing(table: &TsTable) -> bool {
+    if table.rows() != 60 {
+        return false;
+    }
+    for case in &TIME_SHARING {
+        let (level, quantum, ticks, tqexp, slpret, maxwait, lwait) = *case;
+        if 60 <= level {
+            return false;
+        }
+        let row = table.row(level);
+        let own = row.quantum == quantum && row.ticks == ticks && row.tqexp == tqexp;
+        if !own || row.slpret != slpret || row.maxwait != maxwait || row.lwait != lwait {
+            return false;
+        }
+    }
+    true
+}
+
+// The text is read as the default table of the time-sharing class.
+fn is_read_as_time_sharing(alloc: Global, text: &[u8]) -> bool {
+    if 10_000 <= text.len() {
+        return false;
+    }
+    match read_ts(alloc, text, HZ) {
+        Ok(again) => is_time_sharing(&again),
+        Err(_) => false,
+    }
+}
+
+fn is_written_and_read(alloc: Global, ts: &TsTable) -> Result<bool, AllocError> {
+    let mut text = Vec::new(alloc);
+    write_ts(alloc, ts, &mut text)?;
+    Ok(is_read_as_time_sharing(alloc, &text))
+}
+
 #[test]
 fn the_default_time_sharing_table(rt: HostRuntime) -> Result<(), Fail> {
     let ts = default_ts(rt.alloc(), HZ)?;
-    let mut text = Vec::new(rt.alloc());
-    write_ts(rt.alloc(), &ts, &mut text)?;
-    assert!(rt; text.len() < 10_000);
-    let again = read_ts(rt.alloc(), &text, HZ)?;
-    for table in [&ts, &again] {
-        assert!(rt; table.rows() == 60);
-        for (level, quantum, ticks, tqexp, slpret, maxwait, lwait) in TIME_SHARING {
-            assert!(rt; usize::from(level) < table.rows());
-            let row = table.row(level);
-            assert_eq!(rt;
-                (row.quantum, row.ticks, row.tqexp),
-                (quantum, ticks, tqexp),
-                "{level}"
-            );
-            assert_eq!(rt;
-                (row.slpret, row.maxwait, row.lwait),
-                (slpret, maxwait, lwait),
-                "{level}"
-            );
+    let is_so = is_time_sharing(&ts);
+    assert!(rt; is_written_and_read(rt.alloc(), &ts)? && is_so);
+    Ok(())
+}
+
+// The level, the quantum, and the ticks at 100 a second.
+const FIXED_PRIORITY: [(u8, u64, u64); 8] = [
+    (0, 200, 20),
+    (9, 200, 20),
+    (10, 160, 16),
+    (20, 120, 12),
+    (30, 80, 8),
+    (40, 40, 4),
+    (59, 40, 4),
+    (60, 20, 2),
+];
+
+fn is_fixed_priority(table: &FixedTable) -> bool {
+    if table.rows() != 61 {
+        return false;
+    }
+    for case in &FIXED_PRIORITY {
+        let (level, quantum, ticks) = *case;
+        if 61 <= level {
+            return false;
+        }
+        let row = table.row(level);
+        if row.quantum != quantum || row.ticks != ticks {
+            return false;
         }
     }
-    Ok(())
+    true
+}
+
+// The text is read as the default table of the fixed-priority class, and is none of the real-time class.
+fn is_read_as_fixed_priority(alloc: Global, text: &[u8]) -> bool {
+    if 10_000 <= text.len() || rt_fault(alloc, text) != Some(ReadTableFault::Table(rows(61))) {
+        return false;
+    }
+    match read_fx(alloc, text, HZ) {
+        Ok(again) => is_fixed_priority(&again),
+        Err(_) => false,
+    }
+}
+
+fn fixed_is_written_and_read(alloc: Global, fx: &FixedTable) -> Result<bool, AllocError> {
+    let mut text = Vec::new(alloc);
+    write_fixed(alloc, fx, &mut text)?;
+    Ok(is_read_as_fixed_priority(alloc, &text))
 }
 
 #[test]
 fn the_default_fixed_priority_table(rt: HostRuntime) -> Result<(), Fail> {
     let fx = default_fx(rt.alloc(), HZ)?;
-    let mut text = Vec::new(rt.alloc());
-    write_fixed(rt.alloc(), &fx, &mut text)?;
-    assert!(rt; text.len() < 10_000);
-    let again = read_fx(rt.alloc(), &text, HZ)?;
-    for table in [&fx, &again] {
-        assert!(rt; table.rows() == 61);
-        // The level, the quantum, and the ticks at 100 a second.
-        for (level, quantum, ticks) in [
-            (0u8, 200, 20),
-            (9, 200, 20),
-            (10, 160, 16),
-            (20, 120, 12),
-            (30, 80, 8),
-            (40, 40, 4),
-            (59, 40, 4),
-            (60, 20, 2),
-        ] {
-            assert!(rt; usize::from(level) < table.rows());
-            let row = table.row(level);
-            assert_eq!(rt; (row.quantum, row.ticks), (quantum, ticks), "{level}");
-        }
-    }
-    assert!(rt; rt_fault(&rt, rt.alloc(), &text) == Some(ReadTableFault::Table(rows(61))));
+    let is_so = is_fixed_priority(&fx);
+    assert!(rt; fixed_is_written_and_read(rt.alloc(), &fx)? && is_so);
+    Ok(())
+}
 
-    let mut out = Vec::new(rt.alloc());
-    write_fixed(rt.alloc(), &default_rt(rt.alloc(), HZ)?, &mut out)?;
+#[test]
+fn the_default_real_time_table(rt: HostRuntime) -> Result<(), Fail> {
     let written = written_file(rt.alloc())?;
-    assert!(rt; out.as_slice() == written.as_slice());
+    let is_so = default_is_written(rt.alloc(), &written)?;
+    assert!(rt; is_so);
     Ok(())
 }

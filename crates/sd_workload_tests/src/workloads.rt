@@ -1,6 +1,6 @@
 //! What no clause says: that reading succeeds where memory is left, and that the definitions accept and refuse the
 //! texts that they should. The cases were worked out by hand.
-ghost use Rattle.std.specs.Prelude.{◌<◌, ◌≤◌, ◌^◌, length};
+ghost use Rattle.std.specs.Prelude.{◌<◌, ◌≤◌, length};
 
 use sd_lines::is_word;
 use sd_script::ScriptFault;
@@ -11,11 +11,9 @@ use sd_workload::{WorkCause, WorkFault, read_work};
 use std::alloc::{AllocError, Global};
 use std::test::Fail;
 
-// The fault of a text, or none.
-fn fault_of(alloc: Global, text: &[u8]) -> Option<WorkFault>
-    requires { length text.now < 2 ^ 31 }
-{
-    read_work(alloc, text).err()
+// Whether that is the fault of a text, or it has none.
+fn has_fault(alloc: Global, text: &[u8], fault: Option<WorkFault>) -> bool {
+    text.len() < 1_000_000 && read_work(alloc, text).err() == fault
 }
 
 // Texts between bars that are accepted: blanks and comments of any bytes, no newline at the end, keywords as names,
@@ -26,8 +24,7 @@ const ACCEPTED: &[u8] =
 #[test]
 fn texts_are_accepted(rt: HostRuntime) {
     for text in ACCEPTED.split(|byte| *byte == b'|') {
-        assert!(rt; text.len() < 1000);
-        assert_eq!(rt; fault_of(rt.alloc(), text), None, "at {text:?}");
+        assert!(rt; has_fault(rt.alloc(), text, None), "at {text:?}");
     }
 }
 
@@ -55,22 +52,37 @@ fn line_count(text: &[u8]) -> u32
     text.iter().filter(|byte| **byte == b'\n').count() as u32 + 1
 }
 
-#[test]
-fn the_last_line_is_refused(rt: HostRuntime) {
-    for (texts, cause) in [
-        (SYNTAX, WorkCause::Syntax),
-        (UNKNOWN, WorkCause::Unknown),
-        (TWICE, WorkCause::Twice),
-        (RANGE, WorkCause::Range),
-        (SETS, WorkCause::Sets),
-    ] {
-        for text in texts.split(|byte| *byte == b'|') {
-            assert!(rt; text.len() < 1000);
-            let line = line_count(text);
-            let want = Some(WorkFault::At { line, cause });
-            assert_eq!(rt; fault_of(rt.alloc(), text), want, "at {text:?}");
+fn is_last_refused(alloc: Global, text: &[u8], cause: WorkCause) -> bool {
+    if 1000 <= text.len() {
+        return false;
+    }
+    let line = line_count(text);
+    has_fault(alloc, text, Some(WorkFault::At { line, cause }))
+}
+
+// The first of the texts between bars whose last line is not refused for this cause.
+fn wrong_text(alloc: Global, texts: &[u8], cause: WorkCause) -> Option<usize> {
+    for (index, text) in texts.split(|byte| *byte == b'|').enumerate() {
+        if !is_last_refused(alloc, text, cause) {
+            return Some(index);
         }
     }
+    None
+}
+
+#[test]
+fn the_last_line_is_refused(rt: HostRuntime) {
+    let alloc = rt.alloc();
+    let syntax = wrong_text(alloc, SYNTAX, WorkCause::Syntax);
+    assert!(rt; syntax.is_none(), "syntax {syntax:?}");
+    let unknown = wrong_text(alloc, UNKNOWN, WorkCause::Unknown);
+    assert!(rt; unknown.is_none(), "unknown {unknown:?}");
+    let twice = wrong_text(alloc, TWICE, WorkCause::Twice);
+    assert!(rt; twice.is_none(), "twice {twice:?}");
+    let range = wrong_text(alloc, RANGE, WorkCause::Range);
+    assert!(rt; range.is_none(), "range {range:?}");
+    let sets = wrong_text(alloc, SETS, WorkCause::Sets);
+    assert!(rt; sets.is_none(), "sets {sets:?}");
 }
 
 // Texts between bars that are refused on the line after the last, by an open block or without a limit.
@@ -89,24 +101,35 @@ fn whole_line_count(text: &[u8]) -> u32
     }
 }
 
+fn is_end_refused(alloc: Global, text: &[u8]) -> bool {
+    if 1000 <= text.len() {
+        return false;
+    }
+    let line = whole_line_count(text) + 1;
+    let cause = WorkCause::Syntax;
+    has_fault(alloc, text, Some(WorkFault::At { line, cause }))
+}
+
+// The first of the texts between bars that is not refused behind its end.
+fn wrong_open_text(alloc: Global, texts: &[u8]) -> Option<usize> {
+    for (index, text) in texts.split(|byte| *byte == b'|').enumerate() {
+        if !is_end_refused(alloc, text) {
+            return Some(index);
+        }
+    }
+    None
+}
+
 #[test]
 fn the_end_is_refused(rt: HostRuntime) {
-    for text in OPEN.split(|byte| *byte == b'|') {
-        assert!(rt; text.len() < 1000);
-        let line = whole_line_count(text) + 1;
-        let want = Some(WorkFault::At {
-            line,
-            cause: WorkCause::Syntax,
-        });
-        assert_eq!(rt; fault_of(rt.alloc(), text), want, "at {text:?}");
-    }
-    for text in [b"cpus 4\nlimit 100000".as_slice(), b"cpus 64\nlimit 3126\n"] {
-        let want = Some(WorkFault::At {
-            line: 3,
-            cause: WorkCause::Limits,
-        });
-        assert_eq!(rt; fault_of(rt.alloc(), text), want);
-    }
+    let wrong = wrong_open_text(rt.alloc(), OPEN);
+    assert!(rt; wrong.is_none(), "text {wrong:?}");
+    let limits = Some(WorkFault::At {
+        line: 3,
+        cause: WorkCause::Limits,
+    });
+    assert!(rt; has_fault(rt.alloc(), b"cpus 4\nlimit 100000", limits));
+    assert!(rt; has_fault(rt.alloc(), b"cpus 64\nlimit 3126\n", limits));
 }
 
 // What stands above the operations of a script: 8 lines.
@@ -119,24 +142,42 @@ const UNKNOWN_OPERATIONS: &[u8] =
 
 const UNBALANCED_OPERATIONS: &[u8] = b"exit m|exit w|cvwait k m";
 
-#[test]
-fn operations_are_refused(rt: HostRuntime) -> Result<(), Fail> {
-    for (operations, cause) in [
-        (UNKNOWN_OPERATIONS, WorkCause::Unknown),
-        (
-            UNBALANCED_OPERATIONS,
-            WorkCause::Script(ScriptFault::Unbalanced { op: 0 }),
-        ),
-    ] {
-        for operation in operations.split(|byte| *byte == b'|') {
-            let mut text = Vec::from_slice(rt.alloc(), ABOVE)?;
-            text.extend_from_slice(operation)?;
-            text.extend_from_slice(b"\nend\n")?;
-            assert!(rt; text.len() < 1000);
-            let want = Some(WorkFault::At { line: 9, cause });
-            assert_eq!(rt; fault_of(rt.alloc(), &text), want, "at {operation:?}");
+fn put_operation(text: &mut Vec<u8>, operation: &[u8]) -> Result<(), AllocError> {
+    text.extend_from_slice(operation)?;
+    text.extend_from_slice(b"\nend\n")
+}
+
+fn is_operation_refused(
+    alloc: Global,
+    operation: &[u8],
+    cause: WorkCause,
+) -> Result<bool, AllocError> {
+    let mut text = Vec::from_slice(alloc, ABOVE)?;
+    put_operation(&mut text, operation)?;
+    Ok(has_fault(alloc, &text, Some(WorkFault::At { line: 9, cause })))
+}
+
+// The first of the operations between bars that is not refused for this cause.
+fn wrong_operation(
+    alloc: Global,
+    operations: &[u8],
+    cause: WorkCause,
+) -> Result<Option<usize>, AllocError> {
+    for (index, operation) in operations.split(|byte| *byte == b'|').enumerate() {
+        if !is_operation_refused(alloc, operation, cause)? {
+            return Ok(Some(index));
         }
     }
+    Ok(None)
+}
+
+#[test]
+fn operations_are_refused(rt: HostRuntime) -> Result<(), Fail> {
+    let unknown = wrong_operation(rt.alloc(), UNKNOWN_OPERATIONS, WorkCause::Unknown)?;
+    assert!(rt; unknown.is_none(), "unknown {unknown:?}");
+    let cause = WorkCause::Script(ScriptFault::Unbalanced { op: 0 });
+    let unbalanced = wrong_operation(rt.alloc(), UNBALANCED_OPERATIONS, cause)?;
+    assert!(rt; unbalanced.is_none(), "unbalanced {unbalanced:?}");
     Ok(())
 }
 
@@ -149,111 +190,149 @@ fn put_lines(text: &mut Vec<u8>, line: &[u8], count: u64) -> Result<(), AllocErr
     Ok(())
 }
 
-// A script of this many lines `run 1`, and then this line and `end`.
-fn script_text(alloc: Global, runs: u64, last: &[u8]) -> Result<Vec<u8>, AllocError> {
-    let mut text = Vec::from_slice(alloc, ABOVE)?;
+// Appends a script of this many lines `run 1`, and then this line and `end`.
+fn put_script(text: &mut Vec<u8>, runs: u64, last: &[u8]) -> Result<(), AllocError> {
     text.extend_from_slice(b"enter m\n")?;
-    put_lines(&mut text, b"run 1", runs)?;
+    put_lines(text, b"run 1", runs)?;
     text.extend_from_slice(last)?;
-    text.extend_from_slice(b"\nend\n")?;
-    Ok(text)
+    text.extend_from_slice(b"\nend\n")
 }
+
+// A fault on this line.
+fn fault_at(fault: Option<(u32, WorkCause)>) -> Option<WorkFault> {
+    match fault {
+        Some((line, cause)) => Some(WorkFault::At { line, cause }),
+        None => None,
+    }
+}
+
+fn has_script_fault(
+    alloc: Global,
+    runs: u64,
+    last: &[u8],
+    fault: Option<(u32, WorkCause)>,
+) -> Result<bool, AllocError> {
+    let mut text = Vec::from_slice(alloc, ABOVE)?;
+    put_script(&mut text, runs, last)?;
+    Ok(has_fault(alloc, &text, fault_at(fault)))
+}
+
+// How many lines `run 1` there are, the line behind them, and what is at fault.
+const SCRIPTS: [(u64, &[u8], Option<(u32, WorkCause)>); 9] = [
+    (0, b"exit m", None),
+    (
+        0,
+        b"yield",
+        Some((11, WorkCause::Script(ScriptFault::HeldAtExit))),
+    ),
+    (
+        0,
+        b"enter m",
+        Some((10, WorkCause::Script(ScriptFault::AlreadyHeld { op: 1 }))),
+    ),
+    (254, b"exit m", None),
+    (
+        255,
+        b"exit m",
+        Some((265, WorkCause::Script(ScriptFault::TooLong))),
+    ),
+    (
+        255,
+        b"exit w",
+        Some((265, WorkCause::Script(ScriptFault::TooLong))),
+    ),
+    (255, b"exit z", Some((265, WorkCause::Unknown))),
+    (255, b"run 0", Some((265, WorkCause::Range))),
+    (
+        254,
+        b"cvwait k m",
+        Some((264, WorkCause::Script(ScriptFault::TooLong))),
+    ),
+];
 
 #[test]
 fn scripts_are_refused(rt: HostRuntime) -> Result<(), Fail> {
-    let too_long = WorkCause::Script(ScriptFault::TooLong);
-    for (runs, last, fault) in [
-        (0, b"exit m".as_slice(), None),
-        (
-            0,
-            b"yield".as_slice(),
-            Some((11, WorkCause::Script(ScriptFault::HeldAtExit))),
-        ),
-        (
-            0,
-            b"enter m".as_slice(),
-            Some((10, WorkCause::Script(ScriptFault::AlreadyHeld { op: 1 }))),
-        ),
-        (254, b"exit m".as_slice(), None),
-        (255, b"exit m".as_slice(), Some((265, too_long))),
-        (255, b"exit w".as_slice(), Some((265, too_long))),
-        (255, b"exit z".as_slice(), Some((265, WorkCause::Unknown))),
-        (255, b"run 0".as_slice(), Some((265, WorkCause::Range))),
-        (254, b"cvwait k m".as_slice(), Some((264, too_long))),
-    ] {
-        let text = script_text(rt.alloc(), runs, last)?;
-        assert!(rt; text.len() < 100_000);
-        let want = fault.map(|(line, cause)| WorkFault::At { line, cause });
-        assert_eq!(rt; fault_of(rt.alloc(), &text), want, "{runs} {last:?}");
+    for (index, row) in SCRIPTS.iter().enumerate() {
+        let (runs, last, fault) = *row;
+        let is_so = has_script_fault(rt.alloc(), runs, last, fault)?;
+        assert!(rt; is_so, "script {index}");
     }
     Ok(())
 }
 
-// A table of this class with this many rows, and then this line.
-fn table_text(alloc: Global, class: &[u8], rows: u64, last: &[u8]) -> Result<Vec<u8>, AllocError> {
-    let mut text = Vec::from_slice(alloc, b"limit 1\ntable ")?;
+// Appends a table of this class with this many rows, and then this line.
+fn put_table(text: &mut Vec<u8>, class: &[u8], rows: u64, last: &[u8]) -> Result<(), AllocError> {
     text.extend_from_slice(class)?;
     text.push(b'\n')?;
-    put_lines(&mut text, b"10", rows)?;
-    text.extend_from_slice(last)?;
-    Ok(text)
+    put_lines(text, b"10", rows)?;
+    text.extend_from_slice(last)
 }
+
+fn has_table_fault(
+    alloc: Global,
+    class: &[u8],
+    rows: u64,
+    last: &[u8],
+    fault: Option<(u32, TableFault)>,
+) -> Result<bool, AllocError> {
+    let mut text = Vec::from_slice(alloc, b"limit 1\ntable ")?;
+    put_table(&mut text, class, rows, last)?;
+    let want = match fault {
+        Some((line, fault)) => Some((line, WorkCause::Table(fault))),
+        None => None,
+    };
+    Ok(has_fault(alloc, &text, fault_at(want)))
+}
+
+// The class, how many rows there are, the line behind them, and what is at fault.
+const TABLES: [(&[u8], u64, &[u8], Option<(u32, TableFault)>); 9] = [
+    (b"fx", 60, b"end", None),
+    (b"fx", 61, b" end # y\n", None),
+    (
+        b"rt",
+        61,
+        b"# x\n  end # y\n",
+        Some((65, TableFault::Rows { found: 61 })),
+    ),
+    (b"rt", 0, b"end\n", Some((3, TableFault::Rows { found: 0 }))),
+    (
+        b"rt",
+        60,
+        b"end end\n",
+        Some((63, TableFault::NotANumber { line: 61 })),
+    ),
+    (
+        b"rt",
+        0,
+        b"\xff\n",
+        Some((3, TableFault::NotANumber { line: 1 })),
+    ),
+    (
+        b"rt",
+        1,
+        b"0\n",
+        Some((4, TableFault::Range { line: 2, column: 1 })),
+    ),
+    (
+        b"fx",
+        1,
+        b"RES=1000\n",
+        Some((4, TableFault::Resolution { line: 2 })),
+    ),
+    (
+        b"ts",
+        0,
+        b"1 59 60 99999 60\n",
+        Some((3, TableFault::Range { line: 1, column: 3 })),
+    ),
+];
 
 #[test]
 fn tables_are_refused(rt: HostRuntime) -> Result<(), Fail> {
-    for (class, rows, last, fault) in [
-        (b"fx".as_slice(), 60, b"end".as_slice(), None),
-        (b"fx".as_slice(), 61, b" end # y\n".as_slice(), None),
-        (
-            b"rt".as_slice(),
-            61,
-            b"# x\n  end # y\n".as_slice(),
-            Some((65, TableFault::Rows { found: 61 })),
-        ),
-        (
-            b"rt".as_slice(),
-            0,
-            b"end\n".as_slice(),
-            Some((3, TableFault::Rows { found: 0 })),
-        ),
-        (
-            b"rt".as_slice(),
-            60,
-            b"end end\n".as_slice(),
-            Some((63, TableFault::NotANumber { line: 61 })),
-        ),
-        (
-            b"rt".as_slice(),
-            0,
-            b"\xff\n".as_slice(),
-            Some((3, TableFault::NotANumber { line: 1 })),
-        ),
-        (
-            b"rt".as_slice(),
-            1,
-            b"0\n".as_slice(),
-            Some((4, TableFault::Range { line: 2, column: 1 })),
-        ),
-        (
-            b"fx".as_slice(),
-            1,
-            b"RES=1000\n".as_slice(),
-            Some((4, TableFault::Resolution { line: 2 })),
-        ),
-        (
-            b"ts".as_slice(),
-            0,
-            b"1 59 60 99999 60\n".as_slice(),
-            Some((3, TableFault::Range { line: 1, column: 3 })),
-        ),
-    ] {
-        let text = table_text(rt.alloc(), class, rows, last)?;
-        assert!(rt; text.len() < 1000);
-        let want = fault.map(|(line, fault)| WorkFault::At {
-            line,
-            cause: WorkCause::Table(fault),
-        });
-        assert_eq!(rt; fault_of(rt.alloc(), &text), want, "{rows} {last:?}");
+    for (index, row) in TABLES.iter().enumerate() {
+        let (class, rows, last, fault) = *row;
+        let is_so = has_table_fault(rt.alloc(), class, rows, last, fault)?;
+        assert!(rt; is_so, "table {index}");
     }
     Ok(())
 }
@@ -273,43 +352,45 @@ fn put_numbered(
     Ok(())
 }
 
+fn put_many(text: &mut Vec<u8>, threads: u64, locks: u64, last: &[u8]) -> Result<(), AllocError> {
+    put_numbered(text, b"thread t", threads, b" sys 60\n")?;
+    put_numbered(text, b"mutex m", locks, b"\n")?;
+    text.extend_from_slice(last)
+}
+
+fn has_limit(
+    alloc: Global,
+    threads: u64,
+    locks: u64,
+    last: &[u8],
+    fault: Option<(u32, WorkCause)>,
+) -> Result<bool, AllocError> {
+    let mut text = Vec::from_slice(alloc, b"limit 1\n")?;
+    put_many(&mut text, threads, locks, last)?;
+    Ok(has_fault(alloc, &text, fault_at(fault)))
+}
+
+// 256 locks and no more, of which one more name that is declared is there twice; 32 threads with 2,048 locks.
+const LIMITS: [(u64, u64, &[u8], Option<(u32, WorkCause)>); 6] = [
+    (256, 256, b"", None),
+    (256, 256, b"mutex n", Some((514, WorkCause::Limits))),
+    (256, 256, b"mutex m0", Some((514, WorkCause::Twice))),
+    (257, 256, b"", Some((515, WorkCause::Limits))),
+    (2048, 32, b"", None),
+    (
+        2048,
+        32,
+        b"thread n sys 60",
+        Some((2082, WorkCause::Limits)),
+    ),
+];
+
 #[test]
 fn limits_have_two_sides(rt: HostRuntime) -> Result<(), Fail> {
-    // 256 locks and no more, of which one more name that is declared is there twice; 32 threads with 2,048 locks.
-    for (threads, locks, last, fault) in [
-        (256, 256, b"".as_slice(), None),
-        (
-            256,
-            256,
-            b"mutex n".as_slice(),
-            Some((514, WorkCause::Limits)),
-        ),
-        (
-            256,
-            256,
-            b"mutex m0".as_slice(),
-            Some((514, WorkCause::Twice)),
-        ),
-        (257, 256, b"".as_slice(), Some((515, WorkCause::Limits))),
-        (2048, 32, b"".as_slice(), None),
-        (
-            2048,
-            32,
-            b"thread n sys 60".as_slice(),
-            Some((2082, WorkCause::Limits)),
-        ),
-    ] {
-        let mut text = Vec::from_slice(rt.alloc(), b"limit 1\n")?;
-        put_numbered(&mut text, b"thread t", threads, b" sys 60\n")?;
-        put_numbered(&mut text, b"mutex m", locks, b"\n")?;
-        text.extend_from_slice(last)?;
-        assert!(rt; text.len() < 1_000_000);
-        let want = fault.map(|(line, cause)| WorkFault::At { line, cause });
-        assert_eq!(rt;
-            fault_of(rt.alloc(), &text),
-            want,
-            "{threads} {locks} {last:?}"
-        );
+    for (index, row) in LIMITS.iter().enumerate() {
+        let (threads, locks, last, fault) = *row;
+        let is_so = has_limit(rt.alloc(), threads, locks, last, fault)?;
+        assert!(rt; is_so, "limit {index}");
     }
     Ok(())
 }
@@ -444,48 +525,73 @@ fn has_script(work: &Work) -> bool {
 #[test]
 fn a_workload_is_read(rt: HostRuntime) -> Result<(), Fail> {
     let work = read_work(rt.alloc(), WHOLE)?;
-    assert!(rt; has_settings(&work));
-    assert!(rt; has_set(&work));
-    assert!(rt; has_objects(&work));
-    assert!(rt; has_threads(&work));
-    assert!(rt; has_script(&work));
+    let has_lists = has_set(&work) && has_objects(&work);
+    let is_so = has_settings(&work) && has_lists && has_threads(&work) && has_script(&work);
+    assert!(rt; is_so);
     Ok(())
+}
+
+// 10 milliseconds are 10 ticks of a thousand a second, wherever the line of the ticks stands.
+fn has_ticks(work: &Work) -> bool {
+    match (work.rt.rows.items(), work.fx.rows.items()) {
+        ([row, ..], [first, ..]) => {
+            row.quantum == 10 && row.ticks == 10 && first.quantum == 200 && first.ticks == 200
+        }
+        _ => false,
+    }
+}
+
+fn is_read_with_ticks(alloc: Global, text: &[u8]) -> bool {
+    if 1000 <= text.len() {
+        return false;
+    }
+    match read_work(alloc, text) {
+        Ok(work) => has_ticks(&work),
+        Err(_) => false,
+    }
 }
 
 #[test]
 fn a_table_is_read(rt: HostRuntime) -> Result<(), Fail> {
-    // 10 milliseconds are 10 ticks of a thousand a second, wherever the line of the ticks stands.
-    let text = table_text(rt.alloc(), b"rt", 60, b"end\nhz 1000")?;
-    assert!(rt; text.len() < 1000);
-    let work = read_work(rt.alloc(), &text)?;
-    match (work.rt.rows.items(), work.fx.rows.items()) {
-        ([row, ..], [first, ..]) => {
-            assert_eq!(rt; (row.quantum, row.ticks), (10, 10));
-            assert_eq!(rt; (first.quantum, first.ticks), (200, 200));
-        }
-        _ => assert!(rt; false, "no rows"),
-    }
+    let mut text = Vec::from_slice(rt.alloc(), b"limit 1\ntable ")?;
+    put_table(&mut text, b"rt", 60, b"end\nhz 1000")?;
+    let is_so = is_read_with_ticks(rt.alloc(), &text);
+    assert!(rt; is_so);
     Ok(())
 }
 
+fn has_text(alloc: Global, cause: WorkCause, text: &str) -> Result<bool, AllocError> {
+    let fault = WorkFault::At { line: 7, cause };
+    Ok(format!(in alloc; "{fault}")?.as_str() == text)
+}
+
+const TEXTS: [(WorkCause, &str); 9] = [
+    (WorkCause::Syntax, "line 7: syntax"),
+    (WorkCause::Unknown, "line 7: unknown"),
+    (WorkCause::Twice, "line 7: twice"),
+    (WorkCause::Range, "line 7: range"),
+    (
+        WorkCause::Table(TableFault::Rows { found: 61 }),
+        "line 7: table: rows: 61",
+    ),
+    (
+        WorkCause::Table(TableFault::Range { line: 1, column: 3 }),
+        "line 7: table: range in column 3",
+    ),
+    (
+        WorkCause::Script(ScriptFault::HeldAtExit),
+        "line 7: script: held at exit",
+    ),
+    (WorkCause::Sets, "line 7: sets"),
+    (WorkCause::Limits, "line 7: limits"),
+];
+
 #[test]
 fn faults_have_their_texts(rt: HostRuntime) -> Result<(), Fail> {
-    let rows = WorkCause::Table(TableFault::Rows { found: 61 });
-    let column = WorkCause::Table(TableFault::Range { line: 1, column: 3 });
-    let held = WorkCause::Script(ScriptFault::HeldAtExit);
-    for (cause, text) in [
-        (WorkCause::Syntax, "line 7: syntax"),
-        (WorkCause::Unknown, "line 7: unknown"),
-        (WorkCause::Twice, "line 7: twice"),
-        (WorkCause::Range, "line 7: range"),
-        (rows, "line 7: table: rows: 61"),
-        (column, "line 7: table: range in column 3"),
-        (held, "line 7: script: held at exit"),
-        (WorkCause::Sets, "line 7: sets"),
-        (WorkCause::Limits, "line 7: limits"),
-    ] {
-        let fault = WorkFault::At { line: 7, cause };
-        assert_eq!(rt; format!(in rt.alloc(); "{fault}")?.as_str(), text);
+    for row in &TEXTS {
+        let (cause, text) = *row;
+        let is_so = has_text(rt.alloc(), cause, text)?;
+        assert!(rt; is_so, "{text}");
     }
     Ok(())
 }
