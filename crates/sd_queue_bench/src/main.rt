@@ -2,14 +2,17 @@
 //! where its arguments have `time` the nanoseconds that each call took.
 #![tactic(auto)]
 
+mod chains;
+mod ends;
 mod items;
 mod measure;
+mod middle;
 
+use chains::{measure_sleepers, measure_waiters};
+use ends::{measure_ends, measure_levels};
 use items::{Big, Made, Small};
-use measure::{
-    Measured, STANDING, measure_ends, measure_levels, measure_middle, measure_sleepers,
-    measure_waiters,
-};
+use measure::{Measured, STANDING};
+use middle::measure_middle;
 use std::{env, io};
 
 const SIZES: [u32; 3] = [100, 10_000, 1_000_000];
