@@ -31,28 +31,22 @@ fn find_guests<T: Made + Drop>(queue: &DispQueue<T>) -> u32 {
     done
 }
 
-// The tag of the item with this id.
-fn tag_of<T: Made + Drop>(queue: &DispQueue<T>, id: u32) -> Option<Tag> {
-    match queue.find(id) {
-        None => None,
-        Some(item) => Some(Tag {
-            rank: item.rank(),
-            key: item.key(),
-            id: item.id(),
-        }),
-    }
-}
-
 // Puts an item made anew in place of the one with this id.
 fn renew<T: Made + Drop>(
     alloc: Global,
     queue: &mut DispQueue<T>,
     id: u32,
 ) -> Result<bool, AllocError> {
-    match tag_of(queue, id) {
-        None => Ok(false),
-        Some(tag) => Ok(queue.replace(id, T::made(alloc, tag)?).is_some()),
-    }
+    let tag = match queue.find(id) {
+        None => return Ok(false),
+        Some(item) => Tag {
+            rank: item.rank(),
+            key: item.key(),
+            id: item.id(),
+        },
+    };
+    let item = T::made(alloc, tag)?;
+    Ok(queue.replace(id, item).is_some())
 }
 
 fn renew_guests<T: Made + Drop>(
