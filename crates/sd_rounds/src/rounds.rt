@@ -29,7 +29,9 @@ pub struct Finished {
 
 /// One round: each processor of the order has a turn. `Full` only where the entries with those of this round
 /// are 2^40 or more. Memory runs out only where the log holds fewer. No processor's count is below the floor, and there is nothing to steal in the
-/// set that was searched, before and after.
+/// set that was searched, before and after. It is inline in the loops over rounds, with the turn that most turns are, since a round of one
+/// processor is a turn.
+#[inline(always)]
 fn run_round(
     work: &Work,
     world: &mut PlainWorld,
@@ -80,6 +82,7 @@ fn finish(alloc: Global, work: &Work, world: PlainWorld) -> Result<Finished, Sto
 /// The run of the workload that goes in rounds, in which the processors take turns so. `Full` only where it has 2^40
 /// entries or more, and then it is never returned whole: what `Memory` may stand for instead of a run or of `Full` is
 /// only that memory ran out.
+#[inline(never)]
 pub fn run_rounds(alloc: Global, work: &Work, orders: RoundOrder) -> Result<Finished, Stop>
     ensures serial { IfOk result (λ r. IsSerial work.now (orders_of work.now orders) r.entries.items) }
     ensures run { IfOk result (λ r. IsRun work.now r.entries.items) }
@@ -118,6 +121,7 @@ pub fn run_rounds(alloc: Global, work: &Work, orders: RoundOrder) -> Result<Fini
 
 /// A run that goes on, from the entries that the world has, in rounds of rising order until one makes no entry: a complete one. `Full`
 /// only where a run of the workload has 2^40 entries or more; what `Memory` stands for is only that memory ran out.
+#[inline(never)]
 pub fn run_to_end(alloc: Global, work: &Work, world: PlainWorld) -> Result<Finished, Stop>
     requires stands { Stands work.now world }
     requires work { world.work.now ≡ work.now }

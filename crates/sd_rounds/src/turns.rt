@@ -219,6 +219,7 @@ fn act_by_plan(work: &Work, world: &mut PlainWorld) -> Result<(), Stop>
 /// The turn of the processor that acts, by one look or by its plan. Where it searches and one look finds nothing to steal, this is so in its
 /// set until an entry comes that is neither a tick of a thread nor an idle one. Each look answers on its own, so that the compiler sees that
 /// most turns end well, and asks nothing after them.
+#[inline(always)]
 fn act(
     work: &Work,
     world: &mut PlainWorld,
@@ -256,6 +257,7 @@ fn act(
 /// The turn of processor `c`: it makes its entry, where it has one. No processor's count is below the floor before it, and there is nothing to steal in the
 /// set that was searched, after it too. `Full` exactly where the log holds 2^40 entries or more; so
 /// memory runs out only where it holds fewer, and the entries are then as they were.
+#[inline(always)]
 pub(crate) fn take_turn(
     work: &Work,
     world: &mut PlainWorld,
