@@ -1,10 +1,9 @@
 //! Accounts of entries that were written down by hand, and their texts.
 
-use crate::given::{in_place, state};
+use crate::given::{Judged, in_place, judge, state};
 use sd_accounts::Accounts;
 use sd_state::{LockState, Place, State};
 use sd_types::{ChanId, CpuId, End, Entry, Event, LockId, Put, SetId, Side, ThreadId, Work};
-use sd_workload::read_work;
 use std::alloc::{AllocError, Global};
 use std::test::Fail;
 
@@ -21,7 +20,7 @@ const K: ChanId = ChanId(0);
 const TO: Put = Put::Cpu(CpuId(0));
 
 /// Two processors, two threads a and b, a mutex m, a rwlock w and a channel k.
-const SMALL: &[u8] =
+pub(crate) const SMALL: &[u8] =
     b"cpus 2\nlimit 2\nmutex m\nrwlock w\nchan k\nthread a sys 60\nthread b sys 60\n";
 
 /// The two threads in these places, and the locks owned by b and by a.
@@ -162,49 +161,63 @@ fn is_end_told(alloc: Global, accounts: &Accounts) -> Result<bool, AllocError> {
     has_summary(alloc, accounts, &ended, SUMMARY)
 }
 
+/// What is wrong with the two texts.
+fn wrong_text(
+    alloc: Global,
+    accounts: &Accounts,
+    work: &Work,
+) -> Result<Option<&'static str>, AllocError> {
+    if !is_cycle_told(alloc, accounts, work)? {
+        return Ok(Some("the accounts"));
+    }
+    if !is_end_told(alloc, accounts)? {
+        return Ok(Some("the summary"));
+    }
+    Ok(None)
+}
+
+/// What is wrong with the texts of the twenty entries.
+pub(crate) fn wrong_run(alloc: Global, work: &Work) -> Result<Option<&'static str>, AllocError> {
+    let accounts = counted(alloc, work)?;
+    wrong_text(alloc, &accounts, work)
+}
+
 #[test]
 fn a_run_with_a_cycle(rt: HostRuntime) -> Result<(), Fail> {
-    let alloc = rt.alloc();
-    let Ok(work) = read_work(alloc, SMALL) else {
-        return Ok(assert!(rt; false, "no work"));
-    };
-    let accounts = counted(alloc, &work)?;
-    assert!(rt; is_cycle_told(alloc, &accounts, &work)?);
-    assert!(rt; is_end_told(alloc, &accounts)?);
-    Ok(())
+    judge(&rt, Judged::Run)
 }
 
 /// A place of thread a, and the accounts of no entry where it stands there.
 #[derive(Clone, Copy)]
 struct Placed {
     place: Place,
-    text: &'static [u8],
+    text: &'static str,
 }
 
 const PLACES: [Placed; 6] = [
     Placed {
         place: Place::Running(CpuId(1)),
-        text: b"accounts\nthread a ticks 0 dispatches 0 preempts 0 wakes 0 running\nthread b ticks 0 dispatches 0 preempts 0 wakes 0 ended\ncpu 0 ticks 0 idle 0\ncpu 1 ticks 0 idle 0\n",
+        text: "accounts\nthread a ticks 0 dispatches 0 preempts 0 wakes 0 running\nthread b ticks 0 dispatches 0 preempts 0 wakes 0 ended\ncpu 0 ticks 0 idle 0\ncpu 1 ticks 0 idle 0\n",
     },
     Placed {
         place: Place::Queued(CpuId(0), 4),
-        text: b"accounts\nthread a ticks 0 dispatches 0 preempts 0 wakes 0 queued\nthread b ticks 0 dispatches 0 preempts 0 wakes 0 ended\ncpu 0 ticks 0 idle 0\ncpu 1 ticks 0 idle 0\n",
+        text: "accounts\nthread a ticks 0 dispatches 0 preempts 0 wakes 0 queued\nthread b ticks 0 dispatches 0 preempts 0 wakes 0 ended\ncpu 0 ticks 0 idle 0\ncpu 1 ticks 0 idle 0\n",
     },
     Placed {
         place: Place::RealTime(SetId(0), 4),
-        text: b"accounts\nthread a ticks 0 dispatches 0 preempts 0 wakes 0 queued\nthread b ticks 0 dispatches 0 preempts 0 wakes 0 ended\ncpu 0 ticks 0 idle 0\ncpu 1 ticks 0 idle 0\n",
+        text: "accounts\nthread a ticks 0 dispatches 0 preempts 0 wakes 0 queued\nthread b ticks 0 dispatches 0 preempts 0 wakes 0 ended\ncpu 0 ticks 0 idle 0\ncpu 1 ticks 0 idle 0\n",
     },
     Placed {
         place: Place::Asleep(K, 4),
-        text: b"accounts\nthread a ticks 0 dispatches 0 preempts 0 wakes 0 asleep k\nthread b ticks 0 dispatches 0 preempts 0 wakes 0 ended\ncpu 0 ticks 0 idle 0\ncpu 1 ticks 0 idle 0\n",
+        text: "accounts\nthread a ticks 0 dispatches 0 preempts 0 wakes 0 asleep k\nthread b ticks 0 dispatches 0 preempts 0 wakes 0 ended\ncpu 0 ticks 0 idle 0\ncpu 1 ticks 0 idle 0\n",
     },
     Placed {
         place: Place::Napping(CpuId(1), 9),
-        text: b"accounts\nthread a ticks 0 dispatches 0 preempts 0 wakes 0 napping\nthread b ticks 0 dispatches 0 preempts 0 wakes 0 ended\ncpu 0 ticks 0 idle 0\ncpu 1 ticks 0 idle 0\n",
+        text: "accounts\nthread a ticks 0 dispatches 0 preempts 0 wakes 0 napping\nthread b ticks 0 dispatches 0 preempts 0 wakes 0 ended\ncpu 0 ticks 0 idle 0\ncpu 1 ticks 0 idle 0\n",
     },
     Placed {
         place: Place::Ended,
-        text: b"accounts\nthread a ticks 0 dispatches 0 preempts 0 wakes 0 ended\nthread b ticks 0 dispatches 0 preempts 0 wakes 0 ended\ncpu 0 ticks 0 idle 0\ncpu 1 ticks 0 idle 0\n",
+        text: "accounts\nthread a ticks 0 dispatches 0 preempts 0 wakes 0 ended\nthread b ticks 0 dispatches 0 preempts 0 wakes 0 ended\ncpu 0 ticks 0 idle 0\ncpu 1 ticks 0 idle 0\n",
     },
 ];
 
@@ -216,19 +229,30 @@ fn is_placed(
     row: &Placed,
 ) -> Result<bool, AllocError> {
     let s = in_places(alloc, row.place, Place::Ended)?;
-    has_text(alloc, accounts, work, &s, row.text)
+    has_text(alloc, accounts, work, &s, row.text.as_bytes())
+}
+
+/// The text of the first place whose accounts are others.
+fn wrong_place(
+    alloc: Global,
+    accounts: &Accounts,
+    work: &Work,
+) -> Result<Option<&'static str>, AllocError> {
+    for row in &PLACES {
+        if !is_placed(alloc, accounts, work, row)? {
+            return Ok(Some(row.text));
+        }
+    }
+    Ok(None)
+}
+
+/// The text of the first place whose accounts of no entry are others.
+pub(crate) fn wrong_places(alloc: Global, work: &Work) -> Result<Option<&'static str>, AllocError> {
+    let accounts = Accounts::new(alloc, work)?;
+    wrong_place(alloc, &accounts, work)
 }
 
 #[test]
 fn places_of_threads(rt: HostRuntime) -> Result<(), Fail> {
-    let alloc = rt.alloc();
-    let Ok(work) = read_work(alloc, SMALL) else {
-        return Ok(assert!(rt; false, "no work"));
-    };
-    let accounts = Accounts::new(alloc, &work)?;
-    for (index, row) in PLACES.iter().enumerate() {
-        let told = is_placed(alloc, &accounts, &work, row)?;
-        assert!(rt; told, "place {index}");
-    }
-    Ok(())
+    judge(&rt, Judged::Places)
 }

@@ -1,45 +1,45 @@
 //! Journals of the smallest run, whole and with a line changed, worked out by hand.
 ghost use Rattle.std.specs.Prelude.{◌<◌, ◌^◌, length};
 
+use crate::given::{Judged, judge};
 use sd_audit::{AuditFault, audit};
 use sd_types::{CpuId, Work};
-use sd_workload::read_work;
 use std::alloc::Global;
 use std::test::Fail;
 
-const WORK: &[u8] = b"limit 5\nthread a ts 29 0 0\nscript a\nrun 3\nend\n";
+pub(crate) const WORK: &[u8] = b"limit 5\nthread a ts 29 0 0\nscript a\nrun 3\nend\n";
 
-const JOURNAL: &[u8] =
-    b"0 c0 dispatch a 29\n1 c0 tick a\n2 c0 tick a\n3 c0 tick a\n4 c0 done a\n5 c0 idle\n6 c0 idle\naccounts\nthread a ticks 3 dispatches 1 preempts 0 wakes 0 ended\ncpu 0 ticks 5 idle 2\n";
+const JOURNAL: &str =
+    "0 c0 dispatch a 29\n1 c0 tick a\n2 c0 tick a\n3 c0 tick a\n4 c0 done a\n5 c0 idle\n6 c0 idle\naccounts\nthread a ticks 3 dispatches 1 preempts 0 wakes 0 ended\ncpu 0 ticks 5 idle 2\n";
 
-const OTHER_EVENT: &[u8] =
-    b"0 c0 dispatch a 29\n1 c0 tick a\n2 c0 tick a\n3 c0 tick a\n4 c0 tick a\n5 c0 idle\n6 c0 idle\naccounts\nthread a ticks 3 dispatches 1 preempts 0 wakes 0 ended\ncpu 0 ticks 5 idle 2\n";
+const OTHER_EVENT: &str =
+    "0 c0 dispatch a 29\n1 c0 tick a\n2 c0 tick a\n3 c0 tick a\n4 c0 tick a\n5 c0 idle\n6 c0 idle\naccounts\nthread a ticks 3 dispatches 1 preempts 0 wakes 0 ended\ncpu 0 ticks 5 idle 2\n";
 
-const OTHER_NUMBER: &[u8] = b"0 c0 dispatch a 29\n2 c0 tick a\n";
+const OTHER_NUMBER: &str = "0 c0 dispatch a 29\n2 c0 tick a\n";
 
-const NO_LAST_ENTRY: &[u8] =
-    b"0 c0 dispatch a 29\n1 c0 tick a\n2 c0 tick a\n3 c0 tick a\n4 c0 done a\n5 c0 idle\naccounts\nthread a ticks 3 dispatches 1 preempts 0 wakes 0 ended\ncpu 0 ticks 5 idle 2\n";
+const NO_LAST_ENTRY: &str =
+    "0 c0 dispatch a 29\n1 c0 tick a\n2 c0 tick a\n3 c0 tick a\n4 c0 done a\n5 c0 idle\naccounts\nthread a ticks 3 dispatches 1 preempts 0 wakes 0 ended\ncpu 0 ticks 5 idle 2\n";
 
-const OTHER_COUNT: &[u8] =
-    b"0 c0 dispatch a 29\n1 c0 tick a\n2 c0 tick a\n3 c0 tick a\n4 c0 done a\n5 c0 idle\n6 c0 idle\naccounts\nthread a ticks 4 dispatches 1 preempts 0 wakes 0 ended\ncpu 0 ticks 5 idle 2\n";
+const OTHER_COUNT: &str =
+    "0 c0 dispatch a 29\n1 c0 tick a\n2 c0 tick a\n3 c0 tick a\n4 c0 done a\n5 c0 idle\n6 c0 idle\naccounts\nthread a ticks 4 dispatches 1 preempts 0 wakes 0 ended\ncpu 0 ticks 5 idle 2\n";
 
-const NO_ENTRY: &[u8] = b"0 c0 dispatch b 29\n1 c0 tick a\naccounts\n";
+const NO_ENTRY: &str = "0 c0 dispatch b 29\n1 c0 tick a\naccounts\n";
 
-const NO_ACCOUNTS: &[u8] = b"0 c0 dispatch a 29\n1 c0 tick a";
+const NO_ACCOUNTS: &str = "0 c0 dispatch a 29\n1 c0 tick a";
 
-const TOO_MUCH: &[u8] =
-    b"0 c0 dispatch a 29\n1 c0 tick a\n2 c0 tick a\n3 c0 tick a\n4 c0 done a\n5 c0 idle\n6 c0 idle\naccounts\nthread a ticks 3 dispatches 1 preempts 0 wakes 0 ended\ncpu 0 ticks 5 idle 2\n\n";
+const TOO_MUCH: &str =
+    "0 c0 dispatch a 29\n1 c0 tick a\n2 c0 tick a\n3 c0 tick a\n4 c0 done a\n5 c0 idle\n6 c0 idle\naccounts\nthread a ticks 3 dispatches 1 preempts 0 wakes 0 ended\ncpu 0 ticks 5 idle 2\n\n";
 
-const TOO_LITTLE: &[u8] =
-    b"0 c0 dispatch a 29\n1 c0 tick a\n2 c0 tick a\n3 c0 tick a\n4 c0 done a\n5 c0 idle\n6 c0 idle\naccounts\nthread a ticks 3 dispatches 1 preempts 0 wakes 0 ended\n";
+const TOO_LITTLE: &str =
+    "0 c0 dispatch a 29\n1 c0 tick a\n2 c0 tick a\n3 c0 tick a\n4 c0 done a\n5 c0 idle\n6 c0 idle\naccounts\nthread a ticks 3 dispatches 1 preempts 0 wakes 0 ended\n";
 
-const NO_NEWLINE: &[u8] =
-    b"0 c0 dispatch a 29\n1 c0 tick a\n2 c0 tick a\n3 c0 tick a\n4 c0 done a\n5 c0 idle\n6 c0 idle\naccounts";
+const NO_NEWLINE: &str =
+    "0 c0 dispatch a 29\n1 c0 tick a\n2 c0 tick a\n3 c0 tick a\n4 c0 done a\n5 c0 idle\n6 c0 idle\naccounts";
 
 /// A text that is no journal of the run, and what is at fault.
 #[derive(Clone, Copy)]
 struct Faulty {
-    text: &'static [u8],
+    text: &'static str,
     fault: AuditFault,
 }
 
@@ -82,37 +82,40 @@ const REFUSED: [Faulty; 9] = [
     },
 ];
 
-/// The text is the journal of a complete run of so many entries.
-fn is_legal(alloc: Global, work: &Work, text: &[u8], count: u64) -> bool
+/// The number of entries of the complete run of which the text is the journal, or what is at fault.
+fn verdict(alloc: Global, work: &Work, text: &[u8]) -> Result<u64, AuditFault>
     requires { length text.now < 2 ^ 31 }
 {
     match audit(alloc, work, text) {
-        Ok((_, number)) => number == count,
-        Err(_) => false,
+        Ok((_, count)) => Ok(count),
+        Err(fault) => Err(fault),
     }
 }
 
+/// The text is the journal of a complete run of so many entries.
+fn is_legal(alloc: Global, work: &Work, text: &[u8], count: u64) -> bool {
+    text.len() < 1000 && matches!(verdict(alloc, work, text), Ok(number) if number == count)
+}
+
 /// The text is none, and this is at fault.
-fn is_refused(alloc: Global, work: &Work, text: &[u8], fault: AuditFault) -> bool
-    requires { length text.now < 2 ^ 31 }
-{
-    match audit(alloc, work, text) {
-        Ok(_) => false,
-        Err(found) => found == fault,
+fn is_refused(alloc: Global, work: &Work, text: &[u8], fault: AuditFault) -> bool {
+    text.len() < 1000 && matches!(verdict(alloc, work, text), Err(found) if found == fault)
+}
+
+/// The first text that is judged otherwise.
+pub(crate) fn wrong_verdict(alloc: Global, work: &Work) -> Option<&'static str> {
+    if !is_legal(alloc, work, JOURNAL.as_bytes(), 7) {
+        return Some(JOURNAL);
     }
+    for row in &REFUSED {
+        if !is_refused(alloc, work, row.text.as_bytes(), row.fault) {
+            return Some(row.text);
+        }
+    }
+    None
 }
 
 #[test]
 fn journals_judged(rt: HostRuntime) -> Result<(), Fail> {
-    let alloc = rt.alloc();
-    let Ok(work) = read_work(alloc, WORK) else {
-        return Ok(assert!(rt; false, "no work"));
-    };
-    assert!(rt; is_legal(alloc, &work, JOURNAL, 7));
-    for (index, row) in REFUSED.iter().enumerate() {
-        assert!(rt; row.text.len() < 1000);
-        let refused = is_refused(alloc, &work, row.text, row.fault);
-        assert!(rt; refused, "text {index}");
-    }
-    Ok(())
+    judge(&rt, Judged::Journals)
 }

@@ -2,31 +2,53 @@
 
 use crate::given::{in_place, state};
 use sd_accounts::cycles;
-use sd_state::{LockState, Place, State};
+use sd_state::{LockState, Place, State, ThreadState};
 use sd_types::{LockId, Side, ThreadId};
 use std::alloc::{AllocError, Global};
 use std::test::Fail;
 
-/// A state whose threads wait for these locks or have ended, and whose locks have these owners or are held by a reader.
+/// A thread that waits for this lock, or has ended.
+fn thread_of(wait: Option<u16>) -> ThreadState {
+    match wait {
+        Some(l) => in_place(Place::Waiting(LockId(l), Side::Writer, 0)),
+        None => in_place(Place::Ended),
+    }
+}
+
+/// Puts threads in that wait for these locks or have ended.
+fn put_threads(waits: &[Option<u16>], threads: &mut Vec<ThreadState>) -> Result<(), AllocError> {
+    for wait in waits {
+        threads.push(thread_of(*wait))?;
+    }
+    Ok(())
+}
+
+/// A lock that has this owner, or is held by a reader.
+fn lock_of(owner: Option<u16>) -> LockState {
+    match owner {
+        Some(t) => LockState::Owned(ThreadId(t)),
+        None => LockState::ReadHeld(1),
+    }
+}
+
+/// Puts locks in that have these owners or are held by a reader.
+fn put_locks(owners: &[Option<u16>], locks: &mut Vec<LockState>) -> Result<(), AllocError> {
+    for owner in owners {
+        locks.push(lock_of(*owner))?;
+    }
+    Ok(())
+}
+
+/// A state of these threads and locks.
 fn blocked(
     alloc: Global,
     waits: &[Option<u16>],
     owners: &[Option<u16>],
 ) -> Result<State, AllocError> {
     let mut threads = Vec::new(alloc);
-    for wait in waits {
-        threads.push(match wait {
-            Some(l) => in_place(Place::Waiting(LockId(*l), Side::Writer, 0)),
-            None => in_place(Place::Ended),
-        })?;
-    }
+    put_threads(waits, &mut threads)?;
     let mut locks = Vec::new(alloc);
-    for owner in owners {
-        locks.push(match owner {
-            Some(t) => LockState::Owned(ThreadId(*t)),
-            None => LockState::ReadHeld(1),
-        })?;
-    }
+    put_locks(owners, &mut locks)?;
     Ok(state(alloc, threads, locks, Vec::new(alloc)))
 }
 
@@ -88,11 +110,16 @@ const CASES: [Case; 6] = [
     },
 ];
 
+/// These cycles are found in the state.
+fn has_cycles(alloc: Global, s: &State, want: &[&[usize]]) -> Result<bool, AllocError> {
+    let found = cycles(alloc, s)?;
+    Ok(are_cycles(&found, want))
+}
+
 /// Those cycles are found in that state.
 fn is_found(alloc: Global, case: &Case) -> Result<bool, AllocError> {
     let s = blocked(alloc, case.waits, case.owners)?;
-    let found = cycles(alloc, &s)?;
-    Ok(are_cycles(&found, case.cycles))
+    has_cycles(alloc, &s, case.cycles)
 }
 
 #[test]

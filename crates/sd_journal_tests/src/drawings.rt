@@ -1,12 +1,14 @@
 //! The drawings of a run of three entries, worked out by hand.
 
+use crate::given::{Judged, judge};
 use arrayvec::ArrayVec;
 use sd_story::Selection;
+use sd_types::Work;
 use sd_viewer::{Drawing, draw};
-use sd_workload::read_work;
+use std::alloc::Global;
 use std::test::Fail;
 
-const WORKLOAD: &[u8] = b"limit 1\nthread a ts 29 0 0\n";
+pub(crate) const WORKLOAD: &[u8] = b"limit 1\nthread a ts 29 0 0\n";
 
 const JOURNAL: &[u8] =
     b"0 c0 dispatch a 29\n1 c0 done a\n2 c0 idle\naccounts\nthread a ticks 0 dispatches 1 preempts 0 wakes 0 ended\ncpu 0 ticks 1 idle 1\n";
@@ -27,21 +29,43 @@ const TRACE: &[u8] = b"{\"displayTimeUnit\":\"ms\",\"traceEvents\":[
 ]}
 ";
 
+/// How the text of a drawing begins, or the whole of it.
+#[derive(Clone, Copy)]
+enum Text {
+    Start(&'static [u8]),
+    Whole(&'static [u8]),
+}
+
+fn has(found: &[u8], text: Text) -> bool {
+    match text {
+        Text::Start(text) => found.starts_with(text),
+        Text::Whole(text) => found == text,
+    }
+}
+
+/// The drawing of the run has this text.
+fn is_drawn(alloc: Global, work: &Work, drawing: &Drawing, text: Text) -> bool {
+    match draw(alloc, work, JOURNAL, drawing) {
+        Ok(found) => has(&found, text),
+        Err(_) => false,
+    }
+}
+
+/// The first drawing that is another.
+pub(crate) fn wrong_drawing(alloc: Global, work: &Work) -> Option<&'static str> {
+    if !is_drawn(alloc, work, &Drawing::Trace, Text::Whole(TRACE)) {
+        return Some("the trace");
+    }
+    let picture = Drawing::Timeline { from: 0, to: 9 };
+    if !is_drawn(alloc, work, &picture, Text::Start(b"<svg")) {
+        return Some("the picture");
+    }
+    None
+}
+
 #[test]
 fn a_run_is_drawn(rt: HostRuntime) -> Result<(), Fail> {
-    let alloc = rt.alloc();
-    let Ok(work) = read_work(alloc, WORKLOAD) else {
-        return Ok(assert!(rt; false, "no work"));
-    };
-    let Ok(trace) = draw(alloc, &work, JOURNAL, &Drawing::Trace) else {
-        return Ok(assert!(rt; false, "no trace"));
-    };
-    assert!(rt; trace.as_slice() == TRACE);
-    let Ok(picture) = draw(alloc, &work, JOURNAL, &Drawing::Timeline { from: 0, to: 9 }) else {
-        return Ok(assert!(rt; false, "no picture"));
-    };
-    assert!(rt; picture.as_slice().starts_with(b"<svg"));
-    Ok(())
+    judge(&rt, Judged::Drawings)
 }
 
 const STORY: &[u8] = b"tick    entry                         what happens
@@ -55,23 +79,26 @@ const STORY_OF_A: &[u8] = b"tick    entry                         what happens
 0       1 c0 done a                   a comes to the end of its script
 ";
 
-#[test]
-fn a_run_is_told(rt: HostRuntime) -> Result<(), Fail> {
-    let alloc = rt.alloc();
-    let Ok(work) = read_work(alloc, WORKLOAD) else {
-        return Ok(assert!(rt; false, "no work"));
-    };
-    let all = Drawing::Story(Selection::Ticks { from: 0, to: 9 });
-    let Ok(story) = draw(alloc, &work, JOURNAL, &all) else {
-        return Ok(assert!(rt; false, "no story"));
-    };
-    assert!(rt; story.as_slice() == STORY);
+/// The story of thread a.
+fn story_of_a() -> Drawing {
     let mut name = ArrayVec::new();
     name.push(b'a');
-    let of_a = Drawing::Story(Selection::Thread { name });
-    let Ok(story) = draw(alloc, &work, JOURNAL, &of_a) else {
-        return Ok(assert!(rt; false, "no story"));
-    };
-    assert!(rt; story.as_slice() == STORY_OF_A);
-    Ok(())
+    Drawing::Story(Selection::Thread { name })
+}
+
+/// The first story that is another.
+pub(crate) fn wrong_story(alloc: Global, work: &Work) -> Option<&'static str> {
+    let all = Drawing::Story(Selection::Ticks { from: 0, to: 9 });
+    if !is_drawn(alloc, work, &all, Text::Whole(STORY)) {
+        return Some("the story of all entries");
+    }
+    if !is_drawn(alloc, work, &story_of_a(), Text::Whole(STORY_OF_A)) {
+        return Some("the story of a");
+    }
+    None
+}
+
+#[test]
+fn a_run_is_told(rt: HostRuntime) -> Result<(), Fail> {
+    judge(&rt, Judged::Stories)
 }

@@ -1,9 +1,79 @@
-//! What the tests are given: states of threads.
+//! What the tests are given: workloads, over which each is judged, and states of threads.
 
+use crate::accounts::{wrong_places, wrong_run};
+use crate::audits::wrong_verdict;
+use crate::drawings::{wrong_drawing, wrong_story};
+use crate::reports::wrong_report;
+use crate::sentences::{Half, wrong_sentence};
+use crate::{accounts, audits, drawings, reports, sentences};
 use arrayvec::ArrayVec;
 use sd_state::{CpuState, LockState, Place, State, ThreadState};
-use sd_types::{ClassState, CpuId, List, SysState, ThreadBody};
-use std::alloc::Global;
+use sd_types::{ClassState, CpuId, List, SysState, ThreadBody, Work};
+use sd_workload::read_work;
+use std::alloc::{AllocError, Global};
+use std::process::Abort;
+use std::test::Fail;
+
+/// What is judged over a workload, by one test.
+#[derive(Clone, Copy)]
+pub enum Judged {
+    Run,
+    Places,
+    Journals,
+    Drawings,
+    Stories,
+    Report,
+    EarlySentences,
+    LateSentences,
+}
+
+/// The workload over which it is judged.
+fn workload_of(judged: Judged) -> &'static [u8] {
+    match judged {
+        Judged::Run | Judged::Places => accounts::SMALL,
+        Judged::Journals => audits::WORK,
+        Judged::Drawings | Judged::Stories => drawings::WORKLOAD,
+        Judged::Report => reports::WORKLOAD,
+        Judged::EarlySentences | Judged::LateSentences => sentences::NAMED,
+    }
+}
+
+/// The first that is not as it should be, over this workload.
+fn wrong_in(
+    alloc: Global,
+    work: &Work,
+    judged: Judged,
+) -> Result<Option<&'static str>, AllocError> {
+    match judged {
+        Judged::Run => wrong_run(alloc, work),
+        Judged::Places => wrong_places(alloc, work),
+        Judged::Journals => Ok(wrong_verdict(alloc, work)),
+        Judged::Drawings => Ok(wrong_drawing(alloc, work)),
+        Judged::Stories => Ok(wrong_story(alloc, work)),
+        Judged::Report => wrong_report(alloc, work),
+        Judged::EarlySentences => wrong_sentence(alloc, work, Half::Early),
+        Judged::LateSentences => wrong_sentence(alloc, work, Half::Late),
+    }
+}
+
+/// The first that is not as it should be. It owns the workload for all tests, since a function that drops one takes long to prove.
+fn wrong(alloc: Global, judged: Judged) -> Result<Option<&'static str>, AllocError> {
+    let text = workload_of(judged);
+    if text.len() >= 1000 {
+        return Ok(Some("a large workload"));
+    }
+    match read_work(alloc, text) {
+        Ok(work) => wrong_in(alloc, &work, judged),
+        Err(_) => Ok(Some("no work")),
+    }
+}
+
+/// All of it is as it should be.
+pub fn judge<R: Abort + AllocGlobal>(rt: &R, judged: Judged) -> Result<(), Fail> {
+    let wrong = wrong(rt.alloc(), judged)?;
+    assert!(rt; wrong.is_none(), "{wrong:?}");
+    Ok(())
+}
 
 /// A thread of the system class in this place.
 pub fn in_place(place: Place) -> ThreadState {

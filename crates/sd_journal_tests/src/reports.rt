@@ -1,17 +1,16 @@
 //! The report of a run of eight entries, worked out by hand: thread `a` is dispatched at tick 0, takes the mutex, ticks, gives it up
 //! at tick 1, takes the unit with which the semaphore begins, ticks, and sleeps for the next at tick 2; then the processor is idle.
 
-use crate::given::{in_place, state};
-use crate::shown::{at_tick, entry};
+use crate::given::{Judged, judge};
+use crate::shown::{begun, entry, take_in};
 use sd_report::{report, sheet};
-use sd_state::{Place, State};
+use sd_state::Place;
 use sd_stretches::History;
-use sd_types::{ChanId, CpuId, Event, LockId, ThreadId};
-use sd_workload::read_work;
+use sd_types::{ChanId, CpuId, Event, LockId, ThreadId, Work};
 use std::alloc::{AllocError, Global};
 use std::test::Fail;
 
-const WORKLOAD: &[u8] = b"limit 5\nmutex m\nsema s 1\nthread a sys 60\n";
+pub(crate) const WORKLOAD: &[u8] = b"limit 5\nmutex m\nsema s 1\nthread a sys 60\n";
 
 const TABLE: &[u8] = b"ticks 5, entries 8
 
@@ -66,31 +65,47 @@ fn made(i: u8) -> (Event, u32, Place) {
     }
 }
 
-fn history(alloc: Global) -> Result<History, AllocError> {
-    let mut history = History::new(alloc, &at_tick(alloc, Place::Queued(CpuId(0), 0), 0)?)?;
+fn take_eight(alloc: Global, history: &mut History) -> Result<(), AllocError> {
     for i in 0..8 {
         let (event, count, place) = made(i);
-        if history.entries < 99 {
-            history.add(
-                alloc,
-                &at_tick(alloc, place, count)?,
-                &entry(u64::from(i), event),
-            )?;
-        }
+        take_in(alloc, history, &entry(u64::from(i), event), place, count)?;
     }
-    Ok(history)
+    Ok(())
+}
+
+fn is_table(alloc: Global, work: &Work, history: &History) -> Result<bool, AllocError> {
+    let table = report(alloc, work, history)?;
+    Ok(table.as_slice() == TABLE)
+}
+
+fn is_sheet(alloc: Global, work: &Work, history: &History) -> Result<bool, AllocError> {
+    let rows = sheet(alloc, work, history)?;
+    Ok(rows.as_slice() == SHEET)
+}
+
+/// What is wrong with the report of that history.
+fn wrong_form(
+    alloc: Global,
+    work: &Work,
+    history: &History,
+) -> Result<Option<&'static str>, AllocError> {
+    if !is_table(alloc, work, history)? {
+        return Ok(Some("the table"));
+    }
+    if !is_sheet(alloc, work, history)? {
+        return Ok(Some("the sheet"));
+    }
+    Ok(None)
+}
+
+/// What is wrong with the report of the eight entries.
+pub(crate) fn wrong_report(alloc: Global, work: &Work) -> Result<Option<&'static str>, AllocError> {
+    let mut history = begun(alloc)?;
+    take_eight(alloc, &mut history)?;
+    wrong_form(alloc, work, &history)
 }
 
 #[test]
 fn a_report_of_eight_entries(rt: HostRuntime) -> Result<(), Fail> {
-    let alloc = rt.alloc();
-    let Ok(work) = read_work(alloc, WORKLOAD) else {
-        return Ok(assert!(rt; false, "no work"));
-    };
-    let history = history(alloc)?;
-    let table = report(alloc, &work, &history)?;
-    assert!(rt; table.as_slice() == TABLE);
-    let rows = sheet(alloc, &work, &history)?;
-    assert!(rt; rows.as_slice() == SHEET);
-    Ok(())
+    judge(&rt, Judged::Report)
 }

@@ -1,6 +1,6 @@
 //! A sentence on each kind of event, written by hand over one state.
 
-use crate::given::in_place;
+use crate::given::{Judged, in_place, judge};
 use arrayvec::ArrayVec;
 use sd_state::{CpuState, LockState, Place, State, ThreadState};
 use sd_story::put_sentence;
@@ -8,12 +8,11 @@ use sd_types::{
     AssignAnswer, BindAnswer, ChanId, ClassState, CpuId, Denied, Duty, End, Event, List, LockId,
     PrioAnswer, Put, SetId, Side, ThreadId, TsState, Work,
 };
-use sd_workload::read_work;
 use std::alloc::{AllocError, Global};
 use std::test::Fail;
 
 /// Threads a, b and c, mutexes m, n and p, a rwlock w, a channel k, a semaphore q and a set s. The script of b naps for 5 ticks.
-const NAMED: &[u8] =
+pub(crate) const NAMED: &[u8] =
     b"cpus 2\nlimit 9\nset s 1\nmutex m\nmutex n\nmutex p\nrwlock w\nchan k\nsema q 3\nthread a sys 60\nthread b sys 60\nthread c ts 20 0 0\nscript b\nnap 5\nend\n";
 
 const A: ThreadId = ThreadId(0);
@@ -394,32 +393,52 @@ fn is_said(
     Ok(out.as_slice() == text.as_bytes())
 }
 
+/// One half of the sentences.
+#[derive(Clone, Copy)]
+pub(crate) enum Half {
+    Early,
+    Late,
+}
+
+fn said(half: Half, i: u8) -> (Event, &'static str) {
+    match half {
+        Half::Early => early(i),
+        Half::Late => late(i),
+    }
+}
+
+/// The first sentence of that half that is another over this state.
+fn first_wrong(
+    alloc: Global,
+    work: &Work,
+    s: &State,
+    half: Half,
+) -> Result<Option<&'static str>, AllocError> {
+    for i in 0..25 {
+        let (event, text) = said(half, i);
+        if !is_said(alloc, work, s, &event, text)? {
+            return Ok(Some(text));
+        }
+    }
+    Ok(None)
+}
+
+/// The first sentence of that half that is another.
+pub(crate) fn wrong_sentence(
+    alloc: Global,
+    work: &Work,
+    half: Half,
+) -> Result<Option<&'static str>, AllocError> {
+    let s = given(alloc)?;
+    first_wrong(alloc, work, &s, half)
+}
+
 #[test]
 fn sentences_on_running_and_sleeping(rt: HostRuntime) -> Result<(), Fail> {
-    let alloc = rt.alloc();
-    let Ok(work) = read_work(alloc, NAMED) else {
-        return Ok(assert!(rt; false, "no work"));
-    };
-    let s = given(alloc)?;
-    for i in 0..25 {
-        let (event, text) = early(i);
-        let said = is_said(alloc, &work, &s, &event, text)?;
-        assert!(rt; said, "{text}");
-    }
-    Ok(())
+    judge(&rt, Judged::EarlySentences)
 }
 
 #[test]
 fn sentences_on_locks_and_requests(rt: HostRuntime) -> Result<(), Fail> {
-    let alloc = rt.alloc();
-    let Ok(work) = read_work(alloc, NAMED) else {
-        return Ok(assert!(rt; false, "no work"));
-    };
-    let s = given(alloc)?;
-    for i in 0..25 {
-        let (event, text) = late(i);
-        let said = is_said(alloc, &work, &s, &event, text)?;
-        assert!(rt; said, "{text}");
-    }
-    Ok(())
+    judge(&rt, Judged::LateSentences)
 }

@@ -2,7 +2,7 @@
 
 use crate::given::{in_place, state};
 use sd_state::{CpuState, Place, State};
-use sd_stretches::{History, levels, stretches};
+use sd_stretches::{History, Stretch, levels, stretches};
 use sd_types::{CpuId, Duty, Entry, Event, SetId, ThreadId};
 use std::alloc::{AllocError, Global};
 use std::test::Fail;
@@ -36,41 +36,75 @@ pub(crate) fn entry(number: u64, event: Event) -> Entry {
     }
 }
 
+/// The history of no entry yet, where the thread is on a queue.
+pub(crate) fn begun(alloc: Global) -> Result<History, AllocError> {
+    let s = at_tick(alloc, Place::Queued(CpuId(0), 0), 0)?;
+    History::new(alloc, &s)
+}
+
+/// Takes the next entry in, behind which the thread stands in this place and the processor has counted so many ticks. A history of
+/// 99 entries stays as it is.
+pub(crate) fn take_in(
+    alloc: Global,
+    history: &mut History,
+    entry: &Entry,
+    place: Place,
+    count: u32,
+) -> Result<(), AllocError> {
+    if history.entries >= 99 {
+        return Ok(());
+    }
+    let s = at_tick(alloc, place, count)?;
+    history.add(alloc, &s, entry)
+}
+
+fn take_three(alloc: Global, history: &mut History) -> Result<(), AllocError> {
+    let t = ThreadId(0);
+    let running = Place::Running(CpuId(0));
+    let dispatch = entry(0, Event::Dispatch { t, p: 60 });
+    take_in(alloc, history, &dispatch, running, 0)?;
+    take_in(alloc, history, &entry(1, Event::Tick { t }), running, 1)?;
+    take_in(
+        alloc,
+        history,
+        &entry(2, Event::Done { t }),
+        Place::Ended,
+        1,
+    )
+}
+
+/// The first and last state of each stretch, and the ticks from which and to which it lasts.
+const ROWS: [(u64, u64, u32, u32); 3] = [(0, 0, 0, 0), (1, 2, 0, 1), (3, 3, 1, 5)];
+
+fn are_rows(found: &[Stretch]) -> bool {
+    if found.len() != 3 {
+        return false;
+    }
+    for (x, row) in found.iter().zip(&ROWS) {
+        if x.first != row.0 || x.last != row.1 || x.from != row.2 || x.to != row.3 {
+            return false;
+        }
+    }
+    true
+}
+
+fn has_rows(alloc: Global, history: &History) -> Result<bool, AllocError> {
+    let own = stretches(alloc, &history.onsets, 0, history.entries, 5)?;
+    Ok(are_rows(&own))
+}
+
+fn has_one_level(alloc: Global, history: &History) -> Result<bool, AllocError> {
+    let own = levels(alloc, &history.ranks, 0, 5)?;
+    Ok(own.len() == 1)
+}
+
 /// A thread is dispatched, ticks once and ends: it is runnable, runs for a tick, and has ended.
 #[test]
 fn a_thread_runs_for_a_tick(rt: HostRuntime) -> Result<(), Fail> {
     let alloc = rt.alloc();
-    let t = ThreadId(0);
-    let mut history = History::new(alloc, &at_tick(alloc, Place::Queued(CpuId(0), 0), 0)?)?;
-    let running = Place::Running(CpuId(0));
-    if history.entries < 9 {
-        history.add(
-            alloc,
-            &at_tick(alloc, running, 0)?,
-            &entry(0, Event::Dispatch { t, p: 60 }),
-        )?;
-    }
-    if history.entries < 9 {
-        history.add(
-            alloc,
-            &at_tick(alloc, running, 1)?,
-            &entry(1, Event::Tick { t }),
-        )?;
-    }
-    if history.entries < 9 {
-        history.add(
-            alloc,
-            &at_tick(alloc, Place::Ended, 1)?,
-            &entry(2, Event::Done { t }),
-        )?;
-    }
-    let own = stretches(alloc, &history.onsets, 0, history.entries, 5)?;
-    let rows: [(u64, u64, u32, u32); 3] = [(0, 0, 0, 0), (1, 2, 0, 1), (3, 3, 1, 5)];
-    assert!(rt; own.len() == 3);
-    for (x, row) in own.iter().zip(&rows) {
-        assert!(rt; x.first == row.0 && x.last == row.1 && x.from == row.2 && x.to == row.3);
-    }
-    let own_levels = levels(alloc, &history.ranks, 0, 5)?;
-    assert!(rt; own_levels.len() == 1);
+    let mut history = begun(alloc)?;
+    take_three(alloc, &mut history)?;
+    let is_so = has_rows(alloc, &history)? && has_one_level(alloc, &history)?;
+    assert!(rt; is_so);
     Ok(())
 }
