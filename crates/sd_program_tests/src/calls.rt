@@ -1,11 +1,11 @@
 //! The three programs from their start: the status, the output and the error output that the arguments of each kind are answered
 //! with, as one table. The journals and the ticks were worked out by hand.
 
-use crate::runs::{Called, SMALLEST, SMALLEST_JOURNAL, USAGE, has};
+use crate::runs::{SMALLEST, SMALLEST_JOURNAL, USAGE, start_over};
+use crate::streams::{Streams, holds, plain, streams_of, words_of};
 use sd_find::Progress;
-use sd_program::OpenGate;
-use sd_text::{MemorySink, MemorySource};
-use std::alloc::AllocError;
+use sd_text::MemorySink;
+use std::alloc::{AllocError, Global};
 use std::io;
 use std::io::ErrorKind;
 use std::marker::Sync;
@@ -71,46 +71,36 @@ const fn asked(
     }
 }
 
-fn arguments<R: AllocGlobal>(rt: &R, words: Option<&str>) -> io::Result<Vec<String>> {
-    let Some(words) = words else {
-        return Err(io::Error::from(ErrorKind::InvalidData));
-    };
-    let alloc = rt.alloc();
-    let mut texts = Vec::new(alloc);
-    for word in words.split_whitespace() {
-        texts.push(String::from_str(alloc, word)?)?;
+fn arguments(alloc: Global, words: Option<&str>) -> io::Result<Vec<String>> {
+    match words {
+        Some(words) => Ok(words_of(alloc, words)?),
+        None => Err(io::Error::from(ErrorKind::InvalidData)),
     }
-    Ok(texts)
 }
 
-fn call_of<R: Threads + Wait + Sync + AllocGlobal>(
+fn view_over(alloc: Global, arguments: io::Result<Vec<String>>, streams: &mut Streams) -> u8 {
+    let Streams { input, out, err } = streams;
+    sd_viewer::start(alloc, arguments, input, out, err)
+}
+
+fn find_over(alloc: Global, arguments: io::Result<Vec<String>>, streams: &mut Streams) -> u8 {
+    let Streams { input, out, err } = streams;
+    let mut progress: Progress<MemorySink> = Progress::new(alloc, None);
+    sd_find::start(alloc, arguments, input, out, err, &mut progress)
+}
+
+/// The status of a start of the program.
+fn status_over<R: Threads + Wait + Sync + AllocGlobal>(
     rt: &R,
-    row: &Row,
-) -> Result<Called, AllocError> {
-    let alloc = rt.alloc();
-    let bytes = Vec::from_slice(alloc, row.input.as_bytes())?;
-    let mut input = MemorySource::new(bytes, 7, Vec::new(alloc));
-    let mut out = MemorySink::new(alloc, 4096, Vec::new(alloc))?;
-    let mut err = MemorySink::new(alloc, 200, Vec::new(alloc))?;
-    let arguments = arguments(rt, row.words);
-    let status = match row.program {
-        Program::Dispsim => sd_program::start(
-            rt, alloc, arguments, &mut input, &mut out, &mut err, &OpenGate,
-        ),
-        Program::Dispview => sd_viewer::start(alloc, arguments, &mut input, &mut out, &mut err),
-        Program::Dispfind => {
-            let mut progress: Progress<MemorySink> = Progress::new(alloc, None);
-            sd_find::start(
-                alloc,
-                arguments,
-                &mut input,
-                &mut out,
-                &mut err,
-                &mut progress,
-            )
-        }
-    };
-    Ok(Called { status, out, err })
+    program: Program,
+    arguments: io::Result<Vec<String>>,
+    streams: &mut Streams,
+) -> u8 {
+    match program {
+        Program::Dispsim => start_over(rt, arguments, streams),
+        Program::Dispview => view_over(rt.alloc(), arguments, streams),
+        Program::Dispfind => find_over(rt.alloc(), arguments, streams),
+    }
 }
 
 /// The call answers as it is to.
@@ -118,8 +108,11 @@ fn is_answered<R: Threads + Wait + Sync + AllocGlobal>(
     rt: &R,
     row: &Row,
 ) -> Result<bool, AllocError> {
-    let called = call_of(rt, row)?;
-    Ok(has(&called, row.status, row.out.as_bytes(), row.err.as_bytes()))
+    let alloc = rt.alloc();
+    let mut streams = streams_of(alloc, plain(row.input.as_bytes(), 7))?;
+    let arguments = arguments(alloc, row.words);
+    let status = status_over(rt, row.program, arguments, &mut streams);
+    Ok(status == row.status && holds(&streams, row.out.as_bytes(), row.err.as_bytes()))
 }
 
 #[test]

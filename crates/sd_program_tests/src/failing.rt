@@ -1,9 +1,8 @@
 //! Each read and each write failing in turn, in a run, an audit and a story of the smallest run.
 
-use crate::runs::{CERTIFICATE, Called, SMALLEST, SMALLEST_JOURNAL, call, has};
-use sd_text::{MemorySink, MemorySource};
-use sd_viewer::view;
-use std::alloc::{AllocError, Global};
+use crate::runs::{CERTIFICATE, SMALLEST, SMALLEST_JOURNAL};
+use crate::streams::{Given, Program, Wanted, answers, line_count};
+use std::alloc::AllocError;
 use std::marker::Sync;
 use std::sync::Wait;
 use std::test::Fail;
@@ -15,77 +14,58 @@ const STORY: &str =
 /// A form of a program, its input, and what it writes where nothing fails.
 #[derive(Clone, Copy)]
 struct Form {
-    is_view: bool,
+    program: Program,
     words: &'static str,
     input: &'static str,
     output: &'static str,
 }
 
 const RUN: Form = Form {
-    is_view: false,
+    program: Program::Dispsim,
     words: "run",
     input: SMALLEST,
     output: SMALLEST_JOURNAL,
 };
 
 const AUDIT: Form = Form {
-    is_view: false,
+    program: Program::Dispsim,
     words: "audit",
     input: CERTIFICATE,
     output: "legal 7\n",
 };
 
 const LIST: Form = Form {
-    is_view: true,
+    program: Program::Dispview,
     words: "list",
     input: CERTIFICATE,
     output: STORY,
 };
 
-/// A call of `dispview`, as `call` is one of `dispsim`.
-fn call_view(
-    alloc: Global,
-    words: &str,
-    input: &[u8],
-    reads: &[u64],
-    room: usize,
-    writes: &[u64],
-) -> Result<Called, AllocError> {
-    let mut texts = Vec::new(alloc);
-    for word in words.split_whitespace() {
-        texts.push(String::from_str(alloc, word)?)?;
-    }
-    let mut source = MemorySource::new(
-        Vec::from_slice(alloc, input)?,
-        1,
-        Vec::from_slice(alloc, reads)?,
-    );
-    let mut out = MemorySink::new(alloc, room, Vec::from_slice(alloc, writes)?)?;
-    let mut err = MemorySink::new(alloc, 200, Vec::new(alloc))?;
-    let status = view(alloc, &texts, &mut source, &mut out, &mut err);
-    Ok(Called { status, out, err })
-}
-
-/// A call of the form, where the reads and writes of these numbers fail, over an output with this room.
-fn call_form<R: Threads + Wait + Sync + AllocGlobal>(
+/// The form answers as it is to where the reads and writes of these numbers fail, over an output with this room.
+fn answers_so<R: Threads + Wait + Sync + AllocGlobal>(
     rt: &R,
     form: Form,
     reads: &[u64],
     room: usize,
     writes: &[u64],
-) -> Result<Called, AllocError> {
-    let input = form.input.as_bytes();
-    if form.is_view {
-        call_view(rt.alloc(), form.words, input, reads, room, writes)
-    } else {
-        call(rt, form.words, input, 1, reads, room, writes, 200)
-    }
+    wanted: Wanted<'_>,
+) -> Result<bool, AllocError> {
+    let given = Given {
+        input: form.input.as_bytes(),
+        chunk: 1,
+        reads,
+        room,
+        writes,
+        err_room: 200,
+    };
+    answers(rt, form.program, form.words, given, wanted)
 }
 
-/// Whether all went well.
-fn is_whole(called: &Called, form: Form) -> bool {
-    has(called, 0, form.output.as_bytes(), b"")
-}
+const READ_FAULT: Wanted<'static> = Wanted::All {
+    status: 3,
+    out: b"",
+    err: b"read fault\n",
+};
 
 /// The first read, from 0, whose failing is not answered as it should. There is one for each byte, and one that finds the end.
 fn wrong_read<R: Threads + Wait + Sync + AllocGlobal>(
@@ -94,8 +74,7 @@ fn wrong_read<R: Threads + Wait + Sync + AllocGlobal>(
 ) -> Result<Option<usize>, AllocError> {
     for read in 0..=form.input.len() {
         let number = (read as u64).saturating_add(1);
-        let called = call_form(rt, form, &[number], 4096, &[])?;
-        if !has(&called, 3, b"", b"read fault\n") {
+        if !answers_so(rt, form, &[number], 4096, &[], READ_FAULT)? {
             return Ok(Some(read));
         }
     }
@@ -110,28 +89,19 @@ fn each_read_fails(rt: HostRuntime) -> Result<(), Fail> {
     Ok(())
 }
 
-fn line_count(text: &[u8]) -> usize {
-    text.iter().filter(|byte| **byte == b'\n').count()
-}
-
-/// Whether a call ended where a write failed after so many lines of the output.
-fn has_lines(called: &Called, form: Form, count: usize) -> bool {
-    let out = called.out.bytes();
-    has(called, 4, out, b"write fault\n")
-        && form.output.as_bytes().starts_with(out)
-        && (out.is_empty() || out.ends_with(b"\n"))
-        && line_count(out) == count
-}
-
 /// The first write, from 0, whose failing is not answered as it should. There is one for each line.
 fn wrong_write<R: Threads + Wait + Sync + AllocGlobal>(
     rt: &R,
     form: Form,
 ) -> Result<Option<usize>, AllocError> {
-    for write in 0..line_count(form.output.as_bytes()) {
+    let output = form.output.as_bytes();
+    for write in 0..line_count(output) {
         let number = (write as u64).saturating_add(1);
-        let called = call_form(rt, form, &[], 4096, &[number])?;
-        if !has_lines(&called, form, write) {
+        let wanted = Wanted::Lines {
+            output,
+            count: write,
+        };
+        if !answers_so(rt, form, &[], 4096, &[number], wanted)? {
             return Ok(Some(write));
         }
     }
@@ -153,8 +123,12 @@ fn wrong_room<R: Threads + Wait + Sync + AllocGlobal>(
 ) -> Result<Option<usize>, AllocError> {
     let output = form.output.as_bytes();
     for room in 0..output.len() {
-        let called = call_form(rt, form, &[], room, &[])?;
-        if !has(&called, 4, &output[..room], b"write fault\n") {
+        let wanted = Wanted::All {
+            status: 4,
+            out: &output[..room],
+            err: b"write fault\n",
+        };
+        if !answers_so(rt, form, &[], room, &[], wanted)? {
             return Ok(Some(room));
         }
     }
@@ -176,8 +150,12 @@ fn is_not_called<R: Threads + Wait + Sync + AllocGlobal>(
 ) -> Result<bool, AllocError> {
     let read = (form.input.len() as u64).saturating_add(2);
     let write = (line_count(form.output.as_bytes()) as u64).saturating_add(1);
-    let called = call_form(rt, form, &[read], form.output.len(), &[write])?;
-    Ok(is_whole(&called, form))
+    let whole = Wanted::All {
+        status: 0,
+        out: form.output.as_bytes(),
+        err: b"",
+    };
+    answers_so(rt, form, &[read], form.output.len(), &[write], whole)
 }
 
 #[test]
@@ -190,15 +168,36 @@ fn reads_and_writes_are_counted(rt: HostRuntime) -> Result<(), Fail> {
 
 #[test]
 fn a_small_error_output(rt: HostRuntime) -> Result<(), Fail> {
-    let called = call(&rt, "run", b"", 4, &[], 16, &[], 3)?;
-    assert!(rt; has(&called, 2, b"", b"ref"));
+    let given = Given {
+        input: b"",
+        chunk: 4,
+        reads: &[],
+        room: 16,
+        writes: &[],
+        err_room: 3,
+    };
+    let wanted = Wanted::All {
+        status: 2,
+        out: b"",
+        err: b"ref",
+    };
+    let is_so = answers(&rt, Program::Dispsim, "run", given, wanted)?;
+    assert!(rt; is_so);
     Ok(())
 }
 
 /// Without the read behind the last byte the end of the input is not seen.
 #[test]
 fn a_read_behind_the_last_byte_fails(rt: HostRuntime) -> Result<(), Fail> {
-    let called = call(&rt, "run", b"limit 2\n", 1, &[9], 4096, &[], 200)?;
-    assert!(rt; has(&called, 3, b"", b"read fault\n"));
+    let given = Given {
+        input: b"limit 2\n",
+        chunk: 1,
+        reads: &[9],
+        room: 4096,
+        writes: &[],
+        err_room: 200,
+    };
+    let is_so = answers(&rt, Program::Dispsim, "run", given, READ_FAULT)?;
+    assert!(rt; is_so);
     Ok(())
 }

@@ -14,4 +14,6 @@ mod large;
 #[cfg(test)]
 mod runs;
 #[cfg(test)]
+mod streams;
+#[cfg(test)]
 mod threads;

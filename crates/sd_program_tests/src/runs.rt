@@ -1,13 +1,14 @@
 //! Worked runs, and streams that fail. Each expected text was worked out by hand from the rules of the machine.
 
-ghost use Rattle.std.specs.Prelude.{◌≤◌};
-
+use crate::streams::{
+    Given, Program, Streams, Wanted, answers, holds, plain, streams_of, words_of,
+};
 use sd_log::EntryLog;
-use sd_program::{OpenGate, dispsim, start};
+use sd_program::{OpenGate, start};
 use sd_rounds::{RoundOrder, run_rounds};
 use sd_steps::replay;
-use sd_text::{MemorySink, MemorySource, read_all};
-use sd_types::Entry;
+use sd_text::{MemorySource, read_all};
+use sd_types::{Entry, Work};
 use sd_workload::read_work;
 use std::alloc::{AllocError, Global};
 use std::io;
@@ -79,57 +80,6 @@ pub(crate) const SPINNING: &str =
 pub(crate) const YIELD: &str =
     "limit 2\nthread a fx 60 10 inf\nthread b fx 60 10 inf\nscript a\nyield\nrun 1\nend\nscript b\nrun 1\nend\n";
 
-/// What a call returned, and what its streams received.
-#[derive(Drop)]
-pub(crate) struct Called {
-    pub(crate) status: u8,
-    pub(crate) out: MemorySink,
-    pub(crate) err: MemorySink,
-}
-
-/// Whether a call ended with this status, and its streams hold these bytes.
-pub(crate) fn has(called: &Called, status: u8, out: &[u8], err: &[u8]) -> bool {
-    called.status == status && called.out.bytes() == out && called.err.bytes() == err
-}
-
-/// A call over streams in memory: the reads named in `reads` and the writes named in `writes` fail, counted from 1. The error
-/// output has room for `err_room` bytes.
-pub(crate) fn call<R: Threads + Wait + Sync + AllocGlobal>(
-    rt: &R,
-    arguments: &str,
-    input: &[u8],
-    chunk: usize,
-    reads: &[u64],
-    room: usize,
-    writes: &[u64],
-    err_room: usize,
-) -> Result<Called, AllocError>
-    requires { 1 ≤ chunk }
-{
-    let alloc = rt.alloc();
-    let mut texts = Vec::new(alloc);
-    for argument in arguments.split_whitespace() {
-        texts.push(String::from_str(alloc, argument)?)?;
-    }
-    let mut source = MemorySource::new(
-        Vec::from_slice(alloc, input)?,
-        chunk,
-        Vec::from_slice(alloc, reads)?,
-    );
-    let mut out = MemorySink::new(alloc, room, Vec::from_slice(alloc, writes)?)?;
-    let mut err = MemorySink::new(alloc, err_room, Vec::new(alloc))?;
-    let status = dispsim(
-        rt,
-        alloc,
-        &texts,
-        &mut source,
-        &mut out,
-        &mut err,
-        &OpenGate,
-    );
-    Ok(Called { status, out, err })
-}
-
 /// A workload and the journal of its run.
 #[derive(Clone, Copy)]
 struct Worked {
@@ -146,8 +96,13 @@ fn is_run<R: Threads + Wait + Sync + AllocGlobal>(
     rt: &R,
     row: &Worked,
 ) -> Result<bool, AllocError> {
-    let called = call(rt, "run", row.input.as_bytes(), 7, &[], 4096, &[], 200)?;
-    Ok(has(&called, 0, row.journal.as_bytes(), b""))
+    let wanted = Wanted::All {
+        status: 0,
+        out: row.journal.as_bytes(),
+        err: b"",
+    };
+    let given = plain(row.input.as_bytes(), 7);
+    answers(rt, Program::Dispsim, "run", given, wanted)
 }
 
 #[test]
@@ -234,9 +189,20 @@ fn is_answered<R: Threads + Wait + Sync + AllocGlobal>(
     rt: &R,
     x: &Case,
 ) -> Result<bool, AllocError> {
-    let input = x.input.as_bytes();
-    let called = call(rt, x.arguments, input, 4, x.reads, x.room, x.writes, 200)?;
-    Ok(has(&called, x.status, x.out.as_bytes(), x.err.as_bytes()))
+    let given = Given {
+        input: x.input.as_bytes(),
+        chunk: 4,
+        reads: x.reads,
+        room: x.room,
+        writes: x.writes,
+        err_room: 200,
+    };
+    let wanted = Wanted::All {
+        status: x.status,
+        out: x.out.as_bytes(),
+        err: x.err.as_bytes(),
+    };
+    answers(rt, Program::Dispsim, x.arguments, given, wanted)
 }
 
 #[test]
@@ -390,34 +356,49 @@ fn refusals_and_failing_streams(rt: HostRuntime) -> Result<(), Fail> {
     Ok(())
 }
 
+/// The error output has room for a prefix of its line, which changes no status.
+fn is_too_large<R: Threads + Wait + Sync + AllocGlobal>(
+    rt: &R,
+    input: &[u8],
+) -> Result<bool, AllocError> {
+    let given = Given {
+        input,
+        chunk: 65_536,
+        reads: &[],
+        room: 16,
+        writes: &[],
+        err_room: 8,
+    };
+    let wanted = Wanted::All {
+        status: 2,
+        out: b"",
+        err: b"refused:",
+    };
+    answers(rt, Program::Dispsim, "run", given, wanted)
+}
+
 #[test]
 fn an_input_too_large(rt: HostRuntime) -> Result<(), Fail> {
     let input = vec![in rt.alloc(); b'#'; 1_048_577]?;
-    let called = call(&rt, "run", &input, 65_536, &[], 16, &[], 8)?;
-    assert_eq!(rt; called.status, 2);
-    assert_eq!(rt; called.out.bytes(), b"".as_slice());
-    // The error output has room for a prefix of its line, which changes no status.
-    assert_eq!(rt; called.err.bytes(), b"refused:".as_slice());
+    let is_so = is_too_large(&rt, &input)?;
+    assert!(rt; is_so);
     Ok(())
 }
 
-/// The smallest workload, seven bytes a read.
-fn smallest(alloc: Global) -> Result<MemorySource, AllocError> {
-    let bytes = Vec::from_slice(alloc, SMALLEST.as_bytes())?;
-    Ok(MemorySource::new(bytes, 7, Vec::new(alloc)))
-}
-
-/// A start over the smallest workload.
-fn started<R: Threads + Wait + Sync + AllocGlobal>(
+/// The status of a start of `dispsim`.
+pub(crate) fn start_over<R: Threads + Wait + Sync + AllocGlobal>(
     rt: &R,
     arguments: io::Result<Vec<String>>,
-    input: &mut MemorySource,
-) -> Result<Called, AllocError> {
-    let alloc = rt.alloc();
-    let mut out = MemorySink::new(alloc, 4096, Vec::new(alloc))?;
-    let mut err = MemorySink::new(alloc, 200, Vec::new(alloc))?;
-    let status = start(rt, alloc, arguments, input, &mut out, &mut err, &OpenGate);
-    Ok(Called { status, out, err })
+    streams: &mut Streams,
+) -> u8 {
+    let Streams { input, out, err } = streams;
+    start(rt, rt.alloc(), arguments, input, out, err, &OpenGate)
+}
+
+/// Nothing was read of the smallest workload.
+fn is_all_left(alloc: Global, input: &mut MemorySource) -> Result<bool, Fail> {
+    let left = read_all(alloc, input)?;
+    Ok(left.as_slice() == SMALLEST.as_bytes())
 }
 
 /// Arguments that could not be read are answered so, and nothing is read of the input.
@@ -427,10 +408,10 @@ fn is_unread<R: Threads + Wait + Sync + AllocGlobal>(
     status: u8,
     line: &str,
 ) -> Result<bool, Fail> {
-    let mut input = smallest(rt.alloc())?;
-    let called = started(rt, Err(io::Error::from(kind)), &mut input)?;
-    let left = read_all(rt.alloc(), &mut input)?;
-    Ok(has(&called, status, b"", line.as_bytes()) && left.as_slice() == SMALLEST.as_bytes())
+    let mut streams = streams_of(rt.alloc(), plain(SMALLEST.as_bytes(), 7))?;
+    let found = start_over(rt, Err(io::Error::from(kind)), &mut streams);
+    let is_told = found == status && holds(&streams, b"", line.as_bytes());
+    Ok(is_told && is_all_left(rt.alloc(), &mut streams.input)?)
 }
 
 #[test]
@@ -440,37 +421,66 @@ fn arguments_that_were_not_read(rt: HostRuntime) -> Result<(), Fail> {
     Ok(())
 }
 
+/// A start with the argument that asks for a run prints the smallest journal.
+fn is_started<R: Threads + Wait + Sync + AllocGlobal>(rt: &R) -> Result<bool, AllocError> {
+    let mut streams = streams_of(rt.alloc(), plain(SMALLEST.as_bytes(), 7))?;
+    let arguments = words_of(rt.alloc(), "run")?;
+    let status = start_over(rt, Ok(arguments), &mut streams);
+    Ok(status == 0 && holds(&streams, SMALLEST_JOURNAL.as_bytes(), b""))
+}
+
 #[test]
 fn arguments_that_were_read(rt: HostRuntime) -> Result<(), Fail> {
-    let alloc = rt.alloc();
-    let mut arguments = Vec::new(alloc);
-    arguments.push(String::from_str(alloc, "run")?)?;
-    let called = started(&rt, Ok(arguments), &mut smallest(alloc)?)?;
-    assert!(rt; has(&called, 0, SMALLEST_JOURNAL.as_bytes(), b""));
+    let started = is_started(&rt)?;
+    assert!(rt; started);
     Ok(())
 }
 
 /// The entries of a log, one by one.
-fn entries_of(alloc: Global, log: &EntryLog) -> Result<Vec<Entry>, AllocError> {
-    let mut entries = Vec::new(alloc);
+fn put_entries(log: &EntryLog, entries: &mut Vec<Entry>) -> Result<(), AllocError> {
     for i in 0..log.len() {
         entries.push(log.entry(i))?;
     }
-    Ok(entries)
+    Ok(())
+}
+
+fn replays(alloc: Global, work: &Work, entries: &[Entry]) -> bool {
+    replay(alloc, work, entries).is_ok()
+}
+
+/// There are 28 entries, which are replayed, and not without the first.
+fn are_replayed(alloc: Global, work: &Work, entries: &[Entry]) -> bool {
+    if entries.len() != 28 {
+        return false;
+    }
+    replays(alloc, work, entries) && !replays(alloc, work, &entries[1..])
+}
+
+fn is_log_replayed(alloc: Global, work: &Work, log: &EntryLog) -> Result<bool, AllocError> {
+    let mut entries = Vec::new(alloc);
+    put_entries(log, &mut entries)?;
+    Ok(are_replayed(alloc, work, &entries))
+}
+
+/// The run of the workload is replayed.
+fn is_run_replayed(alloc: Global, work: &Work) -> Result<bool, AllocError> {
+    match run_rounds(alloc, work, RoundOrder::Rising) {
+        Ok(run) => is_log_replayed(alloc, work, &run.entries),
+        Err(_) => Ok(false),
+    }
+}
+
+/// The text is that of a workload whose run is replayed.
+fn is_replayed(alloc: Global) -> Result<bool, AllocError> {
+    match read_work(alloc, EXPIRY.as_bytes()) {
+        Ok(work) => is_run_replayed(alloc, &work),
+        Err(_) => Ok(false),
+    }
 }
 
 #[test]
 fn a_run_is_replayed(rt: HostRuntime) -> Result<(), Fail> {
-    let alloc = rt.alloc();
-    let Ok(work) = read_work(alloc, EXPIRY.as_bytes()) else {
-        return Ok(assert!(rt; false, "no work"));
-    };
-    let Ok(run) = run_rounds(alloc, &work, RoundOrder::Rising) else {
-        return Ok(assert!(rt; false, "no run"));
-    };
-    let entries = entries_of(alloc, &run.entries)?;
-    assert_eq!(rt; entries.len(), 28);
-    assert!(rt; replay(alloc, &work, &entries).is_ok());
-    assert!(rt; replay(alloc, &work, &entries[1..]).is_err());
+    let replayed = is_replayed(rt.alloc())?;
+    assert!(rt; replayed);
     Ok(())
 }

@@ -3,14 +3,13 @@
 
 ghost use Rattle.std.specs.Prelude.{◌≤◌, IfOk};
 
-use crate::runs::{Called, SPINNING, YIELD, call};
+use crate::runs::{SPINNING, YIELD};
+use crate::streams::{Called, Given, Program, Wanted, answers, call_gated, plain};
 use sd_cpu::{Gate, OpenGate};
 use sd_hand::Hand;
 use sd_homes::ListId;
-use sd_program::dispsim;
-use sd_text::{MemorySink, MemorySource};
 use sd_types::{CpuId, HomeId};
-use std::alloc::{AllocError, Global};
+use std::alloc::AllocError;
 use std::hint::spin_loop;
 use std::marker::Sync;
 use std::sync::Wait;
@@ -98,28 +97,34 @@ fn run<R: Threads + Wait + Sync + AllocGlobal, G: Gate + Sync>(
     input: &str,
     gate: &G,
 ) -> Result<Called, AllocError> {
-    let alloc = rt.alloc();
-    let mut arguments = Vec::new(alloc);
-    arguments.push(String::from_str(alloc, "run")?)?;
-    arguments.push(String::from_str(alloc, "--threads")?)?;
-    let text = Vec::from_slice(alloc, input.as_bytes())?;
-    let mut source = MemorySource::new(text, 7, Vec::new(alloc));
-    let mut out = MemorySink::new(alloc, 4096, Vec::new(alloc))?;
-    let mut err = MemorySink::new(alloc, 200, Vec::new(alloc))?;
-    let status = dispsim(rt, alloc, &arguments, &mut source, &mut out, &mut err, gate);
-    Ok(Called { status, out, err })
+    call_gated(rt, "run --threads", plain(input.as_bytes(), 7), gate)
 }
 
-/// The status of an audit of a workload and a journal.
-fn audit<R: Threads + Wait + Sync + AllocGlobal>(
+/// An audit of a workload and a journal says that it is one.
+fn is_audited<R: Threads + Wait + Sync + AllocGlobal>(
     rt: &R,
     input: &str,
     journal: &[u8],
-) -> Result<u8, AllocError> {
-    let mut text = Vec::from_slice(rt.alloc(), input.as_bytes())?;
+) -> Result<bool, AllocError> {
+    let mut text = Vec::new(rt.alloc());
+    put_certificate(input, journal, &mut text)?;
+    let given = Given {
+        room: 200,
+        ..plain(&text, 4096)
+    };
+    answers(
+        rt,
+        Program::Dispsim,
+        "audit",
+        given,
+        Wanted::Within(b"legal "),
+    )
+}
+
+fn put_certificate(input: &str, journal: &[u8], text: &mut Vec<u8>) -> Result<(), AllocError> {
+    text.extend_from_slice(input.as_bytes())?;
     text.extend_from_slice(b"journal\n")?;
-    text.extend_from_slice(journal)?;
-    Ok(call(rt, "audit", &text, 4096, &[], 200, &[], 200)?.status)
+    text.extend_from_slice(journal)
 }
 
 /// The text holds this line.
@@ -130,23 +135,45 @@ fn has_line(text: &[u8], line: &str) -> bool {
     }
 }
 
+/// Both threads ended after two ticks each.
+fn have_ended(out: &[u8]) -> bool {
+    has_line(
+        out,
+        "thread a ticks 2 dispatches 1 preempts 0 wakes 0 ended",
+    ) && has_line(
+        out,
+        "thread b ticks 2 dispatches 1 preempts 0 wakes 0 ended",
+    )
+}
+
+/// The run of the two threads ends well with this gate, and what it prints is audited.
+fn is_met<R: Threads + Wait + Sync + AllocGlobal>(
+    rt: &R,
+    gate: &Meeting,
+) -> Result<bool, AllocError> {
+    let called = run(rt, TWO, gate)?;
+    let out = called.streams.out.bytes();
+    Ok(called.status == 0 && have_ended(out) && is_audited(rt, TWO, out)?)
+}
+
 #[test]
 fn two_threads_of_the_host_run_side_by_side(rt: HostRuntime) -> Result<(), Fail> {
     let gate = Meeting {
         came: AtomicBool::new(false),
         gave_up: AtomicBool::new(false),
     };
-    let called = run(&rt, TWO, &gate)?;
-    assert_eq!(rt; called.status, 0);
-    assert!(rt; !gate.gave_up.load(Ordering::SeqCst));
-    for line in [
-        "thread a ticks 2 dispatches 1 preempts 0 wakes 0 ended",
-        "thread b ticks 2 dispatches 1 preempts 0 wakes 0 ended",
-    ] {
-        assert!(rt; has_line(called.out.bytes(), line));
-    }
-    assert_eq!(rt; audit(&rt, TWO, called.out.bytes())?, 0);
+    let is_so = is_met(&rt, &gate)? && !gate.gave_up.load(Ordering::SeqCst);
+    assert!(rt; is_so);
     Ok(())
+}
+
+/// The run of the two threads that yield ends well with this gate.
+fn is_passed<R: Threads + Wait + Sync + AllocGlobal>(
+    rt: &R,
+    gate: &Reader,
+) -> Result<bool, AllocError> {
+    let called = run(rt, YIELD, gate)?;
+    Ok(called.status == 0)
 }
 
 #[test]
@@ -155,16 +182,20 @@ fn homes_are_taken_one_by_one(rt: HostRuntime) -> Result<(), Fail> {
         passes: AtomicU64::new(0),
         right: AtomicU64::new(0),
     };
-    let called = run(&rt, YIELD, &gate)?;
-    assert_eq!(rt; called.status, 0);
-    assert_eq!(rt; gate.right.load(Ordering::SeqCst), 9);
+    let is_so = is_passed(&rt, &gate)? && gate.right.load(Ordering::SeqCst) == 9;
+    assert!(rt; is_so);
     Ok(())
+}
+
+/// The run in which a thread spins ends well, and what it prints is audited.
+fn is_spun<R: Threads + Wait + Sync + AllocGlobal>(rt: &R) -> Result<bool, AllocError> {
+    let called = run(rt, SPINNING, &OpenGate)?;
+    Ok(called.status == 0 && is_audited(rt, SPINNING, called.streams.out.bytes())?)
 }
 
 #[test]
 fn what_is_printed_is_audited(rt: HostRuntime) -> Result<(), Fail> {
-    let called = run(&rt, SPINNING, &OpenGate)?;
-    assert_eq!(rt; called.status, 0);
-    assert_eq!(rt; audit(&rt, SPINNING, called.out.bytes())?, 0);
+    let is_so = is_spun(&rt)?;
+    assert!(rt; is_so);
     Ok(())
 }
