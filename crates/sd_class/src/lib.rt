@@ -27,12 +27,3 @@ pub use system::sys_global;
 pub use time_sharing::{
     ts_global, ts_requeue, ts_second, ts_tick, ts_wake, wakes_without_longer_wait,
 };
-
-#[cfg(test)]
-mod fixed_priority_tests;
-#[cfg(test)]
-mod priocntl_tests;
-#[cfg(test)]
-mod real_time_tests;
-#[cfg(test)]
-mod time_sharing_tests;

@@ -4,12 +4,8 @@
 #![tactic(auto)]
 
 mod choice_laws;
-#[cfg(test)]
-mod choice_tests;
 mod choices;
 mod partition_laws;
-#[cfg(test)]
-mod partition_tests;
 mod partitions;
 
 pub use choice_laws::{functions_choose, one_choice, one_victim};
