@@ -265,7 +265,7 @@ module _ {X : Type 0} (rank : X → ℕ) (key : X → ℤ) (id : X → ℕ) (n :
   replace-absent [] e = refl
   replace-absent (z ∷ l) e = grind (arith, replace-absent l)
 
-  of_level : (r : ℕ) (l : List X) (x : X) → HaveRank rank r l → find_id id n l ≡ Some x → rank x ≡ r
+  pub of_level : (r : ℕ) (l : List X) (x : X) → HaveRank rank r l → find_id id n l ≡ Some x → rank x ≡ r
   of_level r [] x h e = absurd cc
   of_level r (z ∷ l) x h e = grind (arith, of_level r l x h.1)
 

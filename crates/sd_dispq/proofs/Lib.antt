@@ -1,4 +1,5 @@
 pub mod Bits
 pub mod LevelLemmas
 pub mod QueueLemmas
+pub mod RankLemmas
 pub mod LawLemmas

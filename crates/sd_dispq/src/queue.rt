@@ -164,6 +164,33 @@ impl<T: Ranked> DispQueue<T> {
         self.levels.find(id)
     }
 
+    /// The first item with this id, where that has this rank: only the level of the rank is searched.
+    pub fn find_ranked(&self, rank: u8, id: u32) -> Option<&T>
+        ensures { IfSome (find_id T.id id self.now) (λ x. T.rank x ≡ rank) → option_copied result ≡ find_id T.id id self.now }
+    {
+        let levels = &self.levels;
+        // No item has such a rank.
+        if rank as usize >= LEVELS {
+            return None;
+        }
+        levels.level(level_of(rank)).find(id)
+    }
+
+    /// Takes the box of the first item with this id, where that has this rank: only the level of the rank is searched.
+    pub fn take_ranked(&mut self, rank: u8, id: u32) -> Option<Node<T>>
+        ensures taken { IfSome (find_id T.id id self.old) (λ x. T.rank x ≡ rank) → result ≡ find_id T.id id self.old }
+        ensures rest { IfSome (find_id T.id id self.old) (λ x. T.rank x ≡ rank) → self.new ≡ drop_id T.id id self.old }
+    {
+        let levels = &mut self.levels;
+        // No item has such a rank.
+        if rank as usize >= LEVELS {
+            return None;
+        }
+        let taken = levels.take_first(level_of(rank), id);
+        self.greatest = greatest_of(levels);
+        taken
+    }
+
     /// Puts `item` at the index of the first item with this id, which is returned. `None` exactly where
     /// there is none; then `item` is dropped.
     pub fn replace(&mut self, id: u32, item: T) -> Option<T>

@@ -55,11 +55,14 @@ fn acting(alloc: Global) -> Result<Acting, AllocError> {
 }
 
 fn cpu_home(alloc: Global) -> Result<Home, AllocError> {
-    Ok(Home::Cpu(Boxed::new(alloc, CpuHome::new(alloc, CPU, view())?)?))
+    Ok(Home::Cpu(Boxed::new(alloc, CpuHome::new(alloc, CPU, view(), 8)?)?))
 }
 
 fn set_home(alloc: Global) -> Result<Home, AllocError> {
-    Ok(Home::RealTime(Boxed::new(alloc, RealTimeHome::new(alloc, SetId(0), ArrayVec::new())?)?))
+    Ok(Home::RealTime(Boxed::new(
+        alloc,
+        RealTimeHome::new(alloc, SetId(0), ArrayVec::new(), 8)?,
+    )?))
 }
 
 /// What crosses threads crosses here.

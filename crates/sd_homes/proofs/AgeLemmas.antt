@@ -7,7 +7,7 @@ use Rattle.sd_homes.specs.Standing.{id_of, ages, earlier, least_to_age}
 from_number : (u : ℕ) (r : ThreadRecord) → ages u r ≡ true → u ≤ id_of r
 from_number u r e = grind (arith, nat_tests)
 
-from_step : (b : Bool) (u i : ℕ) (o : Option ℕ) → (b ≡ true → u ≤ i) → earlier u o ≡ u → earlier u (if b then Some (earlier i o) else o) ≡ u
+pub from_step : (b : Bool) (u i : ℕ) (o : Option ℕ) → (b ≡ true → u ≤ i) → earlier u o ≡ u → earlier u (if b then Some (earlier i o) else o) ≡ u
 from_step false u i o from e = e
 from_step true u i None from e = let h = from refl in omega arith
 from_step true u i (Some k) from e = let h = from refl in omega arith

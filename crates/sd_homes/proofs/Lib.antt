@@ -2,6 +2,7 @@ pub mod AgeLemmas
 pub mod AgeShown
 pub mod BestShown
 pub mod FirstLemmas
+pub mod IndexLemmas
 pub mod Lengths
 pub mod ListLemmas
 pub mod LookShown

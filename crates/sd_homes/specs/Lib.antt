@@ -5,4 +5,5 @@ pub mod Kinds
 pub mod Lists
 pub mod Newest
 pub mod Numbers
+pub mod ReadyIndexes
 pub mod Standing

@@ -15,11 +15,11 @@ use crate::ready::ReadyQueue;
 use crate::traveller::{Traveller, equipped};
 use crate::{ListId, bodies};
 use sd_boxq::{BoxQueue, Node};
-use sd_dispq::{DispQueue, Items};
+use sd_dispq::DispQueue;
 use sd_record::Record;
 use sd_store::{BodyChange, CpuView};
 use sd_turnstile::Rack;
-use sd_types::{ClassState, CpuId, ThreadId, Work};
+use sd_types::{CpuId, ThreadId, Work};
 use std::alloc::{AllocError, Global};
 use std::marker::Model;
 
@@ -52,13 +52,18 @@ impl Model for CpuHome {
 
 #[tactic(auto, using(crate::proofs::Lengths::length_dropped, crate::proofs::Lengths::length_inserted))]
 impl CpuHome {
-    /// The home of a processor with no thread.
-    pub fn new(alloc: Global, cpu: CpuId, view: CpuView) -> Result<CpuHome, AllocError>
+    /// The home of a processor with no thread. A thread on its queue is found at once by its number, if that is below `threads`.
+    pub fn new(
+        alloc: Global,
+        cpu: CpuId,
+        view: CpuView,
+        threads: u16,
+    ) -> Result<CpuHome, AllocError>
         ensures { IfOk result (λ h. h ≡ empty_cpu cpu view) }
     {
         Ok(CpuHome {
             cpu,
-            queue: ReadyQueue::new(alloc)?,
+            queue: ReadyQueue::new(alloc, threads)?,
             running: None,
             nappers: BoxQueue::new(),
             ended: BoxQueue::new(),
@@ -238,7 +243,7 @@ impl CpuHome {
                 if best.id.0 == t.0 {
                     Some(best)
                 } else {
-                    self.queue.threads().find(u32::from(t.0))
+                    self.queue.find(u32::from(t.0))
                 }
             }
         }
@@ -327,7 +332,7 @@ impl CpuHome {
     pub fn next_to_age(&self, u: ThreadId) -> Option<ThreadId>
         ensures { option_map (λ t. t.0) result ≡ least_to_age u.0 self.now.queue }
     {
-        least_to_age(self.queue.threads(), u)
+        self.queue.next_to_age(u)
     }
 }
 
@@ -341,57 +346,4 @@ fn first_unbound(queue: &DispQueue<Record>) -> Option<&Record>
         }
     }
     None
-}
-
-/// Whether the thread is a time-sharing one with this number or a greater one.
-fn ages(u: ThreadId, thread: &Record) -> bool
-    ensures { result ≡ ages u.0 thread.now }
-{
-    u.0 <= thread.id.0 && matches!(thread.body.class, ClassState::Ts(_))
-}
-
-/// The number of the first time-sharing thread with this number or a greater one, and the threads behind it.
-fn first_to_age(
-    mut threads: Items<'_, Record>,
-    u: ThreadId,
-) -> Option<(ThreadId, Items<'_, Record>)>
-    ensures { MatchOption result (least_to_age u.0 threads.entry ≡ None) (λ r. least_to_age u.0 threads.entry ≡ Some (earlier r.0.0 (least_to_age u.0 r.1))) }
-{
-    while let Some(thread) = threads.next() {
-        if ages(u, thread) {
-            return Some((thread.id, threads));
-        }
-    }
-    None
-}
-
-/// The least of a number and those, from `u` on, of the time-sharing threads. None is less than `u`, so that the search ends there; and a
-/// number is compared before the class is read, which lies elsewhere.
-#[tactic(auto, using(crate::proofs::AgeLemmas::from_least, crate::proofs::AgeLemmas::least_stays, crate::proofs::AgeLemmas::least_comes, crate::proofs::AgeLemmas::least_ends))]
-fn earliest(threads: Items<'_, Record>, u: ThreadId, t: ThreadId) -> ThreadId
-    ensures { result.0 ≡ earlier t.0 (least_to_age u.0 threads.entry) }
-{
-    if t.0 == u.0 {
-        return u;
-    }
-    let mut least = t;
-    for thread in threads {
-        if thread.id.0 < least.0 && ages(u, thread) {
-            if thread.id.0 == u.0 {
-                return u;
-            }
-            least = thread.id;
-        }
-    }
-    least
-}
-
-#[inline(never)]
-fn least_to_age(queue: &DispQueue<Record>, u: ThreadId) -> Option<ThreadId>
-    ensures { option_map (λ t. t.0) result ≡ least_to_age u.0 queue.now }
-{
-    match first_to_age(queue.items(), u) {
-        None => None,
-        Some((first, rest)) => Some(earliest(rest, u, first)),
-    }
 }

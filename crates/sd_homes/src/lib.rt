@@ -11,6 +11,7 @@ mod list_id;
 mod parts;
 mod places;
 mod ready;
+mod ready_index;
 mod real_time;
 mod sleepers;
 mod traveller;

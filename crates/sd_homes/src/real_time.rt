@@ -50,17 +50,19 @@ impl Model for RealTimeHome {
 
 #[tactic(auto, using(crate::proofs::Lengths::length_dropped, crate::proofs::Lengths::length_inserted))]
 impl RealTimeHome {
-    /// The home of a partition with no real-time thread, whose set has these open processors.
+    /// The home of a partition with no real-time thread, whose set has these open processors. A thread on its queue is found at once by its
+    /// number, if that is below `threads`.
     pub fn new(
         alloc: Global,
         set: SetId,
         open_cpus: ArrayVec<CpuId, 64>,
+        threads: u16,
     ) -> Result<RealTimeHome, AllocError>
         ensures { IfOk result (λ h. h ≡ empty_set set open_cpus.items) }
     {
         Ok(RealTimeHome {
             set,
-            queue: ReadyQueue::new(alloc)?,
+            queue: ReadyQueue::new(alloc, threads)?,
             open_cpus,
             rack: Rack::new(),
         })
@@ -149,7 +151,7 @@ impl RealTimeHome {
                 if best.id.0 == t.0 {
                     Some(best)
                 } else {
-                    self.queue.threads().find(u32::from(t.0))
+                    self.queue.find(u32::from(t.0))
                 }
             }
         }

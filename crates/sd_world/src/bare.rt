@@ -61,7 +61,8 @@ fn bare_cpu(alloc: Global, s: &State, c: CpuId) -> Result<Home, AllocError>
     ensures { IfOk result (λ h. (home_id h ≡ Cpu c) × IsBare s.now h) }
 {
     let view = view_of(cpu_of(s, c));
-    Ok(Home::Cpu(Boxed::new(alloc, CpuHome::new(alloc, c, view)?)?))
+    let threads = s.threads.items().len() as u16;
+    Ok(Home::Cpu(Boxed::new(alloc, CpuHome::new(alloc, c, view, threads)?)?))
 }
 
 /// The home of the real-time queue of set `p`.
@@ -69,7 +70,8 @@ fn bare_real_time(alloc: Global, s: &State, p: SetId) -> Result<Home, AllocError
     requires { p.0 < length s.now.open_cpus }
     ensures { IfOk result (λ h. (home_id h ≡ RealTime p) × IsBare s.now h) }
 {
-    let home = RealTimeHome::new(alloc, p, open_of(s, p))?;
+    let threads = s.threads.items().len() as u16;
+    let home = RealTimeHome::new(alloc, p, open_of(s, p), threads)?;
     Ok(Home::RealTime(Boxed::new(alloc, home)?))
 }
 
