@@ -64,7 +64,7 @@ impl Acting {
             → IsShown self.new m (with_thread s t.0 z) }
         ensures has { IsHeld (home_at to) self.old.hand.slots → IsListThere to → HasRoom t.0 from to self.old.hand.slots → has_part self.new ≡ has_part self.old }
     {
-        self.hand.relocate(t, from, step, to);
+        self.hand.relocate(t, from, &step, to);
     }
 
     /// Thread `t` goes from the list in which it stands to another one, and changes on the way. It is lacking where no held home has it; then

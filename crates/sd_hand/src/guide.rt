@@ -4,7 +4,7 @@ ghost use Rattle.std.specs.Prelude.{◌≡◌, slice_get};
 ghost use Rattle.std.specs.Option.{option_copied};
 
 use sd_homes::ListId;
-use sd_types::{HomeId, ThreadId};
+use sd_types::ThreadId;
 use std::alloc::Global;
 
 /// How many processors and sets there are, where their homes lie in the order of their numbers, and the list to which each thread came

@@ -344,6 +344,30 @@ impl Hand {
         self.where_found(t)
     }
 
+    /// The list in which the thread stands, with the thread there, which is looked up once. It is lacking where no held home has it.
+    #[inline(always)]
+    pub(crate) fn found(&self, t: ThreadId) -> Result<(ListId, Option<&Record>), Part>
+        ensures { Seeks t self.now.slots result (λ r. StandsIn t.0 self.now.slots r.0 × (option_copied r.1 ≡ taken_from t.0 r.0 (held (home_at r.0) self.now.slots))) }
+    {
+        if let Some(at) = self.guide.list(t) {
+            if let Some(record) = self.find_at(t, at) {
+                return Ok((*at, Some(record)));
+            }
+        }
+        self.found_by_search(t)
+    }
+
+    /// The same, by a search of all homes.
+    #[inline(never)]
+    fn found_by_search(&self, t: ThreadId) -> Result<(ListId, Option<&Record>), Part>
+        ensures { Seeks t self.now.slots result (λ r. StandsIn t.0 self.now.slots r.0 × (option_copied r.1 ≡ taken_from t.0 r.0 (held (home_at r.0) self.now.slots))) }
+    {
+        match self.where_found(t) {
+            Err(q) => Err(q),
+            Ok(at) => Ok((at, self.find(t, at))),
+        }
+    }
+
     /// The thread, which is lacking where no held home has it.
     #[inline(always)]
     pub fn record(&self, t: ThreadId) -> Result<&Record, Part>

@@ -1,7 +1,9 @@
 //! Looking at a state by a hand.
 
-ghost use Rattle.std.specs.Prelude.{◌≡◌, [], ◌∷◌, option_copied};
+ghost use Rattle.std.specs.Prelude.{◌≡◌, [], ◌∷◌, false, option_copied};
 ghost use Rattle.sd_machine.specs.Threads.{best_unbound, priority_of, runner};
+ghost use Rattle.sd_machine.specs.Walking.{is_back};
+ghost use Rattle.sd_state.specs.declared.states.Place.{Place};
 ghost use Rattle.sd_store.specs.Parts.{cpu_part};
 ghost use Rattle.sd_store.specs.Words.{Lacks, Tells};
 ghost use Rattle.sd_hand.specs.Acting.{IsShown, has_part, the_part};
@@ -26,6 +28,16 @@ fn spot_at(at: ListId) -> Spot
         ListId::Sleeps(k) => Spot::Asleep(k),
         ListId::Naps(c) => Spot::Napping(c),
         ListId::Ends(_) => Spot::Ended,
+    }
+}
+
+/// The walk seeks the owner `o`. At any other it has not come back, wherever that one stands, so that one need not be looked up.
+fn seeks(duty: Duty, o: ThreadId) -> bool
+    ensures { result ≡ false → (place : Place) → is_back duty o place ≡ false }
+{
+    match duty {
+        Duty::Walk { seek, .. } => seek.0 == o.0,
+        _ => false,
     }
 }
 
@@ -194,6 +206,9 @@ impl Look for Acting {
     fn is_back(&self, c: CpuId, o: ThreadId) -> Result<bool, Part> {
         if c.0 != self.actor.cpu.0 {
             return Err(Part::Actor(c));
+        }
+        if !seeks(self.actor.duty, o) {
+            return Ok(false);
         }
         match self.hand.where_is(o) {
             Err(q) => Err(q),

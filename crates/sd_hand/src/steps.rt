@@ -28,22 +28,22 @@ pub enum Step {
     MoveAs(ClassState, Place),
 }
 
-fn take_step(traveller: &mut Traveller, step: Step)
-    ensures { traveller.new ≡ stepped step traveller.old }
+fn take_step(traveller: &mut Traveller, step: &Step)
+    ensures { traveller.new ≡ stepped step.now traveller.old }
 {
     match step {
         Step::Arrive(c) => {
-            traveller.arrive(c);
-            traveller.set_place(Place::Running(c));
+            traveller.arrive(*c);
+            traveller.set_place(Place::Running(*c));
         }
         Step::Depart(count, place) => {
-            traveller.depart(count);
-            traveller.set_place(place);
+            traveller.depart(*count);
+            traveller.set_place(*place);
         }
-        Step::Move(place) => traveller.set_place(place),
+        Step::Move(place) => traveller.set_place(*place),
         Step::MoveAs(class, place) => {
-            traveller.set_class(class);
-            traveller.set_place(place);
+            traveller.set_class(*class);
+            traveller.set_place(*place);
         }
     }
 }
@@ -51,11 +51,11 @@ fn take_step(traveller: &mut Traveller, step: Step)
 impl Hand {
     /// Thread `t`, if it stands there, goes to another list, and changes on the way. Tells whether it stands there; where it does not, all
     /// stays as it was.
-    pub(crate) fn relocate(&mut self, t: ThreadId, from: ListId, step: Step, to: ListId) -> bool
+    pub(crate) fn relocate(&mut self, t: ThreadId, from: ListId, step: &Step, to: ListId) -> bool
         ensures stood { result ≡ is_some (taken_from t.0 from (held (home_at from) self.old.slots)) }
         ensures untouched { result ≡ false → self.new.slots ≡ self.old.slots }
         ensures moved { (r : ThreadRecord) → Some r ≡ taken_from t.0 from (held (home_at from) self.old.slots)
-            → self.new.slots ≡ edit (home_at to) (putting (stepped step r) to) (edit (home_at from) (taking t.0 from) self.old.slots) }
+            → self.new.slots ≡ edit (home_at to) (putting (stepped step.now r) to) (edit (home_at from) (taking t.0 from) self.old.slots) }
         ensures held { (k : HomeIdOf) → is_some (held k self.new.slots) ≡ is_some (held k self.old.slots) }
         ensures apart { AreApart self.old.slots → AreApart self.new.slots }
         ensures has { IsHeld (home_at to) self.old.slots → IsListThere to → HasRoom t.0 from to self.old.slots
@@ -80,7 +80,7 @@ impl Hand {
         match self.where_found(t) {
             Err(q) => Err(q),
             Ok(from) => {
-                self.relocate(t, from, step, to);
+                self.relocate(t, from, &step, to);
                 Ok(from)
             }
         }
@@ -98,7 +98,7 @@ impl Hand {
         ensures kept { IfErr result (λ _. self.new.slots ≡ self.old.slots) }
     {
         if let Some(at) = self.guide_of(t) {
-            if self.relocate(t, at, *step, to) {
+            if self.relocate(t, at, step, to) {
                 return Ok(at);
             }
         }

@@ -23,11 +23,11 @@ impl Store for Acting {
     }
 
     fn begin_walk(&mut self, c: CpuId, t: ThreadId) -> Result<(), Part> {
-        let at = match self.hand.where_is(t) {
+        let (at, thread) = match self.hand.found(t) {
             Err(q) => return Err(q),
-            Ok(at) => at,
+            Ok(found) => found,
         };
-        match walk_at(t, at, self.hand.find(t, at)) {
+        match walk_at(t, at, thread) {
             None => Ok(()),
             Some(duty) => match self.give(c, duty) {
                 Err(q) => Err(q),
@@ -40,11 +40,11 @@ impl Store for Acting {
         if c.0 != self.actor.cpu.0 {
             return Err(Part::Actor(c));
         }
-        let at = match self.hand.where_is(o) {
+        let (at, owner) = match self.hand.found(o) {
             Err(q) => return Err(q),
-            Ok(at) => at,
+            Ok(found) => found,
         };
-        let duty = next_walk_at(self.actor.duty, o, at, self.hand.find(o, at));
+        let duty = next_walk_at(self.actor.duty, o, at, owner);
         match self.give(c, duty) {
             Err(q) => Err(q),
             Ok(()) => Ok(()),

@@ -1,6 +1,7 @@
 pub mod GivenUp
 pub mod Handed
 pub mod Looped
+pub mod Same
 pub mod Taken
 pub mod Waiting
 pub mod Walked

@@ -1,8 +1,8 @@
 -- That a walk has come back to the owner stays so, and is noted where it is new.
-use Rattle.std.proofs.Common.{◌≡◌, ℕ, zero, suc, Bool, true, false, ◌||◌, List, [], ◌∷◌, Option, refl, sym, ap, ◌∙◌}
+use Rattle.std.proofs.Common.{◌≡◌, ℕ, zero, suc, Bool, true, false, ◌||◌, List, [], ◌∷◌, Option, refl, sym, ap, ◌∙◌, subst}
 use Rattle.std.specs.Prelude.{slice_set}
 use Rattle.sd_basics.proofs.Truths.{or_always}
-use Rattle.sd_types.specs.Willed.{changed_number, with_willed}
+use Rattle.sd_types.specs.Willed.{changed_number, number_for, with_willed}
 use Rattle.sd_types.specs.declared.numbers.CpuId.{CpuId}
 use Rattle.sd_types.specs.declared.numbers.LockId.{LockId}
 use Rattle.sd_types.specs.declared.numbers.ThreadId.{ThreadId}
@@ -16,13 +16,13 @@ use Rattle.sd_machine.specs.Walking.{is_back, walked}
 use Rattle.sd_store.specs.Walks.{walk_gone_on}
 use Rattle.sd_store.proofs.TickLemmas.{read}
 
-abbrev numbered : LockId → Option ℕ → ThreadState → ThreadState
+abbrev pub numbered : LockId → Option ℕ → ThreadState → ThreadState
 numbered l n x = record x { body = with_willed (changed_number l n x.body.willed.items) x.body }
 
-abbrev looping : Bool → ThreadState → ThreadState
+abbrev pub looping : Bool → ThreadState → ThreadState
 looping b x = record x { body = record x.body { looped = b } }
 
-abbrev change : (ThreadState → ThreadState) → List ThreadState → ℕ → List ThreadState
+abbrev pub change : (ThreadState → ThreadState) → List ThreadState → ℕ → List ThreadState
 change f xs t = slice_set xs t (f (read xs t))
 
 -- a thread that is as looped as it was
@@ -36,10 +36,13 @@ as_it_was l n (x ∷ xs) zero = by x.body.looped refl
     by false e = rw e refl
 as_it_was l n (x ∷ xs) (suc t) = ap (λ (ys : List ThreadState). x ∷ ys) (as_it_was l n xs t)
 
--- what the owner can inherit it still can when the walk has gone on
-pub gone_can : (s : State) (c : CpuId) (l : LockId) (o : ThreadId) (n : Option ℕ) → CanInherit s o l n → CanInherit (walk_gone_on s c o) o l n
+-- what the owner can inherit it still can when the walk has gone on, and what it inherited it still does
+pub gone_can : (s : State) (c : CpuId) (l : LockId) (o : ThreadId) (had number : Option ℕ)
+    → CanInherit s o l (greatest_waiting l.0 s.threads) × (had ≡ number_for l (thread_of s o.0).body.willed.items) × (number ≡ greatest_waiting l.0 s.threads)
+    → CanInherit (walk_gone_on s c o) o l number × (had ≡ number_for l (thread_of (walk_gone_on s c o) o.0).body.willed.items)
 unfolding set_duty walk_gone_on
-gone_can s c l o n can = record { sound = can.sound; held = can.held; below = can.below }
+gone_can s c l o had number can =
+    (subst (λ (m : Option ℕ). CanInherit (walk_gone_on s c o) o l m) (sym can.2) (record { sound = can.0.sound; held = can.0.held; below = can.0.below }), can.1)
 
 pub walked_on : (s : State) (c : CpuId) (l : LockId) (o : ThreadId) → is_back (cpu_of s c.0).duty o (thread_of s o.0).place ≡ false
     → set_number (walk_gone_on s c o) o.0 l (greatest_waiting l.0 s.threads) ≡ walked s c l o

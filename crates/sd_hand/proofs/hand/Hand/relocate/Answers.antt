@@ -11,7 +11,7 @@ pub returns-in-Some-clause-moved : goal.returns-in-Some-clause-moved
 returns-in-Some-clause-moved c r e =
     let there : Some c.in-Some.traveller ≡ Some r = sym c.in-Some.is ∙ c.take.ensures.taken ∙ sym e in
     let same : c.in-Some.traveller ≡ r = cc in
-    c.put.ensures.rest ∙ (λ i. edit (home_at c.args.to) (putting ((c.take_step.ensures ∙ ap (stepped c.args.step) same) i) c.args.to) (c.take.ensures.rest i))
+    c.put.ensures.rest ∙ (λ i. edit (home_at c.args.to) (putting ((c.take_step.ensures ∙ ap (stepped c.args.step.now) same) i) c.args.to) (c.take.ensures.rest i))
 
 pub returns-in-None-clause-moved : goal.returns-in-None-clause-moved
 returns-in-None-clause-moved c r e = let none = sym c.in-None.is ∙ c.take.ensures.taken ∙ sym e in absurd cc
@@ -36,9 +36,9 @@ pub returns-in-Some-clause-has : goal.returns-in-Some-clause-has
 returns-in-Some-clause-has c is there room u =
     let taken = sym c.in-Some.is ∙ c.take.ensures.taken in
     let old = c.in-Some.traveller in
-    let id = step_id c.args.step old ∙ taken_id c.args.t.0 c.args.from (held (home_at c.args.from) c.args.self.now.slots) old taken in
+    let id = step_id c.args.step.now old ∙ taken_id c.args.t.0 c.args.from (held (home_at c.args.from) c.args.self.now.slots) old taken in
     ap (has_thread u) (c.put.ensures.rest ∙ (λ i. edit (home_at c.args.to) (putting (c.take_step.ensures i) c.args.to) (c.take.ensures.rest i)))
-    ∙ went_has u c.args.t.0 c.args.from c.args.to old (stepped c.args.step old) c.args.self.now.slots taken id is there room
+    ∙ went_has u c.args.t.0 c.args.from c.args.to old (stepped c.args.step.now old) c.args.self.now.slots taken id is there room
     (λ h e. c.put.ensures.whole h (ap (held (home_at c.args.to)) c.take.ensures.rest ∙ e))
 
 pub returns-in-None-clause-has : goal.returns-in-None-clause-has

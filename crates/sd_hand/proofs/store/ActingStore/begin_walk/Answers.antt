@@ -13,8 +13,8 @@ unfolding walk_begun
 returns-in-None-clause-value c n s sh t =
     let x = c.args.self.now in
     let u = c.args.t in
-    let at = found_at x n s sh u.0 c.in-Ok.at c.in-Ok.ensures in
-    let found = c.find.ensures ∙ found_record x n s sh u.0 c.in-Ok.at c.in-Ok.ensures in
+    let at = found_at x n s sh u.0 c.in-Ok.found.0 c.in-Ok.ensures.0 in
+    let found = c.in-Ok.ensures.1 ∙ found_record x n s sh u.0 c.in-Ok.found.0 c.in-Ok.ensures.0 in
     let none = sym c.in-None.is ∙ c.walk_at.ensures ∙ (λ i. walk_at u (sym at.list i) (found i)) in
     subst (λ z. IsShown x n z) (ap (given s c.args.c) none ∙ begun_by s c.args.c u (thread_of s u.0)) sh
 
@@ -23,8 +23,8 @@ unfolding walk_begun
 returns-in-Ok-give-clause-value c n s sh t =
     let x = c.args.self.now in
     let u = c.args.t in
-    let at = found_at x n s sh u.0 c.in-Ok.at c.in-Ok.ensures in
-    let found = c.find.ensures ∙ found_record x n s sh u.0 c.in-Ok.at c.in-Ok.ensures in
+    let at = found_at x n s sh u.0 c.in-Ok.found.0 c.in-Ok.ensures.0 in
+    let found = c.in-Ok.ensures.1 ∙ found_record x n s sh u.0 c.in-Ok.found.0 c.in-Ok.ensures.0 in
     let some = sym c.in-Some.is ∙ c.walk_at.ensures ∙ (λ i. walk_at u (sym at.list i) (found i)) in
     subst (λ z. IsShown c.give.new.self n z) (ap (given s c.args.c) some ∙ begun_by s c.args.c u (thread_of s u.0)) (c.in-Ok-give.ensures.value n s sh t)
 

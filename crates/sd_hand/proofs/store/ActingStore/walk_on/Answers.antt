@@ -14,8 +14,8 @@ unfolding walk_gone_on
 returns-in-Ok-give-clause-value c n s sh t =
     let x = c.args.self.now in
     let o = c.args.o in
-    let at = found_at x n s sh o.0 c.in-Ok.at c.in-Ok.ensures in
-    let found = c.find.ensures ∙ found_record x n s sh o.0 c.in-Ok.at c.in-Ok.ensures in
+    let at = found_at x n s sh o.0 c.in-Ok.found.0 c.in-Ok.ensures.0 in
+    let found = c.in-Ok.ensures.1 ∙ found_record x n s sh o.0 c.in-Ok.found.0 c.in-Ok.ensures.0 in
     let duty = sh.duty ∙ ap (λ d. (cpu_of s d).duty) (sym c.if-c-self.false) in
     let same = c.next_walk_at-duty.ensures ∙ (λ i. next_walk_at (duty i) o (sym at.list i) (found i)) ∙ next_by (cpu_of s c.args.c.0).duty o (thread_of s o.0) in
     subst (λ d. IsShown c.give.new.self n (set_duty s c.args.c.0 d)) same (c.in-Ok-give.ensures.value n s sh t)
