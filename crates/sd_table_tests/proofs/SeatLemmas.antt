@@ -63,11 +63,11 @@ module _ (t : TableId) (w : Work) where
   seat_after c s s' cpu x = record { fits = x.goes_on.fits; cpu = ap (λ (d : CpuId). d.0) x.goes_on.cpu ∙ cpu; free = x.free }
 
 -- ---- the two seats of a table
-popped : (seats one none : List Seat) (first second : Seat) → seats ≡ one ++ second ∷ [] → one ≡ none ++ first ∷ [] → none ≡ [] → seats ≡ first ∷ second ∷ []
+pub popped : (seats one none : List Seat) (first second : Seat) → seats ≡ one ++ second ∷ [] → one ≡ none ++ first ∷ [] → none ≡ [] → seats ≡ first ∷ second ∷ []
 popped seats one none first second e d is = e ∙ ap (λ (xs : List Seat). xs ++ second ∷ []) (d ∙ ap (λ (xs : List Seat). xs ++ first ∷ []) is)
 
-pub first_seat : (t : TableId) (w : Work) (seats one none : List Seat) (first second : Seat) → AreSeats t w seats → seats ≡ one ++ second ∷ [] → one ≡ none ++ first ∷ [] → none ≡ [] → IsSeatOf t w 0 first
-first_seat t w seats one none first second are e d is = are.each 0 first (ap (λ (xs : List Seat). slice_get xs 0) (popped seats one none first second e d is))
+pub first_seat : (t : TableId) (w : Work) (seats : List Seat) (first second : Seat) → AreSeats t w seats → seats ≡ first ∷ second ∷ [] → IsSeatOf t w 0 first
+first_seat t w seats first second are e = are.each 0 first (ap (λ (xs : List Seat). slice_get xs 0) e)
 
-pub second_seat : (t : TableId) (w : Work) (seats one none : List Seat) (first second : Seat) → AreSeats t w seats → seats ≡ one ++ second ∷ [] → one ≡ none ++ first ∷ [] → none ≡ [] → IsSeatOf t w 1 second
-second_seat t w seats one none first second are e d is = are.each 1 second (ap (λ (xs : List Seat). slice_get xs 1) (popped seats one none first second e d is))
+pub second_seat : (t : TableId) (w : Work) (seats : List Seat) (first second : Seat) → AreSeats t w seats → seats ≡ first ∷ second ∷ [] → IsSeatOf t w 1 second
+second_seat t w seats first second are e = are.each 1 second (ap (λ (xs : List Seat). slice_get xs 1) e)

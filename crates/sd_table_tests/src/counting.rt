@@ -1,26 +1,23 @@
-//! What two processors on two threads of the host find in their way, counted.
+//! What a processor on a thread of the host of its own finds in its way, counted.
 
 ghost use Rattle.std.specs.Prelude.{◌≡◌, ℕ};
 ghost use Rattle.sd_hand.specs.Hands.{how_many_held};
 ghost use Rattle.sd_table.specs.Seats.{Fits, id_of, work_of};
 ghost use Rattle.sd_table.specs.Whole.{IsSeatOf};
 
-use crate::tables::{close_two, open_two, work_from};
+use crate::deeds::{Deed, judge};
+use crate::joining::{Act, Acted};
 use sd_cpu::{Attempted, OpenGate, Turned, attempt};
 use sd_dispatcher::Reading;
 use sd_hand::Acting;
-use sd_steps::replay;
 use sd_table::{Seat, Shared};
 use sd_threads::TableWorld;
 use sd_types::{Event, Hints, HomeId, Stop, ThreadId, Work};
 use sd_world::{Behind, Take, ThreadLock, World};
-use std::marker::Sync;
 use std::test::Fail;
-use std::thread;
-use std::thread::Threads;
 
 /// Threads of two processors that want one mutex.
-const CONTENDED: &str =
+pub(crate) const CONTENDED: &str =
     "cpus 2\nlimit 20\nmutex m\nthread a ts 29 0 0\nthread b ts 29 0 0\nthread d ts 29 0 0\nthread e ts 29 0 0\nscript a\nenter m\nrun 2\nexit m\nrun 1\nend\nscript b\nenter m\nrun 2\nexit m\nrun 1\nend\nscript d\nenter m\nrun 1\nexit m\nend\nscript e\nenter m\nrun 1\nexit m\nend\n";
 
 /// So many attempts each processor makes.
@@ -143,21 +140,20 @@ impl Tally {
     }
 }
 
-/// A processor after its attempts: its seat, what these came to, what it found in its way, and how often it was stopped.
-#[derive(Drop)]
-struct Attempts {
-    seat: Seat,
+/// What the attempts of a processor came to, what it found in its way, and how often it was stopped.
+#[derive(Clone, Copy)]
+struct Counts {
     tally: Tally,
     found: Hindrances,
     stops: u64,
 }
 
-impl Attempts {
-    /// Each attempt came to one answer. It made the entries of its log; it was behind as often as it found somebody behind; a home that was
-    /// busy or a thread that had moved stopped it, and it tried again only where one of these did.
-    fn is_consistent(&self) -> bool {
+impl Counts {
+    /// Each attempt came to one answer. It made the entries of its log, which are so many; it was behind as often as it found somebody
+    /// behind; a home that was busy or a thread that had moved stopped it, and it tried again only where one of these did.
+    fn are_consistent(self, entries: u64) -> bool {
         self.tally.sum() == ATTEMPTS
-            && self.tally.entries == self.seat.log.len() as u64
+            && self.tally.entries == entries
             && self.tally.behind == self.found.behind
             && self.stops == self.found.busy.saturating_add(self.found.moved)
             && self.tally.again <= self.stops
@@ -166,7 +162,7 @@ impl Attempts {
 }
 
 /// The attempts of a processor.
-fn try_turns(shared: &Shared, work: &Work, seat: Seat) -> Attempts
+pub(crate) fn try_turns(shared: &Shared, work: &Work, seat: Seat) -> Acted
     requires work { work.now ≡ work_of shared.now }
     requires fits { Fits (id_of shared.now) (work_of shared.now) seat }
     requires free { how_many_held seat.acting.hand.slots ≡ 0 }
@@ -192,50 +188,21 @@ fn try_turns(shared: &Shared, work: &Work, seat: Seat) -> Attempts
         tally = tally.count(attempted);
     }
     let CountedWorld { table, found } = world;
-    let stops = table.stops;
-    Attempts {
-        seat: table.into_seat(),
+    let counts = Counts {
         tally,
         found,
-        stops,
+        stops: table.stops,
+    };
+    let seat = table.into_seat();
+    let is_right = counts.are_consistent(seat.log.len() as u64);
+    Acted {
+        seat,
+        is_right,
+        count: tally.entries,
     }
-}
-
-/// The attempts of both processors, each on a thread of its own.
-fn try_both<R: Threads + Sync>(
-    rt: &R,
-    shared: &Shared,
-    work: &Work,
-    first: Seat,
-    second: Seat,
-) -> (Attempts, Attempts)
-    requires work { work.now ≡ work_of shared.now }
-    requires first { IsSeatOf (id_of shared.now) (work_of shared.now) 0 first }
-    requires second { IsSeatOf (id_of shared.now) (work_of shared.now) 1 second }
-    ensures first { IsSeatOf (id_of shared.now) (work_of shared.now) 0 result.0.seat }
-    ensures second { IsSeatOf (id_of shared.now) (work_of shared.now) 1 result.1.seat }
-{
-    let one = || -> Attempts
-        requires { (work.now ≡ work_of shared.now) × IsSeatOf (id_of shared.now) (work_of shared.now) 0 first }
-        ensures { IsSeatOf (id_of shared.entry.now) (work_of shared.entry.now) 0 result.seat }
-    { try_turns(shared, work, first) };
-    let other = || -> Attempts
-        requires { (work.now ≡ work_of shared.now) × IsSeatOf (id_of shared.now) (work_of shared.now) 1 second }
-        ensures { IsSeatOf (id_of shared.entry.now) (work_of shared.entry.now) 1 result.seat }
-    { try_turns(shared, work, second) };
-    thread::join(rt, one, other)
 }
 
 #[test]
 fn what_is_in_the_way_is_counted(rt: HostRuntime) -> Result<(), Fail> {
-    let alloc = rt.alloc();
-    let work = work_from(alloc, CONTENDED)?;
-    let (shared, first, second) = open_two(alloc, &work)?;
-    let (first, second) = try_both(&rt, &shared, &work, first, second);
-    assert!(rt; first.is_consistent() && second.is_consistent());
-    let made = first.tally.entries.saturating_add(second.tally.entries);
-    let entries = close_two(alloc, shared, &work, first.seat, second.seat)?;
-    assert_eq!(rt; entries.len() as u64, made);
-    assert!(rt; replay(alloc, &work, &entries).is_ok());
-    Ok(())
+    judge(&rt, Deed::Both(Act::Attempts))
 }

@@ -5,6 +5,10 @@
 #[cfg(test)]
 mod counting;
 #[cfg(test)]
+mod deeds;
+#[cfg(test)]
+mod joining;
+#[cfg(test)]
 mod sharing;
 #[cfg(test)]
 mod tables;

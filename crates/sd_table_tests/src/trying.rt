@@ -1,12 +1,13 @@
 //! Two processors on one thread of the host: one holds a home, and the other finds it busy.
 
-ghost use Rattle.std.specs.Prelude.{◌≡◌, ℕ, ◌<◌, length, OnOk};
+ghost use Rattle.std.specs.Prelude.{◌≡◌, ℕ, ◌<◌, length, IfOk, OnOk};
 ghost use Rattle.sd_hand.specs.Hands.{how_many_held};
 ghost use Rattle.sd_table.specs.Seats.{Fits, id_of, work_of};
 ghost use Rattle.sd_table.specs.Whole.{IsSeatOf};
 ghost use Rattle.sd_table_tests.specs.Sitting.{HasSought, HasTried, IsFreeAfter};
 
-use crate::tables::{FOUR_THREADS, close_two, open_two, work_from};
+use crate::deeds::{Deed, Done, judge};
+use crate::tables::Seats;
 use sd_cpu::{OpenGate, attempt};
 use sd_table::{Seat, Shared};
 use sd_threads::{TableWorld, try_lock_thread};
@@ -85,15 +86,40 @@ fn take_by_turns(shared: &Shared, first: &mut Seat, second: &mut Seat) -> Result
     Ok(())
 }
 
+/// The home is taken by turns.
+pub(crate) fn taken(shared: &Shared, seats: Seats) -> Result<Done, &'static str>
+    requires first { IsSeatOf (id_of shared.now) (work_of shared.now) 0 seats.first }
+    requires second { IsSeatOf (id_of shared.now) (work_of shared.now) 1 seats.second }
+    ensures first { IfOk result (λ r. IsSeatOf (id_of shared.now) (work_of shared.now) 0 r.seats.first) }
+    ensures second { IfOk result (λ r. IsSeatOf (id_of shared.now) (work_of shared.now) 1 r.seats.second) }
+{
+    let Seats {
+        mut first,
+        mut second,
+    } = seats;
+    match take_by_turns(shared, &mut first, &mut second) {
+        Ok(()) => Ok(Done {
+            seats: Seats { first, second },
+            made: 0,
+        }),
+        Err(wrong) => Err(wrong),
+    }
+}
+
 #[test]
 fn a_home_is_busy_while_it_is_held(rt: HostRuntime) -> Result<(), Fail> {
-    let alloc = rt.alloc();
-    let work = work_from(alloc, FOUR_THREADS)?;
-    let (shared, mut first, mut second) = open_two(alloc, &work)?;
-    take_by_turns(&shared, &mut first, &mut second)?;
-    let entries = close_two(alloc, shared, &work, first, second)?;
-    assert_eq!(rt; entries.len(), 0);
-    Ok(())
+    judge(&rt, Deed::Take)
+}
+
+/// The entries of the seat are the dispatch of thread 0 alone.
+fn has_dispatched(seat: &Seat) -> bool {
+    match seat.log.as_slice() {
+        [entry] => match entry.event {
+            Event::Dispatch { t, .. } => t == THREAD,
+            _ => false,
+        },
+        _ => false,
+    }
 }
 
 /// The second processor finds the home of thread 0 busy while the first holds it, and then takes it. `Err` says what went otherwise.
@@ -104,6 +130,9 @@ fn seek_by_turns(shared: &Shared, first: &mut Seat, second: &mut Seat) -> Result
     ensures first { OnOk result (IsSeatOf (id_of shared.now) (work_of shared.now) 0 first.new) }
     ensures second { OnOk result (IsSeatOf (id_of shared.now) (work_of shared.now) 1 second.new) }
 {
+    if !has_dispatched(first) {
+        return Err("the first does not dispatch the thread");
+    }
     let Take::Taken = try_home(shared, first) else {
         return Err("the first does not take the home");
     };
@@ -124,26 +153,27 @@ fn seek_by_turns(shared: &Shared, first: &mut Seat, second: &mut Seat) -> Result
     Ok(())
 }
 
-/// The entries of the seat are the dispatch of thread 0 alone.
-fn has_dispatched(seat: &Seat) -> bool {
-    match seat.log.as_slice() {
-        [entry] => match entry.event {
-            Event::Dispatch { t, .. } => t == THREAD,
-            _ => false,
-        },
-        _ => false,
+/// The home of thread 0, which the first processor has dispatched, is taken by turns.
+pub(crate) fn sought(shared: &Shared, work: &Work, seats: Seats) -> Result<Done, &'static str>
+    requires work { work.now ≡ work_of shared.now }
+    requires there { 0 < length (work_of shared.now).threads }
+    requires first { IsSeatOf (id_of shared.now) (work_of shared.now) 0 seats.first }
+    requires second { IsSeatOf (id_of shared.now) (work_of shared.now) 1 seats.second }
+    ensures first { IfOk result (λ r. IsSeatOf (id_of shared.now) (work_of shared.now) 0 r.seats.first) }
+    ensures second { IfOk result (λ r. IsSeatOf (id_of shared.now) (work_of shared.now) 1 r.seats.second) }
+{
+    let Seats { first, mut second } = seats;
+    let mut first = act(shared, work, first);
+    match seek_by_turns(shared, &mut first, &mut second) {
+        Ok(()) => Ok(Done {
+            seats: Seats { first, second },
+            made: 1,
+        }),
+        Err(wrong) => Err(wrong),
     }
 }
 
 #[test]
 fn a_thread_is_locked_with_its_home(rt: HostRuntime) -> Result<(), Fail> {
-    let alloc = rt.alloc();
-    let work = work_from(alloc, FOUR_THREADS)?;
-    let (shared, fresh, mut second) = open_two(alloc, &work)?;
-    let mut first = act(&shared, &work, fresh);
-    assert!(rt; has_dispatched(&first));
-    seek_by_turns(&shared, &mut first, &mut second)?;
-    let entries = close_two(alloc, shared, &work, first, second)?;
-    assert_eq!(rt; entries.len(), 1);
-    Ok(())
+    judge(&rt, Deed::Seek)
 }

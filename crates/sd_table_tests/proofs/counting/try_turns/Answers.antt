@@ -32,5 +32,5 @@ loop-turn-preserved c =
     W.world_after (id_of c.args.shared.now) (work_of c.args.shared.now) c.args.seat x y c.loop-turn.invariant e.good e.empty (W.same_world (world_meaning x) (world_meaning y) c.attempt-attempted.result e.answers)
 
 pub returns : goal.returns
-returns c = λ n is. S.seat_after (id_of c.args.shared.now) (work_of c.args.shared.now) n c.args.seat c.into_seat.result is.cpu
-    (subst (λ (s : Seat). IsFreeAfter (id_of c.args.shared.now) (work_of c.args.shared.now) c.args.seat s) (sym c.into_seat.ensures) c.loop-turn.invariant.seat)
+returns c = λ n is. S.seat_after (id_of c.args.shared.now) (work_of c.args.shared.now) n c.args.seat c.into_seat-seat.result is.cpu
+    (subst (λ (s : Seat). IsFreeAfter (id_of c.args.shared.now) (work_of c.args.shared.now) c.args.seat s) (sym c.into_seat-seat.ensures) c.loop-turn.invariant.seat)

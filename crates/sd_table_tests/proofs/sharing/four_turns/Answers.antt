@@ -29,5 +29,5 @@ loop-number-preserved g c =
     W.world_after (id_of c.args.shared.now) (work_of c.args.shared.now) c.args.seat c.loop-number.world c.turn.new.world c.loop-number.invariant e.good e.empty e.world
 
 pub returns : goal.returns
-returns g c = λ n is. S.seat_after (id_of c.args.shared.now) (work_of c.args.shared.now) n c.args.seat c.into_seat.result is.cpu
-    (subst (λ (s : Seat). IsFreeAfter (id_of c.args.shared.now) (work_of c.args.shared.now) c.args.seat s) (sym c.into_seat.ensures) c.loop-number.invariant.seat)
+returns g c = λ n is. S.seat_after (id_of c.args.shared.now) (work_of c.args.shared.now) n c.args.seat c.into_seat-seat.result is.cpu
+    (subst (λ (s : Seat). IsFreeAfter (id_of c.args.shared.now) (work_of c.args.shared.now) c.args.seat s) (sym c.into_seat-seat.ensures) c.loop-number.invariant.seat)

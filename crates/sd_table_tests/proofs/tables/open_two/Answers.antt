@@ -1,21 +1,9 @@
-use Rattle.std.proofs.Common.{◌≡◌, length, sym, ◌∙◌, arith}
-use Rattle.std.specs.Prelude.{vec_len}
-use Rattle.std.proofs.lemmas.Bool.Decides.{nat_tests}
 use Rattle.sd_table.specs.Seats.{id_of}
-use Rattle.sd_table.proofs.LogLemmas.{empty_by}
 use Rattle.sd_table_tests.proofs.SeatLemmas as S
 use Rattle.sd_table_tests.proofs.tables.open_two.Goals as goal
 
 pub returns-clause-first : goal.returns-clause-first
-returns-clause-first c =
-    let none = c.pop-2.new.self in
-    let many : vec_len none ≡ length none.items = grind arith in
-    let nothing : vec_len none ≡ 0 = grind (arith, nat_tests) in
-    S.first_seat (id_of c.in_ok-shared.shared) c.args.work.now c.in_ok-shared.seats.items c.pop.new.self.items none.items c.in-Some-pop.first c.in-Some.second c.in_ok-shared.ensures.seats c.in-Some.ensures.items c.in-Some-pop.ensures.items (empty_by none.items (sym many ∙ nothing))
+returns-clause-first c = S.first_seat (id_of c.in_ok-shared.shared) c.args.work.now c.in_ok-shared.all.items c.in-Some.seats.first c.in-Some.seats.second c.in_ok-shared.ensures.seats c.in-Some.ensures
 
 pub returns-clause-second : goal.returns-clause-second
-returns-clause-second c =
-    let none = c.pop-2.new.self in
-    let many : vec_len none ≡ length none.items = grind arith in
-    let nothing : vec_len none ≡ 0 = grind (arith, nat_tests) in
-    S.second_seat (id_of c.in_ok-shared.shared) c.args.work.now c.in_ok-shared.seats.items c.pop.new.self.items none.items c.in-Some-pop.first c.in-Some.second c.in_ok-shared.ensures.seats c.in-Some.ensures.items c.in-Some-pop.ensures.items (empty_by none.items (sym many ∙ nothing))
+returns-clause-second c = S.second_seat (id_of c.in_ok-shared.shared) c.args.work.now c.in_ok-shared.all.items c.in-Some.seats.first c.in-Some.seats.second c.in_ok-shared.ensures.seats c.in-Some.ensures

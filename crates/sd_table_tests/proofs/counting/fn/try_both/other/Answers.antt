@@ -1,4 +1,0 @@
-use Rattle.sd_table_tests.proofs.counting.fn.try_both.other.Goals as goal
-
-pub returns : goal.returns
-returns c = c.try_turns.ensures 1 c.requires.1
