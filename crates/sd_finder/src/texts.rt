@@ -1,8 +1,6 @@
 //! The text of an answer.
 
 ghost use Rattle.std.specs.Prelude.{◌≡◌, ◌++◌, ◌≤◌, length, OnOk, IfOk};
-ghost use Rattle.sd_machine.specs.Runs.{final};
-ghost use Rattle.sd_state.specs.Opening.{opening};
 ghost use Rattle.sd_finder.specs.Answered.{IsShort};
 ghost use Rattle.sd_finder.specs.Texts.{all_line, count_text, entries_line, finding_text, found_text, left_text, more_text, never_text, states_line};
 ghost use Rattle.sd_types.specs.Limits.{most_entries};

@@ -29,8 +29,7 @@ pub struct Finished {
 
 /// One round: each processor of the order has a turn. `Full` only where the entries with those of this round
 /// are 2^40 or more. Memory runs out only where the log holds fewer. No processor's count is below the floor, and there is nothing to steal in the
-/// set that was searched, before and after. It is inline in the loops over rounds, with the turn that most turns are, since a round of one
-/// processor is a turn.
+/// set that was searched, before and after. It is inline in the loops over rounds, since a round of one processor is a turn.
 #[inline(always)]
 fn run_round(
     work: &Work,
