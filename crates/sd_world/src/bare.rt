@@ -55,14 +55,19 @@ fn view_of(x: CpuState) -> CpuView
     }
 }
 
+/// How many threads there are, each of which is looked up by its number.
+fn thread_count(s: &State) -> u16 {
+    u16::try_from(s.threads.items().len()).unwrap_or(u16::MAX)
+}
+
 /// The home of processor `c`.
 fn bare_cpu(alloc: Global, s: &State, c: CpuId) -> Result<Home, AllocError>
     requires { c.0 < length s.now.cpus }
     ensures { IfOk result (λ h. (home_id h ≡ Cpu c) × IsBare s.now h) }
 {
     let view = view_of(cpu_of(s, c));
-    let threads = s.threads.items().len() as u16;
-    Ok(Home::Cpu(Boxed::new(alloc, CpuHome::new(alloc, c, view, threads)?)?))
+    let home = CpuHome::new(alloc, c, view, thread_count(s))?;
+    Ok(Home::Cpu(Boxed::new(alloc, home)?))
 }
 
 /// The home of the real-time queue of set `p`.
@@ -70,8 +75,7 @@ fn bare_real_time(alloc: Global, s: &State, p: SetId) -> Result<Home, AllocError
     requires { p.0 < length s.now.open_cpus }
     ensures { IfOk result (λ h. (home_id h ≡ RealTime p) × IsBare s.now h) }
 {
-    let threads = s.threads.items().len() as u16;
-    let home = RealTimeHome::new(alloc, p, open_of(s, p), threads)?;
+    let home = RealTimeHome::new(alloc, p, open_of(s, p), thread_count(s))?;
     Ok(Home::RealTime(Boxed::new(alloc, home)?))
 }
 
