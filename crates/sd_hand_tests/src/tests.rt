@@ -12,6 +12,7 @@ use sd_types::{
     ChanId, ClassState, CpuId, Duty, LockId, SetId, Side, SysState, ThreadBody, ThreadId,
 };
 use std::alloc::{AllocError, Global};
+use std::process::Abort;
 use std::test::Fail;
 
 const CPU: CpuId = CpuId(0);
@@ -77,15 +78,30 @@ fn number(found: Result<Option<ThreadId>, Part>) -> Option<u16> {
     }
 }
 
+/// The home is held from now on.
+fn holds(x: &mut Acting, home: Home) -> bool {
+    x.hand.hold(home).is_ok()
+}
+
+/// A thread comes to this list.
+fn put(
+    alloc: Global,
+    x: &mut Acting,
+    number: u16,
+    low: bool,
+    at: ListId,
+) -> Result<(), AllocError> {
+    x.hand.put(thread(alloc, number, low)?, at);
+    Ok(())
+}
+
 /// Two threads in the queue of the processor, whose home is held and cannot be held twice.
-fn two_queued(alloc: Global) -> Result<Option<Acting>, AllocError> {
-    let mut x = acting(alloc)?;
-    if x.hand.hold(cpu_home(alloc)?).is_err() || x.hand.hold(cpu_home(alloc)?).is_ok() {
-        return Ok(None);
-    }
-    x.hand.put(thread(alloc, 7, true)?, ListId::Queues(CPU));
-    x.hand.put(thread(alloc, 9, false)?, ListId::Queues(CPU));
-    Ok(Some(x))
+fn queues_two(alloc: Global, x: &mut Acting) -> Result<bool, AllocError> {
+    let once = holds(x, cpu_home(alloc)?);
+    let twice = holds(x, cpu_home(alloc)?);
+    put(alloc, x, 7, true, ListId::Queues(CPU))?;
+    put(alloc, x, 9, false, ListId::Queues(CPU))?;
+    Ok(once && !twice)
 }
 
 /// The better of the two is the best of the queue; what is ready is not told, since the real-time queue is lacking.
@@ -112,34 +128,41 @@ fn naps(x: &mut Acting) -> bool {
         && matches!(x.cpu(CPU), Ok(CpuView { user: false, .. }))
 }
 
-#[test]
-fn runs_and_naps(rt: HostRuntime) -> Result<(), Fail> {
-    let alloc = rt.alloc();
-    let Some(x) = two_queued(alloc)? else {
-        return Err("the home of a processor".into());
-    };
-    let mut x = sent(x);
-    assert!(rt; lacks_a_queue(&x));
-    let held = x.hand.hold(set_home(alloc)?).is_ok();
-    assert!(rt; held && runs(&mut x) && naps(&mut x));
-    Ok(())
+fn wrong_run(alloc: Global, x: &mut Acting) -> Result<Option<&'static str>, AllocError> {
+    if !queues_two(alloc, x)? {
+        return Ok(Some("the home of a processor"));
+    }
+    if !lacks_a_queue(x) {
+        return Ok(Some("what is ready"));
+    }
+    let held = holds(x, set_home(alloc)?);
+    if !held || !runs(x) || !naps(x) {
+        return Ok(Some("a run and a nap"));
+    }
+    Ok(None)
 }
 
-/// A thread that waits for lock 65 and one that sleeps on channel 2, in homes of which that of the sleepers has five tokens of channel 130.
-fn one_waits_one_sleeps(alloc: Global) -> Result<Option<Acting>, AllocError> {
-    let mut x = acting(alloc)?;
-    let chain = Home::Chain(Boxed::new(alloc, ChainHome::new(1))?);
-    let sleepers = Home::Sleepers(Boxed::new(alloc, SleepersHome::new(2, Four::new(0, 0, 5, 0)))?);
-    if x.hand.hold(chain).is_err() || x.hand.hold(sleepers).is_err() {
-        return Ok(None);
-    }
-    x.hand.put(
-        thread(alloc, 7, true)?,
-        ListId::Waits(LockId(65), Side::Reader),
-    );
-    x.hand
-        .put(thread(alloc, 9, false)?, ListId::Sleeps(ChanId(2)));
-    Ok(Some(x))
+#[test]
+fn runs_and_naps(rt: HostRuntime) -> Result<(), Fail> {
+    judge(&rt, Judged::Run)
+}
+
+fn chain_home(alloc: Global) -> Result<Home, AllocError> {
+    Ok(Home::Chain(Boxed::new(alloc, ChainHome::new(1))?))
+}
+
+/// It has five tokens of channel 130.
+fn sleepers_home(alloc: Global) -> Result<Home, AllocError> {
+    Ok(Home::Sleepers(Boxed::new(alloc, SleepersHome::new(2, Four::new(0, 0, 5, 0)))?))
+}
+
+/// A thread that waits for lock 65 and one that sleeps on channel 2.
+fn one_waits_one_sleeps(alloc: Global, x: &mut Acting) -> Result<bool, AllocError> {
+    let chain = holds(x, chain_home(alloc)?);
+    let sleepers = holds(x, sleepers_home(alloc)?);
+    put(alloc, x, 7, true, ListId::Waits(LockId(65), Side::Reader))?;
+    put(alloc, x, 9, false, ListId::Sleeps(ChanId(2)))?;
+    Ok(chain && sleepers)
 }
 
 fn waits(x: &Acting) -> bool {
@@ -159,13 +182,19 @@ fn is_owned(x: &mut Acting) -> bool {
         && matches!(x.lock(LockId(65)), Ok(LockState::Free))
 }
 
+fn wrong_wait(alloc: Global, x: &mut Acting) -> Result<Option<&'static str>, AllocError> {
+    if !one_waits_one_sleeps(alloc, x)? {
+        return Ok(Some("homes of waiters and sleepers"));
+    }
+    if !waits(x) || !sleeps(x) || !is_owned(x) {
+        return Ok(Some("waiters, sleepers and owners"));
+    }
+    Ok(None)
+}
+
 #[test]
 fn waits_and_sleeps(rt: HostRuntime) -> Result<(), Fail> {
-    let Some(mut x) = one_waits_one_sleeps(rt.alloc())? else {
-        return Err("homes of waiters and sleepers".into());
-    };
-    assert!(rt; waits(&x) && sleeps(&x) && is_owned(&mut x));
-    Ok(())
+    judge(&rt, Judged::Wait)
 }
 
 /// Dispatching clears the mark.
@@ -183,14 +212,18 @@ fn is_done(x: &mut Acting) -> bool {
         && matches!(x.spot(ThreadId(7)), Ok(Spot::Ended))
 }
 
+fn wrong_event(alloc: Global, x: &mut Acting) -> Result<Option<&'static str>, AllocError> {
+    let held = holds(x, cpu_home(alloc)?);
+    put(alloc, x, 7, true, ListId::Queues(CPU))?;
+    if !held || !is_dispatched(x) || !is_done(x) {
+        return Ok(Some("a dispatch and an end"));
+    }
+    Ok(None)
+}
+
 #[test]
 fn events_change_a_hand(rt: HostRuntime) -> Result<(), Fail> {
-    let alloc = rt.alloc();
-    let mut x = acting(alloc)?;
-    let held = x.hand.hold(cpu_home(alloc)?).is_ok();
-    x.hand.put(thread(alloc, 7, true)?, ListId::Queues(CPU));
-    assert!(rt; held && is_dispatched(&mut x) && is_done(&mut x));
-    Ok(())
+    judge(&rt, Judged::Events)
 }
 
 fn open_count(x: &Acting) -> Option<usize> {
@@ -216,15 +249,58 @@ fn closes(x: &mut Acting) -> bool {
         )
 }
 
+/// The home of the set is lacking.
+fn lacks_a_set(x: &mut Acting) -> bool {
+    matches!(x.join(CPU, SetId(0)), Err(Part::Home(_)))
+}
+
+fn wrong_set(alloc: Global, x: &mut Acting) -> Result<Option<&'static str>, AllocError> {
+    if !holds(x, cpu_home(alloc)?) || !lacks_a_set(x) {
+        return Ok(Some("a set that is lacking"));
+    }
+    if !holds(x, set_home(alloc)?) || !joins(x) || !closes(x) {
+        return Ok(Some("a set that is joined and left"));
+    }
+    Ok(None)
+}
+
 #[test]
 fn joins_and_closes(rt: HostRuntime) -> Result<(), Fail> {
-    let alloc = rt.alloc();
-    let mut x = acting(alloc)?;
-    let held = x.hand.hold(cpu_home(alloc)?).is_ok();
-    // The home of the set is lacking.
-    let lacking = matches!(x.join(CPU, SetId(0)), Err(Part::Home(_)));
-    assert!(rt; held && lacking);
-    let held = x.hand.hold(set_home(alloc)?).is_ok();
-    assert!(rt; held && joins(&mut x) && closes(&mut x));
+    judge(&rt, Judged::Set)
+}
+
+/// What is judged of a hand, by one test.
+#[derive(Clone, Copy)]
+enum Judged {
+    Run,
+    Wait,
+    Events,
+    Set,
+}
+
+/// The first that is not as it should be, of a hand that holds nothing.
+fn wrong_of(
+    alloc: Global,
+    x: &mut Acting,
+    judged: Judged,
+) -> Result<Option<&'static str>, AllocError> {
+    match judged {
+        Judged::Run => wrong_run(alloc, x),
+        Judged::Wait => wrong_wait(alloc, x),
+        Judged::Events => wrong_event(alloc, x),
+        Judged::Set => wrong_set(alloc, x),
+    }
+}
+
+/// The first that is not as it should be. It owns the hand for all tests, since a function that drops one takes long to prove.
+fn wrong(alloc: Global, judged: Judged) -> Result<Option<&'static str>, AllocError> {
+    let mut x = sent(acting(alloc)?);
+    wrong_of(alloc, &mut x, judged)
+}
+
+/// All of it is as it should be.
+fn judge<R: Abort + AllocGlobal>(rt: &R, judged: Judged) -> Result<(), Fail> {
+    let wrong = wrong(rt.alloc(), judged)?;
+    assert!(rt; wrong.is_none(), "{wrong:?}");
     Ok(())
 }

@@ -18,16 +18,24 @@ fn put_line(out: &mut Vec<u8>, pieces: &[(&str, u64)], end: &str) -> Result<(), 
     out.extend_from_slice(end.as_bytes())
 }
 
-/// Threads with the numbers 0 to 98 each own their mutex and ask for the next one; thread 99 owns the last.
-fn put_long_chain(text: &mut Vec<u8>) -> Result<(), AllocError> {
-    text.extend_from_slice(b"limit 4\n")?;
+/// A hundred mutexes.
+fn put_mutexes(text: &mut Vec<u8>) -> Result<(), AllocError> {
     for i in 0..100 {
         put_line(text, &[("mutex m", i)], "\n")?;
     }
-    for i in 0..100 {
+    Ok(())
+}
+
+/// So many threads of the fixed-priority class.
+fn put_threads(text: &mut Vec<u8>, count: u64) -> Result<(), AllocError> {
+    for i in 0..count {
         put_line(text, &[("thread t", i)], " fx 60 10 inf\n")?;
     }
-    text.extend_from_slice(b"thread r rt 10 inf\n")?;
+    Ok(())
+}
+
+/// The scripts of those who own a mutex and ask for the next one.
+fn put_chain_scripts(text: &mut Vec<u8>) -> Result<(), AllocError> {
     for i in 0..99 {
         let script = [
             ("script t", i),
@@ -38,6 +46,16 @@ fn put_long_chain(text: &mut Vec<u8>) -> Result<(), AllocError> {
         ];
         put_line(text, &script, "\nend\n")?;
     }
+    Ok(())
+}
+
+/// Threads with the numbers 0 to 98 each own their mutex and ask for the next one; thread 99 owns the last.
+fn put_long_chain(text: &mut Vec<u8>) -> Result<(), AllocError> {
+    text.extend_from_slice(b"limit 4\n")?;
+    put_mutexes(text)?;
+    put_threads(text, 100)?;
+    text.extend_from_slice(b"thread r rt 10 inf\n")?;
+    put_chain_scripts(text)?;
     text.extend_from_slice(b"script t99\nenter m99\nnap 3\nexit m99\nend\n")?;
     text.extend_from_slice(b"script r\nnap 2\nenter m0\nexit m0\nend\n")?;
     Ok(())
@@ -59,16 +77,20 @@ const FIRST_WILL: u64 = 703;
 /// How many threads sleep.
 const SLEEPERS: u64 = 2_047;
 
-/// Each thread but the last sleeps, and the last wakes them all.
-fn put_large_wakeup(text: &mut Vec<u8>) -> Result<(), AllocError> {
-    text.extend_from_slice(b"limit 1\nchan k\n")?;
-    for i in 0..SLEEPERS {
-        put_line(text, &[("thread t", i)], " fx 60 10 inf\n")?;
-    }
-    text.extend_from_slice(b"thread z fx 60 5 inf\n")?;
+/// The scripts of the sleepers.
+fn put_sleeper_scripts(text: &mut Vec<u8>) -> Result<(), AllocError> {
     for i in 0..SLEEPERS {
         put_line(text, &[("script t", i)], "\nsleep k\nend\n")?;
     }
+    Ok(())
+}
+
+/// Each thread but the last sleeps, and the last wakes them all.
+fn put_large_wakeup(text: &mut Vec<u8>) -> Result<(), AllocError> {
+    text.extend_from_slice(b"limit 1\nchan k\n")?;
+    put_threads(text, SLEEPERS)?;
+    text.extend_from_slice(b"thread z fx 60 5 inf\n")?;
+    put_sleeper_scripts(text)?;
     text.extend_from_slice(b"script z\nwakeall k\nend\n")?;
     Ok(())
 }

@@ -1,7 +1,7 @@
 use Rattle.std.proofs.Common.{sym, ap, ◌∙◌}
 use Rattle.sd_world.specs.declared.plain.PlainWorld.{PlainWorld}
 use Rattle.sd_hand_tests.proofs.ReadyLemmas.{stands_own}
-use Rattle.sd_hand_tests.proofs.hostile.journal.Goals as goal
+use Rattle.sd_hand_tests.proofs.hostile.stops_over.Goals as goal
 
 pub new-requires-2-clause-stands : goal.new-requires-2-clause-stands
 new-requires-2-clause-stands g c = stands_own _ c.in_ok-inner.inner c.in_ok-inner.ensures.work c.in_ok-inner.ensures.stands
@@ -18,8 +18,8 @@ run-requires g c = record {
   };
 }
 
-pub into_inner-requires-clause-good : goal.into_inner-requires-clause-good
-into_inner-requires-clause-good g c = c.run.ensures.ready.hostile
+pub is_told-requires-clause-good : goal.is_told-requires-clause-good
+is_told-requires-clause-good g c = c.run.ensures.ready.hostile
 
-pub into_inner-requires-clause-empty : goal.into_inner-requires-clause-empty
-into_inner-requires-clause-empty g c = c.run.ensures.ready.empty
+pub is_told-requires-clause-empty : goal.is_told-requires-clause-empty
+is_told-requires-clause-empty g c = c.run.ensures.ready.empty
