@@ -1,5 +1,5 @@
--- A bitmap of 192 bits in three words.
-use Rattle.std.specs.Prelude.{◌≡◌, ◌≢◌, ℕ, ◌/◌, ◌%◌, ◌<◌, ◌≤◌, List, get_or}
+-- A bitmap, as its words.
+use Rattle.std.specs.Prelude.{◌≡◌, ◌≢◌, ℕ, ◌*◌, ◌/◌, ◌%◌, ◌<◌, ◌≤◌, List, length, get_or}
 use Rattle.std.specs.Int.{bit_at}
 
 -- bit i of the words, 64 to a word, and 0 past the last
@@ -12,4 +12,4 @@ HasBit v i b w = (bit_of w i ≡ b) × ((j : ℕ) → j ≢ i → bit_of w j ≡
 
 -- i is the index of the first bit that is set, of those from m on
 abbrev pub IsNextSet : List ℕ → ℕ → ℕ → Type 0
-IsNextSet words m i = (m ≤ i) × (i < 192) × (bit_of words i ≡ 1) × ((j : ℕ) → m ≤ j → j < i → bit_of words j ≡ 0)
+IsNextSet words m i = (m ≤ i) × (i < 64 * length words) × (bit_of words i ≡ 1) × ((j : ℕ) → m ≤ j → j < i → bit_of words j ≡ 0)

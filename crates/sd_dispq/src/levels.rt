@@ -20,7 +20,7 @@ pub(crate) struct Levels<T> {
 }
 
 impl<T> Model for Levels<T> {
-    ghost use Rattle.std.specs.Prelude.{◌≡◌, ℕ, List, length};
+    ghost use Rattle.std.specs.Prelude.{◌≡◌, ◌<◌, ◌*◌, ℕ, List, length};
     ghost use Rattle.std.specs.Coded.{coded_list};
     ghost use Rattle.sd_dispq.specs.Bitmap.{bit_of};
     ghost use Rattle.sd_dispq.specs.Levels.{level_at, mark_of};
@@ -31,7 +31,7 @@ impl<T> Model for Levels<T> {
 
     ghost view = { λ a. a.queues.items };
 
-    ghost invariant = { λ a. (length a.queues.items ≡ 160) × ((i : ℕ) → bit_of a.busy.words i ≡ mark_of (level_at a.queues.items i)) };
+    ghost invariant = { λ a. (length a.queues.items ≡ 160) × (160 < 64 * length a.busy) × ((i : ℕ) → bit_of a.busy i ≡ mark_of (level_at a.queues.items i)) };
 }
 
 impl<T> Levels<T> {
@@ -47,7 +47,7 @@ impl<T> Levels<T> {
         }
         Ok(Levels {
             queues,
-            busy: Bitmap::new(),
+            busy: Bitmap::new(alloc, LEVELS as u16)?,
         })
     }
 

@@ -7,5 +7,6 @@ pub mod laws;
 mod levels;
 mod queue;
 
+pub use bitmap::Bitmap;
 pub use items::Items;
 pub use queue::DispQueue;

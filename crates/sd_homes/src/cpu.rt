@@ -52,7 +52,7 @@ impl Model for CpuHome {
 
 #[tactic(auto, using(crate::proofs::Lengths::length_dropped, crate::proofs::Lengths::length_inserted))]
 impl CpuHome {
-    /// The home of a processor with no thread. A thread on its queue is found at once by its number, if that is below `threads`.
+    /// The home of a processor with no thread. A thread on its queue is sought by its number, if that is below `threads`, in the level where it stands.
     pub fn new(
         alloc: Global,
         cpu: CpuId,

@@ -1,4 +1,5 @@
-//! A dispatch queue of threads, in which one that comes behind all that came before it is put at the back of its priority at once.
+//! A dispatch queue of threads, in which one that comes behind all that came before it is put at the back of its priority at once, and one
+//! that is sought by its number is sought in the level on which it stands, as long as no two have one number (`ready_index.rt`).
 
 ghost use Rattle.std.specs.Prelude.{◌≡◌, ◌<◌, ◌≤ℤ◌, [], IfOk, None, Some, MatchOption, option_map};
 ghost use Rattle.std.specs.Option.{option_copied};
@@ -6,11 +7,11 @@ ghost use Rattle.sd_boxq.specs.Order.{find_id, drop_id, insert_ranked};
 ghost use Rattle.sd_homes.specs.Standing.{ages, earlier, id_of, key_in, least_to_age, rank_of};
 ghost use Rattle.sd_homes.specs.Newest.{KeysAtMost};
 
-use crate::ready_index::{Found, ReadyIndex};
+use crate::ready_index::{Found, ReadyIndex, is_time_sharing};
 use sd_boxq::Node;
 use sd_dispq::{DispQueue, Items};
 use sd_record::Record;
-use sd_types::{ClassState, ThreadId};
+use sd_types::ThreadId;
 use std::alloc::{AllocError, Global};
 use std::marker::Model;
 
@@ -129,7 +130,7 @@ impl ReadyQueue {
 fn ages(u: ThreadId, thread: &Record) -> bool
     ensures { result ≡ ages u.0 thread.now }
 {
-    u.0 <= thread.id.0 && matches!(thread.body.class, ClassState::Ts(_))
+    u.0 <= thread.id.0 && is_time_sharing(thread)
 }
 
 /// The number of the first time-sharing thread with this number or a greater one, and the threads behind it.

@@ -1,29 +1,25 @@
 //! Where the threads of a dispatch queue stand, by their numbers: a thread is looked up in the one level of the queue on which it stands, and the
-//! next one to age without a look at any other.
+//! next one to age in a bitmap of those that age.
 
 ghost use Rattle.std.specs.Prelude.{◌≡◌, List, [], IfOk, option_map, true};
 ghost use Rattle.sd_boxq.specs.Order.{find_id, drop_id, insert_ranked};
 ghost use Rattle.sd_record.specs.Records.{ThreadRecord};
+ghost use Rattle.sd_machine.specs.Threads.{is_ts};
 ghost use Rattle.sd_homes.specs.Standing.{id_of, key_in, least_to_age, rank_of};
-ghost use Rattle.sd_homes.specs.ReadyIndexes.{Indexes, Tells, ages_there, noted_at, noted_of};
+ghost use Rattle.sd_homes.specs.ReadyIndexes.{Indexes, Tells, priority_at};
 
+use sd_dispq::Bitmap;
 use sd_record::Record;
 use sd_types::{ClassState, ThreadId};
 use std::alloc::{AllocError, Global};
 
-/// A thread that stands on a queue: its priority, and whether it is a time-sharing one, which ages there.
-#[derive(Clone, Copy)]
-pub(crate) struct ReadyThread {
-    priority: u8,
-    is_time_sharing: bool,
-}
-
-/// For each number which thread with it stands on a queue. It is exact as long as no two threads on the queue have one number and none has a
-/// number that is too great for it, which holds in every run; it need not be known here.
+/// For each number the priority of the thread with it that stands on a queue, and whether that is a time-sharing one, which ages there. It is exact
+/// as long as no two threads on the queue have one number and none has a number that is too great for it; then it tells exactly what a scan of
+/// the queue would, and else it says so.
 #[derive(Drop)]
 pub(crate) struct ReadyIndex {
-    threads: Vec<Option<ReadyThread>>,
-    count: u16,
+    priorities: Vec<Option<u8>>,
+    ageing: Bitmap,
     is_exact: bool,
 }
 
@@ -35,25 +31,12 @@ pub(crate) enum Found {
     Unknown,
 }
 
-/// What is noted of a thread.
-fn noted_of(thread: &Record) -> ReadyThread
-    ensures { result ≡ noted_of thread.now }
-{
-    ReadyThread {
-        priority: thread.effective(),
-        is_time_sharing: matches!(thread.body.class, ClassState::Ts(_)),
-    }
-}
-
-/// Whether a thread is noted that ages.
+/// Whether the thread is a time-sharing one.
 #[inline(always)]
-fn ages_there(thread: Option<ReadyThread>) -> bool
-    ensures { result ≡ ages_there thread }
+pub(crate) fn is_time_sharing(thread: &Record) -> bool
+    ensures { result ≡ is_ts thread.now.body.class }
 {
-    match thread {
-        None => false,
-        Some(thread) => thread.is_time_sharing,
-    }
+    matches!(thread.body.class, ClassState::Ts(_))
 }
 
 impl ReadyIndex {
@@ -61,13 +44,13 @@ impl ReadyIndex {
     pub(crate) fn new(alloc: Global, count: u16) -> Result<ReadyIndex, AllocError>
         ensures { IfOk result (λ k. Indexes k []) }
     {
-        let mut threads = Vec::with_capacity(alloc, count as usize)?;
+        let mut priorities = Vec::with_capacity(alloc, count as usize)?;
         for _ in 0..count {
-            threads.push_reserved(None);
+            priorities.push_reserved(None);
         }
         Ok(ReadyIndex {
-            threads,
-            count,
+            priorities,
+            ageing: Bitmap::new(alloc, count)?,
             is_exact: true,
         })
     }
@@ -80,13 +63,13 @@ impl ReadyIndex {
         self.is_exact
     }
 
-    /// What is noted under a number.
+    /// The priority that is noted under a number.
     #[inline(always)]
-    fn noted_at(&self, i: usize) -> Option<ReadyThread>
-        ensures { result ≡ noted_at self.now.threads.items i }
+    fn priority_at(&self, i: usize) -> Option<u8>
+        ensures { result ≡ priority_at self.now.priorities.items i }
     {
-        if i < self.threads.len() {
-            self.threads[i]
+        if i < self.priorities.len() {
+            self.priorities[i]
         } else {
             None
         }
@@ -100,9 +83,9 @@ impl ReadyIndex {
         if !self.is_exact {
             return Found::Unknown;
         }
-        match self.noted_at(id as usize) {
+        match self.priority_at(id as usize) {
             None => Found::Nowhere,
-            Some(thread) => Found::At(thread.priority),
+            Some(priority) => Found::At(priority),
         }
     }
 
@@ -112,15 +95,14 @@ impl ReadyIndex {
         ensures { (rs : List ThreadRecord) → Indexes self.old rs → Indexes self.new (insert_ranked rank_of key_in thread.now rs) }
     {
         let i = thread.id.0 as usize;
-        if self.threads.len() <= i {
+        if self.priorities.len() <= i || self.priorities[i].is_some() {
             self.is_exact = false;
             return;
         }
-        if self.threads[i].is_some() {
-            self.is_exact = false;
-            return;
+        self.priorities[i] = Some(thread.effective());
+        if is_time_sharing(thread) {
+            self.ageing.set(i);
         }
-        self.threads[i] = Some(noted_of(thread));
     }
 
     /// Forgets the first thread with this number, which leaves the queue.
@@ -129,20 +111,20 @@ impl ReadyIndex {
         ensures { (rs : List ThreadRecord) → Indexes self.old rs → Indexes self.new (drop_id id_of id rs) }
     {
         let i = id as usize;
-        if i < self.threads.len() {
-            self.threads[i] = None;
+        if i < self.priorities.len() {
+            self.priorities[i] = None;
+            self.ageing.clear(i);
         }
     }
 
     /// The least number, from `u` on, of a time-sharing thread on the queue, where the index is exact.
+    #[inline(always)]
     pub(crate) fn next_to_age(&self, u: ThreadId) -> Option<ThreadId>
         ensures { (rs : List ThreadRecord) → self.now.is_exact ≡ true → Indexes self.now rs → option_map (λ t. t.0) result ≡ least_to_age u.0 rs }
     {
-        for i in u.0..self.count {
-            if ages_there(self.noted_at(i as usize)) {
-                return Some(ThreadId(i));
-            }
+        match self.ageing.next_set(u.0 as usize) {
+            None => None,
+            Some(i) => Some(ThreadId(i as u16)),
         }
-        None
     }
 }

@@ -50,8 +50,8 @@ impl Model for RealTimeHome {
 
 #[tactic(auto, using(crate::proofs::Lengths::length_dropped, crate::proofs::Lengths::length_inserted))]
 impl RealTimeHome {
-    /// The home of a partition with no real-time thread, whose set has these open processors. A thread on its queue is found at once by its
-    /// number, if that is below `threads`.
+    /// The home of a partition with no real-time thread, whose set has these open processors. A thread on its queue is sought by its
+    /// number, if that is below `threads`, in the level where it stands.
     pub fn new(
         alloc: Global,
         set: SetId,

@@ -1,8 +1,9 @@
-use Rattle.sd_dispq.proofs.Bits.{HasBit-clear}
-use Rattle.std.proofs.Common.{◌≡◌, length, arith}
+use Rattle.sd_dispq.proofs.Bits.{bit_cleared}
+use Rattle.std.proofs.Common.{arith}
 use Rattle.sd_dispq.proofs.bitmap.Bitmap.clear.Goals as goal
 
-pub returns : goal.returns
-returns c =
-    let three : length c.args.self.now.words ≡ 3 = omega arith in
-    HasBit-clear c.args.self.now.words c.args.index c.requires three
+pub returns-then-number-len-clause-bits : goal.returns-then-number-len-clause-bits
+returns-then-number-len-clause-bits c =
+    let l = c.len.ensures in
+    let n = c.if-number-len.true in
+    bit_cleared c.self.inside.words.items c.args.self.now c.args.index c.index_mut.result.now c.self.view_is (omega arith) c.index_mut.ensures.value

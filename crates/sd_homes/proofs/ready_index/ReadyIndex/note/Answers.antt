@@ -1,17 +1,35 @@
-use Rattle.std.proofs.Common.{◌≡◌, ◌<◌, None, Some, ap, arith, length, set, subst, sym, ◌∙◌}
-use Rattle.sd_homes.specs.ReadyIndexes.{IsIndexOf, noted_at}
-use Rattle.sd_homes.specs.Standing.{id_of, key_in, rank_of}
-use Rattle.sd_boxq.specs.Order.{insert_ranked}
-use Rattle.sd_homes.proofs.IndexLemmas.{index_put, vacant}
+use Rattle.std.proofs.Common.{◌≡◌, ◌*◌, ◌<◌, None, ap, arith, length, refl, sym, ◌∙◌}
+use Rattle.sd_dispq.specs.Bitmap.{HasBit}
+use Rattle.sd_machine.specs.Threads.{is_ts}
+use Rattle.sd_homes.specs.ReadyIndexes.{IsIndexOf, priority_at}
+use Rattle.sd_homes.specs.Standing.{id_of}
+use Rattle.sd_homes.proofs.IndexLemmas.{marked, noted_as, unmarked, vacant}
 use Rattle.sd_homes.proofs.ready_index.ReadyIndex.note.Goals as goal
 
-pub returns : goal.returns
-returns c = λ rs h e.
-    let ns = c.args.self.now.threads.items in
+pub returns-then-is_time_sharing : goal.returns-then-is_time_sharing
+returns-then-is_time_sharing c = λ rs h e.
+    let ps = c.args.self.now.priorities.items in
+    let ws = c.args.self.now.ageing in
     let x = c.args.thread.now in
-    let own : c.thread.inside.id.0 ≡ id_of x = ap id_of c.thread.view_is in
+    let i = c.thread.inside.id.0 in
     let l = c.len.ensures in
-    let none : noted_at ns c.thread.inside.id.0 ≡ None = vacant ns c.thread.inside.id.0 c.index.result.now c.index.ensures (sym c.is_some.ensures ∙ c.if-is_some.false) in
-    subst (λ j. IsIndexOf c.args.self.now.count (set ns j (Some c.noted_of.result)) (insert_ranked rank_of key_in x rs)) (sym own)
-    (subst (λ n. IsIndexOf c.args.self.now.count (set ns (id_of x) (Some n)) (insert_ranked rank_of key_in x rs)) (sym c.noted_of.ensures)
-    (index_put c.args.self.now.count ns x rs (subst (λ j. j < length ns) own (omega arith)) (subst (λ j. noted_at ns j ≡ None) own none) (h e)))
+    let index : IsIndexOf ps ws rs = h e in
+    let none : priority_at ps i ≡ None = vacant ps i c.index.result.now c.index.ensures (sym c.is_some.ensures ∙ c.if-is_some.false) in
+    let below : i < length ps = omega arith in
+    let fit = index.fit in
+    let room : i < 64 * length ws = omega arith in
+    let bits : HasBit ws i 1 c.set.new.self = c.set.ensures.bits room in
+    noted_as x i c.effective.result ps ws c.set.new.self rs (ap id_of c.thread.view_is) c.effective.ensures.value below none bits.1
+    (marked (is_ts x.body.class) _ bits.0 (sym c.is_time_sharing.ensures ∙ c.if-is_time_sharing.true)) c.set.ensures.size index
+
+pub returns-else-is_time_sharing : goal.returns-else-is_time_sharing
+returns-else-is_time_sharing c = λ rs h e.
+    let ps = c.args.self.now.priorities.items in
+    let ws = c.args.self.now.ageing in
+    let x = c.args.thread.now in
+    let i = c.thread.inside.id.0 in
+    let l = c.len.ensures in
+    let index : IsIndexOf ps ws rs = h e in
+    let none : priority_at ps i ≡ None = vacant ps i c.index.result.now c.index.ensures (sym c.is_some.ensures ∙ c.if-is_some.false) in
+    noted_as x i c.effective.result ps ws ws rs (ap id_of c.thread.view_is) c.effective.ensures.value (omega arith) none (λ j n. refl)
+    (unmarked (is_ts x.body.class) ps ws i rs index none (sym c.is_time_sharing.ensures ∙ c.if-is_time_sharing.false)) refl index
