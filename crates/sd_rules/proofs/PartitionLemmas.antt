@@ -1,21 +1,19 @@
 -- What a valid workload's partitions are.
-use Rattle.std.proofs.Common.{◌≡◌, ◌≢◌, ℕ, zero, suc, ◌+◌, ◌<◌, ◌≤◌, Bool, true, false, not, ◌||◌, List, [], ◌∷◌, ◌++◌, length, map, filter, get_or, ◌⊎◌, inl, inr, Some, refl, sym, ap, ◌∙◌, subst, arith, add-zero, zero-add, add-one, append-nil, slice_get, nat_lt, ◌==◌, Contains}
+use Rattle.std.proofs.Common.{◌≡◌, ◌≢◌, ℕ, zero, suc, ◌+◌, ◌<◌, ◌≤◌, Bool, true, false, not, ◌||◌, List, [], ◌∷◌, ◌++◌, length, map, filter, get_or, ◌⊎◌, inl, inr, Some, refl, sym, ap, ◌∙◌, subst, arith, append-nil, slice_get, nat_lt, ◌==◌, Contains}
 use Rattle.std.specs.List.{list_any, list_all, range_with_len}
-use Rattle.std.proofs.lemmas.Bool.{eq-eqb, eqb-true, cases_eq, false≢true, cases_Bool, and_from}
+use Rattle.std.proofs.lemmas.Bool.{eq-eqb, eqb-true, cases_eq, false≢true, cases_Bool}
 use Rattle.std.proofs.lemmas.Bool.Decides.{nat_tests}
 use Rattle.std.proofs.lemmas.List.{map-append}
 use Rattle.std.proofs.lemmas.List.Elements.{filter-append}
-use Rattle.std.proofs.lemmas.List.FromFn.{length-map-range_with_len, get_or-map-range_with_len, map-range_with_len_more}
 use Rattle.std.proofs.lemmas.Option.{slice_get_cases, same_Some}
 use Rattle.sd_basics.proofs.Ranges.{range_more}
 use Rattle.sd_basics.proofs.Lists.{all_at}
 use Rattle.sd_types.specs.declared.numbers.CpuId.{CpuId}
-use Rattle.sd_types.specs.declared.numbers.SetId.{SetId}
 use Rattle.sd_types.specs.declared.names.Name.{Name}
 use Rattle.sd_types.specs.declared.works.Work.{Work}
 use Rattle.sd_types.specs.Works.{same_cpu, is_distinct, set_cpus, set_fits}
 use Rattle.sd_types.specs.Partitions.{set_naming, set_of_cpu, cpus_of_set, cpu_of_number}
-use Rattle.sd_rules.specs.Lists.{is_rising, is_partition, sets_of, lists_of, set_of_number}
+use Rattle.sd_rules.specs.Lists.{is_rising}
 use Rattle.sd_types.proofs.SameLemmas.{same_cpu as same_number}
 
 abbrev names : ℕ → List CpuId → Bool
@@ -285,30 +283,6 @@ in_no_other w c p h =
     let f = passing-named w.cpus 0 c.0 (λ x. set_of_cpu w x == p) (names-from_Contains c (cpus_of_set w p) h) in
     (omega arith, eqb-true _ p f.2)
 
-is_partition-from : (cpus : List CpuId) → 0 < length cpus → is_rising cpus ≡ true → is_partition cpus ≡ true
-is_partition-from cpus h r = grind (arith, nat_tests)
-
-all_partitions : (w : Work) (n a : ℕ) → a + n ≤ length w.sets + 1 → list_all is_partition (map (cpus_of_set w) (range_with_len a n)) ≡ true
-all_partitions w zero a h = refl
-all_partitions w (suc n) a h =
-    let rest = all_partitions w n (a + 1) (omega arith) in
-    let here = is_partition-from (cpus_of_set w a) (some_cpu w a (omega arith)) (rising_cpus w a) in
-    and_from (is_partition (cpus_of_set w a)) (list_all is_partition (map (cpus_of_set w) (range_with_len (a + 1) n))) here rest
-
-pub lists_stand : (w : Work) → list_all is_partition (lists_of w) ≡ true
-lists_stand w = all_partitions w (length w.sets + 1) 0 (omega arith)
-
--- what the lists of a workload have at an index
-pub sets-at : (w : Work) (c : ℕ) (d : SetId) → c < length (sets_of w) → (get_or (sets_of w) c d).0 ≡ set_of_cpu w c
-sets-at w c d h =
-    let long = length-map-range_with_len (λ x. set_of_number (set_of_cpu w x)) 0 w.cpus in
-    ap (λ (s : SetId). s.0) (get_or-map-range_with_len (λ x. set_of_number (set_of_cpu w x)) 0 w.cpus c c d (omega arith) (omega arith))
-
-pub lists-at : (w : Work) (p : ℕ) (d : List CpuId) → p < length (lists_of w) → get_or (lists_of w) p d ≡ cpus_of_set w p
-lists-at w p d h =
-    let long = length-map-range_with_len (cpus_of_set w) 0 (length w.sets + 1) in
-    get_or-map-range_with_len (cpus_of_set w) 0 (length w.sets + 1) p p d (omega arith) (omega arith)
-
 -- ---- one more number
 
 -- one more processor that is in the set
@@ -318,27 +292,3 @@ passing-more_in n p h = rw (range_more n, filter-append, map-append, h) refl
 -- and one that is not
 pub passing-more_out : (n : ℕ) (p : ℕ → Bool) → p n ≡ false → map cpu_of_number (filter p (range_with_len 0 (n + 1))) ≡ map cpu_of_number (filter p (range_with_len 0 n))
 passing-more_out n p h = rw (range_more n, filter-append, map-append, h, append-nil) refl
-
--- one more set of a processor
-pub sets-more : (w : Work) (n : ℕ) (xs ys : List SetId) (s : SetId) → xs ≡ map (λ c. set_of_number (set_of_cpu w c)) (range_with_len 0 n) → s.0 ≡ set_of_cpu w n
-    → ys ≡ xs ++ s ∷ [] → ys ≡ map (λ c. set_of_number (set_of_cpu w c)) (range_with_len 0 (n + 1))
-sets-more w n xs ys s e same pushed =
-    pushed ∙ ap (λ (zs : List SetId). zs ++ s ∷ []) e
-    ∙ ap (λ (k : ℕ). map (λ c. set_of_number (set_of_cpu w c)) (range_with_len 0 n) ++ set_of_number k ∷ []) same
-    ∙ sym (map-range_with_len_more (λ c. set_of_number (set_of_cpu w c)) 0 n n (zero-add n))
-
--- one more list of processors
-pub lists-more : (w : Work) (n : ℕ) (xs ys : List (List CpuId)) (cpus : List CpuId) → xs ≡ map (cpus_of_set w) (range_with_len 0 n) → cpus ≡ cpus_of_set w n
-    → ys ≡ xs ++ cpus ∷ [] → ys ≡ map (cpus_of_set w) (range_with_len 0 (n + 1))
-lists-more w n xs ys cpus e same pushed =
-    pushed ∙ ap (λ (zs : List (List CpuId)). zs ++ cpus ∷ []) e
-    ∙ ap (λ (k : List CpuId). map (cpus_of_set w) (range_with_len 0 n) ++ k ∷ []) same
-    ∙ sym (map-range_with_len_more (cpus_of_set w) 0 n n (zero-add n))
-
--- ---- sizes
-
-pub length-sets : (w : Work) → length (sets_of w) ≡ w.cpus
-length-sets w = length-map-range_with_len (λ c. set_of_number (set_of_cpu w c)) 0 w.cpus
-
-pub length-lists : (w : Work) → length (lists_of w) ≡ length w.sets + 1
-length-lists w = length-map-range_with_len (cpus_of_set w) 0 (length w.sets + 1)

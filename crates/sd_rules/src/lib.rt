@@ -10,7 +10,5 @@ mod partitions;
 
 pub use choice_laws::{functions_choose, one_choice, one_victim};
 pub use choices::{choose, victim};
-pub use partition_laws::{
-    each_in_one, partitions_are_sets, partitions_have_sizes, partitions_stand,
-};
-pub use partitions::{Partitions, cpus_of_set, set_of_cpu};
+pub use partition_laws::{each_in_one, partitions_are_sets, partitions_stand};
+pub use partitions::{cpus_of_set, set_of_cpu};

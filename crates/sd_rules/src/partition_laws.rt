@@ -5,7 +5,7 @@ ghost use Rattle.sd_types.specs.declared.numbers.CpuId.{CpuId};
 ghost use Rattle.sd_types.specs.declared.names.Name.{Name};
 ghost use Rattle.sd_types.specs.declared.works.Work.{Work};
 ghost use Rattle.sd_types.specs.Partitions.{set_of_cpu, cpus_of_set};
-ghost use Rattle.sd_rules.specs.Lists.{is_rising, partitions_of};
+ghost use Rattle.sd_rules.specs.Lists.{is_rising};
 
 /// Each processor is in one partition and in no other: it is in that of its set alone.
 pub fn each_in_one()
@@ -17,12 +17,6 @@ pub fn each_in_one()
 pub fn partitions_are_sets()
     ensures { (work : Work) (i : ℕ) (set : Name × List CpuId) (c : CpuId) → slice_get work.sets i ≡ Some set
         → Contains set.1 c ↔ (set_of_cpu work c.0 ≡ i + 1) }
-{}
-
-/// As many processors and sets as the workload has, with the default partition.
-pub fn partitions_have_sizes()
-    ensures processors { (work : Work) → length (partitions_of work).sets ≡ work.cpus }
-    ensures sets { (work : Work) → length (partitions_of work).cpus ≡ length work.sets + 1 }
 {}
 
 /// No partition is empty, also the default partition, and the processors of each are in rising order.
