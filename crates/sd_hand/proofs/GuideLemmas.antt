@@ -1,5 +1,5 @@
 -- Homes of different numbers: a home that was guessed is the one, and one that changes stays apart from the others.
-use Rattle.std.proofs.Common.{◌≡◌, ℕ, zero, suc, ◌<◌, Bool, true, false, is_some, inl, inr, List, [], ◌∷◌, length, get_or, set, slice_get, Option, Some, None, refl, sym, ap, ◌∙◌, subst, arith, Bor, ◌≤◌}
+use Rattle.std.proofs.Common.{◌≡◌, ℕ, zero, suc, ◌<◌, Bool, true, false, is_some, inl, inr, List, [], ◌∷◌, length, get_or, set, slice_get, Option, Some, None, refl, sym, ap, ◌∙◌, subst, arith, Bor}
 use Rattle.std.specs.Option.{option_copied}
 use Rattle.std.specs.Prelude.{slice_set}
 use Rattle.std.proofs.lemmas.List.{set-get_or}
@@ -102,10 +102,6 @@ held_here x hs k i h m shown =
 pub same_held : (x : HandSlots) (hs : List (Option Home)) (k : HomeId) (i : ℕ) (h g : Home) (m : Option Home) → ShowsSlots x hs → IsSlot k x.slots i → m ≡ get_or hs i m → m ≡ Some h
     → held k x.slots ≡ Some g → h ≡ g
 same_held x hs k i h g m shown slot e is there = let here = held_here x hs k i h m shown slot e is in cc
-
-pub slot_there : (x : HandSlots) (hs : List (Option Home)) (k : HomeId) (i : ℕ) (m : Option Home) → ShowsSlots x hs → IsSlot k x.slots i → m ≡ get_or hs i m → m ≡ None → ⊥
-slot_there x hs k i m shown =
-    subst (λ y. IsSlot k y.slots i → m ≡ get_or hs i m → m ≡ None → ⊥) shown (λ slot e none. not_both m slot.home hs i (sym e ∙ none) slot.there)
 
 -- a home that is as it was leaves all as it was
 pub kept_here : (x : HandSlots) (hs : List (Option Home)) (i : ℕ) (h g : Home) (m : Option Home) → ShowsSlots x hs → m ≡ get_or hs i m → m ≡ Some h → g ≡ h → slice_set hs i (Some g) ≡ x.slots

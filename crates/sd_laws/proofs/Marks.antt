@@ -22,7 +22,6 @@ use Rattle.sd_machine.specs.Runs.{IsReached}
 use Rattle.sd_state.specs.Invariants.{is_marked, MarksStand}
 use Rattle.sd_state.proofs.Chosen.{running_not_queued}
 use Rattle.sd_state.proofs.Openings.{opening_runs_none, opening_unmarked}
-use Rattle.sd_machine.proofs.Moves.{IsPut}
 use Rattle.sd_frames.specs.Causes.{IsCause}
 use Rattle.sd_invariants.specs.Laws.{HoldsWhenReached, is_runnable}
 use Rattle.sd_invariants.proofs.Movers.{bind_thread, bind_put_is}
@@ -69,9 +68,6 @@ module _ (s r : State) (one : Single s) (there : RunnersThere s) (marked : Marke
   pub puts_marked : (t : ℕ) (place : Place) (x : Weight) → Puts All s r t place x → IsOff place → IsOff (thread_of s t).place → Marked r
   puts_marked t place x a off was = record { wanted = wanted; busy = busy }
     where
-      moves : IsPut t place (λ i. (thread_of s i).place) (λ i. (thread_of r i).place)
-      moves = record { at = a.goes.places.at; others = a.goes.places.others }
-
       wanted : (d v u : ℕ) → is_running d (thread_of r v).place ≡ true → is_queued d (thread_of r u).place ≡ true → eff_of r v < eff_of r u → is_marked (cpu_of r d) ≡ true
       wanted d v u rv qu less =
           let other : v ≢ t = off_other t place d v off a.goes.places.at rv in

@@ -1,17 +1,13 @@
 -- Entries that are kept short: how many there are, which one lies at a place, and what one more makes of them.
-use Rattle.std.proofs.Common.{◌≡◌, ℕ, zero, suc, ◌+◌, ◌<◌, ◌≤◌, List, [], ◌∷◌, ◌++◌, length, get_or, slice_get, take, drop, Option, None, Some, refl, sym, ap, ◌∙◌, arith, add-zero, length-drop}
-use Rattle.std.proofs.lemmas.List.{take-append-le, take_all, drop-append-le}
-use Rattle.std.proofs.Math.Seq.{drop-append_seam}
+use Rattle.std.proofs.Common.{◌≡◌, ℕ, zero, suc, ◌+◌, ◌<◌, ◌≤◌, List, [], ◌∷◌, ◌++◌, length, get_or, slice_get, take, drop, Some, refl, sym, ap, ◌∙◌, arith, add-zero, length-drop}
+use Rattle.std.proofs.lemmas.List.{take-append-le, drop-append-le}
 use Rattle.sd_types.specs.declared.events.Entry.{Entry}
-use Rattle.sd_types.specs.declared.events.Hints.{Hints}
-use Rattle.sd_types.specs.declared.events.Which.{Which}
-use Rattle.sd_types.specs.declared.events.Which.TheVariants.{Running as OfRunning, Queued as OfQueued}
 use Rattle.sd_log.specs.declared.short.ShortEntry.{ShortEntry}
 use Rattle.sd_log.specs.Logged.{AreWithin, entries_from}
 use Rattle.sd_log.specs.declared.short.Reading.{Reading}
 use Rattle.sd_log.specs.declared.short.Reading.TheVariants.{Nothing, Running, Queued, Zeros}
-use Rattle.sd_log.specs.Parts.{hints_of, numbers_of}
-use Rattle.sd_log.specs.Short.{IsWithin, bytes_of, entry_at, kind_of, numbers_at, reading_by, reading_of}
+use Rattle.sd_log.specs.Parts.{hints_of}
+use Rattle.sd_log.specs.Short.{IsWithin, bytes_of, entry_at, kind_of, numbers_at}
 
 pub entries-length : (bytes : List ℕ) (n : ℕ) (xs : List ShortEntry) → length (entries_from bytes n xs) ≡ length xs
 unfolding entries_from
@@ -47,26 +43,6 @@ entry-grows : (bytes more : List ℕ) (n : ℕ) (x : ShortEntry) → IsWithin (l
 entry-grows bytes more n x within =
     ap (λ (ns : List ℕ). let e : Entry = record { number = n; cpu = x.cpu; event = x.event; hints = hints_of (kind_of x.reading) ns } in e)
     (numbers-grow bytes more x.reading x.from x.count within.inside)
-
--- what was put behind the others is read again
-put-again : (bytes ns : List ℕ) → take (length ns) (drop (length bytes) (bytes ++ ns)) ≡ ns
-put-again bytes ns = ap (take (length ns)) (drop-append_seam bytes ns) ∙ take_all (length ns) ns (omega arith)
-
-pub hints-again : (bytes : List ℕ) (hints : Option Hints)
-    → hints_of (kind_of (reading_of hints)) (numbers_at (bytes ++ numbers_of hints) (reading_of hints) (length bytes) (length (numbers_of hints))) ≡ hints
-hints-again bytes None = refl
-hints-again bytes (Some h) = by h.which h.numbers.items
-  where
-    by : (k : Which) (ns : List ℕ) → hints_of (kind_of (reading_by k)) (numbers_at (bytes ++ ns) (reading_by k) (length bytes) (length ns)) ≡ Some (record { which = k; numbers = record { items = ns } })
-    by OfRunning ns = ap (λ (ms : List ℕ). let h : Hints = record { which = OfRunning; numbers = record { items = ms } } in Some h) (put-again bytes ns)
-    by OfQueued ns = ap (λ (ms : List ℕ). let h : Hints = record { which = OfQueued; numbers = record { items = ms } } in Some h) (put-again bytes ns)
-
--- no numbers take more bytes than one each
-pub bytes-few : (r : Reading) (count : ℕ) → bytes_of r count ≤ count
-bytes-few Nothing count = omega arith
-bytes-few Running count = omega arith
-bytes-few Queued count = omega arith
-bytes-few Zeros count = omega arith
 
 pub entries-grow : (bytes more : List ℕ) (n : ℕ) (xs : List ShortEntry) → AreWithin (length bytes) xs
     → entries_from (bytes ++ more) n xs ≡ entries_from bytes n xs

@@ -168,12 +168,6 @@ module _ (g h : Graph) where
       looped = λ u is. inl (sym (b.looped u) ∙ is);
     }
       where
-        wait : Wait
-        wait = record { lock = l; key = n }
-
-        walk : Walk
-        walk = record { lock = l; seek = t; key = n }
-
         came : (u : ℕ) (w : Wait) → h.waits u ≡ Some w → (g.waits u ≡ Some w) ⊎ (w.key ≡ n)
         came u w is = elim (put_cases t _ g.waits h.waits b.waits u) [
           | inl mine ↦ inr (ap (λ (x : Wait). x.key) (same_Some w (record { lock = l; key = n }) (sym is ∙ mine.1)))

@@ -8,9 +8,8 @@ use Rattle.sd_types.specs.declared.events.Hints.{Hints}
 use Rattle.sd_types.specs.declared.works.Work.{Work}
 use Rattle.sd_state.specs.declared.states.State.{State}
 use Rattle.sd_machine.specs.Events.{next}
-use Rattle.sd_state.specs.Opening.{opening}
-use Rattle.sd_machine.specs.Runs.{final, IsRunFrom, IsRun, serial_hints, made, turn, round, round_after, rounds}
-use Rattle.sd_machine.proofs.RunLemmas.{IsRunFrom-append, IsRunFrom-one, IsRunFrom-nil, IsRun-append, final-nil, final-append}
+use Rattle.sd_machine.specs.Runs.{final, IsRunFrom, serial_hints, made, turn, round, round_after, rounds}
+use Rattle.sd_machine.proofs.RunLemmas.{IsRunFrom-append, IsRunFrom-one, IsRunFrom-nil, final-nil}
 
 nil_left : {X : Type 0} (xs ys : List X) → xs ++ ys ≡ [] → xs ≡ []
 nil_left [] ys e = refl
@@ -40,9 +39,6 @@ module _ (w : Work) where
   round_run s n (c ∷ cs) =
       IsRunFrom-append w s n (turn w s n c) (round w (final w s (turn w s n c)) (n + length (turn w s n c)) cs)
       (turn_run s n c (serial_hints w s c) (next w s c (serial_hints w s c)) refl) (round_run (final w s (turn w s n c)) (n + length (turn w s n c)) cs)
-
-  pub run_round : (es : List Entry) (cs : List CpuId) → IsRun w es → IsRun w (es ++ round_after w cs es)
-  run_round es cs r = IsRun-append w es (round_after w cs es) r (round_run (final w (opening w) es) (length es) cs)
 
   no_turn : (s : State) (n : ℕ) (c : CpuId) (h : Option Hints) (o : Option Event) → next w s c h ≡ o → made n c h o ≡ [] → next w s c h ≡ None
   no_turn s n c h None e m = e

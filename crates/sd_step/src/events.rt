@@ -11,7 +11,7 @@ ghost use Rattle.sd_machine.specs.Needs.{CanCount};
 ghost use Rattle.sd_state.specs.declared.states.State.{State};
 ghost use Rattle.sd_dispatcher.specs.Reading.{parts};
 ghost use Rattle.sd_dispatcher.specs.Touched.{victim_parts};
-ghost use Rattle.sd_step.specs.Needed.{choice_parts, next_parts, read_parts, reads_parts, turn_parts};
+ghost use Rattle.sd_step.specs.Needed.{choice_parts, next_parts, read_parts, turn_parts};
 ghost use Rattle.sd_store.specs.Parts.{ready_parts};
 ghost use Rattle.sd_store.specs.Words.{Lacks, LacksIf, Tells, TellsIf};
 
@@ -89,16 +89,6 @@ pub fn plan_reads<L: Look>(
         Plan::Place(placement, _) => reads_for(work, x, c, placed_thread(placement)),
         Plan::Search => reads_to_steal(x, c),
     }
-}
-
-/// What processor `c` reads before its event, None where it reads nothing.
-#[tactic(auto, using(sd_store::proofs::Among::among_left, sd_store::proofs::Among::among_right), unfolding(sd_machine::specs::Hints::reads))]
-pub fn reads<L: Look>(work: &Work, x: &L, c: CpuId) -> Result<Option<Reading>, L::Lack>
-    ensures value { IfOk result (λ r. (n : ℕ) (s : State) → L.shows x.now n s → ((k : ChanIdOf) → CanCount s k) → option_map parts r ≡ reads work.now s c.0) }
-    ensures lack { LacksIf L.part (L.shows x.now) (L.has x.now) result (λ s. (k : ChanIdOf) → CanCount s k) (λ s. reads_parts work.now s c) }
-{
-    let plan = plan(work, x, c)?;
-    plan_reads(work, x, c, plan)
 }
 
 /// A placement with the put that processor `c` chooses by the numbers that it read.

@@ -9,5 +9,5 @@ mod events;
 mod plans;
 
 pub use effects::after;
-pub use events::{next, plan_event, plan_event_read, plan_next, plan_reads, reads};
+pub use events::{next, plan_event, plan_event_read, plan_next, plan_reads};
 pub use plans::plan;

@@ -1,8 +1,6 @@
 -- A run has no more entries than its processors can make.
-use Rattle.std.proofs.Common.{◌≡◌, ℕ, zero, suc, ◌+◌, ◌*◌, ◌<◌, ◌≤◌, Bool, true, false, ltb, cond, List, [], ◌∷◌, length, filter, Option, Some, None, refl, sym, ap, subst, arith}
-use Rattle.std.specs.Prelude.{◌&&◌, if◌then◌else◌}
+use Rattle.std.proofs.Common.{◌≡◌, ℕ, zero, suc, ◌+◌, ◌*◌, ◌≤◌, true, ltb, cond, List, [], ◌∷◌, length, filter, refl, sym, ap, subst, arith}
 use Rattle.std.proofs.lemmas.Bool.Decides.{nat_tests}
-use Rattle.sd_types.specs.declared.events.Event.{Event}
 use Rattle.sd_types.specs.declared.events.Entry.{Entry}
 use Rattle.sd_types.specs.declared.works.Work.{Work}
 use Rattle.sd_state.specs.declared.states.State.{State}
@@ -29,10 +27,6 @@ below-suc c (e ∷ es) = let r = below-suc c es in grind (arith, nat_tests)
 below_bound : (c m : ℕ) (h : List Entry) → ((d : ℕ) → length (by d h) ≤ m) → length (below c h) ≤ c * m
 below_bound zero m h few = let r = below-zero h in omega arith
 below_bound (suc c) m h few = let r = below_bound c m h few in let q = below-suc c h in let f = few c in let x : ℕ = c * m in let rx : length (below c h) ≤ x = r in let y : suc c * m ≡ x + m = (let z : suc c * m ≡ c * m + m = omega (arith) in z) in omega (arith, y)
-
-and_first : (a b : Bool) (x y : Option Event) (e : Event) → (if a && b then x else None) ≡ Some e → a ≡ true
-and_first true b x y e h = refl
-and_first false b x y e h = absurd (cc)
 
 all_below : (w : Work) (s : State) (n : ℕ) (h : List Entry) → IsRunFrom w s n h → below w.cpus h ≡ h
 unfolding below IsRunFrom
