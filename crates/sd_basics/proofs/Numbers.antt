@@ -1,5 +1,5 @@
--- Tests of a number with itself, and numbers before 0.
-use Rattle.std.proofs.Common.{◌≡◌, ℕ, ◌==◌, true, false, ℤ, pos, negsuc, int_lt, arith}
+-- Tests of a number with itself, numbers before 0, and a test as a number.
+use Rattle.std.proofs.Common.{◌≡◌, ℕ, ◌==◌, Bool, cond, true, false, ℤ, pos, negsuc, int_lt, arith}
 use Rattle.std.proofs.lemmas.Bool.Decides.{nat_tests}
 use Rattle.std.proofs.lemmas.Int.{ints}
 
@@ -11,3 +11,7 @@ int_not_below_itself k = grind (arith, nat_tests, ints)
 
 pub int_below_zero : (r m : ℕ) → int_lt (negsuc m) (pos r) ≡ true
 int_below_zero r m = grind (arith, nat_tests, ints)
+
+-- one where the test passes
+abbrev pub ones : Bool → ℕ
+ones b = cond b 1 0

@@ -1,11 +1,12 @@
 -- The blocks of tables are taken in.
-use Rattle.std.proofs.Common.{◌≡◌, ℕ, suc, ◌+◌, ◌<◌, Bool, true, false, not, ◌&&◌, nat_eq, List, [], ◌∷◌, ◌++◌, length, map, take, get_or, Some, None, refl, sym, ap, ◌∙◌, arith, append_assoc, if◌then◌else◌}
+use Rattle.std.proofs.Common.{◌≡◌, ℕ, ◌+◌, Bool, true, false, not, nat_eq, List, [], ◌∷◌, ◌++◌, length, map, take, get_or, Some, None, refl, sym, ap, ◌∙◌, arith, append_assoc, if◌then◌else◌}
 use Rattle.std.specs.Prelude.{codes}
 use Rattle.std.specs.List.{list_all, onto_first}
 use Rattle.std.proofs.lemmas.Bool.{false≢true, and_parts, and_right}
 use Rattle.std.proofs.lemmas.Bool.Decides.{nat_tests}
 use Rattle.std.proofs.lemmas.List.{map-append}
 use Rattle.std.proofs.lemmas.Option.{none-some}
+use Rattle.sd_basics.proofs.Lists.{all_each}
 use Rattle.sd_types.specs.Works.{same_bytes}
 use Rattle.sd_text.specs.Lines.{is_newline, lines_of, text_of_lines}
 use Rattle.sd_text.specs.Words.{words_of}
@@ -90,14 +91,10 @@ not-end columns above (word ∷ []) number h = by (same_bytes word (codes "end")
         absurd (none-some (NotANumber number) (sym h ∙ is_end_line))
 not-end columns above (word ∷ other ∷ words) number h = refl
 
-all-each : {X : Type 0} (p : X → Bool) (d : X) (xs : List X) → ((i : ℕ) → i < length xs → p (get_or xs i d) ≡ true) → list_all p xs ≡ true
-all-each p d [] each = refl
-all-each p d (x ∷ xs) each = rw (each 0 (omega arith)) (all-each p d xs (λ i h. each (suc i) (omega arith)))
-
 none-ends : (columns : List Column) (lines : List Line) → AreClean columns lines (length lines) → list_all (λ line. not (is_end line)) lines ≡ true
 unfolding fault_at
 none-ends columns lines clean =
-    all-each (λ (line : Line). not (is_end line)) [] lines (λ i h. not-end columns (take i lines) (get_or lines i []) (i + 1) (clean i h))
+    all_each (λ (line : Line). not (is_end line)) [] lines (λ i h. not-end columns (take i lines) (get_or lines i []) (i + 1) (clean i h))
 
 -- ---- blocks
 

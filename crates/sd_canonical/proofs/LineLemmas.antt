@@ -4,6 +4,7 @@ use Rattle.std.specs.Prelude.{codes}
 use Rattle.std.specs.Fmt.{decimal}
 use Rattle.std.specs.List.{flat_map}
 use Rattle.std.proofs.lemmas.Grind.{flat_map-append}
+use Rattle.sd_basics.proofs.Lists.{joined}
 use Rattle.sd_types.specs.declared.scripts.Op.{Op}
 use Rattle.sd_types.specs.declared.works.ThreadDecl.{ThreadDecl}
 use Rattle.sd_types.specs.declared.works.Work.{Work}
@@ -63,9 +64,6 @@ five was a b c d now u v x y z text p q r s t whole =
     three b c d now x y z (x ++ (y ++ z)) r s t refl ∙ ap (λ l. l ++ (x ++ (y ++ z))) (q ∙ ap (λ l. l ++ v) p)
     ∙ append_assoc (was ++ u) v (x ++ (y ++ z)) ∙ append_assoc was u (v ++ (x ++ (y ++ z))) ∙ ap (λ l. was ++ l) (sym whole)
 
-more : (was mid now x rest : List ℕ) → mid ≡ was ++ x → now ≡ mid ++ rest → now ≡ was ++ (x ++ rest)
-more was mid now x rest p q = q ∙ ap (λ l. l ++ rest) p ∙ append_assoc was x rest
-
 pub canonical_parts : (w : Work) (was a b c d e f now : List ℕ) → a ≡ was ++ settings_text w → b ≡ a ++ flat_map set_text w.sets → c ≡ b ++ tables_text w
     → d ≡ c ++ flat_map lock_text w.locks → e ≡ d ++ flat_map chan_text w.chans → f ≡ e ++ flat_map (thread_text w) w.threads
     → now ≡ f ++ flat_map (script_text w) w.threads → now ≡ was ++ canonical w
@@ -76,5 +74,5 @@ canonical_parts w was a b c d e f now p q r s t u v =
     let chans = flat_map chan_text w.chans ++ threads in
     let locks = flat_map lock_text w.locks ++ chans in
     let tables = tables_text w ++ locks in
-    more was a now (settings_text w) (flat_map set_text w.sets ++ tables) p (more a b now (flat_map set_text w.sets) tables q (more b c now (tables_text w) locks r
-    (more c d now (flat_map lock_text w.locks) chans s (more d e now (flat_map chan_text w.chans) threads t (more e f now (flat_map (thread_text w) w.threads) scripts u v)))))
+    joined was (settings_text w) a (flat_map set_text w.sets ++ tables) now p (joined a (flat_map set_text w.sets) b tables now q (joined b (tables_text w) c locks now r
+    (joined c (flat_map lock_text w.locks) d chans now s (joined d (flat_map chan_text w.chans) e threads now t (joined e (flat_map (thread_text w) w.threads) f scripts now u v)))))

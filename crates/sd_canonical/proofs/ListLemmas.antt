@@ -1,11 +1,11 @@
 -- Lists whose elements differ, and the first place of a name.
-use Rattle.std.proofs.Common.{◌≡◌, ℕ, suc, ◌+◌, ◌<◌, Bool, true, false, not, ◌&&◌, ◌||◌, cond, ltb, leb, List, [], ◌∷◌, ◌++◌, length, map, refl, sym, ap, ◌∙◌, arith}
+use Rattle.std.proofs.Common.{◌≡◌, ℕ, suc, ◌+◌, ◌<◌, Bool, true, false, not, ◌&&◌, ◌||◌, ltb, leb, List, [], ◌∷◌, ◌++◌, length, map, refl, sym, ap, ◌∙◌, arith}
 use Rattle.std.specs.List.{list_any, list_all, position_or_len}
-use Rattle.std.proofs.lemmas.Bool.{eq-eqb, and_parts, or_parts, not-true}
+use Rattle.std.proofs.lemmas.Bool.{and_parts, or_parts, not-true}
 use Rattle.std.proofs.lemmas.Bool.Decides.{nat_tests}
 use Rattle.std.proofs.lemmas.List.{map-append}
 use Rattle.std.proofs.lemmas.List.Folds.{list_any-append, list_all-append}
-use Rattle.sd_basics.proofs.Lists.{map-map}
+use Rattle.sd_basics.proofs.Lists.{any-map}
 use Rattle.sd_types.specs.Works.{same_bytes, is_distinct}
 
 -- ---- what holds of all elements
@@ -42,10 +42,6 @@ distinct-front same (x ∷ xs) ys h =
     let q = or_parts (list_any (same x) xs) (list_any (same x) ys) (sym (list_any-append (same x) xs ys) ∙ not-true _ p.0) in
     rw (q.0) (distinct-front same xs ys p.1)
 
-pub any-map : {X Y : Type 0} (p : Y → Bool) (f : X → Y) (xs : List X) → list_any p (map f xs) ≡ list_any (λ x. p (f x)) xs
-any-map p f [] = refl
-any-map p f (x ∷ xs) = ap (λ b. p (f x) || b) (any-map p f xs)
-
 -- names that differ
 pub named-fresh : {X : Type 0} (name : X → List ℕ) (xs ys : List X) (y : X) → is_distinct same_bytes (map name (xs ++ y ∷ ys)) ≡ true → list_any (λ x. same_bytes (name x) (name y)) xs ≡ false
 named-fresh name xs ys y h =
@@ -66,13 +62,5 @@ place-seam p (x ∷ xs) ys y h here =
     let q = or_parts (p x) (list_any p xs) h in
     let e : 1 + length xs ≡ suc (length xs) = omega arith in
     rw (q.0) (ap (λ n. 1 + n) (place-seam p xs ys y q.1 here) ∙ e)
-
-pub place-map : {X Y : Type 0} (p : Y → Bool) (f : X → Y) (xs : List X) → position_or_len p (map f xs) ≡ position_or_len (λ x. p (f x)) xs
-place-map p f [] = refl
-place-map p f (x ∷ xs) = ap (λ n. cond (not (p (f x))) (1 + n) 0) (place-map p f xs)
-
-pub all-map : {X Y : Type 0} (p : Y → Bool) (f : X → Y) (xs : List X) → list_all p (map f xs) ≡ list_all (λ x. p (f x)) xs
-all-map p f [] = refl
-all-map p f (x ∷ xs) = ap (λ b. p (f x) && b) (all-map p f xs)
 
 -- ---- names of a list of things

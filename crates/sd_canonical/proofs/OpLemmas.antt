@@ -8,7 +8,7 @@ use Rattle.std.proofs.lemmas.Bool.{false≢true, lt-ltb, ltb-true, leb-true, and
 use Rattle.std.proofs.lemmas.Bool.Decides.{nat_tests}
 use Rattle.std.proofs.lemmas.Int.{ints}
 use Rattle.std.proofs.lemmas.List.{length-map}
-use Rattle.sd_basics.proofs.Lists.{map-map}
+use Rattle.sd_basics.proofs.Lists.{map-map, place-map}
 use Rattle.sd_types.specs.declared.numbers.CpuId.{CpuId}
 use Rattle.sd_types.specs.declared.numbers.SetId.{SetId}
 use Rattle.sd_types.specs.declared.numbers.LockId.{LockId}
@@ -43,7 +43,6 @@ use Rattle.sd_canonical.proofs.TextLemmas.{is_plain, are_plain, name-plain, numb
 use Rattle.sd_canonical.proofs.FormLemmas.{is_name_if}
 use Rattle.sd_canonical.proofs.ThreadLemmas.{said_at, set_said, set-number, set-name, quantum-back, is-quantum}
 use Rattle.sd_canonical.proofs.OpFormLemmas.{asked_said, IsAsked, request-plain, cpu_said, bound_small, set_word, run-form, nap-form, yield-form, enter-form, read-form, write-form, exit-form, cvwait-form, sleep-form, wake-form, wakeall-form, semap-form, semav-form, priocntl-form, assign-form, pbind-form}
-use Rattle.sd_canonical.proofs.ListLemmas.{place-map}
 use Rattle.sd_entries.proofs.NameLemmas.{name_at_name, place_of_name}
 
 -- what a workload declares, as far as its scripts name it

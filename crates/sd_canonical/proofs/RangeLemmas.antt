@@ -1,9 +1,10 @@
 -- What is declared by lines of which none is at fault has numbers of users and counts of 16 bits.
-use Rattle.std.proofs.Common.{◌≡◌, ℕ, zero, suc, ◌+◌, Bool, true, false, cond, leb, set, get_or, List, [], ◌∷◌, ◌++◌, Option, Some, None, refl, sym, ap, ◌∙◌, subst}
+use Rattle.std.proofs.Common.{◌≡◌, ℕ, zero, suc, ◌+◌, Bool, true, leb, set, get_or, List, [], ◌∷◌, Option, Some, None, refl, sym, ap, ◌∙◌, subst}
 use Rattle.std.proofs.lemmas.Bool.{and_parts, not-false}
 use Rattle.std.specs.List.{list_all}
 use Rattle.std.proofs.lemmas.Option.{none-some}
-use Rattle.std.proofs.lemmas.List.Folds.{list_all-append}
+use Rattle.std.proofs.lemmas.List.Folds.{list_all-map}
+use Rattle.sd_basics.proofs.Truths.{either}
 use Rattle.sd_types.specs.declared.numbers.ThreadId.{ThreadId}
 use Rattle.sd_types.specs.declared.scripts.Op.{Op}
 use Rattle.sd_types.specs.declared.works.ChanKind.{ChanKind}
@@ -28,7 +29,6 @@ use Rattle.sd_workload.proofs.FirstLemmas.{apart, same-accepted}
 use Rattle.sd_workload.proofs.LineLemmas.{all-push}
 use Rattle.sd_types.specs.Works.{has_small_count}
 use Rattle.sd_canonical.specs.Valid.{IsValid}
-use Rattle.sd_canonical.proofs.ListLemmas.{all-map}
 
 abbrev user-fits : Thread → Bool
 user-fits t = leb t.uid 65535
@@ -88,10 +88,6 @@ script-kept d t ops r = record {
   counts = r.counts;
 }
 
-either : (b : Bool) (d e : Declarations) → InRange d → InRange e → InRange (cond b d e)
-either true d e p q = p
-either false d e p q = q
-
 line-kept : (d : Declarations) (b : Block) (line : Line) → cause_of d b line ≡ None → InRange d → InRange (declared_after d b line)
 unfolding cause_of declared_after
 line-kept d Outside line h r = outside-kept d line h r
@@ -115,6 +111,6 @@ pub accepted-valid : (text : List ℕ) (w : Work) → Accepted text w → IsVali
 accepted-valid text w a =
     let r = lines-kept (word_lines text) 1 nothing a.declares Outside a.accepted (record { uids = refl; counts = refl }) in
     record {
-      uids = sym (all-map user-fits thread_kept w.threads) ∙ ap (list_all user-fits) a.work.threads ∙ r.uids;
-      counts = sym (all-map kind-fits chan_kept w.chans) ∙ ap (list_all kind-fits) a.work.chans ∙ r.counts;
+      uids = sym (list_all-map user-fits thread_kept w.threads) ∙ ap (list_all user-fits) a.work.threads ∙ r.uids;
+      counts = sym (list_all-map kind-fits chan_kept w.chans) ∙ ap (list_all kind-fits) a.work.chans ∙ r.counts;
     }

@@ -7,7 +7,7 @@ use Rattle.std.proofs.lemmas.Bool.Decides.{nat_tests}
 use Rattle.std.proofs.lemmas.List.{length-map, map-append}
 use Rattle.std.proofs.lemmas.List.Folds.{list_all-append}
 use Rattle.std.proofs.Math.Seq.{set-append_seam, get_or-append_seam}
-use Rattle.sd_basics.proofs.Lists.{map-map}
+use Rattle.sd_basics.proofs.Lists.{any-map, map-map}
 use Rattle.sd_types.specs.declared.numbers.ThreadId.{ThreadId}
 use Rattle.sd_types.specs.declared.scripts.Op.{Op}
 use Rattle.sd_types.specs.declared.works.ThreadDecl.{ThreadDecl}
@@ -30,7 +30,7 @@ use Rattle.sd_canonical.proofs.ThreadLemmas.{bare_kept}
 use Rattle.sd_state.proofs.Declared.{declared}
 use Rattle.sd_canonical.proofs.OpLemmas.{Names}
 use Rattle.sd_canonical.proofs.ScriptLemmas.{takes-body}
-use Rattle.sd_canonical.proofs.ListLemmas.{named-fresh, place-seam, any-map}
+use Rattle.sd_canonical.proofs.ListLemmas.{named-fresh, place-seam}
 use Rattle.sd_types.proofs.SameLemmas.{bytes_same_itself}
 
 -- ---- the declarations where the scripts of the first threads are given, and of no other

@@ -1,5 +1,5 @@
 -- The lines of sets are taken in.
-use Rattle.std.proofs.Common.{◌≡◌, ℕ, ◌+◌, ◌<◌, ◌≤◌, true, false, not, ◌&&◌, ◌||◌, ltb, leb, List, [], ◌∷◌, ◌++◌, length, map, refl, sym, ap, ◌∙◌, subst, arith, append-nil, append_assoc, length-append}
+use Rattle.std.proofs.Common.{◌≡◌, ℕ, ◌+◌, ◌<◌, ◌≤◌, true, false, not, ◌||◌, ltb, leb, List, [], ◌∷◌, ◌++◌, length, map, refl, sym, ap, ◌∙◌, subst, arith, append-nil, append_assoc, length-append}
 use Rattle.std.specs.Prelude.{codes, nat_eq}
 use Rattle.std.specs.List.{list_any, list_all, flat_map}
 use Rattle.std.proofs.lemmas.Bool.{false≢true, and_parts, or_parts, not-true, and_right}
@@ -7,6 +7,7 @@ use Rattle.std.proofs.lemmas.Bool.Decides.{nat_tests}
 use Rattle.std.proofs.lemmas.List.{length-map}
 use Rattle.std.proofs.lemmas.List.Concat.{flat_map-append, length-flat_map}
 use Rattle.std.proofs.lemmas.List.Folds.{list_any-append}
+use Rattle.sd_basics.proofs.Lists.{any-map}
 use Rattle.sd_types.specs.declared.numbers.CpuId.{CpuId}
 use Rattle.sd_types.specs.declared.names.Name.{Name}
 use Rattle.sd_types.specs.NameWords.{is_name}
@@ -25,7 +26,7 @@ use Rattle.sd_canonical.specs.Canonical.{line_text, set_text}
 use Rattle.sd_canonical.proofs.TextLemmas.{are_plain, name-plain, number-plain}
 use Rattle.sd_canonical.proofs.TakesLemmas.{Takes, takes-nothing, takes-both, takes-line}
 use Rattle.sd_canonical.proofs.FormLemmas.{are_cpus, set-form}
-use Rattle.sd_canonical.proofs.ListLemmas.{all-at, under, not-under, fresh, named-fresh, distinct-tail, distinct-front, none-before, any-map}
+use Rattle.sd_canonical.proofs.ListLemmas.{all-at, under, not-under, fresh, named-fresh, distinct-tail, distinct-front, none-before}
 
 -- the sets of a workload of so many processors
 pub record IsSets (cpus : ℕ) (all : List (Word × List CpuId)) : Type 0 where

@@ -9,6 +9,7 @@ use Rattle.std.proofs.lemmas.Bool.Decides.{nat_tests}
 use Rattle.std.proofs.lemmas.Int.{ints}
 use Rattle.std.proofs.lemmas.List.{length-map}
 use Rattle.std.proofs.lemmas.List.Folds.{list_all-append}
+use Rattle.sd_basics.proofs.Lists.{place-map}
 use Rattle.sd_types.specs.declared.numbers.SetId.{SetId}
 use Rattle.sd_types.specs.declared.classes.Quantum.{Quantum}
 use Rattle.sd_types.specs.declared.classes.Quantum.TheVariants as quantum
@@ -32,7 +33,7 @@ use Rattle.sd_canonical.specs.Canonical.{line_text, thread_text}
 use Rattle.sd_canonical.proofs.TextLemmas.{is_plain, are_plain, name-plain, number-plain, signed-plain, upri-short}
 use Rattle.sd_canonical.proofs.TakesLemmas.{Takes, takes-nothing, takes-both, takes-line}
 use Rattle.sd_canonical.proofs.FormLemmas.{class_said, quantum_said, quantum-small, set_words, is_name_if, options_said, thread-form}
-use Rattle.sd_canonical.proofs.ListLemmas.{under, not-under, named-fresh, none-before, place-map}
+use Rattle.sd_canonical.proofs.ListLemmas.{under, not-under, named-fresh, none-before}
 use Rattle.sd_entries.proofs.NameLemmas.{name_at_name, place_of_name}
 
 -- ---- the set of a thread

@@ -5,7 +5,7 @@ use Rattle.std.specs.Prelude.{codes, nat_lt}
 use Rattle.std.specs.List.{list_all, flat_map, sum_by}
 use Rattle.std.proofs.lemmas.Bool.Decides.{nat_tests}
 use Rattle.std.proofs.lemmas.List.{length-map}
-use Rattle.std.proofs.lemmas.List.Folds.{flat_map-map}
+use Rattle.std.proofs.lemmas.List.Folds.{flat_map-map, list_all-map}
 use Rattle.sd_basics.proofs.Lists.{map-map}
 use Rattle.sd_types.specs.declared.numbers.CpuId.{CpuId}
 use Rattle.sd_types.specs.declared.names.Name.{Name}
@@ -34,7 +34,6 @@ use Rattle.sd_canonical.specs.Canonical.{script_text, canonical}
 use Rattle.sd_canonical.specs.Valid.{IsValid}
 use Rattle.sd_canonical.proofs.TakesLemmas.{Takes, takes-both, none-clear}
 use Rattle.sd_canonical.proofs.FormLemmas.{table_ts-form, table_fx-form, table_rt-form}
-use Rattle.sd_canonical.proofs.ListLemmas.{all-map}
 use Rattle.sd_canonical.proofs.SetLemmas.{IsSets, takes-sets}
 use Rattle.sd_canonical.proofs.ObjectLemmas.{settled, takes-settings, IsNamed, takes-locks, takes-chans}
 use Rattle.sd_canonical.proofs.BlockLemmas.{takes-block}
@@ -50,7 +49,7 @@ sets-are w =
     record {
       most = w.most_cpus;
       sets = record {
-        fit = all-map _ set_kept w.sets ∙ w.sets_fit;
+        fit = list_all-map _ set_kept w.sets ∙ w.sets_fit;
         differ = ap (is_distinct same_cpu) cut ∙ w.cpus_differ;
         left = subst (λ (l : List CpuId). length l < w.cpus) (sym cut) w.cpu_left;
       };

@@ -21,7 +21,7 @@ pub use classes::{
 pub use fixed_priority::{fx_global, fx_tick, fx_wake};
 pub use laws::{base_priorities_in_range, callers_without_privilege};
 pub use permissions::{Target, Who, judge};
-pub use quanta::{full_quantum, left_after_tick};
+pub use quanta::full_quantum;
 pub use real_time::{rt_global, rt_tick, rt_wake};
 pub use system::sys_global;
 pub use time_sharing::{

@@ -1,5 +1,5 @@
 -- Lists of what is kept, read as plain data.
-use Rattle.std.proofs.Common.{◌≡◌, ℕ, suc, ◌+◌, ◌<◌, ◌≤◌, Bool, true, false, not, ◌&&◌, ◌||◌, cond, ltb, leb, List, [], ◌∷◌, length, map, unwrap_or, refl, sym, ap, ◌∙◌, arith}
+use Rattle.std.proofs.Common.{◌≡◌, ℕ, suc, ◌+◌, ◌<◌, ◌≤◌, Bool, true, false, not, ◌||◌, cond, ltb, leb, List, [], ◌∷◌, length, map, unwrap_or, refl, sym, ap, ◌∙◌, arith}
 use Rattle.std.specs.List.{position, position_or_len, list_any, sum_by, slice_get, All}
 use Rattle.std.specs.Option.{option_map}
 use Rattle.std.proofs.lemmas.List.Folds.{fold-map}
@@ -8,14 +8,14 @@ use Rattle.std.proofs.lemmas.Option.{slice_get-map}
 use Rattle.std.proofs.lemmas.Bool.{false≢true}
 use Rattle.std.proofs.lemmas.List.Elements.{All-cons}
 use Rattle.std.proofs.lemmas.Bool.Decides.{nat_tests}
-use Rattle.sd_basics.proofs.Lists.{map-map}
+use Rattle.sd_basics.proofs.Lists.{any-map, map-map, place-map}
 use Rattle.sd_types.specs.Works.{same_bytes}
-use Rattle.sd_lines.proofs.PlaceLemmas.{place-map, position-map, any-map}
+use Rattle.sd_lines.proofs.PlaceLemmas.{position-map}
 use Rattle.sd_text.proofs.LineLemmas.{index_or_length}
 
 -- the place of the first that passes, among what is shown of a list
 pub place_kept : {A B : Type 0} (f : A → B) (p : B → Bool) (xs : List A) → unwrap_or (position (λ x. p (f x)) xs) (length xs) ≡ position_or_len p (map f xs)
-place_kept f p xs = index_or_length (λ x. p (f x)) xs ∙ sym (place-map f p xs)
+place_kept f p xs = index_or_length (λ x. p (f x)) xs ∙ sym (place-map p f xs)
 
 placed : (b : Bool) (n m : ℕ) → ltb (cond (not b) (1 + n) 0) (suc m) ≡ false → (b ≡ false) × (ltb n m ≡ false)
 placed true n m h = absurd (grind (arith, nat_tests))
@@ -72,6 +72,6 @@ module _ {A B : Type 0} (kept : A → B) (name : B → List ℕ) (xs : List A) (
   pub not-named : ltb (position_or_len (λ y. same_bytes (name y) word) (map kept xs)) (length (map kept xs)) ≡ false
       → list_any (λ n. same_bytes n word) (map (λ x. name (kept x)) xs) ≡ false
   not-named h =
-      any-map (λ x. name (kept x)) (λ n. same_bytes n word) xs
+      any-map (λ n. same_bytes n word) (λ x. name (kept x)) xs
       ∙ any_kept kept (λ y. same_bytes (name y) word) xs
       ∙ none-placed (λ y. same_bytes (name y) word) (map kept xs) h

@@ -1,7 +1,8 @@
 -- What was found that a processor reads tells what it goes by: whether its choice is settled, of which processors the numbers are, and its victim.
-use Rattle.std.proofs.Common.{◌≡◌, ℕ, Bool, true, false, ◌&&◌, ◌||◌, ◌==◌, List, [], ◌∷◌, length, Option, Some, None, refl, sym, ap, ◌∙◌, if◌then◌else◌}
+use Rattle.std.proofs.Common.{◌≡◌, ℕ, Bool, true, false, ◌&&◌, ◌==◌, List, [], ◌∷◌, length, Option, Some, None, refl, sym, ap, ◌∙◌, if◌then◌else◌}
 use Rattle.std.proofs.lemmas.Option.{same_Some}
 use Rattle.std.specs.Prelude.{Result, Ok, Err, IfOk}
+use Rattle.sd_basics.proofs.Truths.{or_rest}
 use Rattle.sd_types.specs.declared.numbers.CpuId.{CpuId}
 use Rattle.sd_types.specs.declared.events.Hints.{Hints}
 use Rattle.sd_types.specs.declared.events.Which.{Which}
@@ -58,11 +59,6 @@ unsettled_by : (settled : Bool) (cpus : List CpuId) (r : Which × List CpuId) �
 unsettled_by true cpus r e = cc
 unsettled_by false cpus r e = (cc, refl)
 
--- where the choice is not settled, the thread is not warm on a processor on which it may run
-away_by : (one away : Bool) → (one || away) ≡ false → away ≡ false
-away_by true away e = cc
-away_by false away e = e
-
 -- some: they are the processors on which it may run, and it left its last one a while ago
 pub chosen_read : (w : Work) (s : State) (c t p : ℕ) (which : Which) (read : List CpuId) (hints : Option Hints) → listed which read ≡ reads_for w s c t
     → put_on p (thread_of s t).body.bound (chosen read (numbers_read read hints) (thread_of s t).body.last false) ≡ put_chosen w s c t p hints
@@ -72,7 +68,7 @@ chosen_read w s c t p which read hints e =
     let last = (thread_of s t).body.last in
     let warm = is_warm s c t in
     let is = unsettled_by (is_settled cpus last warm) cpus (which, read) e in
-    let away : (warm && is_among last cpus) ≡ false = away_by (length cpus == 1) (warm && is_among last cpus) is.1 in
+    let away : (warm && is_among last cpus) ≡ false = or_rest (length cpus == 1) (warm && is_among last cpus) is.1 in
     ap (λ (q : Which × List CpuId). put_on p (thread_of s t).body.bound (chosen q.1 (numbers_read q.1 hints) last false)) is.0
     ∙ ap (λ (b : Bool). put_on p (thread_of s t).body.bound (if b then last else preferred last (with_hint (least_hint (numbers_read cpus hints)) cpus (numbers_read cpus hints)))) (sym away)
 

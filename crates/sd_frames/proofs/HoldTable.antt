@@ -3,7 +3,7 @@
 use Rattle.std.proofs.Common.{◌≡◌, ℕ, ◌<◌, Bool, ◌||◌, List, [], ◌∷◌, ◌++◌, length, Option, Some, None, refl, ap, arith}
 use Rattle.sd_types.specs.Scripts.{without_lock}
 use Rattle.sd_types.specs.Willed.{Numbers, without_number, changed_number}
-use Rattle.sd_machine.proofs.Moves.{IsPut}
+use Rattle.sd_state.proofs.KeyLemmas.{IsPut}
 use Rattle.sd_machine.proofs.ShapeLemmas.{IsShaped, then_shape, lock_shape, finish_op_shape, hold_shape, set_number_shape, release_from_shape}
 use Rattle.sd_frames.proofs.Parts.{same_item, put_item, put_same, same_put, put_is, same_is_put}
 use Rattle.sd_frames.proofs.Words.{all_same, then_same, lock_same, set_duty_same, remark_same, called_back_same, release_from_same, put_where_same, woken_same, reordered_same, finish_op_same, fallen_asleep_same, Same, Moves, Ops, of_threads}

@@ -1,7 +1,7 @@
 -- Whose operation each event ends.
 use Rattle.std.proofs.Common.{◌≡◌, ℕ, ◌+◌, ◌-◌, ◌<◌, Bool, true, false, length, Option, Some, None, refl, ap, ◌⊎◌, inl, inr}
 use Rattle.std.specs.Prelude.{⊤}
-use Rattle.sd_machine.proofs.Moves.{IsPut}
+use Rattle.sd_state.proofs.KeyLemmas.{IsPut}
 use Rattle.sd_machine.proofs.ShapeLemmas.{IsShaped, then_shape, lock_shape, count_shape, hold_shape, set_duty_shape, count_tick_shape, leave_shape, put_where_shape, close_shape, woken_shape, released_shape, changed_on_shape, cleared_shape, rebound_shape}
 use Rattle.sd_frames.proofs.Parts.{same_item, put_item, put_same, same_put, put_is}
 use Rattle.sd_frames.proofs.Words.{all_same, then_same, lock_same, count_same, set_duty_same, count_tick_same, close_same, idled_same, walk_ended_same, joined_same, remark_same, cleared_same, called_back_same, release_from_same, passed_same, leave_same, put_where_same, class_counts_same, spun_same, dispatched_same, stolen_same, preempted_same, sent_away_same, done_same, woken_same, roused_same, blocked_same, unblocked_same, reordered_same, changed_on_same, aged_same, moved_same, Same, Moves, of_threads}
@@ -248,27 +248,14 @@ ender (Assign t d to answer) = Some t.0
 ender (Bind t u d answer) = Some t.0
 ender e = None
 
+-- the operation of a thread is over, or of none
+abbrev pub OpsBy : State → State → Option ℕ → Type 0
+OpsBy s r None = Same op_part s r
+OpsBy s r (Some t) = Finished s r t
+
 abbrev pub OpsGo : State → State → Event → Type 0
 OpsGo s r (Tick t) = Same op_part s r ⊎ Finished s r t.0
-OpsGo s r (Yield t) = Finished s r t.0
-OpsGo s r (Nap t) = Finished s r t.0
-OpsGo s r (Sleep t k) = Finished s r t.0
-OpsGo s r (Wake t k u) = Finished s r t.0
-OpsGo s r (Wakeall t k) = Finished s r t.0
-OpsGo s r (Enter t l) = Finished s r t.0
-OpsGo s r (Read t l) = Finished s r t.0
-OpsGo s r (Write t l) = Finished s r t.0
-OpsGo s r (Exit t l) = Finished s r t.0
-OpsGo s r (Grant l u at) = Finished s r u.0
-OpsGo s r (Prio t u answer) = Finished s r t.0
-OpsGo s r (CvWait t k l) = Finished s r t.0
-OpsGo s r (SemaP t k) = Finished s r t.0
-OpsGo s r (SemaWait t k) = Finished s r t.0
-OpsGo s r (SemaVWake t k u at) = Finished s r t.0
-OpsGo s r (SemaVCount t k m) = Finished s r t.0
-OpsGo s r (Assign t d to answer) = Finished s r t.0
-OpsGo s r (Bind t u d answer) = Finished s r t.0
-OpsGo s r e = Same op_part s r
+OpsGo s r e = OpsBy s r (ender e)
 
 abbrev pub IsEnderThere : State → Option ℕ → Type 0
 IsEnderThere s None = ⊤
@@ -322,28 +309,14 @@ unfolding drop_ageing set_duty
 ender_there s c e None here = tt
 ender_there s c e (Some t) here = here
 
+by_after : (s r q : State) (o : Option ℕ) → Same op_part s r → OpsBy r q o → OpsBy s q o
+by_after s r q None a b = then_same op_part s r q a b
+by_after s r q (Some t) a b = same_ended s r q t a b
+
 go_after : (s r q : State) (e : Event) → Same op_part s r → OpsGo r q e → OpsGo s q e
 go_after s r q (Tick t) a (inl b) = inl (then_same op_part s r q a b)
 go_after s r q (Tick t) a (inr b) = inr (same_ended s r q t.0 a b)
-go_after s r q (Yield t) a b = same_ended s r q t.0 a b
-go_after s r q (Nap t) a b = same_ended s r q t.0 a b
-go_after s r q (Sleep t k) a b = same_ended s r q t.0 a b
-go_after s r q (Wake t k u) a b = same_ended s r q t.0 a b
-go_after s r q (Wakeall t k) a b = same_ended s r q t.0 a b
-go_after s r q (Enter t l) a b = same_ended s r q t.0 a b
-go_after s r q (Read t l) a b = same_ended s r q t.0 a b
-go_after s r q (Write t l) a b = same_ended s r q t.0 a b
-go_after s r q (Exit t l) a b = same_ended s r q t.0 a b
-go_after s r q (Grant l u at) a b = same_ended s r q u.0 a b
-go_after s r q (Prio t u answer) a b = same_ended s r q t.0 a b
-go_after s r q (CvWait t k l) a b = same_ended s r q t.0 a b
-go_after s r q (SemaP t k) a b = same_ended s r q t.0 a b
-go_after s r q (SemaWait t k) a b = same_ended s r q t.0 a b
-go_after s r q (SemaVWake t k u at) a b = same_ended s r q t.0 a b
-go_after s r q (SemaVCount t k m) a b = same_ended s r q t.0 a b
-go_after s r q (Assign t d to answer) a b = same_ended s r q t.0 a b
-go_after s r q (Bind t u d answer) a b = same_ended s r q t.0 a b
-go_after s r q e a b = then_same op_part s r q a b
+go_after s r q e a b = by_after s r q (ender e) a b
 
 -- whose operation each event ends
 pub after_ops : (w : Work) (s : State) (n : ℕ) (c : CpuId) (e : Event) → IsEnderThere s (ender e) → OpsGo s (after w s n c e) e

@@ -1,9 +1,10 @@
 -- A part of each thread, lock or processor as a function of its number, and how an event changes it.
-use Rattle.std.proofs.Common.{◌≡◌, ℕ, ◌<◌, ◌≤◌, List, [], ◌∷◌, length, get_or, set, ap, ◌∙◌, sym, subst, inl, inr}
+use Rattle.std.proofs.Common.{◌≡◌, ℕ, ◌<◌, List, length, get_or, set, ap, ◌∙◌, sym, subst, inl, inr}
 use Rattle.std.proofs.lemmas.Bool.{cases_eq, cases_lt}
 use Rattle.std.proofs.lemmas.List.{get_or-set_same, get_or-set_other}
 use Rattle.std.proofs.lemmas.List.{set_past}
-use Rattle.sd_machine.proofs.Moves.{IsPut, IsSame}
+use Rattle.sd_state.proofs.KeyLemmas.{IsPut}
+use Rattle.sd_machine.proofs.Moves.{IsSame}
 
 -- a part of a list, where one item is written
 pub put_item : {X Y : Type 0} (part : X → Y) (xs : List X) (d : X) (t : ℕ) (x : X) → t < length xs → IsPut t (part x) (λ u. part (get_or xs u d)) (λ u. part (get_or (set xs t x) u d))

@@ -5,7 +5,8 @@ use Rattle.std.proofs.lemmas.List.{length-set}
 use Rattle.sd_types.specs.declared.scripts.Request.{Request}
 use Rattle.sd_types.specs.declared.events.Put.TheVariants.{Cpu}
 use Rattle.sd_types.specs.Priorities.{eff, eff_as}
-use Rattle.sd_machine.proofs.Moves.{IsSame, IsPut}
+use Rattle.sd_state.proofs.KeyLemmas.{IsPut}
+use Rattle.sd_machine.proofs.Moves.{IsSame}
 use Rattle.sd_frames.specs.Causes.{IsCause, IsAnswered}
 use Rattle.sd_frames.specs.Moves.{Step, put_step, put_step_if, woken_step, reordered_step, aged_step, prio_step, bind_step, step_of}
 use Rattle.sd_frames.specs.Moves.Step.{Stay, Go}

@@ -5,7 +5,7 @@ use Rattle.std.specs.List.{list_all}
 use Rattle.std.proofs.lemmas.Bool.{false≢true, and_parts}
 use Rattle.std.proofs.lemmas.Bool.Decides.{nat_tests}
 use Rattle.std.proofs.lemmas.List.{length-map}
-use Rattle.std.proofs.lemmas.List.Folds.{flat_map-map}
+use Rattle.std.proofs.lemmas.List.Folds.{flat_map-map, list_all-map}
 use Rattle.sd_basics.proofs.Lists.{map-map}
 use Rattle.sd_types.specs.declared.numbers.CpuId.{CpuId}
 use Rattle.sd_types.specs.declared.names.Name.{Name}
@@ -39,7 +39,6 @@ use Rattle.sd_workload.proofs.ClearLemmas.{clear}
 use Rattle.sd_workload.proofs.FirstLemmas.{either}
 use Rattle.sd_workload.proofs.SoundLemmas.{text-sound}
 use Rattle.sd_workload.proofs.WorkLemmas.{IsFew, few}
-use Rattle.sd_canonical.proofs.ListLemmas.{all-map}
 use Rattle.sd_gen.proofs.MadeLemmas.{Each, IsThread, Raw, Made, IsMade, text-made}
 
 -- ---- names and threads
@@ -220,15 +219,15 @@ module _ (d : Declarations) (sets : List (Name × List CpuId)) (locks : List (Na
         most_threads = subst (λ (n : ℕ). n ≤ 2048) (length-map threads thread_kept) m.few_threads;
         most_pairs = subst (λ (n : ℕ). length threads * n ≤ 65536) (length-map locks lock_kept) (subst (λ (n : ℕ). n * length (map lock_kept locks) ≤ 65536) (length-map threads thread_kept) f.pairs);
         most_ops = subst (λ (n : ℕ). n ≤ 4096) (sym (sum_kept thread_kept (λ (t : Thread). length t.ops) threads)) f.ops;
-        sets_fit = sym (all-map (set_is_sound (cpu_count here)) set_kept sets) ∙ s.sets.fit;
+        sets_fit = sym (list_all-map (set_is_sound (cpu_count here)) set_kept sets) ∙ s.sets.fit;
         cpus_differ = sym (ap (is_distinct same_cpu) cut) ∙ s.sets.differ;
         cpu_left = subst (λ (cs : List CpuId). length cs < cpu_count here) cut s.sets.left;
         set_names = sym (ap (is_distinct same_bytes) (map-map set_kept (λ (x : Word × List CpuId). x.0) sets)) ∙ s.set_names;
         lock_names = sym (ap (is_distinct same_bytes) (map-map lock_kept (λ (x : Word × LockKind). x.0) locks)) ∙ s.lock_names;
         chan_names = sym (ap (is_distinct same_bytes) (map-map chan_kept (λ (x : Word × ChanKind). x.0) chans)) ∙ s.chan_names;
         thread_names = sym (ap (is_distinct same_bytes) (map-map thread_kept (λ (x : Thread). x.name) threads)) ∙ s.threads.names;
-        small_counts = sym (all-map (λ (x : Word × ChanKind). has_small_count x.1) chan_kept chans) ∙ s.counts;
-        threads_fit = sym (all-map (thread_is_sound (declared_of (cpu_count here) sets locks chans threads)) thread_kept threads)
+        small_counts = sym (list_all-map (λ (x : Word × ChanKind). has_small_count x.1) chan_kept chans) ∙ s.counts;
+        threads_fit = sym (list_all-map (thread_is_sound (declared_of (cpu_count here) sets locks chans threads)) thread_kept threads)
             ∙ sym (ap (λ (x : Declared). list_all (thread_is_sound x) (map thread_kept threads)) (named-is d sets locks chans threads)) ∙ s.threads.fit;
         ts_ticks = ts.ticks;
         fx_ticks = fx.ticks;

@@ -9,6 +9,7 @@ use Rattle.std.proofs.lemmas.List.{length-map, map-append}
 use Rattle.std.proofs.lemmas.List.FromFn.{length-range_with_len}
 use Rattle.std.proofs.lemmas.List.Folds.{list_all-append}
 use Rattle.std.proofs.lemmas.Grind.{flat_map-append}
+use Rattle.sd_basics.proofs.Lists.{any-map, place-map}
 use Rattle.sd_basics.proofs.Ranges.{range_suc}
 use Rattle.rand_pcg.specs.Lcg.{Lcg}
 use Rattle.sd_types.specs.declared.numbers.CpuId.{CpuId}
@@ -31,7 +32,7 @@ use Rattle.sd_canonical.proofs.TextLemmas.{is_plain, are_plain, name-plain}
 use Rattle.sd_canonical.proofs.TakesLemmas.{Takes, takes-nothing, takes-both, takes-line}
 use Rattle.sd_canonical.proofs.FormLemmas.{class_said, class-form, set_words, is_name_if, options_said}
 use Rattle.sd_canonical.proofs.ThreadLemmas.{is-class, class-plain}
-use Rattle.sd_canonical.proofs.ListLemmas.{under, not-under, none-before, any-map, place-map}
+use Rattle.sd_canonical.proofs.ListLemmas.{under, not-under, none-before}
 use Rattle.sd_gen.proofs.AcceptedLemmas.{numbered, numbered-name, other-number, the-sets}
 use Rattle.sd_types.proofs.SameLemmas.{bytes_same_itself}
 

@@ -6,6 +6,7 @@ use Rattle.std.proofs.lemmas.Bool.{lt-ltb, leb-true, le-leb, and_parts}
 use Rattle.std.proofs.lemmas.List.Folds.{list_all-append}
 use Rattle.std.proofs.lemmas.List.Sums.{sum_by-cons}
 use Rattle.rand_pcg.specs.Lcg.{Lcg}
+use Rattle.sd_basics.proofs.Lists.{place-map}
 use Rattle.sd_types.specs.declared.numbers.ThreadId.{ThreadId}
 use Rattle.sd_types.specs.declared.scripts.Op.{Op}
 use Rattle.sd_types.specs.Works.{same_bytes}
@@ -25,7 +26,6 @@ use Rattle.sd_canonical.proofs.FormLemmas.{script-form}
 use Rattle.sd_canonical.proofs.ScriptLemmas.{takes-close}
 use Rattle.sd_canonical.proofs.ScriptsLemmas.{are_before, none-given, before-more}
 use Rattle.sd_canonical.proofs.RangeLemmas.{all-set}
-use Rattle.sd_canonical.proofs.ListLemmas.{place-map}
 use Rattle.sd_canonical.proofs.WorkLemmas.{not-more}
 use Rattle.sd_gen.proofs.AcceptedLemmas.{numbered, numbered-name, below-head, the-locks, locks-count, takes-head, takes-the-locks}
 use Rattle.sd_gen.proofs.DrawnThreadLemmas.{names-to, Threads, threads-count, name-place, takes-drawn_threads}

@@ -2,6 +2,7 @@
 use Rattle.std.proofs.Common.{◌≡◌, ℕ, zero, suc, ◌+◌, ◌%◌, ◌<◌, ◌≤◌, ◌==◌, ◌&&◌, Bool, true, false, is_some, List, [], ◌∷◌, length, Option, Some, None, slice_get, refl, ap, ◌∙◌, arith, ◌⊎◌, inl, inr}
 use Rattle.std.specs.Prelude.{if◌then◌else◌, ⊤}
 use Rattle.std.proofs.lemmas.Bool.{eq-eqb, eqb-true}
+use Rattle.sd_basics.proofs.Numbers.{ones as bit}
 use Rattle.sd_types.specs.declared.numbers.CpuId.{CpuId}
 use Rattle.sd_types.specs.declared.numbers.HomeId.{HomeId}
 use Rattle.sd_types.specs.declared.numbers.HomeId.TheVariants as home
@@ -25,9 +26,6 @@ use Rattle.sd_hand.specs.OneHome.{AreAllHomes, how_often, lists_at, lists_with}
 use Rattle.sd_hand.specs.Shown.{IsHome, IsListThere}
 use Rattle.sd_hand.proofs.MoveLemmas.{at_look}
 use Rattle.sd_hand.proofs.SlotLemmas.{apart_held, same_home_true}
-
-abbrev pub bit : Bool → ℕ
-bit b = if b then 1 else 0
 
 -- ---- a list of a home has those who stand there
 in_list : ListId → Option ThreadState → Bool

@@ -1,6 +1,7 @@
 -- Locks agree with those who hold them, wait for them and pass them on, after every event.
-use Rattle.std.proofs.Common.{◌≡◌, ℕ, ◌<◌, true, false, List, length, Option, Some, None, refl, ◌∙◌, sym, ap, arith, ◌⊎◌, inl, inr}
+use Rattle.std.proofs.Common.{◌≡◌, ℕ, ◌<◌, Bool, true, false, List, length, Option, Some, None, refl, ◌∙◌, sym, ap, arith, ◌⊎◌, inl, inr}
 use Rattle.std.specs.Prelude.{slice_get}
+use Rattle.std.proofs.lemmas.Bool.{false≢true}
 use Rattle.std.proofs.lemmas.List.{length-map}
 use Rattle.sd_types.specs.declared.numbers.Side.{Side}
 use Rattle.sd_types.specs.declared.numbers.Side.TheVariants.{Reader}
@@ -14,6 +15,7 @@ use Rattle.sd_frames.proofs.Words.{Same}
 use Rattle.sd_frames.proofs.Found.{runner_found, waiter_found}
 use Rattle.sd_frames.proofs.HoldTable.{held_part}
 use Rattle.sd_machine.specs.Accounts.{is_block}
+use Rattle.sd_invariants.proofs.Movers.{ends_wait}
 use Rattle.sd_invariants.proofs.ScriptLemmas.{HeldGo, step_away, waits_here}
 use Rattle.sd_frames.proofs.LockTable.{is_lockless, free_passes, drop_passes, quiet_passes, quiet_locks}
 use Rattle.sd_invariants.proofs.AgreedLemmas.{agreed_quiet, waits_back}
@@ -72,57 +74,44 @@ cause_pass w s c (Prio t u answer) quiet cause = free_pass s c cause.1.free
 cause_pass w s c (CvWait t k l) quiet cause = cc
 cause_pass w s c e quiet cause = free_pass s c cause.0.free
 
--- an event that is none of locks takes none and gives none up
-lockless_held : (s r : State) (e : Event) → is_lockless e ≡ true → HeldGo s r e → Same held_part s r
-lockless_held s r (Enter t l) quiet held = cc
-lockless_held s r (Read t l) quiet held = cc
-lockless_held s r (Write t l) quiet held = cc
-lockless_held s r (Block t l) quiet held = cc
-lockless_held s r (Exit t l) quiet held = cc
-lockless_held s r (Unblock l u at) quiet held = cc
-lockless_held s r (Grant l u at) quiet held = cc
-lockless_held s r (Passed l) quiet held = cc
-lockless_held s r (CvWait t k l) quiet held = cc
-lockless_held s r e quiet held = held
+-- an event that is none of locks takes none and gives none up, nobody comes to wait and no wait ends
+pub record Lockless (e : Event) : Type 0 where
+  pub held : (s r : State) → HeldGo s r e → Same held_part s r
+  pub away : is_block e ≡ false
+  pub ends : ends_wait e ≡ false
 
-pub lockless_away : (e : Event) → is_lockless e ≡ true → is_block e ≡ false
-lockless_away (Enter t l) quiet = cc
-lockless_away (Read t l) quiet = cc
-lockless_away (Write t l) quiet = cc
-lockless_away (Block t l) quiet = cc
-lockless_away (Exit t l) quiet = cc
-lockless_away (Unblock l u at) quiet = cc
-lockless_away (Grant l u at) quiet = cc
-lockless_away (Passed l) quiet = cc
-lockless_away (CvWait t k l) quiet = cc
-lockless_away e quiet = refl
+pub lockless : (e : Event) → is_lockless e ≡ true → Lockless e
+lockless (Enter t l) quiet = cc
+lockless (Read t l) quiet = cc
+lockless (Write t l) quiet = cc
+lockless (Block t l) quiet = cc
+lockless (Exit t l) quiet = cc
+lockless (Unblock l u at) quiet = cc
+lockless (Grant l u at) quiet = cc
+lockless (Passed l) quiet = cc
+lockless (CvWait t k l) quiet = cc
+lockless e quiet = record { held = λ s r held. held; away = refl; ends = refl }
+
+-- a lock of a kind is there
+pub kind_there : (p : Option LockKind → Bool) (xs : List LockKind) (i : ℕ) → p None ≡ false → p (slice_get xs i) ≡ true → i < length xs
+kind_there p xs i none e = by (slice_get xs i) refl e
+  where
+    by : (o : Option LockKind) → slice_get xs i ≡ o → p o ≡ true → i < length xs
+    by None is e = absurd (false≢true (sym none ∙ e))
+    by (Some k) is e = slice_get_within xs i k is
 
 -- a lock that an operation names is there
 pub lock_named : (w : Work) (s : State) (c t : ℕ) (o : Op) → FitsFully w s → Acts w s c t (Some o) → (l : LockId) → ((d : Declared) → op_names d o ≡ true → (is_mutex (slice_get d.locks l.0) ≡ true) ⊎ (is_rwlock (slice_get d.locks l.0) ≡ true)) → l.0 < length s.locks
 lock_named w s c t o fits acts l names =
     let named = names (declared w) (op_named w t (thread_of s t).body.op o acts.stands) in
-    let inside : l.0 < length (declared w).locks = elim named [ inl a ↦ mutex_inside (declared w).locks l.0 a | inr b ↦ rwlock_inside (declared w).locks l.0 b ] in
+    let inside : l.0 < length (declared w).locks = elim named [ inl a ↦ kind_there is_mutex (declared w).locks l.0 refl a | inr b ↦ kind_there is_rwlock (declared w).locks l.0 refl b ] in
     omega (arith, fits.locks, length-map w.locks (λ x. x.1))
-  where
-    mutex_inside : (xs : List LockKind) (i : ℕ) → is_mutex (slice_get xs i) ≡ true → i < length xs
-    mutex_inside xs i e = by (slice_get xs i) refl e
-      where
-        by : (o : Option LockKind) → slice_get xs i ≡ o → is_mutex o ≡ true → i < length xs
-        by None is e = cc
-        by (Some k) is e = slice_get_within xs i k is
-
-    rwlock_inside : (xs : List LockKind) (i : ℕ) → is_rwlock (slice_get xs i) ≡ true → i < length xs
-    rwlock_inside xs i e = by (slice_get xs i) refl e
-      where
-        by : (o : Option LockKind) → slice_get xs i ≡ o → is_rwlock o ≡ true → i < length xs
-        by None is e = cc
-        by (Some k) is e = slice_get_within xs i k is
 
 module _ (w : Work) (s : State) (n : ℕ) (c : CpuId) (ready : IsReady w s) (c_in : c.0 < length s.cpus) where
   lockless_agreed : (e : Event) → is_lockless e ≡ true → IsCause w s c.0 e → IsNext w s (after w s n c e) n c e → Agreed (after w s n c e)
   lockless_agreed e quiet cause next =
-      agreed_quiet s (after w s n c e) next.shape.threads (quiet_locks w s n c e quiet) (lockless_held s (after w s n c e) e quiet next.held) (quiet_passes w s n c e quiet (cause_pass w s c.0 e quiet cause))
-      (λ u m is. waits_back (step_of w s n c e) s (after w s n c e) next.steps (step_away w s n c e (lockless_away e quiet)) u m is) ready.agreed
+      agreed_quiet s (after w s n c e) next.shape.threads (quiet_locks w s n c e quiet) ((lockless e quiet).held s (after w s n c e) next.held) (quiet_passes w s n c e quiet (cause_pass w s c.0 e quiet cause))
+      (λ u m is. waits_back (step_of w s n c e) s (after w s n c e) next.steps (step_away w s n c e (lockless e quiet).away) u m is) ready.agreed
 
   exit_agreed : (t : ThreadId) (l : LockId) → IsCause w s c.0 (Exit t l) → IsNext w s (after w s n c (Exit t l)) n c (Exit t l) → Agreed (after w s n c (Exit t l))
   unfolding drop_ageing set_duty

@@ -8,7 +8,8 @@ use Rattle.sd_types.specs.declared.numbers.Side.{Side}
 use Rattle.sd_types.specs.Scripts.{is_lock, is_held, without_lock}
 use Rattle.sd_machine.specs.Graphs as G
 use Rattle.sd_machine.specs.Holders as H
-use Rattle.sd_machine.proofs.Moves.{IsPut, none_some}
+use Rattle.sd_state.proofs.KeyLemmas.{IsPut}
+use Rattle.sd_machine.proofs.Moves.{none_some}
 use Rattle.sd_machine.proofs.HolderLemmas.{count_same, count_one, IsAt, agreed_at}
 use Rattle.sd_machine.proofs.HolderLemmas.IsHeldAfter.{stays, comes, goes}
 use Rattle.sd_state.specs.declared.states.Place.{Place}

@@ -54,8 +54,7 @@ bounds_kept w s n c (Bind t u d answer) fits cause there =
 bounds_kept w s n c e fits cause there = same_bounds w s (after w s n c e) (threads_same w s n c e refl) there
 
 opening_bounds : (w : Work) → BoundsAreThere w (opening w)
-unfolding opening
-opening_bounds w t = subst (λ b. IsBoundThere w b) (sym (first_free w 0 w.threads t)) tt
+opening_bounds w t = subst (λ b. IsBoundThere w b) (sym (first_free w t)) tt
 
 pub bounds_are_there : HoldsWhenReached BoundsAreThere
 bounds_are_there = held_reached BoundsAreThere (record {

@@ -19,7 +19,7 @@ use Rattle.sd_types.specs.declared.works.Work.{Work}
 use Rattle.std.specs.Prelude.{if◌then◌else◌, is_none, is_some, ◌==◌, not, ◌&&◌}
 use Rattle.sd_state.specs.declared.states.CpuState.{CpuState}
 use Rattle.sd_state.specs.declared.states.State.{State}
-use Rattle.sd_state.specs.States.{no_thread, no_cpu, thread_of, cpu_of, set_of}
+use Rattle.sd_state.specs.States.{no_cpu, thread_of, cpu_of, set_of}
 use Rattle.sd_machine.specs.Threads.{runner}
 use Rattle.sd_machine.specs.Changes.{with_body, finish_op, run_tick, set_duty, count_tick, put, put_where, close, join, bind, unbind}
 use Rattle.sd_machine.specs.Dispatching.{class_counts, ticked, spun, idled}
@@ -36,8 +36,8 @@ use Rattle.std.proofs.lemmas.Bool.{cases_eq, cases_lt}
 use Rattle.std.proofs.lemmas.Bool.Decides.{nat_tests}
 use Rattle.std.proofs.lemmas.List.{set_past}
 use Rattle.sd_basics.proofs.Numbers.{same_itself}
-use Rattle.sd_types.specs.declared.works.ThreadDecl.{ThreadDecl}
-use Rattle.sd_state.specs.Opening.{first_cpu_state, first_thread, first_threads, opening}
+use Rattle.sd_state.specs.Opening.{first_cpu_state, first_thread, opening}
+use Rattle.sd_state.proofs.Declared.{opening_each}
 use Rattle.sd_machine.specs.Changes.{bind, unbind, put_where}
 use Rattle.sd_machine.specs.Prioritising.{is_privileged, uid_of}
 use Rattle.sd_machine.specs.SetChanges.{is_misbound, is_closing, bind_to, bind_put}
@@ -397,17 +397,15 @@ first_number w [] c = refl
 first_number w (n ∷ ns) zero = refl
 first_number w (n ∷ ns) (suc c) = first_number w ns c
 
-pub first_free : (w : Work) (k : ℕ) (ds : List ThreadDecl) (t : ℕ) → bound_part (get_or (first_threads w k ds) t no_thread) ≡ None
+pub first_free : (w : Work) (t : ℕ) → bound_part (thread_of (opening w) t) ≡ None
 unfolding first_thread
-first_free w k [] t = refl
-first_free w k (d ∷ ds) zero = refl
-first_free w k (d ∷ ds) (suc t) = first_free w (k + 1) ds t
+first_free w t = opening_each w t (λ x. bound_part x ≡ None) refl (λ d is. refl)
 
 opening_bound : (w : Work) → BoundHold (opening w)
 unfolding opening
 opening_bound w d inside =
     first_number w (range_with_len 0 w.cpus) d
-    ∙ sym (none_counted (λ t. is_bound_at d (bound_part (thread_of (opening w) t))) (length (opening w).threads) (λ t. ap (is_bound_at d) (first_free w 0 w.threads t)))
+    ∙ sym (none_counted (λ t. is_bound_at d (bound_part (thread_of (opening w) t))) (length (opening w).threads) (λ t. ap (is_bound_at d) (first_free w t)))
 
 pub bound_is_kept : IsKept (λ w n s. BoundHold s)
 bound_is_kept = record { start = opening_bound; step = bound_kept }

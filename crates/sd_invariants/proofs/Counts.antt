@@ -1,12 +1,13 @@
 -- The counts of ticks: what each event makes of them.
 use Rattle.std.proofs.Common.{◌≡◌, ℕ, ◌+◌, ◌<◌, ◌≤◌, Bool, true, false, List, [], ◌∷◌, length, get_or, set, cond, refl, ◌∙◌, sym, ap, subst, arith}
-use Rattle.std.specs.Prelude.{◌&&◌, ◌==◌, if◌then◌else◌, nat_lt, nat_le}
+use Rattle.std.specs.Prelude.{◌&&◌, ◌==◌, nat_lt, nat_le}
 use Rattle.std.specs.List.{list_all, range_with_len}
 use Rattle.std.proofs.lemmas.Bool.{false≢true}
 use Rattle.std.proofs.lemmas.Bool.Decides.{nat_tests}
 use Rattle.std.proofs.lemmas.List.{length-set, get_or-set_same, get_or-set_other}
 use Rattle.std.proofs.lemmas.List.Folds.{list_all_at}
 use Rattle.std.proofs.lemmas.List.Sums.{sum_by-cons}
+use Rattle.sd_basics.proofs.Numbers.{ones}
 use Rattle.sd_basics.proofs.Truths.{and_right}
 use Rattle.sd_types.specs.declared.numbers.CpuId.{CpuId}
 use Rattle.sd_types.specs.declared.events.AssignAnswer.TheVariants as assign
@@ -34,10 +35,6 @@ use Rattle.sd_frames.proofs.PlainWords.{plain_keeps, drop_keeps}
 use Rattle.sd_invariants.proofs.Ready.{kept_reached, reached_ready, next_ready, opening_ready}
 use Rattle.sd_invariants.proofs.CountLemmas.{count_marks, counts_plain, first_count, joined_counts, assigned_counts, pbound_counts, SameCounts, count_part}
 use Rattle.sd_invariants.specs.Ticks.{CountsStayClose, CountsRiseByTicks, CountsAreTicks}
-
--- one more where processor c takes a tick
-abbrev ones : Bool → ℕ
-ones b = if b then 1 else 0
 
 -- how each count rises by an entry of processor c, which takes a tick or does not
 record Rises (tick : Bool) (c : ℕ) (s r : State) : Type 0 where

@@ -1,22 +1,21 @@
 -- In every state of every run inherited priorities are sound and effective ones are below 160.
-use Rattle.std.proofs.Common.{◌≡◌, ℕ, zero, suc, ◌+◌, true, ◌&&◌, List, [], ◌∷◌, get_or, refl, arith}
+use Rattle.std.proofs.Common.{◌≡◌, ℕ, true, ◌&&◌, refl, arith}
 use Rattle.std.specs.Prelude.{nat_le, ◌==◌}
-use Rattle.std.specs.List.{list_all}
 use Rattle.std.proofs.lemmas.Bool.Decides.{nat_tests}
 use Rattle.sd_basics.proofs.Truths.{and_left, and_right}
 use Rattle.sd_types.specs.declared.classes.ClassParms.{ClassParms}
 use Rattle.sd_types.specs.declared.classes.ClassParms.TheVariants as parms
 use Rattle.sd_types.specs.declared.works.ThreadDecl.{ThreadDecl}
 use Rattle.sd_types.specs.declared.works.Work.{Work}
-use Rattle.sd_types.specs.Works.{class_fits, quantum_fits, thread_fits}
+use Rattle.sd_types.specs.Works.{class_fits, quantum_fits}
 use Rattle.sd_state.specs.States.{thread_of, no_thread}
-use Rattle.sd_state.specs.Opening.{first_class, first_thread, first_threads, opening}
+use Rattle.sd_state.specs.Opening.{first_class, first_thread, opening}
 use Rattle.sd_invariants.specs.Laws.{HoldsWhenReached, AreSound}
 use Rattle.sd_invariants.proofs.BaseLemmas.{IsBelow, tick_below, wake_below, age_below, requeue_below, new_below}
 use Rattle.sd_frames.proofs.ClassTable.{IsClosed, after_fit}
 use Rattle.sd_invariants.proofs.NumberLemmas.{IsFine, AreFine, fine_eff, after_sound}
 use Rattle.sd_invariants.proofs.Ready.{IsKept, kept_reached}
-use Rattle.sd_state.proofs.Declared.{declared}
+use Rattle.sd_state.proofs.Declared.{decl_class_fits, opening_each}
 
 first_below : (w : Work) (p : ClassParms) (level : ℕ) → class_fits p level ≡ true → IsBelow (first_class w p level)
 first_below w (parms.Ts limit upri) level fits = omega arith
@@ -44,15 +43,8 @@ first_fine w t d fits = record {
 nobody_fine : IsFine no_thread
 nobody_fine = record { sound = record { below = refl; apart = refl; owned = refl; held_once = refl }; base = omega arith }
 
-all_fine : (w : Work) (k : ℕ) (ds : List ThreadDecl) → list_all (thread_fits (declared w)) ds ≡ true → (t : ℕ) → IsFine (get_or (first_threads w k ds) t no_thread)
-all_fine w k [] fits t = nobody_fine
-all_fine w k (d ∷ ds) fits zero =
-    first_fine w k d (and_left (class_fits d.class d.cpupri) _ (and_left _ _ (and_left (thread_fits (declared w) d) (list_all (thread_fits (declared w)) ds) fits)))
-all_fine w k (d ∷ ds) fits (suc t) = all_fine w (k + 1) ds (and_right (thread_fits (declared w) d) _ fits) t
-
 opening_fine : (w : Work) → AreFine (opening w)
-unfolding opening
-opening_fine w t = all_fine w 0 w.threads w.threads_fit t
+opening_fine w t = opening_each w t IsFine nobody_fine (λ d is. first_fine w t d (decl_class_fits w t d is))
 
 classes : (w : Work) → IsClosed IsBelow w
 classes w = record {

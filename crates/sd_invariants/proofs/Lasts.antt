@@ -1,12 +1,10 @@
 -- The processor on which a thread ran last is there: it stays through each event that brings no thread to a processor, and one
 -- that does is made by a processor that is there.
-use Rattle.std.proofs.Common.{◌≡◌, ℕ, zero, suc, ◌+◌, ◌-◌, ◌<◌, ◌≤◌, Bool, true, false, List, [], ◌∷◌, length, get_or, Option, Some, None, is_none, refl, sym, subst, inl, inr, arith, ◌≢◌, ap, ◌∙◌}
+use Rattle.std.proofs.Common.{◌≡◌, ℕ, ◌-◌, ◌<◌, ◌≤◌, Bool, true, false, List, length, get_or, Option, Some, None, is_none, refl, sym, subst, inl, inr, arith, ◌≢◌, ap, ◌∙◌}
 use Rattle.std.specs.Prelude.{if◌then◌else◌, Result, Ok, Err, nat_lt, nat_le, ◌==◌}
-use Rattle.std.specs.List.{list_all}
 use Rattle.std.proofs.lemmas.Bool.{cases_lt, eq-eqb, false≢true}
 use Rattle.std.proofs.lemmas.List.{get_or-set_other}
 use Rattle.std.proofs.lemmas.List.{set_past}
-use Rattle.sd_basics.proofs.Truths.{and_left, and_right}
 use Rattle.sd_types.specs.declared.numbers.ChanId.{ChanId}
 use Rattle.sd_types.specs.declared.numbers.CpuId.{CpuId}
 use Rattle.sd_types.specs.declared.numbers.LockId.{LockId}
@@ -31,7 +29,6 @@ use Rattle.sd_types.specs.declared.scripts.Op.{Op}
 use Rattle.sd_types.specs.declared.scripts.Op.TheVariants as op
 use Rattle.sd_types.specs.declared.works.ThreadDecl.{ThreadDecl}
 use Rattle.sd_types.specs.declared.works.Work.{Work}
-use Rattle.sd_types.specs.Works.{thread_fits}
 use Rattle.sd_machine.proofs.Moves.{put_cases}
 use Rattle.sd_state.specs.declared.states.Place.{Place}
 use Rattle.sd_state.specs.declared.states.Place.TheVariants.{Running, Ended}
@@ -40,7 +37,7 @@ use Rattle.sd_state.specs.declared.states.CpuState.{CpuState}
 use Rattle.sd_state.specs.declared.states.ThreadState.{ThreadState}
 use Rattle.sd_state.specs.declared.states.State.{State}
 use Rattle.sd_state.specs.States.{no_thread, thread_of, cpu_of, with_thread, with_cpu, eff_of}
-use Rattle.sd_state.specs.Opening.{dealt_before, is_urgent, first_cpu, first_thread, first_threads, opening}
+use Rattle.sd_state.specs.Opening.{dealt_before, is_urgent, first_cpu, first_thread, opening}
 use Rattle.sd_state.specs.Operations.{script_of, op_of, op_over, ran}
 use Rattle.sd_machine.specs.Threads.{thread_id, lock_of, with_lock, runner, best_sleeper}
 use Rattle.sd_machine.specs.Bodies.{aged_class, departed, arrived}
@@ -58,9 +55,9 @@ use Rattle.sd_invariants.specs.Laws.{HoldsWhenReached}
 use Rattle.sd_frames.proofs.Parts.{same_item, put_item}
 use Rattle.sd_frames.proofs.Words.{Same, all_same, called_back_same, clear_marks_same, cleared_same, close_same, count_same, count_tick_same, idled_same, joined_same, lock_same, mark_over_same, passed_same, release_from_same, remark_same, roused_on_same, set_duty_same, set_mark_same, then_same, unblocked_on_same, walk_ended_same, walk_from_same}
 use Rattle.sd_frames.proofs.HoldTable.{body_same}
-use Rattle.sd_state.proofs.Declared.{declared}
+use Rattle.sd_state.proofs.Declared.{decl_set_there, opening_each}
 use Rattle.sd_invariants.proofs.Induction.{held_reached}
-use Rattle.sd_invariants.proofs.Places.{first_cpu_there, decl_set}
+use Rattle.sd_invariants.proofs.Places.{first_cpu_there}
 
 abbrev last_part : ThreadState → CpuId
 last_part x = x.body.last
@@ -405,14 +402,8 @@ first_last : (w : Work) (t : ℕ) (d : ThreadDecl) → d.set.0 ≤ length w.sets
 unfolding first_thread first_cpu
 first_last w t d there = first_cpu_there w d (if is_urgent d then 0 else dealt_before w d.set.0 t) there
 
-all_last : (w : Work) (k : ℕ) (ds : List ThreadDecl) → list_all (thread_fits (declared w)) ds ≡ true → (t : ℕ) → (get_or (first_threads w k ds) t no_thread).body.last.0 < w.cpus
-all_last w k [] fits t = let some = w.some_cpu in omega (arith, some)
-all_last w k (d ∷ ds) fits zero = first_last w k d (decl_set w d (and_left (thread_fits (declared w) d) (list_all (thread_fits (declared w)) ds) fits))
-all_last w k (d ∷ ds) fits (suc t) = all_last w (k + 1) ds (and_right (thread_fits (declared w) d) _ fits) t
-
 opening_last : (w : Work) → LastsAreThere w (opening w)
-unfolding opening
-opening_last w t = all_last w 0 w.threads w.threads_fit t
+opening_last w t = opening_each w t (λ x. x.body.last.0 < w.cpus) (let some = w.some_cpu in omega (arith, some)) (λ d is. first_last w t d (decl_set_there w t d is))
 
 pub lasts_are_there : HoldsWhenReached LastsAreThere
 lasts_are_there = held_reached LastsAreThere (record { start = opening_last; step = λ w s n c e reached here cause h. after_there w s n c e here h })

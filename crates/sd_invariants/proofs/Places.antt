@@ -1,12 +1,10 @@
 -- A thread that is made runnable goes to a processor that is there, and the place of each thread is there.
-use Rattle.std.proofs.Common.{◌≡◌, ℕ, zero, suc, ◌+◌, ◌<◌, ◌≤◌, ◌%◌, Bool, true, false, ◌&&◌, ◌||◌, List, [], ◌∷◌, length, get_or, Option, Some, None, is_none, sym, subst, inl, inr, arith}
+use Rattle.std.proofs.Common.{◌≡◌, ℕ, zero, suc, ◌<◌, ◌≤◌, ◌%◌, Bool, true, false, ◌&&◌, ◌||◌, [], ◌∷◌, length, get_or, Option, Some, None, is_none, sym, subst, inl, inr, arith}
 use Rattle.std.specs.Prelude.{⊤, if◌then◌else◌, nat_lt, nat_le, ◌==◌, IfSome, ℤ, pos}
-use Rattle.std.specs.List.{Contains, list_all}
+use Rattle.std.specs.List.{Contains}
 use Rattle.std.proofs.Math.Nat.{mod-lt}
 use Rattle.std.proofs.lemmas.List.{get_or_default}
-use Rattle.std.proofs.lemmas.Bool.Decides.{nat_tests}
 use Rattle.std.proofs.lemmas.Option.{same_Some}
-use Rattle.sd_basics.proofs.Truths.{and_left, and_right}
 use Rattle.sd_types.specs.declared.numbers.CpuId.{CpuId}
 use Rattle.sd_types.specs.declared.numbers.ThreadId.{ThreadId}
 use Rattle.sd_types.specs.declared.bodies.ThreadBody.{ThreadBody}
@@ -24,15 +22,14 @@ use Rattle.sd_types.specs.declared.works.ThreadDecl.{ThreadDecl}
 use Rattle.sd_types.specs.declared.works.Work.{Work}
 use Rattle.sd_types.specs.Partitions.{cpus_of_set}
 use Rattle.sd_types.specs.Priorities.{eff, eff_as}
-use Rattle.sd_types.specs.Works.{op_names, class_fits, thread_fits}
 use Rattle.sd_rules.proofs.PartitionLemmas.{some_cpu, in_no_other, names-from_Contains}
 use Rattle.sd_machine.proofs.Moves.{put_cases}
 use Rattle.sd_state.specs.Invariants.{IsPlaceThere}
 use Rattle.sd_state.specs.declared.states.Place.{Place}
 use Rattle.sd_state.specs.declared.states.Place.TheVariants.{Running, Queued, RealTime}
 use Rattle.sd_state.specs.declared.states.State.{State}
-use Rattle.sd_state.specs.States.{no_thread, thread_of, set_of, eff_of}
-use Rattle.sd_state.specs.Opening.{dealt_cpu, dealt_before, is_urgent, first_cpu, first_thread, first_threads, opening}
+use Rattle.sd_state.specs.States.{thread_of, set_of, eff_of}
+use Rattle.sd_state.specs.Opening.{dealt_cpu, dealt_before, is_urgent, first_cpu, first_thread, opening}
 use Rattle.sd_machine.specs.declared.plans.Requeue.TheVariants.{Stays, Behind, Anew}
 use Rattle.sd_machine.specs.Threads.{open_of}
 use Rattle.sd_machine.specs.Bodies.{aged_class}
@@ -48,7 +45,7 @@ use Rattle.sd_frames.specs.Moves.Step.{Stay, Go}
 use Rattle.sd_invariants.proofs.Movers.{bind_put_is, mover_there}
 use Rattle.sd_frames.proofs.PlaceTable.{Stepped, after_steps, step_needs}
 use Rattle.sd_invariants.proofs.Whole.{reached_whole}
-use Rattle.sd_state.proofs.Declared.{declared}
+use Rattle.sd_state.proofs.Declared.{decl_set_there, opening_each}
 use Rattle.sd_invariants.specs.There.{IsBoundThere, SetsAreOpen, ThreadsHaveCpus}
 use Rattle.sd_invariants.proofs.Induction.{held_reached}
 use Rattle.sd_invariants.proofs.Named.{acts_named, sleep_chan, sema_chan, wait_chan, bind_cpu, wants_lock, set_of_there}
@@ -264,19 +261,8 @@ first_there w t d there = by (is_urgent d)
     by true = there
     by false = first_cpu_there w d (dealt_before w d.set.0 t) there
 
-pub decl_set : (w : Work) (d : ThreadDecl) → thread_fits (declared w) d ≡ true → d.set.0 ≤ length w.sets
-decl_set w d fits =
-    let test : nat_le d.set.0 (length w.sets) ≡ true = and_right (class_fits d.class d.cpupri) _ (and_left _ (list_all (op_names (declared w)) d.script.ops) fits) in
-    grind (arith, nat_tests)
-
-all_there : (w : Work) (k : ℕ) (ds : List ThreadDecl) → list_all (thread_fits (declared w)) ds ≡ true → (t : ℕ) → IsPlaceThere w (get_or (first_threads w k ds) t no_thread).place
-all_there w k [] fits t = tt
-all_there w k (d ∷ ds) fits zero = first_there w k d (decl_set w d (and_left (thread_fits (declared w) d) (list_all (thread_fits (declared w)) ds) fits))
-all_there w k (d ∷ ds) fits (suc t) = all_there w (k + 1) ds (and_right (thread_fits (declared w) d) _ fits) t
-
 opening_there : (w : Work) → PlacesAreThere w (opening w)
-unfolding opening
-opening_there w t = all_there w 0 w.threads w.threads_fit t
+opening_there w t = opening_each w t (λ x. IsPlaceThere w x.place) tt (λ d is. first_there w t d (decl_set_there w t d is))
 
 pub places_are_there : HoldsWhenReached PlacesAreThere
 places_are_there = held_reached PlacesAreThere (record {

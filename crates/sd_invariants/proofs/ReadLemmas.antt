@@ -1,8 +1,8 @@
 -- A lock that readers hold has a writer among its waiters, if it has any, through each event.
-use Rattle.std.proofs.Common.{◌≡◌, ◌≢◌, ℕ, ◌-◌, ◌<◌, Bool, true, false, List, length, set, get_or, Option, Some, None, refl, sym, ap, ◌∙◌, subst, arith, ◌⊎◌, inl, inr, ◌==◌}
+use Rattle.std.proofs.Common.{◌≡◌, ◌≢◌, ℕ, ◌-◌, ◌<◌, Bool, true, false, List, length, set, get_or, Option, Some, None, refl, sym, ap, ◌∙◌, subst, arith, ◌⊎◌, inl, inr}
 use Rattle.std.specs.Prelude.{option_map, ℤ}
 use Rattle.std.proofs.lemmas.Bool.{cases_eq, eqb-true}
-use Rattle.std.proofs.lemmas.Bool.Decides.{nat_tests}
+use Rattle.sd_basics.proofs.Numbers.{same_itself}
 use Rattle.sd_types.specs.declared.numbers.ChanId.{ChanId}
 use Rattle.sd_types.specs.declared.numbers.CpuId.{CpuId}
 use Rattle.sd_types.specs.declared.numbers.LockId.{LockId}
@@ -47,8 +47,8 @@ use Rattle.sd_invariants.proofs.Waiters.{Stays, Waited, away_waited, others_wait
 use Rattle.sd_invariants.proofs.Works.{op_named}
 use Rattle.sd_invariants.proofs.AgreedLemmas as A
 use Rattle.sd_invariants.proofs.AgreedAfter.{IsReady, IsNext, lock_inside, not_free_passing, enter_locks, write_locks, read_locks, block_locks}
-use Rattle.sd_invariants.proofs.AgreedEvents.{lock_named, lockless_away}
-use Rattle.sd_invariants.proofs.ServeLemmas.{kind_is, lockless_ends, stays_all, wait_ends, exit_busy, cv_wait_busy}
+use Rattle.sd_invariants.proofs.AgreedEvents.{lock_named, lockless}
+use Rattle.sd_invariants.proofs.ServeLemmas.{kind_is, stays_all, wait_ends, exit_busy, cv_wait_busy}
 use Rattle.sd_frames.proofs.ReleaseLemmas.{Outcome, exit_outcome, cv_wait_outcome, nobody_waits}
 use Rattle.sd_frames.proofs.ReleaseLemmas.Outcome.{freed, passed_on, fewer, left, nothing}
 use Rattle.sd_frames.proofs.PassLemmas.{Woken, Granted, Passed as Handed, unblock_outcome, grant_outcome, pass_outcome, drop_duties}
@@ -105,10 +105,7 @@ some_is_some : (v : ℕ) (o : Option ℕ) → o ≡ Some v → o ≢ None
 some_is_some v o is none = let bad : Some v ≡ None = sym is ∙ none in cc
 
 waiting_writer : (l : LockId) (side : Side) (k : ℤ) → side ≡ Writer → is_waiting_at l.0 Writer (Waiting l side k) ≡ true
-waiting_writer l Writer k is = rw (same_number l.0) refl
-  where
-    same_number : (m : ℕ) → (m == m) ≡ true
-    same_number m = grind (arith, nat_tests)
+waiting_writer l Writer k is = rw (same_itself l.0) refl
 waiting_writer l Reader k is = cc
 
 module _ (w : Work) (s : State) (n : ℕ) (c : CpuId) (ready : IsReady w s) (c_in : c.0 < length s.cpus) where
@@ -120,7 +117,7 @@ module _ (w : Work) (s : State) (n : ℕ) (c : CpuId) (ready : IsReady w s) (c_i
 
   lockless_reads : (e : Event) → is_lockless e ≡ true → IsCause w s c.0 e → IsNext w s (after w s n c e) n c e → ReadsWell w (after w s n c e)
   lockless_reads e quiet cause next =
-      reads_kept w s (after w s n c e) next.shape.threads (T.quiet_locks w s n c e quiet) (λ l m held. same_all e (lockless_ends e quiet) (lockless_away e quiet) cause next l.0) ready.reads
+      reads_kept w s (after w s n c e) next.shape.threads (T.quiet_locks w s n c e quiet) (λ l m held. same_all e (lockless e quiet).ends (lockless e quiet).away cause next l.0) ready.reads
 
   -- a lock is taken
   nobody_yet : (l : LockId) → (lock_of s l.0 ≡ Free) ⊎ ((m : ℕ) × (lock_of s l.0 ≡ ReadHeld m) × (best_waiter s l.0 Writer ≡ None)) → has_waiters s l.0 ≡ true → ⊥

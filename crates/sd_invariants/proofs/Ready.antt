@@ -28,9 +28,10 @@ use Rattle.sd_state.specs.declared.states.Place.{Place}
 use Rattle.sd_state.specs.declared.states.Place.TheVariants.{Running, Queued, RealTime, Waiting, Asleep, Napping, Ended}
 use Rattle.sd_state.specs.declared.states.ThreadState.{ThreadState}
 use Rattle.sd_state.specs.declared.states.State.{State}
-use Rattle.sd_state.specs.States.{thread_of, cpu_of, no_thread, no_cpu}
+use Rattle.sd_state.specs.States.{thread_of, cpu_of, no_cpu}
 use Rattle.sd_state.specs.Operations.{script_of}
-use Rattle.sd_state.specs.Opening.{first_cpu, is_urgent, first_thread, first_threads, first_cpu_state, opening}
+use Rattle.sd_state.specs.Opening.{first_cpu, is_urgent, first_thread, first_cpu_state, opening}
+use Rattle.sd_state.proofs.Declared.{opening_each}
 use Rattle.sd_machine.specs.Threads.{lock_of, best_waiter, has_waiters}
 use Rattle.sd_machine.specs.Locking.{kind_of}
 use Rattle.sd_machine.specs.LockGraph.{wait_of}
@@ -159,14 +160,8 @@ first_is w t d = record {
   away = elim (is_urgent d) as (λ b. is_waiter (if b then RealTime d.set (pos t) else Queued (first_cpu w t d) (pos t)) ≡ false) [ true ↦ refl | false ↦ refl ];
 }
 
-first_at : (w : Work) (k : ℕ) (ds : List ThreadDecl) (t : ℕ) → IsFirst (get_or (first_threads w k ds) t no_thread)
-first_at w k [] t = record { op = refl; held = refl; away = refl }
-first_at w k (d ∷ ds) zero = first_is w k d
-first_at w k (d ∷ ds) (suc t) = first_at w (k + 1) ds t
-
 opening_thread : (w : Work) (t : ℕ) → IsFirst (thread_of (opening w) t)
-unfolding opening
-opening_thread w t = first_at w 0 w.threads t
+opening_thread w t = opening_each w t IsFirst (record { op = refl; held = refl; away = refl }) (λ d is. first_is w t d)
 
 all_free : (n l : ℕ) → get_or (replicate n Free) l Free ≡ Free
 all_free zero l = refl

@@ -42,8 +42,7 @@ use Rattle.sd_state.specs.Invariants.{OneRuns}
 use Rattle.sd_frames.proofs.PlaceTable.{after_steps, step_needs}
 use Rattle.sd_invariants.proofs.Movers.{mover_there}
 use Rattle.sd_invariants.proofs.AgreedAfter.{IsReady}
-use Rattle.std.proofs.Common.{[], ◌∷◌, ◌+◌}
-use Rattle.sd_state.proofs.Openings.{none_running}
+use Rattle.sd_state.proofs.Openings.{opening_runs_none}
 
 -- where no runner is found, no thread runs
 nobody_runs : (s : State) (c : ℕ) → runner s c ≡ None → (t : ℕ) → t < length s.threads → is_running c (thread_of s t).place ≡ false
@@ -150,5 +149,4 @@ one_kept w s n c e ready cause one =
     one_after (step_of w s n c e) s (after w s n c e) (after_shape w s n c e).threads (after_steps w s n c e (step_needs w s c.0 e cause) (mover_there w s n c e ready.fits ready.agreed cause)) (starts_well w s n c e cause) one
 
 pub opening_one : (w : Work) → OneRuns (opening w)
-unfolding opening
-opening_one w = λ t u c t_in u_in t_on u_on. absurd (false≢true (sym (none_running w 0 w.threads t c) ∙ t_on))
+opening_one w = λ t u c t_in u_in t_on u_on. absurd (false≢true (sym (opening_runs_none w t c) ∙ t_on))

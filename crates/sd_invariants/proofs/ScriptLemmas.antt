@@ -9,7 +9,7 @@ use Rattle.sd_types.specs.Scripts.{without_lock, held_after, held_by}
 use Rattle.sd_frames.specs.Causes.{wants, Acts, IsCause}
 use Rattle.sd_invariants.specs.Scripted.{IsScripted, Scripted}
 use Rattle.sd_frames.proofs.HoldTable.{held_part, held_moves, held_ops, Goes, same_then, put_to, owned_held, read_held, exited_held, cv_waited_held, granted_to_writer_held, granted_to_reader_held, willed_held, pbound_held}
-use Rattle.sd_frames.proofs.OpTable.{ender, IsEnderThere, ender_there, Finished, OpsGo}
+use Rattle.sd_frames.proofs.OpTable.{ender, IsEnderThere, ender_there, Finished, OpsBy, OpsGo}
 use Rattle.sd_frames.proofs.PlaceTable.{Stepped}
 use Rattle.sd_frames.proofs.Found.{runner_found, waiter_found}
 use Rattle.sd_frames.specs.Moves.{Step, put_step_if, woken_step, reordered_step, aged_step, prio_step, bind_step, step_of}
@@ -387,6 +387,11 @@ finished_by w s r n c e t ends over done held a away u before = elim (cases_eq u
     apart : u ≢ t → (v : ℕ) → ender e ≡ Some v → u ≢ v
     apart other v is same = let t_is : t ≡ v = same_Some t v (sym ends ∙ is) in other (same ∙ sym t_is)
 
+by_ender : (w : Work) (s r : State) (n : ℕ) (c : CpuId) (e : Event) (o : Option ℕ) → ender e ≡ o → OverIf w s r o → OpsBy s r o → HeldGo s r e → Stepped (step_of w s n c e) s r
+    → StepAway (step_of w s n c e) → (u : ℕ) → IsScripted w s u → IsScripted w r u
+by_ender w s r n c e None is over ops held a away u before = quiet_scripted w s r n c u before (step_of w s n c e) a away (ops.each u) (held_other s r e u held (λ t ends. cc))
+by_ender w s r n c e (Some t) is over ops held a away u before = finished_by w s r n c e t is over ops held a away u before
+
 -- where what each event makes of operations, locks and places is known, threads stand where they stand in their scripts
 pub scripted_by : (w : Work) (s r : State) (n : ℕ) (c : CpuId) (e : Event) → Scripted w s → IsCause w s c.0 e → OpsGo s r e → HeldGo s r e → Stepped (step_of w s n c e) s r
     → (u : ℕ) → IsScripted w s u → IsScripted w r u
@@ -395,22 +400,5 @@ scripted_by w s r n c (Block t l) all cause ops held a u before =
     block_scripted w s r n c u before t.0 l cause.0 wanted.by wanted.acts wanted.wanted a (ops.each u) (held.each u)
 scripted_by w s r n c (Tick t) all cause (inl same) held a thread before = quiet_scripted w s r n c thread before (step_of w s n c (Tick t)) a (step_away w s n c (Tick t) refl) (same.each thread) (held.each thread)
 scripted_by w s r n c (Tick t) all cause (inr done) held a thread before = finished_by w s r n c (Tick t) t.0 refl (over_of w s r n c (Tick t) cause all a held) done held a (step_away w s n c (Tick t) refl) thread before
-scripted_by w s r n c (Yield t) all cause ops held a thread before = finished_by w s r n c (Yield t) t.0 refl (over_of w s r n c (Yield t) cause all a held) ops held a (step_away w s n c (Yield t) refl) thread before
-scripted_by w s r n c (Nap t) all cause ops held a thread before = finished_by w s r n c (Nap t) t.0 refl (over_of w s r n c (Nap t) cause all a held) ops held a (step_away w s n c (Nap t) refl) thread before
-scripted_by w s r n c (Sleep t k) all cause ops held a thread before = finished_by w s r n c (Sleep t k) t.0 refl (over_of w s r n c (Sleep t k) cause all a held) ops held a (step_away w s n c (Sleep t k) refl) thread before
-scripted_by w s r n c (Wake t k u) all cause ops held a thread before = finished_by w s r n c (Wake t k u) t.0 refl (over_of w s r n c (Wake t k u) cause all a held) ops held a (step_away w s n c (Wake t k u) refl) thread before
-scripted_by w s r n c (Wakeall t k) all cause ops held a thread before = finished_by w s r n c (Wakeall t k) t.0 refl (over_of w s r n c (Wakeall t k) cause all a held) ops held a (step_away w s n c (Wakeall t k) refl) thread before
-scripted_by w s r n c (Enter t l) all cause ops held a thread before = finished_by w s r n c (Enter t l) t.0 refl (over_of w s r n c (Enter t l) cause all a held) ops held a (step_away w s n c (Enter t l) refl) thread before
-scripted_by w s r n c (Read t l) all cause ops held a thread before = finished_by w s r n c (Read t l) t.0 refl (over_of w s r n c (Read t l) cause all a held) ops held a (step_away w s n c (Read t l) refl) thread before
-scripted_by w s r n c (Write t l) all cause ops held a thread before = finished_by w s r n c (Write t l) t.0 refl (over_of w s r n c (Write t l) cause all a held) ops held a (step_away w s n c (Write t l) refl) thread before
-scripted_by w s r n c (Exit t l) all cause ops held a thread before = finished_by w s r n c (Exit t l) t.0 refl (over_of w s r n c (Exit t l) cause all a held) ops held a (step_away w s n c (Exit t l) refl) thread before
-scripted_by w s r n c (Grant l u at) all cause ops held a thread before = finished_by w s r n c (Grant l u at) u.0 refl (over_of w s r n c (Grant l u at) cause all a held) ops held a (step_away w s n c (Grant l u at) refl) thread before
-scripted_by w s r n c (Prio t u answer) all cause ops held a thread before = finished_by w s r n c (Prio t u answer) t.0 refl (over_of w s r n c (Prio t u answer) cause all a held) ops held a (step_away w s n c (Prio t u answer) refl) thread before
-scripted_by w s r n c (CvWait t k l) all cause ops held a thread before = finished_by w s r n c (CvWait t k l) t.0 refl (over_of w s r n c (CvWait t k l) cause all a held) ops held a (step_away w s n c (CvWait t k l) refl) thread before
-scripted_by w s r n c (SemaP t k) all cause ops held a thread before = finished_by w s r n c (SemaP t k) t.0 refl (over_of w s r n c (SemaP t k) cause all a held) ops held a (step_away w s n c (SemaP t k) refl) thread before
-scripted_by w s r n c (SemaWait t k) all cause ops held a thread before = finished_by w s r n c (SemaWait t k) t.0 refl (over_of w s r n c (SemaWait t k) cause all a held) ops held a (step_away w s n c (SemaWait t k) refl) thread before
-scripted_by w s r n c (SemaVWake t k u at) all cause ops held a thread before = finished_by w s r n c (SemaVWake t k u at) t.0 refl (over_of w s r n c (SemaVWake t k u at) cause all a held) ops held a (step_away w s n c (SemaVWake t k u at) refl) thread before
-scripted_by w s r n c (SemaVCount t k m) all cause ops held a thread before = finished_by w s r n c (SemaVCount t k m) t.0 refl (over_of w s r n c (SemaVCount t k m) cause all a held) ops held a (step_away w s n c (SemaVCount t k m) refl) thread before
-scripted_by w s r n c (Assign t d to answer) all cause ops held a thread before = finished_by w s r n c (Assign t d to answer) t.0 refl (over_of w s r n c (Assign t d to answer) cause all a held) ops held a (step_away w s n c (Assign t d to answer) refl) thread before
-scripted_by w s r n c (Bind t u d answer) all cause ops held a thread before = finished_by w s r n c (Bind t u d answer) t.0 refl (over_of w s r n c (Bind t u d answer) cause all a held) ops held a (step_away w s n c (Bind t u d answer) refl) thread before
-scripted_by w s r n c e all cause ops held a thread before = quiet_scripted w s r n c thread before (step_of w s n c e) a (step_away w s n c e refl) (ops.each thread) (held.each thread)
+scripted_by w s r n c e all cause ops held a thread before =
+    by_ender w s r n c e (ender e) refl (over_of w s r n c e cause all a held) ops held a (step_away w s n c e refl) thread before

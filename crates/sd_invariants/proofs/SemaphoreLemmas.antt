@@ -1,10 +1,10 @@
 -- The count of a semaphore is at most its first count and the operations that are over.
-use Rattle.std.proofs.Common.{◌≡◌, ℕ, ◌<◌, false, List, length, refl, sym, ap, ◌∙◌, subst, arith, inl, inr}
+use Rattle.std.proofs.Common.{◌≡◌, ℕ, ◌<◌, ◌≤◌, false, List, length, Option, Some, None, refl, sym, ap, ◌∙◌, subst, arith, inl, inr}
 use Rattle.sd_types.specs.declared.numbers.ChanId.{ChanId}
 use Rattle.sd_types.specs.declared.numbers.CpuId.{CpuId}
 use Rattle.sd_types.specs.declared.numbers.ThreadId.{ThreadId}
 use Rattle.sd_types.specs.declared.events.Event.{Event}
-use Rattle.sd_types.specs.declared.events.Event.TheVariants.{Tick, Yield, Nap, Sleep, Wake, Wakeall, Enter, Read, Write, Exit, Grant, Prio, CvWait, SemaP, SemaWait, SemaVWake, SemaVCount, Assign, Joined, Bind}
+use Rattle.sd_types.specs.declared.events.Event.TheVariants.{Tick, SemaP, SemaVCount, Assign, Joined}
 use Rattle.sd_types.specs.declared.works.Work.{Work}
 use Rattle.sd_state.specs.declared.states.State.{State}
 use Rattle.sd_state.specs.States.{thread_of}
@@ -27,11 +27,11 @@ use Rattle.sd_machine.proofs.ShapeLemmas.{after_shape}
 use Rattle.sd_frames.proofs.FieldWords as F
 use Rattle.sd_frames.proofs.SideFields.{is_side, after_keeps}
 use Rattle.sd_frames.proofs.Words.{Same}
-use Rattle.sd_frames.proofs.OpTable.{op_part, Finished, ender, IsEnderThere, OpsGo, after_ops}
+use Rattle.sd_frames.proofs.OpTable.{op_part, Finished, ender, IsEnderThere, OpsBy, OpsGo, after_ops}
 use Rattle.sd_invariants.proofs.ScriptLemmas.{ender_in}
 use Rattle.sd_invariants.proofs.AgreedAfter.{IsReady}
 use Rattle.sd_invariants.proofs.Ready.{IsKept}
-use Rattle.sd_machine.proofs.Moves.{IsPut}
+use Rattle.sd_state.proofs.KeyLemmas.{IsPut}
 
 -- a sum over the first numbers
 abbrev pub total : (ℕ → ℕ) → ℕ → ℕ
@@ -83,28 +83,14 @@ same_more s r many a = let e = same_over s r many a in omega arith
 one_more_over : (s r : State) (t : ℕ) → length r.threads ≡ length s.threads → t < length s.threads → Finished s r t → ops_over s ≤ ops_over r
 one_more_over s r t many inside a = let e = one_over s r t many inside a in omega arith
 
+more_by : (s r : State) (o : Option ℕ) → length r.threads ≡ length s.threads → IsEnderThere s o → OpsBy s r o → ops_over s ≤ ops_over r
+more_by s r None many here a = same_more s r many a
+more_by s r (Some t) many here a = one_more_over s r t many here a
+
 more_over : (s r : State) (e : Event) → length r.threads ≡ length s.threads → IsEnderThere s (ender e) → OpsGo s r e → ops_over s ≤ ops_over r
 more_over s r (Tick t) many here (inl a) = same_more s r many a
 more_over s r (Tick t) many here (inr a) = one_more_over s r t.0 many here a
-more_over s r (Yield t) many here a = one_more_over s r t.0 many here a
-more_over s r (Nap t) many here a = one_more_over s r t.0 many here a
-more_over s r (Sleep t k) many here a = one_more_over s r t.0 many here a
-more_over s r (Wake t k u) many here a = one_more_over s r t.0 many here a
-more_over s r (Wakeall t k) many here a = one_more_over s r t.0 many here a
-more_over s r (Enter t l) many here a = one_more_over s r t.0 many here a
-more_over s r (Read t l) many here a = one_more_over s r t.0 many here a
-more_over s r (Write t l) many here a = one_more_over s r t.0 many here a
-more_over s r (Exit t l) many here a = one_more_over s r t.0 many here a
-more_over s r (Prio t u answer) many here a = one_more_over s r t.0 many here a
-more_over s r (CvWait t k l) many here a = one_more_over s r t.0 many here a
-more_over s r (SemaP t k) many here a = one_more_over s r t.0 many here a
-more_over s r (SemaWait t k) many here a = one_more_over s r t.0 many here a
-more_over s r (SemaVWake t k u at) many here a = one_more_over s r t.0 many here a
-more_over s r (SemaVCount t k m) many here a = one_more_over s r t.0 many here a
-more_over s r (Assign t d to answer) many here a = one_more_over s r t.0 many here a
-more_over s r (Bind t u d answer) many here a = one_more_over s r t.0 many here a
-more_over s r (Grant l u at) many here a = one_more_over s r u.0 many here a
-more_over s r e many here a = same_more s r many a
+more_over s r e many here a = more_by s r (ender e) many here a
 
 -- Counts.
 

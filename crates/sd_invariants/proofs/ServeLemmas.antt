@@ -1,6 +1,6 @@
 -- Each duty to pass on a lock goes on serving somebody, through each event.
 use Rattle.std.proofs.Common.{◌≡◌, ◌≢◌, ℕ, zero, suc, ◌<◌, Bool, true, false, List, [], ◌∷◌, length, Some, refl, sym, ap, ◌∙◌, subst, arith, ◌⊎◌, inl, inr}
-use Rattle.std.specs.Prelude.{slice_get, map, nat_lt}
+use Rattle.std.specs.Prelude.{slice_get, nat_lt}
 use Rattle.std.proofs.lemmas.Bool.{cases_eq}
 use Rattle.std.proofs.lemmas.Bool.Decides.{nat_tests}
 use Rattle.sd_basics.proofs.Truths.{and_right}
@@ -47,7 +47,7 @@ use Rattle.sd_state.proofs.Declared.{declared}
 use Rattle.sd_invariants.proofs.Works.{op_named}
 use Rattle.sd_machine.proofs.HolderLemmas.{count_one}
 use Rattle.sd_invariants.proofs.AgreedAfter.{IsReady, IsNext, holds_it}
-use Rattle.sd_invariants.proofs.AgreedEvents.{cause_pass}
+use Rattle.sd_invariants.proofs.AgreedEvents.{cause_pass, kind_there, lockless}
 use Rattle.sd_frames.proofs.ReleaseLemmas.{Suits, Outcome, exit_outcome, cv_wait_outcome}
 use Rattle.sd_frames.proofs.ReleaseLemmas.Outcome.{freed, passed_on, fewer, left, nothing}
 use Rattle.sd_frames.proofs.PassLemmas.{drop_duties, Woken, Granted, Passed as Handed, unblock_outcome, grant_outcome, pass_outcome}
@@ -132,26 +132,8 @@ exit_inside w s c t l acts =
     let inside : nat_lt l.0 (length (declared w).locks) ≡ true = op_named w t (thread_of s t).body.op (op.Exit l) acts.stands in
     grind (arith, nat_tests)
 
-mutex_there : (xs : List LockKind) (i : ℕ) → is_mutex (slice_get xs i) ≡ true → i < length xs
-mutex_there [] i e = cc
-mutex_there (x ∷ xs) zero e = omega arith
-mutex_there (x ∷ xs) (suc i) e = let more = mutex_there xs i e in omega arith
-
 cv_wait_inside : (w : Work) (s : State) (c t : ℕ) (k : ChanId) (l : LockId) → Acts w s c t (Some (op.CvWait k l)) → l.0 < length (declared w).locks
-cv_wait_inside w s c t k l acts = mutex_there (declared w).locks l.0 (and_right _ (is_mutex (slice_get (declared w).locks l.0)) (op_named w t (thread_of s t).body.op (op.CvWait k l) acts.stands))
-
--- an event that is about no lock ends no wait
-pub lockless_ends : (e : Event) → is_lockless e ≡ true → ends_wait e ≡ false
-lockless_ends (Enter t l) quiet = cc
-lockless_ends (Read t l) quiet = cc
-lockless_ends (Write t l) quiet = cc
-lockless_ends (Block t l) quiet = cc
-lockless_ends (Exit t l) quiet = cc
-lockless_ends (Unblock l u at) quiet = cc
-lockless_ends (Grant l u at) quiet = cc
-lockless_ends (Passed l) quiet = cc
-lockless_ends (CvWait t k l) quiet = cc
-lockless_ends e quiet = refl
+cv_wait_inside w s c t k l acts = kind_there is_mutex (declared w).locks l.0 refl (and_right _ (is_mutex (slice_get (declared w).locks l.0)) (op_named w t (thread_of s t).body.op (op.CvWait k l) acts.stands))
 
 same_stays : (s : State) (c : ℕ) (e : Event) (l : ℕ) → Stays s (drop_ageing s c e) l
 unfolding drop_ageing set_duty
@@ -188,7 +170,7 @@ module _ (w : Work) (s : State) (n : ℕ) (c : CpuId) (ready : IsReady w s) (c_i
   lockless_serves : (e : Event) → is_lockless e ≡ true → IsCause w s c.0 e → IsNext w s (after w s n c e) n c e → DutiesServe w (after w s n c e)
   lockless_serves e quiet cause next =
       serves_kept w s (after w s n c e) next.shape.threads (T.quiet_served w s n c e quiet (T.unserved (cpu_of s c.0).duty (cause_pass w s c.0 e quiet cause)))
-      (stays_all e (lockless_ends e quiet) cause next) ready.serves
+      (stays_all e (lockless e quiet).ends cause next) ready.serves
 
   -- where a hold is given up
   suits_serve : (s0 r : State) (l : LockId) (x : LockState) (d : Duty) → length r.threads ≡ length s0.threads → Stays s0 r l.0 → l.0 < length (declared w).locks → lock_of s l.0 ≡ x → Suits w s0 l x d → has_waiters s0 l.0 ≡ true → DutyServes w r d

@@ -36,7 +36,8 @@ use Rattle.sd_machine.specs.Locking.{free_or_passed, release_from, unblocked_on,
 use Rattle.sd_machine.specs.Prioritising.{walk_from}
 use Rattle.sd_machine.specs.Events.{drop_ageing}
 use Rattle.sd_state.specs.Invariants.{is_marked}
-use Rattle.sd_machine.proofs.Moves.{IsSame, IsPut}
+use Rattle.sd_state.proofs.KeyLemmas.{IsPut}
+use Rattle.sd_machine.proofs.Moves.{IsSame}
 use Rattle.sd_frames.proofs.Parts.{put_item, same_item, put_same, same_put}
 use Rattle.sd_frames.proofs.Words.{of_threads}
 use Rattle.sd_frames.proofs.CpuWords.{of_cpus}

@@ -1,5 +1,5 @@
 -- In every state of every run each thread stands where its set, its binding and its priority ask.
-use Rattle.std.proofs.Common.{◌≡◌, ℕ, ◌<◌, true, length, None, refl, sym, ap, ◌∙◌, subst, inl, inr, arith}
+use Rattle.std.proofs.Common.{◌≡◌, ℕ, ◌<◌, true, length, refl, sym, ap, ◌∙◌, subst, inl, inr, arith}
 use Rattle.std.proofs.lemmas.Bool.{cases_lt, false≢true}
 use Rattle.std.proofs.lemmas.List.{get_or_past}
 use Rattle.sd_types.specs.declared.numbers.CpuId.{CpuId}
@@ -84,27 +84,23 @@ module _ (w : Work) (n : ℕ) (s : State) (reached : IsReached w n s) (homes : T
 
 -- The initial state.
 
-first_free_at : (w : Work) (t : ℕ) → (thread_of (opening w) t).body.bound ≡ None
-unfolding opening
-first_free_at w t = first_free w 0 w.threads t
-
 opening_belongs : (w : Work) → ThreadsBelong w (opening w)
 opening_belongs w t = record {
   place = elim (cases_lt t (length s.threads)) [
     | inl inside ↦ by (thread_of s t).place (opening_well w t).0 (opening_suits w t)
     | inr past ↦ subst (λ (x : ThreadState). BelongsAt s (set_of w t) (eff_of s t) (thread_of s t).body.bound x.place) (sym (get_or_past s.threads t no_thread past)) tt
   ];
-  bound = λ d is. absurd (none-some d (sym (first_free_at w t) ∙ is));
+  bound = λ d is. absurd (none-some d (sym (first_free w t) ∙ is));
 }
   where
     s : State
     s = opening w
 
     by : (p : Place) → IsInItsSet w s t p → SuitsQueue (eff_of s t) (thread_of s t).body.bound p → BelongsAt s (set_of w t) (eff_of s t) (thread_of s t).body.bound p
-    by (Queued c k) own (inl low) = (own, inl (first_free_at w t, low))
+    by (Queued c k) own (inl low) = (own, inl (first_free w t, low))
     by (Queued c k) own (inr here) = (own, inr here)
     by (RealTime q k) own suits = (suits.0, suits.1, own)
-    by (Running c) own suits = (own, λ d is other. absurd (none-some d (sym (first_free_at w t) ∙ is)))
+    by (Running c) own suits = (own, λ d is other. absurd (none-some d (sym (first_free w t) ∙ is)))
     by (Waiting l side k) own suits = tt
     by (Asleep j k) own suits = tt
     by (Napping c due) own suits = tt

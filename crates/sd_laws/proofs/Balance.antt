@@ -5,6 +5,7 @@ use Rattle.std.specs.List.{range_with_len, sum_by}
 use Rattle.std.proofs.lemmas.Bool.{cases_eq}
 use Rattle.std.proofs.lemmas.List.Sums.{sum_by-cons, sum_by_more}
 use Rattle.std.proofs.lemmas.Option.{same_Some}
+use Rattle.sd_basics.proofs.Numbers.{ones}
 use Rattle.sd_types.specs.declared.numbers.CpuId.{CpuId}
 use Rattle.sd_types.specs.declared.numbers.LockId.{LockId}
 use Rattle.sd_types.specs.declared.numbers.Side.{Side}
@@ -14,7 +15,7 @@ use Rattle.sd_types.specs.declared.events.Event.TheVariants.{Tick, Yield, Nap, S
 use Rattle.sd_types.specs.declared.scripts.Op.{Op}
 use Rattle.sd_types.specs.declared.scripts.Op.TheVariants as op
 use Rattle.sd_types.specs.declared.works.Work.{Work}
-use Rattle.sd_machine.proofs.Moves.{IsPut}
+use Rattle.sd_state.proofs.KeyLemmas.{IsPut}
 use Rattle.sd_state.specs.declared.states.State.{State}
 use Rattle.sd_state.specs.Operations.{script_of}
 use Rattle.sd_state.specs.States.{thread_of}
@@ -27,7 +28,6 @@ use Rattle.sd_frames.proofs.OpTable.{op_part, Finished, after_ops}
 use Rattle.sd_invariants.proofs.ScriptLemmas.{waits_here, ender_in}
 use Rattle.sd_frames.proofs.Words.{Same}
 use Rattle.sd_laws.specs.HistoryLaws.{is_sema_p, is_sema_v, ops_done}
-use Rattle.sd_laws.proofs.Counts.{ones}
 
 -- Sums over threads.
 

@@ -6,7 +6,7 @@ use Rattle.std.proofs.lemmas.Bool.Decides.{nat_tests}
 use Rattle.std.proofs.lemmas.List.{get_or_past, get_or-set_same, get_or-set_other, length-map}
 use Rattle.std.proofs.lemmas.List.Sums.{sum_by-cons}
 use Rattle.std.proofs.lemmas.Option.{same_Some, slice_get_within}
-use Rattle.sd_basics.proofs.Numbers.{same_itself}
+use Rattle.sd_basics.proofs.Numbers.{ones, same_itself}
 use Rattle.sd_basics.proofs.Truths.{and_left}
 use Rattle.sd_types.specs.declared.names.Name.{Name}
 use Rattle.sd_types.specs.declared.numbers.ChanId.{ChanId}
@@ -25,8 +25,9 @@ use Rattle.sd_machine.proofs.Moves.{put_cases}
 use Rattle.sd_state.specs.declared.states.Place.{Place}
 use Rattle.sd_state.specs.declared.states.Place.TheVariants.{Queued, RealTime, Asleep, Ended}
 use Rattle.sd_state.specs.declared.states.State.{State}
-use Rattle.sd_state.specs.Opening.{count_of as count_in, first_count, first_cpu, is_urgent, first_thread, first_threads, opening}
-use Rattle.sd_state.specs.States.{no_thread, thread_of}
+use Rattle.sd_state.specs.Opening.{count_of as count_in, first_count, first_cpu, is_urgent, first_thread, opening}
+use Rattle.sd_state.specs.States.{thread_of}
+use Rattle.sd_state.proofs.Declared.{opening_each}
 use Rattle.sd_machine.specs.Accounts.{entries_of}
 use Rattle.sd_machine.specs.Changes.{back_key, finish_op, set_duty}
 use Rattle.sd_machine.specs.Conditions.{sema_taken, sema_counted}
@@ -64,9 +65,6 @@ counts_after w s n c (Joined to) = joined_counts (drop_ageing s c.0 (Joined to))
 counts_after w s n c e = (after_keeps counts_field (λ s t x. refl) (λ s c x. refl) (λ s l x. refl) w s n c e refl).same
 
 -- One less, or one more.
-
-abbrev pub ones : Bool → ℕ
-ones b = cond b 1 0
 
 positive_inside : (xs : List ℕ) (i : ℕ) → 0 < get_or xs i 0 → i < length xs
 positive_inside xs i some = elim (cases_lt i (length xs)) [
@@ -267,14 +265,8 @@ first_awake : (w : Work) (t : ℕ) (d : ThreadDecl) → sleeps (first_thread w t
 unfolding first_thread
 first_awake w t d = elim (is_urgent d) as (λ b. sleeps (if b then RealTime d.set (pos t) else Queued (first_cpu w t d) (pos t)) ≡ false) [ true ↦ refl | false ↦ refl ]
 
-awake_at : (w : Work) (k : ℕ) (ds : List ThreadDecl) (t : ℕ) → sleeps (get_or (first_threads w k ds) t no_thread).place ≡ false
-awake_at w k [] t = refl
-awake_at w k (d ∷ ds) zero = first_awake w k d
-awake_at w k (d ∷ ds) (suc t) = awake_at w (k + 1) ds t
-
 pub opening_awake : (w : Work) (t : ℕ) → sleeps (thread_of (opening w) t).place ≡ false
-unfolding opening
-opening_awake w t = awake_at w 0 w.threads t
+opening_awake w t = opening_each w t (λ x. sleeps x.place ≡ false) refl (λ d is. first_awake w t d)
 
 uncounted_at : (xs : List (Name × ChanKind)) (k : ℕ) → is_sema (slice_get (map (λ (x : Name × ChanKind). x.1) xs) k) ≡ false → get_or (map first_count xs) k 0 ≡ 0
 uncounted_at [] k plain = refl

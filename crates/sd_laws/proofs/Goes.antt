@@ -22,7 +22,8 @@ use Rattle.sd_machine.specs.Changes.{with_place, back_key, set_class, unmarked, 
 use Rattle.sd_machine.specs.Dispatching.{dispatched, stolen, sent_away}
 use Rattle.sd_machine.specs.Sleeping.{woken}
 use Rattle.sd_state.specs.Invariants.{is_marked}
-use Rattle.sd_machine.proofs.Moves.{IsSame, IsPut, put_cases}
+use Rattle.sd_state.proofs.KeyLemmas.{IsPut}
+use Rattle.sd_machine.proofs.Moves.{IsSame, put_cases}
 use Rattle.sd_frames.proofs.Parts.{put_item, same_item, put_same, same_put, put_put}
 use Rattle.sd_frames.proofs.Words.{of_threads}
 use Rattle.sd_frames.proofs.CpuWords.{of_cpus}

@@ -1,13 +1,13 @@
 -- A thread that sleeps on a semaphore is woken only by a `semav` that hands it over; so the count of a semaphore, the operations
 -- on it that are over, and the threads that sleep on it balance.
-use Rattle.std.proofs.Common.{◌≡◌, ◌≢◌, ℕ, zero, suc, ◌+◌, ◌<◌, ◌≤◌, Bool, true, false, List, [], ◌∷◌, length, take, get_or, Some, refl, sym, ap, ◌∙◌, subst, inl, inr, arith}
+use Rattle.std.proofs.Common.{◌≡◌, ◌≢◌, ℕ, ◌+◌, ◌<◌, ◌≤◌, Bool, true, false, List, [], ◌∷◌, length, take, Some, refl, sym, ap, ◌∙◌, subst, inl, inr, arith}
 use Rattle.std.specs.Prelude.{◌==◌, count_by, int_lt, ℤ}
 use Rattle.std.specs.List.{sum_by}
 use Rattle.std.proofs.lemmas.Bool.{false≢true, cases_Bool, cases_lt}
 use Rattle.std.proofs.lemmas.Bool.Decides.{nat_tests}
 use Rattle.std.proofs.lemmas.List.Sums.{sum_by-cons}
 use Rattle.std.proofs.lemmas.Option.{same_Some}
-use Rattle.sd_basics.proofs.Numbers.{same_itself}
+use Rattle.sd_basics.proofs.Numbers.{ones, same_itself}
 use Rattle.sd_basics.proofs.Truths.{and_left, same_truth}
 use Rattle.sd_types.specs.declared.numbers.ChanId.{ChanId}
 use Rattle.sd_types.specs.declared.numbers.CpuId.{CpuId}
@@ -26,8 +26,9 @@ use Rattle.sd_state.specs.declared.states.Place.{Place}
 use Rattle.sd_state.specs.declared.states.Place.TheVariants.{Asleep}
 use Rattle.sd_state.specs.declared.states.State.{State}
 use Rattle.sd_state.specs.Operations.{script_of}
-use Rattle.sd_state.specs.Opening.{first_thread, first_threads, opening}
-use Rattle.sd_state.specs.States.{no_thread, thread_of, cpu_of, thread_numbers}
+use Rattle.sd_state.specs.Opening.{first_thread, opening}
+use Rattle.sd_state.specs.States.{thread_of, cpu_of, thread_numbers}
+use Rattle.sd_state.proofs.Declared.{opening_each}
 use Rattle.sd_machine.specs.Changes.{back_key, place_put}
 use Rattle.sd_machine.specs.Events.{after}
 use Rattle.sd_machine.specs.Runs.{final, IsReached}
@@ -43,7 +44,7 @@ use Rattle.sd_invariants.proofs.Works.{op_named}
 use Rattle.sd_laws.specs.HistoryLaws.{put_to_sleep, finds_nobody, chan_kind, declared_count, is_taken, is_counted_up, is_sema_p, is_sema_v, ops_done, sleepers_on, SemaphoresBalance, SemaphoreWaitersSleepUntilHanded, SleepersWaitAtZero}
 use Rattle.sd_laws.proofs.Balance.{ends_one, grows, in_work, p_blind, v_blind, sums_above, sums_put}
 use Rattle.sd_laws.proofs.Carried.{IsCarried, carried_from, met_from, reached_at, split}
-use Rattle.sd_laws.proofs.Counts.{ones, zeros_law, count_goes, opening_count, opening_awake, fell_asleep, chan_no_sema}
+use Rattle.sd_laws.proofs.Counts.{zeros_law, count_goes, opening_count, opening_awake, fell_asleep, chan_no_sema}
 use Rattle.sd_laws.proofs.Rousing.{RousingChans, rouses_chan, rousing_after, rousing_reached, opening_rousing}
 use Rattle.sd_laws.proofs.Runnable.{steps_after}
 use Rattle.sd_laws.proofs.Sleepers.{sleeps, found, falls, running_awake, sleeper_kept}
@@ -257,14 +258,8 @@ first_op : (w : Work) (t : ℕ) (d : ThreadDecl) → (first_thread w t d).body.o
 unfolding first_thread
 first_op w t d = refl
 
-op_at_first : (w : Work) (k : ℕ) (ds : List ThreadDecl) (t : ℕ) → (get_or (first_threads w k ds) t no_thread).body.op ≡ 0
-op_at_first w k [] t = refl
-op_at_first w k (d ∷ ds) zero = first_op w k d
-op_at_first w k (d ∷ ds) (suc t) = op_at_first w (k + 1) ds t
-
 opening_op : (w : Work) (t : ℕ) → (thread_of (opening w) t).body.op ≡ 0
-unfolding opening
-opening_op w t = op_at_first w 0 w.threads t
+opening_op w t = opening_each w t (λ x. x.body.op ≡ 0) refl (λ d is. first_op w t d)
 
 zeros : (f : ℕ → ℕ) (xs : List ℕ) → ((t : ℕ) → f t ≡ 0) → sum_by f xs ≡ 0
 zeros f [] none = refl

@@ -17,7 +17,8 @@ use Rattle.sd_types.specs.Priorities.{eff}
 use Rattle.sd_types.specs.Willed.{without_number, changed_number}
 use Rattle.sd_machine.specs.Graphs as G
 use Rattle.sd_machine.proofs.HolderLemmas.{owner_alone, free_unheld}
-use Rattle.sd_machine.proofs.Moves.{IsSame, IsPut, SameEff, IsQuiet, IsBlock, IsRelease, IsAcquire, IsLeave, none_some, unowned}
+use Rattle.sd_state.proofs.KeyLemmas.{IsPut}
+use Rattle.sd_machine.proofs.Moves.{IsSame, SameEff, IsQuiet, IsBlock, IsRelease, IsAcquire, IsLeave, none_some, unowned}
 use Rattle.sd_machine.proofs.Steps.{exact_stays}
 use Rattle.sd_state.specs.declared.states.LockState.{LockState}
 use Rattle.sd_state.specs.declared.states.LockState.TheVariants.{Free, Owned, ReadHeld, Passing}

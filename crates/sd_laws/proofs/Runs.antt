@@ -30,7 +30,8 @@ use Rattle.sd_state.specs.declared.states.State.{State}
 use Rattle.sd_state.specs.declared.states.LockState.TheVariants.{Free}
 use Rattle.sd_state.specs.declared.states.Place.TheVariants.{Queued, RealTime}
 use Rattle.sd_state.specs.States.{no_thread, no_cpu, thread_of, cpu_of}
-use Rattle.sd_state.specs.Opening.{first_cpu, is_urgent, first_thread, first_threads, first_cpu_state, opening}
+use Rattle.sd_state.specs.Opening.{first_cpu, is_urgent, first_thread, first_cpu_state, opening}
+use Rattle.sd_state.proofs.Declared.{opening_each}
 use Rattle.sd_machine.specs.Threads.{lock_of}
 use Rattle.sd_machine.specs.Changes.{back_key}
 use Rattle.sd_machine.specs.LockGraph.{wait_of, owner_of, walk_of, number_at, graph, cycles_of}
@@ -147,14 +148,8 @@ first_is w t d = record {
   looped = refl;
 }
 
-first_at : (w : Work) (k : ℕ) (ds : List ThreadDecl) (t : ℕ) → IsFirst (get_or (first_threads w k ds) t no_thread)
-first_at w k [] t = record { away = refl; numbers = refl; looped = refl }
-first_at w k (d ∷ ds) zero = first_is w k d
-first_at w k (d ∷ ds) (suc t) = first_at w (k + 1) ds t
-
 opening_first : (w : Work) (t : ℕ) → IsFirst (thread_of (opening w) t)
-unfolding opening
-opening_first w t = first_at w 0 w.threads t
+opening_first w t = opening_each w t IsFirst (record { away = refl; numbers = refl; looped = refl }) (λ d is. first_is w t d)
 
 all_free : (k l : ℕ) → owner_of (get_or (replicate k Free) l Free) ≡ None
 all_free zero l = refl

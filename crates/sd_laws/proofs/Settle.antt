@@ -25,7 +25,7 @@ use Rattle.sd_machine.specs.Threads.{open_of, with_open, runner}
 use Rattle.sd_machine.specs.Changes.{with_cpu_in, without_cpu, set_duty, close, join}
 use Rattle.sd_machine.specs.SetChanges.{bound_put, unbound_put, bind_put, bind_to, cleared, assigned, joined, pbound}
 use Rattle.sd_machine.specs.Events.{drop_ageing, effect, after}
-use Rattle.sd_machine.proofs.Moves.{IsPut}
+use Rattle.sd_state.proofs.KeyLemmas.{IsPut}
 use Rattle.sd_frames.specs.Causes.{IsCause}
 use Rattle.sd_frames.proofs.CpuWords as C
 use Rattle.sd_frames.proofs.Words.{of_threads}

@@ -10,7 +10,8 @@ use Rattle.sd_types.specs.Scripts.{is_lock}
 use Rattle.sd_types.specs.Willed.{Numbers, changed_number}
 use Rattle.sd_types.proofs.WilledLemmas.{number_for-with, number_for-without, number_for-with_other, number_for-without_other}
 use Rattle.sd_machine.specs.Graphs as G
-use Rattle.sd_machine.proofs.Moves.{IsPut, IsSame, SameWilled, OthersWilled, put_cases}
+use Rattle.sd_state.proofs.KeyLemmas.{IsPut}
+use Rattle.sd_machine.proofs.Moves.{IsSame, SameWilled, OthersWilled, put_cases}
 use Rattle.sd_state.specs.declared.states.LockState.{LockState}
 use Rattle.sd_state.specs.declared.states.LockState.TheVariants.{Free}
 use Rattle.sd_state.specs.declared.states.Place.{Place}

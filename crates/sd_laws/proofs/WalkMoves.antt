@@ -17,7 +17,8 @@ use Rattle.sd_types.specs.declared.events.Put.{Put}
 use Rattle.sd_types.specs.declared.works.Work.{Work}
 use Rattle.sd_types.specs.Willed.{changed_number}
 use Rattle.sd_machine.specs.Graphs as G
-use Rattle.sd_machine.proofs.Moves.{IsSame, IsPut, IsQuiet, IsEnd, IsRebase, none_some, put_cases}
+use Rattle.sd_state.proofs.KeyLemmas.{IsPut}
+use Rattle.sd_machine.proofs.Moves.{IsSame, IsQuiet, IsEnd, IsRebase, none_some, put_cases}
 use Rattle.sd_machine.proofs.WillMove.{IsNext, IsClosed, IsWill}
 use Rattle.sd_machine.proofs.WillMove.IsNext.{ends_free, ends_looped, ends_back, goes_anew, goes_same}
 use Rattle.sd_state.specs.declared.states.LockState.{LockState}

@@ -5,14 +5,15 @@ use Rattle.std.specs.List.{position, position_or_len, list_any, list_all}
 use Rattle.std.specs.Cmp.Lexicographic.{pointwise, bytes_decides}
 use Rattle.std.proofs.Math.Seq.{take-append_seam}
 use Rattle.std.proofs.lemmas.List.{map-append}
-use Rattle.std.proofs.lemmas.Bool.{false≢true, and_parts}
+use Rattle.std.proofs.lemmas.Bool.{and_parts}
 use Rattle.std.proofs.lemmas.Bool.Decides.{nat_tests}
+use Rattle.sd_basics.proofs.Lists.{any-map}
 use Rattle.sd_basics.proofs.Truths.{same_truth}
 use Rattle.sd_types.specs.Works.{same_bytes}
 use Rattle.sd_lines.specs.contracts.key.NameKeyPartialEq.TheImpl.{eq-value}
 use Rattle.sd_lines.specs.declared.key.NameKey.{NameKey}
 use Rattle.sd_lines.specs.Keys.{padded, key_of, word_of, is_key}
-use Rattle.sd_lines.proofs.PlaceLemmas.{position-map, any-map}
+use Rattle.sd_lines.proofs.PlaceLemmas.{position-map}
 
 abbrev same_key : NameKey → NameKey → Bool
 same_key = eq-value.it
@@ -123,7 +124,7 @@ module _ (ks : List NameKey) (own : list_all is_key ks ≡ true) (word : List �
   any_there : list_any (same_key (key_of word)) ks ≡ list_any (λ name. same_bytes name word) (map word_of ks)
   any_there =
       any_same is_key (same_key (key_of word)) (λ k. same_bytes (word_of k) word) (keys_tell_words word) ks own
-      ∙ sym (any-map word_of (λ name. same_bytes name word) ks)
+      ∙ sym (any-map (λ name. same_bytes name word) word_of ks)
 
   -- one more name goes last
   pub pushed : (new : List NameKey) → new ≡ cond (list_any (same_key (key_of word)) ks) ks (ks ++ key_of word ∷ [])

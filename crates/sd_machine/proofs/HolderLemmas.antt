@@ -3,7 +3,7 @@ use Rattle.std.proofs.Common.{◌≡◌, ◌≢◌, ℕ, zero, suc, ◌<◌, ◌
 use Rattle.std.proofs.lemmas.Bool.{cases_eq}
 use Rattle.sd_machine.specs.Holders.{Pass, Table, counted, holders_of, IsAgreed}
 use Rattle.sd_machine.specs.Holders.Lock.{Free, Owned, Passing}
-use Rattle.sd_machine.proofs.Moves.{IsPut}
+use Rattle.sd_state.proofs.KeyLemmas.{IsPut}
 
 -- Counting.
 

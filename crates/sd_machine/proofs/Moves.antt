@@ -3,16 +3,12 @@ use Rattle.std.proofs.Common.{◌≡◌, ◌≢◌, ℕ, Option, Some, None, ℤ
 use Rattle.std.proofs.lemmas.Bool.{cases_eq}
 use Rattle.std.proofs.lemmas.Int.{ints}
 use Rattle.std.specs.Prelude.{◌<ℤ◌}
+use Rattle.sd_state.proofs.KeyLemmas.{IsPut}
 use Rattle.sd_machine.specs.Graphs.{Wait, Walk, Graph, IsOn, Stands, IsExact, IsLocal, Follows, IsSoundGraph}
 use Rattle.sd_machine.specs.Graphs.Reaches.{here}
 use Rattle.sd_machine.proofs.Steps.{IsFine, IsStep}
 use Rattle.sd_machine.proofs.Steps.IsFine.{same, fresh, walked}
 use Rattle.std.proofs.lemmas.Option.{same_Some}
-
--- one thread, lock or processor t gets x
-pub record IsPut {X : Type 0} (t : ℕ) (x : X) (f g : ℕ → X) : Type 0 where
-  pub at : g t ≡ x
-  pub others : (u : ℕ) → u ≢ t → g u ≡ f u
 
 abbrev pub IsSame : {X : Type 0} → (ℕ → X) → (ℕ → X) → Type 0
 IsSame f g = (u : ℕ) → g u ≡ f u

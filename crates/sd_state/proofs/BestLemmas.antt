@@ -1,10 +1,11 @@
 -- The best of a list, as a scan from the front finds it: for any candidates and any order.
-use Rattle.std.proofs.Common.{◌≡◌, ℕ, suc, ◌+◌, ◌<◌, Bool, true, false, not, ◌&&◌, List, [], ◌∷◌, length, get_or, ◌⊎◌, Option, Some, None, sym, refl, ap, ◌∙◌, inl, inr, arith}
-use Rattle.std.specs.List.{list_all, position, position_or_len}
+use Rattle.std.proofs.Common.{◌≡◌, ℕ, ◌+◌, ◌<◌, Bool, true, false, not, ◌&&◌, List, length, get_or, ◌⊎◌, Option, Some, None, sym, ap, ◌∙◌, inl, inr, arith}
+use Rattle.std.specs.List.{position, position_or_len}
 use Rattle.std.proofs.lemmas.List.Sums.{prefix_len_is}
 use Rattle.std.proofs.lemmas.List.Folds.{list_all_at}
 use Rattle.std.proofs.lemmas.Bool.{cases_Bool, cases_lt, false≢true}
 use Rattle.std.proofs.lemmas.Bool.Decides.{nat_tests}
+use Rattle.sd_basics.proofs.Lists.{all_each}
 use Rattle.sd_basics.proofs.Truths.{and_left, and_right, and_rest}
 use Rattle.sd_state.specs.Best.{leads_by, best_by}
 
@@ -84,19 +85,11 @@ position_none p xs d none =
     let at : position_or_len p xs ≡ length xs = prefix_len_is (λ x. not (p x)) xs (length xs) d (omega arith) (λ k l. ap not (none k l)) (λ l. absurd (omega arith)) in
     grind (arith, nat_tests)
 
--- a test that holds of each
-pub list_all_is : {X : Type 0} (p : X → Bool) (xs : List X) (d : X) → ((k : ℕ) → k < length xs → p (get_or xs k d) ≡ true) → list_all p xs ≡ true
-list_all_is p [] d each = refl
-list_all_is p (x ∷ xs) d each =
-    let head : p x ≡ true = each 0 (omega arith) in
-    let tail : list_all p xs ≡ true = list_all_is p xs d (λ k l. each (suc k) (omega arith)) in
-    rw (head, tail)
-
 leads_true : {X : Type 0} (on : X → Bool) (beats : X → X → Bool) (d : X) (xs : List X) (b : ℕ) → IsBest on beats d xs (length xs) b → leads_by on beats xs (get_or xs b d) ≡ true
 leads_true on beats d xs b best =
     let fits : (k : ℕ) → k < length xs → not (on (get_or xs k d) && beats (get_or xs k d) (get_or xs b d)) ≡ true =
     λ k l. elim (cases_Bool (on (get_or xs k d))) [ inl y ↦ rw (y, best.unbeaten k l y) | inr n ↦ rw n ] in
-    rw (best.candidate, list_all_is (λ u. not (on u && beats u (get_or xs b d))) xs d fits)
+    rw (best.candidate, all_each (λ u. not (on u && beats u (get_or xs b d))) d xs fits)
 
 leads_false : {X : Type 0} (on : X → Bool) (beats : X → X → Bool) (d : X) (xs : List X) (b k : ℕ) → IsBest on beats d xs (length xs) b → k < b → leads_by on beats xs (get_or xs k d) ≡ false
 leads_false on beats d xs b k best l =

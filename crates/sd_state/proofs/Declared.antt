@@ -1,5 +1,5 @@
 -- The declared threads of a valid workload, and where the initial state has each.
-use Rattle.std.proofs.Common.{◌≡◌, ℕ, zero, suc, ◌+◌, ◌<◌, ◌≤◌, true, ◌&&◌, leb, List, [], ◌∷◌, length, get_or, Option, Some, None, sym, ap, ◌∙◌, arith}
+use Rattle.std.proofs.Common.{◌≡◌, ℕ, zero, suc, ◌+◌, ◌<◌, ◌≤◌, true, ◌&&◌, leb, List, [], ◌∷◌, length, get_or, Option, Some, None, refl, sym, ap, subst, ◌∙◌, zero-add, arith}
 use Rattle.std.specs.Prelude.{slice_get, option_map, unwrap_or}
 use Rattle.std.proofs.lemmas.Bool.{and_parts, leb-true}
 use Rattle.std.proofs.lemmas.List.{get_or_past}
@@ -8,12 +8,10 @@ use Rattle.std.proofs.lemmas.Option.{get_or_from_slice_get, slice_get_within}
 use Rattle.sd_types.specs.declared.works.ThreadDecl.{ThreadDecl}
 use Rattle.sd_types.specs.declared.works.Work.{Work}
 use Rattle.sd_types.specs.Works.{class_fits, thread_fits, declared_of, Declared}
-use Rattle.sd_state.specs.declared.states.Place.TheVariants.{Ended}
 use Rattle.sd_state.specs.declared.states.ThreadState.{ThreadState}
 use Rattle.sd_state.specs.States.{thread_of, no_thread, set_of}
 use Rattle.sd_state.specs.Opening.{opening, first_threads, first_thread}
 use Rattle.sd_state.proofs.OpeningLemmas.{length-first_threads}
-use Rattle.sd_state.proofs.Chosen.{places}
 
 slice_get-past : {X : Type 0} (xs : List X) (i : ℕ) → slice_get xs i ≡ None → length xs ≤ i
 slice_get-past [] i e = omega arith
@@ -53,14 +51,14 @@ first_thread_at w k [] t d e = cc
 first_thread_at w k (x ∷ xs) zero d e = let same : x ≡ d = cc in ap (first_thread w k) same ∙ ap (λ m. first_thread w m d) (let q : k ≡ k + zero = omega arith in q)
 first_thread_at w k (x ∷ xs) (suc t) d e = first_thread_at w (k + 1) xs t d e ∙ ap (λ m. first_thread w m d) (let q : k + 1 + t ≡ k + suc t = omega arith in q)
 
-pub opening_at : (w : Work) (t : ℕ) (d : ThreadDecl) → slice_get w.threads t ≡ Some d → thread_of (opening w) t ≡ first_thread w (0 + t) d
+-- what is so of each declared thread, and of one that is none, is so of every thread of the initial state
+pub opening_each : (w : Work) (t : ℕ) (P : ThreadState → Type 0) → P no_thread → ((d : ThreadDecl) → slice_get w.threads t ≡ Some d → P (first_thread w t d)) → P (thread_of (opening w) t)
 unfolding opening
-opening_at w t d e = first_thread_at w 0 w.threads t d e
-
--- a number that no thread has
-pub opening_past : (w : Work) (t : ℕ) → slice_get w.threads t ≡ None → places (opening w) t ≡ Ended
-unfolding opening
-opening_past w t e =
-    let len = length-first_threads w 0 w.threads in
-    let past = slice_get-past w.threads t e in
-    ap (λ (x : ThreadState). x.place) (get_or_past (first_threads w 0 w.threads) t no_thread (omega arith))
+opening_each w t P none each = by (slice_get w.threads t) refl
+  where
+    by : (o : Option ThreadDecl) → slice_get w.threads t ≡ o → P (thread_of (opening w) t)
+    by None e =
+        let len = length-first_threads w 0 w.threads in
+        let past = slice_get-past w.threads t e in
+        subst P (sym (get_or_past (first_threads w 0 w.threads) t no_thread (omega arith))) none
+    by (Some d) e = subst P (sym (first_thread_at w 0 w.threads t d e ∙ ap (λ m. first_thread w m d) (zero-add t))) (each d e)

@@ -16,6 +16,7 @@ pub data Change (X : Type 0) : Type 0 where
   Keep : Change X
   Put : ℕ → X → Change X
 
+-- one thread, lock or processor t gets x
 pub record IsPut {X : Type 0} (t : ℕ) (x : X) (f g : ℕ → X) : Type 0 where
   pub at : g t ≡ x
   pub others : (u : ℕ) → u ≢ t → g u ≡ f u

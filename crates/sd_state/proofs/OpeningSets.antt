@@ -1,5 +1,5 @@
 -- In the initial state each thread is in its own set, in a place that the workload has.
-use Rattle.std.proofs.Common.{◌≡◌, ℕ, ◌+◌, ◌<◌, ◌%◌, Bool, true, false, cond, length, get_or, Option, Some, None, pos, refl, sym, ap, ◌∙◌, subst, arith}
+use Rattle.std.proofs.Common.{◌≡◌, ℕ, ◌<◌, ◌%◌, Bool, true, false, cond, length, get_or, Some, pos, sym, ap, ◌∙◌, arith}
 use Rattle.std.specs.Prelude.{slice_get}
 use Rattle.std.proofs.lemmas.List.{get_or_default}
 use Rattle.std.proofs.lemmas.List.FromFn.{get_or-map-range_with_len}
@@ -10,14 +10,13 @@ use Rattle.sd_types.specs.declared.works.ThreadDecl.{ThreadDecl}
 use Rattle.sd_types.specs.declared.works.Work.{Work}
 use Rattle.sd_types.specs.Partitions.{set_of_cpu, cpus_of_set}
 use Rattle.sd_state.specs.declared.states.Place.TheVariants.{Queued, RealTime}
-use Rattle.sd_state.specs.declared.states.ThreadState.{ThreadState}
 use Rattle.sd_state.specs.declared.states.CpuState.{CpuState}
 use Rattle.sd_state.specs.States.{cpu_of, no_cpu}
 use Rattle.sd_state.specs.Opening.{opening, first_thread, first_cpu, dealt_cpu, dealt_before, is_urgent, first_cpu_state}
 use Rattle.sd_state.specs.Invariants.{IsInItsSet, IsPlaceThere}
 use Rattle.sd_state.proofs.Chosen.{places}
 use Rattle.sd_rules.proofs.PartitionLemmas.{some_cpu, in_no_other}
-use Rattle.sd_state.proofs.Declared.{decl_set, decl_set_there, opening_at, opening_past}
+use Rattle.sd_state.proofs.Declared.{decl_set, decl_set_there, opening_each}
 
 -- a processor of the initial state is in the set that the workload gives it
 pub opening_set : (w : Work) (c : ℕ) → c < w.cpus → (cpu_of (opening w) c).set.0 ≡ set_of_cpu w c
@@ -50,8 +49,4 @@ module _ (w : Work) (t : ℕ) (d : ThreadDecl) (is : slice_get w.threads t ≡ S
 
 -- a thread of the initial state stands in its set, in a place that is there
 pub opening_well : (w : Work) (t : ℕ) → IsInItsSet w (opening w) t (places (opening w) t) × IsPlaceThere w (places (opening w) t)
-opening_well w t = by (slice_get w.threads t) refl
-  where
-    by : (o : Option ThreadDecl) → slice_get w.threads t ≡ o → IsInItsSet w (opening w) t (places (opening w) t) × IsPlaceThere w (places (opening w) t)
-    by None e = subst (λ p. IsInItsSet w (opening w) t p × IsPlaceThere w p) (sym (opening_past w t e)) (tt, tt)
-    by (Some d) e = subst (λ p. IsInItsSet w (opening w) t p × IsPlaceThere w p) (sym (ap (λ (x : ThreadState). x.place) (opening_at w t d e))) (first_well w t d e (0 + t))
+opening_well w t = opening_each w t (λ x. IsInItsSet w (opening w) t x.place × IsPlaceThere w x.place) (tt, tt) (λ d is. first_well w t d is t)
