@@ -5,7 +5,6 @@ use Rattle.sd_state.specs.declared.states.Place.{Place}
 use Rattle.sd_state.specs.declared.states.Place.TheVariants.{Running, Queued}
 use Rattle.sd_state.specs.States.{is_running, is_queued}
 use Rattle.sd_invariants.specs.Laws.{is_runnable}
-use Rattle.std.proofs.lemmas.Option.{none-some}
 
 pub none_of : {X : Type 0} (o : Option X) → is_none o ≡ true → o ≡ None
 none_of None e = refl
