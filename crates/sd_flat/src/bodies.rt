@@ -1,6 +1,7 @@
 //! What becomes of the body of a thread that stays where it is.
 
 ghost use Rattle.std.specs.Prelude.{◌≡◌, ◌<◌, ◌≤◌, None, IfSome, IsTrue, length};
+ghost use Rattle.sd_machine.specs.Sleeping.{nap_ticks};
 ghost use Rattle.sd_state.specs.Operations.{op_over, ran, ticks_at};
 ghost use Rattle.sd_types.specs.Scripts.{is_held};
 ghost use Rattle.sd_types.specs.Willed.{InheritsSoundly, changed_number, number_for, with_lock as with_held, with_number, with_willed};
@@ -15,6 +16,17 @@ pub fn ticks_at(op: Option<Op>) -> u32
 {
     match op {
         Some(Op::Run(n)) => n,
+        _ => 0,
+    }
+}
+
+/// The ticks of a `nap` operation.
+#[inline(always)]
+pub fn nap_ticks(op: Option<Op>) -> u32
+    ensures { result ≡ nap_ticks op }
+{
+    match op {
+        Some(Op::Nap(n)) => n,
         _ => 0,
     }
 }

@@ -15,18 +15,18 @@ mod sets;
 mod shown;
 mod standings;
 
-pub use bodies::{hold, inherit, op_over, ran, ticks_at};
+pub use bodies::{hold, inherit, nap_ticks, op_over, ran, ticks_at};
 pub use changes::{
     clear_marks, count_tick, duty_after, leave, move_to, run_on, set_count, set_duty,
     set_kernel_mark, set_lock, set_mark,
 };
 pub use clock::may_tick;
-pub use priorities::{greatest_waiting, has_waiters, others_waiting};
+pub use priorities::{greater, greatest_waiting, greatest_without, has_waiters, others_waiting};
 pub use reads::{cpu_of, is_looped, is_thread, place_of, script_of};
 pub use scans::{
     best_queued, best_ready, best_sleeper, best_sleeper_below, best_unbound, best_waiter,
-    first_due, next_to_age, runner,
+    first_due, index_of_runner, next_to_age, runner,
 };
 pub use sets::{bind, close, join, unbind, with_cpu_in, without_cpu};
-pub use shown::{hint_shown, numbers_shown};
+pub use shown::{hint_of, numbers_shown};
 pub use standings::is_running;

@@ -1,10 +1,12 @@
-//! The priorities of those who wait for a lock.
+//! The priorities of those who wait for a lock, and what they leave of a thread's priority.
 
 ghost use Rattle.std.specs.Prelude.{◌≡◌, ◌<◌, ◌&&◌, length, not, slice_index_or};
 ghost use Rattle.sd_flat.specs.Standings.{greatest_but, is_number};
 ghost use Rattle.sd_state.specs.States.{no_thread};
 ghost use Rattle.sd_machine.specs.Threads.{greater, greatest_waiting, has_waiters, is_waiting};
 ghost use Rattle.sd_machine.specs.Locking.{others_waiting};
+ghost use Rattle.sd_types.specs.Priorities.{greatest_willed};
+ghost use Rattle.sd_types.specs.Willed.{without_number};
 
 use crate::standings::is_waiting;
 use sd_state::{State, ThreadState};
@@ -19,13 +21,29 @@ pub fn has_waiters(s: &State, l: LockId) -> bool
 }
 
 /// The greater of a priority and another, if there is one.
-fn greater(p: u8, other: Option<u8>) -> u8
+pub fn greater(p: u8, other: Option<u8>) -> u8
     ensures { result ≡ greater p other }
 {
     match other {
         None => p,
         Some(q) => p.max(q),
     }
+}
+
+/// The greatest of `base` and the numbers for other locks than `l`.
+pub fn greatest_without(base: u8, l: LockId, willed: &[(LockId, u8)]) -> u8
+    ensures { result ≡ greatest_willed base (without_number l willed.now) }
+{
+    let mut greatest = base;
+    let mut i = willed.len();
+    while i > 0 {
+        i -= 1;
+        let (lock, number) = willed[i];
+        if l.0 != lock.0 {
+            greatest = number.max(greatest);
+        }
+    }
+    greatest
 }
 
 /// Thread `i` waits for lock `l`, and is not the one that is left out.

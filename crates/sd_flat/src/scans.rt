@@ -90,7 +90,7 @@ fn first_over(c: CpuId, count: u32, threads: &[ThreadState]) -> Option<usize>
 
 /// The place in the list of the thread that runs on processor `c`.
 #[tactic(auto, unfolding(sd_machine::specs::Threads::runner))]
-pub(crate) fn index_of_runner(s: &State, c: CpuId) -> Option<usize>
+pub fn index_of_runner(s: &State, c: CpuId) -> Option<usize>
     ensures value { result ≡ runner s.now c.0 }
     ensures inside { IfSome result (λ i. i < length s.now.threads) }
 {

@@ -28,7 +28,8 @@ fn priority_of(s: &State, t: Option<usize>) -> Option<u8>
 }
 
 /// A priority plus 1, or 0 for none.
-fn hint_of(p: Option<u8>) -> u8
+#[inline(always)]
+pub fn hint_of(p: Option<u8>) -> u8
     requires { IfSome p (λ p. p < 160) }
     ensures { result ≡ hint_of p }
 {
@@ -41,7 +42,7 @@ fn hint_of(p: Option<u8>) -> u8
 /// The number that processor `d` shows, 0 to 160: the effective priority plus 1 of its running thread, or of the best on
 /// its queue that is bound to no processor; 0 for none. Inherited priorities are below 160.
 #[tactic(auto, unfolding(sd_machine::specs::Hints::hint_shown))]
-pub fn hint_shown(s: &State, which: Which, d: CpuId) -> u8
+fn hint_shown(s: &State, which: Which, d: CpuId) -> u8
     requires { (t : ℕ) → list_all (λ n. nat_lt n.1 160) (thread_of s.now t).body.willed.items ≡ true }
     ensures { result ≡ hint_shown s.now which d }
 {

@@ -9,9 +9,10 @@ ghost use Rattle.sd_state.specs.States.{no_body, thread_of};
 ghost use Rattle.sd_store.specs.Parts.{thread_part};
 ghost use Rattle.sd_store.specs.Words.{Lacks, Tells};
 ghost use Rattle.sd_types.specs.Priorities.{greatest_willed};
-ghost use Rattle.sd_types.specs.Willed.{changed_number, number_for, with_number, without_number};
+ghost use Rattle.sd_types.specs.Willed.{changed_number, number_for, with_number};
 
 use sd_dispatcher::willed_numbers;
+use sd_flat::greatest_without;
 use sd_store::Look;
 use sd_types::{ClassState, LockId, ThreadBody, ThreadId};
 
@@ -36,22 +37,6 @@ pub(crate) fn number_in(l: LockId, body: Option<&ThreadBody>) -> Option<u8>
     ensures { result ≡ number_for l (unwrap_or (option_copied body.entry) no_body).willed.items }
 {
     number_for(l, willed_numbers(body))
-}
-
-/// The greatest of `base` and the numbers for other locks than `l`.
-fn greatest_without(base: u8, l: LockId, willed: &[(LockId, u8)]) -> u8
-    ensures { result ≡ greatest_willed base (without_number l willed.now) }
-{
-    let mut greatest = base;
-    let mut i = willed.len();
-    while i > 0 {
-        i -= 1;
-        let (lock, number) = willed[i];
-        if l.0 != lock.0 {
-            greatest = number.max(greatest);
-        }
-    }
-    greatest
 }
 
 /// The greatest of `base` and the numbers, with `n` for the lock `l` in place of the first that there is for it.

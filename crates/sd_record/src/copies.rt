@@ -6,7 +6,7 @@ use arrayvec::ArrayVec;
 use sd_types::ThreadBody;
 
 /// The same items in a list of their own.
-fn copied<T: Copy + Default, const N: usize>(items: &ArrayVec<T, N>) -> ArrayVec<T, N>
+pub fn copied<T: Copy + Default, const N: usize>(items: &ArrayVec<T, N>) -> ArrayVec<T, N>
     ensures { result.items ≡ items.now.items }
 {
     match ArrayVec::try_from(items.as_slice()) {

@@ -6,6 +6,6 @@ mod copies;
 mod laws;
 mod record;
 
-pub use copies::copied_body;
+pub use copies::{copied, copied_body};
 pub use laws::{effective_is_greatest, numbers_are_apart};
 pub use record::Record;

@@ -2,14 +2,15 @@
 
 ghost use Rattle.std.specs.Prelude.{◌≡◌, ◌<◌, ◌^◌, [], ◌∷◌, option_map};
 ghost use Rattle.sd_machine.specs.Needs.{CanAct, CanNap};
-ghost use Rattle.sd_machine.specs.Sleeping.{nap_ticks, napend_plan, napped};
+ghost use Rattle.sd_machine.specs.Sleeping.{napend_plan, napped};
 ghost use Rattle.sd_store.specs.Parts.{actor_part, cpu_part, found_parts, number, thread_part};
 ghost use Rattle.sd_store.specs.Words.{DoesBy, Lacks, LacksBy, Tells};
 
 use sd_dispatcher::{op_of, woken_priority};
+use sd_flat::nap_ticks;
 use sd_machine::{Placement, Plan};
 use sd_store::{Destination, Look, Store, finish_op};
-use sd_types::{CpuId, Op, ThreadId, Work};
+use sd_types::{CpuId, ThreadId, Work};
 
 /// The thread whose nap is over, if there is one, is made runnable.
 pub fn napend_plan<L: Look>(
@@ -26,16 +27,6 @@ pub fn napend_plan<L: Look>(
             let p = woken_priority(work, x, t)?;
             Ok(Some(Plan::Place(Placement::Napend { t }, p)))
         }
-    }
-}
-
-/// The ticks of a `nap` operation.
-fn nap_ticks(op: Option<Op>) -> u32
-    ensures { result ≡ nap_ticks op }
-{
-    match op {
-        Some(Op::Nap(n)) => n,
-        _ => 0,
     }
 }
 

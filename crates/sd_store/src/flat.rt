@@ -5,4 +5,4 @@ mod look;
 mod sets;
 mod store;
 
-pub use look::Never;
+pub use look::{Never, view_of};

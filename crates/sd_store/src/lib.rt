@@ -14,7 +14,7 @@ mod store;
 
 pub use changes::BodyChange;
 pub use clock::Clock;
-pub use flat::Never;
+pub use flat::{Never, view_of};
 pub use keyless::{duty_of, place_by, place_put, rouse, rouse_key, set_of, task_of};
 pub use look::Look;
 pub use parts::{CpuView, Part};

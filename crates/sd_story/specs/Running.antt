@@ -7,9 +7,8 @@ use Rattle.sd_types.specs.declared.numbers.LockId.{LockId}
 use Rattle.sd_types.specs.declared.events.End.{End}
 use Rattle.sd_types.specs.declared.events.End.TheVariants.{Front, Back}
 use Rattle.sd_types.specs.declared.classes.ClassState.{ClassState}
-use Rattle.sd_types.specs.declared.classes.ClassState.TheVariants.{Ts, Fx, Sys, Rt}
 use Rattle.sd_types.specs.declared.works.Work.{Work}
-use Rattle.sd_rules.specs.ClassRules.{quantum_expires, ts_expires}
+use Rattle.sd_rules.specs.ClassRules.{class_expires}
 use Rattle.sd_state.specs.declared.states.LockState.{LockState}
 use Rattle.sd_state.specs.declared.states.LockState.TheVariants.{Free, Owned, ReadHeld, Passing}
 use Rattle.sd_state.specs.declared.states.State.{State}
@@ -19,10 +18,7 @@ use Rattle.sd_story.specs.Words.{thread_then, lock_then, cpu_then, number_then}
 
 -- whether the tick is the last of a quantum
 abbrev pub quantum_words : ClassState → List ℕ
-quantum_words (Ts s) = if ts_expires s then codes ", the last of its quantum" else []
-quantum_words (Fx s) = if quantum_expires s.quantum s.left then codes ", the last of its quantum" else []
-quantum_words (Sys s) = []
-quantum_words (Rt s) = if quantum_expires s.quantum s.left then codes ", the last of its quantum" else []
+quantum_words k = if class_expires k then codes ", the last of its quantum" else []
 
 unfoldable pub tick_sentence : Work → State → ThreadId → List ℕ
 tick_sentence w s t = thread_then w t (codes " runs for a tick") ++ quantum_words (thread_of s t.0).body.class

@@ -4,9 +4,7 @@
 
 ghost use Rattle.std.specs.Prelude.{◌≡◌, ◌++◌, [], OnOk, codes};
 ghost use Rattle.sd_state.specs.States.{eff_of};
-ghost use Rattle.sd_machine.specs.Threads.{greater, lock_of};
-ghost use Rattle.sd_types.specs.Priorities.{greatest_willed};
-ghost use Rattle.sd_types.specs.Willed.{without_number};
+ghost use Rattle.sd_machine.specs.Threads.{lock_of};
 ghost use Rattle.sd_story.specs.Locks.{block_sentence, block_words, end_sentence, end_words, enter_sentence, exit_sentence, fall_words, grant_sentence, left_priority, passed_sentence, read_sentence, unblock_sentence, waiters_words, waiting_with, will_sentence, write_sentence};
 ghost use Rattle.sd_story.specs.Words.{change_words, number_then, thread_then};
 
@@ -14,7 +12,7 @@ use crate::running::lock_of;
 use crate::words::{
     put_change, put_cpu, put_lock, put_priority, put_requeued, put_runnable, put_thread, put_words,
 };
-use sd_flat::{greatest_waiting, has_waiters};
+use sd_flat::{greater, greatest_waiting, greatest_without, has_waiters};
 use sd_state::{LockState, State};
 use sd_types::{CpuId, LockId, Put, ThreadId, Work};
 use std::alloc::AllocError;
@@ -63,15 +61,6 @@ pub(crate) fn put_write(
 {
     put_thread(work, t, b" takes ", out)?;
     put_lock(work, l, b" to write", out)
-}
-
-fn greater(p: u8, other: Option<u8>) -> u8
-    ensures { result ≡ greater p other }
-{
-    match other {
-        None => p,
-        Some(q) => p.max(q),
-    }
 }
 
 // The greatest priority that will wait for the lock with a thread.
@@ -184,22 +173,6 @@ pub(crate) fn put_end(
     put_words(b"the walk ends at ", out)?;
     put_lock(work, l, b"", out)?;
     put_end_words(s, l, out)
-}
-
-// The greatest of `base` and the numbers for other locks than `l`.
-fn greatest_without(base: u8, l: LockId, willed: &[(LockId, u8)]) -> u8
-    ensures { result ≡ greatest_willed base (without_number l willed.now) }
-{
-    let mut greatest = base;
-    let mut i = willed.len();
-    while i > 0 {
-        i -= 1;
-        let (lock, number) = willed[i];
-        if l.0 != lock.0 {
-            greatest = number.max(greatest);
-        }
-    }
-    greatest
 }
 
 // The effective priority of a thread without what it inherits through a lock.

@@ -2,43 +2,22 @@
 //!
 //! Source: Solaris Internals (dispatch queues, preemption, adaptive mutexes).
 
-ghost use Rattle.std.specs.Prelude.{◌≡◌, ◌++◌, OnOk, [], codes, if◌then◌else◌};
+ghost use Rattle.std.specs.Prelude.{◌≡◌, ◌++◌, OnOk, codes};
 ghost use Rattle.sd_state.specs.States.{thread_of};
-ghost use Rattle.sd_rules.specs.ClassRules.{quantum_expires, ts_expires};
 ghost use Rattle.sd_machine.specs.Threads.{lock_of};
 ghost use Rattle.sd_story.specs.Running.{away_sentence, dispatch_sentence, idle_sentence, preempt_sentence, quantum_words, spin_sentence, spin_words, steal_sentence, tick_sentence};
 ghost use Rattle.sd_story.specs.Words.{thread_then};
 
 use crate::words::{put_cpu, put_lock, put_priority, put_thread, put_words};
+use sd_class::class_expires;
 use sd_state::{LockState, State};
-use sd_types::{ClassState, CpuId, End, LockId, Quantum, ThreadId, Work};
+use sd_types::{ClassState, CpuId, End, LockId, ThreadId, Work};
 use std::alloc::AllocError;
-
-// The next tick is the last of a quantum.
-fn quantum_expires(quantum: Quantum, left: u64) -> bool
-    ensures { result ≡ quantum_expires quantum left }
-{
-    match quantum {
-        Quantum::Inf => false,
-        _ => left <= 1,
-    }
-}
-
-fn expires(class: &ClassState) -> bool
-    ensures { (if result then codes ", the last of its quantum" else []) ≡ quantum_words class.now }
-{
-    match class {
-        ClassState::Ts(state) => state.left <= 1,
-        ClassState::Fx(state) => quantum_expires(state.quantum, state.left),
-        ClassState::Sys(_) => false,
-        ClassState::Rt(state) => quantum_expires(state.quantum, state.left),
-    }
-}
 
 fn quantum_words(class: &ClassState) -> &'static [u8]
     ensures { result.now ≡ quantum_words class.now }
 {
-    if expires(class) {
+    if class_expires(class) {
         b", the last of its quantum"
     } else {
         b""

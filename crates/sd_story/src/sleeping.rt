@@ -11,9 +11,9 @@ ghost use Rattle.sd_story.specs.Sleeping.{counted_sentence, cvwait_sentence, han
 ghost use Rattle.sd_story.specs.Words.{chan_then, cpu_then, number_then, runnable_words, thread_then};
 
 use crate::words::{put_chan, put_count, put_cpu, put_lock, put_runnable, put_thread, put_words};
-use sd_flat::{cpu_of, script_of};
+use sd_flat::{cpu_of, nap_ticks, script_of};
 use sd_state::State;
-use sd_types::{ChanId, CpuId, LockId, Op, Put, ThreadId, Work};
+use sd_types::{ChanId, CpuId, LockId, Put, ThreadId, Work};
 use std::alloc::AllocError;
 
 // The number of the operation at which a thread stands.
@@ -23,15 +23,6 @@ fn operation_number(s: &State, t: ThreadId) -> u16
     match s.threads.items().get(t.0 as usize) {
         Some(x) => x.body.op,
         None => 0,
-    }
-}
-
-fn nap_ticks(op: Option<Op>) -> u32
-    ensures { result ≡ nap_ticks op }
-{
-    match op {
-        Some(Op::Nap(n)) => n,
-        _ => 0,
     }
 }
 

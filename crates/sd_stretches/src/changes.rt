@@ -3,12 +3,11 @@
 //! Source: Solaris Internals (turnstiles, sleep queues); the lists are this project's own.
 
 ghost use Rattle.std.specs.Prelude.{◌≡◌, ◌++◌, OnOk, slice_get, None, Some};
-ghost use Rattle.sd_machine.specs.Threads.{runner};
 ghost use Rattle.sd_state.specs.States.{cpu_of};
 ghost use Rattle.sd_stretches.specs.Changes.{giver, giver_of, hand_over_of, hand_overs_of, happening_of, happenings_of, is_above_base, is_giver, is_inherited, is_priority, is_that_thread, load_if, owner_of, rank_if, ranks_between, onset_if, onsets_between, wakeup_of, wakeups_of, wanted_lock, woken_by, waker_of};
 
 use crate::sights::{Doing, Sight, runnable, same_doing, same_rank};
-use sd_flat::{greatest_waiting, is_running};
+use sd_flat::{greatest_waiting, index_of_runner};
 use sd_state::{LockState, Place, State, ThreadState};
 use sd_types::{Class, CpuId, Entry, Event, LockId, ThreadId};
 use std::alloc::AllocError;
@@ -326,23 +325,12 @@ pub fn woken_by(event: &Event) -> Option<ThreadId>
     }
 }
 
-/// The row of the thread that runs on processor `c`.
-#[tactic(auto, unfolding(sd_machine::specs::Threads::runner))]
-fn row_of_runner(s: &State, c: CpuId) -> Option<usize>
-    ensures { result ≡ runner s.now c.0 }
-{
-    s.threads
-        .items()
-        .iter()
-        .position(|x| is_running(c, &x.place))
-}
-
 fn waker_of(s: &State, c: CpuId, event: &Event) -> Option<usize>
     ensures { result ≡ waker_of s.now c event.now }
 {
     match event {
         Event::Napend { .. } => None,
-        _ => row_of_runner(s, c),
+        _ => index_of_runner(s, c),
     }
 }
 

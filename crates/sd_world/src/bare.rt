@@ -3,17 +3,16 @@
 ghost use Rattle.std.specs.Prelude.{◌≡◌, ◌<◌, length, IfOk};
 ghost use Rattle.sd_types.specs.declared.numbers.HomeId.TheVariants.{Chain, Cpu, RealTime, Sleepers};
 ghost use Rattle.sd_machine.specs.Threads.{count_of, lock_of, open_of};
-ghost use Rattle.sd_store.specs.Parts.{view_of};
 ghost use Rattle.sd_homes.specs.Families.{home_id};
 ghost use Rattle.sd_world.specs.Homes.{IsBare, IsNumber, sizes_of};
 
-use crate::copies::copied;
 use arrayvec::ArrayVec;
 use sd_boxq::{Boxed, Four};
 use sd_flat::cpu_of;
 use sd_homes::{ChainHome, CpuHome, Home, RealTimeHome, SleepersHome};
-use sd_state::{CpuState, LockState, State};
-use sd_store::CpuView;
+use sd_record::copied;
+use sd_state::{LockState, State};
+use sd_store::view_of;
 use sd_types::{CpuId, HomeId, LockId, SetId};
 use std::alloc::{AllocError, Global};
 
@@ -39,19 +38,6 @@ fn open_of(s: &State, p: SetId) -> ArrayVec<CpuId, 64>
     match s.open_cpus.items().get(p.0 as usize) {
         Some(cpus) => copied(cpus),
         None => ArrayVec::new(),
-    }
-}
-
-/// The marks, the set and the bindings of a processor.
-fn view_of(x: CpuState) -> CpuView
-    ensures { result ≡ view_of x }
-{
-    CpuView {
-        user: x.user,
-        kernel: x.kernel,
-        set: x.set,
-        closing: x.closing,
-        bound: x.bound,
     }
 }
 

@@ -12,12 +12,11 @@ ghost use Rattle.sd_types.specs.Limits.{most_processors};
 ghost use Rattle.sd_world.specs.Homes.{AreAllThere, AreBare, IsNumber, IsNumberAt, ShowsNone, how_many, index_of, sizes_of};
 
 use crate::bare::bare_home;
-use crate::copies::copied;
 use sd_hand::{Guide, Hand};
 use sd_homes::{Home, ListId, Traveller, home_at, list_at, record_key};
-use sd_record::Record;
+use sd_record::{Record, copied_body};
 use sd_state::{State, ThreadState};
-use sd_types::{CpuId, HomeId, SetId, ThreadBody, ThreadId, Work};
+use sd_types::{CpuId, HomeId, SetId, ThreadId, Work};
 use std::alloc::{AllocError, Global};
 use std::marker::Model;
 
@@ -70,31 +69,18 @@ fn bare_homes(alloc: Global, s: &State) -> Result<Vec<Option<Home>>, AllocError>
     Ok(slots)
 }
 
-fn body_of(x: &ThreadState) -> ThreadBody
-    ensures { result ≡ x.now.body }
-{
-    let body = &x.body;
-    ThreadBody {
-        class: body.class,
-        willed: copied(&body.willed),
-        held: copied(&body.held),
-        op: body.op,
-        run_left: body.run_left,
-        back: body.back,
-        last: body.last,
-        left_at: body.left_at,
-        looped: body.looped,
-        bound: body.bound,
-    }
-}
-
 /// Thread `t` with a turnstile of its own, on its way to its home.
 fn traveller_of(alloc: Global, t: usize, x: &ThreadState) -> Result<Traveller, AllocError>
     requires number { t < 2 ^ 16 }
     requires sound { InheritsSoundly x.now.body }
     ensures { IfOk result (λ r. r ≡ record_of t x.now) }
 {
-    let record = Record::new(alloc, ThreadId(t as u16), body_of(x), record_key(x.place))?;
+    let record = Record::new(
+        alloc,
+        ThreadId(t as u16),
+        copied_body(&x.body),
+        record_key(x.place),
+    )?;
     Traveller::new(alloc, record)
 }
 

@@ -2,7 +2,6 @@
 #![tactic(auto)]
 
 mod bare;
-mod copies;
 mod entries;
 mod homes;
 mod laws;

@@ -2,26 +2,15 @@
 
 ghost use Rattle.std.specs.Prelude.{◌≡◌, ℕ, ◌<◌, true, IfSome};
 ghost use Rattle.sd_state.specs.declared.states.State.{State as StateOf};
-ghost use Rattle.sd_machine.specs.Hints.{hint_of, hint_shown};
+ghost use Rattle.sd_machine.specs.Hints.{hint_shown};
 ghost use Rattle.sd_machine.specs.Threads.{priority_of};
 ghost use Rattle.sd_hand.specs.Acting.{IsShown, has_part};
 ghost use Rattle.sd_store.specs.Parts.{cpu_part};
 ghost use Rattle.sd_world.specs.Plain.{StandsInRun, thread_shown};
 
+use sd_flat::hint_of;
 use sd_hand::Acting;
 use sd_types::{CpuId, Which};
-
-/// A priority plus 1, or 0 for none.
-#[inline(always)]
-fn hint_of(p: Option<u8>) -> u8
-    requires { IfSome p (λ n. n < 160) }
-    ensures { result ≡ hint_of p }
-{
-    match p {
-        None => 0,
-        Some(p) => p + 1,
-    }
-}
 
 /// The effective priority of the thread of which processor `d`, whose home is one of these, shows it.
 #[inline(always)]

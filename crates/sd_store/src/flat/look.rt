@@ -30,7 +30,8 @@ fn spot_of(place: Place) -> Spot
     }
 }
 
-fn view_of(x: CpuState) -> CpuView
+/// The marks, the set and the bindings of a processor.
+pub fn view_of(x: CpuState) -> CpuView
     ensures { result ≡ view_of x }
 {
     CpuView {
