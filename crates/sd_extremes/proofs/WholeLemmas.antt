@@ -74,15 +74,6 @@ module _ (w : Work) where
         ends = state ∙ ap (λ z. final w z (turn w s (length es) c)) l.ends ∙ sym (final-append w (opening w) es (turn w s (length es) c));
       })
 
-  -- where it makes one entry
-  pub entered : (es es' : List Entry) (s s' : State) (n : ℕ) (c : CpuId) (e : Entry) → LeadsTo w es s → n ≡ length es → es' ≡ es ++ e ∷ [] → e ∷ [] ≡ turn w s n c → s' ≡ final w s (turn w s n c) → LeadsTo w es' s'
-  entered es es' s s' n c e l many push one state =
-      leads_on es es' s s' c l (push ∙ ap (λ (xs : List Entry). es ++ xs) (one ∙ ap (λ k. turn w s k c) many)) (state ∙ ap (λ k. final w s (turn w s k c)) many)
-
-  -- where it makes no entry
-  pub stays : (es : List Entry) (s s' : State) (n : ℕ) (c : CpuId) → LeadsTo w es s → [] ≡ turn w s n c → s' ≡ final w s (turn w s n c) → LeadsTo w es s'
-  stays es s s' n c l none state = record { run = l.run; ends = state ∙ ap (final w s) (sym none) ∙ final-nil w s ∙ l.ends }
-
   pub begins : (es : List Entry) (s : State) → es ≡ [] → s ≡ opening w → LeadsTo w es s
   begins es s none is =
       subst (λ (fs : List Entry). LeadsTo w fs s) (sym none)

@@ -1,38 +1,16 @@
 //! A run that goes to its end.
 
-ghost use Rattle.std.specs.Prelude.{◌≡◌, ◌++◌, length, None, IfOk, OnOk};
+ghost use Rattle.std.specs.Prelude.{◌≡◌, None, IfOk, OnOk};
 ghost use Rattle.sd_extremes.specs.WholeRuns.{BeginsWith, GoesOn, LeadsTo};
-ghost use Rattle.sd_machine.specs.Runs.{IsComplete, final, turn};
+ghost use Rattle.sd_machine.specs.Runs.{IsComplete};
 ghost use Rattle.sd_invariants.specs.Laws.{IsFit};
 
 use sd_opening::opening;
+use sd_search::take_turn;
 use sd_state::State;
-use sd_steps::{can_enter, make_entry};
+use sd_steps::can_enter;
 use sd_types::{CpuId, Entry, MOST_ENTRIES, Work};
 use std::alloc::{AllocError, Global};
-
-/// The entry of processor `c`, where it has one, goes behind those so far.
-fn go_on(
-    work: &Work,
-    state: &mut State,
-    entries: &mut Vec<Entry>,
-    c: CpuId,
-) -> Result<(), AllocError>
-    requires { LeadsTo work.now entries.old.items state.old }
-    ensures entries { OnOk result (entries.new.items ≡ entries.old.items ++ turn work.now state.old (length entries.old.items) c) }
-    ensures state { OnOk result (state.new ≡ final work.now state.old (turn work.now state.old (length entries.old.items) c)) }
-    ensures leads { OnOk result (LeadsTo work.now entries.new.items state.new) }
-{
-    let number = entries.len();
-    if number >= MOST_ENTRIES {
-        return Err(AllocError);
-    }
-    match make_entry(work, state, number as u64, c) {
-        Some(entry) => entries.push(entry)?,
-        None => {}
-    }
-    Ok(())
-}
 
 /// A processor that can make an entry; None only where none can, whatever it reads.
 fn first_able(work: &Work, state: &State) -> Option<CpuId>
@@ -56,7 +34,7 @@ fn finish(work: &Work, state: &mut State, entries: &mut Vec<Entry>) -> Result<()
 {
     for _n in 0..MOST_ENTRIES {
         match first_able(work, state) {
-            Some(c) => go_on(work, state, entries, c)?,
+            Some(c) => take_turn(work, state, entries, c)?,
             None => return Ok(()),
         }
     }
@@ -71,7 +49,7 @@ pub fn whole_run(alloc: Global, work: &Work, path: &[CpuId]) -> Result<Vec<Entry
     let mut state = opening(alloc, work)?;
     let mut entries = Vec::new(alloc);
     for c in path {
-        go_on(work, &mut state, &mut entries, *c)?;
+        take_turn(work, &mut state, &mut entries, *c)?;
     }
     finish(work, &mut state, &mut entries)?;
     Ok(entries)

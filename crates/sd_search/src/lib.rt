@@ -23,4 +23,4 @@ pub use laws::{
 };
 pub use questions::{Answer, Question};
 pub use turning::Turn;
-pub use witnesses::witness;
+pub use witnesses::{take_turn, witness};

@@ -10,8 +10,8 @@ use sd_steps::make_entry;
 use sd_types::{CpuId, Entry, MOST_ENTRIES, Work};
 use std::alloc::{AllocError, Global};
 
-/// The entry of processor `c`, where it has one, goes behind those so far.
-fn take_turn(
+/// The entry of processor `c`, where it has one, goes behind those so far. Memory is taken to run out at 2^40 entries.
+pub fn take_turn(
     work: &Work,
     state: &mut State,
     entries: &mut Vec<Entry>,

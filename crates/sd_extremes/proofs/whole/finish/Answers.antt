@@ -9,16 +9,16 @@ loop-n-init c = record { leads = c.requires; begins = W.begins_itself c.args.wor
 pub first_able-requires : goal.first_able-requires
 first_able-requires c = W.fit_of c.args.work.now c.loop-n.entries.items c.loop-n.state c.loop-n.invariant.leads
 
-pub go_on-requires : goal.go_on-requires
-go_on-requires c = c.loop-n.invariant.leads
+pub take_turn-requires : goal.take_turn-requires
+take_turn-requires c = W.reached c.args.work.now c.loop-n.entries.items c.loop-n.state c.loop-n.invariant.leads
 
 pub loop-n-preserved : goal.loop-n-preserved
 loop-n-preserved c =
     let l = c.loop-n in
-    let e = c.in_ok-go_on-in-Some.ensures in
+    let e = c.in_ok-take_turn-in-Some.ensures in
     record {
-      leads = e.leads;
-      begins = W.begins_more c.args.work.now c.args.entries.now.items l.entries.items c.go_on.new.entries.items (turn c.args.work.now l.state (length l.entries.items) c.in-Some.c) l.invariant.begins e.entries;
+      leads = W.leads_on c.args.work.now l.entries.items c.take_turn.new.entries.items l.state c.take_turn.new.state c.in-Some.c l.invariant.leads e.entries e.state;
+      begins = W.begins_more c.args.work.now c.args.entries.now.items l.entries.items c.take_turn.new.entries.items (turn c.args.work.now l.state (length l.entries.items) c.in-Some.c) l.invariant.begins e.entries;
     }
 
 pub returns-in-None-clause-leads : goal.returns-in-None-clause-leads
