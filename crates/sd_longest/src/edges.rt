@@ -28,7 +28,7 @@ pub struct Edge {
 }
 
 /// The edges from state `i`.
-pub fn row_of(rows: &[Vec<Edge>], i: usize) -> &[Edge]
+pub(crate) fn row_of(rows: &[Vec<Edge>], i: usize) -> &[Edge]
     requires { i < length (rows_of rows.now) }
     ensures { slice_get (rows_of rows.now) i ≡ Some result.now }
 {

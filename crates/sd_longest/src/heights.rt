@@ -5,7 +5,8 @@ ghost use Rattle.sd_longest.specs.Heights.{AreHeights, IsHeight, LeadBelow};
 ghost use Rattle.sd_longest.specs.declared.edges.Edge.{Edge as EdgeOf};
 ghost use Rattle.sd_longest.specs.Edges.{LeadInside, rows_of};
 
-use crate::{Edge, row_of};
+use crate::Edge;
+use crate::edges::row_of;
 use std::alloc::{AllocError, Global};
 
 /// The most rounds in which heights rise (this project's own): where they still do, nothing is said.

@@ -13,9 +13,8 @@ mod openings;
 mod run_lengths;
 mod tables;
 
-pub use edges::{Edge, Effect, row_of};
+pub use edges::{Edge, Effect};
 pub use latency::{Longest, longest_wait};
 pub use laws::ticks_are_reported;
 pub use longest::Wait;
 pub use run_lengths::longest_run;
-pub use tables::rows;

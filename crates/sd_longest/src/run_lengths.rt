@@ -5,7 +5,7 @@ ghost use Rattle.sd_longest.specs.LongestRuns.{IsLongestRun};
 ghost use Rattle.sd_search.specs.Graphs.{Gathers};
 
 use crate::heights::heights;
-use crate::rows;
+use crate::tables::rows;
 use sd_search::Graph;
 use sd_types::{ThreadId, Work};
 use std::alloc::{AllocError, Global};

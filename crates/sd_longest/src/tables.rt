@@ -64,7 +64,7 @@ fn row_of(
 
 /// The turns from each state, of a search that expanded all, as edges with what they do to the waits of a thread. Memory is taken to
 /// run out where there are more than 2^32 states.
-pub fn rows(
+pub(crate) fn rows(
     alloc: Global,
     work: &Work,
     graph: &Graph,

@@ -9,6 +9,6 @@ mod serial;
 mod stepping;
 
 pub use entering::can_enter;
-pub use replays::{IllegalEntry, ReplayFault, replay, replay_from};
+pub use replays::{IllegalEntry, ReplayFault, replay};
 pub use serial::serial_next;
 pub use stepping::{apply, make_entry, step};

@@ -28,7 +28,7 @@ pub enum ReplayFault {
 
 /// Makes the entries, numbered from 0 on, on the initial state: Ok exactly where each is a step. On a refusal the state is
 /// the one before the illegal entry. It takes no memory.
-pub fn replay_from(work: &Work, s: &mut State, entries: &[Entry]) -> Result<(), IllegalEntry>
+fn replay_from(work: &Work, s: &mut State, entries: &[Entry]) -> Result<(), IllegalEntry>
     requires start { s.old ≡ opening work.now }
     ensures run { OnOk result (IsRunFrom work.now s.old 0 entries.now) }
     ensures state { OnOk result (s.new ≡ final work.now s.old entries.now) }

@@ -25,7 +25,7 @@ pub fn reserve_entry(entries: &mut EntryLog) -> Result<(), Stop>
 
 /// Makes the event of the processor that acts, in the homes of its hand, which have all that it touches. The list of processors has
 /// its count and its duty after it, and the log, in which there is room, the entry.
-pub fn enter(
+pub(crate) fn enter(
     work: &Work,
     acting: &mut Acting,
     actors: &mut Vec<Actor>,

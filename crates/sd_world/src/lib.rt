@@ -13,10 +13,9 @@ mod threads;
 mod turns;
 mod world;
 
-pub use entries::{enter, reserve_entry};
+pub use entries::reserve_entry;
 pub use homes::Homes;
 pub use laws::an_event_leaves_other_homes;
 pub use plain::PlainWorld;
 pub use showing::shown_hint;
-pub use snapshot::state_of;
 pub use world::{Behind, Take, ThreadLock, World};

@@ -9,7 +9,7 @@ ghost use Rattle.sd_world.specs.Plain.{HasStood, Stands, told};
 ghost use Rattle.sd_types.specs.Limits.{most_processors};
 
 use crate::homes::Homes;
-use crate::state_of;
+use crate::snapshot::state_of;
 use crate::world::Behind;
 use sd_flat::cpu_of;
 use sd_hand::{Acting, Actor};

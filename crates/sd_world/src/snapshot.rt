@@ -15,7 +15,7 @@ use std::alloc::{AllocError, Global};
 
 /// The state for which these homes stand, all of them, with the counts and the duties of its processors. `Err` only where
 /// memory runs out.
-pub fn state_of(
+pub(crate) fn state_of(
     alloc: Global,
     work: &Work,
     hand: &Hand,
