@@ -1,11 +1,12 @@
 //! The forms of the arguments of `dispfind`.
 
-ghost use Rattle.std.specs.Prelude.{◌≡◌, ◌≤◌, length, map, string_bytes};
+ghost use Rattle.std.specs.Prelude.{◌≡◌, map, string_bytes};
 ghost use Rattle.sd_types.specs.Works.{same_bytes};
 ghost use Rattle.sd_finder.specs.Forms.{aim_of, bounded, most_of, named_aim, request_of, search_of, thread_aim};
 
 use arrayvec::ArrayVec;
 use sd_search::Question;
+use sd_stretches::short_name;
 use sd_text::number;
 
 /// What a search is for: a run that ends so, how many states there are, when the thread of a name ends, or how long it waits at
@@ -47,16 +48,6 @@ fn aim_of(word: &[u8]) -> Option<Aim>
     } else {
         None
     }
-}
-
-/// A name that is short enough.
-fn short_name(name: &[u8]) -> ArrayVec<u8, 16>
-    requires { length name.now ≤ 16 }
-    ensures { result.items ≡ name.now }
-{
-    let mut short = ArrayVec::new();
-    let _ = short.try_extend_from_slice(name);
-    short
 }
 
 fn named_aim(word: &[u8], name: ArrayVec<u8, 16>) -> Option<Aim>

@@ -20,7 +20,7 @@ pub use label_laws::names_need_no_escaping;
 pub use laws::{
     pieces_fill_stretches, slices_are_exact, stretches_are_exact, stretches_stand_in_order,
 };
-pub use names::{chan_name, lock_name, set_name, thread_name};
-pub use rows::{Level, Stretch, levels, slices, stretches};
+pub use names::{chan_name, lock_name, set_name, short_name, thread_name};
+pub use rows::{Level, Stretch, levels, stretches};
 pub use sights::{Doing, Sight, does_run};
 pub use spin_pieces::{Track, pieces};

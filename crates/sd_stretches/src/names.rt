@@ -1,9 +1,11 @@
 //! The names that a workload declares, by their numbers. A number that names nothing has no name.
 
-ghost use Rattle.std.specs.Prelude.{◌≡◌};
+ghost use Rattle.std.specs.Prelude.{◌≡◌, ◌≤◌, length};
 ghost use Rattle.sd_machine.specs.Texts.{set_name};
 ghost use Rattle.sd_state.specs.Texts.{chan_name, lock_name, thread_name};
+ghost use Rattle.sd_types.specs.Limits.{most_name_bytes};
 
+use arrayvec::ArrayVec;
 use sd_types::{ChanId, LockId, SetId, Work};
 
 /// The name of thread `t`.
@@ -47,4 +49,14 @@ pub fn set_name(work: &Work, p: SetId) -> &[u8]
         Some(set) => set.0.bytes(),
         None => b"",
     }
+}
+
+/// A name that is asked for, where it is no longer than those that a workload declares.
+pub fn short_name(name: &[u8]) -> ArrayVec<u8, 16>
+    requires { length name.now ≤ most_name_bytes }
+    ensures { result.items ≡ name.now }
+{
+    let mut short = ArrayVec::new();
+    let _ = short.try_extend_from_slice(name);
+    short
 }

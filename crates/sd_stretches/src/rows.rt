@@ -126,7 +126,7 @@ fn push_slice(
 /// The slices of a processor, the stretches over which a thread runs on it, in the order in which they begin: from the onsets of
 /// a run of so many entries, which ended at this tick.
 #[tactic(auto, unfolding(crate::specs::Rows::slices))]
-pub fn slices(
+pub(crate) fn slices(
     alloc: Global,
     onsets: &[Onset],
     c: u16,

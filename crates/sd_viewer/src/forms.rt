@@ -1,13 +1,13 @@
 //! The forms of the arguments of `dispview`.
 
-ghost use Rattle.std.specs.Prelude.{◌≡◌, ◌≤◌, length, map, string_bytes, codes, Some, if◌then◌else◌};
+ghost use Rattle.std.specs.Prelude.{◌≡◌, map, string_bytes, codes, Some, if◌then◌else◌};
 ghost use Rattle.sd_types.specs.Works.{same_bytes};
 ghost use Rattle.sd_viewer.specs.declared.forms.Request.TheVariants.{Help};
 ghost use Rattle.sd_viewer.specs.Forms.{drawing_of, named_by, part_by, request_by, request_of, ticks_between, ticks_by, verb_drawing};
 
 use crate::drawings::Drawing;
-use arrayvec::ArrayVec;
 use sd_story::Selection;
+use sd_stretches::short_name;
 use sd_text::number;
 use sd_types::GREATEST_LIMIT;
 
@@ -83,16 +83,6 @@ fn part_by(verb: &[u8], ticks: Option<(u32, u32)>) -> Option<Drawing>
     }
 }
 
-// The first 16 bytes of a name.
-fn short_name(name: &[u8]) -> ArrayVec<u8, 16>
-    requires { length name.now ≤ 16 }
-    ensures { result.items ≡ name.now }
-{
-    let mut short = ArrayVec::new();
-    let _ = short.try_extend_from_slice(name);
-    short
-}
-
 fn named_by(verb: &[u8], name: &[u8]) -> Option<Drawing>
     ensures { result ≡ named_by verb.now name.now }
 {
@@ -110,7 +100,7 @@ fn named_by(verb: &[u8], name: &[u8]) -> Option<Drawing>
 /// The drawing that the arguments ask for: `timeline`, `trace`, `list`, `report`, `report --csv`, `list NAME` with a name of at most 16
 /// bytes, or `timeline FROM TO`, `list FROM TO` with FROM below TO and TO at most 100,000; None where they are of none of the forms.
 #[tactic(auto, unfolding(crate::specs::Forms::drawing_of))]
-pub fn drawing_of(arguments: &[String]) -> Option<Drawing>
+fn drawing_of(arguments: &[String]) -> Option<Drawing>
     ensures { result ≡ drawing_of (map string_bytes arguments.now) }
 {
     match arguments {
@@ -145,7 +135,7 @@ fn verb_request(verb: &[u8]) -> Option<Request>
 
 /// What the arguments ask for: `--help`, or a drawing; None where they are of none of the forms.
 #[tactic(auto, unfolding(crate::specs::Forms::request_of))]
-pub fn request_of(arguments: &[String]) -> Option<Request>
+pub(crate) fn request_of(arguments: &[String]) -> Option<Request>
     ensures { result ≡ request_of (map string_bytes arguments.now) }
 {
     match arguments {

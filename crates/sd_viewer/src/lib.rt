@@ -12,8 +12,7 @@ mod top;
 mod viewing;
 
 pub use drawings::{Drawing, draw};
-pub use forms::{Request, drawing_of, request_of};
-pub use lines::left_line;
+pub use forms::Request;
 use sd_answers::behind_name;
 use sd_text::{StdSink, StdSource};
 use std::process::ExitCode;

@@ -178,7 +178,11 @@ fn put_left_line(work: &Work, drawing: &Drawing, out: &mut Vec<u8>) -> Result<()
 
 /// What is said of a drawing of a run of the workload that leaves out ticks that were asked for, or threads, or where the run has
 /// no such ticks or the workload no such thread; empty where there is nothing to say.
-pub fn left_line(alloc: Global, work: &Work, drawing: &Drawing) -> Result<Vec<u8>, AllocError>
+pub(crate) fn left_line(
+    alloc: Global,
+    work: &Work,
+    drawing: &Drawing,
+) -> Result<Vec<u8>, AllocError>
     ensures { IfOk result (λ line. line.items ≡ left_line drawing.now work.now) }
 {
     let mut line = Vec::new(alloc);
