@@ -17,7 +17,7 @@ use Rattle.sd_answers.specs.declared.answers.JournalFault.TheVariants as journal
 use Rattle.sd_answers.specs.declared.answers.Answer.{Answer}
 use Rattle.sd_answers.specs.declared.answers.Answer.TheVariants.{Done, Usage, TooLarge, TooLargeToAudit, NoJournal, Refused, ReadFault, WriteFault, OutOfMemory, Blocked, NotAJournal, TooLong}
 use Rattle.sd_answers.specs.Answers.{status_of, audit_answer, audit_fault}
-use Rattle.sd_types.specs.Limits.{most_certificate}
+use Rattle.sd_types.specs.Limits.{most_certificate_bytes}
 use Rattle.sd_answers.specs.Inputs.{HasRead, HasParts, IsCertificate, IsNoCertificate}
 use Rattle.sd_answers.specs.StreamChanges.{StreamChange}
 use Rattle.sd_answers.specs.Certificates.{IsLegalJournal, HoldsJournal, IsFaulty, RefusesJournal, IsJudged, Writes, CausedByCertificate, Certifies, CompletesCertificate, RefusesFaulty, IsNone, RefusesCertificate}
@@ -25,13 +25,13 @@ use Rattle.sd_answers.proofs.InputLemmas.{taken_within, taken_all, at_most_of, n
 
 -- ---- what is certified of the bytes of an input, and what was read of it
 
-too_many_bytes : (input : StreamChange) (bytes : List ℕ) → IsNoCertificate input TooLargeToAudit → input.before ≡ Some bytes → length bytes ≤ most_certificate → ⊥
+too_many_bytes : (input : StreamChange) (bytes : List ℕ) → IsNoCertificate input TooLargeToAudit → input.before ≡ Some bytes → length bytes ≤ most_certificate_bytes → ⊥
 too_many_bytes input bytes many is short =
     let within = taken_within input.before input.after many.bytes bytes many.took is in
     let count = many.many in
     absurd (omega arith)
 
-all_read : (input : StreamChange) (read bytes : List ℕ) → HasRead most_certificate input read → input.before ≡ Some bytes → read ≡ bytes
+all_read : (input : StreamChange) (read bytes : List ℕ) → HasRead most_certificate_bytes input read → input.before ≡ Some bytes → read ≡ bytes
 all_read input read bytes r is = taken_all input.before input.after read bytes r.took r.to_end is
 
 -- the parts that were found are those of the bytes
@@ -166,7 +166,7 @@ module _ {X : Type 0} (Made : X → Type 0) (written : X → List ℕ) (input ou
     refuses_certificate_of Usage c = absurd c
     refuses_certificate_of Blocked c = absurd c
     refuses_certificate_of TooLong c = absurd c
-    refuses_certificate_of OutOfMemory c = λ sound bytes is. (λ many. absurd (let few = not_too_many most_certificate input bytes c.0 is in omega arith), λ none. inr refl)
+    refuses_certificate_of OutOfMemory c = λ sound bytes is. (λ many. absurd (let few = not_too_many most_certificate_bytes input bytes c.0 is in omega arith), λ none. inr refl)
     refuses_certificate_of WriteFault c = λ sound bytes is. (λ many. absurd (unmade bytes c.0 is (inl many) c.1), λ none. absurd (unmade bytes c.0 is none c.1))
     refuses_certificate_of (NotAJournal fault) c = λ sound bytes is. (λ many. absurd (no_certificate input bytes is (inl many) c.0.work c.0.text c.0.certificate), λ none. absurd (no_certificate input bytes is none c.0.work c.0.text c.0.certificate))
 
@@ -179,7 +179,7 @@ module _ {X : Type 0} (Made : X → Type 0) (input : StreamChange) where
   unjudged w text (audit.Illegal number) found is = record { work = w; text = text; certificate = found; is = is }
   unjudged w text (audit.Incomplete cpu) found is = record { work = w; text = text; certificate = found; is = is }
   unjudged w text (audit.Tail line) found is = record { work = w; text = text; certificate = found; is = is }
-  unjudged w text (audit.Memory number) found is = at_most_of most_certificate input found.parts.bytes found.parts.read
+  unjudged w text (audit.Memory number) found is = at_most_of most_certificate_bytes input found.parts.bytes found.parts.read
 
   -- what the exit of a `?` returns
   pub judged_exit : (r : Result X Answer) (a : Answer) → IsErrAnd r (λ y. y ≡ a) → IsJudged Made input (Err a) → IsJudged Made input r

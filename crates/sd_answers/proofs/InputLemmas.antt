@@ -20,7 +20,7 @@ use Rattle.sd_workload.specs.declared.fault.WorkFault.TheVariants as work
 use Rattle.sd_answers.specs.declared.answers.Answer.{Answer}
 use Rattle.sd_answers.specs.Answers.{read_answer, work_answer}
 use Rattle.sd_answers.specs.StreamChanges.{StreamChange, HasFault, HasNoFault}
-use Rattle.sd_types.specs.Limits.{most_bytes}
+use Rattle.sd_types.specs.Limits.{most_workload_bytes}
 use Rattle.sd_answers.specs.Inputs.{HasAtMost, HasRead, IsRefused, IsReading}
 
 -- what was taken is no more than there was
@@ -57,7 +57,7 @@ not_both bytes w line cause accepted first = cc (accepted.accepted)
 -- ---- why an input is no workload
 
 -- it was not read
-pub unread_of : (input : StreamChange) (r : Result (Vec ℕ Global) ReadAllFault) → TakesUpTo most_bytes input.before input.after r
+pub unread_of : (input : StreamChange) (r : Result (Vec ℕ Global) ReadAllFault) → TakesUpTo most_workload_bytes input.before input.after r
     → (IsErrOf r read.ReadFault → HasFault input) → (¬ IsErrOf r read.ReadFault → HasNoFault input) → (IsErrOf r read.Memory → IsAtEnd input.after)
     → IfErr r (λ fault. IsRefused input (read_answer fault))
 unread_of input (Ok v) taken fault none end = tt
@@ -69,7 +69,7 @@ unread_of input (Err read.TooLarge) taken fault none end = record {
   no_fault = none (λ e. cc);
 }
 unread_of input (Err read.Memory) taken fault none end =
-    let few : length taken.bytes ≢ most_bytes + 1 = λ many. absurd (let e = taken.too_large.1 many in cc) in
+    let few : length taken.bytes ≢ most_workload_bytes + 1 = λ many. absurd (let e = taken.too_large.1 many in cc) in
     record {
       bytes = taken.bytes;
       took = taken.consumed;
@@ -79,11 +79,11 @@ unread_of input (Err read.Memory) taken fault none end =
     }
 
 -- it was read, and spells no workload
-pub unspelled_of : (input : StreamChange) (bytes : List ℕ) (r : Result Work WorkFault) → HasRead most_bytes input bytes
+pub unspelled_of : (input : StreamChange) (bytes : List ℕ) (r : Result Work WorkFault) → HasRead most_workload_bytes input bytes
     → IfErr r (IsFault (verdict_of bytes)) → IfErr r (λ fault. IsRefused input (work_answer fault))
 unspelled_of input bytes (Ok w) read first = tt
 unspelled_of input bytes (Err (work.At line cause)) read first = record { bytes = bytes; read = read; first = first }
-unspelled_of input bytes (Err (work.Memory line)) read first = at_most_of most_bytes input bytes read
+unspelled_of input bytes (Err (work.Memory line)) read first = at_most_of most_workload_bytes input bytes read
 
 -- what the exit of a `?` returns
 pub reading_exit : (input : StreamChange) (r : Result Work Answer) (a : Answer) → IsErrAnd r (λ y. y ≡ a) → IsRefused input a → IsReading input r

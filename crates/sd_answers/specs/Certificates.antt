@@ -11,8 +11,8 @@ use Rattle.sd_answers.specs.declared.answers.JournalFault.{JournalFault}
 use Rattle.sd_answers.specs.declared.answers.Answer.{Answer}
 use Rattle.sd_answers.specs.declared.answers.Answer.TheVariants.{Done, TooLarge, TooLargeToAudit, NoJournal, Refused, ReadFault, WriteFault, OutOfMemory, NotAJournal}
 use Rattle.sd_answers.specs.Answers.{audit_fault}
-use Rattle.sd_types.specs.Limits.{most_bytes}
-use Rattle.sd_types.specs.Limits.{most_certificate}
+use Rattle.sd_types.specs.Limits.{most_workload_bytes}
+use Rattle.sd_types.specs.Limits.{most_certificate_bytes}
 use Rattle.sd_answers.specs.Inputs.{IsCertificate, IsNoCertificate}
 use Rattle.sd_answers.specs.StreamChanges.{StreamChange, HasFault, HasNoFault, IsUntouched, AppendsPart}
 
@@ -69,9 +69,9 @@ CausedByCertificate Made written input out _ = ⊥
 -- which this holds with the workload as which the part before this line is accepted. (It is accepted as one alone.)
 pub record Certifies (bytes text : List ℕ) (P : Work → Type 0) : Type 0 where
   pub before : List ℕ
-  pub many : length bytes ≤ most_certificate
+  pub many : length bytes ≤ most_certificate_bytes
   pub cut : IsCut bytes before text
-  pub bound : length before ≤ most_bytes
+  pub bound : length before ≤ most_workload_bytes
   pub work : Work
   pub accepted : Accepted before work
   pub holds : P work
@@ -91,10 +91,10 @@ RefusesFaulty input status =
 -- what is no certificate: it is too large, has no line `journal`, or what stands before this line is too large or no workload
 abbrev pub IsNone : List ℕ → Type 0
 IsNone bytes =
-    (most_certificate < length bytes)
-    ⊎ (HasNoJournal bytes ⊎ ((before : List ℕ) × (text : List ℕ) × IsCut bytes before text × ((most_bytes < length before) ⊎ ((w : Work) → Accepted before w → ⊥))))
+    (most_certificate_bytes < length bytes)
+    ⊎ (HasNoJournal bytes ⊎ ((before : List ℕ) × (text : List ℕ) × IsCut bytes before text × ((most_workload_bytes < length before) ⊎ ((w : Work) → Accepted before w → ⊥))))
 
 abbrev pub RefusesCertificate : StreamChange → ℕ → Type 0
 RefusesCertificate input status =
     (HasFault input → ⊥) → (bytes : List ℕ) → input.before ≡ Some bytes
-    → (most_certificate < length bytes → status ≡ 2) × (IsNone bytes → (status ≡ 2) ⊎ (status ≡ 5))
+    → (most_certificate_bytes < length bytes → status ≡ 2) × (IsNone bytes → (status ≡ 2) ⊎ (status ≡ 5))

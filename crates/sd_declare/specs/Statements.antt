@@ -12,7 +12,7 @@ use Rattle.sd_types.specs.declared.works.ChanKind.{ChanKind}
 use Rattle.sd_types.specs.declared.works.ChanKind.TheVariants as chan
 use Rattle.sd_types.specs.Partitions.{cpu_of_number}
 use Rattle.sd_types.specs.Works.{is_distinct, upri_fits}
-use Rattle.sd_types.specs.Limits.{greatest_limit, most_objects, most_processors, most_sets, most_threads}
+use Rattle.sd_types.specs.Limits.{greatest_limit, most_objects, most_processors, most_quantum_ticks, most_sets, most_threads}
 use Rattle.sd_lines.specs.declared.statements.TableClass.{TableClass}
 use Rattle.sd_lines.specs.declared.statements.TableClass.TheVariants as table
 use Rattle.sd_lines.specs.declared.threads.ThreadClass.{ThreadClass}
@@ -31,7 +31,7 @@ use Rattle.sd_declare.specs.Declarations.{Thread, Declarations, cpu_count, is_lo
 abbrev pub is_quantum : QuantumWord → Bool
 is_quantum Def = true
 is_quantum Inf = true
-is_quantum (Ticks n) = nat_le 1 n && nat_le n 1000000
+is_quantum (Ticks n) = nat_le 1 n && nat_le n most_quantum_ticks
 
 -- the numbers of a class
 abbrev pub is_class : ThreadClass → Bool

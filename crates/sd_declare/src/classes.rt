@@ -6,14 +6,14 @@ ghost use Rattle.sd_types.specs.Works.{upri_fits};
 ghost use Rattle.sd_declare.specs.Statements.{is_quantum, is_class, quantum_of, parms_of, cpupri_of};
 
 use sd_lines::{QuantumWord, ThreadClass};
-use sd_types::{ClassParms, Quantum};
+use sd_types::{ClassParms, MOST_QUANTUM_TICKS, Quantum};
 
 /// Whether a quantum in ticks is one that a thread may have: 1 to 1,000,000.
 pub fn is_quantum(quantum: QuantumWord) -> bool
     ensures { result ≡ is_quantum quantum }
 {
     match quantum {
-        QuantumWord::Ticks(n) => 1 <= n && n <= 1_000_000,
+        QuantumWord::Ticks(n) => 1 <= n && n <= u64::from(MOST_QUANTUM_TICKS),
         QuantumWord::Def | QuantumWord::Inf => true,
     }
 }

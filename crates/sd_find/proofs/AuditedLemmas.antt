@@ -10,7 +10,7 @@ use Rattle.sd_machine.specs.Texts.{journal}
 use Rattle.sd_workload.specs.Accepted.{Accepted}
 use Rattle.sd_search.specs.Graphs.{packed}
 use Rattle.sd_answers.specs.Certificates.{Certifies, IsLegalJournal}
-use Rattle.sd_types.specs.Limits.{most_certificate}
+use Rattle.sd_types.specs.Limits.{most_certificate_bytes}
 use Rattle.sd_answers.specs.Inputs.{IsWorkload}
 use Rattle.sd_answers.specs.StreamChanges.{StreamChange}
 use Rattle.sd_answers.proofs.InputLemmas.{taken_all}
@@ -22,7 +22,7 @@ use Rattle.sd_find.specs.Shown.{IsCertified}
 
 -- a certified journal behind the workload that was read
 module _ (w : Work) (es : List Entry) (input : StreamChange) (text : List ℕ) (is : input.before ≡ Some text) (whole : HasWholeLines text) (workload : IsWorkload input w) (legal : IsCertified w es) where
-  certified : length (certificate_of text (journal w es)) ≤ most_certificate → Certifies (certificate_of text (journal w es)) (journal w es) (IsLegalJournal (journal w es))
+  certified : length (certificate_of text (journal w es)) ≤ most_certificate_bytes → Certifies (certificate_of text (journal w es)) (journal w es) (IsLegalJournal (journal w es))
   certified many =
       let same = taken_all input.before input.after workload.bytes text workload.read.took workload.read.to_end is in
       let accepted : Accepted text w = subst (λ (bs : List ℕ). Accepted bs w) same workload.accepted in
@@ -36,7 +36,7 @@ module _ (w : Work) (es : List Entry) (input : StreamChange) (text : List ℕ) (
         holds = (final w (opening w) es, length es, legal);
       }
 
-  found_legal : length (certificate_of text (journal w es)) ≤ most_certificate → IsFoundLegal text (journal w es)
+  found_legal : length (certificate_of text (journal w es)) ≤ most_certificate_bytes → IsFoundLegal text (journal w es)
   found_legal many asked read told failed found promised audits sound written certificate =
       promised.completes_audit audits sound written (certificate_of text (journal w es)) (journal w es) certificate (certified many)
 

@@ -12,7 +12,7 @@ use Rattle.sd_answers.specs.declared.answers.Answer.TheVariants.{Usage, TooLarge
 use Rattle.sd_answers.specs.declared.writing.Unwritten.{Unwritten}
 use Rattle.sd_answers.specs.declared.writing.Unwritten.TheVariants as unwritten
 use Rattle.sd_answers.specs.Answers.{status_of, unwritten_answer}
-use Rattle.sd_types.specs.Limits.{most_bytes}
+use Rattle.sd_types.specs.Limits.{most_workload_bytes}
 use Rattle.sd_answers.specs.Inputs.{IsRefused, IsWorkload}
 use Rattle.sd_answers.specs.StreamChanges.{StreamChange, IsUntouched, Puts}
 use Rattle.sd_answers.proofs.InputLemmas.{at_most_of, not_too_many as within_most, taken_all}
@@ -51,7 +51,7 @@ module _ (aim : Aim) (most : ℕ) (input out : StreamChange) where
 
   -- memory ran out in the search
   pub unsearched : (w : Work) → IsWorkload input w → IsUntouched out → SaysNothing aim most input out OutOfMemory
-  unsearched w is kept = (at_most_of most_bytes input is.bytes is.read, kept)
+  unsearched w is kept = (at_most_of most_workload_bytes input is.bytes is.read, kept)
 
   -- what the exit of a `?` returns
   pub seek_exit : (r : Result Verdict Answer) (a : Answer) → IsErrAnd r (λ y. y ≡ a) → SaysNothing aim most input out a → CausedBySearch aim most input out r
@@ -133,7 +133,7 @@ module _ (aim : Aim) (most : ℕ) (input out : StreamChange) where
   refuses (Err (Refused line cause)) c = λ sound bytes is. (λ many. refl, λ none. inl refl)
   refuses (Err ReadFault) c = λ sound bytes is. (λ many. absurd (sound c.0), λ none. absurd (sound c.0))
   refuses (Err WriteFault) c = λ sound bytes is. (λ many. absurd (no_workload input bytes is (inl many) c.1.work c.1.workload), λ none. absurd (no_workload input bytes is (inr none) c.1.work c.1.workload))
-  refuses (Err OutOfMemory) c = λ sound bytes is. (λ many. absurd (let few = within_most most_bytes input bytes c.0 is in omega arith), λ none. inr refl)
+  refuses (Err OutOfMemory) c = λ sound bytes is. (λ many. absurd (let few = within_most most_workload_bytes input bytes c.0 is in omega arith), λ none. inr refl)
   refuses (Err Blocked) c = absurd c
   refuses (Err (NotAJournal fault)) c = absurd c
   refuses (Err TooLong) c = absurd c

@@ -7,7 +7,7 @@ use Rattle.sd_types.specs.declared.works.Work.{Work}
 use Rattle.sd_machine.specs.Texts.{journal}
 use Rattle.sd_search.specs.declared.questions.Question.{Question}
 use Rattle.sd_extremes.specs.declared.ends.Ending.{Ending}
-use Rattle.sd_types.specs.Limits.{most_certificate}
+use Rattle.sd_types.specs.Limits.{most_certificate_bytes}
 use Rattle.sd_answers.specs.StreamChanges.{StreamChange, HasFault}
 use Rattle.sd_program.specs.declared.forms.Command.TheVariants.{Audit}
 use Rattle.sd_program.specs.Audited.{HasWholeLines, certificate_of}
@@ -35,7 +35,7 @@ pub record EndsWithJournal (q : Question) (text printed : List ℕ) : Type 0 whe
   pub states : ℕ
   pub journal : List ℕ
   pub printed_is : printed ≡ found_head work q entries states ++ journal
-  pub legal : length (certificate_of text journal) ≤ most_certificate → IsFoundLegal text journal
+  pub legal : length (certificate_of text journal) ≤ most_certificate_bytes → IsFoundLegal text journal
 
 abbrev pub WitnessesAreAudited : Type 0
 WitnessesAreAudited =
@@ -54,8 +54,8 @@ pub record HasJournals (name text printed : List ℕ) : Type 0 where
   pub latest : Ending
   pub states : ℕ
   pub printed_is : printed ≡ between_text work thread in_every earliest latest states
-  pub earliest_legal : length (certificate_of text (journal work earliest.entries.items)) ≤ most_certificate → IsFoundLegal text (journal work earliest.entries.items)
-  pub latest_legal : length (certificate_of text (journal work latest.entries.items)) ≤ most_certificate → IsFoundLegal text (journal work latest.entries.items)
+  pub earliest_legal : length (certificate_of text (journal work earliest.entries.items)) ≤ most_certificate_bytes → IsFoundLegal text (journal work earliest.entries.items)
+  pub latest_legal : length (certificate_of text (journal work latest.entries.items)) ≤ most_certificate_bytes → IsFoundLegal text (journal work latest.entries.items)
 
 abbrev pub EndingsAreAudited : Type 0
 EndingsAreAudited =
@@ -71,7 +71,7 @@ pub record HasWait (text printed : List ℕ) : Type 0 where
   pub entries : List Entry
   pub states : ℕ
   pub printed_is : printed ≡ wait_text work ticks entries states
-  pub legal : length (certificate_of text (journal work entries)) ≤ most_certificate → IsFoundLegal text (journal work entries)
+  pub legal : length (certificate_of text (journal work entries)) ≤ most_certificate_bytes → IsFoundLegal text (journal work entries)
 
 abbrev pub WaitsAreAudited : Type 0
 WaitsAreAudited =

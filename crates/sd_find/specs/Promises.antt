@@ -18,7 +18,7 @@ use Rattle.sd_extremes.specs.Ends.{AreExtremes}
 use Rattle.sd_extremes.specs.WholeRuns.{IsFreshRun}
 use Rattle.sd_longest.specs.Waits.{IsLongestOf, IsWait}
 use Rattle.sd_longest.specs.LongestRuns.{IsLongestRun}
-use Rattle.sd_types.specs.Limits.{most_bytes}
+use Rattle.sd_types.specs.Limits.{most_workload_bytes}
 use Rattle.sd_answers.specs.Inputs.{IsWorkload}
 use Rattle.sd_answers.specs.Starts.{WritesHelp}
 use Rattle.sd_answers.specs.StreamChanges.{StreamChange, HasFault, HasNoFault, IsUntouched, TellsLine}
@@ -182,14 +182,14 @@ pub record LeavesUntimed (name : List ℕ) (most : ℕ) (input out : StreamChang
 -- runs out
 abbrev pub RefusesName : List ℕ → StreamChange → StreamChange → StreamChange → ℕ → Type 0
 RefusesName name input out err status =
-    (HasFault input → ⊥) → (bytes : List ℕ) (w : Work) → input.before ≡ Some bytes → length bytes ≤ most_bytes → Accepted bytes w → HasNoThread w name
+    (HasFault input → ⊥) → (bytes : List ℕ) (w : Work) → input.before ≡ Some bytes → length bytes ≤ most_workload_bytes → Accepted bytes w → HasNoThread w name
     → ((status ≡ 2) × IsUntouched out × TellsLine err (verdict_line NoThread)) ⊎ (status ≡ 5)
 
 -- an accepted workload is searched, unless memory runs out
 abbrev pub CompletesSearch : (Work → ℕ → Type 0) → StreamChange → StreamChange → ℕ → Type 0
 CompletesSearch Says input out status =
     (HasFault input → ⊥) → (HasFault out → ⊥)
-    → (bytes : List ℕ) (w : Work) → input.before ≡ Some bytes → length bytes ≤ most_bytes → Accepted bytes w → Says w status ⊎ (status ≡ 5)
+    → (bytes : List ℕ) (w : Work) → input.before ≡ Some bytes → length bytes ≤ most_workload_bytes → Accepted bytes w → Says w status ⊎ (status ≡ 5)
 
 abbrev pub FindSays : ℕ → Type 0
 FindSays status = (status ≡ 9) ⊎ ((status ≡ 10) ⊎ (status ≡ 11))

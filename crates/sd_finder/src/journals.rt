@@ -80,7 +80,7 @@ pub(crate) fn write_journal_with(
 ) -> Result<(), AllocError>
     requires { state.now ≡ final work.now (opening work.now) entries.now }
     ensures text { OnOk result (out.new.items ≡ out.old.items ++ journal work.now entries.now) }
-    ensures short { OnOk result (length entries.now ≤ 2 ^ 40) }
+    ensures short { OnOk result (length entries.now ≤ most_entries) }
 {
     if entries.len() > MOST_ENTRIES {
         return Err(AllocError);

@@ -10,7 +10,7 @@ use Rattle.sd_machine.specs.Texts.{journal}
 use Rattle.sd_workload.specs.Accepted.{Accepted}
 use Rattle.sd_audit.specs.Audits.{IsJournal}
 use Rattle.sd_answers.specs.Certificates.{IsLegalJournal, Certifies}
-use Rattle.sd_types.specs.Limits.{most_certificate}
+use Rattle.sd_types.specs.Limits.{most_certificate_bytes}
 use Rattle.sd_answers.specs.Inputs.{IsWorkload}
 use Rattle.sd_answers.specs.StreamChanges.{StreamChange}
 use Rattle.sd_answers.proofs.InputLemmas.{taken_all}
@@ -22,7 +22,7 @@ use Rattle.sd_machine.specs.Runs.{final_state}
 use Rattle.sd_program.specs.Audited.{HasWholeLines, certificate_of, RunsAreAudited}
 
 module _ (mode : Mode) (input out : StreamChange) (text printed : List ℕ) (is : input.before ≡ Some text) (empty : out.before ≡ Some []) (holds : out.after ≡ Some printed)
-    (whole : HasWholeLines text) (many : length (certificate_of text printed) ≤ most_certificate) where
+    (whole : HasWholeLines text) (many : length (certificate_of text printed) ≤ most_certificate_bytes) where
   printed_journal : (w : Work) (es : List Entry) → Appends out.before out.after (journal w es) → printed ≡ journal w es
   printed_journal w es appended = same_Some printed (journal w es) (sym holds ∙ Appends-told out.before out.after [] (journal w es) appended empty)
 

@@ -27,7 +27,7 @@ use Rattle.sd_answers.specs.StreamChanges.{StreamChange, HasFault, IsUntouched, 
 use Rattle.sd_program.specs.Forms.{command_of, mode_of, run_rising, text_of}
 use Rattle.sd_program.specs.RunAnswers.{IsLong, Ran}
 use Rattle.sd_program.specs.TheRun.{IsTheRun}
-use Rattle.sd_types.specs.Limits.{most_bytes}
+use Rattle.sd_types.specs.Limits.{most_workload_bytes}
 use Rattle.sd_answers.specs.Inputs.{HasAtMost, HasTooMany, IsWorkload, IsNoWorkload, IsRefused}
 use Rattle.sd_answers.proofs.InputLemmas.{taken_within, taken_all, at_most_of, not_too_many as within_most, not_both}
 use Rattle.sd_program.specs.Headline.{RanInput, CausedByInput, PrintsTables, CausedByTables, CausedByNumber, CausedByCommand, Caused, Completes, CompletesTables, Refuses}
@@ -79,7 +79,7 @@ pub some_command : (arguments : List (List ℕ)) (k : Command) → command_of ar
 some_command arguments k some none = cc
 
 -- an input with too many bytes, and one that is no workload, are no accepted one
-pub not_too_many : (input : StreamChange) (bytes : List ℕ) → HasTooMany most_bytes input → input.before ≡ Some bytes → length bytes ≤ most_bytes → ⊥
+pub not_too_many : (input : StreamChange) (bytes : List ℕ) → HasTooMany most_workload_bytes input → input.before ≡ Some bytes → length bytes ≤ most_workload_bytes → ⊥
 not_too_many input bytes many is short =
     let within = taken_within input.before input.after many.bytes bytes many.took is in
     let count = many.many in
@@ -133,7 +133,7 @@ completes_generated_of arguments n input out Blocked known c = λ told. absurd (
 completes_generated_of arguments n input out TooLong known c = λ told. absurd (subst (λ k. CausedByCommand k input out TooLong) (same_command arguments c.0 (Generate n) c.1 known) c.2).1
 
 -- an input that is too large, or no workload, is no accepted one
-pub no_workload : (input : StreamChange) (bytes : List ℕ) → input.before ≡ Some bytes → (most_bytes < length bytes) ⊎ ((w : Work) → Accepted bytes w → ⊥) → (w : Work) → IsWorkload input w → ⊥
+pub no_workload : (input : StreamChange) (bytes : List ℕ) → input.before ≡ Some bytes → (most_workload_bytes < length bytes) ⊎ ((w : Work) → Accepted bytes w → ⊥) → (w : Work) → IsWorkload input w → ⊥
 no_workload input bytes is (inl many) w found =
     let all = taken_all input.before input.after found.bytes bytes found.read.took found.read.to_end is in
     let bound = found.read.bound in
@@ -142,8 +142,8 @@ no_workload input bytes is (inr none) w found =
     none w (subst (λ bs. Accepted bs w) (taken_all input.before input.after found.bytes bytes found.read.took found.read.to_end is) found.accepted)
 
 -- nor has it no more bytes than it may have
-too_many_for : (input : StreamChange) (bytes : List ℕ) → HasAtMost most_bytes input → input.before ≡ Some bytes → most_bytes < length bytes → status_of OutOfMemory ≡ 2
-too_many_for input bytes few is many = let within = within_most most_bytes input bytes few is in absurd (omega arith)
+too_many_for : (input : StreamChange) (bytes : List ℕ) → HasAtMost most_workload_bytes input → input.before ≡ Some bytes → most_workload_bytes < length bytes → status_of OutOfMemory ≡ 2
+too_many_for input bytes few is many = let within = within_most most_workload_bytes input bytes few is in absurd (omega arith)
 
 pub refuses_of : (arguments : List (List ℕ)) (form : Form) (input out : StreamChange) (a : Answer) → command_of arguments ≡ Some (Run form) → Caused arguments input out a → Refuses input (status_of a)
 refuses_of arguments form input out Done known c = λ sound bytes is. (λ many. let d = subst (λ k. CausedByCommand k input out Done) (same_command arguments c.0 (Run form) c.1 known) c.2 in absurd (no_workload input bytes is (inl many) d.0 d.1), λ none. let d = subst (λ k. CausedByCommand k input out Done) (same_command arguments c.0 (Run form) c.1 known) c.2 in absurd (no_workload input bytes is (inr none) d.0 d.1))
@@ -191,7 +191,7 @@ refused_of form input out a refused kept = absurd refused
 pub tables_unwritten : (input out : StreamChange) (w : Work) (e : Unwritten) → IsWorkload input w → Puts out.before out.after out.faults_before out.faults_after (tables_text w) (Err e)
     → (e ≡ unwritten.Memory → out.after ≡ out.before) → CausedByTables input out (unwritten_answer e)
 tables_unwritten input out w unwritten.Fault is p kept = (w, is, p.fault refl, p.part)
-tables_unwritten input out w unwritten.Memory is p kept = (at_most_of most_bytes input is.bytes is.read, record { bytes = kept refl; no_fault = p.no_fault (λ e. cc) })
+tables_unwritten input out w unwritten.Memory is p kept = (at_most_of most_workload_bytes input is.bytes is.read, record { bytes = kept refl; no_fault = p.no_fault (λ e. cc) })
 
 pub tables_exit : (input out : StreamChange) (r : Result (Unit {0}) Answer) (a : Answer) → IsErrAnd r (λ y. y ≡ a) → CausedByTables input out a → CausedByTables input out (answer_of r)
 tables_exit input out r a exit caused =
@@ -208,7 +208,7 @@ pub run_of : (form : Form) (input out : StreamChange) (w : Work) (a : Answer) �
 run_of form input out w Done is r = (w, is, r)
 run_of form input out w Blocked is r = (w, is, r)
 run_of form input out w WriteFault is r = (w, is, r)
-run_of form input out w OutOfMemory is r = (at_most_of most_bytes input is.bytes is.read, r.0, inr (w, is, r))
+run_of form input out w OutOfMemory is r = (at_most_of most_workload_bytes input is.bytes is.read, r.0, inr (w, is, r))
 run_of form input out w TooLong is r = (w, is, r)
 run_of form input out w a is r = absurd r
 

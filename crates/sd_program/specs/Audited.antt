@@ -2,7 +2,7 @@
 -- what it printed. Source: this project's own.
 use Rattle.std.specs.Prelude.{◌≡◌, ℕ, ◌≤◌, List, [], ◌++◌, codes, length, Some, ◌⊎◌}
 use Rattle.sd_text.specs.Lines.{lines_of, text_of_lines}
-use Rattle.sd_types.specs.Limits.{most_certificate}
+use Rattle.sd_types.specs.Limits.{most_certificate_bytes}
 use Rattle.sd_answers.specs.StreamChanges.{StreamChange, HasFault}
 use Rattle.sd_program.specs.declared.forms.Mode.{Mode}
 use Rattle.sd_program.specs.declared.forms.Form.TheVariants.{Journal}
@@ -25,7 +25,7 @@ RunsAreAudited =
     (mode : Mode) (arguments : List (List ℕ)) (input out err : StreamChange) (status : ℕ) (text printed : List ℕ)
     → KeepsPromises arguments input out err status → command_of arguments ≡ Some (Run (Journal mode)) → (status ≡ 0) ⊎ (status ≡ 6)
     → input.before ≡ Some text → out.before ≡ Some [] → out.after ≡ Some printed
-    → HasWholeLines text → length (certificate_of text printed) ≤ most_certificate
+    → HasWholeLines text → length (certificate_of text printed) ≤ most_certificate_bytes
     → (asked : List (List ℕ)) (read told failed : StreamChange) (found : ℕ)
     → KeepsPromises asked read told failed found → command_of asked ≡ Some Audit
     → (HasFault read → ⊥) → (HasFault told → ⊥) → read.before ≡ Some (certificate_of text printed)

@@ -9,7 +9,7 @@ use Rattle.sd_answers.specs.declared.answers.Answer.{Answer}
 use Rattle.sd_answers.specs.declared.answers.Answer.TheVariants.{Done, Usage, TooLarge, Refused, ReadFault, WriteFault, OutOfMemory, Blocked, TooLong}
 use Rattle.sd_answers.specs.Answers.{status_of, line_of}
 use Rattle.sd_answers.specs.Certificates.{CompletesCertificate, RefusesCertificate, RefusesFaulty, RefusesJournal}
-use Rattle.sd_types.specs.Limits.{most_bytes}
+use Rattle.sd_types.specs.Limits.{most_workload_bytes}
 use Rattle.sd_answers.specs.Inputs.{HasAtMost, HasTooMany, IsWorkload, IsNoWorkload}
 use Rattle.sd_answers.specs.StreamChanges.{StreamChange, HasFault, HasNoFault, IsUntouched, AppendsPart, TellsLine}
 use Rattle.sd_gen.specs.Generated.{generated}
@@ -28,11 +28,11 @@ RanInput form input out a = (w : Work) × IsWorkload input w × Ran w form out a
 -- the answer to the arguments of a form
 abbrev pub CausedByInput : Form → StreamChange → StreamChange → Answer → Type 0
 CausedByInput form input out Done = RanInput form input out Done
-CausedByInput form input out TooLarge = HasTooMany most_bytes input × IsUntouched out
+CausedByInput form input out TooLarge = HasTooMany most_workload_bytes input × IsUntouched out
 CausedByInput form input out (Refused line cause) = IsNoWorkload input line cause × IsUntouched out
 CausedByInput form input out ReadFault = HasFault input × IsUntouched out
 CausedByInput form input out WriteFault = RanInput form input out WriteFault
-CausedByInput form input out OutOfMemory = HasAtMost most_bytes input × HasNoFault out × (IsUntouched out ⊎ RanInput form input out OutOfMemory)
+CausedByInput form input out OutOfMemory = HasAtMost most_workload_bytes input × HasNoFault out × (IsUntouched out ⊎ RanInput form input out OutOfMemory)
 CausedByInput form input out Blocked = RanInput form input out Blocked
 CausedByInput form input out TooLong = RanInput form input out TooLong
 CausedByInput form input out _ = ⊥
@@ -44,11 +44,11 @@ PrintsTables input out = (w : Work) × IsWorkload input w × Appends out.before 
 -- the answer to the argument `tables`
 abbrev pub CausedByTables : StreamChange → StreamChange → Answer → Type 0
 CausedByTables input out Done = PrintsTables input out
-CausedByTables input out TooLarge = HasTooMany most_bytes input × IsUntouched out
+CausedByTables input out TooLarge = HasTooMany most_workload_bytes input × IsUntouched out
 CausedByTables input out (Refused line cause) = IsNoWorkload input line cause × IsUntouched out
 CausedByTables input out ReadFault = HasFault input × IsUntouched out
 CausedByTables input out WriteFault = (w : Work) × IsWorkload input w × HasFault out × AppendsPart out.before out.after (tables_text w)
-CausedByTables input out OutOfMemory = HasAtMost most_bytes input × IsUntouched out
+CausedByTables input out OutOfMemory = HasAtMost most_workload_bytes input × IsUntouched out
 CausedByTables input out _ = ⊥
 
 -- the answer to the arguments `gen N`
@@ -85,20 +85,20 @@ pub record IsAnswered (arguments : List (List ℕ)) (input out err : StreamChang
 abbrev pub Completes : Form → StreamChange → StreamChange → ℕ → Type 0
 Completes form input out status =
     (HasFault input → ⊥) → (HasFault out → ⊥)
-    → (bytes : List ℕ) (w : Work) → input.before ≡ Some bytes → length bytes ≤ most_bytes → Accepted bytes w
+    → (bytes : List ℕ) (w : Work) → input.before ≡ Some bytes → length bytes ≤ most_workload_bytes → Accepted bytes w
     → (status ≡ 0) ⊎ ((status ≡ 6) ⊎ ((status ≡ 5) ⊎ (status ≡ 8)))
 
 -- the tables of an accepted workload are written, unless memory runs out
 abbrev pub CompletesTables : StreamChange → StreamChange → ℕ → Type 0
 CompletesTables input out status =
     (HasFault input → ⊥) → (HasFault out → ⊥)
-    → (bytes : List ℕ) (w : Work) → input.before ≡ Some bytes → length bytes ≤ most_bytes → Accepted bytes w → (status ≡ 0) ⊎ (status ≡ 5)
+    → (bytes : List ℕ) (w : Work) → input.before ≡ Some bytes → length bytes ≤ most_workload_bytes → Accepted bytes w → (status ≡ 0) ⊎ (status ≡ 5)
 
 -- an input that is too large is refused, and so is one that is no accepted workload, unless memory runs out
 abbrev pub Refuses : StreamChange → ℕ → Type 0
 Refuses input status =
     (HasFault input → ⊥) → (bytes : List ℕ) → input.before ≡ Some bytes
-    → (most_bytes < length bytes → status ≡ 2) × (((w : Work) → Accepted bytes w → ⊥) → (status ≡ 2) ⊎ (status ≡ 5))
+    → (most_workload_bytes < length bytes → status ≡ 2) × (((w : Work) → Accepted bytes w → ⊥) → (status ≡ 2) ⊎ (status ≡ 5))
 
 -- All that the program promises of a call, from what it did to its streams: there is an answer with its cause, its
 -- status and its line; where a workload is run, status 0 says that the run was printed and that no threads block each

@@ -3,7 +3,7 @@ ghost use Rattle.std.specs.Prelude.{◌≡◌, ◌^◌, ◌<◌, ◌≤◌, leng
 ghost use Rattle.std.specs.Io.KnownBytes.{IsAtEnd};
 ghost use Rattle.sd_text.specs.Faults.{HasRisen};
 ghost use Rattle.sd_text.specs.Reading.{TakesUpTo};
-ghost use Rattle.sd_types.specs.Limits.{most_bytes};
+ghost use Rattle.sd_types.specs.Limits.{most_workload_bytes};
 
 use super::streams::Source;
 use sd_types::MOST_WORKLOAD_BYTES;
@@ -34,16 +34,16 @@ pub fn read_all<S: Source>(alloc: Global, source: &mut S) -> Result<Vec<u8>, Rea
     // An `Ok` has the whole input, where the source tells it, and nothing is left.
     ensures whole { IfOk result (λ v. IfSome (S.remaining source.old) (λ xs. v.items ≡ xs)) }
     ensures end { OnOk result (IsAtEnd (S.remaining source.new)) }
-    ensures bound { IfOk result (λ v. length v.items ≤ most_bytes) }
+    ensures bound { IfOk result (λ v. length v.items ≤ most_workload_bytes) }
 
     // When each fault comes. Out of memory comes only for an input that was read to its end, and is not too large.
     ensures read_fault { IsErrOf result ReadAllFault.ReadFault → HasRisen (S.fault_count source.old) (S.fault_count source.new) }
     ensures no_fault { ¬ IsErrOf result ReadAllFault.ReadFault → S.fault_count source.new ≡ S.fault_count source.old }
-    ensures too_large { IsErrOf result ReadAllFault.TooLarge → IfSome (S.remaining source.old) (λ xs. most_bytes < length xs) }
+    ensures too_large { IsErrOf result ReadAllFault.TooLarge → IfSome (S.remaining source.old) (λ xs. most_workload_bytes < length xs) }
     ensures memory { IsErrOf result ReadAllFault.Memory → IsAtEnd (S.remaining source.new) }
 
     // What was taken, whatever the result.
-    ensures taken { TakesUpTo most_bytes (S.remaining source.old) (S.remaining source.new) result }
+    ensures taken { TakesUpTo most_workload_bytes (S.remaining source.old) (S.remaining source.new) result }
 {
     read_up_to(alloc, source, MOST_WORKLOAD_BYTES as u64)
 }

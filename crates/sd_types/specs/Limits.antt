@@ -3,12 +3,12 @@
 use Rattle.std.specs.Prelude.{ℕ, ◌^◌}
 
 -- the most bytes of the text of a workload
-abbrev pub most_bytes : ℕ
-most_bytes = 1048576
+abbrev pub most_workload_bytes : ℕ
+most_workload_bytes = 1048576
 
 -- and of a certificate: a workload, the line `journal`, and the journal of a run
-abbrev pub most_certificate : ℕ
-most_certificate = 134217728
+abbrev pub most_certificate_bytes : ℕ
+most_certificate_bytes = 134217728
 
 -- the most bytes of a name
 abbrev pub most_name_bytes : ℕ
@@ -59,3 +59,15 @@ most_held = 8
 -- a log that holds as many entries takes no more
 abbrev pub most_entries : ℕ
 most_entries = 2 ^ 40
+
+-- the most ticks of a quantum
+abbrev pub most_quantum_ticks : ℕ
+most_quantum_ticks = 1000000
+
+-- the most parts of a second in which the file of a table gives its quanta
+abbrev pub greatest_resolution : ℕ
+greatest_resolution = 1000000000
+
+-- and the most such parts of a quantum
+abbrev pub most_quantum_units : ℕ
+most_quantum_units = 1000000000

@@ -44,3 +44,12 @@ pub const MOST_HELD: usize = 8;
 
 /// A log that holds as many entries takes no more: 2^40.
 pub const MOST_ENTRIES: usize = 1_099_511_627_776;
+
+/// The most ticks of a quantum.
+pub const MOST_QUANTUM_TICKS: u32 = 1_000_000;
+
+/// The most parts of a second in which the file of a table gives its quanta: its RES.
+pub const GREATEST_RESOLUTION: u64 = 1_000_000_000;
+
+/// The most such parts of a quantum.
+pub const MOST_QUANTUM_UNITS: u64 = 1_000_000_000;

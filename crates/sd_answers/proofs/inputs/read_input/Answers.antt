@@ -2,7 +2,7 @@ use Rattle.std.proofs.Common.{◌≡◌, List, ℕ, Err, length, sym, ap, subst,
 use Rattle.std.specs.Io.KnownBytes.{Consumes}
 use Rattle.sd_answers.specs.Answers.{read_answer, work_answer}
 use Rattle.sd_answers.specs.StreamChanges.{change_of}
-use Rattle.sd_types.specs.Limits.{most_bytes}
+use Rattle.sd_types.specs.Limits.{most_workload_bytes}
 use Rattle.sd_answers.specs.Inputs.{HasRead}
 use Rattle.sd_answers.proofs.InputLemmas.{unread_of, unspelled_of, reading_exit}
 use Rattle.sd_answers.proofs.inputs.read_input.Goals as goal
@@ -28,7 +28,7 @@ returns-in_err-read_work g c =
     let e = c.in_ok-bytes.ensures in
     let bytes = c.deref.result.now in
     let same : bytes ≡ e.taken.bytes = c.deref.ensures.value ∙ e.taken.all in
-    let read : HasRead most_bytes input bytes = record {
+    let read : HasRead most_workload_bytes input bytes = record {
       took = subst (λ (bs : List ℕ). Consumes (left old) (left new) bs) (sym same) e.taken.consumed;
       to_end = e.end;
       bound = omega (arith, ap length c.deref.ensures.value, e.bound);
