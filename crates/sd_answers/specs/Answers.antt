@@ -48,6 +48,11 @@ line_of Blocked = codes "blocking cycle\n"
 line_of (NotAJournal fault) = journal_line fault
 line_of TooLong = codes "run too long\n"
 
+-- the line of an answer of a program with other forms of arguments, whose usage is this line
+abbrev pub line_with : List ℕ → Answer → List ℕ
+line_with usage Usage = usage
+line_with usage a = line_of a
+
 -- ---- the answer where a call was refused
 
 -- the arguments were not read: one of them is no text, so they are none that the program knows, or memory ran out

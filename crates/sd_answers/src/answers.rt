@@ -5,14 +5,14 @@ ghost use Rattle.std.specs.Prelude.{◌≡◌, ℕ, IsErrOf};
 ghost use Rattle.sd_declare.specs.declared.causes.WorkCause.{WorkCause as Cause};
 ghost use Rattle.sd_answers.specs.declared.answers.JournalFault.{JournalFault as Fault};
 ghost use Rattle.sd_answers.specs.StreamChanges.{Puts};
-ghost use Rattle.sd_text.specs.Lines.{EndsLine};
+ghost use Rattle.sd_text.specs.Lines.{EndsLine, IsOneLine};
 ghost use Rattle.sd_answers.specs.declared.writing.Unwritten.TheVariants.{Memory};
 ghost use Rattle.std.specs.IoError.{error_kind};
 ghost use Rattle.sd_answers.specs.declared.answers.Answer.TheVariants.{OutOfMemory, Refused, NotAJournal};
-ghost use Rattle.sd_answers.specs.Answers.{status_of, line_of, answer_of, arguments_answer, audit_answer, certificate_answer, read_answer, work_answer, stop_answer, unwritten_answer};
+ghost use Rattle.sd_answers.specs.Answers.{status_of, line_of, line_with, answer_of, arguments_answer, audit_answer, certificate_answer, read_answer, work_answer, stop_answer, unwritten_answer};
 
 use crate::refusals::{put_journal_fault, put_refusal};
-use crate::writing::{Unwritten, put_text};
+use crate::writing::{Unwritten, put_line, put_text};
 use sd_audit::AuditFault;
 use sd_declare::WorkCause;
 use sd_text::{ReadAllFault, Sink};
@@ -151,6 +151,18 @@ impl Answer {
             Answer::Refused { line, cause } => put_refusal(err, line, cause),
             Answer::NotAJournal(fault) => put_journal_fault(err, fault),
             other => put_text(err, other.constant_line()),
+        }
+    }
+
+    /// Writes the line of the answer of a program with other forms of arguments, whose usage is this line.
+    pub fn put_line_with<E: Sink>(self, usage: &[u8], err: &mut E) -> Result<(), Unwritten>
+        requires { IsOneLine usage.now }
+        ensures puts { Puts (E.contents err.old) (E.contents err.new) (E.fault_count err.old) (E.fault_count err.new) (line_with usage.now self) result }
+        ensures no_memory { IsErrOf result Memory → ⊥ }
+    {
+        match self {
+            Answer::Usage => put_line(err, usage),
+            other => other.put_line(err),
         }
     }
 }

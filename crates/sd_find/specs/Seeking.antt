@@ -5,8 +5,8 @@ use Rattle.std.specs.Io.KnownBytes.{Appends}
 use Rattle.sd_types.specs.declared.works.Work.{Work}
 use Rattle.sd_answers.specs.declared.answers.Answer.{Answer}
 use Rattle.sd_answers.specs.declared.answers.Answer.TheVariants.{Usage, TooLarge, Refused, ReadFault, WriteFault, OutOfMemory}
-use Rattle.sd_answers.specs.Answers.{line_of, status_of}
-use Rattle.sd_types.specs.Limits.{most_bytes}
+use Rattle.sd_answers.specs.Answers.{line_with, status_of}
+use Rattle.sd_types.specs.Limits.{most_workload_bytes}
 use Rattle.sd_answers.specs.Inputs.{HasAtMost, HasTooMany, IsNoWorkload, IsWorkload}
 use Rattle.sd_answers.specs.StreamChanges.{StreamChange, AppendsPart, HasFault, HasNoFault, IsUntouched, TellsLine}
 use Rattle.sd_finder.specs.declared.forms.Aim.{Aim}
@@ -33,8 +33,7 @@ ended_status (Err answer) = status_of answer
 
 -- the line of an answer where nothing was said: that of a run, but for the usage
 abbrev pub answer_line : Answer → List ℕ
-answer_line Usage = codes "usage: dispfind (blocked | stuck | states | ends NAME | waits NAME) [--most N] [--quiet] | --help\n"
-answer_line a = line_of a
+answer_line a = line_with (codes "usage: dispfind (blocked | stuck | states | ends NAME | waits NAME) [--most N] [--quiet] | --help\n") a
 
 -- what was said stands on the output, and leaves no line; that no thread has the name is said here alone
 abbrev pub verdict_line : Verdict → List ℕ
@@ -76,11 +75,11 @@ pub record Says (aim : Aim) (most : ℕ) (input out : StreamChange) (verdict : V
 
 -- why nothing was said, or not all of it was written
 abbrev pub SaysNothing : Aim → ℕ → StreamChange → StreamChange → Answer → Type 0
-SaysNothing aim most input out TooLarge = HasTooMany most_bytes input × IsUntouched out
+SaysNothing aim most input out TooLarge = HasTooMany most_workload_bytes input × IsUntouched out
 SaysNothing aim most input out (Refused line cause) = IsNoWorkload input line cause × IsUntouched out
 SaysNothing aim most input out ReadFault = HasFault input × IsUntouched out
 SaysNothing aim most input out WriteFault = (told : Told) × IsToldOf aim most input told × (told.text.items ≡ [] → ⊥) × HasFault out × AppendsPart out.before out.after told.text.items
-SaysNothing aim most input out OutOfMemory = HasAtMost most_bytes input × IsUntouched out
+SaysNothing aim most input out OutOfMemory = HasAtMost most_workload_bytes input × IsUntouched out
 SaysNothing aim most input out _ = ⊥
 
 -- where a search is asked for

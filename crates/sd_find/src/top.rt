@@ -5,7 +5,7 @@ ghost use Rattle.sd_answers.specs.StreamChanges.{Puts, TellsLine, change_of};
 ghost use Rattle.sd_answers.specs.declared.writing.Unwritten.TheVariants.{Memory};
 ghost use Rattle.sd_find.specs.Asked.{asked};
 ghost use Rattle.sd_find.specs.Promises.{SearchesAsPromised};
-ghost use Rattle.sd_find.specs.Seeking.{answer_line, ended_line, ended_status, verdict_line, verdict_status};
+ghost use Rattle.sd_find.specs.Seeking.{ended_line, ended_status, verdict_line, verdict_status};
 ghost use Rattle.sd_find.specs.Starts.{DispfindStarts};
 
 use crate::helping::put_help;
@@ -20,17 +20,6 @@ use std::io;
 
 const USAGE: &[u8] =
     b"usage: dispfind (blocked | stuck | states | ends NAME | waits NAME) [--most N] [--quiet] | --help\n";
-
-/// Writes the line of an answer where nothing was said.
-fn put_answer<E: Sink>(answer: Answer, err: &mut E) -> Result<(), Unwritten>
-    ensures puts { Puts (E.contents err.old) (E.contents err.new) (E.fault_count err.old) (E.fault_count err.new) (answer_line answer) result }
-    ensures no_memory { IsErrOf result Memory → ⊥ }
-{
-    match answer {
-        Answer::Usage => put_line(err, USAGE),
-        other => other.put_line(err),
-    }
-}
 
 fn verdict_status(verdict: Verdict) -> u8
     ensures { result ≡ verdict_status verdict }
@@ -66,7 +55,7 @@ fn report<E: Sink>(ended: Result<Verdict, Answer>, err: &mut E) -> u8
             verdict_status(verdict)
         }
         Err(answer) => {
-            let _ = put_answer(answer, err);
+            let _ = answer.put_line_with(USAGE, err);
             answer.status()
         }
     }

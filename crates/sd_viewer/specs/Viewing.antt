@@ -7,7 +7,7 @@ use Rattle.std.specs.declared.alloc.Global.{Global}
 use Rattle.sd_types.specs.declared.works.Work.{Work}
 use Rattle.sd_answers.specs.declared.answers.Answer.{Answer}
 use Rattle.sd_answers.specs.declared.answers.Answer.TheVariants.{Done, Usage, WriteFault}
-use Rattle.sd_answers.specs.Answers.{line_of, status_of}
+use Rattle.sd_answers.specs.Answers.{line_with, status_of}
 use Rattle.sd_answers.specs.Certificates.{CausedByCertificate, IsJudged}
 use Rattle.sd_answers.specs.Inputs.{IsCertificate}
 use Rattle.sd_answers.specs.StreamChanges.{StreamChange, AppendsPart, HasFault, HasNoFault, IsUntouched, TellsLine}
@@ -34,8 +34,7 @@ IsDrawing drawing input drawn =
 
 -- the line of an answer where no drawing was written: that of an audit, but for the usage
 abbrev pub answer_line : Answer → List ℕ
-answer_line Usage = codes "usage: dispview timeline [FROM TO] | trace | list [FROM TO] | list NAME | report [--csv] | --help\n"
-answer_line a = line_of a
+answer_line a = line_with (codes "usage: dispview timeline [FROM TO] | trace | list [FROM TO] | list NAME | report [--csv] | --help\n") a
 
 -- ---- the forms in a few lines
 

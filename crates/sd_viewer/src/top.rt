@@ -1,35 +1,23 @@
 //! The top call: from the arguments and the streams to the exit status.
 
-ghost use Rattle.std.specs.Prelude.{◌≡◌, map, string_bytes, IfOk, IsErrOf, Err};
+ghost use Rattle.std.specs.Prelude.{◌≡◌, map, string_bytes, IfOk};
 ghost use Rattle.sd_answers.specs.Answers.{status_of};
-ghost use Rattle.sd_answers.specs.StreamChanges.{Puts, TellsLine, change_of};
-ghost use Rattle.sd_answers.specs.declared.writing.Unwritten.TheVariants.{Memory};
+ghost use Rattle.sd_answers.specs.StreamChanges.{TellsLine, change_of};
 ghost use Rattle.sd_text.specs.Lines.{EndsLine};
 ghost use Rattle.sd_viewer.specs.Promises.{ShowsAsPromised};
 ghost use Rattle.sd_viewer.specs.Starts.{DispviewStarts};
-ghost use Rattle.sd_viewer.specs.Viewing.{answer_line, viewed_answer, viewed_line};
+ghost use Rattle.sd_viewer.specs.Viewing.{viewed_answer, viewed_line};
 
 use crate::forms::{Request, request_of};
 use crate::helping::put_help;
 use crate::viewing::view_input;
-use sd_answers::{Answer, Unwritten, put_line, put_text};
+use sd_answers::{Answer, put_text};
 use sd_text::{Sink, Source};
 use std::alloc::Global;
 use std::io;
 
 const USAGE: &[u8] =
     b"usage: dispview timeline [FROM TO] | trace | list [FROM TO] | list NAME | report [--csv] | --help\n";
-
-/// Writes the line of an answer where no drawing was written.
-fn put_answer<E: Sink>(answer: Answer, err: &mut E) -> Result<(), Unwritten>
-    ensures puts { Puts (E.contents err.old) (E.contents err.new) (E.fault_count err.old) (E.fault_count err.new) (answer_line answer) result }
-    ensures no_memory { IsErrOf result Memory → ⊥ }
-{
-    match answer {
-        Answer::Usage => put_line(err, USAGE),
-        other => other.put_line(err),
-    }
-}
 
 /// Writes the line of the answer, or what is said of a drawing, and returns the exit status. A fault of `err` changes none.
 fn tell<E: Sink>(viewed: Result<Vec<u8>, Answer>, err: &mut E) -> u8
@@ -43,7 +31,7 @@ fn tell<E: Sink>(viewed: Result<Vec<u8>, Answer>, err: &mut E) -> u8
             0
         }
         Err(answer) => {
-            let _ = put_answer(answer, err);
+            let _ = answer.put_line_with(USAGE, err);
             answer.status()
         }
     }

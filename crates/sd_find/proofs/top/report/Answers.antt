@@ -18,6 +18,6 @@ returns-in-Err-clause-told g c =
     let held = g.E.Sink.contents in
     let faults = g.E.Sink.fault_count in
     let a = c.args.err.now in
-    let b = c.put_answer.new.err in
+    let b = c.put_line_with.new.err in
     let err = change_of (held a) (held b) (faults a) (faults b) in
-    subst (TellsLine err) (sym (ap ended_line c.in-Err.is)) (tells_of err (answer_line c.in-Err.answer) c.put_answer.result c.put_answer.ensures.puts c.put_answer.ensures.no_memory)
+    subst (TellsLine err) (sym (ap ended_line c.in-Err.is)) (tells_of err (answer_line c.in-Err.answer) c.put_line_with.result c.put_line_with.ensures.puts c.put_line_with.ensures.no_memory)
