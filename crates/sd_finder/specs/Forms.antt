@@ -3,6 +3,7 @@
 use Rattle.std.specs.Prelude.{ℕ, ◌&&◌, nat_le, List, [], ◌∷◌, length, codes, Option, Some, None, if◌then◌else◌}
 use Rattle.arrayvec.specs.ArrayVec.{ArrayVec}
 use Rattle.sd_types.specs.Works.{same_bytes}
+use Rattle.sd_types.specs.Limits.{most_name_bytes}
 use Rattle.sd_text.specs.Numbers.{number_of}
 use Rattle.sd_search.specs.declared.questions.Question.TheVariants.{Blocked, Stuck}
 use Rattle.sd_finder.specs.declared.forms.Aim.{Aim}
@@ -22,7 +23,7 @@ named_aim word name =
     if same_bytes word (codes "ends") then Some (Ends name) else if same_bytes word (codes "waits") then Some (Waits name) else None
 
 abbrev pub thread_aim : List ℕ → List ℕ → Option Aim
-thread_aim word name = if nat_le (length name) 16 then named_aim word (record { items = name }) else None
+thread_aim word name = if nat_le (length name) most_name_bytes then named_aim word (record { items = name }) else None
 
 -- the name of the thread of which is asked
 abbrev pub name_in : Aim → Option (List ℕ)

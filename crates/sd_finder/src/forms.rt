@@ -8,6 +8,7 @@ use arrayvec::ArrayVec;
 use sd_search::Question;
 use sd_stretches::short_name;
 use sd_text::number;
+use sd_types::MOST_NAME_BYTES;
 
 /// What a search is for: a run that ends so, how many states there are, when the thread of a name ends, or how long it waits at
 /// most from a wakeup to its running.
@@ -65,7 +66,7 @@ fn named_aim(word: &[u8], name: ArrayVec<u8, 16>) -> Option<Aim>
 fn thread_aim(word: &[u8], name: &[u8]) -> Option<Aim>
     ensures { result ≡ thread_aim word.now name.now }
 {
-    if name.len() <= 16 {
+    if name.len() <= MOST_NAME_BYTES {
         named_aim(word, short_name(name))
     } else {
         None

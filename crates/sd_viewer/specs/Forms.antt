@@ -2,7 +2,7 @@
 -- Source: this project's own.
 use Rattle.std.specs.Prelude.{ℕ, ◌&&◌, nat_lt, nat_le, List, [], ◌∷◌, length, codes, Option, Some, None, option_map, if◌then◌else◌}
 use Rattle.sd_types.specs.Works.{same_bytes}
-use Rattle.sd_types.specs.Limits.{greatest_limit}
+use Rattle.sd_types.specs.Limits.{greatest_limit, most_name_bytes}
 use Rattle.sd_text.specs.Numbers.{number_of}
 use Rattle.sd_story.specs.declared.selections.Selection.TheVariants.{Ticks, Thread}
 use Rattle.sd_viewer.specs.declared.drawings.Drawing.{Drawing}
@@ -35,7 +35,7 @@ part_by verb (Some ticks) =
 -- a name has 16 bytes at most
 abbrev pub named_by : List ℕ → List ℕ → Option Drawing
 named_by verb name =
-    if same_bytes verb (codes "list") && nat_le (length name) 16 then Some (Story (Thread (record { items = name })))
+    if same_bytes verb (codes "list") && nat_le (length name) most_name_bytes then Some (Story (Thread (record { items = name })))
     else if same_bytes verb (codes "report") && same_bytes name (codes "--csv") then Some Sheet else None
 
 -- the drawing that the arguments ask for, None where they are of none of the forms

@@ -9,7 +9,7 @@ use crate::drawings::Drawing;
 use sd_story::Selection;
 use sd_stretches::short_name;
 use sd_text::number;
-use sd_types::GREATEST_LIMIT;
+use sd_types::{GREATEST_LIMIT, MOST_NAME_BYTES};
 
 /// What is asked for: a drawing, or the forms of the arguments.
 #[derive(Drop)]
@@ -86,7 +86,7 @@ fn part_by(verb: &[u8], ticks: Option<(u32, u32)>) -> Option<Drawing>
 fn named_by(verb: &[u8], name: &[u8]) -> Option<Drawing>
     ensures { result ≡ named_by verb.now name.now }
 {
-    if is_word(verb, b"list") && name.len() <= 16 {
+    if is_word(verb, b"list") && name.len() <= MOST_NAME_BYTES {
         Some(Drawing::Story(Selection::Thread {
             name: short_name(name),
         }))
