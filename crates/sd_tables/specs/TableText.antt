@@ -9,6 +9,7 @@ use Rattle.sd_types.specs.declared.tables.TsRow.{TsRow}
 use Rattle.sd_types.specs.declared.tables.FixedRow.{FixedRow}
 use Rattle.sd_types.specs.declared.tables.TsTable.{TsTable}
 use Rattle.sd_types.specs.declared.tables.FixedTable.{FixedTable}
+use Rattle.sd_types.specs.Limits.{greatest_resolution, most_quantum_units}
 use Rattle.sd_types.specs.Ticks.{ts_ticks_fit, fixed_ticks_fit}
 use Rattle.sd_text.specs.Lines.{lines_of}
 use Rattle.sd_text.specs.Words.{words_of}
@@ -27,7 +28,7 @@ pub record Format : Type 0 where
   pub most : ℕ
 
 abbrev pub quantum_column : Column
-quantum_column = record { least = 1; greatest = 1000000000 }
+quantum_column = record { least = 1; greatest = most_quantum_units }
 
 abbrev pub level_column : Column
 level_column = record { least = 0; greatest = 59 }
@@ -81,7 +82,7 @@ is_row_line (word ∷ words) = not (is_res_word word)
 -- ---- the RES line
 
 abbrev pub is_unit : ℕ → Bool
-is_unit n = nat_le 1 n && nat_le n 1000000000
+is_unit n = nat_le 1 n && nat_le n greatest_resolution
 
 -- the RES that a word gives: `RES=` and a number from 1 to 1,000,000,000, unbroken
 abbrev pub res_of_word : List ℕ → Option ℕ

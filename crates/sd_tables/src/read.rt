@@ -10,7 +10,7 @@ use crate::columns::{Column, Numbers};
 use crate::sheet::{Sheet, read_sheet};
 use crate::ticks::ticks;
 use crate::{ReadTableFault, TableFault};
-use sd_types::{FixedRow, FixedTable, List, TsRow, TsTable};
+use sd_types::{FixedRow, FixedTable, List, MOST_QUANTUM_UNITS, TsRow, TsTable};
 use std::alloc::{AllocError, Global};
 
 // The least number of rows, and the greatest but for the fixed-priority class.
@@ -105,7 +105,7 @@ pub fn read_ts(alloc: Global, text: &[u8], hz: u32) -> Result<TsTable, ReadTable
 {
     let quantum = Column {
         least: 1,
-        greatest: 1_000_000_000,
+        greatest: MOST_QUANTUM_UNITS,
     };
     let level = Column {
         least: 0,
@@ -130,7 +130,7 @@ fn read_fixed(alloc: Global, text: &[u8], hz: u32, most: u32) -> Result<FixedTab
 {
     let quantum = Column {
         least: 1,
-        greatest: 1_000_000_000,
+        greatest: MOST_QUANTUM_UNITS,
     };
     let sheet = read_text(text, &[quantum], ROWS, most)?;
     let res = sheet.res();

@@ -7,6 +7,7 @@ ghost use Rattle.sd_tables.specs.TableText.{is_res_word, is_unit, res_of_word};
 ghost use Rattle.sd_tables.specs.Kinds.{IsKind};
 
 use sd_text::{next_word, number};
+use sd_types::GREATEST_RESOLUTION;
 
 /// What a line of a table file is, by its first word.
 #[derive(Clone, Copy)]
@@ -29,7 +30,7 @@ fn is_res_word(word: &[u8]) -> bool
 fn is_unit(n: u64) -> bool
     ensures { result ≡ is_unit n }
 {
-    1 <= n && n <= 1_000_000_000
+    1 <= n && n <= GREATEST_RESOLUTION
 }
 
 // The RES that a word gives.

@@ -1,6 +1,7 @@
 -- The numbers of a class state, and when they are in their ranges.
 -- Source: Solaris Internals, ts_dptbl(4), rt_dptbl(4), priocntl(2); the ranges of user priorities are this project's own.
 use Rattle.std.specs.Prelude.{◌≡◌, ℕ, ◌≤◌, ℤ, pos, negsuc, ◌≤ℤ◌}
+use Rattle.sd_types.specs.Limits.{most_quantum_ticks}
 use Rattle.sd_types.specs.declared.classes.Quantum.{Quantum}
 use Rattle.sd_types.specs.declared.classes.Quantum.TheVariants.{Def, Inf, Ticks}
 
@@ -42,7 +43,7 @@ pub record IsTs (s : TsNumbers) : Type 0 where
 abbrev pub IsQuantum : Quantum → Type 0
 IsQuantum Def = Unit {0}
 IsQuantum Inf = Unit {0}
-IsQuantum (Ticks n) = (1 ≤ n) × (n ≤ 1000000)
+IsQuantum (Ticks n) = (1 ≤ n) × (n ≤ most_quantum_ticks)
 
 -- ticks are left of a finite quantum, and none are counted of an infinite one
 abbrev pub IsLeft : Quantum → ℕ → Type 0

@@ -17,7 +17,7 @@ use Rattle.sd_types.specs.declared.works.LockKind.TheVariants.{Mutex, Rwlock}
 use Rattle.sd_types.specs.declared.works.ChanKind.{ChanKind}
 use Rattle.sd_types.specs.declared.works.ChanKind.TheVariants.{Chan, Sema}
 use Rattle.sd_types.specs.declared.works.ThreadDecl.{ThreadDecl}
-use Rattle.sd_types.specs.Limits.{greatest_span}
+use Rattle.sd_types.specs.Limits.{greatest_span, most_quantum_ticks}
 
 abbrev pub same_bytes : List ℕ → List ℕ → Bool
 same_bytes [] [] = true
@@ -85,7 +85,7 @@ span_fits n = nat_le 1 n && nat_le n greatest_span
 abbrev pub quantum_fits : Quantum → Bool
 quantum_fits Def = true
 quantum_fits Inf = true
-quantum_fits (Ticks n) = nat_le 1 n && nat_le n 1000000
+quantum_fits (Ticks n) = nat_le 1 n && nat_le n most_quantum_ticks
 
 abbrev pub is_def : Quantum → Bool
 is_def Def = true

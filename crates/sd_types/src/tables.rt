@@ -5,6 +5,7 @@
 
 ghost use Rattle.std.specs.Prelude.{◌≡◌, ◌<◌, ◌≤◌, length, IsTrue};
 ghost use Rattle.std.specs.List.{list_all};
+ghost use Rattle.sd_types.specs.Limits.{greatest_resolution};
 ghost use Rattle.sd_types.specs.Rows.{ts_row_fits, fixed_row_fits};
 
 use crate::List;
@@ -36,7 +37,7 @@ pub struct TsTable {
     pub res: u64,
     pub rows: List<TsRow>,
     ghost some_res: { 1 ≤ res },
-    ghost most_res: { res ≤ 1000000000 },
+    ghost most_res: { res ≤ greatest_resolution },
     ghost whole: { length rows ≡ 60 },
     ghost fits: { IsTrue (list_all ts_row_fits rows) },
 }
@@ -47,7 +48,7 @@ pub struct FixedTable {
     pub res: u64,
     pub rows: List<FixedRow>,
     ghost some_res: { 1 ≤ res },
-    ghost most_res: { res ≤ 1000000000 },
+    ghost most_res: { res ≤ greatest_resolution },
     ghost least: { 60 ≤ length rows },
     ghost most: { length rows ≤ 61 },
     ghost fits: { IsTrue (list_all fixed_row_fits rows) },
@@ -58,7 +59,7 @@ impl TsTable {
 
     pub fn from_rows(res: u64, rows: List<TsRow>) -> TsTable
         requires some_res { 1 ≤ res }
-        requires most_res { res ≤ 1000000000 }
+        requires most_res { res ≤ greatest_resolution }
         requires whole { length rows ≡ 60 }
         requires fits { IsTrue (list_all ts_row_fits rows) }
         ensures res { result.res ≡ res }
@@ -95,7 +96,7 @@ impl FixedTable {
 
     pub fn from_rows(res: u64, rows: List<FixedRow>) -> FixedTable
         requires some_res { 1 ≤ res }
-        requires most_res { res ≤ 1000000000 }
+        requires most_res { res ≤ greatest_resolution }
         requires least { 60 ≤ length rows }
         requires most { length rows ≤ 61 }
         requires fits { IsTrue (list_all fixed_row_fits rows) }
