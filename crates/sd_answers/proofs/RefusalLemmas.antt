@@ -5,8 +5,8 @@ use Rattle.sd_declare.specs.declared.causes.WorkCause.{WorkCause}
 use Rattle.sd_declare.specs.declared.causes.WorkCause.TheVariants.{Range, Table, Script}
 use Rattle.sd_script.specs.declared.faults.ScriptFault.{ScriptFault}
 use Rattle.sd_script.specs.declared.faults.ScriptFault.TheVariants as script
-use Rattle.sd_tables.specs.declared.fault.TableFault.{TableFault}
-use Rattle.sd_tables.specs.declared.fault.TableFault.TheVariants as table
+use Rattle.sd_dispadmin.specs.declared.fault.TableFault.{TableFault}
+use Rattle.sd_dispadmin.specs.declared.fault.TableFault.TheVariants as table
 use Rattle.sd_text.specs.Lines.{is_line, IsOneLine}
 use Rattle.sd_text.proofs.NumberLemmas.{decimal-line}
 use Rattle.sd_text.proofs.PieceLemmas.{one_line-append}

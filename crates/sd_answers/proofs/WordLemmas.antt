@@ -9,8 +9,8 @@ use Rattle.sd_types.specs.declared.works.Work.{Work}
 use Rattle.sd_text.specs.Lines.{lines_of}
 use Rattle.sd_text.specs.Words.{words_of}
 use Rattle.sd_text.specs.Numbers.{number_of}
-use Rattle.sd_tables.specs.TableText.{word_lines, is_res_word}
-use Rattle.sd_tables.specs.declared.fault.TableFault.TheVariants.{NotANumber}
+use Rattle.sd_dispadmin.specs.TableText.{word_lines, is_res_word}
+use Rattle.sd_dispadmin.specs.declared.fault.TableFault.TheVariants.{NotANumber}
 use Rattle.sd_lines.specs.declared.statements.TableClass.{TableClass}
 use Rattle.sd_lines.specs.declared.statements.TableClass.TheVariants.{Ts, Fx, Rt}
 use Rattle.sd_lines.specs.Words.{Line, only_word}

@@ -10,8 +10,8 @@ use crate::answers::JournalFault;
 use crate::writing::{Unwritten, put_parts};
 use itoa::Buffer;
 use sd_declare::WorkCause;
+use sd_dispadmin::TableFault;
 use sd_script::ScriptFault;
-use sd_tables::TableFault;
 use sd_text::Sink;
 
 fn table_words(fault: TableFault) -> &'static [u8]

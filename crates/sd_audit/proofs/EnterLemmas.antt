@@ -6,7 +6,7 @@ use Rattle.sd_types.specs.declared.numbers.CpuId.{CpuId}
 use Rattle.sd_types.specs.declared.works.Work.{Work}
 use Rattle.sd_state.specs.declared.states.State.{State}
 use Rattle.sd_machine.specs.Plans.{plan}
-use Rattle.sd_steps.specs.Entering.{can_enter, plan_enters}
+use Rattle.sd_replay.specs.Entering.{can_enter, plan_enters}
 
 enters_none_outside : (w : Work) (s : State) (d : CpuId) → w.cpus ≤ d.0 → can_enter w s d ≡ false
 unfolding can_enter

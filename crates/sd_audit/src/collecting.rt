@@ -1,7 +1,7 @@
 //! What may be kept of the entries of a journal while it is judged, so that no journal is read twice.
 
+use sd_replay::step;
 use sd_state::State;
-use sd_steps::step;
 use sd_types::{Entry, Work};
 use std::alloc::{AllocError, Global};
 

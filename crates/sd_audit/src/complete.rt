@@ -5,10 +5,10 @@ ghost use Rattle.sd_types.specs.declared.events.Hints.{Hints};
 ghost use Rattle.sd_types.specs.declared.numbers.CpuId.{CpuId as CpuValue};
 ghost use Rattle.sd_machine.specs.Events.{next};
 ghost use Rattle.sd_machine.specs.Runs.{IsComplete, IsReached, serial_hints};
-ghost use Rattle.sd_steps.specs.Entering.{can_enter};
+ghost use Rattle.sd_replay.specs.Entering.{can_enter};
 
+use sd_replay::can_enter;
 use sd_state::State;
-use sd_steps::can_enter;
 use sd_types::{CpuId, Work};
 
 fn enters(work: &Work, s: &State, number: u64, c: CpuId) -> bool

@@ -10,9 +10,9 @@ use Rattle.sd_basics.proofs.Lists.{all_each}
 use Rattle.sd_types.specs.Works.{same_bytes}
 use Rattle.sd_text.specs.Lines.{is_newline, lines_of, text_of_lines}
 use Rattle.sd_text.specs.Words.{words_of}
-use Rattle.sd_tables.specs.declared.columns.Column.{Column}
-use Rattle.sd_tables.specs.declared.fault.TableFault.TheVariants.{NotANumber}
-use Rattle.sd_tables.specs.TableText.{IsTableText, word_lines, is_res_word, line_fault, fault_at, AreClean, has_rows}
+use Rattle.sd_dispadmin.specs.declared.columns.Column.{Column}
+use Rattle.sd_dispadmin.specs.declared.fault.TableFault.TheVariants.{NotANumber}
+use Rattle.sd_dispadmin.specs.TableText.{IsTableText, word_lines, is_res_word, line_fault, fault_at, AreClean, has_rows}
 use Rattle.sd_lines.specs.declared.statements.TableClass.{TableClass}
 use Rattle.sd_lines.specs.Words.{Word, Line, is_end, only_word}
 use Rattle.sd_lines.specs.Statements.{Table, statement_of}

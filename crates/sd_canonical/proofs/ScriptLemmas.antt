@@ -15,7 +15,7 @@ use Rattle.sd_types.specs.Scripts.{is_held, held_by, enters, op_fits, EachOpFits
 use Rattle.sd_types.specs.Works.{op_names}
 use Rattle.sd_script.specs.Faults.{is_wait}
 use Rattle.sd_script.proofs.FaultLemmas.{op_fault-from_fits}
-use Rattle.sd_tables.specs.TableText.{word_lines}
+use Rattle.sd_dispadmin.specs.TableText.{word_lines}
 use Rattle.sd_lines.specs.Words.{Line, only_word}
 use Rattle.sd_lines.specs.Operations.{Operation, operation_of}
 use Rattle.sd_declare.specs.declared.causes.WorkCause.{WorkCause}

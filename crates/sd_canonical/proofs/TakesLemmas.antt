@@ -1,6 +1,6 @@
 -- Texts of which no line is at fault: what is declared above them, and below.
 use Rattle.std.proofs.Common.{◌≡◌, ℕ, ◌+◌, true, List, [], ◌∷◌, ◌++◌, Some, None, refl, sym, ap, ◌∙◌, append_assoc}
-use Rattle.sd_tables.specs.TableText.{word_lines}
+use Rattle.sd_dispadmin.specs.TableText.{word_lines}
 use Rattle.sd_lines.specs.Words.{Word, Line}
 use Rattle.sd_lines.specs.Statements.{Statement, statement_of}
 use Rattle.sd_declare.specs.Causes.{Causes, least}

@@ -14,7 +14,7 @@ use Rattle.sd_text.specs.Numbers.{signed_of}
 use Rattle.sd_text.proofs.LineLemmas.{lines_of-line}
 use Rattle.sd_text.proofs.WordLemmas.{words_of-joined}
 use Rattle.sd_text.proofs.NumberLemmas.{signed_of-decimal, signed_of-negative, is_word-decimal, is_line-decimal}
-use Rattle.sd_tables.specs.TableText.{word_lines}
+use Rattle.sd_dispadmin.specs.TableText.{word_lines}
 use Rattle.sd_lines.specs.Words.{Word, Line}
 use Rattle.sd_canonical.specs.Canonical.{spaced, words_text, line_text}
 

@@ -15,9 +15,9 @@ use Rattle.sd_types.specs.declared.works.ThreadDecl.{ThreadDecl}
 use Rattle.sd_types.specs.declared.works.Work.{Work}
 use Rattle.sd_types.specs.Works.{same_bytes, same_cpu, is_distinct, class_fits, op_names, thread_fits}
 use Rattle.sd_text.specs.Lines.{lines_of}
-use Rattle.sd_tables.specs.TableText.{word_lines, ts_numbers, fixed_numbers, SpellsTs, SpellsFixed, fx_format, rt_format}
-use Rattle.sd_tables.specs.TableSpelling.{res_text, row_texts, ts_text, fixed_text}
-use Rattle.sd_tables.proofs.LawLemmas.{ts_again, fixed_again}
+use Rattle.sd_dispadmin.specs.TableText.{word_lines, ts_numbers, fixed_numbers, SpellsTs, SpellsFixed, fx_format, rt_format}
+use Rattle.sd_dispadmin.specs.TableSpelling.{res_text, row_texts, ts_text, fixed_text}
+use Rattle.sd_dispadmin.proofs.LawLemmas.{ts_again, fixed_again}
 use Rattle.sd_lines.specs.declared.statements.TableClass.TheVariants as table
 use Rattle.sd_lines.specs.Words.{Word}
 use Rattle.sd_declare.specs.Declarations.{Thread, Declarations, nothing}

@@ -2,7 +2,7 @@
 -- Source: dispadmin(1M); that they come as blocks is this project's own.
 use Rattle.std.specs.Prelude.{ℕ, List, ◌++◌, codes}
 use Rattle.sd_types.specs.declared.works.Work.{Work}
-use Rattle.sd_tables.specs.TableSpelling.{ts_text, fixed_text}
+use Rattle.sd_dispadmin.specs.TableSpelling.{ts_text, fixed_text}
 
 abbrev pub block_text : List ℕ → List ℕ → List ℕ
 block_text name table = codes "table " ++ (name ++ (codes "\n" ++ (table ++ codes "end\n")))

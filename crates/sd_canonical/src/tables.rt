@@ -1,10 +1,10 @@
 //! The dispatch tables of a workload, each as a block.
 
 ghost use Rattle.std.specs.Prelude.{◌≡◌, ◌++◌, OnErr, OnOk, codes};
-ghost use Rattle.sd_tables.specs.TableSpelling.{fixed_text, ts_text};
+ghost use Rattle.sd_dispadmin.specs.TableSpelling.{fixed_text, ts_text};
 ghost use Rattle.sd_canonical.specs.Blocks.{block_text, tables_text};
 
-use sd_tables::{write_fixed, write_ts};
+use sd_dispadmin::{write_fixed, write_ts};
 use sd_types::{FixedTable, TsTable, Work};
 use std::alloc::{AllocError, Global};
 

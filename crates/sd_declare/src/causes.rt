@@ -4,8 +4,8 @@ ghost use Rattle.std.specs.Prelude.{◌≡◌};
 ghost use Rattle.sd_declare.specs.Causes.{number_of_cause};
 ghost use Rattle.sd_declare.specs.declared.causes.Refusal.TheVariants.{Cause, Memory};
 
+use sd_dispadmin::TableFault;
 use sd_script::ScriptFault;
-use sd_tables::TableFault;
 use std::alloc::{AllocError, AllocFailed};
 use thiserror::Error;
 

@@ -7,9 +7,9 @@ ghost use Rattle.sd_invariants.specs.Laws.{IsFit};
 
 use crate::marks::{Mark, Span, ended, with_mark};
 use sd_flat::cpu_of;
+use sd_replay::serial_next;
 use sd_search::Graph;
 use sd_state::State;
-use sd_steps::serial_next;
 use sd_types::{CpuId, ThreadId, Work};
 use std::alloc::{AllocError, Global};
 

@@ -6,9 +6,9 @@ ghost use Rattle.sd_machine.specs.Runs.{IsComplete};
 ghost use Rattle.sd_invariants.specs.Laws.{IsFit};
 
 use sd_opening::opening;
+use sd_replay::can_enter;
 use sd_search::take_turn;
 use sd_state::State;
-use sd_steps::can_enter;
 use sd_types::{CpuId, Entry, MOST_ENTRIES, Work};
 use std::alloc::{AllocError, Global};
 

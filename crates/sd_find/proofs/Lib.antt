@@ -1,3 +1,5 @@
+pub mod AppendLemmas
+pub mod SaidLemmas
 pub mod AuditedLemmas
 pub mod CauseLemmas
 pub mod CutLemmas

@@ -1,13 +1,25 @@
-//! The top call of `dispfind`, which searches every order in which the processors of a workload can act.
+//! The top call of `dispfind`, which searches every order in which the processors of a workload can act: the forms of its arguments, the
+//! answer and its text, and what it writes.
 #![tactic(auto)]
 
+mod answering;
+mod forms;
 mod helping;
+mod journals;
 mod laws;
+mod lefts;
 mod progress;
 mod quiet;
 mod seeking;
+mod texts;
+mod timing_texts;
+mod timings;
 mod top;
+mod verdicts;
+mod waiting;
+mod watching;
 
+pub use forms::{Aim, Request};
 pub use laws::{endings_are_audited, waits_are_audited, witnesses_are_audited};
 pub use progress::Progress;
 use sd_answers::behind_name;
@@ -15,7 +27,10 @@ use sd_text::{StdSink, StdSource};
 use std::io::{IsTerminal, Stderr};
 use std::process::ExitCode;
 use std::{env, io};
+pub use timings::Timing;
 pub use top::{find, start};
+pub use verdicts::{Told, Verdict};
+pub use watching::{Unwatched, Watch};
 
 /// The arguments behind the program's name.
 fn arguments(host: &HostRuntime) -> io::Result<Vec<String>> {

@@ -22,11 +22,11 @@ use Rattle.sd_rules.specs.DefaultTables.{default_ts_rows, default_fx_rows, defau
 use Rattle.sd_text.specs.Lines.{lines_of, text_of_lines}
 use Rattle.sd_text.specs.Words.{words_of}
 use Rattle.sd_text.proofs.LineLemmas.{lines_of-text}
-use Rattle.sd_tables.specs.declared.fault.TableFault.{TableFault}
-use Rattle.sd_tables.specs.TableText.{Format, word_lines, ts_format, fx_format, rt_format, rows_in, fixed_numbers, IsTableText, IsTableFault, SpellsTs, SpellsFixed}
-use Rattle.sd_tables.proofs.DefaultLemmas.{ts_fits, ts_count, ts_ticks, fx_fits, fx_count, fx_ticks, rt_fits, rt_count, rt_ticks}
-use Rattle.sd_tables.proofs.LawLemmas.{never_both}
-use Rattle.sd_tables.proofs.TextLemmas.{ts_or_fault, fixed_or_fault}
+use Rattle.sd_dispadmin.specs.declared.fault.TableFault.{TableFault}
+use Rattle.sd_dispadmin.specs.TableText.{Format, word_lines, ts_format, fx_format, rt_format, rows_in, fixed_numbers, IsTableText, IsTableFault, SpellsTs, SpellsFixed}
+use Rattle.sd_dispadmin.proofs.DefaultLemmas.{ts_fits, ts_count, ts_ticks, fx_fits, fx_count, fx_ticks, rt_fits, rt_count, rt_ticks}
+use Rattle.sd_dispadmin.proofs.LawLemmas.{never_both}
+use Rattle.sd_dispadmin.proofs.TextLemmas.{ts_or_fault, fixed_or_fault}
 use Rattle.sd_lines.specs.Words.{Word, Line}
 use Rattle.sd_declare.specs.declared.causes.WorkCause.{WorkCause}
 use Rattle.sd_declare.specs.Declarations.{Thread, Declarations, cpu_count}

@@ -11,7 +11,7 @@ use Rattle.sd_types.specs.declared.numbers.ThreadId.{ThreadId}
 use Rattle.sd_types.specs.declared.scripts.Op.{Op}
 use Rattle.sd_types.specs.Works.{same_bytes}
 use Rattle.sd_text.specs.Lines.{lines_of}
-use Rattle.sd_tables.specs.TableText.{word_lines}
+use Rattle.sd_dispadmin.specs.TableText.{word_lines}
 use Rattle.sd_lines.specs.Words.{Word}
 use Rattle.sd_lines.specs.Statements.{Script}
 use Rattle.sd_declare.specs.Declarations.{Thread, Declarations, cpu_count, nothing, thread_number, thread_id}

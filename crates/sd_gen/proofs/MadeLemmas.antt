@@ -26,7 +26,7 @@ use Rattle.sd_text.specs.Lines.{is_line, lines_of}
 use Rattle.sd_text.specs.Words.{words_of}
 use Rattle.sd_text.specs.Numbers.{number_of}
 use Rattle.sd_text.proofs.LineLemmas.{are_lines}
-use Rattle.sd_tables.specs.TableText.{word_lines}
+use Rattle.sd_dispadmin.specs.TableText.{word_lines}
 use Rattle.sd_lines.specs.declared.statements.TableClass.{TableClass}
 use Rattle.sd_lines.specs.declared.statements.TableClass.TheVariants as table
 use Rattle.sd_lines.specs.declared.threads.ThreadClass.{ThreadClass}

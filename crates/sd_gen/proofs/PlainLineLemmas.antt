@@ -11,10 +11,10 @@ use Rattle.sd_types.specs.declared.works.Work.{Work}
 use Rattle.sd_text.specs.Lines.{lines_of}
 use Rattle.sd_text.specs.Words.{is_blank, before_comment, runs_of, words_of, is_printable}
 use Rattle.sd_text.specs.Numbers.{is_number, number_of, signed_of}
-use Rattle.sd_tables.specs.declared.columns.Column.{Column}
-use Rattle.sd_tables.specs.declared.fault.TableFault.{TableFault}
-use Rattle.sd_tables.specs.declared.fault.TableFault.TheVariants.{NotANumber, Range, Resolution}
-use Rattle.sd_tables.specs.TableText.{word_lines, is_res_word, is_res_line, is_row_line, is_unit, res_of_line, res_fault, has_numbers, numbers_of, column_outside, row_fault, line_fault}
+use Rattle.sd_dispadmin.specs.declared.columns.Column.{Column}
+use Rattle.sd_dispadmin.specs.declared.fault.TableFault.{TableFault}
+use Rattle.sd_dispadmin.specs.declared.fault.TableFault.TheVariants.{NotANumber, Range, Resolution}
+use Rattle.sd_dispadmin.specs.TableText.{word_lines, is_res_word, is_res_line, is_row_line, is_unit, res_of_line, res_fault, has_numbers, numbers_of, column_outside, row_fault, line_fault}
 use Rattle.sd_lines.specs.Words.{Word, Line, name_of, quantum_of, unless_dash, first, only_word, only, is_done, is_end}
 use Rattle.sd_lines.specs.Statements.{Statement, statement_of}
 use Rattle.sd_lines.specs.Operations.{Operation, Run, Nap, Sleep, Wake, WakeAll, Enter, Read, Write, Exit, SemaP, SemaV, ts_request, fx_request, sys_request, rt_request, request_of, priocntl_line, cvwait_line, assign_line, pbind_line, thread_operation, chan_operation, lock_operation, operation_of}

@@ -5,7 +5,7 @@ use Rattle.std.specs.List.{flat_map, range_with_len}
 use Rattle.rand_pcg.specs.Lcg.{Lcg}
 use Rattle.sd_types.specs.declared.events.Entry.{Entry}
 use Rattle.sd_types.specs.declared.works.Work.{Work}
-use Rattle.sd_tables.specs.TableSpelling.{ts_text, fixed_text}
+use Rattle.sd_dispadmin.specs.TableSpelling.{ts_text, fixed_text}
 use Rattle.sd_text.specs.Lines.{EndsLine}
 use Rattle.sd_text.proofs.PieceLemmas.{EndsLine-append, EndsLine-flat_map}
 use Rattle.sd_state.specs.declared.states.State.{State}

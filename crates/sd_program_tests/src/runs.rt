@@ -5,8 +5,8 @@ use crate::streams::{
 };
 use sd_log::EntryLog;
 use sd_program::{OpenGate, start};
+use sd_replay::replay;
 use sd_rounds::{RoundOrder, run_rounds};
-use sd_steps::replay;
 use sd_text::{MemorySource, read_all};
 use sd_types::{Entry, Work};
 use sd_workload::read_work;

@@ -22,7 +22,7 @@ use Rattle.sd_machine.specs.Needs.{CanCount}
 use Rattle.sd_machine.specs.Plans.{plan}
 use Rattle.sd_machine.specs.Runs.{made, serial_hints, shown, turn}
 use Rattle.sd_invariants.proofs.Whole.{fit_reached}
-use Rattle.sd_steps.proofs.EnteringLemmas.{serial_event}
+use Rattle.sd_replay.proofs.EnteringLemmas.{serial_event}
 use Rattle.sd_hand.specs.Acting.{IsShown}
 use Rattle.sd_world.specs.declared.plain.PlainWorld.{PlainWorld}
 use Rattle.sd_world.specs.Plain.{Stands, told}

@@ -13,8 +13,8 @@ use Rattle.sd_machine.specs.Events.{next}
 use Rattle.sd_machine.specs.Plans.{plan}
 use Rattle.sd_machine.specs.Runs.{final, round_after, serial_hints, IsComplete, IsSerial}
 use Rattle.sd_machine.proofs.RoundLemmas.{empty_round}
-use Rattle.sd_steps.specs.Entering.{can_enter, plan_enters}
-use Rattle.sd_steps.proofs.EnteringLemmas.{enters_some, enters_none}
+use Rattle.sd_replay.specs.Entering.{can_enter, plan_enters}
+use Rattle.sd_replay.proofs.EnteringLemmas.{enters_some, enters_none}
 use Rattle.sd_rounds.specs.declared.orders.RoundOrder.{RoundOrder}
 use Rattle.sd_rounds.specs.Orders.{orders_of}
 use Rattle.sd_rounds.proofs.OrderLemmas.{first, order_in}

@@ -11,7 +11,7 @@ use Rattle.sd_types.specs.declared.events.Stop.{Stop}
 use Rattle.sd_types.specs.declared.events.Stop.TheVariants.{Full, Memory}
 use Rattle.sd_state.specs.Opening.{opening}
 use Rattle.sd_machine.specs.Runs.{final, made, serial_hints, turn}
-use Rattle.sd_steps.proofs.Needed.{no_maker}
+use Rattle.sd_replay.proofs.Needed.{no_maker}
 use Rattle.sd_world.specs.declared.plain.PlainWorld.{PlainWorld}
 use Rattle.sd_world.specs.Plain.{IsPlain, Stands, plain_meaning, told}
 use Rattle.sd_world.specs.Worlds.{Meaning, actor_of, after_run, entry_of, now}

@@ -14,8 +14,8 @@ use crate::graph::{Graph, Step};
 use crate::packing::pack;
 use crate::store::insert;
 use sd_encoding::rank;
+use sd_replay::{apply, serial_next};
 use sd_state::State;
-use sd_steps::{apply, serial_next};
 use sd_types::{CpuId, Event, Work};
 use std::alloc::{AllocError, Global};
 

@@ -8,8 +8,8 @@ ghost use Rattle.sd_invariants.specs.Laws.{IsFit};
 use crate::questions::Question;
 use sd_accounts::cycles;
 use sd_flat::script_of;
+use sd_replay::can_enter;
 use sd_state::{Place, State, ThreadState};
-use sd_steps::can_enter;
 use sd_types::{CpuId, ThreadId, Work};
 use std::alloc::{AllocError, Global};
 

@@ -11,8 +11,8 @@ use crate::graph::Graph;
 use crate::packing::pack;
 use crate::store::index_of;
 use sd_encoding::rank;
+use sd_replay::{apply, serial_next};
 use sd_state::State;
-use sd_steps::{apply, serial_next};
 use sd_types::{CpuId, Event, Work};
 use std::alloc::{AllocError, Global};
 

@@ -5,8 +5,8 @@ ghost use Rattle.sd_machine.specs.Runs.{IsReached, final, round, turn};
 ghost use Rattle.sd_state.specs.Opening.{opening};
 
 use sd_opening::opening;
+use sd_replay::make_entry;
 use sd_state::State;
-use sd_steps::make_entry;
 use sd_types::{CpuId, Entry, MOST_ENTRIES, Work};
 use std::alloc::{AllocError, Global};
 

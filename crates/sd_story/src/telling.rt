@@ -10,8 +10,8 @@ use crate::rows::put_row_if;
 use crate::selections::Selection;
 use sd_audit::{AuditFault, Collector, audit_collecting};
 use sd_opening::opening;
+use sd_replay::step;
 use sd_state::State;
-use sd_steps::step;
 use sd_types::{Entry, Work};
 use std::alloc::{AllocError, Global};
 

@@ -14,12 +14,12 @@ use Rattle.sd_hand.specs.Hands.{has_thread, held as held_in}
 use Rattle.sd_hand.proofs.SlotLemmas.{held_has}
 use Rattle.sd_world.specs.Worlds.{AllHinted, Gains, IsListedIn, IsQuiet, Meaning, ReadsCounts, Stays}
 use Rattle.sd_world.proofs.WorldLemmas.{stays_then}
-use Rattle.sd_table_rule.proofs.Bridge.{reached}
-use Rattle.sd_table.specs.declared.seat.Seat.{Seat}
+use Rattle.sd_shared_rule.proofs.Bridge.{reached}
+use Rattle.sd_shared_table.specs.declared.seat.Seat.{Seat}
 use Rattle.sd_invariants.proofs.Whole.{fit_reached}
-use Rattle.sd_table_rule.specs.Places.{now}
-use Rattle.sd_table_rule.specs.Words.{thread_count}
-use Rattle.sd_table.specs.Seats.{Fits, SeatStays, desk, seat_meaning, table_meaning}
+use Rattle.sd_shared_rule.specs.Places.{now}
+use Rattle.sd_shared_rule.specs.Words.{thread_count}
+use Rattle.sd_shared_table.specs.Seats.{Fits, SeatStays, desk, seat_meaning, table_meaning}
 use Rattle.sd_threads.specs.Locks.{HasLocked}
 use Rattle.sd_threads.specs.Tables.{IsLevel}
 

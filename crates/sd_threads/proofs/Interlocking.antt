@@ -16,11 +16,11 @@ use Rattle.sd_footprint.proofs.ThereLemmas.{known_reached}
 use Rattle.sd_world.specs.Plain.{StandsInRun}
 use Rattle.sd_world.specs.declared.world.ThreadLock.{ThreadLock}
 use Rattle.sd_world.specs.declared.world.ThreadLock.TheVariants as thread
-use Rattle.sd_table_rule.specs.Places.{now}
-use Rattle.sd_table_rule.specs.Words.{thread_count}
-use Rattle.sd_table_rule.proofs.Bridge.{reached}
-use Rattle.sd_table.specs.declared.seat.Seat.{Seat}
-use Rattle.sd_table.specs.Seats.{Fits, desk}
+use Rattle.sd_shared_rule.specs.Places.{now}
+use Rattle.sd_shared_rule.specs.Words.{thread_count}
+use Rattle.sd_shared_rule.proofs.Bridge.{reached}
+use Rattle.sd_shared_table.specs.declared.seat.Seat.{Seat}
+use Rattle.sd_shared_table.specs.Seats.{Fits, desk}
 use Rattle.sd_threads.specs.Interlocks.{SeatInterlocks, interlocked, owner_in, owner_seen}
 use Rattle.sd_threads.specs.Locks.{SeatLocks}
 use Rattle.sd_threads.proofs.AsWorld.{thread_inside}

@@ -15,10 +15,10 @@ use Rattle.sd_cpu.specs.declared.attempts.Turned.{Turned}
 use Rattle.sd_cpu.specs.declared.attempts.Turned.TheVariants.{Acted, Ticked, Behind, Finished}
 use Rattle.sd_cpu.specs.declared.phases.Phased.{Phased}
 use Rattle.sd_cpu.specs.Phases.{ActsOften, Ends, PhaseAnswers, Stops}
-use Rattle.sd_table_rule.specs.Ledgers.{by}
-use Rattle.sd_table.specs.declared.seat.Seat.{Seat}
-use Rattle.sd_table.specs.Seats.{Fits, desk, id_of, work_of}
-use Rattle.sd_table.specs.Whole.{AreSeats, IsSeatOf}
+use Rattle.sd_shared_rule.specs.Ledgers.{by}
+use Rattle.sd_shared_table.specs.declared.seat.Seat.{Seat}
+use Rattle.sd_shared_table.specs.Seats.{Fits, desk, id_of, work_of}
+use Rattle.sd_shared_table.specs.Whole.{AreSeats, IsSeatOf}
 use Rattle.sd_threads.specs.declared.world.TableWorld.{TableWorld}
 use Rattle.sd_threads.specs.Tables.{IsTable, world_meaning}
 use Rattle.sd_threads.specs.declared.jobs.Job.{Job}

@@ -19,19 +19,19 @@ use Rattle.sd_hand.specs.Hands.{HoldsMore, held as held_in, how_many_held}
 use Rattle.sd_world.specs.Homes.{IsNumber, IsNumberAt, index_of}
 use Rattle.sd_world.specs.Worlds.{Gains, IsListedIn}
 use Rattle.sd_world.proofs.NumberLemmas.{same_number}
-use Rattle.sd_table_rule.specs.declared.views.Desk.{Desk}
-use Rattle.sd_table_rule.specs.declared.views.View.{View}
-use Rattle.sd_table_rule.specs.declared.views.View.TheVariants.{Works}
-use Rattle.sd_table_rule.specs.Places.{Stands, holds, now, place_home, sizes, without}
-use Rattle.sd_table_rule.specs.Plays.{Sees, Slot, desk_of, giving, looking, seeing, taking}
-use Rattle.sd_table_rule.specs.Words.{thread_count}
-use Rattle.sd_table_rule.proofs.Bridge.{place_number, reached}
-use Rattle.sd_table_rule.proofs.Lists.{holds_cons, holds_here}
-use Rattle.sd_table_rule.proofs.Since.{since_fewer, since_same, since_then}
-use Rattle.sd_table.specs.declared.seat.Seat.{Seat}
-use Rattle.sd_table.specs.Intents.{IsDesk}
-use Rattle.sd_table.specs.Seats.{Fits, Lifted, SeatStays, desk, lent, seat_meaning}
-use Rattle.sd_table.proofs.Fitting.{counted_still, fits_taken_at, missed, refits, stays_by}
+use Rattle.sd_shared_rule.specs.declared.views.Desk.{Desk}
+use Rattle.sd_shared_rule.specs.declared.views.View.{View}
+use Rattle.sd_shared_rule.specs.declared.views.View.TheVariants.{Works}
+use Rattle.sd_shared_rule.specs.Places.{Stands, holds, now, place_home, sizes, without}
+use Rattle.sd_shared_rule.specs.Plays.{Sees, Slot, desk_of, giving, looking, seeing, taking}
+use Rattle.sd_shared_rule.specs.Words.{thread_count}
+use Rattle.sd_shared_rule.proofs.Bridge.{place_number, reached}
+use Rattle.sd_shared_rule.proofs.Lists.{holds_cons, holds_here}
+use Rattle.sd_shared_rule.proofs.Since.{since_fewer, since_same, since_then}
+use Rattle.sd_shared_table.specs.declared.seat.Seat.{Seat}
+use Rattle.sd_shared_table.specs.Intents.{IsDesk}
+use Rattle.sd_shared_table.specs.Seats.{Fits, Lifted, SeatStays, desk, lent, seat_meaning}
+use Rattle.sd_shared_table.proofs.Fitting.{counted_still, fits_taken_at, missed, refits, stays_by}
 use Rattle.sd_world.specs.declared.world.ThreadLock.{ThreadLock}
 use Rattle.sd_world.specs.declared.world.ThreadLock.TheVariants as thread
 use Rattle.sd_world.proofs.WorldLemmas.{stays_then}

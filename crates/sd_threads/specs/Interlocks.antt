@@ -8,11 +8,11 @@ use Rattle.sd_types.specs.declared.works.Work.{Work}
 use Rattle.sd_state.specs.declared.states.LockState.{LockState}
 use Rattle.sd_state.specs.declared.states.LockState.TheVariants.{Owned}
 use Rattle.sd_machine.specs.Threads.{lock_of}
-use Rattle.sd_table_rule.specs.Places.{now}
+use Rattle.sd_shared_rule.specs.Places.{now}
 use Rattle.sd_world.specs.declared.world.ThreadLock.{ThreadLock}
 use Rattle.sd_world.specs.declared.world.ThreadLock.TheVariants as thread
-use Rattle.sd_table.specs.declared.seat.Seat.{Seat}
-use Rattle.sd_table.specs.Seats.{desk}
+use Rattle.sd_shared_table.specs.declared.seat.Seat.{Seat}
+use Rattle.sd_shared_table.specs.Seats.{desk}
 use Rattle.sd_threads.specs.declared.interlocks.Interlock.{Interlock}
 use Rattle.sd_threads.specs.declared.interlocks.Interlock.TheVariants.{Held, NoOwner, Busy, Moved}
 use Rattle.sd_threads.specs.Locks.{HasLocked, HasMoved, IsBusy}

@@ -8,8 +8,8 @@ use Rattle.sd_types.specs.declared.works.Work.{Work}
 use Rattle.sd_hand.specs.Hands.{how_many_held}
 use Rattle.sd_cpu.specs.declared.phases.Phased.{Phased}
 use Rattle.sd_rounds.specs.Rounds.{IsLongRun}
-use Rattle.sd_table.specs.declared.seat.Seat.{Seat}
-use Rattle.sd_table.specs.Seats.{Fits}
+use Rattle.sd_shared_table.specs.declared.seat.Seat.{Seat}
+use Rattle.sd_shared_table.specs.Seats.{Fits}
 use Rattle.sd_threads.specs.declared.jobs.Job.{Job}
 
 -- the seat fits the table, and its processor holds no home

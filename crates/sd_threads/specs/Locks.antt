@@ -8,13 +8,13 @@ use Rattle.sd_types.specs.declared.works.Work.{Work}
 use Rattle.sd_homes.specs.declared.home.Home.{Home}
 use Rattle.sd_homes.specs.Families.{home_id}
 use Rattle.sd_hand.specs.Hands.{held as held_in}
-use Rattle.sd_table_rule.specs.Places.{now, place_home, sizes}
+use Rattle.sd_shared_rule.specs.Places.{now, place_home, sizes}
 use Rattle.sd_world.specs.Homes.{index_of}
 use Rattle.sd_world.specs.Worlds.{Gains, IsListedIn}
 use Rattle.sd_world.specs.declared.world.ThreadLock.{ThreadLock}
 use Rattle.sd_world.specs.declared.world.ThreadLock.TheVariants as thread
-use Rattle.sd_table.specs.declared.seat.Seat.{Seat}
-use Rattle.sd_table.specs.Seats.{Missed, SeatStays, desk, seat_meaning}
+use Rattle.sd_shared_table.specs.declared.seat.Seat.{Seat}
+use Rattle.sd_shared_table.specs.Seats.{Missed, SeatStays, desk, seat_meaning}
 
 -- the word of thread t was read, and named this home; where the home is held, the thread stands there
 pub record ReadsHome (w : Work) (s s' : Seat) (t : ℕ) (k : HomeId) : Type 0 where

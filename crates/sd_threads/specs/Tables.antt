@@ -5,7 +5,7 @@ use Rattle.sd_types.specs.declared.works.Work.{Work}
 use Rattle.sd_world.specs.declared.world.Behind.{Behind}
 use Rattle.sd_world.specs.Plain.{last_of}
 use Rattle.sd_world.specs.Worlds.{IsBehind, Meaning, ReadsCounts, Rises, actor_of}
-use Rattle.sd_table.specs.Seats.{Fits, id_of, table_meaning, work_of}
+use Rattle.sd_shared_table.specs.Seats.{Fits, id_of, table_meaning, work_of}
 use Rattle.sd_threads.specs.declared.world.TableWorld.{TableWorld}
 
 abbrev pub the_work : TableWorld → Work

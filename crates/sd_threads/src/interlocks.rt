@@ -6,15 +6,15 @@ ghost use Rattle.sd_hand.specs.Acting.{IsShown, has_part};
 ghost use Rattle.sd_hand.specs.Hands.{how_many_held};
 ghost use Rattle.sd_state.specs.declared.states.State.{State as StateOf};
 ghost use Rattle.sd_store.specs.Parts.{chain_part};
-ghost use Rattle.sd_table.specs.Seats.{Fits, id_of, work_of};
+ghost use Rattle.sd_shared_table.specs.Seats.{Fits, id_of, work_of};
 ghost use Rattle.sd_threads.specs.Interlocks.{SeatInterlocks, interlocked, owner_in};
 ghost use Rattle.sd_world.specs.Plain.{StandsInRun};
 
 use crate::threads::try_lock_thread;
 use sd_hand::Acting;
+use sd_shared_table::{Seat, Shared};
 use sd_state::LockState;
 use sd_store::Look;
-use sd_table::{Seat, Shared};
 use sd_types::{CpuId, HomeId, LockId, ThreadId};
 use sd_world::ThreadLock;
 

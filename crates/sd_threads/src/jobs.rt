@@ -1,12 +1,12 @@
 //! A processor between two phases, and the phase as a job for a thread of the host.
 
 ghost use Rattle.std.specs.Prelude.{◌≡◌};
-ghost use Rattle.sd_table.specs.Seats.{id_of, work_of};
+ghost use Rattle.sd_shared_table.specs.Seats.{id_of, work_of};
 ghost use Rattle.sd_threads.specs.Jobs.{HasPhased, IsEmptyHanded};
 
 use crate::TableWorld;
 use sd_cpu::{Gate, Phased, phase};
-use sd_table::{Seat, Shared};
+use sd_shared_table::{Seat, Shared};
 use sd_types::{Stop, Work};
 use std::sync::Wait;
 

@@ -3,12 +3,12 @@
 ghost use Rattle.std.specs.Prelude.{◌≡◌, length, Some, Err, IfErr, IfOk, IsErrOf};
 ghost use Rattle.std.specs.List.{All};
 ghost use Rattle.sd_rounds.specs.Rounds.{IsLongRun};
-ghost use Rattle.sd_table.specs.Seats.{id_of, work_of};
+ghost use Rattle.sd_shared_table.specs.Seats.{id_of, work_of};
 ghost use Rattle.sd_threads.specs.Jobs.{AllTell, AreAtRest, AreJobs, HasPhased, HavePhased, IsEmptyHanded, Tells, WasStopped};
 
 use crate::jobs::{Job, phase_of};
 use sd_cpu::Gate;
-use sd_table::Shared;
+use sd_shared_table::Shared;
 use sd_types::{Stop, Work};
 use std::alloc::AllocError;
 use std::sync::Wait;

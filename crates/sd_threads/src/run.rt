@@ -11,7 +11,7 @@ use crate::jobs::Job;
 use crate::phases::run_phases;
 use sd_cpu::Gate;
 use sd_rounds::{Finished, run_to_end};
-use sd_table::{Seat, Shared};
+use sd_shared_table::{Seat, Shared};
 use sd_types::{MOST_ENTRIES, Stop, Work};
 use std::alloc::{AllocError, Global};
 use std::sync::Wait;

@@ -2,13 +2,13 @@
 
 ghost use Rattle.std.specs.Prelude.{◌≡◌, ◌<◌, false};
 ghost use Rattle.sd_hand.specs.Hands.{how_many_held};
-ghost use Rattle.sd_table_rule.specs.Places.{holds, sizes};
-ghost use Rattle.sd_table_rule.specs.Words.{thread_count};
+ghost use Rattle.sd_shared_rule.specs.Places.{holds, sizes};
+ghost use Rattle.sd_shared_rule.specs.Words.{thread_count};
 ghost use Rattle.sd_world.specs.Homes.{IsNumberAt};
-ghost use Rattle.sd_table.specs.Seats.{Fits, desk, id_of, work_of};
+ghost use Rattle.sd_shared_table.specs.Seats.{Fits, desk, id_of, work_of};
 ghost use Rattle.sd_threads.specs.Locks.{ReadsHome, SeatLocks, SeatTries};
 
-use sd_table::{Seat, Shared};
+use sd_shared_table::{Seat, Shared};
 use sd_types::{CpuId, HomeId, ThreadId};
 use sd_world::ThreadLock;
 use std::marker::Brand;

@@ -6,14 +6,14 @@ ghost use Rattle.sd_types.specs.declared.events.Which.{Which as WhichOf};
 ghost use Rattle.sd_types.specs.Limits.{most_processors};
 ghost use Rattle.sd_world.specs.Plain.{AreCpus};
 ghost use Rattle.sd_world.specs.Worlds.{AllHinted, IsQuiet, ReadsCounts, Rises, Stays};
-ghost use Rattle.sd_table.specs.Seats.{Fits, id_of, work_of};
+ghost use Rattle.sd_shared_table.specs.Seats.{Fits, id_of, work_of};
 ghost use Rattle.sd_threads.specs.Tables.{Compares, IsTable, ReadsCount, the_work, world_meaning};
 
 use crate::threads::try_lock_thread;
 use arrayvec::ArrayVec;
 use sd_dispatcher::Reading;
 use sd_hand::Acting;
-use sd_table::{Seat, Shared};
+use sd_shared_table::{Seat, Shared};
 use sd_types::{CpuId, Event, Hints, HomeId, Stop, ThreadId, Which, Work};
 use sd_world::{Behind, Take, ThreadLock, World};
 
@@ -116,8 +116,8 @@ impl<'a> TableWorld<'a> {
 }
 
 impl<'a> World for TableWorld<'a> {
-    ghost use Rattle.sd_table.proofs.Fitting.{table_good};
-    ghost use Rattle.sd_table.specs.Seats.{id_of, work_of};
+    ghost use Rattle.sd_shared_table.proofs.Fitting.{table_good};
+    ghost use Rattle.sd_shared_table.specs.Seats.{id_of, work_of};
     ghost use Rattle.sd_world.specs.Plain.{last_of};
     ghost use Rattle.sd_threads.specs.Tables.{IsTable, world_meaning};
 

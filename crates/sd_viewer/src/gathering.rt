@@ -7,8 +7,8 @@ ghost use Rattle.sd_viewer.specs.Gathering.{IsGathered};
 
 use sd_audit::{AuditFault, Collector, Judged, audit_collecting};
 use sd_opening::opening;
+use sd_replay::step;
 use sd_state::State;
-use sd_steps::step;
 use sd_stretches::History;
 use sd_types::{Entry, Work};
 use std::alloc::{AllocError, Global};

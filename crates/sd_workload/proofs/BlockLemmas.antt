@@ -4,10 +4,10 @@ use Rattle.std.specs.Prelude.{IfSome, IfNone, is_some, is_none, ◌||◌}
 use Rattle.std.specs.List.{list_any}
 use Rattle.std.specs.Option.{option_map}
 use Rattle.std.proofs.lemmas.Option.{same_Some, none-some}
-use Rattle.sd_tables.specs.declared.columns.Column.{Column}
-use Rattle.sd_tables.specs.declared.fault.TableFault.{TableFault}
-use Rattle.sd_tables.specs.declared.fault.TableFault.TheVariants.{NotANumber, Range, Rows, Resolution}
-use Rattle.sd_tables.specs.TableText.{word_lines, fault_at, rows_in, IsTableText, IsTableFault, IsRowsFault, is_res_line, is_row_line, res_of_line, has_numbers, numbers_of, column_outside}
+use Rattle.sd_dispadmin.specs.declared.columns.Column.{Column}
+use Rattle.sd_dispadmin.specs.declared.fault.TableFault.{TableFault}
+use Rattle.sd_dispadmin.specs.declared.fault.TableFault.TheVariants.{NotANumber, Range, Rows, Resolution}
+use Rattle.sd_dispadmin.specs.TableText.{word_lines, fault_at, rows_in, IsTableText, IsTableFault, IsRowsFault, is_res_line, is_row_line, res_of_line, has_numbers, numbers_of, column_outside}
 use Rattle.sd_lines.specs.declared.statements.TableClass.{TableClass}
 use Rattle.sd_lines.specs.Words.{Line}
 use Rattle.sd_declare.specs.declared.causes.WorkCause.TheVariants.{Table, Syntax}

@@ -7,7 +7,7 @@ use Rattle.std.proofs.lemmas.List.Folds.{list_all-append}
 use Rattle.sd_text.specs.Lines.{lines_of, is_line}
 use Rattle.sd_text.specs.Words.{words_of}
 use Rattle.sd_text.proofs.LineLemmas.{lines_of-line, are_lines}
-use Rattle.sd_tables.specs.TableText.{word_lines}
+use Rattle.sd_dispadmin.specs.TableText.{word_lines}
 
 -- what follows a text begins on a line of its own
 abbrev pub IsClosed : List ℕ → Type 0

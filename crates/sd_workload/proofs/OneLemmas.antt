@@ -4,8 +4,8 @@ use Rattle.std.proofs.lemmas.Option.{same_Some}
 use Rattle.sd_types.specs.declared.tables.TsTable.{TsTable}
 use Rattle.sd_types.specs.declared.tables.FixedTable.{FixedTable}
 use Rattle.sd_types.specs.declared.works.Work.{Work}
-use Rattle.sd_tables.specs.TableText.{Format, word_lines, ts_format, fx_format, rt_format, AreClean, has_rows, rows_in, res_in, SpellsTs, SpellsFixed}
-use Rattle.sd_tables.proofs.LawLemmas.{one_ts, one_fixed}
+use Rattle.sd_dispadmin.specs.TableText.{Format, word_lines, ts_format, fx_format, rt_format, AreClean, has_rows, rows_in, res_in, SpellsTs, SpellsFixed}
+use Rattle.sd_dispadmin.proofs.LawLemmas.{one_ts, one_fixed}
 use Rattle.sd_lines.specs.Words.{Line}
 use Rattle.sd_declare.specs.Declarations.{Declarations}
 use Rattle.sd_workload.specs.Accepted.{SpellsFixedLines, IsTs, IsFx, IsRt, IsWork, Accepted, HaveSameParts}

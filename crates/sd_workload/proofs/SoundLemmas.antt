@@ -8,8 +8,8 @@ use Rattle.std.proofs.lemmas.Option.{none-some}
 use Rattle.sd_types.specs.declared.numbers.ThreadId.{ThreadId}
 use Rattle.sd_types.specs.declared.scripts.Op.{Op}
 use Rattle.sd_types.specs.Works.{class_fits, op_names, is_distinct, same_bytes}
-use Rattle.sd_tables.specs.declared.fault.TableFault.TheVariants.{Rows}
-use Rattle.sd_tables.specs.TableText.{Format, line_fault, fault_at, AreClean, has_rows, rows_in}
+use Rattle.sd_dispadmin.specs.declared.fault.TableFault.TheVariants.{Rows}
+use Rattle.sd_dispadmin.specs.TableText.{Format, line_fault, fault_at, AreClean, has_rows, rows_in}
 use Rattle.sd_lines.specs.declared.statements.TableClass.{TableClass}
 use Rattle.sd_lines.specs.declared.statements.TableClass.TheVariants as table
 use Rattle.sd_lines.specs.Words.{Line, is_end, only_word}

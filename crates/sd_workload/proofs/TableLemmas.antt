@@ -5,9 +5,9 @@ use Rattle.std.specs.Option.{option_map}
 use Rattle.std.proofs.lemmas.Bool.{both_ways}
 use Rattle.std.proofs.lemmas.List.{drop_more, take_more, take_all, drop_all, length-take-le}
 use Rattle.std.proofs.lemmas.List.Folds.{list_all_at}
-use Rattle.sd_tables.specs.declared.fault.TableFault.{TableFault}
-use Rattle.sd_tables.specs.TableText.{line_fault, fault_at, AreClean, has_rows, rows_in}
-use Rattle.sd_tables.specs.declared.fault.TableFault.TheVariants.{Rows}
+use Rattle.sd_dispadmin.specs.declared.fault.TableFault.{TableFault}
+use Rattle.sd_dispadmin.specs.TableText.{line_fault, fault_at, AreClean, has_rows, rows_in}
+use Rattle.sd_dispadmin.specs.declared.fault.TableFault.TheVariants.{Rows}
 use Rattle.sd_lines.specs.declared.statements.TableClass.{TableClass}
 use Rattle.sd_lines.specs.Words.{Line, is_end}
 use Rattle.sd_declare.specs.declared.causes.WorkCause.TheVariants.{Table, Syntax}

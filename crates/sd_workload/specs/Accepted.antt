@@ -5,7 +5,7 @@ use Rattle.sd_types.specs.declared.tables.TsTable.{TsTable}
 use Rattle.sd_types.specs.declared.tables.FixedTable.{FixedTable}
 use Rattle.sd_types.specs.declared.works.Work.{Work}
 use Rattle.sd_rules.specs.DefaultTables.{default_ts_rows, default_fx_rows, default_rt_rows}
-use Rattle.sd_tables.specs.TableText.{Format, word_lines, fx_format, rt_format, SpellsTs, SpellsFixed}
+use Rattle.sd_dispadmin.specs.TableText.{Format, word_lines, fx_format, rt_format, SpellsTs, SpellsFixed}
 use Rattle.sd_lines.specs.Words.{Line}
 use Rattle.sd_declare.specs.declared.causes.WorkCause.{WorkCause}
 use Rattle.sd_declare.specs.Declarations.{Declarations, cpu_count}

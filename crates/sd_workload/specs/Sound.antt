@@ -5,7 +5,7 @@ use Rattle.std.specs.List.{list_all}
 use Rattle.sd_types.specs.declared.numbers.CpuId.{CpuId}
 use Rattle.sd_types.specs.Works.{Declared, same_bytes, same_cpu, is_distinct, class_fits, op_names, has_small_count}
 use Rattle.sd_types.specs.Limits.{greatest_limit, most_processors}
-use Rattle.sd_tables.specs.TableText.{Format, AreClean, has_rows, ts_format, fx_format, rt_format}
+use Rattle.sd_dispadmin.specs.TableText.{Format, AreClean, has_rows, ts_format, fx_format, rt_format}
 use Rattle.sd_lines.specs.Words.{Word, Line}
 use Rattle.sd_declare.specs.Declarations.{Thread, Declarations, cpu_count}
 use Rattle.sd_workload.specs.Accepted.{hz_of}

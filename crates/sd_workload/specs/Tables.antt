@@ -1,9 +1,9 @@
 -- A table's block as the reader takes it from a text.
 use Rattle.std.specs.Prelude.{◌≡◌, ℕ, ◌+◌, ◌<◌, ◌≤◌, true, not, List, [], ◌∷◌, ◌++◌, length, Option, Some, None, IfSome}
 use Rattle.std.specs.List.{list_all}
-use Rattle.sd_tables.specs.declared.fault.TableFault.{TableFault}
-use Rattle.sd_tables.specs.declared.fault.TableFault.TheVariants.{NotANumber, Range, Rows, Resolution}
-use Rattle.sd_tables.specs.TableText.{word_lines}
+use Rattle.sd_dispadmin.specs.declared.fault.TableFault.{TableFault}
+use Rattle.sd_dispadmin.specs.declared.fault.TableFault.TheVariants.{NotANumber, Range, Rows, Resolution}
+use Rattle.sd_dispadmin.specs.TableText.{word_lines}
 use Rattle.sd_lines.specs.Words.{Line, is_end}
 use Rattle.sd_workload.specs.declared.line_starts.LineStart.{LineStart}
 use Rattle.sd_workload.specs.declared.tables.TableBlock.{TableBlock}

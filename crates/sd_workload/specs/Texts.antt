@@ -6,8 +6,8 @@ use Rattle.sd_types.specs.declared.numbers.ThreadId.{ThreadId}
 use Rattle.sd_types.specs.declared.classes.ClassParms.TheVariants as parms
 use Rattle.sd_types.specs.declared.scripts.Op.{Op}
 use Rattle.sd_types.specs.Limits.{most_operations_of_all, most_pairs, most_ticks}
-use Rattle.sd_tables.specs.declared.fault.TableFault.TheVariants.{Rows}
-use Rattle.sd_tables.specs.TableText.{Format, word_lines, ts_format, fx_format, rt_format, line_fault, has_rows, rows_in}
+use Rattle.sd_dispadmin.specs.declared.fault.TableFault.TheVariants.{Rows}
+use Rattle.sd_dispadmin.specs.TableText.{Format, word_lines, ts_format, fx_format, rt_format, line_fault, has_rows, rows_in}
 use Rattle.sd_lines.specs.declared.statements.TableClass.{TableClass}
 use Rattle.sd_lines.specs.declared.statements.TableClass.TheVariants as table
 use Rattle.sd_lines.specs.Words.{Line, is_done, is_end}

@@ -2,7 +2,7 @@
 
 ghost use Rattle.std.specs.Prelude.{◌≡◌, ℕ, List, ◌⊎◌, ◌↔◌};
 ghost use Rattle.sd_types.specs.declared.works.Work.{Work};
-ghost use Rattle.sd_tables.specs.TableText.{word_lines};
+ghost use Rattle.sd_dispadmin.specs.TableText.{word_lines};
 ghost use Rattle.sd_declare.specs.declared.causes.WorkCause.{WorkCause};
 ghost use Rattle.sd_declare.specs.Declarations.{Declarations};
 ghost use Rattle.sd_workload.specs.Accepted.{Accepted, FirstCause, HaveSameParts};

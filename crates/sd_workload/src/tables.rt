@@ -1,7 +1,7 @@
 //! The blocks of dispatch tables.
 
 ghost use Rattle.std.specs.Prelude.{◌≡◌, [], ◌++◌, ◌∷◌, ◌+◌, ◌-◌, ◌<◌, ◌≤◌, ◌^◌, length, OnOk, IfOk, IfErr, IfSome, IfNone, true, false};
-ghost use Rattle.sd_tables.specs.TableText.{word_lines, IsTableText, IsTableFault, ts_format, fx_format, rt_format};
+ghost use Rattle.sd_dispadmin.specs.TableText.{word_lines, IsTableText, IsTableFault, ts_format, fx_format, rt_format};
 ghost use Rattle.sd_declare.specs.Kept.{declarations};
 ghost use Rattle.sd_workload.specs.LineStarts.{judged_from, IsFault};
 ghost use Rattle.sd_workload.specs.Tables.{IsBlock, IsBelow, line_of};
@@ -10,8 +10,8 @@ ghost use Rattle.sd_workload.specs.Texts.{Outside, InTable, format_of, with_tabl
 use crate::WorkFault;
 use crate::line_starts::{LineStart, line_at};
 use sd_declare::{Declared, WorkCause};
+use sd_dispadmin::{ReadTableFault, TableFault, read_fx, read_rt, read_ts};
 use sd_lines::{TableClass, is_end};
-use sd_tables::{ReadTableFault, TableFault, read_fx, read_rt, read_ts};
 use std::alloc::{AllocError, Global};
 
 /// A table's block: the text of its lines; the number of the line that closes it, or of the line after the last; and

@@ -2,14 +2,14 @@
 
 ghost use Rattle.std.specs.Prelude.{◌≡◌, ◌<◌, ◌≤◌, ◌^◌, length, Some, None, IfOk, IfSome, IsTrue, option_map};
 ghost use Rattle.sd_types.specs.Ticks.{ts_ticks_fit, fixed_ticks_fit};
-ghost use Rattle.sd_tables.specs.TableText.{IsTableText, ts_format, fx_format, rt_format};
+ghost use Rattle.sd_dispadmin.specs.TableText.{IsTableText, ts_format, fx_format, rt_format};
 ghost use Rattle.sd_declare.specs.Kept.{declarations, lines_in};
 ghost use Rattle.sd_workload.specs.Accepted.{IsTs, IsFx, IsRt, IsWork};
 ghost use Rattle.sd_workload.specs.Sound.{AreSoundDeclarations};
 ghost use Rattle.sd_workload.specs.Texts.{Outside, end_cause};
 
 use sd_declare::Declared;
-use sd_tables::{ReadTableFault, default_fx, default_rt, default_ts, read_fx, read_rt, read_ts};
+use sd_dispadmin::{ReadTableFault, default_fx, default_rt, default_ts, read_fx, read_rt, read_ts};
 use sd_types::{FixedTable, List, TsTable, Work};
 use std::alloc::{AllocError, Global};
 

@@ -2,7 +2,7 @@
 
 ghost use Rattle.std.specs.Prelude.{◌≤◌};
 
-use sd_tables::{
+use sd_dispadmin::{
     ReadTableFault, TableFault, default_fx, default_rt, default_ts, read_fx, read_rt, read_ts,
     write_fixed, write_ts,
 };

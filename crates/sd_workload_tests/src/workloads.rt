@@ -2,9 +2,9 @@
 //! texts that they should. The cases were worked out by hand.
 ghost use Rattle.std.specs.Prelude.{◌<◌, ◌≤◌, length};
 
+use sd_dispadmin::TableFault;
 use sd_lines::is_word;
 use sd_script::ScriptFault;
-use sd_tables::TableFault;
 use sd_text::put_number;
 use sd_types::{ChanKind, ClassParms, LockKind, Op, Quantum, Work};
 use sd_workload::{WorkCause, WorkFault, read_work};

@@ -2,7 +2,7 @@ use Rattle.std.proofs.Common.{◌≡◌, None, map, ◌++◌, ap, subst, ◌∙�
 use Rattle.std.specs.Prelude.{IsSome}
 use Rattle.sd_machine.specs.Events.{next}
 use Rattle.sd_machine.specs.Runs.{serial_hints}
-use Rattle.sd_steps.proofs.EnteringLemmas.{enters_some, enters_none}
+use Rattle.sd_replay.proofs.EnteringLemmas.{enters_some, enters_none}
 use Rattle.sd_audit.specs.Audits.{entry_line}
 use Rattle.sd_audit.proofs.audits.check_rest.Goals as goal
 

@@ -1,6 +1,6 @@
 use Rattle.std.proofs.Common.{◌≡◌, false, ◌<◌}
 use Rattle.sd_types.specs.declared.numbers.CpuId.{CpuId}
-use Rattle.sd_steps.specs.Entering.{can_enter}
+use Rattle.sd_replay.specs.Entering.{can_enter}
 use Rattle.sd_audit.proofs.complete.first_to_enter.Given as goal
 
 -- no smaller processor has an entry

@@ -3,7 +3,7 @@ use Rattle.std.proofs.lemmas.Bool.{cases_lt}
 use Rattle.sd_types.specs.declared.numbers.CpuId.{CpuId}
 use Rattle.sd_types.specs.declared.events.Hints.{Hints}
 use Rattle.sd_machine.specs.Events.{next}
-use Rattle.sd_steps.proofs.Needed.{no_maker}
+use Rattle.sd_replay.proofs.Needed.{no_maker}
 use Rattle.sd_extremes.proofs.whole.first_able.Goals as goal
 
 pub returns : goal.returns

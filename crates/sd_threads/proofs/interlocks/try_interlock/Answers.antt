@@ -1,6 +1,6 @@
 use Rattle.std.proofs.Common.{length, refl, sym, subst}
-use Rattle.sd_table_rule.specs.Places.{now}
-use Rattle.sd_table.specs.Seats.{desk, work_of}
+use Rattle.sd_shared_rule.specs.Places.{now}
+use Rattle.sd_shared_table.specs.Seats.{desk, work_of}
 use Rattle.sd_threads.specs.Interlocks.{SeatInterlocks}
 use Rattle.sd_threads.proofs.Interlocking as I
 use Rattle.sd_threads.proofs.interlocks.try_interlock.Goals as goal

@@ -1,7 +1,7 @@
 use Rattle.std.proofs.Common.{◌≡◌, length, refl, sym, ap, ◌∙◌, subst}
 use Rattle.sd_hand.specs.Hands.{how_many_held}
-use Rattle.sd_table.specs.declared.seat.Seat.{Seat}
-use Rattle.sd_table.specs.Seats.{id_of, work_of}
+use Rattle.sd_shared_table.specs.declared.seat.Seat.{Seat}
+use Rattle.sd_shared_table.specs.Seats.{id_of, work_of}
 use Rattle.sd_threads.specs.Tables.{world_meaning}
 use Rattle.sd_threads.specs.Jobs.{IsEmptyHanded, MadeAsLogged}
 use Rattle.sd_threads.proofs.JobLemmas as J

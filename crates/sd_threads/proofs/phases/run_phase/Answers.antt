@@ -1,6 +1,6 @@
 use Rattle.std.proofs.Common.{Result, Ok, Err, sym, subst}
 use Rattle.std.specs.Prelude.{IfOk, slice_index_or}
-use Rattle.sd_table.specs.Seats.{id_of}
+use Rattle.sd_shared_table.specs.Seats.{id_of}
 use Rattle.sd_threads.specs.Jobs.{HasPhased}
 use Rattle.sd_threads.proofs.phases.run_phase.Goals as goal
 

@@ -1,6 +1,6 @@
 use Rattle.std.proofs.Common.{◌≡◌, List, rules, subst}
 use Rattle.sd_types.specs.declared.events.Stop.TheVariants.{Full}
-use Rattle.sd_table.specs.Seats.{id_of}
+use Rattle.sd_shared_table.specs.Seats.{id_of}
 use Rattle.sd_threads.specs.declared.jobs.Job.{Job}
 use Rattle.sd_threads.specs.Jobs.{WasStopped}
 use Rattle.sd_threads.proofs.JobLemmas as J

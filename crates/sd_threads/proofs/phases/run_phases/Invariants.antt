@@ -1,4 +1,4 @@
-use Rattle.sd_table.specs.Seats.{id_of}
+use Rattle.sd_shared_table.specs.Seats.{id_of}
 use Rattle.sd_threads.specs.Jobs.{AreJobs}
 use Rattle.sd_threads.proofs.phases.run_phases.Given as goal
 

@@ -1,8 +1,8 @@
 use Rattle.std.proofs.Common.{List, sym, subst}
 use Rattle.sd_types.specs.declared.works.Work.{Work}
-use Rattle.sd_table.specs.declared.seat.Seat.{Seat}
-use Rattle.sd_table.specs.Seats.{id_of}
-use Rattle.sd_table.specs.Whole.{AreSeats}
+use Rattle.sd_shared_table.specs.declared.seat.Seat.{Seat}
+use Rattle.sd_shared_table.specs.Seats.{id_of}
+use Rattle.sd_shared_table.specs.Whole.{AreSeats}
 use Rattle.sd_threads.proofs.JobLemmas.{jobs_begin, seats_end}
 use Rattle.sd_threads.proofs.run.run_on_threads.Goals as goal
 

@@ -1,7 +1,7 @@
 use Rattle.std.proofs.Common.{◌≡◌, ◌∷◌, ◌++◌, [], length, refl, sym, ap, ◌∙◌, append_assoc, append-nil, arith}
 use Rattle.std.specs.Prelude.{vec_len}
 use Rattle.std.specs.Vec.Iter.{into_iter_items}
-use Rattle.sd_table.proofs.LogLemmas.{empty_by}
+use Rattle.sd_shared_table.proofs.LogLemmas.{empty_by}
 use Rattle.sd_threads.specs.Jobs.{seats_in}
 use Rattle.sd_threads.proofs.JobLemmas.{seats_more}
 use Rattle.sd_threads.proofs.run.seats_of.Goals as goal

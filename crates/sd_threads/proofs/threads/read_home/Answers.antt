@@ -1,5 +1,5 @@
 use Rattle.std.proofs.Common.{refl, ◌∙◌}
-use Rattle.sd_table.specs.Seats.{work_of}
+use Rattle.sd_shared_table.specs.Seats.{work_of}
 use Rattle.sd_threads.proofs.Locking as L
 use Rattle.sd_threads.proofs.threads.read_home.Goals as goal
 

@@ -1,11 +1,11 @@
 use Rattle.std.proofs.Common.{◌-◌, ◌<◌, refl, sym, ap, ◌∙◌, subst, arith}
 use Rattle.sd_world.proofs.NumberLemmas.{index_below, same_number}
-use Rattle.sd_table_rule.specs.declared.views.View.TheVariants.{Works}
-use Rattle.sd_table_rule.specs.Places.{home_count, sizes}
-use Rattle.sd_table_rule.specs.Plays.{desk_of}
-use Rattle.sd_table.specs.declared.seat.Seat.{Seat}
-use Rattle.sd_table.specs.Seats.{work_of}
-use Rattle.sd_table.proofs.Fitting.{fits_missed}
+use Rattle.sd_shared_rule.specs.declared.views.View.TheVariants.{Works}
+use Rattle.sd_shared_rule.specs.Places.{home_count, sizes}
+use Rattle.sd_shared_rule.specs.Plays.{desk_of}
+use Rattle.sd_shared_table.specs.declared.seat.Seat.{Seat}
+use Rattle.sd_shared_table.specs.Seats.{work_of}
+use Rattle.sd_shared_table.proofs.Fitting.{fits_missed}
 use Rattle.sd_threads.proofs.Locking as L
 use Rattle.sd_threads.proofs.threads.try_home.Goals as goal
 

@@ -1,7 +1,7 @@
 use Rattle.std.specs.Prelude.{Some, None}
 use Rattle.sd_types.specs.declared.events.Event.TheVariants.{Idle}
 use Rattle.sd_types.specs.declared.events.Which.TheVariants.{Running}
-use Rattle.sd_table.specs.Seats.{work_of}
+use Rattle.sd_shared_table.specs.Seats.{work_of}
 use Rattle.sd_threads.proofs.threads.try_home.Given as goal
 
 abbrev pub ghosts-grab : goal.ghosts-grab

@@ -1,7 +1,7 @@
 use Rattle.std.proofs.Common.{◌<◌, sym, subst}
 use Rattle.sd_hand.specs.declared.acting.Acting.{Acting}
 use Rattle.sd_hand.specs.Hands.{how_many_held}
-use Rattle.sd_table.specs.Seats.{id_of, work_of}
+use Rattle.sd_shared_table.specs.Seats.{id_of, work_of}
 use Rattle.sd_threads.proofs.Locking as L
 use Rattle.sd_threads.proofs.threads.try_lock_thread.Goals as goal
 

@@ -1,4 +1,4 @@
-use Rattle.sd_tables.specs.TableText.{word_lines}
+use Rattle.sd_dispadmin.specs.TableText.{word_lines}
 use Rattle.sd_workload.proofs.FirstLemmas.{first-back, refused, taken-back, accepted}
 use Rattle.sd_workload.proofs.laws.causes_are_first.Goals as goal
 

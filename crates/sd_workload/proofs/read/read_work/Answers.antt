@@ -1,4 +1,4 @@
-use Rattle.sd_tables.specs.TableText.{word_lines}
+use Rattle.sd_dispadmin.specs.TableText.{word_lines}
 use Rattle.sd_workload.proofs.SoundLemmas.{text-sound}
 use Rattle.sd_workload.proofs.read.read_work.Goals as goal
 

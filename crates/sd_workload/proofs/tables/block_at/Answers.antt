@@ -1,6 +1,6 @@
 use Rattle.std.proofs.Common.{◌++◌, ◌∷◌, [], length, not, sym, ap, ◌∙◌, subst, append_assoc, arith, length-append}
 use Rattle.std.specs.List.{list_all}
-use Rattle.sd_tables.specs.TableText.{word_lines}
+use Rattle.sd_dispadmin.specs.TableText.{word_lines}
 use Rattle.sd_text.specs.Words.{words_of}
 use Rattle.sd_lines.specs.Words.{Line, is_end}
 use Rattle.sd_workload.specs.LineStarts.{lines_from}

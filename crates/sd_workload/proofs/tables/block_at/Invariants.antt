@@ -1,6 +1,6 @@
 use Rattle.std.proofs.Common.{◌≡◌, ◌+◌, ◌-◌, ◌≤◌, ◌++◌, not, true, length}
 use Rattle.std.specs.List.{list_all}
-use Rattle.sd_tables.specs.TableText.{word_lines}
+use Rattle.sd_dispadmin.specs.TableText.{word_lines}
 use Rattle.sd_lines.specs.Words.{is_end}
 use Rattle.sd_workload.specs.LineStarts.{lines_from}
 use Rattle.sd_workload.proofs.LineLemmas.{IsClosed}

@@ -1,5 +1,5 @@
 use Rattle.std.proofs.Common.{List, [], ℕ, sym, ap, ◌∙◌, subst, rules}
-use Rattle.sd_tables.specs.TableText.{IsTableText, IsTableFault}
+use Rattle.sd_dispadmin.specs.TableText.{IsTableText, IsTableFault}
 use Rattle.sd_declare.specs.Declarations.{Declarations}
 use Rattle.sd_declare.specs.Kept.{declarations}
 use Rattle.sd_workload.specs.LineStarts.{IsFault, judged_from, lines_from}

@@ -5,7 +5,7 @@ use Rattle.sd_types.specs.declared.numbers.CpuId.{CpuId}
 use Rattle.sd_world.specs.Worlds.{AllHinted}
 use Rattle.sd_world.specs.Plain.{last_of}
 use Rattle.sd_world.proofs.WorldLemmas.{stays_then}
-use Rattle.sd_table.specs.Seats.{work_of}
+use Rattle.sd_shared_table.specs.Seats.{work_of}
 use Rattle.sd_threads.specs.declared.world.TableWorld.{TableWorld}
 use Rattle.sd_threads.specs.Tables.{world_meaning}
 use Rattle.sd_threads.proofs.AsWorld.{hinted_more, hinted_still, stays_as}

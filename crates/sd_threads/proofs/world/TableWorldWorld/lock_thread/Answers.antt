@@ -1,5 +1,5 @@
 use Rattle.sd_world.specs.Plain.{last_of}
-use Rattle.sd_table.specs.Seats.{work_of}
+use Rattle.sd_shared_table.specs.Seats.{work_of}
 use Rattle.sd_threads.proofs.AsWorld.{gains_locked, thread_inside}
 use Rattle.sd_threads.proofs.world.TableWorldWorld.lock_thread.Goals as goal
 

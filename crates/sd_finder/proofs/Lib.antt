@@ -1,2 +1,0 @@
-pub mod AppendLemmas
-pub mod SaidLemmas

@@ -1,5 +1,0 @@
-use Rattle.sd_steps.proofs.Needed.{is_state}
-use Rattle.sd_steps.proofs.serial.event_of.Goals as goal
-
-pub returns : goal.returns
-returns c = c.in-Ok.ensures.value 0 c.args.s.now (is_state c.args.work.now c.args.s.now c.requires.fit) c.requires.hints

@@ -1,4 +1,0 @@
-use Rattle.sd_table_tests.proofs.trying.sought.Goals as goal
-
-pub seek_by_turns-requires-clause-first : goal.seek_by_turns-requires-clause-first
-seek_by_turns-requires-clause-first c = c.act-first.ensures 0 c.requires.first

@@ -1,6 +1,0 @@
-use Rattle.std.proofs.Common.{◌≡◌, map, take}
-use Rattle.sd_tables.specs.TableRows.{ts_row_of}
-use Rattle.sd_tables.proofs.read.ts_rows.Given as goal
-
-abbrev pub invariant-loop-numbers : goal.invariant-loop-numbers
-invariant-loop-numbers l = l.made.items ≡ map (ts_row_of l.hz l.res) (map (λ r. r.items) (take l.numbers-index l.rows))
