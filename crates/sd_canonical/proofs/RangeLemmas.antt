@@ -91,8 +91,8 @@ script-kept d t ops r = record {
 line-kept : (d : Declarations) (b : Block) (line : Line) → cause_of d b line ≡ None → InRange d → InRange (declared_after d b line)
 unfolding cause_of declared_after
 line-kept d Outside line h r = outside-kept d line h r
-line-kept d (InTable class above) line h r = either (is_end line) (with_table d class above) d (table-kept d class above r) r
-line-kept d (InScript t ops) line h r = either (is_end line) (with_script d t ops) d (script-kept d t ops r) r
+line-kept d (InTable class above) line h r = either InRange (is_end line) (with_table d class above) d (table-kept d class above r) r
+line-kept d (InScript t ops) line h r = either InRange (is_end line) (with_script d t ops) d (script-kept d t ops r) r
 
 -- ---- texts
 
