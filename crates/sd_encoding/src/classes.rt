@@ -36,14 +36,10 @@ impl Packed for Quantum {
 
     fn write(&self, into: &mut Vec<u64>) -> Result<(), AllocError> {
         match self {
-            Quantum::Def => into.push(0)?,
-            Quantum::Inf => into.push(1)?,
-            Quantum::Ticks(ticks) => {
-                into.push(2)?;
-                ticks.write(into)?;
-            }
+            Quantum::Def => 0u64.write(into),
+            Quantum::Inf => 1u64.write(into),
+            Quantum::Ticks(ticks) => (2u64, *ticks).write(into),
         }
-        Ok(())
     }
 
     #[tactic(auto, unfolding(crate::specs::Reading::quantum_at))]
@@ -101,12 +97,11 @@ impl Packed for TsState {
     ghost again = { ts_again };
 
     fn write(&self, into: &mut Vec<u64>) -> Result<(), AllocError> {
-        self.cpupri.write(into)?;
-        self.limit.write(into)?;
-        self.upri.write(into)?;
-        self.left.write(into)?;
-        self.wait.write(into)?;
-        Ok(())
+        (
+            self.cpupri,
+            (self.limit, (self.upri, (self.left, self.wait))),
+        )
+            .write(into)
     }
 
     #[tactic(auto, unfolding(crate::specs::Reading::ts_at))]
@@ -153,11 +148,7 @@ impl Packed for FxState {
     ghost again = { fx_again };
 
     fn write(&self, into: &mut Vec<u64>) -> Result<(), AllocError> {
-        self.limit.write(into)?;
-        self.pri.write(into)?;
-        self.quantum.write(into)?;
-        self.left.write(into)?;
-        Ok(())
+        (self.limit, (self.pri, (self.quantum, self.left))).write(into)
     }
 
     #[tactic(auto, unfolding(crate::specs::Reading::fx_at))]
@@ -198,8 +189,7 @@ impl Packed for SysState {
     ghost again = { sys_again };
 
     fn write(&self, into: &mut Vec<u64>) -> Result<(), AllocError> {
-        self.pri.write(into)?;
-        Ok(())
+        self.pri.write(into)
     }
 
     #[tactic(auto, unfolding(crate::specs::Reading::sys_at))]
@@ -237,10 +227,7 @@ impl Packed for RtState {
     ghost again = { rt_again };
 
     fn write(&self, into: &mut Vec<u64>) -> Result<(), AllocError> {
-        self.pri.write(into)?;
-        self.quantum.write(into)?;
-        self.left.write(into)?;
-        Ok(())
+        (self.pri, (self.quantum, self.left)).write(into)
     }
 
     #[tactic(auto, unfolding(crate::specs::Reading::rt_at))]
@@ -269,24 +256,11 @@ impl Packed for ClassState {
 
     fn write(&self, into: &mut Vec<u64>) -> Result<(), AllocError> {
         match self {
-            ClassState::Ts(state) => {
-                into.push(0)?;
-                state.write(into)?;
-            }
-            ClassState::Fx(state) => {
-                into.push(1)?;
-                state.write(into)?;
-            }
-            ClassState::Sys(state) => {
-                into.push(2)?;
-                state.write(into)?;
-            }
-            ClassState::Rt(state) => {
-                into.push(3)?;
-                state.write(into)?;
-            }
+            ClassState::Ts(state) => (0u64, *state).write(into),
+            ClassState::Fx(state) => (1u64, *state).write(into),
+            ClassState::Sys(state) => (2u64, *state).write(into),
+            ClassState::Rt(state) => (3u64, *state).write(into),
         }
-        Ok(())
     }
 
     #[tactic(auto, unfolding(crate::specs::Reading::class_at))]

@@ -20,36 +20,14 @@ impl Packed for Duty {
 
     fn write(&self, into: &mut Vec<u64>) -> Result<(), AllocError> {
         match self {
-            Duty::Nothing => into.push(0)?,
-            Duty::Walk { lock, seek, key } => {
-                into.push(1)?;
-                lock.write(into)?;
-                seek.write(into)?;
-                key.write(into)?;
-            }
-            Duty::WakeMutex(lock) => {
-                into.push(2)?;
-                lock.write(into)?;
-            }
-            Duty::GrantWriter(lock) => {
-                into.push(3)?;
-                lock.write(into)?;
-            }
-            Duty::GrantReaders(lock) => {
-                into.push(4)?;
-                lock.write(into)?;
-            }
-            Duty::Rouse(chan, below) => {
-                into.push(5)?;
-                chan.write(into)?;
-                below.write(into)?;
-            }
-            Duty::Age(thread) => {
-                into.push(6)?;
-                thread.write(into)?;
-            }
+            Duty::Nothing => 0u64.write(into),
+            Duty::Walk { lock, seek, key } => (1u64, (*lock, (*seek, *key))).write(into),
+            Duty::WakeMutex(lock) => (2u64, *lock).write(into),
+            Duty::GrantWriter(lock) => (3u64, *lock).write(into),
+            Duty::GrantReaders(lock) => (4u64, *lock).write(into),
+            Duty::Rouse(chan, below) => (5u64, (*chan, *below)).write(into),
+            Duty::Age(thread) => (6u64, *thread).write(into),
         }
-        Ok(())
     }
 
     #[tactic(auto, unfolding(crate::specs::Reading::duty_at))]

@@ -21,22 +21,11 @@ impl Packed for LockState {
 
     fn write(&self, into: &mut Vec<u64>) -> Result<(), AllocError> {
         match self {
-            LockState::Free => into.push(0)?,
-            LockState::Owned(thread) => {
-                into.push(1)?;
-                thread.write(into)?;
-            }
-            LockState::ReadHeld(readers) => {
-                into.push(2)?;
-                readers.write(into)?;
-            }
-            LockState::Passing { cpu, readers } => {
-                into.push(3)?;
-                cpu.write(into)?;
-                readers.write(into)?;
-            }
+            LockState::Free => 0u64.write(into),
+            LockState::Owned(thread) => (1u64, *thread).write(into),
+            LockState::ReadHeld(readers) => (2u64, *readers).write(into),
+            LockState::Passing { cpu, readers } => (3u64, (*cpu, *readers)).write(into),
         }
-        Ok(())
     }
 
     #[tactic(auto, unfolding(crate::specs::Reading::lock_at))]

@@ -21,39 +21,14 @@ impl Packed for Place {
 
     fn write(&self, into: &mut Vec<u64>) -> Result<(), AllocError> {
         match self {
-            Place::Running(cpu) => {
-                into.push(0)?;
-                cpu.write(into)?;
-            }
-            Place::Queued(cpu, key) => {
-                into.push(1)?;
-                cpu.write(into)?;
-                key.write(into)?;
-            }
-            Place::RealTime(set, key) => {
-                into.push(2)?;
-                set.write(into)?;
-                key.write(into)?;
-            }
-            Place::Waiting(lock, side, key) => {
-                into.push(3)?;
-                lock.write(into)?;
-                side.write(into)?;
-                key.write(into)?;
-            }
-            Place::Asleep(chan, key) => {
-                into.push(4)?;
-                chan.write(into)?;
-                key.write(into)?;
-            }
-            Place::Napping(cpu, due) => {
-                into.push(5)?;
-                cpu.write(into)?;
-                due.write(into)?;
-            }
-            Place::Ended => into.push(6)?,
+            Place::Running(cpu) => (0u64, *cpu).write(into),
+            Place::Queued(cpu, key) => (1u64, (*cpu, *key)).write(into),
+            Place::RealTime(set, key) => (2u64, (*set, *key)).write(into),
+            Place::Waiting(lock, side, key) => (3u64, (*lock, (*side, *key))).write(into),
+            Place::Asleep(chan, key) => (4u64, (*chan, *key)).write(into),
+            Place::Napping(cpu, due) => (5u64, (*cpu, *due)).write(into),
+            Place::Ended => 6u64.write(into),
         }
-        Ok(())
     }
 
     #[tactic(auto, unfolding(crate::specs::Reading::place_at))]

@@ -302,8 +302,7 @@ impl<A: Packed + Copy, B: Packed + Copy> Packed for (A, B) {
 
     fn write(&self, into: &mut Vec<u64>) -> Result<(), AllocError> {
         self.0.write(into)?;
-        self.1.write(into)?;
-        Ok(())
+        self.1.write(into)
     }
 
     #[tactic(auto, unfolding(crate::specs::Reading::pair_at))]

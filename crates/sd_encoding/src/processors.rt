@@ -21,14 +21,11 @@ impl Packed for CpuState {
 
     #[tactic(auto, unfolding(crate::specs::Numbers::cpu))]
     fn write(&self, into: &mut Vec<u64>) -> Result<(), AllocError> {
-        self.count.write(into)?;
-        self.user.write(into)?;
-        self.kernel.write(into)?;
-        self.duty.write(into)?;
-        self.set.write(into)?;
-        self.closing.write(into)?;
-        self.bound.write(into)?;
-        Ok(())
+        (
+            (self.count, (self.user, self.kernel)),
+            (self.duty, (self.set, (self.closing, self.bound))),
+        )
+            .write(into)
     }
 
     #[tactic(auto, unfolding(crate::specs::Reading::cpu_at))]

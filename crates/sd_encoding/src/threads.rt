@@ -82,8 +82,7 @@ impl Packed for ThreadState {
     #[tactic(auto, unfolding(crate::specs::Numbers::thread))]
     fn write(&self, into: &mut Vec<u64>) -> Result<(), AllocError> {
         self.body.write(into)?;
-        self.place.write(into)?;
-        Ok(())
+        self.place.write(into)
     }
 
     #[tactic(auto, unfolding(crate::specs::Reading::thread_at))]

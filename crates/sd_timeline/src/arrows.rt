@@ -3,9 +3,10 @@
 ghost use Rattle.std.specs.Prelude.{◌≡◌, ◌++◌, ◌∷◌, [], IfOk, OnOk, flat_map, if◌then◌else◌};
 ghost use Rattle.sd_timeline.specs.Arrows.{arrow_start, drawn_hands, hand_path, hand_rows, hand_text, hand_texts, hand_title, has_row, has_row_if, heights, is_drawn_hand, is_drawn_wake, nth_at, waiter_text, wake_by, wake_path, wake_rows, wake_text, wake_title};
 
+use crate::parts::{Part, put_parts};
 use crate::pieces::{put_path_end, put_path_start};
 use sd_layout::{Layout, Row};
-use sd_stretches::{Doing, HandOver, History, Wakeup, put_counted, put_doing, thread_name};
+use sd_stretches::{Doing, HandOver, History, Wakeup, put_doing, thread_name};
 use sd_types::Work;
 use std::alloc::{AllocError, Global};
 
@@ -14,10 +15,14 @@ use std::alloc::{AllocError, Global};
 fn put_waiter(work: &Work, x: &HandOver, waiter: usize, out: &mut Vec<u8>) -> Result<(), AllocError>
     ensures { OnOk result (out.new.items ≡ out.old.items ++ waiter_text work.now x.now waiter) }
 {
-    put_counted(b"entry ", x.entry, out)?;
-    out.extend_from_slice(b": ")?;
-    out.extend_from_slice(thread_name(work, waiter))?;
-    out.extend_from_slice(b" ")?;
+    let parts = [
+        Part::Text(b"entry "),
+        Part::Number(x.entry),
+        Part::Text(b": "),
+        Part::Text(thread_name(work, waiter)),
+        Part::Text(b" "),
+    ];
+    put_parts(&parts, out)?;
     put_doing(work, Doing::Waiting(x.lock), out)
 }
 
@@ -32,9 +37,13 @@ fn put_hand_title(
     ensures { OnOk result (out.new.items ≡ out.old.items ++ hand_title work.now x.now waiter) }
 {
     put_waiter(work, x, waiter, out)?;
-    out.extend_from_slice(b", so ")?;
-    out.extend_from_slice(thread_name(work, x.owner.0 as usize))?;
-    put_counted(b" has ", u64::from(x.priority), out)
+    let parts = [
+        Part::Text(b", so "),
+        Part::Text(thread_name(work, x.owner.0 as usize)),
+        Part::Text(b" has "),
+        Part::Number(x.priority as u64),
+    ];
+    put_parts(&parts, out)
 }
 
 // From which height to which an arrow goes from the bar of one thread to that of another.
@@ -198,11 +207,15 @@ fn put_wake_title(
 ) -> Result<(), AllocError>
     ensures { OnOk result (out.new.items ≡ out.old.items ++ wake_title work.now x.now waker) }
 {
-    put_counted(b"entry ", x.entry, out)?;
-    out.extend_from_slice(b": ")?;
-    out.extend_from_slice(thread_name(work, waker))?;
-    out.extend_from_slice(b" wakes ")?;
-    out.extend_from_slice(thread_name(work, x.woken.0 as usize))
+    let parts = [
+        Part::Text(b"entry "),
+        Part::Number(x.entry),
+        Part::Text(b": "),
+        Part::Text(thread_name(work, waker)),
+        Part::Text(b" wakes "),
+        Part::Text(thread_name(work, x.woken.0 as usize)),
+    ];
+    put_parts(&parts, out)
 }
 
 #[tactic(auto, unfolding(crate::specs::Arrows::wake_path))]

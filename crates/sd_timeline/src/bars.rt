@@ -3,6 +3,7 @@
 ghost use Rattle.std.specs.Prelude.{◌≡◌, ◌++◌, OnOk, flat_map};
 ghost use Rattle.sd_timeline.specs.Bars.{bar_text, between, cpu_word, doing_class, fits, has_name, has_number, on_bar, place_text, run_bar, stretch_bar, stretch_title, times_text, word_text};
 
+use crate::parts::{Part, put_parts};
 use crate::pieces::{put_bar_end, put_bar_start, put_number_label, put_word_label};
 use sd_layout::{Layout, Row};
 use sd_stretches::{Doing, Stretch, chan_name, lock_name, put_counted, put_doing, thread_name};
@@ -25,16 +26,16 @@ fn doing_class(doing: Doing) -> &'static [u8]
 
 // From one number to another.
 #[tactic(auto, unfolding(crate::specs::Bars::between))]
-pub(crate) fn put_between(
-    word: &[u8],
-    from: u64,
-    to: u64,
-    out: &mut Vec<u8>,
-) -> Result<(), AllocError>
+fn put_between(word: &[u8], from: u64, to: u64, out: &mut Vec<u8>) -> Result<(), AllocError>
     ensures { OnOk result (out.new.items ≡ out.old.items ++ between word.now from to) }
 {
-    put_counted(word, from, out)?;
-    put_counted(b" to ", to, out)
+    let parts = [
+        Part::Text(word),
+        Part::Number(from),
+        Part::Text(b" to "),
+        Part::Number(to),
+    ];
+    put_parts(&parts, out)
 }
 
 // Its ticks.
@@ -60,8 +61,10 @@ fn put_place(x: &Stretch, out: &mut Vec<u8>) -> Result<(), AllocError>
 pub(crate) fn put_title(work: &Work, x: &Stretch, out: &mut Vec<u8>) -> Result<(), AllocError>
     ensures { OnOk result (out.new.items ≡ out.old.items ++ stretch_title work.now x.now) }
 {
-    out.extend_from_slice(thread_name(work, x.thread))?;
-    out.extend_from_slice(b": ")?;
+    put_parts(
+        &[Part::Text(thread_name(work, x.thread)), Part::Text(b": ")],
+        out,
+    )?;
     put_doing(work, x.doing, out)?;
     put_place(x, out)
 }

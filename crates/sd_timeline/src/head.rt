@@ -3,11 +3,10 @@
 ghost use Rattle.std.specs.Prelude.{◌≡◌, ◌+◌, ◌++◌, ◌<◌, ◌≤◌, ◌^◌, OnOk, codes, decimal, flat_map};
 ghost use Rattle.std.specs.List.{range_with_len};
 ghost use Rattle.sd_layout.specs.Layouts.{axes, shown};
-ghost use Rattle.sd_timeline.specs.Head.{axis, bound_label, counts_text, cpu_head, dark_colours, description, file_title, fold_marks, hatch, head, heading, hint, inner_number, letters, light_colours, lines, mark, mark_if, measures, opened, page, rowless, rowless_text, set_label, size, small_letters, start, style, thin_lines, thread_head, ticks_text, view_box};
+ghost use Rattle.sd_timeline.specs.Head.{axis, bound_label, counts_text, cpu_head, description, file_title, fold_marks, hatch, head, heading, hint, inner_number, mark, mark_if, measures, opened, page, rowless, rowless_text, set_label, size, start, style, thread_head, ticks_text, view_box};
 
-use crate::pieces::{
-    put_attribute, put_label_end, put_label_start, put_line, put_number_label, put_word_label,
-};
+use crate::parts::{Part, put_parts};
+use crate::pieces::{put_label_end, put_label_start, put_line, put_number_label, put_word_label};
 use sd_layout::{Column, Layout, Row};
 use sd_rules::set_of_cpu;
 use sd_stretches::{put_counted, set_name, thread_name};
@@ -23,12 +22,18 @@ fn put_view_box(width: u64, height: u64, out: &mut Vec<u8>) -> Result<(), AllocE
     out.extend_from_slice(b"\">\n")
 }
 
-#[tactic(auto, unfolding(crate::specs::Head::measures))]
+#[tactic(auto, unfolding(crate::specs::Head::measures, crate::specs::Pieces::attribute))]
 fn put_measures(width: u64, height: u64, out: &mut Vec<u8>) -> Result<(), AllocError>
     ensures { OnOk result (out.new.items ≡ out.old.items ++ measures width height) }
 {
-    put_attribute(b"width", width, out)?;
-    put_attribute(b"height", height, out)?;
+    let parts = [
+        Part::Text(b" width=\""),
+        Part::Number(width),
+        Part::Text(b"\" height=\""),
+        Part::Number(height),
+        Part::Text(b"\""),
+    ];
+    put_parts(&parts, out)?;
     put_view_box(width, height, out)
 }
 
@@ -39,98 +44,6 @@ fn put_size(layout: &Layout, out: &mut Vec<u8>) -> Result<(), AllocError>
     put_measures(layout.total_width(), layout.bottom() + 26, out)
 }
 
-// The colours of what threads do, which differ in grey too.
-#[tactic(auto, unfolding(crate::specs::Head::dark_colours))]
-fn put_dark_colours(out: &mut Vec<u8>) -> Result<(), AllocError>
-    ensures { OnOk result (out.new.items ≡ out.old.items ++ dark_colours) }
-{
-    out.extend_from_slice(
-        b".run{fill:#0f2c47;stroke:#fff}\n.spin{fill:url(#hatch)}\n.wait{fill:#cd463c}\n.sleep{fill:#649c94}\n",
-    )
-}
-
-#[tactic(auto, unfolding(crate::specs::Head::light_colours))]
-fn put_light_colours(out: &mut Vec<u8>) -> Result<(), AllocError>
-    ensures { OnOk result (out.new.items ≡ out.old.items ++ light_colours) }
-{
-    out.extend_from_slice(
-        b".ready{fill:#f6b73c}\n.nap{fill:#dfdfee}\n.end{fill:#fff;stroke:#aaa}\n.page{fill:#fff;stroke:none}\n.level{fill:none;stroke:none;pointer-events:all}\n",
-    )
-}
-
-// The letters and lines.
-#[tactic(auto, unfolding(crate::specs::Head::letters))]
-fn put_letters(out: &mut Vec<u8>) -> Result<(), AllocError>
-    ensures { OnOk result (out.new.items ≡ out.old.items ++ letters) }
-{
-    out.extend_from_slice(
-        b"text{font:11px sans-serif;fill:#000}\n.head{font-weight:bold}\n.name{text-anchor:end}\n.tick{text-anchor:middle}\n",
-    )
-}
-
-// The priorities stand on a white edge, so that they can be read where an arrow passes behind them.
-#[tactic(auto, unfolding(crate::specs::Head::small_letters))]
-fn put_small_letters(out: &mut Vec<u8>) -> Result<(), AllocError>
-    ensures { OnOk result (out.new.items ≡ out.old.items ++ small_letters) }
-{
-    out.extend_from_slice(
-        b".on,.in,.own,.inherited{font-size:10px}\n.note{font-size:8px}\n.closes{text-anchor:end}\n.on{fill:#fff;paint-order:stroke;stroke:#0f2c47;stroke-width:2px}\n.own,.inherited{paint-order:stroke;stroke:#fff;stroke-width:3px}\n.inherited,.dead{font-weight:bold;fill:#a3160c}\n",
-    )
-}
-
-#[tactic(auto, unfolding(crate::specs::Head::lines))]
-fn put_lines(out: &mut Vec<u8>) -> Result<(), AllocError>
-    ensures { OnOk result (out.new.items ≡ out.old.items ++ lines) }
-{
-    out.extend_from_slice(
-        b"rect{stroke:#333;stroke-width:.5}\n.grid{stroke:#ccc}\n.base{stroke:#888}\n.will{fill:none;stroke:#000;stroke-width:1.5;marker-end:url(#tip)}\n",
-    )
-}
-
-// Thin lines, and those of threads that run within a tick.
-#[tactic(auto, unfolding(crate::specs::Head::thin_lines))]
-fn put_thin_lines(out: &mut Vec<u8>) -> Result<(), AllocError>
-    ensures { OnOk result (out.new.items ≡ out.old.items ++ thin_lines) }
-{
-    out.extend_from_slice(
-        b".wake{fill:none;stroke:#777;stroke-width:.8;marker-end:url(#tip)}\n.moment{stroke:#0f2c47;stroke-width:2}\n",
-    )
-}
-
-#[tactic(auto, unfolding(crate::specs::Head::style))]
-fn put_style(out: &mut Vec<u8>) -> Result<(), AllocError>
-    ensures { OnOk result (out.new.items ≡ out.old.items ++ style) }
-{
-    out.extend_from_slice(b"<style>\n")?;
-    put_lines(out)?;
-    put_thin_lines(out)?;
-    put_dark_colours(out)?;
-    put_light_colours(out)?;
-    put_letters(out)?;
-    put_small_letters(out)?;
-    out.extend_from_slice(b"</style>\n")
-}
-
-// The pattern of the bars of threads that spin: dark stripes, which grey shows too.
-#[tactic(auto, unfolding(crate::specs::Head::hatch))]
-fn put_hatch(out: &mut Vec<u8>) -> Result<(), AllocError>
-    ensures { OnOk result (out.new.items ≡ out.old.items ++ hatch) }
-{
-    out.extend_from_slice(
-        b"<defs><pattern id=\"hatch\" width=\"6\" height=\"6\" patternUnits=\"userSpaceOnUse\"><path fill=\"#a066b8\" d=\"M0 0H6V6H0z\"/><path stroke=\"#2a0f36\" stroke-width=\"2\" d=\"M-1 1L1 -1M0 6L6 0M5 7L7 5\"/></pattern></defs>\n",
-    )
-}
-
-// The head of an arrow, and the white page.
-#[tactic(auto, unfolding(crate::specs::Head::page))]
-fn put_page(out: &mut Vec<u8>) -> Result<(), AllocError>
-    ensures { OnOk result (out.new.items ≡ out.old.items ++ page) }
-{
-    out.extend_from_slice(
-        b"<defs><marker id=\"tip\" markerWidth=\"5\" markerHeight=\"5\" refX=\"5\" refY=\"2.5\" orient=\"auto\"><path d=\"M0 0L5 2.5L0 5z\"/></marker></defs>\n<rect class=\"page\" width=\"100%\" height=\"100%\"/>\n",
-    )
-}
-
 #[tactic(auto, unfolding(crate::specs::Head::opened))]
 fn put_opened(out: &mut Vec<u8>) -> Result<(), AllocError>
     ensures { OnOk result (out.new.items ≡ out.old.items ++ opened) }
@@ -138,16 +51,44 @@ fn put_opened(out: &mut Vec<u8>) -> Result<(), AllocError>
     out.extend_from_slice(b"<svg xmlns=\"http://www.w3.org/2000/svg\"")
 }
 
+// The lines, the colours of what threads do, which differ in grey too, and the letters. The priorities stand on a white edge, so that they can
+// be read where an arrow passes behind them.
+#[tactic(auto, unfolding(crate::specs::Head::style, crate::specs::Head::lines, crate::specs::Head::thin_lines, crate::specs::Head::dark_colours, crate::specs::Head::light_colours, crate::specs::Head::letters, crate::specs::Head::small_letters))]
+fn put_style(out: &mut Vec<u8>) -> Result<(), AllocError>
+    ensures { OnOk result (out.new.items ≡ out.old.items ++ style) }
+{
+    out.extend_from_slice(
+        b"<style>\nrect{stroke:#333;stroke-width:.5}\n.grid{stroke:#ccc}\n.base{stroke:#888}\n.will{fill:none;stroke:#000;stroke-width:1.5;marker-end:url(#tip)}\n.wake{fill:none;stroke:#777;stroke-width:.8;marker-end:url(#tip)}\n.moment{stroke:#0f2c47;stroke-width:2}\n.run{fill:#0f2c47;stroke:#fff}\n.spin{fill:url(#hatch)}\n.wait{fill:#cd463c}\n.sleep{fill:#649c94}\n.ready{fill:#f6b73c}\n.nap{fill:#dfdfee}\n.end{fill:#fff;stroke:#aaa}\n.page{fill:#fff;stroke:none}\n.level{fill:none;stroke:none;pointer-events:all}\ntext{font:11px sans-serif;fill:#000}\n.head{font-weight:bold}\n.name{text-anchor:end}\n.tick{text-anchor:middle}\n.on,.in,.own,.inherited{font-size:10px}\n.note{font-size:8px}\n.closes{text-anchor:end}\n.on{fill:#fff;paint-order:stroke;stroke:#0f2c47;stroke-width:2px}\n.own,.inherited{paint-order:stroke;stroke:#fff;stroke-width:3px}\n.inherited,.dead{font-weight:bold;fill:#a3160c}\n</style>\n",
+    )
+}
+
+// The pattern of the bars of threads that spin, which are dark stripes, so that grey shows them too; the head of an arrow; and the white page.
+#[tactic(auto, unfolding(crate::specs::Head::hatch, crate::specs::Head::page))]
+fn put_page(out: &mut Vec<u8>) -> Result<(), AllocError>
+    ensures { OnOk result (out.new.items ≡ out.old.items ++ (hatch ++ page)) }
+{
+    out.extend_from_slice(
+        b"<defs><pattern id=\"hatch\" width=\"6\" height=\"6\" patternUnits=\"userSpaceOnUse\"><path fill=\"#a066b8\" d=\"M0 0H6V6H0z\"/><path stroke=\"#2a0f36\" stroke-width=\"2\" d=\"M-1 1L1 -1M0 6L6 0M5 7L7 5\"/></pattern></defs>\n<defs><marker id=\"tip\" markerWidth=\"5\" markerHeight=\"5\" refX=\"5\" refY=\"2.5\" orient=\"auto\"><path d=\"M0 0L5 2.5L0 5z\"/></marker></defs>\n<rect class=\"page\" width=\"100%\" height=\"100%\"/>\n",
+    )
+}
+
 // Which ticks are drawn, of how many.
 #[tactic(auto, unfolding(crate::specs::Head::ticks_text))]
 fn put_ticks(work: &Work, layout: &Layout, out: &mut Vec<u8>) -> Result<(), AllocError>
     ensures { OnOk result (out.new.items ≡ out.old.items ++ ticks_text work.now layout.now) }
 {
-    put_counted(b"ticks ", u64::from(layout.from), out)?;
-    put_counted(b" to ", u64::from(layout.to), out)?;
-    put_counted(b" of ", u64::from(work.limit), out)?;
-    put_counted(b", ", u64::from(work.hz), out)?;
-    out.extend_from_slice(b" in a second")
+    let parts = [
+        Part::Text(b"ticks "),
+        Part::Number(layout.from as u64),
+        Part::Text(b" to "),
+        Part::Number(layout.to as u64),
+        Part::Text(b" of "),
+        Part::Number(work.limit as u64),
+        Part::Text(b", "),
+        Part::Number(work.hz as u64),
+        Part::Text(b" in a second"),
+    ];
+    put_parts(&parts, out)
 }
 
 // How many threads and processors the workload has.
@@ -156,8 +97,13 @@ fn put_counts(work: &Work, out: &mut Vec<u8>) -> Result<(), AllocError>
     ensures { OnOk result (out.new.items ≡ out.old.items ++ counts_text work.now) }
 {
     let threads = work.threads.items().len();
-    put_counted(b"threads: ", threads as u64, out)?;
-    put_counted(b", processors: ", u64::from(work.cpus), out)
+    let parts = [
+        Part::Text(b"threads: "),
+        Part::Number(threads as u64),
+        Part::Text(b", processors: "),
+        Part::Number(work.cpus as u64),
+    ];
+    put_parts(&parts, out)
 }
 
 // The title of the file, for readers of screens.
@@ -190,7 +136,6 @@ fn put_start(work: &Work, layout: &Layout, out: &mut Vec<u8>) -> Result<(), Allo
     put_file_title(work, out)?;
     put_description(work, layout, out)?;
     put_style(out)?;
-    put_hatch(out)?;
     put_page(out)
 }
 
@@ -383,7 +328,7 @@ fn put_cpu_heads(work: &Work, layout: &Layout, out: &mut Vec<u8>) -> Result<(), 
 }
 
 /// The name of a thread at its row.
-#[tactic(auto, unfolding(crate::specs::Head::thread_head))]
+#[tactic(auto, unfolding(crate::specs::Head::thread_head, crate::specs::Pieces::word_label))]
 pub(crate) fn put_thread_head(
     work: &Work,
     layout: &Layout,
@@ -393,9 +338,13 @@ pub(crate) fn put_thread_head(
 ) -> Result<(), AllocError>
     ensures { OnOk result (out.new.items ≡ out.old.items ++ thread_head work.now layout.now row t) }
 {
-    put_label_start(b"name", 142, layout.base(Row::Thread(row)), out)?;
-    out.extend_from_slice(thread_name(work, t))?;
-    put_label_end(out)
+    put_word_label(
+        b"name",
+        142,
+        layout.base(Row::Thread(row)),
+        thread_name(work, t),
+        out,
+    )
 }
 
 /// To which processor a thread is bound, under its name.

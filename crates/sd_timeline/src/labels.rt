@@ -1,12 +1,12 @@
 //! The priorities above the bars, and the marks of deadlocks.
 
 ghost use Rattle.std.specs.Prelude.{◌≡◌, ◌++◌, ◌∷◌, [], IfOk, OnOk, filter, flat_map, if◌then◌else◌};
-ghost use Rattle.sd_timeline.specs.Labels.{fold_text, fold_title, has_room, inherited_level, inherited_word, labelled, labelled_by, level_area, level_label, level_text, level_title, many_text, mark_text, own_level, some_level};
+ghost use Rattle.sd_timeline.specs.Labels.{fold_text, fold_title, has_room, inherited_level, inherited_word, labelled, labelled_by, level_area, level_label, level_text, level_title, mark_text, own_level, some_level};
 
-use crate::bars::put_between;
+use crate::parts::{Part, put_parts};
 use crate::pieces::{put_bar_end, put_bar_start, put_number_label, put_word_label};
 use sd_layout::{Column, Layout, Row};
-use sd_stretches::{History, Level, levels, put_counted};
+use sd_stretches::{History, Level, levels};
 use sd_types::Work;
 use std::alloc::{AllocError, Global};
 
@@ -135,13 +135,20 @@ fn inherited_word(inherited: bool) -> &'static [u8]
 }
 
 // What is shown where the pointer rests on a priority.
-#[tactic(auto, unfolding(crate::specs::Labels::level_title))]
+#[tactic(auto, unfolding(crate::specs::Labels::level_title, crate::specs::Bars::between))]
 fn put_level_title(x: &Level, out: &mut Vec<u8>) -> Result<(), AllocError>
     ensures { OnOk result (out.new.items ≡ out.old.items ++ level_title x.now) }
 {
-    put_counted(b"priority ", u64::from(x.priority), out)?;
-    out.extend_from_slice(inherited_word(x.inherited))?;
-    put_between(b", ticks ", u64::from(x.from), u64::from(x.to), out)
+    let parts = [
+        Part::Text(b"priority "),
+        Part::Number(x.priority as u64),
+        Part::Text(inherited_word(x.inherited)),
+        Part::Text(b", ticks "),
+        Part::Number(x.from as u64),
+        Part::Text(b" to "),
+        Part::Number(x.to as u64),
+    ];
+    put_parts(&parts, out)
 }
 
 // The place of a priority, which shows it where the pointer rests, also where there is no room for it.
@@ -187,20 +194,20 @@ pub(crate) fn put_levels(
     Ok(())
 }
 
-#[tactic(auto, unfolding(crate::specs::Labels::many_text))]
-fn put_many(n: u64, out: &mut Vec<u8>) -> Result<(), AllocError>
-    ensures { OnOk result (out.new.items ≡ out.old.items ++ many_text n) }
-{
-    put_counted(b"nothing changes in these ticks: ", n, out)
-}
-
 // How many ticks are folded, and which.
-#[tactic(auto, unfolding(crate::specs::Labels::fold_title))]
+#[tactic(auto, unfolding(crate::specs::Labels::fold_title, crate::specs::Labels::many_text, crate::specs::Bars::between))]
 fn put_fold_title(x: &Column, out: &mut Vec<u8>) -> Result<(), AllocError>
     ensures { OnOk result (out.new.items ≡ out.old.items ++ fold_title x.now) }
 {
-    put_many(x.many(), out)?;
-    put_between(b", ", u64::from(x.from), u64::from(x.to), out)
+    let parts = [
+        Part::Text(b"nothing changes in these ticks: "),
+        Part::Number(x.many()),
+        Part::Text(b", "),
+        Part::Number(x.from as u64),
+        Part::Text(b" to "),
+        Part::Number(x.to as u64),
+    ];
+    put_parts(&parts, out)
 }
 
 // A gap across the rows, which tells how many ticks are folded.

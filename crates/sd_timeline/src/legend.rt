@@ -10,7 +10,8 @@ use crate::arrows::{drawn_hands, has_row, is_drawn_wake};
 use crate::bars::{fits, has_name, has_number};
 use crate::labels::labelled;
 use crate::moments::{drawn_pieces, is_moment};
-use crate::pieces::{put_bar_end, put_bar_start, put_path_end, put_path_start, put_word_label};
+use crate::parts::{Part, put_parts};
+use crate::pieces::{put_bar_start, put_path_start, put_word_label};
 use sd_layout::Layout;
 use sd_stretches::{Doing, HandOver, History, Level, Stretch, Wakeup, thread_name};
 use sd_types::Work;
@@ -361,8 +362,7 @@ fn put_box_key(
     ensures key { OnOk result (out.new.items ≡ out.old.items ++ box_key class.now x y words.now) }
 {
     put_bar_start(class, x, y, 24, 12, out)?;
-    out.extend_from_slice(words)?;
-    put_bar_end(out)?;
+    put_parts(&[Part::Text(words), Part::Text(b"</title></rect>\n")], out)?;
     put_word_label(b"key", x + 30, y + 10, words, out)
 }
 
@@ -397,8 +397,7 @@ fn put_line_key(
     ensures key { OnOk result (out.new.items ≡ out.old.items ++ line_key class.now x y words.now) }
 {
     put_path_start(class, x + 12, (y, y + 14), out)?;
-    out.extend_from_slice(words)?;
-    put_path_end(out)?;
+    put_parts(&[Part::Text(words), Part::Text(b"</title></path>\n")], out)?;
     put_word_label(b"key", x + 30, y + 10, words, out)
 }
 

@@ -12,6 +12,7 @@ mod laws;
 mod legend;
 mod moments;
 mod notes;
+mod parts;
 mod picture;
 mod pieces;
 

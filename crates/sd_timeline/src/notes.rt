@@ -2,26 +2,19 @@
 //!
 //! Source: psrset(1M), pbind(1M).
 
-ghost use Rattle.std.specs.Prelude.{◌≡◌, ◌++◌, OnOk, flat_map};
-ghost use Rattle.sd_timeline.specs.Notes.{assign_note, bind_note, bound_words, note_by, note_text, set_note, set_words, thread_note};
+ghost use Rattle.std.specs.Prelude.{◌≡◌, ◌++◌, OnOk, codes, flat_map};
+ghost use Rattle.sd_timeline.specs.Pieces.{label_end, label_start};
+ghost use Rattle.sd_timeline.specs.Notes.{assign_note, bind_note, bound_words, note_by, note_text, set_note, thread_note};
 
-use crate::pieces::{put_label_end, put_label_start};
+use crate::parts::Part;
+use crate::pieces::{put_label, put_number_label, put_word_label};
 use sd_layout::{Layout, Row};
-use sd_stretches::{Happening, put_counted, set_name};
+use sd_stretches::{Happening, set_name};
 use sd_types::{AssignAnswer, BindAnswer, CpuId, Event, SetId, ThreadId, Work};
 use std::alloc::AllocError;
 
-// A word and the name of a set.
-#[tactic(auto, unfolding(crate::specs::Notes::set_words))]
-fn put_set_words(word: &[u8], set: &[u8], out: &mut Vec<u8>) -> Result<(), AllocError>
-    ensures { OnOk result (out.new.items ≡ out.old.items ++ set_words word.now set.now) }
-{
-    out.extend_from_slice(word)?;
-    out.extend_from_slice(set)
-}
-
 // A word with a set, under the row of a processor.
-#[tactic(auto, unfolding(crate::specs::Notes::set_note))]
+#[tactic(auto, unfolding(crate::specs::Notes::set_note, crate::specs::Notes::set_words))]
 fn put_set_note(
     class: &[u8],
     work: &Work,
@@ -34,9 +27,13 @@ fn put_set_note(
 ) -> Result<(), AllocError>
     ensures { OnOk result (out.new.items ≡ out.old.items ++ set_note class.now work.now layout.now tick c word.now set) }
 {
-    put_label_start(class, layout.column(tick), layout.under(Row::Cpu(c.0)), out)?;
-    put_set_words(word, set_name(work, set), out)?;
-    put_label_end(out)
+    put_label(
+        class,
+        layout.column(tick),
+        layout.under(Row::Cpu(c.0)),
+        &[Part::Text(word), Part::Text(set_name(work, set))],
+        out,
+    )
 }
 
 // Where a processor begins to close for a set.
@@ -66,14 +63,14 @@ fn put_assign_note(
     }
 }
 
-// To which processor a thread is bound.
-#[tactic(auto, unfolding(crate::specs::Notes::bound_words))]
-fn put_bound_words(cpu: Option<CpuId>, out: &mut Vec<u8>) -> Result<(), AllocError>
-    ensures { OnOk result (out.new.items ≡ out.old.items ++ bound_words cpu) }
+// To which processor a thread is bound, under its row.
+#[tactic(auto, unfolding(crate::specs::Notes::bound_words, crate::specs::Pieces::word_label, crate::specs::Pieces::number_label))]
+fn put_bound_note(x: u64, y: u64, cpu: Option<CpuId>, out: &mut Vec<u8>) -> Result<(), AllocError>
+    ensures { OnOk result (out.new.items ≡ out.old.items ++ (label_start (codes "note") x y ++ bound_words cpu ++ label_end)) }
 {
     match cpu {
-        Some(c) => put_counted(b"&#9652;bound to ", u64::from(c.0), out),
-        None => out.extend_from_slice(b"&#9652;not bound"),
+        Some(c) => put_number_label(b"note", x, y, b"&#9652;bound to ", u64::from(c.0), out),
+        None => put_word_label(b"note", x, y, b"&#9652;not bound", out),
     }
 }
 
@@ -88,16 +85,7 @@ fn put_thread_note(
     ensures { OnOk result (out.new.items ≡ out.old.items ++ thread_note layout.now tick cpu row) }
 {
     match row {
-        Some(t) => {
-            put_label_start(
-                b"note",
-                layout.column(tick),
-                layout.under(Row::Thread(t)),
-                out,
-            )?;
-            put_bound_words(cpu, out)?;
-            put_label_end(out)
-        }
+        Some(t) => put_bound_note(layout.column(tick), layout.under(Row::Thread(t)), cpu, out),
         None => Ok(()),
     }
 }

@@ -1,38 +1,15 @@
 //! The pieces of which the picture is made. Each function appends a text. Where memory runs out it may have appended a part
 //! of it.
 
-ghost use Rattle.std.specs.Prelude.{◌≡◌, ◌++◌, OnOk};
-ghost use Rattle.sd_timeline.specs.Pieces.{attribute, bar_end, bar_start, box_text, ends_text, grid_line, label_end, label_start, number_label, path_end, path_ends, path_start, word_label};
+ghost use Rattle.std.specs.Prelude.{◌≡◌, ◌++◌, OnOk, flat_map};
+ghost use Rattle.sd_timeline.specs.Parts.{part_text};
+ghost use Rattle.sd_timeline.specs.Pieces.{bar_end, bar_start, grid_line, label_end, label_start, number_label, path_end, path_start, word_label};
 
-use sd_stretches::put_counted;
-use sd_text::put_number;
+use crate::parts::{Part, put_parts};
 use std::alloc::AllocError;
 
-/// ` x="7"`
-#[tactic(auto, unfolding(crate::specs::Pieces::attribute))]
-pub(crate) fn put_attribute(name: &[u8], n: u64, out: &mut Vec<u8>) -> Result<(), AllocError>
-    ensures { OnOk result (out.new.items ≡ out.old.items ++ attribute name.now n) }
-{
-    out.extend_from_slice(b" ")?;
-    out.extend_from_slice(name)?;
-    out.extend_from_slice(b"=\"")?;
-    put_number(out, n)?;
-    out.extend_from_slice(b"\"")
-}
-
-// ` x=".." y=".." width=".." height=".."`
-#[tactic(auto, unfolding(crate::specs::Pieces::box_text))]
-fn put_box(x: u64, y: u64, width: u64, height: u64, out: &mut Vec<u8>) -> Result<(), AllocError>
-    ensures { OnOk result (out.new.items ≡ out.old.items ++ box_text x y width height) }
-{
-    put_attribute(b"x", x, out)?;
-    put_attribute(b"y", y, out)?;
-    put_attribute(b"width", width, out)?;
-    put_attribute(b"height", height, out)
-}
-
 /// `<rect class=".." x=".." y=".." width=".." height=".."><title>`, to which the words that are shown on it are appended.
-#[tactic(auto, unfolding(crate::specs::Pieces::bar_start))]
+#[tactic(auto, unfolding(crate::specs::Pieces::bar_start, crate::specs::Pieces::box_text, crate::specs::Pieces::attribute))]
 pub(crate) fn put_bar_start(
     class: &[u8],
     x: u64,
@@ -43,11 +20,20 @@ pub(crate) fn put_bar_start(
 ) -> Result<(), AllocError>
     ensures { OnOk result (out.new.items ≡ out.old.items ++ bar_start class.now x y width height) }
 {
-    out.extend_from_slice(b"<rect class=\"")?;
-    out.extend_from_slice(class)?;
-    out.extend_from_slice(b"\"")?;
-    put_box(x, y, width, height, out)?;
-    out.extend_from_slice(b"><title>")
+    let parts = [
+        Part::Text(b"<rect class=\""),
+        Part::Text(class),
+        Part::Text(b"\" x=\""),
+        Part::Number(x),
+        Part::Text(b"\" y=\""),
+        Part::Number(y),
+        Part::Text(b"\" width=\""),
+        Part::Number(width),
+        Part::Text(b"\" height=\""),
+        Part::Number(height),
+        Part::Text(b"\"><title>"),
+    ];
+    put_parts(&parts, out)
 }
 
 /// `</title></rect>`
@@ -58,7 +44,7 @@ pub(crate) fn put_bar_end(out: &mut Vec<u8>) -> Result<(), AllocError>
 }
 
 /// `<text class=".." x=".." y="..">`
-#[tactic(auto, unfolding(crate::specs::Pieces::label_start))]
+#[tactic(auto, unfolding(crate::specs::Pieces::label_start, crate::specs::Pieces::attribute))]
 pub(crate) fn put_label_start(
     class: &[u8],
     x: u64,
@@ -67,12 +53,16 @@ pub(crate) fn put_label_start(
 ) -> Result<(), AllocError>
     ensures { OnOk result (out.new.items ≡ out.old.items ++ label_start class.now x y) }
 {
-    out.extend_from_slice(b"<text class=\"")?;
-    out.extend_from_slice(class)?;
-    out.extend_from_slice(b"\"")?;
-    put_attribute(b"x", x, out)?;
-    put_attribute(b"y", y, out)?;
-    out.extend_from_slice(b">")
+    let parts = [
+        Part::Text(b"<text class=\""),
+        Part::Text(class),
+        Part::Text(b"\" x=\""),
+        Part::Number(x),
+        Part::Text(b"\" y=\""),
+        Part::Number(y),
+        Part::Text(b"\">"),
+    ];
+    put_parts(&parts, out)
 }
 
 /// `</text>`
@@ -80,6 +70,21 @@ pub(crate) fn put_label_end(out: &mut Vec<u8>) -> Result<(), AllocError>
     ensures { OnOk result (out.new.items ≡ out.old.items ++ label_end) }
 {
     out.extend_from_slice(b"</text>\n")
+}
+
+/// A label with these words.
+pub(crate) fn put_label(
+    class: &[u8],
+    x: u64,
+    y: u64,
+    words: &[Part],
+    out: &mut Vec<u8>,
+) -> Result<(), AllocError>
+    ensures { OnOk result (out.new.items ≡ out.old.items ++ (label_start class.now x y ++ flat_map part_text words.now ++ label_end)) }
+{
+    put_label_start(class, x, y, out)?;
+    put_parts(words, out)?;
+    put_label_end(out)
 }
 
 /// A label with a word.
@@ -93,9 +98,7 @@ pub(crate) fn put_word_label(
 ) -> Result<(), AllocError>
     ensures { OnOk result (out.new.items ≡ out.old.items ++ word_label class.now x y word.now) }
 {
-    put_label_start(class, x, y, out)?;
-    out.extend_from_slice(word)?;
-    put_label_end(out)
+    put_label(class, x, y, &[Part::Text(word)], out)
 }
 
 /// A label with a word and a number behind it.
@@ -110,24 +113,11 @@ pub(crate) fn put_number_label(
 ) -> Result<(), AllocError>
     ensures { OnOk result (out.new.items ≡ out.old.items ++ number_label class.now x y word.now n) }
 {
-    put_label_start(class, x, y, out)?;
-    put_counted(word, n, out)?;
-    put_label_end(out)
-}
-
-// ` x1=".." y1=".." x2=".." y2=".."`
-#[tactic(auto, unfolding(crate::specs::Pieces::ends_text))]
-fn put_ends(from: (u64, u64), to: (u64, u64), out: &mut Vec<u8>) -> Result<(), AllocError>
-    ensures { OnOk result (out.new.items ≡ out.old.items ++ ends_text from to) }
-{
-    put_attribute(b"x1", from.0, out)?;
-    put_attribute(b"y1", from.1, out)?;
-    put_attribute(b"x2", to.0, out)?;
-    put_attribute(b"y2", to.1, out)
+    put_label(class, x, y, &[Part::Text(word), Part::Number(n)], out)
 }
 
 /// A straight line.
-#[tactic(auto, unfolding(crate::specs::Pieces::grid_line))]
+#[tactic(auto, unfolding(crate::specs::Pieces::grid_line, crate::specs::Pieces::ends_text, crate::specs::Pieces::attribute))]
 pub(crate) fn put_line(
     class: &[u8],
     from: (u64, u64),
@@ -136,25 +126,24 @@ pub(crate) fn put_line(
 ) -> Result<(), AllocError>
     ensures { OnOk result (out.new.items ≡ out.old.items ++ grid_line class.now from to) }
 {
-    out.extend_from_slice(b"<line class=\"")?;
-    out.extend_from_slice(class)?;
-    out.extend_from_slice(b"\"")?;
-    put_ends(from, to, out)?;
-    out.extend_from_slice(b"/>\n")
-}
-
-// `<path class=".." d="M x from V to`, an upright line from one height to another.
-#[tactic(auto, unfolding(crate::specs::Pieces::path_ends))]
-fn put_path_ends(column: u64, from: u64, to: u64, out: &mut Vec<u8>) -> Result<(), AllocError>
-    ensures { OnOk result (out.new.items ≡ out.old.items ++ path_ends column from to) }
-{
-    put_counted(b"\" d=\"M ", column, out)?;
-    put_counted(b" ", from, out)?;
-    put_counted(b" V ", to, out)
+    let parts = [
+        Part::Text(b"<line class=\""),
+        Part::Text(class),
+        Part::Text(b"\" x1=\""),
+        Part::Number(from.0),
+        Part::Text(b"\" y1=\""),
+        Part::Number(from.1),
+        Part::Text(b"\" x2=\""),
+        Part::Number(to.0),
+        Part::Text(b"\" y2=\""),
+        Part::Number(to.1),
+        Part::Text(b"\"/>\n"),
+    ];
+    put_parts(&parts, out)
 }
 
 /// An upright line from one height to another, up to the words that are shown on it.
-#[tactic(auto, unfolding(crate::specs::Pieces::path_start))]
+#[tactic(auto, unfolding(crate::specs::Pieces::path_start, crate::specs::Pieces::path_ends))]
 pub(crate) fn put_path_start(
     class: &[u8],
     column: u64,
@@ -163,10 +152,18 @@ pub(crate) fn put_path_start(
 ) -> Result<(), AllocError>
     ensures { OnOk result (out.new.items ≡ out.old.items ++ path_start class.now column heights) }
 {
-    out.extend_from_slice(b"<path class=\"")?;
-    out.extend_from_slice(class)?;
-    put_path_ends(column, heights.0, heights.1, out)?;
-    out.extend_from_slice(b"\"><title>")
+    let parts = [
+        Part::Text(b"<path class=\""),
+        Part::Text(class),
+        Part::Text(b"\" d=\"M "),
+        Part::Number(column),
+        Part::Text(b" "),
+        Part::Number(heights.0),
+        Part::Text(b" V "),
+        Part::Number(heights.1),
+        Part::Text(b"\"><title>"),
+    ];
+    put_parts(&parts, out)
 }
 
 /// The end of such a line.
