@@ -1,12 +1,11 @@
 //! Numbers of states, and answers.
 
-ghost use Rattle.std.specs.Prelude.{◌<◌, ◌^◌, length};
+ghost use Rattle.sd_search.specs.Graphs.{Gathers};
 
-use sd_search::{Finding, Question, explore};
+use crate::searches::{Asked, Row, Seen, Wanted, judge};
+use sd_search::{Finding, Graph, Question};
 use sd_types::Work;
-use sd_workload::read_work;
 use std::alloc::{AllocError, Global};
-use std::test::Fail;
 
 /// Two threads that take two mutexes in opposite orders, one of them after four calls of `wake`.
 pub(crate) const LATE_RACE: &[u8] =
@@ -30,87 +29,93 @@ script p2\nrun 1\nenter f2\nrun 3\nenter f3\nrun 2\nexit f3\nexit f2\nend\n\
 script p3\nrun 1\nenter f3\nrun 3\nenter f4\nrun 2\nexit f4\nexit f3\nend\n\
 script p4\nrun 1\nenter f4\nrun 3\nenter f0\nrun 2\nexit f0\nexit f4\nend\n";
 
-/// What is seen of a search: how many states, in how many of them runs end, and how many entries a run has that ends so; None
-/// where none was found.
-#[derive(Clone, Copy, Debug, PartialEq, Eq)]
-struct Counts {
-    states: usize,
-    finals: usize,
-    entries: Option<usize>,
-}
-
-fn search(
+/// How many states there are, in how many of them runs end, and how many entries a run has that ends so; None where none was found.
+pub(crate) fn counted(
     alloc: Global,
     work: &Work,
-    most: usize,
+    graph: &Graph,
     question: Question,
-) -> Result<Counts, AllocError> {
-    let graph = explore(alloc, work, most)?;
+) -> Result<Seen, AllocError>
+    requires { Gathers work.now graph.now }
+{
     let finals = graph.finals(alloc, work)?;
     let entries = match graph.finding(alloc, work, &finals, question)? {
         Finding::Found { entries } => Some(entries.len()),
         Finding::Never | Finding::More => None,
     };
-    Ok(Counts {
+    Ok(Seen::Counts {
         states: graph.len(),
         finals: finals.len(),
         entries,
     })
 }
 
-fn counts_of(alloc: Global, text: &[u8], most: usize, question: Question) -> Result<Counts, Fail>
-    requires { length text.now < 2 ^ 31 }
-{
-    let Ok(work) = read_work(alloc, text) else {
-        return Err("no work".into());
-    };
-    Ok(search(alloc, &work, most, question)?)
-}
-
-#[test]
-fn races_are_searched(rt: HostRuntime) -> Result<(), Fail> {
-    let alloc = rt.alloc();
-    let late = counts_of(alloc, LATE_RACE, 1000, Question::Stuck)?;
-    assert_eq!(rt;
-        late,
-        Counts {
+const RACES: [Row; 2] = [
+    (
+        LATE_RACE,
+        1000,
+        Asked::Counts(Question::Stuck),
+        Wanted::This(Seen::Counts {
             states: 215,
             finals: 6,
-            entries: Some(14)
-        }
-    );
-    let race = counts_of(alloc, RACE, 1000, Question::Blocked)?;
-    assert_eq!(rt;
-        race,
-        Counts {
+            entries: Some(14),
+        }),
+    ),
+    (
+        RACE,
+        1000,
+        Asked::Counts(Question::Blocked),
+        Wanted::This(Seen::Counts {
             states: 175,
             finals: 6,
-            entries: None
-        }
-    );
-    Ok(())
-}
+            entries: None,
+        }),
+    ),
+];
 
 #[test]
-fn philosophers_are_searched(rt: HostRuntime) -> Result<(), Fail> {
-    let dining = counts_of(rt.alloc(), DINING, 10_000, Question::Blocked)?;
-    assert_eq!(rt; dining.states, 1483);
-    assert_eq!(rt; dining.entries, None);
-    Ok(())
+fn races_are_searched(rt: HostRuntime) {
+    judge(&rt, &RACES);
 }
 
-#[test]
-fn one_processor_has_one_order(rt: HostRuntime) -> Result<(), Fail> {
-    let circle = counts_of(rt.alloc(), CIRCLE, 1000, Question::Blocked)?;
-    assert_eq!(rt; circle.finals, 1);
-    assert_eq!(rt; circle.entries, circle.states.checked_sub(1));
-    Ok(())
-}
+const PHILOSOPHERS: [Row; 1] = [(
+    DINING,
+    10_000,
+    Asked::Counts(Question::Blocked),
+    Wanted::Unfound {
+        least: 1483,
+        most: 1483,
+    },
+)];
 
 #[test]
-fn a_search_ends_where_enough_is_found(rt: HostRuntime) -> Result<(), Fail> {
-    let part = counts_of(rt.alloc(), LATE_RACE, 100, Question::Stuck)?;
-    assert!(rt; 100 <= part.states && part.states < 215);
-    assert_eq!(rt; part.entries, None);
-    Ok(())
+fn philosophers_are_searched(rt: HostRuntime) {
+    judge(&rt, &PHILOSOPHERS);
+}
+
+const ONE_PROCESSOR: [Row; 1] = [(
+    CIRCLE,
+    1000,
+    Asked::Counts(Question::Blocked),
+    Wanted::OneOrder,
+)];
+
+#[test]
+fn one_processor_has_one_order(rt: HostRuntime) {
+    judge(&rt, &ONE_PROCESSOR);
+}
+
+const PART: [Row; 1] = [(
+    LATE_RACE,
+    100,
+    Asked::Counts(Question::Stuck),
+    Wanted::Unfound {
+        least: 100,
+        most: 214,
+    },
+)];
+
+#[test]
+fn a_search_ends_where_enough_is_found(rt: HostRuntime) {
+    judge(&rt, &PART);
 }

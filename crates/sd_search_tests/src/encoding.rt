@@ -2,7 +2,7 @@
 
 use sd_encoding::{decode, encode, rank, read_numbers, write_numbers};
 use std::alloc::{AllocError, Global};
-use std::test::*;
+use std::process::Abort;
 
 /// Numbers, and their bytes: five bits in each, and above them how many zeros stand behind, or 7 where the number goes on.
 const NUMBERS: [(&[u64], &[u8]); 8] = [
@@ -44,22 +44,43 @@ fn are_read(alloc: Global, bytes: &[u8], numbers: &[u64]) -> Result<bool, AllocE
     }
 }
 
-#[test]
-fn numbers_have_their_bytes(rt: HostRuntime) -> Result<(), Fail> {
-    for (numbers, bytes) in NUMBERS {
-        assert!(rt; have_bytes(rt.alloc(), numbers, bytes).ok().ok_or("memory")?);
-        assert!(rt; are_read(rt.alloc(), bytes, numbers).ok().ok_or("memory")?);
+/// All numbers have their bytes, and are read from them.
+fn have_their_bytes(alloc: Global) -> Result<bool, AllocError> {
+    for row in &NUMBERS {
+        let (numbers, bytes) = *row;
+        if !have_bytes(alloc, numbers, bytes)? || !are_read(alloc, bytes, numbers)? {
+            return Ok(false);
+        }
     }
-    Ok(())
+    Ok(true)
 }
 
 #[test]
-fn other_bytes_are_no_numbers(rt: HostRuntime) -> Result<(), Fail> {
-    for bytes in NOT_NUMBERS {
-        let read = read_numbers(rt.alloc(), bytes).ok().ok_or("memory")?;
-        assert!(rt; read.is_none());
+fn numbers_have_their_bytes(rt: HostRuntime) {
+    judge(&rt, Judged::Numbers);
+}
+
+/// The bytes spell no numbers.
+fn are_none(alloc: Global, bytes: &[u8]) -> Result<bool, AllocError> {
+    match read_numbers(alloc, bytes) {
+        Ok(read) => Ok(read.is_none()),
+        Err(fault) => Err(fault),
     }
-    Ok(())
+}
+
+/// None of the bytes spell numbers.
+fn are_no_numbers(alloc: Global) -> Result<bool, AllocError> {
+    for bytes in &NOT_NUMBERS {
+        if !are_none(alloc, *bytes)? {
+            return Ok(false);
+        }
+    }
+    Ok(true)
+}
+
+#[test]
+fn other_bytes_are_no_numbers(rt: HostRuntime) {
+    judge(&rt, Judged::OtherBytes);
 }
 
 /// A time-sharing thread waits for a lock, and a system thread stands on a queue; the processor wakes sleepers. The keys are
@@ -77,44 +98,103 @@ const STATE: [u64; 60] = [
 /// Where keys stand, and their ranks as they are written.
 const RANKS: [(usize, u64); 3] = [(23, 0), (39, 4), (51, 2)];
 
-/// The bytes of the numbers of the state.
-fn state_bytes(alloc: Global) -> Result<Vec<u8>, AllocError> {
-    let mut bytes = Vec::new(alloc);
-    write_numbers(&STATE, &mut bytes)?;
-    Ok(bytes)
-}
-
-/// The bytes of the state that the bytes spell, with ranks for keys if that is wanted.
-fn rewritten(alloc: Global, bytes: &[u8], ranks: bool) -> Result<Vec<u8>, AllocError> {
-    let mut again = Vec::new(alloc);
+/// The bytes of the state that the bytes spell, with ranks for keys if that is wanted, and none where they spell no state.
+fn put_again(
+    alloc: Global,
+    bytes: &[u8],
+    ranks: bool,
+    again: &mut Vec<u8>,
+) -> Result<(), AllocError> {
     if let Some(mut state) = decode(alloc, bytes)? {
         if ranks {
             rank(alloc, &mut state)?;
         }
-        encode(alloc, &state, &mut again)?;
+        encode(alloc, &state, again)?;
     }
-    Ok(again)
-}
-
-#[test]
-fn a_state_is_read_and_written(rt: HostRuntime) -> Result<(), Fail> {
-    let mut bytes = state_bytes(rt.alloc()).ok().ok_or("memory")?;
-    let again = rewritten(rt.alloc(), &bytes, false).ok().ok_or("memory")?;
-    assert_eq!(rt; again.as_slice(), bytes.as_slice());
-    bytes.pop();
-    let short = rewritten(rt.alloc(), &bytes, false).ok().ok_or("memory")?;
-    assert!(rt; short.is_empty());
     Ok(())
 }
 
-#[test]
-fn keys_become_ranks(rt: HostRuntime) -> Result<(), Fail> {
-    let bytes = state_bytes(rt.alloc()).ok().ok_or("memory")?;
-    let ranked = rewritten(rt.alloc(), &bytes, true).ok().ok_or("memory")?;
-    let numbers = read_numbers(rt.alloc(), &ranked).ok().ok_or("memory")?;
-    let numbers = numbers.ok_or("no numbers")?;
-    for (at, number) in RANKS {
-        assert_eq!(rt; numbers.get(at).copied(), Some(number));
+/// The bytes spell a state whose bytes they are.
+fn is_read_back(alloc: Global, bytes: &[u8]) -> Result<bool, AllocError> {
+    let mut again = Vec::new(alloc);
+    put_again(alloc, bytes, false, &mut again)?;
+    Ok(again.as_slice() == bytes)
+}
+
+/// The bytes spell no state.
+fn is_no_state(alloc: Global, bytes: &[u8]) -> Result<bool, AllocError> {
+    let mut again = Vec::new(alloc);
+    put_again(alloc, bytes, false, &mut again)?;
+    Ok(again.is_empty())
+}
+
+/// The bytes of the state are read back, and without the last of them they spell none.
+fn is_written(alloc: Global) -> Result<bool, AllocError> {
+    let mut bytes = Vec::new(alloc);
+    write_numbers(&STATE, &mut bytes)?;
+    match bytes.as_slice() {
+        [short @ .., _last] => Ok(is_read_back(alloc, &bytes)? && is_no_state(alloc, short)?),
+        [] => Ok(false),
     }
-    Ok(())
+}
+
+#[test]
+fn a_state_is_read_and_written(rt: HostRuntime) {
+    judge(&rt, Judged::State);
+}
+
+/// The ranks stand where the keys stood.
+fn have_ranks(numbers: &[u64]) -> bool {
+    RANKS
+        .iter()
+        .all(|(at, number)| numbers.get(*at) == Some(number))
+}
+
+/// The bytes are numbers of which those are ranks.
+fn are_ranked(alloc: Global, bytes: &[u8]) -> Result<bool, AllocError> {
+    match read_numbers(alloc, bytes)? {
+        Some(numbers) => Ok(have_ranks(&numbers)),
+        None => Ok(false),
+    }
+}
+
+fn put_ranked(alloc: Global, again: &mut Vec<u8>) -> Result<(), AllocError> {
+    let mut bytes = Vec::new(alloc);
+    write_numbers(&STATE, &mut bytes)?;
+    put_again(alloc, &bytes, true, again)
+}
+
+fn is_ranked(alloc: Global) -> Result<bool, AllocError> {
+    let mut again = Vec::new(alloc);
+    put_ranked(alloc, &mut again)?;
+    are_ranked(alloc, &again)
+}
+
+#[test]
+fn keys_become_ranks(rt: HostRuntime) {
+    judge(&rt, Judged::Keys);
+}
+
+/// What is judged, by one test.
+#[derive(Clone, Copy)]
+enum Judged {
+    Numbers,
+    OtherBytes,
+    State,
+    Keys,
+}
+
+/// It is as it should be.
+fn is_so(alloc: Global, judged: Judged) -> Result<bool, AllocError> {
+    match judged {
+        Judged::Numbers => have_their_bytes(alloc),
+        Judged::OtherBytes => are_no_numbers(alloc),
+        Judged::State => is_written(alloc),
+        Judged::Keys => is_ranked(alloc),
+    }
+}
+
+fn judge<R: Abort + AllocGlobal>(rt: &R, judged: Judged) {
+    let is_so = is_so(rt.alloc(), judged);
+    assert!(rt; matches!(is_so, Ok(true)));
 }

@@ -1,14 +1,14 @@
 //! When threads end, and a search in slices.
 
-ghost use Rattle.std.specs.Prelude.{◌<◌, ◌^◌, length, IfOk};
+ghost use Rattle.std.specs.Prelude.{IfOk};
 ghost use Rattle.sd_search.specs.Graphs.{Gathers};
 
+use crate::counts::LATE_RACE;
+use crate::searches::{Asked, Row, Seen, Wanted, judge};
 use sd_extremes::{Missed, When, run_without, when_ended};
-use sd_search::{Graph, begin, explore, explore_more};
+use sd_search::{Graph, begin, explore_more};
 use sd_types::{ThreadId, Work};
-use sd_workload::read_work;
 use std::alloc::{AllocError, Global};
-use std::test::Fail;
 
 /// A thread that runs for three ticks.
 const ALONE: &[u8] = b"limit 10\nthread a sys 60\nscript a\nrun 3\nend\n";
@@ -20,63 +20,35 @@ const CUT_OFF: &[u8] = b"limit 2\nthread a sys 60\nscript a\nrun 3\nend\n";
 const TAKING_TURNS: &[u8] = b"cpus 2\nlimit 10\nmutex l\nthread a sys 60\nthread b sys 60\n\
 script a\nenter l\nrun 2\nexit l\nend\nscript b\nenter l\nrun 2\nexit l\nend\n";
 
-/// What is seen of an answer.
-#[derive(Clone, Copy, Debug, PartialEq, Eq)]
-enum Seen {
-    Ticks(u32, u32),
-    Never,
-    More,
-}
-
-fn shown(when: &When) -> Seen {
-    match when {
-        When::Between { earliest, latest } => Seen::Ticks(earliest.tick, latest.tick),
-        When::Never => Seen::Never,
-        When::More => Seen::More,
+/// When the thread ends at the earliest and at the latest.
+pub(crate) fn ticks(alloc: Global, work: &Work, graph: &Graph, t: u16) -> Result<Seen, AllocError>
+    requires { Gathers work.now graph.now }
+{
+    match when_ended(alloc, work, graph, ThreadId(t))? {
+        When::Between { earliest, latest } => Ok(Seen::Ticks(earliest.tick, latest.tick)),
+        When::Never => Ok(Seen::Never),
+        When::More => Ok(Seen::More),
     }
 }
 
-fn ticks_of(alloc: Global, work: &Work, most: usize, t: u16) -> Result<Seen, AllocError> {
-    let graph = explore(alloc, work, most)?;
-    let when = when_ended(alloc, work, &graph, ThreadId(t))?;
-    Ok(shown(&when))
-}
-
-fn ticks_in(alloc: Global, text: &[u8], most: usize, t: u16) -> Result<Seen, Fail>
-    requires { length text.now < 2 ^ 31 }
-{
-    let Ok(work) = read_work(alloc, text) else {
-        return Err("no work".into());
-    };
-    Ok(ticks_of(alloc, &work, most, t)?)
-}
-
-/// How many entries a run has in which a thread does not end; None where it ends in each.
-fn entries_without(
+/// How many entries a run has in which the thread does not end; None where it ends in each.
+pub(crate) fn entries_without(
     alloc: Global,
     work: &Work,
-    most: usize,
+    graph: &Graph,
     t: u16,
-) -> Result<Option<usize>, AllocError> {
-    let graph = explore(alloc, work, most)?;
-    let finals = graph.finals(alloc, work)?;
-    match run_without(alloc, work, &graph, &finals, ThreadId(t))? {
-        Missed::Run { entries } => Ok(Some(entries.len())),
-        Missed::Never | Missed::More => Ok(None),
-    }
-}
-
-fn missed_in(alloc: Global, text: &[u8], most: usize, t: u16) -> Result<Option<usize>, Fail>
-    requires { length text.now < 2 ^ 31 }
+) -> Result<Seen, AllocError>
+    requires { Gathers work.now graph.now }
 {
-    let Ok(work) = read_work(alloc, text) else {
-        return Err("no work".into());
-    };
-    Ok(entries_without(alloc, &work, most, t)?)
+    let finals = graph.finals(alloc, work)?;
+    match run_without(alloc, work, graph, &finals, ThreadId(t))? {
+        Missed::Run { entries } => Ok(Seen::Entries(Some(entries.len()))),
+        Missed::Never | Missed::More => Ok(Seen::Entries(None)),
+    }
 }
 
 /// A search that goes on by ten states at a time, at most a hundred times.
-fn in_slices(alloc: Global, work: &Work, most: usize) -> Result<Graph, AllocError>
+pub(crate) fn in_slices(alloc: Global, work: &Work, most: usize) -> Result<Graph, AllocError>
     ensures { IfOk result (Gathers work.now) }
 {
     let mut graph = begin(alloc, work)?;
@@ -86,55 +58,68 @@ fn in_slices(alloc: Global, work: &Work, most: usize) -> Result<Graph, AllocErro
     Ok(graph)
 }
 
-fn states_in(alloc: Global, text: &[u8], most: usize) -> Result<(usize, bool), Fail>
-    requires { length text.now < 2 ^ 31 }
-{
-    let Ok(work) = read_work(alloc, text) else {
-        return Err("no work".into());
-    };
-    let graph = in_slices(alloc, &work, most)?;
-    Ok((graph.expanded(), graph.is_over(most)))
-}
+const ENDING: [Row; 2] = [
+    (ALONE, 1000, Asked::Ends(0), Wanted::This(Seen::Ticks(3, 3))),
+    (CUT_OFF, 1000, Asked::Ends(0), Wanted::This(Seen::Never)),
+];
 
 #[test]
-fn a_thread_ends_after_its_ticks(rt: HostRuntime) -> Result<(), Fail> {
-    let alloc = rt.alloc();
-    assert_eq!(rt; ticks_in(alloc, ALONE, 1000, 0)?, Seen::Ticks(3, 3));
-    assert_eq!(rt; ticks_in(alloc, CUT_OFF, 1000, 0)?, Seen::Never);
-    Ok(())
+fn a_thread_ends_after_its_ticks(rt: HostRuntime) {
+    judge(&rt, &ENDING);
 }
 
 // A dispatch and two ticks, then the limit.
+const LEFT: [Row; 2] = [
+    (
+        CUT_OFF,
+        1000,
+        Asked::Without(0),
+        Wanted::This(Seen::Entries(Some(3))),
+    ),
+    (
+        ALONE,
+        1000,
+        Asked::Without(0),
+        Wanted::This(Seen::Entries(None)),
+    ),
+];
+
 #[test]
-fn a_thread_may_be_left(rt: HostRuntime) -> Result<(), Fail> {
-    let alloc = rt.alloc();
-    assert_eq!(rt; missed_in(alloc, CUT_OFF, 1000, 0)?, Some(3));
-    assert_eq!(rt; missed_in(alloc, ALONE, 1000, 0)?, None);
-    Ok(())
+fn a_thread_may_be_left(rt: HostRuntime) {
+    judge(&rt, &LEFT);
 }
 
 // The one that takes the mutex first ends at tick 2. The other spins for two ticks or, where it ticks before that one gives
 // the mutex up, for three.
-#[test]
-fn a_thread_ends_early_or_late(rt: HostRuntime) -> Result<(), Fail> {
-    let alloc = rt.alloc();
-    assert_eq!(rt;
-        ticks_in(alloc, TAKING_TURNS, 10_000, 0)?,
-        Seen::Ticks(2, 5)
-    );
-    assert_eq!(rt;
-        ticks_in(alloc, TAKING_TURNS, 10_000, 1)?,
-        Seen::Ticks(2, 5)
-    );
-    assert_eq!(rt; ticks_in(alloc, TAKING_TURNS, 10, 1)?, Seen::More);
-    Ok(())
-}
+const EARLY_OR_LATE: [Row; 3] = [
+    (
+        TAKING_TURNS,
+        10_000,
+        Asked::Ends(0),
+        Wanted::This(Seen::Ticks(2, 5)),
+    ),
+    (
+        TAKING_TURNS,
+        10_000,
+        Asked::Ends(1),
+        Wanted::This(Seen::Ticks(2, 5)),
+    ),
+    (TAKING_TURNS, 10, Asked::Ends(1), Wanted::This(Seen::More)),
+];
 
 #[test]
-fn a_search_goes_on_in_slices(rt: HostRuntime) -> Result<(), Fail> {
-    assert_eq!(rt;
-        states_in(rt.alloc(), crate::counts::LATE_RACE, 10_000)?,
-        (215, true)
-    );
-    Ok(())
+fn a_thread_ends_early_or_late(rt: HostRuntime) {
+    judge(&rt, &EARLY_OR_LATE);
+}
+
+const IN_SLICES: [Row; 1] = [(
+    LATE_RACE,
+    10_000,
+    Asked::Slices,
+    Wanted::This(Seen::Slices(215, true)),
+)];
+
+#[test]
+fn a_search_goes_on_in_slices(rt: HostRuntime) {
+    judge(&rt, &IN_SLICES);
 }

@@ -12,3 +12,5 @@ mod extremes;
 mod latency;
 #[cfg(test)]
 mod longest;
+#[cfg(test)]
+mod searches;

@@ -3,11 +3,11 @@
 //! accepted was counted by another program.
 ghost use Rattle.std.specs.Prelude.{◌<◌, ◌≤◌, ◌≡◌, ◌^◌, IfOk, length};
 
+use crate::judging::judge;
 use sd_canonical::write_work;
 use sd_types::Work;
 use sd_workload::{WorkFault, read_work};
 use std::alloc::{AllocError, Global};
-use std::test::Fail;
 
 // A readers-writer lock that is handed over to readers and to a writer.
 const HANDED_OVER: &[u8] =
@@ -59,13 +59,27 @@ fn is_read_back(alloc: Global, work: &Work) -> bool {
     }
 }
 
-fn judge(alloc: Global, text: &[u8]) -> Verdict
+fn verdict_on(alloc: Global, work: &Work) -> Verdict {
+    if is_read_back(alloc, work) {
+        Verdict::Accepted
+    } else {
+        Verdict::Neither
+    }
+}
+
+fn refused_by(fault: WorkFault) -> Verdict {
+    match fault {
+        WorkFault::At { line, .. } => Verdict::Refused { line },
+        _ => Verdict::Neither,
+    }
+}
+
+fn found_of(alloc: Global, text: &[u8]) -> Verdict
     requires { length text.now < 2 ^ 31 }
 {
     match read_work(alloc, text) {
-        Ok(work) if is_read_back(alloc, &work) => Verdict::Accepted,
-        Err(WorkFault::At { line, .. }) => Verdict::Refused { line },
-        _ => Verdict::Neither,
+        Ok(work) => verdict_on(alloc, &work),
+        Err(fault) => refused_by(fault),
     }
 }
 
@@ -92,7 +106,7 @@ fn accepted_prefixes(alloc: Global, text: &[u8]) -> Result<u32, usize>
     let mut count: u32 = 0;
     for end in 0..=text.len() {
         let line = line_behind(&text[..end]);
-        match judge(alloc, &text[..end]) {
+        match found_of(alloc, &text[..end]) {
             Verdict::Accepted => count = count.saturating_add(1),
             Verdict::Refused { line: at } if line <= at && at <= line + 1 => {}
             _ => return Err(end),
@@ -101,14 +115,22 @@ fn accepted_prefixes(alloc: Global, text: &[u8]) -> Result<u32, usize>
     Ok(count)
 }
 
+const PREFIXES: [(&[u8], u32); 3] = [(HANDED_OVER, 20), (REQUESTS, 16), (TABLE, 4)];
+
+// The first text of which another number of prefixes is accepted.
+fn wrong_prefixes(alloc: Global) -> Option<usize> {
+    for (index, row) in PREFIXES.iter().enumerate() {
+        let (text, accepted) = *row;
+        if 1000 <= text.len() || accepted_prefixes(alloc, text) != Ok(accepted) {
+            return Some(index);
+        }
+    }
+    None
+}
+
 #[test]
 fn prefixes_are_judged(rt: HostRuntime) {
-    let handed_over = accepted_prefixes(rt.alloc(), HANDED_OVER);
-    assert!(rt; handed_over == Ok(20), "{handed_over:?}");
-    let requests = accepted_prefixes(rt.alloc(), REQUESTS);
-    assert!(rt; requests == Ok(16), "{requests:?}");
-    let table = accepted_prefixes(rt.alloc(), TABLE);
-    assert!(rt; table == Ok(4), "{table:?}");
+    judge(&rt, Ok(wrong_prefixes(rt.alloc())));
 }
 
 // The text with this byte in place of the one at this index.
@@ -131,7 +153,7 @@ fn accepted_with(alloc: Global, text: &[u8], byte: u8) -> Result<Result<u32, usi
         let may_stand = byte == b'#' || is_commented(&text[..at]);
         let line = line_behind(&text[..at]);
         let other = replaced(alloc, text, at, byte)?;
-        match judge(alloc, &other) {
+        match found_of(alloc, &other) {
             Verdict::Accepted if may_stand => count = count.saturating_add(1),
             Verdict::Refused { line: found } if found == line || may_stand && line < found => {}
             _ => return Ok(Err(at)),
@@ -159,12 +181,18 @@ fn is_counted(alloc: Global, text: &[u8], byte: u8, accepted: u32) -> Result<boo
     Ok(accepted_with(alloc, text, byte)? == Ok(accepted))
 }
 
-#[test]
-fn replaced_bytes_are_judged(rt: HostRuntime) -> Result<(), Fail> {
+// The first row in which another number is accepted.
+fn wrong_replaced(alloc: Global) -> Result<Option<usize>, AllocError> {
     for (index, row) in REPLACED.iter().enumerate() {
         let (text, byte, accepted) = *row;
-        let is_so = is_counted(rt.alloc(), text, byte, accepted)?;
-        assert!(rt; is_so, "row {index}");
+        if !is_counted(alloc, text, byte, accepted)? {
+            return Ok(Some(index));
+        }
     }
-    Ok(())
+    Ok(None)
+}
+
+#[test]
+fn replaced_bytes_are_judged(rt: HostRuntime) {
+    judge(&rt, wrong_replaced(rt.alloc()));
 }

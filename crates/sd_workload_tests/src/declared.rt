@@ -1,5 +1,6 @@
 //! What no clause says: that a line is taken where memory is left.
 
+use crate::judging::is_so;
 use sd_declare::{Declared, Opened, Refusal, WorkCause, take_statement};
 use sd_lines::statement_of;
 use std::alloc::Global;
@@ -10,10 +11,10 @@ fn take(alloc: Global, d: &mut Declared, line: &[u8]) -> Result<Opened, Refusal>
     take_statement(alloc, d, statement)
 }
 
-// The first of the lines between bars that is not taken.
-fn wrong_line(alloc: Global, d: &mut Declared, lines: &[u8]) -> Option<usize> {
-    for (index, line) in lines.split(|byte| *byte == b'|').enumerate() {
-        if take(alloc, d, line).is_err() {
+// The first of the lines that is not taken.
+fn wrong_line(alloc: Global, d: &mut Declared, lines: &[&[u8]]) -> Option<usize> {
+    for (index, line) in lines.iter().enumerate() {
+        if take(alloc, d, *line).is_err() {
             return Some(index);
         }
     }
@@ -26,13 +27,28 @@ fn has_all(d: &Declared) -> bool {
     numbers && names && d.threads.len() == 1
 }
 
-const LINES: &[u8] =
-    b"cpus 3|hz 1000|limit 7|set s 1 2|table ts|mutex m|rwlock w|chan k|sema p 1|thread a rt 5 inf in s|script a";
+const LINES: [&[u8]; 11] = [
+    b"cpus 3",
+    b"hz 1000",
+    b"limit 7",
+    b"set s 1 2",
+    b"table ts",
+    b"mutex m",
+    b"rwlock w",
+    b"chan k",
+    b"sema p 1",
+    b"thread a rt 5 inf in s",
+    b"script a",
+];
+
+// All lines are taken, and then all is there.
+fn are_taken(alloc: Global) -> bool {
+    let mut d = Declared::new(alloc);
+    let wrong = wrong_line(alloc, &mut d, &LINES);
+    wrong.is_none() && has_all(&d)
+}
 
 #[test]
 fn lines_are_taken(rt: HostRuntime) {
-    let mut d = Declared::new(rt.alloc());
-    let wrong = wrong_line(rt.alloc(), &mut d, LINES);
-    let is_whole = has_all(&d);
-    assert!(rt; wrong.is_none() && is_whole, "line {wrong:?}");
+    is_so(&rt, Ok(are_taken(rt.alloc())));
 }

@@ -1,9 +1,9 @@
 //! Lists at each edge, judged by hand.
 
+use crate::judging::judge;
 use sd_script::{ScriptFault, check};
 use sd_types::{ChanId, LockId, Op, Script};
 use std::alloc::{AllocError, Global};
-use std::test::Fail;
 
 const ENTER: Op = Op::Enter(LockId(0));
 
@@ -164,10 +164,8 @@ const SHORT: [Case; 24] = [
 ];
 
 #[test]
-fn short_lists(rt: HostRuntime) -> Result<(), Fail> {
-    let wrong = wrong_list(rt.alloc(), &SHORT)?;
-    assert!(rt; wrong.is_none(), "list {wrong:?}");
-    Ok(())
+fn short_lists(rt: HostRuntime) {
+    judge(&rt, wrong_list(rt.alloc(), &SHORT));
 }
 
 const EIGHT_EXITS: [Op; 8] = [
@@ -209,10 +207,8 @@ const MANY_LOCKS: [Case; 7] = [
 ];
 
 #[test]
-fn eight_and_nine_locks(rt: HostRuntime) -> Result<(), Fail> {
-    let wrong = wrong_list(rt.alloc(), &MANY_LOCKS)?;
-    assert!(rt; wrong.is_none(), "list {wrong:?}");
-    Ok(())
+fn eight_and_nine_locks(rt: HostRuntime) {
+    judge(&rt, wrong_list(rt.alloc(), &MANY_LOCKS));
 }
 
 const LONG: [Case; 12] = [
@@ -260,10 +256,8 @@ const LONG: [Case; 12] = [
 ];
 
 #[test]
-fn long_lists(rt: HostRuntime) -> Result<(), Fail> {
-    let wrong = wrong_list(rt.alloc(), &LONG)?;
-    assert!(rt; wrong.is_none(), "list {wrong:?}");
-    Ok(())
+fn long_lists(rt: HostRuntime) {
+    judge(&rt, wrong_list(rt.alloc(), &LONG));
 }
 
 /// The number of a fault, and its text.
@@ -271,21 +265,27 @@ fn is_kind(alloc: Global, kind: ScriptFault, number: u8, text: &str) -> Result<b
     Ok(format!(in alloc; "{kind}")?.as_str() == text && kind.number() == number)
 }
 
+const KINDS: [(ScriptFault, u8, &str); 6] = [
+    (ScriptFault::Unbalanced { op: 9 }, 1, "unbalanced"),
+    (ScriptFault::TooManyHeld { op: 9 }, 3, "too many held"),
+    (ScriptFault::HeldAtExit, 4, "held at exit"),
+    (ScriptFault::TooLong, 5, "too long"),
+    (ScriptFault::AlreadyHeld { op: 9 }, 6, "already held"),
+    (ScriptFault::Unpaired { op: 9 }, 7, "unpaired"),
+];
+
+/// The first fault that has another number or text.
+fn wrong_kind(alloc: Global) -> Result<Option<usize>, AllocError> {
+    for (index, row) in KINDS.iter().enumerate() {
+        let (kind, number, text) = *row;
+        if !is_kind(alloc, kind, number, text)? {
+            return Ok(Some(index));
+        }
+    }
+    Ok(None)
+}
+
 #[test]
-fn numbers(rt: HostRuntime) -> Result<(), Fail> {
-    let alloc = rt.alloc();
-    assert!(rt; is_kind(alloc, ScriptFault::Unbalanced { op: 9 }, 1, "unbalanced")?);
-    assert!(rt;
-        is_kind(
-            alloc,
-            ScriptFault::TooManyHeld { op: 9 },
-            3,
-            "too many held"
-        )?
-    );
-    assert!(rt; is_kind(alloc, ScriptFault::HeldAtExit, 4, "held at exit")?);
-    assert!(rt; is_kind(alloc, ScriptFault::TooLong, 5, "too long")?);
-    assert!(rt; is_kind(alloc, ScriptFault::AlreadyHeld { op: 9 }, 6, "already held")?);
-    assert!(rt; is_kind(alloc, ScriptFault::Unpaired { op: 9 }, 7, "unpaired")?);
-    Ok(())
+fn numbers(rt: HostRuntime) {
+    judge(&rt, wrong_kind(rt.alloc()));
 }

@@ -1,10 +1,10 @@
 //! Workloads and their canonical spellings. Each was written by hand: the lines before the rows of the first table, and
 //! those from the last row of the last table on.
+use crate::judging::is_so;
 use sd_canonical::write_work;
 use sd_types::Work;
 use sd_workload::read_work;
 use std::alloc::{AllocError, Global};
-use std::test::Fail;
 
 const SMALLEST: &[u8] = b"limit 1";
 
@@ -40,8 +40,10 @@ fn is_spelled(alloc: Global, input: &[u8], head: &[u8], tail: &[u8]) -> Result<b
 }
 
 #[test]
-fn spellings(rt: HostRuntime) -> Result<(), Fail> {
-    assert!(rt; is_spelled(rt.alloc(), SMALLEST, SMALLEST_HEAD, SMALLEST_TAIL)?);
-    assert!(rt; is_spelled(rt.alloc(), WHOLE, WHOLE_HEAD, WHOLE_TAIL)?);
-    Ok(())
+fn spellings(rt: HostRuntime) {
+    is_so(
+        &rt,
+        is_spelled(rt.alloc(), SMALLEST, SMALLEST_HEAD, SMALLEST_TAIL),
+    );
+    is_so(&rt, is_spelled(rt.alloc(), WHOLE, WHOLE_HEAD, WHOLE_TAIL));
 }

@@ -2,6 +2,7 @@
 //! and writers, and the cases of failing ends and of texts, whose results were worked out by hand.
 ghost use Rattle.std.specs.Prelude.{◌≤◌};
 
+use crate::judging::{is_so, judge};
 use sd_text::{
     Failed, MemorySink, MemorySource, ReadAllFault, Sink, Source, StdSink, StdSource, WriteFault,
     next_line, next_word, number, put_number, read_all, read_up_to, signed, write_piece,
@@ -9,7 +10,6 @@ use sd_text::{
 use std::alloc::{AllocError, Global};
 use std::io;
 use std::io::{ErrorKind, Read, Write};
-use std::test::Fail;
 
 // 27 bytes.
 const INPUT: &[u8] = b"limit 5\nthread a ts 29 0 0\n";
@@ -41,14 +41,20 @@ fn fails_at_the_end(alloc: Global) -> Result<bool, AllocError> {
     Ok(read_all(alloc, &mut source).err() == Some(ReadAllFault::ReadFault))
 }
 
-#[test]
-fn each_read_fails_in_turn(rt: HostRuntime) -> Result<(), Fail> {
-    for failing in 1..=9 {
-        let is_so = fails_at(rt.alloc(), failing)?;
-        assert!(rt; is_so, "read {failing}");
+// The first read of nine whose failing is not seen so.
+fn wrong_read(alloc: Global) -> Result<Option<usize>, AllocError> {
+    for failing in 1..=9u8 {
+        if !fails_at(alloc, u64::from(failing))? {
+            return Ok(Some(usize::from(failing)));
+        }
     }
-    assert!(rt; fails_at_the_end(rt.alloc())?);
-    Ok(())
+    Ok(None)
+}
+
+#[test]
+fn each_read_fails_in_turn(rt: HostRuntime) {
+    judge(&rt, wrong_read(rt.alloc()));
+    is_so(&rt, fails_at_the_end(rt.alloc()));
 }
 
 fn is_limited(alloc: Global, most: u64, fault: Option<ReadAllFault>) -> Result<bool, AllocError>
@@ -69,28 +75,42 @@ fn is_long(alloc: Global, len: usize, fault: Option<ReadAllFault>) -> Result<boo
 }
 
 #[test]
-fn an_input_has_at_most_the_limit(rt: HostRuntime) -> Result<(), Fail> {
+fn an_input_has_at_most_the_limit(rt: HostRuntime) {
     let too_large = Some(ReadAllFault::TooLarge);
-    assert!(rt; is_limited(rt.alloc(), 27, None)?);
-    assert!(rt; is_limited(rt.alloc(), 26, too_large)?);
-    assert!(rt; is_long(rt.alloc(), 1_048_576, None)?);
-    assert!(rt; is_long(rt.alloc(), 1_048_577, too_large)?);
-    Ok(())
+    is_so(&rt, is_limited(rt.alloc(), 27, None));
+    is_so(&rt, is_limited(rt.alloc(), 26, too_large));
+    is_so(&rt, is_long(rt.alloc(), 1_048_576, None));
+    is_so(&rt, is_long(rt.alloc(), 1_048_577, too_large));
 }
 
 fn has_text(alloc: Global, fault: ReadAllFault, text: &str) -> Result<bool, AllocError> {
     Ok(format!(in alloc; "{fault}")?.as_str() == text)
 }
 
+fn write_fault_has_text(alloc: Global) -> Result<bool, AllocError> {
+    Ok(format!(in alloc; "{WriteFault}")?.as_str() == "write fault")
+}
+
+fn failed_has_text(alloc: Global) -> Result<bool, AllocError> {
+    Ok(format!(in alloc; "{Failed}")?.as_str() == "a read or a write failed")
+}
+
 #[test]
-fn faults_have_their_texts(rt: HostRuntime) -> Result<(), Fail> {
-    let alloc = rt.alloc();
-    assert!(rt; has_text(alloc, ReadAllFault::ReadFault, "read fault")?);
-    assert!(rt; has_text(alloc, ReadAllFault::TooLarge, "input too large")?);
-    assert!(rt; has_text(alloc, ReadAllFault::Memory, "out of memory")?);
-    assert!(rt; format!(in alloc; "{WriteFault}")?.as_str() == "write fault");
-    assert!(rt; format!(in alloc; "{Failed}")?.as_str() == "a read or a write failed");
-    Ok(())
+fn faults_have_their_texts(rt: HostRuntime) {
+    is_so(
+        &rt,
+        has_text(rt.alloc(), ReadAllFault::ReadFault, "read fault"),
+    );
+    is_so(
+        &rt,
+        has_text(rt.alloc(), ReadAllFault::TooLarge, "input too large"),
+    );
+    is_so(
+        &rt,
+        has_text(rt.alloc(), ReadAllFault::Memory, "out of memory"),
+    );
+    is_so(&rt, write_fault_has_text(rt.alloc()));
+    is_so(&rt, failed_has_text(rt.alloc()));
 }
 
 // Whether two pieces are written, and what the sink holds then.
@@ -121,14 +141,20 @@ const SINKS: [(usize, u64, bool, &[u8]); 6] = [
     (0, 0, false, b""),
 ];
 
-#[test]
-fn a_sink_holds_what_it_took(rt: HostRuntime) -> Result<(), Fail> {
+// The first sink that holds something else.
+fn wrong_sink(alloc: Global) -> Result<Option<usize>, AllocError> {
     for (index, row) in SINKS.iter().enumerate() {
         let (room, failing, is_written, held) = *row;
-        let is_so = is_taken(rt.alloc(), room, failing, is_written, held)?;
-        assert!(rt; is_so, "sink {index}");
+        if !is_taken(alloc, room, failing, is_written, held)? {
+            return Ok(Some(index));
+        }
     }
-    Ok(())
+    Ok(None)
+}
+
+#[test]
+fn a_sink_holds_what_it_took(rt: HostRuntime) {
+    judge(&rt, wrong_sink(rt.alloc()));
 }
 
 // Gives one byte a read, and fails at the third.
@@ -191,14 +217,16 @@ fn writes_while_there_is_room(narrow: &mut StdSink<Narrow>) -> bool {
     is_written && one_fault && two_faults
 }
 
-#[test]
-fn adapters_count_faults(rt: HostRuntime) -> Result<(), Fail> {
-    assert!(rt; reads_whole(rt.alloc()));
-    assert!(rt; reads_until_it_halts(rt.alloc()));
+fn has_room_for_five() -> bool {
     let mut narrow = StdSink::new(Narrow { room: 5 });
-    let is_written = writes_while_there_is_room(&mut narrow);
-    assert!(rt; is_written);
-    Ok(())
+    writes_while_there_is_room(&mut narrow)
+}
+
+#[test]
+fn adapters_count_faults(rt: HostRuntime) {
+    is_so(&rt, Ok(reads_whole(rt.alloc())));
+    is_so(&rt, Ok(reads_until_it_halts(rt.alloc())));
+    is_so(&rt, Ok(has_room_for_five()));
 }
 
 // A text, where the search begins, and from where to where the line or word is that is found.
@@ -245,10 +273,8 @@ fn wrong_word(rows: &[Found]) -> Option<usize> {
 
 #[test]
 fn lines_and_words_are_found(rt: HostRuntime) {
-    let line = wrong_line(&FOUND_LINES);
-    assert!(rt; line.is_none(), "line {line:?}");
-    let word = wrong_word(&FOUND_WORDS);
-    assert!(rt; word.is_none(), "word {word:?}");
+    judge(&rt, Ok(wrong_line(&FOUND_LINES)));
+    judge(&rt, Ok(wrong_word(&FOUND_WORDS)));
 }
 
 // A word, its value, and its value where a minus may stand before it.
@@ -284,13 +310,14 @@ fn put_three(text: &mut Vec<u8>) -> Result<(), AllocError> {
     put_number(text, 29)
 }
 
-#[test]
-fn numbers_have_at_most_ten_digits(rt: HostRuntime) -> Result<(), Fail> {
-    let wrong = wrong_number();
-    assert!(rt; wrong.is_none(), "number {wrong:?}");
-    let mut text = vec![in rt.alloc()]?;
+fn are_put(alloc: Global) -> Result<bool, AllocError> {
+    let mut text = Vec::new(alloc);
     put_three(&mut text)?;
-    let is_so = text.as_slice() == b"01844674407370955161529".as_slice();
-    assert!(rt; is_so);
-    Ok(())
+    Ok(text.as_slice() == b"01844674407370955161529".as_slice())
+}
+
+#[test]
+fn numbers_have_at_most_ten_digits(rt: HostRuntime) {
+    judge(&rt, Ok(wrong_number()));
+    is_so(&rt, are_put(rt.alloc()));
 }

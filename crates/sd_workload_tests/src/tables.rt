@@ -1,7 +1,8 @@
 //! Worked tables and faults. Each expected result was worked out by hand from the rules of the files.
 
-ghost use Rattle.std.specs.Prelude.{◌≤◌};
+ghost use Rattle.std.specs.Prelude.{◌<◌, ◌≤◌};
 
+use crate::judging::{is_so, judge};
 use sd_dispadmin::{
     ReadTableFault, TableFault, default_fx, default_rt, default_ts, read_fx, read_rt, read_ts,
     write_fixed, write_ts,
@@ -9,24 +10,11 @@ use sd_dispadmin::{
 use sd_text::put_number;
 use sd_types::{FixedTable, TsTable};
 use std::alloc::{AllocError, Global};
-use std::test::Fail;
 
 const HZ: u32 = 100;
 
-fn not_a_number(line: u32) -> TableFault {
-    TableFault::NotANumber { line }
-}
-
-fn range(line: u32, column: u8) -> TableFault {
-    TableFault::Range { line, column }
-}
-
 fn rows(found: u32) -> TableFault {
     TableFault::Rows { found }
-}
-
-fn resolution(line: u32) -> TableFault {
-    TableFault::Resolution { line }
 }
 
 fn rt_fault(alloc: Global, text: &[u8]) -> Option<ReadTableFault> {
@@ -45,23 +33,47 @@ fn ts_fault(alloc: Global, text: &[u8]) -> Option<ReadTableFault> {
     }
 }
 
-/// The texts of the fault of a table, and of one that is read.
+/// The text of the fault of a table.
+fn has_own_text(alloc: Global, fault: TableFault, text: &str) -> Result<bool, AllocError> {
+    Ok(format!(in alloc; "{fault}")?.as_str() == text)
+}
+
+/// The text of the fault of one that is read.
 fn has_text(alloc: Global, fault: TableFault, text: &str) -> Result<bool, AllocError> {
     let unread = ReadTableFault::Table(fault);
-    let own = format!(in alloc; "{fault}")?.as_str() == text;
-    Ok(own && format!(in alloc; "{unread}")?.as_str() == text)
+    Ok(format!(in alloc; "{unread}")?.as_str() == text)
+}
+
+fn memory_has_text(alloc: Global) -> Result<bool, AllocError> {
+    let memory = ReadTableFault::Memory;
+    Ok(format!(in alloc; "{memory}")?.as_str() == "out of memory")
+}
+
+const TEXTS: [(TableFault, &str); 4] = [
+    (TableFault::NotANumber { line: 3 }, "not a number"),
+    (
+        TableFault::Range { line: 1, column: 4 },
+        "range in column 4",
+    ),
+    (TableFault::Rows { found: 59 }, "rows: 59"),
+    (TableFault::Resolution { line: 2 }, "resolution"),
+];
+
+/// The first fault that has another text.
+fn wrong_fault(alloc: Global) -> Result<Option<usize>, AllocError> {
+    for (index, row) in TEXTS.iter().enumerate() {
+        let (fault, text) = *row;
+        if !has_own_text(alloc, fault, text)? || !has_text(alloc, fault, text)? {
+            return Ok(Some(index));
+        }
+    }
+    Ok(None)
 }
 
 #[test]
-fn faults_have_their_texts(rt: HostRuntime) -> Result<(), Fail> {
-    let alloc = rt.alloc();
-    assert!(rt; has_text(alloc, not_a_number(3), "not a number")?);
-    assert!(rt; has_text(alloc, range(1, 4), "range in column 4")?);
-    assert!(rt; has_text(alloc, rows(59), "rows: 59")?);
-    assert!(rt; has_text(alloc, resolution(2), "resolution")?);
-    let memory = ReadTableFault::Memory;
-    assert!(rt; format!(in alloc; "{memory}")?.as_str() == "out of memory");
-    Ok(())
+fn faults_have_their_texts(rt: HostRuntime) {
+    judge(&rt, wrong_fault(rt.alloc()));
+    is_so(&rt, memory_has_text(rt.alloc()));
 }
 
 /// The first text that has another fault as a table of quanta.
@@ -111,8 +123,7 @@ const ROWS: [(&str, TableFault); 20] = [
 
 #[test]
 fn faults_of_rows(rt: HostRuntime) {
-    let wrong = wrong_rt(rt.alloc(), &ROWS);
-    assert!(rt; wrong.is_none(), "text {wrong:?}");
+    judge(&rt, Ok(wrong_rt(rt.alloc(), &ROWS)));
 }
 
 const RES_LINES: [(&str, TableFault); 18] = [
@@ -138,8 +149,7 @@ const RES_LINES: [(&str, TableFault); 18] = [
 
 #[test]
 fn faults_of_res_lines(rt: HostRuntime) {
-    let wrong = wrong_rt(rt.alloc(), &RES_LINES);
-    assert!(rt; wrong.is_none(), "text {wrong:?}");
+    judge(&rt, Ok(wrong_rt(rt.alloc(), &RES_LINES)));
 }
 
 const TIME_SHARING_ROWS: [(&str, TableFault); 11] = [
@@ -164,41 +174,65 @@ const TIME_SHARING_ROWS: [(&str, TableFault); 11] = [
 
 #[test]
 fn faults_of_time_sharing_tables(rt: HostRuntime) {
-    let wrong = wrong_ts(rt.alloc(), &TIME_SHARING_ROWS);
-    assert!(rt; wrong.is_none(), "text {wrong:?}");
+    judge(&rt, Ok(wrong_ts(rt.alloc(), &TIME_SHARING_ROWS)));
 }
 
 // The quanta of the default real-time table, in tens of levels.
 const QUANTA: [u64; 6] = [1000, 800, 600, 400, 200, 100];
 
-// A real-time file as dispadmin prints it, with this many levels.
-fn dispadmin_file(alloc: Global, levels: u8) -> Result<Vec<u8>, AllocError>
+// Appends a level of a real-time file as dispadmin prints it.
+fn put_level(text: &mut Vec<u8>, level: u8) -> Result<(), AllocError>
+    requires { level < 60 }
+{
+    text.extend_from_slice(b"      ")?;
+    put_number(text, QUANTA[level as usize / 10])?;
+    text.extend_from_slice(b"                    #        ")?;
+    put_number(text, u64::from(level))?;
+    text.extend_from_slice(b"\n")
+}
+
+// Appends a real-time file as dispadmin prints it, with this many levels.
+fn put_levels(text: &mut Vec<u8>, levels: u8) -> Result<(), AllocError>
     requires { levels ≤ 60 }
 {
-    let mut text = Vec::new(alloc);
     text.extend_from_slice(b"# Real Time Dispatcher Configuration\nRES=1000\n\n")?;
     text.extend_from_slice(b"# TIME QUANTUM                    PRIORITY\n")?;
     text.extend_from_slice(b"# (rt_quantum)                      LEVEL\n")?;
     for level in 0..levels {
-        text.extend_from_slice(b"      ")?;
-        put_number(&mut text, QUANTA[level as usize / 10])?;
-        text.extend_from_slice(b"                    #        ")?;
-        put_number(&mut text, u64::from(level))?;
-        text.push(b'\n')?;
+        put_level(text, level)?;
     }
+    Ok(())
+}
+
+fn dispadmin_file(alloc: Global, levels: u8) -> Result<Vec<u8>, AllocError>
+    requires { levels ≤ 60 }
+{
+    let mut text = Vec::new(alloc);
+    put_levels(&mut text, levels)?;
     Ok(text)
 }
 
-// The same table as it is written.
-fn written_file(alloc: Global) -> Result<Vec<u8>, AllocError> {
-    let mut text = Vec::new(alloc);
+// Appends a level of the same table as it is written.
+fn put_row(text: &mut Vec<u8>, level: u8) -> Result<(), AllocError>
+    requires { level < 60 }
+{
+    put_number(text, QUANTA[level as usize / 10])?;
+    text.extend_from_slice(b" # ")?;
+    put_number(text, u64::from(level))?;
+    text.extend_from_slice(b"\n")
+}
+
+fn put_rows(text: &mut Vec<u8>) -> Result<(), AllocError> {
     text.extend_from_slice(b"RES=1000\n")?;
     for level in 0..60u8 {
-        put_number(&mut text, QUANTA[level as usize / 10])?;
-        text.extend_from_slice(b" # ")?;
-        put_number(&mut text, u64::from(level))?;
-        text.push(b'\n')?;
+        put_row(text, level)?;
     }
+    Ok(())
+}
+
+fn written_file(alloc: Global) -> Result<Vec<u8>, AllocError> {
+    let mut text = Vec::new(alloc);
+    put_rows(&mut text)?;
     Ok(text)
 }
 
@@ -242,12 +276,15 @@ fn default_is_written(alloc: Global, written: &[u8]) -> Result<bool, AllocError>
     is_written(alloc, &table, written)
 }
 
+// The whole file is read and written, and one without its last row is refused.
+fn are_read(alloc: Global) -> Result<bool, AllocError> {
+    let written = written_file(alloc)?;
+    Ok(whole_is_read(alloc, &written)? && short_is_refused(alloc)?)
+}
+
 #[test]
-fn dispadmin_files(rt: HostRuntime) -> Result<(), Fail> {
-    let written = written_file(rt.alloc())?;
-    let whole = whole_is_read(rt.alloc(), &written)?;
-    assert!(rt; whole && short_is_refused(rt.alloc())?);
-    Ok(())
+fn dispadmin_files(rt: HostRuntime) {
+    is_so(&rt, are_read(rt.alloc()));
 }
 
 // The default time-sharing table at the ends of its bands, after ts_dptbl(4): the level, then ts_quantum, the ticks
@@ -303,12 +340,14 @@ fn is_written_and_read(alloc: Global, ts: &TsTable) -> Result<bool, AllocError> 
     Ok(is_read_as_time_sharing(alloc, &text))
 }
 
+fn is_default_ts(alloc: Global) -> Result<bool, AllocError> {
+    let ts = default_ts(alloc, HZ)?;
+    Ok(is_time_sharing(&ts) && is_written_and_read(alloc, &ts)?)
+}
+
 #[test]
-fn the_default_time_sharing_table(rt: HostRuntime) -> Result<(), Fail> {
-    let ts = default_ts(rt.alloc(), HZ)?;
-    let is_so = is_time_sharing(&ts);
-    assert!(rt; is_written_and_read(rt.alloc(), &ts)? && is_so);
-    Ok(())
+fn the_default_time_sharing_table(rt: HostRuntime) {
+    is_so(&rt, is_default_ts(rt.alloc()));
 }
 
 // The level, the quantum, and the ticks at 100 a second.
@@ -357,18 +396,22 @@ fn fixed_is_written_and_read(alloc: Global, fx: &FixedTable) -> Result<bool, All
     Ok(is_read_as_fixed_priority(alloc, &text))
 }
 
-#[test]
-fn the_default_fixed_priority_table(rt: HostRuntime) -> Result<(), Fail> {
-    let fx = default_fx(rt.alloc(), HZ)?;
-    let is_so = is_fixed_priority(&fx);
-    assert!(rt; fixed_is_written_and_read(rt.alloc(), &fx)? && is_so);
-    Ok(())
+fn is_default_fx(alloc: Global) -> Result<bool, AllocError> {
+    let fx = default_fx(alloc, HZ)?;
+    Ok(is_fixed_priority(&fx) && fixed_is_written_and_read(alloc, &fx)?)
 }
 
 #[test]
-fn the_default_real_time_table(rt: HostRuntime) -> Result<(), Fail> {
-    let written = written_file(rt.alloc())?;
-    let is_so = default_is_written(rt.alloc(), &written)?;
-    assert!(rt; is_so);
-    Ok(())
+fn the_default_fixed_priority_table(rt: HostRuntime) {
+    is_so(&rt, is_default_fx(rt.alloc()));
+}
+
+fn is_written_as_default(alloc: Global) -> Result<bool, AllocError> {
+    let written = written_file(alloc)?;
+    default_is_written(alloc, &written)
+}
+
+#[test]
+fn the_default_real_time_table(rt: HostRuntime) {
+    is_so(&rt, is_written_as_default(rt.alloc()));
 }

@@ -2,6 +2,7 @@
 //! texts that they should. The cases were worked out by hand.
 ghost use Rattle.std.specs.Prelude.{◌<◌, ◌≤◌, length};
 
+use crate::judging::{is_so, judge};
 use sd_dispadmin::TableFault;
 use sd_lines::is_word;
 use sd_script::ScriptFault;
@@ -9,40 +10,111 @@ use sd_text::put_number;
 use sd_types::{ChanKind, ClassParms, LockKind, Op, Quantum, Work};
 use sd_workload::{WorkCause, WorkFault, read_work};
 use std::alloc::{AllocError, Global};
-use std::test::Fail;
 
 // Whether that is the fault of a text, or it has none.
 fn has_fault(alloc: Global, text: &[u8], fault: Option<WorkFault>) -> bool {
     text.len() < 1_000_000 && read_work(alloc, text).err() == fault
 }
 
-// Texts between bars that are accepted: blanks and comments of any bytes, no newline at the end, keywords as names,
+// Texts that are accepted: blanks and comments of any bytes, no newline at the end, keywords as names,
 // minus zero, a script of no operation, a limit of ticks for all processors.
-const ACCEPTED: &[u8] =
-    b"limit 5#x|\t limit\t5 #\r\n \t \n|# \x00\x80\xff\nlimit 0000000005|limit 1\nthread a ts 1 -0 -0|limit 1\nthread a fx 60 10 inf\nscript a\nend\n|limit 1\nthread end sys 60\nmutex end\nchan end\nscript end\nenter end\nexit end\nend\n|cpus 2\nlimit 100000\n|limit 1\nthread a sys 60\nscript a\nrun 1\n\t end # x\n";
+const ACCEPTED: [&[u8]; 8] = [
+    b"limit 5#x",
+    b"\t limit\t5 #\r\n \t \n",
+    b"# \x00\x80\xff\nlimit 0000000005",
+    b"limit 1\nthread a ts 1 -0 -0",
+    b"limit 1\nthread a fx 60 10 inf\nscript a\nend\n",
+    b"limit 1\nthread end sys 60\nmutex end\nchan end\nscript end\nenter end\nexit end\nend\n",
+    b"cpus 2\nlimit 100000\n",
+    b"limit 1\nthread a sys 60\nscript a\nrun 1\n\t end # x\n",
+];
+
+// The first of the texts that is not accepted.
+fn wrong_accepted(alloc: Global) -> Option<usize> {
+    for (index, text) in ACCEPTED.iter().enumerate() {
+        if !has_fault(alloc, *text, None) {
+            return Some(index);
+        }
+    }
+    None
+}
 
 #[test]
 fn texts_are_accepted(rt: HostRuntime) {
-    for text in ACCEPTED.split(|byte| *byte == b'|') {
-        assert!(rt; has_fault(rt.alloc(), text, None), "at {text:?}");
-    }
+    judge(&rt, Ok(wrong_accepted(rt.alloc())));
 }
 
-// Texts between bars, of which the last line with words is at fault.
-const SYNTAX: &[u8] =
-    b"limit|limit -5|limit 0x5|limit 00000000005|limit 5 \x80|limit 5\x0b|limit 1\nmutex mmmmmmmmmmmmmmmmm|limit 1\nmutex a.b|limit 1\nrun 1|limit 1\nend|limit 1\nthread a sys 60 in -|limit 1\nthread a sys 60 uid 1 uid 2|limit 1\nthread a ts -1 0 0|limit 1\ntable sys|limit 1\ntable TS|cpus 2\nlimit 1\nset s c1|cpus 2\nlimit 1\nset s|cpus 2\nset s 1\ncpus 99|limit 1\nthread a sys 60\nscript a\nscript a|limit 1\nthread a sys 60\nscript a\nend a|limit 1\n\x00";
+// Texts of which the last line with words is at fault.
+const SYNTAX: [&[u8]; 21] = [
+    b"limit",
+    b"limit -5",
+    b"limit 0x5",
+    b"limit 00000000005",
+    b"limit 5 \x80",
+    b"limit 5\x0b",
+    b"limit 1\nmutex mmmmmmmmmmmmmmmmm",
+    b"limit 1\nmutex a.b",
+    b"limit 1\nrun 1",
+    b"limit 1\nend",
+    b"limit 1\nthread a sys 60 in -",
+    b"limit 1\nthread a sys 60 uid 1 uid 2",
+    b"limit 1\nthread a ts -1 0 0",
+    b"limit 1\ntable sys",
+    b"limit 1\ntable TS",
+    b"cpus 2\nlimit 1\nset s c1",
+    b"cpus 2\nlimit 1\nset s",
+    b"cpus 2\nset s 1\ncpus 99",
+    b"limit 1\nthread a sys 60\nscript a\nscript a",
+    b"limit 1\nthread a sys 60\nscript a\nend a",
+    b"limit 1\n\x00",
+];
 
-const UNKNOWN: &[u8] =
-    b"limit 1\nscript a|limit 1\nthread a ts 61 0 0 uid 70000 in s|limit 1\nthread a sys 60\nscript a\nenter m|limit 1\nthread a sys 60\nscript a\npriocntl b ts 40000 0";
+const UNKNOWN: [&[u8]; 4] = [
+    b"limit 1\nscript a",
+    b"limit 1\nthread a ts 61 0 0 uid 70000 in s",
+    b"limit 1\nthread a sys 60\nscript a\nenter m",
+    b"limit 1\nthread a sys 60\nscript a\npriocntl b ts 40000 0",
+];
 
-const TWICE: &[u8] =
-    b"cpus 1\ncpus 1|limit 5\nlimit 0|hz 100\nhz 7|limit 1\nmutex m\nrwlock m|chan k\nsema k 70000|thread a sys 60\nthread a sys 7|cpus 3\nset s 1\nset s 1|thread a sys 60\nscript a\nend\nscript a";
+const TWICE: [&[u8]; 8] = [
+    b"cpus 1\ncpus 1",
+    b"limit 5\nlimit 0",
+    b"hz 100\nhz 7",
+    b"limit 1\nmutex m\nrwlock m",
+    b"chan k\nsema k 70000",
+    b"thread a sys 60\nthread a sys 7",
+    b"cpus 3\nset s 1\nset s 1",
+    b"thread a sys 60\nscript a\nend\nscript a",
+];
 
-const RANGE: &[u8] =
-    b"cpus 0|cpus 65|hz 1001|limit 0|limit 100001|cpus 2\nset s 2|cpus 2\nset s 2 2|sema s 65536|thread a rt 0 1000001|thread a fx 61 0 def|thread a sys 100|thread a ts 0 -61 0|thread a sys 60 uid 65536|thread a sys 60\nscript a\nrun 0|thread a sys 60\nscript a\nnap 100001|thread a sys 60\nscript a\nassign 1 -|thread a sys 60\nscript a\npbind a 1|thread a sys 60\nscript a\npriocntl a rt 5 0|thread a sys 60\nscript a\npriocntl a ts 0 32768";
+const RANGE: [&[u8]; 19] = [
+    b"cpus 0",
+    b"cpus 65",
+    b"hz 1001",
+    b"limit 0",
+    b"limit 100001",
+    b"cpus 2\nset s 2",
+    b"cpus 2\nset s 2 2",
+    b"sema s 65536",
+    b"thread a rt 0 1000001",
+    b"thread a fx 61 0 def",
+    b"thread a sys 100",
+    b"thread a ts 0 -61 0",
+    b"thread a sys 60 uid 65536",
+    b"thread a sys 60\nscript a\nrun 0",
+    b"thread a sys 60\nscript a\nnap 100001",
+    b"thread a sys 60\nscript a\nassign 1 -",
+    b"thread a sys 60\nscript a\npbind a 1",
+    b"thread a sys 60\nscript a\npriocntl a rt 5 0",
+    b"thread a sys 60\nscript a\npriocntl a ts 0 32768",
+];
 
-const SETS: &[u8] =
-    b"set s 0|cpus 3\nset s 1\nset r 0 2|cpus 3\nset s 1 1|cpus 3\nset s 1\nset r 1";
+const SETS: [&[u8]; 4] = [
+    b"set s 0",
+    b"cpus 3\nset s 1\nset r 0 2",
+    b"cpus 3\nset s 1 1",
+    b"cpus 3\nset s 1\nset r 1",
+];
 
 // The number of a text's lines, of which the last has no newline.
 fn line_count(text: &[u8]) -> u32
@@ -60,10 +132,10 @@ fn is_last_refused(alloc: Global, text: &[u8], cause: WorkCause) -> bool {
     has_fault(alloc, text, Some(WorkFault::At { line, cause }))
 }
 
-// The first of the texts between bars whose last line is not refused for this cause.
-fn wrong_text(alloc: Global, texts: &[u8], cause: WorkCause) -> Option<usize> {
-    for (index, text) in texts.split(|byte| *byte == b'|').enumerate() {
-        if !is_last_refused(alloc, text, cause) {
+// The first of the texts whose last line is not refused for this cause.
+fn wrong_text(alloc: Global, texts: &[&[u8]], cause: WorkCause) -> Option<usize> {
+    for (index, text) in texts.iter().enumerate() {
+        if !is_last_refused(alloc, *text, cause) {
             return Some(index);
         }
     }
@@ -72,22 +144,27 @@ fn wrong_text(alloc: Global, texts: &[u8], cause: WorkCause) -> Option<usize> {
 
 #[test]
 fn the_last_line_is_refused(rt: HostRuntime) {
-    let alloc = rt.alloc();
-    let syntax = wrong_text(alloc, SYNTAX, WorkCause::Syntax);
-    assert!(rt; syntax.is_none(), "syntax {syntax:?}");
-    let unknown = wrong_text(alloc, UNKNOWN, WorkCause::Unknown);
-    assert!(rt; unknown.is_none(), "unknown {unknown:?}");
-    let twice = wrong_text(alloc, TWICE, WorkCause::Twice);
-    assert!(rt; twice.is_none(), "twice {twice:?}");
-    let range = wrong_text(alloc, RANGE, WorkCause::Range);
-    assert!(rt; range.is_none(), "range {range:?}");
-    let sets = wrong_text(alloc, SETS, WorkCause::Sets);
-    assert!(rt; sets.is_none(), "sets {sets:?}");
+    judge(&rt, Ok(wrong_text(rt.alloc(), &SYNTAX, WorkCause::Syntax)));
+    judge(
+        &rt,
+        Ok(wrong_text(rt.alloc(), &UNKNOWN, WorkCause::Unknown)),
+    );
+    judge(&rt, Ok(wrong_text(rt.alloc(), &TWICE, WorkCause::Twice)));
+    judge(&rt, Ok(wrong_text(rt.alloc(), &RANGE, WorkCause::Range)));
+    judge(&rt, Ok(wrong_text(rt.alloc(), &SETS, WorkCause::Sets)));
 }
 
-// Texts between bars that are refused on the line after the last, by an open block or without a limit.
-const OPEN: &[u8] =
-    b"|\n|# limit 5|cpus 2\nhz 100|table fx\n|limit 1\ntable rt\n10|limit 1\nthread a sys 60\nscript a\nrun 1\n|cpus 4\nlimit 100000\nthread a sys 60\nscript a\n";
+// Texts that are refused on the line after the last, by an open block or without a limit.
+const OPEN: [&[u8]; 8] = [
+    b"",
+    b"\n",
+    b"# limit 5",
+    b"cpus 2\nhz 100",
+    b"table fx\n",
+    b"limit 1\ntable rt\n10",
+    b"limit 1\nthread a sys 60\nscript a\nrun 1\n",
+    b"cpus 4\nlimit 100000\nthread a sys 60\nscript a\n",
+];
 
 // The number of a text's lines. A newline at the end makes no further line.
 fn whole_line_count(text: &[u8]) -> u32
@@ -110,37 +187,58 @@ fn is_end_refused(alloc: Global, text: &[u8]) -> bool {
     has_fault(alloc, text, Some(WorkFault::At { line, cause }))
 }
 
-// The first of the texts between bars that is not refused behind its end.
-fn wrong_open_text(alloc: Global, texts: &[u8]) -> Option<usize> {
-    for (index, text) in texts.split(|byte| *byte == b'|').enumerate() {
-        if !is_end_refused(alloc, text) {
+// The first of the texts that is not refused behind its end.
+fn wrong_open_text(alloc: Global, texts: &[&[u8]]) -> Option<usize> {
+    for (index, text) in texts.iter().enumerate() {
+        if !is_end_refused(alloc, *text) {
             return Some(index);
         }
     }
     None
 }
 
-#[test]
-fn the_end_is_refused(rt: HostRuntime) {
-    let wrong = wrong_open_text(rt.alloc(), OPEN);
-    assert!(rt; wrong.is_none(), "text {wrong:?}");
+// The limit of ticks of all processors is seen at the end.
+fn is_limited(alloc: Global) -> bool {
     let limits = Some(WorkFault::At {
         line: 3,
         cause: WorkCause::Limits,
     });
-    assert!(rt; has_fault(rt.alloc(), b"cpus 4\nlimit 100000", limits));
-    assert!(rt; has_fault(rt.alloc(), b"cpus 64\nlimit 3126\n", limits));
+    has_fault(alloc, b"cpus 4\nlimit 100000", limits)
+        && has_fault(alloc, b"cpus 64\nlimit 3126\n", limits)
+}
+
+#[test]
+fn the_end_is_refused(rt: HostRuntime) {
+    judge(&rt, Ok(wrong_open_text(rt.alloc(), &OPEN)));
+    is_so(&rt, Ok(is_limited(rt.alloc())));
 }
 
 // What stands above the operations of a script: 8 lines.
 const ABOVE: &[u8] =
     b"limit 1\nthread a fx 60 10 inf\nthread b fx 60 10 inf\nmutex m\nrwlock w\nchan k\nsema s 1\nscript a\n";
 
-// Operations between bars that name what is not declared, or is of another kind.
-const UNKNOWN_OPERATIONS: &[u8] =
-    b"enter w|enter k|enter s|read m|write m|exit z|sleep s|wake m|wakeall z|semap k|semav k|cvwait k w|cvwait s m|pbind z 0|assign 0 z|assign 7 zz|priocntl zz ts 40000 0";
+// Operations that name what is not declared, or is of another kind.
+const UNKNOWN_OPERATIONS: [&[u8]; 17] = [
+    b"enter w",
+    b"enter k",
+    b"enter s",
+    b"read m",
+    b"write m",
+    b"exit z",
+    b"sleep s",
+    b"wake m",
+    b"wakeall z",
+    b"semap k",
+    b"semav k",
+    b"cvwait k w",
+    b"cvwait s m",
+    b"pbind z 0",
+    b"assign 0 z",
+    b"assign 7 zz",
+    b"priocntl zz ts 40000 0",
+];
 
-const UNBALANCED_OPERATIONS: &[u8] = b"exit m|exit w|cvwait k m";
+const UNBALANCED_OPERATIONS: [&[u8]; 3] = [b"exit m", b"exit w", b"cvwait k m"];
 
 fn put_operation(text: &mut Vec<u8>, operation: &[u8]) -> Result<(), AllocError> {
     text.extend_from_slice(operation)?;
@@ -157,14 +255,14 @@ fn is_operation_refused(
     Ok(has_fault(alloc, &text, Some(WorkFault::At { line: 9, cause })))
 }
 
-// The first of the operations between bars that is not refused for this cause.
+// The first of the operations that is not refused for this cause.
 fn wrong_operation(
     alloc: Global,
-    operations: &[u8],
+    operations: &[&[u8]],
     cause: WorkCause,
 ) -> Result<Option<usize>, AllocError> {
-    for (index, operation) in operations.split(|byte| *byte == b'|').enumerate() {
-        if !is_operation_refused(alloc, operation, cause)? {
+    for (index, operation) in operations.iter().enumerate() {
+        if !is_operation_refused(alloc, *operation, cause)? {
             return Ok(Some(index));
         }
     }
@@ -172,13 +270,16 @@ fn wrong_operation(
 }
 
 #[test]
-fn operations_are_refused(rt: HostRuntime) -> Result<(), Fail> {
-    let unknown = wrong_operation(rt.alloc(), UNKNOWN_OPERATIONS, WorkCause::Unknown)?;
-    assert!(rt; unknown.is_none(), "unknown {unknown:?}");
-    let cause = WorkCause::Script(ScriptFault::Unbalanced { op: 0 });
-    let unbalanced = wrong_operation(rt.alloc(), UNBALANCED_OPERATIONS, cause)?;
-    assert!(rt; unbalanced.is_none(), "unbalanced {unbalanced:?}");
-    Ok(())
+fn operations_are_refused(rt: HostRuntime) {
+    let unbalanced = WorkCause::Script(ScriptFault::Unbalanced { op: 0 });
+    judge(
+        &rt,
+        wrong_operation(rt.alloc(), &UNKNOWN_OPERATIONS, WorkCause::Unknown),
+    );
+    judge(
+        &rt,
+        wrong_operation(rt.alloc(), &UNBALANCED_OPERATIONS, unbalanced),
+    );
 }
 
 // Appends a line this many times.
@@ -250,14 +351,20 @@ const SCRIPTS: [(u64, &[u8], Option<(u32, WorkCause)>); 9] = [
     ),
 ];
 
-#[test]
-fn scripts_are_refused(rt: HostRuntime) -> Result<(), Fail> {
+// The first script that is judged otherwise.
+fn wrong_script(alloc: Global) -> Result<Option<usize>, AllocError> {
     for (index, row) in SCRIPTS.iter().enumerate() {
         let (runs, last, fault) = *row;
-        let is_so = has_script_fault(rt.alloc(), runs, last, fault)?;
-        assert!(rt; is_so, "script {index}");
+        if !has_script_fault(alloc, runs, last, fault)? {
+            return Ok(Some(index));
+        }
     }
-    Ok(())
+    Ok(None)
+}
+
+#[test]
+fn scripts_are_refused(rt: HostRuntime) {
+    judge(&rt, wrong_script(rt.alloc()));
 }
 
 // Appends a table of this class with this many rows, and then this line.
@@ -327,14 +434,20 @@ const TABLES: [(&[u8], u64, &[u8], Option<(u32, TableFault)>); 9] = [
     ),
 ];
 
-#[test]
-fn tables_are_refused(rt: HostRuntime) -> Result<(), Fail> {
+// The first table that is judged otherwise.
+fn wrong_table(alloc: Global) -> Result<Option<usize>, AllocError> {
     for (index, row) in TABLES.iter().enumerate() {
         let (class, rows, last, fault) = *row;
-        let is_so = has_table_fault(rt.alloc(), class, rows, last, fault)?;
-        assert!(rt; is_so, "table {index}");
+        if !has_table_fault(alloc, class, rows, last, fault)? {
+            return Ok(Some(index));
+        }
     }
-    Ok(())
+    Ok(None)
+}
+
+#[test]
+fn tables_are_refused(rt: HostRuntime) {
+    judge(&rt, wrong_table(rt.alloc()));
 }
 
 // Appends this many lines of two words, of which the second is a letter and the number.
@@ -385,14 +498,20 @@ const LIMITS: [(u64, u64, &[u8], Option<(u32, WorkCause)>); 6] = [
     ),
 ];
 
-#[test]
-fn limits_have_two_sides(rt: HostRuntime) -> Result<(), Fail> {
+// The first limit that is judged otherwise.
+fn wrong_limit(alloc: Global) -> Result<Option<usize>, AllocError> {
     for (index, row) in LIMITS.iter().enumerate() {
         let (threads, locks, last, fault) = *row;
-        let is_so = has_limit(rt.alloc(), threads, locks, last, fault)?;
-        assert!(rt; is_so, "limit {index}");
+        if !has_limit(alloc, threads, locks, last, fault)? {
+            return Ok(Some(index));
+        }
     }
-    Ok(())
+    Ok(None)
+}
+
+#[test]
+fn limits_have_two_sides(rt: HostRuntime) {
+    judge(&rt, wrong_limit(rt.alloc()));
 }
 
 // Each line form.
@@ -522,13 +641,21 @@ fn has_script(work: &Work) -> bool {
     }
 }
 
+fn is_whole(work: &Work) -> bool {
+    let has_lists = has_set(work) && has_objects(work);
+    has_settings(work) && has_lists && has_threads(work) && has_script(work)
+}
+
+fn is_read(alloc: Global) -> bool {
+    match read_work(alloc, WHOLE) {
+        Ok(work) => is_whole(&work),
+        Err(_) => false,
+    }
+}
+
 #[test]
-fn a_workload_is_read(rt: HostRuntime) -> Result<(), Fail> {
-    let work = read_work(rt.alloc(), WHOLE)?;
-    let has_lists = has_set(&work) && has_objects(&work);
-    let is_so = has_settings(&work) && has_lists && has_threads(&work) && has_script(&work);
-    assert!(rt; is_so);
-    Ok(())
+fn a_workload_is_read(rt: HostRuntime) {
+    is_so(&rt, Ok(is_read(rt.alloc())));
 }
 
 // 10 milliseconds are 10 ticks of a thousand a second, wherever the line of the ticks stands.
@@ -551,13 +678,15 @@ fn is_read_with_ticks(alloc: Global, text: &[u8]) -> bool {
     }
 }
 
-#[test]
-fn a_table_is_read(rt: HostRuntime) -> Result<(), Fail> {
-    let mut text = Vec::from_slice(rt.alloc(), b"limit 1\ntable ")?;
+fn has_table(alloc: Global) -> Result<bool, AllocError> {
+    let mut text = Vec::from_slice(alloc, b"limit 1\ntable ")?;
     put_table(&mut text, b"rt", 60, b"end\nhz 1000")?;
-    let is_so = is_read_with_ticks(rt.alloc(), &text);
-    assert!(rt; is_so);
-    Ok(())
+    Ok(is_read_with_ticks(alloc, &text))
+}
+
+#[test]
+fn a_table_is_read(rt: HostRuntime) {
+    is_so(&rt, has_table(rt.alloc()));
 }
 
 fn has_text(alloc: Global, cause: WorkCause, text: &str) -> Result<bool, AllocError> {
@@ -586,12 +715,18 @@ const TEXTS: [(WorkCause, &str); 9] = [
     (WorkCause::Limits, "line 7: limits"),
 ];
 
-#[test]
-fn faults_have_their_texts(rt: HostRuntime) -> Result<(), Fail> {
-    for row in &TEXTS {
+// The first text that is judged otherwise.
+fn wrong_cause(alloc: Global) -> Result<Option<usize>, AllocError> {
+    for (index, row) in TEXTS.iter().enumerate() {
         let (cause, text) = *row;
-        let is_so = has_text(rt.alloc(), cause, text)?;
-        assert!(rt; is_so, "{text}");
+        if !has_text(alloc, cause, text)? {
+            return Ok(Some(index));
+        }
     }
-    Ok(())
+    Ok(None)
+}
+
+#[test]
+fn faults_have_their_texts(rt: HostRuntime) {
+    judge(&rt, wrong_cause(rt.alloc()));
 }
