@@ -1,6 +1,5 @@
 pub mod AfterLemmas
 pub mod AlikeLemmas
-pub mod BodyLemmas
 pub mod ByteLemmas
 pub mod CanLemmas
 pub mod ChangeLemmas

@@ -25,14 +25,11 @@ impl Packed for ThreadBody {
         self.class.write(into)?;
         self.willed.write(into)?;
         self.held.write(into)?;
-        self.op.write(into)?;
-        self.run_left.write(into)?;
-        self.back.write(into)?;
-        self.last.write(into)?;
-        self.left_at.write(into)?;
-        self.looped.write(into)?;
-        self.bound.write(into)?;
-        Ok(())
+        let marks = (
+            (self.op, (self.run_left, (self.back, self.last))),
+            (self.left_at, (self.looped, self.bound)),
+        );
+        marks.write(into)
     }
 
     #[tactic(auto, unfolding(crate::specs::Reading::body_at))]

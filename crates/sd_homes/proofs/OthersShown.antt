@@ -2,7 +2,7 @@
 use Rattle.std.proofs.Common.{◌≡◌, ℕ, ◌<◌, ◌≤◌, Bool, true, false, ◌==◌, List, [], ◌∷◌, ◌++◌, length, set, slice_get, zero, suc, refl, sym, ap, ◌∙◌, subst, le_refl, inl, inr}
 use Rattle.std.proofs.lemmas.Bool.{eqb-true, eqb-false, eq-eqb, cases_lt}
 use Rattle.std.proofs.lemmas.List.{set_past}
-use Rattle.sd_basics.proofs.Lists.{get_set}
+use Rattle.sd_basics.proofs.Lists.{get_set, get_set_other}
 use Rattle.sd_types.specs.declared.numbers.LockId.{LockId}
 use Rattle.sd_types.specs.declared.numbers.Side.TheVariants.{Writer, Reader}
 use Rattle.sd_boxq.specs.Order.{drop_id}
@@ -22,19 +22,12 @@ use Rattle.std.proofs.lemmas.Option.{slice_get_past}
 
 -- ---- the threads of a state with another one
 
-get-set_other : {X : Type 0} (xs : List X) (t u : ℕ) (y : X) → (u ≡ t → ⊥) → slice_get (set xs t y) u ≡ slice_get xs u
-get-set_other [] t u y n = refl
-get-set_other (x ∷ xs) zero zero y n = absurd (n refl)
-get-set_other (x ∷ xs) zero (suc u) y n = refl
-get-set_other (x ∷ xs) (suc t) zero y n = refl
-get-set_other (x ∷ xs) (suc t) (suc u) y n = get-set_other xs t u y (λ e. n (ap suc e))
-
 pub look-with_thread : (s : State) (t : ℕ) (y : ThreadState) → t < length s.threads → look_of (with_thread s t y) ≡ with_one t y (look_of s)
 look-with_thread s t y h i u = by (u == t) refl i
   where
     by : (b : Bool) → (u == t) ≡ b → look_of (with_thread s t y) u ≡ with_one t y (look_of s) u
     by true e = let same = eqb-true u t e in rw e (ap (slice_get (set s.threads t y)) same ∙ get_set s.threads t y h)
-    by false e = rw e (get-set_other s.threads t u y (eqb-false u t e))
+    by false e = rw e (get_set_other s.threads t u y (λ q. eqb-false u t e (sym q)))
 
 -- ---- where there is no such thread
 

@@ -7,11 +7,10 @@ use Rattle.std.proofs.lemmas.Bool.Decides.{nat_tests}
 use Rattle.std.proofs.lemmas.List.{append-nil}
 use Rattle.std.proofs.lemmas.List.Concat.{flat_map-append}
 use Rattle.std.proofs.lemmas.List.Elements.{All-append, All-cons, All-nil, filter-append}
+use Rattle.sd_basics.proofs.Truths.{or_rest}
 use Rattle.sd_layout.specs.declared.folds.Column.{Column}
 use Rattle.sd_layout.specs.declared.frames.Frame.{Frame}
 use Rattle.sd_layout.specs.Folds.{AllFoldsAreQuiet, are_few, changes_in, columns, columns_from, columns_if, columns_of, few_of, fold_if, fold_of, folds, folds_from, folds_of, is_change, is_fold, is_gap, is_wide, one_by_one, part, single, stop_at, stops_of, ticks_of}
-
--- ---- where ticks lie
 
 -- ---- ranges and columns
 
@@ -62,10 +61,6 @@ part_ticks : (a b : ℕ) → a ≤ b → flat_map ticks_of (part a b) ≡ range_
 part_ticks a b up = part_by a b (is_gap a b) refl up
 
 -- ---- stops
-
-or_right : (a b : Bool) → (a || b) ≡ false → b ≡ false
-or_right true b h = absurd (false≢true (sym h))
-or_right false b h = h
 
 module _ (f : Frame) (cs : List ℕ) where
   -- the stops among so many ticks from the n-th on, and the end
@@ -130,7 +125,7 @@ module _ (f : Frame) (cs : List ℕ) where
     | inr none ↦
         subst (λ xs. All Quiet (folds_from a xs)) (sym (rest_none n m none))
         (quiet_from m (n + 1) a (omega (arith, all)) (λ tick from to. elim (cases_eq tick (f.from + n)) [
-          | inl same ↦ ap (is_change cs) same ∙ or_right ((f.from + n) == f.from) (is_change cs (f.from + n)) none
+          | inl same ↦ ap (is_change cs) same ∙ or_rest ((f.from + n) == f.from) (is_change cs (f.from + n)) none
           | inr other ↦ still tick from (omega (arith, to, other))
         ]))
   ]

@@ -11,6 +11,7 @@ use Rattle.std.proofs.lemmas.List.Sorted.{All-permutation, Contains-permutation,
 use Rattle.std.proofs.lemmas.Map.Keys.{IsDistinct-IsPermutation}
 use Rattle.std.proofs.Math.Seq.{take-append-add}
 use Rattle.sd_basics.proofs.Ranges.{range_more}
+use Rattle.sd_basics.proofs.Truths.{either}
 use Rattle.sd_types.specs.declared.works.Work.{Work}
 use Rattle.sd_stretches.specs.declared.histories.History.{History}
 use Rattle.sd_layout.specs.declared.frames.Frame.{Frame}
@@ -61,10 +62,6 @@ filter_grown p n b old new is so_far more =
 permutes : (p : ℕ → Bool) (ts : List ℕ) → IsPermutation ts (ordered p ts)
 permutes p ts = IsPermutation-filter_both p (λ t. not (p t)) (λ t. refl) ts
 
-either_list : (P : List ℕ → Type 0) (b : Bool) (xs ys : List ℕ) → P xs → P ys → P (cond b xs ys)
-either_list P true xs ys p q = p
-either_list P false xs ys p q = q
-
 nothing_added : (k : ℕ) → 0 + k ≡ k
 nothing_added k = omega arith
 
@@ -80,7 +77,7 @@ threads w f h =
     let n = length w.threads in
     let all = thread_numbers w in
     let own = ordered (acts w f h) all in
-    either_list (All (λ t. t < n)) (leb n f.threads) all (take f.threads own) (below n)
+    either (All (λ t. t < n)) (leb n f.threads) all (take f.threads own) (below n)
     (All-take (λ t. t < n) f.threads own (All-permutation (λ t. t < n) all own (permutes (acts w f h) all) (below n)))
 
 distinct : (w : Work) (f : Frame) (h : History) → IsDistinct eqb (rows_of w f h)
@@ -89,7 +86,7 @@ distinct w f h =
     let n = length w.threads in
     let all = thread_numbers w in
     let own = ordered (acts w f h) all in
-    either_list (IsDistinct eqb) (leb n f.threads) all (take f.threads own) (distinct_range 0 n)
+    either (IsDistinct eqb) (leb n f.threads) all (take f.threads own) (distinct_range 0 n)
     (distinct_take f.threads own (IsDistinct-IsPermutation eqb same_way all own (permutes (acts w f h) all) (distinct_range 0 n)))
 
 room_by : (b : Bool) (n m : ℕ) (xs ys : List ℕ) → leb n m ≡ b → length xs ≡ n → length ys ≡ n → length (cond b xs (take m ys)) ≡ min m n

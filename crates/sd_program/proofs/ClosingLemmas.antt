@@ -3,6 +3,7 @@ use Rattle.std.proofs.Common.{◌≡◌, ℕ, zero, suc, ◌+◌, ◌-◌, Bool,
 use Rattle.std.specs.Prelude.{codes, count_by, decimal}
 use Rattle.std.specs.List.{flat_map, range_with_len}
 use Rattle.rand_pcg.specs.Lcg.{Lcg}
+use Rattle.sd_basics.proofs.Truths.{either}
 use Rattle.sd_types.specs.declared.events.Entry.{Entry}
 use Rattle.sd_types.specs.declared.works.Work.{Work}
 use Rattle.sd_dispadmin.specs.TableSpelling.{ts_text, fixed_text}
@@ -142,20 +143,16 @@ nested-ends a b =
     (EndsLine-append (lock_line (codes "enter ") m b) inside (lock-ends (codes "enter ") m b)
     (EndsLine-append (codes "run 2\n") exits refl (EndsLine-append (lock_line (codes "exit ") m b) last (lock-ends (codes "exit ") m b) (lock-ends (codes "exit ") m a))))
 
-either : (b : Bool) (x y : Drawn) → Ends x → Ends y → Ends (cond b x y)
-either true x y p q = p
-either false x y p q = q
-
 part-ends : (kind : ℕ) (g : Lcg) → Ends (part kind g)
 unfolding part
 part-ends kind g =
     let last = cond (eqb kind 3) (write_part g) (nap_part g) in
     let reads = cond (eqb kind 2) (read_part g) last in
     let inner = drawn 15 g in
-    either (eqb kind 0) (mutex_part g) (cond (eqb kind 1) (nested_part g) reads) (locked-ends (codes "enter ") (codes "m") (drawn 16 g).0)
-    (either (eqb kind 1) (nested_part g) reads (nested-ends inner.0 (inner.0 + 1 + (drawn (15 - inner.0) inner.1).0))
-    (either (eqb kind 2) (read_part g) last (locked-ends (codes "read ") (codes "w") (drawn 4 g).0)
-    (either (eqb kind 3) (write_part g) (nap_part g) (locked-ends (codes "write ") (codes "w") (drawn 4 g).0) (number-ends (codes "nap ") ((drawn 50 g).0 + 1)))))
+    either Ends (eqb kind 0) (mutex_part g) (cond (eqb kind 1) (nested_part g) reads) (locked-ends (codes "enter ") (codes "m") (drawn 16 g).0)
+    (either Ends (eqb kind 1) (nested_part g) reads (nested-ends inner.0 (inner.0 + 1 + (drawn (15 - inner.0) inner.1).0))
+    (either Ends (eqb kind 2) (read_part g) last (locked-ends (codes "read ") (codes "w") (drawn 4 g).0)
+    (either Ends (eqb kind 3) (write_part g) (nap_part g) (locked-ends (codes "write ") (codes "w") (drawn 4 g).0) (number-ends (codes "nap ") ((drawn 50 g).0 + 1)))))
 
 round-ends : (g : Lcg) → Ends (round_text g)
 unfolding round_text

@@ -7,6 +7,7 @@ use Rattle.std.proofs.lemmas.Bool.Decides.{nat_tests}
 use Rattle.std.proofs.lemmas.List.{append-nil}
 use Rattle.std.proofs.lemmas.List.Sums.{sum_by-append, sum_by-cons, take_while-cons}
 use Rattle.std.proofs.Math.Seq.{take-append_seam, drop-append_seam}
+use Rattle.sd_basics.proofs.Truths.{either}
 use Rattle.sd_types.specs.declared.numbers.CpuId.{CpuId}
 use Rattle.sd_stretches.specs.declared.changes.Onset.{Onset}
 use Rattle.sd_stretches.specs.declared.rows.Stretch.{Stretch}
@@ -61,10 +62,6 @@ ordered_more lo hi later (s ∷ ss) more (a, b, rest) = (a, b, ordered_more s.to
 ordered_push : (lo hi : ℕ) (ss : List Spell) (s : Spell) → hi ≤ s.from → s.from ≤ s.to → Ordered lo hi ss → Ordered lo s.to (ss ++ s ∷ [])
 ordered_push lo hi [] s at up h = (omega (arith, at, h), up, omega arith)
 ordered_push lo hi (x ∷ xs) s at up (a, b, rest) = (a, b, ordered_push x.to hi xs s at up rest)
-
-either : {A : Type 0} (P : List A → Type 0) (b : Bool) (xs ys : List A) → P xs → P ys → P (cond b xs ys)
-either P true xs ys p q = p
-either P false xs ys p q = q
 
 ordered_joined : (lo hi : ℕ) (x : Spell) (ss : List Spell) → Ordered lo hi (x ∷ ss) → Ordered lo hi (spells_from x ss)
 unfolding spells_from

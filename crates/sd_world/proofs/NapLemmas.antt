@@ -20,7 +20,8 @@ use Rattle.sd_state.specs.declared.states.Place.{Place}
 use Rattle.sd_state.specs.declared.states.Place.TheVariants.{Running, Queued, RealTime, Napping}
 use Rattle.sd_state.specs.declared.states.State.{State}
 use Rattle.sd_state.specs.States.{no_thread, thread_of, set_of, eff_of}
-use Rattle.sd_state.specs.Opening.{is_urgent, first_cpu, first_thread, first_threads, opening}
+use Rattle.sd_state.specs.Opening.{is_urgent, first_cpu, first_thread, opening}
+use Rattle.sd_state.proofs.Declared.{opening_each}
 use Rattle.sd_machine.specs.Bodies.{aged_class}
 use Rattle.sd_machine.specs.Changes.{back_key, key_at, place_put, queue_place}
 use Rattle.sd_machine.specs.Events.{after}
@@ -113,14 +114,8 @@ first_fits w t d = by (is_urgent d)
     by true = tt
     by false = tt
 
-all_fit : (w : Work) (k : ℕ) (ds : List ThreadDecl) (t : ℕ) → NapFits (get_or (first_threads w k ds) t no_thread).place
-all_fit w k [] t = tt
-all_fit w k (d ∷ ds) zero = first_fits w k d
-all_fit w k (d ∷ ds) (suc t) = all_fit w (k + 1) ds t
-
 opening_fits : (w : Work) → NapsFit w (opening w)
-unfolding opening
-opening_fits w t = all_fit w 0 w.threads t
+opening_fits w t = opening_each w t (λ x. NapFits x.place) tt (λ d is. first_fits w t d)
 
 pub naps_fit : HoldsWhenReached NapsFit
 naps_fit = held_reached NapsFit (record {
