@@ -31,10 +31,10 @@ place_wakes true t p c = tt
 place_wakes false t p c = tt
 
 threads_fit : (w : Work) (t : ℕ) → IfSome (key_at (thread_of (opening w) t).place) (IsKeyBefore 0)
+unfolding first_thread
 threads_fit w t = opening_each w t (λ x. IfSome (key_at x.place) (IsKeyBefore 0)) tt each
   where
     each : (d : ThreadDecl) → slice_get w.threads t ≡ Some d → IfSome (key_at (first_thread w t d).place) (IsKeyBefore 0)
-    unfolding first_thread
     each d is =
         let there = decl_inside w t d is in
         let few : length w.threads ≤ 2048 = w.most_threads in

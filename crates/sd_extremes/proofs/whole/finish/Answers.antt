@@ -10,7 +10,7 @@ pub first_able-requires : goal.first_able-requires
 first_able-requires c = W.fit_of c.args.work.now c.loop-n.entries.items c.loop-n.state c.loop-n.invariant.leads
 
 pub take_turn-requires : goal.take_turn-requires
-take_turn-requires c = W.reached c.args.work.now c.loop-n.entries.items c.loop-n.state c.loop-n.invariant.leads
+take_turn-requires c = record { reached = W.reached c.args.work.now c.loop-n.entries.items c.loop-n.state c.loop-n.invariant.leads }
 
 pub loop-n-preserved : goal.loop-n-preserved
 loop-n-preserved c =

@@ -10,7 +10,7 @@ loop-c-init c = record {
 }
 
 pub take_turn-requires : goal.take_turn-requires
-take_turn-requires c = W.reached c.args.work.now c.loop-c.entries.items c.loop-c.state c.loop-c.invariant.leads
+take_turn-requires c = record { reached = W.reached c.args.work.now c.loop-c.entries.items c.loop-c.state c.loop-c.invariant.leads }
 
 pub loop-c-preserved : goal.loop-c-preserved
 loop-c-preserved c =
