@@ -1,6 +1,7 @@
 //! The three programs from their start: the status, the output and the error output that the arguments of each kind are answered
 //! with, as one table. The journals and the ticks were worked out by hand.
 
+use crate::judging::judge;
 use crate::runs::{SMALLEST, SMALLEST_JOURNAL, USAGE, start_over};
 use crate::streams::{Streams, holds, plain, streams_of, words_of};
 use sd_find::Progress;
@@ -10,7 +11,6 @@ use std::io;
 use std::io::ErrorKind;
 use std::marker::Sync;
 use std::sync::Wait;
-use std::test::Fail;
 use std::thread::Threads;
 
 const VIEW_USAGE: &str =
@@ -42,34 +42,16 @@ enum Program {
     Dispfind,
 }
 
-/// A call of a program, and what it is to answer. Arguments that no words spell could not be read as text.
-#[derive(Clone, Copy)]
-struct Row {
-    program: Program,
-    words: Option<&'static str>,
-    input: &'static str,
-    status: u8,
-    out: &'static str,
-    err: &'static str,
-}
-
-const fn asked(
-    program: Program,
-    words: Option<&'static str>,
-    input: &'static str,
-    status: u8,
-    out: &'static str,
-    err: &'static str,
-) -> Row {
-    Row {
-        program,
-        words,
-        input,
-        status,
-        out,
-        err,
-    }
-}
+/// A call of a program: its arguments, and its input; and what it is to answer: the status, the output and the error output. Arguments
+/// that no words spell could not be read as text.
+type Row = (
+    Program,
+    Option<&'static str>,
+    &'static str,
+    u8,
+    &'static str,
+    &'static str,
+);
 
 fn arguments(alloc: Global, words: Option<&str>) -> io::Result<Vec<String>> {
     match words {
@@ -108,71 +90,106 @@ fn is_answered<R: Threads + Wait + Sync + AllocGlobal>(
     rt: &R,
     row: &Row,
 ) -> Result<bool, AllocError> {
+    let (program, words, input, status, out, err) = *row;
     let alloc = rt.alloc();
-    let mut streams = streams_of(alloc, plain(row.input.as_bytes(), 7))?;
-    let arguments = arguments(alloc, row.words);
-    let status = status_over(rt, row.program, arguments, &mut streams);
-    Ok(status == row.status && holds(&streams, row.out.as_bytes(), row.err.as_bytes()))
+    let mut streams = streams_of(alloc, plain(input.as_bytes(), 7))?;
+    let arguments = arguments(alloc, words);
+    let found = status_over(rt, program, arguments, &mut streams);
+    Ok(found == status && holds(&streams, out.as_bytes(), err.as_bytes()))
+}
+
+const CALLS: [Row; 15] = [
+    (
+        Program::Dispsim,
+        Some("run"),
+        SMALLEST,
+        0,
+        SMALLEST_JOURNAL,
+        "",
+    ),
+    (
+        Program::Dispsim,
+        Some("run --seed 7 more"),
+        SMALLEST,
+        1,
+        "",
+        USAGE,
+    ),
+    (
+        Program::Dispsim,
+        Some("run"),
+        "limit 0\n",
+        2,
+        "",
+        "refused: line 1: range\n",
+    ),
+    (Program::Dispsim, None, SMALLEST, 1, "", USAGE),
+    (Program::Dispview, Some("--help"), "", 0, VIEW_HELP, ""),
+    (
+        Program::Dispview,
+        Some("timeline 0 5 more"),
+        "",
+        1,
+        "",
+        VIEW_USAGE,
+    ),
+    (
+        Program::Dispview,
+        Some("timeline"),
+        "limit 5\n",
+        2,
+        "",
+        "refused: no journal\n",
+    ),
+    (Program::Dispview, None, "", 1, "", VIEW_USAGE),
+    (Program::Dispfind, Some("--help"), "", 0, FIND_HELP, ""),
+    (
+        Program::Dispfind,
+        Some("ends a"),
+        SMALLEST,
+        9,
+        FIND_ENDS,
+        "",
+    ),
+    (Program::Dispfind, Some("waits a"), WOKEN, 9, FIND_WAITS, ""),
+    (
+        Program::Dispfind,
+        Some("stuck"),
+        SMALLEST,
+        10,
+        "never\nstates 8\n",
+        "",
+    ),
+    (
+        Program::Dispfind,
+        Some("states --most 100 more"),
+        "",
+        1,
+        "",
+        FIND_USAGE,
+    ),
+    (
+        Program::Dispfind,
+        Some("blocked"),
+        "limit 5\nthread a xx 29 0 0\n",
+        2,
+        "",
+        "refused: line 2: syntax\n",
+    ),
+    (Program::Dispfind, None, "", 1, "", FIND_USAGE),
+];
+
+/// The first call that is answered otherwise.
+fn wrong_call<R: Threads + Wait + Sync + AllocGlobal>(rt: &R) -> Result<Option<usize>, AllocError> {
+    for (index, row) in CALLS.iter().enumerate() {
+        if !is_answered(rt, row)? {
+            return Ok(Some(index));
+        }
+    }
+    Ok(None)
 }
 
 #[test]
-fn calls_of_each_program(rt: HostRuntime) -> Result<(), Fail> {
-    use Program::{Dispfind, Dispsim, Dispview};
-    let rows = [
-        asked(Dispsim, Some("run"), SMALLEST, 0, SMALLEST_JOURNAL, ""),
-        asked(Dispsim, Some("run --seed 7 more"), SMALLEST, 1, "", USAGE),
-        asked(
-            Dispsim,
-            Some("run"),
-            "limit 0\n",
-            2,
-            "",
-            "refused: line 1: range\n",
-        ),
-        asked(Dispsim, None, SMALLEST, 1, "", USAGE),
-        asked(Dispview, Some("--help"), "", 0, VIEW_HELP, ""),
-        asked(Dispview, Some("timeline 0 5 more"), "", 1, "", VIEW_USAGE),
-        asked(
-            Dispview,
-            Some("timeline"),
-            "limit 5\n",
-            2,
-            "",
-            "refused: no journal\n",
-        ),
-        asked(Dispview, None, "", 1, "", VIEW_USAGE),
-        asked(Dispfind, Some("--help"), "", 0, FIND_HELP, ""),
-        asked(Dispfind, Some("ends a"), SMALLEST, 9, FIND_ENDS, ""),
-        asked(Dispfind, Some("waits a"), WOKEN, 9, FIND_WAITS, ""),
-        asked(
-            Dispfind,
-            Some("stuck"),
-            SMALLEST,
-            10,
-            "never\nstates 8\n",
-            "",
-        ),
-        asked(
-            Dispfind,
-            Some("states --most 100 more"),
-            "",
-            1,
-            "",
-            FIND_USAGE,
-        ),
-        asked(
-            Dispfind,
-            Some("blocked"),
-            "limit 5\nthread a xx 29 0 0\n",
-            2,
-            "",
-            "refused: line 2: syntax\n",
-        ),
-        asked(Dispfind, None, "", 1, "", FIND_USAGE),
-    ];
-    for row in &rows {
-        let answered = is_answered(&rt, row)?;
-        assert!(rt; answered, "{}", row.words.unwrap_or("no text"));
-    }
-    Ok(())
+fn calls_of_each_program(rt: HostRuntime) {
+    judge(&rt, wrong_call(&rt));
 }

@@ -1,11 +1,11 @@
 //! Each read and each write failing in turn, in a run, an audit and a story of the smallest run.
 
+use crate::judging::{is_so, judge};
 use crate::runs::{CERTIFICATE, SMALLEST, SMALLEST_JOURNAL};
 use crate::streams::{Given, Program, Wanted, answers, line_count};
 use std::alloc::AllocError;
 use std::marker::Sync;
 use std::sync::Wait;
-use std::test::Fail;
 use std::thread::Threads;
 
 const STORY: &str =
@@ -67,83 +67,66 @@ const READ_FAULT: Wanted<'static> = Wanted::All {
     err: b"read fault\n",
 };
 
-/// The first read, from 0, whose failing is not answered as it should. There is one for each byte, and one that finds the end.
-fn wrong_read<R: Threads + Wait + Sync + AllocGlobal>(
-    rt: &R,
-    form: Form,
-) -> Result<Option<usize>, AllocError> {
-    for read in 0..=form.input.len() {
-        let number = (read as u64).saturating_add(1);
-        if !answers_so(rt, form, &[number], 4096, &[], READ_FAULT)? {
-            return Ok(Some(read));
-        }
+/// What fails of a form, or is too small for it, each time another one.
+#[derive(Clone, Copy)]
+enum Tried {
+    /// A read. There is one for each byte, and one that finds the end.
+    Reads,
+    /// A write. There is one for each line.
+    Writes,
+    /// The room of the output, for as many bytes as its number.
+    Rooms,
+    /// The first read and the first write that do not come: with room for the output, one byte a read and one line a write.
+    Neither,
+}
+
+/// How often something fails.
+fn count_of(form: Form, tried: Tried) -> usize {
+    match tried {
+        Tried::Reads => form.input.len().saturating_add(1),
+        Tried::Writes => line_count(form.output.as_bytes()),
+        Tried::Rooms => form.output.len(),
+        Tried::Neither => 1,
     }
-    Ok(None)
 }
 
-#[test]
-fn each_read_fails(rt: HostRuntime) -> Result<(), Fail> {
-    assert_eq!(rt; wrong_read(&rt, RUN)?, None);
-    assert_eq!(rt; wrong_read(&rt, AUDIT)?, None);
-    assert_eq!(rt; wrong_read(&rt, LIST)?, None);
-    Ok(())
-}
-
-/// The first write, from 0, whose failing is not answered as it should. There is one for each line.
-fn wrong_write<R: Threads + Wait + Sync + AllocGlobal>(
+fn is_read_fault<R: Threads + Wait + Sync + AllocGlobal>(
     rt: &R,
     form: Form,
-) -> Result<Option<usize>, AllocError> {
+    number: u64,
+) -> Result<bool, AllocError> {
+    answers_so(rt, form, &[number], 4096, &[], READ_FAULT)
+}
+
+fn is_write_fault<R: Threads + Wait + Sync + AllocGlobal>(
+    rt: &R,
+    form: Form,
+    number: u64,
+    count: usize,
+) -> Result<bool, AllocError> {
     let output = form.output.as_bytes();
-    for write in 0..line_count(output) {
-        let number = (write as u64).saturating_add(1);
-        let wanted = Wanted::Lines {
-            output,
-            count: write,
-        };
-        if !answers_so(rt, form, &[], 4096, &[number], wanted)? {
-            return Ok(Some(write));
-        }
-    }
-    Ok(None)
+    answers_so(
+        rt,
+        form,
+        &[],
+        4096,
+        &[number],
+        Wanted::Lines { output, count },
+    )
 }
 
-#[test]
-fn each_write_fails(rt: HostRuntime) -> Result<(), Fail> {
-    assert_eq!(rt; wrong_write(&rt, RUN)?, None);
-    assert_eq!(rt; wrong_write(&rt, AUDIT)?, None);
-    assert_eq!(rt; wrong_write(&rt, LIST)?, None);
-    Ok(())
-}
-
-/// The first room for the output that is too small and is not answered as it should.
-fn wrong_room<R: Threads + Wait + Sync + AllocGlobal>(
+fn is_too_small<R: Threads + Wait + Sync + AllocGlobal>(
     rt: &R,
     form: Form,
-) -> Result<Option<usize>, AllocError> {
-    let output = form.output.as_bytes();
-    for room in 0..output.len() {
-        let wanted = Wanted::All {
-            status: 4,
-            out: &output[..room],
-            err: b"write fault\n",
-        };
-        if !answers_so(rt, form, &[], room, &[], wanted)? {
-            return Ok(Some(room));
-        }
-    }
-    Ok(None)
+    room: usize,
+) -> Result<bool, AllocError> {
+    let wanted = Wanted::Front {
+        output: form.output.as_bytes(),
+        count: room,
+    };
+    answers_so(rt, form, &[], room, &[], wanted)
 }
 
-#[test]
-fn each_room_is_too_small(rt: HostRuntime) -> Result<(), Fail> {
-    assert_eq!(rt; wrong_room(&rt, RUN)?, None);
-    assert_eq!(rt; wrong_room(&rt, AUDIT)?, None);
-    assert_eq!(rt; wrong_room(&rt, LIST)?, None);
-    Ok(())
-}
-
-/// The first read and the first write that do not come: with room for the output, one byte a read and one line a write.
 fn is_not_called<R: Threads + Wait + Sync + AllocGlobal>(
     rt: &R,
     form: Form,
@@ -158,16 +141,73 @@ fn is_not_called<R: Threads + Wait + Sync + AllocGlobal>(
     answers_so(rt, form, &[read], form.output.len(), &[write], whole)
 }
 
-#[test]
-fn reads_and_writes_are_counted(rt: HostRuntime) -> Result<(), Fail> {
-    assert!(rt; is_not_called(&rt, RUN)?);
-    assert!(rt; is_not_called(&rt, AUDIT)?);
-    assert!(rt; is_not_called(&rt, LIST)?);
-    Ok(())
+/// What fails with this number, from 0, is answered as it should.
+fn is_answered<R: Threads + Wait + Sync + AllocGlobal>(
+    rt: &R,
+    form: Form,
+    tried: Tried,
+    index: usize,
+) -> Result<bool, AllocError> {
+    let number = (index as u64).saturating_add(1);
+    match tried {
+        Tried::Reads => is_read_fault(rt, form, number),
+        Tried::Writes => is_write_fault(rt, form, number, index),
+        Tried::Rooms => is_too_small(rt, form, index),
+        Tried::Neither => is_not_called(rt, form),
+    }
+}
+
+/// All that fails of the form is answered as it should.
+fn are_answered<R: Threads + Wait + Sync + AllocGlobal>(
+    rt: &R,
+    form: Form,
+    tried: Tried,
+) -> Result<bool, AllocError> {
+    for index in 0..count_of(form, tried) {
+        if !is_answered(rt, form, tried, index)? {
+            return Ok(false);
+        }
+    }
+    Ok(true)
+}
+
+const FORMS: [Form; 3] = [RUN, AUDIT, LIST];
+
+/// The first form of which something is not answered as it should.
+fn wrong_form<R: Threads + Wait + Sync + AllocGlobal>(
+    rt: &R,
+    tried: Tried,
+) -> Result<Option<usize>, AllocError> {
+    for (index, form) in FORMS.iter().enumerate() {
+        if !are_answered(rt, *form, tried)? {
+            return Ok(Some(index));
+        }
+    }
+    Ok(None)
 }
 
 #[test]
-fn a_small_error_output(rt: HostRuntime) -> Result<(), Fail> {
+fn each_read_fails(rt: HostRuntime) {
+    judge(&rt, wrong_form(&rt, Tried::Reads));
+}
+
+#[test]
+fn each_write_fails(rt: HostRuntime) {
+    judge(&rt, wrong_form(&rt, Tried::Writes));
+}
+
+#[test]
+fn each_room_is_too_small(rt: HostRuntime) {
+    judge(&rt, wrong_form(&rt, Tried::Rooms));
+}
+
+#[test]
+fn reads_and_writes_are_counted(rt: HostRuntime) {
+    judge(&rt, wrong_form(&rt, Tried::Neither));
+}
+
+/// The error output has room for three bytes of its line.
+fn is_cut<R: Threads + Wait + Sync + AllocGlobal>(rt: &R) -> Result<bool, AllocError> {
     let given = Given {
         input: b"",
         chunk: 4,
@@ -181,14 +221,16 @@ fn a_small_error_output(rt: HostRuntime) -> Result<(), Fail> {
         out: b"",
         err: b"ref",
     };
-    let is_so = answers(&rt, Program::Dispsim, "run", given, wanted)?;
-    assert!(rt; is_so);
-    Ok(())
+    answers(rt, Program::Dispsim, "run", given, wanted)
+}
+
+#[test]
+fn a_small_error_output(rt: HostRuntime) {
+    is_so(&rt, is_cut(&rt));
 }
 
 /// Without the read behind the last byte the end of the input is not seen.
-#[test]
-fn a_read_behind_the_last_byte_fails(rt: HostRuntime) -> Result<(), Fail> {
+fn is_end_unseen<R: Threads + Wait + Sync + AllocGlobal>(rt: &R) -> Result<bool, AllocError> {
     let given = Given {
         input: b"limit 2\n",
         chunk: 1,
@@ -197,7 +239,10 @@ fn a_read_behind_the_last_byte_fails(rt: HostRuntime) -> Result<(), Fail> {
         writes: &[],
         err_room: 200,
     };
-    let is_so = answers(&rt, Program::Dispsim, "run", given, READ_FAULT)?;
-    assert!(rt; is_so);
-    Ok(())
+    answers(rt, Program::Dispsim, "run", given, READ_FAULT)
+}
+
+#[test]
+fn a_read_behind_the_last_byte_fails(rt: HostRuntime) {
+    is_so(&rt, is_end_unseen(&rt));
 }

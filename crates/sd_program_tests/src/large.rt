@@ -1,12 +1,12 @@
 //! Large worked runs: a priority that passes along a chain of a hundred mutexes, and a wakeup of as many sleepers as a workload can
 //! have.
 
+use crate::judging::is_so;
 use crate::streams::{Given, Program, Wanted, answers};
 use sd_text::put_number;
 use std::alloc::AllocError;
 use std::marker::Sync;
 use std::sync::Wait;
-use std::test::Fail;
 use std::thread::Threads;
 
 /// Each text with its number behind it, and the end of the line.
@@ -158,15 +158,11 @@ fn is_run<R: Threads + Wait + Sync + AllocGlobal>(
 }
 
 #[test]
-fn a_long_chain(rt: HostRuntime) -> Result<(), Fail> {
-    let is_so = is_run(&rt, Large::Chain)?;
-    assert!(rt; is_so);
-    Ok(())
+fn a_long_chain(rt: HostRuntime) {
+    is_so(&rt, is_run(&rt, Large::Chain));
 }
 
 #[test]
-fn a_large_wakeup(rt: HostRuntime) -> Result<(), Fail> {
-    let is_so = is_run(&rt, Large::Wakeup)?;
-    assert!(rt; is_so);
-    Ok(())
+fn a_large_wakeup(rt: HostRuntime) {
+    is_so(&rt, is_run(&rt, Large::Wakeup));
 }

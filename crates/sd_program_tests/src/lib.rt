@@ -10,6 +10,8 @@ mod failing;
 #[cfg(test)]
 mod generated;
 #[cfg(test)]
+mod judging;
+#[cfg(test)]
 mod large;
 #[cfg(test)]
 mod runs;

@@ -1,5 +1,6 @@
 //! Worked runs, and streams that fail. Each expected text was worked out by hand from the rules of the machine.
 
+use crate::judging::{is_so, judge};
 use crate::streams::{
     Given, Program, Streams, Wanted, answers, holds, plain, streams_of, words_of,
 };
@@ -15,7 +16,6 @@ use std::io;
 use std::io::ErrorKind;
 use std::marker::Sync;
 use std::sync::Wait;
-use std::test::Fail;
 use std::thread::Threads;
 
 pub(crate) const SMALLEST: &str = "limit 5\nthread a ts 29 0 0\nscript a\nrun 3\nend\n";
@@ -80,59 +80,58 @@ pub(crate) const SPINNING: &str =
 pub(crate) const YIELD: &str =
     "limit 2\nthread a fx 60 10 inf\nthread b fx 60 10 inf\nscript a\nyield\nrun 1\nend\nscript b\nrun 1\nend\n";
 
-/// A workload and the journal of its run.
-#[derive(Clone, Copy)]
-struct Worked {
-    input: &'static str,
-    journal: &'static str,
-}
-
-const fn run_of(input: &'static str, journal: &'static str) -> Worked {
-    Worked { input, journal }
-}
-
 /// The run of the workload ends well, and prints this journal.
 fn is_run<R: Threads + Wait + Sync + AllocGlobal>(
     rt: &R,
-    row: &Worked,
+    input: &str,
+    journal: &str,
 ) -> Result<bool, AllocError> {
     let wanted = Wanted::All {
         status: 0,
-        out: row.journal.as_bytes(),
+        out: journal.as_bytes(),
         err: b"",
     };
-    let given = plain(row.input.as_bytes(), 7);
+    let given = plain(input.as_bytes(), 7);
     answers(rt, Program::Dispsim, "run", given, wanted)
 }
 
-#[test]
-fn worked_runs(rt: HostRuntime) -> Result<(), Fail> {
-    let rows = [
-        run_of(SMALLEST, SMALLEST_JOURNAL),
-        run_of(
-            "limit 2\n",
-            "0 c0 idle\n1 c0 idle\naccounts\ncpu 0 ticks 2 idle 2\n",
-        ),
-        run_of(
-            EXPIRY,
-            "0 c0 dispatch a 0\n1 c0 tick a\n2 c0 tick a\n3 c0 tick a\n4 c0 tick a\n5 c0 tick a\n6 c0 tick a\n7 c0 tick a\n8 c0 tick a\n9 c0 tick a\n10 c0 tick a\n11 c0 tick a\n12 c0 tick a\n13 c0 tick a\n14 c0 tick a\n15 c0 tick a\n16 c0 tick a\n17 c0 tick a\n18 c0 tick a\n19 c0 tick a\n20 c0 tick a\n21 c0 preempt a back\n22 c0 dispatch b 0\n23 c0 tick b\n24 c0 done b\n25 c0 dispatch a 0\n26 c0 done a\n27 c0 idle\naccounts\nthread a ticks 20 dispatches 2 preempts 1 wakes 0 ended\nthread b ticks 1 dispatches 1 preempts 0 wakes 0 ended\ncpu 0 ticks 22 idle 1\n",
-        ),
-        run_of(
-            "limit 1\nthread a ts 5 0 -60\nscript a\nrun 1\nend\n",
-            "0 c0 dispatch a 0\n1 c0 tick a\n2 c0 done a\naccounts\nthread a ticks 1 dispatches 1 preempts 0 wakes 0 ended\ncpu 0 ticks 1 idle 0\n",
-        ),
-        run_of(CHAIN_OF_THREE, CHAIN_OF_THREE_JOURNAL),
-        run_of(WALK_DOWNWARDS, WALK_DOWNWARDS_JOURNAL),
-        run_of(READER_BEHIND_WRITER, READER_BEHIND_WRITER_JOURNAL),
-        run_of(BROADCAST, BROADCAST_JOURNAL),
-        run_of(BOUND, BOUND_JOURNAL),
-        run_of(NOBODY_ASLEEP, NOBODY_ASLEEP_JOURNAL),
-    ];
-    for row in &rows {
-        let run = is_run(&rt, row)?;
-        assert!(rt; run, "{}", row.input);
+/// Workloads and the journals of their runs.
+const WORKED: [(&str, &str); 10] = [
+    (SMALLEST, SMALLEST_JOURNAL),
+    (
+        "limit 2\n",
+        "0 c0 idle\n1 c0 idle\naccounts\ncpu 0 ticks 2 idle 2\n",
+    ),
+    (
+        EXPIRY,
+        "0 c0 dispatch a 0\n1 c0 tick a\n2 c0 tick a\n3 c0 tick a\n4 c0 tick a\n5 c0 tick a\n6 c0 tick a\n7 c0 tick a\n8 c0 tick a\n9 c0 tick a\n10 c0 tick a\n11 c0 tick a\n12 c0 tick a\n13 c0 tick a\n14 c0 tick a\n15 c0 tick a\n16 c0 tick a\n17 c0 tick a\n18 c0 tick a\n19 c0 tick a\n20 c0 tick a\n21 c0 preempt a back\n22 c0 dispatch b 0\n23 c0 tick b\n24 c0 done b\n25 c0 dispatch a 0\n26 c0 done a\n27 c0 idle\naccounts\nthread a ticks 20 dispatches 2 preempts 1 wakes 0 ended\nthread b ticks 1 dispatches 1 preempts 0 wakes 0 ended\ncpu 0 ticks 22 idle 1\n",
+    ),
+    (
+        "limit 1\nthread a ts 5 0 -60\nscript a\nrun 1\nend\n",
+        "0 c0 dispatch a 0\n1 c0 tick a\n2 c0 done a\naccounts\nthread a ticks 1 dispatches 1 preempts 0 wakes 0 ended\ncpu 0 ticks 1 idle 0\n",
+    ),
+    (CHAIN_OF_THREE, CHAIN_OF_THREE_JOURNAL),
+    (WALK_DOWNWARDS, WALK_DOWNWARDS_JOURNAL),
+    (READER_BEHIND_WRITER, READER_BEHIND_WRITER_JOURNAL),
+    (BROADCAST, BROADCAST_JOURNAL),
+    (BOUND, BOUND_JOURNAL),
+    (NOBODY_ASLEEP, NOBODY_ASLEEP_JOURNAL),
+];
+
+/// The first run that is not so.
+fn wrong_run<R: Threads + Wait + Sync + AllocGlobal>(rt: &R) -> Result<Option<usize>, AllocError> {
+    for (index, row) in WORKED.iter().enumerate() {
+        let (input, journal) = *row;
+        if !is_run(rt, input, journal)? {
+            return Ok(Some(index));
+        }
     }
-    Ok(())
+    Ok(None)
+}
+
+#[test]
+fn worked_runs(rt: HostRuntime) {
+    judge(&rt, wrong_run(&rt));
 }
 
 pub(crate) const USAGE: &str =
@@ -150,210 +149,195 @@ const CLOSED_CHAIN_JOURNAL: &str =
 
 /// A call: the arguments, the input, the reads that fail, the room of the output and the writes that fail; and what it is to
 /// answer: the status, the output and the error output.
-#[derive(Clone, Copy)]
-struct Case {
-    arguments: &'static str,
-    input: &'static str,
-    reads: &'static [u64],
-    room: usize,
-    writes: &'static [u64],
-    status: u8,
-    out: &'static str,
-    err: &'static str,
-}
-
-const fn asked(
-    arguments: &'static str,
-    input: &'static str,
-    reads: &'static [u64],
-    room: usize,
-    writes: &'static [u64],
-    status: u8,
-    out: &'static str,
-    err: &'static str,
-) -> Case {
-    Case {
-        arguments,
-        input,
-        reads,
-        room,
-        writes,
-        status,
-        out,
-        err,
-    }
-}
+type Case = (
+    &'static str,
+    &'static str,
+    &'static [u64],
+    usize,
+    &'static [u64],
+    u8,
+    &'static str,
+    &'static str,
+);
 
 /// The call answers as it is to.
 fn is_answered<R: Threads + Wait + Sync + AllocGlobal>(
     rt: &R,
     x: &Case,
 ) -> Result<bool, AllocError> {
+    let (arguments, input, reads, room, writes, status, out, err) = *x;
     let given = Given {
-        input: x.input.as_bytes(),
+        input: input.as_bytes(),
         chunk: 4,
-        reads: x.reads,
-        room: x.room,
-        writes: x.writes,
+        reads,
+        room,
+        writes,
         err_room: 200,
     };
     let wanted = Wanted::All {
-        status: x.status,
-        out: x.out.as_bytes(),
-        err: x.err.as_bytes(),
+        status,
+        out: out.as_bytes(),
+        err: err.as_bytes(),
     };
-    answers(rt, Program::Dispsim, x.arguments, given, wanted)
+    answers(rt, Program::Dispsim, arguments, given, wanted)
+}
+
+const CASES: [Case; 22] = [
+    ("", SMALLEST, &[], 4096, &[], 1, "", USAGE),
+    ("run fast", SMALLEST, &[], 4096, &[], 1, "", USAGE),
+    ("fast", SMALLEST, &[1], 4096, &[1], 1, "", USAGE),
+    (
+        "run",
+        "",
+        &[],
+        4096,
+        &[],
+        2,
+        "",
+        "refused: line 1: syntax\n",
+    ),
+    (
+        "run",
+        "limit 100001\n",
+        &[],
+        4096,
+        &[],
+        2,
+        "",
+        "refused: line 1: range\n",
+    ),
+    (
+        "tables",
+        "limit 1\nthread a rt 60 def\n",
+        &[],
+        4096,
+        &[],
+        2,
+        "",
+        "refused: line 2: range\n",
+    ),
+    (
+        "run --seed 7",
+        SMALLEST,
+        &[],
+        4096,
+        &[],
+        0,
+        SMALLEST_JOURNAL,
+        "",
+    ),
+    ("sum", SMALLEST, &[], 4096, &[], 0, SUMMARY, ""),
+    (
+        "run",
+        CLOSED_CHAIN,
+        &[],
+        4096,
+        &[],
+        6,
+        CLOSED_CHAIN_JOURNAL,
+        "blocking cycle\n",
+    ),
+    ("run", SMALLEST, &[2], 4096, &[], 3, "", "read fault\n"),
+    // The read that fails is the one behind the last byte.
+    ("run", SMALLEST, &[13], 4096, &[], 3, "", "read fault\n"),
+    ("audit", CERTIFICATE, &[1], 4096, &[], 3, "", "read fault\n"),
+    (
+        "run",
+        SMALLEST,
+        &[],
+        4096,
+        &[2],
+        4,
+        "0 c0 dispatch a 29\n",
+        "write fault\n",
+    ),
+    ("run", SMALLEST, &[], 5, &[], 4, "0 c0 ", "write fault\n"),
+    ("audit", CERTIFICATE, &[], 4096, &[], 0, "legal 7\n", ""),
+    (
+        "audit",
+        SMALLEST,
+        &[],
+        4096,
+        &[],
+        2,
+        "",
+        "refused: no journal\n",
+    ),
+    (
+        "audit",
+        "limit 100001\njournal\n",
+        &[],
+        4096,
+        &[],
+        2,
+        "",
+        "refused: line 1: range\n",
+    ),
+    (
+        "audit",
+        "limit 1\njournal\n",
+        &[],
+        4096,
+        &[],
+        7,
+        "",
+        "journal: line 1: not an entry\n",
+    ),
+    (
+        "audit",
+        "limit 1\njournal\n1 c0 idle\n",
+        &[],
+        4096,
+        &[],
+        7,
+        "",
+        "journal: entry 0: illegal\n",
+    ),
+    (
+        "audit",
+        "limit 1\njournal\naccounts\n",
+        &[],
+        4096,
+        &[],
+        7,
+        "",
+        "journal: incomplete: c0\n",
+    ),
+    (
+        "audit",
+        "limit 1\njournal\n0 c0 idle\naccounts\ncpu 0 ticks 1 idle 0\n",
+        &[],
+        4096,
+        &[],
+        7,
+        "",
+        "journal: line 3: accounts\n",
+    ),
+    (
+        "audit",
+        CERTIFICATE,
+        &[],
+        5,
+        &[],
+        4,
+        "legal",
+        "write fault\n",
+    ),
+];
+
+/// The first call that is answered otherwise.
+fn wrong_case<R: Threads + Wait + Sync + AllocGlobal>(rt: &R) -> Result<Option<usize>, AllocError> {
+    for (index, case) in CASES.iter().enumerate() {
+        if !is_answered(rt, case)? {
+            return Ok(Some(index));
+        }
+    }
+    Ok(None)
 }
 
 #[test]
-fn refusals_and_failing_streams(rt: HostRuntime) -> Result<(), Fail> {
-    let cases = [
-        asked("", SMALLEST, &[], 4096, &[], 1, "", USAGE),
-        asked("run fast", SMALLEST, &[], 4096, &[], 1, "", USAGE),
-        asked("fast", SMALLEST, &[1], 4096, &[1], 1, "", USAGE),
-        asked(
-            "run",
-            "",
-            &[],
-            4096,
-            &[],
-            2,
-            "",
-            "refused: line 1: syntax\n",
-        ),
-        asked(
-            "run",
-            "limit 100001\n",
-            &[],
-            4096,
-            &[],
-            2,
-            "",
-            "refused: line 1: range\n",
-        ),
-        asked(
-            "tables",
-            "limit 1\nthread a rt 60 def\n",
-            &[],
-            4096,
-            &[],
-            2,
-            "",
-            "refused: line 2: range\n",
-        ),
-        asked(
-            "run --seed 7",
-            SMALLEST,
-            &[],
-            4096,
-            &[],
-            0,
-            SMALLEST_JOURNAL,
-            "",
-        ),
-        asked("sum", SMALLEST, &[], 4096, &[], 0, SUMMARY, ""),
-        asked(
-            "run",
-            CLOSED_CHAIN,
-            &[],
-            4096,
-            &[],
-            6,
-            CLOSED_CHAIN_JOURNAL,
-            "blocking cycle\n",
-        ),
-        asked("run", SMALLEST, &[2], 4096, &[], 3, "", "read fault\n"),
-        // The read that fails is the one behind the last byte.
-        asked("run", SMALLEST, &[13], 4096, &[], 3, "", "read fault\n"),
-        asked("audit", CERTIFICATE, &[1], 4096, &[], 3, "", "read fault\n"),
-        asked(
-            "run",
-            SMALLEST,
-            &[],
-            4096,
-            &[2],
-            4,
-            "0 c0 dispatch a 29\n",
-            "write fault\n",
-        ),
-        asked("run", SMALLEST, &[], 5, &[], 4, "0 c0 ", "write fault\n"),
-        asked("audit", CERTIFICATE, &[], 4096, &[], 0, "legal 7\n", ""),
-        asked(
-            "audit",
-            SMALLEST,
-            &[],
-            4096,
-            &[],
-            2,
-            "",
-            "refused: no journal\n",
-        ),
-        asked(
-            "audit",
-            "limit 100001\njournal\n",
-            &[],
-            4096,
-            &[],
-            2,
-            "",
-            "refused: line 1: range\n",
-        ),
-        asked(
-            "audit",
-            "limit 1\njournal\n",
-            &[],
-            4096,
-            &[],
-            7,
-            "",
-            "journal: line 1: not an entry\n",
-        ),
-        asked(
-            "audit",
-            "limit 1\njournal\n1 c0 idle\n",
-            &[],
-            4096,
-            &[],
-            7,
-            "",
-            "journal: entry 0: illegal\n",
-        ),
-        asked(
-            "audit",
-            "limit 1\njournal\naccounts\n",
-            &[],
-            4096,
-            &[],
-            7,
-            "",
-            "journal: incomplete: c0\n",
-        ),
-        asked(
-            "audit",
-            "limit 1\njournal\n0 c0 idle\naccounts\ncpu 0 ticks 1 idle 0\n",
-            &[],
-            4096,
-            &[],
-            7,
-            "",
-            "journal: line 3: accounts\n",
-        ),
-        asked(
-            "audit",
-            CERTIFICATE,
-            &[],
-            5,
-            &[],
-            4,
-            "legal",
-            "write fault\n",
-        ),
-    ];
-    for case in &cases {
-        let answered = is_answered(&rt, case)?;
-        assert!(rt; answered, "{} of {}", case.arguments, case.input);
-    }
-    Ok(())
+fn refusals_and_failing_streams(rt: HostRuntime) {
+    judge(&rt, wrong_case(&rt));
 }
 
 /// The error output has room for a prefix of its line, which changes no status.
@@ -377,12 +361,14 @@ fn is_too_large<R: Threads + Wait + Sync + AllocGlobal>(
     answers(rt, Program::Dispsim, "run", given, wanted)
 }
 
-#[test]
-fn an_input_too_large(rt: HostRuntime) -> Result<(), Fail> {
+fn is_refused<R: Threads + Wait + Sync + AllocGlobal>(rt: &R) -> Result<bool, AllocError> {
     let input = vec![in rt.alloc(); b'#'; 1_048_577]?;
-    let is_so = is_too_large(&rt, &input)?;
-    assert!(rt; is_so);
-    Ok(())
+    is_too_large(rt, &input)
+}
+
+#[test]
+fn an_input_too_large(rt: HostRuntime) {
+    is_so(&rt, is_refused(&rt));
 }
 
 /// The status of a start of `dispsim`.
@@ -395,10 +381,12 @@ pub(crate) fn start_over<R: Threads + Wait + Sync + AllocGlobal>(
     start(rt, rt.alloc(), arguments, input, out, err, &OpenGate)
 }
 
-/// Nothing was read of the smallest workload.
-fn is_all_left(alloc: Global, input: &mut MemorySource) -> Result<bool, Fail> {
-    let left = read_all(alloc, input)?;
-    Ok(left.as_slice() == SMALLEST.as_bytes())
+/// Nothing was read of the smallest workload. False also where memory runs out.
+fn is_all_left(alloc: Global, input: &mut MemorySource) -> bool {
+    match read_all(alloc, input) {
+        Ok(left) => left.as_slice() == SMALLEST.as_bytes(),
+        Err(_) => false,
+    }
 }
 
 /// Arguments that could not be read are answered so, and nothing is read of the input.
@@ -407,18 +395,20 @@ fn is_unread<R: Threads + Wait + Sync + AllocGlobal>(
     kind: ErrorKind,
     status: u8,
     line: &str,
-) -> Result<bool, Fail> {
+) -> Result<bool, AllocError> {
     let mut streams = streams_of(rt.alloc(), plain(SMALLEST.as_bytes(), 7))?;
     let found = start_over(rt, Err(io::Error::from(kind)), &mut streams);
     let is_told = found == status && holds(&streams, b"", line.as_bytes());
-    Ok(is_told && is_all_left(rt.alloc(), &mut streams.input)?)
+    Ok(is_told && is_all_left(rt.alloc(), &mut streams.input))
 }
 
 #[test]
-fn arguments_that_were_not_read(rt: HostRuntime) -> Result<(), Fail> {
-    assert!(rt; is_unread(&rt, ErrorKind::OutOfMemory, 5, "out of memory\n")?);
-    assert!(rt; is_unread(&rt, ErrorKind::InvalidData, 1, USAGE)?);
-    Ok(())
+fn arguments_that_were_not_read(rt: HostRuntime) {
+    is_so(
+        &rt,
+        is_unread(&rt, ErrorKind::OutOfMemory, 5, "out of memory\n"),
+    );
+    is_so(&rt, is_unread(&rt, ErrorKind::InvalidData, 1, USAGE));
 }
 
 /// A start with the argument that asks for a run prints the smallest journal.
@@ -430,10 +420,8 @@ fn is_started<R: Threads + Wait + Sync + AllocGlobal>(rt: &R) -> Result<bool, Al
 }
 
 #[test]
-fn arguments_that_were_read(rt: HostRuntime) -> Result<(), Fail> {
-    let started = is_started(&rt)?;
-    assert!(rt; started);
-    Ok(())
+fn arguments_that_were_read(rt: HostRuntime) {
+    is_so(&rt, is_started(&rt));
 }
 
 /// The entries of a log, one by one.
@@ -479,8 +467,6 @@ fn is_replayed(alloc: Global) -> Result<bool, AllocError> {
 }
 
 #[test]
-fn a_run_is_replayed(rt: HostRuntime) -> Result<(), Fail> {
-    let replayed = is_replayed(rt.alloc())?;
-    assert!(rt; replayed);
-    Ok(())
+fn a_run_is_replayed(rt: HostRuntime) {
+    is_so(&rt, is_replayed(rt.alloc()));
 }

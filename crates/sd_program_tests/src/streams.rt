@@ -160,6 +160,11 @@ pub(crate) enum Wanted<'a> {
         output: &'a [u8],
         count: usize,
     },
+    /// A write failed behind so many bytes of this output.
+    Front {
+        output: &'a [u8],
+        count: usize,
+    },
     /// All went well, and these lines stand somewhere in the output.
     Within(&'a [u8]),
 }
@@ -170,6 +175,10 @@ pub(crate) fn line_count(text: &[u8]) -> usize {
 
 fn are_lines(out: &[u8], output: &[u8], count: usize) -> bool {
     output.starts_with(out) && (out.is_empty() || out.ends_with(b"\n")) && line_count(out) == count
+}
+
+fn is_front(out: &[u8], output: &[u8], count: usize) -> bool {
+    output.starts_with(out) && out.len() == count
 }
 
 /// The lines stand somewhere in the text.
@@ -191,6 +200,9 @@ fn is_wanted(status: u8, out: &[u8], err: &[u8], wanted: Wanted<'_>) -> bool {
         } => status == number && out == output && err == line,
         Wanted::Lines { output, count } => {
             status == 4 && err == b"write fault\n".as_slice() && are_lines(out, output, count)
+        }
+        Wanted::Front { output, count } => {
+            status == 4 && err == b"write fault\n".as_slice() && is_front(out, output, count)
         }
         Wanted::Within(lines) => status == 0 && stand_in(out, lines),
     }

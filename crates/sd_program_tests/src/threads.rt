@@ -3,6 +3,7 @@
 
 ghost use Rattle.std.specs.Prelude.{◌≤◌, IfOk};
 
+use crate::judging::is_so;
 use crate::runs::{SPINNING, YIELD};
 use crate::streams::{Called, Given, Program, Wanted, answers, call_gated, plain};
 use sd_cpu::{Gate, OpenGate};
@@ -14,7 +15,6 @@ use std::hint::spin_loop;
 use std::marker::Sync;
 use std::sync::Wait;
 use std::sync::atomic::{AtomicBool, AtomicU64, Ordering};
-use std::test::Fail;
 use std::thread::Threads;
 
 /// Two threads of two ticks each, on two processors.
@@ -156,15 +156,18 @@ fn is_met<R: Threads + Wait + Sync + AllocGlobal>(
     Ok(called.status == 0 && have_ended(out) && is_audited(rt, TWO, out)?)
 }
 
-#[test]
-fn two_threads_of_the_host_run_side_by_side(rt: HostRuntime) -> Result<(), Fail> {
+/// The processors meet.
+fn is_side_by_side<R: Threads + Wait + Sync + AllocGlobal>(rt: &R) -> Result<bool, AllocError> {
     let gate = Meeting {
         came: AtomicBool::new(false),
         gave_up: AtomicBool::new(false),
     };
-    let is_so = is_met(&rt, &gate)? && !gate.gave_up.load(Ordering::SeqCst);
-    assert!(rt; is_so);
-    Ok(())
+    Ok(is_met(rt, &gate)? && !gate.gave_up.load(Ordering::SeqCst))
+}
+
+#[test]
+fn two_threads_of_the_host_run_side_by_side(rt: HostRuntime) {
+    is_so(&rt, is_side_by_side(&rt));
 }
 
 /// The run of the two threads that yield ends well with this gate.
@@ -176,15 +179,18 @@ fn is_passed<R: Threads + Wait + Sync + AllocGlobal>(
     Ok(called.status == 0)
 }
 
-#[test]
-fn homes_are_taken_one_by_one(rt: HostRuntime) -> Result<(), Fail> {
+/// The home is read in each of nine turns.
+fn is_read<R: Threads + Wait + Sync + AllocGlobal>(rt: &R) -> Result<bool, AllocError> {
     let gate = Reader {
         passes: AtomicU64::new(0),
         right: AtomicU64::new(0),
     };
-    let is_so = is_passed(&rt, &gate)? && gate.right.load(Ordering::SeqCst) == 9;
-    assert!(rt; is_so);
-    Ok(())
+    Ok(is_passed(rt, &gate)? && gate.right.load(Ordering::SeqCst) == 9)
+}
+
+#[test]
+fn homes_are_taken_one_by_one(rt: HostRuntime) {
+    is_so(&rt, is_read(&rt));
 }
 
 /// The run in which a thread spins ends well, and what it prints is audited.
@@ -194,8 +200,6 @@ fn is_spun<R: Threads + Wait + Sync + AllocGlobal>(rt: &R) -> Result<bool, Alloc
 }
 
 #[test]
-fn what_is_printed_is_audited(rt: HostRuntime) -> Result<(), Fail> {
-    let is_so = is_spun(&rt)?;
-    assert!(rt; is_so);
-    Ok(())
+fn what_is_printed_is_audited(rt: HostRuntime) {
+    is_so(&rt, is_spun(&rt));
 }
