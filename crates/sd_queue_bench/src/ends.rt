@@ -35,13 +35,13 @@ fn measure_queue<T: Made + Drop>(
     alloc: Global,
     queue: &mut BoxQueue<T>,
     count: u32,
-) -> io::Result<(Measured, Measured)> {
+) -> io::Result<[Measured; 2]> {
     let start = Instant::now(clock)?;
     push_all(alloc, queue, count)?;
     let put = time_of(clock, start, count)?;
     let start = Instant::now(clock)?;
     let done = pop_all(queue, count);
-    Ok((put, time_of(clock, start, done)?))
+    Ok([put, time_of(clock, start, done)?])
 }
 
 /// Boxes that are put at the back of a queue, and taken from its front.
@@ -49,7 +49,7 @@ pub fn measure_ends<T: Made + Drop>(
     clock: &impl Clock,
     alloc: Global,
     count: u32,
-) -> io::Result<(Measured, Measured)> {
+) -> io::Result<[Measured; 2]> {
     let mut queue: BoxQueue<T> = BoxQueue::new();
     measure_queue(clock, alloc, &mut queue, count)
 }
@@ -81,13 +81,13 @@ fn measure_dispatch_queue<T: Made + Drop>(
     alloc: Global,
     queue: &mut DispQueue<T>,
     count: u32,
-) -> io::Result<(Measured, Measured)> {
+) -> io::Result<[Measured; 2]> {
     let start = Instant::now(clock)?;
     put_all(alloc, queue, count)?;
     let put = time_of(clock, start, count)?;
     let start = Instant::now(clock)?;
     let done = take_all(queue, count);
-    Ok((put, time_of(clock, start, done)?))
+    Ok([put, time_of(clock, start, done)?])
 }
 
 /// Boxes that are put into a dispatch queue, over all its levels, and of which the best is taken until none
@@ -96,7 +96,7 @@ pub fn measure_levels<T: Made + Drop>(
     clock: &impl Clock,
     alloc: Global,
     count: u32,
-) -> io::Result<(Measured, Measured)> {
+) -> io::Result<[Measured; 2]> {
     let mut queue: DispQueue<T> = DispQueue::new(alloc)?;
     measure_dispatch_queue(clock, alloc, &mut queue, count)
 }

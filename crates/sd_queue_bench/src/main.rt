@@ -17,59 +17,80 @@ use std::{env, io};
 
 const SIZES: [u32; 3] = [100, 10_000, 1_000_000];
 
+fn print_with_time(rt: &impl io::Print, call: &str, done: u32, time: u128) -> io::Result<()> {
+    println!(rt; "  {call}: {done} at {time} ns")
+}
+
 fn print(rt: &impl io::Print, call: &str, measured: Measured, with_time: bool) -> io::Result<()> {
     let Measured { done, time } = measured;
     if with_time {
-        let time = time.as_nanos();
-        println!(rt; "  {call}: {done} at {time} ns")?;
-    } else {
-        println!(rt; "  {call}: {done}")?;
+        return print_with_time(rt, call, done, time.as_nanos());
+    }
+    println!(rt; "  {call}: {done}")
+}
+
+fn print_each(
+    rt: &impl io::Print,
+    calls: &[&str],
+    measured: &[Measured],
+    with_time: bool,
+) -> io::Result<()> {
+    for (call, each) in calls.iter().zip(measured) {
+        print(rt, call, *each, with_time)?;
     }
     Ok(())
 }
 
-fn print_ends<T: Made + Drop>(rt: &HostRuntime, item: &str, with_time: bool) -> io::Result<()> {
+fn print_ends<T: Made + Drop>(
+    rt: &HostRuntime,
+    item: &str,
+    count: u32,
+    with_time: bool,
+) -> io::Result<()> {
+    println!(rt;
+        "{count} {item} items at the ends of a queue, and over all levels of a dispatch queue"
+    )?;
+    let ends = measure_ends::<T>(rt, rt.alloc(), count)?;
+    print_each(rt, &["push_back", "pop_front"], &ends, with_time)?;
+    let levels = measure_levels::<T>(rt, rt.alloc(), count)?;
+    print_each(rt, &["put_back", "take_best"], &levels, with_time)
+}
+
+fn print_sizes<T: Made + Drop>(rt: &HostRuntime, item: &str, with_time: bool) -> io::Result<()> {
     for count in SIZES {
-        println!(rt;
-            "{count} {item} items at the ends of a queue, and over all levels of a dispatch queue"
-        )?;
-        let (put, taken) = measure_ends::<T>(rt, rt.alloc(), count)?;
-        print(rt, "push_back", put, with_time)?;
-        print(rt, "pop_front", taken, with_time)?;
-        let (put, taken) = measure_levels::<T>(rt, rt.alloc(), count)?;
-        print(rt, "put_back", put, with_time)?;
-        print(rt, "take_best", taken, with_time)?;
+        print_ends::<T>(rt, item, count, with_time)?;
     }
     Ok(())
 }
+
+const MIDDLE: [&str; 4] = ["put_ranked", "find", "find and replace", "take"];
 
 fn print_middle<T: Made + Drop>(rt: &HostRuntime, item: &str, with_time: bool) -> io::Result<()> {
     println!(rt; "in the middle of {STANDING} {item} items")?;
-    let [put, found, replaced, taken] = measure_middle::<T>(rt, rt.alloc())?;
-    print(rt, "put_ranked", put, with_time)?;
-    print(rt, "find", found, with_time)?;
-    print(rt, "find and replace", replaced, with_time)?;
-    print(rt, "take", taken, with_time)?;
-    let [slept, taken] = measure_sleepers::<T>(rt, rt.alloc())?;
-    print(rt, "sleep", slept, with_time)?;
-    print(rt, "take a sleeper", taken, with_time)?;
-    let [blocked, taken] = measure_waiters::<T>(rt, rt.alloc())?;
-    print(rt, "block", blocked, with_time)?;
-    print(rt, "take a waiter", taken, with_time)?;
-    Ok(())
+    let middle = measure_middle::<T>(rt, rt.alloc())?;
+    print_each(rt, &MIDDLE, &middle, with_time)?;
+    let sleepers = measure_sleepers::<T>(rt, rt.alloc())?;
+    print_each(rt, &["sleep", "take a sleeper"], &sleepers, with_time)?;
+    let waiters = measure_waiters::<T>(rt, rt.alloc())?;
+    print_each(rt, &["block", "take a waiter"], &waiters, with_time)
+}
+
+/// Whether one of the arguments is `time`.
+fn is_time_asked(rt: &HostRuntime) -> io::Result<bool> {
+    let mut is_asked = false;
+    for argument in env::args(rt)? {
+        if argument.as_str() == "time" {
+            is_asked = true;
+        }
+    }
+    Ok(is_asked)
 }
 
 fn main(rt: HostRuntime) -> io::Result<()> {
-    let mut with_time = false;
-    for argument in env::args(&rt)? {
-        if argument.as_str() == "time" {
-            with_time = true;
-        }
-    }
+    let with_time = is_time_asked(&rt)?;
     print_middle::<Small>(&rt, "small", with_time)?;
     print_middle::<Big>(&rt, "big", with_time)?;
     // The big ones first: many small blocks that were freed are joined at the next bigger one.
-    print_ends::<Big>(&rt, "big", with_time)?;
-    print_ends::<Small>(&rt, "small", with_time)?;
-    Ok(())
+    print_sizes::<Big>(&rt, "big", with_time)?;
+    print_sizes::<Small>(&rt, "small", with_time)
 }
