@@ -2,6 +2,7 @@
 ghost use Rattle.std.specs.Prelude.{◌≡◌, IfOk, length, pos};
 
 use crate::items::{Item, id_of, node, sent, taken};
+use crate::judging::is_so;
 use sd_boxq::{BoxQueue, Boxed, Four, Node, Ranked};
 use std::alloc::AllocError;
 use std::rc::Rc;
@@ -66,10 +67,9 @@ fn orders_by_key(rt: &HostRuntime) -> Result<bool, AllocError> {
 }
 
 #[test]
-fn orders(rt: HostRuntime) -> Result<(), Fail> {
-    assert!(rt; orders_by_rank(&rt)?);
-    assert!(rt; orders_by_key(&rt)?);
-    Ok(())
+fn orders(rt: HostRuntime) {
+    is_so(&rt, orders_by_rank(&rt));
+    is_so(&rt, orders_by_key(&rt));
 }
 
 // An item that shares a counter, which counts the items that are not dropped yet.
@@ -180,12 +180,14 @@ fn drops_all(rt: &HostRuntime, owner: &Rc<u8>) -> Result<bool, AllocError> {
     Ok(is_counted && Rc::strong_count(owner) == 1)
 }
 
-#[test]
-fn drops_each_item(rt: HostRuntime) -> Result<(), Fail> {
+fn drops_shares(rt: &HostRuntime) -> Result<bool, AllocError> {
     let owner = Rc::new(rt.alloc(), 0)?;
-    let is_dropped = drops_all(&rt, &owner)?;
-    assert!(rt; is_dropped);
-    Ok(())
+    drops_all(rt, &owner)
+}
+
+#[test]
+fn drops_each_item(rt: HostRuntime) {
+    is_so(&rt, drops_shares(&rt));
 }
 
 // Whether these are the marks of the first items, with 0 past the end.
@@ -232,13 +234,19 @@ fn replaces_marks(
     Ok(is_read && old == Some(2) && none.is_none() && marks_are(queue, &[1, 5, 3, 4, 0]))
 }
 
-#[test]
-fn reads_and_replaces(rt: HostRuntime) -> Result<(), Fail> {
-    let owner = Rc::new(rt.alloc(), 0)?;
+fn replaces_in_queue(rt: &HostRuntime, owner: &Rc<u8>) -> Result<bool, AllocError> {
     let mut queue = BoxQueue::new();
-    let is_replaced = replaces_marks(&rt, &mut queue, &owner)?;
-    assert!(rt; is_replaced);
-    Ok(())
+    replaces_marks(rt, &mut queue, owner)
+}
+
+fn replaces_shares(rt: &HostRuntime) -> Result<bool, AllocError> {
+    let owner = Rc::new(rt.alloc(), 0)?;
+    replaces_in_queue(rt, &owner)
+}
+
+#[test]
+fn reads_and_replaces(rt: HostRuntime) {
+    is_so(&rt, replaces_shares(&rt));
 }
 
 fn push_each(rt: &HostRuntime, queue: &mut BoxQueue<Item>, ids: &[u32]) -> Result<(), AllocError> {
@@ -277,13 +285,18 @@ fn leaves_empty(rt: &HostRuntime, queue: &mut BoxQueue<Item>) -> Result<bool, Al
     Ok(is_ordered && all && are(queue, &[9, 0, 0, 0, 0]))
 }
 
-#[test]
-fn leaves_from_anywhere(rt: HostRuntime) -> Result<(), Fail> {
+fn leaves_all(rt: &HostRuntime, queue: &mut BoxQueue<Item>) -> Result<bool, AllocError> {
+    Ok(leaves_three(rt, queue)? && leaves_empty(rt, queue)?)
+}
+
+fn leaves(rt: &HostRuntime) -> Result<bool, AllocError> {
     let mut queue = BoxQueue::new();
-    let three = leaves_three(&rt, &mut queue)?;
-    let all = leaves_empty(&rt, &mut queue)?;
-    assert!(rt; three && all);
-    Ok(())
+    leaves_all(rt, &mut queue)
+}
+
+#[test]
+fn leaves_from_anywhere(rt: HostRuntime) {
+    is_so(&rt, leaves(&rt));
 }
 
 fn many(rt: &HostRuntime) -> Result<BoxQueue<Item>, AllocError>
@@ -314,9 +327,8 @@ fn sends(rt: &HostRuntime) -> Result<bool, AllocError> {
 }
 
 #[test]
-fn is_send(rt: HostRuntime) -> Result<(), Fail> {
-    assert!(rt; sends(&rt)?);
-    Ok(())
+fn is_send(rt: HostRuntime) {
+    is_so(&rt, sends(&rt));
 }
 
 fn four_are(four: &Four<u8>, values: [u8; 4]) -> bool {
@@ -326,15 +338,17 @@ fn four_are(four: &Four<u8>, values: [u8; 4]) -> bool {
         && *four.at(3) == values[3]
 }
 
-// Each of four values is read and changed by its number.
-#[test]
-fn reads_and_changes(rt: HostRuntime) -> Result<(), Fail> {
+fn changes_the_third() -> bool {
     let mut four = Four::new(10u8, 20, 30, 40);
     let is_read = four_are(&four, [10, 20, 30, 40]);
     *four.at_mut(2) = 7;
-    let is_changed = four_are(&four, [10, 20, 7, 40]);
-    assert!(rt; is_read && is_changed);
-    Ok(())
+    is_read && four_are(&four, [10, 20, 7, 40])
+}
+
+// Each of four values is read and changed by its number.
+#[test]
+fn reads_and_changes(rt: HostRuntime) {
+    is_so(&rt, Ok(changes_the_third()));
 }
 
 fn changes_its_value(boxed: &mut Boxed<u8>) -> bool {
@@ -343,10 +357,12 @@ fn changes_its_value(boxed: &mut Boxed<u8>) -> bool {
     seven && *boxed.get() == 9
 }
 
-#[test]
-fn is_read_and_changed(rt: HostRuntime) -> Result<(), Fail> {
+fn changes_a_box(rt: &HostRuntime) -> Result<bool, AllocError> {
     let mut boxed = sent(Boxed::new(rt.alloc(), 7u8)?);
-    let is_changed = changes_its_value(&mut boxed);
-    assert!(rt; is_changed);
-    Ok(())
+    Ok(changes_its_value(&mut boxed))
+}
+
+#[test]
+fn is_read_and_changed(rt: HostRuntime) {
+    is_so(&rt, changes_a_box(&rt));
 }

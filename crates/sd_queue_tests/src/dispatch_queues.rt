@@ -2,10 +2,10 @@
 ghost use Rattle.std.specs.Prelude.{◌≡◌};
 
 use crate::items::{Item, id_of, node, sent, taken};
+use crate::judging::is_so;
 use sd_boxq::Ranked;
 use sd_dispq::DispQueue;
 use std::alloc::AllocError;
-use std::test::Fail;
 
 // Whether these are the ids of the items, with 0 past the last.
 fn are(queue: &DispQueue<Item>, ids: &[u32]) -> bool {
@@ -113,13 +113,19 @@ fn leaves_levels(queue: &mut DispQueue<Item>) -> bool {
     taken(queue.take(7)) == 7 && taken(queue.take(7)) == 0 && leave_in_turn(queue, &LEFT)
 }
 
-#[test]
-fn levels(rt: HostRuntime) -> Result<(), Fail> {
+fn holds_levels(rt: &HostRuntime, queue: &mut DispQueue<Item>) -> Result<bool, AllocError> {
+    let is_filled = fill_levels(rt, queue)?;
+    Ok(is_filled && is_levelled(queue) && leaves_levels(queue))
+}
+
+fn has_levels(rt: &HostRuntime) -> Result<bool, AllocError> {
     let mut queue = DispQueue::new(rt.alloc())?;
-    let is_filled = fill_levels(&rt, &mut queue)?;
-    let is_so = is_filled && is_levelled(&queue) && leaves_levels(&mut queue);
-    assert!(rt; is_so);
-    Ok(())
+    holds_levels(rt, &mut queue)
+}
+
+#[test]
+fn levels(rt: HostRuntime) {
+    is_so(&rt, has_levels(&rt));
 }
 
 // Puts a marked item in place of the one with this id, and returns the mark of that one.
@@ -155,15 +161,25 @@ fn marks_were(queue: &mut DispQueue<Item>, rows: &[(u32, Option<u8>)]) -> bool {
     true
 }
 
-#[test]
-fn replaces(rt: HostRuntime) -> Result<(), Fail> {
+// The rank and the id.
+const REPLACED: [(u8, u32); 4] = [(5, 1), (9, 2), (9, 3), (9, 4)];
+
+// The id, and the mark that makes room.
+const MARKS: [(u32, Option<u8>); 4] = [(3, Some(0)), (3, Some(1)), (5, None), (1, Some(0))];
+
+fn replaces_marks(rt: &HostRuntime, queue: &mut DispQueue<Item>) -> Result<bool, AllocError> {
+    let is_filled = put_each(rt, queue, 0, &REPLACED)?;
+    Ok(is_filled && marks_were(queue, &MARKS) && are(queue, &[2, 3, 4, 1, 0, 0, 0, 0, 0]))
+}
+
+fn is_replaced(rt: &HostRuntime) -> Result<bool, AllocError> {
     let mut queue = DispQueue::new(rt.alloc())?;
-    let is_filled = put_each(&rt, &mut queue, 0, &[(5, 1), (9, 2), (9, 3), (9, 4)])?;
-    let rows = [(3, Some(0)), (3, Some(1)), (5, None), (1, Some(0))];
-    let is_marked = marks_were(&mut queue, &rows);
-    let is_kept = are(&queue, &[2, 3, 4, 1, 0, 0, 0, 0, 0]);
-    assert!(rt; is_filled && is_marked && is_kept);
-    Ok(())
+    replaces_marks(rt, &mut queue)
+}
+
+#[test]
+fn replaces(rt: HostRuntime) {
+    is_so(&rt, is_replaced(&rt));
 }
 
 fn fill_all_levels(rt: &HostRuntime, queue: &mut DispQueue<Item>) -> Result<(), AllocError> {
@@ -199,10 +215,9 @@ fn holds_a_long_level(rt: &HostRuntime) -> Result<bool, AllocError> {
 
 // A queue that goes to the end of a level for each box does not end here.
 #[test]
-fn holds_400_000_boxes(rt: HostRuntime) -> Result<(), Fail> {
-    assert!(rt; holds_many_levels(&rt)?);
-    assert!(rt; holds_a_long_level(&rt)?);
-    Ok(())
+fn holds_400_000_boxes(rt: HostRuntime) {
+    is_so(&rt, holds_many_levels(&rt));
+    is_so(&rt, holds_a_long_level(&rt));
 }
 
 fn queue_is_sent<T: Ranked + Send>(queue: DispQueue<T>) -> DispQueue<T>
@@ -220,7 +235,6 @@ fn sends(rt: &HostRuntime) -> Result<bool, AllocError> {
 }
 
 #[test]
-fn is_send(rt: HostRuntime) -> Result<(), Fail> {
-    assert!(rt; sends(&rt)?);
-    Ok(())
+fn is_send(rt: HostRuntime) {
+    is_so(&rt, sends(&rt));
 }

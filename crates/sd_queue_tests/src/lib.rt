@@ -9,6 +9,8 @@ mod dispatch_queues;
 #[cfg(test)]
 mod items;
 #[cfg(test)]
+mod judging;
+#[cfg(test)]
 mod records;
 #[cfg(test)]
 mod sleep_queues;

@@ -3,6 +3,7 @@
 ghost use Rattle.std.specs.Prelude.{◌≡◌, ◌≤◌, ◌∷◌, [], IfOk, pos, negsuc, ◌≤ℤ◌};
 
 use crate::items::sent;
+use crate::judging::is_so;
 use arrayvec::ArrayVec;
 use sd_boxq::{BoxQueue, Node, Ranked};
 use sd_record::Record;
@@ -10,7 +11,6 @@ use sd_types::{
     ClassState, CpuId, FxState, LockId, Quantum, RtState, SysState, ThreadBody, ThreadId, TsState,
 };
 use std::alloc::{AllocError, Global};
-use std::test::Fail;
 
 /// A record of a thread of this class that holds the locks 1, 2 and 3.
 fn holder(alloc: Global, class: ClassState) -> Result<Record, AllocError>
@@ -89,8 +89,8 @@ fn has_base(alloc: Global, class: ClassState, base: u8) -> Result<bool, AllocErr
     )
 }
 
-#[test]
-fn bases(rt: HostRuntime) -> Result<(), Fail> {
+/// The new record of each of these classes has the base beside it.
+fn have_bases(alloc: Global) -> Result<bool, AllocError> {
     let cases = [
         (ts(0, 0), 0),
         (ts(29, 0), 29),
@@ -109,10 +109,16 @@ fn bases(rt: HostRuntime) -> Result<(), Fail> {
     ];
     for case in &cases {
         let (class, base) = case;
-        let is_so = has_base(rt.alloc(), *class, *base)?;
-        assert!(rt; is_so, "base {base}");
+        if !has_base(alloc, *class, *base)? {
+            return Ok(false);
+        }
     }
-    Ok(())
+    Ok(true)
+}
+
+#[test]
+fn bases(rt: HostRuntime) {
+    is_so(&rt, have_bases(rt.alloc()));
 }
 
 /// The effective priority after each of these steps, of a thread that holds the locks 1, 2 and 3.
@@ -159,20 +165,24 @@ fn inherits(thread: &mut Record) -> bool
         && thread.body.held.len() == 3
 }
 
-#[test]
-fn inheritance(rt: HostRuntime) -> Result<(), Fail> {
-    let mut thread = holder(rt.alloc(), ts(29, 0))?;
-    let is_so = inherits(&mut thread);
-    assert!(rt; is_so);
-    Ok(())
+fn holder_inherits(alloc: Global) -> Result<bool, AllocError> {
+    let mut thread = holder(alloc, ts(29, 0))?;
+    Ok(inherits(&mut thread))
 }
 
 #[test]
-fn another_thread_may_have_a_record(rt: HostRuntime) -> Result<(), Fail> {
-    let thread = sent(holder(rt.alloc(), ts(29, 0))?);
-    let is_seven = thread.id() == 7;
-    assert!(rt; is_seven);
-    Ok(())
+fn inheritance(rt: HostRuntime) {
+    is_so(&rt, holder_inherits(rt.alloc()));
+}
+
+fn is_sent(alloc: Global) -> Result<bool, AllocError> {
+    let thread = sent(holder(alloc, ts(29, 0))?);
+    Ok(thread.id() == 7)
+}
+
+#[test]
+fn another_thread_may_have_a_record(rt: HostRuntime) {
+    is_so(&rt, is_sent(rt.alloc()));
 }
 
 /// The effective priority that the thread would have in each of these class states.
@@ -228,12 +238,14 @@ fn would_be(thread: &mut Record) -> bool
     would_be_in(thread) && would_be_with(thread) && thread.effective() == 40
 }
 
+fn holder_would_be(alloc: Global) -> Result<bool, AllocError> {
+    let mut thread = holder(alloc, ts(29, 0))?;
+    Ok(would_be(&mut thread))
+}
+
 #[test]
-fn priorities_that_would_be(rt: HostRuntime) -> Result<(), Fail> {
-    let mut thread = holder(rt.alloc(), ts(29, 0))?;
-    let is_so = would_be(&mut thread);
-    assert!(rt; is_so);
-    Ok(())
+fn priorities_that_would_be(rt: HostRuntime) {
+    is_so(&rt, holder_would_be(rt.alloc()));
 }
 
 /// Whether the record holds exactly these locks, in this order.
@@ -272,13 +284,14 @@ fn releases(thread: &mut Record) -> bool {
     three && two && one && holds(thread, &[]) && thread.effective() == 29
 }
 
+fn holder_changes_locks(alloc: Global) -> Result<bool, AllocError> {
+    let mut thread = holder(alloc, ts(29, 0))?;
+    Ok(takes_one_more(&mut thread) && releases(&mut thread))
+}
+
 #[test]
-fn locks(rt: HostRuntime) -> Result<(), Fail> {
-    let mut thread = holder(rt.alloc(), ts(29, 0))?;
-    let is_taken = takes_one_more(&mut thread);
-    let is_released = releases(&mut thread);
-    assert!(rt; is_taken && is_released);
-    Ok(())
+fn locks(rt: HostRuntime) {
+    is_so(&rt, holder_changes_locks(rt.alloc()));
 }
 
 /// Puts a new record of this class into the queue.
@@ -309,11 +322,13 @@ fn is_ranked(queue: &BoxQueue<Record>) -> bool {
     base_at(queue, 0) == Some(100) && base_at(queue, 1) == Some(30) && base_at(queue, 2) == Some(10)
 }
 
-#[test]
-fn a_queue_of_records(rt: HostRuntime) -> Result<(), Fail> {
+fn ranks_three(alloc: Global) -> Result<bool, AllocError> {
     let mut queue = BoxQueue::new();
-    queue_up_three(rt.alloc(), &mut queue)?;
-    let is_so = is_ranked(&queue);
-    assert!(rt; is_so);
-    Ok(())
+    queue_up_three(alloc, &mut queue)?;
+    Ok(is_ranked(&queue))
+}
+
+#[test]
+fn a_queue_of_records(rt: HostRuntime) {
+    is_so(&rt, ranks_three(rt.alloc()));
 }

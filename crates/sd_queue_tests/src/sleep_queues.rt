@@ -2,11 +2,11 @@
 ghost use Rattle.std.specs.Prelude.{◌≡◌};
 
 use crate::items::{Item, id_of, node, sent, taken};
+use crate::judging::is_so;
 use sd_boxq::{Node, Ranked};
 use sd_sleepq::SleepChain;
 use sd_types::ChanId;
 use std::alloc::AllocError;
-use std::test::Fail;
 
 // The channel on which the taken one slept, and 0 where there was none.
 fn woken(taken: Option<(ChanId, Node<Item>)>) -> u16 {
@@ -96,13 +96,19 @@ fn is_woken(chain: &mut SleepChain<Item>) -> bool {
     ) && are_woken(chain, &[(6, 0), (3, 131), (3, 0), (4, 195), (1, 3), (1, 0)])
 }
 
-#[test]
-fn sleeps_and_wakes(rt: HostRuntime) -> Result<(), Fail> {
+fn wakes_all(rt: &HostRuntime, chain: &mut SleepChain<Item>) -> Result<bool, AllocError> {
+    let all = sleep_all(rt, chain)?;
+    Ok(all && is_asleep(chain) && is_woken(chain))
+}
+
+fn wakes(rt: &HostRuntime) -> Result<bool, AllocError> {
     let mut chain = SleepChain::new(3);
-    let all = sleep_all(&rt, &mut chain)?;
-    let is_so = all && is_asleep(&chain) && is_woken(&mut chain);
-    assert!(rt; is_so);
-    Ok(())
+    wakes_all(rt, &mut chain)
+}
+
+#[test]
+fn sleeps_and_wakes(rt: HostRuntime) {
+    is_so(&rt, wakes(&rt));
 }
 
 fn chain_is_sent<T: Ranked + Send>(chain: SleepChain<T>) -> SleepChain<T>
@@ -120,7 +126,6 @@ fn sends(rt: &HostRuntime) -> Result<bool, AllocError> {
 }
 
 #[test]
-fn is_send(rt: HostRuntime) -> Result<(), Fail> {
-    assert!(rt; sends(&rt)?);
-    Ok(())
+fn is_send(rt: HostRuntime) {
+    is_so(&rt, sends(&rt));
 }

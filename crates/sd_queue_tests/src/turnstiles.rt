@@ -3,11 +3,11 @@ ghost use Rattle.std.specs.Prelude.{◌≡◌, IfOk, IsTrue};
 ghost use Rattle.sd_turnstile.specs.Waiters.{nobody, IsIdle, IsOfChain};
 
 use crate::items::{Item, id_of, node, sent};
+use crate::judging::is_so;
 use sd_boxq::{Node, Ranked};
 use sd_turnstile::{Rack, Turnstile, TurnstileChain};
 use sd_types::{LockId, Side};
 use std::alloc::AllocError;
-use std::test::Fail;
 
 fn turnstile(rt: &HostRuntime) -> Result<Turnstile<Item>, AllocError>
     ensures { IfOk result (λ t. t ≡ nobody) }
@@ -139,16 +139,19 @@ const HOMES: [(u32, u16, bool); 5] = [
     (4, 69, true),
 ];
 
-#[test]
-fn blocks_and_takes(rt: HostRuntime) -> Result<(), Fail> {
+fn leave_all(rt: &HostRuntime, chain: &mut TurnstileChain<Item>) -> Result<bool, AllocError> {
+    let all = block_all(rt, chain)?;
+    Ok(all && is_blocked(chain) && leave_in_turn(chain, &BEST) && leave_from(chain, &HOMES))
+}
+
+fn takes_all(rt: &HostRuntime) -> Result<bool, AllocError> {
     let mut chain = TurnstileChain::new(5);
-    let all = block_all(&rt, &mut chain)?;
-    let is_so = all
-        && is_blocked(&chain)
-        && leave_in_turn(&mut chain, &BEST)
-        && leave_from(&mut chain, &HOMES);
-    assert!(rt; is_so);
-    Ok(())
+    leave_all(rt, &mut chain)
+}
+
+#[test]
+fn blocks_and_takes(rt: HostRuntime) {
+    is_so(&rt, takes_all(&rt));
 }
 
 fn gives_one(rack: &mut Rack<Item>) -> bool {
@@ -176,15 +179,26 @@ fn put_three(rt: &HostRuntime, rack: &mut Rack<Item>) -> Result<bool, AllocError
     Ok(rack.len() == 3)
 }
 
-#[test]
-fn racks(rt: HostRuntime) -> Result<(), Fail> {
+fn gives_three(rack: &mut Rack<Item>) -> bool {
+    gives_one(rack) && gives_one(rack) && gives_one(rack) && !gives_one(rack)
+}
+
+fn gives_what_it_has(rt: &HostRuntime, rack: &mut Rack<Item>) -> Result<bool, AllocError>
+    requires { rack.old ≡ 0 }
+{
+    let none = is_empty(rack);
+    let three = put_three(rt, rack)?;
+    Ok(none && three && gives_three(rack))
+}
+
+fn gives(rt: &HostRuntime) -> Result<bool, AllocError> {
     let mut rack = Rack::new();
-    let none = is_empty(&mut rack);
-    let three = put_three(&rt, &mut rack)?;
-    let all = gives_one(&mut rack) && gives_one(&mut rack) && gives_one(&mut rack);
-    let no_more = !gives_one(&mut rack);
-    assert!(rt; none && three && all && no_more);
-    Ok(())
+    gives_what_it_has(rt, &mut rack)
+}
+
+#[test]
+fn racks(rt: HostRuntime) {
+    is_so(&rt, gives(&rt));
 }
 
 fn chain_is_sent<T: Ranked + Send>(chain: TurnstileChain<T>) -> TurnstileChain<T>
@@ -227,7 +241,6 @@ fn sends(rt: &HostRuntime) -> Result<bool, AllocError> {
 }
 
 #[test]
-fn is_send(rt: HostRuntime) -> Result<(), Fail> {
-    assert!(rt; sends(&rt)?);
-    Ok(())
+fn is_send(rt: HostRuntime) {
+    is_so(&rt, sends(&rt));
 }
