@@ -1,6 +1,6 @@
 //! A line of each event, written by hand.
 
-use crate::given::{Texts, wrong_text};
+use crate::given::{Texts, judge};
 use arrayvec::ArrayVec;
 use sd_entries::write_entry;
 use sd_types::{
@@ -8,7 +8,6 @@ use sd_types::{
     Put, SetId, ThreadId, Which, Work,
 };
 use std::alloc::{AllocError, Global};
-use std::test::Fail;
 
 const A: ThreadId = ThreadId(0);
 
@@ -78,99 +77,97 @@ fn hints(which: Which, list: &[u8]) -> Hints {
     Hints { which, numbers }
 }
 
-/// An event that answers no call and names no set, and its text.
-fn plain_event(i: u8) -> (Event, &'static str) {
-    match i {
-        0 => (Event::Tick { t: A }, "tick a"),
-        1 => (Event::Spin { t: B, l: M }, "spin b m"),
-        2 => (Event::Idle, "idle"),
-        3 => (Event::Dispatch { t: A, p: 159 }, "dispatch a 159"),
-        4 => (
-            Event::Preempt {
-                t: A,
-                end: End::Front,
-            },
-            "preempt a front",
-        ),
-        5 => (
-            Event::Preempt {
-                t: B,
-                end: End::Back,
-            },
-            "preempt b back",
-        ),
-        6 => (
-            Event::Away {
-                t: A,
-                cpu: CpuId(11),
-            },
-            "preempt a away c11",
-        ),
-        7 => (Event::Yield { t: A }, "yield a"),
-        8 => (Event::Done { t: B }, "done b"),
-        9 => (Event::Nap { t: A }, "nap a"),
-        10 => (Event::Napend { t: A, at: TO }, "napend a to c10"),
-        11 => (Event::Sleep { t: A, k: K }, "sleep a k"),
-        12 => (
-            Event::Wake {
-                t: B,
-                k: K,
-                woken: Some((A, RT)),
-            },
-            "wake b k a rt c0",
-        ),
-        13 => (
-            Event::Wake {
-                t: B,
-                k: K,
-                woken: None,
-            },
-            "wake b k none",
-        ),
-        14 => (Event::Wakeall { t: A, k: K }, "wakeall a k"),
-        15 => (
-            Event::Rouse {
-                k: K,
-                woken: Some((B, TO)),
-            },
-            "rouse k b to c10",
-        ),
-        16 => (Event::Rouse { k: K, woken: None }, "rouse k none"),
-        17 => (Event::Enter { t: A, l: M }, "enter a m"),
-        18 => (Event::Read { t: A, l: W }, "read a w"),
-        19 => (Event::Write { t: A, l: W }, "write a w"),
-        20 => (Event::Block { t: B, l: M }, "block b m"),
-        21 => (
-            Event::Will {
-                l: M,
-                o: A,
-                p: 7,
-                at: None,
-            },
-            "will m a 7",
-        ),
-        22 => (
-            Event::Will {
-                l: M,
-                o: A,
-                p: 110,
-                at: Some(RT),
-            },
-            "will m a 110 rt c0",
-        ),
-        23 => (Event::End { l: W }, "end w"),
-        24 => (Event::Exit { t: A, l: M }, "exit a m"),
-        25 => (Event::Unblock { l: M, u: B, at: TO }, "unblock m b to c10"),
-        26 => (Event::Grant { l: W, u: B, at: RT }, "grant w b rt c0"),
-        27 => (Event::Passed { l: W }, "passed w"),
-        _ => (Event::Age { t: A, p: 51 }, "age a 51"),
-    }
-}
+/// Events that answer no call and name no set, and their texts.
+const PLAIN_EVENTS: [(Event, &str); 29] = [
+    (Event::Tick { t: A }, "tick a"),
+    (Event::Spin { t: B, l: M }, "spin b m"),
+    (Event::Idle, "idle"),
+    (Event::Dispatch { t: A, p: 159 }, "dispatch a 159"),
+    (
+        Event::Preempt {
+            t: A,
+            end: End::Front,
+        },
+        "preempt a front",
+    ),
+    (
+        Event::Preempt {
+            t: B,
+            end: End::Back,
+        },
+        "preempt b back",
+    ),
+    (
+        Event::Away {
+            t: A,
+            cpu: CpuId(11),
+        },
+        "preempt a away c11",
+    ),
+    (Event::Yield { t: A }, "yield a"),
+    (Event::Done { t: B }, "done b"),
+    (Event::Nap { t: A }, "nap a"),
+    (Event::Napend { t: A, at: TO }, "napend a to c10"),
+    (Event::Sleep { t: A, k: K }, "sleep a k"),
+    (
+        Event::Wake {
+            t: B,
+            k: K,
+            woken: Some((A, RT)),
+        },
+        "wake b k a rt c0",
+    ),
+    (
+        Event::Wake {
+            t: B,
+            k: K,
+            woken: None,
+        },
+        "wake b k none",
+    ),
+    (Event::Wakeall { t: A, k: K }, "wakeall a k"),
+    (
+        Event::Rouse {
+            k: K,
+            woken: Some((B, TO)),
+        },
+        "rouse k b to c10",
+    ),
+    (Event::Rouse { k: K, woken: None }, "rouse k none"),
+    (Event::Enter { t: A, l: M }, "enter a m"),
+    (Event::Read { t: A, l: W }, "read a w"),
+    (Event::Write { t: A, l: W }, "write a w"),
+    (Event::Block { t: B, l: M }, "block b m"),
+    (
+        Event::Will {
+            l: M,
+            o: A,
+            p: 7,
+            at: None,
+        },
+        "will m a 7",
+    ),
+    (
+        Event::Will {
+            l: M,
+            o: A,
+            p: 110,
+            at: Some(RT),
+        },
+        "will m a 110 rt c0",
+    ),
+    (Event::End { l: W }, "end w"),
+    (Event::Exit { t: A, l: M }, "exit a m"),
+    (Event::Unblock { l: M, u: B, at: TO }, "unblock m b to c10"),
+    (Event::Grant { l: W, u: B, at: RT }, "grant w b rt c0"),
+    (Event::Passed { l: W }, "passed w"),
+    (Event::Age { t: A, p: 51 }, "age a 51"),
+];
 
 /// The text of the first plain event whose line is another.
 pub(crate) fn wrong_event(alloc: Global, work: &Work) -> Result<Option<&'static str>, AllocError> {
-    for i in 0..29 {
-        let (event, text) = plain_event(i);
+    for row in &PLAIN_EVENTS {
+        let (event, text) = *row;
         if !is_written(alloc, work, &third(event), b"3 c10 ", text.as_bytes())? {
             return Ok(Some(text));
         }
@@ -179,179 +176,175 @@ pub(crate) fn wrong_event(alloc: Global, work: &Work) -> Result<Option<&'static 
 }
 
 #[test]
-fn events_without_hints(rt: HostRuntime) -> Result<(), Fail> {
-    let wrong = wrong_text(rt.alloc(), Texts::PlainEvents)?;
-    assert!(rt; wrong.is_none(), "{wrong:?}");
-    Ok(())
+fn events_without_hints(rt: HostRuntime) {
+    judge(&rt, Texts::PlainEvents);
 }
 
-/// An event that answers a call, or names a semaphore or a set, and its text.
-fn answer(i: u8) -> (Event, &'static str) {
-    match i {
-        0 => (
-            Event::Prio {
-                t: A,
-                u: B,
-                answer: PrioAnswer::Changed { p: 3, at: None },
+/// Events that answer a call, or name a semaphore or a set, and their texts.
+const ANSWERS: [(Event, &str); 23] = [
+    (
+        Event::Prio {
+            t: A,
+            u: B,
+            answer: PrioAnswer::Changed { p: 3, at: None },
+        },
+        "prio a b ok 3",
+    ),
+    (
+        Event::Prio {
+            t: A,
+            u: B,
+            answer: PrioAnswer::Changed {
+                p: 24,
+                at: Some(TO),
             },
-            "prio a b ok 3",
-        ),
-        1 => (
-            Event::Prio {
-                t: A,
-                u: B,
-                answer: PrioAnswer::Changed {
-                    p: 24,
-                    at: Some(TO),
-                },
-            },
-            "prio a b ok 24 to c10",
-        ),
-        2 => (
-            Event::Prio {
-                t: A,
-                u: B,
-                answer: PrioAnswer::Refused(Denied::ESRCH),
-            },
-            "prio a b ESRCH",
-        ),
-        3 => (
-            Event::Prio {
-                t: A,
-                u: B,
-                answer: PrioAnswer::Refused(Denied::EINVAL),
-            },
-            "prio a b EINVAL",
-        ),
-        4 => (
-            Event::Prio {
-                t: A,
-                u: B,
-                answer: PrioAnswer::Refused(Denied::EPERM),
-            },
-            "prio a b EPERM",
-        ),
-        5 => (Event::CvWait { t: A, k: K, l: M }, "cvwait a k m"),
-        6 => (Event::SemaP { t: A, k: Q }, "semap a q"),
-        7 => (Event::SemaWait { t: B, k: Q }, "semawait b q"),
-        8 => (
-            Event::SemaVWake {
-                t: A,
-                k: Q,
-                u: B,
-                at: TO,
-            },
-            "semav a q b to c10",
-        ),
-        9 => (
-            Event::SemaVCount {
-                t: A,
-                k: Q,
-                count: 65_535,
-            },
-            "semav a q 65535",
-        ),
-        10 => (
-            Event::Assign {
-                t: A,
-                cpu: CpuId(1),
-                set: SetId(1),
-                answer: AssignAnswer::Changed,
-            },
-            "assign a c1 s ok",
-        ),
-        11 => (
-            Event::Assign {
-                t: A,
-                cpu: CpuId(1),
-                set: SetId(0),
-                answer: AssignAnswer::EPERM,
-            },
-            "assign a c1 - EPERM",
-        ),
-        12 => (
-            Event::Assign {
-                t: A,
-                cpu: CpuId(1),
-                set: SetId(0),
-                answer: AssignAnswer::EINVAL,
-            },
-            "assign a c1 - EINVAL",
-        ),
-        13 => (
-            Event::Assign {
-                t: A,
-                cpu: CpuId(1),
-                set: SetId(0),
-                answer: AssignAnswer::EBUSY,
-            },
-            "assign a c1 - EBUSY",
-        ),
-        14 => (Event::Move { t: A, at: RT }, "move a rt c0"),
-        15 => (Event::Joined { set: SetId(1) }, "joined s"),
-        16 => (Event::Joined { set: SetId(0) }, "joined -"),
-        17 => (
-            Event::Bind {
-                t: A,
-                u: B,
-                cpu: Some(CpuId(1)),
-                answer: BindAnswer::Changed { at: None },
-            },
-            "pbind a b c1 ok",
-        ),
-        18 => (
-            Event::Bind {
-                t: A,
-                u: B,
-                cpu: None,
-                answer: BindAnswer::Changed { at: Some(RT) },
-            },
-            "pbind a b - ok rt c0",
-        ),
-        19 => (
-            Event::Bind {
-                t: A,
-                u: B,
-                cpu: None,
-                answer: BindAnswer::ESRCH,
-            },
-            "pbind a b - ESRCH",
-        ),
-        20 => (
-            Event::Bind {
-                t: A,
-                u: B,
-                cpu: None,
-                answer: BindAnswer::EINVAL,
-            },
-            "pbind a b - EINVAL",
-        ),
-        21 => (
-            Event::Bind {
-                t: A,
-                u: B,
-                cpu: Some(CpuId(10)),
-                answer: BindAnswer::EPERM,
-            },
-            "pbind a b c10 EPERM",
-        ),
-        _ => (
-            Event::Bind {
-                t: A,
-                u: B,
-                cpu: Some(CpuId(1)),
-                answer: BindAnswer::EBUSY,
-            },
-            "pbind a b c1 EBUSY",
-        ),
-    }
-}
+        },
+        "prio a b ok 24 to c10",
+    ),
+    (
+        Event::Prio {
+            t: A,
+            u: B,
+            answer: PrioAnswer::Refused(Denied::ESRCH),
+        },
+        "prio a b ESRCH",
+    ),
+    (
+        Event::Prio {
+            t: A,
+            u: B,
+            answer: PrioAnswer::Refused(Denied::EINVAL),
+        },
+        "prio a b EINVAL",
+    ),
+    (
+        Event::Prio {
+            t: A,
+            u: B,
+            answer: PrioAnswer::Refused(Denied::EPERM),
+        },
+        "prio a b EPERM",
+    ),
+    (Event::CvWait { t: A, k: K, l: M }, "cvwait a k m"),
+    (Event::SemaP { t: A, k: Q }, "semap a q"),
+    (Event::SemaWait { t: B, k: Q }, "semawait b q"),
+    (
+        Event::SemaVWake {
+            t: A,
+            k: Q,
+            u: B,
+            at: TO,
+        },
+        "semav a q b to c10",
+    ),
+    (
+        Event::SemaVCount {
+            t: A,
+            k: Q,
+            count: 65_535,
+        },
+        "semav a q 65535",
+    ),
+    (
+        Event::Assign {
+            t: A,
+            cpu: CpuId(1),
+            set: SetId(1),
+            answer: AssignAnswer::Changed,
+        },
+        "assign a c1 s ok",
+    ),
+    (
+        Event::Assign {
+            t: A,
+            cpu: CpuId(1),
+            set: SetId(0),
+            answer: AssignAnswer::EPERM,
+        },
+        "assign a c1 - EPERM",
+    ),
+    (
+        Event::Assign {
+            t: A,
+            cpu: CpuId(1),
+            set: SetId(0),
+            answer: AssignAnswer::EINVAL,
+        },
+        "assign a c1 - EINVAL",
+    ),
+    (
+        Event::Assign {
+            t: A,
+            cpu: CpuId(1),
+            set: SetId(0),
+            answer: AssignAnswer::EBUSY,
+        },
+        "assign a c1 - EBUSY",
+    ),
+    (Event::Move { t: A, at: RT }, "move a rt c0"),
+    (Event::Joined { set: SetId(1) }, "joined s"),
+    (Event::Joined { set: SetId(0) }, "joined -"),
+    (
+        Event::Bind {
+            t: A,
+            u: B,
+            cpu: Some(CpuId(1)),
+            answer: BindAnswer::Changed { at: None },
+        },
+        "pbind a b c1 ok",
+    ),
+    (
+        Event::Bind {
+            t: A,
+            u: B,
+            cpu: None,
+            answer: BindAnswer::Changed { at: Some(RT) },
+        },
+        "pbind a b - ok rt c0",
+    ),
+    (
+        Event::Bind {
+            t: A,
+            u: B,
+            cpu: None,
+            answer: BindAnswer::ESRCH,
+        },
+        "pbind a b - ESRCH",
+    ),
+    (
+        Event::Bind {
+            t: A,
+            u: B,
+            cpu: None,
+            answer: BindAnswer::EINVAL,
+        },
+        "pbind a b - EINVAL",
+    ),
+    (
+        Event::Bind {
+            t: A,
+            u: B,
+            cpu: Some(CpuId(10)),
+            answer: BindAnswer::EPERM,
+        },
+        "pbind a b c10 EPERM",
+    ),
+    (
+        Event::Bind {
+            t: A,
+            u: B,
+            cpu: Some(CpuId(1)),
+            answer: BindAnswer::EBUSY,
+        },
+        "pbind a b c1 EBUSY",
+    ),
+];
 
 /// The text of the first answer whose line is another.
 pub(crate) fn wrong_answer(alloc: Global, work: &Work) -> Result<Option<&'static str>, AllocError> {
     let words = b"18446744073709551615 c0 ";
-    for i in 0..23 {
-        let (event, text) = answer(i);
+    for row in &ANSWERS {
+        let (event, text) = *row;
         if !is_written(alloc, work, &last(event), words, text.as_bytes())? {
             return Ok(Some(text));
         }
@@ -360,10 +353,8 @@ pub(crate) fn wrong_answer(alloc: Global, work: &Work) -> Result<Option<&'static
 }
 
 #[test]
-fn answers_and_sets(rt: HostRuntime) -> Result<(), Fail> {
-    let wrong = wrong_text(rt.alloc(), Texts::Answers)?;
-    assert!(rt; wrong.is_none(), "{wrong:?}");
-    Ok(())
+fn answers_and_sets(rt: HostRuntime) {
+    judge(&rt, Texts::Answers);
 }
 
 /// An entry that has read these numbers.
@@ -411,8 +402,6 @@ const THREE: &[u8] =
     b"5 c0 done a\n6 c2 steal c0 a 29 h 30\n7 c3 idle h 0,160,7\n8 c0 rouse k b to c10 h 0,1\n";
 
 #[test]
-fn numbers_that_were_read(rt: HostRuntime) -> Result<(), Fail> {
-    let wrong = wrong_text(rt.alloc(), Texts::Numbers)?;
-    assert!(rt; wrong.is_none(), "{wrong:?}");
-    Ok(())
+fn numbers_that_were_read(rt: HostRuntime) {
+    judge(&rt, Texts::Numbers);
 }

@@ -5,6 +5,7 @@ use crate::lines::{line_read, wrong_line};
 use sd_types::Work;
 use sd_workload::read_work;
 use std::alloc::{AllocError, Global};
+use std::process::Abort;
 
 /// Two threads a and b, a mutex m, a rwlock w, a channel k, a semaphore q and a set s of 12 processors.
 const NAMED: &[u8] =
@@ -33,9 +34,15 @@ fn wrong_in(alloc: Global, work: &Work, texts: Texts) -> Result<Option<&'static 
 
 /// The first of the texts that is not as it should be, over the workload of these names. It owns the workload for all tests, since a
 /// function that drops one takes half a minute to prove.
-pub fn wrong_text(alloc: Global, texts: Texts) -> Result<Option<&'static str>, AllocError> {
+fn wrong_text(alloc: Global, texts: Texts) -> Result<Option<&'static str>, AllocError> {
     match read_work(alloc, NAMED) {
         Ok(work) => wrong_in(alloc, &work, texts),
         Err(_) => Ok(Some("no work")),
     }
+}
+
+/// All of the texts are as they should be. A test returns nothing and calls this, since one that returns a fault takes long to prove.
+pub fn judge<R: Abort + AllocGlobal>(rt: &R, texts: Texts) {
+    let wrong = wrong_text(rt.alloc(), texts);
+    assert!(rt; matches!(wrong, Ok(None)), "{wrong:?}");
 }

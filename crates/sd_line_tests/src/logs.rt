@@ -3,8 +3,8 @@
 use arrayvec::ArrayVec;
 use sd_log::EntryLog;
 use sd_types::{CpuId, Entry, Event, Hints, ThreadId, Which};
-use std::alloc::AllocError;
-use std::test::Fail;
+use std::alloc::{AllocError, Global};
+use std::process::Abort;
 
 /// These two numbers were read.
 fn two(which: Which, first: u8, second: u8) -> Option<Hints> {
@@ -73,14 +73,21 @@ fn has_six(log: &EntryLog) -> bool {
     early && middle && late
 }
 
-#[test]
-fn entries_come_out_as_they_went_in(rt: HostRuntime) -> Result<(), Fail> {
-    let mut log = EntryLog::new(rt.alloc());
+/// It is so, and memory did not run out.
+fn is_so<R: Abort>(rt: &R, is_so: Result<bool, AllocError>) {
+    assert!(rt; matches!(is_so, Ok(true)));
+}
+
+fn gives_six(alloc: Global) -> Result<bool, AllocError> {
+    let mut log = EntryLog::new(alloc);
     let is_empty = log.len() == 0;
     put_six(&mut log)?;
-    let is_so = is_empty && has_six(&log);
-    assert!(rt; is_so);
-    Ok(())
+    Ok(is_empty && has_six(&log))
+}
+
+#[test]
+fn entries_come_out_as_they_went_in(rt: HostRuntime) {
+    is_so(&rt, gives_six(rt.alloc()));
 }
 
 fn put_many(log: &mut EntryLog) -> Result<(), AllocError> {
@@ -99,11 +106,13 @@ fn has_many(log: &EntryLog) -> bool {
     last.number == 1999 && is_idle_after(&last, 1999, Which::Queued, &[199, 1])
 }
 
-#[test]
-fn many_entries_find_room(rt: HostRuntime) -> Result<(), Fail> {
-    let mut log = EntryLog::new(rt.alloc());
+fn gives_many(alloc: Global) -> Result<bool, AllocError> {
+    let mut log = EntryLog::new(alloc);
     put_many(&mut log)?;
-    let is_so = has_many(&log);
-    assert!(rt; is_so);
-    Ok(())
+    Ok(has_many(&log))
+}
+
+#[test]
+fn many_entries_find_room(rt: HostRuntime) {
+    is_so(&rt, gives_many(rt.alloc()));
 }
