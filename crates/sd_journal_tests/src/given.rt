@@ -12,7 +12,6 @@ use sd_types::{ClassState, CpuId, List, SysState, ThreadBody, Work};
 use sd_workload::read_work;
 use std::alloc::{AllocError, Global};
 use std::process::Abort;
-use std::test::Fail;
 
 /// What is judged over a workload, by one test.
 #[derive(Clone, Copy)]
@@ -68,11 +67,20 @@ fn wrong(alloc: Global, judged: Judged) -> Result<Option<&'static str>, AllocErr
     }
 }
 
-/// All of it is as it should be.
-pub fn judge<R: Abort + AllocGlobal>(rt: &R, judged: Judged) -> Result<(), Fail> {
-    let wrong = wrong(rt.alloc(), judged)?;
-    assert!(rt; wrong.is_none(), "{wrong:?}");
-    Ok(())
+/// All of it is as it should be. A test returns nothing and calls this, since one that returns a fault takes long to prove.
+pub fn judge<R: Abort + AllocGlobal>(rt: &R, judged: Judged) {
+    let wrong = wrong(rt.alloc(), judged);
+    assert!(rt; matches!(wrong, Ok(None)), "{wrong:?}");
+}
+
+/// No case is wrong, of which the first would be told by its index, and memory did not run out.
+pub fn judge_cases<R: Abort>(rt: &R, wrong: Result<Option<usize>, AllocError>) {
+    assert!(rt; matches!(wrong, Ok(None)), "case {wrong:?}");
+}
+
+/// It is so, and memory did not run out.
+pub fn is_so<R: Abort>(rt: &R, is_so: Result<bool, AllocError>) {
+    assert!(rt; matches!(is_so, Ok(true)));
 }
 
 /// A thread of the system class in this place.

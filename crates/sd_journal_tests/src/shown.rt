@@ -1,11 +1,10 @@
 //! The history of a run of three entries that was drawn by hand.
 
-use crate::given::{in_place, state};
+use crate::given::{in_place, is_so, state};
 use sd_state::{CpuState, Place, State};
 use sd_stretches::{History, Stretch, levels, stretches};
 use sd_types::{CpuId, Duty, Entry, Event, SetId, ThreadId};
 use std::alloc::{AllocError, Global};
-use std::test::Fail;
 
 /// A processor of the default partition that has counted so many ticks.
 fn cpu_at(count: u32) -> CpuState {
@@ -98,13 +97,18 @@ fn has_one_level(alloc: Global, history: &History) -> Result<bool, AllocError> {
     Ok(own.len() == 1)
 }
 
+fn is_shown(alloc: Global, history: &mut History) -> Result<bool, AllocError> {
+    take_three(alloc, history)?;
+    Ok(has_rows(alloc, history)? && has_one_level(alloc, history)?)
+}
+
+fn runs_for_a_tick(alloc: Global) -> Result<bool, AllocError> {
+    let mut history = begun(alloc)?;
+    is_shown(alloc, &mut history)
+}
+
 /// A thread is dispatched, ticks once and ends: it is runnable, runs for a tick, and has ended.
 #[test]
-fn a_thread_runs_for_a_tick(rt: HostRuntime) -> Result<(), Fail> {
-    let alloc = rt.alloc();
-    let mut history = begun(alloc)?;
-    take_three(alloc, &mut history)?;
-    let is_so = has_rows(alloc, &history)? && has_one_level(alloc, &history)?;
-    assert!(rt; is_so);
-    Ok(())
+fn a_thread_runs_for_a_tick(rt: HostRuntime) {
+    is_so(&rt, runs_for_a_tick(rt.alloc()));
 }
