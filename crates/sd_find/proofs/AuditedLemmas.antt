@@ -16,7 +16,7 @@ use Rattle.sd_answers.specs.StreamChanges.{StreamChange}
 use Rattle.sd_answers.proofs.InputLemmas.{taken_all}
 use Rattle.sd_answers.proofs.WordLemmas.{no_journal_line}
 use Rattle.sd_program.specs.Audited.{HasWholeLines, certificate_of}
-use Rattle.sd_find.specs.Texts.{between_text, found_text, wait_text}
+use Rattle.sd_search_answers.specs.Texts.{between_text, found_text, wait_text}
 use Rattle.sd_find.specs.Audited.{EndingsAreAudited, IsFoundLegal, WaitsAreAudited, WitnessesAreAudited}
 use Rattle.sd_find.specs.Shown.{IsCertified}
 

@@ -17,10 +17,10 @@ use Rattle.sd_answers.specs.Inputs.{IsRefused, IsWorkload}
 use Rattle.sd_answers.specs.StreamChanges.{StreamChange, IsUntouched, Puts}
 use Rattle.sd_answers.proofs.InputLemmas.{at_most_of, not_too_many as within_most, taken_all}
 use Rattle.sd_program.specs.Headline.{Refuses}
-use Rattle.sd_find.specs.declared.forms.Aim.{Aim}
-use Rattle.sd_find.specs.declared.verdicts.Told.{Told}
-use Rattle.sd_find.specs.declared.verdicts.Verdict.{Verdict}
-use Rattle.sd_find.specs.declared.verdicts.Verdict.TheVariants.{Done, Found, Never, More, NoThread}
+use Rattle.sd_search_answers.specs.declared.forms.Aim.{Aim}
+use Rattle.sd_search_answers.specs.declared.verdicts.Told.{Told}
+use Rattle.sd_search_answers.specs.declared.verdicts.Verdict.{Verdict}
+use Rattle.sd_search_answers.specs.declared.verdicts.Verdict.TheVariants.{Done, Found, Never, More, NoThread}
 use Rattle.sd_find.specs.Promises.{CompletesSearch}
 use Rattle.sd_find.specs.Seeking.{CausedBySearch, IsToldOf, Says, SaysNothing, ended_status, verdict_status}
 use Rattle.sd_program.proofs.TopLemmas.{not_too_many, not_refused, no_workload}

@@ -3,7 +3,7 @@ use Rattle.std.proofs.Common.{ℕ, ◌<◌, ◌≤◌, length, inl, inr, ◌⊎�
 use Rattle.sd_types.specs.declared.works.Work.{Work}
 use Rattle.sd_search.specs.declared.graph.Graph.{Graph}
 use Rattle.sd_search.specs.Graphs.{packed}
-use Rattle.sd_find.specs.Answered.{IsSearch}
+use Rattle.sd_search_answers.specs.Answered.{IsSearch}
 use Rattle.sd_find.specs.Promises.{IsCutOff}
 
 pub cut_off : (w : Work) (most : ℕ) (g : Graph) → IsSearch w most g → g.done < length (packed g) → IsCutOff most g

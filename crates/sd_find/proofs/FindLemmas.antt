@@ -17,15 +17,15 @@ use Rattle.sd_answers.specs.Inputs.{IsWorkload}
 use Rattle.sd_answers.specs.Starts.{WritesHelp}
 use Rattle.sd_answers.specs.StreamChanges.{StreamChange, HasNoFault, IsUntouched, TellsLine}
 use Rattle.sd_program.specs.Headline.{Refuses}
-use Rattle.sd_find.specs.declared.forms.Aim.{Aim}
-use Rattle.sd_find.specs.declared.forms.Aim.TheVariants.{Find, Count, Ends, Waits}
-use Rattle.sd_find.specs.declared.forms.Request.{Request}
-use Rattle.sd_find.specs.declared.forms.Request.TheVariants.{Help, Search}
-use Rattle.sd_find.specs.declared.verdicts.Verdict.{Verdict}
-use Rattle.sd_find.specs.declared.verdicts.Verdict.TheVariants.{Done, Found, Never, More, NoThread}
-use Rattle.sd_find.specs.Answered.{IsSearch, IsShort, count_verdict, verdict_of}
-use Rattle.sd_find.specs.Forms.{request_of}
-use Rattle.sd_find.specs.Texts.{count_text, finding_text}
+use Rattle.sd_search_answers.specs.declared.forms.Aim.{Aim}
+use Rattle.sd_search_answers.specs.declared.forms.Aim.TheVariants.{Find, Count, Ends, Waits}
+use Rattle.sd_search_answers.specs.declared.forms.Request.{Request}
+use Rattle.sd_search_answers.specs.declared.forms.Request.TheVariants.{Help, Search}
+use Rattle.sd_search_answers.specs.declared.verdicts.Verdict.{Verdict}
+use Rattle.sd_search_answers.specs.declared.verdicts.Verdict.TheVariants.{Done, Found, Never, More, NoThread}
+use Rattle.sd_search_answers.specs.Answered.{IsSearch, IsShort, count_verdict, verdict_of}
+use Rattle.sd_search_answers.specs.Forms.{request_of}
+use Rattle.sd_search_answers.specs.Texts.{count_text, finding_text}
 use Rattle.sd_find.specs.Promises.{CompletesSearch, CountSays, CountsStates, ExcludesRuns, FindSays, FindsRun, HasMany, SearchesAsPromised, LeavesOpen, RefusesName, ThreadSays}
 use Rattle.sd_find.specs.Seeking.{CausedByFindRequest, CausedByFindHelp, CausedBySearch, Says, ended_line, ended_status, verdict_status, help_text}
 use Rattle.sd_find.proofs.CauseLemmas.{completes, done_of, failed, found_of, more_of, never_of, refuses}

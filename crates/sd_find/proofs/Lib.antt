@@ -1,5 +1,3 @@
-pub mod AppendLemmas
-pub mod SaidLemmas
 pub mod AuditedLemmas
 pub mod CauseLemmas
 pub mod CutLemmas

@@ -24,14 +24,14 @@ use Rattle.sd_longest.specs.declared.latency.Longest.{Longest}
 use Rattle.sd_longest.specs.declared.latency.Longest.TheVariants as longest
 use Rattle.sd_answers.proofs.EndLemmas.{Closes, closes-behind, ends-behind}
 use Rattle.sd_program.proofs.ClosingLemmas.{accounts-ends, cycles-ends, newline}
-use Rattle.sd_find.specs.declared.forms.Aim.{Aim}
-use Rattle.sd_find.specs.declared.forms.Aim.TheVariants.{Find, Count, Ends, Waits}
-use Rattle.sd_find.specs.declared.timings.Timing.{Timing}
-use Rattle.sd_find.specs.declared.timings.Timing.TheVariants as timing
-use Rattle.sd_find.specs.declared.verdicts.Told.{Told}
-use Rattle.sd_find.specs.Answered.{IsTimedByName, IsTold, IsWaitedByName}
-use Rattle.sd_find.specs.Lefts.{left_line, lefts_text, line_if_left, place_words}
-use Rattle.sd_find.specs.Texts.{all_line, count_text, earliest_head, entries_line, finding_text, found_head, latest_head, left_text, longest_text, states_line, thread_line, tick_line, timing_text, wait_head}
+use Rattle.sd_search_answers.specs.declared.forms.Aim.{Aim}
+use Rattle.sd_search_answers.specs.declared.forms.Aim.TheVariants.{Find, Count, Ends, Waits}
+use Rattle.sd_search_answers.specs.declared.timings.Timing.{Timing}
+use Rattle.sd_search_answers.specs.declared.timings.Timing.TheVariants as timing
+use Rattle.sd_search_answers.specs.declared.verdicts.Told.{Told}
+use Rattle.sd_search_answers.specs.Answered.{IsTimedByName, IsTold, IsWaitedByName}
+use Rattle.sd_search_answers.specs.Lefts.{left_line, lefts_text, line_if_left, place_words}
+use Rattle.sd_search_answers.specs.Texts.{all_line, count_text, earliest_head, entries_line, finding_text, found_head, latest_head, left_text, longest_text, states_line, thread_line, tick_line, timing_text, wait_head}
 use Rattle.sd_find.specs.Shown.{progress_line}
 
 -- ---- the journal

@@ -14,17 +14,17 @@ use Rattle.sd_answers.specs.StreamChanges.{StreamChange, HasNoFault, IsUntouched
 use Rattle.sd_longest.specs.declared.latency.Longest.{Longest}
 use Rattle.sd_longest.specs.declared.latency.Longest.TheVariants as longest
 use Rattle.sd_longest.specs.Waits.{IsLongest, IsOpenLongest}
-use Rattle.sd_find.specs.declared.forms.Aim.{Aim}
-use Rattle.sd_find.specs.declared.forms.Aim.TheVariants.{Find, Count, Ends, Waits}
-use Rattle.sd_find.specs.declared.timings.Timing.{Timing}
-use Rattle.sd_find.specs.declared.timings.Timing.TheVariants as timing
-use Rattle.sd_find.specs.declared.verdicts.Told.{Told}
-use Rattle.sd_find.specs.declared.verdicts.Verdict.{Verdict}
-use Rattle.sd_find.specs.declared.verdicts.Verdict.TheVariants.{Done, Found, Never, More, NoThread}
-use Rattle.sd_find.specs.Answered.{IsByName, IsSearch, IsShortWait, IsTimed, IsTimedByName, IsTold, IsUnnamed, IsWaited, IsWaitedByName, longest_verdict, timing_verdict}
-use Rattle.sd_find.specs.Forms.{name_in}
-use Rattle.sd_find.specs.Texts.{longest_text, timing_text}
-use Rattle.sd_find.specs.Timings.{AreShort, HasNoThread, IsThread, IsTiming}
+use Rattle.sd_search_answers.specs.declared.forms.Aim.{Aim}
+use Rattle.sd_search_answers.specs.declared.forms.Aim.TheVariants.{Find, Count, Ends, Waits}
+use Rattle.sd_search_answers.specs.declared.timings.Timing.{Timing}
+use Rattle.sd_search_answers.specs.declared.timings.Timing.TheVariants as timing
+use Rattle.sd_search_answers.specs.declared.verdicts.Told.{Told}
+use Rattle.sd_search_answers.specs.declared.verdicts.Verdict.{Verdict}
+use Rattle.sd_search_answers.specs.declared.verdicts.Verdict.TheVariants.{Done, Found, Never, More, NoThread}
+use Rattle.sd_search_answers.specs.Answered.{IsByName, IsSearch, IsShortWait, IsTimed, IsTimedByName, IsTold, IsUnnamed, IsWaited, IsWaitedByName, longest_verdict, timing_verdict}
+use Rattle.sd_search_answers.specs.Forms.{name_in}
+use Rattle.sd_search_answers.specs.Texts.{longest_text, timing_text}
+use Rattle.sd_search_answers.specs.Timings.{AreShort, HasNoThread, IsThread, IsTiming}
 use Rattle.sd_find.specs.Promises.{ExcludesEnds, ExcludesWaits, LeavesUntimed, MeasuresWait, RefusesName, ThreadSays, TimesThread}
 use Rattle.sd_find.specs.Seeking.{CausedBySearch, Says, ended_line, ended_status, verdict_status}
 use Rattle.sd_find.proofs.CauseLemmas.{read_work}

@@ -13,10 +13,10 @@ use Rattle.sd_program.specs.declared.forms.Command.TheVariants.{Audit}
 use Rattle.sd_program.specs.Audited.{HasWholeLines, certificate_of}
 use Rattle.sd_program.specs.Forms.{command_of}
 use Rattle.sd_program.specs.Headline as program
-use Rattle.sd_find.specs.declared.forms.Aim.TheVariants.{Find, Ends, Waits}
-use Rattle.sd_find.specs.declared.forms.Request.TheVariants.{Search}
-use Rattle.sd_find.specs.Forms.{request_of}
-use Rattle.sd_find.specs.Texts.{between_text, found_head, wait_text}
+use Rattle.sd_search_answers.specs.declared.forms.Aim.TheVariants.{Find, Ends, Waits}
+use Rattle.sd_search_answers.specs.declared.forms.Request.TheVariants.{Search}
+use Rattle.sd_search_answers.specs.Forms.{request_of}
+use Rattle.sd_search_answers.specs.Texts.{between_text, found_head, wait_text}
 use Rattle.sd_find.specs.Promises.{SearchesAsPromised}
 
 -- each audit of the text, whose last line has its newline, the line `journal` and this journal has status 0, out of memory and faults aside

@@ -1,8 +1,3 @@
-pub mod Forms
-pub mod Lefts
-pub mod Texts
-pub mod Timings
-pub mod Answered
 pub mod Asked
 pub mod Audited
 pub mod Promises

@@ -23,14 +23,14 @@ use Rattle.sd_answers.specs.Inputs.{IsWorkload}
 use Rattle.sd_answers.specs.Starts.{WritesHelp}
 use Rattle.sd_answers.specs.StreamChanges.{StreamChange, HasFault, HasNoFault, IsUntouched, TellsLine}
 use Rattle.sd_program.specs.Headline.{Refuses}
-use Rattle.sd_find.specs.declared.forms.Aim.{Aim}
-use Rattle.sd_find.specs.declared.forms.Aim.TheVariants.{Find, Count, Ends, Waits}
-use Rattle.sd_find.specs.declared.forms.Request.TheVariants.{Help, Search}
-use Rattle.sd_find.specs.declared.verdicts.Verdict.TheVariants.{NoThread}
-use Rattle.sd_find.specs.Answered.{IsSearch}
-use Rattle.sd_find.specs.Forms.{name_in, request_of}
-use Rattle.sd_find.specs.Texts.{between_text, count_text, found_text, more_text, never_text, wait_text}
-use Rattle.sd_find.specs.Timings.{HasNoThread, IsInEvery, IsThread, NeverEnds}
+use Rattle.sd_search_answers.specs.declared.forms.Aim.{Aim}
+use Rattle.sd_search_answers.specs.declared.forms.Aim.TheVariants.{Find, Count, Ends, Waits}
+use Rattle.sd_search_answers.specs.declared.forms.Request.TheVariants.{Help, Search}
+use Rattle.sd_search_answers.specs.declared.verdicts.Verdict.TheVariants.{NoThread}
+use Rattle.sd_search_answers.specs.Answered.{IsSearch}
+use Rattle.sd_search_answers.specs.Forms.{name_in, request_of}
+use Rattle.sd_search_answers.specs.Texts.{between_text, count_text, found_text, more_text, never_text, wait_text}
+use Rattle.sd_search_answers.specs.Timings.{HasNoThread, IsInEvery, IsThread, NeverEnds}
 use Rattle.sd_find.specs.Seeking.{IsSought, help_text, verdict_line}
 use Rattle.sd_find.specs.Shown.{IsCertified, IsShown}
 

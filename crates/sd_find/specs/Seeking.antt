@@ -9,14 +9,14 @@ use Rattle.sd_answers.specs.Answers.{line_with, status_of}
 use Rattle.sd_types.specs.Limits.{most_workload_bytes}
 use Rattle.sd_answers.specs.Inputs.{HasAtMost, HasTooMany, IsNoWorkload, IsWorkload}
 use Rattle.sd_answers.specs.StreamChanges.{StreamChange, AppendsPart, HasFault, HasNoFault, IsUntouched, TellsLine}
-use Rattle.sd_find.specs.declared.forms.Aim.{Aim}
-use Rattle.sd_find.specs.declared.forms.Request.{Request}
-use Rattle.sd_find.specs.declared.forms.Request.TheVariants.{Help, Search}
-use Rattle.sd_find.specs.declared.verdicts.Told.{Told}
-use Rattle.sd_find.specs.declared.verdicts.Verdict.{Verdict}
-use Rattle.sd_find.specs.declared.verdicts.Verdict.TheVariants.{Done, Found, Never, More, NoThread}
-use Rattle.sd_find.specs.Answered.{IsTold}
-use Rattle.sd_find.specs.Forms.{request_of}
+use Rattle.sd_search_answers.specs.declared.forms.Aim.{Aim}
+use Rattle.sd_search_answers.specs.declared.forms.Request.{Request}
+use Rattle.sd_search_answers.specs.declared.forms.Request.TheVariants.{Help, Search}
+use Rattle.sd_search_answers.specs.declared.verdicts.Told.{Told}
+use Rattle.sd_search_answers.specs.declared.verdicts.Verdict.{Verdict}
+use Rattle.sd_search_answers.specs.declared.verdicts.Verdict.TheVariants.{Done, Found, Never, More, NoThread}
+use Rattle.sd_search_answers.specs.Answered.{IsTold}
+use Rattle.sd_search_answers.specs.Forms.{request_of}
 
 -- ---- exit statuses and the lines on the error output
 

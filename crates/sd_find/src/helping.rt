@@ -3,8 +3,8 @@
 ghost use Rattle.sd_answers.specs.StreamChanges.{change_of};
 ghost use Rattle.sd_find.specs.Seeking.{CausedByFindHelp};
 
-use crate::verdicts::Verdict;
 use sd_answers::{Answer, put_text};
+use sd_search_answers::Verdict;
 use sd_text::Sink;
 
 const HELP: &[u8] =

@@ -1,25 +1,13 @@
-//! The top call of `dispfind`, which searches every order in which the processors of a workload can act: the forms of its arguments, the
-//! answer and its text, and what it writes.
+//! The top call of `dispfind`, which searches every order in which the processors of a workload can act.
 #![tactic(auto)]
 
-mod answering;
-mod forms;
 mod helping;
-mod journals;
 mod laws;
-mod lefts;
 mod progress;
 mod quiet;
 mod seeking;
-mod texts;
-mod timing_texts;
-mod timings;
 mod top;
-mod verdicts;
-mod waiting;
-mod watching;
 
-pub use forms::{Aim, Request};
 pub use laws::{endings_are_audited, waits_are_audited, witnesses_are_audited};
 pub use progress::Progress;
 use sd_answers::behind_name;
@@ -27,10 +15,7 @@ use sd_text::{StdSink, StdSource};
 use std::io::{IsTerminal, Stderr};
 use std::process::ExitCode;
 use std::{env, io};
-pub use timings::Timing;
 pub use top::{find, start};
-pub use verdicts::{Told, Verdict};
-pub use watching::{Unwatched, Watch};
 
 /// The arguments behind the program's name.
 fn arguments(host: &HostRuntime) -> io::Result<Vec<String>> {

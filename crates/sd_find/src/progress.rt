@@ -3,8 +3,8 @@
 ghost use Rattle.std.specs.Prelude.{◌≡◌, ◌++◌, OnOk, IfOk};
 ghost use Rattle.sd_find.specs.Shown.{progress_line};
 
-use crate::watching::Watch;
 use sd_answers::{Unwritten, put_text};
+use sd_search_answers::Watch;
 use sd_text::{Sink, put_number};
 use std::alloc::{AllocError, Global};
 

@@ -6,11 +6,8 @@ ghost use Rattle.sd_answers.specs.StreamChanges.{IsUntouched, Puts, change_of};
 ghost use Rattle.sd_answers.specs.declared.writing.Unwritten.TheVariants.{Memory};
 ghost use Rattle.sd_find.specs.Seeking.{CausedBySearch};
 
-use crate::answering::tell;
-use crate::forms::Aim;
-use crate::verdicts::Verdict;
-use crate::watching::{Unwatched, Watch};
 use sd_answers::{Answer, Unwritten, put_text, read_input};
+use sd_search_answers::{Aim, Unwatched, Verdict, Watch, tell};
 use sd_text::{Sink, Source};
 use std::alloc::Global;
 

@@ -8,13 +8,12 @@ ghost use Rattle.sd_find.specs.Promises.{SearchesAsPromised};
 ghost use Rattle.sd_find.specs.Seeking.{ended_line, ended_status, verdict_line, verdict_status};
 ghost use Rattle.sd_find.specs.Starts.{DispfindStarts};
 
-use crate::forms::{Request, request_of};
 use crate::helping::put_help;
 use crate::progress::Progress;
 use crate::quiet::{asked, is_quiet};
 use crate::seeking::seek_watched;
-use crate::verdicts::Verdict;
 use sd_answers::{Answer, Unwritten, put_line};
+use sd_search_answers::{Request, Verdict, request_of};
 use sd_text::{Sink, Source};
 use std::alloc::Global;
 use std::io;

@@ -3,9 +3,9 @@ use Rattle.std.specs.Prelude.{string_bytes}
 use Rattle.sd_answers.specs.declared.answers.Answer.{Answer}
 use Rattle.sd_answers.specs.declared.answers.Answer.TheVariants.{Usage}
 use Rattle.sd_answers.specs.StreamChanges.{change_of}
-use Rattle.sd_find.specs.declared.forms.Request.{Request}
-use Rattle.sd_find.specs.declared.verdicts.Verdict.{Verdict}
-use Rattle.sd_find.specs.Forms.{request_of}
+use Rattle.sd_search_answers.specs.declared.forms.Request.{Request}
+use Rattle.sd_search_answers.specs.declared.verdicts.Verdict.{Verdict}
+use Rattle.sd_search_answers.specs.Forms.{request_of}
 use Rattle.sd_find.specs.Asked.{asked}
 use Rattle.sd_find.specs.Seeking.{CausedByFindRequest}
 use Rattle.sd_find.proofs.FindLemmas.{promises_of}

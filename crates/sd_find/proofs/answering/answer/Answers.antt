@@ -1,7 +1,0 @@
-use Rattle.sd_find.specs.Answered.{IsAnswered, IsSearch}
-use Rattle.sd_find.proofs.SaidLemmas.{said}
-use Rattle.sd_find.proofs.answering.answer.Goals as goal
-
-pub returns : goal.returns
-returns g c =
-    said (λ m. IsSearch c.args.work.now m c.in_ok-graph.graph) (IsAnswered c.args.work.now c.args.question) c.answer_from.result c.args.most c.answer_from.ensures c.in_ok-graph.ensures

@@ -1,7 +1,0 @@
-use Rattle.sd_find.specs.Answered.{IsCounted, IsSearch}
-use Rattle.sd_find.proofs.SaidLemmas.{said}
-use Rattle.sd_find.proofs.answering.count.Goals as goal
-
-pub returns : goal.returns
-returns g c =
-    said (λ m. IsSearch c.args.work.now m c.in_ok-graph.graph) (IsCounted c.args.work.now) c.count_from.result c.args.most c.count_from.ensures c.in_ok-graph.ensures

@@ -1,7 +1,0 @@
-use Rattle.sd_find.specs.Answered.{IsWaited, IsSearch}
-use Rattle.sd_find.proofs.SaidLemmas.{said}
-use Rattle.sd_find.proofs.answering.wait.Goals as goal
-
-pub returns : goal.returns
-returns g c =
-    said (λ m. IsSearch c.args.work.now m c.in_ok-graph.graph) (IsWaited c.args.work.now c.args.thread) c.wait_from.result c.args.most c.wait_from.ensures c.in_ok-graph.ensures
