@@ -7,5 +7,6 @@ pub mod RoundLemmas
 pub mod SearchedLemmas
 pub mod SerialLemmas
 pub mod SightLemmas
+pub mod SurveyLemmas
 pub mod TickLemmas
 pub mod TurnLemmas

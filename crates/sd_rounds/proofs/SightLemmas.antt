@@ -36,7 +36,7 @@ use Rattle.sd_rounds.specs.declared.sight.Sight.{Sight}
 use Rattle.sd_rounds.specs.declared.sight.Sight.TheVariants as sight
 use Rattle.sd_rounds.specs.Searched.{HasNothing, HasNoUrgent, IsSearched, all_show_zero}
 use Rattle.sd_rounds.specs.declared.sight.Searched.{Searched}
-use Rattle.sd_rounds.specs.Sights.{FindsNothing, Sees, SeesQuiet, SeesRunner, noted}
+use Rattle.sd_rounds.specs.Sights.{FindsNoUrgent, FindsNothing, Sees, SeesQuiet, SeesRunner, noted}
 use Rattle.sd_rounds.proofs.SearchedLemmas.{none_ready, none_urgent}
 
 -- a processor without a duty and without a nap that is over
@@ -73,6 +73,7 @@ first_found r (q ∷ rs) e = let same : q ≡ r = cc in rw (ap (λ z. id_of z ==
 pub runner_noted : (w : Work) (v : CpuView) (r : ThreadRecord) (known : Option Searched) (seen : Sight) → SeesRunner w v r seen → known ≡ noted known seen
 runner_noted w v r known (sight.Runs t expires) f = refl
 runner_noted w v r known (sight.Idles found) f = absurd f
+runner_noted w v r known sight.Searches f = absurd f
 runner_noted w v r known sight.Unclear f = refl
 
 module _ (w : Work) (x : Acting) (n : ℕ) (s : State) (h : Home) (sh : IsShown x n s) (duty : x.actor.duty ≡ Nothing) (at : held (Cpu x.actor.cpu) x.hand.slots ≡ Some h)
@@ -106,7 +107,14 @@ module _ (w : Work) (x : Acting) (n : ℕ) (s : State) (h : Home) (sh : IsShown 
         ends ∙ ap (λ (b : ThreadBody). class_expires b.class) body ∙ ap (λ (u : ThreadId). class_expires (thread_of s u.0).body.class) (sym same),
       )
   sees_runner r (sight.Idles found) e f = absurd f
+  sees_runner r sight.Searches e f = absurd f
   sees_runner r sight.Unclear e f = tt
+
+  -- nobody is ready where nobody stands in the queue, nor in the real-time queue of the set
+  none_is_ready : (set : SetId) → (cpu_of s x.actor.cpu.0).set ≡ set → slice_get (list_in h (Queues x.actor.cpu)) 0 ≡ None → FindsNoUrgent x set → best_ready s x.actor.cpu.0 ≡ None
+  none_is_ready set its queue f =
+      ready_told x n s h sh x.actor.cpu set f.home at f.there its
+      ∙ (ap (λ o. option_map id_of (better o (slice_get (list_in f.home (Urgent set)) 0))) queue ∙ ap (option_map id_of) f.urgent)
 
   module _ (found : Searched) (its : found.set ≡ v.set) (queue : slice_get (list_in h (Queues x.actor.cpu)) 0 ≡ None) where
     is_set : (cpu_of s x.actor.cpu.0).set ≡ found.set
@@ -118,9 +126,7 @@ module _ (w : Work) (x : Acting) (n : ℕ) (s : State) (h : Home) (sh : IsShown 
     -- what a search finds of the state
     nothing_found : FindsNothing x found → HasNothing s found
     nothing_found f =
-        let ready : best_ready s x.actor.cpu.0 ≡ None =
-        ready_told x n s h sh x.actor.cpu found.set f.home at f.there is_set
-        ∙ (ap (λ o. option_map id_of (better o (slice_get (list_in f.home (Urgent found.set)) 0))) queue ∙ ap (option_map id_of) f.urgent) in
+        let ready = none_is_ready found.set is_set queue (record { home = f.home; there = f.there; urgent = f.urgent }) in
         let opened : open_in f.home ≡ open_of s found.set.0 = sym (open_told x n s f.home sh found.set f.there) in
         record {
           zero = subst (λ cs. all_show_zero s cs ≡ true) opened (f.zero n s sh);
@@ -148,4 +154,9 @@ module _ (w : Work) (x : Acting) (n : ℕ) (s : State) (h : Home) (sh : IsShown 
         ap (λ (q : CpuView). q.closing) (sym viewed) ∙ closing,
         none,
       )
+  sees_quiet known sight.Searches e f is =
+      let (closing, queue, urgent) = f in
+      let runs : runner s x.actor.cpu.0 ≡ None = runner_told x n s h sh x.actor.cpu at ∙ ap (option_map id_of) e in
+      let its : (cpu_of s x.actor.cpu.0).set ≡ v.set = ap (λ (q : CpuView). q.set) (sym viewed) in
+      sym (quiet_plan w s x.actor.cpu.0 no_duty none_due ∙ searches w s x.actor.cpu.0 runs (ap (λ (q : CpuView). q.closing) (sym viewed) ∙ closing) (none_is_ready v.set its queue urgent))
   sees_quiet known sight.Unclear e f is = tt

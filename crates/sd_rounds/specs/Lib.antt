@@ -3,3 +3,4 @@ pub mod Orders
 pub mod Rounds
 pub mod Searched
 pub mod Sights
+pub mod Surveys

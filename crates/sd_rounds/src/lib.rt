@@ -7,6 +7,7 @@ mod laws;
 mod orders;
 mod rounds;
 mod sight;
+mod survey;
 mod ticks;
 mod turns;
 

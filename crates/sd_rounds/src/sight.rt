@@ -13,7 +13,7 @@ ghost use Rattle.sd_homes.specs.Standing.{due_of_first};
 ghost use Rattle.sd_hand.specs.Acting.{IsShown};
 ghost use Rattle.sd_hand.specs.Hands.{held};
 ghost use Rattle.sd_rounds.specs.Searched.{IsSearched, all_show_zero};
-ghost use Rattle.sd_rounds.specs.Sights.{FindsNothing, Sees, SeesQuiet, SeesRunner, noted};
+ghost use Rattle.sd_rounds.specs.Sights.{Sees, SeesQuiet, SeesRunner, SeesSearch, noted};
 
 use sd_class::class_expires;
 use sd_hand::Acting;
@@ -36,6 +36,8 @@ pub enum Sight {
     Runs { t: ThreadId, expires: bool },
     /// Nothing is ready for it, nor on the queue of a neighbour in its set: it is idle for a tick.
     Idles(Searched),
+    /// Nothing is ready for it, and something is on the queue of a neighbour: it searches.
+    Searches,
     /// It has to make a plan.
     Unclear,
 }
@@ -114,19 +116,22 @@ fn known_of(searched: Option<Searched>, set: SetId) -> Option<Searched>
     }
 }
 
-/// A search in this set, where it finds nothing.
+/// What is seen of a search in this set.
 #[inline(always)]
-fn search(x: &Acting, set: SetId) -> Option<Searched>
-    ensures { IfSome result (λ found. (found.set ≡ set) × FindsNothing x.now found) }
+fn search(x: &Acting, set: SetId) -> Sight
+    ensures { SeesSearch x.now set result }
 {
     match x.hand.home(HomeId::RealTime(set)) {
-        Err(_) => None,
+        Err(_) => Sight::Unclear,
         Ok(urgent) => {
-            let open = urgent.open_cpus();
-            if urgent.first(ListId::Urgent(set)).is_some() || !have_none_to_steal(x, open) {
-                return None;
+            if urgent.first(ListId::Urgent(set)).is_some() {
+                return Sight::Unclear;
             }
-            Some(Searched {
+            let open = urgent.open_cpus();
+            if !have_none_to_steal(x, open) {
+                return Sight::Searches;
+            }
+            Sight::Idles(Searched {
                 set,
                 cpus: open.len(),
             })
@@ -149,11 +154,12 @@ fn see_quiet(x: &Acting, home: &Home, view: CpuView, searched: &mut Option<Searc
         return Sight::Idles(found);
     }
     match search(x, view.set) {
-        None => Sight::Unclear,
-        Some(found) => {
+        Sight::Idles(found) => {
             *searched = Some(found);
             Sight::Idles(found)
         }
+        Sight::Searches => Sight::Searches,
+        _ => Sight::Unclear,
     }
 }
 

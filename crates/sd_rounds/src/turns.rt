@@ -2,25 +2,30 @@
 //! and else by its plan and what it reads for that, each found once. Should its hand not show these, it makes an attempt, as where homes
 //! are shared.
 
-ghost use Rattle.std.specs.Prelude.{◌≡◌, ◌++◌, ◌-◌, ◌<◌, ◌≤◌, ◌↔◌, IfErr, IfSome, length, map, option_map, replicate, IsErrOf, OnErr, OnOk};
+ghost use Rattle.std.specs.Prelude.{◌≡◌, ◌++◌, ◌-◌, ◌<◌, ◌≤◌, ◌↔◌, List, IfErr, IfSome, length, map, option_map, replicate, IsErrOf, OnErr, OnOk};
 ghost use Rattle.sd_types.specs.declared.events.Duty.TheVariants.{Nothing};
 ghost use Rattle.sd_types.specs.declared.events.Which.TheVariants.{Queued};
+ghost use Rattle.sd_types.specs.declared.numbers.CpuId.{CpuId as CpuOf};
 ghost use Rattle.sd_types.specs.Limits.{most_processors};
+ghost use Rattle.sd_state.specs.declared.states.State.{State as StateOf};
 ghost use Rattle.sd_machine.specs.declared.plans.Plan.TheVariants.{Search};
 ghost use Rattle.sd_machine.specs.Choosing.{neighbours};
 ghost use Rattle.sd_machine.specs.Events.{allowed, next};
-ghost use Rattle.sd_machine.specs.Hints.{hint_shown, plan_reads as reads_of};
+ghost use Rattle.sd_machine.specs.Hints.{hint_shown, plan_reads as reads_of, read_of};
 ghost use Rattle.sd_machine.specs.Plans.{plan as plan_of};
 ghost use Rattle.sd_machine.specs.Runs.{made, serial_hints, shown, turn};
 ghost use Rattle.sd_dispatcher.specs.Reading.{parts};
 ghost use Rattle.sd_world.specs.Plain.{AreCpus, Stands, told};
 ghost use Rattle.sd_rounds.specs.Floors.{IsFloor};
 ghost use Rattle.sd_rounds.specs.Searched.{IsSearched};
+ghost use Rattle.sd_rounds.specs.Surveys.{IsSurvey};
 
 use crate::sight::{Searched, Sight, see};
+use crate::survey::{Survey, open_around, take_survey};
 use crate::ticks::{come_idle, come_tick, reserve};
+use arrayvec::ArrayVec;
 use sd_cpu::{OpenGate, attempt};
-use sd_dispatcher::Reading;
+use sd_dispatcher::{Reading, search_event};
 use sd_machine::Plan;
 use sd_step::{plan, plan_event_read, plan_reads};
 use sd_types::{CpuId, Event, Hints, MOST_ENTRIES, Stop, Which, Work};
@@ -216,6 +221,62 @@ fn act_by_plan(work: &Work, world: &mut PlainWorld) -> Result<(), Stop>
     }
 }
 
+/// The numbers of a search as an entry records them: of no processor nothing was read.
+#[inline(always)]
+fn hints_of(numbers: ArrayVec<u8, 64>) -> Option<Hints>
+    ensures { (s : StateOf) (cpus : List CpuOf) → numbers.items ≡ map (hint_shown s Queued) cpus → result ≡ shown s (read_of cpus) }
+{
+    if numbers.is_empty() {
+        return None;
+    }
+    Some(Hints {
+        which: Which::Queued,
+        numbers,
+    })
+}
+
+/// The turn of a processor that searches, and that reads this.
+fn act_by_survey(work: &Work, world: &mut PlainWorld, found: Survey) -> Result<(), Stop>
+    requires stands { Stands work.now world.old }
+    requires work { world.old.work.now ≡ work.now }
+    requires few { length world.old.entries.items < MOST_ENTRIES }
+    requires plan { Search ≡ plan_of work.now (told work.now world.old) world.old.acting.actor.cpu.0 }
+    requires survey { IsSurvey (told work.now world.old) (neighbours (told work.now world.old) world.old.acting.actor.cpu.0) found }
+    ensures stands { Stands work.now world.new }
+    ensures work { world.new.work.now ≡ work.now }
+    ensures entries { OnOk result (world.new.entries.items ≡ world.old.entries.items ++ turn work.now (told work.now world.old) (length world.old.entries.items) world.old.acting.actor.cpu) }
+    ensures stop { IfErr result (λ stop. (stop ≡ Stop.Memory) × (world.new.entries.items ≡ world.old.entries.items)) }
+{
+    match search_event(&world.acting, found.victim) {
+        Ok(event) => {
+            let hints = hints_of(found.numbers);
+            come_alone(work, world, event, hints)
+        }
+        Err(_) => attempt_turn(work, world),
+    }
+}
+
+/// The turn of a processor that searches: by one walk along the processors of its set.
+#[inline(never)]
+fn act_by_search(work: &Work, world: &mut PlainWorld) -> Result<(), Stop>
+    requires stands { Stands work.now world.old }
+    requires work { world.old.work.now ≡ work.now }
+    requires few { length world.old.entries.items < MOST_ENTRIES }
+    requires plan { Search ≡ plan_of work.now (told work.now world.old) world.old.acting.actor.cpu.0 }
+    ensures stands { Stands work.now world.new }
+    ensures work { world.new.work.now ≡ work.now }
+    ensures entries { OnOk result (world.new.entries.items ≡ world.old.entries.items ++ turn work.now (told work.now world.old) (length world.old.entries.items) world.old.acting.actor.cpu) }
+    ensures stop { IfErr result (λ stop. (stop ≡ Stop.Memory) × (world.new.entries.items ≡ world.old.entries.items)) }
+{
+    match open_around(&world.acting) {
+        None => attempt_turn(work, world),
+        Some(cpus) => {
+            let found = take_survey(work, world, cpus);
+            act_by_survey(work, world, found)
+        }
+    }
+}
+
 /// The turn of the processor that acts, by one look or by its plan. Where it searches and one look finds nothing to steal, this is so in its
 /// set until an entry comes that is neither a tick of a thread nor an idle one. Each look answers on its own, so that the compiler sees that
 /// most turns end well, and asks nothing after them.
@@ -246,6 +307,10 @@ fn act(
         Sight::Idles(found) => {
             end_search(work, world, floor, found.cpus)?;
             Ok(())
+        }
+        Sight::Searches => {
+            *searched = None;
+            act_by_search(work, world)
         }
         Sight::Unclear => {
             *searched = None;

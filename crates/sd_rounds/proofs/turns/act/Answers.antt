@@ -103,3 +103,9 @@ returns-in_err-end_search-in-Idles-clause-searched c =
     let (duty, plan, its, opened, none) = c.in-Idles.ensures.seen (length x.entries.items) (told w x) (P.shown w x c.requires.stands) c.requires.searched in
     subst (IsSearched (told w c.end_search.new.world)) (sym c.in-Idles.ensures.noted)
     (kept_searched w x c.end_search.new.world (Some c.in-Idles.found) none c.in_err-end_search-in-Idles.ensures.stop.1)
+
+pub act_by_search-requires-clause-plan : goal.act_by_search-requires-clause-plan
+act_by_search-requires-clause-plan c =
+    let w = c.args.work.now in
+    let x = c.args.world.now in
+    c.in-Searches.ensures.seen (length x.entries.items) (told w x) (P.shown w x c.requires.stands) c.requires.searched
