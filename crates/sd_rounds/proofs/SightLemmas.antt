@@ -59,11 +59,12 @@ runs_on w s c t n runs user kernel op =
     ap (cpu_plan_of w s c) runs
     ∙ (ap (run_plan_of w s t) (stays c t (cpu_of s c) (thread_of s t).body user kernel) ∙ ap (op_plan w s t) op)
 
-searches : (w : Work) (s : State) (c : ℕ) → runner s c ≡ None → (cpu_of s c).closing ≡ None → best_ready s c ≡ None → cpu_plan w s c ≡ Search
+frees : (w : Work) (s : State) (c : ℕ) → runner s c ≡ None → (cpu_of s c).closing ≡ None → cpu_plan w s c ≡ dispatch_plan s (best_ready s c)
 unfolding cpu_plan
-searches w s c runs closing ready =
-    ap (cpu_plan_of w s c) runs
-    ∙ (ap (free_plan_of s c) closing ∙ ap (dispatch_plan s) ready)
+frees w s c runs closing = ap (cpu_plan_of w s c) runs ∙ ap (free_plan_of s c) closing
+
+searches : (w : Work) (s : State) (c : ℕ) → runner s c ≡ None → (cpu_of s c).closing ≡ None → best_ready s c ≡ None → cpu_plan w s c ≡ Search
+searches w s c runs closing ready = frees w s c runs closing ∙ ap (dispatch_plan s) ready
 
 first_found : (r : ThreadRecord) (rs : List ThreadRecord) → slice_get rs 0 ≡ Some r → find_id id_of (id_of r) rs ≡ Some r
 first_found r [] e = absurd cc
@@ -74,6 +75,7 @@ pub runner_noted : (w : Work) (v : CpuView) (r : ThreadRecord) (known : Option S
 runner_noted w v r known (sight.Runs t expires) f = refl
 runner_noted w v r known (sight.Idles found) f = absurd f
 runner_noted w v r known sight.Searches f = absurd f
+runner_noted w v r known sight.Ready f = absurd f
 runner_noted w v r known sight.Unclear f = refl
 
 module _ (w : Work) (x : Acting) (n : ℕ) (s : State) (h : Home) (sh : IsShown x n s) (duty : x.actor.duty ≡ Nothing) (at : held (Cpu x.actor.cpu) x.hand.slots ≡ Some h)
@@ -108,6 +110,7 @@ module _ (w : Work) (x : Acting) (n : ℕ) (s : State) (h : Home) (sh : IsShown 
       )
   sees_runner r (sight.Idles found) e f = absurd f
   sees_runner r sight.Searches e f = absurd f
+  sees_runner r sight.Ready e f = absurd f
   sees_runner r sight.Unclear e f = tt
 
   -- nobody is ready where nobody stands in the queue, nor in the real-time queue of the set
@@ -159,4 +162,7 @@ module _ (w : Work) (x : Acting) (n : ℕ) (s : State) (h : Home) (sh : IsShown 
       let runs : runner s x.actor.cpu.0 ≡ None = runner_told x n s h sh x.actor.cpu at ∙ ap (option_map id_of) e in
       let its : (cpu_of s x.actor.cpu.0).set ≡ v.set = ap (λ (q : CpuView). q.set) (sym viewed) in
       sym (quiet_plan w s x.actor.cpu.0 no_duty none_due ∙ searches w s x.actor.cpu.0 runs (ap (λ (q : CpuView). q.closing) (sym viewed) ∙ closing) (none_is_ready v.set its queue urgent))
+  sees_quiet known sight.Ready e f is =
+      let runs : runner s x.actor.cpu.0 ≡ None = runner_told x n s h sh x.actor.cpu at ∙ ap (option_map id_of) e in
+      sym (quiet_plan w s x.actor.cpu.0 no_duty none_due ∙ frees w s x.actor.cpu.0 runs (ap (λ (q : CpuView). q.closing) (sym viewed) ∙ f))
   sees_quiet known sight.Unclear e f is = tt

@@ -13,7 +13,9 @@ use Rattle.sd_state.specs.Operations.{op_of}
 use Rattle.sd_state.specs.States.{cpu_of, thread_of}
 use Rattle.sd_rules.specs.ClassRules.{class_expires}
 use Rattle.sd_machine.specs.declared.plans.Plan.TheVariants.{Make, Search}
+use Rattle.sd_machine.specs.Dispatching.{dispatch_plan}
 use Rattle.sd_machine.specs.Plans.{plan}
+use Rattle.sd_machine.specs.Threads.{best_ready}
 use Rattle.sd_record.specs.Records.{ThreadRecord}
 use Rattle.sd_homes.specs.declared.list_id.ListId.TheVariants.{Queues, Urgent}
 use Rattle.sd_homes.specs.declared.home.Home.{Home}
@@ -25,7 +27,7 @@ use Rattle.sd_hand.specs.Hands.{held}
 use Rattle.sd_rounds.specs.Searched.{HasNothing, all_show_zero}
 use Rattle.sd_rounds.specs.declared.sight.Searched.{Searched}
 use Rattle.sd_rounds.specs.declared.sight.Sight.{Sight}
-use Rattle.sd_rounds.specs.declared.sight.Sight.TheVariants.{Runs, Idles, Searches, Unclear}
+use Rattle.sd_rounds.specs.declared.sight.Sight.TheVariants.{Runs, Idles, Searches, Ready, Unclear}
 
 -- what is seen of processor c, which has no duty, is its plan, and whether its tick ends the quantum of its thread; and where it searches, itself one of the open processors of its set, there is
 -- nothing in that
@@ -34,6 +36,7 @@ Sees w s c (Runs t expires) = ((cpu_of s c).duty ≡ Nothing) × (Make (Tick t) 
 Sees w s c (Idles found) =
     ((cpu_of s c).duty ≡ Nothing) × (Search ≡ plan w s c) × (found.set ≡ (cpu_of s c).set) × ((cpu_of s c).closing ≡ None) × HasNothing s found
 Sees w s c Searches = Search ≡ plan w s c
+Sees w s c Ready = dispatch_plan s (best_ready s c) ≡ plan w s c
 Sees w s c Unclear = ⊤
 
 -- of a thread that runs, on a processor with no mark, and whose operation is to run
@@ -41,6 +44,7 @@ abbrev pub SeesRunner : Work → CpuView → ThreadRecord → Sight → Type 0
 SeesRunner w v r (Runs t expires) = (t ≡ r.id) × (v.user ≡ false) × (v.kernel ≡ false) × (expires ≡ class_expires r.body.class) × (n : ℕ) × (op_of w r.id.0 r.body ≡ Some (Run n))
 SeesRunner w v r (Idles found) = ⊥
 SeesRunner w v r Searches = ⊥
+SeesRunner w v r Ready = ⊥
 SeesRunner w v r Unclear = ⊤
 
 -- a search finds nothing in the set of this home
@@ -63,6 +67,7 @@ abbrev pub SeesSearch : Acting → SetId → Sight → Type 0
 SeesSearch x set (Runs t expires) = ⊥
 SeesSearch x set (Idles found) = (found.set ≡ set) × FindsNothing x found
 SeesSearch x set Searches = FindsNoUrgent x set
+SeesSearch x set Ready = ⊤
 SeesSearch x set Unclear = ⊤
 
 -- of a processor on which no thread runs, which is not closing: nobody stands in its queue, and there is nothing in its set, as is known or
@@ -72,6 +77,7 @@ SeesQuiet x h v known (Runs t expires) = ⊥
 SeesQuiet x h v known (Idles found) =
     (found.set ≡ v.set) × (v.closing ≡ None) × (slice_get (list_in h (Queues x.actor.cpu)) 0 ≡ None) × ((known ≡ Some found) ⊎ FindsNothing x found)
 SeesQuiet x h v known Searches = (v.closing ≡ None) × (slice_get (list_in h (Queues x.actor.cpu)) 0 ≡ None) × FindsNoUrgent x v.set
+SeesQuiet x h v known Ready = v.closing ≡ None
 SeesQuiet x h v known Unclear = ⊤
 
 -- what is known of a search after this look
@@ -79,4 +85,5 @@ abbrev pub noted : Option Searched → Sight → Option Searched
 noted known (Runs t expires) = known
 noted known (Idles found) = Some found
 noted known Searches = known
+noted known Ready = known
 noted known Unclear = known

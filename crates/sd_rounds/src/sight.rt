@@ -38,6 +38,8 @@ pub enum Sight {
     Idles(Searched),
     /// Nothing is ready for it, and something is on the queue of a neighbour: it searches.
     Searches,
+    /// No thread runs on it, and one may be ready for it: it dispatches the best.
+    Ready,
     /// It has to make a plan.
     Unclear,
 }
@@ -125,7 +127,7 @@ fn search(x: &Acting, set: SetId) -> Sight
         Err(_) => Sight::Unclear,
         Ok(urgent) => {
             if urgent.first(ListId::Urgent(set)).is_some() {
-                return Sight::Unclear;
+                return Sight::Ready;
             }
             let open = urgent.open_cpus();
             if !have_none_to_steal(x, open) {
@@ -147,8 +149,11 @@ fn see_quiet(x: &Acting, home: &Home, view: CpuView, searched: &mut Option<Searc
     ensures seen { SeesQuiet x.now home.now view searched.old result }
     ensures noted { searched.new ≡ noted searched.old result }
 {
-    if view.closing.is_some() || home.first(ListId::Queues(x.actor.cpu)).is_some() {
+    if view.closing.is_some() {
         return Sight::Unclear;
+    }
+    if home.first(ListId::Queues(x.actor.cpu)).is_some() {
+        return Sight::Ready;
     }
     if let Some(found) = known_of(*searched, view.set) {
         return Sight::Idles(found);
@@ -159,6 +164,7 @@ fn see_quiet(x: &Acting, home: &Home, view: CpuView, searched: &mut Option<Searc
             Sight::Idles(found)
         }
         Sight::Searches => Sight::Searches,
+        Sight::Ready => Sight::Ready,
         _ => Sight::Unclear,
     }
 }

@@ -2,7 +2,7 @@
 //! and else by its plan and what it reads for that, each found once. Should its hand not show these, it makes an attempt, as where homes
 //! are shared.
 
-ghost use Rattle.std.specs.Prelude.{◌≡◌, ◌++◌, ◌-◌, ◌<◌, ◌≤◌, ◌↔◌, List, IfErr, IfSome, length, map, option_map, replicate, IsErrOf, OnErr, OnOk};
+ghost use Rattle.std.specs.Prelude.{◌≡◌, ℕ, ◌++◌, ◌-◌, ◌<◌, ◌≤◌, ◌↔◌, List, IfErr, IfSome, length, map, option_map, replicate, IsErrOf, OnErr, OnOk};
 ghost use Rattle.sd_types.specs.declared.events.Duty.TheVariants.{Nothing};
 ghost use Rattle.sd_types.specs.declared.events.Which.TheVariants.{Queued};
 ghost use Rattle.sd_types.specs.declared.numbers.CpuId.{CpuId as CpuOf};
@@ -10,11 +10,14 @@ ghost use Rattle.sd_types.specs.Limits.{most_processors};
 ghost use Rattle.sd_state.specs.declared.states.State.{State as StateOf};
 ghost use Rattle.sd_machine.specs.declared.plans.Plan.TheVariants.{Search};
 ghost use Rattle.sd_machine.specs.Choosing.{neighbours};
+ghost use Rattle.sd_machine.specs.Dispatching.{dispatch_plan as plan_of_best};
 ghost use Rattle.sd_machine.specs.Events.{allowed, next};
 ghost use Rattle.sd_machine.specs.Hints.{hint_shown, plan_reads as reads_of, read_of};
 ghost use Rattle.sd_machine.specs.Plans.{plan as plan_of};
 ghost use Rattle.sd_machine.specs.Runs.{made, serial_hints, shown, turn};
+ghost use Rattle.sd_machine.specs.Threads.{best_ready};
 ghost use Rattle.sd_dispatcher.specs.Reading.{parts};
+ghost use Rattle.sd_hand.specs.Acting.{IsShown};
 ghost use Rattle.sd_world.specs.Plain.{AreCpus, Stands, told};
 ghost use Rattle.sd_rounds.specs.Floors.{IsFloor};
 ghost use Rattle.sd_rounds.specs.Searched.{IsSearched};
@@ -25,9 +28,11 @@ use crate::survey::{Survey, open_around, take_survey};
 use crate::ticks::{come_idle, come_tick, reserve};
 use arrayvec::ArrayVec;
 use sd_cpu::{OpenGate, attempt};
-use sd_dispatcher::{Reading, search_event};
+use sd_dispatcher::{Reading, dispatch_plan, search_event};
+use sd_hand::Acting;
 use sd_machine::Plan;
 use sd_step::{plan, plan_event_read, plan_reads};
+use sd_store::Look;
 use sd_types::{CpuId, Event, Hints, MOST_ENTRIES, Stop, Which, Work};
 use sd_world::PlainWorld;
 
@@ -221,6 +226,38 @@ fn act_by_plan(work: &Work, world: &mut PlainWorld) -> Result<(), Stop>
     }
 }
 
+/// What the processor that acts does where no thread runs on it: it dispatches the best that is ready.
+#[inline(always)]
+fn dispatch_of(x: &Acting) -> Option<Plan>
+    ensures { IfSome result (λ p. (n : ℕ) (s : StateOf) → IsShown x.now n s → p ≡ plan_of_best s (best_ready s x.now.actor.cpu.0)) }
+{
+    let Ok(best) = x.best_ready(x.actor.cpu) else {
+        return None;
+    };
+    match dispatch_plan(x, best) {
+        Ok(plan) => Some(plan),
+        Err(_) => None,
+    }
+}
+
+/// The turn of a processor on which no thread runs, and for which one may be ready.
+#[inline(never)]
+fn act_by_dispatch(work: &Work, world: &mut PlainWorld) -> Result<(), Stop>
+    requires stands { Stands work.now world.old }
+    requires work { world.old.work.now ≡ work.now }
+    requires few { length world.old.entries.items < MOST_ENTRIES }
+    requires plan { plan_of_best (told work.now world.old) (best_ready (told work.now world.old) world.old.acting.actor.cpu.0) ≡ plan_of work.now (told work.now world.old) world.old.acting.actor.cpu.0 }
+    ensures stands { Stands work.now world.new }
+    ensures work { world.new.work.now ≡ work.now }
+    ensures entries { OnOk result (world.new.entries.items ≡ world.old.entries.items ++ turn work.now (told work.now world.old) (length world.old.entries.items) world.old.acting.actor.cpu) }
+    ensures stop { IfErr result (λ stop. (stop ≡ Stop.Memory) × (world.new.entries.items ≡ world.old.entries.items)) }
+{
+    match dispatch_of(&world.acting) {
+        Some(plan) => act_on(work, world, plan),
+        None => attempt_turn(work, world),
+    }
+}
+
 /// The numbers of a search as an entry records them: of no processor nothing was read.
 #[inline(always)]
 fn hints_of(numbers: ArrayVec<u8, 64>) -> Option<Hints>
@@ -311,6 +348,10 @@ fn act(
         Sight::Searches => {
             *searched = None;
             act_by_search(work, world)
+        }
+        Sight::Ready => {
+            *searched = None;
+            act_by_dispatch(work, world)
         }
         Sight::Unclear => {
             *searched = None;
