@@ -1,5 +1,5 @@
 -- What was found that a processor reads tells what it goes by: whether its choice is settled, of which processors the numbers are, and its victim.
-use Rattle.std.proofs.Common.{◌≡◌, ℕ, Bool, true, false, ◌&&◌, ◌==◌, List, [], ◌∷◌, length, Option, Some, None, refl, sym, ap, ◌∙◌, if◌then◌else◌}
+use Rattle.std.proofs.Common.{◌≡◌, ℕ, Bool, true, false, ◌&&◌, ◌==◌, List, [], ◌∷◌, length, Option, Some, None, is_none, refl, sym, ap, ◌∙◌, if◌then◌else◌}
 use Rattle.std.proofs.lemmas.Option.{same_Some}
 use Rattle.std.specs.Prelude.{Result, Ok, Err, IfOk}
 use Rattle.sd_basics.proofs.Truths.{or_rest}
@@ -14,6 +14,8 @@ use Rattle.sd_state.specs.declared.states.State.{State}
 use Rattle.sd_state.specs.States.{thread_of}
 use Rattle.sd_machine.specs.Choosing.{choice, cpus_for, is_settled, is_warm, neighbours, numbers_read, put_chosen, put_on, victim_for}
 use Rattle.sd_machine.specs.Hints.{hints_fit, read_of, reads_for}
+use Rattle.sd_dispatcher.specs.Allowed.{settled_put}
+use Rattle.sd_dispatcher.specs.Reading.{put_unread}
 use Rattle.sd_machine.proofs.NumberLemmas.{placed_numbers, search_numbers}
 
 -- what is told of an answer
@@ -78,6 +80,17 @@ unfolding reads_for
 numbers_for w s c t which read hints e fit =
     let is = unsettled_by (is_settled (cpus_for w s t) (thread_of s t).body.last (is_warm s c t)) (cpus_for w s t) (which, read) e in
     ap (λ (q : Which × List CpuId). length (numbers_read q.1 hints)) is.0 ∙ placed_numbers w s c t hints fit ∙ sym (ap (λ (q : Which × List CpuId). length q.1) is.0)
+
+-- where nothing is read the choice is settled, and the thread is put without it
+unread_if : {A : Type 0} (settled : Bool) (cpus : List CpuId) (a : A) → (if settled then Some a else None) ≡ (if is_none (read_if settled cpus) then Some a else None)
+unread_if true cpus a = refl
+unread_if false cpus a = refl
+
+pub unread_put : (w : Work) (s : State) (c t p : ℕ) (cpus : List CpuId) (bound : Option CpuId) (last : CpuId) (warm : Bool) → cpus ≡ cpus_for w s t → bound ≡ (thread_of s t).body.bound
+    → last ≡ (thread_of s t).body.last → warm ≡ is_warm s c t → settled_put cpus bound last warm p ≡ put_unread w s c t p
+unfolding reads_for choice put_chosen
+unread_put w s c t p cpus bound last warm a b d e =
+    (λ j. settled_put (a j) (b j) (d j) (e j) p) ∙ unread_if (is_settled (cpus_for w s t) (thread_of s t).body.last (is_warm s c t)) (cpus_for w s t) (put_chosen w s c t p None)
 
 -- What was read for a search.
 

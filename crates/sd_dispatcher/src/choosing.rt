@@ -9,10 +9,10 @@ ghost use Rattle.sd_machine.specs.Choosing.{cpus_for, cpus_or_bound, is_recent, 
 ghost use Rattle.sd_machine.specs.Hints.{hints_fit, read_of, reads_for};
 ghost use Rattle.sd_state.specs.declared.states.State.{State};
 ghost use Rattle.sd_state.specs.States.{cpu_of, no_body, thread_of, set_of};
-ghost use Rattle.sd_dispatcher.specs.Allowed.{allowed};
-ghost use Rattle.sd_dispatcher.specs.Reading.{parts};
+ghost use Rattle.sd_dispatcher.specs.Allowed.{allowed, settled_put};
+ghost use Rattle.sd_dispatcher.specs.Reading.{parts, put_unread};
 ghost use Rattle.sd_store.specs.Parts.{actor_part, cpu_part, ready_parts, real_time_part, thread_part};
-ghost use Rattle.sd_store.specs.Words.{Lacks, TellsIf};
+ghost use Rattle.sd_store.specs.Words.{Lacks, Tells, TellsIf};
 ghost use Rattle.sd_types.specs.Limits.{most_processors};
 
 use crate::bodies::bound_in;
@@ -252,6 +252,35 @@ fn put_by_numbers<L: Look>(
     let last = last_in(body);
     let bound = bound_in(body);
     Ok(put_on(p, bound, chosen(cpus, hints, last, false)))
+}
+
+/// Where a thread of priority `p` is put by these choices, where they are settled before anything is read.
+#[inline(always)]
+fn unread_by(choices: &Choices<'_>, p: u8) -> Option<Put>
+    ensures { result ≡ settled_put (allowed choices.now.cpus) choices.now.bound choices.now.last choices.now.warm p }
+{
+    let cpus = choices.cpus.as_slice();
+    if is_settled(cpus, choices.last, choices.warm) {
+        Some(put_on(p, choices.bound, settled(cpus, choices.last)))
+    } else {
+        None
+    }
+}
+
+/// Where processor `c` puts thread `t`, which has the effective priority `p` then, where it reads nothing for that; None where it reads
+/// something. The thread is looked up once.
+pub fn put_unread<L: Look>(
+    work: &Work,
+    x: &L,
+    c: CpuId,
+    t: ThreadId,
+    p: u8,
+) -> Result<Option<Put>, L::Lack>
+    ensures value { Tells (L.shows x.now) result (λ s. put_unread work.now s c.0 t.0 p) }
+    ensures lack { Lacks L.part (L.shows x.now) (L.has x.now) result (λ s. actor_part c ∷ thread_part t ∷ real_time_part (set_of work.now t.0) ∷ []) }
+{
+    let choices = choices_of(work, x, c, t)?;
+    Ok(unread_by(&choices, p))
 }
 
 /// Where processor `c` puts thread `t`, which has the effective priority `p` then, by what was found that it reads for this and by the numbers

@@ -18,7 +18,7 @@ pub use bodies::{
     bound_in, bound_of, class_in, class_of, eff_as, eff_in, eff_of, effective_in, has_ended,
     is_privileged, op_in, op_of, priority_of, uid_of, willed_numbers,
 };
-pub use choosing::{neighbours, put_chosen, put_read, victim_for, victim_read};
+pub use choosing::{neighbours, put_chosen, put_read, put_unread, victim_for, victim_read};
 pub use dispatching::{dispatch_plan, leave_in, search_event};
 pub use marks::{mark_over, remark};
 pub use placing::{put, put_where, put_with};

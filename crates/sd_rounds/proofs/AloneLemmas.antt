@@ -1,28 +1,32 @@
 -- The turn of a processor that has all homes, and whose plan reads nothing, or searches where nothing is queued.
-use Rattle.std.proofs.Common.{◌≡◌, ℕ, zero, suc, ◌<◌, true, ◌==◌, max, List, [], ◌∷◌, length, map, replicate, Option, Some, None, refl, sym, ap, ◌∙◌, if◌then◌else◌}
+use Rattle.std.proofs.Common.{◌≡◌, ℕ, zero, suc, ◌<◌, true, ◌==◌, max, List, [], ◌∷◌, length, map, replicate, Option, Some, None, is_none, option_map, refl, sym, ap, ◌∙◌, if◌then◌else◌}
 use Rattle.std.specs.List.{list_all}
 use Rattle.std.proofs.lemmas.Bool.{and_parts, eqb-true}
+use Rattle.std.proofs.lemmas.Option.{same_Some}
 use Rattle.sd_types.specs.declared.numbers.ChanId.{ChanId}
 use Rattle.sd_types.specs.declared.numbers.CpuId.{CpuId}
 use Rattle.sd_types.specs.declared.events.Event.{Event}
 use Rattle.sd_types.specs.declared.events.Event.TheVariants.{Idle}
 use Rattle.sd_types.specs.declared.events.Hints.{Hints}
+use Rattle.sd_types.specs.declared.events.Which.{Which}
 use Rattle.sd_types.specs.declared.events.Which.TheVariants.{Queued}
 use Rattle.sd_types.specs.declared.works.Work.{Work}
 use Rattle.sd_rules.specs.ChoiceFunctions.{greatest_hint, least_number, victim_of, with_hint}
 use Rattle.sd_state.specs.declared.states.State.{State}
 use Rattle.sd_log.specs.Parts.{zeros_read}
+use Rattle.sd_machine.specs.declared.plans.Placement.{Placement}
 use Rattle.sd_machine.specs.declared.plans.Plan.{Plan}
-use Rattle.sd_machine.specs.declared.plans.Plan.TheVariants.{Make, Search}
-use Rattle.sd_machine.specs.Choosing.{neighbours, numbers_read, victim_for}
+use Rattle.sd_machine.specs.declared.plans.Plan.TheVariants.{Make, Place, Search}
+use Rattle.sd_machine.specs.Choosing.{neighbours, numbers_read, put_chosen, victim_for}
 use Rattle.sd_machine.specs.Dispatching.{search_event}
-use Rattle.sd_machine.specs.Events.{allowed, next, plan_event}
-use Rattle.sd_machine.specs.Hints.{hint_shown, plan_reads, read_of, reads}
+use Rattle.sd_machine.specs.Events.{allowed, event_of, next, plan_event}
+use Rattle.sd_machine.specs.Hints.{hint_shown, placed_thread, plan_reads, read_of, reads, reads_for}
 use Rattle.sd_machine.specs.Needs.{CanCount}
 use Rattle.sd_machine.specs.Plans.{plan}
 use Rattle.sd_machine.specs.Runs.{made, serial_hints, shown, turn}
 use Rattle.sd_invariants.proofs.Whole.{fit_reached}
 use Rattle.sd_replay.proofs.EnteringLemmas.{serial_event}
+use Rattle.sd_dispatcher.specs.Reading.{put_unread}
 use Rattle.sd_hand.specs.Acting.{IsShown}
 use Rattle.sd_world.specs.declared.plain.PlainWorld.{PlainWorld}
 use Rattle.sd_world.specs.Plain.{Stands, told}
@@ -46,6 +50,23 @@ next_of w s c p inside e = serial_event w s c inside ∙ ap (λ q. allowed w s c
 -- a plan that reads nothing
 pub makes_it : (w : Work) (s : State) (c : CpuId) (e : Event) → c.0 < w.cpus → Make e ≡ plan w s c.0 → next w s c None ≡ allowed w s c.0 e
 makes_it w s c e inside is = ap (next w s c) (sym (serial_of w s c (Make e) is)) ∙ next_of w s c (Make e) inside is
+
+-- a placement for which nothing is read
+pub unread : (w : Work) (s : State) (c : CpuId) (at : Placement) (p : ℕ) (e : Event) → c.0 < w.cpus → Place at p ≡ plan w s c.0
+    → option_map (event_of at) (put_unread w s c.0 (placed_thread at) p) ≡ Some e → (None ≡ serial_hints w s c) × (next w s c None ≡ allowed w s c.0 e)
+unread w s c at p e inside is made = by (reads_for w s c.0 (placed_thread at)) refl made
+  where
+    by : (o : Option (Which × List CpuId)) → reads_for w s c.0 (placed_thread at) ≡ o
+        → option_map (event_of at) (if is_none o then Some (put_chosen w s c.0 (placed_thread at) p None) else None) ≡ Some e
+        → (None ≡ serial_hints w s c) × (next w s c None ≡ allowed w s c.0 e)
+    by None none same =
+        let nothing : shown s (reads_for w s c.0 (placed_thread at)) ≡ None = ap (shown s) none in
+        let hints : None ≡ serial_hints w s c = sym (serial_of w s c (Place at p) is ∙ nothing) in (
+          hints,
+          ap (next w s c) hints ∙ next_of w s c (Place at p) inside is ∙ ap (λ h. allowed w s c.0 (event_of at (put_chosen w s c.0 (placed_thread at) p h))) nothing
+              ∙ ap (allowed w s c.0) (same_Some (event_of at (put_chosen w s c.0 (placed_thread at) p None)) e same),
+        )
+    by (Some r) some same = absurd cc
 
 -- numbers that are all 0
 greatest_zero : (ns : List ℕ) → list_all (λ n. n == 0) ns ≡ true → greatest_hint ns ≡ 0

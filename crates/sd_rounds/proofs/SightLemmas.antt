@@ -52,12 +52,14 @@ stays c t x b user kernel =
     ap (λ k. if (k || (x.user && not (is_sys b.class) && (length b.held.items == 0))) then Some (Make (leave_event c t b b.bound)) else None) kernel
     ∙ ap (λ u. if (u && not (is_sys b.class) && (length b.held.items == 0)) then Some (Make (leave_event c t b b.bound)) else None) user
 
+acts_on : (w : Work) (s : State) (c t : ℕ) → runner s c ≡ Some t → (cpu_of s c).user ≡ false → (cpu_of s c).kernel ≡ false → cpu_plan w s c ≡ op_plan w s t (op_of w t (thread_of s t).body)
+unfolding cpu_plan
+acts_on w s c t runs user kernel = ap (cpu_plan_of w s c) runs ∙ ap (run_plan_of w s t) (stays c t (cpu_of s c) (thread_of s t).body user kernel)
+
 runs_on : (w : Work) (s : State) (c t n : ℕ) → runner s c ≡ Some t → (cpu_of s c).user ≡ false → (cpu_of s c).kernel ≡ false → op_of w t (thread_of s t).body ≡ Some (Run n)
     → cpu_plan w s c ≡ Make (Tick (record { 0 = t }))
-unfolding cpu_plan op_plan
-runs_on w s c t n runs user kernel op =
-    ap (cpu_plan_of w s c) runs
-    ∙ (ap (run_plan_of w s t) (stays c t (cpu_of s c) (thread_of s t).body user kernel) ∙ ap (op_plan w s t) op)
+unfolding op_plan
+runs_on w s c t n runs user kernel op = acts_on w s c t runs user kernel ∙ ap (op_plan w s t) op
 
 frees : (w : Work) (s : State) (c : ℕ) → runner s c ≡ None → (cpu_of s c).closing ≡ None → cpu_plan w s c ≡ dispatch_plan s (best_ready s c)
 unfolding cpu_plan
@@ -73,6 +75,7 @@ first_found r (q ∷ rs) e = let same : q ≡ r = cc in rw (ap (λ z. id_of z ==
 -- a look at a thread that runs tells nothing of a search
 pub runner_noted : (w : Work) (v : CpuView) (r : ThreadRecord) (known : Option Searched) (seen : Sight) → SeesRunner w v r seen → known ≡ noted known seen
 runner_noted w v r known (sight.Runs t expires) f = refl
+runner_noted w v r known (sight.Acts t) f = refl
 runner_noted w v r known (sight.Idles found) f = absurd f
 runner_noted w v r known sight.Searches f = absurd f
 runner_noted w v r known sight.Ready f = absurd f
@@ -108,6 +111,11 @@ module _ (w : Work) (x : Acting) (n : ℕ) (s : State) (h : Home) (sh : IsShown 
         sym (quiet_plan w s x.actor.cpu.0 no_duty none_due ∙ plans ∙ ap (λ u. Make (Tick u)) (sym same)),
         ends ∙ ap (λ (b : ThreadBody). class_expires b.class) body ∙ ap (λ (u : ThreadId). class_expires (thread_of s u.0).body.class) (sym same),
       )
+  sees_runner r (sight.Acts t) e f =
+      let (same, user, kernel) = f in
+      let runs : runner s x.actor.cpu.0 ≡ Some r.id.0 = runner_told x n s h sh x.actor.cpu at ∙ ap (option_map id_of) e in
+      let plans = acts_on w s x.actor.cpu.0 r.id.0 runs (ap (λ (q : CpuView). q.user) (sym viewed) ∙ user) (ap (λ (q : CpuView). q.kernel) (sym viewed) ∙ kernel) in
+      sym (quiet_plan w s x.actor.cpu.0 no_duty none_due ∙ plans ∙ ap (λ (u : ThreadId). op_plan w s u.0 (op_of w u.0 (thread_of s u.0).body)) (sym same))
   sees_runner r (sight.Idles found) e f = absurd f
   sees_runner r sight.Searches e f = absurd f
   sees_runner r sight.Ready e f = absurd f
@@ -147,6 +155,7 @@ module _ (w : Work) (x : Acting) (n : ℕ) (s : State) (h : Home) (sh : IsShown 
 
   pub sees_quiet : (known : Option Searched) (seen : Sight) → slice_get (list_in h (Runs x.actor.cpu)) 0 ≡ None → SeesQuiet x h v known seen → IsSearched s known → Sees w s x.actor.cpu.0 seen
   sees_quiet known (sight.Runs t expires) e f is = absurd f
+  sees_quiet known (sight.Acts t) e f is = absurd f
   sees_quiet known (sight.Idles found) e f is =
       let (its, closing, queue, known_or_found) = f in
       let runs : runner s x.actor.cpu.0 ≡ None = runner_told x n s h sh x.actor.cpu at ∙ ap (option_map id_of) e in

@@ -34,6 +34,8 @@ pub struct Searched {
 pub enum Sight {
     /// Its thread runs for a tick, which ends its quantum or does not.
     Runs { t: ThreadId, expires: bool },
+    /// Its thread does what its operation is, which is not to run.
+    Acts(ThreadId),
     /// Nothing is ready for it, nor on the queue of a neighbour in its set: it is idle for a tick.
     Idles(Searched),
     /// Nothing is ready for it, and something is on the queue of a neighbour: it searches.
@@ -74,8 +76,11 @@ fn is_due(napper: Option<&Record>, count: u32) -> bool
 fn see_runner(work: &Work, view: CpuView, thread: &Record) -> Sight
     ensures { SeesRunner work.now view thread.now result }
 {
-    if view.user || view.kernel || !is_to_run(work, thread) {
+    if view.user || view.kernel {
         return Sight::Unclear;
+    }
+    if !is_to_run(work, thread) {
+        return Sight::Acts(thread.id);
     }
     Sight::Runs {
         t: thread.id,

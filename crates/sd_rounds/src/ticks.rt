@@ -1,7 +1,7 @@
 //! The entries of most turns: a thread runs for a tick, or a processor is idle for one. They are made as any entry is, but of an event that
 //! the compiler knows.
 
-ghost use Rattle.std.specs.Prelude.{◌≡◌, ◌++◌, ◌<◌, ◌≤◌, ◌∷◌, [], None, Option, Some, length, IfErr, OnOk};
+ghost use Rattle.std.specs.Prelude.{◌≡◌, ◌++◌, ◌<◌, ◌≤◌, ◌∷◌, [], None, Some, length, IfErr, OnOk};
 ghost use Rattle.sd_types.specs.declared.events.Duty.TheVariants.{Nothing};
 ghost use Rattle.sd_types.specs.declared.events.Event.TheVariants.{Idle as IdleEvent, Tick as TickEvent};
 ghost use Rattle.sd_machine.specs.Events.{allowed, may_tick, next};

@@ -8,12 +8,14 @@ ghost use Rattle.sd_types.specs.declared.events.Which.TheVariants.{Queued};
 ghost use Rattle.sd_types.specs.declared.numbers.CpuId.{CpuId as CpuOf};
 ghost use Rattle.sd_types.specs.Limits.{most_processors};
 ghost use Rattle.sd_state.specs.declared.states.State.{State as StateOf};
-ghost use Rattle.sd_machine.specs.declared.plans.Plan.TheVariants.{Search};
+ghost use Rattle.sd_state.specs.Operations.{op_of};
+ghost use Rattle.sd_state.specs.States.{thread_of};
+ghost use Rattle.sd_machine.specs.declared.plans.Plan.TheVariants.{Place, Search};
 ghost use Rattle.sd_machine.specs.Choosing.{neighbours};
 ghost use Rattle.sd_machine.specs.Dispatching.{dispatch_plan as plan_of_best};
 ghost use Rattle.sd_machine.specs.Events.{allowed, next};
 ghost use Rattle.sd_machine.specs.Hints.{hint_shown, plan_reads as reads_of, read_of};
-ghost use Rattle.sd_machine.specs.Plans.{plan as plan_of};
+ghost use Rattle.sd_machine.specs.Plans.{op_plan, plan as plan_of};
 ghost use Rattle.sd_machine.specs.Runs.{made, serial_hints, shown, turn};
 ghost use Rattle.sd_machine.specs.Threads.{best_ready};
 ghost use Rattle.sd_dispatcher.specs.Reading.{parts};
@@ -30,10 +32,10 @@ use arrayvec::ArrayVec;
 use sd_cpu::{OpenGate, attempt};
 use sd_dispatcher::{Reading, dispatch_plan, search_event};
 use sd_hand::Acting;
-use sd_machine::Plan;
-use sd_step::{plan, plan_event_read, plan_reads};
+use sd_machine::{Placement, Plan};
+use sd_step::{plan, plan_event_read, plan_reads, runner_plan, unread_event};
 use sd_store::Look;
-use sd_types::{CpuId, Event, Hints, MOST_ENTRIES, Stop, Which, Work};
+use sd_types::{CpuId, Event, Hints, MOST_ENTRIES, Stop, ThreadId, Which, Work};
 use sd_world::PlainWorld;
 
 /// What the processor that acts is about to do, as far as the homes show it.
@@ -64,7 +66,7 @@ fn come(work: &Work, world: &mut PlainWorld, event: Event, hints: Option<Hints>)
         return Ok(());
     }
     reserve(work, world)?;
-    world.make(work, hints, event);
+    world.make(work, &hints, event);
     Ok(())
 }
 
@@ -191,6 +193,29 @@ fn act_by_reading(work: &Work, world: &mut PlainWorld, plan: Plan) -> Result<(),
     }
 }
 
+/// The turn of a processor whose plan is to put a thread somewhere: at once where it reads nothing for that.
+fn act_by_place(
+    work: &Work,
+    world: &mut PlainWorld,
+    placement: Placement,
+    p: u8,
+) -> Result<(), Stop>
+    requires stands { Stands work.now world.old }
+    requires work { world.old.work.now ≡ work.now }
+    requires few { length world.old.entries.items < MOST_ENTRIES }
+    requires plan { Place placement p ≡ plan_of work.now (told work.now world.old) world.old.acting.actor.cpu.0 }
+    ensures stands { Stands work.now world.new }
+    ensures work { world.new.work.now ≡ work.now }
+    ensures entries { OnOk result (world.new.entries.items ≡ world.old.entries.items ++ turn work.now (told work.now world.old) (length world.old.entries.items) world.old.acting.actor.cpu) }
+    ensures stop { IfErr result (λ stop. (stop ≡ Stop.Memory) × (world.new.entries.items ≡ world.old.entries.items)) }
+{
+    match unread_event(work, &world.acting, world.acting.actor.cpu, placement, p) {
+        Ok(Some(event)) => come_alone(work, world, event, None),
+        Ok(None) => act_by_reading(work, world, Plan::Place(placement, p)),
+        Err(_) => attempt_turn(work, world),
+    }
+}
+
 /// The turn of a processor whose plan this is. Most plans read nothing.
 #[inline(always)]
 fn act_on(work: &Work, world: &mut PlainWorld, plan: Plan) -> Result<(), Stop>
@@ -205,7 +230,8 @@ fn act_on(work: &Work, world: &mut PlainWorld, plan: Plan) -> Result<(), Stop>
 {
     match plan {
         Plan::Make(event) => come_alone(work, world, event, None),
-        _ => act_by_reading(work, world, plan),
+        Plan::Place(placement, p) => act_by_place(work, world, placement, p),
+        Plan::Search => act_by_reading(work, world, Plan::Search),
     }
 }
 
@@ -221,6 +247,36 @@ fn act_by_plan(work: &Work, world: &mut PlainWorld) -> Result<(), Stop>
     ensures stop { IfErr result (λ stop. (stop ≡ Stop.Memory) × (world.new.entries.items ≡ world.old.entries.items)) }
 {
     match find_plan(work, world) {
+        Some(plan) => act_on(work, world, plan),
+        None => attempt_turn(work, world),
+    }
+}
+
+/// What thread `t`, which runs on the processor that acts and need not leave it, is about to do, as far as the homes show it.
+#[inline(always)]
+fn runner_of(work: &Work, world: &PlainWorld, t: ThreadId) -> Option<Plan>
+    requires { Stands work.now world.now }
+    ensures { IfSome result (λ p. p ≡ op_plan work.now (told work.now world.now) t.0 (op_of work.now t.0 (thread_of (told work.now world.now) t.0).body)) }
+{
+    match runner_plan(work, &world.acting, t) {
+        Ok(plan) => Some(plan),
+        Err(_) => None,
+    }
+}
+
+/// The turn of a processor on which thread `t` runs and need not leave it.
+#[inline(never)]
+fn act_by_runner(work: &Work, world: &mut PlainWorld, t: ThreadId) -> Result<(), Stop>
+    requires stands { Stands work.now world.old }
+    requires work { world.old.work.now ≡ work.now }
+    requires few { length world.old.entries.items < MOST_ENTRIES }
+    requires plan { op_plan work.now (told work.now world.old) t.0 (op_of work.now t.0 (thread_of (told work.now world.old) t.0).body) ≡ plan_of work.now (told work.now world.old) world.old.acting.actor.cpu.0 }
+    ensures stands { Stands work.now world.new }
+    ensures work { world.new.work.now ≡ work.now }
+    ensures entries { OnOk result (world.new.entries.items ≡ world.old.entries.items ++ turn work.now (told work.now world.old) (length world.old.entries.items) world.old.acting.actor.cpu) }
+    ensures stop { IfErr result (λ stop. (stop ≡ Stop.Memory) × (world.new.entries.items ≡ world.old.entries.items)) }
+{
+    match runner_of(work, world, t) {
         Some(plan) => act_on(work, world, plan),
         None => attempt_turn(work, world),
     }
@@ -340,6 +396,10 @@ fn act(
         Sight::Runs { t, expires } => {
             come_tick(work, world, floor, t, expires)?;
             Ok(())
+        }
+        Sight::Acts(t) => {
+            *searched = None;
+            act_by_runner(work, world, t)
         }
         Sight::Idles(found) => {
             end_search(work, world, floor, found.cpus)?;

@@ -9,7 +9,7 @@ ghost use Rattle.sd_machine.specs.Events.{allowed, event_of, next, plan_event};
 ghost use Rattle.sd_machine.specs.Hints.{hints_fit, placed_thread, plan_reads, read_of, reads, reads_for};
 ghost use Rattle.sd_machine.specs.Needs.{CanCount};
 ghost use Rattle.sd_state.specs.declared.states.State.{State};
-ghost use Rattle.sd_dispatcher.specs.Reading.{parts};
+ghost use Rattle.sd_dispatcher.specs.Reading.{parts, put_unread as unread_place};
 ghost use Rattle.sd_dispatcher.specs.Touched.{victim_parts};
 ghost use Rattle.sd_step.specs.Needed.{choice_parts, next_parts, read_parts, turn_parts};
 ghost use Rattle.sd_store.specs.Parts.{ready_parts};
@@ -17,8 +17,8 @@ ghost use Rattle.sd_store.specs.Words.{Lacks, LacksIf, Tells, TellsIf};
 
 use crate::plans::plan;
 use sd_dispatcher::{
-    Reading, hints_fit, put_chosen, put_read, reads_for, reads_to_steal, search_event, victim_for,
-    victim_read,
+    Reading, hints_fit, put_chosen, put_read, put_unread, reads_for, reads_to_steal, search_event,
+    victim_for, victim_read,
 };
 use sd_machine::{Placement, Plan};
 use sd_store::{Clock, Look};
@@ -152,6 +152,23 @@ fn place_event_read<L: Look>(
     let t = placed_thread(placement);
     let at = put_read(work, x, c, t, p, reading, hints)?;
     Ok(event_of(placement, at))
+}
+
+/// The event of a placement for which processor `c` reads nothing, whether or not it may come now; None where it reads something.
+pub fn unread_event<L: Look>(
+    work: &Work,
+    x: &L,
+    c: CpuId,
+    placement: Placement,
+    p: u8,
+) -> Result<Option<Event>, L::Lack>
+    ensures value { Tells (L.shows x.now) result (λ s. option_map (event_of placement) (unread_place work.now s c.0 (placed_thread placement) p)) }
+    ensures lack { Lacks L.part (L.shows x.now) (L.has x.now) result (λ s. read_parts work.now s c (Place placement p)) }
+{
+    match put_unread(work, x, c, placed_thread(placement), p)? {
+        None => Ok(None),
+        Some(at) => Ok(Some(event_of(placement, at))),
+    }
 }
 
 /// The event of a plan by what was found that is read for it, whether or not it may come now, with the numbers that were read. So the

@@ -9,5 +9,5 @@ mod events;
 mod plans;
 
 pub use effects::after;
-pub use events::{next, plan_event, plan_event_read, plan_next, plan_reads};
-pub use plans::plan;
+pub use events::{next, plan_event, plan_event_read, plan_next, plan_reads, unread_event};
+pub use plans::{plan, runner_plan};

@@ -163,6 +163,15 @@ fn wanted_in(work: &Work, t: ThreadId, body: Option<&ThreadBody>) -> Option<Op>
     op_in(work, t, body)
 }
 
+/// What the running thread `t` does by its operation, where it need not leave its processor. It is looked up once.
+pub fn runner_plan<L: Look>(work: &Work, x: &L, t: ThreadId) -> Result<Plan, L::Lack>
+    ensures value { TellsIf (L.shows x.now) result (λ s. (k : ChanIdOf) → CanCount s k) (λ s. op_plan work.now s t.0 (op_of work.now t.0 (thread_of s t.0).body)) }
+    ensures lack { Lacks L.part (L.shows x.now) (L.has x.now) result (λ s. thread_part t ∷ op_parts s (op_of work.now t.0 (thread_of s t.0).body)) }
+{
+    let body = x.body(t)?;
+    op_plan(work, x, t, wanted_in(work, t, body))
+}
+
 /// What processor `c` does on which thread `t` runs, which is looked up once: the thread leaves where it has to, and else does its operation.
 fn run_plan<L: Look>(work: &Work, x: &L, c: CpuId, t: ThreadId) -> Result<Plan, L::Lack>
     ensures value { TellsIf (L.shows x.now) result (λ s. (k : ChanIdOf) → CanCount s k) (λ s. run_plan work.now s c.0 t.0) }

@@ -31,11 +31,11 @@ pub(crate) fn enter(
     actors: &mut Vec<Actor>,
     entries: &mut EntryLog,
     event: Event,
-    hints: Option<Hints>,
+    hints: &Option<Hints>,
 )
-    requires can { CanEnter work.now acting.old actors.old.items entries.old.items event hints }
+    requires can { CanEnter work.now acting.old actors.old.items entries.old.items event hints.now }
     requires room { 0 < entries.old.room }
-    ensures { Enters work.now acting.old acting.new actors.old.items actors.new.items entries.old.items entries.new.items event hints }
+    ensures { Enters work.now acting.old acting.new actors.old.items actors.new.items entries.old.items entries.new.items event hints.now }
 {
     let number = entries.len() as u64;
     let cpu = acting.actor.cpu;
@@ -44,5 +44,5 @@ pub(crate) fn enter(
         Err(_) => unreachable!(),
     }
     actors[cpu.0 as usize] = acting.actor;
-    entries.push_reserved(cpu, event, &hints);
+    entries.push_reserved(cpu, event, hints);
 }

@@ -90,14 +90,14 @@ impl<'a> PlainWorld<'a> {
 
     /// Makes the event, for which the log has room.
     #[inline(always)]
-    pub fn make(&mut self, work: &Work, hints: Option<Hints>, event: Event)
+    pub fn make(&mut self, work: &Work, hints: &Option<Hints>, event: Event)
         requires stands { Stands work.now self.old }
-        requires next { next work.now (told work.now self.old) self.old.acting.actor.cpu hints ≡ Some event }
+        requires next { next work.now (told work.now self.old) self.old.acting.actor.cpu hints.now ≡ Some event }
         requires room { 0 < self.old.entries.room }
         requires few { length self.old.entries.items < MOST_ENTRIES }
         ensures stands { Stands work.now self.new }
         ensures entries { self.new.entries.items ≡ self.old.entries.items
-            ++ record { number = length self.old.entries.items; cpu = self.old.acting.actor.cpu; event = event; hints = hints } ∷ [] }
+            ++ record { number = length self.old.entries.items; cpu = self.old.acting.actor.cpu; event = event; hints = hints.now } ∷ [] }
         ensures cpu { self.new.acting.actor.cpu ≡ self.old.acting.actor.cpu }
         ensures rest { (self.new.work ≡ self.old.work) × (self.new.reads ≡ self.old.reads) × (self.new.last ≡ self.old.last) }
     {
@@ -130,7 +130,7 @@ impl<'a> PlainWorld<'a> {
             &mut self.actors,
             &mut self.entries,
             event,
-            hints,
+            &hints,
         );
     }
 
@@ -187,7 +187,7 @@ impl<'a> World for PlainWorld<'a> {
 
     fn commit(&mut self, work: &Work, event: Event, hints: Option<Hints>) -> u64 {
         let number = self.entries.len() as u64;
-        self.make(work, hints, event);
+        self.make(work, &hints, event);
         number
     }
 

@@ -1,8 +1,7 @@
-use Rattle.std.proofs.Common.{◌≡◌, ◌==◌, List, length, filter, not, sym, subst}
+use Rattle.std.proofs.Common.{◌==◌, List, length, filter, not, sym, subst}
 use Rattle.sd_types.specs.declared.numbers.CpuId.{CpuId}
 use Rattle.sd_state.specs.States.{cpu_of}
 use Rattle.sd_machine.specs.Choosing.{neighbours}
-use Rattle.sd_machine.specs.Threads.{open_of}
 use Rattle.sd_world.specs.Plain.{AreCpus, told}
 use Rattle.sd_world.proofs.PlainLemmas as P
 use Rattle.sd_rounds.specs.Surveys.{IsSurvey}

@@ -1,5 +1,4 @@
-use Rattle.std.proofs.Common.{length, map, sym, ap, ◌∙◌}
-use Rattle.sd_types.specs.declared.events.Which.TheVariants.{Queued}
+use Rattle.std.proofs.Common.{length, sym, ap, ◌∙◌}
 use Rattle.sd_rules.specs.ChoiceFunctions.{victim_of}
 use Rattle.sd_machine.specs.declared.plans.Plan.TheVariants.{Search}
 use Rattle.sd_machine.specs.Choosing.{neighbours}

@@ -16,7 +16,7 @@ unreachable-requires c =
     let e : length es ≡ c.len-number.result = sym c.len-number.ensures in
     let reached : IsReached w (length es) s = record { entries = es; run = can.run; many = refl; ends = refl } in
     let lack = c.in-Err.ensures.lack in
-    false≢true (sym lack.1 ∙ can.holds c.in-Err.field-0 (lack.0 s (subst (λ m. IsShown x m s) e can.shown) (needs_reached w (length es) s x.actor.cpu c.args.hints c.args.event reached can.next)))
+    false≢true (sym lack.1 ∙ can.holds c.in-Err.field-0 (lack.0 s (subst (λ m. IsShown x m s) e can.shown) (needs_reached w (length es) s x.actor.cpu c.args.hints.now c.args.event reached can.next)))
 
 pub returns : goal.returns
 returns c =
@@ -28,7 +28,7 @@ returns c =
     let s = final_state w es in
     let e : length es ≡ c.len-number.result = sym c.len-number.ensures in
     let reached : IsReached w (length es) s = record { entries = es; run = can.run; many = refl; ends = refl } in
-    let made = c.in-Ok.ensures.value s (subst (λ m. IsShown x m s) e can.shown) (needs_reached w (length es) s cpu c.args.hints c.args.event reached can.next) in
+    let made = c.in-Ok.ensures.value s (subst (λ m. IsShown x m s) e can.shown) (needs_reached w (length es) s cpu c.args.hints.now c.args.event reached can.next) in
     record {
       shown = subst (λ m. IsShown c.after.new.x (m + 1) (after w s m cpu c.args.event)) (sym e) made;
       has = c.in-Ok.ensures.has;

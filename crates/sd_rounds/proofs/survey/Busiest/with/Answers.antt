@@ -1,4 +1,4 @@
-use Rattle.std.proofs.Common.{◌≡◌, ◌⊎◌, ℕ, ◌<◌, sym, ◌∙◌, inl, inr, arith}
+use Rattle.std.proofs.Common.{◌≡◌, ◌⊎◌, ◌<◌, sym, ◌∙◌, inl, inr, arith}
 use Rattle.sd_rules.specs.ChoiceFunctions.{greatest_hint}
 use Rattle.sd_rounds.proofs.SurveyLemmas.{as_many, no_more, one_more}
 use Rattle.sd_rounds.proofs.survey.Busiest.with.Goals.{then-number-eq0-via-then-number-eq0, then-number-eq0-via-else-number-eq0+then-number-self}
