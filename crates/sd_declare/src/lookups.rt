@@ -67,19 +67,6 @@ pub fn thread_number(d: &Declared, name: &Name) -> usize
     d.thread_names.find(name.bytes()).unwrap_or(d.threads.len())
 }
 
-// The number as it stands in operations.
-fn lock_id(d: &Declared, name: &Name) -> LockId
-    ensures { result ≡ lock_id (declarations d.now) (word_of name.now) }
-{
-    LockId(lock_number(d, name) as u16)
-}
-
-fn chan_id(d: &Declared, name: &Name) -> ChanId
-    ensures { result ≡ chan_id (declarations d.now) (word_of name.now) }
-{
-    ChanId(chan_number(d, name) as u16)
-}
-
 /// The lock of this name.
 pub fn lock_of(d: &Declared, name: &Name) -> Result<LockId, WorkCause>
     ensures ok { IfOk result (λ lock. (is_lock_name (declarations d.now) (word_of name.now) ≡ true) × (lock ≡ lock_id (declarations d.now) (word_of name.now))) }
@@ -100,11 +87,13 @@ fn lock_kind_at(locks: &[(Name, LockKind)], number: usize) -> Option<LockKind>
     locks.get(number).map(|lock| lock.1)
 }
 
-// The kind of the lock of this name.
-fn lock_kind(d: &Declared, name: &Name) -> Option<LockKind>
-    ensures { result ≡ lock_kind (declarations d.now) (word_of name.now) }
+// The lock of this name, as it stands in operations, and its kind, if there is one.
+fn lock_and_kind(d: &Declared, name: &Name) -> (LockId, Option<LockKind>)
+    ensures lock { result.0 ≡ lock_id (declarations d.now) (word_of name.now) }
+    ensures kind { result.1 ≡ lock_kind (declarations d.now) (word_of name.now) }
 {
-    lock_kind_at(&d.locks, lock_number(d, name))
+    let number = lock_number(d, name);
+    (LockId(number as u16), lock_kind_at(&d.locks, number))
 }
 
 /// The mutex of this name.
@@ -112,8 +101,9 @@ pub fn mutex_of(d: &Declared, name: &Name) -> Result<LockId, WorkCause>
     ensures ok { IfOk result (λ lock. (is_mutex (lock_kind (declarations d.now) (word_of name.now)) ≡ true) × (lock ≡ lock_id (declarations d.now) (word_of name.now))) }
     ensures err { IfErr result (λ cause. (is_mutex (lock_kind (declarations d.now) (word_of name.now)) ≡ false) × (cause ≡ WorkCause.Unknown)) }
 {
-    match lock_kind(d, name) {
-        Some(LockKind::Mutex) => Ok(lock_id(d, name)),
+    let (lock, kind) = lock_and_kind(d, name);
+    match kind {
+        Some(LockKind::Mutex) => Ok(lock),
         _ => Err(WorkCause::Unknown),
     }
 }
@@ -123,8 +113,9 @@ pub fn rwlock_of(d: &Declared, name: &Name) -> Result<LockId, WorkCause>
     ensures ok { IfOk result (λ lock. (is_rwlock (lock_kind (declarations d.now) (word_of name.now)) ≡ true) × (lock ≡ lock_id (declarations d.now) (word_of name.now))) }
     ensures err { IfErr result (λ cause. (is_rwlock (lock_kind (declarations d.now) (word_of name.now)) ≡ false) × (cause ≡ WorkCause.Unknown)) }
 {
-    match lock_kind(d, name) {
-        Some(LockKind::Rwlock) => Ok(lock_id(d, name)),
+    let (lock, kind) = lock_and_kind(d, name);
+    match kind {
+        Some(LockKind::Rwlock) => Ok(lock),
         _ => Err(WorkCause::Unknown),
     }
 }
@@ -136,11 +127,13 @@ fn chan_kind_at(chans: &[(Name, ChanKind)], number: usize) -> Option<ChanKind>
     chans.get(number).map(|chan| chan.1)
 }
 
-// The kind of the channel of this name.
-fn chan_kind(d: &Declared, name: &Name) -> Option<ChanKind>
-    ensures { result ≡ chan_kind (declarations d.now) (word_of name.now) }
+// The channel of this name, as it stands in operations, and its kind, if there is one.
+fn chan_and_kind(d: &Declared, name: &Name) -> (ChanId, Option<ChanKind>)
+    ensures chan { result.0 ≡ chan_id (declarations d.now) (word_of name.now) }
+    ensures kind { result.1 ≡ chan_kind (declarations d.now) (word_of name.now) }
 {
-    chan_kind_at(&d.chans, chan_number(d, name))
+    let number = chan_number(d, name);
+    (ChanId(number as u16), chan_kind_at(&d.chans, number))
 }
 
 /// The channel of this name, which is no semaphore.
@@ -148,8 +141,9 @@ pub fn chan_of(d: &Declared, name: &Name) -> Result<ChanId, WorkCause>
     ensures ok { IfOk result (λ chan. (is_chan (chan_kind (declarations d.now) (word_of name.now)) ≡ true) × (chan ≡ chan_id (declarations d.now) (word_of name.now))) }
     ensures err { IfErr result (λ cause. (is_chan (chan_kind (declarations d.now) (word_of name.now)) ≡ false) × (cause ≡ WorkCause.Unknown)) }
 {
-    match chan_kind(d, name) {
-        Some(ChanKind::Chan) => Ok(chan_id(d, name)),
+    let (chan, kind) = chan_and_kind(d, name);
+    match kind {
+        Some(ChanKind::Chan) => Ok(chan),
         _ => Err(WorkCause::Unknown),
     }
 }
@@ -159,8 +153,9 @@ pub fn sema_of(d: &Declared, name: &Name) -> Result<ChanId, WorkCause>
     ensures ok { IfOk result (λ chan. (is_sema (chan_kind (declarations d.now) (word_of name.now)) ≡ true) × (chan ≡ chan_id (declarations d.now) (word_of name.now))) }
     ensures err { IfErr result (λ cause. (is_sema (chan_kind (declarations d.now) (word_of name.now)) ≡ false) × (cause ≡ WorkCause.Unknown)) }
 {
-    match chan_kind(d, name) {
-        Some(ChanKind::Sema { .. }) => Ok(chan_id(d, name)),
+    let (chan, kind) = chan_and_kind(d, name);
+    match kind {
+        Some(ChanKind::Sema { .. }) => Ok(chan),
         _ => Err(WorkCause::Unknown),
     }
 }

@@ -26,7 +26,7 @@ same_pointwise [] (y ∷ ys) = refl
 same_pointwise (x ∷ xs) [] = refl
 same_pointwise (x ∷ xs) (y ∷ ys) = ap (λ b. nat_eq x y && b) (same_pointwise xs ys)
 
-bytes_same : (xs ys : List ℕ) → same_bytes xs ys ≡ true → xs ≡ ys
+pub bytes_same : (xs ys : List ℕ) → same_bytes xs ys ≡ true → xs ≡ ys
 bytes_same xs ys h = (bytes_decides xs ys).0 (sym (same_pointwise xs ys) ∙ h)
 
 bytes_are : (xs ys : List ℕ) → xs ≡ ys → same_bytes xs ys ≡ true

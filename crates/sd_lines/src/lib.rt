@@ -16,4 +16,4 @@ pub use names::is_word;
 pub use operations::{Operation, RequestLine, operation_of};
 pub use statements::{Statement, TableClass, statement_of};
 pub use threads::{ThreadClass, ThreadLine, ThreadOptions};
-pub use words::{QuantumWord, has_words, is_end};
+pub use words::{QuantumWord, first_word, is_end, is_end_line};

@@ -1,6 +1,6 @@
 //! Lines of a script.
 
-ghost use Rattle.std.specs.Prelude.{◌≡◌, option_map};
+ghost use Rattle.std.specs.Prelude.{◌≡◌, ◌∷◌, option_map};
 ghost use Rattle.sd_types.specs.Works.{same_bytes};
 ghost use Rattle.sd_text.specs.Words.{words_of};
 ghost use Rattle.sd_text.specs.Numbers.{number_of};
@@ -11,7 +11,7 @@ ghost use Rattle.sd_lines.specs.Said.{word_of, operation_said};
 use crate::names::{is_word, name_of};
 use crate::requests::request_of;
 use crate::words::{
-    QuantumWord, first_name, first_number, first_word, is_done, only_name, only_number, only_word,
+    QuantumWord, first_name, first_number, is_done, only_name, only_number, only_word,
 };
 use sd_text::number;
 use sd_types::Name;
@@ -183,12 +183,11 @@ fn lock_operation(word: &[u8], rest: &[u8]) -> Option<Operation>
     }
 }
 
-/// What a line of a script says, if it has a form.
+/// What a line of a script says with this first word, behind which this is left, if it has a form.
 #[tactic(auto, unfolding(crate::specs::Operations::operation_of))]
-pub fn operation_of(line: &[u8]) -> Option<Operation>
-    ensures { option_map operation_said result ≡ operation_of (words_of line.now) }
+pub fn operation_of(word: &[u8], rest: &[u8]) -> Option<Operation>
+    ensures { option_map operation_said result ≡ operation_of (word.now ∷ words_of rest.now) }
 {
-    let (word, rest) = first_word(line)?;
     if is_word(word, b"run") {
         only_number(rest).map(Operation::Run)
     } else if is_word(word, b"yield") {

@@ -1,15 +1,16 @@
 //! Lines outside blocks.
 
-ghost use Rattle.std.specs.Prelude.{◌≡◌, IfOk, option_map};
+ghost use Rattle.std.specs.Prelude.{◌≡◌, ◌∷◌, IfOk, option_map};
 ghost use Rattle.sd_types.specs.Works.{same_bytes};
 ghost use Rattle.sd_text.specs.Words.{words_of};
-ghost use Rattle.sd_lines.specs.Words.{only};
-ghost use Rattle.sd_lines.specs.Statements.{table_class, set_line, sema_line, thread_statement, object_statement, setting_statement, statement_of};
+ghost use Rattle.sd_lines.specs.Words.{name_of, only};
+ghost use Rattle.sd_lines.specs.Threads.{thread_line};
+ghost use Rattle.sd_lines.specs.Statements.{Declare, Script, table_class, set_line, sema_line, thread_statement, object_statement, setting_statement, statement_of};
 ghost use Rattle.sd_lines.specs.Said.{statement_said};
 
 use crate::names::is_word;
 use crate::threads::{ThreadLine, thread_line};
-use crate::words::{all_numbers, first_name, first_word, only_name, only_number, only_word};
+use crate::words::{all_numbers, first_name, only_name, only_number, only_word};
 use sd_types::{LockKind, Name};
 use std::alloc::{AllocError, Global};
 
@@ -89,17 +90,31 @@ fn sema_line(rest: &[u8]) -> Option<Statement>
     Some(Statement::Sema(name, count))
 }
 
+// `thread NAME ..`, behind `thread`.
+fn declare_line(rest: &[u8]) -> Option<Statement>
+    ensures { option_map statement_said result ≡ option_map Declare (thread_line (words_of rest.now)) }
+{
+    let thread = thread_line(rest)?;
+    Some(Statement::Declare(thread))
+}
+
+// `script NAME`, behind `script`.
+fn script_line(rest: &[u8]) -> Option<Statement>
+    ensures { option_map statement_said result ≡ option_map Script (only name_of (words_of rest.now)) }
+{
+    let name = only_name(rest)?;
+    Some(Statement::Script(name))
+}
+
 // `thread NAME ..` and `script NAME`.
 #[tactic(auto, unfolding(crate::specs::Statements::thread_statement))]
 fn thread_statement(word: &[u8], rest: &[u8]) -> Option<Statement>
     ensures { option_map statement_said result ≡ thread_statement word.now (words_of rest.now) }
 {
     if is_word(word, b"thread") {
-        let thread = thread_line(rest)?;
-        Some(Statement::Declare(thread))
+        declare_line(rest)
     } else if is_word(word, b"script") {
-        let name = only_name(rest)?;
-        Some(Statement::Script(name))
+        script_line(rest)
     } else {
         None
     }
@@ -148,15 +163,21 @@ fn setting_statement(word: &[u8], rest: &[u8]) -> Option<Statement>
     }
 }
 
-/// What a line outside blocks says, if it has a form.
+/// What a line outside blocks says with this first word, behind which this is left, if it has a form.
 #[tactic(auto, unfolding(crate::specs::Statements::statement_of))]
-pub fn statement_of(alloc: Global, line: &[u8]) -> Result<Option<Statement>, AllocError>
-    ensures { IfOk result (λ s. option_map statement_said s ≡ statement_of (words_of line.now)) }
+pub fn statement_of(
+    alloc: Global,
+    word: &[u8],
+    rest: &[u8],
+) -> Result<Option<Statement>, AllocError>
+    ensures { IfOk result (λ s. option_map statement_said s ≡ statement_of (word.now ∷ words_of rest.now)) }
 {
-    let Some((word, rest)) = first_word(line) else {
-        return Ok(None);
-    };
-    if is_word(word, b"set") {
+    // the most frequent lines first
+    if is_word(word, b"thread") {
+        Ok(declare_line(rest))
+    } else if is_word(word, b"script") {
+        Ok(script_line(rest))
+    } else if is_word(word, b"set") {
         set_line(alloc, rest)
     } else {
         Ok(setting_statement(word, rest))

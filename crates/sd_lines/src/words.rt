@@ -1,6 +1,6 @@
 //! The words of a line, from the left to the right. What is left of a line is its bytes from a word's end on.
 
-ghost use Rattle.std.specs.Prelude.{◌≡◌, not, [], ◌∷◌, ◌<◌, length, IfSome, IfNone, IfOk, None, Some, option_map};
+ghost use Rattle.std.specs.Prelude.{◌≡◌, [], ◌∷◌, ◌<◌, length, IfSome, IfNone, IfOk, None, Some, option_map};
 ghost use Rattle.sd_types.specs.Works.{same_bytes};
 ghost use Rattle.sd_text.specs.Words.{words_of};
 ghost use Rattle.sd_text.specs.Numbers.{number_of, signed_of};
@@ -33,13 +33,6 @@ pub fn is_done(rest: &[u8]) -> bool
     ensures { result ≡ is_done (words_of rest.now) }
 {
     first_word(rest).is_none()
-}
-
-/// Whether the line has words.
-pub fn has_words(line: &[u8]) -> bool
-    ensures { result ≡ not (is_done (words_of line.now)) }
-{
-    !is_done(line)
 }
 
 /// The word that stands alone.
@@ -178,12 +171,21 @@ pub fn all_numbers(alloc: Global, rest: &[u8]) -> Result<Option<Vec<u64>>, Alloc
     Ok(Some(found))
 }
 
-/// Whether the line closes a block: whether it is the word `end` alone.
-pub fn is_end(line: &[u8]) -> bool
+/// Whether a line with this first word, behind which this is left, closes a block: whether it is the word `end` alone.
+#[tactic(auto, using(crate::proofs::WordLemmas::end_word))]
+pub fn is_end(word: &[u8], rest: &[u8]) -> bool
+    ensures { result ≡ is_end (word.now ∷ words_of rest.now) }
+{
+    is_word(word, b"end") && is_done(rest)
+}
+
+/// Whether the line closes a block.
+#[tactic(auto, unfolding(crate::specs::Words::only_word))]
+pub fn is_end_line(line: &[u8]) -> bool
     ensures { result ≡ is_end (words_of line.now) }
 {
-    match only_word(line) {
-        Some(word) => is_word(word, b"end"),
+    match first_word(line) {
+        Some((word, rest)) => is_end(word, rest),
         None => false,
     }
 }

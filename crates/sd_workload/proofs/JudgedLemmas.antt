@@ -1,10 +1,7 @@
 -- The verdict on lines, one line further on.
-use Rattle.std.proofs.Common.{◌≡◌, ℕ, ◌+◌, not, Option, false, append-nil, ◌++◌, List, [], ◌∷◌, Some, None, refl, sym, ap, ◌∙◌, subst, arith}
-use Rattle.std.proofs.lemmas.Bool.{false≢true}
-use Rattle.sd_types.specs.declared.scripts.Op.{Op}
-use Rattle.sd_lines.specs.Words.{Line, is_done}
+use Rattle.std.proofs.Common.{◌≡◌, ℕ, ◌+◌, Option, List, [], ◌∷◌, Some, None, refl, sym, ap, ◌∙◌, subst, arith}
+use Rattle.sd_lines.specs.Words.{Line}
 use Rattle.sd_lines.specs.Statements.{statement_of}
-use Rattle.sd_lines.specs.Operations.{operation_of}
 use Rattle.sd_declare.specs.declared.causes.WorkCause.{WorkCause}
 use Rattle.sd_declare.specs.declared.causes.Refusal.{Refusal}
 use Rattle.sd_declare.specs.declared.causes.Refusal.TheVariants.{Cause}
@@ -14,7 +11,7 @@ use Rattle.sd_declare.specs.Kept.{IsRefusal}
 use Rattle.sd_workload.specs.declared.fault.WorkFault.{WorkFault}
 use Rattle.sd_workload.specs.declared.fault.WorkFault.TheVariants.{At, Memory}
 use Rattle.sd_workload.specs.LineStarts.{NoneAbove, IsFault, IsFaultAt, fault_of}
-use Rattle.sd_workload.specs.Texts.{Block, Outside, ops_of, cause_of, declared_after, block_after, end_cause, Verdict, Accepts, Refuses, unless_refused, judged}
+use Rattle.sd_workload.specs.Texts.{Block, Outside, cause_of, declared_after, block_after, end_cause, Verdict, Accepts, Refuses, unless_refused, judged}
 
 pub judged-end : (n : ℕ) (d : Declarations) (b : Block) (lines : List Line) → lines ≡ []
     → judged n d b lines ≡ unless_refused n (end_cause d b) (Accepts d)
@@ -82,18 +79,10 @@ fault-along v w f e h = subst (λ (x : Verdict). IsFault x f) (sym e) h
 
 -- ---- lines without words
 
-no-word : (line : Line) → not (is_done line) ≡ false → line ≡ []
-no-word [] h = refl
-no-word (word ∷ words) h = absurd (false≢true (sym h))
-
-pub blank-declared : (d : Declarations) (line : Line) → not (is_done line) ≡ false → d ≡ declared_after d Outside line
+pub blank-declared : (d : Declarations) (line : Line) → line ≡ [] → d ≡ declared_after d Outside line
 unfolding declared_after statement_of
-blank-declared d line h = sym (ap (declared_after d Outside) (no-word line h))
+blank-declared d line h = sym (ap (declared_after d Outside) h)
 
-pub blank-opened : (d : Declarations) (line : Line) → not (is_done line) ≡ false → Outside ≡ block_after d Outside line
+pub blank-opened : (d : Declarations) (line : Line) → line ≡ [] → Outside ≡ block_after d Outside line
 unfolding block_after statement_of
-blank-opened d line h = sym (ap (block_after d Outside) (no-word line h))
-
-pub blank-ops : (d : Declarations) (ops : List Op) (line : Line) → not (is_done line) ≡ false → ops ≡ ops ++ ops_of d (operation_of line)
-unfolding operation_of
-blank-ops d ops line h = sym (ap (λ l. ops ++ ops_of d (operation_of l)) (no-word line h) ∙ append-nil ops)
+blank-opened d line h = sym (ap (block_after d Outside) h)

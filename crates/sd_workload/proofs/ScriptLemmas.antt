@@ -1,5 +1,5 @@
 -- The verdict on the lines of a script's block.
-use Rattle.std.proofs.Common.{◌≡◌, ℕ, ◌+◌, ◌<◌, true, false, List, [], ◌∷◌, ◌++◌, length, map, set, get_or, Option, None, refl, sym, ap, ◌∙◌, subst}
+use Rattle.std.proofs.Common.{◌≡◌, ℕ, ◌+◌, ◌<◌, true, false, List, [], ◌∷◌, ◌++◌, append-nil, length, map, set, get_or, Option, None, refl, sym, ap, ◌∙◌, subst}
 use Rattle.std.specs.Option.{option_map}
 use Rattle.std.proofs.lemmas.Bool.{false≢true}
 use Rattle.std.proofs.lemmas.List.{map-set, get_or-map}
@@ -22,6 +22,13 @@ op-cause : (d : Declarations) (t : ThreadId) (ops : List Op) (line : Line) → i
     → cause_of d (InScript t ops) line ≡ unless_done line (operation_cause d ops (operation_of line))
 unfolding cause_of
 op-cause d t ops line h = rw h refl
+
+-- a line without words
+pub script-blank : (n m : ℕ) (d : Declarations) (t : ThreadId) (ops : List Op) (lines below : List Line) (line : Line) → lines ≡ line ∷ below → line ≡ []
+    → m ≡ n + 1 → judged n d (InScript t ops) lines ≡ judged m d (InScript t ops) below
+unfolding cause_of declared_after block_after operation_of only_word
+script-blank n m d t ops lines below line is blank next =
+    judged-on n m d d (InScript t ops) (InScript t ops) lines below [] (is ∙ ap (λ l. l ∷ below) blank) refl next refl (ap (InScript t) (sym (append-nil ops)))
 
 -- a line inside the block
 pub script-on : (n m : ℕ) (d : Declarations) (t : ThreadId) (ops new : List Op) (lines below : List Line) (line : Line) → lines ≡ line ∷ below → is_end line ≡ false

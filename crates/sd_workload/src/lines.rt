@@ -10,7 +10,7 @@ ghost use Rattle.sd_workload.specs.Texts.{Outside, cause_of, declared_after, blo
 use crate::WorkFault;
 use crate::line_starts::fault_at;
 use sd_declare::{Declared, Opened, WorkCause, take_statement};
-use sd_lines::{has_words, statement_of};
+use sd_lines::{first_word, statement_of};
 use std::alloc::Global;
 
 /// Takes a line outside blocks, and gives the block that it opens.
@@ -27,10 +27,10 @@ pub fn take_line(
     ensures opened { IfOk result (λ o. block_of o ≡ block_after (declarations d.old) Outside (words_of line.now)) }
     ensures within { IfOk result (IsOpenWithin (length d.new.threads.items)) }
 {
-    if !has_words(line) {
+    let Some((word, rest)) = first_word(line) else {
         return Ok(Opened::Nothing);
-    }
-    let Ok(found) = statement_of(alloc, line) else {
+    };
+    let Ok(found) = statement_of(alloc, word, rest) else {
         return Err(WorkFault::Memory { line: number });
     };
     let Some(statement) = found else {

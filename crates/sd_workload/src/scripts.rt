@@ -11,14 +11,14 @@ ghost use Rattle.sd_declare.specs.Operations.{ops_of_op};
 ghost use Rattle.sd_workload.specs.LineStarts.{judged_from, IsFault, IsFaultAt};
 ghost use Rattle.sd_workload.specs.Scripts.{fault_behind, ops_fault, end_fault};
 ghost use Rattle.sd_workload.specs.Tables.{IsBelow};
-ghost use Rattle.sd_workload.specs.Texts.{Outside, InScript, unless_done, operation_cause, ops_of, with_script};
+ghost use Rattle.sd_workload.specs.Texts.{Outside, InScript, operation_cause, ops_of, with_script};
 ghost use Rattle.sd_lines.specs.Operations.{operation_of};
 
 use crate::WorkFault;
 use crate::line_starts::{LineStart, fault_at, line_at};
 use arrayvec::ArrayVec;
 use sd_declare::{Declared, Refusal, WorkCause, op_of};
-use sd_lines::{has_words, is_end, operation_of};
+use sd_lines::{first_word, is_end, operation_of};
 use sd_script::{ScriptFault, fault_of, take_or_release};
 use sd_types::{ChanId, List, LockId, MOST_OPERATIONS, Op, Script, ThreadId, without_lock};
 use std::alloc::{AllocError, Global};
@@ -96,18 +96,20 @@ fn take_ops(script: &mut OpenScript, op: Op) -> Result<(), Refusal>
     }
 }
 
-// Takes a line inside the block, which does not close it.
-fn take_operation(d: &Declared, script: &mut OpenScript, line: &[u8]) -> Result<(), Refusal>
+// Takes a line inside the block, with this first word, behind which this is left. It does not close the block.
+fn take_operation(
+    d: &Declared,
+    script: &mut OpenScript,
+    word: &[u8],
+    rest: &[u8],
+) -> Result<(), Refusal>
     requires { script.old.held.items ≡ held_by script.old.ops.items }
-    ensures ok { OnOk result (unless_done (words_of line.now) (operation_cause (declarations d.now) script.old.ops.items (operation_of (words_of line.now))) ≡ None) }
-    ensures err { IfErr result (IsRefusal (unless_done (words_of line.now) (operation_cause (declarations d.now) script.old.ops.items (operation_of (words_of line.now))))) }
-    ensures ops { OnOk result (script.new.ops.items ≡ script.old.ops.items ++ ops_of (declarations d.now) (operation_of (words_of line.now))) }
+    ensures ok { OnOk result (operation_cause (declarations d.now) script.old.ops.items (operation_of (word.now ∷ words_of rest.now)) ≡ None) }
+    ensures err { IfErr result (IsRefusal (operation_cause (declarations d.now) script.old.ops.items (operation_of (word.now ∷ words_of rest.now)))) }
+    ensures ops { OnOk result (script.new.ops.items ≡ script.old.ops.items ++ ops_of (declarations d.now) (operation_of (word.now ∷ words_of rest.now))) }
     ensures held { OnOk result (script.new.held.items ≡ held_by script.new.ops.items) }
 {
-    if !has_words(line) {
-        return Ok(());
-    }
-    let Some(operation) = operation_of(line) else {
+    let Some(operation) = operation_of(word, rest) else {
         return Err(Refusal::Cause(WorkCause::Syntax));
     };
     match op_of(d, &operation) {
@@ -155,11 +157,15 @@ fn script_at(
     };
     let mut here = at;
     'lines: while let Some((line, below)) = line_at(bytes, here) {
-        if is_end(line) {
+        let Some((word, rest)) = first_word(line) else {
+            here = below;
+            continue;
+        };
+        if is_end(word, rest) {
             let script = closed(so_far, here.number)?;
             return Ok((script, below));
         }
-        match take_operation(d, &mut so_far, line) {
+        match take_operation(d, &mut so_far, word, rest) {
             Ok(()) => here = below,
             Err(refusal) => return Err(fault_at(here.number, refusal)),
         }

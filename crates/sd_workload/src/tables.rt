@@ -11,7 +11,7 @@ use crate::WorkFault;
 use crate::line_starts::{LineStart, line_at};
 use sd_declare::{Declared, WorkCause};
 use sd_dispadmin::{ReadTableFault, TableFault, read_fx, read_rt, read_ts};
-use sd_lines::{TableClass, is_end};
+use sd_lines::{TableClass, is_end_line};
 use std::alloc::{AllocError, Global};
 
 /// A table's block: the text of its lines; the number of the line that closes it, or of the line after the last; and
@@ -44,7 +44,7 @@ fn block_at(alloc: Global, bytes: &[u8], at: LineStart) -> Result<TableBlock, Al
     let mut text = Vec::new(alloc);
     let mut here = at;
     'lines: while let Some((line, below)) = line_at(bytes, here) {
-        if is_end(line) {
+        if is_end_line(line) {
             return Ok(TableBlock {
                 text,
                 end: here.number,

@@ -1,13 +1,13 @@
 //! What no clause says: that a line is taken where memory is left.
 
 use crate::judging::is_so;
+use crate::lines::statement;
 use sd_declare::{Declared, Opened, Refusal, WorkCause, take_statement};
-use sd_lines::statement_of;
 use std::alloc::Global;
 
 // Takes a line.
 fn take(alloc: Global, d: &mut Declared, line: &[u8]) -> Result<Opened, Refusal> {
-    let statement = statement_of(alloc, line)?.ok_or(WorkCause::Syntax)?;
+    let statement = statement(alloc, line)?.ok_or(WorkCause::Syntax)?;
     take_statement(alloc, d, statement)
 }
 

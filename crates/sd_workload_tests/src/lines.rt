@@ -3,7 +3,7 @@
 
 use crate::judging::{is_so, judge};
 use sd_lines::{
-    NameIndex, Statement, ThreadClass, ThreadLine, is_word, operation_of, statement_of,
+    NameIndex, Statement, ThreadClass, ThreadLine, first_word, is_word, operation_of, statement_of,
 };
 use std::alloc::{AllocError, Global};
 
@@ -141,8 +141,16 @@ const NO_OPERATIONS: [&[u8]; 27] = [
     b"semap",
 ];
 
+/// What a line outside blocks says, if it has words and a form.
+pub(crate) fn statement(alloc: Global, line: &[u8]) -> Result<Option<Statement>, AllocError> {
+    match first_word(line) {
+        Some((word, rest)) => statement_of(alloc, word, rest),
+        None => Ok(None),
+    }
+}
+
 fn has_statement(alloc: Global, line: &[u8]) -> Result<bool, AllocError> {
-    match statement_of(alloc, line) {
+    match statement(alloc, line) {
         Ok(statement) => Ok(statement.is_some()),
         Err(fault) => Err(fault),
     }
@@ -162,9 +170,16 @@ fn wrong_statement(
     Ok(None)
 }
 
+fn has_operation(line: &[u8]) -> bool {
+    match first_word(line) {
+        Some((word, rest)) => operation_of(word, rest).is_some(),
+        None => false,
+    }
+}
+
 fn wrong_operation(lines: &[&[u8]], has_form: bool) -> Option<usize> {
     for (index, line) in lines.iter().enumerate() {
-        if operation_of(*line).is_some() != has_form {
+        if has_operation(*line) != has_form {
             return Some(index);
         }
     }
@@ -205,7 +220,7 @@ fn is_expected(thread: &ThreadLine) -> bool {
 }
 
 fn is_thread(alloc: Global, line: &[u8]) -> Result<bool, AllocError> {
-    let found = statement_of(alloc, line)?;
+    let found = statement(alloc, line)?;
     let is_so = match &found {
         Some(Statement::Declare(thread)) => is_expected(thread),
         _ => false,

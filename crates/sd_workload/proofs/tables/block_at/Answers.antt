@@ -30,7 +30,7 @@ lines-preserved c =
           ∙ sym (append_assoc (word_lines c.lines.text.items) (words_of line ∷ []) (lines_from c.args.bytes.now c.in-Some.below))
           ∙ ap (λ l. l ++ lines_from c.args.bytes.now c.in-Some.below) (sym push);
       closes = ap (list_all (λ (line : Line). not (is_end line))) push
-          ∙ all-push (λ (line : Line). not (is_end line)) (word_lines c.lines.text.items) (words_of line) c.lines.invariant.closes (ap not (sym c.is_end.ensures ∙ c.if-is_end.false));
+          ∙ all-push (λ (line : Line). not (is_end line)) (word_lines c.lines.text.items) (words_of line) c.lines.invariant.closes (ap not (sym c.is_end_line.ensures ∙ c.if-is_end_line.false));
       closed = closed-push _ line _ c.lines.invariant.closed alone c.in_ok-put_line.ensures;
       number = omega (arith, c.in-Some.ensures.number, c.lines.invariant.number, ap length push, length-append (word_lines c.lines.text.items) (words_of line ∷ []));
       short = omega (arith, c.in-Some.ensures.length, c.lines.invariant.short, ap length c.in_ok-put_line.ensures, length-append c.lines.text.items (line ++ 10 ∷ []), length-append line (10 ∷ []));
