@@ -191,7 +191,10 @@ impl<T: Ranked> BoxQueue<T> {
         ensures taken { result ≡ find_id T.id id self.old }
         ensures rest { self.new ≡ drop_id T.id id self.old }
     {
-        self.take(&Wanted::Id(id))
+        match self.first() {
+            Some(item) if item.id() == id => self.pop_front(),
+            _ => self.take(&Wanted::Id(id)),
+        }
     }
 
     /// Takes the box of the first item whose key is smaller than `below`. `None` exactly where there is

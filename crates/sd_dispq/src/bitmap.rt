@@ -39,6 +39,7 @@ impl Bitmap {
     #[inline(always)]
     pub fn set(&mut self, index: usize)
         ensures bits { index < 64 * length self.old → HasBit self.old index 1 self.new }
+        ensures beyond { 64 * length self.old ≤ index → self.new ≡ self.old }
         ensures size { length self.new ≡ length self.old }
     {
         let number = index / 64;

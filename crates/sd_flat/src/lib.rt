@@ -29,4 +29,4 @@ pub use scans::{
 };
 pub use sets::{bind, close, join, unbind, with_cpu_in, without_cpu};
 pub use shown::{hint_of, numbers_shown};
-pub use standings::is_running;
+pub use standings::{is_running, is_ts};

@@ -68,7 +68,9 @@ pub(crate) fn is_due(c: CpuId, count: u32, place: &Place) -> bool
     }
 }
 
-pub(crate) fn is_ts(class: &ClassState) -> bool
+/// Whether the class is the time-sharing class.
+#[inline(always)]
+pub fn is_ts(class: &ClassState) -> bool
     ensures { result ≡ is_ts class.now }
 {
     match class {

@@ -29,7 +29,7 @@ fn number_of(found: Option<&Record>) -> Option<ThreadId>
 {
     match found {
         None => None,
-        Some(thread) => Some(thread.id),
+        Some(thread) => Some(thread.kept.id),
     }
 }
 
@@ -42,7 +42,7 @@ fn due(napper: Option<&Record>, count: u32) -> Option<ThreadId>
         None => None,
         Some(thread) => {
             if is_over(thread, count) {
-                Some(thread.id)
+                Some(thread.kept.id)
             } else {
                 None
             }
@@ -237,13 +237,13 @@ fn better(own: Option<&Record>, urgent: Option<&Record>) -> Option<ThreadId>
 {
     match (own, urgent) {
         (None, None) => None,
-        (Some(r), None) => Some(r.id),
-        (None, Some(q)) => Some(q.id),
+        (Some(r), None) => Some(r.kept.id),
+        (None, Some(q)) => Some(q.kept.id),
         (Some(r), Some(q)) => {
             if q.effective() < r.effective() {
-                Some(r.id)
+                Some(r.kept.id)
             } else {
-                Some(q.id)
+                Some(q.kept.id)
             }
         }
     }

@@ -58,6 +58,7 @@ impl Acting {
     }
 
     /// Thread `t`, if it stands there, goes to another list, and changes on the way.
+    #[inline(always)]
     pub(crate) fn relocate(&mut self, t: ThreadId, from: ListId, step: Step, to: ListId)
         ensures value { (n m : ℕ) (s : StateOf) (z : ThreadStateOf) → IsShown self.old n s → n ≤ m → StandsAt s t.0 from → IsHeld (home_at from) self.old.hand.slots
             → list_of z ≡ to → record_of t.0 z ≡ stepped step (record_of t.0 (thread_of s t.0)) → MayCome n m (without t.0 (look_of s)) to z → IsListThere to

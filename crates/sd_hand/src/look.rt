@@ -47,7 +47,7 @@ fn is_back_at(duty: Duty, o: ThreadId, at: ListId, found: Option<&Record>) -> bo
 {
     match (duty, at, found) {
         (Duty::Walk { seek, key, .. }, ListId::Waits(_, _), Some(owner)) => {
-            seek.0 == o.0 && key == owner.key
+            seek.0 == o.0 && key == owner.kept.key
         }
         (Duty::Walk { seek, key, .. }, ListId::Waits(_, _), None) => seek.0 == o.0 && key == 0,
         _ => false,
@@ -220,10 +220,7 @@ impl Look for Acting {
     fn body(&self, t: ThreadId) -> Result<Option<&ThreadBody>, Part> {
         match self.hand.record_from(self.actor.cpu, t) {
             Err(q) => Err(q),
-            Ok(thread) => {
-                let body: &ThreadBody = &thread.body;
-                Ok(Some(body))
-            }
+            Ok(thread) => Ok(Some(&thread.kept.body)),
         }
     }
 }

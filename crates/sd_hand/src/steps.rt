@@ -28,6 +28,7 @@ pub enum Step {
     MoveAs(ClassState, Place),
 }
 
+#[inline(always)]
 fn take_step(traveller: &mut Traveller, step: &Step)
     ensures { traveller.new ≡ stepped step.now traveller.old }
 {
@@ -51,6 +52,7 @@ fn take_step(traveller: &mut Traveller, step: &Step)
 impl Hand {
     /// Thread `t`, if it stands there, goes to another list, and changes on the way. Tells whether it stands there; where it does not, all
     /// stays as it was.
+    #[inline(always)]
     pub(crate) fn relocate(&mut self, t: ThreadId, from: ListId, step: &Step, to: ListId) -> bool
         ensures stood { result ≡ is_some (taken_from t.0 from (held (home_at from) self.old.slots)) }
         ensures untouched { result ≡ false → self.new.slots ≡ self.old.slots }

@@ -15,7 +15,7 @@ pub(crate) fn walk_at(t: ThreadId, at: ListId, found: Option<&Record>) -> Option
         (ListId::Waits(lock, _), Some(thread)) => Some(Duty::Walk {
             lock,
             seek: t,
-            key: thread.key,
+            key: thread.kept.key,
         }),
         _ => None,
     }
@@ -27,13 +27,13 @@ pub(crate) fn next_walk_at(duty: Duty, o: ThreadId, at: ListId, found: Option<&R
 {
     match (duty, at, found) {
         (Duty::Walk { seek, key, .. }, ListId::Waits(lock, _), Some(owner)) => {
-            if owner.body.looped || seek.0 == o.0 && key == owner.key {
+            if owner.kept.body.looped || seek.0 == o.0 && key == owner.kept.key {
                 Duty::Nothing
-            } else if key < owner.key {
+            } else if key < owner.kept.key {
                 Duty::Walk {
                     lock,
                     seek: o,
-                    key: owner.key,
+                    key: owner.kept.key,
                 }
             } else {
                 Duty::Walk { lock, seek, key }

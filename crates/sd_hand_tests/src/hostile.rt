@@ -60,7 +60,7 @@ fn is_expected(hand: &Hand, first: Option<u16>) -> bool {
     };
     let queued = match home.first(ListId::Queues(CPU)) {
         None => None,
-        Some(record) => Some(record.id.0),
+        Some(record) => Some(record.kept.id.0),
     };
     queued == first && hand.home(HomeId::RealTime(SetId(0))).is_err()
 }

@@ -29,8 +29,8 @@ fn run_tick(work: &Work, t: ThreadId, r: &mut Record)
     ensures id { r.new.id ≡ r.old.id }
 {
     let script = script_of(work, t);
-    if (r.body.op as usize) < script.len() {
-        sd_flat::ran(script, &mut r.body);
+    if (r.kept.body.op as usize) < script.len() {
+        sd_flat::ran(script, &mut r.kept.body);
     }
 }
 
@@ -40,7 +40,7 @@ fn tick(work: &Work, t: ThreadId, r: &mut Record)
     ensures body { CanChangeThread work.now t.0 Tick r.old.body → r.new ≡ with_body_of (changed work.now t.0 Tick r.old.body) r.old }
     ensures id { r.new.id ≡ r.old.id }
 {
-    tick_class(work, &mut r.body.class);
+    tick_class(work, &mut r.kept.body.class);
     run_tick(work, t, r);
 }
 
@@ -50,8 +50,8 @@ fn finish_op(work: &Work, t: ThreadId, r: &mut Record)
     ensures id { r.new.id ≡ r.old.id }
 {
     let script = script_of(work, t);
-    if (r.body.op as usize) < script.len() {
-        sd_flat::op_over(script, &mut r.body);
+    if (r.kept.body.op as usize) < script.len() {
+        sd_flat::op_over(script, &mut r.kept.body);
     }
 }
 
@@ -60,7 +60,7 @@ fn hold(l: LockId, r: &mut Record)
     ensures body { length r.old.body.held.items < most_held → is_held l r.old.body.held.items ≡ false → r.new ≡ with_body_of (with_lock l r.old.body) r.old }
     ensures id { r.new.id ≡ r.old.id }
 {
-    if r.body.held.len() < MOST_HELD && !is_held(l, &r.body) {
+    if r.kept.body.held.len() < MOST_HELD && !is_held(l, &r.kept.body) {
         r.take_lock(l);
     }
 }
@@ -73,7 +73,7 @@ fn inherit(l: LockId, number: Option<u8>, r: &mut Record)
     match number {
         None => r.waive(l),
         Some(n) => {
-            if n < 160 && is_held(l, &r.body) {
+            if n < 160 && is_held(l, &r.kept.body) {
                 r.inherit(l, n);
             }
         }
@@ -89,11 +89,11 @@ pub(crate) fn change(work: &Work, t: ThreadId, change: BodyChange, r: &mut Recor
     match change {
         BodyChange::Tick => tick(work, t, r),
         BodyChange::FinishOp => finish_op(work, t, r),
-        BodyChange::Class(class) => r.body.class = class,
-        BodyChange::SendBack => r.body.back = true,
+        BodyChange::Class(class) => r.kept.body.class = class,
+        BodyChange::SendBack => r.kept.body.back = true,
         BodyChange::Hold(l) => hold(l, r),
         BodyChange::LetGo(l) => r.release_lock(l),
         BodyChange::Inherit(l, number) => inherit(l, number, r),
-        BodyChange::Looped(looped) => r.body.looped = looped,
+        BodyChange::Looped(looped) => r.kept.body.looped = looped,
     }
 }

@@ -125,7 +125,7 @@ impl CpuHome {
         match self.running.take() {
             None => None,
             Some(node) => {
-                if node.item().id.0 == t.0 {
+                if node.item().kept.id.0 == t.0 {
                     Some(equipped(node, &mut self.rack))
                 } else {
                     self.running = Some(node);
@@ -157,7 +157,7 @@ impl CpuHome {
             × (CanChangeThread work.now t.0 change r.body → q ≡ with_body_of (changed work.now t.0 change r.body) r)) }
     {
         if let Some(node) = &mut self.running {
-            if node.item().id.0 == t.0 {
+            if node.item().kept.id.0 == t.0 {
                 let record = node.item_mut();
                 bodies::change(work, t, change, record);
                 return true;
@@ -225,7 +225,7 @@ impl CpuHome {
         match &self.running {
             None => None,
             Some(node) => {
-                if node.item().id.0 == t.0 {
+                if node.item().kept.id.0 == t.0 {
                     Some(node.item())
                 } else {
                     None
@@ -240,7 +240,7 @@ impl CpuHome {
         match self.queue.threads().best() {
             None => None,
             Some(best) => {
-                if best.id.0 == t.0 {
+                if best.kept.id.0 == t.0 {
                     Some(best)
                 } else {
                     self.queue.find(u32::from(t.0))
@@ -319,7 +319,7 @@ impl CpuHome {
         match self.queue.threads().best() {
             None => None,
             Some(best) => {
-                if best.body.bound.is_none() {
+                if best.kept.body.bound.is_none() {
                     Some(best)
                 } else {
                     first_unbound(self.queue.threads())
@@ -341,7 +341,7 @@ fn first_unbound(queue: &DispQueue<Record>) -> Option<&Record>
     ensures { option_copied result ≡ find_first is_unbound queue.now }
 {
     for record in queue.items() {
-        if record.body.bound.is_none() {
+        if record.kept.body.bound.is_none() {
             return Some(record);
         }
     }

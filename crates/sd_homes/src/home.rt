@@ -194,6 +194,7 @@ impl Home {
     }
 
     /// Takes the thread from the list of those who stand there.
+    #[inline(always)]
     pub fn take(&mut self, t: ThreadId, from: ListId) -> Option<Traveller>
         ensures taken { result ≡ find_id id_of t.0 (list_in self.old from) }
         ensures rest { self.new ≡ with_list self.old from (drop_id id_of t.0 (list_in self.old from)) }
@@ -234,6 +235,7 @@ impl Home {
     }
 
     /// Puts the thread into the list of those who stand there.
+    #[inline(always)]
     pub fn put(&mut self, t: Traveller, at: ListId)
         ensures { self.new ≡ with_list self.old at (insert_at at t (list_in self.old at)) }
     {

@@ -45,5 +45,5 @@ pub fn record_key(place: Place) -> i64
 pub fn is_over(napper: &Record, count: u32) -> bool
     ensures { result ≡ int_le napper.now.key (pos count) }
 {
-    napper.key <= i64::from(count)
+    napper.kept.key <= i64::from(count)
 }

@@ -7,9 +7,10 @@ ghost use Rattle.sd_boxq.specs.Order.{find_id, drop_id, insert_ranked};
 ghost use Rattle.sd_homes.specs.Standing.{ages, earlier, id_of, key_in, least_to_age, rank_of};
 ghost use Rattle.sd_homes.specs.Newest.{KeysAtMost};
 
-use crate::ready_index::{Found, ReadyIndex, is_time_sharing};
+use crate::ready_index::{Found, ReadyIndex};
 use sd_boxq::Node;
 use sd_dispq::{DispQueue, Items};
+use sd_flat::is_ts;
 use sd_record::Record;
 use sd_types::ThreadId;
 use std::alloc::{AllocError, Global};
@@ -51,7 +52,7 @@ fn put_among(queue: &mut DispQueue<Record>, newest: i64, node: Node<Record>)
     requires keys { KeysAtMost newest queue.old }
     ensures { queue.new ≡ insert_ranked rank_of key_in node queue.old }
 {
-    if newest < node.item().key {
+    if newest < node.item().kept.key {
         queue.put_back(node);
     } else {
         queue.put_ranked(node);
@@ -119,7 +120,7 @@ impl ReadyQueue {
         requires { rank_of node < 160 }
         ensures { self.new ≡ insert_ranked rank_of key_in node self.old }
     {
-        let key = node.item().key;
+        let key = node.item().kept.key;
         self.index.note(node.item());
         put_among(&mut self.queue, self.newest, node);
         self.newest = later(self.newest, key);
@@ -130,7 +131,7 @@ impl ReadyQueue {
 fn ages(u: ThreadId, thread: &Record) -> bool
     ensures { result ≡ ages u.0 thread.now }
 {
-    u.0 <= thread.id.0 && is_time_sharing(thread)
+    u.0 <= thread.kept.id.0 && is_ts(&thread.kept.body.class)
 }
 
 /// The number of the first time-sharing thread with this number or a greater one, and the threads behind it.
@@ -142,7 +143,7 @@ fn first_to_age(
 {
     while let Some(thread) = threads.next() {
         if ages(u, thread) {
-            return Some((thread.id, threads));
+            return Some((thread.kept.id, threads));
         }
     }
     None
@@ -159,11 +160,11 @@ fn earliest(threads: Items<'_, Record>, u: ThreadId, t: ThreadId) -> ThreadId
     }
     let mut least = t;
     for thread in threads {
-        if thread.id.0 < least.0 && ages(u, thread) {
-            if thread.id.0 == u.0 {
+        if thread.kept.id.0 < least.0 && ages(u, thread) {
+            if thread.kept.id.0 == u.0 {
                 return u;
             }
-            least = thread.id;
+            least = thread.kept.id;
         }
     }
     least

@@ -4,13 +4,13 @@
 ghost use Rattle.std.specs.Prelude.{◌≡◌, List, [], IfOk, option_map, true};
 ghost use Rattle.sd_boxq.specs.Order.{find_id, drop_id, insert_ranked};
 ghost use Rattle.sd_record.specs.Records.{ThreadRecord};
-ghost use Rattle.sd_machine.specs.Threads.{is_ts};
 ghost use Rattle.sd_homes.specs.Standing.{id_of, key_in, least_to_age, rank_of};
 ghost use Rattle.sd_homes.specs.ReadyIndexes.{Indexes, Tells, priority_at};
 
 use sd_dispq::Bitmap;
+use sd_flat::is_ts;
 use sd_record::Record;
-use sd_types::{ClassState, ThreadId};
+use sd_types::ThreadId;
 use std::alloc::{AllocError, Global};
 
 /// For each number the priority of the thread with it that stands on a queue, and whether that is a time-sharing one, which ages there. It is exact
@@ -29,14 +29,6 @@ pub(crate) enum Found {
     At(u8),
     Nowhere,
     Unknown,
-}
-
-/// Whether the thread is a time-sharing one.
-#[inline(always)]
-pub(crate) fn is_time_sharing(thread: &Record) -> bool
-    ensures { result ≡ is_ts thread.now.body.class }
-{
-    matches!(thread.body.class, ClassState::Ts(_))
 }
 
 impl ReadyIndex {
@@ -94,13 +86,13 @@ impl ReadyIndex {
     pub(crate) fn note(&mut self, thread: &Record)
         ensures { (rs : List ThreadRecord) → Indexes self.old rs → Indexes self.new (insert_ranked rank_of key_in thread.now rs) }
     {
-        let i = thread.id.0 as usize;
+        let i = thread.kept.id.0 as usize;
         if self.priorities.len() <= i || self.priorities[i].is_some() {
             self.is_exact = false;
             return;
         }
         self.priorities[i] = Some(thread.effective());
-        if is_time_sharing(thread) {
+        if is_ts(&thread.kept.body.class) {
             self.ageing.set(i);
         }
     }

@@ -148,7 +148,7 @@ impl RealTimeHome {
         match self.queue.threads().best() {
             None => None,
             Some(best) => {
-                if best.id.0 == t.0 {
+                if best.kept.id.0 == t.0 {
                     Some(best)
                 } else {
                     self.queue.find(u32::from(t.0))

@@ -82,14 +82,14 @@ impl Traveller {
     pub fn id(&self) -> ThreadId
         ensures { result ≡ self.now.id }
     {
-        self.node.item().id
+        self.node.item().kept.id
     }
 
     /// The processor on which it ran last.
     pub fn last(&self) -> CpuId
         ensures { result ≡ self.now.body.last }
     {
-        self.node.item().body.last
+        self.node.item().kept.body.last
     }
 
     /// The effective priority, 0 to 159.
@@ -108,7 +108,7 @@ impl Traveller {
     {
         let key = record_key(place);
         let record = self.node.item_mut();
-        record.key = key;
+        record.kept.key = key;
     }
 
     /// It runs on a processor.
@@ -117,7 +117,7 @@ impl Traveller {
         ensures { self.new ≡ with_body_of (arrived c self.old.body) self.old }
     {
         let record = self.node.item_mut();
-        record.body.last = c;
+        record.kept.body.last = c;
     }
 
     /// It has left a processor that has counted these ticks.
@@ -126,8 +126,8 @@ impl Traveller {
         ensures { self.new ≡ with_body_of (departed count self.old.body) self.old }
     {
         let record = self.node.item_mut();
-        record.body.back = false;
-        record.body.left_at = Some(count);
+        record.kept.body.back = false;
+        record.kept.body.left_at = Some(count);
     }
 
     /// Its body changes, where it can be changed so.
@@ -146,7 +146,7 @@ impl Traveller {
         ensures { self.new ≡ with_body_of (with_class self.old.body class) self.old }
     {
         let record = self.node.item_mut();
-        record.body.class = class;
+        record.kept.body.class = class;
     }
 
     /// It is bound to a processor, or to none.
@@ -154,6 +154,6 @@ impl Traveller {
         ensures { self.new ≡ with_body_of (record self.old.body { bound = bound }) self.old }
     {
         let record = self.node.item_mut();
-        record.body.bound = bound;
+        record.kept.body.bound = bound;
     }
 }

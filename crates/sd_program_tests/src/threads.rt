@@ -75,7 +75,7 @@ fn first_queued(hand: &Hand) -> u64 {
         Err(_) => 9,
         Ok(home) => match home.first(ListId::Queues(cpu)) {
             None => 0,
-            Some(record) => u64::from(record.id.0) + 1,
+            Some(record) => u64::from(record.kept.id.0) + 1,
         },
     }
 }

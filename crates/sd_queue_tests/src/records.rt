@@ -157,12 +157,12 @@ fn inherits(thread: &mut Record) -> bool
     requires { thread.old.body.held.items ≡ record { 0 = 1 } ∷ record { 0 = 2 } ∷ record { 0 = 3 } ∷ [] }
 {
     let inherited = inheriting(thread);
-    let three = thread.body.willed.len() == 3 && thread.base() == 29;
+    let three = thread.kept.body.willed.len() == 3 && thread.base() == 29;
     let waived = waiving(thread);
     inherited.as_slice() == &[29, 40, 40, 35, 159][..]
         && three
         && waived.as_slice() == &[35, 35, 30, 29][..]
-        && thread.body.held.len() == 3
+        && thread.kept.body.held.len() == 3
 }
 
 fn holder_inherits(alloc: Global) -> Result<bool, AllocError> {
@@ -250,7 +250,7 @@ fn priorities_that_would_be(rt: HostRuntime) {
 
 /// Whether the record holds exactly these locks, in this order.
 fn holds(thread: &Record, locks: &[u16]) -> bool {
-    let held = thread.body.held.as_slice();
+    let held = thread.kept.body.held.as_slice();
     held.len() == locks.len()
         && held
             .iter()

@@ -8,4 +8,4 @@ mod record;
 
 pub use copies::{copied, copied_body};
 pub use laws::{effective_is_greatest, numbers_are_apart};
-pub use record::Record;
+pub use record::{Kept, Record};

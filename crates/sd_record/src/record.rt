@@ -11,16 +11,24 @@ use sd_types::{ClassState, LockId, ThreadBody, ThreadId};
 use std::alloc::{AllocError, Global};
 use std::marker::Model;
 
-/// One thread as it moves between homes. `key` is that of its place: for a napper the tick at which its nap ends,
-/// and 0 where the place has no key. Each inherited priority is below 160 and for a lock of its own that the thread
-/// holds, and the locks that it holds differ.
+/// What is kept of a thread: its number, the thread without its place, and the key of its place. For a napper the key is the tick at which
+/// its nap ends, and it is 0 where the place has no key.
+///
+/// Source: Solaris Internals (`kthread_t`).
+#[derive(Drop)]
+pub struct Kept {
+    pub id: ThreadId,
+    pub key: i64,
+    pub body: ThreadBody,
+}
+
+/// One thread as it moves between homes, behind one box: it moves by its address, which fits into a register. Each inherited priority is below
+/// 160 and for a lock of its own that the thread holds, and the locks that it holds differ.
 ///
 /// Source: Solaris Internals (`kthread_t`, priority inheritance).
 #[derive(Drop)]
 pub struct Record {
-    pub id: ThreadId,
-    pub body: Box<ThreadBody>,
-    pub key: i64,
+    pub kept: Box<Kept>,
 }
 
 impl Model for Record {
@@ -29,9 +37,9 @@ impl Model for Record {
 
     ghost Value = { ThreadRecord };
 
-    ghost view = { λ r. record { id = r.id; body = r.body.value; key = r.key } };
+    ghost view = { λ r. record { id = r.kept.value.id; body = r.kept.value.body; key = r.kept.value.key } };
 
-    ghost invariant = { λ r. InheritsSoundly r.body.value };
+    ghost invariant = { λ r. InheritsSoundly r.kept.value.body };
 }
 
 impl Record {
@@ -47,8 +55,8 @@ impl Record {
         requires { InheritsSoundly body }
         ensures { IfOk result (λ r. r ≡ record { id = id; body = body; key = key }) }
     {
-        match Box::new(alloc, body) {
-            Ok(body) => Ok(Record { id, body, key }),
+        match Box::new(alloc, Kept { id, key, body }) {
+            Ok(kept) => Ok(Record { kept }),
             Err(_) => Err(AllocError),
         }
     }
@@ -58,7 +66,7 @@ impl Record {
         ensures value { result ≡ base_of self.now.body.class }
         ensures below { result < 160 }
     {
-        self.body.class.base()
+        self.kept.body.class.base()
     }
 
     /// The effective priority, 0 to 159: the greatest of the base priority and the inherited ones.
@@ -66,7 +74,7 @@ impl Record {
         ensures value { result ≡ eff self.now.body }
         ensures below { result < 160 }
     {
-        self.body.effective()
+        self.kept.body.effective()
     }
 
     /// The effective priority that the thread would have in this class state, 0 to 159.
@@ -74,7 +82,7 @@ impl Record {
         ensures value { result ≡ eff_as class.now self.now.body }
         ensures below { result < 160 }
     {
-        self.body.effective_as(class)
+        self.kept.body.effective_as(class)
     }
 
     /// The effective priority that the thread would have if `pri` were the priority that it inherits from the waiters
@@ -83,7 +91,7 @@ impl Record {
         ensures value { result ≡ eff_with l pri self.now.body }
         ensures below { IfSome pri (λ n. n < 160) → result < 160 }
     {
-        self.body.effective_with(l, pri)
+        self.kept.body.effective_with(l, pri)
     }
 
     /// Makes `pri` the priority that the thread, which holds `l`, inherits from the waiters of `l`.
@@ -92,14 +100,14 @@ impl Record {
         requires below { pri < 160 }
         ensures { self.new ≡ inherited self.old l pri }
     {
-        self.body.inherit(l, pri);
+        self.kept.body.inherit(l, pri);
     }
 
     /// Removes the priority that is inherited from the waiters of `l`, if there is one.
     pub fn waive(&mut self, l: LockId)
         ensures { self.new ≡ waived self.old l }
     {
-        self.body.waive(l);
+        self.kept.body.waive(l);
     }
 
     /// Puts `l`, which the thread does not hold, at the end of the locks that it holds.
@@ -108,7 +116,7 @@ impl Record {
         requires room { length self.old.body.held.items < most_held }
         ensures { self.new ≡ lock_taken self.old l }
     {
-        self.body.take_lock(l);
+        self.kept.body.take_lock(l);
     }
 
     /// Takes `l` out of the locks that the thread holds, with the priority that is inherited from its waiters.
@@ -116,7 +124,7 @@ impl Record {
     pub fn release_lock(&mut self, l: LockId)
         ensures { self.new ≡ lock_released self.old l }
     {
-        self.body.release_lock(l);
+        self.kept.body.release_lock(l);
     }
 }
 
@@ -132,10 +140,10 @@ impl Ranked for Record {
     }
 
     fn key(&self) -> i64 {
-        self.key
+        self.kept.key
     }
 
     fn id(&self) -> u32 {
-        u32::from(self.id.0)
+        u32::from(self.kept.id.0)
     }
 }

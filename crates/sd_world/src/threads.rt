@@ -41,8 +41,8 @@ fn thread_of(hand: &Hand, t: ThreadId) -> ThreadState
         Ok(at) => match hand.find(t, at) {
             None => unreachable!(),
             Some(thread) => ThreadState {
-                body: copied_body(&thread.body),
-                place: place_at(at, thread.key),
+                body: copied_body(&thread.kept.body),
+                place: place_at(at, thread.kept.key),
             },
         },
     }
@@ -53,7 +53,7 @@ fn ended(thread: &Record) -> ThreadState
     ensures { result ≡ record { body = thread.now.body; place = PlaceOf.Ended } }
 {
     ThreadState {
-        body: copied_body(&thread.body),
+        body: copied_body(&thread.kept.body),
         place: Place::Ended,
     }
 }
@@ -71,7 +71,7 @@ fn tell_ended(hand: &Hand, c: CpuId, told: &mut Vec<Option<ThreadState>>)
         Some(threads) => threads,
     };
     for thread in threads.items() {
-        let number = thread.id.0 as usize;
+        let number = thread.kept.id.0 as usize;
         if number < told.len() {
             told[number] = Some(ended(thread));
         }

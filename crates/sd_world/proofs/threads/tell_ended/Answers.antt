@@ -1,4 +1,5 @@
 use Rattle.std.proofs.Common.{◌≡◌, sym, ap, ◌∙◌, subst}
+use Rattle.sd_record.specs.declared.record.Kept.{Kept}
 use Rattle.sd_record.specs.Records.{ThreadRecord}
 use Rattle.sd_homes.specs.declared.list_id.ListId.TheVariants.{Ends}
 use Rattle.sd_state.specs.States.{thread_of}
@@ -20,8 +21,8 @@ pub loop-thread-preserved-then-number-len : goal.loop-thread-preserved-then-numb
 loop-thread-preserved-then-number-len c s told are =
     let so_far = c.loop-thread.invariant s told are in
     let ended = subst (HaveEnded s) c.in-Some-thread.ensures.steps so_far.1 in
-    let number = sym (ap (λ (r : ThreadRecord). r.id.0) c.thread.view_is) in (
-      told_more s c.loop-thread.told.items c.thread.inside.id.0 c.ended-then-number-len.result
+    let number = sym (ap (λ (r : ThreadRecord). r.id.0) c.thread.view_is) ∙ ap (λ (k : Kept). k.id.0) (sym c.deref.ensures) in (
+      told_more s c.loop-thread.told.items c.deref.result.now.id.0 c.ended-then-number-len.result
           (c.ended-then-number-len.ensures ∙ ended.0 ∙ ap (thread_of s) number) so_far.0,
       ended.1,
     )
