@@ -8,10 +8,10 @@ ghost use Rattle.sd_rules.specs.ChoiceFunctions.{chosen, victim_of};
 ghost use Rattle.sd_machine.specs.Choosing.{cpus_for, cpus_or_bound, is_recent, is_settled, is_warm, neighbours, numbers_read, put_chosen, put_on, victim_for};
 ghost use Rattle.sd_machine.specs.Hints.{hints_fit, read_of, reads_for};
 ghost use Rattle.sd_state.specs.declared.states.State.{State};
-ghost use Rattle.sd_state.specs.States.{cpu_of, no_body, thread_of, set_of};
+ghost use Rattle.sd_state.specs.States.{no_body, thread_of, set_of};
 ghost use Rattle.sd_dispatcher.specs.Allowed.{allowed, settled_put};
 ghost use Rattle.sd_dispatcher.specs.Reading.{parts, put_unread};
-ghost use Rattle.sd_store.specs.Parts.{actor_part, cpu_part, ready_parts, real_time_part, thread_part};
+ghost use Rattle.sd_store.specs.Parts.{actor_part, ready_parts, real_time_part, thread_part};
 ghost use Rattle.sd_store.specs.Words.{Lacks, Tells, TellsIf};
 ghost use Rattle.sd_types.specs.Limits.{most_processors};
 

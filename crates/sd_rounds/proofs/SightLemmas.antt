@@ -1,7 +1,7 @@
 -- What one look at the home of a processor tells of its plan.
 use Rattle.std.proofs.Common.{◌≡◌, ◌⊎◌, inl, inr, ℕ, ◌==◌, ◌&&◌, ◌||◌, false, not, List, [], ◌∷◌, length, Some, None, option_map, slice_get, is_some, refl, sym, ap, ◌∙◌, if◌then◌else◌, true, Option, subst}
 use Rattle.std.proofs.lemmas.Bool.{eq-eqb}
-use Rattle.sd_types.specs.declared.events.Duty.TheVariants.{Nothing}
+use Rattle.sd_types.specs.declared.events.Duty.TheVariants.{Age, Nothing}
 use Rattle.sd_types.specs.declared.events.Event.TheVariants.{Tick}
 use Rattle.sd_types.specs.declared.bodies.ThreadBody.{ThreadBody}
 use Rattle.sd_types.specs.declared.numbers.SetId.{SetId}
@@ -13,11 +13,13 @@ use Rattle.sd_state.specs.declared.states.CpuState.{CpuState}
 use Rattle.sd_state.specs.declared.states.State.{State}
 use Rattle.sd_state.specs.Operations.{op_of}
 use Rattle.sd_state.specs.States.{cpu_of, thread_of}
+use Rattle.sd_machine.specs.declared.plans.Plan.{Plan}
 use Rattle.sd_machine.specs.declared.plans.Plan.TheVariants.{Make, Search}
 use Rattle.sd_machine.specs.Dispatching.{dispatch_plan, leave_event, leave_plan}
-use Rattle.sd_machine.specs.Plans.{ageing_plan, ageing_plan_of, cpu_plan, cpu_plan_of, duty_plan, duty_plan_of, first_of, free_plan_of, nap_plan, op_plan, or_plan, plan, run_plan_of}
+use Rattle.sd_machine.specs.Plans.{ageing_plan, ageing_plan_of, cpu_plan, cpu_plan_of, duty_plan, duty_plan_of, first_of, free_plan_of, nap_plan, op_plan, or_plan, plan, run_plan, run_plan_of}
+use Rattle.sd_machine.specs.Prioritising.{age_plan}
 use Rattle.sd_machine.specs.Sleeping.{napend_plan}
-use Rattle.sd_machine.specs.Threads.{best_queued, best_ready, first_due, is_sys, open_of, runner}
+use Rattle.sd_machine.specs.Threads.{best_queued, best_ready, first_due, is_sys, next_to_age, open_of, runner}
 use Rattle.sd_record.specs.Records.{ThreadRecord}
 use Rattle.sd_rules.specs.ClassRules.{class_expires}
 use Rattle.sd_boxq.specs.Order.{find_id}
@@ -46,6 +48,18 @@ quiet_plan w s c duty due =
     ap (λ d. or_plan (first_of (duty_plan_of w s d) (first_of (napend_plan w s (first_due s c)) (ageing_plan_of w s c d))) (cpu_plan w s c)) duty
     ∙ ap (λ o. or_plan (first_of None (first_of (napend_plan w s o) None)) (cpu_plan w s c)) due
 
+pub same_plan : (p q : Plan) (o : Option Plan) → Some p ≡ o → o ≡ Some q → p ≡ q
+same_plan p q o e f = let same : Some p ≡ Some q = e ∙ f in cc
+
+-- one that is to age a thread of its queue
+pub ages_next : (w : Work) (s : State) (c : ℕ) (u t : ThreadId) → (cpu_of s c).duty ≡ Age u → first_due s c ≡ None → next_to_age s c u.0 ≡ Some t.0 → age_plan w s (Some t.0) ≡ Some (plan w s c)
+unfolding plan duty_plan nap_plan ageing_plan
+ages_next w s c u t duty due next =
+    sym (ap Some (
+    ap (λ d. or_plan (first_of (duty_plan_of w s d) (first_of (napend_plan w s (first_due s c)) (ageing_plan_of w s c d))) (cpu_plan w s c)) duty
+    ∙ ap (λ o. or_plan (first_of None (first_of (napend_plan w s o) (age_plan w s (next_to_age s c u.0)))) (cpu_plan w s c)) due
+    ∙ ap (λ o. or_plan (first_of None (first_of None (age_plan w s o))) (cpu_plan w s c)) next))
+
 -- with no mark the running thread stays
 stays : (c t : ℕ) (x : CpuState) (b : ThreadBody) → x.user ≡ false → x.kernel ≡ false → leave_plan c x t b ≡ None
 stays c t x b user kernel =
@@ -55,6 +69,10 @@ stays c t x b user kernel =
 acts_on : (w : Work) (s : State) (c t : ℕ) → runner s c ≡ Some t → (cpu_of s c).user ≡ false → (cpu_of s c).kernel ≡ false → cpu_plan w s c ≡ op_plan w s t (op_of w t (thread_of s t).body)
 unfolding cpu_plan
 acts_on w s c t runs user kernel = ap (cpu_plan_of w s c) runs ∙ ap (run_plan_of w s t) (stays c t (cpu_of s c) (thread_of s t).body user kernel)
+
+decides : (w : Work) (s : State) (c t : ℕ) → runner s c ≡ Some t → cpu_plan w s c ≡ run_plan w s c t
+unfolding cpu_plan
+decides w s c t runs = ap (cpu_plan_of w s c) runs
 
 runs_on : (w : Work) (s : State) (c t n : ℕ) → runner s c ≡ Some t → (cpu_of s c).user ≡ false → (cpu_of s c).kernel ≡ false → op_of w t (thread_of s t).body ≡ Some (Run n)
     → cpu_plan w s c ≡ Make (Tick (record { 0 = t }))
@@ -76,6 +94,8 @@ first_found r (q ∷ rs) e = let same : q ≡ r = cc in rw (ap (λ z. id_of z ==
 pub runner_noted : (w : Work) (v : CpuView) (r : ThreadRecord) (known : Option Searched) (seen : Sight) → SeesRunner w v r seen → known ≡ noted known seen
 runner_noted w v r known (sight.Runs t expires) f = refl
 runner_noted w v r known (sight.Acts t) f = refl
+runner_noted w v r known (sight.Marked t) f = refl
+runner_noted w v r known (sight.Ages t) f = absurd f
 runner_noted w v r known (sight.Idles found) f = absurd f
 runner_noted w v r known sight.Searches f = absurd f
 runner_noted w v r known sight.Ready f = absurd f
@@ -116,6 +136,10 @@ module _ (w : Work) (x : Acting) (n : ℕ) (s : State) (h : Home) (sh : IsShown 
       let runs : runner s x.actor.cpu.0 ≡ Some r.id.0 = runner_told x n s h sh x.actor.cpu at ∙ ap (option_map id_of) e in
       let plans = acts_on w s x.actor.cpu.0 r.id.0 runs (ap (λ (q : CpuView). q.user) (sym viewed) ∙ user) (ap (λ (q : CpuView). q.kernel) (sym viewed) ∙ kernel) in
       sym (quiet_plan w s x.actor.cpu.0 no_duty none_due ∙ plans ∙ ap (λ (u : ThreadId). op_plan w s u.0 (op_of w u.0 (thread_of s u.0).body)) (sym same))
+  sees_runner r (sight.Marked t) e f =
+      let runs : runner s x.actor.cpu.0 ≡ Some r.id.0 = runner_told x n s h sh x.actor.cpu at ∙ ap (option_map id_of) e in
+      sym (quiet_plan w s x.actor.cpu.0 no_duty none_due ∙ decides w s x.actor.cpu.0 r.id.0 runs ∙ ap (λ (u : ThreadId). run_plan w s x.actor.cpu.0 u.0) (sym f))
+  sees_runner r (sight.Ages t) e f = absurd f
   sees_runner r (sight.Idles found) e f = absurd f
   sees_runner r sight.Searches e f = absurd f
   sees_runner r sight.Ready e f = absurd f
@@ -156,6 +180,8 @@ module _ (w : Work) (x : Acting) (n : ℕ) (s : State) (h : Home) (sh : IsShown 
   pub sees_quiet : (known : Option Searched) (seen : Sight) → slice_get (list_in h (Runs x.actor.cpu)) 0 ≡ None → SeesQuiet x h v known seen → IsSearched s known → Sees w s x.actor.cpu.0 seen
   sees_quiet known (sight.Runs t expires) e f is = absurd f
   sees_quiet known (sight.Acts t) e f is = absurd f
+  sees_quiet known (sight.Marked t) e f is = absurd f
+  sees_quiet known (sight.Ages t) e f is = absurd f
   sees_quiet known (sight.Idles found) e f is =
       let (its, closing, queue, known_or_found) = f in
       let runs : runner s x.actor.cpu.0 ≡ None = runner_told x n s h sh x.actor.cpu at ∙ ap (option_map id_of) e in

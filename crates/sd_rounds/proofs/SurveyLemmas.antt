@@ -1,6 +1,7 @@
 -- The victim of a search, processor by processor, and the turn of one who has found it.
-use Rattle.std.proofs.Common.{◌≡◌, ◌⊎◌, ℕ, zero, suc, ◌+◌, ◌<◌, ◌==◌, true, false, max, min, List, [], ◌∷◌, ◌++◌, length, map, Option, Some, None, refl, sym, ap, ◌∙◌, inl, inr, arith, if◌then◌else◌}
-use Rattle.std.proofs.lemmas.Bool.{cases_Bool, eq-eqb, false≢true, ne_eqb}
+use Rattle.std.proofs.Common.{◌≡◌, ◌⊎◌, ℕ, zero, suc, ◌+◌, ◌<◌, ◌≤◌, ◌==◌, true, false, max, min, List, [], ◌∷◌, ◌++◌, length, map, Option, Some, None, refl, sym, ap, ◌∙◌, inl, inr, arith, if◌then◌else◌}
+use Rattle.std.proofs.lemmas.Bool.{cases_Bool, cases_eq, eq-eqb, false≢true, ne_eqb}
+use Rattle.std.proofs.lemmas.Bool.Decides.{nat_tests}
 use Rattle.std.proofs.lemmas.List.{append-nil}
 use Rattle.sd_types.specs.declared.events.Event.{Event}
 use Rattle.sd_types.specs.declared.events.Hints.{Hints}
@@ -9,6 +10,7 @@ use Rattle.sd_types.specs.declared.numbers.CpuId.{CpuId}
 use Rattle.sd_types.specs.declared.works.Work.{Work}
 use Rattle.sd_types.proofs.SameLemmas.{same_cpu}
 use Rattle.sd_rules.specs.ChoiceFunctions.{greatest_hint, least_number, victim_of, with_hint}
+use Rattle.sd_rules.specs.Orders.{is_busier}
 use Rattle.sd_rules.proofs.PartitionLemmas.{names-from_Contains}
 use Rattle.sd_state.specs.declared.states.State.{State}
 use Rattle.sd_machine.specs.declared.plans.Plan.TheVariants.{Search}
@@ -120,6 +122,47 @@ module _ (cs : List CpuId) (ns : List ℕ) (d : CpuId) (n : ℕ) (long : length 
       let is : least_number (with_hint n cs ns ++ d ∷ []) ≡ x = same_cpu (least_number (with_hint n cs ns ++ d ∷ [])) x (smaller ∙ sym (least (least_number (with_hint n cs ns)) was)) in
       let found : with_hint n (cs ++ d ∷ []) (ns ++ n ∷ []) ≡ with_hint n cs ns ++ d ∷ [] = with_more n n cs ns d long ∙ ap (λ l. with_hint n cs ns ++ l) its in
       (sym (by_greatest n (cs ++ d ∷ []) (ns ++ n ∷ []) most ∙ by_some n (cs ++ d ∷ []) (ns ++ n ∷ []) some ∙ ap (λ (l : List CpuId). Some (least_number l)) found ∙ ap Some is), sym most)
+
+  -- the one that was first stays so before one that is not busier
+  pub busier_kept : (c : CpuId) (g : ℕ) → victim_of cs ns ≡ Some c → greatest_hint ns ≡ g → 0 < n → is_busier d n c g ≡ false → (Some c ≡ victim_of (cs ++ d ∷ []) (ns ++ n ∷ [])) × (g ≡ greatest_hint (ns ++ n ∷ []))
+  busier_kept c g was is some other = elim (cases_eq n g) [
+    | inl same ↦
+        let least : (e : CpuId) → victim_of cs ns ≡ Some e → c.0 ≡ min e.0 d.0 = λ e its.
+        let one : Some c ≡ Some e = sym was ∙ its in
+        let here : c ≡ e = cc in
+        let number : c.0 ≡ e.0 = ap (λ (x : CpuId). x.0) here in
+        let behind : c.0 ≤ d.0 = grind (arith, nat_tests) in
+        omega (arith, number, behind) in
+        let first = as_many c (same ∙ sym is) some least in
+        (first.0, sym same ∙ first.1)
+    | inr apart ↦
+        let less : n < g = grind (arith, nat_tests) in
+        let kept = no_more g is (inr less) in
+        (sym was ∙ kept.0, kept.1)
+  ]
+
+  -- one that is busier than the first is the first
+  pub busier_comes : (c : CpuId) (g : ℕ) → victim_of cs ns ≡ Some c → greatest_hint ns ≡ g → 0 < n → is_busier d n c g ≡ true → (Some d ≡ victim_of (cs ++ d ∷ []) (ns ++ n ∷ [])) × (n ≡ greatest_hint (ns ++ n ∷ []))
+  busier_comes c g was is some before = elim (cases_eq n g) [
+    | inl same ↦
+        let least : (e : CpuId) → victim_of cs ns ≡ Some e → d.0 ≡ min e.0 d.0 = λ e its.
+        let one : Some c ≡ Some e = sym was ∙ its in
+        let here : c ≡ e = cc in
+        let number : c.0 ≡ e.0 = ap (λ (x : CpuId). x.0) here in
+        let ahead : d.0 < c.0 = grind (arith, nat_tests) in
+        omega (arith, number, ahead) in
+        as_many d (same ∙ sym is) some least
+    | inr apart ↦
+        let more : g < n = grind (arith, nat_tests) in
+        one_more (omega (arith, is, more))
+  ]
+
+-- where there is no victim, all numbers are 0
+pub nobody_first : (cs : List CpuId) (ns : List ℕ) → victim_of cs ns ≡ None → greatest_hint ns ≡ 0
+nobody_first cs ns none = elim (cases_eq (greatest_hint ns) 0) [
+  | inl nothing ↦ nothing
+  | inr some ↦ absurd (let found : victim_of cs ns ≡ Some (least_number (with_hint (greatest_hint ns) cs ns)) = rw (ne_eqb (greatest_hint ns) 0 some) refl in cc)
+]
 
 -- the processors of a set's open list are there
 pub open_there : (w : Work) (n : ℕ) (s : State) (p : ℕ) → IsReached w n s → AreCpus w (open_of s p)

@@ -1,8 +1,9 @@
-//! What one look at the home of a processor tells of its next event, as in most turns: that its thread runs on, or that nothing is ready.
+//! What one look at the home of a processor tells of its next event, as in most turns: that its thread runs on, does its operation or has a mark to
+//! heed, that the processor dispatches, searches or finds nothing, or that a thread on its queue is aged.
 
-ghost use Rattle.std.specs.Prelude.{◌≡◌, ℕ, None, Some, false, true, IfSome};
+ghost use Rattle.std.specs.Prelude.{◌≡◌, ℕ, Option, None, Some, false, true, IfSome};
 ghost use Rattle.std.specs.Option.{option_copied};
-ghost use Rattle.sd_types.specs.declared.events.Duty.TheVariants.{Nothing};
+ghost use Rattle.sd_types.specs.declared.events.Duty.TheVariants.{Age, Nothing};
 ghost use Rattle.sd_types.specs.declared.events.Which.TheVariants.{Queued};
 ghost use Rattle.sd_types.specs.declared.numbers.HomeId.TheVariants.{Cpu};
 ghost use Rattle.sd_types.specs.declared.scripts.Op.TheVariants.{Run};
@@ -14,6 +15,7 @@ ghost use Rattle.sd_hand.specs.Acting.{IsShown};
 ghost use Rattle.sd_hand.specs.Hands.{held};
 ghost use Rattle.sd_rounds.specs.Searched.{IsSearched, all_show_zero};
 ghost use Rattle.sd_rounds.specs.Sights.{Sees, SeesQuiet, SeesRunner, SeesSearch, noted};
+ghost use Rattle.sd_rounds.specs.declared.sight.Searched.{Searched as SearchedOf};
 
 use sd_class::class_expires;
 use sd_hand::Acting;
@@ -34,11 +36,15 @@ pub struct Searched {
 pub enum Sight {
     /// Its thread runs for a tick, which ends its quantum or does not.
     Runs { t: ThreadId, expires: bool },
-    /// Its thread does what its operation is, which is not to run.
+    /// Its thread need not leave it, and does its operation.
     Acts(ThreadId),
+    /// It has a mark: its thread leaves it where that is due, and else does its operation.
+    Marked(ThreadId),
+    /// It ages this thread of its queue.
+    Ages(ThreadId),
     /// Nothing is ready for it, nor on the queue of a neighbour in its set: it is idle for a tick.
     Idles(Searched),
-    /// Nothing is ready for it, and something is on the queue of a neighbour: it searches.
+    /// Nothing is ready for it: it searches.
     Searches,
     /// No thread runs on it, and one may be ready for it: it dispatches the best.
     Ready,
@@ -51,9 +57,9 @@ pub enum Sight {
 fn is_to_run(work: &Work, thread: &Record) -> bool
     ensures { result ≡ true → (n : ℕ) × (op_of work.now thread.now.id.0 thread.now.body ≡ Some (Run n)) }
 {
-    match work.threads.items().get(thread.id.0 as usize) {
+    match work.threads.items().get(thread.kept.id.0 as usize) {
         Some(decl) => matches!(
-            decl.script.ops().get(thread.body.op as usize),
+            decl.script.ops().get(thread.kept.body.op as usize),
             Some(Op::Run(_))
         ),
         None => false,
@@ -77,14 +83,14 @@ fn see_runner(work: &Work, view: CpuView, thread: &Record) -> Sight
     ensures { SeesRunner work.now view thread.now result }
 {
     if view.user || view.kernel {
-        return Sight::Unclear;
+        return Sight::Marked(thread.kept.id);
     }
     if !is_to_run(work, thread) {
-        return Sight::Acts(thread.id);
+        return Sight::Acts(thread.kept.id);
     }
     Sight::Runs {
-        t: thread.id,
-        expires: class_expires(&thread.body.class),
+        t: thread.kept.id,
+        expires: class_expires(&thread.kept.body.class),
     }
 }
 
@@ -195,6 +201,23 @@ fn see_home(work: &Work, x: &Acting, home: &Home, searched: &mut Option<Searched
     }
 }
 
+/// What is seen of a processor that is to age its queue from thread `u` on.
+#[inline(always)]
+fn see_ageing(work: &Work, x: &Acting, u: ThreadId) -> Sight
+    requires { x.now.actor.duty ≡ Age u }
+    ensures seen { (n : ℕ) (s : StateOf) → IsShown x.now n s → Sees work.now s x.now.actor.cpu.0 result }
+    ensures noted { (known : Option SearchedOf) → known ≡ noted known result }
+{
+    let c = x.actor.cpu;
+    let Ok(None) = x.first_due(c) else {
+        return Sight::Unclear;
+    };
+    match x.next_to_age(c, u) {
+        Ok(Some(t)) => Sight::Ages(t),
+        _ => Sight::Unclear,
+    }
+}
+
 /// What is seen of the processor that acts. Where nothing is ready in its set, that is known from now on.
 #[inline(always)]
 pub(crate) fn see(work: &Work, x: &Acting, searched: &mut Option<Searched>) -> Sight
@@ -206,6 +229,7 @@ pub(crate) fn see(work: &Work, x: &Acting, searched: &mut Option<Searched>) -> S
             Err(_) => Sight::Unclear,
             Ok(home) => see_home(work, x, home, searched),
         },
+        Duty::Age(u) => see_ageing(work, x, u),
         _ => Sight::Unclear,
     }
 }

@@ -1,7 +1,7 @@
 //! What a processor reads in a search that finds something: the number of each neighbour, and whose is the greatest, by one walk along the
 //! processors of its set.
 
-ghost use Rattle.std.specs.Prelude.{◌≡◌, ℕ, ◌==◌, ◌++◌, ◌<◌, ◌≤◌, ◌∷◌, [], List, length, filter, min, not, IfSome, Some};
+ghost use Rattle.std.specs.Prelude.{◌≡◌, ℕ, ◌==◌, ◌++◌, ◌<◌, ◌≤◌, ◌∷◌, [], List, length, filter, not, IfSome};
 ghost use Rattle.sd_types.specs.declared.events.Which.TheVariants.{Queued};
 ghost use Rattle.sd_types.specs.declared.numbers.CpuId.{CpuId as CpuOf};
 ghost use Rattle.sd_types.specs.Limits.{most_processors};
@@ -15,6 +15,7 @@ ghost use Rattle.sd_rounds.specs.Surveys.{IsBusiest, IsSurvey};
 
 use arrayvec::ArrayVec;
 use sd_hand::Acting;
+use sd_rules::is_busier;
 use sd_store::Look;
 use sd_types::{CpuId, Which, Work};
 use sd_world::{PlainWorld, shown_hint};
@@ -31,16 +32,6 @@ pub(crate) struct Busiest {
 pub(crate) struct Survey {
     pub numbers: ArrayVec<u8, 64>,
     pub victim: Option<CpuId>,
-}
-
-/// The lesser of two processors, of which the first may be none.
-fn lesser(first: Option<CpuId>, d: CpuId) -> CpuId
-    ensures { (c : CpuOf) → first ≡ Some c → result.0 ≡ min c.0 d.0 }
-{
-    match first {
-        Some(c) if c.0 <= d.0 => c,
-        _ => d,
-    }
 }
 
 impl Busiest {
@@ -60,18 +51,16 @@ impl Busiest {
         ensures { (cpus : List CpuOf) (numbers : List ℕ) → length cpus ≡ length numbers → IsBusiest cpus numbers self
             → IsBusiest (cpus ++ d ∷ []) (numbers ++ number ∷ []) result }
     {
+        // Most change nothing, and are known by their number alone.
         if number == 0 || number < self.number {
             return self;
         }
-        if self.number < number {
-            return Busiest {
+        match self.cpu {
+            Some(c) if !is_busier(d, number, c, self.number) => self,
+            _ => Busiest {
                 cpu: Some(d),
                 number,
-            };
-        }
-        Busiest {
-            cpu: Some(lesser(self.cpu, d)),
-            number,
+            },
         }
     }
 }

@@ -2,7 +2,7 @@
 //! and else by its plan and what it reads for that, each found once. Should its hand not show these, it makes an attempt, as where homes
 //! are shared.
 
-ghost use Rattle.std.specs.Prelude.{◌≡◌, ℕ, ◌++◌, ◌-◌, ◌<◌, ◌≤◌, ◌↔◌, List, IfErr, IfSome, length, map, option_map, replicate, IsErrOf, OnErr, OnOk};
+ghost use Rattle.std.specs.Prelude.{◌≡◌, ℕ, ◌++◌, ◌-◌, ◌<◌, ◌≤◌, ◌↔◌, List, IfErr, IfSome, Some, length, map, option_map, replicate, IsErrOf, OnErr, OnOk};
 ghost use Rattle.sd_types.specs.declared.events.Duty.TheVariants.{Nothing};
 ghost use Rattle.sd_types.specs.declared.events.Which.TheVariants.{Queued};
 ghost use Rattle.sd_types.specs.declared.numbers.CpuId.{CpuId as CpuOf};
@@ -15,7 +15,8 @@ ghost use Rattle.sd_machine.specs.Choosing.{neighbours};
 ghost use Rattle.sd_machine.specs.Dispatching.{dispatch_plan as plan_of_best};
 ghost use Rattle.sd_machine.specs.Events.{allowed, next};
 ghost use Rattle.sd_machine.specs.Hints.{hint_shown, plan_reads as reads_of, read_of};
-ghost use Rattle.sd_machine.specs.Plans.{op_plan, plan as plan_of};
+ghost use Rattle.sd_machine.specs.Plans.{op_plan, plan as plan_of, run_plan};
+ghost use Rattle.sd_machine.specs.Prioritising.{age_plan};
 ghost use Rattle.sd_machine.specs.Runs.{made, serial_hints, shown, turn};
 ghost use Rattle.sd_machine.specs.Threads.{best_ready};
 ghost use Rattle.sd_dispatcher.specs.Reading.{parts};
@@ -33,7 +34,8 @@ use sd_cpu::{OpenGate, attempt};
 use sd_dispatcher::{Reading, dispatch_plan, search_event};
 use sd_hand::Acting;
 use sd_machine::{Placement, Plan};
-use sd_step::{plan, plan_event_read, plan_reads, runner_plan, unread_event};
+use sd_priocntl::age_plan;
+use sd_step::{plan, plan_event_read, plan_reads, run_plan, runner_plan, unread_event};
 use sd_store::Look;
 use sd_types::{CpuId, Event, Hints, MOST_ENTRIES, Stop, ThreadId, Which, Work};
 use sd_world::PlainWorld;
@@ -282,6 +284,66 @@ fn act_by_runner(work: &Work, world: &mut PlainWorld, t: ThreadId) -> Result<(),
     }
 }
 
+/// What the processor that acts does, on which thread `t` runs, as far as the homes show it.
+#[inline(always)]
+fn marked_of(work: &Work, world: &PlainWorld, t: ThreadId) -> Option<Plan>
+    requires { Stands work.now world.now }
+    ensures { IfSome result (λ p. p ≡ run_plan work.now (told work.now world.now) world.now.acting.actor.cpu.0 t.0) }
+{
+    match run_plan(work, &world.acting, world.acting.actor.cpu, t) {
+        Ok(plan) => Some(plan),
+        Err(_) => None,
+    }
+}
+
+/// The turn of a processor with a mark, on which thread `t` runs.
+#[inline(never)]
+fn act_by_mark(work: &Work, world: &mut PlainWorld, t: ThreadId) -> Result<(), Stop>
+    requires stands { Stands work.now world.old }
+    requires work { world.old.work.now ≡ work.now }
+    requires few { length world.old.entries.items < MOST_ENTRIES }
+    requires plan { run_plan work.now (told work.now world.old) world.old.acting.actor.cpu.0 t.0 ≡ plan_of work.now (told work.now world.old) world.old.acting.actor.cpu.0 }
+    ensures stands { Stands work.now world.new }
+    ensures work { world.new.work.now ≡ work.now }
+    ensures entries { OnOk result (world.new.entries.items ≡ world.old.entries.items ++ turn work.now (told work.now world.old) (length world.old.entries.items) world.old.acting.actor.cpu) }
+    ensures stop { IfErr result (λ stop. (stop ≡ Stop.Memory) × (world.new.entries.items ≡ world.old.entries.items)) }
+{
+    match marked_of(work, world, t) {
+        Some(plan) => act_on(work, world, plan),
+        None => attempt_turn(work, world),
+    }
+}
+
+/// That thread `t` of its queue is aged, as far as the homes show it.
+#[inline(always)]
+fn ageing_of(work: &Work, world: &PlainWorld, t: ThreadId) -> Option<Plan>
+    requires { Stands work.now world.now }
+    ensures { IfSome result (λ p. Some p ≡ age_plan work.now (told work.now world.now) (Some t.0)) }
+{
+    match age_plan(work, &world.acting, Some(t)) {
+        Ok(plan) => plan,
+        Err(_) => None,
+    }
+}
+
+/// The turn of a processor that ages thread `t` of its queue.
+#[inline(never)]
+fn act_by_age(work: &Work, world: &mut PlainWorld, t: ThreadId) -> Result<(), Stop>
+    requires stands { Stands work.now world.old }
+    requires work { world.old.work.now ≡ work.now }
+    requires few { length world.old.entries.items < MOST_ENTRIES }
+    requires plan { age_plan work.now (told work.now world.old) (Some t.0) ≡ Some (plan_of work.now (told work.now world.old) world.old.acting.actor.cpu.0) }
+    ensures stands { Stands work.now world.new }
+    ensures work { world.new.work.now ≡ work.now }
+    ensures entries { OnOk result (world.new.entries.items ≡ world.old.entries.items ++ turn work.now (told work.now world.old) (length world.old.entries.items) world.old.acting.actor.cpu) }
+    ensures stop { IfErr result (λ stop. (stop ≡ Stop.Memory) × (world.new.entries.items ≡ world.old.entries.items)) }
+{
+    match ageing_of(work, world, t) {
+        Some(plan) => act_on(work, world, plan),
+        None => attempt_turn(work, world),
+    }
+}
+
 /// What the processor that acts does where no thread runs on it: it dispatches the best that is ready.
 #[inline(always)]
 fn dispatch_of(x: &Acting) -> Option<Plan>
@@ -400,6 +462,14 @@ fn act(
         Sight::Acts(t) => {
             *searched = None;
             act_by_runner(work, world, t)
+        }
+        Sight::Marked(t) => {
+            *searched = None;
+            act_by_mark(work, world, t)
+        }
+        Sight::Ages(t) => {
+            *searched = None;
+            act_by_age(work, world, t)
         }
         Sight::Idles(found) => {
             end_search(work, world, floor, found.cpus)?;

@@ -9,6 +9,6 @@ mod partition_laws;
 mod partitions;
 
 pub use choice_laws::{functions_choose, one_choice, one_victim};
-pub use choices::{choose, victim};
+pub use choices::{choose, is_busier, victim};
 pub use partition_laws::{each_in_one, partitions_are_sets, partitions_stand};
 pub use partitions::{cpus_of_set, set_of_cpu};

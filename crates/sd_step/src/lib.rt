@@ -10,4 +10,4 @@ mod plans;
 
 pub use effects::after;
 pub use events::{next, plan_event, plan_event_read, plan_next, plan_reads, unread_event};
-pub use plans::{plan, runner_plan};
+pub use plans::{plan, run_plan, runner_plan};

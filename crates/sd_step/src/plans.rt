@@ -173,7 +173,7 @@ pub fn runner_plan<L: Look>(work: &Work, x: &L, t: ThreadId) -> Result<Plan, L::
 }
 
 /// What processor `c` does on which thread `t` runs, which is looked up once: the thread leaves where it has to, and else does its operation.
-fn run_plan<L: Look>(work: &Work, x: &L, c: CpuId, t: ThreadId) -> Result<Plan, L::Lack>
+pub fn run_plan<L: Look>(work: &Work, x: &L, c: CpuId, t: ThreadId) -> Result<Plan, L::Lack>
     ensures value { TellsIf (L.shows x.now) result (λ s. (k : ChanIdOf) → CanCount s k) (λ s. run_plan work.now s c.0 t.0) }
     ensures lack { Lacks L.part (L.shows x.now) (L.has x.now) result (λ s. thread_part t ∷ cpu_part c ∷ op_parts s (op_of work.now t.0 (thread_of s t.0).body)) }
 {

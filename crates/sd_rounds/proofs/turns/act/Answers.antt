@@ -121,3 +121,15 @@ act_by_runner-requires-clause-plan c =
     let w = c.args.work.now in
     let x = c.args.world.now in
     c.in-Acts.ensures.seen (length x.entries.items) (told w x) (P.shown w x c.requires.stands) c.requires.searched
+
+pub act_by_mark-requires-clause-plan : goal.act_by_mark-requires-clause-plan
+act_by_mark-requires-clause-plan c =
+    let w = c.args.work.now in
+    let x = c.args.world.now in
+    c.in-Marked.ensures.seen (length x.entries.items) (told w x) (P.shown w x c.requires.stands) c.requires.searched
+
+pub act_by_age-requires-clause-plan : goal.act_by_age-requires-clause-plan
+act_by_age-requires-clause-plan c =
+    let w = c.args.work.now in
+    let x = c.args.world.now in
+    c.in-Ages.ensures.seen (length x.entries.items) (told w x) (P.shown w x c.requires.stands) c.requires.searched
