@@ -17,13 +17,16 @@ use sd_types::{
     Work,
 };
 
-fn end_word(end: End) -> &'static [u8]
-    ensures word { result.now ≡ end_text end }
-    ensures short { length result.now ≤ 6 }
+/// ` front` or ` back`
+#[inline(always)]
+fn put_end(end: End, line: &mut Line, from: usize) -> usize
+    requires { from + 6 ≤ ROOM }
+    ensures text { take result line.new ≡ take from line.old ++ end_text end }
+    ensures within { result ≤ from + 6 }
 {
     match end {
-        End::Front => b" front",
-        End::Back => b" back",
+        End::Front => put_bytes(b" front", line, from),
+        End::Back => put_bytes(b" back", line, from),
     }
 }
 
@@ -62,7 +65,7 @@ fn put_preempt(work: &Work, t: ThreadId, end: End, line: &mut Line, from: usize)
     ensures within { result ≤ from + 30 }
 {
     let from = put_word_thread(work, b"preempt", t, line, from);
-    put_bytes(end_word(end), line, from)
+    put_end(end, line, from)
 }
 
 fn put_away(work: &Work, t: ThreadId, cpu: CpuId, line: &mut Line, from: usize) -> usize

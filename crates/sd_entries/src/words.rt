@@ -9,6 +9,7 @@ use crate::names::{chan_name, lock_name, thread_name};
 use sd_types::{ChanId, CpuId, LockId, Put, ThreadId, Work};
 
 /// ` 7`
+#[inline(always)]
 pub(crate) fn put_space_number(n: u64, line: &mut Line, from: usize) -> usize
     requires { from + 21 ≤ ROOM }
     ensures text { take result line.new ≡ take from line.old ++ (codes " " ++ decimal n) }
@@ -19,6 +20,7 @@ pub(crate) fn put_space_number(n: u64, line: &mut Line, from: usize) -> usize
 }
 
 /// The same, of a small number.
+#[inline(always)]
 pub(crate) fn put_space_small(n: u8, line: &mut Line, from: usize) -> usize
     requires { from + 4 ≤ ROOM }
     ensures text { take result line.new ≡ take from line.old ++ (codes " " ++ decimal n) }
@@ -29,6 +31,7 @@ pub(crate) fn put_space_small(n: u8, line: &mut Line, from: usize) -> usize
 }
 
 /// `c7`
+#[inline(always)]
 pub(crate) fn put_cpu(c: CpuId, line: &mut Line, from: usize) -> usize
     requires { from + 21 ≤ ROOM }
     ensures text { take result line.new ≡ take from line.old ++ cpu_text c }
@@ -50,23 +53,25 @@ pub(crate) fn put_space_thread(work: &Work, t: ThreadId, line: &mut Line, from: 
 }
 
 /// ` l`
+#[inline(always)]
 pub(crate) fn put_space_lock(work: &Work, l: LockId, line: &mut Line, from: usize) -> usize
     requires { from + 17 ≤ ROOM }
     ensures text { take result line.new ≡ take from line.old ++ (codes " " ++ lock_name work.now l.0) }
     ensures within { result ≤ from + 17 }
 {
     let from = put_bytes(b" ", line, from);
-    put_bytes(lock_name(work, l), line, from)
+    put_name(lock_name(work, l), line, from)
 }
 
 /// ` k`
+#[inline(always)]
 pub(crate) fn put_space_chan(work: &Work, k: ChanId, line: &mut Line, from: usize) -> usize
     requires { from + 17 ≤ ROOM }
     ensures text { take result line.new ≡ take from line.old ++ (codes " " ++ chan_name work.now k.0) }
     ensures within { result ≤ from + 17 }
 {
     let from = put_bytes(b" ", line, from);
-    put_bytes(chan_name(work, k), line, from)
+    put_name(chan_name(work, k), line, from)
 }
 
 /// `word t`
@@ -87,6 +92,7 @@ pub(crate) fn put_word_thread(
 }
 
 /// `word l`
+#[inline(always)]
 pub(crate) fn put_word_lock(
     work: &Work,
     word: &[u8],
@@ -103,6 +109,7 @@ pub(crate) fn put_word_lock(
 }
 
 /// `word k`
+#[inline(always)]
 pub(crate) fn put_word_chan(
     work: &Work,
     word: &[u8],
@@ -119,6 +126,7 @@ pub(crate) fn put_word_chan(
 }
 
 /// `word t l`
+#[inline(always)]
 pub(crate) fn put_thread_lock(
     work: &Work,
     word: &[u8],
@@ -136,6 +144,7 @@ pub(crate) fn put_thread_lock(
 }
 
 /// `word t k`
+#[inline(always)]
 pub(crate) fn put_thread_chan(
     work: &Work,
     word: &[u8],
@@ -153,6 +162,7 @@ pub(crate) fn put_thread_chan(
 }
 
 /// `word t u`
+#[inline(always)]
 pub(crate) fn put_two_threads(
     work: &Work,
     word: &[u8],
@@ -170,6 +180,7 @@ pub(crate) fn put_two_threads(
 }
 
 /// `word l u`
+#[inline(always)]
 pub(crate) fn put_lock_thread(
     work: &Work,
     word: &[u8],
@@ -187,6 +198,7 @@ pub(crate) fn put_lock_thread(
 }
 
 /// ` to c7` or ` rt c7`: where a thread was put.
+#[inline(always)]
 pub(crate) fn put_place(at: Put, line: &mut Line, from: usize) -> usize
     requires { from + 25 ≤ ROOM }
     ensures text { take result line.new ≡ take from line.old ++ put_text at }
@@ -198,6 +210,7 @@ pub(crate) fn put_place(at: Put, line: &mut Line, from: usize) -> usize
     }
 }
 
+#[inline(always)]
 fn put_word_cpu(word: &[u8], c: CpuId, line: &mut Line, from: usize) -> usize
     requires { from + length word.now + 21 ≤ ROOM }
     ensures text { take result line.new ≡ take from line.old ++ (word.now ++ cpu_text c) }
@@ -224,7 +237,7 @@ fn put_woken_thread(work: &Work, u: ThreadId, at: Put, line: &mut Line, from: us
     ensures text { take result line.new ≡ take from line.old ++ (thread_name work.now u.0 ++ put_text at) }
     ensures within { result ≤ from + 41 }
 {
-    let from = put_bytes(thread_name(work, u.0 as usize), line, from);
+    let from = put_name(thread_name(work, u.0 as usize), line, from);
     put_place(at, line, from)
 }
 
