@@ -16,7 +16,6 @@ use sd_store::{Chore, Look, Store, set_class};
 use sd_types::{ClassState, CpuId, Event, Put, ThreadId, Work};
 
 /// The thread that is next to be aged, if there is one.
-#[inline(always)]
 pub fn age_plan<L: Look>(
     work: &Work,
     x: &L,

@@ -94,8 +94,8 @@ fn busiest(cpus: &[CpuId], hints: &[u8]) -> usize
     best
 }
 
-/// Whether the first of two processors with their hints is before the second one from which a thread is stolen: the one with the greater hint, and of
-/// equal hints the one with the lesser number.
+/// Whether the first of two processors with their hints comes before the second as the one from which a thread is stolen: the one with the greater
+/// hint, and of equal hints the one with the lesser number.
 #[inline(always)]
 pub fn is_busier(cpu: CpuId, hint: u8, other: CpuId, other_hint: u8) -> bool
     ensures { result ≡ is_busier cpu hint other other_hint }
