@@ -18,6 +18,7 @@ ghost use Rattle.sd_types.specs.Limits.{most_processors};
 use crate::bodies::bound_in;
 use crate::reading::Reading;
 use arrayvec::ArrayVec;
+use sd_basics::known;
 use sd_rules::{choose, victim};
 use sd_store::{Look, set_of};
 use sd_types::{CpuId, Hints, Put, REAL_TIME_PRIORITY, ThreadBody, ThreadId, Work};
@@ -28,7 +29,9 @@ pub(crate) fn copied(cpus: &[CpuId]) -> ArrayVec<CpuId, 64>
     ensures { result.items ≡ cpus.now }
 {
     let mut copy = ArrayVec::new();
-    match copy.try_extend_from_slice(cpus) {
+    let copied = copy.try_extend_from_slice(cpus);
+    known(copied.is_ok());
+    match copied {
         Ok(()) => copy,
         Err(_) => unreachable!(),
     }

@@ -5,6 +5,7 @@ ghost use Rattle.sd_types.specs.Limits.{most_processors};
 ghost use Rattle.sd_log.specs.Parts.{hints_of, listed, numbers_of, which_of, whole};
 
 use arrayvec::ArrayVec;
+use sd_basics::known;
 use sd_types::{CpuId, Entry, Event, Hints, MOST_PROCESSORS, Which};
 
 /// Numbers that were read of processors, where they lie.
@@ -81,7 +82,9 @@ fn hints_of(which: Option<Which>, numbers: Numbers<'_>) -> Option<Hints>
     let which = which?;
     let bytes = numbers.bytes();
     let mut numbers = ArrayVec::new();
-    match numbers.try_extend_from_slice(bytes) {
+    let copied = numbers.try_extend_from_slice(bytes);
+    known(copied.is_ok());
+    match copied {
         Ok(()) => {}
         Err(_) => unreachable!(),
     }

@@ -7,6 +7,7 @@ ghost use Rattle.sd_log.specs.Parts.{listed, numbers_of, whole, zeros_read};
 ghost use Rattle.sd_log.specs.Short.{IsWithin, entry_at, kind_of, numbers_at, reading_of};
 
 use crate::parts::{Numbers, Parts, numbers_of};
+use sd_basics::known;
 use sd_types::{CpuId, Event, Hints, Which};
 use std::mem::size_of;
 
@@ -116,7 +117,9 @@ fn put_numbers(bytes: &mut Vec<u8>, hints: &Option<Hints>) -> u8
     if numbers.is_empty() {
         return 0;
     }
-    match bytes.extend_from_slice(numbers) {
+    let put = bytes.extend_from_slice(numbers);
+    known(put.is_ok());
+    match put {
         Ok(()) => numbers.len() as u8,
         Err(_) => unreachable!(),
     }

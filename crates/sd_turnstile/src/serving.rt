@@ -6,6 +6,7 @@ ghost use Rattle.sd_turnstile.specs.Serving.{served, held};
 
 use crate::rack::Rack;
 use crate::turnstile::Turnstile;
+use sd_basics::known;
 use sd_boxq::{Node, Ranked};
 use sd_types::Side;
 use std::mem::replace;
@@ -15,6 +16,7 @@ pub(crate) fn fill<T>(slot: &mut Option<Turnstile<T>>, serving: Option<Turnstile
     requires { slot.old ≡ None }
     ensures { slot.new ≡ serving }
 {
+    known(slot.is_none());
     match replace(slot, serving) {
         None => {}
         Some(_turnstile) => unreachable!(),
@@ -63,7 +65,9 @@ pub(crate) fn released<T>(
     if turnstile.is_idle() {
         return (None, turnstile);
     }
-    match free.take() {
+    let spare = free.take();
+    known(spare.is_some());
+    match spare {
         None => unreachable!(),
         Some(own) => (Some(turnstile), own),
     }
