@@ -47,7 +47,7 @@ put_other : (p : ThreadRecord → Bool) (x : ThreadRecord) (j : ℕ) (rs : List 
 put_other p x j [] e = rw e refl
 put_other p x j (r ∷ rs) e = grind (arith, put_other p x j rs e)
 
-put_own : (p : ThreadRecord → Bool) (x : ThreadRecord) (j : ℕ) (rs : List ThreadRecord) → (id_of x == j) ≡ true → is_some (find_id id_of j (insert_before p x rs)) ≡ true
+pub put_own : (p : ThreadRecord → Bool) (x : ThreadRecord) (j : ℕ) (rs : List ThreadRecord) → (id_of x == j) ≡ true → is_some (find_id id_of j (insert_before p x rs)) ≡ true
 put_own p x j [] e = rw e refl
 put_own p x j (r ∷ rs) e = grind (arith, put_own p x j rs e)
 
@@ -60,7 +60,7 @@ left_other i j [] n = refl
 left_other i j (r ∷ rs) n = grind (arith, nat_tests, left_other i j rs n)
 
 -- ---- what is noted
-clash : (bit : ℕ) → bit ≡ 1 → bit ≡ 0 → ⊥
+pub clash : (bit : ℕ) → bit ≡ 1 → bit ≡ 0 → ⊥
 clash bit one none = omega arith
 
 module _ {i : ℕ} {ps qs : List (Option ℕ)} {ws vs : List ℕ} (s : IsSameBut i ps qs ws vs) where

@@ -1,3 +1,4 @@
+pub mod AbsentLemmas
 pub mod AgeLemmas
 pub mod AgeShown
 pub mod BestShown
@@ -6,6 +7,7 @@ pub mod IndexLemmas
 pub mod Lengths
 pub mod ListLemmas
 pub mod LookShown
+pub mod NapLemmas
 pub mod NapShown
 pub mod NewestLemmas
 pub mod NumberLemmas

@@ -1,7 +1,7 @@
 -- Homes as contracts see them.
 -- Source: Solaris Internals (dispatch queues, turnstiles, sleep queues); that chains have four locks or channels each, whose
 -- numbers modulo 64 are the chain's, is this project's own.
-use Rattle.std.specs.Prelude.{ℕ, ◌+◌, ◌%◌, length, ℤ, Bool, ◌&&◌, ◌==◌, nat_lt, List, [], ◌∷◌, Option, Some, None}
+use Rattle.std.specs.Prelude.{ℕ, ◌+◌, ◌%◌, length, ℤ, pos, Bool, ◌&&◌, ◌==◌, nat_lt, List, [], ◌∷◌, Option, Some, None}
 use Rattle.sd_turnstile.specs.Waiters.{Blocked, nobody}
 use Rattle.sd_sleepq.specs.Sleepers.{Sleepers}
 use Rattle.sd_state.specs.declared.states.LockState.{LockState}
@@ -9,6 +9,8 @@ use Rattle.sd_state.specs.declared.states.LockState.TheVariants.{Free}
 use Rattle.sd_types.specs.declared.numbers.CpuId.{CpuId}
 use Rattle.sd_types.specs.declared.numbers.SetId.{SetId}
 use Rattle.sd_types.specs.declared.bodies.ThreadBody.{ThreadBody}
+use Rattle.sd_types.specs.declared.classes.ClassState.{ClassState}
+use Rattle.sd_machine.specs.Bodies.{arrived, with_class}
 use Rattle.sd_record.specs.Records.{ThreadRecord}
 use Rattle.sd_store.specs.declared.parts.CpuView.{CpuView}
 
@@ -45,6 +47,13 @@ with_key k r = record r { key = k }
 
 abbrev pub with_body_of : ThreadBody → ThreadRecord → ThreadRecord
 with_body_of b r = record r { body = b }
+
+-- it comes to run on a processor, or has another class state and key on a queue
+abbrev pub running_on : CpuId → ThreadRecord → ThreadRecord
+running_on c r = with_key (pos 0) (with_body_of (arrived c r.body) r)
+
+abbrev pub queued_as : ClassState → ℤ → ThreadRecord → ThreadRecord
+queued_as class k r = with_key k (with_body_of (with_class r.body class) r)
 
 -- the real-time queue of a partition, and the open processors of its set
 pub record OfSet : Type 0 where

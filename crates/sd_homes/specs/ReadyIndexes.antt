@@ -1,4 +1,4 @@
--- Where the threads of a dispatch queue stand, by their numbers.
+-- Where the threads of a dispatch queue stand, and which ones nap, by their numbers.
 -- Source: this project's own.
 use Rattle.std.specs.Prelude.{◌≡◌, ◌≢◌, ℕ, ◌*◌, ◌<◌, ◌≤◌, Bool, true, if◌then◌else◌, is_some, List, [], ◌∷◌, Option, None, Some, MatchOption, get_or, length, ⊤}
 use Rattle.sd_boxq.specs.Order.{find_id}
@@ -27,12 +27,16 @@ abbrev pub AreNoted : List (Option ℕ) → List ℕ → List ThreadRecord → T
 AreNoted ps ws [] = Unit {0}
 AreNoted ps ws (r ∷ rs) = (priority_at ps (id_of r) ≡ Some (rank_of r)) × (bit_of ws (id_of r) ≡ age_bit r) × (find_id id_of (id_of r) rs ≡ None) × AreNoted ps ws rs
 
+-- each bit that is set stands under the number of one of these threads
+abbrev pub AreNumbersOf : List ℕ → List ThreadRecord → Type 0
+AreNumbersOf ws rs = (i : ℕ) → bit_of ws i ≡ 1 → is_some (find_id id_of i rs) ≡ true
+
 -- what is noted is of these threads
 pub record IsIndexOf (ps : List (Option ℕ)) (ws : List ℕ) (rs : List ThreadRecord) : Type 0 where
   pub fit : length ps ≤ 64 * length ws
   pub noted : AreNoted ps ws rs
   pub stand : (i p : ℕ) → priority_at ps i ≡ Some p → is_some (find_id id_of i rs) ≡ true
-  pub age : (i : ℕ) → bit_of ws i ≡ 1 → is_some (find_id id_of i rs) ≡ true
+  pub age : AreNumbersOf ws rs
 
 -- the same of an index, as long as it is exact
 abbrev pub Indexes : ReadyIndex → List ThreadRecord → Type 0

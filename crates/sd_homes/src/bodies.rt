@@ -1,4 +1,4 @@
-//! The changes of a thread that stays where it is.
+//! The changes of a thread that stays where it is, or goes to another list of its home.
 
 ghost use Rattle.std.specs.Prelude.{◌≡◌, ◌<◌, false, length, IfSome, IsTrue};
 ghost use Rattle.sd_types.specs.Scripts.{is_held};
@@ -8,13 +8,13 @@ ghost use Rattle.sd_store.specs.declared.changes.BodyChange.TheVariants.{FinishO
 ghost use Rattle.sd_state.specs.Operations.{ran, script_of};
 ghost use Rattle.sd_store.specs.Bodies.{changed};
 ghost use Rattle.sd_homes.specs.Bodies.{CanChangeThread};
-ghost use Rattle.sd_homes.specs.Homes.{with_body_of};
+ghost use Rattle.sd_homes.specs.Homes.{queued_as, running_on, with_body_of};
 
 use sd_class::tick_class;
 use sd_flat::script_of;
 use sd_record::Record;
 use sd_store::BodyChange;
-use sd_types::{LockId, MOST_HELD, ThreadBody, ThreadId, Work};
+use sd_types::{ClassState, CpuId, LockId, MOST_HELD, ThreadBody, ThreadId, Work};
 
 /// Whether the thread holds the lock.
 fn is_held(l: LockId, body: &ThreadBody) -> bool
@@ -96,4 +96,22 @@ pub(crate) fn change(work: &Work, t: ThreadId, change: BodyChange, r: &mut Recor
         BodyChange::Inherit(l, number) => inherit(l, number, r),
         BodyChange::Looped(looped) => r.kept.body.looped = looped,
     }
+}
+
+/// The thread comes to run on a processor.
+#[inline(always)]
+pub(crate) fn run_on(c: CpuId, r: &mut Record)
+    ensures { r.new ≡ running_on c r.old }
+{
+    r.kept.body.last = c;
+    r.kept.key = 0;
+}
+
+/// The thread has another class state and another key on a queue.
+#[inline(always)]
+pub(crate) fn queue_as(class: ClassState, key: i64, r: &mut Record)
+    ensures { r.new ≡ queued_as class key r.old }
+{
+    r.kept.body.class = class;
+    r.kept.key = key;
 }

@@ -1,6 +1,6 @@
 //! The home of a processor.
 
-ghost use Rattle.std.specs.Prelude.{◌≡◌, ◌∷◌, false, None, Some, is_some, option_map, slice_get, IfOk, MatchOption};
+ghost use Rattle.std.specs.Prelude.{◌≡◌, ◌∷◌, false, true, None, Some, is_some, option_map, slice_get, IfOk, MatchOption};
 ghost use Rattle.std.specs.Option.{option_copied};
 ghost use Rattle.sd_boxq.specs.Order.{find_first, find_id, drop_id, insert_ranked, insert_keyed};
 ghost use Rattle.sd_homes.specs.Standing.{id_of, ages, earlier, is_unbound, key_in, least_to_age, rank_of};
@@ -9,23 +9,23 @@ ghost use Rattle.sd_record.specs.Records.{ThreadRecord};
 ghost use Rattle.sd_store.specs.Bodies.{changed};
 ghost use Rattle.sd_homes.specs.Bodies.{CanChangeThread};
 ghost use Rattle.sd_homes.specs.Kinds.{IsListed, cpu_has, cpu_list};
-ghost use Rattle.sd_homes.specs.Homes.{OfCpu, empty_cpu, one, head_of, with_body_of, with_ended, with_nappers, with_queue, with_running, with_view};
+ghost use Rattle.sd_homes.specs.Homes.{OfCpu, empty_cpu, one, head_of, queued_as, running_on, with_body_of, with_ended, with_nappers, with_queue, with_running, with_view};
 
 use crate::ready::ReadyQueue;
 use crate::traveller::{Traveller, equipped};
 use crate::{ListId, bodies};
 use sd_boxq::{BoxQueue, Node};
-use sd_dispq::DispQueue;
+use sd_dispq::{Bitmap, DispQueue};
 use sd_record::Record;
 use sd_store::{BodyChange, CpuView};
 use sd_turnstile::Rack;
-use sd_types::{CpuId, ThreadId, Work};
+use sd_types::{ClassState, CpuId, ThreadId, Work};
 use std::alloc::{AllocError, Global};
 use std::marker::Model;
 
 /// A processor: its dispatch queue, the thread that runs on it, those that nap on it and those that ended and ran there
 /// last, with a spare turnstile for each; its marks, its set, the set that it is closing to and the number of threads that
-/// are bound to it.
+/// are bound to it. Most of those that nap have a bit under their numbers, so that they need not be sought among the others.
 ///
 /// Source: Solaris Internals (`cpu_t`, dispatch queues).
 #[derive(Drop)]
@@ -34,6 +34,7 @@ pub struct CpuHome {
     queue: ReadyQueue,
     running: Option<Node<Record>>,
     nappers: BoxQueue<Record>,
+    naps: Bitmap,
     ended: BoxQueue<Record>,
     view: CpuView,
     rack: Rack<Record>,
@@ -42,17 +43,19 @@ pub struct CpuHome {
 impl Model for CpuHome {
     ghost use Rattle.std.specs.Prelude.{◌≡◌, ◌+◌, length};
     ghost use Rattle.sd_homes.specs.Homes.{OfCpu, one};
+    ghost use Rattle.sd_homes.specs.ReadyIndexes.{AreNumbersOf};
 
     ghost Value = { OfCpu };
 
     ghost view = { λ h. record { cpu = h.cpu; queue = h.queue; running = h.running; nappers = h.nappers; ended = h.ended; view = h.view } };
 
-    ghost invariant = { λ h. h.rack ≡ length h.queue + (length (one h.running) + (length h.nappers + length h.ended)) };
+    ghost invariant = { λ h. (h.rack ≡ length h.queue + (length (one h.running) + (length h.nappers + length h.ended))) × AreNumbersOf h.naps h.nappers };
 }
 
 #[tactic(auto, using(crate::proofs::Lengths::length_dropped, crate::proofs::Lengths::length_inserted))]
 impl CpuHome {
-    /// The home of a processor with no thread. A thread on its queue is sought by its number, if that is below `threads`, in the level where it stands.
+    /// The home of a processor with no thread. A thread on its queue is sought by its number, if that is below `threads`, in the level where it
+    /// stands, and a thread that naps has a bit then.
     pub fn new(
         alloc: Global,
         cpu: CpuId,
@@ -66,6 +69,7 @@ impl CpuHome {
             queue: ReadyQueue::new(alloc, threads)?,
             running: None,
             nappers: BoxQueue::new(),
+            naps: Bitmap::new(alloc, threads)?,
             ended: BoxQueue::new(),
             view,
             rack: Rack::new(),
@@ -114,6 +118,46 @@ impl CpuHome {
         let (node, own) = t.into_parts();
         self.queue.put(node);
         self.rack.put(own);
+    }
+
+    /// The first thread with this number on the queue runs, on processor `c`, without a turnstile being taken and put back. Tells whether
+    /// there is one. Where another ran, that one is dropped.
+    #[inline(always)]
+    pub fn run_queued(&mut self, t: ThreadId, c: CpuId) -> bool
+        ensures queued { result ≡ is_some (find_id id_of t.0 self.old.queue) }
+        ensures runs { MatchOption (find_id id_of t.0 self.old.queue) (self.new ≡ self.old)
+            (λ r. self.new ≡ with_running (Some (running_on c r)) (with_queue (drop_id id_of t.0 self.old.queue) self.old)) }
+    {
+        match self.queue.take(u32::from(t.0)) {
+            None => false,
+            Some(mut node) => {
+                bodies::run_on(c, node.item_mut());
+                if let Some(other) = self.running.take() {
+                    let _gone = equipped(other, &mut self.rack);
+                }
+                self.running = Some(node);
+                true
+            }
+        }
+    }
+
+    /// The first thread with this number on the queue has another class state and key, and goes to its place by them. Tells whether there
+    /// is one.
+    #[inline(always)]
+    pub fn requeue(&mut self, t: ThreadId, class: ClassState, key: i64) -> bool
+        ensures queued { result ≡ is_some (find_id id_of t.0 self.old.queue) }
+        ensures moved { MatchOption (find_id id_of t.0 self.old.queue) (self.new ≡ self.old)
+            (λ r. self.new ≡ with_queue (insert_ranked rank_of key_in (queued_as class key r) (drop_id id_of t.0 self.old.queue)) self.old) }
+    {
+        match self.queue.take(u32::from(t.0)) {
+            None => false,
+            Some(mut node) => {
+                bodies::queue_as(class, key, node.item_mut());
+                let _rank = node.item().effective();
+                self.queue.put(node);
+                true
+            }
+        }
     }
 
     /// Takes the running thread, if it has this number.
@@ -171,6 +215,7 @@ impl CpuHome {
         ensures taken { result ≡ find_id id_of t.0 self.old.nappers }
         ensures rest { self.new ≡ with_nappers (drop_id id_of t.0 self.old.nappers) self.old }
     {
+        self.naps.clear(t.0 as usize);
         match self.nappers.take_first(u32::from(t.0)) {
             None => None,
             Some(node) => Some(equipped(node, &mut self.rack)),
@@ -181,6 +226,7 @@ impl CpuHome {
     pub fn put_napper(&mut self, t: Traveller)
         ensures { self.new ≡ with_nappers (insert_keyed key_in id_of t self.old.nappers) self.old }
     {
+        self.naps.set(t.id().0 as usize);
         let (node, own) = t.into_parts();
         self.nappers.insert_keyed(node);
         self.rack.put(own);
@@ -237,15 +283,18 @@ impl CpuHome {
     pub fn find_queued(&self, t: ThreadId) -> Option<&Record>
         ensures { option_copied result ≡ find_id id_of t.0 self.now.queue }
     {
-        match self.queue.threads().best() {
-            None => None,
-            Some(best) => {
-                if best.kept.id.0 == t.0 {
-                    Some(best)
-                } else {
-                    self.queue.find(u32::from(t.0))
-                }
-            }
+        self.queue.find(u32::from(t.0))
+    }
+
+    /// Whether the thread is known to nap here, by its bit. False may also be told of one that naps: of one whose number has no bit, and of a
+    /// second one with a number of which one has left.
+    #[inline(always)]
+    pub fn naps(&self, t: ThreadId) -> bool
+        ensures { result ≡ true → is_some (find_id id_of t.0 self.now.nappers) ≡ true }
+    {
+        match self.naps.next_set(t.0 as usize) {
+            None => false,
+            Some(i) => i == t.0 as usize,
         }
     }
 

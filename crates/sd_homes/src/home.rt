@@ -1,15 +1,15 @@
 //! One home, of any kind.
 
-ghost use Rattle.std.specs.Prelude.{◌≡◌, false, is_some, slice_get, MatchOption};
+ghost use Rattle.std.specs.Prelude.{◌≡◌, false, true, is_some, slice_get, MatchOption};
 ghost use Rattle.std.specs.Option.{option_copied};
 ghost use Rattle.sd_boxq.specs.Order.{find_id, drop_id};
 ghost use Rattle.sd_homes.specs.Standing.{home_at, id_of, insert_at};
 ghost use Rattle.sd_record.specs.Records.{ThreadRecord};
 ghost use Rattle.sd_store.specs.Bodies.{changed};
-ghost use Rattle.sd_homes.specs.declared.list_id.ListId.TheVariants.{Runs};
+ghost use Rattle.sd_homes.specs.declared.list_id.ListId.TheVariants.{Naps, Queues, Runs};
 ghost use Rattle.sd_homes.specs.Bodies.{CanChangeThread};
 ghost use Rattle.sd_homes.specs.Families.{IsWhole, has, home_id, list_in, putting, same_home, taking, with_list};
-ghost use Rattle.sd_homes.specs.Homes.{with_body_of};
+ghost use Rattle.sd_homes.specs.Homes.{queued_as, running_on, with_body_of};
 ghost use Rattle.sd_homes.specs.Kinds.{IsListed};
 
 use crate::ListId;
@@ -21,7 +21,7 @@ use crate::traveller::Traveller;
 use sd_boxq::Boxed;
 use sd_record::Record;
 use sd_store::BodyChange;
-use sd_types::{CpuId, HomeId, ThreadId, Work, home_of_chan, home_of_lock};
+use sd_types::{ClassState, CpuId, HomeId, ThreadId, Work, home_of_chan, home_of_lock};
 
 /// A home, behind a box: it moves by its address.
 #[derive(Drop)]
@@ -179,6 +179,17 @@ impl Home {
         }
     }
 
+    /// Whether the thread is known to nap on this processor, without a search. False may also be told of one that naps.
+    #[inline(always)]
+    pub fn naps(&self, t: ThreadId, c: CpuId) -> bool
+        ensures { result ≡ true → is_some (find_id id_of t.0 (list_in self.now (Naps c))) ≡ true }
+    {
+        match self {
+            Home::Cpu(h) => h.get().naps(t),
+            _ => false,
+        }
+    }
+
     /// The body of the thread that runs here changes where it stands, if the thread has this number, where it can be changed so. Tells
     /// whether it has.
     #[inline(always)]
@@ -189,6 +200,33 @@ impl Home {
     {
         match self {
             Home::Cpu(h) => h.get_mut().change_running(work, t, change),
+            _ => false,
+        }
+    }
+
+    /// The thread, if it is on the queue of this processor, runs here. Tells whether it is.
+    #[inline(always)]
+    pub fn run_queued(&mut self, t: ThreadId, c: CpuId) -> bool
+        ensures queued { result ≡ is_some (find_id id_of t.0 (list_in self.old (Queues c))) }
+        ensures runs { MatchOption (find_id id_of t.0 (list_in self.old (Queues c))) (self.new ≡ self.old)
+            (λ r. self.new ≡ putting (running_on c r) (Runs c) (taking t.0 (Queues c) self.old)) }
+    {
+        match self {
+            Home::Cpu(h) => h.get_mut().run_queued(t, c),
+            _ => false,
+        }
+    }
+
+    /// The thread, if it is on the queue of this processor, has another class state and key, and goes to its place by them. Tells whether it
+    /// is.
+    #[inline(always)]
+    pub fn requeue(&mut self, t: ThreadId, c: CpuId, class: ClassState, key: i64) -> bool
+        ensures queued { result ≡ is_some (find_id id_of t.0 (list_in self.old (Queues c))) }
+        ensures moved { MatchOption (find_id id_of t.0 (list_in self.old (Queues c))) (self.new ≡ self.old)
+            (λ r. self.new ≡ putting (queued_as class key r) (Queues c) (taking t.0 (Queues c) self.old)) }
+    {
+        match self {
+            Home::Cpu(h) => h.get_mut().requeue(t, class, key),
             _ => false,
         }
     }

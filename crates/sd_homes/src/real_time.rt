@@ -145,15 +145,6 @@ impl RealTimeHome {
     pub fn find_queued(&self, t: ThreadId) -> Option<&Record>
         ensures { option_copied result ≡ find_id id_of t.0 self.now.queue }
     {
-        match self.queue.threads().best() {
-            None => None,
-            Some(best) => {
-                if best.kept.id.0 == t.0 {
-                    Some(best)
-                } else {
-                    self.queue.find(u32::from(t.0))
-                }
-            }
-        }
+        self.queue.find(u32::from(t.0))
     }
 }

@@ -11,6 +11,7 @@ ghost use Rattle.sd_homes.specs.Homes.{with_body_of, with_key};
 
 use crate::bodies;
 use crate::places::record_key;
+use sd_basics::known;
 use sd_boxq::Node;
 use sd_record::Record;
 use sd_state::Place;
@@ -45,7 +46,9 @@ pub(crate) fn equipped(node: Node<Record>, rack: &mut Rack<Record>) -> Traveller
     ensures thread { result ≡ node }
     ensures rack { rack.old ≡ rack.new + 1 }
 {
-    match rack.take() {
+    let spare = rack.take();
+    known(spare.is_some());
+    match spare {
         None => unreachable!(),
         Some(own) => Traveller::of_parts(node, own),
     }
