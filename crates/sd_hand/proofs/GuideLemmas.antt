@@ -1,6 +1,5 @@
 -- Homes of different numbers: a home that was guessed is the one, and one that changes stays apart from the others.
-use Rattle.std.proofs.Common.{◌≡◌, ℕ, zero, suc, ◌<◌, Bool, true, false, is_some, inl, inr, List, [], ◌∷◌, length, get_or, set, slice_get, Option, Some, None, refl, sym, ap, ◌∙◌, subst, arith, Bor}
-use Rattle.std.specs.Option.{option_copied}
+use Rattle.std.proofs.Common.{◌≡◌, ℕ, zero, suc, ◌<◌, Bool, true, false, is_some, inl, inr, List, [], ◌∷◌, length, get_or, set, slice_get, Option, Some, None, refl, sym, ap, ◌∙◌, subst, arith}
 use Rattle.std.specs.Prelude.{slice_set}
 use Rattle.std.proofs.lemmas.List.{set-get_or}
 use Rattle.std.proofs.lemmas.Option.{slice_get-get_or}
@@ -135,11 +134,6 @@ apart_set (Some z ∷ hs) (suc i) h g d a e keeps = (none_changed (home_id z) hs
 
 pub apart_changed : (hs : List (Option Home)) (i : ℕ) (h g : Home) (m : Option Home) → AreApart hs → m ≡ get_or hs i m → m ≡ Some h → home_id g ≡ home_id h → AreApart (slice_set hs i (Some g))
 apart_changed hs i h g m a e is keeps = apart_set hs i h g m a (sym e ∙ is) keeps
-
--- what was found is there
-pub found_some : {A : Type 0} (o : Option (Bor A)) → is_some (option_copied o) ≡ is_some o
-found_some None = refl
-found_some (Some x) = refl
 
 -- ---- what keeps the number of a home
 pub opened_keeps : (c : CpuId) (h : Home) → home_id (opened c h) ≡ home_id h

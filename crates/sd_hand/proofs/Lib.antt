@@ -18,3 +18,4 @@ pub mod StandLemmas
 pub mod StepLemmas
 pub mod TellLemmas
 pub mod WalkLemmas
+pub mod WithinLemmas

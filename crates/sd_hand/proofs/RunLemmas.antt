@@ -18,7 +18,7 @@ use Rattle.sd_hand.proofs.HasLemmas.{back_has, taken_id, went_apart, went_held}
 use Rattle.sd_hand.proofs.HomeLemmas.{keeps-with_list}
 use Rattle.sd_hand.proofs.SlotLemmas.{KeepsId, held_id}
 
-edit_twice : (k : HomeId) (f g : Home → Home) → KeepsId g → (hs : List (Option Home)) → edit k (λ h. f (g h)) hs ≡ edit k f (edit k g hs)
+pub edit_twice : (k : HomeId) (f g : Home → Home) → KeepsId g → (hs : List (Option Home)) → edit k (λ h. f (g h)) hs ≡ edit k f (edit k g hs)
 edit_twice k f g keeps [] = refl
 edit_twice k f g keeps (None ∷ hs) = ap (λ xs. None ∷ xs) (edit_twice k f g keeps hs)
 edit_twice k f g keeps (Some h ∷ hs) = by (same_home k (home_id h)) refl (edit_twice k f g keeps hs)
@@ -54,6 +54,13 @@ runs_changed x hs t c i h g m P shown slot e is made =
     by (Some r) (q, came, same, can) =
         (q, slot_changed x hs (id.Cpu c) i h g m (λ z. putting q (Runs c) (taking t (Runs c) z)) shown slot e is came ∙ edit_twice (id.Cpu c) (putting q (Runs c)) (taking t (Runs c)) (taking_keeps t c) x.slots, same, can)
 
+-- the home of a processor is whole
+pub whole_cpu : (c : CpuId) (h : Home) → id.Cpu c ≡ home_id h → IsWhole h
+whole_cpu c (home.Cpu h) e = tt
+whole_cpu c (home.RealTime h) e = absurd cc
+whole_cpu c (home.Chain h) e = absurd cc
+whole_cpu c (home.Sleepers h) e = absurd cc
+
 -- ---- what the change makes of the homes
 module _ (t : ℕ) (c : CpuId) (P : ThreadRecord → ThreadRecord → Type 0) (hs new : List (Option Home)) where
   abbrev pub Made : Option ThreadRecord → Type 0
@@ -80,12 +87,6 @@ module _ (t : ℕ) (c : CpuId) (P : ThreadRecord → ThreadRecord → Type 0) (h
       by None same a = subst AreApart (sym same) a
       by (Some r) (q, made, same, can) a = subst AreApart (sym made) (went_apart t (Runs c) (Runs c) q hs a)
 
-  whole_cpu : (h : Home) → id.Cpu c ≡ home_id h → IsWhole h
-  whole_cpu (home.Cpu h) e = tt
-  whole_cpu (home.RealTime h) e = absurd cc
-  whole_cpu (home.Chain h) e = absurd cc
-  whole_cpu (home.Sleepers h) e = absurd cc
-
   pub run_has : (u : ℕ) → RunsChanged t c P hs new → has_thread u new ≡ has_thread u hs
   run_has u = by (taken_from t (Runs c) (held (id.Cpu c) hs)) refl
     where
@@ -94,7 +95,7 @@ module _ (t : ℕ) (c : CpuId) (P : ThreadRecord → ThreadRecord → Type 0) (h
       by (Some r) e (q, made, same, can) =
           ap (has_thread u) made
           ∙ back_has u t (Runs c) r q hs e (ap (λ i. i.0) same ∙ taken_id t (Runs c) (held (id.Cpu c) hs) r e)
-          (λ h f. whole_cpu h (held_id (id.Cpu c) h (edit (id.Cpu c) (taking t (Runs c)) hs) f))
+          (λ h f. whole_cpu c h (held_id (id.Cpu c) h (edit (id.Cpu c) (taking t (Runs c)) hs) f))
 
 -- a change that is known
 pub run_moved : (t : ℕ) (c : CpuId) (Can : ThreadRecord → Type 0) (f : ThreadRecord → ThreadRecord) (hs new : List (Option Home)) → RunsChanged t c (λ r q. Can r → q ≡ f r) hs new

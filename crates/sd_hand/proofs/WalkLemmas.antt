@@ -1,5 +1,5 @@
 -- Walks by lists and records are those by places.
-use Rattle.std.proofs.Common.{◌≡◌, Some, refl}
+use Rattle.std.proofs.Common.{◌≡◌, Option, Some, refl}
 use Rattle.std.specs.Prelude.{ℤ}
 use Rattle.sd_types.specs.declared.bodies.ThreadBody.{ThreadBody}
 use Rattle.sd_types.specs.declared.events.Duty.{Duty}
@@ -13,8 +13,12 @@ use Rattle.sd_state.specs.declared.states.State.{State}
 use Rattle.sd_state.specs.declared.states.ThreadState.{ThreadState}
 use Rattle.sd_machine.specs.Prioritising.{walk_from}
 use Rattle.sd_machine.specs.Walking.{next_walk}
+use Rattle.sd_homes.specs.declared.home.Home.{Home}
+use Rattle.sd_homes.specs.declared.list_id.ListId.{ListId}
+use Rattle.sd_homes.specs.declared.list_id.ListId.TheVariants.{Waits}
+use Rattle.sd_homes.specs.Families.{taken_from}
 use Rattle.sd_homes.specs.Standing.{list_at, record_of}
-use Rattle.sd_hand.specs.Walking.{given, next_walk_at, walk_at}
+use Rattle.sd_hand.specs.Walking.{given, next_walk_at, waiting_from, walk_at}
 
 begun_at : (s : State) (c : CpuId) (t : ThreadId) (last : CpuId) (b : ThreadBody) (place : Place)
     → given s c (walk_at t (list_at last place) (Some (record_of t.0 (record { body = b; place = place })))) ≡ walk_from s c t place
@@ -32,3 +36,9 @@ walk_next l seek key o last b place = refl
 pub next_by : (d : Duty) (o : ThreadId) (x : ThreadState) → next_walk_at d o (list_at x.body.last x.place) (Some (record_of o.0 x)) ≡ next_walk d o x.body.looped x.place
 next_by (Walk l seek key) o x = walk_next l seek key o x.body.last x.body x.place
 next_by d o x = refl
+
+-- a walk goes on only from an owner that waits
+pub next_waiting : (d : Duty) (o : ThreadId) (at : ListId) (home : Option Home) → next_walk_at d o at (waiting_from o.0 at home) ≡ next_walk_at d o at (taken_from o.0 at home)
+next_waiting (Walk l seek key) o (Waits m side) home = refl
+next_waiting (Walk l seek key) o at home = refl
+next_waiting d o at home = refl

@@ -6,6 +6,7 @@ pub mod Keys
 pub mod Later
 pub mod OneHome
 pub mod Orders
+pub mod Ranked
 pub mod Shown
 pub mod Steps
 pub mod Walking

@@ -1,6 +1,7 @@
 -- What becomes of a thread on its way from list to list.
 -- Source: this project's own; see `sd_machine`'s Changes.
-use Rattle.std.specs.Prelude.{◌≡◌, ℕ, List, Option, Some, is_some, MatchOption}
+use Rattle.std.specs.Prelude.{◌≡◌, ℕ, ℤ, List, Option, Some, is_some, MatchOption}
+use Rattle.sd_types.specs.declared.classes.ClassState.{ClassState}
 use Rattle.sd_types.specs.declared.numbers.CpuId.{CpuId}
 use Rattle.sd_types.specs.declared.numbers.HomeId.{HomeId}
 use Rattle.sd_types.specs.declared.numbers.HomeId.TheVariants as id
@@ -8,7 +9,7 @@ use Rattle.sd_types.specs.declared.numbers.ThreadId.{ThreadId}
 use Rattle.sd_types.specs.declared.events.Put.{Put}
 use Rattle.sd_types.specs.declared.events.Put.TheVariants.{Cpu, RealTime}
 use Rattle.sd_types.specs.declared.works.Work.{Work}
-use Rattle.sd_state.specs.declared.states.Place.TheVariants.{Running}
+use Rattle.sd_state.specs.declared.states.Place.TheVariants.{Queued, Running}
 use Rattle.sd_machine.specs.Bodies.{arrived, departed, with_class}
 use Rattle.sd_state.specs.States.{set_of}
 use Rattle.sd_store.specs.declared.changes.BodyChange.{BodyChange}
@@ -76,3 +77,16 @@ abbrev pub RunsChanged : ℕ → CpuId → (ThreadRecord → ThreadRecord → Ty
 RunsChanged t c P hs new =
     MatchOption (taken_from t (Runs c) (held (id.Cpu c) hs)) (new ≡ hs)
     (λ r. (q : ThreadRecord) × (new ≡ edit (id.Cpu c) (putting q (Runs c)) (edit (id.Cpu c) (taking t (Runs c)) hs)) × (q.id ≡ r.id) × P r q)
+
+-- thread t, where it stands in one list, has gone from there to another list, and become such a one on the way
+abbrev pub GoesWithin : ℕ → ListId → ListId → (ThreadRecord → ThreadRecord) → List (Option Home) → List (Option Home) → Type 0
+GoesWithin t from to f hs new =
+    MatchOption (taken_from t from (held (home_at from) hs)) (new ≡ hs)
+    (λ r. new ≡ edit (home_at to) (putting (f r) to) (edit (home_at from) (taking t from) hs))
+
+-- by this step the thread goes from the queue of a processor to run there, or back to that queue with another class state and key
+abbrev pub RunsFromQueue : CpuId → ListId → Step → ListId → Type 0
+RunsFromQueue c from step to = (from ≡ Queues c) × (step ≡ Arrive c) × (to ≡ Runs c)
+
+abbrev pub GoesBack : CpuId → ClassState → ℤ → ListId → Step → ListId → Type 0
+GoesBack c class key from step to = (from ≡ Queues c) × (step ≡ MoveAs class (Queued c key)) × (to ≡ Queues c)

@@ -1,6 +1,6 @@
 -- The duties of a walk, by the list and the record of a thread.
 -- Source: this project's own; see `sd_machine`'s Walking and Prioritising.
-use Rattle.std.specs.Prelude.{◌&&◌, ◌||◌, ◌==◌, int_lt, Option, Some, None, if◌then◌else◌}
+use Rattle.std.specs.Prelude.{ℕ, ◌&&◌, ◌||◌, ◌==◌, int_lt, Option, Some, None, if◌then◌else◌}
 use Rattle.std.specs.Ordering.{int_eq}
 use Rattle.sd_types.specs.declared.events.Duty.{Duty}
 use Rattle.sd_types.specs.declared.events.Duty.TheVariants.{Nothing, Walk}
@@ -11,6 +11,13 @@ use Rattle.sd_machine.specs.Changes.{set_duty}
 use Rattle.sd_record.specs.Records.{ThreadRecord}
 use Rattle.sd_homes.specs.declared.list_id.ListId.{ListId}
 use Rattle.sd_homes.specs.declared.list_id.ListId.TheVariants.{Waits}
+use Rattle.sd_homes.specs.declared.home.Home.{Home}
+use Rattle.sd_homes.specs.Families.{taken_from}
+
+-- the thread of a home, if the list is one of those that wait for a lock
+abbrev pub waiting_from : ℕ → ListId → Option Home → Option ThreadRecord
+waiting_from t (Waits l side) home = taken_from t (Waits l side) home
+waiting_from t _ home = None
 
 -- the walk that begins where the thread waits
 abbrev pub walk_at : ThreadId → ListId → Option ThreadRecord → Option Duty

@@ -16,6 +16,7 @@ ghost use Rattle.sd_homes.specs.Families.{list_in, lock_in, open_in, tokens_in, 
 ghost use Rattle.sd_hand.specs.Hands.{Asks, AsksTwo};
 
 use crate::hand::Hand;
+use sd_basics::known;
 use sd_homes::{ListId, home_at, is_over};
 use sd_record::Record;
 use sd_state::LockState;
@@ -171,10 +172,14 @@ impl Hand {
     {
         match self.home(HomeId::Cpu(c)) {
             Err(q) => Err(q),
-            Ok(home) => match home.view() {
-                None => unreachable!(),
-                Some(view) => Ok(view),
-            },
+            Ok(home) => {
+                let view = home.view();
+                known(view.is_some());
+                match view {
+                    None => unreachable!(),
+                    Some(view) => Ok(view),
+                }
+            }
         }
     }
 
@@ -217,6 +222,17 @@ impl Hand {
     pub(crate) fn better(&self, c: CpuId, p: SetId) -> Result<Option<ThreadId>, Part>
         ensures { AsksTwo (Cpu c) (RealTime p) self.now.slots result (option_map number) (λ h g. option_map id_of (better (slice_get (list_in h (Queues c)) 0) (slice_get (list_in g (Urgent p)) 0))) }
     {
+        match self.better_record(c, p) {
+            Err(q) => Err(q),
+            Ok(found) => Ok(number_of(found)),
+        }
+    }
+
+    /// The record of that thread, where it stands.
+    #[inline(always)]
+    pub(crate) fn better_record(&self, c: CpuId, p: SetId) -> Result<Option<&Record>, Part>
+        ensures { AsksTwo (Cpu c) (RealTime p) self.now.slots result (λ r. option_copied r) (λ h g. better (slice_get (list_in h (Queues c)) 0) (slice_get (list_in g (Urgent p)) 0)) }
+    {
         match self.home(HomeId::Cpu(c)) {
             Err(q) => Err(q),
             Ok(home) => match self.home(HomeId::RealTime(p)) {
@@ -232,18 +248,18 @@ impl Hand {
 
 /// The better of two that are the best of a processor and of the real-time queue: the latter, where priorities are equal.
 #[inline(always)]
-fn better(own: Option<&Record>, urgent: Option<&Record>) -> Option<ThreadId>
-    ensures { option_map number result ≡ option_map id_of (better (option_copied own.entry) (option_copied urgent.entry)) }
+fn better<'a>(own: Option<&'a Record>, urgent: Option<&'a Record>) -> Option<&'a Record>
+    ensures { option_copied result ≡ better (option_copied own.entry) (option_copied urgent.entry) }
 {
     match (own, urgent) {
         (None, None) => None,
-        (Some(r), None) => Some(r.kept.id),
-        (None, Some(q)) => Some(q.kept.id),
+        (Some(r), None) => Some(r),
+        (None, Some(q)) => Some(q),
         (Some(r), Some(q)) => {
             if q.effective() < r.effective() {
-                Some(r.kept.id)
+                Some(r)
             } else {
-                Some(q.kept.id)
+                Some(q)
             }
         }
     }

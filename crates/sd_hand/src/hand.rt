@@ -5,23 +5,27 @@ ghost use Rattle.std.specs.Option.{option_copied};
 ghost use Rattle.sd_types.specs.declared.numbers.HomeId.TheVariants.{Chain, Cpu, RealTime, Sleepers};
 ghost use Rattle.sd_types.specs.Limits.{most_processors};
 ghost use Rattle.sd_homes.specs.Standing.{home_at};
-ghost use Rattle.sd_homes.specs.declared.list_id.ListId.TheVariants.{Runs};
+ghost use Rattle.sd_homes.specs.declared.list_id.ListId.TheVariants.{Naps, Queues, Runs};
 ghost use Rattle.sd_homes.specs.declared.home.Home.{Home as HomeOf};
 ghost use Rattle.sd_homes.specs.Families.{IsWhole, counting, home_id, locking, open_in, opened, putting, shut, taken_from, taking, viewing};
 ghost use Rattle.sd_store.specs.Bodies.{changed};
 ghost use Rattle.sd_homes.specs.Bodies.{CanChangeThread};
-ghost use Rattle.sd_homes.specs.Homes.{with_body_of};
-ghost use Rattle.sd_hand.specs.Steps.{RunsChanged};
+ghost use Rattle.sd_homes.specs.Homes.{queued_as, running_on, with_body_of};
+ghost use Rattle.sd_hand.specs.Steps.{GoesWithin, RunsChanged};
+ghost use Rattle.sd_hand.specs.Walking.{waiting_from};
 ghost use Rattle.sd_hand.specs.Hands.{AreApart, AreSlots, AreTaken, Asks, HasNoRoom, HoldsMore, IsHeld, IsNoSlot, IsSlot, IsThreadHeld, Seeks, StandsIn, StandsInSlot, edit, has_thread, held, how_many_held, is_at, slot_has};
 
 use crate::guide::Guide;
 use crate::order::Order;
 use crate::ordering::order_of;
+use sd_basics::known;
 use sd_homes::{Home, IsFull, ListId, Traveller, home_at, same_home};
 use sd_record::Record;
 use sd_state::LockState;
 use sd_store::{BodyChange, CpuView, Part};
-use sd_types::{ChanId, CpuId, HomeId, LockId, SetId, ThreadId, Work, home_of_chan, home_of_lock};
+use sd_types::{
+    ChanId, ClassState, CpuId, HomeId, LockId, SetId, ThreadId, Work, home_of_chan, home_of_lock,
+};
 use std::alloc::{AllocError, Global};
 use std::marker::Model;
 
@@ -302,15 +306,16 @@ impl Hand {
     {
         match self.slot_of(k) {
             None => Err(Part::Home(k)),
-            Some(i) => match &self.slots[i] {
-                None => unreachable!(),
-                Some(home) => {
-                    if !is_of_kind(k, home) {
-                        unreachable!()
+            Some(i) => {
+                known(self.slots[i].is_some());
+                match &self.slots[i] {
+                    None => unreachable!(),
+                    Some(home) => {
+                        known(is_of_kind(k, home));
+                        Ok(home)
                     }
-                    Ok(home)
                 }
-            },
+            }
         }
     }
 
@@ -337,7 +342,7 @@ impl Hand {
         ensures { Seeks t self.now.slots result (StandsIn t.0 self.now.slots) }
     {
         if let Some(at) = self.guide.list(t) {
-            if self.find_at(t, at).is_some() {
+            if self.is_at(t, at) {
                 return Ok(*at);
             }
         }
@@ -381,17 +386,6 @@ impl Hand {
         self.search(t)
     }
 
-    /// The same, where the thread may well run on processor `c`.
-    #[inline(always)]
-    pub(crate) fn record_from(&self, c: CpuId, t: ThreadId) -> Result<&Record, Part>
-        ensures { Seeks t self.now.slots result (λ r. IsThreadHeld t.0 self.now.slots r.now) }
-    {
-        if let Some(record) = self.find(t, ListId::Runs(c)) {
-            return Ok(record);
-        }
-        self.record(t)
-    }
-
     /// The same, by a search of all homes.
     #[inline(never)]
     fn search(&self, t: ThreadId) -> Result<&Record, Part>
@@ -423,6 +417,45 @@ impl Hand {
         match at {
             ListId::Runs(c) => self.find_in(t, HomeId::Cpu(*c), ListId::Runs(*c)),
             _ => self.find_listed(t, *at),
+        }
+    }
+
+    /// Whether the thread stands there. One that naps is mostly known by its bit, and is not sought among the others.
+    #[inline(always)]
+    fn is_at(&self, t: ThreadId, at: &ListId) -> bool
+        ensures { result ≡ is_some (taken_from t.0 at.now (held (home_at at.now) self.now.slots)) }
+    {
+        match at {
+            ListId::Naps(c) => {
+                if self.naps_on(t, *c) {
+                    true
+                } else {
+                    self.find_listed(t, *at).is_some()
+                }
+            }
+            _ => self.find_at(t, at).is_some(),
+        }
+    }
+
+    /// Whether the thread is known to nap on this processor, without a search. False may also be told of one that naps there.
+    #[inline(always)]
+    fn naps_on(&self, t: ThreadId, c: CpuId) -> bool
+        ensures { result ≡ true → is_some (taken_from t.0 (Naps c) (held (Cpu c) self.now.slots)) ≡ true }
+    {
+        match self.home(HomeId::Cpu(c)) {
+            Err(_) => false,
+            Ok(home) => home.naps(t, c),
+        }
+    }
+
+    /// The thread, if the list is one of those that wait for a lock. One that stands elsewhere is not sought.
+    #[inline(always)]
+    pub(crate) fn waiting(&self, t: ThreadId, at: ListId) -> Option<&Record>
+        ensures { option_copied result ≡ waiting_from t.0 at (held (home_at at) self.now.slots) }
+    {
+        match at {
+            ListId::Waits(_, _) => self.find(t, at),
+            _ => None,
         }
     }
 
@@ -459,6 +492,7 @@ impl Hand {
         ensures rest { self.new.slots ≡ edit (home_at from) (taking t.0 from) self.old.slots }
     {
         if let Some(i) = self.slot_of(home_at(from)) {
+            known(self.slots[i].is_some());
             match &mut self.slots[i] {
                 None => unreachable!(),
                 Some(home) => return home.take(t, from),
@@ -476,6 +510,7 @@ impl Hand {
     {
         self.guide.note(t.id(), at);
         if let Some(i) = self.slot_of(home_at(at)) {
+            known(self.slots[i].is_some());
             match &mut self.slots[i] {
                 None => unreachable!(),
                 Some(home) => {
@@ -500,13 +535,53 @@ impl Hand {
         ensures changed { RunsChanged t.0 c (λ r q. CanChangeThread work.now t.0 change r.body → q ≡ with_body_of (changed work.now t.0 change r.body) r) self.old.slots self.new.slots }
     {
         if let Some(i) = self.slot_of(HomeId::Cpu(c)) {
+            known(self.slots[i].is_some());
             match &mut self.slots[i] {
                 None => unreachable!(),
                 Some(home) => {
-                    if !is_of_kind(HomeId::Cpu(c), home) {
-                        unreachable!()
-                    }
+                    known(is_of_kind(HomeId::Cpu(c), home));
                     return home.change_running(work, t, c, change);
+                }
+            }
+        }
+        false
+    }
+
+    /// Thread `t`, if it is on the queue of processor `c`, runs there: it goes within its home. Tells whether it is; where it is not, all
+    /// stays as it was.
+    #[inline(always)]
+    pub(crate) fn run_queued(&mut self, t: ThreadId, c: CpuId) -> bool
+        ensures queued { result ≡ is_some (taken_from t.0 (Queues c) (held (Cpu c) self.old.slots)) }
+        ensures went { GoesWithin t.0 (Queues c) (Runs c) (running_on c) self.old.slots self.new.slots }
+    {
+        self.guide.note(t, ListId::Runs(c));
+        if let Some(i) = self.slot_of(HomeId::Cpu(c)) {
+            known(self.slots[i].is_some());
+            match &mut self.slots[i] {
+                None => unreachable!(),
+                Some(home) => {
+                    known(is_of_kind(HomeId::Cpu(c), home));
+                    return home.run_queued(t, c);
+                }
+            }
+        }
+        false
+    }
+
+    /// Thread `t`, if it is on the queue of processor `c`, has another class state and key, and goes to its place there by them. Tells whether
+    /// it is; where it is not, all stays as it was.
+    #[inline(always)]
+    pub(crate) fn requeue(&mut self, t: ThreadId, c: CpuId, class: ClassState, key: i64) -> bool
+        ensures queued { result ≡ is_some (taken_from t.0 (Queues c) (held (Cpu c) self.old.slots)) }
+        ensures went { GoesWithin t.0 (Queues c) (Queues c) (queued_as class key) self.old.slots self.new.slots }
+    {
+        if let Some(i) = self.slot_of(HomeId::Cpu(c)) {
+            known(self.slots[i].is_some());
+            match &mut self.slots[i] {
+                None => unreachable!(),
+                Some(home) => {
+                    known(is_of_kind(HomeId::Cpu(c), home));
+                    return home.requeue(t, c, class, key);
                 }
             }
         }
@@ -519,12 +594,11 @@ impl Hand {
         ensures { self.new.slots ≡ edit (Cpu c) (viewing view) self.old.slots }
     {
         if let Some(i) = self.slot_of(HomeId::Cpu(c)) {
+            known(self.slots[i].is_some());
             match &mut self.slots[i] {
                 None => unreachable!(),
                 Some(home) => {
-                    if !is_of_kind(HomeId::Cpu(c), home) {
-                        unreachable!()
-                    }
+                    known(is_of_kind(HomeId::Cpu(c), home));
                     home.set_view(view);
                 }
             }
@@ -536,12 +610,11 @@ impl Hand {
         ensures { self.new.slots ≡ edit (Chain (l.0 % 64)) (locking l.0 x) self.old.slots }
     {
         if let Some(i) = self.slot_of(home_of_lock(l)) {
+            known(self.slots[i].is_some());
             match &mut self.slots[i] {
                 None => unreachable!(),
                 Some(home) => {
-                    if !is_of_kind(home_of_lock(l), home) {
-                        unreachable!()
-                    }
+                    known(is_of_kind(home_of_lock(l), home));
                     home.set_lock(l, x);
                 }
             }

@@ -1,13 +1,14 @@
 //! Looking at a state by a hand.
 
-ghost use Rattle.std.specs.Prelude.{◌≡◌, [], ◌∷◌, false, option_copied};
-ghost use Rattle.sd_machine.specs.Threads.{best_unbound, priority_of, runner};
+ghost use Rattle.std.specs.Prelude.{◌≡◌, [], ◌∷◌, false, option_copied, option_map};
+ghost use Rattle.sd_machine.specs.Threads.{best_ready, best_unbound, priority_of, runner};
 ghost use Rattle.sd_machine.specs.Walking.{is_back};
 ghost use Rattle.sd_state.specs.declared.states.Place.{Place};
-ghost use Rattle.sd_store.specs.Parts.{cpu_part};
+ghost use Rattle.sd_store.specs.Parts.{cpu_part, ready_parts};
 ghost use Rattle.sd_store.specs.Words.{Lacks, Tells};
 ghost use Rattle.sd_hand.specs.Acting.{IsShown, has_part, the_part};
 ghost use Rattle.sd_hand.specs.Keys.{is_back_at, key_or_zero, spot_at};
+ghost use Rattle.sd_hand.specs.Ranked.{ranked_in, with_rank};
 
 use crate::acting::Acting;
 use sd_homes::ListId;
@@ -54,6 +55,17 @@ fn is_back_at(duty: Duty, o: ThreadId, at: ListId, found: Option<&Record>) -> bo
     }
 }
 
+/// The number of a thread that was found, and its effective priority.
+#[inline(always)]
+fn ranked(found: Option<&Record>) -> Option<(ThreadId, u8)>
+    ensures { result ≡ option_map with_rank (option_copied found.entry) }
+{
+    match found {
+        None => None,
+        Some(thread) => Some((thread.kept.id, thread.effective())),
+    }
+}
+
 impl Acting {
     /// The effective priority of the thread that runs on processor `c`, read where the thread stands.
     #[inline(always)]
@@ -76,6 +88,23 @@ impl Acting {
         match self.hand.unbound_priority(c) {
             Err(q) => Err(q),
             Ok(p) => Ok(p),
+        }
+    }
+
+    /// The best on the queue of processor `c` or on the real-time queue of its partition, and its effective priority, both read where the
+    /// thread stands.
+    #[inline(always)]
+    pub fn best_ready_ranked(&self, c: CpuId) -> Result<Option<(ThreadId, u8)>, Part>
+        ensures value { Tells (IsShown self.now) result (λ s. option_map (ranked_in s) (best_ready s c.0)) }
+        ensures lack { Lacks the_part (IsShown self.now) (has_part self.now) result (λ s. ready_parts s c) }
+    {
+        let set = match self.hand.view(c) {
+            Err(q) => return Err(q),
+            Ok(view) => view.set,
+        };
+        match self.hand.better_record(c, set) {
+            Err(q) => Err(q),
+            Ok(found) => Ok(ranked(found)),
         }
     }
 }
@@ -218,7 +247,7 @@ impl Look for Acting {
 
     #[inline(always)]
     fn body(&self, t: ThreadId) -> Result<Option<&ThreadBody>, Part> {
-        match self.hand.record_from(self.actor.cpu, t) {
+        match self.hand.record(t) {
             Err(q) => Err(q),
             Ok(thread) => Ok(Some(&thread.kept.body)),
         }

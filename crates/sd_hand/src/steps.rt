@@ -1,6 +1,6 @@
 //! How a thread goes from list to list, and changes on the way or where it stands.
 
-ghost use Rattle.std.specs.Prelude.{◌≡◌, ℕ, Some, false, is_some, true, IfErr};
+ghost use Rattle.std.specs.Prelude.{◌≡◌, ℕ, Some, false, is_some, true, IfErr, IfSome};
 ghost use Rattle.sd_types.specs.declared.numbers.HomeId.{HomeId as HomeIdOf};
 ghost use Rattle.sd_record.specs.Records.{ThreadRecord};
 ghost use Rattle.sd_store.specs.Bodies.{changed};
@@ -10,7 +10,7 @@ ghost use Rattle.sd_homes.specs.Families.{putting, taken_from, taking};
 ghost use Rattle.sd_homes.specs.Homes.{with_body_of};
 ghost use Rattle.sd_hand.specs.Hands.{AreApart, HasRoom, IsHeld, Seeks, edit, has_thread, held};
 ghost use Rattle.sd_hand.specs.Shown.{IsListThere};
-ghost use Rattle.sd_hand.specs.Steps.{HasChanged, HasGone, IsChanged, list_by, list_put, stepped};
+ghost use Rattle.sd_hand.specs.Steps.{HasChanged, HasGone, IsChanged, GoesBack, RunsFromQueue, list_by, list_put, stepped};
 
 use crate::hand::Hand;
 use sd_homes::{ListId, Traveller};
@@ -49,6 +49,40 @@ fn take_step(traveller: &mut Traveller, step: &Step)
     }
 }
 
+/// The processor from whose queue a thread goes to run there, where that is its way.
+#[inline(always)]
+fn run_from_queue(from: ListId, step: &Step, to: ListId) -> Option<CpuId>
+    ensures { IfSome result (λ c. RunsFromQueue c from step.now to) }
+{
+    match (from, step, to) {
+        (ListId::Queues(c), Step::Arrive(d), ListId::Runs(e)) => {
+            if c.0 == d.0 && c.0 == e.0 {
+                Some(c)
+            } else {
+                None
+            }
+        }
+        _ => None,
+    }
+}
+
+/// The processor to whose queue a thread goes back from there with another class state and key, where that is its way.
+#[inline(always)]
+fn back_to_queue(from: ListId, step: &Step, to: ListId) -> Option<(CpuId, ClassState, i64)>
+    ensures { IfSome result (λ r. GoesBack r.0 r.1 r.2 from step.now to) }
+{
+    match (from, step, to) {
+        (ListId::Queues(c), Step::MoveAs(class, Place::Queued(d, key)), ListId::Queues(e)) => {
+            if c.0 == d.0 && c.0 == e.0 {
+                Some((c, *class, *key))
+            } else {
+                None
+            }
+        }
+        _ => None,
+    }
+}
+
 impl Hand {
     /// Thread `t`, if it stands there, goes to another list, and changes on the way. Tells whether it stands there; where it does not, all
     /// stays as it was.
@@ -71,6 +105,27 @@ impl Hand {
                 true
             }
         }
+    }
+
+    /// The same, where a thread that stays in its home goes within it.
+    #[inline(always)]
+    fn relocate_within(&mut self, t: ThreadId, from: ListId, step: &Step, to: ListId) -> bool
+        ensures stood { result ≡ is_some (taken_from t.0 from (held (home_at from) self.old.slots)) }
+        ensures untouched { result ≡ false → self.new.slots ≡ self.old.slots }
+        ensures moved { (r : ThreadRecord) → Some r ≡ taken_from t.0 from (held (home_at from) self.old.slots)
+            → self.new.slots ≡ edit (home_at to) (putting (stepped step.now r) to) (edit (home_at from) (taking t.0 from) self.old.slots) }
+        ensures held { (k : HomeIdOf) → is_some (held k self.new.slots) ≡ is_some (held k self.old.slots) }
+        ensures apart { AreApart self.old.slots → AreApart self.new.slots }
+        ensures has { IsHeld (home_at to) self.old.slots → IsListThere to → HasRoom t.0 from to self.old.slots
+            → (u : ℕ) → has_thread u self.new.slots ≡ has_thread u self.old.slots }
+    {
+        if let Some(c) = run_from_queue(from, step, to) {
+            return self.run_queued(t, c);
+        }
+        if let Some((c, class, key)) = back_to_queue(from, step, to) {
+            return self.requeue(t, c, class, key);
+        }
+        self.relocate(t, from, step, to)
     }
 
     /// The same from wherever the thread stands, which is told, by a search of all homes.
@@ -100,7 +155,7 @@ impl Hand {
         ensures kept { IfErr result (λ _. self.new.slots ≡ self.old.slots) }
     {
         if let Some(at) = self.guide_of(t) {
-            if self.relocate(t, at, step, to) {
+            if self.relocate_within(t, at, step, to) {
                 return Ok(at);
             }
         }

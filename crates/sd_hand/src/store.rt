@@ -40,11 +40,11 @@ impl Store for Acting {
         if c.0 != self.actor.cpu.0 {
             return Err(Part::Actor(c));
         }
-        let (at, owner) = match self.hand.found(o) {
+        let at = match self.hand.where_is(o) {
             Err(q) => return Err(q),
-            Ok(found) => found,
+            Ok(at) => at,
         };
-        let duty = next_walk_at(self.actor.duty, o, at, owner);
+        let duty = next_walk_at(self.actor.duty, o, at, self.hand.waiting(o, at));
         match self.give(c, duty) {
             Err(q) => Err(q),
             Ok(()) => Ok(()),

@@ -7,7 +7,6 @@ use Rattle.sd_homes.specs.Bodies.{CanChangeThread}
 use Rattle.sd_homes.specs.Families.{taken_from}
 use Rattle.sd_homes.specs.Homes.{with_body_of}
 use Rattle.sd_hand.proofs.GuideLemmas.{held_here}
-use Rattle.std.proofs.lemmas.Bool.{false≢true}
 use Rattle.sd_hand.proofs.OrderLemmas.{number_here, slots_changed}
 use Rattle.sd_hand.proofs.RunLemmas.{home_keeps, runs_changed}
 use Rattle.sd_hand.proofs.hand.Hand.change_running.Goals as goal
@@ -30,7 +29,7 @@ returns-in-Some-index_mut-clause-runs c =
     ∙ ap (λ o. is_some (taken_from c.args.t.0 (Runs c.args.c) o))
     (sym (held_here c.args.self.now c.self.inside.slots.items (Cpu c.args.c) c.in-Some.i c.in-Some-index_mut.home c.index_mut.result.now c.self.view_is c.in-Some.ensures.slot c.index_mut.ensures.value c.in-Some-index_mut.is))
 
-pub unreachable-requires-then-not-is_of_kind : goal.unreachable-requires-then-not-is_of_kind
-unreachable-requires-then-not-is_of_kind c =
+pub known-requires-in-Some-index_mut : goal.known-requires-in-Some-index_mut
+known-requires-in-Some-index_mut c =
     let number = number_here c.args.self.now c.self.inside.slots.items (Cpu c.args.c) c.in-Some.i c.in-Some-index_mut.home c.index_mut.result.now c.self.view_is c.in-Some.ensures.slot c.index_mut.ensures.value c.in-Some-index_mut.is in
-    false≢true (sym c.if-not-is_of_kind.true ∙ c.is_of_kind.ensures number)
+    c.is_of_kind.ensures number
