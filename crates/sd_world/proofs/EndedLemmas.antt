@@ -1,5 +1,5 @@
 -- Those who stand in the list of the ended threads of a processor have ended, and what is told of them is so.
-use Rattle.std.proofs.Common.{◌≡◌, ℕ, zero, suc, List, [], ◌∷◌, ◌⊎◌, inl, inr, Option, Some, None, refl, sym, ap, ◌∙◌, slice_get, slice_set, slice_index_or, subst, length, IfSome, ◌<◌}
+use Rattle.std.proofs.Common.{◌≡◌, ℕ, zero, suc, List, [], ◌∷◌, ◌++◌, ◌⊎◌, inl, inr, Option, Some, None, refl, sym, ap, ◌∙◌, slice_get, slice_set, slice_index_or, map, subst, length, IfSome, ◌<◌}
 use Rattle.std.proofs.lemmas.Option.{get_or_from_slice_get, slice_get-get_or}
 use Rattle.sd_types.specs.declared.numbers.CpuId.{CpuId}
 use Rattle.sd_types.specs.declared.numbers.HomeId.TheVariants as home
@@ -7,7 +7,6 @@ use Rattle.sd_record.specs.Records.{ThreadRecord}
 use Rattle.sd_state.specs.declared.states.Place.{Place}
 use Rattle.sd_state.specs.declared.states.Place.TheVariants.{Ended}
 use Rattle.sd_state.specs.declared.states.State.{State}
-use Rattle.sd_state.specs.declared.states.ThreadState.{ThreadState}
 use Rattle.sd_state.specs.States.{no_thread, thread_of}
 use Rattle.sd_homes.specs.declared.list_id.ListId.TheVariants.{Ends}
 use Rattle.sd_homes.specs.Standing.{id_of, list_at, look_of}
@@ -17,7 +16,7 @@ use Rattle.sd_homes.specs.declared.home.Home.{Home}
 use Rattle.sd_homes.specs.Families.{list_in}
 use Rattle.sd_hand.specs.Hands.{held}
 use Rattle.sd_hand.proofs.SlotLemmas.{held_id}
-use Rattle.sd_world.specs.Told.{AreTold, IsToldBy}
+use Rattle.sd_world.specs.Told.{AreTold, IsToldBy, has_ended}
 
 ended_place : (c last : CpuId) (place : Place) → Ends c ≡ list_at last place → place ≡ Ended
 ended_place c last Ended e = refl
@@ -46,7 +45,7 @@ module _ (hs : List (Option Home)) (s : State) (told : IsToldBy hs s) (c : CpuId
   ended_there = each (list_in h (Ends c)) (λ x there. there)
 
 -- what stands in a list of options once one has changed
-after : (xs : List (Option ThreadState)) (t u : ℕ) (o : Option ThreadState) (x : ThreadState) → slice_get (slice_set xs t o) u ≡ Some (Some x)
+after : (xs : List (Option ThreadRecord)) (t u : ℕ) (o : Option ThreadRecord) (x : ThreadRecord) → slice_get (slice_set xs t o) u ≡ Some (Some x)
     → ((u ≡ t) × (o ≡ Some x)) ⊎ (slice_get xs u ≡ Some (Some x))
 after [] t u o x e = absurd cc
 after (z ∷ xs) zero zero o x e = inl (refl, cc)
@@ -59,31 +58,48 @@ after (z ∷ xs) (suc t) (suc u) o x e = by (after xs t u o x e)
     by (inr there) = inr there
 
 -- one more is told
-pub told_more : (s : State) (xs : List (Option ThreadState)) (t : ℕ) (y : ThreadState) → y ≡ thread_of s t → AreTold s xs → AreTold s (slice_set xs t (Some y))
-told_more s xs t y is told u x e = by (after xs t u (Some y) x e)
+one_told : (s : State) (xs : List (Option ThreadRecord)) (t : ℕ) (o : Option ThreadRecord) (r : ThreadRecord) → o ≡ Some r → has_ended r ≡ thread_of s t → AreTold s xs
+    → AreTold s (slice_set xs t o)
+one_told s xs t o r at is told u x e = by (after xs t u o x e)
   where
-    by : ((u ≡ t) × (Some y ≡ Some x)) ⊎ (slice_get xs u ≡ Some (Some x)) → x ≡ thread_of s u
-    by (inl both) = let same : y ≡ x = let b = both.1 in cc in sym same ∙ is ∙ ap (thread_of s) (sym both.0)
+    by : ((u ≡ t) × (o ≡ Some x)) ⊎ (slice_get xs u ≡ Some (Some x)) → has_ended x ≡ thread_of s u
+    by (inl both) = let same : r ≡ x = let b = both.1 in cc in ap has_ended (sym same) ∙ is ∙ ap (thread_of s) (sym both.0)
     by (inr there) = told u x there
 
--- one less is told
-less : (s : State) (xs : List (Option ThreadState)) (t : ℕ) → AreTold s xs → AreTold s (slice_set xs t None)
-less s xs t told u x e = by (after xs t u None x e)
-  where
-    by : ((u ≡ t) × (None ≡ Some x)) ⊎ (slice_get xs u ≡ Some (Some x)) → x ≡ thread_of s u
-    by (inl both) = let no = both.1 in absurd cc
-    by (inr there) = told u x there
+-- the lists are of what is lent, and f tells what it is
+module _ {X : Type 0} (f : X → Option ThreadRecord) where
+  set_seen : (xs : List X) (t : ℕ) (x : X) → map f (slice_set xs t x) ≡ slice_set (map f xs) t (f x)
+  set_seen [] t x = refl
+  set_seen (y ∷ xs) zero x = refl
+  set_seen (y ∷ xs) (suc t) x = ap (λ zs. f y ∷ zs) (set_seen xs t x)
 
-pub told_less : (s : State) (xs : List (Option ThreadState)) (t : ℕ) (o : Option ThreadState) → o ≡ None → AreTold s xs → AreTold s (slice_set xs t o)
-told_less s xs t o none told = subst (λ p. AreTold s (slice_set xs t p)) (sym none) (less s xs t told)
+  pub told_more : (s : State) (xs : List X) (t : ℕ) (x : X) (r : ThreadRecord) → f x ≡ Some r → has_ended r ≡ thread_of s t → AreTold s (map f xs) → AreTold s (map f (slice_set xs t x))
+  told_more s xs t x r at is told = subst (AreTold s) (sym (set_seen xs t x)) (one_told s (map f xs) t (f x) r at is told)
 
--- what was told of one
-pub was_told : (xs : List (Option ThreadState)) (t : ℕ) (o m : Option ThreadState) → t < length xs → o ≡ m → m ≡ slice_index_or xs t m
-    → IfSome o (λ x. (s : State) → AreTold s xs → x ≡ thread_of s t)
-was_told xs t None m inside same is = tt
-was_told xs t (Some x) m inside same is = λ s told. told t x (slice_get-get_or xs t m inside ∙ ap Some (sym is ∙ sym same))
+  get_seen : (xs : List X) (t : ℕ) (x : X) → slice_get xs t ≡ Some x → slice_get (map f xs) t ≡ Some (f x)
+  get_seen [] t x e = absurd cc
+  get_seen (y ∷ xs) zero x e = let same : y ≡ x = cc in ap (λ z. Some (f z)) same
+  get_seen (y ∷ xs) (suc t) x e = get_seen xs t x e
 
-pub told_of : (xs : List (Option ThreadState)) (t : ℕ) (o : Option ThreadState) → IfSome o (λ x. (s : State) → AreTold s xs → x ≡ thread_of s t)
-    → (s : State) → AreTold s xs → IfSome o (λ x. x ≡ thread_of s t)
-told_of xs t None is s told = tt
-told_of xs t (Some x) is s told = is s told
+  still : (xs : List X) (x : X) → f x ≡ None → (u : ℕ) (r : ThreadRecord) → slice_get (map f (xs ++ x ∷ [])) u ≡ Some (Some r) → slice_get (map f xs) u ≡ Some (Some r)
+  still [] x none zero r e = absurd cc
+  still [] x none (suc u) r e = absurd cc
+  still (y ∷ xs) x none zero r e = e
+  still (y ∷ xs) x none (suc u) r e = still xs x none u r e
+
+  -- a place where nothing is told is one more
+  pub none_more : (xs : List X) (x : X) → f x ≡ None → (s : State) → AreTold s (map f xs) → AreTold s (map f (xs ++ x ∷ []))
+  none_more xs x none s told u r e = told u r (still xs x none u r e)
+
+  -- what was told of one
+  pub was_told : (xs : List X) (t : ℕ) (m : X) → t < length xs → m ≡ slice_index_or xs t m → IfSome (f m) (λ r. (s : State) → AreTold s (map f xs) → has_ended r ≡ thread_of s t)
+  was_told xs t m inside is = by (f m) refl
+    where
+      by : (o : Option ThreadRecord) → f m ≡ o → IfSome o (λ r. (s : State) → AreTold s (map f xs) → has_ended r ≡ thread_of s t)
+      by None e = tt
+      by (Some r) e = λ s told. told t r (get_seen xs t m (slice_get-get_or xs t m inside ∙ ap Some (sym is)) ∙ ap Some e)
+
+pub told_then : (o : Option ThreadRecord) (s : State) (xs : List (Option ThreadRecord)) (t : ℕ) → IfSome o (λ r. (s : State) → AreTold s xs → has_ended r ≡ thread_of s t)
+    → AreTold s xs → IfSome o (λ r. has_ended r ≡ thread_of s t)
+told_then None s xs t is told = tt
+told_then (Some r) s xs t is told = is s told

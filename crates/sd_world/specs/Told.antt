@@ -2,6 +2,8 @@
 -- Source: this project's own.
 use Rattle.std.specs.Prelude.{◌≡◌, ℕ, ◌<◌, ◌^◌, ℤ, pos, List, length, Option, Some, slice_get, ⊤}
 use Rattle.sd_types.specs.declared.works.Work.{Work}
+use Rattle.sd_record.specs.Records.{ThreadRecord}
+use Rattle.sd_state.specs.declared.states.Place.TheVariants.{Ended}
 use Rattle.sd_state.specs.declared.states.State.{State}
 use Rattle.sd_state.specs.declared.states.ThreadState.{ThreadState}
 use Rattle.sd_state.specs.States.{cpu_of, thread_of}
@@ -35,6 +37,10 @@ abbrev pub IsDue : ListId → ℤ → Type 0
 IsDue (Naps c) k = (due : ℕ) × (due < 2 ^ 32) × (k ≡ pos due)
 IsDue _ k = ⊤
 
--- each thread that is told already, where its number says, is the state's
-abbrev pub AreTold : State → List (Option ThreadState) → Type 0
-AreTold s xs = (t : ℕ) (x : ThreadState) → slice_get xs t ≡ Some (Some x) → x ≡ thread_of s t
+-- the thread of a record, as one that has ended
+abbrev pub has_ended : ThreadRecord → ThreadState
+has_ended r = record { body = r.body; place = Ended }
+
+-- each thread that is told already, where its number says, has ended, and is the state's
+abbrev pub AreTold : State → List (Option ThreadRecord) → Type 0
+AreTold s xs = (t : ℕ) (r : ThreadRecord) → slice_get xs t ≡ Some (Some r) → has_ended r ≡ thread_of s t

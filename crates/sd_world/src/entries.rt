@@ -4,6 +4,7 @@ ghost use Rattle.std.specs.Prelude.{◌≡◌, ◌<◌};
 ghost use Rattle.sd_world.specs.Entries.{CanEnter, Enters};
 ghost use Rattle.sd_world.specs.Worlds.{HasRoomFor};
 
+use sd_basics::known;
 use sd_hand::{Acting, Actor};
 use sd_log::EntryLog;
 use sd_step::after;
@@ -41,7 +42,10 @@ pub(crate) fn enter(
     let cpu = acting.actor.cpu;
     match after(work, acting, number, cpu, event) {
         Ok(()) => {}
-        Err(_) => unreachable!(),
+        Err(_) => {
+            known(false);
+            unreachable!()
+        }
     }
     actors[cpu.0 as usize] = acting.actor;
     entries.push_reserved(cpu, event, hints);

@@ -8,6 +8,7 @@ ghost use Rattle.sd_hand.specs.Acting.{IsShown, has_part};
 ghost use Rattle.sd_store.specs.Parts.{cpu_part};
 ghost use Rattle.sd_world.specs.Plain.{StandsInRun, thread_shown};
 
+use sd_basics::known;
 use sd_flat::hint_of;
 use sd_hand::Acting;
 use sd_types::{CpuId, Which};
@@ -23,11 +24,17 @@ fn priority(x: &Acting, which: Which, d: CpuId) -> Option<u8>
     match which {
         Which::Running => match x.running_priority(d) {
             Ok(p) => p,
-            Err(_) => unreachable!(),
+            Err(_) => {
+                known(false);
+                unreachable!()
+            }
         },
         Which::Queued => match x.unbound_priority(d) {
             Ok(p) => p,
-            Err(_) => unreachable!(),
+            Err(_) => {
+                known(false);
+                unreachable!()
+            }
         },
     }
 }

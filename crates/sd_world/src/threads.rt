@@ -1,12 +1,12 @@
 //! The threads of a state, each with the place that its list and its key tell.
 
-ghost use Rattle.std.specs.Prelude.{◌≡◌, ◌<◌, length, IfOk, IfSome};
+ghost use Rattle.std.specs.Prelude.{◌≡◌, ◌<◌, length, map, option_copied, IfOk, IfSome};
 ghost use Rattle.sd_state.specs.declared.states.Place.{Place as PlaceOf};
 ghost use Rattle.sd_state.specs.declared.states.State.{State as StateOf};
 ghost use Rattle.sd_state.specs.States.{thread_of};
 ghost use Rattle.sd_homes.specs.Standing.{list_at, record_key};
 ghost use Rattle.sd_types.specs.declared.numbers.CpuId.{CpuId as CpuOf};
-ghost use Rattle.sd_world.specs.Told.{AreTold, IsDue, IsToldBy};
+ghost use Rattle.sd_world.specs.Told.{AreTold, IsDue, IsToldBy, has_ended};
 
 use sd_hand::Hand;
 use sd_homes::ListId;
@@ -50,7 +50,7 @@ fn thread_of(hand: &Hand, t: ThreadId) -> ThreadState
 
 /// The thread with this record, which has ended.
 fn ended(thread: &Record) -> ThreadState
-    ensures { result ≡ record { body = thread.now.body; place = PlaceOf.Ended } }
+    ensures { result ≡ has_ended thread.now }
 {
     ThreadState {
         body: copied_body(&thread.kept.body),
@@ -59,8 +59,8 @@ fn ended(thread: &Record) -> ThreadState
 }
 
 /// Tells those who have ended on processor `c`, each where its number says.
-fn tell_ended(hand: &Hand, c: CpuId, told: &mut Vec<Option<ThreadState>>)
-    ensures { (s : StateOf) → IsToldBy hand.now.slots s → AreTold s told.old.items → AreTold s told.new.items }
+fn tell_ended<'a>(hand: &'a Hand, c: CpuId, told: &mut Vec<Option<&'a Record>>)
+    ensures { (s : StateOf) → IsToldBy hand.now.slots s → AreTold s (map option_copied told.old.items) → AreTold s (map option_copied told.new.items) }
 {
     let home = match hand.home(HomeId::Cpu(c)) {
         Err(_) => return,
@@ -73,31 +73,31 @@ fn tell_ended(hand: &Hand, c: CpuId, told: &mut Vec<Option<ThreadState>>)
     for thread in threads.items() {
         let number = thread.kept.id.0 as usize;
         if number < told.len() {
-            told[number] = Some(ended(thread));
+            told[number] = Some(thread);
         }
     }
 }
 
 /// No thread is told yet, of so many.
-fn nothing_told(alloc: Global, many: u16) -> Result<Vec<Option<ThreadState>>, AllocError>
-    ensures { IfOk result (λ v. (s : StateOf) → AreTold s v.items) }
+fn nothing_told<'a>(alloc: Global, many: u16) -> Result<Vec<Option<&'a Record>>, AllocError>
+    ensures { IfOk result (λ v. (s : StateOf) → AreTold s (map option_copied v.items)) }
 {
-    let mut told = Vec::new(alloc);
+    let mut told = Vec::with_capacity(alloc, many as usize)?;
     for _ in 0..many {
         told.push(None)?;
     }
     Ok(told)
 }
 
-/// Those who have ended on some processor, of so many threads and processors. Who ended is told from list to list, since the search for one
-/// of them passes all who ended after it.
-fn all_ended(
+/// Those who have ended on some processor, of so many threads and processors, each where it stands. Who ended is told from list to list, since the
+/// search for one of them passes all who ended after it.
+fn all_ended<'a>(
     alloc: Global,
-    hand: &Hand,
+    hand: &'a Hand,
     many: u16,
     cpus: u16,
-) -> Result<Vec<Option<ThreadState>>, AllocError>
-    ensures { IfOk result (λ v. (s : StateOf) → IsToldBy hand.now.slots s → AreTold s v.items) }
+) -> Result<Vec<Option<&'a Record>>, AllocError>
+    ensures { IfOk result (λ v. (s : StateOf) → IsToldBy hand.now.slots s → AreTold s (map option_copied v.items)) }
 {
     let mut told = nothing_told(alloc, many)?;
     for c in 0..cpus {
@@ -106,26 +106,25 @@ fn all_ended(
     Ok(told)
 }
 
-/// What is told of the thread with this number, which is told no more from now on.
-fn take_told(told: &mut Vec<Option<ThreadState>>, number: usize) -> Option<ThreadState>
-    ensures thread { IfSome result (λ x. (s : StateOf) → AreTold s told.old.items → x ≡ thread_of s number) }
-    ensures others { (s : StateOf) → AreTold s told.old.items → AreTold s told.new.items }
+/// What is told of the thread with this number.
+fn told_of<'a>(told: &[Option<&'a Record>], number: usize) -> Option<&'a Record>
+    ensures { IfSome (option_copied result) (λ r. (s : StateOf) → AreTold s (map option_copied told.now) → has_ended r ≡ thread_of s number) }
 {
     if number < told.len() {
-        told[number].take()
+        told[number]
     } else {
         None
     }
 }
 
 /// Thread `t`, which is one of the state's and may be told already.
-fn thread_told(hand: &Hand, t: ThreadId, told: Option<ThreadState>) -> ThreadState
+fn thread_told(hand: &Hand, t: ThreadId, told: Option<&Record>) -> ThreadState
     requires { (s : StateOf) × IsToldBy hand.now.slots s × (t.0 < length s.threads) }
-    ensures { (s : StateOf) → IsToldBy hand.now.slots s → t.0 < length s.threads → IfSome told (λ x. x ≡ thread_of s t.0) → result ≡ thread_of s t.0 }
+    ensures { (s : StateOf) → IsToldBy hand.now.slots s → t.0 < length s.threads → IfSome (option_copied told.entry) (λ r. has_ended r ≡ thread_of s t.0) → result ≡ thread_of s t.0 }
 {
     match told {
         None => thread_of(hand, t),
-        Some(thread) => thread,
+        Some(thread) => ended(thread),
     }
 }
 
@@ -139,10 +138,10 @@ pub(crate) fn threads_of(
     requires { (s : StateOf) × IsToldBy hand.now.slots s × (length s.threads ≡ many) }
     ensures { IfOk result (λ v. (s : StateOf) → IsToldBy hand.now.slots s → length s.threads ≡ many → v.items ≡ s.threads) }
 {
-    let mut ended = all_ended(alloc, hand, many, cpus)?;
-    let mut threads = Vec::new(alloc);
+    let ended = all_ended(alloc, hand, many, cpus)?;
+    let mut threads = Vec::with_capacity(alloc, many as usize)?;
     for t in 0..many {
-        let told = take_told(&mut ended, t as usize);
+        let told = told_of(ended.as_slice(), t as usize);
         threads.push(thread_told(hand, ThreadId(t), told))?;
     }
     Ok(threads)

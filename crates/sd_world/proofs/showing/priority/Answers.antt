@@ -5,6 +5,18 @@ use Rattle.sd_world.specs.Plain.{thread_shown}
 use Rattle.sd_world.proofs.HintLemmas.{below_shown, not_cpu}
 use Rattle.sd_world.proofs.showing.priority.Goals as goal
 
+pub known-requires : goal.known-requires
+known-requires c =
+    let st = c.requires.stands in
+    let lack = c.in-Err.ensures.lack in
+    absurd (not_cpu c.args.x.now c.args.d c.in-Err.field-0 c.requires.home (lack.0 st.number st.state st.shown) lack.1)
+
+pub known-requires-in-Err-unbound_priority : goal.known-requires-in-Err-unbound_priority
+known-requires-in-Err-unbound_priority c =
+    let st = c.requires.stands in
+    let lack = c.in-Err-unbound_priority.ensures.lack in
+    absurd (not_cpu c.args.x.now c.args.d c.in-Err-unbound_priority.field-0 c.requires.home (lack.0 st.number st.state st.shown) lack.1)
+
 pub unreachable-requires : goal.unreachable-requires
 unreachable-requires c =
     let st = c.requires.stands in

@@ -1,4 +1,4 @@
-use Rattle.std.proofs.Common.{◌≡◌, sym, ap, ◌∙◌, subst}
+use Rattle.std.proofs.Common.{◌≡◌, Some, option_copied, refl, sym, ap, ◌∙◌, subst}
 use Rattle.sd_record.specs.declared.record.Kept.{Kept}
 use Rattle.sd_record.specs.Records.{ThreadRecord}
 use Rattle.sd_homes.specs.declared.list_id.ListId.TheVariants.{Ends}
@@ -22,8 +22,7 @@ loop-thread-preserved-then-number-len c s told are =
     let so_far = c.loop-thread.invariant s told are in
     let ended = subst (HaveEnded s) c.in-Some-thread.ensures.steps so_far.1 in
     let number = sym (ap (λ (r : ThreadRecord). r.id.0) c.thread.view_is) ∙ ap (λ (k : Kept). k.id.0) (sym c.deref.ensures) in (
-      told_more s c.loop-thread.told.items c.deref.result.now.id.0 c.ended-then-number-len.result
-          (c.ended-then-number-len.ensures ∙ ended.0 ∙ ap (thread_of s) number) so_far.0,
+      told_more option_copied s c.loop-thread.told.items c.deref.result.now.id.0 (Some c.in-Some-thread.thread) c.in-Some-thread.thread.now refl (ended.0 ∙ ap (thread_of s) number) so_far.0,
       ended.1,
     )
 
