@@ -14,6 +14,7 @@ ghost use Rattle.sd_world.specs.Entries.{CanEnter, Enters};
 ghost use Rattle.sd_world.specs.Plain.{Stands, told};
 ghost use Rattle.sd_rounds.specs.Floors.{IsFloor};
 
+use sd_basics::known;
 use sd_dispatcher::ticked_as;
 use sd_hand::{Acting, Actor};
 use sd_log::EntryLog;
@@ -56,7 +57,10 @@ fn enter_tick(
     let cpu = acting.actor.cpu;
     match ticked_as(work, acting, cpu, t, expires) {
         Ok(()) => {}
-        Err(_) => unreachable!(),
+        Err(_) => {
+            known(false);
+            unreachable!()
+        }
     }
     actors[cpu.0 as usize] = acting.actor;
     entries.push_reserved(cpu, Event::Tick { t }, &None);
@@ -80,7 +84,10 @@ fn enter_idle(
     let cpu = acting.actor.cpu;
     match acting.count_tick(work, cpu) {
         Ok(()) => {}
-        Err(_) => unreachable!(),
+        Err(_) => {
+            known(false);
+            unreachable!()
+        }
     }
     actors[cpu.0 as usize] = acting.actor;
     entries.push_idle(cpu, zeros);

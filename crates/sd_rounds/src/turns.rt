@@ -1,8 +1,7 @@
-//! The turn of a processor in a run on one thread of the host, which has all homes: by one look where a thread runs on or nothing is ready,
-//! and else by its plan and what it reads for that, each found once. Should its hand not show these, it makes an attempt, as where homes
-//! are shared.
+//! The turn of a processor in a run on one thread of the host, which has all homes: by what one look tells (`sight.rt`) where that is enough, and
+//! else by its plan and what it reads for that, each found once. Should its hand not show these, it makes an attempt, as where homes are shared.
 
-ghost use Rattle.std.specs.Prelude.{◌≡◌, ℕ, ◌++◌, ◌-◌, ◌<◌, ◌≤◌, ◌↔◌, List, IfErr, IfSome, Some, length, map, option_map, replicate, IsErrOf, OnErr, OnOk};
+ghost use Rattle.std.specs.Prelude.{◌≡◌, ℕ, ◌++◌, ◌-◌, ◌<◌, ◌≤◌, ◌↔◌, List, Option, IfErr, IfSome, Some, length, map, option_map, replicate, IsErrOf, OnErr, OnOk};
 ghost use Rattle.sd_types.specs.declared.events.Duty.TheVariants.{Nothing};
 ghost use Rattle.sd_types.specs.declared.events.Which.TheVariants.{Queued};
 ghost use Rattle.sd_types.specs.declared.numbers.CpuId.{CpuId as CpuOf};
@@ -21,6 +20,7 @@ ghost use Rattle.sd_machine.specs.Runs.{made, serial_hints, shown, turn};
 ghost use Rattle.sd_machine.specs.Threads.{best_ready};
 ghost use Rattle.sd_dispatcher.specs.Reading.{parts};
 ghost use Rattle.sd_hand.specs.Acting.{IsShown};
+ghost use Rattle.sd_hand.specs.Ranked.{ranked_in};
 ghost use Rattle.sd_world.specs.Plain.{AreCpus, Stands, told};
 ghost use Rattle.sd_rounds.specs.Floors.{IsFloor};
 ghost use Rattle.sd_rounds.specs.Searched.{IsSearched};
@@ -31,12 +31,11 @@ use crate::survey::{Survey, open_around, take_survey};
 use crate::ticks::{come_idle, come_tick, reserve};
 use arrayvec::ArrayVec;
 use sd_cpu::{OpenGate, attempt};
-use sd_dispatcher::{Reading, dispatch_plan, search_event};
+use sd_dispatcher::{Reading, search_event};
 use sd_hand::Acting;
 use sd_machine::{Placement, Plan};
 use sd_priocntl::age_plan;
 use sd_step::{plan, plan_event_read, plan_reads, run_plan, runner_plan, unread_event};
-use sd_store::Look;
 use sd_types::{CpuId, Event, Hints, MOST_ENTRIES, Stop, ThreadId, Which, Work};
 use sd_world::PlainWorld;
 
@@ -344,16 +343,24 @@ fn act_by_age(work: &Work, world: &mut PlainWorld, t: ThreadId) -> Result<(), St
     }
 }
 
+/// The best that is ready, found with its effective priority, is dispatched; where nothing is, a search begins.
+#[inline(always)]
+fn dispatch_found(best: Option<(ThreadId, u8)>) -> Plan
+    ensures { (s : StateOf) (t : Option ℕ) → best ≡ option_map (ranked_in s) t → result ≡ plan_of_best s t }
+{
+    match best {
+        None => Plan::Search,
+        Some((t, p)) => Plan::Make(Event::Dispatch { t, p }),
+    }
+}
+
 /// What the processor that acts does where no thread runs on it: it dispatches the best that is ready.
 #[inline(always)]
 fn dispatch_of(x: &Acting) -> Option<Plan>
     ensures { IfSome result (λ p. (n : ℕ) (s : StateOf) → IsShown x.now n s → p ≡ plan_of_best s (best_ready s x.now.actor.cpu.0)) }
 {
-    let Ok(best) = x.best_ready(x.actor.cpu) else {
-        return None;
-    };
-    match dispatch_plan(x, best) {
-        Ok(plan) => Some(plan),
+    match x.best_ready_ranked(x.actor.cpu) {
+        Ok(best) => Some(dispatch_found(best)),
         Err(_) => None,
     }
 }

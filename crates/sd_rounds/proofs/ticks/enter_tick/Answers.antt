@@ -11,6 +11,18 @@ use Rattle.sd_invariants.proofs.Range.{needs_reached}
 use Rattle.sd_rounds.proofs.TickLemmas.{tick_is}
 use Rattle.sd_rounds.proofs.ticks.enter_tick.Goals as goal
 
+pub known-requires : goal.known-requires
+known-requires c =
+    let w = c.args.work.now in
+    let can = c.requires.can in
+    let es = c.args.entries.now.items in
+    let x = c.args.acting.now in
+    let s = final_state w es in
+    let reached : IsReached w (length es) s = record { entries = es; run = can.run; many = refl; ends = refl } in
+    let needs = needs_reached w (length es) s x.actor.cpu None (TickEvent c.args.t) reached can.next in
+    let lack = c.in-Err.ensures.lack in
+    (sym lack.1 ∙ can.holds c.in-Err.field-0 (inr (lack.0 (length es) s can.shown (needs.1, needs.0.op, c.requires.expires))))
+
 pub unreachable-requires : goal.unreachable-requires
 unreachable-requires c =
     let w = c.args.work.now in
