@@ -129,8 +129,8 @@ fn known_of(searched: Option<Searched>, set: SetId) -> Option<Searched>
     }
 }
 
-/// What is seen of a search in this set.
-#[inline(always)]
+/// What is seen of a search in this set. It is a call, so that what is seen of a processor is small enough to be inline.
+#[inline(never)]
 fn search(x: &Acting, set: SetId) -> Sight
     ensures { SeesSearch x.now set result }
 {
