@@ -7,7 +7,6 @@ ghost use Rattle.sd_machine.specs.Changes.{mark_over, remark};
 ghost use Rattle.sd_store.specs.Parts.{cpu_part, ready_parts};
 ghost use Rattle.sd_store.specs.Words.{Does, Lacks};
 
-use crate::bodies::eff_of;
 use sd_store::Store;
 use sd_types::CpuId;
 
@@ -18,8 +17,8 @@ pub fn mark_over<S: Store>(x: &mut S, c: CpuId, m: u8) -> Result<(), S::Lack>
     ensures lack { Lacks S.part (S.shows x.old) (S.has x.old) result (λ s. cpu_part c ∷ []) }
     ensures has { S.has x.new ≡ S.has x.old }
 {
-    if let Some(r) = x.runner(c)? {
-        if eff_of(x, r)? < m {
+    if let Some(p) = x.running_priority(c)? {
+        if p < m {
             x.set_mark(c, m)?;
         }
     }
@@ -33,10 +32,9 @@ pub fn remark<S: Store>(x: &mut S, c: CpuId) -> Result<(), S::Lack>
     ensures lack { Lacks S.part (S.shows x.old) (S.has x.old) result (λ s. ready_parts s c) }
     ensures has { S.has x.new ≡ S.has x.old }
 {
-    if let Some(best) = x.best_ready(c)? {
-        let m = eff_of(x, best)?;
-        if let Some(r) = x.runner(c)? {
-            if eff_of(x, r)? < m {
+    if let Some(m) = x.ready_priority(c)? {
+        if let Some(p) = x.running_priority(c)? {
+            if p < m {
                 x.set_mark(c, m)?;
             }
         }

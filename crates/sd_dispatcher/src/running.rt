@@ -27,8 +27,7 @@ fn expired<S: Store>(work: &Work, x: &mut S, c: CpuId, t: ThreadId) -> Result<()
     ensures lack { Lacks S.part (S.shows x.old) (S.has x.old) result (λ s. thread_part t ∷ ready_parts s c) }
     ensures has { S.has x.new ≡ S.has x.old }
 {
-    if let Some(best) = x.best_ready(c)? {
-        let m = eff_of(x, best)?;
+    if let Some(m) = x.ready_priority(c)? {
         if eff_of(x, t)? <= m {
             send_back(x, work, t)?;
             x.set_mark(c, m)?;

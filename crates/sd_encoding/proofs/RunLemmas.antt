@@ -3,6 +3,7 @@ use Rattle.std.proofs.Common.{◌≡◌, ℕ, ◌+◌, ◌<◌, ◌==◌, Bool, 
 use Rattle.sd_types.specs.declared.numbers.ChanId.{ChanId}
 use Rattle.sd_types.specs.declared.numbers.CpuId.{CpuId}
 use Rattle.sd_types.specs.declared.numbers.LockId.{LockId}
+use Rattle.sd_types.specs.declared.numbers.Side.{Side}
 use Rattle.sd_types.specs.declared.numbers.ThreadId.{ThreadId}
 use Rattle.sd_types.specs.declared.bodies.ThreadBody.{ThreadBody}
 use Rattle.sd_types.specs.declared.events.Duty.TheVariants as duty
@@ -17,7 +18,7 @@ use Rattle.sd_state.specs.declared.states.State.{State}
 use Rattle.sd_state.specs.States.{cpu_of, no_thread, thread_of, eff_of}
 use Rattle.sd_state.specs.Operations.{op_of}
 use Rattle.sd_machine.specs.Bodies.{aged_class, departed, ticked_class}
-use Rattle.sd_machine.specs.Changes.{back_key, clear_marks, count_tick, leave, priority_or_zero, put, run_tick, send_back, set_class, set_mark}
+use Rattle.sd_machine.specs.Changes.{back_key, clear_marks, count_tick, leave, priority_or_zero, put, run_tick, send_back, set_class, set_duty, set_mark}
 use Rattle.sd_machine.specs.Dispatching.{charge, class_counts, dispatched, done, idled, is_rivalled, preempted, sent_away, spun, stolen, ticked, yielded}
 use Rattle.sd_machine.specs.Locking.{blocked, side_of}
 use Rattle.sd_machine.specs.Prioritising.{aged, lifted}
@@ -113,12 +114,11 @@ module _ (n m : ℕ) (x s : State) (h : AreAlike n m x s) where
       duty_step (n + 1) (m + 1) (lifted w y n c t (eff_of x t)) (lifted w z m c t (eff_of s t)) up c.0 (duty.Age (record { 0 = t + 1 })) (duty.Age (record { 0 = t + 1 })) Gone refl refl refl
 
   -- the key of the walk is that of the thread which waits now
-  pub blocked_alike : (w : Work) (c : CpuId) (t : ThreadId) (l : LockId) → t.0 < length s.threads → AreAlike (n + 1) (m + 1) (blocked w x n c t.0 l) (blocked w s m c t.0 l)
-  unfolding blocked leave
-  blocked_alike w c t l inside =
-      let side = side_of (op_of w t.0 (thread_of x t.0).body) in
-      let side' = side_of (op_of w t.0 (thread_of s t.0).body) in
-      let left = leave_given n m x s h c t.0 (to.Turnstile l side) (to.Turnstile l side') (ap (λ (b : ThreadBody). to.Turnstile l (side_of (op_of w t.0 b))) (body_same x s h.same.bare t.0)) in
+  pub block_alike : (c : CpuId) (t : ThreadId) (l : LockId) (side side' : Side) → side ≡ side' → t.0 < length s.threads
+      → AreAlike (n + 1) (m + 1) (set_duty (leave x c.0 t.0 (Waiting l side (back_key n))) c.0 (duty.Walk l t (back_key n))) (set_duty (leave s c.0 t.0 (Waiting l side' (back_key m))) c.0 (duty.Walk l t (back_key m)))
+  unfolding leave
+  block_alike c t l side side' same inside =
+      let left = leave_given n m x s h c t.0 (to.Turnstile l side) (to.Turnstile l side') (ap (λ z. to.Turnstile l z) same) in
       let y : ThreadState = record { body = departed (cpu_of x c.0).count (thread_of x t.0).body; place = Waiting l side (back_key n) } in
       let z : ThreadState = record { body = departed (cpu_of s c.0).count (thread_of s t.0).body; place = Waiting l side' (back_key m) } in
       let inside' : t.0 < length x.threads = subst (λ k. t.0 < k) (sym (threads_many x s h.same.bare)) inside in
@@ -126,3 +126,8 @@ module _ (n m : ℕ) (x s : State) (h : AreAlike n m x s) where
       let there' = get_or-set_same s.threads t.0 z no_thread inside in
       duty_step (n + 1) (m + 1) (leave x c.0 t.0 (Waiting l side (back_key n))) (leave s c.0 t.0 (Waiting l side' (back_key m))) left c.0 (duty.Walk l t (back_key n)) (duty.Walk l t (back_key m)) (From (OfThread t.0)) refl
       (sym (ap (λ (u : ThreadState). key_of_place u.place) there)) (sym (ap (λ (u : ThreadState). key_of_place u.place) there'))
+
+  pub blocked_alike : (w : Work) (c : CpuId) (t : ThreadId) (l : LockId) → t.0 < length s.threads → AreAlike (n + 1) (m + 1) (blocked w x n c t.0 l) (blocked w s m c t.0 l)
+  unfolding blocked
+  blocked_alike w c t l inside =
+      block_alike c t l (side_of (op_of w t.0 (thread_of x t.0).body)) (side_of (op_of w t.0 (thread_of s t.0).body)) (ap (λ (b : ThreadBody). side_of (op_of w t.0 b)) (body_same x s h.same.bare t.0)) inside

@@ -24,8 +24,16 @@ impl Look for Ordered {
         self.state.runner(c)
     }
 
+    fn running_priority(&self, c: CpuId) -> Result<Option<u8>, Never> {
+        self.state.running_priority(c)
+    }
+
     fn best_ready(&self, c: CpuId) -> Result<Option<ThreadId>, Never> {
         self.state.best_ready(c)
+    }
+
+    fn ready_priority(&self, c: CpuId) -> Result<Option<u8>, Never> {
+        self.state.ready_priority(c)
     }
 
     fn best_queued(&self, c: CpuId) -> Result<Option<ThreadId>, Never> {

@@ -4,7 +4,7 @@
 use crate::Ordered;
 use sd_state::LockState;
 use sd_store::{BodyChange, Chore, Destination, Never, Store};
-use sd_types::{ChanId, ClassState, CpuId, LockId, Put, ThreadId, Work};
+use sd_types::{ChanId, ClassState, CpuId, LockId, Put, Side, ThreadId, Work};
 
 impl Store for Ordered {
     fn set_duty(&mut self, c: CpuId, chore: Chore) -> Result<(), Never> {
@@ -45,6 +45,17 @@ impl Store for Ordered {
 
     fn leave(&mut self, number: u64, c: CpuId, t: ThreadId, to: Destination) -> Result<(), Never> {
         self.state.leave(number, c, t, to)
+    }
+
+    fn block(
+        &mut self,
+        number: u64,
+        c: CpuId,
+        t: ThreadId,
+        l: LockId,
+        side: Side,
+    ) -> Result<(), Never> {
+        self.state.block(number, c, t, l, side)
     }
 
     fn enqueue(&mut self, work: &Work, number: u64, t: ThreadId, at: Put) -> Result<(), Never> {

@@ -1,7 +1,9 @@
 -- A hand with its processor after a change.
 use Rattle.std.proofs.Common.{◌≡◌, ℕ, zero, suc, ◌%◌, ◌<◌, ◌≤◌, ◌==◌, Bool, true, false, is_some, List, [], ◌∷◌, length, get_or, ◌⊎◌, inl, inr, refl, sym, ap, ◌∙◌, subst, arith, length-set}
+use Rattle.std.specs.Prelude.{Result, Ok, Err, ⊤}
 use Rattle.std.proofs.lemmas.Bool.{cases_eq, cases_lt}
 use Rattle.std.proofs.lemmas.List.{get_or-set_other}
+use Rattle.sd_types.specs.declared.events.Duty.{Duty}
 use Rattle.sd_types.specs.declared.numbers.ChanId.{ChanId}
 use Rattle.sd_types.specs.declared.numbers.CpuId.{CpuId}
 use Rattle.sd_types.specs.declared.numbers.HomeId.{HomeId}
@@ -14,11 +16,13 @@ use Rattle.sd_state.specs.declared.states.LockState.{LockState}
 use Rattle.sd_state.specs.declared.states.State.{State}
 use Rattle.sd_state.specs.declared.states.ThreadState.{ThreadState}
 use Rattle.sd_state.specs.States.{cpu_of, no_cpu, with_cpu, with_thread}
+use Rattle.sd_machine.specs.Changes.{set_duty}
 use Rattle.sd_machine.specs.Threads.{with_count, with_lock, with_open}
 use Rattle.sd_store.specs.declared.parts.CpuView.{CpuView}
 use Rattle.sd_store.specs.declared.parts.Part.{Part}
 use Rattle.sd_store.specs.declared.parts.Part.TheVariants as part
-use Rattle.sd_store.specs.Parts.{view_of}
+use Rattle.sd_store.specs.Parts.{actor_part, view_of}
+use Rattle.sd_store.specs.Words.{Does, Lacks}
 use Rattle.sd_homes.specs.declared.list_id.ListId.{ListId}
 use Rattle.sd_homes.specs.Standing.{home_at, list_of, look_of, record_of, without, MayCome}
 use Rattle.sd_homes.specs.declared.home.Home.{Home}
@@ -26,7 +30,7 @@ use Rattle.sd_homes.specs.declared.home.Home.TheVariants.{Cpu, RealTime, Chain, 
 use Rattle.sd_homes.specs.Homes.{is_chan_of, is_of}
 use Rattle.sd_homes.specs.Families.{counting, has, locking, opening, putting, taking, viewing}
 use Rattle.sd_hand.specs.declared.acting.Acting.{Acting}
-use Rattle.sd_hand.specs.Acting.{IsShown, has_part}
+use Rattle.sd_hand.specs.Acting.{IsShown, has_part, the_part}
 use Rattle.sd_hand.specs.Hands.{AreApart, edit, has_thread, held}
 use Rattle.sd_hand.specs.Shown.{IsListThere, ShowsState, StandsAt}
 use Rattle.sd_hand.proofs.SlotLemmas.{KeepsId, apart-edit, edit_has, edit_held}
@@ -215,3 +219,13 @@ actor_carried x y n s c z is sh =
 
 pub actor_has : (x y : Acting) → y.hand.slots ≡ x.hand.slots → y.actor.cpu ≡ x.actor.cpu → has_part y ≡ has_part x
 actor_has x y e a = same_has x y a (λ k. ap (λ hs. is_some (held k hs)) e) (λ u. ap (has_thread u) e)
+
+-- a duty for the processor that acts is given, whatever the answer says
+pub given_surely : {A : Type 0} (x y : Acting) (c : CpuId) (duty : Duty) (n : ℕ) (s : State) (r : Result A Part) → Does (IsShown x) (IsShown y) r (λ s. ⊤) (λ s. set_duty s c.0 duty)
+    → Lacks the_part (IsShown x) (has_part x) r (λ s. actor_part c ∷ []) → has_part x (actor_part c) ≡ true → IsShown x n s → IsShown y n (set_duty s c.0 duty)
+given_surely x y c duty n s (Ok a) does lacks acts sh = does n s sh tt
+given_surely x y c duty n s (Err q) does lacks acts sh = by (lacks.0 n s sh)
+  where
+    by : (q ≡ actor_part c) ⊎ ⊥ → IsShown y n (set_duty s c.0 duty)
+    by (inl e) = (let no : true ≡ false = sym acts ∙ ap (has_part x) (sym e) ∙ lacks.1 in absurd cc)
+    by (inr b) = absurd b

@@ -57,3 +57,8 @@ better_ranked n s c p rs qs l m = ranked_by s (better (slice_get rs 0) (slice_ge
     by : (r : ThreadRecord) → (slice_get rs 0 ≡ Some r) ⊎ (slice_get qs 0 ≡ Some r) → eff_of s (id_of r) ≡ rank_of r
     by r (inl a) = first_is_ranked n s c rs l r a
     by r (inr b) = first_is_ranked n s p qs m r b
+
+-- the priority of who was found with it
+pub ranked_priority : (s : State) (t : Option ℕ) → option_map (λ r. r.1) (option_map (ranked_in s) t) ≡ priority_of s t
+ranked_priority s None = refl
+ranked_priority s (Some t) = refl

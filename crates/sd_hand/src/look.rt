@@ -67,18 +67,6 @@ fn ranked(found: Option<&Record>) -> Option<(ThreadId, u8)>
 }
 
 impl Acting {
-    /// The effective priority of the thread that runs on processor `c`, read where the thread stands.
-    #[inline(always)]
-    pub fn running_priority(&self, c: CpuId) -> Result<Option<u8>, Part>
-        ensures value { Tells (IsShown self.now) result (λ s. priority_of s (runner s c.0)) }
-        ensures lack { Lacks the_part (IsShown self.now) (has_part self.now) result (λ s. cpu_part c ∷ []) }
-    {
-        match self.hand.first_priority(ListId::Runs(c)) {
-            Err(q) => Err(q),
-            Ok(p) => Ok(p),
-        }
-    }
-
     /// The effective priority of the best on the queue of processor `c` that is bound to no processor, read where the thread stands.
     #[inline(always)]
     pub fn unbound_priority(&self, c: CpuId) -> Result<Option<u8>, Part>
@@ -126,6 +114,22 @@ impl Look for Acting {
     #[inline(always)]
     fn runner(&self, c: CpuId) -> Result<Option<ThreadId>, Part> {
         self.hand.first(ListId::Runs(c))
+    }
+
+    #[inline(always)]
+    fn running_priority(&self, c: CpuId) -> Result<Option<u8>, Part> {
+        match self.hand.first_priority(ListId::Runs(c)) {
+            Err(q) => Err(q),
+            Ok(p) => Ok(p),
+        }
+    }
+
+    fn ready_priority(&self, c: CpuId) -> Result<Option<u8>, Part> {
+        match self.best_ready_ranked(c) {
+            Err(q) => Err(q),
+            Ok(None) => Ok(None),
+            Ok(Some((_best, p))) => Ok(Some(p)),
+        }
     }
 
     fn best_queued(&self, c: CpuId) -> Result<Option<ThreadId>, Part> {

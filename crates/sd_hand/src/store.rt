@@ -7,8 +7,10 @@ use crate::walks::{next_walk_at, walk_at};
 use sd_flat::duty_after;
 use sd_homes::{ListId, home_at};
 use sd_state::LockState;
-use sd_store::{BodyChange, Chore, Destination, Part, Store, duty_of, place_by, place_put, rouse};
-use sd_types::{ChanId, ClassState, CpuId, LockId, Put, ThreadId, Work};
+use sd_store::{
+    BodyChange, Chore, Destination, Part, Store, duty_of, place_by, place_put, rouse, walk,
+};
+use sd_types::{ChanId, ClassState, CpuId, LockId, Put, Side, ThreadId, Work};
 
 impl Store for Acting {
     fn set_duty(&mut self, c: CpuId, chore: Chore) -> Result<(), Part> {
@@ -121,6 +123,27 @@ impl Store for Acting {
                     self.relocate(t, ListId::Runs(c), step, list);
                     self.unmark(c, view);
                 }
+                Ok(())
+            }
+        }
+    }
+
+    fn block(
+        &mut self,
+        number: u64,
+        c: CpuId,
+        t: ThreadId,
+        l: LockId,
+        side: Side,
+    ) -> Result<(), Part> {
+        if c.0 != self.actor.cpu.0 {
+            return Err(Part::Actor(c));
+        }
+        match self.leave(number, c, t, Destination::Turnstile(l, side)) {
+            Err(q) => Err(q),
+            Ok(()) => {
+                // The processor is the one that acts, so that it gets the duty.
+                let _given = self.give(c, walk(number, l, t));
                 Ok(())
             }
         }

@@ -3,5 +3,4 @@ pub mod Handed
 pub mod Looped
 pub mod Same
 pub mod Taken
-pub mod Waiting
 pub mod Walked

@@ -16,7 +16,7 @@ ghost use Rattle.sd_store.specs.Words.{Does, DoesBy, Lacks, LacksBy, LacksIf, Te
 
 use sd_dispatcher::op_of;
 use sd_state::LockState;
-use sd_store::{Destination, Look, Spot, Store, finish_op, hold};
+use sd_store::{Look, Spot, Store, finish_op, hold};
 use sd_types::{CpuId, Event, LockId, Op, Side, ThreadId, Work};
 
 /// The owner of a mutex runs on some processor.
@@ -130,7 +130,7 @@ fn side_of(op: Option<Op>) -> Side
 }
 
 /// By entry `number` thread `t`, which runs on processor `c`, waits for lock `l`, and the processor begins a walk there.
-#[tactic(auto, using(crate::proofs::Waiting::walk_from_wait), unfolding(sd_machine::specs::Locking::blocked))]
+#[tactic(auto, unfolding(sd_machine::specs::Locking::blocked))]
 pub fn blocked<S: Store>(
     work: &Work,
     x: &mut S,
@@ -145,6 +145,5 @@ pub fn blocked<S: Store>(
     ensures has { S.has x.new ≡ S.has x.old }
 {
     let side = side_of(op_of(work, x, t)?);
-    x.leave(number, c, t, Destination::Turnstile(l, side))?;
-    x.begin_walk(c, t)
+    x.block(number, c, t, l, side)
 }

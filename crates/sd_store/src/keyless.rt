@@ -2,7 +2,7 @@
 //! its keys by these.
 
 ghost use Rattle.std.specs.Prelude.{◌≡◌, ◌<◌, ◌^◌};
-ghost use Rattle.sd_types.specs.declared.events.Duty.TheVariants.{Rouse};
+ghost use Rattle.sd_types.specs.declared.events.Duty.TheVariants.{Rouse, Walk};
 ghost use Rattle.sd_machine.specs.Changes.{back_key, key_at, place_put};
 ghost use Rattle.sd_machine.specs.Sleeping.{rouse_key};
 ghost use Rattle.sd_state.specs.States.{set_of};
@@ -10,7 +10,7 @@ ghost use Rattle.sd_store.specs.Keyless.{duty_of, place_by, task_of};
 
 use crate::{Chore, Destination, Task};
 use sd_state::Place;
-use sd_types::{ChanId, CpuId, Duty, End, Put, SetId, ThreadId, Work};
+use sd_types::{ChanId, CpuId, Duty, End, LockId, Put, SetId, ThreadId, Work};
 
 /// Keys are not below it at the back of a queue, and below it where a run begins.
 const FIRST_BACK_KEY: i64 = 4096;
@@ -105,6 +105,18 @@ pub fn rouse(number: u64, k: ChanId) -> Duty
     ensures { result ≡ Rouse k (back_key number) }
 {
     Duty::Rouse(k, back_key(number))
+}
+
+/// The duty of entry `number` to walk on from lock `l`, for which that entry lets thread `t` wait.
+pub fn walk(number: u64, l: LockId, t: ThreadId) -> Duty
+    requires { number < 2 ^ 62 }
+    ensures { result ≡ Walk l t (back_key number) }
+{
+    Duty::Walk {
+        lock: l,
+        seek: t,
+        key: back_key(number),
+    }
 }
 
 /// The number of a duty to wake sleepers, below which their keys are.

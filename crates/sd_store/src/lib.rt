@@ -15,7 +15,7 @@ mod store;
 pub use changes::BodyChange;
 pub use clock::Clock;
 pub use flat::{Never, view_of};
-pub use keyless::{duty_of, place_by, place_put, rouse, rouse_key, set_of, task_of};
+pub use keyless::{duty_of, place_by, place_put, rouse, rouse_key, set_of, task_of, walk};
 pub use look::Look;
 pub use parts::{CpuView, Part};
 pub use sets::Sets;

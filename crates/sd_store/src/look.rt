@@ -14,7 +14,7 @@ pub trait Look {
     ghost use Rattle.sd_types.specs.Limits.{most_processors};
     ghost use Rattle.sd_state.specs.declared.states.State.{State};
     ghost use Rattle.sd_state.specs.States.{cpu_of, no_body, thread_of};
-    ghost use Rattle.sd_machine.specs.Threads.{best_queued, best_ready, best_sleeper, best_unbound, best_waiter, count_of, first_due, greatest_waiting, has_waiters, lock_of, next_to_age, open_of, runner};
+    ghost use Rattle.sd_machine.specs.Threads.{best_queued, best_ready, best_sleeper, best_unbound, best_waiter, count_of, first_due, greatest_waiting, has_waiters, lock_of, next_to_age, open_of, priority_of, runner};
     ghost use Rattle.sd_machine.specs.Locking.{others_waiting};
     ghost use Rattle.sd_machine.specs.Walking.{is_back};
     ghost use Rattle.sd_store.specs.declared.parts.Part.{Part as PartOf};
@@ -44,11 +44,21 @@ pub trait Look {
         ensures lack { Lacks part (shows self.now) (has self.now) result (λ s. cpu_part c ∷ []) }
         ensures found { Finds (has self.now) result };
 
+    /// The effective priority of the thread that runs on processor `c`; None where none runs.
+    fn running_priority(&self, c: CpuId) -> Result<Option<u8>, Self::Lack>
+        ensures value { Tells (shows self.now) result (λ s. priority_of s (runner s c.0)) }
+        ensures lack { Lacks part (shows self.now) (has self.now) result (λ s. cpu_part c ∷ []) };
+
     /// The best on the queue of processor `c` or on the real-time queue of its partition.
     fn best_ready(&self, c: CpuId) -> Result<Option<ThreadId>, Self::Lack>
         ensures value { Names (shows self.now) result (λ s. best_ready s c.0) }
         ensures lack { Lacks part (shows self.now) (has self.now) result (λ s. ready_parts s c) }
         ensures found { Finds (has self.now) result };
+
+    /// The effective priority of the best on the queue of processor `c` or on the real-time queue of its partition; None where none is ready.
+    fn ready_priority(&self, c: CpuId) -> Result<Option<u8>, Self::Lack>
+        ensures value { Tells (shows self.now) result (λ s. priority_of s (best_ready s c.0)) }
+        ensures lack { Lacks part (shows self.now) (has self.now) result (λ s. ready_parts s c) };
 
     /// The best on the queue of processor `c` alone.
     fn best_queued(&self, c: CpuId) -> Result<Option<ThreadId>, Self::Lack>

@@ -10,17 +10,18 @@ ghost use Rattle.sd_store.specs.Words.{Does, Keeps, Lacks};
 
 use crate::{BodyChange, Chore, Destination, Look};
 use sd_state::LockState;
-use sd_types::{ChanId, ClassState, CpuId, LockId, Put, ThreadId, Work};
+use sd_types::{ChanId, ClassState, CpuId, LockId, Put, Side, ThreadId, Work};
 
 /// A store of which the state changes. A change that is made is made in every state that is shown, and what it asks of a
 /// state is asked of the states alone: no change has a condition on the store. A change that lacks a part is not made: what
 /// was shown before still is. What the store has stays.
 pub trait Store: Look {
     ghost use Rattle.std.specs.Prelude.{◌≡◌, ◌<◌, ◌^◌, [], ◌∷◌, ⊤};
-    ghost use Rattle.sd_types.specs.declared.events.Duty.TheVariants.{Rouse};
+    ghost use Rattle.sd_types.specs.declared.events.Duty.TheVariants.{Rouse, Walk};
+    ghost use Rattle.sd_state.specs.declared.states.Place.TheVariants.{Waiting};
     ghost use Rattle.sd_state.specs.States.{thread_of};
     ghost use Rattle.sd_machine.specs.Changes.{back_key, clear_marks, count_tick, leave, place_put, run_on, set_class, set_duty, set_mark, with_body, with_place};
-    ghost use Rattle.sd_machine.specs.Needs.{CanTick, RunsNobody, IsLock, RunsOn};
+    ghost use Rattle.sd_machine.specs.Needs.{CanTick, IsThread, RunsNobody, IsLock, RunsOn};
     ghost use Rattle.sd_machine.specs.Threads.{with_lock};
     ghost use Rattle.sd_store.specs.Bodies.{CanChange, changed};
     ghost use Rattle.sd_store.specs.Keyless.{IsDestination, duty_of, place_by};
@@ -108,6 +109,22 @@ pub trait Store: Look {
         requires { number < 2 ^ 62 }
         ensures value { DoesBy number (Self.shows self.old) (Self.shows self.new) result (λ s. RunsOn s t c × IsDestination s to) (λ s. leave s c.0 t.0 (place_by number c to)) }
         ensures lack { Lacks Self.part (Self.shows self.old) (Self.has self.old) result (λ s. actor_part c ∷ cpu_part c ∷ destination_parts to) }
+        ensures kept { Keeps (Self.shows self.old) (Self.shows self.new) result }
+        ensures has { Self.has self.new ≡ Self.has self.old };
+
+    /// By entry `number` thread `t`, which runs on processor `c`, leaves it to wait for lock `l` at a side, and the processor has the duty to
+    /// walk on there, seeking it.
+    fn block(
+        &mut self,
+        number: u64,
+        c: CpuId,
+        t: ThreadId,
+        l: LockId,
+        side: Side,
+    ) -> Result<(), Self::Lack>
+        requires { number < 2 ^ 62 }
+        ensures value { DoesBy number (Self.shows self.old) (Self.shows self.new) result (λ s. IsThread s t × RunsOn s t c × IsLock s l) (λ s. set_duty (leave s c.0 t.0 (Waiting l side (back_key number))) c.0 (Walk l t (back_key number))) }
+        ensures lack { Lacks Self.part (Self.shows self.old) (Self.has self.old) result (λ s. actor_part c ∷ cpu_part c ∷ chain_part l ∷ []) }
         ensures kept { Keeps (Self.shows self.old) (Self.shows self.new) result }
         ensures has { Self.has self.new ≡ Self.has self.old };
 

@@ -11,6 +11,7 @@ ghost use Rattle.sd_world.specs.Plain.{StandsInRun, thread_shown};
 use sd_basics::known;
 use sd_flat::hint_of;
 use sd_hand::Acting;
+use sd_store::Look;
 use sd_types::{CpuId, Which};
 
 /// The effective priority of the thread of which processor `d`, whose home is one of these, shows it.

@@ -1,10 +1,11 @@
 //! Looking at a state that is one value.
 
-ghost use Rattle.std.specs.Prelude.{◌≡◌};
+ghost use Rattle.std.specs.Prelude.{◌≡◌, option_map};
+ghost use Rattle.sd_machine.specs.Threads.{priority_of};
 ghost use Rattle.sd_machine.specs.Walking.{is_back};
 ghost use Rattle.sd_state.specs.States.{thread_of};
 ghost use Rattle.sd_store.specs.Keyless.{spot_of};
-ghost use Rattle.sd_store.specs.Parts.{view_of};
+ghost use Rattle.sd_store.specs.Parts.{number, view_of};
 
 use crate::keyless::{rouse_key, task_of};
 use crate::{CpuView, Look, Spot, Task};
@@ -27,6 +28,19 @@ fn spot_of(place: Place) -> Spot
         Place::Asleep(k, _) => Spot::Asleep(k),
         Place::Napping(c, _) => Spot::Napping(c),
         Place::Ended => Spot::Ended,
+    }
+}
+
+/// The effective priority of the thread that a look-up found.
+fn priority_of(s: &State, t: Option<ThreadId>) -> Option<u8>
+    ensures { result ≡ priority_of s.now (option_map number t) }
+{
+    match t {
+        None => None,
+        Some(t) => match s.threads.items().get(t.0 as usize) {
+            Some(x) => Some(x.body.effective()),
+            None => Some(60),
+        },
     }
 }
 
@@ -72,8 +86,16 @@ impl Look for State {
         Ok(sd_flat::runner(self, c))
     }
 
+    fn running_priority(&self, c: CpuId) -> Result<Option<u8>, Never> {
+        Ok(priority_of(self, sd_flat::runner(self, c)))
+    }
+
     fn best_ready(&self, c: CpuId) -> Result<Option<ThreadId>, Never> {
         Ok(sd_flat::best_ready(self, c))
+    }
+
+    fn ready_priority(&self, c: CpuId) -> Result<Option<u8>, Never> {
+        Ok(priority_of(self, sd_flat::best_ready(self, c)))
     }
 
     fn best_queued(&self, c: CpuId) -> Result<Option<ThreadId>, Never> {

@@ -6,12 +6,12 @@ ghost use Rattle.sd_store.specs.Bodies.{changed};
 ghost use Rattle.sd_store.specs.Flat.{CanChangeBody};
 
 use crate::flat::Never;
-use crate::keyless::{duty_of, place_by, place_put, rouse};
+use crate::keyless::{duty_of, place_by, place_put, rouse, walk};
 use crate::{BodyChange, Chore, Destination, Store};
 use sd_class::tick_class;
 use sd_flat::{cpu_of, is_looped, is_thread, place_of, script_of};
 use sd_state::{LockState, Place, State};
-use sd_types::{ChanId, ClassState, CpuId, Duty, LockId, Put, ThreadBody, ThreadId, Work};
+use sd_types::{ChanId, ClassState, CpuId, Duty, LockId, Put, Side, ThreadBody, ThreadId, Work};
 
 /// Where the walk goes from the owner `o`, which is looped or not, at a place.
 fn next_walk(duty: Duty, o: ThreadId, looped: bool, place: Place) -> Duty
@@ -128,6 +128,21 @@ impl Store for State {
     #[tactic(auto, unfolding(sd_machine::specs::Changes::leave))]
     fn leave(&mut self, number: u64, c: CpuId, t: ThreadId, to: Destination) -> Result<(), Never> {
         sd_flat::leave(self, c, t, place_by(number, c, to));
+        Ok(())
+    }
+
+    #[tactic(auto, unfolding(sd_machine::specs::Changes::leave, sd_machine::specs::Changes::set_duty))]
+    fn block(
+        &mut self,
+        number: u64,
+        c: CpuId,
+        t: ThreadId,
+        l: LockId,
+        side: Side,
+    ) -> Result<(), Never> {
+        let place = place_by(number, c, Destination::Turnstile(l, side));
+        sd_flat::leave(self, c, t, place);
+        sd_flat::set_duty(self, c, walk(number, l, t));
         Ok(())
     }
 

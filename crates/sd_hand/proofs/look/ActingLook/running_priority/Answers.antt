@@ -5,7 +5,7 @@ use Rattle.sd_homes.specs.Families.{list_in}
 use Rattle.sd_hand.proofs.RankLemmas.{first_rank_told}
 use Rattle.sd_hand.proofs.ShownLemmas.{list_shown}
 use Rattle.sd_hand.proofs.TellLemmas.{runner_told}
-use Rattle.sd_hand.proofs.acting.Acting.running_priority.Goals as goal
+use Rattle.sd_hand.proofs.look.ActingLook.running_priority.Goals as goal
 
 pub returns-in-Ok-clause-value : goal.returns-in-Ok-clause-value
 returns-in-Ok-clause-value c n s sh =
