@@ -18,7 +18,7 @@ use Rattle.sd_hand.specs.declared.steps.Step.{Step}
 use Rattle.sd_hand.specs.declared.steps.Step.TheVariants.{Arrive, MoveAs}
 use Rattle.sd_hand.specs.Hands.{AreApart, HandSlots, HasRoom, IsHeld, IsSlot, edit, has_thread, held}
 use Rattle.sd_hand.specs.Shown.{IsListThere}
-use Rattle.sd_hand.specs.Steps.{GoesBack, GoesWithin, RunsFromQueue, stepped}
+use Rattle.sd_hand.specs.Steps.{GoesBack, GoesWithin, Relocated, RunsFromQueue, stepped}
 use Rattle.sd_hand.proofs.GuideLemmas.{ShowsSlots, held_here, kept_here, slot_changed}
 use Rattle.sd_hand.proofs.HasLemmas.{taken_id, went_apart, went_has, went_held}
 use Rattle.sd_hand.proofs.HomeLemmas.{keeps-with_list}
@@ -103,14 +103,6 @@ module _ (t : ℕ) (from to : ListId) (f : ThreadRecord → ThreadRecord) (hs ne
           (λ h z. whole_cpu c h (cpu ∙ held_id (home_at to) h (edit (home_at from) (taking t from) hs) z))
 
 -- ---- a step that was one of these
-pub record Relocated (t : ℕ) (from : ListId) (step : Step) (to : ListId) (hs new : List (Option Home)) (stands : Bool) : Type 0 where
-  pub stood : stands ≡ is_some (taken_from t from (held (home_at from) hs))
-  pub untouched : stands ≡ false → new ≡ hs
-  pub moved : (r : ThreadRecord) → Some r ≡ taken_from t from (held (home_at from) hs) → new ≡ edit (home_at to) (putting (stepped step r) to) (edit (home_at from) (taking t from) hs)
-  pub homes : (k : HomeId) → is_some (held k new) ≡ is_some (held k hs)
-  pub apart : AreApart hs → AreApart new
-  pub threads : IsHeld (home_at to) hs → IsListThere to → HasRoom t from to hs → (u : ℕ) → has_thread u new ≡ has_thread u hs
-
 relocated : (t : ℕ) (c : CpuId) (from : ListId) (step : Step) (to : ListId) (hs new : List (Option Home)) (stands : Bool) → id.Cpu c ≡ home_at to → stands ≡ is_some (taken_from t from (held (home_at from) hs))
     → GoesWithin t from to (stepped step) hs new → Relocated t from step to hs new stands
 relocated t c from step to hs new stands cpu stood went = record {

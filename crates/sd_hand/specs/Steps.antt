@@ -1,6 +1,6 @@
 -- What becomes of a thread on its way from list to list.
 -- Source: this project's own; see `sd_machine`'s Changes.
-use Rattle.std.specs.Prelude.{◌≡◌, ℕ, ℤ, List, Option, Some, is_some, MatchOption}
+use Rattle.std.specs.Prelude.{◌≡◌, ℕ, ℤ, Bool, false, List, Option, Some, is_some, MatchOption}
 use Rattle.sd_types.specs.declared.classes.ClassState.{ClassState}
 use Rattle.sd_types.specs.declared.numbers.CpuId.{CpuId}
 use Rattle.sd_types.specs.declared.numbers.HomeId.{HomeId}
@@ -48,6 +48,16 @@ list_by c to.Nowhere = Ends c
 abbrev pub list_put : Work → ThreadId → Put → ListId
 list_put w t (Cpu x) = Queues x
 list_put w t (RealTime x) = Urgent (set_of w t.0)
+
+-- thread t, where it stands in a list of these homes, which is told, has gone from there to another list; where it does not, all is as it was
+pub record Relocated (t : ℕ) (from : ListId) (step : Step) (to : ListId) (hs new : List (Option Home)) (stands : Bool) : Type 0 where
+  pub stood : stands ≡ is_some (taken_from t from (held (home_at from) hs))
+  pub untouched : stands ≡ false → new ≡ hs
+  pub moved : (r : ThreadRecord) → Some r ≡ taken_from t from (held (home_at from) hs)
+      → new ≡ edit (home_at to) (putting (stepped step r) to) (edit (home_at from) (taking t from) hs)
+  pub homes : (k : HomeId) → is_some (held k new) ≡ is_some (held k hs)
+  pub apart : AreApart hs → AreApart new
+  pub threads : IsHeld (home_at to) hs → IsListThere to → HasRoom t from to hs → (u : ℕ) → has_thread u new ≡ has_thread u hs
 
 -- thread t, which stands in a list of these homes, has gone from there to another list, where that is one of a home that is held and has room
 pub record HasGone (t : ThreadId) (step : Step) (to : ListId) (hs new : List (Option Home)) (from : ListId) : Type 0 where

@@ -342,7 +342,7 @@ impl Hand {
         ensures { Seeks t self.now.slots result (StandsIn t.0 self.now.slots) }
     {
         if let Some(at) = self.guide.list(t) {
-            if self.is_at(t, at) {
+            if self.stands_at(t, at) {
                 return Ok(*at);
             }
         }
@@ -422,7 +422,7 @@ impl Hand {
 
     /// Whether the thread stands there. One that naps is mostly known by its bit, and is not sought among the others.
     #[inline(always)]
-    fn is_at(&self, t: ThreadId, at: &ListId) -> bool
+    fn stands_at(&self, t: ThreadId, at: &ListId) -> bool
         ensures { result ≡ is_some (taken_from t.0 at.now (held (home_at at.now) self.now.slots)) }
     {
         match at {

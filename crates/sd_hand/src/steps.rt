@@ -8,9 +8,9 @@ ghost use Rattle.sd_homes.specs.Standing.{home_at};
 ghost use Rattle.sd_homes.specs.Bodies.{CanChangeThread};
 ghost use Rattle.sd_homes.specs.Families.{putting, taken_from, taking};
 ghost use Rattle.sd_homes.specs.Homes.{with_body_of};
-ghost use Rattle.sd_hand.specs.Hands.{AreApart, HasRoom, IsHeld, Seeks, edit, has_thread, held};
+ghost use Rattle.sd_hand.specs.Hands.{AreApart, Seeks, edit, has_thread, held};
 ghost use Rattle.sd_hand.specs.Shown.{IsListThere};
-ghost use Rattle.sd_hand.specs.Steps.{HasChanged, HasGone, IsChanged, GoesBack, RunsFromQueue, list_by, list_put, stepped};
+ghost use Rattle.sd_hand.specs.Steps.{HasChanged, HasGone, GoesBack, Relocated, RunsFromQueue, list_by, list_put, stepped};
 
 use crate::hand::Hand;
 use sd_homes::{ListId, Traveller};
@@ -88,14 +88,7 @@ impl Hand {
     /// stays as it was.
     #[inline(always)]
     pub(crate) fn relocate(&mut self, t: ThreadId, from: ListId, step: &Step, to: ListId) -> bool
-        ensures stood { result ≡ is_some (taken_from t.0 from (held (home_at from) self.old.slots)) }
-        ensures untouched { result ≡ false → self.new.slots ≡ self.old.slots }
-        ensures moved { (r : ThreadRecord) → Some r ≡ taken_from t.0 from (held (home_at from) self.old.slots)
-            → self.new.slots ≡ edit (home_at to) (putting (stepped step.now r) to) (edit (home_at from) (taking t.0 from) self.old.slots) }
-        ensures held { (k : HomeIdOf) → is_some (held k self.new.slots) ≡ is_some (held k self.old.slots) }
-        ensures apart { AreApart self.old.slots → AreApart self.new.slots }
-        ensures has { IsHeld (home_at to) self.old.slots → IsListThere to → HasRoom t.0 from to self.old.slots
-            → (u : ℕ) → has_thread u self.new.slots ≡ has_thread u self.old.slots }
+        ensures { Relocated t.0 from step.now to self.old.slots self.new.slots result }
     {
         match self.take(t, from) {
             None => false,
@@ -110,14 +103,7 @@ impl Hand {
     /// The same, where a thread that stays in its home goes within it.
     #[inline(always)]
     fn relocate_within(&mut self, t: ThreadId, from: ListId, step: &Step, to: ListId) -> bool
-        ensures stood { result ≡ is_some (taken_from t.0 from (held (home_at from) self.old.slots)) }
-        ensures untouched { result ≡ false → self.new.slots ≡ self.old.slots }
-        ensures moved { (r : ThreadRecord) → Some r ≡ taken_from t.0 from (held (home_at from) self.old.slots)
-            → self.new.slots ≡ edit (home_at to) (putting (stepped step.now r) to) (edit (home_at from) (taking t.0 from) self.old.slots) }
-        ensures held { (k : HomeIdOf) → is_some (held k self.new.slots) ≡ is_some (held k self.old.slots) }
-        ensures apart { AreApart self.old.slots → AreApart self.new.slots }
-        ensures has { IsHeld (home_at to) self.old.slots → IsListThere to → HasRoom t.0 from to self.old.slots
-            → (u : ℕ) → has_thread u self.new.slots ≡ has_thread u self.old.slots }
+        ensures { Relocated t.0 from step.now to self.old.slots self.new.slots result }
     {
         if let Some(c) = run_from_queue(from, step, to) {
             return self.run_queued(t, c);

@@ -19,4 +19,4 @@ returns-clause-value c n m s z sh le at is list rec may there =
 pub returns-clause-has : goal.returns-clause-has
 returns-clause-has c is there room =
     let y : Acting = record c.args.self.now { hand = c.relocate.new.self } in
-    same_has c.args.self.now y refl c.relocate.ensures.held (c.relocate.ensures.has is there room)
+    same_has c.args.self.now y refl c.relocate.ensures.homes (c.relocate.ensures.threads is there room)

@@ -1,4 +1,4 @@
-use Rattle.std.proofs.Common.{refl, sym, ◌∙◌}
+use Rattle.std.proofs.Common.{refl}
 use Rattle.sd_hand.proofs.GuideLemmas.{held_here}
 use Rattle.sd_hand.proofs.OrderLemmas.{number_here}
 use Rattle.sd_hand.proofs.hand.Hand.home.Goals as goal

@@ -8,7 +8,7 @@ returns-then-relocate_within-clause-gone c =
     record {
       stands = stands_guessed c.args.t.0 c.in-Some.at c.args.self.now.slots (sym went.stood ∙ c.if-relocate_within.true);
       moved = went.moved;
-      homes = went.held;
+      homes = went.homes;
       apart = went.apart;
-      threads = went.has;
+      threads = went.threads;
     }

@@ -1,4 +1,4 @@
-use Rattle.std.proofs.Common.{ap, ◌∙◌, sym}
+use Rattle.std.proofs.Common.{ap, ◌∙◌}
 use Rattle.sd_types.specs.declared.numbers.HomeId.TheVariants.{Cpu}
 use Rattle.sd_homes.specs.Families.{home_id, viewing}
 use Rattle.sd_hand.proofs.PartLemmas.{viewing_keeps}
